@@ -1,0 +1,226 @@
+// The types of the dimming panel. The definitions of specs/ are over these very types, and so is the code of the crates above.
+// Slots are counted from 0: priority p is slot p - 1, and the paper's slot 6 is 5. Levels are in units of 1/65,536 percent, times in
+// milliseconds.
+
+// ---- an output's record
+
+// Sixteen bits say which slots are live, priority 1 being the lowest, beside the levels. An emptied slot's level is 0.
+pub struct Slots {
+    pub live: u16,
+    pub levels: [u32; 16],
+}
+
+// The writable properties but the elapsed active time.
+pub struct Settings {
+    pub default: u32,
+    pub fade: u32,
+    // Ramp_Rate and Step_Increment are kept as REALs, bit for bit.
+    pub ramp: f32,
+    pub step: f32,
+    pub enable: bool,
+    pub blink: u32,
+    pub delay: u32,
+    pub min: u32,
+    pub max: u32,
+    // Lighting_Command_Priority, less one.
+    pub slot: u8,
+}
+
+// How a movement goes: a fade by an even share of its way, a ramp at a rate in units a second.
+pub enum Pace {
+    Fade,
+    Ramp(u32),
+}
+
+// The movement of the slot `owner`. It lasts `length` and is over at the moment `over`: moments are kept whole, so that no due moment
+// is ever a sum.
+pub struct Movement {
+    pub owner: u8,
+    pub start: u32,
+    pub target: u32,
+    pub length: u32,
+    pub over: u64,
+    pub pace: Pace,
+}
+
+// What is under way. A warning of the slot `owner` has two phases: in Blink slot 6 holds 0 until `turn`; in Delay it holds the old
+// level until `over`. Never a movement and a warning together.
+pub enum Activity {
+    Still,
+    Moving(Movement),
+    Blink {
+        owner: u8,
+        level: u32,
+        turn: u64,
+        over: u64,
+    },
+    Delay {
+        owner: u8,
+        over: u64,
+    },
+}
+
+// The duration that is running: its slot empties at `due`.
+pub enum Timer {
+    Off,
+    Running { slot: u8, due: u64 },
+}
+
+// A command's duration field: so many milliseconds, 0, or FFFFFFFF.
+pub enum Duration {
+    Lasts(u32),
+    Cancels,
+    Omitted,
+}
+
+// The lighting operations, with their REALs as they were written.
+pub enum Operation {
+    Stop,
+    FadeTo(f32),
+    FadeToOver(f32, u32),
+    RampTo(f32),
+    RampToAtRate(f32, f32),
+    StepUp,
+    StepDown,
+    StepUpBy(f32),
+    StepDownBy(f32),
+    Goto(f32),
+    Relinquish,
+}
+
+pub struct Command {
+    pub operation: Operation,
+    pub duration: Duration,
+}
+
+pub struct Output {
+    pub settings: Settings,
+    pub slots: Slots,
+    pub activity: Activity,
+    pub timer: Timer,
+    pub burning: u64,
+    pub last: Command,
+}
+
+// ---- answers and stations
+
+pub enum Answer {
+    Done,
+    Value(u32),
+    Absent,
+    Refused(u8),
+}
+
+// What a station was answered last, to which number and which frame. Number 0: none yet.
+pub struct Station {
+    pub answer: Answer,
+    pub number: u32,
+    pub frame: [u8; 25],
+}
+
+// ---- REALs that a frame carries
+
+// What a REAL is in units.
+pub enum Level {
+    Units(u32),
+    OutOfRange,
+}
+
+// A REAL that a command takes, kept as it was written.
+pub enum Operand {
+    Taken(f32),
+    Unfit,
+}
+
+// ---- requests
+
+// The properties, by their names in clause 12.X; the slots are 0 to 15.
+pub enum Property {
+    RelinquishDefault,
+    FadeTime,
+    RampRate,
+    StepIncrement,
+    BlinkEnable,
+    BlinkTime,
+    BlinkWarnDelay,
+    MinValue,
+    MaxValue,
+    CommandPriority,
+    ElapsedActiveTime,
+    PresentValue,
+    ProgressValue,
+    InProcess,
+    LastOperation,
+    LastLevel,
+    LastRate,
+    LastStep,
+    LastFadeTime,
+    LastDuration,
+    SlotValue(u8),
+    Unknown,
+}
+
+// A property's new value, in range.
+pub enum Setting {
+    SetDefault(u32),
+    SetFade(u32),
+    SetRamp(f32),
+    SetStep(f32),
+    SetEnable(bool),
+    SetBlink(u32),
+    SetDelay(u32),
+    SetMin(u32),
+    SetMax(u32),
+    SetSlot(u8),
+    ClearBurning,
+}
+
+// What a frame asks of its output, or the refusal from 9 to 12 that its fields meet.
+pub enum Request {
+    Refuse(u8),
+    Write { slot: u8, level: u32 },
+    Empty { slot: u8 },
+    Change(Setting),
+    Read(Property),
+    Order(Command),
+}
+
+// A string of bytes as it is read: a refusal from 2 to 5, a clock, or a call of a station.
+pub enum Frame {
+    Bad(u8),
+    Clock(u64),
+    Call {
+        station: u8,
+        number: u32,
+        time: u64,
+        output: u8,
+        request: Request,
+    },
+}
+
+// What is to be done with a frame.
+pub enum Verdict {
+    TurnedDown(u8),
+    Copied(Answer),
+    Clocked(u64),
+    Arrives {
+        station: u8,
+        number: u32,
+        time: u64,
+        output: u8,
+        request: Request,
+    },
+}
+
+// ---- results of acting
+
+// The slots and the activity that a command makes.
+pub struct Scene {
+    pub slots: Slots,
+    pub activity: Activity,
+}
+
+pub struct Outcome {
+    pub output: Output,
+    pub answer: Answer,
+}
