@@ -29,6 +29,12 @@ unfolding if_then_else_
 unless {a = true} h = absurd (false≢true h)
 unless {a = false} h = (refl, h)
 
+-- a choice that did not come to its second value took the first
+pub passed : {A : Type 0} (t : Bool) (a b c : A) → (b ≡ c → ⊥) → (if t then a else b) ≡ c → (t ≡ true) × (a ≡ c)
+unfolding if_then_else_
+passed true a b c n h = (refl, h)
+passed false a b c n h = absurd (n h)
+
 pub on-true : (b : Bool) → T b → b ≡ true
 on-true true h = refl
 on-true false h = elim h [ ]

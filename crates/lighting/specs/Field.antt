@@ -1,10 +1,13 @@
-use Prim.Native.Nat.{ℕ, zero, suc, _+_, _*_, _^_}
+-- The bytes of a frame, and the numbers in it: document 01, Frames. Definitions only.
+use Prim.Native.Nat.{ℕ, zero, suc, _+_, _*_}
 use mathlib.Core.List.{List}
 use lib.ListN.{getD}
 
+-- the byte at a place, and 0 past the end
 unfoldable pub byteAt : List ℕ → ℕ → ℕ
 byteAt b at = getD b at 0
 
+-- "Numbers are big-endian": the number in the n bytes from `at` on, the first the most significant
 unfoldable pub bigEndian : ℕ → List ℕ → ℕ → ℕ
 bigEndian zero b at = 0
-bigEndian (suc n) b at = getD b at 0 * 256 ^ n + bigEndian n b (at + 1)
+bigEndian (suc n) b at = bigEndian n b at * 256 + byteAt b (at + n)

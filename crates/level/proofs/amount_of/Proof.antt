@@ -1,0 +1,16 @@
+-- `level::amount_of` meets its contract. Assumes nothing.
+use borrow.Author.Needs.{needs}
+use Rattle.level.proofs.amount_of.Statement.{statement}
+use Rattle.level.proofs.amount_of.Tie as tie
+
+real-from-requires : tie.Need-real-from-requires
+real-from-requires c κs = search needs
+
+amount-of-real-requires : tie.Need-amount-of-real-requires
+amount-of-real-requires c κs = search needs
+
+returns : tie.Need-returns
+returns c = cc
+
+pub amount-of-spec : {M : Type 1} → statement M
+amount-of-spec = tie.close (tie.spec real-from-requires amount-of-real-requires returns)

@@ -1,0 +1,10 @@
+-- `level::is_nan` meets its contract. Assumes nothing.
+use Rattle.level.proofs.Numbers.{differs}
+use Rattle.level.proofs.is_nan.Statement.{statement}
+use Rattle.level.proofs.is_nan.Tie as tie
+
+returns : tie.Need-returns
+returns c = differs (c .args .x)
+
+pub is-nan-spec : {M : Type 1} → statement M
+is-nan-spec = tie.close (tie.spec returns)

@@ -1,0 +1,16 @@
+-- `level::level_of` meets its contract. Assumes nothing.
+use borrow.Author.Needs.{needs}
+use Rattle.level.proofs.level_of.Statement.{statement}
+use Rattle.level.proofs.level_of.Tie as tie
+
+real-from-requires : tie.Need-real-from-requires
+real-from-requires c κs = search needs
+
+level-of-real-requires : tie.Need-level-of-real-requires
+level-of-real-requires c κs = search needs
+
+returns : tie.Need-returns
+returns c = cc
+
+pub level-of-spec : {M : Type 1} → statement M
+level-of-spec = tie.close (tie.spec real-from-requires level-of-real-requires returns)

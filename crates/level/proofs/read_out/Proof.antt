@@ -1,0 +1,21 @@
+-- `level::read_out` meets its contract. Assumes nothing.
+use Rattle.lighting.specs.Level.{readOut}
+use borrow.Author.Needs.{needs}
+use Rattle.level.proofs.read_out.Statement.{statement}
+use Rattle.level.proofs.read_out.Tie as tie
+
+capped-requires : tie.Need-capped-requires
+capped-requires c κs = search needs
+
+real-of-requires : tie.Need-real-of-requires
+real-of-requires c κs = search needs
+
+bits-of-requires : tie.Need-bits-of-requires
+bits-of-requires c κs = search needs
+
+returns : tie.Need-returns
+unfolding readOut
+returns c = cc
+
+pub read-out-spec : {M : Type 1} → statement M
+read-out-spec = tie.close (tie.spec capped-requires real-of-requires bits-of-requires returns)
