@@ -56,8 +56,7 @@ pub record Moves (t : ℕ) (c : Settings) (s : Slots) (m : Movement) : Type 0 wh
   pub start : m .start ≤ c .max
   pub aims : m .target ≡ presentValue c s
   pub began : m .over - t ≤ m .length
-  pub least : 1 ≤ m .length
-  pub long : m .length ≤ 86400000
+  pub long : Within 1 86400000 (m .length)
   pub later : t < m .over
 
 pub record Warns (t : ℕ) (s : Slots) (x d : ℕ) : Type 0 where

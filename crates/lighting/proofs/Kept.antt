@@ -18,7 +18,9 @@ use Rattle.lighting.specs.Slots.{Slots, lives, winner, topmost, put, emp
 use Rattle.lighting.proofs.Winner.{winner-over, topmost-over, six-kept, six-set}
 use Rattle.lighting.specs.Value.{presentValue}
 use Rattle.lighting.proofs.Facts.{IsLevel, Within, Slot, Settled, SlotLevel, Filled, Moves, Warns, Acts, Timed, Sound}
-use Rattle.lighting.specs.Rules.{isLevel, isSlot, sound}
+use Rattle.lighting.specs.Parameters.{standard}
+use Rattle.lighting.specs.Properties.{isSlot}
+use Rattle.lighting.specs.Rules.{isLevel, sound}
 use Rattle.lighting.proofs.Tied.{level-of, slot-of, sound-facts, facts-sound}
 use Rattle.lighting.proofs.Levels.{level-zero, present-level, put-filled}
 use Rattle.lighting.specs.Writing.{withScene, passedOver, stored, blinks, warnsBy, warns, firstLevel, firstPhase, warnedBy, warned, endedEmpty, endedStored, writtenWarned, writtenZero, writtenCalm, writtenBy, written}
@@ -131,7 +133,7 @@ written-sound t o i v g l h = go (o .activity)
     go (Delay owner over) = warned-written t o i v g l h
 
 -- the same, of the tests that the code makes
-pub written-kept : (t : ℕ) (o : Output) (i v : ℕ) → length (o .slots .levels) ≡ 16 → isSlot i ≡ true → isLevel v ≡ true → sound t o ≡ true
-    → sound t (written t o i v) ≡ true
+pub written-kept : (t : ℕ) (o : Output) (i v : ℕ) → length (o .slots .levels) ≡ 16 → isSlot i ≡ true → isLevel v ≡ true → sound standard t o ≡ true
+    → sound standard t (written t o i v) ≡ true
 written-kept t o i v size g l h =
     facts-sound t (written t o i v) (written-sound t o i v (slot-of i g) (level-of v l) (sound-facts t o size h))

@@ -17,7 +17,7 @@ use Rattle.lighting.specs.declared.Output.{Output}
 use Rattle.lighting.specs.Slots.{Slots, lives, put, emptied, filled}
 use Rattle.lighting.proofs.Winner.{winner-empty, topmost-empty, six-kept, six-set}
 use Rattle.lighting.specs.Value.{presentValue}
-use Rattle.lighting.specs.Passing.{withBurning, glowing, burned, timerAt, expired, disowned, released, activityAt, slotsAt, fire, tick, ticks, top, advance}
+use Rattle.lighting.specs.Passing.{withBurning, glowing, burned, timerAt, expired, disowned, released, activityAt, slotsAt, settled, fire, tick, ticks, top, advance}
 use Rattle.lighting.proofs.Passing.{glowing-le, advance-ticks}
 use Rattle.lighting.proofs.Facts.{IsLevel, Within, Slot, Settled, SlotLevel, Filled, Moves, Warns, Acts, Timed, Sound}
 use Rattle.lighting.proofs.Tied.{sound-calm}
@@ -100,7 +100,7 @@ next-timer t Off h = tt
 next-timer t (Running q d) h = by-eq d (suc t) (λ p e. rw e tt) (λ p e. rw e (h .0, omega (arith, h .1)))
 
 pub tick-sound : (t : ℕ) (o : Output) → Sound t o → Sound (suc t) (tick t o)
-unfolding tick fire burned withBurning
+unfolding tick fire settled burned withBurning
 tick-sound t o h =
     let x = expired-scene t (suc t) (o .settings) (o .slots) (o .timer) (o .activity) (h .timer) (h .slots) (h .activity) in
     let n = next-scene t (o .settings) (expired (suc t) (o .timer) (o .slots)) (released (suc t) (o .timer) (o .activity)) (x .slots) (x .activity) in

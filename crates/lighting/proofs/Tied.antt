@@ -59,7 +59,7 @@ filled-of s size h =
 moves-of : (t : ℕ) (c : Settings) (s : Slots) (m : Movement) → lives s 5 ≡ false
     → movementSound standard t (winner s) (c .max) (presentValue c s) m ≡ true → Moves t c s m
 unfolding movementSound spanSound
-moves-of t c s m l h = search parts depth 8
+moves-of t c s m l h = search (parts, within-of) depth 8
 
 acts-of : (t : ℕ) (c : Settings) (s : Slots) (a : Activity) → activitySound standard t c s a ≡ true → Acts t c s a
 unfolding activitySound activityBy blinkSound delaySound
@@ -109,7 +109,7 @@ filled-yes s h = each-all (slotSound s) 16 0 (λ i p k. at i (omega arith) (h .l
 moves-yes : (t : ℕ) (c : Settings) (s : Slots) (m : Movement) → Moves t c s m
     → movementSound standard t (winner s) (c .max) (presentValue c s) m ≡ true
 unfolding movementSound spanSound
-moves-yes t c s m h = search tests depth 12
+moves-yes t c s m h = search (tests, within-yes) depth 12
 
 acts-yes : (t : ℕ) (c : Settings) (s : Slots) (a : Activity) → Acts t c s a → activitySound standard t c s a ≡ true
 unfolding activitySound activityBy blinkSound delaySound
