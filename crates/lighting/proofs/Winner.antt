@@ -142,6 +142,14 @@ module _ (s : Slots) (size : length (s .levels) ≡ 16) where
   put-dead i k h =
       put-slots s i none size k ∙ set-dead (slotsOf s) i (sym (lives-slot s i (omega arith)) ∙ h)
 
+  pub topmost-dead : (d i : ℕ) → i < 16 → lives s i ≡ false → topmost d (put s i none) ≡ topmost d s
+  topmost-dead d i k h =
+      topmost-view d (put s i none) (put-sized i none) ∙ ap (firstLevel d) (put-dead i k h) ∙ sym (topmost-view d s size)
+
+  pub winner-dead : (i : ℕ) → i < 16 → lives s i ≡ false → winner (put s i none) ≡ winner s
+  unfolding winner
+  winner-dead i k h = ap firstLive (put-dead i k h)
+
   pub six-kept : (i : ℕ) (x : Option ℕ) → i < 16 → i ≢ 5 → lives (put s i x) 5 ≡ lives s 5
   six-kept i x k n =
       lives-slot (put s i x) 5 (omega (arith, put-sized i x))

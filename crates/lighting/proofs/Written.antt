@@ -1,4 +1,4 @@
--- THEOREM B, kind 02: a write keeps the record rules. Assumes nothing.
+-- Kinds 02 and 03 keep the record rules. Assumes nothing.
 use mathlib.Core.Path.{_≡_, refl, sym, ap, _∙_}
 use mathlib.Core.Logic.{_≢_}
 use mathlib.Core.Bool.{Bool, true, false}
@@ -15,7 +15,7 @@ use Rattle.lighting.specs.declared.Activity.{Activity}
 use Rattle.lighting.specs.declared.Activity.the-variants.{Still, Moving, Blink, Delay}
 use Rattle.lighting.specs.declared.Output.{Output}
 use Rattle.lighting.specs.Slots.{Slots, lives, winner, topmost, put, emptied, filled}
-use Rattle.lighting.proofs.Winner.{winner-over, topmost-over, six-kept, six-set}
+use Rattle.lighting.proofs.Winner.{winner-over, topmost-over, winner-dead, topmost-dead, six-kept, six-set}
 use Rattle.lighting.specs.Value.{presentValue}
 use Rattle.lighting.proofs.Facts.{IsLevel, Within, Slot, Settled, SlotLevel, Filled, Moves, Warns, Acts, Timed, Sound}
 use Rattle.lighting.specs.Parameters.{standard}
@@ -23,42 +23,63 @@ use Rattle.lighting.specs.Properties.{isSlot}
 use Rattle.lighting.specs.Rules.{isLevel, sound}
 use Rattle.lighting.proofs.Tied.{level-of, slot-of, sound-facts, facts-sound}
 use Rattle.lighting.proofs.Levels.{level-zero, present-level, put-filled}
-use Rattle.lighting.specs.Writing.{withScene, passedOver, stored, blinks, warnsBy, warns, firstLevel, firstPhase, warnedBy, warned, endedEmpty, endedStored, writtenWarned, writtenZero, writtenCalm, writtenBy, written}
+use Rattle.lighting.specs.Writing.{withScene, passedOver, stored, blinks, warnsBy, warns, firstLevel, firstPhase, warnedBy, warned, endedEmpty, endedStored, writtenWarned, writtenZero, writtenCalm, writtenBy, written, vacatedActivity, vacated}
 
 -- all that a change of slots and activity has to keep
 scene-sound : (t : ℕ) (o : Output) (s : Slots) (a : Activity) → Sound t o → Filled s → Acts t (o .settings) s a → Sound t (withScene o s a)
 unfolding withScene
 scene-sound t o s a h f k = search
 
--- WARNINGS ASIDE: a movement whose owner stays the winner goes on
-passed-acts : (t : ℕ) (c : Settings) (s : Slots) (i v : ℕ) (a : Activity) → Slot i → length (s .levels) ≡ 16 → Acts t c s a
-    → Acts t c (filled s i v) (passedOver i a)
-unfolding passedOver if_then_else_
-passed-acts t c s i v Still g z h = six-kept s z i (some v) (g .inside) (g .free) ∙ h
-passed-acts t c s i v (Moving m) g z h =
-    let k = six-kept s z i (some v) (g .inside) (g .free) in
-    by-lt
-    (m .owner)
-    i
-    (λ l e. rw e (goes-on l k))
-    (λ l e. rw e (k ∙ h .six))
-  where
-    goes-on : m .owner < i → lives (filled s i v) 5 ≡ lives s 5 → Moves t c (filled s i v) m
-    goes-on l k =
-        let w = winner-over s z i (some v) (g .inside) (omega (arith, h .wins)) in
-        let p = topmost-over s z (c .default) i (some v) (g .inside) (omega (arith, h .wins)) in
-        unfold presentValue in search arith
-passed-acts t c s i v (Blink owner level turn over) g z h =
-    let k = six-kept s z i (some v) (g .inside) (g .free) in search
-passed-acts t c s i v (Delay owner over) g z h =
-    let k = six-kept s z i (some v) (g .inside) (g .free) in search
+-- A MOVEMENT whose owner stays the winner goes on
+pub kept-moving : (t : ℕ) (c : Settings) (s s′ : Slots) (m : Movement) → Moves t c s m
+    → lives s′ 5 ≡ lives s 5 → winner s′ ≡ winner s → topmost (c .default) s′ ≡ topmost (c .default) s → Moves t c s′ m
+unfolding presentValue
+kept-moving t c s s′ m h p q r = search arith
+
+module _ (t : ℕ) (c : Settings) (s : Slots) (size : length (s .levels) ≡ 16) (i : ℕ) (slot : Slot i) where
+  -- slot i gets x: with a slot above the winner all goes on
+  pub moving-over : (x : Option ℕ) (m : Movement) → winner s < i → Moves t c s m → Moves t c (put s i x) m
+  moving-over x m l h =
+      kept-moving t c s (put s i x) m h
+      (six-kept s size i x (slot .inside) (slot .free))
+      (winner-over s size i x (slot .inside) l)
+      (topmost-over s size (c .default) i x (slot .inside) l)
+
+  -- WARNINGS ASIDE: a movement goes on if the slot is above its owner's number, else it ends
+  passed-acts : (x : Option ℕ) (a : Activity) → Acts t c s a → Acts t c (put s i x) (passedOver i a)
+  unfolding passedOver if_then_else_
+  passed-acts x Still h = six-kept s size i x (slot .inside) (slot .free) ∙ h
+  passed-acts x (Moving m) h =
+      by-lt
+      (m .owner)
+      i
+      (λ l e. rw e (moving-over x m (omega (arith, h .wins)) h))
+      (λ l e. rw e (six-kept s size i x (slot .inside) (slot .free) ∙ h .six))
+  passed-acts x (Blink owner level turn over) h =
+      let k = six-kept s size i x (slot .inside) (slot .free) in search
+  passed-acts x (Delay owner over) h = let k = six-kept s size i x (slot .inside) (slot .free) in search
+
+  -- an empty slot emptied: all goes on
+  dead-acts : (a : Activity) → lives s i ≡ false → Acts t c s a → Acts t c (put s i none) a
+  dead-acts Still e h = six-kept s size i none (slot .inside) (slot .free) ∙ h
+  dead-acts (Moving m) e h =
+      kept-moving t c s (put s i none) m h
+      (six-kept s size i none (slot .inside) (slot .free))
+      (winner-dead s size i (slot .inside) e)
+      (topmost-dead s size (c .default) i (slot .inside) e)
+  dead-acts (Blink owner level turn over) e h = let k = six-kept s size i none (slot .inside) (slot .free) in search
+  dead-acts (Delay owner over) e h = let k = six-kept s size i none (slot .inside) (slot .free) in search
+
+  vacated-acts : (a : Activity) → Acts t c s a → Acts t c (put s i none) (vacatedActivity (lives s i) i a)
+  unfolding vacatedActivity if_then_else_
+  vacated-acts a h = by-bool (lives s i) (λ e. rw e (passed-acts none a h)) (λ e. rw e (dead-acts a e h))
 
 stored-sound : (t : ℕ) (o : Output) (i v : ℕ) → Slot i → IsLevel v → Sound t o → Sound t (stored o i v)
 unfolding stored
 stored-sound t o i v g l h =
     scene-sound t o _ _ h
     (put-filled (o .slots) i (some v) (h .slots) (g .inside) l)
-    (passed-acts t (o .settings) (o .slots) i v (o .activity) g (h .slots .size) (h .activity))
+    (passed-acts t (o .settings) (o .slots) (h .slots .size) i g (some v) (o .activity) (h .activity))
 
 -- A WARNING STARTS
 first-level : (c : Settings) (y : ℕ) → IsLevel y → IsLevel (firstLevel c y)
@@ -132,8 +153,10 @@ written-sound t o i v g l h = go (o .activity)
     go (Blink owner level turn over) = warned-written t o i v g l h
     go (Delay owner over) = warned-written t o i v g l h
 
--- the same, of the tests that the code makes
-pub written-kept : (t : ℕ) (o : Output) (i v : ℕ) → length (o .slots .levels) ≡ 16 → isSlot i ≡ true → isLevel v ≡ true → sound standard t o ≡ true
-    → sound standard t (written t o i v) ≡ true
-written-kept t o i v size g l h =
-    facts-sound t (written t o i v) (written-sound t o i v (slot-of i g) (level-of v l) (sound-facts t o size h))
+-- KIND 03
+pub vacated-sound : (t : ℕ) (o : Output) (i : ℕ) → Slot i → Sound t o → Sound t (vacated o i)
+unfolding vacated
+vacated-sound t o i g h =
+    scene-sound t o _ _ h
+    (put-filled (o .slots) i none (h .slots) (g .inside) tt)
+    (vacated-acts t (o .settings) (o .slots) (h .slots .size) i g (o .activity) (h .activity))
