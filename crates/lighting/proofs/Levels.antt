@@ -18,7 +18,7 @@ use Rattle.lighting.proofs.Facts.{IsLevel, Settled, SlotLevel, Filled}
 pub level-zero : IsLevel 0
 level-zero = record { least = omega arith; most = omega arith }
 
-brought-level : (c : Settings) (v : ℕ) → Settled c → IsLevel (brought c v)
+pub brought-level : (c : Settings) (v : ℕ) → Settled c → IsLevel (brought c v)
 unfolding brought if_then_else_
 brought-level c v h = by-eq v 0 (λ p e. rw e level-zero) (λ p e. rw e (record { least = omega arith; most = omega arith }))
 

@@ -29,7 +29,7 @@ record Scene (t : ℕ) (c : Settings) (s : Slots) (a : Activity) : Type 0 where
   activity : Acts t c s a
 
 -- THE DURATION
-disowned-acts : (t : ℕ) (c : Settings) (s : Slots) (q : ℕ) (a : Activity) → Slot q → Filled s → Acts t c s a
+pub disowned-acts : (t : ℕ) (c : Settings) (s : Slots) (q : ℕ) (a : Activity) → Slot q → Filled s → Acts t c s a
     → Acts t c (emptied s q) (disowned q a)
 unfolding disowned if_then_else_
 disowned-acts t c s q Still g f h = six-kept s (f .size) q none (g .inside) (g .free) ∙ h
