@@ -28,7 +28,7 @@ use Rattle.lighting.specs.Rules.{isLevel, levelsSound, timesSound, reals
 use Rattle.lighting.proofs.Facts.{IsLevel, Within, Slot, Settled, SlotLevel, Filled, Moves, Warns, Acts, Timed, Sound}
 
 -- FROM THE TEST TO THE FACTS
-within-of : (low high v : ℕ) → within low high v ≡ true → Within low high v
+pub within-of : (low high v : ℕ) → within low high v ≡ true → Within low high v
 unfolding within
 within-of low high v h = search parts
 

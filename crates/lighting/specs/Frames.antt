@@ -2,7 +2,7 @@
 -- looks at a panel but for its number of outputs. Assumes nothing.
 use mathlib.Core.Bool.{Bool, true, false}
 use mathlib.Core.List.{List, [], _∷_}
-use Prim.Native.Nat.{ℕ, _-_}
+use Prim.Native.Nat.{ℕ, _-_, _<_}
 use lib.Dec.{leb, ltb, eqb}
 use lib.Ieee.{Float}
 use lib.ListN.{length}
@@ -26,6 +26,15 @@ use Rattle.lighting.specs.declared.Frame.the-variants.{Bad, Clock, Call}
 
 abbrev pub Bytes : Type 0
 Bytes = List ℕ
+
+-- a string of bytes, and a list of them: each number is below 256
+abbrev pub Octets : Bytes → Type 0
+Octets [] = Unit {0}
+Octets (x ∷ b) = (x < 256) × Octets b
+
+abbrev pub Strings : List Bytes → Type 0
+Strings [] = Unit {0}
+Strings (b ∷ l) = Octets b × Strings l
 
 -- KINDS. 'The kind byte fixes the length': of the commands 10 to 1A, where 11, 13, 17, 18 and 19 have 21 bytes
 unfoldable pub commandLength : ℕ → ℕ
