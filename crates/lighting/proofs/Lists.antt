@@ -1,0 +1,325 @@
+-- THE LIST THEOREM: over every list of frames the engine finds and answers what the plain panel finds and answers. It stands on laws of
+-- the table (proofs/Table.antt) and of reading (proofs/Reading.antt), and never looks at a kind of request. Assumes nothing.
+use mathlib.Core.Path.{_≡_, refl, sym, ap, ap₂, _∙_}
+use mathlib.Core.Logic.{_≢_}
+use mathlib.Core.Bool.{Bool, true, false}
+use mathlib.Core.List.{List, [], _∷_, map}
+use Prim.Native.Nat.{ℕ, zero, suc, _+_, _-_, _*_, _^_, _≤_, _<_, min}
+use native.Mathlib.Omega.{arith}
+use lib.Dec.{leb, ltb, eqb}
+use lib.ListN.{set, getD, length, replicate, length-map, length-set, length-replicate, getD-replicate}
+use lib.Seq.{getD-set-same, getD-set-other}
+use Rattle.lighting.specs.Choice.{if_then_else_, _also_}
+use Rattle.lighting.specs.Parameters.{standard}
+use Rattle.lighting.specs.Field.{byteAt}
+use Rattle.lighting.specs.Frames.{Bytes, Octets, Strings, kindLength, commandLength, parse}
+use Rattle.lighting.specs.Passing.{top, advance}
+use Rattle.lighting.specs.Rules.{sound, isCall, stationSound}
+use Rattle.lighting.specs.Fresh.{freshOutput, freshStation}
+use Rattle.lighting.specs.Acting.{Served, served}
+use Rattle.lighting.specs.Panel.{Panel, Step, Station, every, countsSound, panelSound, padded, restored, sameBytes, copyOr6, metNumber, met, stationOf, metBy, decide, carried, framed, freshPanel}
+use Rattle.lighting.specs.Plain.{Plain, lived, Event, clock, first, above, inTime, Latest, latest, judged, Told, Reply, handed, plainFramed, plainStart}
+use Rattle.lighting.specs.Demand.{after, answers, plainAfter, plainAnswers}
+use Rattle.lighting.specs.declared.Output.{Output}
+use Rattle.lighting.specs.declared.Request.{Request}
+use Rattle.lighting.specs.declared.Answer.{Answer}
+use Rattle.lighting.specs.declared.Frame.{Frame}
+use Rattle.lighting.specs.declared.Frame.the-variants.{Bad, Clock, Call}
+use Rattle.lighting.specs.declared.Verdict.{Verdict}
+use Rattle.lighting.specs.declared.Verdict.the-variants.{TurnedDown, Copied, Clocked, Arrives}
+use Rattle.lighting.proofs.Split.{also-both, also-yes, by-eq, by-lt, by-le, by-bool, eqb-miss, eqb-hit, leb-yes, leb-no}
+use Rattle.lighting.proofs.Reading.{Called, Proper, proper}
+use Rattle.lighting.proofs.Lengths.{length-most, call-kind, padded-kind, padded-length, restored-padded}
+use Rattle.lighting.proofs.Table.{AllSound, all-tested, all-fresh, lived-advance, all-advance, served-sound, served-length}
+
+-- THE LINK between the station records and the list so far. The engine's panel is rebuilt from the plain one
+abbrev pub joined : List Station → Told → Panel
+joined k w = record { outputs = w .panel .outputs; stations = k; time = w .panel .time }
+
+-- a station's record, as the list's own
+abbrev pub asLatest : Station → Latest
+asLatest k = record { answer = k .answer; number = k .number; frame = restored (k .frame) }
+
+pub record Linked (c : ℕ) (k : List Station) (w : Told) : Type 0 where
+  pub least : 1 ≤ c
+  pub most : c ≤ 64
+  pub count : length (w .panel .outputs) ≡ c
+  pub sound : AllSound (w .panel .time) (w .panel .outputs)
+  pub bounded : w .panel .time ≤ top
+  pub eight : length k ≡ 8
+  pub kept : every stationSound k ≡ true
+  -- each station's record is its latest first arrival in the list
+  pub known : (s : ℕ) → s < 8 → asLatest (getD k s freshStation) ≡ latest s (w .past)
+  -- so its number decides 'above all earlier', and panel time 'not before the latest'
+  pub tops : (s n : ℕ) → 0 < n → above s n (w .past) ≡ ltb (latest s (w .past) .number) n
+  pub times : (t : ℕ) → inTime t (w .past) ≡ leb (w .panel .time) t
+
+-- refusal 1 does not come
+pub linked-sound : (c : ℕ) (k : List Station) (w : Told) → Linked c k w → panelSound standard (joined k w) ≡ true
+unfolding panelSound countsSound
+linked-sound c k w m =
+    rw
+    (m .count, m .eight)
+    (also-yes
+    (also-yes (leb-yes (m .least)) (also-yes (leb-yes (m .most)) refl))
+    (also-yes (all-tested (w .panel .time) (w .panel .outputs) (m .sound)) (m .kept)))
+
+-- BOTH JUDGE ALIKE
+not-before : (a b : ℕ) {A : Type 0} (x y : A) → (if ltb a b then x else y) ≡ (if leb b a then y else x)
+unfolding if_then_else_
+not-before a b x y =
+    by-lt a b (λ h e. rw (e, leb-no {a = b} {b = a} h)) (λ h e. rw (e, leb-yes {a = b} {b = a} h))
+
+alike : (n a t now : ℕ) {A : Type 0} (same low late go : A)
+    → (if eqb n a then same else if ltb n a then low else if ltb t now then late else go)
+    ≡ (if ltb a n then (if leb now t then go else late) else if eqb n a then same else low)
+unfolding if_then_else_
+alike n a t now same low late go =
+    by-eq
+    n
+    a
+    (λ p e. rw (e, leb-no {a = suc a} {b = n} (omega arith)))
+    (λ p e. by-lt
+    n
+    a
+    (λ q e′. rw (e, e′, leb-no {a = suc a} {b = n} (omega arith)))
+    (λ q e′. rw (e, e′, leb-yes {a = suc a} {b = n} (omega arith)) (not-before t now late go)))
+
+met-judged : (c : ℕ) (k : List Station) (w : Told) (b : Bytes) (f : Frame) → Linked c k w → Proper c b f
+    → metBy (w .panel .time) (getD k (stationOf f) freshStation) b f ≡ judged (w .past) b f
+unfolding metBy met metNumber judged stationOf
+met-judged c k w b (Bad r) m g = refl
+met-judged c k w b (Clock t) m g = rw (m .times t) (not-before t (w .panel .time) (TurnedDown 8) (Clocked t))
+met-judged c k w b (Call s n t i r) m g =
+    let e = m .known s (g .station) in
+    rw (
+      ap (λ (z : Latest). z .number) e,
+      ap (λ (z : Latest). z .frame) e,
+      ap (λ (z : Latest). z .answer) e,
+      m .tops s n (g .number),
+      m .times t,
+    )
+    (alike n (latest s (w .past) .number) t (w .panel .time) _ (TurnedDown 7) (TurnedDown 8) (Arrives s n t i r))
+
+pub decide-judged : (c : ℕ) (k : List Station) (w : Told) (b : Bytes) → Octets b → Linked c k w
+    → decide standard (joined k w) b ≡ judged (w .past) b (parse standard (length (w .panel .outputs)) b)
+unfolding decide
+decide-judged c k w b h m =
+    rw (m .count) (met-judged c k w b (parse standard c b) m (proper c b h))
+
+-- WHAT IS KNOWN of a verdict that moves the panel
+pub record Arrived (c : ℕ) (w : Told) (b : Bytes) (s n t i : ℕ) (r : Request) : Type 0 where
+  pub frame : Called c b s n t i r
+  pub new : latest s (w .past) .number < n
+  pub due : w .panel .time ≤ t
+
+abbrev pub Moved : ℕ → Told → Bytes → Verdict → Type 0
+Moved c w b (TurnedDown r) = Unit {0}
+Moved c w b (Copied a) = Unit {0}
+Moved c w b (Clocked t) = (w .panel .time ≤ t) × (t < 2 ^ 48)
+Moved c w b (Arrives s n t i r) = Arrived c w b s n t i r
+
+pub judged-moved : (c : ℕ) (k : List Station) (w : Told) (b : Bytes) (f : Frame) → Linked c k w → Proper c b f
+    → Moved c w b (judged (w .past) b f)
+unfolding judged copyOr6 if_then_else_
+judged-moved c k w b (Bad r) m g = tt
+judged-moved c k w b (Clock t) m g =
+    rw
+    (m .times t)
+    (by-le (w .panel .time) t (λ h e. rw e (h, g)) (λ h e. rw e tt))
+judged-moved c k w b (Call s n t i r) m g =
+    rw
+    (m .tops s n (g .number), m .times t)
+    (by-lt
+    (latest s (w .past) .number)
+    n
+    (λ h e. by-le
+    (w .panel .time)
+    t
+    (λ h′ e′. rw (e, e′) (record { frame = g; new = h; due = h′ }))
+    (λ h′ e′. rw (e, e′) tt))
+    (λ h e. by-bool
+    (eqb n (latest s (w .past) .number))
+    (λ p. by-bool
+    (sameBytes b (latest s (w .past) .frame))
+    (λ q. rw (e, p, q) tt)
+    (λ q. rw (e, p, q) tt))
+    (λ p. rw (e, p) tt)))
+
+-- ONE FRAME
+abbrev pub nextStations : Bytes → List Station → Told → Verdict → List Station
+nextStations b k w (TurnedDown r) = k
+nextStations b k w (Copied a) = k
+nextStations b k w (Clocked t) = k
+nextStations b k w (Arrives s n t i r) =
+    set k s (record { answer = handed b w (Arrives s n t i r) .answer; number = n; frame = padded b })
+
+step-same : (c : ℕ) (k : List Station) (w : Told) (b : Bytes) (v : Verdict) → Linked c k w → Moved c w b v
+    → carried b (joined k w) v ≡ record { panel = joined (nextStations b k w v) (handed b w v .told); answer = handed b w v .answer }
+unfolding carried handed
+step-same c k w b (TurnedDown r) m g = refl
+step-same c k w b (Copied a) m g = refl
+step-same c k w b (Clocked t) m g = rw (lived-advance t (w .panel) (g .0) (omega (arith, g .1)) (m .sound))
+step-same c k w b (Arrives s n t i r) m g =
+    rw (lived-advance t (w .panel) (g .due) (omega (arith, g .frame .time)) (m .sound))
+
+and-le : (a b c : ℕ) → b ≤ a → (leb a c also leb b c) ≡ leb a c
+unfolding if_then_else_
+and-le a b c h =
+    by-le a c (λ p e. rw (e, leb-yes {a = b} {b = c} (omega arith))) (λ p e. rw e)
+
+tops-more : (s n s′ n′ t : ℕ) (b : Bytes) (a : Answer) (h : List Event)
+    → above s′ n′ h ≡ ltb (latest s′ h .number) n′ → latest s h .number < n
+    → above s′ n′ (first s n t b a ∷ h) ≡ ltb (latest s′ (first s n t b a ∷ h) .number) n′
+unfolding above latest if_then_else_
+tops-more s n s′ n′ t b a h p l =
+    by-eq
+    s
+    s′
+    (λ q e. rw (e, p) (and-le (suc n) (suc (latest s′ h .number)) n′ (omega (arith, rw q at l))))
+    (λ q e. rw (e, p))
+
+kept-set : (k : List Station) (i : ℕ) (x : Station) → every stationSound k ≡ true → stationSound x ≡ true → every stationSound (set k i x) ≡ true
+unfolding every
+kept-set [] i x h g = refl
+kept-set (y ∷ k) zero x h g = also-yes g (also-both h .1)
+kept-set (y ∷ k) (suc i) x h g = also-yes (also-both h .0) (kept-set k i x (also-both h .1) g)
+
+station-kept : (a : Answer) (n : ℕ) (b : Bytes) → byteAt b 0 ≢ 1 → kindLength (byteAt b 0) ≢ 0
+    → stationSound (record { answer = a; number = n; frame = padded b }) ≡ true
+unfolding stationSound if_then_else_
+station-kept a n b y z =
+    by-bool (eqb n 0) (λ e. rw e) (λ e. rw (e, padded-kind b) (call-kind (byteAt b 0) y z))
+
+known-set : (k : List Station) (s s′ n t : ℕ) (b : Bytes) (a : Answer) (h : List Event) → s < length k → length b ≡ kindLength (byteAt b 0)
+    → asLatest (getD k s′ freshStation) ≡ latest s′ h
+    → asLatest (getD (set k s (record { answer = a; number = n; frame = padded b })) s′ freshStation) ≡ latest s′ (first s n t b a ∷ h)
+unfolding latest if_then_else_
+known-set k s s′ n t b a h l z p =
+    let x : Station = record { answer = a; number = n; frame = padded b } in
+    by-eq
+    s
+    s′
+    (λ q e. rw (e, ← q)
+    (ap asLatest (getD-set-same k s x freshStation l)
+    ∙ ap (λ (f : Bytes). record { answer = a; number = n; frame = f }) (restored-padded b z)))
+    (λ q e. rw e (ap asLatest (getD-set-other k s s′ x freshStation (omega arith)) ∙ p))
+
+linked-clock : (c : ℕ) (k : List Station) (w : Told) (t : ℕ) → Linked c k w → w .panel .time ≤ t → t < 2 ^ 48
+    → Linked
+    c
+    k
+    (record {
+      past = clock t ∷ w .past;
+      panel = record { outputs = map (advance (w .panel .time) t) (w .panel .outputs); time = t };
+    })
+unfolding latest above inTime
+linked-clock c k w t m g u =
+    record {
+      least = m .least;
+      most = m .most;
+      count = length-map (w .panel .outputs) (advance (w .panel .time) t) ∙ m .count;
+      sound = all-advance (w .panel .time) t (w .panel .outputs) g (omega arith) (m .sound);
+      bounded = omega arith;
+      eight = m .eight;
+      kept = m .kept;
+      known = m .known;
+      tops = m .tops;
+      times = λ t′. rw (m .times t′) (and-le t (w .panel .time) t′ g);
+    }
+
+linked-first : (c : ℕ) (k : List Station) (w : Told) (b : Bytes) (s n t i : ℕ) (r : Request) (l : List Output) (a : Answer)
+    → Linked c k w → Arrived c w b s n t i r → length l ≡ c → AllSound t l
+    → Linked
+    c
+    (set k s (record { answer = a; number = n; frame = padded b }))
+    (record { past = first s n t b a ∷ w .past; panel = record { outputs = l; time = t } })
+unfolding inTime
+linked-first c k w b s n t i r l a m g e h =
+    let x : Station = record { answer = a; number = n; frame = padded b } in
+    record {
+      least = m .least;
+      most = m .most;
+      count = e;
+      sound = h;
+      bounded = omega (arith, g .frame .time);
+      eight = length-set k s x ∙ m .eight;
+      kept = kept-set k s x (m .kept) (station-kept a n b (g .frame .kind) (g .frame .known));
+      known = λ s′ l′.
+          known-set k s s′ n t b a (w .past) (omega (arith, m .eight, g .frame .station)) (g .frame .sized) (m .known s′ l′);
+      tops = λ s′ n′ l′. tops-more s n s′ n′ t b a (w .past) (m .tops s′ n′ l′) (g .new);
+      times = λ t′. rw (m .times t′) (and-le t (w .panel .time) t′ (g .due));
+    }
+
+pub step-linked : (c : ℕ) (k : List Station) (w : Told) (b : Bytes) (v : Verdict) → Linked c k w → Moved c w b v
+    → Linked c (nextStations b k w v) (handed b w v .told)
+unfolding handed
+step-linked c k w b (TurnedDown r) m g = m
+step-linked c k w b (Copied a) m g = m
+step-linked c k w b (Clocked t) m g =
+    rw (lived-advance t (w .panel) (g .0) (omega (arith, g .1)) (m .sound)) (linked-clock c k w t m (g .0) (g .1))
+step-linked c k w b (Arrives s n t i r) m g =
+    let u : t ≤ top = omega (arith, g .frame .time) in
+    let l = map (advance (w .panel .time) t) (w .panel .outputs) in
+    let e : length l ≡ c = length-map (w .panel .outputs) (advance (w .panel .time) t) ∙ m .count in
+    let h : AllSound t l = all-advance (w .panel .time) t (w .panel .outputs) (g .due) u (m .sound) in
+    rw
+    (lived-advance t (w .panel) (g .due) u (m .sound))
+    (linked-first c k w b s n t i r (served t l s i r .outputs) (served t l s i r .answer) m g
+    (served-length t l s i r ∙ e)
+    (served-sound t l s i r (g .frame .good) (omega (arith, e, g .frame .output)) h))
+
+-- the engine's step from a linked panel is the plain panel's, and the panels are linked again
+pub record Stepped (c : ℕ) (k : List Station) (w : Told) (b : Bytes) : Type 0 where
+  pub stations : List Station
+  pub same :
+      framed standard (joined k w) b
+      ≡ record { panel = joined stations (plainFramed standard w b .told); answer = plainFramed standard w b .answer }
+  pub linked : Linked c stations (plainFramed standard w b .told)
+
+pub step : (c : ℕ) (k : List Station) (w : Told) (b : Bytes) → Octets b → Linked c k w → Stepped c k w b
+unfolding framed plainFramed if_then_else_
+step c k w b h m =
+    let v = judged (w .past) b (parse standard (length (w .panel .outputs)) b) in
+    let g : Moved c w b v = rw (m .count) (judged-moved c k w b (parse standard c b) m (proper c b h)) in
+    record {
+      stations = nextStations b k w v;
+      same = rw (linked-sound c k w m, decide-judged c k w b h m) (step-same c k w b v m g);
+      linked = step-linked c k w b v m g;
+    }
+
+-- EVERY LIST
+pub record Listed (c : ℕ) (k : List Station) (w : Told) (l : List Bytes) : Type 0 where
+  pub stations : List Station
+  pub same : after standard (joined k w) l ≡ joined stations (plainAfter standard w l)
+  pub answered : answers standard (joined k w) l ≡ plainAnswers standard w l
+  pub linked : Linked c stations (plainAfter standard w l)
+
+pub listed : (c : ℕ) (k : List Station) (w : Told) (l : List Bytes) → Strings l → Linked c k w → Listed c k w l
+unfolding after answers plainAfter plainAnswers
+listed c k w [] s m = record { stations = k; same = refl; answered = refl; linked = m }
+listed c k w (b ∷ l) s m =
+    let h = step c k w b (s .0) m in
+    let i = listed c (h .stations) (plainFramed standard w b .told) l (s .1) (h .linked) in
+    record {
+      stations = i .stations;
+      same = rw (h .same) (i .same);
+      answered = rw (h .same) (ap (λ (z : List Answer). plainFramed standard w b .answer ∷ z) (i .answered));
+      linked = i .linked;
+    }
+
+pub linked-start : (c : ℕ) → 1 ≤ c → c ≤ 64 → Linked c (replicate 8 freshStation) (plainStart c)
+unfolding plainStart every stationSound latest above inTime if_then_else_ restored kindLength byteAt freshStation
+linked-start c p q =
+    record {
+      least = p;
+      most = q;
+      count = length-replicate c freshOutput;
+      sound = all-fresh c;
+      bounded = omega arith;
+      eight = refl;
+      kept = refl;
+      known = λ s h. ap asLatest (getD-replicate 8 s freshStation freshStation h);
+      tops = λ s n h. sym (leb-yes h);
+      times = λ t. sym (leb-yes {a = 0} {b = t} (omega arith));
+    }
