@@ -1,7 +1,7 @@
 -- Where the units of a level, a limit, a rate and a step lie. Assumes nothing.
-use mathlib.Core.Path.{_≡_, refl, sym, ap, _∙_}
+use mathlib.Core.Path.{_≡_, refl}
 use mathlib.Core.Bool.{Bool, true, false}
-use Prim.Native.Nat.{ℕ, suc, _*_, _≤_, _<_, min}
+use Prim.Native.Nat.{ℕ, _*_, _≤_, _<_, min}
 use native.Mathlib.Omega.{arith}
 use lib.Dec.{leb, ltb, eqb, lit<}
 use lib.Ieee.{Float, nan, inf, fin, up, down}
@@ -9,7 +9,7 @@ use lib.Ieee.Fits.{down-pos}
 use Rattle.lighting.specs.Choice.{if_then_else_, _also_}
 use Rattle.lighting.specs.declared.Level.{Level}
 use Rattle.lighting.specs.declared.Level.the-variants.{Units, OutOfRange}
-use Rattle.lighting.specs.Level.{unitsIn, fromTo, levelIn, levelOf, amountOf, limitOf, unitsOr, rateOf, levelUnits}
+use Rattle.lighting.specs.Level.{unitsIn, fromTo, levelOf, amountOf, limitOf, unitsOr, rateOf, levelUnits}
 use Rattle.lighting.proofs.Split.{also-both, le-of, passed}
 use Rattle.lighting.proofs.Rounding.{nearest-mono, nearest-whole}
 

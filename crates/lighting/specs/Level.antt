@@ -1,6 +1,6 @@
 -- A REAL (IEEE 754 binary32, `lib.Ieee`'s Float) as a whole number of 1 / 65,536 percent, and back: document 01, Levels and Frames. Definitions only.
 -- A finite REAL `fin s m e` is the exact number a / c, with a = m * up e and c = down e, negative where s is true.
-use Prim.Native.Nat.{ℕ, suc, _+_, _*_, _/_, _%_, min, compare, Ordering, Ordering·lt, Ordering·eq, Ordering·gt}
+use Prim.Native.Nat.{ℕ, suc, _*_, _/_, _%_, min, compare, Ordering, Ordering·lt, Ordering·eq, Ordering·gt}
 use mathlib.Core.Bool.{Bool, true, false}
 use lib.Dec.{leb, ltb, eqb}
 use lib.Ieee.{Float, nan, inf, fin, binary32, up, down, round, ofBits, toBits}
