@@ -56,6 +56,6 @@ pub fn word32_at(s: &[u8], at: usize) -> u32
 pub fn word48_at(s: &[u8], at: usize) -> u64
     ensures { λ r. ⌜ (r ≡ bigEndian 6 (now (s .entry)) at) × (r < 281474976710656) ⌝ }
 {
-    let second = later(at, 2);
-    word_wide(word16_at(s, at)) * 4294967296 + word_wide(word32_at(s, second))
+    let rest = later(at, 2);
+    word_wide(word16_at(s, at)) * 4294967296 + word_wide(word32_at(s, rest))
 }

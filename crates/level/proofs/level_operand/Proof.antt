@@ -1,7 +1,8 @@
 -- `level::level_operand` meets its contract. Assumes nothing.
-use mathlib.Core.Path.{refl}
+use mathlib.Core.Path.{refl, sym, ap, _∙_}
 use Rattle.lighting.proofs.Choosing.{if-true, if-false}
-use Rattle.lighting.specs.Level.{levelOperand}
+use Rattle.lighting.specs.Level.{inRange, levelOperand}
+use Rattle.lighting.specs.declared.Operand.the-variants.{Taken}
 use borrow.Author.Needs.{needs}
 use Rattle.level.proofs.level_operand.Statement.{statement}
 use Rattle.level.proofs.level_operand.Tie as tie
@@ -17,11 +18,15 @@ real-from-requires c κs = search needs
 
 returns : tie.Need-returns
 unfolding levelOperand
-returns c = if-true _ _ _ _ (cc) (cc)
+returns c =
+    let t = c .before .before in
+    if-true _ _ _ _ (sym (t .in-range .ensures ∙ ap inRange (t .before .level-of .ensures)) ∙ c .before .if1 .taken) (ap Taken (c .real-from .ensures))
 
 returns-2 : tie.Need-returns-2
 unfolding levelOperand
-returns-2 c = if-false _ _ _ _ (cc) refl
+returns-2 c =
+    let t = c .before in
+    if-false _ _ _ _ (sym (t .in-range .ensures ∙ ap inRange (t .before .level-of .ensures)) ∙ c .if1 .left) refl
 
 pub level-operand-spec : {M : Type 1} → statement M
 level-operand-spec =
