@@ -6,12 +6,11 @@ use native.Mathlib.Omega.{arith}
 use lib.Dec.{T}
 use lib.Ieee.{Float, nan, inf, fin, binary32, isNan, fits}
 use lib.Ieee.Bits.{toBits-ofBits, ofBits-toBits}
-use Rattle.lighting.specs.Choice.{if_then_else_}
 use Rattle.lighting.specs.declared.Level.{Level}
 use Rattle.lighting.specs.declared.Level.the-variants.{OutOfRange}
 use Rattle.lighting.specs.declared.Operand.the-variants.{Taken, Unfit}
 use Rattle.lighting.proofs.Split.{by-bool, passed}
-use Rattle.lighting.specs.Level.{real, bits, levelOf, amountOf, inRange, levelOperand, amountOperand}
+use Rattle.lighting.specs.Level.{real, bits, levelOf, amountOf, inRange, operandBy, levelOperand, amountOperand}
 
 pub only-nan : (x : Float) → isNan x ≡ true → x ≡ nan
 unfolding isNan
@@ -36,7 +35,7 @@ pub record Kept (f : Float → Level) (b : ℕ) (x : Float) : Type 0 where
   pub in-range : inRange (f x) ≡ true
 
 operand-kept : (f : Float → Level) (b : ℕ) (x : Float) → f nan ≡ OutOfRange → b < 2 ^ 32
-    → (if inRange (f (real b)) then Taken (real b) else Unfit) ≡ Taken x → Kept f b x
+    → operandBy (f (real b)) b ≡ Taken x → Kept f b x
 unfolding inRange
 operand-kept f b x o h k =
     let p = passed (inRange (f (real b))) (Taken (real b)) Unfit (Taken x) never k in
