@@ -1,0 +1,27 @@
+-- Every request that a frame brings keeps the record rules. Assumes nothing.
+use mathlib.Core.Path.{_≡_, refl, sym, ap, _∙_}
+use mathlib.Core.Bool.{Bool, true, false}
+use Prim.Native.Nat.{ℕ}
+use Rattle.lighting.specs.Choice.{if_then_else_}
+use Rattle.lighting.specs.Passing.{settled}
+use Rattle.lighting.specs.Properties.{settingsWith, minOverMax}
+use Rattle.lighting.specs.Acting.{made, left, changedUnless, acted}
+use Rattle.lighting.specs.declared.Output.{Output}
+use Rattle.lighting.specs.declared.Request.{Request}
+use Rattle.lighting.specs.declared.Request.the-variants.{Refuse, Write, Empty, Change, Read, Order}
+use Rattle.lighting.proofs.Split.{by-bool}
+use Rattle.lighting.proofs.Facts.{Sound}
+use Rattle.lighting.proofs.Good.{Good}
+use Rattle.lighting.proofs.Written.{written-sound, vacated-sound}
+use Rattle.lighting.proofs.Changed.{changed-sound}
+use Rattle.lighting.proofs.Commanded.{commanded-sound}
+
+pub acted-sound : (t : ℕ) (o : Output) (r : Request) → Good r → Sound t o → Sound t (acted t o r .output)
+unfolding acted made left settled changedUnless if_then_else_
+acted-sound t o (Refuse n) g h = h
+acted-sound t o (Write i v) g h = written-sound t o i v (g .0) (g .1) h
+acted-sound t o (Empty i) g h = vacated-sound t o i g h
+acted-sound t o (Change n) g h =
+    by-bool (minOverMax (settingsWith (o .settings) n)) (λ e. rw e h) (λ e. rw e (changed-sound t o n g e h))
+acted-sound t o (Read n) g h = h
+acted-sound t o (Order k) g h = commanded-sound t o k (g .0) (g .1) h

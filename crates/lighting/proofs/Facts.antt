@@ -1,0 +1,82 @@
+-- The record rules as facts, which the theorems use. Assumes nothing.
+use mathlib.Core.Path.{_≡_}
+use mathlib.Core.Logic.{_≢_}
+use mathlib.Core.Bool.{Bool, true, false}
+use mathlib.Core.Option.{Option, none, some}
+use Prim.Native.Nat.{ℕ, _-_, _*_, _≤_, _<_, min}
+use lib.ListN.{length}
+use Rattle.lighting.specs.declared.Settings.{Settings}
+use Rattle.lighting.specs.declared.Movement.{Movement}
+use Rattle.lighting.specs.declared.Activity.{Activity}
+use Rattle.lighting.specs.declared.Activity.the-variants.{Still, Moving, Blink, Delay}
+use Rattle.lighting.specs.declared.Timer.{Timer}
+use Rattle.lighting.specs.declared.Timer.the-variants.{Off, Running}
+use Rattle.lighting.specs.declared.Output.{Output}
+use Rattle.lighting.specs.Slots.{Slots, lives, winner, slot}
+use Rattle.lighting.specs.Value.{presentValue}
+use Rattle.lighting.specs.Rules.{isAmount}
+
+-- 0, or 1 to 100 percent: in a form that `omega` reads
+pub record IsLevel (v : ℕ) : Type 0 where
+  pub least : 65536 * min 1 v ≤ v
+  pub most : v ≤ 6553600
+
+pub record Within (low high v : ℕ) : Type 0 where
+  pub least : low ≤ v
+  pub most : v ≤ high
+
+pub record Slot (i : ℕ) : Type 0 where
+  pub inside : i < 16
+  pub free : i ≢ 5
+
+pub record Settled (c : Settings) : Type 0 where
+  pub default : IsLevel (c .default)
+  pub min : 65536 ≤ c .min
+  pub order : c .min ≤ c .max
+  pub max : c .max ≤ 6553600
+  pub fade : Within 100 86400000 (c .fade)
+  pub blink : c .blink ≤ 86400000
+  pub delay : c .delay ≤ 86400000
+  pub ramp : isAmount (c .ramp) ≡ true
+  pub step : isAmount (c .step) ≡ true
+  pub slot : Slot (c .slot)
+
+abbrev pub SlotLevel : Option ℕ → Type 0
+SlotLevel none = Unit {0}
+SlotLevel (some v) = IsLevel v
+
+pub record Filled (s : Slots) : Type 0 where
+  pub size : length (s .levels) ≡ 16
+  pub level : (i : ℕ) → i < 16 → SlotLevel (slot s i)
+
+pub record Moves (t : ℕ) (c : Settings) (s : Slots) (m : Movement) : Type 0 where
+  pub six : lives s 5 ≡ false
+  pub owner : m .owner < 16
+  pub wins : m .owner ≡ winner s
+  pub start : m .start ≤ c .max
+  pub aims : m .target ≡ presentValue c s
+  pub began : m .over - t ≤ m .length
+  pub long : Within 1 86400000 (m .length)
+  pub later : t < m .over
+
+pub record Warns (t : ℕ) (s : Slots) (x d : ℕ) : Type 0 where
+  pub six : lives s 5 ≡ true
+  pub owner : Within 6 15 x
+  pub later : t < d
+
+abbrev pub Acts : ℕ → Settings → Slots → Activity → Type 0
+Acts t c s Still = lives s 5 ≡ false
+Acts t c s (Moving m) = Moves t c s m
+Acts t c s (Blink owner level turn over) = Warns t s owner turn × IsLevel level
+Acts t c s (Delay owner over) = Warns t s owner over
+
+abbrev pub Timed : ℕ → Timer → Type 0
+Timed t Off = Unit {0}
+Timed t (Running slot due) = Slot slot × (t < due)
+
+pub record Sound (t : ℕ) (o : Output) : Type 0 where
+  pub settings : Settled (o .settings)
+  pub slots : Filled (o .slots)
+  pub activity : Acts t (o .settings) (o .slots) (o .activity)
+  pub timer : Timed t (o .timer)
+  pub burnt : o .burning ≤ t

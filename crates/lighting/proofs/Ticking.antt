@@ -1,0 +1,125 @@
+-- THEOREM B, milliseconds: a tick keeps the record rules. Assumes nothing.
+use mathlib.Core.Path.{_≡_, refl, sym, ap, _∙_}
+use mathlib.Core.Logic.{_≢_}
+use mathlib.Core.Bool.{Bool, true, false}
+use mathlib.Core.Option.{Option, none, some}
+use Prim.Native.Nat.{ℕ, zero, suc, _+_, _-_, _≤_, _<_}
+use native.Mathlib.Nat.{add-zero}
+use native.Mathlib.Omega.{arith}
+use Rattle.lighting.specs.Choice.{if_then_else_}
+use Rattle.lighting.proofs.Split.{by-eq, by-lt, by-bool}
+use Rattle.lighting.specs.declared.Settings.{Settings}
+use Rattle.lighting.specs.declared.Activity.{Activity}
+use Rattle.lighting.specs.declared.Activity.the-variants.{Still, Moving, Blink, Delay}
+use Rattle.lighting.specs.declared.Timer.{Timer}
+use Rattle.lighting.specs.declared.Timer.the-variants.{Off, Running}
+use Rattle.lighting.specs.declared.Output.{Output}
+use Rattle.lighting.specs.Slots.{Slots, lives, put, emptied, filled}
+use Rattle.lighting.proofs.Winner.{winner-empty, topmost-empty, six-kept, six-set}
+use Rattle.lighting.specs.Value.{presentValue}
+use Rattle.lighting.specs.Passing.{withBurning, glowing, burned, timerAt, expired, disowned, released, activityAt, slotsAt, settled, fire, tick, ticks, top, advance}
+use Rattle.lighting.proofs.Passing.{glowing-le, advance-ticks}
+use Rattle.lighting.proofs.Facts.{IsLevel, Within, Slot, Settled, SlotLevel, Filled, Moves, Warns, Acts, Timed, Sound}
+use Rattle.lighting.proofs.Tied.{sound-calm}
+use Rattle.lighting.proofs.Levels.{put-filled}
+
+-- slots and activity together
+record Scene (t : ℕ) (c : Settings) (s : Slots) (a : Activity) : Type 0 where
+  slots : Filled s
+  activity : Acts t c s a
+
+-- THE DURATION
+pub disowned-acts : (t : ℕ) (c : Settings) (s : Slots) (q : ℕ) (a : Activity) → Slot q → Filled s → Acts t c s a
+    → Acts t c (emptied s q) (disowned q a)
+unfolding disowned if_then_else_
+disowned-acts t c s q Still g f h = six-kept s (f .size) q none (g .inside) (g .free) ∙ h
+disowned-acts t c s q (Moving m) g f h =
+    let k = six-kept s (f .size) q none (g .inside) (g .free) in
+    by-eq (m .owner) q (λ p e. rw e (k ∙ h .six)) (λ p e. rw e (goes-on p k))
+  where
+    goes-on : m .owner ≢ q → lives (emptied s q) 5 ≡ lives s 5 → Moves t c (emptied s q) m
+    goes-on n k =
+        let w = winner-empty s (f .size) q (g .inside) (omega (arith, h .wins)) in
+        let p = topmost-empty s (f .size) (c .default) q (g .inside) (omega (arith, h .wins)) in
+        unfold presentValue in search arith
+disowned-acts t c s q (Blink x y u v) g f h = let k = six-kept s (f .size) q none (g .inside) (g .free) in search
+disowned-acts t c s q (Delay x v) g f h = let k = six-kept s (f .size) q none (g .inside) (g .free) in search
+
+expired-scene : (t d : ℕ) (c : Settings) (s : Slots) (m : Timer) (a : Activity) → Timed t m → Filled s → Acts t c s a
+    → Scene t c (expired d m s) (released d m a)
+unfolding expired released if_then_else_
+expired-scene t d c s Off a k f h = record { slots = f; activity = h }
+expired-scene t d c s (Running q e) a k f h =
+    by-eq
+    e
+    d
+    (λ p r. rw r
+    (record { slots = put-filled s q none f (k .0 .inside) tt; activity = disowned-acts t c s q a (k .0) f h }))
+    (λ p r. rw r (record { slots = f; activity = h }))
+
+-- THE WARNING AND THE MOVEMENT
+next-scene : (t : ℕ) (c : Settings) (s : Slots) (a : Activity) → Filled s → Acts t c s a
+    → Scene (suc t) c (slotsAt (suc t) a s) (activityAt (suc t) a)
+unfolding slotsAt activityAt if_then_else_
+next-scene t c s Still f h = record { slots = f; activity = h }
+next-scene t c s (Moving m) f h =
+    by-eq
+    (m .over)
+    (suc t)
+    (λ p e. rw e (record { slots = f; activity = h .six }))
+    (λ p e. rw e (record { slots = f; activity = search arith }))
+next-scene t c s (Blink x y u v) f h =
+    by-eq
+    u
+    (suc t)
+    (λ p e. by-lt
+    u
+    v
+    (λ q e′. rw (e, e′)
+    (let k = six-set s (f .size) (some y) in
+    record { slots = put-filled s 5 (some y) f (omega arith) (h .1); activity = search arith }))
+    (λ q e′. rw (e, e′) (record { slots = put-filled s 5 none f (omega arith) tt; activity = six-set s (f .size) none })))
+    (λ p e. rw e (record { slots = f; activity = search arith }))
+next-scene t c s (Delay x v) f h =
+    by-eq
+    v
+    (suc t)
+    (λ p e. rw e
+    (let f₁ = put-filled s 5 none f (omega arith) tt in
+    record {
+      slots = put-filled (emptied s 5) x none f₁ (omega (arith, h .owner)) tt;
+      activity =
+          six-kept (emptied s 5) (f₁ .size) x none (omega (arith, h .owner)) (omega (arith, h .owner))
+          ∙ six-set s (f .size) none;
+    }))
+    (λ p e. rw e (record { slots = f; activity = search arith }))
+
+next-timer : (t : ℕ) (m : Timer) → Timed t m → Timed (suc t) (timerAt (suc t) m)
+unfolding timerAt if_then_else_
+next-timer t Off h = tt
+next-timer t (Running q d) h = by-eq d (suc t) (λ p e. rw e tt) (λ p e. rw e (h .0, omega (arith, h .1)))
+
+pub tick-sound : (t : ℕ) (o : Output) → Sound t o → Sound (suc t) (tick t o)
+unfolding tick fire settled burned withBurning
+tick-sound t o h =
+    let x = expired-scene t (suc t) (o .settings) (o .slots) (o .timer) (o .activity) (h .timer) (h .slots) (h .activity) in
+    let n = next-scene t (o .settings) (expired (suc t) (o .timer) (o .slots)) (released (suc t) (o .timer) (o .activity)) (x .slots) (x .activity) in
+    record {
+      settings = h .settings;
+      slots = n .slots;
+      activity = n .activity;
+      timer = next-timer t (o .timer) (h .timer);
+      burnt = omega (arith, glowing-le t 1 o, h .burnt);
+    }
+
+ticks-sound : (n t : ℕ) (o : Output) → Sound t o → Sound (t + n) (ticks n t o)
+unfolding ticks
+ticks-sound zero t o h = rw (add-zero t) h
+ticks-sound (suc n) t o h =
+    let e : t + suc n ≡ suc t + n = omega arith in rw e (ticks-sound n (suc t) (tick t o) (tick-sound t o h))
+
+-- so the engine keeps them too
+pub advance-sound : (now to : ℕ) (o : Output) → now ≤ to → to ≤ top → Sound now o → Sound to (advance now to o)
+advance-sound now to o l m h =
+    let e : now + (to - now) ≡ to = omega arith in
+    rw (advance-ticks now to o l m (sound-calm now o h)) (rw e at (ticks-sound (to - now) now o h))

@@ -1,0 +1,148 @@
+-- The test of the record rules holds exactly where their facts do. An array's length is part of the code's type. Assumes nothing.
+use mathlib.Core.Path.{_≡_, refl, sym, _∙_}
+use mathlib.Core.Logic.{_≢_}
+use mathlib.Core.Bool.{Bool, true, false, not, false≢true, true≢false}
+use Prim.Native.Nat.{ℕ, _-_, _≤_, _<_}
+use native.Mathlib.Omega.{arith}
+use lib.Dec.{ltb, leb, eqb}
+use lib.ListN.{length, getD}
+use borrow.Author.Tests.{not-true}
+use Rattle.lighting.specs.Choice.{if_then_else_, _also_}
+use Rattle.lighting.proofs.Split.{unless, by-eq, by-bool, le-of, leb-yes, eqb-hit, eqb-miss, parts, tests}
+use Rattle.lighting.proofs.Scan.{all-each, each-all}
+use Rattle.lighting.specs.declared.Settings.{Settings}
+use Rattle.lighting.specs.declared.Movement.{Movement}
+use Rattle.lighting.specs.declared.Activity.{Activity}
+use Rattle.lighting.specs.declared.Activity.the-variants.{Still, Moving, Blink, Delay}
+use Rattle.lighting.specs.declared.Timer.{Timer}
+use Rattle.lighting.specs.declared.Timer.the-variants.{Off, Running}
+use Rattle.lighting.specs.declared.Output.{Output}
+use Rattle.lighting.specs.Slots.{Slots, lives, winner, slot}
+use Rattle.lighting.proofs.Mask.{slot-is}
+use Rattle.lighting.specs.Value.{presentValue}
+use Rattle.lighting.specs.Passing.{top, ticks, advance}
+use Rattle.lighting.proofs.Passing.{advance-ticks, After, Calm, TimerAfter, ActivityAfter}
+use Rattle.lighting.specs.Parameters.{standard}
+use Rattle.lighting.specs.Properties.{within, isSlot}
+use Rattle.lighting.specs.Rules.{isLevel, levelsSound, timesSound, realsSound, settingsSound, slotSound, slotsSoundFrom, spanSound, movementSound, blinkSound, delaySound, activityBy, activitySound, timerSound, sound}
+use Rattle.lighting.proofs.Facts.{IsLevel, Within, Slot, Settled, SlotLevel, Filled, Moves, Warns, Acts, Timed, Sound}
+
+-- FROM THE TEST TO THE FACTS
+pub within-of : (low high v : ℕ) → within low high v ≡ true → Within low high v
+unfolding within
+within-of low high v h = search parts
+
+pub level-of : (v : ℕ) → isLevel v ≡ true → IsLevel v
+unfolding isLevel if_then_else_
+level-of v h =
+    by-eq v 0 (λ p e. omega arith) (λ p e. let w = within-of 65536 6553600 v (rw e at h) in omega arith)
+
+pub slot-of : (i : ℕ) → isSlot i ≡ true → Slot i
+unfolding isSlot if_then_else_
+slot-of i h =
+    by-eq i 5 (λ p e. absurd (false≢true (rw e at h))) (λ p e. record { inside = le-of (rw e at h); free = p })
+
+settled-of : (c : Settings) → settingsSound standard c ≡ true → Settled c
+unfolding settingsSound levelsSound timesSound realsSound
+settled-of c h = search (parts, within-of, level-of, slot-of)
+
+filled-of : (s : Slots) → length (s .levels) ≡ 16 → slotsSoundFrom s 0 ≡ true → Filled s
+unfolding slotsSoundFrom
+filled-of s size h =
+    record { size = size; level = λ i k. at i k (all-each (slotSound s) 16 0 i h (omega arith) (omega arith)) }
+  where
+    at : (i : ℕ) → i < 16 → slotSound s i ≡ true → SlotLevel (slot s i)
+    at i k e =
+        rw (slot-is s i (omega arith)) (unfold slotSound if_then_else_ in
+        (by-bool (lives s i) (λ p. rw p (level-of (getD (s .levels) i 0) (rw p at e))) (λ p. rw p tt)))
+
+moves-of : (t : ℕ) (c : Settings) (s : Slots) (m : Movement) → lives s 5 ≡ false
+    → movementSound standard t (winner s) (c .max) (presentValue c s) m ≡ true → Moves t c s m
+unfolding movementSound spanSound
+moves-of t c s m l h = search (parts, within-of) depth 8
+
+acts-of : (t : ℕ) (c : Settings) (s : Slots) (a : Activity) → activitySound standard t c s a ≡ true → Acts t c s a
+unfolding activitySound activityBy blinkSound delaySound
+acts-of t c s Still h = not-true (lives s 5) h
+acts-of t c s (Moving m) h = moves-of t c s m (unless h .0) (unless h .1)
+acts-of t c s (Blink owner level turn over) h = search (parts, within-of, level-of)
+acts-of t c s (Delay owner over) h = search (parts, within-of)
+
+timed-of : (t : ℕ) (m : Timer) → timerSound t m ≡ true → Timed t m
+unfolding timerSound
+timed-of t Off h = tt
+timed-of t (Running slot due) h = search (parts, slot-of)
+
+pub sound-facts : (t : ℕ) (o : Output) → length (o .slots .levels) ≡ 16 → sound standard t o ≡ true → Sound t o
+unfolding sound
+sound-facts t o size h = search (parts, settled-of, filled-of, acts-of, timed-of)
+
+-- FROM THE FACTS TO THE TEST
+within-yes : (low high v : ℕ) → Within low high v → within low high v ≡ true
+unfolding within
+within-yes low high v h = search tests
+
+level-yes : (v : ℕ) → IsLevel v → isLevel v ≡ true
+unfolding isLevel if_then_else_
+level-yes v h =
+    by-eq v 0 (λ p e. rw e) (λ p e. rw e (within-yes 65536 6553600 v (omega arith)))
+
+slot-yes : (i : ℕ) → Slot i → isSlot i ≡ true
+unfolding isSlot if_then_else_
+slot-yes i h = rw (eqb-miss (h .free)) (leb-yes (h .inside))
+
+settled-yes : (c : Settings) → Settled c → settingsSound standard c ≡ true
+unfolding settingsSound levelsSound timesSound realsSound
+settled-yes c h = search (tests, within-yes, level-yes, slot-yes)
+
+filled-yes : (s : Slots) → Filled s → slotsSoundFrom s 0 ≡ true
+unfolding slotsSoundFrom
+filled-yes s h = each-all (slotSound s) 16 0 (λ i p k. at i (omega arith) (h .level i (omega arith)))
+  where
+    at : (i : ℕ) → i < 16 → SlotLevel (slot s i) → slotSound s i ≡ true
+    at i k l = unfold slotSound if_then_else_ in
+        (by-bool
+        (lives s i)
+        (λ p. rw p (level-yes (getD (s .levels) i 0) (rw p at (rw (slot-is s i (omega (arith, h .size))) at l))))
+        (λ p. rw p))
+
+moves-yes : (t : ℕ) (c : Settings) (s : Slots) (m : Movement) → Moves t c s m
+    → movementSound standard t (winner s) (c .max) (presentValue c s) m ≡ true
+unfolding movementSound spanSound
+moves-yes t c s m h = search (tests, within-yes) depth 12
+
+acts-yes : (t : ℕ) (c : Settings) (s : Slots) (a : Activity) → Acts t c s a → activitySound standard t c s a ≡ true
+unfolding activitySound activityBy blinkSound delaySound
+acts-yes t c s Still h = rw h
+acts-yes t c s (Moving m) h = unfold if_then_else_ in rw (h .six) (moves-yes t c s m h)
+acts-yes t c s (Blink owner level turn over) h = search (tests, within-yes, level-yes)
+acts-yes t c s (Delay owner over) h = search (tests, within-yes)
+
+timed-yes : (t : ℕ) (m : Timer) → Timed t m → timerSound t m ≡ true
+unfolding timerSound
+timed-yes t Off h = refl
+timed-yes t (Running slot due) h = search (tests, slot-yes)
+
+pub facts-sound : (t : ℕ) (o : Output) → Sound t o → sound standard t o ≡ true
+unfolding sound
+facts-sound t o h = search (tests, settled-yes, filled-yes, acts-yes, timed-yes) depth 7
+
+-- what theorem A asks
+pub sound-calm : (t : ℕ) (o : Output) → Sound t o → Calm t o
+sound-calm t o h =
+    record { after = record { timer = timer (o .timer) (h .timer); activity = activity (o .activity) (h .activity) }; burnt = h .burnt }
+  where
+    timer : (m : Timer) → Timed t m → TimerAfter t m
+    timer Off k = tt
+    timer (Running slot due) k = k .1
+
+    activity : (a : Activity) → Acts t (o .settings) (o .slots) a → ActivityAfter t a
+    activity Still k = tt
+    activity (Moving m) k = k .later
+    activity (Blink owner level turn over) k = k .0 .later
+    activity (Delay owner over) k = k .later
+
+-- THEOREM A of a record that passed the test
+pub sound-advance : (now to : ℕ) (o : Output) → length (o .slots .levels) ≡ 16 → sound standard now o ≡ true → now ≤ to → to ≤ top
+    → advance now to o ≡ ticks (to - now) now o
+sound-advance now to o size h l m = advance-ticks now to o l m (sound-calm now o (sound-facts now o size h))

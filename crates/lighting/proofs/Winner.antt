@@ -1,0 +1,162 @@
+-- What a slot emptied or filled does to the winner, to its level, and to slot 6. Assumes nothing.
+use mathlib.Core.Path.{_≡_, refl, sym, ap, _∙_}
+use mathlib.Core.Logic.{_≢_}
+use mathlib.Core.Bool.{Bool, true, false, true≢false}
+use mathlib.Core.List.{List, [], _∷_}
+use mathlib.Core.Option.{Option, none, some}
+use Prim.Native.Nat.{ℕ, zero, suc, _/_, _%_, _≤_, _<_}
+use native.Mathlib.Omega.{arith}
+use lib.Dec.{ltb, eqb}
+use lib.ListN.{set, getD, length}
+use lib.Seq.{getD-set-same, getD-set-other}
+use Rattle.lighting.specs.Choice.{if_then_else_}
+use Rattle.lighting.proofs.Split.{by-eq, by-lt, leb-yes, leb-no}
+use Rattle.lighting.specs.Slots.{Slots, view, slotsOf, slot, put, firstLive, winner, lives, levelAt, topmost}
+use Rattle.lighting.proofs.Mask.{alive, lives-slot, put-slots, put-size, slots-size}
+
+firstLevel : ℕ → List (Option ℕ) → ℕ
+firstLevel d [] = d
+firstLevel d (none ∷ s) = firstLevel d s
+firstLevel d (some v ∷ s) = v
+
+suc-ltb : (a b : ℕ) → ltb (suc a) (suc b) ≡ ltb a b
+suc-ltb a b = by-lt a b (λ p e. rw e (leb-yes {a = suc (suc a)} {b = suc b} (omega arith))) (λ p e. rw e (leb-no {a = suc (suc a)} {b = suc b} (omega arith)))
+
+level-view : (d m : ℕ) (l : List ℕ)
+    → (if ltb (firstLive (view m l)) (length l) then getD l (firstLive (view m l)) 0 else d) ≡ firstLevel d (view m l)
+unfolding view firstLive firstLevel if_then_else_
+level-view d m [] = refl
+level-view d m (v ∷ l) =
+    by-eq
+    (m % 2)
+    1
+    (λ p e. rw (e, leb-yes {a = 1} {b = suc (length l)} (omega arith)))
+    (λ p e. rw (e, suc-ltb (firstLive (view (m / 2) l)) (length l)) (level-view d (m / 2) l))
+
+topmost-view : (d : ℕ) (s : Slots) → length (s .levels) ≡ 16 → topmost d s ≡ firstLevel d (slotsOf s)
+unfolding topmost levelAt winner slotsOf
+topmost-view d s h = rw h at (level-view d (s .live) (s .levels))
+
+-- THE WINNER AND ITS LEVEL, on the list of slots, after a slot was emptied or filled
+live-empty : (s : List (Option ℕ)) (q : ℕ) → q ≢ firstLive s → firstLive (set s q none) ≡ firstLive s
+unfolding firstLive
+live-empty [] q h = refl
+live-empty (none ∷ s) zero h = refl
+live-empty (none ∷ s) (suc q) h = ap suc (live-empty s q (omega arith))
+live-empty (some v ∷ s) zero h = absurd (h refl)
+live-empty (some v ∷ s) (suc q) h = refl
+
+level-empty : (d : ℕ) (s : List (Option ℕ)) (q : ℕ) → q ≢ firstLive s → firstLevel d (set s q none) ≡ firstLevel d s
+unfolding firstLive firstLevel
+level-empty d [] q h = refl
+level-empty d (none ∷ s) zero h = refl
+level-empty d (none ∷ s) (suc q) h = level-empty d s q (omega arith)
+level-empty d (some v ∷ s) zero h = absurd (h refl)
+level-empty d (some v ∷ s) (suc q) h = refl
+
+live-over : (s : List (Option ℕ)) (p : ℕ) (x : Option ℕ) → firstLive s < p → firstLive (set s p x) ≡ firstLive s
+unfolding firstLive
+live-over [] p x h = refl
+live-over (none ∷ s) zero x h = absurd (omega arith)
+live-over (none ∷ s) (suc p) x h = ap suc (live-over s p x (omega arith))
+live-over (some v ∷ s) zero x h = absurd (omega arith)
+live-over (some v ∷ s) (suc p) x h = refl
+
+level-over : (d : ℕ) (s : List (Option ℕ)) (p : ℕ) (x : Option ℕ) → firstLive s < p → firstLevel d (set s p x) ≡ firstLevel d s
+unfolding firstLive firstLevel
+level-over d [] p x h = refl
+level-over d (none ∷ s) zero x h = absurd (omega arith)
+level-over d (none ∷ s) (suc p) x h = level-over d s p x (omega arith)
+level-over d (some v ∷ s) zero x h = absurd (omega arith)
+level-over d (some v ∷ s) (suc p) x h = refl
+
+live-filled : (s : List (Option ℕ)) (p v : ℕ) → p < length s → p ≤ firstLive s → firstLive (set s p (some v)) ≡ p
+unfolding firstLive
+live-filled [] p v l h = absurd (omega arith)
+live-filled (x ∷ s) zero v l h = refl
+live-filled (none ∷ s) (suc p) v l h = ap suc (live-filled s p v (omega arith) (omega arith))
+live-filled (some w ∷ s) (suc p) v l h = absurd (omega arith)
+
+level-filled : (d : ℕ) (s : List (Option ℕ)) (p v : ℕ) → p < length s → firstLive (set s p (some v)) ≡ p
+    → firstLevel d (set s p (some v)) ≡ v
+unfolding firstLive firstLevel
+level-filled d [] p v l h = absurd (omega arith)
+level-filled d (x ∷ s) zero v l h = refl
+level-filled d (none ∷ s) (suc p) v l h = level-filled d s p v (omega arith) (omega arith)
+level-filled d (some w ∷ s) (suc p) v l h = absurd (omega arith)
+
+level-live : (d d′ : ℕ) (s : List (Option ℕ)) → firstLive s < length s → firstLevel d s ≡ firstLevel d′ s
+unfolding firstLive firstLevel
+level-live d d′ [] h = absurd (omega arith)
+level-live d d′ (none ∷ s) h = level-live d d′ s (omega arith)
+level-live d d′ (some v ∷ s) h = refl
+
+set-dead : (s : List (Option ℕ)) (i : ℕ) → alive (getD s i none) ≡ false → set s i none ≡ s
+set-dead [] i h = refl
+set-dead (none ∷ s) zero h = refl
+set-dead (some v ∷ s) zero h = absurd (true≢false h)
+set-dead (x ∷ s) (suc i) h = ap (λ (z : List (Option ℕ)). x ∷ z) (set-dead s i h)
+
+-- the same of the record, by what its slots are after `put`
+module _ (s : Slots) (size : length (s .levels) ≡ 16) where
+  pub put-sized : (i : ℕ) (x : Option ℕ) → length (put s i x .levels) ≡ 16
+  put-sized i x = put-size s i x ∙ size
+
+  topmost-put : (d i : ℕ) (x : Option ℕ) → i < 16 → topmost d (put s i x) ≡ firstLevel d (set (slotsOf s) i x)
+  topmost-put d i x k = topmost-view d (put s i x) (put-sized i x) ∙ ap (firstLevel d) (put-slots s i x size k)
+
+  pub winner-over : (p : ℕ) (x : Option ℕ) → p < 16 → winner s < p → winner (put s p x) ≡ winner s
+  unfolding winner
+  winner-over p x k h = rw (put-slots s p x size k) (live-over (slotsOf s) p x h)
+
+  pub topmost-over : (d p : ℕ) (x : Option ℕ) → p < 16 → winner s < p → topmost d (put s p x) ≡ topmost d s
+  unfolding winner
+  topmost-over d p x k h = topmost-put d p x k ∙ level-over d (slotsOf s) p x h ∙ sym (topmost-view d s size)
+
+  pub winner-empty : (q : ℕ) → q < 16 → q ≢ winner s → winner (put s q none) ≡ winner s
+  unfolding winner
+  winner-empty q k h = rw (put-slots s q none size k) (live-empty (slotsOf s) q h)
+
+  pub topmost-empty : (d q : ℕ) → q < 16 → q ≢ winner s → topmost d (put s q none) ≡ topmost d s
+  unfolding winner
+  topmost-empty d q k h = topmost-put d q none k ∙ level-empty d (slotsOf s) q h ∙ sym (topmost-view d s size)
+
+  pub winner-filled : (p v : ℕ) → p < 16 → p ≤ winner s → winner (put s p (some v)) ≡ p
+  unfolding winner
+  winner-filled p v k h =
+      rw (put-slots s p (some v) size k) (live-filled (slotsOf s) p v (omega (arith, slots-size s)) h)
+
+  pub topmost-filled : (d p v : ℕ) → p < 16 → winner (put s p (some v)) ≡ p → topmost d (put s p (some v)) ≡ v
+  unfolding winner
+  topmost-filled d p v k h =
+      topmost-put d p (some v) k
+      ∙ level-filled d (slotsOf s) p v (omega (arith, slots-size s)) (rw (put-slots s p (some v) size k) at h)
+
+  pub topmost-live : (d d′ : ℕ) → winner s < 16 → topmost d s ≡ topmost d′ s
+  unfolding winner
+  topmost-live d d′ h =
+      topmost-view d s size ∙ level-live d d′ (slotsOf s) (omega (arith, slots-size s)) ∙ sym (topmost-view d′ s size)
+
+  -- an empty slot emptied: no slot changes
+  pub put-dead : (i : ℕ) → i < 16 → lives s i ≡ false → slotsOf (put s i none) ≡ slotsOf s
+  put-dead i k h =
+      put-slots s i none size k ∙ set-dead (slotsOf s) i (sym (lives-slot s i (omega arith)) ∙ h)
+
+  pub topmost-dead : (d i : ℕ) → i < 16 → lives s i ≡ false → topmost d (put s i none) ≡ topmost d s
+  topmost-dead d i k h =
+      topmost-view d (put s i none) (put-sized i none) ∙ ap (firstLevel d) (put-dead i k h) ∙ sym (topmost-view d s size)
+
+  pub winner-dead : (i : ℕ) → i < 16 → lives s i ≡ false → winner (put s i none) ≡ winner s
+  unfolding winner
+  winner-dead i k h = ap firstLive (put-dead i k h)
+
+  pub six-kept : (i : ℕ) (x : Option ℕ) → i < 16 → i ≢ 5 → lives (put s i x) 5 ≡ lives s 5
+  six-kept i x k n =
+      lives-slot (put s i x) 5 (omega (arith, put-sized i x))
+      ∙ rw (put-slots s i x size k) (ap alive (getD-set-other (slotsOf s) i 5 x none (omega arith)))
+      ∙ sym (lives-slot s 5 (omega arith))
+
+  pub six-set : (x : Option ℕ) → lives (put s 5 x) 5 ≡ alive x
+  six-set x =
+      lives-slot (put s 5 x) 5 (omega (arith, put-sized 5 x))
+      ∙ rw (put-slots s 5 x size (omega arith)) (ap alive (getD-set-same (slotsOf s) 5 x none (omega (arith, slots-size s))))

@@ -1,0 +1,162 @@
+-- Kinds 02 and 03 keep the record rules. Assumes nothing.
+use mathlib.Core.Path.{_≡_, refl, sym, ap, _∙_}
+use mathlib.Core.Logic.{_≢_}
+use mathlib.Core.Bool.{Bool, true, false}
+use mathlib.Core.Option.{Option, none, some}
+use Prim.Native.Nat.{ℕ, _+_, _≤_, _<_}
+use native.Mathlib.Omega.{arith}
+use lib.Dec.{ltb, leb, eqb}
+use lib.ListN.{length}
+use Rattle.lighting.specs.Choice.{if_then_else_, _also_}
+use Rattle.lighting.proofs.Split.{by-eq, by-lt, by-bool, parts}
+use Rattle.lighting.specs.declared.Settings.{Settings}
+use Rattle.lighting.specs.declared.Movement.{Movement}
+use Rattle.lighting.specs.declared.Activity.{Activity}
+use Rattle.lighting.specs.declared.Activity.the-variants.{Still, Moving, Blink, Delay}
+use Rattle.lighting.specs.declared.Output.{Output}
+use Rattle.lighting.specs.Slots.{Slots, lives, winner, topmost, put, emptied, filled}
+use Rattle.lighting.proofs.Winner.{winner-over, topmost-over, winner-dead, topmost-dead, six-kept, six-set}
+use Rattle.lighting.specs.Value.{presentValue}
+use Rattle.lighting.proofs.Facts.{IsLevel, Within, Slot, Settled, SlotLevel, Filled, Moves, Warns, Acts, Timed, Sound}
+use Rattle.lighting.specs.Parameters.{standard}
+use Rattle.lighting.specs.Properties.{isSlot}
+use Rattle.lighting.specs.Rules.{isLevel, sound}
+use Rattle.lighting.proofs.Tied.{level-of, slot-of, sound-facts, facts-sound}
+use Rattle.lighting.proofs.Levels.{level-zero, present-level, put-filled}
+use Rattle.lighting.specs.Writing.{withScene, passedOver, stored, blinks, warnsBy, warns, firstLevel, firstPhase, warnedBy, warned, endedEmpty, endedStored, writtenWarned, writtenZero, writtenCalm, writtenBy, written, vacatedActivity, vacated}
+
+-- all that a change of slots and activity has to keep
+scene-sound : (t : ℕ) (o : Output) (s : Slots) (a : Activity) → Sound t o → Filled s → Acts t (o .settings) s a → Sound t (withScene o s a)
+unfolding withScene
+scene-sound t o s a h f k = search
+
+-- A MOVEMENT whose owner stays the winner goes on
+pub kept-moving : (t : ℕ) (c : Settings) (s s′ : Slots) (m : Movement) → Moves t c s m
+    → lives s′ 5 ≡ lives s 5 → winner s′ ≡ winner s → topmost (c .default) s′ ≡ topmost (c .default) s → Moves t c s′ m
+unfolding presentValue
+kept-moving t c s s′ m h p q r = search arith
+
+module _ (t : ℕ) (c : Settings) (s : Slots) (size : length (s .levels) ≡ 16) (i : ℕ) (slot : Slot i) where
+  -- slot i gets x: with a slot above the winner all goes on
+  pub moving-over : (x : Option ℕ) (m : Movement) → winner s < i → Moves t c s m → Moves t c (put s i x) m
+  moving-over x m l h =
+      kept-moving t c s (put s i x) m h
+      (six-kept s size i x (slot .inside) (slot .free))
+      (winner-over s size i x (slot .inside) l)
+      (topmost-over s size (c .default) i x (slot .inside) l)
+
+  -- WARNINGS ASIDE: a movement goes on if the slot is above its owner's number, else it ends
+  passed-acts : (x : Option ℕ) (a : Activity) → Acts t c s a → Acts t c (put s i x) (passedOver i a)
+  unfolding passedOver if_then_else_
+  passed-acts x Still h = six-kept s size i x (slot .inside) (slot .free) ∙ h
+  passed-acts x (Moving m) h =
+      by-lt
+      (m .owner)
+      i
+      (λ l e. rw e (moving-over x m (omega (arith, h .wins)) h))
+      (λ l e. rw e (six-kept s size i x (slot .inside) (slot .free) ∙ h .six))
+  passed-acts x (Blink owner level turn over) h =
+      let k = six-kept s size i x (slot .inside) (slot .free) in search
+  passed-acts x (Delay owner over) h = let k = six-kept s size i x (slot .inside) (slot .free) in search
+
+  -- an empty slot emptied: all goes on
+  dead-acts : (a : Activity) → lives s i ≡ false → Acts t c s a → Acts t c (put s i none) a
+  dead-acts Still e h = six-kept s size i none (slot .inside) (slot .free) ∙ h
+  dead-acts (Moving m) e h =
+      kept-moving t c s (put s i none) m h
+      (six-kept s size i none (slot .inside) (slot .free))
+      (winner-dead s size i (slot .inside) e)
+      (topmost-dead s size (c .default) i (slot .inside) e)
+  dead-acts (Blink owner level turn over) e h = let k = six-kept s size i none (slot .inside) (slot .free) in search
+  dead-acts (Delay owner over) e h = let k = six-kept s size i none (slot .inside) (slot .free) in search
+
+  vacated-acts : (a : Activity) → Acts t c s a → Acts t c (put s i none) (vacatedActivity (lives s i) i a)
+  unfolding vacatedActivity if_then_else_
+  vacated-acts a h = by-bool (lives s i) (λ e. rw e (passed-acts none a h)) (λ e. rw e (dead-acts a e h))
+
+stored-sound : (t : ℕ) (o : Output) (i v : ℕ) → Slot i → IsLevel v → Sound t o → Sound t (stored o i v)
+unfolding stored
+stored-sound t o i v g l h =
+    scene-sound t o _ _ h
+    (put-filled (o .slots) i (some v) (h .slots) (g .inside) l)
+    (passed-acts t (o .settings) (o .slots) (h .slots .size) i g (some v) (o .activity) (h .activity))
+
+-- A WARNING STARTS
+first-level : (c : Settings) (y : ℕ) → IsLevel y → IsLevel (firstLevel c y)
+unfolding firstLevel if_then_else_
+first-level c y l = by-eq (c .blink) 0 (λ p e. rw e l) (λ p e. rw e level-zero)
+
+first-acts : (t : ℕ) (c : Settings) (s : Slots) (x y : ℕ) → Slot x → 5 < x → 0 < c .blink + c .delay → IsLevel y → lives s 5 ≡ true
+    → Acts t c s (firstPhase t c x y)
+unfolding firstPhase if_then_else_
+first-acts t c s x y g l b v k =
+    let w : Within 6 15 x = omega (arith, g .inside) in
+    by-eq (c .blink) 0 (λ p e. rw e (search arith)) (λ p e. rw e (search arith))
+
+warned-sound : (t : ℕ) (o : Output) (x : ℕ) → Slot x → 5 < x → 0 < o .settings .blink + o .settings .delay → Sound t o → Sound t (warned t o x)
+unfolding warned warnedBy
+warned-sound t o x g l b h =
+    let y = present-level (o .settings) (o .slots) (h .settings) in
+    let f = put-filled (o .slots) x (some 0) (h .slots) (g .inside) level-zero in
+    scene-sound t o _ _ h
+    (put-filled (filled (o .slots) x 0) 5 (some _) f (omega arith) (first-level (o .settings) _ y))
+    (first-acts t (o .settings) _ x _ g l b y (six-set (filled (o .slots) x 0) (f .size) (some _)))
+
+-- what the test for a warning tells
+warns-facts : (c : Settings) (s : Slots) (x : ℕ) → warns c s x ≡ true → (0 < c .blink + c .delay) × (5 < x)
+unfolding warns warnsBy blinks
+warns-facts c s x h = search parts
+
+-- DURING A WARNING
+ended-sound : (t : ℕ) (o : Output) (i : ℕ) (x : Option ℕ) → Slot i → SlotLevel x → Sound t o
+    → Sound t (withScene o (put (emptied (o .slots) 5) i x) Still)
+ended-sound t o i x g l h =
+    let f = put-filled (o .slots) 5 none (h .slots) (omega arith) tt in
+    scene-sound t o _ _ h
+    (put-filled (emptied (o .slots) 5) i x f (g .inside) l)
+    (six-kept (emptied (o .slots) 5) (f .size) i x (g .inside) (g .free) ∙ six-set (o .slots) (h .slots .size) none)
+
+warned-written : (t : ℕ) (o : Output) (i v : ℕ) → Slot i → IsLevel v → Sound t o → Sound t (writtenWarned o i v)
+unfolding writtenWarned endedEmpty endedStored if_then_else_
+warned-written t o i v g l h =
+    by-eq
+    v
+    0
+    (λ p e. by-lt
+    5
+    i
+    (λ q e′. rw (e, e′) (ended-sound t o i none g tt h))
+    (λ q e′. rw (e, e′) (ended-sound t o i (some v) g l h)))
+    (λ p e. rw e (ended-sound t o i (some v) g l h))
+
+-- KIND 02
+calm-written : (t : ℕ) (o : Output) (i v : ℕ) → Slot i → IsLevel v → Sound t o → Sound t (writtenCalm t o i v)
+unfolding writtenCalm writtenZero if_then_else_
+calm-written t o i v g l h =
+    by-eq
+    v
+    0
+    (λ p e. rw e
+    (by-bool
+    (warns (o .settings) (o .slots) i)
+    (λ e′. let f = warns-facts (o .settings) (o .slots) i e′ in rw e′ (warned-sound t o i g (f .1) (f .0) h))
+    (λ e′. rw e′ (stored-sound t o i 0 g level-zero h))))
+    (λ p e. rw e (stored-sound t o i v g l h))
+
+pub written-sound : (t : ℕ) (o : Output) (i v : ℕ) → Slot i → IsLevel v → Sound t o → Sound t (written t o i v)
+unfolding written writtenBy
+written-sound t o i v g l h = go (o .activity)
+  where
+    go : (a : Activity) → Sound t (writtenBy t o i v a)
+    go Still = calm-written t o i v g l h
+    go (Moving m) = calm-written t o i v g l h
+    go (Blink owner level turn over) = warned-written t o i v g l h
+    go (Delay owner over) = warned-written t o i v g l h
+
+-- KIND 03
+pub vacated-sound : (t : ℕ) (o : Output) (i : ℕ) → Slot i → Sound t o → Sound t (vacated o i)
+unfolding vacated
+vacated-sound t o i g h =
+    scene-sound t o _ _ h
+    (put-filled (o .slots) i none (h .slots) (g .inside) tt)
+    (vacated-acts t (o .settings) (o .slots) (h .slots .size) i g (o .activity) (h .activity))

@@ -1,0 +1,151 @@
+-- 'Writes and commands': the eleven commands and the duration. A command acts on slot p, Lighting_Command_Priority. Assumes nothing.
+use mathlib.Core.Bool.{Bool, true, false}
+use Prim.Native.Nat.{ℕ, _+_, _-_, _*_, _/_, max}
+use lib.Dec.{eqb}
+use lib.Ieee.{Float}
+use Rattle.lighting.specs.Choice.{if_then_else_}
+use Rattle.lighting.specs.Level.{levelUnits, rateOf}
+use Rattle.lighting.specs.Slots.{Slots, winner, emptied, filled}
+use Rattle.lighting.specs.Value.{intoRange, brought, progressValue}
+use Rattle.lighting.specs.Passing.{disowned}
+use Rattle.lighting.specs.declared.Settings.{Settings}
+use Rattle.lighting.specs.declared.Pace.{Pace}
+use Rattle.lighting.specs.declared.Pace.the-variants.{Fade, Ramp}
+use Rattle.lighting.specs.declared.Movement.{Movement}
+use Rattle.lighting.specs.declared.Activity.{Activity}
+use Rattle.lighting.specs.declared.Activity.the-variants.{Still, Moving, Blink, Delay}
+use Rattle.lighting.specs.declared.Timer.{Timer}
+use Rattle.lighting.specs.declared.Timer.the-variants.{Off, Running}
+use Rattle.lighting.specs.declared.Duration.{Duration}
+use Rattle.lighting.specs.declared.Duration.the-variants.{Lasts, Cancels, Omitted}
+use Rattle.lighting.specs.declared.Operation.{Operation}
+use Rattle.lighting.specs.declared.Operation.the-variants.{Stop, FadeTo, FadeToOver, RampTo, RampToAtRate, StepUp, StepDown, StepUpBy, StepDownBy, Goto, Relinquish}
+use Rattle.lighting.specs.declared.Command.{Command}
+use Rattle.lighting.specs.declared.Scene.{Scene}
+use Rattle.lighting.specs.declared.Output.{Output}
+
+-- 'and first ends any warning by emptying slot 6'
+unfoldable pub unwarned : Slots → Activity → Slots
+unwarned s Still = s
+unwarned s (Moving m) = s
+unwarned s (Blink owner level turn over) = emptied s 5
+unwarned s (Delay owner over) = emptied s 5
+
+unfoldable pub unwarnedActivity : Activity → Activity
+unwarnedActivity Still = Still
+unwarnedActivity (Moving m) = Moving m
+unwarnedActivity (Blink owner level turn over) = Still
+unwarnedActivity (Delay owner over) = Still
+
+-- 'put in slot p. If p is then the winner [w] it replaces the movement; if not, an existing movement goes on'
+unfoldable pub replaced : ℕ → ℕ → Activity → Activity → Activity
+replaced w p new old = if eqb w p then new else old
+
+unfoldable pub placed : Slots → Activity → ℕ → ℕ → Activity → Scene
+placed s a p g new = record { slots = filled s p g; activity = replaced (winner (filled s p g)) p new a }
+
+-- a movement of slot p at t from s to g over l: 'If s = g there is no movement'
+unfoldable pub movement : ℕ → ℕ → ℕ → ℕ → ℕ → Pace → Activity
+movement t p s g l pace =
+    if eqb s g then Still else Moving (record { owner = p; start = s; target = g; length = l; over = t + l; pace = pace })
+
+-- |g - s|
+abbrev pub apart : ℕ → ℕ → ℕ
+apart s g = (g - s) + (s - g)
+
+-- 'L = ceiling(1,000 × |g - s| / R)', d the way
+unfoldable pub rampLength : ℕ → ℕ → ℕ
+rampLength d r = (1000 * d + (r - 1)) / r
+
+-- 'A target is brought into Min..Max if above zero'
+unfoldable pub target : Settings → Float → ℕ
+target c x = brought c (levelUnits x)
+
+-- A SCENE: the slots and the activity after a command, which starts at t from the level f, with the settings c, the slots s and the
+-- activity a
+unfoldable pub fadedOver : ℕ → Settings → ℕ → Slots → Activity → ℕ → ℕ → Scene
+fadedOver t c f s a g l = placed s a (c .slot) g (movement t (c .slot) f g l Fade)
+
+unfoldable pub fadedTo : ℕ → Settings → ℕ → Slots → Activity → Float → ℕ → Scene
+fadedTo t c f s a x l = fadedOver t c f s a (target c x) l
+
+unfoldable pub rampedAt : ℕ → Settings → ℕ → Slots → Activity → ℕ → ℕ → Scene
+rampedAt t c f s a g r = placed s a (c .slot) g (movement t (c .slot) f g (rampLength (apart f g) r) (Ramp r))
+
+unfoldable pub rampedTo : ℕ → Settings → ℕ → Slots → Activity → Float → Float → Scene
+rampedTo t c f s a x r = rampedAt t c f s a (target c x) (rateOf r)
+
+-- 'GOTO and steps jump'
+unfoldable pub jumped : Settings → Slots → Activity → ℕ → Scene
+jumped c s a g = placed s a (c .slot) g Still
+
+unfoldable pub wentTo : Settings → Slots → Activity → Float → Scene
+wentTo c s a x = jumped c s a (target c x)
+
+-- 'Step up: s plus step; step down: s minus step, not below 0; both brought into Min..Max. Step down from s = 0 stays 0'
+unfoldable pub stepUpFrom : Settings → ℕ → ℕ → ℕ
+stepUpFrom c f x = intoRange c (f + x)
+
+unfoldable pub stepDownFrom : Settings → ℕ → ℕ → ℕ
+stepDownFrom c f x = if eqb f 0 then 0 else intoRange c (f - x)
+
+unfoldable pub steppedUp : Settings → ℕ → Slots → Activity → Float → Scene
+steppedUp c f s a x = jumped c s a (stepUpFrom c f (rateOf x))
+
+unfoldable pub steppedDown : Settings → ℕ → Slots → Activity → Float → Scene
+steppedDown c f s a x = jumped c s a (stepDownFrom c f (rateOf x))
+
+-- 'STOP: if a movement belongs to p, it ends and slot p gets the reached level, raised to Min if above zero. Else it changes no slot'
+unfoldable pub raised : Settings → ℕ → ℕ
+raised c v = if eqb v 0 then 0 else max (c .min) v
+
+unfoldable pub halted : Settings → ℕ → Slots → Scene
+halted c f s = record { slots = filled s (c .slot) (raised c f); activity = Still }
+
+abbrev pub asItIs : Slots → Activity → Scene
+asItIs s a = record { slots = s; activity = a }
+
+unfoldable pub stopped : Settings → ℕ → Slots → Activity → Scene
+stopped c f s Still = asItIs s Still
+stopped c f s (Moving m) = if eqb (m .owner) (c .slot) then halted c f s else asItIs s (Moving m)
+stopped c f s (Blink owner level turn over) = asItIs s (Blink owner level turn over)
+stopped c f s (Delay owner over) = asItIs s (Delay owner over)
+
+-- 'RELINQUISH empties slot p; if p owned the movement, it ends'
+unfoldable pub relinquished : Settings → Slots → Activity → Scene
+relinquished c s a = record { slots = emptied s (c .slot); activity = disowned (c .slot) a }
+
+unfoldable pub scene : ℕ → Settings → ℕ → Slots → Activity → Operation → Scene
+scene t c f s a Stop = stopped c f s a
+scene t c f s a (FadeTo x) = fadedTo t c f s a x (c .fade)
+scene t c f s a (FadeToOver x l) = fadedTo t c f s a x l
+scene t c f s a (RampTo x) = rampedTo t c f s a x (c .ramp)
+scene t c f s a (RampToAtRate x r) = rampedTo t c f s a x r
+scene t c f s a StepUp = steppedUp c f s a (c .step)
+scene t c f s a StepDown = steppedDown c f s a (c .step)
+scene t c f s a (StepUpBy x) = steppedUp c f s a x
+scene t c f s a (StepDownBy x) = steppedDown c f s a x
+scene t c f s a (Goto x) = wentTo c s a x
+scene t c f s a Relinquish = relinquished c s a
+
+-- 'Duration d above zero, with every command: slot p empties d ms later. [..] a new one replaces it, 0 cancels it, Absent leaves it running'
+unfoldable pub timed : ℕ → ℕ → Timer → Duration → Timer
+timed t p m (Lasts d) = Running p (t + d)
+timed t p m Cancels = Off
+timed t p m Omitted = m
+
+unfoldable pub withCommand : Output → Scene → Timer → Command → Output
+withCommand o r m k =
+    record { settings = o .settings; slots = r .slots; activity = r .activity; timer = m; burning = o .burning; last = k }
+
+-- 'It starts from Progress_Value before it': f
+unfoldable pub commandedFrom : ℕ → Output → ℕ → Command → Output
+commandedFrom t o f k =
+    withCommand
+    o
+    (scene t (o .settings) f (unwarned (o .slots) (o .activity)) (unwarnedActivity (o .activity)) (k .operation))
+    (timed t (o .settings .slot) (o .timer) (k .duration))
+    k
+
+unfoldable pub commanded : ℕ → Output → Command → Output
+commanded t o k = commandedFrom t o (progressValue t o) k

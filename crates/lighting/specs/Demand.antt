@@ -1,0 +1,96 @@
+-- DEMAND 3 as one statement about a whole list of byte strings. Assumes nothing.
+use mathlib.Core.Path.{_≡_}
+use mathlib.Core.Bool.{Bool, true}
+use mathlib.Core.List.{List, [], _∷_, map}
+use mathlib.Core.Option.{Option}
+use Prim.Native.Nat.{ℕ}
+use lib.ListN.{length}
+use Rattle.lighting.specs.Parameters.{Parameters}
+use Rattle.lighting.specs.Frames.{Bytes}
+use Rattle.lighting.specs.Slots.{slotsOf}
+use Rattle.lighting.specs.Value.{presentValue, progressValue, inProcess}
+use Rattle.lighting.specs.Panel.{Panel, Step, panelSound, framed, started}
+use Rattle.lighting.specs.Plain.{Plain, Told, Reply, plainFramed, plainStart}
+use Rattle.lighting.specs.declared.Settings.{Settings}
+use Rattle.lighting.specs.declared.Command.{Command}
+use Rattle.lighting.specs.declared.Output.{Output}
+use Rattle.lighting.specs.declared.Answer.{Answer}
+
+-- EVERYTHING FOUND of an output: 'a slot is compared by being live and, if live, by its level; burning time in milliseconds'
+pub record Found : Type 0 where
+  pub slots : List (Option ℕ)
+  pub present : ℕ
+  pub progress : ℕ
+  pub process : ℕ
+  pub settings : Settings
+  pub last : Command
+  pub burning : ℕ
+
+abbrev pub found : ℕ → Output → Found
+found t o =
+    record {
+      slots = slotsOf (o .slots);
+      present = presentValue (o .settings) (o .slots);
+      progress = progressValue t o;
+      process = inProcess (o .activity);
+      settings = o .settings;
+      last = o .last;
+      burning = o .burning;
+    }
+
+abbrev pub foundIn : Panel → List Found
+foundIn e = map (found (e .time)) (e .outputs)
+
+abbrev pub foundPlain : Plain → List Found
+foundPlain w = map (found (w .time)) (w .outputs)
+
+-- A LIST OF FRAMES: 'outputs, station records and time pass from frame to frame as left'. The panel after it, and the answers
+unfoldable pub after : Parameters → Panel → List Bytes → Panel
+after p e [] = e
+after p e (b ∷ l) = after p (framed p e b .panel) l
+
+unfoldable pub answers : Parameters → Panel → List Bytes → List Answer
+answers p e [] = []
+answers p e (b ∷ l) = framed p e b .answer ∷ answers p (framed p e b .panel) l
+
+-- the same of the plain panel
+unfoldable pub plainAfter : Parameters → Told → List Bytes → Told
+plainAfter p w [] = w
+plainAfter p w (b ∷ l) = plainAfter p (plainFramed p w b .told) l
+
+unfoldable pub plainAnswers : Parameters → Told → List Bytes → List Answer
+plainAnswers p w [] = []
+plainAnswers p w (b ∷ l) = plainFramed p w b .answer ∷ plainAnswers p (plainFramed p w b .told) l
+
+-- A LIST WITH FRAMES THAT COME AGAIN, 'anywhere later and any number of times'. `Again seen l l′`: after the frames of `seen`, l′ is l
+-- with frames put in that came before, of `seen` or of l, byte for byte
+pub data Among : Bytes → List Bytes → Type 0 where
+  here : {b : Bytes} {l : List Bytes} → Among b (b ∷ l)
+  there : {b a : Bytes} {l : List Bytes} → Among b l → Among b (a ∷ l)
+
+pub data Again : List Bytes → List Bytes → List Bytes → Type 0 where
+  end : {seen : List Bytes} → Again seen [] []
+  own : {seen l l′ : List Bytes} {b : Bytes} → Again (b ∷ seen) l l′ → Again seen (b ∷ l) (b ∷ l′)
+  copy : {seen l l′ : List Bytes} {b : Bytes} → Among b seen → Again seen l l′ → Again seen l (b ∷ l′)
+
+-- of what was answered to l′, the answers to the frames of l
+unfoldable pub kept : {seen l l′ : List Bytes} → Again seen l l′ → List Answer → List Answer
+kept end z = []
+kept (own r) [] = []
+kept (own r) (a ∷ z) = a ∷ kept r z
+kept (copy m r) [] = []
+kept (copy m r) (a ∷ z) = kept r z
+
+-- THE DEMAND, for a lent table e, a list of frames l, and the list l′ in which frames of l come again
+pub record Demand (p : Parameters) (e : Panel) (l l′ : List Bytes) (r : Again [] l l′) : Type 0 where
+  -- after every list all that is found is what the plain panel has
+  pub finds :
+      foundIn (after p (started p e .panel) l)
+      ≡ foundPlain (plainAfter p (plainStart (length (e .outputs))) l .panel)
+  -- and every answer is its answer
+  pub answered : answers p (started p e .panel) l ≡ plainAnswers p (plainStart (length (e .outputs))) l
+  -- 'Refusal 1 never comes in it'
+  pub sound : panelSound p (after p (started p e .panel) l) ≡ true
+  -- frames that come again change nothing at all of the panel, and no answer to the frames of the list
+  pub again : after p (started p e .panel) l′ ≡ after p (started p e .panel) l
+  pub answeredAgain : kept r (answers p (started p e .panel) l′) ≡ answers p (started p e .panel) l

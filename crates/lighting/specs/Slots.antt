@@ -1,0 +1,63 @@
+-- 'An output's record': the slots. Which are live, what each holds, which one wins. A slot is named by its index, its priority less one.
+-- Assumes nothing.
+use mathlib.Core.Bool.{Bool, true, false}
+use mathlib.Core.List.{List, [], _∷_}
+use mathlib.Core.Option.{Option, none, some}
+use Prim.Native.Nat.{ℕ, zero, suc, _-_, _/_, _%_, _^_}
+use lib.Dec.{eqb, ltb}
+use lib.Bits.{bitAnd, bitOr}
+use lib.ListN.{set, getD}
+use Rattle.lighting.specs.Choice.{if_then_else_}
+pub use Rattle.lighting.specs.declared.Slots.{Slots}
+
+-- 'Sixteen bits say which slots are live', priority 1 being the lowest bit: the slots that the mask and the levels stand for
+unfoldable pub view : ℕ → List ℕ → List (Option ℕ)
+view m [] = []
+view m (v ∷ l) = (if eqb (m % 2) 1 then some v else none) ∷ view (m / 2) l
+
+unfoldable pub slotsOf : Slots → List (Option ℕ)
+slotsOf s = view (s .live) (s .levels)
+
+abbrev pub slot : Slots → ℕ → Option ℕ
+slot s i = getD (slotsOf s) i none
+
+-- 'the winner is the lowest bit set': the first live slot, or the number of slots with none
+unfoldable pub firstLive : List (Option ℕ) → ℕ
+firstLive [] = 0
+firstLive (none ∷ l) = suc (firstLive l)
+firstLive (some v ∷ l) = 0
+
+unfoldable pub winner : Slots → ℕ
+winner s = firstLive (slotsOf s)
+
+-- whether slot i is live, by the mask
+unfoldable pub lives : Slots → ℕ → Bool
+lives s i = eqb (s .live / 2 ^ i % 2) 1
+
+-- bit i cleared and set; a level put in its place. There is no slot from 16 on, and the guard never bites (proofs/Mask.antt, `put-slots`)
+unfoldable pub maskEmptied : ℕ → ℕ → ℕ
+maskEmptied m i = if ltb i 16 then bitAnd m (65535 - 2 ^ i) else m
+
+unfoldable pub maskFilled : ℕ → ℕ → ℕ
+maskFilled m i = if ltb i 16 then bitOr m (2 ^ i) else m
+
+unfoldable pub levelSet : List ℕ → ℕ → ℕ → List ℕ
+levelSet l i v = if ltb i 16 then set l i v else l
+
+-- slot i emptied, its level 0 then; or filled
+unfoldable pub put : Slots → ℕ → Option ℕ → Slots
+put s i none = record { live = maskEmptied (s .live) i; levels = levelSet (s .levels) i 0 }
+put s i (some v) = record { live = maskFilled (s .live) i; levels = levelSet (s .levels) i v }
+
+abbrev pub emptied : Slots → ℕ → Slots
+emptied s i = put s i none
+
+abbrev pub filled : Slots → ℕ → ℕ → Slots
+filled s i v = put s i (some v)
+
+-- the level of slot i, or d where there is no such slot; and of the winner, or d with no live slot
+unfoldable pub levelAt : ℕ → Slots → ℕ → ℕ
+levelAt d s i = if ltb i 16 then getD (s .levels) i 0 else d
+
+unfoldable pub topmost : ℕ → Slots → ℕ
+topmost d s = levelAt d s (winner s)

@@ -1,0 +1,97 @@
+-- 'Writes and commands', kinds 02 and 03, with the 'Blink warning'. Slots are counted from 0: slot 6 is 5. Assumes nothing.
+use mathlib.Core.Bool.{Bool, true, false}
+use Prim.Native.Nat.{ℕ, _+_, _-_}
+use lib.Dec.{ltb, leb, eqb}
+use lib.ListN.{getD}
+use Rattle.lighting.specs.Choice.{if_then_else_, _also_, allFrom}
+use Rattle.lighting.specs.declared.Settings.{Settings}
+use Rattle.lighting.specs.declared.Movement.{Movement}
+use Rattle.lighting.specs.declared.Activity.{Activity}
+use Rattle.lighting.specs.declared.Activity.the-variants.{Still, Moving, Blink, Delay}
+use Rattle.lighting.specs.declared.Output.{Output}
+use Rattle.lighting.specs.Slots.{Slots, lives, winner, emptied, filled}
+use Rattle.lighting.specs.Value.{presentValue}
+
+unfoldable pub withScene : Output → Slots → Activity → Output
+withScene o s a = record { settings = o .settings; slots = s; activity = a; timer = o .timer; burning = o .burning; last = o .last }
+
+-- 'A movement goes on if P is above its owner's number [..]; else it ends', warnings aside
+unfoldable pub passedOver : ℕ → Activity → Activity
+passedOver i Still = Still
+passedOver i (Moving m) = if ltb (m .owner) i then Moving m else Still
+passedOver i (Blink owner level turn over) = Blink owner level turn over
+passedOver i (Delay owner over) = Delay owner over
+
+-- 'Kinds 02 and 03 store in [..] slot P'
+unfoldable pub stored : Output → ℕ → ℕ → Output
+stored o i v = withScene o (filled (o .slots) i v) (passedOver i (o .activity))
+
+-- WHETHER A ZERO WRITTEN TO SLOT X STARTS A WARNING. Slot i is 'zero or empty', and so is each from i on
+unfoldable pub dark : Slots → ℕ → Bool
+dark s i = if lives s i then eqb (getD (s .levels) i 0) 0 else true
+
+unfoldable pub darkFrom : Slots → ℕ → Bool
+darkFrom s i = allFrom (dark s) (16 - i) i
+
+-- 'if Blink_Enable is 1, Blink_Time B plus delay D is above 0'
+unfoldable pub blinks : Settings → Bool
+blinks c = c .enable also ltb 0 (c .blink + c .delay)
+
+-- 'Relinquish_Default and slots X + 1 to 16 are zero or empty'
+unfoldable pub darkAbove : Settings → Slots → ℕ → Bool
+darkAbove c s x = eqb (c .default) 0 also darkFrom s (x + 1)
+
+-- 'X from 7 to 16', 'slots 1 to X - 1 are empty' (the winner w is no lower), 'Present_Value Y was above 0'
+unfoldable pub warnsBy : Settings → Slots → ℕ → ℕ → ℕ → Bool
+warnsBy c s x w y = ltb 5 x also blinks c also leb x w also ltb 0 y also darkAbove c s x
+
+unfoldable pub warns : Settings → Slots → ℕ → Bool
+warns c s x = warnsBy c s x (winner s) (presentValue c s)
+
+-- A WARNING STARTS at t: 'Slot X gets 0. Slot 6 holds 0 for B ms, then Y for D ms'. With B = 0 it holds Y at once
+unfoldable pub firstLevel : Settings → ℕ → ℕ
+firstLevel c y = if eqb (c .blink) 0 then y else 0
+
+unfoldable pub firstPhase : ℕ → Settings → ℕ → ℕ → Activity
+firstPhase t c x y =
+    if eqb (c .blink) 0 then Delay x (t + c .delay) else Blink x y (t + c .blink) (t + c .blink + c .delay)
+
+unfoldable pub warnedBy : ℕ → Output → ℕ → ℕ → Output
+warnedBy t o x y =
+    withScene o (filled (filled (o .slots) x 0) 5 (firstLevel (o .settings) y)) (firstPhase t (o .settings) x y)
+
+unfoldable pub warned : ℕ → Output → ℕ → Output
+warned t o x = warnedBy t o x (presentValue (o .settings) (o .slots))
+
+-- 'During a warning: kind 02 of zero at P above 6 empties slots 6 and P; [any other] empties slot 6 and stores'
+unfoldable pub endedEmpty : Output → ℕ → Output
+endedEmpty o i = withScene o (emptied (emptied (o .slots) 5) i) Still
+
+unfoldable pub endedStored : Output → ℕ → ℕ → Output
+endedStored o i v = withScene o (filled (emptied (o .slots) 5) i v) Still
+
+unfoldable pub writtenWarned : Output → ℕ → ℕ → Output
+writtenWarned o i v = if eqb v 0 then (if ltb 5 i then endedEmpty o i else endedStored o i v) else endedStored o i v
+
+-- KIND 02: level v written at t to slot i
+unfoldable pub writtenZero : ℕ → Output → ℕ → Output
+writtenZero t o i = if warns (o .settings) (o .slots) i then warned t o i else stored o i 0
+
+unfoldable pub writtenCalm : ℕ → Output → ℕ → ℕ → Output
+writtenCalm t o i v = if eqb v 0 then writtenZero t o i else stored o i v
+
+unfoldable pub writtenBy : ℕ → Output → ℕ → ℕ → Activity → Output
+writtenBy t o i v Still = writtenCalm t o i v
+writtenBy t o i v (Moving m) = writtenCalm t o i v
+writtenBy t o i v (Blink owner level turn over) = writtenWarned o i v
+writtenBy t o i v (Delay owner over) = writtenWarned o i v
+
+unfoldable pub written : ℕ → Output → ℕ → ℕ → Output
+written t o i v = writtenBy t o i v (o .activity)
+
+-- KIND 03: slot i emptied. A movement goes on also 'if kind 03 empties an empty slot'
+unfoldable pub vacatedActivity : Bool → ℕ → Activity → Activity
+vacatedActivity live i a = if live then passedOver i a else a
+
+unfoldable pub vacated : Output → ℕ → Output
+vacated o i = withScene o (emptied (o .slots) i) (vacatedActivity (lives (o .slots) i) i (o .activity))

@@ -1,0 +1,41 @@
+#!/usr/bin/env python3
+"""fill.py CRATE: answer each hole `returns.. c = ?` of a function whose contract is r ≡ DEF .., by the rule of the style: a function with one
+return that calls others composes (`cc`); any other chooses (`search (needs, ifs)`, with DEF's law where it is made by clauses).
+What it writes is a first draft of proof text for people to keep or change; the prover checks it."""
+import glob
+import re
+import sys
+
+crate = sys.argv[1]
+root = 'crates/' + crate
+where, laws, defined = {}, set(), {}
+for path in glob.glob(root + '/src/*.rt'):
+    source = open(path).read()
+    for m in re.finditer(r'ghost use (\S+)\.\{([^}]*)\};', source):
+        for n in m.group(2).split(','):
+            where[n.strip()] = m.group(1)
+    for m in re.finditer(r'fn (\w+)\((?:(?!\nfn |\npub fn ).)*?⌜ r ≡ (\w+)', source, re.S):
+        defined[m.group(1)] = m.group(2)
+for m in re.finditer(r'^pub (\w+)-on :', open('crates/lighting/proofs/Laws.antt').read(), re.M):
+    laws.add(m.group(1))
+own = 'Rattle.lighting.proofs' if crate == 'lighting' else 'Rattle.lighting.proofs'
+for path in glob.glob(root + '/proofs/*/Proof.antt'):
+    function = path.split('/')[-2]
+    text = open(path).read()
+    if not re.search(r'^returns\S* c = \?', text, re.M) or function not in defined:
+        continue
+    d = defined[function]
+    one = len(re.findall(r'^returns\S* c =', text, flags=re.M)) == 1
+    tactic = 'cc' if one and '-requires' in text else 'search (needs, ifs%s)' % (', %s-on' % d if d in laws else '')
+    text = re.sub(r'^(returns\S*) c = \?', lambda m: 'unfolding %s\n%s c = %s' % (d, m.group(1), tactic), text, flags=re.M)
+    head = ''
+    if 'Needs.{needs}' not in text:
+        head += 'use borrow.Author.Needs.{needs}\n'
+    if 'ifs' in tactic:
+        head += 'use %s.Choosing.{ifs}\n' % own
+    if '-on' in tactic:
+        head += 'use %s.Laws.{%s-on}\n' % (own, d)
+    if d in where:
+        head += 'use %s.{%s}\n' % (where[d], d)
+    open(path, 'w').write(head + text)
+    print('filled', function, 'by', tactic, 'holes left:', text.count('= ?'))
