@@ -2,9 +2,10 @@
 // `t` is the moment, `c` the settings, `f` the level from which the command starts, `s` the slots and `a` the activity that it finds, with
 // any warning ended; `g` is a target, in units.
 ghost use mathlib.Core.Path.{_≡_};
-ghost use Prim.Native.Nat.{_<_, _≤_, _^_, _-_, min, max};
+ghost use Prim.Native.Nat.{_<_, _≤_, _^_, _+_, _-_, min, max};
 ghost use Rattle.lighting.specs.Value.{intoRange};
 ghost use Rattle.lighting.specs.Commands.{unwarned, unwarnedActivity, replaced, placed, movement, apart, rampLength, target, fadedOver, fadedTo, rampedAt, rampedTo, jumped, wentTo, stepUpFrom, stepDownFrom, steppedUp, steppedDown, raised, halted, stopped, relinquished, scene, timed, withCommand, commandedFrom, commanded};
+ghost use Rattle.lighting.specs.declared.Timer.the-variants.{Running};
 use lighting::Activity;
 use lighting::Command;
 use lighting::Duration;
@@ -284,16 +285,24 @@ fn make_scene(t: u64, c: Settings, f: u32, s: Slots, a: Activity, k: Operation) 
     }
 }
 
-// 'slot p empties d ms later [..] a new one replaces it, 0 cancels it, Absent leaves it running'.
+// 'slot p empties d ms later': milliseconds, as they were sent.
+fn running(t: u64, p: u8, d: u32) -> Timer
+    requires { ⌜ t < 2 ^ 48 ⌝ }
+    ensures { λ r. ⌜ r ≡ Running p (t + d) ⌝ }
+{
+    Timer::Running {
+        slot: p,
+        due: t + d as u64,
+    }
+}
+
+// 'a new one replaces it, 0 cancels it, Absent leaves it running'.
 fn time(t: u64, p: u8, m: Timer, d: Duration) -> Timer
     requires { ⌜ t < 2 ^ 48 ⌝ }
     ensures { λ r. ⌜ r ≡ timed t p m d ⌝ }
 {
     match d {
-        Duration::Lasts(l) => Timer::Running {
-            slot: p,
-            due: t + l as u64,
-        },
+        Duration::Lasts(l) => running(t, p, l),
         Duration::Cancels => Timer::Off,
         Duration::Omitted => m,
     }
@@ -327,4 +336,12 @@ fn command_from(t: u64, o: Output, f: u32, k: Command) -> Output
     let duration = k.duration;
     let n = make_scene(t, c, f, end_warning(s, a), without_warning(a), operation);
     with_command(o, n, time(t, c.slot, m, duration), k)
+}
+
+// 'It starts from Progress_Value before it': not from Present_Value, at which a running movement only aims.
+pub fn command(t: u64, o: Output, k: Command) -> Output
+    requires { ⌜ t < 2 ^ 48 ⌝ }
+    ensures { λ r. ⌜ r ≡ commanded t o k ⌝ }
+{
+    command_from(t, o, value::progress_value(t, o), k)
 }

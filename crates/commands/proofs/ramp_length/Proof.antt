@@ -1,4 +1,4 @@
--- `commands::ramp_length` meets its contract. Assumes nothing.
+-- `commands::ramp_length` meets its contract: the length fits since no rate is below 8,192. Assumes nothing.
 use Rattle.lighting.specs.Commands.{rampLength}
 use borrow.Author.Needs.{needs}
 use Prim.Native.Nat.{ℕ, _+_, _-_, _*_, _/_, _≤_, _<_}

@@ -9,11 +9,8 @@ use Rattle.commands.proofs.time.Tie as tie
 enum-known-d : tie.Need-enum-known-d
 enum-known-d c = search needs
 
-cast-t7 : tie.Need-cast-t7
-cast-t7 c = search needs
-
-add-t8 : tie.Need-add-t8
-add-t8 c = search needs
+running-requires : tie.Need-running-requires
+running-requires c κs = search needs
 
 enum-told : tie.Need-enum-told
 enum-told c = search needs
@@ -36,4 +33,4 @@ returns-3 c = search (needs, ifs, timed-on)
 pub time-spec : {M : Type 1} → statement M
 time-spec =
     tie.close
-    (tie.spec enum-known-d cast-t7 add-t8 enum-told enum-told-2 returns returns-2 returns-3)
+    (tie.spec enum-known-d running-requires enum-told enum-told-2 returns returns-2 returns-3)
