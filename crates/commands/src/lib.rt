@@ -1,18 +1,18 @@
 // The eleven lighting commands and the duration, by value. A command acts on slot p, Lighting_Command_Priority.
 // `t` is the moment, `c` the settings, `f` the level from which the command starts, `s` the slots and `a` the activity that it finds, with
 // any warning ended; `g` is a target, in units.
+mod moving;
+
 ghost use mathlib.Core.Path.{_≡_};
-ghost use Prim.Native.Nat.{_<_, _≤_, _^_, _+_, _-_, min, max};
+ghost use Prim.Native.Nat.{_<_, _^_, _+_, _-_, max};
 ghost use Rattle.lighting.specs.Value.{intoRange};
-ghost use Rattle.lighting.specs.Commands.{unwarned, unwarnedActivity, replaced, placed, movement, apart, rampLength, target, fadedOver, fadedTo, rampedAt, rampedTo, jumped, wentTo, stepUpFrom, stepDownFrom, steppedUp, steppedDown, raised, halted, stopped, relinquished, scene, timed, withCommand, commandedFrom, commanded};
+ghost use Rattle.lighting.specs.Commands.{unwarned, unwarnedActivity, jumped, wentTo, stepUpFrom, stepDownFrom, steppedUp, steppedDown, raised, halted, stopped, relinquished, scene, timed, withCommand, commandedFrom, commanded};
 ghost use Rattle.lighting.specs.declared.Timer.the-variants.{Running};
 use lighting::Activity;
 use lighting::Command;
 use lighting::Duration;
-use lighting::Movement;
 use lighting::Operation;
 use lighting::Output;
-use lighting::Pace;
 use lighting::Scene;
 use lighting::Settings;
 use lighting::Slots;
@@ -52,110 +52,18 @@ fn without_warning(a: Activity) -> Activity
     }
 }
 
-// ---- a target is put in slot p
-
-// 'If p is then the winner [w] it replaces the movement; if not, an existing movement goes on'.
-fn replace(w: u32, p: u8, new: Activity, old: Activity) -> Activity
-    ensures { λ r. ⌜ r ≡ replaced w p new old ⌝ }
-{
-    if w == p as u32 { new } else { old }
-}
-
-// The winner is asked for after the target was put.
-fn place(s: Slots, a: Activity, p: u8, g: u32, new: Activity) -> Scene
-    ensures { λ r. ⌜ r ≡ placed s a p g new ⌝ }
-{
-    let n = slots::fill(s, p, g);
-    Scene {
-        slots: n,
-        activity: replace(slots::winning(n), p, new, a),
-    }
-}
-
-// A movement of slot p at t, from `start` to g over l: 'If s = g there is no movement'.
-fn begin(t: u64, p: u8, start: u32, g: u32, l: u32, pace: Pace) -> Activity
-    requires { ⌜ t < 2 ^ 48 ⌝ }
-    ensures { λ r. ⌜ r ≡ movement t p start g l pace ⌝ }
-{
-    if start == g {
-        Activity::Still
-    } else {
-        Activity::Moving(Movement {
-            owner: p,
-            start,
-            target: g,
-            length: l,
-            over: t + l as u64,
-            pace,
-        })
-    }
-}
-
-fn way(start: u32, g: u32) -> u32
-    ensures { λ r. ⌜ r ≡ apart start g ⌝ }
-{
-    if start < g { g - start } else { start - g }
-}
-
-// 'L = ceiling(1,000 × |g - s| / R)', d the way: no rate is below an eighth of a percent, so the length fits.
-fn ramp_length(d: u32, rate: u32) -> u32
-    requires { ⌜ 8192 ≤ rate ⌝ }
-    ensures { λ r. ⌜ r ≡ rampLength d rate ⌝ }
-{
-    ((1000 * (d as u64) + ((rate - 1) as u64)) / (rate as u64)) as u32
-}
-
-// 'A target is brought into Min..Max if above zero'.
-fn target_of(c: Settings, x: f32) -> u32
-    ensures { λ r. ⌜ r ≡ target c x ⌝ }
-{
-    value::bring(c, level::level_units(x))
-}
-
-// ---- fades and ramps
-
-fn fade_over(t: u64, c: Settings, f: u32, s: Slots, a: Activity, g: u32, l: u32) -> Scene
-    requires { ⌜ t < 2 ^ 48 ⌝ }
-    ensures { λ r. ⌜ r ≡ fadedOver t c f s a g l ⌝ }
-{
-    place(s, a, c.slot, g, begin(t, c.slot, f, g, l, Pace::Fade))
-}
-
-fn fade_to(t: u64, c: Settings, f: u32, s: Slots, a: Activity, x: f32, l: u32) -> Scene
-    requires { ⌜ t < 2 ^ 48 ⌝ }
-    ensures { λ r. ⌜ r ≡ fadedTo t c f s a x l ⌝ }
-{
-    fade_over(t, c, f, s, a, target_of(c, x), l)
-}
-
-fn ramp_at(t: u64, c: Settings, f: u32, s: Slots, a: Activity, g: u32, rate: u32) -> Scene
-    requires { ⌜ t < 2 ^ 48 ⌝ }
-    requires { ⌜ 8192 ≤ rate ⌝ }
-    ensures { λ r. ⌜ r ≡ rampedAt t c f s a g rate ⌝ }
-{
-    let l = ramp_length(way(f, g), rate);
-    place(s, a, c.slot, g, begin(t, c.slot, f, g, l, Pace::Ramp(rate)))
-}
-
-fn ramp_to(t: u64, c: Settings, f: u32, s: Slots, a: Activity, x: f32, rate: f32) -> Scene
-    requires { ⌜ t < 2 ^ 48 ⌝ }
-    ensures { λ r. ⌜ r ≡ rampedTo t c f s a x rate ⌝ }
-{
-    ramp_at(t, c, f, s, a, target_of(c, x), level::rate_of(rate))
-}
-
 // ---- 'GOTO and steps jump'
 
 fn jump(c: Settings, s: Slots, a: Activity, g: u32) -> Scene
     ensures { λ r. ⌜ r ≡ jumped c s a g ⌝ }
 {
-    place(s, a, c.slot, g, Activity::Still)
+    moving::place(s, a, c.slot, g, Activity::Still)
 }
 
 fn go_to(c: Settings, s: Slots, a: Activity, x: f32) -> Scene
     ensures { λ r. ⌜ r ≡ wentTo c s a x ⌝ }
 {
-    jump(c, s, a, target_of(c, x))
+    jump(c, s, a, moving::target_of(c, x))
 }
 
 // 'Step up: s plus step [..] brought into Min..Max'. The sum is made in 64 bits.
@@ -199,17 +107,17 @@ fn step_down(c: Settings, f: u32, s: Slots, a: Activity, x: f32) -> Scene
 
 // ---- STOP and RELINQUISH
 
+fn greater(x: u32, y: u32) -> u32
+    ensures { λ r. ⌜ r ≡ max x y ⌝ }
+{
+    if x < y { y } else { x }
+}
+
 // 'the reached level, raised to Min if above zero'.
 fn raise(c: Settings, v: u32) -> u32
     ensures { λ r. ⌜ r ≡ raised c v ⌝ }
 {
     if v == 0 { 0 } else { greater(c.min, v) }
-}
-
-fn greater(x: u32, y: u32) -> u32
-    ensures { λ r. ⌜ r ≡ max x y ⌝ }
-{
-    if x < y { y } else { x }
 }
 
 fn halt(c: Settings, f: u32, s: Slots) -> Scene
@@ -272,10 +180,10 @@ fn make_scene(t: u64, c: Settings, f: u32, s: Slots, a: Activity, k: Operation) 
 {
     match k {
         Operation::Stop => stop(c, f, s, a),
-        Operation::FadeTo(x) => fade_to(t, c, f, s, a, x, c.fade),
-        Operation::FadeToOver(x, l) => fade_to(t, c, f, s, a, x, l),
-        Operation::RampTo(x) => ramp_to(t, c, f, s, a, x, c.ramp),
-        Operation::RampToAtRate(x, rate) => ramp_to(t, c, f, s, a, x, rate),
+        Operation::FadeTo(x) => moving::fade_to(t, c, f, s, a, x, c.fade),
+        Operation::FadeToOver(x, l) => moving::fade_to(t, c, f, s, a, x, l),
+        Operation::RampTo(x) => moving::ramp_to(t, c, f, s, a, x, c.ramp),
+        Operation::RampToAtRate(x, rate) => moving::ramp_to(t, c, f, s, a, x, rate),
         Operation::StepUp => step_up(c, f, s, a, c.step),
         Operation::StepDown => step_down(c, f, s, a, c.step),
         Operation::StepUpBy(x) => step_up(c, f, s, a, x),

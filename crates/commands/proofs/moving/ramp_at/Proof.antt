@@ -1,8 +1,8 @@
--- `commands::ramp_at` meets its contract. Assumes nothing.
+-- `commands::moving::ramp_at` meets its contract. Assumes nothing.
 use Rattle.lighting.specs.Commands.{rampedAt}
 use borrow.Author.Needs.{needs}
-use Rattle.commands.proofs.ramp_at.Statement.{statement}
-use Rattle.commands.proofs.ramp_at.Tie as tie
+use Rattle.commands.proofs.moving.ramp_at.Statement.{statement}
+use Rattle.commands.proofs.moving.ramp_at.Tie as tie
 
 way-requires : tie.Need-way-requires
 way-requires c κs = search needs

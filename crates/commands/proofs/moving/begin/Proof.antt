@@ -1,9 +1,9 @@
--- `commands::begin` meets its contract. Assumes nothing.
+-- `commands::moving::begin` meets its contract. Assumes nothing.
 use Rattle.lighting.proofs.Choosing.{ifs}
 use Rattle.lighting.specs.Commands.{movement}
 use borrow.Author.Needs.{needs}
-use Rattle.commands.proofs.begin.Statement.{statement}
-use Rattle.commands.proofs.begin.Tie as tie
+use Rattle.commands.proofs.moving.begin.Statement.{statement}
+use Rattle.commands.proofs.moving.begin.Tie as tie
 
 add-t10 : tie.Need-add-t10
 add-t10 c = search needs

@@ -1,8 +1,8 @@
--- `commands::place` meets its contract. Assumes nothing.
+-- `commands::moving::place` meets its contract. Assumes nothing.
 use Rattle.lighting.specs.Commands.{placed}
 use borrow.Author.Needs.{needs}
-use Rattle.commands.proofs.place.Statement.{statement}
-use Rattle.commands.proofs.place.Tie as tie
+use Rattle.commands.proofs.moving.place.Statement.{statement}
+use Rattle.commands.proofs.moving.place.Tie as tie
 
 fill-requires : tie.Need-fill-requires
 fill-requires c κs = search needs

@@ -1,8 +1,8 @@
--- `commands::fade_to` meets its contract. Assumes nothing.
+-- `commands::moving::fade_to` meets its contract. Assumes nothing.
 use Rattle.lighting.specs.Commands.{fadedTo}
 use borrow.Author.Needs.{needs}
-use Rattle.commands.proofs.fade_to.Statement.{statement}
-use Rattle.commands.proofs.fade_to.Tie as tie
+use Rattle.commands.proofs.moving.fade_to.Statement.{statement}
+use Rattle.commands.proofs.moving.fade_to.Tie as tie
 
 target-of-requires : tie.Need-target-of-requires
 target-of-requires c κs = search needs

@@ -1,9 +1,9 @@
--- `commands::replace` meets its contract. Assumes nothing.
+-- `commands::moving::replace` meets its contract. Assumes nothing.
 use borrow.Author.Needs.{needs}
 use Rattle.lighting.proofs.Choosing.{ifs}
 use Rattle.lighting.specs.Commands.{replaced}
-use Rattle.commands.proofs.replace.Statement.{statement}
-use Rattle.commands.proofs.replace.Tie as tie
+use Rattle.commands.proofs.moving.replace.Statement.{statement}
+use Rattle.commands.proofs.moving.replace.Tie as tie
 
 returns : tie.Need-returns
 unfolding replaced

@@ -1,11 +1,11 @@
--- `commands::ramp_length` meets its contract: the length fits since no rate is below 8,192. Assumes nothing.
+-- `commands::moving::ramp_length` meets its contract: the length fits since no rate is below 8,192. Assumes nothing.
 use Rattle.lighting.specs.Commands.{rampLength}
 use borrow.Author.Needs.{needs}
 use Prim.Native.Nat.{ℕ, _+_, _-_, _*_, _/_, _≤_, _<_}
 use native.Mathlib.Omega.{arith}
 use native.Mathlib.Nat.{div-lt-iff-lt-mul}
-use Rattle.commands.proofs.ramp_length.Statement.{statement}
-use Rattle.commands.proofs.ramp_length.Tie as tie
+use Rattle.commands.proofs.moving.ramp_length.Statement.{statement}
+use Rattle.commands.proofs.moving.ramp_length.Tie as tie
 
 ramp-fits : (d r : ℕ) → d < 4294967296 → 8192 ≤ r → (1000 * d + (r - 1)) / r < 4294967296
 ramp-fits d r p q =

@@ -1,8 +1,8 @@
--- `commands::target_of` meets its contract. Assumes nothing.
+-- `commands::moving::target_of` meets its contract. Assumes nothing.
 use Rattle.lighting.specs.Commands.{target}
 use borrow.Author.Needs.{needs}
-use Rattle.commands.proofs.target_of.Statement.{statement}
-use Rattle.commands.proofs.target_of.Tie as tie
+use Rattle.commands.proofs.moving.target_of.Statement.{statement}
+use Rattle.commands.proofs.moving.target_of.Tie as tie
 
 level-units-requires : tie.Need-level-units-requires
 level-units-requires c κs = search needs

@@ -1,8 +1,8 @@
--- `commands::fade_over` meets its contract. Assumes nothing.
+-- `commands::moving::fade_over` meets its contract. Assumes nothing.
 use Rattle.lighting.specs.Commands.{fadedOver}
 use borrow.Author.Needs.{needs}
-use Rattle.commands.proofs.fade_over.Statement.{statement}
-use Rattle.commands.proofs.fade_over.Tie as tie
+use Rattle.commands.proofs.moving.fade_over.Statement.{statement}
+use Rattle.commands.proofs.moving.fade_over.Tie as tie
 
 begin-requires : tie.Need-begin-requires
 begin-requires c κs = search needs

@@ -1,8 +1,8 @@
--- `commands::ramp_to` meets its contract. Assumes nothing.
+-- `commands::moving::ramp_to` meets its contract. Assumes nothing.
 use Rattle.lighting.specs.Commands.{rampedTo}
 use borrow.Author.Needs.{needs}
-use Rattle.commands.proofs.ramp_to.Statement.{statement}
-use Rattle.commands.proofs.ramp_to.Tie as tie
+use Rattle.commands.proofs.moving.ramp_to.Statement.{statement}
+use Rattle.commands.proofs.moving.ramp_to.Tie as tie
 
 target-of-requires : tie.Need-target-of-requires
 target-of-requires c κs = search needs
