@@ -34,11 +34,11 @@ returns c = search (needs, ifs, stopped-on, same-scene)
 
 returns-2 : tie.Need-returns-2
 unfolding stopped
-returns-2 c = search (needs, ifs, stopped-on, same-scene)
+returns-2 c = search (needs, ifs, stopped-on)
 
 returns-3 : tie.Need-returns-3
 unfolding stopped
-returns-3 c = search (needs, ifs, stopped-on, same-scene)
+returns-3 c = search (needs, ifs, stopped-on)
 
 returns-4 : tie.Need-returns-4
 unfolding stopped
