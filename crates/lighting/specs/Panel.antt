@@ -29,6 +29,9 @@ pub record Panel : Type 0 where
   pub stations : List Station
   pub time : ℕ
 
+abbrev pub lent : List Output → List Station → ℕ → Panel
+lent outputs stations time = record { outputs = outputs; stations = stations; time = time }
+
 -- what an operation leaves and answers
 pub record Step : Type 0 where
   pub panel : Panel
