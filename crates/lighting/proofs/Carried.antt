@@ -78,11 +78,14 @@ octets [] h = tt
 octets (x ∷ b) h = (h 0, octets b (λ i. h (suc i)))
 
 -- the station that a frame names has its record
-pub station-within : (c : ℕ) (b : Bytes) (f : Frame) → Proper c b f → stationOf f < 8
+station-within : (c : ℕ) (b : Bytes) (f : Frame) → Proper c b f → stationOf f < 8
 unfolding stationOf
 station-within c b (Bad r) g = omega arith
 station-within c b (Clock t) g = omega arith
 station-within c b (Call s n t i r) g = g .station
+
+pub station-found : (c : ℕ) (b : Bytes) → Octets b → stationOf (parse standard c b) < 8
+station-found c b h = station-within c b (parse standard c b) (proper c b h)
 
 met-sure : (now c k : ℕ) (b : Bytes) (a : Station) (same : Bool) (f : Frame) → k ≡ 8 → Proper c b f → Sure now c k b (met now a same f)
 unfolding met metNumber copyOr6 if_then_else_
