@@ -1,6 +1,6 @@
 -- The laws by which `search` makes a choice where code has branched: of a test, its fact and the branch. Assumes nothing.
 use Prim.Native.Nat.{ℕ, _≤_, _<_}
-use mathlib.Core.Path.{_≡_, refl, sym, _∙_}
+use mathlib.Core.Path.{_≡_, refl, sym, ap, _∙_}
 use mathlib.Core.Bool.{Bool, true, false}
 use lib.Dec.{ltb, leb, eqb}
 use borrow.Author.Tests.{lt-ltb, le-ltb, le-leb, lt-leb, eq-eqb, ne-eqb}
@@ -40,3 +40,7 @@ pub if-nflag : {A : Type 0} (f t : Bool) (r a b : A) → f ≡ t → f ≡ false
 if-nflag f t r a b e h = if-false t r a b (sym e ∙ h)
 
 pub ruleset ifs = (if-true, if-false, if-lt, if-nlt, if-le, if-nle, if-eq, if-ne, if-flag, if-nflag)
+
+-- a choice by a key in an arm of a match, where the number is another key
+pub if-other : {A : Type 0} (k i j : ℕ) (r a b : A) → k ≡ j → eqb j i ≡ false → r ≡ b → r ≡ (if eqb k i then a else b)
+if-other k i j r a b e h = if-false (eqb k i) r a b (ap (λ (x : ℕ). eqb x i) e ∙ h)

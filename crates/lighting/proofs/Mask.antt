@@ -1,19 +1,18 @@
 -- The mask's operations, as the code makes them, are those on the slots. Assumes nothing.
-use mathlib.Core.Path.{_≡_, refl, sym, ap, ap₂, _∙_}
-use mathlib.Core.Logic.{_≢_}
-use mathlib.Core.Bool.{Bool, true, false, cond}
+use mathlib.Core.Path.{_≡_, refl, sym, ap, _∙_}
+use mathlib.Core.Bool.{Bool, true, false, not}
 use mathlib.Core.List.{List, [], _∷_}
 use mathlib.Core.Option.{Option, none, some}
-use Prim.Native.Nat.{ℕ, zero, suc, _+_, _-_, _*_, _/_, _%_, _^_, _≤_, _<_, min, max}
-use native.Mathlib.Nat.{pow-suc, div-eq-of-lt, lt-of-lt-of-le, one-mul, div-one}
+use Prim.Native.Nat.{ℕ, zero, suc, _+_, _-_, _*_, _/_, _%_, _^_, _≤_, _<_}
+use native.Mathlib.Nat.{div-eq-of-lt, lt-of-lt-of-le, zero-mul, one-mul, div-one}
 use native.Mathlib.Omega.{arith}
-use lib.Dec.{leb, ltb, eqb}
-use lib.Bits.{bitAnd, bitOr, and-step, or-step, or-zero-r, and-mask}
-use lib.Pow.{pow-pos, pow-lt, mod-pow-add, shl-exact, shr-shr, pow-mono}
+use lib.Dec.{eqb}
+use lib.Bits.{bitAnd, bitOr, and-step, or-step, or-zero-r, and-mask, and-high}
+use lib.Pow.{pow-add, pow-pos, pow-lt, mod-pow-add, shl-exact, shr-shr, pow-mono}
 use native.Mathlib.Numerals.{add-one}
-use lib.Count.{trailingZeros, under}
+use lib.Count.{trailingZeros}
 use lib.ListN.{set, getD, length, length-set}
-use Rattle.lighting.proofs.Split.{by-eq, by-lt, by-bool, eqb-miss, eqb-hit, leb-yes}
+use Rattle.lighting.proofs.Split.{by-eq, by-lt, by-bool, eqb-miss, leb-yes}
 use Rattle.lighting.specs.Choice.{if_then_else_}
 use Rattle.lighting.specs.Slots.{Slots, view, slotsOf, slot, put, firstLive, winner, lives, maskEmptied, maskFilled, levelSet}
 
@@ -161,3 +160,19 @@ dead-past m i h k = ap (λ (x : ℕ). eqb (x % 2) 1) (div-eq-of-lt (lt-of-lt-of-
 
 pub shifted : (i : ℕ) → i < 16 → (1 * 2 ^ i) % 2 ^ 16 ≡ 2 ^ i
 shifted i h = shl-exact 1 i 16 (omega arith) (omega arith) ∙ one-mul (2 ^ i)
+
+-- SLOT i TESTED: a shifted mask leaves bit i alone, where it stands
+bit-left : (m i : ℕ) → bitAnd m (2 ^ i) ≡ (m / 2 ^ i % 2) * 2 ^ i
+bit-left m i =
+    let bit : 2 ^ (1 + i) - 2 ^ i ≡ 2 ^ i = omega (arith, pow-add 2 1 i) in
+    ap (bitAnd m) (sym bit) ∙ and-high m 1 i
+
+pub tested : (m i : ℕ) → i < 16 → not (eqb (bitAnd m ((1 * 2 ^ i) % 2 ^ 16)) 0) ≡ eqb (m / 2 ^ i % 2) 1
+tested m i h =
+    rw
+    (shifted i h, bit-left m i)
+    (by-eq
+    (m / 2 ^ i % 2)
+    1
+    (λ p e. rw (p, one-mul (2 ^ i), eqb-miss {a = 2 ^ i} {b = 0} (omega (arith, pow-pos i))))
+    (λ p e. let z : m / 2 ^ i % 2 ≡ 0 = omega arith in rw (z, zero-mul (2 ^ i))))

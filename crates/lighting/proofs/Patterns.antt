@@ -39,7 +39,7 @@ operand-kept f b x o h k =
     let d : Taken (real b) ≡ Taken x = p .1 in
     let e : x ≡ real b = cc in
     let number : isNan (real b) ≡ false =
-        by-bool (isNan (real b)) (λ n. absurd (false≢true (sym (ap (λ (y : Float). inRange (f y)) (only-nan (real b) n) ∙ ap inRange o) ∙ p .0))) (λ n. n) in
+    by-bool (isNan (real b)) (λ n. absurd (false≢true (sym (ap (λ (y : Float). inRange (f y)) (only-nan (real b) n) ∙ ap inRange o) ∙ p .0))) (λ n. n) in
     (e, rw e (bits-kept b h number))
   where
     never : Unfit ≡ Taken x → ⊥

@@ -1,17 +1,17 @@
 -- What a slot emptied or filled does to the winner, to its level, and to slot 6. Assumes nothing.
 use mathlib.Core.Path.{_≡_, refl, sym, ap, _∙_}
 use mathlib.Core.Logic.{_≢_}
-use mathlib.Core.Bool.{Bool, true, false, true≢false}
+use mathlib.Core.Bool.{true, false, true≢false}
 use mathlib.Core.List.{List, [], _∷_}
 use mathlib.Core.Option.{Option, none, some}
 use Prim.Native.Nat.{ℕ, zero, suc, _/_, _%_, _≤_, _<_}
 use native.Mathlib.Omega.{arith}
-use lib.Dec.{ltb, eqb}
+use lib.Dec.{ltb}
 use lib.ListN.{set, getD, length}
 use lib.Seq.{getD-set-same, getD-set-other}
 use Rattle.lighting.specs.Choice.{if_then_else_}
 use Rattle.lighting.proofs.Split.{by-eq, by-lt, leb-yes, leb-no}
-use Rattle.lighting.specs.Slots.{Slots, view, slotsOf, slot, put, firstLive, winner, lives, levelAt, topmost}
+use Rattle.lighting.specs.Slots.{Slots, view, slotsOf, put, firstLive, winner, lives, levelAt, topmost}
 use Rattle.lighting.proofs.Mask.{alive, lives-slot, put-slots, put-size, slots-size}
 
 firstLevel : ℕ → List (Option ℕ) → ℕ

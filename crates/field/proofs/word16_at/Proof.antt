@@ -31,11 +31,10 @@ returns : tie.Need-returns
 returns c =
     let a = c .before .before .before .before .before .before .args in
     let b = a .s .now in
-    let i = c .before .before .later .result in
-    (
+    let i = c .before .before .later .result in (
       joined-within b 1 1 (a .at) i 18446744073709551615 (omega arith) (c .before .before .later .ensures)
-      (c .before .before .before .byte-wide .ensures .0 ∙ c .before .before .before .before .byte-at .ensures ∙ sym (single b (a .at)))
-      (c .byte-wide2 .ensures .0 ∙ c .before .byte-at2 .ensures ∙ sym (single b i)),
+          (c .before .before .before .byte-wide .ensures .0 ∙ c .before .before .before .before .byte-at .ensures ∙ sym (single b (a .at)))
+          (c .byte-wide2 .ensures .0 ∙ c .before .byte-at2 .ensures ∙ sym (single b i)),
       omega arith,
     )
 

@@ -29,11 +29,10 @@ add-result c = search needs
 
 returns : tie.Need-returns
 returns c =
-    let a = c .before .before .before .before .before .before .args in
-    (
+    let a = c .before .before .before .before .before .before .args in (
       joined-within (a .s .now) 2 4 (a .at) (c .before .before .later .result) 18446744073709551615 (omega arith) (c .before .before .later .ensures)
-      (c .before .before .before .word-wide .ensures .0 ∙ c .before .before .before .before .word16-at .ensures .0)
-      (c .word-wide2 .ensures .0 ∙ c .before .word32-at .ensures),
+          (c .before .before .before .word-wide .ensures .0 ∙ c .before .before .before .before .word16-at .ensures .0)
+          (c .word-wide2 .ensures .0 ∙ c .before .word32-at .ensures),
       omega arith,
     )
 

@@ -1,0 +1,19 @@
+use Rattle.lighting.specs.Rules.{isCall}
+use borrow.Author.Needs.{needs}
+use Rattle.kinds.proofs.is_call.Statement.{statement}
+use Rattle.kinds.proofs.is_call.Tie as tie
+use Rattle.kinds.proofs.is_call.Reads as reads
+use Rattle.kinds.proofs.is_call.Lts as lts
+use Rattle.kinds.proofs.kind_length.Reads as kind-length-reads
+
+-- src/lib.rt:40:10
+kind-length-requires : tie.Need-kind-length-requires
+kind-length-requires c κs = search needs
+
+-- src/lib.rt:37:1
+returns : tie.Need-returns
+unfolding isCall
+returns c = cc
+
+pub is-call-spec : {M : Type 1} → statement M
+is-call-spec = tie.close (tie.spec kind-length-requires returns)

@@ -1,0 +1,20 @@
+use borrow.Author.Needs.{needs}
+use Rattle.lighting.proofs.Choosing.{ifs}
+use Rattle.lighting.specs.Properties.{isSlot}
+use Rattle.ranges.proofs.is_slot.Statement.{statement}
+use Rattle.ranges.proofs.is_slot.Tie as tie
+use Rattle.ranges.proofs.is_slot.Reads as reads
+use Rattle.ranges.proofs.is_slot.Lts as lts
+
+-- src/lib.rt:13:1
+returns : tie.Need-returns
+unfolding isSlot
+returns c = search (needs, ifs)
+
+-- src/lib.rt:13:1
+returns-2 : tie.Need-returns-2
+unfolding isSlot
+returns-2 c = search (needs, ifs)
+
+pub is-slot-spec : {M : Type 1} → statement M
+is-slot-spec = tie.close (tie.spec returns returns-2)

@@ -1,0 +1,24 @@
+// Ranges of whole numbers: what a frame may ask for, and what a record may hold.
+ghost use mathlib.Core.Path.{_≡_};
+ghost use Rattle.lighting.specs.Properties.{within, isSlot, isPriority};
+
+// Both ends belong to the range.
+pub fn is_within(low: u32, high: u32, v: u32) -> bool
+    ensures { λ r. ⌜ r ≡ within low high v ⌝ }
+{
+    if low <= v { v <= high } else { false }
+}
+
+// Slot 6, here 5, is the warning's alone.
+pub fn is_slot(i: u32) -> bool
+    ensures { λ r. ⌜ r ≡ isSlot i ⌝ }
+{
+    if i == 5 { false } else { i < 16 }
+}
+
+// A priority is a slot's number counted from 1.
+pub fn is_priority(n: u32) -> bool
+    ensures { λ r. ⌜ r ≡ isPriority n ⌝ }
+{
+    if n == 0 { false } else { is_slot(n - 1) }
+}

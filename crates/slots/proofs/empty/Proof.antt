@@ -1,0 +1,24 @@
+use Rattle.lighting.specs.Slots.{put}
+use borrow.Author.Needs.{needs}
+use Rattle.slots.proofs.empty.Statement.{statement}
+use Rattle.slots.proofs.empty.Tie as tie
+use Rattle.slots.proofs.empty.Reads as reads
+use Rattle.slots.proofs.empty.Lts as lts
+use Rattle.slots.proofs.level_set.Reads as level-set-reads
+use Rattle.slots.proofs.mask_empty.Reads as mask-empty-reads
+
+-- src/lib.rt:52:15
+mask-empty-requires : tie.Need-mask-empty-requires
+mask-empty-requires c κs = search needs
+
+-- src/lib.rt:53:17
+level-set-requires : tie.Need-level-set-requires
+level-set-requires c κs = search needs
+
+-- src/lib.rt:47:1
+returns : tie.Need-returns
+unfolding put
+returns c = cc
+
+pub empty-spec : {M : Type 1} → statement M
+empty-spec = tie.close (tie.spec mask-empty-requires level-set-requires returns)

@@ -1,0 +1,24 @@
+use Rattle.lighting.specs.Slots.{put}
+use borrow.Author.Needs.{needs}
+use Rattle.slots.proofs.fill.Statement.{statement}
+use Rattle.slots.proofs.fill.Tie as tie
+use Rattle.slots.proofs.fill.Reads as reads
+use Rattle.slots.proofs.fill.Lts as lts
+use Rattle.slots.proofs.level_set.Reads as level-set-reads
+use Rattle.slots.proofs.mask_fill.Reads as mask-fill-reads
+
+-- src/lib.rt:55:15
+mask-fill-requires : tie.Need-mask-fill-requires
+mask-fill-requires c κs = search needs
+
+-- src/lib.rt:56:17
+level-set-requires : tie.Need-level-set-requires
+level-set-requires c κs = search needs
+
+-- src/lib.rt:50:1
+returns : tie.Need-returns
+unfolding put
+returns c = cc
+
+pub fill-spec : {M : Type 1} → statement M
+fill-spec = tie.close (tie.spec mask-fill-requires level-set-requires returns)

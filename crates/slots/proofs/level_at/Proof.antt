@@ -1,0 +1,28 @@
+use Rattle.lighting.proofs.Choosing.{ifs}
+use Rattle.lighting.specs.Slots.{levelAt}
+use borrow.Author.Needs.{needs}
+use Rattle.slots.proofs.level_at.Statement.{statement}
+use Rattle.slots.proofs.level_at.Tie as tie
+use Rattle.slots.proofs.level_at.Reads as reads
+use Rattle.slots.proofs.level_at.Lts as lts
+
+-- src/lib.rt:63:17
+mul-result : tie.Need-mul-result
+mul-result c = search needs
+
+-- src/lib.rt:63:17
+element-copy-out-result : tie.Need-element-copy-out-result
+element-copy-out-result c = search needs
+
+-- src/lib.rt:60:1
+returns : tie.Need-returns
+unfolding levelAt
+returns c = search (needs, ifs)
+
+-- src/lib.rt:60:1
+returns-2 : tie.Need-returns-2
+unfolding levelAt
+returns-2 c = search (needs, ifs)
+
+pub level-at-spec : {M : Type 1} → statement M
+level-at-spec = tie.close (tie.spec mul-result element-copy-out-result returns returns-2)

@@ -1,0 +1,24 @@
+use Rattle.lighting.specs.Slots.{topmost}
+use borrow.Author.Needs.{needs}
+use Rattle.slots.proofs.top.Statement.{statement}
+use Rattle.slots.proofs.top.Tie as tie
+use Rattle.slots.proofs.top.Reads as reads
+use Rattle.slots.proofs.top.Lts as lts
+use Rattle.slots.proofs.level_at.Reads as level-at-reads
+use Rattle.slots.proofs.winning.Reads as winning-reads
+
+-- src/lib.rt:69:20
+winning-requires : tie.Need-winning-requires
+winning-requires c κs = search needs
+
+-- src/lib.rt:69:5
+level-at-requires : tie.Need-level-at-requires
+level-at-requires c κs = search needs
+
+-- src/lib.rt:66:1
+returns : tie.Need-returns
+unfolding topmost
+returns c = cc
+
+pub top-spec : {M : Type 1} → statement M
+top-spec = tie.close (tie.spec winning-requires level-at-requires returns)

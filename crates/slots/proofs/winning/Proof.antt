@@ -1,0 +1,13 @@
+use borrow.Author.Needs.{needs}
+use Rattle.lighting.proofs.Mask.{winner-zeros}
+use Rattle.slots.proofs.winning.Statement.{statement}
+use Rattle.slots.proofs.winning.Tie as tie
+use Rattle.slots.proofs.winning.Reads as reads
+use Rattle.slots.proofs.winning.Lts as lts
+
+-- src/lib.rt:6:1
+returns : tie.Need-returns
+returns c = winner-zeros (c .before .args .s) (search needs)
+
+pub winning-spec : {M : Type 1} → statement M
+winning-spec = tie.close (tie.spec returns)
