@@ -98,7 +98,7 @@ pub fn change_step(x: Operand) -> Request
 }
 
 // A priority's slot.
-fn slot_of(n: u32) -> u8
+pub fn slot_of(n: u32) -> u8
     requires { ⌜ isPriority n ≡ true ⌝ }
     ensures { λ r. ⌜ r ≡ n - 1 ⌝ }
 {
