@@ -19,26 +19,20 @@ pub fn order(operation: Operation, d: u32) -> Request
     ensures { λ r. ⌜ r ≡ ordered standard operation d ⌝ }
 {
     if d == 0xFFFF_FFFF {
-        Request::Order(
-            Command {
-                operation,
-                duration: Duration::Omitted,
-            },
-        )
+        Request::Order(Command {
+            operation,
+            duration: Duration::Omitted,
+        })
     } else if d == 0 {
-        Request::Order(
-            Command {
-                operation,
-                duration: Duration::Cancels,
-            },
-        )
+        Request::Order(Command {
+            operation,
+            duration: Duration::Cancels,
+        })
     } else if ranges::is_within(100, 86_400_000, d) {
-        Request::Order(
-            Command {
-                operation,
-                duration: Duration::Lasts(d),
-            },
-        )
+        Request::Order(Command {
+            operation,
+            duration: Duration::Lasts(d),
+        })
     } else {
         Request::Refuse(12)
     }
@@ -152,12 +146,12 @@ pub fn write_of(n: u8, x: u32) -> Request
     }
 }
 
-pub fn empty_of(n: u8) -> Request
-    ensures { λ r. ⌜ r ≡ emptyOf n ⌝ }
+pub fn empty_of(p: u8) -> Request
+    ensures { λ r. ⌜ r ≡ emptyOf p ⌝ }
 {
-    if ranges::is_priority(n as u32) {
+    if ranges::is_priority(p as u32) {
         Request::Empty {
-            slot: properties::slot_of(n as u32),
+            slot: properties::slot_of(p as u32),
         }
     } else {
         Request::Refuse(10)
