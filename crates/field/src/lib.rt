@@ -1,7 +1,7 @@
 // Bytes and big-endian numbers out of a frame. Past the end of the frame every byte is 0, so that a field can be read before the length
 // is judged.
 ghost use mathlib.Core.Path.{_≡_};
-ghost use Prim.Native.Nat.{_+_, _<_, _≤_, _^_, min};
+ghost use Prim.Native.Nat.{_+_, _<_, min};
 ghost use Rattle.lighting.specs.Field.{byteAt, bigEndian};
 
 pub fn byte_at(s: &[u8], at: usize) -> u8
@@ -38,20 +38,24 @@ fn word_wide(x: u32) -> u64
     x as u64
 }
 
+// Each word is two shorter ones, the first the more significant.
 pub fn word16_at(s: &[u8], at: usize) -> u32
     ensures { λ r. ⌜ (r ≡ bigEndian 2 (now (s .entry)) at) × (r < 65536) ⌝ }
 {
-    byte_wide(byte_at(s, at)) * 256 + byte_wide(byte_at(s, later(at, 1)))
+    let second = later(at, 1);
+    byte_wide(byte_at(s, at)) * 256 + byte_wide(byte_at(s, second))
 }
 
 pub fn word32_at(s: &[u8], at: usize) -> u32
     ensures { λ r. ⌜ r ≡ bigEndian 4 (now (s .entry)) at ⌝ }
 {
-    word16_at(s, at) * 65536 + word16_at(s, later(at, 2))
+    let second = later(at, 2);
+    word16_at(s, at) * 65536 + word16_at(s, second)
 }
 
 pub fn word48_at(s: &[u8], at: usize) -> u64
     ensures { λ r. ⌜ (r ≡ bigEndian 6 (now (s .entry)) at) × (r < 281474976710656) ⌝ }
 {
-    word_wide(word16_at(s, at)) * 4294967296 + word_wide(word32_at(s, later(at, 2)))
+    let rest = later(at, 2);
+    word_wide(word16_at(s, at)) * 4294967296 + word_wide(word32_at(s, rest))
 }

@@ -1,13 +1,13 @@
 -- A REAL from 0.125 to 100 times 2 ^ 26 is a whole number, which `as u64` gives, and 1,024 of it are a unit. Assumes nothing.
-use mathlib.Core.Path.{_≡_, refl, sym, ap, _∙_, subst}
+use mathlib.Core.Path.{_≡_, sym, ap, _∙_}
 use mathlib.Core.Bool.{Bool, true, false, not, _&&_}
-use Prim.Native.Nat.{ℕ, zero, suc, _+_, _-_, _*_, _%_, _^_, _≤_, _<_}
-use native.Mathlib.Nat.{le-trans, le-of-eq, lt-of-le-of-lt, lt-of-not-le, not-le-of-lt, le-of-suc-le-suc, mul-one, mul-assoc, mul-right-comm, mul-le-mul-right, le-of-mul-le-mul-right}
+use Prim.Native.Nat.{ℕ, zero, suc, _-_, _*_, _%_, _^_, _≤_, _<_}
+use native.Mathlib.Nat.{le-trans, lt-of-le-of-lt, lt-of-not-le, not-le-of-lt, le-of-suc-le-suc, mul-one, mul-assoc, mul-le-mul-right, le-of-mul-le-mul-right}
 use native.Mathlib.Omega.{arith}
 use lib.IntN.{ℤ, pos, negsuc}
 use lib.Dec.{T, leb, ltb, eqb, ltb→lt, le→leb, lit<, lit≤}
 use lib.Pow.{pow-add, pow-mono}
-use lib.Ieee.{Float, nan, inf, fin, binary32, binary64, up, down, round, mul, le, fits, isNan, ofInt, inFloat, inUnsigned, toUnsigned}
+use lib.Ieee.{Float, fin, binary32, binary64, up, down, mul, le, fits, isNan, ofInt, inFloat, inUnsigned, toUnsigned}
 use lib.Ieee.Digits.{back}
 use lib.Ieee.Fits.{down-pos, and-i, and-l, and-r, fits-widens}
 use lib.Ieee.Back.{unsigned-back}
@@ -15,8 +15,7 @@ use lib.Ieee.Scale.{round-same}
 use lib.Ieee.Positive.{positive, le→cross, between}
 use borrow.Author.Tests.{le-leb}
 use Rattle.lighting.specs.Choice.{if_then_else_}
-use Rattle.lighting.specs.declared.Level.{Level}
-use Rattle.lighting.specs.declared.Level.the-variants.{Units, OutOfRange}
+use Rattle.lighting.specs.declared.Level.the-variants.{Units}
 use Rattle.lighting.specs.Level.{nearestTo, amountOf}
 use Rattle.lighting.proofs.Rounding.{nearest-same, nearest-mono}
 

@@ -2,7 +2,7 @@
 ghost use mathlib.Core.Path.{_≡_};
 ghost use Prim.Native.Nat.{_≤_, _<_, _^_, min};
 ghost use lib.Ieee.{binary32, nanBits, isNan};
-ghost use Rattle.lighting.specs.Level.{real, bits, nearestTo, amountOf, limitOf, levelOf, inRange, unitsOr, rateOf, levelUnits, levelOperand, amountOperand, realOf, readOut};
+ghost use Rattle.lighting.specs.Level.{real, bits, nearestTo, amountOf, limitOf, levelOf, inRange, unitsOr, rateOf, levelUnits, operandBy, levelOperand, amountOperand, realOf, readOut};
 use lighting::Level;
 use lighting::Operand;
 
@@ -146,24 +146,27 @@ pub fn level_units(x: f32) -> u32
     units_or(0, level_of_real(x))
 }
 
-// A command's level, kept as it was written.
-pub fn level_operand(pattern: u32) -> Operand
-    ensures { λ r. ⌜ r ≡ levelOperand pattern ⌝ }
+// A command's REAL, kept as it was written, if it is in range.
+fn operand(level: Level, pattern: u32) -> Operand
+    ensures { λ r. ⌜ r ≡ operandBy level pattern ⌝ }
 {
-    if in_range(level_of(pattern)) {
+    if in_range(level) {
         return Operand::Taken(real_from(pattern));
     }
     Operand::Unfit
 }
 
-// A command's rate or step, kept as it was written.
+pub fn level_operand(pattern: u32) -> Operand
+    ensures { λ r. ⌜ r ≡ levelOperand pattern ⌝ }
+{
+    operand(level_of(pattern), pattern)
+}
+
+// Its rate or step.
 pub fn amount_operand(pattern: u32) -> Operand
     ensures { λ r. ⌜ r ≡ amountOperand pattern ⌝ }
 {
-    if in_range(amount_of(pattern)) {
-        return Operand::Taken(real_from(pattern));
-    }
-    Operand::Unfit
+    operand(amount_of(pattern), pattern)
 }
 
 // ---- from a level to a REAL

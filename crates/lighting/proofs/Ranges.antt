@@ -1,7 +1,7 @@
 -- Where the units of a level, a limit, a rate and a step lie. Assumes nothing.
-use mathlib.Core.Path.{_≡_, refl, sym, ap, _∙_}
+use mathlib.Core.Path.{_≡_, refl}
 use mathlib.Core.Bool.{Bool, true, false}
-use Prim.Native.Nat.{ℕ, suc, _*_, _≤_, _<_, min}
+use Prim.Native.Nat.{ℕ, _*_, _≤_, _<_, min}
 use native.Mathlib.Omega.{arith}
 use lib.Dec.{leb, ltb, eqb, lit<}
 use lib.Ieee.{Float, nan, inf, fin, up, down}
@@ -9,7 +9,7 @@ use lib.Ieee.Fits.{down-pos}
 use Rattle.lighting.specs.Choice.{if_then_else_, _also_}
 use Rattle.lighting.specs.declared.Level.{Level}
 use Rattle.lighting.specs.declared.Level.the-variants.{Units, OutOfRange}
-use Rattle.lighting.specs.Level.{unitsIn, fromTo, levelIn, levelOf, amountOf, limitOf, unitsOr, rateOf, levelUnits}
+use Rattle.lighting.specs.Level.{unitsIn, fromTo, realFromTo, levelOf, amountOf, limitOf, unitsOr, rateOf, levelUnits}
 use Rattle.lighting.proofs.Split.{also-both, le-of, passed}
 use Rattle.lighting.proofs.Rounding.{nearest-mono, nearest-whole}
 
@@ -39,19 +39,20 @@ from-to k a c v C h =
       nearest-whole 6553600,
     )
 
+real-from-to : (k : ℕ) (x : Float) (v : ℕ) → realFromTo k x ≡ Units v → (k * 8192 ≤ v) × (v ≤ 6553600)
+unfolding realFromTo
+real-from-to k nan v h = refused h
+real-from-to k (inf s) v h = refused h
+real-from-to k (fin true m e) v h = refused h
+real-from-to k (fin false m e) v h = from-to k (m * up e) (down e) v (down-pos e) h
+
 pub amount-units : (x : Float) (v : ℕ) → amountOf x ≡ Units v → (8192 ≤ v) × (v ≤ 6553600)
 unfolding amountOf
-amount-units nan v h = refused h
-amount-units (inf s) v h = refused h
-amount-units (fin true m e) v h = refused h
-amount-units (fin false m e) v h = from-to 1 (m * up e) (down e) v (down-pos e) h
+amount-units x v h = real-from-to 1 x v h
 
 pub limit-units : (x : Float) (v : ℕ) → limitOf x ≡ Units v → (65536 ≤ v) × (v ≤ 6553600)
 unfolding limitOf
-limit-units nan v h = refused h
-limit-units (inf s) v h = refused h
-limit-units (fin true m e) v h = refused h
-limit-units (fin false m e) v h = from-to 8 (m * up e) (down e) v (down-pos e) h
+limit-units x v h = real-from-to 8 x v h
 
 module _ (v : ℕ) where
   abbrev Range : Type 0

@@ -1,17 +1,17 @@
 -- A level is read out exactly, and comes back when it is written, unless it is one of 1 to 65,535. Assumes nothing.
-use mathlib.Core.Path.{_≡_, refl, sym, ap, _∙_}
+use mathlib.Core.Path.{_≡_, sym, ap, _∙_}
 use mathlib.Core.Bool.{true, false, true≢false}
 use Prim.Native.Nat.{ℕ, suc, _*_, _^_, _≤_, _<_, min, max}
 use native.Mathlib.Nat.{lt-of-le-of-lt, mul-assoc, mul-le-mul-right}
 use native.Mathlib.Omega.{arith}
-use lib.Dec.{eqb, ltb, leb, lit<}
+use lib.Dec.{eqb, lit<}
 use lib.Ieee.{Float, nan, inf, fin, binary32, up, down, round}
 use lib.Ieee.Exact.{HasValue, round-exact}
 use lib.Ieee.Fits.{down-pos, round-fits}
 use lib.Ieee.Bits.{ofBits-toBits}
 use borrow.Author.Tests.{lt-ltb, le-ltb, le-leb, eq-eqb, ne-eqb}
 use Rattle.lighting.specs.Choice.{if_then_else_}
-use Rattle.lighting.specs.declared.Level.the-variants.{Units, OutOfRange}
+use Rattle.lighting.specs.declared.Level.the-variants.{Units}
 use Rattle.lighting.specs.Level.{real, bits, levelIn, levelOf, realOf, readOut}
 use Rattle.lighting.proofs.Split.{by-eq, by-lt}
 use Rattle.lighting.proofs.Rounding.{nearest-same, nearest-whole}

@@ -1,13 +1,13 @@
 -- The rounding fact, proved once: `nearestTo` sees only the value of a fraction, keeps the order, leaves a whole number as it is, and is within a half.
 -- All but the last law, `a-half`, hold whichever way the rule sends a half. Assumes nothing.
-use mathlib.Core.Path.{_≡_, refl, sym, ap, _∙_, subst}
+use mathlib.Core.Path.{_≡_, refl, sym, ap, subst}
 use mathlib.Core.Logic.{inl, inr}
 use mathlib.Core.Bool.{not}
 use Prim.Native.Nat.{ℕ, suc, _+_, _*_, _/_, _%_, _≤_, _<_, compare, Ordering, Ordering·lt, Ordering·eq, Ordering·gt}
-use native.Mathlib.Nat.{le-trans, le-of-eq, le-antisymm, eq-or-lt-of-le, mul-comm, mul-right-comm, mul-le-mul-right, mul-lt-mul-of-pos-right, div-add-mod', mod-lt, div-one}
+use native.Mathlib.Nat.{le-trans, le-of-eq, le-antisymm, eq-or-lt-of-le, mul-le-mul-right, mul-lt-mul-of-pos-right, div-add-mod', mod-lt, div-one}
 use native.Mathlib.Omega.{arith}
 use lib.Dec.{T, isLe, isEq, eqb, leb→le, nleb→lt, eqb→eq, eqb-refl}
-use lib.Arith.{digits-div, lt-of-le-ne}
+use lib.Arith.{lt-of-le-ne}
 use lib.Ieee.Nearest.{div-mono}
 use Rattle.lighting.specs.Level.{rule, nearestTo}
 

@@ -1,6 +1,6 @@
 -- A REAL (IEEE 754 binary32, `lib.Ieee`'s Float) as a whole number of 1 / 65,536 percent, and back: document 01, Levels and Frames. Definitions only.
 -- A finite REAL `fin s m e` is the exact number a / c, with a = m * up e and c = down e, negative where s is true.
-use Prim.Native.Nat.{ℕ, suc, _+_, _*_, _/_, _%_, min, compare, Ordering, Ordering·lt, Ordering·eq, Ordering·gt}
+use Prim.Native.Nat.{ℕ, suc, _*_, _/_, _%_, min, compare, Ordering, Ordering·lt, Ordering·eq, Ordering·gt}
 use mathlib.Core.Bool.{Bool, true, false}
 use lib.Dec.{leb, ltb, eqb}
 use lib.Ieee.{Float, nan, inf, fin, binary32, up, down, round, ofBits, toBits}
@@ -56,19 +56,22 @@ realOf n = round binary32 false n 65536
 unfoldable pub readOut : ℕ → ℕ
 readOut n = bits (realOf (min n 6553600))
 
+-- a REAL from k eighths to 100, in units
+unfoldable pub realFromTo : ℕ → Float → Level
+realFromTo k nan = OutOfRange
+realFromTo k (inf s) = OutOfRange
+realFromTo k (fin true m e) = OutOfRange
+realFromTo k (fin false m e) = fromTo k (m * up e) (down e)
+
 -- "Rates (percent a second) and steps: REAL 0.125 to 100, to the nearest unit, a half going up, never raised to 65,536."
 unfoldable pub amountOf : Float → Level
-amountOf nan = OutOfRange
-amountOf (inf s) = OutOfRange
-amountOf (fin true m e) = OutOfRange
-amountOf (fin false m e) = fromTo 1 (m * up e) (down e)
+unfolding realFromTo
+amountOf x = realFromTo 1 x
 
 -- "08 Min 1 and 09 Max 100 (REAL 1 to 100)"
 unfoldable pub limitOf : Float → Level
-limitOf nan = OutOfRange
-limitOf (inf s) = OutOfRange
-limitOf (fin true m e) = OutOfRange
-limitOf (fin false m e) = fromTo 8 (m * up e) (down e)
+unfolding realFromTo
+limitOf x = realFromTo 8 x
 
 -- "REAL out of range" is a refusal: whether it is not met, and the units or, out of range, d
 unfoldable pub inRange : Level → Bool
@@ -88,9 +91,13 @@ rateOf x = unitsOr 8192 (amountOf x)
 unfoldable pub levelUnits : Float → ℕ
 levelUnits x = unitsOr 0 (levelOf x)
 
--- "the last command is kept with its REALs as they were written": a command's level, and its rate or step, by the pattern
+-- "the last command is kept with its REALs as they were written": a command's REAL by its pattern b, if l is in range
+abbrev pub operandBy : Level → ℕ → Operand
+operandBy l b = if inRange l then Taken (real b) else Unfit
+
+-- its level, and its rate or step
 unfoldable pub levelOperand : ℕ → Operand
-levelOperand b = if inRange (levelOf (real b)) then Taken (real b) else Unfit
+levelOperand b = operandBy (levelOf (real b)) b
 
 unfoldable pub amountOperand : ℕ → Operand
-amountOperand b = if inRange (amountOf (real b)) then Taken (real b) else Unfit
+amountOperand b = operandBy (amountOf (real b)) b

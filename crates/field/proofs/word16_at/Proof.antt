@@ -6,6 +6,9 @@ use borrow.Author.Needs.{needs}
 use Rattle.field.proofs.word16_at.Statement.{statement}
 use Rattle.field.proofs.word16_at.Tie as tie
 
+later-requires : tie.Need-later-requires
+later-requires c κs = search needs
+
 byte-at-requires : tie.Need-byte-at-requires
 byte-at-requires c κs = search needs
 
@@ -14,9 +17,6 @@ byte-wide-requires c κs = search needs
 
 mul-result : tie.Need-mul-result
 mul-result c = search needs
-
-later-requires : tie.Need-later-requires
-later-requires c κs = search needs
 
 byte-at-requires-2 : tie.Need-byte-at-requires-2
 byte-at-requires-2 c κs = search needs
@@ -31,10 +31,10 @@ returns : tie.Need-returns
 returns c =
     let a = c .before .before .before .before .before .before .args in
     let b = a .s .now in
-    let i = c .before .before .later .result in (
-      joined-within b 1 1 (a .at) i 18446744073709551615 (omega arith) (c .before .before .later .ensures)
-          (c .before .before .before .byte-wide .ensures .0 ∙ c .before .before .before .before .byte-at .ensures ∙ sym (single b (a .at)))
-          (c .byte-wide2 .ensures .0 ∙ c .before .byte-at2 .ensures ∙ sym (single b i)),
+    let l = c .before .before .before .before .later in (
+      joined-within b 1 1 (a .at) (l .result) 18446744073709551615 (omega arith) (l .ensures)
+          (c .before .before .byte-wide .ensures .0 ∙ c .before .before .before .byte-at .ensures ∙ sym (single b (a .at)))
+          (c .byte-wide2 .ensures .0 ∙ c .before .byte-at2 .ensures ∙ sym (single b (l .result))),
       omega arith,
     )
 
@@ -42,10 +42,10 @@ pub word16-at-spec : {M : Type 1} → statement M
 word16-at-spec =
     tie.close
     (tie.spec
+    later-requires
     byte-at-requires
     byte-wide-requires
     mul-result
-    later-requires
     byte-at-requires-2
     byte-wide-requires-2
     add-result

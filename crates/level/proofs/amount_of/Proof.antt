@@ -1,4 +1,6 @@
 -- `level::amount_of` meets its contract. Assumes nothing.
+use mathlib.Core.Path.{ap, _∙_}
+use Rattle.lighting.specs.Level.{amountOf}
 use borrow.Author.Needs.{needs}
 use Rattle.level.proofs.amount_of.Statement.{statement}
 use Rattle.level.proofs.amount_of.Tie as tie
@@ -10,7 +12,7 @@ amount-of-real-requires : tie.Need-amount-of-real-requires
 amount-of-real-requires c κs = search needs
 
 returns : tie.Need-returns
-returns c = cc
+returns c = c .amount-of-real .ensures ∙ ap amountOf (c .before .real-from .ensures)
 
 pub amount-of-spec : {M : Type 1} → statement M
 amount-of-spec = tie.close (tie.spec real-from-requires amount-of-real-requires returns)

@@ -1,9 +1,9 @@
 -- `level::amount_of_real` meets its contract. Within 0.125 to 100 the facts are those of `proofs/Scaled.antt`, and outside those of `proofs/Tested.antt`. Assumes nothing.
 use mathlib.Core.Path.{_≡_, sym, ap, _∙_, subst}
 use native.Mathlib.Omega.{arith}
-use Prim.Native.Nat.{ℕ, _<_, _≤_}
+use Prim.Native.Nat.{ℕ}
 use lib.Dec.{T}
-use lib.Ieee.{ofBits, binary32}
+use lib.Ieee.{ofBits}
 use Rattle.lighting.specs.declared.Level.the-variants.{Units}
 use Rattle.lighting.specs.Level.{nearestTo}
 use Rattle.level.proofs.Scaled.{Scaled, scaled, few-units, cast}

@@ -1,7 +1,7 @@
 -- `level::amount_operand` meets its contract. Assumes nothing.
-use mathlib.Core.Path.{refl}
-use Rattle.lighting.proofs.Choosing.{if-true, if-false}
-use Rattle.lighting.specs.Level.{amountOperand}
+use mathlib.Core.Path.{ap, _∙_}
+use Rattle.lighting.specs.declared.Level.{Level}
+use Rattle.lighting.specs.Level.{operandBy, amountOperand}
 use borrow.Author.Needs.{needs}
 use Rattle.level.proofs.amount_operand.Statement.{statement}
 use Rattle.level.proofs.amount_operand.Tie as tie
@@ -9,20 +9,12 @@ use Rattle.level.proofs.amount_operand.Tie as tie
 amount-of-requires : tie.Need-amount-of-requires
 amount-of-requires c κs = search needs
 
-in-range-requires : tie.Need-in-range-requires
-in-range-requires c κs = search needs
-
-real-from-requires : tie.Need-real-from-requires
-real-from-requires c κs = search needs
+operand-requires : tie.Need-operand-requires
+operand-requires c κs = search needs
 
 returns : tie.Need-returns
 unfolding amountOperand
-returns c = if-true _ _ _ _ (cc) (cc)
-
-returns-2 : tie.Need-returns-2
-unfolding amountOperand
-returns-2 c = if-false _ _ _ _ (cc) refl
+returns c = c .operand .ensures ∙ ap (λ (l : Level). operandBy l (c .before .before .args .pattern)) (c .before .amount-of .ensures)
 
 pub amount-operand-spec : {M : Type 1} → statement M
-amount-operand-spec =
-    tie.close (tie.spec amount-of-requires in-range-requires real-from-requires returns returns-2)
+amount-operand-spec = tie.close (tie.spec amount-of-requires operand-requires returns)

@@ -1,4 +1,6 @@
 -- `level::level_of` meets its contract. Assumes nothing.
+use mathlib.Core.Path.{ap, _∙_}
+use Rattle.lighting.specs.Level.{levelOf}
 use borrow.Author.Needs.{needs}
 use Rattle.level.proofs.level_of.Statement.{statement}
 use Rattle.level.proofs.level_of.Tie as tie
@@ -10,7 +12,7 @@ level-of-real-requires : tie.Need-level-of-real-requires
 level-of-real-requires c κs = search needs
 
 returns : tie.Need-returns
-returns c = cc
+returns c = c .level-of-real .ensures ∙ ap levelOf (c .before .real-from .ensures)
 
 pub level-of-spec : {M : Type 1} → statement M
 level-of-spec = tie.close (tie.spec real-from-requires level-of-real-requires returns)

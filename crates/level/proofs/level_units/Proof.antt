@@ -1,6 +1,6 @@
 -- `level::level_units` meets its contract. Assumes nothing.
-use Rattle.lighting.specs.Level.{levelUnits}
-use mathlib.Core.Path.{_≡_}
+use Rattle.lighting.specs.Level.{unitsOr, levelUnits}
+use mathlib.Core.Path.{_≡_, ap, _∙_}
 use native.Mathlib.Omega.{arith}
 use Rattle.lighting.proofs.Ranges.{level-range}
 use borrow.Author.Needs.{needs}
@@ -15,7 +15,7 @@ units-or-requires c κs = search needs
 
 is : (c : tie.After-units-or) → c .units-or .result ≡ levelUnits (c .before .before .args .x)
 unfolding levelUnits
-is c = cc
+is c = c .units-or .ensures ∙ ap (unitsOr 0) (c .before .level-of-real .ensures)
 
 returns : tie.Need-returns
 returns c = (is c, omega (arith, is c, level-range (c .before .before .args .x)))

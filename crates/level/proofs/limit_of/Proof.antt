@@ -1,4 +1,6 @@
 -- `level::limit_of` meets its contract. Assumes nothing.
+use mathlib.Core.Path.{ap, _∙_}
+use Rattle.lighting.specs.Level.{limitOf}
 use borrow.Author.Needs.{needs}
 use Rattle.level.proofs.limit_of.Statement.{statement}
 use Rattle.level.proofs.limit_of.Tie as tie
@@ -10,7 +12,7 @@ limit-of-real-requires : tie.Need-limit-of-real-requires
 limit-of-real-requires c κs = search needs
 
 returns : tie.Need-returns
-returns c = cc
+returns c = c .limit-of-real .ensures ∙ ap limitOf (c .before .real-from .ensures)
 
 pub limit-of-spec : {M : Type 1} → statement M
 limit-of-spec = tie.close (tie.spec real-from-requires limit-of-real-requires returns)

@@ -1,6 +1,6 @@
 -- `level::rate_of` meets its contract. Assumes nothing.
-use Rattle.lighting.specs.Level.{rateOf}
-use mathlib.Core.Path.{_≡_}
+use Rattle.lighting.specs.Level.{unitsOr, rateOf}
+use mathlib.Core.Path.{_≡_, ap, _∙_}
 use native.Mathlib.Omega.{arith}
 use Rattle.lighting.proofs.Ranges.{amount-range}
 use borrow.Author.Needs.{needs}
@@ -15,7 +15,7 @@ units-or-requires c κs = search needs
 
 is : (c : tie.After-units-or) → c .units-or .result ≡ rateOf (c .before .before .args .x)
 unfolding rateOf
-is c = cc
+is c = c .units-or .ensures ∙ ap (unitsOr 8192) (c .before .amount-of-real .ensures)
 
 returns : tie.Need-returns
 returns c = (is c, omega (arith, is c, amount-range (c .before .before .args .x)))

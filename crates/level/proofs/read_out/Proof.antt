@@ -1,5 +1,6 @@
 -- `level::read_out` meets its contract. Assumes nothing.
-use Rattle.lighting.specs.Level.{readOut}
+use mathlib.Core.Path.{ap, _∙_}
+use Rattle.lighting.specs.Level.{bits, realOf, readOut}
 use borrow.Author.Needs.{needs}
 use Rattle.level.proofs.read_out.Statement.{statement}
 use Rattle.level.proofs.read_out.Tie as tie
@@ -15,7 +16,7 @@ bits-of-requires c κs = search needs
 
 returns : tie.Need-returns
 unfolding readOut
-returns c = cc
+returns c = c .bits-of .ensures ∙ ap bits (c .before .real-of .ensures ∙ ap realOf (c .before .before .capped .ensures))
 
 pub read-out-spec : {M : Type 1} → statement M
 read-out-spec = tie.close (tie.spec capped-requires real-of-requires bits-of-requires returns)

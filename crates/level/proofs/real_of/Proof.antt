@@ -1,12 +1,12 @@
 -- `level::real_of` meets its contract: the level as an f32 is the level, and what the division rounds is level / 65,536. Assumes nothing.
-use mathlib.Core.Path.{_≡_, refl, sym, ap, _∙_}
-use mathlib.Core.Bool.{Bool, true, false}
+use mathlib.Core.Path.{_≡_}
+use mathlib.Core.Bool.{false}
 use Prim.Native.Nat.{ℕ, _*_, _^_, _≤_}
 use native.Mathlib.Nat.{le-trans}
 use native.Mathlib.Omega.{arith}
 use lib.IntN.{pos}
-use lib.Dec.{T, le→leb, lit<, lit≤}
-use lib.Ieee.{Float, nan, inf, fin, binary32, up, down, round, div, ofInt, inFloat, ofBits}
+use lib.Dec.{le→leb, lit<, lit≤}
+use lib.Ieee.{Float, nan, inf, fin, binary32, up, down, div, ofInt, inFloat, ofBits}
 use lib.Ieee.Exact.{HasValue}
 use lib.Ieee.Fits.{down-pos}
 use lib.Ieee.Back.{round-whole}

@@ -1,0 +1,56 @@
+-- DEMAND 3, whole. Assumes nothing.
+use mathlib.Core.Path.{_≡_, refl, sym, ap, ap₂, _∙_}
+use mathlib.Core.Bool.{Bool, true, false}
+use mathlib.Core.List.{List, [], _∷_, map}
+use Prim.Native.Nat.{ℕ, _≤_}
+use native.Mathlib.Omega.{arith}
+use lib.Dec.{leb, eqb}
+use lib.ListN.{length, replicate}
+use Rattle.lighting.specs.Choice.{if_then_else_, _also_}
+use Rattle.lighting.specs.Parameters.{standard}
+use Rattle.lighting.specs.Frames.{Bytes, Strings}
+use Rattle.lighting.specs.Fresh.{freshStation}
+use Rattle.lighting.specs.Panel.{Panel, Step, countsSound, panelSound, framed, freshPanel, started}
+use Rattle.lighting.specs.Plain.{Plain, Told, plainStart}
+use Rattle.lighting.specs.Demand.{found, foundIn, after, answers, plainAfter, plainAnswers, Again, kept, Demand}
+use Rattle.lighting.specs.declared.Output.{Output}
+use Rattle.lighting.specs.declared.Answer.{Answer}
+use Rattle.lighting.specs.declared.Answer.the-variants.{Done, Refused}
+use Rattle.lighting.proofs.Split.{also-both, by-bool, le-of, eq-of}
+use Rattle.lighting.proofs.Lists.{joined, Linked, linked-sound, linked-start, Listed, listed}
+use Rattle.lighting.proofs.Repeats.{repeats-change-nothing}
+
+counts : (c k : ℕ) → countsSound standard c k ≡ true → (1 ≤ c) × (c ≤ 64) × (k ≡ 8)
+unfolding countsSound
+counts c k p = let q = also-both p in let z = also-both (q .1) in (le-of (q .0), le-of (z .0), eq-of (z .1))
+
+-- the start answers Done by the counts alone, and leaves fresh records
+started-fresh : (e : Panel) → started standard e .answer ≡ Done
+    → (1 ≤ length (e .outputs)) × (length (e .outputs) ≤ 64) × (started standard e .panel ≡ freshPanel (length (e .outputs)) 8)
+unfolding started if_then_else_
+started-fresh e h =
+    by-bool
+    (countsSound standard (length (e .outputs)) (length (e .stations)))
+    (λ p. let q = counts (length (e .outputs)) (length (e .stations)) p in (q .0, q .1, rw p (ap (freshPanel (length (e .outputs))) (q .2))))
+    (λ p. absurd (never (rw p at h)))
+  where
+    never : Refused 1 ≡ Done → ⊥
+    never z = let k : _≡_ {A = ℕ} 0 1 = cc in omega arith
+
+-- For EVERY lent table e on which the start answered Done, EVERY list l of strings of bytes, and EVERY list l′ in which frames of l come
+-- again, anywhere later and any number of times
+pub demand-3 : (e : Panel) (l l′ : List Bytes) (r : Again [] l l′) → Strings l → started standard e .answer ≡ Done → Demand standard e l l′ r
+demand-3 e l l′ r s h =
+    let c = length (e .outputs) in
+    let f = started-fresh e h in
+    let m = linked-start c (f .0) (f .1) in
+    let begin : started standard e .panel ≡ joined (replicate 8 freshStation) (plainStart c) = f .2 ∙ (unfold freshPanel plainStart in refl) in
+    let i = listed c (replicate 8 freshStation) (plainStart c) l s m in
+    let j = repeats-change-nothing c (replicate 8 freshStation) (plainStart c) r s m in
+    record {
+      finds = rw (begin, i .same);
+      answered = rw begin (i .answered);
+      sound = rw (begin, i .same) (linked-sound c (i .stations) (plainAfter standard (plainStart c) l) (i .linked));
+      again = rw begin (j .0);
+      answeredAgain = rw begin (j .1);
+    }
