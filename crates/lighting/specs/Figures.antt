@@ -68,12 +68,12 @@ given =
     ∷ (progresses 0 333 fadeDown ∷ [])
     ∷ (progresses 0 333 rampUp ∷ moves 0 333 rampUp ∷ moves 0 334 rampUp ∷ moves 0 799999 slowRamp ∷ moves 0 800000 slowRamp ∷ [])
     ∷ (presents 1000 1000 warned
-      ∷ presents 1000 1699 warned
-      ∷ presents 1000 1700 warned
-      ∷ presents 1000 121699 warned
-      ∷ presents 1000 121700 warned
-      ∷ Value (flag (lives (advance 1000 121700 warned .slots) 15))
-      ∷ [])
+    ∷ presents 1000 1699 warned
+    ∷ presents 1000 1700 warned
+    ∷ presents 1000 121699 warned
+    ∷ presents 1000 121700 warned
+    ∷ Value (flag (lives (advance 1000 121700 warned .slots) 15))
+    ∷ [])
     ∷ []
 
 -- AND WHAT THE PAPER SAYS

@@ -1,10 +1,10 @@
 // The table of properties: which number is which, what a write asks of its value and changes, and what a property reads as. By value, and
 // on any record at all.
 ghost use mathlib.Core.Path.{_≡_};
-ghost use Prim.Native.Nat.{_<_, _≤_, _-_, _^_};
+ghost use Prim.Native.Nat.{_<_, _≤_, _+_, _-_, _^_};
 ghost use mathlib.Core.Bool.{true};
 ghost use Rattle.lighting.specs.Parameters.{standard};
-ghost use Rattle.lighting.specs.Properties.{isPriority, propertyOf, changeDefault, changeMin, changeMax, changeRamp, changeStep, changeOf, settingsWith, unmoved, activityWith, burningWith, changed, minOverMax, levelAnswer, slotAnswer, flag, elapsedActive, operationNumber, realAnswer, lastLevel, lastRate, lastStep, lastFadeTime, lastDuration, shown};
+ghost use Rattle.lighting.specs.Properties.{isPriority, propertyOf, changeDefault, changeMin, changeMax, changeRamp, changeStep, changeOf, settingsWith, unmoved, activityWith, burningWith, changed, minOverMax, levelAnswer, slotAnswerBy, slotAnswer, flag, elapsedActive, operationNumber, realAnswer, lastLevel, lastRate, lastStep, lastFadeTime, lastDuration, shown};
 use lighting::Activity;
 use lighting::Answer;
 use lighting::Duration;
@@ -294,6 +294,22 @@ pub fn level_answer(v: u32) -> Answer
     Answer::Value(level::read_out(v))
 }
 
+pub fn slot_answer_by(live: bool, v: u32) -> Answer
+    ensures { λ r. ⌜ r ≡ slotAnswerBy live v ⌝ }
+{
+    if live {
+        level_answer(v)
+    } else {
+        Answer::Absent
+    }
+}
+
+pub fn slot_answer(s: Slots, i: u8) -> Answer
+    ensures { λ r. ⌜ r ≡ slotAnswer s i ⌝ }
+{
+    slot_answer_by(slots::is_live(s, i), slots::level_at(0, s, i as u32))
+}
+
 pub fn flag(b: bool) -> u32
     ensures { λ r. ⌜ r ≡ flag b ⌝ }
 {
@@ -414,5 +430,48 @@ pub fn last_duration(d: Duration) -> Answer
         Duration::Lasts(time) => Answer::Value(time),
         Duration::Cancels => Answer::Value(0),
         Duration::Omitted => Answer::Absent,
+    }
+}
+
+// Lighting_Command_Priority is kept as its slot.
+fn priority(slot: u8) -> u32
+    ensures { λ r. ⌜ r ≡ slot + 1 ⌝ }
+{
+    slot as u32 + 1
+}
+
+// Kind 05: what a property reads as at the time t.
+pub fn show(t: u64, o: Output, p: Property) -> Answer
+    ensures { λ r. ⌜ r ≡ shown t o p ⌝ }
+{
+    let settings = o.settings;
+    let slots = o.slots;
+    let activity = o.activity;
+    let last = o.last;
+    let operation = last.operation;
+    let duration = last.duration;
+    match p {
+        Property::RelinquishDefault => level_answer(settings.default),
+        Property::FadeTime => Answer::Value(settings.fade),
+        Property::RampRate => real_answer(settings.ramp),
+        Property::StepIncrement => real_answer(settings.step),
+        Property::BlinkEnable => Answer::Value(flag(settings.enable)),
+        Property::BlinkTime => Answer::Value(settings.blink),
+        Property::BlinkWarnDelay => Answer::Value(settings.delay),
+        Property::MinValue => level_answer(settings.min),
+        Property::MaxValue => level_answer(settings.max),
+        Property::CommandPriority => Answer::Value(priority(settings.slot)),
+        Property::ElapsedActiveTime => Answer::Value(elapsed_active(o.burning)),
+        Property::PresentValue => level_answer(value::present_value(settings, slots)),
+        Property::ProgressValue => level_answer(value::progress_value(t, o)),
+        Property::InProcess => Answer::Value(value::in_process(activity)),
+        Property::LastOperation => Answer::Value(operation_number(operation)),
+        Property::LastLevel => last_level(operation),
+        Property::LastRate => last_rate(operation),
+        Property::LastStep => last_step(operation),
+        Property::LastFadeTime => last_fade_time(operation),
+        Property::LastDuration => last_duration(duration),
+        Property::SlotValue(i) => slot_answer(slots, i),
+        Property::Unknown => Answer::Refused(9),
     }
 }
