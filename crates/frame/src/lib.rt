@@ -140,7 +140,7 @@ pub fn write_of(n: u8, x: u32) -> Request
     ensures { λ r. ⌜ r ≡ writeOf n x ⌝ }
 {
     if ranges::is_priority(n as u32) {
-        write_level(properties::slot_of(n as u32), level::level_of(x))
+        write_level(properties::values::slot_of(n as u32), level::level_of(x))
     } else {
         Request::Refuse(10)
     }
@@ -151,7 +151,7 @@ pub fn empty_of(p: u8) -> Request
 {
     if ranges::is_priority(p as u32) {
         Request::Empty {
-            slot: properties::slot_of(p as u32),
+            slot: properties::values::slot_of(p as u32),
         }
     } else {
         Request::Refuse(10)
