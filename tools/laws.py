@@ -51,7 +51,8 @@ for module in sorted(set(definitions) | set(types)):
         lines.append('use %s.{%s}' % (module, ', '.join(group)))
 text = '\n'.join(lines) + '\n\n' + '\n'.join(laws)
 if '--check' in sys.argv:
-    if open(OUT).read() != text:
+    # the layout is rt fmt's
+    if open(OUT).read().split() != text.split():
         sys.exit('laws.py: %s is stale: run tools/laws.py' % OUT)
 else:
     open(OUT, 'w').write(text)

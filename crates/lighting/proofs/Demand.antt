@@ -12,17 +12,22 @@ use Rattle.lighting.specs.Frames.{Bytes, Strings}
 use Rattle.lighting.specs.Fresh.{freshStation}
 use Rattle.lighting.specs.Panel.{Panel, Step, countsSound, panelSound, framed, freshPanel, started}
 use Rattle.lighting.specs.Plain.{Plain, Told, plainStart}
-use Rattle.lighting.specs.Demand.{found, foundIn, after, answers, plainAfter, plainAnswers, Again, kept, Demand}
+use Rattle.lighting.specs.Demand.{found, foundIn, after, answers, plainAfter, plainAnswers, Again, kept, NeverOne, Demand}
 use Rattle.lighting.specs.declared.Output.{Output}
 use Rattle.lighting.specs.declared.Answer.{Answer}
 use Rattle.lighting.specs.declared.Answer.the-variants.{Done, Refused}
 use Rattle.lighting.proofs.Split.{also-both, by-bool, le-of, eq-of}
-use Rattle.lighting.proofs.Lists.{joined, Linked, linked-sound, linked-start, Listed, listed}
+use Rattle.lighting.proofs.Lists.{AllOther, joined, Linked, linked-sound, linked-start, Listed, listed}
+use Rattle.lighting.proofs.Answered.{NotOne}
 use Rattle.lighting.proofs.Repeats.{repeats-change-nothing}
 
 counts : (c k : ℕ) → countsSound standard c k ≡ true → (1 ≤ c) × (c ≤ 64) × (k ≡ 8)
 unfolding countsSound
 counts c k p = let q = also-both p in let z = also-both (q .1) in (le-of (q .0), le-of (z .0), eq-of (z .1))
+
+never-one : (l : List Answer) → AllOther l → NeverOne l
+never-one [] h = tt
+never-one (a ∷ l) h = (h .0 .other, never-one l (h .1))
 
 -- the start answers Done by the counts alone, and leaves fresh records
 started-fresh : (e : Panel) → started standard e .answer ≡ Done
@@ -51,6 +56,7 @@ demand-3 e l l′ r s h =
       finds = rw (begin, i .same);
       answered = rw begin (i .answered);
       sound = rw (begin, i .same) (linked-sound c (i .stations) (plainAfter standard (plainStart c) l) (i .linked));
+      never = rw (begin, i .answered) (never-one (plainAnswers standard (plainStart c) l) (i .others));
       again = rw begin (j .0);
       answeredAgain = rw begin (j .1);
     }

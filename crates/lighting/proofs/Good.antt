@@ -46,7 +46,7 @@ GoodSetting (SetSlot v) = Slot v
 GoodSetting ClearBurning = Unit {0}
 
 abbrev pub Good : Request → Type 0
-Good (Refuse r) = Unit {0}
+Good (Refuse r) = 9 ≤ r
 Good (Write i v) = Slot i × IsLevel v
 Good (Empty i) = Slot i
 Good (Change n) = GoodSetting n

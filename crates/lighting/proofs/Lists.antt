@@ -30,7 +30,10 @@ use Rattle.lighting.specs.declared.Verdict.the-variants.{TurnedDown, Cop
 use Rattle.lighting.proofs.Split.{also-both, also-yes, by-eq, by-lt, by-le, by-bool, eqb-miss, eqb-hit, leb-yes, leb-no}
 use Rattle.lighting.proofs.Reading.{Called, Proper, proper}
 use Rattle.lighting.proofs.Lengths.{length-most, call-kind, padded-kind, padded-length, restored-padded}
-use Rattle.lighting.proofs.Table.{AllSound, all-tested, all-fresh, lived-advance, all-advance, served-sound, served-length}
+use Rattle.lighting.specs.Answers.{refusalOf}
+use Rattle.lighting.specs.declared.Answer.the-variants.{Done, Value, Absent, Refused}
+use Rattle.lighting.proofs.Answered.{NotOne, not-one}
+use Rattle.lighting.proofs.Table.{served-not-one, AllSound, all-tested, all-fresh, lived-advance, all-advance, served-sound, served-length}
 
 -- THE LINK between the station records and the list so far. The engine's panel is rebuilt from the plain one
 abbrev pub joined : List Station → Told → Panel
@@ -39,6 +42,18 @@ joined k w = record { outputs = w .panel .outputs; stations = k; time = w .panel
 -- a station's record, as the list's own
 abbrev pub asLatest : Station → Latest
 asLatest k = record { answer = k .answer; number = k .number; frame = restored (k .frame) }
+
+-- no first arrival was answered refusal 1
+abbrev pub PastOther : List Event → Type 0
+PastOther [] = Unit {0}
+PastOther (clock t ∷ h) = PastOther h
+PastOther (first s n t b a ∷ h) = NotOne a × PastOther h
+
+latest-other : (s : ℕ) (h : List Event) → PastOther h → NotOne (latest s h .answer)
+unfolding latest if_then_else_
+latest-other s [] p = not-one Done (unfold refusalOf in refl)
+latest-other s (clock t ∷ h) p = latest-other s h p
+latest-other s (first s′ n t b a ∷ h) p = by-bool (eqb s′ s) (λ e. rw e (p .0)) (λ e. rw e (latest-other s h (p .1)))
 
 pub record Linked (c : ℕ) (k : List Station) (w : Told) : Type 0 where
   pub least : 1 ≤ c
@@ -53,6 +68,7 @@ pub record Linked (c : ℕ) (k : List Station) (w : Told) : Type 0 where
   -- so its number decides 'above all earlier', and panel time 'not before the latest'
   pub tops : (s n : ℕ) → 0 < n → above s n (w .past) ≡ ltb (latest s (w .past) .number) n
   pub times : (t : ℕ) → inTime t (w .past) ≡ leb (w .panel .time) t
+  pub others : PastOther (w .past)
 
 -- refusal 1 does not come
 pub linked-sound : (c : ℕ) (k : List Station) (w : Told) → Linked c k w → panelSound standard (joined k w) ≡ true
@@ -107,26 +123,26 @@ unfolding decide
 decide-judged c k w b h m =
     rw (m .count) (met-judged c k w b (parse standard c b) m (proper c b h))
 
--- WHAT IS KNOWN of a verdict that moves the panel
+-- WHAT IS KNOWN of a verdict
 pub record Arrived (c : ℕ) (w : Told) (b : Bytes) (s n t i : ℕ) (r : Request) : Type 0 where
   pub frame : Called c b s n t i r
   pub new : latest s (w .past) .number < n
   pub due : w .panel .time ≤ t
 
 abbrev pub Moved : ℕ → Told → Bytes → Verdict → Type 0
-Moved c w b (TurnedDown r) = Unit {0}
-Moved c w b (Copied a) = Unit {0}
+Moved c w b (TurnedDown r) = 2 ≤ r
+Moved c w b (Copied a) = NotOne a
 Moved c w b (Clocked t) = (w .panel .time ≤ t) × (t < 2 ^ 48)
 Moved c w b (Arrives s n t i r) = Arrived c w b s n t i r
 
 pub judged-moved : (c : ℕ) (k : List Station) (w : Told) (b : Bytes) (f : Frame) → Linked c k w → Proper c b f
     → Moved c w b (judged (w .past) b f)
 unfolding judged copyOr6 if_then_else_
-judged-moved c k w b (Bad r) m g = tt
+judged-moved c k w b (Bad r) m g = g
 judged-moved c k w b (Clock t) m g =
     rw
     (m .times t)
-    (by-le (w .panel .time) t (λ h e. rw e (h, g)) (λ h e. rw e tt))
+    (by-le (w .panel .time) t (λ h e. rw e (h, g)) (λ h e. rw e (omega arith)))
 judged-moved c k w b (Call s n t i r) m g =
     rw
     (m .tops s n (g .number), m .times t)
@@ -137,14 +153,14 @@ judged-moved c k w b (Call s n t i r) m g =
     (w .panel .time)
     t
     (λ h′ e′. rw (e, e′) (record { frame = g; new = h; due = h′ }))
-    (λ h′ e′. rw (e, e′) tt))
+    (λ h′ e′. rw (e, e′) (omega arith)))
     (λ h e. by-bool
     (eqb n (latest s (w .past) .number))
     (λ p. by-bool
     (sameBytes b (latest s (w .past) .frame))
-    (λ q. rw (e, p, q) tt)
-    (λ q. rw (e, p, q) tt))
-    (λ p. rw (e, p) tt)))
+    (λ q. rw (e, p, q) (latest-other s (w .past) (m .others)))
+    (λ q. rw (e, p, q) (omega arith)))
+    (λ p. rw (e, p) (omega arith))))
 
 -- ONE FRAME
 abbrev pub nextStations : Bytes → List Station → Told → Verdict → List Station
@@ -226,16 +242,17 @@ linked-clock c k w t m g u =
       known = m .known;
       tops = m .tops;
       times = λ t′. rw (m .times t′) (and-le t (w .panel .time) t′ g);
+      others = m .others;
     }
 
 linked-first : (c : ℕ) (k : List Station) (w : Told) (b : Bytes) (s n t i : ℕ) (r : Request) (l : List Output) (a : Answer)
-    → Linked c k w → Arrived c w b s n t i r → length l ≡ c → AllSound t l
+    → Linked c k w → Arrived c w b s n t i r → length l ≡ c → AllSound t l → NotOne a
     → Linked
     c
     (set k s (record { answer = a; number = n; frame = padded b }))
     (record { past = first s n t b a ∷ w .past; panel = record { outputs = l; time = t } })
 unfolding inTime
-linked-first c k w b s n t i r l a m g e h =
+linked-first c k w b s n t i r l a m g e h z =
     let x : Station = record { answer = a; number = n; frame = padded b } in
     record {
       least = m .least;
@@ -249,6 +266,7 @@ linked-first c k w b s n t i r l a m g e h =
           known-set k s s′ n t b a (w .past) (omega (arith, m .eight, g .frame .station)) (g .frame .sized) (m .known s′ l′);
       tops = λ s′ n′ l′. tops-more s n s′ n′ t b a (w .past) (m .tops s′ n′ l′) (g .new);
       times = λ t′. rw (m .times t′) (and-le t (w .panel .time) t′ (g .due));
+      others = (z, m .others);
     }
 
 pub step-linked : (c : ℕ) (k : List Station) (w : Told) (b : Bytes) (v : Verdict) → Linked c k w → Moved c w b v
@@ -267,7 +285,16 @@ step-linked c k w b (Arrives s n t i r) m g =
     (lived-advance t (w .panel) (g .due) u (m .sound))
     (linked-first c k w b s n t i r (served t l s i r .outputs) (served t l s i r .answer) m g
     (served-length t l s i r ∙ e)
-    (served-sound t l s i r (g .frame .good) (omega (arith, e, g .frame .output)) h))
+    (served-sound t l s i r (g .frame .good) (omega (arith, e, g .frame .output)) h)
+    (served-not-one t l s i r (g .frame .good)))
+
+-- its answer is not refusal 1
+handed-other : (c : ℕ) (k : List Station) (w : Told) (b : Bytes) (v : Verdict) → Linked c k w → Moved c w b v → NotOne (handed b w v .answer)
+unfolding handed refusalOf
+handed-other c k w b (TurnedDown r) m g = record { other = omega arith }
+handed-other c k w b (Copied a) m g = g
+handed-other c k w b (Clocked t) m g = record { other = omega arith }
+handed-other c k w b (Arrives s n t i r) m g = served-not-one _ _ s i r (g .frame .good)
 
 -- the engine's step from a linked panel is the plain panel's, and the panels are linked again
 pub record Stepped (c : ℕ) (k : List Station) (w : Told) (b : Bytes) : Type 0 where
@@ -276,6 +303,7 @@ pub record Stepped (c : ℕ) (k : List Station) (w : Told) (b : Bytes) : Type 0 
       framed standard (joined k w) b
       ≡ record { panel = joined stations (plainFramed standard w b .told); answer = plainFramed standard w b .answer }
   pub linked : Linked c stations (plainFramed standard w b .told)
+  pub other : NotOne (plainFramed standard w b .answer)
 
 pub step : (c : ℕ) (k : List Station) (w : Told) (b : Bytes) → Octets b → Linked c k w → Stepped c k w b
 unfolding framed plainFramed if_then_else_
@@ -286,18 +314,24 @@ step c k w b h m =
       stations = nextStations b k w v;
       same = rw (linked-sound c k w m, decide-judged c k w b h m) (step-same c k w b v m g);
       linked = step-linked c k w b v m g;
+      other = handed-other c k w b v m g;
     }
 
 -- EVERY LIST
+abbrev pub AllOther : List Answer → Type 0
+AllOther [] = Unit {0}
+AllOther (a ∷ l) = NotOne a × AllOther l
+
 pub record Listed (c : ℕ) (k : List Station) (w : Told) (l : List Bytes) : Type 0 where
   pub stations : List Station
   pub same : after standard (joined k w) l ≡ joined stations (plainAfter standard w l)
   pub answered : answers standard (joined k w) l ≡ plainAnswers standard w l
   pub linked : Linked c stations (plainAfter standard w l)
+  pub others : AllOther (plainAnswers standard w l)
 
 pub listed : (c : ℕ) (k : List Station) (w : Told) (l : List Bytes) → Strings l → Linked c k w → Listed c k w l
 unfolding after answers plainAfter plainAnswers
-listed c k w [] s m = record { stations = k; same = refl; answered = refl; linked = m }
+listed c k w [] s m = record { stations = k; same = refl; answered = refl; linked = m; others = tt }
 listed c k w (b ∷ l) s m =
     let h = step c k w b (s .0) m in
     let i = listed c (h .stations) (plainFramed standard w b .told) l (s .1) (h .linked) in
@@ -306,6 +340,7 @@ listed c k w (b ∷ l) s m =
       same = rw (h .same) (i .same);
       answered = rw (h .same) (ap (λ (z : List Answer). plainFramed standard w b .answer ∷ z) (i .answered));
       linked = i .linked;
+      others = (h .other, i .others);
     }
 
 pub linked-start : (c : ℕ) → 1 ≤ c → c ≤ 64 → Linked c (replicate 8 freshStation) (plainStart c)
@@ -322,4 +357,5 @@ linked-start c p q =
       known = λ s h. ap asLatest (getD-replicate 8 s freshStation freshStation h);
       tops = λ s n h. sym (leb-yes h);
       times = λ t. sym (leb-yes {a = 0} {b = t} (omega arith));
+      others = tt;
     }

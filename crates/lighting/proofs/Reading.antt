@@ -43,57 +43,57 @@ priority-of n h = by-eq n 0 (λ p e. absurd (false≢true (rw e at h))) (λ p e.
 default-good : (l : Level) → ((v : ℕ) → l ≡ Units v → (65536 * min 1 v ≤ v) × (v ≤ 6553600)) → Good (changeDefault l)
 unfolding changeDefault
 default-good (Units v) f = let r = f v refl in record { least = r .0; most = r .1 }
-default-good OutOfRange f = tt
+default-good OutOfRange f = omega arith
 
 min-good : (l : Level) → ((v : ℕ) → l ≡ Units v → (65536 ≤ v) × (v ≤ 6553600)) → Good (changeMin l)
 unfolding changeMin
 min-good (Units v) f = let r = f v refl in record { least = r .0; most = r .1 }
-min-good OutOfRange f = tt
+min-good OutOfRange f = omega arith
 
 max-good : (l : Level) → ((v : ℕ) → l ≡ Units v → (65536 ≤ v) × (v ≤ 6553600)) → Good (changeMax l)
 unfolding changeMax
 max-good (Units v) f = let r = f v refl in record { least = r .0; most = r .1 }
-max-good OutOfRange f = tt
+max-good OutOfRange f = omega arith
 
 -- an operand taken was in range
 ramp-good : (x : ℕ) → Good (changeRamp (amountOperand x))
 unfolding amountOperand changeRamp if_then_else_
-ramp-good x = by-bool (inRange (amountOf (real x))) (λ e. rw e (unfold isAmount in e)) (λ e. rw e tt)
+ramp-good x = by-bool (inRange (amountOf (real x))) (λ e. rw e (unfold isAmount in e)) (λ e. rw e (omega arith))
 
 step-good : (x : ℕ) → Good (changeStep (amountOperand x))
 unfolding amountOperand changeStep if_then_else_
-step-good x = by-bool (inRange (amountOf (real x))) (λ e. rw e (unfold isAmount in e)) (λ e. rw e tt)
+step-good x = by-bool (inRange (amountOf (real x))) (λ e. rw e (unfold isAmount in e)) (λ e. rw e (omega arith))
 
 change-good : (n : Property) (x : ℕ) → Good (changeOf standard n x)
 unfolding changeOf if_then_else_
 change-good RelinquishDefault x = default-good (levelOf (real x)) (level-units (real x))
-change-good FadeTime x = by-bool (within 100 86400000 x) (λ e. rw e (within-of 100 86400000 x e)) (λ e. rw e (tt))
+change-good FadeTime x = by-bool (within 100 86400000 x) (λ e. rw e (within-of 100 86400000 x e)) (λ e. rw e (omega arith))
 change-good RampRate x = ramp-good x
 change-good StepIncrement x = step-good x
-change-good BlinkEnable x = by-bool (leb x 1) (λ e. rw e (tt)) (λ e. rw e (tt))
-change-good BlinkTime x = by-bool (leb x 86400000) (λ e. rw e (le-of e)) (λ e. rw e (tt))
-change-good BlinkWarnDelay x = by-bool (leb x 86400000) (λ e. rw e (le-of e)) (λ e. rw e (tt))
+change-good BlinkEnable x = by-bool (leb x 1) (λ e. rw e (tt)) (λ e. rw e (omega arith))
+change-good BlinkTime x = by-bool (leb x 86400000) (λ e. rw e (le-of e)) (λ e. rw e (omega arith))
+change-good BlinkWarnDelay x = by-bool (leb x 86400000) (λ e. rw e (le-of e)) (λ e. rw e (omega arith))
 change-good MinValue x = min-good (limitOf (real x)) (limit-units (real x))
 change-good MaxValue x = max-good (limitOf (real x)) (limit-units (real x))
-change-good CommandPriority x = by-bool (isPriority x) (λ e. rw e (priority-of x e)) (λ e. rw e (tt))
-change-good ElapsedActiveTime x = by-bool (eqb x 0) (λ e. rw e (tt)) (λ e. rw e (tt))
-change-good PresentValue x = tt
-change-good ProgressValue x = tt
-change-good InProcess x = tt
-change-good LastOperation x = tt
-change-good LastLevel x = tt
-change-good LastRate x = tt
-change-good LastStep x = tt
-change-good LastFadeTime x = tt
-change-good LastDuration x = tt
-change-good (SlotValue i) x = tt
-change-good Unknown x = tt
+change-good CommandPriority x = by-bool (isPriority x) (λ e. rw e (priority-of x e)) (λ e. rw e (omega arith))
+change-good ElapsedActiveTime x = by-bool (eqb x 0) (λ e. rw e (tt)) (λ e. rw e (omega arith))
+change-good PresentValue x = omega arith
+change-good ProgressValue x = omega arith
+change-good InProcess x = omega arith
+change-good LastOperation x = omega arith
+change-good LastLevel x = omega arith
+change-good LastRate x = omega arith
+change-good LastStep x = omega arith
+change-good LastFadeTime x = omega arith
+change-good LastDuration x = omega arith
+change-good (SlotValue i) x = omega arith
+change-good Unknown x = omega arith
 
 -- A COMMAND
 ordered-good : (o : Operation) (d : ℕ) → GoodOperation o → Good (ordered standard o d)
 unfolding ordered if_then_else_
 ordered-good o d g =
-    by-bool (eqb d 0xffff_ffff) (λ e. rw e ((g, tt))) (λ e. rw e (by-bool (eqb d 0) (λ e. rw e ((g, tt))) (λ e. rw e (by-bool (within 100 86400000 d) (λ e. rw e ((g, within-of 100 86400000 d e))) (λ e. rw e (tt))))))
+    by-bool (eqb d 0xffff_ffff) (λ e. rw e ((g, tt))) (λ e. rw e (by-bool (eqb d 0) (λ e. rw e ((g, tt))) (λ e. rw e (by-bool (within 100 86400000 d) (λ e. rw e ((g, within-of 100 86400000 d e))) (λ e. rw e (omega arith))))))
 
 operation-good : (k : ℕ) (x : Float) → GoodOperation (operationWith k x)
 unfolding operationWith if_then_else_
@@ -105,23 +105,23 @@ operation-good k x =
 with-good : (k d : ℕ) (x : Operand) → Good (orderedWith standard k x d)
 unfolding orderedWith
 with-good k d (Taken x) = ordered-good (operationWith k x) d (operation-good k x)
-with-good k d Unfit = tt
+with-good k d Unfit = omega arith
 
 fade-good : (x : Operand) (l d : ℕ) → Good (fadeOrder standard x l d)
 unfolding fadeOrder if_then_else_
 fade-good (Taken x) l d =
-    by-bool (within 100 86400000 l) (λ e. rw e (ordered-good (FadeToOver x l) d (within-of 100 86400000 l e))) (λ e. rw e (tt))
-fade-good Unfit l d = tt
+    by-bool (within 100 86400000 l) (λ e. rw e (ordered-good (FadeToOver x l) d (within-of 100 86400000 l e))) (λ e. rw e (omega arith))
+fade-good Unfit l d = omega arith
 
 ramp-at-good : (x : Float) (r : Operand) (d : ℕ) → Good (rampOrderAt standard x r d)
 unfolding rampOrderAt
 ramp-at-good x (Taken r) d = ordered-good (RampToAtRate x r) d tt
-ramp-at-good x Unfit d = tt
+ramp-at-good x Unfit d = omega arith
 
 ramp-order-good : (x r : Operand) (d : ℕ) → Good (rampOrder standard x r d)
 unfolding rampOrder
 ramp-order-good (Taken x) r d = ramp-at-good x r d
-ramp-order-good Unfit r d = tt
+ramp-order-good Unfit r d = omega arith
 
 order-good : (k x y z : ℕ) → Good (orderOf standard k x y z)
 unfolding orderOf if_then_else_
@@ -132,12 +132,12 @@ order-good k x y z =
 level-good : (i : ℕ) (l : Level) → Slot i → ((v : ℕ) → l ≡ Units v → (65536 * min 1 v ≤ v) × (v ≤ 6553600)) → Good (writeLevel i l)
 unfolding writeLevel
 level-good i (Units v) g f = let r = f v refl in (g, record { least = r .0; most = r .1 })
-level-good i OutOfRange g f = tt
+level-good i OutOfRange g f = omega arith
 
 request-good : (k n v x y z : ℕ) → Good (requestBy standard k n v x y z)
 unfolding requestBy writeOf emptyOf if_then_else_
 request-good k n v x y z =
-    by-bool (eqb k 2) (λ e. rw e (by-bool (isPriority n) (λ p. rw p (level-good (n - 1) (levelOf (real v)) (priority-of n p) (level-units (real v)))) (λ p. rw p (tt)))) (λ e. rw e (by-bool (eqb k 3) (λ e. rw e (by-bool (isPriority n) (λ p. rw p (priority-of n p)) (λ p. rw p (tt)))) (λ e. rw e (by-bool (eqb k 4) (λ e. rw e (change-good (propertyOf n) v)) (λ e. rw e (by-bool (eqb k 5) (λ e. rw e (tt)) (λ e. rw e (by-bool (leb 0x10 k) (λ e. rw e (by-bool (ltb k 0x1b) (λ e. rw e (order-good k x y z)) (λ e. rw e (tt)))) (λ e. rw e (tt))))))))))
+    by-bool (eqb k 2) (λ e. rw e (by-bool (isPriority n) (λ p. rw p (level-good (n - 1) (levelOf (real v)) (priority-of n p) (level-units (real v)))) (λ p. rw p (omega arith)))) (λ e. rw e (by-bool (eqb k 3) (λ e. rw e (by-bool (isPriority n) (λ p. rw p (priority-of n p)) (λ p. rw p (omega arith)))) (λ e. rw e (by-bool (eqb k 4) (λ e. rw e (change-good (propertyOf n) v)) (λ e. rw e (by-bool (eqb k 5) (λ e. rw e (tt)) (λ e. rw e (by-bool (leb 0x10 k) (λ e. rw e (by-bool (ltb k 0x1b) (λ e. rw e (order-good k x y z)) (λ e. rw e (omega arith)))) (λ e. rw e (omega arith))))))))))
 
 -- A TIME of six bytes
 octet : (b : Bytes) (at : ℕ) → Octets b → byteAt b at < 256
@@ -172,7 +172,7 @@ pub record Called (c : ℕ) (b : Bytes) (s n t i : ℕ) (r : Request) : Type 0 w
   pub known : kindLength (byteAt b 0) ≢ 0
 
 abbrev pub Proper : ℕ → Bytes → Frame → Type 0
-Proper c b (Bad r) = Unit {0}
+Proper c b (Bad r) = 2 ≤ r
 Proper c b (Clock t) = t < 2 ^ 48
 Proper c b (Call s n t i r) = Called c b s n t i r
 
@@ -186,7 +186,7 @@ called-proper c b h z y k =
     (λ l e. by-eq
     (bigEndian 4 b 2)
     0
-    (λ p e′. rw (e, e′) tt)
+    (λ p e′. rw (e, e′) (omega arith))
     (λ p e′. by-lt
     (byteAt b 12)
     c
@@ -204,8 +204,8 @@ called-proper c b h z y k =
       kind = y;
       known = k;
     }))
-    (λ m e″. rw (e, e′, e″) tt)))
-    (λ l e. rw e tt)
+    (λ m e″. rw (e, e′, e″) (omega arith))))
+    (λ l e. rw e (omega arith))
 
 pub proper : (c : ℕ) (b : Bytes) → Octets b → Proper c b (parse standard c b)
 unfolding parse parseBy clockOf if_then_else_
@@ -213,7 +213,7 @@ proper c b h =
     by-eq
     (kindLength (byteAt b 0))
     0
-    (λ p e. rw e tt)
+    (λ p e. rw e (omega arith))
     (λ p e. by-eq
     (length b)
     (kindLength (byteAt b 0))
@@ -222,4 +222,4 @@ proper c b h =
     1
     (λ r e″. rw (e, e′, e″) (six-bytes b 1 h))
     (λ r e″. rw (e, e′, e″) (called-proper c b h q r p)))
-    (λ q e′. rw (e, e′) tt))
+    (λ q e′. rw (e, e′) (omega arith)))

@@ -30,6 +30,7 @@ use Rattle.lighting.proofs.Tied.{sound-facts, facts-sound, sound-calm}
 use Rattle.lighting.proofs.Ticking.{advance-sound}
 use Rattle.lighting.proofs.Good.{Good}
 use Rattle.lighting.proofs.Acted.{acted-sound}
+use Rattle.lighting.proofs.Answered.{NotOne, acted-not-one}
 
 abbrev pub AllSound : ℕ → List Output → Type 0
 AllSound t [] = Unit {0}
@@ -121,3 +122,7 @@ served-sound t l s i r g h a =
 pub served-length : (t : ℕ) (l : List Output) (s i : ℕ) (r : Request) → length (served t l s i r .outputs) ≡ length l
 unfolding served
 served-length t l s i r = length-set l i (acted t (getD l i freshOutput) r .output)
+
+pub served-not-one : (t : ℕ) (l : List Output) (s i : ℕ) (r : Request) → Good r → NotOne (served t l s i r .answer)
+unfolding served
+served-not-one t l s i r g = acted-not-one t (getD l i freshOutput) r g

@@ -1,5 +1,6 @@
 -- DEMAND 3 as one statement about a whole list of byte strings. Assumes nothing.
 use mathlib.Core.Path.{_≡_}
+use mathlib.Core.Logic.{_≢_}
 use mathlib.Core.Bool.{Bool, true}
 use mathlib.Core.List.{List, [], _∷_, map}
 use mathlib.Core.Option.{Option}
@@ -9,6 +10,7 @@ use Rattle.lighting.specs.Parameters.{Parameters}
 use Rattle.lighting.specs.Frames.{Bytes}
 use Rattle.lighting.specs.Slots.{slotsOf}
 use Rattle.lighting.specs.Value.{presentValue, progressValue, inProcess}
+use Rattle.lighting.specs.Answers.{refusalOf}
 use Rattle.lighting.specs.Panel.{Panel, Step, panelSound, framed, started}
 use Rattle.lighting.specs.Plain.{Plain, Told, Reply, plainFramed, plainStart}
 use Rattle.lighting.specs.declared.Settings.{Settings}
@@ -81,6 +83,11 @@ kept (own r) (a ∷ z) = a ∷ kept r z
 kept (copy m r) [] = []
 kept (copy m r) (a ∷ z) = kept r z
 
+-- 'Refusal 1 never comes'
+abbrev pub NeverOne : List Answer → Type 0
+NeverOne [] = Unit {0}
+NeverOne (a ∷ l) = (refusalOf a ≢ 1) × NeverOne l
+
 -- THE DEMAND, for a lent table e, a list of frames l, and the list l′ in which frames of l come again
 pub record Demand (p : Parameters) (e : Panel) (l l′ : List Bytes) (r : Again [] l l′) : Type 0 where
   -- after every list all that is found is what the plain panel has
@@ -89,8 +96,9 @@ pub record Demand (p : Parameters) (e : Panel) (l l′ : List Bytes) (r : Again 
       ≡ foundPlain (plainAfter p (plainStart (length (e .outputs))) l .panel)
   -- and every answer is its answer
   pub answered : answers p (started p e .panel) l ≡ plainAnswers p (plainStart (length (e .outputs))) l
-  -- 'Refusal 1 never comes in it'
+  -- 'Refusal 1 never comes in it': every record keeps the rules, and no answer is 1
   pub sound : panelSound p (after p (started p e .panel) l) ≡ true
+  pub never : NeverOne (answers p (started p e .panel) l)
   -- frames that come again change nothing at all of the panel, and no answer to the frames of the list
   pub again : after p (started p e .panel) l′ ≡ after p (started p e .panel) l
   pub answeredAgain : kept r (answers p (started p e .panel) l′) ≡ answers p (started p e .panel) l

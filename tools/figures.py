@@ -1,0 +1,55 @@
+#!/usr/bin/env python3
+"""figures.py [--check]: write crates/lighting/proofs/Figures.antt: that the definitions compute the bench figures, the traps and the worked list of
+specs/Figures.antt and specs/Worked.antt. Only the lists of names to unfold are made; the prover checks the equations.
+With --check nothing is written, and a stale file is an error."""
+import re
+import sys
+
+SPECS = 'crates/lighting/specs/%s.antt'
+OUT = 'crates/lighting/proofs/Figures.antt'
+OF_OUTPUTS = 'Choice Level Slots Value Passing Writing Commands Properties Fresh Answers'.split()
+OF_PANELS = OF_OUTPUTS + 'Field Frames Rules Acting Panel Worked'.split()
+
+
+def definitions(module):
+    return re.findall(r'^unfoldable pub (\S+) :', open(SPECS % module).read(), re.M)
+
+
+def opened(modules):
+    return ' '.join(name for module in modules for name in definitions(module))
+
+
+lines = [
+    '-- Made by tools/figures.py: bench figures 1 to 8, the traps of one output, and the worked list with figures 9 and 10, each computed by the',
+    '-- definitions. Assumes nothing.',
+    'use mathlib.Core.Path.{_≡_, refl}',
+    'use lib.Bits.{bitAnd, bitOr}',
+    'use lib.Ieee.{ofBits, toBits, round}',
+    'use Rattle.lighting.specs.Parameters.{standard}',
+    'use Rattle.lighting.specs.Demand.{answers}',
+    'use Rattle.lighting.specs.Figures.{given, said, trapsGiven, trapsSaid}',
+]
+for module in OF_PANELS:
+    names = definitions(module) + (['frames', 'expected'] if module == 'Worked' else [])
+    lines.append('use Rattle.lighting.specs.%s.{%s}' % (module, ', '.join(names)))
+text = '\n'.join(lines) + '''
+
+pub figures : given ≡ said
+unfolding bitAnd bitOr ofBits %s
+figures = refl
+
+pub traps : trapsGiven ≡ trapsSaid
+unfolding bitAnd bitOr ofBits %s
+traps = refl
+
+-- two outputs, freshly started
+pub worked : answers standard (freshPanel 2 8) frames ≡ expected
+unfolding bitAnd bitOr ofBits toBits round answers %s
+worked = refl
+''' % (opened(OF_OUTPUTS), opened(OF_OUTPUTS), opened(OF_PANELS))
+if '--check' in sys.argv:
+    # the layout is rt fmt's
+    if open(OUT).read().split() != text.split():
+        sys.exit('figures.py: %s is stale: run tools/figures.py' % OUT)
+else:
+    open(OUT, 'w').write(text)
