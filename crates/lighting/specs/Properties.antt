@@ -187,12 +187,9 @@ minOverMax c = ltb (c .max) (c .min)
 unfoldable pub levelAnswer : ℕ → Answer
 levelAnswer v = Value (readOut v)
 
--- '21 to 30 slots 1 to 16 (Absent if not live)': a slot's level v, if it is live
-unfoldable pub slotAnswerBy : Bool → ℕ → Answer
-slotAnswerBy live v = if live then levelAnswer v else Absent
-
+-- '21 to 30 slots 1 to 16 (Absent if not live)'
 unfoldable pub slotAnswer : Slots → ℕ → Answer
-slotAnswer s i = slotAnswerBy (lives s i) (levelAt 0 s i)
+slotAnswer s i = if lives s i then levelAnswer (levelAt 0 s i) else Absent
 
 unfoldable pub flag : Bool → ℕ
 flag b = if b then 1 else 0

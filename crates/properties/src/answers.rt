@@ -1,7 +1,7 @@
 // What the parts of a record read as. Levels read out as REALs, and the last command's REALs as they were written.
 ghost use mathlib.Core.Path.{_≡_};
 ghost use Prim.Native.Nat.{_+_};
-ghost use Rattle.lighting.specs.Properties.{levelAnswer, slotAnswerBy, slotAnswer, flag, elapsedActive, operationNumber, realAnswer, lastLevel, lastRate, lastStep, lastFadeTime, lastDuration};
+ghost use Rattle.lighting.specs.Properties.{levelAnswer, slotAnswer, flag, elapsedActive, operationNumber, realAnswer, lastLevel, lastRate, lastStep, lastFadeTime, lastDuration};
 use lighting::Answer;
 use lighting::Duration;
 use lighting::Operation;
@@ -13,20 +13,14 @@ pub fn level_answer(v: u32) -> Answer
     Answer::Value(level::read_out(v))
 }
 
-pub fn slot_answer_by(live: bool, v: u32) -> Answer
-    ensures { λ r. ⌜ r ≡ slotAnswerBy live v ⌝ }
-{
-    if live {
-        level_answer(v)
-    } else {
-        Answer::Absent
-    }
-}
-
 pub fn slot_answer(s: Slots, i: u8) -> Answer
     ensures { λ r. ⌜ r ≡ slotAnswer s i ⌝ }
 {
-    slot_answer_by(slots::is_live(s, i), slots::level_at(0, s, i as u32))
+    if slots::is_live(s, i) {
+        level_answer(slots::level_at(0, s, i as u32))
+    } else {
+        Answer::Absent
+    }
 }
 
 pub fn flag(b: bool) -> u32
