@@ -1,0 +1,64 @@
+#!/usr/bin/env python3
+"""loops.py: no loop over milliseconds, and no recursion, in the code of the panel. A contract is an equation and says nothing of time, so this is looked
+for in the source: every loop of crates/*/src must stand in tools/loops.txt with what it goes over, each line of that file must still be true, and no
+function may call itself, directly or by way of others. Exit status 1 where that fails."""
+import glob
+import re
+import sys
+
+known = {}
+for line in open('tools/loops.txt'):
+    line = line.split('#')[0].strip()
+    if line:
+        name, over = line.split(':', 1)
+        known[name.strip()] = over.strip()
+
+bodies, loops = {}, {}
+for path in sorted(glob.glob('crates/*/src/*.rt')):
+    crate = path.split('/')[1]
+    text = re.sub(r'//.*', '', open(path).read())
+    starts = [(m.start(), m.group(1)) for m in re.finditer(r'\bfn (\w+)\s*\(', text)]
+    for (at, name), (end, _) in zip(starts, starts[1:] + [(len(text), '')]):
+        body = text[text.index('{\n', at):end] if '{\n' in text[at:end] else ''
+        bodies['%s::%s' % (crate, name)] = body
+        count = len(re.findall(r'\b(?:while|loop|for)\b[^;]*?\{', body))
+        if count:
+            loops['%s::%s' % (crate, name)] = count
+
+faults = []
+for name in sorted(loops):
+    if name not in known:
+        faults.append('%s has a loop that tools/loops.txt does not list' % name)
+for name in sorted(known):
+    if name not in loops:
+        faults.append('%s is listed in tools/loops.txt and has no loop' % name)
+
+# who calls whom: a call is `f(` or `module::f(` within a crate, or `crate::..::f(`
+crates = {name.split('::')[0] for name in bodies}
+calls = {}
+for name, body in bodies.items():
+    calls[name] = set()
+    for path, function in re.findall(r'\b((?:\w+::)*)(\w+)\s*\(', body):
+        first = path.split('::')[0]
+        called = '%s::%s' % (first if first in crates else name.split('::')[0], function)
+        if called in bodies:
+            calls[name].add(called)
+
+
+def reaches(start):
+    seen, todo = set(), list(calls[start])
+    while todo:
+        name = todo.pop()
+        if name not in seen:
+            seen.add(name)
+            todo += calls[name]
+    return seen
+
+
+for name in sorted(calls):
+    if name in reaches(name):
+        faults.append('%s calls itself, directly or by way of others' % name)
+for fault in faults:
+    print('loops.py: ' + fault)
+print('loops.py: %d functions, %d with a loop, none over milliseconds' % (len(bodies), len(loops)) if not faults else 'loops.py: FAILED')
+sys.exit(1 if faults else 0)
