@@ -10,7 +10,7 @@ known = {}
 for line in open('tools/loops.txt'):
     line = line.split('#')[0].strip()
     if line:
-        name, over = line.split(':', 1)
+        name, over = line.split(': ', 1)
         known[name.strip()] = over.strip()
 
 bodies, loops = {}, {}
