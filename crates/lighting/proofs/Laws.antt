@@ -8,7 +8,7 @@ use Rattle.lighting.specs.Frames.{orderedWith, fadeOrder, rampOrderAt, r
 use Rattle.lighting.specs.Level.{inRange, unitsOr}
 use Rattle.lighting.specs.Panel.{met, stationOf, carried, Panel, Step}
 use Rattle.lighting.specs.Parameters.{Parameters}
-use Rattle.lighting.specs.Passing.{timerAt, expired, disowned, released, activityAt, slotsAt, timerDue, activityDue}
+use Rattle.lighting.specs.Passing.{timerAt, expired, disowned, released, activityAt, slotsAt, timerDue, activityDue, timerLater, activityLater}
 use Rattle.lighting.specs.Properties.{changeDefault, changeMin, changeMax, changeRamp, changeStep, changeOf, settingsWith, unmoved, activityWith, burningWith, operationNumber, lastLevel, lastRate, lastStep, lastFadeTime, lastDuration, shown}
 use Rattle.lighting.specs.Rules.{activityBy, timerSound}
 use Rattle.lighting.specs.Slots.{Slots}
@@ -122,6 +122,12 @@ timerDue-on x0 x1 k r e p = rw e p
 
 pub activityDue-on : (x0 : ℕ) (x1 : Activity) (k : Activity) (r : ℕ) → x1 ≡ k → r ≡ activityDue x0 k → r ≡ activityDue x0 x1
 activityDue-on x0 x1 k r e p = rw e p
+
+pub timerLater-on : (x0 : ℕ) (x1 : Timer) (k : Timer) (r : Bool) → x1 ≡ k → r ≡ timerLater x0 k → r ≡ timerLater x0 x1
+timerLater-on x0 x1 k r e p = rw e p
+
+pub activityLater-on : (x0 : ℕ) (x1 : Activity) (k : Activity) (r : Bool) → x1 ≡ k → r ≡ activityLater x0 k → r ≡ activityLater x0 x1
+activityLater-on x0 x1 k r e p = rw e p
 
 pub changeDefault-on : (x0 : Level) (k : Level) (r : Request) → x0 ≡ k → r ≡ changeDefault k → r ≡ changeDefault x0
 changeDefault-on x0 k r e p = rw e p

@@ -301,7 +301,7 @@ due-later t to o l a = omega (arith, timer (o .timer) (a .timer), act (o .activi
     act (Blink x y u v) h = omega arith
     act (Delay x v) h = omega arith
 
-due-here : (t : ℕ) (o : Output) → After t o → due t o ≡ t
+pub due-here : (t : ℕ) (o : Output) → After t o → due t o ≡ t
 unfolding due timerDue activityDue
 due-here t o a = omega (arith, timer (o .timer) (a .timer), act (o .activity) (a .activity))
   where

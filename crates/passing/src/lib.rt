@@ -2,7 +2,7 @@
 ghost use mathlib.Core.Path.{_≡_};
 ghost use Prim.Native.Nat.{_+_, min};
 ghost use Rattle.lighting.specs.Slots.{emptied};
-ghost use Rattle.lighting.specs.Passing.{withBurning, glowing, timerAt, expired, disowned, released, activityAt, slotsAt, settled, fire, timerDue, activityDue, due, gained, hop, hops, advance};
+ghost use Rattle.lighting.specs.Passing.{withBurning, glowing, timerAt, expired, disowned, released, activityAt, slotsAt, settled, fire, timerDue, activityDue, due, gained, hop, hops, advance, timerLater, activityLater, later};
 use lighting::Activity;
 use lighting::Output;
 use lighting::Slots;
@@ -247,9 +247,59 @@ fn hop_twice(now: u64, to: u64, o: Output) -> Output
     hop_once(d, to, hop_to(now, d, o))
 }
 
-pub fn advance_to(now: u64, to: u64, o: Output) -> Output
+fn hop_thrice(now: u64, to: u64, o: Output) -> Output
     ensures { λ r. ⌜ r ≡ advance now to o ⌝ }
 {
     let d = next_due(to, o);
     hop_twice(d, to, hop_to(now, d, o))
+}
+
+// ---- the way of most outputs at most frames: nothing falls due on it
+
+fn timer_later(to: u64, m: Timer) -> bool
+    ensures { λ r. ⌜ r ≡ timerLater to m ⌝ }
+{
+    match m {
+        Timer::Off => true,
+        Timer::Running { slot: _, due } => to < due,
+    }
+}
+
+fn activity_later(to: u64, a: Activity) -> bool
+    ensures { λ r. ⌜ r ≡ activityLater to a ⌝ }
+{
+    match a {
+        Activity::Still => true,
+        Activity::Moving(m) => to < m.over,
+        Activity::Blink {
+            owner: _,
+            level: _,
+            turn,
+            over: _,
+        } => to < turn,
+        Activity::Delay { owner: _, over } => to < over,
+    }
+}
+
+fn is_later(to: u64, o: Output) -> bool
+    ensures { λ r. ⌜ r ≡ later to o ⌝ }
+{
+    let m = o.timer;
+    let a = o.activity;
+    if timer_later(to, m) {
+        activity_later(to, a)
+    } else {
+        false
+    }
+}
+
+// Where nothing falls due up to `to`, the way there is burning alone.
+pub fn advance_to(now: u64, to: u64, o: Output) -> Output
+    ensures { λ r. ⌜ r ≡ advance now to o ⌝ }
+{
+    if is_later(to, o) {
+        rest(now, to, o)
+    } else {
+        hop_thrice(now, to, o)
+    }
 }
