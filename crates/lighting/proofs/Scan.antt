@@ -4,7 +4,7 @@ use mathlib.Core.Path.{_≡_, refl, sym, ap, _∙_}
 use mathlib.Core.Bool.{Bool, true, false}
 use native.Mathlib.Omega.{arith}
 use Rattle.lighting.specs.Choice.{if_then_else_, _also_, allFrom}
-use Rattle.lighting.proofs.Split.{also-both, also-yes, by-eq}
+use Rattle.lighting.proofs.Split.{also-both, also-yes, by-eq, by-lt}
 
 module _ (t : ℕ → Bool) (e : ℕ) where
   opened : (i : ℕ) (b : Bool) → i < e → t i ≡ b → allFrom t (e - i) i ≡ (b also allFrom t (e - (i + 1)) (i + 1))
@@ -39,3 +39,14 @@ unfolding allFrom
 each-all t zero i f = refl
 each-all t (suc n) i f =
     also-yes (f i (omega arith) (omega arith)) (each-all t n (i + 1) (λ j p q. f j (omega arith) (omega arith)))
+
+-- numbers that pass may be skipped
+pub all-skip : (t : ℕ → Bool) (e w : ℕ) → ((i : ℕ) → i < w → t i ≡ true) → allFrom t e 0 ≡ allFrom t (e - w) w
+all-skip t e zero f = ap (λ (j : ℕ). allFrom t j 0) (omega arith)
+all-skip t e (suc w) f =
+    all-skip t e w (λ i h. f i (omega arith))
+    ∙ by-lt
+    w
+    e
+    (λ l x. scan-on t e w l (f w (omega arith)) ∙ ap (λ (j : ℕ). allFrom t (e - j) j) (omega arith))
+    (λ l x. scan-done t e w l ∙ sym (scan-done t e (suc w) (omega arith)))

@@ -97,6 +97,19 @@ set-dead (none ∷ s) zero h = refl
 set-dead (some v ∷ s) zero h = absurd (true≢false h)
 set-dead (x ∷ s) (suc i) h = ap (λ (z : List (Option ℕ)). x ∷ z) (set-dead s i h)
 
+live-within : (s : List (Option ℕ)) → firstLive s ≤ length s
+unfolding firstLive
+live-within [] = omega arith
+live-within (none ∷ s) = omega (arith, live-within s)
+live-within (some v ∷ s) = omega arith
+
+none-before : (s : List (Option ℕ)) (i : ℕ) → i < firstLive s → alive (getD s i none) ≡ false
+unfolding firstLive
+none-before [] i h = absurd (omega arith)
+none-before (none ∷ s) zero h = refl
+none-before (none ∷ s) (suc i) h = none-before s i (omega arith)
+none-before (some v ∷ s) i h = absurd (omega arith)
+
 -- the same of the record, by what its slots are after `put`
 module _ (s : Slots) (size : length (s .levels) ≡ 16) where
   pub put-sized : (i : ℕ) (x : Option ℕ) → length (put s i x .levels) ≡ 16
@@ -160,3 +173,11 @@ module _ (s : Slots) (size : length (s .levels) ≡ 16) where
   six-set x =
       lives-slot (put s 5 x) 5 (omega (arith, put-sized 5 x))
       ∙ rw (put-slots s 5 x size (omega arith)) (ap alive (getD-set-same (slotsOf s) 5 x none (omega (arith, slots-size s))))
+
+  -- every slot before the winner is empty
+  pub dead-before : (i : ℕ) → i < winner s → lives s i ≡ false
+  dead-before i h =
+      lives-slot s i (omega (arith, winner-within, size)) ∙ none-before (slotsOf s) i (unfold winner in h)
+    where
+      winner-within : winner s ≤ 16
+      winner-within = unfold winner in (omega (arith, live-within (slotsOf s), slots-size s, size))

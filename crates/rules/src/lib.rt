@@ -110,7 +110,6 @@ fn slot_sound(s: Slots, i: usize) -> bool
 }
 
 fn slots_sound_from(s: Slots, from: usize) -> bool
-    requires { ⌜ from ≤ 16 ⌝ }
     ensures { λ r. ⌜ r ≡ slotsSoundFrom s from ⌝ }
 {
     let mut i = from;
@@ -122,6 +121,19 @@ fn slots_sound_from(s: Slots, from: usize) -> bool
         }
     }
     true
+}
+
+fn wide(x: u32) -> usize
+    ensures { λ r. ⌜ r ≡ x ⌝ }
+{
+    x as usize
+}
+
+// Slots before the winner are empty, so the test begins with the winner.
+fn slots_sound(s: Slots) -> bool
+    ensures { λ r. ⌜ r ≡ slotsSoundFrom s 0 ⌝ }
+{
+    slots_sound_from(s, wide(slots::winning(s)))
 }
 
 // ---- what is under way
@@ -247,7 +259,7 @@ pub fn is_sound(t: u64, o: Output) -> bool
     let a = o.activity;
     let m = o.timer;
     if settings_sound(c) {
-        if slots_sound_from(s, 0) {
+        if slots_sound(s) {
             if activity_sound(t, c, s, a) {
                 if timer_sound(t, m) {
                     o.burning <= t

@@ -7,7 +7,7 @@ use Rattle.rules.proofs.is_sound.Reads as reads
 use Rattle.rules.proofs.is_sound.Lts as lts
 use Rattle.rules.proofs.activity_sound.Reads as activity-sound-reads
 use Rattle.rules.proofs.settings_sound.Reads as settings-sound-reads
-use Rattle.rules.proofs.slots_sound_from.Reads as slots-sound-from-reads
+use Rattle.rules.proofs.slots_sound.Reads as slots-sound-reads
 use Rattle.rules.proofs.timer_sound.Reads as timer-sound-reads
 
 -- src/lib.rt:249:8
@@ -15,8 +15,8 @@ settings-sound-requires : tie.Need-settings-sound-requires
 settings-sound-requires c κs = search needs
 
 -- src/lib.rt:250:12
-slots-sound-from-requires : tie.Need-slots-sound-from-requires
-slots-sound-from-requires c κs = search needs
+slots-sound-requires : tie.Need-slots-sound-requires
+slots-sound-requires c κs = search needs
 
 -- src/lib.rt:251:16
 activity-sound-requires : tie.Need-activity-sound-requires
@@ -56,7 +56,7 @@ is-sound-spec =
     tie.close
     (tie.spec
     settings-sound-requires
-    slots-sound-from-requires
+    slots-sound-requires
     activity-sound-requires
     timer-sound-requires
     returns

@@ -10,7 +10,7 @@ use Rattle.rules.proofs.slots_sound_from.Lts as lts
 use Rattle.rules.proofs.slot_sound.Reads as slot-sound-reads
 
 abbrev Inv-loop : tie.InvT-loop
-Inv-loop s from i₀ i = (i ≤ 16) × (slotsSoundFrom s from ≡ slotsSoundFrom s i)
+Inv-loop s from i₀ i = slotsSoundFrom s from ≡ slotsSoundFrom s i
 
 abbrev μ-loop : tie.MeasureT-loop
 μ-loop s from i₀ i = 16 - i
@@ -35,18 +35,18 @@ loop-again : tie.Need-loop-again Inv-loop μ-loop
 unfolding slotsSoundFrom
 loop-again c =
     let at = c .before .before .before in
-    (search needs, at .loop .inv .1 ∙ scan-on (slotSound (at .before .args .s)) 16 (at .loop .i) (c .before .before .loop-test .taken) (sym (c .before .slot-sound .ensures) ∙ c .if1 .taken))
+    at .loop .inv ∙ scan-on (slotSound (at .before .args .s)) 16 (at .loop .i) (c .before .before .loop-test .taken) (sym (c .before .slot-sound .ensures) ∙ c .if1 .taken)
 
 returns : tie.Need-returns Inv-loop μ-loop
 unfolding slotsSoundFrom
 returns c =
     let at = c .before .before .before in
-    sym (at .loop .inv .1 ∙ scan-off (slotSound (at .before .args .s)) 16 (at .loop .i) (c .before .before .loop-test .taken) (sym (c .before .slot-sound .ensures) ∙ c .if1 .left))
+    sym (at .loop .inv ∙ scan-off (slotSound (at .before .args .s)) 16 (at .loop .i) (c .before .before .loop-test .taken) (sym (c .before .slot-sound .ensures) ∙ c .if1 .left))
 
 returns-2 : tie.Need-returns-2 Inv-loop μ-loop
 unfolding slotsSoundFrom
 returns-2 c =
-    sym (c .before .loop .inv .1 ∙ scan-done (slotSound (c .before .before .args .s)) 16 (c .before .loop .i) (c .loop-test .left))
+    sym (c .before .loop .inv ∙ scan-done (slotSound (c .before .before .args .s)) 16 (c .before .loop .i) (c .loop-test .left))
 
 pub slots-sound-from-spec : {M : Type 1} → statement M
 slots-sound-from-spec =

@@ -1,0 +1,35 @@
+use mathlib.Core.Path.{_≡_, sym, ap, _∙_}
+use Rattle.lighting.specs.Rules.{slotsSoundFrom}
+use Rattle.rules.proofs.FromWinner.{from-winner}
+use borrow.Author.Needs.{needs}
+use Rattle.rules.proofs.slots_sound.Statement.{statement}
+use Rattle.rules.proofs.slots_sound.Tie as tie
+use Rattle.rules.proofs.slots_sound.Reads as reads
+use Rattle.rules.proofs.slots_sound.Lts as lts
+use Rattle.rules.proofs.slots_sound_from.Reads as slots-sound-from-reads
+use Rattle.rules.proofs.wide.Reads as wide-reads
+use Rattle.slots.proofs.winning.Reads as winning-reads
+
+-- src/lib.rt:136:30
+winning-requires : tie.Need-winning-requires
+winning-requires c κs = search needs
+
+-- src/lib.rt:136:25
+wide-requires : tie.Need-wide-requires
+wide-requires c κs = search needs
+
+-- src/lib.rt:136:5
+slots-sound-from-requires : tie.Need-slots-sound-from-requires
+slots-sound-from-requires c κs = search needs
+
+-- src/lib.rt:133:1
+returns : tie.Need-returns
+returns c =
+    let s = c .before .before .before .args .s in
+    c .slots-sound-from .ensures
+    ∙ ap (slotsSoundFrom s) (c .before .wide .ensures ∙ c .before .before .winning .ensures)
+    ∙ sym (from-winner s (search needs))
+
+pub slots-sound-spec : {M : Type 1} → statement M
+slots-sound-spec =
+    tie.close (tie.spec winning-requires wide-requires slots-sound-from-requires returns)
