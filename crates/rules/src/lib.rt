@@ -129,11 +129,17 @@ fn wide(x: u32) -> usize
     x as usize
 }
 
-// Slots before the winner are empty, so the test begins with the winner.
+// Slots before the winner are empty. Of most outputs at most slot 16, that of the commands, is live, and the test begins with it; a loop over
+// all sixteen is the faster one for the others.
 fn slots_sound(s: Slots) -> bool
     ensures { λ r. ⌜ r ≡ slotsSoundFrom s 0 ⌝ }
 {
-    slots_sound_from(s, wide(slots::winning(s)))
+    let w = slots::winning(s);
+    if 15 <= w {
+        slots_sound_from(s, wide(w))
+    } else {
+        slots_sound_from(s, 0)
+    }
 }
 
 // ---- what is under way
