@@ -5,7 +5,7 @@ ghost use mathlib.Core.Bool.{true};
 ghost use mathlib.Core.List.{map};
 ghost use mathlib.Core.Path.{_≡_};
 ghost use Prim.Native.Nat.{_≤_, _<_, _^_};
-ghost use lib.ListN.{length, replicate};
+ghost use lib.ListN.{length, replicate, set, getD};
 ghost use Rattle.lighting.specs.Parameters.{standard};
 ghost use Rattle.lighting.specs.Fresh.{freshOutput, freshStation};
 ghost use Rattle.lighting.specs.Passing.{advance};
@@ -76,6 +76,21 @@ fn stations_sound(stations: &[Station]) -> bool
     true
 }
 
+// Brings one output to a moment. Where nothing falls due on the way only its burning time is written.
+fn advance_output(outputs: &mut [Output], i: usize, from: u64, to: u64)
+    requires { ⌜ i < length (now outputs) ⌝ }
+    ensures { λ _. ⌜ now (outputs .exit) ≡ set (now (outputs .entry)) i (advance from to (getD (now (outputs .entry)) i freshOutput)) ⌝ }
+{
+    let o = outputs[i];
+    if passing::is_later(to, o) {
+        let n = passing::rest(from, to, o);
+        outputs[i] = n;
+        return;
+    }
+    let n = passing::hop_thrice(from, to, o);
+    outputs[i] = n;
+}
+
 // Brings every output to a moment. While time stands nothing falls due, and no record is written.
 fn advance_outputs(outputs: &mut [Output], from: u64, to: u64)
     requires { ⌜ every (sound standard from) (now outputs) ≡ true ⌝ }
@@ -87,9 +102,7 @@ fn advance_outputs(outputs: &mut [Output], from: u64, to: u64)
     }
     let mut i: usize = 0;
     while i < outputs.len() {
-        let o = outputs[i];
-        let n = passing::advance_to(from, to, o);
-        outputs[i] = n;
+        advance_output(outputs, i, from, to);
         i += 1;
     }
 }

@@ -227,7 +227,7 @@ fn hop_to(now: u64, d: u64, o: Output) -> Output
     fire_at(d, gain(now, value::since(now, d), o))
 }
 
-fn rest(now: u64, to: u64, o: Output) -> Output
+pub fn rest(now: u64, to: u64, o: Output) -> Output
     ensures { λ r. ⌜ r ≡ hops 0 now to o ⌝ }
 {
     gain(now, value::since(now, to), o)
@@ -247,7 +247,7 @@ fn hop_twice(now: u64, to: u64, o: Output) -> Output
     hop_once(d, to, hop_to(now, d, o))
 }
 
-fn hop_thrice(now: u64, to: u64, o: Output) -> Output
+pub fn hop_thrice(now: u64, to: u64, o: Output) -> Output
     ensures { λ r. ⌜ r ≡ advance now to o ⌝ }
 {
     let d = next_due(to, o);
@@ -281,7 +281,7 @@ fn activity_later(to: u64, a: Activity) -> bool
     }
 }
 
-fn is_later(to: u64, o: Output) -> bool
+pub fn is_later(to: u64, o: Output) -> bool
     ensures { λ r. ⌜ r ≡ later to o ⌝ }
 {
     let m = o.timer;

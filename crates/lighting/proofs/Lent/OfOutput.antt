@@ -1,5 +1,5 @@
--- What a derivation over a reference to `Output`, or to a slice of it, cites of the type: its row, its kind, its laws, and the value past a list's end.
--- Made by tools/twin.py. Assumes nothing.
+-- Made by tools/twin.py: what a derivation over a reference to `Output`, or to a slice of it, cites of the type: its row, its kind, its laws, and the
+-- value past a list's end. Assumes nothing.
 use Rattle.lighting.proofs.Output as T
 use Rattle.lighting.proofs.Output.Laws as L
 use Rattle.lighting.specs.Fresh as S

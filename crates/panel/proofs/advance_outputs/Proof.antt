@@ -5,7 +5,7 @@ use Prim.Native.Nat.{ℕ}
 use mathlib.Core.Path.{_≡_, refl, sym, ap, _∙_}
 use Prim.Native.Nat.{_≤_, _-_}
 use native.Mathlib.Omega.{arith}
-use lib.ListN.{length, length-set, drop}
+use lib.ListN.{length, length-set, set, getD, drop}
 use Rattle.lighting.specs.Fresh.{freshOutput}
 use Rattle.lighting.specs.Passing.{advance}
 use Rattle.lighting.proofs.Carried.{all-stay}
@@ -32,20 +32,8 @@ returns c =
 loop-holds : tie.Need-loop-holds Inv-loop μ-loop
 loop-holds c = search needs
 
-mul-o : tie.Need-mul-o Inv-loop μ-loop
-mul-o c = search needs
-
-slice-copy-out-o : tie.Need-slice-copy-out-o Inv-loop μ-loop
-slice-copy-out-o c = search needs
-
-advance-to-requires : tie.Need-advance-to-requires Inv-loop μ-loop
-advance-to-requires c κs = search needs
-
-mul-n : tie.Need-mul-n Inv-loop μ-loop
-mul-n c = search needs
-
-slice-set-from-n : tie.Need-slice-set-from-n Inv-loop μ-loop
-slice-set-from-n c = search needs
+advance-output-requires : tie.Need-advance-output-requires Inv-loop μ-loop
+advance-output-requires c κs = search needs
 
 add-i : tie.Need-add-i Inv-loop μ-loop
 add-i c = search needs
@@ -54,7 +42,14 @@ loop-less : tie.Need-loop-less Inv-loop μ-loop
 loop-less c = search needs
 
 loop-again : tie.Need-loop-again Inv-loop μ-loop
-loop-again c = (omega arith, simp length-set (search needs), mapped-more _ _ _ _ freshOutput _ (omega arith) (c .before .before .before .loop .inv .2) (c .advance-to .ensures))
+loop-again c =
+    let l = c .before .before .before .before .loop in
+    let a = c .before .before .before .before .before .before .args in (
+      omega arith,
+      ap length (c .before .advance-output .ensures) ∙ length-set (l .outputs) (l .i) _ ∙ l .inv .1,
+      c .before .advance-output .ensures
+          ∙ mapped-more (advance (a .from) (a .to)) (l .i) (a .outputs .now) (l .outputs) freshOutput _ (omega arith) (l .inv .2) refl,
+    )
 
 same-length : tie.Need-same-length Inv-loop μ-loop
 same-length c = search needs
@@ -70,11 +65,7 @@ advance-outputs-spec =
     μ-loop
     returns
     loop-holds
-    mul-o
-    slice-copy-out-o
-    advance-to-requires
-    mul-n
-    slice-set-from-n
+    advance-output-requires
     add-i
     loop-less
     loop-again
