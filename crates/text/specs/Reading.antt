@@ -60,6 +60,9 @@ lettered k l c =
     else if isBlank c then Gap
     else Spoilt NoOutputs
 
+unfoldable pub spelled : ℕ → ℕ → Held
+spelled k c = lettered k (letter k) c
+
 unfoldable pub gapped : ℕ → ℕ → Held
 gapped v c = if ltb v 10 then Number v else if isBlank c then Gap else Spoilt BadCount
 
@@ -86,7 +89,7 @@ dashed c = if isBlank c then Dash else Spoilt NoDigit
 unfoldable pub step : ℕ → Held → ℕ → ℕ → Held
 step outputs Blank v c = opened outputs v c
 step outputs Comment v c = Comment
-step outputs (Letters k) v c = lettered k (letter k) c
+step outputs (Letters k) v c = spelled k c
 step outputs Gap v c = gapped v c
 step outputs (Number n) v c = numbered n v c
 step outputs (Trail n) v c = trailed n c

@@ -1,7 +1,7 @@
 // A list's text, read one byte at a time by value. The caller sees the ends of lines; every other byte is fed.
 ghost use mathlib.Core.Path.{_≡_};
 ghost use Prim.Native.Nat.{_+_, _*_, min};
-ghost use Rattle.text.specs.Reading.{isBlank, hexValue, letter, digitHeld, opened, lettered, gapped, grownHeld, numbered, trailed, byteHeld, halfHeld, dashed, step, bytePair, pushed, joined, storedBy, withHeld, feed, countLine, lineOf, nextLine, withOutputs, freshReader};
+ghost use Rattle.text.specs.Reading.{isBlank, hexValue, letter, digitHeld, opened, lettered, spelled, gapped, grownHeld, numbered, trailed, byteHeld, halfHeld, dashed, step, bytePair, pushed, joined, storedBy, withHeld, feed, countLine, lineOf, nextLine, withOutputs, freshReader};
 
 // What makes a line a bad one.
 pub enum Fault {
@@ -156,6 +156,12 @@ pub fn lettered(k: u8, l: u8, c: u8) -> Held
     }
 }
 
+pub fn spelled(k: u8, c: u8) -> Held
+    ensures { λ r. ⌜ r ≡ spelled k c ⌝ }
+{
+    lettered(k, letter(k), c)
+}
+
 pub fn gapped(v: u8, c: u8) -> Held
     ensures { λ r. ⌜ r ≡ gapped v c ⌝ }
 {
@@ -238,7 +244,7 @@ pub fn step(outputs: u8, h: Held, v: u8, c: u8) -> Held
     match h {
         Held::Blank => opened(outputs, v, c),
         Held::Comment => h,
-        Held::Letters(k) => lettered(k, letter(k), c),
+        Held::Letters(k) => spelled(k, c),
         Held::Gap => gapped(v, c),
         Held::Number(n) => numbered(n, v, c),
         Held::Trail(n) => trailed(n, c),

@@ -17,37 +17,37 @@ sub-result-2 c = search needs
 -- src/reading.rt:74:1
 returns : tie.Need-returns
 unfolding hexValue
-returns c = search (needs, ifs)
+returns c = search (needs, ifs) depth 12
 
 -- src/reading.rt:74:1
 returns-2 : tie.Need-returns-2
 unfolding hexValue
-returns-2 c = search (needs, ifs)
+returns-2 c = search (needs, ifs) depth 12
 
 -- src/reading.rt:74:1
 returns-3 : tie.Need-returns-3
 unfolding hexValue
-returns-3 c = search (needs, ifs)
+returns-3 c = search (needs, ifs) depth 12
 
 -- src/reading.rt:74:1
 returns-4 : tie.Need-returns-4
 unfolding hexValue
-returns-4 c = search (needs, ifs)
+returns-4 c = search (needs, ifs) depth 12
 
 -- src/reading.rt:74:1
 returns-5 : tie.Need-returns-5
 unfolding hexValue
-returns-5 c = search (needs, ifs)
+returns-5 c = search (needs, ifs) depth 12
 
 -- src/reading.rt:74:1
 returns-6 : tie.Need-returns-6
 unfolding hexValue
-returns-6 c = search (needs, ifs)
+returns-6 c = search (needs, ifs) depth 12
 
 -- src/reading.rt:74:1
 returns-7 : tie.Need-returns-7
 unfolding hexValue
-returns-7 c = search (needs, ifs)
+returns-7 c = search (needs, ifs) depth 12
 
 pub hex-value-spec : {M : Type 1} → statement M
 hex-value-spec =
