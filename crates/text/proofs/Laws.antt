@@ -1,6 +1,10 @@
 -- Each definition by clauses, at the variant that a match has found (as lighting/proofs/Laws.antt). Assumes nothing.
 use mathlib.Core.Path.{_≡_}
 use Prim.Native.Nat.{ℕ}
+use Rattle.lighting.specs.Frames.{Bytes}
+use Rattle.lighting.specs.declared.Answer.{Answer}
+use Rattle.text.specs.Page.{Wrote}
+use Rattle.text.specs.Writing.{answerLine}
 use Rattle.text.specs.Reading.{step, storedBy, lineOf}
 use Rattle.text.specs.declared.reading.Held.{Held}
 use Rattle.text.specs.declared.reading.Line.{Line}
@@ -14,3 +18,6 @@ storedBy-on w h v k r e p = rw e p
 
 pub lineOf-on : (h k : Held) (r : Line) → h ≡ k → r ≡ lineOf k → r ≡ lineOf h
 lineOf-on h k r e p = rw e p
+
+pub answerLine-on : (p : Bytes) (at : ℕ) (a : Answer) (q : Bytes) (r : ℕ) (k : Answer) → a ≡ k → Wrote p at (answerLine k) q r → Wrote p at (answerLine a) q r
+answerLine-on p at a q r k e f = rw e f

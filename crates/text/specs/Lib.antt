@@ -1,1 +1,4 @@
 pub mod Reading
+pub mod Spelling
+pub mod Page
+pub mod Writing

@@ -1,3 +1,4 @@
 // The text of a list of frames, read byte by byte, and the text of answers and records, written. Pure: the program `replay` does the reading
 // and writing of files.
 pub mod reading;
+pub mod writing;
