@@ -1,0 +1,18 @@
+-- `commands::command` meets its contract. Assumes nothing.
+use Rattle.lighting.specs.Commands.{commanded}
+use borrow.Author.Needs.{needs}
+use Rattle.commands.proofs.command.Statement.{statement}
+use Rattle.commands.proofs.command.Tie as tie
+
+progress-value-requires : tie.Need-progress-value-requires
+progress-value-requires c κs = search needs
+
+command-from-requires : tie.Need-command-from-requires
+command-from-requires c κs = search needs
+
+returns : tie.Need-returns
+unfolding commanded
+returns c = cc
+
+pub command-spec : {M : Type 1} → statement M
+command-spec = tie.close (tie.spec progress-value-requires command-from-requires returns)

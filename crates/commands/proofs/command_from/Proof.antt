@@ -1,0 +1,35 @@
+-- `commands::command_from` meets its contract. Assumes nothing.
+use Rattle.lighting.specs.Commands.{commandedFrom}
+use borrow.Author.Needs.{needs}
+use Rattle.commands.proofs.command_from.Statement.{statement}
+use Rattle.commands.proofs.command_from.Tie as tie
+
+end-warning-requires : tie.Need-end-warning-requires
+end-warning-requires c κs = search needs
+
+without-warning-requires : tie.Need-without-warning-requires
+without-warning-requires c κs = search needs
+
+make-scene-requires : tie.Need-make-scene-requires
+make-scene-requires c κs = search needs
+
+time-requires : tie.Need-time-requires
+time-requires c κs = search needs
+
+with-command-requires : tie.Need-with-command-requires
+with-command-requires c κs = search needs
+
+returns : tie.Need-returns
+unfolding commandedFrom
+returns c = cc
+
+pub command-from-spec : {M : Type 1} → statement M
+command-from-spec =
+    tie.close
+    (tie.spec
+    end-warning-requires
+    without-warning-requires
+    make-scene-requires
+    time-requires
+    with-command-requires
+    returns)

@@ -1,0 +1,18 @@
+-- `commands::go_to` meets its contract. Assumes nothing.
+use Rattle.lighting.specs.Commands.{wentTo}
+use borrow.Author.Needs.{needs}
+use Rattle.commands.proofs.go_to.Statement.{statement}
+use Rattle.commands.proofs.go_to.Tie as tie
+
+target-of-requires : tie.Need-target-of-requires
+target-of-requires c κs = search needs
+
+jump-requires : tie.Need-jump-requires
+jump-requires c κs = search needs
+
+returns : tie.Need-returns
+unfolding wentTo
+returns c = cc
+
+pub go-to-spec : {M : Type 1} → statement M
+go-to-spec = tie.close (tie.spec target-of-requires jump-requires returns)

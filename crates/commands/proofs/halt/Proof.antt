@@ -1,0 +1,18 @@
+-- `commands::halt` meets its contract. Assumes nothing.
+use Rattle.lighting.specs.Commands.{halted}
+use borrow.Author.Needs.{needs}
+use Rattle.commands.proofs.halt.Statement.{statement}
+use Rattle.commands.proofs.halt.Tie as tie
+
+raise-requires : tie.Need-raise-requires
+raise-requires c κs = search needs
+
+fill-requires : tie.Need-fill-requires
+fill-requires c κs = search needs
+
+returns : tie.Need-returns
+unfolding halted
+returns c = cc
+
+pub halt-spec : {M : Type 1} → statement M
+halt-spec = tie.close (tie.spec raise-requires fill-requires returns)

@@ -1,0 +1,21 @@
+-- `commands::moving::place` meets its contract. Assumes nothing.
+use Rattle.lighting.specs.Commands.{placed}
+use borrow.Author.Needs.{needs}
+use Rattle.commands.proofs.moving.place.Statement.{statement}
+use Rattle.commands.proofs.moving.place.Tie as tie
+
+fill-requires : tie.Need-fill-requires
+fill-requires c κs = search needs
+
+winning-requires : tie.Need-winning-requires
+winning-requires c κs = search needs
+
+replace-requires : tie.Need-replace-requires
+replace-requires c κs = search needs
+
+returns : tie.Need-returns
+unfolding placed
+returns c = cc
+
+pub place-spec : {M : Type 1} → statement M
+place-spec = tie.close (tie.spec fill-requires winning-requires replace-requires returns)

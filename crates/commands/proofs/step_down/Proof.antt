@@ -1,0 +1,22 @@
+-- `commands::step_down` meets its contract. Assumes nothing.
+use Rattle.lighting.specs.Commands.{steppedDown}
+use borrow.Author.Needs.{needs}
+use Rattle.commands.proofs.step_down.Statement.{statement}
+use Rattle.commands.proofs.step_down.Tie as tie
+
+rate-of-requires : tie.Need-rate-of-requires
+rate-of-requires c κs = search needs
+
+step-down-from-requires : tie.Need-step-down-from-requires
+step-down-from-requires c κs = search needs
+
+jump-requires : tie.Need-jump-requires
+jump-requires c κs = search needs
+
+returns : tie.Need-returns
+unfolding steppedDown
+returns c = cc
+
+pub step-down-spec : {M : Type 1} → statement M
+step-down-spec =
+    tie.close (tie.spec rate-of-requires step-down-from-requires jump-requires returns)

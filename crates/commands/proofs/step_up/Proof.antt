@@ -1,0 +1,21 @@
+-- `commands::step_up` meets its contract. Assumes nothing.
+use Rattle.lighting.specs.Commands.{steppedUp}
+use borrow.Author.Needs.{needs}
+use Rattle.commands.proofs.step_up.Statement.{statement}
+use Rattle.commands.proofs.step_up.Tie as tie
+
+rate-of-requires : tie.Need-rate-of-requires
+rate-of-requires c κs = search needs
+
+step-up-from-requires : tie.Need-step-up-from-requires
+step-up-from-requires c κs = search needs
+
+jump-requires : tie.Need-jump-requires
+jump-requires c κs = search needs
+
+returns : tie.Need-returns
+unfolding steppedUp
+returns c = cc
+
+pub step-up-spec : {M : Type 1} → statement M
+step-up-spec = tie.close (tie.spec rate-of-requires step-up-from-requires jump-requires returns)

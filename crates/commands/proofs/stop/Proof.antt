@@ -1,0 +1,64 @@
+-- `commands::stop` meets its contract. Assumes nothing.
+use mathlib.Core.Path.{_≡_}
+use Rattle.lighting.specs.declared.Slots.{Slots}
+use Rattle.lighting.specs.declared.Activity.{Activity}
+use Rattle.lighting.proofs.Choosing.{ifs}
+use Rattle.lighting.proofs.Laws.{stopped-on}
+use Rattle.lighting.specs.Commands.{stopped, asItIs}
+use borrow.Author.Needs.{needs}
+use Rattle.commands.proofs.stop.Statement.{statement}
+use Rattle.commands.proofs.stop.Tie as tie
+
+-- a scene of the activity that a match has found
+same-scene : (s : Slots) (a k : Activity) → a ≡ k → asItIs s a ≡ asItIs s k
+same-scene s a k e = rw e
+
+enum-told : tie.Need-enum-told
+enum-told c = search needs
+
+enum-known-a : tie.Need-enum-known-a
+enum-known-a c = search needs
+
+halt-requires : tie.Need-halt-requires
+halt-requires c κs = search needs
+
+enum-told-2 : tie.Need-enum-told-2
+enum-told-2 c = search needs
+
+enum-told-3 : tie.Need-enum-told-3
+enum-told-3 c = search needs
+
+returns : tie.Need-returns
+unfolding stopped
+returns c = search (needs, ifs, stopped-on, same-scene)
+
+returns-2 : tie.Need-returns-2
+unfolding stopped
+returns-2 c = search (needs, ifs, stopped-on)
+
+returns-3 : tie.Need-returns-3
+unfolding stopped
+returns-3 c = search (needs, ifs, stopped-on)
+
+returns-4 : tie.Need-returns-4
+unfolding stopped
+returns-4 c = search (needs, ifs, stopped-on, same-scene)
+
+returns-5 : tie.Need-returns-5
+unfolding stopped
+returns-5 c = search (needs, ifs, stopped-on, same-scene)
+
+pub stop-spec : {M : Type 1} → statement M
+stop-spec =
+    tie.close
+    (tie.spec
+    enum-told
+    enum-known-a
+    halt-requires
+    enum-told-2
+    enum-told-3
+    returns
+    returns-2
+    returns-3
+    returns-4
+    returns-5)

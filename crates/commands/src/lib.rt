@@ -1,0 +1,255 @@
+// The eleven lighting commands and the duration, by value. A command acts on slot p, Lighting_Command_Priority.
+// `t` is the moment, `c` the settings, `f` the level from which the command starts, `s` the slots and `a` the activity that it finds, with
+// any warning ended; `g` is a target, in units.
+mod moving;
+
+ghost use mathlib.Core.Path.{_≡_};
+ghost use Prim.Native.Nat.{_<_, _^_, _+_, _-_, max};
+ghost use Rattle.lighting.specs.Value.{intoRange};
+ghost use Rattle.lighting.specs.Commands.{unwarned, unwarnedActivity, jumped, wentTo, stepUpFrom, stepDownFrom, steppedUp, steppedDown, raised, halted, stopped, relinquished, scene, timed, withCommand, commandedFrom, commanded};
+ghost use Rattle.lighting.specs.declared.Timer.the-variants.{Running};
+use lighting::Activity;
+use lighting::Command;
+use lighting::Duration;
+use lighting::Operation;
+use lighting::Output;
+use lighting::Scene;
+use lighting::Settings;
+use lighting::Slots;
+use lighting::Timer;
+
+// ---- 'and first ends any warning by emptying slot 6'
+
+fn end_warning(s: Slots, a: Activity) -> Slots
+    ensures { λ r. ⌜ r ≡ unwarned s a ⌝ }
+{
+    match a {
+        Activity::Still => s,
+        Activity::Moving(_) => s,
+        Activity::Blink {
+            owner: _,
+            level: _,
+            turn: _,
+            over: _,
+        } => slots::empty(s, 5),
+        Activity::Delay { owner: _, over: _ } => slots::empty(s, 5),
+    }
+}
+
+fn without_warning(a: Activity) -> Activity
+    ensures { λ r. ⌜ r ≡ unwarnedActivity a ⌝ }
+{
+    match a {
+        Activity::Still => a,
+        Activity::Moving(_) => a,
+        Activity::Blink {
+            owner: _,
+            level: _,
+            turn: _,
+            over: _,
+        } => Activity::Still,
+        Activity::Delay { owner: _, over: _ } => Activity::Still,
+    }
+}
+
+// ---- 'GOTO and steps jump'
+
+fn jump(c: Settings, s: Slots, a: Activity, g: u32) -> Scene
+    ensures { λ r. ⌜ r ≡ jumped c s a g ⌝ }
+{
+    moving::place(s, a, c.slot, g, Activity::Still)
+}
+
+fn go_to(c: Settings, s: Slots, a: Activity, x: f32) -> Scene
+    ensures { λ r. ⌜ r ≡ wentTo c s a x ⌝ }
+{
+    jump(c, s, a, moving::target_of(c, x))
+}
+
+// 'Step up: s plus step [..] brought into Min..Max'. The sum is made in 64 bits.
+fn step_up_from(c: Settings, f: u32, x: u32) -> u32
+    ensures { λ r. ⌜ r ≡ stepUpFrom c f x ⌝ }
+{
+    value::into_range(c, f as u64 + x as u64)
+}
+
+// 's minus step, not below 0'.
+fn less(f: u32, x: u32) -> u64
+    ensures { λ r. ⌜ r ≡ f - x ⌝ }
+{
+    if f < x { 0 } else { (f - x) as u64 }
+}
+
+fn lower(c: Settings, f: u32, x: u32) -> u32
+    ensures { λ r. ⌜ r ≡ intoRange c (f - x) ⌝ }
+{
+    value::into_range(c, less(f, x))
+}
+
+// 'Step down from s = 0 stays 0': it does not light a dark output at Min.
+fn step_down_from(c: Settings, f: u32, x: u32) -> u32
+    ensures { λ r. ⌜ r ≡ stepDownFrom c f x ⌝ }
+{
+    if f == 0 { 0 } else { lower(c, f, x) }
+}
+
+fn step_up(c: Settings, f: u32, s: Slots, a: Activity, x: f32) -> Scene
+    ensures { λ r. ⌜ r ≡ steppedUp c f s a x ⌝ }
+{
+    jump(c, s, a, step_up_from(c, f, level::rate_of(x)))
+}
+
+fn step_down(c: Settings, f: u32, s: Slots, a: Activity, x: f32) -> Scene
+    ensures { λ r. ⌜ r ≡ steppedDown c f s a x ⌝ }
+{
+    jump(c, s, a, step_down_from(c, f, level::rate_of(x)))
+}
+
+// ---- STOP and RELINQUISH
+
+fn greater(x: u32, y: u32) -> u32
+    ensures { λ r. ⌜ r ≡ max x y ⌝ }
+{
+    if x < y { y } else { x }
+}
+
+// 'the reached level, raised to Min if above zero'.
+fn raise(c: Settings, v: u32) -> u32
+    ensures { λ r. ⌜ r ≡ raised c v ⌝ }
+{
+    if v == 0 { 0 } else { greater(c.min, v) }
+}
+
+fn halt(c: Settings, f: u32, s: Slots) -> Scene
+    ensures { λ r. ⌜ r ≡ halted c f s ⌝ }
+{
+    Scene {
+        slots: slots::fill(s, c.slot, raise(c, f)),
+        activity: Activity::Still,
+    }
+}
+
+// 'if a movement belongs to p, it ends [..]. Else it changes no slot'.
+fn stop(c: Settings, f: u32, s: Slots, a: Activity) -> Scene
+    ensures { λ r. ⌜ r ≡ stopped c f s a ⌝ }
+{
+    match a {
+        Activity::Still => Scene {
+            slots: s,
+            activity: a,
+        },
+        Activity::Moving(m) => if m.owner == c.slot {
+            halt(c, f, s)
+        } else {
+            Scene {
+                slots: s,
+                activity: a,
+            }
+        },
+        Activity::Blink {
+            owner: _,
+            level: _,
+            turn: _,
+            over: _,
+        } => Scene {
+            slots: s,
+            activity: a,
+        },
+        Activity::Delay { owner: _, over: _ } => Scene {
+            slots: s,
+            activity: a,
+        },
+    }
+}
+
+// 'RELINQUISH empties slot p; if p owned the movement, it ends'.
+fn relinquish(c: Settings, s: Slots, a: Activity) -> Scene
+    ensures { λ r. ⌜ r ≡ relinquished c s a ⌝ }
+{
+    Scene {
+        slots: slots::empty(s, c.slot),
+        activity: passing::disown(c.slot, a),
+    }
+}
+
+// ---- a command
+
+fn make_scene(t: u64, c: Settings, f: u32, s: Slots, a: Activity, k: Operation) -> Scene
+    requires { ⌜ t < 2 ^ 48 ⌝ }
+    ensures { λ r. ⌜ r ≡ scene t c f s a k ⌝ }
+{
+    match k {
+        Operation::Stop => stop(c, f, s, a),
+        Operation::FadeTo(x) => moving::fade_to(t, c, f, s, a, x, c.fade),
+        Operation::FadeToOver(x, l) => moving::fade_to(t, c, f, s, a, x, l),
+        Operation::RampTo(x) => moving::ramp_to(t, c, f, s, a, x, c.ramp),
+        Operation::RampToAtRate(x, rate) => moving::ramp_to(t, c, f, s, a, x, rate),
+        Operation::StepUp => step_up(c, f, s, a, c.step),
+        Operation::StepDown => step_down(c, f, s, a, c.step),
+        Operation::StepUpBy(x) => step_up(c, f, s, a, x),
+        Operation::StepDownBy(x) => step_down(c, f, s, a, x),
+        Operation::Goto(x) => go_to(c, s, a, x),
+        Operation::Relinquish => relinquish(c, s, a),
+    }
+}
+
+// 'slot p empties d ms later': milliseconds, as they were sent.
+fn running(t: u64, p: u8, d: u32) -> Timer
+    requires { ⌜ t < 2 ^ 48 ⌝ }
+    ensures { λ r. ⌜ r ≡ Running p (t + d) ⌝ }
+{
+    Timer::Running {
+        slot: p,
+        due: t + d as u64,
+    }
+}
+
+// 'a new one replaces it, 0 cancels it, Absent leaves it running'.
+fn time(t: u64, p: u8, m: Timer, d: Duration) -> Timer
+    requires { ⌜ t < 2 ^ 48 ⌝ }
+    ensures { λ r. ⌜ r ≡ timed t p m d ⌝ }
+{
+    match d {
+        Duration::Lasts(l) => running(t, p, l),
+        Duration::Cancels => Timer::Off,
+        Duration::Omitted => m,
+    }
+}
+
+fn with_command(o: Output, n: Scene, m: Timer, k: Command) -> Output
+    ensures { λ r. ⌜ r ≡ withCommand o n m k ⌝ }
+{
+    let settings = o.settings;
+    let slots = n.slots;
+    let activity = n.activity;
+    Output {
+        settings,
+        slots,
+        activity,
+        timer: m,
+        burning: o.burning,
+        last: k,
+    }
+}
+
+fn command_from(t: u64, o: Output, f: u32, k: Command) -> Output
+    requires { ⌜ t < 2 ^ 48 ⌝ }
+    ensures { λ r. ⌜ r ≡ commandedFrom t o f k ⌝ }
+{
+    let c = o.settings;
+    let s = o.slots;
+    let a = o.activity;
+    let m = o.timer;
+    let operation = k.operation;
+    let duration = k.duration;
+    let n = make_scene(t, c, f, end_warning(s, a), without_warning(a), operation);
+    with_command(o, n, time(t, c.slot, m, duration), k)
+}
+
+// 'It starts from Progress_Value before it': not from Present_Value, at which a running movement only aims.
+pub fn command(t: u64, o: Output, k: Command) -> Output
+    requires { ⌜ t < 2 ^ 48 ⌝ }
+    ensures { λ r. ⌜ r ≡ commanded t o k ⌝ }
+{
+    command_from(t, o, value::progress_value(t, o), k)
+}

@@ -1,0 +1,22 @@
+use borrow.Author.Needs.{needs}
+use Rattle.conversions.proofs.bobbinonyx_amount.Statement.{statement}
+use Rattle.conversions.proofs.bobbinonyx_amount.Tie as tie
+use Rattle.conversions.proofs.bobbinonyx_amount.Reads as reads
+use Rattle.conversions.proofs.bobbinonyx_amount.Lts as lts
+use Rattle.level.proofs.amount_of.Reads as amount-of-reads
+use Rattle.level.proofs.units_or.Reads as units-or-reads
+
+-- src/lib.rt:24:33
+amount-of-requires : tie.Need-amount-of-requires
+amount-of-requires c κs = search needs
+
+-- src/lib.rt:24:5
+units-or-requires : tie.Need-units-or-requires
+units-or-requires c κs = search needs
+
+-- src/lib.rt:20:1
+returns : tie.Need-returns
+returns c = cc
+
+pub bobbinonyx-amount-spec : {M : Type 1} → statement M
+bobbinonyx-amount-spec = tie.close (tie.spec amount-of-requires units-or-requires returns)

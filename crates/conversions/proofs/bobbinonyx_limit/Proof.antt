@@ -1,0 +1,22 @@
+use borrow.Author.Needs.{needs}
+use Rattle.conversions.proofs.bobbinonyx_limit.Statement.{statement}
+use Rattle.conversions.proofs.bobbinonyx_limit.Tie as tie
+use Rattle.conversions.proofs.bobbinonyx_limit.Reads as reads
+use Rattle.conversions.proofs.bobbinonyx_limit.Lts as lts
+use Rattle.level.proofs.limit_of.Reads as limit-of-reads
+use Rattle.level.proofs.units_or.Reads as units-or-reads
+
+-- src/lib.rt:17:33
+limit-of-requires : tie.Need-limit-of-requires
+limit-of-requires c κs = search needs
+
+-- src/lib.rt:17:5
+units-or-requires : tie.Need-units-or-requires
+units-or-requires c κs = search needs
+
+-- src/lib.rt:13:1
+returns : tie.Need-returns
+returns c = cc
+
+pub bobbinonyx-limit-spec : {M : Type 1} → statement M
+bobbinonyx-limit-spec = tie.close (tie.spec limit-of-requires units-or-requires returns)

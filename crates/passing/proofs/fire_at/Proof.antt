@@ -1,0 +1,53 @@
+use Rattle.lighting.specs.Passing.{fire}
+use borrow.Author.Needs.{needs}
+use Rattle.passing.proofs.fire_at.Statement.{statement}
+use Rattle.passing.proofs.fire_at.Tie as tie
+use Rattle.passing.proofs.fire_at.Reads as reads
+use Rattle.passing.proofs.fire_at.Lts as lts
+use Rattle.passing.proofs.activity_at.Reads as activity-at-reads
+use Rattle.passing.proofs.expire.Reads as expire-reads
+use Rattle.passing.proofs.release.Reads as release-reads
+use Rattle.passing.proofs.settle.Reads as settle-reads
+use Rattle.passing.proofs.slots_at.Reads as slots-at-reads
+use Rattle.passing.proofs.timer_at.Reads as timer-at-reads
+
+-- src/lib.rt:176:9
+release-requires : tie.Need-release-requires
+release-requires c κs = search needs
+
+-- src/lib.rt:179:34
+expire-requires : tie.Need-expire-requires
+expire-requires c κs = search needs
+
+-- src/lib.rt:179:16
+slots-at-requires : tie.Need-slots-at-requires
+slots-at-requires c κs = search needs
+
+-- src/lib.rt:180:19
+activity-at-requires : tie.Need-activity-at-requires
+activity-at-requires c κs = search needs
+
+-- src/lib.rt:181:16
+timer-at-requires : tie.Need-timer-at-requires
+timer-at-requires c κs = search needs
+
+-- src/lib.rt:177:5
+settle-requires : tie.Need-settle-requires
+settle-requires c κs = search needs
+
+-- src/lib.rt:168:1
+returns : tie.Need-returns
+unfolding fire
+returns c = cc
+
+pub fire-at-spec : {M : Type 1} → statement M
+fire-at-spec =
+    tie.close
+    (tie.spec
+    release-requires
+    expire-requires
+    slots-at-requires
+    activity-at-requires
+    timer-at-requires
+    settle-requires
+    returns)

@@ -1,0 +1,29 @@
+use Rattle.lighting.specs.Passing.{gained}
+use borrow.Author.Needs.{needs}
+use Rattle.passing.proofs.gain.Statement.{statement}
+use Rattle.passing.proofs.gain.Tie as tie
+use Rattle.passing.proofs.gain.Reads as reads
+use Rattle.passing.proofs.gain.Lts as lts
+use Rattle.passing.proofs.added.Reads as added-reads
+use Rattle.passing.proofs.glow.Reads as glow-reads
+use Rattle.passing.proofs.with_burning.Reads as with-burning-reads
+
+-- src/lib.rt:50:38
+glow-requires : tie.Need-glow-requires
+glow-requires c κs = search needs
+
+-- src/lib.rt:50:21
+added-requires : tie.Need-added-requires
+added-requires c κs = search needs
+
+-- src/lib.rt:50:5
+with-burning-requires : tie.Need-with-burning-requires
+with-burning-requires c κs = search needs
+
+-- src/lib.rt:47:1
+returns : tie.Need-returns
+unfolding gained
+returns c = cc
+
+pub gain-spec : {M : Type 1} → statement M
+gain-spec = tie.close (tie.spec glow-requires added-requires with-burning-requires returns)

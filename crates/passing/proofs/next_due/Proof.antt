@@ -1,0 +1,30 @@
+use Rattle.lighting.specs.Passing.{due}
+use borrow.Author.Needs.{needs}
+use Rattle.passing.proofs.next_due.Statement.{statement}
+use Rattle.passing.proofs.next_due.Tie as tie
+use Rattle.passing.proofs.next_due.Reads as reads
+use Rattle.passing.proofs.next_due.Lts as lts
+use Rattle.passing.proofs.activity_due.Reads as activity-due-reads
+use Rattle.passing.proofs.least.Reads as least-reads
+use Rattle.passing.proofs.timer_due.Reads as timer-due-reads
+
+-- src/lib.rt:219:11
+timer-due-requires : tie.Need-timer-due-requires
+timer-due-requires c κs = search needs
+
+-- src/lib.rt:219:29
+activity-due-requires : tie.Need-activity-due-requires
+activity-due-requires c κs = search needs
+
+-- src/lib.rt:219:5
+least-requires : tie.Need-least-requires
+least-requires c κs = search needs
+
+-- src/lib.rt:214:1
+returns : tie.Need-returns
+unfolding due
+returns c = cc
+
+pub next-due-spec : {M : Type 1} → statement M
+next-due-spec =
+    tie.close (tie.spec timer-due-requires activity-due-requires least-requires returns)

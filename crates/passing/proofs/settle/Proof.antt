@@ -1,0 +1,15 @@
+use borrow.Author.Needs.{needs}
+use Rattle.lighting.proofs.Choosing.{ifs}
+use Rattle.lighting.specs.Passing.{settled}
+use Rattle.passing.proofs.settle.Statement.{statement}
+use Rattle.passing.proofs.settle.Tie as tie
+use Rattle.passing.proofs.settle.Reads as reads
+use Rattle.passing.proofs.settle.Lts as lts
+
+-- src/lib.rt:161:1
+returns : tie.Need-returns
+unfolding settled
+returns c = search (needs, ifs)
+
+pub settle-spec : {M : Type 1} → statement M
+settle-spec = tie.close (tie.spec returns)

@@ -1,0 +1,23 @@
+use Rattle.lighting.specs.Slots.{put}
+use borrow.Author.Needs.{needs}
+use Rattle.passing.proofs.warning_empty.Statement.{statement}
+use Rattle.passing.proofs.warning_empty.Tie as tie
+use Rattle.passing.proofs.warning_empty.Reads as reads
+use Rattle.passing.proofs.warning_empty.Lts as lts
+use Rattle.slots.proofs.empty.Reads as empty-reads
+
+-- src/lib.rt:129:18
+empty-requires : tie.Need-empty-requires
+empty-requires c κs = search needs
+
+-- src/lib.rt:129:5
+empty-requires-2 : tie.Need-empty-requires-2
+empty-requires-2 c κs = search needs
+
+-- src/lib.rt:126:1
+returns : tie.Need-returns
+unfolding put
+returns c = cc
+
+pub warning-empty-spec : {M : Type 1} → statement M
+warning-empty-spec = tie.close (tie.spec empty-requires empty-requires-2 returns)

@@ -1,0 +1,41 @@
+use Rattle.lighting.specs.Rules.{activitySound}
+use borrow.Author.Needs.{needs}
+use Rattle.rules.proofs.activity_sound.Statement.{statement}
+use Rattle.rules.proofs.activity_sound.Tie as tie
+use Rattle.rules.proofs.activity_sound.Reads as reads
+use Rattle.rules.proofs.activity_sound.Lts as lts
+use Rattle.rules.proofs.activity_by.Reads as activity-by-reads
+use Rattle.slots.proofs.is_live.Reads as is-live-reads
+use Rattle.slots.proofs.winning.Reads as winning-reads
+use Rattle.value.proofs.present_value.Reads as present-value-reads
+
+-- src/lib.rt:222:9
+is-live-requires : tie.Need-is-live-requires
+is-live-requires c κs = search needs
+
+-- src/lib.rt:223:9
+winning-requires : tie.Need-winning-requires
+winning-requires c κs = search needs
+
+-- src/lib.rt:225:9
+present-value-requires : tie.Need-present-value-requires
+present-value-requires c κs = search needs
+
+-- src/lib.rt:220:5
+activity-by-requires : tie.Need-activity-by-requires
+activity-by-requires c κs = search needs
+
+-- src/lib.rt:217:1
+returns : tie.Need-returns
+unfolding activitySound
+returns c = cc
+
+pub activity-sound-spec : {M : Type 1} → statement M
+activity-sound-spec =
+    tie.close
+    (tie.spec
+    is-live-requires
+    winning-requires
+    present-value-requires
+    activity-by-requires
+    returns)

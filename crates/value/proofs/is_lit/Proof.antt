@@ -1,0 +1,19 @@
+use Rattle.lighting.specs.Value.{lit}
+use borrow.Author.Needs.{needs}
+use Rattle.value.proofs.is_lit.Statement.{statement}
+use Rattle.value.proofs.is_lit.Tie as tie
+use Rattle.value.proofs.is_lit.Reads as reads
+use Rattle.value.proofs.is_lit.Lts as lts
+use Rattle.value.proofs.present_value.Reads as present-value-reads
+
+-- src/lib.rt:49:9
+present-value-requires : tie.Need-present-value-requires
+present-value-requires c κs = search needs
+
+-- src/lib.rt:46:1
+returns : tie.Need-returns
+unfolding lit
+returns c = cc
+
+pub is-lit-spec : {M : Type 1} → statement M
+is-lit-spec = tie.close (tie.spec present-value-requires returns)

@@ -1,0 +1,24 @@
+use Rattle.lighting.specs.Value.{presentValue}
+use borrow.Author.Needs.{needs}
+use Rattle.value.proofs.present_value.Statement.{statement}
+use Rattle.value.proofs.present_value.Tie as tie
+use Rattle.value.proofs.present_value.Reads as reads
+use Rattle.value.proofs.present_value.Lts as lts
+use Rattle.slots.proofs.top.Reads as top-reads
+use Rattle.value.proofs.bring.Reads as bring-reads
+
+-- src/lib.rt:43:14
+top-requires : tie.Need-top-requires
+top-requires c κs = search needs
+
+-- src/lib.rt:43:5
+bring-requires : tie.Need-bring-requires
+bring-requires c κs = search needs
+
+-- src/lib.rt:40:1
+returns : tie.Need-returns
+unfolding presentValue
+returns c = cc
+
+pub present-value-spec : {M : Type 1} → statement M
+present-value-spec = tie.close (tie.spec top-requires bring-requires returns)

@@ -1,0 +1,24 @@
+use Rattle.lighting.specs.Value.{reached}
+use borrow.Author.Needs.{needs}
+use Rattle.value.proofs.reached.Statement.{statement}
+use Rattle.value.proofs.reached.Tie as tie
+use Rattle.value.proofs.reached.Reads as reads
+use Rattle.value.proofs.reached.Lts as lts
+use Rattle.value.proofs.elapsed.Reads as elapsed-reads
+use Rattle.value.proofs.reached_by.Reads as reached-by-reads
+
+-- src/lib.rt:106:19
+elapsed-requires : tie.Need-elapsed-requires
+elapsed-requires c κs = search needs
+
+-- src/lib.rt:106:5
+reached-by-requires : tie.Need-reached-by-requires
+reached-by-requires c κs = search needs
+
+-- src/lib.rt:103:1
+returns : tie.Need-returns
+unfolding reached
+returns c = cc
+
+pub reached-spec : {M : Type 1} → statement M
+reached-spec = tie.close (tie.spec elapsed-requires reached-by-requires returns)

@@ -1,0 +1,25 @@
+use Rattle.lighting.proofs.Product.{below}
+use borrow.Author.Needs.{needs}
+use Rattle.value.proofs.run.Statement.{statement}
+use Rattle.value.proofs.run.Tie as tie
+use Rattle.value.proofs.run.Reads as reads
+use Rattle.value.proofs.run.Lts as lts
+
+-- src/lib.rt:77:13
+mul-n : tie.Need-mul-n
+mul-n c = record { fits = below 32 (search needs) (search needs) }
+
+-- src/lib.rt:78:23
+cast-result : tie.Need-cast-result
+cast-result c = search needs
+
+-- src/lib.rt:74:1
+returns : tie.Need-returns
+returns c = search needs
+
+-- src/lib.rt:74:1
+returns-2 : tie.Need-returns-2
+returns-2 c = search needs
+
+pub run-spec : {M : Type 1} → statement M
+run-spec = tie.close (tie.spec mul-n cast-result returns returns-2)

@@ -1,0 +1,21 @@
+-- `writing::end_empty` meets its contract. Assumes nothing.
+use Rattle.lighting.specs.Writing.{endedEmpty}
+use borrow.Author.Needs.{needs}
+use Rattle.writing.proofs.end_empty.Statement.{statement}
+use Rattle.writing.proofs.end_empty.Tie as tie
+
+empty-requires : tie.Need-empty-requires
+empty-requires c κs = search needs
+
+empty-requires-2 : tie.Need-empty-requires-2
+empty-requires-2 c κs = search needs
+
+with-scene-requires : tie.Need-with-scene-requires
+with-scene-requires c κs = search needs
+
+returns : tie.Need-returns
+unfolding endedEmpty
+returns c = cc
+
+pub end-empty-spec : {M : Type 1} → statement M
+end-empty-spec = tie.close (tie.spec empty-requires empty-requires-2 with-scene-requires returns)

@@ -1,0 +1,21 @@
+-- `writing::end_store` meets its contract. Assumes nothing.
+use Rattle.lighting.specs.Writing.{endedStored}
+use borrow.Author.Needs.{needs}
+use Rattle.writing.proofs.end_store.Statement.{statement}
+use Rattle.writing.proofs.end_store.Tie as tie
+
+empty-requires : tie.Need-empty-requires
+empty-requires c κs = search needs
+
+fill-requires : tie.Need-fill-requires
+fill-requires c κs = search needs
+
+with-scene-requires : tie.Need-with-scene-requires
+with-scene-requires c κs = search needs
+
+returns : tie.Need-returns
+unfolding endedStored
+returns c = cc
+
+pub end-store-spec : {M : Type 1} → statement M
+end-store-spec = tie.close (tie.spec empty-requires fill-requires with-scene-requires returns)

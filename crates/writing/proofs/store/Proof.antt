@@ -1,0 +1,21 @@
+-- `writing::store` meets its contract. Assumes nothing.
+use Rattle.lighting.specs.Writing.{stored}
+use borrow.Author.Needs.{needs}
+use Rattle.writing.proofs.store.Statement.{statement}
+use Rattle.writing.proofs.store.Tie as tie
+
+fill-requires : tie.Need-fill-requires
+fill-requires c κs = search needs
+
+pass-over-requires : tie.Need-pass-over-requires
+pass-over-requires c κs = search needs
+
+with-scene-requires : tie.Need-with-scene-requires
+with-scene-requires c κs = search needs
+
+returns : tie.Need-returns
+unfolding stored
+returns c = cc
+
+pub store-spec : {M : Type 1} → statement M
+store-spec = tie.close (tie.spec fill-requires pass-over-requires with-scene-requires returns)

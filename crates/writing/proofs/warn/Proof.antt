@@ -1,0 +1,18 @@
+-- `writing::warn` meets its contract. Assumes nothing.
+use Rattle.lighting.specs.Writing.{warned}
+use borrow.Author.Needs.{needs}
+use Rattle.writing.proofs.warn.Statement.{statement}
+use Rattle.writing.proofs.warn.Tie as tie
+
+present-value-requires : tie.Need-present-value-requires
+present-value-requires c κs = search needs
+
+warn-by-requires : tie.Need-warn-by-requires
+warn-by-requires c κs = search needs
+
+returns : tie.Need-returns
+unfolding warned
+returns c = cc
+
+pub warn-spec : {M : Type 1} → statement M
+warn-spec = tie.close (tie.spec present-value-requires warn-by-requires returns)

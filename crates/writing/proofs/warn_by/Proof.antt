@@ -1,0 +1,35 @@
+-- `writing::warn_by` meets its contract. Assumes nothing.
+use Rattle.lighting.specs.Writing.{warnedBy}
+use borrow.Author.Needs.{needs}
+use Rattle.writing.proofs.warn_by.Statement.{statement}
+use Rattle.writing.proofs.warn_by.Tie as tie
+
+fill-requires : tie.Need-fill-requires
+fill-requires c κs = search needs
+
+first-level-requires : tie.Need-first-level-requires
+first-level-requires c κs = search needs
+
+fill-requires-2 : tie.Need-fill-requires-2
+fill-requires-2 c κs = search needs
+
+first-phase-requires : tie.Need-first-phase-requires
+first-phase-requires c κs = search needs
+
+with-scene-requires : tie.Need-with-scene-requires
+with-scene-requires c κs = search needs
+
+returns : tie.Need-returns
+unfolding warnedBy
+returns c = cc
+
+pub warn-by-spec : {M : Type 1} → statement M
+warn-by-spec =
+    tie.close
+    (tie.spec
+    fill-requires
+    first-level-requires
+    fill-requires-2
+    first-phase-requires
+    with-scene-requires
+    returns)

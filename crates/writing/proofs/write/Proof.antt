@@ -1,0 +1,15 @@
+-- `writing::write` meets its contract. Assumes nothing.
+use Rattle.lighting.specs.Writing.{written}
+use borrow.Author.Needs.{needs}
+use Rattle.writing.proofs.write.Statement.{statement}
+use Rattle.writing.proofs.write.Tie as tie
+
+write-by-requires : tie.Need-write-by-requires
+write-by-requires c κs = search needs
+
+returns : tie.Need-returns
+unfolding written
+returns c = cc
+
+pub write-spec : {M : Type 1} → statement M
+write-spec = tie.close (tie.spec write-by-requires returns)

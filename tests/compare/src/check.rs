@@ -1,0 +1,101 @@
+//! One list, without and with copies, against the plain panel.
+
+use generator::copies::{with_copies, WithCopies};
+use generator::{generate, List, Random};
+use panels::list_text::write_list;
+
+use crate::arguments::Arguments;
+use crate::expectation::Expectation;
+use crate::lockstep::check_in_lockstep;
+use crate::subject::Subject;
+use crate::totals::Totals;
+
+/// The words of the first difference, with the seed and the written list.
+pub fn check_list(arguments: &Arguments, seed: u64, totals: &mut Totals) -> Result<(), String> {
+    let mut random = Random::from_seed(!seed);
+    let own_length = own_length(&mut random);
+    let list = generate(seed, arguments.list_length.unwrap_or(own_length));
+    let text = write_list(list.outputs, &list.frames);
+    let with_copies = with_copies(&mut random, &list.frames);
+    let text_with_copies = write_list(list.outputs, &with_copies.frames);
+
+    let run = arguments.subject.start(text.clone())?;
+    let expectation = Expectation::new(&list.answers, &list.panel);
+    let written = run
+        .finish(arguments.patience)
+        .and_then(|written| {
+            expectation.compare(&written, &list.frames)?;
+            Ok(written)
+        })
+        .map_err(|difference| report(seed, "", &text, &difference))?;
+
+    let run = arguments.subject.start(text_with_copies.clone())?;
+    let (answers, panel) = live(list.outputs, &with_copies.frames);
+    let expectation_with_copies = Expectation::new(&answers, &panel);
+    run.finish(arguments.patience)
+        .and_then(|written_with_copies| {
+            expectation_with_copies.compare(&written_with_copies, &with_copies.frames)?;
+            copies_change_nothing(&written, &written_with_copies, &list, &with_copies)
+        })
+        .map_err(|difference| report(seed, "-with-copies", &text_with_copies, &difference))?;
+
+    if let Subject::FastPanel = arguments.subject {
+        check_in_lockstep(list.outputs, &list.frames)
+            .map_err(|difference| report(seed, "", &text, &difference))?;
+    }
+
+    totals.add(&list, with_copies.frames.len());
+    Ok(())
+}
+
+/// Many short lists show what is found in the middle of things; long ones
+/// build up more.
+fn own_length(random: &mut Random) -> usize {
+    let length = if random.chance(40) {
+        random.between(1, 120)
+    } else {
+        random.between(500, 3_000)
+    };
+    length as usize
+}
+
+/// The plain panel over the list with copies.
+fn live(outputs: usize, frames: &[Vec<u8>]) -> (Vec<plain::Answer>, plain::Panel) {
+    let mut panel = plain::Panel::start(outputs);
+    let answers = frames.iter().map(|bytes| panel.frame(bytes)).collect();
+    (answers, panel)
+}
+
+/// What the subject wrote for the list with copies, the answers to the copies
+/// left out, is what it wrote for the list without them.
+fn copies_change_nothing(
+    written: &str,
+    written_with_copies: &str,
+    list: &List,
+    with_copies: &WithCopies,
+) -> Result<(), String> {
+    let mut lines = written_with_copies.lines();
+    let answers_to_originals = lines
+        .by_ref()
+        .take(with_copies.frames.len())
+        .zip(&with_copies.is_original)
+        .filter(|(_, is_original)| **is_original)
+        .map(|(line, _)| line);
+    let answers = written.lines().take(list.frames.len());
+    if !answers_to_originals.eq(answers) {
+        return Err("copies change the answer to another frame".to_string());
+    }
+    if !lines.eq(written.lines().skip(list.frames.len())) {
+        return Err("copies change what is found".to_string());
+    }
+    Ok(())
+}
+
+fn report(seed: u64, ending: &str, list: &str, difference: &str) -> String {
+    let file = format!("difference-{seed}{ending}.list");
+    let kept = match std::fs::write(&file, list) {
+        Ok(()) => format!("the list is in {file}"),
+        Err(error) => format!("{file} cannot be written: {error}"),
+    };
+    format!("DIFFERENCE with seed {seed}; {kept}\n{difference}")
+}

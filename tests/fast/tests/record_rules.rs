@@ -1,0 +1,162 @@
+//! Refusal 1: each record rule broken once, with everything left as it was.
+
+use fast::answer::Refusal;
+use fast::output::{Movement, Pace, RunningDuration, Warning};
+use fast::{frame, start, Answer, Output, Station, STATIONS};
+
+const TIME: u64 = 10_000;
+const FIFTY_PERCENT: u32 = 3_276_800;
+const CLOCK: [u8; 7] = [0x01, 0, 0, 0, 0, 0x4E, 0x20];
+const REFUSED: Answer = Answer::Refused(Refusal::Records);
+
+/// The answer to a clock of 20,000 ms after a change to a table of records at
+/// 10,000 ms that keep all rules.
+fn answer_after(change: impl Fn(&mut Output, &mut Station)) -> Answer {
+    let mut outputs = [Output::FRESH; 3];
+    let mut stations = [Station::FRESH; STATIONS];
+    let mut time = TIME;
+    change(&mut outputs[1], &mut stations[5]);
+    let before = format!("{outputs:?} {stations:?} {time}");
+    let answer = frame::<true>(&mut outputs, &mut stations, &mut time, &CLOCK);
+    if answer == REFUSED {
+        assert_eq!(format!("{outputs:?} {stations:?} {time}"), before);
+    }
+    answer
+}
+
+fn refused(change: impl Fn(&mut Output)) {
+    assert_eq!(answer_after(|output, _| change(output)), REFUSED);
+}
+
+fn taken(change: impl Fn(&mut Output)) {
+    assert_eq!(answer_after(|output, _| change(output)), Answer::Done);
+}
+
+fn move_slot_eight(output: &mut Output, change: impl Fn(&mut Movement)) {
+    output.store(8, FIFTY_PERCENT);
+    let mut movement = Movement {
+        owner: 8,
+        from: 0,
+        to: FIFTY_PERCENT,
+        began: TIME - 100,
+        length: 101,
+        pace: Pace::Fade,
+    };
+    change(&mut movement);
+    output.movement = Some(movement);
+}
+
+fn warn_at_slot_nine(output: &mut Output, change: impl Fn(&mut Warning)) {
+    output.store(6, 0);
+    output.store(9, 0);
+    let mut warning = Warning {
+        slot: 9,
+        level: FIFTY_PERCENT,
+        turn: TIME + 1,
+        end: TIME + 2,
+    };
+    change(&mut warning);
+    output.warning = Some(warning);
+}
+
+#[test]
+fn counts() {
+    for (count, expected) in [
+        (0, REFUSED),
+        (1, Answer::Done),
+        (64, Answer::Done),
+        (65, REFUSED),
+    ] {
+        let mut outputs = vec![Output::FRESH; count];
+        let mut stations = [Station::FRESH; STATIONS];
+        let mut time = 7;
+        assert_eq!(start(&mut outputs, &mut stations, &mut time), expected);
+        assert_eq!(time, if expected == REFUSED { 7 } else { 0 });
+        let answer = frame::<true>(&mut outputs, &mut stations, &mut time, &CLOCK);
+        assert_eq!(answer, expected);
+    }
+}
+
+#[test]
+fn settings() {
+    taken(|_| {});
+    refused(|output| output.settings.relinquish_default = 65_535);
+    refused(|output| output.settings.relinquish_default = 6_553_601);
+    refused(|output| output.settings.fade_time = 99);
+    refused(|output| output.settings.fade_time = 86_400_001);
+    refused(|output| output.settings.ramp_rate = f32::NAN);
+    refused(|output| output.settings.ramp_rate = 0.124_999_99);
+    refused(|output| output.settings.step_increment = 100.000_01);
+    refused(|output| output.settings.blink_time = 86_400_001);
+    refused(|output| output.settings.blink_warn_delay = 86_400_001);
+    refused(|output| output.settings.minimum = 65_535);
+    refused(|output| output.settings.maximum = 6_553_601);
+    refused(|output| (output.settings.minimum, output.settings.maximum) = (65_537, 65_536));
+    taken(|output| (output.settings.minimum, output.settings.maximum) = (65_537, 65_537));
+    for priority in [0, 6, 17] {
+        refused(|output| output.settings.command_priority = priority);
+    }
+}
+
+#[test]
+fn slots_and_burning_time() {
+    refused(|output| output.store(3, 1));
+    refused(|output| output.store(3, 6_553_601));
+    taken(|output| output.levels[2] = 1);
+    refused(|output| output.store(6, 0));
+    taken(|output| output.burning = TIME);
+    refused(|output| output.burning = TIME + 1);
+}
+
+#[test]
+fn movements() {
+    taken(|output| move_slot_eight(output, |_| {}));
+    refused(|output| move_slot_eight(output, |movement| movement.owner = 9));
+    refused(|output| move_slot_eight(output, |movement| movement.from = 6_553_601));
+    taken(|output| move_slot_eight(output, |movement| movement.from = 6_553_600));
+    refused(|output| move_slot_eight(output, |movement| movement.to = 65_536));
+    refused(|output| move_slot_eight(output, |movement| movement.began = TIME + 1));
+    refused(|output| move_slot_eight(output, |movement| movement.length = 0));
+    refused(|output| move_slot_eight(output, |movement| movement.length = 100));
+    refused(|output| move_slot_eight(output, |movement| movement.length = 86_400_001));
+    refused(|output| {
+        move_slot_eight(output, |movement| movement.owner = 6);
+        warn_at_slot_nine(output, |warning| warning.level = 0);
+    });
+}
+
+#[test]
+fn warnings_and_durations() {
+    taken(|output| warn_at_slot_nine(output, |_| {}));
+    refused(|output| {
+        warn_at_slot_nine(output, |_| {});
+        output.empty(6);
+    });
+    refused(|output| warn_at_slot_nine(output, |warning| warning.slot = 6));
+    refused(|output| warn_at_slot_nine(output, |warning| warning.slot = 17));
+    refused(|output| warn_at_slot_nine(output, |warning| warning.level = 1));
+    taken(|output| warn_at_slot_nine(output, |warning| warning.level = 0));
+    refused(|output| warn_at_slot_nine(output, |warning| warning.end = TIME));
+    for (slot, end, good) in [(16, 1, true), (16, 0, false), (6, 1, false), (0, 1, false)] {
+        let duration = RunningDuration {
+            slot,
+            end: TIME + end,
+        };
+        let answer = answer_after(|output, _| output.duration = Some(duration));
+        assert_eq!(answer == Answer::Done, good);
+    }
+}
+
+#[test]
+fn stations() {
+    let with_kind = |number, kind| {
+        answer_after(|_, station| {
+            station.number = number;
+            station.frame[0] = kind;
+        })
+    };
+    assert_eq!(with_kind(0, 0xFF), Answer::Done);
+    assert_eq!(with_kind(1, 0x02), Answer::Done);
+    assert_eq!(with_kind(1, 0x01), REFUSED);
+    assert_eq!(with_kind(1, 0x06), REFUSED);
+}

@@ -1,0 +1,226 @@
+//! Which edges of which fields a list has tried.
+
+use plain::event::Tally;
+use plain::frame::*;
+use plain::settings::*;
+
+#[derive(Clone, Copy, Debug, PartialEq, Eq, PartialOrd, Ord)]
+pub enum RealField {
+    WrittenLevel,
+    CommandLevel,
+    CommandRate,
+    CommandStep,
+    RelinquishDefault,
+    RampRate,
+    StepIncrement,
+    Minimum,
+    Maximum,
+}
+
+#[derive(Clone, Copy, Debug, PartialEq, Eq, PartialOrd, Ord)]
+pub enum RealEdge {
+    Zero,
+    MinusZero,
+    Subnormal,
+    JustBelowEighth,
+    Eighth,
+    JustAboveEighth,
+    JustBelowOne,
+    One,
+    JustAboveOne,
+    JustBelowHalfUnit,
+    HalfUnit,
+    JustAboveHalfUnit,
+    JustBelowHundred,
+    Hundred,
+    JustAboveHundred,
+    Infinity,
+    MinusInfinity,
+    NotANumber,
+    NegativeSubnormal,
+    Negative,
+}
+
+#[derive(Clone, Copy, Debug, PartialEq, Eq, PartialOrd, Ord)]
+pub enum WholeField {
+    Duration,
+    CommandFadeTime,
+    FadeTime,
+    BlinkEnable,
+    BlinkTime,
+    BlinkWarnDelay,
+    ElapsedActiveTime,
+}
+
+#[derive(Clone, Copy, Debug, PartialEq, Eq, PartialOrd, Ord)]
+pub enum Boundary {
+    Real { field: RealField, edge: RealEdge },
+    Whole { field: WholeField, value: u32 },
+    WritePriority(u8),
+    EmptyPriority(u8),
+    CommandPriority(u32),
+}
+
+const REAL_FIELDS: [RealField; 9] = [
+    RealField::WrittenLevel,
+    RealField::CommandLevel,
+    RealField::CommandRate,
+    RealField::CommandStep,
+    RealField::RelinquishDefault,
+    RealField::RampRate,
+    RealField::StepIncrement,
+    RealField::Minimum,
+    RealField::Maximum,
+];
+
+const REAL_EDGES: [RealEdge; 20] = [
+    RealEdge::Zero,
+    RealEdge::MinusZero,
+    RealEdge::Subnormal,
+    RealEdge::JustBelowEighth,
+    RealEdge::Eighth,
+    RealEdge::JustAboveEighth,
+    RealEdge::JustBelowOne,
+    RealEdge::One,
+    RealEdge::JustAboveOne,
+    RealEdge::JustBelowHalfUnit,
+    RealEdge::HalfUnit,
+    RealEdge::JustAboveHalfUnit,
+    RealEdge::JustBelowHundred,
+    RealEdge::Hundred,
+    RealEdge::JustAboveHundred,
+    RealEdge::Infinity,
+    RealEdge::MinusInfinity,
+    RealEdge::NotANumber,
+    RealEdge::NegativeSubnormal,
+    RealEdge::Negative,
+];
+
+const WHOLE_FIELDS: [WholeField; 7] = [
+    WholeField::Duration,
+    WholeField::CommandFadeTime,
+    WholeField::FadeTime,
+    WholeField::BlinkEnable,
+    WholeField::BlinkTime,
+    WholeField::BlinkWarnDelay,
+    WholeField::ElapsedActiveTime,
+];
+
+/// Values of property 0A that only a look at all 32 bits tells apart.
+pub const WIDE_PRIORITIES: [u32; 6] = [
+    17,
+    0x0000_0100,
+    0x0000_0101,
+    0x0001_0010,
+    0x8000_0001,
+    0xFFFF_FFFF,
+];
+
+/// Every edge that a thorough set of lists must try.
+pub fn expected() -> Vec<Boundary> {
+    let mut boundaries = Vec::new();
+    for field in REAL_FIELDS {
+        boundaries.extend(REAL_EDGES.map(|edge| Boundary::Real { field, edge }));
+    }
+    for field in WHOLE_FIELDS {
+        boundaries.extend(crate::values::EDGE_TIMES.map(|value| Boundary::Whole { field, value }));
+    }
+    for priority in (0..=17).chain([255]) {
+        boundaries.push(Boundary::WritePriority(priority));
+        boundaries.push(Boundary::EmptyPriority(priority));
+    }
+    for priority in (0..=16).chain(WIDE_PRIORITIES) {
+        boundaries.push(Boundary::CommandPriority(priority));
+    }
+    boundaries
+}
+
+/// The edge that a REAL stands on, if any.
+fn real_edge(bits: u32) -> Option<RealEdge> {
+    let real = f32::from_bits(bits);
+    let half_unit = |bits: u32| (f64::from(f32::from_bits(bits)) * 65_536.0).fract() == 0.5;
+    Some(match bits {
+        0x0000_0000 => RealEdge::Zero,
+        0x8000_0000 => RealEdge::MinusZero,
+        0x3DFF_FFFF => RealEdge::JustBelowEighth,
+        0x3E00_0000 => RealEdge::Eighth,
+        0x3E00_0001 => RealEdge::JustAboveEighth,
+        0x3F7F_FFFF => RealEdge::JustBelowOne,
+        0x3F80_0000 => RealEdge::One,
+        0x3F80_0001 => RealEdge::JustAboveOne,
+        0x42C7_FFFF => RealEdge::JustBelowHundred,
+        0x42C8_0000 => RealEdge::Hundred,
+        0x42C8_0001 => RealEdge::JustAboveHundred,
+        0x7F80_0000 => RealEdge::Infinity,
+        0xFF80_0000 => RealEdge::MinusInfinity,
+        _ if real.is_nan() => RealEdge::NotANumber,
+        _ if real.is_subnormal() && real > 0.0 => RealEdge::Subnormal,
+        _ if real.is_subnormal() => RealEdge::NegativeSubnormal,
+        _ if real < 0.0 => RealEdge::Negative,
+        _ if real > 100.0 => return None,
+        _ if half_unit(bits) => RealEdge::HalfUnit,
+        _ if half_unit(bits + 1) => RealEdge::JustBelowHalfUnit,
+        _ if half_unit(bits - 1) => RealEdge::JustAboveHalfUnit,
+        _ => return None,
+    })
+}
+
+/// Counts the edges in the fields of a first arrival.
+pub fn count_edges(tally: &mut Tally<Boundary>, bytes: &[u8]) {
+    let real = |tally: &mut Tally<Boundary>, field, bits| {
+        if let Some(edge) = real_edge(bits) {
+            tally.count(Boundary::Real { field, edge });
+        }
+    };
+    let whole = |tally: &mut Tally<Boundary>, field, value| {
+        if crate::values::EDGE_TIMES.contains(&value) {
+            tally.count(Boundary::Whole { field, value });
+        }
+    };
+    let kind = bytes[0];
+    match kind {
+        WRITE_PRESENT_VALUE => {
+            tally.count(Boundary::WritePriority(byte_field(bytes)));
+            real(tally, RealField::WrittenLevel, value_field(bytes));
+        }
+        EMPTY_A_SLOT => tally.count(Boundary::EmptyPriority(byte_field(bytes))),
+        WRITE_PROPERTY => {
+            let value = value_field(bytes);
+            match byte_field(bytes) {
+                RELINQUISH_DEFAULT => real(tally, RealField::RelinquishDefault, value),
+                FADE_TIME => whole(tally, WholeField::FadeTime, value),
+                RAMP_RATE => real(tally, RealField::RampRate, value),
+                STEP_INCREMENT => real(tally, RealField::StepIncrement, value),
+                BLINK_ENABLE => whole(tally, WholeField::BlinkEnable, value),
+                BLINK_TIME => whole(tally, WholeField::BlinkTime, value),
+                BLINK_WARN_DELAY => whole(tally, WholeField::BlinkWarnDelay, value),
+                MINIMUM => real(tally, RealField::Minimum, value),
+                MAXIMUM => real(tally, RealField::Maximum, value),
+                LIGHTING_COMMAND_PRIORITY if value <= 16 || WIDE_PRIORITIES.contains(&value) => {
+                    tally.count(Boundary::CommandPriority(value));
+                }
+                ELAPSED_ACTIVE_TIME => whole(tally, WholeField::ElapsedActiveTime, value),
+                _ => {}
+            }
+        }
+        STOP..=RELINQUISH => {
+            let duration = command_field(bytes, (bytes.len() - 17) / 4);
+            whole(tally, WholeField::Duration, duration);
+            match kind {
+                FADE_TO | FADE_TO_OVER | RAMP_TO | RAMP_TO_AT_RATE | GOTO => {
+                    real(tally, RealField::CommandLevel, command_field(bytes, 0));
+                }
+                STEP_UP_BY | STEP_DOWN_BY => {
+                    real(tally, RealField::CommandStep, command_field(bytes, 0));
+                }
+                _ => {}
+            }
+            match kind {
+                FADE_TO_OVER => whole(tally, WholeField::CommandFadeTime, command_field(bytes, 1)),
+                RAMP_TO_AT_RATE => real(tally, RealField::CommandRate, command_field(bytes, 1)),
+                _ => {}
+            }
+        }
+        _ => {}
+    }
+}

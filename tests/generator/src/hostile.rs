@@ -1,0 +1,171 @@
+//! Copies, and frames that refusals 2 to 8 turn down.
+
+use plain::frame::{length_of_kind, ALL_KINDS};
+
+use crate::body::{clock, Body};
+use crate::list::{Generator, Planned};
+use crate::timing::When;
+
+const UNKNOWN_KINDS: [u8; 10] = [0x00, 0x06, 0x07, 0x0F, 0x1B, 0x1C, 0x20, 0x80, 0x91, 0xFF];
+
+impl Generator {
+    /// A copy of a station's latest first arrival, or of any earlier frame.
+    pub(crate) fn copy_of_earlier(&mut self) -> Vec<u8> {
+        let station = self.random.below(8) as u8;
+        let wanted = self.random.below(10);
+        let latest = self.panel.latest_of_station(station);
+        let last_arrival = self.panel.first_arrivals().last();
+        let copied = match wanted {
+            0..=3 => latest,
+            4..=6 => last_arrival,
+            _ => None,
+        };
+        if let Some(arrival) = copied {
+            return arrival.bytes.clone();
+        }
+        if self.frames.is_empty() {
+            return Vec::new();
+        }
+        let index = self.random.below(self.frames.len() as u64) as usize;
+        self.frames[index].clone()
+    }
+
+    /// A good frame with one thing spoilt, and often a second one, so that the
+    /// order of the refusals shows.
+    pub(crate) fn hostile_frame(&mut self) -> Vec<u8> {
+        let output = self.some_output();
+        let body = self.any_body(output);
+        let mut bytes = self.frame_of(&Planned {
+            output,
+            body,
+            when: When::Whenever,
+        });
+        self.spoil(&mut bytes);
+        if self.random.chance(35) {
+            self.spoil(&mut bytes);
+        }
+        bytes
+    }
+
+    fn spoil(&mut self, bytes: &mut Vec<u8>) {
+        let whole_head = bytes.len() >= 13;
+        match self.random.below(12) {
+            0 => bytes.clear(),
+            1 => self.spoil_kind(bytes),
+            2 | 3 => self.spoil_length(bytes),
+            4 if whole_head => bytes[1] = self.random.pick(&[8, 9, 16, 127, 128, 255]),
+            5 if whole_head => bytes[2..6].fill(0),
+            6 if whole_head => {
+                let outputs = self.panel.outputs().len() as u8;
+                bytes[12] = self.random.pick(&[outputs, outputs + 1, 64, 128, 255]);
+            }
+            7 if whole_head => self.take_latest_number(bytes),
+            8 if whole_head => self.take_older_number(bytes),
+            9 | 10 if whole_head => self.make_late(bytes),
+            11 => *bytes = self.late_clock(),
+            _ => self.spoil_length(bytes),
+        }
+    }
+
+    fn spoil_kind(&mut self, bytes: &mut Vec<u8>) {
+        let kind = match self.random.below(3) {
+            0 => self.random.pick(&UNKNOWN_KINDS),
+            1 => self.random.bits() as u8,
+            _ => self.random.pick(&ALL_KINDS),
+        };
+        match bytes.first_mut() {
+            Some(first) => *first = kind,
+            None => bytes.push(kind),
+        }
+    }
+
+    /// Too short or too long, by one byte or by many.
+    fn spoil_length(&mut self, bytes: &mut Vec<u8>) {
+        if self.random.chance(30) {
+            *bytes = vec![self.random.pick(&ALL_KINDS)];
+        }
+        let length = bytes
+            .first()
+            .and_then(|kind| length_of_kind(*kind))
+            .unwrap_or(7);
+        let wrong = match self.random.below(8) {
+            0 | 1 => length - 1,
+            2 | 3 => length + 1,
+            4 => self.random.between(1, length as u64 - 1) as usize,
+            5 => self.random.between(length as u64 + 1, 40) as usize,
+            6 => self.random.pick(&[7, 13, 14, 17, 18, 21, 25, 26]),
+            _ if self.random.one_in(20) => self.random.between(100, 3_000) as usize,
+            _ => length + 1,
+        };
+        let filling = self.random.bits() as u8;
+        bytes.resize(wrong, filling);
+    }
+
+    /// "Station's last number, other bytes" - or the same, which is a copy.
+    fn take_latest_number(&mut self, bytes: &mut Vec<u8>) {
+        let station = self.random.below(8) as u8;
+        let Some(latest) = self.panel.latest_of_station(station) else {
+            return;
+        };
+        if self.random.chance(50) {
+            bytes[1] = station;
+            bytes[2..6].copy_from_slice(&latest.number.to_be_bytes());
+        } else {
+            // All but one bit of the frame that the station keeps, though not
+            // of its kind, station and number.
+            *bytes = latest.bytes.clone();
+            let places = bytes.len() as u64;
+            let place = self.random.between(6, places - 1) as usize;
+            bytes[place] ^= 1 << self.random.below(8);
+        }
+    }
+
+    fn take_older_number(&mut self, bytes: &mut [u8]) {
+        let station = self.random.below(8) as u8;
+        let Some(latest) = self.panel.latest_of_station(station) else {
+            return;
+        };
+        let number = latest.number;
+        if number > 1 {
+            let older = match self.random.below(2) {
+                0 => number - 1,
+                _ => self.random.between(1, u64::from(number) - 1) as u32,
+            };
+            bytes[1] = station;
+            bytes[2..6].copy_from_slice(&older.to_be_bytes());
+        }
+    }
+
+    fn earlier_time(&mut self) -> u64 {
+        let now = self.panel.time();
+        match self.random.below(3) {
+            _ if now == 0 => 0,
+            0 => now - 1,
+            1 => 0,
+            _ => self.random.below(now),
+        }
+    }
+
+    fn make_late(&mut self, bytes: &mut [u8]) {
+        let time = self.earlier_time();
+        bytes[6..12].copy_from_slice(&time.to_be_bytes()[2..]);
+    }
+
+    fn late_clock(&mut self) -> Vec<u8> {
+        clock(self.earlier_time())
+    }
+
+    /// A body of any kind with any values.
+    pub(crate) fn any_body(&mut self, output: u8) -> Body {
+        match self.random.below(100) {
+            0..=19 => self.any_write(),
+            20..=29 => self.any_emptying(),
+            30..=49 => self.any_property_write(output),
+            50..=64 => self.any_read(),
+            _ => {
+                let kind = self.random.pick(&plain::frame::ALL_COMMANDS);
+                self.any_command(kind)
+            }
+        }
+    }
+}

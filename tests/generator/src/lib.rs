@@ -1,0 +1,16 @@
+//! Lists for the panels: hostile ones from a seed, and streams to time.
+
+pub mod body;
+pub mod boundary;
+pub mod copies;
+pub mod hostile;
+pub mod list;
+pub mod random;
+pub mod scenes;
+pub mod scripts;
+pub mod stream;
+pub mod timing;
+pub mod values;
+
+pub use list::{generate, List};
+pub use random::Random;

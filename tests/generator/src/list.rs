@@ -1,0 +1,174 @@
+//! Making a list, with the plain panel beside it to aim by.
+
+use std::collections::VecDeque;
+
+use plain::event::Tally;
+use plain::{Answer, Panel};
+
+use crate::body::{clock, Body, Head};
+use crate::boundary::{count_edges, Boundary};
+use crate::random::Random;
+use crate::timing::When;
+
+/// A list with what the plain panel answered and what it is left with.
+pub struct List {
+    pub outputs: usize,
+    pub frames: Vec<Vec<u8>>,
+    pub answers: Vec<Answer>,
+    pub panel: Panel,
+    pub boundaries: Tally<Boundary>,
+}
+
+/// A frame to come; head and time are made when its turn is there.
+#[derive(Clone, Debug)]
+pub struct Planned {
+    pub output: u8,
+    pub body: Body,
+    pub when: When,
+}
+
+pub struct Generator {
+    pub(crate) random: Random,
+    pub(crate) panel: Panel,
+    pub(crate) frames: Vec<Vec<u8>>,
+    answers: Vec<Answer>,
+    boundaries: Tally<Boundary>,
+    /// Milliseconds that outputs may still have to live one by one.
+    pub(crate) budget: u64,
+    /// Outputs that most frames go to, so that something builds up there.
+    favourites: Vec<u8>,
+    pub(crate) plan: VecDeque<Planned>,
+}
+
+/// Most lists are quick to live; one in a hundred may live whole days.
+const USUAL_BUDGET: u64 = 2_000_000;
+const GREAT_BUDGET: u64 = 350_000_000;
+
+/// Makes the list of `length` frames that belongs to the seed.
+pub fn generate(seed: u64, length: usize) -> List {
+    let mut generator = Generator::new(seed);
+    while generator.frames.len() < length {
+        let bytes = generator.next_frame();
+        generator.send(bytes);
+    }
+    List {
+        outputs: generator.panel.outputs().len(),
+        frames: generator.frames,
+        answers: generator.answers,
+        panel: generator.panel,
+        boundaries: generator.boundaries,
+    }
+}
+
+impl Generator {
+    fn new(seed: u64) -> Generator {
+        let mut random = Random::from_seed(seed);
+        let great = random.one_in(100);
+        let outputs = match random.below(10) {
+            _ if great => random.between(1, 2),
+            // Every number of outputs has its turn in 256 seeds.
+            _ if seed.is_multiple_of(4) => seed / 4 % 64 + 1,
+            0..=3 => 1,
+            4..=8 => random.between(2, 8),
+            _ => 64,
+        };
+        let favourites = (0..random.between(1, 3))
+            .map(|_| random.below(outputs) as u8)
+            .collect();
+        Generator {
+            random,
+            panel: Panel::start(outputs as usize),
+            frames: Vec::new(),
+            answers: Vec::new(),
+            boundaries: Tally::new(),
+            budget: if great { GREAT_BUDGET } else { USUAL_BUDGET },
+            favourites,
+            plan: VecDeque::new(),
+        }
+    }
+
+    fn send(&mut self, bytes: Vec<u8>) {
+        let arrivals = self.panel.first_arrivals().len();
+        self.answers.push(self.panel.frame(&bytes));
+        if self.panel.first_arrivals().len() > arrivals {
+            count_edges(&mut self.boundaries, &bytes);
+        }
+        self.frames.push(bytes);
+    }
+
+    fn next_frame(&mut self) -> Vec<u8> {
+        match self.random.below(100) {
+            0..=6 => self.copy_of_earlier(),
+            7..=12 => self.hostile_frame(),
+            13..=15 => {
+                let output = self.some_output();
+                clock(self.next_time(output, When::Whenever))
+            }
+            _ => {
+                if self.plan.is_empty() {
+                    let output = self.some_output();
+                    self.plan_scene(output);
+                }
+                match self.plan.pop_front() {
+                    Some(planned) => self.frame_of(&planned),
+                    None => clock(self.panel.time()),
+                }
+            }
+        }
+    }
+
+    pub(crate) fn some_output(&mut self) -> u8 {
+        if self.random.chance(85) {
+            let favourites = &self.favourites;
+            self.random.pick(favourites)
+        } else {
+            self.random.below(self.panel.outputs().len() as u64) as u8
+        }
+    }
+
+    pub(crate) fn frame_of(&mut self, planned: &Planned) -> Vec<u8> {
+        // Now and then a script is drawn out in time.
+        let when = match planned.when {
+            When::Now if self.random.chance(6) => When::Whenever,
+            when => when,
+        };
+        let time = self.next_time(planned.output, when);
+        let (station, number) = self.station_and_number();
+        planned.body.bytes(Head {
+            station,
+            number,
+            time,
+            output: planned.output,
+        })
+    }
+
+    pub(crate) fn plan(&mut self, output: u8, body: Body, when: When) {
+        self.plan.push_back(Planned { output, body, when });
+    }
+
+    /// A station that still has a number to give, and such a number.
+    fn station_and_number(&mut self) -> (u8, u32) {
+        loop {
+            let station = self.random.below(8) as u8;
+            let last = self
+                .panel
+                .latest_of_station(station)
+                .map_or(0, |latest| latest.number);
+            let left = u32::MAX - last;
+            if left == 0 {
+                continue;
+            }
+            let further = match self.random.below(1_000) {
+                0..=799 => 1,
+                800..=989 => self.random.between(1, 10) as u32,
+                990..=997 => self.random.between(1, 1 << 20) as u32,
+                // Stations 0 to 5 never run out.
+                _ if station > 5 => self
+                    .random
+                    .pick(&[left, left, left / 2, left - left.min(1)]),
+                _ => 1 << 8,
+            };
+            return (station, last + further.clamp(1, left));
+        }
+    }
+}

@@ -1,0 +1,351 @@
+//! What a list makes the plain panel meet.
+//!
+//! The events decide nothing. They are counted so that a run can say what it
+//! has reached, and `expected` names what it must reach.
+
+use std::collections::BTreeMap;
+use std::fmt;
+
+use crate::answer::Answer;
+
+/// A byte that the paper writes in hexadecimal.
+#[derive(Clone, Copy, PartialEq, Eq, PartialOrd, Ord)]
+pub struct Hexadecimal(pub u8);
+
+impl From<u8> for Hexadecimal {
+    fn from(byte: u8) -> Hexadecimal {
+        Hexadecimal(byte)
+    }
+}
+
+impl fmt::Debug for Hexadecimal {
+    fn fmt(&self, formatter: &mut fmt::Formatter) -> fmt::Result {
+        write!(formatter, "{:02X}", self.0)
+    }
+}
+
+/// An answer without its value.
+#[derive(Clone, Copy, Debug, PartialEq, Eq, PartialOrd, Ord)]
+pub enum Answered {
+    Done,
+    Value,
+    Absent,
+    Refused(u8),
+}
+
+impl From<Answer> for Answered {
+    fn from(answer: Answer) -> Answered {
+        match answer {
+            Answer::Done => Answered::Done,
+            Answer::Value(_) => Answered::Value,
+            Answer::Absent => Answered::Absent,
+            Answer::Refused(number) => Answered::Refused(number),
+        }
+    }
+}
+
+/// What an output is doing when a frame acts on it.
+#[derive(Clone, Copy, Debug, PartialEq, Eq, PartialOrd, Ord)]
+pub enum Situation {
+    Dark,
+    Lit,
+    Moving,
+    WarningDark,
+    WarningLit,
+}
+
+impl Situation {
+    pub const ALL: [Situation; 5] = [
+        Situation::Dark,
+        Situation::Lit,
+        Situation::Moving,
+        Situation::WarningDark,
+        Situation::WarningLit,
+    ];
+
+    pub fn is_warning(self) -> bool {
+        matches!(self, Situation::WarningDark | Situation::WarningLit)
+    }
+}
+
+/// How the slot that a frame acts on stands to the winner before it.
+#[derive(Clone, Copy, Debug, PartialEq, Eq, PartialOrd, Ord)]
+pub enum Rank {
+    /// A lower number than the winner's, or there is no winner.
+    Stronger,
+    Winner,
+    Weaker,
+}
+
+#[derive(Clone, Copy, Debug, PartialEq, Eq, PartialOrd, Ord)]
+pub enum Phase {
+    Dark,
+    Lit,
+}
+
+/// What ends a warning before its time.
+#[derive(Clone, Copy, Debug, PartialEq, Eq, PartialOrd, Ord)]
+pub enum Breaker {
+    ZeroAtItsOwnSlot,
+    ZeroAtAnotherSlotAboveSix,
+    ZeroBelowSix,
+    LitAtItsOwnSlot,
+    LitAtAnotherSlotAboveSix,
+    LitBelowSix,
+    Command(Hexadecimal),
+}
+
+/// A condition of the warning's start that a write of zero does not meet.
+#[derive(Clone, Copy, Debug, PartialEq, Eq, PartialOrd, Ord)]
+pub enum NoWarning {
+    PriorityBelowSeven,
+    BlinkDisabled,
+    NoTime,
+    AlreadyRunning,
+    StrongerSlotLive,
+    WasDark,
+    DefaultLit,
+    WeakerSlotLit,
+}
+
+#[derive(Clone, Copy, Debug, PartialEq, Eq, PartialOrd, Ord)]
+pub enum FiredIn {
+    Rest,
+    ItsOwnMovement,
+    AnotherMovement,
+    WarningAtItsOwnSlot,
+    WarningElsewhere,
+}
+
+/// What else falls into the millisecond in which a duration fires.
+#[derive(Clone, Copy, Debug, PartialEq, Eq, PartialOrd, Ord)]
+pub enum Coincidence {
+    MovementEnd { own_movement: bool },
+    WarningTurn { own_slot: bool },
+    WarningEnd { own_slot: bool, lit: bool },
+}
+
+#[derive(Clone, Copy, Debug, PartialEq, Eq, PartialOrd, Ord)]
+pub enum Step {
+    UpWithin,
+    UpToMinimum,
+    UpToMaximum,
+    DownWithin,
+    DownToMinimum,
+    DownToZeroGivesMinimum,
+    DownFromZero,
+}
+
+#[derive(Clone, Copy, Debug, PartialEq, Eq, PartialOrd, Ord)]
+pub enum Stop {
+    AtZero,
+    RaisedToMinimum,
+    AsReached,
+}
+
+/// How far a frame or a clock takes the panel's time.
+#[derive(Clone, Copy, Debug, PartialEq, Eq, PartialOrd, Ord)]
+pub enum Jump {
+    None,
+    OneMillisecond,
+    UpToASecond,
+    UpToAnHour,
+    UpToADay,
+    Days,
+    From2To40,
+    From2To47,
+}
+
+impl Jump {
+    pub const ALL: [Jump; 8] = [
+        Jump::None,
+        Jump::OneMillisecond,
+        Jump::UpToASecond,
+        Jump::UpToAnHour,
+        Jump::UpToADay,
+        Jump::Days,
+        Jump::From2To40,
+        Jump::From2To47,
+    ];
+
+    pub fn of(milliseconds: u64) -> Jump {
+        match milliseconds {
+            0 => Jump::None,
+            1 => Jump::OneMillisecond,
+            2..=1_000 => Jump::UpToASecond,
+            1_001..=3_600_000 => Jump::UpToAnHour,
+            3_600_001..=86_400_000 => Jump::UpToADay,
+            _ if milliseconds < 1 << 40 => Jump::Days,
+            _ if milliseconds < 1 << 47 => Jump::From2To40,
+            _ => Jump::From2To47,
+        }
+    }
+}
+
+#[derive(Clone, Copy, Debug, PartialEq, Eq, PartialOrd, Ord)]
+pub enum Event {
+    // Refusals 2 to 8, copies, clocks.
+    NoByte,
+    UnknownKind,
+    TooShort {
+        kind: Hexadecimal,
+    },
+    TooLong {
+        kind: Hexadecimal,
+    },
+    StationOverSeven,
+    NumberZero,
+    OutputNotInTable,
+    SameNumberOtherBytes,
+    OlderNumberSameBytes,
+    OlderNumberOtherBytes,
+    LateFrame,
+    LateClock,
+    Copy {
+        late: bool,
+        answer: Answered,
+    },
+    ClockAccepted,
+    HighestNumber,
+    Jump(Jump),
+    /// The greatest time that a frame can name.
+    LastMillisecond,
+
+    // First arrivals.
+    FirstArrival {
+        kind: Hexadecimal,
+        answer: Answered,
+    },
+    PropertyRead {
+        property: Hexadecimal,
+        answer: Answered,
+    },
+    PropertyWritten {
+        property: Hexadecimal,
+        answer: Answered,
+        situation: Situation,
+    },
+    PartOfSecondCleared,
+    ElapsedActiveTimeReadAtMost,
+    ProgressReadBelowOnePercent,
+    BoundMovesWarningLevel,
+    SlotWritten {
+        lit: bool,
+        situation: Situation,
+        rank: Rank,
+    },
+    SlotEmptied {
+        was_live: bool,
+        situation: Situation,
+        rank: Rank,
+    },
+
+    // Commands.
+    Command {
+        kind: Hexadecimal,
+        situation: Situation,
+        rank: Rank,
+    },
+    CommandFromBelowOnePercent,
+    LosingCommandLeavesMovement,
+    Stepped(Step),
+    Stopped(Stop),
+
+    // Movements.
+    MovementStarted {
+        ramp: bool,
+        up: bool,
+        replaces: bool,
+    },
+    MovementReplacedByNone,
+    MovementRanOut {
+        ramp: bool,
+        up: bool,
+    },
+    /// The longest fade, lived to its end.
+    WholeDayMovementRanOut,
+
+    // Durations.
+    DurationSet {
+        replaces_other_slot: Option<bool>,
+        slot_live: bool,
+        winner: bool,
+    },
+    DurationCancelled {
+        other_slot: Option<bool>,
+    },
+    DurationLeftRunning,
+    DurationFired {
+        fired_in: FiredIn,
+        slot_live: bool,
+    },
+    DurationFiredTogetherWith(Coincidence),
+    /// The longest duration, lived to its end.
+    WholeDayDurationFired,
+
+    // Warnings.
+    NoWarningOnlyFor(NoWarning),
+    WarningStarted {
+        dark: bool,
+        lit: bool,
+        in_movement: bool,
+    },
+    WarningStartedAt {
+        slot: u8,
+    },
+    WarningStartedByMinusZero,
+    WarningTurned,
+    WarningRanOut {
+        dark: bool,
+        lit: bool,
+        own_slot_live: bool,
+    },
+    /// The longest warning, two days, lived to its end.
+    TwoDayWarningRanOut,
+    WarningBroken {
+        by: Breaker,
+        phase: Phase,
+    },
+    SlotEmptiedInWarning {
+        own_slot: bool,
+        was_live: bool,
+    },
+}
+
+/// Counts by kind of event.
+#[derive(Clone, Debug)]
+pub struct Tally<Kind: Ord> {
+    counts: BTreeMap<Kind, u64>,
+}
+
+impl<Kind: Ord + Copy> Tally<Kind> {
+    pub fn new() -> Tally<Kind> {
+        Tally {
+            counts: BTreeMap::new(),
+        }
+    }
+
+    pub fn count(&mut self, kind: Kind) {
+        *self.counts.entry(kind).or_insert(0) += 1;
+    }
+
+    pub fn add(&mut self, other: &Tally<Kind>) {
+        for (kind, count) in &other.counts {
+            *self.counts.entry(*kind).or_insert(0) += count;
+        }
+    }
+
+    pub fn of(&self, kind: Kind) -> u64 {
+        self.counts.get(&kind).copied().unwrap_or(0)
+    }
+
+    pub fn iter(&self) -> impl Iterator<Item = (&Kind, &u64)> {
+        self.counts.iter()
+    }
+}
+
+impl<Kind: Ord + Copy> Default for Tally<Kind> {
+    fn default() -> Tally<Kind> {
+        Tally::new()
+    }
+}

@@ -1,0 +1,319 @@
+//! Every event that a thorough set of lists must reach.
+
+use crate::event::*;
+use crate::frame::{
+    ALL_COMMANDS, ALL_KINDS, CLOCK, EMPTY_A_SLOT, READ_PROPERTY, WRITE_PRESENT_VALUE,
+    WRITE_PROPERTY,
+};
+use crate::settings::*;
+
+const BOTH: [bool; 2] = [false, true];
+
+pub fn expected() -> Vec<Event> {
+    let mut events = Vec::new();
+    list_events(&mut events);
+    first_arrival_events(&mut events);
+    property_events(&mut events);
+    slot_and_command_events(&mut events);
+    movement_events(&mut events);
+    duration_events(&mut events);
+    warning_events(&mut events);
+    events
+}
+
+fn list_events(events: &mut Vec<Event>) {
+    events.extend([
+        Event::NoByte,
+        Event::UnknownKind,
+        Event::StationOverSeven,
+        Event::NumberZero,
+        Event::OutputNotInTable,
+        Event::SameNumberOtherBytes,
+        Event::OlderNumberSameBytes,
+        Event::OlderNumberOtherBytes,
+        Event::LateFrame,
+        Event::LateClock,
+        Event::ClockAccepted,
+        Event::HighestNumber,
+        Event::LastMillisecond,
+    ]);
+    for kind in ALL_KINDS {
+        events.push(Event::TooShort { kind: kind.into() });
+        events.push(Event::TooLong { kind: kind.into() });
+    }
+    for late in BOTH {
+        for answer in [Answered::Done, Answered::Value, Answered::Absent] {
+            events.push(Event::Copy { late, answer });
+        }
+        for number in 9..=13 {
+            let answer = Answered::Refused(number);
+            events.push(Event::Copy { late, answer });
+        }
+    }
+    events.extend(Jump::ALL.map(Event::Jump));
+}
+
+fn first_arrival_events(events: &mut Vec<Event>) {
+    for kind in ALL_KINDS {
+        let answers: &[Answered] = match kind {
+            CLOCK => &[],
+            WRITE_PRESENT_VALUE => &[Answered::Done, Answered::Refused(10), Answered::Refused(11)],
+            EMPTY_A_SLOT => &[Answered::Done, Answered::Refused(10)],
+            WRITE_PROPERTY => &[
+                Answered::Done,
+                Answered::Refused(9),
+                Answered::Refused(10),
+                Answered::Refused(11),
+                Answered::Refused(12),
+                Answered::Refused(13),
+            ],
+            READ_PROPERTY => &[Answered::Value, Answered::Absent, Answered::Refused(9)],
+            0x10 | 0x15 | 0x16 | 0x1A => &[Answered::Done, Answered::Refused(12)],
+            _ => &[Answered::Done, Answered::Refused(11), Answered::Refused(12)],
+        };
+        for answer in answers {
+            events.push(Event::FirstArrival {
+                kind: kind.into(),
+                answer: *answer,
+            });
+        }
+    }
+}
+
+fn property_events(events: &mut Vec<Event>) {
+    events.extend([
+        Event::PartOfSecondCleared,
+        Event::ElapsedActiveTimeReadAtMost,
+        Event::ProgressReadBelowOnePercent,
+        Event::BoundMovesWarningLevel,
+    ]);
+    for property in 0..=255_u8 {
+        let readable =
+            matches!(property, RELINQUISH_DEFAULT..=LAST_DURATION | FIRST_SLOT..=LAST_SLOT);
+        let sometimes_absent =
+            matches!(property, LAST_LEVEL..=LAST_DURATION | FIRST_SLOT..=LAST_SLOT);
+        // Of the unknown numbers, those beside a known one and the ends.
+        let unknown_but_tried = matches!(property, 0x00 | 0x15 | 0x20 | 0x31 | 0xFF);
+        if readable {
+            events.push(read(property, Answered::Value));
+        }
+        if sometimes_absent {
+            events.push(read(property, Answered::Absent));
+        }
+        if unknown_but_tried {
+            events.push(read(property, Answered::Refused(9)));
+        }
+        let written: &[Answered] = match property {
+            RELINQUISH_DEFAULT | RAMP_RATE | STEP_INCREMENT => {
+                &[Answered::Done, Answered::Refused(11)]
+            }
+            FADE_TIME | BLINK_ENABLE | BLINK_TIME | BLINK_WARN_DELAY | ELAPSED_ACTIVE_TIME => {
+                &[Answered::Done, Answered::Refused(12)]
+            }
+            MINIMUM | MAXIMUM => &[Answered::Done, Answered::Refused(11), Answered::Refused(13)],
+            LIGHTING_COMMAND_PRIORITY => &[Answered::Done, Answered::Refused(10)],
+            _ if readable || unknown_but_tried => &[Answered::Refused(9)],
+            _ => &[],
+        };
+        let writable = written.len() > 1;
+        for answer in written {
+            for situation in Situation::ALL {
+                if writable || situation == Situation::Lit {
+                    events.push(Event::PropertyWritten {
+                        property: property.into(),
+                        answer: *answer,
+                        situation,
+                    });
+                }
+            }
+        }
+    }
+}
+
+fn read(property: u8, answer: Answered) -> Event {
+    Event::PropertyRead {
+        property: property.into(),
+        answer,
+    }
+}
+
+/// In a warning slot 6 wins, and no frame acts on slot 6.
+fn situations_and_ranks() -> Vec<(Situation, Rank)> {
+    let mut pairs = Vec::new();
+    for situation in Situation::ALL {
+        for rank in [Rank::Stronger, Rank::Winner, Rank::Weaker] {
+            if !(situation.is_warning() && rank == Rank::Winner) {
+                pairs.push((situation, rank));
+            }
+        }
+    }
+    pairs
+}
+
+fn slot_and_command_events(events: &mut Vec<Event>) {
+    for (situation, rank) in situations_and_ranks() {
+        for lit in BOTH {
+            events.push(Event::SlotWritten {
+                lit,
+                situation,
+                rank,
+            });
+        }
+        // What is stronger than the winner is empty, the winner is live.
+        for was_live in BOTH {
+            let possible = match rank {
+                Rank::Stronger => !was_live,
+                Rank::Winner => was_live,
+                Rank::Weaker => true,
+            };
+            if possible {
+                events.push(Event::SlotEmptied {
+                    was_live,
+                    situation,
+                    rank,
+                });
+            }
+        }
+        for kind in ALL_COMMANDS {
+            events.push(Event::Command {
+                kind: kind.into(),
+                situation,
+                rank,
+            });
+        }
+    }
+    events.extend([
+        Event::CommandFromBelowOnePercent,
+        Event::LosingCommandLeavesMovement,
+    ]);
+    events.extend(
+        [
+            Step::UpWithin,
+            Step::UpToMinimum,
+            Step::UpToMaximum,
+            Step::DownWithin,
+            Step::DownToMinimum,
+            Step::DownToZeroGivesMinimum,
+            Step::DownFromZero,
+        ]
+        .map(Event::Stepped),
+    );
+    events.extend([Stop::AtZero, Stop::RaisedToMinimum, Stop::AsReached].map(Event::Stopped));
+}
+
+fn movement_events(events: &mut Vec<Event>) {
+    for ramp in BOTH {
+        for up in BOTH {
+            for replaces in BOTH {
+                events.push(Event::MovementStarted { ramp, up, replaces });
+            }
+            events.push(Event::MovementRanOut { ramp, up });
+        }
+    }
+    events.push(Event::MovementReplacedByNone);
+    events.push(Event::WholeDayMovementRanOut);
+}
+
+fn duration_events(events: &mut Vec<Event>) {
+    for other_slot in [None, Some(false), Some(true)] {
+        for (slot_live, winner) in [(false, false), (true, false), (true, true)] {
+            events.push(Event::DurationSet {
+                replaces_other_slot: other_slot,
+                slot_live,
+                winner,
+            });
+        }
+        events.push(Event::DurationCancelled { other_slot });
+    }
+    events.push(Event::DurationLeftRunning);
+    events.push(Event::WholeDayDurationFired);
+    for fired_in in [
+        FiredIn::Rest,
+        FiredIn::ItsOwnMovement,
+        FiredIn::AnotherMovement,
+        FiredIn::WarningAtItsOwnSlot,
+        FiredIn::WarningElsewhere,
+    ] {
+        for slot_live in BOTH {
+            // The owner of a movement is live.
+            if slot_live || fired_in != FiredIn::ItsOwnMovement {
+                events.push(Event::DurationFired {
+                    fired_in,
+                    slot_live,
+                });
+            }
+        }
+    }
+    for own in BOTH {
+        for coincidence in [
+            Coincidence::MovementEnd { own_movement: own },
+            Coincidence::WarningTurn { own_slot: own },
+            Coincidence::WarningEnd {
+                own_slot: own,
+                lit: false,
+            },
+            Coincidence::WarningEnd {
+                own_slot: own,
+                lit: true,
+            },
+        ] {
+            events.push(Event::DurationFiredTogetherWith(coincidence));
+        }
+    }
+}
+
+fn warning_events(events: &mut Vec<Event>) {
+    for reason in [
+        NoWarning::PriorityBelowSeven,
+        NoWarning::BlinkDisabled,
+        NoWarning::NoTime,
+        NoWarning::StrongerSlotLive,
+        NoWarning::WasDark,
+        NoWarning::DefaultLit,
+        NoWarning::WeakerSlotLit,
+    ] {
+        // With a warning running the write is read by other sentences, and
+        // slot 6 is live besides, so AlreadyRunning is never alone.
+        events.push(Event::NoWarningOnlyFor(reason));
+    }
+    for (dark, lit) in [(true, true), (true, false), (false, true)] {
+        for either in BOTH {
+            events.push(Event::WarningStarted {
+                dark,
+                lit,
+                in_movement: either,
+            });
+            events.push(Event::WarningRanOut {
+                dark,
+                lit,
+                own_slot_live: either,
+            });
+        }
+    }
+    for slot in 7..=16 {
+        events.push(Event::WarningStartedAt { slot });
+    }
+    events.push(Event::WarningStartedByMinusZero);
+    events.push(Event::WarningTurned);
+    events.push(Event::TwoDayWarningRanOut);
+    let writes = [
+        Breaker::ZeroAtItsOwnSlot,
+        Breaker::ZeroAtAnotherSlotAboveSix,
+        Breaker::ZeroBelowSix,
+        Breaker::LitAtItsOwnSlot,
+        Breaker::LitAtAnotherSlotAboveSix,
+        Breaker::LitBelowSix,
+    ];
+    let commands = ALL_COMMANDS.map(|kind| Breaker::Command(kind.into()));
+    for phase in [Phase::Dark, Phase::Lit] {
+        for by in writes.into_iter().chain(commands) {
+            events.push(Event::WarningBroken { by, phase });
+        }
+    }
+    // The warning's own slot, and slots beside it, live and empty.
+    for own_slot in BOTH {
+        for was_live in BOTH {
+            events.push(Event::SlotEmptiedInWarning { own_slot, was_live });
+        }
+    }
+}

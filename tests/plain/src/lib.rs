@@ -1,0 +1,25 @@
+//! The plain panel of document 01: outputs and a time, no stations.
+//!
+//! It is written to be read beside the paper, not to be quick. It lives every
+//! millisecond in the paper's order, and it decides what a first arrival is
+//! from the list of frames met so far.
+
+pub mod answer;
+pub mod command;
+pub mod event;
+pub mod expected;
+pub mod frame;
+pub mod movement;
+pub mod output;
+pub mod panel;
+pub mod passing;
+pub mod property;
+pub mod real;
+pub mod settings;
+pub mod slots;
+pub mod warning;
+
+pub use answer::Answer;
+pub use event::Event;
+pub use output::Output;
+pub use panel::Panel;

@@ -1,0 +1,101 @@
+//! Fades and ramps.
+
+use crate::event::Event;
+use crate::output::Output;
+use crate::settings::LONGEST;
+
+#[derive(Clone, Copy, Debug)]
+pub enum Pace {
+    Fade,
+    Ramp { units_a_second: u32 },
+}
+
+#[derive(Clone, Debug)]
+pub struct Movement {
+    /// "A movement belongs to the winner."
+    pub owner: u8,
+    pub from: u32,
+    pub to: u32,
+    pub pace: Pace,
+    /// The paper's L.
+    pub length: u64,
+    /// The paper's k, below L while the movement lasts.
+    pub gone: u64,
+    /// Progress_Value after `gone` milliseconds.
+    pub reached: u32,
+}
+
+impl Movement {
+    /// "If s = g there is no movement."
+    pub fn fade(owner: u8, from: u32, to: u32, length: u32) -> Option<Movement> {
+        (from != to).then_some(Movement {
+            owner,
+            from,
+            to,
+            pace: Pace::Fade,
+            length: u64::from(length),
+            gone: 0,
+            reached: from,
+        })
+    }
+
+    /// "L = ceiling(1,000 × |g - s| / R)."
+    pub fn ramp(owner: u8, from: u32, to: u32, units_a_second: u32) -> Option<Movement> {
+        let thousandfold = 1_000 * u64::from(from.abs_diff(to));
+        (from != to).then_some(Movement {
+            owner,
+            from,
+            to,
+            pace: Pace::Ramp { units_a_second },
+            length: thousandfold.div_ceil(u64::from(units_a_second)),
+            gone: 0,
+            reached: from,
+        })
+    }
+
+    /// "k ms later, s plus or minus floor(|g - s| × k / L)"; "ramp at R units a
+    /// second: floor(R × k / 1,000), stopping at g".
+    fn level_after_gone(&self) -> u32 {
+        let way = u64::from(self.from.abs_diff(self.to));
+        let gone_way = match self.pace {
+            Pace::Fade => way * self.gone / self.length,
+            Pace::Ramp { units_a_second } => {
+                (u64::from(units_a_second) * self.gone / 1_000).min(way)
+            }
+        } as u32;
+        if self.to > self.from {
+            self.from + gone_way
+        } else {
+            self.from - gone_way
+        }
+    }
+
+    pub fn is_ramp(&self) -> bool {
+        matches!(self.pace, Pace::Ramp { .. })
+    }
+
+    pub fn goes_up(&self) -> bool {
+        self.to > self.from
+    }
+}
+
+impl Output {
+    /// One millisecond: "then Progress_Value by the movement's formula", and
+    /// "over at k = L".
+    pub fn pass_movement(&mut self) {
+        if let Some(movement) = &mut self.movement {
+            movement.gone += 1;
+            movement.reached = movement.level_after_gone();
+            if movement.gone == movement.length {
+                self.met.push(Event::MovementRanOut {
+                    ramp: movement.is_ramp(),
+                    up: movement.goes_up(),
+                });
+                if movement.length == u64::from(LONGEST) {
+                    self.met.push(Event::WholeDayMovementRanOut);
+                }
+                self.movement = None;
+            }
+        }
+    }
+}

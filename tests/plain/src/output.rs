@@ -1,0 +1,121 @@
+//! "An output's record", without what a list never sees.
+
+use crate::command::LastCommand;
+use crate::event::{Event, Rank, Situation};
+use crate::movement::Movement;
+use crate::settings::Settings;
+use crate::warning::Warning;
+
+/// The slot that a warning takes while it lasts.
+pub const WARNING_SLOT: u8 = 6;
+
+/// "Slot p empties d ms later. An output has at most one running, tied to its
+/// slot."
+#[derive(Clone, Debug)]
+pub struct RunningDuration {
+    pub slot: u8,
+    /// The paper's d.
+    pub length: u64,
+    /// Milliseconds still to be lived, at least 1.
+    pub left: u64,
+}
+
+#[derive(Clone, Debug)]
+pub struct Output {
+    /// Slot 1 stands first; nothing in a slot that is not live.
+    slots: [Option<u32>; 16],
+    pub settings: Settings,
+    pub movement: Option<Movement>,
+    pub warning: Option<Warning>,
+    pub duration: Option<RunningDuration>,
+    pub last: LastCommand,
+    /// Milliseconds with Present_Value above zero.
+    pub burning: u64,
+    /// What was met since the panel last collected it. It decides nothing.
+    pub met: Vec<Event>,
+}
+
+impl Output {
+    /// "A fresh record has no live slot, last operation STOP without duration,
+    /// burning time 0."
+    pub fn fresh() -> Output {
+        Output {
+            slots: [None; 16],
+            settings: Settings::fresh(),
+            movement: None,
+            warning: None,
+            duration: None,
+            last: LastCommand::fresh(),
+            burning: 0,
+            met: Vec::new(),
+        }
+    }
+
+    pub fn slot(&self, priority: u8) -> Option<u32> {
+        self.slots[usize::from(priority) - 1]
+    }
+
+    pub fn store(&mut self, priority: u8, level: u32) {
+        self.slots[usize::from(priority) - 1] = Some(level);
+    }
+
+    pub fn empty(&mut self, priority: u8) {
+        self.slots[usize::from(priority) - 1] = None;
+    }
+
+    /// The lowest live priority.
+    pub fn winner(&self) -> Option<u8> {
+        (1..=16).find(|priority| self.slot(*priority).is_some())
+    }
+
+    /// "Present_Value is the winner's level, or Relinquish_Default with no live
+    /// slot; if above zero it is brought into Min..Max."
+    pub fn present_value(&self) -> u32 {
+        let level = match self.winner() {
+            Some(priority) => self.slot(priority).unwrap_or(0),
+            None => self.settings.relinquish_default,
+        };
+        self.settings.into_range_if_lit(level)
+    }
+
+    /// "Without a movement, in a warning too, Progress_Value equals
+    /// Present_Value."
+    pub fn progress_value(&self) -> u32 {
+        match &self.movement {
+            Some(movement) => movement.reached,
+            None => self.present_value(),
+        }
+    }
+
+    pub fn owns_movement(&self, priority: u8) -> bool {
+        self.movement
+            .as_ref()
+            .is_some_and(|movement| movement.owner == priority)
+    }
+
+    /// What the output is doing, for the count of events.
+    pub fn situation(&self) -> Situation {
+        if self.movement.is_some() {
+            Situation::Moving
+        } else if let Some(warning) = &self.warning {
+            if warning.is_dark() {
+                Situation::WarningDark
+            } else {
+                Situation::WarningLit
+            }
+        } else if self.present_value() > 0 {
+            Situation::Lit
+        } else {
+            Situation::Dark
+        }
+    }
+
+    /// How a priority stands to the winner, for the count of events.
+    pub fn rank(&self, priority: u8) -> Rank {
+        match self.winner() {
+            Some(winner) if winner == priority => Rank::Winner,
+            Some(winner) if winner < priority => Rank::Weaker,
+            _ => Rank::Stronger,
+        }
+    }
+}

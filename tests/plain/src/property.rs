@@ -1,0 +1,159 @@
+//! Kinds 04 and 05: writing and reading a property.
+
+use crate::answer::{self, Answer};
+use crate::event::Event;
+use crate::output::Output;
+use crate::real;
+use crate::settings::*;
+use crate::slots::is_priority;
+
+const REFUSED_PROPERTY: Answer = Answer::Refused(answer::PROPERTY);
+const REFUSED_REAL: Answer = Answer::Refused(answer::REAL);
+const REFUSED_WHOLE_NUMBER: Answer = Answer::Refused(answer::WHOLE_NUMBER);
+
+impl Output {
+    /// Kind 04.
+    pub fn write_property(&mut self, property: u8, value: u32) -> Answer {
+        let situation = self.situation();
+        let shown_before = self.present_value();
+        let answer = self.store_property(property, value);
+        self.met.push(Event::PropertyWritten {
+            property: property.into(),
+            answer: answer.into(),
+            situation,
+        });
+        let is_bound = property == MINIMUM || property == MAXIMUM;
+        if is_bound && answer == Answer::Done {
+            if self.warning.is_some() && self.present_value() != shown_before {
+                self.met.push(Event::BoundMovesWarningLevel);
+            }
+            // "Writing 08 or 09 ends the movement."
+            self.movement = None;
+        }
+        answer
+    }
+
+    /// "Property unknown, or not writable" is met before the value.
+    fn store_property(&mut self, property: u8, value: u32) -> Answer {
+        match property {
+            RELINQUISH_DEFAULT => match real::level(value) {
+                Some(level) => self.settings.relinquish_default = level,
+                None => return REFUSED_REAL,
+            },
+            FADE_TIME => match value {
+                SHORTEST..=LONGEST => self.settings.fade_time = value,
+                _ => return REFUSED_WHOLE_NUMBER,
+            },
+            RAMP_RATE => match real::rate_or_step(value) {
+                Some(_) => self.settings.ramp_rate = value,
+                None => return REFUSED_REAL,
+            },
+            STEP_INCREMENT => match real::rate_or_step(value) {
+                Some(_) => self.settings.step_increment = value,
+                None => return REFUSED_REAL,
+            },
+            BLINK_ENABLE => match value {
+                0 => self.settings.blink_enable = false,
+                1 => self.settings.blink_enable = true,
+                _ => return REFUSED_WHOLE_NUMBER,
+            },
+            BLINK_TIME => match value {
+                0..=LONGEST => self.settings.blink_time = value,
+                _ => return REFUSED_WHOLE_NUMBER,
+            },
+            BLINK_WARN_DELAY => match value {
+                0..=LONGEST => self.settings.blink_warn_delay = value,
+                _ => return REFUSED_WHOLE_NUMBER,
+            },
+            MINIMUM => {
+                return match real::bound(value) {
+                    Some(minimum) => self.set_bounds(minimum, self.settings.maximum),
+                    None => REFUSED_REAL,
+                }
+            }
+            MAXIMUM => {
+                return match real::bound(value) {
+                    Some(maximum) => self.set_bounds(self.settings.minimum, maximum),
+                    None => REFUSED_REAL,
+                }
+            }
+            // "Writing 0A meets 10."
+            LIGHTING_COMMAND_PRIORITY if !is_priority(value) => {
+                return Answer::Refused(answer::PRIORITY)
+            }
+            LIGHTING_COMMAND_PRIORITY => self.settings.lighting_command_priority = value as u8,
+            // "0B Elapsed_Active_Time, written only with 0."
+            ELAPSED_ACTIVE_TIME if value != 0 => return REFUSED_WHOLE_NUMBER,
+            ELAPSED_ACTIVE_TIME => {
+                if !self.burning.is_multiple_of(1_000) {
+                    self.met.push(Event::PartOfSecondCleared);
+                }
+                self.burning = 0;
+            }
+            _ => return REFUSED_PROPERTY,
+        }
+        Answer::Done
+    }
+
+    fn set_bounds(&mut self, minimum: u32, maximum: u32) -> Answer {
+        if minimum > maximum {
+            return Answer::Refused(answer::MINIMUM_OVER_MAXIMUM);
+        }
+        self.settings.minimum = minimum;
+        self.settings.maximum = maximum;
+        Answer::Done
+    }
+
+    /// Kind 05.
+    pub fn read_property(&self, property: u8) -> Answer {
+        let settings = &self.settings;
+        let value = match property {
+            RELINQUISH_DEFAULT => Some(real::level_as_real(settings.relinquish_default)),
+            FADE_TIME => Some(settings.fade_time),
+            RAMP_RATE => Some(settings.ramp_rate),
+            STEP_INCREMENT => Some(settings.step_increment),
+            BLINK_ENABLE => Some(u32::from(settings.blink_enable)),
+            BLINK_TIME => Some(settings.blink_time),
+            BLINK_WARN_DELAY => Some(settings.blink_warn_delay),
+            MINIMUM => Some(real::level_as_real(settings.minimum)),
+            MAXIMUM => Some(real::level_as_real(settings.maximum)),
+            LIGHTING_COMMAND_PRIORITY => Some(u32::from(settings.lighting_command_priority)),
+            ELAPSED_ACTIVE_TIME => Some(self.elapsed_active_time()),
+            PRESENT_VALUE => Some(real::level_as_real(self.present_value())),
+            PROGRESS_VALUE => Some(real::level_as_real(self.progress_value())),
+            IN_PROCESS => Some(u32::from(self.movement.is_some())),
+            LAST_OPERATION => Some(u32::from(self.last.operation)),
+            LAST_LEVEL => self.last.level,
+            LAST_RATE => self.last.rate,
+            LAST_STEP => self.last.step,
+            LAST_FADE_TIME => self.last.fade_time,
+            LAST_DURATION => self.last.duration,
+            FIRST_SLOT..=LAST_SLOT => self
+                .slot(property - FIRST_SLOT + 1)
+                .map(real::level_as_real),
+            _ => return REFUSED_PROPERTY,
+        };
+        value.map_or(Answer::Absent, Answer::Value)
+    }
+
+    /// For the count of events.
+    pub fn note_reading(&mut self, property: u8, answer: Answer) {
+        self.met.push(Event::PropertyRead {
+            property: property.into(),
+            answer: answer.into(),
+        });
+        if property == ELAPSED_ACTIVE_TIME && answer == Answer::Value(u32::MAX) {
+            self.met.push(Event::ElapsedActiveTimeReadAtMost);
+        }
+        let below_one_percent = 1..real::ONE_PERCENT;
+        if property == PROGRESS_VALUE && below_one_percent.contains(&self.progress_value()) {
+            self.met.push(Event::ProgressReadBelowOnePercent);
+        }
+    }
+
+    /// "Elapsed_Active_Time reads floor(burning / 1,000), at most
+    /// 4,294,967,295."
+    fn elapsed_active_time(&self) -> u32 {
+        u32::try_from(self.burning / 1_000).unwrap_or(u32::MAX)
+    }
+}
