@@ -137,7 +137,7 @@ level-good i OutOfRange g f = omega arith
 request-good : (k n v x y z : ℕ) → Good (requestBy standard k n v x y z)
 unfolding requestBy writeOf emptyOf if_then_else_
 request-good k n v x y z =
-    by-bool (eqb k 2) (λ e. rw e (by-bool (isPriority n) (λ p. rw p (level-good (n - 1) (levelOf (real v)) (priority-of n p) (level-units (real v)))) (λ p. rw p (omega arith)))) (λ e. rw e (by-bool (eqb k 3) (λ e. rw e (by-bool (isPriority n) (λ p. rw p (priority-of n p)) (λ p. rw p (omega arith)))) (λ e. rw e (by-bool (eqb k 4) (λ e. rw e (change-good (propertyOf n) v)) (λ e. rw e (by-bool (eqb k 5) (λ e. rw e (tt)) (λ e. rw e (order-good k x y z))))))))
+    by-bool (eqb k 2) (λ e. rw e (by-bool (isPriority n) (λ p. rw p (level-good (n - 1) (levelOf (real v)) (priority-of n p) (level-units (real v)))) (λ p. rw p (omega arith)))) (λ e. rw e (by-bool (eqb k 3) (λ e. rw e (by-bool (isPriority n) (λ p. rw p (priority-of n p)) (λ p. rw p (omega arith)))) (λ e. rw e (by-bool (eqb k 4) (λ e. rw e (change-good (propertyOf n) v)) (λ e. rw e (by-bool (eqb k 5) (λ e. rw e (tt)) (λ e. rw e (by-bool (leb 0x10 k) (λ e. rw e (by-bool (ltb k 0x1b) (λ e. rw e (order-good k x y z)) (λ e. rw e (omega arith)))) (λ e. rw e (omega arith))))))))))
 
 -- A TIME of six bytes
 octet : (b : Bytes) (at : ℕ) → Octets b → byteAt b at < 256

@@ -119,14 +119,16 @@ writeOf n x = if isPriority n then writeLevel (n - 1) (levelOf (real x)) else Re
 unfoldable pub emptyOf : ℕ → Request
 emptyOf n = if isPriority n then Empty (n - 1) else Refuse 10
 
--- THE REQUEST of kind k: n is the byte and v the four bytes after it, where the kind has them; x, y and z are a command's fields
+-- THE REQUEST of kind k: n is the byte and v the four bytes after it, where the kind has them; x, y and z are a command's fields. An unknown
+-- kind has none, and `parse` asks for none
 unfoldable pub requestBy : Parameters → ℕ → ℕ → ℕ → ℕ → ℕ → ℕ → Request
 requestBy p k n v x y z =
     if eqb k 2 then writeOf n v
     else if eqb k 3 then emptyOf n
     else if eqb k 4 then changeOf p (propertyOf n) v
     else if eqb k 5 then Read (propertyOf n)
-    else orderOf p k x y z
+    else if leb 0x10 k then (if ltb k 0x1b then orderOf p k x y z else Refuse 9)
+    else Refuse 9
 
 unfoldable pub requestOf : Parameters → ℕ → Bytes → Request
 requestOf p k b =

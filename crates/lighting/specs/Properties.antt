@@ -8,7 +8,7 @@ use lib.ListN.{getD}
 use Rattle.lighting.specs.Choice.{if_then_else_, _also_}
 use Rattle.lighting.specs.Parameters.{Parameters}
 use Rattle.lighting.specs.Level.{real, bits, readOut, levelOf, limitOf, amountOperand}
-use Rattle.lighting.specs.Slots.{Slots, lives}
+use Rattle.lighting.specs.Slots.{Slots, lives, levelAt}
 use Rattle.lighting.specs.Value.{presentValue, progressValue, inProcess}
 use Rattle.lighting.specs.declared.Settings.{Settings}
 use Rattle.lighting.specs.declared.Activity.{Activity}
@@ -187,8 +187,9 @@ minOverMax c = ltb (c .max) (c .min)
 unfoldable pub levelAnswer : ℕ → Answer
 levelAnswer v = Value (readOut v)
 
+-- '21 to 30 slots 1 to 16 (Absent if not live)'
 unfoldable pub slotAnswer : Slots → ℕ → Answer
-slotAnswer s i = if lives s i then levelAnswer (getD (s .levels) i 0) else Absent
+slotAnswer s i = if lives s i then levelAnswer (levelAt 0 s i) else Absent
 
 unfoldable pub flag : Bool → ℕ
 flag b = if b then 1 else 0

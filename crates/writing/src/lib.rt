@@ -67,7 +67,6 @@ fn is_dark(s: Slots, i: usize) -> bool
 }
 
 fn dark_from(s: Slots, from: usize) -> bool
-    requires { ⌜ from ≤ 16 ⌝ }
     ensures { λ r. ⌜ r ≡ darkFrom s from ⌝ }
 {
     let mut i = from;
@@ -94,7 +93,6 @@ fn does_blink(c: Settings) -> bool
 
 // 'Relinquish_Default and slots X + 1 to 16 are zero or empty'.
 fn dark_above(c: Settings, s: Slots, x: u8) -> bool
-    requires { ⌜ x < 16 ⌝ }
     ensures { λ r. ⌜ r ≡ darkAbove c s x ⌝ }
 {
     if c.default == 0 {
@@ -106,7 +104,6 @@ fn dark_above(c: Settings, s: Slots, x: u8) -> bool
 
 // `w` is the winner, `y` Present_Value. 'slots 1 to X - 1 are empty': the winner is no lower than x. The cheap tests come first.
 fn warns_by(c: Settings, s: Slots, x: u8, w: u32, y: u32) -> bool
-    requires { ⌜ x < 16 ⌝ }
     ensures { λ r. ⌜ r ≡ warnsBy c s x w y ⌝ }
 {
     if 5 < x {
@@ -125,7 +122,6 @@ fn warns_by(c: Settings, s: Slots, x: u8, w: u32, y: u32) -> bool
 }
 
 fn does_warn(c: Settings, s: Slots, x: u8) -> bool
-    requires { ⌜ x < 16 ⌝ }
     ensures { λ r. ⌜ r ≡ warns c s x ⌝ }
 {
     warns_by(c, s, x, slots::winning(s), value::present_value(c, s))
@@ -218,7 +214,6 @@ fn write_warned(o: Output, i: u8, v: u32) -> Output
 
 fn write_zero(t: u64, o: Output, i: u8) -> Output
     requires { ⌜ t < 2 ^ 48 ⌝ }
-    requires { ⌜ i < 16 ⌝ }
     ensures { λ r. ⌜ r ≡ writtenZero t o i ⌝ }
 {
     let c = o.settings;
@@ -232,7 +227,6 @@ fn write_zero(t: u64, o: Output, i: u8) -> Output
 
 fn write_calm(t: u64, o: Output, i: u8, v: u32) -> Output
     requires { ⌜ t < 2 ^ 48 ⌝ }
-    requires { ⌜ i < 16 ⌝ }
     ensures { λ r. ⌜ r ≡ writtenCalm t o i v ⌝ }
 {
     if v == 0 {
@@ -244,7 +238,6 @@ fn write_calm(t: u64, o: Output, i: u8, v: u32) -> Output
 
 fn write_by(t: u64, o: Output, i: u8, v: u32, a: Activity) -> Output
     requires { ⌜ t < 2 ^ 48 ⌝ }
-    requires { ⌜ i < 16 ⌝ }
     ensures { λ r. ⌜ r ≡ writtenBy t o i v a ⌝ }
 {
     match a {
@@ -262,7 +255,6 @@ fn write_by(t: u64, o: Output, i: u8, v: u32, a: Activity) -> Output
 
 pub fn write(t: u64, o: Output, i: u8, v: u32) -> Output
     requires { ⌜ t < 2 ^ 48 ⌝ }
-    requires { ⌜ i < 16 ⌝ }
     ensures { λ r. ⌜ r ≡ written t o i v ⌝ }
 {
     let a = o.activity;

@@ -1,0 +1,29 @@
+use Rattle.lighting.specs.Frames.{callOf}
+use borrow.Author.Needs.{needs}
+use Rattle.frame.proofs.call_of.Statement.{statement}
+use Rattle.frame.proofs.call_of.Tie as tie
+use Rattle.frame.proofs.call_of.Reads as reads
+use Rattle.frame.proofs.call_of.Lts as lts
+use Rattle.field.proofs.byte_at.Reads as byte-at-reads
+use Rattle.field.proofs.word48_at.Reads as word48-at-reads
+use Rattle.frame.proofs.request_of.Reads as request-of-reads
+
+-- src/lib.rt:196:15
+word48-at-requires : tie.Need-word48-at-requires
+word48-at-requires c κs = search needs
+
+-- src/lib.rt:198:29
+byte-at-requires : tie.Need-byte-at-requires
+byte-at-requires c κs = search needs
+
+-- src/lib.rt:198:18
+request-of-requires : tie.Need-request-of-requires
+request-of-requires c κs = search needs
+
+-- src/lib.rt:190:1
+returns : tie.Need-returns
+unfolding callOf
+returns c = cc
+
+pub call-of-spec : {M : Type 1} → statement M
+call-of-spec = tie.close (tie.spec word48-at-requires byte-at-requires request-of-requires returns)

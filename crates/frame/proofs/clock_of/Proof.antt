@@ -1,0 +1,19 @@
+use Rattle.lighting.specs.Frames.{clockOf}
+use borrow.Author.Needs.{needs}
+use Rattle.frame.proofs.clock_of.Statement.{statement}
+use Rattle.frame.proofs.clock_of.Tie as tie
+use Rattle.frame.proofs.clock_of.Reads as reads
+use Rattle.frame.proofs.clock_of.Lts as lts
+use Rattle.field.proofs.word48_at.Reads as word48-at-reads
+
+-- src/lib.rt:233:18
+word48-at-requires : tie.Need-word48-at-requires
+word48-at-requires c κs = search needs
+
+-- src/lib.rt:230:1
+returns : tie.Need-returns
+unfolding clockOf
+returns c = cc
+
+pub clock-of-spec : {M : Type 1} → statement M
+clock-of-spec = tie.close (tie.spec word48-at-requires returns)

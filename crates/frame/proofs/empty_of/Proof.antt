@@ -1,0 +1,30 @@
+use Rattle.lighting.proofs.Choosing.{ifs}
+use Rattle.lighting.specs.Frames.{emptyOf}
+use borrow.Author.Needs.{needs}
+use Rattle.frame.proofs.empty_of.Statement.{statement}
+use Rattle.frame.proofs.empty_of.Tie as tie
+use Rattle.frame.proofs.empty_of.Reads as reads
+use Rattle.frame.proofs.empty_of.Lts as lts
+use Rattle.properties.proofs.slot_of.Reads as slot-of-reads
+use Rattle.ranges.proofs.is_priority.Reads as is-priority-reads
+
+-- src/lib.rt:152:8
+is-priority-requires : tie.Need-is-priority-requires
+is-priority-requires c κs = search needs
+
+-- src/lib.rt:154:19
+slot-of-requires : tie.Need-slot-of-requires
+slot-of-requires c κs = cc
+
+-- src/lib.rt:149:1
+returns : tie.Need-returns
+unfolding emptyOf
+returns c = search (needs, ifs)
+
+-- src/lib.rt:149:1
+returns-2 : tie.Need-returns-2
+unfolding emptyOf
+returns-2 c = search (needs, ifs)
+
+pub empty-of-spec : {M : Type 1} → statement M
+empty-of-spec = tie.close (tie.spec is-priority-requires slot-of-requires returns returns-2)

@@ -1,0 +1,46 @@
+use Rattle.lighting.proofs.Choosing.{ifs}
+use Rattle.lighting.proofs.Laws.{fadeOrder-on}
+use Rattle.lighting.specs.Frames.{fadeOrder}
+use borrow.Author.Needs.{needs}
+use Rattle.frame.proofs.fade_order.Statement.{statement}
+use Rattle.frame.proofs.fade_order.Tie as tie
+use Rattle.frame.proofs.fade_order.Reads as reads
+use Rattle.frame.proofs.fade_order.Lts as lts
+use Rattle.frame.proofs.order.Reads as order-reads
+use Rattle.ranges.proofs.is_within.Reads as is-within-reads
+
+-- src/lib.rt:74:24
+enum-known-x : tie.Need-enum-known-x
+enum-known-x c = search needs
+
+-- src/lib.rt:74:37
+is-within-requires : tie.Need-is-within-requires
+is-within-requires c κs = search needs
+
+-- src/lib.rt:75:13
+order-requires : tie.Need-order-requires
+order-requires c κs = search needs
+
+-- src/lib.rt:79:27
+enum-told : tie.Need-enum-told
+enum-told c = search needs
+
+-- src/lib.rt:70:1
+returns : tie.Need-returns
+unfolding fadeOrder
+returns c = search (needs, ifs, fadeOrder-on)
+
+-- src/lib.rt:70:1
+returns-2 : tie.Need-returns-2
+unfolding fadeOrder
+returns-2 c = search (needs, ifs, fadeOrder-on)
+
+-- src/lib.rt:70:1
+returns-3 : tie.Need-returns-3
+unfolding fadeOrder
+returns-3 c = search (needs, ifs, fadeOrder-on)
+
+pub fade-order-spec : {M : Type 1} → statement M
+fade-order-spec =
+    tie.close
+    (tie.spec enum-known-x is-within-requires order-requires enum-told returns returns-2 returns-3)

@@ -1,0 +1,29 @@
+use Rattle.lighting.specs.Frames.{parse}
+use borrow.Author.Needs.{needs}
+use Rattle.frame.proofs.parse.Statement.{statement}
+use Rattle.frame.proofs.parse.Tie as tie
+use Rattle.frame.proofs.parse.Reads as reads
+use Rattle.frame.proofs.parse.Lts as lts
+use Rattle.field.proofs.byte_at.Reads as byte-at-reads
+use Rattle.frame.proofs.parse_by.Reads as parse-by-reads
+use Rattle.kinds.proofs.kind_length.Reads as kind-length-reads
+
+-- src/lib.rt:252:9
+byte-at-requires : tie.Need-byte-at-requires
+byte-at-requires c κs = search needs
+
+-- src/lib.rt:253:20
+kind-length-requires : tie.Need-kind-length-requires
+kind-length-requires c κs = search needs
+
+-- src/lib.rt:253:5
+parse-by-requires : tie.Need-parse-by-requires
+parse-by-requires c κs = search needs
+
+-- src/lib.rt:249:1
+returns : tie.Need-returns
+unfolding parse
+returns c = cc
+
+pub parse-spec : {M : Type 1} → statement M
+parse-spec = tie.close (tie.spec byte-at-requires kind-length-requires parse-by-requires returns)

@@ -1,0 +1,35 @@
+use Rattle.lighting.proofs.Choosing.{ifs}
+use Rattle.lighting.proofs.Laws.{rampOrder-on}
+use Rattle.lighting.specs.Frames.{rampOrder}
+use borrow.Author.Needs.{needs}
+use Rattle.frame.proofs.ramp_order.Statement.{statement}
+use Rattle.frame.proofs.ramp_order.Tie as tie
+use Rattle.frame.proofs.ramp_order.Reads as reads
+use Rattle.frame.proofs.ramp_order.Lts as lts
+use Rattle.frame.proofs.ramp_order_at.Reads as ramp-order-at-reads
+
+-- src/lib.rt:97:24
+enum-known-x : tie.Need-enum-known-x
+enum-known-x c = search needs
+
+-- src/lib.rt:97:34
+ramp-order-at-requires : tie.Need-ramp-order-at-requires
+ramp-order-at-requires c κs = search needs
+
+-- src/lib.rt:98:27
+enum-told : tie.Need-enum-told
+enum-told c = search needs
+
+-- src/lib.rt:93:1
+returns : tie.Need-returns
+unfolding rampOrder
+returns c = search (needs, ifs, rampOrder-on)
+
+-- src/lib.rt:93:1
+returns-2 : tie.Need-returns-2
+unfolding rampOrder
+returns-2 c = search (needs, ifs, rampOrder-on)
+
+pub ramp-order-spec : {M : Type 1} → statement M
+ramp-order-spec =
+    tie.close (tie.spec enum-known-x ramp-order-at-requires enum-told returns returns-2)

@@ -1,0 +1,22 @@
+use borrow.Author.Needs.{needs}
+use Rattle.frame.proofs.real_order.Statement.{statement}
+use Rattle.frame.proofs.real_order.Tie as tie
+use Rattle.frame.proofs.real_order.Reads as reads
+use Rattle.frame.proofs.real_order.Lts as lts
+use Rattle.frame.proofs.order_with.Reads as order-with-reads
+use Rattle.frame.proofs.step_or_level.Reads as step-or-level-reads
+
+-- src/lib.rt:116:19
+step-or-level-requires : tie.Need-step-or-level-requires
+step-or-level-requires c κs = search needs
+
+-- src/lib.rt:116:5
+order-with-requires : tie.Need-order-with-requires
+order-with-requires c κs = search needs
+
+-- src/lib.rt:113:1
+returns : tie.Need-returns
+returns c = cc
+
+pub real-order-spec : {M : Type 1} → statement M
+real-order-spec = tie.close (tie.spec step-or-level-requires order-with-requires returns)

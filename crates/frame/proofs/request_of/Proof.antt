@@ -1,0 +1,50 @@
+use Rattle.lighting.specs.Frames.{requestOf}
+use borrow.Author.Needs.{needs}
+use Rattle.frame.proofs.request_of.Statement.{statement}
+use Rattle.frame.proofs.request_of.Tie as tie
+use Rattle.frame.proofs.request_of.Reads as reads
+use Rattle.frame.proofs.request_of.Lts as lts
+use Rattle.field.proofs.byte_at.Reads as byte-at-reads
+use Rattle.field.proofs.word32_at.Reads as word32-at-reads
+use Rattle.frame.proofs.request_by.Reads as request-by-reads
+
+-- src/lib.rt:182:9
+byte-at-requires : tie.Need-byte-at-requires
+byte-at-requires c κs = search needs
+
+-- src/lib.rt:183:9
+word32-at-requires : tie.Need-word32-at-requires
+word32-at-requires c κs = search needs
+
+-- src/lib.rt:184:9
+word32-at-requires-2 : tie.Need-word32-at-requires-2
+word32-at-requires-2 c κs = search needs
+
+-- src/lib.rt:185:9
+word32-at-requires-3 : tie.Need-word32-at-requires-3
+word32-at-requires-3 c κs = search needs
+
+-- src/lib.rt:186:9
+word32-at-requires-4 : tie.Need-word32-at-requires-4
+word32-at-requires-4 c κs = search needs
+
+-- src/lib.rt:180:5
+request-by-requires : tie.Need-request-by-requires
+request-by-requires c κs = search needs
+
+-- src/lib.rt:177:1
+returns : tie.Need-returns
+unfolding requestOf
+returns c = cc
+
+pub request-of-spec : {M : Type 1} → statement M
+request-of-spec =
+    tie.close
+    (tie.spec
+    byte-at-requires
+    word32-at-requires
+    word32-at-requires-2
+    word32-at-requires-3
+    word32-at-requires-4
+    request-by-requires
+    returns)

@@ -1,0 +1,29 @@
+use Rattle.lighting.proofs.Choosing.{ifs}
+use Rattle.lighting.proofs.Laws.{writeLevel-on}
+use Rattle.lighting.specs.Frames.{writeLevel}
+use borrow.Author.Needs.{needs}
+use Rattle.frame.proofs.write_level.Statement.{statement}
+use Rattle.frame.proofs.write_level.Tie as tie
+use Rattle.frame.proofs.write_level.Reads as reads
+use Rattle.frame.proofs.write_level.Lts as lts
+
+-- src/lib.rt:134:22
+enum-known-v : tie.Need-enum-known-v
+enum-known-v c = search needs
+
+-- src/lib.rt:135:30
+enum-told : tie.Need-enum-told
+enum-told c = search needs
+
+-- src/lib.rt:130:1
+returns : tie.Need-returns
+unfolding writeLevel
+returns c = search (needs, ifs, writeLevel-on)
+
+-- src/lib.rt:130:1
+returns-2 : tie.Need-returns-2
+unfolding writeLevel
+returns-2 c = search (needs, ifs, writeLevel-on)
+
+pub write-level-spec : {M : Type 1} → statement M
+write-level-spec = tie.close (tie.spec enum-known-v enum-told returns returns-2)

@@ -1,0 +1,24 @@
+use Rattle.lighting.proofs.Choosing.{ifs}
+use Rattle.lighting.specs.Properties.{elapsedActive}
+use borrow.Author.Needs.{needs}
+use Rattle.properties.proofs.answers.elapsed_active.Statement.{statement}
+use Rattle.properties.proofs.answers.elapsed_active.Tie as tie
+use Rattle.properties.proofs.answers.elapsed_active.Reads as reads
+use Rattle.properties.proofs.answers.elapsed_active.Lts as lts
+
+-- src/lib.rt:308:9
+cast-result : tie.Need-cast-result
+cast-result c = search needs
+
+-- src/lib.rt:303:1
+returns : tie.Need-returns
+unfolding elapsedActive
+returns c = search (needs, ifs)
+
+-- src/lib.rt:303:1
+returns-2 : tie.Need-returns-2
+unfolding elapsedActive
+returns-2 c = search (needs, ifs)
+
+pub elapsed-active-spec : {M : Type 1} → statement M
+elapsed-active-spec = tie.close (tie.spec cast-result returns returns-2)

@@ -1,0 +1,19 @@
+use Rattle.lighting.specs.Properties.{realAnswer}
+use borrow.Author.Needs.{needs}
+use Rattle.properties.proofs.answers.real_answer.Statement.{statement}
+use Rattle.properties.proofs.answers.real_answer.Tie as tie
+use Rattle.properties.proofs.answers.real_answer.Reads as reads
+use Rattle.properties.proofs.answers.real_answer.Lts as lts
+use Rattle.level.proofs.bits_of.Reads as bits-of-reads
+
+-- src/lib.rt:335:19
+bits-of-requires : tie.Need-bits-of-requires
+bits-of-requires c κs = search needs
+
+-- src/lib.rt:332:1
+returns : tie.Need-returns
+unfolding realAnswer
+returns c = cc
+
+pub real-answer-spec : {M : Type 1} → statement M
+real-answer-spec = tie.close (tie.spec bits-of-requires returns)

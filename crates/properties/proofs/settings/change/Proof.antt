@@ -1,0 +1,31 @@
+use Rattle.lighting.specs.Properties.{changed}
+use borrow.Author.Needs.{needs}
+use Rattle.properties.proofs.settings.change.Statement.{statement}
+use Rattle.properties.proofs.settings.change.Tie as tie
+use Rattle.properties.proofs.settings.change.Reads as reads
+use Rattle.properties.proofs.settings.change.Lts as lts
+use Rattle.properties.proofs.settings.activity_with.Reads as activity-with-reads
+use Rattle.properties.proofs.settings.burning_with.Reads as burning-with-reads
+use Rattle.properties.proofs.settings.settings_with.Reads as settings-with-reads
+
+-- src/lib.rt:274:19
+settings-with-requires : tie.Need-settings-with-requires
+settings-with-requires c κs = search needs
+
+-- src/lib.rt:276:19
+activity-with-requires : tie.Need-activity-with-requires
+activity-with-requires c κs = search needs
+
+-- src/lib.rt:278:18
+burning-with-requires : tie.Need-burning-with-requires
+burning-with-requires c κs = search needs
+
+-- src/lib.rt:265:1
+returns : tie.Need-returns
+unfolding changed
+returns c = cc
+
+pub change-spec : {M : Type 1} → statement M
+change-spec =
+    tie.close
+    (tie.spec settings-with-requires activity-with-requires burning-with-requires returns)

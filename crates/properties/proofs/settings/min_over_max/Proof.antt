@@ -1,0 +1,15 @@
+use borrow.Author.Needs.{needs}
+use Rattle.lighting.proofs.Choosing.{ifs}
+use Rattle.lighting.specs.Properties.{minOverMax}
+use Rattle.properties.proofs.settings.min_over_max.Statement.{statement}
+use Rattle.properties.proofs.settings.min_over_max.Tie as tie
+use Rattle.properties.proofs.settings.min_over_max.Reads as reads
+use Rattle.properties.proofs.settings.min_over_max.Lts as lts
+
+-- src/lib.rt:283:1
+returns : tie.Need-returns
+unfolding minOverMax
+returns c = search (needs, ifs)
+
+pub min-over-max-spec : {M : Type 1} → statement M
+min-over-max-spec = tie.close (tie.spec returns)

@@ -1,0 +1,22 @@
+use native.Mathlib.Omega.{arith}
+use Rattle.properties.proofs.Priorities.{priority-range}
+use borrow.Author.Needs.{needs}
+use Rattle.properties.proofs.values.slot_of.Statement.{statement}
+use Rattle.properties.proofs.values.slot_of.Tie as tie
+use Rattle.properties.proofs.values.slot_of.Reads as reads
+use Rattle.properties.proofs.values.slot_of.Lts as lts
+
+-- src/lib.rt:105:6
+sub-result : tie.Need-sub-result
+sub-result c = let p = priority-range _ (c .pre) in omega arith
+
+-- src/lib.rt:105:5
+cast-result : tie.Need-cast-result
+cast-result c = let p = priority-range _ (c .pre) in omega arith
+
+-- src/lib.rt:101:1
+returns : tie.Need-returns
+returns c = search needs
+
+pub slot-of-spec : {M : Type 1} → statement M
+slot-of-spec = tie.close (tie.spec sub-result cast-result returns)
