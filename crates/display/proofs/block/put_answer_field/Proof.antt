@@ -1,3 +1,5 @@
+use Rattle.display.proofs.Turns.{answerField-on}
+use Rattle.display.specs.Block.{answerField}
 use borrow.Author.Needs.{needs}
 use Rattle.display.proofs.block.put_answer_field.Statement.{statement}
 use Rattle.display.proofs.block.put_answer_field.Tie as tie
@@ -56,7 +58,8 @@ same-length c = search needs
 
 -- src/block.rt:60:1
 returns : tie.Need-returns
-returns c = ?
+unfolding answerField
+returns c = search (needs, answerField-on)
 
 -- src/block.rt:60:1
 same-length-2 : tie.Need-same-length-2
@@ -64,7 +67,8 @@ same-length-2 c = search needs
 
 -- src/block.rt:60:1
 returns-2 : tie.Need-returns-2
-returns-2 c = ?
+unfolding answerField
+returns-2 c = search (needs, answerField-on)
 
 -- src/block.rt:60:1
 same-length-3 : tie.Need-same-length-3
@@ -72,7 +76,8 @@ same-length-3 c = search needs
 
 -- src/block.rt:60:1
 returns-3 : tie.Need-returns-3
-returns-3 c = ?
+unfolding answerField
+returns-3 c = search (needs, answerField-on)
 
 -- src/block.rt:60:1
 same-length-4 : tie.Need-same-length-4
@@ -80,7 +85,8 @@ same-length-4 c = search needs
 
 -- src/block.rt:60:1
 returns-4 : tie.Need-returns-4
-returns-4 c = ?
+unfolding answerField
+returns-4 c = search (needs, answerField-on)
 
 pub put-answer-field-spec : {M : Type 1} → statement M
 put-answer-field-spec =

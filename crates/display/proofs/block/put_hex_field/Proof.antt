@@ -1,3 +1,5 @@
+use Rattle.text.proofs.Pages.{wrote-then}
+use Rattle.display.specs.Block.{hexField}
 use borrow.Author.Needs.{needs}
 use Rattle.display.proofs.block.put_hex_field.Statement.{statement}
 use Rattle.display.proofs.block.put_hex_field.Tie as tie
@@ -20,7 +22,8 @@ same-length c = search needs
 
 -- src/block.rt:53:1
 returns : tie.Need-returns
-returns c = ?
+unfolding hexField
+returns c = wrote-then (c .before .before .before .before .before .before .put .ensures) (c .before .before .put-hex8 .ensures)
 
 pub put-hex-field-spec : {M : Type 1} → statement M
 put-hex-field-spec = tie.close (tie.spec put-requires put-hex8-requires same-length returns)

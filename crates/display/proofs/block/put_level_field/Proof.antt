@@ -1,3 +1,5 @@
+use Rattle.text.proofs.Pages.{wrote-then}
+use Rattle.display.specs.Block.{levelField}
 use borrow.Author.Needs.{needs}
 use Rattle.display.proofs.block.put_level_field.Statement.{statement}
 use Rattle.display.proofs.block.put_level_field.Tie as tie
@@ -20,7 +22,8 @@ same-length c = search needs
 
 -- src/block.rt:18:1
 returns : tie.Need-returns
-returns c = ?
+unfolding levelField
+returns c = wrote-then (c .before .before .before .before .before .before .put .ensures) (c .before .before .put-decimal .ensures)
 
 pub put-level-field-spec : {M : Type 1} → statement M
 put-level-field-spec = tie.close (tie.spec put-requires put-decimal-requires same-length returns)

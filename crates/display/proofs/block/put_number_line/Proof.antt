@@ -1,3 +1,5 @@
+use Rattle.text.proofs.Pages.{wrote-then}
+use Rattle.display.specs.Block.{numberLine}
 use borrow.Author.Needs.{needs}
 use Rattle.display.proofs.block.put_number_line.Statement.{statement}
 use Rattle.display.proofs.block.put_number_line.Tie as tie
@@ -25,7 +27,8 @@ same-length c = search needs
 
 -- src/block.rt:95:1
 returns : tie.Need-returns
-returns c = ?
+unfolding numberLine
+returns c = wrote-then (c .before .before .before .before .before .before .before .before .before .before .put-all .ensures) (wrote-then (c .before .before .before .before .before .before .put-decimal .ensures) (c .before .before .put .ensures))
 
 pub put-number-line-spec : {M : Type 1} → statement M
 put-number-line-spec =

@@ -1,3 +1,4 @@
+use Rattle.display.specs.Block.{presentLine}
 use borrow.Author.Needs.{needs}
 use Rattle.display.proofs.block.put_present_line.Statement.{statement}
 use Rattle.display.proofs.block.put_present_line.Tie as tie
@@ -28,7 +29,8 @@ same-length c = search needs
 
 -- src/block.rt:111:1
 returns : tie.Need-returns
-returns c = ?
+unfolding presentLine
+returns c = rw (← c .before .before .before .present-value .ensures) (c .before .before .put-number-line .ensures)
 
 pub put-present-line-spec : {M : Type 1} → statement M
 put-present-line-spec =

@@ -1,3 +1,4 @@
+use Rattle.display.specs.Block.{processLine}
 use borrow.Author.Needs.{needs}
 use Rattle.display.proofs.block.put_process_line.Statement.{statement}
 use Rattle.display.proofs.block.put_process_line.Tie as tie
@@ -28,7 +29,8 @@ same-length c = search needs
 
 -- src/block.rt:125:1
 returns : tie.Need-returns
-returns c = ?
+unfolding processLine
+returns c = rw (← c .before .before .before .in-process .ensures) (c .before .before .put-number-line .ensures)
 
 pub put-process-line-spec : {M : Type 1} → statement M
 put-process-line-spec =

@@ -1,3 +1,4 @@
+use Rattle.display.specs.Block.{progressLine}
 use borrow.Author.Needs.{needs}
 use Rattle.display.proofs.block.put_progress_line.Statement.{statement}
 use Rattle.display.proofs.block.put_progress_line.Tie as tie
@@ -28,7 +29,8 @@ same-length c = search needs
 
 -- src/block.rt:119:1
 returns : tie.Need-returns
-returns c = ?
+unfolding progressLine
+returns c = rw (← c .before .before .before .progress-value .ensures) (c .before .before .put-number-line .ensures)
 
 pub put-progress-line-spec : {M : Type 1} → statement M
 put-progress-line-spec =

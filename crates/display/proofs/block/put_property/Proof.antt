@@ -1,3 +1,4 @@
+use Rattle.display.specs.Block.{propertyField}
 use borrow.Author.Needs.{needs}
 use Rattle.display.proofs.block.put_property.Statement.{statement}
 use Rattle.display.proofs.block.put_property.Tie as tie
@@ -25,7 +26,8 @@ same-length c = search needs
 
 -- src/block.rt:71:1
 returns : tie.Need-returns
-returns c = ?
+unfolding propertyField
+returns c = rw (← c .before .before .before .before .before .property-of .ensures, ← c .before .before .before .before .show .ensures) (c .before .before .put-answer-field .ensures)
 
 pub put-property-spec : {M : Type 1} → statement M
 put-property-spec =

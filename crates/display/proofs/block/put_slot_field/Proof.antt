@@ -1,3 +1,5 @@
+use Rattle.display.proofs.Turns.{choices}
+use Rattle.display.specs.Block.{slotField}
 use borrow.Author.Needs.{needs}
 use Rattle.display.proofs.block.put_slot_field.Statement.{statement}
 use Rattle.display.proofs.block.put_slot_field.Tie as tie
@@ -29,7 +31,8 @@ same-length c = search needs
 
 -- src/block.rt:31:1
 returns : tie.Need-returns
-returns c = ?
+unfolding slotField
+returns c = search (needs, choices)
 
 -- src/block.rt:31:1
 same-length-2 : tie.Need-same-length-2
@@ -37,7 +40,8 @@ same-length-2 c = search needs
 
 -- src/block.rt:31:1
 returns-2 : tie.Need-returns-2
-returns-2 c = ?
+unfolding slotField
+returns-2 c = search (needs, choices)
 
 pub put-slot-field-spec : {M : Type 1} → statement M
 put-slot-field-spec =

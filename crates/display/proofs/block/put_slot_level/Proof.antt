@@ -1,3 +1,4 @@
+use Rattle.display.specs.Block.{slotLevel}
 use borrow.Author.Needs.{needs}
 use Rattle.display.proofs.block.put_slot_level.Statement.{statement}
 use Rattle.display.proofs.block.put_slot_level.Tie as tie
@@ -20,7 +21,8 @@ same-length c = search needs
 
 -- src/block.rt:25:1
 returns : tie.Need-returns
-returns c = ?
+unfolding slotLevel
+returns c = rw (← c .before .before .before .level-at .ensures) (c .before .before .put-level-field .ensures)
 
 pub put-slot-level-spec : {M : Type 1} → statement M
 put-slot-level-spec =
