@@ -3,6 +3,7 @@ use mathlib.Core.Path.{_≡_, refl, sym, _∙_}
 use mathlib.Core.Logic.{_≢_}
 use mathlib.Core.Bool.{Bool, true, false, not, false≢true, true≢false}
 use Prim.Native.Nat.{ℕ, _-_, _≤_, _<_}
+use native.Mathlib.Nat.{sub-self}
 use native.Mathlib.Omega.{arith}
 use lib.Dec.{ltb, leb, eqb}
 use lib.ListN.{length, getD}
@@ -128,9 +129,17 @@ unfolding sound
 facts-sound t o h = search (tests, settled-yes, filled-yes, acts-yes, timed-yes) depth 7
 
 -- what theorem A asks
-pub sound-calm : (t : ℕ) (o : Output) → Sound t o → Calm t o
-sound-calm t o h =
-    record { after = record { timer = timer (o .timer) (h .timer); activity = activity (o .activity) (h .activity) }; burnt = h .burnt }
+pub tested-calm : (t : ℕ) (o : Output) → sound standard t o ≡ true → Calm t o
+unfolding sound
+tested-calm t o h =
+    record {
+      after =
+          record {
+            timer = timer (o .timer) (search (parts, timed-of));
+            activity = activity (o .activity) (search (parts, acts-of));
+          };
+      burnt = search parts;
+    }
   where
     timer : (m : Timer) → Timed t m → TimerAfter t m
     timer Off k = tt
@@ -141,6 +150,14 @@ sound-calm t o h =
     activity (Moving m) k = k .later
     activity (Blink owner level turn over) k = k .0 .later
     activity (Delay owner over) k = k .later
+
+pub sound-calm : (t : ℕ) (o : Output) → Sound t o → Calm t o
+sound-calm t o h = tested-calm t o (facts-sound t o h)
+
+-- a record that passed the test stays as it is while time stands
+pub tested-stays : (t : ℕ) (o : Output) → t ≤ top → sound standard t o ≡ true → advance t t o ≡ o
+unfolding ticks
+tested-stays t o m h = advance-ticks t t o (omega arith) m (tested-calm t o h) ∙ rw (sub-self t)
 
 -- THEOREM A of a record that passed the test
 pub sound-advance : (now to : ℕ) (o : Output) → length (o .slots .levels) ≡ 16 → sound standard now o ≡ true → now ≤ to → to ≤ top

@@ -2,7 +2,7 @@
 -- Assumes nothing.
 use mathlib.Core.Bool.{Bool, true, false}
 use mathlib.Core.List.{List, [], _∷_, _++_, map}
-use Prim.Native.Nat.{ℕ, _-_}
+use Prim.Native.Nat.{ℕ, _-_, _^_, _≤_, _<_}
 use lib.Dec.{leb, ltb, eqb}
 use lib.ListN.{getD, set, length, replicate, take}
 use Rattle.lighting.specs.Choice.{if_then_else_, _also_}
@@ -28,6 +28,9 @@ pub record Panel : Type 0 where
   pub outputs : List Output
   pub stations : List Station
   pub time : ℕ
+
+abbrev pub lent : List Output → List Station → ℕ → Panel
+lent outputs stations time = record { outputs = outputs; stations = stations; time = time }
 
 -- what an operation leaves and answers
 pub record Step : Type 0 where
@@ -93,6 +96,23 @@ metBy now k b f = met now k (sameBytes b (restored (k .frame))) f
 unfoldable pub decide : Parameters → Panel → Bytes → Verdict
 decide p e b =
     let f = parse p (length (e .outputs)) b in metBy (e .time) (getD (e .stations) (stationOf f) freshStation) b f
+
+-- WHAT A VERDICT IS SURE OF at panel time, with c outputs and k stations, once the panel is sound (proofs/Carried.antt)
+pub record Timely (now t : ℕ) : Type 0 where
+  pub due : now ≤ t
+  pub time : t < 2 ^ 48
+
+pub record Arrival (now c k : ℕ) (b : Bytes) (s t i : ℕ) : Type 0 where
+  pub moment : Timely now t
+  pub station : s < k
+  pub output : i < c
+  pub size : length b ≤ 25
+
+abbrev pub Sure : ℕ → ℕ → ℕ → Bytes → Verdict → Type 0
+Sure now c k b (TurnedDown r) = Unit {0}
+Sure now c k b (Copied a) = Unit {0}
+Sure now c k b (Clocked t) = Timely now t
+Sure now c k b (Arrives s n t i r) = Arrival now c k b s t i
 
 -- CARRIED OUT: refusals 2 to 8 and copies leave everything; a clock brings every output to its time; a first arrival does so too, acts,
 -- and 'the station keeps number, frame and answer'

@@ -5,6 +5,8 @@ use Rattle.lighting.specs.Frames.{Bytes}
 use Rattle.lighting.specs.declared.Answer.{Answer}
 use Rattle.text.specs.Page.{Wrote}
 use Rattle.text.specs.Writing.{answerLine}
+use Rattle.text.specs.Faults.{faultWords}
+use Rattle.text.specs.declared.reading.Fault.{Fault}
 use Rattle.text.specs.Reading.{step, storedBy, lineOf}
 use Rattle.text.specs.declared.reading.Held.{Held}
 use Rattle.text.specs.declared.reading.Line.{Line}
@@ -21,3 +23,6 @@ lineOf-on h k r e p = rw e p
 
 pub answerLine-on : (p : Bytes) (at : ℕ) (a : Answer) (q : Bytes) (r : ℕ) (k : Answer) → a ≡ k → Wrote p at (answerLine k) q r → Wrote p at (answerLine a) q r
 answerLine-on p at a q r k e f = rw e f
+
+pub faultWords-on : (p : Bytes) (at : ℕ) (f : Fault) (q : Bytes) (r : ℕ) (k : Fault) → f ≡ k → Wrote p at (faultWords k) q r → Wrote p at (faultWords f) q r
+faultWords-on p at f q r k e w = rw e w

@@ -1,7 +1,7 @@
 -- The text of a list of frames, read one byte at a time. Only newlines are not fed: they end a line. Assumes nothing.
 use mathlib.Core.Bool.{Bool, true, false}
 use mathlib.Core.List.{List, [], _∷_}
-use Prim.Native.Nat.{ℕ, _+_, _-_, _*_, _%_, min}
+use Prim.Native.Nat.{ℕ, suc, _+_, _-_, _*_, _%_, min}
 use lib.Dec.{ltb, leb, eqb}
 use lib.ListN.{set, replicate, take}
 use Rattle.lighting.specs.Choice.{if_then_else_}
@@ -134,6 +134,15 @@ feed w c = withHeld (storedBy w (w .held) (hexValue c)) (step (w .outputs) (w .h
 unfoldable pub fed : Reader → Bytes → Reader
 fed w [] = w
 fed w (c ∷ x) = fed (feed w c) x
+
+-- the characters before the first newline, and how many they are
+unfoldable pub fedLine : Reader → Bytes → Reader
+fedLine w [] = w
+fedLine w (c ∷ x) = if eqb c 10 then w else fedLine (feed w c) x
+
+unfoldable pub lineLength : Bytes → ℕ
+lineLength [] = 0
+lineLength (c ∷ x) = if eqb c 10 then 0 else suc (lineLength x)
 
 -- A LINE'S END. 'outputs N (1 to 64)'
 unfoldable pub countLine : ℕ → Line

@@ -1,7 +1,8 @@
 // A list's text, read one byte at a time by value. The caller sees the ends of lines; every other byte is fed.
 ghost use mathlib.Core.Path.{_≡_};
-ghost use Prim.Native.Nat.{_+_, _*_, min};
-ghost use Rattle.text.specs.Reading.{isBlank, hexValue, letter, digitHeld, opened, lettered, spelled, gapped, grownHeld, numbered, trailed, byteHeld, halfHeld, dashed, step, bytePair, pushed, joined, storedBy, withHeld, feed, countLine, lineOf, nextLine, withOutputs, freshReader};
+ghost use Prim.Native.Nat.{_+_, _*_, _≤_, min};
+ghost use lib.ListN.{length, drop};
+ghost use Rattle.text.specs.Reading.{isBlank, hexValue, letter, digitHeld, opened, lettered, spelled, gapped, grownHeld, numbered, trailed, byteHeld, halfHeld, dashed, step, bytePair, pushed, joined, storedBy, withHeld, feed, fedLine, lineLength, countLine, lineOf, nextLine, withOutputs, freshReader};
 
 // What makes a line a bad one.
 pub enum Fault {
@@ -315,6 +316,30 @@ pub fn feed(w: Reader, c: u8) -> Reader
     let v = hex_value(c);
     let stored = store(w, h, v);
     with_held(stored, step(w.outputs, h, v, c))
+}
+
+// The reader after the rest of a line, as far as the bytes go, and where that ends: at a newline, or at the end of the bytes.
+pub struct Fed {
+    pub reader: Reader,
+    pub next: usize,
+}
+
+pub fn feed_line(w: Reader, s: &[u8], from: usize) -> Fed
+    requires { ⌜ from ≤ length (now s) ⌝ }
+    ensures { λ r. ⌜ r .reader ≡ fedLine w (drop from (now (s .entry))) ⌝ }
+    ensures { λ r. ⌜ r .next ≡ from + lineLength (drop from (now (s .entry))) ⌝ }
+{
+    let mut reader = w;
+    let mut i = from;
+    while i < s.len() {
+        let c = s[i];
+        if c == 10 {
+            break;
+        }
+        reader = feed(reader, c);
+        i += 1;
+    }
+    Fed { reader: reader, next: i }
 }
 
 // ---- a line's end

@@ -5,7 +5,7 @@ use Rattle.frame.proofs.empty_of.Statement.{statement}
 use Rattle.frame.proofs.empty_of.Tie as tie
 use Rattle.frame.proofs.empty_of.Reads as reads
 use Rattle.frame.proofs.empty_of.Lts as lts
-use Rattle.properties.proofs.slot_of.Reads as slot-of-reads
+use Rattle.properties.proofs.values.slot_of.Reads as slot-of-reads
 use Rattle.ranges.proofs.is_priority.Reads as is-priority-reads
 
 -- src/lib.rt:152:8

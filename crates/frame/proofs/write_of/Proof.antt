@@ -7,7 +7,7 @@ use Rattle.frame.proofs.write_of.Reads as reads
 use Rattle.frame.proofs.write_of.Lts as lts
 use Rattle.frame.proofs.write_level.Reads as write-level-reads
 use Rattle.level.proofs.level_of.Reads as level-of-reads
-use Rattle.properties.proofs.slot_of.Reads as slot-of-reads
+use Rattle.properties.proofs.values.slot_of.Reads as slot-of-reads
 use Rattle.ranges.proofs.is_priority.Reads as is-priority-reads
 
 -- src/lib.rt:142:8

@@ -1,0 +1,29 @@
+use borrow.Author.Needs.{needs}
+use Rattle.acting.proofs.change.Statement.{statement}
+use Rattle.acting.proofs.change.Tie as tie
+use Rattle.acting.proofs.change.Reads as reads
+use Rattle.acting.proofs.change.Lts as lts
+use Rattle.acting.proofs.change_unless.Reads as change-unless-reads
+use Rattle.properties.proofs.settings.min_over_max.Reads as min-over-max-reads
+use Rattle.properties.proofs.settings.settings_with.Reads as settings-with-reads
+
+-- src/lib.rt:50:44
+settings-with-requires : tie.Need-settings-with-requires
+settings-with-requires c κs = search needs
+
+-- src/lib.rt:50:9
+min-over-max-requires : tie.Need-min-over-max-requires
+min-over-max-requires c κs = search needs
+
+-- src/lib.rt:49:5
+change-unless-requires : tie.Need-change-unless-requires
+change-unless-requires c κs = search needs
+
+-- src/lib.rt:45:1
+returns : tie.Need-returns
+returns c = cc
+
+pub change-spec : {M : Type 1} → statement M
+change-spec =
+    tie.close
+    (tie.spec settings-with-requires min-over-max-requires change-unless-requires returns)

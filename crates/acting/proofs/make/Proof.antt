@@ -1,0 +1,19 @@
+use Rattle.lighting.specs.Acting.{made}
+use borrow.Author.Needs.{needs}
+use Rattle.acting.proofs.make.Statement.{statement}
+use Rattle.acting.proofs.make.Tie as tie
+use Rattle.acting.proofs.make.Reads as reads
+use Rattle.acting.proofs.make.Lts as lts
+use Rattle.passing.proofs.settle.Reads as settle-reads
+
+-- src/lib.rt:18:17
+settle-requires : tie.Need-settle-requires
+settle-requires c κs = search needs
+
+-- src/lib.rt:14:1
+returns : tie.Need-returns
+unfolding made
+returns c = cc
+
+pub make-spec : {M : Type 1} → statement M
+make-spec = tie.close (tie.spec settle-requires returns)

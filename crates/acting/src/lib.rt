@@ -1,0 +1,81 @@
+// What a first arrival does to its output, once the output is at the frame's time: the request acts, reads, or is refused. By value, and on
+// any record at all; the time comes from six bytes.
+ghost use mathlib.Core.Path.{_≡_};
+ghost use Prim.Native.Nat.{_<_, _^_};
+ghost use Rattle.lighting.specs.Properties.{settingsWith, minOverMax};
+ghost use Rattle.lighting.specs.Acting.{made, left, changedUnless, acted};
+use lighting::Answer;
+use lighting::Outcome;
+use lighting::Output;
+use lighting::Request;
+use lighting::Setting;
+
+// The output changed, and judged.
+pub fn make(o: Output) -> Outcome
+    ensures { λ r. ⌜ r ≡ made o ⌝ }
+{
+    Outcome {
+        output: passing::settle(o),
+        answer: Answer::Done,
+    }
+}
+
+// The output as it was: a read, or a refusal.
+pub fn leave(o: Output, a: Answer) -> Outcome
+    ensures { λ r. ⌜ r ≡ left o a ⌝ }
+{
+    Outcome {
+        output: o,
+        answer: a,
+    }
+}
+
+// A write of a setting, unless it would leave Min over Max.
+pub fn change_unless(m: bool, o: Output, n: Setting) -> Outcome
+    ensures { λ r. ⌜ r ≡ changedUnless m o n ⌝ }
+{
+    if m {
+        leave(o, Answer::Refused(13))
+    } else {
+        make(properties::settings::change(o, n))
+    }
+}
+
+// The settings as they would be decide.
+fn change(o: Output, n: Setting) -> Outcome
+    ensures { λ r. ⌜ r ≡ changedUnless (minOverMax (settingsWith (o .settings) n)) o n ⌝ }
+{
+    let c = o.settings;
+    change_unless(
+        properties::settings::min_over_max(properties::settings::settings_with(c, n)),
+        o,
+        n,
+    )
+}
+
+pub fn act(t: u64, o: Output, q: Request) -> Outcome
+    requires { ⌜ t < 2 ^ 48 ⌝ }
+    ensures { λ r. ⌜ r ≡ acted t o q ⌝ }
+{
+    match q {
+        Request::Refuse(number) => leave(o, Answer::Refused(number)),
+        Request::Write { slot, level } => make(writing::write(t, o, slot, level)),
+        Request::Empty { slot } => make(writing::vacate(o, slot)),
+        Request::Change(n) => change(o, n),
+        Request::Read(property) => leave(o, properties::show(t, o, property)),
+        Request::Order(k) => make(commands::command(t, o, k)),
+    }
+}
+
+// An outcome's parts.
+pub fn outcome_output(a: Outcome) -> Output
+    ensures { λ r. ⌜ r ≡ a .output ⌝ }
+{
+    a.output
+}
+
+pub fn outcome_answer(a: Outcome) -> Answer
+    ensures { λ r. ⌜ r ≡ a .answer ⌝ }
+{
+    a.answer
+}

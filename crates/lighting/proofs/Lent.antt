@@ -1,0 +1,2 @@
+pub mod OfOutput
+pub mod OfStation

@@ -1,0 +1,12 @@
+pub mod fresh_outputs
+pub mod fresh_stations
+pub mod outputs_sound
+pub mod stations_sound
+pub mod advance_outputs
+pub mod serve
+pub mod judge
+pub mod panel_sound
+pub mod arrive
+pub mod carry
+pub mod start
+pub mod frame

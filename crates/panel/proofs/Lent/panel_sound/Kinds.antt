@@ -1,0 +1,13 @@
+-- Made by tools/twin.py.
+use Rattle.lighting.proofs.Lent.OfOutput as OfOutput
+use Rattle.lighting.proofs.Lent.OfStation as OfStation
+use borrow.Fn.Kinds
+use borrow.Kind.ShrSlice
+use mathlib.Core.List
+use mir.Syntax
+
+abbrev pub ps : List.List (Kinds.PK 2)
+ps = List._∷_ (ShrSlice.pShrS (OfOutput.row) 0 tt) (List._∷_ (ShrSlice.pShrS (OfStation.row) 1 tt) (List._∷_ (Kinds.pNum Syntax.w64) List.[]))
+
+abbrev pub r : Kinds.RK 2
+r = Kinds.rBool

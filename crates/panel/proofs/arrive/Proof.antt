@@ -1,0 +1,61 @@
+mod Lts
+mod Tie
+use mathlib.Core.Path.{_≡_, refl, sym, ap, _∙_}
+use native.Mathlib.Omega.{arith}
+use lib.ListN.{length, length-map}
+use Rattle.lighting.specs.Passing.{advance}
+use Rattle.lighting.specs.Panel.{carried}
+use borrow.Author.Needs.{needs}
+use Rattle.panel.proofs.arrive.Statement.{statement}
+use Rattle.panel.proofs.arrive.Proof.Tie as tie
+use Rattle.panel.proofs.Lent.arrive.Reads as reads
+use Rattle.panel.proofs.arrive.Proof.Lts as lts
+
+advance-outputs-requires : tie.Need-advance-outputs-requires
+advance-outputs-requires c κs = (c .before .before .before .pre .0, c .before .before .before .pre .1 .moment .due)
+
+wide-requires : tie.Need-wide-requires
+wide-requires c κs = search needs
+
+serve-requires : tie.Need-serve-requires
+serve-requires c κs =
+    let p = c .before .before .before .before .before .before .before .pre .1 in
+    let a = c .before .before .before .before .before .before .before .args in
+    (p .moment .time, omega (arith, p .output, ap length (c .before .before .before .advance-outputs .ensures), length-map (a .outputs .now) (advance (a .time .now) (a .t))))
+
+kept-station-requires : tie.Need-kept-station-requires
+kept-station-requires c κs = search needs
+
+wide-requires-2 : tie.Need-wide-requires-2
+wide-requires-2 c κs = search needs
+
+mul-k : tie.Need-mul-k
+mul-k c = search needs
+
+slice-set-from-k : tie.Need-slice-set-from-k
+slice-set-from-k c = search needs
+
+same-length : tie.Need-same-length
+same-length c = search needs
+
+same-length-2 : tie.Need-same-length-2
+same-length-2 c = search needs
+
+returns : tie.Need-returns
+unfolding carried
+returns c = (cc, (cc, (cc, refl)))
+
+pub arrive-spec : {M : Type 1} → statement M
+arrive-spec =
+    tie.close
+    (tie.spec
+    advance-outputs-requires
+    wide-requires
+    serve-requires
+    kept-station-requires
+    wide-requires-2
+    mul-k
+    slice-set-from-k
+    same-length
+    same-length-2
+    returns)

@@ -1,0 +1,70 @@
+mod Lts
+mod Tie
+use Prim.Native.Nat.{ℕ}
+use mathlib.Core.Path.{_≡_, refl, sym, ap, _∙_}
+use native.Mathlib.Omega.{arith}
+use borrow.Author.Tests.{not-true, not-false}
+use Rattle.lighting.specs.Parameters.{standard}
+use Rattle.lighting.specs.Panel.{lent, decide, carried}
+use Rattle.lighting.proofs.Carried.{four, framed-refused, framed-carried, sound-stations, sound-outputs, octets, decide-sure}
+use borrow.Author.Needs.{needs}
+use Rattle.panel.proofs.frame.Statement.{statement}
+use Rattle.panel.proofs.frame.Proof.Tie as tie
+use Rattle.panel.proofs.Lent.frame.Reads as reads
+use Rattle.panel.proofs.frame.Proof.Lts as lts
+
+panel-sound-requires : tie.Need-panel-sound-requires
+panel-sound-requires c κs = search needs
+
+same-length : tie.Need-same-length
+same-length c = search needs
+
+same-length-2 : tie.Need-same-length-2
+same-length-2 c = search needs
+
+returns : tie.Need-returns
+returns c =
+    let a = c .before .before .before .before .before .before .args in
+    four _ _ _ _ _ _ (framed-refused (lent (a .outputs .now) (a .stations .now) (a .time .now)) (a .bytes .now) (sym (c .before .panel-sound .ensures) ∙ not-true _ (c .if1 .taken))) refl refl refl refl
+
+judge-requires : tie.Need-judge-requires
+judge-requires c κs =
+    let b = c .before .before in
+    sound-stations _ (sym (b .before .panel-sound .ensures) ∙ not-false _ (b .if1 .left))
+
+carry-requires : tie.Need-carry-requires
+carry-requires c κs =
+    let a = c .before .before .before .before .before .before .before .before .before .before .before .before .args in
+    let e = lent (a .outputs .now) (a .stations .now) (a .time .now) in
+    let p = sym (c .before .before .before .before .before .before .before .panel-sound .ensures) ∙ not-false _ (c .before .before .before .before .before .before .if1 .left) in
+    (sound-outputs e p, rw (c .before .before .before .judge .ensures) (decide-sure e (a .bytes .now) (octets (a .bytes .now) (λ (i : ℕ). omega (arith, c .before .before .before .before .before .before .before .before .before .before .before .shared-slice-known .given i))) p))
+
+same-length-3 : tie.Need-same-length-3
+same-length-3 c = search needs
+
+same-length-4 : tie.Need-same-length-4
+same-length-4 c = search needs
+
+returns-2 : tie.Need-returns-2
+returns-2 c =
+    let a = c .before .before .before .before .before .before .before .before .before .before .before .before .before .before .before .args in
+    let e = lent (a .outputs .now) (a .stations .now) (a .time .now) in
+    let p = sym (c .before .before .before .before .before .before .before .before .before .before .panel-sound .ensures) ∙ not-false _ (c .before .before .before .before .before .before .before .before .before .if1 .left) in
+    let w = c .before .before .carry .ensures in
+    four _ _ _ _ _ _
+    (framed-carried e (a .bytes .now) p ∙ sym (ap (carried (a .bytes .now) e) (c .before .before .before .before .before .before .judge .ensures)))
+    (w .0) (w .1 .0) (w .1 .1 .0) (w .1 .1 .1)
+
+pub frame-spec : {M : Type 1} → statement M
+frame-spec =
+    tie.close
+    (tie.spec
+    panel-sound-requires
+    same-length
+    same-length-2
+    returns
+    judge-requires
+    carry-requires
+    same-length-3
+    same-length-4
+    returns-2)

@@ -1,0 +1,19 @@
+use Rattle.lighting.specs.Fresh.{freshOutput}
+use borrow.Author.Needs.{needs}
+use Rattle.station.proofs.fresh_output.Statement.{statement}
+use Rattle.station.proofs.fresh_output.Tie as tie
+use Rattle.station.proofs.fresh_output.Reads as reads
+use Rattle.station.proofs.fresh_output.Lts as lts
+use Rattle.station.proofs.fresh_settings.Reads as fresh-settings-reads
+
+-- src/lib.rt:55:9
+fresh-settings-requires : tie.Need-fresh-settings-requires
+fresh-settings-requires c κs = search needs
+
+-- src/lib.rt:43:1
+returns : tie.Need-returns
+unfolding freshOutput
+returns c = cc
+
+pub fresh-output-spec : {M : Type 1} → statement M
+fresh-output-spec = tie.close (tie.spec fresh-settings-requires returns)

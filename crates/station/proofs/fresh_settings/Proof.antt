@@ -1,0 +1,17 @@
+use lib.Ieee.{ofBits}
+use Rattle.lighting.specs.Level.{real}
+use borrow.Author.Needs.{needs}
+use Rattle.lighting.proofs.Choosing.{ifs}
+use Rattle.lighting.specs.Fresh.{freshSettings}
+use Rattle.station.proofs.fresh_settings.Statement.{statement}
+use Rattle.station.proofs.fresh_settings.Tie as tie
+use Rattle.station.proofs.fresh_settings.Reads as reads
+use Rattle.station.proofs.fresh_settings.Lts as lts
+
+-- src/lib.rt:25:1
+returns : tie.Need-returns
+unfolding freshSettings real ofBits
+returns c = search (needs, ifs)
+
+pub fresh-settings-spec : {M : Type 1} → statement M
+fresh-settings-spec = tie.close (tie.spec returns)

@@ -1,0 +1,17 @@
+use borrow.Author.Needs.{needs}
+use Rattle.station.proofs.kept_station.Statement.{statement}
+use Rattle.station.proofs.kept_station.Tie as tie
+use Rattle.station.proofs.kept_station.Reads as reads
+use Rattle.station.proofs.kept_station.Lts as lts
+use Rattle.station.proofs.pad.Reads as pad-reads
+
+-- src/lib.rt:147:9
+pad-requires : tie.Need-pad-requires
+pad-requires c κs = search needs
+
+-- src/lib.rt:143:1
+returns : tie.Need-returns
+returns c = cc
+
+pub kept-station-spec : {M : Type 1} → statement M
+kept-station-spec = tie.close (tie.spec pad-requires returns)

@@ -1,0 +1,35 @@
+use Rattle.lighting.proofs.Choosing.{ifs}
+use Rattle.lighting.specs.Panel.{metNumber}
+use borrow.Author.Needs.{needs}
+use Rattle.station.proofs.met_number.Statement.{statement}
+use Rattle.station.proofs.met_number.Tie as tie
+use Rattle.station.proofs.met_number.Reads as reads
+use Rattle.station.proofs.met_number.Lts as lts
+use Rattle.station.proofs.copy_or_6.Reads as copy-or-6-reads
+
+-- src/lib.rt:175:9
+copy-or-6-requires : tie.Need-copy-or-6-requires
+copy-or-6-requires c κs = search needs
+
+-- src/lib.rt:175:9
+returns : tie.Need-returns
+unfolding metNumber
+returns c = search (needs, ifs)
+
+-- src/lib.rt:178:9
+returns-2 : tie.Need-returns-2
+unfolding metNumber
+returns-2 c = search (needs, ifs)
+
+-- src/lib.rt:181:9
+returns-3 : tie.Need-returns-3
+unfolding metNumber
+returns-3 c = search (needs, ifs)
+
+-- src/lib.rt:171:1
+returns-4 : tie.Need-returns-4
+unfolding metNumber
+returns-4 c = search (needs, ifs)
+
+pub met-number-spec : {M : Type 1} → statement M
+met-number-spec = tie.close (tie.spec copy-or-6-requires returns returns-2 returns-3 returns-4)
