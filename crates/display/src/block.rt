@@ -8,10 +8,10 @@ ghost use Rattle.display.specs.Block.{levelField, slotLevel, slotField, 
 use lighting::Answer;
 use lighting::Output;
 use lighting::Slots;
-use text::writing::put;
-use text::writing::put_all;
-use text::writing::put_decimal;
-use text::writing::put_hex8;
+use text::printing::put;
+use text::printing::put_all;
+use text::printing::put_decimal;
+use text::printing::put_hex8;
 
 // ---- fields
 

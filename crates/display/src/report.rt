@@ -8,9 +8,9 @@ use lighting::Activity;
 use lighting::Operation;
 use lighting::Output;
 use lighting::Timer;
-use text::writing::put;
-use text::writing::put_all;
-use text::writing::put_decimal;
+use text::printing::put;
+use text::printing::put_all;
+use text::printing::put_decimal;
 
 // ---- numbers
 

@@ -3,9 +3,9 @@ ghost use mathlib.Core.Path.{_≡_};
 ghost use Rattle.text.specs.Page.{Wrote};
 ghost use Rattle.text.specs.Faults.{faultWords, placed, faultLine, endedLine};
 use crate::reading::Fault;
-use crate::writing::put;
-use crate::writing::put_all;
-use crate::writing::put_decimal;
+use crate::printing::put;
+use crate::printing::put_all;
+use crate::printing::put_decimal;
 
 fn put_placed(page: &mut [u8], at: usize, k: u64) -> usize
     ensures { λ r. ⌜ Wrote (now (page .entry)) at (placed k) (now (page .exit)) r ⌝ }

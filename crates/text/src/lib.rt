@@ -2,4 +2,4 @@
 // and writing of files.
 pub mod faults;
 pub mod reading;
-pub mod writing;
+pub mod printing;

@@ -6,7 +6,7 @@ use Rattle.display.proofs.block.put_answer_field.Tie as tie
 use Rattle.display.proofs.block.put_answer_field.Reads as reads
 use Rattle.display.proofs.block.put_answer_field.Lts as lts
 use Rattle.display.proofs.block.put_hex_field.Reads as put-hex-field-reads
-use Rattle.text.proofs.writing.put_all.Reads as put-all-reads
+use Rattle.text.proofs.printing.put_all.Reads as put-all-reads
 
 -- src/block.rt:64:33
 enum-told : tie.Need-enum-told

@@ -5,8 +5,8 @@ use Rattle.display.proofs.block.put_hex_field.Statement.{statement}
 use Rattle.display.proofs.block.put_hex_field.Tie as tie
 use Rattle.display.proofs.block.put_hex_field.Reads as reads
 use Rattle.display.proofs.block.put_hex_field.Lts as lts
-use Rattle.text.proofs.writing.put.Reads as put-reads
-use Rattle.text.proofs.writing.put_hex8.Reads as put-hex8-reads
+use Rattle.text.proofs.printing.put.Reads as put-reads
+use Rattle.text.proofs.printing.put_hex8.Reads as put-hex8-reads
 
 -- src/block.rt:56:9
 put-requires : tie.Need-put-requires

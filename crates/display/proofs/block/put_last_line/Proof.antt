@@ -6,8 +6,8 @@ use Rattle.display.proofs.block.put_last_line.Tie as tie
 use Rattle.display.proofs.block.put_last_line.Reads as reads
 use Rattle.display.proofs.block.put_last_line.Lts as lts
 use Rattle.display.proofs.block.put_properties.Reads as put-properties-reads
-use Rattle.text.proofs.writing.put.Reads as put-reads
-use Rattle.text.proofs.writing.put_all.Reads as put-all-reads
+use Rattle.text.proofs.printing.put.Reads as put-reads
+use Rattle.text.proofs.printing.put_all.Reads as put-all-reads
 
 -- src/block.rt:143:34
 slice-aggregate-put-all : tie.Need-slice-aggregate-put-all

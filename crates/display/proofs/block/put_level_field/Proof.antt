@@ -5,8 +5,8 @@ use Rattle.display.proofs.block.put_level_field.Statement.{statement}
 use Rattle.display.proofs.block.put_level_field.Tie as tie
 use Rattle.display.proofs.block.put_level_field.Reads as reads
 use Rattle.display.proofs.block.put_level_field.Lts as lts
-use Rattle.text.proofs.writing.put.Reads as put-reads
-use Rattle.text.proofs.writing.put_decimal.Reads as put-decimal-reads
+use Rattle.text.proofs.printing.put.Reads as put-reads
+use Rattle.text.proofs.printing.put_decimal.Reads as put-decimal-reads
 
 -- src/block.rt:21:9
 put-requires : tie.Need-put-requires

@@ -5,9 +5,9 @@ use Rattle.display.proofs.block.put_number_line.Statement.{statement}
 use Rattle.display.proofs.block.put_number_line.Tie as tie
 use Rattle.display.proofs.block.put_number_line.Reads as reads
 use Rattle.display.proofs.block.put_number_line.Lts as lts
-use Rattle.text.proofs.writing.put.Reads as put-reads
-use Rattle.text.proofs.writing.put_all.Reads as put-all-reads
-use Rattle.text.proofs.writing.put_decimal.Reads as put-decimal-reads
+use Rattle.text.proofs.printing.put.Reads as put-reads
+use Rattle.text.proofs.printing.put_all.Reads as put-all-reads
+use Rattle.text.proofs.printing.put_decimal.Reads as put-decimal-reads
 
 -- src/block.rt:98:9
 put-all-requires : tie.Need-put-all-requires

@@ -7,7 +7,7 @@ use Rattle.display.proofs.block.put_slot_field.Reads as reads
 use Rattle.display.proofs.block.put_slot_field.Lts as lts
 use Rattle.display.proofs.block.put_slot_level.Reads as put-slot-level-reads
 use Rattle.slots.proofs.is_live.Reads as is-live-reads
-use Rattle.text.proofs.writing.put_all.Reads as put-all-reads
+use Rattle.text.proofs.printing.put_all.Reads as put-all-reads
 
 -- src/block.rt:34:8
 is-live-requires : tie.Need-is-live-requires

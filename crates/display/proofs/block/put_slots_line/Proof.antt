@@ -6,8 +6,8 @@ use Rattle.display.proofs.block.put_slots_line.Tie as tie
 use Rattle.display.proofs.block.put_slots_line.Reads as reads
 use Rattle.display.proofs.block.put_slots_line.Lts as lts
 use Rattle.display.proofs.block.put_slot_fields.Reads as put-slot-fields-reads
-use Rattle.text.proofs.writing.put.Reads as put-reads
-use Rattle.text.proofs.writing.put_all.Reads as put-all-reads
+use Rattle.text.proofs.printing.put.Reads as put-reads
+use Rattle.text.proofs.printing.put_all.Reads as put-all-reads
 
 -- src/block.rt:106:34
 slice-aggregate-put-all : tie.Need-slice-aggregate-put-all

@@ -6,7 +6,7 @@ use Rattle.display.proofs.report.put_aligned.Tie as tie
 use Rattle.display.proofs.report.put_aligned.Reads as reads
 use Rattle.display.proofs.report.put_aligned.Lts as lts
 use Rattle.display.proofs.report.put_lead.Reads as put-lead-reads
-use Rattle.text.proofs.writing.put_decimal.Reads as put-decimal-reads
+use Rattle.text.proofs.printing.put_decimal.Reads as put-decimal-reads
 
 -- src/report.rt:58:9
 put-lead-requires : tie.Need-put-lead-requires

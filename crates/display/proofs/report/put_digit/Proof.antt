@@ -5,7 +5,7 @@ use Rattle.display.proofs.report.put_digit.Tie as tie
 use Rattle.display.proofs.report.put_digit.Reads as reads
 use Rattle.display.proofs.report.put_digit.Lts as lts
 use Rattle.display.proofs.report.last_digit.Reads as last-digit-reads
-use Rattle.text.proofs.writing.put.Reads as put-reads
+use Rattle.text.proofs.printing.put.Reads as put-reads
 
 -- src/report.rt:26:19
 last-digit-requires : tie.Need-last-digit-requires

@@ -5,8 +5,8 @@ use Rattle.display.proofs.report.put_lead.Statement.{statement}
 use Rattle.display.proofs.report.put_lead.Tie as tie
 use Rattle.display.proofs.report.put_lead.Reads as reads
 use Rattle.display.proofs.report.put_lead.Lts as lts
-use Rattle.text.proofs.writing.put.Reads as put-reads
-use Rattle.text.proofs.writing.put_all.Reads as put-all-reads
+use Rattle.text.proofs.printing.put.Reads as put-reads
+use Rattle.text.proofs.printing.put_all.Reads as put-all-reads
 
 -- src/report.rt:47:27
 slice-aggregate-put-all : tie.Need-slice-aggregate-put-all

@@ -6,7 +6,7 @@ use Rattle.display.proofs.report.put_level_fields.Tie as tie
 use Rattle.display.proofs.report.put_level_fields.Reads as reads
 use Rattle.display.proofs.report.put_level_fields.Lts as lts
 use Rattle.display.proofs.report.put_percent.Reads as put-percent-reads
-use Rattle.text.proofs.writing.put_all.Reads as put-all-reads
+use Rattle.text.proofs.printing.put_all.Reads as put-all-reads
 use Rattle.value.proofs.present_value.Reads as present-value-reads
 use Rattle.value.proofs.progress_value.Reads as progress-value-reads
 

@@ -5,7 +5,7 @@ use Rattle.display.proofs.report.put_light.Statement.{statement}
 use Rattle.display.proofs.report.put_light.Tie as tie
 use Rattle.display.proofs.report.put_light.Reads as reads
 use Rattle.display.proofs.report.put_light.Lts as lts
-use Rattle.text.proofs.writing.put_all.Reads as put-all-reads
+use Rattle.text.proofs.printing.put_all.Reads as put-all-reads
 
 -- src/report.rt:109:27
 slice-aggregate-put-all : tie.Need-slice-aggregate-put-all

@@ -7,7 +7,7 @@ use Rattle.display.proofs.report.put_light_fields.Reads as reads
 use Rattle.display.proofs.report.put_light_fields.Lts as lts
 use Rattle.display.proofs.report.put_aligned.Reads as put-aligned-reads
 use Rattle.display.proofs.report.put_light.Reads as put-light-reads
-use Rattle.text.proofs.writing.put_all.Reads as put-all-reads
+use Rattle.text.proofs.printing.put_all.Reads as put-all-reads
 use Rattle.value.proofs.is_lit.Reads as is-lit-reads
 
 -- src/report.rt:174:9

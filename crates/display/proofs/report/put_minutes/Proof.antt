@@ -6,7 +6,7 @@ use Rattle.display.proofs.report.put_minutes.Tie as tie
 use Rattle.display.proofs.report.put_minutes.Reads as reads
 use Rattle.display.proofs.report.put_minutes.Lts as lts
 use Rattle.display.proofs.report.put_two.Reads as put-two-reads
-use Rattle.text.proofs.writing.put.Reads as put-reads
+use Rattle.text.proofs.printing.put.Reads as put-reads
 
 -- src/report.rt:81:9
 put-requires : tie.Need-put-requires

@@ -7,8 +7,8 @@ use Rattle.display.proofs.report.put_moment.Reads as reads
 use Rattle.display.proofs.report.put_moment.Lts as lts
 use Rattle.display.proofs.report.put_minutes.Reads as put-minutes-reads
 use Rattle.display.proofs.report.put_three.Reads as put-three-reads
-use Rattle.text.proofs.writing.put.Reads as put-reads
-use Rattle.text.proofs.writing.put_decimal.Reads as put-decimal-reads
+use Rattle.text.proofs.printing.put.Reads as put-reads
+use Rattle.text.proofs.printing.put_decimal.Reads as put-decimal-reads
 
 -- src/report.rt:90:9
 put-decimal-requires : tie.Need-put-decimal-requires

@@ -5,7 +5,7 @@ use Rattle.display.proofs.report.put_operation.Statement.{statement}
 use Rattle.display.proofs.report.put_operation.Tie as tie
 use Rattle.display.proofs.report.put_operation.Reads as reads
 use Rattle.display.proofs.report.put_operation.Lts as lts
-use Rattle.text.proofs.writing.put_all.Reads as put-all-reads
+use Rattle.text.proofs.printing.put_all.Reads as put-all-reads
 
 -- src/report.rt:119:36
 enum-told : tie.Need-enum-told

@@ -8,7 +8,7 @@ use Rattle.display.proofs.report.put_percent.Lts as lts
 use Rattle.display.proofs.report.hundredths.Reads as hundredths-reads
 use Rattle.display.proofs.report.put_aligned.Reads as put-aligned-reads
 use Rattle.display.proofs.report.put_two.Reads as put-two-reads
-use Rattle.text.proofs.writing.put.Reads as put-reads
+use Rattle.text.proofs.printing.put.Reads as put-reads
 
 -- src/report.rt:73:9
 put-aligned-requires : tie.Need-put-aligned-requires

@@ -6,8 +6,8 @@ use Rattle.display.proofs.report.put_report_head.Tie as tie
 use Rattle.display.proofs.report.put_report_head.Reads as reads
 use Rattle.display.proofs.report.put_report_head.Lts as lts
 use Rattle.display.proofs.report.put_moment.Reads as put-moment-reads
-use Rattle.text.proofs.writing.put.Reads as put-reads
-use Rattle.text.proofs.writing.put_all.Reads as put-all-reads
+use Rattle.text.proofs.printing.put.Reads as put-reads
+use Rattle.text.proofs.printing.put_all.Reads as put-all-reads
 
 -- src/report.rt:227:34
 slice-aggregate-put-all : tie.Need-slice-aggregate-put-all

@@ -7,7 +7,7 @@ use Rattle.display.proofs.report.put_time_fields.Reads as reads
 use Rattle.display.proofs.report.put_time_fields.Lts as lts
 use Rattle.display.proofs.report.put_lasting.Reads as put-lasting-reads
 use Rattle.display.proofs.report.put_operation.Reads as put-operation-reads
-use Rattle.text.proofs.writing.put_all.Reads as put-all-reads
+use Rattle.text.proofs.printing.put_all.Reads as put-all-reads
 
 -- src/report.rt:200:34
 slice-aggregate-put-all : tie.Need-slice-aggregate-put-all

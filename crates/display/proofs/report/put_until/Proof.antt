@@ -6,7 +6,7 @@ use Rattle.display.proofs.report.put_until.Tie as tie
 use Rattle.display.proofs.report.put_until.Reads as reads
 use Rattle.display.proofs.report.put_until.Lts as lts
 use Rattle.display.proofs.report.put_moment.Reads as put-moment-reads
-use Rattle.text.proofs.writing.put_all.Reads as put-all-reads
+use Rattle.text.proofs.printing.put_all.Reads as put-all-reads
 
 -- src/report.rt:138:9
 put-all-requires : tie.Need-put-all-requires

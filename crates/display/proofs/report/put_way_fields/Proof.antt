@@ -7,7 +7,7 @@ use Rattle.display.proofs.report.put_way_fields.Reads as reads
 use Rattle.display.proofs.report.put_way_fields.Lts as lts
 use Rattle.display.proofs.report.put_activity.Reads as put-activity-reads
 use Rattle.display.proofs.report.put_timer.Reads as put-timer-reads
-use Rattle.text.proofs.writing.put.Reads as put-reads
+use Rattle.text.proofs.printing.put.Reads as put-reads
 
 -- src/report.rt:210:9
 put-activity-requires : tie.Need-put-activity-requires

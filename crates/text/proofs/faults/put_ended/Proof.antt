@@ -6,8 +6,8 @@ use Rattle.text.proofs.faults.put_ended.Tie as tie
 use Rattle.text.proofs.faults.put_ended.Reads as reads
 use Rattle.text.proofs.faults.put_ended.Lts as lts
 use Rattle.text.proofs.faults.put_placed.Reads as put-placed-reads
-use Rattle.text.proofs.writing.put.Reads as put-reads
-use Rattle.text.proofs.writing.put_all.Reads as put-all-reads
+use Rattle.text.proofs.printing.put.Reads as put-reads
+use Rattle.text.proofs.printing.put_all.Reads as put-all-reads
 
 -- src/faults.rt:40:9
 put-placed-requires : tie.Need-put-placed-requires

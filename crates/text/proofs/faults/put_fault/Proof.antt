@@ -7,7 +7,7 @@ use Rattle.text.proofs.faults.put_fault.Reads as reads
 use Rattle.text.proofs.faults.put_fault.Lts as lts
 use Rattle.text.proofs.faults.put_fault_words.Reads as put-fault-words-reads
 use Rattle.text.proofs.faults.put_placed.Reads as put-placed-reads
-use Rattle.text.proofs.writing.put.Reads as put-reads
+use Rattle.text.proofs.printing.put.Reads as put-reads
 
 -- src/faults.rt:32:9
 put-placed-requires : tie.Need-put-placed-requires

@@ -5,7 +5,7 @@ use Rattle.text.proofs.faults.put_fault_words.Statement.{statement}
 use Rattle.text.proofs.faults.put_fault_words.Tie as tie
 use Rattle.text.proofs.faults.put_fault_words.Reads as reads
 use Rattle.text.proofs.faults.put_fault_words.Lts as lts
-use Rattle.text.proofs.writing.put_all.Reads as put-all-reads
+use Rattle.text.proofs.printing.put_all.Reads as put-all-reads
 
 -- src/faults.rt:22:37
 enum-told : tie.Need-enum-told

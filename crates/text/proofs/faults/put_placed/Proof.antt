@@ -5,8 +5,8 @@ use Rattle.text.proofs.faults.put_placed.Statement.{statement}
 use Rattle.text.proofs.faults.put_placed.Tie as tie
 use Rattle.text.proofs.faults.put_placed.Reads as reads
 use Rattle.text.proofs.faults.put_placed.Lts as lts
-use Rattle.text.proofs.writing.put_all.Reads as put-all-reads
-use Rattle.text.proofs.writing.put_decimal.Reads as put-decimal-reads
+use Rattle.text.proofs.printing.put_all.Reads as put-all-reads
+use Rattle.text.proofs.printing.put_decimal.Reads as put-decimal-reads
 
 -- src/faults.rt:13:34
 slice-aggregate-put-all : tie.Need-slice-aggregate-put-all

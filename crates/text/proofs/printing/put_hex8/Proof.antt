@@ -1,33 +1,33 @@
 use Rattle.text.proofs.Pages.{wrote-then}
 use Rattle.text.specs.Writing.{hex8}
 use borrow.Author.Needs.{needs}
-use Rattle.text.proofs.writing.put_hex8.Statement.{statement}
-use Rattle.text.proofs.writing.put_hex8.Tie as tie
-use Rattle.text.proofs.writing.put_hex8.Reads as reads
-use Rattle.text.proofs.writing.put_hex8.Lts as lts
-use Rattle.text.proofs.writing.put_hex4.Reads as put-hex4-reads
+use Rattle.text.proofs.printing.put_hex8.Statement.{statement}
+use Rattle.text.proofs.printing.put_hex8.Tie as tie
+use Rattle.text.proofs.printing.put_hex8.Reads as reads
+use Rattle.text.proofs.printing.put_hex8.Lts as lts
+use Rattle.text.proofs.printing.put_hex4.Reads as put-hex4-reads
 
--- src/writing.rt:62:35
+-- src/printing.rt:62:35
 cast-put-hex4 : tie.Need-cast-put-hex4
 cast-put-hex4 c = search needs
 
--- src/writing.rt:62:9
+-- src/printing.rt:62:9
 put-hex4-requires : tie.Need-put-hex4-requires
 put-hex4-requires c κs = search needs
 
--- src/writing.rt:63:26
+-- src/printing.rt:63:26
 cast-put-hex4-2 : tie.Need-cast-put-hex4-2
 cast-put-hex4-2 c = search needs
 
--- src/writing.rt:63:5
+-- src/printing.rt:63:5
 put-hex4-requires-2 : tie.Need-put-hex4-requires-2
 put-hex4-requires-2 c κs = search needs
 
--- src/writing.rt:59:1
+-- src/printing.rt:59:1
 same-length : tie.Need-same-length
 same-length c = search needs
 
--- src/writing.rt:59:1
+-- src/printing.rt:59:1
 returns : tie.Need-returns
 unfolding hex8
 returns c = search (needs, wrote-then)

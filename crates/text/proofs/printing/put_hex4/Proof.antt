@@ -1,33 +1,33 @@
 use Rattle.text.proofs.Pages.{wrote-then}
 use Rattle.text.specs.Writing.{hex4}
 use borrow.Author.Needs.{needs}
-use Rattle.text.proofs.writing.put_hex4.Statement.{statement}
-use Rattle.text.proofs.writing.put_hex4.Tie as tie
-use Rattle.text.proofs.writing.put_hex4.Reads as reads
-use Rattle.text.proofs.writing.put_hex4.Lts as lts
-use Rattle.text.proofs.writing.put_hex2.Reads as put-hex2-reads
+use Rattle.text.proofs.printing.put_hex4.Statement.{statement}
+use Rattle.text.proofs.printing.put_hex4.Tie as tie
+use Rattle.text.proofs.printing.put_hex4.Reads as reads
+use Rattle.text.proofs.printing.put_hex4.Lts as lts
+use Rattle.text.proofs.printing.put_hex2.Reads as put-hex2-reads
 
--- src/writing.rt:55:35
+-- src/printing.rt:55:35
 cast-put-hex2 : tie.Need-cast-put-hex2
 cast-put-hex2 c = search needs
 
--- src/writing.rt:55:9
+-- src/printing.rt:55:9
 put-hex2-requires : tie.Need-put-hex2-requires
 put-hex2-requires c κs = search needs
 
--- src/writing.rt:56:26
+-- src/printing.rt:56:26
 cast-put-hex2-2 : tie.Need-cast-put-hex2-2
 cast-put-hex2-2 c = search needs
 
--- src/writing.rt:56:5
+-- src/printing.rt:56:5
 put-hex2-requires-2 : tie.Need-put-hex2-requires-2
 put-hex2-requires-2 c κs = search needs
 
--- src/writing.rt:52:1
+-- src/printing.rt:52:1
 same-length : tie.Need-same-length
 same-length c = search needs
 
--- src/writing.rt:52:1
+-- src/printing.rt:52:1
 returns : tie.Need-returns
 unfolding hex4
 returns c = search (needs, wrote-then)
