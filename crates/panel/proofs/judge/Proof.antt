@@ -29,7 +29,7 @@ within c =
     let a = c .before .before .before .before .args in
     let b = a .bytes .now in
     let e : c .wide .result ≡ stationOf (parse standard (length (a .outputs .now)) b) =
-        c .wide .ensures ∙ c .before .station-of .ensures ∙ ap stationOf (c .before .before .parse .ensures) in
+    c .wide .ensures ∙ c .before .station-of .ensures ∙ ap stationOf (c .before .before .parse .ensures) in
     omega (
       arith,
       e,
