@@ -227,5 +227,9 @@ pub fn put_report_head(page: &mut [u8], at: usize, t: u64) -> usize
     let word = put_all(page, at, b"panel time ");
     let time = put_moment(page, word, t);
     let end = put(page, time, 10);
-    put_all(page, end, b"output  light  present  progress    burning  last command     under way\n")
+    put_all(
+        page,
+        end,
+        b"output  light  present  progress    burning  last command     under way\n",
+    )
 }

@@ -50,12 +50,13 @@ pub framed-first : (p : Parameters) (e : Panel) (b : Bytes) → 26 ≤ length b 
 unfolding framed
 framed-first p e b h =
     ap (λ (s : Step). if panelSound p e then s else record { panel = e; answer = Refused 1 })
-      (by-eq (kindLength (byteAt b 0)) 0
-        (λ z t. alike 2 (unfold if_then_else_ in (rw t at (parse-long p (length (e .outputs)) b h))))
-        (λ z t. alike 3 (unfold if_then_else_ in (rw t at (parse-long p (length (e .outputs)) b h)))))
+    (by-eq (kindLength (byteAt b 0)) 0
+    (λ z t. alike 2 (unfold if_then_else_ in (rw t at (parse-long p (length (e .outputs)) b h))))
+    (λ z t. alike 3 (unfold if_then_else_ in (rw t at (parse-long p (length (e .outputs)) b h)))))
   where
     refused : (b : Bytes) (r : ℕ) → parse p (length (e .outputs)) b ≡ Bad r → carried b e (decide p e b) ≡ record { panel = e; answer = Refused r }
     refused b r q = rw (decide-long p e b (Bad r) q) (unfold metBy met carried in refl)
+
     alike : (r : ℕ) → parse p (length (e .outputs)) b ≡ Bad r → carried b e (decide p e b) ≡ carried (take 26 b) e (decide p e (take 26 b))
     alike r q =
         refused b r q ∙ sym (refused (take 26 b) r (sym (parse-first p (length (e .outputs)) b h) ∙ q))

@@ -65,19 +65,39 @@ fn take_line(
     let line = text::reading::line_of(held);
     let next = text::reading::next_line(r);
     match line {
-        Line::Nothing => Turn { reader: next, mark: mark, more: true, good: true },
+        Line::Nothing => Turn {
+            reader: next,
+            mark: mark,
+            more: true,
+            good: true,
+        },
         Line::Outputs(n) => {
             start(outputs, stations, time, n);
             let named = text::reading::with_outputs(next, n);
-            Turn { reader: named, mark: mark, more: true, good: true }
+            Turn {
+                reader: named,
+                mark: mark,
+                more: true,
+                good: true,
+            }
         }
         Line::Frame => {
             let m = answer(outputs, stations, time, page, mark, r);
-            Turn { reader: next, mark: m, more: true, good: true }
+            Turn {
+                reader: next,
+                mark: m,
+                more: true,
+                good: true,
+            }
         }
         Line::Wrong(f) => {
             let m = text::faults::put_fault(page, mark, number, f);
-            Turn { reader: next, mark: m, more: true, good: false }
+            Turn {
+                reader: next,
+                mark: m,
+                more: true,
+                good: false,
+            }
         }
     }
 }
@@ -127,12 +147,22 @@ fn take_chunk(
             reader = next;
             at = with_room(page, t.mark);
             if !t.good {
-                return Turn { reader: reader, mark: at, more: true, good: false };
+                return Turn {
+                    reader: reader,
+                    mark: at,
+                    more: true,
+                    good: false,
+                };
             }
             i += 1;
         }
     }
-    Turn { reader: reader, mark: at, more: true, good: true }
+    Turn {
+        reader: reader,
+        mark: at,
+        more: true,
+        good: true,
+    }
 }
 
 // Reads once, and takes what came; nothing comes at the end of the input.
@@ -148,7 +178,12 @@ fn take_some(
     let got = libc::read(0, chunk);
     let n = io::count(got, chunk);
     if n == 0 {
-        return Turn { reader: r, mark: mark, more: false, good: true };
+        return Turn {
+            reader: r,
+            mark: mark,
+            more: false,
+            good: true,
+        };
     }
     take_chunk(outputs, stations, time, page, mark, r, &chunk[..n])
 }
@@ -177,7 +212,12 @@ fn take_all(
             return t;
         }
     }
-    Turn { reader: reader, mark: mark, more: true, good: true }
+    Turn {
+        reader: reader,
+        mark: mark,
+        more: true,
+        good: true,
+    }
 }
 
 // ---- what is found
@@ -199,7 +239,14 @@ fn put_head(page: &mut [u8], at: usize, report: bool, time: u64) -> usize {
     }
 }
 
-fn put_found(outputs: &[Output], n: usize, time: u64, page: &mut [u8], mark: usize, report: bool) -> usize {
+fn put_found(
+    outputs: &[Output],
+    n: usize,
+    time: u64,
+    page: &mut [u8],
+    mark: usize,
+    report: bool,
+) -> usize {
     let mut at = put_head(page, mark, report, time);
     let mut i: usize = 0;
     while i < least(n, outputs.len()) {
@@ -212,7 +259,15 @@ fn put_found(outputs: &[Output], n: usize, time: u64, page: &mut [u8], mark: usi
 }
 
 // A list that named no outputs has found nothing.
-fn put_end(outputs: &[Output], time: u64, page: &mut [u8], mark: usize, report: bool, line: u64, r: Reader) -> usize {
+fn put_end(
+    outputs: &[Output],
+    time: u64,
+    page: &mut [u8],
+    mark: usize,
+    report: bool,
+    line: u64,
+    r: Reader,
+) -> usize {
     let named = wide(r.outputs);
     if named == 0 {
         text::faults::put_ended(page, mark, line)
@@ -240,7 +295,14 @@ fn end_list(
     }
 }
 
-fn replay(outputs: &mut [Output], stations: &mut [Station], time: &mut u64, page: &mut [u8], chunk: &mut [u8], report: bool) {
+fn replay(
+    outputs: &mut [Output],
+    stations: &mut [Station],
+    time: &mut u64,
+    page: &mut [u8],
+    chunk: &mut [u8],
+    report: bool,
+) {
     let t = take_all(outputs, stations, time, page, chunk);
     if t.good {
         let reader = t.reader;
@@ -258,7 +320,14 @@ fn run(report: bool) {
     let mut time: u64 = 0;
     let mut page = io::large_buffer();
     let mut chunk = io::large_buffer();
-    replay(&mut outputs, &mut stations, &mut time, &mut page, &mut chunk, report);
+    replay(
+        &mut outputs,
+        &mut stations,
+        &mut time,
+        &mut page,
+        &mut chunk,
+        report,
+    );
 }
 
 // Whether the argument is the word `report`.

@@ -31,10 +31,10 @@ wrote-then {p} {q} {s} {a} {b} {c} {x} {y} f g =
     place : sets (sets p a x) b y ≡ sets (sets p a x) (a + length x) y
     place =
         by-le (a + length x) (length p)
-          (λ h t. ap (λ (k : ℕ). sets (sets p a x) k y) (omega (arith, f .moved)))
-          (λ h t.
-            sets-out (sets p a x) b y (omega (arith, f .moved, length-sets p a x))
-            ∙ sym (sets-out (sets p a x) (a + length x) y (omega (arith, length-sets p a x))))
+        (λ h t. ap (λ (k : ℕ). sets (sets p a x) k y) (omega (arith, f .moved)))
+        (λ h t.
+        sets-out (sets p a x) b y (omega (arith, f .moved, length-sets p a x))
+        ∙ sym (sets-out (sets p a x) (a + length x) y (omega (arith, length-sets p a x))))
 
 -- nothing, and a text past the page's end
 pub wrote-none : (p : Bytes) (a : ℕ) → Wrote p a [] p a

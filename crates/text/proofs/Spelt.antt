@@ -99,7 +99,7 @@ second : (w : Reader) {d v c : ℕ} → d < 16 → Digit v c → feed (withHeld 
 unfolding feed withHeld step storedBy halfHeld joined pushed if_then_else_
 second w {d} {v} {c} h g =
     rw (worth g, leb-yes {a = suc v} {b = 16} (small g), pair)
-      (by-lt (w .count) 26 (λ p e. rw e) (λ p e. rw e))
+    (by-lt (w .count) 26 (λ p e. rw e) (λ p e. rw e))
   where
     pair : bytePair d v ≡ d * 16 + v
     pair = unfold bytePair in (omega (arith, small g))
@@ -109,8 +109,8 @@ pub content-pushed : (w : Reader) (x : ℕ) → length (w .bytes) ≡ 26 → w .
 unfolding content pushed if_then_else_
 content-pushed w x r m =
     by-lt (w .count) 26
-      (λ p e. rw (e, add-one, take-suc-set (w .bytes) (w .count) x (omega arith)) (sym (take-all 26 _ (omega (arith, fits p)))))
-      (λ p e. rw e (sym (take-append-le 26 (take (w .count) (w .bytes)) (x ∷ []) (omega (arith, length-take (w .count) (w .bytes))) ∙ take-all 26 _ (omega (arith, length-take (w .count) (w .bytes))))))
+    (λ p e. rw (e, add-one, take-suc-set (w .bytes) (w .count) x (omega arith)) (sym (take-all 26 _ (omega (arith, fits p)))))
+    (λ p e. rw e (sym (take-append-le 26 (take (w .count) (w .bytes)) (x ∷ []) (omega (arith, length-take (w .count) (w .bytes))) ∙ take-all 26 _ (omega (arith, length-take (w .count) (w .bytes))))))
   where
     fits : w .count < 26 → length (take (w .count) (w .bytes) ++ (x ∷ [])) ≤ 26
     fits p = simp (length-append, length-take) (omega arith)
@@ -124,8 +124,8 @@ ready-pushed : (w : Reader) (x : ℕ) → Ready w → Ready (withHeld (pushed w 
 unfolding withHeld pushed if_then_else_
 ready-pushed w x r =
     by-lt (w .count) 26
-      (λ p e. rw e (record { named = r .named; room = length-set (w .bytes) (w .count) x ∙ r .room; most = omega arith; between = some }))
-      (λ p e. rw e (record { named = r .named; room = r .room; most = r .most; between = some }))
+    (λ p e. rw e (record { named = r .named; room = length-set (w .bytes) (w .count) x ∙ r .room; most = omega arith; between = some }))
+    (λ p e. rw e (record { named = r .named; room = r .room; most = r .most; between = some }))
 
 -- A BLANK changes nothing
 blank-held : (n : ℕ) {h : Held} (v c : ℕ) → Between h → isBlank c ≡ true → step n h v c ≡ h

@@ -2,10 +2,10 @@
 ghost use mathlib.Core.Path.{_≡_};
 ghost use Rattle.text.specs.Page.{Wrote};
 ghost use Rattle.text.specs.Faults.{faultWords, placed, faultLine, endedLine};
-use crate::reading::Fault;
 use crate::printing::put;
 use crate::printing::put_all;
 use crate::printing::put_decimal;
+use crate::reading::Fault;
 
 fn put_placed(page: &mut [u8], at: usize, k: u64) -> usize
     ensures { λ r. ⌜ Wrote (now (page .entry)) at (placed k) (now (page .exit)) r ⌝ }

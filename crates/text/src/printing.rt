@@ -92,7 +92,10 @@ pub fn decimal_digits(n: u64) -> Decimal
         i -= 1;
     }
     bytes[i] = last_digit(rest);
-    Decimal { bytes: bytes, from: i }
+    Decimal {
+        bytes: bytes,
+        from: i,
+    }
 }
 
 pub fn put_decimal(page: &mut [u8], at: usize, n: u64) -> usize

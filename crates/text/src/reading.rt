@@ -214,7 +214,11 @@ pub fn trailed(n: u8, c: u8) -> Held
 pub fn byte_held(v: u8, c: u8) -> Held
     ensures { λ r. ⌜ r ≡ byteHeld v c ⌝ }
 {
-    if is_blank(c) { Held::Whole } else { digit_held(v) }
+    if is_blank(c) {
+        Held::Whole
+    } else {
+        digit_held(v)
+    }
 }
 
 pub fn half_held(v: u8, c: u8) -> Held
@@ -273,7 +277,13 @@ pub fn push(w: Reader, x: u8) -> Reader
     let mut bytes = w.bytes;
     if at < 26 {
         bytes[at] = x;
-        Reader { outputs: w.outputs, line: w.line, held: held, bytes: bytes, count: at + 1 }
+        Reader {
+            outputs: w.outputs,
+            line: w.line,
+            held: held,
+            bytes: bytes,
+            count: at + 1,
+        }
     } else {
         w
     }
@@ -306,7 +316,13 @@ pub fn with_held(w: Reader, h: Held) -> Reader
     ensures { λ r. ⌜ r ≡ withHeld w h ⌝ }
 {
     let bytes = w.bytes;
-    Reader { outputs: w.outputs, line: w.line, held: h, bytes: bytes, count: w.count }
+    Reader {
+        outputs: w.outputs,
+        line: w.line,
+        held: h,
+        bytes: bytes,
+        count: w.count,
+    }
 }
 
 pub fn feed(w: Reader, c: u8) -> Reader
@@ -339,7 +355,10 @@ pub fn feed_line(w: Reader, s: &[u8], from: usize) -> Fed
         reader = feed(reader, c);
         i += 1;
     }
-    Fed { reader: reader, next: i }
+    Fed {
+        reader: reader,
+        next: i,
+    }
 }
 
 // ---- a line's end
@@ -384,7 +403,13 @@ pub fn next_line(w: Reader) -> Reader
     ensures { λ r. ⌜ r ≡ nextLine w ⌝ }
 {
     let bytes = w.bytes;
-    Reader { outputs: w.outputs, line: line_after(w.line), held: Held::Blank, bytes: bytes, count: 0 }
+    Reader {
+        outputs: w.outputs,
+        line: line_after(w.line),
+        held: Held::Blank,
+        bytes: bytes,
+        count: 0,
+    }
 }
 
 // The reader of a list that has named its outputs.
@@ -393,12 +418,24 @@ pub fn with_outputs(w: Reader, n: u8) -> Reader
 {
     let bytes = w.bytes;
     let held = w.held;
-    Reader { outputs: n, line: w.line, held: held, bytes: bytes, count: w.count }
+    Reader {
+        outputs: n,
+        line: w.line,
+        held: held,
+        bytes: bytes,
+        count: w.count,
+    }
 }
 
 // Before the first byte of a list.
 pub fn fresh_reader() -> Reader
     ensures { λ r. ⌜ r ≡ freshReader ⌝ }
 {
-    Reader { outputs: 0, line: 1, held: Held::Blank, bytes: [0; 26], count: 0 }
+    Reader {
+        outputs: 0,
+        line: 1,
+        held: Held::Blank,
+        bytes: [0; 26],
+        count: 0,
+    }
 }

@@ -61,9 +61,9 @@ returns : tie.Need-returns Inv-loop μ-loop
 returns c =
     let l = c .before .before .loop in (
       ⊎-elim
-        (λ w. digit-full (l .i) (l .rest) (c .last-digit2 .result) (l .bytes) _ (omega arith) (omega arith) (c .last-digit2 .ensures) (l .inv .2))
-        (λ w. digit-last (l .i) (l .rest) (c .last-digit2 .result) (l .bytes) _ (omega arith) (omega arith) (c .last-digit2 .ensures) (l .inv .2))
-        (c .before .loop-test .came),
+          (λ w. digit-full (l .i) (l .rest) (c .last-digit2 .result) (l .bytes) _ (omega arith) (omega arith) (c .last-digit2 .ensures) (l .inv .2))
+          (λ w. digit-last (l .i) (l .rest) (c .last-digit2 .result) (l .bytes) _ (omega arith) (omega arith) (c .last-digit2 .ensures) (l .inv .2))
+          (c .before .loop-test .came),
       (omega arith, sym (length-set (l .bytes) (l .i) (c .last-digit2 .result) ∙ l .inv .1)),
     )
 

@@ -42,8 +42,8 @@ returns c =
     let d = c .before .before .before .before .before .before .before .decimal-digits in
     let b = d .result .bytes in
     wrote-as
-      (take-all (20 - d .result .from) (drop (d .result .from) b) (omega (arith, length-drop (d .result .from) b, d .ensures .1 .1)) ∙ d .ensures .0)
-      (c .before .before .put-all .ensures)
+    (take-all (20 - d .result .from) (drop (d .result .from) b) (omega (arith, length-drop (d .result .from) b, d .ensures .1 .1)) ∙ d .ensures .0)
+    (c .before .before .put-all .ensures)
 
 pub put-decimal-spec : {M : Type 1} → statement M
 put-decimal-spec =
