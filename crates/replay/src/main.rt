@@ -3,7 +3,10 @@
 //
 // Thin: the crate `text` reads and writes text, `panel` answers, `display` says what is found. Input and output go by pages of 64 KiB, so
 // that memory does not grow with the list.
+ghost use mathlib.Core.Path.{_≡_};
+ghost use Prim.Native.Nat.{min};
 use libc::STDOUT_FILENO;
+use lighting::Answer;
 use lighting::Output;
 use lighting::Station;
 use text::reading::Line;
@@ -20,11 +23,15 @@ struct Turn {
     good: bool,
 }
 
-fn least(a: usize, b: usize) -> usize {
+fn least(a: usize, b: usize) -> usize
+    ensures { λ r. ⌜ r ≡ min a b ⌝ }
+{
     if a < b { a } else { b }
 }
 
-fn wide(n: u8) -> usize {
+fn wide(n: u8) -> usize
+    ensures { λ r. ⌜ r ≡ n ⌝ }
+{
     n as usize
 }
 
@@ -33,10 +40,24 @@ fn wide(n: u8) -> usize {
 // `outputs N`: the panel of the first N outputs starts.
 fn start(outputs: &mut [Output], stations: &mut [Station], time: &mut u64, n: u8) {
     let named = least(wide(n), outputs.len());
-    panel::start(&mut outputs[..named], stations, time);
+    panel::start(&mut outputs[0..named], stations, time);
 }
 
-// The string of bytes that the line holds goes to that panel.
+// The bytes go to that panel: the first `count` of the 26 that the reader keeps.
+fn frame(
+    outputs: &mut [Output],
+    stations: &mut [Station],
+    time: &mut u64,
+    bytes: &[u8; 26],
+    count: usize,
+    n: u8,
+) -> Answer {
+    let named = least(wide(n), outputs.len());
+    let kept = &bytes[..];
+    let held = least(count, kept.len());
+    panel::frame(&mut outputs[0..named], stations, time, &kept[0..held])
+}
+
 fn answer(
     outputs: &mut [Output],
     stations: &mut [Station],
@@ -46,9 +67,7 @@ fn answer(
     r: Reader,
 ) -> usize {
     let bytes = r.bytes;
-    let count = least(r.count, 26);
-    let named = least(wide(r.outputs), outputs.len());
-    let a = panel::frame(&mut outputs[..named], stations, time, &bytes[..count]);
+    let a = frame(outputs, stations, time, &bytes, r.count, r.outputs);
     text::printing::put_answer(page, mark, a)
 }
 
@@ -107,7 +126,7 @@ fn take_line(
 // The page's text is written out.
 fn flush(page: &[u8], mark: usize) {
     let n = least(mark, page.len());
-    io::write_all(STDOUT_FILENO, &page[..n]);
+    io::write_all(STDOUT_FILENO, &page[0..n]);
 }
 
 // The mark of a page with room for more: a page that has too little is written out.
@@ -142,6 +161,7 @@ fn take_chunk(
         reader = held;
         i = fed.next;
         if i < s.len() {
+            i += 1;
             let t = take_line(outputs, stations, time, page, at, reader);
             let next = t.reader;
             reader = next;
@@ -154,7 +174,6 @@ fn take_chunk(
                     good: false,
                 };
             }
-            i += 1;
         }
     }
     Turn {
@@ -185,7 +204,7 @@ fn take_some(
             good: true,
         };
     }
-    take_chunk(outputs, stations, time, page, mark, r, &chunk[..n])
+    take_chunk(outputs, stations, time, page, mark, r, &chunk[0..n])
 }
 
 // All of it. A proved loop has to end, and nothing says that the input does: the turns are counted down from a number that no run uses up.
@@ -315,8 +334,10 @@ fn replay(
 
 // The tables that the panel is lent.
 fn run(report: bool) {
-    let mut outputs = [station::fresh_output(); 64];
-    let mut stations = [station::fresh_station(); 8];
+    let output = station::fresh_output();
+    let mut outputs = [output; 64];
+    let record = station::fresh_station();
+    let mut stations = [record; 8];
     let mut time: u64 = 0;
     let mut page = io::large_buffer();
     let mut chunk = io::large_buffer();
@@ -331,19 +352,26 @@ fn run(report: bool) {
 }
 
 // Whether the argument is the word `report`.
-fn is_report(word: &[u8], n: usize) -> bool {
-    let wanted = b"report";
+fn is_report(word: &[u8; 16], n: usize) -> bool {
     if n != 6 {
         return false;
     }
-    let mut i: usize = 0;
-    while i < 6 {
-        if word[i] != wanted[i] {
-            return false;
-        }
-        i += 1;
+    if word[0] != b'r' {
+        return false;
     }
-    true
+    if word[1] != b'e' {
+        return false;
+    }
+    if word[2] != b'p' {
+        return false;
+    }
+    if word[3] != b'o' {
+        return false;
+    }
+    if word[4] != b'r' {
+        return false;
+    }
+    word[5] == b't'
 }
 
 fn main() {
