@@ -3,6 +3,7 @@
 return that calls others composes (`cc`); any other chooses (`search (needs, ifs)`, with DEF's law where it is made by clauses).
 What it writes is a first draft of proof text for people to keep or change; the prover checks it."""
 import glob
+import os
 import re
 import sys
 
@@ -16,10 +17,13 @@ for path in glob.glob(root + '/src/*.rt'):
             where[n.strip()] = m.group(1)
     for m in re.finditer(r'fn (\w+)\((?:(?!\nfn |\npub fn ).)*?⌜ r ≡ (\w+)', source, re.S):
         defined[m.group(1)] = m.group(2)
-for m in re.finditer(r'^pub (\w+)-on :', open('crates/lighting/proofs/Laws.antt').read(), re.M):
-    laws.add(m.group(1))
 own = 'Rattle.lighting.proofs' if crate == 'lighting' else 'Rattle.lighting.proofs'
-for path in glob.glob(root + '/proofs/*/Proof.antt'):
+stands = {}
+for path, name in [('crates/lighting', own), (root, 'Rattle.%s.proofs' % crate)]:
+    for m in re.finditer(r'^pub (\w+)-on :', open(path + '/proofs/Laws.antt').read() if os.path.exists(path + '/proofs/Laws.antt') else '', re.M):
+        laws.add(m.group(1))
+        stands[m.group(1)] = name
+for path in glob.glob(root + '/proofs/**/Proof.antt', recursive=True):
     function = path.split('/')[-2]
     text = open(path).read()
     if not re.search(r'^returns\S* c = \?', text, re.M) or function not in defined:
@@ -34,7 +38,7 @@ for path in glob.glob(root + '/proofs/*/Proof.antt'):
     if 'ifs' in tactic:
         head += 'use %s.Choosing.{ifs}\n' % own
     if '-on' in tactic:
-        head += 'use %s.Laws.{%s-on}\n' % (own, d)
+        head += 'use %s.Laws.{%s-on}\n' % (stands[d], d)
     if d in where:
         head += 'use %s.{%s}\n' % (where[d], d)
     open(path, 'w').write(head + text)

@@ -1,0 +1,28 @@
+use Rattle.display.specs.Report.{digit}
+use borrow.Author.Needs.{needs}
+use Rattle.display.proofs.report.put_digit.Statement.{statement}
+use Rattle.display.proofs.report.put_digit.Tie as tie
+use Rattle.display.proofs.report.put_digit.Reads as reads
+use Rattle.display.proofs.report.put_digit.Lts as lts
+use Rattle.display.proofs.report.last_digit.Reads as last-digit-reads
+use Rattle.text.proofs.printing.put.Reads as put-reads
+
+-- src/report.rt:26:19
+last-digit-requires : tie.Need-last-digit-requires
+last-digit-requires c κs = search needs
+
+-- src/report.rt:26:5
+put-requires : tie.Need-put-requires
+put-requires c κs = search needs
+
+-- src/report.rt:23:1
+same-length : tie.Need-same-length
+same-length c = search needs
+
+-- src/report.rt:23:1
+returns : tie.Need-returns
+unfolding digit
+returns c = rw (← c .before .before .before .last-digit .ensures) (c .before .before .put .ensures)
+
+pub put-digit-spec : {M : Type 1} → statement M
+put-digit-spec = tie.close (tie.spec last-digit-requires put-requires same-length returns)

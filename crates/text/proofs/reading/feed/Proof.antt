@@ -1,0 +1,35 @@
+use Rattle.text.specs.Reading.{feed}
+use borrow.Author.Needs.{needs}
+use Rattle.text.proofs.reading.feed.Statement.{statement}
+use Rattle.text.proofs.reading.feed.Tie as tie
+use Rattle.text.proofs.reading.feed.Reads as reads
+use Rattle.text.proofs.reading.feed.Lts as lts
+use Rattle.text.proofs.reading.hex_value.Reads as hex-value-reads
+use Rattle.text.proofs.reading.step.Reads as step-reads
+use Rattle.text.proofs.reading.store.Reads as store-reads
+use Rattle.text.proofs.reading.with_held.Reads as with-held-reads
+
+-- src/reading.rt:309:9
+hex-value-requires : tie.Need-hex-value-requires
+hex-value-requires c κs = search needs
+
+-- src/reading.rt:310:9
+store-requires : tie.Need-store-requires
+store-requires c κs = search needs
+
+-- src/reading.rt:311:23
+step-requires : tie.Need-step-requires
+step-requires c κs = search needs
+
+-- src/reading.rt:311:5
+with-held-requires : tie.Need-with-held-requires
+with-held-requires c κs = search needs
+
+-- src/reading.rt:305:1
+returns : tie.Need-returns
+unfolding feed
+returns c = cc
+
+pub feed-spec : {M : Type 1} → statement M
+feed-spec =
+    tie.close (tie.spec hex-value-requires store-requires step-requires with-held-requires returns)

@@ -1,0 +1,24 @@
+use Rattle.text.specs.Reading.{spelled}
+use borrow.Author.Needs.{needs}
+use Rattle.text.proofs.reading.spelled.Statement.{statement}
+use Rattle.text.proofs.reading.spelled.Tie as tie
+use Rattle.text.proofs.reading.spelled.Reads as reads
+use Rattle.text.proofs.reading.spelled.Lts as lts
+use Rattle.text.proofs.reading.letter.Reads as letter-reads
+use Rattle.text.proofs.reading.lettered.Reads as lettered-reads
+
+-- src/reading.rt:162:17
+letter-requires : tie.Need-letter-requires
+letter-requires c κs = search needs
+
+-- src/reading.rt:162:5
+lettered-requires : tie.Need-lettered-requires
+lettered-requires c κs = search needs
+
+-- src/reading.rt:159:1
+returns : tie.Need-returns
+unfolding spelled
+returns c = cc
+
+pub spelled-spec : {M : Type 1} → statement M
+spelled-spec = tie.close (tie.spec letter-requires lettered-requires returns)

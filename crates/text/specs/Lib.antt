@@ -1,0 +1,5 @@
+pub mod Reading
+pub mod Spelling
+pub mod Page
+pub mod Writing
+pub mod Faults

@@ -1,0 +1,53 @@
+-- Numbers and answers as text. Assumes nothing.
+use mathlib.Core.List.{List, [], _∷_, _++_}
+use Prim.Native.Nat.{ℕ, zero, suc, _+_, _/_, _%_}
+use lib.Dec.{ltb}
+use Rattle.lighting.specs.Choice.{if_then_else_}
+use Rattle.lighting.specs.Frames.{Bytes}
+use Rattle.lighting.specs.declared.Answer.{Answer}
+use Rattle.lighting.specs.declared.Answer.the-variants.{Done, Value, Absent, Refused}
+
+-- HEXADECIMAL, in upper case: `0` to `9`, `A` to `F`
+unfoldable pub hexDigit : ℕ → ℕ
+hexDigit d = if ltb d 10 then 48 + d else 55 + d
+
+-- two digits of 8 bits, four of 16, eight of 32; zeros in front are written
+unfoldable pub hex2 : ℕ → Bytes
+hex2 v = hexDigit (v / 16) ∷ (hexDigit (v % 16) ∷ [])
+
+unfoldable pub hex4 : ℕ → Bytes
+hex4 v = hex2 (v / 256) ++ hex2 (v % 256)
+
+unfoldable pub hex8 : ℕ → Bytes
+hex8 v = hex4 (v / 65536) ++ hex4 (v % 65536)
+
+-- DECIMAL, with no zero in front: k more digits may stand before the last. 64 bits take 20 digits at most
+unfoldable pub decimalBy : ℕ → ℕ → Bytes
+decimalBy zero n = (48 + n % 10) ∷ []
+decimalBy (suc k) n = if ltb n 10 then (48 + n % 10) ∷ [] else decimalBy k (n / 10) ++ ((48 + n % 10) ∷ [])
+
+unfoldable pub decimal : ℕ → Bytes
+decimal n = decimalBy 19 n
+
+-- AN ANSWER'S LINE: `Done`, `Value` and eight hexadecimal digits, `Absent`, `Refused` and a number; 10 ends the line
+abbrev pub newline : Bytes
+newline = 10 ∷ []
+
+-- `Done`, `Value `, `Absent`, `Refused `
+abbrev pub doneLine : Bytes
+doneLine = 68 ∷ 111 ∷ 110 ∷ 101 ∷ 10 ∷ []
+
+abbrev pub valueWord : Bytes
+valueWord = 86 ∷ 97 ∷ 108 ∷ 117 ∷ 101 ∷ 32 ∷ []
+
+abbrev pub absentLine : Bytes
+absentLine = 65 ∷ 98 ∷ 115 ∷ 101 ∷ 110 ∷ 116 ∷ 10 ∷ []
+
+abbrev pub refusedWord : Bytes
+refusedWord = 82 ∷ 101 ∷ 102 ∷ 117 ∷ 115 ∷ 101 ∷ 100 ∷ 32 ∷ []
+
+unfoldable pub answerLine : Answer → Bytes
+answerLine Done = doneLine
+answerLine (Value v) = valueWord ++ (hex8 v ++ newline)
+answerLine Absent = absentLine
+answerLine (Refused n) = refusedWord ++ (decimal n ++ newline)
