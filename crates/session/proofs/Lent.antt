@@ -1,0 +1,13 @@
+-- Made by tools/twin.py.
+pub mod start
+pub mod frame
+pub mod answer
+pub mod take_line
+pub mod take_chunk
+pub mod take_some
+pub mod take_all
+pub mod put_found
+pub mod put_end
+pub mod end_list
+pub mod replay
+pub mod run

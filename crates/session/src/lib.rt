@@ -1,0 +1,352 @@
+// A list of frames from standard input, replayed over a panel: a line for each answer, then what is found of every output, or a report for
+// people in place of that. A bad line ends it with a line that says what is wrong and where.
+//
+// Thin: the crate `text` reads and writes text, `panel` answers, `display` says what is found. Input and output go by pages of 64 KiB, so
+// that memory does not grow with the list.
+ghost use mathlib.Core.Path.{_≡_};
+ghost use Prim.Native.Nat.{min};
+use libc::STDOUT_FILENO;
+use lighting::Answer;
+use lighting::Output;
+use lighting::Station;
+use text::reading::Line;
+use text::reading::Reader;
+
+// A page with fewer free bytes than this is written out before more text is put on it. No answer's line and no output's block is longer.
+const ROOM: usize = 1024;
+
+// After some of the list: the reader, the page's mark, whether more of the list may come, and whether all lines were good.
+struct Turn {
+    reader: Reader,
+    mark: usize,
+    more: bool,
+    good: bool,
+}
+
+fn least(a: usize, b: usize) -> usize
+    ensures { λ r. ⌜ r ≡ min a b ⌝ }
+{
+    if a < b { a } else { b }
+}
+
+fn wide(n: u8) -> usize
+    ensures { λ r. ⌜ r ≡ n ⌝ }
+{
+    n as usize
+}
+
+// ---- one line
+
+// `outputs N`: the panel of the first N outputs starts.
+fn start(outputs: &mut [Output], stations: &mut [Station], time: &mut u64, n: u8) {
+    let named = least(wide(n), outputs.len());
+    panel::start(&mut outputs[0..named], stations, time);
+}
+
+// The bytes go to that panel: the first `count` of the 26 that the reader keeps.
+fn frame(
+    outputs: &mut [Output],
+    stations: &mut [Station],
+    time: &mut u64,
+    bytes: &[u8; 26],
+    count: usize,
+    n: u8,
+) -> Answer {
+    let named = least(wide(n), outputs.len());
+    let kept = &bytes[..];
+    let held = least(count, kept.len());
+    panel::frame(&mut outputs[0..named], stations, time, &kept[0..held])
+}
+
+fn answer(
+    outputs: &mut [Output],
+    stations: &mut [Station],
+    time: &mut u64,
+    page: &mut [u8],
+    mark: usize,
+    r: Reader,
+) -> usize {
+    let bytes = r.bytes;
+    let a = frame(outputs, stations, time, &bytes, r.count, r.outputs);
+    text::printing::put_answer(page, mark, a)
+}
+
+fn take_line(
+    outputs: &mut [Output],
+    stations: &mut [Station],
+    time: &mut u64,
+    page: &mut [u8],
+    mark: usize,
+    r: Reader,
+) -> Turn {
+    let held = r.held;
+    let number = r.line;
+    let line = text::reading::line_of(held);
+    let next = text::reading::next_line(r);
+    match line {
+        Line::Nothing => Turn {
+            reader: next,
+            mark: mark,
+            more: true,
+            good: true,
+        },
+        Line::Outputs(n) => {
+            start(outputs, stations, time, n);
+            let named = text::reading::with_outputs(next, n);
+            Turn {
+                reader: named,
+                mark: mark,
+                more: true,
+                good: true,
+            }
+        }
+        Line::Frame => {
+            let m = answer(outputs, stations, time, page, mark, r);
+            Turn {
+                reader: next,
+                mark: m,
+                more: true,
+                good: true,
+            }
+        }
+        Line::Wrong(f) => {
+            let m = text::faults::put_fault(page, mark, number, f);
+            Turn {
+                reader: next,
+                mark: m,
+                more: true,
+                good: false,
+            }
+        }
+    }
+}
+
+// ---- pages
+
+// The page's text is written out.
+fn flush(page: &[u8], mark: usize) {
+    let n = least(mark, page.len());
+    io::write_all(STDOUT_FILENO, &page[0..n]);
+}
+
+// The mark of a page with room for more: a page that has too little is written out.
+fn with_room(page: &[u8], mark: usize) -> usize {
+    if mark < page.len() {
+        if ROOM < page.len() - mark {
+            return mark;
+        }
+    }
+    flush(page, mark);
+    0
+}
+
+// ---- the list
+
+// The lines that end in these bytes are taken.
+fn take_chunk(
+    outputs: &mut [Output],
+    stations: &mut [Station],
+    time: &mut u64,
+    page: &mut [u8],
+    mark: usize,
+    r: Reader,
+    s: &[u8],
+) -> Turn {
+    let mut reader = r;
+    let mut at = mark;
+    let mut i: usize = 0;
+    while i < s.len() {
+        let fed = text::reading::feed_line(reader, s, i);
+        let held = fed.reader;
+        reader = held;
+        i = fed.next;
+        if i < s.len() {
+            i += 1;
+            let t = take_line(outputs, stations, time, page, at, reader);
+            let next = t.reader;
+            reader = next;
+            at = with_room(page, t.mark);
+            if !t.good {
+                return Turn {
+                    reader: reader,
+                    mark: at,
+                    more: true,
+                    good: false,
+                };
+            }
+        }
+    }
+    Turn {
+        reader: reader,
+        mark: at,
+        more: true,
+        good: true,
+    }
+}
+
+// Reads once, and takes what came; nothing comes at the end of the input.
+fn take_some(
+    outputs: &mut [Output],
+    stations: &mut [Station],
+    time: &mut u64,
+    page: &mut [u8],
+    chunk: &mut [u8],
+    mark: usize,
+    r: Reader,
+) -> Turn {
+    let got = libc::read(0, chunk);
+    let n = io::count(got, chunk);
+    if n == 0 {
+        return Turn {
+            reader: r,
+            mark: mark,
+            more: false,
+            good: true,
+        };
+    }
+    take_chunk(outputs, stations, time, page, mark, r, &chunk[0..n])
+}
+
+// All of it. A proved loop has to end, and nothing says that the input does: the turns are counted down from a number that no run uses up.
+fn take_all(
+    outputs: &mut [Output],
+    stations: &mut [Station],
+    time: &mut u64,
+    page: &mut [u8],
+    chunk: &mut [u8],
+) -> Turn {
+    let mut reader = text::reading::fresh_reader();
+    let mut mark: usize = 0;
+    let mut turns: u64 = 18446744073709551615;
+    while 0 < turns {
+        turns -= 1;
+        let t = take_some(outputs, stations, time, page, chunk, mark, reader);
+        let next = t.reader;
+        reader = next;
+        mark = t.mark;
+        if !t.good {
+            return t;
+        }
+        if !t.more {
+            return t;
+        }
+    }
+    Turn {
+        reader: reader,
+        mark: mark,
+        more: true,
+        good: true,
+    }
+}
+
+// ---- what is found
+
+fn put_output(page: &mut [u8], at: usize, report: bool, i: u64, time: u64, o: Output) -> usize {
+    if report {
+        display::report::put_report_line(page, at, i, time, o)
+    } else {
+        display::block::put_block(page, at, i, time, o)
+    }
+}
+
+fn put_head(page: &mut [u8], at: usize, report: bool, time: u64) -> usize {
+    let mark = text::printing::put_all(page, at, b"--\n");
+    if report {
+        display::report::put_report_head(page, mark, time)
+    } else {
+        mark
+    }
+}
+
+fn put_found(
+    outputs: &[Output],
+    n: usize,
+    time: u64,
+    page: &mut [u8],
+    mark: usize,
+    report: bool,
+) -> usize {
+    let mut at = put_head(page, mark, report, time);
+    let mut i: usize = 0;
+    while i < least(n, outputs.len()) {
+        let o = outputs[i];
+        let room = with_room(page, at);
+        at = put_output(page, room, report, i as u64, time, o);
+        i += 1;
+    }
+    at
+}
+
+// A list that named no outputs has found nothing.
+fn put_end(
+    outputs: &[Output],
+    time: u64,
+    page: &mut [u8],
+    mark: usize,
+    report: bool,
+    line: u64,
+    r: Reader,
+) -> usize {
+    let named = wide(r.outputs);
+    if named == 0 {
+        text::faults::put_ended(page, mark, line)
+    } else {
+        put_found(outputs, named, time, page, mark, report)
+    }
+}
+
+// The last line may lack its newline.
+fn end_list(
+    outputs: &mut [Output],
+    stations: &mut [Station],
+    time: &mut u64,
+    page: &mut [u8],
+    mark: usize,
+    r: Reader,
+    report: bool,
+) -> usize {
+    let t = take_line(outputs, stations, time, page, mark, r);
+    if t.good {
+        let last = t.reader;
+        put_end(outputs, *time, page, t.mark, report, r.line, last)
+    } else {
+        t.mark
+    }
+}
+
+fn replay(
+    outputs: &mut [Output],
+    stations: &mut [Station],
+    time: &mut u64,
+    page: &mut [u8],
+    chunk: &mut [u8],
+    report: bool,
+) {
+    let t = take_all(outputs, stations, time, page, chunk);
+    if t.good {
+        let reader = t.reader;
+        let mark = end_list(outputs, stations, time, page, t.mark, reader, report);
+        flush(page, mark);
+    } else {
+        flush(page, t.mark);
+    }
+}
+
+// Over tables of its own, which the panel is lent: 64 outputs, of which the list names how many there are, and eight stations.
+pub fn run(report: bool) {
+    let output = station::fresh_output();
+    let mut outputs = [output; 64];
+    let record = station::fresh_station();
+    let mut stations = [record; 8];
+    let mut time: u64 = 0;
+    let mut page = io::large_buffer();
+    let mut chunk = io::large_buffer();
+    replay(
+        &mut outputs,
+        &mut stations,
+        &mut time,
+        &mut page,
+        &mut chunk,
+        report,
+    );
+}
