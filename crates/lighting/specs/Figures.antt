@@ -97,6 +97,10 @@ fadeTurned = ordered 500 (FadeToOver (real 0) 1000) Omitted (advance 0 500 fadeU
 abbrev short : Output
 short = ordered 0 (Goto (real 0x4248_0000)) (Lasts 100) freshOutput
 
+-- a warning without delay: 'if D is above 0, slot X empties with it', and with D = 0 it keeps its 0
+abbrev warnedBriefly : Output
+warnedBriefly = written 1000 (changed (changed half (SetEnable true)) (SetBlink 700)) 15 0
+
 abbrev pub trapsGiven : List Answer
 trapsGiven =
     presents 0 0 (ordered 0 StepDown Omitted freshOutput)
@@ -105,7 +109,10 @@ trapsGiven =
     ∷ progresses 500 1000 fadeTurned
     ∷ presents 0 99 short
     ∷ presents 0 100 short
+    ∷ presents 1000 1700 warnedBriefly
+    ∷ Value (flag (lives (advance 1000 1700 warnedBriefly .slots) 5))
+    ∷ Value (flag (lives (advance 1000 1700 warnedBriefly .slots) 15))
     ∷ []
 
 abbrev pub trapsSaid : List Answer
-trapsSaid = Value 0 ∷ Value 2949120 ∷ Value 1638400 ∷ Value 819200 ∷ Value 3276800 ∷ Value 0 ∷ []
+trapsSaid = Value 0 ∷ Value 2949120 ∷ Value 1638400 ∷ Value 819200 ∷ Value 3276800 ∷ Value 0 ∷ Value 0 ∷ Value 0 ∷ Value 1 ∷ []
