@@ -21,7 +21,7 @@ change-unless-requires c κs = search needs
 
 -- src/lib.rt:45:1
 returns : tie.Need-returns
-returns c = cc
+returns c = simp (c .change-unless .ensures, c .before .min-over-max .ensures, c .before .before .settings-with .ensures)
 
 pub change-spec : {M : Type 1} → statement M
 change-spec =

@@ -13,7 +13,7 @@ settle-requires c κs = search needs
 -- src/lib.rt:14:1
 returns : tie.Need-returns
 unfolding made
-returns c = cc
+returns c = simp (c .settle .ensures)
 
 pub make-spec : {M : Type 1} → statement M
 make-spec = tie.close (tie.spec settle-requires returns)

@@ -12,7 +12,7 @@ command-from-requires c κs = search needs
 
 returns : tie.Need-returns
 unfolding commanded
-returns c = cc
+returns c = simp (c .command-from .ensures, c .before .progress-value .ensures)
 
 pub command-spec : {M : Type 1} → statement M
 command-spec = tie.close (tie.spec progress-value-requires command-from-requires returns)

@@ -21,7 +21,7 @@ with-command-requires c κs = search needs
 
 returns : tie.Need-returns
 unfolding commandedFrom
-returns c = cc
+returns c = simp (c .with-command .ensures, c .before .time .ensures, c .before .before .make-scene .ensures, c .before .before .before .without-warning .ensures, c .before .before .before .before .end-warning .ensures)
 
 pub command-from-spec : {M : Type 1} → statement M
 command-from-spec =

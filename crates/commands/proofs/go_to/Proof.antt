@@ -12,7 +12,7 @@ jump-requires c κs = search needs
 
 returns : tie.Need-returns
 unfolding wentTo
-returns c = cc
+returns c = simp (c .jump .ensures, c .before .target-of .ensures)
 
 pub go-to-spec : {M : Type 1} → statement M
 go-to-spec = tie.close (tie.spec target-of-requires jump-requires returns)

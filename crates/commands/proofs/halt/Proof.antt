@@ -12,7 +12,7 @@ fill-requires c κs = search needs
 
 returns : tie.Need-returns
 unfolding halted
-returns c = cc
+returns c = simp (c .fill .ensures, c .before .raise .ensures)
 
 pub halt-spec : {M : Type 1} → statement M
 halt-spec = tie.close (tie.spec raise-requires fill-requires returns)

@@ -9,7 +9,7 @@ place-requires c κs = search needs
 
 returns : tie.Need-returns
 unfolding jumped
-returns c = cc
+returns c = c .place .ensures
 
 pub jump-spec : {M : Type 1} → statement M
 jump-spec = tie.close (tie.spec place-requires returns)

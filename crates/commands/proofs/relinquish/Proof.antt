@@ -12,7 +12,7 @@ disown-requires c κs = search needs
 
 returns : tie.Need-returns
 unfolding relinquished
-returns c = cc
+returns c = simp (c .disown .ensures, c .before .empty .ensures)
 
 pub relinquish-spec : {M : Type 1} → statement M
 relinquish-spec = tie.close (tie.spec empty-requires disown-requires returns)

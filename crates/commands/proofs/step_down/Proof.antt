@@ -15,7 +15,7 @@ jump-requires c κs = search needs
 
 returns : tie.Need-returns
 unfolding steppedDown
-returns c = cc
+returns c = simp (c .jump .ensures, c .before .step-down-from .ensures, c .before .before .rate-of .ensures .0)
 
 pub step-down-spec : {M : Type 1} → statement M
 step-down-spec =

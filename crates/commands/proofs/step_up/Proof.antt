@@ -15,7 +15,7 @@ jump-requires c κs = search needs
 
 returns : tie.Need-returns
 unfolding steppedUp
-returns c = cc
+returns c = simp (c .jump .ensures, c .before .step-up-from .ensures, c .before .before .rate-of .ensures .0)
 
 pub step-up-spec : {M : Type 1} → statement M
 step-up-spec = tie.close (tie.spec rate-of-requires step-up-from-requires jump-requires returns)

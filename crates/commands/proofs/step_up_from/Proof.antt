@@ -12,7 +12,7 @@ into-range-requires c κs = search needs
 
 returns : tie.Need-returns
 unfolding stepUpFrom
-returns c = cc
+returns c = c .into-range .ensures
 
 pub step-up-from-spec : {M : Type 1} → statement M
 step-up-from-spec = tie.close (tie.spec add-into-range into-range-requires returns)

@@ -16,7 +16,7 @@ units-or-requires c κs = search needs
 
 -- src/lib.rt:20:1
 returns : tie.Need-returns
-returns c = cc
+returns c = simp (c .units-or .ensures, c .before .amount-of .ensures)
 
 pub bobbinonyx-amount-spec : {M : Type 1} → statement M
 bobbinonyx-amount-spec = tie.close (tie.spec amount-of-requires units-or-requires returns)

@@ -16,7 +16,7 @@ units-or-requires c κs = search needs
 
 -- src/lib.rt:6:1
 returns : tie.Need-returns
-returns c = cc
+returns c = simp (c .units-or .ensures, c .before .level-of .ensures)
 
 pub bobbinonyx-level-spec : {M : Type 1} → statement M
 bobbinonyx-level-spec = tie.close (tie.spec level-of-requires units-or-requires returns)

@@ -16,7 +16,7 @@ units-or-requires c κs = search needs
 
 -- src/lib.rt:13:1
 returns : tie.Need-returns
-returns c = cc
+returns c = simp (c .units-or .ensures, c .before .limit-of .ensures)
 
 pub bobbinonyx-limit-spec : {M : Type 1} → statement M
 bobbinonyx-limit-spec = tie.close (tie.spec limit-of-requires units-or-requires returns)

@@ -27,7 +27,7 @@ call-by-requires c κs = search needs
 -- src/lib.rt:217:1
 returns : tie.Need-returns
 unfolding called
-returns c = cc
+returns c = simp (c .call-by .ensures, c .before .byte-at2 .ensures, c .before .before .word32-at .ensures, c .before .before .before .byte-at .ensures)
 
 pub call-spec : {M : Type 1} → statement M
 call-spec =

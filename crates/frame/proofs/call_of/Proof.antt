@@ -23,7 +23,7 @@ request-of-requires c κs = search needs
 -- src/lib.rt:189:1
 returns : tie.Need-returns
 unfolding callOf
-returns c = cc
+returns c = simp (c .request-of .ensures, c .before .byte-at .ensures, c .before .before .word48-at .ensures .0)
 
 pub call-of-spec : {M : Type 1} → statement M
 call-of-spec = tie.close (tie.spec word48-at-requires byte-at-requires request-of-requires returns)

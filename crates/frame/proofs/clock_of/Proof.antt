@@ -13,7 +13,7 @@ word48-at-requires c κs = search needs
 -- src/lib.rt:229:1
 returns : tie.Need-returns
 unfolding clockOf
-returns c = cc
+returns c = simp (c .word48-at .ensures .0)
 
 pub clock-of-spec : {M : Type 1} → statement M
 clock-of-spec = tie.close (tie.spec word48-at-requires returns)

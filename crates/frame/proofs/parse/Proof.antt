@@ -23,7 +23,7 @@ parse-by-requires c κs = search needs
 -- src/lib.rt:248:1
 returns : tie.Need-returns
 unfolding parse
-returns c = cc
+returns c = simp (c .parse-by .ensures, c .before .kind-length .ensures, c .before .before .byte-at .ensures)
 
 pub parse-spec : {M : Type 1} → statement M
 parse-spec = tie.close (tie.spec byte-at-requires kind-length-requires parse-by-requires returns)

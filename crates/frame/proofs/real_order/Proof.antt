@@ -16,7 +16,7 @@ order-with-requires c κs = search needs
 
 -- src/lib.rt:106:1
 returns : tie.Need-returns
-returns c = cc
+returns c = simp (c .order-with .ensures, c .before .step-or-level .ensures)
 
 pub real-order-spec : {M : Type 1} → statement M
 real-order-spec = tie.close (tie.spec step-or-level-requires order-with-requires returns)

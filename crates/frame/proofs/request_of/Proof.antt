@@ -35,7 +35,7 @@ request-by-requires c κs = search needs
 -- src/lib.rt:176:1
 returns : tie.Need-returns
 unfolding requestOf
-returns c = cc
+returns c = simp (c .request-by .ensures, c .before .word32-at4 .ensures, c .before .before .word32-at3 .ensures, c .before .before .before .word32-at2 .ensures, c .before .before .before .before .word32-at .ensures, c .before .before .before .before .before .byte-at .ensures)
 
 pub request-of-spec : {M : Type 1} → statement M
 request-of-spec =

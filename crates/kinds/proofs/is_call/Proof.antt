@@ -13,7 +13,7 @@ kind-length-requires c κs = search needs
 -- src/lib.rt:37:1
 returns : tie.Need-returns
 unfolding isCall
-returns c = cc
+returns c = simp (c .kind-length .ensures)
 
 pub is-call-spec : {M : Type 1} → statement M
 is-call-spec = tie.close (tie.spec kind-length-requires returns)

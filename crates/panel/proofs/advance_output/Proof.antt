@@ -53,7 +53,7 @@ same-length-2 : tie.Need-same-length-2
 same-length-2 c = search needs
 
 returns-2 : tie.Need-returns-2
-returns-2 c = cc
+returns-2 c = simp (c .hop-thrice .ensures)
 
 pub advance-output-spec : {M : Type 1} → statement M
 advance-output-spec =

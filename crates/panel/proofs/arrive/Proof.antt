@@ -43,7 +43,8 @@ same-length-2 c = search needs
 
 returns : tie.Need-returns
 unfolding carried
-returns c = (cc, (cc, (cc, refl)))
+returns c =
+    (simp (c .before .before .before .serve .ensures .0, c .before .before .before .before .wide .ensures, c .before .before .before .before .before .before .before .advance-outputs .ensures), (simp (c .before .before .before .serve .ensures .1, c .before .before .before .before .wide .ensures, c .before .before .before .before .before .before .before .advance-outputs .ensures), (simp (c .wide2 .ensures, c .before .kept-station .ensures, c .before .before .before .serve .ensures .0, c .before .before .before .before .wide .ensures, c .before .before .before .before .before .before .before .advance-outputs .ensures), refl)))
 
 pub arrive-spec : {M : Type 1} → statement M
 arrive-spec =

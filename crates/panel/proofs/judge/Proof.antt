@@ -48,7 +48,7 @@ met-by-requires c κs = search needs
 
 returns : tie.Need-returns
 unfolding decide
-returns c = cc
+returns c = simp (c .met-by .ensures, c .before .before .wide .ensures, c .before .before .before .station-of .ensures, c .before .before .before .before .parse .ensures)
 
 pub judge-spec : {M : Type 1} → statement M
 judge-spec =

@@ -33,7 +33,8 @@ same-length c = search needs
 
 returns : tie.Need-returns
 unfolding served
-returns c = (cc, cc)
+returns c =
+    (simp (c .outcome-answer .ensures, c .before .before .act .ensures), simp (c .before .outcome-output .ensures, c .before .before .act .ensures))
 
 pub serve-spec : {M : Type 1} → statement M
 serve-spec =

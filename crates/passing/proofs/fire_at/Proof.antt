@@ -38,7 +38,7 @@ settle-requires c κs = search needs
 -- src/lib.rt:168:1
 returns : tie.Need-returns
 unfolding fire
-returns c = cc
+returns c = simp (c .settle .ensures, c .before .timer-at .ensures, c .before .before .activity-at .ensures, c .before .before .before .slots-at .ensures, c .before .before .before .before .expire .ensures, c .before .before .before .before .before .release .ensures)
 
 pub fire-at-spec : {M : Type 1} → statement M
 fire-at-spec =

@@ -23,7 +23,7 @@ with-burning-requires c κs = search needs
 -- src/lib.rt:47:1
 returns : tie.Need-returns
 unfolding gained
-returns c = cc
+returns c = simp (c .with-burning .ensures, c .before .added .ensures, c .before .before .glow .ensures)
 
 pub gain-spec : {M : Type 1} → statement M
 gain-spec = tie.close (tie.spec glow-requires added-requires with-burning-requires returns)

@@ -23,7 +23,7 @@ rest-requires c κs = search needs
 -- src/lib.rt:236:1
 returns : tie.Need-returns
 unfolding hops
-returns c = cc
+returns c = simp (c .rest .ensures, c .before .hop-to .ensures, c .before .before .next-due .ensures)
 
 pub hop-once-spec : {M : Type 1} → statement M
 hop-once-spec = tie.close (tie.spec next-due-requires hop-to-requires rest-requires returns)

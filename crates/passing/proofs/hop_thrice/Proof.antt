@@ -23,7 +23,7 @@ hop-twice-requires c κs = search needs
 -- src/lib.rt:250:1
 returns : tie.Need-returns
 unfolding advance hops
-returns c = cc
+returns c = simp (c .hop-twice .ensures, c .before .hop-to .ensures, c .before .before .next-due .ensures)
 
 pub hop-thrice-spec : {M : Type 1} → statement M
 hop-thrice-spec = tie.close (tie.spec next-due-requires hop-to-requires hop-twice-requires returns)

@@ -23,7 +23,7 @@ fire-at-requires c κs = search needs
 -- src/lib.rt:224:1
 returns : tie.Need-returns
 unfolding hop
-returns c = cc
+returns c = simp (c .fire-at .ensures, c .before .gain .ensures, c .before .before .since .ensures)
 
 pub hop-to-spec : {M : Type 1} → statement M
 hop-to-spec = tie.close (tie.spec since-requires gain-requires fire-at-requires returns)

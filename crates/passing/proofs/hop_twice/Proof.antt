@@ -23,7 +23,7 @@ hop-once-requires c κs = search needs
 -- src/lib.rt:243:1
 returns : tie.Need-returns
 unfolding hops
-returns c = cc
+returns c = simp (c .hop-once .ensures, c .before .hop-to .ensures, c .before .before .next-due .ensures)
 
 pub hop-twice-spec : {M : Type 1} → statement M
 hop-twice-spec = tie.close (tie.spec next-due-requires hop-to-requires hop-once-requires returns)

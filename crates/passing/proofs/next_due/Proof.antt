@@ -23,7 +23,7 @@ least-requires c κs = search needs
 -- src/lib.rt:214:1
 returns : tie.Need-returns
 unfolding due
-returns c = cc
+returns c = simp (c .least .ensures, c .before .activity-due .ensures, c .before .before .timer-due .ensures)
 
 pub next-due-spec : {M : Type 1} → statement M
 next-due-spec =

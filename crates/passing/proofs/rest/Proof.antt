@@ -18,7 +18,7 @@ gain-requires c κs = search needs
 -- src/lib.rt:230:1
 returns : tie.Need-returns
 unfolding hops
-returns c = cc
+returns c = simp (c .gain .ensures, c .before .since .ensures)
 
 pub rest-spec : {M : Type 1} → statement M
 rest-spec = tie.close (tie.spec since-requires gain-requires returns)

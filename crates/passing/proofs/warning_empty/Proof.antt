@@ -17,7 +17,7 @@ empty-requires-2 c κs = search needs
 -- src/lib.rt:126:1
 returns : tie.Need-returns
 unfolding put
-returns c = cc
+returns c = simp (c .empty2 .ensures, c .before .empty .ensures)
 
 pub warning-empty-spec : {M : Type 1} → statement M
 warning-empty-spec = tie.close (tie.spec empty-requires empty-requires-2 returns)

@@ -28,7 +28,7 @@ activity-by-requires c κs = search needs
 -- src/lib.rt:217:1
 returns : tie.Need-returns
 unfolding activitySound
-returns c = cc
+returns c = simp (c .activity-by .ensures, c .before .present-value .ensures, c .before .before .winning .ensures, c .before .before .before .is-live .ensures)
 
 pub activity-sound-spec : {M : Type 1} → statement M
 activity-sound-spec =

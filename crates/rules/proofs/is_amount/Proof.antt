@@ -18,7 +18,7 @@ in-range-requires c κs = search needs
 -- src/lib.rt:64:1
 returns : tie.Need-returns
 unfolding isAmount
-returns c = cc
+returns c = simp (c .in-range .ensures, c .before .amount-of-real .ensures)
 
 pub is-amount-spec : {M : Type 1} → statement M
 is-amount-spec = tie.close (tie.spec amount-of-real-requires in-range-requires returns)

@@ -18,7 +18,7 @@ level-set-requires c κs = search needs
 -- src/lib.rt:47:1
 returns : tie.Need-returns
 unfolding put
-returns c = cc
+returns c = simp (c .level-set .ensures, c .before .mask-empty .ensures)
 
 pub empty-spec : {M : Type 1} → statement M
 empty-spec = tie.close (tie.spec mask-empty-requires level-set-requires returns)

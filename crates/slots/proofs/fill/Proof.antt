@@ -18,7 +18,7 @@ level-set-requires c κs = search needs
 -- src/lib.rt:50:1
 returns : tie.Need-returns
 unfolding put
-returns c = cc
+returns c = simp (c .level-set .ensures, c .before .mask-fill .ensures)
 
 pub fill-spec : {M : Type 1} → statement M
 fill-spec = tie.close (tie.spec mask-fill-requires level-set-requires returns)

@@ -18,7 +18,7 @@ level-at-requires c κs = search needs
 -- src/lib.rt:66:1
 returns : tie.Need-returns
 unfolding topmost
-returns c = cc
+returns c = simp (c .level-at .ensures, c .before .winning .ensures)
 
 pub top-spec : {M : Type 1} → statement M
 top-spec = tie.close (tie.spec winning-requires level-at-requires returns)

@@ -13,7 +13,7 @@ fresh-settings-requires c κs = search needs
 -- src/lib.rt:43:1
 returns : tie.Need-returns
 unfolding freshOutput
-returns c = cc
+returns c = simp (c .fresh-settings .ensures)
 
 pub fresh-output-spec : {M : Type 1} → statement M
 fresh-output-spec = tie.close (tie.spec fresh-settings-requires returns)

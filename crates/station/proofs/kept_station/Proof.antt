@@ -11,7 +11,7 @@ pad-requires c κs = search needs
 
 -- src/lib.rt:143:1
 returns : tie.Need-returns
-returns c = cc
+returns c = simp (c .pad .ensures)
 
 pub kept-station-spec : {M : Type 1} → statement M
 kept-station-spec = tie.close (tie.spec pad-requires returns)

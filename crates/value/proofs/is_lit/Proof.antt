@@ -13,7 +13,7 @@ present-value-requires c κs = search needs
 -- src/lib.rt:46:1
 returns : tie.Need-returns
 unfolding lit
-returns c = cc
+returns c = simp (c .present-value .ensures)
 
 pub is-lit-spec : {M : Type 1} → statement M
 is-lit-spec = tie.close (tie.spec present-value-requires returns)

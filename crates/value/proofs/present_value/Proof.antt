@@ -18,7 +18,7 @@ bring-requires c κs = search needs
 -- src/lib.rt:40:1
 returns : tie.Need-returns
 unfolding presentValue
-returns c = cc
+returns c = simp (c .bring .ensures, c .before .top .ensures)
 
 pub present-value-spec : {M : Type 1} → statement M
 present-value-spec = tie.close (tie.spec top-requires bring-requires returns)

@@ -18,7 +18,7 @@ progress-by-requires c κs = search needs
 -- src/lib.rt:127:1
 returns : tie.Need-returns
 unfolding progressValue
-returns c = cc
+returns c = simp (c .progress-by .ensures, c .before .present-value .ensures)
 
 pub progress-value-spec : {M : Type 1} → statement M
 progress-value-spec = tie.close (tie.spec present-value-requires progress-by-requires returns)

@@ -18,7 +18,7 @@ reached-by-requires c κs = search needs
 -- src/lib.rt:103:1
 returns : tie.Need-returns
 unfolding reached
-returns c = cc
+returns c = simp (c .reached-by .ensures, c .before .elapsed .ensures)
 
 pub reached-spec : {M : Type 1} → statement M
 reached-spec = tie.close (tie.spec elapsed-requires reached-by-requires returns)

@@ -15,7 +15,7 @@ warns-by-requires c κs = search needs
 
 returns : tie.Need-returns
 unfolding warns
-returns c = cc
+returns c = simp (c .warns-by .ensures, c .before .present-value .ensures, c .before .before .winning .ensures)
 
 pub does-warn-spec : {M : Type 1} → statement M
 does-warn-spec =

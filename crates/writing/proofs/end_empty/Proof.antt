@@ -15,7 +15,7 @@ with-scene-requires c κs = search needs
 
 returns : tie.Need-returns
 unfolding endedEmpty
-returns c = cc
+returns c = simp (c .with-scene .ensures, c .before .empty2 .ensures, c .before .before .empty .ensures)
 
 pub end-empty-spec : {M : Type 1} → statement M
 end-empty-spec = tie.close (tie.spec empty-requires empty-requires-2 with-scene-requires returns)

@@ -15,7 +15,7 @@ with-scene-requires c κs = search needs
 
 returns : tie.Need-returns
 unfolding endedStored
-returns c = cc
+returns c = simp (c .with-scene .ensures, c .before .fill .ensures, c .before .before .empty .ensures)
 
 pub end-store-spec : {M : Type 1} → statement M
 end-store-spec = tie.close (tie.spec empty-requires fill-requires with-scene-requires returns)

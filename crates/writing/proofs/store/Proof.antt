@@ -15,7 +15,7 @@ with-scene-requires c κs = search needs
 
 returns : tie.Need-returns
 unfolding stored
-returns c = cc
+returns c = simp (c .with-scene .ensures, c .before .pass-over .ensures, c .before .before .fill .ensures)
 
 pub store-spec : {M : Type 1} → statement M
 store-spec = tie.close (tie.spec fill-requires pass-over-requires with-scene-requires returns)

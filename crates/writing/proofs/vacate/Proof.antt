@@ -18,7 +18,7 @@ with-scene-requires c κs = search needs
 
 returns : tie.Need-returns
 unfolding vacated
-returns c = cc
+returns c = simp (c .with-scene .ensures, c .before .vacate-activity .ensures, c .before .before .is-live .ensures, c .before .before .before .empty .ensures)
 
 pub vacate-spec : {M : Type 1} → statement M
 vacate-spec =

@@ -12,7 +12,7 @@ warn-by-requires c κs = search needs
 
 returns : tie.Need-returns
 unfolding warned
-returns c = cc
+returns c = simp (c .warn-by .ensures, c .before .present-value .ensures)
 
 pub warn-spec : {M : Type 1} → statement M
 warn-spec = tie.close (tie.spec present-value-requires warn-by-requires returns)

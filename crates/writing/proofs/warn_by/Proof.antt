@@ -21,7 +21,7 @@ with-scene-requires c κs = search needs
 
 returns : tie.Need-returns
 unfolding warnedBy
-returns c = cc
+returns c = simp (c .with-scene .ensures, c .before .first-phase .ensures, c .before .before .fill2 .ensures, c .before .before .before .first-level .ensures, c .before .before .before .before .fill .ensures)
 
 pub warn-by-spec : {M : Type 1} → statement M
 warn-by-spec =

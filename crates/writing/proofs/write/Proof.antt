@@ -9,7 +9,7 @@ write-by-requires c κs = search needs
 
 returns : tie.Need-returns
 unfolding written
-returns c = cc
+returns c = c .write-by .ensures
 
 pub write-spec : {M : Type 1} → statement M
 write-spec = tie.close (tie.spec write-by-requires returns)

@@ -12,7 +12,7 @@ place-requires c κs = search needs
 
 returns : tie.Need-returns
 unfolding fadedOver
-returns c = cc
+returns c = simp (c .place .ensures, c .before .begin .ensures)
 
 pub fade-over-spec : {M : Type 1} → statement M
 fade-over-spec = tie.close (tie.spec begin-requires place-requires returns)

@@ -12,7 +12,7 @@ fade-over-requires c κs = search needs
 
 returns : tie.Need-returns
 unfolding fadedTo
-returns c = cc
+returns c = simp (c .fade-over .ensures, c .before .target-of .ensures)
 
 pub fade-to-spec : {M : Type 1} → statement M
 fade-to-spec = tie.close (tie.spec target-of-requires fade-over-requires returns)

@@ -15,7 +15,7 @@ replace-requires c κs = search needs
 
 returns : tie.Need-returns
 unfolding placed
-returns c = cc
+returns c = simp (c .replace .ensures, c .before .winning .ensures, c .before .before .fill .ensures)
 
 pub place-spec : {M : Type 1} → statement M
 place-spec = tie.close (tie.spec fill-requires winning-requires replace-requires returns)

@@ -18,7 +18,7 @@ place-requires c κs = search needs
 
 returns : tie.Need-returns
 unfolding rampedAt
-returns c = cc
+returns c = simp (c .place .ensures, c .before .begin .ensures, c .before .before .ramp-length .ensures, c .before .before .before .way .ensures)
 
 pub ramp-at-spec : {M : Type 1} → statement M
 ramp-at-spec =

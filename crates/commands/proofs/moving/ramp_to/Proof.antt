@@ -15,7 +15,7 @@ ramp-at-requires c κs = search needs
 
 returns : tie.Need-returns
 unfolding rampedTo
-returns c = cc
+returns c = simp (c .ramp-at .ensures, c .before .rate-of .ensures .0, c .before .before .target-of .ensures)
 
 pub ramp-to-spec : {M : Type 1} → statement M
 ramp-to-spec = tie.close (tie.spec target-of-requires rate-of-requires ramp-at-requires returns)

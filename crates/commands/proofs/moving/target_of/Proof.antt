@@ -12,7 +12,7 @@ bring-requires c κs = search needs
 
 returns : tie.Need-returns
 unfolding target
-returns c = cc
+returns c = simp (c .bring .ensures, c .before .level-units .ensures .0)
 
 pub target-of-spec : {M : Type 1} → statement M
 target-of-spec = tie.close (tie.spec level-units-requires bring-requires returns)

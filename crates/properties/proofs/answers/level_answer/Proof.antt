@@ -13,7 +13,7 @@ read-out-requires c κs = search needs
 -- src/answers.rt:10:1
 returns : tie.Need-returns
 unfolding levelAnswer
-returns c = cc
+returns c = simp (c .read-out .ensures)
 
 pub level-answer-spec : {M : Type 1} → statement M
 level-answer-spec = tie.close (tie.spec read-out-requires returns)

@@ -13,7 +13,7 @@ bits-of-requires c κs = search needs
 -- src/answers.rt:71:1
 returns : tie.Need-returns
 unfolding realAnswer
-returns c = cc
+returns c = simp (c .bits-of .ensures)
 
 pub real-answer-spec : {M : Type 1} → statement M
 real-answer-spec = tie.close (tie.spec bits-of-requires returns)

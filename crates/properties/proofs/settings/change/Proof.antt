@@ -23,7 +23,7 @@ burning-with-requires c κs = search needs
 -- src/settings.rt:113:1
 returns : tie.Need-returns
 unfolding changed
-returns c = cc
+returns c = simp (c .burning-with .ensures, c .before .activity-with .ensures, c .before .before .settings-with .ensures)
 
 pub change-spec : {M : Type 1} → statement M
 change-spec =

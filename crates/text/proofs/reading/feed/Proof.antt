@@ -28,7 +28,7 @@ with-held-requires c κs = search needs
 -- src/reading.rt:305:1
 returns : tie.Need-returns
 unfolding feed
-returns c = cc
+returns c = simp (c .with-held .ensures, c .before .step .ensures, c .before .before .store .ensures, c .before .before .before .hex-value .ensures)
 
 pub feed-spec : {M : Type 1} → statement M
 feed-spec =

@@ -13,7 +13,7 @@ grown-requires c κs = search needs
 -- src/reading.rt:179:1
 returns : tie.Need-returns
 unfolding grownHeld
-returns c = cc
+returns c = simp (c .grown .ensures)
 
 pub grown-held-spec : {M : Type 1} → statement M
 grown-held-spec = tie.close (tie.spec grown-requires returns)

@@ -18,7 +18,7 @@ push-requires c κs = search needs
 -- src/reading.rt:275:1
 returns : tie.Need-returns
 unfolding joined
-returns c = cc
+returns c = simp (c .push .ensures, c .before .byte-pair .ensures)
 
 pub join-spec : {M : Type 1} → statement M
 join-spec = tie.close (tie.spec byte-pair-requires push-requires returns)

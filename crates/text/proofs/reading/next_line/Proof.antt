@@ -13,7 +13,7 @@ line-after-requires c κs = search needs
 -- src/reading.rt:352:1
 returns : tie.Need-returns
 unfolding nextLine
-returns c = cc
+returns c = simp (c .line-after .ensures)
 
 pub next-line-spec : {M : Type 1} → statement M
 next-line-spec = tie.close (tie.spec line-after-requires returns)

@@ -18,7 +18,7 @@ lettered-requires c κs = search needs
 -- src/reading.rt:159:1
 returns : tie.Need-returns
 unfolding spelled
-returns c = cc
+returns c = simp (c .lettered .ensures, c .before .letter .ensures)
 
 pub spelled-spec : {M : Type 1} → statement M
 spelled-spec = tie.close (tie.spec letter-requires lettered-requires returns)
