@@ -1,6 +1,7 @@
 #!/usr/bin/env python3
 """fill.py CRATE: answer each hole `returns.. c = ?` of a function whose contract is r ≡ DEF .., by the rule of the style: a function with one
-return that calls others composes (`cc`); any other chooses (`search (needs, ifs)`, with DEF's law where it is made by clauses).
+return that calls others composes (`simp`, with the callees' facts from the last call back); any other chooses (`search (needs, ifs)`, with
+DEF's law where it is made by clauses). A callee with several facts wants `.ensures .0` in place of `.ensures`.
 What it writes is a first draft of proof text for people to keep or change; the prover checks it."""
 import glob
 import os
@@ -30,7 +31,9 @@ for path in glob.glob(root + '/proofs/**/Proof.antt', recursive=True):
         continue
     d = defined[function]
     one = len(re.findall(r'^returns\S* c =', text, flags=re.M)) == 1
-    tactic = 'cc' if one and '-requires' in text else 'search (needs, ifs%s)' % (', %s-on' % d if d in laws else '')
+    calls = [a + b for a, b in re.findall(r'^(\S+?)-requires(?:-(\d+))? c κs', text, re.M)]
+    facts = ['c' + ' .before' * i + ' .%s .ensures' % name for i, name in enumerate(reversed(calls))]
+    tactic = 'simp (%s)' % ', '.join(facts) if one and calls else 'search (needs, ifs%s)' % (', %s-on' % d if d in laws else '')
     text = re.sub(r'^(returns\S*) c = \?', lambda m: 'unfolding %s\n%s c = %s' % (d, m.group(1), tactic), text, flags=re.M)
     head = ''
     if 'Needs.{needs}' not in text:

@@ -62,7 +62,7 @@ pub fn act(t: u64, o: Output, q: Request) -> Outcome
         Request::Write { slot, level } => make(writing::write(t, o, slot, level)),
         Request::Empty { slot } => make(writing::vacate(o, slot)),
         Request::Change(n) => change(o, n),
-        Request::Read(property) => leave(o, properties::show(t, o, property)),
+        Request::Read(property) => leave(o, answers::show(t, o, property)),
         Request::Order(k) => make(commands::command(t, o, k)),
     }
 }

@@ -1,14 +1,11 @@
-// The table of properties: which number is which, what a write asks of its value, and what a property reads as. By value, and on any
-// record at all.
-pub mod answers;
+// The table of properties: which number is which, what a write asks of its value, and what it changes. What a property reads as is the
+// crate `answers`. By value, and on any record at all.
 pub mod settings;
 pub mod values;
 
 ghost use mathlib.Core.Path.{_≡_};
 ghost use Rattle.lighting.specs.Parameters.{standard};
-ghost use Rattle.lighting.specs.Properties.{propertyOf, changeOf, shown};
-use lighting::Answer;
-use lighting::Output;
+ghost use Rattle.lighting.specs.Properties.{propertyOf, changeOf};
 use lighting::Property;
 use lighting::Request;
 use lighting::Setting;
@@ -96,41 +93,5 @@ pub fn change_of(p: Property, x: u32) -> Request
         Property::LastDuration => Request::Refuse(9),
         Property::SlotValue(_) => Request::Refuse(9),
         Property::Unknown => Request::Refuse(9),
-    }
-}
-
-// Kind 05, a read: what a property reads as at the time t.
-pub fn show(t: u64, o: Output, p: Property) -> Answer
-    ensures { λ r. ⌜ r ≡ shown t o p ⌝ }
-{
-    let settings = o.settings;
-    let slots = o.slots;
-    let activity = o.activity;
-    let last = o.last;
-    let operation = last.operation;
-    let duration = last.duration;
-    match p {
-        Property::RelinquishDefault => answers::level_answer(settings.default),
-        Property::FadeTime => Answer::Value(settings.fade),
-        Property::RampRate => answers::real_answer(settings.ramp),
-        Property::StepIncrement => answers::real_answer(settings.step),
-        Property::BlinkEnable => Answer::Value(answers::flag(settings.enable)),
-        Property::BlinkTime => Answer::Value(settings.blink),
-        Property::BlinkWarnDelay => Answer::Value(settings.delay),
-        Property::MinValue => answers::level_answer(settings.min),
-        Property::MaxValue => answers::level_answer(settings.max),
-        Property::CommandPriority => Answer::Value(answers::priority(settings.slot)),
-        Property::ElapsedActiveTime => Answer::Value(answers::elapsed_active(o.burning)),
-        Property::PresentValue => answers::level_answer(value::present_value(settings, slots)),
-        Property::ProgressValue => answers::level_answer(value::progress_value(t, o)),
-        Property::InProcess => Answer::Value(value::in_process(activity)),
-        Property::LastOperation => Answer::Value(answers::operation_number(operation)),
-        Property::LastLevel => answers::last_level(operation),
-        Property::LastRate => answers::last_rate(operation),
-        Property::LastStep => answers::last_step(operation),
-        Property::LastFadeTime => answers::last_fade_time(operation),
-        Property::LastDuration => answers::last_duration(duration),
-        Property::SlotValue(i) => answers::slot_answer(slots, i),
-        Property::Unknown => Answer::Refused(9),
     }
 }

@@ -6,7 +6,6 @@ pub mod take_line
 pub mod take_chunk
 pub mod take_some
 pub mod take_all
-pub mod put_found
 pub mod put_end
 pub mod end_list
 pub mod replay

@@ -1,19 +1,14 @@
 // A list of frames from standard input, replayed over a panel: a line for each answer, then what is found of every output, or a report for
 // people in place of that. A bad line ends it with a line that says what is wrong and where.
 //
-// Thin: the crate `text` reads and writes text, `panel` answers, `display` says what is found. Input and output go by pages of 64 KiB, so
-// that memory does not grow with the list.
+// Thin: the crate `reading` reads text, `panel` answers, `printing` and `faults` write answers, `found` what is found. Input and output go by
+// pages of 64 KiB, so that memory does not grow with the list.
 ghost use mathlib.Core.Path.{_≡_};
-ghost use Prim.Native.Nat.{min};
-use libc::STDOUT_FILENO;
 use lighting::Answer;
 use lighting::Output;
 use lighting::Station;
-use text::reading::Line;
-use text::reading::Reader;
-
-// A page with fewer free bytes than this is written out before more text is put on it. No answer's line and no output's block is longer.
-const ROOM: usize = 1024;
+use reading::Line;
+use reading::Reader;
 
 // After some of the list: the reader, the page's mark, whether more of the list may come, and whether all lines were good.
 struct Turn {
@@ -21,12 +16,6 @@ struct Turn {
     mark: usize,
     more: bool,
     good: bool,
-}
-
-fn least(a: usize, b: usize) -> usize
-    ensures { λ r. ⌜ r ≡ min a b ⌝ }
-{
-    if a < b { a } else { b }
 }
 
 fn wide(n: u8) -> usize
@@ -39,7 +28,7 @@ fn wide(n: u8) -> usize
 
 // `outputs N`: the panel of the first N outputs starts.
 fn start(outputs: &mut [Output], stations: &mut [Station], time: &mut u64, n: u8) {
-    let named = least(wide(n), outputs.len());
+    let named = found::least(wide(n), outputs.len());
     panel::start(&mut outputs[0..named], stations, time);
 }
 
@@ -52,9 +41,9 @@ fn frame(
     count: usize,
     n: u8,
 ) -> Answer {
-    let named = least(wide(n), outputs.len());
+    let named = found::least(wide(n), outputs.len());
     let kept = &bytes[..];
-    let held = least(count, kept.len());
+    let held = found::least(count, kept.len());
     panel::frame(&mut outputs[0..named], stations, time, &kept[0..held])
 }
 
@@ -68,7 +57,7 @@ fn answer(
 ) -> usize {
     let bytes = r.bytes;
     let a = frame(outputs, stations, time, &bytes, r.count, r.outputs);
-    text::printing::put_answer(page, mark, a)
+    printing::put_answer(page, mark, a)
 }
 
 fn take_line(
@@ -81,8 +70,8 @@ fn take_line(
 ) -> Turn {
     let held = r.held;
     let number = r.line;
-    let line = text::reading::line_of(held);
-    let next = text::reading::next_line(r);
+    let line = reading::line_of(held);
+    let next = reading::next_line(r);
     match line {
         Line::Nothing => Turn {
             reader: next,
@@ -92,7 +81,7 @@ fn take_line(
         },
         Line::Outputs(n) => {
             start(outputs, stations, time, n);
-            let named = text::reading::with_outputs(next, n);
+            let named = reading::with_outputs(next, n);
             Turn {
                 reader: named,
                 mark: mark,
@@ -110,7 +99,7 @@ fn take_line(
             }
         }
         Line::Wrong(f) => {
-            let m = text::faults::put_fault(page, mark, number, f);
+            let m = faults::put_fault(page, mark, number, f);
             Turn {
                 reader: next,
                 mark: m,
@@ -119,25 +108,6 @@ fn take_line(
             }
         }
     }
-}
-
-// ---- pages
-
-// The page's text is written out.
-fn flush(page: &[u8], mark: usize) {
-    let n = least(mark, page.len());
-    io::write_all(STDOUT_FILENO, &page[0..n]);
-}
-
-// The mark of a page with room for more: a page that has too little is written out.
-fn with_room(page: &[u8], mark: usize) -> usize {
-    if mark < page.len() {
-        if ROOM < page.len() - mark {
-            return mark;
-        }
-    }
-    flush(page, mark);
-    0
 }
 
 // ---- the list
@@ -156,7 +126,7 @@ fn take_chunk(
     let mut at = mark;
     let mut i: usize = 0;
     while i < s.len() {
-        let fed = text::reading::feed_line(reader, s, i);
+        let fed = reading::feed_line(reader, s, i);
         let held = fed.reader;
         reader = held;
         i = fed.next;
@@ -165,7 +135,7 @@ fn take_chunk(
             let t = take_line(outputs, stations, time, page, at, reader);
             let next = t.reader;
             reader = next;
-            at = with_room(page, t.mark);
+            at = found::with_room(page, t.mark);
             if !t.good {
                 return Turn {
                     reader: reader,
@@ -215,7 +185,7 @@ fn take_all(
     page: &mut [u8],
     chunk: &mut [u8],
 ) -> Turn {
-    let mut reader = text::reading::fresh_reader();
+    let mut reader = reading::fresh_reader();
     let mut mark: usize = 0;
     let mut turns: u64 = 18446744073709551615;
     while 0 < turns {
@@ -239,43 +209,7 @@ fn take_all(
     }
 }
 
-// ---- what is found
-
-fn put_output(page: &mut [u8], at: usize, report: bool, i: u64, time: u64, o: Output) -> usize {
-    if report {
-        display::report::put_report_line(page, at, i, time, o)
-    } else {
-        display::block::put_block(page, at, i, time, o)
-    }
-}
-
-fn put_head(page: &mut [u8], at: usize, report: bool, time: u64) -> usize {
-    let mark = text::printing::put_all(page, at, b"--\n");
-    if report {
-        display::report::put_report_head(page, mark, time)
-    } else {
-        mark
-    }
-}
-
-fn put_found(
-    outputs: &[Output],
-    n: usize,
-    time: u64,
-    page: &mut [u8],
-    mark: usize,
-    report: bool,
-) -> usize {
-    let mut at = put_head(page, mark, report, time);
-    let mut i: usize = 0;
-    while i < least(n, outputs.len()) {
-        let o = outputs[i];
-        let room = with_room(page, at);
-        at = put_output(page, room, report, i as u64, time, o);
-        i += 1;
-    }
-    at
-}
+// ---- its end
 
 // A list that named no outputs has found nothing.
 fn put_end(
@@ -289,9 +223,9 @@ fn put_end(
 ) -> usize {
     let named = wide(r.outputs);
     if named == 0 {
-        text::faults::put_ended(page, mark, line)
+        faults::put_ended(page, mark, line)
     } else {
-        put_found(outputs, named, time, page, mark, report)
+        found::put_found(outputs, named, time, page, mark, report)
     }
 }
 
@@ -326,9 +260,9 @@ fn replay(
     if t.good {
         let reader = t.reader;
         let mark = end_list(outputs, stations, time, page, t.mark, reader, report);
-        flush(page, mark);
+        found::flush(page, mark);
     } else {
-        flush(page, t.mark);
+        found::flush(page, t.mark);
     }
 }
 

@@ -9,7 +9,7 @@ use Rattle.acting.proofs.change.Reads as change-reads
 use Rattle.acting.proofs.leave.Reads as leave-reads
 use Rattle.acting.proofs.make.Reads as make-reads
 use Rattle.commands.proofs.command.Reads as command-reads
-use Rattle.properties.proofs.show.Reads as show-reads
+use Rattle.answers.proofs.show.Reads as show-reads
 use Rattle.writing.proofs.vacate.Reads as vacate-reads
 use Rattle.writing.proofs.write.Reads as write-reads
 

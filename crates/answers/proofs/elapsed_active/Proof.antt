@@ -1,0 +1,24 @@
+use Rattle.lighting.proofs.Choosing.{ifs}
+use Rattle.lighting.specs.Properties.{elapsedActive}
+use borrow.Author.Needs.{needs}
+use Rattle.answers.proofs.elapsed_active.Statement.{statement}
+use Rattle.answers.proofs.elapsed_active.Tie as tie
+use Rattle.answers.proofs.elapsed_active.Reads as reads
+use Rattle.answers.proofs.elapsed_active.Lts as lts
+
+-- src/answers.rt:46:9
+cast-result : tie.Need-cast-result
+cast-result c = search needs
+
+-- src/answers.rt:41:1
+returns : tie.Need-returns
+unfolding elapsedActive
+returns c = search (needs, ifs)
+
+-- src/answers.rt:41:1
+returns-2 : tie.Need-returns-2
+unfolding elapsedActive
+returns-2 c = search (needs, ifs)
+
+pub elapsed-active-spec : {M : Type 1} → statement M
+elapsed-active-spec = tie.close (tie.spec cast-result returns returns-2)

@@ -1,0 +1,196 @@
+// What the properties read as. Levels read out as REALs, and the last command's REALs as they were written.
+ghost use mathlib.Core.Path.{_≡_};
+ghost use Prim.Native.Nat.{_+_};
+ghost use Rattle.lighting.specs.Properties.{levelAnswer, slotAnswer, flag, elapsedActive, operationNumber, realAnswer, lastLevel, lastRate, lastStep, lastFadeTime, lastDuration, shown};
+use lighting::Answer;
+use lighting::Duration;
+use lighting::Operation;
+use lighting::Output;
+use lighting::Property;
+use lighting::Slots;
+
+pub fn level_answer(v: u32) -> Answer
+    ensures { λ r. ⌜ r ≡ levelAnswer v ⌝ }
+{
+    Answer::Value(level::read_out(v))
+}
+
+// A slot that is not live is absent.
+pub fn slot_answer(s: Slots, i: u8) -> Answer
+    ensures { λ r. ⌜ r ≡ slotAnswer s i ⌝ }
+{
+    if slots::is_live(s, i) {
+        level_answer(slots::level_at(0, s, i as u32))
+    } else {
+        Answer::Absent
+    }
+}
+
+pub fn flag(b: bool) -> u32
+    ensures { λ r. ⌜ r ≡ flag b ⌝ }
+{
+    if b { 1 } else { 0 }
+}
+
+// Lighting_Command_Priority is kept as its slot.
+pub fn priority(slot: u8) -> u32
+    ensures { λ r. ⌜ r ≡ slot + 1 ⌝ }
+{
+    slot as u32 + 1
+}
+
+// 'Elapsed_Active_Time reads floor(burning / 1,000), at most 4,294,967,295'.
+pub fn elapsed_active(burning: u64) -> u32
+    ensures { λ r. ⌜ r ≡ elapsedActive burning ⌝ }
+{
+    let seconds = burning / 1000;
+    if seconds < 4_294_967_295 {
+        seconds as u32
+    } else {
+        4_294_967_295
+    }
+}
+
+// The last operation's kind, less 10.
+pub fn operation_number(k: Operation) -> u32
+    ensures { λ r. ⌜ r ≡ operationNumber k ⌝ }
+{
+    match k {
+        Operation::Stop => 0,
+        Operation::FadeTo(_) => 1,
+        Operation::FadeToOver(_, _) => 2,
+        Operation::RampTo(_) => 3,
+        Operation::RampToAtRate(_, _) => 4,
+        Operation::StepUp => 5,
+        Operation::StepDown => 6,
+        Operation::StepUpBy(_) => 7,
+        Operation::StepDownBy(_) => 8,
+        Operation::Goto(_) => 9,
+        Operation::Relinquish => 10,
+    }
+}
+
+pub fn real_answer(x: f32) -> Answer
+    ensures { λ r. ⌜ r ≡ realAnswer x ⌝ }
+{
+    Answer::Value(level::bits_of(x))
+}
+
+// The last command field by field: absent where its operation has none, also where a setting was used in its place.
+pub fn last_level(k: Operation) -> Answer
+    ensures { λ r. ⌜ r ≡ lastLevel k ⌝ }
+{
+    match k {
+        Operation::Stop => Answer::Absent,
+        Operation::FadeTo(x) => real_answer(x),
+        Operation::FadeToOver(x, _) => real_answer(x),
+        Operation::RampTo(x) => real_answer(x),
+        Operation::RampToAtRate(x, _) => real_answer(x),
+        Operation::StepUp => Answer::Absent,
+        Operation::StepDown => Answer::Absent,
+        Operation::StepUpBy(_) => Answer::Absent,
+        Operation::StepDownBy(_) => Answer::Absent,
+        Operation::Goto(x) => real_answer(x),
+        Operation::Relinquish => Answer::Absent,
+    }
+}
+
+pub fn last_rate(k: Operation) -> Answer
+    ensures { λ r. ⌜ r ≡ lastRate k ⌝ }
+{
+    match k {
+        Operation::Stop => Answer::Absent,
+        Operation::FadeTo(_) => Answer::Absent,
+        Operation::FadeToOver(_, _) => Answer::Absent,
+        Operation::RampTo(_) => Answer::Absent,
+        Operation::RampToAtRate(_, rate) => real_answer(rate),
+        Operation::StepUp => Answer::Absent,
+        Operation::StepDown => Answer::Absent,
+        Operation::StepUpBy(_) => Answer::Absent,
+        Operation::StepDownBy(_) => Answer::Absent,
+        Operation::Goto(_) => Answer::Absent,
+        Operation::Relinquish => Answer::Absent,
+    }
+}
+
+pub fn last_step(k: Operation) -> Answer
+    ensures { λ r. ⌜ r ≡ lastStep k ⌝ }
+{
+    match k {
+        Operation::Stop => Answer::Absent,
+        Operation::FadeTo(_) => Answer::Absent,
+        Operation::FadeToOver(_, _) => Answer::Absent,
+        Operation::RampTo(_) => Answer::Absent,
+        Operation::RampToAtRate(_, _) => Answer::Absent,
+        Operation::StepUp => Answer::Absent,
+        Operation::StepDown => Answer::Absent,
+        Operation::StepUpBy(step) => real_answer(step),
+        Operation::StepDownBy(step) => real_answer(step),
+        Operation::Goto(_) => Answer::Absent,
+        Operation::Relinquish => Answer::Absent,
+    }
+}
+
+pub fn last_fade_time(k: Operation) -> Answer
+    ensures { λ r. ⌜ r ≡ lastFadeTime k ⌝ }
+{
+    match k {
+        Operation::Stop => Answer::Absent,
+        Operation::FadeTo(_) => Answer::Absent,
+        Operation::FadeToOver(_, time) => Answer::Value(time),
+        Operation::RampTo(_) => Answer::Absent,
+        Operation::RampToAtRate(_, _) => Answer::Absent,
+        Operation::StepUp => Answer::Absent,
+        Operation::StepDown => Answer::Absent,
+        Operation::StepUpBy(_) => Answer::Absent,
+        Operation::StepDownBy(_) => Answer::Absent,
+        Operation::Goto(_) => Answer::Absent,
+        Operation::Relinquish => Answer::Absent,
+    }
+}
+
+pub fn last_duration(d: Duration) -> Answer
+    ensures { λ r. ⌜ r ≡ lastDuration d ⌝ }
+{
+    match d {
+        Duration::Lasts(time) => Answer::Value(time),
+        Duration::Cancels => Answer::Value(0),
+        Duration::Omitted => Answer::Absent,
+    }
+}
+
+// Kind 05, a read: what a property reads as at the time t.
+pub fn show(t: u64, o: Output, p: Property) -> Answer
+    ensures { λ r. ⌜ r ≡ shown t o p ⌝ }
+{
+    let settings = o.settings;
+    let slots = o.slots;
+    let activity = o.activity;
+    let last = o.last;
+    let operation = last.operation;
+    let duration = last.duration;
+    match p {
+        Property::RelinquishDefault => level_answer(settings.default),
+        Property::FadeTime => Answer::Value(settings.fade),
+        Property::RampRate => real_answer(settings.ramp),
+        Property::StepIncrement => real_answer(settings.step),
+        Property::BlinkEnable => Answer::Value(flag(settings.enable)),
+        Property::BlinkTime => Answer::Value(settings.blink),
+        Property::BlinkWarnDelay => Answer::Value(settings.delay),
+        Property::MinValue => level_answer(settings.min),
+        Property::MaxValue => level_answer(settings.max),
+        Property::CommandPriority => Answer::Value(priority(settings.slot)),
+        Property::ElapsedActiveTime => Answer::Value(elapsed_active(o.burning)),
+        Property::PresentValue => level_answer(value::present_value(settings, slots)),
+        Property::ProgressValue => level_answer(value::progress_value(t, o)),
+        Property::InProcess => Answer::Value(value::in_process(activity)),
+        Property::LastOperation => Answer::Value(operation_number(operation)),
+        Property::LastLevel => last_level(operation),
+        Property::LastRate => last_rate(operation),
+        Property::LastStep => last_step(operation),
+        Property::LastFadeTime => last_fade_time(operation),
+        Property::LastDuration => last_duration(duration),
+        Property::SlotValue(i) => slot_answer(slots, i),
+        Property::Unknown => Answer::Refused(9),
+    }
+}

@@ -1,0 +1,57 @@
+use Rattle.printing.proofs.Choices.{choices}
+use Rattle.block.specs.Block.{slotField}
+use borrow.Author.Needs.{needs}
+use Rattle.block.proofs.put_slot_field.Statement.{statement}
+use Rattle.block.proofs.put_slot_field.Tie as tie
+use Rattle.block.proofs.put_slot_field.Reads as reads
+use Rattle.block.proofs.put_slot_field.Lts as lts
+use Rattle.block.proofs.put_slot_level.Reads as put-slot-level-reads
+use Rattle.slots.proofs.is_live.Reads as is-live-reads
+use Rattle.printing.proofs.put_all.Reads as put-all-reads
+
+-- src/block.rt:34:8
+is-live-requires : tie.Need-is-live-requires
+is-live-requires c κs = search needs
+
+-- src/block.rt:35:9
+put-slot-level-requires : tie.Need-put-slot-level-requires
+put-slot-level-requires c κs = search needs
+
+-- src/block.rt:37:27
+slice-aggregate-put-all : tie.Need-slice-aggregate-put-all
+slice-aggregate-put-all c = search needs
+
+-- src/block.rt:37:9
+put-all-requires : tie.Need-put-all-requires
+put-all-requires c κs = search needs
+
+-- src/block.rt:31:1
+same-length : tie.Need-same-length
+same-length c = search needs
+
+-- src/block.rt:31:1
+returns : tie.Need-returns
+unfolding slotField
+returns c = search (needs, choices)
+
+-- src/block.rt:31:1
+same-length-2 : tie.Need-same-length-2
+same-length-2 c = search needs
+
+-- src/block.rt:31:1
+returns-2 : tie.Need-returns-2
+unfolding slotField
+returns-2 c = search (needs, choices)
+
+pub put-slot-field-spec : {M : Type 1} → statement M
+put-slot-field-spec =
+    tie.close
+    (tie.spec
+    is-live-requires
+    put-slot-level-requires
+    slice-aggregate-put-all
+    put-all-requires
+    same-length
+    returns
+    same-length-2
+    returns-2)

@@ -1,0 +1,46 @@
+use Rattle.printing.proofs.Pages.{wrote-then}
+use Rattle.block.specs.Block.{slotsLine}
+use borrow.Author.Needs.{needs}
+use Rattle.block.proofs.put_slots_line.Statement.{statement}
+use Rattle.block.proofs.put_slots_line.Tie as tie
+use Rattle.block.proofs.put_slots_line.Reads as reads
+use Rattle.block.proofs.put_slots_line.Lts as lts
+use Rattle.block.proofs.put_slot_fields.Reads as put-slot-fields-reads
+use Rattle.printing.proofs.put.Reads as put-reads
+use Rattle.printing.proofs.put_all.Reads as put-all-reads
+
+-- src/block.rt:106:34
+slice-aggregate-put-all : tie.Need-slice-aggregate-put-all
+slice-aggregate-put-all c = search needs
+
+-- src/block.rt:106:9
+put-all-requires : tie.Need-put-all-requires
+put-all-requires c κs = search needs
+
+-- src/block.rt:107:9
+put-slot-fields-requires : tie.Need-put-slot-fields-requires
+put-slot-fields-requires c κs = search needs
+
+-- src/block.rt:108:5
+put-requires : tie.Need-put-requires
+put-requires c κs = search needs
+
+-- src/block.rt:103:1
+same-length : tie.Need-same-length
+same-length c = search needs
+
+-- src/block.rt:103:1
+returns : tie.Need-returns
+unfolding slotsLine
+returns c = wrote-then (c .before .before .before .before .before .before .before .before .before .before .put-all .ensures) (wrote-then (c .before .before .before .before .before .before .put-slot-fields .ensures) (c .before .before .put .ensures))
+
+pub put-slots-line-spec : {M : Type 1} → statement M
+put-slots-line-spec =
+    tie.close
+    (tie.spec
+    slice-aggregate-put-all
+    put-all-requires
+    put-slot-fields-requires
+    put-requires
+    same-length
+    returns)

@@ -1,0 +1,161 @@
+// The lines of one output.
+ghost use mathlib.Core.Path.{_≡_};
+ghost use mathlib.Core.List.{_++_};
+ghost use Prim.Native.Nat.{_+_, _<_, _≤_};
+ghost use Rattle.printing.specs.Page.{Wrote};
+ghost use Rattle.printing.specs.Writing.{decimal, newline};
+ghost use Rattle.block.specs.Block.{levelField, slotLevel, slotField, slotFields, hexField, answerField, propertyField, propertyFields, numberLine, slotsLine, presentLine, progressLine, processLine, settingsLine, lastLine, block};
+use lighting::Answer;
+use lighting::Output;
+use lighting::Slots;
+use printing::put;
+use printing::put_all;
+use printing::put_decimal;
+use printing::put_hex8;
+
+// ---- fields
+
+fn put_level_field(page: &mut [u8], at: usize, v: u32) -> usize
+    ensures { λ r. ⌜ Wrote (now (page .entry)) at (levelField v) (now (page .exit)) r ⌝ }
+{
+    let mark = put(page, at, 32);
+    put_decimal(page, mark, v as u64)
+}
+
+fn put_slot_level(page: &mut [u8], at: usize, s: Slots, i: u8) -> usize
+    ensures { λ r. ⌜ Wrote (now (page .entry)) at (slotLevel s i) (now (page .exit)) r ⌝ }
+{
+    put_level_field(page, at, slots::level_at(0, s, i as u32))
+}
+
+fn put_slot_field(page: &mut [u8], at: usize, s: Slots, i: u8) -> usize
+    ensures { λ r. ⌜ Wrote (now (page .entry)) at (slotField s i) (now (page .exit)) r ⌝ }
+{
+    if slots::is_live(s, i) {
+        put_slot_level(page, at, s, i)
+    } else {
+        put_all(page, at, b" -")
+    }
+}
+
+fn put_slot_fields(page: &mut [u8], at: usize, s: Slots) -> usize
+    ensures { λ r. ⌜ Wrote (now (page .entry)) at (slotFields s 16) (now (page .exit)) r ⌝ }
+{
+    let mut mark = at;
+    let mut i: u8 = 0;
+    while i < 16 {
+        mark = put_slot_field(page, mark, s, i);
+        i += 1;
+    }
+    mark
+}
+
+fn put_hex_field(page: &mut [u8], at: usize, v: u32) -> usize
+    ensures { λ r. ⌜ Wrote (now (page .entry)) at (hexField v) (now (page .exit)) r ⌝ }
+{
+    let mark = put(page, at, 32);
+    put_hex8(page, mark, v)
+}
+
+fn put_answer_field(page: &mut [u8], at: usize, a: Answer) -> usize
+    ensures { λ r. ⌜ Wrote (now (page .entry)) at (answerField a) (now (page .exit)) r ⌝ }
+{
+    match a {
+        Answer::Done => put_all(page, at, b" -"),
+        Answer::Value(v) => put_hex_field(page, at, v),
+        Answer::Absent => put_all(page, at, b" -"),
+        Answer::Refused(_) => put_all(page, at, b" -"),
+    }
+}
+
+fn put_property(page: &mut [u8], at: usize, t: u64, o: Output, k: u8) -> usize
+    ensures { λ r. ⌜ Wrote (now (page .entry)) at (propertyField t o k) (now (page .exit)) r ⌝ }
+{
+    let p = properties::property_of(k);
+    let a = answers::show(t, o, p);
+    put_answer_field(page, at, a)
+}
+
+fn put_properties(page: &mut [u8], at: usize, t: u64, o: Output, k: u8, n: u8) -> usize
+    requires { ⌜ k < 128 ⌝ }
+    requires { ⌜ n < 128 ⌝ }
+    ensures { λ r. ⌜ Wrote (now (page .entry)) at (propertyFields t o k n) (now (page .exit)) r ⌝ }
+{
+    let mut mark = at;
+    let mut i: u8 = 0;
+    while i < n {
+        mark = put_property(page, mark, t, o, k + i);
+        i += 1;
+    }
+    mark
+}
+
+// ---- lines
+
+pub fn put_number_line(page: &mut [u8], at: usize, word: &[u8], n: u64) -> usize
+    ensures { λ r. ⌜ Wrote (now (page .entry)) at (numberLine (now (word .entry)) n) (now (page .exit)) r ⌝ }
+{
+    let words = put_all(page, at, word);
+    let digits = put_decimal(page, words, n);
+    put(page, digits, 10)
+}
+
+fn put_slots_line(page: &mut [u8], at: usize, s: Slots) -> usize
+    ensures { λ r. ⌜ Wrote (now (page .entry)) at (slotsLine s) (now (page .exit)) r ⌝ }
+{
+    let word = put_all(page, at, b"slots");
+    let fields = put_slot_fields(page, word, s);
+    put(page, fields, 10)
+}
+
+fn put_present_line(page: &mut [u8], at: usize, o: Output) -> usize
+    ensures { λ r. ⌜ Wrote (now (page .entry)) at (presentLine o) (now (page .exit)) r ⌝ }
+{
+    let c = o.settings;
+    let s = o.slots;
+    put_number_line(page, at, b"pv ", value::present_value(c, s) as u64)
+}
+
+fn put_progress_line(page: &mut [u8], at: usize, t: u64, o: Output) -> usize
+    ensures { λ r. ⌜ Wrote (now (page .entry)) at (progressLine t o) (now (page .exit)) r ⌝ }
+{
+    put_number_line(page, at, b"progress ", value::progress_value(t, o) as u64)
+}
+
+fn put_process_line(page: &mut [u8], at: usize, o: Output) -> usize
+    ensures { λ r. ⌜ Wrote (now (page .entry)) at (processLine o) (now (page .exit)) r ⌝ }
+{
+    let a = o.activity;
+    put_number_line(page, at, b"inprocess ", value::in_process(a) as u64)
+}
+
+fn put_settings_line(page: &mut [u8], at: usize, t: u64, o: Output) -> usize
+    ensures { λ r. ⌜ Wrote (now (page .entry)) at (settingsLine t o) (now (page .exit)) r ⌝ }
+{
+    let word = put_all(page, at, b"settings");
+    let fields = put_properties(page, word, t, o, 1, 10);
+    put(page, fields, 10)
+}
+
+fn put_last_line(page: &mut [u8], at: usize, t: u64, o: Output) -> usize
+    ensures { λ r. ⌜ Wrote (now (page .entry)) at (lastLine t o) (now (page .exit)) r ⌝ }
+{
+    let word = put_all(page, at, b"last");
+    let fields = put_properties(page, word, t, o, 15, 6);
+    put(page, fields, 10)
+}
+
+pub fn put_block(page: &mut [u8], at: usize, i: u64, t: u64, o: Output) -> usize
+    ensures { λ r. ⌜ Wrote (now (page .entry)) at (block i t o) (now (page .exit)) r ⌝ }
+{
+    let s = o.slots;
+    let burning = o.burning;
+    let output = put_number_line(page, at, b"output ", i);
+    let slots = put_slots_line(page, output, s);
+    let present = put_present_line(page, slots, o);
+    let progress = put_progress_line(page, present, t, o);
+    let process = put_process_line(page, progress, o);
+    let settings = put_settings_line(page, process, t, o);
+    let last = put_last_line(page, settings, t, o);
+    put_number_line(page, last, b"burning ", burning)
+}

@@ -1,0 +1,71 @@
+// What is found of every output, on pages of text that are written to standard output: a block for each output, or a line of the report.
+ghost use mathlib.Core.Path.{_≡_};
+ghost use Prim.Native.Nat.{min};
+use libc::STDOUT_FILENO;
+use lighting::Output;
+
+// A page with fewer free bytes than this is written out before more text is put on it. No answer's line and no output's block is longer.
+const ROOM: usize = 1024;
+
+pub fn least(a: usize, b: usize) -> usize
+    ensures { λ r. ⌜ r ≡ min a b ⌝ }
+{
+    if a < b { a } else { b }
+}
+
+// ---- pages
+
+// The page's text is written out.
+pub fn flush(page: &[u8], mark: usize) {
+    let n = least(mark, page.len());
+    io::write_all(STDOUT_FILENO, &page[0..n]);
+}
+
+// The mark of a page with room for more: a page that has too little is written out.
+pub fn with_room(page: &[u8], mark: usize) -> usize {
+    if mark < page.len() {
+        if ROOM < page.len() - mark {
+            return mark;
+        }
+    }
+    flush(page, mark);
+    0
+}
+
+// ---- what is found
+
+fn put_output(page: &mut [u8], at: usize, report: bool, i: u64, time: u64, o: Output) -> usize {
+    if report {
+        report::put_report_line(page, at, i, time, o)
+    } else {
+        block::put_block(page, at, i, time, o)
+    }
+}
+
+fn put_head(page: &mut [u8], at: usize, report: bool, time: u64) -> usize {
+    let mark = printing::put_all(page, at, b"--\n");
+    if report {
+        report::put_report_head(page, mark, time)
+    } else {
+        mark
+    }
+}
+
+pub fn put_found(
+    outputs: &[Output],
+    n: usize,
+    time: u64,
+    page: &mut [u8],
+    mark: usize,
+    report: bool,
+) -> usize {
+    let mut at = put_head(page, mark, report, time);
+    let mut i: usize = 0;
+    while i < least(n, outputs.len()) {
+        let o = outputs[i];
+        let room = with_room(page, at);
+        at = put_output(page, room, report, i as u64, time, o);
+        i += 1;
+    }
+    at
+}

@@ -1,0 +1,4 @@
+pub mod Laws
+pub mod Pages
+pub mod Choices
+pub mod Decimals

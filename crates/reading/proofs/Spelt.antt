@@ -1,0 +1,179 @@
+-- What is spelt is read: a text that spells a string of bytes, fed to a reader at a line's start, makes it hold a frame of those bytes, as far
+-- as the first 26. Assumes nothing.
+use mathlib.Core.Path.{_≡_, refl, sym, ap, _∙_}
+use mathlib.Core.Bool.{Bool, true, false}
+use mathlib.Core.List.{List, [], _∷_, _++_, append-assoc, append-nil}
+use Prim.Native.Nat.{ℕ, zero, suc, _+_, _*_, _%_, _≤_, _<_, min}
+use native.Mathlib.Omega.{arith}
+use native.Mathlib.Numerals.{add-one}
+use lib.Dec.{leb, ltb, eqb}
+use lib.ListN.{length, take, set, length-set, length-take, length-append}
+use lib.Seq.{take-all, take-append-le, take-suc-set, length-take-le}
+use Rattle.lighting.specs.Choice.{if_then_else_}
+use Rattle.lighting.specs.Frames.{Bytes}
+use Rattle.lighting.proofs.Split.{by-lt, eqb-miss, leb-yes, leb-no}
+use Rattle.reading.specs.Reading.{isBlank, hexValue, digitHeld, opened, byteHeld, halfHeld, step, bytePair, pushed, joined, storedBy, withHeld, feed, fed, lineOf, content}
+use Rattle.reading.specs.Spelling.{Digit, figure, upper, lower, Spells, end, blank, byte}
+use Rattle.reading.specs.declared.Held.{Held}
+use Rattle.reading.specs.declared.Held.the-variants.{Blank, Whole, Half}
+use Rattle.reading.specs.declared.Line.the-variants.{Frame}
+use Rattle.reading.specs.declared.Reader.{Reader}
+
+-- DIGITS
+worth : {d c : ℕ} → Digit d c → hexValue c ≡ d
+unfolding hexValue if_then_else_
+worth (figure {d} h) =
+    rw (leb-no {a = suc (48 + d)} {b = 48} (omega arith), leb-yes {a = suc (48 + d)} {b = 58} (omega arith)) (omega arith)
+worth (upper {d} h) =
+    rw (
+      leb-no {a = suc (65 + d)} {b = 48} (omega arith),
+      leb-no {a = suc (65 + d)} {b = 58} (omega arith),
+      leb-no {a = suc (65 + d)} {b = 65} (omega arith),
+      leb-yes {a = suc (65 + d)} {b = 71} (omega arith),
+    ) (omega arith)
+worth (lower {d} h) =
+    rw (
+      leb-no {a = suc (97 + d)} {b = 48} (omega arith),
+      leb-no {a = suc (97 + d)} {b = 58} (omega arith),
+      leb-no {a = suc (97 + d)} {b = 65} (omega arith),
+      leb-no {a = suc (97 + d)} {b = 71} (omega arith),
+      leb-no {a = suc (97 + d)} {b = 97} (omega arith),
+      leb-yes {a = suc (97 + d)} {b = 103} (omega arith),
+    ) (omega arith)
+
+small : {d c : ℕ} → Digit d c → d < 16
+small (figure h) = omega arith
+small (upper h) = omega arith
+small (lower h) = omega arith
+
+-- a digit is past every blank and mark
+past : {d c : ℕ} → Digit d c → 47 < c
+past (figure h) = omega arith
+past (upper h) = omega arith
+past (lower h) = omega arith
+
+no-blank : (c : ℕ) → 47 < c → isBlank c ≡ false
+unfolding isBlank if_then_else_
+no-blank c h =
+    rw (
+      eqb-miss {a = c} {b = 32} (omega arith),
+      eqb-miss {a = c} {b = 9} (omega arith),
+      eqb-miss {a = c} {b = 13} (omega arith),
+    )
+
+-- A READER BETWEEN BYTES: the line holds nothing yet, or whole bytes, and the list has named its outputs
+pub data Between : Held → Type 0 where
+  none : Between Blank
+  some : Between Whole
+
+pub record Ready (w : Reader) : Type 0 where
+  pub named : 0 < w .outputs
+  pub room : length (w .bytes) ≡ 26
+  pub most : w .count ≤ 26
+  pub between : Between (w .held)
+
+-- a first digit
+first-held : (n : ℕ) {h : Held} {d c : ℕ} → 0 < n → Between h → Digit d c → step n h d c ≡ Half d
+unfolding step opened byteHeld digitHeld if_then_else_
+first-held n {d = d} {c = c} p none g =
+    rw (
+      no-blank c (past g),
+      eqb-miss {a = c} {b = 35} (omega (arith, past g)),
+      leb-yes {a = 1} {b = n} p,
+      eqb-miss {a = c} {b = 45} (omega (arith, past g)),
+      leb-yes {a = suc d} {b = 16} (small g),
+    )
+first-held n {d = d} {c = c} p some g = rw (no-blank c (past g), leb-yes {a = suc d} {b = 16} (small g))
+
+unstored : (w : Reader) {h : Held} (v : ℕ) → Between h → storedBy w h v ≡ w
+unfolding storedBy
+unstored w v none = refl
+unstored w v some = refl
+
+first : (w : Reader) {d c : ℕ} → Ready w → Digit d c → feed w c ≡ withHeld w (Half d)
+unfolding feed
+first w {d} {c} r g = rw (worth g, unstored w d (r .between), first-held (w .outputs) (r .named) (r .between) g)
+
+-- a second one
+second : (w : Reader) {d v c : ℕ} → d < 16 → Digit v c → feed (withHeld w (Half d)) c ≡ withHeld (pushed w (d * 16 + v)) Whole
+unfolding feed withHeld step storedBy halfHeld joined pushed if_then_else_
+second w {d} {v} {c} h g =
+    rw (worth g, leb-yes {a = suc v} {b = 16} (small g), pair)
+    (by-lt (w .count) 26 (λ p e. rw e) (λ p e. rw e))
+  where
+    pair : bytePair d v ≡ d * 16 + v
+    pair = unfold bytePair in (omega (arith, small g))
+
+-- THE BYTES
+pub content-pushed : (w : Reader) (x : ℕ) → length (w .bytes) ≡ 26 → w .count ≤ 26 → content (pushed w x) ≡ take 26 (content w ++ (x ∷ []))
+unfolding content pushed if_then_else_
+content-pushed w x r m =
+    by-lt (w .count) 26
+    (λ p e. rw (e, add-one, take-suc-set (w .bytes) (w .count) x (omega arith)) (sym (take-all 26 _ (omega (arith, fits p)))))
+    (λ p e. rw e (sym (take-append-le 26 (take (w .count) (w .bytes)) (x ∷ []) (omega (arith, length-take (w .count) (w .bytes))) ∙ take-all 26 _ (omega (arith, length-take (w .count) (w .bytes))))))
+  where
+    fits : w .count < 26 → length (take (w .count) (w .bytes) ++ (x ∷ [])) ≤ 26
+    fits p = simp (length-append, length-take) (omega arith)
+
+take-again : (n : ℕ) (l b : Bytes) → take n (take n l ++ b) ≡ take n (l ++ b)
+take-again zero l b = refl
+take-again (suc n) [] b = refl
+take-again (suc n) (x ∷ l) b = ap (λ (k : Bytes). x ∷ k) (take-again n l b)
+
+ready-pushed : (w : Reader) (x : ℕ) → Ready w → Ready (withHeld (pushed w x) Whole)
+unfolding withHeld pushed if_then_else_
+ready-pushed w x r =
+    by-lt (w .count) 26
+    (λ p e. rw e (record { named = r .named; room = length-set (w .bytes) (w .count) x ∙ r .room; most = omega arith; between = some }))
+    (λ p e. rw e (record { named = r .named; room = r .room; most = r .most; between = some }))
+
+-- A BLANK changes nothing
+blank-held : (n : ℕ) {h : Held} (v c : ℕ) → Between h → isBlank c ≡ true → step n h v c ≡ h
+unfolding step opened byteHeld if_then_else_
+blank-held n v c none e = rw e
+blank-held n v c some e = rw e
+
+passed-over : (w : Reader) (c : ℕ) → Ready w → isBlank c ≡ true → feed w c ≡ w
+unfolding feed withHeld
+passed-over w c r e = rw (unstored w (hexValue c) (r .between), blank-held (w .outputs) (hexValue c) c (r .between) e)
+
+-- a character, and a byte, at the head of a text
+on-blank : (w : Reader) (c : ℕ) (x : Bytes) → Ready w → isBlank c ≡ true → fed w (c ∷ x) ≡ fed w x
+unfolding fed
+on-blank w c x r e = ap (λ (u : Reader). fed u x) (passed-over w c r e)
+
+on-byte : (w : Reader) {d v c k : ℕ} (x : Bytes) → Ready w → Digit d c → Digit v k → fed w (c ∷ (k ∷ x)) ≡ fed (withHeld (pushed w (d * 16 + v)) Whole) x
+unfolding fed
+on-byte w {k = k} x r g h =
+    ap (λ (u : Reader). fed (feed u k) x) (first w r g) ∙ ap (λ (u : Reader). fed u x) (second w (small g) h)
+
+-- THE TEXT. What was read before stays in front: at a line's start that is nothing
+pub read : {b x : Bytes} → Spells b x → (w : Reader) → Ready w → content (fed w x) ≡ take 26 (content w ++ b)
+unfolding fed
+read end w r =
+    sym (rw append-nil (take-all 26 (content w) (unfold content in (omega (arith, length-take (w .count) (w .bytes), r .most)))))
+read (blank {b} {x} c e s) w r = ap content (on-blank w c x r e) ∙ read s w r
+read (byte {b} {x} {d} {v} g k s) w r =
+    ap content (on-byte w x r g k)
+    ∙ read s (withHeld (pushed w (d * 16 + v)) Whole) (ready-pushed w (d * 16 + v) r)
+    ∙ ap (λ (l : Bytes). take 26 (l ++ b)) stored
+    ∙ take-again 26 (content w ++ ((d * 16 + v) ∷ [])) b
+    ∙ ap (take 26) (append-assoc (content w) ((d * 16 + v) ∷ []) b)
+  where
+    stored : content (withHeld (pushed w (d * 16 + v)) Whole) ≡ take 26 (content w ++ ((d * 16 + v) ∷ []))
+    stored = unfold withHeld content in (content-pushed w (d * 16 + v) (r .room) (r .most))
+
+stays : {b x : Bytes} → Spells b x → (w : Reader) → Ready w → w .held ≡ Whole → fed w x .held ≡ Whole
+stays end w r h = unfold fed in h
+stays (blank {b} {x} c e s) w r h = ap (λ (u : Reader). u .held) (on-blank w c x r e) ∙ stays s w r h
+stays (byte {b} {x} {d} {v} g k s) w r h =
+    ap (λ (u : Reader). u .held) (on-byte w x r g k)
+    ∙ stays s (withHeld (pushed w (d * 16 + v)) Whole) (ready-pushed w (d * 16 + v) r) (unfold withHeld in refl)
+
+-- one byte or more make a frame
+pub frame : {y : ℕ} {b x : Bytes} → Spells (y ∷ b) x → (w : Reader) → Ready w → lineOf (fed w x .held) ≡ Frame
+unfolding lineOf
+frame (blank {b} {x} c e s) w r = ap (λ (u : Reader). lineOf (u .held)) (on-blank w c x r e) ∙ frame s w r
+frame (byte {b} {x} {d} {v} g k s) w r =
+    ap (λ (u : Reader). lineOf (u .held)) (on-byte w x r g k)
+    ∙ ap lineOf (stays s (withHeld (pushed w (d * 16 + v)) Whole) (ready-pushed w (d * 16 + v) r) (unfold withHeld in refl))

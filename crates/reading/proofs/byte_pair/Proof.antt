@@ -1,0 +1,23 @@
+use Rattle.lighting.proofs.Choosing.{ifs}
+use Rattle.reading.specs.Reading.{bytePair}
+use borrow.Author.Needs.{needs}
+use Rattle.reading.proofs.byte_pair.Statement.{statement}
+use Rattle.reading.proofs.byte_pair.Tie as tie
+use Rattle.reading.proofs.byte_pair.Reads as reads
+use Rattle.reading.proofs.byte_pair.Lts as lts
+
+-- src/reading.rt:258:5
+mul-result : tie.Need-mul-result
+mul-result c = search needs
+
+-- src/reading.rt:258:5
+add-result : tie.Need-add-result
+add-result c = search needs
+
+-- src/reading.rt:255:1
+returns : tie.Need-returns
+unfolding bytePair
+returns c = search (needs, ifs)
+
+pub byte-pair-spec : {M : Type 1} → statement M
+byte-pair-spec = tie.close (tie.spec mul-result add-result returns)

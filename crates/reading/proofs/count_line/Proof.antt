@@ -1,0 +1,25 @@
+use borrow.Author.Needs.{needs}
+use Rattle.lighting.proofs.Choosing.{ifs}
+use Rattle.reading.specs.Reading.{countLine}
+use Rattle.reading.proofs.count_line.Statement.{statement}
+use Rattle.reading.proofs.count_line.Tie as tie
+use Rattle.reading.proofs.count_line.Reads as reads
+use Rattle.reading.proofs.count_line.Lts as lts
+
+-- src/reading.rt:316:1
+returns : tie.Need-returns
+unfolding countLine
+returns c = search (needs, ifs)
+
+-- src/reading.rt:316:1
+returns-2 : tie.Need-returns-2
+unfolding countLine
+returns-2 c = search (needs, ifs)
+
+-- src/reading.rt:316:1
+returns-3 : tie.Need-returns-3
+unfolding countLine
+returns-3 c = search (needs, ifs)
+
+pub count-line-spec : {M : Type 1} → statement M
+count-line-spec = tie.close (tie.spec returns returns-2 returns-3)

@@ -1,0 +1,20 @@
+use borrow.Author.Needs.{needs}
+use Rattle.lighting.proofs.Choosing.{ifs}
+use Rattle.reading.specs.Reading.{digitHeld}
+use Rattle.reading.proofs.digit_held.Statement.{statement}
+use Rattle.reading.proofs.digit_held.Tie as tie
+use Rattle.reading.proofs.digit_held.Reads as reads
+use Rattle.reading.proofs.digit_held.Lts as lts
+
+-- src/reading.rt:115:1
+returns : tie.Need-returns
+unfolding digitHeld
+returns c = search (needs, ifs)
+
+-- src/reading.rt:115:1
+returns-2 : tie.Need-returns-2
+unfolding digitHeld
+returns-2 c = search (needs, ifs)
+
+pub digit-held-spec : {M : Type 1} → statement M
+digit-held-spec = tie.close (tie.spec returns returns-2)

@@ -1,0 +1,19 @@
+use Rattle.reading.specs.Reading.{grownHeld}
+use borrow.Author.Needs.{needs}
+use Rattle.reading.proofs.grown_held.Statement.{statement}
+use Rattle.reading.proofs.grown_held.Tie as tie
+use Rattle.reading.proofs.grown_held.Reads as reads
+use Rattle.reading.proofs.grown_held.Lts as lts
+use Rattle.reading.proofs.grown.Reads as grown-reads
+
+-- src/reading.rt:182:18
+grown-requires : tie.Need-grown-requires
+grown-requires c κs = search needs
+
+-- src/reading.rt:179:1
+returns : tie.Need-returns
+unfolding grownHeld
+returns c = simp (c .grown .ensures)
+
+pub grown-held-spec : {M : Type 1} → statement M
+grown-held-spec = tie.close (tie.spec grown-requires returns)

@@ -1,0 +1,28 @@
+use Rattle.lighting.proofs.Choosing.{ifs}
+use Rattle.reading.specs.Reading.{pushed}
+use borrow.Author.Needs.{needs}
+use Rattle.reading.proofs.push.Statement.{statement}
+use Rattle.reading.proofs.push.Tie as tie
+use Rattle.reading.proofs.push.Reads as reads
+use Rattle.reading.proofs.push.Lts as lts
+
+-- src/reading.rt:268:9
+array-write-bytes : tie.Need-array-write-bytes
+array-write-bytes c = search needs
+
+-- src/reading.rt:269:85
+add-t11 : tie.Need-add-t11
+add-t11 c = search needs
+
+-- src/reading.rt:261:1
+returns : tie.Need-returns
+unfolding pushed
+returns c = search (needs, ifs)
+
+-- src/reading.rt:261:1
+returns-2 : tie.Need-returns-2
+unfolding pushed
+returns-2 c = search (needs, ifs)
+
+pub push-spec : {M : Type 1} → statement M
+push-spec = tie.close (tie.spec array-write-bytes add-t11 returns returns-2)

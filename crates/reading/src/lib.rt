@@ -1,0 +1,441 @@
+// A list's text, read one byte at a time by value. The caller sees the ends of lines; every other byte is fed.
+ghost use mathlib.Core.Path.{_≡_};
+ghost use Prim.Native.Nat.{_+_, _*_, _≤_, min};
+ghost use lib.ListN.{length, drop};
+ghost use Rattle.reading.specs.Reading.{isBlank, hexValue, letter, digitHeld, opened, lettered, spelled, gapped, grownHeld, numbered, trailed, byteHeld, halfHeld, dashed, step, bytePair, pushed, joined, storedBy, withHeld, feed, fedLine, lineLength, countLine, lineOf, nextLine, withOutputs, freshReader};
+
+// What makes a line a bad one.
+pub enum Fault {
+    // the first line is not `outputs N`
+    NoOutputs,
+    // N is not 1 to 64
+    BadCount,
+    // a character that is no hexadecimal digit
+    NoDigit,
+    // one digit where a byte has two
+    HalfByte,
+}
+
+// What a line holds so far.
+pub enum Held {
+    // nothing, or blanks
+    Blank,
+    Comment,
+    // so many letters of `outputs`
+    Letters(u8),
+    // `outputs` and a blank
+    Gap,
+    // `outputs` and a number; 65 stands for every number above 64
+    Number(u8),
+    // the same, and a blank
+    Trail(u8),
+    // whole bytes
+    Whole,
+    // a digit that waits for the second one of its byte
+    Half(u8),
+    // `-`, the empty string
+    Dash,
+    Spoilt(Fault),
+}
+
+// What a line is at its end.
+pub enum Line {
+    Nothing,
+    Outputs(u8),
+    Frame,
+    Wrong(Fault),
+}
+
+// The reader between two bytes: the number of outputs that the list has named (0: none yet), the line's number, what it holds so far, and
+// of its bytes the first 26. No frame has more than 25 bytes, so that 26 tell any longer string from a frame.
+pub struct Reader {
+    pub outputs: u8,
+    pub line: u64,
+    pub held: Held,
+    pub bytes: [u8; 26],
+    pub count: usize,
+}
+
+// ---- characters
+
+// A blank, a tab, or the carriage return before a newline.
+pub fn is_blank(c: u8) -> bool
+    ensures { λ r. ⌜ r ≡ isBlank c ⌝ }
+{
+    if c == 32 {
+        true
+    } else if c == 9 {
+        true
+    } else {
+        c == 13
+    }
+}
+
+// What a hexadecimal digit of either case is worth, and 16 for any other character.
+pub fn hex_value(c: u8) -> u8
+    ensures { λ r. ⌜ r ≡ hexValue c ⌝ }
+{
+    if c < 48 {
+        16
+    } else if c < 58 {
+        c - 48
+    } else if c < 65 {
+        16
+    } else if c < 71 {
+        c - 55
+    } else if c < 97 {
+        16
+    } else if c < 103 {
+        c - 87
+    } else {
+        16
+    }
+}
+
+// The letter of `outputs` after the first k.
+pub fn letter(k: u8) -> u8
+    ensures { λ r. ⌜ r ≡ letter k ⌝ }
+{
+    if k == 1 {
+        b'u'
+    } else if k == 2 {
+        b't'
+    } else if k == 3 {
+        b'p'
+    } else if k == 4 {
+        b'u'
+    } else if k == 5 {
+        b't'
+    } else {
+        b's'
+    }
+}
+
+// ---- what a line holds after one more character: c, worth v as a digit
+
+pub fn digit_held(v: u8) -> Held
+    ensures { λ r. ⌜ r ≡ digitHeld v ⌝ }
+{
+    if v < 16 {
+        Held::Half(v)
+    } else {
+        Held::Spoilt(Fault::NoDigit)
+    }
+}
+
+// The first character that is no blank.
+pub fn opened(outputs: u8, v: u8, c: u8) -> Held
+    ensures { λ r. ⌜ r ≡ opened outputs v c ⌝ }
+{
+    if is_blank(c) {
+        Held::Blank
+    } else if c == 35 {
+        Held::Comment
+    } else if 0 < outputs {
+        if c == 45 { Held::Dash } else { digit_held(v) }
+    } else if c == 111 {
+        Held::Letters(1)
+    } else {
+        Held::Spoilt(Fault::NoOutputs)
+    }
+}
+
+// After k letters of `outputs`, where the next one is l.
+pub fn lettered(k: u8, l: u8, c: u8) -> Held
+    ensures { λ r. ⌜ r ≡ lettered k l c ⌝ }
+{
+    if k < 7 {
+        if c == l {
+            Held::Letters(k + 1)
+        } else {
+            Held::Spoilt(Fault::NoOutputs)
+        }
+    } else if is_blank(c) {
+        Held::Gap
+    } else {
+        Held::Spoilt(Fault::NoOutputs)
+    }
+}
+
+pub fn spelled(k: u8, c: u8) -> Held
+    ensures { λ r. ⌜ r ≡ spelled k c ⌝ }
+{
+    lettered(k, letter(k), c)
+}
+
+pub fn gapped(v: u8, c: u8) -> Held
+    ensures { λ r. ⌜ r ≡ gapped v c ⌝ }
+{
+    if v < 10 {
+        Held::Number(v)
+    } else if is_blank(c) {
+        Held::Gap
+    } else {
+        Held::Spoilt(Fault::BadCount)
+    }
+}
+
+// One more decimal digit.
+fn grown(n: u8, v: u8) -> u8
+    ensures { λ r. ⌜ r ≡ min 65 (10 * n + v) ⌝ }
+{
+    let m = 10 * (n as u32) + (v as u32);
+    if m < 65 { m as u8 } else { 65 }
+}
+
+fn grown_held(n: u8, v: u8) -> Held
+    ensures { λ r. ⌜ r ≡ grownHeld n v ⌝ }
+{
+    Held::Number(grown(n, v))
+}
+
+pub fn numbered(n: u8, v: u8, c: u8) -> Held
+    ensures { λ r. ⌜ r ≡ numbered n v c ⌝ }
+{
+    if v < 10 {
+        grown_held(n, v)
+    } else if is_blank(c) {
+        Held::Trail(n)
+    } else {
+        Held::Spoilt(Fault::BadCount)
+    }
+}
+
+pub fn trailed(n: u8, c: u8) -> Held
+    ensures { λ r. ⌜ r ≡ trailed n c ⌝ }
+{
+    if is_blank(c) {
+        Held::Trail(n)
+    } else {
+        Held::Spoilt(Fault::BadCount)
+    }
+}
+
+pub fn byte_held(v: u8, c: u8) -> Held
+    ensures { λ r. ⌜ r ≡ byteHeld v c ⌝ }
+{
+    if is_blank(c) {
+        Held::Whole
+    } else {
+        digit_held(v)
+    }
+}
+
+pub fn half_held(v: u8, c: u8) -> Held
+    ensures { λ r. ⌜ r ≡ halfHeld v c ⌝ }
+{
+    if v < 16 {
+        Held::Whole
+    } else if is_blank(c) {
+        Held::Spoilt(Fault::HalfByte)
+    } else {
+        Held::Spoilt(Fault::NoDigit)
+    }
+}
+
+pub fn dashed(c: u8) -> Held
+    ensures { λ r. ⌜ r ≡ dashed c ⌝ }
+{
+    if is_blank(c) {
+        Held::Dash
+    } else {
+        Held::Spoilt(Fault::NoDigit)
+    }
+}
+
+pub fn step(outputs: u8, h: Held, v: u8, c: u8) -> Held
+    ensures { λ r. ⌜ r ≡ step outputs h v c ⌝ }
+{
+    match h {
+        Held::Blank => opened(outputs, v, c),
+        Held::Comment => h,
+        Held::Letters(k) => spelled(k, c),
+        Held::Gap => gapped(v, c),
+        Held::Number(n) => numbered(n, v, c),
+        Held::Trail(n) => trailed(n, c),
+        Held::Whole => byte_held(v, c),
+        Held::Half(_) => half_held(v, c),
+        Held::Dash => dashed(c),
+        Held::Spoilt(_) => h,
+    }
+}
+
+// ---- the reader fed
+
+// The byte of two digits.
+fn byte_pair(d: u8, v: u8) -> u8
+    ensures { λ r. ⌜ r ≡ bytePair d v ⌝ }
+{
+    d % 16 * 16 + v % 16
+}
+
+pub fn push(w: Reader, x: u8) -> Reader
+    ensures { λ r. ⌜ r ≡ pushed w x ⌝ }
+{
+    let at = w.count;
+    let held = w.held;
+    let mut bytes = w.bytes;
+    if at < 26 {
+        bytes[at] = x;
+        Reader {
+            outputs: w.outputs,
+            line: w.line,
+            held: held,
+            bytes: bytes,
+            count: at + 1,
+        }
+    } else {
+        w
+    }
+}
+
+pub fn join(w: Reader, d: u8, v: u8) -> Reader
+    ensures { λ r. ⌜ r ≡ joined w d v ⌝ }
+{
+    push(w, byte_pair(d, v))
+}
+
+pub fn store(w: Reader, h: Held, v: u8) -> Reader
+    ensures { λ r. ⌜ r ≡ storedBy w h v ⌝ }
+{
+    match h {
+        Held::Blank => w,
+        Held::Comment => w,
+        Held::Letters(_) => w,
+        Held::Gap => w,
+        Held::Number(_) => w,
+        Held::Trail(_) => w,
+        Held::Whole => w,
+        Held::Half(d) => if v < 16 { join(w, d, v) } else { w },
+        Held::Dash => w,
+        Held::Spoilt(_) => w,
+    }
+}
+
+pub fn with_held(w: Reader, h: Held) -> Reader
+    ensures { λ r. ⌜ r ≡ withHeld w h ⌝ }
+{
+    let bytes = w.bytes;
+    Reader {
+        outputs: w.outputs,
+        line: w.line,
+        held: h,
+        bytes: bytes,
+        count: w.count,
+    }
+}
+
+pub fn feed(w: Reader, c: u8) -> Reader
+    ensures { λ r. ⌜ r ≡ feed w c ⌝ }
+{
+    let h = w.held;
+    let v = hex_value(c);
+    let stored = store(w, h, v);
+    with_held(stored, step(w.outputs, h, v, c))
+}
+
+// The reader after the rest of a line, as far as the bytes go, and where that ends: at a newline, or at the end of the bytes.
+pub struct Fed {
+    pub reader: Reader,
+    pub next: usize,
+}
+
+pub fn feed_line(w: Reader, s: &[u8], from: usize) -> Fed
+    requires { ⌜ from ≤ length (now s) ⌝ }
+    ensures { λ r. ⌜ r .reader ≡ fedLine w (drop from (now (s .entry))) ⌝ }
+    ensures { λ r. ⌜ r .next ≡ from + lineLength (drop from (now (s .entry))) ⌝ }
+{
+    let mut reader = w;
+    let mut i = from;
+    while i < s.len() {
+        let c = s[i];
+        if c == 10 {
+            break;
+        }
+        reader = feed(reader, c);
+        i += 1;
+    }
+    Fed {
+        reader: reader,
+        next: i,
+    }
+}
+
+// ---- a line's end
+
+pub fn count_line(n: u8) -> Line
+    ensures { λ r. ⌜ r ≡ countLine n ⌝ }
+{
+    if n == 0 {
+        Line::Wrong(Fault::BadCount)
+    } else if n < 65 {
+        Line::Outputs(n)
+    } else {
+        Line::Wrong(Fault::BadCount)
+    }
+}
+
+pub fn line_of(h: Held) -> Line
+    ensures { λ r. ⌜ r ≡ lineOf h ⌝ }
+{
+    match h {
+        Held::Blank => Line::Nothing,
+        Held::Comment => Line::Nothing,
+        Held::Letters(_) => Line::Wrong(Fault::NoOutputs),
+        Held::Gap => Line::Wrong(Fault::BadCount),
+        Held::Number(n) => count_line(n),
+        Held::Trail(n) => count_line(n),
+        Held::Whole => Line::Frame,
+        Held::Half(_) => Line::Wrong(Fault::HalfByte),
+        Held::Dash => Line::Frame,
+        Held::Spoilt(f) => Line::Wrong(f),
+    }
+}
+
+// The number of the line after.
+fn line_after(n: u64) -> u64
+    ensures { λ r. ⌜ r ≡ min (n + 1) 18446744073709551615 ⌝ }
+{
+    if n < 18446744073709551615 { n + 1 } else { n }
+}
+
+pub fn next_line(w: Reader) -> Reader
+    ensures { λ r. ⌜ r ≡ nextLine w ⌝ }
+{
+    let bytes = w.bytes;
+    Reader {
+        outputs: w.outputs,
+        line: line_after(w.line),
+        held: Held::Blank,
+        bytes: bytes,
+        count: 0,
+    }
+}
+
+// The reader of a list that has named its outputs.
+pub fn with_outputs(w: Reader, n: u8) -> Reader
+    ensures { λ r. ⌜ r ≡ withOutputs w n ⌝ }
+{
+    let bytes = w.bytes;
+    let held = w.held;
+    Reader {
+        outputs: n,
+        line: w.line,
+        held: held,
+        bytes: bytes,
+        count: w.count,
+    }
+}
+
+// Before the first byte of a list.
+pub fn fresh_reader() -> Reader
+    ensures { λ r. ⌜ r ≡ freshReader ⌝ }
+{
+    Reader {
+        outputs: 0,
+        line: 1,
+        held: Held::Blank,
+        bytes: [0; 26],
+        count: 0,
+    }
+}

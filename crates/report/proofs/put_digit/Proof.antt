@@ -1,0 +1,28 @@
+use Rattle.report.specs.Report.{digit}
+use borrow.Author.Needs.{needs}
+use Rattle.report.proofs.put_digit.Statement.{statement}
+use Rattle.report.proofs.put_digit.Tie as tie
+use Rattle.report.proofs.put_digit.Reads as reads
+use Rattle.report.proofs.put_digit.Lts as lts
+use Rattle.report.proofs.last_digit.Reads as last-digit-reads
+use Rattle.printing.proofs.put.Reads as put-reads
+
+-- src/report.rt:26:19
+last-digit-requires : tie.Need-last-digit-requires
+last-digit-requires c κs = search needs
+
+-- src/report.rt:26:5
+put-requires : tie.Need-put-requires
+put-requires c κs = search needs
+
+-- src/report.rt:23:1
+same-length : tie.Need-same-length
+same-length c = search needs
+
+-- src/report.rt:23:1
+returns : tie.Need-returns
+unfolding digit
+returns c = rw (← c .before .before .before .last-digit .ensures) (c .before .before .put .ensures)
+
+pub put-digit-spec : {M : Type 1} → statement M
+put-digit-spec = tie.close (tie.spec last-digit-requires put-requires same-length returns)

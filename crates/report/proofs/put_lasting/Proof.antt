@@ -1,0 +1,30 @@
+use Rattle.printing.proofs.Pages.{wrote-then}
+use Rattle.report.specs.Report.{lasting}
+use borrow.Author.Needs.{needs}
+use Rattle.report.proofs.put_lasting.Statement.{statement}
+use Rattle.report.proofs.put_lasting.Tie as tie
+use Rattle.report.proofs.put_lasting.Reads as reads
+use Rattle.report.proofs.put_lasting.Lts as lts
+use Rattle.report.proofs.put_aligned.Reads as put-aligned-reads
+use Rattle.report.proofs.put_minutes.Reads as put-minutes-reads
+
+-- src/report.rt:99:9
+put-aligned-requires : tie.Need-put-aligned-requires
+put-aligned-requires c κs = search needs
+
+-- src/report.rt:100:5
+put-minutes-requires : tie.Need-put-minutes-requires
+put-minutes-requires c κs = search needs
+
+-- src/report.rt:96:1
+same-length : tie.Need-same-length
+same-length c = search needs
+
+-- src/report.rt:96:1
+returns : tie.Need-returns
+unfolding lasting
+returns c = wrote-then (c .before .before .before .before .before .before .put-aligned .ensures) (c .before .before .put-minutes .ensures)
+
+pub put-lasting-spec : {M : Type 1} → statement M
+put-lasting-spec =
+    tie.close (tie.spec put-aligned-requires put-minutes-requires same-length returns)

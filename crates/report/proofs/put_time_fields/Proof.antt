@@ -1,0 +1,46 @@
+use Rattle.printing.proofs.Pages.{wrote-then}
+use Rattle.report.specs.Report.{timeFields}
+use borrow.Author.Needs.{needs}
+use Rattle.report.proofs.put_time_fields.Statement.{statement}
+use Rattle.report.proofs.put_time_fields.Tie as tie
+use Rattle.report.proofs.put_time_fields.Reads as reads
+use Rattle.report.proofs.put_time_fields.Lts as lts
+use Rattle.report.proofs.put_lasting.Reads as put-lasting-reads
+use Rattle.report.proofs.put_operation.Reads as put-operation-reads
+use Rattle.printing.proofs.put_all.Reads as put-all-reads
+
+-- src/report.rt:200:34
+slice-aggregate-put-all : tie.Need-slice-aggregate-put-all
+slice-aggregate-put-all c = search needs
+
+-- src/report.rt:200:9
+put-all-requires : tie.Need-put-all-requires
+put-all-requires c κs = search needs
+
+-- src/report.rt:201:9
+put-lasting-requires : tie.Need-put-lasting-requires
+put-lasting-requires c κs = search needs
+
+-- src/report.rt:202:5
+put-operation-requires : tie.Need-put-operation-requires
+put-operation-requires c κs = search needs
+
+-- src/report.rt:195:1
+same-length : tie.Need-same-length
+same-length c = search needs
+
+-- src/report.rt:195:1
+returns : tie.Need-returns
+unfolding timeFields
+returns c = wrote-then (c .before .before .before .before .before .before .before .before .before .before .put-all .ensures) (wrote-then (c .before .before .before .before .before .before .put-lasting .ensures) (c .before .before .put-operation .ensures))
+
+pub put-time-fields-spec : {M : Type 1} → statement M
+put-time-fields-spec =
+    tie.close
+    (tie.spec
+    slice-aggregate-put-all
+    put-all-requires
+    put-lasting-requires
+    put-operation-requires
+    same-length
+    returns)
