@@ -76,7 +76,7 @@ fn stations_sound(stations: &[Station]) -> bool
     true
 }
 
-// Brings one output to a moment. Where nothing falls due on the way only its burning time is written.
+// Brings one output to a moment. Where nothing falls due on the way only its burning time changes.
 fn advance_output(outputs: &mut [Output], i: usize, from: u64, to: u64)
     requires { ⌜ i < length (now outputs) ⌝ }
     ensures { λ _. ⌜ now (outputs .exit) ≡ set (now (outputs .entry)) i (advance from to (getD (now (outputs .entry)) i freshOutput)) ⌝ }

@@ -254,7 +254,7 @@ pub fn hop_thrice(now: u64, to: u64, o: Output) -> Output
     hop_twice(d, to, hop_to(now, d, o))
 }
 
-// ---- the way of most outputs at most frames: nothing falls due on it
+// ---- the way of most outputs at most frames: nothing falls due on it, and `rest` is all of it
 
 fn timer_later(to: u64, m: Timer) -> bool
     ensures { λ r. ⌜ r ≡ timerLater to m ⌝ }
@@ -290,16 +290,5 @@ pub fn is_later(to: u64, o: Output) -> bool
         activity_later(to, a)
     } else {
         false
-    }
-}
-
-// Where nothing falls due up to `to`, the way there is burning alone.
-pub fn advance_to(now: u64, to: u64, o: Output) -> Output
-    ensures { λ r. ⌜ r ≡ advance now to o ⌝ }
-{
-    if is_later(to, o) {
-        rest(now, to, o)
-    } else {
-        hop_thrice(now, to, o)
     }
 }
