@@ -1,23 +1,16 @@
 // What is found of every output, on pages of text that are written to standard output: a block for each output, or a line of the report.
 ghost use mathlib.Core.Path.{_≡_};
-ghost use Prim.Native.Nat.{min};
 use libc::STDOUT_FILENO;
 use lighting::Output;
 
 // A page with fewer free bytes than this is written out before more text is put on it. No answer's line and no output's block is longer.
 const ROOM: usize = 1024;
 
-pub fn least(a: usize, b: usize) -> usize
-    ensures { λ r. ⌜ r ≡ min a b ⌝ }
-{
-    if a < b { a } else { b }
-}
-
 // ---- pages
 
 // The page's text is written out.
 pub fn flush(page: &[u8], mark: usize) {
-    let n = least(mark, page.len());
+    let n = ranges::least(mark, page.len());
     io::write_all(STDOUT_FILENO, &page[0..n]);
 }
 
@@ -61,7 +54,7 @@ pub fn put_found(
 ) -> usize {
     let mut at = put_head(page, mark, report, time);
     let mut i: usize = 0;
-    while i < least(n, outputs.len()) {
+    while i < ranges::least(n, outputs.len()) {
         let o = outputs[i];
         let room = with_room(page, at);
         at = put_output(page, room, report, i as u64, time, o);

@@ -1,5 +1,6 @@
 // Ranges of whole numbers: what a frame may ask for, and what a record may hold.
 ghost use mathlib.Core.Path.{_≡_};
+ghost use Prim.Native.Nat.{min};
 ghost use Rattle.lighting.specs.Properties.{within, isSlot, isPriority};
 
 // Both ends belong to the range.
@@ -21,4 +22,11 @@ pub fn is_priority(n: u32) -> bool
     ensures { λ r. ⌜ r ≡ isPriority n ⌝ }
 {
     if n == 0 { false } else { is_slot(n - 1) }
+}
+
+// The smaller, so that a part of a table is within it.
+pub fn least(a: usize, b: usize) -> usize
+    ensures { λ r. ⌜ r ≡ min a b ⌝ }
+{
+    if a < b { a } else { b }
 }

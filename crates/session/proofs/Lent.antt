@@ -1,8 +1,4 @@
 -- Made by tools/twin.py.
-pub mod start
-pub mod frame
-pub mod answer
-pub mod take_line
 pub mod take_chunk
 pub mod take_some
 pub mod take_all

@@ -1,13 +1,11 @@
 // A list of frames from standard input, replayed over a panel: a line for each answer, then what is found of every output, or a report for
 // people in place of that. A bad line ends it with a line that says what is wrong and where.
 //
-// Thin: the crate `reading` reads text, `panel` answers, `printing` and `faults` write answers, `found` what is found. Input and output go by
+// Thin: the crate `line` takes each line, `reading` its characters, and `found` says what is found. Input and output go by
 // pages of 64 KiB, so that memory does not grow with the list.
 ghost use mathlib.Core.Path.{_≡_};
-use lighting::Answer;
 use lighting::Output;
 use lighting::Station;
-use reading::Line;
 use reading::Reader;
 
 // After some of the list: the reader, the page's mark, whether more of the list may come, and whether all lines were good.
@@ -22,92 +20,6 @@ fn wide(n: u8) -> usize
     ensures { λ r. ⌜ r ≡ n ⌝ }
 {
     n as usize
-}
-
-// ---- one line
-
-// `outputs N`: the panel of the first N outputs starts.
-fn start(outputs: &mut [Output], stations: &mut [Station], time: &mut u64, n: u8) {
-    let named = found::least(wide(n), outputs.len());
-    panel::start(&mut outputs[0..named], stations, time);
-}
-
-// The bytes go to that panel: the first `count` of the 26 that the reader keeps.
-fn frame(
-    outputs: &mut [Output],
-    stations: &mut [Station],
-    time: &mut u64,
-    bytes: &[u8; 26],
-    count: usize,
-    n: u8,
-) -> Answer {
-    let named = found::least(wide(n), outputs.len());
-    let kept = &bytes[..];
-    let held = found::least(count, kept.len());
-    panel::frame(&mut outputs[0..named], stations, time, &kept[0..held])
-}
-
-fn answer(
-    outputs: &mut [Output],
-    stations: &mut [Station],
-    time: &mut u64,
-    page: &mut [u8],
-    mark: usize,
-    r: Reader,
-) -> usize {
-    let bytes = r.bytes;
-    let a = frame(outputs, stations, time, &bytes, r.count, r.outputs);
-    printing::put_answer(page, mark, a)
-}
-
-fn take_line(
-    outputs: &mut [Output],
-    stations: &mut [Station],
-    time: &mut u64,
-    page: &mut [u8],
-    mark: usize,
-    r: Reader,
-) -> Turn {
-    let held = r.held;
-    let number = r.line;
-    let line = reading::line_of(held);
-    let next = reading::next_line(r);
-    match line {
-        Line::Nothing => Turn {
-            reader: next,
-            mark: mark,
-            more: true,
-            good: true,
-        },
-        Line::Outputs(n) => {
-            start(outputs, stations, time, n);
-            let named = reading::with_outputs(next, n);
-            Turn {
-                reader: named,
-                mark: mark,
-                more: true,
-                good: true,
-            }
-        }
-        Line::Frame => {
-            let m = answer(outputs, stations, time, page, mark, r);
-            Turn {
-                reader: next,
-                mark: m,
-                more: true,
-                good: true,
-            }
-        }
-        Line::Wrong(f) => {
-            let m = faults::put_fault(page, mark, number, f);
-            Turn {
-                reader: next,
-                mark: m,
-                more: true,
-                good: false,
-            }
-        }
-    }
 }
 
 // ---- the list
@@ -132,7 +44,7 @@ fn take_chunk(
         i = fed.next;
         if i < s.len() {
             i += 1;
-            let t = take_line(outputs, stations, time, page, at, reader);
+            let t = line::take_line(outputs, stations, time, page, at, reader);
             let next = t.reader;
             reader = next;
             at = found::with_room(page, t.mark);
@@ -239,7 +151,7 @@ fn end_list(
     r: Reader,
     report: bool,
 ) -> usize {
-    let t = take_line(outputs, stations, time, page, mark, r);
+    let t = line::take_line(outputs, stations, time, page, mark, r);
     if t.good {
         let last = t.reader;
         put_end(outputs, *time, page, t.mark, report, r.line, last)

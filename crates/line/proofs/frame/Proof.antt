@@ -1,0 +1,81 @@
+mod Lts
+mod Tie
+use mathlib.Core.Path.{_≡_}
+use Prim.Native.Nat.{_-_, min}
+use lib.ListN.{length, take}
+use Rattle.lighting.specs.Parameters.{standard}
+use Rattle.lighting.specs.Panel.{Panel, framed}
+use Rattle.line.specs.Taking.{sent}
+use Rattle.line.proofs.Named.{part-taken, part-joined}
+use borrow.Author.Needs.{needs}
+use Rattle.line.proofs.frame.Statement.{statement}
+use Rattle.line.proofs.frame.Proof.Tie as tie
+use Rattle.line.proofs.Lent.frame.Reads as reads
+use Rattle.line.proofs.frame.Proof.Lts as lts
+
+wide-requires : tie.Need-wide-requires
+wide-requires c κs = search needs
+
+least-requires : tie.Need-least-requires
+least-requires c κs = search needs
+
+least-requires-2 : tie.Need-least-requires-2
+least-requires-2 c κs = search needs
+
+sub-frame : tie.Need-sub-frame
+sub-frame c = search needs
+
+part-frame-start : tie.Need-part-frame-start
+part-frame-start c = search needs
+
+part-frame-end : tie.Need-part-frame-end
+part-frame-end c = search needs
+
+sub-frame-2 : tie.Need-sub-frame-2
+sub-frame-2 c = search needs
+
+part-frame-start-2 : tie.Need-part-frame-start-2
+part-frame-start-2 c = search needs
+
+part-frame-end-2 : tie.Need-part-frame-end-2
+part-frame-end-2 c = search needs
+
+frame-requires : tie.Need-frame-requires
+frame-requires c κs = search needs
+
+same-length : tie.Need-same-length
+same-length c = search needs
+
+same-length-2 : tie.Need-same-length-2
+same-length-2 c = search needs
+
+returns : tie.Need-returns
+unfolding sent
+returns c =
+    let a = c .before .before .before .before .before .before .before .before .before .before .before .args in
+    let k = c .before .before .before .before .before .before .before .before .before .least .result in
+    let h = c .before .before .before .before .before .before .before .least2 .result in
+    let f = c .before .before .frame in
+    let e : k ≡ min (a .n) (length (a .outputs .now)) = rw (← c .before .before .before .before .before .before .before .before .before .before .wide .ensures) (c .before .before .before .before .before .before .before .before .before .least .ensures) in
+    let d : take (h - 0) (a .bytes .now) ≡ take (a .count) (a .bytes .now) = part-taken (a .count) h (a .bytes .now) (c .before .before .before .before .before .before .before .least2 .ensures) in (
+      rw (← part-taken (a .n) k (a .outputs .now) e, ← d) (f .ensures .0),
+      rw (← d) (part-joined (λ (p : Panel). framed standard p (take (h - 0) (a .bytes .now)) .panel) (a .n) k (a .outputs .now) (a .stations .now) (a .time .now) (f .last .0) (f .last .1 .0) (f .last .1 .1 .0) e (f .ensures .1 .0) (f .ensures .1 .1 .0) (f .ensures .1 .1 .1)),
+    )
+
+pub frame-spec : {M : Type 1} → statement M
+frame-spec =
+    tie.close
+    (tie.spec
+    wide-requires
+    least-requires
+    least-requires-2
+    sub-frame
+    part-frame-start
+    part-frame-end
+    sub-frame-2
+    part-frame-start-2
+    part-frame-end-2
+    frame-requires
+    same-length
+    same-length-2
+    returns)

@@ -1,0 +1,58 @@
+-- A line of a list, taken: what it does to the tables, and the text that it writes. The tables stand ready for 64 outputs; the panel is the first
+-- so many of them, and the rest stand by. Definitions only.
+use mathlib.Core.Bool.{Bool, true, false}
+use mathlib.Core.List.{List, [], _++_}
+use Prim.Native.Nat.{ℕ}
+use lib.ListN.{take, drop}
+use Rattle.lighting.specs.Parameters.{standard}
+use Rattle.lighting.specs.Frames.{Bytes}
+use Rattle.lighting.specs.Panel.{Panel, Step, lent, started, framed}
+use Rattle.reading.specs.declared.Line.{Line}
+use Rattle.reading.specs.declared.Line.the-variants.{Nothing, Outputs, Frame, Wrong}
+use Rattle.reading.specs.declared.Reader.{Reader}
+use Rattle.reading.specs.Reading.{lineOf, content, nextLine, withOutputs}
+use Rattle.printing.specs.Writing.{answerLine}
+use Rattle.faults.specs.Faults.{faultLine}
+
+-- the panel of the first n outputs
+abbrev pub first : ℕ → Panel → Panel
+first n p = lent (take n (p .outputs)) (p .stations) (p .time)
+
+-- that panel q after an operation, and the outputs that stand by
+abbrev pub rejoined : ℕ → Panel → Panel → Panel
+rejoined n p q = lent (q .outputs ++ drop n (p .outputs)) (q .stations) (q .time)
+
+-- `outputs N`: the panel of the first N outputs starts
+unfoldable pub begun : ℕ → Panel → Panel
+begun n p = rejoined n p (started standard (first n p) .panel)
+
+-- a string of bytes goes to the panel of the first n outputs
+unfoldable pub sent : ℕ → Bytes → Panel → Step
+sent n b p =
+    record {
+      panel = rejoined n p (framed standard (first n p) b .panel);
+      answer = framed standard (first n p) b .answer;
+    }
+
+-- what a line leaves: the tables, the text that it writes, the reader at the next line, and whether it was a good one
+pub record Taken : Type 0 where
+  pub panel : Panel
+  pub text : Bytes
+  pub reader : Reader
+  pub good : Bool
+
+unfoldable pub takenBy : Panel → Reader → Line → Taken
+takenBy p w Nothing = record { panel = p; text = []; reader = nextLine w; good = true }
+takenBy p w (Outputs n) = record { panel = begun n p; text = []; reader = withOutputs (nextLine w) n; good = true }
+takenBy p w Frame =
+    record {
+      panel = sent (w .outputs) (content w) p .panel;
+      text = answerLine (sent (w .outputs) (content w) p .answer);
+      reader = nextLine w;
+      good = true;
+    }
+takenBy p w (Wrong f) = record { panel = p; text = faultLine (w .line) f; reader = nextLine w; good = false }
+
+-- a line that the reader has come to the end of
+unfoldable pub taken : Panel → Reader → Taken
+taken p w = takenBy p w (lineOf (w .held))
