@@ -177,3 +177,16 @@ frame (blank {b} {x} c e s) w r = ap (λ (u : Reader). lineOf (u .held)) (on-bla
 frame (byte {b} {x} {d} {v} g k s) w r =
     ap (λ (u : Reader). lineOf (u .held)) (on-byte w x r g k)
     ∙ ap lineOf (stays s (withHeld (pushed w (d * 16 + v)) Whole) (ready-pushed w (d * 16 + v) r) (unfold withHeld in refl))
+
+pushed-outputs : (w : Reader) (x : ℕ) → pushed w x .outputs ≡ w .outputs
+unfolding pushed if_then_else_
+pushed-outputs w x = by-lt (w .count) 26 (λ p e. rw e) (λ p e. rw e)
+
+-- the number of outputs stays as the list has named it
+pub outputs-kept : {b x : Bytes} → Spells b x → (w : Reader) → Ready w → fed w x .outputs ≡ w .outputs
+outputs-kept end w r = unfold fed in refl
+outputs-kept (blank {b} {x} c e s) w r = ap (λ (u : Reader). u .outputs) (on-blank w c x r e) ∙ outputs-kept s w r
+outputs-kept (byte {b} {x} {d} {v} g k s) w r =
+    ap (λ (u : Reader). u .outputs) (on-byte w x r g k)
+    ∙ outputs-kept s (withHeld (pushed w (d * 16 + v)) Whole) (ready-pushed w (d * 16 + v) r)
+    ∙ (unfold withHeld in (pushed-outputs w (d * 16 + v)))

@@ -105,7 +105,7 @@ abbrev b2 : Syntax.Body
 b2 = Syntax.assign (Syntax.place 16 List.[]) (Syntax.aggregate (List._∷_ (Syntax.copy (Syntax.place 15 List.[])) (List._∷_ (Syntax.copy (Syntax.place 1 (List._∷_ (Syntax.field 1) List.[]))) List.[])))
 
 abbrev b3 : Syntax.Body
-b3 = Syntax.call "panel::advance_outputs" (List._∷_ (Syntax.copy (Syntax.place 16 List.[])) (List._∷_ (Syntax.copy (Syntax.place 10 List.[])) (List._∷_ (Syntax.copy (Syntax.place 7 List.[])) List.[]))) (Syntax.place 14 List.[])
+b3 = Syntax.call "tables::advance_outputs" (List._∷_ (Syntax.copy (Syntax.place 16 List.[])) (List._∷_ (Syntax.copy (Syntax.place 10 List.[])) (List._∷_ (Syntax.copy (Syntax.place 7 List.[])) List.[]))) (Syntax.place 14 List.[])
 
 abbrev b4 : Syntax.Body
 b4 = Syntax.assign (Syntax.place 17 List.[]) (Syntax.addrOf (Syntax.place 1 (List._∷_ (Syntax.field 0) (List._∷_ (Syntax.deref OfOutput.spelt) List.[]))))
@@ -114,16 +114,16 @@ abbrev b5 : Syntax.Body
 b5 = Syntax.assign (Syntax.place 18 List.[]) (Syntax.aggregate (List._∷_ (Syntax.copy (Syntax.place 17 List.[])) (List._∷_ (Syntax.copy (Syntax.place 1 (List._∷_ (Syntax.field 1) List.[]))) List.[])))
 
 abbrev b6 : Syntax.Body
-b6 = Syntax.call "panel::wide" (List._∷_ (Syntax.copy (Syntax.place 8 List.[])) List.[]) (Syntax.place 19 List.[])
+b6 = Syntax.call "tables::wide" (List._∷_ (Syntax.copy (Syntax.place 8 List.[])) List.[]) (Syntax.place 19 List.[])
 
 abbrev b7 : Syntax.Body
-b7 = Syntax.call "panel::serve" (List._∷_ (Syntax.copy (Syntax.place 18 List.[])) (List._∷_ (Syntax.copy (Syntax.place 7 List.[])) (List._∷_ (Syntax.copy (Syntax.place 5 List.[])) (List._∷_ (Syntax.copy (Syntax.place 19 List.[])) (List._∷_ (Syntax.copy (Syntax.place 9 List.[])) List.[]))))) (Syntax.place 11 List.[])
+b7 = Syntax.call "tables::serve" (List._∷_ (Syntax.copy (Syntax.place 18 List.[])) (List._∷_ (Syntax.copy (Syntax.place 7 List.[])) (List._∷_ (Syntax.copy (Syntax.place 5 List.[])) (List._∷_ (Syntax.copy (Syntax.place 19 List.[])) (List._∷_ (Syntax.copy (Syntax.place 9 List.[])) List.[]))))) (Syntax.place 11 List.[])
 
 abbrev b8 : Syntax.Body
 b8 = Syntax.call "station::kept_station" (List._∷_ (Syntax.copy (Syntax.place 11 List.[])) (List._∷_ (Syntax.copy (Syntax.place 6 List.[])) (List._∷_ (Syntax.copy (Syntax.place 4 List.[])) List.[]))) (Syntax.place 12 List.[])
 
 abbrev b9 : Syntax.Body
-b9 = Syntax.call "panel::wide" (List._∷_ (Syntax.copy (Syntax.place 5 List.[])) List.[]) (Syntax.place 13 List.[])
+b9 = Syntax.call "tables::wide" (List._∷_ (Syntax.copy (Syntax.place 5 List.[])) List.[]) (Syntax.place 13 List.[])
 
 abbrev b10 : Syntax.Body
 b10 = Syntax.assign (Syntax.place 19 List.[]) (Syntax.op2 (Syntax.mul Syntax.unsigned) (Syntax.copy (Syntax.place 13 List.[])) (Syntax.int Syntax.w64 40))
@@ -493,7 +493,7 @@ module _ (claims· : Claims) where
       (Post· : (κs : Lifetimes.Lfts 4) → (a : Kinds.Dens κs ps) → Kinds.Plain 4 ps r κs) where
     module _ (M : Type 1) where
       abbrev pub Closed : Type 2
-      Closed = (𝓤 : URA.URA M) (H : Wp.Heap 𝓤) (A : Atoms.Atoms 𝓤) (W : Kit.Given 𝓤 H A) (𝓣 : Wp.Tables 𝓤 H) (known0 : Plain.Known 𝓤 H A W 𝓣 1 ps·0 r·0 (claims· .0) (claims· .1) "panel::advance_outputs") (known1 : Plain.Known 𝓤 H A W 𝓣 0 ps·1 r·1 (claims· .2) (claims· .3) "panel::wide") (known2 : Plain.Known 𝓤 H A W 𝓣 1 ps·2 r·2 (claims· .4) (claims· .5) "panel::serve") (known3 : Plain.Known 𝓤 H A W 𝓣 1 ps·3 r·3 (claims· .6) (claims· .7) "station::kept_station") → Statement.Triple 𝓤 (Wp.WpFn 𝓤 H (𝓣 .C) (𝓣 .Λ) (Function.fnOf 4 ps r xs m hs body)) (Function.plainOf 𝓤 H A 4 ps r Pre· Post·)
+      Closed = (𝓤 : URA.URA M) (H : Wp.Heap 𝓤) (A : Atoms.Atoms 𝓤) (W : Kit.Given 𝓤 H A) (𝓣 : Wp.Tables 𝓤 H) (known0 : Plain.Known 𝓤 H A W 𝓣 1 ps·0 r·0 (claims· .0) (claims· .1) "tables::advance_outputs") (known1 : Plain.Known 𝓤 H A W 𝓣 0 ps·1 r·1 (claims· .2) (claims· .3) "tables::wide") (known2 : Plain.Known 𝓤 H A W 𝓣 1 ps·2 r·2 (claims· .4) (claims· .5) "tables::serve") (known3 : Plain.Known 𝓤 H A W 𝓣 1 ps·3 r·3 (claims· .6) (claims· .7) "station::kept_station") → Statement.Triple 𝓤 (Wp.WpFn 𝓤 H (𝓣 .C) (𝓣 .Λ) (Function.fnOf 4 ps r xs m hs body)) (Function.plainOf 𝓤 H A 4 ps r Pre· Post·)
 
     module _ where
       abbrev at0 : Typed.TF T39 O0
@@ -619,7 +619,7 @@ module _ (claims· : Claims) where
       module _ {M : Type 1} (𝓤 : URA.URA M) (H : Wp.Heap 𝓤) (A : Atoms.Atoms 𝓤)
           (W : Kit.Given 𝓤 H A) (𝓣 : Wp.Tables 𝓤 H) where
         abbrev Knowns : Type 1
-        Knowns = Plain.Known 𝓤 H A W 𝓣 1 ps·0 r·0 (claims· .0) (claims· .1) "panel::advance_outputs" × Plain.Known 𝓤 H A W 𝓣 0 ps·1 r·1 (claims· .2) (claims· .3) "panel::wide" × Plain.Known 𝓤 H A W 𝓣 1 ps·2 r·2 (claims· .4) (claims· .5) "panel::serve" × Plain.Known 𝓤 H A W 𝓣 1 ps·3 r·3 (claims· .6) (claims· .7) "station::kept_station"
+        Knowns = Plain.Known 𝓤 H A W 𝓣 1 ps·0 r·0 (claims· .0) (claims· .1) "tables::advance_outputs" × Plain.Known 𝓤 H A W 𝓣 0 ps·1 r·1 (claims· .2) (claims· .3) "tables::wide" × Plain.Known 𝓤 H A W 𝓣 1 ps·2 r·2 (claims· .4) (claims· .5) "tables::serve" × Plain.Known 𝓤 H A W 𝓣 1 ps·3 r·3 (claims· .6) (claims· .7) "station::kept_station"
 
       module _ (κs : Lifetimes.Lfts 4) (qs : Lifetimes.Shares 4) where
         abbrev g4 : List.List Row.Entry
@@ -818,7 +818,7 @@ module _ (claims· : Claims) where
           d15 = Typed.s-seq 𝓤 H A W 𝓣 E G24 G25 b10 b19 Δ0 (Typed.ask s23) at14 (Scalar.t-op2 𝓤 H A W E 𝓣 G24 (Syntax.mul Syntax.unsigned) (Scalar.oAt 13 (Syntax.tyInt Syntax.w64) (Row.valS (Row.sInt Syntax.w64))) (Scalar.oInt Syntax.w64 40) 19 (Rows'.sc-here (Row.sInt Syntax.w64)) (Syntax.tyInt Syntax.w64) (Row.valS (Row.sInt Syntax.w64)) (Row.sInt Syntax.w64 .of) (Scalar.reads-sc 𝓤 H A W (Row.sInt Syntax.w64), Path'.refl) tt (Reads.room-gone 𝓤 H A (Syntax.tyInt Syntax.w64)) (Scalar.holds-sc 𝓤 H A W (Row.sInt Syntax.w64)) Path'.refl (λ u. Path'.refl) λ u. tt) d14
 
           d16 : Typed.Typed 𝓤 H A 𝓣 E G23 b21 Δ0 at16
-          d16 = Typed.s-seq 𝓤 H A W 𝓣 E G23 G24 b9 b20 Δ0 (Typed.both s22) at15 (Plain.t-call-plain 𝓤 H A W 𝓣 0 ps·1 r·1 (claims· .2) (claims· .3) "panel::wide" (known .1) E (λ pos β. β) G23 (Num.vAt 5 λ x. x, tt) 13 List.[] (Call.sub-id 𝓤 H A W (G23 .slots)) ((Scalar.reads-sc 𝓤 H A W (Row.sInt Syntax.w8), Path'.refl), tt) (Reads.room-gone 𝓤 H A (Syntax.tyInt Syntax.w64)) tt Path'.refl) d15
+          d16 = Typed.s-seq 𝓤 H A W 𝓣 E G23 G24 b9 b20 Δ0 (Typed.both s22) at15 (Plain.t-call-plain 𝓤 H A W 𝓣 0 ps·1 r·1 (claims· .2) (claims· .3) "tables::wide" (known .1) E (λ pos β. β) G23 (Num.vAt 5 λ x. x, tt) 13 List.[] (Call.sub-id 𝓤 H A W (G23 .slots)) ((Scalar.reads-sc 𝓤 H A W (Row.sInt Syntax.w8), Path'.refl), tt) (Reads.room-gone 𝓤 H A (Syntax.tyInt Syntax.w64)) tt Path'.refl) d15
 
           d17 : Typed.Typed 𝓤 H A 𝓣 E G22 b22 Δ0 at17
           d17 = Typed.s-seq 𝓤 H A W 𝓣 E G22 G23 b8 b21 Δ0 (Typed.both s21) at16 (Plain.t-call-plain 𝓤 H A W 𝓣 1 ps·3 r·3 (claims· .6) (claims· .7) "station::kept_station" (known .3) E (λ pos β. β) G22 (record { pos = 11; st = List.[]; d = 0; at = λ x. x }, (Num.vAt 6 λ x. x, (record { pos = 4; ty = Syntax.tyRef (Syntax.named 3) Syntax.imm (Syntax.tyInt Syntax.w8); ref = λ x. x }, tt))) 12 (List._∷_ 3 List.[]) (Call.sub-id 𝓤 H A W (G22 .slots)) ((Yields.yields-copy 𝓤 H A W (λ ρ. Unit) (Declared.row Answer.the-type) Path'.refl (Copies.cEnum Answer.the-type Laws.the-laws Laws.the-copy .copy 𝓤 H A W) (Rows'.whole (Declared.row Answer.the-type)) (λ x. x) (λ x. x) (λ ρ told. Local.mem-whole 𝓤 H A W (Declared.row Answer.the-type) ρ) λ ρ told. Local.whole-mem 𝓤 H A W (Declared.row Answer.the-type) ρ, Path'.refl), ((Scalar.reads-sc 𝓤 H A W (Row.sInt Syntax.w32), Path'.refl), (ShrSlice.spares-sslice 𝓤 H A W (Referent.rtF (Referent.fInt Syntax.w8)) (Syntax.tyRef (Syntax.named 3) Syntax.imm (Syntax.tyInt Syntax.w8)) 3, Shared.reads-sslice 𝓤 H A W (Referent.rtF (Referent.fInt Syntax.w8)) (Syntax.tyRef (Syntax.named 3) Syntax.imm (Syntax.tyInt Syntax.w8)) 3, Path'.refl, tt))) (Reads.room-gone 𝓤 H A OfStation.spelt) (tt, tt) Path'.refl) d16
@@ -839,10 +839,10 @@ module _ (claims· : Claims) where
           d22 = Typed.g-pre 𝓤 H A W 𝓣 E G17 G18 b22 Δ0 (Typed.pass T17 T18 s16) at21 (Scalar.g-room 𝓤 H A W E G17 9 (Laws'.mir) (Local.room-whole 𝓤 H A W (Declared.row Request.the-type) (Laws'.mir) Path'.refl)) d21
 
           d23 : Typed.Typed 𝓤 H A 𝓣 E G16 b23 Δ0 at23
-          d23 = Typed.s-seq 𝓤 H A W 𝓣 E G16 G17 b7 b22 Δ0 (Typed.both s15) at22 (Plain.t-call-plain 𝓤 H A W 𝓣 1 ps·2 r·2 (claims· .4) (claims· .5) "panel::serve" (known .2) E (λ pos β. β) G16 (record { pos = 18; ty = Syntax.tyRef Syntax.erased Syntax.mut OfOutput.named; ref = λ x. x }, (Num.vAt 7 λ x. x, (Num.vAt 5 λ x. x, (Num.vAt 19 λ x. x, (record { pos = 9; st = List.[]; d = 0; at = λ x. x }, tt))))) 11 (List._∷_ 5 List.[]) (Call.sub-id 𝓤 H A W (G16 .slots)) (Reads.as-is 𝓤 H A (Mut.mslice (OfOutput.row) (Syntax.tyRef Syntax.erased Syntax.mut OfOutput.named) 5), Mut.reads-mslice 𝓤 H A W (OfOutput.row) (Syntax.tyRef Syntax.erased Syntax.mut OfOutput.named) 5, Path'.refl, ((Scalar.reads-sc 𝓤 H A W (Row.sInt Syntax.w64), Path'.refl), ((Scalar.reads-sc 𝓤 H A W (Row.sInt Syntax.w8), Path'.refl), ((Scalar.reads-sc 𝓤 H A W (Row.sInt Syntax.w64), Path'.refl), ((Yields.yields-copy 𝓤 H A W (λ ρ. Unit) (Declared.row Request.the-type) Path'.refl (Copies.cEnum Request.the-type Laws'.the-laws Laws'.the-copy .copy 𝓤 H A W) (Rows'.whole (Declared.row Request.the-type)) (λ x. x) (λ x. x) (λ ρ told. Local.mem-whole 𝓤 H A W (Declared.row Request.the-type) ρ) λ ρ told. Local.whole-mem 𝓤 H A W (Declared.row Request.the-type) ρ, Path'.refl), tt))))) (Reads.room-gone 𝓤 H A (Laws.mir)) (tt, tt) Path'.refl) d22
+          d23 = Typed.s-seq 𝓤 H A W 𝓣 E G16 G17 b7 b22 Δ0 (Typed.both s15) at22 (Plain.t-call-plain 𝓤 H A W 𝓣 1 ps·2 r·2 (claims· .4) (claims· .5) "tables::serve" (known .2) E (λ pos β. β) G16 (record { pos = 18; ty = Syntax.tyRef Syntax.erased Syntax.mut OfOutput.named; ref = λ x. x }, (Num.vAt 7 λ x. x, (Num.vAt 5 λ x. x, (Num.vAt 19 λ x. x, (record { pos = 9; st = List.[]; d = 0; at = λ x. x }, tt))))) 11 (List._∷_ 5 List.[]) (Call.sub-id 𝓤 H A W (G16 .slots)) (Reads.as-is 𝓤 H A (Mut.mslice (OfOutput.row) (Syntax.tyRef Syntax.erased Syntax.mut OfOutput.named) 5), Mut.reads-mslice 𝓤 H A W (OfOutput.row) (Syntax.tyRef Syntax.erased Syntax.mut OfOutput.named) 5, Path'.refl, ((Scalar.reads-sc 𝓤 H A W (Row.sInt Syntax.w64), Path'.refl), ((Scalar.reads-sc 𝓤 H A W (Row.sInt Syntax.w8), Path'.refl), ((Scalar.reads-sc 𝓤 H A W (Row.sInt Syntax.w64), Path'.refl), ((Yields.yields-copy 𝓤 H A W (λ ρ. Unit) (Declared.row Request.the-type) Path'.refl (Copies.cEnum Request.the-type Laws'.the-laws Laws'.the-copy .copy 𝓤 H A W) (Rows'.whole (Declared.row Request.the-type)) (λ x. x) (λ x. x) (λ ρ told. Local.mem-whole 𝓤 H A W (Declared.row Request.the-type) ρ) λ ρ told. Local.whole-mem 𝓤 H A W (Declared.row Request.the-type) ρ, Path'.refl), tt))))) (Reads.room-gone 𝓤 H A (Laws.mir)) (tt, tt) Path'.refl) d22
 
           d24 : Typed.Typed 𝓤 H A 𝓣 E G15 b24 Δ0 at24
-          d24 = Typed.s-seq 𝓤 H A W 𝓣 E G15 G16 b6 b23 Δ0 (Typed.both s14) at23 (Plain.t-call-plain 𝓤 H A W 𝓣 0 ps·1 r·1 (claims· .2) (claims· .3) "panel::wide" (known .1) E (λ pos β. β) G15 (Num.vAt 8 λ x. x, tt) 19 List.[] (Call.sub-id 𝓤 H A W (G15 .slots)) ((Scalar.reads-sc 𝓤 H A W (Row.sInt Syntax.w8), Path'.refl), tt) (Reads.room-gone 𝓤 H A (Syntax.tyInt Syntax.w64)) tt Path'.refl) d23
+          d24 = Typed.s-seq 𝓤 H A W 𝓣 E G15 G16 b6 b23 Δ0 (Typed.both s14) at23 (Plain.t-call-plain 𝓤 H A W 𝓣 0 ps·1 r·1 (claims· .2) (claims· .3) "tables::wide" (known .1) E (λ pos β. β) G15 (Num.vAt 8 λ x. x, tt) 19 List.[] (Call.sub-id 𝓤 H A W (G15 .slots)) ((Scalar.reads-sc 𝓤 H A W (Row.sInt Syntax.w8), Path'.refl), tt) (Reads.room-gone 𝓤 H A (Syntax.tyInt Syntax.w64)) tt Path'.refl) d23
 
           d25 : Typed.Typed 𝓤 H A 𝓣 E G14 b25 Δ0 at25
           d25 = Typed.s-seq 𝓤 H A W 𝓣 E G14 G15 b5 b24 Δ0 (Typed.ask s13) at24 (Relend.t-sl-aggregate 𝓤 H A W E (OfOutput.row) 𝓣 (Relend.asMut (OfOutput.row)) G14 17 18 5 (Syntax.tyRef Syntax.erased Syntax.mut OfOutput.named) (Syntax.tyRef Syntax.erased Syntax.mut OfOutput.named) (λ x. x) (Scalar.oFld 1 (List._∷_ (Syntax.field 1) List.[]) (Syntax.tyInt Syntax.w64) 8 λ v. Shared.lenV (v .0)) (Reads.as-is 𝓤 H A (Relend.msptr (OfOutput.row) (Syntax.tyRef Syntax.erased Syntax.mut OfOutput.named) 5)) (Reads.room-gone 𝓤 H A (Syntax.tyStruct (List._∷_ 38 (List._∷_ 91 (List._∷_ 93 List.[]))) (Syntax.tcons (Syntax.tyRef Syntax.erased Syntax.mut OfOutput.named) (Syntax.tcons (Syntax.tyInt Syntax.w64) Syntax.tnil)))) (Relend.reads-owed-len 𝓤 H A W (OfOutput.row) (Syntax.tyRef (Syntax.named 0) Syntax.mut OfOutput.named) 0 5 (Row.lease (κs .0) (qs .0)) 8 Path'.refl, Path'.refl) Path'.refl Path'.refl λ b o k. tt) d24
@@ -866,7 +866,7 @@ module _ (claims· : Claims) where
           d31 = Typed.g-pre 𝓤 H A W 𝓣 E G8 G9 b26 Δ0 (Typed.pass T8 T9 s7) at30 (Scalar.g-room 𝓤 H A W E G8 14 Syntax.tyUnit (Scalar.room-sc 𝓤 H A W Row.sUnit)) d30
 
           d32 : Typed.Typed 𝓤 H A 𝓣 E G7 b27 Δ0 at32
-          d32 = Typed.s-seq 𝓤 H A W 𝓣 E G7 G8 b3 b26 Δ0 (Typed.both s6) at31 (Plain.t-call-plain 𝓤 H A W 𝓣 1 ps·0 r·0 (claims· .0) (claims· .1) "panel::advance_outputs" (known .0) E (λ pos β. β) G7 (record { pos = 16; ty = Syntax.tyRef Syntax.erased Syntax.mut OfOutput.named; ref = λ x. x }, (Num.vAt 10 λ x. x, (Num.vAt 7 λ x. x, tt))) 14 (List._∷_ 4 List.[]) (Call.sub-id 𝓤 H A W (G7 .slots)) (Reads.as-is 𝓤 H A (Mut.mslice (OfOutput.row) (Syntax.tyRef Syntax.erased Syntax.mut OfOutput.named) 4), Mut.reads-mslice 𝓤 H A W (OfOutput.row) (Syntax.tyRef Syntax.erased Syntax.mut OfOutput.named) 4, Path'.refl, ((Scalar.reads-sc 𝓤 H A W (Row.sInt Syntax.w64), Path'.refl), ((Scalar.reads-sc 𝓤 H A W (Row.sInt Syntax.w64), Path'.refl), tt))) (Reads.room-gone 𝓤 H A Syntax.tyUnit) (tt, tt) Path'.refl) d31
+          d32 = Typed.s-seq 𝓤 H A W 𝓣 E G7 G8 b3 b26 Δ0 (Typed.both s6) at31 (Plain.t-call-plain 𝓤 H A W 𝓣 1 ps·0 r·0 (claims· .0) (claims· .1) "tables::advance_outputs" (known .0) E (λ pos β. β) G7 (record { pos = 16; ty = Syntax.tyRef Syntax.erased Syntax.mut OfOutput.named; ref = λ x. x }, (Num.vAt 10 λ x. x, (Num.vAt 7 λ x. x, tt))) 14 (List._∷_ 4 List.[]) (Call.sub-id 𝓤 H A W (G7 .slots)) (Reads.as-is 𝓤 H A (Mut.mslice (OfOutput.row) (Syntax.tyRef Syntax.erased Syntax.mut OfOutput.named) 4), Mut.reads-mslice 𝓤 H A W (OfOutput.row) (Syntax.tyRef Syntax.erased Syntax.mut OfOutput.named) 4, Path'.refl, ((Scalar.reads-sc 𝓤 H A W (Row.sInt Syntax.w64), Path'.refl), ((Scalar.reads-sc 𝓤 H A W (Row.sInt Syntax.w64), Path'.refl), tt))) (Reads.room-gone 𝓤 H A Syntax.tyUnit) (tt, tt) Path'.refl) d31
 
           d33 : Typed.Typed 𝓤 H A 𝓣 E G6 b28 Δ0 at33
           d33 = Typed.s-seq 𝓤 H A W 𝓣 E G6 G7 b2 b27 Δ0 (Typed.ask s5) at32 (Relend.t-sl-aggregate 𝓤 H A W E (OfOutput.row) 𝓣 (Relend.asMut (OfOutput.row)) G6 15 16 4 (Syntax.tyRef Syntax.erased Syntax.mut OfOutput.named) (Syntax.tyRef Syntax.erased Syntax.mut OfOutput.named) (λ x. x) (Scalar.oFld 1 (List._∷_ (Syntax.field 1) List.[]) (Syntax.tyInt Syntax.w64) 8 λ v. Shared.lenV (v .0)) (Reads.as-is 𝓤 H A (Relend.msptr (OfOutput.row) (Syntax.tyRef Syntax.erased Syntax.mut OfOutput.named) 4)) (Reads.room-gone 𝓤 H A (Syntax.tyStruct (List._∷_ 38 (List._∷_ 91 (List._∷_ 93 List.[]))) (Syntax.tcons (Syntax.tyRef Syntax.erased Syntax.mut OfOutput.named) (Syntax.tcons (Syntax.tyInt Syntax.w64) Syntax.tnil)))) (Relend.reads-owed-len 𝓤 H A W (OfOutput.row) (Syntax.tyRef (Syntax.named 0) Syntax.mut OfOutput.named) 0 4 (Row.lease (κs .0) (qs .0)) 8 Path'.refl, Path'.refl) Path'.refl Path'.refl λ b o k. tt) d32
@@ -1355,9 +1355,9 @@ module _ (claims· : Claims) where
             r·0
             (claims· .0)
             (claims· .1)
-            "panel::advance_outputs")
-            (known1 : Plain.Known 𝓤 H A W 𝓣 0 ps·1 r·1 (claims· .2) (claims· .3) "panel::wide")
-            (known2 : Plain.Known 𝓤 H A W 𝓣 1 ps·2 r·2 (claims· .4) (claims· .5) "panel::serve")
+            "tables::advance_outputs")
+            (known1 : Plain.Known 𝓤 H A W 𝓣 0 ps·1 r·1 (claims· .2) (claims· .3) "tables::wide")
+            (known2 : Plain.Known 𝓤 H A W 𝓣 1 ps·2 r·2 (claims· .4) (claims· .5) "tables::serve")
             (known3 : Plain.Known
             𝓤
             H

@@ -1,0 +1,134 @@
+// The tables that a caller lends: each record in turn, and one record taken out and put back. The functions here are thin: a record is taken out
+// of its table by value, a by-value function of the crates below does the work, and the record is put back.
+ghost use mathlib.Core.Bool.{true};
+ghost use mathlib.Core.List.{map};
+ghost use mathlib.Core.Path.{_≡_};
+ghost use Prim.Native.Nat.{_≤_, _<_, _^_};
+ghost use lib.ListN.{length, replicate, set, getD};
+ghost use Rattle.lighting.specs.Parameters.{standard};
+ghost use Rattle.lighting.specs.Fresh.{freshOutput, freshStation};
+ghost use Rattle.lighting.specs.Passing.{advance};
+ghost use Rattle.lighting.specs.Rules.{sound, stationSound};
+ghost use Rattle.lighting.specs.Acting.{served};
+ghost use Rattle.lighting.specs.Panel.{every, lent, decide};
+use lighting::Answer;
+use lighting::Output;
+use lighting::Request;
+use lighting::Station;
+use lighting::Verdict;
+
+pub fn wide(x: u8) -> usize
+    ensures { λ r. ⌜ r ≡ x ⌝ }
+{
+    x as usize
+}
+
+// ---- each record of a table
+
+pub fn fresh_outputs(outputs: &mut [Output])
+    ensures { λ _. ⌜ now (outputs .exit) ≡ replicate (length (now (outputs .entry))) freshOutput ⌝ }
+{
+    let fresh = station::fresh_output();
+    let mut i: usize = 0;
+    while i < outputs.len() {
+        outputs[i] = fresh;
+        i += 1;
+    }
+}
+
+pub fn fresh_stations(stations: &mut [Station])
+    ensures { λ _. ⌜ now (stations .exit) ≡ replicate (length (now (stations .entry))) freshStation ⌝ }
+{
+    let fresh = station::fresh_station();
+    let mut i: usize = 0;
+    while i < stations.len() {
+        stations[i] = fresh;
+        i += 1;
+    }
+}
+
+pub fn outputs_sound(outputs: &[Output], t: u64) -> bool
+    ensures { λ r. ⌜ r ≡ every (sound standard t) (now (outputs .entry)) ⌝ }
+{
+    let mut i: usize = 0;
+    while i < outputs.len() {
+        let o = outputs[i];
+        if !rules::is_sound(t, o) {
+            return false;
+        }
+        i += 1;
+    }
+    true
+}
+
+pub fn stations_sound(stations: &[Station]) -> bool
+    ensures { λ r. ⌜ r ≡ every stationSound (now (stations .entry)) ⌝ }
+{
+    let mut i: usize = 0;
+    while i < stations.len() {
+        let k = stations[i];
+        if !station::station_sound(k) {
+            return false;
+        }
+        i += 1;
+    }
+    true
+}
+
+// Brings one output to a moment. Where nothing falls due on the way only its burning time changes.
+fn advance_output(outputs: &mut [Output], i: usize, from: u64, to: u64)
+    requires { ⌜ i < length (now outputs) ⌝ }
+    ensures { λ _. ⌜ now (outputs .exit) ≡ set (now (outputs .entry)) i (advance from to (getD (now (outputs .entry)) i freshOutput)) ⌝ }
+{
+    let o = outputs[i];
+    if passing::is_later(to, o) {
+        let n = passing::rest(from, to, o);
+        outputs[i] = n;
+        return;
+    }
+    let n = passing::hop_thrice(from, to, o);
+    outputs[i] = n;
+}
+
+// Brings every output to a moment. While time stands nothing falls due, and no record is written.
+pub fn advance_outputs(outputs: &mut [Output], from: u64, to: u64)
+    requires { ⌜ every (sound standard from) (now outputs) ≡ true ⌝ }
+    requires { ⌜ from ≤ to ⌝ }
+    ensures { λ _. ⌜ now (outputs .exit) ≡ map (advance from to) (now (outputs .entry)) ⌝ }
+{
+    if to <= from {
+        return;
+    }
+    let mut i: usize = 0;
+    while i < outputs.len() {
+        advance_output(outputs, i, from, to);
+        i += 1;
+    }
+}
+
+// ---- one record of a table
+
+// The output is taken out, acted on, and put back.
+pub fn serve(outputs: &mut [Output], t: u64, s: u8, i: usize, r: Request) -> Answer
+    requires { ⌜ t < 2 ^ 48 ⌝ }
+    requires { ⌜ i < length (now outputs) ⌝ }
+    ensures { λ a. ⌜ a ≡ served t (now (outputs .entry)) s i r .answer ⌝ }
+    ensures { λ _. ⌜ now (outputs .exit) ≡ served t (now (outputs .entry)) s i r .outputs ⌝ }
+{
+    let o = outputs[i];
+    let done = acting::act(t, o, r);
+    let n = acting::outcome_output(done);
+    outputs[i] = n;
+    acting::outcome_answer(done)
+}
+
+// What is to be done with the bytes, by the record of the station that they name.
+pub fn judge(outputs: &[Output], stations: &[Station], t: u64, bytes: &[u8]) -> Verdict
+    requires { ⌜ length (now stations) ≡ 8 ⌝ }
+    ensures { λ v. ⌜ v ≡ decide standard (lent (now (outputs .entry)) (now (stations .entry)) t) (now (bytes .entry)) ⌝ }
+{
+    let f = frame::parse(outputs.len(), bytes);
+    let s = wide(station::station_of(f));
+    let k = stations[s];
+    station::met_by(t, k, bytes, f)
+}
