@@ -2,3 +2,5 @@ pub mod Lent
 pub mod Named
 pub mod Ends
 pub mod Spelled
+pub mod Through
+pub mod Parts

@@ -1,16 +1,19 @@
 -- A line of a list, taken: what it does to the tables, and the text that it writes. The tables stand ready for 64 outputs; the panel is the first
 -- so many of them, and the rest stand by. Definitions only.
 use mathlib.Core.Bool.{Bool, true, false}
-use mathlib.Core.List.{List, [], _++_}
+use lib.Dec.{eqb}
+use mathlib.Core.List.{List, [], _∷_, _++_}
+use mathlib.Core.Path.{_≡_}
 use Prim.Native.Nat.{ℕ}
 use lib.ListN.{take, drop}
+use Rattle.lighting.specs.Choice.{if_then_else_}
 use Rattle.lighting.specs.Parameters.{standard}
 use Rattle.lighting.specs.Frames.{Bytes}
 use Rattle.lighting.specs.Panel.{Panel, Step, lent, started, framed}
 use Rattle.reading.specs.declared.Line.{Line}
 use Rattle.reading.specs.declared.Line.the-variants.{Nothing, Outputs, Frame, Wrong}
 use Rattle.reading.specs.declared.Reader.{Reader}
-use Rattle.reading.specs.Reading.{lineOf, content, nextLine, withOutputs}
+use Rattle.reading.specs.Reading.{lineOf, content, nextLine, withOutputs, feed, freshReader}
 use Rattle.printing.specs.Writing.{answerLine}
 use Rattle.faults.specs.Faults.{faultLine}
 
@@ -56,3 +59,40 @@ takenBy p w (Wrong f) = record { panel = p; text = faultLine (w .line) f; reader
 -- a line that the reader has come to the end of
 unfoldable pub taken : Panel → Reader → Taken
 taken p w = takenBy p w (lineOf (w .held))
+
+-- A TEXT, character after character: a newline ends a line, and a bad line ends the list. What the tables and the reader are then, and whether
+-- every line was a good one
+pub record Through : Type 0 where
+  pub panel : Panel
+  pub reader : Reader
+  pub good : Bool
+
+unfoldable pub through : Panel → Reader → Bytes → Through
+through p w [] = record { panel = p; reader = w; good = true }
+through p w (c ∷ x) =
+    if eqb c 10
+    then (
+    if taken p w .good
+    then through (taken p w .panel) (taken p w .reader) x
+    else record { panel = taken p w .panel; reader = taken p w .reader; good = false }
+    )
+    else through p (feed w c) x
+
+-- Some text came, and the tables p and the reader w came to q and v; g says whether every line was a good one. Which text, no definition says: it
+-- comes from outside
+pub record Went (p : Panel) (w : Reader) (q : Panel) (v : Reader) (g : Bool) : Type 0 where
+  pub came : Bytes
+  pub panel : q ≡ through p w came .panel
+  pub reader : v ≡ through p w came .reader
+  pub good : g ≡ through p w came .good
+
+-- ALL OF A LIST'S TEXT: the last line may lack its newline
+unfoldable pub finished : Panel → Bytes → Panel
+finished p x =
+    if through p freshReader x .good
+    then taken (through p freshReader x .panel) (through p freshReader x .reader) .panel
+    else through p freshReader x .panel
+
+pub record Replayed (p q : Panel) : Type 0 where
+  pub came : Bytes
+  pub panel : q ≡ finished p came

@@ -4,6 +4,9 @@
 // Thin: the crate `line` takes each line, `reading` its characters, and `found` says what is found. Input and output go by
 // pages of 64 KiB, so that memory does not grow with the list.
 ghost use mathlib.Core.Path.{_≡_};
+ghost use Rattle.lighting.specs.Panel.{lent};
+ghost use Rattle.reading.specs.Reading.{freshReader};
+ghost use Rattle.line.specs.Taking.{taken, through, Went, Replayed};
 use lighting::Output;
 use lighting::Station;
 use reading::Reader;
@@ -24,7 +27,7 @@ fn wide(n: u8) -> usize
 
 // ---- the list
 
-// The lines that end in these bytes are taken.
+// The lines that end in these bytes are taken. A page that is full is written out on the way.
 fn take_chunk(
     outputs: &mut [Output],
     stations: &mut [Station],
@@ -33,7 +36,11 @@ fn take_chunk(
     mark: usize,
     r: Reader,
     s: &[u8],
-) -> Turn {
+) -> Turn
+    ensures { λ t. ⌜ t .reader ≡ through (lent (now (outputs .entry)) (now (stations .entry)) (now (time .entry))) r (now (s .entry)) .reader ⌝ }
+    ensures { λ t. ⌜ t .good ≡ through (lent (now (outputs .entry)) (now (stations .entry)) (now (time .entry))) r (now (s .entry)) .good ⌝ }
+    ensures { λ _. ⌜ lent (now (outputs .exit)) (now (stations .exit)) (now (time .exit)) ≡ through (lent (now (outputs .entry)) (now (stations .entry)) (now (time .entry))) r (now (s .entry)) .panel ⌝ }
+{
     let mut reader = r;
     let mut at = mark;
     let mut i: usize = 0;
@@ -75,7 +82,9 @@ fn take_some(
     chunk: &mut [u8],
     mark: usize,
     r: Reader,
-) -> Turn {
+) -> Turn
+    ensures { λ t. ⌜ Went (lent (now (outputs .entry)) (now (stations .entry)) (now (time .entry))) r (lent (now (outputs .exit)) (now (stations .exit)) (now (time .exit))) (t .reader) (t .good) ⌝ }
+{
     let got = libc::read(0, chunk);
     let n = io::count(got, chunk);
     if n == 0 {
@@ -96,7 +105,9 @@ fn take_all(
     time: &mut u64,
     page: &mut [u8],
     chunk: &mut [u8],
-) -> Turn {
+) -> Turn
+    ensures { λ t. ⌜ Went (lent (now (outputs .entry)) (now (stations .entry)) (now (time .entry))) freshReader (lent (now (outputs .exit)) (now (stations .exit)) (now (time .exit))) (t .reader) (t .good) ⌝ }
+{
     let mut reader = reading::fresh_reader();
     let mut mark: usize = 0;
     let mut turns: u64 = 18446744073709551615;
@@ -150,7 +161,9 @@ fn end_list(
     mark: usize,
     r: Reader,
     report: bool,
-) -> usize {
+) -> usize
+    ensures { λ _. ⌜ lent (now (outputs .exit)) (now (stations .exit)) (now (time .exit)) ≡ taken (lent (now (outputs .entry)) (now (stations .entry)) (now (time .entry))) r .panel ⌝ }
+{
     let t = line::take_line(outputs, stations, time, page, mark, r);
     if t.good {
         let last = t.reader;
@@ -167,7 +180,9 @@ fn replay(
     page: &mut [u8],
     chunk: &mut [u8],
     report: bool,
-) {
+)
+    ensures { λ _. ⌜ Replayed (lent (now (outputs .entry)) (now (stations .entry)) (now (time .entry))) (lent (now (outputs .exit)) (now (stations .exit)) (now (time .exit))) ⌝ }
+{
     let t = take_all(outputs, stations, time, page, chunk);
     if t.good {
         let reader = t.reader;

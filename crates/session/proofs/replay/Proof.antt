@@ -1,6 +1,7 @@
 mod Lts
 mod Tie
 use borrow.Author.Needs.{needs}
+use Rattle.line.proofs.Parts.{went-is, replayed, replayed-bad}
 use Rattle.session.proofs.replay.Statement.{statement}
 use Rattle.session.proofs.replay.Proof.Tie as tie
 use Rattle.session.proofs.Lent.replay.Reads as reads
@@ -31,7 +32,7 @@ same-length-4 : tie.Need-same-length-4
 same-length-4 c = search needs
 
 returns : tie.Need-returns
-returns c = search needs
+returns c = replayed (went-is (c .before .before .before .before .before .before .before .before .before .before .before .before .if1 .taken) (c .before .before .before .before .before .before .before .before .before .before .before .before .before .before .before .before .before .before .before .take-all .ensures)) (c .before .before .before .before .before .before .end-list .ensures)
 
 same-length-5 : tie.Need-same-length-5
 same-length-5 c = search needs
@@ -46,7 +47,7 @@ same-length-8 : tie.Need-same-length-8
 same-length-8 c = search needs
 
 returns-2 : tie.Need-returns-2
-returns-2 c = search needs
+returns-2 c = replayed-bad (went-is (c .before .before .if1 .left) (c .before .before .before .before .before .before .before .before .before .take-all .ensures))
 
 pub replay-spec : {M : Type 1} → statement M
 replay-spec =

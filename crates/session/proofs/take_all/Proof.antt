@@ -1,15 +1,23 @@
-use mathlib.Core.Path.{_≡_}
+use mathlib.Core.Path.{_≡_, refl}
+use mathlib.Core.Bool.{true}
 use lib.ListN.{length}
+use Rattle.lighting.specs.Panel.{lent}
+use Rattle.reading.specs.Reading.{freshReader}
+use Rattle.line.specs.Taking.{Went}
+use Rattle.line.proofs.Parts.{went-none, went-is, went-then}
 mod Lts
 mod Tie
 use borrow.Author.Needs.{needs}
+use borrow.Author.Tests.{not-false}
 use Rattle.session.proofs.take_all.Statement.{statement}
 use Rattle.session.proofs.take_all.Proof.Tie as tie
 use Rattle.session.proofs.Lent.take_all.Reads as reads
 use Rattle.session.proofs.take_all.Proof.Lts as lts
 
 abbrev Inv-loop : tie.InvT-loop
-Inv-loop outputs₀ stations₀ time₀ page₀ chunk₀ reader₀ mark₀ turns₀ outputs stations time page chunk reader mark turns = (length outputs ≡ length outputs₀) × (length stations ≡ length stations₀) × (length page ≡ length page₀) × (length chunk ≡ length chunk₀)
+Inv-loop outputs₀ stations₀ time₀ page₀ chunk₀ reader₀ mark₀ turns₀ outputs stations time page chunk reader mark turns =
+    ((length outputs ≡ length outputs₀) × (length stations ≡ length stations₀) × (length page ≡ length page₀) × (length chunk ≡ length chunk₀))
+    × Went (lent outputs₀ stations₀ time₀) freshReader (lent outputs stations time) reader true
 
 abbrev μ-loop : tie.MeasureT-loop
 μ-loop outputs₀ stations₀ time₀ page₀ chunk₀ reader₀ mark₀ turns₀ outputs stations time page chunk reader mark turns = turns
@@ -18,7 +26,7 @@ fresh-reader-requires : tie.Need-fresh-reader-requires Inv-loop μ-loop
 fresh-reader-requires c κs = search needs
 
 loop-holds : tie.Need-loop-holds Inv-loop μ-loop
-loop-holds c = search needs
+loop-holds c = ((refl, refl, refl, refl), rw (c .fresh-reader .ensures) (went-none _ _))
 
 sub-turns : tie.Need-sub-turns Inv-loop μ-loop
 sub-turns c = search needs
@@ -39,7 +47,7 @@ same-length-4 : tie.Need-same-length-4 Inv-loop μ-loop
 same-length-4 c = search needs
 
 returns : tie.Need-returns Inv-loop μ-loop
-returns c = search needs
+returns c = went-then (c .before .before .before .before .before .before .before .before .before .before .before .before .before .before .before .before .loop .inv .1) (c .before .before .before .before .before .before .before .before .before .take-some .ensures)
 
 same-length-5 : tie.Need-same-length-5 Inv-loop μ-loop
 same-length-5 c = search needs
@@ -54,13 +62,16 @@ same-length-8 : tie.Need-same-length-8 Inv-loop μ-loop
 same-length-8 c = search needs
 
 returns-2 : tie.Need-returns-2 Inv-loop μ-loop
-returns-2 c = search needs
+returns-2 c = went-then (c .before .before .before .before .before .before .before .before .before .before .before .before .before .before .before .before .before .before .loop .inv .1) (c .before .before .before .before .before .before .before .before .before .before .before .take-some .ensures)
 
 loop-less : tie.Need-loop-less Inv-loop μ-loop
 loop-less c = search needs
 
 loop-again : tie.Need-loop-again Inv-loop μ-loop
-loop-again c = search needs
+loop-again c =
+    let k = c .before .before .before .before .before .before .before .before .before .before .before .take-some in
+    let g = c .before .before .before .before .before .before .before .before .before .before .before .before .before .before .before .before .before .before .loop in
+    (search needs, went-then (g .inv .1) (went-is (not-false (k .result .good) (c .before .before .if1 .left)) (k .ensures)))
 
 same-length-9 : tie.Need-same-length-9 Inv-loop μ-loop
 same-length-9 c = search needs
@@ -75,7 +86,7 @@ same-length-12 : tie.Need-same-length-12 Inv-loop μ-loop
 same-length-12 c = search needs
 
 returns-3 : tie.Need-returns-3 Inv-loop μ-loop
-returns-3 c = search needs
+returns-3 c = c .before .loop .inv .1
 
 pub take-all-spec : {M : Type 1} → statement M
 take-all-spec =

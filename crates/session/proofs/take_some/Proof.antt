@@ -1,6 +1,7 @@
 mod Lts
 mod Tie
 use borrow.Author.Needs.{needs}
+use Rattle.line.proofs.Parts.{went-none}
 use Rattle.session.proofs.take_some.Statement.{statement}
 use Rattle.session.proofs.take_some.Proof.Tie as tie
 use Rattle.session.proofs.Lent.take_some.Reads as reads
@@ -16,7 +17,7 @@ same-length : tie.Need-same-length
 same-length c = search needs
 
 returns : tie.Need-returns
-returns c = search needs
+returns c = went-none _ _
 
 sub-take-chunk : tie.Need-sub-take-chunk
 sub-take-chunk c = search needs

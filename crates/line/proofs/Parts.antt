@@ -1,0 +1,46 @@
+-- A text that comes in parts goes through as the whole does. Assumes nothing.
+use mathlib.Core.Path.{_≡_, refl, sym, ap, _∙_}
+use mathlib.Core.Bool.{Bool, true, false, false≢true}
+use mathlib.Core.List.{List, [], _∷_, _++_}
+use lib.Dec.{eqb}
+use Rattle.lighting.specs.Choice.{if_then_else_}
+use Rattle.lighting.specs.Frames.{Bytes}
+use Rattle.lighting.specs.Panel.{Panel}
+use Rattle.lighting.proofs.Split.{by-bool}
+use Rattle.reading.specs.declared.Reader.{Reader}
+use Rattle.reading.specs.Reading.{feed, freshReader}
+use Rattle.line.specs.Taking.{taken, Through, through, Went, finished, Replayed}
+
+through-append : (p : Panel) (w : Reader) (x y : Bytes) → through p w x .good ≡ true → through p w (x ++ y) ≡ through (through p w x .panel) (through p w x .reader) y
+unfolding through if_then_else_
+through-append p w [] y h = refl
+through-append p w (c ∷ x) y h =
+    by-bool (eqb c 10)
+    (λ e.
+    by-bool (taken p w .good)
+    (λ g. rw (e, g) (through-append (taken p w .panel) (taken p w .reader) x y (rw (e, g) at h)))
+    (λ g. absurd (false≢true (rw (e, g) at h))))
+    (λ e. rw e (through-append p (feed w c) x y (rw e at h)))
+
+-- nothing came
+pub went-none : (p : Panel) (w : Reader) → Went p w p w true
+unfolding through
+went-none p w = record { came = []; panel = refl; reader = refl; good = refl }
+
+pub went-is : {p q : Panel} {w v : Reader} {g h : Bool} → g ≡ h → Went p w q v g → Went p w q v h
+went-is e f = rw e at f
+
+-- more came
+pub went-then : {p q u : Panel} {w v t : Reader} {g : Bool} → Went p w q v true → Went q v u t g → Went p w u t g
+went-then {p} {q} {u} {w} {v} {t} {g} f n =
+    let e : through p w (f .came ++ n .came) ≡ through q v (n .came) = rw (f .panel, f .reader) (through-append p w (f .came) (n .came) (sym (f .good))) in
+    record { came = f .came ++ n .came; panel = rw e (n .panel); reader = rw e (n .reader); good = rw e (n .good) }
+
+-- the end: the last line is taken, or a bad line ended the list
+pub replayed : {p q u : Panel} {v : Reader} → Went p freshReader q v true → u ≡ taken q v .panel → Replayed p u
+unfolding finished if_then_else_
+replayed f e = record { came = f .came; panel = rw (← f .good, ← f .panel, ← f .reader) e }
+
+pub replayed-bad : {p q : Panel} {v : Reader} → Went p freshReader q v false → Replayed p q
+unfolding finished if_then_else_
+replayed-bad f = record { came = f .came; panel = rw (← f .good) (f .panel) }
