@@ -1,5 +1,8 @@
 // What is found of every output, on pages of text that are written to standard output: a block for each output, or a line of the report.
 ghost use mathlib.Core.Path.{_≡_};
+ghost use lib.ListN.{length};
+ghost use Rattle.printing.specs.Page.{Wrote};
+ghost use Rattle.found.specs.Found.{foundHead, foundOutput, roomy, marked};
 use libc::STDOUT_FILENO;
 use lighting::Output;
 
@@ -14,12 +17,22 @@ pub fn flush(page: &[u8], mark: usize) {
     io::write_all(STDOUT_FILENO, &page[0..n]);
 }
 
+fn has_room(size: usize, mark: usize) -> bool
+    ensures { λ r. ⌜ r ≡ roomy size mark ⌝ }
+{
+    if mark < size {
+        ROOM < size - mark
+    } else {
+        false
+    }
+}
+
 // The mark of a page with room for more: a page that has too little is written out.
-pub fn with_room(page: &[u8], mark: usize) -> usize {
-    if mark < page.len() {
-        if ROOM < page.len() - mark {
-            return mark;
-        }
+pub fn with_room(page: &[u8], mark: usize) -> usize
+    ensures { λ r. ⌜ r ≡ marked (length (now (page .entry))) mark ⌝ }
+{
+    if has_room(page.len(), mark) {
+        return mark;
     }
     flush(page, mark);
     0
@@ -27,7 +40,10 @@ pub fn with_room(page: &[u8], mark: usize) -> usize {
 
 // ---- what is found
 
-fn put_output(page: &mut [u8], at: usize, report: bool, i: u64, time: u64, o: Output) -> usize {
+// An output: its block of lines, or its line of the report.
+fn put_output(page: &mut [u8], at: usize, report: bool, i: u64, time: u64, o: Output) -> usize
+    ensures { λ r. ⌜ Wrote (now (page .entry)) at (foundOutput report i time o) (now (page .exit)) r ⌝ }
+{
     if report {
         report::put_report_line(page, at, i, time, o)
     } else {
@@ -35,7 +51,10 @@ fn put_output(page: &mut [u8], at: usize, report: bool, i: u64, time: u64, o: Ou
     }
 }
 
-fn put_head(page: &mut [u8], at: usize, report: bool, time: u64) -> usize {
+// The line `--`, and the report's head.
+fn put_head(page: &mut [u8], at: usize, report: bool, time: u64) -> usize
+    ensures { λ r. ⌜ Wrote (now (page .entry)) at (foundHead report time) (now (page .exit)) r ⌝ }
+{
     let mark = printing::put_all(page, at, b"--\n");
     if report {
         report::put_report_head(page, mark, time)
@@ -44,6 +63,7 @@ fn put_head(page: &mut [u8], at: usize, report: bool, time: u64) -> usize {
     }
 }
 
+// Every output of the panel, on as many pages as it takes.
 pub fn put_found(
     outputs: &[Output],
     n: usize,

@@ -13,96 +13,74 @@ use Rattle.answers.proofs.show.Reads as show-reads
 use Rattle.writing.proofs.vacate.Reads as vacate-reads
 use Rattle.writing.proofs.write.Reads as write-reads
 
--- src/lib.rt:61:25
 enum-known-q : tie.Need-enum-known-q
 enum-known-q c = search needs
 
--- src/lib.rt:61:36
 leave-requires : tie.Need-leave-requires
 leave-requires c κs = search needs
 
--- src/lib.rt:62:26
 enum-known-q-2 : tie.Need-enum-known-q-2
 enum-known-q-2 c = search needs
 
--- src/lib.rt:62:48
 write-requires : tie.Need-write-requires
 write-requires c κs = search needs
 
--- src/lib.rt:62:43
 make-requires : tie.Need-make-requires
 make-requires c κs = search needs
 
--- src/lib.rt:63:26
 enum-known-q-3 : tie.Need-enum-known-q-3
 enum-known-q-3 c = search needs
 
--- src/lib.rt:63:41
 vacate-requires : tie.Need-vacate-requires
 vacate-requires c κs = search needs
 
--- src/lib.rt:63:36
 make-requires-2 : tie.Need-make-requires-2
 make-requires-2 c κs = search needs
 
--- src/lib.rt:64:25
 enum-known-q-4 : tie.Need-enum-known-q-4
 enum-known-q-4 c = search needs
 
--- src/lib.rt:64:31
 change-requires : tie.Need-change-requires
 change-requires c κs = search needs
 
--- src/lib.rt:65:23
 enum-known-q-5 : tie.Need-enum-known-q-5
 enum-known-q-5 c = search needs
 
--- src/lib.rt:65:45
 show-requires : tie.Need-show-requires
 show-requires c κs = search needs
 
--- src/lib.rt:65:36
 leave-requires-2 : tie.Need-leave-requires-2
 leave-requires-2 c κs = search needs
 
--- src/lib.rt:66:24
 enum-known-q-6 : tie.Need-enum-known-q-6
 enum-known-q-6 c = search needs
 
--- src/lib.rt:66:35
 command-requires : tie.Need-command-requires
 command-requires c κs = search needs
 
--- src/lib.rt:66:30
 make-requires-3 : tie.Need-make-requires-3
 make-requires-3 c κs = search needs
 
--- src/lib.rt:56:1
 returns : tie.Need-returns
 unfolding acted
 returns c = search (needs, acted-on)
 
--- src/lib.rt:56:1
 returns-2 : tie.Need-returns-2
 unfolding acted
 returns-2 c = search (needs, acted-on, ← c .before .write .ensures)
 
--- src/lib.rt:56:1
 returns-3 : tie.Need-returns-3
 unfolding acted
 returns-3 c = search (needs, acted-on, ← c .before .vacate .ensures)
 
--- src/lib.rt:56:1
 returns-4 : tie.Need-returns-4
 unfolding acted
 returns-4 c = search (needs, acted-on)
 
--- src/lib.rt:56:1
 returns-5 : tie.Need-returns-5
 unfolding acted
 returns-5 c = search (needs, acted-on, ← c .before .show .ensures)
 
--- src/lib.rt:56:1
 returns-6 : tie.Need-returns-6
 unfolding acted
 returns-6 c = search (needs, acted-on, ← c .before .command .ensures)

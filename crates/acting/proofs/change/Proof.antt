@@ -7,19 +7,15 @@ use Rattle.acting.proofs.change_unless.Reads as change-unless-reads
 use Rattle.properties.proofs.settings.min_over_max.Reads as min-over-max-reads
 use Rattle.properties.proofs.settings.settings_with.Reads as settings-with-reads
 
--- src/lib.rt:50:44
 settings-with-requires : tie.Need-settings-with-requires
 settings-with-requires c κs = search needs
 
--- src/lib.rt:50:9
 min-over-max-requires : tie.Need-min-over-max-requires
 min-over-max-requires c κs = search needs
 
--- src/lib.rt:49:5
 change-unless-requires : tie.Need-change-unless-requires
 change-unless-requires c κs = search needs
 
--- src/lib.rt:45:1
 returns : tie.Need-returns
 returns c = simp (c .change-unless .ensures, c .before .min-over-max .ensures, c .before .before .settings-with .ensures)
 

@@ -9,24 +9,19 @@ use Rattle.acting.proofs.leave.Reads as leave-reads
 use Rattle.acting.proofs.make.Reads as make-reads
 use Rattle.properties.proofs.settings.change.Reads as change-reads
 
--- src/lib.rt:38:9
 leave-requires : tie.Need-leave-requires
 leave-requires c κs = search needs
 
--- src/lib.rt:40:14
 change-requires : tie.Need-change-requires
 change-requires c κs = search needs
 
--- src/lib.rt:40:9
 make-requires : tie.Need-make-requires
 make-requires c κs = search needs
 
--- src/lib.rt:34:1
 returns : tie.Need-returns
 unfolding changedUnless
 returns c = search (needs, ifs)
 
--- src/lib.rt:34:1
 returns-2 : tie.Need-returns-2
 unfolding changedUnless
 returns-2 c = search (needs, ifs, ← c .before .change .ensures)

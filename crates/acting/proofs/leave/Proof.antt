@@ -5,7 +5,6 @@ use Rattle.acting.proofs.leave.Tie as tie
 use Rattle.acting.proofs.leave.Reads as reads
 use Rattle.acting.proofs.leave.Lts as lts
 
--- src/lib.rt:24:1
 returns : tie.Need-returns
 unfolding left
 returns c = search needs

@@ -6,11 +6,9 @@ use Rattle.acting.proofs.make.Reads as reads
 use Rattle.acting.proofs.make.Lts as lts
 use Rattle.passing.proofs.settle.Reads as settle-reads
 
--- src/lib.rt:18:17
 settle-requires : tie.Need-settle-requires
 settle-requires c κs = search needs
 
--- src/lib.rt:14:1
 returns : tie.Need-returns
 unfolding made
 returns c = simp (c .settle .ensures)

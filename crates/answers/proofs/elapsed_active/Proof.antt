@@ -6,16 +6,13 @@ use Rattle.answers.proofs.elapsed_active.Tie as tie
 use Rattle.answers.proofs.elapsed_active.Reads as reads
 use Rattle.answers.proofs.elapsed_active.Lts as lts
 
--- src/answers.rt:46:9
 cast-result : tie.Need-cast-result
 cast-result c = search needs
 
--- src/answers.rt:41:1
 returns : tie.Need-returns
 unfolding elapsedActive
 returns c = search (needs, ifs)
 
--- src/answers.rt:41:1
 returns-2 : tie.Need-returns-2
 unfolding elapsedActive
 returns-2 c = search (needs, ifs)

@@ -6,12 +6,10 @@ use Rattle.answers.proofs.flag.Tie as tie
 use Rattle.answers.proofs.flag.Reads as reads
 use Rattle.answers.proofs.flag.Lts as lts
 
--- src/answers.rt:27:1
 returns : tie.Need-returns
 unfolding flag
 returns c = search (needs, ifs)
 
--- src/answers.rt:27:1
 returns-2 : tie.Need-returns-2
 unfolding flag
 returns-2 c = search (needs, ifs)

@@ -7,29 +7,23 @@ use Rattle.answers.proofs.last_duration.Tie as tie
 use Rattle.answers.proofs.last_duration.Reads as reads
 use Rattle.answers.proofs.last_duration.Lts as lts
 
--- src/answers.rt:154:25
 enum-known-d : tie.Need-enum-known-d
 enum-known-d c = search needs
 
--- src/answers.rt:155:30
 enum-told : tie.Need-enum-told
 enum-told c = search needs
 
--- src/answers.rt:156:30
 enum-told-2 : tie.Need-enum-told-2
 enum-told-2 c = search needs
 
--- src/answers.rt:150:1
 returns : tie.Need-returns
 unfolding lastDuration
 returns c = search (needs, ifs, lastDuration-on)
 
--- src/answers.rt:150:1
 returns-2 : tie.Need-returns-2
 unfolding lastDuration
 returns-2 c = search (needs, ifs, lastDuration-on)
 
--- src/answers.rt:150:1
 returns-3 : tie.Need-returns-3
 unfolding lastDuration
 returns-3 c = search (needs, ifs, lastDuration-on)

@@ -7,101 +7,79 @@ use Rattle.answers.proofs.last_fade_time.Tie as tie
 use Rattle.answers.proofs.last_fade_time.Reads as reads
 use Rattle.answers.proofs.last_fade_time.Lts as lts
 
--- src/answers.rt:136:28
 enum-told : tie.Need-enum-told
 enum-told c = search needs
 
--- src/answers.rt:137:33
 enum-told-2 : tie.Need-enum-told-2
 enum-told-2 c = search needs
 
--- src/answers.rt:138:34
 enum-known-k : tie.Need-enum-known-k
 enum-known-k c = search needs
 
--- src/answers.rt:139:33
 enum-told-3 : tie.Need-enum-told-3
 enum-told-3 c = search needs
 
--- src/answers.rt:140:42
 enum-told-4 : tie.Need-enum-told-4
 enum-told-4 c = search needs
 
--- src/answers.rt:141:30
 enum-told-5 : tie.Need-enum-told-5
 enum-told-5 c = search needs
 
--- src/answers.rt:142:32
 enum-told-6 : tie.Need-enum-told-6
 enum-told-6 c = search needs
 
--- src/answers.rt:143:35
 enum-told-7 : tie.Need-enum-told-7
 enum-told-7 c = search needs
 
--- src/answers.rt:144:37
 enum-told-8 : tie.Need-enum-told-8
 enum-told-8 c = search needs
 
--- src/answers.rt:145:31
 enum-told-9 : tie.Need-enum-told-9
 enum-told-9 c = search needs
 
--- src/answers.rt:146:34
 enum-told-10 : tie.Need-enum-told-10
 enum-told-10 c = search needs
 
--- src/answers.rt:132:1
 returns : tie.Need-returns
 unfolding lastFadeTime
 returns c = search (needs, ifs, lastFadeTime-on)
 
--- src/answers.rt:132:1
 returns-2 : tie.Need-returns-2
 unfolding lastFadeTime
 returns-2 c = search (needs, ifs, lastFadeTime-on)
 
--- src/answers.rt:132:1
 returns-3 : tie.Need-returns-3
 unfolding lastFadeTime
 returns-3 c = search (needs, ifs, lastFadeTime-on)
 
--- src/answers.rt:132:1
 returns-4 : tie.Need-returns-4
 unfolding lastFadeTime
 returns-4 c = search (needs, ifs, lastFadeTime-on)
 
--- src/answers.rt:132:1
 returns-5 : tie.Need-returns-5
 unfolding lastFadeTime
 returns-5 c = search (needs, ifs, lastFadeTime-on)
 
--- src/answers.rt:132:1
 returns-6 : tie.Need-returns-6
 unfolding lastFadeTime
 returns-6 c = search (needs, ifs, lastFadeTime-on)
 
--- src/answers.rt:132:1
 returns-7 : tie.Need-returns-7
 unfolding lastFadeTime
 returns-7 c = search (needs, ifs, lastFadeTime-on)
 
--- src/answers.rt:132:1
 returns-8 : tie.Need-returns-8
 unfolding lastFadeTime
 returns-8 c = search (needs, ifs, lastFadeTime-on)
 
--- src/answers.rt:132:1
 returns-9 : tie.Need-returns-9
 unfolding lastFadeTime
 returns-9 c = search (needs, ifs, lastFadeTime-on)
 
--- src/answers.rt:132:1
 returns-10 : tie.Need-returns-10
 unfolding lastFadeTime
 returns-10 c = search (needs, ifs, lastFadeTime-on)
 
--- src/answers.rt:132:1
 returns-11 : tie.Need-returns-11
 unfolding lastFadeTime
 returns-11 c = search (needs, ifs, lastFadeTime-on)

@@ -8,121 +8,94 @@ use Rattle.answers.proofs.last_level.Reads as reads
 use Rattle.answers.proofs.last_level.Lts as lts
 use Rattle.answers.proofs.real_answer.Reads as real-answer-reads
 
--- src/answers.rt:82:28
 enum-told : tie.Need-enum-told
 enum-told c = search needs
 
--- src/answers.rt:83:27
 enum-known-k : tie.Need-enum-known-k
 enum-known-k c = search needs
 
--- src/answers.rt:83:33
 real-answer-requires : tie.Need-real-answer-requires
 real-answer-requires c κs = search needs
 
--- src/answers.rt:84:31
 enum-known-k-2 : tie.Need-enum-known-k-2
 enum-known-k-2 c = search needs
 
--- src/answers.rt:84:40
 real-answer-requires-2 : tie.Need-real-answer-requires-2
 real-answer-requires-2 c κs = search needs
 
--- src/answers.rt:85:27
 enum-known-k-3 : tie.Need-enum-known-k-3
 enum-known-k-3 c = search needs
 
--- src/answers.rt:85:33
 real-answer-requires-3 : tie.Need-real-answer-requires-3
 real-answer-requires-3 c κs = search needs
 
--- src/answers.rt:86:33
 enum-known-k-4 : tie.Need-enum-known-k-4
 enum-known-k-4 c = search needs
 
--- src/answers.rt:86:42
 real-answer-requires-4 : tie.Need-real-answer-requires-4
 real-answer-requires-4 c κs = search needs
 
--- src/answers.rt:87:30
 enum-told-2 : tie.Need-enum-told-2
 enum-told-2 c = search needs
 
--- src/answers.rt:88:32
 enum-told-3 : tie.Need-enum-told-3
 enum-told-3 c = search needs
 
--- src/answers.rt:89:35
 enum-told-4 : tie.Need-enum-told-4
 enum-told-4 c = search needs
 
--- src/answers.rt:90:37
 enum-told-5 : tie.Need-enum-told-5
 enum-told-5 c = search needs
 
--- src/answers.rt:91:25
 enum-known-k-5 : tie.Need-enum-known-k-5
 enum-known-k-5 c = search needs
 
--- src/answers.rt:91:31
 real-answer-requires-5 : tie.Need-real-answer-requires-5
 real-answer-requires-5 c κs = search needs
 
--- src/answers.rt:92:34
 enum-told-6 : tie.Need-enum-told-6
 enum-told-6 c = search needs
 
--- src/answers.rt:78:1
 returns : tie.Need-returns
 unfolding lastLevel
 returns c = search (needs, ifs, lastLevel-on)
 
--- src/answers.rt:78:1
 returns-2 : tie.Need-returns-2
 unfolding lastLevel
 returns-2 c = search (needs, ifs, lastLevel-on)
 
--- src/answers.rt:78:1
 returns-3 : tie.Need-returns-3
 unfolding lastLevel
 returns-3 c = search (needs, ifs, lastLevel-on)
 
--- src/answers.rt:78:1
 returns-4 : tie.Need-returns-4
 unfolding lastLevel
 returns-4 c = search (needs, ifs, lastLevel-on)
 
--- src/answers.rt:78:1
 returns-5 : tie.Need-returns-5
 unfolding lastLevel
 returns-5 c = search (needs, ifs, lastLevel-on)
 
--- src/answers.rt:78:1
 returns-6 : tie.Need-returns-6
 unfolding lastLevel
 returns-6 c = search (needs, ifs, lastLevel-on)
 
--- src/answers.rt:78:1
 returns-7 : tie.Need-returns-7
 unfolding lastLevel
 returns-7 c = search (needs, ifs, lastLevel-on)
 
--- src/answers.rt:78:1
 returns-8 : tie.Need-returns-8
 unfolding lastLevel
 returns-8 c = search (needs, ifs, lastLevel-on)
 
--- src/answers.rt:78:1
 returns-9 : tie.Need-returns-9
 unfolding lastLevel
 returns-9 c = search (needs, ifs, lastLevel-on)
 
--- src/answers.rt:78:1
 returns-10 : tie.Need-returns-10
 unfolding lastLevel
 returns-10 c = search (needs, ifs, lastLevel-on)
 
--- src/answers.rt:78:1
 returns-11 : tie.Need-returns-11
 unfolding lastLevel
 returns-11 c = search (needs, ifs, lastLevel-on)

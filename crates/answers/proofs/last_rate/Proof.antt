@@ -8,105 +8,82 @@ use Rattle.answers.proofs.last_rate.Reads as reads
 use Rattle.answers.proofs.last_rate.Lts as lts
 use Rattle.answers.proofs.real_answer.Reads as real-answer-reads
 
--- src/answers.rt:100:28
 enum-told : tie.Need-enum-told
 enum-told c = search needs
 
--- src/answers.rt:101:33
 enum-told-2 : tie.Need-enum-told-2
 enum-told-2 c = search needs
 
--- src/answers.rt:102:40
 enum-told-3 : tie.Need-enum-told-3
 enum-told-3 c = search needs
 
--- src/answers.rt:103:33
 enum-told-4 : tie.Need-enum-told-4
 enum-told-4 c = search needs
 
--- src/answers.rt:104:36
 enum-known-k : tie.Need-enum-known-k
 enum-known-k c = search needs
 
--- src/answers.rt:104:45
 real-answer-requires : tie.Need-real-answer-requires
 real-answer-requires c κs = search needs
 
--- src/answers.rt:105:30
 enum-told-5 : tie.Need-enum-told-5
 enum-told-5 c = search needs
 
--- src/answers.rt:106:32
 enum-told-6 : tie.Need-enum-told-6
 enum-told-6 c = search needs
 
--- src/answers.rt:107:35
 enum-told-7 : tie.Need-enum-told-7
 enum-told-7 c = search needs
 
--- src/answers.rt:108:37
 enum-told-8 : tie.Need-enum-told-8
 enum-told-8 c = search needs
 
--- src/answers.rt:109:31
 enum-told-9 : tie.Need-enum-told-9
 enum-told-9 c = search needs
 
--- src/answers.rt:110:34
 enum-told-10 : tie.Need-enum-told-10
 enum-told-10 c = search needs
 
--- src/answers.rt:96:1
 returns : tie.Need-returns
 unfolding lastRate
 returns c = search (needs, ifs, lastRate-on)
 
--- src/answers.rt:96:1
 returns-2 : tie.Need-returns-2
 unfolding lastRate
 returns-2 c = search (needs, ifs, lastRate-on)
 
--- src/answers.rt:96:1
 returns-3 : tie.Need-returns-3
 unfolding lastRate
 returns-3 c = search (needs, ifs, lastRate-on)
 
--- src/answers.rt:96:1
 returns-4 : tie.Need-returns-4
 unfolding lastRate
 returns-4 c = search (needs, ifs, lastRate-on)
 
--- src/answers.rt:96:1
 returns-5 : tie.Need-returns-5
 unfolding lastRate
 returns-5 c = search (needs, ifs, lastRate-on)
 
--- src/answers.rt:96:1
 returns-6 : tie.Need-returns-6
 unfolding lastRate
 returns-6 c = search (needs, ifs, lastRate-on)
 
--- src/answers.rt:96:1
 returns-7 : tie.Need-returns-7
 unfolding lastRate
 returns-7 c = search (needs, ifs, lastRate-on)
 
--- src/answers.rt:96:1
 returns-8 : tie.Need-returns-8
 unfolding lastRate
 returns-8 c = search (needs, ifs, lastRate-on)
 
--- src/answers.rt:96:1
 returns-9 : tie.Need-returns-9
 unfolding lastRate
 returns-9 c = search (needs, ifs, lastRate-on)
 
--- src/answers.rt:96:1
 returns-10 : tie.Need-returns-10
 unfolding lastRate
 returns-10 c = search (needs, ifs, lastRate-on)
 
--- src/answers.rt:96:1
 returns-11 : tie.Need-returns-11
 unfolding lastRate
 returns-11 c = search (needs, ifs, lastRate-on)

@@ -8,109 +8,85 @@ use Rattle.answers.proofs.last_step.Reads as reads
 use Rattle.answers.proofs.last_step.Lts as lts
 use Rattle.answers.proofs.real_answer.Reads as real-answer-reads
 
--- src/answers.rt:118:28
 enum-told : tie.Need-enum-told
 enum-told c = search needs
 
--- src/answers.rt:119:33
 enum-told-2 : tie.Need-enum-told-2
 enum-told-2 c = search needs
 
--- src/answers.rt:120:40
 enum-told-3 : tie.Need-enum-told-3
 enum-told-3 c = search needs
 
--- src/answers.rt:121:33
 enum-told-4 : tie.Need-enum-told-4
 enum-told-4 c = search needs
 
--- src/answers.rt:122:42
 enum-told-5 : tie.Need-enum-told-5
 enum-told-5 c = search needs
 
--- src/answers.rt:123:30
 enum-told-6 : tie.Need-enum-told-6
 enum-told-6 c = search needs
 
--- src/answers.rt:124:32
 enum-told-7 : tie.Need-enum-told-7
 enum-told-7 c = search needs
 
--- src/answers.rt:125:29
 enum-known-k : tie.Need-enum-known-k
 enum-known-k c = search needs
 
--- src/answers.rt:125:38
 real-answer-requires : tie.Need-real-answer-requires
 real-answer-requires c κs = search needs
 
--- src/answers.rt:126:31
 enum-known-k-2 : tie.Need-enum-known-k-2
 enum-known-k-2 c = search needs
 
--- src/answers.rt:126:40
 real-answer-requires-2 : tie.Need-real-answer-requires-2
 real-answer-requires-2 c κs = search needs
 
--- src/answers.rt:127:31
 enum-told-8 : tie.Need-enum-told-8
 enum-told-8 c = search needs
 
--- src/answers.rt:128:34
 enum-told-9 : tie.Need-enum-told-9
 enum-told-9 c = search needs
 
--- src/answers.rt:114:1
 returns : tie.Need-returns
 unfolding lastStep
 returns c = search (needs, ifs, lastStep-on)
 
--- src/answers.rt:114:1
 returns-2 : tie.Need-returns-2
 unfolding lastStep
 returns-2 c = search (needs, ifs, lastStep-on)
 
--- src/answers.rt:114:1
 returns-3 : tie.Need-returns-3
 unfolding lastStep
 returns-3 c = search (needs, ifs, lastStep-on)
 
--- src/answers.rt:114:1
 returns-4 : tie.Need-returns-4
 unfolding lastStep
 returns-4 c = search (needs, ifs, lastStep-on)
 
--- src/answers.rt:114:1
 returns-5 : tie.Need-returns-5
 unfolding lastStep
 returns-5 c = search (needs, ifs, lastStep-on)
 
--- src/answers.rt:114:1
 returns-6 : tie.Need-returns-6
 unfolding lastStep
 returns-6 c = search (needs, ifs, lastStep-on)
 
--- src/answers.rt:114:1
 returns-7 : tie.Need-returns-7
 unfolding lastStep
 returns-7 c = search (needs, ifs, lastStep-on)
 
--- src/answers.rt:114:1
 returns-8 : tie.Need-returns-8
 unfolding lastStep
 returns-8 c = search (needs, ifs, lastStep-on)
 
--- src/answers.rt:114:1
 returns-9 : tie.Need-returns-9
 unfolding lastStep
 returns-9 c = search (needs, ifs, lastStep-on)
 
--- src/answers.rt:114:1
 returns-10 : tie.Need-returns-10
 unfolding lastStep
 returns-10 c = search (needs, ifs, lastStep-on)
 
--- src/answers.rt:114:1
 returns-11 : tie.Need-returns-11
 unfolding lastStep
 returns-11 c = search (needs, ifs, lastStep-on)

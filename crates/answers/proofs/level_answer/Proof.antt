@@ -6,11 +6,9 @@ use Rattle.answers.proofs.level_answer.Reads as reads
 use Rattle.answers.proofs.level_answer.Lts as lts
 use Rattle.level.proofs.read_out.Reads as read-out-reads
 
--- src/answers.rt:13:19
 read-out-requires : tie.Need-read-out-requires
 read-out-requires c κs = search needs
 
--- src/answers.rt:10:1
 returns : tie.Need-returns
 unfolding levelAnswer
 returns c = simp (c .read-out .ensures)

@@ -7,101 +7,79 @@ use Rattle.answers.proofs.operation_number.Tie as tie
 use Rattle.answers.proofs.operation_number.Reads as reads
 use Rattle.answers.proofs.operation_number.Lts as lts
 
--- src/answers.rt:57:28
 enum-told : tie.Need-enum-told
 enum-told c = search needs
 
--- src/answers.rt:58:33
 enum-told-2 : tie.Need-enum-told-2
 enum-told-2 c = search needs
 
--- src/answers.rt:59:40
 enum-told-3 : tie.Need-enum-told-3
 enum-told-3 c = search needs
 
--- src/answers.rt:60:33
 enum-told-4 : tie.Need-enum-told-4
 enum-told-4 c = search needs
 
--- src/answers.rt:61:42
 enum-told-5 : tie.Need-enum-told-5
 enum-told-5 c = search needs
 
--- src/answers.rt:62:30
 enum-told-6 : tie.Need-enum-told-6
 enum-told-6 c = search needs
 
--- src/answers.rt:63:32
 enum-told-7 : tie.Need-enum-told-7
 enum-told-7 c = search needs
 
--- src/answers.rt:64:35
 enum-told-8 : tie.Need-enum-told-8
 enum-told-8 c = search needs
 
--- src/answers.rt:65:37
 enum-told-9 : tie.Need-enum-told-9
 enum-told-9 c = search needs
 
--- src/answers.rt:66:31
 enum-told-10 : tie.Need-enum-told-10
 enum-told-10 c = search needs
 
--- src/answers.rt:67:34
 enum-told-11 : tie.Need-enum-told-11
 enum-told-11 c = search needs
 
--- src/answers.rt:53:1
 returns : tie.Need-returns
 unfolding operationNumber
 returns c = search (needs, ifs, operationNumber-on)
 
--- src/answers.rt:53:1
 returns-2 : tie.Need-returns-2
 unfolding operationNumber
 returns-2 c = search (needs, ifs, operationNumber-on)
 
--- src/answers.rt:53:1
 returns-3 : tie.Need-returns-3
 unfolding operationNumber
 returns-3 c = search (needs, ifs, operationNumber-on)
 
--- src/answers.rt:53:1
 returns-4 : tie.Need-returns-4
 unfolding operationNumber
 returns-4 c = search (needs, ifs, operationNumber-on)
 
--- src/answers.rt:53:1
 returns-5 : tie.Need-returns-5
 unfolding operationNumber
 returns-5 c = search (needs, ifs, operationNumber-on)
 
--- src/answers.rt:53:1
 returns-6 : tie.Need-returns-6
 unfolding operationNumber
 returns-6 c = search (needs, ifs, operationNumber-on)
 
--- src/answers.rt:53:1
 returns-7 : tie.Need-returns-7
 unfolding operationNumber
 returns-7 c = search (needs, ifs, operationNumber-on)
 
--- src/answers.rt:53:1
 returns-8 : tie.Need-returns-8
 unfolding operationNumber
 returns-8 c = search (needs, ifs, operationNumber-on)
 
--- src/answers.rt:53:1
 returns-9 : tie.Need-returns-9
 unfolding operationNumber
 returns-9 c = search (needs, ifs, operationNumber-on)
 
--- src/answers.rt:53:1
 returns-10 : tie.Need-returns-10
 unfolding operationNumber
 returns-10 c = search (needs, ifs, operationNumber-on)
 
--- src/answers.rt:53:1
 returns-11 : tie.Need-returns-11
 unfolding operationNumber
 returns-11 c = search (needs, ifs, operationNumber-on)

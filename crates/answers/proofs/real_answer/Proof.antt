@@ -6,11 +6,9 @@ use Rattle.answers.proofs.real_answer.Reads as reads
 use Rattle.answers.proofs.real_answer.Lts as lts
 use Rattle.level.proofs.bits_of.Reads as bits-of-reads
 
--- src/answers.rt:74:19
 bits-of-requires : tie.Need-bits-of-requires
 bits-of-requires c κs = search needs
 
--- src/answers.rt:71:1
 returns : tie.Need-returns
 unfolding realAnswer
 returns c = simp (c .bits-of .ensures)

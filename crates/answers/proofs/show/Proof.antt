@@ -21,280 +21,216 @@ use Rattle.value.proofs.in_process.Reads as in-process-reads
 use Rattle.value.proofs.present_value.Reads as present-value-reads
 use Rattle.value.proofs.progress_value.Reads as progress-value-reads
 
--- src/lib.rt:113:40
 enum-told : tie.Need-enum-told
 enum-told c = search needs
 
--- src/lib.rt:113:40
 level-answer-requires : tie.Need-level-answer-requires
 level-answer-requires c κs = search needs
 
--- src/lib.rt:114:31
 enum-told-2 : tie.Need-enum-told-2
 enum-told-2 c = search needs
 
--- src/lib.rt:115:31
 enum-told-3 : tie.Need-enum-told-3
 enum-told-3 c = search needs
 
--- src/lib.rt:115:31
 real-answer-requires : tie.Need-real-answer-requires
 real-answer-requires c κs = search needs
 
--- src/lib.rt:116:36
 enum-told-4 : tie.Need-enum-told-4
 enum-told-4 c = search needs
 
--- src/lib.rt:116:36
 real-answer-requires-2 : tie.Need-real-answer-requires-2
 real-answer-requires-2 c κs = search needs
 
--- src/lib.rt:117:48
 enum-told-5 : tie.Need-enum-told-5
 enum-told-5 c = search needs
 
--- src/lib.rt:117:48
 flag-requires : tie.Need-flag-requires
 flag-requires c κs = search needs
 
--- src/lib.rt:118:32
 enum-told-6 : tie.Need-enum-told-6
 enum-told-6 c = search needs
 
--- src/lib.rt:119:37
 enum-told-7 : tie.Need-enum-told-7
 enum-told-7 c = search needs
 
--- src/lib.rt:120:31
 enum-told-8 : tie.Need-enum-told-8
 enum-told-8 c = search needs
 
--- src/lib.rt:120:31
 level-answer-requires-2 : tie.Need-level-answer-requires-2
 level-answer-requires-2 c κs = search needs
 
--- src/lib.rt:121:31
 enum-told-9 : tie.Need-enum-told-9
 enum-told-9 c = search needs
 
--- src/lib.rt:121:31
 level-answer-requires-3 : tie.Need-level-answer-requires-3
 level-answer-requires-3 c κs = search needs
 
--- src/lib.rt:122:52
 enum-told-10 : tie.Need-enum-told-10
 enum-told-10 c = search needs
 
--- src/lib.rt:122:52
 priority-requires : tie.Need-priority-requires
 priority-requires c κs = search needs
 
--- src/lib.rt:123:54
 enum-told-11 : tie.Need-enum-told-11
 enum-told-11 c = search needs
 
--- src/lib.rt:123:54
 elapsed-active-requires : tie.Need-elapsed-active-requires
 elapsed-active-requires c κs = search needs
 
--- src/lib.rt:124:57
 enum-told-12 : tie.Need-enum-told-12
 enum-told-12 c = search needs
 
--- src/lib.rt:124:57
 present-value-requires : tie.Need-present-value-requires
 present-value-requires c κs = search needs
 
--- src/lib.rt:124:35
 level-answer-requires-4 : tie.Need-level-answer-requires-4
 level-answer-requires-4 c κs = search needs
 
--- src/lib.rt:125:58
 enum-told-13 : tie.Need-enum-told-13
 enum-told-13 c = search needs
 
--- src/lib.rt:125:58
 progress-value-requires : tie.Need-progress-value-requires
 progress-value-requires c κs = search needs
 
--- src/lib.rt:125:36
 level-answer-requires-5 : tie.Need-level-answer-requires-5
 level-answer-requires-5 c κs = search needs
 
--- src/lib.rt:126:46
 enum-told-14 : tie.Need-enum-told-14
 enum-told-14 c = search needs
 
--- src/lib.rt:126:46
 in-process-requires : tie.Need-in-process-requires
 in-process-requires c κs = search needs
 
--- src/lib.rt:127:50
 enum-told-15 : tie.Need-enum-told-15
 enum-told-15 c = search needs
 
--- src/lib.rt:127:50
 operation-number-requires : tie.Need-operation-number-requires
 operation-number-requires c κs = search needs
 
--- src/lib.rt:128:32
 enum-told-16 : tie.Need-enum-told-16
 enum-told-16 c = search needs
 
--- src/lib.rt:128:32
 last-level-requires : tie.Need-last-level-requires
 last-level-requires c κs = search needs
 
--- src/lib.rt:129:31
 enum-told-17 : tie.Need-enum-told-17
 enum-told-17 c = search needs
 
--- src/lib.rt:129:31
 last-rate-requires : tie.Need-last-rate-requires
 last-rate-requires c κs = search needs
 
--- src/lib.rt:130:31
 enum-told-18 : tie.Need-enum-told-18
 enum-told-18 c = search needs
 
--- src/lib.rt:130:31
 last-step-requires : tie.Need-last-step-requires
 last-step-requires c κs = search needs
 
--- src/lib.rt:131:35
 enum-told-19 : tie.Need-enum-told-19
 enum-told-19 c = search needs
 
--- src/lib.rt:131:35
 last-fade-time-requires : tie.Need-last-fade-time-requires
 last-fade-time-requires c κs = search needs
 
--- src/lib.rt:132:35
 enum-told-20 : tie.Need-enum-told-20
 enum-told-20 c = search needs
 
--- src/lib.rt:132:35
 last-duration-requires : tie.Need-last-duration-requires
 last-duration-requires c κs = search needs
 
--- src/lib.rt:133:29
 enum-known-p : tie.Need-enum-known-p
 enum-known-p c = search needs
 
--- src/lib.rt:133:35
 slot-answer-requires : tie.Need-slot-answer-requires
 slot-answer-requires c κs = search needs
 
--- src/lib.rt:134:30
 enum-told-21 : tie.Need-enum-told-21
 enum-told-21 c = search needs
 
--- src/lib.rt:103:1
 returns : tie.Need-returns
 unfolding shown
 returns c = search (needs, shown-on)
 
--- src/lib.rt:103:1
 returns-2 : tie.Need-returns-2
 unfolding shown
 returns-2 c = search (needs, shown-on)
 
--- src/lib.rt:103:1
 returns-3 : tie.Need-returns-3
 unfolding shown
 returns-3 c = search (needs, shown-on)
 
--- src/lib.rt:103:1
 returns-4 : tie.Need-returns-4
 unfolding shown
 returns-4 c = search (needs, shown-on)
 
--- src/lib.rt:103:1
 returns-5 : tie.Need-returns-5
 unfolding shown
 returns-5 c = search (needs, shown-on)
 
--- src/lib.rt:103:1
 returns-6 : tie.Need-returns-6
 unfolding shown
 returns-6 c = search (needs, shown-on)
 
--- src/lib.rt:103:1
 returns-7 : tie.Need-returns-7
 unfolding shown
 returns-7 c = search (needs, shown-on)
 
--- src/lib.rt:103:1
 returns-8 : tie.Need-returns-8
 unfolding shown
 returns-8 c = search (needs, shown-on)
 
--- src/lib.rt:103:1
 returns-9 : tie.Need-returns-9
 unfolding shown
 returns-9 c = search (needs, shown-on)
 
--- src/lib.rt:103:1
 returns-10 : tie.Need-returns-10
 unfolding shown
 returns-10 c = search (needs, shown-on)
 
--- src/lib.rt:103:1
 returns-11 : tie.Need-returns-11
 unfolding shown
 returns-11 c = search (needs, shown-on)
 
--- src/lib.rt:103:1
 returns-12 : tie.Need-returns-12
 unfolding shown
 returns-12 c = search (needs, shown-on, ← c .before .present-value .ensures)
 
--- src/lib.rt:103:1
 returns-13 : tie.Need-returns-13
 unfolding shown
 returns-13 c = search (needs, shown-on, ← c .before .progress-value .ensures)
 
--- src/lib.rt:103:1
 returns-14 : tie.Need-returns-14
 unfolding shown
 returns-14 c = search (needs, shown-on)
 
--- src/lib.rt:103:1
 returns-15 : tie.Need-returns-15
 unfolding shown
 returns-15 c = search (needs, shown-on)
 
--- src/lib.rt:103:1
 returns-16 : tie.Need-returns-16
 unfolding shown
 returns-16 c = search (needs, shown-on)
 
--- src/lib.rt:103:1
 returns-17 : tie.Need-returns-17
 unfolding shown
 returns-17 c = search (needs, shown-on)
 
--- src/lib.rt:103:1
 returns-18 : tie.Need-returns-18
 unfolding shown
 returns-18 c = search (needs, shown-on)
 
--- src/lib.rt:103:1
 returns-19 : tie.Need-returns-19
 unfolding shown
 returns-19 c = search (needs, shown-on)
 
--- src/lib.rt:103:1
 returns-20 : tie.Need-returns-20
 unfolding shown
 returns-20 c = search (needs, shown-on)
 
--- src/lib.rt:103:1
 returns-21 : tie.Need-returns-21
 unfolding shown
 returns-21 c = search (needs, shown-on)
 
--- src/lib.rt:103:1
 returns-22 : tie.Need-returns-22
 unfolding shown
 returns-22 c = search (needs, shown-on)

@@ -9,24 +9,19 @@ use Rattle.answers.proofs.level_answer.Reads as level-answer-reads
 use Rattle.slots.proofs.is_live.Reads as is-live-reads
 use Rattle.slots.proofs.level_at.Reads as level-at-reads
 
--- src/answers.rt:20:8
 is-live-requires : tie.Need-is-live-requires
 is-live-requires c κs = search needs
 
--- src/answers.rt:21:22
 level-at-requires : tie.Need-level-at-requires
 level-at-requires c κs = search needs
 
--- src/answers.rt:21:9
 level-answer-requires : tie.Need-level-answer-requires
 level-answer-requires c κs = search needs
 
--- src/answers.rt:17:1
 returns : tie.Need-returns
 unfolding slotAnswer
 returns c = search (needs, ifs, ← c .before .level-at .ensures)
 
--- src/answers.rt:17:1
 returns-2 : tie.Need-returns-2
 unfolding slotAnswer
 returns-2 c = search (needs, ifs)

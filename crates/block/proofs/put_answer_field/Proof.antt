@@ -8,82 +8,63 @@ use Rattle.block.proofs.put_answer_field.Lts as lts
 use Rattle.block.proofs.put_hex_field.Reads as put-hex-field-reads
 use Rattle.printing.proofs.put_all.Reads as put-all-reads
 
--- src/block.rt:64:33
 enum-told : tie.Need-enum-told
 enum-told c = search needs
 
--- src/block.rt:64:43
 slice-aggregate-put-all : tie.Need-slice-aggregate-put-all
 slice-aggregate-put-all c = search needs
 
--- src/block.rt:64:25
 put-all-requires : tie.Need-put-all-requires
 put-all-requires c κs = search needs
 
--- src/block.rt:65:23
 enum-known-a : tie.Need-enum-known-a
 enum-known-a c = search needs
 
--- src/block.rt:65:29
 put-hex-field-requires : tie.Need-put-hex-field-requires
 put-hex-field-requires c κs = search needs
 
--- src/block.rt:66:35
 enum-told-2 : tie.Need-enum-told-2
 enum-told-2 c = search needs
 
--- src/block.rt:66:45
 slice-aggregate-put-all-2 : tie.Need-slice-aggregate-put-all-2
 slice-aggregate-put-all-2 c = search needs
 
--- src/block.rt:66:27
 put-all-requires-2 : tie.Need-put-all-requires-2
 put-all-requires-2 c κs = search needs
 
--- src/block.rt:67:39
 enum-told-3 : tie.Need-enum-told-3
 enum-told-3 c = search needs
 
--- src/block.rt:67:49
 slice-aggregate-put-all-3 : tie.Need-slice-aggregate-put-all-3
 slice-aggregate-put-all-3 c = search needs
 
--- src/block.rt:67:31
 put-all-requires-3 : tie.Need-put-all-requires-3
 put-all-requires-3 c κs = search needs
 
--- src/block.rt:60:1
 same-length : tie.Need-same-length
 same-length c = search needs
 
--- src/block.rt:60:1
 returns : tie.Need-returns
 unfolding answerField
 returns c = search (needs, answerField-on)
 
--- src/block.rt:60:1
 same-length-2 : tie.Need-same-length-2
 same-length-2 c = search needs
 
--- src/block.rt:60:1
 returns-2 : tie.Need-returns-2
 unfolding answerField
 returns-2 c = search (needs, answerField-on)
 
--- src/block.rt:60:1
 same-length-3 : tie.Need-same-length-3
 same-length-3 c = search needs
 
--- src/block.rt:60:1
 returns-3 : tie.Need-returns-3
 unfolding answerField
 returns-3 c = search (needs, answerField-on)
 
--- src/block.rt:60:1
 same-length-4 : tie.Need-same-length-4
 same-length-4 c = search needs
 
--- src/block.rt:60:1
 returns-4 : tie.Need-returns-4
 unfolding answerField
 returns-4 c = search (needs, answerField-on)

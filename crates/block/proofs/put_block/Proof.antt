@@ -13,51 +13,39 @@ use Rattle.block.proofs.put_progress_line.Reads as put-progress-line-re
 use Rattle.block.proofs.put_settings_line.Reads as put-settings-line-reads
 use Rattle.block.proofs.put_slots_line.Reads as put-slots-line-reads
 
--- src/block.rt:153:44
 slice-aggregate-put-number-line : tie.Need-slice-aggregate-put-number-line
 slice-aggregate-put-number-line c = search needs
 
--- src/block.rt:153:9
 put-number-line-requires : tie.Need-put-number-line-requires
 put-number-line-requires c κs = search needs
 
--- src/block.rt:154:9
 put-slots-line-requires : tie.Need-put-slots-line-requires
 put-slots-line-requires c κs = search needs
 
--- src/block.rt:155:9
 put-present-line-requires : tie.Need-put-present-line-requires
 put-present-line-requires c κs = search needs
 
--- src/block.rt:156:9
 put-progress-line-requires : tie.Need-put-progress-line-requires
 put-progress-line-requires c κs = search needs
 
--- src/block.rt:157:9
 put-process-line-requires : tie.Need-put-process-line-requires
 put-process-line-requires c κs = search needs
 
--- src/block.rt:158:9
 put-settings-line-requires : tie.Need-put-settings-line-requires
 put-settings-line-requires c κs = search needs
 
--- src/block.rt:159:9
 put-last-line-requires : tie.Need-put-last-line-requires
 put-last-line-requires c κs = search needs
 
--- src/block.rt:160:33
 slice-aggregate-put-number-line-2 : tie.Need-slice-aggregate-put-number-line-2
 slice-aggregate-put-number-line-2 c = search needs
 
--- src/block.rt:160:5
 put-number-line-requires-2 : tie.Need-put-number-line-requires-2
 put-number-line-requires-2 c κs = search needs
 
--- src/block.rt:148:1
 same-length : tie.Need-same-length
 same-length c = search needs
 
--- src/block.rt:148:1
 returns : tie.Need-returns
 unfolding block
 returns c = wrote-then (c .before .before .before .before .before .before .before .before .before .before .before .before .before .before .before .before .before .before .before .before .before .before .before .before .before .before .before .before .before .before .before .put-number-line .ensures) (wrote-then (c .before .before .before .before .before .before .before .before .before .before .before .before .before .before .before .before .before .before .before .before .before .before .before .before .before .before .before .put-slots-line .ensures) (wrote-then (c .before .before .before .before .before .before .before .before .before .before .before .before .before .before .before .before .before .before .before .before .before .before .before .put-present-line .ensures) (wrote-then (c .before .before .before .before .before .before .before .before .before .before .before .before .before .before .before .before .before .before .before .put-progress-line .ensures) (wrote-then (c .before .before .before .before .before .before .before .before .before .before .before .before .before .before .before .put-process-line .ensures) (wrote-then (c .before .before .before .before .before .before .before .before .before .before .before .put-settings-line .ensures) (wrote-then (c .before .before .before .before .before .before .before .put-last-line .ensures) (c .before .before .put-number-line2 .ensures)))))))

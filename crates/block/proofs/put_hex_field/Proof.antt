@@ -8,19 +8,15 @@ use Rattle.block.proofs.put_hex_field.Lts as lts
 use Rattle.printing.proofs.put.Reads as put-reads
 use Rattle.printing.proofs.put_hex8.Reads as put-hex8-reads
 
--- src/block.rt:56:9
 put-requires : tie.Need-put-requires
 put-requires c κs = search needs
 
--- src/block.rt:57:5
 put-hex8-requires : tie.Need-put-hex8-requires
 put-hex8-requires c κs = search needs
 
--- src/block.rt:53:1
 same-length : tie.Need-same-length
 same-length c = search needs
 
--- src/block.rt:53:1
 returns : tie.Need-returns
 unfolding hexField
 returns c = wrote-then (c .before .before .before .before .before .before .put .ensures) (c .before .before .put-hex8 .ensures)

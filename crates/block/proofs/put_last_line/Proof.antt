@@ -9,27 +9,21 @@ use Rattle.block.proofs.put_properties.Reads as put-properties-reads
 use Rattle.printing.proofs.put.Reads as put-reads
 use Rattle.printing.proofs.put_all.Reads as put-all-reads
 
--- src/block.rt:143:34
 slice-aggregate-put-all : tie.Need-slice-aggregate-put-all
 slice-aggregate-put-all c = search needs
 
--- src/block.rt:143:9
 put-all-requires : tie.Need-put-all-requires
 put-all-requires c κs = search needs
 
--- src/block.rt:144:9
 put-properties-requires : tie.Need-put-properties-requires
 put-properties-requires c κs = search needs
 
--- src/block.rt:145:5
 put-requires : tie.Need-put-requires
 put-requires c κs = search needs
 
--- src/block.rt:140:1
 same-length : tie.Need-same-length
 same-length c = search needs
 
--- src/block.rt:140:1
 returns : tie.Need-returns
 unfolding lastLine
 returns c = wrote-then (c .before .before .before .before .before .before .before .before .before .before .put-all .ensures) (wrote-then (c .before .before .before .before .before .before .put-properties .ensures) (c .before .before .put .ensures))

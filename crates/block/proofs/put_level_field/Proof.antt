@@ -8,19 +8,15 @@ use Rattle.block.proofs.put_level_field.Lts as lts
 use Rattle.printing.proofs.put.Reads as put-reads
 use Rattle.printing.proofs.put_decimal.Reads as put-decimal-reads
 
--- src/block.rt:21:9
 put-requires : tie.Need-put-requires
 put-requires c κs = search needs
 
--- src/block.rt:22:5
 put-decimal-requires : tie.Need-put-decimal-requires
 put-decimal-requires c κs = search needs
 
--- src/block.rt:18:1
 same-length : tie.Need-same-length
 same-length c = search needs
 
--- src/block.rt:18:1
 returns : tie.Need-returns
 unfolding levelField
 returns c = wrote-then (c .before .before .before .before .before .before .put .ensures) (c .before .before .put-decimal .ensures)

@@ -9,23 +9,18 @@ use Rattle.printing.proofs.put.Reads as put-reads
 use Rattle.printing.proofs.put_all.Reads as put-all-reads
 use Rattle.printing.proofs.put_decimal.Reads as put-decimal-reads
 
--- src/block.rt:98:9
 put-all-requires : tie.Need-put-all-requires
 put-all-requires c κs = search needs
 
--- src/block.rt:99:9
 put-decimal-requires : tie.Need-put-decimal-requires
 put-decimal-requires c κs = search needs
 
--- src/block.rt:100:5
 put-requires : tie.Need-put-requires
 put-requires c κs = search needs
 
--- src/block.rt:95:1
 same-length : tie.Need-same-length
 same-length c = search needs
 
--- src/block.rt:95:1
 returns : tie.Need-returns
 unfolding numberLine
 returns c = wrote-then (c .before .before .before .before .before .before .before .before .before .before .put-all .ensures) (wrote-then (c .before .before .before .before .before .before .put-decimal .ensures) (c .before .before .put .ensures))

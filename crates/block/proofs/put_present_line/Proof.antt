@@ -7,27 +7,21 @@ use Rattle.block.proofs.put_present_line.Lts as lts
 use Rattle.block.proofs.put_number_line.Reads as put-number-line-reads
 use Rattle.value.proofs.present_value.Reads as present-value-reads
 
--- src/block.rt:116:31
 slice-aggregate-put-number-line : tie.Need-slice-aggregate-put-number-line
 slice-aggregate-put-number-line c = search needs
 
--- src/block.rt:116:39
 present-value-requires : tie.Need-present-value-requires
 present-value-requires c κs = search needs
 
--- src/block.rt:116:39
 cast-put-number-line : tie.Need-cast-put-number-line
 cast-put-number-line c = search needs
 
--- src/block.rt:116:5
 put-number-line-requires : tie.Need-put-number-line-requires
 put-number-line-requires c κs = search needs
 
--- src/block.rt:111:1
 same-length : tie.Need-same-length
 same-length c = search needs
 
--- src/block.rt:111:1
 returns : tie.Need-returns
 unfolding presentLine
 returns c = rw (← c .before .before .before .present-value .ensures) (c .before .before .put-number-line .ensures)

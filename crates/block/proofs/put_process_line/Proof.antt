@@ -7,27 +7,21 @@ use Rattle.block.proofs.put_process_line.Lts as lts
 use Rattle.block.proofs.put_number_line.Reads as put-number-line-reads
 use Rattle.value.proofs.in_process.Reads as in-process-reads
 
--- src/block.rt:129:31
 slice-aggregate-put-number-line : tie.Need-slice-aggregate-put-number-line
 slice-aggregate-put-number-line c = search needs
 
--- src/block.rt:129:46
 in-process-requires : tie.Need-in-process-requires
 in-process-requires c κs = search needs
 
--- src/block.rt:129:46
 cast-put-number-line : tie.Need-cast-put-number-line
 cast-put-number-line c = search needs
 
--- src/block.rt:129:5
 put-number-line-requires : tie.Need-put-number-line-requires
 put-number-line-requires c κs = search needs
 
--- src/block.rt:125:1
 same-length : tie.Need-same-length
 same-length c = search needs
 
--- src/block.rt:125:1
 returns : tie.Need-returns
 unfolding processLine
 returns c = rw (← c .before .before .before .in-process .ensures) (c .before .before .put-number-line .ensures)

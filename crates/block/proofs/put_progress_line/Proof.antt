@@ -7,27 +7,21 @@ use Rattle.block.proofs.put_progress_line.Lts as lts
 use Rattle.block.proofs.put_number_line.Reads as put-number-line-reads
 use Rattle.value.proofs.progress_value.Reads as progress-value-reads
 
--- src/block.rt:122:31
 slice-aggregate-put-number-line : tie.Need-slice-aggregate-put-number-line
 slice-aggregate-put-number-line c = search needs
 
--- src/block.rt:122:45
 progress-value-requires : tie.Need-progress-value-requires
 progress-value-requires c κs = search needs
 
--- src/block.rt:122:45
 cast-put-number-line : tie.Need-cast-put-number-line
 cast-put-number-line c = search needs
 
--- src/block.rt:122:5
 put-number-line-requires : tie.Need-put-number-line-requires
 put-number-line-requires c κs = search needs
 
--- src/block.rt:119:1
 same-length : tie.Need-same-length
 same-length c = search needs
 
--- src/block.rt:119:1
 returns : tie.Need-returns
 unfolding progressLine
 returns c = rw (← c .before .before .before .progress-value .ensures) (c .before .before .put-number-line .ensures)

@@ -19,39 +19,31 @@ Inv-loop page₀ at t o k n mark₀ i₀ page mark i = (i ≤ n) × (length page
 abbrev μ-loop : tie.MeasureT-loop
 μ-loop page₀ at t o k n mark₀ i₀ page mark i = n - i
 
--- src/block.rt:86:5
 loop-holds : tie.Need-loop-holds Inv-loop μ-loop
 unfolding propertyFields
 loop-holds c = (omega arith, refl, wrote-none _ _)
 
--- src/block.rt:87:47
 add-put-property : tie.Need-add-put-property Inv-loop μ-loop
 add-put-property c = search needs
 
--- src/block.rt:87:9
 put-property-requires : tie.Need-put-property-requires Inv-loop μ-loop
 put-property-requires c κs = search needs
 
--- src/block.rt:88:9
 add-i : tie.Need-add-i Inv-loop μ-loop
 add-i c = search needs
 
--- src/block.rt:86:5
 loop-less : tie.Need-loop-less Inv-loop μ-loop
 loop-less c = search needs
 
--- src/block.rt:86:5
 loop-again : tie.Need-loop-again Inv-loop μ-loop
 loop-again c =
     let l = c .before .before .before .before .before .loop in
     let a = c .before .before .before .before .before .before .before .args in
     (omega arith, search needs, properties-turn (a .t) (a .o) (a .k) (l .i) (l .inv .2) (c .before .before .put-property .ensures))
 
--- src/block.rt:79:1
 same-length : tie.Need-same-length Inv-loop μ-loop
 same-length c = search needs
 
--- src/block.rt:79:1
 returns : tie.Need-returns Inv-loop μ-loop
 returns c =
     let a = c .before .before .before .args in

@@ -8,23 +8,18 @@ use Rattle.block.proofs.put_answer_field.Reads as put-answer-field-read
 use Rattle.properties.proofs.property_of.Reads as property-of-reads
 use Rattle.answers.proofs.show.Reads as show-reads
 
--- src/block.rt:74:9
 property-of-requires : tie.Need-property-of-requires
 property-of-requires c κs = search needs
 
--- src/block.rt:75:9
 show-requires : tie.Need-show-requires
 show-requires c κs = search needs
 
--- src/block.rt:76:5
 put-answer-field-requires : tie.Need-put-answer-field-requires
 put-answer-field-requires c κs = search needs
 
--- src/block.rt:71:1
 same-length : tie.Need-same-length
 same-length c = search needs
 
--- src/block.rt:71:1
 returns : tie.Need-returns
 unfolding propertyField
 returns c = rw (← c .before .before .before .before .before .property-of .ensures, ← c .before .before .before .before .show .ensures) (c .before .before .put-answer-field .ensures)

@@ -9,27 +9,21 @@ use Rattle.block.proofs.put_properties.Reads as put-properties-reads
 use Rattle.printing.proofs.put.Reads as put-reads
 use Rattle.printing.proofs.put_all.Reads as put-all-reads
 
--- src/block.rt:135:34
 slice-aggregate-put-all : tie.Need-slice-aggregate-put-all
 slice-aggregate-put-all c = search needs
 
--- src/block.rt:135:9
 put-all-requires : tie.Need-put-all-requires
 put-all-requires c κs = search needs
 
--- src/block.rt:136:9
 put-properties-requires : tie.Need-put-properties-requires
 put-properties-requires c κs = search needs
 
--- src/block.rt:137:5
 put-requires : tie.Need-put-requires
 put-requires c κs = search needs
 
--- src/block.rt:132:1
 same-length : tie.Need-same-length
 same-length c = search needs
 
--- src/block.rt:132:1
 returns : tie.Need-returns
 unfolding settingsLine
 returns c = wrote-then (c .before .before .before .before .before .before .before .before .before .before .put-all .ensures) (wrote-then (c .before .before .before .before .before .before .put-properties .ensures) (c .before .before .put .ensures))

@@ -9,36 +9,28 @@ use Rattle.block.proofs.put_slot_level.Reads as put-slot-level-reads
 use Rattle.slots.proofs.is_live.Reads as is-live-reads
 use Rattle.printing.proofs.put_all.Reads as put-all-reads
 
--- src/block.rt:34:8
 is-live-requires : tie.Need-is-live-requires
 is-live-requires c κs = search needs
 
--- src/block.rt:35:9
 put-slot-level-requires : tie.Need-put-slot-level-requires
 put-slot-level-requires c κs = search needs
 
--- src/block.rt:37:27
 slice-aggregate-put-all : tie.Need-slice-aggregate-put-all
 slice-aggregate-put-all c = search needs
 
--- src/block.rt:37:9
 put-all-requires : tie.Need-put-all-requires
 put-all-requires c κs = search needs
 
--- src/block.rt:31:1
 same-length : tie.Need-same-length
 same-length c = search needs
 
--- src/block.rt:31:1
 returns : tie.Need-returns
 unfolding slotField
 returns c = search (needs, choices)
 
--- src/block.rt:31:1
 same-length-2 : tie.Need-same-length-2
 same-length-2 c = search needs
 
--- src/block.rt:31:1
 returns-2 : tie.Need-returns-2
 unfolding slotField
 returns-2 c = search (needs, choices)

@@ -19,35 +19,28 @@ Inv-loop page₀ at s mark₀ i₀ page mark i = (i ≤ 16) × (length page ≡ 
 abbrev μ-loop : tie.MeasureT-loop
 μ-loop page₀ at s mark₀ i₀ page mark i = 16 - i
 
--- src/block.rt:46:5
 loop-holds : tie.Need-loop-holds Inv-loop μ-loop
 unfolding slotFields
 loop-holds c = (omega arith, refl, wrote-none _ _)
 
--- src/block.rt:47:9
 put-slot-field-requires : tie.Need-put-slot-field-requires Inv-loop μ-loop
 put-slot-field-requires c κs = search needs
 
--- src/block.rt:48:9
 add-i : tie.Need-add-i Inv-loop μ-loop
 add-i c = search needs
 
--- src/block.rt:46:5
 loop-less : tie.Need-loop-less Inv-loop μ-loop
 loop-less c = search needs
 
--- src/block.rt:46:5
 loop-again : tie.Need-loop-again Inv-loop μ-loop
 loop-again c =
     let l = c .before .before .before .before .before .loop in
     let a = c .before .before .before .before .before .before .before .args in
     (omega arith, search needs, slots-turn (a .s) (l .i) (l .inv .2) (c .before .before .put-slot-field .ensures))
 
--- src/block.rt:41:1
 same-length : tie.Need-same-length Inv-loop μ-loop
 same-length c = search needs
 
--- src/block.rt:41:1
 returns : tie.Need-returns Inv-loop μ-loop
 returns c =
     let e : c .before .loop .i ≡ 16 = omega arith in

@@ -7,19 +7,15 @@ use Rattle.block.proofs.put_slot_level.Lts as lts
 use Rattle.block.proofs.put_level_field.Reads as put-level-field-reads
 use Rattle.slots.proofs.level_at.Reads as level-at-reads
 
--- src/block.rt:28:31
 level-at-requires : tie.Need-level-at-requires
 level-at-requires c κs = search needs
 
--- src/block.rt:28:5
 put-level-field-requires : tie.Need-put-level-field-requires
 put-level-field-requires c κs = search needs
 
--- src/block.rt:25:1
 same-length : tie.Need-same-length
 same-length c = search needs
 
--- src/block.rt:25:1
 returns : tie.Need-returns
 unfolding slotLevel
 returns c = rw (← c .before .before .before .level-at .ensures) (c .before .before .put-level-field .ensures)

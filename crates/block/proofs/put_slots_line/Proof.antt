@@ -9,27 +9,21 @@ use Rattle.block.proofs.put_slot_fields.Reads as put-slot-fields-reads
 use Rattle.printing.proofs.put.Reads as put-reads
 use Rattle.printing.proofs.put_all.Reads as put-all-reads
 
--- src/block.rt:106:34
 slice-aggregate-put-all : tie.Need-slice-aggregate-put-all
 slice-aggregate-put-all c = search needs
 
--- src/block.rt:106:9
 put-all-requires : tie.Need-put-all-requires
 put-all-requires c κs = search needs
 
--- src/block.rt:107:9
 put-slot-fields-requires : tie.Need-put-slot-fields-requires
 put-slot-fields-requires c κs = search needs
 
--- src/block.rt:108:5
 put-requires : tie.Need-put-requires
 put-requires c κs = search needs
 
--- src/block.rt:103:1
 same-length : tie.Need-same-length
 same-length c = search needs
 
--- src/block.rt:103:1
 returns : tie.Need-returns
 unfolding slotsLine
 returns c = wrote-then (c .before .before .before .before .before .before .before .before .before .before .put-all .ensures) (wrote-then (c .before .before .before .before .before .before .put-slot-fields .ensures) (c .before .before .put .ensures))

@@ -6,15 +6,12 @@ use Rattle.conversions.proofs.bobbinonyx_amount.Lts as lts
 use Rattle.level.proofs.amount_of.Reads as amount-of-reads
 use Rattle.level.proofs.units_or.Reads as units-or-reads
 
--- src/lib.rt:24:33
 amount-of-requires : tie.Need-amount-of-requires
 amount-of-requires c κs = search needs
 
--- src/lib.rt:24:5
 units-or-requires : tie.Need-units-or-requires
 units-or-requires c κs = search needs
 
--- src/lib.rt:20:1
 returns : tie.Need-returns
 returns c = simp (c .units-or .ensures, c .before .amount-of .ensures)
 

@@ -6,15 +6,12 @@ use Rattle.conversions.proofs.bobbinonyx_level.Lts as lts
 use Rattle.level.proofs.level_of.Reads as level-of-reads
 use Rattle.level.proofs.units_or.Reads as units-or-reads
 
--- src/lib.rt:10:33
 level-of-requires : tie.Need-level-of-requires
 level-of-requires c κs = search needs
 
--- src/lib.rt:10:5
 units-or-requires : tie.Need-units-or-requires
 units-or-requires c κs = search needs
 
--- src/lib.rt:6:1
 returns : tie.Need-returns
 returns c = simp (c .units-or .ensures, c .before .level-of .ensures)
 

@@ -6,15 +6,12 @@ use Rattle.conversions.proofs.bobbinonyx_limit.Lts as lts
 use Rattle.level.proofs.limit_of.Reads as limit-of-reads
 use Rattle.level.proofs.units_or.Reads as units-or-reads
 
--- src/lib.rt:17:33
 limit-of-requires : tie.Need-limit-of-requires
 limit-of-requires c κs = search needs
 
--- src/lib.rt:17:5
 units-or-requires : tie.Need-units-or-requires
 units-or-requires c κs = search needs
 
--- src/lib.rt:13:1
 returns : tie.Need-returns
 returns c = simp (c .units-or .ensures, c .before .limit-of .ensures)
 

@@ -9,23 +9,18 @@ use Rattle.faults.proofs.put_fault_words.Reads as put-fault-words-reads
 use Rattle.faults.proofs.put_placed.Reads as put-placed-reads
 use Rattle.printing.proofs.put.Reads as put-reads
 
--- src/faults.rt:32:9
 put-placed-requires : tie.Need-put-placed-requires
 put-placed-requires c κs = search needs
 
--- src/faults.rt:33:9
 put-fault-words-requires : tie.Need-put-fault-words-requires
 put-fault-words-requires c κs = search needs
 
--- src/faults.rt:34:5
 put-requires : tie.Need-put-requires
 put-requires c κs = search needs
 
--- src/faults.rt:29:1
 same-length : tie.Need-same-length
 same-length c = search needs
 
--- src/faults.rt:29:1
 returns : tie.Need-returns
 unfolding faultLine
 returns c = wrote-then (c .before .before .before .before .before .before .before .before .before .before .put-placed .ensures) (wrote-then (c .before .before .before .before .before .before .put-fault-words .ensures) (c .before .before .put .ensures))

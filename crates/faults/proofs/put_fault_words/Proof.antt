@@ -7,86 +7,66 @@ use Rattle.faults.proofs.put_fault_words.Reads as reads
 use Rattle.faults.proofs.put_fault_words.Lts as lts
 use Rattle.printing.proofs.put_all.Reads as put-all-reads
 
--- src/faults.rt:22:37
 enum-told : tie.Need-enum-told
 enum-told c = search needs
 
--- src/faults.rt:22:47
 slice-aggregate-put-all : tie.Need-slice-aggregate-put-all
 slice-aggregate-put-all c = search needs
 
--- src/faults.rt:22:29
 put-all-requires : tie.Need-put-all-requires
 put-all-requires c κs = search needs
 
--- src/faults.rt:23:36
 enum-told-2 : tie.Need-enum-told-2
 enum-told-2 c = search needs
 
--- src/faults.rt:23:46
 slice-aggregate-put-all-2 : tie.Need-slice-aggregate-put-all-2
 slice-aggregate-put-all-2 c = search needs
 
--- src/faults.rt:23:28
 put-all-requires-2 : tie.Need-put-all-requires-2
 put-all-requires-2 c κs = search needs
 
--- src/faults.rt:24:35
 enum-told-3 : tie.Need-enum-told-3
 enum-told-3 c = search needs
 
--- src/faults.rt:24:45
 slice-aggregate-put-all-3 : tie.Need-slice-aggregate-put-all-3
 slice-aggregate-put-all-3 c = search needs
 
--- src/faults.rt:24:27
 put-all-requires-3 : tie.Need-put-all-requires-3
 put-all-requires-3 c κs = search needs
 
--- src/faults.rt:25:36
 enum-told-4 : tie.Need-enum-told-4
 enum-told-4 c = search needs
 
--- src/faults.rt:25:46
 slice-aggregate-put-all-4 : tie.Need-slice-aggregate-put-all-4
 slice-aggregate-put-all-4 c = search needs
 
--- src/faults.rt:25:28
 put-all-requires-4 : tie.Need-put-all-requires-4
 put-all-requires-4 c κs = search needs
 
--- src/faults.rt:18:1
 same-length : tie.Need-same-length
 same-length c = search needs
 
--- src/faults.rt:18:1
 returns : tie.Need-returns
 unfolding faultWords
 returns c = search (needs, faultWords-on)
 
--- src/faults.rt:18:1
 same-length-2 : tie.Need-same-length-2
 same-length-2 c = search needs
 
--- src/faults.rt:18:1
 returns-2 : tie.Need-returns-2
 unfolding faultWords
 returns-2 c = search (needs, faultWords-on)
 
--- src/faults.rt:18:1
 same-length-3 : tie.Need-same-length-3
 same-length-3 c = search needs
 
--- src/faults.rt:18:1
 returns-3 : tie.Need-returns-3
 unfolding faultWords
 returns-3 c = search (needs, faultWords-on)
 
--- src/faults.rt:18:1
 same-length-4 : tie.Need-same-length-4
 same-length-4 c = search needs
 
--- src/faults.rt:18:1
 returns-4 : tie.Need-returns-4
 unfolding faultWords
 returns-4 c = search (needs, faultWords-on)

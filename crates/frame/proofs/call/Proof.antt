@@ -8,23 +8,18 @@ use Rattle.field.proofs.byte_at.Reads as byte-at-reads
 use Rattle.field.proofs.word32_at.Reads as word32-at-reads
 use Rattle.frame.proofs.call_by.Reads as call-by-reads
 
--- src/lib.rt:222:9
 byte-at-requires : tie.Need-byte-at-requires
 byte-at-requires c κs = search needs
 
--- src/lib.rt:223:9
 word32-at-requires : tie.Need-word32-at-requires
 word32-at-requires c κs = search needs
 
--- src/lib.rt:224:9
 byte-at-requires-2 : tie.Need-byte-at-requires-2
 byte-at-requires-2 c κs = search needs
 
--- src/lib.rt:220:5
 call-by-requires : tie.Need-call-by-requires
 call-by-requires c κs = search needs
 
--- src/lib.rt:217:1
 returns : tie.Need-returns
 unfolding called
 returns c = simp (c .call-by .ensures, c .before .byte-at2 .ensures, c .before .before .word32-at .ensures, c .before .before .before .byte-at .ensures)

@@ -7,26 +7,21 @@ use Rattle.frame.proofs.call_by.Reads as reads
 use Rattle.frame.proofs.call_by.Lts as lts
 use Rattle.frame.proofs.call_of.Reads as call-of-reads
 
--- src/lib.rt:208:13
 call-of-requires : tie.Need-call-of-requires
 call-of-requires c κs = search needs
 
--- src/lib.rt:201:1
 returns : tie.Need-returns
 unfolding calledBy
 returns c = search (needs, ifs)
 
--- src/lib.rt:201:1
 returns-2 : tie.Need-returns-2
 unfolding calledBy
 returns-2 c = search (needs, ifs)
 
--- src/lib.rt:201:1
 returns-3 : tie.Need-returns-3
 unfolding calledBy
 returns-3 c = search (needs, ifs)
 
--- src/lib.rt:201:1
 returns-4 : tie.Need-returns-4
 unfolding calledBy
 returns-4 c = search (needs, ifs)

@@ -8,19 +8,15 @@ use Rattle.field.proofs.byte_at.Reads as byte-at-reads
 use Rattle.field.proofs.word48_at.Reads as word48-at-reads
 use Rattle.frame.proofs.request_of.Reads as request-of-reads
 
--- src/lib.rt:195:15
 word48-at-requires : tie.Need-word48-at-requires
 word48-at-requires c κs = search needs
 
--- src/lib.rt:197:29
 byte-at-requires : tie.Need-byte-at-requires
 byte-at-requires c κs = search needs
 
--- src/lib.rt:197:18
 request-of-requires : tie.Need-request-of-requires
 request-of-requires c κs = search needs
 
--- src/lib.rt:189:1
 returns : tie.Need-returns
 unfolding callOf
 returns c = simp (c .request-of .ensures, c .before .byte-at .ensures, c .before .before .word48-at .ensures .0)

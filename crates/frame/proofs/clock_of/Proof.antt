@@ -6,11 +6,9 @@ use Rattle.frame.proofs.clock_of.Reads as reads
 use Rattle.frame.proofs.clock_of.Lts as lts
 use Rattle.field.proofs.word48_at.Reads as word48-at-reads
 
--- src/lib.rt:232:18
 word48-at-requires : tie.Need-word48-at-requires
 word48-at-requires c κs = search needs
 
--- src/lib.rt:229:1
 returns : tie.Need-returns
 unfolding clockOf
 returns c = simp (c .word48-at .ensures .0)

@@ -8,20 +8,16 @@ use Rattle.frame.proofs.empty_of.Lts as lts
 use Rattle.properties.proofs.values.slot_of.Reads as slot-of-reads
 use Rattle.ranges.proofs.is_priority.Reads as is-priority-reads
 
--- src/lib.rt:151:8
 is-priority-requires : tie.Need-is-priority-requires
 is-priority-requires c κs = search needs
 
--- src/lib.rt:153:19
 slot-of-requires : tie.Need-slot-of-requires
 slot-of-requires c κs = cc
 
--- src/lib.rt:148:1
 returns : tie.Need-returns
 unfolding emptyOf
 returns c = search (needs, ifs)
 
--- src/lib.rt:148:1
 returns-2 : tie.Need-returns-2
 unfolding emptyOf
 returns-2 c = search (needs, ifs)

@@ -9,33 +9,26 @@ use Rattle.frame.proofs.fade_order.Lts as lts
 use Rattle.frame.proofs.order.Reads as order-reads
 use Rattle.ranges.proofs.is_within.Reads as is-within-reads
 
--- src/lib.rt:67:24
 enum-known-x : tie.Need-enum-known-x
 enum-known-x c = search needs
 
--- src/lib.rt:67:37
 is-within-requires : tie.Need-is-within-requires
 is-within-requires c κs = search needs
 
--- src/lib.rt:68:13
 order-requires : tie.Need-order-requires
 order-requires c κs = search needs
 
--- src/lib.rt:72:27
 enum-told : tie.Need-enum-told
 enum-told c = search needs
 
--- src/lib.rt:63:1
 returns : tie.Need-returns
 unfolding fadeOrder
 returns c = search (needs, ifs, fadeOrder-on)
 
--- src/lib.rt:63:1
 returns-2 : tie.Need-returns-2
 unfolding fadeOrder
 returns-2 c = search (needs, ifs, fadeOrder-on)
 
--- src/lib.rt:63:1
 returns-3 : tie.Need-returns-3
 unfolding fadeOrder
 returns-3 c = search (needs, ifs, fadeOrder-on)

@@ -6,27 +6,22 @@ use Rattle.frame.proofs.operation_with.Tie as tie
 use Rattle.frame.proofs.operation_with.Reads as reads
 use Rattle.frame.proofs.operation_with.Lts as lts
 
--- src/lib.rt:41:1
 returns : tie.Need-returns
 unfolding operationWith
 returns c = search (needs, ifs, if-other) depth 12
 
--- src/lib.rt:41:1
 returns-2 : tie.Need-returns-2
 unfolding operationWith
 returns-2 c = search (needs, ifs, if-other) depth 12
 
--- src/lib.rt:41:1
 returns-3 : tie.Need-returns-3
 unfolding operationWith
 returns-3 c = search (needs, ifs, if-other) depth 12
 
--- src/lib.rt:41:1
 returns-4 : tie.Need-returns-4
 unfolding operationWith
 returns-4 c = search (needs, ifs, if-other) depth 12
 
--- src/lib.rt:41:1
 returns-5 : tie.Need-returns-5
 unfolding operationWith
 returns-5 c = search (needs, ifs, if-other) depth 12

@@ -7,26 +7,21 @@ use Rattle.frame.proofs.order.Reads as reads
 use Rattle.frame.proofs.order.Lts as lts
 use Rattle.ranges.proofs.is_within.Reads as is-within-reads
 
--- src/lib.rt:30:15
 is-within-requires : tie.Need-is-within-requires
 is-within-requires c κs = search needs
 
--- src/lib.rt:17:1
 returns : tie.Need-returns
 unfolding ordered
 returns c = search (needs, ifs)
 
--- src/lib.rt:17:1
 returns-2 : tie.Need-returns-2
 unfolding ordered
 returns-2 c = search (needs, ifs)
 
--- src/lib.rt:17:1
 returns-3 : tie.Need-returns-3
 unfolding ordered
 returns-3 c = search (needs, ifs)
 
--- src/lib.rt:17:1
 returns-4 : tie.Need-returns-4
 unfolding ordered
 returns-4 c = search (needs, ifs)

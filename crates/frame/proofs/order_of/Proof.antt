@@ -12,77 +12,60 @@ use Rattle.frame.proofs.real_order.Reads as real-order-reads
 use Rattle.level.proofs.amount_operand.Reads as amount-operand-reads
 use Rattle.level.proofs.level_operand.Reads as level-operand-reads
 
--- src/lib.rt:117:17
 order-requires : tie.Need-order-requires
 order-requires c κs = search needs
 
--- src/lib.rt:118:28
 level-operand-requires : tie.Need-level-operand-requires
 level-operand-requires c κs = search needs
 
--- src/lib.rt:118:17
 fade-order-requires : tie.Need-fade-order-requires
 fade-order-requires c κs = search needs
 
--- src/lib.rt:119:28
 level-operand-requires-2 : tie.Need-level-operand-requires-2
 level-operand-requires-2 c κs = search needs
 
--- src/lib.rt:119:53
 amount-operand-requires : tie.Need-amount-operand-requires
 amount-operand-requires c κs = search needs
 
--- src/lib.rt:119:17
 ramp-order-requires : tie.Need-ramp-order-requires
 ramp-order-requires c κs = search needs
 
--- src/lib.rt:120:17
 order-requires-2 : tie.Need-order-requires-2
 order-requires-2 c κs = search needs
 
--- src/lib.rt:121:17
 order-requires-3 : tie.Need-order-requires-3
 order-requires-3 c κs = search needs
 
--- src/lib.rt:122:17
 order-requires-4 : tie.Need-order-requires-4
 order-requires-4 c κs = search needs
 
--- src/lib.rt:123:14
 real-order-requires : tie.Need-real-order-requires
 real-order-requires c κs = search needs
 
--- src/lib.rt:113:1
 returns : tie.Need-returns
 unfolding orderOf
 returns c = search (needs, ifs, if-other) depth 12
 
--- src/lib.rt:113:1
 returns-2 : tie.Need-returns-2
 unfolding orderOf
 returns-2 c = search (needs, ifs, if-other, ← c .before .level-operand .ensures) depth 12
 
--- src/lib.rt:113:1
 returns-3 : tie.Need-returns-3
 unfolding orderOf
 returns-3 c = search (needs, ifs, if-other, ← c .before .before .level-operand2 .ensures, ← c .before .amount-operand .ensures) depth 12
 
--- src/lib.rt:113:1
 returns-4 : tie.Need-returns-4
 unfolding orderOf
 returns-4 c = search (needs, ifs, if-other) depth 12
 
--- src/lib.rt:113:1
 returns-5 : tie.Need-returns-5
 unfolding orderOf
 returns-5 c = search (needs, ifs, if-other) depth 12
 
--- src/lib.rt:113:1
 returns-6 : tie.Need-returns-6
 unfolding orderOf
 returns-6 c = search (needs, ifs, if-other) depth 12
 
--- src/lib.rt:113:1
 returns-7 : tie.Need-returns-7
 unfolding orderOf
 returns-7 c = search (needs, ifs, if-other) depth 12

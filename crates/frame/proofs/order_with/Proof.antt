@@ -9,28 +9,22 @@ use Rattle.frame.proofs.order_with.Lts as lts
 use Rattle.frame.proofs.operation_with.Reads as operation-with-reads
 use Rattle.frame.proofs.order.Reads as order-reads
 
--- src/lib.rt:57:24
 enum-known-x : tie.Need-enum-known-x
 enum-known-x c = search needs
 
--- src/lib.rt:57:39
 operation-with-requires : tie.Need-operation-with-requires
 operation-with-requires c κs = search needs
 
--- src/lib.rt:57:33
 order-requires : tie.Need-order-requires
 order-requires c κs = search needs
 
--- src/lib.rt:58:27
 enum-told : tie.Need-enum-told
 enum-told c = search needs
 
--- src/lib.rt:53:1
 returns : tie.Need-returns
 unfolding orderedWith
 returns c = search (needs, ifs, orderedWith-on, ← c .before .operation-with .ensures)
 
--- src/lib.rt:53:1
 returns-2 : tie.Need-returns-2
 unfolding orderedWith
 returns-2 c = search (needs, ifs, orderedWith-on)

@@ -8,19 +8,15 @@ use Rattle.field.proofs.byte_at.Reads as byte-at-reads
 use Rattle.frame.proofs.parse_by.Reads as parse-by-reads
 use Rattle.kinds.proofs.kind_length.Reads as kind-length-reads
 
--- src/lib.rt:251:9
 byte-at-requires : tie.Need-byte-at-requires
 byte-at-requires c κs = search needs
 
--- src/lib.rt:252:20
 kind-length-requires : tie.Need-kind-length-requires
 kind-length-requires c κs = search needs
 
--- src/lib.rt:252:5
 parse-by-requires : tie.Need-parse-by-requires
 parse-by-requires c κs = search needs
 
--- src/lib.rt:248:1
 returns : tie.Need-returns
 unfolding parse
 returns c = simp (c .parse-by .ensures, c .before .kind-length .ensures, c .before .before .byte-at .ensures)

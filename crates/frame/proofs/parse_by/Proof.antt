@@ -8,30 +8,24 @@ use Rattle.frame.proofs.parse_by.Lts as lts
 use Rattle.frame.proofs.call.Reads as call-reads
 use Rattle.frame.proofs.clock_of.Reads as clock-of-reads
 
--- src/lib.rt:242:21
 clock-of-requires : tie.Need-clock-of-requires
 clock-of-requires c κs = search needs
 
--- src/lib.rt:242:42
 call-requires : tie.Need-call-requires
 call-requires c κs = search needs
 
--- src/lib.rt:236:1
 returns : tie.Need-returns
 unfolding parseBy
 returns c = search (needs, ifs)
 
--- src/lib.rt:236:1
 returns-2 : tie.Need-returns-2
 unfolding parseBy
 returns-2 c = search (needs, ifs)
 
--- src/lib.rt:236:1
 returns-3 : tie.Need-returns-3
 unfolding parseBy
 returns-3 c = search (needs, ifs)
 
--- src/lib.rt:236:1
 returns-4 : tie.Need-returns-4
 unfolding parseBy
 returns-4 c = search (needs, ifs)

@@ -8,24 +8,19 @@ use Rattle.frame.proofs.ramp_order.Reads as reads
 use Rattle.frame.proofs.ramp_order.Lts as lts
 use Rattle.frame.proofs.ramp_order_at.Reads as ramp-order-at-reads
 
--- src/lib.rt:90:24
 enum-known-x : tie.Need-enum-known-x
 enum-known-x c = search needs
 
--- src/lib.rt:90:34
 ramp-order-at-requires : tie.Need-ramp-order-at-requires
 ramp-order-at-requires c κs = search needs
 
--- src/lib.rt:91:27
 enum-told : tie.Need-enum-told
 enum-told c = search needs
 
--- src/lib.rt:86:1
 returns : tie.Need-returns
 unfolding rampOrder
 returns c = search (needs, ifs, rampOrder-on)
 
--- src/lib.rt:86:1
 returns-2 : tie.Need-returns-2
 unfolding rampOrder
 returns-2 c = search (needs, ifs, rampOrder-on)

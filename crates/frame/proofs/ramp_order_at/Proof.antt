@@ -8,24 +8,19 @@ use Rattle.frame.proofs.ramp_order_at.Reads as reads
 use Rattle.frame.proofs.ramp_order_at.Lts as lts
 use Rattle.frame.proofs.order.Reads as order-reads
 
--- src/lib.rt:81:24
 enum-known-rate : tie.Need-enum-known-rate
 enum-known-rate c = search needs
 
--- src/lib.rt:81:33
 order-requires : tie.Need-order-requires
 order-requires c κs = search needs
 
--- src/lib.rt:82:27
 enum-told : tie.Need-enum-told
 enum-told c = search needs
 
--- src/lib.rt:77:1
 returns : tie.Need-returns
 unfolding rampOrderAt
 returns c = search (needs, ifs, rampOrderAt-on)
 
--- src/lib.rt:77:1
 returns-2 : tie.Need-returns-2
 unfolding rampOrderAt
 returns-2 c = search (needs, ifs, rampOrderAt-on)

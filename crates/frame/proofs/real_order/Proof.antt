@@ -6,15 +6,12 @@ use Rattle.frame.proofs.real_order.Lts as lts
 use Rattle.frame.proofs.order_with.Reads as order-with-reads
 use Rattle.frame.proofs.step_or_level.Reads as step-or-level-reads
 
--- src/lib.rt:109:19
 step-or-level-requires : tie.Need-step-or-level-requires
 step-or-level-requires c κs = search needs
 
--- src/lib.rt:109:5
 order-with-requires : tie.Need-order-with-requires
 order-with-requires c κs = search needs
 
--- src/lib.rt:106:1
 returns : tie.Need-returns
 returns c = simp (c .order-with .ensures, c .before .step-or-level .ensures)
 

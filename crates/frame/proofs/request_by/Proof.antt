@@ -11,61 +11,48 @@ use Rattle.frame.proofs.write_of.Reads as write-of-reads
 use Rattle.properties.proofs.change_of.Reads as change-of-reads
 use Rattle.properties.proofs.property_of.Reads as property-of-reads
 
--- src/lib.rt:167:17
 write-of-requires : tie.Need-write-of-requires
 write-of-requires c κs = search needs
 
--- src/lib.rt:168:17
 empty-of-requires : tie.Need-empty-of-requires
 empty-of-requires c κs = search needs
 
--- src/lib.rt:169:39
 property-of-requires : tie.Need-property-of-requires
 property-of-requires c κs = search needs
 
--- src/lib.rt:169:17
 change-of-requires : tie.Need-change-of-requires
 change-of-requires c κs = search needs
 
--- src/lib.rt:170:31
 property-of-requires-2 : tie.Need-property-of-requires-2
 property-of-requires-2 c κs = search needs
 
--- src/lib.rt:171:24
 order-of-requires : tie.Need-order-of-requires
 order-of-requires c κs = search needs
 
--- src/lib.rt:163:1
 returns : tie.Need-returns
 unfolding requestBy
 returns c = search (needs, ifs, if-other) depth 12
 
--- src/lib.rt:163:1
 returns-2 : tie.Need-returns-2
 unfolding requestBy
 returns-2 c = search (needs, ifs, if-other) depth 12
 
--- src/lib.rt:163:1
 returns-3 : tie.Need-returns-3
 unfolding requestBy
 returns-3 c = search (needs, ifs, if-other, ← c .before .property-of .ensures) depth 12
 
--- src/lib.rt:163:1
 returns-4 : tie.Need-returns-4
 unfolding requestBy
 returns-4 c = search (needs, ifs, if-other) depth 12
 
--- src/lib.rt:163:1
 returns-5 : tie.Need-returns-5
 unfolding requestBy
 returns-5 c = search (needs, ifs, if-other) depth 12
 
--- src/lib.rt:163:1
 returns-6 : tie.Need-returns-6
 unfolding requestBy
 returns-6 c = search (needs, ifs, if-other) depth 12
 
--- src/lib.rt:163:1
 returns-7 : tie.Need-returns-7
 unfolding requestBy
 returns-7 c = search (needs, ifs, if-other) depth 12

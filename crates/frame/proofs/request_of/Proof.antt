@@ -8,31 +8,24 @@ use Rattle.field.proofs.byte_at.Reads as byte-at-reads
 use Rattle.field.proofs.word32_at.Reads as word32-at-reads
 use Rattle.frame.proofs.request_by.Reads as request-by-reads
 
--- src/lib.rt:181:9
 byte-at-requires : tie.Need-byte-at-requires
 byte-at-requires c κs = search needs
 
--- src/lib.rt:182:9
 word32-at-requires : tie.Need-word32-at-requires
 word32-at-requires c κs = search needs
 
--- src/lib.rt:183:9
 word32-at-requires-2 : tie.Need-word32-at-requires-2
 word32-at-requires-2 c κs = search needs
 
--- src/lib.rt:184:9
 word32-at-requires-3 : tie.Need-word32-at-requires-3
 word32-at-requires-3 c κs = search needs
 
--- src/lib.rt:185:9
 word32-at-requires-4 : tie.Need-word32-at-requires-4
 word32-at-requires-4 c κs = search needs
 
--- src/lib.rt:179:5
 request-by-requires : tie.Need-request-by-requires
 request-by-requires c κs = search needs
 
--- src/lib.rt:176:1
 returns : tie.Need-returns
 unfolding requestOf
 returns c = simp (c .request-by .ensures, c .before .word32-at4 .ensures, c .before .before .word32-at3 .ensures, c .before .before .before .word32-at2 .ensures, c .before .before .before .before .word32-at .ensures, c .before .before .before .before .before .byte-at .ensures)

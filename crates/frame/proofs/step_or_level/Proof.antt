@@ -8,29 +8,23 @@ use Rattle.frame.proofs.step_or_level.Lts as lts
 use Rattle.level.proofs.amount_operand.Reads as amount-operand-reads
 use Rattle.level.proofs.level_operand.Reads as level-operand-reads
 
--- src/lib.rt:100:17
 amount-operand-requires : tie.Need-amount-operand-requires
 amount-operand-requires c κs = search needs
 
--- src/lib.rt:101:17
 amount-operand-requires-2 : tie.Need-amount-operand-requires-2
 amount-operand-requires-2 c κs = search needs
 
--- src/lib.rt:102:14
 level-operand-requires : tie.Need-level-operand-requires
 level-operand-requires c κs = search needs
 
--- src/lib.rt:96:1
 returns : tie.Need-returns
 unfolding stepOrLevel
 returns c = search (needs, ifs, if-other) depth 12
 
--- src/lib.rt:96:1
 returns-2 : tie.Need-returns-2
 unfolding stepOrLevel
 returns-2 c = search (needs, ifs, if-other) depth 12
 
--- src/lib.rt:96:1
 returns-3 : tie.Need-returns-3
 unfolding stepOrLevel
 returns-3 c = search (needs, ifs, if-other) depth 12

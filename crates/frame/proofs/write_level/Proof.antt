@@ -7,20 +7,16 @@ use Rattle.frame.proofs.write_level.Tie as tie
 use Rattle.frame.proofs.write_level.Reads as reads
 use Rattle.frame.proofs.write_level.Lts as lts
 
--- src/lib.rt:133:22
 enum-known-v : tie.Need-enum-known-v
 enum-known-v c = search needs
 
--- src/lib.rt:134:30
 enum-told : tie.Need-enum-told
 enum-told c = search needs
 
--- src/lib.rt:129:1
 returns : tie.Need-returns
 unfolding writeLevel
 returns c = search (needs, ifs, writeLevel-on)
 
--- src/lib.rt:129:1
 returns-2 : tie.Need-returns-2
 unfolding writeLevel
 returns-2 c = search (needs, ifs, writeLevel-on)

@@ -10,28 +10,22 @@ use Rattle.level.proofs.level_of.Reads as level-of-reads
 use Rattle.properties.proofs.values.slot_of.Reads as slot-of-reads
 use Rattle.ranges.proofs.is_priority.Reads as is-priority-reads
 
--- src/lib.rt:141:8
 is-priority-requires : tie.Need-is-priority-requires
 is-priority-requires c κs = search needs
 
--- src/lib.rt:142:21
 slot-of-requires : tie.Need-slot-of-requires
 slot-of-requires c κs = cc
 
--- src/lib.rt:142:60
 level-of-requires : tie.Need-level-of-requires
 level-of-requires c κs = search needs
 
--- src/lib.rt:142:9
 write-level-requires : tie.Need-write-level-requires
 write-level-requires c κs = search needs
 
--- src/lib.rt:138:1
 returns : tie.Need-returns
 unfolding writeOf
 returns c = search (needs, ifs, ← c .before .before .slot-of .ensures, ← c .before .level-of .ensures)
 
--- src/lib.rt:138:1
 returns-2 : tie.Need-returns-2
 unfolding writeOf
 returns-2 c = search (needs, ifs)

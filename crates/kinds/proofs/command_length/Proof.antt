@@ -6,37 +6,30 @@ use Rattle.kinds.proofs.command_length.Tie as tie
 use Rattle.kinds.proofs.command_length.Reads as reads
 use Rattle.kinds.proofs.command_length.Lts as lts
 
--- src/lib.rt:7:1
 returns : tie.Need-returns
 unfolding commandLength
 returns c = search (needs, ifs, if-other) depth 12
 
--- src/lib.rt:7:1
 returns-2 : tie.Need-returns-2
 unfolding commandLength
 returns-2 c = search (needs, ifs, if-other) depth 12
 
--- src/lib.rt:7:1
 returns-3 : tie.Need-returns-3
 unfolding commandLength
 returns-3 c = search (needs, ifs, if-other) depth 12
 
--- src/lib.rt:7:1
 returns-4 : tie.Need-returns-4
 unfolding commandLength
 returns-4 c = search (needs, ifs, if-other) depth 12
 
--- src/lib.rt:7:1
 returns-5 : tie.Need-returns-5
 unfolding commandLength
 returns-5 c = search (needs, ifs, if-other) depth 12
 
--- src/lib.rt:7:1
 returns-6 : tie.Need-returns-6
 unfolding commandLength
 returns-6 c = search (needs, ifs, if-other) depth 12
 
--- src/lib.rt:7:1
 returns-7 : tie.Need-returns-7
 unfolding commandLength
 returns-7 c = search (needs, ifs, if-other) depth 12

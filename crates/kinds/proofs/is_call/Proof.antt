@@ -6,11 +6,9 @@ use Rattle.kinds.proofs.is_call.Reads as reads
 use Rattle.kinds.proofs.is_call.Lts as lts
 use Rattle.kinds.proofs.kind_length.Reads as kind-length-reads
 
--- src/lib.rt:40:10
 kind-length-requires : tie.Need-kind-length-requires
 kind-length-requires c κs = search needs
 
--- src/lib.rt:37:1
 returns : tie.Need-returns
 unfolding isCall
 returns c = simp (c .kind-length .ensures)

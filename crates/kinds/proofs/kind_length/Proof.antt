@@ -7,31 +7,24 @@ use Rattle.kinds.proofs.kind_length.Lts as lts
 use Rattle.kinds.proofs.command_length.Reads as command-length-reads
 use Rattle.kinds.proofs.plain_length.Reads as plain-length-reads
 
--- src/lib.rt:42:24
 plain-length-requires : tie.Need-plain-length-requires
 plain-length-requires c κs = search needs
 
--- src/lib.rt:43:24
 command-length-requires : tie.Need-command-length-requires
 command-length-requires c κs = search needs
 
--- src/lib.rt:38:1
 returns : tie.Need-returns
 returns c = search needs
 
--- src/lib.rt:38:1
 returns-2 : tie.Need-returns-2
 returns-2 c = search (needs, table)
 
--- src/lib.rt:38:1
 returns-3 : tie.Need-returns-3
 returns-3 c = search (needs, table)
 
--- src/lib.rt:38:1
 returns-4 : tie.Need-returns-4
 returns-4 c = search (needs, table)
 
--- src/lib.rt:38:1
 returns-5 : tie.Need-returns-5
 returns-5 c = search (needs, table)
 

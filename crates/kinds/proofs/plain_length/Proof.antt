@@ -7,27 +7,22 @@ use Rattle.kinds.proofs.plain_length.Tie as tie
 use Rattle.kinds.proofs.plain_length.Reads as reads
 use Rattle.kinds.proofs.plain_length.Lts as lts
 
--- src/lib.rt:23:1
 returns : tie.Need-returns
 unfolding kindLength
 returns c = search (needs, ifs, if-other) depth 12
 
--- src/lib.rt:23:1
 returns-2 : tie.Need-returns-2
 unfolding kindLength
 returns-2 c = search (needs, ifs, if-other) depth 12
 
--- src/lib.rt:23:1
 returns-3 : tie.Need-returns-3
 unfolding kindLength
 returns-3 c = search (needs, ifs, if-other) depth 12
 
--- src/lib.rt:23:1
 returns-4 : tie.Need-returns-4
 unfolding kindLength
 returns-4 c = search (needs, ifs, if-other) depth 12
 
--- src/lib.rt:23:1
 returns-5 : tie.Need-returns-5
 returns-5 c = search (needs, table)
 

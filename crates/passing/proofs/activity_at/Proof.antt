@@ -7,58 +7,46 @@ use Rattle.passing.proofs.activity_at.Tie as tie
 use Rattle.passing.proofs.activity_at.Reads as reads
 use Rattle.passing.proofs.activity_at.Lts as lts
 
--- src/lib.rt:105:28
 enum-told : tie.Need-enum-told
 enum-told c = search needs
 
--- src/lib.rt:106:26
 enum-known-a : tie.Need-enum-known-a
 enum-known-a c = search needs
 
--- src/lib.rt:108:13
 enum-known-a-2 : tie.Need-enum-known-a-2
 enum-known-a-2 c = search needs
 
--- src/lib.rt:121:37
 enum-known-a-3 : tie.Need-enum-known-a-3
 enum-known-a-3 c = search needs
 
--- src/lib.rt:101:1
 returns : tie.Need-returns
 unfolding activityAt
 returns c = search (needs, ifs, activityAt-on)
 
--- src/lib.rt:101:1
 returns-2 : tie.Need-returns-2
 unfolding activityAt
 returns-2 c = search (needs, ifs, activityAt-on)
 
--- src/lib.rt:101:1
 returns-3 : tie.Need-returns-3
 unfolding activityAt
 returns-3 c = search (needs, ifs, activityAt-on)
 
--- src/lib.rt:101:1
 returns-4 : tie.Need-returns-4
 unfolding activityAt
 returns-4 c = search (needs, ifs, activityAt-on)
 
--- src/lib.rt:101:1
 returns-5 : tie.Need-returns-5
 unfolding activityAt
 returns-5 c = search (needs, ifs, activityAt-on)
 
--- src/lib.rt:101:1
 returns-6 : tie.Need-returns-6
 unfolding activityAt
 returns-6 c = search (needs, ifs, activityAt-on)
 
--- src/lib.rt:101:1
 returns-7 : tie.Need-returns-7
 unfolding activityAt
 returns-7 c = search (needs, ifs, activityAt-on)
 
--- src/lib.rt:101:1
 returns-8 : tie.Need-returns-8
 unfolding activityAt
 returns-8 c = search (needs, ifs, activityAt-on)

@@ -8,50 +8,39 @@ use Rattle.passing.proofs.activity_due.Reads as reads
 use Rattle.passing.proofs.activity_due.Lts as lts
 use Rattle.passing.proofs.least.Reads as least-reads
 
--- src/lib.rt:202:28
 enum-told : tie.Need-enum-told
 enum-told c = search needs
 
--- src/lib.rt:203:26
 enum-known-a : tie.Need-enum-known-a
 enum-known-a c = search needs
 
--- src/lib.rt:203:32
 least-requires : tie.Need-least-requires
 least-requires c κs = search needs
 
--- src/lib.rt:207:13
 enum-known-a-2 : tie.Need-enum-known-a-2
 enum-known-a-2 c = search needs
 
--- src/lib.rt:209:14
 least-requires-2 : tie.Need-least-requires-2
 least-requires-2 c κs = search needs
 
--- src/lib.rt:210:37
 enum-known-a-3 : tie.Need-enum-known-a-3
 enum-known-a-3 c = search needs
 
--- src/lib.rt:210:47
 least-requires-3 : tie.Need-least-requires-3
 least-requires-3 c κs = search needs
 
--- src/lib.rt:198:1
 returns : tie.Need-returns
 unfolding activityDue
 returns c = search (needs, ifs, activityDue-on)
 
--- src/lib.rt:198:1
 returns-2 : tie.Need-returns-2
 unfolding activityDue
 returns-2 c = search (needs, ifs, activityDue-on)
 
--- src/lib.rt:198:1
 returns-3 : tie.Need-returns-3
 unfolding activityDue
 returns-3 c = search (needs, ifs, activityDue-on)
 
--- src/lib.rt:198:1
 returns-4 : tie.Need-returns-4
 unfolding activityDue
 returns-4 c = search (needs, ifs, activityDue-on)

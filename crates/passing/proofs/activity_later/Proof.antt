@@ -7,38 +7,30 @@ use Rattle.passing.proofs.activity_later.Tie as tie
 use Rattle.passing.proofs.activity_later.Reads as reads
 use Rattle.passing.proofs.activity_later.Lts as lts
 
--- src/lib.rt:272:28
 enum-told : tie.Need-enum-told
 enum-told c = search needs
 
--- src/lib.rt:273:26
 enum-known-a : tie.Need-enum-known-a
 enum-known-a c = search needs
 
--- src/lib.rt:277:13
 enum-known-a-2 : tie.Need-enum-known-a-2
 enum-known-a-2 c = search needs
 
--- src/lib.rt:280:37
 enum-known-a-3 : tie.Need-enum-known-a-3
 enum-known-a-3 c = search needs
 
--- src/lib.rt:268:1
 returns : tie.Need-returns
 unfolding activityLater
 returns c = search (needs, ifs, activityLater-on)
 
--- src/lib.rt:268:1
 returns-2 : tie.Need-returns-2
 unfolding activityLater
 returns-2 c = search (needs, ifs, activityLater-on)
 
--- src/lib.rt:268:1
 returns-3 : tie.Need-returns-3
 unfolding activityLater
 returns-3 c = search (needs, ifs, activityLater-on)
 
--- src/lib.rt:268:1
 returns-4 : tie.Need-returns-4
 unfolding activityLater
 returns-4 c = search (needs, ifs, activityLater-on)

@@ -7,43 +7,34 @@ use Rattle.passing.proofs.disown.Tie as tie
 use Rattle.passing.proofs.disown.Reads as reads
 use Rattle.passing.proofs.disown.Lts as lts
 
--- src/lib.rt:78:28
 enum-told : tie.Need-enum-told
 enum-told c = search needs
 
--- src/lib.rt:79:26
 enum-known-a : tie.Need-enum-known-a
 enum-known-a c = search needs
 
--- src/lib.rt:85:14
 enum-told-2 : tie.Need-enum-told-2
 enum-told-2 c = search needs
 
--- src/lib.rt:86:50
 enum-told-3 : tie.Need-enum-told-3
 enum-told-3 c = search needs
 
--- src/lib.rt:74:1
 returns : tie.Need-returns
 unfolding disowned
 returns c = search (needs, ifs, disowned-on)
 
--- src/lib.rt:74:1
 returns-2 : tie.Need-returns-2
 unfolding disowned
 returns-2 c = search (needs, ifs, disowned-on)
 
--- src/lib.rt:74:1
 returns-3 : tie.Need-returns-3
 unfolding disowned
 returns-3 c = search (needs, ifs, disowned-on)
 
--- src/lib.rt:74:1
 returns-4 : tie.Need-returns-4
 unfolding disowned
 returns-4 c = search (needs, ifs, disowned-on)
 
--- src/lib.rt:74:1
 returns-5 : tie.Need-returns-5
 unfolding disowned
 returns-5 c = search (needs, ifs, disowned-on)

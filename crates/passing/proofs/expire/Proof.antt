@@ -8,29 +8,23 @@ use Rattle.passing.proofs.expire.Reads as reads
 use Rattle.passing.proofs.expire.Lts as lts
 use Rattle.slots.proofs.empty.Reads as empty-reads
 
--- src/lib.rt:68:23
 enum-told : tie.Need-enum-told
 enum-told c = search needs
 
--- src/lib.rt:69:26
 enum-known-m : tie.Need-enum-known-m
 enum-known-m c = search needs
 
--- src/lib.rt:69:55
 empty-requires : tie.Need-empty-requires
 empty-requires c κs = search needs
 
--- src/lib.rt:64:1
 returns : tie.Need-returns
 unfolding expired
 returns c = search (needs, ifs, expired-on)
 
--- src/lib.rt:64:1
 returns-2 : tie.Need-returns-2
 unfolding expired
 returns-2 c = search (needs, ifs, expired-on)
 
--- src/lib.rt:64:1
 returns-3 : tie.Need-returns-3
 unfolding expired
 returns-3 c = search (needs, ifs, expired-on)

@@ -11,31 +11,24 @@ use Rattle.passing.proofs.settle.Reads as settle-reads
 use Rattle.passing.proofs.slots_at.Reads as slots-at-reads
 use Rattle.passing.proofs.timer_at.Reads as timer-at-reads
 
--- src/lib.rt:176:9
 release-requires : tie.Need-release-requires
 release-requires c κs = search needs
 
--- src/lib.rt:179:34
 expire-requires : tie.Need-expire-requires
 expire-requires c κs = search needs
 
--- src/lib.rt:179:16
 slots-at-requires : tie.Need-slots-at-requires
 slots-at-requires c κs = search needs
 
--- src/lib.rt:180:19
 activity-at-requires : tie.Need-activity-at-requires
 activity-at-requires c κs = search needs
 
--- src/lib.rt:181:16
 timer-at-requires : tie.Need-timer-at-requires
 timer-at-requires c κs = search needs
 
--- src/lib.rt:177:5
 settle-requires : tie.Need-settle-requires
 settle-requires c κs = search needs
 
--- src/lib.rt:168:1
 returns : tie.Need-returns
 unfolding fire
 returns c = simp (c .settle .ensures, c .before .timer-at .ensures, c .before .before .activity-at .ensures, c .before .before .before .slots-at .ensures, c .before .before .before .before .expire .ensures, c .before .before .before .before .before .release .ensures)

@@ -8,19 +8,15 @@ use Rattle.passing.proofs.added.Reads as added-reads
 use Rattle.passing.proofs.glow.Reads as glow-reads
 use Rattle.passing.proofs.with_burning.Reads as with-burning-reads
 
--- src/lib.rt:50:38
 glow-requires : tie.Need-glow-requires
 glow-requires c κs = search needs
 
--- src/lib.rt:50:21
 added-requires : tie.Need-added-requires
 added-requires c κs = search needs
 
--- src/lib.rt:50:5
 with-burning-requires : tie.Need-with-burning-requires
 with-burning-requires c κs = search needs
 
--- src/lib.rt:47:1
 returns : tie.Need-returns
 unfolding gained
 returns c = simp (c .with-burning .ensures, c .before .added .ensures, c .before .before .glow .ensures)

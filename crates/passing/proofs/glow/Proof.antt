@@ -7,16 +7,13 @@ use Rattle.passing.proofs.glow.Reads as reads
 use Rattle.passing.proofs.glow.Lts as lts
 use Rattle.value.proofs.is_lit.Reads as is-lit-reads
 
--- src/lib.rt:44:8
 is-lit-requires : tie.Need-is-lit-requires
 is-lit-requires c κs = search needs
 
--- src/lib.rt:39:1
 returns : tie.Need-returns
 unfolding glowing
 returns c = search (needs, ifs)
 
--- src/lib.rt:39:1
 returns-2 : tie.Need-returns-2
 unfolding glowing
 returns-2 c = search (needs, ifs)

@@ -8,19 +8,15 @@ use Rattle.passing.proofs.hop_to.Reads as hop-to-reads
 use Rattle.passing.proofs.next_due.Reads as next-due-reads
 use Rattle.passing.proofs.rest.Reads as rest-reads
 
--- src/lib.rt:239:9
 next-due-requires : tie.Need-next-due-requires
 next-due-requires c κs = search needs
 
--- src/lib.rt:240:17
 hop-to-requires : tie.Need-hop-to-requires
 hop-to-requires c κs = search needs
 
--- src/lib.rt:240:5
 rest-requires : tie.Need-rest-requires
 rest-requires c κs = search needs
 
--- src/lib.rt:236:1
 returns : tie.Need-returns
 unfolding hops
 returns c = simp (c .rest .ensures, c .before .hop-to .ensures, c .before .before .next-due .ensures)

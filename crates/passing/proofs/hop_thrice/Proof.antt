@@ -8,19 +8,15 @@ use Rattle.passing.proofs.hop_to.Reads as hop-to-reads
 use Rattle.passing.proofs.hop_twice.Reads as hop-twice-reads
 use Rattle.passing.proofs.next_due.Reads as next-due-reads
 
--- src/lib.rt:253:9
 next-due-requires : tie.Need-next-due-requires
 next-due-requires c κs = search needs
 
--- src/lib.rt:254:22
 hop-to-requires : tie.Need-hop-to-requires
 hop-to-requires c κs = search needs
 
--- src/lib.rt:254:5
 hop-twice-requires : tie.Need-hop-twice-requires
 hop-twice-requires c κs = search needs
 
--- src/lib.rt:250:1
 returns : tie.Need-returns
 unfolding advance hops
 returns c = simp (c .hop-twice .ensures, c .before .hop-to .ensures, c .before .before .next-due .ensures)

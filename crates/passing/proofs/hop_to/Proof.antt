@@ -8,19 +8,15 @@ use Rattle.passing.proofs.fire_at.Reads as fire-at-reads
 use Rattle.passing.proofs.gain.Reads as gain-reads
 use Rattle.value.proofs.since.Reads as since-reads
 
--- src/lib.rt:227:26
 since-requires : tie.Need-since-requires
 since-requires c κs = search needs
 
--- src/lib.rt:227:16
 gain-requires : tie.Need-gain-requires
 gain-requires c κs = search needs
 
--- src/lib.rt:227:5
 fire-at-requires : tie.Need-fire-at-requires
 fire-at-requires c κs = search needs
 
--- src/lib.rt:224:1
 returns : tie.Need-returns
 unfolding hop
 returns c = simp (c .fire-at .ensures, c .before .gain .ensures, c .before .before .since .ensures)

@@ -8,19 +8,15 @@ use Rattle.passing.proofs.hop_once.Reads as hop-once-reads
 use Rattle.passing.proofs.hop_to.Reads as hop-to-reads
 use Rattle.passing.proofs.next_due.Reads as next-due-reads
 
--- src/lib.rt:246:9
 next-due-requires : tie.Need-next-due-requires
 next-due-requires c κs = search needs
 
--- src/lib.rt:247:21
 hop-to-requires : tie.Need-hop-to-requires
 hop-to-requires c κs = search needs
 
--- src/lib.rt:247:5
 hop-once-requires : tie.Need-hop-once-requires
 hop-once-requires c κs = search needs
 
--- src/lib.rt:243:1
 returns : tie.Need-returns
 unfolding hops
 returns c = simp (c .hop-once .ensures, c .before .hop-to .ensures, c .before .before .next-due .ensures)

@@ -8,20 +8,16 @@ use Rattle.passing.proofs.is_later.Lts as lts
 use Rattle.passing.proofs.activity_later.Reads as activity-later-reads
 use Rattle.passing.proofs.timer_later.Reads as timer-later-reads
 
--- src/lib.rt:289:8
 timer-later-requires : tie.Need-timer-later-requires
 timer-later-requires c κs = search needs
 
--- src/lib.rt:290:9
 activity-later-requires : tie.Need-activity-later-requires
 activity-later-requires c κs = search needs
 
--- src/lib.rt:284:1
 returns : tie.Need-returns
 unfolding later
 returns c = search (needs, ifs)
 
--- src/lib.rt:284:1
 returns-2 : tie.Need-returns-2
 unfolding later
 returns-2 c = search (needs, ifs)

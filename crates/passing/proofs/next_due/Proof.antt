@@ -8,19 +8,15 @@ use Rattle.passing.proofs.activity_due.Reads as activity-due-reads
 use Rattle.passing.proofs.least.Reads as least-reads
 use Rattle.passing.proofs.timer_due.Reads as timer-due-reads
 
--- src/lib.rt:219:11
 timer-due-requires : tie.Need-timer-due-requires
 timer-due-requires c κs = search needs
 
--- src/lib.rt:219:29
 activity-due-requires : tie.Need-activity-due-requires
 activity-due-requires c κs = search needs
 
--- src/lib.rt:219:5
 least-requires : tie.Need-least-requires
 least-requires c κs = search needs
 
--- src/lib.rt:214:1
 returns : tie.Need-returns
 unfolding due
 returns c = simp (c .least .ensures, c .before .activity-due .ensures, c .before .before .timer-due .ensures)

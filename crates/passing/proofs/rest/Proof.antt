@@ -7,15 +7,12 @@ use Rattle.passing.proofs.rest.Lts as lts
 use Rattle.passing.proofs.gain.Reads as gain-reads
 use Rattle.value.proofs.since.Reads as since-reads
 
--- src/lib.rt:233:15
 since-requires : tie.Need-since-requires
 since-requires c κs = search needs
 
--- src/lib.rt:233:5
 gain-requires : tie.Need-gain-requires
 gain-requires c κs = search needs
 
--- src/lib.rt:230:1
 returns : tie.Need-returns
 unfolding hops
 returns c = simp (c .gain .ensures, c .before .since .ensures)

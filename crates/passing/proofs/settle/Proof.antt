@@ -6,7 +6,6 @@ use Rattle.passing.proofs.settle.Tie as tie
 use Rattle.passing.proofs.settle.Reads as reads
 use Rattle.passing.proofs.settle.Lts as lts
 
--- src/lib.rt:161:1
 returns : tie.Need-returns
 unfolding settled
 returns c = search (needs, ifs)

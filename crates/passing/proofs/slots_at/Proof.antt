@@ -10,65 +10,51 @@ use Rattle.passing.proofs.warning_empty.Reads as warning-empty-reads
 use Rattle.slots.proofs.empty.Reads as empty-reads
 use Rattle.slots.proofs.fill.Reads as fill-reads
 
--- src/lib.rt:136:28
 enum-told : tie.Need-enum-told
 enum-told c = search needs
 
--- src/lib.rt:137:32
 enum-told-2 : tie.Need-enum-told-2
 enum-told-2 c = search needs
 
--- src/lib.rt:140:13
 enum-known-a : tie.Need-enum-known-a
 enum-known-a c = search needs
 
--- src/lib.rt:145:17
 fill-requires : tie.Need-fill-requires
 fill-requires c κs = search needs
 
--- src/lib.rt:147:17
 empty-requires : tie.Need-empty-requires
 empty-requires c κs = search needs
 
--- src/lib.rt:152:27
 enum-known-a-2 : tie.Need-enum-known-a-2
 enum-known-a-2 c = search needs
 
--- src/lib.rt:153:13
 warning-empty-requires : tie.Need-warning-empty-requires
 warning-empty-requires c κs = search needs
 
--- src/lib.rt:132:1
 returns : tie.Need-returns
 unfolding slotsAt
 returns c = search (needs, ifs, slotsAt-on)
 
--- src/lib.rt:132:1
 returns-2 : tie.Need-returns-2
 unfolding slotsAt
 returns-2 c = search (needs, ifs, slotsAt-on)
 
--- src/lib.rt:132:1
 returns-3 : tie.Need-returns-3
 unfolding slotsAt
 returns-3 c = search (needs, ifs, slotsAt-on)
 
--- src/lib.rt:132:1
 returns-4 : tie.Need-returns-4
 unfolding slotsAt
 returns-4 c = search (needs, ifs, slotsAt-on)
 
--- src/lib.rt:132:1
 returns-5 : tie.Need-returns-5
 unfolding slotsAt
 returns-5 c = search (needs, ifs, slotsAt-on)
 
--- src/lib.rt:132:1
 returns-6 : tie.Need-returns-6
 unfolding slotsAt
 returns-6 c = search (needs, ifs, slotsAt-on)
 
--- src/lib.rt:132:1
 returns-7 : tie.Need-returns-7
 unfolding slotsAt
 returns-7 c = search (needs, ifs, slotsAt-on)

@@ -7,25 +7,20 @@ use Rattle.passing.proofs.timer_at.Tie as tie
 use Rattle.passing.proofs.timer_at.Reads as reads
 use Rattle.passing.proofs.timer_at.Lts as lts
 
--- src/lib.rt:59:23
 enum-told : tie.Need-enum-told
 enum-told c = search needs
 
--- src/lib.rt:60:35
 enum-known-m : tie.Need-enum-known-m
 enum-known-m c = search needs
 
--- src/lib.rt:55:1
 returns : tie.Need-returns
 unfolding timerAt
 returns c = search (needs, ifs, timerAt-on)
 
--- src/lib.rt:55:1
 returns-2 : tie.Need-returns-2
 unfolding timerAt
 returns-2 c = search (needs, ifs, timerAt-on)
 
--- src/lib.rt:55:1
 returns-3 : tie.Need-returns-3
 unfolding timerAt
 returns-3 c = search (needs, ifs, timerAt-on)

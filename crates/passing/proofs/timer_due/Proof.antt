@@ -8,24 +8,19 @@ use Rattle.passing.proofs.timer_due.Reads as reads
 use Rattle.passing.proofs.timer_due.Lts as lts
 use Rattle.passing.proofs.least.Reads as least-reads
 
--- src/lib.rt:193:23
 enum-told : tie.Need-enum-told
 enum-told c = search needs
 
--- src/lib.rt:194:35
 enum-known-m : tie.Need-enum-known-m
 enum-known-m c = search needs
 
--- src/lib.rt:194:44
 least-requires : tie.Need-least-requires
 least-requires c κs = search needs
 
--- src/lib.rt:189:1
 returns : tie.Need-returns
 unfolding timerDue
 returns c = search (needs, ifs, timerDue-on)
 
--- src/lib.rt:189:1
 returns-2 : tie.Need-returns-2
 unfolding timerDue
 returns-2 c = search (needs, ifs, timerDue-on)

@@ -7,20 +7,16 @@ use Rattle.passing.proofs.timer_later.Tie as tie
 use Rattle.passing.proofs.timer_later.Reads as reads
 use Rattle.passing.proofs.timer_later.Lts as lts
 
--- src/lib.rt:263:23
 enum-told : tie.Need-enum-told
 enum-told c = search needs
 
--- src/lib.rt:264:35
 enum-known-m : tie.Need-enum-known-m
 enum-known-m c = search needs
 
--- src/lib.rt:259:1
 returns : tie.Need-returns
 unfolding timerLater
 returns c = search (needs, ifs, timerLater-on)
 
--- src/lib.rt:259:1
 returns-2 : tie.Need-returns-2
 unfolding timerLater
 returns-2 c = search (needs, ifs, timerLater-on)

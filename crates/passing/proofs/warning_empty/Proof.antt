@@ -6,15 +6,12 @@ use Rattle.passing.proofs.warning_empty.Reads as reads
 use Rattle.passing.proofs.warning_empty.Lts as lts
 use Rattle.slots.proofs.empty.Reads as empty-reads
 
--- src/lib.rt:129:18
 empty-requires : tie.Need-empty-requires
 empty-requires c κs = search needs
 
--- src/lib.rt:129:5
 empty-requires-2 : tie.Need-empty-requires-2
 empty-requires-2 c κs = search needs
 
--- src/lib.rt:126:1
 returns : tie.Need-returns
 unfolding put
 returns c = simp (c .empty2 .ensures, c .before .empty .ensures)

@@ -6,7 +6,6 @@ use Rattle.passing.proofs.with_burning.Tie as tie
 use Rattle.passing.proofs.with_burning.Reads as reads
 use Rattle.passing.proofs.with_burning.Lts as lts
 
--- src/lib.rt:30:1
 returns : tie.Need-returns
 unfolding withBurning
 returns c = search (needs, ifs)

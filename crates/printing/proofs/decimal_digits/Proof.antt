@@ -19,27 +19,21 @@ Inv-loop n bytes₀ i₀ rest₀ bytes i rest = (i ≤ 19) × (length bytes ≡ 
 abbrev μ-loop : tie.MeasureT-loop
 μ-loop n bytes₀ i₀ rest₀ bytes i rest = i
 
--- src/printing.rt:86:5
 loop-holds : tie.Need-loop-holds Inv-loop μ-loop
 loop-holds c = (omega arith, refl, digit-start _)
 
--- src/printing.rt:90:20
 last-digit-requires : tie.Need-last-digit-requires Inv-loop μ-loop
 last-digit-requires c κs = search needs
 
--- src/printing.rt:90:9
 array-write-bytes : tie.Need-array-write-bytes Inv-loop μ-loop
 array-write-bytes c = search needs
 
--- src/printing.rt:92:9
 sub-i : tie.Need-sub-i Inv-loop μ-loop
 sub-i c = search needs
 
--- src/printing.rt:86:5
 loop-less : tie.Need-loop-less Inv-loop μ-loop
 loop-less c = search needs
 
--- src/printing.rt:86:5
 loop-again : tie.Need-loop-again Inv-loop μ-loop
 loop-again c =
     let l = c .before .before .before .loop in (
@@ -48,15 +42,12 @@ loop-again c =
       digit-turn (l .i) (l .rest) (c .last-digit .result) (l .bytes) _ (omega arith) (omega arith) (omega arith) (c .last-digit .ensures) (l .inv .2),
     )
 
--- src/printing.rt:94:16
 last-digit-requires-2 : tie.Need-last-digit-requires-2 Inv-loop μ-loop
 last-digit-requires-2 c κs = search needs
 
--- src/printing.rt:94:5
 array-write-bytes-2 : tie.Need-array-write-bytes-2 Inv-loop μ-loop
 array-write-bytes-2 c = search needs
 
--- src/printing.rt:79:1
 returns : tie.Need-returns Inv-loop μ-loop
 returns c =
     let l = c .before .before .loop in (

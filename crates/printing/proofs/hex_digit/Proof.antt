@@ -6,20 +6,16 @@ use Rattle.printing.proofs.hex_digit.Tie as tie
 use Rattle.printing.proofs.hex_digit.Reads as reads
 use Rattle.printing.proofs.hex_digit.Lts as lts
 
--- src/printing.rt:42:17
 add-result : tie.Need-add-result
 add-result c = search needs
 
--- src/printing.rt:42:33
 add-result-2 : tie.Need-add-result-2
 add-result-2 c = search needs
 
--- src/printing.rt:38:1
 returns : tie.Need-returns
 unfolding hexDigit
 returns c = search (needs, ifs)
 
--- src/printing.rt:38:1
 returns-2 : tie.Need-returns-2
 unfolding hexDigit
 returns-2 c = search (needs, ifs)

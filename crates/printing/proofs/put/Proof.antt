@@ -5,23 +5,18 @@ use Rattle.printing.proofs.put.Tie as tie
 use Rattle.printing.proofs.put.Reads as reads
 use Rattle.printing.proofs.put.Lts as lts
 
--- src/printing.rt:17:9
 slice-write-page : tie.Need-slice-write-page
 slice-write-page c = search needs
 
--- src/printing.rt:18:9
 add-result : tie.Need-add-result
 add-result c = search needs
 
--- src/printing.rt:13:1
 same-length : tie.Need-same-length
 same-length c = search needs
 
--- src/printing.rt:13:1
 returns : tie.Need-returns
 returns c = search needs
 
--- src/printing.rt:13:1
 returns-2 : tie.Need-returns-2
 returns-2 c = search (needs, wrote-out)
 

@@ -18,38 +18,30 @@ Inv-loop page₀ at s mark₀ i₀ page mark i = (i ≤ length s) × (length pag
 abbrev μ-loop : tie.MeasureT-loop
 μ-loop page₀ at s mark₀ i₀ page mark i = length s - i
 
--- src/printing.rt:29:5
 loop-holds : tie.Need-loop-holds Inv-loop μ-loop
 loop-holds c = (omega arith, refl, wrote-none _ _)
 
--- src/printing.rt:30:32
 shared-slice-read-put : tie.Need-shared-slice-read-put Inv-loop μ-loop
 shared-slice-read-put c = search needs
 
--- src/printing.rt:30:9
 put-requires : tie.Need-put-requires Inv-loop μ-loop
 put-requires c κs = search needs
 
--- src/printing.rt:31:9
 add-i : tie.Need-add-i Inv-loop μ-loop
 add-i c = search needs
 
--- src/printing.rt:29:5
 loop-less : tie.Need-loop-less Inv-loop μ-loop
 loop-less c = search needs
 
--- src/printing.rt:29:5
 loop-again : tie.Need-loop-again Inv-loop μ-loop
 loop-again c =
     let l = c .before .before .before .before .before .before .loop in
     let s = c .before .before .before .before .before .before .before .before .before .args .s .now in
     (omega arith, search needs, wrote-turn s (l .i) (omega arith) (l .inv .2) (c .before .before .put .ensures))
 
--- src/printing.rt:24:1
 same-length : tie.Need-same-length Inv-loop μ-loop
 same-length c = search needs
 
--- src/printing.rt:24:1
 returns : tie.Need-returns Inv-loop μ-loop
 returns c = wrote-as (take-all (c .before .loop .i) (c .before .before .before .before .args .s .now) (omega arith)) (c .before .loop .inv .2)
 

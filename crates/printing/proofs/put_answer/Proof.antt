@@ -9,78 +9,60 @@ use Rattle.printing.proofs.put_all.Reads as put-all-reads
 use Rattle.printing.proofs.put_refused_line.Reads as put-refused-line-reads
 use Rattle.printing.proofs.put_value_line.Reads as put-value-line-reads
 
--- src/printing.rt:129:33
 enum-told : tie.Need-enum-told
 enum-told c = search needs
 
--- src/printing.rt:129:43
 slice-aggregate-put-all : tie.Need-slice-aggregate-put-all
 slice-aggregate-put-all c = search needs
 
--- src/printing.rt:129:25
 put-all-requires : tie.Need-put-all-requires
 put-all-requires c κs = search needs
 
--- src/printing.rt:130:23
 enum-known-a : tie.Need-enum-known-a
 enum-known-a c = search needs
 
--- src/printing.rt:130:29
 put-value-line-requires : tie.Need-put-value-line-requires
 put-value-line-requires c κs = search needs
 
--- src/printing.rt:131:35
 enum-told-2 : tie.Need-enum-told-2
 enum-told-2 c = search needs
 
--- src/printing.rt:131:45
 slice-aggregate-put-all-2 : tie.Need-slice-aggregate-put-all-2
 slice-aggregate-put-all-2 c = search needs
 
--- src/printing.rt:131:27
 put-all-requires-2 : tie.Need-put-all-requires-2
 put-all-requires-2 c κs = search needs
 
--- src/printing.rt:132:25
 enum-known-a-2 : tie.Need-enum-known-a-2
 enum-known-a-2 c = search needs
 
--- src/printing.rt:132:31
 put-refused-line-requires : tie.Need-put-refused-line-requires
 put-refused-line-requires c κs = search needs
 
--- src/printing.rt:125:1
 same-length : tie.Need-same-length
 same-length c = search needs
 
--- src/printing.rt:125:1
 returns : tie.Need-returns
 unfolding answerLine
 returns c = search (needs, answerLine-on)
 
--- src/printing.rt:125:1
 same-length-2 : tie.Need-same-length-2
 same-length-2 c = search needs
 
--- src/printing.rt:125:1
 returns-2 : tie.Need-returns-2
 unfolding answerLine
 returns-2 c = search (needs, answerLine-on)
 
--- src/printing.rt:125:1
 same-length-3 : tie.Need-same-length-3
 same-length-3 c = search needs
 
--- src/printing.rt:125:1
 returns-3 : tie.Need-returns-3
 unfolding answerLine
 returns-3 c = search (needs, answerLine-on)
 
--- src/printing.rt:125:1
 same-length-4 : tie.Need-same-length-4
 same-length-4 c = search needs
 
--- src/printing.rt:125:1
 returns-4 : tie.Need-returns-4
 unfolding answerLine
 returns-4 c = search (needs, answerLine-on)

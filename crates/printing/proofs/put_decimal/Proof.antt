@@ -12,31 +12,24 @@ use Rattle.printing.proofs.put_decimal.Lts as lts
 use Rattle.printing.proofs.decimal_digits.Reads as decimal-digits-reads
 use Rattle.printing.proofs.put_all.Reads as put-all-reads
 
--- src/printing.rt:101:9
 decimal-digits-requires : tie.Need-decimal-digits-requires
 decimal-digits-requires c κs = search needs
 
--- src/printing.rt:104:23
 sub-put-all : tie.Need-sub-put-all
 sub-put-all c = search needs
 
--- src/printing.rt:104:23
 part-put-all-start : tie.Need-part-put-all-start
 part-put-all-start c = search needs
 
--- src/printing.rt:104:23
 part-put-all-end : tie.Need-part-put-all-end
 part-put-all-end c = omega (arith, c .before .before .before .decimal-digits .ensures .1 .1)
 
--- src/printing.rt:104:5
 put-all-requires : tie.Need-put-all-requires
 put-all-requires c κs = search needs
 
--- src/printing.rt:98:1
 same-length : tie.Need-same-length
 same-length c = search needs
 
--- src/printing.rt:98:1
 returns : tie.Need-returns
 returns c =
     let d = c .before .before .before .before .before .before .before .decimal-digits in

@@ -8,27 +8,21 @@ use Rattle.printing.proofs.put_hex2.Lts as lts
 use Rattle.printing.proofs.hex_digit.Reads as hex-digit-reads
 use Rattle.printing.proofs.put.Reads as put-reads
 
--- src/printing.rt:48:30
 hex-digit-requires : tie.Need-hex-digit-requires
 hex-digit-requires c κs = search needs
 
--- src/printing.rt:48:9
 put-requires : tie.Need-put-requires
 put-requires c κs = search needs
 
--- src/printing.rt:49:21
 hex-digit-requires-2 : tie.Need-hex-digit-requires-2
 hex-digit-requires-2 c κs = search needs
 
--- src/printing.rt:49:5
 put-requires-2 : tie.Need-put-requires-2
 put-requires-2 c κs = search needs
 
--- src/printing.rt:45:1
 same-length : tie.Need-same-length
 same-length c = search needs
 
--- src/printing.rt:45:1
 returns : tie.Need-returns
 unfolding hex2
 returns c = search (needs, wrote-two)

@@ -7,27 +7,21 @@ use Rattle.printing.proofs.put_hex4.Reads as reads
 use Rattle.printing.proofs.put_hex4.Lts as lts
 use Rattle.printing.proofs.put_hex2.Reads as put-hex2-reads
 
--- src/printing.rt:55:35
 cast-put-hex2 : tie.Need-cast-put-hex2
 cast-put-hex2 c = search needs
 
--- src/printing.rt:55:9
 put-hex2-requires : tie.Need-put-hex2-requires
 put-hex2-requires c κs = search needs
 
--- src/printing.rt:56:26
 cast-put-hex2-2 : tie.Need-cast-put-hex2-2
 cast-put-hex2-2 c = search needs
 
--- src/printing.rt:56:5
 put-hex2-requires-2 : tie.Need-put-hex2-requires-2
 put-hex2-requires-2 c κs = search needs
 
--- src/printing.rt:52:1
 same-length : tie.Need-same-length
 same-length c = search needs
 
--- src/printing.rt:52:1
 returns : tie.Need-returns
 unfolding hex4
 returns c = search (needs, wrote-then)

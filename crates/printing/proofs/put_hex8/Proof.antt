@@ -7,27 +7,21 @@ use Rattle.printing.proofs.put_hex8.Reads as reads
 use Rattle.printing.proofs.put_hex8.Lts as lts
 use Rattle.printing.proofs.put_hex4.Reads as put-hex4-reads
 
--- src/printing.rt:62:35
 cast-put-hex4 : tie.Need-cast-put-hex4
 cast-put-hex4 c = search needs
 
--- src/printing.rt:62:9
 put-hex4-requires : tie.Need-put-hex4-requires
 put-hex4-requires c κs = search needs
 
--- src/printing.rt:63:26
 cast-put-hex4-2 : tie.Need-cast-put-hex4-2
 cast-put-hex4-2 c = search needs
 
--- src/printing.rt:63:5
 put-hex4-requires-2 : tie.Need-put-hex4-requires-2
 put-hex4-requires-2 c κs = search needs
 
--- src/printing.rt:59:1
 same-length : tie.Need-same-length
 same-length c = search needs
 
--- src/printing.rt:59:1
 returns : tie.Need-returns
 unfolding hex8
 returns c = search (needs, wrote-then)

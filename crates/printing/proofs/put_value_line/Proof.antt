@@ -8,27 +8,21 @@ use Rattle.printing.proofs.put.Reads as put-reads
 use Rattle.printing.proofs.put_all.Reads as put-all-reads
 use Rattle.printing.proofs.put_hex8.Reads as put-hex8-reads
 
--- src/printing.rt:112:34
 slice-aggregate-put-all : tie.Need-slice-aggregate-put-all
 slice-aggregate-put-all c = search needs
 
--- src/printing.rt:112:9
 put-all-requires : tie.Need-put-all-requires
 put-all-requires c κs = search needs
 
--- src/printing.rt:113:9
 put-hex8-requires : tie.Need-put-hex8-requires
 put-hex8-requires c κs = search needs
 
--- src/printing.rt:114:5
 put-requires : tie.Need-put-requires
 put-requires c κs = search needs
 
--- src/printing.rt:109:1
 same-length : tie.Need-same-length
 same-length c = search needs
 
--- src/printing.rt:109:1
 returns : tie.Need-returns
 returns c = wrote-then (c .before .before .before .before .before .before .before .before .before .before .put-all .ensures) (wrote-then (c .before .before .before .before .before .before .put-hex8 .ensures) (c .before .before .put .ensures))
 

@@ -18,282 +18,219 @@ use Rattle.properties.proofs.values.slot_of.Reads as slot-of-reads
 use Rattle.ranges.proofs.is_priority.Reads as is-priority-reads
 use Rattle.ranges.proofs.is_within.Reads as is-within-reads
 
--- src/lib.rt:53:63
 enum-told : tie.Need-enum-told
 enum-told c = search needs
 
--- src/lib.rt:53:63
 level-of-requires : tie.Need-level-of-requires
 level-of-requires c κs = search needs
 
--- src/lib.rt:53:40
 change-default-requires : tie.Need-change-default-requires
 change-default-requires c κs = search needs
 
--- src/lib.rt:54:34
 enum-told-2 : tie.Need-enum-told-2
 enum-told-2 c = search needs
 
--- src/lib.rt:54:34
 is-within-requires : tie.Need-is-within-requires
 is-within-requires c κs = search needs
 
--- src/lib.rt:59:51
 enum-told-3 : tie.Need-enum-told-3
 enum-told-3 c = search needs
 
--- src/lib.rt:59:51
 amount-operand-requires : tie.Need-amount-operand-requires
 amount-operand-requires c κs = search needs
 
--- src/lib.rt:59:31
 change-ramp-requires : tie.Need-change-ramp-requires
 change-ramp-requires c κs = search needs
 
--- src/lib.rt:60:56
 enum-told-4 : tie.Need-enum-told-4
 enum-told-4 c = search needs
 
--- src/lib.rt:60:56
 amount-operand-requires-2 : tie.Need-amount-operand-requires-2
 amount-operand-requires-2 c κs = search needs
 
--- src/lib.rt:60:36
 change-step-requires : tie.Need-change-step-requires
 change-step-requires c κs = search needs
 
--- src/lib.rt:61:37
 enum-told-5 : tie.Need-enum-told-5
 enum-told-5 c = search needs
 
--- src/lib.rt:66:35
 enum-told-6 : tie.Need-enum-told-6
 enum-told-6 c = search needs
 
--- src/lib.rt:71:40
 enum-told-7 : tie.Need-enum-told-7
 enum-told-7 c = search needs
 
--- src/lib.rt:76:50
 enum-told-8 : tie.Need-enum-told-8
 enum-told-8 c = search needs
 
--- src/lib.rt:76:50
 limit-of-requires : tie.Need-limit-of-requires
 limit-of-requires c κs = search needs
 
--- src/lib.rt:76:31
 change-min-requires : tie.Need-change-min-requires
 change-min-requires c κs = search needs
 
--- src/lib.rt:77:50
 enum-told-9 : tie.Need-enum-told-9
 enum-told-9 c = search needs
 
--- src/lib.rt:77:50
 limit-of-requires-2 : tie.Need-limit-of-requires-2
 limit-of-requires-2 c κs = search needs
 
--- src/lib.rt:77:31
 change-max-requires : tie.Need-change-max-requires
 change-max-requires c κs = search needs
 
--- src/lib.rt:78:41
 enum-told-10 : tie.Need-enum-told-10
 enum-told-10 c = search needs
 
--- src/lib.rt:78:41
 is-priority-requires : tie.Need-is-priority-requires
 is-priority-requires c κs = search needs
 
--- src/lib.rt:79:46
 slot-of-requires : tie.Need-slot-of-requires
 slot-of-requires c κs = cc
 
--- src/lib.rt:83:43
 enum-told-11 : tie.Need-enum-told-11
 enum-told-11 c = search needs
 
--- src/lib.rt:88:35
 enum-told-12 : tie.Need-enum-told-12
 enum-told-12 c = search needs
 
--- src/lib.rt:89:36
 enum-told-13 : tie.Need-enum-told-13
 enum-told-13 c = search needs
 
--- src/lib.rt:90:32
 enum-told-14 : tie.Need-enum-told-14
 enum-told-14 c = search needs
 
--- src/lib.rt:91:36
 enum-told-15 : tie.Need-enum-told-15
 enum-told-15 c = search needs
 
--- src/lib.rt:92:32
 enum-told-16 : tie.Need-enum-told-16
 enum-told-16 c = search needs
 
--- src/lib.rt:93:31
 enum-told-17 : tie.Need-enum-told-17
 enum-told-17 c = search needs
 
--- src/lib.rt:94:31
 enum-told-18 : tie.Need-enum-told-18
 enum-told-18 c = search needs
 
--- src/lib.rt:95:35
 enum-told-19 : tie.Need-enum-told-19
 enum-told-19 c = search needs
 
--- src/lib.rt:96:35
 enum-told-20 : tie.Need-enum-told-20
 enum-told-20 c = search needs
 
--- src/lib.rt:97:35
 enum-told-21 : tie.Need-enum-told-21
 enum-told-21 c = search needs
 
--- src/lib.rt:98:30
 enum-told-22 : tie.Need-enum-told-22
 enum-told-22 c = search needs
 
--- src/lib.rt:49:1
 returns : tie.Need-returns
 unfolding changeOf
 returns c = search (needs, changeOf-on, ← c .before .level-of .ensures)
 
--- src/lib.rt:49:1
 returns-2 : tie.Need-returns-2
 unfolding changeOf
 returns-2 c = search (needs, ifs, changeOf-on)
 
--- src/lib.rt:49:1
 returns-3 : tie.Need-returns-3
 unfolding changeOf
 returns-3 c = search (needs, ifs, changeOf-on)
 
--- src/lib.rt:49:1
 returns-4 : tie.Need-returns-4
 unfolding changeOf
 returns-4 c = search (needs, changeOf-on, ← c .before .amount-operand .ensures)
 
--- src/lib.rt:49:1
 returns-5 : tie.Need-returns-5
 unfolding changeOf
 returns-5 c = search (needs, changeOf-on, ← c .before .amount-operand2 .ensures)
 
--- src/lib.rt:49:1
 returns-6 : tie.Need-returns-6
 unfolding changeOf
 returns-6 c = search (needs, ifs, changeOf-on)
 
--- src/lib.rt:49:1
 returns-7 : tie.Need-returns-7
 unfolding changeOf
 returns-7 c = search (needs, ifs, changeOf-on)
 
--- src/lib.rt:49:1
 returns-8 : tie.Need-returns-8
 unfolding changeOf
 returns-8 c = search (needs, ifs, changeOf-on)
 
--- src/lib.rt:49:1
 returns-9 : tie.Need-returns-9
 unfolding changeOf
 returns-9 c = search (needs, ifs, changeOf-on)
 
--- src/lib.rt:49:1
 returns-10 : tie.Need-returns-10
 unfolding changeOf
 returns-10 c = search (needs, ifs, changeOf-on)
 
--- src/lib.rt:49:1
 returns-11 : tie.Need-returns-11
 unfolding changeOf
 returns-11 c = search (needs, ifs, changeOf-on)
 
--- src/lib.rt:49:1
 returns-12 : tie.Need-returns-12
 unfolding changeOf
 returns-12 c = search (needs, changeOf-on, ← c .before .limit-of .ensures)
 
--- src/lib.rt:49:1
 returns-13 : tie.Need-returns-13
 unfolding changeOf
 returns-13 c = search (needs, changeOf-on, ← c .before .limit-of2 .ensures)
 
--- src/lib.rt:49:1
 returns-14 : tie.Need-returns-14
 unfolding changeOf
 returns-14 c = search (needs, ifs, changeOf-on)
 
--- src/lib.rt:49:1
 returns-15 : tie.Need-returns-15
 unfolding changeOf
 returns-15 c = search (needs, ifs, changeOf-on)
 
--- src/lib.rt:49:1
 returns-16 : tie.Need-returns-16
 unfolding changeOf
 returns-16 c = search (needs, ifs, changeOf-on)
 
--- src/lib.rt:49:1
 returns-17 : tie.Need-returns-17
 unfolding changeOf
 returns-17 c = search (needs, ifs, changeOf-on)
 
--- src/lib.rt:49:1
 returns-18 : tie.Need-returns-18
 unfolding changeOf
 returns-18 c = search (needs, ifs, changeOf-on)
 
--- src/lib.rt:49:1
 returns-19 : tie.Need-returns-19
 unfolding changeOf
 returns-19 c = search (needs, ifs, changeOf-on)
 
--- src/lib.rt:49:1
 returns-20 : tie.Need-returns-20
 unfolding changeOf
 returns-20 c = search (needs, ifs, changeOf-on)
 
--- src/lib.rt:49:1
 returns-21 : tie.Need-returns-21
 unfolding changeOf
 returns-21 c = search (needs, ifs, changeOf-on)
 
--- src/lib.rt:49:1
 returns-22 : tie.Need-returns-22
 unfolding changeOf
 returns-22 c = search (needs, ifs, changeOf-on)
 
--- src/lib.rt:49:1
 returns-23 : tie.Need-returns-23
 unfolding changeOf
 returns-23 c = search (needs, ifs, changeOf-on)
 
--- src/lib.rt:49:1
 returns-24 : tie.Need-returns-24
 unfolding changeOf
 returns-24 c = search (needs, ifs, changeOf-on)
 
--- src/lib.rt:49:1
 returns-25 : tie.Need-returns-25
 unfolding changeOf
 returns-25 c = search (needs, ifs, changeOf-on)
 
--- src/lib.rt:49:1
 returns-26 : tie.Need-returns-26
 unfolding changeOf
 returns-26 c = search (needs, ifs, changeOf-on)
 
--- src/lib.rt:49:1
 returns-27 : tie.Need-returns-27
 unfolding changeOf
 returns-27 c = search (needs, ifs, changeOf-on)
 
--- src/lib.rt:49:1
 returns-28 : tie.Need-returns-28
 unfolding changeOf
 returns-28 c = search (needs, ifs, changeOf-on)

@@ -7,20 +7,16 @@ use Rattle.ranges.proofs.is_priority.Reads as reads
 use Rattle.ranges.proofs.is_priority.Lts as lts
 use Rattle.ranges.proofs.is_slot.Reads as is-slot-reads
 
--- src/lib.rt:23:40
 sub-is-slot : tie.Need-sub-is-slot
 sub-is-slot c = search needs
 
--- src/lib.rt:23:32
 is-slot-requires : tie.Need-is-slot-requires
 is-slot-requires c κs = search needs
 
--- src/lib.rt:20:1
 returns : tie.Need-returns
 unfolding isPriority
 returns c = search (needs, ifs)
 
--- src/lib.rt:20:1
 returns-2 : tie.Need-returns-2
 unfolding isPriority
 returns-2 c = search (needs, ifs)

@@ -6,12 +6,10 @@ use Rattle.ranges.proofs.is_slot.Tie as tie
 use Rattle.ranges.proofs.is_slot.Reads as reads
 use Rattle.ranges.proofs.is_slot.Lts as lts
 
--- src/lib.rt:13:1
 returns : tie.Need-returns
 unfolding isSlot
 returns c = search (needs, ifs)
 
--- src/lib.rt:13:1
 returns-2 : tie.Need-returns-2
 unfolding isSlot
 returns-2 c = search (needs, ifs)

@@ -6,12 +6,10 @@ use Rattle.ranges.proofs.is_within.Tie as tie
 use Rattle.ranges.proofs.is_within.Reads as reads
 use Rattle.ranges.proofs.is_within.Lts as lts
 
--- src/lib.rt:6:1
 returns : tie.Need-returns
 unfolding within
 returns c = search (needs, ifs)
 
--- src/lib.rt:6:1
 returns-2 : tie.Need-returns-2
 unfolding within
 returns-2 c = search (needs, ifs)

@@ -8,20 +8,16 @@ use Rattle.reading.proofs.byte_held.Lts as lts
 use Rattle.reading.proofs.digit_held.Reads as digit-held-reads
 use Rattle.reading.proofs.is_blank.Reads as is-blank-reads
 
--- src/reading.rt:210:8
 is-blank-requires : tie.Need-is-blank-requires
 is-blank-requires c κs = search needs
 
--- src/reading.rt:210:43
 digit-held-requires : tie.Need-digit-held-requires
 digit-held-requires c κs = search needs
 
--- src/reading.rt:207:1
 returns : tie.Need-returns
 unfolding byteHeld
 returns c = search (needs, ifs)
 
--- src/reading.rt:207:1
 returns-2 : tie.Need-returns-2
 unfolding byteHeld
 returns-2 c = search (needs, ifs)

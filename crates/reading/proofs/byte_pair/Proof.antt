@@ -6,15 +6,12 @@ use Rattle.reading.proofs.byte_pair.Tie as tie
 use Rattle.reading.proofs.byte_pair.Reads as reads
 use Rattle.reading.proofs.byte_pair.Lts as lts
 
--- src/reading.rt:258:5
 mul-result : tie.Need-mul-result
 mul-result c = search needs
 
--- src/reading.rt:258:5
 add-result : tie.Need-add-result
 add-result c = search needs
 
--- src/reading.rt:255:1
 returns : tie.Need-returns
 unfolding bytePair
 returns c = search (needs, ifs)

@@ -6,17 +6,14 @@ use Rattle.reading.proofs.count_line.Tie as tie
 use Rattle.reading.proofs.count_line.Reads as reads
 use Rattle.reading.proofs.count_line.Lts as lts
 
--- src/reading.rt:316:1
 returns : tie.Need-returns
 unfolding countLine
 returns c = search (needs, ifs)
 
--- src/reading.rt:316:1
 returns-2 : tie.Need-returns-2
 unfolding countLine
 returns-2 c = search (needs, ifs)
 
--- src/reading.rt:316:1
 returns-3 : tie.Need-returns-3
 unfolding countLine
 returns-3 c = search (needs, ifs)

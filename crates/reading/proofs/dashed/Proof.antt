@@ -7,16 +7,13 @@ use Rattle.reading.proofs.dashed.Reads as reads
 use Rattle.reading.proofs.dashed.Lts as lts
 use Rattle.reading.proofs.is_blank.Reads as is-blank-reads
 
--- src/reading.rt:228:8
 is-blank-requires : tie.Need-is-blank-requires
 is-blank-requires c κs = search needs
 
--- src/reading.rt:225:1
 returns : tie.Need-returns
 unfolding dashed
 returns c = search (needs, ifs)
 
--- src/reading.rt:225:1
 returns-2 : tie.Need-returns-2
 unfolding dashed
 returns-2 c = search (needs, ifs)

@@ -6,12 +6,10 @@ use Rattle.reading.proofs.digit_held.Tie as tie
 use Rattle.reading.proofs.digit_held.Reads as reads
 use Rattle.reading.proofs.digit_held.Lts as lts
 
--- src/reading.rt:115:1
 returns : tie.Need-returns
 unfolding digitHeld
 returns c = search (needs, ifs)
 
--- src/reading.rt:115:1
 returns-2 : tie.Need-returns-2
 unfolding digitHeld
 returns-2 c = search (needs, ifs)

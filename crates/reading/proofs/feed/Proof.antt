@@ -9,23 +9,18 @@ use Rattle.reading.proofs.step.Reads as step-reads
 use Rattle.reading.proofs.store.Reads as store-reads
 use Rattle.reading.proofs.with_held.Reads as with-held-reads
 
--- src/reading.rt:309:9
 hex-value-requires : tie.Need-hex-value-requires
 hex-value-requires c κs = search needs
 
--- src/reading.rt:310:9
 store-requires : tie.Need-store-requires
 store-requires c κs = search needs
 
--- src/reading.rt:311:23
 step-requires : tie.Need-step-requires
 step-requires c κs = search needs
 
--- src/reading.rt:311:5
 with-held-requires : tie.Need-with-held-requires
 with-held-requires c κs = search needs
 
--- src/reading.rt:305:1
 returns : tie.Need-returns
 unfolding feed
 returns c = simp (c .with-held .ensures, c .before .step .ensures, c .before .before .store .ensures, c .before .before .before .hex-value .ensures)

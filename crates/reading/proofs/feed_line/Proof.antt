@@ -17,40 +17,32 @@ Inv-loop s from reader₀ i₀ reader i = (i ≤ length s) × Comes reader s i (
 abbrev μ-loop : tie.MeasureT-loop
 μ-loop s from reader₀ i₀ reader i = length s - i
 
--- src/reading.rt:334:5
 loop-holds : tie.Need-loop-holds Inv-loop μ-loop
 loop-holds c = (omega arith, (refl, refl))
 
--- src/reading.rt:335:17
 shared-slice-read-c : tie.Need-shared-slice-read-c Inv-loop μ-loop
 shared-slice-read-c c = search needs
 
--- src/reading.rt:339:9
 feed-requires : tie.Need-feed-requires Inv-loop μ-loop
 feed-requires c κs = search needs
 
--- src/reading.rt:340:9
 add-i : tie.Need-add-i Inv-loop μ-loop
 add-i c = search needs
 
--- src/reading.rt:334:5
 loop-less : tie.Need-loop-less Inv-loop μ-loop
 loop-less c = search needs
 
--- src/reading.rt:334:5
 loop-again : tie.Need-loop-again Inv-loop μ-loop
 loop-again c =
     let l = c .before .before .before .before .loop in
     let a = c .before .before .before .before .before .before .args in
     (omega arith, rw (c .feed .ensures) (line-turn (l .reader) (a .s .now) (l .i) _ _ (omega arith) (c .before .if1 .left) (l .inv .1)))
 
--- src/reading.rt:327:1
 returns : tie.Need-returns Inv-loop μ-loop
 returns c =
     let l = c .before .loop in
     line-over (l .reader) (c .before .before .before .args .s .now) (l .i) _ _ (omega arith) (l .inv .1)
 
--- src/reading.rt:327:1
 returns-2 : tie.Need-returns-2 Inv-loop μ-loop
 returns-2 c =
     let l = c .before .before .before .loop in

@@ -6,7 +6,6 @@ use Rattle.reading.proofs.fresh_reader.Tie as tie
 use Rattle.reading.proofs.fresh_reader.Reads as reads
 use Rattle.reading.proofs.fresh_reader.Lts as lts
 
--- src/reading.rt:369:1
 returns : tie.Need-returns
 unfolding freshReader
 returns c = search (needs, ifs)

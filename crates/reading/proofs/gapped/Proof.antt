@@ -7,21 +7,17 @@ use Rattle.reading.proofs.gapped.Reads as reads
 use Rattle.reading.proofs.gapped.Lts as lts
 use Rattle.reading.proofs.is_blank.Reads as is-blank-reads
 
--- src/reading.rt:164:15
 is-blank-requires : tie.Need-is-blank-requires
 is-blank-requires c κs = search needs
 
--- src/reading.rt:159:1
 returns : tie.Need-returns
 unfolding gapped
 returns c = search (needs, ifs)
 
--- src/reading.rt:159:1
 returns-2 : tie.Need-returns-2
 unfolding gapped
 returns-2 c = search (needs, ifs)
 
--- src/reading.rt:159:1
 returns-3 : tie.Need-returns-3
 unfolding gapped
 returns-3 c = search (needs, ifs)

@@ -6,11 +6,9 @@ use Rattle.reading.proofs.grown_held.Reads as reads
 use Rattle.reading.proofs.grown_held.Lts as lts
 use Rattle.reading.proofs.grown.Reads as grown-reads
 
--- src/reading.rt:182:18
 grown-requires : tie.Need-grown-requires
 grown-requires c κs = search needs
 
--- src/reading.rt:179:1
 returns : tie.Need-returns
 unfolding grownHeld
 returns c = simp (c .grown .ensures)

@@ -7,21 +7,17 @@ use Rattle.reading.proofs.half_held.Reads as reads
 use Rattle.reading.proofs.half_held.Lts as lts
 use Rattle.reading.proofs.is_blank.Reads as is-blank-reads
 
--- src/reading.rt:218:15
 is-blank-requires : tie.Need-is-blank-requires
 is-blank-requires c κs = search needs
 
--- src/reading.rt:213:1
 returns : tie.Need-returns
 unfolding halfHeld
 returns c = search (needs, ifs)
 
--- src/reading.rt:213:1
 returns-2 : tie.Need-returns-2
 unfolding halfHeld
 returns-2 c = search (needs, ifs)
 
--- src/reading.rt:213:1
 returns-3 : tie.Need-returns-3
 unfolding halfHeld
 returns-3 c = search (needs, ifs)

@@ -6,45 +6,36 @@ use Rattle.reading.proofs.hex_value.Tie as tie
 use Rattle.reading.proofs.hex_value.Reads as reads
 use Rattle.reading.proofs.hex_value.Lts as lts
 
--- src/reading.rt:84:9
 sub-result : tie.Need-sub-result
 sub-result c = search needs
 
--- src/reading.rt:88:9
 sub-result-2 : tie.Need-sub-result-2
 sub-result-2 c = search needs
 
--- src/reading.rt:74:1
 returns : tie.Need-returns
 unfolding hexValue
 returns c = search (needs, ifs) depth 12
 
--- src/reading.rt:74:1
 returns-2 : tie.Need-returns-2
 unfolding hexValue
 returns-2 c = search (needs, ifs) depth 12
 
--- src/reading.rt:74:1
 returns-3 : tie.Need-returns-3
 unfolding hexValue
 returns-3 c = search (needs, ifs) depth 12
 
--- src/reading.rt:74:1
 returns-4 : tie.Need-returns-4
 unfolding hexValue
 returns-4 c = search (needs, ifs) depth 12
 
--- src/reading.rt:74:1
 returns-5 : tie.Need-returns-5
 unfolding hexValue
 returns-5 c = search (needs, ifs) depth 12
 
--- src/reading.rt:74:1
 returns-6 : tie.Need-returns-6
 unfolding hexValue
 returns-6 c = search (needs, ifs) depth 12
 
--- src/reading.rt:74:1
 returns-7 : tie.Need-returns-7
 unfolding hexValue
 returns-7 c = search (needs, ifs) depth 12

@@ -6,17 +6,14 @@ use Rattle.reading.proofs.is_blank.Tie as tie
 use Rattle.reading.proofs.is_blank.Reads as reads
 use Rattle.reading.proofs.is_blank.Lts as lts
 
--- src/reading.rt:61:1
 returns : tie.Need-returns
 unfolding isBlank
 returns c = search (needs, ifs)
 
--- src/reading.rt:61:1
 returns-2 : tie.Need-returns-2
 unfolding isBlank
 returns-2 c = search (needs, ifs)
 
--- src/reading.rt:61:1
 returns-3 : tie.Need-returns-3
 unfolding isBlank
 returns-3 c = search (needs, ifs)

@@ -7,15 +7,12 @@ use Rattle.reading.proofs.join.Lts as lts
 use Rattle.reading.proofs.byte_pair.Reads as byte-pair-reads
 use Rattle.reading.proofs.push.Reads as push-reads
 
--- src/reading.rt:278:13
 byte-pair-requires : tie.Need-byte-pair-requires
 byte-pair-requires c κs = search needs
 
--- src/reading.rt:278:5
 push-requires : tie.Need-push-requires
 push-requires c κs = search needs
 
--- src/reading.rt:275:1
 returns : tie.Need-returns
 unfolding joined
 returns c = simp (c .push .ensures, c .before .byte-pair .ensures)

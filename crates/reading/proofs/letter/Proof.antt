@@ -6,32 +6,26 @@ use Rattle.reading.proofs.letter.Tie as tie
 use Rattle.reading.proofs.letter.Reads as reads
 use Rattle.reading.proofs.letter.Lts as lts
 
--- src/reading.rt:95:1
 returns : tie.Need-returns
 unfolding letter
 returns c = search (needs, ifs)
 
--- src/reading.rt:95:1
 returns-2 : tie.Need-returns-2
 unfolding letter
 returns-2 c = search (needs, ifs)
 
--- src/reading.rt:95:1
 returns-3 : tie.Need-returns-3
 unfolding letter
 returns-3 c = search (needs, ifs)
 
--- src/reading.rt:95:1
 returns-4 : tie.Need-returns-4
 unfolding letter
 returns-4 c = search (needs, ifs)
 
--- src/reading.rt:95:1
 returns-5 : tie.Need-returns-5
 unfolding letter
 returns-5 c = search (needs, ifs)
 
--- src/reading.rt:95:1
 returns-6 : tie.Need-returns-6
 unfolding letter
 returns-6 c = search (needs, ifs)

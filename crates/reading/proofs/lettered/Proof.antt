@@ -7,30 +7,24 @@ use Rattle.reading.proofs.lettered.Reads as reads
 use Rattle.reading.proofs.lettered.Lts as lts
 use Rattle.reading.proofs.is_blank.Reads as is-blank-reads
 
--- src/reading.rt:148:27
 add-t8 : tie.Need-add-t8
 add-t8 c = search needs
 
--- src/reading.rt:152:15
 is-blank-requires : tie.Need-is-blank-requires
 is-blank-requires c κs = search needs
 
--- src/reading.rt:143:1
 returns : tie.Need-returns
 unfolding lettered
 returns c = search (needs, ifs)
 
--- src/reading.rt:143:1
 returns-2 : tie.Need-returns-2
 unfolding lettered
 returns-2 c = search (needs, ifs)
 
--- src/reading.rt:143:1
 returns-3 : tie.Need-returns-3
 unfolding lettered
 returns-3 c = search (needs, ifs)
 
--- src/reading.rt:143:1
 returns-4 : tie.Need-returns-4
 unfolding lettered
 returns-4 c = search (needs, ifs)

@@ -8,100 +8,78 @@ use Rattle.reading.proofs.line_of.Reads as reads
 use Rattle.reading.proofs.line_of.Lts as lts
 use Rattle.reading.proofs.count_line.Reads as count-line-reads
 
--- src/reading.rt:332:24
 enum-told : tie.Need-enum-told
 enum-told c = search needs
 
--- src/reading.rt:333:26
 enum-told-2 : tie.Need-enum-told-2
 enum-told-2 c = search needs
 
--- src/reading.rt:334:41
 enum-told-3 : tie.Need-enum-told-3
 enum-told-3 c = search needs
 
--- src/reading.rt:335:34
 enum-told-4 : tie.Need-enum-told-4
 enum-told-4 c = search needs
 
--- src/reading.rt:336:22
 enum-known-h : tie.Need-enum-known-h
 enum-known-h c = search needs
 
--- src/reading.rt:336:28
 count-line-requires : tie.Need-count-line-requires
 count-line-requires c κs = search needs
 
--- src/reading.rt:337:21
 enum-known-h-2 : tie.Need-enum-known-h-2
 enum-known-h-2 c = search needs
 
--- src/reading.rt:337:27
 count-line-requires-2 : tie.Need-count-line-requires-2
 count-line-requires-2 c κs = search needs
 
--- src/reading.rt:338:24
 enum-told-5 : tie.Need-enum-told-5
 enum-told-5 c = search needs
 
--- src/reading.rt:339:38
 enum-told-6 : tie.Need-enum-told-6
 enum-told-6 c = search needs
 
--- src/reading.rt:340:23
 enum-told-7 : tie.Need-enum-told-7
 enum-told-7 c = search needs
 
--- src/reading.rt:341:22
 enum-known-h-3 : tie.Need-enum-known-h-3
 enum-known-h-3 c = search needs
 
--- src/reading.rt:328:1
 returns : tie.Need-returns
 unfolding lineOf
 returns c = search (needs, ifs, lineOf-on)
 
--- src/reading.rt:328:1
 returns-2 : tie.Need-returns-2
 unfolding lineOf
 returns-2 c = search (needs, ifs, lineOf-on)
 
--- src/reading.rt:328:1
 returns-3 : tie.Need-returns-3
 unfolding lineOf
 returns-3 c = search (needs, ifs, lineOf-on)
 
--- src/reading.rt:328:1
 returns-4 : tie.Need-returns-4
 unfolding lineOf
 returns-4 c = search (needs, ifs, lineOf-on)
 
--- src/reading.rt:328:1
 returns-5 : tie.Need-returns-5
 unfolding lineOf
 returns-5 c = search (needs, ifs, lineOf-on)
 
--- src/reading.rt:328:1
 returns-6 : tie.Need-returns-6
 unfolding lineOf
 returns-6 c = search (needs, ifs, lineOf-on)
 
--- src/reading.rt:328:1
 returns-7 : tie.Need-returns-7
 unfolding lineOf
 returns-7 c = search (needs, ifs, lineOf-on)
 
--- src/reading.rt:328:1
 returns-8 : tie.Need-returns-8
 unfolding lineOf
 returns-8 c = search (needs, ifs, lineOf-on)
 
--- src/reading.rt:328:1
 returns-9 : tie.Need-returns-9
 unfolding lineOf
 returns-9 c = search (needs, ifs, lineOf-on)
 
--- src/reading.rt:328:1
 returns-10 : tie.Need-returns-10
 unfolding lineOf
 returns-10 c = search (needs, ifs, lineOf-on)

@@ -6,11 +6,9 @@ use Rattle.reading.proofs.next_line.Reads as reads
 use Rattle.reading.proofs.next_line.Lts as lts
 use Rattle.reading.proofs.line_after.Reads as line-after-reads
 
--- src/reading.rt:356:40
 line-after-requires : tie.Need-line-after-requires
 line-after-requires c κs = search needs
 
--- src/reading.rt:352:1
 returns : tie.Need-returns
 unfolding nextLine
 returns c = simp (c .line-after .ensures)

@@ -8,25 +8,20 @@ use Rattle.reading.proofs.numbered.Lts as lts
 use Rattle.reading.proofs.grown_held.Reads as grown-held-reads
 use Rattle.reading.proofs.is_blank.Reads as is-blank-reads
 
--- src/reading.rt:189:9
 grown-held-requires : tie.Need-grown-held-requires
 grown-held-requires c κs = search needs
 
--- src/reading.rt:190:15
 is-blank-requires : tie.Need-is-blank-requires
 is-blank-requires c κs = search needs
 
--- src/reading.rt:185:1
 returns : tie.Need-returns
 unfolding numbered
 returns c = search (needs, ifs)
 
--- src/reading.rt:185:1
 returns-2 : tie.Need-returns-2
 unfolding numbered
 returns-2 c = search (needs, ifs)
 
--- src/reading.rt:185:1
 returns-3 : tie.Need-returns-3
 unfolding numbered
 returns-3 c = search (needs, ifs)

@@ -8,40 +8,32 @@ use Rattle.reading.proofs.opened.Lts as lts
 use Rattle.reading.proofs.digit_held.Reads as digit-held-reads
 use Rattle.reading.proofs.is_blank.Reads as is-blank-reads
 
--- src/reading.rt:129:8
 is-blank-requires : tie.Need-is-blank-requires
 is-blank-requires c κs = search needs
 
--- src/reading.rt:134:42
 digit-held-requires : tie.Need-digit-held-requires
 digit-held-requires c κs = search needs
 
--- src/reading.rt:126:1
 returns : tie.Need-returns
 unfolding opened
 returns c = search (needs, ifs)
 
--- src/reading.rt:126:1
 returns-2 : tie.Need-returns-2
 unfolding opened
 returns-2 c = search (needs, ifs)
 
--- src/reading.rt:126:1
 returns-3 : tie.Need-returns-3
 unfolding opened
 returns-3 c = search (needs, ifs)
 
--- src/reading.rt:126:1
 returns-4 : tie.Need-returns-4
 unfolding opened
 returns-4 c = search (needs, ifs)
 
--- src/reading.rt:126:1
 returns-5 : tie.Need-returns-5
 unfolding opened
 returns-5 c = search (needs, ifs)
 
--- src/reading.rt:126:1
 returns-6 : tie.Need-returns-6
 unfolding opened
 returns-6 c = search (needs, ifs)

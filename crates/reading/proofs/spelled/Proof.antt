@@ -7,15 +7,12 @@ use Rattle.reading.proofs.spelled.Lts as lts
 use Rattle.reading.proofs.letter.Reads as letter-reads
 use Rattle.reading.proofs.lettered.Reads as lettered-reads
 
--- src/reading.rt:162:17
 letter-requires : tie.Need-letter-requires
 letter-requires c κs = search needs
 
--- src/reading.rt:162:5
 lettered-requires : tie.Need-lettered-requires
 lettered-requires c κs = search needs
 
--- src/reading.rt:159:1
 returns : tie.Need-returns
 unfolding spelled
 returns c = simp (c .lettered .ensures, c .before .letter .ensures)

@@ -15,124 +15,96 @@ use Rattle.reading.proofs.opened.Reads as opened-reads
 use Rattle.reading.proofs.spelled.Reads as spelled-reads
 use Rattle.reading.proofs.trailed.Reads as trailed-reads
 
--- src/reading.rt:245:24
 enum-told : tie.Need-enum-told
 enum-told c = search needs
 
--- src/reading.rt:245:24
 opened-requires : tie.Need-opened-requires
 opened-requires c κs = search needs
 
--- src/reading.rt:246:26
 enum-told-2 : tie.Need-enum-told-2
 enum-told-2 c = search needs
 
--- src/reading.rt:247:23
 enum-known-h : tie.Need-enum-known-h
 enum-known-h c = search needs
 
--- src/reading.rt:247:29
 spelled-requires : tie.Need-spelled-requires
 spelled-requires c κs = search needs
 
--- src/reading.rt:248:22
 enum-told-3 : tie.Need-enum-told-3
 enum-told-3 c = search needs
 
--- src/reading.rt:248:22
 gapped-requires : tie.Need-gapped-requires
 gapped-requires c κs = search needs
 
--- src/reading.rt:249:22
 enum-known-h-2 : tie.Need-enum-known-h-2
 enum-known-h-2 c = search needs
 
--- src/reading.rt:249:28
 numbered-requires : tie.Need-numbered-requires
 numbered-requires c κs = search needs
 
--- src/reading.rt:250:21
 enum-known-h-3 : tie.Need-enum-known-h-3
 enum-known-h-3 c = search needs
 
--- src/reading.rt:250:27
 trailed-requires : tie.Need-trailed-requires
 trailed-requires c κs = search needs
 
--- src/reading.rt:251:24
 enum-told-4 : tie.Need-enum-told-4
 enum-told-4 c = search needs
 
--- src/reading.rt:251:24
 byte-held-requires : tie.Need-byte-held-requires
 byte-held-requires c κs = search needs
 
--- src/reading.rt:252:26
 enum-told-5 : tie.Need-enum-told-5
 enum-told-5 c = search needs
 
--- src/reading.rt:252:26
 half-held-requires : tie.Need-half-held-requires
 half-held-requires c κs = search needs
 
--- src/reading.rt:253:23
 enum-told-6 : tie.Need-enum-told-6
 enum-told-6 c = search needs
 
--- src/reading.rt:253:23
 dashed-requires : tie.Need-dashed-requires
 dashed-requires c κs = search needs
 
--- src/reading.rt:254:28
 enum-told-7 : tie.Need-enum-told-7
 enum-told-7 c = search needs
 
--- src/reading.rt:241:1
 returns : tie.Need-returns
 unfolding step
 returns c = search (needs, ifs, step-on)
 
--- src/reading.rt:241:1
 returns-2 : tie.Need-returns-2
 unfolding step
 returns-2 c = search (needs, ifs, step-on)
 
--- src/reading.rt:241:1
 returns-3 : tie.Need-returns-3
 unfolding step
 returns-3 c = search (needs, ifs, step-on)
 
--- src/reading.rt:241:1
 returns-4 : tie.Need-returns-4
 unfolding step
 returns-4 c = search (needs, ifs, step-on)
 
--- src/reading.rt:241:1
 returns-5 : tie.Need-returns-5
 unfolding step
 returns-5 c = search (needs, ifs, step-on)
 
--- src/reading.rt:241:1
 returns-6 : tie.Need-returns-6
 unfolding step
 returns-6 c = search (needs, ifs, step-on)
 
--- src/reading.rt:241:1
 returns-7 : tie.Need-returns-7
 unfolding step
 returns-7 c = search (needs, ifs, step-on)
 
--- src/reading.rt:241:1
 returns-8 : tie.Need-returns-8
 unfolding step
 returns-8 c = search (needs, ifs, step-on)
 
--- src/reading.rt:241:1
 returns-9 : tie.Need-returns-9
 unfolding step
 returns-9 c = search (needs, ifs, step-on)
 
--- src/reading.rt:241:1
 returns-10 : tie.Need-returns-10
 unfolding step
 returns-10 c = search (needs, ifs, step-on)

@@ -8,101 +8,79 @@ use Rattle.reading.proofs.store.Reads as reads
 use Rattle.reading.proofs.store.Lts as lts
 use Rattle.reading.proofs.join.Reads as join-reads
 
--- src/reading.rt:285:24
 enum-told : tie.Need-enum-told
 enum-told c = search needs
 
--- src/reading.rt:286:26
 enum-told-2 : tie.Need-enum-told-2
 enum-told-2 c = search needs
 
--- src/reading.rt:287:29
 enum-told-3 : tie.Need-enum-told-3
 enum-told-3 c = search needs
 
--- src/reading.rt:288:22
 enum-told-4 : tie.Need-enum-told-4
 enum-told-4 c = search needs
 
--- src/reading.rt:289:28
 enum-told-5 : tie.Need-enum-told-5
 enum-told-5 c = search needs
 
--- src/reading.rt:290:27
 enum-told-6 : tie.Need-enum-told-6
 enum-told-6 c = search needs
 
--- src/reading.rt:291:24
 enum-told-7 : tie.Need-enum-told-7
 enum-told-7 c = search needs
 
--- src/reading.rt:292:20
 enum-known-h : tie.Need-enum-known-h
 enum-known-h c = search needs
 
--- src/reading.rt:292:38
 join-requires : tie.Need-join-requires
 join-requires c κs = search needs
 
--- src/reading.rt:293:23
 enum-told-8 : tie.Need-enum-told-8
 enum-told-8 c = search needs
 
--- src/reading.rt:294:28
 enum-told-9 : tie.Need-enum-told-9
 enum-told-9 c = search needs
 
--- src/reading.rt:281:1
 returns : tie.Need-returns
 unfolding storedBy
 returns c = search (needs, ifs, storedBy-on)
 
--- src/reading.rt:281:1
 returns-2 : tie.Need-returns-2
 unfolding storedBy
 returns-2 c = search (needs, ifs, storedBy-on)
 
--- src/reading.rt:281:1
 returns-3 : tie.Need-returns-3
 unfolding storedBy
 returns-3 c = search (needs, ifs, storedBy-on)
 
--- src/reading.rt:281:1
 returns-4 : tie.Need-returns-4
 unfolding storedBy
 returns-4 c = search (needs, ifs, storedBy-on)
 
--- src/reading.rt:281:1
 returns-5 : tie.Need-returns-5
 unfolding storedBy
 returns-5 c = search (needs, ifs, storedBy-on)
 
--- src/reading.rt:281:1
 returns-6 : tie.Need-returns-6
 unfolding storedBy
 returns-6 c = search (needs, ifs, storedBy-on)
 
--- src/reading.rt:281:1
 returns-7 : tie.Need-returns-7
 unfolding storedBy
 returns-7 c = search (needs, ifs, storedBy-on)
 
--- src/reading.rt:281:1
 returns-8 : tie.Need-returns-8
 unfolding storedBy
 returns-8 c = search (needs, ifs, storedBy-on)
 
--- src/reading.rt:281:1
 returns-9 : tie.Need-returns-9
 unfolding storedBy
 returns-9 c = search (needs, ifs, storedBy-on)
 
--- src/reading.rt:281:1
 returns-10 : tie.Need-returns-10
 unfolding storedBy
 returns-10 c = search (needs, ifs, storedBy-on)
 
--- src/reading.rt:281:1
 returns-11 : tie.Need-returns-11
 unfolding storedBy
 returns-11 c = search (needs, ifs, storedBy-on)

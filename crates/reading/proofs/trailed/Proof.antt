@@ -7,16 +7,13 @@ use Rattle.reading.proofs.trailed.Reads as reads
 use Rattle.reading.proofs.trailed.Lts as lts
 use Rattle.reading.proofs.is_blank.Reads as is-blank-reads
 
--- src/reading.rt:200:8
 is-blank-requires : tie.Need-is-blank-requires
 is-blank-requires c κs = search needs
 
--- src/reading.rt:197:1
 returns : tie.Need-returns
 unfolding trailed
 returns c = search (needs, ifs)
 
--- src/reading.rt:197:1
 returns-2 : tie.Need-returns-2
 unfolding trailed
 returns-2 c = search (needs, ifs)

@@ -6,7 +6,6 @@ use Rattle.reading.proofs.with_held.Tie as tie
 use Rattle.reading.proofs.with_held.Reads as reads
 use Rattle.reading.proofs.with_held.Lts as lts
 
--- src/reading.rt:298:1
 returns : tie.Need-returns
 unfolding withHeld
 returns c = search (needs, ifs)

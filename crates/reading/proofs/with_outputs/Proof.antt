@@ -6,7 +6,6 @@ use Rattle.reading.proofs.with_outputs.Tie as tie
 use Rattle.reading.proofs.with_outputs.Reads as reads
 use Rattle.reading.proofs.with_outputs.Lts as lts
 
--- src/reading.rt:360:1
 returns : tie.Need-returns
 unfolding withOutputs
 returns c = search (needs, ifs)

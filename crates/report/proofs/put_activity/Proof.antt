@@ -8,74 +8,57 @@ use Rattle.report.proofs.put_activity.Reads as reads
 use Rattle.report.proofs.put_activity.Lts as lts
 use Rattle.report.proofs.put_until.Reads as put-until-reads
 
--- src/report.rt:146:28
 enum-told : tie.Need-enum-told
 enum-told c = search needs
 
--- src/report.rt:147:26
 enum-known-a : tie.Need-enum-known-a
 enum-known-a c = search needs
 
--- src/report.rt:147:52
 slice-aggregate-put-until : tie.Need-slice-aggregate-put-until
 slice-aggregate-put-until c = search needs
 
--- src/report.rt:147:32
 put-until-requires : tie.Need-put-until-requires
 put-until-requires c κs = search needs
 
--- src/report.rt:152:13
 enum-known-a-2 : tie.Need-enum-known-a-2
 enum-known-a-2 c = search needs
 
--- src/report.rt:153:34
 slice-aggregate-put-until-2 : tie.Need-slice-aggregate-put-until-2
 slice-aggregate-put-until-2 c = search needs
 
--- src/report.rt:153:14
 put-until-requires-2 : tie.Need-put-until-requires-2
 put-until-requires-2 c κs = search needs
 
--- src/report.rt:154:37
 enum-known-a-3 : tie.Need-enum-known-a-3
 enum-known-a-3 c = search needs
 
--- src/report.rt:154:67
 slice-aggregate-put-until-3 : tie.Need-slice-aggregate-put-until-3
 slice-aggregate-put-until-3 c = search needs
 
--- src/report.rt:154:47
 put-until-requires-3 : tie.Need-put-until-requires-3
 put-until-requires-3 c κs = search needs
 
--- src/report.rt:142:1
 returns : tie.Need-returns
 unfolding activityText
 returns c = search (needs, activityText-on, choices)
 
--- src/report.rt:142:1
 same-length : tie.Need-same-length
 same-length c = search needs
 
--- src/report.rt:142:1
 returns-2 : tie.Need-returns-2
 unfolding activityText
 returns-2 c = search (needs, activityText-on, choices)
 
--- src/report.rt:142:1
 same-length-2 : tie.Need-same-length-2
 same-length-2 c = search needs
 
--- src/report.rt:142:1
 returns-3 : tie.Need-returns-3
 unfolding activityText
 returns-3 c = search (needs, activityText-on, choices)
 
--- src/report.rt:142:1
 same-length-3 : tie.Need-same-length-3
 same-length-3 c = search needs
 
--- src/report.rt:142:1
 returns-4 : tie.Need-returns-4
 unfolding activityText
 returns-4 c = search (needs, activityText-on, choices)

@@ -8,19 +8,15 @@ use Rattle.report.proofs.put_aligned.Lts as lts
 use Rattle.report.proofs.put_lead.Reads as put-lead-reads
 use Rattle.printing.proofs.put_decimal.Reads as put-decimal-reads
 
--- src/report.rt:58:9
 put-lead-requires : tie.Need-put-lead-requires
 put-lead-requires c κs = search needs
 
--- src/report.rt:59:5
 put-decimal-requires : tie.Need-put-decimal-requires
 put-decimal-requires c κs = search needs
 
--- src/report.rt:55:1
 same-length : tie.Need-same-length
 same-length c = search needs
 
--- src/report.rt:55:1
 returns : tie.Need-returns
 unfolding aligned
 returns c = wrote-then (c .before .before .before .before .before .before .put-lead .ensures) (c .before .before .put-decimal .ensures)

@@ -7,19 +7,15 @@ use Rattle.report.proofs.put_digit.Lts as lts
 use Rattle.report.proofs.last_digit.Reads as last-digit-reads
 use Rattle.printing.proofs.put.Reads as put-reads
 
--- src/report.rt:26:19
 last-digit-requires : tie.Need-last-digit-requires
 last-digit-requires c κs = search needs
 
--- src/report.rt:26:5
 put-requires : tie.Need-put-requires
 put-requires c κs = search needs
 
--- src/report.rt:23:1
 same-length : tie.Need-same-length
 same-length c = search needs
 
--- src/report.rt:23:1
 returns : tie.Need-returns
 unfolding digit
 returns c = rw (← c .before .before .before .last-digit .ensures) (c .before .before .put .ensures)

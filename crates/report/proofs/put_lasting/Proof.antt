@@ -8,19 +8,15 @@ use Rattle.report.proofs.put_lasting.Lts as lts
 use Rattle.report.proofs.put_aligned.Reads as put-aligned-reads
 use Rattle.report.proofs.put_minutes.Reads as put-minutes-reads
 
--- src/report.rt:99:9
 put-aligned-requires : tie.Need-put-aligned-requires
 put-aligned-requires c κs = search needs
 
--- src/report.rt:100:5
 put-minutes-requires : tie.Need-put-minutes-requires
 put-minutes-requires c κs = search needs
 
--- src/report.rt:96:1
 same-length : tie.Need-same-length
 same-length c = search needs
 
--- src/report.rt:96:1
 returns : tie.Need-returns
 unfolding lasting
 returns c = wrote-then (c .before .before .before .before .before .before .put-aligned .ensures) (c .before .before .put-minutes .ensures)

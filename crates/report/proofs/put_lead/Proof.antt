@@ -8,37 +8,29 @@ use Rattle.report.proofs.put_lead.Lts as lts
 use Rattle.printing.proofs.put.Reads as put-reads
 use Rattle.printing.proofs.put_all.Reads as put-all-reads
 
--- src/report.rt:47:27
 slice-aggregate-put-all : tie.Need-slice-aggregate-put-all
 slice-aggregate-put-all c = search needs
 
--- src/report.rt:47:9
 put-all-requires : tie.Need-put-all-requires
 put-all-requires c κs = search needs
 
--- src/report.rt:49:9
 put-requires : tie.Need-put-requires
 put-requires c κs = search needs
 
--- src/report.rt:43:1
 same-length : tie.Need-same-length
 same-length c = search needs
 
--- src/report.rt:43:1
 returns : tie.Need-returns
 unfolding lead
 returns c = search (needs, choices)
 
--- src/report.rt:43:1
 same-length-2 : tie.Need-same-length-2
 same-length-2 c = search needs
 
--- src/report.rt:43:1
 returns-2 : tie.Need-returns-2
 unfolding lead
 returns-2 c = search (needs, choices)
 
--- src/report.rt:43:1
 returns-3 : tie.Need-returns-3
 unfolding lead
 returns-3 c = search (needs, choices)

@@ -10,51 +10,39 @@ use Rattle.printing.proofs.put_all.Reads as put-all-reads
 use Rattle.value.proofs.present_value.Reads as present-value-reads
 use Rattle.value.proofs.progress_value.Reads as progress-value-reads
 
--- src/report.rt:186:9
 present-value-requires : tie.Need-present-value-requires
 present-value-requires c κs = search needs
 
--- src/report.rt:187:9
 progress-value-requires : tie.Need-progress-value-requires
 progress-value-requires c κs = search needs
 
--- src/report.rt:188:34
 slice-aggregate-put-all : tie.Need-slice-aggregate-put-all
 slice-aggregate-put-all c = search needs
 
--- src/report.rt:188:9
 put-all-requires : tie.Need-put-all-requires
 put-all-requires c κs = search needs
 
--- src/report.rt:189:9
 put-percent-requires : tie.Need-put-percent-requires
 put-percent-requires c κs = search needs
 
--- src/report.rt:190:39
 slice-aggregate-put-all-2 : tie.Need-slice-aggregate-put-all-2
 slice-aggregate-put-all-2 c = search needs
 
--- src/report.rt:190:9
 put-all-requires-2 : tie.Need-put-all-requires-2
 put-all-requires-2 c κs = search needs
 
--- src/report.rt:191:38
 slice-aggregate-put-all-3 : tie.Need-slice-aggregate-put-all-3
 slice-aggregate-put-all-3 c = search needs
 
--- src/report.rt:191:9
 put-all-requires-3 : tie.Need-put-all-requires-3
 put-all-requires-3 c κs = search needs
 
--- src/report.rt:192:5
 put-percent-requires-2 : tie.Need-put-percent-requires-2
 put-percent-requires-2 c κs = search needs
 
--- src/report.rt:181:1
 same-length : tie.Need-same-length
 same-length c = search needs
 
--- src/report.rt:181:1
 returns : tie.Need-returns
 unfolding levelFields
 returns c = rw (← c .before .before .before .before .before .before .before .before .before .before .before .before .before .before .before .before .before .before .before .before .before .before .before .before .present-value .ensures, ← c .before .before .before .before .before .before .before .before .before .before .before .before .before .before .before .before .before .before .before .before .before .before .before .progress-value .ensures) (wrote-then (c .before .before .before .before .before .before .before .before .before .before .before .before .before .before .before .before .before .before .before .before .put-all .ensures) (wrote-then (c .before .before .before .before .before .before .before .before .before .before .before .before .before .before .before .before .put-percent .ensures) (wrote-then (c .before .before .before .before .before .before .before .before .before .before .before .put-all2 .ensures) (wrote-then (c .before .before .before .before .before .before .put-all3 .ensures) (c .before .before .put-percent2 .ensures)))))

@@ -7,36 +7,28 @@ use Rattle.report.proofs.put_light.Reads as reads
 use Rattle.report.proofs.put_light.Lts as lts
 use Rattle.printing.proofs.put_all.Reads as put-all-reads
 
--- src/report.rt:109:27
 slice-aggregate-put-all : tie.Need-slice-aggregate-put-all
 slice-aggregate-put-all c = search needs
 
--- src/report.rt:109:9
 put-all-requires : tie.Need-put-all-requires
 put-all-requires c κs = search needs
 
--- src/report.rt:111:27
 slice-aggregate-put-all-2 : tie.Need-slice-aggregate-put-all-2
 slice-aggregate-put-all-2 c = search needs
 
--- src/report.rt:111:9
 put-all-requires-2 : tie.Need-put-all-requires-2
 put-all-requires-2 c κs = search needs
 
--- src/report.rt:105:1
 same-length : tie.Need-same-length
 same-length c = search needs
 
--- src/report.rt:105:1
 returns : tie.Need-returns
 unfolding light
 returns c = search (needs, choices)
 
--- src/report.rt:105:1
 same-length-2 : tie.Need-same-length-2
 same-length-2 c = search needs
 
--- src/report.rt:105:1
 returns-2 : tie.Need-returns-2
 unfolding light
 returns-2 c = search (needs, choices)

@@ -10,39 +10,30 @@ use Rattle.report.proofs.put_light.Reads as put-light-reads
 use Rattle.printing.proofs.put_all.Reads as put-all-reads
 use Rattle.value.proofs.is_lit.Reads as is-lit-reads
 
--- src/report.rt:174:9
 is-lit-requires : tie.Need-is-lit-requires
 is-lit-requires c κs = search needs
 
--- src/report.rt:175:34
 slice-aggregate-put-all : tie.Need-slice-aggregate-put-all
 slice-aggregate-put-all c = search needs
 
--- src/report.rt:175:9
 put-all-requires : tie.Need-put-all-requires
 put-all-requires c κs = search needs
 
--- src/report.rt:176:9
 put-aligned-requires : tie.Need-put-aligned-requires
 put-aligned-requires c κs = search needs
 
--- src/report.rt:177:40
 slice-aggregate-put-all-2 : tie.Need-slice-aggregate-put-all-2
 slice-aggregate-put-all-2 c = search needs
 
--- src/report.rt:177:9
 put-all-requires-2 : tie.Need-put-all-requires-2
 put-all-requires-2 c κs = search needs
 
--- src/report.rt:178:5
 put-light-requires : tie.Need-put-light-requires
 put-light-requires c κs = search needs
 
--- src/report.rt:169:1
 same-length : tie.Need-same-length
 same-length c = search needs
 
--- src/report.rt:169:1
 returns : tie.Need-returns
 unfolding lightFields
 returns c = rw (← c .before .before .before .before .before .before .before .before .before .before .before .before .before .before .before .before .before .before .is-lit .ensures) (wrote-then (c .before .before .before .before .before .before .before .before .before .before .before .before .before .before .before .put-all .ensures) (wrote-then (c .before .before .before .before .before .before .before .before .before .before .before .put-aligned .ensures) (wrote-then (c .before .before .before .before .before .before .put-all2 .ensures) (c .before .before .put-light .ensures))))

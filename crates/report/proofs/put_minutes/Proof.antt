@@ -8,27 +8,21 @@ use Rattle.report.proofs.put_minutes.Lts as lts
 use Rattle.report.proofs.put_two.Reads as put-two-reads
 use Rattle.printing.proofs.put.Reads as put-reads
 
--- src/report.rt:81:9
 put-requires : tie.Need-put-requires
 put-requires c κs = search needs
 
--- src/report.rt:82:9
 put-two-requires : tie.Need-put-two-requires
 put-two-requires c κs = search needs
 
--- src/report.rt:83:9
 put-requires-2 : tie.Need-put-requires-2
 put-requires-2 c κs = search needs
 
--- src/report.rt:84:5
 put-two-requires-2 : tie.Need-put-two-requires-2
 put-two-requires-2 c κs = search needs
 
--- src/report.rt:78:1
 same-length : tie.Need-same-length
 same-length c = search needs
 
--- src/report.rt:78:1
 returns : tie.Need-returns
 unfolding minutes
 returns c = wrote-then (c .before .before .before .before .before .before .before .before .before .before .before .before .before .before .put .ensures) (wrote-then (c .before .before .before .before .before .before .before .before .before .before .put-two .ensures) (wrote-then (c .before .before .before .before .before .before .put2 .ensures) (c .before .before .put-two2 .ensures)))

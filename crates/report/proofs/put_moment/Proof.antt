@@ -10,27 +10,21 @@ use Rattle.report.proofs.put_three.Reads as put-three-reads
 use Rattle.printing.proofs.put.Reads as put-reads
 use Rattle.printing.proofs.put_decimal.Reads as put-decimal-reads
 
--- src/report.rt:90:9
 put-decimal-requires : tie.Need-put-decimal-requires
 put-decimal-requires c κs = search needs
 
--- src/report.rt:91:9
 put-minutes-requires : tie.Need-put-minutes-requires
 put-minutes-requires c κs = search needs
 
--- src/report.rt:92:9
 put-requires : tie.Need-put-requires
 put-requires c κs = search needs
 
--- src/report.rt:93:5
 put-three-requires : tie.Need-put-three-requires
 put-three-requires c κs = search needs
 
--- src/report.rt:87:1
 same-length : tie.Need-same-length
 same-length c = search needs
 
--- src/report.rt:87:1
 returns : tie.Need-returns
 unfolding moment
 returns c = wrote-then (c .before .before .before .before .before .before .before .before .before .before .before .before .before .before .put-decimal .ensures) (wrote-then (c .before .before .before .before .before .before .before .before .before .before .put-minutes .ensures) (wrote-then (c .before .before .before .before .before .before .put .ensures) (c .before .before .put-three .ensures)))

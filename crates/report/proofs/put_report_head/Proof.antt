@@ -9,35 +9,27 @@ use Rattle.report.proofs.put_moment.Reads as put-moment-reads
 use Rattle.printing.proofs.put.Reads as put-reads
 use Rattle.printing.proofs.put_all.Reads as put-all-reads
 
--- src/report.rt:227:34
 slice-aggregate-put-all : tie.Need-slice-aggregate-put-all
 slice-aggregate-put-all c = search needs
 
--- src/report.rt:227:9
 put-all-requires : tie.Need-put-all-requires
 put-all-requires c κs = search needs
 
--- src/report.rt:228:9
 put-moment-requires : tie.Need-put-moment-requires
 put-moment-requires c κs = search needs
 
--- src/report.rt:229:9
 put-requires : tie.Need-put-requires
 put-requires c κs = search needs
 
--- src/report.rt:230:24
 slice-aggregate-put-all-2 : tie.Need-slice-aggregate-put-all-2
 slice-aggregate-put-all-2 c = search needs
 
--- src/report.rt:230:5
 put-all-requires-2 : tie.Need-put-all-requires-2
 put-all-requires-2 c κs = search needs
 
--- src/report.rt:224:1
 same-length : tie.Need-same-length
 same-length c = search needs
 
--- src/report.rt:224:1
 returns : tie.Need-returns
 unfolding reportHead
 returns c = wrote-then (c .before .before .before .before .before .before .before .before .before .before .before .before .before .before .before .put-all .ensures) (wrote-then (c .before .before .before .before .before .before .before .before .before .before .before .put-moment .ensures) (wrote-then (c .before .before .before .before .before .before .before .put .ensures) (c .before .before .put-all2 .ensures)))

@@ -10,27 +10,21 @@ use Rattle.report.proofs.put_light_fields.Reads as put-light-fields-rea
 use Rattle.report.proofs.put_time_fields.Reads as put-time-fields-reads
 use Rattle.report.proofs.put_way_fields.Reads as put-way-fields-reads
 
--- src/report.rt:218:9
 put-light-fields-requires : tie.Need-put-light-fields-requires
 put-light-fields-requires c κs = search needs
 
--- src/report.rt:219:9
 put-level-fields-requires : tie.Need-put-level-fields-requires
 put-level-fields-requires c κs = search needs
 
--- src/report.rt:220:9
 put-time-fields-requires : tie.Need-put-time-fields-requires
 put-time-fields-requires c κs = search needs
 
--- src/report.rt:221:5
 put-way-fields-requires : tie.Need-put-way-fields-requires
 put-way-fields-requires c κs = search needs
 
--- src/report.rt:215:1
 same-length : tie.Need-same-length
 same-length c = search needs
 
--- src/report.rt:215:1
 returns : tie.Need-returns
 unfolding reportLine
 returns c = wrote-then (c .before .before .before .before .before .before .before .before .before .before .before .before .before .before .put-light-fields .ensures) (wrote-then (c .before .before .before .before .before .before .before .before .before .before .put-level-fields .ensures) (wrote-then (c .before .before .before .before .before .before .put-time-fields .ensures) (c .before .before .put-way-fields .ensures)))

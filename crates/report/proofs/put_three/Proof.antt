@@ -8,19 +8,15 @@ use Rattle.report.proofs.put_three.Lts as lts
 use Rattle.report.proofs.put_digit.Reads as put-digit-reads
 use Rattle.report.proofs.put_two.Reads as put-two-reads
 
--- src/report.rt:39:9
 put-digit-requires : tie.Need-put-digit-requires
 put-digit-requires c κs = search needs
 
--- src/report.rt:40:5
 put-two-requires : tie.Need-put-two-requires
 put-two-requires c κs = search needs
 
--- src/report.rt:36:1
 same-length : tie.Need-same-length
 same-length c = search needs
 
--- src/report.rt:36:1
 returns : tie.Need-returns
 unfolding threeDigits
 returns c = wrote-then (c .before .before .before .before .before .before .put-digit .ensures) (c .before .before .put-two .ensures)

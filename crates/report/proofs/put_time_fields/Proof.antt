@@ -9,27 +9,21 @@ use Rattle.report.proofs.put_lasting.Reads as put-lasting-reads
 use Rattle.report.proofs.put_operation.Reads as put-operation-reads
 use Rattle.printing.proofs.put_all.Reads as put-all-reads
 
--- src/report.rt:200:34
 slice-aggregate-put-all : tie.Need-slice-aggregate-put-all
 slice-aggregate-put-all c = search needs
 
--- src/report.rt:200:9
 put-all-requires : tie.Need-put-all-requires
 put-all-requires c κs = search needs
 
--- src/report.rt:201:9
 put-lasting-requires : tie.Need-put-lasting-requires
 put-lasting-requires c κs = search needs
 
--- src/report.rt:202:5
 put-operation-requires : tie.Need-put-operation-requires
 put-operation-requires c κs = search needs
 
--- src/report.rt:195:1
 same-length : tie.Need-same-length
 same-length c = search needs
 
--- src/report.rt:195:1
 returns : tie.Need-returns
 unfolding timeFields
 returns c = wrote-then (c .before .before .before .before .before .before .before .before .before .before .put-all .ensures) (wrote-then (c .before .before .before .before .before .before .put-lasting .ensures) (c .before .before .put-operation .ensures))

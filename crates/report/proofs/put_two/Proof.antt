@@ -7,19 +7,15 @@ use Rattle.report.proofs.put_two.Reads as reads
 use Rattle.report.proofs.put_two.Lts as lts
 use Rattle.report.proofs.put_digit.Reads as put-digit-reads
 
--- src/report.rt:32:9
 put-digit-requires : tie.Need-put-digit-requires
 put-digit-requires c κs = search needs
 
--- src/report.rt:33:5
 put-digit-requires-2 : tie.Need-put-digit-requires-2
 put-digit-requires-2 c κs = search needs
 
--- src/report.rt:29:1
 same-length : tie.Need-same-length
 same-length c = search needs
 
--- src/report.rt:29:1
 returns : tie.Need-returns
 unfolding twoDigits
 returns c = wrote-then (c .before .before .before .before .before .before .put-digit .ensures) (c .before .before .put-digit2 .ensures)

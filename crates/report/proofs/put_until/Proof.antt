@@ -8,19 +8,15 @@ use Rattle.report.proofs.put_until.Lts as lts
 use Rattle.report.proofs.put_moment.Reads as put-moment-reads
 use Rattle.printing.proofs.put_all.Reads as put-all-reads
 
--- src/report.rt:138:9
 put-all-requires : tie.Need-put-all-requires
 put-all-requires c κs = search needs
 
--- src/report.rt:139:5
 put-moment-requires : tie.Need-put-moment-requires
 put-moment-requires c κs = search needs
 
--- src/report.rt:135:1
 same-length : tie.Need-same-length
 same-length c = search needs
 
--- src/report.rt:135:1
 returns : tie.Need-returns
 unfolding until
 returns c = wrote-then (c .before .before .before .before .before .before .put-all .ensures) (c .before .before .put-moment .ensures)

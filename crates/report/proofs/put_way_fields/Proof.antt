@@ -9,23 +9,18 @@ use Rattle.report.proofs.put_activity.Reads as put-activity-reads
 use Rattle.report.proofs.put_timer.Reads as put-timer-reads
 use Rattle.printing.proofs.put.Reads as put-reads
 
--- src/report.rt:210:9
 put-activity-requires : tie.Need-put-activity-requires
 put-activity-requires c κs = search needs
 
--- src/report.rt:211:9
 put-timer-requires : tie.Need-put-timer-requires
 put-timer-requires c κs = search needs
 
--- src/report.rt:212:5
 put-requires : tie.Need-put-requires
 put-requires c κs = search needs
 
--- src/report.rt:205:1
 same-length : tie.Need-same-length
 same-length c = search needs
 
--- src/report.rt:205:1
 returns : tie.Need-returns
 unfolding wayFields
 returns c = wrote-then (c .before .before .before .before .before .before .before .before .before .before .put-activity .ensures) (wrote-then (c .before .before .before .before .before .before .put-timer .ensures) (c .before .before .put .ensures))

@@ -10,65 +10,51 @@ use Rattle.rules.proofs.blink_sound.Reads as blink-sound-reads
 use Rattle.rules.proofs.delay_sound.Reads as delay-sound-reads
 use Rattle.rules.proofs.movement_sound.Reads as movement-sound-reads
 
--- src/lib.rt:193:28
 enum-told : tie.Need-enum-told
 enum-told c = search needs
 
--- src/lib.rt:194:26
 enum-known-a : tie.Need-enum-known-a
 enum-known-a c = search needs
 
--- src/lib.rt:197:13
 movement-sound-requires : tie.Need-movement-sound-requires
 movement-sound-requires c κs = search needs
 
--- src/lib.rt:200:13
 enum-known-a-2 : tie.Need-enum-known-a-2
 enum-known-a-2 c = search needs
 
--- src/lib.rt:205:13
 blink-sound-requires : tie.Need-blink-sound-requires
 blink-sound-requires c κs = search needs
 
--- src/lib.rt:209:27
 enum-known-a-3 : tie.Need-enum-known-a-3
 enum-known-a-3 c = search needs
 
--- src/lib.rt:210:13
 delay-sound-requires : tie.Need-delay-sound-requires
 delay-sound-requires c κs = search needs
 
--- src/lib.rt:189:1
 returns : tie.Need-returns
 unfolding activityBy
 returns c = search (needs, ifs, activityBy-on)
 
--- src/lib.rt:189:1
 returns-2 : tie.Need-returns-2
 unfolding activityBy
 returns-2 c = search (needs, ifs, activityBy-on)
 
--- src/lib.rt:189:1
 returns-3 : tie.Need-returns-3
 unfolding activityBy
 returns-3 c = search (needs, ifs, activityBy-on)
 
--- src/lib.rt:189:1
 returns-4 : tie.Need-returns-4
 unfolding activityBy
 returns-4 c = search (needs, ifs, activityBy-on)
 
--- src/lib.rt:189:1
 returns-5 : tie.Need-returns-5
 unfolding activityBy
 returns-5 c = search (needs, ifs, activityBy-on)
 
--- src/lib.rt:189:1
 returns-6 : tie.Need-returns-6
 unfolding activityBy
 returns-6 c = search (needs, ifs, activityBy-on)
 
--- src/lib.rt:189:1
 returns-7 : tie.Need-returns-7
 unfolding activityBy
 returns-7 c = search (needs, ifs, activityBy-on)

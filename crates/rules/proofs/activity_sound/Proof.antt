@@ -9,23 +9,18 @@ use Rattle.slots.proofs.is_live.Reads as is-live-reads
 use Rattle.slots.proofs.winning.Reads as winning-reads
 use Rattle.value.proofs.present_value.Reads as present-value-reads
 
--- src/lib.rt:222:9
 is-live-requires : tie.Need-is-live-requires
 is-live-requires c κs = search needs
 
--- src/lib.rt:223:9
 winning-requires : tie.Need-winning-requires
 winning-requires c κs = search needs
 
--- src/lib.rt:225:9
 present-value-requires : tie.Need-present-value-requires
 present-value-requires c κs = search needs
 
--- src/lib.rt:220:5
 activity-by-requires : tie.Need-activity-by-requires
 activity-by-requires c κs = search needs
 
--- src/lib.rt:217:1
 returns : tie.Need-returns
 unfolding activitySound
 returns c = simp (c .activity-by .ensures, c .before .present-value .ensures, c .before .before .winning .ensures, c .before .before .before .is-live .ensures)

@@ -8,25 +8,20 @@ use Rattle.rules.proofs.blink_sound.Lts as lts
 use Rattle.ranges.proofs.is_within.Reads as is-within-reads
 use Rattle.rules.proofs.is_level.Reads as is-level-reads
 
--- src/lib.rt:171:8
 is-within-requires : tie.Need-is-within-requires
 is-within-requires c κs = search needs
 
--- src/lib.rt:172:12
 is-level-requires : tie.Need-is-level-requires
 is-level-requires c κs = search needs
 
--- src/lib.rt:168:1
 returns : tie.Need-returns
 unfolding blinkSound
 returns c = search (needs, ifs)
 
--- src/lib.rt:168:1
 returns-2 : tie.Need-returns-2
 unfolding blinkSound
 returns-2 c = search (needs, ifs)
 
--- src/lib.rt:168:1
 returns-3 : tie.Need-returns-3
 unfolding blinkSound
 returns-3 c = search (needs, ifs)

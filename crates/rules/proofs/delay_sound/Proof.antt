@@ -7,16 +7,13 @@ use Rattle.rules.proofs.delay_sound.Reads as reads
 use Rattle.rules.proofs.delay_sound.Lts as lts
 use Rattle.ranges.proofs.is_within.Reads as is-within-reads
 
--- src/lib.rt:181:8
 is-within-requires : tie.Need-is-within-requires
 is-within-requires c κs = search needs
 
--- src/lib.rt:178:1
 returns : tie.Need-returns
 unfolding delaySound
 returns c = search (needs, ifs)
 
--- src/lib.rt:178:1
 returns-2 : tie.Need-returns-2
 unfolding delaySound
 returns-2 c = search (needs, ifs)

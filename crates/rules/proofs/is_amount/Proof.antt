@@ -7,15 +7,12 @@ use Rattle.rules.proofs.is_amount.Lts as lts
 use Rattle.level.proofs.amount_of_real.Reads as amount-of-real-reads
 use Rattle.level.proofs.in_range.Reads as in-range-reads
 
--- src/lib.rt:67:21
 amount-of-real-requires : tie.Need-amount-of-real-requires
 amount-of-real-requires c κs = search needs
 
--- src/lib.rt:67:5
 in-range-requires : tie.Need-in-range-requires
 in-range-requires c κs = search needs
 
--- src/lib.rt:64:1
 returns : tie.Need-returns
 unfolding isAmount
 returns c = simp (c .in-range .ensures, c .before .amount-of-real .ensures)

@@ -7,16 +7,13 @@ use Rattle.rules.proofs.is_level.Reads as reads
 use Rattle.rules.proofs.is_level.Lts as lts
 use Rattle.ranges.proofs.is_within.Reads as is-within-reads
 
--- src/lib.rt:27:9
 is-within-requires : tie.Need-is-within-requires
 is-within-requires c κs = search needs
 
--- src/lib.rt:21:1
 returns : tie.Need-returns
 unfolding isLevel
 returns c = search (needs, ifs)
 
--- src/lib.rt:21:1
 returns-2 : tie.Need-returns-2
 unfolding isLevel
 returns-2 c = search (needs, ifs)

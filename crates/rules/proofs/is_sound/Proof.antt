@@ -10,43 +10,34 @@ use Rattle.rules.proofs.settings_sound.Reads as settings-sound-reads
 use Rattle.rules.proofs.slots_sound.Reads as slots-sound-reads
 use Rattle.rules.proofs.timer_sound.Reads as timer-sound-reads
 
--- src/lib.rt:249:8
 settings-sound-requires : tie.Need-settings-sound-requires
 settings-sound-requires c κs = search needs
 
--- src/lib.rt:250:12
 slots-sound-requires : tie.Need-slots-sound-requires
 slots-sound-requires c κs = search needs
 
--- src/lib.rt:251:16
 activity-sound-requires : tie.Need-activity-sound-requires
 activity-sound-requires c κs = search needs
 
--- src/lib.rt:252:20
 timer-sound-requires : tie.Need-timer-sound-requires
 timer-sound-requires c κs = search needs
 
--- src/lib.rt:242:1
 returns : tie.Need-returns
 unfolding sound
 returns c = search (needs, ifs)
 
--- src/lib.rt:242:1
 returns-2 : tie.Need-returns-2
 unfolding sound
 returns-2 c = search (needs, ifs)
 
--- src/lib.rt:242:1
 returns-3 : tie.Need-returns-3
 unfolding sound
 returns-3 c = search (needs, ifs)
 
--- src/lib.rt:242:1
 returns-4 : tie.Need-returns-4
 unfolding sound
 returns-4 c = search (needs, ifs)
 
--- src/lib.rt:242:1
 returns-5 : tie.Need-returns-5
 unfolding sound
 returns-5 c = search (needs, ifs)

@@ -7,26 +7,21 @@ use Rattle.rules.proofs.levels_sound.Reads as reads
 use Rattle.rules.proofs.levels_sound.Lts as lts
 use Rattle.rules.proofs.is_level.Reads as is-level-reads
 
--- src/lib.rt:34:8
 is-level-requires : tie.Need-is-level-requires
 is-level-requires c κs = search needs
 
--- src/lib.rt:31:1
 returns : tie.Need-returns
 unfolding levelsSound
 returns c = search (needs, ifs)
 
--- src/lib.rt:31:1
 returns-2 : tie.Need-returns-2
 unfolding levelsSound
 returns-2 c = search (needs, ifs)
 
--- src/lib.rt:31:1
 returns-3 : tie.Need-returns-3
 unfolding levelsSound
 returns-3 c = search (needs, ifs)
 
--- src/lib.rt:31:1
 returns-4 : tie.Need-returns-4
 unfolding levelsSound
 returns-4 c = search (needs, ifs)

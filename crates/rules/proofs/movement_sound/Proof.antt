@@ -7,35 +7,28 @@ use Rattle.rules.proofs.movement_sound.Reads as reads
 use Rattle.rules.proofs.movement_sound.Lts as lts
 use Rattle.rules.proofs.span_sound.Reads as span-sound-reads
 
--- src/lib.rt:149:12
 cast-if2 : tie.Need-cast-if2
 cast-if2 c = search needs
 
--- src/lib.rt:152:21
 span-sound-requires : tie.Need-span-sound-requires
 span-sound-requires c κs = search needs
 
--- src/lib.rt:145:1
 returns : tie.Need-returns
 unfolding movementSound
 returns c = search (needs, ifs)
 
--- src/lib.rt:145:1
 returns-2 : tie.Need-returns-2
 unfolding movementSound
 returns-2 c = search (needs, ifs)
 
--- src/lib.rt:145:1
 returns-3 : tie.Need-returns-3
 unfolding movementSound
 returns-3 c = search (needs, ifs)
 
--- src/lib.rt:145:1
 returns-4 : tie.Need-returns-4
 unfolding movementSound
 returns-4 c = search (needs, ifs)
 
--- src/lib.rt:145:1
 returns-5 : tie.Need-returns-5
 unfolding movementSound
 returns-5 c = search (needs, ifs)

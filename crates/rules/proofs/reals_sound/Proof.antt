@@ -7,20 +7,16 @@ use Rattle.rules.proofs.reals_sound.Reads as reads
 use Rattle.rules.proofs.reals_sound.Lts as lts
 use Rattle.rules.proofs.is_amount.Reads as is-amount-reads
 
--- src/lib.rt:73:8
 is-amount-requires : tie.Need-is-amount-requires
 is-amount-requires c κs = search needs
 
--- src/lib.rt:74:9
 is-amount-requires-2 : tie.Need-is-amount-requires-2
 is-amount-requires-2 c κs = search needs
 
--- src/lib.rt:70:1
 returns : tie.Need-returns
 unfolding realsSound
 returns c = search (needs, ifs)
 
--- src/lib.rt:70:1
 returns-2 : tie.Need-returns-2
 unfolding realsSound
 returns-2 c = search (needs, ifs)

@@ -10,42 +10,33 @@ use Rattle.rules.proofs.levels_sound.Reads as levels-sound-reads
 use Rattle.rules.proofs.reals_sound.Reads as reals-sound-reads
 use Rattle.rules.proofs.times_sound.Reads as times-sound-reads
 
--- src/lib.rt:83:8
 levels-sound-requires : tie.Need-levels-sound-requires
 levels-sound-requires c κs = search needs
 
--- src/lib.rt:84:12
 times-sound-requires : tie.Need-times-sound-requires
 times-sound-requires c κs = search needs
 
--- src/lib.rt:85:16
 reals-sound-requires : tie.Need-reals-sound-requires
 reals-sound-requires c κs = search needs
 
--- src/lib.rt:86:25
 cast-is-slot : tie.Need-cast-is-slot
 cast-is-slot c = search needs
 
--- src/lib.rt:86:17
 is-slot-requires : tie.Need-is-slot-requires
 is-slot-requires c κs = search needs
 
--- src/lib.rt:80:1
 returns : tie.Need-returns
 unfolding settingsSound
 returns c = search (needs, ifs)
 
--- src/lib.rt:80:1
 returns-2 : tie.Need-returns-2
 unfolding settingsSound
 returns-2 c = search (needs, ifs)
 
--- src/lib.rt:80:1
 returns-3 : tie.Need-returns-3
 unfolding settingsSound
 returns-3 c = search (needs, ifs)
 
--- src/lib.rt:80:1
 returns-4 : tie.Need-returns-4
 unfolding settingsSound
 returns-4 c = search (needs, ifs)

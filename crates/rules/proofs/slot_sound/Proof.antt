@@ -8,32 +8,25 @@ use Rattle.rules.proofs.slot_sound.Lts as lts
 use Rattle.rules.proofs.is_level.Reads as is-level-reads
 use Rattle.slots.proofs.is_live.Reads as is-live-reads
 
--- src/lib.rt:105:26
 cast-is-live : tie.Need-cast-is-live
 cast-is-live c = search needs
 
--- src/lib.rt:105:8
 is-live-requires : tie.Need-is-live-requires
 is-live-requires c κs = search needs
 
--- src/lib.rt:106:18
 mul-is-level : tie.Need-mul-is-level
 mul-is-level c = search needs
 
--- src/lib.rt:106:18
 element-copy-out-is-level : tie.Need-element-copy-out-is-level
 element-copy-out-is-level c = search needs
 
--- src/lib.rt:106:9
 is-level-requires : tie.Need-is-level-requires
 is-level-requires c κs = search needs
 
--- src/lib.rt:101:1
 returns : tie.Need-returns
 unfolding slotSound
 returns c = search (needs, ifs)
 
--- src/lib.rt:101:1
 returns-2 : tie.Need-returns-2
 unfolding slotSound
 returns-2 c = search (needs, ifs)

@@ -10,23 +10,18 @@ use Rattle.rules.proofs.slots_sound_from.Reads as slots-sound-from-read
 use Rattle.rules.proofs.wide.Reads as wide-reads
 use Rattle.slots.proofs.winning.Reads as winning-reads
 
--- src/lib.rt:137:9
 winning-requires : tie.Need-winning-requires
 winning-requires c κs = search needs
 
--- src/lib.rt:139:29
 wide-requires : tie.Need-wide-requires
 wide-requires c κs = search needs
 
--- src/lib.rt:139:9
 slots-sound-from-requires : tie.Need-slots-sound-from-requires
 slots-sound-from-requires c κs = search needs
 
--- src/lib.rt:141:9
 slots-sound-from-requires-2 : tie.Need-slots-sound-from-requires-2
 slots-sound-from-requires-2 c κs = search needs
 
--- src/lib.rt:134:1
 returns : tie.Need-returns
 returns c =
     let s = c .before .before .before .before .args .s in
@@ -34,7 +29,6 @@ returns c =
     ∙ ap (slotsSoundFrom s) (c .before .wide .ensures ∙ c .before .before .before .winning .ensures)
     ∙ sym (from-winner s (search needs))
 
--- src/lib.rt:134:1
 returns-2 : tie.Need-returns-2
 returns-2 c = search needs
 

@@ -15,19 +15,15 @@ Inv-loop s from i₀ i = slotsSoundFrom s from ≡ slotsSoundFrom s i
 abbrev μ-loop : tie.MeasureT-loop
 μ-loop s from i₀ i = 16 - i
 
--- src/lib.rt:76:5
 loop-holds : tie.Need-loop-holds Inv-loop μ-loop
 loop-holds c = search needs
 
--- src/lib.rt:77:12
 slot-sound-requires : tie.Need-slot-sound-requires Inv-loop μ-loop
 slot-sound-requires c κs = search needs
 
--- src/lib.rt:78:13
 add-i : tie.Need-add-i Inv-loop μ-loop
 add-i c = search needs
 
--- src/lib.rt:76:5
 loop-less : tie.Need-loop-less Inv-loop μ-loop
 loop-less c = search needs
 

@@ -7,29 +7,23 @@ use Rattle.rules.proofs.span_sound.Reads as reads
 use Rattle.rules.proofs.span_sound.Lts as lts
 use Rattle.ranges.proofs.is_within.Reads as is-within-reads
 
--- src/lib.rt:134:12
 sub-if2 : tie.Need-sub-if2
 sub-if2 c = search needs
 
--- src/lib.rt:134:26
 cast-if2 : tie.Need-cast-if2
 cast-if2 c = search needs
 
--- src/lib.rt:135:13
 is-within-requires : tie.Need-is-within-requires
 is-within-requires c κs = search needs
 
--- src/lib.rt:130:1
 returns : tie.Need-returns
 unfolding spanSound
 returns c = search (needs, ifs)
 
--- src/lib.rt:130:1
 returns-2 : tie.Need-returns-2
 unfolding spanSound
 returns-2 c = search (needs, ifs)
 
--- src/lib.rt:130:1
 returns-3 : tie.Need-returns-3
 unfolding spanSound
 returns-3 c = search (needs, ifs)

@@ -8,33 +8,26 @@ use Rattle.rules.proofs.timer_sound.Reads as reads
 use Rattle.rules.proofs.timer_sound.Lts as lts
 use Rattle.ranges.proofs.is_slot.Reads as is-slot-reads
 
--- src/lib.rt:235:23
 enum-told : tie.Need-enum-told
 enum-told c = search needs
 
--- src/lib.rt:236:26
 enum-known-m : tie.Need-enum-known-m
 enum-known-m c = search needs
 
--- src/lib.rt:236:52
 cast-is-slot : tie.Need-cast-is-slot
 cast-is-slot c = search needs
 
--- src/lib.rt:236:44
 is-slot-requires : tie.Need-is-slot-requires
 is-slot-requires c κs = search needs
 
--- src/lib.rt:231:1
 returns : tie.Need-returns
 unfolding timerSound
 returns c = search (needs, ifs, timerSound-on)
 
--- src/lib.rt:231:1
 returns-2 : tie.Need-returns-2
 unfolding timerSound
 returns-2 c = search (needs, ifs, timerSound-on)
 
--- src/lib.rt:231:1
 returns-3 : tie.Need-returns-3
 unfolding timerSound
 returns-3 c = search (needs, ifs, timerSound-on)

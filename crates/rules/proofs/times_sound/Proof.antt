@@ -7,21 +7,17 @@ use Rattle.rules.proofs.times_sound.Reads as reads
 use Rattle.rules.proofs.times_sound.Lts as lts
 use Rattle.ranges.proofs.is_within.Reads as is-within-reads
 
--- src/lib.rt:52:8
 is-within-requires : tie.Need-is-within-requires
 is-within-requires c κs = search needs
 
--- src/lib.rt:49:1
 returns : tie.Need-returns
 unfolding timesSound
 returns c = search (needs, ifs)
 
--- src/lib.rt:49:1
 returns-2 : tie.Need-returns-2
 unfolding timesSound
 returns-2 c = search (needs, ifs)
 
--- src/lib.rt:49:1
 returns-3 : tie.Need-returns-3
 unfolding timesSound
 returns-3 c = search (needs, ifs)

@@ -7,15 +7,12 @@ use Rattle.slots.proofs.empty.Lts as lts
 use Rattle.slots.proofs.level_set.Reads as level-set-reads
 use Rattle.slots.proofs.mask_empty.Reads as mask-empty-reads
 
--- src/lib.rt:52:15
 mask-empty-requires : tie.Need-mask-empty-requires
 mask-empty-requires c κs = search needs
 
--- src/lib.rt:53:17
 level-set-requires : tie.Need-level-set-requires
 level-set-requires c κs = search needs
 
--- src/lib.rt:47:1
 returns : tie.Need-returns
 unfolding put
 returns c = simp (c .level-set .ensures, c .before .mask-empty .ensures)

@@ -7,15 +7,12 @@ use Rattle.slots.proofs.fill.Lts as lts
 use Rattle.slots.proofs.level_set.Reads as level-set-reads
 use Rattle.slots.proofs.mask_fill.Reads as mask-fill-reads
 
--- src/lib.rt:55:15
 mask-fill-requires : tie.Need-mask-fill-requires
 mask-fill-requires c κs = search needs
 
--- src/lib.rt:56:17
 level-set-requires : tie.Need-level-set-requires
 level-set-requires c κs = search needs
 
--- src/lib.rt:50:1
 returns : tie.Need-returns
 unfolding put
 returns c = simp (c .level-set .ensures, c .before .mask-fill .ensures)

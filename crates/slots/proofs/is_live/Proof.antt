@@ -7,16 +7,13 @@ use Rattle.slots.proofs.is_live.Tie as tie
 use Rattle.slots.proofs.is_live.Reads as reads
 use Rattle.slots.proofs.is_live.Lts as lts
 
--- src/lib.rt:18:19
 shl-result : tie.Need-shl-result
 shl-result c = search needs
 
--- src/lib.rt:14:1
 returns : tie.Need-returns
 unfolding lives
 returns c = tested (c .before .before .args .s .live) (c .before .before .args .i) (c .before .if1 .taken)
 
--- src/lib.rt:14:1
 returns-2 : tie.Need-returns-2
 unfolding lives
 returns-2 c = sym (dead-past (c .before .args .s .live) (c .before .args .i) (search needs) (c .if1 .left))

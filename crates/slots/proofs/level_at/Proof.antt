@@ -6,20 +6,16 @@ use Rattle.slots.proofs.level_at.Tie as tie
 use Rattle.slots.proofs.level_at.Reads as reads
 use Rattle.slots.proofs.level_at.Lts as lts
 
--- src/lib.rt:63:17
 mul-result : tie.Need-mul-result
 mul-result c = search needs
 
--- src/lib.rt:63:17
 element-copy-out-result : tie.Need-element-copy-out-result
 element-copy-out-result c = search needs
 
--- src/lib.rt:60:1
 returns : tie.Need-returns
 unfolding levelAt
 returns c = search (needs, ifs)
 
--- src/lib.rt:60:1
 returns-2 : tie.Need-returns-2
 unfolding levelAt
 returns-2 c = search (needs, ifs)

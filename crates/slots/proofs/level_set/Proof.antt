@@ -6,20 +6,16 @@ use Rattle.slots.proofs.level_set.Tie as tie
 use Rattle.slots.proofs.level_set.Reads as reads
 use Rattle.slots.proofs.level_set.Lts as lts
 
--- src/lib.rt:35:9
 mul-l : tie.Need-mul-l
 mul-l c = search needs
 
--- src/lib.rt:35:9
 array-write-l : tie.Need-array-write-l
 array-write-l c = search needs
 
--- src/lib.rt:30:1
 returns : tie.Need-returns
 unfolding levelSet
 returns c = search (needs, ifs)
 
--- src/lib.rt:30:1
 returns-2 : tie.Need-returns-2
 unfolding levelSet
 returns-2 c = search (needs, ifs)

@@ -7,16 +7,13 @@ use Rattle.slots.proofs.mask_empty.Tie as tie
 use Rattle.slots.proofs.mask_empty.Reads as reads
 use Rattle.slots.proofs.mask_empty.Lts as lts
 
--- src/lib.rt:21:26
 shl-result : tie.Need-shl-result
 shl-result c = search needs
 
--- src/lib.rt:18:1
 returns : tie.Need-returns
 unfolding maskEmptied
 returns c = rw (shifted (c .before .args .i) (c .if1 .taken)) (search (needs, ifs))
 
--- src/lib.rt:18:1
 returns-2 : tie.Need-returns-2
 unfolding maskEmptied
 returns-2 c = search (needs, ifs)

@@ -7,16 +7,13 @@ use Rattle.slots.proofs.mask_fill.Tie as tie
 use Rattle.slots.proofs.mask_fill.Reads as reads
 use Rattle.slots.proofs.mask_fill.Lts as lts
 
--- src/lib.rt:27:25
 shl-result : tie.Need-shl-result
 shl-result c = search needs
 
--- src/lib.rt:24:1
 returns : tie.Need-returns
 unfolding maskFilled
 returns c = rw (shifted (c .before .args .i) (c .if1 .taken)) (search (needs, ifs))
 
--- src/lib.rt:24:1
 returns-2 : tie.Need-returns-2
 unfolding maskFilled
 returns-2 c = search (needs, ifs)

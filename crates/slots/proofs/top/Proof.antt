@@ -7,15 +7,12 @@ use Rattle.slots.proofs.top.Lts as lts
 use Rattle.slots.proofs.level_at.Reads as level-at-reads
 use Rattle.slots.proofs.winning.Reads as winning-reads
 
--- src/lib.rt:69:20
 winning-requires : tie.Need-winning-requires
 winning-requires c κs = search needs
 
--- src/lib.rt:69:5
 level-at-requires : tie.Need-level-at-requires
 level-at-requires c κs = search needs
 
--- src/lib.rt:66:1
 returns : tie.Need-returns
 unfolding topmost
 returns c = simp (c .level-at .ensures, c .before .winning .ensures)

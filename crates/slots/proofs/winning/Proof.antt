@@ -5,7 +5,6 @@ use Rattle.slots.proofs.winning.Tie as tie
 use Rattle.slots.proofs.winning.Reads as reads
 use Rattle.slots.proofs.winning.Lts as lts
 
--- src/lib.rt:6:1
 returns : tie.Need-returns
 returns c = winner-zeros (c .before .args .s) (search needs)
 

@@ -7,16 +7,13 @@ use Rattle.station.proofs.copy_or_6.Reads as reads
 use Rattle.station.proofs.copy_or_6.Lts as lts
 use Rattle.station.proofs.same_frame.Reads as same-frame-reads
 
--- src/lib.rt:163:8
 same-frame-requires : tie.Need-same-frame-requires
 same-frame-requires c κs = search needs
 
--- src/lib.rt:158:1
 returns : tie.Need-returns
 unfolding copyOr6
 returns c = search (needs, ifs)
 
--- src/lib.rt:158:1
 returns-2 : tie.Need-returns-2
 unfolding copyOr6
 returns-2 c = search (needs, ifs)

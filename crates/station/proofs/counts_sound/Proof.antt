@@ -6,17 +6,14 @@ use Rattle.station.proofs.counts_sound.Tie as tie
 use Rattle.station.proofs.counts_sound.Reads as reads
 use Rattle.station.proofs.counts_sound.Lts as lts
 
--- src/lib.rt:81:1
 returns : tie.Need-returns
 unfolding countsSound
 returns c = search (needs, ifs)
 
--- src/lib.rt:81:1
 returns-2 : tie.Need-returns-2
 unfolding countsSound
 returns-2 c = search (needs, ifs)
 
--- src/lib.rt:81:1
 returns-3 : tie.Need-returns-3
 unfolding countsSound
 returns-3 c = search (needs, ifs)

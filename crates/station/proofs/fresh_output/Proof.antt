@@ -6,11 +6,9 @@ use Rattle.station.proofs.fresh_output.Reads as reads
 use Rattle.station.proofs.fresh_output.Lts as lts
 use Rattle.station.proofs.fresh_settings.Reads as fresh-settings-reads
 
--- src/lib.rt:55:9
 fresh-settings-requires : tie.Need-fresh-settings-requires
 fresh-settings-requires c κs = search needs
 
--- src/lib.rt:43:1
 returns : tie.Need-returns
 unfolding freshOutput
 returns c = simp (c .fresh-settings .ensures)

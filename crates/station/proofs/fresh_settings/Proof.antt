@@ -8,7 +8,6 @@ use Rattle.station.proofs.fresh_settings.Tie as tie
 use Rattle.station.proofs.fresh_settings.Reads as reads
 use Rattle.station.proofs.fresh_settings.Lts as lts
 
--- src/lib.rt:25:1
 returns : tie.Need-returns
 unfolding freshSettings real ofBits
 returns c = search (needs, ifs)

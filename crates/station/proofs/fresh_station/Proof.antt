@@ -6,7 +6,6 @@ use Rattle.station.proofs.fresh_station.Tie as tie
 use Rattle.station.proofs.fresh_station.Reads as reads
 use Rattle.station.proofs.fresh_station.Lts as lts
 
--- src/lib.rt:67:1
 returns : tie.Need-returns
 unfolding freshStation
 returns c = search (needs, ifs)

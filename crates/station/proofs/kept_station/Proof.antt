@@ -5,11 +5,9 @@ use Rattle.station.proofs.kept_station.Reads as reads
 use Rattle.station.proofs.kept_station.Lts as lts
 use Rattle.station.proofs.pad.Reads as pad-reads
 
--- src/lib.rt:147:9
 pad-requires : tie.Need-pad-requires
 pad-requires c κs = search needs
 
--- src/lib.rt:143:1
 returns : tie.Need-returns
 returns c = simp (c .pad .ensures)
 

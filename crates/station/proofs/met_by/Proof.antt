@@ -9,38 +9,30 @@ use Rattle.station.proofs.met_by.Reads as reads
 use Rattle.station.proofs.met_by.Lts as lts
 use Rattle.station.proofs.met_number.Reads as met-number-reads
 
--- src/lib.rt:207:20
 enum-known-f : tie.Need-enum-known-f
 enum-known-f c = search needs
 
--- src/lib.rt:208:22
 enum-known-f-2 : tie.Need-enum-known-f-2
 enum-known-f-2 c = search needs
 
--- src/lib.rt:209:23
 enum-known-f-3 : tie.Need-enum-known-f-3
 enum-known-f-3 c = search needs
 
--- src/lib.rt:209:67
 met-number-requires : tie.Need-met-number-requires
 met-number-requires c κs = search needs
 
--- src/lib.rt:203:1
 returns : tie.Need-returns
 unfolding metBy met
 returns c = search (needs, ifs, met-on)
 
--- src/lib.rt:203:1
 returns-2 : tie.Need-returns-2
 unfolding metBy met
 returns-2 c = search (needs, ifs, met-on)
 
--- src/lib.rt:203:1
 returns-3 : tie.Need-returns-3
 unfolding metBy met
 returns-3 c = search (needs, ifs, met-on)
 
--- src/lib.rt:203:1
 returns-4 : tie.Need-returns-4
 unfolding metBy met
 returns-4 c = search (needs, ifs, met-on)

@@ -7,26 +7,21 @@ use Rattle.station.proofs.met_number.Reads as reads
 use Rattle.station.proofs.met_number.Lts as lts
 use Rattle.station.proofs.copy_or_6.Reads as copy-or-6-reads
 
--- src/lib.rt:175:9
 copy-or-6-requires : tie.Need-copy-or-6-requires
 copy-or-6-requires c κs = search needs
 
--- src/lib.rt:175:9
 returns : tie.Need-returns
 unfolding metNumber
 returns c = search (needs, ifs)
 
--- src/lib.rt:178:9
 returns-2 : tie.Need-returns-2
 unfolding metNumber
 returns-2 c = search (needs, ifs)
 
--- src/lib.rt:181:9
 returns-3 : tie.Need-returns-3
 unfolding metNumber
 returns-3 c = search (needs, ifs)
 
--- src/lib.rt:171:1
 returns-4 : tie.Need-returns-4
 unfolding metNumber
 returns-4 c = search (needs, ifs)

@@ -7,29 +7,23 @@ use Rattle.station.proofs.station_of.Tie as tie
 use Rattle.station.proofs.station_of.Reads as reads
 use Rattle.station.proofs.station_of.Lts as lts
 
--- src/lib.rt:196:26
 enum-told : tie.Need-enum-told
 enum-told c = search needs
 
--- src/lib.rt:197:28
 enum-told-2 : tie.Need-enum-told-2
 enum-told-2 c = search needs
 
--- src/lib.rt:198:23
 enum-known-f : tie.Need-enum-known-f
 enum-known-f c = search needs
 
--- src/lib.rt:192:1
 returns : tie.Need-returns
 unfolding stationOf
 returns c = search (needs, ifs, stationOf-on)
 
--- src/lib.rt:192:1
 returns-2 : tie.Need-returns-2
 unfolding stationOf
 returns-2 c = search (needs, ifs, stationOf-on)
 
--- src/lib.rt:192:1
 returns-3 : tie.Need-returns-3
 unfolding stationOf
 returns-3 c = search (needs, ifs, stationOf-on)

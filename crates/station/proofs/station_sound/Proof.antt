@@ -8,20 +8,16 @@ use Rattle.station.proofs.station_sound.Reads as reads
 use Rattle.station.proofs.station_sound.Lts as lts
 use Rattle.kinds.proofs.is_call.Reads as is-call-reads
 
--- src/lib.rt:96:9
 returns : tie.Need-returns
 unfolding stationSound byteAt
 returns c = search (needs, ifs)
 
--- src/lib.rt:99:20
 array-read-is-call : tie.Need-array-read-is-call
 array-read-is-call c = search needs
 
--- src/lib.rt:99:5
 is-call-requires : tie.Need-is-call-requires
 is-call-requires c κs = search needs
 
--- src/lib.rt:92:1
 returns-2 : tie.Need-returns-2
 unfolding stationSound byteAt
 returns-2 c = search (needs, ifs)

@@ -7,16 +7,13 @@ use Rattle.value.proofs.bring.Reads as reads
 use Rattle.value.proofs.bring.Lts as lts
 use Rattle.value.proofs.into_range.Reads as into-range-reads
 
--- src/lib.rt:37:28
 into-range-requires : tie.Need-into-range-requires
 into-range-requires c κs = search needs
 
--- src/lib.rt:34:1
 returns : tie.Need-returns
 unfolding brought
 returns c = search (needs, ifs)
 
--- src/lib.rt:34:1
 returns-2 : tie.Need-returns-2
 unfolding brought
 returns-2 c = search (needs, ifs)

@@ -9,28 +9,22 @@ use Rattle.value.proofs.gone.Lts as lts
 use Rattle.value.proofs.run.Reads as run-reads
 use Rattle.value.proofs.share.Reads as share-reads
 
--- src/lib.rt:86:23
 enum-told : tie.Need-enum-told
 enum-told c = search needs
 
--- src/lib.rt:86:23
 share-requires : tie.Need-share-requires
 share-requires c κs = search needs
 
--- src/lib.rt:87:20
 enum-known-p : tie.Need-enum-known-p
 enum-known-p c = search needs
 
--- src/lib.rt:87:29
 run-requires : tie.Need-run-requires
 run-requires c κs = search needs
 
--- src/lib.rt:81:1
 returns : tie.Need-returns
 unfolding gone
 returns c = search (needs, ifs, gone-on)
 
--- src/lib.rt:81:1
 returns-2 : tie.Need-returns-2
 unfolding gone
 returns-2 c = search (needs, ifs, gone-on)

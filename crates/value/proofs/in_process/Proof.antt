@@ -7,38 +7,30 @@ use Rattle.value.proofs.in_process.Tie as tie
 use Rattle.value.proofs.in_process.Reads as reads
 use Rattle.value.proofs.in_process.Lts as lts
 
--- src/lib.rt:140:28
 enum-told : tie.Need-enum-told
 enum-told c = search needs
 
--- src/lib.rt:141:32
 enum-told-2 : tie.Need-enum-told-2
 enum-told-2 c = search needs
 
--- src/lib.rt:147:14
 enum-told-3 : tie.Need-enum-told-3
 enum-told-3 c = search needs
 
--- src/lib.rt:148:50
 enum-told-4 : tie.Need-enum-told-4
 enum-told-4 c = search needs
 
--- src/lib.rt:136:1
 returns : tie.Need-returns
 unfolding inProcess
 returns c = search (needs, ifs, inProcess-on)
 
--- src/lib.rt:136:1
 returns-2 : tie.Need-returns-2
 unfolding inProcess
 returns-2 c = search (needs, ifs, inProcess-on)
 
--- src/lib.rt:136:1
 returns-3 : tie.Need-returns-3
 unfolding inProcess
 returns-3 c = search (needs, ifs, inProcess-on)
 
--- src/lib.rt:136:1
 returns-4 : tie.Need-returns-4
 unfolding inProcess
 returns-4 c = search (needs, ifs, inProcess-on)

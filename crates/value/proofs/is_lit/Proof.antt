@@ -6,11 +6,9 @@ use Rattle.value.proofs.is_lit.Reads as reads
 use Rattle.value.proofs.is_lit.Lts as lts
 use Rattle.value.proofs.present_value.Reads as present-value-reads
 
--- src/lib.rt:49:9
 present-value-requires : tie.Need-present-value-requires
 present-value-requires c κs = search needs
 
--- src/lib.rt:46:1
 returns : tie.Need-returns
 unfolding lit
 returns c = simp (c .present-value .ensures)

@@ -7,15 +7,12 @@ use Rattle.value.proofs.present_value.Lts as lts
 use Rattle.slots.proofs.top.Reads as top-reads
 use Rattle.value.proofs.bring.Reads as bring-reads
 
--- src/lib.rt:43:14
 top-requires : tie.Need-top-requires
 top-requires c κs = search needs
 
--- src/lib.rt:43:5
 bring-requires : tie.Need-bring-requires
 bring-requires c κs = search needs
 
--- src/lib.rt:40:1
 returns : tie.Need-returns
 unfolding presentValue
 returns c = simp (c .bring .ensures, c .before .top .ensures)

@@ -8,42 +8,33 @@ use Rattle.value.proofs.progress_by.Reads as reads
 use Rattle.value.proofs.progress_by.Lts as lts
 use Rattle.value.proofs.reached.Reads as reached-reads
 
--- src/lib.rt:115:28
 enum-told : tie.Need-enum-told
 enum-told c = search needs
 
--- src/lib.rt:116:26
 enum-known-a : tie.Need-enum-known-a
 enum-known-a c = search needs
 
--- src/lib.rt:116:32
 reached-requires : tie.Need-reached-requires
 reached-requires c κs = search needs
 
--- src/lib.rt:122:14
 enum-told-2 : tie.Need-enum-told-2
 enum-told-2 c = search needs
 
--- src/lib.rt:123:50
 enum-told-3 : tie.Need-enum-told-3
 enum-told-3 c = search needs
 
--- src/lib.rt:111:1
 returns : tie.Need-returns
 unfolding progressBy
 returns c = search (needs, ifs, progressBy-on)
 
--- src/lib.rt:111:1
 returns-2 : tie.Need-returns-2
 unfolding progressBy
 returns-2 c = search (needs, ifs, progressBy-on)
 
--- src/lib.rt:111:1
 returns-3 : tie.Need-returns-3
 unfolding progressBy
 returns-3 c = search (needs, ifs, progressBy-on)
 
--- src/lib.rt:111:1
 returns-4 : tie.Need-returns-4
 unfolding progressBy
 returns-4 c = search (needs, ifs, progressBy-on)

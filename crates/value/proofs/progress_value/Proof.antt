@@ -7,15 +7,12 @@ use Rattle.value.proofs.progress_value.Lts as lts
 use Rattle.value.proofs.present_value.Reads as present-value-reads
 use Rattle.value.proofs.progress_by.Reads as progress-by-reads
 
--- src/lib.rt:133:20
 present-value-requires : tie.Need-present-value-requires
 present-value-requires c κs = search needs
 
--- src/lib.rt:133:5
 progress-by-requires : tie.Need-progress-by-requires
 progress-by-requires c κs = search needs
 
--- src/lib.rt:127:1
 returns : tie.Need-returns
 unfolding progressValue
 returns c = simp (c .progress-by .ensures, c .before .present-value .ensures)

@@ -7,15 +7,12 @@ use Rattle.value.proofs.reached.Lts as lts
 use Rattle.value.proofs.elapsed.Reads as elapsed-reads
 use Rattle.value.proofs.reached_by.Reads as reached-by-reads
 
--- src/lib.rt:106:19
 elapsed-requires : tie.Need-elapsed-requires
 elapsed-requires c κs = search needs
 
--- src/lib.rt:106:5
 reached-by-requires : tie.Need-reached-by-requires
 reached-by-requires c κs = search needs
 
--- src/lib.rt:103:1
 returns : tie.Need-returns
 unfolding reached
 returns c = simp (c .reached-by .ensures, c .before .elapsed .ensures)

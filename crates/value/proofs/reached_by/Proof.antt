@@ -9,11 +9,9 @@ use Rattle.value.proofs.reached_by.Reads as reads
 use Rattle.value.proofs.reached_by.Lts as lts
 use Rattle.value.proofs.gone.Reads as gone-reads
 
--- src/lib.rt:97:19
 gone-requires : tie.Need-gone-requires
 gone-requires c κs = search needs
 
--- src/lib.rt:97:9
 add-result : tie.Need-add-result
 add-result c =
     let at = c .before .before .before .before .before .args in
@@ -21,15 +19,12 @@ add-result c =
     rw (c .before .gone .ensures) (gone-most (at .m .pace) (at .m .target - at .m .start) (at .m .length) (at .k) (search needs)) in
     search needs
 
--- src/lib.rt:99:31
 sub-gone : tie.Need-sub-gone
 sub-gone c = search needs
 
--- src/lib.rt:99:19
 gone-requires-2 : tie.Need-gone-requires-2
 gone-requires-2 c κs = search needs
 
--- src/lib.rt:99:9
 sub-result : tie.Need-sub-result
 sub-result c =
     let at = c .before .before .before .before .before .args in
@@ -37,12 +32,10 @@ sub-result c =
     rw (c .before .gone2 .ensures) (gone-most (at .m .pace) (at .m .start - at .m .target) (at .m .length) (at .k) (search needs)) in
     search needs
 
--- src/lib.rt:91:1
 returns : tie.Need-returns
 unfolding reachedBy
 returns c = search (needs, ifs, ← c .before .gone .ensures)
 
--- src/lib.rt:91:1
 returns-2 : tie.Need-returns-2
 unfolding reachedBy
 returns-2 c = search (needs, ifs, ← c .before .gone2 .ensures)

@@ -9,26 +9,21 @@ use Rattle.value.proofs.share.Tie as tie
 use Rattle.value.proofs.share.Reads as reads
 use Rattle.value.proofs.share.Lts as lts
 
--- src/lib.rt:69:10
 mul-result : tie.Need-mul-result
 mul-result c = record { fits = below 32 (search needs) (search needs) }
 
--- src/lib.rt:69:10
 div-result : tie.Need-div-result
 div-result c = search needs
 
--- src/lib.rt:69:9
 cast-result : tie.Need-cast-result
 cast-result c =
     let least : c .before .args .d * c .before .args .k / c .before .args .l ≤ c .before .args .d =
     share-most (c .before .args .d) (c .before .args .l) (c .before .args .k) (search needs) in
     search needs
 
--- src/lib.rt:62:1
 returns : tie.Need-returns
 returns c = rw (c .if1 .taken) (sym (div-zero (c .before .args .d * c .before .args .k)))
 
--- src/lib.rt:62:1
 returns-2 : tie.Need-returns-2
 returns-2 c = search needs
 

@@ -7,101 +7,79 @@ use Rattle.properties.proofs.settings.burning_with.Tie as tie
 use Rattle.properties.proofs.settings.burning_with.Reads as reads
 use Rattle.properties.proofs.settings.burning_with.Lts as lts
 
--- src/settings.rt:98:35
 enum-told : tie.Need-enum-told
 enum-told c = search needs
 
--- src/settings.rt:99:32
 enum-told-2 : tie.Need-enum-told-2
 enum-told-2 c = search needs
 
--- src/settings.rt:100:32
 enum-told-3 : tie.Need-enum-told-3
 enum-told-3 c = search needs
 
--- src/settings.rt:101:32
 enum-told-4 : tie.Need-enum-told-4
 enum-told-4 c = search needs
 
--- src/settings.rt:102:34
 enum-told-5 : tie.Need-enum-told-5
 enum-told-5 c = search needs
 
--- src/settings.rt:103:33
 enum-told-6 : tie.Need-enum-told-6
 enum-told-6 c = search needs
 
--- src/settings.rt:104:33
 enum-told-7 : tie.Need-enum-told-7
 enum-told-7 c = search needs
 
--- src/settings.rt:105:31
 enum-told-8 : tie.Need-enum-told-8
 enum-told-8 c = search needs
 
--- src/settings.rt:106:31
 enum-told-9 : tie.Need-enum-told-9
 enum-told-9 c = search needs
 
--- src/settings.rt:107:32
 enum-told-10 : tie.Need-enum-told-10
 enum-told-10 c = search needs
 
--- src/settings.rt:108:34
 enum-told-11 : tie.Need-enum-told-11
 enum-told-11 c = search needs
 
--- src/settings.rt:94:1
 returns : tie.Need-returns
 unfolding burningWith
 returns c = search (needs, ifs, burningWith-on)
 
--- src/settings.rt:94:1
 returns-2 : tie.Need-returns-2
 unfolding burningWith
 returns-2 c = search (needs, ifs, burningWith-on)
 
--- src/settings.rt:94:1
 returns-3 : tie.Need-returns-3
 unfolding burningWith
 returns-3 c = search (needs, ifs, burningWith-on)
 
--- src/settings.rt:94:1
 returns-4 : tie.Need-returns-4
 unfolding burningWith
 returns-4 c = search (needs, ifs, burningWith-on)
 
--- src/settings.rt:94:1
 returns-5 : tie.Need-returns-5
 unfolding burningWith
 returns-5 c = search (needs, ifs, burningWith-on)
 
--- src/settings.rt:94:1
 returns-6 : tie.Need-returns-6
 unfolding burningWith
 returns-6 c = search (needs, ifs, burningWith-on)
 
--- src/settings.rt:94:1
 returns-7 : tie.Need-returns-7
 unfolding burningWith
 returns-7 c = search (needs, ifs, burningWith-on)
 
--- src/settings.rt:94:1
 returns-8 : tie.Need-returns-8
 unfolding burningWith
 returns-8 c = search (needs, ifs, burningWith-on)
 
--- src/settings.rt:94:1
 returns-9 : tie.Need-returns-9
 unfolding burningWith
 returns-9 c = search (needs, ifs, burningWith-on)
 
--- src/settings.rt:94:1
 returns-10 : tie.Need-returns-10
 unfolding burningWith
 returns-10 c = search (needs, ifs, burningWith-on)
 
--- src/settings.rt:94:1
 returns-11 : tie.Need-returns-11
 unfolding burningWith
 returns-11 c = search (needs, ifs, burningWith-on)

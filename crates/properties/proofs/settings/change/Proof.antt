@@ -8,19 +8,15 @@ use Rattle.properties.proofs.settings.activity_with.Reads as activity-w
 use Rattle.properties.proofs.settings.burning_with.Reads as burning-with-reads
 use Rattle.properties.proofs.settings.settings_with.Reads as settings-with-reads
 
--- src/settings.rt:122:19
 settings-with-requires : tie.Need-settings-with-requires
 settings-with-requires c κs = search needs
 
--- src/settings.rt:124:19
 activity-with-requires : tie.Need-activity-with-requires
 activity-with-requires c κs = search needs
 
--- src/settings.rt:126:18
 burning-with-requires : tie.Need-burning-with-requires
 burning-with-requires c κs = search needs
 
--- src/settings.rt:113:1
 returns : tie.Need-returns
 unfolding changed
 returns c = simp (c .burning-with .ensures, c .before .activity-with .ensures, c .before .before .settings-with .ensures)

@@ -6,7 +6,6 @@ use Rattle.properties.proofs.settings.min_over_max.Tie as tie
 use Rattle.properties.proofs.settings.min_over_max.Reads as reads
 use Rattle.properties.proofs.settings.min_over_max.Lts as lts
 
--- src/settings.rt:132:1
 returns : tie.Need-returns
 unfolding minOverMax
 returns c = search (needs, ifs)

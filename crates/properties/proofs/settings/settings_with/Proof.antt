@@ -7,101 +7,79 @@ use Rattle.properties.proofs.settings.settings_with.Tie as tie
 use Rattle.properties.proofs.settings.settings_with.Reads as reads
 use Rattle.properties.proofs.settings.settings_with.Lts as lts
 
--- src/settings.rt:13:29
 enum-known-n : tie.Need-enum-known-n
 enum-known-n c = search needs
 
--- src/settings.rt:17:26
 enum-known-n-2 : tie.Need-enum-known-n-2
 enum-known-n-2 c = search needs
 
--- src/settings.rt:21:26
 enum-known-n-3 : tie.Need-enum-known-n-3
 enum-known-n-3 c = search needs
 
--- src/settings.rt:25:26
 enum-known-n-4 : tie.Need-enum-known-n-4
 enum-known-n-4 c = search needs
 
--- src/settings.rt:29:28
 enum-known-n-5 : tie.Need-enum-known-n-5
 enum-known-n-5 c = search needs
 
--- src/settings.rt:33:27
 enum-known-n-6 : tie.Need-enum-known-n-6
 enum-known-n-6 c = search needs
 
--- src/settings.rt:37:27
 enum-known-n-7 : tie.Need-enum-known-n-7
 enum-known-n-7 c = search needs
 
--- src/settings.rt:41:25
 enum-known-n-8 : tie.Need-enum-known-n-8
 enum-known-n-8 c = search needs
 
--- src/settings.rt:45:25
 enum-known-n-9 : tie.Need-enum-known-n-9
 enum-known-n-9 c = search needs
 
--- src/settings.rt:49:26
 enum-known-n-10 : tie.Need-enum-known-n-10
 enum-known-n-10 c = search needs
 
--- src/settings.rt:53:34
 enum-told : tie.Need-enum-told
 enum-told c = search needs
 
--- src/settings.rt:9:1
 returns : tie.Need-returns
 unfolding settingsWith
 returns c = search (needs, ifs, settingsWith-on)
 
--- src/settings.rt:9:1
 returns-2 : tie.Need-returns-2
 unfolding settingsWith
 returns-2 c = search (needs, ifs, settingsWith-on)
 
--- src/settings.rt:9:1
 returns-3 : tie.Need-returns-3
 unfolding settingsWith
 returns-3 c = search (needs, ifs, settingsWith-on)
 
--- src/settings.rt:9:1
 returns-4 : tie.Need-returns-4
 unfolding settingsWith
 returns-4 c = search (needs, ifs, settingsWith-on)
 
--- src/settings.rt:9:1
 returns-5 : tie.Need-returns-5
 unfolding settingsWith
 returns-5 c = search (needs, ifs, settingsWith-on)
 
--- src/settings.rt:9:1
 returns-6 : tie.Need-returns-6
 unfolding settingsWith
 returns-6 c = search (needs, ifs, settingsWith-on)
 
--- src/settings.rt:9:1
 returns-7 : tie.Need-returns-7
 unfolding settingsWith
 returns-7 c = search (needs, ifs, settingsWith-on)
 
--- src/settings.rt:9:1
 returns-8 : tie.Need-returns-8
 unfolding settingsWith
 returns-8 c = search (needs, ifs, settingsWith-on)
 
--- src/settings.rt:9:1
 returns-9 : tie.Need-returns-9
 unfolding settingsWith
 returns-9 c = search (needs, ifs, settingsWith-on)
 
--- src/settings.rt:9:1
 returns-10 : tie.Need-returns-10
 unfolding settingsWith
 returns-10 c = search (needs, ifs, settingsWith-on)
 
--- src/settings.rt:9:1
 returns-11 : tie.Need-returns-11
 unfolding settingsWith
 returns-11 c = search (needs, ifs, settingsWith-on)

@@ -7,38 +7,30 @@ use Rattle.properties.proofs.settings.unmove.Tie as tie
 use Rattle.properties.proofs.settings.unmove.Reads as reads
 use Rattle.properties.proofs.settings.unmove.Lts as lts
 
--- src/settings.rt:62:28
 enum-told : tie.Need-enum-told
 enum-told c = search needs
 
--- src/settings.rt:63:32
 enum-told-2 : tie.Need-enum-told-2
 enum-told-2 c = search needs
 
--- src/settings.rt:69:14
 enum-told-3 : tie.Need-enum-told-3
 enum-told-3 c = search needs
 
--- src/settings.rt:70:50
 enum-told-4 : tie.Need-enum-told-4
 enum-told-4 c = search needs
 
--- src/settings.rt:58:1
 returns : tie.Need-returns
 unfolding unmoved
 returns c = search (needs, ifs, unmoved-on)
 
--- src/settings.rt:58:1
 returns-2 : tie.Need-returns-2
 unfolding unmoved
 returns-2 c = search (needs, ifs, unmoved-on)
 
--- src/settings.rt:58:1
 returns-3 : tie.Need-returns-3
 unfolding unmoved
 returns-3 c = search (needs, ifs, unmoved-on)
 
--- src/settings.rt:58:1
 returns-4 : tie.Need-returns-4
 unfolding unmoved
 returns-4 c = search (needs, ifs, unmoved-on)

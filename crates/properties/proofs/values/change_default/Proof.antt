@@ -7,20 +7,16 @@ use Rattle.properties.proofs.values.change_default.Tie as tie
 use Rattle.properties.proofs.values.change_default.Reads as reads
 use Rattle.properties.proofs.values.change_default.Lts as lts
 
--- src/values.rt:15:22
 enum-known-v : tie.Need-enum-known-v
 enum-known-v c = search needs
 
--- src/values.rt:16:30
 enum-told : tie.Need-enum-told
 enum-told c = search needs
 
--- src/values.rt:11:1
 returns : tie.Need-returns
 unfolding changeDefault
 returns c = search (needs, ifs, changeDefault-on)
 
--- src/values.rt:11:1
 returns-2 : tie.Need-returns-2
 unfolding changeDefault
 returns-2 c = search (needs, ifs, changeDefault-on)

@@ -7,20 +7,16 @@ use Rattle.properties.proofs.values.change_max.Tie as tie
 use Rattle.properties.proofs.values.change_max.Reads as reads
 use Rattle.properties.proofs.values.change_max.Lts as lts
 
--- src/values.rt:33:22
 enum-known-v : tie.Need-enum-known-v
 enum-known-v c = search needs
 
--- src/values.rt:34:30
 enum-told : tie.Need-enum-told
 enum-told c = search needs
 
--- src/values.rt:29:1
 returns : tie.Need-returns
 unfolding changeMax
 returns c = search (needs, ifs, changeMax-on)
 
--- src/values.rt:29:1
 returns-2 : tie.Need-returns-2
 unfolding changeMax
 returns-2 c = search (needs, ifs, changeMax-on)

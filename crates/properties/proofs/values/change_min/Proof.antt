@@ -7,20 +7,16 @@ use Rattle.properties.proofs.values.change_min.Tie as tie
 use Rattle.properties.proofs.values.change_min.Reads as reads
 use Rattle.properties.proofs.values.change_min.Lts as lts
 
--- src/values.rt:24:22
 enum-known-v : tie.Need-enum-known-v
 enum-known-v c = search needs
 
--- src/values.rt:25:30
 enum-told : tie.Need-enum-told
 enum-told c = search needs
 
--- src/values.rt:20:1
 returns : tie.Need-returns
 unfolding changeMin
 returns c = search (needs, ifs, changeMin-on)
 
--- src/values.rt:20:1
 returns-2 : tie.Need-returns-2
 unfolding changeMin
 returns-2 c = search (needs, ifs, changeMin-on)

@@ -7,20 +7,16 @@ use Rattle.properties.proofs.values.change_ramp.Tie as tie
 use Rattle.properties.proofs.values.change_ramp.Reads as reads
 use Rattle.properties.proofs.values.change_ramp.Lts as lts
 
--- src/values.rt:42:24
 enum-known-x : tie.Need-enum-known-x
 enum-known-x c = search needs
 
--- src/values.rt:43:27
 enum-told : tie.Need-enum-told
 enum-told c = search needs
 
--- src/values.rt:38:1
 returns : tie.Need-returns
 unfolding changeRamp
 returns c = search (needs, ifs, changeRamp-on)
 
--- src/values.rt:38:1
 returns-2 : tie.Need-returns-2
 unfolding changeRamp
 returns-2 c = search (needs, ifs, changeRamp-on)

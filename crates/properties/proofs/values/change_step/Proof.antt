@@ -7,20 +7,16 @@ use Rattle.properties.proofs.values.change_step.Tie as tie
 use Rattle.properties.proofs.values.change_step.Reads as reads
 use Rattle.properties.proofs.values.change_step.Lts as lts
 
--- src/values.rt:51:24
 enum-known-x : tie.Need-enum-known-x
 enum-known-x c = search needs
 
--- src/values.rt:52:27
 enum-told : tie.Need-enum-told
 enum-told c = search needs
 
--- src/values.rt:47:1
 returns : tie.Need-returns
 unfolding changeStep
 returns c = search (needs, ifs, changeStep-on)
 
--- src/values.rt:47:1
 returns-2 : tie.Need-returns-2
 unfolding changeStep
 returns-2 c = search (needs, ifs, changeStep-on)

@@ -6,15 +6,12 @@ use Rattle.properties.proofs.values.slot_of.Tie as tie
 use Rattle.properties.proofs.values.slot_of.Reads as reads
 use Rattle.properties.proofs.values.slot_of.Lts as lts
 
--- src/values.rt:61:6
 sub-result : tie.Need-sub-result
 sub-result c = let p = priority-range _ (c .pre) in omega arith
 
--- src/values.rt:61:5
 cast-result : tie.Need-cast-result
 cast-result c = let p = priority-range _ (c .pre) in omega arith
 
--- src/values.rt:57:1
 returns : tie.Need-returns
 returns c = search needs
 
