@@ -38,9 +38,15 @@ went-then {p} {q} {u} {w} {v} {t} {g} f n =
 
 -- the end: the last line is taken, or a bad line ended the list
 pub replayed : {p q u : Panel} {v : Reader} → Went p freshReader q v true → u ≡ taken q v .panel → Replayed p u
-unfolding finished if_then_else_
-replayed f e = record { came = f .came; panel = rw (← f .good, ← f .panel, ← f .reader) e }
+replayed {p} {q} {u} {v} f e =
+    let x = f .came in
+    let last : finished p x ≡ taken (through p freshReader x .panel) (through p freshReader x .reader) .panel =
+        unfold finished if_then_else_ in (rw (sym (f .good)))
+    in
+    record { came = x; panel = rw (last, ← f .panel, ← f .reader) e }
 
 pub replayed-bad : {p q : Panel} {v : Reader} → Went p freshReader q v false → Replayed p q
-unfolding finished if_then_else_
-replayed-bad f = record { came = f .came; panel = rw (← f .good) (f .panel) }
+replayed-bad {p} {q} f =
+    let x = f .came in
+    let broken : finished p x ≡ through p freshReader x .panel = unfold finished if_then_else_ in (rw (sym (f .good))) in
+    record { came = x; panel = f .panel ∙ sym broken }
