@@ -41,7 +41,7 @@ pub replayed : {p q u : Panel} {v : Reader} → Went p freshReader q v true → 
 replayed {p} {q} {u} {v} f e =
     let x = f .came in
     let last : finished p x ≡ taken (through p freshReader x .panel) (through p freshReader x .reader) .panel =
-        unfold finished if_then_else_ in (rw (sym (f .good)))
+    unfold finished if_then_else_ in (rw (sym (f .good)))
     in
     record { came = x; panel = rw (last, ← f .panel, ← f .reader) e }
 
