@@ -15,7 +15,7 @@ pub fn make(o: Output) -> Outcome
     ensures { λ r. ⌜ r ≡ made o ⌝ }
 {
     Outcome {
-        output: passing::settle(o),
+        output: due::settle(o),
         answer: Answer::Done,
     }
 }

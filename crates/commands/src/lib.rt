@@ -1,8 +1,6 @@
 // The eleven lighting commands and the duration, by value. A command acts on slot p, Lighting_Command_Priority.
 // `t` is the moment, `c` the settings, `f` the level from which the command starts, `s` the slots and `a` the activity that it finds, with
 // any warning ended; `g` is a target, in units.
-mod moving;
-
 ghost use mathlib.Core.Path.{_≡_};
 ghost use Prim.Native.Nat.{_<_, _^_, _+_, _-_, max};
 ghost use Rattle.lighting.specs.Value.{intoRange};
@@ -168,7 +166,7 @@ fn relinquish(c: Settings, s: Slots, a: Activity) -> Scene
 {
     Scene {
         slots: slots::empty(s, c.slot),
-        activity: passing::disown(c.slot, a),
+        activity: due::disown(c.slot, a),
     }
 }
 

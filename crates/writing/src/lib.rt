@@ -2,10 +2,9 @@
 // Slots are counted from 0: the paper's slot 6, which a warning holds, is 5. `t` is the moment, `o` the output, `i` the slot, `v` the level.
 ghost use mathlib.Core.Path.{_≡_};
 ghost use Prim.Native.Nat.{_<_, _^_};
-ghost use Rattle.lighting.specs.Writing.{withScene, passedOver, stored, dark, darkFrom, blinks, darkAbove, warnsBy, warns, firstLevel, firstPhase, warnedBy, warned, endedEmpty, endedStored, writtenWarned, writtenZero, writtenCalm, writtenBy, written, vacatedActivity, vacated};
+ghost use Rattle.lighting.specs.Writing.{withScene, passedOver, stored, warnedBy, warned, endedEmpty, endedStored, writtenWarned, writtenZero, writtenCalm, writtenBy, written, vacatedActivity, vacated};
 use lighting::Activity;
 use lighting::Output;
-use lighting::Settings;
 use lighting::Slots;
 
 // The output with other slots and another activity: what a write of a slot can change.
@@ -52,109 +51,7 @@ fn store(o: Output, i: u8, v: u32) -> Output
     with_scene(o, slots::fill(s, i, v), pass_over(i, a))
 }
 
-// ---- whether a zero written to slot x starts a warning
-
-// A slot is 'zero or empty'.
-fn is_dark(s: Slots, i: usize) -> bool
-    requires { ⌜ i < 16 ⌝ }
-    ensures { λ r. ⌜ r ≡ dark s i ⌝ }
-{
-    if slots::is_live(s, i as u8) {
-        s.levels[i] == 0
-    } else {
-        true
-    }
-}
-
-fn dark_from(s: Slots, from: usize) -> bool
-    ensures { λ r. ⌜ r ≡ darkFrom s from ⌝ }
-{
-    let mut i = from;
-    while i < 16 {
-        if is_dark(s, i) {
-            i += 1;
-        } else {
-            return false;
-        }
-    }
-    true
-}
-
-// 'if Blink_Enable is 1, Blink_Time B plus delay D is above 0'. The sum is made in 64 bits, for a lent record holds any B and D.
-fn does_blink(c: Settings) -> bool
-    ensures { λ r. ⌜ r ≡ blinks c ⌝ }
-{
-    if c.enable {
-        0 < c.blink as u64 + c.delay as u64
-    } else {
-        false
-    }
-}
-
-// 'Relinquish_Default and slots X + 1 to 16 are zero or empty'.
-fn dark_above(c: Settings, s: Slots, x: u8) -> bool
-    ensures { λ r. ⌜ r ≡ darkAbove c s x ⌝ }
-{
-    if c.default == 0 {
-        dark_from(s, x as usize + 1)
-    } else {
-        false
-    }
-}
-
-// `w` is the winner, `y` Present_Value. 'slots 1 to X - 1 are empty': the winner is no lower than x. The cheap tests come first.
-fn warns_by(c: Settings, s: Slots, x: u8, w: u32, y: u32) -> bool
-    ensures { λ r. ⌜ r ≡ warnsBy c s x w y ⌝ }
-{
-    if 5 < x {
-        if does_blink(c) {
-            if x as u32 <= w {
-                if 0 < y { dark_above(c, s, x) } else { false }
-            } else {
-                false
-            }
-        } else {
-            false
-        }
-    } else {
-        false
-    }
-}
-
-fn does_warn(c: Settings, s: Slots, x: u8) -> bool
-    ensures { λ r. ⌜ r ≡ warns c s x ⌝ }
-{
-    warns_by(c, s, x, slots::winning(s), value::present_value(c, s))
-}
-
 // ---- a warning starts
-
-// What slot 6 holds first: with no Blink_Time it holds the old level `y` at once.
-fn first_level(c: Settings, y: u32) -> u32
-    ensures { λ r. ⌜ r ≡ firstLevel c y ⌝ }
-{
-    if c.blink == 0 { y } else { 0 }
-}
-
-// 'B, D and Y are those of the start': the phases' moments are made here, once.
-fn first_phase(t: u64, c: Settings, x: u8, y: u32) -> Activity
-    requires { ⌜ t < 2 ^ 48 ⌝ }
-    ensures { λ r. ⌜ r ≡ firstPhase t c x y ⌝ }
-{
-    if c.blink == 0 {
-        Activity::Delay {
-            owner: x,
-            over: t + c.delay as u64,
-        }
-    } else {
-        Activity::Blink {
-            owner: x,
-            level: y,
-            turn: t + c.blink as u64,
-            over: t + c.blink as u64 + c.delay as u64,
-        }
-    }
-}
 
 fn warn_by(t: u64, o: Output, x: u8, y: u32) -> Output
     requires { ⌜ t < 2 ^ 48 ⌝ }
@@ -164,8 +61,8 @@ fn warn_by(t: u64, o: Output, x: u8, y: u32) -> Output
     let s = o.slots;
     with_scene(
         o,
-        slots::fill(slots::fill(s, x, 0), 5, first_level(c, y)),
-        first_phase(t, c, x, y),
+        slots::fill(slots::fill(s, x, 0), 5, warning::first_level(c, y)),
+        warning::first_phase(t, c, x, y),
     )
 }
 
@@ -218,7 +115,7 @@ fn write_zero(t: u64, o: Output, i: u8) -> Output
 {
     let c = o.settings;
     let s = o.slots;
-    if does_warn(c, s, i) {
+    if warning::does_warn(c, s, i) {
         warn(t, o, i)
     } else {
         store(o, i, 0)

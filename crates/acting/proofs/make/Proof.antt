@@ -4,7 +4,7 @@ use Rattle.acting.proofs.make.Statement.{statement}
 use Rattle.acting.proofs.make.Tie as tie
 use Rattle.acting.proofs.make.Reads as reads
 use Rattle.acting.proofs.make.Lts as lts
-use Rattle.passing.proofs.settle.Reads as settle-reads
+use Rattle.due.proofs.settle.Reads as settle-reads
 
 settle-requires : tie.Need-settle-requires
 settle-requires c κs = search needs

@@ -6,7 +6,7 @@ use Rattle.frame.proofs.request_by.Tie as tie
 use Rattle.frame.proofs.request_by.Reads as reads
 use Rattle.frame.proofs.request_by.Lts as lts
 use Rattle.frame.proofs.empty_of.Reads as empty-of-reads
-use Rattle.frame.proofs.order_of.Reads as order-of-reads
+use Rattle.orders.proofs.order_of.Reads as order-of-reads
 use Rattle.frame.proofs.write_of.Reads as write-of-reads
 use Rattle.properties.proofs.change_of.Reads as change-of-reads
 use Rattle.properties.proofs.property_of.Reads as property-of-reads

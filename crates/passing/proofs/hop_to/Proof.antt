@@ -4,7 +4,7 @@ use Rattle.passing.proofs.hop_to.Statement.{statement}
 use Rattle.passing.proofs.hop_to.Tie as tie
 use Rattle.passing.proofs.hop_to.Reads as reads
 use Rattle.passing.proofs.hop_to.Lts as lts
-use Rattle.passing.proofs.fire_at.Reads as fire-at-reads
+use Rattle.due.proofs.fire_at.Reads as fire-at-reads
 use Rattle.passing.proofs.gain.Reads as gain-reads
 use Rattle.value.proofs.since.Reads as since-reads
 

@@ -1,0 +1,30 @@
+use Rattle.lighting.proofs.Choosing.{ifs}
+use Rattle.lighting.specs.Frames.{ordered}
+use borrow.Author.Needs.{needs}
+use Rattle.orders.proofs.order.Statement.{statement}
+use Rattle.orders.proofs.order.Tie as tie
+use Rattle.orders.proofs.order.Reads as reads
+use Rattle.orders.proofs.order.Lts as lts
+use Rattle.ranges.proofs.is_within.Reads as is-within-reads
+
+is-within-requires : tie.Need-is-within-requires
+is-within-requires c κs = search needs
+
+returns : tie.Need-returns
+unfolding ordered
+returns c = search (needs, ifs)
+
+returns-2 : tie.Need-returns-2
+unfolding ordered
+returns-2 c = search (needs, ifs)
+
+returns-3 : tie.Need-returns-3
+unfolding ordered
+returns-3 c = search (needs, ifs)
+
+returns-4 : tie.Need-returns-4
+unfolding ordered
+returns-4 c = search (needs, ifs)
+
+pub order-spec : {M : Type 1} → statement M
+order-spec = tie.close (tie.spec is-within-requires returns returns-2 returns-3 returns-4)

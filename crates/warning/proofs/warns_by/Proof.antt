@@ -1,0 +1,44 @@
+-- `warning::warns_by` meets its contract. Assumes nothing.
+use Rattle.lighting.proofs.Choosing.{ifs}
+use Rattle.lighting.specs.Writing.{warnsBy}
+use borrow.Author.Needs.{needs}
+use Rattle.warning.proofs.warns_by.Statement.{statement}
+use Rattle.warning.proofs.warns_by.Tie as tie
+
+does-blink-requires : tie.Need-does-blink-requires
+does-blink-requires c κs = search needs
+
+dark-above-requires : tie.Need-dark-above-requires
+dark-above-requires c κs = search needs
+
+returns : tie.Need-returns
+unfolding warnsBy
+returns c = search (needs, ifs)
+
+returns-2 : tie.Need-returns-2
+unfolding warnsBy
+returns-2 c = search (needs, ifs)
+
+returns-3 : tie.Need-returns-3
+unfolding warnsBy
+returns-3 c = search (needs, ifs)
+
+returns-4 : tie.Need-returns-4
+unfolding warnsBy
+returns-4 c = search (needs, ifs)
+
+returns-5 : tie.Need-returns-5
+unfolding warnsBy
+returns-5 c = search (needs, ifs)
+
+pub warns-by-spec : {M : Type 1} → statement M
+warns-by-spec =
+    tie.close
+    (tie.spec
+    does-blink-requires
+    dark-above-requires
+    returns
+    returns-2
+    returns-3
+    returns-4
+    returns-5)

@@ -1,0 +1,112 @@
+// Whether a zero that kind 02 writes starts a blink warning, and the warning's first phase. By value, and on any record at all.
+// Slots are counted from 0: the paper's slot 6, which a warning holds, is 5. `t` is the moment, `c` the settings, `s` the slots, `x` the slot.
+ghost use mathlib.Core.Path.{_≡_};
+ghost use Prim.Native.Nat.{_<_, _^_};
+ghost use Rattle.lighting.specs.Writing.{dark, darkFrom, blinks, darkAbove, warnsBy, warns, firstLevel, firstPhase};
+use lighting::Activity;
+use lighting::Settings;
+use lighting::Slots;
+
+// ---- whether it starts
+
+// A slot is 'zero or empty'.
+fn is_dark(s: Slots, i: usize) -> bool
+    requires { ⌜ i < 16 ⌝ }
+    ensures { λ r. ⌜ r ≡ dark s i ⌝ }
+{
+    if slots::is_live(s, i as u8) {
+        s.levels[i] == 0
+    } else {
+        true
+    }
+}
+
+fn dark_from(s: Slots, from: usize) -> bool
+    ensures { λ r. ⌜ r ≡ darkFrom s from ⌝ }
+{
+    let mut i = from;
+    while i < 16 {
+        if is_dark(s, i) {
+            i += 1;
+        } else {
+            return false;
+        }
+    }
+    true
+}
+
+// 'if Blink_Enable is 1, Blink_Time B plus delay D is above 0'. The sum is made in 64 bits, for a lent record holds any B and D.
+fn does_blink(c: Settings) -> bool
+    ensures { λ r. ⌜ r ≡ blinks c ⌝ }
+{
+    if c.enable {
+        0 < c.blink as u64 + c.delay as u64
+    } else {
+        false
+    }
+}
+
+// 'Relinquish_Default and slots X + 1 to 16 are zero or empty'.
+fn dark_above(c: Settings, s: Slots, x: u8) -> bool
+    ensures { λ r. ⌜ r ≡ darkAbove c s x ⌝ }
+{
+    if c.default == 0 {
+        dark_from(s, x as usize + 1)
+    } else {
+        false
+    }
+}
+
+// `w` is the winner, `y` Present_Value. 'slots 1 to X - 1 are empty': the winner is no lower than x. The cheap tests come first.
+fn warns_by(c: Settings, s: Slots, x: u8, w: u32, y: u32) -> bool
+    ensures { λ r. ⌜ r ≡ warnsBy c s x w y ⌝ }
+{
+    if 5 < x {
+        if does_blink(c) {
+            if x as u32 <= w {
+                if 0 < y { dark_above(c, s, x) } else { false }
+            } else {
+                false
+            }
+        } else {
+            false
+        }
+    } else {
+        false
+    }
+}
+
+pub fn does_warn(c: Settings, s: Slots, x: u8) -> bool
+    ensures { λ r. ⌜ r ≡ warns c s x ⌝ }
+{
+    warns_by(c, s, x, slots::winning(s), value::present_value(c, s))
+}
+
+// ---- how it starts
+
+// What slot 6 holds first: with no Blink_Time it holds the old level `y` at once.
+pub fn first_level(c: Settings, y: u32) -> u32
+    ensures { λ r. ⌜ r ≡ firstLevel c y ⌝ }
+{
+    if c.blink == 0 { y } else { 0 }
+}
+
+// 'B, D and Y are those of the start': the phases' moments are made here, once.
+pub fn first_phase(t: u64, c: Settings, x: u8, y: u32) -> Activity
+    requires { ⌜ t < 2 ^ 48 ⌝ }
+    ensures { λ r. ⌜ r ≡ firstPhase t c x y ⌝ }
+{
+    if c.blink == 0 {
+        Activity::Delay {
+            owner: x,
+            over: t + c.delay as u64,
+        }
+    } else {
+        Activity::Blink {
+            owner: x,
+            level: y,
+            turn: t + c.blink as u64,
+            over: t + c.blink as u64 + c.delay as u64,
+        }
+    }
+}
