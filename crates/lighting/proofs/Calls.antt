@@ -20,7 +20,7 @@ calls-list p (call {l = l} {given = given} x y z) =
     (i .0 ∙ ap (λ (e : Panel). after p e l) x, ap₂ (λ (a : Answer) (m : List Answer). a ∷ m) y (i .1 ∙ ap (λ (e : Panel). answers p e l) x))
 
 -- a list with no frame that comes again
-once : (seen l : List Bytes) → Again seen l l
+pub once : (seen l : List Bytes) → Again seen l l
 once seen [] = end
 once seen (b ∷ l) = own (once (b ∷ seen) l)
 

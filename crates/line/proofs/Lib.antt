@@ -4,3 +4,4 @@ pub mod Ends
 pub mod Spelled
 pub mod Through
 pub mod Parts
+pub mod Listed

@@ -1,7 +1,7 @@
 -- A text goes through line by line, as the session takes it: the characters up to the next newline, and then that line's end. Assumes nothing.
 use mathlib.Core.Path.{_≡_, refl, sym, ap, _∙_}
 use mathlib.Core.Bool.{Bool, true, false}
-use mathlib.Core.List.{List, [], _∷_}
+use mathlib.Core.List.{List, [], _∷_, _++_}
 use Prim.Native.Nat.{ℕ, suc, _+_, _-_, _≤_, _<_}
 use native.Mathlib.Omega.{arith}
 use lib.Dec.{eqb}
@@ -10,9 +10,10 @@ use lib.Seq.{drop-drop}
 use Rattle.lighting.specs.Choice.{if_then_else_}
 use Rattle.lighting.specs.Frames.{Bytes}
 use Rattle.lighting.specs.Panel.{Panel}
-use Rattle.lighting.proofs.Split.{by-bool}
+use Rattle.lighting.proofs.Split.{by-bool, eqb-miss}
 use Rattle.reading.specs.declared.Reader.{Reader}
-use Rattle.reading.specs.Reading.{feed, fedLine, lineLength}
+use Rattle.reading.specs.Reading.{feed, fed, fedLine, lineLength}
+use Rattle.reading.proofs.Spelt.{Unbroken, nothing, char}
 use Rattle.line.specs.Taking.{Taken, taken, Through, through}
 
 -- after a line's end
@@ -67,3 +68,9 @@ module _ (p : Panel) (w : Reader) (s : Bytes) (i n : ℕ) (d : Reader) (f : d �
 pub text-over : (p : Panel) (w : Reader) (s : Bytes) (i : ℕ) (z : Through) → length s ≤ i → through p w (drop i s) ≡ z → (w ≡ z .reader) × ((true ≡ z .good) × (p ≡ z .panel))
 unfolding through
 text-over p w s i z h v = rw (← (rw (drop-of-length-le s h) at v)) (refl, (refl, refl))
+
+-- a line's text without a newline, its newline, and what comes after, where the line is a good one
+pub through-line : (p : Panel) (w : Reader) {x : Bytes} (t : Bytes) → Unbroken x → taken p (fed w x) .good ≡ true → through p w (x ++ (10 ∷ t)) ≡ through (taken p (fed w x) .panel) (taken p (fed w x) .reader) t
+unfolding through fed if_then_else_
+through-line p w t nothing g = rw g
+through-line p w t (char {c} {x} h u) g = rw (eqb-miss {a = c} {b = 10} h) (through-line p (feed w c) t u g)

@@ -1,7 +1,8 @@
 -- What is spelt is read: a text that spells a string of bytes, fed to a reader at a line's start, makes it hold a frame of those bytes, as far
 -- as the first 26. Assumes nothing.
 use mathlib.Core.Path.{_≡_, refl, sym, ap, _∙_}
-use mathlib.Core.Bool.{Bool, true, false}
+use mathlib.Core.Logic.{_≢_}
+use mathlib.Core.Bool.{Bool, true, false, false≢true}
 use mathlib.Core.List.{List, [], _∷_, _++_, append-assoc, append-nil}
 use Prim.Native.Nat.{ℕ, zero, suc, _+_, _*_, _%_, _≤_, _<_, min}
 use native.Mathlib.Omega.{arith}
@@ -12,7 +13,7 @@ use lib.Seq.{take-all, take-append-le, take-suc-set, length-take-le}
 use Rattle.lighting.specs.Choice.{if_then_else_}
 use Rattle.lighting.specs.Frames.{Bytes}
 use Rattle.lighting.proofs.Split.{by-lt, eqb-miss, leb-yes, leb-no}
-use Rattle.reading.specs.Reading.{isBlank, hexValue, digitHeld, opened, byteHeld, halfHeld, step, bytePair, pushed, joined, storedBy, withHeld, feed, fed, lineOf, content}
+use Rattle.reading.specs.Reading.{isBlank, hexValue, digitHeld, opened, byteHeld, halfHeld, step, bytePair, pushed, joined, storedBy, withHeld, feed, fed, lineOf, content, nextLine}
 use Rattle.reading.specs.Spelling.{Digit, figure, upper, lower, Spells, end, blank, byte}
 use Rattle.reading.specs.declared.Held.{Held}
 use Rattle.reading.specs.declared.Held.the-variants.{Blank, Whole, Half}
@@ -190,3 +191,31 @@ outputs-kept (byte {b} {x} {d} {v} g k s) w r =
     ap (λ (u : Reader). u .outputs) (on-byte w x r g k)
     ∙ outputs-kept s (withHeld (pushed w (d * 16 + v)) Whole) (ready-pushed w (d * 16 + v) r)
     ∙ (unfold withHeld in (pushed-outputs w (d * 16 + v)))
+
+-- the reader is ready again after each byte
+pub ready-fed : {b x : Bytes} → Spells b x → (w : Reader) → Ready w → Ready (fed w x)
+ready-fed end w r = unfold fed in r
+ready-fed (blank {b} {x} c e s) w r = rw (on-blank w c x r e) (ready-fed s w r)
+ready-fed (byte {b} {x} {d} {v} g k s) w r =
+    rw (on-byte w x r g k) (ready-fed s (withHeld (pushed w (d * 16 + v)) Whole) (ready-pushed w (d * 16 + v) r))
+
+pub ready-next : (w : Reader) → Ready w → Ready (nextLine w)
+unfolding nextLine
+ready-next w r = record { named = r .named; room = r .room; most = omega arith; between = none }
+
+-- no character of such a text is a newline
+pub data Unbroken : Bytes → Type 0 where
+  nothing : Unbroken []
+  char : {c : ℕ} {x : Bytes} → c ≢ 10 → Unbroken x → Unbroken (c ∷ x)
+
+blank-no-newline : (c : ℕ) → isBlank c ≡ true → c ≢ 10
+unfolding isBlank if_then_else_
+blank-no-newline c h e = false≢true (rw e at h)
+
+pub unbroken : {b x : Bytes} → Spells b x → Unbroken x
+unbroken end = nothing
+unbroken (blank c e s) = char (blank-no-newline c e) (unbroken s)
+unbroken (byte {c = c} {k = k} g h s) =
+    let first-char : c ≢ 10 = λ e. omega (arith, past g, e) in
+    let second-char : k ≢ 10 = λ e. omega (arith, past h, e) in
+    char first-char (char second-char (unbroken s))
