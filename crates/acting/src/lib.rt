@@ -11,7 +11,7 @@ use lighting::Request;
 use lighting::Setting;
 
 // The output changed, and judged.
-pub fn make(o: Output) -> Outcome
+fn make(o: Output) -> Outcome
     ensures { λ r. ⌜ r ≡ made o ⌝ }
 {
     Outcome {
@@ -21,7 +21,7 @@ pub fn make(o: Output) -> Outcome
 }
 
 // The output as it was: a read, or a refusal.
-pub fn leave(o: Output, a: Answer) -> Outcome
+fn leave(o: Output, a: Answer) -> Outcome
     ensures { λ r. ⌜ r ≡ left o a ⌝ }
 {
     Outcome {
@@ -31,7 +31,7 @@ pub fn leave(o: Output, a: Answer) -> Outcome
 }
 
 // A write of a setting, unless it would leave Min over Max.
-pub fn change_unless(m: bool, o: Output, n: Setting) -> Outcome
+fn change_unless(m: bool, o: Output, n: Setting) -> Outcome
     ensures { λ r. ⌜ r ≡ changedUnless m o n ⌝ }
 {
     if m {

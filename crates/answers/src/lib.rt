@@ -9,14 +9,14 @@ use lighting::Output;
 use lighting::Property;
 use lighting::Slots;
 
-pub fn level_answer(v: u32) -> Answer
+fn level_answer(v: u32) -> Answer
     ensures { λ r. ⌜ r ≡ levelAnswer v ⌝ }
 {
     Answer::Value(level::read_out(v))
 }
 
 // A slot that is not live is absent.
-pub fn slot_answer(s: Slots, i: u8) -> Answer
+fn slot_answer(s: Slots, i: u8) -> Answer
     ensures { λ r. ⌜ r ≡ slotAnswer s i ⌝ }
 {
     if slots::is_live(s, i) {
@@ -26,21 +26,21 @@ pub fn slot_answer(s: Slots, i: u8) -> Answer
     }
 }
 
-pub fn flag(b: bool) -> u32
+fn flag(b: bool) -> u32
     ensures { λ r. ⌜ r ≡ flag b ⌝ }
 {
     if b { 1 } else { 0 }
 }
 
 // Lighting_Command_Priority is kept as its slot.
-pub fn priority(slot: u8) -> u32
+fn priority(slot: u8) -> u32
     ensures { λ r. ⌜ r ≡ slot + 1 ⌝ }
 {
     slot as u32 + 1
 }
 
 // 'Elapsed_Active_Time reads floor(burning / 1,000), at most 4,294,967,295'.
-pub fn elapsed_active(burning: u64) -> u32
+fn elapsed_active(burning: u64) -> u32
     ensures { λ r. ⌜ r ≡ elapsedActive burning ⌝ }
 {
     let seconds = burning / 1000;
@@ -52,7 +52,7 @@ pub fn elapsed_active(burning: u64) -> u32
 }
 
 // The last operation's kind, less 10.
-pub fn operation_number(k: Operation) -> u32
+fn operation_number(k: Operation) -> u32
     ensures { λ r. ⌜ r ≡ operationNumber k ⌝ }
 {
     match k {
@@ -70,14 +70,14 @@ pub fn operation_number(k: Operation) -> u32
     }
 }
 
-pub fn real_answer(x: f32) -> Answer
+fn real_answer(x: f32) -> Answer
     ensures { λ r. ⌜ r ≡ realAnswer x ⌝ }
 {
     Answer::Value(level::bits_of(x))
 }
 
 // The last command field by field: absent where its operation has none, also where a setting was used in its place.
-pub fn last_level(k: Operation) -> Answer
+fn last_level(k: Operation) -> Answer
     ensures { λ r. ⌜ r ≡ lastLevel k ⌝ }
 {
     match k {
@@ -95,7 +95,7 @@ pub fn last_level(k: Operation) -> Answer
     }
 }
 
-pub fn last_rate(k: Operation) -> Answer
+fn last_rate(k: Operation) -> Answer
     ensures { λ r. ⌜ r ≡ lastRate k ⌝ }
 {
     match k {
@@ -113,7 +113,7 @@ pub fn last_rate(k: Operation) -> Answer
     }
 }
 
-pub fn last_step(k: Operation) -> Answer
+fn last_step(k: Operation) -> Answer
     ensures { λ r. ⌜ r ≡ lastStep k ⌝ }
 {
     match k {
@@ -131,7 +131,7 @@ pub fn last_step(k: Operation) -> Answer
     }
 }
 
-pub fn last_fade_time(k: Operation) -> Answer
+fn last_fade_time(k: Operation) -> Answer
     ensures { λ r. ⌜ r ≡ lastFadeTime k ⌝ }
 {
     match k {
@@ -149,7 +149,7 @@ pub fn last_fade_time(k: Operation) -> Answer
     }
 }
 
-pub fn last_duration(d: Duration) -> Answer
+fn last_duration(d: Duration) -> Answer
     ensures { λ r. ⌜ r ≡ lastDuration d ⌝ }
 {
     match d {

@@ -1,9 +1,6 @@
 // The lines of one output.
-ghost use mathlib.Core.Path.{_≡_};
-ghost use mathlib.Core.List.{_++_};
-ghost use Prim.Native.Nat.{_+_, _<_, _≤_};
+ghost use Prim.Native.Nat.{_+_, _<_};
 ghost use Rattle.printing.specs.Page.{Wrote};
-ghost use Rattle.printing.specs.Writing.{decimal, newline};
 ghost use Rattle.block.specs.Block.{levelField, slotLevel, slotField, slotFields, hexField, answerField, propertyField, propertyFields, numberLine, slotsLine, presentLine, progressLine, processLine, settingsLine, lastLine, block};
 use lighting::Answer;
 use lighting::Output;
@@ -92,7 +89,7 @@ fn put_properties(page: &mut [u8], at: usize, t: u64, o: Output, k: u8, n: u8) -
 
 // ---- lines
 
-pub fn put_number_line(page: &mut [u8], at: usize, word: &[u8], n: u64) -> usize
+fn put_number_line(page: &mut [u8], at: usize, word: &[u8], n: u64) -> usize
     ensures { λ r. ⌜ Wrote (now (page .entry)) at (numberLine (now (word .entry)) n) (now (page .exit)) r ⌝ }
 {
     let words = put_all(page, at, word);

@@ -94,13 +94,13 @@ fn step_down_from(c: Settings, f: u32, x: u32) -> u32
 fn step_up(c: Settings, f: u32, s: Slots, a: Activity, x: f32) -> Scene
     ensures { λ r. ⌜ r ≡ steppedUp c f s a x ⌝ }
 {
-    jump(c, s, a, step_up_from(c, f, level::rate_of(x)))
+    jump(c, s, a, step_up_from(c, f, level::amount_units(x)))
 }
 
 fn step_down(c: Settings, f: u32, s: Slots, a: Activity, x: f32) -> Scene
     ensures { λ r. ⌜ r ≡ steppedDown c f s a x ⌝ }
 {
-    jump(c, s, a, step_down_from(c, f, level::rate_of(x)))
+    jump(c, s, a, step_down_from(c, f, level::amount_units(x)))
 }
 
 // ---- STOP and RELINQUISH

@@ -9,7 +9,7 @@ use lighting::Timer;
 
 // ---- a duration
 
-pub fn timer_at(t: u64, m: Timer) -> Timer
+fn timer_at(t: u64, m: Timer) -> Timer
     ensures { λ r. ⌜ r ≡ timerAt t m ⌝ }
 {
     match m {

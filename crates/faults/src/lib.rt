@@ -1,5 +1,4 @@
 // The line that says what is wrong with a list.
-ghost use mathlib.Core.Path.{_≡_};
 ghost use Rattle.printing.specs.Page.{Wrote};
 ghost use Rattle.faults.specs.Faults.{faultWords, placed, faultLine, endedLine};
 use printing::put;

@@ -39,7 +39,7 @@ fn word_wide(x: u32) -> u64
 }
 
 // Each word is two shorter ones, the first the more significant.
-pub fn word16_at(s: &[u8], at: usize) -> u32
+fn word16_at(s: &[u8], at: usize) -> u32
     ensures { λ r. ⌜ (r ≡ bigEndian 2 (now (s .entry)) at) × (r < 65536) ⌝ }
 {
     let second = later(at, 1);

@@ -1,6 +1,6 @@
 -- What is found, as text: a line `--`, and then an output after the other, as a block of lines or as a line of the report. Definitions only.
 use mathlib.Core.Bool.{Bool}
-use mathlib.Core.List.{List, [], _∷_, _++_}
+use mathlib.Core.List.{[], _++_}
 use Prim.Native.Nat.{ℕ, _-_}
 use lib.Dec.{ltb}
 use Rattle.lighting.specs.Choice.{if_then_else_, _also_}
@@ -8,13 +8,10 @@ use Rattle.lighting.specs.Frames.{Bytes}
 use Rattle.lighting.specs.declared.Output.{Output}
 use Rattle.block.specs.Block.{block}
 use Rattle.report.specs.Report.{reportLine, reportHead}
-
--- `--`
-abbrev pub dashes : Bytes
-dashes = 45 ∷ 45 ∷ 10 ∷ []
+use Rattle.printing.specs.Text.{text}
 
 unfoldable pub foundHead : Bool → ℕ → Bytes
-foundHead report t = dashes ++ (if report then reportHead t else [])
+foundHead report t = text "--\n" ++ (if report then reportHead t else [])
 
 unfoldable pub foundOutput : Bool → ℕ → ℕ → Output → Bytes
 foundOutput report i t o = if report then reportLine i t o else block i t o

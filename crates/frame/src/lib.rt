@@ -9,7 +9,7 @@ use lighting::Request;
 
 // ---- kinds 02 to 05
 
-pub fn write_level(i: u8, v: Level) -> Request
+fn write_level(i: u8, v: Level) -> Request
     ensures { λ r. ⌜ r ≡ writeLevel i v ⌝ }
 {
     match v {
@@ -18,7 +18,7 @@ pub fn write_level(i: u8, v: Level) -> Request
     }
 }
 
-pub fn write_of(n: u8, x: u32) -> Request
+fn write_of(n: u8, x: u32) -> Request
     ensures { λ r. ⌜ r ≡ writeOf n x ⌝ }
 {
     if ranges::is_priority(n as u32) {
@@ -28,7 +28,7 @@ pub fn write_of(n: u8, x: u32) -> Request
     }
 }
 
-pub fn empty_of(p: u8) -> Request
+fn empty_of(p: u8) -> Request
     ensures { λ r. ⌜ r ≡ emptyOf p ⌝ }
 {
     if ranges::is_priority(p as u32) {
@@ -43,7 +43,7 @@ pub fn empty_of(p: u8) -> Request
 // ---- the request and the frame
 
 // The kind gives the action: n is the byte and v the four bytes after it, where the kind has them; x, y and z are a command's fields.
-pub fn request_by(k: u8, n: u8, v: u32, x: u32, y: u32, z: u32) -> Request
+fn request_by(k: u8, n: u8, v: u32, x: u32, y: u32, z: u32) -> Request
     ensures { λ r. ⌜ r ≡ requestBy standard k n v x y z ⌝ }
 {
     match k {
@@ -56,7 +56,7 @@ pub fn request_by(k: u8, n: u8, v: u32, x: u32, y: u32, z: u32) -> Request
     }
 }
 
-pub fn request_of(k: u8, b: &[u8]) -> Request
+fn request_of(k: u8, b: &[u8]) -> Request
     ensures { λ r. ⌜ r ≡ requestOf standard k (now (b .entry)) ⌝ }
 {
     request_by(
@@ -69,7 +69,7 @@ pub fn request_of(k: u8, b: &[u8]) -> Request
     )
 }
 
-pub fn call_of(station: u8, number: u32, output: u8, b: &[u8]) -> Frame
+fn call_of(station: u8, number: u32, output: u8, b: &[u8]) -> Frame
     ensures { λ r. ⌜ r ≡ callOf standard station number output (now (b .entry)) ⌝ }
 {
     Frame::Call {
@@ -81,7 +81,7 @@ pub fn call_of(station: u8, number: u32, output: u8, b: &[u8]) -> Frame
     }
 }
 
-pub fn call_by(c: usize, station: u8, number: u32, output: u8, b: &[u8]) -> Frame
+fn call_by(c: usize, station: u8, number: u32, output: u8, b: &[u8]) -> Frame
     ensures { λ r. ⌜ r ≡ calledBy standard c station number output (now (b .entry)) ⌝ }
 {
     if station < 8 {
@@ -97,7 +97,7 @@ pub fn call_by(c: usize, station: u8, number: u32, output: u8, b: &[u8]) -> Fram
     }
 }
 
-pub fn call(c: usize, b: &[u8]) -> Frame
+fn call(c: usize, b: &[u8]) -> Frame
     ensures { λ r. ⌜ r ≡ called standard c (now (b .entry)) ⌝ }
 {
     call_by(
@@ -109,14 +109,14 @@ pub fn call(c: usize, b: &[u8]) -> Frame
     )
 }
 
-pub fn clock_of(b: &[u8]) -> Frame
+fn clock_of(b: &[u8]) -> Frame
     ensures { λ r. ⌜ r ≡ clockOf (now (b .entry)) ⌝ }
 {
     Frame::Clock(field::word48_at(b, 1))
 }
 
 // No byte, or an unknown kind, has the length 0.
-pub fn parse_by(c: usize, k: u8, l: u32, b: &[u8]) -> Frame
+fn parse_by(c: usize, k: u8, l: u32, b: &[u8]) -> Frame
     ensures { λ r. ⌜ r ≡ parseBy standard c k l (now (b .entry)) ⌝ }
 {
     if l == 0 {

@@ -5,7 +5,7 @@ ghost use Rattle.lighting.specs.Frames.{commandLength, kindLength};
 ghost use Rattle.lighting.specs.Rules.{isCall};
 
 // Of the commands, 10 to 1A. Those that no line names have a REAL and a duration.
-pub fn command_length(k: u8) -> u32
+fn command_length(k: u8) -> u32
     ensures { λ r. ⌜ r ≡ commandLength k ⌝ }
 {
     match k {

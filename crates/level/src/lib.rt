@@ -2,7 +2,7 @@
 ghost use mathlib.Core.Path.{_≡_};
 ghost use Prim.Native.Nat.{_≤_, _<_, _^_, min};
 ghost use lib.Ieee.{binary32, nanBits, isNan};
-ghost use Rattle.lighting.specs.Level.{real, bits, nearestTo, amountOf, limitOf, levelOf, inRange, unitsOr, rateOf, levelUnits, operandBy, levelOperand, amountOperand, realOf, readOut};
+ghost use Rattle.lighting.specs.Level.{real, bits, nearestTo, amountOf, limitOf, levelOf, inRange, unitsOr, amountUnits, levelUnits, operandBy, levelOperand, amountOperand, realOf, readOut};
 use lighting::Level;
 use lighting::Operand;
 
@@ -16,7 +16,7 @@ fn nan_bits(pattern: u32) -> bool
 }
 
 // The REAL that a pattern stands for.
-pub fn real_from(pattern: u32) -> f32
+fn real_from(pattern: u32) -> f32
     ensures { λ r. ⌜ r ≡ real pattern ⌝ }
 {
     if nan_bits(pattern) {
@@ -67,7 +67,7 @@ pub fn amount_of_real(x: f32) -> Level
 }
 
 // A Min or a Max: from 1 to 100.
-pub fn limit_of_real(x: f32) -> Level
+fn limit_of_real(x: f32) -> Level
     ensures { λ r. ⌜ r ≡ limitOf x ⌝ }
 {
     if x < 1.0 {
@@ -77,7 +77,7 @@ pub fn limit_of_real(x: f32) -> Level
 }
 
 // A level: 0 and minus zero are 0; above 0 and below 1 it is 65,536; from 1 to 100 the nearest unit.
-pub fn level_of_real(x: f32) -> Level
+fn level_of_real(x: f32) -> Level
     ensures { λ r. ⌜ r ≡ levelOf x ⌝ }
 {
     if x == 0.0 {
@@ -131,8 +131,8 @@ pub fn units_or(otherwise: u32, level: Level) -> u32
 }
 
 // A rate or a step that is kept as a REAL: from 0.125 to 100 percent, whatever the REAL, so that a division by it is safe.
-pub fn rate_of(x: f32) -> u32
-    ensures { λ r. ⌜ r ≡ rateOf x ⌝ }
+pub fn amount_units(x: f32) -> u32
+    ensures { λ r. ⌜ r ≡ amountUnits x ⌝ }
     ensures { λ r. ⌜ (8192 ≤ r) × (r ≤ 6553600) ⌝ }
 {
     units_or(8192, amount_of_real(x))

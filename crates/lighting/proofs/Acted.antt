@@ -1,6 +1,4 @@
 -- Every request that a frame brings keeps the record rules. Assumes nothing.
-use mathlib.Core.Path.{_≡_, refl, sym, ap, _∙_}
-use mathlib.Core.Bool.{Bool, true, false}
 use Prim.Native.Nat.{ℕ}
 use Rattle.lighting.specs.Choice.{if_then_else_}
 use Rattle.lighting.specs.Passing.{settled}

@@ -1,8 +1,7 @@
 -- What a first arrival is answered: never refusal 1. Assumes nothing.
 use mathlib.Core.Path.{_≡_, refl}
 use mathlib.Core.Logic.{_≢_}
-use mathlib.Core.Bool.{Bool, true, false}
-use Prim.Native.Nat.{ℕ, _≤_}
+use Prim.Native.Nat.{ℕ}
 use native.Mathlib.Omega.{arith}
 use Rattle.lighting.specs.Choice.{if_then_else_}
 use Rattle.lighting.specs.Slots.{Slots, lives}
@@ -16,7 +15,6 @@ use Rattle.lighting.specs.declared.Operation.the-variants.{Stop, FadeTo,
 use Rattle.lighting.specs.declared.Property.{Property}
 use Rattle.lighting.specs.declared.Property.the-variants.{RelinquishDefault, FadeTime, RampRate, StepIncrement, BlinkEnable, BlinkTime, BlinkWarnDelay, MinValue, MaxValue, CommandPriority, ElapsedActiveTime, PresentValue, ProgressValue, InProcess, LastOperation, LastLevel, LastRate, LastStep, LastFadeTime, LastDuration, SlotValue, Unknown}
 use Rattle.lighting.specs.declared.Answer.{Answer}
-use Rattle.lighting.specs.declared.Answer.the-variants.{Done, Value, Absent, Refused}
 use Rattle.lighting.specs.declared.Request.{Request}
 use Rattle.lighting.specs.declared.Request.the-variants.{Refuse, Write, Empty, Change, Read, Order}
 use Rattle.lighting.specs.declared.Output.{Output}

@@ -1,12 +1,11 @@
 -- FROM THE CALLS TO THE DEMAND: who calls `start` once and `frame` for each string of a list has demand 3. Assumes nothing.
-use mathlib.Core.Path.{_≡_, refl, sym, ap, ap₂, _∙_}
+use mathlib.Core.Path.{_≡_, refl, ap, ap₂, _∙_}
 use mathlib.Core.List.{List, [], _∷_}
-use Prim.Native.Nat.{ℕ}
 use Rattle.lighting.specs.Parameters.{Parameters, standard}
 use Rattle.lighting.specs.Frames.{Bytes, Strings}
-use Rattle.lighting.specs.Panel.{Panel, Step, framed, started}
-use Rattle.lighting.specs.Demand.{foundIn, after, answers, Again, end, own, Demand}
-use Rattle.lighting.specs.Calls.{Calls, none, call, Concluded}
+use Rattle.lighting.specs.Panel.{Panel, started}
+use Rattle.lighting.specs.Demand.{foundIn, after, answers, Again, end, own}
+use Rattle.lighting.specs.Calls.{Calls, none, call, Concluded, ConcludedAgain}
 use Rattle.lighting.specs.declared.Answer.{Answer}
 use Rattle.lighting.specs.declared.Answer.the-variants.{Done}
 use Rattle.lighting.proofs.Demand.{demand-3}
@@ -19,6 +18,11 @@ calls-list p (call {l = l} {given = given} x y z) =
     let i = calls-list p z in
     (i .0 ∙ ap (λ (e : Panel). after p e l) x, ap₂ (λ (a : Answer) (m : List Answer). a ∷ m) y (i .1 ∙ ap (λ (e : Panel). answers p e l) x))
 
+-- the same after a start
+called : (e : Panel) {e₀ e′ : Panel} {l : List Bytes} {given : List Answer} → e₀ ≡ started standard e .panel → Calls standard e₀ l given e′
+    → (e′ ≡ after standard (started standard e .panel) l) × (given ≡ answers standard (started standard e .panel) l)
+called e b c = rw (← b) (calls-list standard c)
+
 -- a list with no frame that comes again
 pub once : (seen l : List Bytes) → Again seen l l
 once seen [] = end
@@ -28,8 +32,15 @@ pub conclude : (e e₀ e′ : Panel) (l : List Bytes) (given : List Answer) → 
     → started standard e .answer ≡ Done → e₀ ≡ started standard e .panel → Calls standard e₀ l given e′ → Concluded standard e l given e′
 conclude e e₀ e′ l given s h b c =
     let d = demand-3 e l l (once [] l) s h in
-    let k = calls-list standard c in
-    record {
-      finds = ap foundIn (k .0 ∙ ap (λ (z : Panel). after standard z l) b) ∙ d .finds;
-      answered = k .1 ∙ ap (λ (z : Panel). answers standard z l) b ∙ d .answered;
-    }
+    let k = called e b c in
+    rw (k .0, k .1) (record { finds = d .finds; time = d .time; answered = d .answered; sound = d .sound; never = d .never })
+
+-- two callers after the same start: the one's list is l, and in the other's frames of it come again
+pub conclude-again : (e e₀ e′ e″ : Panel) (l l′ : List Bytes) (r : Again [] l l′) (given given′ : List Answer) → Strings l
+    → started standard e .answer ≡ Done → e₀ ≡ started standard e .panel → Calls standard e₀ l given e′ → Calls standard e₀ l′ given′ e″
+    → ConcludedAgain standard l l′ r given given′ e′ e″
+conclude-again e e₀ e′ e″ l l′ r given given′ s h b c c′ =
+    let d = demand-3 e l l′ r s h in
+    let k = called e b c in
+    let k′ = called e b c′ in
+    rw (k .0, k .1, k′ .0, k′ .1) (record { again = d .again; answeredAgain = d .answeredAgain })

@@ -1,54 +1,47 @@
 -- `started`, `framed` and `carried` on each of their ways, as the code over the lent tables takes them; and what a verdict is sure of.
 -- Assumes nothing.
-use mathlib.Core.Path.{_≡_, refl, sym, ap₂, _∙_}
+use mathlib.Core.Path.{_≡_, refl, ap₂}
 use mathlib.Core.Bool.{Bool, true, false}
 use mathlib.Core.List.{List, [], _∷_, map}
-use Prim.Native.Nat.{ℕ, zero, suc, _^_, _≤_, _<_}
+use Prim.Native.Nat.{ℕ, suc, _≤_, _<_}
 use native.Mathlib.Omega.{arith}
-use lib.Dec.{leb, ltb, eqb}
+use lib.Dec.{ltb, eqb}
 use lib.ListN.{length, getD}
-use Rattle.lighting.specs.Choice.{if_then_else_, _also_}
+use Rattle.lighting.specs.Choice.{if_then_else_}
 use Rattle.lighting.specs.Parameters.{standard}
 use Rattle.lighting.specs.Field.{byteAt}
 use Rattle.lighting.specs.Frames.{Bytes, Octets, parse}
 use Rattle.lighting.specs.Passing.{top, advance}
-use Rattle.lighting.specs.Rules.{sound, stationSound}
+use Rattle.lighting.specs.Rules.{sound}
 use Rattle.lighting.specs.Fresh.{freshStation}
-use Rattle.lighting.specs.Panel.{Panel, Step, Station, every, countsSound, panelSound, sameBytes, restored, copyOr6, metNumber, met, stationOf, metBy, decide, Timely, Arrival, Sure, carried, framed, freshPanel, started}
+use Rattle.lighting.specs.Copies.{sameBytes, copyOr6}
+use Rattle.lighting.specs.Sure.{Sure}
+use Rattle.lighting.specs.Panel.{Panel, leaving, Station, every, countsSound, panelSound, restored, metNumber, met, stationOf, metBy, decide, carried, framed, freshPanel, started}
 use Rattle.lighting.specs.declared.Output.{Output}
-use Rattle.lighting.specs.declared.Request.{Request}
 use Rattle.lighting.specs.declared.Answer.{Answer}
 use Rattle.lighting.specs.declared.Answer.the-variants.{Done, Refused}
 use Rattle.lighting.specs.declared.Frame.{Frame}
 use Rattle.lighting.specs.declared.Frame.the-variants.{Bad, Clock, Call}
-use Rattle.lighting.specs.declared.Verdict.{Verdict}
-use Rattle.lighting.specs.declared.Verdict.the-variants.{TurnedDown, Copied, Clocked, Arrives}
-use Rattle.lighting.proofs.Split.{by-bool, by-eq, by-lt, also-both, eq-of}
-use Rattle.lighting.proofs.Reading.{Called, Proper, proper}
+use Rattle.lighting.proofs.Split.{by-bool, by-lt, also-both, eq-of}
+use Rattle.lighting.proofs.Reading.{Proper, proper}
 use Rattle.lighting.proofs.Lengths.{length-most}
 use Rattle.lighting.proofs.Tied.{tested-stays}
-
--- what the code left and answered, compared with one way's step, is what the definition says, equation by equation
-pub four : (s x : Step) (a : Answer) (o : List Output) (k : List Station) (t : ℕ) → s ≡ x
-    → a ≡ x .answer → o ≡ x .panel .outputs → k ≡ x .panel .stations → t ≡ x .panel .time
-    → (a ≡ s .answer) × ((o ≡ s .panel .outputs) × ((k ≡ s .panel .stations) × (t ≡ s .panel .time)))
-four s x a o k t e p q r u = rw e (p, (q, (r, u)))
 
 -- THE START
 module _ (e : Panel) where
   pub started-refused : countsSound standard (length (e .outputs)) (length (e .stations)) ≡ false
-      → started standard e ≡ record { panel = e; answer = Refused 1 }
+      → started standard e ≡ leaving e (Refused 1)
   unfolding started if_then_else_
   started-refused h = rw h
 
   pub started-done : countsSound standard (length (e .outputs)) (length (e .stations)) ≡ true
-      → started standard e ≡ record { panel = freshPanel (length (e .outputs)) (length (e .stations)); answer = Done }
+      → started standard e ≡ leaving (freshPanel (length (e .outputs)) (length (e .stations))) Done
   unfolding started if_then_else_
   started-done h = rw h
 
 -- ONE FRAME
 module _ (e : Panel) (b : Bytes) where
-  pub framed-refused : panelSound standard e ≡ false → framed standard e b ≡ record { panel = e; answer = Refused 1 }
+  pub framed-refused : panelSound standard e ≡ false → framed standard e b ≡ leaving e (Refused 1)
   unfolding framed if_then_else_
   framed-refused h = rw h
 

@@ -1,7 +1,7 @@
 -- Kind 04 keeps the record rules. Assumes nothing.
-use mathlib.Core.Path.{_≡_, refl, sym, ap, _∙_}
-use mathlib.Core.Bool.{Bool, true, false}
-use Prim.Native.Nat.{ℕ, _≤_, _<_}
+use mathlib.Core.Path.{_≡_, refl, _∙_}
+use mathlib.Core.Bool.{false}
+use Prim.Native.Nat.{ℕ, _≤_}
 use native.Mathlib.Omega.{arith}
 use lib.ListN.{length}
 use Rattle.lighting.specs.Slots.{Slots, topmost}
@@ -15,7 +15,7 @@ use Rattle.lighting.specs.declared.Setting.the-variants.{SetDefault, Set
 use Rattle.lighting.specs.declared.Output.{Output}
 use Rattle.lighting.proofs.Split.{not-lt}
 use Rattle.lighting.proofs.Winner.{topmost-live}
-use Rattle.lighting.proofs.Facts.{IsLevel, Within, Slot, Settled, Filled, Moves, Warns, Acts, Timed, Sound}
+use Rattle.lighting.proofs.Facts.{Settled, Acts, Sound}
 use Rattle.lighting.proofs.Good.{GoodSetting}
 
 settings-kept : (c : Settings) (n : Setting) → GoodSetting n → minOverMax (settingsWith c n) ≡ false → Settled c → Settled (settingsWith c n)

@@ -1,27 +1,22 @@
 -- Each of the eleven commands keeps the record rules. Assumes nothing.
-use mathlib.Core.Path.{_≡_, refl, sym, ap, _∙_}
+use mathlib.Core.Path.{_≡_, sym, ap, _∙_}
 use mathlib.Core.Logic.{_≢_}
-use mathlib.Core.Bool.{Bool, true, false}
+use mathlib.Core.Bool.{false}
 use mathlib.Core.Option.{Option, none, some}
-use Prim.Native.Nat.{ℕ, _+_, _-_, _≤_, _<_, min, max}
+use Prim.Native.Nat.{ℕ, _≤_, _<_, min, max}
 use native.Mathlib.Omega.{arith}
-use lib.Dec.{ltb, leb, eqb}
 use lib.Ieee.{Float}
-use lib.ListN.{length}
 use Rattle.lighting.specs.Choice.{if_then_else_}
-use Rattle.lighting.specs.Level.{levelUnits, rateOf}
-use Rattle.lighting.specs.Slots.{Slots, lives, winner, topmost, put, emptied, filled}
-use Rattle.lighting.specs.Value.{intoRange, brought, presentValue, progressValue}
-use Rattle.lighting.specs.Passing.{disowned}
+use Rattle.lighting.specs.Level.{levelUnits, amountUnits}
+use Rattle.lighting.specs.Slots.{Slots, lives, winner, put, filled}
+use Rattle.lighting.specs.Value.{brought, presentValue, progressValue}
 use Rattle.lighting.specs.Commands.{unwarned, unwarnedActivity, replaced, placed, movement, apart, rampLength, target, fadedOver, fadedTo, rampedAt, rampedTo, jumped, wentTo, stepUpFrom, stepDownFrom, steppedUp, steppedDown, raised, halted, stopped, relinquished, scene, timed, withCommand, commandedFrom, commanded}
 use Rattle.lighting.specs.declared.Settings.{Settings}
 use Rattle.lighting.specs.declared.Pace.{Pace}
 use Rattle.lighting.specs.declared.Pace.the-variants.{Fade, Ramp}
-use Rattle.lighting.specs.declared.Movement.{Movement}
 use Rattle.lighting.specs.declared.Activity.{Activity}
 use Rattle.lighting.specs.declared.Activity.the-variants.{Still, Moving, Blink, Delay}
 use Rattle.lighting.specs.declared.Timer.{Timer}
-use Rattle.lighting.specs.declared.Timer.the-variants.{Off, Running}
 use Rattle.lighting.specs.declared.Duration.{Duration}
 use Rattle.lighting.specs.declared.Duration.the-variants.{Lasts, Cancels, Omitted}
 use Rattle.lighting.specs.declared.Operation.{Operation}
@@ -29,12 +24,12 @@ use Rattle.lighting.specs.declared.Operation.the-variants.{Stop, FadeTo,
 use Rattle.lighting.specs.declared.Command.{Command}
 use Rattle.lighting.specs.declared.Scene.{Scene}
 use Rattle.lighting.specs.declared.Output.{Output}
-use Rattle.lighting.proofs.Split.{by-eq, by-le, by-bool}
-use Rattle.lighting.proofs.Ranges.{amount-range, level-range}
-use Rattle.lighting.proofs.Winner.{put-sized, winner-filled, topmost-filled, six-kept, six-set}
-use Rattle.lighting.proofs.Facts.{IsLevel, Within, Slot, Settled, SlotLevel, Filled, Moves, Warns, Acts, Timed, Sound}
+use Rattle.lighting.proofs.Split.{by-eq, by-le}
+use Rattle.lighting.proofs.Ranges.{amount-range}
+use Rattle.lighting.proofs.Winner.{winner-filled, topmost-filled, six-kept, six-set}
+use Rattle.lighting.proofs.Facts.{IsLevel, Within, Slot, Settled, Filled, Acts, Timed, Sound}
 use Rattle.lighting.proofs.Levels.{level-zero, brought-level, put-filled}
-use Rattle.lighting.proofs.Shown.{brought-most, brought-same, brought-brought, progress-most, ramp-span}
+use Rattle.lighting.proofs.Shown.{brought-most, brought-brought, progress-most, ramp-span}
 use Rattle.lighting.proofs.Ticking.{disowned-acts}
 use Rattle.lighting.proofs.Written.{moving-over}
 use Rattle.lighting.proofs.Good.{GoodDuration, GoodOperation}
@@ -200,20 +195,20 @@ module _ (t : ℕ) (c : Settings) (k : Settled c) (s : Slots) (f : Filled s) (a 
   ramped-staged : (b : ℕ) (x r : Float) → b ≤ c .max → Staged t c (rampedTo t c b s a x r)
   unfolding rampedTo rampedAt
   ramped-staged b x r m =
-      moved-staged b (target c x) (rampLength (apart b (target c x)) (rateOf r)) (Ramp (rateOf r)) m (target-level x) (target-same x) span
+      moved-staged b (target c x) (rampLength (apart b (target c x)) (amountUnits r)) (Ramp (amountUnits r)) m (target-level x) (target-same x) span
     where
-      span : b ≢ target c x → Within 1 86400000 (rampLength (apart b (target c x)) (rateOf r))
+      span : b ≢ target c x → Within 1 86400000 (rampLength (apart b (target c x)) (amountUnits r))
       span n =
-          let z = ramp-span (apart b (target c x)) (rateOf r) (omega arith) (omega (arith, target-most x, k .max)) (amount-range r .0) in
+          let z = ramp-span (apart b (target c x)) (amountUnits r) (omega arith) (omega (arith, target-most x, k .max)) (amount-range r .0) in
           record { least = z .0; most = z .1 }
 
   up-staged : (b : ℕ) (x : Float) → Staged t c (steppedUp c b s a x)
   unfolding steppedUp
-  up-staged b x = jumped-staged (stepUpFrom c b (rateOf x)) (up-level b (rateOf x) (omega (arith, amount-range x)))
+  up-staged b x = jumped-staged (stepUpFrom c b (amountUnits x)) (up-level b (amountUnits x) (omega (arith, amount-range x)))
 
   down-staged : (b : ℕ) (x : Float) → Staged t c (steppedDown c b s a x)
   unfolding steppedDown
-  down-staged b x = jumped-staged (stepDownFrom c b (rateOf x)) (down-level b (rateOf x))
+  down-staged b x = jumped-staged (stepDownFrom c b (amountUnits x)) (down-level b (amountUnits x))
 
   scene-staged : (b : ℕ) (o : Operation) → b ≤ c .max → GoodOperation o → Staged t c (scene t c b s a o)
   unfolding scene wentTo

@@ -1,24 +1,21 @@
 -- DEMAND 3, whole. Assumes nothing.
-use mathlib.Core.Path.{_≡_, refl, sym, ap, ap₂, _∙_}
-use mathlib.Core.Bool.{Bool, true, false}
-use mathlib.Core.List.{List, [], _∷_, map}
+use mathlib.Core.Path.{_≡_, refl, ap, _∙_}
+use mathlib.Core.Bool.{true}
+use mathlib.Core.List.{List, [], _∷_}
 use Prim.Native.Nat.{ℕ, _≤_}
 use native.Mathlib.Omega.{arith}
-use lib.Dec.{leb, eqb}
 use lib.ListN.{length, replicate}
-use Rattle.lighting.specs.Choice.{if_then_else_, _also_}
+use Rattle.lighting.specs.Choice.{if_then_else_}
 use Rattle.lighting.specs.Parameters.{standard}
 use Rattle.lighting.specs.Frames.{Bytes, Strings}
 use Rattle.lighting.specs.Fresh.{freshStation}
-use Rattle.lighting.specs.Panel.{Panel, Step, countsSound, panelSound, framed, freshPanel, started}
-use Rattle.lighting.specs.Plain.{Plain, Told, plainStart}
-use Rattle.lighting.specs.Demand.{found, foundIn, after, answers, plainAfter, plainAnswers, Again, kept, NeverOne, Demand}
-use Rattle.lighting.specs.declared.Output.{Output}
+use Rattle.lighting.specs.Panel.{Panel, countsSound, freshPanel, started}
+use Rattle.lighting.specs.Plain.{plainStart}
+use Rattle.lighting.specs.Demand.{plainAfter, plainAnswers, Again, NeverOne, Demand}
 use Rattle.lighting.specs.declared.Answer.{Answer}
 use Rattle.lighting.specs.declared.Answer.the-variants.{Done, Refused}
 use Rattle.lighting.proofs.Split.{also-both, by-bool, le-of, eq-of}
-use Rattle.lighting.proofs.Lists.{AllOther, joined, Linked, linked-sound, linked-start, Listed, listed}
-use Rattle.lighting.proofs.Answered.{NotOne}
+use Rattle.lighting.proofs.Lists.{AllOther, joined, linked-sound, linked-start, listed}
 use Rattle.lighting.proofs.Repeats.{repeats-change-nothing}
 
 counts : (c k : ℕ) → countsSound standard c k ≡ true → (1 ≤ c) × (c ≤ 64) × (k ≡ 8)
@@ -54,6 +51,7 @@ demand-3 e l l′ r s h =
     let j = repeats-change-nothing c (replicate 8 freshStation) (plainStart c) r s m in
     record {
       finds = rw (begin, i .same);
+      time = rw (begin, i .same);
       answered = rw begin (i .answered);
       sound = rw (begin, i .same) (linked-sound c (i .stations) (plainAfter standard (plainStart c) l) (i .linked));
       never = rw (begin, i .answered) (never-one (plainAnswers standard (plainStart c) l) (i .others));

@@ -1,7 +1,7 @@
 -- The record rules as facts, which the theorems use. Assumes nothing.
 use mathlib.Core.Path.{_≡_}
 use mathlib.Core.Logic.{_≢_}
-use mathlib.Core.Bool.{Bool, true, false}
+use mathlib.Core.Bool.{true, false}
 use mathlib.Core.Option.{Option, none, some}
 use Prim.Native.Nat.{ℕ, _-_, _*_, _≤_, _<_, min}
 use lib.ListN.{length}
@@ -67,7 +67,7 @@ pub record Warns (t : ℕ) (s : Slots) (x d : ℕ) : Type 0 where
 abbrev pub Acts : ℕ → Settings → Slots → Activity → Type 0
 Acts t c s Still = lives s 5 ≡ false
 Acts t c s (Moving m) = Moves t c s m
-Acts t c s (Blink owner level turn over) = Warns t s owner turn × IsLevel level
+Acts t c s (Blink owner level turn over) = Warns t s owner turn × IsLevel level × (turn ≤ over)
 Acts t c s (Delay owner over) = Warns t s owner over
 
 abbrev pub Timed : ℕ → Timer → Type 0

@@ -2,7 +2,7 @@
 use mathlib.Core.Path.{_≡_}
 use Prim.Native.Nat.{ℕ}
 use Rattle.lighting.specs.Acting.{acted}
-use Rattle.lighting.specs.Answers.{refusalOf, valueOf, levelRefusal, operandRefusal, levelAnswered}
+use Rattle.lighting.specs.Answers.{refusalOf, levelAnswered}
 use Rattle.lighting.specs.Commands.{unwarned, unwarnedActivity, stopped, scene, timed}
 use Rattle.lighting.specs.Frames.{orderedWith, fadeOrder, rampOrderAt, rampOrder, writeLevel, Bytes}
 use Rattle.lighting.specs.Level.{inRange, unitsOr}
@@ -34,22 +34,12 @@ use Rattle.lighting.specs.declared.Timer.{Timer}
 use Rattle.lighting.specs.declared.Verdict.{Verdict}
 use lib.Ieee.{Float}
 use mathlib.Core.Bool.{Bool}
-use mathlib.Core.Option.{Option}
 
 pub acted-on : (x0 : ℕ) (x1 : Output) (x2 : Request) (k : Request) (r : Outcome) → x2 ≡ k → r ≡ acted x0 x1 k → r ≡ acted x0 x1 x2
 acted-on x0 x1 x2 k r e p = rw e p
 
 pub refusalOf-on : (x0 : Answer) (k : Answer) (r : ℕ) → x0 ≡ k → r ≡ refusalOf k → r ≡ refusalOf x0
 refusalOf-on x0 k r e p = rw e p
-
-pub valueOf-on : (x0 : Answer) (k : Answer) (r : Option ℕ) → x0 ≡ k → r ≡ valueOf k → r ≡ valueOf x0
-valueOf-on x0 k r e p = rw e p
-
-pub levelRefusal-on : (x0 : Level) (k : Level) (r : ℕ) → x0 ≡ k → r ≡ levelRefusal k → r ≡ levelRefusal x0
-levelRefusal-on x0 k r e p = rw e p
-
-pub operandRefusal-on : (x0 : Operand) (k : Operand) (r : ℕ) → x0 ≡ k → r ≡ operandRefusal k → r ≡ operandRefusal x0
-operandRefusal-on x0 k r e p = rw e p
 
 pub levelAnswered-on : (x0 : Level) (k : Level) (r : Answer) → x0 ≡ k → r ≡ levelAnswered k → r ≡ levelAnswered x0
 levelAnswered-on x0 k r e p = rw e p

@@ -1,19 +1,19 @@
 -- The lengths of frames, and a frame as a station keeps it. Assumes nothing.
-use mathlib.Core.Path.{_≡_, refl, sym, ap, _∙_}
+use mathlib.Core.Path.{_≡_, refl}
 use mathlib.Core.Logic.{_≢_}
-use mathlib.Core.Bool.{Bool, true, false}
-use mathlib.Core.List.{List, [], _∷_, _++_}
-use Prim.Native.Nat.{ℕ, zero, suc, _-_, _≤_, _<_}
+use mathlib.Core.Bool.{true}
+use mathlib.Core.List.{[], _∷_}
+use Prim.Native.Nat.{ℕ, _-_, _≤_, _<_}
 use native.Mathlib.Omega.{arith}
 use lib.Dec.{leb, ltb, eqb}
-use lib.ListN.{length, getD, replicate, take, length-append, length-replicate}
+use lib.ListN.{length, replicate, length-append, length-replicate}
 use lib.Seq.{take-append-seam}
 use Rattle.lighting.specs.Choice.{if_then_else_}
 use Rattle.lighting.specs.Field.{byteAt}
 use Rattle.lighting.specs.Frames.{Bytes, commandLength, kindLength}
 use Rattle.lighting.specs.Rules.{isCall}
 use Rattle.lighting.specs.Panel.{padded, restored}
-use Rattle.lighting.proofs.Split.{by-bool, by-eq, leb-yes, eq-of}
+use Rattle.lighting.proofs.Split.{by-bool, by-eq, leb-yes}
 
 command-range : (k : ℕ) → (14 ≤ commandLength k) × (commandLength k ≤ 25)
 unfolding commandLength if_then_else_

@@ -1,15 +1,13 @@
 -- Levels stay levels: of Present_Value, and of the slots after one is emptied or filled. Assumes nothing.
-use mathlib.Core.Path.{_≡_, refl, sym, ap, _∙_}
-use mathlib.Core.Logic.{_≢_}
-use mathlib.Core.Option.{Option, none, some}
-use Prim.Native.Nat.{ℕ, _*_, _≤_, _<_, min, max}
+use mathlib.Core.Option.{Option, none}
+use Prim.Native.Nat.{ℕ, _<_}
 use native.Mathlib.Omega.{arith}
-use lib.ListN.{set, getD, length}
+use lib.ListN.{set, getD}
 use lib.Seq.{getD-set-same, getD-set-other}
 use Rattle.lighting.specs.Choice.{if_then_else_}
 use Rattle.lighting.proofs.Split.{by-eq}
 use Rattle.lighting.specs.declared.Settings.{Settings}
-use Rattle.lighting.specs.Slots.{Slots, slotsOf, slot, put}
+use Rattle.lighting.specs.Slots.{Slots, slotsOf, put}
 use Rattle.lighting.proofs.Mask.{put-slots, slots-size}
 use Rattle.lighting.proofs.Winner.{put-sized}
 use Rattle.lighting.specs.Value.{brought, presentValue}

@@ -1,10 +1,10 @@
 -- THE LIST THEOREM: over every list of frames the engine finds and answers what the plain panel finds and answers. It stands on laws of
 -- the table (proofs/Table.antt) and of reading (proofs/Reading.antt), and never looks at a kind of request. Assumes nothing.
-use mathlib.Core.Path.{_≡_, refl, sym, ap, ap₂, _∙_}
+use mathlib.Core.Path.{_≡_, refl, sym, ap, _∙_}
 use mathlib.Core.Logic.{_≢_}
-use mathlib.Core.Bool.{Bool, true, false}
+use mathlib.Core.Bool.{true}
 use mathlib.Core.List.{List, [], _∷_, map}
-use Prim.Native.Nat.{ℕ, zero, suc, _+_, _-_, _*_, _^_, _≤_, _<_, min}
+use Prim.Native.Nat.{ℕ, zero, suc, _^_, _≤_, _<_}
 use native.Mathlib.Omega.{arith}
 use lib.Dec.{leb, ltb, eqb}
 use lib.ListN.{set, getD, length, replicate, length-map, length-set, length-replicate, getD-replicate}
@@ -12,13 +12,14 @@ use lib.Seq.{getD-set-same, getD-set-other}
 use Rattle.lighting.specs.Choice.{if_then_else_, _also_}
 use Rattle.lighting.specs.Parameters.{standard}
 use Rattle.lighting.specs.Field.{byteAt}
-use Rattle.lighting.specs.Frames.{Bytes, Octets, Strings, kindLength, commandLength, parse}
+use Rattle.lighting.specs.Frames.{Bytes, Octets, Strings, kindLength, parse}
 use Rattle.lighting.specs.Passing.{top, advance}
-use Rattle.lighting.specs.Rules.{sound, isCall, stationSound}
+use Rattle.lighting.specs.Rules.{sound, stationSound}
 use Rattle.lighting.specs.Fresh.{freshOutput, freshStation}
-use Rattle.lighting.specs.Acting.{Served, served}
-use Rattle.lighting.specs.Panel.{Panel, Step, Station, every, countsSound, panelSound, padded, restored, sameBytes, copyOr6, metNumber, met, stationOf, metBy, decide, carried, framed, freshPanel}
-use Rattle.lighting.specs.Plain.{Plain, lived, Event, clock, first, above, inTime, Latest, latest, judged, Told, Reply, handed, plainFramed, plainStart}
+use Rattle.lighting.specs.Acting.{served}
+use Rattle.lighting.specs.Copies.{sameBytes, copyOr6}
+use Rattle.lighting.specs.Panel.{Panel, Station, every, countsSound, panelSound, padded, restored, metNumber, met, stationOf, metBy, decide, carried, framed}
+use Rattle.lighting.specs.Plain.{Event, clock, first, above, inTime, Latest, latest, judged, Told, handed, plainFramed, plainStart}
 use Rattle.lighting.specs.Demand.{after, answers, plainAfter, plainAnswers}
 use Rattle.lighting.specs.declared.Output.{Output}
 use Rattle.lighting.specs.declared.Request.{Request}
@@ -27,11 +28,11 @@ use Rattle.lighting.specs.declared.Frame.{Frame}
 use Rattle.lighting.specs.declared.Frame.the-variants.{Bad, Clock, Call}
 use Rattle.lighting.specs.declared.Verdict.{Verdict}
 use Rattle.lighting.specs.declared.Verdict.the-variants.{TurnedDown, Copied, Clocked, Arrives}
-use Rattle.lighting.proofs.Split.{also-both, also-yes, by-eq, by-lt, by-le, by-bool, eqb-miss, eqb-hit, leb-yes, leb-no}
+use Rattle.lighting.proofs.Split.{also-both, also-yes, by-eq, by-lt, by-le, by-bool, leb-yes, leb-no}
 use Rattle.lighting.proofs.Reading.{Called, Proper, proper}
-use Rattle.lighting.proofs.Lengths.{length-most, call-kind, padded-kind, padded-length, restored-padded}
+use Rattle.lighting.proofs.Lengths.{call-kind, padded-kind, restored-padded}
 use Rattle.lighting.specs.Answers.{refusalOf}
-use Rattle.lighting.specs.declared.Answer.the-variants.{Done, Value, Absent, Refused}
+use Rattle.lighting.specs.declared.Answer.the-variants.{Done}
 use Rattle.lighting.proofs.Answered.{NotOne, not-one}
 use Rattle.lighting.proofs.Table.{served-not-one, AllSound, all-tested, all-fresh, lived-advance, all-advance, served-sound, served-length}
 

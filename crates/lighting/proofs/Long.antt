@@ -1,10 +1,8 @@
 -- A string of more than 25 bytes is refused by its first byte and its length alone: its first 26 bytes are refused likewise. So a reader may
 -- keep 26 bytes of a string of any length. Assumes nothing.
 use mathlib.Core.Path.{_≡_, refl, sym, ap, _∙_}
-use mathlib.Core.Logic.{_≢_}
-use mathlib.Core.Bool.{Bool, true, false}
-use mathlib.Core.List.{List, [], _∷_}
-use Prim.Native.Nat.{ℕ, zero, suc, _≤_, _<_, min}
+use mathlib.Core.List.{[], _∷_}
+use Prim.Native.Nat.{ℕ, _≤_}
 use native.Mathlib.Omega.{arith}
 use lib.Dec.{eqb}
 use lib.ListN.{length, take, getD, length-take}
@@ -17,7 +15,7 @@ use Rattle.lighting.specs.Fresh.{freshStation}
 use Rattle.lighting.specs.declared.Answer.the-variants.{Refused}
 use Rattle.lighting.specs.declared.Frame.{Frame}
 use Rattle.lighting.specs.declared.Frame.the-variants.{Bad}
-use Rattle.lighting.proofs.Split.{by-bool, by-eq, eqb-miss}
+use Rattle.lighting.proofs.Split.{by-eq, eqb-miss}
 use Rattle.lighting.proofs.Lengths.{length-most}
 
 -- what refuses a string that is longer than any frame

@@ -2,15 +2,11 @@
 -- What it asks of the output (`Calm`): every due moment is after the moment it starts from, and it has burned no longer than the panel stands.
 -- Neither the slots nor what lights an output play a part. Assumes nothing.
 use mathlib.Core.Path.{_≡_, refl, sym, ap, ap₂, _∙_}
-use mathlib.Core.Logic.{_≢_}
-use mathlib.Core.Bool.{Bool, true, false}
 use Prim.Native.Nat.{ℕ, zero, suc, _+_, _-_, _≤_, _<_, min}
 use native.Mathlib.Nat.{zero-add, add-zero, suc-add, sub-self, add-assoc}
 use native.Mathlib.Omega.{arith}
-use lib.Dec.{leb, ltb, eqb}
 use Rattle.lighting.specs.Choice.{if_then_else_}
 use Rattle.lighting.proofs.Split.{by-eq, by-lt, by-bool, eqb-miss, eqb-hit}
-use Rattle.lighting.specs.declared.Movement.{Movement}
 use Rattle.lighting.specs.declared.Activity.{Activity}
 use Rattle.lighting.specs.declared.Activity.the-variants.{Still, Moving, Blink, Delay}
 use Rattle.lighting.specs.declared.Timer.{Timer}

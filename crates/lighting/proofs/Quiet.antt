@@ -1,13 +1,10 @@
 -- Where nothing falls due on the way, the engine's way is burning alone: of any record at all. Assumes nothing.
-use mathlib.Core.Path.{_≡_, refl, sym, ap, _∙_}
-use mathlib.Core.Bool.{Bool, true, false}
-use Prim.Native.Nat.{ℕ, zero, suc, _+_, _-_, _≤_, _<_, min}
+use mathlib.Core.Path.{_≡_, refl, sym, _∙_}
+use mathlib.Core.Bool.{Bool, true}
+use Prim.Native.Nat.{ℕ, zero, suc, _+_, _-_, _≤_, min}
 use native.Mathlib.Nat.{sub-self}
 use native.Mathlib.Omega.{arith}
-use lib.Dec.{ltb}
-use Rattle.lighting.specs.Choice.{if_then_else_, _also_}
-use Rattle.lighting.specs.Passing.{top, withBurning, glowing, gained, fire, timerDue, activityDue, due, hop, hops, advance, timerLater, activityLater, later}
-use Rattle.lighting.specs.declared.Movement.{Movement}
+use Rattle.lighting.specs.Passing.{top, withBurning, glowing, gained, due, hop, hops, advance, timerLater, activityLater, later}
 use Rattle.lighting.specs.declared.Activity.{Activity}
 use Rattle.lighting.specs.declared.Activity.the-variants.{Still, Moving, Blink, Delay}
 use Rattle.lighting.specs.declared.Timer.{Timer}

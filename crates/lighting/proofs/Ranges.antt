@@ -9,7 +9,7 @@ use lib.Ieee.Fits.{down-pos}
 use Rattle.lighting.specs.Choice.{if_then_else_, _also_}
 use Rattle.lighting.specs.declared.Level.{Level}
 use Rattle.lighting.specs.declared.Level.the-variants.{Units, OutOfRange}
-use Rattle.lighting.specs.Level.{unitsIn, fromTo, realFromTo, levelOf, amountOf, limitOf, unitsOr, rateOf, levelUnits}
+use Rattle.lighting.specs.Level.{unitsIn, fromTo, realFromTo, levelOf, amountOf, limitOf, unitsOr, amountUnits, levelUnits}
 use Rattle.lighting.proofs.Split.{also-both, le-of, passed}
 use Rattle.lighting.proofs.Rounding.{nearest-mono, nearest-whole}
 
@@ -83,8 +83,8 @@ unfolding unitsOr
 or-units P d (Units v) p f = f v refl
 or-units P d OutOfRange p f = p
 
-pub amount-range : (x : Float) → (8192 ≤ rateOf x) × (rateOf x ≤ 6553600)
-unfolding rateOf
+pub amount-range : (x : Float) → (8192 ≤ amountUnits x) × (amountUnits x ≤ 6553600)
+unfolding amountUnits
 amount-range x = or-units (λ v. (8192 ≤ v) × (v ≤ 6553600)) 8192 (amountOf x) (omega arith) (amount-units x)
 
 pub level-range : (x : Float) → (65536 * min 1 (levelUnits x) ≤ levelUnits x) × (levelUnits x ≤ 6553600)

@@ -1,39 +1,36 @@
 -- What the reading of a frame leaves in range. Assumes nothing.
-use mathlib.Core.Path.{_≡_, refl, sym, ap, _∙_}
+use mathlib.Core.Path.{_≡_, refl}
 use mathlib.Core.Logic.{_≢_}
-use mathlib.Core.Bool.{Bool, true, false, false≢true}
-use mathlib.Core.List.{List, [], _∷_}
+use mathlib.Core.Bool.{true, false≢true}
+use mathlib.Core.List.{[], _∷_}
 use Prim.Native.Nat.{ℕ, zero, suc, _+_, _-_, _*_, _^_, _≤_, _<_, min}
 use native.Mathlib.Omega.{arith}
 use lib.Dec.{leb, ltb, eqb}
 use lib.Ieee.{Float}
-use lib.ListN.{length, getD}
-use Rattle.lighting.specs.Choice.{if_then_else_, _also_}
+use lib.ListN.{length}
+use Rattle.lighting.specs.Choice.{if_then_else_}
 use Rattle.lighting.specs.Parameters.{standard}
 use Rattle.lighting.specs.Level.{real, levelOf, limitOf, amountOf, inRange, levelOperand, amountOperand}
 use Rattle.lighting.specs.Field.{byteAt, bigEndian}
-use Rattle.lighting.specs.Properties.{propertyOf, within, isSlot, isPriority, changeDefault, changeMin, changeMax, changeRamp, changeStep, changeOf}
+use Rattle.lighting.specs.Properties.{propertyOf, within, isPriority, changeDefault, changeMin, changeMax, changeRamp, changeStep, changeOf}
 use Rattle.lighting.specs.Rules.{isAmount}
 use Rattle.lighting.specs.Frames.{Bytes, Octets, kindLength, ordered, operationWith, orderedWith, fadeOrder, rampOrderAt, rampOrder, stepOrLevel, orderOf, writeLevel, writeOf, emptyOf, requestBy, requestOf, callOf, calledBy, called, clockOf, parseBy, parse}
 use Rattle.lighting.specs.declared.Level.{Level}
 use Rattle.lighting.specs.declared.Level.the-variants.{Units, OutOfRange}
 use Rattle.lighting.specs.declared.Operand.{Operand}
 use Rattle.lighting.specs.declared.Operand.the-variants.{Taken, Unfit}
-use Rattle.lighting.specs.declared.Duration.the-variants.{Lasts, Cancels, Omitted}
 use Rattle.lighting.specs.declared.Operation.{Operation}
-use Rattle.lighting.specs.declared.Operation.the-variants.{Stop, FadeTo, FadeToOver, RampTo, RampToAtRate, StepUp, StepDown, StepUpBy, StepDownBy, Goto, Relinquish}
+use Rattle.lighting.specs.declared.Operation.the-variants.{Stop, FadeToOver, RampToAtRate, StepUp, StepDown, Relinquish}
 use Rattle.lighting.specs.declared.Property.{Property}
 use Rattle.lighting.specs.declared.Property.the-variants.{RelinquishDefault, FadeTime, RampRate, StepIncrement, BlinkEnable, BlinkTime, BlinkWarnDelay, MinValue, MaxValue, CommandPriority, ElapsedActiveTime, PresentValue, ProgressValue, InProcess, LastOperation, LastLevel, LastRate, LastStep, LastFadeTime, LastDuration, SlotValue, Unknown}
-use Rattle.lighting.specs.declared.Setting.the-variants.{SetDefault, SetFade, SetRamp, SetStep, SetEnable, SetBlink, SetDelay, SetMin, SetMax, SetSlot, ClearBurning}
 use Rattle.lighting.specs.declared.Request.{Request}
-use Rattle.lighting.specs.declared.Request.the-variants.{Refuse, Write, Empty, Change, Read, Order}
 use Rattle.lighting.specs.declared.Frame.{Frame}
 use Rattle.lighting.specs.declared.Frame.the-variants.{Bad, Clock, Call}
-use Rattle.lighting.proofs.Split.{by-bool, by-eq, by-lt, le-of, eq-of, also-both}
+use Rattle.lighting.proofs.Split.{by-bool, by-eq, by-lt, le-of}
 use Rattle.lighting.proofs.Ranges.{level-units, limit-units}
-use Rattle.lighting.proofs.Facts.{IsLevel, Within, Slot}
+use Rattle.lighting.proofs.Facts.{Slot}
 use Rattle.lighting.proofs.Tied.{within-of, slot-of}
-use Rattle.lighting.proofs.Good.{GoodDuration, GoodOperation, GoodSetting, Good}
+use Rattle.lighting.proofs.Good.{GoodOperation, Good}
 
 priority-of : (n : ℕ) → isPriority n ≡ true → Slot (n - 1)
 unfolding isPriority if_then_else_

@@ -1,27 +1,25 @@
 -- Frames of a list that come again later change nothing of the panel, and no answer to the frames of the list. Assumes nothing.
-use mathlib.Core.Path.{_≡_, refl, sym, ap, ap₂, _∙_}
-use mathlib.Core.Bool.{Bool, true, false}
-use mathlib.Core.List.{List, [], _∷_, map}
-use Prim.Native.Nat.{ℕ, zero, suc, _+_, _-_, _≤_, _<_, min}
+use mathlib.Core.Path.{_≡_, refl, ap}
+use mathlib.Core.List.{List, [], _∷_}
+use Prim.Native.Nat.{ℕ, suc, _≤_, _<_}
 use native.Mathlib.Omega.{arith}
-use lib.Dec.{leb, ltb, eqb}
-use Rattle.lighting.specs.Choice.{if_then_else_, _also_}
+use lib.Dec.{eqb}
+use Rattle.lighting.specs.Choice.{if_then_else_}
 use Rattle.lighting.specs.Parameters.{standard}
 use Rattle.lighting.specs.Frames.{Bytes, Octets, Strings, parse}
-use Rattle.lighting.specs.Passing.{top, advance}
-use Rattle.lighting.specs.Panel.{Panel, Step, Station, sameBytes, copyOr6, carried, framed}
-use Rattle.lighting.specs.Plain.{Plain, lived, Event, clock, first, above, inTime, latest, judged, Told, Reply, handed, plainFramed}
+use Rattle.lighting.specs.Copies.{sameBytes, copyOr6}
+use Rattle.lighting.specs.Panel.{Station, carried, framed}
+use Rattle.lighting.specs.Plain.{latest, judged, Told, handed, plainFramed}
 use Rattle.lighting.specs.Demand.{after, answers, Among, here, there, Again, end, own, copy, kept}
-use Rattle.lighting.specs.declared.Output.{Output}
 use Rattle.lighting.specs.declared.Answer.{Answer}
 use Rattle.lighting.specs.declared.Frame.{Frame}
 use Rattle.lighting.specs.declared.Frame.the-variants.{Bad, Clock, Call}
 use Rattle.lighting.specs.declared.Verdict.{Verdict}
 use Rattle.lighting.specs.declared.Verdict.the-variants.{TurnedDown, Copied, Clocked, Arrives}
 use Rattle.lighting.proofs.Split.{by-eq, by-lt, by-le, by-bool, eqb-hit, leb-no}
-use Rattle.lighting.proofs.Reading.{Called, Proper, proper}
+use Rattle.lighting.proofs.Reading.{Proper, proper}
 use Rattle.lighting.proofs.Table.{lived-advance, advance-here}
-use Rattle.lighting.proofs.Lists.{joined, Linked, Moved, judged-moved, decide-judged, linked-sound, Stepped, step}
+use Rattle.lighting.proofs.Lists.{joined, Linked, Moved, judged-moved, decide-judged, linked-sound, step}
 
 -- a frame that can no longer move the panel: its number is not above its station's latest, or its time is past
 data Stale (w : Told) (s n t : ℕ) : Type 0 where

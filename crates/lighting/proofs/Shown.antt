@@ -1,14 +1,12 @@
 -- The levels that an output works with: brought into Min..Max, reached in a movement, and how long a ramp lasts. Assumes nothing.
-use mathlib.Core.Path.{_≡_, refl, sym, ap, _∙_}
+use mathlib.Core.Path.{_≡_, refl}
 use mathlib.Core.Logic.{_≢_}
-use mathlib.Core.Bool.{Bool, true, false}
-use Prim.Native.Nat.{ℕ, zero, suc, _+_, _-_, _*_, _/_, _≤_, _<_, min, max}
+use Prim.Native.Nat.{ℕ, suc, _+_, _-_, _*_, _/_, _≤_, _<_, min, max}
 use native.Mathlib.Nat.{div-lt-iff-lt-mul, mul-le-mul-left}
 use native.Mathlib.Omega.{arith}
-use lib.Dec.{leb, ltb, eqb}
 use Rattle.lighting.specs.Choice.{if_then_else_}
 use Rattle.lighting.specs.Slots.{Slots, topmost}
-use Rattle.lighting.specs.Value.{intoRange, brought, presentValue, elapsed, gone, reachedBy, reached, progressBy, progressValue}
+use Rattle.lighting.specs.Value.{brought, presentValue, elapsed, gone, reachedBy, reached, progressBy, progressValue}
 use Rattle.lighting.specs.Commands.{rampLength}
 use Rattle.lighting.specs.declared.Settings.{Settings}
 use Rattle.lighting.specs.declared.Pace.{Pace}
@@ -17,8 +15,8 @@ use Rattle.lighting.specs.declared.Movement.{Movement}
 use Rattle.lighting.specs.declared.Activity.{Activity}
 use Rattle.lighting.specs.declared.Activity.the-variants.{Still, Moving, Blink, Delay}
 use Rattle.lighting.specs.declared.Output.{Output}
-use Rattle.lighting.proofs.Split.{by-eq, by-lt, by-le, eqb-miss}
-use Rattle.lighting.proofs.Facts.{IsLevel, Within, Settled, Moves, Warns, Acts}
+use Rattle.lighting.proofs.Split.{by-eq, by-lt, by-le}
+use Rattle.lighting.proofs.Facts.{Settled, Moves, Acts}
 
 -- BROUGHT INTO Min..Max: at most Max, and once is enough
 pub brought-most : (c : Settings) (v : ℕ) → brought c v ≤ c .max

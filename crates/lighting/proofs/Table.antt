@@ -1,15 +1,14 @@
 -- All outputs of a table at once: the laws of time passing, of acting and of the record rules that the list theorem stands on. It asks
 -- nothing else of an output or of a request. Assumes nothing.
 use mathlib.Core.Path.{_≡_, refl, sym, ap, ap₂, _∙_}
-use mathlib.Core.Bool.{Bool, true, false}
+use mathlib.Core.Bool.{true}
 use mathlib.Core.List.{List, [], _∷_, map}
 use Prim.Native.Nat.{ℕ, zero, suc, _+_, _-_, _≤_, _<_}
 use native.Mathlib.Nat.{sub-self}
 use native.Mathlib.Omega.{arith}
-use lib.Dec.{leb, ltb, eqb}
 use lib.Ieee.{ofBits}
-use lib.ListN.{set, getD, length, replicate, length-map, length-set}
-use Rattle.lighting.specs.Choice.{if_then_else_, _also_, allFrom}
+use lib.ListN.{set, getD, length, replicate, length-set}
+use Rattle.lighting.specs.Choice.{if_then_else_, allFrom}
 use Rattle.lighting.specs.Parameters.{standard}
 use Rattle.lighting.specs.Level.{real, amountOf, inRange}
 use Rattle.lighting.specs.Slots.{view, slotsOf, lives, firstLive, winner, levelAt, topmost}
@@ -18,7 +17,7 @@ use Rattle.lighting.specs.Passing.{top, tick, ticks, advance}
 use Rattle.lighting.specs.Properties.{within, isSlot}
 use Rattle.lighting.specs.Rules.{isLevel, levelsSound, timesSound, isAmount, realsSound, settingsSound, slotSound, slotsSoundFrom, activityBy, activitySound, timerSound, sound}
 use Rattle.lighting.specs.Fresh.{freshSettings, freshOutput}
-use Rattle.lighting.specs.Acting.{Served, served, acted}
+use Rattle.lighting.specs.Acting.{served, acted}
 use Rattle.lighting.specs.Panel.{every}
 use Rattle.lighting.specs.Plain.{Plain, lived}
 use Rattle.lighting.specs.declared.Request.{Request}

@@ -1,25 +1,24 @@
 -- THEOREM B, milliseconds: a tick keeps the record rules. Assumes nothing.
-use mathlib.Core.Path.{_≡_, refl, sym, ap, _∙_}
+use mathlib.Core.Path.{_≡_, _∙_}
 use mathlib.Core.Logic.{_≢_}
-use mathlib.Core.Bool.{Bool, true, false}
-use mathlib.Core.Option.{Option, none, some}
-use Prim.Native.Nat.{ℕ, zero, suc, _+_, _-_, _≤_, _<_}
+use mathlib.Core.Option.{none, some}
+use Prim.Native.Nat.{ℕ, zero, suc, _+_, _-_, _≤_}
 use native.Mathlib.Nat.{add-zero}
 use native.Mathlib.Omega.{arith}
 use Rattle.lighting.specs.Choice.{if_then_else_}
-use Rattle.lighting.proofs.Split.{by-eq, by-lt, by-bool}
+use Rattle.lighting.proofs.Split.{by-eq, by-lt}
 use Rattle.lighting.specs.declared.Settings.{Settings}
 use Rattle.lighting.specs.declared.Activity.{Activity}
 use Rattle.lighting.specs.declared.Activity.the-variants.{Still, Moving, Blink, Delay}
 use Rattle.lighting.specs.declared.Timer.{Timer}
 use Rattle.lighting.specs.declared.Timer.the-variants.{Off, Running}
 use Rattle.lighting.specs.declared.Output.{Output}
-use Rattle.lighting.specs.Slots.{Slots, lives, put, emptied, filled}
+use Rattle.lighting.specs.Slots.{Slots, lives, emptied}
 use Rattle.lighting.proofs.Winner.{winner-empty, topmost-empty, six-kept, six-set}
 use Rattle.lighting.specs.Value.{presentValue}
-use Rattle.lighting.specs.Passing.{withBurning, glowing, burned, timerAt, expired, disowned, released, activityAt, slotsAt, settled, fire, tick, ticks, top, advance}
+use Rattle.lighting.specs.Passing.{withBurning, burned, timerAt, expired, disowned, released, activityAt, slotsAt, settled, fire, tick, ticks, top, advance}
 use Rattle.lighting.proofs.Passing.{glowing-le, advance-ticks}
-use Rattle.lighting.proofs.Facts.{IsLevel, Within, Slot, Settled, SlotLevel, Filled, Moves, Warns, Acts, Timed, Sound}
+use Rattle.lighting.proofs.Facts.{Slot, Filled, Moves, Acts, Timed, Sound}
 use Rattle.lighting.proofs.Tied.{sound-calm}
 use Rattle.lighting.proofs.Levels.{put-filled}
 

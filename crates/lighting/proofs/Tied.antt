@@ -1,15 +1,13 @@
 -- The test of the record rules holds exactly where their facts do. An array's length is part of the code's type. Assumes nothing.
-use mathlib.Core.Path.{_≡_, refl, sym, _∙_}
-use mathlib.Core.Logic.{_≢_}
-use mathlib.Core.Bool.{Bool, true, false, not, false≢true, true≢false}
+use mathlib.Core.Path.{_≡_, refl, _∙_}
+use mathlib.Core.Bool.{true, false, false≢true}
 use Prim.Native.Nat.{ℕ, _-_, _≤_, _<_}
 use native.Mathlib.Nat.{sub-self}
 use native.Mathlib.Omega.{arith}
-use lib.Dec.{ltb, leb, eqb}
 use lib.ListN.{length, getD}
 use borrow.Author.Tests.{not-true}
-use Rattle.lighting.specs.Choice.{if_then_else_, _also_}
-use Rattle.lighting.proofs.Split.{unless, by-eq, by-bool, le-of, leb-yes, eqb-hit, eqb-miss, parts, tests}
+use Rattle.lighting.specs.Choice.{if_then_else_}
+use Rattle.lighting.proofs.Split.{unless, by-eq, by-bool, le-of, leb-yes, eqb-miss, parts, tests}
 use Rattle.lighting.proofs.Scan.{all-each, each-all}
 use Rattle.lighting.specs.declared.Settings.{Settings}
 use Rattle.lighting.specs.declared.Movement.{Movement}
@@ -22,11 +20,11 @@ use Rattle.lighting.specs.Slots.{Slots, lives, winner, slot}
 use Rattle.lighting.proofs.Mask.{slot-is}
 use Rattle.lighting.specs.Value.{presentValue}
 use Rattle.lighting.specs.Passing.{top, ticks, advance}
-use Rattle.lighting.proofs.Passing.{advance-ticks, After, Calm, TimerAfter, ActivityAfter}
+use Rattle.lighting.proofs.Passing.{advance-ticks, Calm, TimerAfter, ActivityAfter}
 use Rattle.lighting.specs.Parameters.{standard}
 use Rattle.lighting.specs.Properties.{within, isSlot}
 use Rattle.lighting.specs.Rules.{isLevel, levelsSound, timesSound, realsSound, settingsSound, slotSound, slotsSoundFrom, spanSound, movementSound, blinkSound, delaySound, activityBy, activitySound, timerSound, sound}
-use Rattle.lighting.proofs.Facts.{IsLevel, Within, Slot, Settled, SlotLevel, Filled, Moves, Warns, Acts, Timed, Sound}
+use Rattle.lighting.proofs.Facts.{IsLevel, Within, Slot, Settled, SlotLevel, Filled, Moves, Acts, Timed, Sound}
 
 -- FROM THE TEST TO THE FACTS
 pub within-of : (low high v : ℕ) → within low high v ≡ true → Within low high v

@@ -1,6 +1,6 @@
 -- What a first arrival does: 'Each accepted frame first brings the panel to its time, then acts'. The engine and the plain panel share it.
 -- Assumes nothing.
-use mathlib.Core.Bool.{Bool, true, false}
+use mathlib.Core.Bool.{Bool}
 use mathlib.Core.List.{List}
 use Prim.Native.Nat.{ℕ}
 use lib.ListN.{getD, set}
@@ -14,11 +14,11 @@ use Rattle.lighting.specs.declared.Setting.{Setting}
 use Rattle.lighting.specs.declared.Request.{Request}
 use Rattle.lighting.specs.declared.Request.the-variants.{Refuse, Write, Empty, Change, Read, Order}
 use Rattle.lighting.specs.declared.Answer.{Answer}
-use Rattle.lighting.specs.declared.Answer.the-variants.{Done, Value, Absent, Refused}
+use Rattle.lighting.specs.declared.Answer.the-variants.{Done, Refused}
 use Rattle.lighting.specs.declared.Output.{Output}
 use Rattle.lighting.specs.declared.Outcome.{Outcome}
 
--- the output changed, and judged; or left as it was
+-- the output changed, by way of `settled` (Passing.antt: as it is); or left as it was
 unfoldable pub made : Output → Outcome
 made o = record { output = settled o; answer = Done }
 
@@ -38,12 +38,12 @@ acted t o (Change n) = changedUnless (minOverMax (settingsWith (o .settings) n))
 acted t o (Read property) = left o (shown t o property)
 acted t o (Order k) = made (commanded t o k)
 
--- the same over the table: the outputs and the answer after a request of a station to output i
+-- the same over the table: the outputs and the answer after a request to output i. Which station it comes from makes no difference
 pub record Served : Type 0 where
   pub outputs : List Output
   pub answer : Answer
 
 unfoldable pub served : ℕ → List Output → ℕ → ℕ → Request → Served
 served t outputs station i r =
-    let made = acted t (getD outputs i freshOutput) r in
-    record { outputs = set outputs i (made .output); answer = made .answer }
+    let done = acted t (getD outputs i freshOutput) r in
+    record { outputs = set outputs i (done .output); answer = done .answer }

@@ -17,22 +17,22 @@ refusalOf Absent = 0
 refusalOf (Refused n) = n
 
 -- the value of 32 bits, where there is one
-unfoldable pub valueOf : Answer → Option ℕ
+abbrev pub valueOf : Answer → Option ℕ
 valueOf Done = none
 valueOf (Value v) = some v
 valueOf Absent = none
 valueOf (Refused n) = none
 
--- a REAL turned into units, and one that a command takes: 'REAL out of range' is 11
-unfoldable pub levelRefusal : Level → ℕ
+-- a REAL turned into units, and one that is kept as it was written: 'REAL out of range' is 11
+abbrev pub levelRefusal : Level → ℕ
 levelRefusal (Units v) = 0
 levelRefusal OutOfRange = 11
 
-unfoldable pub operandRefusal : Operand → ℕ
+abbrev pub operandRefusal : Operand → ℕ
 operandRefusal (Taken x) = 0
 operandRefusal Unfit = 11
 
 -- a level as a value, or its refusal
 unfoldable pub levelAnswered : Level → Answer
 levelAnswered (Units v) = Value v
-levelAnswered OutOfRange = Refused 11
+levelAnswered OutOfRange = Refused (levelRefusal OutOfRange)

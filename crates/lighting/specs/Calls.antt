@@ -1,16 +1,15 @@
--- What a caller has who calls `start` once and then `frame` for each string of a list, on the same lent tables: by the contracts of the crate
--- `panel`, each call leaves and answers what `started` and `framed` say. Assumes nothing.
+-- What a caller has who called `start` and then calls `frame` for each string of a list, on the same lent tables: by the contracts of the crate
+-- `panel`, each call leaves and answers what `framed` says. Assumes nothing.
 use mathlib.Core.Path.{_≡_}
 use mathlib.Core.List.{List, [], _∷_}
-use Prim.Native.Nat.{ℕ}
 use lib.ListN.{length}
 use Rattle.lighting.specs.Parameters.{Parameters}
 use Rattle.lighting.specs.Frames.{Bytes}
-use Rattle.lighting.specs.Panel.{Panel, Step, framed, started}
+use mathlib.Core.Bool.{true}
+use Rattle.lighting.specs.Panel.{Panel, panelSound, framed}
 use Rattle.lighting.specs.Plain.{plainStart}
-use Rattle.lighting.specs.Demand.{foundIn, foundPlain, plainAfter, plainAnswers}
+use Rattle.lighting.specs.Demand.{foundIn, foundPlain, plainAfter, plainAnswers, Again, kept, NeverOne}
 use Rattle.lighting.specs.declared.Answer.{Answer}
-use Rattle.lighting.specs.declared.Answer.the-variants.{Done}
 
 -- `Calls p e l a e′`: a call of `frame` for each string of l took the panel from e to e′ and answered a
 pub data Calls (p : Parameters) : Panel → List Bytes → List Answer → Panel → Type 0 where
@@ -18,7 +17,16 @@ pub data Calls (p : Parameters) : Panel → List Bytes → List Answer → Panel
   call : {e e₁ e₂ : Panel} {b : Bytes} {l : List Bytes} {a : Answer} {given : List Answer}
       → e₁ ≡ framed p e b .panel → a ≡ framed p e b .answer → Calls p e₁ l given e₂ → Calls p e (b ∷ l) (a ∷ given) e₂
 
--- what such a caller may conclude: the tables show what the plain panel shows, and every answer was its answer
+-- what such a caller may conclude: the tables show what the plain panel shows, at the same time, and every answer was its answer; the records
+-- keep the rules, and no answer was refusal 1
 pub record Concluded (p : Parameters) (e : Panel) (l : List Bytes) (given : List Answer) (e′ : Panel) : Type 0 where
   pub finds : foundIn e′ ≡ foundPlain (plainAfter p (plainStart (length (e .outputs))) l .panel)
+  pub time : e′ .time ≡ plainAfter p (plainStart (length (e .outputs))) l .panel .time
   pub answered : given ≡ plainAnswers p (plainStart (length (e .outputs))) l
+  pub sound : panelSound p e′ ≡ true
+  pub never : NeverOne given
+
+-- and one whose list is l′, in which frames of l come again: the whole panel is the one that l leaves, and so are the answers to the frames of l
+pub record ConcludedAgain (p : Parameters) (l l′ : List Bytes) (r : Again [] l l′) (given given′ : List Answer) (e′ e″ : Panel) : Type 0 where
+  pub again : e″ ≡ e′
+  pub answeredAgain : kept r given′ ≡ given

@@ -1,17 +1,15 @@
 -- 'Writes and commands': the eleven commands and the duration. A command acts on slot p, Lighting_Command_Priority. Assumes nothing.
-use mathlib.Core.Bool.{Bool, true, false}
 use Prim.Native.Nat.{ℕ, _+_, _-_, _*_, _/_, max}
 use lib.Dec.{eqb}
 use lib.Ieee.{Float}
 use Rattle.lighting.specs.Choice.{if_then_else_}
-use Rattle.lighting.specs.Level.{levelUnits, rateOf}
-use Rattle.lighting.specs.Slots.{Slots, winner, emptied, filled}
+use Rattle.lighting.specs.Level.{levelUnits, amountUnits}
+use Rattle.lighting.specs.Slots.{Slots, slot6, winner, emptied, filled}
 use Rattle.lighting.specs.Value.{intoRange, brought, progressValue}
 use Rattle.lighting.specs.Passing.{disowned}
 use Rattle.lighting.specs.declared.Settings.{Settings}
 use Rattle.lighting.specs.declared.Pace.{Pace}
 use Rattle.lighting.specs.declared.Pace.the-variants.{Fade, Ramp}
-use Rattle.lighting.specs.declared.Movement.{Movement}
 use Rattle.lighting.specs.declared.Activity.{Activity}
 use Rattle.lighting.specs.declared.Activity.the-variants.{Still, Moving, Blink, Delay}
 use Rattle.lighting.specs.declared.Timer.{Timer}
@@ -28,8 +26,8 @@ use Rattle.lighting.specs.declared.Output.{Output}
 unfoldable pub unwarned : Slots → Activity → Slots
 unwarned s Still = s
 unwarned s (Moving m) = s
-unwarned s (Blink owner level turn over) = emptied s 5
-unwarned s (Delay owner over) = emptied s 5
+unwarned s (Blink owner level turn over) = emptied s slot6
+unwarned s (Delay owner over) = emptied s slot6
 
 unfoldable pub unwarnedActivity : Activity → Activity
 unwarnedActivity Still = Still
@@ -44,14 +42,14 @@ replaced w p new old = if eqb w p then new else old
 unfoldable pub placed : Slots → Activity → ℕ → ℕ → Activity → Scene
 placed s a p g new = record { slots = filled s p g; activity = replaced (winner (filled s p g)) p new a }
 
--- a movement of slot p at t from s to g over l: 'If s = g there is no movement'
+-- a movement of slot p at t from f, the paper's s, to g over l: 'If s = g there is no movement'
 unfoldable pub movement : ℕ → ℕ → ℕ → ℕ → ℕ → Pace → Activity
-movement t p s g l pace =
-    if eqb s g then Still else Moving (record { owner = p; start = s; target = g; length = l; over = t + l; pace = pace })
+movement t p f g l pace =
+    if eqb f g then Still else Moving (record { owner = p; start = f; target = g; length = l; over = t + l; pace = pace })
 
 -- |g - s|
 abbrev pub apart : ℕ → ℕ → ℕ
-apart s g = (g - s) + (s - g)
+apart f g = (g - f) + (f - g)
 
 -- 'L = ceiling(1,000 × |g - s| / R)', d the way
 unfoldable pub rampLength : ℕ → ℕ → ℕ
@@ -73,7 +71,7 @@ unfoldable pub rampedAt : ℕ → Settings → ℕ → Slots → Activity → �
 rampedAt t c f s a g r = placed s a (c .slot) g (movement t (c .slot) f g (rampLength (apart f g) r) (Ramp r))
 
 unfoldable pub rampedTo : ℕ → Settings → ℕ → Slots → Activity → Float → Float → Scene
-rampedTo t c f s a x r = rampedAt t c f s a (target c x) (rateOf r)
+rampedTo t c f s a x r = rampedAt t c f s a (target c x) (amountUnits r)
 
 -- 'GOTO and steps jump'
 unfoldable pub jumped : Settings → Slots → Activity → ℕ → Scene
@@ -90,12 +88,13 @@ unfoldable pub stepDownFrom : Settings → ℕ → ℕ → ℕ
 stepDownFrom c f x = if eqb f 0 then 0 else intoRange c (f - x)
 
 unfoldable pub steppedUp : Settings → ℕ → Slots → Activity → Float → Scene
-steppedUp c f s a x = jumped c s a (stepUpFrom c f (rateOf x))
+steppedUp c f s a x = jumped c s a (stepUpFrom c f (amountUnits x))
 
 unfoldable pub steppedDown : Settings → ℕ → Slots → Activity → Float → Scene
-steppedDown c f s a x = jumped c s a (stepDownFrom c f (rateOf x))
+steppedDown c f s a x = jumped c s a (stepDownFrom c f (amountUnits x))
 
--- 'STOP: if a movement belongs to p, it ends and slot p gets the reached level, raised to Min if above zero. Else it changes no slot'
+-- 'STOP: if a movement belongs to p, it ends and slot p gets the reached level, raised to Min if above zero. Else it changes no slot'. A warning
+-- has ended before (`unwarnedActivity`)
 unfoldable pub raised : Settings → ℕ → ℕ
 raised c v = if eqb v 0 then 0 else max (c .min) v
 
@@ -130,13 +129,13 @@ scene t c f s a Relinquish = relinquished c s a
 
 -- 'Duration d above zero, with every command: slot p empties d ms later. [..] a new one replaces it, 0 cancels it, Absent leaves it running'
 unfoldable pub timed : ℕ → ℕ → Timer → Duration → Timer
-timed t p m (Lasts d) = Running p (t + d)
-timed t p m Cancels = Off
-timed t p m Omitted = m
+timed t p running (Lasts d) = Running p (t + d)
+timed t p running Cancels = Off
+timed t p running Omitted = running
 
 unfoldable pub withCommand : Output → Scene → Timer → Command → Output
-withCommand o r m k =
-    record { settings = o .settings; slots = r .slots; activity = r .activity; timer = m; burning = o .burning; last = k }
+withCommand o r timer k =
+    record { settings = o .settings; slots = r .slots; activity = r .activity; timer = timer; burning = o .burning; last = k }
 
 -- 'It starts from Progress_Value before it': f
 unfoldable pub commandedFrom : ℕ → Output → ℕ → Command → Output

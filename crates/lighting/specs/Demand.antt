@@ -1,7 +1,7 @@
 -- DEMAND 3 as one statement about a whole list of byte strings. Assumes nothing.
 use mathlib.Core.Path.{_≡_}
 use mathlib.Core.Logic.{_≢_}
-use mathlib.Core.Bool.{Bool, true}
+use mathlib.Core.Bool.{true}
 use mathlib.Core.List.{List, [], _∷_, map}
 use mathlib.Core.Option.{Option}
 use Prim.Native.Nat.{ℕ}
@@ -11,8 +11,8 @@ use Rattle.lighting.specs.Frames.{Bytes}
 use Rattle.lighting.specs.Slots.{slotsOf}
 use Rattle.lighting.specs.Value.{presentValue, progressValue, inProcess}
 use Rattle.lighting.specs.Answers.{refusalOf}
-use Rattle.lighting.specs.Panel.{Panel, Step, panelSound, framed, started}
-use Rattle.lighting.specs.Plain.{Plain, Told, Reply, plainFramed, plainStart}
+use Rattle.lighting.specs.Panel.{Panel, panelSound, framed, started}
+use Rattle.lighting.specs.Plain.{Plain, Told, plainFramed, plainStart}
 use Rattle.lighting.specs.declared.Settings.{Settings}
 use Rattle.lighting.specs.declared.Command.{Command}
 use Rattle.lighting.specs.declared.Output.{Output}
@@ -64,7 +64,7 @@ unfoldable pub plainAnswers : Parameters → Told → List Bytes → List Answer
 plainAnswers p w [] = []
 plainAnswers p w (b ∷ l) = plainFramed p w b .answer ∷ plainAnswers p (plainFramed p w b .told) l
 
--- A LIST WITH FRAMES THAT COME AGAIN, 'anywhere later and any number of times'. `Again seen l l′`: after the frames of `seen`, l′ is l
+-- A LIST WITH FRAMES THAT COME AGAIN (retransmissions), anywhere later and any number of times. `Again seen l l′`: after the frames of `seen`, l′ is l
 -- with frames put in that came before, of `seen` or of l, byte for byte
 pub data Among : Bytes → List Bytes → Type 0 where
   here : {b : Bytes} {l : List Bytes} → Among b (b ∷ l)
@@ -90,10 +90,11 @@ NeverOne (a ∷ l) = (refusalOf a ≢ 1) × NeverOne l
 
 -- THE DEMAND, for a lent table e, a list of frames l, and the list l′ in which frames of l come again
 pub record Demand (p : Parameters) (e : Panel) (l l′ : List Bytes) (r : Again [] l l′) : Type 0 where
-  -- after every list all that is found is what the plain panel has
+  -- after every list all that is found is what the plain panel has, at the same time
   pub finds :
       foundIn (after p (started p e .panel) l)
       ≡ foundPlain (plainAfter p (plainStart (length (e .outputs))) l .panel)
+  pub time : after p (started p e .panel) l .time ≡ plainAfter p (plainStart (length (e .outputs))) l .panel .time
   -- and every answer is its answer
   pub answered : answers p (started p e .panel) l ≡ plainAnswers p (plainStart (length (e .outputs))) l
   -- 'Refusal 1 never comes in it': every record keeps the rules, and no answer is 1

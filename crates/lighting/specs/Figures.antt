@@ -1,6 +1,6 @@
--- 'Bench figures' 1 to 8 and the 'Traps': what the definitions give, beside what the paper says. proofs/Figures.antt proves them equal.
+-- 'Bench figures' 1 to 8, and the 'Traps' that one output shows (Worked.antt has those that only a list shows): what the definitions give, beside what the paper says. proofs/Figures.antt proves them equal.
 -- Assumes nothing.
-use mathlib.Core.Bool.{Bool, true, false}
+use mathlib.Core.Bool.{true}
 use mathlib.Core.List.{List, [], _∷_, map}
 use Prim.Native.Nat.{ℕ}
 use Rattle.lighting.specs.Level.{real, levelOf}
@@ -15,10 +15,9 @@ use Rattle.lighting.specs.Answers.{levelAnswered}
 use Rattle.lighting.specs.declared.Answer.{Answer}
 use Rattle.lighting.specs.declared.Answer.the-variants.{Value, Refused}
 use Rattle.lighting.specs.declared.Duration.{Duration}
-use Rattle.lighting.specs.declared.Duration.the-variants.{Lasts, Cancels, Omitted}
+use Rattle.lighting.specs.declared.Duration.the-variants.{Lasts, Omitted}
 use Rattle.lighting.specs.declared.Operation.{Operation}
 use Rattle.lighting.specs.declared.Operation.the-variants.{FadeToOver, RampToAtRate, StepDown, Goto}
-use Rattle.lighting.specs.declared.Command.{Command}
 use Rattle.lighting.specs.declared.Setting.the-variants.{SetEnable, SetBlink, SetDelay}
 use Rattle.lighting.specs.declared.Output.{Output}
 
@@ -90,14 +89,14 @@ said =
     ∷ []
 
 -- TRAPS that one output shows: 'step down lighting a dark output at Min; a fade started from Present_Value instead of Progress_Value; a
--- duration read in seconds'; and that a ramp, a STEP or a warning is not frozen at a constant
+-- duration read in seconds'; and a warning without delay
 abbrev fadeTurned : Output
 fadeTurned = ordered 500 (FadeToOver (real 0) 1000) Omitted (advance 0 500 fadeUp)
 
 abbrev short : Output
 short = ordered 0 (Goto (real 0x4248_0000)) (Lasts 100) freshOutput
 
--- a warning without delay: 'if D is above 0, slot X empties with it', and with D = 0 it keeps its 0
+-- 'if D is above 0, slot X empties with it', and with D = 0 it keeps its 0
 abbrev warnedBriefly : Output
 warnedBriefly = written 1000 (changed (changed half (SetEnable true)) (SetBlink 700)) 15 0
 

@@ -1,13 +1,13 @@
--- 'Frames' and 'When a frame is turned down': a string of bytes, read. Refusals 2 to 5, and the request with refusals 9 to 12. Nothing here
--- looks at a panel but for its number of outputs. Assumes nothing.
-use mathlib.Core.Bool.{Bool, true, false}
+-- 'Frames' and 'When a frame is turned down': a string of bytes, read. Refusals 2 to 5, and the request with refusals 9 to 12 (but a
+-- read's 9, which `shown` of Properties.antt gives). Nothing here looks at a panel but for its number of outputs. Assumes nothing.
 use mathlib.Core.List.{List, [], _∷_}
 use Prim.Native.Nat.{ℕ, _-_, _<_}
 use lib.Dec.{leb, ltb, eqb}
 use lib.Ieee.{Float}
 use lib.ListN.{length}
-use Rattle.lighting.specs.Choice.{if_then_else_, _also_}
+use Rattle.lighting.specs.Choice.{if_then_else_}
 use Rattle.lighting.specs.Parameters.{Parameters}
+use Rattle.lighting.specs.Answers.{levelRefusal, operandRefusal}
 use Rattle.lighting.specs.Level.{real, levelOf, levelOperand, amountOperand}
 use Rattle.lighting.specs.Field.{byteAt, bigEndian}
 use Rattle.lighting.specs.Properties.{propertyOf, within, isPriority, changeOf}
@@ -18,9 +18,8 @@ use Rattle.lighting.specs.declared.Operand.the-variants.{Taken, Unfit}
 use Rattle.lighting.specs.declared.Duration.the-variants.{Lasts, Cancels, Omitted}
 use Rattle.lighting.specs.declared.Operation.{Operation}
 use Rattle.lighting.specs.declared.Operation.the-variants.{Stop, FadeTo, FadeToOver, RampTo, RampToAtRate, StepUp, StepDown, StepUpBy, StepDownBy, Goto, Relinquish}
-use Rattle.lighting.specs.declared.Command.{Command}
 use Rattle.lighting.specs.declared.Request.{Request}
-use Rattle.lighting.specs.declared.Request.the-variants.{Refuse, Write, Empty, Change, Read, Order}
+use Rattle.lighting.specs.declared.Request.the-variants.{Refuse, Write, Empty, Read, Order}
 use Rattle.lighting.specs.declared.Frame.{Frame}
 use Rattle.lighting.specs.declared.Frame.the-variants.{Bad, Clock, Call}
 
@@ -77,21 +76,21 @@ operationWith k x =
 
 unfoldable pub orderedWith : Parameters → ℕ → Operand → ℕ → Request
 orderedWith p k (Taken x) d = ordered p (operationWith k x) d
-orderedWith p k Unfit d = Refuse 11
+orderedWith p k Unfit d = Refuse (operandRefusal Unfit)
 
 -- kind 12: level, fade time, duration. 'Fade times: 100 to 86,400,000'
 unfoldable pub fadeOrder : Parameters → Operand → ℕ → ℕ → Request
 fadeOrder p (Taken x) l d = if within 100 (p .fade) l then ordered p (FadeToOver x l) d else Refuse 12
-fadeOrder p Unfit l d = Refuse 11
+fadeOrder p Unfit l d = Refuse (operandRefusal Unfit)
 
 -- kind 14: level, rate, duration
 unfoldable pub rampOrderAt : Parameters → Float → Operand → ℕ → Request
 rampOrderAt p x (Taken r) d = ordered p (RampToAtRate x r) d
-rampOrderAt p x Unfit d = Refuse 11
+rampOrderAt p x Unfit d = Refuse (operandRefusal Unfit)
 
 unfoldable pub rampOrder : Parameters → Operand → Operand → ℕ → Request
 rampOrder p (Taken x) r d = rampOrderAt p x r d
-rampOrder p Unfit r d = Refuse 11
+rampOrder p Unfit r d = Refuse (operandRefusal Unfit)
 
 -- the commands with one REAL: 17 and 18 a step, 11, 13 and 19 a level
 unfoldable pub stepOrLevel : ℕ → ℕ → Operand
@@ -111,7 +110,7 @@ orderOf p k x y z =
 -- KINDS 02 TO 05. Kind 02: priority, then REAL
 unfoldable pub writeLevel : ℕ → Level → Request
 writeLevel i (Units v) = Write i v
-writeLevel i OutOfRange = Refuse 11
+writeLevel i OutOfRange = Refuse (levelRefusal OutOfRange)
 
 unfoldable pub writeOf : ℕ → ℕ → Request
 writeOf n x = if isPriority n then writeLevel (n - 1) (levelOf (real x)) else Refuse 10
@@ -119,8 +118,8 @@ writeOf n x = if isPriority n then writeLevel (n - 1) (levelOf (real x)) else Re
 unfoldable pub emptyOf : ℕ → Request
 emptyOf n = if isPriority n then Empty (n - 1) else Refuse 10
 
--- THE REQUEST of kind k: n is the byte and v the four bytes after it, where the kind has them; x, y and z are a command's fields. An unknown
--- kind has none, and `parse` asks for none
+-- THE REQUEST of kind k: n is the byte and v the four bytes after it, where the kind has them; x, y and z are a command's fields. `parse`
+-- has refused an unknown kind with 2 before, so that its two clauses here are never reached
 unfoldable pub requestBy : Parameters → ℕ → ℕ → ℕ → ℕ → ℕ → ℕ → Request
 requestBy p k n v x y z =
     if eqb k 2 then writeOf n v

@@ -1,16 +1,12 @@
 -- 'An output's record': a fresh output and a fresh station. Assumes nothing.
-use mathlib.Core.Bool.{Bool, true, false}
-use Prim.Native.Nat.{ℕ, min}
+use mathlib.Core.Bool.{false}
 use lib.ListN.{replicate}
-use Rattle.lighting.specs.Parameters.{standard}
 use Rattle.lighting.specs.Level.{real}
 use Rattle.lighting.specs.declared.Settings.{Settings}
-use Rattle.lighting.specs.declared.Slots.{Slots}
 use Rattle.lighting.specs.declared.Activity.the-variants.{Still}
 use Rattle.lighting.specs.declared.Timer.the-variants.{Off}
 use Rattle.lighting.specs.declared.Duration.the-variants.{Omitted}
 use Rattle.lighting.specs.declared.Operation.the-variants.{Stop}
-use Rattle.lighting.specs.declared.Command.{Command}
 use Rattle.lighting.specs.declared.Output.{Output}
 use Rattle.lighting.specs.declared.Answer.the-variants.{Done}
 use Rattle.lighting.specs.declared.Station.{Station}

@@ -1,4 +1,4 @@
--- A REAL (IEEE 754 binary32, `lib.Ieee`'s Float) as a whole number of 1 / 65,536 percent, and back: document 01, Levels and Frames. Definitions only.
+-- A REAL (IEEE 754 binary32, `lib.Ieee`'s Float) as a whole number of 1 / 65,536 percent, and back: 'Levels' and 'Frames'. Assumes nothing.
 -- A finite REAL `fin s m e` is the exact number a / c, with a = m * up e and c = down e, negative where s is true.
 use Prim.Native.Nat.{ℕ, suc, _*_, _/_, _%_, min, compare, Ordering, Ordering·lt, Ordering·eq, Ordering·gt}
 use mathlib.Core.Bool.{Bool, true, false}
@@ -10,14 +10,14 @@ use Rattle.lighting.specs.declared.Level.the-variants.{Units, OutOfRange
 use Rattle.lighting.specs.declared.Operand.{Operand}
 use Rattle.lighting.specs.declared.Operand.the-variants.{Taken, Unfit}
 
--- "The base is .. IEEE 754 binary32 for REAL": a REAL's pattern, read, and the pattern of a REAL
+-- 'The base is [..] IEEE 754 binary32 for REAL': a REAL's pattern, read, and the pattern of a REAL
 unfoldable pub real : ℕ → Float
 real b = ofBits binary32 b
 
 unfoldable pub bits : Float → ℕ
 bits x = toBits binary32 x
 
--- "the nearest unit, a half going up": THE ROUNDING RULE, the only place that has it. Of q whole units and a rest, by how twice the
+-- 'the nearest unit, a half going up': THE ROUNDING RULE, the only place that has it. Of q whole units and a rest, by how twice the
 -- rest compares with a unit
 abbrev pub rule : ℕ → Ordering → ℕ
 rule q Ordering·lt = q
@@ -28,7 +28,7 @@ rule q Ordering·gt = suc q
 abbrev pub nearestTo : ℕ → ℕ → ℕ
 nearestTo a c = rule (a / c) (compare (a % c * 2) c)
 
--- "a whole number of 1/65,536 percent": a / c percent in units
+-- 'a whole number of 1/65,536 percent': a / c percent in units
 abbrev pub unitsIn : ℕ → ℕ → ℕ
 unitsIn a c = nearestTo (a * 65536) c
 
@@ -36,23 +36,23 @@ unitsIn a c = nearestTo (a * 65536) c
 abbrev pub fromTo : ℕ → ℕ → ℕ → Level
 fromTo k a c = if leb (k * c) (a * 8) also leb a (100 * c) then Units (unitsIn a c) else OutOfRange
 
--- "A REAL from 0 to 100 becomes the nearest unit ..; above 0 and below 1 it becomes 65,536"
+-- 'A REAL from 0 to 100 becomes the nearest unit [..]; above 0 and below 1 it becomes 65,536'
 abbrev pub levelIn : ℕ → ℕ → Level
 levelIn a c = if eqb a 0 then Units 0 else if ltb a c then Units 65536 else fromTo 8 a c
 
--- "Minus zero is 0. NaN, infinities, negatives and values above 100 are refused."
+-- 'Minus zero is 0. NaN, infinities, negatives and values above 100 are refused.'
 unfoldable pub levelOf : Float → Level
 levelOf nan = OutOfRange
 levelOf (inf s) = OutOfRange
 levelOf (fin true m e) = if eqb (m * up e) 0 then Units 0 else OutOfRange
 levelOf (fin false m e) = levelIn (m * up e) (down e)
 
--- "A level is read out as one division by 65,536": the REAL nearest to n / 65,536, and `proofs/Readout` says that of a level none is nearer
--- than n / 65,536 itself
+-- 'A level is read out as one division by 65,536': the REAL nearest to n / 65,536. Of a level it is n / 65,536 itself (proofs/Readout.antt,
+-- `exact`)
 unfoldable pub realOf : ℕ → Float
 realOf n = round binary32 false n 65536
 
--- a level as it is read. No level is above 6,553,600; above that, which no record holds, 100 percent stands
+-- a level as it is read. No level is above 6,553,600; above that, which no record that meets the rules shows, 100 percent stands
 unfoldable pub readOut : ℕ → ℕ
 readOut n = bits (realOf (min n 6553600))
 
@@ -63,17 +63,17 @@ realFromTo k (inf s) = OutOfRange
 realFromTo k (fin true m e) = OutOfRange
 realFromTo k (fin false m e) = fromTo k (m * up e) (down e)
 
--- "Rates (percent a second) and steps: REAL 0.125 to 100, to the nearest unit, a half going up, never raised to 65,536."
+-- 'Rates (percent a second) and steps: REAL 0.125 to 100, to the nearest unit, a half going up, never raised to 65,536.'
 unfoldable pub amountOf : Float → Level
 unfolding realFromTo
 amountOf x = realFromTo 1 x
 
--- "08 Min 1 and 09 Max 100 (REAL 1 to 100)"
+-- '08 Min 1 and 09 Max 100 (REAL 1 to 100)'
 unfoldable pub limitOf : Float → Level
 unfolding realFromTo
 limitOf x = realFromTo 8 x
 
--- "REAL out of range" is a refusal: whether it is not met, and the units or, out of range, d
+-- 'REAL out of range' is a refusal: whether it is not met, and the units or, out of range, d
 unfoldable pub inRange : Level → Bool
 inRange (Units v) = true
 inRange OutOfRange = false
@@ -82,16 +82,16 @@ unfoldable pub unitsOr : ℕ → Level → ℕ
 unitsOr d (Units v) = v
 unitsOr d OutOfRange = d
 
--- A rate or a step that is kept as a REAL, in units. No record that meets the rules and no command taken holds one out of range,
--- for which the least stands
-unfoldable pub rateOf : Float → ℕ
-rateOf x = unitsOr 8192 (amountOf x)
+-- A rate or a step that is kept as a REAL, in units. It is asked of settings that meet the rules and of commands that were taken: none has one
+-- out of range, for which the least stands
+unfoldable pub amountUnits : Float → ℕ
+amountUnits x = unitsOr 8192 (amountOf x)
 
 -- a command's level that is kept as a REAL, in units. No command taken holds one out of range
 unfoldable pub levelUnits : Float → ℕ
 levelUnits x = unitsOr 0 (levelOf x)
 
--- "the last command is kept with its REALs as they were written": a command's REAL by its pattern b, if l is in range
+-- 'the last command is kept with its REALs as they were written': a command's REAL by its pattern b, if l is in range
 abbrev pub operandBy : Level → ℕ → Operand
 operandBy l b = if inRange l then Taken (real b) else Unfit
 

@@ -1,22 +1,23 @@
--- The engine: the panel that judges a frame by its station's record and goes from due moment to due moment; and the start.
--- Assumes nothing.
-use mathlib.Core.Bool.{Bool, true, false}
+-- The engine: the panel that judges a frame by its station's record and goes from due moment to due moment; and the start. What it judges over a
+-- list, Plain.antt judges from the list alone (`judged`). Assumes nothing.
+use mathlib.Core.Bool.{Bool, true}
 use mathlib.Core.List.{List, [], _∷_, _++_, map}
-use Prim.Native.Nat.{ℕ, _-_, _^_, _≤_, _<_}
+use Prim.Native.Nat.{ℕ, _-_}
 use lib.Dec.{leb, ltb, eqb}
 use lib.ListN.{getD, set, length, replicate, take}
 use Rattle.lighting.specs.Choice.{if_then_else_, _also_}
 use Rattle.lighting.specs.Parameters.{Parameters}
 use Rattle.lighting.specs.Field.{byteAt}
 use Rattle.lighting.specs.Frames.{Bytes, kindLength, parse}
+use Rattle.lighting.specs.Copies.{sameBytes, copyOr6}
 use Rattle.lighting.specs.Passing.{advance}
 use Rattle.lighting.specs.Fresh.{freshOutput, freshStation}
-use Rattle.lighting.specs.Acting.{Served, served}
+use Rattle.lighting.specs.Acting.{served}
 use Rattle.lighting.specs.Rules.{sound, stationSound}
 use Rattle.lighting.specs.declared.Output.{Output}
 use Rattle.lighting.specs.declared.Request.{Request}
 use Rattle.lighting.specs.declared.Answer.{Answer}
-use Rattle.lighting.specs.declared.Answer.the-variants.{Done, Value, Absent, Refused}
+use Rattle.lighting.specs.declared.Answer.the-variants.{Done, Refused}
 use Rattle.lighting.specs.declared.Frame.{Frame}
 use Rattle.lighting.specs.declared.Frame.the-variants.{Bad, Clock, Call}
 use Rattle.lighting.specs.declared.Verdict.{Verdict}
@@ -37,12 +38,15 @@ pub record Step : Type 0 where
   pub panel : Panel
   pub answer : Answer
 
+abbrev pub leaving : Panel → Answer → Step
+leaving panel answer = record { panel = panel; answer = answer }
+
 -- every one of a list
 unfoldable pub every : {A : Type 0} → (A → Bool) → List A → Bool
 every f [] = true
 every f (x ∷ l) = f x also every f l
 
--- '0 or over 64 outputs, station records not eight' is none of these counts
+-- true unless '0 or over 64 outputs, station records not eight'
 unfoldable pub countsSound : Parameters → ℕ → ℕ → Bool
 countsSound p outputs stations = leb 1 outputs also leb outputs (p .outputs) also eqb stations (p .stations)
 
@@ -60,18 +64,8 @@ padded b = b ++ replicate (25 - length b) 0
 unfoldable pub restored : Bytes → Bytes
 restored f = take (kindLength (byteAt f 0)) f
 
--- 'the same bytes'
-unfoldable pub sameBytes : Bytes → Bytes → Bool
-sameBytes [] [] = true
-sameBytes [] (b ∷ l) = false
-sameBytes (a ∷ k) [] = false
-sameBytes (a ∷ k) (b ∷ l) = eqb a b also sameBytes k l
-
 -- JUDGED by the station's record k at panel time: 'station's last number, other bytes' is 6, the same bytes 'a copy: last answer'; 'number
 -- below the station's last' is 7, 'time before panel time' 8. 'A clock meets 1, 2, 3, 8'
-unfoldable pub copyOr6 : Bool → Answer → Verdict
-copyOr6 same a = if same then Copied a else TurnedDown 6
-
 unfoldable pub metNumber : ℕ → Station → Bool → ℕ → ℕ → ℕ → ℕ → Request → Verdict
 metNumber now k same s n t i r =
     if eqb n (k .number) then copyOr6 same (k .answer)
@@ -96,23 +90,6 @@ metBy now k b f = met now k (sameBytes b (restored (k .frame))) f
 unfoldable pub decide : Parameters → Panel → Bytes → Verdict
 decide p e b =
     let f = parse p (length (e .outputs)) b in metBy (e .time) (getD (e .stations) (stationOf f) freshStation) b f
-
--- WHAT A VERDICT IS SURE OF at panel time, with c outputs and k stations, once the panel is sound (proofs/Carried.antt)
-pub record Timely (now t : ℕ) : Type 0 where
-  pub due : now ≤ t
-  pub time : t < 2 ^ 48
-
-pub record Arrival (now c k : ℕ) (b : Bytes) (s t i : ℕ) : Type 0 where
-  pub moment : Timely now t
-  pub station : s < k
-  pub output : i < c
-  pub size : length b ≤ 25
-
-abbrev pub Sure : ℕ → ℕ → ℕ → Bytes → Verdict → Type 0
-Sure now c k b (TurnedDown r) = Unit {0}
-Sure now c k b (Copied a) = Unit {0}
-Sure now c k b (Clocked t) = Timely now t
-Sure now c k b (Arrives s n t i r) = Arrival now c k b s t i
 
 -- CARRIED OUT: refusals 2 to 8 and copies leave everything; a clock brings every output to its time; a first arrival does so too, acts,
 -- and 'the station keeps number, frame and answer'

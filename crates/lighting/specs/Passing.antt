@@ -1,23 +1,22 @@
 -- 'The plain panel': how an output passes from one moment to another. The plain panel lives one millisecond after another; the engine goes
--- from due moment to due moment. Both do the same at a moment (`fire`). Slots are counted from 0: slot 6 is 5. Assumes nothing.
-use mathlib.Core.Bool.{Bool, true, false}
+-- from due moment to due moment. Both do the same at a moment (`fire`). Assumes nothing.
+use mathlib.Core.Bool.{Bool, true}
 use Prim.Native.Nat.{ℕ, zero, suc, _+_, _-_, min}
 use lib.Dec.{ltb, eqb}
 use Rattle.lighting.specs.Choice.{if_then_else_, _also_}
-use Rattle.lighting.specs.declared.Movement.{Movement}
 use Rattle.lighting.specs.declared.Activity.{Activity}
 use Rattle.lighting.specs.declared.Activity.the-variants.{Still, Moving, Blink, Delay}
 use Rattle.lighting.specs.declared.Timer.{Timer}
 use Rattle.lighting.specs.declared.Timer.the-variants.{Off, Running}
 use Rattle.lighting.specs.declared.Output.{Output}
-use Rattle.lighting.specs.Slots.{Slots, emptied, filled}
+use Rattle.lighting.specs.Slots.{Slots, slot6, emptied, filled}
 use Rattle.lighting.specs.Value.{lit}
 
 unfoldable pub withBurning : Output → ℕ → Output
 withBurning o b = record { settings = o .settings; slots = o .slots; activity = o .activity; timer = o .timer; burning = b; last = o .last }
 
 -- 'burning time gains 1 ms if Present_Value is above zero': of the n milliseconds from a moment on, those in which the output burns.
--- While nothing falls due these are all or none.
+-- While nothing falls due these are all or none, wherever they begin (`from`)
 unfoldable pub glowing : ℕ → ℕ → Output → ℕ
 glowing from n o = if lit (o .settings) (o .slots) then n else 0
 
@@ -44,7 +43,7 @@ unfoldable pub released : ℕ → Timer → Activity → Activity
 released t Off a = a
 released t (Running slot due) a = if eqb due t then disowned slot a else a
 
--- 'then the warning's slots are set': the phases follow one another, and the movement is over at its last moment
+-- the warning's phases follow one another, and a movement is over at its last moment
 unfoldable pub activityAt : ℕ → Activity → Activity
 activityAt t Still = Still
 activityAt t (Moving m) = if eqb (m .over) t then Still else Moving m
@@ -52,18 +51,19 @@ activityAt t (Blink owner level turn over) =
     if eqb turn t then (if ltb turn over then Delay owner over else Still) else Blink owner level turn over
 activityAt t (Delay owner over) = if eqb over t then Still else Delay owner over
 
--- 'Slot 6 holds 0 for B ms, then Y for D ms, then is empty; if D is above 0, slot X empties with it'
+-- 'then the warning's slots are set': 'Slot 6 holds 0 for B ms, then Y for D ms, then is empty; if D is above 0, slot X empties with it'
 unfoldable pub slotsAt : ℕ → Activity → Slots → Slots
 slotsAt t Still s = s
 slotsAt t (Moving m) s = s
 slotsAt t (Blink owner level turn over) s =
-    if eqb turn t then (if ltb turn over then filled s 5 level else emptied s 5) else s
-slotsAt t (Delay owner over) s = if eqb over t then emptied (emptied s 5) owner else s
+    if eqb turn t then (if ltb turn over then filled s slot6 level else emptied s slot6) else s
+slotsAt t (Delay owner over) s = if eqb over t then emptied (emptied s slot6) owner else s
 
--- Judged after each act and after each moment's due events. Document 01 has nothing to judge: the output as it is
+-- After each act and after each moment's due events. The paper judges nothing there: the output as it is
 unfoldable pub settled : Output → Output
 settled o = o
 
+-- all of it. 'Then Progress_Value by the movement's formula': it is not kept, `progressValue` has the formula
 unfoldable pub fire : ℕ → Output → Output
 fire t o =
     settled
@@ -98,7 +98,8 @@ activityDue to (Delay owner over) = min to over
 unfoldable pub due : ℕ → Output → ℕ
 due to o = min (timerDue to (o .timer)) (activityDue to (o .activity))
 
--- burning in a count that stays at its top; no record that meets the rules comes there (proofs/Passing.antt, `gained-burned`)
+-- burning in a count that stays at its top: no frame brings a record that meets the rules there, since its time has 48 bits
+-- (proofs/Passing.antt, `hops-ticks`)
 abbrev pub top : ℕ
 top = 18446744073709551615
 

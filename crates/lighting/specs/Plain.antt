@@ -1,5 +1,5 @@
 -- 'The plain panel' over a list of frames: first arrivals, accepted clocks and copies, decided from the list. Assumes nothing.
-use mathlib.Core.Bool.{Bool, true, false}
+use mathlib.Core.Bool.{Bool, true}
 use mathlib.Core.List.{List, [], _∷_, map}
 use Prim.Native.Nat.{ℕ, zero, suc, _-_}
 use lib.Dec.{leb, ltb, eqb}
@@ -9,12 +9,11 @@ use Rattle.lighting.specs.Parameters.{Parameters}
 use Rattle.lighting.specs.Frames.{Bytes, parse}
 use Rattle.lighting.specs.Passing.{tick}
 use Rattle.lighting.specs.Fresh.{freshOutput}
-use Rattle.lighting.specs.Acting.{Served, served}
-use Rattle.lighting.specs.Panel.{sameBytes, copyOr6}
+use Rattle.lighting.specs.Acting.{served}
+use Rattle.lighting.specs.Copies.{sameBytes, copyOr6}
 use Rattle.lighting.specs.declared.Output.{Output}
-use Rattle.lighting.specs.declared.Request.{Request}
 use Rattle.lighting.specs.declared.Answer.{Answer}
-use Rattle.lighting.specs.declared.Answer.the-variants.{Done, Value, Absent, Refused}
+use Rattle.lighting.specs.declared.Answer.the-variants.{Done, Refused}
 use Rattle.lighting.specs.declared.Frame.{Frame}
 use Rattle.lighting.specs.declared.Frame.the-variants.{Bad, Clock, Call}
 use Rattle.lighting.specs.declared.Verdict.{Verdict}

@@ -1,14 +1,15 @@
 -- 'An output's record': the table of properties, what a write of each asks and changes, and what each reads as. Assumes nothing.
-use mathlib.Core.Bool.{Bool, true, false}
+use mathlib.Core.Bool.{Bool, false}
 use mathlib.Core.List.{List, [], _∷_}
-use Prim.Native.Nat.{ℕ, suc, _+_, _-_, _/_, min}
+use Prim.Native.Nat.{ℕ, _+_, _-_, _/_, min}
 use lib.Dec.{ltb, leb, eqb}
 use lib.Ieee.{Float}
 use lib.ListN.{getD}
 use Rattle.lighting.specs.Choice.{if_then_else_, _also_}
 use Rattle.lighting.specs.Parameters.{Parameters}
+use Rattle.lighting.specs.Answers.{levelRefusal, operandRefusal}
 use Rattle.lighting.specs.Level.{real, bits, readOut, levelOf, limitOf, amountOperand}
-use Rattle.lighting.specs.Slots.{Slots, lives, levelAt}
+use Rattle.lighting.specs.Slots.{Slots, slot6, lives, levelAt}
 use Rattle.lighting.specs.Value.{presentValue, progressValue, inProcess}
 use Rattle.lighting.specs.declared.Settings.{Settings}
 use Rattle.lighting.specs.declared.Activity.{Activity}
@@ -17,10 +18,9 @@ use Rattle.lighting.specs.declared.Duration.{Duration}
 use Rattle.lighting.specs.declared.Duration.the-variants.{Lasts, Cancels, Omitted}
 use Rattle.lighting.specs.declared.Operation.{Operation}
 use Rattle.lighting.specs.declared.Operation.the-variants.{Stop, FadeTo, FadeToOver, RampTo, RampToAtRate, StepUp, StepDown, StepUpBy, StepDownBy, Goto, Relinquish}
-use Rattle.lighting.specs.declared.Command.{Command}
 use Rattle.lighting.specs.declared.Output.{Output}
 use Rattle.lighting.specs.declared.Answer.{Answer}
-use Rattle.lighting.specs.declared.Answer.the-variants.{Done, Value, Absent, Refused}
+use Rattle.lighting.specs.declared.Answer.the-variants.{Value, Absent, Refused}
 use Rattle.lighting.specs.declared.Level.{Level}
 use Rattle.lighting.specs.declared.Level.the-variants.{Units, OutOfRange}
 use Rattle.lighting.specs.declared.Operand.{Operand}
@@ -30,9 +30,9 @@ use Rattle.lighting.specs.declared.Property.the-variants.{RelinquishDefa
 use Rattle.lighting.specs.declared.Setting.{Setting}
 use Rattle.lighting.specs.declared.Setting.the-variants.{SetDefault, SetFade, SetRamp, SetStep, SetEnable, SetBlink, SetDelay, SetMin, SetMax, SetSlot, ClearBurning}
 use Rattle.lighting.specs.declared.Request.{Request}
-use Rattle.lighting.specs.declared.Request.the-variants.{Refuse, Write, Empty, Change, Read, Order}
+use Rattle.lighting.specs.declared.Request.the-variants.{Refuse, Change}
 
--- THE TABLE: properties 00 to 14
+-- THE TABLE: properties 01 to 14, by number; 00 is none
 abbrev pub properties : List Property
 properties =
     Unknown
@@ -61,38 +61,38 @@ properties =
 -- and '21 to 30 slots 1 to 16'
 unfoldable pub propertyOf : ℕ → Property
 propertyOf n =
-    if leb 33 n then (if leb n 48 then SlotValue (n - 33) else Unknown) else getD properties n Unknown
+    if leb 0x21 n then (if leb n 0x30 then SlotValue (n - 0x21) else Unknown) else getD properties n Unknown
 
 -- WRITES. The range of each property's value, and the refusal that a value out of it meets: 10 a priority, 11 a REAL, 12 a whole number
 unfoldable pub within : ℕ → ℕ → ℕ → Bool
 within low high v = leb low v also leb v high
 
--- 'priority 0, 6 or over 16' is none: slot i is any but slot 6
+-- a slot that a frame may name, counted from 0: any of the sixteen but slot 6; and its priority: not '0, 6 or over 16'
 unfoldable pub isSlot : ℕ → Bool
-isSlot i = if eqb i 5 then false else ltb i 16
+isSlot i = if eqb i slot6 then false else ltb i 16
 
 unfoldable pub isPriority : ℕ → Bool
 isPriority n = if eqb n 0 then false else isSlot (n - 1)
 
 unfoldable pub changeDefault : Level → Request
 changeDefault (Units v) = Change (SetDefault v)
-changeDefault OutOfRange = Refuse 11
+changeDefault OutOfRange = Refuse (levelRefusal OutOfRange)
 
 unfoldable pub changeMin : Level → Request
 changeMin (Units v) = Change (SetMin v)
-changeMin OutOfRange = Refuse 11
+changeMin OutOfRange = Refuse (levelRefusal OutOfRange)
 
 unfoldable pub changeMax : Level → Request
 changeMax (Units v) = Change (SetMax v)
-changeMax OutOfRange = Refuse 11
+changeMax OutOfRange = Refuse (levelRefusal OutOfRange)
 
 unfoldable pub changeRamp : Operand → Request
 changeRamp (Taken x) = Change (SetRamp x)
-changeRamp Unfit = Refuse 11
+changeRamp Unfit = Refuse (operandRefusal Unfit)
 
 unfoldable pub changeStep : Operand → Request
 changeStep (Taken x) = Change (SetStep x)
-changeStep Unfit = Refuse 11
+changeStep Unfit = Refuse (operandRefusal Unfit)
 
 -- kind 04: the property's value x, of 32 bits. 'property unknown, or not writable' is 9
 unfoldable pub changeOf : Parameters → Property → ℕ → Request

@@ -1,6 +1,6 @@
--- 'Record rules', as the test that the engine makes on every lent record. Slots are counted from 0: slot 6 is 5. Assumes nothing.
+-- 'Record rules', as the test that the engine makes on every lent record. Slots are counted from 0: 7 to 16 are 6 to 15. Assumes nothing.
 use mathlib.Core.Bool.{Bool, true, false, not}
-use Prim.Native.Nat.{ℕ, _+_, _-_}
+use Prim.Native.Nat.{ℕ, _-_}
 use lib.Dec.{ltb, leb, eqb}
 use lib.Ieee.{Float}
 use lib.ListN.{getD}
@@ -8,7 +8,7 @@ use Rattle.lighting.specs.Choice.{if_then_else_, _also_, allFrom}
 use Rattle.lighting.specs.Parameters.{Parameters}
 use Rattle.lighting.specs.Level.{inRange, amountOf}
 use Rattle.lighting.specs.Field.{byteAt}
-use Rattle.lighting.specs.Slots.{Slots, lives, winner}
+use Rattle.lighting.specs.Slots.{Slots, slot6, lives, winner}
 use Rattle.lighting.specs.Value.{presentValue}
 use Rattle.lighting.specs.Properties.{within, isSlot}
 use Rattle.lighting.specs.Frames.{kindLength}
@@ -58,22 +58,23 @@ unfoldable pub movementSound : Parameters → ℕ → ℕ → ℕ → ℕ → Mo
 movementSound p t w high v m =
     ltb (m .owner) 16 also eqb (m .owner) w also leb (m .start) high also eqb (m .target) v also spanSound p t m
 
--- 'a warning, whose own slot is 7 to 16 and whose Y is a slot level'
-unfoldable pub blinkSound : ℕ → ℕ → ℕ → ℕ → Bool
-blinkSound t owner level turn = within 6 15 owner also isLevel level also ltb t turn
+-- 'a warning, whose own slot is 7 to 16 and whose Y is a slot level'. Its end is not before its turn, so that both are after panel time and
+-- stay so
+unfoldable pub blinkSound : ℕ → ℕ → ℕ → ℕ → ℕ → Bool
+blinkSound t owner level turn over = within 6 15 owner also isLevel level also ltb t turn also leb turn over
 
 unfoldable pub delaySound : ℕ → ℕ → ℕ → Bool
 delaySound t owner over = within 6 15 owner also ltb t over
 
--- 'slot 6 live exactly during a warning' (l: whether it is live)
+-- 'slot 6 live exactly during a warning'. l: whether slot 6 is live; w: the winner; high: Max; v: Present_Value
 unfoldable pub activityBy : Parameters → ℕ → Bool → ℕ → ℕ → ℕ → Activity → Bool
 activityBy p t l w high v Still = not l
 activityBy p t l w high v (Moving m) = if l then false else movementSound p t w high v m
-activityBy p t l w high v (Blink owner level turn over) = l also blinkSound t owner level turn
+activityBy p t l w high v (Blink owner level turn over) = l also blinkSound t owner level turn over
 activityBy p t l w high v (Delay owner over) = l also delaySound t owner over
 
 unfoldable pub activitySound : Parameters → ℕ → Settings → Slots → Activity → Bool
-activitySound p t c s a = activityBy p t (lives s 5) (winner s) (c .max) (presentValue c s) a
+activitySound p t c s a = activityBy p t (lives s slot6) (winner s) (c .max) (presentValue c s) a
 
 -- 'no duration tied to slot 6', and its moment after panel time
 unfoldable pub timerSound : ℕ → Timer → Bool
@@ -89,7 +90,7 @@ sound p t o =
     also timerSound t (o .timer)
     also leb (o .burning) t
 
--- a kind that goes on with station, number, time and output: any but a clock
+-- a kind that goes on with station, number, time and output: any known one but a clock
 unfoldable pub isCall : ℕ → Bool
 isCall k = ltb 13 (kindLength k)
 

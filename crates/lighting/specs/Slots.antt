@@ -1,14 +1,18 @@
 -- 'An output's record': the slots. Which are live, what each holds, which one wins. A slot is named by its index, its priority less one.
 -- Assumes nothing.
-use mathlib.Core.Bool.{Bool, true, false}
+use mathlib.Core.Bool.{Bool}
 use mathlib.Core.List.{List, [], _∷_}
 use mathlib.Core.Option.{Option, none, some}
-use Prim.Native.Nat.{ℕ, zero, suc, _-_, _/_, _%_, _^_}
+use Prim.Native.Nat.{ℕ, suc, _-_, _/_, _%_, _^_}
 use lib.Dec.{eqb, ltb}
 use lib.Bits.{bitAnd, bitOr}
 use lib.ListN.{set, getD}
 use Rattle.lighting.specs.Choice.{if_then_else_}
 pub use Rattle.lighting.specs.declared.Slots.{Slots}
+
+-- slot 6, which is a warning's
+abbrev pub slot6 : ℕ
+slot6 = 5
 
 -- 'Sixteen bits say which slots are live', priority 1 being the lowest bit: the slots that the mask and the levels stand for
 unfoldable pub view : ℕ → List ℕ → List (Option ℕ)
@@ -21,7 +25,7 @@ slotsOf s = view (s .live) (s .levels)
 abbrev pub slot : Slots → ℕ → Option ℕ
 slot s i = getD (slotsOf s) i none
 
--- 'the winner is the lowest bit set': the first live slot, or the number of slots with none
+-- 'the winner is the lowest bit set': the first live slot, or 16, how many there are, where none is live
 unfoldable pub firstLive : List (Option ℕ) → ℕ
 firstLive [] = 0
 firstLive (none ∷ l) = suc (firstLive l)
@@ -34,7 +38,8 @@ winner s = firstLive (slotsOf s)
 unfoldable pub lives : Slots → ℕ → Bool
 lives s i = eqb (s .live / 2 ^ i % 2) 1
 
--- bit i cleared and set; a level put in its place. There is no slot from 16 on, and the guard never bites (proofs/Mask.antt, `put-slots`)
+-- bit i cleared and set; a level put in its place. There is no slot from 16 on: the guard stands for records that break
+-- the rules (proofs/Mask.antt, `put-slots`)
 unfoldable pub maskEmptied : ℕ → ℕ → ℕ
 maskEmptied m i = if ltb i 16 then bitAnd m (65535 - 2 ^ i) else m
 

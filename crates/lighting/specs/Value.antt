@@ -1,5 +1,5 @@
 -- What an output shows: Present_Value, Progress_Value, In_Process. Assumes nothing.
-use mathlib.Core.Bool.{Bool, true, false}
+use mathlib.Core.Bool.{Bool}
 use Prim.Native.Nat.{ℕ, _+_, _-_, _*_, _/_, min, max}
 use lib.Dec.{ltb, leb, eqb}
 use Rattle.lighting.specs.Choice.{if_then_else_}
@@ -23,14 +23,15 @@ brought c v = if eqb v 0 then 0 else intoRange c v
 unfoldable pub presentValue : Settings → Slots → ℕ
 presentValue c s = brought c (topmost (c .default) s)
 
+-- whether Present_Value is above zero
 unfoldable pub lit : Settings → Slots → Bool
 lit c s = ltb 0 (presentValue c s)
 
--- how many milliseconds of a movement have gone by at the moment t: its length less what is left of it
+-- the paper's k: how many milliseconds of a movement have gone by at the moment t, its length less what is left of it
 abbrev pub elapsed : ℕ → Movement → ℕ
 elapsed t m = m .length - (m .over - t)
 
--- 'Fade over L from s to g: k ms later floor(|g - s| × k / L)'; 'Ramp at R units a second: floor(R × k / 1,000), stopping at g'.
+-- 'Fade over L from s to g: k ms later, [..] floor(|g - s| × k / L)'; 'Ramp at R units a second: floor(R × k / 1,000), stopping at g'.
 -- d is the way, |g - s|.
 unfoldable pub gone : Pace → ℕ → ℕ → ℕ → ℕ
 gone Fade d l k = d * k / l

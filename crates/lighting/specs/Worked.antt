@@ -32,7 +32,7 @@ ten number fade duration = call 0x12 3 number 2000 1 (octets 4 0x4248_0000 ++ oc
 abbrev asked : ℕ → ℕ → ℕ → ℕ → ℕ → Bytes
 asked station number time output property = call 5 station number time output (property ∷ [])
 
--- STEP_DOWN of output 1 by 12.5 percent
+-- STEP_DOWN_BY of output 1 by 12.5 percent
 abbrev stepDown : Bytes
 stepDown = call 0x18 4 1 2200 1 (octets 4 0x4148_0000 ++ octets 4 0xffff_ffff)
 
@@ -47,7 +47,7 @@ frames =
     -- an older number, and a frame that is late
     ∷ nine
     ∷ asked 5 1 1999 0 0x0c
-    -- a refused write takes its number: the same bytes again are a copy, others are refused 6
+    -- a refused frame takes its number: the same bytes again are a copy, others are refused 6
     ∷ ten 1 99 0
     ∷ ten 1 99 0
     ∷ ten 1 100 0

@@ -1,15 +1,14 @@
--- 'Writes and commands', kinds 02 and 03, with the 'Blink warning'. Slots are counted from 0: slot 6 is 5. Assumes nothing.
-use mathlib.Core.Bool.{Bool, true, false}
+-- 'Writes and commands', kinds 02 and 03, with the 'Blink warning'. Assumes nothing.
+use mathlib.Core.Bool.{Bool, true}
 use Prim.Native.Nat.{ℕ, _+_, _-_}
 use lib.Dec.{ltb, leb, eqb}
 use lib.ListN.{getD}
 use Rattle.lighting.specs.Choice.{if_then_else_, _also_, allFrom}
 use Rattle.lighting.specs.declared.Settings.{Settings}
-use Rattle.lighting.specs.declared.Movement.{Movement}
 use Rattle.lighting.specs.declared.Activity.{Activity}
 use Rattle.lighting.specs.declared.Activity.the-variants.{Still, Moving, Blink, Delay}
 use Rattle.lighting.specs.declared.Output.{Output}
-use Rattle.lighting.specs.Slots.{Slots, lives, winner, emptied, filled}
+use Rattle.lighting.specs.Slots.{Slots, slot6, lives, winner, emptied, filled}
 use Rattle.lighting.specs.Value.{presentValue}
 
 unfoldable pub withScene : Output → Slots → Activity → Output
@@ -41,9 +40,10 @@ blinks c = c .enable also ltb 0 (c .blink + c .delay)
 unfoldable pub darkAbove : Settings → Slots → ℕ → Bool
 darkAbove c s x = eqb (c .default) 0 also darkFrom s (x + 1)
 
--- 'X from 7 to 16', 'slots 1 to X - 1 are empty' (the winner w is no lower), 'Present_Value Y was above 0'
+-- 'X from 7 to 16' (a frame's priority is at most 16), 'slots 1 to X - 1 are empty' (the winner w is no lower), 'Present_Value Y was above 0'.
+-- That no warning is running, `writtenBy` sees to
 unfoldable pub warnsBy : Settings → Slots → ℕ → ℕ → ℕ → Bool
-warnsBy c s x w y = ltb 5 x also blinks c also leb x w also ltb 0 y also darkAbove c s x
+warnsBy c s x w y = ltb slot6 x also blinks c also leb x w also ltb 0 y also darkAbove c s x
 
 unfoldable pub warns : Settings → Slots → ℕ → Bool
 warns c s x = warnsBy c s x (winner s) (presentValue c s)
@@ -58,20 +58,20 @@ firstPhase t c x y =
 
 unfoldable pub warnedBy : ℕ → Output → ℕ → ℕ → Output
 warnedBy t o x y =
-    withScene o (filled (filled (o .slots) x 0) 5 (firstLevel (o .settings) y)) (firstPhase t (o .settings) x y)
+    withScene o (filled (filled (o .slots) x 0) slot6 (firstLevel (o .settings) y)) (firstPhase t (o .settings) x y)
 
 unfoldable pub warned : ℕ → Output → ℕ → Output
 warned t o x = warnedBy t o x (presentValue (o .settings) (o .slots))
 
 -- 'During a warning: kind 02 of zero at P above 6 empties slots 6 and P; [any other] empties slot 6 and stores'
 unfoldable pub endedEmpty : Output → ℕ → Output
-endedEmpty o i = withScene o (emptied (emptied (o .slots) 5) i) Still
+endedEmpty o i = withScene o (emptied (emptied (o .slots) slot6) i) Still
 
 unfoldable pub endedStored : Output → ℕ → ℕ → Output
-endedStored o i v = withScene o (filled (emptied (o .slots) 5) i v) Still
+endedStored o i v = withScene o (filled (emptied (o .slots) slot6) i v) Still
 
 unfoldable pub writtenWarned : Output → ℕ → ℕ → Output
-writtenWarned o i v = if eqb v 0 then (if ltb 5 i then endedEmpty o i else endedStored o i v) else endedStored o i v
+writtenWarned o i v = if eqb v 0 then (if ltb slot6 i then endedEmpty o i else endedStored o i v) else endedStored o i v
 
 -- KIND 02: level v written at t to slot i
 unfoldable pub writtenZero : ℕ → Output → ℕ → Output

@@ -32,8 +32,8 @@ pub enum Pace {
     Ramp(u32),
 }
 
-// The movement of the slot `owner`. It lasts `length` and is over at the moment `over`: moments are kept whole, so that no due moment
-// is ever a sum.
+// The movement of the slot `owner`. It lasts `length` and is over at the moment `over`: a due moment is kept whole, so that none has to be added
+// up when a record is read.
 pub struct Movement {
     pub owner: u8,
     pub start: u32,
@@ -44,7 +44,7 @@ pub struct Movement {
 }
 
 // What is under way. A warning of the slot `owner` has two phases: in Blink slot 6 holds 0 until `turn`; in Delay it holds the old
-// level until `over`. Never a movement and a warning together.
+// level until `over`. Without a delay `over` is `turn`, and no Delay follows. Never a movement and a warning together.
 pub enum Activity {
     Still,
     Moving(Movement),
@@ -98,6 +98,7 @@ pub struct Output {
     pub slots: Slots,
     pub activity: Activity,
     pub timer: Timer,
+    // Elapsed_Active_Time in milliseconds, the paper's burning time.
     pub burning: u64,
     pub last: Command,
 }
@@ -111,7 +112,7 @@ pub enum Answer {
     Refused(u8),
 }
 
-// What a station was answered last, to which number and which frame. Number 0: none yet.
+// What a station was answered last, to which number and which frame: a retransmission, the paper's copy, is known by them. Number 0: none yet.
 pub struct Station {
     pub answer: Answer,
     pub number: u32,
@@ -126,7 +127,7 @@ pub enum Level {
     OutOfRange,
 }
 
-// A REAL that a command takes, kept as it was written.
+// A REAL that a command, or a write of Ramp_Rate or Step_Increment, takes and keeps as it was written.
 pub enum Operand {
     Taken(f32),
     Unfit,
@@ -134,7 +135,7 @@ pub enum Operand {
 
 // ---- requests
 
-// The properties, by their names in clause 12.X; the slots are 0 to 15.
+// The paper's properties 01 to 14 and, as SlotValue 0 to 15, 21 to 30.
 pub enum Property {
     RelinquishDefault,
     FadeTime,
@@ -175,7 +176,8 @@ pub enum Setting {
     ClearBurning,
 }
 
-// What a frame asks of its output, or the refusal from 9 to 12 that its fields meet.
+// What a frame asks of its output, or the refusal from 9 to 12 that its fields meet (a read of an unknown property meets its 9 when it is
+// answered).
 pub enum Request {
     Refuse(u8),
     Write { slot: u8, level: u32 },

@@ -1,10 +1,10 @@
 -- FROM A LIST'S TEXT TO DEMAND 3: after the text of any list of strings, the outputs that it names show what the plain panel shows. Assumes nothing.
-use mathlib.Core.Path.{_≡_, refl, sym, ap, _∙_}
-use mathlib.Core.Bool.{Bool, true, false}
+use mathlib.Core.Path.{_≡_, refl, ap, _∙_}
+use mathlib.Core.Bool.{true}
 use mathlib.Core.List.{List, [], _∷_, _++_, map}
-use Prim.Native.Nat.{ℕ, _≤_, _<_}
+use Prim.Native.Nat.{ℕ, _≤_}
 use native.Mathlib.Omega.{arith}
-use lib.ListN.{length, take, drop, length-map, length-append, length-replicate}
+use lib.ListN.{length, drop, length-map, length-append, length-replicate}
 use lib.Seq.{take-at, length-take-le}
 use Rattle.lighting.specs.Choice.{if_then_else_}
 use Rattle.lighting.specs.Parameters.{standard}
@@ -23,7 +23,6 @@ use Rattle.lighting.proofs.Calls.{once}
 use Rattle.lighting.proofs.Demand.{demand-3}
 use Rattle.reading.specs.declared.Reader.{Reader}
 use Rattle.reading.specs.Reading.{fed, nextLine}
-use Rattle.reading.specs.Spelling.{Spells}
 use Rattle.reading.proofs.Spelt.{Ready, frame, outputs-kept, ready-fed, ready-next, unbroken}
 use Rattle.line.specs.Taking.{first, rejoined, begun, sent, taken, takenBy, through}
 use Rattle.line.specs.Listed.{Lines, none, line}

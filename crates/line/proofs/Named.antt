@@ -1,7 +1,7 @@
 -- The panel of the first n outputs is lent as a part of the table, up to the smaller of n and the table's length. Assumes nothing.
 use mathlib.Core.Path.{_≡_, sym, ap, _∙_}
 use mathlib.Core.List.{List, _++_}
-use Prim.Native.Nat.{ℕ, _-_, _≤_, _<_, min}
+use Prim.Native.Nat.{ℕ, _-_, min}
 use native.Mathlib.Omega.{arith}
 use lib.ListN.{length, take, drop, drop-of-length-le}
 use lib.Seq.{take-all}
@@ -25,11 +25,7 @@ part-left n k l e =
 
 -- an operation on that part is one on the panel of the first n outputs, and the rest stands by
 pub part-joined :
-    (op : Panel → Panel) (n k : ℕ) (o : List Output) (s : List Station) (t : ℕ)
-    (o' : List Output) (s' : List Station) (t' : ℕ) →
-    k ≡ min n (length o) →
-    o' ≡ op (lent (take (k - 0) o) s t) .outputs →
-    s' ≡ op (lent (take (k - 0) o) s t) .stations →
-    t' ≡ op (lent (take (k - 0) o) s t) .time →
-    lent (o' ++ drop (k - 0) o) s' t' ≡ rejoined n (lent o s t) (op (first n (lent o s t)))
-part-joined op n k o s t o' s' t' e p q r = rw (p, q, r, part-taken n k o e, part-left n k o e)
+    (op : Panel → Panel) (n k : ℕ) (o : List Output) (s : List Station) (t : ℕ) (q : Panel) → k ≡ min n (length o) →
+    q ≡ op (lent (take (k - 0) o) s t) →
+    lent (q .outputs ++ drop (k - 0) o) (q .stations) (q .time) ≡ rejoined n (lent o s t) (op (first n (lent o s t)))
+part-joined op n k o s t q e p = rw (p, part-taken n k o e, part-left n k o e)

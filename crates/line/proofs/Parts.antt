@@ -1,7 +1,7 @@
 -- A text that comes in parts goes through as the whole does. Assumes nothing.
-use mathlib.Core.Path.{_≡_, refl, sym, ap, _∙_}
+use mathlib.Core.Path.{_≡_, refl, sym, _∙_}
 use mathlib.Core.Bool.{Bool, true, false, false≢true}
-use mathlib.Core.List.{List, [], _∷_, _++_}
+use mathlib.Core.List.{[], _∷_, _++_}
 use lib.Dec.{eqb}
 use Rattle.lighting.specs.Choice.{if_then_else_}
 use Rattle.lighting.specs.Frames.{Bytes}
@@ -9,7 +9,7 @@ use Rattle.lighting.specs.Panel.{Panel}
 use Rattle.lighting.proofs.Split.{by-bool}
 use Rattle.reading.specs.declared.Reader.{Reader}
 use Rattle.reading.specs.Reading.{feed, freshReader}
-use Rattle.line.specs.Taking.{taken, Through, through, Went, finished, Replayed}
+use Rattle.line.specs.Taking.{taken, through, Went, finished, Replayed}
 
 through-append : (p : Panel) (w : Reader) (x y : Bytes) → through p w x .good ≡ true → through p w (x ++ y) ≡ through (through p w x .panel) (through p w x .reader) y
 unfolding through if_then_else_

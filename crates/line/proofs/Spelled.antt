@@ -1,25 +1,22 @@
 -- From a line's text to the panel: a line that spells a string of bytes sends that string, however long it is, and writes its answer. The
 -- reader keeps 26 bytes, and the panel does with a longer string what it does with its first 26 (lighting/proofs/Long.antt). Assumes nothing.
 use mathlib.Core.Path.{_≡_, refl, sym, ap, _∙_}
-use mathlib.Core.Bool.{Bool}
-use mathlib.Core.List.{List, [], _∷_, _++_}
-use Prim.Native.Nat.{ℕ, _≤_, _<_}
+use mathlib.Core.List.{[], _∷_, _++_}
+use Prim.Native.Nat.{ℕ}
 use native.Mathlib.Omega.{arith}
-use lib.Dec.{ltb}
 use lib.ListN.{length, take}
 use lib.Seq.{take-all}
-use Rattle.lighting.specs.Choice.{if_then_else_}
 use Rattle.lighting.specs.Frames.{Bytes}
 use Rattle.lighting.specs.Parameters.{standard}
-use Rattle.lighting.specs.Panel.{Panel, Step, framed}
+use Rattle.lighting.specs.Panel.{Panel, framed}
 use Rattle.lighting.proofs.Split.{by-le}
 use Rattle.lighting.proofs.Long.{framed-first}
 use Rattle.reading.specs.declared.Reader.{Reader}
-use Rattle.reading.specs.Reading.{fed, lineOf, content}
+use Rattle.reading.specs.Reading.{fed, content}
 use Rattle.reading.specs.Spelling.{Spells}
 use Rattle.reading.proofs.Spelt.{Ready, read, frame, outputs-kept}
 use Rattle.printing.specs.Writing.{answerLine}
-use Rattle.line.specs.Taking.{first, rejoined, sent, takenBy, taken}
+use Rattle.line.specs.Taking.{first, sent, takenBy, taken}
 
 -- what a string and its first 26 bytes have in common: all that the panel does with them
 framed-kept : (e : Panel) (b : Bytes) → framed standard e (take 26 b) ≡ framed standard e b

@@ -2,7 +2,7 @@
 -- so many of them, and the rest stand by. Definitions only.
 use mathlib.Core.Bool.{Bool, true, false}
 use lib.Dec.{eqb}
-use mathlib.Core.List.{List, [], _∷_, _++_}
+use mathlib.Core.List.{[], _∷_, _++_}
 use mathlib.Core.Path.{_≡_}
 use Prim.Native.Nat.{ℕ}
 use lib.ListN.{take, drop}

@@ -20,17 +20,11 @@ pub struct Ended {
     pub good: bool,
 }
 
-fn wide(n: u8) -> usize
-    ensures { λ r. ⌜ r ≡ n ⌝ }
-{
-    n as usize
-}
-
 // `outputs N`: the panel of the first N outputs starts.
 fn start(outputs: &mut [Output], stations: &mut [Station], time: &mut u64, n: u8)
     ensures { λ _. ⌜ lent (now (outputs .exit)) (now (stations .exit)) (now (time .exit)) ≡ begun n (lent (now (outputs .entry)) (now (stations .entry)) (now (time .entry))) ⌝ }
 {
-    let named = ranges::least(wide(n), outputs.len());
+    let named = ranges::least(ranges::index(n), outputs.len());
     panel::start(&mut outputs[0..named], stations, time);
 }
 
@@ -46,7 +40,7 @@ fn frame(
     ensures { λ a. ⌜ a ≡ sent n (take count (now (bytes .entry))) (lent (now (outputs .entry)) (now (stations .entry)) (now (time .entry))) .answer ⌝ }
     ensures { λ _. ⌜ lent (now (outputs .exit)) (now (stations .exit)) (now (time .exit)) ≡ sent n (take count (now (bytes .entry))) (lent (now (outputs .entry)) (now (stations .entry)) (now (time .entry))) .panel ⌝ }
 {
-    let named = ranges::least(wide(n), outputs.len());
+    let named = ranges::least(ranges::index(n), outputs.len());
     let kept = &bytes[..];
     let held = ranges::least(count, kept.len());
     panel::frame(&mut outputs[0..named], stations, time, &kept[0..held])

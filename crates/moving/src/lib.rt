@@ -98,5 +98,5 @@ pub fn ramp_to(t: u64, c: Settings, f: u32, s: Slots, a: Activity, x: f32, rate:
     requires { ⌜ t < 2 ^ 48 ⌝ }
     ensures { λ r. ⌜ r ≡ rampedTo t c f s a x rate ⌝ }
 {
-    ramp_at(t, c, f, s, a, target_of(c, x), level::rate_of(rate))
+    ramp_at(t, c, f, s, a, target_of(c, x), level::amount_units(rate))
 }

@@ -9,7 +9,7 @@ use lighting::Operation;
 use lighting::Request;
 
 // An operation with its duration: 0 cancels, 100 to 86,400,000 sets, FFFFFFFF means absent.
-pub fn order(operation: Operation, d: u32) -> Request
+fn order(operation: Operation, d: u32) -> Request
     ensures { λ r. ⌜ r ≡ ordered standard operation d ⌝ }
 {
     if d == 0xFFFF_FFFF {
@@ -33,7 +33,7 @@ pub fn order(operation: Operation, d: u32) -> Request
 }
 
 // Kinds 11, 13, 17, 18 and 19: one REAL, then the duration.
-pub fn operation_with(k: u8, x: f32) -> Operation
+fn operation_with(k: u8, x: f32) -> Operation
     ensures { λ r. ⌜ r ≡ operationWith k x ⌝ }
 {
     match k {
@@ -45,7 +45,7 @@ pub fn operation_with(k: u8, x: f32) -> Operation
     }
 }
 
-pub fn order_with(k: u8, x: Operand, d: u32) -> Request
+fn order_with(k: u8, x: Operand, d: u32) -> Request
     ensures { λ r. ⌜ r ≡ orderedWith standard k x d ⌝ }
 {
     match x {
@@ -55,7 +55,7 @@ pub fn order_with(k: u8, x: Operand, d: u32) -> Request
 }
 
 // Kind 12: level, fade time, duration.
-pub fn fade_order(x: Operand, l: u32, d: u32) -> Request
+fn fade_order(x: Operand, l: u32, d: u32) -> Request
     ensures { λ r. ⌜ r ≡ fadeOrder standard x l d ⌝ }
 {
     match x {
@@ -69,7 +69,7 @@ pub fn fade_order(x: Operand, l: u32, d: u32) -> Request
 }
 
 // Kind 14: level, rate, duration.
-pub fn ramp_order_at(x: f32, rate: Operand, d: u32) -> Request
+fn ramp_order_at(x: f32, rate: Operand, d: u32) -> Request
     ensures { λ r. ⌜ r ≡ rampOrderAt standard x rate d ⌝ }
 {
     match rate {
@@ -78,7 +78,7 @@ pub fn ramp_order_at(x: f32, rate: Operand, d: u32) -> Request
     }
 }
 
-pub fn ramp_order(x: Operand, rate: Operand, d: u32) -> Request
+fn ramp_order(x: Operand, rate: Operand, d: u32) -> Request
     ensures { λ r. ⌜ r ≡ rampOrder standard x rate d ⌝ }
 {
     match x {
@@ -88,7 +88,7 @@ pub fn ramp_order(x: Operand, rate: Operand, d: u32) -> Request
 }
 
 // The REAL of the commands with one: 17 and 18 a step, 11, 13 and 19 a level.
-pub fn step_or_level(k: u8, x: u32) -> Operand
+fn step_or_level(k: u8, x: u32) -> Operand
     ensures { λ r. ⌜ r ≡ stepOrLevel k x ⌝ }
 {
     match k {
@@ -98,7 +98,7 @@ pub fn step_or_level(k: u8, x: u32) -> Operand
     }
 }
 
-pub fn real_order(k: u8, x: u32, d: u32) -> Request
+fn real_order(k: u8, x: u32, d: u32) -> Request
     ensures { λ r. ⌜ r ≡ orderedWith standard k (stepOrLevel k x) d ⌝ }
 {
     order_with(k, step_or_level(k, x), d)

@@ -1,12 +1,12 @@
 // The panel over the tables that a caller lends: outputs, station records and the panel time. The two public operations ask nothing of what is
-// lent. Their contracts give the answer and all of every table, as equations with `started` and `framed`.
+// lent. The contract of each is one equation: what it leaves of every table and its answer are what `started` and `framed` say.
 ghost use mathlib.Core.Bool.{true};
 ghost use mathlib.Core.Path.{_≡_};
-ghost use lib.ListN.{length, replicate};
+ghost use lib.ListN.{length};
 ghost use Rattle.lighting.specs.Parameters.{standard};
-ghost use Rattle.lighting.specs.Fresh.{freshOutput};
 ghost use Rattle.lighting.specs.Rules.{sound};
-ghost use Rattle.lighting.specs.Panel.{every, lent, panelSound, Arrival, Sure, carried, framed, started};
+ghost use Rattle.lighting.specs.Sure.{Arrival, Sure};
+ghost use Rattle.lighting.specs.Panel.{every, lent, leaving, panelSound, carried, framed, started};
 use lighting::Answer;
 use lighting::Output;
 use lighting::Request;
@@ -14,13 +14,13 @@ use lighting::Station;
 use lighting::Verdict;
 
 // Refusal 1: the counts, then each record.
-fn panel_sound(outputs: &[Output], stations: &[Station], t: u64) -> bool
-    ensures { λ r. ⌜ r ≡ panelSound standard (lent (now (outputs .entry)) (now (stations .entry)) t) ⌝ }
+fn panel_sound(outputs: &[Output], stations: &[Station], time: u64) -> bool
+    ensures { λ r. ⌜ r ≡ panelSound standard (lent (now (outputs .entry)) (now (stations .entry)) time) ⌝ }
 {
     if !station::counts_sound(outputs.len(), stations.len()) {
         return false;
     }
-    if !tables::outputs_sound(outputs, t) {
+    if !tables::outputs_sound(outputs, time) {
         return false;
     }
     tables::stations_sound(stations)
@@ -32,27 +32,24 @@ fn arrive(
     stations: &mut [Station],
     time: &mut u64,
     bytes: &[u8],
-    s: u8,
-    n: u32,
-    t: u64,
-    i: u8,
-    r: Request,
+    station: u8,
+    number: u32,
+    moment: u64,
+    output: u8,
+    request: Request,
 ) -> Answer
     requires { ⌜ every (sound standard (now time)) (now outputs) ≡ true ⌝ }
-    requires { ⌜ Arrival (now time) (length (now outputs)) (length (now stations)) (now bytes) s t i ⌝ }
-    ensures { λ a. ⌜ a ≡ carried (now (bytes .entry)) (lent (now (outputs .entry)) (now (stations .entry)) (now (time .entry))) (Verdict.Arrives s n t i r) .answer ⌝ }
-    ensures { λ _. ⌜ now (outputs .exit) ≡ carried (now (bytes .entry)) (lent (now (outputs .entry)) (now (stations .entry)) (now (time .entry))) (Verdict.Arrives s n t i r) .panel .outputs ⌝ }
-    ensures { λ _. ⌜ now (stations .exit) ≡ carried (now (bytes .entry)) (lent (now (outputs .entry)) (now (stations .entry)) (now (time .entry))) (Verdict.Arrives s n t i r) .panel .stations ⌝ }
-    ensures { λ _. ⌜ now (time .exit) ≡ carried (now (bytes .entry)) (lent (now (outputs .entry)) (now (stations .entry)) (now (time .entry))) (Verdict.Arrives s n t i r) .panel .time ⌝ }
+    requires { ⌜ Arrival (now time) (length (now outputs)) (length (now stations)) (now bytes) station moment output ⌝ }
+    ensures { λ a. ⌜ leaving (lent (now (outputs .exit)) (now (stations .exit)) (now (time .exit))) a ≡ carried (now (bytes .entry)) (lent (now (outputs .entry)) (now (stations .entry)) (now (time .entry))) (Verdict.Arrives station number moment output request) ⌝ }
 {
     let from = *time;
-    tables::advance_outputs(outputs, from, t);
-    let a = tables::serve(outputs, t, s, tables::wide(i), r);
-    let k = station::kept_station(a, n, bytes);
-    let at = tables::wide(s);
-    stations[at] = k;
-    *time = t;
-    a
+    tables::advance_outputs(outputs, from, moment);
+    let answer = tables::serve(outputs, moment, station, ranges::index(output), request);
+    let record = station::kept_station(answer, number, bytes);
+    let at = ranges::index(station);
+    stations[at] = record;
+    *time = moment;
+    answer
 }
 
 // Refusals 2 to 8 and copies leave everything. A clock brings every output to its time.
@@ -65,10 +62,7 @@ fn carry(
 ) -> Answer
     requires { ⌜ every (sound standard (now time)) (now outputs) ≡ true ⌝ }
     requires { ⌜ Sure (now time) (length (now outputs)) (length (now stations)) (now bytes) v ⌝ }
-    ensures { λ a. ⌜ a ≡ carried (now (bytes .entry)) (lent (now (outputs .entry)) (now (stations .entry)) (now (time .entry))) v .answer ⌝ }
-    ensures { λ _. ⌜ now (outputs .exit) ≡ carried (now (bytes .entry)) (lent (now (outputs .entry)) (now (stations .entry)) (now (time .entry))) v .panel .outputs ⌝ }
-    ensures { λ _. ⌜ now (stations .exit) ≡ carried (now (bytes .entry)) (lent (now (outputs .entry)) (now (stations .entry)) (now (time .entry))) v .panel .stations ⌝ }
-    ensures { λ _. ⌜ now (time .exit) ≡ carried (now (bytes .entry)) (lent (now (outputs .entry)) (now (stations .entry)) (now (time .entry))) v .panel .time ⌝ }
+    ensures { λ a. ⌜ leaving (lent (now (outputs .exit)) (now (stations .exit)) (now (time .exit))) a ≡ carried (now (bytes .entry)) (lent (now (outputs .entry)) (now (stations .entry)) (now (time .entry))) v ⌝ }
 {
     match v {
         Verdict::TurnedDown(r) => Answer::Refused(r),
@@ -101,10 +95,7 @@ fn carry(
 
 // Writes every lent record fresh and answers Done, or meets 1 by its counts alone.
 pub fn start(outputs: &mut [Output], stations: &mut [Station], time: &mut u64) -> Answer
-    ensures { λ a. ⌜ a ≡ started standard (lent (now (outputs .entry)) (now (stations .entry)) (now (time .entry))) .answer ⌝ }
-    ensures { λ _. ⌜ now (outputs .exit) ≡ started standard (lent (now (outputs .entry)) (now (stations .entry)) (now (time .entry))) .panel .outputs ⌝ }
-    ensures { λ _. ⌜ now (stations .exit) ≡ started standard (lent (now (outputs .entry)) (now (stations .entry)) (now (time .entry))) .panel .stations ⌝ }
-    ensures { λ _. ⌜ now (time .exit) ≡ started standard (lent (now (outputs .entry)) (now (stations .entry)) (now (time .entry))) .panel .time ⌝ }
+    ensures { λ a. ⌜ leaving (lent (now (outputs .exit)) (now (stations .exit)) (now (time .exit))) a ≡ started standard (lent (now (outputs .entry)) (now (stations .entry)) (now (time .entry))) ⌝ }
 {
     if !station::counts_sound(outputs.len(), stations.len()) {
         return Answer::Refused(1);
@@ -122,15 +113,12 @@ pub fn frame(
     time: &mut u64,
     bytes: &[u8],
 ) -> Answer
-    ensures { λ a. ⌜ a ≡ framed standard (lent (now (outputs .entry)) (now (stations .entry)) (now (time .entry))) (now (bytes .entry)) .answer ⌝ }
-    ensures { λ _. ⌜ now (outputs .exit) ≡ framed standard (lent (now (outputs .entry)) (now (stations .entry)) (now (time .entry))) (now (bytes .entry)) .panel .outputs ⌝ }
-    ensures { λ _. ⌜ now (stations .exit) ≡ framed standard (lent (now (outputs .entry)) (now (stations .entry)) (now (time .entry))) (now (bytes .entry)) .panel .stations ⌝ }
-    ensures { λ _. ⌜ now (time .exit) ≡ framed standard (lent (now (outputs .entry)) (now (stations .entry)) (now (time .entry))) (now (bytes .entry)) .panel .time ⌝ }
+    ensures { λ a. ⌜ leaving (lent (now (outputs .exit)) (now (stations .exit)) (now (time .exit))) a ≡ framed standard (lent (now (outputs .entry)) (now (stations .entry)) (now (time .entry))) (now (bytes .entry)) ⌝ }
 {
     let t = *time;
     if !panel_sound(outputs, stations, t) {
         return Answer::Refused(1);
     }
-    let v = tables::judge(outputs, stations, t, bytes);
-    carry(outputs, stations, time, bytes, v)
+    let verdict = tables::decide(outputs, stations, t, bytes);
+    carry(outputs, stations, time, bytes, verdict)
 }

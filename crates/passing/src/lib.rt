@@ -25,7 +25,7 @@ fn added(a: u64, b: u64) -> u64
 
 // ---- burning time
 
-pub fn with_burning(o: Output, b: u64) -> Output
+fn with_burning(o: Output, b: u64) -> Output
     ensures { λ r. ⌜ r ≡ withBurning o b ⌝ }
 {
     let mut n = o;

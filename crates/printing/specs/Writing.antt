@@ -1,11 +1,12 @@
 -- Numbers and answers as text. Assumes nothing.
-use mathlib.Core.List.{List, [], _∷_, _++_}
+use mathlib.Core.List.{[], _∷_, _++_}
 use Prim.Native.Nat.{ℕ, zero, suc, _+_, _/_, _%_}
 use lib.Dec.{ltb}
 use Rattle.lighting.specs.Choice.{if_then_else_}
 use Rattle.lighting.specs.Frames.{Bytes}
 use Rattle.lighting.specs.declared.Answer.{Answer}
 use Rattle.lighting.specs.declared.Answer.the-variants.{Done, Value, Absent, Refused}
+use Rattle.printing.specs.Text.{text}
 
 -- HEXADECIMAL, in upper case: `0` to `9`, `A` to `F`
 unfoldable pub hexDigit : ℕ → ℕ
@@ -31,23 +32,16 @@ decimal n = decimalBy 19 n
 
 -- AN ANSWER'S LINE: `Done`, `Value` and eight hexadecimal digits, `Absent`, `Refused` and a number; 10 ends the line
 abbrev pub newline : Bytes
-newline = 10 ∷ []
-
--- `Done`, `Value `, `Absent`, `Refused `
-abbrev pub doneLine : Bytes
-doneLine = 68 ∷ 111 ∷ 110 ∷ 101 ∷ 10 ∷ []
+newline = text "\n"
 
 abbrev pub valueWord : Bytes
-valueWord = 86 ∷ 97 ∷ 108 ∷ 117 ∷ 101 ∷ 32 ∷ []
-
-abbrev pub absentLine : Bytes
-absentLine = 65 ∷ 98 ∷ 115 ∷ 101 ∷ 110 ∷ 116 ∷ 10 ∷ []
+valueWord = text "Value "
 
 abbrev pub refusedWord : Bytes
-refusedWord = 82 ∷ 101 ∷ 102 ∷ 117 ∷ 115 ∷ 101 ∷ 100 ∷ 32 ∷ []
+refusedWord = text "Refused "
 
 unfoldable pub answerLine : Answer → Bytes
-answerLine Done = doneLine
+answerLine Done = text "Done\n"
 answerLine (Value v) = valueWord ++ (hex8 v ++ newline)
-answerLine Absent = absentLine
+answerLine Absent = text "Absent\n"
 answerLine (Refused n) = refusedWord ++ (decimal n ++ newline)

@@ -35,21 +35,21 @@ pub fn put_all(page: &mut [u8], at: usize, s: &[u8]) -> usize
 
 // ---- numbers
 
-pub fn hex_digit(d: u8) -> u8
+fn hex_digit(d: u8) -> u8
     requires { ⌜ d < 16 ⌝ }
     ensures { λ r. ⌜ r ≡ hexDigit d ⌝ }
 {
     if d < 10 { 48 + d } else { 55 + d }
 }
 
-pub fn put_hex2(page: &mut [u8], at: usize, v: u8) -> usize
+fn put_hex2(page: &mut [u8], at: usize, v: u8) -> usize
     ensures { λ r. ⌜ Wrote (now (page .entry)) at (hex2 v) (now (page .exit)) r ⌝ }
 {
     let mark = put(page, at, hex_digit(v / 16));
     put(page, mark, hex_digit(v % 16))
 }
 
-pub fn put_hex4(page: &mut [u8], at: usize, v: u16) -> usize
+fn put_hex4(page: &mut [u8], at: usize, v: u16) -> usize
     ensures { λ r. ⌜ Wrote (now (page .entry)) at (hex4 v) (now (page .exit)) r ⌝ }
 {
     let mark = put_hex2(page, at, (v / 256) as u8);
@@ -69,14 +69,14 @@ pub struct Decimal {
     pub from: usize,
 }
 
-fn last_digit(n: u64) -> u8
+pub fn last_digit(n: u64) -> u8
     ensures { λ r. ⌜ r ≡ 48 + n % 10 ⌝ }
 {
     (48 + n % 10) as u8
 }
 
 // The digits are found from the last one to the first.
-pub fn decimal_digits(n: u64) -> Decimal
+fn decimal_digits(n: u64) -> Decimal
     ensures { λ r. ⌜ drop (r .from) (r .bytes) ≡ decimal n ⌝ }
     ensures { λ r. ⌜ (r .from ≤ 20) × (20 ≡ length (r .bytes)) ⌝ }
 {
@@ -109,7 +109,7 @@ pub fn put_decimal(page: &mut [u8], at: usize, n: u64) -> usize
 
 // ---- answers
 
-pub fn put_value_line(page: &mut [u8], at: usize, v: u32) -> usize
+fn put_value_line(page: &mut [u8], at: usize, v: u32) -> usize
     ensures { λ r. ⌜ Wrote (now (page .entry)) at (valueWord ++ (hex8 v ++ newline)) (now (page .exit)) r ⌝ }
 {
     let word = put_all(page, at, b"Value ");
@@ -117,7 +117,7 @@ pub fn put_value_line(page: &mut [u8], at: usize, v: u32) -> usize
     put(page, digits, 10)
 }
 
-pub fn put_refused_line(page: &mut [u8], at: usize, n: u8) -> usize
+fn put_refused_line(page: &mut [u8], at: usize, n: u8) -> usize
     ensures { λ r. ⌜ Wrote (now (page .entry)) at (refusedWord ++ (decimal n ++ newline)) (now (page .exit)) r ⌝ }
 {
     let word = put_all(page, at, b"Refused ");

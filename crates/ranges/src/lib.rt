@@ -24,6 +24,19 @@ pub fn is_priority(n: u32) -> bool
     if n == 0 { false } else { is_slot(n - 1) }
 }
 
+// A number of one byte, and of four, as the place of a record in its table.
+pub fn index(n: u8) -> usize
+    ensures { λ r. ⌜ r ≡ n ⌝ }
+{
+    n as usize
+}
+
+pub fn wide_index(v: u32) -> usize
+    ensures { λ r. ⌜ r ≡ v ⌝ }
+{
+    v as usize
+}
+
 // The smaller, so that a part of a table is within it.
 pub fn least(a: usize, b: usize) -> usize
     ensures { λ r. ⌜ r ≡ min a b ⌝ }

@@ -1,8 +1,7 @@
 -- A loop that feeds characters up to a newline. Assumes nothing.
-use mathlib.Core.Path.{_≡_, refl, sym, ap, _∙_}
+use mathlib.Core.Path.{_≡_}
 use mathlib.Core.Logic.{_≢_}
-use mathlib.Core.List.{List, [], _∷_}
-use Prim.Native.Nat.{ℕ, suc, _+_, _≤_, _<_}
+use Prim.Native.Nat.{ℕ, _+_, _≤_, _<_}
 use native.Mathlib.Omega.{arith}
 use native.Mathlib.Numerals.{add-one}
 use lib.Dec.{eqb}
@@ -10,7 +9,7 @@ use lib.ListN.{length, drop, getD, drop-of-length-le}
 use lib.Seq.{drop-cons}
 use Rattle.lighting.specs.Choice.{if_then_else_}
 use Rattle.lighting.specs.Frames.{Bytes}
-use Rattle.lighting.proofs.Split.{eqb-hit, eqb-miss}
+use Rattle.lighting.proofs.Split.{eqb-miss}
 use Rattle.reading.specs.Reading.{feed, fedLine, lineLength}
 use Rattle.reading.specs.declared.Reader.{Reader}
 

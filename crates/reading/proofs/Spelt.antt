@@ -2,14 +2,13 @@
 -- as the first 26. Assumes nothing.
 use mathlib.Core.Path.{_≡_, refl, sym, ap, _∙_}
 use mathlib.Core.Logic.{_≢_}
-use mathlib.Core.Bool.{Bool, true, false, false≢true}
-use mathlib.Core.List.{List, [], _∷_, _++_, append-assoc, append-nil}
-use Prim.Native.Nat.{ℕ, zero, suc, _+_, _*_, _%_, _≤_, _<_, min}
+use mathlib.Core.Bool.{true, false, false≢true}
+use mathlib.Core.List.{[], _∷_, _++_, append-assoc, append-nil}
+use Prim.Native.Nat.{ℕ, zero, suc, _+_, _*_, _≤_, _<_}
 use native.Mathlib.Omega.{arith}
 use native.Mathlib.Numerals.{add-one}
-use lib.Dec.{leb, ltb, eqb}
-use lib.ListN.{length, take, set, length-set, length-take, length-append}
-use lib.Seq.{take-all, take-append-le, take-suc-set, length-take-le}
+use lib.ListN.{length, take, length-set, length-take, length-append}
+use lib.Seq.{take-all, take-append-le, take-suc-set}
 use Rattle.lighting.specs.Choice.{if_then_else_}
 use Rattle.lighting.specs.Frames.{Bytes}
 use Rattle.lighting.proofs.Split.{by-lt, eqb-miss, leb-yes, leb-no}

@@ -1,12 +1,11 @@
 -- The text of a list of frames, read one byte at a time. Only newlines are not fed: they end a line. Assumes nothing.
-use mathlib.Core.Bool.{Bool, true, false}
-use mathlib.Core.List.{List, [], _∷_}
+use mathlib.Core.Bool.{Bool, true}
+use mathlib.Core.List.{[], _∷_}
 use Prim.Native.Nat.{ℕ, suc, _+_, _-_, _*_, _%_, min}
-use lib.Dec.{ltb, leb, eqb}
+use lib.Dec.{ltb, eqb}
 use lib.ListN.{set, replicate, take}
 use Rattle.lighting.specs.Choice.{if_then_else_}
 use Rattle.lighting.specs.Frames.{Bytes}
-use Rattle.reading.specs.declared.Fault.{Fault}
 use Rattle.reading.specs.declared.Fault.the-variants.{NoOutputs, BadCount, NoDigit, HalfByte}
 use Rattle.reading.specs.declared.Held.{Held}
 use Rattle.reading.specs.declared.Held.the-variants.{Blank, Comment, Letters, Gap, Number, Trail, Whole, Half, Dash, Spoilt}

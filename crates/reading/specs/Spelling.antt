@@ -1,7 +1,7 @@
 -- Which texts spell which strings of bytes. Assumes nothing.
 use mathlib.Core.Path.{_≡_}
 use mathlib.Core.Bool.{true}
-use mathlib.Core.List.{List, [], _∷_}
+use mathlib.Core.List.{[], _∷_}
 use Prim.Native.Nat.{ℕ, _+_, _*_, _<_}
 use Rattle.lighting.specs.Frames.{Bytes}
 use Rattle.reading.specs.Reading.{isBlank}

@@ -59,7 +59,7 @@ pub struct Reader {
 // ---- characters
 
 // A blank, a tab, or the carriage return before a newline.
-pub fn is_blank(c: u8) -> bool
+fn is_blank(c: u8) -> bool
     ensures { λ r. ⌜ r ≡ isBlank c ⌝ }
 {
     if c == 32 {
@@ -72,7 +72,7 @@ pub fn is_blank(c: u8) -> bool
 }
 
 // What a hexadecimal digit of either case is worth, and 16 for any other character.
-pub fn hex_value(c: u8) -> u8
+fn hex_value(c: u8) -> u8
     ensures { λ r. ⌜ r ≡ hexValue c ⌝ }
 {
     if c < 48 {
@@ -93,7 +93,7 @@ pub fn hex_value(c: u8) -> u8
 }
 
 // The letter of `outputs` after the first k.
-pub fn letter(k: u8) -> u8
+fn letter(k: u8) -> u8
     ensures { λ r. ⌜ r ≡ letter k ⌝ }
 {
     if k == 1 {
@@ -113,7 +113,7 @@ pub fn letter(k: u8) -> u8
 
 // ---- what a line holds after one more character: c, worth v as a digit
 
-pub fn digit_held(v: u8) -> Held
+fn digit_held(v: u8) -> Held
     ensures { λ r. ⌜ r ≡ digitHeld v ⌝ }
 {
     if v < 16 {
@@ -124,7 +124,7 @@ pub fn digit_held(v: u8) -> Held
 }
 
 // The first character that is no blank.
-pub fn opened(outputs: u8, v: u8, c: u8) -> Held
+fn opened(outputs: u8, v: u8, c: u8) -> Held
     ensures { λ r. ⌜ r ≡ opened outputs v c ⌝ }
 {
     if is_blank(c) {
@@ -141,7 +141,7 @@ pub fn opened(outputs: u8, v: u8, c: u8) -> Held
 }
 
 // After k letters of `outputs`, where the next one is l.
-pub fn lettered(k: u8, l: u8, c: u8) -> Held
+fn lettered(k: u8, l: u8, c: u8) -> Held
     ensures { λ r. ⌜ r ≡ lettered k l c ⌝ }
 {
     if k < 7 {
@@ -157,13 +157,13 @@ pub fn lettered(k: u8, l: u8, c: u8) -> Held
     }
 }
 
-pub fn spelled(k: u8, c: u8) -> Held
+fn spelled(k: u8, c: u8) -> Held
     ensures { λ r. ⌜ r ≡ spelled k c ⌝ }
 {
     lettered(k, letter(k), c)
 }
 
-pub fn gapped(v: u8, c: u8) -> Held
+fn gapped(v: u8, c: u8) -> Held
     ensures { λ r. ⌜ r ≡ gapped v c ⌝ }
 {
     if v < 10 {
@@ -189,7 +189,7 @@ fn grown_held(n: u8, v: u8) -> Held
     Held::Number(grown(n, v))
 }
 
-pub fn numbered(n: u8, v: u8, c: u8) -> Held
+fn numbered(n: u8, v: u8, c: u8) -> Held
     ensures { λ r. ⌜ r ≡ numbered n v c ⌝ }
 {
     if v < 10 {
@@ -201,7 +201,7 @@ pub fn numbered(n: u8, v: u8, c: u8) -> Held
     }
 }
 
-pub fn trailed(n: u8, c: u8) -> Held
+fn trailed(n: u8, c: u8) -> Held
     ensures { λ r. ⌜ r ≡ trailed n c ⌝ }
 {
     if is_blank(c) {
@@ -211,7 +211,7 @@ pub fn trailed(n: u8, c: u8) -> Held
     }
 }
 
-pub fn byte_held(v: u8, c: u8) -> Held
+fn byte_held(v: u8, c: u8) -> Held
     ensures { λ r. ⌜ r ≡ byteHeld v c ⌝ }
 {
     if is_blank(c) {
@@ -221,7 +221,7 @@ pub fn byte_held(v: u8, c: u8) -> Held
     }
 }
 
-pub fn half_held(v: u8, c: u8) -> Held
+fn half_held(v: u8, c: u8) -> Held
     ensures { λ r. ⌜ r ≡ halfHeld v c ⌝ }
 {
     if v < 16 {
@@ -233,7 +233,7 @@ pub fn half_held(v: u8, c: u8) -> Held
     }
 }
 
-pub fn dashed(c: u8) -> Held
+fn dashed(c: u8) -> Held
     ensures { λ r. ⌜ r ≡ dashed c ⌝ }
 {
     if is_blank(c) {
@@ -243,7 +243,7 @@ pub fn dashed(c: u8) -> Held
     }
 }
 
-pub fn step(outputs: u8, h: Held, v: u8, c: u8) -> Held
+fn step(outputs: u8, h: Held, v: u8, c: u8) -> Held
     ensures { λ r. ⌜ r ≡ step outputs h v c ⌝ }
 {
     match h {
@@ -269,7 +269,7 @@ fn byte_pair(d: u8, v: u8) -> u8
     d % 16 * 16 + v % 16
 }
 
-pub fn push(w: Reader, x: u8) -> Reader
+fn push(w: Reader, x: u8) -> Reader
     ensures { λ r. ⌜ r ≡ pushed w x ⌝ }
 {
     let at = w.count;
@@ -289,13 +289,13 @@ pub fn push(w: Reader, x: u8) -> Reader
     }
 }
 
-pub fn join(w: Reader, d: u8, v: u8) -> Reader
+fn join(w: Reader, d: u8, v: u8) -> Reader
     ensures { λ r. ⌜ r ≡ joined w d v ⌝ }
 {
     push(w, byte_pair(d, v))
 }
 
-pub fn store(w: Reader, h: Held, v: u8) -> Reader
+fn store(w: Reader, h: Held, v: u8) -> Reader
     ensures { λ r. ⌜ r ≡ storedBy w h v ⌝ }
 {
     match h {
@@ -312,7 +312,7 @@ pub fn store(w: Reader, h: Held, v: u8) -> Reader
     }
 }
 
-pub fn with_held(w: Reader, h: Held) -> Reader
+fn with_held(w: Reader, h: Held) -> Reader
     ensures { λ r. ⌜ r ≡ withHeld w h ⌝ }
 {
     let bytes = w.bytes;
@@ -325,7 +325,7 @@ pub fn with_held(w: Reader, h: Held) -> Reader
     }
 }
 
-pub fn feed(w: Reader, c: u8) -> Reader
+fn feed(w: Reader, c: u8) -> Reader
     ensures { λ r. ⌜ r ≡ feed w c ⌝ }
 {
     let h = w.held;
@@ -363,7 +363,7 @@ pub fn feed_line(w: Reader, s: &[u8], from: usize) -> Fed
 
 // ---- a line's end
 
-pub fn count_line(n: u8) -> Line
+fn count_line(n: u8) -> Line
     ensures { λ r. ⌜ r ≡ countLine n ⌝ }
 {
     if n == 0 {

@@ -1,7 +1,6 @@
 // The report for people.
 ghost use mathlib.Core.Path.{_≡_};
-ghost use mathlib.Core.List.{_++_};
-ghost use Prim.Native.Nat.{_+_, _*_, _/_, _%_};
+ghost use Prim.Native.Nat.{_*_, _/_, _%_};
 ghost use Rattle.printing.specs.Page.{Wrote};
 ghost use Rattle.report.specs.Report.{digit, twoDigits, threeDigits, lead, aligned, percent, minutes, moment, lasting, light, operationName, until, activityText, timerText, lightFields, levelFields, timeFields, wayFields, reportLine, reportHead};
 use lighting::Activity;
@@ -14,16 +13,10 @@ use printing::put_decimal;
 
 // ---- numbers
 
-fn last_digit(n: u64) -> u8
-    ensures { λ r. ⌜ r ≡ 48 + n % 10 ⌝ }
-{
-    (48 + n % 10) as u8
-}
-
 fn put_digit(page: &mut [u8], at: usize, n: u64) -> usize
     ensures { λ r. ⌜ Wrote (now (page .entry)) at (digit n) (now (page .exit)) r ⌝ }
 {
-    put(page, at, last_digit(n))
+    put(page, at, printing::last_digit(n))
 }
 
 fn put_two(page: &mut [u8], at: usize, n: u64) -> usize

@@ -1,6 +1,6 @@
 // The record rules, as the test that is made of every lent record. Slots are counted from 0: slot 6 is 5.
 ghost use mathlib.Core.Path.{_≡_};
-ghost use Prim.Native.Nat.{_<_, _≤_};
+ghost use Prim.Native.Nat.{_<_};
 ghost use Rattle.lighting.specs.Parameters.{standard};
 ghost use Rattle.lighting.specs.Rules.{isLevel, levelsSound, timesSound, isAmount, realsSound, settingsSound, slotSound, slotsSoundFrom, spanSound, movementSound, blinkSound, delaySound, activityBy, activitySound, timerSound, sound};
 use lighting::Activity;
@@ -11,6 +11,7 @@ use lighting::Slots;
 use lighting::Timer;
 use ranges::is_slot;
 use ranges::is_within;
+use ranges::wide_index;
 
 // A day, in milliseconds: the longest fade, blink time, blink delay and movement.
 const DAY: u32 = 86400000;
@@ -18,7 +19,7 @@ const DAY: u32 = 86400000;
 // ---- settings
 
 // 0, or 1 to 100 percent.
-pub fn is_level(v: u32) -> bool
+fn is_level(v: u32) -> bool
     ensures { λ r. ⌜ r ≡ isLevel v ⌝ }
 {
     if v == 0 {
@@ -77,7 +78,7 @@ fn reals_sound(c: Settings) -> bool
     }
 }
 
-pub fn settings_sound(c: Settings) -> bool
+fn settings_sound(c: Settings) -> bool
     ensures { λ r. ⌜ r ≡ settingsSound standard c ⌝ }
 {
     if levels_sound(c) {
@@ -123,12 +124,6 @@ fn slots_sound_from(s: Slots, from: usize) -> bool
     true
 }
 
-fn wide(x: u32) -> usize
-    ensures { λ r. ⌜ r ≡ x ⌝ }
-{
-    x as usize
-}
-
 // Slots before the winner are empty. Of most outputs at most slot 16, that of the commands, is live, and the test begins with it; a loop over
 // all sixteen is the faster one for the others.
 fn slots_sound(s: Slots) -> bool
@@ -136,7 +131,7 @@ fn slots_sound(s: Slots) -> bool
 {
     let w = slots::winning(s);
     if 15 <= w {
-        slots_sound_from(s, wide(w))
+        slots_sound_from(s, wide_index(w))
     } else {
         slots_sound_from(s, 0)
     }
@@ -183,11 +178,15 @@ fn movement_sound(t: u64, w: u32, high: u32, v: u32, m: Movement) -> bool
 }
 
 // A warning's own slot is 7 to 16, and its Y a slot level.
-fn blink_sound(t: u64, owner: u8, level: u32, turn: u64) -> bool
-    ensures { λ r. ⌜ r ≡ blinkSound t owner level turn ⌝ }
+fn blink_sound(t: u64, owner: u8, level: u32, turn: u64, over: u64) -> bool
+    ensures { λ r. ⌜ r ≡ blinkSound t owner level turn over ⌝ }
 {
     if is_within(6, 15, owner as u32) {
-        if is_level(level) { t < turn } else { false }
+        if is_level(level) {
+            if t < turn { turn <= over } else { false }
+        } else {
+            false
+        }
     } else {
         false
     }
@@ -218,9 +217,9 @@ fn activity_by(t: u64, l: bool, w: u32, high: u32, v: u32, a: Activity) -> bool
             owner,
             level,
             turn,
-            over: _,
+            over,
         } => if l {
-            blink_sound(t, owner, level, turn)
+            blink_sound(t, owner, level, turn, over)
         } else {
             false
         },

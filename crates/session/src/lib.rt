@@ -19,12 +19,6 @@ struct Turn {
     good: bool,
 }
 
-fn wide(n: u8) -> usize
-    ensures { λ r. ⌜ r ≡ n ⌝ }
-{
-    n as usize
-}
-
 // ---- the list
 
 // The lines that end in these bytes are taken. A page that is full is written out on the way.
@@ -144,7 +138,7 @@ fn put_end(
     line: u64,
     r: Reader,
 ) -> usize {
-    let named = wide(r.outputs);
+    let named = ranges::index(r.outputs);
     if named == 0 {
         faults::put_ended(page, mark, line)
     } else {

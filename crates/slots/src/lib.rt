@@ -21,19 +21,19 @@ pub fn is_live(s: Slots, i: u8) -> bool
     }
 }
 
-pub fn mask_empty(live: u16, i: u8) -> u16
+fn mask_empty(live: u16, i: u8) -> u16
     ensures { λ r. ⌜ r ≡ maskEmptied live i ⌝ }
 {
     if i < 16 { live & !(1u16 << i) } else { live }
 }
 
-pub fn mask_fill(live: u16, i: u8) -> u16
+fn mask_fill(live: u16, i: u8) -> u16
     ensures { λ r. ⌜ r ≡ maskFilled live i ⌝ }
 {
     if i < 16 { live | (1u16 << i) } else { live }
 }
 
-pub fn level_set(levels: [u32; 16], i: u8, v: u32) -> [u32; 16]
+fn level_set(levels: [u32; 16], i: u8, v: u32) -> [u32; 16]
     ensures { λ r. ⌜ r ≡ levelSet levels i v ⌝ }
 {
     let mut l = levels;

@@ -4,7 +4,7 @@ use mathlib.Core.Path.{_≡_, refl, sym, ap, _∙_}
 use mathlib.Core.Logic.{_≢_}
 use mathlib.Core.Bool.{Bool, true, false}
 use mathlib.Core.List.{List, [], _∷_, _++_}
-use Prim.Native.Nat.{ℕ, zero, suc, _+_, _-_, _≤_, _<_, min}
+use Prim.Native.Nat.{ℕ, zero, suc, _+_, _-_, _≤_, _<_}
 use native.Mathlib.Numerals.{add-one}
 use native.Mathlib.Omega.{arith}
 use lib.Dec.{eqb}
@@ -13,7 +13,8 @@ use lib.Seq.{take-all, drop-cons, getD-take}
 use Rattle.lighting.specs.Choice.{if_then_else_, _also_}
 use Rattle.lighting.specs.Field.{byteAt}
 use Rattle.lighting.specs.Frames.{kindLength}
-use Rattle.lighting.specs.Panel.{padded, restored, sameBytes}
+use Rattle.lighting.specs.Copies.{sameBytes}
+use Rattle.lighting.specs.Panel.{padded, restored}
 use Rattle.lighting.proofs.Split.{by-bool, eqb-hit, eqb-miss}
 use Rattle.lighting.proofs.Lengths.{length-most}
 

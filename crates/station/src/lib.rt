@@ -5,7 +5,8 @@ ghost use lib.ListN.{length};
 ghost use Rattle.lighting.specs.Parameters.{standard};
 ghost use Rattle.lighting.specs.Fresh.{freshSettings, freshOutput, freshStation};
 ghost use Rattle.lighting.specs.Rules.{stationSound};
-ghost use Rattle.lighting.specs.Panel.{countsSound, padded, restored, sameBytes, copyOr6, metNumber, met, stationOf, metBy};
+ghost use Rattle.lighting.specs.Copies.{sameBytes, copyOr6};
+ghost use Rattle.lighting.specs.Panel.{countsSound, padded, restored, metNumber, stationOf, metBy};
 use lighting::Activity;
 use lighting::Answer;
 use lighting::Command;
@@ -22,7 +23,7 @@ use lighting::Verdict;
 
 // ---- fresh records
 
-pub fn fresh_settings() -> Settings
+fn fresh_settings() -> Settings
     ensures { λ r. ⌜ r ≡ freshSettings ⌝ }
 {
     Settings {
@@ -102,7 +103,7 @@ pub fn station_sound(k: Station) -> bool
 // ---- a frame as a station keeps it
 
 // In 25 bytes, the longest of all kinds, zeros after its own.
-pub fn pad(b: &[u8]) -> [u8; 25]
+fn pad(b: &[u8]) -> [u8; 25]
     requires { ⌜ length (now b) ≤ 25 ⌝ }
     ensures { λ r. ⌜ r ≡ padded (now (b .entry)) ⌝ }
 {
@@ -115,17 +116,11 @@ pub fn pad(b: &[u8]) -> [u8; 25]
     f
 }
 
-fn wide(x: u32) -> usize
-    ensures { λ r. ⌜ r ≡ x ⌝ }
-{
-    x as usize
-}
-
 // Whether the bytes are those that the record keeps: as many as its kind has, and each the same.
-pub fn same_frame(b: &[u8], f: [u8; 25]) -> bool
+fn same_frame(b: &[u8], f: [u8; 25]) -> bool
     ensures { λ r. ⌜ r ≡ sameBytes (now (b .entry)) (restored f) ⌝ }
 {
-    let n = wide(kinds::kind_length(f[0]));
+    let n = ranges::wide_index(kinds::kind_length(f[0]));
     if b.len() != n {
         return false;
     }

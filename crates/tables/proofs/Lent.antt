@@ -6,4 +6,4 @@ pub mod stations_sound
 pub mod advance_output
 pub mod advance_outputs
 pub mod serve
-pub mod judge
+pub mod decide

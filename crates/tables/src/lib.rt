@@ -17,12 +17,6 @@ use lighting::Request;
 use lighting::Station;
 use lighting::Verdict;
 
-pub fn wide(x: u8) -> usize
-    ensures { λ r. ⌜ r ≡ x ⌝ }
-{
-    x as usize
-}
-
 // ---- each record of a table
 
 pub fn fresh_outputs(outputs: &mut [Output])
@@ -109,26 +103,26 @@ pub fn advance_outputs(outputs: &mut [Output], from: u64, to: u64)
 // ---- one record of a table
 
 // The output is taken out, acted on, and put back.
-pub fn serve(outputs: &mut [Output], t: u64, s: u8, i: usize, r: Request) -> Answer
-    requires { ⌜ t < 2 ^ 48 ⌝ }
-    requires { ⌜ i < length (now outputs) ⌝ }
-    ensures { λ a. ⌜ a ≡ served t (now (outputs .entry)) s i r .answer ⌝ }
-    ensures { λ _. ⌜ now (outputs .exit) ≡ served t (now (outputs .entry)) s i r .outputs ⌝ }
+pub fn serve(outputs: &mut [Output], time: u64, station: u8, at: usize, request: Request) -> Answer
+    requires { ⌜ time < 2 ^ 48 ⌝ }
+    requires { ⌜ at < length (now outputs) ⌝ }
+    ensures { λ a. ⌜ a ≡ served time (now (outputs .entry)) station at request .answer ⌝ }
+    ensures { λ _. ⌜ now (outputs .exit) ≡ served time (now (outputs .entry)) station at request .outputs ⌝ }
 {
-    let o = outputs[i];
-    let done = acting::act(t, o, r);
+    let o = outputs[at];
+    let done = acting::act(time, o, request);
     let n = acting::outcome_output(done);
-    outputs[i] = n;
+    outputs[at] = n;
     acting::outcome_answer(done)
 }
 
 // What is to be done with the bytes, by the record of the station that they name.
-pub fn judge(outputs: &[Output], stations: &[Station], t: u64, bytes: &[u8]) -> Verdict
-    requires { ⌜ length (now stations) ≡ 8 ⌝ }
-    ensures { λ v. ⌜ v ≡ decide standard (lent (now (outputs .entry)) (now (stations .entry)) t) (now (bytes .entry)) ⌝ }
+pub fn decide(outputs: &[Output], stations: &[Station], time: u64, bytes: &[u8]) -> Verdict
+    requires { ⌜ length (now stations) ≡ standard .stations ⌝ }
+    ensures { λ v. ⌜ v ≡ decide standard (lent (now (outputs .entry)) (now (stations .entry)) time) (now (bytes .entry)) ⌝ }
 {
     let f = frame::parse(outputs.len(), bytes);
-    let s = wide(station::station_of(f));
-    let k = stations[s];
-    station::met_by(t, k, bytes, f)
+    let at = ranges::index(station::station_of(f));
+    let record = stations[at];
+    station::met_by(time, record, bytes, f)
 }

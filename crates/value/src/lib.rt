@@ -52,7 +52,7 @@ pub fn is_lit(c: Settings, s: Slots) -> bool
 // ---- a movement
 
 // The milliseconds of a movement that have gone by: its length less what is left of it, so at most its length.
-pub fn elapsed(t: u64, m: Movement) -> u32
+fn elapsed(t: u64, m: Movement) -> u32
     ensures { λ r. ⌜ r ≡ elapsed t m ⌝ }
 {
     since(since(t, m.over), m.length as u64) as u32
@@ -100,7 +100,7 @@ fn reached_by(m: Movement, k: u32) -> u32
     }
 }
 
-pub fn reached(t: u64, m: Movement) -> u32
+fn reached(t: u64, m: Movement) -> u32
     ensures { λ r. ⌜ r ≡ reached t m ⌝ }
 {
     reached_by(m, elapsed(t, m))
@@ -108,7 +108,7 @@ pub fn reached(t: u64, m: Movement) -> u32
 
 // ---- Progress_Value and In_Process
 
-pub fn progress_by(t: u64, v: u32, a: Activity) -> u32
+fn progress_by(t: u64, v: u32, a: Activity) -> u32
     ensures { λ r. ⌜ r ≡ progressBy t v a ⌝ }
 {
     match a {

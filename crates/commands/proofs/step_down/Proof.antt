@@ -4,8 +4,8 @@ use borrow.Author.Needs.{needs}
 use Rattle.commands.proofs.step_down.Statement.{statement}
 use Rattle.commands.proofs.step_down.Tie as tie
 
-rate-of-requires : tie.Need-rate-of-requires
-rate-of-requires c κs = search needs
+amount-units-requires : tie.Need-amount-units-requires
+amount-units-requires c κs = search needs
 
 step-down-from-requires : tie.Need-step-down-from-requires
 step-down-from-requires c κs = search needs
@@ -15,8 +15,8 @@ jump-requires c κs = search needs
 
 returns : tie.Need-returns
 unfolding steppedDown
-returns c = simp (c .jump .ensures, c .before .step-down-from .ensures, c .before .before .rate-of .ensures .0)
+returns c = simp (c .jump .ensures, c .before .step-down-from .ensures, c .before .before .amount-units .ensures .0)
 
 pub step-down-spec : {M : Type 1} → statement M
 step-down-spec =
-    tie.close (tie.spec rate-of-requires step-down-from-requires jump-requires returns)
+    tie.close (tie.spec amount-units-requires step-down-from-requires jump-requires returns)

@@ -4,8 +4,8 @@ use borrow.Author.Needs.{needs}
 use Rattle.commands.proofs.step_up.Statement.{statement}
 use Rattle.commands.proofs.step_up.Tie as tie
 
-rate-of-requires : tie.Need-rate-of-requires
-rate-of-requires c κs = search needs
+amount-units-requires : tie.Need-amount-units-requires
+amount-units-requires c κs = search needs
 
 step-up-from-requires : tie.Need-step-up-from-requires
 step-up-from-requires c κs = search needs
@@ -15,7 +15,7 @@ jump-requires c κs = search needs
 
 returns : tie.Need-returns
 unfolding steppedUp
-returns c = simp (c .jump .ensures, c .before .step-up-from .ensures, c .before .before .rate-of .ensures .0)
+returns c = simp (c .jump .ensures, c .before .step-up-from .ensures, c .before .before .amount-units .ensures .0)
 
 pub step-up-spec : {M : Type 1} → statement M
-step-up-spec = tie.close (tie.spec rate-of-requires step-up-from-requires jump-requires returns)
+step-up-spec = tie.close (tie.spec amount-units-requires step-up-from-requires jump-requires returns)

@@ -1,9 +1,6 @@
 mod Lts
 mod Tie
-use Rattle.lighting.specs.Panel.{Panel, lent}
 use Rattle.reading.specs.Reading.{content}
-use Rattle.printing.specs.Writing.{answerLine}
-use Rattle.line.specs.Taking.{sent}
 use borrow.Author.Needs.{needs}
 use Rattle.line.proofs.answer.Statement.{statement}
 use Rattle.line.proofs.answer.Proof.Tie as tie

@@ -1,10 +1,10 @@
 mod Lts
 mod Tie
-use mathlib.Core.Path.{_≡_}
+use mathlib.Core.Path.{_≡_, ap}
 use Prim.Native.Nat.{_-_, min}
 use lib.ListN.{length, take}
 use Rattle.lighting.specs.Parameters.{standard}
-use Rattle.lighting.specs.Panel.{Panel, framed}
+use Rattle.lighting.specs.Panel.{Panel, Step, lent, framed}
 use Rattle.line.specs.Taking.{sent}
 use Rattle.line.proofs.Named.{part-taken, part-joined}
 use borrow.Author.Needs.{needs}
@@ -13,8 +13,8 @@ use Rattle.line.proofs.frame.Proof.Tie as tie
 use Rattle.line.proofs.Lent.frame.Reads as reads
 use Rattle.line.proofs.frame.Proof.Lts as lts
 
-wide-requires : tie.Need-wide-requires
-wide-requires c κs = search needs
+index-requires : tie.Need-index-requires
+index-requires c κs = search needs
 
 least-requires : tie.Need-least-requires
 least-requires c κs = search needs
@@ -56,17 +56,17 @@ returns c =
     let k = c .before .before .before .before .before .before .before .before .before .least .result in
     let h = c .before .before .before .before .before .before .before .least2 .result in
     let f = c .before .before .frame in
-    let e : k ≡ min (a .n) (length (a .outputs .now)) = rw (← c .before .before .before .before .before .before .before .before .before .before .wide .ensures) (c .before .before .before .before .before .before .before .before .before .least .ensures) in
+    let e : k ≡ min (a .n) (length (a .outputs .now)) = rw (← c .before .before .before .before .before .before .before .before .before .before .index .ensures) (c .before .before .before .before .before .before .before .before .before .least .ensures) in
     let d : take (h - 0) (a .bytes .now) ≡ take (a .count) (a .bytes .now) = part-taken (a .count) h (a .bytes .now) (c .before .before .before .before .before .before .before .least2 .ensures) in (
-      rw (← part-taken (a .n) k (a .outputs .now) e, ← d) (f .ensures .0),
-      rw (← d) (part-joined (λ (p : Panel). framed standard p (take (h - 0) (a .bytes .now)) .panel) (a .n) k (a .outputs .now) (a .stations .now) (a .time .now) (f .last .0) (f .last .1 .0) (f .last .1 .1 .0) e (f .ensures .1 .0) (f .ensures .1 .1 .0) (f .ensures .1 .1 .1)),
+      rw (← part-taken (a .n) k (a .outputs .now) e, ← d) (ap (λ (x : Step). x .answer) (f .ensures)),
+      rw (← d) (part-joined (λ (p : Panel). framed standard p (take (h - 0) (a .bytes .now)) .panel) (a .n) k (a .outputs .now) (a .stations .now) (a .time .now) (lent (f .last .0) (f .last .1 .0) (f .last .1 .1 .0)) e (ap (λ (x : Step). x .panel) (f .ensures))),
     )
 
 pub frame-spec : {M : Type 1} → statement M
 frame-spec =
     tie.close
     (tie.spec
-    wide-requires
+    index-requires
     least-requires
     least-requires-2
     sub-frame

@@ -1,10 +1,10 @@
 mod Lts
 mod Tie
-use mathlib.Core.Path.{_≡_}
+use mathlib.Core.Path.{_≡_, ap}
 use Prim.Native.Nat.{min}
 use lib.ListN.{length}
 use Rattle.lighting.specs.Parameters.{standard}
-use Rattle.lighting.specs.Panel.{Panel, started}
+use Rattle.lighting.specs.Panel.{Panel, Step, lent, started}
 use Rattle.line.specs.Taking.{begun}
 use Rattle.line.proofs.Named.{part-joined}
 use borrow.Author.Needs.{needs}
@@ -13,8 +13,8 @@ use Rattle.line.proofs.start.Proof.Tie as tie
 use Rattle.line.proofs.Lent.start.Reads as reads
 use Rattle.line.proofs.start.Proof.Lts as lts
 
-wide-requires : tie.Need-wide-requires
-wide-requires c κs = search needs
+index-requires : tie.Need-index-requires
+index-requires c κs = search needs
 
 least-requires : tie.Need-least-requires
 least-requires c κs = search needs
@@ -43,14 +43,14 @@ returns c =
     let a = c .before .before .before .before .before .before .before .before .args in
     let k = c .before .before .before .before .before .before .least .result in
     let s = c .before .before .start in
-    let e : k ≡ min (a .n) (length (a .outputs .now)) = rw (← c .before .before .before .before .before .before .before .wide .ensures) (c .before .before .before .before .before .before .least .ensures) in
-    part-joined (λ (p : Panel). started standard p .panel) (a .n) k (a .outputs .now) (a .stations .now) (a .time .now) (s .last .0) (s .last .1 .0) (s .last .1 .1 .0) e (s .ensures .1 .0) (s .ensures .1 .1 .0) (s .ensures .1 .1 .1)
+    let e : k ≡ min (a .n) (length (a .outputs .now)) = rw (← c .before .before .before .before .before .before .before .index .ensures) (c .before .before .before .before .before .before .least .ensures) in
+    part-joined (λ (p : Panel). started standard p .panel) (a .n) k (a .outputs .now) (a .stations .now) (a .time .now) (lent (s .last .0) (s .last .1 .0) (s .last .1 .1 .0)) e (ap (λ (x : Step). x .panel) (s .ensures))
 
 pub start-spec : {M : Type 1} → statement M
 start-spec =
     tie.close
     (tie.spec
-    wide-requires
+    index-requires
     least-requires
     sub-start
     part-start-start

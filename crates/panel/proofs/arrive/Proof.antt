@@ -1,6 +1,6 @@
 mod Lts
 mod Tie
-use mathlib.Core.Path.{_≡_, refl, sym, ap, _∙_}
+use mathlib.Core.Path.{refl, ap}
 use native.Mathlib.Omega.{arith}
 use lib.ListN.{length, length-map}
 use Rattle.lighting.specs.Passing.{advance}
@@ -14,26 +14,26 @@ use Rattle.panel.proofs.arrive.Proof.Lts as lts
 advance-outputs-requires : tie.Need-advance-outputs-requires
 advance-outputs-requires c κs = (c .before .before .before .pre .0, c .before .before .before .pre .1 .moment .due)
 
-wide-requires : tie.Need-wide-requires
-wide-requires c κs = search needs
+index-requires : tie.Need-index-requires
+index-requires c κs = search needs
 
 serve-requires : tie.Need-serve-requires
 serve-requires c κs =
     let p = c .before .before .before .before .before .before .before .pre .1 in
     let a = c .before .before .before .before .before .before .before .args in
-    (p .moment .time, omega (arith, p .output, ap length (c .before .before .before .advance-outputs .ensures), length-map (a .outputs .now) (advance (a .time .now) (a .t))))
+    (p .moment .time, omega (arith, p .output, ap length (c .before .before .before .advance-outputs .ensures), length-map (a .outputs .now) (advance (a .time .now) (a .moment))))
 
 kept-station-requires : tie.Need-kept-station-requires
 kept-station-requires c κs = search needs
 
-wide-requires-2 : tie.Need-wide-requires-2
-wide-requires-2 c κs = search needs
+index-requires-2 : tie.Need-index-requires-2
+index-requires-2 c κs = search needs
 
-mul-k : tie.Need-mul-k
-mul-k c = search needs
+mul-record : tie.Need-mul-record
+mul-record c = search needs
 
-slice-set-from-k : tie.Need-slice-set-from-k
-slice-set-from-k c = search needs
+slice-set-from-record : tie.Need-slice-set-from-record
+slice-set-from-record c = search needs
 
 same-length : tie.Need-same-length
 same-length c = search needs
@@ -44,19 +44,26 @@ same-length-2 c = search needs
 returns : tie.Need-returns
 unfolding carried
 returns c =
-    (simp (c .before .before .before .serve .ensures .0, c .before .before .before .before .wide .ensures, c .before .before .before .before .before .before .before .advance-outputs .ensures), (simp (c .before .before .before .serve .ensures .1, c .before .before .before .before .wide .ensures, c .before .before .before .before .before .before .before .advance-outputs .ensures), (simp (c .wide2 .ensures, c .before .kept-station .ensures, c .before .before .before .serve .ensures .0, c .before .before .before .before .wide .ensures, c .before .before .before .before .before .before .before .advance-outputs .ensures), refl)))
+    simp (
+      c .index2 .ensures,
+      c .before .kept-station .ensures,
+      c .before .before .before .serve .ensures .0,
+      c .before .before .before .serve .ensures .1,
+      c .before .before .before .before .index .ensures,
+      c .before .before .before .before .before .before .before .advance-outputs .ensures,
+    )
 
 pub arrive-spec : {M : Type 1} → statement M
 arrive-spec =
     tie.close
     (tie.spec
     advance-outputs-requires
-    wide-requires
+    index-requires
     serve-requires
     kept-station-requires
-    wide-requires-2
-    mul-k
-    slice-set-from-k
+    index-requires-2
+    mul-record
+    slice-set-from-record
     same-length
     same-length-2
     returns)

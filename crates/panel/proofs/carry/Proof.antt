@@ -1,9 +1,7 @@
 mod Lts
 mod Tie
 use Rattle.lighting.specs.Panel.{lent}
-use Rattle.lighting.proofs.Carried.{four}
-use mathlib.Core.Path.{_≡_, refl, sym, ap, _∙_}
-use native.Mathlib.Omega.{arith}
+use mathlib.Core.Path.{sym, ap, _∙_}
 use Rattle.lighting.specs.Panel.{carried}
 use borrow.Author.Needs.{needs}
 use Rattle.panel.proofs.carry.Statement.{statement}
@@ -33,13 +31,13 @@ returns : tie.Need-returns
 unfolding carried
 returns c =
     let a = c .before .before .before .before .args in
-    four _ _ _ _ _ _ (ap (carried (a .bytes .now) (lent (a .outputs .now) (a .stations .now) (a .time .now))) (c .before .v .given .1)) refl refl refl refl
+    sym (ap (carried (a .bytes .now) (lent (a .outputs .now) (a .stations .now) (a .time .now))) (c .before .v .given .1))
 
 returns-2 : tie.Need-returns-2
 unfolding carried
 returns-2 c =
     let a = c .before .before .before .before .args in
-    four _ _ _ _ _ _ (ap (carried (a .bytes .now) (lent (a .outputs .now) (a .stations .now) (a .time .now))) (c .before .v2 .given .1)) refl refl refl refl
+    sym (ap (carried (a .bytes .now) (lent (a .outputs .now) (a .stations .now) (a .time .now))) (c .before .v2 .given .1))
 
 same-length : tie.Need-same-length
 same-length c = search needs
@@ -48,7 +46,7 @@ returns-3 : tie.Need-returns-3
 unfolding carried
 returns-3 c =
     let a = c .before .before .before .before .before .before .before .before .args in
-    four _ _ _ _ _ _ (ap (carried (a .bytes .now) (lent (a .outputs .now) (a .stations .now) (a .time .now))) (c .before .before .before .before .before .v3 .given .1)) refl (c .before .advance-outputs .ensures) refl refl
+    rw (c .before .advance-outputs .ensures) (sym (ap (carried (a .bytes .now) (lent (a .outputs .now) (a .stations .now) (a .time .now))) (c .before .before .before .before .before .v3 .given .1)))
 
 same-length-2 : tie.Need-same-length-2
 same-length-2 c = search needs
@@ -58,9 +56,8 @@ same-length-3 c = search needs
 
 returns-4 : tie.Need-returns-4
 returns-4 c =
-    let e = c .before .before .arrive .ensures in
     let a = c .before .before .before .before .before .before .before .before .before .before .args in
-    four _ _ _ _ _ _ (ap (carried (a .bytes .now) (lent (a .outputs .now) (a .stations .now) (a .time .now))) (c .before .before .before .before .before .before .before .v4 .given .1)) (e .0) (e .1 .0) (e .1 .1 .0) (e .1 .1 .1)
+    c .before .before .arrive .ensures ∙ sym (ap (carried (a .bytes .now) (lent (a .outputs .now) (a .stations .now) (a .time .now))) (c .before .before .before .before .before .before .before .v4 .given .1))
 
 pub carry-spec : {M : Type 1} → statement M
 carry-spec =

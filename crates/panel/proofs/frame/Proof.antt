@@ -1,12 +1,11 @@
 mod Lts
 mod Tie
 use Prim.Native.Nat.{ℕ}
-use mathlib.Core.Path.{_≡_, refl, sym, ap, _∙_}
+use mathlib.Core.Path.{sym, ap, _∙_}
 use native.Mathlib.Omega.{arith}
 use borrow.Author.Tests.{not-true, not-false}
-use Rattle.lighting.specs.Parameters.{standard}
-use Rattle.lighting.specs.Panel.{lent, decide, carried}
-use Rattle.lighting.proofs.Carried.{four, framed-refused, framed-carried, sound-stations, sound-outputs, octets, decide-sure}
+use Rattle.lighting.specs.Panel.{lent, carried}
+use Rattle.lighting.proofs.Carried.{framed-refused, framed-carried, sound-stations, sound-outputs, octets, decide-sure}
 use borrow.Author.Needs.{needs}
 use Rattle.panel.proofs.frame.Statement.{statement}
 use Rattle.panel.proofs.frame.Proof.Tie as tie
@@ -25,10 +24,10 @@ same-length-2 c = search needs
 returns : tie.Need-returns
 returns c =
     let a = c .before .before .before .before .before .before .args in
-    four _ _ _ _ _ _ (framed-refused (lent (a .outputs .now) (a .stations .now) (a .time .now)) (a .bytes .now) (sym (c .before .panel-sound .ensures) ∙ not-true _ (c .if1 .taken))) refl refl refl refl
+    sym (framed-refused (lent (a .outputs .now) (a .stations .now) (a .time .now)) (a .bytes .now) (sym (c .before .panel-sound .ensures) ∙ not-true _ (c .if1 .taken)))
 
-judge-requires : tie.Need-judge-requires
-judge-requires c κs =
+decide-requires : tie.Need-decide-requires
+decide-requires c κs =
     let b = c .before .before in
     sound-stations _ (sym (b .before .panel-sound .ensures) ∙ not-false _ (b .if1 .left))
 
@@ -37,7 +36,7 @@ carry-requires c κs =
     let a = c .before .before .before .before .before .before .before .before .before .before .before .before .args in
     let e = lent (a .outputs .now) (a .stations .now) (a .time .now) in
     let p = sym (c .before .before .before .before .before .before .before .panel-sound .ensures) ∙ not-false _ (c .before .before .before .before .before .before .if1 .left) in
-    (sound-outputs e p, rw (c .before .before .before .judge .ensures) (decide-sure e (a .bytes .now) (octets (a .bytes .now) (λ (i : ℕ). omega (arith, c .before .before .before .before .before .before .before .before .before .before .before .shared-slice-known .given i))) p))
+    (sound-outputs e p, rw (c .before .before .before .decide .ensures) (decide-sure e (a .bytes .now) (octets (a .bytes .now) (λ (i : ℕ). omega (arith, c .before .before .before .before .before .before .before .before .before .before .before .shared-slice-known .given i))) p))
 
 same-length-3 : tie.Need-same-length-3
 same-length-3 c = search needs
@@ -50,10 +49,9 @@ returns-2 c =
     let a = c .before .before .before .before .before .before .before .before .before .before .before .before .before .before .before .args in
     let e = lent (a .outputs .now) (a .stations .now) (a .time .now) in
     let p = sym (c .before .before .before .before .before .before .before .before .before .before .panel-sound .ensures) ∙ not-false _ (c .before .before .before .before .before .before .before .before .before .if1 .left) in
-    let w = c .before .before .carry .ensures in
-    four _ _ _ _ _ _
-    (framed-carried e (a .bytes .now) p ∙ sym (ap (carried (a .bytes .now) e) (c .before .before .before .before .before .before .judge .ensures)))
-    (w .0) (w .1 .0) (w .1 .1 .0) (w .1 .1 .1)
+    c .before .before .carry .ensures
+    ∙ ap (carried (a .bytes .now) e) (c .before .before .before .before .before .before .decide .ensures)
+    ∙ sym (framed-carried e (a .bytes .now) p)
 
 pub frame-spec : {M : Type 1} → statement M
 frame-spec =
@@ -63,7 +61,7 @@ frame-spec =
     same-length
     same-length-2
     returns
-    judge-requires
+    decide-requires
     carry-requires
     same-length-3
     same-length-4

@@ -2,7 +2,6 @@ use native.Mathlib.Omega.{arith}
 use Rattle.lighting.specs.Choice.{if_then_else_}
 use Rattle.properties.proofs.Keys.{missed, propertyOf-on, propertyOf-slot, propertyOf-between, propertyOf-above}
 use borrow.Author.Needs.{needs}
-use Rattle.lighting.proofs.Choosing.{ifs}
 use Rattle.lighting.specs.Properties.{propertyOf}
 use Rattle.properties.proofs.property_of.Statement.{statement}
 use Rattle.properties.proofs.property_of.Tie as tie

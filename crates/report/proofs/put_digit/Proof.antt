@@ -4,7 +4,7 @@ use Rattle.report.proofs.put_digit.Statement.{statement}
 use Rattle.report.proofs.put_digit.Tie as tie
 use Rattle.report.proofs.put_digit.Reads as reads
 use Rattle.report.proofs.put_digit.Lts as lts
-use Rattle.report.proofs.last_digit.Reads as last-digit-reads
+use Rattle.printing.proofs.last_digit.Reads as last-digit-reads
 use Rattle.printing.proofs.put.Reads as put-reads
 
 last-digit-requires : tie.Need-last-digit-requires

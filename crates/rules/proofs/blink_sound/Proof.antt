@@ -26,6 +26,10 @@ returns-3 : tie.Need-returns-3
 unfolding blinkSound
 returns-3 c = search (needs, ifs)
 
+returns-4 : tie.Need-returns-4
+unfolding blinkSound
+returns-4 c = search (needs, ifs)
+
 pub blink-sound-spec : {M : Type 1} → statement M
 blink-sound-spec =
-    tie.close (tie.spec is-within-requires is-level-requires returns returns-2 returns-3)
+    tie.close (tie.spec is-within-requires is-level-requires returns returns-2 returns-3 returns-4)

@@ -1,4 +1,4 @@
-use mathlib.Core.Path.{_≡_, sym, ap, _∙_}
+use mathlib.Core.Path.{sym, ap, _∙_}
 use Rattle.lighting.specs.Rules.{slotsSoundFrom}
 use Rattle.rules.proofs.FromWinner.{from-winner}
 use borrow.Author.Needs.{needs}
@@ -7,14 +7,14 @@ use Rattle.rules.proofs.slots_sound.Tie as tie
 use Rattle.rules.proofs.slots_sound.Reads as reads
 use Rattle.rules.proofs.slots_sound.Lts as lts
 use Rattle.rules.proofs.slots_sound_from.Reads as slots-sound-from-reads
-use Rattle.rules.proofs.wide.Reads as wide-reads
+use Rattle.ranges.proofs.wide_index.Reads as wide-index-reads
 use Rattle.slots.proofs.winning.Reads as winning-reads
 
 winning-requires : tie.Need-winning-requires
 winning-requires c κs = search needs
 
-wide-requires : tie.Need-wide-requires
-wide-requires c κs = search needs
+wide-index-requires : tie.Need-wide-index-requires
+wide-index-requires c κs = search needs
 
 slots-sound-from-requires : tie.Need-slots-sound-from-requires
 slots-sound-from-requires c κs = search needs
@@ -26,7 +26,7 @@ returns : tie.Need-returns
 returns c =
     let s = c .before .before .before .before .args .s in
     c .slots-sound-from .ensures
-    ∙ ap (slotsSoundFrom s) (c .before .wide .ensures ∙ c .before .before .before .winning .ensures)
+    ∙ ap (slotsSoundFrom s) (c .before .wide-index .ensures ∙ c .before .before .before .winning .ensures)
     ∙ sym (from-winner s (search needs))
 
 returns-2 : tie.Need-returns-2
@@ -37,7 +37,7 @@ slots-sound-spec =
     tie.close
     (tie.spec
     winning-requires
-    wide-requires
+    wide-index-requires
     slots-sound-from-requires
     slots-sound-from-requires-2
     returns

@@ -1,5 +1,5 @@
 use borrow.Author.Needs.{needs}
-use Prim.Native.Nat.{_≤_, _-_}
+use Prim.Native.Nat.{_-_}
 use mathlib.Core.Path.{_≡_, sym, _∙_}
 use Rattle.lighting.proofs.Scan.{scan-on, scan-off, scan-done}
 use Rattle.lighting.specs.Rules.{slotsSoundFrom, slotSound}

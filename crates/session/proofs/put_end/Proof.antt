@@ -6,8 +6,8 @@ use Rattle.session.proofs.put_end.Proof.Tie as tie
 use Rattle.session.proofs.Lent.put_end.Reads as reads
 use Rattle.session.proofs.put_end.Proof.Lts as lts
 
-wide-requires : tie.Need-wide-requires
-wide-requires c κs = search needs
+index-requires : tie.Need-index-requires
+index-requires c κs = search needs
 
 put-ended-requires : tie.Need-put-ended-requires
 put-ended-requires c κs = search needs
@@ -31,7 +31,7 @@ pub put-end-spec : {M : Type 1} → statement M
 put-end-spec =
     tie.close
     (tie.spec
-    wide-requires
+    index-requires
     put-ended-requires
     put-found-requires
     same-length

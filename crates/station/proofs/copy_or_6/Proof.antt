@@ -1,5 +1,5 @@
 use Rattle.lighting.proofs.Choosing.{ifs}
-use Rattle.lighting.specs.Panel.{copyOr6}
+use Rattle.lighting.specs.Copies.{copyOr6}
 use borrow.Author.Needs.{needs}
 use Rattle.station.proofs.copy_or_6.Statement.{statement}
 use Rattle.station.proofs.copy_or_6.Tie as tie

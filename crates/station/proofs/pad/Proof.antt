@@ -1,5 +1,5 @@
 -- `station::pad` meets its contract. Up to i the bytes are stored, and zeros follow. Assumes nothing.
-use mathlib.Core.Path.{_≡_, refl}
+use mathlib.Core.Path.{_≡_}
 use Prim.Native.Nat.{_≤_, _-_}
 use native.Mathlib.Omega.{arith}
 use lib.ListN.{length, take}

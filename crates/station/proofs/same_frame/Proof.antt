@@ -6,7 +6,8 @@ use lib.ListN.{length, drop}
 use borrow.Author.Needs.{needs}
 use Rattle.lighting.specs.Field.{byteAt}
 use Rattle.lighting.specs.Frames.{kindLength}
-use Rattle.lighting.specs.Panel.{sameBytes, restored}
+use Rattle.lighting.specs.Copies.{sameBytes}
+use Rattle.lighting.specs.Panel.{restored}
 use Rattle.lighting.proofs.Lengths.{length-most}
 use Rattle.station.proofs.Bytes.{other-length, same-more, same-stop, same-end, restored-length, restored-at}
 use Rattle.station.proofs.same_frame.Statement.{statement}
@@ -14,7 +15,7 @@ use Rattle.station.proofs.same_frame.Tie as tie
 use Rattle.station.proofs.same_frame.Reads as reads
 use Rattle.station.proofs.same_frame.Lts as lts
 use Rattle.kinds.proofs.kind_length.Reads as kind-length-reads
-use Rattle.station.proofs.wide.Reads as wide-reads
+use Rattle.ranges.proofs.wide_index.Reads as wide-index-reads
 
 abbrev Inv-loop : tie.InvT-loop
 Inv-loop b f n i₀ i =
@@ -29,21 +30,21 @@ array-read-kind-length c = search needs
 kind-length-requires : tie.Need-kind-length-requires Inv-loop μ-loop
 kind-length-requires c κs = search needs
 
-wide-requires : tie.Need-wide-requires Inv-loop μ-loop
-wide-requires c κs = search needs
+wide-index-requires : tie.Need-wide-index-requires Inv-loop μ-loop
+wide-index-requires c κs = search needs
 
 returns : tie.Need-returns Inv-loop μ-loop
 unfolding byteAt
 returns c =
     let f = c .before .before .before .before .args .t2 in
-    let n : c .before .wide .result ≡ length (restored f) = c .before .wide .ensures ∙ c .before .before .kind-length .ensures ∙ sym (restored-length f (c .before .before .before .before .good .1 .0 .1 .0 .1)) in
+    let n : c .before .wide-index .result ≡ length (restored f) = c .before .wide-index .ensures ∙ c .before .before .kind-length .ensures ∙ sym (restored-length f (c .before .before .before .before .good .1 .0 .1 .0 .1)) in
     sym (other-length (c .before .before .before .before .args .b .now) (restored f) (λ p. c .if1 .taken (p ∙ sym n)))
 
 loop-holds : tie.Need-loop-holds Inv-loop μ-loop
 unfolding byteAt
 loop-holds c =
     let f = c .before .before .before .before .args .t2 in
-    let k : c .before .wide .result ≡ kindLength (byteAt f 0) = c .before .wide .ensures ∙ c .before .before .kind-length .ensures in
+    let k : c .before .wide-index .result ≡ kindLength (byteAt f 0) = c .before .wide-index .ensures ∙ c .before .before .kind-length .ensures in
     (omega arith, k, sym (c .if1 .left), k ∙ sym (restored-length f (c .before .before .before .before .good .1 .0 .1 .0 .1)), refl)
 
 shared-slice-read-if2 : tie.Need-shared-slice-read-if2 Inv-loop μ-loop
@@ -90,7 +91,7 @@ same-frame-spec =
     μ-loop
     array-read-kind-length
     kind-length-requires
-    wide-requires
+    wide-index-requires
     returns
     loop-holds
     shared-slice-read-if2

@@ -1,6 +1,6 @@
 mod Lts
 mod Tie
-use mathlib.Core.Path.{_≡_, ap}
+use mathlib.Core.Path.{ap}
 use lib.ListN.{set, getD}
 use Rattle.lighting.specs.declared.Output.{Output}
 use Rattle.lighting.specs.Fresh.{freshOutput}

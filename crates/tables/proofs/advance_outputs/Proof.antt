@@ -1,11 +1,11 @@
 mod Lts
 mod Tie
-use mathlib.Core.List.{List, map}
+use mathlib.Core.List.{map}
 use Prim.Native.Nat.{ℕ}
 use mathlib.Core.Path.{_≡_, refl, sym, ap, _∙_}
 use Prim.Native.Nat.{_≤_, _-_}
 use native.Mathlib.Omega.{arith}
-use lib.ListN.{length, length-set, set, getD, drop}
+use lib.ListN.{length, length-set}
 use Rattle.lighting.specs.Fresh.{freshOutput}
 use Rattle.lighting.specs.Passing.{advance}
 use Rattle.lighting.proofs.Carried.{all-stay}

@@ -114,7 +114,7 @@ abbrev b5 : Syntax.Body
 b5 = Syntax.assign (Syntax.place 18 List.[]) (Syntax.aggregate (List._∷_ (Syntax.copy (Syntax.place 17 List.[])) (List._∷_ (Syntax.copy (Syntax.place 1 (List._∷_ (Syntax.field 1) List.[]))) List.[])))
 
 abbrev b6 : Syntax.Body
-b6 = Syntax.call "tables::wide" (List._∷_ (Syntax.copy (Syntax.place 8 List.[])) List.[]) (Syntax.place 19 List.[])
+b6 = Syntax.call "ranges::index" (List._∷_ (Syntax.copy (Syntax.place 8 List.[])) List.[]) (Syntax.place 19 List.[])
 
 abbrev b7 : Syntax.Body
 b7 = Syntax.call "tables::serve" (List._∷_ (Syntax.copy (Syntax.place 18 List.[])) (List._∷_ (Syntax.copy (Syntax.place 7 List.[])) (List._∷_ (Syntax.copy (Syntax.place 5 List.[])) (List._∷_ (Syntax.copy (Syntax.place 19 List.[])) (List._∷_ (Syntax.copy (Syntax.place 9 List.[])) List.[]))))) (Syntax.place 11 List.[])
@@ -123,7 +123,7 @@ abbrev b8 : Syntax.Body
 b8 = Syntax.call "station::kept_station" (List._∷_ (Syntax.copy (Syntax.place 11 List.[])) (List._∷_ (Syntax.copy (Syntax.place 6 List.[])) (List._∷_ (Syntax.copy (Syntax.place 4 List.[])) List.[]))) (Syntax.place 12 List.[])
 
 abbrev b9 : Syntax.Body
-b9 = Syntax.call "tables::wide" (List._∷_ (Syntax.copy (Syntax.place 5 List.[])) List.[]) (Syntax.place 13 List.[])
+b9 = Syntax.call "ranges::index" (List._∷_ (Syntax.copy (Syntax.place 5 List.[])) List.[]) (Syntax.place 13 List.[])
 
 abbrev b10 : Syntax.Body
 b10 = Syntax.assign (Syntax.place 19 List.[]) (Syntax.op2 (Syntax.mul Syntax.unsigned) (Syntax.copy (Syntax.place 13 List.[])) (Syntax.int Syntax.w64 40))
@@ -493,7 +493,7 @@ module _ (claims· : Claims) where
       (Post· : (κs : Lifetimes.Lfts 4) → (a : Kinds.Dens κs ps) → Kinds.Plain 4 ps r κs) where
     module _ (M : Type 1) where
       abbrev pub Closed : Type 2
-      Closed = (𝓤 : URA.URA M) (H : Wp.Heap 𝓤) (A : Atoms.Atoms 𝓤) (W : Kit.Given 𝓤 H A) (𝓣 : Wp.Tables 𝓤 H) (known0 : Plain.Known 𝓤 H A W 𝓣 1 ps·0 r·0 (claims· .0) (claims· .1) "tables::advance_outputs") (known1 : Plain.Known 𝓤 H A W 𝓣 0 ps·1 r·1 (claims· .2) (claims· .3) "tables::wide") (known2 : Plain.Known 𝓤 H A W 𝓣 1 ps·2 r·2 (claims· .4) (claims· .5) "tables::serve") (known3 : Plain.Known 𝓤 H A W 𝓣 1 ps·3 r·3 (claims· .6) (claims· .7) "station::kept_station") → Statement.Triple 𝓤 (Wp.WpFn 𝓤 H (𝓣 .C) (𝓣 .Λ) (Function.fnOf 4 ps r xs m hs body)) (Function.plainOf 𝓤 H A 4 ps r Pre· Post·)
+      Closed = (𝓤 : URA.URA M) (H : Wp.Heap 𝓤) (A : Atoms.Atoms 𝓤) (W : Kit.Given 𝓤 H A) (𝓣 : Wp.Tables 𝓤 H) (known0 : Plain.Known 𝓤 H A W 𝓣 1 ps·0 r·0 (claims· .0) (claims· .1) "tables::advance_outputs") (known1 : Plain.Known 𝓤 H A W 𝓣 0 ps·1 r·1 (claims· .2) (claims· .3) "ranges::index") (known2 : Plain.Known 𝓤 H A W 𝓣 1 ps·2 r·2 (claims· .4) (claims· .5) "tables::serve") (known3 : Plain.Known 𝓤 H A W 𝓣 1 ps·3 r·3 (claims· .6) (claims· .7) "station::kept_station") → Statement.Triple 𝓤 (Wp.WpFn 𝓤 H (𝓣 .C) (𝓣 .Λ) (Function.fnOf 4 ps r xs m hs body)) (Function.plainOf 𝓤 H A 4 ps r Pre· Post·)
 
     module _ where
       abbrev at0 : Typed.TF T39 O0
@@ -619,7 +619,7 @@ module _ (claims· : Claims) where
       module _ {M : Type 1} (𝓤 : URA.URA M) (H : Wp.Heap 𝓤) (A : Atoms.Atoms 𝓤)
           (W : Kit.Given 𝓤 H A) (𝓣 : Wp.Tables 𝓤 H) where
         abbrev Knowns : Type 1
-        Knowns = Plain.Known 𝓤 H A W 𝓣 1 ps·0 r·0 (claims· .0) (claims· .1) "tables::advance_outputs" × Plain.Known 𝓤 H A W 𝓣 0 ps·1 r·1 (claims· .2) (claims· .3) "tables::wide" × Plain.Known 𝓤 H A W 𝓣 1 ps·2 r·2 (claims· .4) (claims· .5) "tables::serve" × Plain.Known 𝓤 H A W 𝓣 1 ps·3 r·3 (claims· .6) (claims· .7) "station::kept_station"
+        Knowns = Plain.Known 𝓤 H A W 𝓣 1 ps·0 r·0 (claims· .0) (claims· .1) "tables::advance_outputs" × Plain.Known 𝓤 H A W 𝓣 0 ps·1 r·1 (claims· .2) (claims· .3) "ranges::index" × Plain.Known 𝓤 H A W 𝓣 1 ps·2 r·2 (claims· .4) (claims· .5) "tables::serve" × Plain.Known 𝓤 H A W 𝓣 1 ps·3 r·3 (claims· .6) (claims· .7) "station::kept_station"
 
       module _ (κs : Lifetimes.Lfts 4) (qs : Lifetimes.Shares 4) where
         abbrev g4 : List.List Row.Entry
@@ -818,7 +818,7 @@ module _ (claims· : Claims) where
           d15 = Typed.s-seq 𝓤 H A W 𝓣 E G24 G25 b10 b19 Δ0 (Typed.ask s23) at14 (Scalar.t-op2 𝓤 H A W E 𝓣 G24 (Syntax.mul Syntax.unsigned) (Scalar.oAt 13 (Syntax.tyInt Syntax.w64) (Row.valS (Row.sInt Syntax.w64))) (Scalar.oInt Syntax.w64 40) 19 (Rows'.sc-here (Row.sInt Syntax.w64)) (Syntax.tyInt Syntax.w64) (Row.valS (Row.sInt Syntax.w64)) (Row.sInt Syntax.w64 .of) (Scalar.reads-sc 𝓤 H A W (Row.sInt Syntax.w64), Path'.refl) tt (Reads.room-gone 𝓤 H A (Syntax.tyInt Syntax.w64)) (Scalar.holds-sc 𝓤 H A W (Row.sInt Syntax.w64)) Path'.refl (λ u. Path'.refl) λ u. tt) d14
 
           d16 : Typed.Typed 𝓤 H A 𝓣 E G23 b21 Δ0 at16
-          d16 = Typed.s-seq 𝓤 H A W 𝓣 E G23 G24 b9 b20 Δ0 (Typed.both s22) at15 (Plain.t-call-plain 𝓤 H A W 𝓣 0 ps·1 r·1 (claims· .2) (claims· .3) "tables::wide" (known .1) E (λ pos β. β) G23 (Num.vAt 5 λ x. x, tt) 13 List.[] (Call.sub-id 𝓤 H A W (G23 .slots)) ((Scalar.reads-sc 𝓤 H A W (Row.sInt Syntax.w8), Path'.refl), tt) (Reads.room-gone 𝓤 H A (Syntax.tyInt Syntax.w64)) tt Path'.refl) d15
+          d16 = Typed.s-seq 𝓤 H A W 𝓣 E G23 G24 b9 b20 Δ0 (Typed.both s22) at15 (Plain.t-call-plain 𝓤 H A W 𝓣 0 ps·1 r·1 (claims· .2) (claims· .3) "ranges::index" (known .1) E (λ pos β. β) G23 (Num.vAt 5 λ x. x, tt) 13 List.[] (Call.sub-id 𝓤 H A W (G23 .slots)) ((Scalar.reads-sc 𝓤 H A W (Row.sInt Syntax.w8), Path'.refl), tt) (Reads.room-gone 𝓤 H A (Syntax.tyInt Syntax.w64)) tt Path'.refl) d15
 
           d17 : Typed.Typed 𝓤 H A 𝓣 E G22 b22 Δ0 at17
           d17 = Typed.s-seq 𝓤 H A W 𝓣 E G22 G23 b8 b21 Δ0 (Typed.both s21) at16 (Plain.t-call-plain 𝓤 H A W 𝓣 1 ps·3 r·3 (claims· .6) (claims· .7) "station::kept_station" (known .3) E (λ pos β. β) G22 (record { pos = 11; st = List.[]; d = 0; at = λ x. x }, (Num.vAt 6 λ x. x, (record { pos = 4; ty = Syntax.tyRef (Syntax.named 3) Syntax.imm (Syntax.tyInt Syntax.w8); ref = λ x. x }, tt))) 12 (List._∷_ 3 List.[]) (Call.sub-id 𝓤 H A W (G22 .slots)) ((Yields.yields-copy 𝓤 H A W (λ ρ. Unit) (Declared.row Answer.the-type) Path'.refl (Copies.cEnum Answer.the-type Laws.the-laws Laws.the-copy .copy 𝓤 H A W) (Rows'.whole (Declared.row Answer.the-type)) (λ x. x) (λ x. x) (λ ρ told. Local.mem-whole 𝓤 H A W (Declared.row Answer.the-type) ρ) λ ρ told. Local.whole-mem 𝓤 H A W (Declared.row Answer.the-type) ρ, Path'.refl), ((Scalar.reads-sc 𝓤 H A W (Row.sInt Syntax.w32), Path'.refl), (ShrSlice.spares-sslice 𝓤 H A W (Referent.rtF (Referent.fInt Syntax.w8)) (Syntax.tyRef (Syntax.named 3) Syntax.imm (Syntax.tyInt Syntax.w8)) 3, Shared.reads-sslice 𝓤 H A W (Referent.rtF (Referent.fInt Syntax.w8)) (Syntax.tyRef (Syntax.named 3) Syntax.imm (Syntax.tyInt Syntax.w8)) 3, Path'.refl, tt))) (Reads.room-gone 𝓤 H A OfStation.spelt) (tt, tt) Path'.refl) d16
@@ -842,7 +842,7 @@ module _ (claims· : Claims) where
           d23 = Typed.s-seq 𝓤 H A W 𝓣 E G16 G17 b7 b22 Δ0 (Typed.both s15) at22 (Plain.t-call-plain 𝓤 H A W 𝓣 1 ps·2 r·2 (claims· .4) (claims· .5) "tables::serve" (known .2) E (λ pos β. β) G16 (record { pos = 18; ty = Syntax.tyRef Syntax.erased Syntax.mut OfOutput.named; ref = λ x. x }, (Num.vAt 7 λ x. x, (Num.vAt 5 λ x. x, (Num.vAt 19 λ x. x, (record { pos = 9; st = List.[]; d = 0; at = λ x. x }, tt))))) 11 (List._∷_ 5 List.[]) (Call.sub-id 𝓤 H A W (G16 .slots)) (Reads.as-is 𝓤 H A (Mut.mslice (OfOutput.row) (Syntax.tyRef Syntax.erased Syntax.mut OfOutput.named) 5), Mut.reads-mslice 𝓤 H A W (OfOutput.row) (Syntax.tyRef Syntax.erased Syntax.mut OfOutput.named) 5, Path'.refl, ((Scalar.reads-sc 𝓤 H A W (Row.sInt Syntax.w64), Path'.refl), ((Scalar.reads-sc 𝓤 H A W (Row.sInt Syntax.w8), Path'.refl), ((Scalar.reads-sc 𝓤 H A W (Row.sInt Syntax.w64), Path'.refl), ((Yields.yields-copy 𝓤 H A W (λ ρ. Unit) (Declared.row Request.the-type) Path'.refl (Copies.cEnum Request.the-type Laws'.the-laws Laws'.the-copy .copy 𝓤 H A W) (Rows'.whole (Declared.row Request.the-type)) (λ x. x) (λ x. x) (λ ρ told. Local.mem-whole 𝓤 H A W (Declared.row Request.the-type) ρ) λ ρ told. Local.whole-mem 𝓤 H A W (Declared.row Request.the-type) ρ, Path'.refl), tt))))) (Reads.room-gone 𝓤 H A (Laws.mir)) (tt, tt) Path'.refl) d22
 
           d24 : Typed.Typed 𝓤 H A 𝓣 E G15 b24 Δ0 at24
-          d24 = Typed.s-seq 𝓤 H A W 𝓣 E G15 G16 b6 b23 Δ0 (Typed.both s14) at23 (Plain.t-call-plain 𝓤 H A W 𝓣 0 ps·1 r·1 (claims· .2) (claims· .3) "tables::wide" (known .1) E (λ pos β. β) G15 (Num.vAt 8 λ x. x, tt) 19 List.[] (Call.sub-id 𝓤 H A W (G15 .slots)) ((Scalar.reads-sc 𝓤 H A W (Row.sInt Syntax.w8), Path'.refl), tt) (Reads.room-gone 𝓤 H A (Syntax.tyInt Syntax.w64)) tt Path'.refl) d23
+          d24 = Typed.s-seq 𝓤 H A W 𝓣 E G15 G16 b6 b23 Δ0 (Typed.both s14) at23 (Plain.t-call-plain 𝓤 H A W 𝓣 0 ps·1 r·1 (claims· .2) (claims· .3) "ranges::index" (known .1) E (λ pos β. β) G15 (Num.vAt 8 λ x. x, tt) 19 List.[] (Call.sub-id 𝓤 H A W (G15 .slots)) ((Scalar.reads-sc 𝓤 H A W (Row.sInt Syntax.w8), Path'.refl), tt) (Reads.room-gone 𝓤 H A (Syntax.tyInt Syntax.w64)) tt Path'.refl) d23
 
           d25 : Typed.Typed 𝓤 H A 𝓣 E G14 b25 Δ0 at25
           d25 = Typed.s-seq 𝓤 H A W 𝓣 E G14 G15 b5 b24 Δ0 (Typed.ask s13) at24 (Relend.t-sl-aggregate 𝓤 H A W E (OfOutput.row) 𝓣 (Relend.asMut (OfOutput.row)) G14 17 18 5 (Syntax.tyRef Syntax.erased Syntax.mut OfOutput.named) (Syntax.tyRef Syntax.erased Syntax.mut OfOutput.named) (λ x. x) (Scalar.oFld 1 (List._∷_ (Syntax.field 1) List.[]) (Syntax.tyInt Syntax.w64) 8 λ v. Shared.lenV (v .0)) (Reads.as-is 𝓤 H A (Relend.msptr (OfOutput.row) (Syntax.tyRef Syntax.erased Syntax.mut OfOutput.named) 5)) (Reads.room-gone 𝓤 H A (Syntax.tyStruct (List._∷_ 38 (List._∷_ 91 (List._∷_ 93 List.[]))) (Syntax.tcons (Syntax.tyRef Syntax.erased Syntax.mut OfOutput.named) (Syntax.tcons (Syntax.tyInt Syntax.w64) Syntax.tnil)))) (Relend.reads-owed-len 𝓤 H A W (OfOutput.row) (Syntax.tyRef (Syntax.named 0) Syntax.mut OfOutput.named) 0 5 (Row.lease (κs .0) (qs .0)) 8 Path'.refl, Path'.refl) Path'.refl Path'.refl λ b o k. tt) d24
@@ -911,11 +911,11 @@ module _ (claims· : Claims) where
           pub bytes : Kinds.Den {n = 4}
               κs
               (ShrSlice.pShrS (Referent.rtF (Referent.fInt Syntax.w8)) 3 tt)
-          pub s : Kinds.Den {n = 4} κs (Num.pNum Syntax.w8)
-          pub n : Kinds.Den {n = 4} κs (Num.pNum Syntax.w32)
-          pub t : Kinds.Den {n = 4} κs (Num.pNum Syntax.w64)
-          pub i : Kinds.Den {n = 4} κs (Num.pNum Syntax.w8)
-          pub r : Kinds.Den {n = 4} κs (Value.pVal record {
+          pub station : Kinds.Den {n = 4} κs (Num.pNum Syntax.w8)
+          pub number : Kinds.Den {n = 4} κs (Num.pNum Syntax.w32)
+          pub moment : Kinds.Den {n = 4} κs (Num.pNum Syntax.w64)
+          pub output : Kinds.Den {n = 4} κs (Num.pNum Syntax.w8)
+          pub request : Kinds.Den {n = 4} κs (Value.pVal record {
             ty = Declared.row Request.the-type;
             one = Path'.refl;
             val = Laws''.val Request.the-type Laws'.the-laws;
@@ -933,14 +933,14 @@ module _ (claims· : Claims) where
           })
 
         abbrev pub dens : (a : Args) → Kinds.Dens κs ps
-        dens = λ a. (a .outputs, (a .stations, (a .time, (a .bytes, (a .s, (a .n, (a .t, (a .i, (a .r, tt)))))))))
+        dens = λ a. (a .outputs, (a .stations, (a .time, (a .bytes, (a .station, (a .number, (a .moment, (a .output, (a .request, tt)))))))))
 
         module _ (args· : Args) where
           pub record Ranges : Type 0 where
-            pub s : Val.Fits Syntax.w8 (args· .s)
-            pub n : Val.Fits Syntax.w32 (args· .n)
-            pub t : Val.Fits Syntax.w64 (args· .t)
-            pub i : Val.Fits Syntax.w8 (args· .i)
+            pub station : Val.Fits Syntax.w8 (args· .station)
+            pub number : Val.Fits Syntax.w32 (args· .number)
+            pub moment : Val.Fits Syntax.w64 (args· .moment)
+            pub output : Val.Fits Syntax.w8 (args· .output)
 
       abbrev pub m0 : (κs : Lifetimes.Lfts 4) → (args : Args κs) → Typed.Mo T0
       m0 = λ κs args. (tt, Enter.partsP κs 1 ps xs (dens κs args))
@@ -1067,8 +1067,8 @@ module _ (claims· : Claims) where
         pub before : After-outputs
         pub serve-arg : After-serve-arg·own before
 
-      abbrev pub Need-wide-requires : Type 0
-      Need-wide-requires = (c : After-serve-arg) → s14 .asks (m10 (c .before) (c .serve-arg .given))
+      abbrev pub Need-index-requires : Type 0
+      Need-index-requires = (c : After-serve-arg) → s14 .asks (m10 (c .before) (c .serve-arg .given))
 
       abbrev pub m11 :
           (before : After-serve-arg) →
@@ -1077,47 +1077,47 @@ module _ (claims· : Claims) where
       m11 = λ before given. s14 .next (m10 (before .before) (before .serve-arg .given)) given
 
       module _ (before· : After-serve-arg) where
-        abbrev pub After-wide·own : Type 0
-        After-wide·own = Called.Called ps·1 r·1 (claims· .3) T15 (Num.vAt 8 λ x. x, tt) (m10 (before· .before) (before· .serve-arg .given))
+        abbrev pub After-index·own : Type 0
+        After-index·own = Called.Called ps·1 r·1 (claims· .3) T15 (Num.vAt 8 λ x. x, tt) (m10 (before· .before) (before· .serve-arg .given))
 
-      pub record After-wide : Type 0 where
+      pub record After-index : Type 0 where
         pub before : After-serve-arg
-        pub wide : After-wide·own before
+        pub index : After-index·own before
 
-      abbrev pub After-wide·gave :
-          (c : After-wide) → s14 .gives (m10 (c .before .before) (c .before .serve-arg .given))
-      After-wide·gave = λ c. Called.given ps·1 r·1 (claims· .3) T15 (Num.vAt 8 λ x. x, tt) (m10 (c .before .before) (c .before .serve-arg .given)) (c .wide)
+      abbrev pub After-index·gave :
+          (c : After-index) → s14 .gives (m10 (c .before .before) (c .before .serve-arg .given))
+      After-index·gave = λ c. Called.given ps·1 r·1 (claims· .3) T15 (Num.vAt 8 λ x. x, tt) (m10 (c .before .before) (c .before .serve-arg .given)) (c .index)
 
       abbrev pub Need-serve-requires : Type 0
-      Need-serve-requires = (c : After-wide) → s15 .asks (m11 (c .before) (After-wide·gave c))
+      Need-serve-requires = (c : After-index) → s15 .asks (m11 (c .before) (After-index·gave c))
 
       abbrev pub m12 :
-          (before : After-wide) →
-          (given : s15 .gives (m11 (before .before) (After-wide·gave before))) →
+          (before : After-index) →
+          (given : s15 .gives (m11 (before .before) (After-index·gave before))) →
           Typed.Mo T17
-      m12 = λ before given. s15 .next (m11 (before .before) (After-wide·gave before)) given
+      m12 = λ before given. s15 .next (m11 (before .before) (After-index·gave before)) given
 
-      module _ (before· : After-wide) where
+      module _ (before· : After-index) where
         abbrev pub After-serve·own : Type 0
-        After-serve·own = Called.Called ps·2 r·2 (claims· .5) T16 (record { pos = 18; ty = Syntax.tyRef Syntax.erased Syntax.mut OfOutput.named; ref = λ x. x }, (Num.vAt 7 λ x. x, (Num.vAt 5 λ x. x, (Num.vAt 19 λ x. x, (record { pos = 9; st = List.[]; d = 0; at = λ x. x }, tt))))) (m11 (before· .before) (After-wide·gave before·))
+        After-serve·own = Called.Called ps·2 r·2 (claims· .5) T16 (record { pos = 18; ty = Syntax.tyRef Syntax.erased Syntax.mut OfOutput.named; ref = λ x. x }, (Num.vAt 7 λ x. x, (Num.vAt 5 λ x. x, (Num.vAt 19 λ x. x, (record { pos = 9; st = List.[]; d = 0; at = λ x. x }, tt))))) (m11 (before· .before) (After-index·gave before·))
 
       pub record After-serve : Type 0 where
-        pub before : After-wide
+        pub before : After-index
         pub serve : After-serve·own before
 
       abbrev pub After-serve·gave :
-          (c : After-serve) → s15 .gives (m11 (c .before .before) (After-wide·gave (c .before)))
-      After-serve·gave = λ c. Called.given ps·2 r·2 (claims· .5) T16 (record { pos = 18; ty = Syntax.tyRef Syntax.erased Syntax.mut OfOutput.named; ref = λ x. x }, (Num.vAt 7 λ x. x, (Num.vAt 5 λ x. x, (Num.vAt 19 λ x. x, (record { pos = 9; st = List.[]; d = 0; at = λ x. x }, tt))))) (m11 (c .before .before) (After-wide·gave (c .before))) (c .serve)
+          (c : After-serve) → s15 .gives (m11 (c .before .before) (After-index·gave (c .before)))
+      After-serve·gave = λ c. Called.given ps·2 r·2 (claims· .5) T16 (record { pos = 18; ty = Syntax.tyRef Syntax.erased Syntax.mut OfOutput.named; ref = λ x. x }, (Num.vAt 7 λ x. x, (Num.vAt 5 λ x. x, (Num.vAt 19 λ x. x, (record { pos = 9; st = List.[]; d = 0; at = λ x. x }, tt))))) (m11 (c .before .before) (After-index·gave (c .before))) (c .serve)
 
       abbrev pub m13 :
-          (before : After-wide) →
-          (given : s15 .gives (m11 (before .before) (After-wide·gave before))) →
+          (before : After-index) →
+          (given : s15 .gives (m11 (before .before) (After-index·gave before))) →
           Typed.Mo T18
       m13 = λ before given. s16 (m12 before given)
 
       abbrev pub m14 :
-          (before : After-wide) →
-          (given : s15 .gives (m11 (before .before) (After-wide·gave before))) →
+          (before : After-index) →
+          (given : s15 .gives (m11 (before .before) (After-index·gave before))) →
           Typed.Mo T19
       m14 = λ before given. s17 (m13 before given)
 
@@ -1157,8 +1157,8 @@ module _ (claims· : Claims) where
           s21 .gives (m15 (c .before .before) (c .before .outputs2 .given))
       After-kept-station·gave = λ c. Called.given ps·3 r·3 (claims· .7) T21 (record { pos = 11; st = List.[]; d = 0; at = λ x. x }, (Num.vAt 6 λ x. x, (record { pos = 4; ty = Syntax.tyRef (Syntax.named 3) Syntax.imm (Syntax.tyInt Syntax.w8); ref = λ x. x }, tt))) (m15 (c .before .before) (c .before .outputs2 .given)) (c .kept-station)
 
-      abbrev pub Need-wide-requires-2 : Type 0
-      Need-wide-requires-2 = (c : After-kept-station) → s22 .asks (m16 (c .before) (After-kept-station·gave c))
+      abbrev pub Need-index-requires-2 : Type 0
+      Need-index-requires-2 = (c : After-kept-station) → s22 .asks (m16 (c .before) (After-kept-station·gave c))
 
       abbrev pub m17 :
           (before : After-kept-station) →
@@ -1167,20 +1167,20 @@ module _ (claims· : Claims) where
       m17 = λ before given. s22 .next (m16 (before .before) (After-kept-station·gave before)) given
 
       module _ (before· : After-kept-station) where
-        abbrev pub After-wide2·own : Type 0
-        After-wide2·own = Called.Called ps·1 r·1 (claims· .3) T23 (Num.vAt 5 λ x. x, tt) (m16 (before· .before) (After-kept-station·gave before·))
+        abbrev pub After-index2·own : Type 0
+        After-index2·own = Called.Called ps·1 r·1 (claims· .3) T23 (Num.vAt 5 λ x. x, tt) (m16 (before· .before) (After-kept-station·gave before·))
 
-      pub record After-wide2 : Type 0 where
+      pub record After-index2 : Type 0 where
         pub before : After-kept-station
-        pub wide2 : After-wide2·own before
+        pub index2 : After-index2·own before
 
-      abbrev pub After-wide2·gave :
-          (c : After-wide2) →
+      abbrev pub After-index2·gave :
+          (c : After-index2) →
           s22 .gives (m16 (c .before .before) (After-kept-station·gave (c .before)))
-      After-wide2·gave = λ c. Called.given ps·1 r·1 (claims· .3) T23 (Num.vAt 5 λ x. x, tt) (m16 (c .before .before) (After-kept-station·gave (c .before))) (c .wide2)
+      After-index2·gave = λ c. Called.given ps·1 r·1 (claims· .3) T23 (Num.vAt 5 λ x. x, tt) (m16 (c .before .before) (After-kept-station·gave (c .before))) (c .index2)
 
-      abbrev pub Need-mul-k : Type 0
-      Need-mul-k = (c : After-wide2) → s23 .asks (m17 (c .before) (After-wide2·gave c))
+      abbrev pub Need-mul-record : Type 0
+      Need-mul-record = (c : After-index2) → s23 .asks (m17 (c .before) (After-index2·gave c))
 
       abbrev pub m18 :
           (before : After-kept-station) →
@@ -1194,8 +1194,8 @@ module _ (claims· : Claims) where
           Typed.Mo T26
       m19 = λ before given. s24 .next (m18 before given)
 
-      abbrev pub Need-slice-set-from-k : Type 0
-      Need-slice-set-from-k = (c : After-wide2) → Shared.InSlice T26 2 20 (λ x. x) (λ u. u .1 .1 .1 .1 .1 .1 .1 .1 .1 .1 .1 .1 .1 .0) (m19 (c .before) (After-wide2·gave c))
+      abbrev pub Need-slice-set-from-record : Type 0
+      Need-slice-set-from-record = (c : After-index2) → Shared.InSlice T26 2 20 (λ x. x) (λ u. u .1 .1 .1 .1 .1 .1 .1 .1 .1 .1 .1 .1 .1 .0) (m19 (c .before) (After-index2·gave c))
 
       abbrev pub m20 :
           (before : After-kept-station) →
@@ -1276,34 +1276,34 @@ module _ (claims· : Claims) where
       m32 = λ before given. s37 (m31 before given)
 
       abbrev pub Need-same-length : Type 0
-      Need-same-length = (c : After-wide2) → MutSlice.SameLen (Row.get 1 (T39 .locals) (m32 (c .before) (After-wide2·gave c))) (dens (c .before .before .before .before .before .before .before .before .before .before .before .κs) (c .before .before .before .before .before .before .before .before .before .before .before .args) .0)
+      Need-same-length = (c : After-index2) → MutSlice.SameLen (Row.get 1 (T39 .locals) (m32 (c .before) (After-index2·gave c))) (dens (c .before .before .before .before .before .before .before .before .before .before .before .κs) (c .before .before .before .before .before .before .before .before .before .before .before .args) .0)
 
       abbrev pub Need-same-length-2 : Type 0
-      Need-same-length-2 = (c : After-wide2) → MutSlice.SameLen (Row.get 2 (T39 .locals) (m32 (c .before) (After-wide2·gave c))) (dens (c .before .before .before .before .before .before .before .before .before .before .before .κs) (c .before .before .before .before .before .before .before .before .before .before .before .args) .1 .0)
+      Need-same-length-2 = (c : After-index2) → MutSlice.SameLen (Row.get 2 (T39 .locals) (m32 (c .before) (After-index2·gave c))) (dens (c .before .before .before .before .before .before .before .before .before .before .before .κs) (c .before .before .before .before .before .before .before .before .before .before .before .args) .1 .0)
 
       abbrev pub Need-returns : Type 0
-      Need-returns = (c : After-wide2) → Post· (c .before .before .before .before .before .before .before .before .before .before .before .κs) (dens (c .before .before .before .before .before .before .before .before .before .before .before .κs) (c .before .before .before .before .before .before .before .before .before .before .before .args)) (Function.resV r (c .before .before .before .before .before .before .before .before .before .before .before .κs) (m32 (c .before) (After-wide2·gave c) .0)) (Clauses.atExit (Kinds.endedOf 4 ps r) (c .before .before .before .before .before .before .before .before .before .before .before .κs) (dens (c .before .before .before .before .before .before .before .before .before .before .before .κs) (c .before .before .before .before .before .before .before .before .before .before .before .args)) (Enter.lastsP (c .before .before .before .before .before .before .before .before .before .before .before .κs) 1 ps xs (dens (c .before .before .before .before .before .before .before .before .before .before .before .κs) (c .before .before .before .before .before .before .before .before .before .before .before .args)) (m32 (c .before) (After-wide2·gave c) .1)))
+      Need-returns = (c : After-index2) → Post· (c .before .before .before .before .before .before .before .before .before .before .before .κs) (dens (c .before .before .before .before .before .before .before .before .before .before .before .κs) (c .before .before .before .before .before .before .before .before .before .before .before .args)) (Function.resV r (c .before .before .before .before .before .before .before .before .before .before .before .κs) (m32 (c .before) (After-index2·gave c) .0)) (Clauses.atExit (Kinds.endedOf 4 ps r) (c .before .before .before .before .before .before .before .before .before .before .before .κs) (dens (c .before .before .before .before .before .before .before .before .before .before .before .κs) (c .before .before .before .before .before .before .before .before .before .before .before .args)) (Enter.lastsP (c .before .before .before .before .before .before .before .before .before .before .before .κs) 1 ps xs (dens (c .before .before .before .before .before .before .before .before .before .before .before .κs) (c .before .before .before .before .before .before .before .before .before .before .before .args)) (m32 (c .before) (After-index2·gave c) .1)))
 
       module _ (advance-outputs-requires : Need-advance-outputs-requires)
-          (wide-requires : Need-wide-requires) (serve-requires : Need-serve-requires)
+          (index-requires : Need-index-requires) (serve-requires : Need-serve-requires)
           (kept-station-requires : Need-kept-station-requires)
-          (wide-requires-2 : Need-wide-requires-2) (mul-k : Need-mul-k)
-          (slice-set-from-k : Need-slice-set-from-k) (same-length : Need-same-length)
+          (index-requires-2 : Need-index-requires-2) (mul-record : Need-mul-record)
+          (slice-set-from-record : Need-slice-set-from-record) (same-length : Need-same-length)
           (same-length-2 : Need-same-length-2) (returns : Need-returns) where
         lay5 :
-            (c : After-wide2) → at15 (W0
+            (c : After-index2) → at15 (W0
             (c .before .before .before .before .before .before .before .before .before .before
             .before .κs)
             (c .before .before .before .before .before .before .before .before .before .before
-            .before .args)) (m17 (c .before) (After-wide2·gave c))
-        lay5 = λ c. (mul-k record { before = c .before; wide2 = c .wide2 }, (tt, ((Path'.refl, Path'.refl, slice-set-from-k record { before = c .before; wide2 = c .wide2 }), ((MutSlice.fix-len (Row.get 1 (T39 .locals) (m32 (c .before) (After-wide2·gave c)) .ptr) (Row.get 1 (T39 .locals) (m32 (c .before) (After-wide2·gave c)) .name) (Row.get 1 (T39 .locals) (m32 (c .before) (After-wide2·gave c)) .now) (dens (c .before .before .before .before .before .before .before .before .before .before .before .κs) (c .before .before .before .before .before .before .before .before .before .before .before .args) .0 .now) (same-length record { before = c .before; wide2 = c .wide2 }), (MutSlice.fix-len (Row.get 2 (T39 .locals) (m32 (c .before) (After-wide2·gave c)) .ptr) (Row.get 2 (T39 .locals) (m32 (c .before) (After-wide2·gave c)) .name) (Row.get 2 (T39 .locals) (m32 (c .before) (After-wide2·gave c)) .now) (dens (c .before .before .before .before .before .before .before .before .before .before .before .κs) (c .before .before .before .before .before .before .before .before .before .before .before .args) .1 .0 .now) (same-length-2 record { before = c .before; wide2 = c .wide2 }), (Path'.refl, (Path'.refl, (tt, (tt, (tt, (tt, (tt, tt))))))))), returns record { before = c .before; wide2 = c .wide2 }))))
+            .before .args)) (m17 (c .before) (After-index2·gave c))
+        lay5 = λ c. (mul-record record { before = c .before; index2 = c .index2 }, (tt, ((Path'.refl, Path'.refl, slice-set-from-record record { before = c .before; index2 = c .index2 }), ((MutSlice.fix-len (Row.get 1 (T39 .locals) (m32 (c .before) (After-index2·gave c)) .ptr) (Row.get 1 (T39 .locals) (m32 (c .before) (After-index2·gave c)) .name) (Row.get 1 (T39 .locals) (m32 (c .before) (After-index2·gave c)) .now) (dens (c .before .before .before .before .before .before .before .before .before .before .before .κs) (c .before .before .before .before .before .before .before .before .before .before .before .args) .0 .now) (same-length record { before = c .before; index2 = c .index2 }), (MutSlice.fix-len (Row.get 2 (T39 .locals) (m32 (c .before) (After-index2·gave c)) .ptr) (Row.get 2 (T39 .locals) (m32 (c .before) (After-index2·gave c)) .name) (Row.get 2 (T39 .locals) (m32 (c .before) (After-index2·gave c)) .now) (dens (c .before .before .before .before .before .before .before .before .before .before .before .κs) (c .before .before .before .before .before .before .before .before .before .before .before .args) .1 .0 .now) (same-length-2 record { before = c .before; index2 = c .index2 }), (Path'.refl, (Path'.refl, (tt, (tt, (tt, (tt, (tt, tt))))))))), returns record { before = c .before; index2 = c .index2 }))))
 
         lay4 :
             (c : After-kept-station) → at16 (W0
             (c .before .before .before .before .before .before .before .before .before .before .κs)
             (c .before .before .before .before .before .before .before .before .before .before
             .args)) (m16 (c .before) (After-kept-station·gave c))
-        lay4 = λ c. (wide-requires-2 record { before = c .before; kept-station = c .kept-station }, λ g. lay5 record { before = record { before = c .before; kept-station = c .kept-station }; wide2 = Called.called ps·1 r·1 (claims· .3) T23 (Num.vAt 5 λ x. x, tt) (m16 (c .before) (After-kept-station·gave c)) g })
+        lay4 = λ c. (index-requires-2 record { before = c .before; kept-station = c .kept-station }, λ g. lay5 record { before = record { before = c .before; kept-station = c .kept-station }; index2 = Called.called ps·1 r·1 (claims· .3) T23 (Num.vAt 5 λ x. x, tt) (m16 (c .before) (After-kept-station·gave c)) g })
 
         lay3 :
             (c : After-serve) →
@@ -1315,20 +1315,20 @@ module _ (claims· : Claims) where
         lay3 = λ c. (Path'.refl, λ g. (kept-station-requires record { before = record { before = c .before; serve = c .serve }; outputs2 = record { given = g } }, λ g'. lay4 record { before = record { before = record { before = c .before; serve = c .serve }; outputs2 = record { given = g } }; kept-station = Called.called ps·3 r·3 (claims· .7) T21 (record { pos = 11; st = List.[]; d = 0; at = λ x. x }, (Num.vAt 6 λ x. x, (record { pos = 4; ty = Syntax.tyRef (Syntax.named 3) Syntax.imm (Syntax.tyInt Syntax.w8); ref = λ x. x }, tt))) (m15 record { before = c .before; serve = c .serve } g) g' }))
 
         lay2 :
-            (c : After-wide) →
+            (c : After-index) →
             at23
             (W0
             (c .before .before .before .before .before .before .before .κs)
             (c .before .before .before .before .before .before .before .args))
-            (m11 (c .before) (After-wide·gave c))
-        lay2 = λ c. (serve-requires record { before = c .before; wide = c .wide }, λ g. lay3 record { before = record { before = c .before; wide = c .wide }; serve = Called.called ps·2 r·2 (claims· .5) T16 (record { pos = 18; ty = Syntax.tyRef Syntax.erased Syntax.mut OfOutput.named; ref = λ x. x }, (Num.vAt 7 λ x. x, (Num.vAt 5 λ x. x, (Num.vAt 19 λ x. x, (record { pos = 9; st = List.[]; d = 0; at = λ x. x }, tt))))) (m11 (c .before) (After-wide·gave c)) g })
+            (m11 (c .before) (After-index·gave c))
+        lay2 = λ c. (serve-requires record { before = c .before; index = c .index }, λ g. lay3 record { before = record { before = c .before; index = c .index }; serve = Called.called ps·2 r·2 (claims· .5) T16 (record { pos = 18; ty = Syntax.tyRef Syntax.erased Syntax.mut OfOutput.named; ref = λ x. x }, (Num.vAt 7 λ x. x, (Num.vAt 5 λ x. x, (Num.vAt 19 λ x. x, (record { pos = 9; st = List.[]; d = 0; at = λ x. x }, tt))))) (m11 (c .before) (After-index·gave c)) g })
 
         lay1 :
             (c : After-advance-outputs) →
             at31
             (W0 (c .before .before .before .before .κs) (c .before .before .before .before .args))
             (m6 (c .before) (After-advance-outputs·gave c))
-        lay1 = λ c. (Path'.refl, λ g. λ g'. (Path'.refl, (wide-requires record { before = record { before = record { before = c .before; advance-outputs = c .advance-outputs }; outputs = record { given = g } }; serve-arg = record { given = g' } }, λ g''. lay2 record { before = record { before = record { before = record { before = c .before; advance-outputs = c .advance-outputs }; outputs = record { given = g } }; serve-arg = record { given = g' } }; wide = Called.called ps·1 r·1 (claims· .3) T15 (Num.vAt 8 λ x. x, tt) (m10 record { before = record { before = c .before; advance-outputs = c .advance-outputs }; outputs = record { given = g } } g') g'' })))
+        lay1 = λ c. (Path'.refl, λ g. λ g'. (Path'.refl, (index-requires record { before = record { before = record { before = c .before; advance-outputs = c .advance-outputs }; outputs = record { given = g } }; serve-arg = record { given = g' } }, λ g''. lay2 record { before = record { before = record { before = record { before = c .before; advance-outputs = c .advance-outputs }; outputs = record { given = g } }; serve-arg = record { given = g' } }; index = Called.called ps·1 r·1 (claims· .3) T15 (Num.vAt 8 λ x. x, tt) (m10 record { before = record { before = c .before; advance-outputs = c .advance-outputs }; outputs = record { given = g } } g') g'' })))
 
         pub laid : (c : Start) → at38 (W0 (c .κs) (c .args)) (m0 (c .κs) (c .args))
         laid = λ c. λ g. λ g'. λ g''. (Path'.refl, (advance-outputs-requires record { before = record { before = record { before = c; shared-slice-known = record { given = g } }; row-known = record { given = g' } }; advance-outputs-arg = record { given = g'' } }, λ g'3. lay1 record { before = record { before = record { before = record { before = c; shared-slice-known = record { given = g } }; row-known = record { given = g' } }; advance-outputs-arg = record { given = g'' } }; advance-outputs = Called.called ps·0 r·0 (claims· .1) T7 (record { pos = 16; ty = Syntax.tyRef Syntax.erased Syntax.mut OfOutput.named; ref = λ x. x }, (Num.vAt 10 λ x. x, (Num.vAt 7 λ x. x, tt))) (m5 record { before = record { before = c; shared-slice-known = record { given = g } }; row-known = record { given = g' } } g'') g'3 }))
@@ -1340,7 +1340,7 @@ module _ (claims· : Claims) where
               (pre : Pre· κs a) →
               (bs : List.List Nat.ℕ) →
               Φ (Any.wantQ 4 ps r xs m κs qs a (Post· κs a)) (Function.init 4 ps r xs m κs qs a)
-          asked = λ a good pre bs. laid record { κs = κs; args = record { outputs = a .0; stations = a .1 .0; time = a .1 .1 .0; bytes = a .1 .1 .1 .0; s = a .1 .1 .1 .1 .0; n = a .1 .1 .1 .1 .1 .0; t = a .1 .1 .1 .1 .1 .1 .0; i = a .1 .1 .1 .1 .1 .1 .1 .0; r = a .1 .1 .1 .1 .1 .1 .1 .1 .0 }; good = good; fits = record { s = record { fits = good .1 .1 .1 .1 .0 .1 }; n = record { fits = good .1 .1 .1 .1 .1 .0 .1 }; t = record { fits = good .1 .1 .1 .1 .1 .1 .0 .1 }; i = record { fits = good .1 .1 .1 .1 .1 .1 .1 .0 .1 } }; pre = pre }
+          asked = λ a good pre bs. laid record { κs = κs; args = record { outputs = a .0; stations = a .1 .0; time = a .1 .1 .0; bytes = a .1 .1 .1 .0; station = a .1 .1 .1 .1 .0; number = a .1 .1 .1 .1 .1 .0; moment = a .1 .1 .1 .1 .1 .1 .0; output = a .1 .1 .1 .1 .1 .1 .1 .0; request = a .1 .1 .1 .1 .1 .1 .1 .1 .0 }; good = good; fits = record { station = record { fits = good .1 .1 .1 .1 .0 .1 }; number = record { fits = good .1 .1 .1 .1 .1 .0 .1 }; moment = record { fits = good .1 .1 .1 .1 .1 .1 .0 .1 }; output = record { fits = good .1 .1 .1 .1 .1 .1 .1 .0 .1 } }; pre = pre }
 
         module _ {M : Type 1} (𝓤 : URA.URA M) (H : Wp.Heap 𝓤) (A : Atoms.Atoms 𝓤)
             (W : Kit.Given 𝓤 H A) (𝓣 : Wp.Tables 𝓤 H)
@@ -1356,7 +1356,7 @@ module _ (claims· : Claims) where
             (claims· .0)
             (claims· .1)
             "tables::advance_outputs")
-            (known1 : Plain.Known 𝓤 H A W 𝓣 0 ps·1 r·1 (claims· .2) (claims· .3) "tables::wide")
+            (known1 : Plain.Known 𝓤 H A W 𝓣 0 ps·1 r·1 (claims· .2) (claims· .3) "ranges::index")
             (known2 : Plain.Known 𝓤 H A W 𝓣 1 ps·2 r·2 (claims· .4) (claims· .5) "tables::serve")
             (known3 : Plain.Known
             𝓤

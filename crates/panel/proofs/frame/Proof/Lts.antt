@@ -141,7 +141,7 @@ abbrev b15 : Syntax.Body
 b15 = Syntax.assign (Syntax.place 16 List.[]) (Syntax.aggregate (List._∷_ (Syntax.copy (Syntax.place 15 List.[])) (List._∷_ (Syntax.copy (Syntax.place 2 (List._∷_ (Syntax.field 1) List.[]))) List.[])))
 
 abbrev b16 : Syntax.Body
-b16 = Syntax.call "tables::judge" (List._∷_ (Syntax.copy (Syntax.place 14 List.[])) (List._∷_ (Syntax.copy (Syntax.place 16 List.[])) (List._∷_ (Syntax.copy (Syntax.place 5 List.[])) (List._∷_ (Syntax.copy (Syntax.place 4 List.[])) List.[])))) (Syntax.place 6 List.[])
+b16 = Syntax.call "tables::decide" (List._∷_ (Syntax.copy (Syntax.place 14 List.[])) (List._∷_ (Syntax.copy (Syntax.place 16 List.[])) (List._∷_ (Syntax.copy (Syntax.place 5 List.[])) (List._∷_ (Syntax.copy (Syntax.place 4 List.[])) List.[])))) (Syntax.place 6 List.[])
 
 abbrev b17 : Syntax.Body
 b17 = Syntax.assign (Syntax.place 17 List.[]) (Syntax.addrOf (Syntax.place 1 (List._∷_ (Syntax.field 0) (List._∷_ (Syntax.deref OfOutput.spelt) List.[]))))
@@ -598,7 +598,7 @@ module _ (claims· : Claims) where
       (Post· : (κs : Lifetimes.Lfts 4) → (a : Kinds.Dens κs ps) → Kinds.Plain 4 ps r κs) where
     module _ (M : Type 1) where
       abbrev pub Closed : Type 2
-      Closed = (𝓤 : URA.URA M) (H : Wp.Heap 𝓤) (A : Atoms.Atoms 𝓤) (W : Kit.Given 𝓤 H A) (𝓣 : Wp.Tables 𝓤 H) (known0 : Plain.Known 𝓤 H A W 𝓣 2 ps·0 r·0 (claims· .0) (claims· .1) "panel::panel_sound") (known1 : Plain.Known 𝓤 H A W 𝓣 3 ps·1 r·1 (claims· .2) (claims· .3) "tables::judge") (known2 : Plain.Known 𝓤 H A W 𝓣 4 ps·2 r·2 (claims· .4) (claims· .5) "panel::carry") → Statement.Triple 𝓤 (Wp.WpFn 𝓤 H (𝓣 .C) (𝓣 .Λ) (Function.fnOf 4 ps r xs m hs body)) (Function.plainOf 𝓤 H A 4 ps r Pre· Post·)
+      Closed = (𝓤 : URA.URA M) (H : Wp.Heap 𝓤) (A : Atoms.Atoms 𝓤) (W : Kit.Given 𝓤 H A) (𝓣 : Wp.Tables 𝓤 H) (known0 : Plain.Known 𝓤 H A W 𝓣 2 ps·0 r·0 (claims· .0) (claims· .1) "panel::panel_sound") (known1 : Plain.Known 𝓤 H A W 𝓣 3 ps·1 r·1 (claims· .2) (claims· .3) "tables::decide") (known2 : Plain.Known 𝓤 H A W 𝓣 4 ps·2 r·2 (claims· .4) (claims· .5) "panel::carry") → Statement.Triple 𝓤 (Wp.WpFn 𝓤 H (𝓣 .C) (𝓣 .Λ) (Function.fnOf 4 ps r xs m hs body)) (Function.plainOf 𝓤 H A 4 ps r Pre· Post·)
 
     module _ where
       abbrev at0 : Typed.TF T25 O1
@@ -799,7 +799,7 @@ module _ (claims· : Claims) where
       module _ {M : Type 1} (𝓤 : URA.URA M) (H : Wp.Heap 𝓤) (A : Atoms.Atoms 𝓤)
           (W : Kit.Given 𝓤 H A) (𝓣 : Wp.Tables 𝓤 H) where
         abbrev Knowns : Type 1
-        Knowns = Plain.Known 𝓤 H A W 𝓣 2 ps·0 r·0 (claims· .0) (claims· .1) "panel::panel_sound" × Plain.Known 𝓤 H A W 𝓣 3 ps·1 r·1 (claims· .2) (claims· .3) "tables::judge" × Plain.Known 𝓤 H A W 𝓣 4 ps·2 r·2 (claims· .4) (claims· .5) "panel::carry"
+        Knowns = Plain.Known 𝓤 H A W 𝓣 2 ps·0 r·0 (claims· .0) (claims· .1) "panel::panel_sound" × Plain.Known 𝓤 H A W 𝓣 3 ps·1 r·1 (claims· .2) (claims· .3) "tables::decide" × Plain.Known 𝓤 H A W 𝓣 4 ps·2 r·2 (claims· .4) (claims· .5) "panel::carry"
 
       module _ (κs : Lifetimes.Lfts 4) (qs : Lifetimes.Shares 4) where
         abbrev g4 : List.List Row.Entry
@@ -1181,7 +1181,7 @@ module _ (claims· : Claims) where
           d36 = Typed.g-pre 𝓤 H A W 𝓣 E G33 G34 b29 Δ0 (Typed.pass T33 T34 s31) at35 (Scalar.g-room 𝓤 H A W E G33 14 (Syntax.tyStruct (List._∷_ 38 (List._∷_ 91 (List._∷_ 93 List.[]))) (Syntax.tcons (Syntax.tyRef Syntax.erased Syntax.imm OfOutput.named) (Syntax.tcons (Syntax.tyInt Syntax.w64) Syntax.tnil))) (Shared.room-sslice 𝓤 H A W (OfOutput.row) (Syntax.tyRef Syntax.erased Syntax.imm OfOutput.named) 6)) d35
 
           d37 : Typed.Typed 𝓤 H A 𝓣 E G32 b30 Δ0 at37
-          d37 = Typed.s-seq 𝓤 H A W 𝓣 E G32 G33 b16 b29 Δ0 (Typed.both s30) at36 (Plain.t-call-plain 𝓤 H A W 𝓣 3 ps·1 r·1 (claims· .2) (claims· .3) "tables::judge" (known .1) E (λ pos β. β) G32 (record { pos = 14; ty = Syntax.tyRef Syntax.erased Syntax.imm OfOutput.named; ref = λ x. x }, (record { pos = 16; ty = Syntax.tyRef Syntax.erased Syntax.imm OfStation.named; ref = λ x. x }, (Num.vAt 5 λ x. x, (record { pos = 4; ty = Syntax.tyRef (Syntax.named 3) Syntax.imm (Syntax.tyInt Syntax.w8); ref = λ x. x }, tt)))) 6 (List._∷_ 6 (List._∷_ 7 (List._∷_ 3 List.[]))) (Call.sub-id 𝓤 H A W (G32 .slots)) (ShrSlice.spares-sslice 𝓤 H A W (OfOutput.row) (Syntax.tyRef Syntax.erased Syntax.imm OfOutput.named) 6, Shared.reads-sslice 𝓤 H A W (OfOutput.row) (Syntax.tyRef Syntax.erased Syntax.imm OfOutput.named) 6, Path'.refl, (ShrSlice.spares-sslice 𝓤 H A W (OfStation.row) (Syntax.tyRef Syntax.erased Syntax.imm OfStation.named) 7, Shared.reads-sslice 𝓤 H A W (OfStation.row) (Syntax.tyRef Syntax.erased Syntax.imm OfStation.named) 7, Path'.refl, ((Scalar.reads-sc 𝓤 H A W (Row.sInt Syntax.w64), Path'.refl), (ShrSlice.spares-sslice 𝓤 H A W (Referent.rtF (Referent.fInt Syntax.w8)) (Syntax.tyRef (Syntax.named 3) Syntax.imm (Syntax.tyInt Syntax.w8)) 3, Shared.reads-sslice 𝓤 H A W (Referent.rtF (Referent.fInt Syntax.w8)) (Syntax.tyRef (Syntax.named 3) Syntax.imm (Syntax.tyInt Syntax.w8)) 3, Path'.refl, tt)))) (Reads.room-gone 𝓤 H A (Laws'.mir)) (tt, (tt, (tt, tt))) Path'.refl) d36
+          d37 = Typed.s-seq 𝓤 H A W 𝓣 E G32 G33 b16 b29 Δ0 (Typed.both s30) at36 (Plain.t-call-plain 𝓤 H A W 𝓣 3 ps·1 r·1 (claims· .2) (claims· .3) "tables::decide" (known .1) E (λ pos β. β) G32 (record { pos = 14; ty = Syntax.tyRef Syntax.erased Syntax.imm OfOutput.named; ref = λ x. x }, (record { pos = 16; ty = Syntax.tyRef Syntax.erased Syntax.imm OfStation.named; ref = λ x. x }, (Num.vAt 5 λ x. x, (record { pos = 4; ty = Syntax.tyRef (Syntax.named 3) Syntax.imm (Syntax.tyInt Syntax.w8); ref = λ x. x }, tt)))) 6 (List._∷_ 6 (List._∷_ 7 (List._∷_ 3 List.[]))) (Call.sub-id 𝓤 H A W (G32 .slots)) (ShrSlice.spares-sslice 𝓤 H A W (OfOutput.row) (Syntax.tyRef Syntax.erased Syntax.imm OfOutput.named) 6, Shared.reads-sslice 𝓤 H A W (OfOutput.row) (Syntax.tyRef Syntax.erased Syntax.imm OfOutput.named) 6, Path'.refl, (ShrSlice.spares-sslice 𝓤 H A W (OfStation.row) (Syntax.tyRef Syntax.erased Syntax.imm OfStation.named) 7, Shared.reads-sslice 𝓤 H A W (OfStation.row) (Syntax.tyRef Syntax.erased Syntax.imm OfStation.named) 7, Path'.refl, ((Scalar.reads-sc 𝓤 H A W (Row.sInt Syntax.w64), Path'.refl), (ShrSlice.spares-sslice 𝓤 H A W (Referent.rtF (Referent.fInt Syntax.w8)) (Syntax.tyRef (Syntax.named 3) Syntax.imm (Syntax.tyInt Syntax.w8)) 3, Shared.reads-sslice 𝓤 H A W (Referent.rtF (Referent.fInt Syntax.w8)) (Syntax.tyRef (Syntax.named 3) Syntax.imm (Syntax.tyInt Syntax.w8)) 3, Path'.refl, tt)))) (Reads.room-gone 𝓤 H A (Laws'.mir)) (tt, (tt, (tt, tt))) Path'.refl) d36
 
           d38 : Typed.Typed 𝓤 H A 𝓣 E G31 b31 Δ0 at38
           d38 = Typed.s-seq 𝓤 H A W 𝓣 E G31 G32 b15 b30 Δ0 (Typed.ask s29) at37 (Relend.t-sl-aggregate 𝓤 H A W E (OfStation.row) 𝓣 (Relend.asShr (OfStation.row)) G31 15 16 7 (Syntax.tyRef Syntax.erased Syntax.imm OfStation.named) (Syntax.tyRef Syntax.erased Syntax.imm OfStation.named) (λ x. x) (Scalar.oFld 2 (List._∷_ (Syntax.field 1) List.[]) (Syntax.tyInt Syntax.w64) 8 λ v. Shared.lenV (v .0)) (Reads.as-is 𝓤 H A (Relend.ssptr (OfStation.row) (Syntax.tyRef Syntax.erased Syntax.imm OfStation.named) 7)) (Reads.room-gone 𝓤 H A (Syntax.tyStruct (List._∷_ 38 (List._∷_ 91 (List._∷_ 93 List.[]))) (Syntax.tcons (Syntax.tyRef Syntax.erased Syntax.imm OfStation.named) (Syntax.tcons (Syntax.tyInt Syntax.w64) Syntax.tnil)))) (Reshare.reads-owedS-len 𝓤 H A W (OfStation.row) (Syntax.tyRef (Syntax.named 1) Syntax.mut OfStation.named) 1 7 (Row.lease (κs .1 .0) (qs .1 .0)) 8 Path'.refl, Path'.refl) Path'.refl Path'.refl λ b o k. tt) d37
@@ -1486,96 +1486,96 @@ module _ (claims· : Claims) where
       m20 = λ before given. s26 .next (m19 before given)
 
       module _ (before· : Else1) where
-        pub record After-judge-arg·own : Type 0 where
+        pub record After-decide-arg·own : Type 0 where
           pub given : s25 .gives (m18 (before· .before))
 
-      pub record After-judge-arg : Type 0 where
+      pub record After-decide-arg : Type 0 where
         pub before : Else1
-        pub judge-arg : After-judge-arg·own before
+        pub decide-arg : After-decide-arg·own before
 
       abbrev pub m21 :
-          (before : After-judge-arg) →
-          (given : s28 .gives (m20 (before .before) (before .judge-arg .given))) →
+          (before : After-decide-arg) →
+          (given : s28 .gives (m20 (before .before) (before .decide-arg .given))) →
           Typed.Mo T31
-      m21 = λ before given. s28 .next (m20 (before .before) (before .judge-arg .given)) given
+      m21 = λ before given. s28 .next (m20 (before .before) (before .decide-arg .given)) given
 
       abbrev pub m22 :
-          (before : After-judge-arg) →
-          (given : s28 .gives (m20 (before .before) (before .judge-arg .given))) →
+          (before : After-decide-arg) →
+          (given : s28 .gives (m20 (before .before) (before .decide-arg .given))) →
           Typed.Mo T32
       m22 = λ before given. s29 .next (m21 before given)
 
-      module _ (before· : After-judge-arg) where
-        pub record After-judge-arg2·own : Type 0 where
-          pub given : s28 .gives (m20 (before· .before) (before· .judge-arg .given))
+      module _ (before· : After-decide-arg) where
+        pub record After-decide-arg2·own : Type 0 where
+          pub given : s28 .gives (m20 (before· .before) (before· .decide-arg .given))
 
-      pub record After-judge-arg2 : Type 0 where
-        pub before : After-judge-arg
-        pub judge-arg2 : After-judge-arg2·own before
+      pub record After-decide-arg2 : Type 0 where
+        pub before : After-decide-arg
+        pub decide-arg2 : After-decide-arg2·own before
 
-      abbrev pub Need-judge-requires : Type 0
-      Need-judge-requires = (c : After-judge-arg2) → s30 .asks (m22 (c .before) (c .judge-arg2 .given))
+      abbrev pub Need-decide-requires : Type 0
+      Need-decide-requires = (c : After-decide-arg2) → s30 .asks (m22 (c .before) (c .decide-arg2 .given))
 
       abbrev pub m23 :
-          (before : After-judge-arg2) →
-          (given : s30 .gives (m22 (before .before) (before .judge-arg2 .given))) →
+          (before : After-decide-arg2) →
+          (given : s30 .gives (m22 (before .before) (before .decide-arg2 .given))) →
           Typed.Mo T33
-      m23 = λ before given. s30 .next (m22 (before .before) (before .judge-arg2 .given)) given
+      m23 = λ before given. s30 .next (m22 (before .before) (before .decide-arg2 .given)) given
 
-      module _ (before· : After-judge-arg2) where
-        abbrev pub After-judge·own : Type 0
-        After-judge·own = Called.Called ps·1 r·1 (claims· .3) T32 (record { pos = 14; ty = Syntax.tyRef Syntax.erased Syntax.imm OfOutput.named; ref = λ x. x }, (record { pos = 16; ty = Syntax.tyRef Syntax.erased Syntax.imm OfStation.named; ref = λ x. x }, (Num.vAt 5 λ x. x, (record { pos = 4; ty = Syntax.tyRef (Syntax.named 3) Syntax.imm (Syntax.tyInt Syntax.w8); ref = λ x. x }, tt)))) (m22 (before· .before) (before· .judge-arg2 .given))
+      module _ (before· : After-decide-arg2) where
+        abbrev pub After-decide·own : Type 0
+        After-decide·own = Called.Called ps·1 r·1 (claims· .3) T32 (record { pos = 14; ty = Syntax.tyRef Syntax.erased Syntax.imm OfOutput.named; ref = λ x. x }, (record { pos = 16; ty = Syntax.tyRef Syntax.erased Syntax.imm OfStation.named; ref = λ x. x }, (Num.vAt 5 λ x. x, (record { pos = 4; ty = Syntax.tyRef (Syntax.named 3) Syntax.imm (Syntax.tyInt Syntax.w8); ref = λ x. x }, tt)))) (m22 (before· .before) (before· .decide-arg2 .given))
 
-      pub record After-judge : Type 0 where
-        pub before : After-judge-arg2
-        pub judge : After-judge·own before
+      pub record After-decide : Type 0 where
+        pub before : After-decide-arg2
+        pub decide : After-decide·own before
 
-      abbrev pub After-judge·gave :
-          (c : After-judge) → s30 .gives (m22 (c .before .before) (c .before .judge-arg2 .given))
-      After-judge·gave = λ c. Called.given ps·1 r·1 (claims· .3) T32 (record { pos = 14; ty = Syntax.tyRef Syntax.erased Syntax.imm OfOutput.named; ref = λ x. x }, (record { pos = 16; ty = Syntax.tyRef Syntax.erased Syntax.imm OfStation.named; ref = λ x. x }, (Num.vAt 5 λ x. x, (record { pos = 4; ty = Syntax.tyRef (Syntax.named 3) Syntax.imm (Syntax.tyInt Syntax.w8); ref = λ x. x }, tt)))) (m22 (c .before .before) (c .before .judge-arg2 .given)) (c .judge)
+      abbrev pub After-decide·gave :
+          (c : After-decide) → s30 .gives (m22 (c .before .before) (c .before .decide-arg2 .given))
+      After-decide·gave = λ c. Called.given ps·1 r·1 (claims· .3) T32 (record { pos = 14; ty = Syntax.tyRef Syntax.erased Syntax.imm OfOutput.named; ref = λ x. x }, (record { pos = 16; ty = Syntax.tyRef Syntax.erased Syntax.imm OfStation.named; ref = λ x. x }, (Num.vAt 5 λ x. x, (record { pos = 4; ty = Syntax.tyRef (Syntax.named 3) Syntax.imm (Syntax.tyInt Syntax.w8); ref = λ x. x }, tt)))) (m22 (c .before .before) (c .before .decide-arg2 .given)) (c .decide)
 
       abbrev pub m24 :
-          (before : After-judge-arg2) →
-          (given : s30 .gives (m22 (before .before) (before .judge-arg2 .given))) →
+          (before : After-decide-arg2) →
+          (given : s30 .gives (m22 (before .before) (before .decide-arg2 .given))) →
           Typed.Mo T34
       m24 = λ before given. s31 (m23 before given)
 
       abbrev pub m25 :
-          (before : After-judge-arg2) →
-          (given : s30 .gives (m22 (before .before) (before .judge-arg2 .given))) →
+          (before : After-decide-arg2) →
+          (given : s30 .gives (m22 (before .before) (before .decide-arg2 .given))) →
           Typed.Mo T35
       m25 = λ before given. s32 (m24 before given)
 
       abbrev pub m26 :
-          (before : After-judge-arg2) →
-          (given : s30 .gives (m22 (before .before) (before .judge-arg2 .given))) →
+          (before : After-decide-arg2) →
+          (given : s30 .gives (m22 (before .before) (before .decide-arg2 .given))) →
           Typed.Mo T37
       m26 = λ before given. s34 (m25 before given)
 
       abbrev pub m27 :
-          (before : After-judge-arg2) →
-          (given : s30 .gives (m22 (before .before) (before .judge-arg2 .given))) →
+          (before : After-decide-arg2) →
+          (given : s30 .gives (m22 (before .before) (before .decide-arg2 .given))) →
           Typed.Mo T40
       m27 = λ before given. s37 (m26 before given)
 
       abbrev pub m28 :
-          (before : After-judge) →
-          (given : s40 .gives (m27 (before .before) (After-judge·gave before))) →
+          (before : After-decide) →
+          (given : s40 .gives (m27 (before .before) (After-decide·gave before))) →
           Typed.Mo T43
-      m28 = λ before given. s40 .next (m27 (before .before) (After-judge·gave before)) given
+      m28 = λ before given. s40 .next (m27 (before .before) (After-decide·gave before)) given
 
       abbrev pub m29 :
-          (before : After-judge) →
-          (given : s40 .gives (m27 (before .before) (After-judge·gave before))) →
+          (before : After-decide) →
+          (given : s40 .gives (m27 (before .before) (After-decide·gave before))) →
           Typed.Mo T44
       m29 = λ before given. s41 .next (m28 before given)
 
-      module _ (before· : After-judge) where
+      module _ (before· : After-decide) where
         pub record After-carry-arg·own : Type 0 where
-          pub given : s40 .gives (m27 (before· .before) (After-judge·gave before·))
+          pub given : s40 .gives (m27 (before· .before) (After-decide·gave before·))
 
       pub record After-carry-arg : Type 0 where
-        pub before : After-judge
+        pub before : After-decide
         pub carry-arg : After-carry-arg·own before
 
       abbrev pub m30 :
@@ -1690,7 +1690,7 @@ module _ (claims· : Claims) where
 
       module _ (panel-sound-requires : Need-panel-sound-requires) (same-length : Need-same-length)
           (same-length-2 : Need-same-length-2) (returns : Need-returns)
-          (judge-requires : Need-judge-requires) (carry-requires : Need-carry-requires)
+          (decide-requires : Need-decide-requires) (carry-requires : Need-carry-requires)
           (same-length-3 : Need-same-length-3) (same-length-4 : Need-same-length-4)
           (returns-2 : Need-returns-2) where
         lay4 :
@@ -1702,13 +1702,13 @@ module _ (claims· : Claims) where
         lay4 = λ c. (Path'.refl, λ g. (Path'.refl, λ g'. (Path'.refl, ((MutSlice.fix-len (Row.get 1 (T60 .locals) (m38 record { before = record { before = c .before; carry = c .carry }; outputs = record { given = g } } g') .ptr) (Row.get 1 (T60 .locals) (m38 record { before = record { before = c .before; carry = c .carry }; outputs = record { given = g } } g') .name) (Row.get 1 (T60 .locals) (m38 record { before = record { before = c .before; carry = c .carry }; outputs = record { given = g } } g') .now) (dens (c .before .before .before .before .before .before .before .before .before .before .before .before .before .κs) (c .before .before .before .before .before .before .before .before .before .before .before .before .before .args) .0 .now) (same-length-3 record { before = record { before = record { before = c .before; carry = c .carry }; outputs = record { given = g } }; stations = record { given = g' } }), (MutSlice.fix-len (Row.get 2 (T60 .locals) (m38 record { before = record { before = c .before; carry = c .carry }; outputs = record { given = g } } g') .ptr) (Row.get 2 (T60 .locals) (m38 record { before = record { before = c .before; carry = c .carry }; outputs = record { given = g } } g') .name) (Row.get 2 (T60 .locals) (m38 record { before = record { before = c .before; carry = c .carry }; outputs = record { given = g } } g') .now) (dens (c .before .before .before .before .before .before .before .before .before .before .before .before .before .κs) (c .before .before .before .before .before .before .before .before .before .before .before .before .before .args) .1 .0 .now) (same-length-4 record { before = record { before = record { before = c .before; carry = c .carry }; outputs = record { given = g } }; stations = record { given = g' } }), (Path'.refl, (Path'.refl, tt)))), returns-2 record { before = record { before = record { before = c .before; carry = c .carry }; outputs = record { given = g } }; stations = record { given = g' } }))))
 
         lay3 :
-            (c : After-judge) →
+            (c : After-decide) →
             at36
             (W0
             (c .before .before .before .before .before .before .before .before .before .κs)
             (c .before .before .before .before .before .before .before .before .before .args))
-            (m23 (c .before) (After-judge·gave c))
-        lay3 = λ c. λ g. (Path'.refl, λ g'. (Path'.refl, λ g''. (carry-requires record { before = record { before = record { before = record { before = c .before; judge = c .judge }; carry-arg = record { given = g } }; carry-arg2 = record { given = g' } }; carry-arg3 = record { given = g'' } }, λ g'3. lay4 record { before = record { before = record { before = record { before = record { before = c .before; judge = c .judge }; carry-arg = record { given = g } }; carry-arg2 = record { given = g' } }; carry-arg3 = record { given = g'' } }; carry = Called.called ps·2 r·2 (claims· .5) T49 (record { pos = 18; ty = Syntax.tyRef Syntax.erased Syntax.mut OfOutput.named; ref = λ x. x }, (record { pos = 20; ty = Syntax.tyRef Syntax.erased Syntax.mut OfStation.named; ref = λ x. x }, (record { pos = 21; ty = Syntax.tyRef Syntax.erased Syntax.mut (Syntax.tyInt Syntax.w64); ref = λ x. x }, (record { pos = 4; ty = Syntax.tyRef (Syntax.named 3) Syntax.imm (Syntax.tyInt Syntax.w8); ref = λ x. x }, (record { pos = 6; st = List.[]; d = 0; at = λ x. x }, tt))))) (m32 record { before = record { before = record { before = c .before; judge = c .judge }; carry-arg = record { given = g } }; carry-arg2 = record { given = g' } } g'') g'3 })))
+            (m23 (c .before) (After-decide·gave c))
+        lay3 = λ c. λ g. (Path'.refl, λ g'. (Path'.refl, λ g''. (carry-requires record { before = record { before = record { before = record { before = c .before; decide = c .decide }; carry-arg = record { given = g } }; carry-arg2 = record { given = g' } }; carry-arg3 = record { given = g'' } }, λ g'3. lay4 record { before = record { before = record { before = record { before = record { before = c .before; decide = c .decide }; carry-arg = record { given = g } }; carry-arg2 = record { given = g' } }; carry-arg3 = record { given = g'' } }; carry = Called.called ps·2 r·2 (claims· .5) T49 (record { pos = 18; ty = Syntax.tyRef Syntax.erased Syntax.mut OfOutput.named; ref = λ x. x }, (record { pos = 20; ty = Syntax.tyRef Syntax.erased Syntax.mut OfStation.named; ref = λ x. x }, (record { pos = 21; ty = Syntax.tyRef Syntax.erased Syntax.mut (Syntax.tyInt Syntax.w64); ref = λ x. x }, (record { pos = 4; ty = Syntax.tyRef (Syntax.named 3) Syntax.imm (Syntax.tyInt Syntax.w8); ref = λ x. x }, (record { pos = 6; st = List.[]; d = 0; at = λ x. x }, tt))))) (m32 record { before = record { before = record { before = c .before; decide = c .decide }; carry-arg = record { given = g } }; carry-arg2 = record { given = g' } } g'') g'3 })))
 
         lay2 :
             (c : Else1) →
@@ -1717,7 +1717,7 @@ module _ (claims· : Claims) where
             (c .before .before .before .before .before .before .κs)
             (c .before .before .before .before .before .before .args))
             (m18 (c .before))
-        lay2 = λ c. λ g. (Path'.refl, λ g'. (Path'.refl, (judge-requires record { before = record { before = record { before = c .before; if1 = c .if1 }; judge-arg = record { given = g } }; judge-arg2 = record { given = g' } }, λ g''. lay3 record { before = record { before = record { before = record { before = c .before; if1 = c .if1 }; judge-arg = record { given = g } }; judge-arg2 = record { given = g' } }; judge = Called.called ps·1 r·1 (claims· .3) T32 (record { pos = 14; ty = Syntax.tyRef Syntax.erased Syntax.imm OfOutput.named; ref = λ x. x }, (record { pos = 16; ty = Syntax.tyRef Syntax.erased Syntax.imm OfStation.named; ref = λ x. x }, (Num.vAt 5 λ x. x, (record { pos = 4; ty = Syntax.tyRef (Syntax.named 3) Syntax.imm (Syntax.tyInt Syntax.w8); ref = λ x. x }, tt)))) (m22 record { before = record { before = c .before; if1 = c .if1 }; judge-arg = record { given = g } } g') g'' })))
+        lay2 = λ c. λ g. (Path'.refl, λ g'. (Path'.refl, (decide-requires record { before = record { before = record { before = c .before; if1 = c .if1 }; decide-arg = record { given = g } }; decide-arg2 = record { given = g' } }, λ g''. lay3 record { before = record { before = record { before = record { before = c .before; if1 = c .if1 }; decide-arg = record { given = g } }; decide-arg2 = record { given = g' } }; decide = Called.called ps·1 r·1 (claims· .3) T32 (record { pos = 14; ty = Syntax.tyRef Syntax.erased Syntax.imm OfOutput.named; ref = λ x. x }, (record { pos = 16; ty = Syntax.tyRef Syntax.erased Syntax.imm OfStation.named; ref = λ x. x }, (Num.vAt 5 λ x. x, (record { pos = 4; ty = Syntax.tyRef (Syntax.named 3) Syntax.imm (Syntax.tyInt Syntax.w8); ref = λ x. x }, tt)))) (m22 record { before = record { before = c .before; if1 = c .if1 }; decide-arg = record { given = g } } g') g'' })))
 
         lay1 :
             (c : After-panel-sound) →
@@ -1754,7 +1754,7 @@ module _ (claims· : Claims) where
             (claims· .0)
             (claims· .1)
             "panel::panel_sound")
-            (known1 : Plain.Known 𝓤 H A W 𝓣 3 ps·1 r·1 (claims· .2) (claims· .3) "tables::judge")
+            (known1 : Plain.Known 𝓤 H A W 𝓣 3 ps·1 r·1 (claims· .2) (claims· .3) "tables::decide")
             (known2 : Plain.Known
             𝓤
             H

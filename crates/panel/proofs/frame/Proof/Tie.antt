@@ -11,9 +11,9 @@ use Rattle.panel.proofs.frame.Proof.Lts
 use Rattle.panel.proofs.frame.Statement
 use Rattle.panel.proofs.panel_sound.Met as Met'
 use Rattle.panel.proofs.panel_sound.Symbol as Symbol'
-use Rattle.tables.proofs.Lent.judge.Reads as Reads'3
-use Rattle.tables.proofs.judge.Met as Met''
-use Rattle.tables.proofs.judge.Symbol as Symbol''
+use Rattle.tables.proofs.Lent.decide.Reads as Reads'3
+use Rattle.tables.proofs.decide.Met as Met''
+use Rattle.tables.proofs.decide.Symbol as Symbol''
 use borrow.Fn.Run
 use borrow.Fn.Written
 use contract.Running
@@ -42,14 +42,14 @@ Then1 = Lts.Then1 (Reads''.Asked, Reads''.Learnt, Reads'3.Asked, Reads'3.Learnt,
 abbrev pub Else1 : Type 0
 Else1 = Lts.Else1 (Reads''.Asked, Reads''.Learnt, Reads'3.Asked, Reads'3.Learnt, Reads.Asked, Reads.Learnt) Reads'.Pre Reads'.Post
 
-abbrev pub After-judge-arg : Type 0
-After-judge-arg = Lts.After-judge-arg (Reads''.Asked, Reads''.Learnt, Reads'3.Asked, Reads'3.Learnt, Reads.Asked, Reads.Learnt) Reads'.Pre Reads'.Post
+abbrev pub After-decide-arg : Type 0
+After-decide-arg = Lts.After-decide-arg (Reads''.Asked, Reads''.Learnt, Reads'3.Asked, Reads'3.Learnt, Reads.Asked, Reads.Learnt) Reads'.Pre Reads'.Post
 
-abbrev pub After-judge-arg2 : Type 0
-After-judge-arg2 = Lts.After-judge-arg2 (Reads''.Asked, Reads''.Learnt, Reads'3.Asked, Reads'3.Learnt, Reads.Asked, Reads.Learnt) Reads'.Pre Reads'.Post
+abbrev pub After-decide-arg2 : Type 0
+After-decide-arg2 = Lts.After-decide-arg2 (Reads''.Asked, Reads''.Learnt, Reads'3.Asked, Reads'3.Learnt, Reads.Asked, Reads.Learnt) Reads'.Pre Reads'.Post
 
-abbrev pub After-judge : Type 0
-After-judge = Lts.After-judge (Reads''.Asked, Reads''.Learnt, Reads'3.Asked, Reads'3.Learnt, Reads.Asked, Reads.Learnt) Reads'.Pre Reads'.Post
+abbrev pub After-decide : Type 0
+After-decide = Lts.After-decide (Reads''.Asked, Reads''.Learnt, Reads'3.Asked, Reads'3.Learnt, Reads.Asked, Reads.Learnt) Reads'.Pre Reads'.Post
 
 abbrev pub After-carry-arg : Type 0
 After-carry-arg = Lts.After-carry-arg (Reads''.Asked, Reads''.Learnt, Reads'3.Asked, Reads'3.Learnt, Reads.Asked, Reads.Learnt) Reads'.Pre Reads'.Post
@@ -81,8 +81,8 @@ Need-same-length-2 = Lts.Need-same-length-2 (Reads''.Asked, Reads''.Learnt, Read
 abbrev pub Need-returns : Type 0
 Need-returns = Lts.Need-returns (Reads''.Asked, Reads''.Learnt, Reads'3.Asked, Reads'3.Learnt, Reads.Asked, Reads.Learnt) Reads'.Pre Reads'.Post
 
-abbrev pub Need-judge-requires : Type 0
-Need-judge-requires = Lts.Need-judge-requires (Reads''.Asked, Reads''.Learnt, Reads'3.Asked, Reads'3.Learnt, Reads.Asked, Reads.Learnt) Reads'.Pre Reads'.Post
+abbrev pub Need-decide-requires : Type 0
+Need-decide-requires = Lts.Need-decide-requires (Reads''.Asked, Reads''.Learnt, Reads'3.Asked, Reads'3.Learnt, Reads.Asked, Reads.Learnt) Reads'.Pre Reads'.Post
 
 abbrev pub Need-carry-requires : Type 0
 Need-carry-requires = Lts.Need-carry-requires (Reads''.Asked, Reads''.Learnt, Reads'3.Asked, Reads'3.Learnt, Reads.Asked, Reads.Learnt) Reads'.Pre Reads'.Post
@@ -102,7 +102,7 @@ module _ {M : Type 1} where
       (answer : Need-same-length) →
       (answer : Need-same-length-2) →
       (answer : Need-returns) →
-      (answer : Need-judge-requires) →
+      (answer : Need-decide-requires) →
       (answer : Need-carry-requires) →
       (answer : Need-same-length-3) →
       (answer : Need-same-length-4) →
@@ -126,4 +126,4 @@ module _ {M : Type 1} where
     Reads.Learnt,
   ) Reads'.Pre Reads'.Post M → Statement.statement M
   unfolding Code.routine Running.tablesOf
-  close = λ closed 𝓤 H 𝓜 𝓖 𝓡. Written.close 4 Kinds.ps Kinds.r Reads'.Ghost Reads'.requires Reads'.ensures Reads'.pre-read Reads'.Pinned Reads'.Owned Reads'.post-read record { M = M; 𝓤 = 𝓤; H = H; 𝓜 = 𝓜; 𝓖 = 𝓖; 𝓡 = 𝓡 } Code.env Key.name Code.function (Code.unfolded 𝓤 H 𝓜 𝓡) (λ κs a g. tt) (λ κs. Reads'.owns κs record { M = M; 𝓤 = 𝓤; H = H; 𝓜 = 𝓜; 𝓖 = 𝓖; 𝓡 = 𝓡 }) (Reads'.passes record { M = M; 𝓤 = 𝓤; H = H; 𝓜 = 𝓜; 𝓖 = 𝓖; 𝓡 = 𝓡 }) λ g. closed 𝓤 H (𝓖 .A) (Running.givenOf 𝓤 H 𝓜 𝓖) (Run.Over 𝓤 H 𝓜 𝓖 𝓡 Code.env) (Reads''.known record { M = M; 𝓤 = 𝓤; H = H; 𝓜 = 𝓜; 𝓖 = 𝓖; 𝓡 = 𝓡 } Code.env Symbol'.name Symbol'.routine Code.calls-panel·panel-sound (Met'.met 𝓤 H 𝓜 𝓖 𝓡)) (Reads'3.known record { M = M; 𝓤 = 𝓤; H = H; 𝓜 = 𝓜; 𝓖 = 𝓖; 𝓡 = 𝓡 } Code.env Symbol''.name Symbol''.routine Code.calls-tables·judge (Met''.met 𝓤 H 𝓜 𝓖 𝓡)) (Reads.known record { M = M; 𝓤 = 𝓤; H = H; 𝓜 = 𝓜; 𝓖 = 𝓖; 𝓡 = 𝓡 } Code.env Symbol.name Symbol.routine Code.calls-panel·carry (Met.met 𝓤 H 𝓜 𝓖 𝓡))
+  close = λ closed 𝓤 H 𝓜 𝓖 𝓡. Written.close 4 Kinds.ps Kinds.r Reads'.Ghost Reads'.requires Reads'.ensures Reads'.pre-read Reads'.Pinned Reads'.Owned Reads'.post-read record { M = M; 𝓤 = 𝓤; H = H; 𝓜 = 𝓜; 𝓖 = 𝓖; 𝓡 = 𝓡 } Code.env Key.name Code.function (Code.unfolded 𝓤 H 𝓜 𝓡) (λ κs a g. tt) (λ κs. Reads'.owns κs record { M = M; 𝓤 = 𝓤; H = H; 𝓜 = 𝓜; 𝓖 = 𝓖; 𝓡 = 𝓡 }) (Reads'.passes record { M = M; 𝓤 = 𝓤; H = H; 𝓜 = 𝓜; 𝓖 = 𝓖; 𝓡 = 𝓡 }) λ g. closed 𝓤 H (𝓖 .A) (Running.givenOf 𝓤 H 𝓜 𝓖) (Run.Over 𝓤 H 𝓜 𝓖 𝓡 Code.env) (Reads''.known record { M = M; 𝓤 = 𝓤; H = H; 𝓜 = 𝓜; 𝓖 = 𝓖; 𝓡 = 𝓡 } Code.env Symbol'.name Symbol'.routine Code.calls-panel·panel-sound (Met'.met 𝓤 H 𝓜 𝓖 𝓡)) (Reads'3.known record { M = M; 𝓤 = 𝓤; H = H; 𝓜 = 𝓜; 𝓖 = 𝓖; 𝓡 = 𝓡 } Code.env Symbol''.name Symbol''.routine Code.calls-tables·decide (Met''.met 𝓤 H 𝓜 𝓖 𝓡)) (Reads.known record { M = M; 𝓤 = 𝓤; H = H; 𝓜 = 𝓜; 𝓖 = 𝓖; 𝓡 = 𝓡 } Code.env Symbol.name Symbol.routine Code.calls-panel·carry (Met.met 𝓤 H 𝓜 𝓖 𝓡))

@@ -623,14 +623,14 @@ module _ (claims· : Claims) where
           pub stations : Kinds.Den {n = 2}
               κs
               (ShrSlice.pShrS (OfStation.row) 1 tt)
-          pub t : Kinds.Den {n = 2} κs (Num.pNum Syntax.w64)
+          pub time : Kinds.Den {n = 2} κs (Num.pNum Syntax.w64)
 
         abbrev pub dens : (a : Args) → Kinds.Dens κs ps
-        dens = λ a. (a .outputs, (a .stations, (a .t, tt)))
+        dens = λ a. (a .outputs, (a .stations, (a .time, tt)))
 
         module _ (args· : Args) where
           pub record Ranges : Type 0 where
-            pub t : Val.Fits Syntax.w64 (args· .t)
+            pub time : Val.Fits Syntax.w64 (args· .time)
 
       abbrev pub m0 : (κs : Lifetimes.Lfts 2) → (args : Args κs) → Typed.Mo T0
       m0 = λ κs args. (tt, Enter.partsP κs 1 ps xs (dens κs args))
@@ -865,7 +865,7 @@ module _ (claims· : Claims) where
               (pre : Pre· κs a) →
               (bs : List.List Nat.ℕ) →
               Φ (Any.wantQ 2 ps r xs m κs qs a (Post· κs a)) (Function.init 2 ps r xs m κs qs a)
-          asked = λ a good pre bs. laid record { κs = κs; args = record { outputs = a .0; stations = a .1 .0; t = a .1 .1 .0 }; good = good; fits = record { t = record { fits = good .1 .1 .0 .1 } }; pre = pre }
+          asked = λ a good pre bs. laid record { κs = κs; args = record { outputs = a .0; stations = a .1 .0; time = a .1 .1 .0 }; good = good; fits = record { time = record { fits = good .1 .1 .0 .1 } }; pre = pre }
 
         module _ {M : Type 1} (𝓤 : URA.URA M) (H : Wp.Heap 𝓤) (A : Atoms.Atoms 𝓤)
             (W : Kit.Given 𝓤 H A) (𝓣 : Wp.Tables 𝓤 H)

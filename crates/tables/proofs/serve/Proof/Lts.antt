@@ -611,10 +611,10 @@ module _ (claims· : Claims) where
           pub outputs : Kinds.Den {n = 1}
               κs
               (MutSlice.pMutS (OfOutput.row) 0 tt)
-          pub t : Kinds.Den {n = 1} κs (Num.pNum Syntax.w64)
-          pub s : Kinds.Den {n = 1} κs (Num.pNum Syntax.w8)
-          pub i : Kinds.Den {n = 1} κs (Num.pNum Syntax.w64)
-          pub r : Kinds.Den {n = 1} κs (Value.pVal record {
+          pub time : Kinds.Den {n = 1} κs (Num.pNum Syntax.w64)
+          pub station : Kinds.Den {n = 1} κs (Num.pNum Syntax.w8)
+          pub at : Kinds.Den {n = 1} κs (Num.pNum Syntax.w64)
+          pub request : Kinds.Den {n = 1} κs (Value.pVal record {
             ty = Declared.row Request.the-type;
             one = Path'.refl;
             val = Laws'3.val Request.the-type Laws''.the-laws;
@@ -632,13 +632,13 @@ module _ (claims· : Claims) where
           })
 
         abbrev pub dens : (a : Args) → Kinds.Dens κs ps
-        dens = λ a. (a .outputs, (a .t, (a .s, (a .i, (a .r, tt)))))
+        dens = λ a. (a .outputs, (a .time, (a .station, (a .at, (a .request, tt)))))
 
         module _ (args· : Args) where
           pub record Ranges : Type 0 where
-            pub t : Val.Fits Syntax.w64 (args· .t)
-            pub s : Val.Fits Syntax.w8 (args· .s)
-            pub i : Val.Fits Syntax.w64 (args· .i)
+            pub time : Val.Fits Syntax.w64 (args· .time)
+            pub station : Val.Fits Syntax.w8 (args· .station)
+            pub at : Val.Fits Syntax.w64 (args· .at)
 
       abbrev pub m0 : (κs : Lifetimes.Lfts 1) → (args : Args κs) → Typed.Mo T0
       m0 = λ κs args. (tt, Enter.partsP κs 1 ps xs (dens κs args))
@@ -879,7 +879,7 @@ module _ (claims· : Claims) where
               (pre : Pre· κs a) →
               (bs : List.List Nat.ℕ) →
               Φ (Any.wantQ 1 ps r xs m κs qs a (Post· κs a)) (Function.init 1 ps r xs m κs qs a)
-          asked = λ a good pre bs. laid record { κs = κs; args = record { outputs = a .0; t = a .1 .0; s = a .1 .1 .0; i = a .1 .1 .1 .0; r = a .1 .1 .1 .1 .0 }; good = good; fits = record { t = record { fits = good .1 .0 .1 }; s = record { fits = good .1 .1 .0 .1 }; i = record { fits = good .1 .1 .1 .0 .1 } }; pre = pre }
+          asked = λ a good pre bs. laid record { κs = κs; args = record { outputs = a .0; time = a .1 .0; station = a .1 .1 .0; at = a .1 .1 .1 .0; request = a .1 .1 .1 .1 .0 }; good = good; fits = record { time = record { fits = good .1 .0 .1 }; station = record { fits = good .1 .1 .0 .1 }; at = record { fits = good .1 .1 .1 .0 .1 } }; pre = pre }
 
         module _ {M : Type 1} (𝓤 : URA.URA M) (H : Wp.Heap 𝓤) (A : Atoms.Atoms 𝓤)
             (W : Kit.Given 𝓤 H A) (𝓣 : Wp.Tables 𝓤 H)

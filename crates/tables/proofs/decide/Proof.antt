@@ -9,10 +9,10 @@ use Rattle.lighting.specs.Frames.{parse}
 use Rattle.lighting.specs.Panel.{stationOf, decide}
 use Rattle.lighting.proofs.Carried.{octets, station-found}
 use borrow.Author.Needs.{needs}
-use Rattle.tables.proofs.judge.Statement.{statement}
-use Rattle.tables.proofs.judge.Proof.Tie as tie
-use Rattle.tables.proofs.Lent.judge.Reads as reads
-use Rattle.tables.proofs.judge.Proof.Lts as lts
+use Rattle.tables.proofs.decide.Statement.{statement}
+use Rattle.tables.proofs.decide.Proof.Tie as tie
+use Rattle.tables.proofs.Lent.decide.Reads as reads
+use Rattle.tables.proofs.decide.Proof.Lts as lts
 
 parse-requires : tie.Need-parse-requires
 parse-requires c κs = search needs
@@ -20,16 +20,16 @@ parse-requires c κs = search needs
 station-of-requires : tie.Need-station-of-requires
 station-of-requires c κs = search needs
 
-wide-requires : tie.Need-wide-requires
-wide-requires c κs = search needs
+index-requires : tie.Need-index-requires
+index-requires c κs = search needs
 
 -- the station that the frame names has its record
-within : (c : tie.After-wide) → c .wide .result < length (c .before .before .before .before .args .stations .now)
+within : (c : tie.After-index) → c .index .result < length (c .before .before .before .before .args .stations .now)
 within c =
     let a = c .before .before .before .before .args in
     let b = a .bytes .now in
-    let e : c .wide .result ≡ stationOf (parse standard (length (a .outputs .now)) b) =
-    c .wide .ensures ∙ c .before .station-of .ensures ∙ ap stationOf (c .before .before .parse .ensures) in
+    let e : c .index .result ≡ stationOf (parse standard (length (a .outputs .now)) b) =
+    c .index .ensures ∙ c .before .station-of .ensures ∙ ap stationOf (c .before .before .parse .ensures) in
     omega (
       arith,
       e,
@@ -37,27 +37,27 @@ within c =
       station-found (length (a .outputs .now)) b (octets b (λ (i : ℕ). omega (arith, c .before .before .before .shared-slice-known .given i))),
     )
 
-mul-k : tie.Need-mul-k
-mul-k c = let h = within c in search needs
+mul-record : tie.Need-mul-record
+mul-record c = let h = within c in search needs
 
-shared-slice-copy-out-k : tie.Need-shared-slice-copy-out-k
-shared-slice-copy-out-k c = within c
+shared-slice-copy-out-record : tie.Need-shared-slice-copy-out-record
+shared-slice-copy-out-record c = within c
 
 met-by-requires : tie.Need-met-by-requires
 met-by-requires c κs = search needs
 
 returns : tie.Need-returns
 unfolding decide
-returns c = simp (c .met-by .ensures, c .before .before .wide .ensures, c .before .before .before .station-of .ensures, c .before .before .before .before .parse .ensures)
+returns c = simp (c .met-by .ensures, c .before .before .index .ensures, c .before .before .before .station-of .ensures, c .before .before .before .before .parse .ensures)
 
-pub judge-spec : {M : Type 1} → statement M
-judge-spec =
+pub decide-spec : {M : Type 1} → statement M
+decide-spec =
     tie.close
     (tie.spec
     parse-requires
     station-of-requires
-    wide-requires
-    mul-k
-    shared-slice-copy-out-k
+    index-requires
+    mul-record
+    shared-slice-copy-out-record
     met-by-requires
     returns)

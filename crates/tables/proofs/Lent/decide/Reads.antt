@@ -1,6 +1,6 @@
 -- Made by tools/twin.py.
-use Rattle.tables.proofs.Lent.judge.Kinds
-use Rattle.tables.proofs.judge
+use Rattle.tables.proofs.Lent.decide.Kinds
+use Rattle.tables.proofs.decide
 use base.Logic
 use borrow.Fn.Kinds as Kinds'
 use borrow.Fn.Learn
@@ -17,21 +17,21 @@ abbrev pub Ghost : Type 0
 Ghost = Unit {0}
 
 module _ (κs : Lifetimes.Lfts 3) where
-  abbrev pub Pinned : (a : World.ArgsD judge.signature κs) → (w : World.World) → Type 1
-  Pinned = Learn.no-pin judge.signature κs
+  abbrev pub Pinned : (a : World.ArgsD decide.signature κs) → (w : World.World) → Type 1
+  Pinned = Learn.no-pin decide.signature κs
 
   abbrev pub Owned :
-      (r : World.ResD judge.signature κs) →
+      (r : World.ResD decide.signature κs) →
       (s : Clauses.AtExit (Kinds'.endedOf 3 Kinds.ps Kinds.r) κs) →
       (w : World.World) →
       Type 1
   Owned = Learn.no-own (Kinds'.endedOf 3 Kinds.ps Kinds.r) κs
 
-  abbrev pub Base : (a : World.ArgsD judge.signature κs) → (w : World.World) → World.Pr w
+  abbrev pub Base : (a : World.ArgsD decide.signature κs) → (w : World.World) → World.Pr w
   Base = Written.Base 3 Kinds.ps Kinds.r (λ κs. Pinned) κs
 
-  abbrev pub pins : (w : World.World) → Learn.PinOf judge.signature κs w λ a. Pinned a w
-  pins = λ w. Learn.no-pins judge.signature κs w
+  abbrev pub pins : (w : World.World) → Learn.PinOf decide.signature κs w λ a. Pinned a w
+  pins = λ w. Learn.no-pins decide.signature κs w
 
   abbrev pub owns :
       (w : World.World) →
@@ -47,25 +47,25 @@ module _ (κs : Lifetimes.Lfts 3) where
   owns = λ w. Learn.no-owns (Kinds'.endedOf 3 Kinds.ps Kinds.r) (Kinds'.stays Kinds.ps) κs w
 
   abbrev pub requires :
-      (a : World.ArgsD judge.signature κs) → (g : Ghost) → (w : World.World) → World.Pr w
-  requires = λ a g w. judge.clauses (w .𝓤) (w .H) (w .𝓖 .A) (w .𝓜 .mem) (w .𝓡 .run) κs a .requires g
+      (a : World.ArgsD decide.signature κs) → (g : Ghost) → (w : World.World) → World.Pr w
+  requires = λ a g w. decide.clauses (w .𝓤) (w .H) (w .𝓖 .A) (w .𝓜 .mem) (w .𝓡 .run) κs a .requires g
 
   abbrev pub ensures :
-      (a : World.ArgsD judge.signature κs) →
+      (a : World.ArgsD decide.signature κs) →
       (g : Ghost) →
-      (r : World.ResD judge.signature κs) →
+      (r : World.ResD decide.signature κs) →
       (s : Clauses.AtExit (Kinds'.endedOf 3 Kinds.ps Kinds.r) κs) →
       (w : World.World) →
       World.Pr w
-  ensures = λ a g r s w. judge.clauses (w .𝓤) (w .H) (w .𝓖 .A) (w .𝓜 .mem) (w .𝓡 .run) κs a .ensures g r s
+  ensures = λ a g r s w. decide.clauses (w .𝓤) (w .H) (w .𝓖 .A) (w .𝓜 .mem) (w .𝓡 .run) κs a .ensures g r s
 
   abbrev pub requires-1·read :
-      (a : World.ArgsD judge.signature κs) →
+      (a : World.ArgsD decide.signature κs) →
       (g : Ghost) →
       Read.Read
-      (World.In judge.signature κs a)
+      (World.In decide.signature κs a)
       Read.no-know
-      λ w. judge.requires-1
+      λ w. decide.requires-1
       (w .𝓤)
       (w .H)
       κs
@@ -76,23 +76,23 @@ module _ (κs : Lifetimes.Lfts 3) where
       (a .1 .0)
       (a .1 .1 .0)
       (a .1 .1 .1 .0)
-  requires-1·read = λ a g. Read.all-models (λ w. judge.requires-1 (w .𝓤) (w .H) κs (w .𝓖 .A) (w .𝓜 .mem) (w .𝓡 .run) (a .0) (a .1 .0) (a .1 .1 .0) (a .1 .1 .1 .0)) (λ w. Read.r-last _) (λ w. Path'.refl) (λ w. Path'.refl) λ w. Path'.refl
+  requires-1·read = λ a g. Read.all-models (λ w. decide.requires-1 (w .𝓤) (w .H) κs (w .𝓖 .A) (w .𝓜 .mem) (w .𝓡 .run) (a .0) (a .1 .0) (a .1 .1 .0) (a .1 .1 .1 .0)) (λ w. Read.r-last _) (λ w. Path'.refl) (λ w. Path'.refl) λ w. Path'.refl
 
   abbrev pub pre-read :
-      (a : World.ArgsD judge.signature κs) →
+      (a : World.ArgsD decide.signature κs) →
       (g : Ghost) →
-      Read.Read (World.In judge.signature κs a) Read.no-know (requires a g)
+      Read.Read (World.In decide.signature κs a) Read.no-know (requires a g)
   pre-read = λ a g. requires-1·read a g
 
   abbrev pub ensures-1·read :
-      (a : World.ArgsD judge.signature κs) →
+      (a : World.ArgsD decide.signature κs) →
       (g : Ghost) →
-      (r : World.ResD judge.signature κs) →
+      (r : World.ResD decide.signature κs) →
       (s : Clauses.AtExit (Kinds'.endedOf 3 Kinds.ps Kinds.r) κs) →
       Read.Read
       (Base a)
       (Owned r s)
-      λ w. judge.ensures-1
+      λ w. decide.ensures-1
       (w .𝓤)
       (w .H)
       κs
@@ -108,12 +108,12 @@ module _ (κs : Lifetimes.Lfts 3) where
       record { entry = a .1 .1 .0; exit = s .1 .1 .0 }
       record { entry = a .1 .1 .1 .0; exit = s .1 .1 .1 .0 }
       r
-  ensures-1·read = λ a g r s. Read.all-models (λ w. judge.ensures-1 (w .𝓤) (w .H) κs (w .𝓖 .A) (w .𝓜 .mem) (w .𝓡 .run) (a .0) (a .1 .0) (a .1 .1 .0) (a .1 .1 .1 .0) record { entry = a .0; exit = s .0 } record { entry = a .1 .0; exit = s .1 .0 } record { entry = a .1 .1 .0; exit = s .1 .1 .0 } record { entry = a .1 .1 .1 .0; exit = s .1 .1 .1 .0 } r) (λ w. Read.r-last _) (λ w. Path'.refl) (λ w. Path'.refl) λ w. Path'.refl
+  ensures-1·read = λ a g r s. Read.all-models (λ w. decide.ensures-1 (w .𝓤) (w .H) κs (w .𝓖 .A) (w .𝓜 .mem) (w .𝓡 .run) (a .0) (a .1 .0) (a .1 .1 .0) (a .1 .1 .1 .0) record { entry = a .0; exit = s .0 } record { entry = a .1 .0; exit = s .1 .0 } record { entry = a .1 .1 .0; exit = s .1 .1 .0 } record { entry = a .1 .1 .1 .0; exit = s .1 .1 .1 .0 } r) (λ w. Read.r-last _) (λ w. Path'.refl) (λ w. Path'.refl) λ w. Path'.refl
 
   abbrev pub post-read :
-      (a : World.ArgsD judge.signature κs) →
+      (a : World.ArgsD decide.signature κs) →
       (g : Ghost) →
-      (r : World.ResD judge.signature κs) →
+      (r : World.ResD decide.signature κs) →
       (s : Clauses.AtExit (Kinds'.endedOf 3 Kinds.ps Kinds.r) κs) →
       Read.Read (Base a) (Owned r s) (ensures a g r s)
   post-read = λ a g r s. ensures-1·read a g r s
@@ -138,7 +138,7 @@ passes = λ w κs a g r ws ft p q. Monad.top (w .𝓤) (Read.all∗ w (pre-read 
 pub lent :
     (w : World.World) →
     (κs : Lifetimes.Lfts 3) →
-    (a : World.ArgsD judge.signature κs) →
+    (a : World.ArgsD decide.signature κs) →
     Logic.ent (w .𝓤) (Logic.emp (w .𝓤)) (Read.all∗ w (pre-read κs a tt .held w))
 lent = λ w κs a. Logic.id⊢ (w .𝓤) (Logic.emp (w .𝓤))
 

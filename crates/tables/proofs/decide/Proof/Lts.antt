@@ -99,7 +99,7 @@ abbrev b2 : Syntax.Body
 b2 = Syntax.call "station::station_of" (List._∷_ (Syntax.copy (Syntax.place 5 List.[])) List.[]) (Syntax.place 9 List.[])
 
 abbrev b3 : Syntax.Body
-b3 = Syntax.call "tables::wide" (List._∷_ (Syntax.copy (Syntax.place 9 List.[])) List.[]) (Syntax.place 6 List.[])
+b3 = Syntax.call "ranges::index" (List._∷_ (Syntax.copy (Syntax.place 9 List.[])) List.[]) (Syntax.place 6 List.[])
 
 abbrev b4 : Syntax.Body
 b4 = Syntax.assign (Syntax.place 8 List.[]) (Syntax.op2 (Syntax.mul Syntax.unsigned) (Syntax.copy (Syntax.place 6 List.[])) (Syntax.int Syntax.w64 40))
@@ -337,7 +337,7 @@ module _ (claims· : Claims) where
       (Post· : (κs : Lifetimes.Lfts 3) → (a : Kinds.Dens κs ps) → Kinds.Plain 3 ps r κs) where
     module _ (M : Type 1) where
       abbrev pub Closed : Type 2
-      Closed = (𝓤 : URA.URA M) (H : Wp.Heap 𝓤) (A : Atoms.Atoms 𝓤) (W : Kit.Given 𝓤 H A) (𝓣 : Wp.Tables 𝓤 H) (known0 : Plain.Known 𝓤 H A W 𝓣 1 ps·0 r·0 (claims· .0) (claims· .1) "frame::parse") (known1 : Plain.Known 𝓤 H A W 𝓣 0 ps·1 r·1 (claims· .2) (claims· .3) "station::station_of") (known2 : Plain.Known 𝓤 H A W 𝓣 0 ps·2 r·2 (claims· .4) (claims· .5) "tables::wide") (known3 : Plain.Known 𝓤 H A W 𝓣 1 ps·3 r·3 (claims· .6) (claims· .7) "station::met_by") → Statement.Triple 𝓤 (Wp.WpFn 𝓤 H (𝓣 .C) (𝓣 .Λ) (Function.fnOf 3 ps r xs m hs body)) (Function.plainOf 𝓤 H A 3 ps r Pre· Post·)
+      Closed = (𝓤 : URA.URA M) (H : Wp.Heap 𝓤) (A : Atoms.Atoms 𝓤) (W : Kit.Given 𝓤 H A) (𝓣 : Wp.Tables 𝓤 H) (known0 : Plain.Known 𝓤 H A W 𝓣 1 ps·0 r·0 (claims· .0) (claims· .1) "frame::parse") (known1 : Plain.Known 𝓤 H A W 𝓣 0 ps·1 r·1 (claims· .2) (claims· .3) "station::station_of") (known2 : Plain.Known 𝓤 H A W 𝓣 0 ps·2 r·2 (claims· .4) (claims· .5) "ranges::index") (known3 : Plain.Known 𝓤 H A W 𝓣 1 ps·3 r·3 (claims· .6) (claims· .7) "station::met_by") → Statement.Triple 𝓤 (Wp.WpFn 𝓤 H (𝓣 .C) (𝓣 .Λ) (Function.fnOf 3 ps r xs m hs body)) (Function.plainOf 𝓤 H A 3 ps r Pre· Post·)
 
     module _ where
       abbrev at0 : Typed.TF T20 O0
@@ -406,7 +406,7 @@ module _ (claims· : Claims) where
       module _ {M : Type 1} (𝓤 : URA.URA M) (H : Wp.Heap 𝓤) (A : Atoms.Atoms 𝓤)
           (W : Kit.Given 𝓤 H A) (𝓣 : Wp.Tables 𝓤 H) where
         abbrev Knowns : Type 1
-        Knowns = Plain.Known 𝓤 H A W 𝓣 1 ps·0 r·0 (claims· .0) (claims· .1) "frame::parse" × Plain.Known 𝓤 H A W 𝓣 0 ps·1 r·1 (claims· .2) (claims· .3) "station::station_of" × Plain.Known 𝓤 H A W 𝓣 0 ps·2 r·2 (claims· .4) (claims· .5) "tables::wide" × Plain.Known 𝓤 H A W 𝓣 1 ps·3 r·3 (claims· .6) (claims· .7) "station::met_by"
+        Knowns = Plain.Known 𝓤 H A W 𝓣 1 ps·0 r·0 (claims· .0) (claims· .1) "frame::parse" × Plain.Known 𝓤 H A W 𝓣 0 ps·1 r·1 (claims· .2) (claims· .3) "station::station_of" × Plain.Known 𝓤 H A W 𝓣 0 ps·2 r·2 (claims· .4) (claims· .5) "ranges::index" × Plain.Known 𝓤 H A W 𝓣 1 ps·3 r·3 (claims· .6) (claims· .7) "station::met_by"
 
       module _ (κs : Lifetimes.Lfts 3) (qs : Lifetimes.Shares 3) where
         abbrev G0 : Row.Cx
@@ -524,7 +524,7 @@ module _ (claims· : Claims) where
           d13 = Typed.g-pre 𝓤 H A W 𝓣 E G7 G8 b14 Δ0 (Typed.pass T7 T8 s6) at12 (Scalar.g-room 𝓤 H A W E G7 9 (Syntax.tyInt Syntax.w8) (Scalar.room-sc 𝓤 H A W (Row.sInt Syntax.w8))) d12
 
           d14 : Typed.Typed 𝓤 H A 𝓣 E G6 b15 Δ0 at14
-          d14 = Typed.s-seq 𝓤 H A W 𝓣 E G6 G7 b3 b14 Δ0 (Typed.both s5) at13 (Plain.t-call-plain 𝓤 H A W 𝓣 0 ps·2 r·2 (claims· .4) (claims· .5) "tables::wide" (known .2) E (λ pos β. β) G6 (Num.vAt 9 λ x. x, tt) 6 List.[] (Call.sub-id 𝓤 H A W (G6 .slots)) ((Scalar.reads-sc 𝓤 H A W (Row.sInt Syntax.w8), Path'.refl), tt) (Reads.room-gone 𝓤 H A (Syntax.tyInt Syntax.w64)) tt Path'.refl) d13
+          d14 = Typed.s-seq 𝓤 H A W 𝓣 E G6 G7 b3 b14 Δ0 (Typed.both s5) at13 (Plain.t-call-plain 𝓤 H A W 𝓣 0 ps·2 r·2 (claims· .4) (claims· .5) "ranges::index" (known .2) E (λ pos β. β) G6 (Num.vAt 9 λ x. x, tt) 6 List.[] (Call.sub-id 𝓤 H A W (G6 .slots)) ((Scalar.reads-sc 𝓤 H A W (Row.sInt Syntax.w8), Path'.refl), tt) (Reads.room-gone 𝓤 H A (Syntax.tyInt Syntax.w64)) tt Path'.refl) d13
 
           d15 : Typed.Typed 𝓤 H A 𝓣 E G5 b16 Δ0 at15
           d15 = Typed.s-seq 𝓤 H A W 𝓣 E G5 G6 b2 b15 Δ0 (Typed.both s4) at14 (Plain.t-call-plain 𝓤 H A W 𝓣 0 ps·1 r·1 (claims· .2) (claims· .3) "station::station_of" (known .1) E (λ pos β. β) G5 (record { pos = 5; st = List.[]; d = 0; at = λ x. x }, tt) 9 List.[] (Call.sub-id 𝓤 H A W (G5 .slots)) ((Yields.yields-copy 𝓤 H A W (λ ρ. Unit) (Declared.row Frame.the-type) Path'.refl (Copies.cEnum Frame.the-type Laws.the-laws Laws.the-copy .copy 𝓤 H A W) (Rows'.whole (Declared.row Frame.the-type)) (λ x. x) (λ x. x) (λ ρ told. Local.mem-whole 𝓤 H A W (Declared.row Frame.the-type) ρ) λ ρ told. Local.whole-mem 𝓤 H A W (Declared.row Frame.the-type) ρ, Path'.refl), tt) (Reads.room-gone 𝓤 H A (Syntax.tyInt Syntax.w8)) tt Path'.refl) d14
@@ -562,17 +562,17 @@ module _ (claims· : Claims) where
           pub stations : Kinds.Den {n = 3}
               κs
               (ShrSlice.pShrS (OfStation.row) 1 tt)
-          pub t : Kinds.Den {n = 3} κs (Num.pNum Syntax.w64)
+          pub time : Kinds.Den {n = 3} κs (Num.pNum Syntax.w64)
           pub bytes : Kinds.Den {n = 3}
               κs
               (ShrSlice.pShrS (Referent.rtF (Referent.fInt Syntax.w8)) 2 tt)
 
         abbrev pub dens : (a : Args) → Kinds.Dens κs ps
-        dens = λ a. (a .outputs, (a .stations, (a .t, (a .bytes, tt))))
+        dens = λ a. (a .outputs, (a .stations, (a .time, (a .bytes, tt))))
 
         module _ (args· : Args) where
           pub record Ranges : Type 0 where
-            pub t : Val.Fits Syntax.w64 (args· .t)
+            pub time : Val.Fits Syntax.w64 (args· .time)
 
       abbrev pub m0 : (κs : Lifetimes.Lfts 3) → (args : Args κs) → Typed.Mo T0
       m0 = λ κs args. (tt, Enter.partsP κs 1 ps xs (dens κs args))
@@ -653,8 +653,8 @@ module _ (claims· : Claims) where
           s4 .gives (m4 (c .before .before) (After-parse·gave (c .before)))
       After-station-of·gave = λ c. Called.given ps·1 r·1 (claims· .3) T5 (record { pos = 5; st = List.[]; d = 0; at = λ x. x }, tt) (m4 (c .before .before) (After-parse·gave (c .before))) (c .station-of)
 
-      abbrev pub Need-wide-requires : Type 0
-      Need-wide-requires = (c : After-station-of) → s5 .asks (m5 (c .before) (After-station-of·gave c))
+      abbrev pub Need-index-requires : Type 0
+      Need-index-requires = (c : After-station-of) → s5 .asks (m5 (c .before) (After-station-of·gave c))
 
       abbrev pub m6 :
           (before : After-station-of) →
@@ -663,16 +663,17 @@ module _ (claims· : Claims) where
       m6 = λ before given. s5 .next (m5 (before .before) (After-station-of·gave before)) given
 
       module _ (before· : After-station-of) where
-        abbrev pub After-wide·own : Type 0
-        After-wide·own = Called.Called ps·2 r·2 (claims· .5) T6 (Num.vAt 9 λ x. x, tt) (m5 (before· .before) (After-station-of·gave before·))
+        abbrev pub After-index·own : Type 0
+        After-index·own = Called.Called ps·2 r·2 (claims· .5) T6 (Num.vAt 9 λ x. x, tt) (m5 (before· .before) (After-station-of·gave before·))
 
-      pub record After-wide : Type 0 where
+      pub record After-index : Type 0 where
         pub before : After-station-of
-        pub wide : After-wide·own before
+        pub index : After-index·own before
 
-      abbrev pub After-wide·gave :
-          (c : After-wide) → s5 .gives (m5 (c .before .before) (After-station-of·gave (c .before)))
-      After-wide·gave = λ c. Called.given ps·2 r·2 (claims· .5) T6 (Num.vAt 9 λ x. x, tt) (m5 (c .before .before) (After-station-of·gave (c .before))) (c .wide)
+      abbrev pub After-index·gave :
+          (c : After-index) →
+          s5 .gives (m5 (c .before .before) (After-station-of·gave (c .before)))
+      After-index·gave = λ c. Called.given ps·2 r·2 (claims· .5) T6 (Num.vAt 9 λ x. x, tt) (m5 (c .before .before) (After-station-of·gave (c .before))) (c .index)
 
       abbrev pub m7 :
           (before : After-station-of) →
@@ -680,8 +681,8 @@ module _ (claims· : Claims) where
           Typed.Mo T8
       m7 = λ before given. s6 (m6 before given)
 
-      abbrev pub Need-mul-k : Type 0
-      Need-mul-k = (c : After-wide) → s7 .asks (m7 (c .before) (After-wide·gave c))
+      abbrev pub Need-mul-record : Type 0
+      Need-mul-record = (c : After-index) → s7 .asks (m7 (c .before) (After-index·gave c))
 
       abbrev pub m8 :
           (before : After-station-of) →
@@ -695,89 +696,89 @@ module _ (claims· : Claims) where
           Typed.Mo T10
       m9 = λ before given. s8 .next (m8 before given)
 
-      abbrev pub Need-shared-slice-copy-out-k : Type 0
-      Need-shared-slice-copy-out-k = (c : After-wide) → Shared.InSlice T10 2 10 (λ x. x) (λ u. u .1 .1 .1 .1 .1 .1 .0) (m9 (c .before) (After-wide·gave c))
+      abbrev pub Need-shared-slice-copy-out-record : Type 0
+      Need-shared-slice-copy-out-record = (c : After-index) → Shared.InSlice T10 2 10 (λ x. x) (λ u. u .1 .1 .1 .1 .1 .1 .0) (m9 (c .before) (After-index·gave c))
 
       abbrev pub m10 :
-          (before : After-wide) →
-          (given : s9 .gives (m9 (before .before) (After-wide·gave before))) →
+          (before : After-index) →
+          (given : s9 .gives (m9 (before .before) (After-index·gave before))) →
           Typed.Mo T11
-      m10 = λ before given. s9 .next (m9 (before .before) (After-wide·gave before)) given
+      m10 = λ before given. s9 .next (m9 (before .before) (After-index·gave before)) given
 
       abbrev pub m11 :
-          (before : After-wide) →
-          (given : s9 .gives (m9 (before .before) (After-wide·gave before))) →
+          (before : After-index) →
+          (given : s9 .gives (m9 (before .before) (After-index·gave before))) →
           Typed.Mo T12
       m11 = λ before given. s10 (m10 before given)
 
       abbrev pub m12 :
-          (before : After-wide) →
-          (given : s9 .gives (m9 (before .before) (After-wide·gave before))) →
+          (before : After-index) →
+          (given : s9 .gives (m9 (before .before) (After-index·gave before))) →
           Typed.Mo T13
       m12 = λ before given. s11 (m11 before given)
 
       abbrev pub m13 :
-          (before : After-wide) →
-          (given : s9 .gives (m9 (before .before) (After-wide·gave before))) →
+          (before : After-index) →
+          (given : s9 .gives (m9 (before .before) (After-index·gave before))) →
           Typed.Mo T14
       m13 = λ before given. s12 (m12 before given)
 
       abbrev pub m14 :
-          (before : After-wide) →
-          (given : s9 .gives (m9 (before .before) (After-wide·gave before))) →
+          (before : After-index) →
+          (given : s9 .gives (m9 (before .before) (After-index·gave before))) →
           Typed.Mo T15
       m14 = λ before given. s13 (m13 before given)
 
-      module _ (before· : After-wide) where
-        pub record After-k·own : Type 0 where
-          pub given : s9 .gives (m9 (before· .before) (After-wide·gave before·))
+      module _ (before· : After-index) where
+        pub record After-record·own : Type 0 where
+          pub given : s9 .gives (m9 (before· .before) (After-index·gave before·))
 
-      pub record After-k : Type 0 where
-        pub before : After-wide
-        pub k : After-k·own before
+      pub record After-record : Type 0 where
+        pub before : After-index
+        pub «record» : After-record·own before
 
       abbrev pub Need-met-by-requires : Type 0
-      Need-met-by-requires = (c : After-k) → s14 .asks (m14 (c .before) (c .k .given))
+      Need-met-by-requires = (c : After-record) → s14 .asks (m14 (c .before) (c .«record» .given))
 
       abbrev pub m15 :
-          (before : After-k) →
-          (given : s14 .gives (m14 (before .before) (before .k .given))) →
+          (before : After-record) →
+          (given : s14 .gives (m14 (before .before) (before .«record» .given))) →
           Typed.Mo T16
-      m15 = λ before given. s14 .next (m14 (before .before) (before .k .given)) given
+      m15 = λ before given. s14 .next (m14 (before .before) (before .«record» .given)) given
 
-      module _ (before· : After-k) where
+      module _ (before· : After-record) where
         abbrev pub After-met-by·own : Type 0
-        After-met-by·own = Called.Called ps·3 r·3 (claims· .7) T15 (Num.vAt 3 λ x. x, (record { pos = 7; st = List.[]; d = 0; at = λ x. x }, (record { pos = 4; ty = Syntax.tyRef (Syntax.named 2) Syntax.imm (Syntax.tyInt Syntax.w8); ref = λ x. x }, (record { pos = 5; st = List.[]; d = 0; at = λ x. x }, tt)))) (m14 (before· .before) (before· .k .given))
+        After-met-by·own = Called.Called ps·3 r·3 (claims· .7) T15 (Num.vAt 3 λ x. x, (record { pos = 7; st = List.[]; d = 0; at = λ x. x }, (record { pos = 4; ty = Syntax.tyRef (Syntax.named 2) Syntax.imm (Syntax.tyInt Syntax.w8); ref = λ x. x }, (record { pos = 5; st = List.[]; d = 0; at = λ x. x }, tt)))) (m14 (before· .before) (before· .«record» .given))
 
       pub record After-met-by : Type 0 where
-        pub before : After-k
+        pub before : After-record
         pub met-by : After-met-by·own before
 
       abbrev pub After-met-by·gave :
-          (c : After-met-by) → s14 .gives (m14 (c .before .before) (c .before .k .given))
-      After-met-by·gave = λ c. Called.given ps·3 r·3 (claims· .7) T15 (Num.vAt 3 λ x. x, (record { pos = 7; st = List.[]; d = 0; at = λ x. x }, (record { pos = 4; ty = Syntax.tyRef (Syntax.named 2) Syntax.imm (Syntax.tyInt Syntax.w8); ref = λ x. x }, (record { pos = 5; st = List.[]; d = 0; at = λ x. x }, tt)))) (m14 (c .before .before) (c .before .k .given)) (c .met-by)
+          (c : After-met-by) → s14 .gives (m14 (c .before .before) (c .before .«record» .given))
+      After-met-by·gave = λ c. Called.given ps·3 r·3 (claims· .7) T15 (Num.vAt 3 λ x. x, (record { pos = 7; st = List.[]; d = 0; at = λ x. x }, (record { pos = 4; ty = Syntax.tyRef (Syntax.named 2) Syntax.imm (Syntax.tyInt Syntax.w8); ref = λ x. x }, (record { pos = 5; st = List.[]; d = 0; at = λ x. x }, tt)))) (m14 (c .before .before) (c .before .«record» .given)) (c .met-by)
 
       abbrev pub m16 :
-          (before : After-k) →
-          (given : s14 .gives (m14 (before .before) (before .k .given))) →
+          (before : After-record) →
+          (given : s14 .gives (m14 (before .before) (before .«record» .given))) →
           Typed.Mo T17
       m16 = λ before given. s15 (m15 before given)
 
       abbrev pub m17 :
-          (before : After-k) →
-          (given : s14 .gives (m14 (before .before) (before .k .given))) →
+          (before : After-record) →
+          (given : s14 .gives (m14 (before .before) (before .«record» .given))) →
           Typed.Mo T18
       m17 = λ before given. s16 (m16 before given)
 
       abbrev pub m18 :
-          (before : After-k) →
-          (given : s14 .gives (m14 (before .before) (before .k .given))) →
+          (before : After-record) →
+          (given : s14 .gives (m14 (before .before) (before .«record» .given))) →
           Typed.Mo T19
       m18 = λ before given. s17 (m17 before given)
 
       abbrev pub m19 :
-          (before : After-k) →
-          (given : s14 .gives (m14 (before .before) (before .k .given))) →
+          (before : After-record) →
+          (given : s14 .gives (m14 (before .before) (before .«record» .given))) →
           Typed.Mo T20
       m19 = λ before given. s18 (m18 before given)
 
@@ -785,8 +786,9 @@ module _ (claims· : Claims) where
       Need-returns = (c : After-met-by) → Post· (c .before .before .before .before .before .before .κs) (dens (c .before .before .before .before .before .before .κs) (c .before .before .before .before .before .before .args)) (Function.resV r (c .before .before .before .before .before .before .κs) (m19 (c .before) (After-met-by·gave c) .0)) (Clauses.atExit (Kinds.endedOf 3 ps r) (c .before .before .before .before .before .before .κs) (dens (c .before .before .before .before .before .before .κs) (c .before .before .before .before .before .before .args)) (Enter.lastsP (c .before .before .before .before .before .before .κs) 1 ps xs (dens (c .before .before .before .before .before .before .κs) (c .before .before .before .before .before .before .args)) (m19 (c .before) (After-met-by·gave c) .1)))
 
       module _ (parse-requires : Need-parse-requires)
-          (station-of-requires : Need-station-of-requires) (wide-requires : Need-wide-requires)
-          (mul-k : Need-mul-k) (shared-slice-copy-out-k : Need-shared-slice-copy-out-k)
+          (station-of-requires : Need-station-of-requires) (index-requires : Need-index-requires)
+          (mul-record : Need-mul-record)
+          (shared-slice-copy-out-record : Need-shared-slice-copy-out-record)
           (met-by-requires : Need-met-by-requires) (returns : Need-returns) where
         lay4 :
             (c : After-met-by) →
@@ -798,18 +800,18 @@ module _ (claims· : Claims) where
         lay4 = λ c. ((Path'.refl, (Path'.refl, (tt, (Path'.refl, tt)))), returns record { before = c .before; met-by = c .met-by })
 
         lay3 :
-            (c : After-wide) →
+            (c : After-index) →
             at13
             (W0 (c .before .before .before .before .κs) (c .before .before .before .before .args))
-            (m6 (c .before) (After-wide·gave c))
-        lay3 = λ c. (mul-k record { before = c .before; wide = c .wide }, (tt, ((Path'.refl, Path'.refl, shared-slice-copy-out-k record { before = c .before; wide = c .wide }), λ g. (met-by-requires record { before = record { before = c .before; wide = c .wide }; k = record { given = g } }, λ g'. lay4 record { before = record { before = record { before = c .before; wide = c .wide }; k = record { given = g } }; met-by = Called.called ps·3 r·3 (claims· .7) T15 (Num.vAt 3 λ x. x, (record { pos = 7; st = List.[]; d = 0; at = λ x. x }, (record { pos = 4; ty = Syntax.tyRef (Syntax.named 2) Syntax.imm (Syntax.tyInt Syntax.w8); ref = λ x. x }, (record { pos = 5; st = List.[]; d = 0; at = λ x. x }, tt)))) (m14 record { before = c .before; wide = c .wide } g) g' }))))
+            (m6 (c .before) (After-index·gave c))
+        lay3 = λ c. (mul-record record { before = c .before; index = c .index }, (tt, ((Path'.refl, Path'.refl, shared-slice-copy-out-record record { before = c .before; index = c .index }), λ g. (met-by-requires record { before = record { before = c .before; index = c .index }; «record» = record { given = g } }, λ g'. lay4 record { before = record { before = record { before = c .before; index = c .index }; «record» = record { given = g } }; met-by = Called.called ps·3 r·3 (claims· .7) T15 (Num.vAt 3 λ x. x, (record { pos = 7; st = List.[]; d = 0; at = λ x. x }, (record { pos = 4; ty = Syntax.tyRef (Syntax.named 2) Syntax.imm (Syntax.tyInt Syntax.w8); ref = λ x. x }, (record { pos = 5; st = List.[]; d = 0; at = λ x. x }, tt)))) (m14 record { before = c .before; index = c .index } g) g' }))))
 
         lay2 :
             (c : After-station-of) →
             at14
             (W0 (c .before .before .before .κs) (c .before .before .before .args))
             (m5 (c .before) (After-station-of·gave c))
-        lay2 = λ c. (wide-requires record { before = c .before; station-of = c .station-of }, λ g. lay3 record { before = record { before = c .before; station-of = c .station-of }; wide = Called.called ps·2 r·2 (claims· .5) T6 (Num.vAt 9 λ x. x, tt) (m5 (c .before) (After-station-of·gave c)) g })
+        lay2 = λ c. (index-requires record { before = c .before; station-of = c .station-of }, λ g. lay3 record { before = record { before = c .before; station-of = c .station-of }; index = Called.called ps·2 r·2 (claims· .5) T6 (Num.vAt 9 λ x. x, tt) (m5 (c .before) (After-station-of·gave c)) g })
 
         lay1 :
             (c : After-parse) →
@@ -828,7 +830,7 @@ module _ (claims· : Claims) where
               (pre : Pre· κs a) →
               (bs : List.List Nat.ℕ) →
               Φ (Any.wantQ 3 ps r xs m κs qs a (Post· κs a)) (Function.init 3 ps r xs m κs qs a)
-          asked = λ a good pre bs. laid record { κs = κs; args = record { outputs = a .0; stations = a .1 .0; t = a .1 .1 .0; bytes = a .1 .1 .1 .0 }; good = good; fits = record { t = record { fits = good .1 .1 .0 .1 } }; pre = pre }
+          asked = λ a good pre bs. laid record { κs = κs; args = record { outputs = a .0; stations = a .1 .0; time = a .1 .1 .0; bytes = a .1 .1 .1 .0 }; good = good; fits = record { time = record { fits = good .1 .1 .0 .1 } }; pre = pre }
 
         module _ {M : Type 1} (𝓤 : URA.URA M) (H : Wp.Heap 𝓤) (A : Atoms.Atoms 𝓤)
             (W : Kit.Given 𝓤 H A) (𝓣 : Wp.Tables 𝓤 H)
@@ -845,7 +847,7 @@ module _ (claims· : Claims) where
             (claims· .2)
             (claims· .3)
             "station::station_of")
-            (known2 : Plain.Known 𝓤 H A W 𝓣 0 ps·2 r·2 (claims· .4) (claims· .5) "tables::wide")
+            (known2 : Plain.Known 𝓤 H A W 𝓣 0 ps·2 r·2 (claims· .4) (claims· .5) "ranges::index")
             (known3 : Plain.Known
             𝓤
             H

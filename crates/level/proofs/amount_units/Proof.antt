@@ -1,11 +1,11 @@
--- `level::rate_of` meets its contract. Assumes nothing.
-use Rattle.lighting.specs.Level.{unitsOr, rateOf}
+-- `level::amount_units` meets its contract. Assumes nothing.
+use Rattle.lighting.specs.Level.{unitsOr, amountUnits}
 use mathlib.Core.Path.{_≡_, ap, _∙_}
 use native.Mathlib.Omega.{arith}
 use Rattle.lighting.proofs.Ranges.{amount-range}
 use borrow.Author.Needs.{needs}
-use Rattle.level.proofs.rate_of.Statement.{statement}
-use Rattle.level.proofs.rate_of.Tie as tie
+use Rattle.level.proofs.amount_units.Statement.{statement}
+use Rattle.level.proofs.amount_units.Tie as tie
 
 amount-of-real-requires : tie.Need-amount-of-real-requires
 amount-of-real-requires c κs = search needs
@@ -13,12 +13,12 @@ amount-of-real-requires c κs = search needs
 units-or-requires : tie.Need-units-or-requires
 units-or-requires c κs = search needs
 
-is : (c : tie.After-units-or) → c .units-or .result ≡ rateOf (c .before .before .args .x)
-unfolding rateOf
+is : (c : tie.After-units-or) → c .units-or .result ≡ amountUnits (c .before .before .args .x)
+unfolding amountUnits
 is c = c .units-or .ensures ∙ ap (unitsOr 8192) (c .before .amount-of-real .ensures)
 
 returns : tie.Need-returns
 returns c = (is c, omega (arith, is c, amount-range (c .before .before .args .x)))
 
-pub rate-of-spec : {M : Type 1} → statement M
-rate-of-spec = tie.close (tie.spec amount-of-real-requires units-or-requires returns)
+pub amount-units-spec : {M : Type 1} → statement M
+amount-units-spec = tie.close (tie.spec amount-of-real-requires units-or-requires returns)

@@ -1,0 +1,24 @@
+-- Not of the paper: what the panel's inner functions ask (`requires`) of a verdict that they carry out. proofs/Carried.antt has that every verdict
+-- on a sound panel meets it (`decide-sure`). Assumes nothing.
+use Prim.Native.Nat.{ℕ, _^_, _≤_, _<_}
+use lib.ListN.{length}
+use Rattle.lighting.specs.Frames.{Bytes}
+use Rattle.lighting.specs.declared.Verdict.{Verdict}
+use Rattle.lighting.specs.declared.Verdict.the-variants.{TurnedDown, Copied, Clocked, Arrives}
+
+-- at panel time `now`, with c outputs and k stations
+pub record Timely (now t : ℕ) : Type 0 where
+  pub due : now ≤ t
+  pub time : t < 2 ^ 48
+
+pub record Arrival (now c k : ℕ) (b : Bytes) (s t i : ℕ) : Type 0 where
+  pub moment : Timely now t
+  pub station : s < k
+  pub output : i < c
+  pub size : length b ≤ 25
+
+abbrev pub Sure : ℕ → ℕ → ℕ → Bytes → Verdict → Type 0
+Sure now c k b (TurnedDown r) = Unit {0}
+Sure now c k b (Copied a) = Unit {0}
+Sure now c k b (Clocked t) = Timely now t
+Sure now c k b (Arrives s n t i r) = Arrival now c k b s t i
