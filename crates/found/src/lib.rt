@@ -1,8 +1,8 @@
 // What is found of every output, on pages of text that are written to standard output: a block for each output, or a line of the report.
 ghost use mathlib.Core.Path.{_≡_};
-ghost use lib.ListN.{length};
+ghost use lib.ListN.{length, take};
 ghost use Rattle.printing.specs.Page.{Wrote};
-ghost use Rattle.found.specs.Found.{foundHead, foundOutput, roomy, marked};
+ghost use Rattle.found.specs.Found.{foundHead, foundOutput, roomy, marked, sheet, withFound};
 use libc::STDOUT_FILENO;
 use lighting::Output;
 
@@ -63,7 +63,7 @@ fn put_head(page: &mut [u8], at: usize, report: bool, time: u64) -> usize
     }
 }
 
-// Every output of the panel, on as many pages as it takes.
+// Every output of the panel, on as many pages as it takes: the last page, and its mark.
 pub fn put_found(
     outputs: &[Output],
     n: usize,
@@ -71,7 +71,9 @@ pub fn put_found(
     page: &mut [u8],
     mark: usize,
     report: bool,
-) -> usize {
+) -> usize
+    ensures { λ r. ⌜ sheet (now (page .exit)) r ≡ withFound (sheet (now (page .entry)) mark) report time (take n (now (outputs .entry))) ⌝ }
+{
     let mut at = put_head(page, mark, report, time);
     let mut i: usize = 0;
     while i < ranges::least(n, outputs.len()) {

@@ -65,13 +65,43 @@ module _ (κs : Lifetimes.Lfts 2) where
       Read.Read (World.In put_found.signature κs a) Read.no-know (requires a g)
   pre-read = λ a g. Read.all-models (requires a g) (λ w. Read.r-top) (λ w. Path'.refl) (λ w. Path'.refl) λ w. Path'.refl
 
+  abbrev pub ensures-1·read :
+      (a : World.ArgsD put_found.signature κs) →
+      (g : Ghost) →
+      (r : World.ResD put_found.signature κs) →
+      (s : Clauses.AtExit (Kinds'.endedOf 2 Kinds.ps Kinds.r) κs) →
+      Read.Read
+      (Base a)
+      (Owned r s)
+      λ w. put_found.ensures-1
+      (w .𝓤)
+      (w .H)
+      κs
+      (w .𝓖 .A)
+      (w .𝓜 .mem)
+      (w .𝓡 .run)
+      (a .0)
+      (a .1 .0)
+      (a .1 .1 .0)
+      (a .1 .1 .1 .0)
+      (a .1 .1 .1 .1 .0)
+      (a .1 .1 .1 .1 .1 .0)
+      record { entry = a .0; exit = s .0 }
+      record { entry = a .1 .0; exit = s .1 .0 }
+      record { entry = a .1 .1 .0; exit = s .1 .1 .0 }
+      record { entry = a .1 .1 .1 .0; exit = s .1 .1 .1 .0 }
+      record { entry = a .1 .1 .1 .1 .0; exit = s .1 .1 .1 .1 .0 }
+      record { entry = a .1 .1 .1 .1 .1 .0; exit = s .1 .1 .1 .1 .1 .0 }
+      r
+  ensures-1·read = λ a g r s. Read.all-models (λ w. put_found.ensures-1 (w .𝓤) (w .H) κs (w .𝓖 .A) (w .𝓜 .mem) (w .𝓡 .run) (a .0) (a .1 .0) (a .1 .1 .0) (a .1 .1 .1 .0) (a .1 .1 .1 .1 .0) (a .1 .1 .1 .1 .1 .0) record { entry = a .0; exit = s .0 } record { entry = a .1 .0; exit = s .1 .0 } record { entry = a .1 .1 .0; exit = s .1 .1 .0 } record { entry = a .1 .1 .1 .0; exit = s .1 .1 .1 .0 } record { entry = a .1 .1 .1 .1 .0; exit = s .1 .1 .1 .1 .0 } record { entry = a .1 .1 .1 .1 .1 .0; exit = s .1 .1 .1 .1 .1 .0 } r) (λ w. Read.r-last _) (λ w. Path'.refl) (λ w. Path'.refl) λ w. Path'.refl
+
   abbrev pub post-read :
       (a : World.ArgsD put_found.signature κs) →
       (g : Ghost) →
       (r : World.ResD put_found.signature κs) →
       (s : Clauses.AtExit (Kinds'.endedOf 2 Kinds.ps Kinds.r) κs) →
       Read.Read (Base a) (Owned r s) (ensures a g r s)
-  post-read = λ a g r s. Read.all-models (ensures a g r s) (λ w. Read.r-top) (λ w. Path'.refl) (λ w. Path'.refl) λ w. Path'.refl
+  post-read = λ a g r s. ensures-1·read a g r s
 
 abbrev pub Pre : Kinds'.In 2 Kinds.ps
 Pre = Written.Pre 2 Kinds.ps Kinds.r Ghost requires ensures pre-read Pinned Owned post-read tt
