@@ -62,7 +62,7 @@ unfoldable pub ordered : Parameters → Operation → ℕ → Request
 ordered p operation d =
     if eqb d 0xffff_ffff then Order (record { operation = operation; duration = Omitted })
     else if eqb d 0 then Order (record { operation = operation; duration = Cancels })
-    else if within 100 (p .duration) d then Order (record { operation = operation; duration = Lasts d })
+    else if within 100 (p .longestDuration) d then Order (record { operation = operation; duration = Lasts d })
     else Refuse 12
 
 -- kinds 11, 13, 17, 18 and 19: one REAL, then the duration
@@ -80,7 +80,7 @@ orderedWith p k Unfit d = Refuse (operandRefusal Unfit)
 
 -- kind 12: level, fade time, duration. 'Fade times: 100 to 86,400,000'
 unfoldable pub fadeOrder : Parameters → Operand → ℕ → ℕ → Request
-fadeOrder p (Taken x) l d = if within 100 (p .fade) l then ordered p (FadeToOver x l) d else Refuse 12
+fadeOrder p (Taken x) l d = if within 100 (p .longestFade) l then ordered p (FadeToOver x l) d else Refuse 12
 fadeOrder p Unfit l d = Refuse (operandRefusal Unfit)
 
 -- kind 14: level, rate, duration

@@ -6,13 +6,13 @@ pub record Parameters : Type 0 where
   pub stations : ℕ
   pub outputs : ℕ
   -- the longest fade time and the longest duration, in milliseconds
-  pub fade : ℕ
-  pub duration : ℕ
+  pub longestFade : ℕ
+  pub longestDuration : ℕ
   -- the longest blink time and blink delay
-  pub blink : ℕ
+  pub longestBlink : ℕ
   -- the longest that a movement may last
-  pub movement : ℕ
+  pub longestMovement : ℕ
 
 -- document 01's panel: eight stations, 64 outputs, a day
 abbrev pub standard : Parameters
-standard = record { stations = 8; outputs = 64; fade = 86400000; duration = 86400000; blink = 86400000; movement = 86400000 }
+standard = record { stations = 8; outputs = 64; longestFade = 86400000; longestDuration = 86400000; longestBlink = 86400000; longestMovement = 86400000 }

@@ -97,12 +97,12 @@ changeStep Unfit = Refuse (operandRefusal Unfit)
 -- kind 04: the property's value x, of 32 bits. 'property unknown, or not writable' is 9
 unfoldable pub changeOf : Parameters → Property → ℕ → Request
 changeOf p RelinquishDefault x = changeDefault (levelOf (real x))
-changeOf p FadeTime x = if within 100 (p .fade) x then Change (SetFade x) else Refuse 12
+changeOf p FadeTime x = if within 100 (p .longestFade) x then Change (SetFade x) else Refuse 12
 changeOf p RampRate x = changeRamp (amountOperand x)
 changeOf p StepIncrement x = changeStep (amountOperand x)
 changeOf p BlinkEnable x = if leb x 1 then Change (SetEnable (eqb x 1)) else Refuse 12
-changeOf p BlinkTime x = if leb x (p .blink) then Change (SetBlink x) else Refuse 12
-changeOf p BlinkWarnDelay x = if leb x (p .blink) then Change (SetDelay x) else Refuse 12
+changeOf p BlinkTime x = if leb x (p .longestBlink) then Change (SetBlink x) else Refuse 12
+changeOf p BlinkWarnDelay x = if leb x (p .longestBlink) then Change (SetDelay x) else Refuse 12
 changeOf p MinValue x = changeMin (limitOf (real x))
 changeOf p MaxValue x = changeMax (limitOf (real x))
 changeOf p CommandPriority x = if isPriority x then Change (SetSlot (x - 1)) else Refuse 10

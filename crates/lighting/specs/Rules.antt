@@ -30,7 +30,7 @@ unfoldable pub levelsSound : Settings → Bool
 levelsSound c = isLevel (c .default) also leb 65536 (c .min) also leb (c .min) (c .max) also leb (c .max) 6553600
 
 unfoldable pub timesSound : Parameters → Settings → Bool
-timesSound p c = within 100 (p .fade) (c .fade) also leb (c .blink) (p .blink) also leb (c .delay) (p .blink)
+timesSound p c = within 100 (p .longestFade) (c .fade) also leb (c .blink) (p .longestBlink) also leb (c .delay) (p .longestBlink)
 
 unfoldable pub isAmount : Float → Bool
 isAmount x = inRange (amountOf x)
@@ -51,7 +51,7 @@ slotsSoundFrom s i = allFrom (slotSound s) (16 - i) i
 -- 'began no later than panel time' (what is left of it is not longer than it lasts), 'lasts 1 to 86,400,000 ms', 'every due moment is
 -- after panel time'
 unfoldable pub spanSound : Parameters → ℕ → Movement → Bool
-spanSound p t m = ltb t (m .over) also leb (m .over - t) (m .length) also within 1 (p .movement) (m .length)
+spanSound p t m = ltb t (m .over) also leb (m .over - t) (m .length) also within 1 (p .longestMovement) (m .length)
 
 -- 'a movement belongs to the winner' w, 'starts from 0 to Max, aims at Present_Value' v
 unfoldable pub movementSound : Parameters → ℕ → ℕ → ℕ → ℕ → Movement → Bool

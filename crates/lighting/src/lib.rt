@@ -10,19 +10,23 @@ pub struct Slots {
     pub levels: [u32; 16],
 }
 
-// The writable properties but the elapsed active time.
+// The writable properties but Elapsed_Active_Time. Fields have names of one word: the definitions would have to put others between marks.
 pub struct Settings {
+    // Relinquish_Default, a level
     pub default: u32,
+    // Fade_Time
     pub fade: u32,
-    // Ramp_Rate and Step_Increment are kept as REALs, bit for bit.
+    // Ramp_Rate and Step_Increment, kept as REALs, bit for bit
     pub ramp: f32,
     pub step: f32,
+    // Blink_Enable, Blink_Time and Blink_Warn_Delay
     pub enable: bool,
     pub blink: u32,
     pub delay: u32,
+    // Min and Max, levels
     pub min: u32,
     pub max: u32,
-    // Lighting_Command_Priority, less one.
+    // Lighting_Command_Priority, less one
     pub slot: u8,
 }
 

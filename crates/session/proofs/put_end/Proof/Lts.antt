@@ -81,7 +81,7 @@ abbrev pub hs : List.List Syntax.Home
 hs = List._∷_ Syntax.valueLocal (List._∷_ Syntax.valueLocal (List._∷_ Syntax.valueLocal (List._∷_ Syntax.valueLocal (List._∷_ Syntax.valueLocal (List._∷_ Syntax.valueLocal (List._∷_ Syntax.valueLocal (List._∷_ Syntax.valueLocal (List._∷_ Syntax.valueLocal (List._∷_ Syntax.valueLocal (List._∷_ Syntax.valueLocal (List._∷_ Syntax.valueLocal (List._∷_ Syntax.valueLocal (List._∷_ Syntax.valueLocal (List._∷_ Syntax.valueLocal List.[]))))))))))))))
 
 abbrev b0 : Syntax.Body
-b0 = Syntax.call "session::wide" (List._∷_ (Syntax.copy (Syntax.place 7 (List._∷_ (Syntax.field 0) List.[]))) List.[]) (Syntax.place 8 List.[])
+b0 = Syntax.call "ranges::index" (List._∷_ (Syntax.copy (Syntax.place 7 (List._∷_ (Syntax.field 0) List.[]))) List.[]) (Syntax.place 8 List.[])
 
 abbrev b1 : Syntax.Body
 b1 = Syntax.assign (Syntax.place 9 List.[]) (Syntax.op2 Syntax.eq (Syntax.copy (Syntax.place 8 List.[])) (Syntax.int Syntax.w64 0))
@@ -355,7 +355,7 @@ module _ (claims· : Claims) where
       (Post· : (κs : Lifetimes.Lfts 2) → (a : Kinds.Dens κs ps) → Kinds.Plain 2 ps r κs) where
     module _ (M : Type 1) where
       abbrev pub Closed : Type 2
-      Closed = (𝓤 : URA.URA M) (H : Wp.Heap 𝓤) (A : Atoms.Atoms 𝓤) (W : Kit.Given 𝓤 H A) (𝓣 : Wp.Tables 𝓤 H) (known0 : Plain.Known 𝓤 H A W 𝓣 0 ps·0 r·0 (claims· .0) (claims· .1) "session::wide") (known1 : Plain.Known 𝓤 H A W 𝓣 1 ps·1 r·1 (claims· .2) (claims· .3) "faults::put_ended") (known2 : Plain.Known 𝓤 H A W 𝓣 2 ps·2 r·2 (claims· .4) (claims· .5) "found::put_found") → Statement.Triple 𝓤 (Wp.WpFn 𝓤 H (𝓣 .C) (𝓣 .Λ) (Function.fnOf 2 ps r xs m hs body)) (Function.plainOf 𝓤 H A 2 ps r Pre· Post·)
+      Closed = (𝓤 : URA.URA M) (H : Wp.Heap 𝓤) (A : Atoms.Atoms 𝓤) (W : Kit.Given 𝓤 H A) (𝓣 : Wp.Tables 𝓤 H) (known0 : Plain.Known 𝓤 H A W 𝓣 0 ps·0 r·0 (claims· .0) (claims· .1) "ranges::index") (known1 : Plain.Known 𝓤 H A W 𝓣 1 ps·1 r·1 (claims· .2) (claims· .3) "faults::put_ended") (known2 : Plain.Known 𝓤 H A W 𝓣 2 ps·2 r·2 (claims· .4) (claims· .5) "found::put_found") → Statement.Triple 𝓤 (Wp.WpFn 𝓤 H (𝓣 .C) (𝓣 .Λ) (Function.fnOf 2 ps r xs m hs body)) (Function.plainOf 𝓤 H A 2 ps r Pre· Post·)
 
     module _ where
       abbrev at0 : Typed.TF T10 O1
@@ -436,7 +436,7 @@ module _ (claims· : Claims) where
       module _ {M : Type 1} (𝓤 : URA.URA M) (H : Wp.Heap 𝓤) (A : Atoms.Atoms 𝓤)
           (W : Kit.Given 𝓤 H A) (𝓣 : Wp.Tables 𝓤 H) where
         abbrev Knowns : Type 1
-        Knowns = Plain.Known 𝓤 H A W 𝓣 0 ps·0 r·0 (claims· .0) (claims· .1) "session::wide" × Plain.Known 𝓤 H A W 𝓣 1 ps·1 r·1 (claims· .2) (claims· .3) "faults::put_ended" × Plain.Known 𝓤 H A W 𝓣 2 ps·2 r·2 (claims· .4) (claims· .5) "found::put_found"
+        Knowns = Plain.Known 𝓤 H A W 𝓣 0 ps·0 r·0 (claims· .0) (claims· .1) "ranges::index" × Plain.Known 𝓤 H A W 𝓣 1 ps·1 r·1 (claims· .2) (claims· .3) "faults::put_ended" × Plain.Known 𝓤 H A W 𝓣 2 ps·2 r·2 (claims· .4) (claims· .5) "found::put_found"
 
       module _ (κs : Lifetimes.Lfts 2) (qs : Lifetimes.Shares 2) where
         abbrev g6 : List.List Row.Entry
@@ -632,7 +632,7 @@ module _ (claims· : Claims) where
           d21 = Typed.g-pre 𝓤 H A W 𝓣 E G3 G4 b17 Δ0 (Typed.pass T3 T4 s2) at20 (Scalar.g-room 𝓤 H A W E G3 7 (Syntax.tyStruct (List._∷_ 114 (List._∷_ 101 (List._∷_ 97 (List._∷_ 100 (List._∷_ 105 (List._∷_ 110 (List._∷_ 103 (List._∷_ 58 (List._∷_ 58 (List._∷_ 82 (List._∷_ 101 (List._∷_ 97 (List._∷_ 100 (List._∷_ 101 (List._∷_ 114 List.[]))))))))))))))) (Syntax.tcons (Syntax.tyInt Syntax.w8) (Syntax.tcons (Syntax.tyInt Syntax.w64) (Syntax.tcons (Syntax.tyEnum (List._∷_ 114 (List._∷_ 101 (List._∷_ 97 (List._∷_ 100 (List._∷_ 105 (List._∷_ 110 (List._∷_ 103 (List._∷_ 58 (List._∷_ 58 (List._∷_ 72 (List._∷_ 101 (List._∷_ 108 (List._∷_ 100 List.[]))))))))))))) (Syntax.ttcons Syntax.tnil (Syntax.ttcons Syntax.tnil (Syntax.ttcons (Syntax.tcons (Syntax.tyInt Syntax.w8) Syntax.tnil) (Syntax.ttcons Syntax.tnil (Syntax.ttcons (Syntax.tcons (Syntax.tyInt Syntax.w8) Syntax.tnil) (Syntax.ttcons (Syntax.tcons (Syntax.tyInt Syntax.w8) Syntax.tnil) (Syntax.ttcons Syntax.tnil (Syntax.ttcons (Syntax.tcons (Syntax.tyInt Syntax.w8) Syntax.tnil) (Syntax.ttcons Syntax.tnil (Syntax.ttcons (Syntax.tcons (Syntax.tyEnum (List._∷_ 114 (List._∷_ 101 (List._∷_ 97 (List._∷_ 100 (List._∷_ 105 (List._∷_ 110 (List._∷_ 103 (List._∷_ 58 (List._∷_ 58 (List._∷_ 70 (List._∷_ 97 (List._∷_ 117 (List._∷_ 108 (List._∷_ 116 List.[])))))))))))))) (Syntax.ttcons Syntax.tnil (Syntax.ttcons Syntax.tnil (Syntax.ttcons Syntax.tnil (Syntax.ttcons Syntax.tnil Syntax.ttnil))))) Syntax.tnil) Syntax.ttnil))))))))))) (Syntax.tcons (Syntax.tyArray (Syntax.tyInt Syntax.w8) 26) (Syntax.tcons (Syntax.tyInt Syntax.w64) Syntax.tnil)))))) (Local.room-whole 𝓤 H A W (Declared.row Reader.the-type) (Syntax.tyStruct (List._∷_ 114 (List._∷_ 101 (List._∷_ 97 (List._∷_ 100 (List._∷_ 105 (List._∷_ 110 (List._∷_ 103 (List._∷_ 58 (List._∷_ 58 (List._∷_ 82 (List._∷_ 101 (List._∷_ 97 (List._∷_ 100 (List._∷_ 101 (List._∷_ 114 List.[]))))))))))))))) (Syntax.tcons (Syntax.tyInt Syntax.w8) (Syntax.tcons (Syntax.tyInt Syntax.w64) (Syntax.tcons (Syntax.tyEnum (List._∷_ 114 (List._∷_ 101 (List._∷_ 97 (List._∷_ 100 (List._∷_ 105 (List._∷_ 110 (List._∷_ 103 (List._∷_ 58 (List._∷_ 58 (List._∷_ 72 (List._∷_ 101 (List._∷_ 108 (List._∷_ 100 List.[]))))))))))))) (Syntax.ttcons Syntax.tnil (Syntax.ttcons Syntax.tnil (Syntax.ttcons (Syntax.tcons (Syntax.tyInt Syntax.w8) Syntax.tnil) (Syntax.ttcons Syntax.tnil (Syntax.ttcons (Syntax.tcons (Syntax.tyInt Syntax.w8) Syntax.tnil) (Syntax.ttcons (Syntax.tcons (Syntax.tyInt Syntax.w8) Syntax.tnil) (Syntax.ttcons Syntax.tnil (Syntax.ttcons (Syntax.tcons (Syntax.tyInt Syntax.w8) Syntax.tnil) (Syntax.ttcons Syntax.tnil (Syntax.ttcons (Syntax.tcons (Syntax.tyEnum (List._∷_ 114 (List._∷_ 101 (List._∷_ 97 (List._∷_ 100 (List._∷_ 105 (List._∷_ 110 (List._∷_ 103 (List._∷_ 58 (List._∷_ 58 (List._∷_ 70 (List._∷_ 97 (List._∷_ 117 (List._∷_ 108 (List._∷_ 116 List.[])))))))))))))) (Syntax.ttcons Syntax.tnil (Syntax.ttcons Syntax.tnil (Syntax.ttcons Syntax.tnil (Syntax.ttcons Syntax.tnil Syntax.ttnil))))) Syntax.tnil) Syntax.ttnil))))))))))) (Syntax.tcons (Syntax.tyArray (Syntax.tyInt Syntax.w8) 26) (Syntax.tcons (Syntax.tyInt Syntax.w64) Syntax.tnil)))))) Path'.refl)) d20
 
           d22 : Typed.Typed 𝓤 H A 𝓣 E G2 b18 Δ0 at22
-          d22 = Typed.s-seq 𝓤 H A W 𝓣 E G2 G3 b0 b17 Δ0 (Typed.both s1) at21 (Plain.t-call-plain 𝓤 H A W 𝓣 0 ps·0 r·0 (claims· .0) (claims· .1) "session::wide" (known .0) E (λ pos β. β) G2 (Num.vFld 7 (List._∷_ (Syntax.field 0) List.[]) 0 λ x. Reader.struct .as-values x .0, tt) 8 List.[] (Call.sub-id 𝓤 H A W (G2 .slots)) ((Reads.reads-field 𝓤 H A W Reader.the-type Laws.the-laws 0 (Syntax.tyInt Syntax.w8) 0 Path'.refl, Path'.refl), tt) (Reads'.room-gone 𝓤 H A (Syntax.tyInt Syntax.w64)) tt Path'.refl) d21
+          d22 = Typed.s-seq 𝓤 H A W 𝓣 E G2 G3 b0 b17 Δ0 (Typed.both s1) at21 (Plain.t-call-plain 𝓤 H A W 𝓣 0 ps·0 r·0 (claims· .0) (claims· .1) "ranges::index" (known .0) E (λ pos β. β) G2 (Num.vFld 7 (List._∷_ (Syntax.field 0) List.[]) 0 λ x. Reader.struct .as-values x .0, tt) 8 List.[] (Call.sub-id 𝓤 H A W (G2 .slots)) ((Reads.reads-field 𝓤 H A W Reader.the-type Laws.the-laws 0 (Syntax.tyInt Syntax.w8) 0 Path'.refl, Path'.refl), tt) (Reads'.room-gone 𝓤 H A (Syntax.tyInt Syntax.w64)) tt Path'.refl) d21
 
           d23 : Typed.Typed 𝓤 H A 𝓣 E G0 b18 Δ0 at23
           d23 = Typed.g-pre 𝓤 H A W 𝓣 E G0 G2 b18 Δ0 (Typed.give s0) at22 (Know.g-sl-known 𝓤 H A W (Referent.fInt Syntax.w8) E G0 3 1 (Syntax.tyRef (Syntax.named 1) Syntax.mut (Syntax.tyInt Syntax.w8)) (Row.lease (κs .1 .0) (qs .1 .0)) 0 (λ x. x) record { fits = Dec'.lit< tt } (Reads'.as-is 𝓤 H A (Mut.mslice (Referent.rtF (Referent.fInt Syntax.w8)) (Syntax.tyRef (Syntax.named 1) Syntax.mut (Syntax.tyInt Syntax.w8)) 1)) Path'.refl tt) d22
@@ -713,8 +713,8 @@ module _ (claims· : Claims) where
         pub before : Start
         pub slice-known : After-slice-known·own before
 
-      abbrev pub Need-wide-requires : Type 0
-      Need-wide-requires = (c : After-slice-known) → s1 .asks (m1 (c .before) (c .slice-known .given))
+      abbrev pub Need-index-requires : Type 0
+      Need-index-requires = (c : After-slice-known) → s1 .asks (m1 (c .before) (c .slice-known .given))
 
       abbrev pub m2 :
           (before : After-slice-known) →
@@ -723,16 +723,16 @@ module _ (claims· : Claims) where
       m2 = λ before given. s1 .next (m1 (before .before) (before .slice-known .given)) given
 
       module _ (before· : After-slice-known) where
-        abbrev pub After-wide·own : Type 0
-        After-wide·own = Called.Called ps·0 r·0 (claims· .1) T2 (Num.vFld 7 (List._∷_ (Syntax.field 0) List.[]) 0 λ x. Reader.struct .as-values x .0, tt) (m1 (before· .before) (before· .slice-known .given))
+        abbrev pub After-index·own : Type 0
+        After-index·own = Called.Called ps·0 r·0 (claims· .1) T2 (Num.vFld 7 (List._∷_ (Syntax.field 0) List.[]) 0 λ x. Reader.struct .as-values x .0, tt) (m1 (before· .before) (before· .slice-known .given))
 
-      pub record After-wide : Type 0 where
+      pub record After-index : Type 0 where
         pub before : After-slice-known
-        pub wide : After-wide·own before
+        pub index : After-index·own before
 
-      abbrev pub After-wide·gave :
-          (c : After-wide) → s1 .gives (m1 (c .before .before) (c .before .slice-known .given))
-      After-wide·gave = λ c. Called.given ps·0 r·0 (claims· .1) T2 (Num.vFld 7 (List._∷_ (Syntax.field 0) List.[]) 0 λ x. Reader.struct .as-values x .0, tt) (m1 (c .before .before) (c .before .slice-known .given)) (c .wide)
+      abbrev pub After-index·gave :
+          (c : After-index) → s1 .gives (m1 (c .before .before) (c .before .slice-known .given))
+      After-index·gave = λ c. Called.given ps·0 r·0 (claims· .1) T2 (Num.vFld 7 (List._∷_ (Syntax.field 0) List.[]) 0 λ x. Reader.struct .as-values x .0, tt) (m1 (c .before .before) (c .before .slice-known .given)) (c .index)
 
       abbrev pub m3 :
           (before : After-slice-known) →
@@ -752,18 +752,18 @@ module _ (claims· : Claims) where
           Typed.Want O1
       W1 = λ before given. Typed.wantNext T6 O0 (at18 (W0 (before .before .κs) (before .before .args))) (W0 (before .before .κs) (before .before .args))
 
-      module _ (before· : After-wide) where
+      module _ (before· : After-index) where
         pub record Then1·own : Type 0 where
           pub taken : Path'._≡_ {A = Nat.ℕ}
-              (Row.get 8 (T4 .locals) (m3 (before· .before) (After-wide·gave before·)))
+              (Row.get 8 (T4 .locals) (m3 (before· .before) (After-index·gave before·)))
               0
 
       pub record Then1 : Type 0 where
-        pub before : After-wide
+        pub before : After-index
         pub if1 : Then1·own before
 
-      abbrev pub m5 : (before : After-wide) → Typed.Mo T7
-      m5 = λ before. s4 (m4 (before .before) (After-wide·gave before))
+      abbrev pub m5 : (before : After-index) → Typed.Mo T7
+      m5 = λ before. s4 (m4 (before .before) (After-index·gave before))
 
       abbrev pub m6 : (before : Then1) → (given : s6 .gives (m5 (before .before))) → Typed.Mo T9
       m6 = λ before given. s6 .next (m5 (before .before)) given
@@ -829,19 +829,19 @@ module _ (claims· : Claims) where
         pub before : After-page
         pub slice-known2 : After-slice-known2·own before
 
-      module _ (before· : After-wide) where
+      module _ (before· : After-index) where
         pub record Else1·own : Type 0 where
           pub left : Path'._≡_ {A = Nat.ℕ}
-              (Row.get 8 (T4 .locals) (m3 (before· .before) (After-wide·gave before·)))
+              (Row.get 8 (T4 .locals) (m3 (before· .before) (After-index·gave before·)))
               0 →
               ⊥
 
       pub record Else1 : Type 0 where
-        pub before : After-wide
+        pub before : After-index
         pub if1 : Else1·own before
 
-      abbrev pub m11 : (before : After-wide) → Typed.Mo T16
-      m11 = λ before. s13 (m4 (before .before) (After-wide·gave before))
+      abbrev pub m11 : (before : After-index) → Typed.Mo T16
+      m11 = λ before. s13 (m4 (before .before) (After-index·gave before))
 
       abbrev pub m12 :
           (before : Else1) → (given : s15 .gives (m11 (before .before))) → Typed.Mo T18
@@ -1005,7 +1005,8 @@ module _ (claims· : Claims) where
       abbrev pub Need-returns-2 : Type 0
       Need-returns-2 = (c : After-slice-known3) → Post· (c .before .before .before .before .before .before .before .κs) (dens (c .before .before .before .before .before .before .before .κs) (c .before .before .before .before .before .before .before .args)) (Function.resV r (c .before .before .before .before .before .before .before .κs) (m30 (c .before) (c .slice-known3 .given) .0)) (Clauses.atExit (Kinds.endedOf 2 ps r) (c .before .before .before .before .before .before .before .κs) (dens (c .before .before .before .before .before .before .before .κs) (c .before .before .before .before .before .before .before .args)) (Enter.lastsP (c .before .before .before .before .before .before .before .κs) 1 ps xs (dens (c .before .before .before .before .before .before .before .κs) (c .before .before .before .before .before .before .before .args)) (m30 (c .before) (c .slice-known3 .given) .1)))
 
-      module _ (wide-requires : Need-wide-requires) (put-ended-requires : Need-put-ended-requires)
+      module _ (index-requires : Need-index-requires)
+          (put-ended-requires : Need-put-ended-requires)
           (put-found-requires : Need-put-found-requires) (same-length : Need-same-length)
           (returns : Need-returns) (same-length-2 : Need-same-length-2)
           (returns-2 : Need-returns-2) where
@@ -1030,26 +1031,26 @@ module _ (claims· : Claims) where
         lay3 :
             (c : Else1) →
             at9
-            (W1 (c .before .before) (After-wide·gave (c .before)))
-            (m4 (c .before .before) (After-wide·gave (c .before)))
+            (W1 (c .before .before) (After-index·gave (c .before)))
+            (m4 (c .before .before) (After-index·gave (c .before)))
         lay3 = λ c. λ g. (Path'.refl, (put-found-requires record { before = record { before = c .before; if1 = c .if1 }; put-found-arg = record { given = g } }, λ g'. (Path'.refl, λ g''. λ g'3. lay5 record { before = record { before = record { before = record { before = record { before = c .before; if1 = c .if1 }; put-found-arg = record { given = g } }; put-found = Called.called ps·2 r·2 (claims· .5) T19 (record { pos = 1; ty = Syntax.tyRef (Syntax.named 0) Syntax.imm OfOutput.named; ref = λ x. x }, (Num.vAt 8 λ x. x, (Num.vAt 2 λ x. x, (record { pos = 14; ty = Syntax.tyRef Syntax.erased Syntax.mut (Syntax.tyInt Syntax.w8); ref = λ x. x }, (Num.vAt 4 λ x. x, (Bool.bAt 5 λ x. x, tt)))))) (m13 record { before = c .before; if1 = c .if1 } g) g' }; page2 = record { given = g'' } }; slice-known3 = record { given = g'3 } })))
 
         lay2 :
             (c : Then1) →
             at4
-            (W1 (c .before .before) (After-wide·gave (c .before)))
-            (m4 (c .before .before) (After-wide·gave (c .before)))
+            (W1 (c .before .before) (After-index·gave (c .before)))
+            (m4 (c .before .before) (After-index·gave (c .before)))
         lay2 = λ c. λ g. (Path'.refl, (put-ended-requires record { before = record { before = c .before; if1 = c .if1 }; put-ended-arg = record { given = g } }, λ g'. (Path'.refl, λ g''. λ g'3. lay4 record { before = record { before = record { before = record { before = record { before = c .before; if1 = c .if1 }; put-ended-arg = record { given = g } }; put-ended = Called.called ps·1 r·1 (claims· .3) T10 (record { pos = 12; ty = Syntax.tyRef Syntax.erased Syntax.mut (Syntax.tyInt Syntax.w8); ref = λ x. x }, (Num.vAt 4 λ x. x, (Num.vAt 6 λ x. x, tt))) (m7 record { before = c .before; if1 = c .if1 } g) g' }; page = record { given = g'' } }; slice-known2 = record { given = g'3 } })))
 
         lay1 :
-            (c : After-wide) →
+            (c : After-index) →
             at21
             (W0 (c .before .before .κs) (c .before .before .args))
-            (m2 (c .before) (After-wide·gave c))
-        lay1 = λ c. (tt, (λ taken. lay2 record { before = record { before = c .before; wide = c .wide }; if1 = record { taken = Tests.eqb-true (Row.get 8 (T4 .locals) (m3 (c .before) (After-wide·gave c))) 0 taken } }, λ left. lay3 record { before = record { before = c .before; wide = c .wide }; if1 = record { left = Tests.eqb-false (Row.get 8 (T4 .locals) (m3 (c .before) (After-wide·gave c))) 0 left } }))
+            (m2 (c .before) (After-index·gave c))
+        lay1 = λ c. (tt, (λ taken. lay2 record { before = record { before = c .before; index = c .index }; if1 = record { taken = Tests.eqb-true (Row.get 8 (T4 .locals) (m3 (c .before) (After-index·gave c))) 0 taken } }, λ left. lay3 record { before = record { before = c .before; index = c .index }; if1 = record { left = Tests.eqb-false (Row.get 8 (T4 .locals) (m3 (c .before) (After-index·gave c))) 0 left } }))
 
         pub laid : (c : Start) → at23 (W0 (c .κs) (c .args)) (m0 (c .κs) (c .args))
-        laid = λ c. λ g. (wide-requires record { before = c; slice-known = record { given = g } }, λ g'. lay1 record { before = record { before = c; slice-known = record { given = g } }; wide = Called.called ps·0 r·0 (claims· .1) T2 (Num.vFld 7 (List._∷_ (Syntax.field 0) List.[]) 0 λ x. Reader.struct .as-values x .0, tt) (m1 c g) g' })
+        laid = λ c. λ g. (index-requires record { before = c; slice-known = record { given = g } }, λ g'. lay1 record { before = record { before = c; slice-known = record { given = g } }; index = Called.called ps·0 r·0 (claims· .1) T2 (Num.vFld 7 (List._∷_ (Syntax.field 0) List.[]) 0 λ x. Reader.struct .as-values x .0, tt) (m1 c g) g' })
 
         module _ (κs : Lifetimes.Lfts 2) (qs : Lifetimes.Shares 2) where
           pub asked :
@@ -1062,7 +1063,7 @@ module _ (claims· : Claims) where
 
         module _ {M : Type 1} (𝓤 : URA.URA M) (H : Wp.Heap 𝓤) (A : Atoms.Atoms 𝓤)
             (W : Kit.Given 𝓤 H A) (𝓣 : Wp.Tables 𝓤 H)
-            (known0 : Plain.Known 𝓤 H A W 𝓣 0 ps·0 r·0 (claims· .0) (claims· .1) "session::wide")
+            (known0 : Plain.Known 𝓤 H A W 𝓣 0 ps·0 r·0 (claims· .0) (claims· .1) "ranges::index")
             (known1 : Plain.Known
             𝓤
             H
