@@ -4,14 +4,14 @@
 ghost use mathlib.Core.Path.{_≡_};
 ghost use Prim.Native.Nat.{_<_, _^_, _+_, _-_, max};
 ghost use Rattle.lighting.specs.Value.{intoRange};
-ghost use Rattle.lighting.specs.Commands.{unwarned, unwarnedActivity, jumped, wentTo, stepUpFrom, stepDownFrom, steppedUp, steppedDown, raised, halted, stopped, relinquished, scene, timed, withCommand, commandedFrom, commanded};
+ghost use Rattle.lighting.specs.Commands.{unwarned, unwarnedActivity, jumped, wentTo, stepUpFrom, stepDownFrom, steppedUp, steppedDown, raised, halted, stopped, relinquished, effect, timed, withCommand, commandedFrom, commanded};
 ghost use Rattle.lighting.specs.declared.Timer.the-variants.{Running};
 use lighting::Activity;
 use lighting::Command;
 use lighting::Duration;
+use lighting::Effect;
 use lighting::Operation;
 use lighting::Output;
-use lighting::Scene;
 use lighting::Settings;
 use lighting::Slots;
 use lighting::Timer;
@@ -52,13 +52,13 @@ fn without_warning(a: Activity) -> Activity
 
 // ---- 'GOTO and steps jump'
 
-fn jump(c: Settings, s: Slots, a: Activity, g: u32) -> Scene
+fn jump(c: Settings, s: Slots, a: Activity, g: u32) -> Effect
     ensures { λ r. ⌜ r ≡ jumped c s a g ⌝ }
 {
     moving::place(s, a, c.slot, g, Activity::Still)
 }
 
-fn go_to(c: Settings, s: Slots, a: Activity, x: f32) -> Scene
+fn go_to(c: Settings, s: Slots, a: Activity, x: f32) -> Effect
     ensures { λ r. ⌜ r ≡ wentTo c s a x ⌝ }
 {
     jump(c, s, a, moving::target_of(c, x))
@@ -91,13 +91,13 @@ fn step_down_from(c: Settings, f: u32, x: u32) -> u32
     if f == 0 { 0 } else { lower(c, f, x) }
 }
 
-fn step_up(c: Settings, f: u32, s: Slots, a: Activity, x: f32) -> Scene
+fn step_up(c: Settings, f: u32, s: Slots, a: Activity, x: f32) -> Effect
     ensures { λ r. ⌜ r ≡ steppedUp c f s a x ⌝ }
 {
     jump(c, s, a, step_up_from(c, f, level::amount_units(x)))
 }
 
-fn step_down(c: Settings, f: u32, s: Slots, a: Activity, x: f32) -> Scene
+fn step_down(c: Settings, f: u32, s: Slots, a: Activity, x: f32) -> Effect
     ensures { λ r. ⌜ r ≡ steppedDown c f s a x ⌝ }
 {
     jump(c, s, a, step_down_from(c, f, level::amount_units(x)))
@@ -118,28 +118,28 @@ fn raise(c: Settings, v: u32) -> u32
     if v == 0 { 0 } else { greater(c.min, v) }
 }
 
-fn halt(c: Settings, f: u32, s: Slots) -> Scene
+fn halt(c: Settings, f: u32, s: Slots) -> Effect
     ensures { λ r. ⌜ r ≡ halted c f s ⌝ }
 {
-    Scene {
+    Effect {
         slots: slots::fill(s, c.slot, raise(c, f)),
         activity: Activity::Still,
     }
 }
 
 // 'if a movement belongs to p, it ends [..]. Else it changes no slot'.
-fn stop(c: Settings, f: u32, s: Slots, a: Activity) -> Scene
+fn stop(c: Settings, f: u32, s: Slots, a: Activity) -> Effect
     ensures { λ r. ⌜ r ≡ stopped c f s a ⌝ }
 {
     match a {
-        Activity::Still => Scene {
+        Activity::Still => Effect {
             slots: s,
             activity: a,
         },
         Activity::Moving(m) => if m.owner == c.slot {
             halt(c, f, s)
         } else {
-            Scene {
+            Effect {
                 slots: s,
                 activity: a,
             }
@@ -149,11 +149,11 @@ fn stop(c: Settings, f: u32, s: Slots, a: Activity) -> Scene
             level: _,
             turn: _,
             over: _,
-        } => Scene {
+        } => Effect {
             slots: s,
             activity: a,
         },
-        Activity::Delay { owner: _, over: _ } => Scene {
+        Activity::Delay { owner: _, over: _ } => Effect {
             slots: s,
             activity: a,
         },
@@ -161,10 +161,10 @@ fn stop(c: Settings, f: u32, s: Slots, a: Activity) -> Scene
 }
 
 // 'RELINQUISH empties slot p; if p owned the movement, it ends'.
-fn relinquish(c: Settings, s: Slots, a: Activity) -> Scene
+fn relinquish(c: Settings, s: Slots, a: Activity) -> Effect
     ensures { λ r. ⌜ r ≡ relinquished c s a ⌝ }
 {
-    Scene {
+    Effect {
         slots: slots::empty(s, c.slot),
         activity: due::disown(c.slot, a),
     }
@@ -172,9 +172,9 @@ fn relinquish(c: Settings, s: Slots, a: Activity) -> Scene
 
 // ---- a command
 
-fn make_scene(t: u64, c: Settings, f: u32, s: Slots, a: Activity, k: Operation) -> Scene
+fn make_effect(t: u64, c: Settings, f: u32, s: Slots, a: Activity, k: Operation) -> Effect
     requires { ⌜ t < 2 ^ 48 ⌝ }
-    ensures { λ r. ⌜ r ≡ scene t c f s a k ⌝ }
+    ensures { λ r. ⌜ r ≡ effect t c f s a k ⌝ }
 {
     match k {
         Operation::Stop => stop(c, f, s, a),
@@ -214,7 +214,7 @@ fn time(t: u64, p: u8, m: Timer, d: Duration) -> Timer
     }
 }
 
-fn with_command(o: Output, n: Scene, m: Timer, k: Command) -> Output
+fn with_command(o: Output, n: Effect, m: Timer, k: Command) -> Output
     ensures { λ r. ⌜ r ≡ withCommand o n m k ⌝ }
 {
     let settings = o.settings;
@@ -240,7 +240,7 @@ fn command_from(t: u64, o: Output, f: u32, k: Command) -> Output
     let m = o.timer;
     let operation = k.operation;
     let duration = k.duration;
-    let n = make_scene(t, c, f, end_warning(s, a), without_warning(a), operation);
+    let n = make_effect(t, c, f, end_warning(s, a), without_warning(a), operation);
     with_command(o, n, time(t, c.slot, m, duration), k)
 }
 

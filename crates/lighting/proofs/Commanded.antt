@@ -10,7 +10,7 @@ use Rattle.lighting.specs.Choice.{if_then_else_}
 use Rattle.lighting.specs.Level.{levelUnits, amountUnits}
 use Rattle.lighting.specs.Slots.{Slots, lives, winner, put, filled}
 use Rattle.lighting.specs.Value.{brought, presentValue, progressValue}
-use Rattle.lighting.specs.Commands.{unwarned, unwarnedActivity, replaced, placed, movement, apart, rampLength, target, fadedOver, fadedTo, rampedAt, rampedTo, jumped, wentTo, stepUpFrom, stepDownFrom, steppedUp, steppedDown, raised, halted, stopped, relinquished, scene, timed, withCommand, commandedFrom, commanded}
+use Rattle.lighting.specs.Commands.{unwarned, unwarnedActivity, replaced, placed, movement, apart, rampLength, target, fadedOver, fadedTo, rampedAt, rampedTo, jumped, wentTo, stepUpFrom, stepDownFrom, steppedUp, steppedDown, raised, halted, stopped, relinquished, effect, timed, withCommand, commandedFrom, commanded}
 use Rattle.lighting.specs.declared.Settings.{Settings}
 use Rattle.lighting.specs.declared.Pace.{Pace}
 use Rattle.lighting.specs.declared.Pace.the-variants.{Fade, Ramp}
@@ -22,7 +22,7 @@ use Rattle.lighting.specs.declared.Duration.the-variants.{Lasts, Cancels
 use Rattle.lighting.specs.declared.Operation.{Operation}
 use Rattle.lighting.specs.declared.Operation.the-variants.{Stop, FadeTo, FadeToOver, RampTo, RampToAtRate, StepUp, StepDown, StepUpBy, StepDownBy, Goto, Relinquish}
 use Rattle.lighting.specs.declared.Command.{Command}
-use Rattle.lighting.specs.declared.Scene.{Scene}
+use Rattle.lighting.specs.declared.Effect.{Effect}
 use Rattle.lighting.specs.declared.Output.{Output}
 use Rattle.lighting.proofs.Split.{by-eq, by-le}
 use Rattle.lighting.proofs.Ranges.{amount-range}
@@ -35,7 +35,7 @@ use Rattle.lighting.proofs.Written.{moving-over}
 use Rattle.lighting.proofs.Good.{GoodDuration, GoodOperation}
 
 -- slots and activity, together
-record Staged (t : ℕ) (c : Settings) (r : Scene) : Type 0 where
+record Staged (t : ℕ) (c : Settings) (r : Effect) : Type 0 where
   slots : Filled (r .slots)
   activity : Acts t c (r .slots) (r .activity)
 
@@ -210,19 +210,19 @@ module _ (t : ℕ) (c : Settings) (k : Settled c) (s : Slots) (f : Filled s) (a 
   unfolding steppedDown
   down-staged b x = jumped-staged (stepDownFrom c b (amountUnits x)) (down-level b (amountUnits x))
 
-  scene-staged : (b : ℕ) (o : Operation) → b ≤ c .max → GoodOperation o → Staged t c (scene t c b s a o)
-  unfolding scene wentTo
-  scene-staged b Stop m g = stopped-staged b m
-  scene-staged b (FadeTo x) m g = faded-staged b (c .fade) x m (k .fade)
-  scene-staged b (FadeToOver x l) m g = faded-staged b l x m g
-  scene-staged b (RampTo x) m g = ramped-staged b x (c .ramp) m
-  scene-staged b (RampToAtRate x r) m g = ramped-staged b x r m
-  scene-staged b StepUp m g = up-staged b (c .step)
-  scene-staged b StepDown m g = down-staged b (c .step)
-  scene-staged b (StepUpBy x) m g = up-staged b x
-  scene-staged b (StepDownBy x) m g = down-staged b x
-  scene-staged b (Goto x) m g = jumped-staged (target c x) (target-level x)
-  scene-staged b Relinquish m g = relinquished-staged
+  effect-staged : (b : ℕ) (o : Operation) → b ≤ c .max → GoodOperation o → Staged t c (effect t c b s a o)
+  unfolding effect wentTo
+  effect-staged b Stop m g = stopped-staged b m
+  effect-staged b (FadeTo x) m g = faded-staged b (c .fade) x m (k .fade)
+  effect-staged b (FadeToOver x l) m g = faded-staged b l x m g
+  effect-staged b (RampTo x) m g = ramped-staged b x (c .ramp) m
+  effect-staged b (RampToAtRate x r) m g = ramped-staged b x r m
+  effect-staged b StepUp m g = up-staged b (c .step)
+  effect-staged b StepDown m g = down-staged b (c .step)
+  effect-staged b (StepUpBy x) m g = up-staged b x
+  effect-staged b (StepDownBy x) m g = down-staged b x
+  effect-staged b (Goto x) m g = jumped-staged (target c x) (target-level x)
+  effect-staged b Relinquish m g = relinquished-staged
 
 -- THE DURATION
 timed-kept : (t p : ℕ) (m : Timer) (d : Duration) → Slot p → GoodDuration d → Timed t m → Timed t (timed t p m d)
@@ -236,7 +236,7 @@ unfolding commanded commandedFrom withCommand
 commanded-sound t o k g d h =
     let u = unwarned-staged t (o .settings) (o .slots) (o .activity) (h .slots) (h .activity) in
     let r =
-    scene-staged
+    effect-staged
     t
     (o .settings)
     (h .settings)

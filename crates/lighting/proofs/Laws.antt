@@ -3,12 +3,12 @@ use mathlib.Core.Path.{_≡_}
 use Prim.Native.Nat.{ℕ}
 use Rattle.lighting.specs.Acting.{acted}
 use Rattle.lighting.specs.Answers.{refusalOf, levelAnswered}
-use Rattle.lighting.specs.Commands.{unwarned, unwarnedActivity, stopped, scene, timed}
+use Rattle.lighting.specs.Commands.{unwarned, unwarnedActivity, stopped, effect, timed}
 use Rattle.lighting.specs.Frames.{orderedWith, fadeOrder, rampOrderAt, rampOrder, writeLevel, Bytes}
 use Rattle.lighting.specs.Level.{inRange, unitsOr}
 use Rattle.lighting.specs.Panel.{met, stationOf, carried, Panel, Step}
 use Rattle.lighting.specs.Parameters.{Parameters}
-use Rattle.lighting.specs.Passing.{timerAt, expired, disowned, released, activityAt, slotsAt, timerDue, activityDue, timerLater, activityLater}
+use Rattle.lighting.specs.Passing.{timerAt, expired, disowned, released, activityAt, slotsAt, timerDue, activityDue}
 use Rattle.lighting.specs.Properties.{changeDefault, changeMin, changeMax, changeRamp, changeStep, changeOf, settingsWith, unmoved, activityWith, burningWith, operationNumber, lastLevel, lastRate, lastStep, lastFadeTime, lastDuration, shown}
 use Rattle.lighting.specs.Rules.{activityBy, timerSound}
 use Rattle.lighting.specs.Slots.{Slots}
@@ -17,6 +17,7 @@ use Rattle.lighting.specs.Writing.{passedOver, writtenBy}
 use Rattle.lighting.specs.declared.Activity.{Activity}
 use Rattle.lighting.specs.declared.Answer.{Answer}
 use Rattle.lighting.specs.declared.Duration.{Duration}
+use Rattle.lighting.specs.declared.Effect.{Effect}
 use Rattle.lighting.specs.declared.Frame.{Frame}
 use Rattle.lighting.specs.declared.Level.{Level}
 use Rattle.lighting.specs.declared.Operand.{Operand}
@@ -26,7 +27,6 @@ use Rattle.lighting.specs.declared.Output.{Output}
 use Rattle.lighting.specs.declared.Pace.{Pace}
 use Rattle.lighting.specs.declared.Property.{Property}
 use Rattle.lighting.specs.declared.Request.{Request}
-use Rattle.lighting.specs.declared.Scene.{Scene}
 use Rattle.lighting.specs.declared.Setting.{Setting}
 use Rattle.lighting.specs.declared.Settings.{Settings}
 use Rattle.lighting.specs.declared.Station.{Station}
@@ -50,11 +50,11 @@ unwarned-on x0 x1 k r e p = rw e p
 pub unwarnedActivity-on : (x0 : Activity) (k : Activity) (r : Activity) → x0 ≡ k → r ≡ unwarnedActivity k → r ≡ unwarnedActivity x0
 unwarnedActivity-on x0 k r e p = rw e p
 
-pub stopped-on : (x0 : Settings) (x1 : ℕ) (x2 : Slots) (x3 : Activity) (k : Activity) (r : Scene) → x3 ≡ k → r ≡ stopped x0 x1 x2 k → r ≡ stopped x0 x1 x2 x3
+pub stopped-on : (x0 : Settings) (x1 : ℕ) (x2 : Slots) (x3 : Activity) (k : Activity) (r : Effect) → x3 ≡ k → r ≡ stopped x0 x1 x2 k → r ≡ stopped x0 x1 x2 x3
 stopped-on x0 x1 x2 x3 k r e p = rw e p
 
-pub scene-on : (x0 : ℕ) (x1 : Settings) (x2 : ℕ) (x3 : Slots) (x4 : Activity) (x5 : Operation) (k : Operation) (r : Scene) → x5 ≡ k → r ≡ scene x0 x1 x2 x3 x4 k → r ≡ scene x0 x1 x2 x3 x4 x5
-scene-on x0 x1 x2 x3 x4 x5 k r e p = rw e p
+pub effect-on : (x0 : ℕ) (x1 : Settings) (x2 : ℕ) (x3 : Slots) (x4 : Activity) (x5 : Operation) (k : Operation) (r : Effect) → x5 ≡ k → r ≡ effect x0 x1 x2 x3 x4 k → r ≡ effect x0 x1 x2 x3 x4 x5
+effect-on x0 x1 x2 x3 x4 x5 k r e p = rw e p
 
 pub timed-on : (x0 : ℕ) (x1 : ℕ) (x2 : Timer) (x3 : Duration) (k : Duration) (r : Timer) → x3 ≡ k → r ≡ timed x0 x1 x2 k → r ≡ timed x0 x1 x2 x3
 timed-on x0 x1 x2 x3 k r e p = rw e p
@@ -112,12 +112,6 @@ timerDue-on x0 x1 k r e p = rw e p
 
 pub activityDue-on : (x0 : ℕ) (x1 : Activity) (k : Activity) (r : ℕ) → x1 ≡ k → r ≡ activityDue x0 k → r ≡ activityDue x0 x1
 activityDue-on x0 x1 k r e p = rw e p
-
-pub timerLater-on : (x0 : ℕ) (x1 : Timer) (k : Timer) (r : Bool) → x1 ≡ k → r ≡ timerLater x0 k → r ≡ timerLater x0 x1
-timerLater-on x0 x1 k r e p = rw e p
-
-pub activityLater-on : (x0 : ℕ) (x1 : Activity) (k : Activity) (r : Bool) → x1 ≡ k → r ≡ activityLater x0 k → r ≡ activityLater x0 x1
-activityLater-on x0 x1 k r e p = rw e p
 
 pub changeDefault-on : (x0 : Level) (k : Level) (r : Request) → x0 ≡ k → r ≡ changeDefault k → r ≡ changeDefault x0
 changeDefault-on x0 k r e p = rw e p

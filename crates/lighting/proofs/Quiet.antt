@@ -1,32 +1,35 @@
 -- Where nothing falls due on the way, the engine's way is burning alone: of any record at all. Assumes nothing.
 use mathlib.Core.Path.{_≡_, refl, sym, _∙_}
 use mathlib.Core.Bool.{Bool, true}
-use Prim.Native.Nat.{ℕ, zero, suc, _+_, _-_, _≤_, min}
+use Prim.Native.Nat.{ℕ, zero, suc, _+_, _-_, _≤_, _<_, min}
 use native.Mathlib.Nat.{sub-self}
 use native.Mathlib.Omega.{arith}
-use Rattle.lighting.specs.Passing.{top, withBurning, glowing, gained, due, hop, hops, advance, timerLater, activityLater, later}
+use Rattle.lighting.specs.Passing.{top, withBurning, glowing, gained, timerDue, activityDue, due, hop, hops, advance, later}
 use Rattle.lighting.specs.declared.Activity.{Activity}
 use Rattle.lighting.specs.declared.Activity.the-variants.{Still, Moving, Blink, Delay}
 use Rattle.lighting.specs.declared.Timer.{Timer}
 use Rattle.lighting.specs.declared.Timer.the-variants.{Off, Running}
 use Rattle.lighting.specs.declared.Output.{Output}
-use Rattle.lighting.proofs.Split.{also-both, le-of}
+use Rattle.lighting.proofs.Split.{le-of}
 use Rattle.lighting.proofs.Passing.{TimerAfter, ActivityAfter, After, quiet, glowing-le, due-here}
+
+due-after : (to : ℕ) (o : Output) → to < due top o → After to o
+unfolding due timerDue activityDue
+due-after to o h = record { timer = timer (o .timer) (omega arith); activity = activity (o .activity) (omega arith) }
+  where
+    timer : (m : Timer) → to < timerDue top m → TimerAfter to m
+    timer Off h = tt
+    timer (Running slot d) h = omega (arith, h)
+
+    activity : (a : Activity) → to < activityDue top a → ActivityAfter to a
+    activity Still h = tt
+    activity (Moving m) h = omega (arith, h)
+    activity (Blink owner level turn over) h = omega (arith, h)
+    activity (Delay owner over) h = omega (arith, h)
 
 later-after : (to : ℕ) (o : Output) → later to o ≡ true → After to o
 unfolding later
-later-after to o h =
-    let p = also-both h in record { timer = timer (o .timer) (p .0); activity = activity (o .activity) (p .1) }
-  where
-    timer : (m : Timer) → timerLater to m ≡ true → TimerAfter to m
-    timer Off h = tt
-    timer (Running slot due) h = le-of (unfold timerLater in h)
-
-    activity : (a : Activity) → activityLater to a ≡ true → ActivityAfter to a
-    activity Still h = tt
-    activity (Moving m) h = le-of (unfold activityLater in h)
-    activity (Blink owner level turn over) h = le-of (unfold activityLater in h)
-    activity (Delay owner over) h = le-of (unfold activityLater in h)
+later-after to o h = due-after to o (le-of h)
 
 gained-after : (t from n : ℕ) (o : Output) → After t o → After t (gained from n o)
 unfolding gained withBurning

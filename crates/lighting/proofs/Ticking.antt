@@ -23,7 +23,7 @@ use Rattle.lighting.proofs.Tied.{sound-calm}
 use Rattle.lighting.proofs.Levels.{put-filled}
 
 -- slots and activity together
-record Scene (t : ℕ) (c : Settings) (s : Slots) (a : Activity) : Type 0 where
+record Effect (t : ℕ) (c : Settings) (s : Slots) (a : Activity) : Type 0 where
   slots : Filled s
   activity : Acts t c s a
 
@@ -44,11 +44,11 @@ disowned-acts t c s q (Moving m) g f h =
 disowned-acts t c s q (Blink x y u v) g f h = let k = six-kept s (f .size) q none (g .inside) (g .free) in search
 disowned-acts t c s q (Delay x v) g f h = let k = six-kept s (f .size) q none (g .inside) (g .free) in search
 
-expired-scene : (t d : ℕ) (c : Settings) (s : Slots) (m : Timer) (a : Activity) → Timed t m → Filled s → Acts t c s a
-    → Scene t c (expired d m s) (released d m a)
+expired-effect : (t d : ℕ) (c : Settings) (s : Slots) (m : Timer) (a : Activity) → Timed t m → Filled s → Acts t c s a
+    → Effect t c (expired d m s) (released d m a)
 unfolding expired released if_then_else_
-expired-scene t d c s Off a k f h = record { slots = f; activity = h }
-expired-scene t d c s (Running q e) a k f h =
+expired-effect t d c s Off a k f h = record { slots = f; activity = h }
+expired-effect t d c s (Running q e) a k f h =
     by-eq
     e
     d
@@ -57,17 +57,17 @@ expired-scene t d c s (Running q e) a k f h =
     (λ p r. rw r (record { slots = f; activity = h }))
 
 -- THE WARNING AND THE MOVEMENT
-next-scene : (t : ℕ) (c : Settings) (s : Slots) (a : Activity) → Filled s → Acts t c s a
-    → Scene (suc t) c (slotsAt (suc t) a s) (activityAt (suc t) a)
+next-effect : (t : ℕ) (c : Settings) (s : Slots) (a : Activity) → Filled s → Acts t c s a
+    → Effect (suc t) c (slotsAt (suc t) a s) (activityAt (suc t) a)
 unfolding slotsAt activityAt if_then_else_
-next-scene t c s Still f h = record { slots = f; activity = h }
-next-scene t c s (Moving m) f h =
+next-effect t c s Still f h = record { slots = f; activity = h }
+next-effect t c s (Moving m) f h =
     by-eq
     (m .over)
     (suc t)
     (λ p e. rw e (record { slots = f; activity = h .six }))
     (λ p e. rw e (record { slots = f; activity = search arith }))
-next-scene t c s (Blink x y u v) f h =
+next-effect t c s (Blink x y u v) f h =
     by-eq
     u
     (suc t)
@@ -79,7 +79,7 @@ next-scene t c s (Blink x y u v) f h =
     record { slots = put-filled s 5 (some y) f (omega arith) (h .1); activity = search arith }))
     (λ q e′. rw (e, e′) (record { slots = put-filled s 5 none f (omega arith) tt; activity = six-set s (f .size) none })))
     (λ p e. rw e (record { slots = f; activity = search arith }))
-next-scene t c s (Delay x v) f h =
+next-effect t c s (Delay x v) f h =
     by-eq
     v
     (suc t)
@@ -101,8 +101,8 @@ next-timer t (Running q d) h = by-eq d (suc t) (λ p e. rw e tt) (λ p e. rw e (
 pub tick-sound : (t : ℕ) (o : Output) → Sound t o → Sound (suc t) (tick t o)
 unfolding tick fire settled burned withBurning
 tick-sound t o h =
-    let x = expired-scene t (suc t) (o .settings) (o .slots) (o .timer) (o .activity) (h .timer) (h .slots) (h .activity) in
-    let n = next-scene t (o .settings) (expired (suc t) (o .timer) (o .slots)) (released (suc t) (o .timer) (o .activity)) (x .slots) (x .activity) in
+    let x = expired-effect t (suc t) (o .settings) (o .slots) (o .timer) (o .activity) (h .timer) (h .slots) (h .activity) in
+    let n = next-effect t (o .settings) (expired (suc t) (o .timer) (o .slots)) (released (suc t) (o .timer) (o .activity)) (x .slots) (x .activity) in
     record {
       settings = h .settings;
       slots = n .slots;

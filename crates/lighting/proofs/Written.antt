@@ -17,12 +17,12 @@ use Rattle.lighting.proofs.Winner.{winner-over, topmost-over, winner-de
 use Rattle.lighting.specs.Value.{presentValue}
 use Rattle.lighting.proofs.Facts.{IsLevel, Within, Slot, SlotLevel, Filled, Moves, Acts, Sound}
 use Rattle.lighting.proofs.Levels.{level-zero, present-level, put-filled}
-use Rattle.lighting.specs.Writing.{withScene, passedOver, stored, blinks, warnsBy, warns, firstLevel, firstPhase, warnedBy, warned, endedEmpty, endedStored, writtenWarned, writtenZero, writtenCalm, writtenBy, written, vacatedActivity, vacated}
+use Rattle.lighting.specs.Writing.{withEffect, passedOver, stored, blinks, warnsBy, warns, firstLevel, firstPhase, warnedBy, warned, endedEmpty, endedStored, writtenWarned, writtenZero, writtenCalm, writtenBy, written, vacatedActivity, vacated}
 
 -- all that a change of slots and activity has to keep
-scene-sound : (t : ℕ) (o : Output) (s : Slots) (a : Activity) → Sound t o → Filled s → Acts t (o .settings) s a → Sound t (withScene o s a)
-unfolding withScene
-scene-sound t o s a h f k = search
+effect-sound : (t : ℕ) (o : Output) (s : Slots) (a : Activity) → Sound t o → Filled s → Acts t (o .settings) s a → Sound t (withEffect o s a)
+unfolding withEffect
+effect-sound t o s a h f k = search
 
 -- A MOVEMENT whose owner stays the winner goes on
 pub kept-moving : (t : ℕ) (c : Settings) (s s′ : Slots) (m : Movement) → Moves t c s m
@@ -71,7 +71,7 @@ module _ (t : ℕ) (c : Settings) (s : Slots) (size : length (s .levels) ≡ 16)
 stored-sound : (t : ℕ) (o : Output) (i v : ℕ) → Slot i → IsLevel v → Sound t o → Sound t (stored o i v)
 unfolding stored
 stored-sound t o i v g l h =
-    scene-sound t o _ _ h
+    effect-sound t o _ _ h
     (put-filled (o .slots) i (some v) (h .slots) (g .inside) l)
     (passed-acts t (o .settings) (o .slots) (h .slots .size) i g (some v) (o .activity) (h .activity))
 
@@ -92,7 +92,7 @@ unfolding warned warnedBy
 warned-sound t o x g l b h =
     let y = present-level (o .settings) (o .slots) (h .settings) in
     let f = put-filled (o .slots) x (some 0) (h .slots) (g .inside) level-zero in
-    scene-sound t o _ _ h
+    effect-sound t o _ _ h
     (put-filled (filled (o .slots) x 0) 5 (some _) f (omega arith) (first-level (o .settings) _ y))
     (first-acts t (o .settings) _ x _ g l b y (six-set (filled (o .slots) x 0) (f .size) (some _)))
 
@@ -103,10 +103,10 @@ warns-facts c s x h = search parts
 
 -- DURING A WARNING
 ended-sound : (t : ℕ) (o : Output) (i : ℕ) (x : Option ℕ) → Slot i → SlotLevel x → Sound t o
-    → Sound t (withScene o (put (emptied (o .slots) 5) i x) Still)
+    → Sound t (withEffect o (put (emptied (o .slots) 5) i x) Still)
 ended-sound t o i x g l h =
     let f = put-filled (o .slots) 5 none (h .slots) (omega arith) tt in
-    scene-sound t o _ _ h
+    effect-sound t o _ _ h
     (put-filled (emptied (o .slots) 5) i x f (g .inside) l)
     (six-kept (emptied (o .slots) 5) (f .size) i x (g .inside) (g .free) ∙ six-set (o .slots) (h .slots .size) none)
 
@@ -151,6 +151,6 @@ written-sound t o i v g l h = go (o .activity)
 pub vacated-sound : (t : ℕ) (o : Output) (i : ℕ) → Slot i → Sound t o → Sound t (vacated o i)
 unfolding vacated
 vacated-sound t o i g h =
-    scene-sound t o _ _ h
+    effect-sound t o _ _ h
     (put-filled (o .slots) i none (h .slots) (g .inside) tt)
     (vacated-acts t (o .settings) (o .slots) (h .slots .size) i g (o .activity) (h .activity))

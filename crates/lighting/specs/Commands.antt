@@ -19,7 +19,7 @@ use Rattle.lighting.specs.declared.Duration.the-variants.{Lasts, Cancels
 use Rattle.lighting.specs.declared.Operation.{Operation}
 use Rattle.lighting.specs.declared.Operation.the-variants.{Stop, FadeTo, FadeToOver, RampTo, RampToAtRate, StepUp, StepDown, StepUpBy, StepDownBy, Goto, Relinquish}
 use Rattle.lighting.specs.declared.Command.{Command}
-use Rattle.lighting.specs.declared.Scene.{Scene}
+use Rattle.lighting.specs.declared.Effect.{Effect}
 use Rattle.lighting.specs.declared.Output.{Output}
 
 -- 'and first ends any warning by emptying slot 6'
@@ -39,7 +39,7 @@ unwarnedActivity (Delay owner over) = Still
 unfoldable pub replaced : ℕ → ℕ → Activity → Activity → Activity
 replaced w p new old = if eqb w p then new else old
 
-unfoldable pub placed : Slots → Activity → ℕ → ℕ → Activity → Scene
+unfoldable pub placed : Slots → Activity → ℕ → ℕ → Activity → Effect
 placed s a p g new = record { slots = filled s p g; activity = replaced (winner (filled s p g)) p new a }
 
 -- a movement of slot p at t from f, the paper's s, to g over l: 'If s = g there is no movement'
@@ -59,25 +59,25 @@ rampLength d r = (1000 * d + (r - 1)) / r
 unfoldable pub target : Settings → Float → ℕ
 target c x = brought c (levelUnits x)
 
--- A SCENE: the slots and the activity after a command, which starts at t from the level f, with the settings c, the slots s and the
+-- THE EFFECT: the slots and the activity after a command, which starts at t from the level f, with the settings c, the slots s and the
 -- activity a
-unfoldable pub fadedOver : ℕ → Settings → ℕ → Slots → Activity → ℕ → ℕ → Scene
+unfoldable pub fadedOver : ℕ → Settings → ℕ → Slots → Activity → ℕ → ℕ → Effect
 fadedOver t c f s a g l = placed s a (c .slot) g (movement t (c .slot) f g l Fade)
 
-unfoldable pub fadedTo : ℕ → Settings → ℕ → Slots → Activity → Float → ℕ → Scene
+unfoldable pub fadedTo : ℕ → Settings → ℕ → Slots → Activity → Float → ℕ → Effect
 fadedTo t c f s a x l = fadedOver t c f s a (target c x) l
 
-unfoldable pub rampedAt : ℕ → Settings → ℕ → Slots → Activity → ℕ → ℕ → Scene
+unfoldable pub rampedAt : ℕ → Settings → ℕ → Slots → Activity → ℕ → ℕ → Effect
 rampedAt t c f s a g r = placed s a (c .slot) g (movement t (c .slot) f g (rampLength (apart f g) r) (Ramp r))
 
-unfoldable pub rampedTo : ℕ → Settings → ℕ → Slots → Activity → Float → Float → Scene
+unfoldable pub rampedTo : ℕ → Settings → ℕ → Slots → Activity → Float → Float → Effect
 rampedTo t c f s a x r = rampedAt t c f s a (target c x) (amountUnits r)
 
 -- 'GOTO and steps jump'
-unfoldable pub jumped : Settings → Slots → Activity → ℕ → Scene
+unfoldable pub jumped : Settings → Slots → Activity → ℕ → Effect
 jumped c s a g = placed s a (c .slot) g Still
 
-unfoldable pub wentTo : Settings → Slots → Activity → Float → Scene
+unfoldable pub wentTo : Settings → Slots → Activity → Float → Effect
 wentTo c s a x = jumped c s a (target c x)
 
 -- 'Step up: s plus step; step down: s minus step, not below 0; both brought into Min..Max. Step down from s = 0 stays 0'
@@ -87,10 +87,10 @@ stepUpFrom c f x = intoRange c (f + x)
 unfoldable pub stepDownFrom : Settings → ℕ → ℕ → ℕ
 stepDownFrom c f x = if eqb f 0 then 0 else intoRange c (f - x)
 
-unfoldable pub steppedUp : Settings → ℕ → Slots → Activity → Float → Scene
+unfoldable pub steppedUp : Settings → ℕ → Slots → Activity → Float → Effect
 steppedUp c f s a x = jumped c s a (stepUpFrom c f (amountUnits x))
 
-unfoldable pub steppedDown : Settings → ℕ → Slots → Activity → Float → Scene
+unfoldable pub steppedDown : Settings → ℕ → Slots → Activity → Float → Effect
 steppedDown c f s a x = jumped c s a (stepDownFrom c f (amountUnits x))
 
 -- 'STOP: if a movement belongs to p, it ends and slot p gets the reached level, raised to Min if above zero. Else it changes no slot'. A warning
@@ -98,34 +98,34 @@ steppedDown c f s a x = jumped c s a (stepDownFrom c f (amountUnits x))
 unfoldable pub raised : Settings → ℕ → ℕ
 raised c v = if eqb v 0 then 0 else max (c .min) v
 
-unfoldable pub halted : Settings → ℕ → Slots → Scene
+unfoldable pub halted : Settings → ℕ → Slots → Effect
 halted c f s = record { slots = filled s (c .slot) (raised c f); activity = Still }
 
-abbrev pub asItIs : Slots → Activity → Scene
+abbrev pub asItIs : Slots → Activity → Effect
 asItIs s a = record { slots = s; activity = a }
 
-unfoldable pub stopped : Settings → ℕ → Slots → Activity → Scene
+unfoldable pub stopped : Settings → ℕ → Slots → Activity → Effect
 stopped c f s Still = asItIs s Still
 stopped c f s (Moving m) = if eqb (m .owner) (c .slot) then halted c f s else asItIs s (Moving m)
 stopped c f s (Blink owner level turn over) = asItIs s (Blink owner level turn over)
 stopped c f s (Delay owner over) = asItIs s (Delay owner over)
 
 -- 'RELINQUISH empties slot p; if p owned the movement, it ends'
-unfoldable pub relinquished : Settings → Slots → Activity → Scene
+unfoldable pub relinquished : Settings → Slots → Activity → Effect
 relinquished c s a = record { slots = emptied s (c .slot); activity = disowned (c .slot) a }
 
-unfoldable pub scene : ℕ → Settings → ℕ → Slots → Activity → Operation → Scene
-scene t c f s a Stop = stopped c f s a
-scene t c f s a (FadeTo x) = fadedTo t c f s a x (c .fade)
-scene t c f s a (FadeToOver x l) = fadedTo t c f s a x l
-scene t c f s a (RampTo x) = rampedTo t c f s a x (c .ramp)
-scene t c f s a (RampToAtRate x r) = rampedTo t c f s a x r
-scene t c f s a StepUp = steppedUp c f s a (c .step)
-scene t c f s a StepDown = steppedDown c f s a (c .step)
-scene t c f s a (StepUpBy x) = steppedUp c f s a x
-scene t c f s a (StepDownBy x) = steppedDown c f s a x
-scene t c f s a (Goto x) = wentTo c s a x
-scene t c f s a Relinquish = relinquished c s a
+unfoldable pub effect : ℕ → Settings → ℕ → Slots → Activity → Operation → Effect
+effect t c f s a Stop = stopped c f s a
+effect t c f s a (FadeTo x) = fadedTo t c f s a x (c .fade)
+effect t c f s a (FadeToOver x l) = fadedTo t c f s a x l
+effect t c f s a (RampTo x) = rampedTo t c f s a x (c .ramp)
+effect t c f s a (RampToAtRate x r) = rampedTo t c f s a x r
+effect t c f s a StepUp = steppedUp c f s a (c .step)
+effect t c f s a StepDown = steppedDown c f s a (c .step)
+effect t c f s a (StepUpBy x) = steppedUp c f s a x
+effect t c f s a (StepDownBy x) = steppedDown c f s a x
+effect t c f s a (Goto x) = wentTo c s a x
+effect t c f s a Relinquish = relinquished c s a
 
 -- 'Duration d above zero, with every command: slot p empties d ms later. [..] a new one replaces it, 0 cancels it, Absent leaves it running'
 unfoldable pub timed : ℕ → ℕ → Timer → Duration → Timer
@@ -133,7 +133,7 @@ timed t p running (Lasts d) = Running p (t + d)
 timed t p running Cancels = Off
 timed t p running Omitted = running
 
-unfoldable pub withCommand : Output → Scene → Timer → Command → Output
+unfoldable pub withCommand : Output → Effect → Timer → Command → Output
 withCommand o r timer k =
     record { settings = o .settings; slots = r .slots; activity = r .activity; timer = timer; burning = o .burning; last = k }
 
@@ -142,7 +142,7 @@ unfoldable pub commandedFrom : ℕ → Output → ℕ → Command → Output
 commandedFrom t o f k =
     withCommand
     o
-    (scene t (o .settings) f (unwarned (o .slots) (o .activity)) (unwarnedActivity (o .activity)) (k .operation))
+    (effect t (o .settings) f (unwarned (o .slots) (o .activity)) (unwarnedActivity (o .activity)) (k .operation))
     (timed t (o .settings .slot) (o .timer) (k .duration))
     k
 

@@ -1,9 +1,9 @@
 -- 'The plain panel': how an output passes from one moment to another. The plain panel lives one millisecond after another; the engine goes
 -- from due moment to due moment. Both do the same at a moment (`fire`). Assumes nothing.
-use mathlib.Core.Bool.{Bool, true}
+use mathlib.Core.Bool.{Bool}
 use Prim.Native.Nat.{ℕ, zero, suc, _+_, _-_, min}
 use lib.Dec.{ltb, eqb}
-use Rattle.lighting.specs.Choice.{if_then_else_, _also_}
+use Rattle.lighting.specs.Choice.{if_then_else_}
 use Rattle.lighting.specs.declared.Activity.{Activity}
 use Rattle.lighting.specs.declared.Activity.the-variants.{Still, Moving, Blink, Delay}
 use Rattle.lighting.specs.declared.Timer.{Timer}
@@ -118,15 +118,5 @@ unfoldable pub advance : ℕ → ℕ → Output → Output
 advance now to o = hops 3 now to o
 
 -- nothing falls due up to the moment `to`: then the way there is burning alone (proofs/Quiet.antt)
-unfoldable pub timerLater : ℕ → Timer → Bool
-timerLater to Off = true
-timerLater to (Running slot due) = ltb to due
-
-unfoldable pub activityLater : ℕ → Activity → Bool
-activityLater to Still = true
-activityLater to (Moving m) = ltb to (m .over)
-activityLater to (Blink owner level turn over) = ltb to turn
-activityLater to (Delay owner over) = ltb to over
-
 unfoldable pub later : ℕ → Output → Bool
-later to o = timerLater to (o .timer) also activityLater to (o .activity)
+later to o = ltb to (due top o)

@@ -29,7 +29,7 @@ unfoldable pub lived : ℕ → Plain → Plain
 lived zero p = p
 lived (suc n) p = lived n (record { outputs = map (tick (p .time)) (p .outputs); time = suc (p .time) })
 
--- THE LIST SO FAR: accepted clocks and first arrivals, the latest first
+-- THE LIST SO FAR: accepted clocks and first arrivals (the paper's word for frames that are taken, and are no retransmission), the latest first
 pub data Event : Type 0 where
   clock : (time : ℕ) → Event
   first : (station number time : ℕ) (bytes : Bytes) (answer : Answer) → Event

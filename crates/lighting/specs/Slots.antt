@@ -14,7 +14,8 @@ pub use Rattle.lighting.specs.declared.Slots.{Slots}
 abbrev pub slot6 : ℕ
 slot6 = 5
 
--- 'Sixteen bits say which slots are live', priority 1 being the lowest bit: the slots that the mask and the levels stand for
+-- 'Sixteen bits say which slots are live' (the paper's word for those that hold a level), priority 1 being the lowest bit: the slots that the
+-- mask and the levels stand for
 unfoldable pub view : ℕ → List ℕ → List (Option ℕ)
 view m [] = []
 view m (v ∷ l) = (if eqb (m % 2) 1 then some v else none) ∷ view (m / 2) l
@@ -25,7 +26,8 @@ slotsOf s = view (s .live) (s .levels)
 abbrev pub slot : Slots → ℕ → Option ℕ
 slot s i = getD (slotsOf s) i none
 
--- 'the winner is the lowest bit set': the first live slot, or 16, how many there are, where none is live
+-- 'the winner is the lowest bit set' (the paper's word for the slot that has its way): the first live slot, or 16, how many there are, where
+-- none is live
 unfoldable pub firstLive : List (Option ℕ) → ℕ
 firstLive [] = 0
 firstLive (none ∷ l) = suc (firstLive l)

@@ -11,8 +11,8 @@ use Rattle.lighting.specs.declared.Output.{Output}
 use Rattle.lighting.specs.Slots.{Slots, slot6, lives, winner, emptied, filled}
 use Rattle.lighting.specs.Value.{presentValue}
 
-unfoldable pub withScene : Output → Slots → Activity → Output
-withScene o s a = record { settings = o .settings; slots = s; activity = a; timer = o .timer; burning = o .burning; last = o .last }
+unfoldable pub withEffect : Output → Slots → Activity → Output
+withEffect o s a = record { settings = o .settings; slots = s; activity = a; timer = o .timer; burning = o .burning; last = o .last }
 
 -- 'A movement goes on if P is above its owner's number [..]; else it ends', warnings aside
 unfoldable pub passedOver : ℕ → Activity → Activity
@@ -23,7 +23,7 @@ passedOver i (Delay owner over) = Delay owner over
 
 -- 'Kinds 02 and 03 store in [..] slot P'
 unfoldable pub stored : Output → ℕ → ℕ → Output
-stored o i v = withScene o (filled (o .slots) i v) (passedOver i (o .activity))
+stored o i v = withEffect o (filled (o .slots) i v) (passedOver i (o .activity))
 
 -- WHETHER A ZERO WRITTEN TO SLOT X STARTS A WARNING. Slot i is 'zero or empty', and so is each from i on
 unfoldable pub dark : Slots → ℕ → Bool
@@ -58,17 +58,17 @@ firstPhase t c x y =
 
 unfoldable pub warnedBy : ℕ → Output → ℕ → ℕ → Output
 warnedBy t o x y =
-    withScene o (filled (filled (o .slots) x 0) slot6 (firstLevel (o .settings) y)) (firstPhase t (o .settings) x y)
+    withEffect o (filled (filled (o .slots) x 0) slot6 (firstLevel (o .settings) y)) (firstPhase t (o .settings) x y)
 
 unfoldable pub warned : ℕ → Output → ℕ → Output
 warned t o x = warnedBy t o x (presentValue (o .settings) (o .slots))
 
 -- 'During a warning: kind 02 of zero at P above 6 empties slots 6 and P; [any other] empties slot 6 and stores'
 unfoldable pub endedEmpty : Output → ℕ → Output
-endedEmpty o i = withScene o (emptied (emptied (o .slots) slot6) i) Still
+endedEmpty o i = withEffect o (emptied (emptied (o .slots) slot6) i) Still
 
 unfoldable pub endedStored : Output → ℕ → ℕ → Output
-endedStored o i v = withScene o (filled (emptied (o .slots) slot6) i v) Still
+endedStored o i v = withEffect o (filled (emptied (o .slots) slot6) i v) Still
 
 unfoldable pub writtenWarned : Output → ℕ → ℕ → Output
 writtenWarned o i v = if eqb v 0 then (if ltb slot6 i then endedEmpty o i else endedStored o i v) else endedStored o i v
@@ -94,4 +94,4 @@ unfoldable pub vacatedActivity : Bool → ℕ → Activity → Activity
 vacatedActivity live i a = if live then passedOver i a else a
 
 unfoldable pub vacated : Output → ℕ → Output
-vacated o i = withScene o (emptied (o .slots) i) (vacatedActivity (lives (o .slots) i) i (o .activity))
+vacated o i = withEffect o (emptied (o .slots) i) (vacatedActivity (lives (o .slots) i) i (o .activity))

@@ -221,7 +221,7 @@ pub enum Verdict {
 // ---- results of acting
 
 // The slots and the activity that a command makes.
-pub struct Scene {
+pub struct Effect {
     pub slots: Slots,
     pub activity: Activity,
 }

@@ -5,9 +5,9 @@ ghost use mathlib.Core.Path.{_≡_};
 ghost use Prim.Native.Nat.{_<_, _≤_, _^_};
 ghost use Rattle.lighting.specs.Commands.{replaced, placed, movement, apart, rampLength, target, fadedOver, fadedTo, rampedAt, rampedTo};
 use lighting::Activity;
+use lighting::Effect;
 use lighting::Movement;
 use lighting::Pace;
-use lighting::Scene;
 use lighting::Settings;
 use lighting::Slots;
 
@@ -19,11 +19,11 @@ fn replace(w: u32, p: u8, new: Activity, old: Activity) -> Activity
 }
 
 // The winner is asked for after the target was put.
-pub fn place(s: Slots, a: Activity, p: u8, g: u32, new: Activity) -> Scene
+pub fn place(s: Slots, a: Activity, p: u8, g: u32, new: Activity) -> Effect
     ensures { λ r. ⌜ r ≡ placed s a p g new ⌝ }
 {
     let n = slots::fill(s, p, g);
-    Scene {
+    Effect {
         slots: n,
         activity: replace(slots::winning(n), p, new, a),
     }
@@ -71,21 +71,21 @@ pub fn target_of(c: Settings, x: f32) -> u32
 
 // ---- fades and ramps
 
-fn fade_over(t: u64, c: Settings, f: u32, s: Slots, a: Activity, g: u32, l: u32) -> Scene
+fn fade_over(t: u64, c: Settings, f: u32, s: Slots, a: Activity, g: u32, l: u32) -> Effect
     requires { ⌜ t < 2 ^ 48 ⌝ }
     ensures { λ r. ⌜ r ≡ fadedOver t c f s a g l ⌝ }
 {
     place(s, a, c.slot, g, begin(t, c.slot, f, g, l, Pace::Fade))
 }
 
-pub fn fade_to(t: u64, c: Settings, f: u32, s: Slots, a: Activity, x: f32, l: u32) -> Scene
+pub fn fade_to(t: u64, c: Settings, f: u32, s: Slots, a: Activity, x: f32, l: u32) -> Effect
     requires { ⌜ t < 2 ^ 48 ⌝ }
     ensures { λ r. ⌜ r ≡ fadedTo t c f s a x l ⌝ }
 {
     fade_over(t, c, f, s, a, target_of(c, x), l)
 }
 
-fn ramp_at(t: u64, c: Settings, f: u32, s: Slots, a: Activity, g: u32, rate: u32) -> Scene
+fn ramp_at(t: u64, c: Settings, f: u32, s: Slots, a: Activity, g: u32, rate: u32) -> Effect
     requires { ⌜ t < 2 ^ 48 ⌝ }
     requires { ⌜ 8192 ≤ rate ⌝ }
     ensures { λ r. ⌜ r ≡ rampedAt t c f s a g rate ⌝ }
@@ -94,7 +94,7 @@ fn ramp_at(t: u64, c: Settings, f: u32, s: Slots, a: Activity, g: u32, rate: u32
     place(s, a, c.slot, g, begin(t, c.slot, f, g, l, Pace::Ramp(rate)))
 }
 
-pub fn ramp_to(t: u64, c: Settings, f: u32, s: Slots, a: Activity, x: f32, rate: f32) -> Scene
+pub fn ramp_to(t: u64, c: Settings, f: u32, s: Slots, a: Activity, x: f32, rate: f32) -> Effect
     requires { ⌜ t < 2 ^ 48 ⌝ }
     ensures { λ r. ⌜ r ≡ rampedTo t c f s a x rate ⌝ }
 {

@@ -1,7 +1,7 @@
 // The passing of time: from due moment to due moment, at most three an output and frame. Nothing here lives a millisecond by itself.
 ghost use mathlib.Core.Path.{_≡_};
 ghost use Prim.Native.Nat.{_+_, min};
-ghost use Rattle.lighting.specs.Passing.{withBurning, glowing, timerDue, activityDue, due, gained, hop, hops, advance, timerLater, activityLater, later};
+ghost use Rattle.lighting.specs.Passing.{withBurning, glowing, timerDue, activityDue, due, gained, hop, hops, advance, later};
 use lighting::Activity;
 use lighting::Output;
 use lighting::Timer;
@@ -118,41 +118,10 @@ pub fn hop_thrice(now: u64, to: u64, o: Output) -> Output
     hop_twice(d, to, hop_to(now, d, o))
 }
 
-// ---- the way of most outputs at most frames: nothing falls due on it, and `rest` is all of it
-
-fn timer_later(to: u64, m: Timer) -> bool
-    ensures { λ r. ⌜ r ≡ timerLater to m ⌝ }
-{
-    match m {
-        Timer::Off => true,
-        Timer::Running { slot: _, due } => to < due,
-    }
-}
-
-fn activity_later(to: u64, a: Activity) -> bool
-    ensures { λ r. ⌜ r ≡ activityLater to a ⌝ }
-{
-    match a {
-        Activity::Still => true,
-        Activity::Moving(m) => to < m.over,
-        Activity::Blink {
-            owner: _,
-            level: _,
-            turn,
-            over: _,
-        } => to < turn,
-        Activity::Delay { owner: _, over } => to < over,
-    }
-}
+// ---- the way of most outputs at most frames: nothing falls due up to its end, and `rest` is all of it
 
 pub fn is_later(to: u64, o: Output) -> bool
     ensures { λ r. ⌜ r ≡ later to o ⌝ }
 {
-    let m = o.timer;
-    let a = o.activity;
-    if timer_later(to, m) {
-        activity_later(to, a)
-    } else {
-        false
-    }
+    to < next_due(18446744073709551615, o)
 }

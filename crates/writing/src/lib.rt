@@ -2,14 +2,14 @@
 // Slots are counted from 0: the paper's slot 6, which a warning holds, is 5. `t` is the moment, `o` the output, `i` the slot, `v` the level.
 ghost use mathlib.Core.Path.{_≡_};
 ghost use Prim.Native.Nat.{_<_, _^_};
-ghost use Rattle.lighting.specs.Writing.{withScene, passedOver, stored, warnedBy, warned, endedEmpty, endedStored, writtenWarned, writtenZero, writtenCalm, writtenBy, written, vacatedActivity, vacated};
+ghost use Rattle.lighting.specs.Writing.{withEffect, passedOver, stored, warnedBy, warned, endedEmpty, endedStored, writtenWarned, writtenZero, writtenCalm, writtenBy, written, vacatedActivity, vacated};
 use lighting::Activity;
 use lighting::Output;
 use lighting::Slots;
 
 // The output with other slots and another activity: what a write of a slot can change.
-fn with_scene(o: Output, s: Slots, a: Activity) -> Output
-    ensures { λ r. ⌜ r ≡ withScene o s a ⌝ }
+fn with_effect(o: Output, s: Slots, a: Activity) -> Output
+    ensures { λ r. ⌜ r ≡ withEffect o s a ⌝ }
 {
     let settings = o.settings;
     let timer = o.timer;
@@ -48,7 +48,7 @@ fn store(o: Output, i: u8, v: u32) -> Output
 {
     let s = o.slots;
     let a = o.activity;
-    with_scene(o, slots::fill(s, i, v), pass_over(i, a))
+    with_effect(o, slots::fill(s, i, v), pass_over(i, a))
 }
 
 // ---- a warning starts
@@ -59,7 +59,7 @@ fn warn_by(t: u64, o: Output, x: u8, y: u32) -> Output
 {
     let c = o.settings;
     let s = o.slots;
-    with_scene(
+    with_effect(
         o,
         slots::fill(slots::fill(s, x, 0), 5, warning::first_level(c, y)),
         warning::first_phase(t, c, x, y),
@@ -82,14 +82,14 @@ fn end_empty(o: Output, i: u8) -> Output
     ensures { λ r. ⌜ r ≡ endedEmpty o i ⌝ }
 {
     let s = o.slots;
-    with_scene(o, slots::empty(slots::empty(s, 5), i), Activity::Still)
+    with_effect(o, slots::empty(slots::empty(s, 5), i), Activity::Still)
 }
 
 fn end_store(o: Output, i: u8, v: u32) -> Output
     ensures { λ r. ⌜ r ≡ endedStored o i v ⌝ }
 {
     let s = o.slots;
-    with_scene(o, slots::fill(slots::empty(s, 5), i, v), Activity::Still)
+    with_effect(o, slots::fill(slots::empty(s, 5), i, v), Activity::Still)
 }
 
 // 'kind 02 of zero at P above 6 empties slots 6 and P'; any other empties slot 6 and stores.
@@ -172,7 +172,7 @@ pub fn vacate(o: Output, i: u8) -> Output
 {
     let s = o.slots;
     let a = o.activity;
-    with_scene(
+    with_effect(
         o,
         slots::empty(s, i),
         vacate_activity(slots::is_live(s, i), i, a),

@@ -10,8 +10,8 @@ end-warning-requires c κs = search needs
 without-warning-requires : tie.Need-without-warning-requires
 without-warning-requires c κs = search needs
 
-make-scene-requires : tie.Need-make-scene-requires
-make-scene-requires c κs = search needs
+make-effect-requires : tie.Need-make-effect-requires
+make-effect-requires c κs = search needs
 
 time-requires : tie.Need-time-requires
 time-requires c κs = search needs
@@ -21,7 +21,7 @@ with-command-requires c κs = search needs
 
 returns : tie.Need-returns
 unfolding commandedFrom
-returns c = simp (c .with-command .ensures, c .before .time .ensures, c .before .before .make-scene .ensures, c .before .before .before .without-warning .ensures, c .before .before .before .before .end-warning .ensures)
+returns c = simp (c .with-command .ensures, c .before .time .ensures, c .before .before .make-effect .ensures, c .before .before .before .without-warning .ensures, c .before .before .before .before .end-warning .ensures)
 
 pub command-from-spec : {M : Type 1} → statement M
 command-from-spec =
@@ -29,7 +29,7 @@ command-from-spec =
     (tie.spec
     end-warning-requires
     without-warning-requires
-    make-scene-requires
+    make-effect-requires
     time-requires
     with-command-requires
     returns)

@@ -9,9 +9,9 @@ use borrow.Author.Needs.{needs}
 use Rattle.commands.proofs.stop.Statement.{statement}
 use Rattle.commands.proofs.stop.Tie as tie
 
--- a scene of the activity that a match has found
-same-scene : (s : Slots) (a k : Activity) → a ≡ k → asItIs s a ≡ asItIs s k
-same-scene s a k e = rw e
+-- a effect of the activity that a match has found
+same-effect : (s : Slots) (a k : Activity) → a ≡ k → asItIs s a ≡ asItIs s k
+same-effect s a k e = rw e
 
 enum-told : tie.Need-enum-told
 enum-told c = search needs
@@ -30,7 +30,7 @@ enum-told-3 c = search needs
 
 returns : tie.Need-returns
 unfolding stopped
-returns c = search (needs, ifs, stopped-on, same-scene)
+returns c = search (needs, ifs, stopped-on, same-effect)
 
 returns-2 : tie.Need-returns-2
 unfolding stopped
@@ -42,11 +42,11 @@ returns-3 c = search (needs, ifs, stopped-on)
 
 returns-4 : tie.Need-returns-4
 unfolding stopped
-returns-4 c = search (needs, ifs, stopped-on, same-scene)
+returns-4 c = search (needs, ifs, stopped-on, same-effect)
 
 returns-5 : tie.Need-returns-5
 unfolding stopped
-returns-5 c = search (needs, ifs, stopped-on, same-scene)
+returns-5 c = search (needs, ifs, stopped-on, same-effect)
 
 pub stop-spec : {M : Type 1} → statement M
 stop-spec =

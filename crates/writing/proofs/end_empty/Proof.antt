@@ -10,12 +10,12 @@ empty-requires c κs = search needs
 empty-requires-2 : tie.Need-empty-requires-2
 empty-requires-2 c κs = search needs
 
-with-scene-requires : tie.Need-with-scene-requires
-with-scene-requires c κs = search needs
+with-effect-requires : tie.Need-with-effect-requires
+with-effect-requires c κs = search needs
 
 returns : tie.Need-returns
 unfolding endedEmpty
-returns c = simp (c .with-scene .ensures, c .before .empty2 .ensures, c .before .before .empty .ensures)
+returns c = simp (c .with-effect .ensures, c .before .empty2 .ensures, c .before .before .empty .ensures)
 
 pub end-empty-spec : {M : Type 1} → statement M
-end-empty-spec = tie.close (tie.spec empty-requires empty-requires-2 with-scene-requires returns)
+end-empty-spec = tie.close (tie.spec empty-requires empty-requires-2 with-effect-requires returns)

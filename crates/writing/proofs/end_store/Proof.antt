@@ -10,12 +10,12 @@ empty-requires c κs = search needs
 fill-requires : tie.Need-fill-requires
 fill-requires c κs = search needs
 
-with-scene-requires : tie.Need-with-scene-requires
-with-scene-requires c κs = search needs
+with-effect-requires : tie.Need-with-effect-requires
+with-effect-requires c κs = search needs
 
 returns : tie.Need-returns
 unfolding endedStored
-returns c = simp (c .with-scene .ensures, c .before .fill .ensures, c .before .before .empty .ensures)
+returns c = simp (c .with-effect .ensures, c .before .fill .ensures, c .before .before .empty .ensures)
 
 pub end-store-spec : {M : Type 1} → statement M
-end-store-spec = tie.close (tie.spec empty-requires fill-requires with-scene-requires returns)
+end-store-spec = tie.close (tie.spec empty-requires fill-requires with-effect-requires returns)

@@ -10,12 +10,12 @@ fill-requires c κs = search needs
 pass-over-requires : tie.Need-pass-over-requires
 pass-over-requires c κs = search needs
 
-with-scene-requires : tie.Need-with-scene-requires
-with-scene-requires c κs = search needs
+with-effect-requires : tie.Need-with-effect-requires
+with-effect-requires c κs = search needs
 
 returns : tie.Need-returns
 unfolding stored
-returns c = simp (c .with-scene .ensures, c .before .pass-over .ensures, c .before .before .fill .ensures)
+returns c = simp (c .with-effect .ensures, c .before .pass-over .ensures, c .before .before .fill .ensures)
 
 pub store-spec : {M : Type 1} → statement M
-store-spec = tie.close (tie.spec fill-requires pass-over-requires with-scene-requires returns)
+store-spec = tie.close (tie.spec fill-requires pass-over-requires with-effect-requires returns)

@@ -13,14 +13,14 @@ is-live-requires c κs = search needs
 vacate-activity-requires : tie.Need-vacate-activity-requires
 vacate-activity-requires c κs = search needs
 
-with-scene-requires : tie.Need-with-scene-requires
-with-scene-requires c κs = search needs
+with-effect-requires : tie.Need-with-effect-requires
+with-effect-requires c κs = search needs
 
 returns : tie.Need-returns
 unfolding vacated
-returns c = simp (c .with-scene .ensures, c .before .vacate-activity .ensures, c .before .before .is-live .ensures, c .before .before .before .empty .ensures)
+returns c = simp (c .with-effect .ensures, c .before .vacate-activity .ensures, c .before .before .is-live .ensures, c .before .before .before .empty .ensures)
 
 pub vacate-spec : {M : Type 1} → statement M
 vacate-spec =
     tie.close
-    (tie.spec empty-requires is-live-requires vacate-activity-requires with-scene-requires returns)
+    (tie.spec empty-requires is-live-requires vacate-activity-requires with-effect-requires returns)

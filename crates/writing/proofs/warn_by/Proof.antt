@@ -16,12 +16,12 @@ fill-requires-2 c κs = search needs
 first-phase-requires : tie.Need-first-phase-requires
 first-phase-requires c κs = search needs
 
-with-scene-requires : tie.Need-with-scene-requires
-with-scene-requires c κs = search needs
+with-effect-requires : tie.Need-with-effect-requires
+with-effect-requires c κs = search needs
 
 returns : tie.Need-returns
 unfolding warnedBy
-returns c = simp (c .with-scene .ensures, c .before .first-phase .ensures, c .before .before .fill2 .ensures, c .before .before .before .first-level .ensures, c .before .before .before .before .fill .ensures)
+returns c = simp (c .with-effect .ensures, c .before .first-phase .ensures, c .before .before .fill2 .ensures, c .before .before .before .first-level .ensures, c .before .before .before .before .fill .ensures)
 
 pub warn-by-spec : {M : Type 1} → statement M
 warn-by-spec =
@@ -31,5 +31,5 @@ warn-by-spec =
     first-level-requires
     fill-requires-2
     first-phase-requires
-    with-scene-requires
+    with-effect-requires
     returns)

@@ -1,10 +1,10 @@
--- `commands::make_scene` meets its contract. Assumes nothing.
+-- `commands::make_effect` meets its contract. Assumes nothing.
 use Rattle.lighting.proofs.Choosing.{ifs}
-use Rattle.lighting.proofs.Laws.{scene-on}
-use Rattle.lighting.specs.Commands.{scene}
+use Rattle.lighting.proofs.Laws.{effect-on}
+use Rattle.lighting.specs.Commands.{effect}
 use borrow.Author.Needs.{needs}
-use Rattle.commands.proofs.make_scene.Statement.{statement}
-use Rattle.commands.proofs.make_scene.Tie as tie
+use Rattle.commands.proofs.make_effect.Statement.{statement}
+use Rattle.commands.proofs.make_effect.Tie as tie
 
 enum-told : tie.Need-enum-told
 enum-told c = search needs
@@ -73,51 +73,51 @@ relinquish-requires : tie.Need-relinquish-requires
 relinquish-requires c κs = search needs
 
 returns : tie.Need-returns
-unfolding scene
-returns c = search (needs, ifs, scene-on)
+unfolding effect
+returns c = search (needs, ifs, effect-on)
 
 returns-2 : tie.Need-returns-2
-unfolding scene
-returns-2 c = search (needs, ifs, scene-on)
+unfolding effect
+returns-2 c = search (needs, ifs, effect-on)
 
 returns-3 : tie.Need-returns-3
-unfolding scene
-returns-3 c = search (needs, ifs, scene-on)
+unfolding effect
+returns-3 c = search (needs, ifs, effect-on)
 
 returns-4 : tie.Need-returns-4
-unfolding scene
-returns-4 c = search (needs, ifs, scene-on)
+unfolding effect
+returns-4 c = search (needs, ifs, effect-on)
 
 returns-5 : tie.Need-returns-5
-unfolding scene
-returns-5 c = search (needs, ifs, scene-on)
+unfolding effect
+returns-5 c = search (needs, ifs, effect-on)
 
 returns-6 : tie.Need-returns-6
-unfolding scene
-returns-6 c = search (needs, ifs, scene-on)
+unfolding effect
+returns-6 c = search (needs, ifs, effect-on)
 
 returns-7 : tie.Need-returns-7
-unfolding scene
-returns-7 c = search (needs, ifs, scene-on)
+unfolding effect
+returns-7 c = search (needs, ifs, effect-on)
 
 returns-8 : tie.Need-returns-8
-unfolding scene
-returns-8 c = search (needs, ifs, scene-on)
+unfolding effect
+returns-8 c = search (needs, ifs, effect-on)
 
 returns-9 : tie.Need-returns-9
-unfolding scene
-returns-9 c = search (needs, ifs, scene-on)
+unfolding effect
+returns-9 c = search (needs, ifs, effect-on)
 
 returns-10 : tie.Need-returns-10
-unfolding scene
-returns-10 c = search (needs, ifs, scene-on)
+unfolding effect
+returns-10 c = search (needs, ifs, effect-on)
 
 returns-11 : tie.Need-returns-11
-unfolding scene
-returns-11 c = search (needs, ifs, scene-on)
+unfolding effect
+returns-11 c = search (needs, ifs, effect-on)
 
-pub make-scene-spec : {M : Type 1} → statement M
-make-scene-spec =
+pub make-effect-spec : {M : Type 1} → statement M
+make-effect-spec =
     tie.close
     (tie.spec
     enum-told
