@@ -47,11 +47,11 @@ def instructions(program, path, folder):
 
 def table(title, rows):
     names = [os.path.basename(program) for program in wanted.programs]
-    print('\n%s\n\n| stream | outputs | %s | first / last |\n|---|---|%s---|' % (title, ' | '.join(names), '---|' * len(names)))
+    print('\n%s\n\n| stream | outputs | %s | %s |\n|---|---|%s---|' % (title, ' | '.join(names), ' / '.join((names[0], names[-1])), '---|' * len(names)))
     for path, values in rows:
         name, outputs = re.search(r'([^/]+)-(\d+)\.list$', path).groups()
         ratio = '%.2f' % (values[0] / values[-1]) if values[-1] else '-'
-        print('| %s | %s | %s | %s |' % (name.replace('-', ' '), outputs, ' | '.join('%.4g' % v for v in values), ratio))
+        print('| %s | %s | %s | %s |' % (name.replace('2-40', '2^40').replace('-', ' '), outputs, ' | '.join('%.4g' % v for v in values), ratio))
 
 
 with tempfile.TemporaryDirectory() as folder:

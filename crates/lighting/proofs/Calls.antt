@@ -1,9 +1,9 @@
 -- FROM THE CALLS TO THE DEMAND: who calls `start` once and `frame` for each string of a list has demand 3. Assumes nothing.
-use mathlib.Core.Path.{_≡_, refl, ap, ap₂, _∙_}
+use mathlib.Core.Path.{_≡_, refl, sym, ap, ap₂, _∙_}
 use mathlib.Core.List.{List, [], _∷_}
 use Rattle.lighting.specs.Parameters.{Parameters, standard}
 use Rattle.lighting.specs.Frames.{Bytes, Strings}
-use Rattle.lighting.specs.Panel.{Panel, started}
+use Rattle.lighting.specs.Panel.{Panel, Step, leaving, started}
 use Rattle.lighting.specs.Demand.{foundIn, after, answers, Again, end, own}
 use Rattle.lighting.specs.Calls.{Calls, none, call, Concluded, ConcludedAgain}
 use Rattle.lighting.specs.declared.Answer.{Answer}
@@ -14,14 +14,20 @@ use Rattle.lighting.proofs.Demand.{demand-3}
 calls-list : (p : Parameters) {e e′ : Panel} {l : List Bytes} {given : List Answer} → Calls p e l given e′ → (e′ ≡ after p e l) × (given ≡ answers p e l)
 unfolding after answers
 calls-list p none = (refl, refl)
-calls-list p (call {l = l} {given = given} x y z) =
+calls-list p (call {l = l} {given = given} x z) =
     let i = calls-list p z in
-    (i .0 ∙ ap (λ (e : Panel). after p e l) x, ap₂ (λ (a : Answer) (m : List Answer). a ∷ m) y (i .1 ∙ ap (λ (e : Panel). answers p e l) x))
+    let e₁ = ap (λ (k : Step). k .panel) x in
+    let a = ap (λ (k : Step). k .answer) x in
+    (i .0 ∙ ap (λ (e : Panel). after p e l) e₁, ap₂ (λ (a : Answer) (m : List Answer). a ∷ m) a (i .1 ∙ ap (λ (e : Panel). answers p e l) e₁))
+
+-- a start that answered Done, by its contract
+answered : (e : Panel) {e₀ : Panel} → leaving e₀ Done ≡ started standard e → started standard e .answer ≡ Done
+answered e b = sym (ap (λ (k : Step). k .answer) b)
 
 -- the same after a start
-called : (e : Panel) {e₀ e′ : Panel} {l : List Bytes} {given : List Answer} → e₀ ≡ started standard e .panel → Calls standard e₀ l given e′
+called : (e : Panel) {e₀ e′ : Panel} {l : List Bytes} {given : List Answer} → leaving e₀ Done ≡ started standard e → Calls standard e₀ l given e′
     → (e′ ≡ after standard (started standard e .panel) l) × (given ≡ answers standard (started standard e .panel) l)
-called e b c = rw (← b) (calls-list standard c)
+called e b c = rw (← ap (λ (k : Step). k .panel) b) (calls-list standard c)
 
 -- a list with no frame that comes again
 pub once : (seen l : List Bytes) → Again seen l l
@@ -29,18 +35,18 @@ once seen [] = end
 once seen (b ∷ l) = own (once (b ∷ seen) l)
 
 pub conclude : (e e₀ e′ : Panel) (l : List Bytes) (given : List Answer) → Strings l
-    → started standard e .answer ≡ Done → e₀ ≡ started standard e .panel → Calls standard e₀ l given e′ → Concluded standard e l given e′
-conclude e e₀ e′ l given s h b c =
-    let d = demand-3 e l l (once [] l) s h in
+    → leaving e₀ Done ≡ started standard e → Calls standard e₀ l given e′ → Concluded standard e l given e′
+conclude e e₀ e′ l given s b c =
+    let d = demand-3 e l l (once [] l) s (answered e b) in
     let k = called e b c in
     rw (k .0, k .1) (record { finds = d .finds; time = d .time; answered = d .answered; sound = d .sound; never = d .never })
 
 -- two callers after the same start: the one's list is l, and in the other's frames of it come again
 pub conclude-again : (e e₀ e′ e″ : Panel) (l l′ : List Bytes) (r : Again [] l l′) (given given′ : List Answer) → Strings l
-    → started standard e .answer ≡ Done → e₀ ≡ started standard e .panel → Calls standard e₀ l given e′ → Calls standard e₀ l′ given′ e″
+    → leaving e₀ Done ≡ started standard e → Calls standard e₀ l given e′ → Calls standard e₀ l′ given′ e″
     → ConcludedAgain standard l l′ r given given′ e′ e″
-conclude-again e e₀ e′ e″ l l′ r given given′ s h b c c′ =
-    let d = demand-3 e l l′ r s h in
+conclude-again e e₀ e′ e″ l l′ r given given′ s b c c′ =
+    let d = demand-3 e l l′ r s (answered e b) in
     let k = called e b c in
     let k′ = called e b c′ in
     rw (k .0, k .1, k′ .0, k′ .1) (record { again = d .again; answeredAgain = d .answeredAgain })

@@ -6,7 +6,7 @@ use lib.ListN.{length}
 use Rattle.lighting.specs.Parameters.{Parameters}
 use Rattle.lighting.specs.Frames.{Bytes}
 use mathlib.Core.Bool.{true}
-use Rattle.lighting.specs.Panel.{Panel, panelSound, framed}
+use Rattle.lighting.specs.Panel.{Panel, leaving, panelSound, framed}
 use Rattle.lighting.specs.Plain.{plainStart}
 use Rattle.lighting.specs.Demand.{foundIn, foundPlain, plainAfter, plainAnswers, Again, kept, NeverOne}
 use Rattle.lighting.specs.declared.Answer.{Answer}
@@ -15,7 +15,7 @@ use Rattle.lighting.specs.declared.Answer.{Answer}
 pub data Calls (p : Parameters) : Panel → List Bytes → List Answer → Panel → Type 0 where
   none : {e : Panel} → Calls p e [] [] e
   call : {e e₁ e₂ : Panel} {b : Bytes} {l : List Bytes} {a : Answer} {given : List Answer}
-      → e₁ ≡ framed p e b .panel → a ≡ framed p e b .answer → Calls p e₁ l given e₂ → Calls p e (b ∷ l) (a ∷ given) e₂
+      → leaving e₁ a ≡ framed p e b → Calls p e₁ l given e₂ → Calls p e (b ∷ l) (a ∷ given) e₂
 
 -- what such a caller may conclude: the tables show what the plain panel shows, at the same time, and every answer was its answer; the records
 -- keep the rules, and no answer was refusal 1

@@ -10,10 +10,8 @@ pub trait Contestant {
     fn run(&mut self, stream: &Stream) -> Result<u64, String>;
 }
 
-/// The proved panel joins here: as a static library with a C interface, it
-/// gets a file of its own that declares its two operations, lends them the
-/// records, and implements `Contestant` with the digest below. Until then its
-/// replay program can be timed with `--program`.
+/// The panels that run in this process. The proved one does not: its replay
+/// program is timed with `--program`.
 pub fn all_in_process() -> Vec<Box<dyn Contestant>> {
     vec![Box::new(Fast::<true>), Box::new(Fast::<false>)]
 }
