@@ -1,8 +1,8 @@
--- FROM A LIST'S TEXT TO DEMAND 3: after the text of any list of strings, the outputs that it names show what the plain panel shows. Assumes nothing.
+-- FROM A LIST'S TEXT TO DEMAND 3: after the whole text of any list of strings, the outputs that it names show what the plain panel shows. Assumes nothing.
 use mathlib.Core.Path.{_≡_, refl, ap, _∙_}
 use mathlib.Core.Bool.{true}
 use mathlib.Core.List.{List, [], _∷_, _++_, map}
-use Prim.Native.Nat.{ℕ, _≤_}
+use Prim.Native.Nat.{ℕ, _≤_, _<_}
 use native.Mathlib.Omega.{arith}
 use lib.ListN.{length, drop, length-map, length-append, length-replicate}
 use lib.Seq.{take-at, length-take-le}
@@ -17,17 +17,20 @@ use Rattle.lighting.specs.declared.Answer.the-variants.{Done}
 use Rattle.lighting.specs.declared.Output.{Output}
 use Rattle.lighting.specs.declared.Verdict.{Verdict}
 use Rattle.lighting.specs.declared.Verdict.the-variants.{TurnedDown, Copied, Clocked, Arrives}
-use Rattle.lighting.proofs.Split.{by-bool}
+use Rattle.lighting.proofs.Split.{by-bool, leb-yes}
 use Rattle.lighting.proofs.Table.{served-length}
 use Rattle.lighting.proofs.Calls.{once}
 use Rattle.lighting.proofs.Demand.{demand-3}
 use Rattle.reading.specs.declared.Reader.{Reader}
-use Rattle.reading.specs.Reading.{fed, nextLine}
-use Rattle.reading.proofs.Spelt.{Ready, frame, outputs-kept, ready-fed, ready-next, unbroken}
-use Rattle.line.specs.Taking.{first, rejoined, begun, sent, taken, takenBy, through}
-use Rattle.line.specs.Listed.{Lines, none, line}
+use Rattle.reading.specs.Reading.{fed}
+use Rattle.reading.specs.Spelling.{Unbroken, Silent, Gives, Heading}
+use Rattle.reading.proofs.Marked.{Start, start-fresh, start-next, start-named, silent-read, gives-read, gives-octets}
+use Rattle.reading.proofs.Heading.{heading-read, heading-count}
+use Rattle.line.specs.Taking.{first, rejoined, begun, sent, taken, takenBy, through, closed, finished, Replayed}
+use Rattle.line.specs.Listed.{Lines, none, string, remark, Listing, named, preface, unended}
 use Rattle.line.proofs.Spelled.{spelled}
 use Rattle.line.proofs.Through.{through-line}
+use Rattle.line.proofs.Parts.{taken-blank, closed-newline}
 
 -- a frame and the start leave as many outputs as there were
 carried-count : (b : Bytes) (e : Panel) (v : Verdict) → length (carried b e v .panel .outputs) ≡ length (e .outputs)
@@ -60,35 +63,100 @@ module _ (n : ℕ) (p : Panel) (h : n ≤ length (p .outputs)) where
     joined-count : n ≤ length (rejoined n p q .outputs)
     joined-count = omega (arith, length-append (q .outputs) (drop n (p .outputs)), k, first-count)
 
--- w is a reader at the start of a line, once the list has named its n outputs
-listed : (n : ℕ) (p : Panel) (w : Reader) {l : List Bytes} {t : Bytes} → Lines l t → Ready w → w .count ≡ 0 → w .outputs ≡ n → n ≤ length (p .outputs) →
-    first n (through p w t .panel) ≡ after standard (first n p) l
-unfolding after
-listed n p w none r z o h = unfold through in refl
-listed n p w (line {y} {b} {x} {l} {t} s m) r z o h =
-    let q = framed standard (first n p) (y ∷ b) .panel in
-    let v = nextLine (fed w x) in
-    let k = framed-count (first n p) (y ∷ b) in
-    let good : taken p (fed w x) .good ≡ true = unfold taken takenBy in (rw (frame s w r)) in
-    let reader : taken p (fed w x) .reader ≡ v = unfold taken takenBy in (rw (frame s w r)) in
-    let panel : taken p (fed w x) .panel ≡ rejoined n p q = spelled p w s r z .0 ∙ (unfold sent in (rw o)) in
-    let e : through p w (x ++ (10 ∷ t)) ≡ through (rejoined n p q) v t =
-    through-line p w t (unbroken s) good
-    ∙ ap (λ (u : Reader). through (taken p (fed w x) .panel) u t) reader
-    ∙ ap (λ (u : Panel). through u v t) panel
-    in
-    let names : v .outputs ≡ n = unfold nextLine in (outputs-kept s w r ∙ o) in
-    let i = listed n (rejoined n p q) v m (ready-next (fed w x) (ready-fed s w r)) (unfold nextLine in refl) names (joined-count n p h q k) in
-    rw e (i ∙ ap (λ (u : Panel). after standard u l) (first-joined n p h q k))
+-- ONE LINE: x takes the tables p to q, and the reader to the start of the next line, after n outputs are named
+record Took (n : ℕ) (p : Panel) (w : Reader) (x : Bytes) (q : Panel) : Type 0 where
+  whole : Unbroken x
+  good : taken p (fed w x) .good ≡ true
+  panel : taken p (fed w x) .panel ≡ q
+  next : Start n (taken p (fed w x) .reader)
 
--- the line `outputs N` was taken on tables p, and then the list's text t came
-pub found-by-text : (n : ℕ) (p : Panel) (w : Reader) (l : List Bytes) (t : Bytes) → Lines l t → Ready w → w .count ≡ 0 → w .outputs ≡ n → n ≤ length (p .outputs) →
-    Strings l → started standard (first n p) .answer ≡ Done →
-    foundIn (first n (through (begun n p) w t .panel)) ≡ foundPlain (plainAfter standard (plainStart n) l .panel)
-unfolding begun
-found-by-text n p w l t m r z o h s d =
+silent-took : {n : ℕ} {w : Reader} {x : Bytes} (p : Panel) → Start n w → Silent x → Took n p w x p
+unfolding taken takenBy
+silent-took p t s =
+    let r = silent-read t s in
+    record { whole = r .unbroken; good = rw (r .line); panel = rw (r .line); next = rw (r .line) (start-next r) }
+
+gives-took : {n : ℕ} {w : Reader} {x b : Bytes} (p : Panel) → 0 < n → Start n w → Gives b x → Took n p w x (rejoined n p (framed standard (first n p) b .panel))
+unfolding taken takenBy sent
+gives-took p h t g =
+    let r = gives-read h t g in
+    record { whole = r .reads .unbroken; good = rw (r .reads .line); panel = spelled p r .0; next = rw (r .reads .line) (start-next (r .reads)) }
+
+heading-took : {n : ℕ} {w : Reader} {x : Bytes} (p : Panel) → Start 0 w → Heading n x → Took n p w x (rejoined n p (started standard (first n p) .panel))
+unfolding taken takenBy begun
+heading-took p t g =
+    let r = heading-read t g in
+    record { whole = r .unbroken; good = rw (r .line); panel = rw (r .line); next = rw (r .line) (start-named (start-next r)) }
+
+-- a line, its newline, and the text t after it
+took-on : {n : ℕ} {p q : Panel} {w : Reader} {x : Bytes} (t : Bytes) → Took n p w x q → through p w (x ++ (10 ∷ t)) ≡ through q (taken p (fed w x) .reader) t
+took-on {p = p} {w = w} {x = x} t k =
+    through-line p w t (k .whole) (k .good) ∙ ap (λ (u : Panel). through u (taken p (fed w x) .reader) t) (k .panel)
+
+-- the same, where the line is an operation on the panel of the first n outputs that leaves q
+joined-on : {n : ℕ} {p : Panel} {w : Reader} {x : Bytes} (q : Panel) (l : List Bytes) (t : Bytes) (k : Took n p w x (rejoined n p q)) →
+    n ≤ length (p .outputs) → length (q .outputs) ≡ length (first n p .outputs) →
+    (n ≤ length (rejoined n p q .outputs) → first n (closed (through (rejoined n p q) (taken p (fed w x) .reader) t)) ≡ after standard (first n (rejoined n p q)) l) →
+    first n (closed (through p w (x ++ (10 ∷ t)))) ≡ after standard q l
+joined-on {n} {p} q l t k h c i =
+    rw (took-on t k) (i (joined-count n p h q c) ∙ ap (λ (u : Panel). after standard u l) (first-joined n p h q c))
+
+-- THE STRINGS' LINES
+listed : {n : ℕ} {w : Reader} {l : List Bytes} {t : Bytes} (p : Panel) → Lines l t → 0 < n → Start n w → n ≤ length (p .outputs) →
+    first n (closed (through p w t)) ≡ after standard (first n p) l
+unfolding after
+listed {n} {w} p none i s h = ap (first n) (unfold closed through if_then_else_ in (taken-blank p w (s .blank)))
+listed {n} p (string {b} {x} {t} {l} g m) i s h =
+    let q = framed standard (first n p) b .panel in
+    let k = gives-took p i s g in
+    joined-on q l t k h (framed-count (first n p) b) (λ j. listed (rejoined n p q) m i (k .next) j)
+listed p (remark {x} {t} g m) i s h =
+    let k = silent-took p s g in
+    rw (took-on t k) (listed p m i (k .next) h)
+
+-- THE WHOLE TEXT
+listed-whole : {n : ℕ} {w : Reader} {l : List Bytes} {t : Bytes} (p : Panel) → Listing n l t → Start 0 w → n ≤ length (p .outputs) →
+    first n (closed (through p w t)) ≡ after standard (started standard (first n p) .panel) l
+listed-whole {n} {l = l} p (named {x} {t} g m) s h =
     let q = started standard (first n p) .panel in
-    let k = started-count (first n p) in
-    ap foundIn (listed n (rejoined n p q) w m r z o (joined-count n p h q k) ∙ ap (λ (u : Panel). after standard u l) (first-joined n p h q k))
-    ∙ demand-3 (first n p) l l (once [] l) s d .finds
+    let k = heading-took p s g in
+    joined-on q l t k h (started-count (first n p)) (listed (rejoined n p q) m (heading-count g .0) (k .next))
+listed-whole p (preface {x} {t} g m) s h =
+    let k = silent-took p s g in
+    rw (took-on t k) (listed-whole p m (k .next) h)
+listed-whole {w = w} p (unended {t} m) s h = rw (← closed-newline p w t) (listed-whole p m s h)
+
+-- it names 1 to 64 outputs, and its strings are strings of bytes
+record Proper (n : ℕ) (l : List Bytes) : Type 0 where
+  least : 1 ≤ n
+  most : n ≤ 64
+  strings : Strings l
+
+lines-strings : {l : List Bytes} {t : Bytes} → Lines l t → Strings l
+lines-strings none = tt
+lines-strings (string g m) = (gives-octets g, lines-strings m)
+lines-strings (remark g m) = lines-strings m
+
+proper : {n : ℕ} {l : List Bytes} {t : Bytes} → Listing n l t → Proper n l
+proper (named g m) = record { least = heading-count g .0; most = heading-count g .1; strings = lines-strings m }
+proper (preface g m) = proper m
+proper (unended m) = proper m
+
+-- so the panel that it names starts
+starts : (n : ℕ) (p : Panel) → 1 ≤ n → n ≤ 64 → n ≤ length (p .outputs) → length (p .stations) ≡ 8 → started standard (first n p) .answer ≡ Done
+unfolding started countsSound if_then_else_
+starts n p i k h e = rw (first-count n p h, leb-yes {a = 1} {b = n} i, leb-yes {a = n} {b = 64} k, e)
+
+pub found-by-text : (n : ℕ) (p : Panel) (l : List Bytes) (t : Bytes) → Listing n l t → n ≤ length (p .outputs) → length (p .stations) ≡ 8 →
+    foundIn (first n (finished p t)) ≡ foundPlain (plainAfter standard (plainStart n) l .panel)
+unfolding finished
+found-by-text n p l t m h e =
+    let c = proper m in
+    ap foundIn (listed-whole p m start-fresh h)
+    ∙ demand-3 (first n p) l l (once [] l) (c .strings) (starts n p (c .least) (c .most) h e) .finds
     ∙ ap (λ (i : ℕ). foundPlain (plainAfter standard (plainStart i) l .panel)) (first-count n p h)
+
+-- and so it is after the session, by its contract, where the text that came is such a one
+pub found-by-session : (n : ℕ) (p q : Panel) (l : List Bytes) (r : Replayed p q) → Listing n l (r .came) → n ≤ length (p .outputs) → length (p .stations) ≡ 8 →
+    foundIn (first n q) ≡ foundPlain (plainAfter standard (plainStart n) l .panel)
+found-by-session n p q l r m h e = rw (r .panel) (found-by-text n p l (r .came) m h e)

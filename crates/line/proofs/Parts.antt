@@ -8,8 +8,11 @@ use Rattle.lighting.specs.Frames.{Bytes}
 use Rattle.lighting.specs.Panel.{Panel}
 use Rattle.lighting.proofs.Split.{by-bool}
 use Rattle.reading.specs.declared.Reader.{Reader}
-use Rattle.reading.specs.Reading.{feed, freshReader}
-use Rattle.line.specs.Taking.{taken, through, Went, finished, Replayed}
+use Rattle.reading.specs.declared.Held.the-variants.{Blank}
+use Rattle.reading.specs.declared.Line.{Line}
+use Rattle.reading.specs.declared.Line.the-variants.{Nothing, Outputs, Frame, Wrong}
+use Rattle.reading.specs.Reading.{feed, lineOf, nextLine, withOutputs, freshReader}
+use Rattle.line.specs.Taking.{takenBy, taken, through, Went, closed, finished, Replayed}
 
 through-append : (p : Panel) (w : Reader) (x y : Bytes) → through p w x .good ≡ true → through p w (x ++ y) ≡ through (through p w x .panel) (through p w x .reader) y
 unfolding through if_then_else_
@@ -41,12 +44,35 @@ pub replayed : {p q u : Panel} {v : Reader} → Went p freshReader q v true → 
 replayed {p} {q} {u} {v} f e =
     let x = f .came in
     let last : finished p x ≡ taken (through p freshReader x .panel) (through p freshReader x .reader) .panel =
-    unfold finished if_then_else_ in (rw (sym (f .good)))
+    unfold finished closed if_then_else_ in (rw (sym (f .good)))
     in
     record { came = x; panel = rw (last, ← f .panel, ← f .reader) e }
 
 pub replayed-bad : {p q : Panel} {v : Reader} → Went p freshReader q v false → Replayed p q
 replayed-bad {p} {q} f =
     let x = f .came in
-    let broken : finished p x ≡ through p freshReader x .panel = unfold finished if_then_else_ in (rw (sym (f .good))) in
+    let broken : finished p x ≡ through p freshReader x .panel = unfold finished closed if_then_else_ in (rw (sym (f .good))) in
     record { came = x; panel = f .panel ∙ sym broken }
+
+-- A NEWLINE AT THE END changes nothing: the line that it opens is empty
+pub taken-blank : (p : Panel) (w : Reader) → w .held ≡ Blank → taken p w .panel ≡ p
+unfolding taken takenBy lineOf
+taken-blank p w h = rw h
+
+at-start : (p : Panel) (w : Reader) (k : Line) → takenBy p w k .reader .held ≡ Blank
+unfolding takenBy nextLine withOutputs
+at-start p w Nothing = refl
+at-start p w (Outputs n) = refl
+at-start p w Frame = refl
+at-start p w (Wrong f) = refl
+
+pub closed-newline : (p : Panel) (w : Reader) (x : Bytes) → closed (through p w (x ++ (10 ∷ []))) ≡ closed (through p w x)
+unfolding through closed if_then_else_
+closed-newline p w [] =
+    by-bool (taken p w .good)
+    (λ g. rw g (taken-blank (taken p w .panel) (taken p w .reader) (unfold taken in (at-start p w (lineOf (w .held))))))
+    (λ g. rw g)
+closed-newline p w (c ∷ x) =
+    by-bool (eqb c 10)
+    (λ e. by-bool (taken p w .good) (λ g. rw (e, g) (closed-newline (taken p w .panel) (taken p w .reader) x)) (λ g. rw (e, g)))
+    (λ e. rw e (closed-newline p (feed w c) x))

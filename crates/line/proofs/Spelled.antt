@@ -1,7 +1,6 @@
--- From a line's text to the panel: a line that spells a string of bytes sends that string, however long it is, and writes its answer. The
+-- From a line's text to the panel: a line that gives a string of bytes sends that string, however long it is, and writes its answer. The
 -- reader keeps 26 bytes, and the panel does with a longer string what it does with its first 26 (lighting/proofs/Long.antt). Assumes nothing.
-use mathlib.Core.Path.{_≡_, refl, sym, ap, _∙_}
-use mathlib.Core.List.{[], _∷_, _++_}
+use mathlib.Core.Path.{_≡_, refl, sym, ap}
 use Prim.Native.Nat.{ℕ}
 use native.Mathlib.Omega.{arith}
 use lib.ListN.{length, take}
@@ -12,9 +11,8 @@ use Rattle.lighting.specs.Panel.{Panel, framed}
 use Rattle.lighting.proofs.Split.{by-le}
 use Rattle.lighting.proofs.Long.{framed-first}
 use Rattle.reading.specs.declared.Reader.{Reader}
-use Rattle.reading.specs.Reading.{fed, content}
-use Rattle.reading.specs.Spelling.{Spells}
-use Rattle.reading.proofs.Spelt.{Ready, read, frame, outputs-kept}
+use Rattle.reading.specs.Reading.{fed}
+use Rattle.reading.proofs.Marked.{Given}
 use Rattle.printing.specs.Writing.{answerLine}
 use Rattle.line.specs.Taking.{first, sent, takenBy, taken}
 
@@ -29,15 +27,10 @@ sent-kept : (n : ℕ) (b : Bytes) (p : Panel) → sent n (take 26 b) p ≡ sent 
 unfolding sent
 sent-kept n b p = rw (framed-kept (first n p) b)
 
--- w is a reader at the start of a line
+-- w is a reader at the start of a line, once the list has named its n outputs
 pub spelled :
-    {y : ℕ} {b x : Bytes} (p : Panel) (w : Reader) →
-    Spells (y ∷ b) x →
-    Ready w →
-    w .count ≡ 0 →
-    (taken p (fed w x) .panel ≡ sent (w .outputs) (y ∷ b) p .panel) × (taken p (fed w x) .text ≡ answerLine (sent (w .outputs) (y ∷ b) p .answer))
+    {n : ℕ} {w : Reader} {b x : Bytes} (p : Panel) →
+    Given n w x b →
+    (taken p (fed w x) .panel ≡ sent n b p .panel) × (taken p (fed w x) .text ≡ answerLine (sent n b p .answer))
 unfolding taken takenBy
-spelled {y} {b} {x} p w s r z =
-    let n : content w ≡ [] = unfold content in (ap (λ (i : ℕ). take i (w .bytes)) z) in
-    let c : content (fed w x) ≡ take 26 (y ∷ b) = read s w r ∙ ap (λ (l : Bytes). take 26 (l ++ (y ∷ b))) n in
-    rw (frame s w r, c, outputs-kept s w r, sent-kept (w .outputs) (y ∷ b) p) (refl, refl)
+spelled {n} {w} {b} {x} p g = rw (g .reads .line, g .holds, g .reads .named, sent-kept n b p) (refl, refl)

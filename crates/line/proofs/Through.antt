@@ -13,7 +13,7 @@ use Rattle.lighting.specs.Panel.{Panel}
 use Rattle.lighting.proofs.Split.{by-bool, eqb-miss}
 use Rattle.reading.specs.declared.Reader.{Reader}
 use Rattle.reading.specs.Reading.{feed, fed, fedLine, lineLength}
-use Rattle.reading.proofs.Spelt.{Unbroken, nothing, char}
+use Rattle.reading.specs.Spelling.{Unbroken, nothing, char}
 use Rattle.line.specs.Taking.{Taken, taken, Through, through}
 
 -- after a line's end

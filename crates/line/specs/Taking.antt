@@ -86,12 +86,12 @@ pub record Went (p : Panel) (w : Reader) (q : Panel) (v : Reader) (g : Bool) : T
   pub reader : v ≡ through p w came .reader
   pub good : g ≡ through p w came .good
 
--- ALL OF A LIST'S TEXT: the last line may lack its newline
+-- ALL OF A LIST'S TEXT: the last line may lack its newline, and is taken at the end, unless a bad line ended the list
+unfoldable pub closed : Through → Panel
+closed z = if z .good then taken (z .panel) (z .reader) .panel else z .panel
+
 unfoldable pub finished : Panel → Bytes → Panel
-finished p x =
-    if through p freshReader x .good
-    then taken (through p freshReader x .panel) (through p freshReader x .reader) .panel
-    else through p freshReader x .panel
+finished p x = closed (through p freshReader x)
 
 pub record Replayed (p q : Panel) : Type 0 where
   pub came : Bytes

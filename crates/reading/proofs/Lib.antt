@@ -1,3 +1,5 @@
 pub mod Laws
 pub mod Lines
 pub mod Spelt
+pub mod Marked
+pub mod Heading

@@ -10,17 +10,17 @@ use native.Mathlib.Numerals.{add-one}
 use lib.ListN.{length, take, length-set, length-take, length-append}
 use lib.Seq.{take-all, take-append-le, take-suc-set}
 use Rattle.lighting.specs.Choice.{if_then_else_}
-use Rattle.lighting.specs.Frames.{Bytes}
-use Rattle.lighting.proofs.Split.{by-lt, eqb-miss, leb-yes, leb-no}
-use Rattle.reading.specs.Reading.{isBlank, hexValue, digitHeld, opened, byteHeld, halfHeld, step, bytePair, pushed, joined, storedBy, withHeld, feed, fed, lineOf, content, nextLine}
-use Rattle.reading.specs.Spelling.{Digit, figure, upper, lower, Spells, end, blank, byte}
+use Rattle.lighting.specs.Frames.{Bytes, Octets}
+use Rattle.lighting.proofs.Split.{by-eq, by-lt, eq-of, eqb-miss, leb-yes, leb-no}
+use Rattle.reading.specs.Reading.{isBlank, hexValue, digitHeld, opened, gapped, trailed, byteHeld, halfHeld, dashed, step, bytePair, pushed, joined, storedBy, withHeld, feed, fed, lineOf, content}
+use Rattle.reading.specs.Spelling.{Digit, figure, upper, lower, Spells, end, blank, byte, Unbroken, nothing, char}
 use Rattle.reading.specs.declared.Held.{Held}
-use Rattle.reading.specs.declared.Held.the-variants.{Blank, Whole, Half}
+use Rattle.reading.specs.declared.Held.the-variants.{Blank, Gap, Trail, Whole, Half, Dash}
 use Rattle.reading.specs.declared.Line.the-variants.{Frame}
 use Rattle.reading.specs.declared.Reader.{Reader}
 
 -- DIGITS
-worth : {d c : ℕ} → Digit d c → hexValue c ≡ d
+pub worth : {d c : ℕ} → Digit d c → hexValue c ≡ d
 unfolding hexValue if_then_else_
 worth (figure {d} h) =
     rw (leb-no {a = suc (48 + d)} {b = 48} (omega arith), leb-yes {a = suc (48 + d)} {b = 58} (omega arith)) (omega arith)
@@ -52,9 +52,9 @@ past (figure h) = omega arith
 past (upper h) = omega arith
 past (lower h) = omega arith
 
-no-blank : (c : ℕ) → 47 < c → isBlank c ≡ false
+is-no-blank : (c : ℕ) → 47 < c → isBlank c ≡ false
 unfolding isBlank if_then_else_
-no-blank c h =
+is-no-blank c h =
     rw (
       eqb-miss {a = c} {b = 32} (omega arith),
       eqb-miss {a = c} {b = 9} (omega arith),
@@ -77,13 +77,13 @@ first-held : (n : ℕ) {h : Held} {d c : ℕ} → 0 < n → Between h → Digit 
 unfolding step opened byteHeld digitHeld if_then_else_
 first-held n {d = d} {c = c} p none g =
     rw (
-      no-blank c (past g),
+      is-no-blank c (past g),
       eqb-miss {a = c} {b = 35} (omega (arith, past g)),
       leb-yes {a = 1} {b = n} p,
       eqb-miss {a = c} {b = 45} (omega (arith, past g)),
       leb-yes {a = suc d} {b = 16} (small g),
     )
-first-held n {d = d} {c = c} p some g = rw (no-blank c (past g), leb-yes {a = suc d} {b = 16} (small g))
+first-held n {d = d} {c = c} p some g = rw (is-no-blank c (past g), leb-yes {a = suc d} {b = 16} (small g))
 
 unstored : (w : Reader) {h : Held} (v : ℕ) → Between h → storedBy w h v ≡ w
 unfolding storedBy
@@ -127,15 +127,36 @@ ready-pushed w x r =
     (λ p e. rw e (record { named = r .named; room = length-set (w .bytes) (w .count) x ∙ r .room; most = omega arith; between = some }))
     (λ p e. rw e (record { named = r .named; room = r .room; most = r .most; between = some }))
 
--- A BLANK changes nothing
-blank-held : (n : ℕ) {h : Held} (v c : ℕ) → Between h → isBlank c ≡ true → step n h v c ≡ h
-unfolding step opened byteHeld if_then_else_
-blank-held n v c none e = rw e
-blank-held n v c some e = rw e
+-- A BLANK is worth no digit
+pub blank-worth : (c : ℕ) → isBlank c ≡ true → hexValue c ≡ 16
+unfolding isBlank hexValue if_then_else_
+blank-worth c e =
+    by-eq c 32
+    (λ p z. rw p)
+    (λ p z. by-eq c 9 (λ q y. rw q) (λ q y. let r = rw (z, y) at e in rw (eq-of {a = c} {b = 13} r)))
+
+-- and changes nothing where the line holds one of these
+pub data Steady : Held → Type 0 where
+  at-start : Steady Blank
+  after-bytes : Steady Whole
+  at-dash : Steady Dash
+  in-gap : Steady Gap
+  in-trail : {n : ℕ} → Steady (Trail n)
+
+pub blank-steady : (w : Reader) {h : Held} (c : ℕ) → Steady h → isBlank c ≡ true → feed (withHeld w h) c ≡ withHeld w h
+unfolding feed withHeld step storedBy opened byteHeld dashed gapped trailed if_then_else_
+blank-steady w c at-start e = rw e
+blank-steady w c after-bytes e = rw e
+blank-steady w c at-dash e = rw e
+blank-steady w c in-gap e = rw (blank-worth c e, e)
+blank-steady w c in-trail e = rw e
+
+between-steady : {h : Held} → Between h → Steady h
+between-steady none = at-start
+between-steady some = after-bytes
 
 passed-over : (w : Reader) (c : ℕ) → Ready w → isBlank c ≡ true → feed w c ≡ w
-unfolding feed withHeld
-passed-over w c r e = rw (unstored w (hexValue c) (r .between), blank-held (w .outputs) (hexValue c) c (r .between) e)
+passed-over w c r e = unfold withHeld in (blank-steady w c (between-steady (r .between)) e)
 
 -- a character, and a byte, at the head of a text
 on-blank : (w : Reader) (c : ℕ) (x : Bytes) → Ready w → isBlank c ≡ true → fed w (c ∷ x) ≡ fed w x
@@ -198,16 +219,8 @@ ready-fed (blank {b} {x} c e s) w r = rw (on-blank w c x r e) (ready-fed s w r)
 ready-fed (byte {b} {x} {d} {v} g k s) w r =
     rw (on-byte w x r g k) (ready-fed s (withHeld (pushed w (d * 16 + v)) Whole) (ready-pushed w (d * 16 + v) r))
 
-pub ready-next : (w : Reader) → Ready w → Ready (nextLine w)
-unfolding nextLine
-ready-next w r = record { named = r .named; room = r .room; most = omega arith; between = none }
-
 -- no character of such a text is a newline
-pub data Unbroken : Bytes → Type 0 where
-  nothing : Unbroken []
-  char : {c : ℕ} {x : Bytes} → c ≢ 10 → Unbroken x → Unbroken (c ∷ x)
-
-blank-no-newline : (c : ℕ) → isBlank c ≡ true → c ≢ 10
+pub blank-no-newline : (c : ℕ) → isBlank c ≡ true → c ≢ 10
 unfolding isBlank if_then_else_
 blank-no-newline c h e = false≢true (rw e at h)
 
@@ -218,3 +231,9 @@ unbroken (byte {c = c} {k = k} g h s) =
     let first-char : c ≢ 10 = λ e. omega (arith, past g, e) in
     let second-char : k ≢ 10 = λ e. omega (arith, past h, e) in
     char first-char (char second-char (unbroken s))
+
+-- and its bytes are bytes
+pub octets : {b x : Bytes} → Spells b x → Octets b
+octets end = tt
+octets (blank c e s) = octets s
+octets (byte g h s) = (omega (arith, small g, small h), octets s)
