@@ -15,7 +15,7 @@ use printing::put_hex8;
 fn put_level_field(page: &mut [u8], at: usize, v: u32) -> usize
     ensures { λ r. ⌜ Wrote (now (page .entry)) at (levelField v) (now (page .exit)) r ⌝ }
 {
-    let mark = put(page, at, 32);
+    let mark = put(page, at, b' ');
     put_decimal(page, mark, v as u64)
 }
 
@@ -50,7 +50,7 @@ fn put_slot_fields(page: &mut [u8], at: usize, s: Slots) -> usize
 fn put_hex_field(page: &mut [u8], at: usize, v: u32) -> usize
     ensures { λ r. ⌜ Wrote (now (page .entry)) at (hexField v) (now (page .exit)) r ⌝ }
 {
-    let mark = put(page, at, 32);
+    let mark = put(page, at, b' ');
     put_hex8(page, mark, v)
 }
 
@@ -94,7 +94,7 @@ fn put_number_line(page: &mut [u8], at: usize, word: &[u8], n: u64) -> usize
 {
     let words = put_all(page, at, word);
     let digits = put_decimal(page, words, n);
-    put(page, digits, 10)
+    put(page, digits, b'\n')
 }
 
 fn put_slots_line(page: &mut [u8], at: usize, s: Slots) -> usize
@@ -102,7 +102,7 @@ fn put_slots_line(page: &mut [u8], at: usize, s: Slots) -> usize
 {
     let word = put_all(page, at, b"slots");
     let fields = put_slot_fields(page, word, s);
-    put(page, fields, 10)
+    put(page, fields, b'\n')
 }
 
 fn put_present_line(page: &mut [u8], at: usize, o: Output) -> usize
@@ -131,7 +131,7 @@ fn put_settings_line(page: &mut [u8], at: usize, t: u64, o: Output) -> usize
 {
     let word = put_all(page, at, b"settings");
     let fields = put_properties(page, word, t, o, 1, 10);
-    put(page, fields, 10)
+    put(page, fields, b'\n')
 }
 
 fn put_last_line(page: &mut [u8], at: usize, t: u64, o: Output) -> usize
@@ -139,7 +139,7 @@ fn put_last_line(page: &mut [u8], at: usize, t: u64, o: Output) -> usize
 {
     let word = put_all(page, at, b"last");
     let fields = put_properties(page, word, t, o, 15, 6);
-    put(page, fields, 10)
+    put(page, fields, b'\n')
 }
 
 pub fn put_block(page: &mut [u8], at: usize, i: u64, t: u64, o: Output) -> usize

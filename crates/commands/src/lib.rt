@@ -1,14 +1,11 @@
-// The eleven lighting commands and the duration, by value. A command acts on slot p, Lighting_Command_Priority.
+// The eleven lighting commands, by value. A command acts on slot p, Lighting_Command_Priority.
 // `t` is the moment, `c` the settings, `f` the level from which the command starts, `s` the slots and `a` the activity that it finds, with
 // any warning ended; `g` is a target, in units.
 ghost use mathlib.Core.Path.{_≡_};
-ghost use Prim.Native.Nat.{_<_, _^_, _+_, _-_, max};
-ghost use Rattle.lighting.specs.Value.{intoRange};
-ghost use Rattle.lighting.specs.Commands.{unwarned, unwarnedActivity, jumped, wentTo, stepUpFrom, stepDownFrom, steppedUp, steppedDown, raised, halted, stopped, relinquished, effect, timed, withCommand, commandedFrom, commanded};
-ghost use Rattle.lighting.specs.declared.Timer.the-variants.{Running};
+ghost use Prim.Native.Nat.{_<_, _^_, max};
+ghost use Rattle.lighting.specs.Commands.{unwarned, unwarnedActivity, jumped, wentTo, steppedUp, steppedDown, raised, halted, stopped, relinquished, effect, withCommand, commandedFrom, commanded};
 use lighting::Activity;
 use lighting::Command;
-use lighting::Duration;
 use lighting::Effect;
 use lighting::Operation;
 use lighting::Output;
@@ -64,43 +61,16 @@ fn go_to(c: Settings, s: Slots, a: Activity, x: f32) -> Effect
     jump(c, s, a, moving::target_of(c, x))
 }
 
-// 'Step up: s plus step [..] brought into Min..Max'. The sum is made in 64 bits.
-fn step_up_from(c: Settings, f: u32, x: u32) -> u32
-    ensures { λ r. ⌜ r ≡ stepUpFrom c f x ⌝ }
-{
-    value::into_range(c, f as u64 + x as u64)
-}
-
-// 's minus step, not below 0'.
-fn less(f: u32, x: u32) -> u64
-    ensures { λ r. ⌜ r ≡ f - x ⌝ }
-{
-    if f < x { 0 } else { (f - x) as u64 }
-}
-
-fn lower(c: Settings, f: u32, x: u32) -> u32
-    ensures { λ r. ⌜ r ≡ intoRange c (f - x) ⌝ }
-{
-    value::into_range(c, less(f, x))
-}
-
-// 'Step down from s = 0 stays 0': it does not light a dark output at Min.
-fn step_down_from(c: Settings, f: u32, x: u32) -> u32
-    ensures { λ r. ⌜ r ≡ stepDownFrom c f x ⌝ }
-{
-    if f == 0 { 0 } else { lower(c, f, x) }
-}
-
 fn step_up(c: Settings, f: u32, s: Slots, a: Activity, x: f32) -> Effect
     ensures { λ r. ⌜ r ≡ steppedUp c f s a x ⌝ }
 {
-    jump(c, s, a, step_up_from(c, f, level::amount_units(x)))
+    jump(c, s, a, steps::step_up_from(c, f, level::amount_units(x)))
 }
 
 fn step_down(c: Settings, f: u32, s: Slots, a: Activity, x: f32) -> Effect
     ensures { λ r. ⌜ r ≡ steppedDown c f s a x ⌝ }
 {
-    jump(c, s, a, step_down_from(c, f, level::amount_units(x)))
+    jump(c, s, a, steps::step_down_from(c, f, level::amount_units(x)))
 }
 
 // ---- STOP and RELINQUISH
@@ -191,29 +161,6 @@ fn make_effect(t: u64, c: Settings, f: u32, s: Slots, a: Activity, k: Operation)
     }
 }
 
-// 'slot p empties d ms later': milliseconds, as they were sent.
-fn running(t: u64, p: u8, d: u32) -> Timer
-    requires { ⌜ t < 2 ^ 48 ⌝ }
-    ensures { λ r. ⌜ r ≡ Running p (t + d) ⌝ }
-{
-    Timer::Running {
-        slot: p,
-        due: t + d as u64,
-    }
-}
-
-// 'a new one replaces it, 0 cancels it, Absent leaves it running'.
-fn time(t: u64, p: u8, m: Timer, d: Duration) -> Timer
-    requires { ⌜ t < 2 ^ 48 ⌝ }
-    ensures { λ r. ⌜ r ≡ timed t p m d ⌝ }
-{
-    match d {
-        Duration::Lasts(l) => running(t, p, l),
-        Duration::Cancels => Timer::Off,
-        Duration::Omitted => m,
-    }
-}
-
 fn with_command(o: Output, n: Effect, m: Timer, k: Command) -> Output
     ensures { λ r. ⌜ r ≡ withCommand o n m k ⌝ }
 {
@@ -241,7 +188,7 @@ fn command_from(t: u64, o: Output, f: u32, k: Command) -> Output
     let operation = k.operation;
     let duration = k.duration;
     let n = make_effect(t, c, f, end_warning(s, a), without_warning(a), operation);
-    with_command(o, n, time(t, c.slot, m, duration), k)
+    with_command(o, n, durations::time(t, c.slot, m, duration), k)
 }
 
 // 'It starts from Progress_Value before it': not from Present_Value, at which a running movement only aims.

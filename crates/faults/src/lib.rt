@@ -30,7 +30,7 @@ pub fn put_fault(page: &mut [u8], at: usize, k: u64, f: Fault) -> usize
 {
     let place = put_placed(page, at, k);
     let words = put_fault_words(page, place, f);
-    put(page, words, 10)
+    put(page, words, b'\n')
 }
 
 pub fn put_ended(page: &mut [u8], at: usize, k: u64) -> usize
@@ -38,5 +38,5 @@ pub fn put_ended(page: &mut [u8], at: usize, k: u64) -> usize
 {
     let place = put_placed(page, at, k);
     let words = put_all(page, place, b"the list ends before `outputs N`");
-    put(page, words, 10)
+    put(page, words, b'\n')
 }

@@ -6,6 +6,7 @@ use mathlib.Core.Option.{Option, none, some}
 use Prim.Native.Nat.{ℕ, _≤_, _<_, min, max}
 use native.Mathlib.Omega.{arith}
 use lib.Ieee.{Float}
+use Rattle.lighting.specs.Parameters.{standard}
 use Rattle.lighting.specs.Choice.{if_then_else_}
 use Rattle.lighting.specs.Level.{levelUnits, amountUnits}
 use Rattle.lighting.specs.Slots.{Slots, lives, winner, put, filled}
@@ -107,7 +108,7 @@ module _ (t : ℕ) (c : Settings) (k : Settled c) (s : Slots) (f : Filled s) (a 
   jumped-staged g l = placed-staged g Still l (λ p. six (some g))
 
   -- a movement from b to a target that Min..Max leave as it is
-  moved-staged : (b g l : ℕ) (pace : Pace) → b ≤ c .max → IsLevel g → brought c g ≡ g → (b ≢ g → Within 1 86400000 l)
+  moved-staged : (b g l : ℕ) (pace : Pace) → b ≤ c .max → IsLevel g → brought c g ≡ g → (b ≢ g → Within 1 (standard .longestMovement) l)
       → Staged t c (placed s a (c .slot) g (movement t (c .slot) b g l pace))
   unfolding movement presentValue if_then_else_
   moved-staged b g l pace m v same long =
@@ -187,7 +188,7 @@ module _ (t : ℕ) (c : Settings) (k : Settled c) (s : Slots) (f : Filled s) (a 
       by-eq b 0 (λ p e. rw e level-zero)
       (λ p e. rw e (record { least = omega (arith, k .min, k .order); most = omega (arith, k .max) }))
 
-  faded-staged : (b l : ℕ) (x : Float) → b ≤ c .max → Within 100 86400000 l → Staged t c (fadedTo t c b s a x l)
+  faded-staged : (b l : ℕ) (x : Float) → b ≤ c .max → Within 100 (standard .longestFade) l → Staged t c (fadedTo t c b s a x l)
   unfolding fadedTo fadedOver
   faded-staged b l x m w =
       moved-staged b (target c x) l Fade m (target-level x) (target-same x) (λ n. record { least = omega (arith, w .least); most = w .most })
@@ -197,7 +198,7 @@ module _ (t : ℕ) (c : Settings) (k : Settled c) (s : Slots) (f : Filled s) (a 
   ramped-staged b x r m =
       moved-staged b (target c x) (rampLength (apart b (target c x)) (amountUnits r)) (Ramp (amountUnits r)) m (target-level x) (target-same x) span
     where
-      span : b ≢ target c x → Within 1 86400000 (rampLength (apart b (target c x)) (amountUnits r))
+      span : b ≢ target c x → Within 1 (standard .longestMovement) (rampLength (apart b (target c x)) (amountUnits r))
       span n =
           let z = ramp-span (apart b (target c x)) (amountUnits r) (omega arith) (omega (arith, target-most x, k .max)) (amount-range r .0) in
           record { least = z .0; most = z .1 }

@@ -5,6 +5,7 @@ use mathlib.Core.Bool.{true, false}
 use mathlib.Core.Option.{Option, none, some}
 use Prim.Native.Nat.{ℕ, _-_, _*_, _≤_, _<_, min}
 use lib.ListN.{length}
+use Rattle.lighting.specs.Parameters.{standard}
 use Rattle.lighting.specs.declared.Settings.{Settings}
 use Rattle.lighting.specs.declared.Movement.{Movement}
 use Rattle.lighting.specs.declared.Activity.{Activity}
@@ -34,9 +35,9 @@ pub record Settled (c : Settings) : Type 0 where
   pub min : 65536 ≤ c .min
   pub order : c .min ≤ c .max
   pub max : c .max ≤ 6553600
-  pub fade : Within 100 86400000 (c .fade)
-  pub blink : c .blink ≤ 86400000
-  pub delay : c .delay ≤ 86400000
+  pub fade : Within 100 (standard .longestFade) (c .fade)
+  pub blink : c .blink ≤ standard .longestBlink
+  pub delay : c .delay ≤ standard .longestBlink
   pub ramp : isAmount (c .ramp) ≡ true
   pub step : isAmount (c .step) ≡ true
   pub slot : Slot (c .slot)
@@ -56,7 +57,7 @@ pub record Moves (t : ℕ) (c : Settings) (s : Slots) (m : Movement) : Type 0 wh
   pub start : m .start ≤ c .max
   pub aims : m .target ≡ presentValue c s
   pub began : m .over - t ≤ m .length
-  pub long : Within 1 86400000 (m .length)
+  pub long : Within 1 (standard .longestMovement) (m .length)
   pub later : t < m .over
 
 pub record Warns (t : ℕ) (s : Slots) (x d : ℕ) : Type 0 where

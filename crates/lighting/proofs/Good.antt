@@ -2,6 +2,7 @@
 use mathlib.Core.Path.{_≡_}
 use mathlib.Core.Bool.{true}
 use Prim.Native.Nat.{_≤_}
+use Rattle.lighting.specs.Parameters.{standard}
 use Rattle.lighting.specs.Rules.{isAmount}
 use Rattle.lighting.specs.declared.Duration.{Duration}
 use Rattle.lighting.specs.declared.Duration.the-variants.{Lasts, Cancels, Omitted}
@@ -14,7 +15,7 @@ use Rattle.lighting.specs.declared.Request.the-variants.{Refuse, Write, 
 use Rattle.lighting.proofs.Facts.{IsLevel, Within, Slot}
 
 abbrev pub GoodDuration : Duration → Type 0
-GoodDuration (Lasts d) = Within 100 86400000 d
+GoodDuration (Lasts d) = Within 100 (standard .longestDuration) d
 GoodDuration Cancels = Unit {0}
 GoodDuration Omitted = Unit {0}
 
@@ -22,7 +23,7 @@ GoodDuration Omitted = Unit {0}
 abbrev pub GoodOperation : Operation → Type 0
 GoodOperation Stop = Unit {0}
 GoodOperation (FadeTo x) = Unit {0}
-GoodOperation (FadeToOver x l) = Within 100 86400000 l
+GoodOperation (FadeToOver x l) = Within 100 (standard .longestFade) l
 GoodOperation (RampTo x) = Unit {0}
 GoodOperation (RampToAtRate x r) = Unit {0}
 GoodOperation StepUp = Unit {0}
@@ -34,12 +35,12 @@ GoodOperation Relinquish = Unit {0}
 
 abbrev pub GoodSetting : Setting → Type 0
 GoodSetting (SetDefault v) = IsLevel v
-GoodSetting (SetFade v) = Within 100 86400000 v
+GoodSetting (SetFade v) = Within 100 (standard .longestFade) v
 GoodSetting (SetRamp x) = isAmount x ≡ true
 GoodSetting (SetStep x) = isAmount x ≡ true
 GoodSetting (SetEnable v) = Unit {0}
-GoodSetting (SetBlink v) = v ≤ 86400000
-GoodSetting (SetDelay v) = v ≤ 86400000
+GoodSetting (SetBlink v) = v ≤ standard .longestBlink
+GoodSetting (SetDelay v) = v ≤ standard .longestBlink
 GoodSetting (SetMin v) = Within 65536 6553600 v
 GoodSetting (SetMax v) = Within 65536 6553600 v
 GoodSetting (SetSlot v) = Slot v

@@ -64,12 +64,12 @@ step-good x = by-bool (inRange (amountOf (real x))) (λ e. rw e (unfold isAmount
 change-good : (n : Property) (x : ℕ) → Good (changeOf standard n x)
 unfolding changeOf if_then_else_
 change-good RelinquishDefault x = default-good (levelOf (real x)) (level-units (real x))
-change-good FadeTime x = by-bool (within 100 86400000 x) (λ e. rw e (within-of 100 86400000 x e)) (λ e. rw e (omega arith))
+change-good FadeTime x = by-bool (within 100 (standard .longestFade) x) (λ e. rw e (within-of 100 (standard .longestFade) x e)) (λ e. rw e (omega arith))
 change-good RampRate x = ramp-good x
 change-good StepIncrement x = step-good x
 change-good BlinkEnable x = by-bool (leb x 1) (λ e. rw e (tt)) (λ e. rw e (omega arith))
-change-good BlinkTime x = by-bool (leb x 86400000) (λ e. rw e (le-of e)) (λ e. rw e (omega arith))
-change-good BlinkWarnDelay x = by-bool (leb x 86400000) (λ e. rw e (le-of e)) (λ e. rw e (omega arith))
+change-good BlinkTime x = by-bool (leb x (standard .longestBlink)) (λ e. rw e (le-of e)) (λ e. rw e (omega arith))
+change-good BlinkWarnDelay x = by-bool (leb x (standard .longestBlink)) (λ e. rw e (le-of e)) (λ e. rw e (omega arith))
 change-good MinValue x = min-good (limitOf (real x)) (limit-units (real x))
 change-good MaxValue x = max-good (limitOf (real x)) (limit-units (real x))
 change-good CommandPriority x = by-bool (isPriority x) (λ e. rw e (priority-of x e)) (λ e. rw e (omega arith))
@@ -90,7 +90,7 @@ change-good Unknown x = omega arith
 ordered-good : (o : Operation) (d : ℕ) → GoodOperation o → Good (ordered standard o d)
 unfolding ordered if_then_else_
 ordered-good o d g =
-    by-bool (eqb d 0xffff_ffff) (λ e. rw e ((g, tt))) (λ e. rw e (by-bool (eqb d 0) (λ e. rw e ((g, tt))) (λ e. rw e (by-bool (within 100 86400000 d) (λ e. rw e ((g, within-of 100 86400000 d e))) (λ e. rw e (omega arith))))))
+    by-bool (eqb d 0xffff_ffff) (λ e. rw e ((g, tt))) (λ e. rw e (by-bool (eqb d 0) (λ e. rw e ((g, tt))) (λ e. rw e (by-bool (within 100 (standard .longestDuration) d) (λ e. rw e ((g, within-of 100 (standard .longestDuration) d e))) (λ e. rw e (omega arith))))))
 
 operation-good : (k : ℕ) (x : Float) → GoodOperation (operationWith k x)
 unfolding operationWith if_then_else_
@@ -107,7 +107,7 @@ with-good k d Unfit = omega arith
 fade-good : (x : Operand) (l d : ℕ) → Good (fadeOrder standard x l d)
 unfolding fadeOrder if_then_else_
 fade-good (Taken x) l d =
-    by-bool (within 100 86400000 l) (λ e. rw e (ordered-good (FadeToOver x l) d (within-of 100 86400000 l e))) (λ e. rw e (omega arith))
+    by-bool (within 100 (standard .longestFade) l) (λ e. rw e (ordered-good (FadeToOver x l) d (within-of 100 (standard .longestFade) l e))) (λ e. rw e (omega arith))
 fade-good Unfit l d = omega arith
 
 ramp-at-good : (x : Float) (r : Operand) (d : ℕ) → Good (rampOrderAt standard x r d)

@@ -4,6 +4,7 @@ use mathlib.Core.Logic.{_≢_}
 use Prim.Native.Nat.{ℕ, suc, _+_, _-_, _*_, _/_, _≤_, _<_, min, max}
 use native.Mathlib.Nat.{div-lt-iff-lt-mul, mul-le-mul-left}
 use native.Mathlib.Omega.{arith}
+use Rattle.lighting.specs.Parameters.{standard}
 use Rattle.lighting.specs.Choice.{if_then_else_}
 use Rattle.lighting.specs.Slots.{Slots, topmost}
 use Rattle.lighting.specs.Value.{brought, presentValue, elapsed, gone, reachedBy, reached, progressBy, progressValue}
@@ -73,7 +74,7 @@ progress-most t o h = go (o .activity) h
     go (Delay owner over) a = unfold progressBy in present
 
 -- A RAMP'S LENGTH, at a rate from 0.125 percent a second on
-pub ramp-span : (d r : ℕ) → 0 < d → d ≤ 6553600 → 8192 ≤ r → (1 ≤ rampLength d r) × (rampLength d r ≤ 86400000)
+pub ramp-span : (d r : ℕ) → 0 < d → d ≤ 6553600 → 8192 ≤ r → (1 ≤ rampLength d r) × (rampLength d r ≤ standard .longestMovement)
 unfolding rampLength
 ramp-span d r p h k = (
   by-lt

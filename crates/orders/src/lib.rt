@@ -22,7 +22,7 @@ fn order(operation: Operation, d: u32) -> Request
             operation,
             duration: Duration::Cancels,
         })
-    } else if ranges::is_within(100, 86_400_000, d) {
+    } else if ranges::is_duration(d) {
         Request::Order(Command {
             operation,
             duration: Duration::Lasts(d),
@@ -59,7 +59,7 @@ fn fade_order(x: Operand, l: u32, d: u32) -> Request
     ensures { λ r. ⌜ r ≡ fadeOrder standard x l d ⌝ }
 {
     match x {
-        Operand::Taken(level) => if ranges::is_within(100, 86_400_000, l) {
+        Operand::Taken(level) => if ranges::is_fade_time(l) {
             order(Operation::FadeToOver(level, l), d)
         } else {
             Request::Refuse(12)

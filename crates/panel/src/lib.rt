@@ -45,7 +45,7 @@ fn arrive(
     let from = *time;
     tables::advance_outputs(outputs, from, moment);
     let answer = tables::serve(outputs, moment, station, ranges::index(output), request);
-    let record = station::kept_station(answer, number, bytes);
+    let record = kept::kept_station(answer, number, bytes);
     let at = ranges::index(station);
     stations[at] = record;
     *time = moment;

@@ -114,7 +114,7 @@ fn put_value_line(page: &mut [u8], at: usize, v: u32) -> usize
 {
     let word = put_all(page, at, b"Value ");
     let digits = put_hex8(page, word, v);
-    put(page, digits, 10)
+    put(page, digits, b'\n')
 }
 
 fn put_refused_line(page: &mut [u8], at: usize, n: u8) -> usize
@@ -122,7 +122,7 @@ fn put_refused_line(page: &mut [u8], at: usize, n: u8) -> usize
 {
     let word = put_all(page, at, b"Refused ");
     let digits = put_decimal(page, word, n as u64);
-    put(page, digits, 10)
+    put(page, digits, b'\n')
 }
 
 pub fn put_answer(page: &mut [u8], at: usize, a: Answer) -> usize

@@ -48,7 +48,7 @@ pub fn change_of(p: Property, x: u32) -> Request
 {
     match p {
         Property::RelinquishDefault => values::change_default(level::level_of(x)),
-        Property::FadeTime => if ranges::is_within(100, 86_400_000, x) {
+        Property::FadeTime => if ranges::is_fade_time(x) {
             Request::Change(Setting::SetFade(x))
         } else {
             Request::Refuse(12)
@@ -60,12 +60,12 @@ pub fn change_of(p: Property, x: u32) -> Request
         } else {
             Request::Refuse(12)
         },
-        Property::BlinkTime => if x <= 86_400_000 {
+        Property::BlinkTime => if ranges::is_blink_time(x) {
             Request::Change(Setting::SetBlink(x))
         } else {
             Request::Refuse(12)
         },
-        Property::BlinkWarnDelay => if x <= 86_400_000 {
+        Property::BlinkWarnDelay => if ranges::is_blink_time(x) {
             Request::Change(Setting::SetDelay(x))
         } else {
             Request::Refuse(12)

@@ -1,7 +1,10 @@
-// Ranges of whole numbers: what a frame may ask for, and what a record may hold.
+// Ranges of whole numbers: what a frame may ask for, what a record may hold, and places in a table.
 ghost use mathlib.Core.Path.{_≡_};
 ghost use Prim.Native.Nat.{min};
+ghost use lib.Dec.{leb};
+ghost use Rattle.lighting.specs.Parameters.{standard};
 ghost use Rattle.lighting.specs.Properties.{within, isSlot, isPriority};
+ghost use Rattle.lighting.specs.Rules.{isLevel};
 
 // Both ends belong to the range.
 pub fn is_within(low: u32, high: u32, v: u32) -> bool
@@ -9,6 +12,55 @@ pub fn is_within(low: u32, high: u32, v: u32) -> bool
 {
     if low <= v { v <= high } else { false }
 }
+
+// A level in units: 0, or 1 to 100 percent.
+pub fn is_level(v: u32) -> bool
+    ensures { λ r. ⌜ r ≡ isLevel v ⌝ }
+{
+    if v == 0 {
+        true
+    } else {
+        is_within(65536, 6553600, v)
+    }
+}
+
+// ---- times, in milliseconds: `standard` of the definitions has the same greatest values
+
+const LONGEST_FADE: u32 = 86400000;
+
+const LONGEST_DURATION: u32 = 86400000;
+
+const LONGEST_BLINK: u32 = 86400000;
+
+const LONGEST_MOVEMENT: u32 = 86400000;
+
+pub fn is_fade_time(v: u32) -> bool
+    ensures { λ r. ⌜ r ≡ within 100 (standard .longestFade) v ⌝ }
+{
+    is_within(100, LONGEST_FADE, v)
+}
+
+pub fn is_duration(v: u32) -> bool
+    ensures { λ r. ⌜ r ≡ within 100 (standard .longestDuration) v ⌝ }
+{
+    is_within(100, LONGEST_DURATION, v)
+}
+
+// A blink time or a blink delay.
+pub fn is_blink_time(v: u32) -> bool
+    ensures { λ r. ⌜ r ≡ leb v (standard .longestBlink) ⌝ }
+{
+    v <= LONGEST_BLINK
+}
+
+// What a movement lasts.
+pub fn is_length(v: u32) -> bool
+    ensures { λ r. ⌜ r ≡ within 1 (standard .longestMovement) v ⌝ }
+{
+    is_within(1, LONGEST_MOVEMENT, v)
+}
+
+// ---- slots
 
 // Slot 6, here 5, is the warning's alone.
 pub fn is_slot(i: u32) -> bool
@@ -23,6 +75,8 @@ pub fn is_priority(n: u32) -> bool
 {
     if n == 0 { false } else { is_slot(n - 1) }
 }
+
+// ---- places in a table
 
 // A number of one byte, and of four, as the place of a record in its table.
 pub fn index(n: u8) -> usize

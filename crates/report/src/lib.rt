@@ -39,7 +39,7 @@ fn put_lead(page: &mut [u8], at: usize, n: u64) -> usize
     if n < 10 {
         put_all(page, at, b"  ")
     } else if n < 100 {
-        put(page, at, 32)
+        put(page, at, b' ')
     } else {
         at
     }
@@ -64,16 +64,16 @@ fn put_percent(page: &mut [u8], at: usize, u: u32) -> usize
 {
     let n = u as u64;
     let whole = put_aligned(page, at, n / 65536);
-    let dot = put(page, whole, 46);
+    let dot = put(page, whole, b'.');
     put_two(page, dot, hundredths(n))
 }
 
 fn put_minutes(page: &mut [u8], at: usize, n: u64) -> usize
     ensures { λ r. ⌜ Wrote (now (page .entry)) at (minutes n) (now (page .exit)) r ⌝ }
 {
-    let first = put(page, at, 58);
+    let first = put(page, at, b':');
     let minutes = put_two(page, first, n / 60000 % 60);
-    let second = put(page, minutes, 58);
+    let second = put(page, minutes, b':');
     put_two(page, second, n / 1000 % 60)
 }
 
@@ -82,7 +82,7 @@ fn put_moment(page: &mut [u8], at: usize, t: u64) -> usize
 {
     let hours = put_decimal(page, at, t / 3600000);
     let minutes = put_minutes(page, hours, t);
-    let dot = put(page, minutes, 46);
+    let dot = put(page, minutes, b'.');
     put_three(page, dot, t % 1000)
 }
 
@@ -202,7 +202,7 @@ fn put_way_fields(page: &mut [u8], at: usize, o: Output) -> usize
     let t = o.timer;
     let way = put_activity(page, at, a);
     let timer = put_timer(page, way, t);
-    put(page, timer, 10)
+    put(page, timer, b'\n')
 }
 
 pub fn put_report_line(page: &mut [u8], at: usize, i: u64, t: u64, o: Output) -> usize
@@ -219,7 +219,7 @@ pub fn put_report_head(page: &mut [u8], at: usize, t: u64) -> usize
 {
     let word = put_all(page, at, b"panel time ");
     let time = put_moment(page, word, t);
-    let end = put(page, time, 10);
+    let end = put(page, time, b'\n');
     put_all(
         page,
         end,

@@ -189,9 +189,9 @@ fn replay(
 
 // Over tables of its own, which the panel is lent: 64 outputs, of which the list names how many there are, and eight stations.
 pub fn run(report: bool) {
-    let output = station::fresh_output();
+    let output = fresh::fresh_output();
     let mut outputs = [output; 64];
-    let record = station::fresh_station();
+    let record = fresh::fresh_station();
     let mut stations = [record; 8];
     let mut time: u64 = 0;
     let mut page = io::large_buffer();

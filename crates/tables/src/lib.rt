@@ -22,7 +22,7 @@ use lighting::Verdict;
 pub fn fresh_outputs(outputs: &mut [Output])
     ensures { λ _. ⌜ now (outputs .exit) ≡ replicate (length (now (outputs .entry))) freshOutput ⌝ }
 {
-    let fresh = station::fresh_output();
+    let fresh = fresh::fresh_output();
     let mut i: usize = 0;
     while i < outputs.len() {
         outputs[i] = fresh;
@@ -33,7 +33,7 @@ pub fn fresh_outputs(outputs: &mut [Output])
 pub fn fresh_stations(stations: &mut [Station])
     ensures { λ _. ⌜ now (stations .exit) ≡ replicate (length (now (stations .entry))) freshStation ⌝ }
 {
-    let fresh = station::fresh_station();
+    let fresh = fresh::fresh_station();
     let mut i: usize = 0;
     while i < stations.len() {
         stations[i] = fresh;

@@ -7,13 +7,13 @@ use Rattle.orders.proofs.fade_order.Tie as tie
 use Rattle.orders.proofs.fade_order.Reads as reads
 use Rattle.orders.proofs.fade_order.Lts as lts
 use Rattle.orders.proofs.order.Reads as order-reads
-use Rattle.ranges.proofs.is_within.Reads as is-within-reads
+use Rattle.ranges.proofs.is_fade_time.Reads as is-fade-time-reads
 
 enum-known-x : tie.Need-enum-known-x
 enum-known-x c = search needs
 
-is-within-requires : tie.Need-is-within-requires
-is-within-requires c κs = search needs
+is-fade-time-requires : tie.Need-is-fade-time-requires
+is-fade-time-requires c κs = search needs
 
 order-requires : tie.Need-order-requires
 order-requires c κs = search needs
@@ -36,4 +36,4 @@ returns-3 c = search (needs, ifs, fadeOrder-on)
 pub fade-order-spec : {M : Type 1} → statement M
 fade-order-spec =
     tie.close
-    (tie.spec enum-known-x is-within-requires order-requires enum-told returns returns-2 returns-3)
+    (tie.spec enum-known-x is-fade-time-requires order-requires enum-told returns returns-2 returns-3)

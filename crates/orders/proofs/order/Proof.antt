@@ -5,10 +5,10 @@ use Rattle.orders.proofs.order.Statement.{statement}
 use Rattle.orders.proofs.order.Tie as tie
 use Rattle.orders.proofs.order.Reads as reads
 use Rattle.orders.proofs.order.Lts as lts
-use Rattle.ranges.proofs.is_within.Reads as is-within-reads
+use Rattle.ranges.proofs.is_duration.Reads as is-duration-reads
 
-is-within-requires : tie.Need-is-within-requires
-is-within-requires c κs = search needs
+is-duration-requires : tie.Need-is-duration-requires
+is-duration-requires c κs = search needs
 
 returns : tie.Need-returns
 unfolding ordered
@@ -27,4 +27,4 @@ unfolding ordered
 returns-4 c = search (needs, ifs)
 
 pub order-spec : {M : Type 1} → statement M
-order-spec = tie.close (tie.spec is-within-requires returns returns-2 returns-3 returns-4)
+order-spec = tie.close (tie.spec is-duration-requires returns returns-2 returns-3 returns-4)

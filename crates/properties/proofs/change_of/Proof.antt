@@ -15,8 +15,9 @@ use Rattle.properties.proofs.values.change_min.Reads as change-min-read
 use Rattle.properties.proofs.values.change_ramp.Reads as change-ramp-reads
 use Rattle.properties.proofs.values.change_step.Reads as change-step-reads
 use Rattle.properties.proofs.values.slot_of.Reads as slot-of-reads
+use Rattle.ranges.proofs.is_blink_time.Reads as is-blink-time-reads
+use Rattle.ranges.proofs.is_fade_time.Reads as is-fade-time-reads
 use Rattle.ranges.proofs.is_priority.Reads as is-priority-reads
-use Rattle.ranges.proofs.is_within.Reads as is-within-reads
 
 enum-told : tie.Need-enum-told
 enum-told c = search needs
@@ -30,8 +31,8 @@ change-default-requires c κs = search needs
 enum-told-2 : tie.Need-enum-told-2
 enum-told-2 c = search needs
 
-is-within-requires : tie.Need-is-within-requires
-is-within-requires c κs = search needs
+is-fade-time-requires : tie.Need-is-fade-time-requires
+is-fade-time-requires c κs = search needs
 
 enum-told-3 : tie.Need-enum-told-3
 enum-told-3 c = search needs
@@ -57,8 +58,14 @@ enum-told-5 c = search needs
 enum-told-6 : tie.Need-enum-told-6
 enum-told-6 c = search needs
 
+is-blink-time-requires : tie.Need-is-blink-time-requires
+is-blink-time-requires c κs = search needs
+
 enum-told-7 : tie.Need-enum-told-7
 enum-told-7 c = search needs
+
+is-blink-time-requires-2 : tie.Need-is-blink-time-requires-2
+is-blink-time-requires-2 c κs = search needs
 
 enum-told-8 : tie.Need-enum-told-8
 enum-told-8 c = search needs
@@ -243,7 +250,7 @@ change-of-spec =
     level-of-requires
     change-default-requires
     enum-told-2
-    is-within-requires
+    is-fade-time-requires
     enum-told-3
     amount-operand-requires
     change-ramp-requires
@@ -252,7 +259,9 @@ change-of-spec =
     change-step-requires
     enum-told-5
     enum-told-6
+    is-blink-time-requires
     enum-told-7
+    is-blink-time-requires-2
     enum-told-8
     limit-of-requires
     change-min-requires

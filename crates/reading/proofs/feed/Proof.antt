@@ -4,8 +4,8 @@ use Rattle.reading.proofs.feed.Statement.{statement}
 use Rattle.reading.proofs.feed.Tie as tie
 use Rattle.reading.proofs.feed.Reads as reads
 use Rattle.reading.proofs.feed.Lts as lts
-use Rattle.reading.proofs.hex_value.Reads as hex-value-reads
-use Rattle.reading.proofs.step.Reads as step-reads
+use Rattle.reading.proofs.characters.hex_value.Reads as hex-value-reads
+use Rattle.reading.proofs.characters.step.Reads as step-reads
 use Rattle.reading.proofs.store.Reads as store-reads
 use Rattle.reading.proofs.with_held.Reads as with-held-reads
 

@@ -4,7 +4,7 @@ use Rattle.rules.proofs.activity_sound.Statement.{statement}
 use Rattle.rules.proofs.activity_sound.Tie as tie
 use Rattle.rules.proofs.activity_sound.Reads as reads
 use Rattle.rules.proofs.activity_sound.Lts as lts
-use Rattle.rules.proofs.activity_by.Reads as activity-by-reads
+use Rattle.activities.proofs.activity_by.Reads as activity-by-reads
 use Rattle.slots.proofs.is_live.Reads as is-live-reads
 use Rattle.slots.proofs.winning.Reads as winning-reads
 use Rattle.value.proofs.present_value.Reads as present-value-reads

@@ -8,7 +8,7 @@ use Rattle.rules.proofs.is_sound.Lts as lts
 use Rattle.rules.proofs.activity_sound.Reads as activity-sound-reads
 use Rattle.rules.proofs.settings_sound.Reads as settings-sound-reads
 use Rattle.rules.proofs.slots_sound.Reads as slots-sound-reads
-use Rattle.rules.proofs.timer_sound.Reads as timer-sound-reads
+use Rattle.activities.proofs.timer_sound.Reads as timer-sound-reads
 
 settings-sound-requires : tie.Need-settings-sound-requires
 settings-sound-requires c κs = search needs

@@ -5,7 +5,7 @@ use Rattle.rules.proofs.levels_sound.Statement.{statement}
 use Rattle.rules.proofs.levels_sound.Tie as tie
 use Rattle.rules.proofs.levels_sound.Reads as reads
 use Rattle.rules.proofs.levels_sound.Lts as lts
-use Rattle.rules.proofs.is_level.Reads as is-level-reads
+use Rattle.ranges.proofs.is_level.Reads as is-level-reads
 
 is-level-requires : tie.Need-is-level-requires
 is-level-requires c κs = search needs

@@ -5,7 +5,7 @@ use Rattle.rules.proofs.slot_sound.Statement.{statement}
 use Rattle.rules.proofs.slot_sound.Tie as tie
 use Rattle.rules.proofs.slot_sound.Reads as reads
 use Rattle.rules.proofs.slot_sound.Lts as lts
-use Rattle.rules.proofs.is_level.Reads as is-level-reads
+use Rattle.ranges.proofs.is_level.Reads as is-level-reads
 use Rattle.slots.proofs.is_live.Reads as is-live-reads
 
 cast-is-live : tie.Need-cast-is-live

@@ -5,10 +5,17 @@ use Rattle.rules.proofs.times_sound.Statement.{statement}
 use Rattle.rules.proofs.times_sound.Tie as tie
 use Rattle.rules.proofs.times_sound.Reads as reads
 use Rattle.rules.proofs.times_sound.Lts as lts
-use Rattle.ranges.proofs.is_within.Reads as is-within-reads
+use Rattle.ranges.proofs.is_fade_time.Reads as is-fade-time-reads
+use Rattle.ranges.proofs.is_blink_time.Reads as is-blink-time-reads
 
-is-within-requires : tie.Need-is-within-requires
-is-within-requires c κs = search needs
+is-fade-time-requires : tie.Need-is-fade-time-requires
+is-fade-time-requires c κs = search needs
+
+is-blink-time-requires : tie.Need-is-blink-time-requires
+is-blink-time-requires c κs = search needs
+
+is-blink-time-requires-2 : tie.Need-is-blink-time-requires-2
+is-blink-time-requires-2 c κs = search needs
 
 returns : tie.Need-returns
 unfolding timesSound
@@ -23,4 +30,4 @@ unfolding timesSound
 returns-3 c = search (needs, ifs)
 
 pub times-sound-spec : {M : Type 1} → statement M
-times-sound-spec = tie.close (tie.spec is-within-requires returns returns-2 returns-3)
+times-sound-spec = tie.close (tie.spec is-fade-time-requires is-blink-time-requires is-blink-time-requires-2 returns returns-2 returns-3)

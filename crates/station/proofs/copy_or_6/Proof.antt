@@ -5,7 +5,7 @@ use Rattle.station.proofs.copy_or_6.Statement.{statement}
 use Rattle.station.proofs.copy_or_6.Tie as tie
 use Rattle.station.proofs.copy_or_6.Reads as reads
 use Rattle.station.proofs.copy_or_6.Lts as lts
-use Rattle.station.proofs.same_frame.Reads as same-frame-reads
+use Rattle.kept.proofs.same_frame.Reads as same-frame-reads
 
 same-frame-requires : tie.Need-same-frame-requires
 same-frame-requires c κs = search needs

@@ -1,0 +1,79 @@
+use Rattle.lighting.proofs.Choosing.{ifs}
+use Rattle.lighting.proofs.Laws.{activityBy-on}
+use Rattle.lighting.specs.Rules.{activityBy}
+use borrow.Author.Needs.{needs}
+use Rattle.activities.proofs.activity_by.Statement.{statement}
+use Rattle.activities.proofs.activity_by.Tie as tie
+use Rattle.activities.proofs.activity_by.Reads as reads
+use Rattle.activities.proofs.activity_by.Lts as lts
+use Rattle.activities.proofs.blink_sound.Reads as blink-sound-reads
+use Rattle.activities.proofs.delay_sound.Reads as delay-sound-reads
+use Rattle.activities.proofs.movement_sound.Reads as movement-sound-reads
+
+enum-told : tie.Need-enum-told
+enum-told c = search needs
+
+enum-known-a : tie.Need-enum-known-a
+enum-known-a c = search needs
+
+movement-sound-requires : tie.Need-movement-sound-requires
+movement-sound-requires c κs = search needs
+
+enum-known-a-2 : tie.Need-enum-known-a-2
+enum-known-a-2 c = search needs
+
+blink-sound-requires : tie.Need-blink-sound-requires
+blink-sound-requires c κs = search needs
+
+enum-known-a-3 : tie.Need-enum-known-a-3
+enum-known-a-3 c = search needs
+
+delay-sound-requires : tie.Need-delay-sound-requires
+delay-sound-requires c κs = search needs
+
+returns : tie.Need-returns
+unfolding activityBy
+returns c = search (needs, ifs, activityBy-on)
+
+returns-2 : tie.Need-returns-2
+unfolding activityBy
+returns-2 c = search (needs, ifs, activityBy-on)
+
+returns-3 : tie.Need-returns-3
+unfolding activityBy
+returns-3 c = search (needs, ifs, activityBy-on)
+
+returns-4 : tie.Need-returns-4
+unfolding activityBy
+returns-4 c = search (needs, ifs, activityBy-on)
+
+returns-5 : tie.Need-returns-5
+unfolding activityBy
+returns-5 c = search (needs, ifs, activityBy-on)
+
+returns-6 : tie.Need-returns-6
+unfolding activityBy
+returns-6 c = search (needs, ifs, activityBy-on)
+
+returns-7 : tie.Need-returns-7
+unfolding activityBy
+returns-7 c = search (needs, ifs, activityBy-on)
+
+pub activity-by-spec : {M : Type 1} → statement M
+activity-by-spec =
+    tie.close
+    (tie.spec
+    enum-told
+    enum-known-a
+    movement-sound-requires
+    enum-known-a-2
+    blink-sound-requires
+    enum-known-a-3
+    delay-sound-requires
+    returns
+    returns-2
+    returns-3
+    returns-4
+    returns-5
+    returns-6
+    returns-7)

@@ -1,0 +1,112 @@
+// The record rules on what is under way: a movement, a warning, a duration. Slots are counted from 0: 7 to 16 are 6 to 15.
+ghost use mathlib.Core.Path.{_≡_};
+ghost use Prim.Native.Nat.{_<_};
+ghost use Rattle.lighting.specs.Parameters.{standard};
+ghost use Rattle.lighting.specs.Rules.{spanSound, movementSound, blinkSound, delaySound, activityBy, timerSound};
+use lighting::Activity;
+use lighting::Movement;
+use lighting::Timer;
+use ranges::is_slot;
+use ranges::is_within;
+
+// Its end is after panel time t, what is left of it is no longer than it lasts, and it lasts 1 ms to a day.
+fn span_sound(t: u64, m: Movement) -> bool
+    ensures { λ r. ⌜ r ≡ spanSound standard t m ⌝ }
+{
+    if t < m.over {
+        if m.over - t <= m.length as u64 {
+            ranges::is_length(m.length)
+        } else {
+            false
+        }
+    } else {
+        false
+    }
+}
+
+// It belongs to the winner w, starts from 0 to Max, here high, and aims at Present_Value v.
+fn movement_sound(t: u64, w: u32, high: u32, v: u32, m: Movement) -> bool
+    ensures { λ r. ⌜ r ≡ movementSound standard t w high v m ⌝ }
+{
+    if m.owner < 16 {
+        if m.owner as u32 == w {
+            if m.start <= high {
+                if m.target == v {
+                    span_sound(t, m)
+                } else {
+                    false
+                }
+            } else {
+                false
+            }
+        } else {
+            false
+        }
+    } else {
+        false
+    }
+}
+
+// A warning's own slot is 7 to 16, and its Y a slot level.
+fn blink_sound(t: u64, owner: u8, level: u32, turn: u64, over: u64) -> bool
+    ensures { λ r. ⌜ r ≡ blinkSound t owner level turn over ⌝ }
+{
+    if is_within(6, 15, owner as u32) {
+        if ranges::is_level(level) {
+            if t < turn { turn <= over } else { false }
+        } else {
+            false
+        }
+    } else {
+        false
+    }
+}
+
+fn delay_sound(t: u64, owner: u8, over: u64) -> bool
+    ensures { λ r. ⌜ r ≡ delaySound t owner over ⌝ }
+{
+    if is_within(6, 15, owner as u32) {
+        t < over
+    } else {
+        false
+    }
+}
+
+// Slot 6 is live, here l, exactly during a warning.
+pub fn activity_by(t: u64, l: bool, w: u32, high: u32, v: u32, a: Activity) -> bool
+    ensures { λ r. ⌜ r ≡ activityBy standard t l w high v a ⌝ }
+{
+    match a {
+        Activity::Still => !l,
+        Activity::Moving(m) => if l {
+            false
+        } else {
+            movement_sound(t, w, high, v, m)
+        },
+        Activity::Blink {
+            owner,
+            level,
+            turn,
+            over,
+        } => if l {
+            blink_sound(t, owner, level, turn, over)
+        } else {
+            false
+        },
+        Activity::Delay { owner, over } => if l {
+            delay_sound(t, owner, over)
+        } else {
+            false
+        },
+    }
+}
+
+// No duration is tied to slot 6, and its moment is after panel time.
+pub fn timer_sound(t: u64, m: Timer) -> bool
+    ensures { λ r. ⌜ r ≡ timerSound t m ⌝ }
+{
+    match m {
+        Timer::Off => true,
+        Timer::Running { slot, due } => if is_slot(slot as u32) { t < due } else { false },
+    }
+}

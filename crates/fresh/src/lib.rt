@@ -1,0 +1,66 @@
+// Fresh records, by value.
+ghost use mathlib.Core.Path.{_≡_};
+ghost use Rattle.lighting.specs.Fresh.{freshSettings, freshOutput, freshStation};
+use lighting::Activity;
+use lighting::Answer;
+use lighting::Command;
+use lighting::Duration;
+use lighting::Operation;
+use lighting::Output;
+use lighting::Settings;
+use lighting::Slots;
+use lighting::Station;
+use lighting::Timer;
+
+fn fresh_settings() -> Settings
+    ensures { λ r. ⌜ r ≡ freshSettings ⌝ }
+{
+    Settings {
+        default: 0,
+        fade: 1000,
+        ramp: 10.0,
+        step: 5.0,
+        enable: false,
+        blink: 0,
+        delay: 0,
+        min: 65536,
+        max: 6553600,
+        slot: 15,
+    }
+}
+
+// No live slot, last operation STOP without duration, burning time 0.
+pub fn fresh_output() -> Output
+    ensures { λ r. ⌜ r ≡ freshOutput ⌝ }
+{
+    let levels = [0; 16];
+    let slots = Slots {
+        live: 0,
+        levels: levels,
+    };
+    let last = Command {
+        operation: Operation::Stop,
+        duration: Duration::Omitted,
+    };
+    let settings = fresh_settings();
+    Output {
+        settings: settings,
+        slots: slots,
+        activity: Activity::Still,
+        timer: Timer::Off,
+        burning: 0,
+        last: last,
+    }
+}
+
+// Number 0: no first arrival yet.
+pub fn fresh_station() -> Station
+    ensures { λ r. ⌜ r ≡ freshStation ⌝ }
+{
+    let frame = [0; 25];
+    Station {
+        answer: Answer::Done,
+        number: 0,
+        frame: frame,
+    }
+}
