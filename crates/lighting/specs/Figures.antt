@@ -1,4 +1,5 @@
--- 'Bench figures' 1 to 8, and the 'Traps' that one output shows (Worked.antt has those that only a list shows): what the definitions give, beside what the paper says. proofs/Figures.antt proves them equal.
+-- 'Bench figures' 1 to 8, and the 'Traps' that one output shows (Worked.antt has those that only a list shows): what the definitions give, beside
+-- what the paper says. proofs/Figures.antt proves them equal.
 -- Assumes nothing.
 use mathlib.Core.Bool.{true}
 use mathlib.Core.List.{List, [], _∷_, map}

@@ -63,7 +63,7 @@ slotsAt t (Delay owner over) s = if eqb over t then emptied (emptied s slot6) ow
 unfoldable pub settled : Output → Output
 settled o = o
 
--- all of it. 'Then Progress_Value by the movement's formula': it is not kept, `progressValue` has the formula
+-- all of it. 'then Progress_Value by the movement's formula': it is not kept, `progressValue` has the formula
 unfoldable pub fire : ℕ → Output → Output
 fire t o =
     settled
