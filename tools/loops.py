@@ -1,7 +1,7 @@
 #!/usr/bin/env python3
 """loops.py: no loop over milliseconds, and no recursion, in the code of the panel. A contract is an equation and says nothing of time, so this is looked
-for in the source: every loop of crates/*/src must stand in tools/loops.txt with what it goes over, each line of that file must still be true, and no
-function may call itself, directly or by way of others. Exit status 1 where that fails."""
+for in the source: every loop of crates/*/src must stand in tools/loops.txt, a line a loop, with its head as it stands in the source and what it goes
+over; a listed function may gain no other, and no head may change unseen. No function may call itself, directly or by way of others. Exit status 1 where that fails."""
 import glob
 import re
 import sys
@@ -10,8 +10,8 @@ known = {}
 for line in open('tools/loops.txt'):
     line = line.split('#')[0].strip()
     if line:
-        name, over = line.split(': ', 1)
-        known[name.strip()] = over.strip()
+        name, head, _ = [part.strip() for part in line.split('|')]
+        known.setdefault(name, []).append(head)
 
 bodies, loops = {}, {}
 for path in sorted(glob.glob('crates/*/src/*.rt')):
@@ -21,17 +21,15 @@ for path in sorted(glob.glob('crates/*/src/*.rt')):
     for (at, name), (end, _) in zip(starts, starts[1:] + [(len(text), '')]):
         body = text[text.index('{\n', at):end] if '{\n' in text[at:end] else ''
         bodies['%s::%s' % (crate, name)] = body
-        count = len(re.findall(r'\b(?:while|loop|for)\b[^;]*?\{', body))
-        if count:
-            loops['%s::%s' % (crate, name)] = count
+        heads = [' '.join(head.split()) for head in re.findall(r'\b((?:while|loop|for)\b[^;]*?)\{', body)]
+        if heads:
+            loops['%s::%s' % (crate, name)] = heads
 
 faults = []
-for name in sorted(loops):
-    if name not in known:
-        faults.append('%s has a loop that tools/loops.txt does not list' % name)
-for name in sorted(known):
-    if name not in loops:
-        faults.append('%s is listed in tools/loops.txt and has no loop' % name)
+for name in sorted(set(loops) | set(known)):
+    have, listed = loops.get(name, []), known.get(name, [])
+    if have != listed:
+        faults.append('%s has the loops %s, and tools/loops.txt lists %s' % (name, have or 'none', listed or 'none'))
 
 # who calls whom: a call is `f(` or `module::f(` within a crate, or `crate::..::f(`
 crates = {name.split('::')[0] for name in bodies}
@@ -60,5 +58,5 @@ for name in sorted(calls):
         faults.append('%s calls itself, directly or by way of others' % name)
 for fault in faults:
     print('loops.py: ' + fault)
-print('loops.py: %d functions, %d with a loop, none over milliseconds' % (len(bodies), len(loops)) if not faults else 'loops.py: FAILED')
+print('loops.py: %d functions, %d loops, none over milliseconds, no recursion' % (len(bodies), sum(map(len, loops.values()))) if not faults else 'loops.py: FAILED')
 sys.exit(1 if faults else 0)
