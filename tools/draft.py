@@ -34,8 +34,29 @@ def write(path, text):
         f.write(text)
 
 
+DEPENDS = {m.group(1): m.group(2).split() for m in re.finditer(r'^(\w+):(.*)', read('crates.txt'), re.M)}
+
+
+def heads(name):
+    """Each function of a crate: its module, its name, its clauses, its body."""
+    for path in glob.glob('crates/%s/src/*.rt' % name):
+        source = re.sub(r'//.*', '', read(path))
+        starts = [m.start() for m in re.finditer(r'\bfn \w+\s*\(', source)] + [len(source)]
+        for start, end in zip(starts, starts[1:]):
+            body = source.find('\n{', start, end)
+            clauses = re.findall(r'ensures(?: \w+)? \{ λ \w+\. ⌜ (.*?) ⌝ \}', source[start:body], re.S)
+            yield os.path.basename(path)[:-3], re.match(r'fn (\w+)', source[start:]).group(1), clauses, source[body:end]
+
+
 class Crate:
     """What the rule reads of a crate's source: where each name of a contract stands, and the definition that each function equals."""
+
+    def fact(self, place, call):
+        """What is known of a callee's result."""
+        function = re.sub(r'\d+$', '', call).replace('-', '_')
+        m = re.search(r'((?:\w+::)*)%s\s*\(' % function, self.bodies[place])
+        crate = m.group(1).split('::')[0] if m and m.group(1).split('::')[0] in DEPENDS else self.name
+        return '.%s .ensures%s' % (call, ' .0' if (crate, function) in self.several else '')
 
     def __init__(self, name):
         self.name = name
@@ -46,11 +67,14 @@ class Crate:
             for used, names in re.findall(r'ghost use (\S+)\.\{([^}]*)\};', source):
                 for one in names.split(','):
                     self.where.setdefault(module, {})[one.strip()] = used
-            for m in re.finditer(r'\bfn (\w+)\s*\(', source):
-                head = source[m.start():source.find('\n{', m.start())]
-                clauses = re.findall(r'ensures(?: \w+)? \{ λ \w+\. ⌜ (.*?) ⌝ \}', head, re.S)
-                equation = re.match(r'\w+ ≡ (\w+)', clauses[0]) if len(clauses) == 1 else None
-                self.defined[(module, m.group(1))] = equation.group(1) if equation else None
+        # the definition that a function equals; and, of a function that says several things, that its first is asked for
+        self.bodies, self.several = {}, set()
+        for module, function, clauses, body in heads(name):
+            equation = re.match(r'\w+ ≡ (\w+)', clauses[0]) if len(clauses) == 1 else None
+            self.defined[(module, function)] = equation.group(1) if equation else None
+            self.bodies[(module, function)] = body
+        for other in [name] + DEPENDS.get(name, []):
+            self.several.update((other, function) for _, function, clauses, _ in heads(other) if len(clauses) > 1)
         for path, library in [(LAWS, 'Rattle.lighting.proofs.Laws'), ('crates/%s/proofs/Laws.antt' % name, 'Rattle.%s.proofs.Laws' % name)]:
             for law in re.findall(r'^pub (\w+)-on :', read(path) if os.path.exists(path) else '', re.M):
                 self.laws[law] = library
@@ -77,11 +101,11 @@ def drafted(crate, path, text):
     if definition not in crate.where.get(module, {}):
         definition = None
     returns = [n for n, _ in needs if re.match(r'returns(-\d+)?$', n)]
-    calls = [a + b for a, b in re.findall(r'^(\S+?)-requires(-\d+)? : tie', text, re.M)]
+    calls = [a + b for a, b in re.findall(r'^(\S+?)-requires(?:-(\d+))? : tie', text, re.M)]
     composes = len(returns) == 1 and calls
     law = definition in crate.laws
     if definition and composes:
-        facts = ['c' + ' .before' * i + ' .%s .ensures' % name for i, name in enumerate(reversed(calls))]
+        facts = ['c' + ' .before' * i + ' ' + crate.fact((module, function), call) for i, call in enumerate(reversed(calls))]
         answer = 'simp (%s)' % ', '.join(facts)
     elif definition:
         answer = 'search (needs, ifs%s)' % (', %s-on' % definition if law else '')
@@ -162,7 +186,9 @@ def replace(name):
         bad = [p for p in tried if '::'.join([name] + place(p)[2].split('.')) not in proved]
         if not bad:
             break
-        for path in bad:
+        # what only follows from another function's error is tried again
+        own = [p for p in bad if re.search(re.escape(p) + r':\d+:\d+: error: (?!.*was not admitted)', text)]
+        for path in own or bad:
             write(path, tried.pop(path))
     for path in sorted(tried):
         print('drafted ' + path)
