@@ -2,10 +2,11 @@
 ghost use mathlib.Core.Path.{_≡_};
 ghost use Prim.Native.Nat.{_<_};
 ghost use Rattle.lighting.specs.Parameters.{standard};
-ghost use Rattle.lighting.specs.Rules.{spanSound, movementSound, blinkSound, delaySound, activityBy, timerSound};
+ghost use Rattle.lighting.specs.Rules.{spanSound, movementSound, warningBy, warningSound, activityBy, timerSound};
 use lighting::Activity;
 use lighting::Movement;
 use lighting::Timer;
+use lighting::Warning;
 use ranges::is_slot;
 use ranges::is_within;
 
@@ -47,13 +48,13 @@ fn movement_sound(t: u64, w: u32, high: u32, v: u32, m: Movement) -> bool
     }
 }
 
-// A warning's own slot is 7 to 16, and its Y a slot level.
-fn blink_sound(t: u64, owner: u8, level: u32, turn: u64, over: u64) -> bool
-    ensures { λ r. ⌜ r ≡ blinkSound t owner level turn over ⌝ }
+// A warning's own slot is 7 to 16, and its Y a slot level; e is the end of its phase.
+fn warning_by(t: u64, w: Warning, e: u64) -> bool
+    ensures { λ r. ⌜ r ≡ warningBy t w e ⌝ }
 {
-    if is_within(6, 15, owner as u32) {
-        if ranges::is_level(level) {
-            if t < turn { turn <= over } else { false }
+    if is_within(6, 15, w.owner as u32) {
+        if ranges::is_level(w.level) {
+            if t < e { e <= w.over } else { false }
         } else {
             false
         }
@@ -62,14 +63,11 @@ fn blink_sound(t: u64, owner: u8, level: u32, turn: u64, over: u64) -> bool
     }
 }
 
-fn delay_sound(t: u64, owner: u8, over: u64) -> bool
-    ensures { λ r. ⌜ r ≡ delaySound t owner over ⌝ }
+fn warning_sound(t: u64, w: Warning) -> bool
+    ensures { λ r. ⌜ r ≡ warningSound t w ⌝ }
 {
-    if is_within(6, 15, owner as u32) {
-        t < over
-    } else {
-        false
-    }
+    let p = w.phase;
+    warning_by(t, w, due::phase_end(w, p))
 }
 
 // Slot 6 is live, here l, exactly during a warning.
@@ -83,21 +81,7 @@ pub fn activity_by(t: u64, l: bool, w: u32, high: u32, v: u32, a: Activity) -> b
         } else {
             movement_sound(t, w, high, v, m)
         },
-        Activity::Blink {
-            owner,
-            level,
-            turn,
-            over,
-        } => if l {
-            blink_sound(t, owner, level, turn, over)
-        } else {
-            false
-        },
-        Activity::Delay { owner, over } => if l {
-            delay_sound(t, owner, over)
-        } else {
-            false
-        },
+        Activity::Warned(g) => if l { warning_sound(t, g) } else { false },
     }
 }
 

@@ -21,13 +21,7 @@ fn end_warning(s: Slots, a: Activity) -> Slots
     match a {
         Activity::Still => s,
         Activity::Moving(_) => s,
-        Activity::Blink {
-            owner: _,
-            level: _,
-            turn: _,
-            over: _,
-        } => slots::empty(s, 5),
-        Activity::Delay { owner: _, over: _ } => slots::empty(s, 5),
+        Activity::Warned(_) => slots::empty(s, 5),
     }
 }
 
@@ -37,13 +31,7 @@ fn without_warning(a: Activity) -> Activity
     match a {
         Activity::Still => a,
         Activity::Moving(_) => a,
-        Activity::Blink {
-            owner: _,
-            level: _,
-            turn: _,
-            over: _,
-        } => Activity::Still,
-        Activity::Delay { owner: _, over: _ } => Activity::Still,
+        Activity::Warned(_) => Activity::Still,
     }
 }
 
@@ -114,16 +102,7 @@ fn stop(c: Settings, f: u32, s: Slots, a: Activity) -> Effect
                 activity: a,
             }
         },
-        Activity::Blink {
-            owner: _,
-            level: _,
-            turn: _,
-            over: _,
-        } => Effect {
-            slots: s,
-            activity: a,
-        },
-        Activity::Delay { owner: _, over: _ } => Effect {
+        Activity::Warned(_) => Effect {
             slots: s,
             activity: a,
         },

@@ -1,29 +1,93 @@
 // What falls due on an output at one moment: a duration, a phase of a warning, the end of a movement. By value, and on any record at all.
 ghost use mathlib.Core.Path.{_≡_};
 ghost use Rattle.lighting.specs.Slots.{emptied};
-ghost use Rattle.lighting.specs.Passing.{timerAt, expired, disowned, released, activityAt, slotsAt, settled, fire};
+ghost use Rattle.lighting.specs.Passing.{timerDue, phaseEnd, activityDue, isDue, timerAt, emptiedBy, expired, disowned, disownedBy, released, delayed, nextPhase, nextActivity, activityAt, phaseSlots, nextSlots, slotsAt, settled, fire};
 use lighting::Activity;
+use lighting::Moment;
 use lighting::Output;
+use lighting::Phase;
 use lighting::Slots;
 use lighting::Timer;
+use lighting::Warning;
+
+// ---- when
+
+pub fn timer_due(m: Timer) -> Moment
+    ensures { λ r. ⌜ r ≡ timerDue m ⌝ }
+{
+    match m {
+        Timer::Off => Moment::Never,
+        Timer::Running { slot: _, due } => Moment::At(due),
+    }
+}
+
+pub fn phase_end(w: Warning, p: Phase) -> u64
+    ensures { λ r. ⌜ r ≡ phaseEnd w p ⌝ }
+{
+    match p {
+        Phase::Blink => w.turn,
+        Phase::Delay => w.over,
+    }
+}
+
+pub fn activity_due(a: Activity) -> Moment
+    ensures { λ r. ⌜ r ≡ activityDue a ⌝ }
+{
+    match a {
+        Activity::Still => Moment::Never,
+        Activity::Moving(m) => Moment::At(m.over),
+        Activity::Warned(w) => {
+            let p = w.phase;
+            Moment::At(phase_end(w, p))
+        },
+    }
+}
+
+fn is_due(t: u64, d: Moment) -> bool
+    ensures { λ r. ⌜ r ≡ isDue t d ⌝ }
+{
+    match d {
+        Moment::Never => false,
+        Moment::At(at) => at == t,
+    }
+}
+
+fn is_timer_due(t: u64, m: Timer) -> bool
+    ensures { λ r. ⌜ r ≡ isDue t (timerDue m) ⌝ }
+{
+    is_due(t, timer_due(m))
+}
+
+fn is_activity_due(t: u64, a: Activity) -> bool
+    ensures { λ r. ⌜ r ≡ isDue t (activityDue a) ⌝ }
+{
+    is_due(t, activity_due(a))
+}
 
 // ---- a duration
 
 fn timer_at(t: u64, m: Timer) -> Timer
     ensures { λ r. ⌜ r ≡ timerAt t m ⌝ }
 {
+    if is_timer_due(t, m) { Timer::Off } else { m }
+}
+
+fn empty_by(m: Timer, s: Slots) -> Slots
+    ensures { λ r. ⌜ r ≡ emptiedBy m s ⌝ }
+{
     match m {
-        Timer::Off => m,
-        Timer::Running { slot: _, due } => if due == t { Timer::Off } else { m },
+        Timer::Off => s,
+        Timer::Running { slot, due: _ } => slots::empty(s, slot),
     }
 }
 
 fn expire(t: u64, m: Timer, s: Slots) -> Slots
     ensures { λ r. ⌜ r ≡ expired t m s ⌝ }
 {
-    match m {
-        Timer::Off => s,
-        Timer::Running { slot, due } => if due == t { slots::empty(s, slot) } else { s },
+    if is_timer_due(t, m) {
+        empty_by(m, s)
+    } else {
+        s
     }
 }
 
@@ -34,48 +98,76 @@ pub fn disown(q: u8, a: Activity) -> Activity
     match a {
         Activity::Still => a,
         Activity::Moving(m) => if m.owner == q { Activity::Still } else { a },
-        Activity::Blink {
-            owner: _,
-            level: _,
-            turn: _,
-            over: _,
-        } => a,
-        Activity::Delay { owner: _, over: _ } => a,
+        Activity::Warned(_) => a,
+    }
+}
+
+fn disown_by(m: Timer, a: Activity) -> Activity
+    ensures { λ r. ⌜ r ≡ disownedBy m a ⌝ }
+{
+    match m {
+        Timer::Off => a,
+        Timer::Running { slot, due: _ } => disown(slot, a),
     }
 }
 
 fn release(t: u64, m: Timer, a: Activity) -> Activity
     ensures { λ r. ⌜ r ≡ released t m a ⌝ }
 {
-    match m {
-        Timer::Off => a,
-        Timer::Running { slot, due } => if due == t { disown(slot, a) } else { a },
+    if is_timer_due(t, m) {
+        disown_by(m, a)
+    } else {
+        a
     }
 }
 
 // ---- a phase of a warning, or the end of a movement
 
-fn activity_at(t: u64, a: Activity) -> Activity
-    ensures { λ r. ⌜ r ≡ activityAt t a ⌝ }
+fn delay(w: Warning) -> Warning
+    ensures { λ r. ⌜ r ≡ delayed w ⌝ }
+{
+    Warning {
+        phase: Phase::Delay,
+        owner: w.owner,
+        level: w.level,
+        turn: w.turn,
+        over: w.over,
+    }
+}
+
+fn next_phase(w: Warning, p: Phase) -> Activity
+    ensures { λ r. ⌜ r ≡ nextPhase w p ⌝ }
+{
+    match p {
+        Phase::Blink => if w.turn < w.over {
+            Activity::Warned(delay(w))
+        } else {
+            Activity::Still
+        },
+        Phase::Delay => Activity::Still,
+    }
+}
+
+fn next_activity(a: Activity) -> Activity
+    ensures { λ r. ⌜ r ≡ nextActivity a ⌝ }
 {
     match a {
         Activity::Still => a,
-        Activity::Moving(m) => if m.over == t { Activity::Still } else { a },
-        Activity::Blink {
-            owner,
-            level: _,
-            turn,
-            over,
-        } => if turn == t {
-            if turn < over {
-                Activity::Delay { owner, over }
-            } else {
-                Activity::Still
-            }
-        } else {
-            a
+        Activity::Moving(_) => Activity::Still,
+        Activity::Warned(w) => {
+            let p = w.phase;
+            next_phase(w, p)
         },
-        Activity::Delay { owner: _, over } => if over == t { Activity::Still } else { a },
+    }
+}
+
+fn activity_at(t: u64, a: Activity) -> Activity
+    ensures { λ r. ⌜ r ≡ activityAt t a ⌝ }
+{
+    if is_activity_due(t, a) {
+        next_activity(a)
+    } else {
+        a
     }
 }
 
@@ -86,31 +178,39 @@ fn warning_empty(s: Slots, i: u8) -> Slots
     slots::empty(slots::empty(s, 5), i)
 }
 
-fn slots_at(t: u64, a: Activity, s: Slots) -> Slots
-    ensures { λ r. ⌜ r ≡ slotsAt t a s ⌝ }
+fn phase_slots(w: Warning, p: Phase, s: Slots) -> Slots
+    ensures { λ r. ⌜ r ≡ phaseSlots w p s ⌝ }
+{
+    match p {
+        Phase::Blink => if w.turn < w.over {
+            slots::fill(s, 5, w.level)
+        } else {
+            slots::empty(s, 5)
+        },
+        Phase::Delay => warning_empty(s, w.owner),
+    }
+}
+
+fn next_slots(a: Activity, s: Slots) -> Slots
+    ensures { λ r. ⌜ r ≡ nextSlots a s ⌝ }
 {
     match a {
         Activity::Still => s,
         Activity::Moving(_) => s,
-        Activity::Blink {
-            owner: _,
-            level,
-            turn,
-            over,
-        } => if turn == t {
-            if turn < over {
-                slots::fill(s, 5, level)
-            } else {
-                slots::empty(s, 5)
-            }
-        } else {
-            s
+        Activity::Warned(w) => {
+            let p = w.phase;
+            phase_slots(w, p, s)
         },
-        Activity::Delay { owner, over } => if over == t {
-            warning_empty(s, owner)
-        } else {
-            s
-        },
+    }
+}
+
+fn slots_at(t: u64, a: Activity, s: Slots) -> Slots
+    ensures { λ r. ⌜ r ≡ slotsAt t a s ⌝ }
+{
+    if is_activity_due(t, a) {
+        next_slots(a, s)
+    } else {
+        s
     }
 }
 

@@ -13,7 +13,7 @@ use Rattle.lighting.specs.Slots.{lives, levelAt}
 use Rattle.lighting.specs.Value.{presentValue, progressValue, inProcess, lit}
 use Rattle.lighting.specs.Properties.{propertyOf, shown}
 use Rattle.lighting.specs.declared.Activity.{Activity}
-use Rattle.lighting.specs.declared.Activity.the-variants.{Still, Moving, Blink, Delay}
+use Rattle.lighting.specs.declared.Activity.the-variants.{Still, Moving, Warned}
 use Rattle.lighting.specs.declared.Answer.{Answer}
 use Rattle.lighting.specs.declared.Answer.the-variants.{Done, Value, Absent, Refused}
 use Rattle.lighting.specs.declared.Operation.{Operation}
@@ -128,8 +128,7 @@ activity-length : (a : Activity) → length (activityText a) ≤ 52
 unfolding activityText
 activity-length Still = omega arith
 activity-length (Moving m) = omega (arith, until-length (text "  moving until ") (m .over))
-activity-length (Blink owner level turn over) = omega (arith, until-length (text "  blink warning until ") over)
-activity-length (Delay owner over) = omega (arith, until-length (text "  blink warning until ") over)
+activity-length (Warned w) = omega (arith, until-length (text "  blink warning until ") (w .over))
 
 timer-length : (x : Timer) → length (timerText x) ≤ 47
 unfolding timerText

@@ -9,7 +9,7 @@ use Rattle.lighting.specs.Value.{presentValue}
 use Rattle.lighting.specs.Properties.{settingsWith, unmoved, activityWith, burningWith, changed, minOverMax}
 use Rattle.lighting.specs.declared.Settings.{Settings}
 use Rattle.lighting.specs.declared.Activity.{Activity}
-use Rattle.lighting.specs.declared.Activity.the-variants.{Still, Moving, Blink, Delay}
+use Rattle.lighting.specs.declared.Activity.the-variants.{Still, Moving, Warned}
 use Rattle.lighting.specs.declared.Setting.{Setting}
 use Rattle.lighting.specs.declared.Setting.the-variants.{SetDefault, SetFade, SetRamp, SetStep, SetEnable, SetBlink, SetDelay, SetMin, SetMax, SetSlot, ClearBurning}
 use Rattle.lighting.specs.declared.Output.{Output}
@@ -36,8 +36,7 @@ unmoved-acts : (t : ℕ) (c c′ : Settings) (s : Slots) (a : Activity) → Acts
 unfolding unmoved
 unmoved-acts t c c′ s Still h = h
 unmoved-acts t c c′ s (Moving m) h = h .six
-unmoved-acts t c c′ s (Blink owner level turn over) h = h
-unmoved-acts t c c′ s (Delay owner over) h = h
+unmoved-acts t c c′ s (Warned w) h = search
 
 -- of the settings a movement looks at Min and Max alone: its owner is live, so Relinquish_Default is not shown
 same-acts : (t : ℕ) (c c′ : Settings) (s : Slots) (a : Activity) → length (s .levels) ≡ 16 → c′ .min ≡ c .min → c′ .max ≡ c .max
@@ -59,8 +58,7 @@ same-acts t c c′ s (Moving m) l p q h =
   where
     same : topmost (c′ .default) s ≡ topmost (c .default) s → presentValue c s ≡ presentValue c′ s
     same e = unfold Rattle.lighting.specs.Value.brought in rw (p, q, e)
-same-acts t c c′ s (Blink owner level turn over) l p q h = h
-same-acts t c c′ s (Delay owner over) l p q h = h
+same-acts t c c′ s (Warned w) l p q h = h
 
 acts-kept : (t : ℕ) (c : Settings) (s : Slots) (a : Activity) (n : Setting) → length (s .levels) ≡ 16 → Acts t c s a
     → Acts t (settingsWith c n) s (activityWith a n)

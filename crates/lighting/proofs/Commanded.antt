@@ -16,7 +16,7 @@ use Rattle.lighting.specs.declared.Settings.{Settings}
 use Rattle.lighting.specs.declared.Pace.{Pace}
 use Rattle.lighting.specs.declared.Pace.the-variants.{Fade, Ramp}
 use Rattle.lighting.specs.declared.Activity.{Activity}
-use Rattle.lighting.specs.declared.Activity.the-variants.{Still, Moving, Blink, Delay}
+use Rattle.lighting.specs.declared.Activity.the-variants.{Still, Moving, Warned}
 use Rattle.lighting.specs.declared.Timer.{Timer}
 use Rattle.lighting.specs.declared.Duration.{Duration}
 use Rattle.lighting.specs.declared.Duration.the-variants.{Lasts, Cancels, Omitted}
@@ -44,30 +44,25 @@ record Staged (t : ℕ) (c : Settings) (r : Effect) : Type 0 where
 abbrev Calm : Activity → Type 0
 Calm Still = Unit {0}
 Calm (Moving m) = Unit {0}
-Calm (Blink owner level turn over) = ⊥
-Calm (Delay owner over) = ⊥
+Calm (Warned w) = ⊥
 
 unwarned-calm : (a : Activity) → Calm (unwarnedActivity a)
 unfolding unwarnedActivity
 unwarned-calm Still = tt
 unwarned-calm (Moving m) = tt
-unwarned-calm (Blink owner level turn over) = tt
-unwarned-calm (Delay owner over) = tt
+unwarned-calm (Warned w) = tt
 
 six-empty : (t : ℕ) (c : Settings) (s : Slots) (a : Activity) → Calm a → Acts t c s a → lives s 5 ≡ false
 six-empty t c s Still q h = h
 six-empty t c s (Moving m) q h = h .six
-six-empty t c s (Blink owner level turn over) q h = elim q [ ]
-six-empty t c s (Delay owner over) q h = elim q [ ]
+six-empty t c s (Warned w) q h = elim q [ ]
 
 unwarned-staged : (t : ℕ) (c : Settings) (s : Slots) (a : Activity) → Filled s → Acts t c s a
     → Staged t c (record { slots = unwarned s a; activity = unwarnedActivity a })
 unfolding unwarned unwarnedActivity
 unwarned-staged t c s Still f h = record { slots = f; activity = h }
 unwarned-staged t c s (Moving m) f h = record { slots = f; activity = h }
-unwarned-staged t c s (Blink owner level turn over) f h =
-    record { slots = put-filled s 5 none f (omega arith) tt; activity = six-set s (f .size) none }
-unwarned-staged t c s (Delay owner over) f h =
+unwarned-staged t c s (Warned w) f h =
     record { slots = put-filled s 5 none f (omega arith) tt; activity = six-set s (f .size) none }
 
 -- A TARGET PUT IN SLOT p, at t, with settings c, slots s and activity a
@@ -85,8 +80,7 @@ module _ (t : ℕ) (c : Settings) (k : Settled c) (s : Slots) (f : Filled s) (a 
       (winner s)
       (λ l e. absurd (n (winner-filled s (f .size) (c .slot) g (k .slot .inside) l)))
       (λ l e. moving-over t c s (f .size) (c .slot) (k .slot) (some g) m l b)
-  outdone-acts g (Blink owner level turn over) r b n = elim r [ ]
-  outdone-acts g (Delay owner over) r b n = elim r [ ]
+  outdone-acts g (Warned w) r b n = elim r [ ]
 
   -- if it wins, the new activity has to fit the new slots
   placed-staged : (g : ℕ) (new : Activity) → IsLevel g → (winner (filled s (c .slot) g) ≡ c .slot → Acts t c (filled s (c .slot) g) new)
@@ -155,8 +149,7 @@ module _ (t : ℕ) (c : Settings) (k : Settled c) (s : Slots) (f : Filled s) (a 
             activity = six (some (raised c b));
           }))
           (λ p e. rw e (record { slots = f; activity = h }))
-      go (Blink owner level turn over) h = record { slots = f; activity = h }
-      go (Delay owner over) h = record { slots = f; activity = h }
+      go (Warned w) h = record { slots = f; activity = h }
 
   relinquished-staged : Staged t c (relinquished c s a)
   unfolding relinquished

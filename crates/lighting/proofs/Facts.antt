@@ -8,13 +8,15 @@ use lib.ListN.{length}
 use Rattle.lighting.specs.Parameters.{standard}
 use Rattle.lighting.specs.declared.Settings.{Settings}
 use Rattle.lighting.specs.declared.Movement.{Movement}
+use Rattle.lighting.specs.declared.Warning.{Warning}
 use Rattle.lighting.specs.declared.Activity.{Activity}
-use Rattle.lighting.specs.declared.Activity.the-variants.{Still, Moving, Blink, Delay}
+use Rattle.lighting.specs.declared.Activity.the-variants.{Still, Moving, Warned}
 use Rattle.lighting.specs.declared.Timer.{Timer}
 use Rattle.lighting.specs.declared.Timer.the-variants.{Off, Running}
 use Rattle.lighting.specs.declared.Output.{Output}
 use Rattle.lighting.specs.Slots.{Slots, lives, winner, slot}
 use Rattle.lighting.specs.Value.{presentValue}
+use Rattle.lighting.specs.Passing.{phaseEnd}
 use Rattle.lighting.specs.Rules.{isAmount}
 
 -- 0, or 1 to 100 percent: in a form that `omega` reads
@@ -60,16 +62,17 @@ pub record Moves (t : ℕ) (c : Settings) (s : Slots) (m : Movement) : Type 0 wh
   pub long : Within 1 (standard .longestMovement) (m .length)
   pub later : t < m .over
 
-pub record Warns (t : ℕ) (s : Slots) (x d : ℕ) : Type 0 where
+pub record Warns (t : ℕ) (s : Slots) (w : Warning) : Type 0 where
   pub six : lives s 5 ≡ true
-  pub owner : Within 6 15 x
-  pub later : t < d
+  pub owner : Within 6 15 (w .owner)
+  pub level : IsLevel (w .level)
+  pub later : t < phaseEnd w (w .phase)
+  pub order : phaseEnd w (w .phase) ≤ w .over
 
 abbrev pub Acts : ℕ → Settings → Slots → Activity → Type 0
 Acts t c s Still = lives s 5 ≡ false
 Acts t c s (Moving m) = Moves t c s m
-Acts t c s (Blink owner level turn over) = Warns t s owner turn × IsLevel level × (turn ≤ over)
-Acts t c s (Delay owner over) = Warns t s owner over
+Acts t c s (Warned w) = Warns t s w
 
 abbrev pub Timed : ℕ → Timer → Type 0
 Timed t Off = Unit {0}

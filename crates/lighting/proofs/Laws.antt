@@ -8,7 +8,7 @@ use Rattle.lighting.specs.Frames.{orderedWith, fadeOrder, rampOrderAt, r
 use Rattle.lighting.specs.Level.{inRange, unitsOr}
 use Rattle.lighting.specs.Panel.{met, stationOf, carried, Panel, Step}
 use Rattle.lighting.specs.Parameters.{Parameters}
-use Rattle.lighting.specs.Passing.{timerAt, expired, disowned, released, activityAt, slotsAt, timerDue, activityDue}
+use Rattle.lighting.specs.Passing.{timerDue, phaseEnd, activityDue, isDue, emptiedBy, disowned, disownedBy, nextPhase, nextActivity, phaseSlots, nextSlots, sooner}
 use Rattle.lighting.specs.Properties.{changeDefault, changeMin, changeMax, changeRamp, changeStep, changeOf, settingsWith, unmoved, activityWith, burningWith, operationNumber, lastLevel, lastRate, lastStep, lastFadeTime, lastDuration, shown}
 use Rattle.lighting.specs.Rules.{activityBy, timerSound}
 use Rattle.lighting.specs.Slots.{Slots}
@@ -20,11 +20,13 @@ use Rattle.lighting.specs.declared.Duration.{Duration}
 use Rattle.lighting.specs.declared.Effect.{Effect}
 use Rattle.lighting.specs.declared.Frame.{Frame}
 use Rattle.lighting.specs.declared.Level.{Level}
+use Rattle.lighting.specs.declared.Moment.{Moment}
 use Rattle.lighting.specs.declared.Operand.{Operand}
 use Rattle.lighting.specs.declared.Operation.{Operation}
 use Rattle.lighting.specs.declared.Outcome.{Outcome}
 use Rattle.lighting.specs.declared.Output.{Output}
 use Rattle.lighting.specs.declared.Pace.{Pace}
+use Rattle.lighting.specs.declared.Phase.{Phase}
 use Rattle.lighting.specs.declared.Property.{Property}
 use Rattle.lighting.specs.declared.Request.{Request}
 use Rattle.lighting.specs.declared.Setting.{Setting}
@@ -32,6 +34,7 @@ use Rattle.lighting.specs.declared.Settings.{Settings}
 use Rattle.lighting.specs.declared.Station.{Station}
 use Rattle.lighting.specs.declared.Timer.{Timer}
 use Rattle.lighting.specs.declared.Verdict.{Verdict}
+use Rattle.lighting.specs.declared.Warning.{Warning}
 use lib.Ieee.{Float}
 use mathlib.Core.Bool.{Bool}
 
@@ -89,29 +92,41 @@ stationOf-on x0 k r e p = rw e p
 pub carried-on : (x0 : Bytes) (x1 : Panel) (x2 : Verdict) (k : Verdict) (r : Step) → x2 ≡ k → r ≡ carried x0 x1 k → r ≡ carried x0 x1 x2
 carried-on x0 x1 x2 k r e p = rw e p
 
-pub timerAt-on : (x0 : ℕ) (x1 : Timer) (k : Timer) (r : Timer) → x1 ≡ k → r ≡ timerAt x0 k → r ≡ timerAt x0 x1
-timerAt-on x0 x1 k r e p = rw e p
+pub timerDue-on : (x0 : Timer) (k : Timer) (r : Moment) → x0 ≡ k → r ≡ timerDue k → r ≡ timerDue x0
+timerDue-on x0 k r e p = rw e p
 
-pub expired-on : (x0 : ℕ) (x1 : Timer) (x2 : Slots) (k : Timer) (r : Slots) → x1 ≡ k → r ≡ expired x0 k x2 → r ≡ expired x0 x1 x2
-expired-on x0 x1 x2 k r e p = rw e p
+pub phaseEnd-on : (x0 : Warning) (x1 : Phase) (k : Phase) (r : ℕ) → x1 ≡ k → r ≡ phaseEnd x0 k → r ≡ phaseEnd x0 x1
+phaseEnd-on x0 x1 k r e p = rw e p
+
+pub activityDue-on : (x0 : Activity) (k : Activity) (r : Moment) → x0 ≡ k → r ≡ activityDue k → r ≡ activityDue x0
+activityDue-on x0 k r e p = rw e p
+
+pub isDue-on : (x0 : ℕ) (x1 : Moment) (k : Moment) (r : Bool) → x1 ≡ k → r ≡ isDue x0 k → r ≡ isDue x0 x1
+isDue-on x0 x1 k r e p = rw e p
+
+pub emptiedBy-on : (x0 : Timer) (x1 : Slots) (k : Timer) (r : Slots) → x0 ≡ k → r ≡ emptiedBy k x1 → r ≡ emptiedBy x0 x1
+emptiedBy-on x0 x1 k r e p = rw e p
 
 pub disowned-on : (x0 : ℕ) (x1 : Activity) (k : Activity) (r : Activity) → x1 ≡ k → r ≡ disowned x0 k → r ≡ disowned x0 x1
 disowned-on x0 x1 k r e p = rw e p
 
-pub released-on : (x0 : ℕ) (x1 : Timer) (x2 : Activity) (k : Timer) (r : Activity) → x1 ≡ k → r ≡ released x0 k x2 → r ≡ released x0 x1 x2
-released-on x0 x1 x2 k r e p = rw e p
+pub disownedBy-on : (x0 : Timer) (x1 : Activity) (k : Timer) (r : Activity) → x0 ≡ k → r ≡ disownedBy k x1 → r ≡ disownedBy x0 x1
+disownedBy-on x0 x1 k r e p = rw e p
 
-pub activityAt-on : (x0 : ℕ) (x1 : Activity) (k : Activity) (r : Activity) → x1 ≡ k → r ≡ activityAt x0 k → r ≡ activityAt x0 x1
-activityAt-on x0 x1 k r e p = rw e p
+pub nextPhase-on : (x0 : Warning) (x1 : Phase) (k : Phase) (r : Activity) → x1 ≡ k → r ≡ nextPhase x0 k → r ≡ nextPhase x0 x1
+nextPhase-on x0 x1 k r e p = rw e p
 
-pub slotsAt-on : (x0 : ℕ) (x1 : Activity) (x2 : Slots) (k : Activity) (r : Slots) → x1 ≡ k → r ≡ slotsAt x0 k x2 → r ≡ slotsAt x0 x1 x2
-slotsAt-on x0 x1 x2 k r e p = rw e p
+pub nextActivity-on : (x0 : Activity) (k : Activity) (r : Activity) → x0 ≡ k → r ≡ nextActivity k → r ≡ nextActivity x0
+nextActivity-on x0 k r e p = rw e p
 
-pub timerDue-on : (x0 : ℕ) (x1 : Timer) (k : Timer) (r : ℕ) → x1 ≡ k → r ≡ timerDue x0 k → r ≡ timerDue x0 x1
-timerDue-on x0 x1 k r e p = rw e p
+pub phaseSlots-on : (x0 : Warning) (x1 : Phase) (x2 : Slots) (k : Phase) (r : Slots) → x1 ≡ k → r ≡ phaseSlots x0 k x2 → r ≡ phaseSlots x0 x1 x2
+phaseSlots-on x0 x1 x2 k r e p = rw e p
 
-pub activityDue-on : (x0 : ℕ) (x1 : Activity) (k : Activity) (r : ℕ) → x1 ≡ k → r ≡ activityDue x0 k → r ≡ activityDue x0 x1
-activityDue-on x0 x1 k r e p = rw e p
+pub nextSlots-on : (x0 : Activity) (x1 : Slots) (k : Activity) (r : Slots) → x0 ≡ k → r ≡ nextSlots k x1 → r ≡ nextSlots x0 x1
+nextSlots-on x0 x1 k r e p = rw e p
+
+pub sooner-on : (x0 : ℕ) (x1 : Moment) (k : Moment) (r : ℕ) → x1 ≡ k → r ≡ sooner x0 k → r ≡ sooner x0 x1
+sooner-on x0 x1 k r e p = rw e p
 
 pub changeDefault-on : (x0 : Level) (k : Level) (r : Request) → x0 ≡ k → r ≡ changeDefault k → r ≡ changeDefault x0
 changeDefault-on x0 k r e p = rw e p

@@ -1,94 +1,62 @@
--- THEOREM A: the engine's way from due moment to due moment comes to what the plain panel's milliseconds come to.
+-- HOPS EQUAL TICKS: the engine's way from due moment to due moment comes to what the plain panel's milliseconds come to.
 -- What it asks of the output (`Calm`): every due moment is after the moment it starts from, and it has burned no longer than the panel stands.
 -- Neither the slots nor what lights an output play a part. Assumes nothing.
 use mathlib.Core.Path.{_≡_, refl, sym, ap, ap₂, _∙_}
+use mathlib.Core.Logic.{_≢_}
+use mathlib.Core.Bool.{true, false, false≢true}
+use mathlib.Core.List.{List, [], _∷_}
 use Prim.Native.Nat.{ℕ, zero, suc, _+_, _-_, _≤_, _<_, min}
 use native.Mathlib.Nat.{zero-add, add-zero, suc-add, sub-self, add-assoc}
 use native.Mathlib.Omega.{arith}
+use lib.Dec.{eqb}
 use Rattle.lighting.specs.Choice.{if_then_else_}
-use Rattle.lighting.proofs.Split.{by-eq, by-lt, by-bool, eqb-miss, eqb-hit}
+use Rattle.lighting.proofs.Split.{by-eq, by-lt, by-bool, eqb-miss, eqb-hit, eq-of}
+use Rattle.lighting.specs.declared.Phase.{Phase}
+use Rattle.lighting.specs.declared.Phase.the-variants.{Blink, Delay}
+use Rattle.lighting.specs.declared.Warning.{Warning}
 use Rattle.lighting.specs.declared.Activity.{Activity}
-use Rattle.lighting.specs.declared.Activity.the-variants.{Still, Moving, Blink, Delay}
+use Rattle.lighting.specs.declared.Activity.the-variants.{Still, Moving, Warned}
 use Rattle.lighting.specs.declared.Timer.{Timer}
 use Rattle.lighting.specs.declared.Timer.the-variants.{Off, Running}
+use Rattle.lighting.specs.declared.Moment.{Moment}
+use Rattle.lighting.specs.declared.Moment.the-variants.{Never, At}
 use Rattle.lighting.specs.declared.Output.{Output}
-use Rattle.lighting.specs.Slots.{Slots}
 use Rattle.lighting.specs.Value.{lit}
-use Rattle.lighting.specs.Passing.{top, withBurning, glowing, burned, gained, timerAt, expired, disowned, released, activityAt, slotsAt, settled, fire, tick, ticks, timerDue, activityDue, due, hop, hops, advance}
+use Rattle.lighting.specs.Passing.{top, withBurning, glowing, burned, gained, timerDue, phaseEnd, activityDue, dueMoments, isDue, timerAt, expired, disowned, disownedBy, released, delayed, nextPhase, nextActivity, activityAt, slotsAt, settled, fire, tick, ticks, sooner, soonest, due, hop, hops, advance}
 
 -- every due moment is after t
-abbrev pub TimerAfter : ℕ → Timer → Type 0
-TimerAfter t Off = Unit {0}
-TimerAfter t (Running q d) = t < d
+abbrev pub MomentAfter : ℕ → Moment → Type 0
+MomentAfter t Never = Unit {0}
+MomentAfter t (At d) = t < d
 
-abbrev pub ActivityAfter : ℕ → Activity → Type 0
-ActivityAfter t Still = Unit {0}
-ActivityAfter t (Moving m) = t < m .over
-ActivityAfter t (Blink x y u v) = t < u
-ActivityAfter t (Delay x v) = t < v
+abbrev AllAfter : ℕ → List Moment → Type 0
+AllAfter t [] = Unit {0}
+AllAfter t (d ∷ l) = MomentAfter t d × AllAfter t l
 
 pub record After (t : ℕ) (o : Output) : Type 0 where
-  pub timer : TimerAfter t (o .timer)
-  pub activity : ActivityAfter t (o .activity)
+  pub all : AllAfter t (dueMoments o)
 
 pub record Calm (t : ℕ) (o : Output) : Type 0 where
   pub after : After t o
   pub burnt : o .burning ≤ t
 
-timer-earlier : {t t′ : ℕ} (m : Timer) → t ≤ t′ → TimerAfter t′ m → TimerAfter t m
-timer-earlier Off h a = tt
-timer-earlier (Running q d) h a = omega arith
-
-act-earlier : {t t′ : ℕ} (a : Activity) → t ≤ t′ → ActivityAfter t′ a → ActivityAfter t a
-act-earlier Still h a = tt
-act-earlier (Moving m) h a = omega arith
-act-earlier (Blink x y u v) h a = omega arith
-act-earlier (Delay x v) h a = omega arith
+all-earlier : {t t′ : ℕ} (l : List Moment) → t ≤ t′ → AllAfter t′ l → AllAfter t l
+all-earlier [] h a = tt
+all-earlier (Never ∷ l) h a = (tt, all-earlier l h (a .1))
+all-earlier (At d ∷ l) h a = (omega (arith, a .0), all-earlier l h (a .1))
 
 pub earlier : {t t′ : ℕ} (o : Output) → t ≤ t′ → After t′ o → After t o
-earlier o h a =
-    record { timer = timer-earlier (o .timer) h (a .timer); activity = act-earlier (o .activity) h (a .activity) }
+earlier o h a = record { all = all-earlier (dueMoments o) h (a .all) }
 
 -- WHERE NOTHING IS DUE, NOTHING HAPPENS
-timer-quiet : (t : ℕ) (m : Timer) → TimerAfter t m → timerAt t m ≡ m
-unfolding timerAt if_then_else_
-timer-quiet t Off a = refl
-timer-quiet t (Running q d) a = rw (eqb-miss {a = d} {b = t} (omega arith))
-
-expired-quiet : (t : ℕ) (m : Timer) (s : Slots) → TimerAfter t m → expired t m s ≡ s
-unfolding expired if_then_else_
-expired-quiet t Off s a = refl
-expired-quiet t (Running q d) s a = rw (eqb-miss {a = d} {b = t} (omega arith))
-
-released-quiet : (t : ℕ) (m : Timer) (a : Activity) → TimerAfter t m → released t m a ≡ a
-unfolding released if_then_else_
-released-quiet t Off a h = refl
-released-quiet t (Running q d) a h = rw (eqb-miss {a = d} {b = t} (omega arith))
-
-act-quiet : (t : ℕ) (a : Activity) → ActivityAfter t a → activityAt t a ≡ a
-unfolding activityAt if_then_else_
-act-quiet t Still h = refl
-act-quiet t (Moving m) h = rw (eqb-miss {a = m .over} {b = t} (omega arith))
-act-quiet t (Blink x y u v) h = rw (eqb-miss {a = u} {b = t} (omega arith))
-act-quiet t (Delay x v) h = rw (eqb-miss {a = v} {b = t} (omega arith))
-
-slots-quiet : (t : ℕ) (a : Activity) (s : Slots) → ActivityAfter t a → slotsAt t a s ≡ s
-unfolding slotsAt if_then_else_
-slots-quiet t Still s h = refl
-slots-quiet t (Moving m) s h = refl
-slots-quiet t (Blink x y u v) s h = rw (eqb-miss {a = u} {b = t} (omega arith))
-slots-quiet t (Delay x v) s h = rw (eqb-miss {a = v} {b = t} (omega arith))
+not-due : (t : ℕ) (d : Moment) → MomentAfter t d → isDue t d ≡ false
+unfolding isDue
+not-due t Never a = refl
+not-due t (At d) a = eqb-miss {a = d} {b = t} (omega arith)
 
 pub quiet : (t : ℕ) (o : Output) → After t o → fire t o ≡ o
-unfolding fire settled
-quiet t o a =
-    rw (
-      timer-quiet t (o .timer) (a .timer),
-      expired-quiet t (o .timer) (o .slots) (a .timer),
-      released-quiet t (o .timer) (o .activity) (a .timer),
-      act-quiet t (o .activity) (a .activity),
-      slots-quiet t (o .activity) (o .slots) (a .activity),
-    )
+unfolding fire settled timerAt expired released activityAt slotsAt if_then_else_
+quiet t o a = rw (not-due t (timerDue (o .timer)) (a .all .0), not-due t (activityDue (o .activity)) (a .all .1 .0))
 
 -- BURNING: of n milliseconds at most n, of none none, and stretches add up
 pub glowing-le : (from n : ℕ) (o : Output) → glowing from n o ≤ n
@@ -112,7 +80,7 @@ burned-burned from a b o = rw (← glowing-add from a b o) (same (glowing from a
 
 burned-after : (t from n : ℕ) (o : Output) → After t o → After t (burned from n o)
 unfolding burned withBurning
-burned-after t from n o a = record { timer = a .timer; activity = a .activity }
+burned-after t from n o a = record { all = a .all }
 
 -- THE ENGINE'S COUNT does not come to its top
 gained-burned : (from n : ℕ) (o : Output) → o .burning + n ≤ top → gained from n o ≡ burned from n o
@@ -153,177 +121,166 @@ ticks-add (suc m) n t o =
     ∙ ap (λ (j : ℕ). ticks n j (ticks m (suc t) (tick t o))) (omega arith)
 
 -- AFTER A MOMENT BEFORE WHICH NOTHING WAS DUE, every due moment is later again
-timer-next : (t : ℕ) (m : Timer) → TimerAfter t m → TimerAfter (suc t) (timerAt (suc t) m)
-unfolding timerAt if_then_else_
-timer-next t Off h = tt
-timer-next t (Running q d) h = by-eq d (suc t) (λ p e. rw e tt) (λ p e. rw e (omega arith))
+not-yet : (n t : ℕ) (d : Moment) → t ≡ suc n → MomentAfter n d → isDue t d ≡ false → MomentAfter t d
+unfolding isDue
+not-yet n t Never p a e = tt
+not-yet n t (At d) p a e = by-eq d t (λ q e′. absurd (false≢true (sym e ∙ e′))) (λ q e′. omega arith)
 
-disowned-after : (t q : ℕ) (a : Activity) → ActivityAfter t a → ActivityAfter t (disowned q a)
-unfolding disowned if_then_else_
-disowned-after t q Still h = tt
-disowned-after t q (Moving m) h = by-eq (m .owner) q (λ p e. rw e tt) (λ p e. rw e h)
-disowned-after t q (Blink x y u v) h = h
-disowned-after t q (Delay x v) h = h
-
-released-after : (t t′ : ℕ) (m : Timer) (a : Activity) → ActivityAfter t a → ActivityAfter t (released t′ m a)
+-- a duration leaves what is under way, or ends it
+released-either : (P : Activity → Type 0) (t : ℕ) (m : Timer) (a : Activity) → P Still → P a → P (released t m a)
 unfolding released if_then_else_
-released-after t t′ Off a h = h
-released-after t t′ (Running q d) a h = by-eq d t′ (λ p e. rw e (disowned-after t q a h)) (λ p e. rw e h)
+released-either P t m a s h = by-bool (isDue t (timerDue m)) (λ e. rw e (by-timer m)) (λ e. rw e h)
+  where
+    by-owner : (q : ℕ) (b : Activity) → P b → P (disowned q b)
+    by-owner q Still k = unfold disowned in k
+    by-owner q (Moving n) k = unfold disowned in by-eq (n .owner) q (λ p e. rw e s) (λ p e. rw e k)
+    by-owner q (Warned w) k = unfold disowned in k
 
-act-next : (t : ℕ) (a : Activity) → ActivityAfter t a → ActivityAfter (suc t) (activityAt (suc t) a)
-unfolding activityAt if_then_else_
-act-next t Still h = tt
-act-next t (Moving m) h = by-eq (m .over) (suc t) (λ p e. rw e tt) (λ p e. rw e (omega arith))
-act-next t (Blink x y u v) h =
-    by-eq
-    u
-    (suc t)
-    (λ p e. by-lt u v (λ q e′. rw (e, e′) (omega arith)) (λ q e′. rw (e, e′) tt))
-    (λ p e. rw e (omega arith))
-act-next t (Delay x v) h = by-eq v (suc t) (λ p e. rw e tt) (λ p e. rw e (omega arith))
+    by-timer : (n : Timer) → P (disownedBy n a)
+    by-timer Off = unfold disownedBy in h
+    by-timer (Running q d) = unfold disownedBy in by-owner q a h
+
+phase-after : (t : ℕ) (w : Warning) (p : Phase) → eqb (phaseEnd w p) t ≡ true → MomentAfter t (activityDue (nextPhase w p))
+unfolding phaseEnd nextPhase delayed activityDue if_then_else_
+phase-after t w Blink h =
+    by-lt (w .turn) (w .over) (λ l e. rw e (omega (arith, eq-of {a = w .turn} {b = t} h))) (λ l e. rw e tt)
+phase-after t w Delay h = tt
+
+next-after : (t : ℕ) (a : Activity) → isDue t (activityDue a) ≡ true → MomentAfter t (activityDue (nextActivity a))
+unfolding isDue activityDue nextActivity
+next-after t Still h = tt
+next-after t (Moving m) h = tt
+next-after t (Warned w) h = phase-after t w (w .phase) h
 
 pub fire-after : (t : ℕ) (o : Output) → After t o → After (suc t) (fire (suc t) o)
 unfolding fire settled
-fire-after t o a =
-    record {
-      timer = timer-next t (o .timer) (a .timer);
-      activity =
-          act-next
-          t
-          (released (suc t) (o .timer) (o .activity))
-          (released-after t (suc t) (o .timer) (o .activity) (a .activity));
-    }
+fire-after t o a = record { all = (timer, (activity (released (suc t) (o .timer) (o .activity)) left, tt)) }
+  where
+    timer : MomentAfter (suc t) (timerDue (timerAt (suc t) (o .timer)))
+    timer = unfold timerAt if_then_else_ in
+        (by-bool
+        (isDue (suc t) (timerDue (o .timer)))
+        (λ e. rw e (unfold timerDue in tt))
+        (λ e. rw e (not-yet t (suc t) (timerDue (o .timer)) refl (a .all .0) e)))
 
--- WHAT IS STILL TO COME: how many due moments an output can yet meet
-abbrev count-timer : Timer → ℕ
-count-timer Off = 0
-count-timer (Running q d) = 1
+    left : MomentAfter t (activityDue (released (suc t) (o .timer) (o .activity)))
+    left =
+        released-either
+        (λ (b : Activity). MomentAfter t (activityDue b))
+        (suc t)
+        (o .timer)
+        (o .activity)
+        (unfold activityDue in tt)
+        (a .all .1 .0)
+
+    activity : (b : Activity) → MomentAfter t (activityDue b) → MomentAfter (suc t) (activityDue (activityAt (suc t) b))
+    activity b h = unfold activityAt if_then_else_ in
+        (by-bool
+        (isDue (suc t) (activityDue b))
+        (λ e. rw e (next-after (suc t) b e))
+        (λ e. rw e (not-yet t (suc t) (activityDue b) refl h e)))
+
+-- WHAT IS STILL TO COME: how many due moments an output can yet meet, its next ones and the end that follows a warning's turn
+abbrev moments : Moment → ℕ
+moments Never = 0
+moments (At d) = 1
+
+abbrev phases : Phase → ℕ
+phases Blink = 1
+phases Delay = 0
+
+abbrev followers : Activity → ℕ
+followers Still = 0
+followers (Moving m) = 0
+followers (Warned w) = phases (w .phase)
 
 abbrev count-act : Activity → ℕ
-count-act Still = 0
-count-act (Moving m) = 1
-count-act (Blink x y u v) = 2
-count-act (Delay x v) = 1
+count-act a = moments (activityDue a) + followers a
 
 abbrev count : Output → ℕ
-count o = count-timer (o .timer) + count-act (o .activity)
+count o = moments (timerDue (o .timer)) + count-act (o .activity)
 
-count-timer-one : (m : Timer) → count-timer m ≤ 1
-count-timer-one Off = omega arith
-count-timer-one (Running q d) = omega arith
-
-count-act-two : (a : Activity) → count-act a ≤ 2
-count-act-two Still = omega arith
-count-act-two (Moving m) = omega arith
-count-act-two (Blink x y u v) = omega arith
-count-act-two (Delay x v) = omega arith
-
-disowned-fewer : (q : ℕ) (a : Activity) → count-act (disowned q a) ≤ count-act a
-unfolding disowned if_then_else_
-disowned-fewer q Still = omega arith
-disowned-fewer q (Moving m) =
-    by-eq (m .owner) q (λ p e. rw e (omega arith)) (λ p e. rw e (omega arith))
-disowned-fewer q (Blink x y u v) = omega arith
-disowned-fewer q (Delay x v) = omega arith
-
-act-fewer : (t : ℕ) (a : Activity) → count-act (activityAt t a) ≤ count-act a
-unfolding activityAt if_then_else_
-act-fewer t Still = omega arith
-act-fewer t (Moving m) = by-eq (m .over) t (λ p e. rw e (omega arith)) (λ p e. rw e (omega arith))
-act-fewer t (Blink x y u v) =
-    by-eq
-    u
-    t
-    (λ p e. by-lt u v (λ q e′. rw (e, e′) (omega arith)) (λ q e′. rw (e, e′) (omega arith)))
-    (λ p e. rw e (omega arith))
-act-fewer t (Delay x v) = by-eq v t (λ p e. rw e (omega arith)) (λ p e. rw e (omega arith))
-
-act-hit : (t to : ℕ) (a : Activity) → activityDue to a ≡ t → t < to → suc (count-act (activityAt t a)) ≤ count-act a
-unfolding activityAt activityDue if_then_else_
-act-hit t to Still p h = omega arith
-act-hit t to (Moving m) p h = rw (eqb-hit {a = m .over} {b = t} (omega arith)) (omega arith)
-act-hit t to (Blink x y u v) p h =
-    rw
-    (eqb-hit {a = u} {b = t} (omega arith))
-    (by-lt u v (λ q e. rw e (omega arith)) (λ q e. rw e (omega arith)))
-act-hit t to (Delay x v) p h = rw (eqb-hit {a = v} {b = t} (omega arith)) (omega arith)
-
-count-falls : (t to : ℕ) (m : Timer) (a : Activity) → min (timerDue to m) (activityDue to a) ≡ t → t < to
-    → suc (count-timer (timerAt t m) + count-act (activityAt t (released t m a))) ≤ count-timer m + count-act a
-unfolding timerAt released timerDue if_then_else_
-count-falls t to Off a p h = omega (arith, act-hit t to a (omega arith) h)
-count-falls t to (Running q d) a p h =
-    by-eq
-    d
-    t
-    (λ p′ e. rw e (omega (arith, act-fewer t (disowned q a), disowned-fewer q a)))
-    (λ p′ e. rw e (omega (arith, act-hit t to a (omega arith) h)))
-
--- THE NEXT DUE MOMENT: nothing is due before it
-due-le : (to : ℕ) (o : Output) → due to o ≤ to
-unfolding due timerDue activityDue
-due-le to o = go (o .timer)
+count-three : (o : Output) → count o ≤ 3
+count-three o = omega (arith, next (timerDue (o .timer)), next (activityDue (o .activity)), end (o .activity))
   where
-    go : (m : Timer) → min (timerDue to m) (activityDue to (o .activity)) ≤ to
-    go Off = omega arith
-    go (Running q d) = omega arith
+    next : (d : Moment) → moments d ≤ 1
+    next Never = omega arith
+    next (At d) = omega arith
 
-before-due : (t to : ℕ) (o : Output) → t < due to o → After t o
-unfolding due timerDue activityDue
-before-due t to o h =
-    record { timer = timer (o .timer) (omega arith); activity = act (o .activity) (omega arith) }
-  where
-    timer : (m : Timer) → t < timerDue to m → TimerAfter t m
-    timer Off h = tt
-    timer (Running q d) h = omega arith
+    phase : (p : Phase) → phases p ≤ 1
+    phase Blink = omega arith
+    phase Delay = omega arith
 
-    act : (a : Activity) → t < activityDue to a → ActivityAfter t a
-    act Still h = tt
-    act (Moving m) h = omega arith
-    act (Blink x y u v) h = omega arith
-    act (Delay x v) h = omega arith
-
-due-later : (t to : ℕ) (o : Output) → t < to → After t o → t < due to o
-unfolding due timerDue activityDue
-due-later t to o l a = omega (arith, timer (o .timer) (a .timer), act (o .activity) (a .activity))
-  where
-    timer : (m : Timer) → TimerAfter t m → t < timerDue to m
-    timer Off h = l
-    timer (Running q d) h = omega arith
-
-    act : (a : Activity) → ActivityAfter t a → t < activityDue to a
-    act Still h = l
-    act (Moving m) h = omega arith
-    act (Blink x y u v) h = omega arith
-    act (Delay x v) h = omega arith
-
-pub due-here : (t : ℕ) (o : Output) → After t o → due t o ≡ t
-unfolding due timerDue activityDue
-due-here t o a = omega (arith, timer (o .timer) (a .timer), act (o .activity) (a .activity))
-  where
-    timer : (m : Timer) → TimerAfter t m → timerDue t m ≡ t
-    timer Off h = refl
-    timer (Running q d) h = omega arith
-
-    act : (a : Activity) → ActivityAfter t a → activityDue t a ≡ t
-    act Still h = refl
-    act (Moving m) h = omega arith
-    act (Blink x y u v) h = omega arith
-    act (Delay x v) h = omega arith
+    end : (a : Activity) → followers a ≤ 1
+    end Still = omega arith
+    end (Moving m) = omega arith
+    end (Warned w) = phase (w .phase)
 
 none-left : (t : ℕ) (o : Output) → count o ≤ 0 → After t o
 none-left t o h =
-    record { timer = timer (o .timer) (omega arith); activity = act (o .activity) (omega arith) }
+    record { all = (none (timerDue (o .timer)) (omega arith), (none (activityDue (o .activity)) (omega arith), tt)) }
   where
-    timer : (m : Timer) → count-timer m ≤ 0 → TimerAfter t m
-    timer Off h = tt
-    timer (Running q d) h = omega arith
+    none : (d : Moment) → moments d ≤ 0 → MomentAfter t d
+    none Never k = tt
+    none (At d) k = omega arith
 
-    act : (a : Activity) → count-act a ≤ 0 → ActivityAfter t a
-    act Still h = tt
-    act (Moving m) h = omega arith
-    act (Blink x y u v) h = omega arith
-    act (Delay x v) h = omega arith
+moment-hit : (t : ℕ) (d : Moment) → isDue t d ≡ true → 1 ≤ moments d
+unfolding isDue
+moment-hit t Never h = absurd (false≢true h)
+moment-hit t (At d) h = omega arith
+
+next-fewer : (t : ℕ) (a : Activity) → isDue t (activityDue a) ≡ true → suc (count-act (nextActivity a)) ≤ count-act a
+unfolding isDue activityDue nextActivity
+next-fewer t Still h = absurd (false≢true h)
+next-fewer t (Moving m) h = omega arith
+next-fewer t (Warned w) h = phase (w .phase)
+  where
+    phase : (p : Phase) → suc (count-act (nextPhase w p)) ≤ 1 + phases p
+    phase Blink = unfold nextPhase delayed if_then_else_ in
+        (by-lt (w .turn) (w .over) (λ l e. rw e (omega arith)) (λ l e. rw e (omega arith)))
+    phase Delay = unfold nextPhase in (omega arith)
+
+act-fewer : (t : ℕ) (a : Activity) → count-act (activityAt t a) ≤ count-act a
+unfolding activityAt if_then_else_
+act-fewer t a =
+    by-bool (isDue t (activityDue a)) (λ e. rw e (omega (arith, next-fewer t a e))) (λ e. rw e (omega arith))
+
+-- THE NEXT DUE MOMENT: nothing is due before it
+due-le : (to : ℕ) (o : Output) → due to o ≤ to
+unfolding due sooner
+due-le to o = go (dueMoments o)
+  where
+    go : (l : List Moment) → soonest to l ≤ to
+    go [] = omega arith
+    go (Never ∷ l) = go l
+    go (At d ∷ l) = omega (arith, go l)
+
+pub before-due : (t to : ℕ) (o : Output) → t < due to o → After t o
+unfolding due sooner
+before-due t to o h = record { all = go (dueMoments o) h }
+  where
+    go : (l : List Moment) → t < soonest to l → AllAfter t l
+    go [] k = tt
+    go (Never ∷ l) k = (tt, go l k)
+    go (At d ∷ l) k = (omega arith, go l (omega arith))
+
+due-later : (t to : ℕ) (o : Output) → t < to → After t o → t < due to o
+unfolding due sooner
+due-later t to o h a = go (dueMoments o) (a .all)
+  where
+    go : (l : List Moment) → AllAfter t l → t < soonest to l
+    go [] k = h
+    go (Never ∷ l) k = go l (k .1)
+    go (At d ∷ l) k = omega (arith, k .0, go l (k .1))
+
+pub due-here : (t : ℕ) (o : Output) → After t o → due t o ≡ t
+unfolding due sooner
+due-here t o a = go (dueMoments o) (a .all)
+  where
+    go : (l : List Moment) → AllAfter t l → soonest t l ≡ t
+    go [] k = refl
+    go (Never ∷ l) k = go l (k .1)
+    go (At d ∷ l) k = omega (arith, k .0, go l (k .1))
 
 -- one hop, from `now` to d before which nothing is due
 hop-quiet : (now n d : ℕ) (o : Output) → d ≡ suc (now + n) → After (now + n) o
@@ -343,9 +300,28 @@ next-hop now to o l a =
     let h : now < due to o = due-later now to o l a in
     hop-quiet now (due to o - suc now) (due to o) o (omega arith) (before-due (now + (due to o - suc now)) to o (omega arith))
 
-hop-fewer : (t from n to : ℕ) (o : Output) → due to o ≡ t → t < to → suc (count (fire t (burned from n o))) ≤ count o
-unfolding fire settled burned withBurning due
-hop-fewer t from n to o p h = count-falls t to (o .timer) (o .activity) p h
+-- at the next due moment something is due: one fewer is to come
+hop-fewer : (n d from k to : ℕ) (o : Output) → d ≡ suc n → After n o → due to o ≡ d → d < to → suc (count (fire d (burned from k o))) ≤ count o
+unfolding fire settled burned withBurning timerAt if_then_else_
+hop-fewer n d from k to o p a q h =
+    by-bool
+    (isDue d (timerDue (o .timer)))
+    (λ e. rw e
+    (unfold timerDue in (omega (arith, moment-hit d (timerDue (o .timer)) e, act-fewer d (released d (o .timer) (o .activity)), left))))
+    (λ e. unfold released activityAt in rw e
+    (by-bool
+    (isDue d (activityDue (o .activity)))
+    (λ e′. rw e′ (omega (arith, next-fewer d (o .activity) e′)))
+    (λ e′. absurd (omega (arith, due-later d to o h (none e e′))))))
+  where
+    left : count-act (released d (o .timer) (o .activity)) ≤ count-act (o .activity)
+    left = released-either (λ (b : Activity). count-act b ≤ count-act (o .activity)) d (o .timer) (o .activity) (unfold activityDue in (omega arith)) (omega arith)
+
+    none : isDue d (timerDue (o .timer)) ≡ false → isDue d (activityDue (o .activity)) ≡ false → After d o
+    none e e′ =
+        record {
+          all = (not-yet n d (timerDue (o .timer)) p (a .all .0) e, (not-yet n d (activityDue (o .activity)) p (a .all .1 .0) e′, tt));
+        }
 
 -- burning is at most the time to which it has burned
 fire-burnt : (now d : ℕ) (o : Output) → now ≤ d → o .burning ≤ now → fire d (burned now (d - now) o) .burning ≤ d
@@ -395,6 +371,7 @@ hops-ticks (suc k) now to o l m c n =
     to
     (λ q e′. rw q (hops-here k to (fire to (burned now (to - now) o)) m (rw q at calm) ∙ sym (rw q at (h .0))))
     (λ q e′. let s : due to o < to = omega arith in
+    let before : ℕ = due to o - 1 in
     hops-ticks
     k
     (due to o)
@@ -403,12 +380,11 @@ hops-ticks (suc k) now to o l m c n =
     (omega arith)
     m
     calm
-    (omega (arith, hop-fewer (due to o) now (due to o - now) to o refl s))
+    (omega (arith, hop-fewer before (due to o) now (due to o - now) to o (omega arith) (before-due before to o (omega arith)) refl s))
     ∙ ap (λ (z : Output). ticks (to - due to o) (due to o) z) (sym (h .0))
     ∙ join now (due to o) to o (omega arith) (omega arith))))
 
--- THEOREM A
+-- the engine's hops, as many as `advance` has, equal the plain panel's ticks
 pub advance-ticks : (now to : ℕ) (o : Output) → now ≤ to → to ≤ top → Calm now o → advance now to o ≡ ticks (to - now) now o
 unfolding advance
-advance-ticks now to o l m c =
-    hops-ticks 3 now to o l m c (omega (arith, count-timer-one (o .timer), count-act-two (o .activity)))
+advance-ticks now to o l m c = hops-ticks _ now to o l m c (omega (arith, count-three o))

@@ -4,36 +4,18 @@ use mathlib.Core.Bool.{Bool, true}
 use Prim.Native.Nat.{ℕ, zero, suc, _+_, _-_, _≤_, _<_, min}
 use native.Mathlib.Nat.{sub-self}
 use native.Mathlib.Omega.{arith}
-use Rattle.lighting.specs.Passing.{top, withBurning, glowing, gained, timerDue, activityDue, due, hop, hops, advance, later}
-use Rattle.lighting.specs.declared.Activity.{Activity}
-use Rattle.lighting.specs.declared.Activity.the-variants.{Still, Moving, Blink, Delay}
-use Rattle.lighting.specs.declared.Timer.{Timer}
-use Rattle.lighting.specs.declared.Timer.the-variants.{Off, Running}
+use Rattle.lighting.specs.Passing.{top, withBurning, glowing, gained, hop, hops, advance, later}
 use Rattle.lighting.specs.declared.Output.{Output}
 use Rattle.lighting.proofs.Split.{le-of}
-use Rattle.lighting.proofs.Passing.{TimerAfter, ActivityAfter, After, quiet, glowing-le, due-here}
-
-due-after : (to : ℕ) (o : Output) → to < due top o → After to o
-unfolding due timerDue activityDue
-due-after to o h = record { timer = timer (o .timer) (omega arith); activity = activity (o .activity) (omega arith) }
-  where
-    timer : (m : Timer) → to < timerDue top m → TimerAfter to m
-    timer Off h = tt
-    timer (Running slot d) h = omega (arith, h)
-
-    activity : (a : Activity) → to < activityDue top a → ActivityAfter to a
-    activity Still h = tt
-    activity (Moving m) h = omega (arith, h)
-    activity (Blink owner level turn over) h = omega (arith, h)
-    activity (Delay owner over) h = omega (arith, h)
+use Rattle.lighting.proofs.Passing.{After, quiet, glowing-le, before-due, due-here}
 
 later-after : (to : ℕ) (o : Output) → later to o ≡ true → After to o
 unfolding later
-later-after to o h = due-after to o (le-of h)
+later-after to o h = before-due to top o (le-of h)
 
 gained-after : (t from n : ℕ) (o : Output) → After t o → After t (gained from n o)
 unfolding gained withBurning
-gained-after t from n o a = record { timer = a .timer; activity = a .activity }
+gained-after t from n o a = record { all = a .all }
 
 -- no more burning in no time
 gained-none : (t : ℕ) (o : Output) → o .burning ≤ top → gained t 0 o ≡ o

@@ -14,7 +14,7 @@ use Rattle.lighting.specs.declared.Pace.{Pace}
 use Rattle.lighting.specs.declared.Pace.the-variants.{Fade, Ramp}
 use Rattle.lighting.specs.declared.Movement.{Movement}
 use Rattle.lighting.specs.declared.Activity.{Activity}
-use Rattle.lighting.specs.declared.Activity.the-variants.{Still, Moving, Blink, Delay}
+use Rattle.lighting.specs.declared.Activity.the-variants.{Still, Moving, Warned}
 use Rattle.lighting.specs.declared.Output.{Output}
 use Rattle.lighting.proofs.Split.{by-eq, by-lt, by-le}
 use Rattle.lighting.proofs.Facts.{Settled, Moves, Acts}
@@ -70,8 +70,7 @@ progress-most t o h = go (o .activity) h
     go : (a : Activity) → Acts t (o .settings) (o .slots) a → progressBy t (presentValue (o .settings) (o .slots)) a ≤ o .settings .max
     go Still a = unfold progressBy in present
     go (Moving m) a = unfold progressBy in (reached-most t (o .settings) (o .slots) m a)
-    go (Blink owner level turn over) a = unfold progressBy in present
-    go (Delay owner over) a = unfold progressBy in present
+    go (Warned w) a = unfold progressBy in present
 
 -- A RAMP'S LENGTH, at a rate from 0.125 percent a second on
 pub ramp-span : (d r : ℕ) → 0 < d → d ≤ 6553600 → 8192 ≤ r → (1 ≤ rampLength d r) × (rampLength d r ≤ standard .longestMovement)

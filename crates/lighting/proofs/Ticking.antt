@@ -1,24 +1,28 @@
--- THEOREM B, milliseconds: a tick keeps the record rules. Assumes nothing.
+-- A tick keeps the record rules, and so does the engine's way. Assumes nothing.
 use mathlib.Core.Path.{_≡_, _∙_}
 use mathlib.Core.Logic.{_≢_}
+use mathlib.Core.Bool.{true}
 use mathlib.Core.Option.{none, some}
 use Prim.Native.Nat.{ℕ, zero, suc, _+_, _-_, _≤_}
 use native.Mathlib.Nat.{add-zero}
 use native.Mathlib.Omega.{arith}
 use Rattle.lighting.specs.Choice.{if_then_else_}
-use Rattle.lighting.proofs.Split.{by-eq, by-lt}
+use Rattle.lighting.proofs.Split.{by-eq, by-lt, by-bool}
 use Rattle.lighting.specs.declared.Settings.{Settings}
+use Rattle.lighting.specs.declared.Phase.{Phase}
+use Rattle.lighting.specs.declared.Phase.the-variants.{Blink, Delay}
+use Rattle.lighting.specs.declared.Warning.{Warning}
 use Rattle.lighting.specs.declared.Activity.{Activity}
-use Rattle.lighting.specs.declared.Activity.the-variants.{Still, Moving, Blink, Delay}
+use Rattle.lighting.specs.declared.Activity.the-variants.{Still, Moving, Warned}
 use Rattle.lighting.specs.declared.Timer.{Timer}
 use Rattle.lighting.specs.declared.Timer.the-variants.{Off, Running}
 use Rattle.lighting.specs.declared.Output.{Output}
 use Rattle.lighting.specs.Slots.{Slots, lives, emptied}
 use Rattle.lighting.proofs.Winner.{winner-empty, topmost-empty, six-kept, six-set}
 use Rattle.lighting.specs.Value.{presentValue}
-use Rattle.lighting.specs.Passing.{withBurning, burned, timerAt, expired, disowned, released, activityAt, slotsAt, settled, fire, tick, ticks, top, advance}
+use Rattle.lighting.specs.Passing.{withBurning, burned, timerDue, phaseEnd, activityDue, isDue, timerAt, emptiedBy, expired, disowned, disownedBy, released, delayed, nextPhase, nextActivity, activityAt, phaseSlots, nextSlots, slotsAt, settled, fire, tick, ticks, top, advance}
 use Rattle.lighting.proofs.Passing.{glowing-le, advance-ticks}
-use Rattle.lighting.proofs.Facts.{Slot, Filled, Moves, Acts, Timed, Sound}
+use Rattle.lighting.proofs.Facts.{IsLevel, Within, Slot, Filled, Moves, Acts, Timed, Sound}
 use Rattle.lighting.proofs.Tied.{sound-calm}
 use Rattle.lighting.proofs.Levels.{put-filled}
 
@@ -41,25 +45,41 @@ disowned-acts t c s q (Moving m) g f h =
         let w = winner-empty s (f .size) q (g .inside) (omega (arith, h .wins)) in
         let p = topmost-empty s (f .size) (c .default) q (g .inside) (omega (arith, h .wins)) in
         unfold presentValue in search arith
-disowned-acts t c s q (Blink x y u v) g f h = let k = six-kept s (f .size) q none (g .inside) (g .free) in search
-disowned-acts t c s q (Delay x v) g f h = let k = six-kept s (f .size) q none (g .inside) (g .free) in search
+disowned-acts t c s q (Warned w) g f h = let k = six-kept s (f .size) q none (g .inside) (g .free) in search
 
 expired-effect : (t d : ℕ) (c : Settings) (s : Slots) (m : Timer) (a : Activity) → Timed t m → Filled s → Acts t c s a
     → Effect t c (expired d m s) (released d m a)
 unfolding expired released if_then_else_
-expired-effect t d c s Off a k f h = record { slots = f; activity = h }
-expired-effect t d c s (Running q e) a k f h =
-    by-eq
-    e
-    d
-    (λ p r. rw r
-    (record { slots = put-filled s q none f (k .0 .inside) tt; activity = disowned-acts t c s q a (k .0) f h }))
-    (λ p r. rw r (record { slots = f; activity = h }))
+expired-effect t d c s m a k f h =
+    by-bool (isDue d (timerDue m)) (λ e. rw e (falls m k)) (λ e. rw e (record { slots = f; activity = h }))
+  where
+    falls : (n : Timer) → Timed t n → Effect t c (emptiedBy n s) (disownedBy n a)
+    falls Off k = unfold emptiedBy disownedBy in (record { slots = f; activity = h })
+    falls (Running q e) k = unfold emptiedBy disownedBy in
+        (record { slots = put-filled s q none f (k .0 .inside) tt; activity = disowned-acts t c s q a (k .0) f h })
 
 -- THE WARNING AND THE MOVEMENT
+phase-effect : (t : ℕ) (c : Settings) (s : Slots) (w : Warning) (p : Phase) → Filled s → lives s 5 ≡ true → Within 6 15 (w .owner)
+    → IsLevel (w .level) → phaseEnd w p ≡ t → Effect t c (phaseSlots w p s) (nextPhase w p)
+unfolding phaseSlots nextPhase delayed phaseEnd if_then_else_
+phase-effect t c s w Blink f l x y h =
+    by-lt
+    (w .turn)
+    (w .over)
+    (λ q e. rw e
+    (let k = six-set s (f .size) (some (w .level)) in
+    record { slots = put-filled s 5 (some (w .level)) f (omega arith) y; activity = search arith }))
+    (λ q e. rw e (record { slots = put-filled s 5 none f (omega arith) tt; activity = six-set s (f .size) none }))
+phase-effect t c s w Delay f l x y h =
+    let f₁ = put-filled s 5 none f (omega arith) tt in
+    record {
+      slots = put-filled (emptied s 5) (w .owner) none f₁ (omega (arith, x)) tt;
+      activity = six-kept (emptied s 5) (f₁ .size) (w .owner) none (omega (arith, x)) (omega (arith, x)) ∙ six-set s (f .size) none;
+    }
+
 next-effect : (t : ℕ) (c : Settings) (s : Slots) (a : Activity) → Filled s → Acts t c s a
     → Effect (suc t) c (slotsAt (suc t) a s) (activityAt (suc t) a)
-unfolding slotsAt activityAt if_then_else_
+unfolding slotsAt activityAt nextSlots nextActivity activityDue isDue if_then_else_
 next-effect t c s Still f h = record { slots = f; activity = h }
 next-effect t c s (Moving m) f h =
     by-eq
@@ -67,34 +87,15 @@ next-effect t c s (Moving m) f h =
     (suc t)
     (λ p e. rw e (record { slots = f; activity = h .six }))
     (λ p e. rw e (record { slots = f; activity = search arith }))
-next-effect t c s (Blink x y u v) f h =
+next-effect t c s (Warned w) f h =
     by-eq
-    u
+    (phaseEnd w (w .phase))
     (suc t)
-    (λ p e. by-lt
-    u
-    v
-    (λ q e′. rw (e, e′)
-    (let k = six-set s (f .size) (some y) in
-    record { slots = put-filled s 5 (some y) f (omega arith) (h .1); activity = search arith }))
-    (λ q e′. rw (e, e′) (record { slots = put-filled s 5 none f (omega arith) tt; activity = six-set s (f .size) none })))
-    (λ p e. rw e (record { slots = f; activity = search arith }))
-next-effect t c s (Delay x v) f h =
-    by-eq
-    v
-    (suc t)
-    (λ p e. rw e
-    (let f₁ = put-filled s 5 none f (omega arith) tt in
-    record {
-      slots = put-filled (emptied s 5) x none f₁ (omega (arith, h .owner)) tt;
-      activity =
-          six-kept (emptied s 5) (f₁ .size) x none (omega (arith, h .owner)) (omega (arith, h .owner))
-          ∙ six-set s (f .size) none;
-    }))
+    (λ p e. rw e (phase-effect (suc t) c s w (w .phase) f (h .six) (h .owner) (h .level) p))
     (λ p e. rw e (record { slots = f; activity = search arith }))
 
 next-timer : (t : ℕ) (m : Timer) → Timed t m → Timed (suc t) (timerAt (suc t) m)
-unfolding timerAt if_then_else_
+unfolding timerAt timerDue isDue if_then_else_
 next-timer t Off h = tt
 next-timer t (Running q d) h = by-eq d (suc t) (λ p e. rw e tt) (λ p e. rw e (h .0, omega (arith, h .1)))
 

@@ -12,18 +12,18 @@ use Rattle.lighting.proofs.Scan.{all-each, each-all}
 use Rattle.lighting.specs.declared.Settings.{Settings}
 use Rattle.lighting.specs.declared.Movement.{Movement}
 use Rattle.lighting.specs.declared.Activity.{Activity}
-use Rattle.lighting.specs.declared.Activity.the-variants.{Still, Moving, Blink, Delay}
+use Rattle.lighting.specs.declared.Activity.the-variants.{Still, Moving, Warned}
 use Rattle.lighting.specs.declared.Timer.{Timer}
 use Rattle.lighting.specs.declared.Timer.the-variants.{Off, Running}
 use Rattle.lighting.specs.declared.Output.{Output}
 use Rattle.lighting.specs.Slots.{Slots, lives, winner, slot}
 use Rattle.lighting.proofs.Mask.{slot-is}
 use Rattle.lighting.specs.Value.{presentValue}
-use Rattle.lighting.specs.Passing.{top, ticks, advance}
-use Rattle.lighting.proofs.Passing.{advance-ticks, Calm, TimerAfter, ActivityAfter}
+use Rattle.lighting.specs.Passing.{top, timerDue, activityDue, ticks, advance}
+use Rattle.lighting.proofs.Passing.{advance-ticks, Calm, MomentAfter}
 use Rattle.lighting.specs.Parameters.{standard}
 use Rattle.lighting.specs.Properties.{within, isSlot}
-use Rattle.lighting.specs.Rules.{isLevel, levelsSound, timesSound, realsSound, settingsSound, slotSound, slotsSoundFrom, spanSound, movementSound, blinkSound, delaySound, activityBy, activitySound, timerSound, sound}
+use Rattle.lighting.specs.Rules.{isLevel, levelsSound, timesSound, realsSound, settingsSound, slotSound, slotsSoundFrom, spanSound, movementSound, warningBy, warningSound, activityBy, activitySound, timerSound, sound}
 use Rattle.lighting.proofs.Facts.{IsLevel, Within, Slot, Settled, SlotLevel, Filled, Moves, Acts, Timed, Sound}
 
 -- FROM THE TEST TO THE FACTS
@@ -61,11 +61,10 @@ unfolding movementSound spanSound
 moves-of t c s m l h = search (parts, within-of) depth 8
 
 acts-of : (t : ℕ) (c : Settings) (s : Slots) (a : Activity) → activitySound standard t c s a ≡ true → Acts t c s a
-unfolding activitySound activityBy blinkSound delaySound
+unfolding activitySound activityBy warningSound warningBy
 acts-of t c s Still h = not-true (lives s 5) h
 acts-of t c s (Moving m) h = moves-of t c s m (unless h .0) (unless h .1)
-acts-of t c s (Blink owner level turn over) h = search (parts, within-of, level-of)
-acts-of t c s (Delay owner over) h = search (parts, within-of)
+acts-of t c s (Warned w) h = search (parts, within-of, level-of)
 
 timed-of : (t : ℕ) (m : Timer) → timerSound t m ≡ true → Timed t m
 unfolding timerSound
@@ -111,11 +110,10 @@ unfolding movementSound spanSound
 moves-yes t c s m h = search (tests, within-yes) depth 12
 
 acts-yes : (t : ℕ) (c : Settings) (s : Slots) (a : Activity) → Acts t c s a → activitySound standard t c s a ≡ true
-unfolding activitySound activityBy blinkSound delaySound
+unfolding activitySound activityBy warningSound warningBy
 acts-yes t c s Still h = rw h
 acts-yes t c s (Moving m) h = unfold if_then_else_ in rw (h .six) (moves-yes t c s m h)
-acts-yes t c s (Blink owner level turn over) h = search (tests, within-yes, level-yes)
-acts-yes t c s (Delay owner over) h = search (tests, within-yes)
+acts-yes t c s (Warned w) h = search (tests, within-yes, level-yes)
 
 timed-yes : (t : ℕ) (m : Timer) → Timed t m → timerSound t m ≡ true
 unfolding timerSound
@@ -126,28 +124,26 @@ pub facts-sound : (t : ℕ) (o : Output) → Sound t o → sound standard t o �
 unfolding sound
 facts-sound t o h = search (tests, settled-yes, filled-yes, acts-yes, timed-yes) depth 7
 
--- what theorem A asks
+-- what `advance-ticks` asks
 pub tested-calm : (t : ℕ) (o : Output) → sound standard t o ≡ true → Calm t o
 unfolding sound
 tested-calm t o h =
     record {
       after =
           record {
-            timer = timer (o .timer) (search (parts, timed-of));
-            activity = activity (o .activity) (search (parts, acts-of));
+            all = (timer (o .timer) (search (parts, timed-of)), (activity (o .activity) (search (parts, acts-of)), tt));
           };
       burnt = search parts;
     }
   where
-    timer : (m : Timer) → Timed t m → TimerAfter t m
-    timer Off k = tt
-    timer (Running slot due) k = k .1
+    timer : (m : Timer) → Timed t m → MomentAfter t (timerDue m)
+    timer Off k = unfold timerDue in tt
+    timer (Running slot due) k = unfold timerDue in (k .1)
 
-    activity : (a : Activity) → Acts t (o .settings) (o .slots) a → ActivityAfter t a
-    activity Still k = tt
-    activity (Moving m) k = k .later
-    activity (Blink owner level turn over) k = k .0 .later
-    activity (Delay owner over) k = k .later
+    activity : (a : Activity) → Acts t (o .settings) (o .slots) a → MomentAfter t (activityDue a)
+    activity Still k = unfold activityDue in tt
+    activity (Moving m) k = unfold activityDue in (k .later)
+    activity (Warned w) k = unfold activityDue in (k .later)
 
 pub sound-calm : (t : ℕ) (o : Output) → Sound t o → Calm t o
 sound-calm t o h = tested-calm t o (facts-sound t o h)
@@ -157,7 +153,7 @@ pub tested-stays : (t : ℕ) (o : Output) → t ≤ top → sound standard t o �
 unfolding ticks
 tested-stays t o m h = advance-ticks t t o (omega arith) m (tested-calm t o h) ∙ rw (sub-self t)
 
--- THEOREM A of a record that passed the test
+-- hops equal ticks, of a record that passed the test
 pub sound-advance : (now to : ℕ) (o : Output) → length (o .slots .levels) ≡ 16 → sound standard now o ≡ true → now ≤ to → to ≤ top
     → advance now to o ≡ ticks (to - now) now o
 sound-advance now to o size h l m = advance-ticks now to o l m (sound-calm now o (sound-facts now o size h))

@@ -10,14 +10,15 @@ use Rattle.lighting.proofs.Split.{by-eq, by-lt, by-bool, parts}
 use Rattle.lighting.specs.declared.Settings.{Settings}
 use Rattle.lighting.specs.declared.Movement.{Movement}
 use Rattle.lighting.specs.declared.Activity.{Activity}
-use Rattle.lighting.specs.declared.Activity.the-variants.{Still, Moving, Blink, Delay}
+use Rattle.lighting.specs.declared.Activity.the-variants.{Still, Moving, Warned}
 use Rattle.lighting.specs.declared.Output.{Output}
 use Rattle.lighting.specs.Slots.{Slots, lives, winner, topmost, put, emptied, filled}
 use Rattle.lighting.proofs.Winner.{winner-over, topmost-over, winner-dead, topmost-dead, six-kept, six-set}
 use Rattle.lighting.specs.Value.{presentValue}
 use Rattle.lighting.proofs.Facts.{IsLevel, Within, Slot, SlotLevel, Filled, Moves, Acts, Sound}
 use Rattle.lighting.proofs.Levels.{level-zero, present-level, put-filled}
-use Rattle.lighting.specs.Writing.{withEffect, passedOver, stored, blinks, warnsBy, warns, firstLevel, firstPhase, warnedBy, warned, endedEmpty, endedStored, writtenWarned, writtenZero, writtenCalm, writtenBy, written, vacatedActivity, vacated}
+use Rattle.lighting.specs.Passing.{phaseEnd}
+use Rattle.lighting.specs.Writing.{withEffect, passedOver, stored, blinks, warnsBy, warns, firstLevel, firstPhase, warningFrom, warnedBy, warned, endedEmpty, endedStored, writtenWarned, writtenZero, writtenCalm, writtenBy, written, vacatedActivity, vacated}
 
 -- all that a change of slots and activity has to keep
 effect-sound : (t : ℕ) (o : Output) (s : Slots) (a : Activity) → Sound t o → Filled s → Acts t (o .settings) s a → Sound t (withEffect o s a)
@@ -49,9 +50,7 @@ module _ (t : ℕ) (c : Settings) (s : Slots) (size : length (s .levels) ≡ 16)
       i
       (λ l e. rw e (moving-over x m (omega (arith, h .wins)) h))
       (λ l e. rw e (six-kept s size i x (slot .inside) (slot .free) ∙ h .six))
-  passed-acts x (Blink owner level turn over) h =
-      let k = six-kept s size i x (slot .inside) (slot .free) in search
-  passed-acts x (Delay owner over) h = let k = six-kept s size i x (slot .inside) (slot .free) in search
+  passed-acts x (Warned w) h = let k = six-kept s size i x (slot .inside) (slot .free) in search
 
   -- an empty slot emptied: all goes on
   dead-acts : (a : Activity) → lives s i ≡ false → Acts t c s a → Acts t c (put s i none) a
@@ -61,8 +60,7 @@ module _ (t : ℕ) (c : Settings) (s : Slots) (size : length (s .levels) ≡ 16)
       (six-kept s size i none (slot .inside) (slot .free))
       (winner-dead s size i (slot .inside) e)
       (topmost-dead s size (c .default) i (slot .inside) e)
-  dead-acts (Blink owner level turn over) e h = let k = six-kept s size i none (slot .inside) (slot .free) in search
-  dead-acts (Delay owner over) e h = let k = six-kept s size i none (slot .inside) (slot .free) in search
+  dead-acts (Warned w) e h = let k = six-kept s size i none (slot .inside) (slot .free) in search
 
   vacated-acts : (a : Activity) → Acts t c s a → Acts t c (put s i none) (vacatedActivity (lives s i) i a)
   unfolding vacatedActivity if_then_else_
@@ -81,8 +79,8 @@ unfolding firstLevel if_then_else_
 first-level c y l = by-eq (c .blink) 0 (λ p e. rw e l) (λ p e. rw e level-zero)
 
 first-acts : (t : ℕ) (c : Settings) (s : Slots) (x y : ℕ) → Slot x → 5 < x → 0 < c .blink + c .delay → IsLevel y → lives s 5 ≡ true
-    → Acts t c s (firstPhase t c x y)
-unfolding firstPhase if_then_else_
+    → Acts t c s (Warned (warningFrom t c x y))
+unfolding warningFrom firstPhase phaseEnd if_then_else_
 first-acts t c s x y g l b v k =
     let w : Within 6 15 x = omega (arith, g .inside) in
     by-eq (c .blink) 0 (λ p e. rw e (search arith)) (λ p e. rw e (search arith))
@@ -144,8 +142,7 @@ written-sound t o i v g l h = go (o .activity)
     go : (a : Activity) → Sound t (writtenBy t o i v a)
     go Still = calm-written t o i v g l h
     go (Moving m) = calm-written t o i v g l h
-    go (Blink owner level turn over) = warned-written t o i v g l h
-    go (Delay owner over) = warned-written t o i v g l h
+    go (Warned w) = warned-written t o i v g l h
 
 -- KIND 03
 pub vacated-sound : (t : ℕ) (o : Output) (i : ℕ) → Slot i → Sound t o → Sound t (vacated o i)

@@ -11,7 +11,7 @@ use Rattle.lighting.specs.declared.Settings.{Settings}
 use Rattle.lighting.specs.declared.Pace.{Pace}
 use Rattle.lighting.specs.declared.Pace.the-variants.{Fade, Ramp}
 use Rattle.lighting.specs.declared.Activity.{Activity}
-use Rattle.lighting.specs.declared.Activity.the-variants.{Still, Moving, Blink, Delay}
+use Rattle.lighting.specs.declared.Activity.the-variants.{Still, Moving, Warned}
 use Rattle.lighting.specs.declared.Timer.{Timer}
 use Rattle.lighting.specs.declared.Timer.the-variants.{Off, Running}
 use Rattle.lighting.specs.declared.Duration.{Duration}
@@ -26,14 +26,12 @@ use Rattle.lighting.specs.declared.Output.{Output}
 unfoldable pub unwarned : Slots → Activity → Slots
 unwarned s Still = s
 unwarned s (Moving m) = s
-unwarned s (Blink owner level turn over) = emptied s slot6
-unwarned s (Delay owner over) = emptied s slot6
+unwarned s (Warned w) = emptied s slot6
 
 unfoldable pub unwarnedActivity : Activity → Activity
 unwarnedActivity Still = Still
 unwarnedActivity (Moving m) = Moving m
-unwarnedActivity (Blink owner level turn over) = Still
-unwarnedActivity (Delay owner over) = Still
+unwarnedActivity (Warned w) = Still
 
 -- 'put in slot p. If p is then the winner [w] it replaces the movement; if not, an existing movement goes on'
 unfoldable pub replaced : ℕ → ℕ → Activity → Activity → Activity
@@ -107,8 +105,7 @@ asItIs s a = record { slots = s; activity = a }
 unfoldable pub stopped : Settings → ℕ → Slots → Activity → Effect
 stopped c f s Still = asItIs s Still
 stopped c f s (Moving m) = if eqb (m .owner) (c .slot) then halted c f s else asItIs s (Moving m)
-stopped c f s (Blink owner level turn over) = asItIs s (Blink owner level turn over)
-stopped c f s (Delay owner over) = asItIs s (Delay owner over)
+stopped c f s (Warned w) = asItIs s (Warned w)
 
 -- 'RELINQUISH empties slot p; if p owned the movement, it ends'
 unfoldable pub relinquished : Settings → Slots → Activity → Effect

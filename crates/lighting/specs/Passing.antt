@@ -1,13 +1,19 @@
 -- 'The plain panel': how an output passes from one moment to another. The plain panel lives one millisecond after another; the engine goes
 -- from due moment to due moment. Both do the same at a moment (`fire`). Assumes nothing.
-use mathlib.Core.Bool.{Bool}
+use mathlib.Core.Bool.{Bool, false}
+use mathlib.Core.List.{List, [], _∷_}
 use Prim.Native.Nat.{ℕ, zero, suc, _+_, _-_, min}
 use lib.Dec.{ltb, eqb}
 use Rattle.lighting.specs.Choice.{if_then_else_}
+use Rattle.lighting.specs.declared.Phase.{Phase}
+use Rattle.lighting.specs.declared.Phase.the-variants.{Blink, Delay}
+use Rattle.lighting.specs.declared.Warning.{Warning}
 use Rattle.lighting.specs.declared.Activity.{Activity}
-use Rattle.lighting.specs.declared.Activity.the-variants.{Still, Moving, Blink, Delay}
+use Rattle.lighting.specs.declared.Activity.the-variants.{Still, Moving, Warned}
 use Rattle.lighting.specs.declared.Timer.{Timer}
 use Rattle.lighting.specs.declared.Timer.the-variants.{Off, Running}
+use Rattle.lighting.specs.declared.Moment.{Moment}
+use Rattle.lighting.specs.declared.Moment.the-variants.{Never, At}
 use Rattle.lighting.specs.declared.Output.{Output}
 use Rattle.lighting.specs.Slots.{Slots, slot6, emptied, filled}
 use Rattle.lighting.specs.Value.{lit}
@@ -23,41 +29,81 @@ glowing from n o = if lit (o .settings) (o .slots) then n else 0
 unfoldable pub burned : ℕ → ℕ → Output → Output
 burned from n o = withBurning o (o .burning + glowing from n o)
 
+-- WHEN SOMETHING FALLS DUE: a running duration at its own moment
+unfoldable pub timerDue : Timer → Moment
+timerDue Off = Never
+timerDue (Running slot due) = At due
+
+-- a warning at the end of its phase: 'Slot 6 holds 0 for B ms', until the turn, 'then Y for D ms'
+unfoldable pub phaseEnd : Warning → Phase → ℕ
+phaseEnd w Blink = w .turn
+phaseEnd w Delay = w .over
+
+unfoldable pub activityDue : Activity → Moment
+activityDue Still = Never
+activityDue (Moving m) = At (m .over)
+activityDue (Warned w) = At (phaseEnd w (w .phase))
+
+-- all that can fall due on an output, each with its next moment
+abbrev pub dueMoments : Output → List Moment
+dueMoments o = timerDue (o .timer) ∷ activityDue (o .activity) ∷ []
+
+unfoldable pub isDue : ℕ → Moment → Bool
+isDue t Never = false
+isDue t (At d) = eqb d t
+
 -- WHAT FALLS DUE at the moment t. 'then a due duration empties its slot': the timer and the slots after it
 unfoldable pub timerAt : ℕ → Timer → Timer
-timerAt t Off = Off
-timerAt t (Running slot due) = if eqb due t then Off else Running slot due
+timerAt t m = if isDue t (timerDue m) then Off else m
+
+unfoldable pub emptiedBy : Timer → Slots → Slots
+emptiedBy Off s = s
+emptiedBy (Running slot due) s = emptied s slot
 
 unfoldable pub expired : ℕ → Timer → Slots → Slots
-expired t Off s = s
-expired t (Running slot due) s = if eqb due t then emptied s slot else s
+expired t m s = if isDue t (timerDue m) then emptiedBy m s else s
 
 -- '(ending a movement that slot owned)'
 unfoldable pub disowned : ℕ → Activity → Activity
 disowned q Still = Still
 disowned q (Moving m) = if eqb (m .owner) q then Still else Moving m
-disowned q (Blink owner level turn over) = Blink owner level turn over
-disowned q (Delay owner over) = Delay owner over
+disowned q (Warned w) = Warned w
+
+unfoldable pub disownedBy : Timer → Activity → Activity
+disownedBy Off a = a
+disownedBy (Running slot due) a = disowned slot a
 
 unfoldable pub released : ℕ → Timer → Activity → Activity
-released t Off a = a
-released t (Running slot due) a = if eqb due t then disowned slot a else a
+released t m a = if isDue t (timerDue m) then disownedBy m a else a
 
--- the warning's phases follow one another, and a movement is over at its last moment
+-- the warning's phases follow one another, the second if D is above 0, and a movement is over at its last moment
+unfoldable pub delayed : Warning → Warning
+delayed w = record { phase = Delay; owner = w .owner; level = w .level; turn = w .turn; over = w .over }
+
+unfoldable pub nextPhase : Warning → Phase → Activity
+nextPhase w Blink = if ltb (w .turn) (w .over) then Warned (delayed w) else Still
+nextPhase w Delay = Still
+
+unfoldable pub nextActivity : Activity → Activity
+nextActivity Still = Still
+nextActivity (Moving m) = Still
+nextActivity (Warned w) = nextPhase w (w .phase)
+
 unfoldable pub activityAt : ℕ → Activity → Activity
-activityAt t Still = Still
-activityAt t (Moving m) = if eqb (m .over) t then Still else Moving m
-activityAt t (Blink owner level turn over) =
-    if eqb turn t then (if ltb turn over then Delay owner over else Still) else Blink owner level turn over
-activityAt t (Delay owner over) = if eqb over t then Still else Delay owner over
+activityAt t a = if isDue t (activityDue a) then nextActivity a else a
 
 -- 'then the warning's slots are set': 'Slot 6 holds 0 for B ms, then Y for D ms, then is empty; if D is above 0, slot X empties with it'
+unfoldable pub phaseSlots : Warning → Phase → Slots → Slots
+phaseSlots w Blink s = if ltb (w .turn) (w .over) then filled s slot6 (w .level) else emptied s slot6
+phaseSlots w Delay s = emptied (emptied s slot6) (w .owner)
+
+unfoldable pub nextSlots : Activity → Slots → Slots
+nextSlots Still s = s
+nextSlots (Moving m) s = s
+nextSlots (Warned w) s = phaseSlots w (w .phase) s
+
 unfoldable pub slotsAt : ℕ → Activity → Slots → Slots
-slotsAt t Still s = s
-slotsAt t (Moving m) s = s
-slotsAt t (Blink owner level turn over) s =
-    if eqb turn t then (if ltb turn over then filled s slot6 level else emptied s slot6) else s
-slotsAt t (Delay owner over) s = if eqb over t then emptied (emptied s slot6) owner else s
+slotsAt t a s = if isDue t (activityDue a) then nextSlots a s else s
 
 -- After each act and after each moment's due events. The paper judges nothing there: the output as it is
 unfoldable pub settled : Output → Output
@@ -85,18 +131,16 @@ ticks zero t o = o
 ticks (suc n) t o = ticks n (suc t) (tick t o)
 
 -- THE ENGINE: the next due moment, or `to` if nothing falls due before it
-unfoldable pub timerDue : ℕ → Timer → ℕ
-timerDue to Off = to
-timerDue to (Running slot due) = min to due
+unfoldable pub sooner : ℕ → Moment → ℕ
+sooner to Never = to
+sooner to (At d) = min to d
 
-unfoldable pub activityDue : ℕ → Activity → ℕ
-activityDue to Still = to
-activityDue to (Moving m) = min to (m .over)
-activityDue to (Blink owner level turn over) = min to turn
-activityDue to (Delay owner over) = min to over
+abbrev pub soonest : ℕ → List Moment → ℕ
+soonest to [] = to
+soonest to (d ∷ l) = sooner (soonest to l) d
 
 unfoldable pub due : ℕ → Output → ℕ
-due to o = min (timerDue to (o .timer)) (activityDue to (o .activity))
+due to o = soonest to (dueMoments o)
 
 -- burning in a count that stays at its top: no frame brings a record that meets the rules there, since its time has 48 bits
 -- (proofs/Passing.antt, `hops-ticks`)

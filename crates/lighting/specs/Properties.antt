@@ -13,7 +13,7 @@ use Rattle.lighting.specs.Slots.{Slots, slot6, lives, levelAt}
 use Rattle.lighting.specs.Value.{presentValue, progressValue, inProcess}
 use Rattle.lighting.specs.declared.Settings.{Settings}
 use Rattle.lighting.specs.declared.Activity.{Activity}
-use Rattle.lighting.specs.declared.Activity.the-variants.{Still, Moving, Blink, Delay}
+use Rattle.lighting.specs.declared.Activity.the-variants.{Still, Moving, Warned}
 use Rattle.lighting.specs.declared.Duration.{Duration}
 use Rattle.lighting.specs.declared.Duration.the-variants.{Lasts, Cancels, Omitted}
 use Rattle.lighting.specs.declared.Operation.{Operation}
@@ -137,8 +137,7 @@ settingsWith c ClearBurning = c
 unfoldable pub unmoved : Activity → Activity
 unmoved Still = Still
 unmoved (Moving m) = Still
-unmoved (Blink owner level turn over) = Blink owner level turn over
-unmoved (Delay owner over) = Delay owner over
+unmoved (Warned w) = Warned w
 
 -- 'Writing 08 or 09 ends the movement'
 unfoldable pub activityWith : Activity → Setting → Activity

@@ -10,12 +10,14 @@ use Rattle.lighting.specs.Level.{inRange, amountOf}
 use Rattle.lighting.specs.Field.{byteAt}
 use Rattle.lighting.specs.Slots.{Slots, slot6, lives, winner}
 use Rattle.lighting.specs.Value.{presentValue}
+use Rattle.lighting.specs.Passing.{phaseEnd}
 use Rattle.lighting.specs.Properties.{within, isSlot}
 use Rattle.lighting.specs.Frames.{kindLength}
 use Rattle.lighting.specs.declared.Settings.{Settings}
 use Rattle.lighting.specs.declared.Movement.{Movement}
+use Rattle.lighting.specs.declared.Warning.{Warning}
 use Rattle.lighting.specs.declared.Activity.{Activity}
-use Rattle.lighting.specs.declared.Activity.the-variants.{Still, Moving, Blink, Delay}
+use Rattle.lighting.specs.declared.Activity.the-variants.{Still, Moving, Warned}
 use Rattle.lighting.specs.declared.Timer.{Timer}
 use Rattle.lighting.specs.declared.Timer.the-variants.{Off, Running}
 use Rattle.lighting.specs.declared.Output.{Output}
@@ -58,20 +60,19 @@ unfoldable pub movementSound : Parameters → ℕ → ℕ → ℕ → ℕ → Mo
 movementSound p t w high v m =
     ltb (m .owner) 16 also eqb (m .owner) w also leb (m .start) high also eqb (m .target) v also spanSound p t m
 
--- 'a warning, whose own slot is 7 to 16 and whose Y is a slot level'. Its end is not before its turn, so that both are after panel time and
--- stay so
-unfoldable pub blinkSound : ℕ → ℕ → ℕ → ℕ → ℕ → Bool
-blinkSound t owner level turn over = within 6 15 owner also isLevel level also ltb t turn also leb turn over
+-- 'a warning, whose own slot is 7 to 16 and whose Y is a slot level'. Its end is not before that of its phase, here e, so that both are after
+-- panel time and stay so. In Delay the turn is past, and no due moment
+unfoldable pub warningBy : ℕ → Warning → ℕ → Bool
+warningBy t w e = within 6 15 (w .owner) also isLevel (w .level) also ltb t e also leb e (w .over)
 
-unfoldable pub delaySound : ℕ → ℕ → ℕ → Bool
-delaySound t owner over = within 6 15 owner also ltb t over
+unfoldable pub warningSound : ℕ → Warning → Bool
+warningSound t w = warningBy t w (phaseEnd w (w .phase))
 
 -- 'slot 6 live exactly during a warning'. l: whether slot 6 is live; w: the winner; high: Max; v: Present_Value
 unfoldable pub activityBy : Parameters → ℕ → Bool → ℕ → ℕ → ℕ → Activity → Bool
 activityBy p t l w high v Still = not l
 activityBy p t l w high v (Moving m) = if l then false else movementSound p t w high v m
-activityBy p t l w high v (Blink owner level turn over) = l also blinkSound t owner level turn over
-activityBy p t l w high v (Delay owner over) = l also delaySound t owner over
+activityBy p t l w high v (Warned g) = l also warningSound t g
 
 unfoldable pub activitySound : Parameters → ℕ → Settings → Slots → Activity → Bool
 activitySound p t c s a = activityBy p t (lives s slot6) (winner s) (c .max) (presentValue c s) a

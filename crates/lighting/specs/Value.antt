@@ -9,7 +9,7 @@ use Rattle.lighting.specs.declared.Pace.{Pace}
 use Rattle.lighting.specs.declared.Pace.the-variants.{Fade, Ramp}
 use Rattle.lighting.specs.declared.Movement.{Movement}
 use Rattle.lighting.specs.declared.Activity.{Activity}
-use Rattle.lighting.specs.declared.Activity.the-variants.{Still, Moving, Blink, Delay}
+use Rattle.lighting.specs.declared.Activity.the-variants.{Still, Moving, Warned}
 use Rattle.lighting.specs.declared.Output.{Output}
 
 -- brought into Min..Max; and so 'if above zero'
@@ -51,8 +51,7 @@ reached t m = reachedBy m (elapsed t m)
 unfoldable pub progressBy : ℕ → ℕ → Activity → ℕ
 progressBy t v Still = v
 progressBy t v (Moving m) = reached t m
-progressBy t v (Blink owner level turn over) = v
-progressBy t v (Delay owner over) = v
+progressBy t v (Warned w) = v
 
 unfoldable pub progressValue : ℕ → Output → ℕ
 progressValue t o = progressBy t (presentValue (o .settings) (o .slots)) (o .activity)
@@ -61,5 +60,4 @@ progressValue t o = progressBy t (presentValue (o .settings) (o .slots)) (o .act
 unfoldable pub inProcess : Activity → ℕ
 inProcess Still = 0
 inProcess (Moving m) = 1
-inProcess (Blink owner level turn over) = 0
-inProcess (Delay owner over) = 0
+inProcess (Warned w) = 0

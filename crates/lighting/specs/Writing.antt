@@ -5,8 +5,11 @@ use lib.Dec.{ltb, leb, eqb}
 use lib.ListN.{getD}
 use Rattle.lighting.specs.Choice.{if_then_else_, _also_, allFrom}
 use Rattle.lighting.specs.declared.Settings.{Settings}
+use Rattle.lighting.specs.declared.Phase.{Phase}
+use Rattle.lighting.specs.declared.Phase.the-variants.{Blink, Delay}
+use Rattle.lighting.specs.declared.Warning.{Warning}
 use Rattle.lighting.specs.declared.Activity.{Activity}
-use Rattle.lighting.specs.declared.Activity.the-variants.{Still, Moving, Blink, Delay}
+use Rattle.lighting.specs.declared.Activity.the-variants.{Still, Moving, Warned}
 use Rattle.lighting.specs.declared.Output.{Output}
 use Rattle.lighting.specs.Slots.{Slots, slot6, lives, winner, emptied, filled}
 use Rattle.lighting.specs.Value.{presentValue}
@@ -18,8 +21,7 @@ withEffect o s a = record { settings = o .settings; slots = s; activity = a; tim
 unfoldable pub passedOver : ℕ → Activity → Activity
 passedOver i Still = Still
 passedOver i (Moving m) = if ltb (m .owner) i then Moving m else Still
-passedOver i (Blink owner level turn over) = Blink owner level turn over
-passedOver i (Delay owner over) = Delay owner over
+passedOver i (Warned w) = Warned w
 
 -- 'Kinds 02 and 03 store in [..] slot P'
 unfoldable pub stored : Output → ℕ → ℕ → Output
@@ -52,13 +54,16 @@ warns c s x = warnsBy c s x (winner s) (presentValue c s)
 unfoldable pub firstLevel : Settings → ℕ → ℕ
 firstLevel c y = if eqb (c .blink) 0 then y else 0
 
-unfoldable pub firstPhase : ℕ → Settings → ℕ → ℕ → Activity
-firstPhase t c x y =
-    if eqb (c .blink) 0 then Delay x (t + c .delay) else Blink x y (t + c .blink) (t + c .blink + c .delay)
+unfoldable pub firstPhase : Settings → Phase
+firstPhase c = if eqb (c .blink) 0 then Delay else Blink
+
+unfoldable pub warningFrom : ℕ → Settings → ℕ → ℕ → Warning
+warningFrom t c x y =
+    record { phase = firstPhase c; owner = x; level = y; turn = t + c .blink; over = t + c .blink + c .delay }
 
 unfoldable pub warnedBy : ℕ → Output → ℕ → ℕ → Output
 warnedBy t o x y =
-    withEffect o (filled (filled (o .slots) x 0) slot6 (firstLevel (o .settings) y)) (firstPhase t (o .settings) x y)
+    withEffect o (filled (filled (o .slots) x 0) slot6 (firstLevel (o .settings) y)) (Warned (warningFrom t (o .settings) x y))
 
 unfoldable pub warned : ℕ → Output → ℕ → Output
 warned t o x = warnedBy t o x (presentValue (o .settings) (o .slots))
@@ -83,8 +88,7 @@ writtenCalm t o i v = if eqb v 0 then writtenZero t o i else stored o i v
 unfoldable pub writtenBy : ℕ → Output → ℕ → ℕ → Activity → Output
 writtenBy t o i v Still = writtenCalm t o i v
 writtenBy t o i v (Moving m) = writtenCalm t o i v
-writtenBy t o i v (Blink owner level turn over) = writtenWarned o i v
-writtenBy t o i v (Delay owner over) = writtenWarned o i v
+writtenBy t o i v (Warned w) = writtenWarned o i v
 
 unfoldable pub written : ℕ → Output → ℕ → ℕ → Output
 written t o i v = writtenBy t o i v (o .activity)

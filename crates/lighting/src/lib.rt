@@ -47,27 +47,38 @@ pub struct Movement {
     pub pace: Pace,
 }
 
-// What is under way. A warning of the slot `owner` has two phases: in Blink slot 6 holds 0 until `turn`; in Delay it holds the old
-// level until `over`. Without a delay `over` is `turn`, and no Delay follows. Never a movement and a warning together.
+// The phases of a warning: in Blink slot 6 holds 0 until the moment `turn`; in Delay it holds the old level until the moment `over`.
+pub enum Phase {
+    Blink,
+    Delay,
+}
+
+// The warning of the slot `owner`. `level` is the paper's Y. Without a delay `over` is `turn`, and no Delay follows.
+pub struct Warning {
+    pub phase: Phase,
+    pub owner: u8,
+    pub level: u32,
+    pub turn: u64,
+    pub over: u64,
+}
+
+// What is under way. Never a movement and a warning together.
 pub enum Activity {
     Still,
     Moving(Movement),
-    Blink {
-        owner: u8,
-        level: u32,
-        turn: u64,
-        over: u64,
-    },
-    Delay {
-        owner: u8,
-        over: u64,
-    },
+    Warned(Warning),
 }
 
 // The duration that is running: its slot empties at `due`.
 pub enum Timer {
     Off,
     Running { slot: u8, due: u64 },
+}
+
+// When something falls due next: a running duration, a movement or a warning.
+pub enum Moment {
+    Never,
+    At(u64),
 }
 
 // A command's duration field: so many milliseconds, 0, or FFFFFFFF.

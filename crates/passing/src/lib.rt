@@ -1,10 +1,9 @@
 // The passing of time: from due moment to due moment, at most three an output and frame. Nothing here lives a millisecond by itself.
 ghost use mathlib.Core.Path.{_≡_};
 ghost use Prim.Native.Nat.{_+_, min};
-ghost use Rattle.lighting.specs.Passing.{withBurning, glowing, timerDue, activityDue, due, gained, hop, hops, advance, later};
-use lighting::Activity;
+ghost use Rattle.lighting.specs.Passing.{withBurning, glowing, sooner, due, gained, hop, hops, advance, later};
+use lighting::Moment;
 use lighting::Output;
-use lighting::Timer;
 
 fn least(a: u64, b: u64) -> u64
     ensures { λ r. ⌜ r ≡ min a b ⌝ }
@@ -50,28 +49,12 @@ fn gain(from: u64, n: u64, o: Output) -> Output
 
 // ---- the next due moment, or `to` if nothing falls due before it
 
-fn timer_due(to: u64, m: Timer) -> u64
-    ensures { λ r. ⌜ r ≡ timerDue to m ⌝ }
+fn sooner(to: u64, d: Moment) -> u64
+    ensures { λ r. ⌜ r ≡ sooner to d ⌝ }
 {
-    match m {
-        Timer::Off => to,
-        Timer::Running { slot: _, due } => least(to, due),
-    }
-}
-
-fn activity_due(to: u64, a: Activity) -> u64
-    ensures { λ r. ⌜ r ≡ activityDue to a ⌝ }
-{
-    match a {
-        Activity::Still => to,
-        Activity::Moving(m) => least(to, m.over),
-        Activity::Blink {
-            owner: _,
-            level: _,
-            turn,
-            over: _,
-        } => least(to, turn),
-        Activity::Delay { owner: _, over } => least(to, over),
+    match d {
+        Moment::Never => to,
+        Moment::At(at) => least(to, at),
     }
 }
 
@@ -80,7 +63,7 @@ fn next_due(to: u64, o: Output) -> u64
 {
     let m = o.timer;
     let a = o.activity;
-    least(timer_due(to, m), activity_due(to, a))
+    sooner(sooner(to, due::activity_due(a)), due::timer_due(m))
 }
 
 // ---- three hops, and what is left of the way

@@ -61,13 +61,7 @@ pub fn unmove(a: Activity) -> Activity
     match a {
         Activity::Still => a,
         Activity::Moving(_) => Activity::Still,
-        Activity::Blink {
-            owner: _,
-            level: _,
-            turn: _,
-            over: _,
-        } => a,
-        Activity::Delay { owner: _, over: _ } => a,
+        Activity::Warned(_) => a,
     }
 }
 

@@ -7,7 +7,7 @@ use Rattle.lighting.specs.Choice.{if_then_else_}
 use Rattle.lighting.specs.Frames.{Bytes}
 use Rattle.lighting.specs.Value.{presentValue, progressValue, lit}
 use Rattle.lighting.specs.declared.Activity.{Activity}
-use Rattle.lighting.specs.declared.Activity.the-variants.{Still, Moving, Blink, Delay}
+use Rattle.lighting.specs.declared.Activity.the-variants.{Still, Moving, Warned}
 use Rattle.lighting.specs.declared.Timer.{Timer}
 use Rattle.lighting.specs.declared.Timer.the-variants.{Off, Running}
 use Rattle.lighting.specs.declared.Operation.{Operation}
@@ -76,8 +76,7 @@ until word t = word ++ moment t
 unfoldable pub activityText : Activity → Bytes
 activityText Still = []
 activityText (Moving m) = until (text "  moving until ") (m .over)
-activityText (Blink owner level turn over) = until (text "  blink warning until ") over
-activityText (Delay owner over) = until (text "  blink warning until ") over
+activityText (Warned w) = until (text "  blink warning until ") (w .over)
 
 unfoldable pub timerText : Timer → Bytes
 timerText Off = []

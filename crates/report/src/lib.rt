@@ -138,13 +138,7 @@ fn put_activity(page: &mut [u8], at: usize, a: Activity) -> usize
     match a {
         Activity::Still => at,
         Activity::Moving(m) => put_until(page, at, b"  moving until ", m.over),
-        Activity::Blink {
-            owner: _,
-            level: _,
-            turn: _,
-            over,
-        } => put_until(page, at, b"  blink warning until ", over),
-        Activity::Delay { owner: _, over } => put_until(page, at, b"  blink warning until ", over),
+        Activity::Warned(w) => put_until(page, at, b"  blink warning until ", w.over),
     }
 }
 

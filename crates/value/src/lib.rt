@@ -114,13 +114,7 @@ fn progress_by(t: u64, v: u32, a: Activity) -> u32
     match a {
         Activity::Still => v,
         Activity::Moving(m) => reached(t, m),
-        Activity::Blink {
-            owner: _,
-            level: _,
-            turn: _,
-            over: _,
-        } => v,
-        Activity::Delay { owner: _, over: _ } => v,
+        Activity::Warned(_) => v,
     }
 }
 
@@ -139,12 +133,6 @@ pub fn in_process(a: Activity) -> u32
     match a {
         Activity::Still => 0,
         Activity::Moving(_) => 1,
-        Activity::Blink {
-            owner: _,
-            level: _,
-            turn: _,
-            over: _,
-        } => 0,
-        Activity::Delay { owner: _, over: _ } => 0,
+        Activity::Warned(_) => 0,
     }
 }

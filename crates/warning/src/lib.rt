@@ -2,10 +2,11 @@
 // Slots are counted from 0: the paper's slot 6, which a warning holds, is 5. `t` is the moment, `c` the settings, `s` the slots, `x` the slot.
 ghost use mathlib.Core.Path.{_≡_};
 ghost use Prim.Native.Nat.{_<_, _^_};
-ghost use Rattle.lighting.specs.Writing.{dark, darkFrom, blinks, darkAbove, warnsBy, warns, firstLevel, firstPhase};
-use lighting::Activity;
+ghost use Rattle.lighting.specs.Writing.{dark, darkFrom, blinks, darkAbove, warnsBy, warns, firstLevel, firstPhase, warningFrom};
+use lighting::Phase;
 use lighting::Settings;
 use lighting::Slots;
+use lighting::Warning;
 
 // ---- whether it starts
 
@@ -91,22 +92,26 @@ pub fn first_level(c: Settings, y: u32) -> u32
     if c.blink == 0 { y } else { 0 }
 }
 
-// 'B, D and Y are those of the start': the phases' moments are made here, once.
-pub fn first_phase(t: u64, c: Settings, x: u8, y: u32) -> Activity
-    requires { ⌜ t < 2 ^ 48 ⌝ }
-    ensures { λ r. ⌜ r ≡ firstPhase t c x y ⌝ }
+fn first_phase(c: Settings) -> Phase
+    ensures { λ r. ⌜ r ≡ firstPhase c ⌝ }
 {
     if c.blink == 0 {
-        Activity::Delay {
-            owner: x,
-            over: t + c.delay as u64,
-        }
+        Phase::Delay
     } else {
-        Activity::Blink {
-            owner: x,
-            level: y,
-            turn: t + c.blink as u64,
-            over: t + c.blink as u64 + c.delay as u64,
-        }
+        Phase::Blink
+    }
+}
+
+// 'B, D and Y are those of the start': the phases' moments are made here, once.
+pub fn warning_from(t: u64, c: Settings, x: u8, y: u32) -> Warning
+    requires { ⌜ t < 2 ^ 48 ⌝ }
+    ensures { λ r. ⌜ r ≡ warningFrom t c x y ⌝ }
+{
+    Warning {
+        phase: first_phase(c),
+        owner: x,
+        level: y,
+        turn: t + c.blink as u64,
+        over: t + c.blink as u64 + c.delay as u64,
     }
 }

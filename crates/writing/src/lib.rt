@@ -33,13 +33,7 @@ fn pass_over(i: u8, a: Activity) -> Activity
     match a {
         Activity::Still => a,
         Activity::Moving(m) => if m.owner < i { a } else { Activity::Still },
-        Activity::Blink {
-            owner: _,
-            level: _,
-            turn: _,
-            over: _,
-        } => a,
-        Activity::Delay { owner: _, over: _ } => a,
+        Activity::Warned(_) => a,
     }
 }
 
@@ -62,7 +56,7 @@ fn warn_by(t: u64, o: Output, x: u8, y: u32) -> Output
     with_effect(
         o,
         slots::fill(slots::fill(s, x, 0), 5, warning::first_level(c, y)),
-        warning::first_phase(t, c, x, y),
+        Activity::Warned(warning::warning_from(t, c, x, y)),
     )
 }
 
@@ -140,13 +134,7 @@ fn write_by(t: u64, o: Output, i: u8, v: u32, a: Activity) -> Output
     match a {
         Activity::Still => write_calm(t, o, i, v),
         Activity::Moving(_) => write_calm(t, o, i, v),
-        Activity::Blink {
-            owner: _,
-            level: _,
-            turn: _,
-            over: _,
-        } => write_warned(o, i, v),
-        Activity::Delay { owner: _, over: _ } => write_warned(o, i, v),
+        Activity::Warned(_) => write_warned(o, i, v),
     }
 }
 

@@ -6,9 +6,8 @@ use Rattle.activities.proofs.activity_by.Statement.{statement}
 use Rattle.activities.proofs.activity_by.Tie as tie
 use Rattle.activities.proofs.activity_by.Reads as reads
 use Rattle.activities.proofs.activity_by.Lts as lts
-use Rattle.activities.proofs.blink_sound.Reads as blink-sound-reads
-use Rattle.activities.proofs.delay_sound.Reads as delay-sound-reads
 use Rattle.activities.proofs.movement_sound.Reads as movement-sound-reads
+use Rattle.activities.proofs.warning_sound.Reads as warning-sound-reads
 
 enum-told : tie.Need-enum-told
 enum-told c = search needs
@@ -22,14 +21,8 @@ movement-sound-requires c κs = search needs
 enum-known-a-2 : tie.Need-enum-known-a-2
 enum-known-a-2 c = search needs
 
-blink-sound-requires : tie.Need-blink-sound-requires
-blink-sound-requires c κs = search needs
-
-enum-known-a-3 : tie.Need-enum-known-a-3
-enum-known-a-3 c = search needs
-
-delay-sound-requires : tie.Need-delay-sound-requires
-delay-sound-requires c κs = search needs
+warning-sound-requires : tie.Need-warning-sound-requires
+warning-sound-requires c κs = search needs
 
 returns : tie.Need-returns
 unfolding activityBy
@@ -51,14 +44,6 @@ returns-5 : tie.Need-returns-5
 unfolding activityBy
 returns-5 c = search (needs, ifs, activityBy-on)
 
-returns-6 : tie.Need-returns-6
-unfolding activityBy
-returns-6 c = search (needs, ifs, activityBy-on)
-
-returns-7 : tie.Need-returns-7
-unfolding activityBy
-returns-7 c = search (needs, ifs, activityBy-on)
-
 pub activity-by-spec : {M : Type 1} → statement M
 activity-by-spec =
     tie.close
@@ -67,13 +52,9 @@ activity-by-spec =
     enum-known-a
     movement-sound-requires
     enum-known-a-2
-    blink-sound-requires
-    enum-known-a-3
-    delay-sound-requires
+    warning-sound-requires
     returns
     returns-2
     returns-3
     returns-4
-    returns-5
-    returns-6
-    returns-7)
+    returns-5)

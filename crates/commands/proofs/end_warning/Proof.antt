@@ -1,10 +1,12 @@
--- `commands::end_warning` meets its contract. Assumes nothing.
 use Rattle.lighting.proofs.Choosing.{ifs}
 use Rattle.lighting.proofs.Laws.{unwarned-on}
 use Rattle.lighting.specs.Commands.{unwarned}
 use borrow.Author.Needs.{needs}
 use Rattle.commands.proofs.end_warning.Statement.{statement}
 use Rattle.commands.proofs.end_warning.Tie as tie
+use Rattle.commands.proofs.end_warning.Reads as reads
+use Rattle.commands.proofs.end_warning.Lts as lts
+use Rattle.slots.proofs.empty.Reads as empty-reads
 
 enum-told : tie.Need-enum-told
 enum-told c = search needs
@@ -18,12 +20,6 @@ enum-told-3 c = search needs
 empty-requires : tie.Need-empty-requires
 empty-requires c κs = search needs
 
-enum-told-4 : tie.Need-enum-told-4
-enum-told-4 c = search needs
-
-empty-requires-2 : tie.Need-empty-requires-2
-empty-requires-2 c κs = search needs
-
 returns : tie.Need-returns
 unfolding unwarned
 returns c = search (needs, ifs, unwarned-on)
@@ -36,21 +32,7 @@ returns-3 : tie.Need-returns-3
 unfolding unwarned
 returns-3 c = search (needs, ifs, unwarned-on)
 
-returns-4 : tie.Need-returns-4
-unfolding unwarned
-returns-4 c = search (needs, ifs, unwarned-on)
-
 pub end-warning-spec : {M : Type 1} → statement M
 end-warning-spec =
     tie.close
-    (tie.spec
-    enum-told
-    enum-told-2
-    enum-told-3
-    empty-requires
-    enum-told-4
-    empty-requires-2
-    returns
-    returns-2
-    returns-3
-    returns-4)
+    (tie.spec enum-told enum-told-2 enum-told-3 empty-requires returns returns-2 returns-3)

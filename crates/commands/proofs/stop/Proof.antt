@@ -25,9 +25,6 @@ halt-requires c κs = search needs
 enum-told-2 : tie.Need-enum-told-2
 enum-told-2 c = search needs
 
-enum-told-3 : tie.Need-enum-told-3
-enum-told-3 c = search needs
-
 returns : tie.Need-returns
 unfolding stopped
 returns c = search (needs, ifs, stopped-on, same-effect)
@@ -44,10 +41,6 @@ returns-4 : tie.Need-returns-4
 unfolding stopped
 returns-4 c = search (needs, ifs, stopped-on, same-effect)
 
-returns-5 : tie.Need-returns-5
-unfolding stopped
-returns-5 c = search (needs, ifs, stopped-on, same-effect)
-
 pub stop-spec : {M : Type 1} → statement M
 stop-spec =
     tie.close
@@ -56,9 +49,7 @@ stop-spec =
     enum-known-a
     halt-requires
     enum-told-2
-    enum-told-3
     returns
     returns-2
     returns-3
-    returns-4
-    returns-5)
+    returns-4)

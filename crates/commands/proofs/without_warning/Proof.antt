@@ -1,10 +1,11 @@
--- `commands::without_warning` meets its contract. Assumes nothing.
 use Rattle.lighting.proofs.Choosing.{ifs}
 use Rattle.lighting.proofs.Laws.{unwarnedActivity-on}
 use Rattle.lighting.specs.Commands.{unwarnedActivity}
 use borrow.Author.Needs.{needs}
 use Rattle.commands.proofs.without_warning.Statement.{statement}
 use Rattle.commands.proofs.without_warning.Tie as tie
+use Rattle.commands.proofs.without_warning.Reads as reads
+use Rattle.commands.proofs.without_warning.Lts as lts
 
 enum-told : tie.Need-enum-told
 enum-told c = search needs
@@ -14,9 +15,6 @@ enum-told-2 c = search needs
 
 enum-told-3 : tie.Need-enum-told-3
 enum-told-3 c = search needs
-
-enum-told-4 : tie.Need-enum-told-4
-enum-told-4 c = search needs
 
 returns : tie.Need-returns
 unfolding unwarnedActivity
@@ -30,11 +28,6 @@ returns-3 : tie.Need-returns-3
 unfolding unwarnedActivity
 returns-3 c = search (needs, ifs, unwarnedActivity-on)
 
-returns-4 : tie.Need-returns-4
-unfolding unwarnedActivity
-returns-4 c = search (needs, ifs, unwarnedActivity-on)
-
 pub without-warning-spec : {M : Type 1} → statement M
 without-warning-spec =
-    tie.close
-    (tie.spec enum-told enum-told-2 enum-told-3 enum-told-4 returns returns-2 returns-3 returns-4)
+    tie.close (tie.spec enum-told enum-told-2 enum-told-3 returns returns-2 returns-3)

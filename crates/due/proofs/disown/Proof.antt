@@ -16,9 +16,6 @@ enum-known-a c = search needs
 enum-told-2 : tie.Need-enum-told-2
 enum-told-2 c = search needs
 
-enum-told-3 : tie.Need-enum-told-3
-enum-told-3 c = search needs
-
 returns : tie.Need-returns
 unfolding disowned
 returns c = search (needs, ifs, disowned-on)
@@ -35,20 +32,6 @@ returns-4 : tie.Need-returns-4
 unfolding disowned
 returns-4 c = search (needs, ifs, disowned-on)
 
-returns-5 : tie.Need-returns-5
-unfolding disowned
-returns-5 c = search (needs, ifs, disowned-on)
-
 pub disown-spec : {M : Type 1} → statement M
 disown-spec =
-    tie.close
-    (tie.spec
-    enum-told
-    enum-known-a
-    enum-told-2
-    enum-told-3
-    returns
-    returns-2
-    returns-3
-    returns-4
-    returns-5)
+    tie.close (tie.spec enum-told enum-known-a enum-told-2 returns returns-2 returns-3 returns-4)

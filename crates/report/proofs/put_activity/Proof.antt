@@ -29,15 +29,6 @@ slice-aggregate-put-until-2 c = search needs
 put-until-requires-2 : tie.Need-put-until-requires-2
 put-until-requires-2 c κs = search needs
 
-enum-known-a-3 : tie.Need-enum-known-a-3
-enum-known-a-3 c = search needs
-
-slice-aggregate-put-until-3 : tie.Need-slice-aggregate-put-until-3
-slice-aggregate-put-until-3 c = search needs
-
-put-until-requires-3 : tie.Need-put-until-requires-3
-put-until-requires-3 c κs = search needs
-
 returns : tie.Need-returns
 unfolding activityText
 returns c = search (needs, activityText-on, choices)
@@ -56,13 +47,6 @@ returns-3 : tie.Need-returns-3
 unfolding activityText
 returns-3 c = search (needs, activityText-on, choices)
 
-same-length-3 : tie.Need-same-length-3
-same-length-3 c = search needs
-
-returns-4 : tie.Need-returns-4
-unfolding activityText
-returns-4 c = search (needs, activityText-on, choices)
-
 pub put-activity-spec : {M : Type 1} → statement M
 put-activity-spec =
     tie.close
@@ -74,13 +58,8 @@ put-activity-spec =
     enum-known-a-2
     slice-aggregate-put-until-2
     put-until-requires-2
-    enum-known-a-3
-    slice-aggregate-put-until-3
-    put-until-requires-3
     returns
     same-length
     returns-2
     same-length-2
-    returns-3
-    same-length-3
-    returns-4)
+    returns-3)

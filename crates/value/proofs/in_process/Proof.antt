@@ -16,9 +16,6 @@ enum-told-2 c = search needs
 enum-told-3 : tie.Need-enum-told-3
 enum-told-3 c = search needs
 
-enum-told-4 : tie.Need-enum-told-4
-enum-told-4 c = search needs
-
 returns : tie.Need-returns
 unfolding inProcess
 returns c = search (needs, ifs, inProcess-on)
@@ -31,11 +28,6 @@ returns-3 : tie.Need-returns-3
 unfolding inProcess
 returns-3 c = search (needs, ifs, inProcess-on)
 
-returns-4 : tie.Need-returns-4
-unfolding inProcess
-returns-4 c = search (needs, ifs, inProcess-on)
-
 pub in-process-spec : {M : Type 1} → statement M
 in-process-spec =
-    tie.close
-    (tie.spec enum-told enum-told-2 enum-told-3 enum-told-4 returns returns-2 returns-3 returns-4)
+    tie.close (tie.spec enum-told enum-told-2 enum-told-3 returns returns-2 returns-3)

@@ -20,9 +20,6 @@ reached-requires c κs = search needs
 enum-told-2 : tie.Need-enum-told-2
 enum-told-2 c = search needs
 
-enum-told-3 : tie.Need-enum-told-3
-enum-told-3 c = search needs
-
 returns : tie.Need-returns
 unfolding progressBy
 returns c = search (needs, ifs, progressBy-on)
@@ -35,20 +32,7 @@ returns-3 : tie.Need-returns-3
 unfolding progressBy
 returns-3 c = search (needs, ifs, progressBy-on)
 
-returns-4 : tie.Need-returns-4
-unfolding progressBy
-returns-4 c = search (needs, ifs, progressBy-on)
-
 pub progress-by-spec : {M : Type 1} → statement M
 progress-by-spec =
     tie.close
-    (tie.spec
-    enum-told
-    enum-known-a
-    reached-requires
-    enum-told-2
-    enum-told-3
-    returns
-    returns-2
-    returns-3
-    returns-4)
+    (tie.spec enum-told enum-known-a reached-requires enum-told-2 returns returns-2 returns-3)

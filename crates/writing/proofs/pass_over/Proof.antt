@@ -15,9 +15,6 @@ enum-known-a c = search needs
 enum-told-2 : tie.Need-enum-told-2
 enum-told-2 c = search needs
 
-enum-told-3 : tie.Need-enum-told-3
-enum-told-3 c = search needs
-
 returns : tie.Need-returns
 unfolding passedOver
 returns c = search (needs, ifs, passedOver-on)
@@ -34,10 +31,6 @@ returns-4 : tie.Need-returns-4
 unfolding passedOver
 returns-4 c = search (needs, ifs, passedOver-on)
 
-returns-5 : tie.Need-returns-5
-unfolding passedOver
-returns-5 c = search (needs, ifs, passedOver-on)
-
 pub pass-over-spec : {M : Type 1} → statement M
 pass-over-spec =
     tie.close
@@ -45,9 +38,7 @@ pass-over-spec =
     enum-told
     enum-known-a
     enum-told-2
-    enum-told-3
     returns
     returns-2
     returns-3
-    returns-4
-    returns-5)
+    returns-4)

@@ -13,15 +13,15 @@ first-level-requires c κs = search needs
 fill-requires-2 : tie.Need-fill-requires-2
 fill-requires-2 c κs = search needs
 
-first-phase-requires : tie.Need-first-phase-requires
-first-phase-requires c κs = search needs
+warning-from-requires : tie.Need-warning-from-requires
+warning-from-requires c κs = search needs
 
 with-effect-requires : tie.Need-with-effect-requires
 with-effect-requires c κs = search needs
 
 returns : tie.Need-returns
 unfolding warnedBy
-returns c = simp (c .with-effect .ensures, c .before .first-phase .ensures, c .before .before .fill2 .ensures, c .before .before .before .first-level .ensures, c .before .before .before .before .fill .ensures)
+returns c = simp (c .with-effect .ensures, c .before .warning-from .ensures, c .before .before .fill2 .ensures, c .before .before .before .first-level .ensures, c .before .before .before .before .fill .ensures)
 
 pub warn-by-spec : {M : Type 1} → statement M
 warn-by-spec =
@@ -30,6 +30,6 @@ warn-by-spec =
     fill-requires
     first-level-requires
     fill-requires-2
-    first-phase-requires
+    warning-from-requires
     with-effect-requires
     returns)

@@ -24,12 +24,6 @@ enum-told-3 c = search needs
 write-warned-requires : tie.Need-write-warned-requires
 write-warned-requires c κs = search needs
 
-enum-told-4 : tie.Need-enum-told-4
-enum-told-4 c = search needs
-
-write-warned-requires-2 : tie.Need-write-warned-requires-2
-write-warned-requires-2 c κs = search needs
-
 returns : tie.Need-returns
 unfolding writtenBy
 returns c = search (needs, ifs, writtenBy-on)
@@ -42,10 +36,6 @@ returns-3 : tie.Need-returns-3
 unfolding writtenBy
 returns-3 c = search (needs, ifs, writtenBy-on)
 
-returns-4 : tie.Need-returns-4
-unfolding writtenBy
-returns-4 c = search (needs, ifs, writtenBy-on)
-
 pub write-by-spec : {M : Type 1} → statement M
 write-by-spec =
     tie.close
@@ -56,9 +46,6 @@ write-by-spec =
     write-calm-requires-2
     enum-told-3
     write-warned-requires
-    enum-told-4
-    write-warned-requires-2
     returns
     returns-2
-    returns-3
-    returns-4)
+    returns-3)

@@ -16,9 +16,6 @@ enum-told-2 c = search needs
 enum-told-3 : tie.Need-enum-told-3
 enum-told-3 c = search needs
 
-enum-told-4 : tie.Need-enum-told-4
-enum-told-4 c = search needs
-
 returns : tie.Need-returns
 unfolding unmoved
 returns c = search (needs, ifs, unmoved-on)
@@ -31,11 +28,5 @@ returns-3 : tie.Need-returns-3
 unfolding unmoved
 returns-3 c = search (needs, ifs, unmoved-on)
 
-returns-4 : tie.Need-returns-4
-unfolding unmoved
-returns-4 c = search (needs, ifs, unmoved-on)
-
 pub unmove-spec : {M : Type 1} → statement M
-unmove-spec =
-    tie.close
-    (tie.spec enum-told enum-told-2 enum-told-3 enum-told-4 returns returns-2 returns-3 returns-4)
+unmove-spec = tie.close (tie.spec enum-told enum-told-2 enum-told-3 returns returns-2 returns-3)

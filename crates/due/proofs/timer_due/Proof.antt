@@ -2,20 +2,16 @@ use Rattle.lighting.proofs.Choosing.{ifs}
 use Rattle.lighting.proofs.Laws.{timerDue-on}
 use Rattle.lighting.specs.Passing.{timerDue}
 use borrow.Author.Needs.{needs}
-use Rattle.passing.proofs.timer_due.Statement.{statement}
-use Rattle.passing.proofs.timer_due.Tie as tie
-use Rattle.passing.proofs.timer_due.Reads as reads
-use Rattle.passing.proofs.timer_due.Lts as lts
-use Rattle.passing.proofs.least.Reads as least-reads
+use Rattle.due.proofs.timer_due.Statement.{statement}
+use Rattle.due.proofs.timer_due.Tie as tie
+use Rattle.due.proofs.timer_due.Reads as reads
+use Rattle.due.proofs.timer_due.Lts as lts
 
 enum-told : tie.Need-enum-told
 enum-told c = search needs
 
 enum-known-m : tie.Need-enum-known-m
 enum-known-m c = search needs
-
-least-requires : tie.Need-least-requires
-least-requires c κs = search needs
 
 returns : tie.Need-returns
 unfolding timerDue
@@ -26,4 +22,4 @@ unfolding timerDue
 returns-2 c = search (needs, ifs, timerDue-on)
 
 pub timer-due-spec : {M : Type 1} → statement M
-timer-due-spec = tie.close (tie.spec enum-told enum-known-m least-requires returns returns-2)
+timer-due-spec = tie.close (tie.spec enum-told enum-known-m returns returns-2)
