@@ -1,9 +1,9 @@
-use Rattle.lighting.specs.Rules.{isAmount}
+use Rattle.lighting.specs.Rows.{isAmount}
 use borrow.Author.Needs.{needs}
-use Rattle.rules.proofs.is_amount.Statement.{statement}
-use Rattle.rules.proofs.is_amount.Tie as tie
-use Rattle.rules.proofs.is_amount.Reads as reads
-use Rattle.rules.proofs.is_amount.Lts as lts
+use Rattle.ranges.proofs.rows.is_amount.Statement.{statement}
+use Rattle.ranges.proofs.rows.is_amount.Tie as tie
+use Rattle.ranges.proofs.rows.is_amount.Reads as reads
+use Rattle.ranges.proofs.rows.is_amount.Lts as lts
 use Rattle.level.proofs.amount_of_real.Reads as amount-of-real-reads
 use Rattle.level.proofs.in_range.Reads as in-range-reads
 
