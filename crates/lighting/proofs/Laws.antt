@@ -10,7 +10,7 @@ use Rattle.lighting.specs.Panel.{met, stationOf, carried, Panel, Step}
 use Rattle.lighting.specs.Parameters.{Parameters}
 use Rattle.lighting.specs.Passing.{timerAt, expired, disowned, released, activityAt, slotsAt, timerDue, activityDue}
 use Rattle.lighting.specs.Properties.{numberOf, changeTo, changeBy, unmoved, operationNumber, lastLevel, lastRate, lastStep, lastFadeTime, lastDuration, shown}
-use Rattle.lighting.specs.Rows.{meets, meetsReal}
+use Rattle.lighting.specs.Rows.{rowOf, meets, meetsReal}
 use Rattle.lighting.specs.Rules.{activityBy, timerSound}
 use Rattle.lighting.specs.Slots.{Slots}
 use Rattle.lighting.specs.Value.{gone, progressBy, inProcess}
@@ -146,6 +146,9 @@ lastDuration-on x0 k r e p = rw e p
 
 pub shown-on : (x0 : ℕ) (x1 : Output) (x2 : Property) (k : Property) (r : Answer) → x2 ≡ k → r ≡ shown x0 x1 k → r ≡ shown x0 x1 x2
 shown-on x0 x1 x2 k r e p = rw e p
+
+pub rowOf-on : (x0 : Parameters) (x1 : Property) (k : Property) (r : Range) → x1 ≡ k → r ≡ rowOf x0 k → r ≡ rowOf x0 x1
+rowOf-on x0 x1 k r e p = rw e p
 
 pub meets-on : (x0 : Range) (x1 : ℕ) (k : Range) (r : Bool) → x0 ≡ k → r ≡ meets k x1 → r ≡ meets x0 x1
 meets-on x0 x1 k r e p = rw e p

@@ -5,7 +5,7 @@ use Prim.Native.Nat.{ℕ, _+_, _-_}
 use native.Mathlib.Omega.{arith}
 use lib.Dec.{leb}
 use Rattle.lighting.specs.Choice.{if_then_else_}
-use Rattle.lighting.specs.Parameters.{Parameters, standard}
+use Rattle.lighting.specs.Parameters.{standard}
 use Rattle.lighting.specs.Level.{real, levelOf, limitOf}
 use Rattle.lighting.specs.Rows.{rowOf, within, isAmount, isPriority}
 use Rattle.lighting.specs.Properties.{propertyOf, numberOf, same, changeTo, changeBy, changeOf}
@@ -21,10 +21,6 @@ use Rattle.lighting.proofs.Ranges.{level-units, limit-units}
 use Rattle.lighting.proofs.Facts.{Slot, Meets}
 use Rattle.lighting.proofs.Tied.{within-of, slot-of}
 use Rattle.lighting.proofs.Good.{Good}
-
--- THE ROW of a property that a match has found
-pub rowOf-on : (p : Parameters) (n k : Property) (r : Range) → n ≡ k → r ≡ rowOf p k → r ≡ rowOf p n
-rowOf-on p n k r e h = rw e h
 
 -- A WRITE's request is good, by the row
 pub priority-of : (n : ℕ) → isPriority n ≡ true → Slot (n - 1)

@@ -1,4 +1,4 @@
-use Rattle.lighting.proofs.Rows.{rowOf-on}
+use Rattle.lighting.proofs.Laws.{rowOf-on}
 use borrow.Author.Needs.{needs}
 use Rattle.ranges.proofs.rows.row_of.Statement.{statement}
 use Rattle.ranges.proofs.rows.row_of.Tie as tie
