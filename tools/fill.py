@@ -20,6 +20,7 @@ for path in glob.glob(root + '/src/*.rt'):
         defined[m.group(1)] = m.group(2)
 own = 'Rattle.lighting.proofs' if crate == 'lighting' else 'Rattle.lighting.proofs'
 stands = {}
+open_already = set(re.findall(r'^abbrev pub (\w+)', ''.join(open(p).read() for p in glob.glob('crates/lighting/specs/*.antt')), re.M))
 for path, name in [('crates/lighting', own), (root, 'Rattle.%s.proofs' % crate)]:
     for m in re.finditer(r'^pub (\w+)-on :', open(path + '/proofs/Laws.antt').read() if os.path.exists(path + '/proofs/Laws.antt') else '', re.M):
         laws.add(m.group(1))
@@ -34,7 +35,8 @@ for path in glob.glob(root + '/proofs/**/Proof.antt', recursive=True):
     calls = [a + b for a, b in re.findall(r'^(\S+?)-requires(?:-(\d+))? c κs', text, re.M)]
     facts = ['c' + ' .before' * i + ' .%s .ensures' % name for i, name in enumerate(reversed(calls))]
     tactic = 'simp (%s)' % ', '.join(facts) if one and calls else 'search (needs, ifs%s)' % (', %s-on' % d if d in laws else '')
-    text = re.sub(r'^(returns\S*) c = \?', lambda m: 'unfolding %s\n%s c = %s' % (d, m.group(1), tactic), text, flags=re.M)
+    opened = '' if d in open_already else 'unfolding %s\n' % d
+    text = re.sub(r'^(returns\S*) c = \?', lambda m: '%s%s c = %s' % (opened, m.group(1), tactic), text, flags=re.M)
     head = ''
     if 'Needs.{needs}' not in text:
         head += 'use borrow.Author.Needs.{needs}\n'
@@ -42,7 +44,7 @@ for path in glob.glob(root + '/proofs/**/Proof.antt', recursive=True):
         head += 'use %s.Choosing.{ifs}\n' % own
     if '-on' in tactic:
         head += 'use %s.Laws.{%s-on}\n' % (stands[d], d)
-    if d in where:
+    if d in where and opened:
         head += 'use %s.{%s}\n' % (where[d], d)
     open(path, 'w').write(head + text)
     print('filled', function, 'by', tactic, 'holes left:', text.count('= ?'))

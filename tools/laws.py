@@ -8,6 +8,8 @@ import sys
 
 # definitions that no code implements
 WITHOUT_CODE = {'Plain', 'Demand'}
+# those that code implements and that unfold everywhere
+OPEN = {'rowOf'}
 OUT = 'crates/lighting/proofs/Laws.antt'
 
 laws, names, definitions, types = [], [], {}, {}
@@ -16,8 +18,10 @@ for path in sorted(glob.glob('crates/lighting/specs/*.antt')):
     if module in WITHOUT_CODE:
         continue
     text = open(path).read()
-    for m in re.finditer(r'^unfoldable pub (\w+) : (.*)\n((?:.+\n?)*)', text, re.M):
+    for m in re.finditer(r'^(?:unfoldable|abbrev) pub (\w+) : (.*)\n((?:.+\n?)*)', text, re.M):
         name, signature, body = m.groups()
+        if m.group().startswith('abbrev') and name not in OPEN:
+            continue
         parts = [p.strip() for p in signature.split(' → ')]
         arguments, result = parts[:-1], parts[-1]
         clauses = [l for l in body.split('\n') if l.startswith(name + ' ')]

@@ -7,8 +7,8 @@ ghost use Rattle.lighting.specs.Acting.{made, left, changedUnless, acted};
 use lighting::Answer;
 use lighting::Outcome;
 use lighting::Output;
+use lighting::Property;
 use lighting::Request;
-use lighting::Setting;
 
 // The output changed, and judged.
 fn make(o: Output) -> Outcome
@@ -30,26 +30,27 @@ fn leave(o: Output, a: Answer) -> Outcome
     }
 }
 
-// A write of a setting, unless it would leave Min over Max.
-fn change_unless(m: bool, o: Output, n: Setting) -> Outcome
-    ensures { λ r. ⌜ r ≡ changedUnless m o n ⌝ }
+// A write of a property, unless it would leave Min over Max.
+fn change_unless(m: bool, o: Output, n: Property, v: u32) -> Outcome
+    ensures { λ r. ⌜ r ≡ changedUnless m o n v ⌝ }
 {
     if m {
         leave(o, Answer::Refused(13))
     } else {
-        make(properties::settings::change(o, n))
+        make(properties::settings::change(o, n, v))
     }
 }
 
 // The settings as they would be decide.
-fn change(o: Output, n: Setting) -> Outcome
-    ensures { λ r. ⌜ r ≡ changedUnless (minOverMax (settingsWith (o .settings) n)) o n ⌝ }
+fn change(o: Output, n: Property, v: u32) -> Outcome
+    ensures { λ r. ⌜ r ≡ changedUnless (minOverMax (settingsWith (o .settings) n v)) o n v ⌝ }
 {
     let c = o.settings;
     change_unless(
-        properties::settings::min_over_max(properties::settings::settings_with(c, n)),
+        properties::settings::min_over_max(properties::settings::settings_with(c, n, v)),
         o,
         n,
+        v,
     )
 }
 
@@ -61,7 +62,7 @@ pub fn act(t: u64, o: Output, q: Request) -> Outcome
         Request::Refuse(number) => leave(o, Answer::Refused(number)),
         Request::Write { slot, level } => make(writing::write(t, o, slot, level)),
         Request::Empty { slot } => make(writing::vacate(o, slot)),
-        Request::Change(n) => change(o, n),
+        Request::Change { property, value } => change(o, property, value),
         Request::Read(property) => leave(o, answers::show(t, o, property)),
         Request::Order(k) => make(commands::command(t, o, k)),
     }

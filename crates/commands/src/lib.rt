@@ -3,7 +3,7 @@
 // any warning ended; `g` is a target, in units.
 ghost use mathlib.Core.Path.{_≡_};
 ghost use Prim.Native.Nat.{_<_, _^_, max};
-ghost use Rattle.lighting.specs.Commands.{unwarned, unwarnedActivity, jumped, wentTo, steppedUp, steppedDown, raised, halted, stopped, relinquished, effect, withCommand, commandedFrom, commanded};
+ghost use Rattle.lighting.specs.Commands.{unwarned, unwarnedActivity, jumped, wentTo, steppedUp, steppedDown, raised, halted, stopped, relinquished, effect, commandedFrom, commanded};
 use lighting::Activity;
 use lighting::Command;
 use lighting::Effect;
@@ -11,7 +11,6 @@ use lighting::Operation;
 use lighting::Output;
 use lighting::Settings;
 use lighting::Slots;
-use lighting::Timer;
 
 // ---- 'and first ends any warning by emptying slot 6'
 
@@ -140,22 +139,6 @@ fn make_effect(t: u64, c: Settings, f: u32, s: Slots, a: Activity, k: Operation)
     }
 }
 
-fn with_command(o: Output, n: Effect, m: Timer, k: Command) -> Output
-    ensures { λ r. ⌜ r ≡ withCommand o n m k ⌝ }
-{
-    let settings = o.settings;
-    let slots = n.slots;
-    let activity = n.activity;
-    Output {
-        settings,
-        slots,
-        activity,
-        timer: m,
-        burning: o.burning,
-        last: k,
-    }
-}
-
 fn command_from(t: u64, o: Output, f: u32, k: Command) -> Output
     requires { ⌜ t < 2 ^ 48 ⌝ }
     ensures { λ r. ⌜ r ≡ commandedFrom t o f k ⌝ }
@@ -167,7 +150,7 @@ fn command_from(t: u64, o: Output, f: u32, k: Command) -> Output
     let operation = k.operation;
     let duration = k.duration;
     let n = make_effect(t, c, f, end_warning(s, a), without_warning(a), operation);
-    with_command(o, n, durations::time(t, c.slot, m, duration), k)
+    record::with_command(o, n, durations::time(t, c.slot, m, duration), k)
 }
 
 // 'It starts from Progress_Value before it': not from Present_Value, at which a running movement only aims.

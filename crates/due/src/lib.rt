@@ -225,18 +225,14 @@ pub fn settle(o: Output) -> Output
 pub fn fire_at(t: u64, o: Output) -> Output
     ensures { λ r. ⌜ r ≡ fire t o ⌝ }
 {
-    let settings = o.settings;
-    let last = o.last;
     let timer = o.timer;
     let activity = o.activity;
     let slots = o.slots;
     let left = release(t, timer, activity);
-    settle(Output {
-        settings,
-        slots: slots_at(t, left, expire(t, timer, slots)),
-        activity: activity_at(t, left),
-        timer: timer_at(t, timer),
-        burning: o.burning,
-        last,
-    })
+    settle(record::with_due(
+        o,
+        slots_at(t, left, expire(t, timer, slots)),
+        activity_at(t, left),
+        timer_at(t, timer),
+    ))
 }

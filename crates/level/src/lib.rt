@@ -16,7 +16,7 @@ fn nan_bits(pattern: u32) -> bool
 }
 
 // The REAL that a pattern stands for.
-fn real_from(pattern: u32) -> f32
+pub fn real_from(pattern: u32) -> f32
     ensures { λ r. ⌜ r ≡ real pattern ⌝ }
 {
     if nan_bits(pattern) {

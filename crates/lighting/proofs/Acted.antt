@@ -19,7 +19,7 @@ unfolding acted made left settled changedUnless if_then_else_
 acted-sound t o (Refuse n) g h = h
 acted-sound t o (Write i v) g h = written-sound t o i v (g .0) (g .1) h
 acted-sound t o (Empty i) g h = vacated-sound t o i g h
-acted-sound t o (Change n) g h =
-    by-bool (minOverMax (settingsWith (o .settings) n)) (λ e. rw e h) (λ e. rw e (changed-sound t o n g e h))
+acted-sound t o (Change n v) g h =
+    by-bool (minOverMax (settingsWith (o .settings) n v)) (λ e. rw e h) (λ e. rw e (changed-sound t o n v g e h))
 acted-sound t o (Read n) g h = h
 acted-sound t o (Order k) g h = commanded-sound t o k (g .0) (g .1) h

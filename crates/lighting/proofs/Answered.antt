@@ -124,9 +124,9 @@ unfolding acted made left changedUnless refusalOf if_then_else_
 acted-not-one t o (Refuse n) g = record { other = omega arith }
 acted-not-one t o (Write i v) g = record { other = omega arith }
 acted-not-one t o (Empty i) g = record { other = omega arith }
-acted-not-one t o (Change n) g =
+acted-not-one t o (Change n v) g =
     by-bool
-    (minOverMax (settingsWith (o .settings) n))
+    (minOverMax (settingsWith (o .settings) n v))
     (λ e. rw e (record { other = omega arith }))
     (λ e. rw e (record { other = omega arith }))
 acted-not-one t o (Read n) g = shown-not-one t o n

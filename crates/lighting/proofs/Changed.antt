@@ -1,36 +1,61 @@
 -- Kind 04 keeps the record rules. Assumes nothing.
-use mathlib.Core.Path.{_≡_, refl, _∙_}
-use mathlib.Core.Bool.{false}
-use Prim.Native.Nat.{ℕ, _≤_}
+use mathlib.Core.Path.{_≡_, refl, sym, _∙_}
+use mathlib.Core.Bool.{true, false}
+use Prim.Native.Nat.{ℕ, _%_, _≤_}
+use native.Mathlib.Nat.{mod-eq-of-lt}
 use native.Mathlib.Omega.{arith}
+use lib.Ieee.{Float}
 use lib.ListN.{length}
+use Rattle.lighting.specs.Choice.{if_then_else_}
+use Rattle.lighting.specs.Parameters.{standard}
+use Rattle.lighting.specs.Level.{real}
 use Rattle.lighting.specs.Slots.{Slots, topmost}
 use Rattle.lighting.specs.Value.{presentValue}
-use Rattle.lighting.specs.Properties.{settingsWith, unmoved, activityWith, burningWith, changed, minOverMax}
+use Rattle.lighting.specs.Record.{withSettings}
+use Rattle.lighting.specs.Rows.{rowOf, isAmount, meetsReal}
+use Rattle.lighting.specs.Properties.{same, settingsWith, unmoved, activityWith, burningWith, changed, minOverMax}
 use Rattle.lighting.specs.declared.Settings.{Settings}
 use Rattle.lighting.specs.declared.Activity.{Activity}
 use Rattle.lighting.specs.declared.Activity.the-variants.{Still, Moving, Warned}
-use Rattle.lighting.specs.declared.Setting.{Setting}
-use Rattle.lighting.specs.declared.Setting.the-variants.{SetDefault, SetFade, SetRamp, SetStep, SetEnable, SetBlink, SetDelay, SetMin, SetMax, SetSlot, ClearBurning}
+use Rattle.lighting.specs.declared.Property.{Property}
+use Rattle.lighting.specs.declared.Property.the-variants.{RelinquishDefault, FadeTime, RampRate, StepIncrement, BlinkTime, BlinkWarnDelay, MinValue, MaxValue, CommandPriority, ElapsedActiveTime}
+use Rattle.lighting.specs.declared.Range.the-variants.{Amount}
 use Rattle.lighting.specs.declared.Output.{Output}
-use Rattle.lighting.proofs.Split.{not-lt}
+use Rattle.lighting.proofs.Split.{by-bool, not-lt}
 use Rattle.lighting.proofs.Winner.{topmost-live}
-use Rattle.lighting.proofs.Facts.{Settled, Acts, Sound}
-use Rattle.lighting.proofs.Good.{GoodSetting}
+use Rattle.lighting.proofs.Facts.{Slot, Meets, Settled, Acts, Sound}
+use Rattle.lighting.proofs.Rows.{same-row, kept-met}
 
-settings-kept : (c : Settings) (n : Setting) → GoodSetting n → minOverMax (settingsWith c n) ≡ false → Settled c → Settled (settingsWith c n)
-unfolding settingsWith minOverMax
-settings-kept c (SetDefault v) g p h = search
-settings-kept c (SetFade v) g p h = search
-settings-kept c (SetRamp v) g p h = search
-settings-kept c (SetStep v) g p h = search
-settings-kept c (SetEnable v) g p h = search
-settings-kept c (SetBlink v) g p h = search
-settings-kept c (SetDelay v) g p h = search
-settings-kept c (SetMin v) g p h = let l : v ≤ c .max = not-lt p in search arith
-settings-kept c (SetMax v) g p h = let l : c .min ≤ v = not-lt p in search arith
-settings-kept c (SetSlot v) g p h = search
-settings-kept c ClearBurning g p h = h
+-- a REAL, and a slot in its byte
+real-kept : (field n : Property) (v : ℕ) (old : Float) → rowOf standard field ≡ Amount → Meets (rowOf standard n) v → isAmount old ≡ true
+    → isAmount (if same field n then real v else old) ≡ true
+unfolding if_then_else_
+real-kept field n v old r g h = by-bool (same field n) (λ e. rw e (rw (sym (same-row field n e) ∙ r) at g)) (λ e. rw e h)
+
+slot-kept : (n : Property) (v old : ℕ) → Meets (rowOf standard n) v → Slot old → Slot (if same CommandPriority n then v % 256 else old)
+unfolding if_then_else_
+slot-kept n v old g h =
+    by-bool
+    (same CommandPriority n)
+    (λ e. let k : Slot v = rw (sym (same-row CommandPriority n e)) at g in rw (e, mod-eq-of-lt {n = v} {m = 256} (omega arith)) k)
+    (λ e. rw e h)
+
+settings-kept : (c : Settings) (n : Property) (v : ℕ) → Meets (rowOf standard n) v → minOverMax (settingsWith c n v) ≡ false → Settled c
+    → Settled (settingsWith c n v)
+unfolding settingsWith minOverMax meetsReal
+settings-kept c n v g p h =
+    record {
+      default = kept-met RelinquishDefault n v (c .default) g (h .default);
+      min = kept-met MinValue n v (c .min) g (h .min);
+      max = kept-met MaxValue n v (c .max) g (h .max);
+      order = not-lt p;
+      fade = kept-met FadeTime n v (c .fade) g (h .fade);
+      blink = kept-met BlinkTime n v (c .blink) g (h .blink);
+      delay = kept-met BlinkWarnDelay n v (c .delay) g (h .delay);
+      ramp = real-kept RampRate n v (c .ramp) refl g (h .ramp);
+      step = real-kept StepIncrement n v (c .step) refl g (h .step);
+      slot = slot-kept n v (c .slot) g (h .slot);
+    }
 
 unmoved-acts : (t : ℕ) (c c′ : Settings) (s : Slots) (a : Activity) → Acts t c s a → Acts t c′ s (unmoved a)
 unfolding unmoved
@@ -60,42 +85,31 @@ same-acts t c c′ s (Moving m) l p q h =
     same e = unfold Rattle.lighting.specs.Value.brought in rw (p, q, e)
 same-acts t c c′ s (Warned w) l p q h = h
 
-acts-kept : (t : ℕ) (c : Settings) (s : Slots) (a : Activity) (n : Setting) → length (s .levels) ≡ 16 → Acts t c s a
-    → Acts t (settingsWith c n) s (activityWith a n)
-unfolding settingsWith activityWith
-acts-kept t c s a (SetDefault v) l h = same-acts t c (settingsWith c (SetDefault v)) s a l refl refl h
-acts-kept t c s a (SetFade v) l h = same-acts t c (settingsWith c (SetFade v)) s a l refl refl h
-acts-kept t c s a (SetRamp v) l h = same-acts t c (settingsWith c (SetRamp v)) s a l refl refl h
-acts-kept t c s a (SetStep v) l h = same-acts t c (settingsWith c (SetStep v)) s a l refl refl h
-acts-kept t c s a (SetEnable v) l h = same-acts t c (settingsWith c (SetEnable v)) s a l refl refl h
-acts-kept t c s a (SetBlink v) l h = same-acts t c (settingsWith c (SetBlink v)) s a l refl refl h
-acts-kept t c s a (SetDelay v) l h = same-acts t c (settingsWith c (SetDelay v)) s a l refl refl h
-acts-kept t c s a (SetMin v) l h = unmoved-acts t c (settingsWith c (SetMin v)) s a h
-acts-kept t c s a (SetMax v) l h = unmoved-acts t c (settingsWith c (SetMax v)) s a h
-acts-kept t c s a (SetSlot v) l h = same-acts t c (settingsWith c (SetSlot v)) s a l refl refl h
-acts-kept t c s a ClearBurning l h = h
+-- Min and Max change in a write of their own, which ends a movement
+acts-kept : (t : ℕ) (c : Settings) (s : Slots) (a : Activity) (n : Property) (v : ℕ) → length (s .levels) ≡ 16 → Acts t c s a
+    → Acts t (settingsWith c n v) s (activityWith a n)
+unfolding activityWith if_then_else_
+acts-kept t c s a n v l h =
+    by-bool
+    (same MinValue n)
+    (λ e. rw e (unmoved-acts t c (settingsWith c n v) s a h))
+    (λ e. by-bool
+    (same MaxValue n)
+    (λ e′. rw (e, e′) (unmoved-acts t c (settingsWith c n v) s a h))
+    (λ e′. rw (e, e′) (same-acts t c (settingsWith c n v) s a l (unfold settingsWith in rw e) (unfold settingsWith in rw e′) h)))
 
-burning-le : (b : ℕ) (n : Setting) → burningWith b n ≤ b
-unfolding burningWith
-burning-le b (SetDefault v) = omega arith
-burning-le b (SetFade v) = omega arith
-burning-le b (SetRamp v) = omega arith
-burning-le b (SetStep v) = omega arith
-burning-le b (SetEnable v) = omega arith
-burning-le b (SetBlink v) = omega arith
-burning-le b (SetDelay v) = omega arith
-burning-le b (SetMin v) = omega arith
-burning-le b (SetMax v) = omega arith
-burning-le b (SetSlot v) = omega arith
-burning-le b ClearBurning = omega arith
+burning-le : (b : ℕ) (n : Property) → burningWith b n ≤ b
+unfolding burningWith if_then_else_
+burning-le b n = by-bool (same ElapsedActiveTime n) (λ e. rw e (omega arith)) (λ e. rw e (omega arith))
 
-pub changed-sound : (t : ℕ) (o : Output) (n : Setting) → GoodSetting n → minOverMax (settingsWith (o .settings) n) ≡ false → Sound t o → Sound t (changed o n)
-unfolding changed
-changed-sound t o n g p h =
+pub changed-sound : (t : ℕ) (o : Output) (n : Property) (v : ℕ) → Meets (rowOf standard n) v → minOverMax (settingsWith (o .settings) n v) ≡ false → Sound t o
+    → Sound t (changed o n v)
+unfolding changed withSettings
+changed-sound t o n v g p h =
     record {
-      settings = settings-kept (o .settings) n g p (h .settings);
+      settings = settings-kept (o .settings) n v g p (h .settings);
       slots = h .slots;
-      activity = acts-kept t (o .settings) (o .slots) (o .activity) n (h .slots .size) (h .activity);
+      activity = acts-kept t (o .settings) (o .slots) (o .activity) n v (h .slots .size) (h .activity);
       timer = h .timer;
       burnt = omega (arith, burning-le (o .burning) n, h .burnt);
     }

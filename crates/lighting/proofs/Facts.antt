@@ -17,7 +17,11 @@ use Rattle.lighting.specs.declared.Output.{Output}
 use Rattle.lighting.specs.Slots.{Slots, lives, winner, slot}
 use Rattle.lighting.specs.Value.{presentValue}
 use Rattle.lighting.specs.Passing.{phaseEnd}
-use Rattle.lighting.specs.Rules.{isAmount}
+use Rattle.lighting.specs.Level.{real}
+use Rattle.lighting.specs.Rows.{rowOf, isAmount, meetsReal}
+use Rattle.lighting.specs.declared.Range.{Range}
+use Rattle.lighting.specs.declared.Range.the-variants.{Percent, Limit, Amount, Whole, Priority, ReadOnly}
+use Rattle.lighting.specs.declared.Property.the-variants.{RelinquishDefault, FadeTime, RampRate, StepIncrement, BlinkTime, BlinkWarnDelay, MinValue, MaxValue, CommandPriority}
 
 -- 0, or 1 to 100 percent: in a form that `omega` reads
 pub record IsLevel (v : ℕ) : Type 0 where
@@ -32,17 +36,26 @@ pub record Slot (i : ℕ) : Type 0 where
   pub inside : i < 16
   pub free : i ≢ 5
 
+-- what is kept meets its property's row
+abbrev pub Meets : Range → ℕ → Type 0
+Meets Percent v = IsLevel v
+Meets Limit v = Within 65536 6553600 v
+Meets Amount v = isAmount (real v) ≡ true
+Meets (Whole low high) v = Within low high v
+Meets Priority v = Slot v
+Meets ReadOnly v = ⊥
+
 pub record Settled (c : Settings) : Type 0 where
-  pub default : IsLevel (c .default)
-  pub min : 65536 ≤ c .min
+  pub default : Meets (rowOf standard RelinquishDefault) (c .default)
+  pub min : Meets (rowOf standard MinValue) (c .min)
+  pub max : Meets (rowOf standard MaxValue) (c .max)
   pub order : c .min ≤ c .max
-  pub max : c .max ≤ 6553600
-  pub fade : Within 100 (standard .longestFade) (c .fade)
-  pub blink : c .blink ≤ standard .longestBlink
-  pub delay : c .delay ≤ standard .longestBlink
-  pub ramp : isAmount (c .ramp) ≡ true
-  pub step : isAmount (c .step) ≡ true
-  pub slot : Slot (c .slot)
+  pub fade : Meets (rowOf standard FadeTime) (c .fade)
+  pub blink : Meets (rowOf standard BlinkTime) (c .blink)
+  pub delay : Meets (rowOf standard BlinkWarnDelay) (c .delay)
+  pub ramp : meetsReal (rowOf standard RampRate) (c .ramp) ≡ true
+  pub step : meetsReal (rowOf standard StepIncrement) (c .step) ≡ true
+  pub slot : Meets (rowOf standard CommandPriority) (c .slot)
 
 abbrev pub SlotLevel : Option ℕ → Type 0
 SlotLevel none = Unit {0}

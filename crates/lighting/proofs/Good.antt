@@ -1,18 +1,15 @@
 -- The ranges of what a frame asks, once it is read: what acting may count on. Assumes nothing.
-use mathlib.Core.Path.{_≡_}
-use mathlib.Core.Bool.{true}
 use Prim.Native.Nat.{_≤_}
 use Rattle.lighting.specs.Parameters.{standard}
-use Rattle.lighting.specs.Rules.{isAmount}
+use Rattle.lighting.specs.Rows.{rowOf}
 use Rattle.lighting.specs.declared.Duration.{Duration}
 use Rattle.lighting.specs.declared.Duration.the-variants.{Lasts, Cancels, Omitted}
 use Rattle.lighting.specs.declared.Operation.{Operation}
 use Rattle.lighting.specs.declared.Operation.the-variants.{Stop, FadeTo, FadeToOver, RampTo, RampToAtRate, StepUp, StepDown, StepUpBy, StepDownBy, Goto, Relinquish}
-use Rattle.lighting.specs.declared.Setting.{Setting}
-use Rattle.lighting.specs.declared.Setting.the-variants.{SetDefault, SetFade, SetRamp, SetStep, SetEnable, SetBlink, SetDelay, SetMin, SetMax, SetSlot, ClearBurning}
+use Rattle.lighting.specs.declared.Property.the-variants.{FadeTime}
 use Rattle.lighting.specs.declared.Request.{Request}
 use Rattle.lighting.specs.declared.Request.the-variants.{Refuse, Write, Empty, Change, Read, Order}
-use Rattle.lighting.proofs.Facts.{IsLevel, Within, Slot}
+use Rattle.lighting.proofs.Facts.{IsLevel, Within, Slot, Meets}
 
 abbrev pub GoodDuration : Duration → Type 0
 GoodDuration (Lasts d) = Within 100 (standard .longestDuration) d
@@ -23,7 +20,7 @@ GoodDuration Omitted = Unit {0}
 abbrev pub GoodOperation : Operation → Type 0
 GoodOperation Stop = Unit {0}
 GoodOperation (FadeTo x) = Unit {0}
-GoodOperation (FadeToOver x l) = Within 100 (standard .longestFade) l
+GoodOperation (FadeToOver x l) = Meets (rowOf standard FadeTime) l
 GoodOperation (RampTo x) = Unit {0}
 GoodOperation (RampToAtRate x r) = Unit {0}
 GoodOperation StepUp = Unit {0}
@@ -33,23 +30,10 @@ GoodOperation (StepDownBy x) = Unit {0}
 GoodOperation (Goto x) = Unit {0}
 GoodOperation Relinquish = Unit {0}
 
-abbrev pub GoodSetting : Setting → Type 0
-GoodSetting (SetDefault v) = IsLevel v
-GoodSetting (SetFade v) = Within 100 (standard .longestFade) v
-GoodSetting (SetRamp x) = isAmount x ≡ true
-GoodSetting (SetStep x) = isAmount x ≡ true
-GoodSetting (SetEnable v) = Unit {0}
-GoodSetting (SetBlink v) = v ≤ standard .longestBlink
-GoodSetting (SetDelay v) = v ≤ standard .longestBlink
-GoodSetting (SetMin v) = Within 65536 6553600 v
-GoodSetting (SetMax v) = Within 65536 6553600 v
-GoodSetting (SetSlot v) = Slot v
-GoodSetting ClearBurning = Unit {0}
-
 abbrev pub Good : Request → Type 0
 Good (Refuse r) = 9 ≤ r
 Good (Write i v) = Slot i × IsLevel v
 Good (Empty i) = Slot i
-Good (Change n) = GoodSetting n
+Good (Change n v) = Meets (rowOf standard n) v
 Good (Read n) = Unit {0}
 Good (Order k) = GoodOperation (k .operation) × GoodDuration (k .duration)

@@ -9,7 +9,8 @@ use Rattle.lighting.specs.Level.{inRange, unitsOr}
 use Rattle.lighting.specs.Panel.{met, stationOf, carried, Panel, Step}
 use Rattle.lighting.specs.Parameters.{Parameters}
 use Rattle.lighting.specs.Passing.{timerDue, phaseEnd, activityDue, isDue, emptiedBy, disowned, disownedBy, nextPhase, nextActivity, phaseSlots, nextSlots, sooner}
-use Rattle.lighting.specs.Properties.{changeDefault, changeMin, changeMax, changeRamp, changeStep, changeOf, settingsWith, unmoved, activityWith, burningWith, operationNumber, lastLevel, lastRate, lastStep, lastFadeTime, lastDuration, shown}
+use Rattle.lighting.specs.Properties.{numberOf, changeTo, changeBy, unmoved, operationNumber, lastLevel, lastRate, lastStep, lastFadeTime, lastDuration, shown}
+use Rattle.lighting.specs.Rows.{rowOf, meets, meetsReal}
 use Rattle.lighting.specs.Rules.{activityBy, timerSound}
 use Rattle.lighting.specs.Slots.{Slots}
 use Rattle.lighting.specs.Value.{gone, progressBy, inProcess}
@@ -28,8 +29,8 @@ use Rattle.lighting.specs.declared.Output.{Output}
 use Rattle.lighting.specs.declared.Pace.{Pace}
 use Rattle.lighting.specs.declared.Phase.{Phase}
 use Rattle.lighting.specs.declared.Property.{Property}
+use Rattle.lighting.specs.declared.Range.{Range}
 use Rattle.lighting.specs.declared.Request.{Request}
-use Rattle.lighting.specs.declared.Setting.{Setting}
 use Rattle.lighting.specs.declared.Settings.{Settings}
 use Rattle.lighting.specs.declared.Station.{Station}
 use Rattle.lighting.specs.declared.Timer.{Timer}
@@ -128,35 +129,17 @@ nextSlots-on x0 x1 k r e p = rw e p
 pub sooner-on : (x0 : ℕ) (x1 : Moment) (k : Moment) (r : ℕ) → x1 ≡ k → r ≡ sooner x0 k → r ≡ sooner x0 x1
 sooner-on x0 x1 k r e p = rw e p
 
-pub changeDefault-on : (x0 : Level) (k : Level) (r : Request) → x0 ≡ k → r ≡ changeDefault k → r ≡ changeDefault x0
-changeDefault-on x0 k r e p = rw e p
+pub numberOf-on : (x0 : Property) (k : Property) (r : ℕ) → x0 ≡ k → r ≡ numberOf k → r ≡ numberOf x0
+numberOf-on x0 k r e p = rw e p
 
-pub changeMin-on : (x0 : Level) (k : Level) (r : Request) → x0 ≡ k → r ≡ changeMin k → r ≡ changeMin x0
-changeMin-on x0 k r e p = rw e p
+pub changeTo-on : (x0 : Property) (x1 : Level) (k : Level) (r : Request) → x1 ≡ k → r ≡ changeTo x0 k → r ≡ changeTo x0 x1
+changeTo-on x0 x1 k r e p = rw e p
 
-pub changeMax-on : (x0 : Level) (k : Level) (r : Request) → x0 ≡ k → r ≡ changeMax k → r ≡ changeMax x0
-changeMax-on x0 k r e p = rw e p
-
-pub changeRamp-on : (x0 : Operand) (k : Operand) (r : Request) → x0 ≡ k → r ≡ changeRamp k → r ≡ changeRamp x0
-changeRamp-on x0 k r e p = rw e p
-
-pub changeStep-on : (x0 : Operand) (k : Operand) (r : Request) → x0 ≡ k → r ≡ changeStep k → r ≡ changeStep x0
-changeStep-on x0 k r e p = rw e p
-
-pub changeOf-on : (x0 : Parameters) (x1 : Property) (x2 : ℕ) (k : Property) (r : Request) → x1 ≡ k → r ≡ changeOf x0 k x2 → r ≡ changeOf x0 x1 x2
-changeOf-on x0 x1 x2 k r e p = rw e p
-
-pub settingsWith-on : (x0 : Settings) (x1 : Setting) (k : Setting) (r : Settings) → x1 ≡ k → r ≡ settingsWith x0 k → r ≡ settingsWith x0 x1
-settingsWith-on x0 x1 k r e p = rw e p
+pub changeBy-on : (x0 : Range) (x1 : Property) (x2 : ℕ) (k : Range) (r : Request) → x0 ≡ k → r ≡ changeBy k x1 x2 → r ≡ changeBy x0 x1 x2
+changeBy-on x0 x1 x2 k r e p = rw e p
 
 pub unmoved-on : (x0 : Activity) (k : Activity) (r : Activity) → x0 ≡ k → r ≡ unmoved k → r ≡ unmoved x0
 unmoved-on x0 k r e p = rw e p
-
-pub activityWith-on : (x0 : Activity) (x1 : Setting) (k : Setting) (r : Activity) → x1 ≡ k → r ≡ activityWith x0 k → r ≡ activityWith x0 x1
-activityWith-on x0 x1 k r e p = rw e p
-
-pub burningWith-on : (x0 : ℕ) (x1 : Setting) (k : Setting) (r : ℕ) → x1 ≡ k → r ≡ burningWith x0 k → r ≡ burningWith x0 x1
-burningWith-on x0 x1 k r e p = rw e p
 
 pub operationNumber-on : (x0 : Operation) (k : Operation) (r : ℕ) → x0 ≡ k → r ≡ operationNumber k → r ≡ operationNumber x0
 operationNumber-on x0 k r e p = rw e p
@@ -178,6 +161,15 @@ lastDuration-on x0 k r e p = rw e p
 
 pub shown-on : (x0 : ℕ) (x1 : Output) (x2 : Property) (k : Property) (r : Answer) → x2 ≡ k → r ≡ shown x0 x1 k → r ≡ shown x0 x1 x2
 shown-on x0 x1 x2 k r e p = rw e p
+
+pub rowOf-on : (x0 : Parameters) (x1 : Property) (k : Property) (r : Range) → x1 ≡ k → r ≡ rowOf x0 k → r ≡ rowOf x0 x1
+rowOf-on x0 x1 k r e p = rw e p
+
+pub meets-on : (x0 : Range) (x1 : ℕ) (k : Range) (r : Bool) → x0 ≡ k → r ≡ meets k x1 → r ≡ meets x0 x1
+meets-on x0 x1 k r e p = rw e p
+
+pub meetsReal-on : (x0 : Range) (x1 : Float) (k : Range) (r : Bool) → x0 ≡ k → r ≡ meetsReal k x1 → r ≡ meetsReal x0 x1
+meetsReal-on x0 x1 k r e p = rw e p
 
 pub activityBy-on : (x0 : Parameters) (x1 : ℕ) (x2 : Bool) (x3 : ℕ) (x4 : ℕ) (x5 : ℕ) (x6 : Activity) (k : Activity) (r : Bool) → x6 ≡ k → r ≡ activityBy x0 x1 x2 x3 x4 x5 k → r ≡ activityBy x0 x1 x2 x3 x4 x5 x6
 activityBy-on x0 x1 x2 x3 x4 x5 x6 k r e p = rw e p

@@ -1,7 +1,6 @@
 -- What the reading of a frame leaves in range. Assumes nothing.
 use mathlib.Core.Path.{_≡_, refl}
 use mathlib.Core.Logic.{_≢_}
-use mathlib.Core.Bool.{true, false≢true}
 use mathlib.Core.List.{[], _∷_}
 use Prim.Native.Nat.{ℕ, zero, suc, _+_, _-_, _*_, _^_, _≤_, _<_, min}
 use native.Mathlib.Omega.{arith}
@@ -10,10 +9,10 @@ use lib.Ieee.{Float}
 use lib.ListN.{length}
 use Rattle.lighting.specs.Choice.{if_then_else_}
 use Rattle.lighting.specs.Parameters.{standard}
-use Rattle.lighting.specs.Level.{real, levelOf, limitOf, amountOf, inRange, levelOperand, amountOperand}
+use Rattle.lighting.specs.Level.{real, levelOf, levelOperand, amountOperand}
 use Rattle.lighting.specs.Field.{byteAt, bigEndian}
-use Rattle.lighting.specs.Properties.{propertyOf, within, isPriority, changeDefault, changeMin, changeMax, changeRamp, changeStep, changeOf}
-use Rattle.lighting.specs.Rules.{isAmount}
+use Rattle.lighting.specs.Rows.{rowOf, within, isPriority, meets}
+use Rattle.lighting.specs.Properties.{propertyOf}
 use Rattle.lighting.specs.Frames.{Bytes, Octets, kindLength, ordered, operationWith, orderedWith, fadeOrder, rampOrderAt, rampOrder, stepOrLevel, orderOf, writeLevel, writeOf, emptyOf, requestBy, requestOf, callOf, calledBy, called, clockOf, parseBy, parse}
 use Rattle.lighting.specs.declared.Level.{Level}
 use Rattle.lighting.specs.declared.Level.the-variants.{Units, OutOfRange}
@@ -21,70 +20,16 @@ use Rattle.lighting.specs.declared.Operand.{Operand}
 use Rattle.lighting.specs.declared.Operand.the-variants.{Taken, Unfit}
 use Rattle.lighting.specs.declared.Operation.{Operation}
 use Rattle.lighting.specs.declared.Operation.the-variants.{Stop, FadeToOver, RampToAtRate, StepUp, StepDown, Relinquish}
-use Rattle.lighting.specs.declared.Property.{Property}
-use Rattle.lighting.specs.declared.Property.the-variants.{RelinquishDefault, FadeTime, RampRate, StepIncrement, BlinkEnable, BlinkTime, BlinkWarnDelay, MinValue, MaxValue, CommandPriority, ElapsedActiveTime, PresentValue, ProgressValue, InProcess, LastOperation, LastLevel, LastRate, LastStep, LastFadeTime, LastDuration, SlotValue, Unknown}
+use Rattle.lighting.specs.declared.Property.the-variants.{FadeTime}
 use Rattle.lighting.specs.declared.Request.{Request}
 use Rattle.lighting.specs.declared.Frame.{Frame}
 use Rattle.lighting.specs.declared.Frame.the-variants.{Bad, Clock, Call}
-use Rattle.lighting.proofs.Split.{by-bool, by-eq, by-lt, le-of}
-use Rattle.lighting.proofs.Ranges.{level-units, limit-units}
+use Rattle.lighting.proofs.Split.{by-bool, by-eq, by-lt}
+use Rattle.lighting.proofs.Ranges.{level-units}
 use Rattle.lighting.proofs.Facts.{Slot}
-use Rattle.lighting.proofs.Tied.{within-of, slot-of}
+use Rattle.lighting.proofs.Tied.{within-of, meets-of}
 use Rattle.lighting.proofs.Good.{GoodOperation, Good}
-
-priority-of : (n : ℕ) → isPriority n ≡ true → Slot (n - 1)
-unfolding isPriority if_then_else_
-priority-of n h = by-eq n 0 (λ p e. absurd (false≢true (rw e at h))) (λ p e. slot-of (n - 1) (rw e at h))
-
--- A WRITE OF A PROPERTY
-default-good : (l : Level) → ((v : ℕ) → l ≡ Units v → (65536 * min 1 v ≤ v) × (v ≤ 6553600)) → Good (changeDefault l)
-unfolding changeDefault
-default-good (Units v) f = let r = f v refl in record { least = r .0; most = r .1 }
-default-good OutOfRange f = omega arith
-
-min-good : (l : Level) → ((v : ℕ) → l ≡ Units v → (65536 ≤ v) × (v ≤ 6553600)) → Good (changeMin l)
-unfolding changeMin
-min-good (Units v) f = let r = f v refl in record { least = r .0; most = r .1 }
-min-good OutOfRange f = omega arith
-
-max-good : (l : Level) → ((v : ℕ) → l ≡ Units v → (65536 ≤ v) × (v ≤ 6553600)) → Good (changeMax l)
-unfolding changeMax
-max-good (Units v) f = let r = f v refl in record { least = r .0; most = r .1 }
-max-good OutOfRange f = omega arith
-
--- an operand taken was in range
-ramp-good : (x : ℕ) → Good (changeRamp (amountOperand x))
-unfolding amountOperand changeRamp if_then_else_
-ramp-good x = by-bool (inRange (amountOf (real x))) (λ e. rw e (unfold isAmount in e)) (λ e. rw e (omega arith))
-
-step-good : (x : ℕ) → Good (changeStep (amountOperand x))
-unfolding amountOperand changeStep if_then_else_
-step-good x = by-bool (inRange (amountOf (real x))) (λ e. rw e (unfold isAmount in e)) (λ e. rw e (omega arith))
-
-change-good : (n : Property) (x : ℕ) → Good (changeOf standard n x)
-unfolding changeOf if_then_else_
-change-good RelinquishDefault x = default-good (levelOf (real x)) (level-units (real x))
-change-good FadeTime x = by-bool (within 100 (standard .longestFade) x) (λ e. rw e (within-of 100 (standard .longestFade) x e)) (λ e. rw e (omega arith))
-change-good RampRate x = ramp-good x
-change-good StepIncrement x = step-good x
-change-good BlinkEnable x = by-bool (leb x 1) (λ e. rw e (tt)) (λ e. rw e (omega arith))
-change-good BlinkTime x = by-bool (leb x (standard .longestBlink)) (λ e. rw e (le-of e)) (λ e. rw e (omega arith))
-change-good BlinkWarnDelay x = by-bool (leb x (standard .longestBlink)) (λ e. rw e (le-of e)) (λ e. rw e (omega arith))
-change-good MinValue x = min-good (limitOf (real x)) (limit-units (real x))
-change-good MaxValue x = max-good (limitOf (real x)) (limit-units (real x))
-change-good CommandPriority x = by-bool (isPriority x) (λ e. rw e (priority-of x e)) (λ e. rw e (omega arith))
-change-good ElapsedActiveTime x = by-bool (eqb x 0) (λ e. rw e (tt)) (λ e. rw e (omega arith))
-change-good PresentValue x = omega arith
-change-good ProgressValue x = omega arith
-change-good InProcess x = omega arith
-change-good LastOperation x = omega arith
-change-good LastLevel x = omega arith
-change-good LastRate x = omega arith
-change-good LastStep x = omega arith
-change-good LastFadeTime x = omega arith
-change-good LastDuration x = omega arith
-change-good (SlotValue i) x = omega arith
-change-good Unknown x = omega arith
+use Rattle.lighting.proofs.Rows.{priority-of, change-good}
 
 -- A COMMAND
 ordered-good : (o : Operation) (d : ℕ) → GoodOperation o → Good (ordered standard o d)
@@ -107,7 +52,7 @@ with-good k d Unfit = omega arith
 fade-good : (x : Operand) (l d : ℕ) → Good (fadeOrder standard x l d)
 unfolding fadeOrder if_then_else_
 fade-good (Taken x) l d =
-    by-bool (within 100 (standard .longestFade) l) (λ e. rw e (ordered-good (FadeToOver x l) d (within-of 100 (standard .longestFade) l e))) (λ e. rw e (omega arith))
+    by-bool (meets (rowOf standard FadeTime) l) (λ e. rw e (ordered-good (FadeToOver x l) d (meets-of (rowOf standard FadeTime) l e))) (λ e. rw e (omega arith))
 fade-good Unfit l d = omega arith
 
 ramp-at-good : (x : Float) (r : Operand) (d : ℕ) → Good (rampOrderAt standard x r d)

@@ -14,8 +14,8 @@ use Rattle.lighting.specs.Level.{real, amountOf, inRange}
 use Rattle.lighting.specs.Slots.{view, slotsOf, lives, firstLive, winner, levelAt, topmost}
 use Rattle.lighting.specs.Value.{brought, presentValue}
 use Rattle.lighting.specs.Passing.{top, tick, ticks, advance}
-use Rattle.lighting.specs.Properties.{within, isSlot}
-use Rattle.lighting.specs.Rules.{isLevel, levelsSound, timesSound, isAmount, realsSound, settingsSound, slotSound, slotsSoundFrom, activityBy, activitySound, timerSound, sound}
+use Rattle.lighting.specs.Rows.{within, isLevel, isAmount, isSlot, meets, meetsReal}
+use Rattle.lighting.specs.Rules.{levelsSound, timesSound, realsSound, settingsSound, slotSound, slotsSoundFrom, activityBy, activitySound, timerSound, sound}
 use Rattle.lighting.specs.Fresh.{freshSettings, freshOutput}
 use Rattle.lighting.specs.Acting.{served, acted}
 use Rattle.lighting.specs.Panel.{every}
@@ -42,7 +42,7 @@ all-tested t [] a = refl
 all-tested t (o ∷ l) a = also-yes (facts-sound t o (a .0)) (all-tested t l (a .1))
 
 fresh-tested : sound standard 0 freshOutput ≡ true
-unfolding if_then_else_ allFrom real ofBits amountOf inRange view slotsOf lives firstLive winner levelAt topmost brought presentValue within isSlot isLevel levelsSound timesSound isAmount realsSound settingsSound slotSound slotsSoundFrom activityBy activitySound timerSound sound freshSettings freshOutput
+unfolding if_then_else_ allFrom real ofBits amountOf inRange view slotsOf lives firstLive winner levelAt topmost brought presentValue within isLevel isAmount isSlot meets meetsReal levelsSound timesSound realsSound settingsSound slotSound slotsSoundFrom activityBy activitySound timerSound sound freshSettings freshOutput
 fresh-tested = refl
 
 fresh-sound : Sound 0 freshOutput

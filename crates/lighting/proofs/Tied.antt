@@ -22,9 +22,11 @@ use Rattle.lighting.specs.Value.{presentValue}
 use Rattle.lighting.specs.Passing.{top, timerDue, activityDue, ticks, advance}
 use Rattle.lighting.proofs.Passing.{advance-ticks, Calm, MomentAfter}
 use Rattle.lighting.specs.Parameters.{standard}
-use Rattle.lighting.specs.Properties.{within, isSlot}
+use Rattle.lighting.specs.Rows.{within, isSlot, meets}
 use Rattle.lighting.specs.Rules.{isLevel, levelsSound, timesSound, realsSound, settingsSound, slotSound, slotsSoundFrom, spanSound, movementSound, warningBy, warningSound, activityBy, activitySound, timerSound, sound}
-use Rattle.lighting.proofs.Facts.{IsLevel, Within, Slot, Settled, SlotLevel, Filled, Moves, Acts, Timed, Sound}
+use Rattle.lighting.specs.declared.Range.{Range}
+use Rattle.lighting.specs.declared.Range.the-variants.{Percent, Limit, Amount, Whole, Priority, ReadOnly}
+use Rattle.lighting.proofs.Facts.{IsLevel, Within, Slot, Meets, Settled, SlotLevel, Filled, Moves, Acts, Timed, Sound}
 
 -- FROM THE TEST TO THE FACTS
 pub within-of : (low high v : ℕ) → within low high v ≡ true → Within low high v
@@ -41,8 +43,17 @@ unfolding isSlot if_then_else_
 slot-of i h =
     by-eq i 5 (λ p e. absurd (false≢true (rw e at h))) (λ p e. record { inside = le-of (rw e at h); free = p })
 
+pub meets-of : (r : Range) (v : ℕ) → meets r v ≡ true → Meets r v
+unfolding meets
+meets-of Percent v h = level-of v h
+meets-of Limit v h = within-of 65536 6553600 v h
+meets-of Amount v h = h
+meets-of (Whole low high) v h = within-of low high v h
+meets-of Priority v h = slot-of v h
+meets-of ReadOnly v h = false≢true h
+
 settled-of : (c : Settings) → settingsSound standard c ≡ true → Settled c
-unfolding settingsSound levelsSound timesSound realsSound
+unfolding settingsSound levelsSound timesSound realsSound meets
 settled-of c h = search (parts, within-of, level-of, slot-of)
 
 filled-of : (s : Slots) → length (s .levels) ≡ 16 → slotsSoundFrom s 0 ≡ true → Filled s
@@ -90,7 +101,7 @@ unfolding isSlot if_then_else_
 slot-yes i h = rw (eqb-miss (h .free)) (leb-yes (h .inside))
 
 settled-yes : (c : Settings) → Settled c → settingsSound standard c ≡ true
-unfolding settingsSound levelsSound timesSound realsSound
+unfolding settingsSound levelsSound timesSound realsSound meets
 settled-yes c h = search (tests, within-yes, level-yes, slot-yes)
 
 filled-yes : (s : Slots) → Filled s → slotsSoundFrom s 0 ≡ true

@@ -10,7 +10,7 @@ use Rattle.lighting.specs.Writing.{written, vacated}
 use Rattle.lighting.specs.Properties.{settingsWith, changed, minOverMax, shown}
 use Rattle.lighting.specs.Commands.{commanded}
 use Rattle.lighting.specs.Fresh.{freshOutput}
-use Rattle.lighting.specs.declared.Setting.{Setting}
+use Rattle.lighting.specs.declared.Property.{Property}
 use Rattle.lighting.specs.declared.Request.{Request}
 use Rattle.lighting.specs.declared.Request.the-variants.{Refuse, Write, Empty, Change, Read, Order}
 use Rattle.lighting.specs.declared.Answer.{Answer}
@@ -25,16 +25,16 @@ made o = record { output = settled o; answer = Done }
 unfoldable pub left : Output → Answer → Outcome
 left o a = record { output = o; answer = a }
 
--- a write of a setting, unless it would leave Min over Max (m): 13
-unfoldable pub changedUnless : Bool → Output → Setting → Outcome
-changedUnless m o n = if m then left o (Refused 13) else made (changed o n)
+-- a write of a property, unless it would leave Min over Max (m): 13
+unfoldable pub changedUnless : Bool → Output → Property → ℕ → Outcome
+changedUnless m o n v = if m then left o (Refused 13) else made (changed o n v)
 
 -- 'does what its kind calls for, or refuses 9 to 13'
 unfoldable pub acted : ℕ → Output → Request → Outcome
 acted t o (Refuse r) = left o (Refused r)
 acted t o (Write slot level) = made (written t o slot level)
 acted t o (Empty slot) = made (vacated o slot)
-acted t o (Change n) = changedUnless (minOverMax (settingsWith (o .settings) n)) o n
+acted t o (Change n v) = changedUnless (minOverMax (settingsWith (o .settings) n v)) o n v
 acted t o (Read property) = left o (shown t o property)
 acted t o (Order k) = made (commanded t o k)
 

@@ -6,6 +6,7 @@ use Rattle.lighting.specs.Choice.{if_then_else_}
 use Rattle.lighting.specs.Level.{levelUnits, amountUnits}
 use Rattle.lighting.specs.Slots.{Slots, slot6, winner, emptied, filled}
 use Rattle.lighting.specs.Value.{intoRange, brought, progressValue}
+unfoldable pub use Rattle.lighting.specs.Record.{withCommand}
 use Rattle.lighting.specs.Passing.{disowned}
 use Rattle.lighting.specs.declared.Settings.{Settings}
 use Rattle.lighting.specs.declared.Pace.{Pace}
@@ -129,10 +130,6 @@ unfoldable pub timed : ℕ → ℕ → Timer → Duration → Timer
 timed t p running (Lasts d) = Running p (t + d)
 timed t p running Cancels = Off
 timed t p running Omitted = running
-
-unfoldable pub withCommand : Output → Effect → Timer → Command → Output
-withCommand o r timer k =
-    record { settings = o .settings; slots = r .slots; activity = r .activity; timer = timer; burning = o .burning; last = k }
 
 -- 'It starts from Progress_Value before it': f
 unfoldable pub commandedFrom : ℕ → Output → ℕ → Command → Output

@@ -1,7 +1,6 @@
 -- 'Bench figures' 1 to 8, and the 'Traps' that one output shows (Worked.antt has those that only a list shows): what the definitions give, beside
 -- what the paper says. proofs/Figures.antt proves them equal.
 -- Assumes nothing.
-use mathlib.Core.Bool.{true}
 use mathlib.Core.List.{List, [], _∷_, map}
 use Prim.Native.Nat.{ℕ}
 use Rattle.lighting.specs.Level.{real, levelOf}
@@ -19,7 +18,7 @@ use Rattle.lighting.specs.declared.Duration.{Duration}
 use Rattle.lighting.specs.declared.Duration.the-variants.{Lasts, Omitted}
 use Rattle.lighting.specs.declared.Operation.{Operation}
 use Rattle.lighting.specs.declared.Operation.the-variants.{FadeToOver, RampToAtRate, StepDown, Goto}
-use Rattle.lighting.specs.declared.Setting.the-variants.{SetEnable, SetBlink, SetDelay}
+use Rattle.lighting.specs.declared.Property.the-variants.{BlinkEnable, BlinkTime, BlinkWarnDelay}
 use Rattle.lighting.specs.declared.Output.{Output}
 
 -- an output that an operation was ordered of at t
@@ -55,7 +54,7 @@ slowRamp = ordered 0 (RampToAtRate (real 0x42c8_0000) (real 0x3e00_0000)) Omitte
 
 -- figure 8: 'Blink_Enable 1, B 700, D 120,000, 50 percent in slot 16, zero there at 1,000'
 abbrev warned : Output
-warned = written 1000 (changed (changed (changed half (SetEnable true)) (SetBlink 700)) (SetDelay 120000)) 15 0
+warned = written 1000 (changed (changed (changed half BlinkEnable 1) BlinkTime 700) BlinkWarnDelay 120000) 15 0
 
 -- WHAT THE DEFINITIONS GIVE, figure after figure
 abbrev pub given : List (List Answer)
@@ -99,7 +98,7 @@ short = ordered 0 (Goto (real 0x4248_0000)) (Lasts 100) freshOutput
 
 -- 'if D is above 0, slot X empties with it', and with D = 0 it keeps its 0
 abbrev warnedBriefly : Output
-warnedBriefly = written 1000 (changed (changed half (SetEnable true)) (SetBlink 700)) 15 0
+warnedBriefly = written 1000 (changed (changed half BlinkEnable 1) BlinkTime 700) 15 0
 
 abbrev pub trapsGiven : List Answer
 trapsGiven =

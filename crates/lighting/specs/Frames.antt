@@ -10,6 +10,7 @@ use Rattle.lighting.specs.Parameters.{Parameters}
 use Rattle.lighting.specs.Answers.{levelRefusal, operandRefusal}
 use Rattle.lighting.specs.Level.{real, levelOf, levelOperand, amountOperand}
 use Rattle.lighting.specs.Field.{byteAt, bigEndian}
+use Rattle.lighting.specs.Rows.{rowOf, meets}
 use Rattle.lighting.specs.Properties.{propertyOf, within, isPriority, changeOf}
 use Rattle.lighting.specs.declared.Level.{Level}
 use Rattle.lighting.specs.declared.Level.the-variants.{Units, OutOfRange}
@@ -18,6 +19,7 @@ use Rattle.lighting.specs.declared.Operand.the-variants.{Taken, Unfit}
 use Rattle.lighting.specs.declared.Duration.the-variants.{Lasts, Cancels, Omitted}
 use Rattle.lighting.specs.declared.Operation.{Operation}
 use Rattle.lighting.specs.declared.Operation.the-variants.{Stop, FadeTo, FadeToOver, RampTo, RampToAtRate, StepUp, StepDown, StepUpBy, StepDownBy, Goto, Relinquish}
+use Rattle.lighting.specs.declared.Property.the-variants.{FadeTime}
 use Rattle.lighting.specs.declared.Request.{Request}
 use Rattle.lighting.specs.declared.Request.the-variants.{Refuse, Write, Empty, Read, Order}
 use Rattle.lighting.specs.declared.Frame.{Frame}
@@ -78,9 +80,9 @@ unfoldable pub orderedWith : Parameters → ℕ → Operand → ℕ → Request
 orderedWith p k (Taken x) d = ordered p (operationWith k x) d
 orderedWith p k Unfit d = Refuse (operandRefusal Unfit)
 
--- kind 12: level, fade time, duration. 'Fade times: 100 to 86,400,000'
+-- kind 12: level, fade time, duration. 'Fade times: 100 to 86,400,000': Fade_Time's row
 unfoldable pub fadeOrder : Parameters → Operand → ℕ → ℕ → Request
-fadeOrder p (Taken x) l d = if within 100 (p .longestFade) l then ordered p (FadeToOver x l) d else Refuse 12
+fadeOrder p (Taken x) l d = if meets (rowOf p FadeTime) l then ordered p (FadeToOver x l) d else Refuse 12
 fadeOrder p Unfit l d = Refuse (operandRefusal Unfit)
 
 -- kind 14: level, rate, duration

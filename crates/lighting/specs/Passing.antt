@@ -17,9 +17,8 @@ use Rattle.lighting.specs.declared.Moment.the-variants.{Never, At}
 use Rattle.lighting.specs.declared.Output.{Output}
 use Rattle.lighting.specs.Slots.{Slots, slot6, emptied, filled}
 use Rattle.lighting.specs.Value.{lit}
-
-unfoldable pub withBurning : Output → ℕ → Output
-withBurning o b = record { settings = o .settings; slots = o .slots; activity = o .activity; timer = o .timer; burning = b; last = o .last }
+unfoldable pub use Rattle.lighting.specs.Record.{withBurning}
+use Rattle.lighting.specs.Record.{withDue}
 
 -- 'burning time gains 1 ms if Present_Value is above zero': of the n milliseconds from a moment on, those in which the output burns.
 -- While nothing falls due these are all or none, wherever they begin (`from`)
@@ -113,14 +112,11 @@ settled o = o
 unfoldable pub fire : ℕ → Output → Output
 fire t o =
     settled
-    (record {
-      settings = o .settings;
-      slots = slotsAt t (released t (o .timer) (o .activity)) (expired t (o .timer) (o .slots));
-      activity = activityAt t (released t (o .timer) (o .activity));
-      timer = timerAt t (o .timer);
-      burning = o .burning;
-      last = o .last;
-    })
+    (withDue
+    o
+    (slotsAt t (released t (o .timer) (o .activity)) (expired t (o .timer) (o .slots)))
+    (activityAt t (released t (o .timer) (o .activity)))
+    (timerAt t (o .timer)))
 
 -- THE PLAIN PANEL's output: 'Passing from t to t + 1', and n times so
 unfoldable pub tick : ℕ → Output → Output

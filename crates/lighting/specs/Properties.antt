@@ -1,16 +1,19 @@
 -- 'An output's record': the table of properties, what a write of each asks and changes, and what each reads as. Assumes nothing.
-use mathlib.Core.Bool.{Bool, false}
+use mathlib.Core.Bool.{Bool}
 use mathlib.Core.List.{List, [], _∷_}
-use Prim.Native.Nat.{ℕ, _+_, _-_, _/_, min}
+use Prim.Native.Nat.{ℕ, _+_, _-_, _/_, _%_, min}
 use lib.Dec.{ltb, leb, eqb}
 use lib.Ieee.{Float}
 use lib.ListN.{getD}
-use Rattle.lighting.specs.Choice.{if_then_else_, _also_}
+use Rattle.lighting.specs.Choice.{if_then_else_}
 use Rattle.lighting.specs.Parameters.{Parameters}
 use Rattle.lighting.specs.Answers.{levelRefusal, operandRefusal}
-use Rattle.lighting.specs.Level.{real, bits, readOut, levelOf, limitOf, amountOperand}
-use Rattle.lighting.specs.Slots.{Slots, slot6, lives, levelAt}
+use Rattle.lighting.specs.Level.{real, bits, readOut, levelOf, limitOf}
+use Rattle.lighting.specs.Slots.{Slots, lives, levelAt}
 use Rattle.lighting.specs.Value.{presentValue, progressValue, inProcess}
+use Rattle.lighting.specs.Record.{withSettings}
+unfoldable pub use Rattle.lighting.specs.Rows.{within, isSlot, isPriority}
+use Rattle.lighting.specs.Rows.{rowOf, isAmount}
 use Rattle.lighting.specs.declared.Settings.{Settings}
 use Rattle.lighting.specs.declared.Activity.{Activity}
 use Rattle.lighting.specs.declared.Activity.the-variants.{Still, Moving, Warned}
@@ -23,12 +26,11 @@ use Rattle.lighting.specs.declared.Answer.{Answer}
 use Rattle.lighting.specs.declared.Answer.the-variants.{Value, Absent, Refused}
 use Rattle.lighting.specs.declared.Level.{Level}
 use Rattle.lighting.specs.declared.Level.the-variants.{Units, OutOfRange}
-use Rattle.lighting.specs.declared.Operand.{Operand}
-use Rattle.lighting.specs.declared.Operand.the-variants.{Taken, Unfit}
+use Rattle.lighting.specs.declared.Operand.the-variants.{Unfit}
 use Rattle.lighting.specs.declared.Property.{Property}
 use Rattle.lighting.specs.declared.Property.the-variants.{RelinquishDefault, FadeTime, RampRate, StepIncrement, BlinkEnable, BlinkTime, BlinkWarnDelay, MinValue, MaxValue, CommandPriority, ElapsedActiveTime, PresentValue, ProgressValue, InProcess, LastOperation, LastLevel, LastRate, LastStep, LastFadeTime, LastDuration, SlotValue, Unknown}
-use Rattle.lighting.specs.declared.Setting.{Setting}
-use Rattle.lighting.specs.declared.Setting.the-variants.{SetDefault, SetFade, SetRamp, SetStep, SetEnable, SetBlink, SetDelay, SetMin, SetMax, SetSlot, ClearBurning}
+use Rattle.lighting.specs.declared.Range.{Range}
+use Rattle.lighting.specs.declared.Range.the-variants.{Percent, Limit, Amount, Whole, Priority, ReadOnly}
 use Rattle.lighting.specs.declared.Request.{Request}
 use Rattle.lighting.specs.declared.Request.the-variants.{Refuse, Change}
 
@@ -63,75 +65,66 @@ unfoldable pub propertyOf : ℕ → Property
 propertyOf n =
     if leb 0x21 n then (if leb n 0x30 then SlotValue (n - 0x21) else Unknown) else getD properties n Unknown
 
--- WRITES. The range of each property's value, and the refusal that a value out of it meets: 10 a priority, 11 a REAL, 12 a whole number
-unfoldable pub within : ℕ → ℕ → ℕ → Bool
-within low high v = leb low v also leb v high
+-- each property's number; `same`: the one is the other
+unfoldable pub numberOf : Property → ℕ
+numberOf Unknown = 0
+numberOf RelinquishDefault = 0x01
+numberOf FadeTime = 0x02
+numberOf RampRate = 0x03
+numberOf StepIncrement = 0x04
+numberOf BlinkEnable = 0x05
+numberOf BlinkTime = 0x06
+numberOf BlinkWarnDelay = 0x07
+numberOf MinValue = 0x08
+numberOf MaxValue = 0x09
+numberOf CommandPriority = 0x0a
+numberOf ElapsedActiveTime = 0x0b
+numberOf PresentValue = 0x0c
+numberOf ProgressValue = 0x0d
+numberOf InProcess = 0x0e
+numberOf LastOperation = 0x0f
+numberOf LastLevel = 0x10
+numberOf LastRate = 0x11
+numberOf LastStep = 0x12
+numberOf LastFadeTime = 0x13
+numberOf LastDuration = 0x14
+numberOf (SlotValue i) = 0x21 + i
 
--- a slot that a frame may name, counted from 0: any of the sixteen but slot 6; and its priority: not '0, 6 or over 16'
-unfoldable pub isSlot : ℕ → Bool
-isSlot i = if eqb i slot6 then false else ltb i 16
+unfoldable pub same : Property → Property → Bool
+same n m = eqb (numberOf n) (numberOf m)
 
-unfoldable pub isPriority : ℕ → Bool
-isPriority n = if eqb n 0 then false else isSlot (n - 1)
+-- WRITES, kind 04: the value x, of 32 bits, as the property's row (Rows.antt) has it kept, or the refusal that it meets: 'property unknown, or
+-- not writable' is 9, a priority's is 10, a REAL's 11, a whole number's 12
+unfoldable pub changeTo : Property → Level → Request
+changeTo n (Units v) = Change n v
+changeTo n OutOfRange = Refuse (levelRefusal OutOfRange)
 
-unfoldable pub changeDefault : Level → Request
-changeDefault (Units v) = Change (SetDefault v)
-changeDefault OutOfRange = Refuse (levelRefusal OutOfRange)
+unfoldable pub changeBy : Range → Property → ℕ → Request
+changeBy Percent n x = changeTo n (levelOf (real x))
+changeBy Limit n x = changeTo n (limitOf (real x))
+changeBy Amount n x = if isAmount (real x) then Change n x else Refuse (operandRefusal Unfit)
+changeBy (Whole low high) n x = if within low high x then Change n x else Refuse 12
+changeBy Priority n x = if isPriority x then Change n (x - 1) else Refuse 10
+changeBy ReadOnly n x = Refuse 9
 
-unfoldable pub changeMin : Level → Request
-changeMin (Units v) = Change (SetMin v)
-changeMin OutOfRange = Refuse (levelRefusal OutOfRange)
-
-unfoldable pub changeMax : Level → Request
-changeMax (Units v) = Change (SetMax v)
-changeMax OutOfRange = Refuse (levelRefusal OutOfRange)
-
-unfoldable pub changeRamp : Operand → Request
-changeRamp (Taken x) = Change (SetRamp x)
-changeRamp Unfit = Refuse (operandRefusal Unfit)
-
-unfoldable pub changeStep : Operand → Request
-changeStep (Taken x) = Change (SetStep x)
-changeStep Unfit = Refuse (operandRefusal Unfit)
-
--- kind 04: the property's value x, of 32 bits. 'property unknown, or not writable' is 9
 unfoldable pub changeOf : Parameters → Property → ℕ → Request
-changeOf p RelinquishDefault x = changeDefault (levelOf (real x))
-changeOf p FadeTime x = if within 100 (p .longestFade) x then Change (SetFade x) else Refuse 12
-changeOf p RampRate x = changeRamp (amountOperand x)
-changeOf p StepIncrement x = changeStep (amountOperand x)
-changeOf p BlinkEnable x = if leb x 1 then Change (SetEnable (eqb x 1)) else Refuse 12
-changeOf p BlinkTime x = if leb x (p .longestBlink) then Change (SetBlink x) else Refuse 12
-changeOf p BlinkWarnDelay x = if leb x (p .longestBlink) then Change (SetDelay x) else Refuse 12
-changeOf p MinValue x = changeMin (limitOf (real x))
-changeOf p MaxValue x = changeMax (limitOf (real x))
-changeOf p CommandPriority x = if isPriority x then Change (SetSlot (x - 1)) else Refuse 10
-changeOf p ElapsedActiveTime x = if eqb x 0 then Change ClearBurning else Refuse 12
-changeOf p PresentValue x = Refuse 9
-changeOf p ProgressValue x = Refuse 9
-changeOf p InProcess x = Refuse 9
-changeOf p LastOperation x = Refuse 9
-changeOf p LastLevel x = Refuse 9
-changeOf p LastRate x = Refuse 9
-changeOf p LastStep x = Refuse 9
-changeOf p LastFadeTime x = Refuse 9
-changeOf p LastDuration x = Refuse 9
-changeOf p (SlotValue i) x = Refuse 9
-changeOf p Unknown x = Refuse 9
+changeOf p n x = changeBy (rowOf p n) n x
 
--- WHAT A WRITE CHANGES: one setting
-unfoldable pub settingsWith : Settings → Setting → Settings
-settingsWith c (SetDefault v) = record { default = v; fade = c .fade; ramp = c .ramp; step = c .step; enable = c .enable; blink = c .blink; delay = c .delay; min = c .min; max = c .max; slot = c .slot }
-settingsWith c (SetFade v) = record { default = c .default; fade = v; ramp = c .ramp; step = c .step; enable = c .enable; blink = c .blink; delay = c .delay; min = c .min; max = c .max; slot = c .slot }
-settingsWith c (SetRamp v) = record { default = c .default; fade = c .fade; ramp = v; step = c .step; enable = c .enable; blink = c .blink; delay = c .delay; min = c .min; max = c .max; slot = c .slot }
-settingsWith c (SetStep v) = record { default = c .default; fade = c .fade; ramp = c .ramp; step = v; enable = c .enable; blink = c .blink; delay = c .delay; min = c .min; max = c .max; slot = c .slot }
-settingsWith c (SetEnable v) = record { default = c .default; fade = c .fade; ramp = c .ramp; step = c .step; enable = v; blink = c .blink; delay = c .delay; min = c .min; max = c .max; slot = c .slot }
-settingsWith c (SetBlink v) = record { default = c .default; fade = c .fade; ramp = c .ramp; step = c .step; enable = c .enable; blink = v; delay = c .delay; min = c .min; max = c .max; slot = c .slot }
-settingsWith c (SetDelay v) = record { default = c .default; fade = c .fade; ramp = c .ramp; step = c .step; enable = c .enable; blink = c .blink; delay = v; min = c .min; max = c .max; slot = c .slot }
-settingsWith c (SetMin v) = record { default = c .default; fade = c .fade; ramp = c .ramp; step = c .step; enable = c .enable; blink = c .blink; delay = c .delay; min = v; max = c .max; slot = c .slot }
-settingsWith c (SetMax v) = record { default = c .default; fade = c .fade; ramp = c .ramp; step = c .step; enable = c .enable; blink = c .blink; delay = c .delay; min = c .min; max = v; slot = c .slot }
-settingsWith c (SetSlot v) = record { default = c .default; fade = c .fade; ramp = c .ramp; step = c .step; enable = c .enable; blink = c .blink; delay = c .delay; min = c .min; max = c .max; slot = v }
-settingsWith c ClearBurning = c
+-- WHAT A WRITE CHANGES: of the settings the property n, whose kept value is v. A slot stands in one byte
+unfoldable pub settingsWith : Settings → Property → ℕ → Settings
+settingsWith c n v =
+    record {
+      default = if same RelinquishDefault n then v else c .default;
+      fade = if same FadeTime n then v else c .fade;
+      ramp = if same RampRate n then real v else c .ramp;
+      step = if same StepIncrement n then real v else c .step;
+      enable = if same BlinkEnable n then eqb v 1 else c .enable;
+      blink = if same BlinkTime n then v else c .blink;
+      delay = if same BlinkWarnDelay n then v else c .delay;
+      min = if same MinValue n then v else c .min;
+      max = if same MaxValue n then v else c .max;
+      slot = if same CommandPriority n then v % 256 else c .slot;
+    }
 
 -- an end to a movement, and to nothing else
 unfoldable pub unmoved : Activity → Activity
@@ -140,43 +133,16 @@ unmoved (Moving m) = Still
 unmoved (Warned w) = Warned w
 
 -- 'Writing 08 or 09 ends the movement'
-unfoldable pub activityWith : Activity → Setting → Activity
-activityWith a (SetDefault v) = a
-activityWith a (SetFade v) = a
-activityWith a (SetRamp v) = a
-activityWith a (SetStep v) = a
-activityWith a (SetEnable v) = a
-activityWith a (SetBlink v) = a
-activityWith a (SetDelay v) = a
-activityWith a (SetMin v) = unmoved a
-activityWith a (SetMax v) = unmoved a
-activityWith a (SetSlot v) = a
-activityWith a ClearBurning = a
+unfoldable pub activityWith : Activity → Property → Activity
+activityWith a n = if same MinValue n then unmoved a else if same MaxValue n then unmoved a else a
 
 -- '0B Elapsed_Active_Time, written only with 0'
-unfoldable pub burningWith : ℕ → Setting → ℕ
-burningWith b (SetDefault v) = b
-burningWith b (SetFade v) = b
-burningWith b (SetRamp v) = b
-burningWith b (SetStep v) = b
-burningWith b (SetEnable v) = b
-burningWith b (SetBlink v) = b
-burningWith b (SetDelay v) = b
-burningWith b (SetMin v) = b
-burningWith b (SetMax v) = b
-burningWith b (SetSlot v) = b
-burningWith b ClearBurning = 0
+unfoldable pub burningWith : ℕ → Property → ℕ
+burningWith b n = if same ElapsedActiveTime n then 0 else b
 
-unfoldable pub changed : Output → Setting → Output
-changed o n =
-    record {
-      settings = settingsWith (o .settings) n;
-      slots = o .slots;
-      activity = activityWith (o .activity) n;
-      timer = o .timer;
-      burning = burningWith (o .burning) n;
-      last = o .last;
-    }
+unfoldable pub changed : Output → Property → ℕ → Output
+changed o n v =
+    withSettings o (settingsWith (o .settings) n v) (activityWith (o .activity) n) (burningWith (o .burning) n)
 
 -- 'Min over Max', which is 13
 unfoldable pub minOverMax : Settings → Bool

@@ -2,17 +2,17 @@
 use mathlib.Core.Bool.{Bool, true, false, not}
 use Prim.Native.Nat.{ℕ, _-_}
 use lib.Dec.{ltb, leb, eqb}
-use lib.Ieee.{Float}
 use lib.ListN.{getD}
 use Rattle.lighting.specs.Choice.{if_then_else_, _also_, allFrom}
 use Rattle.lighting.specs.Parameters.{Parameters}
-use Rattle.lighting.specs.Level.{inRange, amountOf}
 use Rattle.lighting.specs.Field.{byteAt}
 use Rattle.lighting.specs.Slots.{Slots, slot6, lives, winner}
 use Rattle.lighting.specs.Value.{presentValue}
 use Rattle.lighting.specs.Passing.{phaseEnd}
-use Rattle.lighting.specs.Properties.{within, isSlot}
+unfoldable pub use Rattle.lighting.specs.Rows.{isLevel, isAmount}
+use Rattle.lighting.specs.Rows.{rowOf, within, isSlot, meets, meetsReal}
 use Rattle.lighting.specs.Frames.{kindLength}
+use Rattle.lighting.specs.declared.Property.the-variants.{RelinquishDefault, FadeTime, RampRate, StepIncrement, BlinkTime, BlinkWarnDelay, MinValue, MaxValue, CommandPriority}
 use Rattle.lighting.specs.declared.Settings.{Settings}
 use Rattle.lighting.specs.declared.Movement.{Movement}
 use Rattle.lighting.specs.declared.Warning.{Warning}
@@ -23,25 +23,24 @@ use Rattle.lighting.specs.declared.Timer.the-variants.{Off, Running}
 use Rattle.lighting.specs.declared.Output.{Output}
 use Rattle.lighting.specs.declared.Station.{Station}
 
--- 'slot levels and Relinquish_Default 0 or 65,536 to 6,553,600'
-unfoldable pub isLevel : ℕ → Bool
-isLevel v = if eqb v 0 then true else within 65536 6553600 v
-
--- 'settings in range, Min at most Max': the levels, the times, the REALs
-unfoldable pub levelsSound : Settings → Bool
-levelsSound c = isLevel (c .default) also leb 65536 (c .min) also leb (c .min) (c .max) also leb (c .max) 6553600
+-- 'settings in range, Min at most Max': each meets the row of its property (Rows.antt). A flag is always in range. The levels, the times, the REALs
+unfoldable pub levelsSound : Parameters → Settings → Bool
+levelsSound p c =
+    meets (rowOf p RelinquishDefault) (c .default)
+    also meets (rowOf p MinValue) (c .min)
+    also meets (rowOf p MaxValue) (c .max)
+    also leb (c .min) (c .max)
 
 unfoldable pub timesSound : Parameters → Settings → Bool
-timesSound p c = within 100 (p .longestFade) (c .fade) also leb (c .blink) (p .longestBlink) also leb (c .delay) (p .longestBlink)
+timesSound p c =
+    meets (rowOf p FadeTime) (c .fade) also meets (rowOf p BlinkTime) (c .blink) also meets (rowOf p BlinkWarnDelay) (c .delay)
 
-unfoldable pub isAmount : Float → Bool
-isAmount x = inRange (amountOf x)
-
-unfoldable pub realsSound : Settings → Bool
-realsSound c = isAmount (c .ramp) also isAmount (c .step)
+unfoldable pub realsSound : Parameters → Settings → Bool
+realsSound p c = meetsReal (rowOf p RampRate) (c .ramp) also meetsReal (rowOf p StepIncrement) (c .step)
 
 unfoldable pub settingsSound : Parameters → Settings → Bool
-settingsSound p c = levelsSound c also timesSound p c also realsSound c also isSlot (c .slot)
+settingsSound p c =
+    levelsSound p c also timesSound p c also realsSound p c also meets (rowOf p CommandPriority) (c .slot)
 
 -- a live slot holds a level
 unfoldable pub slotSound : Slots → ℕ → Bool

@@ -13,9 +13,7 @@ use Rattle.lighting.specs.declared.Activity.the-variants.{Still, Moving,
 use Rattle.lighting.specs.declared.Output.{Output}
 use Rattle.lighting.specs.Slots.{Slots, slot6, lives, winner, emptied, filled}
 use Rattle.lighting.specs.Value.{presentValue}
-
-unfoldable pub withEffect : Output → Slots → Activity → Output
-withEffect o s a = record { settings = o .settings; slots = s; activity = a; timer = o .timer; burning = o .burning; last = o .last }
+unfoldable pub use Rattle.lighting.specs.Record.{withEffect}
 
 -- 'A movement goes on if P is above its owner's number [..]; else it ends', warnings aside
 unfoldable pub passedOver : ℕ → Activity → Activity

@@ -176,19 +176,20 @@ pub enum Property {
     Unknown,
 }
 
-// A property's new value, in range.
-pub enum Setting {
-    SetDefault(u32),
-    SetFade(u32),
-    SetRamp(f32),
-    SetStep(f32),
-    SetEnable(bool),
-    SetBlink(u32),
-    SetDelay(u32),
-    SetMin(u32),
-    SetMax(u32),
-    SetSlot(u8),
-    ClearBurning,
+// What a property's value must be, and how it is kept (`rowOf` of specs/Rows.antt has the row of each property).
+pub enum Range {
+    // REAL 0 to 100, kept as a level
+    Percent,
+    // REAL 1 to 100, kept as a level
+    Limit,
+    // REAL 0.125 to 100, kept as it was written
+    Amount,
+    // A whole number; both ends belong to the range
+    Whole { low: u32, high: u32 },
+    // 1 to 16 but 6, kept as its slot
+    Priority,
+    // Never written
+    ReadOnly,
 }
 
 // What a frame asks of its output, or the refusal from 9 to 12 that its fields meet (a read of an unknown property meets its 9 when it is
@@ -197,7 +198,8 @@ pub enum Request {
     Refuse(u8),
     Write { slot: u8, level: u32 },
     Empty { slot: u8 },
-    Change(Setting),
+    // The value as it is kept: in units, a REAL's pattern, the number itself, or the slot.
+    Change { property: Property, value: u32 },
     Read(Property),
     Order(Command),
 }

@@ -1,7 +1,7 @@
 // The passing of time: from due moment to due moment, at most three an output and frame. Nothing here lives a millisecond by itself.
 ghost use mathlib.Core.Path.{_≡_};
 ghost use Prim.Native.Nat.{_+_, min};
-ghost use Rattle.lighting.specs.Passing.{withBurning, glowing, sooner, due, gained, hop, hops, advance, later};
+ghost use Rattle.lighting.specs.Passing.{glowing, sooner, due, gained, hop, hops, advance, later};
 use lighting::Moment;
 use lighting::Output;
 
@@ -24,14 +24,6 @@ fn added(a: u64, b: u64) -> u64
 
 // ---- burning time
 
-fn with_burning(o: Output, b: u64) -> Output
-    ensures { λ r. ⌜ r ≡ withBurning o b ⌝ }
-{
-    let mut n = o;
-    n.burning = b;
-    n
-}
-
 // Of the n milliseconds from a moment on, those in which the output burns: all or none, while nothing falls due.
 fn glow(from: u64, n: u64, o: Output) -> u64
     ensures { λ r. ⌜ r ≡ glowing from n o ⌝ }
@@ -44,7 +36,7 @@ fn glow(from: u64, n: u64, o: Output) -> u64
 fn gain(from: u64, n: u64, o: Output) -> Output
     ensures { λ r. ⌜ r ≡ gained from n o ⌝ }
 {
-    with_burning(o, added(o.burning, glow(from, n, o)))
+    record::with_burning(o, added(o.burning, glow(from, n, o)))
 }
 
 // ---- the next due moment, or `to` if nothing falls due before it

@@ -3,7 +3,7 @@ use mathlib.Core.Path.{_≡_, sym, _∙_}
 use mathlib.Core.Bool.{true, false≢true}
 use Prim.Native.Nat.{ℕ, _≤_, _<_, _-_}
 use native.Mathlib.Omega.{arith}
-use Rattle.lighting.specs.Properties.{isSlot, isPriority}
+use Rattle.lighting.specs.Rows.{isSlot, isPriority}
 use Rattle.lighting.proofs.Split.{unless, by-eq, le-of}
 
 -- 'priority 0, 6 or over 16' is none

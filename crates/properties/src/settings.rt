@@ -1,56 +1,65 @@
-// What a write of a property changes: one setting, and with it the movement or the burning time.
+// What a write of a property changes: one setting, and with it the movement or the burning time. `n` is the property that is written, `v` its value
+// as it is kept.
 ghost use mathlib.Core.Path.{_≡_};
-ghost use Rattle.lighting.specs.Properties.{settingsWith, unmoved, activityWith, burningWith, changed, minOverMax};
+ghost use Prim.Native.Nat.{_%_};
+ghost use lib.Dec.{eqb};
+ghost use Rattle.lighting.specs.Choice.{if_then_else_};
+ghost use Rattle.lighting.specs.Level.{real};
+ghost use Rattle.lighting.specs.Properties.{same, settingsWith, unmoved, activityWith, burningWith, changed, minOverMax};
+use super::is_same;
 use lighting::Activity;
 use lighting::Output;
-use lighting::Setting;
+use lighting::Property;
 use lighting::Settings;
 
-pub fn settings_with(mut c: Settings, n: Setting) -> Settings
-    ensures { λ r. ⌜ r ≡ settingsWith c n ⌝ }
+// ---- a field of the property `field`: the new value if this is the one that is written, else as it was
+
+fn number_with(field: Property, n: Property, v: u32, was: u32) -> u32
+    ensures { λ r. ⌜ r ≡ (if same field n then v else was) ⌝ }
 {
-    match n {
-        Setting::SetDefault(v) => {
-            c.default = v;
-            c
-        }
-        Setting::SetFade(v) => {
-            c.fade = v;
-            c
-        }
-        Setting::SetRamp(x) => {
-            c.ramp = x;
-            c
-        }
-        Setting::SetStep(x) => {
-            c.step = x;
-            c
-        }
-        Setting::SetEnable(on) => {
-            c.enable = on;
-            c
-        }
-        Setting::SetBlink(v) => {
-            c.blink = v;
-            c
-        }
-        Setting::SetDelay(v) => {
-            c.delay = v;
-            c
-        }
-        Setting::SetMin(v) => {
-            c.min = v;
-            c
-        }
-        Setting::SetMax(v) => {
-            c.max = v;
-            c
-        }
-        Setting::SetSlot(i) => {
-            c.slot = i;
-            c
-        }
-        Setting::ClearBurning => c,
+    if is_same(field, n) { v } else { was }
+}
+
+fn real_with(field: Property, n: Property, v: u32, was: f32) -> f32
+    ensures { λ r. ⌜ r ≡ (if same field n then real v else was) ⌝ }
+{
+    if is_same(field, n) {
+        level::real_from(v)
+    } else {
+        was
+    }
+}
+
+fn flag_with(field: Property, n: Property, v: u32, was: bool) -> bool
+    ensures { λ r. ⌜ r ≡ (if same field n then eqb v 1 else was) ⌝ }
+{
+    if is_same(field, n) { v == 1 } else { was }
+}
+
+fn slot_with(field: Property, n: Property, v: u32, was: u8) -> u8
+    ensures { λ r. ⌜ r ≡ (if same field n then v % 256 else was) ⌝ }
+{
+    if is_same(field, n) {
+        (v % 256) as u8
+    } else {
+        was
+    }
+}
+
+pub fn settings_with(c: Settings, n: Property, v: u32) -> Settings
+    ensures { λ r. ⌜ r ≡ settingsWith c n v ⌝ }
+{
+    Settings {
+        default: number_with(Property::RelinquishDefault, n, v, c.default),
+        fade: number_with(Property::FadeTime, n, v, c.fade),
+        ramp: real_with(Property::RampRate, n, v, c.ramp),
+        step: real_with(Property::StepIncrement, n, v, c.step),
+        enable: flag_with(Property::BlinkEnable, n, v, c.enable),
+        blink: number_with(Property::BlinkTime, n, v, c.blink),
+        delay: number_with(Property::BlinkWarnDelay, n, v, c.delay),
+        min: number_with(Property::MinValue, n, v, c.min),
+        max: number_with(Property::MaxValue, n, v, c.max),
+        slot: slot_with(Property::CommandPriority, n, v, c.slot),
     }
 }
 
@@ -66,60 +75,41 @@ pub fn unmove(a: Activity) -> Activity
 }
 
 // 'Writing 08 or 09 ends the movement'.
-pub fn activity_with(a: Activity, n: Setting) -> Activity
+fn activity_with(a: Activity, n: Property) -> Activity
     ensures { λ r. ⌜ r ≡ activityWith a n ⌝ }
 {
-    match n {
-        Setting::SetDefault(_) => a,
-        Setting::SetFade(_) => a,
-        Setting::SetRamp(_) => a,
-        Setting::SetStep(_) => a,
-        Setting::SetEnable(_) => a,
-        Setting::SetBlink(_) => a,
-        Setting::SetDelay(_) => a,
-        Setting::SetMin(_) => unmove(a),
-        Setting::SetMax(_) => unmove(a),
-        Setting::SetSlot(_) => a,
-        Setting::ClearBurning => a,
+    if is_same(Property::MinValue, n) {
+        unmove(a)
+    } else if is_same(Property::MaxValue, n) {
+        unmove(a)
+    } else {
+        a
     }
 }
 
 // 0B written clears the burning time.
-pub fn burning_with(b: u64, n: Setting) -> u64
+fn burning_with(b: u64, n: Property) -> u64
     ensures { λ r. ⌜ r ≡ burningWith b n ⌝ }
 {
-    match n {
-        Setting::SetDefault(_) => b,
-        Setting::SetFade(_) => b,
-        Setting::SetRamp(_) => b,
-        Setting::SetStep(_) => b,
-        Setting::SetEnable(_) => b,
-        Setting::SetBlink(_) => b,
-        Setting::SetDelay(_) => b,
-        Setting::SetMin(_) => b,
-        Setting::SetMax(_) => b,
-        Setting::SetSlot(_) => b,
-        Setting::ClearBurning => 0,
+    if is_same(Property::ElapsedActiveTime, n) {
+        0
+    } else {
+        b
     }
 }
 
 // Slots, duration and last command stay.
-pub fn change(o: Output, n: Setting) -> Output
-    ensures { λ r. ⌜ r ≡ changed o n ⌝ }
+pub fn change(o: Output, n: Property, v: u32) -> Output
+    ensures { λ r. ⌜ r ≡ changed o n v ⌝ }
 {
     let settings = o.settings;
-    let slots = o.slots;
     let activity = o.activity;
-    let timer = o.timer;
-    let last = o.last;
-    Output {
-        settings: settings_with(settings, n),
-        slots,
-        activity: activity_with(activity, n),
-        timer,
-        burning: burning_with(o.burning, n),
-        last,
-    }
+    record::with_settings(
+        o,
+        settings_with(settings, n, v),
+        activity_with(activity, n),
+        burning_with(o.burning, n),
+    )
 }
 
 // 'Min over Max', which is 13.

@@ -1,55 +1,55 @@
-// A property's new value: what it becomes, or the refusal that it meets out of its range. 10 is a priority's, 11 a REAL's.
+// A property's new value: as it is kept, or the refusal that it meets. 9 is a property's that is not writable, 10 a priority's, 11 a REAL's, 12 a
+// whole number's.
 ghost use mathlib.Core.Path.{_≡_};
 ghost use mathlib.Core.Bool.{true};
 ghost use Prim.Native.Nat.{_-_};
-ghost use Rattle.lighting.specs.Properties.{isPriority, changeDefault, changeMin, changeMax, changeRamp, changeStep};
+ghost use Rattle.lighting.specs.Rows.{isPriority};
+ghost use Rattle.lighting.specs.Properties.{changeTo, changeBy};
 use lighting::Level;
-use lighting::Operand;
+use lighting::Property;
+use lighting::Range;
 use lighting::Request;
-use lighting::Setting;
 
-pub fn change_default(v: Level) -> Request
-    ensures { λ r. ⌜ r ≡ changeDefault v ⌝ }
+fn change_to(n: Property, v: Level) -> Request
+    ensures { λ r. ⌜ r ≡ changeTo n v ⌝ }
 {
     match v {
-        Level::Units(units) => Request::Change(Setting::SetDefault(units)),
+        Level::Units(value) => Request::Change { property: n, value },
         Level::OutOfRange => Request::Refuse(11),
     }
 }
 
-pub fn change_min(v: Level) -> Request
-    ensures { λ r. ⌜ r ≡ changeMin v ⌝ }
+pub fn change_by(row: Range, n: Property, x: u32) -> Request
+    ensures { λ r. ⌜ r ≡ changeBy row n x ⌝ }
 {
-    match v {
-        Level::Units(units) => Request::Change(Setting::SetMin(units)),
-        Level::OutOfRange => Request::Refuse(11),
-    }
-}
-
-pub fn change_max(v: Level) -> Request
-    ensures { λ r. ⌜ r ≡ changeMax v ⌝ }
-{
-    match v {
-        Level::Units(units) => Request::Change(Setting::SetMax(units)),
-        Level::OutOfRange => Request::Refuse(11),
-    }
-}
-
-pub fn change_ramp(x: Operand) -> Request
-    ensures { λ r. ⌜ r ≡ changeRamp x ⌝ }
-{
-    match x {
-        Operand::Taken(rate) => Request::Change(Setting::SetRamp(rate)),
-        Operand::Unfit => Request::Refuse(11),
-    }
-}
-
-pub fn change_step(x: Operand) -> Request
-    ensures { λ r. ⌜ r ≡ changeStep x ⌝ }
-{
-    match x {
-        Operand::Taken(step) => Request::Change(Setting::SetStep(step)),
-        Operand::Unfit => Request::Refuse(11),
+    match row {
+        Range::Percent => change_to(n, level::level_of(x)),
+        Range::Limit => change_to(n, level::limit_of(x)),
+        Range::Amount => if ranges::rows::is_amount_pattern(x) {
+            Request::Change {
+                property: n,
+                value: x,
+            }
+        } else {
+            Request::Refuse(11)
+        },
+        Range::Whole { low, high } => if ranges::is_within(low, high, x) {
+            Request::Change {
+                property: n,
+                value: x,
+            }
+        } else {
+            Request::Refuse(12)
+        },
+        Range::Priority => if ranges::is_priority(x) {
+            Request::Change {
+                property: n,
+                value: x - 1,
+            }
+        } else {
+            Request::Refuse(10)
+        },
+        Range::ReadOnly => Request::Refuse(9),
     }
 }
 

@@ -1,10 +1,12 @@
-// Ranges of whole numbers: what a frame may ask for, what a record may hold, and places in a table.
+// Ranges: what a frame may ask for, what a record may hold, and places in a table.
+pub mod rows;
+
 ghost use mathlib.Core.Path.{_≡_};
 ghost use Prim.Native.Nat.{min};
-ghost use lib.Dec.{leb};
 ghost use Rattle.lighting.specs.Parameters.{standard};
-ghost use Rattle.lighting.specs.Properties.{within, isSlot, isPriority};
-ghost use Rattle.lighting.specs.Rules.{isLevel};
+ghost use Rattle.lighting.specs.Rows.{rowOf, within, isLevel, isSlot, isPriority, meets};
+ghost use Rattle.lighting.specs.declared.Property.the-variants.{FadeTime};
+use lighting::Property;
 
 // Both ends belong to the range.
 pub fn is_within(low: u32, high: u32, v: u32) -> bool
@@ -26,31 +28,21 @@ pub fn is_level(v: u32) -> bool
 
 // ---- times, in milliseconds: `standard` of the definitions has the same greatest values
 
-const LONGEST_FADE: u32 = 86400000;
-
 const LONGEST_DURATION: u32 = 86400000;
-
-const LONGEST_BLINK: u32 = 86400000;
 
 const LONGEST_MOVEMENT: u32 = 86400000;
 
+// A command's fade time: Fade_Time's row.
 pub fn is_fade_time(v: u32) -> bool
-    ensures { λ r. ⌜ r ≡ within 100 (standard .longestFade) v ⌝ }
+    ensures { λ r. ⌜ r ≡ meets (rowOf standard FadeTime) v ⌝ }
 {
-    is_within(100, LONGEST_FADE, v)
+    rows::fits(Property::FadeTime, v)
 }
 
 pub fn is_duration(v: u32) -> bool
     ensures { λ r. ⌜ r ≡ within 100 (standard .longestDuration) v ⌝ }
 {
     is_within(100, LONGEST_DURATION, v)
-}
-
-// A blink time or a blink delay.
-pub fn is_blink_time(v: u32) -> bool
-    ensures { λ r. ⌜ r ≡ leb v (standard .longestBlink) ⌝ }
-{
-    v <= LONGEST_BLINK
 }
 
 // What a movement lasts.

@@ -3,23 +3,26 @@
 ghost use mathlib.Core.Path.{_≡_};
 ghost use Prim.Native.Nat.{_<_};
 ghost use Rattle.lighting.specs.Parameters.{standard};
-ghost use Rattle.lighting.specs.Rules.{levelsSound, timesSound, isAmount, realsSound, settingsSound, slotSound, slotsSoundFrom, activitySound, sound};
+ghost use Rattle.lighting.specs.Rules.{levelsSound, timesSound, realsSound, settingsSound, slotSound, slotsSoundFrom, activitySound, sound};
 use lighting::Activity;
 use lighting::Output;
+use lighting::Property;
 use lighting::Settings;
 use lighting::Slots;
-use ranges::is_slot;
+use ranges::rows::fits;
+use ranges::rows::fits_real;
 use ranges::wide_index;
 
 // ---- settings
 
+// Each meets the row of its property, and Min is at most Max.
 fn levels_sound(c: Settings) -> bool
-    ensures { λ r. ⌜ r ≡ levelsSound c ⌝ }
+    ensures { λ r. ⌜ r ≡ levelsSound standard c ⌝ }
 {
-    if ranges::is_level(c.default) {
-        if 65536 <= c.min {
-            if c.min <= c.max {
-                c.max <= 6553600
+    if fits(Property::RelinquishDefault, c.default) {
+        if fits(Property::MinValue, c.min) {
+            if fits(Property::MaxValue, c.max) {
+                c.min <= c.max
             } else {
                 false
             }
@@ -34,9 +37,9 @@ fn levels_sound(c: Settings) -> bool
 fn times_sound(c: Settings) -> bool
     ensures { λ r. ⌜ r ≡ timesSound standard c ⌝ }
 {
-    if ranges::is_fade_time(c.fade) {
-        if ranges::is_blink_time(c.blink) {
-            ranges::is_blink_time(c.delay)
+    if fits(Property::FadeTime, c.fade) {
+        if fits(Property::BlinkTime, c.blink) {
+            fits(Property::BlinkWarnDelay, c.delay)
         } else {
             false
         }
@@ -45,18 +48,11 @@ fn times_sound(c: Settings) -> bool
     }
 }
 
-// A rate or a step: 0.125 to 100.
-fn is_amount(x: f32) -> bool
-    ensures { λ r. ⌜ r ≡ isAmount x ⌝ }
-{
-    level::in_range(level::amount_of_real(x))
-}
-
 fn reals_sound(c: Settings) -> bool
-    ensures { λ r. ⌜ r ≡ realsSound c ⌝ }
+    ensures { λ r. ⌜ r ≡ realsSound standard c ⌝ }
 {
-    if is_amount(c.ramp) {
-        is_amount(c.step)
+    if fits_real(Property::RampRate, c.ramp) {
+        fits_real(Property::StepIncrement, c.step)
     } else {
         false
     }
@@ -68,7 +64,7 @@ fn settings_sound(c: Settings) -> bool
     if levels_sound(c) {
         if times_sound(c) {
             if reals_sound(c) {
-                is_slot(c.slot as u32)
+                fits(Property::CommandPriority, c.slot as u32)
             } else {
                 false
             }

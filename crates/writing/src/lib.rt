@@ -2,27 +2,10 @@
 // Slots are counted from 0: the paper's slot 6, which a warning holds, is 5. `t` is the moment, `o` the output, `i` the slot, `v` the level.
 ghost use mathlib.Core.Path.{_≡_};
 ghost use Prim.Native.Nat.{_<_, _^_};
-ghost use Rattle.lighting.specs.Writing.{withEffect, passedOver, stored, warnedBy, warned, endedEmpty, endedStored, writtenWarned, writtenZero, writtenCalm, writtenBy, written, vacatedActivity, vacated};
+ghost use Rattle.lighting.specs.Writing.{passedOver, stored, warnedBy, warned, endedEmpty, endedStored, writtenWarned, writtenZero, writtenCalm, writtenBy, written, vacatedActivity, vacated};
 use lighting::Activity;
 use lighting::Output;
-use lighting::Slots;
-
-// The output with other slots and another activity: what a write of a slot can change.
-fn with_effect(o: Output, s: Slots, a: Activity) -> Output
-    ensures { λ r. ⌜ r ≡ withEffect o s a ⌝ }
-{
-    let settings = o.settings;
-    let timer = o.timer;
-    let last = o.last;
-    Output {
-        settings,
-        slots: s,
-        activity: a,
-        timer,
-        burning: o.burning,
-        last,
-    }
-}
+use record::with_effect;
 
 // ---- warnings aside
 

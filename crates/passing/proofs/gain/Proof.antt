@@ -6,7 +6,7 @@ use Rattle.passing.proofs.gain.Reads as reads
 use Rattle.passing.proofs.gain.Lts as lts
 use Rattle.passing.proofs.added.Reads as added-reads
 use Rattle.passing.proofs.glow.Reads as glow-reads
-use Rattle.passing.proofs.with_burning.Reads as with-burning-reads
+use Rattle.record.proofs.with_burning.Reads as with-burning-reads
 
 glow-requires : tie.Need-glow-requires
 glow-requires c κs = search needs

@@ -1,5 +1,5 @@
 use Rattle.lighting.proofs.Choosing.{ifs}
-use Rattle.lighting.specs.Rules.{isLevel}
+use Rattle.lighting.specs.Rows.{isLevel}
 use borrow.Author.Needs.{needs}
 use Rattle.ranges.proofs.is_level.Statement.{statement}
 use Rattle.ranges.proofs.is_level.Tie as tie

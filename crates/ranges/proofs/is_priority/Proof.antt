@@ -1,5 +1,5 @@
 use Rattle.lighting.proofs.Choosing.{ifs}
-use Rattle.lighting.specs.Properties.{isPriority}
+use Rattle.lighting.specs.Rows.{isPriority}
 use borrow.Author.Needs.{needs}
 use Rattle.ranges.proofs.is_priority.Statement.{statement}
 use Rattle.ranges.proofs.is_priority.Tie as tie

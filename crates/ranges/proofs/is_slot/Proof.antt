@@ -1,6 +1,6 @@
 use borrow.Author.Needs.{needs}
 use Rattle.lighting.proofs.Choosing.{ifs}
-use Rattle.lighting.specs.Properties.{isSlot}
+use Rattle.lighting.specs.Rows.{isSlot}
 use Rattle.ranges.proofs.is_slot.Statement.{statement}
 use Rattle.ranges.proofs.is_slot.Tie as tie
 use Rattle.ranges.proofs.is_slot.Reads as reads

@@ -1,6 +1,6 @@
 use borrow.Author.Needs.{needs}
 use Rattle.lighting.proofs.Choosing.{ifs}
-use Rattle.lighting.specs.Properties.{within}
+use Rattle.lighting.specs.Rows.{within}
 use Rattle.ranges.proofs.is_within.Statement.{statement}
 use Rattle.ranges.proofs.is_within.Tie as tie
 use Rattle.ranges.proofs.is_within.Reads as reads

@@ -1,121 +1,52 @@
 use Rattle.lighting.proofs.Choosing.{ifs}
-use Rattle.lighting.proofs.Laws.{activityWith-on}
 use Rattle.lighting.specs.Properties.{activityWith}
 use borrow.Author.Needs.{needs}
 use Rattle.properties.proofs.settings.activity_with.Statement.{statement}
 use Rattle.properties.proofs.settings.activity_with.Tie as tie
 use Rattle.properties.proofs.settings.activity_with.Reads as reads
 use Rattle.properties.proofs.settings.activity_with.Lts as lts
+use Rattle.properties.proofs.is_same.Reads as is-same-reads
 use Rattle.properties.proofs.settings.unmove.Reads as unmove-reads
 
-enum-told : tie.Need-enum-told
-enum-told c = search needs
+-- src/settings.rt:79:8
+is-same-requires : tie.Need-is-same-requires
+is-same-requires c κs = search needs
 
-enum-told-2 : tie.Need-enum-told-2
-enum-told-2 c = search needs
-
-enum-told-3 : tie.Need-enum-told-3
-enum-told-3 c = search needs
-
-enum-told-4 : tie.Need-enum-told-4
-enum-told-4 c = search needs
-
-enum-told-5 : tie.Need-enum-told-5
-enum-told-5 c = search needs
-
-enum-told-6 : tie.Need-enum-told-6
-enum-told-6 c = search needs
-
-enum-told-7 : tie.Need-enum-told-7
-enum-told-7 c = search needs
-
-enum-told-8 : tie.Need-enum-told-8
-enum-told-8 c = search needs
-
+-- src/settings.rt:80:9
 unmove-requires : tie.Need-unmove-requires
 unmove-requires c κs = search needs
 
-enum-told-9 : tie.Need-enum-told-9
-enum-told-9 c = search needs
+-- src/settings.rt:81:15
+is-same-requires-2 : tie.Need-is-same-requires-2
+is-same-requires-2 c κs = search needs
 
+-- src/settings.rt:82:9
 unmove-requires-2 : tie.Need-unmove-requires-2
 unmove-requires-2 c κs = search needs
 
-enum-told-10 : tie.Need-enum-told-10
-enum-told-10 c = search needs
-
-enum-told-11 : tie.Need-enum-told-11
-enum-told-11 c = search needs
-
+-- src/settings.rt:76:1
 returns : tie.Need-returns
 unfolding activityWith
-returns c = search (needs, ifs, activityWith-on)
+returns c = search (needs, ifs)
 
+-- src/settings.rt:76:1
 returns-2 : tie.Need-returns-2
 unfolding activityWith
-returns-2 c = search (needs, ifs, activityWith-on)
+returns-2 c = search (needs, ifs)
 
+-- src/settings.rt:76:1
 returns-3 : tie.Need-returns-3
 unfolding activityWith
-returns-3 c = search (needs, ifs, activityWith-on)
-
-returns-4 : tie.Need-returns-4
-unfolding activityWith
-returns-4 c = search (needs, ifs, activityWith-on)
-
-returns-5 : tie.Need-returns-5
-unfolding activityWith
-returns-5 c = search (needs, ifs, activityWith-on)
-
-returns-6 : tie.Need-returns-6
-unfolding activityWith
-returns-6 c = search (needs, ifs, activityWith-on)
-
-returns-7 : tie.Need-returns-7
-unfolding activityWith
-returns-7 c = search (needs, ifs, activityWith-on)
-
-returns-8 : tie.Need-returns-8
-unfolding activityWith
-returns-8 c = search (needs, ifs, activityWith-on)
-
-returns-9 : tie.Need-returns-9
-unfolding activityWith
-returns-9 c = search (needs, ifs, activityWith-on)
-
-returns-10 : tie.Need-returns-10
-unfolding activityWith
-returns-10 c = search (needs, ifs, activityWith-on)
-
-returns-11 : tie.Need-returns-11
-unfolding activityWith
-returns-11 c = search (needs, ifs, activityWith-on)
+returns-3 c = search (needs, ifs)
 
 pub activity-with-spec : {M : Type 1} → statement M
 activity-with-spec =
     tie.close
     (tie.spec
-    enum-told
-    enum-told-2
-    enum-told-3
-    enum-told-4
-    enum-told-5
-    enum-told-6
-    enum-told-7
-    enum-told-8
+    is-same-requires
     unmove-requires
-    enum-told-9
+    is-same-requires-2
     unmove-requires-2
-    enum-told-10
-    enum-told-11
     returns
     returns-2
-    returns-3
-    returns-4
-    returns-5
-    returns-6
-    returns-7
-    returns-8
-    returns-9
-    returns-10
-    returns-11)
+    returns-3)

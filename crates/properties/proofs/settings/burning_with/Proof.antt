@@ -1,112 +1,25 @@
 use Rattle.lighting.proofs.Choosing.{ifs}
-use Rattle.lighting.proofs.Laws.{burningWith-on}
 use Rattle.lighting.specs.Properties.{burningWith}
 use borrow.Author.Needs.{needs}
 use Rattle.properties.proofs.settings.burning_with.Statement.{statement}
 use Rattle.properties.proofs.settings.burning_with.Tie as tie
 use Rattle.properties.proofs.settings.burning_with.Reads as reads
 use Rattle.properties.proofs.settings.burning_with.Lts as lts
+use Rattle.properties.proofs.is_same.Reads as is-same-reads
 
-enum-told : tie.Need-enum-told
-enum-told c = search needs
+-- src/settings.rt:92:8
+is-same-requires : tie.Need-is-same-requires
+is-same-requires c κs = search needs
 
-enum-told-2 : tie.Need-enum-told-2
-enum-told-2 c = search needs
-
-enum-told-3 : tie.Need-enum-told-3
-enum-told-3 c = search needs
-
-enum-told-4 : tie.Need-enum-told-4
-enum-told-4 c = search needs
-
-enum-told-5 : tie.Need-enum-told-5
-enum-told-5 c = search needs
-
-enum-told-6 : tie.Need-enum-told-6
-enum-told-6 c = search needs
-
-enum-told-7 : tie.Need-enum-told-7
-enum-told-7 c = search needs
-
-enum-told-8 : tie.Need-enum-told-8
-enum-told-8 c = search needs
-
-enum-told-9 : tie.Need-enum-told-9
-enum-told-9 c = search needs
-
-enum-told-10 : tie.Need-enum-told-10
-enum-told-10 c = search needs
-
-enum-told-11 : tie.Need-enum-told-11
-enum-told-11 c = search needs
-
+-- src/settings.rt:89:1
 returns : tie.Need-returns
 unfolding burningWith
-returns c = search (needs, ifs, burningWith-on)
+returns c = search (needs, ifs)
 
+-- src/settings.rt:89:1
 returns-2 : tie.Need-returns-2
 unfolding burningWith
-returns-2 c = search (needs, ifs, burningWith-on)
-
-returns-3 : tie.Need-returns-3
-unfolding burningWith
-returns-3 c = search (needs, ifs, burningWith-on)
-
-returns-4 : tie.Need-returns-4
-unfolding burningWith
-returns-4 c = search (needs, ifs, burningWith-on)
-
-returns-5 : tie.Need-returns-5
-unfolding burningWith
-returns-5 c = search (needs, ifs, burningWith-on)
-
-returns-6 : tie.Need-returns-6
-unfolding burningWith
-returns-6 c = search (needs, ifs, burningWith-on)
-
-returns-7 : tie.Need-returns-7
-unfolding burningWith
-returns-7 c = search (needs, ifs, burningWith-on)
-
-returns-8 : tie.Need-returns-8
-unfolding burningWith
-returns-8 c = search (needs, ifs, burningWith-on)
-
-returns-9 : tie.Need-returns-9
-unfolding burningWith
-returns-9 c = search (needs, ifs, burningWith-on)
-
-returns-10 : tie.Need-returns-10
-unfolding burningWith
-returns-10 c = search (needs, ifs, burningWith-on)
-
-returns-11 : tie.Need-returns-11
-unfolding burningWith
-returns-11 c = search (needs, ifs, burningWith-on)
+returns-2 c = search (needs, ifs)
 
 pub burning-with-spec : {M : Type 1} → statement M
-burning-with-spec =
-    tie.close
-    (tie.spec
-    enum-told
-    enum-told-2
-    enum-told-3
-    enum-told-4
-    enum-told-5
-    enum-told-6
-    enum-told-7
-    enum-told-8
-    enum-told-9
-    enum-told-10
-    enum-told-11
-    returns
-    returns-2
-    returns-3
-    returns-4
-    returns-5
-    returns-6
-    returns-7
-    returns-8
-    returns-9
-    returns-10
-    returns-11)
+burning-with-spec = tie.close (tie.spec is-same-requires returns returns-2)

@@ -1,112 +1,71 @@
-use Rattle.lighting.proofs.Choosing.{ifs}
-use Rattle.lighting.proofs.Laws.{settingsWith-on}
 use Rattle.lighting.specs.Properties.{settingsWith}
 use borrow.Author.Needs.{needs}
 use Rattle.properties.proofs.settings.settings_with.Statement.{statement}
 use Rattle.properties.proofs.settings.settings_with.Tie as tie
 use Rattle.properties.proofs.settings.settings_with.Reads as reads
 use Rattle.properties.proofs.settings.settings_with.Lts as lts
+use Rattle.properties.proofs.settings.flag_with.Reads as flag-with-reads
+use Rattle.properties.proofs.settings.number_with.Reads as number-with-reads
+use Rattle.properties.proofs.settings.real_with.Reads as real-with-reads
+use Rattle.properties.proofs.settings.slot_with.Reads as slot-with-reads
 
-enum-known-n : tie.Need-enum-known-n
-enum-known-n c = search needs
+-- src/settings.rt:45:18
+number-with-requires : tie.Need-number-with-requires
+number-with-requires c κs = search needs
 
-enum-known-n-2 : tie.Need-enum-known-n-2
-enum-known-n-2 c = search needs
+-- src/settings.rt:46:15
+number-with-requires-2 : tie.Need-number-with-requires-2
+number-with-requires-2 c κs = search needs
 
-enum-known-n-3 : tie.Need-enum-known-n-3
-enum-known-n-3 c = search needs
+-- src/settings.rt:47:15
+real-with-requires : tie.Need-real-with-requires
+real-with-requires c κs = search needs
 
-enum-known-n-4 : tie.Need-enum-known-n-4
-enum-known-n-4 c = search needs
+-- src/settings.rt:48:15
+real-with-requires-2 : tie.Need-real-with-requires-2
+real-with-requires-2 c κs = search needs
 
-enum-known-n-5 : tie.Need-enum-known-n-5
-enum-known-n-5 c = search needs
+-- src/settings.rt:49:17
+flag-with-requires : tie.Need-flag-with-requires
+flag-with-requires c κs = search needs
 
-enum-known-n-6 : tie.Need-enum-known-n-6
-enum-known-n-6 c = search needs
+-- src/settings.rt:50:16
+number-with-requires-3 : tie.Need-number-with-requires-3
+number-with-requires-3 c κs = search needs
 
-enum-known-n-7 : tie.Need-enum-known-n-7
-enum-known-n-7 c = search needs
+-- src/settings.rt:51:16
+number-with-requires-4 : tie.Need-number-with-requires-4
+number-with-requires-4 c κs = search needs
 
-enum-known-n-8 : tie.Need-enum-known-n-8
-enum-known-n-8 c = search needs
+-- src/settings.rt:52:14
+number-with-requires-5 : tie.Need-number-with-requires-5
+number-with-requires-5 c κs = search needs
 
-enum-known-n-9 : tie.Need-enum-known-n-9
-enum-known-n-9 c = search needs
+-- src/settings.rt:53:14
+number-with-requires-6 : tie.Need-number-with-requires-6
+number-with-requires-6 c κs = search needs
 
-enum-known-n-10 : tie.Need-enum-known-n-10
-enum-known-n-10 c = search needs
+-- src/settings.rt:54:15
+slot-with-requires : tie.Need-slot-with-requires
+slot-with-requires c κs = search needs
 
-enum-told : tie.Need-enum-told
-enum-told c = search needs
-
+-- src/settings.rt:41:1
 returns : tie.Need-returns
 unfolding settingsWith
-returns c = search (needs, ifs, settingsWith-on)
-
-returns-2 : tie.Need-returns-2
-unfolding settingsWith
-returns-2 c = search (needs, ifs, settingsWith-on)
-
-returns-3 : tie.Need-returns-3
-unfolding settingsWith
-returns-3 c = search (needs, ifs, settingsWith-on)
-
-returns-4 : tie.Need-returns-4
-unfolding settingsWith
-returns-4 c = search (needs, ifs, settingsWith-on)
-
-returns-5 : tie.Need-returns-5
-unfolding settingsWith
-returns-5 c = search (needs, ifs, settingsWith-on)
-
-returns-6 : tie.Need-returns-6
-unfolding settingsWith
-returns-6 c = search (needs, ifs, settingsWith-on)
-
-returns-7 : tie.Need-returns-7
-unfolding settingsWith
-returns-7 c = search (needs, ifs, settingsWith-on)
-
-returns-8 : tie.Need-returns-8
-unfolding settingsWith
-returns-8 c = search (needs, ifs, settingsWith-on)
-
-returns-9 : tie.Need-returns-9
-unfolding settingsWith
-returns-9 c = search (needs, ifs, settingsWith-on)
-
-returns-10 : tie.Need-returns-10
-unfolding settingsWith
-returns-10 c = search (needs, ifs, settingsWith-on)
-
-returns-11 : tie.Need-returns-11
-unfolding settingsWith
-returns-11 c = search (needs, ifs, settingsWith-on)
+returns c = simp (c .slot-with .ensures, c .before .number-with6 .ensures, c .before .before .number-with5 .ensures, c .before .before .before .number-with4 .ensures, c .before .before .before .before .number-with3 .ensures, c .before .before .before .before .before .flag-with .ensures, c .before .before .before .before .before .before .real-with2 .ensures, c .before .before .before .before .before .before .before .real-with .ensures, c .before .before .before .before .before .before .before .before .number-with2 .ensures, c .before .before .before .before .before .before .before .before .before .number-with .ensures)
 
 pub settings-with-spec : {M : Type 1} → statement M
 settings-with-spec =
     tie.close
     (tie.spec
-    enum-known-n
-    enum-known-n-2
-    enum-known-n-3
-    enum-known-n-4
-    enum-known-n-5
-    enum-known-n-6
-    enum-known-n-7
-    enum-known-n-8
-    enum-known-n-9
-    enum-known-n-10
-    enum-told
-    returns
-    returns-2
-    returns-3
-    returns-4
-    returns-5
-    returns-6
-    returns-7
-    returns-8
-    returns-9
-    returns-10
-    returns-11)
+    number-with-requires
+    number-with-requires-2
+    real-with-requires
+    real-with-requires-2
+    flag-with-requires
+    number-with-requires-3
+    number-with-requires-4
+    number-with-requires-5
+    number-with-requires-6
+    slot-with-requires
+    returns)

@@ -1,0 +1,83 @@
+-- What a write of a property leaves meets the property's row, whichever it is. Assumes nothing.
+use mathlib.Core.Path.{_≡_, refl, sym, ap, _∙_}
+use mathlib.Core.Bool.{true, false≢true}
+use Prim.Native.Nat.{ℕ, _+_, _-_}
+use native.Mathlib.Omega.{arith}
+use lib.Dec.{leb}
+use Rattle.lighting.specs.Choice.{if_then_else_}
+use Rattle.lighting.specs.Parameters.{standard}
+use Rattle.lighting.specs.Level.{real, levelOf, limitOf}
+use Rattle.lighting.specs.Rows.{rowOf, within, isAmount, isPriority}
+use Rattle.lighting.specs.Properties.{propertyOf, numberOf, same, changeTo, changeBy, changeOf}
+use Rattle.lighting.specs.declared.Level.{Level}
+use Rattle.lighting.specs.declared.Level.the-variants.{Units, OutOfRange}
+use Rattle.lighting.specs.declared.Property.{Property}
+use Rattle.lighting.specs.declared.Property.the-variants.{RelinquishDefault, FadeTime, RampRate, StepIncrement, BlinkEnable, BlinkTime, BlinkWarnDelay, MinValue, MaxValue, CommandPriority, ElapsedActiveTime, PresentValue, ProgressValue, InProcess, LastOperation, LastLevel, LastRate, LastStep, LastFadeTime, LastDuration, SlotValue, Unknown}
+use Rattle.lighting.specs.declared.Range.{Range}
+use Rattle.lighting.specs.declared.Range.the-variants.{Percent, Limit, Amount, Whole, Priority, ReadOnly}
+use Rattle.lighting.specs.declared.Request.the-variants.{Change}
+use Rattle.lighting.proofs.Split.{by-bool, by-eq, leb-yes, eq-of}
+use Rattle.lighting.proofs.Ranges.{level-units, limit-units}
+use Rattle.lighting.proofs.Facts.{Slot, Meets}
+use Rattle.lighting.proofs.Tied.{within-of, slot-of}
+use Rattle.lighting.proofs.Good.{Good}
+
+-- A WRITE's request is good, by the row
+pub priority-of : (n : ℕ) → isPriority n ≡ true → Slot (n - 1)
+unfolding isPriority if_then_else_
+priority-of n h = by-eq n 0 (λ p e. absurd (false≢true (rw e at h))) (λ p e. slot-of (n - 1) (rw e at h))
+
+to-good : (n : Property) (l : Level) → ((v : ℕ) → l ≡ Units v → Good (Change n v)) → Good (changeTo n l)
+unfolding changeTo
+to-good n (Units v) f = f v refl
+to-good n OutOfRange f = omega arith
+
+row-good : (r : Range) (n : Property) (x : ℕ) → ((v : ℕ) → Meets r v → Good (Change n v)) → Good (changeBy r n x)
+unfolding changeBy if_then_else_
+row-good Percent n x f = to-good n (levelOf (real x)) (λ v e. let u = level-units (real x) v e in f v (record { least = u .0; most = u .1 }))
+row-good Limit n x f = to-good n (limitOf (real x)) (λ v e. let u = limit-units (real x) v e in f v (record { least = u .0; most = u .1 }))
+row-good Amount n x f = by-bool (isAmount (real x)) (λ e. rw e (f x e)) (λ e. rw e (omega arith))
+row-good (Whole low high) n x f = by-bool (within low high x) (λ e. rw e (f x (within-of low high x e))) (λ e. rw e (omega arith))
+row-good Priority n x f = by-bool (isPriority x) (λ e. rw e (f (x - 1) (priority-of x e))) (λ e. rw e (omega arith))
+row-good ReadOnly n x f = omega arith
+
+pub change-good : (n : Property) (x : ℕ) → Good (changeOf standard n x)
+unfolding changeOf
+change-good n x = row-good (rowOf standard n) n x (λ v m. m)
+
+-- THE SAME PROPERTY has the same row: the number says which it is
+row-number : (n : Property) → rowOf standard (propertyOf (numberOf n)) ≡ rowOf standard n
+unfolding propertyOf numberOf if_then_else_
+row-number RelinquishDefault = refl
+row-number FadeTime = refl
+row-number RampRate = refl
+row-number StepIncrement = refl
+row-number BlinkEnable = refl
+row-number BlinkTime = refl
+row-number BlinkWarnDelay = refl
+row-number MinValue = refl
+row-number MaxValue = refl
+row-number CommandPriority = refl
+row-number ElapsedActiveTime = refl
+row-number PresentValue = refl
+row-number ProgressValue = refl
+row-number InProcess = refl
+row-number LastOperation = refl
+row-number LastLevel = refl
+row-number LastRate = refl
+row-number LastStep = refl
+row-number LastFadeTime = refl
+row-number LastDuration = refl
+row-number (SlotValue i) = rw (leb-yes {a = 0x21} {b = 0x21 + i} (omega arith)) (by-bool (leb (0x21 + i) 0x30) (λ e. rw e) (λ e. rw e))
+row-number Unknown = refl
+
+pub same-row : (n m : Property) → same n m ≡ true → rowOf standard n ≡ rowOf standard m
+unfolding same
+same-row n m h =
+    sym (row-number n) ∙ ap (λ (k : ℕ). rowOf standard (propertyOf k)) (eq-of h) ∙ row-number m
+
+-- A FIELD that takes the value of a write of its own property keeps its row
+pub kept-met : (field n : Property) (v old : ℕ) → Meets (rowOf standard n) v → Meets (rowOf standard field) old
+    → Meets (rowOf standard field) (if same field n then v else old)
+unfolding if_then_else_
+kept-met field n v old g h = by-bool (same field n) (λ e. rw e (rw (same-row field n e) g)) (λ e. rw e h)
