@@ -2,7 +2,8 @@
 // outputs.
 ghost use mathlib.Core.Path.{_≡_};
 ghost use Rattle.lighting.specs.Parameters.{standard};
-ghost use Rattle.lighting.specs.Frames.{writeLevel, writeOf, emptyOf, requestBy, requestOf, callOf, calledBy, called, clockOf, parseBy, parse};
+ghost use Rattle.lighting.specs.Frames.{writeLevel, writeOf, emptyOf, requestBy, requestOf, callOf, called, clockOf, parseBy, parse};
+use lighting::Call;
 use lighting::Frame;
 use lighting::Level;
 use lighting::Request;
@@ -69,44 +70,33 @@ fn request_of(k: u8, b: &[u8]) -> Request
     )
 }
 
-fn call_of(station: u8, number: u32, output: u8, b: &[u8]) -> Frame
-    ensures { λ r. ⌜ r ≡ callOf standard station number output (now (b .entry)) ⌝ }
+fn call_of(b: &[u8]) -> Call
+    ensures { λ r. ⌜ r ≡ callOf standard (now (b .entry)) ⌝ }
 {
-    Frame::Call {
-        station,
-        number,
+    Call {
+        station: field::byte_at(b, 1),
+        number: field::word32_at(b, 2),
         time: field::word48_at(b, 6),
-        output,
+        output: field::byte_at(b, 12),
         request: request_of(field::byte_at(b, 0), b),
     }
 }
 
-fn call_by(c: usize, station: u8, number: u32, output: u8, b: &[u8]) -> Frame
-    ensures { λ r. ⌜ r ≡ calledBy standard c station number output (now (b .entry)) ⌝ }
+// Station over 7, or number 0, is refusal 4; an output that is not in the table of c is 5.
+fn called(c: usize, call: Call) -> Frame
+    ensures { λ r. ⌜ r ≡ called standard c call ⌝ }
 {
-    if station < 8 {
-        if number == 0 {
+    if call.station < 8 {
+        if call.number == 0 {
             Frame::Bad(4)
-        } else if (output as usize) < c {
-            call_of(station, number, output, b)
+        } else if (call.output as usize) < c {
+            Frame::Calls(call)
         } else {
             Frame::Bad(5)
         }
     } else {
         Frame::Bad(4)
     }
-}
-
-fn call(c: usize, b: &[u8]) -> Frame
-    ensures { λ r. ⌜ r ≡ called standard c (now (b .entry)) ⌝ }
-{
-    call_by(
-        c,
-        field::byte_at(b, 1),
-        field::word32_at(b, 2),
-        field::byte_at(b, 12),
-        b,
-    )
 }
 
 fn clock_of(b: &[u8]) -> Frame
@@ -122,7 +112,11 @@ fn parse_by(c: usize, k: u8, l: u32, b: &[u8]) -> Frame
     if l == 0 {
         Frame::Bad(2)
     } else if b.len() == l as usize {
-        if k == 1 { clock_of(b) } else { call(c, b) }
+        if k == 1 {
+            clock_of(b)
+        } else {
+            called(c, call_of(b))
+        }
     } else {
         Frame::Bad(3)
     }

@@ -22,10 +22,10 @@ use Rattle.lighting.specs.Panel.{Panel, Station, every, countsSound, pan
 use Rattle.lighting.specs.Plain.{Event, clock, first, above, inTime, Latest, latest, judged, Told, handed, plainFramed, plainStart}
 use Rattle.lighting.specs.Demand.{after, answers, plainAfter, plainAnswers}
 use Rattle.lighting.specs.declared.Output.{Output}
-use Rattle.lighting.specs.declared.Request.{Request}
 use Rattle.lighting.specs.declared.Answer.{Answer}
+use Rattle.lighting.specs.declared.Call.{Call}
 use Rattle.lighting.specs.declared.Frame.{Frame}
-use Rattle.lighting.specs.declared.Frame.the-variants.{Bad, Clock, Call}
+use Rattle.lighting.specs.declared.Frame.the-variants.{Bad, Clock, Calls}
 use Rattle.lighting.specs.declared.Verdict.{Verdict}
 use Rattle.lighting.specs.declared.Verdict.the-variants.{TurnedDown, Copied, Clocked, Arrives}
 use Rattle.lighting.proofs.Split.{also-both, also-yes, by-eq, by-lt, by-le, by-bool, leb-yes, leb-no}
@@ -107,7 +107,10 @@ met-judged : (c : ℕ) (k : List Station) (w : Told) (b : Bytes) (f : Frame) →
 unfolding metBy met metNumber judged stationOf
 met-judged c k w b (Bad r) m g = refl
 met-judged c k w b (Clock t) m g = rw (m .times t) (not-before t (w .panel .time) (TurnedDown 8) (Clocked t))
-met-judged c k w b (Call s n t i r) m g =
+met-judged c k w b (Calls call) m g =
+    let s = call .station in
+    let n = call .number in
+    let t = call .time in
     let e = m .known s (g .station) in
     rw (
       ap (λ (z : Latest). z .number) e,
@@ -116,7 +119,7 @@ met-judged c k w b (Call s n t i r) m g =
       m .tops s n (g .number),
       m .times t,
     )
-    (alike n (latest s (w .past) .number) t (w .panel .time) _ (TurnedDown 7) (TurnedDown 8) (Arrives s n t i r))
+    (alike n (latest s (w .past) .number) t (w .panel .time) _ (TurnedDown 7) (TurnedDown 8) (Arrives call))
 
 pub decide-judged : (c : ℕ) (k : List Station) (w : Told) (b : Bytes) → Octets b → Linked c k w
     → decide standard (joined k w) b ≡ judged (w .past) b (parse standard (length (w .panel .outputs)) b)
@@ -125,16 +128,16 @@ decide-judged c k w b h m =
     rw (m .count) (met-judged c k w b (parse standard c b) m (proper c b h))
 
 -- WHAT IS KNOWN of a verdict
-pub record Arrived (c : ℕ) (w : Told) (b : Bytes) (s n t i : ℕ) (r : Request) : Type 0 where
-  pub frame : Called c b s n t i r
-  pub new : latest s (w .past) .number < n
-  pub due : w .panel .time ≤ t
+pub record Arrived (c : ℕ) (w : Told) (b : Bytes) (call : Call) : Type 0 where
+  pub frame : Called c b call
+  pub new : latest (call .station) (w .past) .number < call .number
+  pub due : w .panel .time ≤ call .time
 
 abbrev pub Moved : ℕ → Told → Bytes → Verdict → Type 0
 Moved c w b (TurnedDown r) = 2 ≤ r
 Moved c w b (Copied a) = NotOne a
 Moved c w b (Clocked t) = (w .panel .time ≤ t) × (t < 2 ^ 48)
-Moved c w b (Arrives s n t i r) = Arrived c w b s n t i r
+Moved c w b (Arrives call) = Arrived c w b call
 
 pub judged-moved : (c : ℕ) (k : List Station) (w : Told) (b : Bytes) (f : Frame) → Linked c k w → Proper c b f
     → Moved c w b (judged (w .past) b f)
@@ -144,7 +147,10 @@ judged-moved c k w b (Clock t) m g =
     rw
     (m .times t)
     (by-le (w .panel .time) t (λ h e. rw e (h, g)) (λ h e. rw e (omega arith)))
-judged-moved c k w b (Call s n t i r) m g =
+judged-moved c k w b (Calls call) m g =
+    let s = call .station in
+    let n = call .number in
+    let t = call .time in
     rw
     (m .tops s n (g .number), m .times t)
     (by-lt
@@ -168,8 +174,8 @@ abbrev pub nextStations : Bytes → List Station → Told → Verdict → List S
 nextStations b k w (TurnedDown r) = k
 nextStations b k w (Copied a) = k
 nextStations b k w (Clocked t) = k
-nextStations b k w (Arrives s n t i r) =
-    set k s (record { answer = handed b w (Arrives s n t i r) .answer; number = n; frame = padded b })
+nextStations b k w (Arrives call) =
+    set k (call .station) (record { answer = handed b w (Arrives call) .answer; number = call .number; frame = padded b })
 
 step-same : (c : ℕ) (k : List Station) (w : Told) (b : Bytes) (v : Verdict) → Linked c k w → Moved c w b v
     → carried b (joined k w) v ≡ record { panel = joined (nextStations b k w v) (handed b w v .told); answer = handed b w v .answer }
@@ -177,8 +183,8 @@ unfolding carried handed
 step-same c k w b (TurnedDown r) m g = refl
 step-same c k w b (Copied a) m g = refl
 step-same c k w b (Clocked t) m g = rw (lived-advance t (w .panel) (g .0) (omega (arith, g .1)) (m .sound))
-step-same c k w b (Arrives s n t i r) m g =
-    rw (lived-advance t (w .panel) (g .due) (omega (arith, g .frame .time)) (m .sound))
+step-same c k w b (Arrives call) m g =
+    rw (lived-advance (call .time) (w .panel) (g .due) (omega (arith, g .frame .time)) (m .sound))
 
 and-le : (a b c : ℕ) → b ≤ a → (leb a c also leb b c) ≡ leb a c
 unfolding if_then_else_
@@ -246,14 +252,20 @@ linked-clock c k w t m g u =
       others = m .others;
     }
 
-linked-first : (c : ℕ) (k : List Station) (w : Told) (b : Bytes) (s n t i : ℕ) (r : Request) (l : List Output) (a : Answer)
-    → Linked c k w → Arrived c w b s n t i r → length l ≡ c → AllSound t l → NotOne a
+linked-first : (c : ℕ) (k : List Station) (w : Told) (b : Bytes) (call : Call) (l : List Output) (a : Answer)
+    → Linked c k w → Arrived c w b call → length l ≡ c → AllSound (call .time) l → NotOne a
     → Linked
     c
-    (set k s (record { answer = a; number = n; frame = padded b }))
-    (record { past = first s n t b a ∷ w .past; panel = record { outputs = l; time = t } })
+    (set k (call .station) (record { answer = a; number = call .number; frame = padded b }))
+    (record {
+      past = first (call .station) (call .number) (call .time) b a ∷ w .past;
+      panel = record { outputs = l; time = call .time };
+    })
 unfolding inTime
-linked-first c k w b s n t i r l a m g e h z =
+linked-first c k w b call l a m g e h z =
+    let s = call .station in
+    let n = call .number in
+    let t = call .time in
     let x : Station = record { answer = a; number = n; frame = padded b } in
     record {
       least = m .least;
@@ -277,14 +289,18 @@ step-linked c k w b (TurnedDown r) m g = m
 step-linked c k w b (Copied a) m g = m
 step-linked c k w b (Clocked t) m g =
     rw (lived-advance t (w .panel) (g .0) (omega (arith, g .1)) (m .sound)) (linked-clock c k w t m (g .0) (g .1))
-step-linked c k w b (Arrives s n t i r) m g =
+step-linked c k w b (Arrives call) m g =
+    let s = call .station in
+    let t = call .time in
+    let i = call .output in
+    let r = call .request in
     let u : t ≤ top = omega (arith, g .frame .time) in
     let l = map (advance (w .panel .time) t) (w .panel .outputs) in
     let e : length l ≡ c = length-map (w .panel .outputs) (advance (w .panel .time) t) ∙ m .count in
     let h : AllSound t l = all-advance (w .panel .time) t (w .panel .outputs) (g .due) u (m .sound) in
     rw
     (lived-advance t (w .panel) (g .due) u (m .sound))
-    (linked-first c k w b s n t i r (served t l s i r .outputs) (served t l s i r .answer) m g
+    (linked-first c k w b call (served t l s i r .outputs) (served t l s i r .answer) m g
     (served-length t l s i r ∙ e)
     (served-sound t l s i r (g .frame .good) (omega (arith, e, g .frame .output)) h)
     (served-not-one t l s i r (g .frame .good)))
@@ -295,7 +311,7 @@ unfolding handed refusalOf
 handed-other c k w b (TurnedDown r) m g = record { other = omega arith }
 handed-other c k w b (Copied a) m g = g
 handed-other c k w b (Clocked t) m g = record { other = omega arith }
-handed-other c k w b (Arrives s n t i r) m g = served-not-one _ _ s i r (g .frame .good)
+handed-other c k w b (Arrives call) m g = served-not-one _ _ (call .station) (call .output) (call .request) (g .frame .good)
 
 -- the engine's step from a linked panel is the plain panel's, and the panels are linked again
 pub record Stepped (c : ℕ) (k : List Station) (w : Told) (b : Bytes) : Type 0 where

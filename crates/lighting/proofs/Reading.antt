@@ -14,7 +14,7 @@ use Rattle.lighting.specs.Level.{real, levelOf, limitOf, amountOf, inRan
 use Rattle.lighting.specs.Field.{byteAt, bigEndian}
 use Rattle.lighting.specs.Properties.{propertyOf, within, isPriority, changeDefault, changeMin, changeMax, changeRamp, changeStep, changeOf}
 use Rattle.lighting.specs.Rules.{isAmount}
-use Rattle.lighting.specs.Frames.{Bytes, Octets, kindLength, ordered, operationWith, orderedWith, fadeOrder, rampOrderAt, rampOrder, stepOrLevel, orderOf, writeLevel, writeOf, emptyOf, requestBy, requestOf, callOf, calledBy, called, clockOf, parseBy, parse}
+use Rattle.lighting.specs.Frames.{Bytes, Octets, kindLength, ordered, operationWith, orderedWith, fadeOrder, rampOrderAt, rampOrder, stepOrLevel, orderOf, writeLevel, writeOf, emptyOf, requestBy, requestOf, callOf, called, clockOf, parseBy, parse}
 use Rattle.lighting.specs.declared.Level.{Level}
 use Rattle.lighting.specs.declared.Level.the-variants.{Units, OutOfRange}
 use Rattle.lighting.specs.declared.Operand.{Operand}
@@ -23,9 +23,9 @@ use Rattle.lighting.specs.declared.Operation.{Operation}
 use Rattle.lighting.specs.declared.Operation.the-variants.{Stop, FadeToOver, RampToAtRate, StepUp, StepDown, Relinquish}
 use Rattle.lighting.specs.declared.Property.{Property}
 use Rattle.lighting.specs.declared.Property.the-variants.{RelinquishDefault, FadeTime, RampRate, StepIncrement, BlinkEnable, BlinkTime, BlinkWarnDelay, MinValue, MaxValue, CommandPriority, ElapsedActiveTime, PresentValue, ProgressValue, InProcess, LastOperation, LastLevel, LastRate, LastStep, LastFadeTime, LastDuration, SlotValue, Unknown}
-use Rattle.lighting.specs.declared.Request.{Request}
+use Rattle.lighting.specs.declared.Call.{Call}
 use Rattle.lighting.specs.declared.Frame.{Frame}
-use Rattle.lighting.specs.declared.Frame.the-variants.{Bad, Clock, Call}
+use Rattle.lighting.specs.declared.Frame.the-variants.{Bad, Clock, Calls}
 use Rattle.lighting.proofs.Split.{by-bool, by-eq, by-lt, le-of}
 use Rattle.lighting.proofs.Ranges.{level-units, limit-units}
 use Rattle.lighting.proofs.Facts.{Slot}
@@ -157,12 +157,12 @@ six-bytes b at h =
     )
 
 -- THE FRAME
-pub record Called (c : ℕ) (b : Bytes) (s n t i : ℕ) (r : Request) : Type 0 where
-  pub station : s < 8
-  pub number : 0 < n
-  pub time : t < 2 ^ 48
-  pub output : i < c
-  pub good : Good r
+pub record Called (c : ℕ) (b : Bytes) (call : Call) : Type 0 where
+  pub station : call .station < 8
+  pub number : 0 < call .number
+  pub time : call .time < 2 ^ 48
+  pub output : call .output < c
+  pub good : Good (call .request)
   -- the bytes are those of a call, and as many as its kind has
   pub sized : length b ≡ kindLength (byteAt b 0)
   pub kind : byteAt b 0 ≢ 1
@@ -171,11 +171,11 @@ pub record Called (c : ℕ) (b : Bytes) (s n t i : ℕ) (r : Request) : Type 0 w
 abbrev pub Proper : ℕ → Bytes → Frame → Type 0
 Proper c b (Bad r) = 2 ≤ r
 Proper c b (Clock t) = t < 2 ^ 48
-Proper c b (Call s n t i r) = Called c b s n t i r
+Proper c b (Calls call) = Called c b call
 
 called-proper : (c : ℕ) (b : Bytes) → Octets b → length b ≡ kindLength (byteAt b 0) → byteAt b 0 ≢ 1 → kindLength (byteAt b 0) ≢ 0
-    → Proper c b (called standard c b)
-unfolding called calledBy callOf if_then_else_
+    → Proper c b (called standard c (callOf standard b))
+unfolding called callOf if_then_else_
 called-proper c b h z y k =
     by-lt
     (byteAt b 1)

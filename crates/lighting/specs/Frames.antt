@@ -21,7 +21,8 @@ use Rattle.lighting.specs.declared.Operation.the-variants.{Stop, FadeTo,
 use Rattle.lighting.specs.declared.Request.{Request}
 use Rattle.lighting.specs.declared.Request.the-variants.{Refuse, Write, Empty, Read, Order}
 use Rattle.lighting.specs.declared.Frame.{Frame}
-use Rattle.lighting.specs.declared.Frame.the-variants.{Bad, Clock, Call}
+use Rattle.lighting.specs.declared.Call.{Call}
+use Rattle.lighting.specs.declared.Frame.the-variants.{Bad, Clock, Calls}
 
 abbrev pub Bytes : Type 0
 Bytes = List ℕ
@@ -134,18 +135,22 @@ requestOf p k b =
     requestBy p k (byteAt b 13) (bigEndian 4 b 14) (bigEndian 4 b 13) (bigEndian 4 b 17) (bigEndian 4 b 21)
 
 -- THE FRAME that b is, to a table of c outputs. 'Every other kind goes on with station (1), number (4), time (6), output (1)'
-unfoldable pub callOf : Parameters → ℕ → ℕ → ℕ → Bytes → Frame
-callOf p station number output b = Call station number (bigEndian 6 b 6) output (requestOf p (byteAt b 0) b)
+unfoldable pub callOf : Parameters → Bytes → Call
+callOf p b =
+    record {
+      station = byteAt b 1;
+      number = bigEndian 4 b 2;
+      time = bigEndian 6 b 6;
+      output = byteAt b 12;
+      request = requestOf p (byteAt b 0) b;
+    }
 
 -- 'station over 7, or number 0' is 4, 'output not in the table' is 5
-unfoldable pub calledBy : Parameters → ℕ → ℕ → ℕ → ℕ → Bytes → Frame
-calledBy p c station number output b =
-    if ltb station (p .stations)
-    then (if eqb number 0 then Bad 4 else if ltb output c then callOf p station number output b else Bad 5)
+unfoldable pub called : Parameters → ℕ → Call → Frame
+called p c call =
+    if ltb (call .station) (p .stations)
+    then (if eqb (call .number) 0 then Bad 4 else if ltb (call .output) c then Calls call else Bad 5)
     else Bad 4
-
-unfoldable pub called : Parameters → ℕ → Bytes → Frame
-called p c b = calledBy p c (byteAt b 1) (bigEndian 4 b 2) (byteAt b 12) b
 
 -- 'Kind 01, clock: time (6 bytes)'
 unfoldable pub clockOf : Bytes → Frame
@@ -155,7 +160,7 @@ clockOf b = Clock (bigEndian 6 b 1)
 unfoldable pub parseBy : Parameters → ℕ → ℕ → ℕ → Bytes → Frame
 parseBy p c k l b =
     if eqb l 0 then Bad 2
-    else if eqb (length b) l then (if eqb k 1 then clockOf b else called p c b)
+    else if eqb (length b) l then (if eqb k 1 then clockOf b else called p c (callOf p b))
     else Bad 3
 
 unfoldable pub parse : Parameters → ℕ → Bytes → Frame

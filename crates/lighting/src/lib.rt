@@ -116,11 +116,14 @@ pub enum Answer {
     Refused(u8),
 }
 
+// The bytes of the longest frame: no kind has more. The definitions have the same number, `longestFrame`.
+pub const LONGEST_FRAME: usize = 25;
+
 // What a station was answered last, to which number and which frame: a retransmission, the paper's copy, is known by them. Number 0: none yet.
 pub struct Station {
     pub answer: Answer,
     pub number: u32,
-    pub frame: [u8; 25],
+    pub frame: [u8; LONGEST_FRAME],
 }
 
 // ---- REALs that a frame carries
@@ -191,17 +194,20 @@ pub enum Request {
     Order(Command),
 }
 
-// A string of bytes as it is read: a refusal from 2 to 5, a clock, or a call of a station.
+// A call of a station: 'station (1), number (4), time (6), output (1)', and what its kind asks of that output.
+pub struct Call {
+    pub station: u8,
+    pub number: u32,
+    pub time: u64,
+    pub output: u8,
+    pub request: Request,
+}
+
+// A string of bytes as it is read: a refusal from 2 to 5, a clock, or a call.
 pub enum Frame {
     Bad(u8),
     Clock(u64),
-    Call {
-        station: u8,
-        number: u32,
-        time: u64,
-        output: u8,
-        request: Request,
-    },
+    Calls(Call),
 }
 
 // What is to be done with a frame.
@@ -209,13 +215,7 @@ pub enum Verdict {
     TurnedDown(u8),
     Copied(Answer),
     Clocked(u64),
-    Arrives {
-        station: u8,
-        number: u32,
-        time: u64,
-        output: u8,
-        request: Request,
-    },
+    Arrives(Call),
 }
 
 // ---- results of acting

@@ -5,14 +5,18 @@ use Rattle.frame.proofs.parse_by.Statement.{statement}
 use Rattle.frame.proofs.parse_by.Tie as tie
 use Rattle.frame.proofs.parse_by.Reads as reads
 use Rattle.frame.proofs.parse_by.Lts as lts
-use Rattle.frame.proofs.call.Reads as call-reads
+use Rattle.frame.proofs.call_of.Reads as call-of-reads
+use Rattle.frame.proofs.called.Reads as called-reads
 use Rattle.frame.proofs.clock_of.Reads as clock-of-reads
 
 clock-of-requires : tie.Need-clock-of-requires
 clock-of-requires c κs = search needs
 
-call-requires : tie.Need-call-requires
-call-requires c κs = search needs
+call-of-requires : tie.Need-call-of-requires
+call-of-requires c κs = search needs
+
+called-requires : tie.Need-called-requires
+called-requires c κs = search needs
 
 returns : tie.Need-returns
 unfolding parseBy
@@ -24,7 +28,7 @@ returns-2 c = search (needs, ifs)
 
 returns-3 : tie.Need-returns-3
 unfolding parseBy
-returns-3 c = search (needs, ifs)
+returns-3 c = search (needs, ifs, ← c .before .call-of .ensures)
 
 returns-4 : tie.Need-returns-4
 unfolding parseBy
@@ -32,4 +36,12 @@ returns-4 c = search (needs, ifs)
 
 pub parse-by-spec : {M : Type 1} → statement M
 parse-by-spec =
-    tie.close (tie.spec clock-of-requires call-requires returns returns-2 returns-3 returns-4)
+    tie.close
+    (tie.spec
+    clock-of-requires
+    call-of-requires
+    called-requires
+    returns
+    returns-2
+    returns-3
+    returns-4)
