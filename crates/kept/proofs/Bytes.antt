@@ -10,14 +10,13 @@ use native.Mathlib.Omega.{arith}
 use lib.Dec.{eqb}
 use lib.ListN.{length, getD, set, take, drop, replicate, length-take, drop-of-length-le}
 use lib.Seq.{take-all, drop-cons, getD-take}
-use Rattle.lighting.specs.Kinds.{longestFrame}
+use Rattle.lighting.specs.Kinds.{longestFrame, kindLength}
 use Rattle.lighting.specs.Choice.{if_then_else_, _also_}
 use Rattle.lighting.specs.Field.{byteAt}
-use Rattle.lighting.specs.Frames.{kindLength}
 use Rattle.lighting.specs.Copies.{sameBytes}
 use Rattle.lighting.specs.Panel.{padded, restored}
 use Rattle.lighting.proofs.Split.{by-bool, eqb-hit, eqb-miss}
-use Rattle.lighting.proofs.Lengths.{length-most}
+use Rattle.lighting.proofs.KindTable.{length-most}
 
 -- A FRAME KEPT: its first i bytes, zeros after them, and the byte at i stored
 stored : (k i : ℕ) (b : List ℕ) → i < length b → set (take i b ++ replicate (suc k) 0) i (getD b i 0) ≡ take (suc i) b ++ replicate k 0

@@ -24,7 +24,7 @@ use Rattle.lighting.specs.declared.Frame.{Frame}
 use Rattle.lighting.specs.declared.Frame.the-variants.{Bad, Clock, Calls}
 use Rattle.lighting.proofs.Split.{by-bool, by-lt, also-both, eq-of}
 use Rattle.lighting.proofs.Reading.{Proper, proper}
-use Rattle.lighting.proofs.Lengths.{length-most}
+use Rattle.lighting.proofs.KindTable.{length-most}
 use Rattle.lighting.proofs.Tied.{tested-stays}
 
 -- THE START

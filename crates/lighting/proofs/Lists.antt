@@ -12,7 +12,8 @@ use lib.Seq.{getD-set-same, getD-set-other}
 use Rattle.lighting.specs.Choice.{if_then_else_, _also_}
 use Rattle.lighting.specs.Parameters.{standard}
 use Rattle.lighting.specs.Field.{byteAt}
-use Rattle.lighting.specs.Frames.{Bytes, Octets, Strings, kindLength, parse}
+use Rattle.lighting.specs.Kinds.{rowOf, kindLength, isCall}
+use Rattle.lighting.specs.Frames.{Bytes, Octets, Strings, parse}
 use Rattle.lighting.specs.Passing.{top, advance}
 use Rattle.lighting.specs.Rules.{sound, stationSound}
 use Rattle.lighting.specs.Fresh.{freshOutput, freshStation}
@@ -30,7 +31,7 @@ use Rattle.lighting.specs.declared.Verdict.{Verdict}
 use Rattle.lighting.specs.declared.Verdict.the-variants.{TurnedDown, Copied, Clocked, Arrives}
 use Rattle.lighting.proofs.Split.{also-both, also-yes, by-eq, by-lt, by-le, by-bool, leb-yes, leb-no}
 use Rattle.lighting.proofs.Reading.{Called, Proper, proper}
-use Rattle.lighting.proofs.Lengths.{call-kind, padded-kind, restored-padded}
+use Rattle.lighting.proofs.Lengths.{padded-kind, restored-padded}
 use Rattle.lighting.specs.Answers.{refusalOf}
 use Rattle.lighting.specs.declared.Answer.the-variants.{Done}
 use Rattle.lighting.proofs.Answered.{NotOne, not-one}
@@ -208,11 +209,10 @@ kept-set [] i x h g = refl
 kept-set (y ∷ k) zero x h g = also-yes g (also-both h .1)
 kept-set (y ∷ k) (suc i) x h g = also-yes (also-both h .0) (kept-set k i x (also-both h .1) g)
 
-station-kept : (a : Answer) (n : ℕ) (b : Bytes) → byteAt b 0 ≢ 1 → kindLength (byteAt b 0) ≢ 0
+station-kept : (a : Answer) (n : ℕ) (b : Bytes) → isCall (byteAt b 0) ≡ true
     → stationSound (record { answer = a; number = n; frame = padded b }) ≡ true
 unfolding stationSound if_then_else_
-station-kept a n b y z =
-    by-bool (eqb n 0) (λ e. rw e) (λ e. rw (e, padded-kind b) (call-kind (byteAt b 0) y z))
+station-kept a n b y = by-bool (eqb n 0) (λ e. rw e) (λ e. rw (e, padded-kind b) y)
 
 known-set : (k : List Station) (s s′ n t : ℕ) (b : Bytes) (a : Answer) (h : List Event) → s < length k → length b ≡ kindLength (byteAt b 0)
     → asLatest (getD k s′ freshStation) ≡ latest s′ h
@@ -274,7 +274,7 @@ linked-first c k w b call l a m g e h z =
       sound = h;
       bounded = omega (arith, g .frame .time);
       eight = length-set k s x ∙ m .eight;
-      kept = kept-set k s x (m .kept) (station-kept a n b (g .frame .kind) (g .frame .known));
+      kept = kept-set k s x (m .kept) (station-kept a n b (g .frame .kind));
       known = λ s′ l′.
           known-set k s s′ n t b a (w .past) (omega (arith, m .eight, g .frame .station)) (g .frame .sized) (m .known s′ l′);
       tops = λ s′ n′ l′. tops-more s n s′ n′ t b a (w .past) (m .tops s′ n′ l′) (g .new);
@@ -361,7 +361,7 @@ listed c k w (b ∷ l) s m =
     }
 
 pub linked-start : (c : ℕ) → 1 ≤ c → c ≤ 64 → Linked c (replicate 8 freshStation) (plainStart c)
-unfolding plainStart every stationSound latest above inTime if_then_else_ restored kindLength byteAt freshStation
+unfolding plainStart every stationSound latest above inTime if_then_else_ restored rowOf kindLength byteAt freshStation
 linked-start c p q =
     record {
       least = p;

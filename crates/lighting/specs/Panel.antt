@@ -8,8 +8,8 @@ use lib.ListN.{getD, set, length, replicate, take}
 use Rattle.lighting.specs.Choice.{if_then_else_, _also_}
 use Rattle.lighting.specs.Parameters.{Parameters}
 use Rattle.lighting.specs.Field.{byteAt}
-use Rattle.lighting.specs.Kinds.{longestFrame}
-use Rattle.lighting.specs.Frames.{Bytes, kindLength, parse}
+use Rattle.lighting.specs.Kinds.{longestFrame, kindLength}
+use Rattle.lighting.specs.Frames.{Bytes, parse}
 use Rattle.lighting.specs.Copies.{sameBytes, copyOr6}
 use Rattle.lighting.specs.Passing.{advance}
 use Rattle.lighting.specs.Fresh.{freshOutput, freshStation}

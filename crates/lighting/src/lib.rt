@@ -97,6 +97,25 @@ pub struct Command {
     pub duration: Duration,
 }
 
+// A field of an operation, there or not: a REAL as it was written, and a time.
+pub enum RealField {
+    Real(f32),
+    NoReal,
+}
+
+pub enum TimeField {
+    Time(u32),
+    NoTime,
+}
+
+// The fields of an operation, from left to right: level, rate, step and fade time.
+pub struct OperationFields {
+    pub level: RealField,
+    pub rate: RealField,
+    pub step: RealField,
+    pub fade: TimeField,
+}
+
 pub struct Output {
     pub settings: Settings,
     pub slots: Slots,
@@ -138,6 +157,40 @@ pub enum Level {
 pub enum Operand {
     Taken(f32),
     Unfit,
+}
+
+// ---- kinds of frames
+
+// What a call asks of its output, by its kind: 02 to 05, then the commands, 10 to 1A.
+pub enum Action {
+    WritesLevel,
+    EmptiesSlot,
+    WritesProperty,
+    ReadsProperty,
+    Stops,
+    FadesTo,
+    FadesToOver,
+    RampsTo,
+    RampsToAtRate,
+    StepsUp,
+    StepsDown,
+    StepsUpBy,
+    StepsDownBy,
+    GoesTo,
+    Relinquishes,
+}
+
+// What a kind byte says: none that is known, a clock, or a call of a station.
+pub enum Kind {
+    NoKind,
+    ClockKind,
+    CallKind(Action),
+}
+
+// A row of the table of kinds. The length is in bytes, the kind byte among them.
+pub struct KindRow {
+    pub length: u32,
+    pub kind: Kind,
 }
 
 // ---- requests

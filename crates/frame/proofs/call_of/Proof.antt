@@ -21,15 +21,12 @@ word48-at-requires c κs = search needs
 byte-at-requires-2 : tie.Need-byte-at-requires-2
 byte-at-requires-2 c κs = search needs
 
-byte-at-requires-3 : tie.Need-byte-at-requires-3
-byte-at-requires-3 c κs = search needs
-
 request-of-requires : tie.Need-request-of-requires
 request-of-requires c κs = search needs
 
 returns : tie.Need-returns
 unfolding callOf
-returns c = simp (c .request-of .ensures, c .before .byte-at3 .ensures, c .before .before .byte-at2 .ensures, c .before .before .before .word48-at .ensures .0, c .before .before .before .before .word32-at .ensures, c .before .before .before .before .before .byte-at .ensures)
+returns c = simp (c .request-of .ensures, c .before .byte-at2 .ensures, c .before .before .word48-at .ensures .0, c .before .before .before .word32-at .ensures, c .before .before .before .before .byte-at .ensures)
 
 pub call-of-spec : {M : Type 1} → statement M
 call-of-spec =
@@ -39,6 +36,5 @@ call-of-spec =
     word32-at-requires
     word48-at-requires
     byte-at-requires-2
-    byte-at-requires-3
     request-of-requires
     returns)
