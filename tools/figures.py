@@ -7,8 +7,8 @@ import sys
 
 SPECS = 'crates/lighting/specs/%s.antt'
 OUT = 'crates/lighting/proofs/Figures.antt'
-OF_OUTPUTS = 'Choice Level Slots Value Record Passing Writing Commands Rows Properties Fresh Answers'.split()
-OF_PANELS = OF_OUTPUTS + 'Field Frames Rules Acting Copies Panel Worked'.split()
+OF_OUTPUTS = 'Choice Level Slots Value Record Passing Writing Operations Commands Rows Properties Fresh Answers'.split()
+OF_PANELS = OF_OUTPUTS + 'Field Kinds Frames Rules Acting Copies Panel Worked'.split()
 
 
 def definitions(module):

@@ -1,13 +1,14 @@
 // What the properties read as. Levels read out as REALs, and the last command's REALs as they were written.
 ghost use mathlib.Core.Path.{_≡_};
 ghost use Prim.Native.Nat.{_+_};
-ghost use Rattle.lighting.specs.Properties.{levelAnswer, slotAnswer, flag, elapsedActive, operationNumber, realAnswer, lastLevel, lastRate, lastStep, lastFadeTime, lastDuration, shown};
+ghost use Rattle.lighting.specs.Properties.{levelAnswer, slotAnswer, flag, elapsedActive, realAnswer, realFieldAnswer, timeFieldAnswer, lastDuration, shown};
 use lighting::Answer;
 use lighting::Duration;
-use lighting::Operation;
 use lighting::Output;
 use lighting::Property;
+use lighting::RealField;
 use lighting::Slots;
+use lighting::TimeField;
 
 fn level_answer(v: u32) -> Answer
     ensures { λ r. ⌜ r ≡ levelAnswer v ⌝ }
@@ -51,101 +52,28 @@ fn elapsed_active(burning: u64) -> u32
     }
 }
 
-// The last operation's kind, less 10.
-fn operation_number(k: Operation) -> u32
-    ensures { λ r. ⌜ r ≡ operationNumber k ⌝ }
-{
-    match k {
-        Operation::Stop => 0,
-        Operation::FadeTo(_) => 1,
-        Operation::FadeToOver(_, _) => 2,
-        Operation::RampTo(_) => 3,
-        Operation::RampToAtRate(_, _) => 4,
-        Operation::StepUp => 5,
-        Operation::StepDown => 6,
-        Operation::StepUpBy(_) => 7,
-        Operation::StepDownBy(_) => 8,
-        Operation::Goto(_) => 9,
-        Operation::Relinquish => 10,
-    }
-}
-
 fn real_answer(x: f32) -> Answer
     ensures { λ r. ⌜ r ≡ realAnswer x ⌝ }
 {
     Answer::Value(level::bits_of(x))
 }
 
-// The last command field by field: absent where its operation has none, also where a setting was used in its place.
-fn last_level(k: Operation) -> Answer
-    ensures { λ r. ⌜ r ≡ lastLevel k ⌝ }
+// A field of the last command: absent where its operation has none, also where a setting was used in its place.
+fn real_field_answer(x: RealField) -> Answer
+    ensures { λ r. ⌜ r ≡ realFieldAnswer x ⌝ }
 {
-    match k {
-        Operation::Stop => Answer::Absent,
-        Operation::FadeTo(x) => real_answer(x),
-        Operation::FadeToOver(x, _) => real_answer(x),
-        Operation::RampTo(x) => real_answer(x),
-        Operation::RampToAtRate(x, _) => real_answer(x),
-        Operation::StepUp => Answer::Absent,
-        Operation::StepDown => Answer::Absent,
-        Operation::StepUpBy(_) => Answer::Absent,
-        Operation::StepDownBy(_) => Answer::Absent,
-        Operation::Goto(x) => real_answer(x),
-        Operation::Relinquish => Answer::Absent,
+    match x {
+        RealField::Real(real) => real_answer(real),
+        RealField::NoReal => Answer::Absent,
     }
 }
 
-fn last_rate(k: Operation) -> Answer
-    ensures { λ r. ⌜ r ≡ lastRate k ⌝ }
+fn time_field_answer(x: TimeField) -> Answer
+    ensures { λ r. ⌜ r ≡ timeFieldAnswer x ⌝ }
 {
-    match k {
-        Operation::Stop => Answer::Absent,
-        Operation::FadeTo(_) => Answer::Absent,
-        Operation::FadeToOver(_, _) => Answer::Absent,
-        Operation::RampTo(_) => Answer::Absent,
-        Operation::RampToAtRate(_, rate) => real_answer(rate),
-        Operation::StepUp => Answer::Absent,
-        Operation::StepDown => Answer::Absent,
-        Operation::StepUpBy(_) => Answer::Absent,
-        Operation::StepDownBy(_) => Answer::Absent,
-        Operation::Goto(_) => Answer::Absent,
-        Operation::Relinquish => Answer::Absent,
-    }
-}
-
-fn last_step(k: Operation) -> Answer
-    ensures { λ r. ⌜ r ≡ lastStep k ⌝ }
-{
-    match k {
-        Operation::Stop => Answer::Absent,
-        Operation::FadeTo(_) => Answer::Absent,
-        Operation::FadeToOver(_, _) => Answer::Absent,
-        Operation::RampTo(_) => Answer::Absent,
-        Operation::RampToAtRate(_, _) => Answer::Absent,
-        Operation::StepUp => Answer::Absent,
-        Operation::StepDown => Answer::Absent,
-        Operation::StepUpBy(step) => real_answer(step),
-        Operation::StepDownBy(step) => real_answer(step),
-        Operation::Goto(_) => Answer::Absent,
-        Operation::Relinquish => Answer::Absent,
-    }
-}
-
-fn last_fade_time(k: Operation) -> Answer
-    ensures { λ r. ⌜ r ≡ lastFadeTime k ⌝ }
-{
-    match k {
-        Operation::Stop => Answer::Absent,
-        Operation::FadeTo(_) => Answer::Absent,
-        Operation::FadeToOver(_, time) => Answer::Value(time),
-        Operation::RampTo(_) => Answer::Absent,
-        Operation::RampToAtRate(_, _) => Answer::Absent,
-        Operation::StepUp => Answer::Absent,
-        Operation::StepDown => Answer::Absent,
-        Operation::StepUpBy(_) => Answer::Absent,
-        Operation::StepDownBy(_) => Answer::Absent,
-        Operation::Goto(_) => Answer::Absent,
-        Operation::Relinquish => Answer::Absent,
+    match x {
+        TimeField::Time(l) => Answer::Value(l),
+        TimeField::NoTime => Answer::Absent,
     }
 }
 
@@ -169,6 +97,11 @@ pub fn show(t: u64, o: Output, p: Property) -> Answer
     let last = o.last;
     let operation = last.operation;
     let duration = last.duration;
+    let fields = operations::fields_of(operation);
+    let level = fields.level;
+    let rate = fields.rate;
+    let step = fields.step;
+    let fade = fields.fade;
     match p {
         Property::RelinquishDefault => level_answer(settings.default),
         Property::FadeTime => Answer::Value(settings.fade),
@@ -184,11 +117,11 @@ pub fn show(t: u64, o: Output, p: Property) -> Answer
         Property::PresentValue => level_answer(value::present_value(settings, slots)),
         Property::ProgressValue => level_answer(value::progress_value(t, o)),
         Property::InProcess => Answer::Value(value::in_process(activity)),
-        Property::LastOperation => Answer::Value(operation_number(operation)),
-        Property::LastLevel => last_level(operation),
-        Property::LastRate => last_rate(operation),
-        Property::LastStep => last_step(operation),
-        Property::LastFadeTime => last_fade_time(operation),
+        Property::LastOperation => Answer::Value(operations::operation_number(operation)),
+        Property::LastLevel => real_field_answer(level),
+        Property::LastRate => real_field_answer(rate),
+        Property::LastStep => real_field_answer(step),
+        Property::LastFadeTime => time_field_answer(fade),
         Property::LastDuration => last_duration(duration),
         Property::SlotValue(i) => slot_answer(slots, i),
         Property::Unknown => Answer::Refused(9),

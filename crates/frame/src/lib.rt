@@ -2,9 +2,16 @@
 // outputs.
 ghost use mathlib.Core.Path.{_≡_};
 ghost use Rattle.lighting.specs.Parameters.{standard};
-ghost use Rattle.lighting.specs.Frames.{writeLevel, writeOf, emptyOf, requestBy, requestOf, callOf, calledBy, called, clockOf, parseBy, parse};
+ghost use Rattle.lighting.specs.Level.{real};
+ghost use Rattle.lighting.specs.Field.{bigEndian};
+ghost use Rattle.lighting.specs.Properties.{propertyOf, changeOf};
+ghost use Rattle.lighting.specs.Frames.{writeLevel, writeOf, emptyOf, requestOf, callOf, called, clockOf, parseBy, parse};
+use lighting::Action;
+use lighting::Call;
 use lighting::Frame;
+use lighting::Kind;
 use lighting::Level;
+use lighting::Operation;
 use lighting::Request;
 
 // ---- kinds 02 to 05
@@ -42,53 +49,81 @@ fn empty_of(p: u8) -> Request
 
 // ---- the request and the frame
 
-// The kind gives the action: n is the byte and v the four bytes after it, where the kind has them; x, y and z are a command's fields.
-fn request_by(k: u8, n: u8, v: u32, x: u32, y: u32, z: u32) -> Request
-    ensures { λ r. ⌜ r ≡ requestBy standard k n v x y z ⌝ }
+fn change_of(n: u8, x: u32) -> Request
+    ensures { λ r. ⌜ r ≡ changeOf standard (propertyOf n) x ⌝ }
 {
-    match k {
-        0x02 => write_of(n, v),
-        0x03 => empty_of(n),
-        0x04 => properties::change_of(properties::property_of(n), v),
-        0x05 => Request::Read(properties::property_of(n)),
-        0x10..=0x1A => orders::order_of(k, x, y, z),
-        _ => Request::Refuse(9),
+    properties::change_of(properties::property_of(n), x)
+}
+
+fn real_at(b: &[u8], at: usize) -> f32
+    ensures { λ r. ⌜ r ≡ real (bigEndian 4 (now (b .entry)) at) ⌝ }
+{
+    level::real_from(field::word32_at(b, at))
+}
+
+// The kind gives the action, and each reads what it adds to the 13 common bytes.
+fn request_of(action: Action, b: &[u8]) -> Request
+    ensures { λ r. ⌜ r ≡ requestOf standard action (now (b .entry)) ⌝ }
+{
+    match action {
+        Action::WritesLevel => write_of(field::byte_at(b, 13), field::word32_at(b, 14)),
+        Action::EmptiesSlot => empty_of(field::byte_at(b, 13)),
+        Action::WritesProperty => change_of(field::byte_at(b, 13), field::word32_at(b, 14)),
+        Action::ReadsProperty => Request::Read(properties::property_of(field::byte_at(b, 13))),
+        Action::Stops => orders::order(Operation::Stop, field::word32_at(b, 13)),
+        Action::FadesTo => {
+            orders::order(Operation::FadeTo(real_at(b, 13)), field::word32_at(b, 17))
+        }
+        Action::FadesToOver => orders::order(
+            Operation::FadeToOver(real_at(b, 13), field::word32_at(b, 17)),
+            field::word32_at(b, 21),
+        ),
+        Action::RampsTo => {
+            orders::order(Operation::RampTo(real_at(b, 13)), field::word32_at(b, 17))
+        }
+        Action::RampsToAtRate => orders::order(
+            Operation::RampToAtRate(real_at(b, 13), real_at(b, 17)),
+            field::word32_at(b, 21),
+        ),
+        Action::StepsUp => orders::order(Operation::StepUp, field::word32_at(b, 13)),
+        Action::StepsDown => orders::order(Operation::StepDown, field::word32_at(b, 13)),
+        Action::StepsUpBy => {
+            orders::order(Operation::StepUpBy(real_at(b, 13)), field::word32_at(b, 17))
+        }
+        Action::StepsDownBy => {
+            orders::order(
+                Operation::StepDownBy(real_at(b, 13)),
+                field::word32_at(b, 17),
+            )
+        }
+        Action::GoesTo => {
+            orders::order(Operation::Goto(real_at(b, 13)), field::word32_at(b, 17))
+        }
+        Action::Relinquishes => orders::order(Operation::Relinquish, field::word32_at(b, 13)),
     }
 }
 
-fn request_of(k: u8, b: &[u8]) -> Request
-    ensures { λ r. ⌜ r ≡ requestOf standard k (now (b .entry)) ⌝ }
+fn call_of(action: Action, b: &[u8]) -> Call
+    ensures { λ r. ⌜ r ≡ callOf standard action (now (b .entry)) ⌝ }
 {
-    request_by(
-        k,
-        field::byte_at(b, 13),
-        field::word32_at(b, 14),
-        field::word32_at(b, 13),
-        field::word32_at(b, 17),
-        field::word32_at(b, 21),
-    )
-}
-
-fn call_of(station: u8, number: u32, output: u8, b: &[u8]) -> Frame
-    ensures { λ r. ⌜ r ≡ callOf standard station number output (now (b .entry)) ⌝ }
-{
-    Frame::Call {
-        station,
-        number,
+    Call {
+        station: field::byte_at(b, 1),
+        number: field::word32_at(b, 2),
         time: field::word48_at(b, 6),
-        output,
-        request: request_of(field::byte_at(b, 0), b),
+        output: field::byte_at(b, 12),
+        request: request_of(action, b),
     }
 }
 
-fn call_by(c: usize, station: u8, number: u32, output: u8, b: &[u8]) -> Frame
-    ensures { λ r. ⌜ r ≡ calledBy standard c station number output (now (b .entry)) ⌝ }
+// Station over 7, or number 0, is refusal 4; an output that is not in the table of c is 5.
+fn called(c: usize, call: Call) -> Frame
+    ensures { λ r. ⌜ r ≡ called standard c call ⌝ }
 {
-    if station < 8 {
-        if number == 0 {
+    if call.station < 8 {
+        if call.number == 0 {
             Frame::Bad(4)
-        } else if (output as usize) < c {
-            call_of(station, number, output, b)
+        } else if (call.output as usize) < c {
+            Frame::Calls(call)
         } else {
             Frame::Bad(5)
         }
@@ -97,40 +132,35 @@ fn call_by(c: usize, station: u8, number: u32, output: u8, b: &[u8]) -> Frame
     }
 }
 
-fn call(c: usize, b: &[u8]) -> Frame
-    ensures { λ r. ⌜ r ≡ called standard c (now (b .entry)) ⌝ }
-{
-    call_by(
-        c,
-        field::byte_at(b, 1),
-        field::word32_at(b, 2),
-        field::byte_at(b, 12),
-        b,
-    )
-}
-
 fn clock_of(b: &[u8]) -> Frame
     ensures { λ r. ⌜ r ≡ clockOf (now (b .entry)) ⌝ }
 {
     Frame::Clock(field::word48_at(b, 1))
 }
 
-// No byte, or an unknown kind, has the length 0.
-fn parse_by(c: usize, k: u8, l: u32, b: &[u8]) -> Frame
-    ensures { λ r. ⌜ r ≡ parseBy standard c k l (now (b .entry)) ⌝ }
+// No byte, or an unknown kind, is refusal 2, and another length than l, which the kind fixes, is 3.
+fn parse_by(c: usize, l: u32, kind: Kind, b: &[u8]) -> Frame
+    ensures { λ r. ⌜ r ≡ parseBy standard c l kind (now (b .entry)) ⌝ }
 {
-    if l == 0 {
-        Frame::Bad(2)
-    } else if b.len() == l as usize {
-        if k == 1 { clock_of(b) } else { call(c, b) }
-    } else {
-        Frame::Bad(3)
+    match kind {
+        Kind::NoKind => Frame::Bad(2),
+        Kind::ClockKind => if b.len() == l as usize {
+            clock_of(b)
+        } else {
+            Frame::Bad(3)
+        },
+        Kind::CallKind(action) => if b.len() == l as usize {
+            called(c, call_of(action, b))
+        } else {
+            Frame::Bad(3)
+        },
     }
 }
 
 pub fn parse(c: usize, b: &[u8]) -> Frame
     ensures { λ r. ⌜ r ≡ parse standard c (now (b .entry)) ⌝ }
 {
-    let k = field::byte_at(b, 0);
-    parse_by(c, k, kinds::kind_length(k), b)
+    let row = kinds::row_of(field::byte_at(b, 0));
+    let kind = row.kind;
+    parse_by(c, row.length, kind, b)
 }

@@ -5,6 +5,7 @@ use lighting::Activity;
 use lighting::Answer;
 use lighting::Command;
 use lighting::Duration;
+use lighting::LONGEST_FRAME;
 use lighting::Operation;
 use lighting::Output;
 use lighting::Settings;
@@ -57,7 +58,7 @@ pub fn fresh_output() -> Output
 pub fn fresh_station() -> Station
     ensures { λ r. ⌜ r ≡ freshStation ⌝ }
 {
-    let frame = [0; 25];
+    let frame = [0; LONGEST_FRAME];
     Station {
         answer: Answer::Done,
         number: 0,

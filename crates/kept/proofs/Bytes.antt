@@ -10,13 +10,13 @@ use native.Mathlib.Omega.{arith}
 use lib.Dec.{eqb}
 use lib.ListN.{length, getD, set, take, drop, replicate, length-take, drop-of-length-le}
 use lib.Seq.{take-all, drop-cons, getD-take}
+use Rattle.lighting.specs.Kinds.{longestFrame, kindLength}
 use Rattle.lighting.specs.Choice.{if_then_else_, _also_}
 use Rattle.lighting.specs.Field.{byteAt}
-use Rattle.lighting.specs.Frames.{kindLength}
 use Rattle.lighting.specs.Copies.{sameBytes}
 use Rattle.lighting.specs.Panel.{padded, restored}
 use Rattle.lighting.proofs.Split.{by-bool, eqb-hit, eqb-miss}
-use Rattle.lighting.proofs.Lengths.{length-most}
+use Rattle.lighting.proofs.KindTable.{length-most}
 
 -- A FRAME KEPT: its first i bytes, zeros after them, and the byte at i stored
 stored : (k i : ℕ) (b : List ℕ) → i < length b → set (take i b ++ replicate (suc k) 0) i (getD b i 0) ≡ take (suc i) b ++ replicate k 0
@@ -24,12 +24,12 @@ stored k i [] h = absurd (omega arith)
 stored k zero (x ∷ b) h = refl
 stored k (suc i) (x ∷ b) h = ap (λ (r : List ℕ). x ∷ r) (stored k i b (omega arith))
 
-pub padded-more : (i : ℕ) (b f : List ℕ) → f ≡ padded (take i b) → i < length b → length b ≤ 25 → set f i (getD b i 0) ≡ padded (take (i + 1) b)
+pub padded-more : (i : ℕ) (b f : List ℕ) → f ≡ padded (take i b) → i < length b → length b ≤ longestFrame → set f i (getD b i 0) ≡ padded (take (i + 1) b)
 unfolding padded
 padded-more i b f e h l =
-    let n : 25 - length (take i b) ≡ suc (25 - length (take (suc i) b)) = omega (arith, length-take i b, length-take (suc i) b) in
-    let p : padded (take i b) ≡ take i b ++ replicate (suc (25 - length (take (suc i) b))) 0 = ap (λ (k : ℕ). take i b ++ replicate k 0) n in
-    rw (e, p, add-one) (stored (25 - length (take (suc i) b)) i b h)
+    let n : longestFrame - length (take i b) ≡ suc (longestFrame - length (take (suc i) b)) = omega (arith, length-take i b, length-take (suc i) b) in
+    let p : padded (take i b) ≡ take i b ++ replicate (suc (longestFrame - length (take (suc i) b))) 0 = ap (λ (k : ℕ). take i b ++ replicate k 0) n in
+    rw (e, p, add-one) (stored (longestFrame - length (take (suc i) b)) i b h)
 
 pub padded-all : (i : ℕ) (b f : List ℕ) → f ≡ padded (take i b) → length b ≤ i → f ≡ padded b
 padded-all i b f e h = e ∙ ap padded (take-all i b h)
@@ -65,7 +65,7 @@ module _ (b g : List ℕ) where
   same-end i s h l = sym (rw (drop-of-length-le b {i = i} h, drop-of-length-le g {i = i} l) at s)
 
 -- the frame that is kept has as many bytes as its kind, and they are the first of the array
-pub restored-length : (f : List ℕ) → length f ≡ 25 → length (restored f) ≡ kindLength (byteAt f 0)
+pub restored-length : (f : List ℕ) → length f ≡ longestFrame → length (restored f) ≡ kindLength (byteAt f 0)
 unfolding restored
 restored-length f h = omega (arith, length-take (kindLength (byteAt f 0)) f, length-most (byteAt f 0))
 

@@ -1,18 +1,20 @@
-// A frame as a station keeps it, in 25 bytes, and read back.
+// A frame as a station keeps it, in the bytes of the longest, and read back.
 ghost use mathlib.Core.Path.{_≡_};
 ghost use Prim.Native.Nat.{_≤_};
 ghost use lib.ListN.{length};
+ghost use Rattle.lighting.specs.Kinds.{longestFrame};
 ghost use Rattle.lighting.specs.Copies.{sameBytes};
 ghost use Rattle.lighting.specs.Panel.{padded, restored};
 use lighting::Answer;
+use lighting::LONGEST_FRAME;
 use lighting::Station;
 
-// In 25 bytes, the longest of all kinds, zeros after its own.
-fn pad(b: &[u8]) -> [u8; 25]
-    requires { ⌜ length (now b) ≤ 25 ⌝ }
+// Zeros after its own bytes.
+fn pad(b: &[u8]) -> [u8; LONGEST_FRAME]
+    requires { ⌜ length (now b) ≤ longestFrame ⌝ }
     ensures { λ r. ⌜ r ≡ padded (now (b .entry)) ⌝ }
 {
-    let mut f: [u8; 25] = [0; 25];
+    let mut f: [u8; LONGEST_FRAME] = [0; LONGEST_FRAME];
     let mut i: usize = 0;
     while i < b.len() {
         f[i] = b[i];
@@ -22,7 +24,7 @@ fn pad(b: &[u8]) -> [u8; 25]
 }
 
 // Whether the bytes are those that the record keeps: as many as its kind has, and each the same.
-pub fn same_frame(b: &[u8], f: [u8; 25]) -> bool
+pub fn same_frame(b: &[u8], f: [u8; LONGEST_FRAME]) -> bool
     ensures { λ r. ⌜ r ≡ sameBytes (now (b .entry)) (restored f) ⌝ }
 {
     let n = ranges::wide_index(kinds::kind_length(f[0]));
@@ -41,7 +43,7 @@ pub fn same_frame(b: &[u8], f: [u8; 25]) -> bool
 
 // What the station keeps of a first arrival: number, frame and answer.
 pub fn kept_station(a: Answer, last: u32, b: &[u8]) -> Station
-    requires { ⌜ length (now b) ≤ 25 ⌝ }
+    requires { ⌜ length (now b) ≤ longestFrame ⌝ }
     ensures { λ r. ⌜ r ≡ record { answer = a; number = last; frame = padded (now (b .entry)) } ⌝ }
 {
     let frame = pad(b);

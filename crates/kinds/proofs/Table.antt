@@ -1,44 +1,41 @@
--- The table of lengths, by ranges of kinds: the code asks first whether a kind is one of 01 to 05 or of 10 to 1A. Assumes nothing.
-use mathlib.Core.Path.{_≡_}
+-- The table at a kind byte that a match has found, and past its rows.
+use mathlib.Core.Path.{_≡_, refl, sym}
 use mathlib.Core.Logic.{_≢_}
-use Prim.Native.Nat.{ℕ, suc, _≤_, _<_}
+use Prim.Native.Nat.{ℕ, suc, _-_, _≤_, _<_}
 use native.Mathlib.Omega.{arith}
-use lib.Dec.{leb, ltb}
-use Rattle.lighting.specs.Choice.{if_then_else_}
-use Rattle.lighting.specs.Frames.{kindLength, commandLength}
-use Rattle.lighting.proofs.Split.{eqb-miss, leb-yes, leb-no}
+use lib.ListN.{getD, List·getD-eq-default}
+use Rattle.lighting.specs.Kinds.{unknownRow, plainRows, commandRows, kindRow}
+use Rattle.lighting.specs.declared.KindRow.{KindRow}
+use Rattle.lighting.proofs.Choosing.{if-le, if-nle}
 
--- no kind is 00
-pub kind-zero : (k : ℕ) → k < 1 → 0 ≡ kindLength k
-unfolding kindLength if_then_else_
-kind-zero k h = let e : k ≡ 0 = omega arith in rw e
+pub kindRow-on : (k n : ℕ) (r : KindRow) → k ≡ n → r ≡ kindRow n → r ≡ kindRow k
+kindRow-on k n r e p = rw e p
 
-pub kind-five : (k : ℕ) → k < 6 → 1 ≤ k → k ≢ 1 → k ≢ 2 → k ≢ 3 → k ≢ 4 → 14 ≡ kindLength k
-unfolding kindLength if_then_else_
-kind-five k h l a b c d = let e : k ≡ 5 = omega arith in rw e
+-- no kind is 00, 06 to 0F, or above 1A
+pub row-zero : (k : ℕ) → k < 1 → unknownRow ≡ kindRow k
+unfolding kindRow
+row-zero k h = let e : k ≡ 0 = omega arith in rw e (if-nle 0x10 0 _ _ _ (omega arith) refl)
 
-past-five : (k : ℕ) → 6 ≤ k → kindLength k ≡ (if leb 0x10 k then (if ltb k 0x1b then commandLength k else 0) else 0)
-unfolding kindLength if_then_else_
-past-five k h =
-    rw (
-      eqb-miss {a = k} {b = 1} (omega arith),
-      eqb-miss {a = k} {b = 2} (omega arith),
-      eqb-miss {a = k} {b = 3} (omega arith),
-      eqb-miss {a = k} {b = 4} (omega arith),
-      eqb-miss {a = k} {b = 5} (omega arith),
-    )
+pub row-between : (k : ℕ) → 6 ≤ k → k < 0x10 → unknownRow ≡ kindRow k
+unfolding kindRow
+row-between k low high = if-nle 0x10 k _ _ _ high (sym (List·getD-eq-default plainRows unknownRow {n = k} low))
 
-pub kind-between : (k : ℕ) → 6 ≤ k → k < 16 → 0 ≡ kindLength k
-unfolding if_then_else_
-kind-between k h l = rw (past-five k h, leb-no {a = 16} {b = k} l)
+pub row-above : (k : ℕ) → 0x1b ≤ k → unknownRow ≡ kindRow k
+unfolding kindRow
+row-above k low =
+    if-le 0x10 k _ _ _ (omega arith) (sym (List·getD-eq-default commandRows unknownRow {n = k - 0x10} (omega arith)))
 
-pub kind-command : (k r : ℕ) → 16 ≤ k → k < 27 → r ≡ commandLength k → r ≡ kindLength k
-unfolding if_then_else_
-kind-command k r h l p = rw (past-five k (omega arith), leb-yes {a = 16} {b = k} h, leb-yes {a = suc k} {b = 27} l) p
+-- a kind byte that no arm of a match names
+past : {n k : ℕ} → k ≢ n → n ≤ k → suc n ≤ k
+past d h = omega arith
 
-pub kind-over : (k : ℕ) → 27 ≤ k → 0 ≡ kindLength k
-unfolding if_then_else_
-kind-over k h =
-    rw (past-five k (omega arith), leb-yes {a = 16} {b = k} (omega arith), leb-no {a = suc k} {b = 27} (omega arith))
+pub row-no-plain : (k : ℕ) → k < 6 → k ≢ 1 → k ≢ 2 → k ≢ 3 → k ≢ 4 → k ≢ 5 → unknownRow ≡ kindRow k
+row-no-plain k h a b c d e = row-zero k (omega arith)
 
-pub ruleset table = (kind-zero, kind-five, kind-between, kind-command, kind-over)
+pub row-no-command : (k : ℕ) → 0x10 ≤ k
+    → k ≢ 0x10 → k ≢ 0x11 → k ≢ 0x12 → k ≢ 0x13 → k ≢ 0x14 → k ≢ 0x15 → k ≢ 0x16 → k ≢ 0x17 → k ≢ 0x18 → k ≢ 0x19 → k ≢ 0x1a
+    → unknownRow ≡ kindRow k
+row-no-command k h a b c d e f g i j l m =
+    row-above k (past m (past l (past j (past i (past g (past f (past e (past d (past c (past b (past a h)))))))))))
+
+pub ruleset table = (kindRow-on, row-zero, row-between, row-above, row-no-plain, row-no-command)

@@ -2,7 +2,7 @@
 ghost use mathlib.Core.Path.{_≡_};
 ghost use Prim.Native.Nat.{_≤_, _<_, _^_, min};
 ghost use lib.Ieee.{binary32, nanBits, isNan};
-ghost use Rattle.lighting.specs.Level.{real, bits, nearestTo, amountOf, limitOf, levelOf, inRange, unitsOr, amountUnits, levelUnits, operandBy, levelOperand, amountOperand, realOf, readOut};
+ghost use Rattle.lighting.specs.Level.{real, bits, nearestTo, amountOf, limitOf, levelOf, inRange, unitsOr, amountUnits, levelUnits, operandBy, amountOperand, realOf, readOut};
 use lighting::Level;
 use lighting::Operand;
 
@@ -77,7 +77,7 @@ fn limit_of_real(x: f32) -> Level
 }
 
 // A level: 0 and minus zero are 0; above 0 and below 1 it is 65,536; from 1 to 100 the nearest unit.
-fn level_of_real(x: f32) -> Level
+pub fn level_of_real(x: f32) -> Level
     ensures { λ r. ⌜ r ≡ levelOf x ⌝ }
 {
     if x == 0.0 {
@@ -146,7 +146,7 @@ pub fn level_units(x: f32) -> u32
     units_or(0, level_of_real(x))
 }
 
-// A command's REAL, kept as it was written, if it is in range.
+// A REAL that a write of Ramp_Rate or Step_Increment keeps as it was written, if it is in range.
 fn operand(level: Level, pattern: u32) -> Operand
     ensures { λ r. ⌜ r ≡ operandBy level pattern ⌝ }
 {
@@ -156,13 +156,6 @@ fn operand(level: Level, pattern: u32) -> Operand
     Operand::Unfit
 }
 
-pub fn level_operand(pattern: u32) -> Operand
-    ensures { λ r. ⌜ r ≡ levelOperand pattern ⌝ }
-{
-    operand(level_of(pattern), pattern)
-}
-
-// Its rate or step.
 pub fn amount_operand(pattern: u32) -> Operand
     ensures { λ r. ⌜ r ≡ amountOperand pattern ⌝ }
 {

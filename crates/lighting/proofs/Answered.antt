@@ -6,12 +6,15 @@ use native.Mathlib.Omega.{arith}
 use Rattle.lighting.specs.Choice.{if_then_else_}
 use Rattle.lighting.specs.Slots.{Slots, lives}
 use Rattle.lighting.specs.Answers.{refusalOf}
-use Rattle.lighting.specs.Properties.{settingsWith, minOverMax, levelAnswer, slotAnswer, realAnswer, lastLevel, lastRate, lastStep, lastFadeTime, lastDuration, shown}
+use Rattle.lighting.specs.Operations.{fieldsOf}
+use Rattle.lighting.specs.Properties.{settingsWith, minOverMax, levelAnswer, slotAnswer, realAnswer, realFieldAnswer, timeFieldAnswer, lastDuration, shown}
 use Rattle.lighting.specs.Acting.{made, left, changedUnless, acted}
 use Rattle.lighting.specs.declared.Duration.{Duration}
 use Rattle.lighting.specs.declared.Duration.the-variants.{Lasts, Cancels, Omitted}
-use Rattle.lighting.specs.declared.Operation.{Operation}
-use Rattle.lighting.specs.declared.Operation.the-variants.{Stop, FadeTo, FadeToOver, RampTo, RampToAtRate, StepUp, StepDown, StepUpBy, StepDownBy, Goto, Relinquish}
+use Rattle.lighting.specs.declared.RealField.{RealField}
+use Rattle.lighting.specs.declared.RealField.the-variants.{Real, NoReal}
+use Rattle.lighting.specs.declared.TimeField.{TimeField}
+use Rattle.lighting.specs.declared.TimeField.the-variants.{Time, NoTime}
 use Rattle.lighting.specs.declared.Property.{Property}
 use Rattle.lighting.specs.declared.Property.the-variants.{RelinquishDefault, FadeTime, RampRate, StepIncrement, BlinkEnable, BlinkTime, BlinkWarnDelay, MinValue, MaxValue, CommandPriority, ElapsedActiveTime, PresentValue, ProgressValue, InProcess, LastOperation, LastLevel, LastRate, LastStep, LastFadeTime, LastDuration, SlotValue, Unknown}
 use Rattle.lighting.specs.declared.Answer.{Answer}
@@ -28,61 +31,15 @@ pub record NotOne (a : Answer) : Type 0 where
 pub not-one : (a : Answer) → refusalOf a ≡ 0 → NotOne a
 not-one a h = record { other = omega arith }
 
-level-none : (o : Operation) → refusalOf (lastLevel o) ≡ 0
-unfolding lastLevel realAnswer refusalOf
-level-none Stop = refl
-level-none (FadeTo x) = refl
-level-none (FadeToOver x l) = refl
-level-none (RampTo x) = refl
-level-none (RampToAtRate x r) = refl
-level-none StepUp = refl
-level-none StepDown = refl
-level-none (StepUpBy x) = refl
-level-none (StepDownBy x) = refl
-level-none (Goto x) = refl
-level-none Relinquish = refl
+real-none : (x : RealField) → refusalOf (realFieldAnswer x) ≡ 0
+unfolding realFieldAnswer realAnswer refusalOf
+real-none (Real x) = refl
+real-none NoReal = refl
 
-rate-none : (o : Operation) → refusalOf (lastRate o) ≡ 0
-unfolding lastRate realAnswer refusalOf
-rate-none Stop = refl
-rate-none (FadeTo x) = refl
-rate-none (FadeToOver x l) = refl
-rate-none (RampTo x) = refl
-rate-none (RampToAtRate x r) = refl
-rate-none StepUp = refl
-rate-none StepDown = refl
-rate-none (StepUpBy x) = refl
-rate-none (StepDownBy x) = refl
-rate-none (Goto x) = refl
-rate-none Relinquish = refl
-
-step-none : (o : Operation) → refusalOf (lastStep o) ≡ 0
-unfolding lastStep realAnswer refusalOf
-step-none Stop = refl
-step-none (FadeTo x) = refl
-step-none (FadeToOver x l) = refl
-step-none (RampTo x) = refl
-step-none (RampToAtRate x r) = refl
-step-none StepUp = refl
-step-none StepDown = refl
-step-none (StepUpBy x) = refl
-step-none (StepDownBy x) = refl
-step-none (Goto x) = refl
-step-none Relinquish = refl
-
-fade-none : (o : Operation) → refusalOf (lastFadeTime o) ≡ 0
-unfolding lastFadeTime refusalOf
-fade-none Stop = refl
-fade-none (FadeTo x) = refl
-fade-none (FadeToOver x l) = refl
-fade-none (RampTo x) = refl
-fade-none (RampToAtRate x r) = refl
-fade-none StepUp = refl
-fade-none StepDown = refl
-fade-none (StepUpBy x) = refl
-fade-none (StepDownBy x) = refl
-fade-none (Goto x) = refl
-fade-none Relinquish = refl
+time-none : (x : TimeField) → refusalOf (timeFieldAnswer x) ≡ 0
+unfolding timeFieldAnswer refusalOf
+time-none (Time l) = refl
+time-none NoTime = refl
 
 duration-none : (d : Duration) → refusalOf (lastDuration d) ≡ 0
 unfolding lastDuration refusalOf
@@ -111,10 +68,10 @@ shown-not-one t o PresentValue = not-one (shown t o PresentValue) refl
 shown-not-one t o ProgressValue = not-one (shown t o ProgressValue) refl
 shown-not-one t o InProcess = not-one (shown t o InProcess) refl
 shown-not-one t o LastOperation = not-one (shown t o LastOperation) refl
-shown-not-one t o LastLevel = not-one (shown t o LastLevel) (level-none (o .last .operation))
-shown-not-one t o LastRate = not-one (shown t o LastRate) (rate-none (o .last .operation))
-shown-not-one t o LastStep = not-one (shown t o LastStep) (step-none (o .last .operation))
-shown-not-one t o LastFadeTime = not-one (shown t o LastFadeTime) (fade-none (o .last .operation))
+shown-not-one t o LastLevel = not-one (shown t o LastLevel) (real-none (fieldsOf (o .last .operation) .level))
+shown-not-one t o LastRate = not-one (shown t o LastRate) (real-none (fieldsOf (o .last .operation) .rate))
+shown-not-one t o LastStep = not-one (shown t o LastStep) (real-none (fieldsOf (o .last .operation) .step))
+shown-not-one t o LastFadeTime = not-one (shown t o LastFadeTime) (time-none (fieldsOf (o .last .operation) .fade))
 shown-not-one t o LastDuration = not-one (shown t o LastDuration) (duration-none (o .last .duration))
 shown-not-one t o (SlotValue i) = not-one (shown t o (SlotValue i)) (slot-none (o .slots) i)
 shown-not-one t o Unknown = record { other = omega arith }

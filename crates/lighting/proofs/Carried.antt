@@ -21,10 +21,10 @@ use Rattle.lighting.specs.declared.Output.{Output}
 use Rattle.lighting.specs.declared.Answer.{Answer}
 use Rattle.lighting.specs.declared.Answer.the-variants.{Done, Refused}
 use Rattle.lighting.specs.declared.Frame.{Frame}
-use Rattle.lighting.specs.declared.Frame.the-variants.{Bad, Clock, Call}
+use Rattle.lighting.specs.declared.Frame.the-variants.{Bad, Clock, Calls}
 use Rattle.lighting.proofs.Split.{by-bool, by-lt, also-both, eq-of}
 use Rattle.lighting.proofs.Reading.{Proper, proper}
-use Rattle.lighting.proofs.Lengths.{length-most}
+use Rattle.lighting.proofs.KindTable.{length-most}
 use Rattle.lighting.proofs.Tied.{tested-stays}
 
 -- THE START
@@ -75,7 +75,7 @@ station-within : (c : ℕ) (b : Bytes) (f : Frame) → Proper c b f → stationO
 unfolding stationOf
 station-within c b (Bad r) g = omega arith
 station-within c b (Clock t) g = omega arith
-station-within c b (Call s n t i r) g = g .station
+station-within c b (Calls call) g = g .station
 
 pub station-found : (c : ℕ) (b : Bytes) → Octets b → stationOf (parse standard c b) < 8
 station-found c b h = station-within c b (parse standard c b) (proper c b h)
@@ -85,17 +85,17 @@ unfolding met metNumber copyOr6 if_then_else_
 met-sure now c k b a same (Bad r) e g = tt
 met-sure now c k b a same (Clock t) e g =
     by-lt t now (λ l p. rw p tt) (λ l p. rw p (record { due = l; time = g }))
-met-sure now c k b a same (Call s n t i r) e g =
+met-sure now c k b a same (Calls call) e g =
     by-bool
-    (eqb n (a .number))
+    (eqb (call .number) (a .number))
     (λ p. rw p (by-bool same (λ q. rw q tt) (λ q. rw q tt)))
     (λ p. rw p
     (by-bool
-    (ltb n (a .number))
+    (ltb (call .number) (a .number))
     (λ q. rw q tt)
     (λ q. rw q
     (by-lt
-    t
+    (call .time)
     now
     (λ l u. rw u tt)
     (λ l u. rw u

@@ -4,35 +4,41 @@ use Prim.Native.Nat.{ℕ}
 use Rattle.lighting.specs.Acting.{acted}
 use Rattle.lighting.specs.Answers.{refusalOf, levelAnswered}
 use Rattle.lighting.specs.Commands.{unwarned, unwarnedActivity, stopped, effect, timed}
-use Rattle.lighting.specs.Frames.{orderedWith, fadeOrder, rampOrderAt, rampOrder, writeLevel, Bytes}
+use Rattle.lighting.specs.Frames.{levelFieldRefusal, amountFieldRefusal, timeFieldRefusal, writeLevel, requestOf, parseBy, Bytes}
+use Rattle.lighting.specs.Kinds.{callsBy}
 use Rattle.lighting.specs.Level.{inRange, unitsOr}
+use Rattle.lighting.specs.Operations.{operationNumber, fieldsOf}
 use Rattle.lighting.specs.Panel.{met, stationOf, carried, Panel, Step}
 use Rattle.lighting.specs.Parameters.{Parameters}
 use Rattle.lighting.specs.Passing.{timerDue, phaseEnd, activityDue, isDue, emptiedBy, disowned, disownedBy, nextPhase, nextActivity, phaseSlots, nextSlots, sooner}
-use Rattle.lighting.specs.Properties.{numberOf, changeTo, changeBy, unmoved, operationNumber, lastLevel, lastRate, lastStep, lastFadeTime, lastDuration, shown}
+use Rattle.lighting.specs.Properties.{numberOf, changeTo, changeBy, unmoved, realFieldAnswer, timeFieldAnswer, lastDuration, shown}
 use Rattle.lighting.specs.Rows.{rowOf, meets, meetsReal}
 use Rattle.lighting.specs.Rules.{activityBy, timerSound}
 use Rattle.lighting.specs.Slots.{Slots}
 use Rattle.lighting.specs.Value.{gone, progressBy, inProcess}
 use Rattle.lighting.specs.Writing.{passedOver, writtenBy}
+use Rattle.lighting.specs.declared.Action.{Action}
 use Rattle.lighting.specs.declared.Activity.{Activity}
 use Rattle.lighting.specs.declared.Answer.{Answer}
 use Rattle.lighting.specs.declared.Duration.{Duration}
 use Rattle.lighting.specs.declared.Effect.{Effect}
 use Rattle.lighting.specs.declared.Frame.{Frame}
+use Rattle.lighting.specs.declared.Kind.{Kind}
 use Rattle.lighting.specs.declared.Level.{Level}
 use Rattle.lighting.specs.declared.Moment.{Moment}
-use Rattle.lighting.specs.declared.Operand.{Operand}
 use Rattle.lighting.specs.declared.Operation.{Operation}
+use Rattle.lighting.specs.declared.OperationFields.{OperationFields}
 use Rattle.lighting.specs.declared.Outcome.{Outcome}
 use Rattle.lighting.specs.declared.Output.{Output}
 use Rattle.lighting.specs.declared.Pace.{Pace}
 use Rattle.lighting.specs.declared.Phase.{Phase}
 use Rattle.lighting.specs.declared.Property.{Property}
 use Rattle.lighting.specs.declared.Range.{Range}
+use Rattle.lighting.specs.declared.RealField.{RealField}
 use Rattle.lighting.specs.declared.Request.{Request}
 use Rattle.lighting.specs.declared.Settings.{Settings}
 use Rattle.lighting.specs.declared.Station.{Station}
+use Rattle.lighting.specs.declared.TimeField.{TimeField}
 use Rattle.lighting.specs.declared.Timer.{Timer}
 use Rattle.lighting.specs.declared.Verdict.{Verdict}
 use Rattle.lighting.specs.declared.Warning.{Warning}
@@ -63,26 +69,38 @@ effect-on x0 x1 x2 x3 x4 x5 k r e p = rw e p
 pub timed-on : (x0 : ℕ) (x1 : ℕ) (x2 : Timer) (x3 : Duration) (k : Duration) (r : Timer) → x3 ≡ k → r ≡ timed x0 x1 x2 k → r ≡ timed x0 x1 x2 x3
 timed-on x0 x1 x2 x3 k r e p = rw e p
 
-pub orderedWith-on : (x0 : Parameters) (x1 : ℕ) (x2 : Operand) (x3 : ℕ) (k : Operand) (r : Request) → x2 ≡ k → r ≡ orderedWith x0 x1 k x3 → r ≡ orderedWith x0 x1 x2 x3
-orderedWith-on x0 x1 x2 x3 k r e p = rw e p
+pub levelFieldRefusal-on : (x0 : RealField) (k : RealField) (r : ℕ) → x0 ≡ k → r ≡ levelFieldRefusal k → r ≡ levelFieldRefusal x0
+levelFieldRefusal-on x0 k r e p = rw e p
 
-pub fadeOrder-on : (x0 : Parameters) (x1 : Operand) (x2 : ℕ) (x3 : ℕ) (k : Operand) (r : Request) → x1 ≡ k → r ≡ fadeOrder x0 k x2 x3 → r ≡ fadeOrder x0 x1 x2 x3
-fadeOrder-on x0 x1 x2 x3 k r e p = rw e p
+pub amountFieldRefusal-on : (x0 : RealField) (k : RealField) (r : ℕ) → x0 ≡ k → r ≡ amountFieldRefusal k → r ≡ amountFieldRefusal x0
+amountFieldRefusal-on x0 k r e p = rw e p
 
-pub rampOrderAt-on : (x0 : Parameters) (x1 : Float) (x2 : Operand) (x3 : ℕ) (k : Operand) (r : Request) → x2 ≡ k → r ≡ rampOrderAt x0 x1 k x3 → r ≡ rampOrderAt x0 x1 x2 x3
-rampOrderAt-on x0 x1 x2 x3 k r e p = rw e p
-
-pub rampOrder-on : (x0 : Parameters) (x1 : Operand) (x2 : Operand) (x3 : ℕ) (k : Operand) (r : Request) → x1 ≡ k → r ≡ rampOrder x0 k x2 x3 → r ≡ rampOrder x0 x1 x2 x3
-rampOrder-on x0 x1 x2 x3 k r e p = rw e p
+pub timeFieldRefusal-on : (x0 : Parameters) (x1 : TimeField) (k : TimeField) (r : ℕ) → x1 ≡ k → r ≡ timeFieldRefusal x0 k → r ≡ timeFieldRefusal x0 x1
+timeFieldRefusal-on x0 x1 k r e p = rw e p
 
 pub writeLevel-on : (x0 : ℕ) (x1 : Level) (k : Level) (r : Request) → x1 ≡ k → r ≡ writeLevel x0 k → r ≡ writeLevel x0 x1
 writeLevel-on x0 x1 k r e p = rw e p
+
+pub requestOf-on : (x0 : Parameters) (x1 : Action) (x2 : Bytes) (k : Action) (r : Request) → x1 ≡ k → r ≡ requestOf x0 k x2 → r ≡ requestOf x0 x1 x2
+requestOf-on x0 x1 x2 k r e p = rw e p
+
+pub parseBy-on : (x0 : Parameters) (x1 : ℕ) (x2 : ℕ) (x3 : Kind) (x4 : Bytes) (k : Kind) (r : Frame) → x3 ≡ k → r ≡ parseBy x0 x1 x2 k x4 → r ≡ parseBy x0 x1 x2 x3 x4
+parseBy-on x0 x1 x2 x3 x4 k r e p = rw e p
+
+pub callsBy-on : (x0 : Kind) (k : Kind) (r : Bool) → x0 ≡ k → r ≡ callsBy k → r ≡ callsBy x0
+callsBy-on x0 k r e p = rw e p
 
 pub inRange-on : (x0 : Level) (k : Level) (r : Bool) → x0 ≡ k → r ≡ inRange k → r ≡ inRange x0
 inRange-on x0 k r e p = rw e p
 
 pub unitsOr-on : (x0 : ℕ) (x1 : Level) (k : Level) (r : ℕ) → x1 ≡ k → r ≡ unitsOr x0 k → r ≡ unitsOr x0 x1
 unitsOr-on x0 x1 k r e p = rw e p
+
+pub operationNumber-on : (x0 : Operation) (k : Operation) (r : ℕ) → x0 ≡ k → r ≡ operationNumber k → r ≡ operationNumber x0
+operationNumber-on x0 k r e p = rw e p
+
+pub fieldsOf-on : (x0 : Operation) (k : Operation) (r : OperationFields) → x0 ≡ k → r ≡ fieldsOf k → r ≡ fieldsOf x0
+fieldsOf-on x0 k r e p = rw e p
 
 pub met-on : (x0 : ℕ) (x1 : Station) (x2 : Bool) (x3 : Frame) (k : Frame) (r : Verdict) → x3 ≡ k → r ≡ met x0 x1 x2 k → r ≡ met x0 x1 x2 x3
 met-on x0 x1 x2 x3 k r e p = rw e p
@@ -141,20 +159,11 @@ changeBy-on x0 x1 x2 k r e p = rw e p
 pub unmoved-on : (x0 : Activity) (k : Activity) (r : Activity) → x0 ≡ k → r ≡ unmoved k → r ≡ unmoved x0
 unmoved-on x0 k r e p = rw e p
 
-pub operationNumber-on : (x0 : Operation) (k : Operation) (r : ℕ) → x0 ≡ k → r ≡ operationNumber k → r ≡ operationNumber x0
-operationNumber-on x0 k r e p = rw e p
+pub realFieldAnswer-on : (x0 : RealField) (k : RealField) (r : Answer) → x0 ≡ k → r ≡ realFieldAnswer k → r ≡ realFieldAnswer x0
+realFieldAnswer-on x0 k r e p = rw e p
 
-pub lastLevel-on : (x0 : Operation) (k : Operation) (r : Answer) → x0 ≡ k → r ≡ lastLevel k → r ≡ lastLevel x0
-lastLevel-on x0 k r e p = rw e p
-
-pub lastRate-on : (x0 : Operation) (k : Operation) (r : Answer) → x0 ≡ k → r ≡ lastRate k → r ≡ lastRate x0
-lastRate-on x0 k r e p = rw e p
-
-pub lastStep-on : (x0 : Operation) (k : Operation) (r : Answer) → x0 ≡ k → r ≡ lastStep k → r ≡ lastStep x0
-lastStep-on x0 k r e p = rw e p
-
-pub lastFadeTime-on : (x0 : Operation) (k : Operation) (r : Answer) → x0 ≡ k → r ≡ lastFadeTime k → r ≡ lastFadeTime x0
-lastFadeTime-on x0 k r e p = rw e p
+pub timeFieldAnswer-on : (x0 : TimeField) (k : TimeField) (r : Answer) → x0 ≡ k → r ≡ timeFieldAnswer k → r ≡ timeFieldAnswer x0
+timeFieldAnswer-on x0 k r e p = rw e p
 
 pub lastDuration-on : (x0 : Duration) (k : Duration) (r : Answer) → x0 ≡ k → r ≡ lastDuration k → r ≡ lastDuration x0
 lastDuration-on x0 k r e p = rw e p

@@ -12,7 +12,8 @@ use lib.Seq.{getD-set-same, getD-set-other}
 use Rattle.lighting.specs.Choice.{if_then_else_, _also_}
 use Rattle.lighting.specs.Parameters.{standard}
 use Rattle.lighting.specs.Field.{byteAt}
-use Rattle.lighting.specs.Frames.{Bytes, Octets, Strings, kindLength, parse}
+use Rattle.lighting.specs.Kinds.{kindRow, kindLength, isCall}
+use Rattle.lighting.specs.Frames.{Bytes, Octets, Strings, parse}
 use Rattle.lighting.specs.Passing.{top, advance}
 use Rattle.lighting.specs.Rules.{sound, stationSound}
 use Rattle.lighting.specs.Fresh.{freshOutput, freshStation}
@@ -22,15 +23,15 @@ use Rattle.lighting.specs.Panel.{Panel, Station, every, countsSound, pan
 use Rattle.lighting.specs.Plain.{Event, clock, first, above, inTime, Latest, latest, judged, Told, handed, plainFramed, plainStart}
 use Rattle.lighting.specs.Demand.{after, answers, plainAfter, plainAnswers}
 use Rattle.lighting.specs.declared.Output.{Output}
-use Rattle.lighting.specs.declared.Request.{Request}
 use Rattle.lighting.specs.declared.Answer.{Answer}
+use Rattle.lighting.specs.declared.Call.{Call}
 use Rattle.lighting.specs.declared.Frame.{Frame}
-use Rattle.lighting.specs.declared.Frame.the-variants.{Bad, Clock, Call}
+use Rattle.lighting.specs.declared.Frame.the-variants.{Bad, Clock, Calls}
 use Rattle.lighting.specs.declared.Verdict.{Verdict}
 use Rattle.lighting.specs.declared.Verdict.the-variants.{TurnedDown, Copied, Clocked, Arrives}
 use Rattle.lighting.proofs.Split.{also-both, also-yes, by-eq, by-lt, by-le, by-bool, leb-yes, leb-no}
 use Rattle.lighting.proofs.Reading.{Called, Proper, proper}
-use Rattle.lighting.proofs.Lengths.{call-kind, padded-kind, restored-padded}
+use Rattle.lighting.proofs.Lengths.{padded-kind, restored-padded}
 use Rattle.lighting.specs.Answers.{refusalOf}
 use Rattle.lighting.specs.declared.Answer.the-variants.{Done}
 use Rattle.lighting.proofs.Answered.{NotOne, not-one}
@@ -107,7 +108,10 @@ met-judged : (c : ℕ) (k : List Station) (w : Told) (b : Bytes) (f : Frame) →
 unfolding metBy met metNumber judged stationOf
 met-judged c k w b (Bad r) m g = refl
 met-judged c k w b (Clock t) m g = rw (m .times t) (not-before t (w .panel .time) (TurnedDown 8) (Clocked t))
-met-judged c k w b (Call s n t i r) m g =
+met-judged c k w b (Calls call) m g =
+    let s = call .station in
+    let n = call .number in
+    let t = call .time in
     let e = m .known s (g .station) in
     rw (
       ap (λ (z : Latest). z .number) e,
@@ -116,7 +120,7 @@ met-judged c k w b (Call s n t i r) m g =
       m .tops s n (g .number),
       m .times t,
     )
-    (alike n (latest s (w .past) .number) t (w .panel .time) _ (TurnedDown 7) (TurnedDown 8) (Arrives s n t i r))
+    (alike n (latest s (w .past) .number) t (w .panel .time) _ (TurnedDown 7) (TurnedDown 8) (Arrives call))
 
 pub decide-judged : (c : ℕ) (k : List Station) (w : Told) (b : Bytes) → Octets b → Linked c k w
     → decide standard (joined k w) b ≡ judged (w .past) b (parse standard (length (w .panel .outputs)) b)
@@ -125,16 +129,16 @@ decide-judged c k w b h m =
     rw (m .count) (met-judged c k w b (parse standard c b) m (proper c b h))
 
 -- WHAT IS KNOWN of a verdict
-pub record Arrived (c : ℕ) (w : Told) (b : Bytes) (s n t i : ℕ) (r : Request) : Type 0 where
-  pub frame : Called c b s n t i r
-  pub new : latest s (w .past) .number < n
-  pub due : w .panel .time ≤ t
+pub record Arrived (c : ℕ) (w : Told) (b : Bytes) (call : Call) : Type 0 where
+  pub frame : Called c b call
+  pub new : latest (call .station) (w .past) .number < call .number
+  pub due : w .panel .time ≤ call .time
 
 abbrev pub Moved : ℕ → Told → Bytes → Verdict → Type 0
 Moved c w b (TurnedDown r) = 2 ≤ r
 Moved c w b (Copied a) = NotOne a
 Moved c w b (Clocked t) = (w .panel .time ≤ t) × (t < 2 ^ 48)
-Moved c w b (Arrives s n t i r) = Arrived c w b s n t i r
+Moved c w b (Arrives call) = Arrived c w b call
 
 pub judged-moved : (c : ℕ) (k : List Station) (w : Told) (b : Bytes) (f : Frame) → Linked c k w → Proper c b f
     → Moved c w b (judged (w .past) b f)
@@ -144,7 +148,10 @@ judged-moved c k w b (Clock t) m g =
     rw
     (m .times t)
     (by-le (w .panel .time) t (λ h e. rw e (h, g)) (λ h e. rw e (omega arith)))
-judged-moved c k w b (Call s n t i r) m g =
+judged-moved c k w b (Calls call) m g =
+    let s = call .station in
+    let n = call .number in
+    let t = call .time in
     rw
     (m .tops s n (g .number), m .times t)
     (by-lt
@@ -168,8 +175,8 @@ abbrev pub nextStations : Bytes → List Station → Told → Verdict → List S
 nextStations b k w (TurnedDown r) = k
 nextStations b k w (Copied a) = k
 nextStations b k w (Clocked t) = k
-nextStations b k w (Arrives s n t i r) =
-    set k s (record { answer = handed b w (Arrives s n t i r) .answer; number = n; frame = padded b })
+nextStations b k w (Arrives call) =
+    set k (call .station) (record { answer = handed b w (Arrives call) .answer; number = call .number; frame = padded b })
 
 step-same : (c : ℕ) (k : List Station) (w : Told) (b : Bytes) (v : Verdict) → Linked c k w → Moved c w b v
     → carried b (joined k w) v ≡ record { panel = joined (nextStations b k w v) (handed b w v .told); answer = handed b w v .answer }
@@ -177,8 +184,8 @@ unfolding carried handed
 step-same c k w b (TurnedDown r) m g = refl
 step-same c k w b (Copied a) m g = refl
 step-same c k w b (Clocked t) m g = rw (lived-advance t (w .panel) (g .0) (omega (arith, g .1)) (m .sound))
-step-same c k w b (Arrives s n t i r) m g =
-    rw (lived-advance t (w .panel) (g .due) (omega (arith, g .frame .time)) (m .sound))
+step-same c k w b (Arrives call) m g =
+    rw (lived-advance (call .time) (w .panel) (g .due) (omega (arith, g .frame .time)) (m .sound))
 
 and-le : (a b c : ℕ) → b ≤ a → (leb a c also leb b c) ≡ leb a c
 unfolding if_then_else_
@@ -202,11 +209,10 @@ kept-set [] i x h g = refl
 kept-set (y ∷ k) zero x h g = also-yes g (also-both h .1)
 kept-set (y ∷ k) (suc i) x h g = also-yes (also-both h .0) (kept-set k i x (also-both h .1) g)
 
-station-kept : (a : Answer) (n : ℕ) (b : Bytes) → byteAt b 0 ≢ 1 → kindLength (byteAt b 0) ≢ 0
+station-kept : (a : Answer) (n : ℕ) (b : Bytes) → isCall (byteAt b 0) ≡ true
     → stationSound (record { answer = a; number = n; frame = padded b }) ≡ true
 unfolding stationSound if_then_else_
-station-kept a n b y z =
-    by-bool (eqb n 0) (λ e. rw e) (λ e. rw (e, padded-kind b) (call-kind (byteAt b 0) y z))
+station-kept a n b y = by-bool (eqb n 0) (λ e. rw e) (λ e. rw (e, padded-kind b) y)
 
 known-set : (k : List Station) (s s′ n t : ℕ) (b : Bytes) (a : Answer) (h : List Event) → s < length k → length b ≡ kindLength (byteAt b 0)
     → asLatest (getD k s′ freshStation) ≡ latest s′ h
@@ -246,14 +252,20 @@ linked-clock c k w t m g u =
       others = m .others;
     }
 
-linked-first : (c : ℕ) (k : List Station) (w : Told) (b : Bytes) (s n t i : ℕ) (r : Request) (l : List Output) (a : Answer)
-    → Linked c k w → Arrived c w b s n t i r → length l ≡ c → AllSound t l → NotOne a
+linked-first : (c : ℕ) (k : List Station) (w : Told) (b : Bytes) (call : Call) (l : List Output) (a : Answer)
+    → Linked c k w → Arrived c w b call → length l ≡ c → AllSound (call .time) l → NotOne a
     → Linked
     c
-    (set k s (record { answer = a; number = n; frame = padded b }))
-    (record { past = first s n t b a ∷ w .past; panel = record { outputs = l; time = t } })
+    (set k (call .station) (record { answer = a; number = call .number; frame = padded b }))
+    (record {
+      past = first (call .station) (call .number) (call .time) b a ∷ w .past;
+      panel = record { outputs = l; time = call .time };
+    })
 unfolding inTime
-linked-first c k w b s n t i r l a m g e h z =
+linked-first c k w b call l a m g e h z =
+    let s = call .station in
+    let n = call .number in
+    let t = call .time in
     let x : Station = record { answer = a; number = n; frame = padded b } in
     record {
       least = m .least;
@@ -262,7 +274,7 @@ linked-first c k w b s n t i r l a m g e h z =
       sound = h;
       bounded = omega (arith, g .frame .time);
       eight = length-set k s x ∙ m .eight;
-      kept = kept-set k s x (m .kept) (station-kept a n b (g .frame .kind) (g .frame .known));
+      kept = kept-set k s x (m .kept) (station-kept a n b (g .frame .kind));
       known = λ s′ l′.
           known-set k s s′ n t b a (w .past) (omega (arith, m .eight, g .frame .station)) (g .frame .sized) (m .known s′ l′);
       tops = λ s′ n′ l′. tops-more s n s′ n′ t b a (w .past) (m .tops s′ n′ l′) (g .new);
@@ -277,14 +289,18 @@ step-linked c k w b (TurnedDown r) m g = m
 step-linked c k w b (Copied a) m g = m
 step-linked c k w b (Clocked t) m g =
     rw (lived-advance t (w .panel) (g .0) (omega (arith, g .1)) (m .sound)) (linked-clock c k w t m (g .0) (g .1))
-step-linked c k w b (Arrives s n t i r) m g =
+step-linked c k w b (Arrives call) m g =
+    let s = call .station in
+    let t = call .time in
+    let i = call .output in
+    let r = call .request in
     let u : t ≤ top = omega (arith, g .frame .time) in
     let l = map (advance (w .panel .time) t) (w .panel .outputs) in
     let e : length l ≡ c = length-map (w .panel .outputs) (advance (w .panel .time) t) ∙ m .count in
     let h : AllSound t l = all-advance (w .panel .time) t (w .panel .outputs) (g .due) u (m .sound) in
     rw
     (lived-advance t (w .panel) (g .due) u (m .sound))
-    (linked-first c k w b s n t i r (served t l s i r .outputs) (served t l s i r .answer) m g
+    (linked-first c k w b call (served t l s i r .outputs) (served t l s i r .answer) m g
     (served-length t l s i r ∙ e)
     (served-sound t l s i r (g .frame .good) (omega (arith, e, g .frame .output)) h)
     (served-not-one t l s i r (g .frame .good)))
@@ -295,7 +311,7 @@ unfolding handed refusalOf
 handed-other c k w b (TurnedDown r) m g = record { other = omega arith }
 handed-other c k w b (Copied a) m g = g
 handed-other c k w b (Clocked t) m g = record { other = omega arith }
-handed-other c k w b (Arrives s n t i r) m g = served-not-one _ _ s i r (g .frame .good)
+handed-other c k w b (Arrives call) m g = served-not-one _ _ (call .station) (call .output) (call .request) (g .frame .good)
 
 -- the engine's step from a linked panel is the plain panel's, and the panels are linked again
 pub record Stepped (c : ℕ) (k : List Station) (w : Told) (b : Bytes) : Type 0 where
@@ -345,7 +361,7 @@ listed c k w (b ∷ l) s m =
     }
 
 pub linked-start : (c : ℕ) → 1 ≤ c → c ≤ 64 → Linked c (replicate 8 freshStation) (plainStart c)
-unfolding plainStart every stationSound latest above inTime if_then_else_ restored kindLength byteAt freshStation
+unfolding plainStart every stationSound latest above inTime if_then_else_ restored kindRow kindLength byteAt freshStation
 linked-start c p q =
     record {
       least = p;

@@ -1,60 +1,72 @@
--- A string of more than 25 bytes is refused by its first byte and its length alone: its first 26 bytes are refused likewise. So a reader may
--- keep 26 bytes of a string of any length. Assumes nothing.
+-- A string that is longer than the longest frame is refused by its first byte and its length alone: its first bytes, one more than that frame
+-- has, are refused likewise. So a reader may keep these of a string of any length. Assumes nothing.
 use mathlib.Core.Path.{_≡_, refl, sym, ap, _∙_}
 use mathlib.Core.List.{[], _∷_}
-use Prim.Native.Nat.{ℕ, _≤_}
+use Prim.Native.Nat.{ℕ, _+_, _≤_, _<_}
 use native.Mathlib.Omega.{arith}
-use lib.Dec.{eqb}
 use lib.ListN.{length, take, getD, length-take}
 use Rattle.lighting.specs.Choice.{if_then_else_}
 use Rattle.lighting.specs.Field.{byteAt}
 use Rattle.lighting.specs.Parameters.{Parameters}
-use Rattle.lighting.specs.Frames.{Bytes, kindLength, parse, parseBy}
+use Rattle.lighting.specs.Kinds.{longestFrame, kindRow, kindLength}
+use Rattle.lighting.specs.Frames.{Bytes, parse, parseBy}
 use Rattle.lighting.specs.Panel.{Panel, Step, panelSound, framed, decide, metBy, met, stationOf, carried}
 use Rattle.lighting.specs.Fresh.{freshStation}
 use Rattle.lighting.specs.declared.Answer.the-variants.{Refused}
+use Rattle.lighting.specs.declared.Kind.{Kind}
+use Rattle.lighting.specs.declared.Kind.the-variants.{NoKind, ClockKind, CallKind}
 use Rattle.lighting.specs.declared.Frame.{Frame}
 use Rattle.lighting.specs.declared.Frame.the-variants.{Bad}
-use Rattle.lighting.proofs.Split.{by-eq, eqb-miss}
-use Rattle.lighting.proofs.Lengths.{length-most}
+use Rattle.lighting.proofs.Split.{eqb-miss}
+use Rattle.lighting.proofs.KindTable.{length-most}
 
 -- what refuses a string that is longer than any frame
-abbrev tooLong : ℕ → Frame
-tooLong l = if eqb l 0 then Bad 2 else Bad 3
+abbrev tooLong : Kind → ℕ
+tooLong NoKind = 2
+tooLong ClockKind = 3
+tooLong (CallKind action) = 3
 
-parse-long : (p : Parameters) (c : ℕ) (b : Bytes) → 26 ≤ length b → parse p c b ≡ tooLong (kindLength (byteAt b 0))
-unfolding parse parseBy
+parse-by-long : (p : Parameters) (c l : ℕ) (k : Kind) (b : Bytes) → l < length b → parseBy p c l k b ≡ Bad (tooLong k)
+unfolding parseBy if_then_else_
+parse-by-long p c l NoKind b h = refl
+parse-by-long p c l ClockKind b h = rw (eqb-miss {a = length b} {b = l} (λ e. omega arith))
+parse-by-long p c l (CallKind action) b h = rw (eqb-miss {a = length b} {b = l} (λ e. omega arith))
+
+abbrev refusal : Bytes → ℕ
+refusal b = tooLong (kindRow (byteAt b 0) .kind)
+
+parse-long : (p : Parameters) (c : ℕ) (b : Bytes) → longestFrame + 1 ≤ length b → parse p c b ≡ Bad (refusal b)
+unfolding parse
 parse-long p c b h =
-    rw (eqb-miss {a = length b} {b = kindLength (byteAt b 0)} (λ e. omega (arith, length-most (byteAt b 0)))) (unfold if_then_else_ in refl)
+    parse-by-long p c (kindRow (byteAt b 0) .length) (kindRow (byteAt b 0) .kind) b
+    (unfold kindLength in (omega (arith, length-most (byteAt b 0))))
 
-first-kept : (b : Bytes) → byteAt (take 26 b) 0 ≡ byteAt b 0
+first-kept : (b : Bytes) → byteAt (take (longestFrame + 1) b) 0 ≡ byteAt b 0
 unfolding byteAt
 first-kept [] = refl
 first-kept (x ∷ b) = refl
 
--- 'A string longer than 25 is refused by its first byte and its length alone'
-pub parse-first : (p : Parameters) (c : ℕ) (b : Bytes) → 26 ≤ length b → parse p c b ≡ parse p c (take 26 b)
+-- 'A string longer than the longest frame is refused by its first byte and its length alone'
+pub parse-first : (p : Parameters) (c : ℕ) (b : Bytes) → longestFrame + 1 ≤ length b → parse p c b ≡ parse p c (take (longestFrame + 1) b)
 parse-first p c b h =
     parse-long p c b h
-    ∙ ap (λ (x : ℕ). tooLong (kindLength x)) (sym (first-kept b))
-    ∙ sym (parse-long p c (take 26 b) (omega (arith, length-take 26 b)))
+    ∙ ap (λ (x : ℕ). Bad (tooLong (kindRow x .kind))) (sym (first-kept b))
+    ∙ sym (parse-long p c (take (longestFrame + 1) b) (omega (arith, length-take (longestFrame + 1) b)))
 
--- so the panel does with such a string what it does with its first 26 bytes: neither gets past refusals 2 and 3
+-- so the panel does with such a string what it does with its first bytes: neither gets past refusals 2 and 3
 decide-long : (p : Parameters) (e : Panel) (b : Bytes) (f : Frame) → parse p (length (e .outputs)) b ≡ f → decide p e b ≡ metBy (e .time) (getD (e .stations) (stationOf f) freshStation) b f
 unfolding decide
 decide-long p e b f h = rw h
 
-pub framed-first : (p : Parameters) (e : Panel) (b : Bytes) → 26 ≤ length b → framed p e b ≡ framed p e (take 26 b)
+pub framed-first : (p : Parameters) (e : Panel) (b : Bytes) → longestFrame + 1 ≤ length b → framed p e b ≡ framed p e (take (longestFrame + 1) b)
 unfolding framed
 framed-first p e b h =
     ap (λ (s : Step). if panelSound p e then s else record { panel = e; answer = Refused 1 })
-    (by-eq (kindLength (byteAt b 0)) 0
-    (λ z t. alike 2 (unfold if_then_else_ in (rw t at (parse-long p (length (e .outputs)) b h))))
-    (λ z t. alike 3 (unfold if_then_else_ in (rw t at (parse-long p (length (e .outputs)) b h)))))
+    (alike (refusal b) (parse-long p (length (e .outputs)) b h))
   where
     refused : (b : Bytes) (r : ℕ) → parse p (length (e .outputs)) b ≡ Bad r → carried b e (decide p e b) ≡ record { panel = e; answer = Refused r }
     refused b r q = rw (decide-long p e b (Bad r) q) (unfold metBy met carried in refl)
 
-    alike : (r : ℕ) → parse p (length (e .outputs)) b ≡ Bad r → carried b e (decide p e b) ≡ carried (take 26 b) e (decide p e (take 26 b))
+    alike : (r : ℕ) → parse p (length (e .outputs)) b ≡ Bad r → carried b e (decide p e b) ≡ carried (take (longestFrame + 1) b) e (decide p e (take (longestFrame + 1) b))
     alike r q =
-        refused b r q ∙ sym (refused (take 26 b) r (sym (parse-first p (length (e .outputs)) b h) ∙ q))
+        refused b r q ∙ sym (refused (take (longestFrame + 1) b) r (sym (parse-first p (length (e .outputs)) b h) ∙ q))

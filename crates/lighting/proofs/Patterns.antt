@@ -7,10 +7,13 @@ use lib.Dec.{T}
 use lib.Ieee.{Float, nan, inf, fin, binary32, isNan, fits}
 use lib.Ieee.Bits.{toBits-ofBits, ofBits-toBits}
 use Rattle.lighting.specs.declared.Level.{Level}
-use Rattle.lighting.specs.declared.Level.the-variants.{OutOfRange}
+use Rattle.lighting.specs.declared.Level.the-variants.{Units, OutOfRange}
 use Rattle.lighting.specs.declared.Operand.the-variants.{Taken, Unfit}
 use Rattle.lighting.proofs.Split.{by-bool, passed}
-use Rattle.lighting.specs.Level.{real, bits, levelOf, amountOf, inRange, operandBy, levelOperand, amountOperand}
+use Rattle.lighting.specs.Level.{real, bits, levelOf, amountOf, inRange, amountOperand}
+use Rattle.lighting.specs.Answers.{levelRefusal}
+use Rattle.lighting.specs.Frames.{levelFieldRefusal, amountFieldRefusal}
+use Rattle.lighting.specs.declared.RealField.the-variants.{Real}
 
 pub only-nan : (x : Float) → isNan x ≡ true → x ≡ nan
 unfolding isNan
@@ -34,25 +37,36 @@ pub record Kept (f : Float → Level) (b : ℕ) (x : Float) : Type 0 where
   pub written : bits x ≡ b
   pub in-range : inRange (f x) ≡ true
 
-operand-kept : (f : Float → Level) (b : ℕ) (x : Float) → f nan ≡ OutOfRange → b < 2 ^ 32
-    → operandBy (f (real b)) b ≡ Taken x → Kept f b x
+kept : (f : Float → Level) (b : ℕ) → f nan ≡ OutOfRange → b < 2 ^ 32 → inRange (f (real b)) ≡ true → Kept f b (real b)
 unfolding inRange
-operand-kept f b x o h k =
-    let p = passed (inRange (f (real b))) (Taken (real b)) Unfit (Taken x) never k in
+kept f b o h t =
+    let none : isNan (real b) ≡ true → ⊥ =
+    λ n. false≢true (sym (ap (λ (y : Float). inRange (f y)) (only-nan (real b) n) ∙ ap inRange o) ∙ t) in
+    let number : isNan (real b) ≡ false = by-bool (isNan (real b)) (λ n. absurd (none n)) (λ n. n) in
+    record { read = refl; written = bits-kept b h number; in-range = t }
+
+-- a level, and a rate or step, of a command
+taken : (l : Level) → levelRefusal l ≡ 0 → inRange l ≡ true
+unfolding inRange
+taken (Units v) h = refl
+taken OutOfRange h = absurd (omega arith)
+
+pub level-field-kept : (b : ℕ) → b < 2 ^ 32 → levelFieldRefusal (Real (real b)) ≡ 0 → Kept levelOf b (real b)
+unfolding levelFieldRefusal
+level-field-kept b h r = kept levelOf b (unfold levelOf in refl) h (taken (levelOf (real b)) r)
+
+pub amount-field-kept : (b : ℕ) → b < 2 ^ 32 → amountFieldRefusal (Real (real b)) ≡ 0 → Kept amountOf b (real b)
+unfolding amountFieldRefusal
+amount-field-kept b h r = kept amountOf b (unfold amountOf in refl) h (taken (amountOf (real b)) r)
+
+-- and one that is written to Ramp_Rate or Step_Increment
+pub amount-operand-kept : (b : ℕ) (x : Float) → b < 2 ^ 32 → amountOperand b ≡ Taken x → Kept amountOf b x
+unfolding amountOperand
+amount-operand-kept b x h k =
+    let p = passed (inRange (amountOf (real b))) (Taken (real b)) Unfit (Taken x) never k in
     let d : Taken (real b) ≡ Taken x = p .1 in
     let e : x ≡ real b = cc in
-    let none : isNan (real b) ≡ true → ⊥ =
-    λ n. false≢true (sym (ap (λ (y : Float). inRange (f y)) (only-nan (real b) n) ∙ ap inRange o) ∙ p .0) in
-    let number : isNan (real b) ≡ false = by-bool (isNan (real b)) (λ n. absurd (none n)) (λ n. n) in
-    record { read = e; written = rw e (bits-kept b h number); in-range = rw e (p .0) }
+    rw e (kept amountOf b (unfold amountOf in refl) h (p .0))
   where
     never : Unfit ≡ Taken x → ⊥
     never q = let z : _≡_ {A = ℕ} 0 1 = cc in omega arith
-
-pub level-operand-kept : (b : ℕ) (x : Float) → b < 2 ^ 32 → levelOperand b ≡ Taken x → Kept levelOf b x
-unfolding levelOperand levelOf
-level-operand-kept b x h k = operand-kept levelOf b x refl h k
-
-pub amount-operand-kept : (b : ℕ) (x : Float) → b < 2 ^ 32 → amountOperand b ≡ Taken x → Kept amountOf b x
-unfolding amountOperand amountOf
-amount-operand-kept b x h k = operand-kept amountOf b x refl h k

@@ -1,74 +1,34 @@
 -- What the reading of a frame leaves in range. Assumes nothing.
 use mathlib.Core.Path.{_≡_, refl}
-use mathlib.Core.Logic.{_≢_}
+use mathlib.Core.Bool.{true}
 use mathlib.Core.List.{[], _∷_}
 use Prim.Native.Nat.{ℕ, zero, suc, _+_, _-_, _*_, _^_, _≤_, _<_, min}
 use native.Mathlib.Omega.{arith}
-use lib.Dec.{leb, ltb, eqb}
-use lib.Ieee.{Float}
+use lib.Dec.{leb, eqb}
 use lib.ListN.{length}
 use Rattle.lighting.specs.Choice.{if_then_else_}
 use Rattle.lighting.specs.Parameters.{standard}
-use Rattle.lighting.specs.Level.{real, levelOf, levelOperand, amountOperand}
+use Rattle.lighting.specs.Level.{real, levelOf}
 use Rattle.lighting.specs.Field.{byteAt, bigEndian}
-use Rattle.lighting.specs.Rows.{rowOf, within, isPriority, meets}
+use Rattle.lighting.specs.Rows.{isPriority}
 use Rattle.lighting.specs.Properties.{propertyOf}
-use Rattle.lighting.specs.Frames.{Bytes, Octets, kindLength, ordered, operationWith, orderedWith, fadeOrder, rampOrderAt, rampOrder, stepOrLevel, orderOf, writeLevel, writeOf, emptyOf, requestBy, requestOf, callOf, calledBy, called, clockOf, parseBy, parse}
+use Rattle.lighting.specs.Kinds.{kindRow, kindLength, callsBy, isCall}
+use Rattle.lighting.specs.Frames.{Bytes, Octets, writeLevel, writeOf, emptyOf, requestOf, callOf, called, clockOf, parseBy, parse}
 use Rattle.lighting.specs.declared.Level.{Level}
 use Rattle.lighting.specs.declared.Level.the-variants.{Units, OutOfRange}
-use Rattle.lighting.specs.declared.Operand.{Operand}
-use Rattle.lighting.specs.declared.Operand.the-variants.{Taken, Unfit}
-use Rattle.lighting.specs.declared.Operation.{Operation}
-use Rattle.lighting.specs.declared.Operation.the-variants.{Stop, FadeToOver, RampToAtRate, StepUp, StepDown, Relinquish}
-use Rattle.lighting.specs.declared.Property.the-variants.{FadeTime}
-use Rattle.lighting.specs.declared.Request.{Request}
+use Rattle.lighting.specs.declared.Action.{Action}
+use Rattle.lighting.specs.declared.Action.the-variants.{WritesLevel, EmptiesSlot, WritesProperty, ReadsProperty, Stops, FadesTo, FadesToOver, RampsTo, RampsToAtRate, StepsUp, StepsDown, StepsUpBy, StepsDownBy, GoesTo, Relinquishes}
+use Rattle.lighting.specs.declared.Kind.{Kind}
+use Rattle.lighting.specs.declared.Kind.the-variants.{NoKind, ClockKind, CallKind}
+use Rattle.lighting.specs.declared.Call.{Call}
 use Rattle.lighting.specs.declared.Frame.{Frame}
-use Rattle.lighting.specs.declared.Frame.the-variants.{Bad, Clock, Call}
+use Rattle.lighting.specs.declared.Frame.the-variants.{Bad, Clock, Calls}
 use Rattle.lighting.proofs.Split.{by-bool, by-eq, by-lt}
 use Rattle.lighting.proofs.Ranges.{level-units}
 use Rattle.lighting.proofs.Facts.{Slot}
-use Rattle.lighting.proofs.Tied.{within-of, meets-of}
-use Rattle.lighting.proofs.Good.{GoodOperation, Good}
+use Rattle.lighting.proofs.Good.{Good}
 use Rattle.lighting.proofs.Rows.{priority-of, change-good}
-
--- A COMMAND
-ordered-good : (o : Operation) (d : ℕ) → GoodOperation o → Good (ordered standard o d)
-unfolding ordered if_then_else_
-ordered-good o d g =
-    by-bool (eqb d 0xffff_ffff) (λ e. rw e ((g, tt))) (λ e. rw e (by-bool (eqb d 0) (λ e. rw e ((g, tt))) (λ e. rw e (by-bool (within 100 (standard .longestDuration) d) (λ e. rw e ((g, within-of 100 (standard .longestDuration) d e))) (λ e. rw e (omega arith))))))
-
-operation-good : (k : ℕ) (x : Float) → GoodOperation (operationWith k x)
-unfolding operationWith if_then_else_
-operation-good k x =
-    by-bool (eqb k 0x11) (λ e. rw e tt) (λ e. rw e
-    (by-bool (eqb k 0x13) (λ e. rw e tt) (λ e. rw e
-    (by-bool (eqb k 0x17) (λ e. rw e tt) (λ e. rw e (by-bool (eqb k 0x18) (λ e. rw e tt) (λ e. rw e tt)))))))
-
-with-good : (k d : ℕ) (x : Operand) → Good (orderedWith standard k x d)
-unfolding orderedWith
-with-good k d (Taken x) = ordered-good (operationWith k x) d (operation-good k x)
-with-good k d Unfit = omega arith
-
-fade-good : (x : Operand) (l d : ℕ) → Good (fadeOrder standard x l d)
-unfolding fadeOrder if_then_else_
-fade-good (Taken x) l d =
-    by-bool (meets (rowOf standard FadeTime) l) (λ e. rw e (ordered-good (FadeToOver x l) d (meets-of (rowOf standard FadeTime) l e))) (λ e. rw e (omega arith))
-fade-good Unfit l d = omega arith
-
-ramp-at-good : (x : Float) (r : Operand) (d : ℕ) → Good (rampOrderAt standard x r d)
-unfolding rampOrderAt
-ramp-at-good x (Taken r) d = ordered-good (RampToAtRate x r) d tt
-ramp-at-good x Unfit d = omega arith
-
-ramp-order-good : (x r : Operand) (d : ℕ) → Good (rampOrder standard x r d)
-unfolding rampOrder
-ramp-order-good (Taken x) r d = ramp-at-good x r d
-ramp-order-good Unfit r d = omega arith
-
-order-good : (k x y z : ℕ) → Good (orderOf standard k x y z)
-unfolding orderOf if_then_else_
-order-good k x y z =
-    by-bool (eqb k 0x10) (λ e. rw e (ordered-good Stop x tt)) (λ e. rw e (by-bool (eqb k 0x12) (λ e. rw e (fade-good (levelOperand x) y z)) (λ e. rw e (by-bool (eqb k 0x14) (λ e. rw e (ramp-order-good (levelOperand x) (amountOperand y) z)) (λ e. rw e (by-bool (eqb k 0x15) (λ e. rw e (ordered-good StepUp x tt)) (λ e. rw e (by-bool (eqb k 0x16) (λ e. rw e (ordered-good StepDown x tt)) (λ e. rw e (by-bool (eqb k 0x1a) (λ e. rw e (ordered-good Relinquish x tt)) (λ e. rw e (with-good k y (stepOrLevel k x)))))))))))))
+use Rattle.lighting.proofs.Operations.{ordered-good}
 
 -- KINDS 02 TO 05
 level-good : (i : ℕ) (l : Level) → Slot i → ((v : ℕ) → l ≡ Units v → (65536 * min 1 v ≤ v) × (v ≤ 6553600)) → Good (writeLevel i l)
@@ -76,10 +36,27 @@ unfolding writeLevel
 level-good i (Units v) g f = let r = f v refl in (g, record { least = r .0; most = r .1 })
 level-good i OutOfRange g f = omega arith
 
-request-good : (k n v x y z : ℕ) → Good (requestBy standard k n v x y z)
-unfolding requestBy writeOf emptyOf if_then_else_
-request-good k n v x y z =
-    by-bool (eqb k 2) (λ e. rw e (by-bool (isPriority n) (λ p. rw p (level-good (n - 1) (levelOf (real v)) (priority-of n p) (level-units (real v)))) (λ p. rw p (omega arith)))) (λ e. rw e (by-bool (eqb k 3) (λ e. rw e (by-bool (isPriority n) (λ p. rw p (priority-of n p)) (λ p. rw p (omega arith)))) (λ e. rw e (by-bool (eqb k 4) (λ e. rw e (change-good (propertyOf n) v)) (λ e. rw e (by-bool (eqb k 5) (λ e. rw e (tt)) (λ e. rw e (by-bool (leb 0x10 k) (λ e. rw e (by-bool (ltb k 0x1b) (λ e. rw e (order-good k x y z)) (λ e. rw e (omega arith)))) (λ e. rw e (omega arith))))))))))
+request-good : (action : Action) (b : Bytes) → Good (requestOf standard action b)
+unfolding requestOf writeOf emptyOf if_then_else_
+request-good WritesLevel b =
+    let n = byteAt b 13 in
+    let x = real (bigEndian 4 b 14) in
+    by-bool (isPriority n) (λ p. rw p (level-good (n - 1) (levelOf x) (priority-of n p) (level-units x))) (λ p. rw p (omega arith))
+request-good EmptiesSlot b =
+    by-bool (isPriority (byteAt b 13)) (λ p. rw p (priority-of (byteAt b 13) p)) (λ p. rw p (omega arith))
+request-good WritesProperty b = change-good (propertyOf (byteAt b 13)) (bigEndian 4 b 14)
+request-good ReadsProperty b = tt
+request-good Stops b = ordered-good _ _
+request-good FadesTo b = ordered-good _ _
+request-good FadesToOver b = ordered-good _ _
+request-good RampsTo b = ordered-good _ _
+request-good RampsToAtRate b = ordered-good _ _
+request-good StepsUp b = ordered-good _ _
+request-good StepsDown b = ordered-good _ _
+request-good StepsUpBy b = ordered-good _ _
+request-good StepsDownBy b = ordered-good _ _
+request-good GoesTo b = ordered-good _ _
+request-good Relinquishes b = ordered-good _ _
 
 -- A TIME of six bytes
 octet : (b : Bytes) (at : ℕ) → Octets b → byteAt b at < 256
@@ -102,26 +79,25 @@ six-bytes b at h =
     )
 
 -- THE FRAME
-pub record Called (c : ℕ) (b : Bytes) (s n t i : ℕ) (r : Request) : Type 0 where
-  pub station : s < 8
-  pub number : 0 < n
-  pub time : t < 2 ^ 48
-  pub output : i < c
-  pub good : Good r
+pub record Called (c : ℕ) (b : Bytes) (call : Call) : Type 0 where
+  pub station : call .station < 8
+  pub number : 0 < call .number
+  pub time : call .time < 2 ^ 48
+  pub output : call .output < c
+  pub good : Good (call .request)
   -- the bytes are those of a call, and as many as its kind has
   pub sized : length b ≡ kindLength (byteAt b 0)
-  pub kind : byteAt b 0 ≢ 1
-  pub known : kindLength (byteAt b 0) ≢ 0
+  pub kind : isCall (byteAt b 0) ≡ true
 
 abbrev pub Proper : ℕ → Bytes → Frame → Type 0
 Proper c b (Bad r) = 2 ≤ r
 Proper c b (Clock t) = t < 2 ^ 48
-Proper c b (Call s n t i r) = Called c b s n t i r
+Proper c b (Calls call) = Called c b call
 
-called-proper : (c : ℕ) (b : Bytes) → Octets b → length b ≡ kindLength (byteAt b 0) → byteAt b 0 ≢ 1 → kindLength (byteAt b 0) ≢ 0
-    → Proper c b (called standard c b)
-unfolding called calledBy callOf if_then_else_
-called-proper c b h z y k =
+called-proper : (c : ℕ) (b : Bytes) (action : Action) → Octets b → length b ≡ kindLength (byteAt b 0) → isCall (byteAt b 0) ≡ true
+    → Proper c b (called standard c (callOf standard action b))
+unfolding called callOf if_then_else_
+called-proper c b action h z y =
     by-lt
     (byteAt b 1)
     8
@@ -139,29 +115,25 @@ called-proper c b h z y k =
       number = omega arith;
       time = six-bytes b 6 h;
       output = m;
-      good =
-          unfold requestOf in
-          (request-good (byteAt b 0) (byteAt b 13) (bigEndian 4 b 14) (bigEndian 4 b 13) (bigEndian 4 b 17) (bigEndian 4 b 21));
+      good = request-good action b;
       sized = z;
       kind = y;
-      known = k;
     }))
     (λ m e″. rw (e, e′, e″) (omega arith))))
     (λ l e. rw e (omega arith))
 
-pub proper : (c : ℕ) (b : Bytes) → Octets b → Proper c b (parse standard c b)
-unfolding parse parseBy clockOf if_then_else_
-proper c b h =
+proper-by : (c : ℕ) (b : Bytes) (k : Kind) → Octets b → kindRow (byteAt b 0) .kind ≡ k → Proper c b (parseBy standard c (kindLength (byteAt b 0)) k b)
+unfolding parseBy clockOf if_then_else_
+proper-by c b NoKind h e = omega arith
+proper-by c b ClockKind h e =
+    by-bool (eqb (length b) (kindLength (byteAt b 0))) (λ q. rw q (six-bytes b 1 h)) (λ q. rw q (omega arith))
+proper-by c b (CallKind action) h e =
     by-eq
-    (kindLength (byteAt b 0))
-    0
-    (λ p e. rw e (omega arith))
-    (λ p e. by-eq
     (length b)
     (kindLength (byteAt b 0))
-    (λ q e′. by-eq
-    (byteAt b 0)
-    1
-    (λ r e″. rw (e, e′, e″) (six-bytes b 1 h))
-    (λ r e″. rw (e, e′, e″) (called-proper c b h q r p)))
-    (λ q e′. rw (e, e′) (omega arith)))
+    (λ q e′. rw e′ (called-proper c b action h q (unfold isCall callsBy in (rw e))))
+    (λ q e′. rw e′ (omega arith))
+
+pub proper : (c : ℕ) (b : Bytes) → Octets b → Proper c b (parse standard c b)
+unfolding parse
+proper c b h = unfold kindLength in (proper-by c b (kindRow (byteAt b 0) .kind) h refl)

@@ -12,8 +12,9 @@ use Rattle.lighting.specs.Panel.{Station, carried, framed}
 use Rattle.lighting.specs.Plain.{latest, judged, Told, handed, plainFramed}
 use Rattle.lighting.specs.Demand.{after, answers, Among, here, there, Again, end, own, copy, kept}
 use Rattle.lighting.specs.declared.Answer.{Answer}
+use Rattle.lighting.specs.declared.Call.{Call}
 use Rattle.lighting.specs.declared.Frame.{Frame}
-use Rattle.lighting.specs.declared.Frame.the-variants.{Bad, Clock, Call}
+use Rattle.lighting.specs.declared.Frame.the-variants.{Bad, Clock, Calls}
 use Rattle.lighting.specs.declared.Verdict.{Verdict}
 use Rattle.lighting.specs.declared.Verdict.the-variants.{TurnedDown, Copied, Clocked, Arrives}
 use Rattle.lighting.proofs.Split.{by-eq, by-lt, by-le, by-bool, eqb-hit, leb-no}
@@ -22,14 +23,14 @@ use Rattle.lighting.proofs.Table.{lived-advance, advance-here}
 use Rattle.lighting.proofs.Lists.{joined, Linked, Moved, judged-moved, decide-judged, linked-sound, step}
 
 -- a frame that can no longer move the panel: its number is not above its station's latest, or its time is past
-data Stale (w : Told) (s n t : ℕ) : Type 0 where
-  old : n ≤ latest s (w .past) .number → Stale w s n t
-  late : t < w .panel .time → Stale w s n t
+data Stale (w : Told) (call : Call) : Type 0 where
+  old : call .number ≤ latest (call .station) (w .past) .number → Stale w call
+  late : call .time < w .panel .time → Stale w call
 
 abbrev Spent : Told → Frame → Type 0
 Spent w (Bad r) = Unit {0}
 Spent w (Clock t) = t ≤ w .panel .time
-Spent w (Call s n t i r) = Stale w s n t
+Spent w (Calls call) = Stale w call
 
 -- time and numbers only grow, so what is spent stays spent
 record Grows (w w′ : Told) : Type 0 where
@@ -39,8 +40,8 @@ record Grows (w w′ : Told) : Type 0 where
 spent-grows : (w w′ : Told) (f : Frame) → Grows w w′ → Spent w f → Spent w′ f
 spent-grows w w′ (Bad r) g h = tt
 spent-grows w w′ (Clock t) g h = omega (arith, g .time)
-spent-grows w w′ (Call s n t i r) g (old h) = old (omega (arith, g .number s))
-spent-grows w w′ (Call s n t i r) g (late h) = late (omega (arith, g .time))
+spent-grows w w′ (Calls call) g (old h) = old (omega (arith, g .number (call .station)))
+spent-grows w w′ (Calls call) g (late h) = late (omega (arith, g .time))
 
 handed-grows : (c : ℕ) (k : List Station) (w : Told) (b : Bytes) (v : Verdict) → Linked c k w → Moved c w b v → Grows w (handed b w v .told)
 unfolding handed latest if_then_else_
@@ -50,12 +51,12 @@ handed-grows c k w b (Clocked t) m g =
     rw
     (lived-advance t (w .panel) (g .0) (omega (arith, g .1)) (m .sound))
     (record { time = g .0; number = λ s. omega arith })
-handed-grows c k w b (Arrives s n t i r) m g =
+handed-grows c k w b (Arrives call) m g =
     rw
-    (lived-advance t (w .panel) (g .due) (omega (arith, g .frame .time)) (m .sound))
+    (lived-advance (call .time) (w .panel) (g .due) (omega (arith, g .frame .time)) (m .sound))
     (record {
       time = g .due;
-      number = λ s′. by-eq s s′ (λ p e. rw e (omega (arith, rw p at (g .new)))) (λ p e. rw e (omega arith));
+      number = λ s′. by-eq (call .station) s′ (λ p e. rw e (omega (arith, rw p at (g .new)))) (λ p e. rw e (omega arith));
     })
 
 -- once judged, a frame is spent
@@ -71,7 +72,10 @@ now-spent c k w b (Clock t) m g =
     t
     (λ h e. rw (e, lived-advance t (w .panel) h (omega arith) (m .sound)) (omega arith))
     (λ h e. rw e (omega arith)))
-now-spent c k w b (Call s n t i r) m g =
+now-spent c k w b (Calls call) m g =
+    let s = call .station in
+    let n = call .number in
+    let t = call .time in
     rw
     (m .tops s n (g .number), m .times t)
     (by-lt
@@ -105,14 +109,19 @@ stays c k w b (Clock t) m g h =
     let q = advance-here (w .panel .time) (w .panel .outputs) (m .bounded) (m .sound) in
     rw e (rw p (rw q)))
     (λ h′ e. rw e))
-stays c k w b (Call s n t i r) m g (old h) =
+stays c k w b (Calls call) m g (old h) =
+    let s = call .station in
+    let n = call .number in
     rw
     (m .tops s n (g .number), leb-no {a = suc (latest s (w .past) .number)} {b = n} (omega arith))
     (by-bool
     (eqb n (latest s (w .past) .number))
     (λ p. by-bool (sameBytes b (latest s (w .past) .frame)) (λ q. rw (p, q)) (λ q. rw (p, q)))
     (λ p. rw p))
-stays c k w b (Call s n t i r) m g (late h) =
+stays c k w b (Calls call) m g (late h) =
+    let s = call .station in
+    let n = call .number in
+    let t = call .time in
     rw
     (m .tops s n (g .number), m .times t, leb-no {a = w .panel .time} {b = t} h)
     (by-lt

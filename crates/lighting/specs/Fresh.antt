@@ -2,6 +2,7 @@
 use mathlib.Core.Bool.{false}
 use lib.ListN.{replicate}
 use Rattle.lighting.specs.Level.{real}
+use Rattle.lighting.specs.Kinds.{longestFrame}
 use Rattle.lighting.specs.declared.Settings.{Settings}
 use Rattle.lighting.specs.declared.Activity.the-variants.{Still}
 use Rattle.lighting.specs.declared.Timer.the-variants.{Off}
@@ -41,4 +42,4 @@ freshOutput =
 
 -- 'number 0 meaning none'
 unfoldable pub freshStation : Station
-freshStation = record { answer = Done; number = 0; frame = replicate 25 0 }
+freshStation = record { answer = Done; number = 0; frame = replicate longestFrame 0 }

@@ -91,13 +91,9 @@ amountUnits x = unitsOr 8192 (amountOf x)
 unfoldable pub levelUnits : Float → ℕ
 levelUnits x = unitsOr 0 (levelOf x)
 
--- 'the last command is kept with its REALs as they were written': a command's REAL by its pattern b, if l is in range
+-- 'Ramp_Rate and Step_Increment are kept as REALs, bit for bit': a REAL by its pattern b, if l is in range
 abbrev pub operandBy : Level → ℕ → Operand
 operandBy l b = if inRange l then Taken (real b) else Unfit
-
--- its level, and its rate or step
-unfoldable pub levelOperand : ℕ → Operand
-levelOperand b = operandBy (levelOf (real b)) b
 
 unfoldable pub amountOperand : ℕ → Operand
 amountOperand b = operandBy (amountOf (real b)) b

@@ -8,18 +8,19 @@ use lib.ListN.{getD, set, length, replicate, take}
 use Rattle.lighting.specs.Choice.{if_then_else_, _also_}
 use Rattle.lighting.specs.Parameters.{Parameters}
 use Rattle.lighting.specs.Field.{byteAt}
-use Rattle.lighting.specs.Frames.{Bytes, kindLength, parse}
+use Rattle.lighting.specs.Kinds.{longestFrame, kindLength}
+use Rattle.lighting.specs.Frames.{Bytes, parse}
 use Rattle.lighting.specs.Copies.{sameBytes, copyOr6}
 use Rattle.lighting.specs.Passing.{advance}
 use Rattle.lighting.specs.Fresh.{freshOutput, freshStation}
 use Rattle.lighting.specs.Acting.{served}
 use Rattle.lighting.specs.Rules.{sound, stationSound}
 use Rattle.lighting.specs.declared.Output.{Output}
-use Rattle.lighting.specs.declared.Request.{Request}
 use Rattle.lighting.specs.declared.Answer.{Answer}
 use Rattle.lighting.specs.declared.Answer.the-variants.{Done, Refused}
+use Rattle.lighting.specs.declared.Call.{Call}
 use Rattle.lighting.specs.declared.Frame.{Frame}
-use Rattle.lighting.specs.declared.Frame.the-variants.{Bad, Clock, Call}
+use Rattle.lighting.specs.declared.Frame.the-variants.{Bad, Clock, Calls}
 use Rattle.lighting.specs.declared.Verdict.{Verdict}
 use Rattle.lighting.specs.declared.Verdict.the-variants.{TurnedDown, Copied, Clocked, Arrives}
 pub use Rattle.lighting.specs.declared.Station.{Station}
@@ -57,32 +58,32 @@ panelSound p e =
     also every (sound p (e .time)) (e .outputs)
     also every stationSound (e .stations)
 
--- A FRAME AS A STATION KEEPS IT, in 25 bytes, zeros after its own; and read back: 'of its kind's length'
+-- A FRAME AS A STATION KEEPS IT, in the bytes of the longest, zeros after its own; and read back: 'of its kind's length'
 unfoldable pub padded : Bytes → Bytes
-padded b = b ++ replicate (25 - length b) 0
+padded b = b ++ replicate (longestFrame - length b) 0
 
 unfoldable pub restored : Bytes → Bytes
 restored f = take (kindLength (byteAt f 0)) f
 
 -- JUDGED by the station's record k at panel time: 'station's last number, other bytes' is 6, the same bytes 'a copy: last answer'; 'number
 -- below the station's last' is 7, 'time before panel time' 8. 'A clock meets 1, 2, 3, 8'
-unfoldable pub metNumber : ℕ → Station → Bool → ℕ → ℕ → ℕ → ℕ → Request → Verdict
-metNumber now k same s n t i r =
-    if eqb n (k .number) then copyOr6 same (k .answer)
-    else if ltb n (k .number) then TurnedDown 7
-    else if ltb t now then TurnedDown 8
-    else Arrives s n t i r
+unfoldable pub metNumber : ℕ → Station → Bool → Call → Verdict
+metNumber now k same call =
+    if eqb (call .number) (k .number) then copyOr6 same (k .answer)
+    else if ltb (call .number) (k .number) then TurnedDown 7
+    else if ltb (call .time) now then TurnedDown 8
+    else Arrives call
 
 -- `same`: whether the frame's bytes are the ones that the station's record keeps
 unfoldable pub met : ℕ → Station → Bool → Frame → Verdict
 met now k same (Bad r) = TurnedDown r
 met now k same (Clock t) = if ltb t now then TurnedDown 8 else Clocked t
-met now k same (Call s n t i r) = metNumber now k same s n t i r
+met now k same (Calls call) = metNumber now k same call
 
 unfoldable pub stationOf : Frame → ℕ
 stationOf (Bad r) = 0
 stationOf (Clock t) = 0
-stationOf (Call s n t i r) = s
+stationOf (Calls call) = call .station
 
 unfoldable pub metBy : ℕ → Station → Bytes → Frame → Verdict
 metBy now k b f = met now k (sameBytes b (restored (k .frame))) f
@@ -101,13 +102,14 @@ carried b e (Clocked t) =
       panel = record { outputs = map (advance (e .time) t) (e .outputs); stations = e .stations; time = t };
       answer = Done;
     }
-carried b e (Arrives s n t i r) =
-    let done = served t (map (advance (e .time) t) (e .outputs)) s i r in
+carried b e (Arrives call) =
+    let t = call .time in
+    let done = served t (map (advance (e .time) t) (e .outputs)) (call .station) (call .output) (call .request) in
     record {
       panel =
           record {
             outputs = done .outputs;
-            stations = set (e .stations) s (record { answer = done .answer; number = n; frame = padded b });
+            stations = set (e .stations) (call .station) (record { answer = done .answer; number = call .number; frame = padded b });
             time = t;
           };
       answer = done .answer;

@@ -15,7 +15,7 @@ use Rattle.lighting.specs.declared.Output.{Output}
 use Rattle.lighting.specs.declared.Answer.{Answer}
 use Rattle.lighting.specs.declared.Answer.the-variants.{Done, Refused}
 use Rattle.lighting.specs.declared.Frame.{Frame}
-use Rattle.lighting.specs.declared.Frame.the-variants.{Bad, Clock, Call}
+use Rattle.lighting.specs.declared.Frame.the-variants.{Bad, Clock, Calls}
 use Rattle.lighting.specs.declared.Verdict.{Verdict}
 use Rattle.lighting.specs.declared.Verdict.the-variants.{TurnedDown, Copied, Clocked, Arrives}
 
@@ -62,10 +62,11 @@ latest s (first s′ n t b a ∷ h) = if eqb s′ s then record { answer = a; nu
 unfoldable pub judged : List Event → Bytes → Frame → Verdict
 judged h b (Bad r) = TurnedDown r
 judged h b (Clock t) = if inTime t h then Clocked t else TurnedDown 8
-judged h b (Call s n t i r) =
-    if above s n h
-    then (if inTime t h then Arrives s n t i r else TurnedDown 8)
-    else if eqb n (latest s h .number) then copyOr6 (sameBytes b (latest s h .frame)) (latest s h .answer)
+judged h b (Calls call) =
+    let last = latest (call .station) h in
+    if above (call .station) (call .number) h
+    then (if inTime (call .time) h then Arrives call else TurnedDown 8)
+    else if eqb (call .number) (last .number) then copyOr6 (sameBytes b (last .frame)) (last .answer)
     else TurnedDown 7
 
 -- the plain panel, and what it was handed
@@ -84,13 +85,13 @@ handed b w (TurnedDown r) = record { told = w; answer = Refused r }
 handed b w (Copied a) = record { told = w; answer = a }
 handed b w (Clocked t) =
     record { told = record { past = clock t ∷ w .past; panel = lived (t - w .panel .time) (w .panel) }; answer = Done }
-handed b w (Arrives s n t i r) =
-    let come = lived (t - w .panel .time) (w .panel) in
-    let done = served (come .time) (come .outputs) s i r in
+handed b w (Arrives call) =
+    let come = lived (call .time - w .panel .time) (w .panel) in
+    let done = served (come .time) (come .outputs) (call .station) (call .output) (call .request) in
     record {
       told =
           record {
-            past = first s n t b (done .answer) ∷ w .past;
+            past = first (call .station) (call .number) (call .time) b (done .answer) ∷ w .past;
             panel = record { outputs = done .outputs; time = come .time };
           };
       answer = done .answer;

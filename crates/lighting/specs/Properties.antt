@@ -14,13 +14,16 @@ use Rattle.lighting.specs.Value.{presentValue, progressValue, inProcess}
 use Rattle.lighting.specs.Record.{withSettings}
 unfoldable pub use Rattle.lighting.specs.Rows.{within, isSlot, isPriority}
 use Rattle.lighting.specs.Rows.{rowOf, isAmount}
+use Rattle.lighting.specs.Operations.{operationNumber, fieldsOf}
 use Rattle.lighting.specs.declared.Settings.{Settings}
 use Rattle.lighting.specs.declared.Activity.{Activity}
 use Rattle.lighting.specs.declared.Activity.the-variants.{Still, Moving, Warned}
 use Rattle.lighting.specs.declared.Duration.{Duration}
 use Rattle.lighting.specs.declared.Duration.the-variants.{Lasts, Cancels, Omitted}
-use Rattle.lighting.specs.declared.Operation.{Operation}
-use Rattle.lighting.specs.declared.Operation.the-variants.{Stop, FadeTo, FadeToOver, RampTo, RampToAtRate, StepUp, StepDown, StepUpBy, StepDownBy, Goto, Relinquish}
+use Rattle.lighting.specs.declared.RealField.{RealField}
+use Rattle.lighting.specs.declared.RealField.the-variants.{Real, NoReal}
+use Rattle.lighting.specs.declared.TimeField.{TimeField}
+use Rattle.lighting.specs.declared.TimeField.the-variants.{Time, NoTime}
 use Rattle.lighting.specs.declared.Output.{Output}
 use Rattle.lighting.specs.declared.Answer.{Answer}
 use Rattle.lighting.specs.declared.Answer.the-variants.{Value, Absent, Refused}
@@ -163,75 +166,17 @@ flag b = if b then 1 else 0
 unfoldable pub elapsedActive : ℕ → ℕ
 elapsedActive burning = min 4294967295 (burning / 1000)
 
--- '0F last operation (kind minus 10)'
-unfoldable pub operationNumber : Operation → ℕ
-operationNumber Stop = 0
-operationNumber (FadeTo x) = 1
-operationNumber (FadeToOver x l) = 2
-operationNumber (RampTo x) = 3
-operationNumber (RampToAtRate x r) = 4
-operationNumber StepUp = 5
-operationNumber StepDown = 6
-operationNumber (StepUpBy x) = 7
-operationNumber (StepDownBy x) = 8
-operationNumber (Goto x) = 9
-operationNumber Relinquish = 10
-
 -- '10 its level, 11 rate, 12 step, 13 fade time, 14 duration (Absent where it had none)', the REALs as they were written
 unfoldable pub realAnswer : Float → Answer
 realAnswer x = Value (bits x)
 
-unfoldable pub lastLevel : Operation → Answer
-lastLevel Stop = Absent
-lastLevel (FadeTo x) = realAnswer x
-lastLevel (FadeToOver x l) = realAnswer x
-lastLevel (RampTo x) = realAnswer x
-lastLevel (RampToAtRate x r) = realAnswer x
-lastLevel StepUp = Absent
-lastLevel StepDown = Absent
-lastLevel (StepUpBy x) = Absent
-lastLevel (StepDownBy x) = Absent
-lastLevel (Goto x) = realAnswer x
-lastLevel Relinquish = Absent
+unfoldable pub realFieldAnswer : RealField → Answer
+realFieldAnswer (Real x) = realAnswer x
+realFieldAnswer NoReal = Absent
 
-unfoldable pub lastRate : Operation → Answer
-lastRate Stop = Absent
-lastRate (FadeTo x) = Absent
-lastRate (FadeToOver x l) = Absent
-lastRate (RampTo x) = Absent
-lastRate (RampToAtRate x r) = realAnswer r
-lastRate StepUp = Absent
-lastRate StepDown = Absent
-lastRate (StepUpBy x) = Absent
-lastRate (StepDownBy x) = Absent
-lastRate (Goto x) = Absent
-lastRate Relinquish = Absent
-
-unfoldable pub lastStep : Operation → Answer
-lastStep Stop = Absent
-lastStep (FadeTo x) = Absent
-lastStep (FadeToOver x l) = Absent
-lastStep (RampTo x) = Absent
-lastStep (RampToAtRate x r) = Absent
-lastStep StepUp = Absent
-lastStep StepDown = Absent
-lastStep (StepUpBy x) = realAnswer x
-lastStep (StepDownBy x) = realAnswer x
-lastStep (Goto x) = Absent
-lastStep Relinquish = Absent
-
-unfoldable pub lastFadeTime : Operation → Answer
-lastFadeTime Stop = Absent
-lastFadeTime (FadeTo x) = Absent
-lastFadeTime (FadeToOver x l) = Value l
-lastFadeTime (RampTo x) = Absent
-lastFadeTime (RampToAtRate x r) = Absent
-lastFadeTime StepUp = Absent
-lastFadeTime StepDown = Absent
-lastFadeTime (StepUpBy x) = Absent
-lastFadeTime (StepDownBy x) = Absent
-lastFadeTime (Goto x) = Absent
-lastFadeTime Relinquish = Absent
+unfoldable pub timeFieldAnswer : TimeField → Answer
+timeFieldAnswer (Time l) = Value l
+timeFieldAnswer NoTime = Absent
 
 unfoldable pub lastDuration : Duration → Answer
 lastDuration (Lasts d) = Value d
@@ -255,10 +200,10 @@ shown t o PresentValue = levelAnswer (presentValue (o .settings) (o .slots))
 shown t o ProgressValue = levelAnswer (progressValue t o)
 shown t o InProcess = Value (inProcess (o .activity))
 shown t o LastOperation = Value (operationNumber (o .last .operation))
-shown t o LastLevel = lastLevel (o .last .operation)
-shown t o LastRate = lastRate (o .last .operation)
-shown t o LastStep = lastStep (o .last .operation)
-shown t o LastFadeTime = lastFadeTime (o .last .operation)
+shown t o LastLevel = realFieldAnswer (fieldsOf (o .last .operation) .level)
+shown t o LastRate = realFieldAnswer (fieldsOf (o .last .operation) .rate)
+shown t o LastStep = realFieldAnswer (fieldsOf (o .last .operation) .step)
+shown t o LastFadeTime = timeFieldAnswer (fieldsOf (o .last .operation) .fade)
 shown t o LastDuration = lastDuration (o .last .duration)
 shown t o (SlotValue i) = slotAnswer (o .slots) i
 shown t o Unknown = Refused 9

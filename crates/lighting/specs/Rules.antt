@@ -11,7 +11,7 @@ use Rattle.lighting.specs.Value.{presentValue}
 use Rattle.lighting.specs.Passing.{phaseEnd}
 unfoldable pub use Rattle.lighting.specs.Rows.{isLevel, isAmount}
 use Rattle.lighting.specs.Rows.{rowOf, within, isSlot, meets, meetsReal}
-use Rattle.lighting.specs.Frames.{kindLength}
+use Rattle.lighting.specs.Kinds.{isCall}
 use Rattle.lighting.specs.declared.Property.the-variants.{RelinquishDefault, FadeTime, RampRate, StepIncrement, BlinkTime, BlinkWarnDelay, MinValue, MaxValue, CommandPriority}
 use Rattle.lighting.specs.declared.Settings.{Settings}
 use Rattle.lighting.specs.declared.Movement.{Movement}
@@ -89,10 +89,6 @@ sound p t o =
     also activitySound p t (o .settings) (o .slots) (o .activity)
     also timerSound t (o .timer)
     also leb (o .burning) t
-
--- a kind that goes on with station, number, time and output: any known one but a clock
-unfoldable pub isCall : ℕ → Bool
-isCall k = ltb 13 (kindLength k)
 
 -- 'each station's record keeps its last answer, number and frame (of its kind's length), number 0 meaning none'
 unfoldable pub stationSound : Station → Bool

@@ -2,7 +2,9 @@
 -- on a sound panel meets it (`decide-sure`). Assumes nothing.
 use Prim.Native.Nat.{ℕ, _^_, _≤_, _<_}
 use lib.ListN.{length}
+use Rattle.lighting.specs.Kinds.{longestFrame}
 use Rattle.lighting.specs.Frames.{Bytes}
+use Rattle.lighting.specs.declared.Call.{Call}
 use Rattle.lighting.specs.declared.Verdict.{Verdict}
 use Rattle.lighting.specs.declared.Verdict.the-variants.{TurnedDown, Copied, Clocked, Arrives}
 
@@ -11,14 +13,14 @@ pub record Timely (now t : ℕ) : Type 0 where
   pub due : now ≤ t
   pub time : t < 2 ^ 48
 
-pub record Arrival (now c k : ℕ) (b : Bytes) (s t i : ℕ) : Type 0 where
-  pub moment : Timely now t
-  pub station : s < k
-  pub output : i < c
-  pub size : length b ≤ 25
+pub record Arrival (now c k : ℕ) (b : Bytes) (call : Call) : Type 0 where
+  pub moment : Timely now (call .time)
+  pub station : call .station < k
+  pub output : call .output < c
+  pub size : length b ≤ longestFrame
 
 abbrev pub Sure : ℕ → ℕ → ℕ → Bytes → Verdict → Type 0
 Sure now c k b (TurnedDown r) = Unit {0}
 Sure now c k b (Copied a) = Unit {0}
 Sure now c k b (Clocked t) = Timely now t
-Sure now c k b (Arrives s n t i r) = Arrival now c k b s t i
+Sure now c k b (Arrives call) = Arrival now c k b call

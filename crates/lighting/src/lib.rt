@@ -108,6 +108,25 @@ pub struct Command {
     pub duration: Duration,
 }
 
+// A field of an operation, there or not: a REAL as it was written, and a time.
+pub enum RealField {
+    Real(f32),
+    NoReal,
+}
+
+pub enum TimeField {
+    Time(u32),
+    NoTime,
+}
+
+// The fields of an operation, from left to right: level, rate, step and fade time.
+pub struct OperationFields {
+    pub level: RealField,
+    pub rate: RealField,
+    pub step: RealField,
+    pub fade: TimeField,
+}
+
 pub struct Output {
     pub settings: Settings,
     pub slots: Slots,
@@ -127,11 +146,14 @@ pub enum Answer {
     Refused(u8),
 }
 
+// The bytes of the longest frame: no kind has more. The definitions have the same number, `longestFrame`.
+pub const LONGEST_FRAME: usize = 25;
+
 // What a station was answered last, to which number and which frame: a retransmission, the paper's copy, is known by them. Number 0: none yet.
 pub struct Station {
     pub answer: Answer,
     pub number: u32,
-    pub frame: [u8; 25],
+    pub frame: [u8; LONGEST_FRAME],
 }
 
 // ---- REALs that a frame carries
@@ -146,6 +168,40 @@ pub enum Level {
 pub enum Operand {
     Taken(f32),
     Unfit,
+}
+
+// ---- kinds of frames
+
+// What a call asks of its output, by its kind: 02 to 05, then the commands, 10 to 1A.
+pub enum Action {
+    WritesLevel,
+    EmptiesSlot,
+    WritesProperty,
+    ReadsProperty,
+    Stops,
+    FadesTo,
+    FadesToOver,
+    RampsTo,
+    RampsToAtRate,
+    StepsUp,
+    StepsDown,
+    StepsUpBy,
+    StepsDownBy,
+    GoesTo,
+    Relinquishes,
+}
+
+// What a kind byte says: none that is known, a clock, or a call of a station.
+pub enum Kind {
+    NoKind,
+    ClockKind,
+    CallKind(Action),
+}
+
+// A row of the table of kinds. The length is in bytes, the kind byte among them.
+pub struct KindRow {
+    pub length: u32,
+    pub kind: Kind,
 }
 
 // ---- requests
@@ -204,17 +260,20 @@ pub enum Request {
     Order(Command),
 }
 
-// A string of bytes as it is read: a refusal from 2 to 5, a clock, or a call of a station.
+// A call of a station: 'station (1), number (4), time (6), output (1)', and what its kind asks of that output.
+pub struct Call {
+    pub station: u8,
+    pub number: u32,
+    pub time: u64,
+    pub output: u8,
+    pub request: Request,
+}
+
+// A string of bytes as it is read: a refusal from 2 to 5, a clock, or a call.
 pub enum Frame {
     Bad(u8),
     Clock(u64),
-    Call {
-        station: u8,
-        number: u32,
-        time: u64,
-        output: u8,
-        request: Request,
-    },
+    Calls(Call),
 }
 
 // What is to be done with a frame.
@@ -222,13 +281,7 @@ pub enum Verdict {
     TurnedDown(u8),
     Copied(Answer),
     Clocked(u64),
-    Arrives {
-        station: u8,
-        number: u32,
-        time: u64,
-        output: u8,
-        request: Request,
-    },
+    Arrives(Call),
 }
 
 // ---- results of acting

@@ -38,7 +38,9 @@ unfolding carried
 carried-count b e (TurnedDown r) = refl
 carried-count b e (Copied a) = refl
 carried-count b e (Clocked t) = length-map (e .outputs) (advance (e .time) t)
-carried-count b e (Arrives s n t i r) = served-length t (map (advance (e .time) t) (e .outputs)) s i r ∙ length-map (e .outputs) (advance (e .time) t)
+carried-count b e (Arrives call) =
+    served-length (call .time) (map (advance (e .time) (call .time)) (e .outputs)) (call .station) (call .output) (call .request)
+    ∙ length-map (e .outputs) (advance (e .time) (call .time))
 
 framed-count : (e : Panel) (b : Bytes) → length (framed standard e b .panel .outputs) ≡ length (e .outputs)
 unfolding framed if_then_else_

@@ -1,5 +1,5 @@
 -- From a line's text to the panel: a line that gives a string of bytes sends that string, however long it is, and writes its answer. The
--- reader keeps 26 bytes, and the panel does with a longer string what it does with its first 26 (lighting/proofs/Long.antt). Assumes nothing.
+-- reader keeps `bytesKept` bytes, and the panel does with a longer string what it does with its first ones (lighting/proofs/Long.antt). Assumes nothing.
 use mathlib.Core.Path.{_≡_, refl, sym, ap}
 use Prim.Native.Nat.{ℕ}
 use native.Mathlib.Omega.{arith}
@@ -11,19 +11,19 @@ use Rattle.lighting.specs.Panel.{Panel, framed}
 use Rattle.lighting.proofs.Split.{by-le}
 use Rattle.lighting.proofs.Long.{framed-first}
 use Rattle.reading.specs.declared.Reader.{Reader}
-use Rattle.reading.specs.Reading.{fed}
+use Rattle.reading.specs.Reading.{bytesKept, fed}
 use Rattle.reading.proofs.Marked.{Given}
 use Rattle.printing.specs.Writing.{answerLine}
 use Rattle.line.specs.Taking.{first, sent, takenBy, taken}
 
--- what a string and its first 26 bytes have in common: all that the panel does with them
-framed-kept : (e : Panel) (b : Bytes) → framed standard e (take 26 b) ≡ framed standard e b
+-- what a string and its first bytes have in common: all that the panel does with them
+framed-kept : (e : Panel) (b : Bytes) → framed standard e (take bytesKept b) ≡ framed standard e b
 framed-kept e b =
-    by-le 26 (length b)
+    by-le bytesKept (length b)
     (λ h z. sym (framed-first standard e b h))
-    (λ h z. ap (framed standard e) (take-all 26 b (omega (arith, h))))
+    (λ h z. ap (framed standard e) (take-all bytesKept b (omega (arith, h))))
 
-sent-kept : (n : ℕ) (b : Bytes) (p : Panel) → sent n (take 26 b) p ≡ sent n b p
+sent-kept : (n : ℕ) (b : Bytes) (p : Panel) → sent n (take bytesKept b) p ≡ sent n b p
 unfolding sent
 sent-kept n b p = rw (framed-kept (first n p) b)
 

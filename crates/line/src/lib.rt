@@ -28,12 +28,12 @@ fn start(outputs: &mut [Output], stations: &mut [Station], time: &mut u64, n: u8
     panel::start(&mut outputs[0..named], stations, time);
 }
 
-// The bytes go to that panel: the first `count` of the 26 that the reader keeps.
+// The bytes go to that panel: the first `count` of those that the reader keeps.
 fn frame(
     outputs: &mut [Output],
     stations: &mut [Station],
     time: &mut u64,
-    bytes: &[u8; 26],
+    bytes: &[u8; reading::BYTES_KEPT],
     count: usize,
     n: u8,
 ) -> Answer

@@ -1,16 +1,84 @@
-// A command's fields, read: kinds 10 to 1A as requests, or the refusal that a field meets. Fields are judged from left to right.
+// A command, read: an operation with its fields and its duration as a request, or the refusal that the first field out of range meets.
 ghost use mathlib.Core.Path.{_≡_};
 ghost use Rattle.lighting.specs.Parameters.{standard};
-ghost use Rattle.lighting.specs.Frames.{ordered, operationWith, orderedWith, fadeOrder, rampOrderAt, rampOrder, stepOrLevel, orderOf};
+ghost use Rattle.lighting.specs.Answers.{levelRefusal};
+ghost use Rattle.lighting.specs.Frames.{levelFieldRefusal, amountFieldRefusal, timeFieldRefusal, firstRefusal, fieldsRefusal, lasting, orderedBy, ordered};
 use lighting::Command;
 use lighting::Duration;
-use lighting::Operand;
+use lighting::Level;
 use lighting::Operation;
+use lighting::OperationFields;
+use lighting::RealField;
 use lighting::Request;
+use lighting::TimeField;
+
+// ---- the ranges: 0, or the refusal of a field that is out of its range
+
+fn level_refusal(level: Level) -> u8
+    ensures { λ r. ⌜ r ≡ levelRefusal level ⌝ }
+{
+    match level {
+        Level::Units(_) => 0,
+        Level::OutOfRange => 11,
+    }
+}
+
+fn level_field_refusal(x: RealField) -> u8
+    ensures { λ r. ⌜ r ≡ levelFieldRefusal x ⌝ }
+{
+    match x {
+        RealField::Real(real) => level_refusal(level::level_of_real(real)),
+        RealField::NoReal => 0,
+    }
+}
+
+// A rate or a step.
+fn amount_field_refusal(x: RealField) -> u8
+    ensures { λ r. ⌜ r ≡ amountFieldRefusal x ⌝ }
+{
+    match x {
+        RealField::Real(real) => level_refusal(level::amount_of_real(real)),
+        RealField::NoReal => 0,
+    }
+}
+
+fn time_field_refusal(x: TimeField) -> u8
+    ensures { λ r. ⌜ r ≡ timeFieldRefusal standard x ⌝ }
+{
+    match x {
+        TimeField::Time(l) => if ranges::is_fade_time(l) { 0 } else { 12 },
+        TimeField::NoTime => 0,
+    }
+}
+
+fn first_refusal(earlier: u8, later: u8) -> u8
+    ensures { λ r. ⌜ r ≡ firstRefusal earlier later ⌝ }
+{
+    if earlier == 0 { later } else { earlier }
+}
+
+// Fields are judged from left to right.
+pub fn fields_refusal(f: OperationFields) -> u8
+    ensures { λ r. ⌜ r ≡ fieldsRefusal standard f ⌝ }
+{
+    let level = f.level;
+    let rate = f.rate;
+    let step = f.step;
+    let fade = f.fade;
+    first_refusal(
+        level_field_refusal(level),
+        first_refusal(
+            amount_field_refusal(rate),
+            first_refusal(amount_field_refusal(step), time_field_refusal(fade)),
+        ),
+    )
+}
+
+// ---- the request
 
 // An operation with its duration: 0 cancels, 100 to 86,400,000 sets, FFFFFFFF means absent.
-fn order(operation: Operation, d: u32) -> Request
-    ensures { λ r. ⌜ r ≡ ordered standard operation d ⌝ }
+fn last(operation: Operation, d: u32) -> Request
+    ensures { λ r. ⌜ r ≡ lasting standard operation d ⌝ }
 {
     if d == 0xFFFF_FFFF {
         Request::Order(Command {
@@ -32,89 +100,23 @@ fn order(operation: Operation, d: u32) -> Request
     }
 }
 
-// Kinds 11, 13, 17, 18 and 19: one REAL, then the duration.
-fn operation_with(k: u8, x: f32) -> Operation
-    ensures { λ r. ⌜ r ≡ operationWith k x ⌝ }
+fn order_by(met: u8, operation: Operation, d: u32) -> Request
+    ensures { λ r. ⌜ r ≡ orderedBy standard met operation d ⌝ }
 {
-    match k {
-        0x11 => Operation::FadeTo(x),
-        0x13 => Operation::RampTo(x),
-        0x17 => Operation::StepUpBy(x),
-        0x18 => Operation::StepDownBy(x),
-        _ => Operation::Goto(x),
+    if met == 0 {
+        last(operation, d)
+    } else {
+        Request::Refuse(met)
     }
 }
 
-fn order_with(k: u8, x: Operand, d: u32) -> Request
-    ensures { λ r. ⌜ r ≡ orderedWith standard k x d ⌝ }
+// The duration comes after the operation's own fields.
+pub fn order(operation: Operation, d: u32) -> Request
+    ensures { λ r. ⌜ r ≡ ordered standard operation d ⌝ }
 {
-    match x {
-        Operand::Taken(real) => order(operation_with(k, real), d),
-        Operand::Unfit => Request::Refuse(11),
-    }
-}
-
-// Kind 12: level, fade time, duration.
-fn fade_order(x: Operand, l: u32, d: u32) -> Request
-    ensures { λ r. ⌜ r ≡ fadeOrder standard x l d ⌝ }
-{
-    match x {
-        Operand::Taken(level) => if ranges::is_fade_time(l) {
-            order(Operation::FadeToOver(level, l), d)
-        } else {
-            Request::Refuse(12)
-        },
-        Operand::Unfit => Request::Refuse(11),
-    }
-}
-
-// Kind 14: level, rate, duration.
-fn ramp_order_at(x: f32, rate: Operand, d: u32) -> Request
-    ensures { λ r. ⌜ r ≡ rampOrderAt standard x rate d ⌝ }
-{
-    match rate {
-        Operand::Taken(real) => order(Operation::RampToAtRate(x, real), d),
-        Operand::Unfit => Request::Refuse(11),
-    }
-}
-
-fn ramp_order(x: Operand, rate: Operand, d: u32) -> Request
-    ensures { λ r. ⌜ r ≡ rampOrder standard x rate d ⌝ }
-{
-    match x {
-        Operand::Taken(level) => ramp_order_at(level, rate, d),
-        Operand::Unfit => Request::Refuse(11),
-    }
-}
-
-// The REAL of the commands with one: 17 and 18 a step, 11, 13 and 19 a level.
-fn step_or_level(k: u8, x: u32) -> Operand
-    ensures { λ r. ⌜ r ≡ stepOrLevel k x ⌝ }
-{
-    match k {
-        0x17 => level::amount_operand(x),
-        0x18 => level::amount_operand(x),
-        _ => level::level_operand(x),
-    }
-}
-
-fn real_order(k: u8, x: u32, d: u32) -> Request
-    ensures { λ r. ⌜ r ≡ orderedWith standard k (stepOrLevel k x) d ⌝ }
-{
-    order_with(k, step_or_level(k, x), d)
-}
-
-// A command's request, by its kind and the 32-bit fields that follow the 13 common bytes. Those that no line names have a REAL and a duration.
-pub fn order_of(k: u8, x: u32, y: u32, z: u32) -> Request
-    ensures { λ r. ⌜ r ≡ orderOf standard k x y z ⌝ }
-{
-    match k {
-        0x10 => order(Operation::Stop, x),
-        0x12 => fade_order(level::level_operand(x), y, z),
-        0x14 => ramp_order(level::level_operand(x), level::amount_operand(y), z),
-        0x15 => order(Operation::StepUp, x),
-        0x16 => order(Operation::StepDown, x),
-        0x1A => order(Operation::Relinquish, x),
-        _ => real_order(k, x, y),
-    }
+    order_by(
+        fields_refusal(operations::fields_of(operation)),
+        operation,
+        d,
+    )
 }

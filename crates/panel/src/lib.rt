@@ -8,8 +8,8 @@ ghost use Rattle.lighting.specs.Rules.{sound};
 ghost use Rattle.lighting.specs.Sure.{Arrival, Sure};
 ghost use Rattle.lighting.specs.Panel.{every, lent, leaving, panelSound, carried, framed, started};
 use lighting::Answer;
+use lighting::Call;
 use lighting::Output;
-use lighting::Request;
 use lighting::Station;
 use lighting::Verdict;
 
@@ -32,21 +32,25 @@ fn arrive(
     stations: &mut [Station],
     time: &mut u64,
     bytes: &[u8],
-    station: u8,
-    number: u32,
-    moment: u64,
-    output: u8,
-    request: Request,
+    call: Call,
 ) -> Answer
     requires { ⌜ every (sound standard (now time)) (now outputs) ≡ true ⌝ }
-    requires { ⌜ Arrival (now time) (length (now outputs)) (length (now stations)) (now bytes) station moment output ⌝ }
-    ensures { λ a. ⌜ leaving (lent (now (outputs .exit)) (now (stations .exit)) (now (time .exit))) a ≡ carried (now (bytes .entry)) (lent (now (outputs .entry)) (now (stations .entry)) (now (time .entry))) (Verdict.Arrives station number moment output request) ⌝ }
+    requires { ⌜ Arrival (now time) (length (now outputs)) (length (now stations)) (now bytes) call ⌝ }
+    ensures { λ a. ⌜ leaving (lent (now (outputs .exit)) (now (stations .exit)) (now (time .exit))) a ≡ carried (now (bytes .entry)) (lent (now (outputs .entry)) (now (stations .entry)) (now (time .entry))) (Verdict.Arrives call) ⌝ }
 {
     let from = *time;
+    let moment = call.time;
     tables::advance_outputs(outputs, from, moment);
-    let answer = tables::serve(outputs, moment, station, ranges::index(output), request);
-    let record = kept::kept_station(answer, number, bytes);
-    let at = ranges::index(station);
+    let request = call.request;
+    let answer = tables::serve(
+        outputs,
+        moment,
+        call.station,
+        ranges::index(call.output),
+        request,
+    );
+    let record = kept::kept_station(answer, call.number, bytes);
+    let at = ranges::index(call.station);
     stations[at] = record;
     *time = moment;
     answer
@@ -73,23 +77,7 @@ fn carry(
             *time = t;
             Answer::Done
         }
-        Verdict::Arrives {
-            station,
-            number,
-            time: t,
-            output,
-            request,
-        } => arrive(
-            outputs,
-            stations,
-            time,
-            bytes,
-            station,
-            number,
-            t,
-            output,
-            request,
-        ),
+        Verdict::Arrives(call) => arrive(outputs, stations, time, bytes, call),
     }
 }
 

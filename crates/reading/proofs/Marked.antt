@@ -8,7 +8,7 @@ use lib.ListN.{length, take}
 use Rattle.lighting.specs.Choice.{if_then_else_}
 use Rattle.lighting.specs.Frames.{Bytes, Octets}
 use Rattle.lighting.proofs.Split.{leb-yes}
-use Rattle.reading.specs.Reading.{isBlank, hexValue, opened, step, storedBy, withHeld, feed, fed, lineOf, content, nextLine, withOutputs, freshReader}
+use Rattle.reading.specs.Reading.{bytesKept, isBlank, hexValue, opened, step, storedBy, withHeld, feed, fed, lineOf, content, nextLine, withOutputs, freshReader}
 use Rattle.reading.specs.Spelling.{Unbroken, nothing, char, Blanks, no-blank, one-blank, Silent, blanks, comment, Gives, bytes, dash}
 use Rattle.reading.specs.declared.Held.{Held}
 use Rattle.reading.specs.declared.Held.the-variants.{Blank, Comment, Dash}
@@ -20,7 +20,7 @@ use Rattle.reading.proofs.Spelt.{Ready, none, Steady, at-start, at-dash
 -- A READER AT THE START OF A LINE, after the list has named n outputs (0: none yet)
 pub record Start (n : ℕ) (w : Reader) : Type 0 where
   pub named : w .outputs ≡ n
-  pub room : length (w .bytes) ≡ 26
+  pub room : length (w .bytes) ≡ bytesKept
   pub empty : w .count ≡ 0
   pub blank : w .held ≡ Blank
 
@@ -32,7 +32,7 @@ start-fresh = record { named = refl; room = refl; empty = refl; blank = refl }
 pub record Reads (n : ℕ) (w : Reader) (x : Bytes) (k : Line) : Type 0 where
   pub line : lineOf (fed w x .held) ≡ k
   pub named : fed w x .outputs ≡ n
-  pub room : length (fed w x .bytes) ≡ 26
+  pub room : length (fed w x .bytes) ≡ bytesKept
   pub unbroken : Unbroken x
 
 pub start-next : {n : ℕ} {w : Reader} {x : Bytes} {k : Line} → Reads n w x k → Start n (nextLine (fed w x))
@@ -117,10 +117,10 @@ silent-read {n} {w} t (comment s u) =
     let e : step (w .outputs) Blank (hexValue 35) 35 ≡ Comment = unfold step opened isBlank if_then_else_ in refl in
     leads-read t (leads-mark w s e (λ z. omega (arith, z)) (leads-comment w u))
 
--- A STRING'S LINE: x is a frame of the first 26 bytes of b
+-- A STRING'S LINE: x is a frame of the first bytes of b
 pub record Given (n : ℕ) (w : Reader) (x b : Bytes) : Type 0 where
   pub reads : Reads n w x Frame
-  pub holds : content (fed w x) ≡ take 26 b
+  pub holds : content (fed w x) ≡ take bytesKept b
 
 start-content : {n : ℕ} {w : Reader} → Start n w → content w ≡ []
 unfolding content
@@ -132,7 +132,7 @@ gives-read {n} {w} h t (bytes {y} {b} {x} s) =
     let r : Ready w = record { named = rw (t .named) h; room = t .room; most = omega (arith, t .empty); between = rw (t .blank) none } in
     record {
       reads = record { line = frame s w r; named = outputs-kept s w r ∙ t .named; room = ready-fed s w r .room; unbroken = unbroken s };
-      holds = read s w r ∙ ap (λ (l : Bytes). take 26 (l ++ (y ∷ b))) (start-content t);
+      holds = read s w r ∙ ap (λ (l : Bytes). take bytesKept (l ++ (y ∷ b))) (start-content t);
     }
 gives-read {n} {w} h t (dash {before} {after} s e) =
     let m : step (w .outputs) Blank (hexValue 45) 45 ≡ Dash =

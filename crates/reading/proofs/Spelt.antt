@@ -1,5 +1,5 @@
 -- What is spelt is read: a text that spells a string of bytes, fed to a reader at a line's start, makes it hold a frame of those bytes, as far
--- as the first 26. Assumes nothing.
+-- as the first `bytesKept`. Assumes nothing.
 use mathlib.Core.Path.{_≡_, refl, sym, ap, _∙_}
 use mathlib.Core.Logic.{_≢_}
 use mathlib.Core.Bool.{true, false, false≢true}
@@ -12,7 +12,7 @@ use lib.Seq.{take-all, take-append-le, take-suc-set}
 use Rattle.lighting.specs.Choice.{if_then_else_}
 use Rattle.lighting.specs.Frames.{Bytes, Octets}
 use Rattle.lighting.proofs.Split.{by-eq, by-lt, eq-of, eqb-miss, leb-yes, leb-no}
-use Rattle.reading.specs.Reading.{isBlank, hexValue, digitHeld, opened, gapped, trailed, byteHeld, halfHeld, dashed, step, bytePair, pushed, joined, storedBy, withHeld, feed, fed, lineOf, content}
+use Rattle.reading.specs.Reading.{bytesKept, isBlank, hexValue, digitHeld, opened, gapped, trailed, byteHeld, halfHeld, dashed, step, bytePair, pushed, joined, storedBy, withHeld, feed, fed, lineOf, content}
 use Rattle.reading.specs.Spelling.{Digit, figure, upper, lower, Spells, end, blank, byte, Unbroken, nothing, char}
 use Rattle.reading.specs.declared.Held.{Held}
 use Rattle.reading.specs.declared.Held.the-variants.{Blank, Gap, Trail, Whole, Half, Dash}
@@ -68,8 +68,8 @@ pub data Between : Held → Type 0 where
 
 pub record Ready (w : Reader) : Type 0 where
   pub named : 0 < w .outputs
-  pub room : length (w .bytes) ≡ 26
-  pub most : w .count ≤ 26
+  pub room : length (w .bytes) ≡ bytesKept
+  pub most : w .count ≤ bytesKept
   pub between : Between (w .held)
 
 -- a first digit
@@ -99,20 +99,20 @@ second : (w : Reader) {d v c : ℕ} → d < 16 → Digit v c → feed (withHeld 
 unfolding feed withHeld step storedBy halfHeld joined pushed if_then_else_
 second w {d} {v} {c} h g =
     rw (worth g, leb-yes {a = suc v} {b = 16} (small g), pair)
-    (by-lt (w .count) 26 (λ p e. rw e) (λ p e. rw e))
+    (by-lt (w .count) bytesKept (λ p e. rw e) (λ p e. rw e))
   where
     pair : bytePair d v ≡ d * 16 + v
     pair = unfold bytePair in (omega (arith, small g))
 
 -- THE BYTES
-pub content-pushed : (w : Reader) (x : ℕ) → length (w .bytes) ≡ 26 → w .count ≤ 26 → content (pushed w x) ≡ take 26 (content w ++ (x ∷ []))
+pub content-pushed : (w : Reader) (x : ℕ) → length (w .bytes) ≡ bytesKept → w .count ≤ bytesKept → content (pushed w x) ≡ take bytesKept (content w ++ (x ∷ []))
 unfolding content pushed if_then_else_
 content-pushed w x r m =
-    by-lt (w .count) 26
-    (λ p e. rw (e, add-one, take-suc-set (w .bytes) (w .count) x (omega arith)) (sym (take-all 26 _ (omega (arith, fits p)))))
-    (λ p e. rw e (sym (take-append-le 26 (take (w .count) (w .bytes)) (x ∷ []) (omega (arith, length-take (w .count) (w .bytes))) ∙ take-all 26 _ (omega (arith, length-take (w .count) (w .bytes))))))
+    by-lt (w .count) bytesKept
+    (λ p e. rw (e, add-one, take-suc-set (w .bytes) (w .count) x (omega arith)) (sym (take-all bytesKept _ (omega (arith, fits p)))))
+    (λ p e. rw e (sym (take-append-le bytesKept (take (w .count) (w .bytes)) (x ∷ []) (omega (arith, length-take (w .count) (w .bytes))) ∙ take-all bytesKept _ (omega (arith, length-take (w .count) (w .bytes))))))
   where
-    fits : w .count < 26 → length (take (w .count) (w .bytes) ++ (x ∷ [])) ≤ 26
+    fits : w .count < bytesKept → length (take (w .count) (w .bytes) ++ (x ∷ [])) ≤ bytesKept
     fits p = simp (length-append, length-take) (omega arith)
 
 take-again : (n : ℕ) (l b : Bytes) → take n (take n l ++ b) ≡ take n (l ++ b)
@@ -123,7 +123,7 @@ take-again (suc n) (x ∷ l) b = ap (λ (k : Bytes). x ∷ k) (take-again n l b)
 ready-pushed : (w : Reader) (x : ℕ) → Ready w → Ready (withHeld (pushed w x) Whole)
 unfolding withHeld pushed if_then_else_
 ready-pushed w x r =
-    by-lt (w .count) 26
+    by-lt (w .count) bytesKept
     (λ p e. rw e (record { named = r .named; room = length-set (w .bytes) (w .count) x ∙ r .room; most = omega arith; between = some }))
     (λ p e. rw e (record { named = r .named; room = r .room; most = r .most; between = some }))
 
@@ -169,19 +169,19 @@ on-byte w {k = k} x r g h =
     ap (λ (u : Reader). fed (feed u k) x) (first w r g) ∙ ap (λ (u : Reader). fed u x) (second w (small g) h)
 
 -- THE TEXT. What was read before stays in front: at a line's start that is nothing
-pub read : {b x : Bytes} → Spells b x → (w : Reader) → Ready w → content (fed w x) ≡ take 26 (content w ++ b)
+pub read : {b x : Bytes} → Spells b x → (w : Reader) → Ready w → content (fed w x) ≡ take bytesKept (content w ++ b)
 unfolding fed
 read end w r =
-    sym (rw append-nil (take-all 26 (content w) (unfold content in (omega (arith, length-take (w .count) (w .bytes), r .most)))))
+    sym (rw append-nil (take-all bytesKept (content w) (unfold content in (omega (arith, length-take (w .count) (w .bytes), r .most)))))
 read (blank {b} {x} c e s) w r = ap content (on-blank w c x r e) ∙ read s w r
 read (byte {b} {x} {d} {v} g k s) w r =
     ap content (on-byte w x r g k)
     ∙ read s (withHeld (pushed w (d * 16 + v)) Whole) (ready-pushed w (d * 16 + v) r)
-    ∙ ap (λ (l : Bytes). take 26 (l ++ b)) stored
-    ∙ take-again 26 (content w ++ ((d * 16 + v) ∷ [])) b
-    ∙ ap (take 26) (append-assoc (content w) ((d * 16 + v) ∷ []) b)
+    ∙ ap (λ (l : Bytes). take bytesKept (l ++ b)) stored
+    ∙ take-again bytesKept (content w ++ ((d * 16 + v) ∷ [])) b
+    ∙ ap (take bytesKept) (append-assoc (content w) ((d * 16 + v) ∷ []) b)
   where
-    stored : content (withHeld (pushed w (d * 16 + v)) Whole) ≡ take 26 (content w ++ ((d * 16 + v) ∷ []))
+    stored : content (withHeld (pushed w (d * 16 + v)) Whole) ≡ take bytesKept (content w ++ ((d * 16 + v) ∷ []))
     stored = unfold withHeld content in (content-pushed w (d * 16 + v) (r .room) (r .most))
 
 stays : {b x : Bytes} → Spells b x → (w : Reader) → Ready w → w .held ≡ Whole → fed w x .held ≡ Whole
@@ -201,7 +201,7 @@ frame (byte {b} {x} {d} {v} g k s) w r =
 
 pushed-outputs : (w : Reader) (x : ℕ) → pushed w x .outputs ≡ w .outputs
 unfolding pushed if_then_else_
-pushed-outputs w x = by-lt (w .count) 26 (λ p e. rw e) (λ p e. rw e)
+pushed-outputs w x = by-lt (w .count) bytesKept (λ p e. rw e) (λ p e. rw e)
 
 -- the number of outputs stays as the list has named it
 pub outputs-kept : {b x : Bytes} → Spells b x → (w : Reader) → Ready w → fed w x .outputs ≡ w .outputs

@@ -5,6 +5,7 @@ use Prim.Native.Nat.{ℕ, suc, _+_, _-_, _*_, _%_, min}
 use lib.Dec.{ltb, eqb}
 use lib.ListN.{set, replicate, take}
 use Rattle.lighting.specs.Choice.{if_then_else_}
+use Rattle.lighting.specs.Kinds.{longestFrame}
 use Rattle.lighting.specs.Frames.{Bytes}
 use Rattle.reading.specs.declared.Fault.the-variants.{NoOutputs, BadCount, NoDigit, HalfByte}
 use Rattle.reading.specs.declared.Held.{Held}
@@ -97,13 +98,17 @@ step outputs (Half d) v c = halfHeld v c
 step outputs Dash v c = dashed c
 step outputs (Spoilt f) v c = Spoilt f
 
--- THE READER FED. A byte is its two digits, the first the more significant; the first 26 bytes are kept
+-- THE READER FED. Of a string it keeps one byte more than the longest frame has
+abbrev pub bytesKept : ℕ
+bytesKept = longestFrame + 1
+
+-- a byte is its two digits, the first the more significant
 unfoldable pub bytePair : ℕ → ℕ → ℕ
 bytePair d v = d % 16 * 16 + v % 16
 
 unfoldable pub pushed : Reader → ℕ → Reader
 pushed w x =
-    if ltb (w .count) 26
+    if ltb (w .count) bytesKept
     then record { outputs = w .outputs; line = w .line; held = w .held; bytes = set (w .bytes) (w .count) x; count = w .count + 1 }
     else w
 
@@ -178,4 +183,4 @@ unfoldable pub withOutputs : Reader → ℕ → Reader
 withOutputs w n = record { outputs = n; line = w .line; held = w .held; bytes = w .bytes; count = w .count }
 
 unfoldable pub freshReader : Reader
-freshReader = record { outputs = 0; line = 1; held = Blank; bytes = replicate 26 0; count = 0 }
+freshReader = record { outputs = 0; line = 1; held = Blank; bytes = replicate bytesKept 0; count = 0 }

@@ -48,13 +48,16 @@ pub enum Line {
     Wrong(Fault),
 }
 
+// How many bytes of a line's string are kept: one more than the longest frame has, so that they tell any longer string from a frame.
+pub const BYTES_KEPT: usize = lighting::LONGEST_FRAME + 1;
+
 // The reader between two bytes: the number of outputs that the list has named (0: none yet), the line's number, what it holds so far, and
-// of its bytes the first 26. No frame has more than 25 bytes, so that 26 tell any longer string from a frame.
+// of its bytes the first ones.
 pub struct Reader {
     pub outputs: u8,
     pub line: u64,
     pub held: Held,
-    pub bytes: [u8; 26],
+    pub bytes: [u8; BYTES_KEPT],
     pub count: usize,
 }
 
@@ -73,7 +76,7 @@ fn push(w: Reader, x: u8) -> Reader
     let at = w.count;
     let held = w.held;
     let mut bytes = w.bytes;
-    if at < 26 {
+    if at < BYTES_KEPT {
         bytes[at] = x;
         Reader {
             outputs: w.outputs,
@@ -233,7 +236,7 @@ pub fn fresh_reader() -> Reader
         outputs: 0,
         line: 1,
         held: Held::Blank,
-        bytes: [0; 26],
+        bytes: [0; BYTES_KEPT],
         count: 0,
     }
 }

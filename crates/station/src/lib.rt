@@ -4,8 +4,8 @@ ghost use Rattle.lighting.specs.Parameters.{standard};
 ghost use Rattle.lighting.specs.Rules.{stationSound};
 ghost use Rattle.lighting.specs.Copies.{sameBytes, copyOr6};
 ghost use Rattle.lighting.specs.Panel.{countsSound, restored, metNumber, stationOf, metBy};
+use lighting::Call;
 use lighting::Frame;
-use lighting::Request;
 use lighting::Station;
 use lighting::Verdict;
 
@@ -49,25 +49,19 @@ fn copy_or_6(k: Station, b: &[u8]) -> Verdict
 }
 
 // The number is judged before the time: a late copy is a copy.
-fn met_number(at: u64, k: Station, b: &[u8], s: u8, n: u32, t: u64, i: u8, r: Request) -> Verdict
-    ensures { λ v. ⌜ v ≡ metNumber at k (sameBytes (now (b .entry)) (restored (k .frame))) s n t i r ⌝ }
+fn met_number(at: u64, k: Station, b: &[u8], call: Call) -> Verdict
+    ensures { λ v. ⌜ v ≡ metNumber at k (sameBytes (now (b .entry)) (restored (k .frame))) call ⌝ }
 {
-    if n == k.number {
+    if call.number == k.number {
         return copy_or_6(k, b);
     }
-    if n < k.number {
+    if call.number < k.number {
         return Verdict::TurnedDown(7);
     }
-    if t < at {
+    if call.time < at {
         return Verdict::TurnedDown(8);
     }
-    Verdict::Arrives {
-        station: s,
-        number: n,
-        time: t,
-        output: i,
-        request: r,
-    }
+    Verdict::Arrives(call)
 }
 
 pub fn station_of(f: Frame) -> u8
@@ -76,13 +70,7 @@ pub fn station_of(f: Frame) -> u8
     match f {
         Frame::Bad(_) => 0,
         Frame::Clock(_) => 0,
-        Frame::Call {
-            station,
-            number: _,
-            time: _,
-            output: _,
-            request: _,
-        } => station,
+        Frame::Calls(call) => call.station,
     }
 }
 
@@ -97,12 +85,6 @@ pub fn met_by(at: u64, k: Station, b: &[u8], f: Frame) -> Verdict
         } else {
             Verdict::Clocked(t)
         },
-        Frame::Call {
-            station,
-            number,
-            time,
-            output,
-            request,
-        } => met_number(at, k, b, station, number, time, output, request),
+        Frame::Calls(call) => met_number(at, k, b, call),
     }
 }

@@ -8,18 +8,20 @@ use Rattle.answers.proofs.show.Lts as lts
 use Rattle.answers.proofs.elapsed_active.Reads as elapsed-active-reads
 use Rattle.answers.proofs.flag.Reads as flag-reads
 use Rattle.answers.proofs.last_duration.Reads as last-duration-reads
-use Rattle.answers.proofs.last_fade_time.Reads as last-fade-time-reads
-use Rattle.answers.proofs.last_level.Reads as last-level-reads
-use Rattle.answers.proofs.last_rate.Reads as last-rate-reads
-use Rattle.answers.proofs.last_step.Reads as last-step-reads
 use Rattle.answers.proofs.level_answer.Reads as level-answer-reads
-use Rattle.answers.proofs.operation_number.Reads as operation-number-reads
 use Rattle.answers.proofs.priority.Reads as priority-reads
 use Rattle.answers.proofs.real_answer.Reads as real-answer-reads
+use Rattle.answers.proofs.real_field_answer.Reads as real-field-answer-reads
 use Rattle.answers.proofs.slot_answer.Reads as slot-answer-reads
+use Rattle.answers.proofs.time_field_answer.Reads as time-field-answer-reads
+use Rattle.operations.proofs.fields_of.Reads as fields-of-reads
+use Rattle.operations.proofs.operation_number.Reads as operation-number-reads
 use Rattle.value.proofs.in_process.Reads as in-process-reads
 use Rattle.value.proofs.present_value.Reads as present-value-reads
 use Rattle.value.proofs.progress_value.Reads as progress-value-reads
+
+fields-of-requires : tie.Need-fields-of-requires
+fields-of-requires c κs = search needs
 
 enum-told : tie.Need-enum-told
 enum-told c = search needs
@@ -111,26 +113,26 @@ operation-number-requires c κs = search needs
 enum-told-16 : tie.Need-enum-told-16
 enum-told-16 c = search needs
 
-last-level-requires : tie.Need-last-level-requires
-last-level-requires c κs = search needs
+real-field-answer-requires : tie.Need-real-field-answer-requires
+real-field-answer-requires c κs = search needs
 
 enum-told-17 : tie.Need-enum-told-17
 enum-told-17 c = search needs
 
-last-rate-requires : tie.Need-last-rate-requires
-last-rate-requires c κs = search needs
+real-field-answer-requires-2 : tie.Need-real-field-answer-requires-2
+real-field-answer-requires-2 c κs = search needs
 
 enum-told-18 : tie.Need-enum-told-18
 enum-told-18 c = search needs
 
-last-step-requires : tie.Need-last-step-requires
-last-step-requires c κs = search needs
+real-field-answer-requires-3 : tie.Need-real-field-answer-requires-3
+real-field-answer-requires-3 c κs = search needs
 
 enum-told-19 : tie.Need-enum-told-19
 enum-told-19 c = search needs
 
-last-fade-time-requires : tie.Need-last-fade-time-requires
-last-fade-time-requires c κs = search needs
+time-field-answer-requires : tie.Need-time-field-answer-requires
+time-field-answer-requires c κs = search needs
 
 enum-told-20 : tie.Need-enum-told-20
 enum-told-20 c = search needs
@@ -209,19 +211,19 @@ returns-15 c = search (needs, shown-on)
 
 returns-16 : tie.Need-returns-16
 unfolding shown
-returns-16 c = search (needs, shown-on)
+returns-16 c = search (needs, shown-on, ← c .before .before .before .fields-of .ensures)
 
 returns-17 : tie.Need-returns-17
 unfolding shown
-returns-17 c = search (needs, shown-on)
+returns-17 c = search (needs, shown-on, ← c .before .before .before .fields-of .ensures)
 
 returns-18 : tie.Need-returns-18
 unfolding shown
-returns-18 c = search (needs, shown-on)
+returns-18 c = search (needs, shown-on, ← c .before .before .before .fields-of .ensures)
 
 returns-19 : tie.Need-returns-19
 unfolding shown
-returns-19 c = search (needs, shown-on)
+returns-19 c = search (needs, shown-on, ← c .before .before .before .fields-of .ensures)
 
 returns-20 : tie.Need-returns-20
 unfolding shown
@@ -239,6 +241,7 @@ pub show-spec : {M : Type 1} → statement M
 show-spec =
     tie.close
     (tie.spec
+    fields-of-requires
     enum-told
     level-answer-requires
     enum-told-2
@@ -269,13 +272,13 @@ show-spec =
     enum-told-15
     operation-number-requires
     enum-told-16
-    last-level-requires
+    real-field-answer-requires
     enum-told-17
-    last-rate-requires
+    real-field-answer-requires-2
     enum-told-18
-    last-step-requires
+    real-field-answer-requires-3
     enum-told-19
-    last-fade-time-requires
+    time-field-answer-requires
     enum-told-20
     last-duration-requires
     enum-known-p

@@ -5,10 +5,10 @@ use native.Mathlib.Omega.{arith}
 use lib.ListN.{length, drop}
 use borrow.Author.Needs.{needs}
 use Rattle.lighting.specs.Field.{byteAt}
-use Rattle.lighting.specs.Frames.{kindLength}
+use Rattle.lighting.specs.Kinds.{kindLength}
 use Rattle.lighting.specs.Copies.{sameBytes}
 use Rattle.lighting.specs.Panel.{restored}
-use Rattle.lighting.proofs.Lengths.{length-most}
+use Rattle.lighting.proofs.KindTable.{length-most}
 use Rattle.kept.proofs.Bytes.{other-length, same-more, same-stop, same-end, restored-length, restored-at}
 use Rattle.kept.proofs.same_frame.Statement.{statement}
 use Rattle.kept.proofs.same_frame.Tie as tie

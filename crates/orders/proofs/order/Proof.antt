@@ -1,30 +1,26 @@
-use Rattle.lighting.proofs.Choosing.{ifs}
 use Rattle.lighting.specs.Frames.{ordered}
 use borrow.Author.Needs.{needs}
 use Rattle.orders.proofs.order.Statement.{statement}
 use Rattle.orders.proofs.order.Tie as tie
 use Rattle.orders.proofs.order.Reads as reads
 use Rattle.orders.proofs.order.Lts as lts
-use Rattle.ranges.proofs.is_duration.Reads as is-duration-reads
+use Rattle.operations.proofs.fields_of.Reads as fields-of-reads
+use Rattle.orders.proofs.fields_refusal.Reads as fields-refusal-reads
+use Rattle.orders.proofs.order_by.Reads as order-by-reads
 
-is-duration-requires : tie.Need-is-duration-requires
-is-duration-requires c κs = search needs
+fields-of-requires : tie.Need-fields-of-requires
+fields-of-requires c κs = search needs
+
+fields-refusal-requires : tie.Need-fields-refusal-requires
+fields-refusal-requires c κs = search needs
+
+order-by-requires : tie.Need-order-by-requires
+order-by-requires c κs = search needs
 
 returns : tie.Need-returns
 unfolding ordered
-returns c = search (needs, ifs)
-
-returns-2 : tie.Need-returns-2
-unfolding ordered
-returns-2 c = search (needs, ifs)
-
-returns-3 : tie.Need-returns-3
-unfolding ordered
-returns-3 c = search (needs, ifs)
-
-returns-4 : tie.Need-returns-4
-unfolding ordered
-returns-4 c = search (needs, ifs)
+returns c = simp (c .order-by .ensures, c .before .fields-refusal .ensures, c .before .before .fields-of .ensures)
 
 pub order-spec : {M : Type 1} → statement M
-order-spec = tie.close (tie.spec is-duration-requires returns returns-2 returns-3 returns-4)
+order-spec =
+    tie.close (tie.spec fields-of-requires fields-refusal-requires order-by-requires returns)

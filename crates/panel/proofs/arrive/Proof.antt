@@ -21,7 +21,7 @@ serve-requires : tie.Need-serve-requires
 serve-requires c κs =
     let p = c .before .before .before .before .before .before .before .pre .1 in
     let a = c .before .before .before .before .before .before .before .args in
-    (p .moment .time, omega (arith, p .output, ap length (c .before .before .before .advance-outputs .ensures), length-map (a .outputs .now) (advance (a .time .now) (a .moment))))
+    (p .moment .time, omega (arith, p .output, ap length (c .before .before .before .advance-outputs .ensures), length-map (a .outputs .now) (advance (a .time .now) (a .call .time))))
 
 kept-station-requires : tie.Need-kept-station-requires
 kept-station-requires c κs = search needs

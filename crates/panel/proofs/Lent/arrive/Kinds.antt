@@ -1,10 +1,10 @@
 -- Made by tools/twin.py.
 use Rattle.lighting.proofs.Answer
 use Rattle.lighting.proofs.Answer.Laws
+use Rattle.lighting.proofs.Call
+use Rattle.lighting.proofs.Call.Laws as Laws'
 use Rattle.lighting.proofs.Lent.OfOutput as OfOutput
 use Rattle.lighting.proofs.Lent.OfStation as OfStation
-use Rattle.lighting.proofs.Request
-use Rattle.lighting.proofs.Request.Laws as Laws'
 use borrow.Fn.Kinds
 use borrow.Kind.MutSlice
 use borrow.Kind.ShrSlice
@@ -15,12 +15,14 @@ use borrow.Table.Rows
 use denote.Enum.Declared
 use denote.Enum.Laws as Laws''
 use denote.Exit
+use denote.Struct.Declared as Declared'
+use denote.Struct.Laws as Laws'3
 use mathlib.Core.List
 use mathlib.Core.Path as Path'
 use mir.Syntax
 
 abbrev pub ps : List.List (Kinds.PK 4)
-ps = List._∷_ (MutSlice.pMutS (OfOutput.row) 0 tt) (List._∷_ (MutSlice.pMutS (OfStation.row) 1 tt) (List._∷_ (Kinds.pMutF (Referent.fInt Syntax.w64) 2 tt) (List._∷_ (ShrSlice.pShrS (Referent.rtF (Referent.fInt Syntax.w8)) 3 tt) (List._∷_ (Kinds.pNum Syntax.w8) (List._∷_ (Kinds.pNum Syntax.w32) (List._∷_ (Kinds.pNum Syntax.w64) (List._∷_ (Kinds.pNum Syntax.w8) (List._∷_ (Value.pVal record { ty = Declared.row Request.the-type; one = Path'.refl; val = Laws''.val Request.the-type Laws'.the-laws; tells = Laws''.tells Request.the-type Laws'.the-laws; still = Laws''.still Request.the-type Laws'.the-copy Exit.yes; row = Rows.whole (Declared.row Request.the-type); rd = λ x. x; mk = λ x. x } λ M 𝓤 H A W. record { copies = Laws''.copy Request.the-type Laws'.the-copy 𝓤 H A W; lawful = Laws''.lawful Request.the-type Laws'.the-laws 𝓤 H A W tt; makes = Laws''.makes Request.the-type Laws'.the-plain 𝓤 H A; in-mem = Local.mem-whole 𝓤 H A W (Declared.row Request.the-type); of-mem = Local.whole-mem 𝓤 H A W (Declared.row Request.the-type) }) List.[]))))))))
+ps = List._∷_ (MutSlice.pMutS (OfOutput.row) 0 tt) (List._∷_ (MutSlice.pMutS (OfStation.row) 1 tt) (List._∷_ (Kinds.pMutF (Referent.fInt Syntax.w64) 2 tt) (List._∷_ (ShrSlice.pShrS (Referent.rtF (Referent.fInt Syntax.w8)) 3 tt) (List._∷_ (Value.pVal record { ty = Declared'.row Call.the-type; one = Path'.refl; val = Laws'3.val Call.the-type Laws'.the-laws; tells = Laws'3.tells Call.the-type Laws'.the-laws; still = Laws'3.still Call.the-type Laws'.the-copy Exit.yes; row = Rows.whole (Declared'.row Call.the-type); rd = λ x. x; mk = λ x. x } λ M 𝓤 H A W. record { copies = Laws'3.copy Call.the-type Laws'.the-copy 𝓤 H A W; lawful = Laws'3.lawful Call.the-type Laws'.the-laws 𝓤 H A W; makes = Laws'3.makes Call.the-type Laws'.the-plain 𝓤 H A; in-mem = Local.mem-whole 𝓤 H A W (Declared'.row Call.the-type); of-mem = Local.whole-mem 𝓤 H A W (Declared'.row Call.the-type) }) List.[]))))
 
 abbrev pub r : Kinds.RK 4
 r = Value.rVal record { ty = Declared.row Answer.the-type; one = Path'.refl; val = Laws''.val Answer.the-type Laws.the-laws; tells = Laws''.tells Answer.the-type Laws.the-laws; still = Laws''.still Answer.the-type Laws.the-copy Exit.yes; row = Rows.whole (Declared.row Answer.the-type); rd = λ x. x; mk = λ x. x } λ M 𝓤 H A W. record { copies = Laws''.copy Answer.the-type Laws.the-copy 𝓤 H A W; lawful = Laws''.lawful Answer.the-type Laws.the-laws 𝓤 H A W tt; makes = Laws''.makes Answer.the-type Laws.the-plain 𝓤 H A; in-mem = Local.mem-whole 𝓤 H A W (Declared.row Answer.the-type); of-mem = Local.whole-mem 𝓤 H A W (Declared.row Answer.the-type) }

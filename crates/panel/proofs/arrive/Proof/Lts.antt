@@ -2,13 +2,15 @@
 use Prim.Native.Nat
 use Rattle.lighting.proofs.Answer
 use Rattle.lighting.proofs.Answer.Laws
+use Rattle.lighting.proofs.Call
+use Rattle.lighting.proofs.Call.Laws as Laws'
 use Rattle.lighting.proofs.Lent.OfOutput as OfOutput
 use Rattle.lighting.proofs.Lent.OfStation as OfStation
 use Rattle.lighting.proofs.Request
-use Rattle.lighting.proofs.Request.Laws as Laws'
+use Rattle.lighting.proofs.Request.Laws as Laws''
 use borrow.Author.Called
 use borrow.Fn.Any
-use borrow.Fn.Call
+use borrow.Fn.Call as Call'
 use borrow.Fn.Enter
 use borrow.Fn.Frame
 use borrow.Fn.Function
@@ -31,18 +33,24 @@ use borrow.Rule.Slice.Mut
 use borrow.Rule.Slice.Relend
 use borrow.Rule.Slice.Shared
 use borrow.Rule.Yields
+use borrow.Struct.CopyOut
+use borrow.Struct.Make
+use borrow.Struct.Reads
 use borrow.Table.Copies
 use borrow.Table.Elements
 use borrow.Table.Own
-use borrow.Table.Reads
+use borrow.Table.Reads as Reads'
 use borrow.Table.Referent
 use borrow.Table.Row
 use borrow.Table.Rows as Rows'
 use borrow.Table.Typed
 use contract.Lifetimes
 use denote.Enum.Declared
-use denote.Enum.Laws as Laws''
+use denote.Enum.Laws as Laws'3
 use denote.Exit
+use denote.Laws as Laws'4
+use denote.Struct.Declared as Declared'
+use denote.Struct.Laws as Laws'5
 use denote.Triple.Clauses
 use denote.Triple.Statement
 use ghost.Atoms
@@ -52,18 +60,17 @@ use mathlib.Core.List
 use mathlib.Core.Option
 use mathlib.Core.Path as Path'
 use mir.Syntax
-use mir.Val
 use prog.Wp
 use types.Kit
 
 abbrev pub ps : List.List (Kinds.PK 4)
-ps = List._∷_ (MutSlice.pMutS (OfOutput.row) 0 tt) (List._∷_ (MutSlice.pMutS (OfStation.row) 1 tt) (List._∷_ (Kinds.pMutF (Referent.fInt Syntax.w64) 2 tt) (List._∷_ (ShrSlice.pShrS (Referent.rtF (Referent.fInt Syntax.w8)) 3 tt) (List._∷_ (Num.pNum Syntax.w8) (List._∷_ (Num.pNum Syntax.w32) (List._∷_ (Num.pNum Syntax.w64) (List._∷_ (Num.pNum Syntax.w8) (List._∷_ (Value.pVal record { ty = Declared.row Request.the-type; one = Path'.refl; val = Laws''.val Request.the-type Laws'.the-laws; tells = Laws''.tells Request.the-type Laws'.the-laws; still = Laws''.still Request.the-type Laws'.the-copy Exit.yes; row = Rows'.whole (Declared.row Request.the-type); rd = λ x. x; mk = λ x. x } λ M 𝓤 H A W. record { copies = Laws''.copy Request.the-type Laws'.the-copy 𝓤 H A W; lawful = Laws''.lawful Request.the-type Laws'.the-laws 𝓤 H A W tt; makes = Laws''.makes Request.the-type Laws'.the-plain 𝓤 H A; in-mem = Local.mem-whole 𝓤 H A W (Declared.row Request.the-type); of-mem = Local.whole-mem 𝓤 H A W (Declared.row Request.the-type) }) List.[]))))))))
+ps = List._∷_ (MutSlice.pMutS (OfOutput.row) 0 tt) (List._∷_ (MutSlice.pMutS (OfStation.row) 1 tt) (List._∷_ (Kinds.pMutF (Referent.fInt Syntax.w64) 2 tt) (List._∷_ (ShrSlice.pShrS (Referent.rtF (Referent.fInt Syntax.w8)) 3 tt) (List._∷_ (Value.pVal record { ty = Declared'.row Call.the-type; one = Path'.refl; val = Laws'5.val Call.the-type Laws'.the-laws; tells = Laws'5.tells Call.the-type Laws'.the-laws; still = Laws'5.still Call.the-type Laws'.the-copy Exit.yes; row = Rows'.whole (Declared'.row Call.the-type); rd = λ x. x; mk = λ x. x } λ M 𝓤 H A W. record { copies = Laws'5.copy Call.the-type Laws'.the-copy 𝓤 H A W; lawful = Laws'5.lawful Call.the-type Laws'.the-laws 𝓤 H A W; makes = Laws'5.makes Call.the-type Laws'.the-plain 𝓤 H A; in-mem = Local.mem-whole 𝓤 H A W (Declared'.row Call.the-type); of-mem = Local.whole-mem 𝓤 H A W (Declared'.row Call.the-type) }) List.[]))))
 
 abbrev pub r : Kinds.RK 4
-r = Value.rVal record { ty = Declared.row Answer.the-type; one = Path'.refl; val = Laws''.val Answer.the-type Laws.the-laws; tells = Laws''.tells Answer.the-type Laws.the-laws; still = Laws''.still Answer.the-type Laws.the-copy Exit.yes; row = Rows'.whole (Declared.row Answer.the-type); rd = λ x. x; mk = λ x. x } λ M 𝓤 H A W. record { copies = Laws''.copy Answer.the-type Laws.the-copy 𝓤 H A W; lawful = Laws''.lawful Answer.the-type Laws.the-laws 𝓤 H A W tt; makes = Laws''.makes Answer.the-type Laws.the-plain 𝓤 H A; in-mem = Local.mem-whole 𝓤 H A W (Declared.row Answer.the-type); of-mem = Local.whole-mem 𝓤 H A W (Declared.row Answer.the-type) }
+r = Value.rVal record { ty = Declared.row Answer.the-type; one = Path'.refl; val = Laws'3.val Answer.the-type Laws.the-laws; tells = Laws'3.tells Answer.the-type Laws.the-laws; still = Laws'3.still Answer.the-type Laws.the-copy Exit.yes; row = Rows'.whole (Declared.row Answer.the-type); rd = λ x. x; mk = λ x. x } λ M 𝓤 H A W. record { copies = Laws'3.copy Answer.the-type Laws.the-copy 𝓤 H A W; lawful = Laws'3.lawful Answer.the-type Laws.the-laws 𝓤 H A W tt; makes = Laws'3.makes Answer.the-type Laws.the-plain 𝓤 H A; in-mem = Local.mem-whole 𝓤 H A W (Declared.row Answer.the-type); of-mem = Local.whole-mem 𝓤 H A W (Declared.row Answer.the-type) }
 
 abbrev pub xs : List.List Syntax.Ty
-xs = List._∷_ (Syntax.tyInt Syntax.w64) (List._∷_ (Laws.mir) (List._∷_ OfStation.spelt (List._∷_ (Syntax.tyInt Syntax.w64) (List._∷_ Syntax.tyUnit (List._∷_ (Syntax.tyRef Syntax.erased Syntax.mut OfOutput.named) (List._∷_ (Syntax.tyStruct (List._∷_ 38 (List._∷_ 91 (List._∷_ 93 List.[]))) (Syntax.tcons (Syntax.tyRef Syntax.erased Syntax.mut OfOutput.named) (Syntax.tcons (Syntax.tyInt Syntax.w64) Syntax.tnil))) (List._∷_ (Syntax.tyRef Syntax.erased Syntax.mut OfOutput.named) (List._∷_ (Syntax.tyStruct (List._∷_ 38 (List._∷_ 91 (List._∷_ 93 List.[]))) (Syntax.tcons (Syntax.tyRef Syntax.erased Syntax.mut OfOutput.named) (Syntax.tcons (Syntax.tyInt Syntax.w64) Syntax.tnil))) (List._∷_ (Syntax.tyInt Syntax.w64) (List._∷_ Syntax.tyPtr List.[]))))))))))
+xs = List._∷_ (Syntax.tyInt Syntax.w64) (List._∷_ (Syntax.tyInt Syntax.w64) (List._∷_ (Laws''.mir) (List._∷_ (Laws.mir) (List._∷_ OfStation.spelt (List._∷_ (Syntax.tyInt Syntax.w64) (List._∷_ Syntax.tyUnit (List._∷_ (Syntax.tyRef Syntax.erased Syntax.mut OfOutput.named) (List._∷_ (Syntax.tyStruct (List._∷_ 38 (List._∷_ 91 (List._∷_ 93 List.[]))) (Syntax.tcons (Syntax.tyRef Syntax.erased Syntax.mut OfOutput.named) (Syntax.tcons (Syntax.tyInt Syntax.w64) Syntax.tnil))) (List._∷_ (Syntax.tyRef Syntax.erased Syntax.mut OfOutput.named) (List._∷_ (Syntax.tyStruct (List._∷_ 38 (List._∷_ 91 (List._∷_ 93 List.[]))) (Syntax.tcons (Syntax.tyRef Syntax.erased Syntax.mut OfOutput.named) (Syntax.tcons (Syntax.tyInt Syntax.w64) Syntax.tnil))) (List._∷_ (Syntax.tyInt Syntax.w64) (List._∷_ Syntax.tyPtr List.[]))))))))))))
 
 abbrev pub m : Nat.ℕ
 m = 2
@@ -81,211 +88,220 @@ abbrev pub r·1 : Kinds.RK 0
 r·1 = Num.rNum Syntax.w64
 
 abbrev pub ps·2 : List.List (Kinds.PK 1)
-ps·2 = List._∷_ (MutSlice.pMutS (OfOutput.row) 0 tt) (List._∷_ (Num.pNum Syntax.w64) (List._∷_ (Num.pNum Syntax.w8) (List._∷_ (Num.pNum Syntax.w64) (List._∷_ (Value.pVal record { ty = Declared.row Request.the-type; one = Path'.refl; val = Laws''.val Request.the-type Laws'.the-laws; tells = Laws''.tells Request.the-type Laws'.the-laws; still = Laws''.still Request.the-type Laws'.the-copy Exit.yes; row = Rows'.whole (Declared.row Request.the-type); rd = λ x. x; mk = λ x. x } λ M 𝓤 H A W. record { copies = Laws''.copy Request.the-type Laws'.the-copy 𝓤 H A W; lawful = Laws''.lawful Request.the-type Laws'.the-laws 𝓤 H A W tt; makes = Laws''.makes Request.the-type Laws'.the-plain 𝓤 H A; in-mem = Local.mem-whole 𝓤 H A W (Declared.row Request.the-type); of-mem = Local.whole-mem 𝓤 H A W (Declared.row Request.the-type) }) List.[]))))
+ps·2 = List._∷_ (MutSlice.pMutS (OfOutput.row) 0 tt) (List._∷_ (Num.pNum Syntax.w64) (List._∷_ (Num.pNum Syntax.w8) (List._∷_ (Num.pNum Syntax.w64) (List._∷_ (Value.pVal record { ty = Declared.row Request.the-type; one = Path'.refl; val = Laws'3.val Request.the-type Laws''.the-laws; tells = Laws'3.tells Request.the-type Laws''.the-laws; still = Laws'3.still Request.the-type Laws''.the-copy Exit.yes; row = Rows'.whole (Declared.row Request.the-type); rd = λ x. x; mk = λ x. x } λ M 𝓤 H A W. record { copies = Laws'3.copy Request.the-type Laws''.the-copy 𝓤 H A W; lawful = Laws'3.lawful Request.the-type Laws''.the-laws 𝓤 H A W tt; makes = Laws'3.makes Request.the-type Laws''.the-plain 𝓤 H A; in-mem = Local.mem-whole 𝓤 H A W (Declared.row Request.the-type); of-mem = Local.whole-mem 𝓤 H A W (Declared.row Request.the-type) }) List.[]))))
 
 abbrev pub r·2 : Kinds.RK 1
-r·2 = Value.rVal record { ty = Declared.row Answer.the-type; one = Path'.refl; val = Laws''.val Answer.the-type Laws.the-laws; tells = Laws''.tells Answer.the-type Laws.the-laws; still = Laws''.still Answer.the-type Laws.the-copy Exit.yes; row = Rows'.whole (Declared.row Answer.the-type); rd = λ x. x; mk = λ x. x } λ M 𝓤 H A W. record { copies = Laws''.copy Answer.the-type Laws.the-copy 𝓤 H A W; lawful = Laws''.lawful Answer.the-type Laws.the-laws 𝓤 H A W tt; makes = Laws''.makes Answer.the-type Laws.the-plain 𝓤 H A; in-mem = Local.mem-whole 𝓤 H A W (Declared.row Answer.the-type); of-mem = Local.whole-mem 𝓤 H A W (Declared.row Answer.the-type) }
+r·2 = Value.rVal record { ty = Declared.row Answer.the-type; one = Path'.refl; val = Laws'3.val Answer.the-type Laws.the-laws; tells = Laws'3.tells Answer.the-type Laws.the-laws; still = Laws'3.still Answer.the-type Laws.the-copy Exit.yes; row = Rows'.whole (Declared.row Answer.the-type); rd = λ x. x; mk = λ x. x } λ M 𝓤 H A W. record { copies = Laws'3.copy Answer.the-type Laws.the-copy 𝓤 H A W; lawful = Laws'3.lawful Answer.the-type Laws.the-laws 𝓤 H A W tt; makes = Laws'3.makes Answer.the-type Laws.the-plain 𝓤 H A; in-mem = Local.mem-whole 𝓤 H A W (Declared.row Answer.the-type); of-mem = Local.whole-mem 𝓤 H A W (Declared.row Answer.the-type) }
 
 abbrev pub ps·3 : List.List (Kinds.PK 1)
-ps·3 = List._∷_ (Value.pVal record { ty = Declared.row Answer.the-type; one = Path'.refl; val = Laws''.val Answer.the-type Laws.the-laws; tells = Laws''.tells Answer.the-type Laws.the-laws; still = Laws''.still Answer.the-type Laws.the-copy Exit.yes; row = Rows'.whole (Declared.row Answer.the-type); rd = λ x. x; mk = λ x. x } λ M 𝓤 H A W. record { copies = Laws''.copy Answer.the-type Laws.the-copy 𝓤 H A W; lawful = Laws''.lawful Answer.the-type Laws.the-laws 𝓤 H A W tt; makes = Laws''.makes Answer.the-type Laws.the-plain 𝓤 H A; in-mem = Local.mem-whole 𝓤 H A W (Declared.row Answer.the-type); of-mem = Local.whole-mem 𝓤 H A W (Declared.row Answer.the-type) }) (List._∷_ (Num.pNum Syntax.w32) (List._∷_ (ShrSlice.pShrS (Referent.rtF (Referent.fInt Syntax.w8)) 0 tt) List.[]))
+ps·3 = List._∷_ (Value.pVal record { ty = Declared.row Answer.the-type; one = Path'.refl; val = Laws'3.val Answer.the-type Laws.the-laws; tells = Laws'3.tells Answer.the-type Laws.the-laws; still = Laws'3.still Answer.the-type Laws.the-copy Exit.yes; row = Rows'.whole (Declared.row Answer.the-type); rd = λ x. x; mk = λ x. x } λ M 𝓤 H A W. record { copies = Laws'3.copy Answer.the-type Laws.the-copy 𝓤 H A W; lawful = Laws'3.lawful Answer.the-type Laws.the-laws 𝓤 H A W tt; makes = Laws'3.makes Answer.the-type Laws.the-plain 𝓤 H A; in-mem = Local.mem-whole 𝓤 H A W (Declared.row Answer.the-type); of-mem = Local.whole-mem 𝓤 H A W (Declared.row Answer.the-type) }) (List._∷_ (Num.pNum Syntax.w32) (List._∷_ (ShrSlice.pShrS (Referent.rtF (Referent.fInt Syntax.w8)) 0 tt) List.[]))
 
 abbrev pub r·3 : Kinds.RK 1
 r·3 = OfStation.result
 
 abbrev pub hs : List.List Syntax.Home
-hs = List._∷_ Syntax.valueLocal (List._∷_ Syntax.valueLocal (List._∷_ Syntax.valueLocal (List._∷_ Syntax.valueLocal (List._∷_ Syntax.valueLocal (List._∷_ Syntax.valueLocal (List._∷_ Syntax.valueLocal (List._∷_ Syntax.valueLocal (List._∷_ Syntax.valueLocal (List._∷_ Syntax.valueLocal (List._∷_ Syntax.valueLocal (List._∷_ Syntax.valueLocal (List._∷_ Syntax.valueLocal (List._∷_ Syntax.valueLocal (List._∷_ Syntax.valueLocal (List._∷_ Syntax.valueLocal (List._∷_ Syntax.valueLocal (List._∷_ Syntax.valueLocal (List._∷_ Syntax.valueLocal (List._∷_ Syntax.valueLocal (List._∷_ Syntax.valueLocal List.[]))))))))))))))))))))
+hs = List._∷_ Syntax.valueLocal (List._∷_ Syntax.valueLocal (List._∷_ Syntax.valueLocal (List._∷_ Syntax.valueLocal (List._∷_ Syntax.valueLocal (List._∷_ Syntax.valueLocal (List._∷_ Syntax.valueLocal (List._∷_ Syntax.valueLocal (List._∷_ Syntax.valueLocal (List._∷_ Syntax.valueLocal (List._∷_ Syntax.valueLocal (List._∷_ Syntax.valueLocal (List._∷_ Syntax.valueLocal (List._∷_ Syntax.valueLocal (List._∷_ Syntax.valueLocal (List._∷_ Syntax.valueLocal (List._∷_ Syntax.valueLocal (List._∷_ Syntax.valueLocal (List._∷_ Syntax.valueLocal List.[]))))))))))))))))))
 
 abbrev b0 : Syntax.Body
-b0 = Syntax.assign (Syntax.place 10 List.[]) (Syntax.rvOpd (Syntax.copy (Syntax.place 3 (List._∷_ (Syntax.deref (Syntax.tyInt Syntax.w64)) List.[]))))
+b0 = Syntax.assign (Syntax.place 6 List.[]) (Syntax.rvOpd (Syntax.copy (Syntax.place 3 (List._∷_ (Syntax.deref (Syntax.tyInt Syntax.w64)) List.[]))))
 
 abbrev b1 : Syntax.Body
-b1 = Syntax.assign (Syntax.place 15 List.[]) (Syntax.addrOf (Syntax.place 1 (List._∷_ (Syntax.field 0) (List._∷_ (Syntax.deref OfOutput.spelt) List.[]))))
+b1 = Syntax.assign (Syntax.place 7 List.[]) (Syntax.rvOpd (Syntax.copy (Syntax.place 5 (List._∷_ (Syntax.field 2) List.[]))))
 
 abbrev b2 : Syntax.Body
-b2 = Syntax.assign (Syntax.place 16 List.[]) (Syntax.aggregate (List._∷_ (Syntax.copy (Syntax.place 15 List.[])) (List._∷_ (Syntax.copy (Syntax.place 1 (List._∷_ (Syntax.field 1) List.[]))) List.[])))
+b2 = Syntax.assign (Syntax.place 13 List.[]) (Syntax.addrOf (Syntax.place 1 (List._∷_ (Syntax.field 0) (List._∷_ (Syntax.deref OfOutput.spelt) List.[]))))
 
 abbrev b3 : Syntax.Body
-b3 = Syntax.call "tables::advance_outputs" (List._∷_ (Syntax.copy (Syntax.place 16 List.[])) (List._∷_ (Syntax.copy (Syntax.place 10 List.[])) (List._∷_ (Syntax.copy (Syntax.place 7 List.[])) List.[]))) (Syntax.place 14 List.[])
+b3 = Syntax.assign (Syntax.place 14 List.[]) (Syntax.aggregate (List._∷_ (Syntax.copy (Syntax.place 13 List.[])) (List._∷_ (Syntax.copy (Syntax.place 1 (List._∷_ (Syntax.field 1) List.[]))) List.[])))
 
 abbrev b4 : Syntax.Body
-b4 = Syntax.assign (Syntax.place 17 List.[]) (Syntax.addrOf (Syntax.place 1 (List._∷_ (Syntax.field 0) (List._∷_ (Syntax.deref OfOutput.spelt) List.[]))))
+b4 = Syntax.call "tables::advance_outputs" (List._∷_ (Syntax.copy (Syntax.place 14 List.[])) (List._∷_ (Syntax.copy (Syntax.place 6 List.[])) (List._∷_ (Syntax.copy (Syntax.place 7 List.[])) List.[]))) (Syntax.place 12 List.[])
 
 abbrev b5 : Syntax.Body
-b5 = Syntax.assign (Syntax.place 18 List.[]) (Syntax.aggregate (List._∷_ (Syntax.copy (Syntax.place 17 List.[])) (List._∷_ (Syntax.copy (Syntax.place 1 (List._∷_ (Syntax.field 1) List.[]))) List.[])))
+b5 = Syntax.assign (Syntax.place 8 List.[]) (Syntax.rvOpd (Syntax.copy (Syntax.place 5 (List._∷_ (Syntax.field 4) List.[]))))
 
 abbrev b6 : Syntax.Body
-b6 = Syntax.call "ranges::index" (List._∷_ (Syntax.copy (Syntax.place 8 List.[])) List.[]) (Syntax.place 19 List.[])
+b6 = Syntax.assign (Syntax.place 15 List.[]) (Syntax.addrOf (Syntax.place 1 (List._∷_ (Syntax.field 0) (List._∷_ (Syntax.deref OfOutput.spelt) List.[]))))
 
 abbrev b7 : Syntax.Body
-b7 = Syntax.call "tables::serve" (List._∷_ (Syntax.copy (Syntax.place 18 List.[])) (List._∷_ (Syntax.copy (Syntax.place 7 List.[])) (List._∷_ (Syntax.copy (Syntax.place 5 List.[])) (List._∷_ (Syntax.copy (Syntax.place 19 List.[])) (List._∷_ (Syntax.copy (Syntax.place 9 List.[])) List.[]))))) (Syntax.place 11 List.[])
+b7 = Syntax.assign (Syntax.place 16 List.[]) (Syntax.aggregate (List._∷_ (Syntax.copy (Syntax.place 15 List.[])) (List._∷_ (Syntax.copy (Syntax.place 1 (List._∷_ (Syntax.field 1) List.[]))) List.[])))
 
 abbrev b8 : Syntax.Body
-b8 = Syntax.call "kept::kept_station" (List._∷_ (Syntax.copy (Syntax.place 11 List.[])) (List._∷_ (Syntax.copy (Syntax.place 6 List.[])) (List._∷_ (Syntax.copy (Syntax.place 4 List.[])) List.[]))) (Syntax.place 12 List.[])
+b8 = Syntax.call "ranges::index" (List._∷_ (Syntax.copy (Syntax.place 5 (List._∷_ (Syntax.field 3) List.[]))) List.[]) (Syntax.place 17 List.[])
 
 abbrev b9 : Syntax.Body
-b9 = Syntax.call "ranges::index" (List._∷_ (Syntax.copy (Syntax.place 5 List.[])) List.[]) (Syntax.place 13 List.[])
+b9 = Syntax.call "tables::serve" (List._∷_ (Syntax.copy (Syntax.place 16 List.[])) (List._∷_ (Syntax.copy (Syntax.place 7 List.[])) (List._∷_ (Syntax.copy (Syntax.place 5 (List._∷_ (Syntax.field 0) List.[]))) (List._∷_ (Syntax.copy (Syntax.place 17 List.[])) (List._∷_ (Syntax.copy (Syntax.place 8 List.[])) List.[]))))) (Syntax.place 9 List.[])
 
 abbrev b10 : Syntax.Body
-b10 = Syntax.assign (Syntax.place 19 List.[]) (Syntax.op2 (Syntax.mul Syntax.unsigned) (Syntax.copy (Syntax.place 13 List.[])) (Syntax.int Syntax.w64 40))
+b10 = Syntax.call "kept::kept_station" (List._∷_ (Syntax.copy (Syntax.place 9 List.[])) (List._∷_ (Syntax.copy (Syntax.place 5 (List._∷_ (Syntax.field 1) List.[]))) (List._∷_ (Syntax.copy (Syntax.place 4 List.[])) List.[]))) (Syntax.place 10 List.[])
 
 abbrev b11 : Syntax.Body
-b11 = Syntax.assign (Syntax.place 20 List.[]) (Syntax.op2 Syntax.offset (Syntax.copy (Syntax.place 2 (List._∷_ (Syntax.field 0) List.[]))) (Syntax.copy (Syntax.place 19 List.[])))
+b11 = Syntax.call "ranges::index" (List._∷_ (Syntax.copy (Syntax.place 5 (List._∷_ (Syntax.field 0) List.[]))) List.[]) (Syntax.place 11 List.[])
 
 abbrev b12 : Syntax.Body
-b12 = Syntax.assign (Syntax.place 20 (List._∷_ (Syntax.deref OfStation.spelt) List.[])) (Syntax.rvOpd (Syntax.copy (Syntax.place 12 List.[])))
+b12 = Syntax.assign (Syntax.place 17 List.[]) (Syntax.op2 (Syntax.mul Syntax.unsigned) (Syntax.copy (Syntax.place 11 List.[])) (Syntax.int Syntax.w64 40))
 
 abbrev b13 : Syntax.Body
-b13 = Syntax.assign (Syntax.place 3 (List._∷_ (Syntax.deref (Syntax.tyInt Syntax.w64)) List.[])) (Syntax.rvOpd (Syntax.copy (Syntax.place 7 List.[])))
+b13 = Syntax.assign (Syntax.place 18 List.[]) (Syntax.op2 Syntax.offset (Syntax.copy (Syntax.place 2 (List._∷_ (Syntax.field 0) List.[]))) (Syntax.copy (Syntax.place 17 List.[])))
 
 abbrev b14 : Syntax.Body
-b14 = Syntax.assign (Syntax.place 0 List.[]) (Syntax.rvOpd (Syntax.copy (Syntax.place 11 List.[])))
+b14 = Syntax.assign (Syntax.place 18 (List._∷_ (Syntax.deref OfStation.spelt) List.[])) (Syntax.rvOpd (Syntax.copy (Syntax.place 10 List.[])))
 
 abbrev b15 : Syntax.Body
-b15 = Syntax.return
+b15 = Syntax.assign (Syntax.place 3 (List._∷_ (Syntax.deref (Syntax.tyInt Syntax.w64)) List.[])) (Syntax.rvOpd (Syntax.copy (Syntax.place 7 List.[])))
 
 abbrev b16 : Syntax.Body
-b16 = Syntax.seq b14 b15
+b16 = Syntax.assign (Syntax.place 0 List.[]) (Syntax.rvOpd (Syntax.copy (Syntax.place 9 List.[])))
 
 abbrev b17 : Syntax.Body
-b17 = Syntax.seq b13 b16
+b17 = Syntax.return
 
 abbrev b18 : Syntax.Body
-b18 = Syntax.seq b12 b17
+b18 = Syntax.seq b16 b17
 
 abbrev b19 : Syntax.Body
-b19 = Syntax.seq b11 b18
+b19 = Syntax.seq b15 b18
 
 abbrev b20 : Syntax.Body
-b20 = Syntax.seq b10 b19
+b20 = Syntax.seq b14 b19
 
 abbrev b21 : Syntax.Body
-b21 = Syntax.seq b9 b20
+b21 = Syntax.seq b13 b20
 
 abbrev b22 : Syntax.Body
-b22 = Syntax.seq b8 b21
+b22 = Syntax.seq b12 b21
 
 abbrev b23 : Syntax.Body
-b23 = Syntax.seq b7 b22
+b23 = Syntax.seq b11 b22
 
 abbrev b24 : Syntax.Body
-b24 = Syntax.seq b6 b23
+b24 = Syntax.seq b10 b23
 
 abbrev b25 : Syntax.Body
-b25 = Syntax.seq b5 b24
+b25 = Syntax.seq b9 b24
 
 abbrev b26 : Syntax.Body
-b26 = Syntax.seq b4 b25
+b26 = Syntax.seq b8 b25
 
 abbrev b27 : Syntax.Body
-b27 = Syntax.seq b3 b26
+b27 = Syntax.seq b7 b26
 
 abbrev b28 : Syntax.Body
-b28 = Syntax.seq b2 b27
+b28 = Syntax.seq b6 b27
 
 abbrev b29 : Syntax.Body
-b29 = Syntax.seq b1 b28
+b29 = Syntax.seq b5 b28
 
 abbrev b30 : Syntax.Body
-b30 = Syntax.seq b0 b29
+b30 = Syntax.seq b4 b29
+
+abbrev b31 : Syntax.Body
+b31 = Syntax.seq b3 b30
+
+abbrev b32 : Syntax.Body
+b32 = Syntax.seq b2 b31
+
+abbrev b33 : Syntax.Body
+b33 = Syntax.seq b1 b32
+
+abbrev b34 : Syntax.Body
+b34 = Syntax.seq b0 b33
 
 abbrev pub body : Syntax.Body
-body = b30
+body = b34
 
 abbrev pub Claims : Type 1
 Claims = Kinds.In 1 ps·0 × Kinds.Out 1 ps·0 r·0 × Kinds.In 0 ps·1 × Kinds.Out 0 ps·1 r·1 × Kinds.In 1 ps·2 × Kinds.Out 1 ps·2 r·2 × Kinds.In 1 ps·3 × Kinds.Out 1 ps·3 r·3
 
 abbrev pub t0 : List.List Row.Entry
-t0 = List._∷_ (0, Rows'.any-gone (Laws.mir)) (List._∷_ (1, Mut.mslice (OfOutput.row) (Syntax.tyRef (Syntax.named 0) Syntax.mut OfOutput.named) 0) (List._∷_ (2, Mut.mslice (OfStation.row) (Syntax.tyRef (Syntax.named 1) Syntax.mut OfStation.named) 1) (List._∷_ (3, Rows'.mref (Referent.rtF (Referent.fInt Syntax.w64)) (Syntax.tyRef (Syntax.named 2) Syntax.mut (Syntax.tyInt Syntax.w64)) 2) (List._∷_ (4, Rows'.sslice (Referent.rtF (Referent.fInt Syntax.w8)) (Syntax.tyRef (Syntax.named 3) Syntax.imm (Syntax.tyInt Syntax.w8)) 3) (List._∷_ (5, Rows'.sc-here (Row.sInt Syntax.w8)) (List._∷_ (6, Rows'.sc-here (Row.sInt Syntax.w32)) (List._∷_ (7, Rows'.sc-here (Row.sInt Syntax.w64)) (List._∷_ (8, Rows'.sc-here (Row.sInt Syntax.w8)) (List._∷_ (9, Rows'.whole (Declared.row Request.the-type)) (List._∷_ (10, Rows'.any-gone (Syntax.tyInt Syntax.w64)) (List._∷_ (11, Rows'.any-gone (Laws.mir)) (List._∷_ (12, Rows'.any-gone OfStation.spelt) (List._∷_ (13, Rows'.any-gone (Syntax.tyInt Syntax.w64)) (List._∷_ (14, Rows'.any-gone Syntax.tyUnit) (List._∷_ (15, Rows'.any-gone (Syntax.tyRef Syntax.erased Syntax.mut OfOutput.named)) List.[])))))))))))))))
+t0 = List._∷_ (0, Rows'.any-gone (Laws.mir)) (List._∷_ (1, Mut.mslice (OfOutput.row) (Syntax.tyRef (Syntax.named 0) Syntax.mut OfOutput.named) 0) (List._∷_ (2, Mut.mslice (OfStation.row) (Syntax.tyRef (Syntax.named 1) Syntax.mut OfStation.named) 1) (List._∷_ (3, Rows'.mref (Referent.rtF (Referent.fInt Syntax.w64)) (Syntax.tyRef (Syntax.named 2) Syntax.mut (Syntax.tyInt Syntax.w64)) 2) (List._∷_ (4, Rows'.sslice (Referent.rtF (Referent.fInt Syntax.w8)) (Syntax.tyRef (Syntax.named 3) Syntax.imm (Syntax.tyInt Syntax.w8)) 3) (List._∷_ (5, Rows'.whole (Declared'.row Call.the-type)) (List._∷_ (6, Rows'.any-gone (Syntax.tyInt Syntax.w64)) (List._∷_ (7, Rows'.any-gone (Syntax.tyInt Syntax.w64)) (List._∷_ (8, Rows'.any-gone (Laws''.mir)) (List._∷_ (9, Rows'.any-gone (Laws.mir)) (List._∷_ (10, Rows'.any-gone OfStation.spelt) (List._∷_ (11, Rows'.any-gone (Syntax.tyInt Syntax.w64)) (List._∷_ (12, Rows'.any-gone Syntax.tyUnit) (List._∷_ (13, Rows'.any-gone (Syntax.tyRef Syntax.erased Syntax.mut OfOutput.named)) (List._∷_ (14, Rows'.any-gone (Syntax.tyStruct (List._∷_ 38 (List._∷_ 91 (List._∷_ 93 List.[]))) (Syntax.tcons (Syntax.tyRef Syntax.erased Syntax.mut OfOutput.named) (Syntax.tcons (Syntax.tyInt Syntax.w64) Syntax.tnil)))) (List._∷_ (15, Rows'.any-gone (Syntax.tyRef Syntax.erased Syntax.mut OfOutput.named)) List.[])))))))))))))))
 
 abbrev pub t1 : List.List Row.Entry
-t1 = List._∷_ (16, Rows'.any-gone (Syntax.tyStruct (List._∷_ 38 (List._∷_ 91 (List._∷_ 93 List.[]))) (Syntax.tcons (Syntax.tyRef Syntax.erased Syntax.mut OfOutput.named) (Syntax.tcons (Syntax.tyInt Syntax.w64) Syntax.tnil)))) (List._∷_ (17, Rows'.any-gone (Syntax.tyRef Syntax.erased Syntax.mut OfOutput.named)) (List._∷_ (18, Rows'.any-gone (Syntax.tyStruct (List._∷_ 38 (List._∷_ 91 (List._∷_ 93 List.[]))) (Syntax.tcons (Syntax.tyRef Syntax.erased Syntax.mut OfOutput.named) (Syntax.tcons (Syntax.tyInt Syntax.w64) Syntax.tnil)))) (List._∷_ (19, Rows'.any-gone (Syntax.tyInt Syntax.w64)) (List._∷_ (20, Rows'.any-gone Syntax.tyPtr) List.[]))))
+t1 = List._∷_ (16, Rows'.any-gone (Syntax.tyStruct (List._∷_ 38 (List._∷_ 91 (List._∷_ 93 List.[]))) (Syntax.tcons (Syntax.tyRef Syntax.erased Syntax.mut OfOutput.named) (Syntax.tcons (Syntax.tyInt Syntax.w64) Syntax.tnil)))) (List._∷_ (17, Rows'.any-gone (Syntax.tyInt Syntax.w64)) (List._∷_ (18, Rows'.any-gone Syntax.tyPtr) List.[]))
 
 abbrev pub t2 : List.List Row.Entry
-t2 = List._∷_ (0, Rows'.whole (Declared.row Answer.the-type)) (List._∷_ (1, Mut.mslice (OfOutput.row) (Syntax.tyRef (Syntax.named 0) Syntax.mut OfOutput.named) 0) (List._∷_ (2, Mut.mslice (OfStation.row) (Syntax.tyRef (Syntax.named 1) Syntax.mut OfStation.named) 1) (List._∷_ (3, Rows'.mref (Referent.rtF (Referent.fInt Syntax.w64)) (Syntax.tyRef (Syntax.named 2) Syntax.mut (Syntax.tyInt Syntax.w64)) 2) (List._∷_ (4, Rows'.sslice (Referent.rtF (Referent.fInt Syntax.w8)) (Syntax.tyRef (Syntax.named 3) Syntax.imm (Syntax.tyInt Syntax.w8)) 3) (List._∷_ (5, Rows'.any-gone (Syntax.tyInt Syntax.w8)) (List._∷_ (6, Rows'.any-gone (Syntax.tyInt Syntax.w32)) (List._∷_ (7, Rows'.any-gone (Syntax.tyInt Syntax.w64)) (List._∷_ (8, Rows'.any-gone (Syntax.tyInt Syntax.w8)) (List._∷_ (9, Rows'.any-gone (Laws'.mir)) (List._∷_ (10, Rows'.any-gone (Syntax.tyInt Syntax.w64)) (List._∷_ (11, Rows'.any-gone (Laws.mir)) (List._∷_ (12, Rows'.any-gone OfStation.spelt) (List._∷_ (13, Rows'.any-gone (Syntax.tyInt Syntax.w64)) (List._∷_ (14, Rows'.any-gone Syntax.tyUnit) (List._∷_ (15, Rows'.any-gone (Syntax.tyRef Syntax.erased Syntax.mut OfOutput.named)) List.[])))))))))))))))
+t2 = List._∷_ (0, Rows'.whole (Declared.row Answer.the-type)) (List._∷_ (1, Mut.mslice (OfOutput.row) (Syntax.tyRef (Syntax.named 0) Syntax.mut OfOutput.named) 0) (List._∷_ (2, Mut.mslice (OfStation.row) (Syntax.tyRef (Syntax.named 1) Syntax.mut OfStation.named) 1) (List._∷_ (3, Rows'.mref (Referent.rtF (Referent.fInt Syntax.w64)) (Syntax.tyRef (Syntax.named 2) Syntax.mut (Syntax.tyInt Syntax.w64)) 2) (List._∷_ (4, Rows'.sslice (Referent.rtF (Referent.fInt Syntax.w8)) (Syntax.tyRef (Syntax.named 3) Syntax.imm (Syntax.tyInt Syntax.w8)) 3) (List._∷_ (5, Rows'.any-gone (Laws'.mir)) (List._∷_ (6, Rows'.any-gone (Syntax.tyInt Syntax.w64)) (List._∷_ (7, Rows'.any-gone (Syntax.tyInt Syntax.w64)) (List._∷_ (8, Rows'.any-gone (Laws''.mir)) (List._∷_ (9, Rows'.any-gone (Laws.mir)) (List._∷_ (10, Rows'.any-gone OfStation.spelt) (List._∷_ (11, Rows'.any-gone (Syntax.tyInt Syntax.w64)) (List._∷_ (12, Rows'.any-gone Syntax.tyUnit) (List._∷_ (13, Rows'.any-gone (Syntax.tyRef Syntax.erased Syntax.mut OfOutput.named)) (List._∷_ (14, Rows'.any-gone (Syntax.tyStruct (List._∷_ 38 (List._∷_ 91 (List._∷_ 93 List.[]))) (Syntax.tcons (Syntax.tyRef Syntax.erased Syntax.mut OfOutput.named) (Syntax.tcons (Syntax.tyInt Syntax.w64) Syntax.tnil)))) (List._∷_ (15, Rows'.any-gone (Syntax.tyRef Syntax.erased Syntax.mut OfOutput.named)) List.[])))))))))))))))
 
 abbrev pub t3 : List.List Row.Entry
-t3 = List._∷_ (0, Rows'.any-gone (Laws.mir)) (List._∷_ (1, Mut.mslice (OfOutput.row) (Syntax.tyRef (Syntax.named 0) Syntax.mut OfOutput.named) 0) (List._∷_ (2, Mut.mslice (OfStation.row) (Syntax.tyRef (Syntax.named 1) Syntax.mut OfStation.named) 1) (List._∷_ (3, Rows'.mref (Referent.rtF (Referent.fInt Syntax.w64)) (Syntax.tyRef (Syntax.named 2) Syntax.mut (Syntax.tyInt Syntax.w64)) 2) (List._∷_ (4, Rows'.sslice (Referent.rtF (Referent.fInt Syntax.w8)) (Syntax.tyRef (Syntax.named 3) Syntax.imm (Syntax.tyInt Syntax.w8)) 3) (List._∷_ (5, Rows'.sc-here (Row.sInt Syntax.w8)) (List._∷_ (6, Rows'.sc-here (Row.sInt Syntax.w32)) (List._∷_ (7, Rows'.sc-here (Row.sInt Syntax.w64)) (List._∷_ (8, Rows'.sc-here (Row.sInt Syntax.w8)) (List._∷_ (9, Rows'.whole (Declared.row Request.the-type)) (List._∷_ (10, Rows'.sc-here (Row.sInt Syntax.w64)) (List._∷_ (11, Rows'.any-gone (Laws.mir)) (List._∷_ (12, Rows'.any-gone OfStation.spelt) (List._∷_ (13, Rows'.any-gone (Syntax.tyInt Syntax.w64)) (List._∷_ (14, Rows'.any-gone Syntax.tyUnit) (List._∷_ (15, Rows'.any-gone (Syntax.tyRef Syntax.erased Syntax.mut OfOutput.named)) List.[])))))))))))))))
+t3 = List._∷_ (0, Rows'.any-gone (Laws.mir)) (List._∷_ (1, Mut.mslice (OfOutput.row) (Syntax.tyRef (Syntax.named 0) Syntax.mut OfOutput.named) 0) (List._∷_ (2, Mut.mslice (OfStation.row) (Syntax.tyRef (Syntax.named 1) Syntax.mut OfStation.named) 1) (List._∷_ (3, Rows'.mref (Referent.rtF (Referent.fInt Syntax.w64)) (Syntax.tyRef (Syntax.named 2) Syntax.mut (Syntax.tyInt Syntax.w64)) 2) (List._∷_ (4, Rows'.sslice (Referent.rtF (Referent.fInt Syntax.w8)) (Syntax.tyRef (Syntax.named 3) Syntax.imm (Syntax.tyInt Syntax.w8)) 3) (List._∷_ (5, Rows'.whole (Declared'.row Call.the-type)) (List._∷_ (6, Rows'.sc-here (Row.sInt Syntax.w64)) (List._∷_ (7, Rows'.any-gone (Syntax.tyInt Syntax.w64)) (List._∷_ (8, Rows'.any-gone (Laws''.mir)) (List._∷_ (9, Rows'.any-gone (Laws.mir)) (List._∷_ (10, Rows'.any-gone OfStation.spelt) (List._∷_ (11, Rows'.any-gone (Syntax.tyInt Syntax.w64)) (List._∷_ (12, Rows'.any-gone Syntax.tyUnit) (List._∷_ (13, Rows'.any-gone (Syntax.tyRef Syntax.erased Syntax.mut OfOutput.named)) (List._∷_ (14, Rows'.any-gone (Syntax.tyStruct (List._∷_ 38 (List._∷_ 91 (List._∷_ 93 List.[]))) (Syntax.tcons (Syntax.tyRef Syntax.erased Syntax.mut OfOutput.named) (Syntax.tcons (Syntax.tyInt Syntax.w64) Syntax.tnil)))) (List._∷_ (15, Rows'.any-gone (Syntax.tyRef Syntax.erased Syntax.mut OfOutput.named)) List.[])))))))))))))))
 
 abbrev pub t4 : List.List Row.Entry
-t4 = List._∷_ (0, Rows'.any-gone (Laws.mir)) (List._∷_ (1, Relend.mslice-owed (OfOutput.row) (Syntax.tyRef (Syntax.named 0) Syntax.mut OfOutput.named) 0 4 Row.off) (List._∷_ (2, Mut.mslice (OfStation.row) (Syntax.tyRef (Syntax.named 1) Syntax.mut OfStation.named) 1) (List._∷_ (3, Rows'.mref (Referent.rtF (Referent.fInt Syntax.w64)) (Syntax.tyRef (Syntax.named 2) Syntax.mut (Syntax.tyInt Syntax.w64)) 2) (List._∷_ (4, Rows'.sslice (Referent.rtF (Referent.fInt Syntax.w8)) (Syntax.tyRef (Syntax.named 3) Syntax.imm (Syntax.tyInt Syntax.w8)) 3) (List._∷_ (5, Rows'.sc-here (Row.sInt Syntax.w8)) (List._∷_ (6, Rows'.sc-here (Row.sInt Syntax.w32)) (List._∷_ (7, Rows'.sc-here (Row.sInt Syntax.w64)) (List._∷_ (8, Rows'.sc-here (Row.sInt Syntax.w8)) (List._∷_ (9, Rows'.whole (Declared.row Request.the-type)) (List._∷_ (10, Rows'.sc-here (Row.sInt Syntax.w64)) (List._∷_ (11, Rows'.any-gone (Laws.mir)) (List._∷_ (12, Rows'.any-gone OfStation.spelt) (List._∷_ (13, Rows'.any-gone (Syntax.tyInt Syntax.w64)) (List._∷_ (14, Rows'.any-gone Syntax.tyUnit) (List._∷_ (15, Relend.msptr (OfOutput.row) (Syntax.tyRef Syntax.erased Syntax.mut OfOutput.named) 4) List.[])))))))))))))))
+t4 = List._∷_ (0, Rows'.any-gone (Laws.mir)) (List._∷_ (1, Mut.mslice (OfOutput.row) (Syntax.tyRef (Syntax.named 0) Syntax.mut OfOutput.named) 0) (List._∷_ (2, Mut.mslice (OfStation.row) (Syntax.tyRef (Syntax.named 1) Syntax.mut OfStation.named) 1) (List._∷_ (3, Rows'.mref (Referent.rtF (Referent.fInt Syntax.w64)) (Syntax.tyRef (Syntax.named 2) Syntax.mut (Syntax.tyInt Syntax.w64)) 2) (List._∷_ (4, Rows'.sslice (Referent.rtF (Referent.fInt Syntax.w8)) (Syntax.tyRef (Syntax.named 3) Syntax.imm (Syntax.tyInt Syntax.w8)) 3) (List._∷_ (5, Rows'.whole (Declared'.row Call.the-type)) (List._∷_ (6, Rows'.sc-here (Row.sInt Syntax.w64)) (List._∷_ (7, Rows'.sc-here (Row.sInt Syntax.w64)) (List._∷_ (8, Rows'.any-gone (Laws''.mir)) (List._∷_ (9, Rows'.any-gone (Laws.mir)) (List._∷_ (10, Rows'.any-gone OfStation.spelt) (List._∷_ (11, Rows'.any-gone (Syntax.tyInt Syntax.w64)) (List._∷_ (12, Rows'.any-gone Syntax.tyUnit) (List._∷_ (13, Rows'.any-gone (Syntax.tyRef Syntax.erased Syntax.mut OfOutput.named)) (List._∷_ (14, Rows'.any-gone (Syntax.tyStruct (List._∷_ 38 (List._∷_ 91 (List._∷_ 93 List.[]))) (Syntax.tcons (Syntax.tyRef Syntax.erased Syntax.mut OfOutput.named) (Syntax.tcons (Syntax.tyInt Syntax.w64) Syntax.tnil)))) (List._∷_ (15, Rows'.any-gone (Syntax.tyRef Syntax.erased Syntax.mut OfOutput.named)) List.[])))))))))))))))
 
 abbrev pub t5 : List.List Row.Entry
-t5 = List._∷_ (0, Rows'.any-gone (Laws.mir)) (List._∷_ (1, Relend.mslice-owed (OfOutput.row) (Syntax.tyRef (Syntax.named 0) Syntax.mut OfOutput.named) 0 4 Row.off) (List._∷_ (2, Mut.mslice (OfStation.row) (Syntax.tyRef (Syntax.named 1) Syntax.mut OfStation.named) 1) (List._∷_ (3, Rows'.mref (Referent.rtF (Referent.fInt Syntax.w64)) (Syntax.tyRef (Syntax.named 2) Syntax.mut (Syntax.tyInt Syntax.w64)) 2) (List._∷_ (4, Rows'.sslice (Referent.rtF (Referent.fInt Syntax.w8)) (Syntax.tyRef (Syntax.named 3) Syntax.imm (Syntax.tyInt Syntax.w8)) 3) (List._∷_ (5, Rows'.sc-here (Row.sInt Syntax.w8)) (List._∷_ (6, Rows'.sc-here (Row.sInt Syntax.w32)) (List._∷_ (7, Rows'.sc-here (Row.sInt Syntax.w64)) (List._∷_ (8, Rows'.sc-here (Row.sInt Syntax.w8)) (List._∷_ (9, Rows'.whole (Declared.row Request.the-type)) (List._∷_ (10, Rows'.sc-here (Row.sInt Syntax.w64)) (List._∷_ (11, Rows'.any-gone (Laws.mir)) (List._∷_ (12, Rows'.any-gone OfStation.spelt) (List._∷_ (13, Rows'.any-gone (Syntax.tyInt Syntax.w64)) (List._∷_ (14, Rows'.any-gone Syntax.tyUnit) (List._∷_ (15, Rows'.any-gone (Syntax.tyRef Syntax.erased Syntax.mut OfOutput.named)) List.[])))))))))))))))
+t5 = List._∷_ (0, Rows'.any-gone (Laws.mir)) (List._∷_ (1, Relend.mslice-owed (OfOutput.row) (Syntax.tyRef (Syntax.named 0) Syntax.mut OfOutput.named) 0 4 Row.off) (List._∷_ (2, Mut.mslice (OfStation.row) (Syntax.tyRef (Syntax.named 1) Syntax.mut OfStation.named) 1) (List._∷_ (3, Rows'.mref (Referent.rtF (Referent.fInt Syntax.w64)) (Syntax.tyRef (Syntax.named 2) Syntax.mut (Syntax.tyInt Syntax.w64)) 2) (List._∷_ (4, Rows'.sslice (Referent.rtF (Referent.fInt Syntax.w8)) (Syntax.tyRef (Syntax.named 3) Syntax.imm (Syntax.tyInt Syntax.w8)) 3) (List._∷_ (5, Rows'.whole (Declared'.row Call.the-type)) (List._∷_ (6, Rows'.sc-here (Row.sInt Syntax.w64)) (List._∷_ (7, Rows'.sc-here (Row.sInt Syntax.w64)) (List._∷_ (8, Rows'.any-gone (Laws''.mir)) (List._∷_ (9, Rows'.any-gone (Laws.mir)) (List._∷_ (10, Rows'.any-gone OfStation.spelt) (List._∷_ (11, Rows'.any-gone (Syntax.tyInt Syntax.w64)) (List._∷_ (12, Rows'.any-gone Syntax.tyUnit) (List._∷_ (13, Relend.msptr (OfOutput.row) (Syntax.tyRef Syntax.erased Syntax.mut OfOutput.named) 4) (List._∷_ (14, Rows'.any-gone (Syntax.tyStruct (List._∷_ 38 (List._∷_ 91 (List._∷_ 93 List.[]))) (Syntax.tcons (Syntax.tyRef Syntax.erased Syntax.mut OfOutput.named) (Syntax.tcons (Syntax.tyInt Syntax.w64) Syntax.tnil)))) (List._∷_ (15, Rows'.any-gone (Syntax.tyRef Syntax.erased Syntax.mut OfOutput.named)) List.[])))))))))))))))
 
 abbrev pub t6 : List.List Row.Entry
-t6 = List._∷_ (16, Mut.mslice (OfOutput.row) (Syntax.tyRef Syntax.erased Syntax.mut OfOutput.named) 4) (List._∷_ (17, Rows'.any-gone (Syntax.tyRef Syntax.erased Syntax.mut OfOutput.named)) (List._∷_ (18, Rows'.any-gone (Syntax.tyStruct (List._∷_ 38 (List._∷_ 91 (List._∷_ 93 List.[]))) (Syntax.tcons (Syntax.tyRef Syntax.erased Syntax.mut OfOutput.named) (Syntax.tcons (Syntax.tyInt Syntax.w64) Syntax.tnil)))) (List._∷_ (19, Rows'.any-gone (Syntax.tyInt Syntax.w64)) (List._∷_ (20, Rows'.any-gone Syntax.tyPtr) List.[]))))
+t6 = List._∷_ (0, Rows'.any-gone (Laws.mir)) (List._∷_ (1, Relend.mslice-owed (OfOutput.row) (Syntax.tyRef (Syntax.named 0) Syntax.mut OfOutput.named) 0 4 Row.off) (List._∷_ (2, Mut.mslice (OfStation.row) (Syntax.tyRef (Syntax.named 1) Syntax.mut OfStation.named) 1) (List._∷_ (3, Rows'.mref (Referent.rtF (Referent.fInt Syntax.w64)) (Syntax.tyRef (Syntax.named 2) Syntax.mut (Syntax.tyInt Syntax.w64)) 2) (List._∷_ (4, Rows'.sslice (Referent.rtF (Referent.fInt Syntax.w8)) (Syntax.tyRef (Syntax.named 3) Syntax.imm (Syntax.tyInt Syntax.w8)) 3) (List._∷_ (5, Rows'.whole (Declared'.row Call.the-type)) (List._∷_ (6, Rows'.sc-here (Row.sInt Syntax.w64)) (List._∷_ (7, Rows'.sc-here (Row.sInt Syntax.w64)) (List._∷_ (8, Rows'.any-gone (Laws''.mir)) (List._∷_ (9, Rows'.any-gone (Laws.mir)) (List._∷_ (10, Rows'.any-gone OfStation.spelt) (List._∷_ (11, Rows'.any-gone (Syntax.tyInt Syntax.w64)) (List._∷_ (12, Rows'.any-gone Syntax.tyUnit) (List._∷_ (13, Rows'.any-gone (Syntax.tyRef Syntax.erased Syntax.mut OfOutput.named)) (List._∷_ (14, Mut.mslice (OfOutput.row) (Syntax.tyRef Syntax.erased Syntax.mut OfOutput.named) 4) (List._∷_ (15, Rows'.any-gone (Syntax.tyRef Syntax.erased Syntax.mut OfOutput.named)) List.[])))))))))))))))
 
 abbrev pub t7 : List.List Row.Entry
-t7 = List._∷_ (0, Rows'.any-gone (Laws.mir)) (List._∷_ (1, Relend.mslice-owed (OfOutput.row) (Syntax.tyRef (Syntax.named 0) Syntax.mut OfOutput.named) 0 4 Row.off) (List._∷_ (2, Mut.mslice (OfStation.row) (Syntax.tyRef (Syntax.named 1) Syntax.mut OfStation.named) 1) (List._∷_ (3, Rows'.mref (Referent.rtF (Referent.fInt Syntax.w64)) (Syntax.tyRef (Syntax.named 2) Syntax.mut (Syntax.tyInt Syntax.w64)) 2) (List._∷_ (4, Rows'.sslice (Referent.rtF (Referent.fInt Syntax.w8)) (Syntax.tyRef (Syntax.named 3) Syntax.imm (Syntax.tyInt Syntax.w8)) 3) (List._∷_ (5, Rows'.sc-here (Row.sInt Syntax.w8)) (List._∷_ (6, Rows'.sc-here (Row.sInt Syntax.w32)) (List._∷_ (7, Rows'.sc-here (Row.sInt Syntax.w64)) (List._∷_ (8, Rows'.sc-here (Row.sInt Syntax.w8)) (List._∷_ (9, Rows'.whole (Declared.row Request.the-type)) (List._∷_ (10, Rows'.sc-here (Row.sInt Syntax.w64)) (List._∷_ (11, Rows'.any-gone (Laws.mir)) (List._∷_ (12, Rows'.any-gone OfStation.spelt) (List._∷_ (13, Rows'.any-gone (Syntax.tyInt Syntax.w64)) (List._∷_ (14, Rows'.sc-here Row.sUnit) (List._∷_ (15, Rows'.any-gone (Syntax.tyRef Syntax.erased Syntax.mut OfOutput.named)) List.[])))))))))))))))
+t7 = List._∷_ (0, Rows'.any-gone (Laws.mir)) (List._∷_ (1, Relend.mslice-owed (OfOutput.row) (Syntax.tyRef (Syntax.named 0) Syntax.mut OfOutput.named) 0 4 Row.off) (List._∷_ (2, Mut.mslice (OfStation.row) (Syntax.tyRef (Syntax.named 1) Syntax.mut OfStation.named) 1) (List._∷_ (3, Rows'.mref (Referent.rtF (Referent.fInt Syntax.w64)) (Syntax.tyRef (Syntax.named 2) Syntax.mut (Syntax.tyInt Syntax.w64)) 2) (List._∷_ (4, Rows'.sslice (Referent.rtF (Referent.fInt Syntax.w8)) (Syntax.tyRef (Syntax.named 3) Syntax.imm (Syntax.tyInt Syntax.w8)) 3) (List._∷_ (5, Rows'.whole (Declared'.row Call.the-type)) (List._∷_ (6, Rows'.sc-here (Row.sInt Syntax.w64)) (List._∷_ (7, Rows'.sc-here (Row.sInt Syntax.w64)) (List._∷_ (8, Rows'.any-gone (Laws''.mir)) (List._∷_ (9, Rows'.any-gone (Laws.mir)) (List._∷_ (10, Rows'.any-gone OfStation.spelt) (List._∷_ (11, Rows'.any-gone (Syntax.tyInt Syntax.w64)) (List._∷_ (12, Rows'.sc-here Row.sUnit) (List._∷_ (13, Rows'.any-gone (Syntax.tyRef Syntax.erased Syntax.mut OfOutput.named)) (List._∷_ (14, Mut.msleft (OfOutput.row) (Syntax.tyRef Syntax.erased Syntax.mut OfOutput.named)) (List._∷_ (15, Rows'.any-gone (Syntax.tyRef Syntax.erased Syntax.mut OfOutput.named)) List.[])))))))))))))))
 
 abbrev pub t8 : List.List Row.Entry
-t8 = List._∷_ (16, Mut.msleft (OfOutput.row) (Syntax.tyRef Syntax.erased Syntax.mut OfOutput.named)) (List._∷_ (17, Rows'.any-gone (Syntax.tyRef Syntax.erased Syntax.mut OfOutput.named)) (List._∷_ (18, Rows'.any-gone (Syntax.tyStruct (List._∷_ 38 (List._∷_ 91 (List._∷_ 93 List.[]))) (Syntax.tcons (Syntax.tyRef Syntax.erased Syntax.mut OfOutput.named) (Syntax.tcons (Syntax.tyInt Syntax.w64) Syntax.tnil)))) (List._∷_ (19, Rows'.any-gone (Syntax.tyInt Syntax.w64)) (List._∷_ (20, Rows'.any-gone Syntax.tyPtr) List.[]))))
+t8 = List._∷_ (0, Rows'.any-gone (Laws.mir)) (List._∷_ (1, Relend.mslice-owed (OfOutput.row) (Syntax.tyRef (Syntax.named 0) Syntax.mut OfOutput.named) 0 4 Row.off) (List._∷_ (2, Mut.mslice (OfStation.row) (Syntax.tyRef (Syntax.named 1) Syntax.mut OfStation.named) 1) (List._∷_ (3, Rows'.mref (Referent.rtF (Referent.fInt Syntax.w64)) (Syntax.tyRef (Syntax.named 2) Syntax.mut (Syntax.tyInt Syntax.w64)) 2) (List._∷_ (4, Rows'.sslice (Referent.rtF (Referent.fInt Syntax.w8)) (Syntax.tyRef (Syntax.named 3) Syntax.imm (Syntax.tyInt Syntax.w8)) 3) (List._∷_ (5, Rows'.whole (Declared'.row Call.the-type)) (List._∷_ (6, Rows'.sc-here (Row.sInt Syntax.w64)) (List._∷_ (7, Rows'.sc-here (Row.sInt Syntax.w64)) (List._∷_ (8, Rows'.any-gone (Laws''.mir)) (List._∷_ (9, Rows'.any-gone (Laws.mir)) (List._∷_ (10, Rows'.any-gone OfStation.spelt) (List._∷_ (11, Rows'.any-gone (Syntax.tyInt Syntax.w64)) (List._∷_ (12, Rows'.any-gone Syntax.tyUnit) (List._∷_ (13, Rows'.any-gone (Syntax.tyRef Syntax.erased Syntax.mut OfOutput.named)) (List._∷_ (14, Mut.msleft (OfOutput.row) (Syntax.tyRef Syntax.erased Syntax.mut OfOutput.named)) (List._∷_ (15, Rows'.any-gone (Syntax.tyRef Syntax.erased Syntax.mut OfOutput.named)) List.[])))))))))))))))
 
 abbrev pub t9 : List.List Row.Entry
-t9 = List._∷_ (0, Rows'.any-gone (Laws.mir)) (List._∷_ (1, Relend.mslice-owed (OfOutput.row) (Syntax.tyRef (Syntax.named 0) Syntax.mut OfOutput.named) 0 5 Row.off) (List._∷_ (2, Mut.mslice (OfStation.row) (Syntax.tyRef (Syntax.named 1) Syntax.mut OfStation.named) 1) (List._∷_ (3, Rows'.mref (Referent.rtF (Referent.fInt Syntax.w64)) (Syntax.tyRef (Syntax.named 2) Syntax.mut (Syntax.tyInt Syntax.w64)) 2) (List._∷_ (4, Rows'.sslice (Referent.rtF (Referent.fInt Syntax.w8)) (Syntax.tyRef (Syntax.named 3) Syntax.imm (Syntax.tyInt Syntax.w8)) 3) (List._∷_ (5, Rows'.sc-here (Row.sInt Syntax.w8)) (List._∷_ (6, Rows'.sc-here (Row.sInt Syntax.w32)) (List._∷_ (7, Rows'.sc-here (Row.sInt Syntax.w64)) (List._∷_ (8, Rows'.sc-here (Row.sInt Syntax.w8)) (List._∷_ (9, Rows'.whole (Declared.row Request.the-type)) (List._∷_ (10, Rows'.sc-here (Row.sInt Syntax.w64)) (List._∷_ (11, Rows'.any-gone (Laws.mir)) (List._∷_ (12, Rows'.any-gone OfStation.spelt) (List._∷_ (13, Rows'.any-gone (Syntax.tyInt Syntax.w64)) (List._∷_ (14, Rows'.any-gone Syntax.tyUnit) (List._∷_ (15, Rows'.any-gone (Syntax.tyRef Syntax.erased Syntax.mut OfOutput.named)) List.[])))))))))))))))
+t9 = List._∷_ (0, Rows'.any-gone (Laws.mir)) (List._∷_ (1, Mut.mslice (OfOutput.row) (Syntax.tyRef (Syntax.named 0) Syntax.mut OfOutput.named) 0) (List._∷_ (2, Mut.mslice (OfStation.row) (Syntax.tyRef (Syntax.named 1) Syntax.mut OfStation.named) 1) (List._∷_ (3, Rows'.mref (Referent.rtF (Referent.fInt Syntax.w64)) (Syntax.tyRef (Syntax.named 2) Syntax.mut (Syntax.tyInt Syntax.w64)) 2) (List._∷_ (4, Rows'.sslice (Referent.rtF (Referent.fInt Syntax.w8)) (Syntax.tyRef (Syntax.named 3) Syntax.imm (Syntax.tyInt Syntax.w8)) 3) (List._∷_ (5, Rows'.whole (Declared'.row Call.the-type)) (List._∷_ (6, Rows'.sc-here (Row.sInt Syntax.w64)) (List._∷_ (7, Rows'.sc-here (Row.sInt Syntax.w64)) (List._∷_ (8, Rows'.whole (Declared.row Request.the-type)) (List._∷_ (9, Rows'.any-gone (Laws.mir)) (List._∷_ (10, Rows'.any-gone OfStation.spelt) (List._∷_ (11, Rows'.any-gone (Syntax.tyInt Syntax.w64)) (List._∷_ (12, Rows'.any-gone Syntax.tyUnit) (List._∷_ (13, Rows'.any-gone (Syntax.tyRef Syntax.erased Syntax.mut OfOutput.named)) (List._∷_ (14, Rows'.any-gone (Syntax.tyStruct (List._∷_ 38 (List._∷_ 91 (List._∷_ 93 List.[]))) (Syntax.tcons (Syntax.tyRef Syntax.erased Syntax.mut OfOutput.named) (Syntax.tcons (Syntax.tyInt Syntax.w64) Syntax.tnil)))) (List._∷_ (15, Rows'.any-gone (Syntax.tyRef Syntax.erased Syntax.mut OfOutput.named)) List.[])))))))))))))))
 
 abbrev pub t10 : List.List Row.Entry
-t10 = List._∷_ (16, Rows'.any-gone (Syntax.tyStruct (List._∷_ 38 (List._∷_ 91 (List._∷_ 93 List.[]))) (Syntax.tcons (Syntax.tyRef Syntax.erased Syntax.mut OfOutput.named) (Syntax.tcons (Syntax.tyInt Syntax.w64) Syntax.tnil)))) (List._∷_ (17, Relend.msptr (OfOutput.row) (Syntax.tyRef Syntax.erased Syntax.mut OfOutput.named) 5) (List._∷_ (18, Rows'.any-gone (Syntax.tyStruct (List._∷_ 38 (List._∷_ 91 (List._∷_ 93 List.[]))) (Syntax.tcons (Syntax.tyRef Syntax.erased Syntax.mut OfOutput.named) (Syntax.tcons (Syntax.tyInt Syntax.w64) Syntax.tnil)))) (List._∷_ (19, Rows'.any-gone (Syntax.tyInt Syntax.w64)) (List._∷_ (20, Rows'.any-gone Syntax.tyPtr) List.[]))))
+t10 = List._∷_ (0, Rows'.any-gone (Laws.mir)) (List._∷_ (1, Relend.mslice-owed (OfOutput.row) (Syntax.tyRef (Syntax.named 0) Syntax.mut OfOutput.named) 0 5 Row.off) (List._∷_ (2, Mut.mslice (OfStation.row) (Syntax.tyRef (Syntax.named 1) Syntax.mut OfStation.named) 1) (List._∷_ (3, Rows'.mref (Referent.rtF (Referent.fInt Syntax.w64)) (Syntax.tyRef (Syntax.named 2) Syntax.mut (Syntax.tyInt Syntax.w64)) 2) (List._∷_ (4, Rows'.sslice (Referent.rtF (Referent.fInt Syntax.w8)) (Syntax.tyRef (Syntax.named 3) Syntax.imm (Syntax.tyInt Syntax.w8)) 3) (List._∷_ (5, Rows'.whole (Declared'.row Call.the-type)) (List._∷_ (6, Rows'.sc-here (Row.sInt Syntax.w64)) (List._∷_ (7, Rows'.sc-here (Row.sInt Syntax.w64)) (List._∷_ (8, Rows'.whole (Declared.row Request.the-type)) (List._∷_ (9, Rows'.any-gone (Laws.mir)) (List._∷_ (10, Rows'.any-gone OfStation.spelt) (List._∷_ (11, Rows'.any-gone (Syntax.tyInt Syntax.w64)) (List._∷_ (12, Rows'.any-gone Syntax.tyUnit) (List._∷_ (13, Rows'.any-gone (Syntax.tyRef Syntax.erased Syntax.mut OfOutput.named)) (List._∷_ (14, Rows'.any-gone (Syntax.tyStruct (List._∷_ 38 (List._∷_ 91 (List._∷_ 93 List.[]))) (Syntax.tcons (Syntax.tyRef Syntax.erased Syntax.mut OfOutput.named) (Syntax.tcons (Syntax.tyInt Syntax.w64) Syntax.tnil)))) (List._∷_ (15, Relend.msptr (OfOutput.row) (Syntax.tyRef Syntax.erased Syntax.mut OfOutput.named) 5) List.[])))))))))))))))
 
 abbrev pub t11 : List.List Row.Entry
-t11 = List._∷_ (16, Rows'.any-gone (Syntax.tyStruct (List._∷_ 38 (List._∷_ 91 (List._∷_ 93 List.[]))) (Syntax.tcons (Syntax.tyRef Syntax.erased Syntax.mut OfOutput.named) (Syntax.tcons (Syntax.tyInt Syntax.w64) Syntax.tnil)))) (List._∷_ (17, Rows'.any-gone (Syntax.tyRef Syntax.erased Syntax.mut OfOutput.named)) (List._∷_ (18, Mut.mslice (OfOutput.row) (Syntax.tyRef Syntax.erased Syntax.mut OfOutput.named) 5) (List._∷_ (19, Rows'.any-gone (Syntax.tyInt Syntax.w64)) (List._∷_ (20, Rows'.any-gone Syntax.tyPtr) List.[]))))
+t11 = List._∷_ (0, Rows'.any-gone (Laws.mir)) (List._∷_ (1, Relend.mslice-owed (OfOutput.row) (Syntax.tyRef (Syntax.named 0) Syntax.mut OfOutput.named) 0 5 Row.off) (List._∷_ (2, Mut.mslice (OfStation.row) (Syntax.tyRef (Syntax.named 1) Syntax.mut OfStation.named) 1) (List._∷_ (3, Rows'.mref (Referent.rtF (Referent.fInt Syntax.w64)) (Syntax.tyRef (Syntax.named 2) Syntax.mut (Syntax.tyInt Syntax.w64)) 2) (List._∷_ (4, Rows'.sslice (Referent.rtF (Referent.fInt Syntax.w8)) (Syntax.tyRef (Syntax.named 3) Syntax.imm (Syntax.tyInt Syntax.w8)) 3) (List._∷_ (5, Rows'.whole (Declared'.row Call.the-type)) (List._∷_ (6, Rows'.sc-here (Row.sInt Syntax.w64)) (List._∷_ (7, Rows'.sc-here (Row.sInt Syntax.w64)) (List._∷_ (8, Rows'.whole (Declared.row Request.the-type)) (List._∷_ (9, Rows'.any-gone (Laws.mir)) (List._∷_ (10, Rows'.any-gone OfStation.spelt) (List._∷_ (11, Rows'.any-gone (Syntax.tyInt Syntax.w64)) (List._∷_ (12, Rows'.any-gone Syntax.tyUnit) (List._∷_ (13, Rows'.any-gone (Syntax.tyRef Syntax.erased Syntax.mut OfOutput.named)) (List._∷_ (14, Rows'.any-gone (Syntax.tyStruct (List._∷_ 38 (List._∷_ 91 (List._∷_ 93 List.[]))) (Syntax.tcons (Syntax.tyRef Syntax.erased Syntax.mut OfOutput.named) (Syntax.tcons (Syntax.tyInt Syntax.w64) Syntax.tnil)))) (List._∷_ (15, Rows'.any-gone (Syntax.tyRef Syntax.erased Syntax.mut OfOutput.named)) List.[])))))))))))))))
 
 abbrev pub t12 : List.List Row.Entry
-t12 = List._∷_ (16, Rows'.any-gone (Syntax.tyStruct (List._∷_ 38 (List._∷_ 91 (List._∷_ 93 List.[]))) (Syntax.tcons (Syntax.tyRef Syntax.erased Syntax.mut OfOutput.named) (Syntax.tcons (Syntax.tyInt Syntax.w64) Syntax.tnil)))) (List._∷_ (17, Rows'.any-gone (Syntax.tyRef Syntax.erased Syntax.mut OfOutput.named)) (List._∷_ (18, Mut.mslice (OfOutput.row) (Syntax.tyRef Syntax.erased Syntax.mut OfOutput.named) 5) (List._∷_ (19, Rows'.sc-here (Row.sInt Syntax.w64)) (List._∷_ (20, Rows'.any-gone Syntax.tyPtr) List.[]))))
+t12 = List._∷_ (16, Mut.mslice (OfOutput.row) (Syntax.tyRef Syntax.erased Syntax.mut OfOutput.named) 5) (List._∷_ (17, Rows'.any-gone (Syntax.tyInt Syntax.w64)) (List._∷_ (18, Rows'.any-gone Syntax.tyPtr) List.[]))
 
 abbrev pub t13 : List.List Row.Entry
-t13 = List._∷_ (0, Rows'.any-gone (Laws.mir)) (List._∷_ (1, Relend.mslice-owed (OfOutput.row) (Syntax.tyRef (Syntax.named 0) Syntax.mut OfOutput.named) 0 5 Row.off) (List._∷_ (2, Mut.mslice (OfStation.row) (Syntax.tyRef (Syntax.named 1) Syntax.mut OfStation.named) 1) (List._∷_ (3, Rows'.mref (Referent.rtF (Referent.fInt Syntax.w64)) (Syntax.tyRef (Syntax.named 2) Syntax.mut (Syntax.tyInt Syntax.w64)) 2) (List._∷_ (4, Rows'.sslice (Referent.rtF (Referent.fInt Syntax.w8)) (Syntax.tyRef (Syntax.named 3) Syntax.imm (Syntax.tyInt Syntax.w8)) 3) (List._∷_ (5, Rows'.sc-here (Row.sInt Syntax.w8)) (List._∷_ (6, Rows'.sc-here (Row.sInt Syntax.w32)) (List._∷_ (7, Rows'.sc-here (Row.sInt Syntax.w64)) (List._∷_ (8, Rows'.sc-here (Row.sInt Syntax.w8)) (List._∷_ (9, Rows'.whole (Declared.row Request.the-type)) (List._∷_ (10, Rows'.sc-here (Row.sInt Syntax.w64)) (List._∷_ (11, Rows'.whole (Declared.row Answer.the-type)) (List._∷_ (12, Rows'.any-gone OfStation.spelt) (List._∷_ (13, Rows'.any-gone (Syntax.tyInt Syntax.w64)) (List._∷_ (14, Rows'.any-gone Syntax.tyUnit) (List._∷_ (15, Rows'.any-gone (Syntax.tyRef Syntax.erased Syntax.mut OfOutput.named)) List.[])))))))))))))))
+t13 = List._∷_ (16, Mut.mslice (OfOutput.row) (Syntax.tyRef Syntax.erased Syntax.mut OfOutput.named) 5) (List._∷_ (17, Rows'.sc-here (Row.sInt Syntax.w64)) (List._∷_ (18, Rows'.any-gone Syntax.tyPtr) List.[]))
 
 abbrev pub t14 : List.List Row.Entry
-t14 = List._∷_ (16, Rows'.any-gone (Syntax.tyStruct (List._∷_ 38 (List._∷_ 91 (List._∷_ 93 List.[]))) (Syntax.tcons (Syntax.tyRef Syntax.erased Syntax.mut OfOutput.named) (Syntax.tcons (Syntax.tyInt Syntax.w64) Syntax.tnil)))) (List._∷_ (17, Rows'.any-gone (Syntax.tyRef Syntax.erased Syntax.mut OfOutput.named)) (List._∷_ (18, Mut.msleft (OfOutput.row) (Syntax.tyRef Syntax.erased Syntax.mut OfOutput.named)) (List._∷_ (19, Rows'.sc-here (Row.sInt Syntax.w64)) (List._∷_ (20, Rows'.any-gone Syntax.tyPtr) List.[]))))
+t14 = List._∷_ (0, Rows'.any-gone (Laws.mir)) (List._∷_ (1, Relend.mslice-owed (OfOutput.row) (Syntax.tyRef (Syntax.named 0) Syntax.mut OfOutput.named) 0 5 Row.off) (List._∷_ (2, Mut.mslice (OfStation.row) (Syntax.tyRef (Syntax.named 1) Syntax.mut OfStation.named) 1) (List._∷_ (3, Rows'.mref (Referent.rtF (Referent.fInt Syntax.w64)) (Syntax.tyRef (Syntax.named 2) Syntax.mut (Syntax.tyInt Syntax.w64)) 2) (List._∷_ (4, Rows'.sslice (Referent.rtF (Referent.fInt Syntax.w8)) (Syntax.tyRef (Syntax.named 3) Syntax.imm (Syntax.tyInt Syntax.w8)) 3) (List._∷_ (5, Rows'.whole (Declared'.row Call.the-type)) (List._∷_ (6, Rows'.sc-here (Row.sInt Syntax.w64)) (List._∷_ (7, Rows'.sc-here (Row.sInt Syntax.w64)) (List._∷_ (8, Rows'.whole (Declared.row Request.the-type)) (List._∷_ (9, Rows'.whole (Declared.row Answer.the-type)) (List._∷_ (10, Rows'.any-gone OfStation.spelt) (List._∷_ (11, Rows'.any-gone (Syntax.tyInt Syntax.w64)) (List._∷_ (12, Rows'.any-gone Syntax.tyUnit) (List._∷_ (13, Rows'.any-gone (Syntax.tyRef Syntax.erased Syntax.mut OfOutput.named)) (List._∷_ (14, Rows'.any-gone (Syntax.tyStruct (List._∷_ 38 (List._∷_ 91 (List._∷_ 93 List.[]))) (Syntax.tcons (Syntax.tyRef Syntax.erased Syntax.mut OfOutput.named) (Syntax.tcons (Syntax.tyInt Syntax.w64) Syntax.tnil)))) (List._∷_ (15, Rows'.any-gone (Syntax.tyRef Syntax.erased Syntax.mut OfOutput.named)) List.[])))))))))))))))
 
 abbrev pub t15 : List.List Row.Entry
-t15 = List._∷_ (0, Rows'.any-gone (Laws.mir)) (List._∷_ (1, Relend.mslice-owed (OfOutput.row) (Syntax.tyRef (Syntax.named 0) Syntax.mut OfOutput.named) 0 5 Row.off) (List._∷_ (2, Mut.mslice (OfStation.row) (Syntax.tyRef (Syntax.named 1) Syntax.mut OfStation.named) 1) (List._∷_ (3, Rows'.mref (Referent.rtF (Referent.fInt Syntax.w64)) (Syntax.tyRef (Syntax.named 2) Syntax.mut (Syntax.tyInt Syntax.w64)) 2) (List._∷_ (4, Rows'.sslice (Referent.rtF (Referent.fInt Syntax.w8)) (Syntax.tyRef (Syntax.named 3) Syntax.imm (Syntax.tyInt Syntax.w8)) 3) (List._∷_ (5, Rows'.sc-here (Row.sInt Syntax.w8)) (List._∷_ (6, Rows'.sc-here (Row.sInt Syntax.w32)) (List._∷_ (7, Rows'.sc-here (Row.sInt Syntax.w64)) (List._∷_ (8, Rows'.sc-here (Row.sInt Syntax.w8)) (List._∷_ (9, Rows'.any-gone (Laws'.mir)) (List._∷_ (10, Rows'.sc-here (Row.sInt Syntax.w64)) (List._∷_ (11, Rows'.whole (Declared.row Answer.the-type)) (List._∷_ (12, Rows'.any-gone OfStation.spelt) (List._∷_ (13, Rows'.any-gone (Syntax.tyInt Syntax.w64)) (List._∷_ (14, Rows'.any-gone Syntax.tyUnit) (List._∷_ (15, Rows'.any-gone (Syntax.tyRef Syntax.erased Syntax.mut OfOutput.named)) List.[])))))))))))))))
+t15 = List._∷_ (16, Mut.msleft (OfOutput.row) (Syntax.tyRef Syntax.erased Syntax.mut OfOutput.named)) (List._∷_ (17, Rows'.sc-here (Row.sInt Syntax.w64)) (List._∷_ (18, Rows'.any-gone Syntax.tyPtr) List.[]))
 
 abbrev pub t16 : List.List Row.Entry
-t16 = List._∷_ (16, Rows'.any-gone (Syntax.tyStruct (List._∷_ 38 (List._∷_ 91 (List._∷_ 93 List.[]))) (Syntax.tcons (Syntax.tyRef Syntax.erased Syntax.mut OfOutput.named) (Syntax.tcons (Syntax.tyInt Syntax.w64) Syntax.tnil)))) (List._∷_ (17, Rows'.any-gone (Syntax.tyRef Syntax.erased Syntax.mut OfOutput.named)) (List._∷_ (18, Mut.msleft (OfOutput.row) (Syntax.tyRef Syntax.erased Syntax.mut OfOutput.named)) (List._∷_ (19, Rows'.any-gone (Syntax.tyInt Syntax.w64)) (List._∷_ (20, Rows'.any-gone Syntax.tyPtr) List.[]))))
+t16 = List._∷_ (0, Rows'.any-gone (Laws.mir)) (List._∷_ (1, Relend.mslice-owed (OfOutput.row) (Syntax.tyRef (Syntax.named 0) Syntax.mut OfOutput.named) 0 5 Row.off) (List._∷_ (2, Mut.mslice (OfStation.row) (Syntax.tyRef (Syntax.named 1) Syntax.mut OfStation.named) 1) (List._∷_ (3, Rows'.mref (Referent.rtF (Referent.fInt Syntax.w64)) (Syntax.tyRef (Syntax.named 2) Syntax.mut (Syntax.tyInt Syntax.w64)) 2) (List._∷_ (4, Rows'.sslice (Referent.rtF (Referent.fInt Syntax.w8)) (Syntax.tyRef (Syntax.named 3) Syntax.imm (Syntax.tyInt Syntax.w8)) 3) (List._∷_ (5, Rows'.whole (Declared'.row Call.the-type)) (List._∷_ (6, Rows'.sc-here (Row.sInt Syntax.w64)) (List._∷_ (7, Rows'.sc-here (Row.sInt Syntax.w64)) (List._∷_ (8, Rows'.any-gone (Laws''.mir)) (List._∷_ (9, Rows'.whole (Declared.row Answer.the-type)) (List._∷_ (10, Rows'.any-gone OfStation.spelt) (List._∷_ (11, Rows'.any-gone (Syntax.tyInt Syntax.w64)) (List._∷_ (12, Rows'.any-gone Syntax.tyUnit) (List._∷_ (13, Rows'.any-gone (Syntax.tyRef Syntax.erased Syntax.mut OfOutput.named)) (List._∷_ (14, Rows'.any-gone (Syntax.tyStruct (List._∷_ 38 (List._∷_ 91 (List._∷_ 93 List.[]))) (Syntax.tcons (Syntax.tyRef Syntax.erased Syntax.mut OfOutput.named) (Syntax.tcons (Syntax.tyInt Syntax.w64) Syntax.tnil)))) (List._∷_ (15, Rows'.any-gone (Syntax.tyRef Syntax.erased Syntax.mut OfOutput.named)) List.[])))))))))))))))
 
 abbrev pub t17 : List.List Row.Entry
-t17 = List._∷_ (0, Rows'.any-gone (Laws.mir)) (List._∷_ (1, Mut.mslice (OfOutput.row) (Syntax.tyRef (Syntax.named 0) Syntax.mut OfOutput.named) 0) (List._∷_ (2, Mut.mslice (OfStation.row) (Syntax.tyRef (Syntax.named 1) Syntax.mut OfStation.named) 1) (List._∷_ (3, Rows'.mref (Referent.rtF (Referent.fInt Syntax.w64)) (Syntax.tyRef (Syntax.named 2) Syntax.mut (Syntax.tyInt Syntax.w64)) 2) (List._∷_ (4, Rows'.sslice (Referent.rtF (Referent.fInt Syntax.w8)) (Syntax.tyRef (Syntax.named 3) Syntax.imm (Syntax.tyInt Syntax.w8)) 3) (List._∷_ (5, Rows'.sc-here (Row.sInt Syntax.w8)) (List._∷_ (6, Rows'.sc-here (Row.sInt Syntax.w32)) (List._∷_ (7, Rows'.sc-here (Row.sInt Syntax.w64)) (List._∷_ (8, Rows'.sc-here (Row.sInt Syntax.w8)) (List._∷_ (9, Rows'.any-gone (Laws'.mir)) (List._∷_ (10, Rows'.sc-here (Row.sInt Syntax.w64)) (List._∷_ (11, Rows'.whole (Declared.row Answer.the-type)) (List._∷_ (12, Rows'.any-gone OfStation.spelt) (List._∷_ (13, Rows'.any-gone (Syntax.tyInt Syntax.w64)) (List._∷_ (14, Rows'.any-gone Syntax.tyUnit) (List._∷_ (15, Rows'.any-gone (Syntax.tyRef Syntax.erased Syntax.mut OfOutput.named)) List.[])))))))))))))))
+t17 = List._∷_ (16, Mut.msleft (OfOutput.row) (Syntax.tyRef Syntax.erased Syntax.mut OfOutput.named)) (List._∷_ (17, Rows'.any-gone (Syntax.tyInt Syntax.w64)) (List._∷_ (18, Rows'.any-gone Syntax.tyPtr) List.[]))
 
 abbrev pub t18 : List.List Row.Entry
-t18 = List._∷_ (0, Rows'.any-gone (Laws.mir)) (List._∷_ (1, Mut.mslice (OfOutput.row) (Syntax.tyRef (Syntax.named 0) Syntax.mut OfOutput.named) 0) (List._∷_ (2, Mut.mslice (OfStation.row) (Syntax.tyRef (Syntax.named 1) Syntax.mut OfStation.named) 1) (List._∷_ (3, Rows'.mref (Referent.rtF (Referent.fInt Syntax.w64)) (Syntax.tyRef (Syntax.named 2) Syntax.mut (Syntax.tyInt Syntax.w64)) 2) (List._∷_ (4, Rows'.sslice (Referent.rtF (Referent.fInt Syntax.w8)) (Syntax.tyRef (Syntax.named 3) Syntax.imm (Syntax.tyInt Syntax.w8)) 3) (List._∷_ (5, Rows'.sc-here (Row.sInt Syntax.w8)) (List._∷_ (6, Rows'.sc-here (Row.sInt Syntax.w32)) (List._∷_ (7, Rows'.sc-here (Row.sInt Syntax.w64)) (List._∷_ (8, Rows'.sc-here (Row.sInt Syntax.w8)) (List._∷_ (9, Rows'.any-gone (Laws'.mir)) (List._∷_ (10, Rows'.sc-here (Row.sInt Syntax.w64)) (List._∷_ (11, Rows'.whole (Declared.row Answer.the-type)) (List._∷_ (12, OfStation.held) (List._∷_ (13, Rows'.any-gone (Syntax.tyInt Syntax.w64)) (List._∷_ (14, Rows'.any-gone Syntax.tyUnit) (List._∷_ (15, Rows'.any-gone (Syntax.tyRef Syntax.erased Syntax.mut OfOutput.named)) List.[])))))))))))))))
+t18 = List._∷_ (0, Rows'.any-gone (Laws.mir)) (List._∷_ (1, Mut.mslice (OfOutput.row) (Syntax.tyRef (Syntax.named 0) Syntax.mut OfOutput.named) 0) (List._∷_ (2, Mut.mslice (OfStation.row) (Syntax.tyRef (Syntax.named 1) Syntax.mut OfStation.named) 1) (List._∷_ (3, Rows'.mref (Referent.rtF (Referent.fInt Syntax.w64)) (Syntax.tyRef (Syntax.named 2) Syntax.mut (Syntax.tyInt Syntax.w64)) 2) (List._∷_ (4, Rows'.sslice (Referent.rtF (Referent.fInt Syntax.w8)) (Syntax.tyRef (Syntax.named 3) Syntax.imm (Syntax.tyInt Syntax.w8)) 3) (List._∷_ (5, Rows'.whole (Declared'.row Call.the-type)) (List._∷_ (6, Rows'.sc-here (Row.sInt Syntax.w64)) (List._∷_ (7, Rows'.sc-here (Row.sInt Syntax.w64)) (List._∷_ (8, Rows'.any-gone (Laws''.mir)) (List._∷_ (9, Rows'.whole (Declared.row Answer.the-type)) (List._∷_ (10, Rows'.any-gone OfStation.spelt) (List._∷_ (11, Rows'.any-gone (Syntax.tyInt Syntax.w64)) (List._∷_ (12, Rows'.any-gone Syntax.tyUnit) (List._∷_ (13, Rows'.any-gone (Syntax.tyRef Syntax.erased Syntax.mut OfOutput.named)) (List._∷_ (14, Rows'.any-gone (Syntax.tyStruct (List._∷_ 38 (List._∷_ 91 (List._∷_ 93 List.[]))) (Syntax.tcons (Syntax.tyRef Syntax.erased Syntax.mut OfOutput.named) (Syntax.tcons (Syntax.tyInt Syntax.w64) Syntax.tnil)))) (List._∷_ (15, Rows'.any-gone (Syntax.tyRef Syntax.erased Syntax.mut OfOutput.named)) List.[])))))))))))))))
 
 abbrev pub t19 : List.List Row.Entry
-t19 = List._∷_ (0, Rows'.any-gone (Laws.mir)) (List._∷_ (1, Mut.mslice (OfOutput.row) (Syntax.tyRef (Syntax.named 0) Syntax.mut OfOutput.named) 0) (List._∷_ (2, Mut.mslice (OfStation.row) (Syntax.tyRef (Syntax.named 1) Syntax.mut OfStation.named) 1) (List._∷_ (3, Rows'.mref (Referent.rtF (Referent.fInt Syntax.w64)) (Syntax.tyRef (Syntax.named 2) Syntax.mut (Syntax.tyInt Syntax.w64)) 2) (List._∷_ (4, Rows'.sslice (Referent.rtF (Referent.fInt Syntax.w8)) (Syntax.tyRef (Syntax.named 3) Syntax.imm (Syntax.tyInt Syntax.w8)) 3) (List._∷_ (5, Rows'.sc-here (Row.sInt Syntax.w8)) (List._∷_ (6, Rows'.sc-here (Row.sInt Syntax.w32)) (List._∷_ (7, Rows'.sc-here (Row.sInt Syntax.w64)) (List._∷_ (8, Rows'.sc-here (Row.sInt Syntax.w8)) (List._∷_ (9, Rows'.any-gone (Laws'.mir)) (List._∷_ (10, Rows'.sc-here (Row.sInt Syntax.w64)) (List._∷_ (11, Rows'.whole (Declared.row Answer.the-type)) (List._∷_ (12, OfStation.held) (List._∷_ (13, Rows'.sc-here (Row.sInt Syntax.w64)) (List._∷_ (14, Rows'.any-gone Syntax.tyUnit) (List._∷_ (15, Rows'.any-gone (Syntax.tyRef Syntax.erased Syntax.mut OfOutput.named)) List.[])))))))))))))))
+t19 = List._∷_ (0, Rows'.any-gone (Laws.mir)) (List._∷_ (1, Mut.mslice (OfOutput.row) (Syntax.tyRef (Syntax.named 0) Syntax.mut OfOutput.named) 0) (List._∷_ (2, Mut.mslice (OfStation.row) (Syntax.tyRef (Syntax.named 1) Syntax.mut OfStation.named) 1) (List._∷_ (3, Rows'.mref (Referent.rtF (Referent.fInt Syntax.w64)) (Syntax.tyRef (Syntax.named 2) Syntax.mut (Syntax.tyInt Syntax.w64)) 2) (List._∷_ (4, Rows'.sslice (Referent.rtF (Referent.fInt Syntax.w8)) (Syntax.tyRef (Syntax.named 3) Syntax.imm (Syntax.tyInt Syntax.w8)) 3) (List._∷_ (5, Rows'.whole (Declared'.row Call.the-type)) (List._∷_ (6, Rows'.sc-here (Row.sInt Syntax.w64)) (List._∷_ (7, Rows'.sc-here (Row.sInt Syntax.w64)) (List._∷_ (8, Rows'.any-gone (Laws''.mir)) (List._∷_ (9, Rows'.whole (Declared.row Answer.the-type)) (List._∷_ (10, OfStation.held) (List._∷_ (11, Rows'.any-gone (Syntax.tyInt Syntax.w64)) (List._∷_ (12, Rows'.any-gone Syntax.tyUnit) (List._∷_ (13, Rows'.any-gone (Syntax.tyRef Syntax.erased Syntax.mut OfOutput.named)) (List._∷_ (14, Rows'.any-gone (Syntax.tyStruct (List._∷_ 38 (List._∷_ 91 (List._∷_ 93 List.[]))) (Syntax.tcons (Syntax.tyRef Syntax.erased Syntax.mut OfOutput.named) (Syntax.tcons (Syntax.tyInt Syntax.w64) Syntax.tnil)))) (List._∷_ (15, Rows'.any-gone (Syntax.tyRef Syntax.erased Syntax.mut OfOutput.named)) List.[])))))))))))))))
 
 abbrev pub t20 : List.List Row.Entry
-t20 = List._∷_ (16, Rows'.any-gone (Syntax.tyStruct (List._∷_ 38 (List._∷_ 91 (List._∷_ 93 List.[]))) (Syntax.tcons (Syntax.tyRef Syntax.erased Syntax.mut OfOutput.named) (Syntax.tcons (Syntax.tyInt Syntax.w64) Syntax.tnil)))) (List._∷_ (17, Rows'.any-gone (Syntax.tyRef Syntax.erased Syntax.mut OfOutput.named)) (List._∷_ (18, Rows'.any-gone (Syntax.tyStruct (List._∷_ 38 (List._∷_ 91 (List._∷_ 93 List.[]))) (Syntax.tcons (Syntax.tyRef Syntax.erased Syntax.mut OfOutput.named) (Syntax.tcons (Syntax.tyInt Syntax.w64) Syntax.tnil)))) (List._∷_ (19, Rows'.sc-here (Row.sInt Syntax.w64)) (List._∷_ (20, Rows'.any-gone Syntax.tyPtr) List.[]))))
+t20 = List._∷_ (0, Rows'.any-gone (Laws.mir)) (List._∷_ (1, Mut.mslice (OfOutput.row) (Syntax.tyRef (Syntax.named 0) Syntax.mut OfOutput.named) 0) (List._∷_ (2, Mut.mslice (OfStation.row) (Syntax.tyRef (Syntax.named 1) Syntax.mut OfStation.named) 1) (List._∷_ (3, Rows'.mref (Referent.rtF (Referent.fInt Syntax.w64)) (Syntax.tyRef (Syntax.named 2) Syntax.mut (Syntax.tyInt Syntax.w64)) 2) (List._∷_ (4, Rows'.sslice (Referent.rtF (Referent.fInt Syntax.w8)) (Syntax.tyRef (Syntax.named 3) Syntax.imm (Syntax.tyInt Syntax.w8)) 3) (List._∷_ (5, Rows'.whole (Declared'.row Call.the-type)) (List._∷_ (6, Rows'.sc-here (Row.sInt Syntax.w64)) (List._∷_ (7, Rows'.sc-here (Row.sInt Syntax.w64)) (List._∷_ (8, Rows'.any-gone (Laws''.mir)) (List._∷_ (9, Rows'.whole (Declared.row Answer.the-type)) (List._∷_ (10, OfStation.held) (List._∷_ (11, Rows'.sc-here (Row.sInt Syntax.w64)) (List._∷_ (12, Rows'.any-gone Syntax.tyUnit) (List._∷_ (13, Rows'.any-gone (Syntax.tyRef Syntax.erased Syntax.mut OfOutput.named)) (List._∷_ (14, Rows'.any-gone (Syntax.tyStruct (List._∷_ 38 (List._∷_ 91 (List._∷_ 93 List.[]))) (Syntax.tcons (Syntax.tyRef Syntax.erased Syntax.mut OfOutput.named) (Syntax.tcons (Syntax.tyInt Syntax.w64) Syntax.tnil)))) (List._∷_ (15, Rows'.any-gone (Syntax.tyRef Syntax.erased Syntax.mut OfOutput.named)) List.[])))))))))))))))
 
 abbrev pub t21 : List.List Row.Entry
-t21 = List._∷_ (16, Rows'.any-gone (Syntax.tyStruct (List._∷_ 38 (List._∷_ 91 (List._∷_ 93 List.[]))) (Syntax.tcons (Syntax.tyRef Syntax.erased Syntax.mut OfOutput.named) (Syntax.tcons (Syntax.tyInt Syntax.w64) Syntax.tnil)))) (List._∷_ (17, Rows'.any-gone (Syntax.tyRef Syntax.erased Syntax.mut OfOutput.named)) (List._∷_ (18, Rows'.any-gone (Syntax.tyStruct (List._∷_ 38 (List._∷_ 91 (List._∷_ 93 List.[]))) (Syntax.tcons (Syntax.tyRef Syntax.erased Syntax.mut OfOutput.named) (Syntax.tcons (Syntax.tyInt Syntax.w64) Syntax.tnil)))) (List._∷_ (19, Rows'.sc-here (Row.sInt Syntax.w64)) (List._∷_ (20, Rows'.sc-here Row.sPtr) List.[]))))
+t21 = List._∷_ (0, Rows'.any-gone (Laws.mir)) (List._∷_ (1, Mut.mslice (OfOutput.row) (Syntax.tyRef (Syntax.named 0) Syntax.mut OfOutput.named) 0) (List._∷_ (2, Mut.mslice (OfStation.row) (Syntax.tyRef (Syntax.named 1) Syntax.mut OfStation.named) 1) (List._∷_ (3, Rows'.mref (Referent.rtF (Referent.fInt Syntax.w64)) (Syntax.tyRef (Syntax.named 2) Syntax.mut (Syntax.tyInt Syntax.w64)) 2) (List._∷_ (4, Rows'.sslice (Referent.rtF (Referent.fInt Syntax.w8)) (Syntax.tyRef (Syntax.named 3) Syntax.imm (Syntax.tyInt Syntax.w8)) 3) (List._∷_ (5, Rows'.any-gone (Laws'.mir)) (List._∷_ (6, Rows'.sc-here (Row.sInt Syntax.w64)) (List._∷_ (7, Rows'.sc-here (Row.sInt Syntax.w64)) (List._∷_ (8, Rows'.any-gone (Laws''.mir)) (List._∷_ (9, Rows'.whole (Declared.row Answer.the-type)) (List._∷_ (10, OfStation.held) (List._∷_ (11, Rows'.sc-here (Row.sInt Syntax.w64)) (List._∷_ (12, Rows'.any-gone Syntax.tyUnit) (List._∷_ (13, Rows'.any-gone (Syntax.tyRef Syntax.erased Syntax.mut OfOutput.named)) (List._∷_ (14, Rows'.any-gone (Syntax.tyStruct (List._∷_ 38 (List._∷_ 91 (List._∷_ 93 List.[]))) (Syntax.tcons (Syntax.tyRef Syntax.erased Syntax.mut OfOutput.named) (Syntax.tcons (Syntax.tyInt Syntax.w64) Syntax.tnil)))) (List._∷_ (15, Rows'.any-gone (Syntax.tyRef Syntax.erased Syntax.mut OfOutput.named)) List.[])))))))))))))))
 
 abbrev pub t22 : List.List Row.Entry
-t22 = List._∷_ (0, Rows'.any-gone (Laws.mir)) (List._∷_ (1, Mut.mslice (OfOutput.row) (Syntax.tyRef (Syntax.named 0) Syntax.mut OfOutput.named) 0) (List._∷_ (2, Mut.mslice (OfStation.row) (Syntax.tyRef (Syntax.named 1) Syntax.mut OfStation.named) 1) (List._∷_ (3, Rows'.mref (Referent.rtF (Referent.fInt Syntax.w64)) (Syntax.tyRef (Syntax.named 2) Syntax.mut (Syntax.tyInt Syntax.w64)) 2) (List._∷_ (4, Rows'.sslice (Referent.rtF (Referent.fInt Syntax.w8)) (Syntax.tyRef (Syntax.named 3) Syntax.imm (Syntax.tyInt Syntax.w8)) 3) (List._∷_ (5, Rows'.sc-here (Row.sInt Syntax.w8)) (List._∷_ (6, Rows'.sc-here (Row.sInt Syntax.w32)) (List._∷_ (7, Rows'.sc-here (Row.sInt Syntax.w64)) (List._∷_ (8, Rows'.sc-here (Row.sInt Syntax.w8)) (List._∷_ (9, Rows'.any-gone (Laws'.mir)) (List._∷_ (10, Rows'.sc-here (Row.sInt Syntax.w64)) (List._∷_ (11, Rows'.whole (Declared.row Answer.the-type)) (List._∷_ (12, Rows'.any-gone OfStation.spelt) (List._∷_ (13, Rows'.sc-here (Row.sInt Syntax.w64)) (List._∷_ (14, Rows'.any-gone Syntax.tyUnit) (List._∷_ (15, Rows'.any-gone (Syntax.tyRef Syntax.erased Syntax.mut OfOutput.named)) List.[])))))))))))))))
+t22 = List._∷_ (16, Rows'.any-gone (Syntax.tyStruct (List._∷_ 38 (List._∷_ 91 (List._∷_ 93 List.[]))) (Syntax.tcons (Syntax.tyRef Syntax.erased Syntax.mut OfOutput.named) (Syntax.tcons (Syntax.tyInt Syntax.w64) Syntax.tnil)))) (List._∷_ (17, Rows'.sc-here (Row.sInt Syntax.w64)) (List._∷_ (18, Rows'.any-gone Syntax.tyPtr) List.[]))
 
 abbrev pub t23 : List.List Row.Entry
-t23 = List._∷_ (16, Rows'.any-gone (Syntax.tyStruct (List._∷_ 38 (List._∷_ 91 (List._∷_ 93 List.[]))) (Syntax.tcons (Syntax.tyRef Syntax.erased Syntax.mut OfOutput.named) (Syntax.tcons (Syntax.tyInt Syntax.w64) Syntax.tnil)))) (List._∷_ (17, Rows'.any-gone (Syntax.tyRef Syntax.erased Syntax.mut OfOutput.named)) (List._∷_ (18, Rows'.any-gone (Syntax.tyStruct (List._∷_ 38 (List._∷_ 91 (List._∷_ 93 List.[]))) (Syntax.tcons (Syntax.tyRef Syntax.erased Syntax.mut OfOutput.named) (Syntax.tcons (Syntax.tyInt Syntax.w64) Syntax.tnil)))) (List._∷_ (19, Rows'.any-gone (Syntax.tyInt Syntax.w64)) (List._∷_ (20, Rows'.sc-here Row.sPtr) List.[]))))
+t23 = List._∷_ (16, Rows'.any-gone (Syntax.tyStruct (List._∷_ 38 (List._∷_ 91 (List._∷_ 93 List.[]))) (Syntax.tcons (Syntax.tyRef Syntax.erased Syntax.mut OfOutput.named) (Syntax.tcons (Syntax.tyInt Syntax.w64) Syntax.tnil)))) (List._∷_ (17, Rows'.sc-here (Row.sInt Syntax.w64)) (List._∷_ (18, Rows'.sc-here Row.sPtr) List.[]))
 
 abbrev pub t24 : List.List Row.Entry
-t24 = List._∷_ (0, Rows'.whole (Declared.row Answer.the-type)) (List._∷_ (1, Mut.mslice (OfOutput.row) (Syntax.tyRef (Syntax.named 0) Syntax.mut OfOutput.named) 0) (List._∷_ (2, Mut.mslice (OfStation.row) (Syntax.tyRef (Syntax.named 1) Syntax.mut OfStation.named) 1) (List._∷_ (3, Rows'.mref (Referent.rtF (Referent.fInt Syntax.w64)) (Syntax.tyRef (Syntax.named 2) Syntax.mut (Syntax.tyInt Syntax.w64)) 2) (List._∷_ (4, Rows'.sslice (Referent.rtF (Referent.fInt Syntax.w8)) (Syntax.tyRef (Syntax.named 3) Syntax.imm (Syntax.tyInt Syntax.w8)) 3) (List._∷_ (5, Rows'.sc-here (Row.sInt Syntax.w8)) (List._∷_ (6, Rows'.sc-here (Row.sInt Syntax.w32)) (List._∷_ (7, Rows'.sc-here (Row.sInt Syntax.w64)) (List._∷_ (8, Rows'.sc-here (Row.sInt Syntax.w8)) (List._∷_ (9, Rows'.any-gone (Laws'.mir)) (List._∷_ (10, Rows'.sc-here (Row.sInt Syntax.w64)) (List._∷_ (11, Rows'.whole (Declared.row Answer.the-type)) (List._∷_ (12, Rows'.any-gone OfStation.spelt) (List._∷_ (13, Rows'.sc-here (Row.sInt Syntax.w64)) (List._∷_ (14, Rows'.any-gone Syntax.tyUnit) (List._∷_ (15, Rows'.any-gone (Syntax.tyRef Syntax.erased Syntax.mut OfOutput.named)) List.[])))))))))))))))
+t24 = List._∷_ (0, Rows'.any-gone (Laws.mir)) (List._∷_ (1, Mut.mslice (OfOutput.row) (Syntax.tyRef (Syntax.named 0) Syntax.mut OfOutput.named) 0) (List._∷_ (2, Mut.mslice (OfStation.row) (Syntax.tyRef (Syntax.named 1) Syntax.mut OfStation.named) 1) (List._∷_ (3, Rows'.mref (Referent.rtF (Referent.fInt Syntax.w64)) (Syntax.tyRef (Syntax.named 2) Syntax.mut (Syntax.tyInt Syntax.w64)) 2) (List._∷_ (4, Rows'.sslice (Referent.rtF (Referent.fInt Syntax.w8)) (Syntax.tyRef (Syntax.named 3) Syntax.imm (Syntax.tyInt Syntax.w8)) 3) (List._∷_ (5, Rows'.any-gone (Laws'.mir)) (List._∷_ (6, Rows'.sc-here (Row.sInt Syntax.w64)) (List._∷_ (7, Rows'.sc-here (Row.sInt Syntax.w64)) (List._∷_ (8, Rows'.any-gone (Laws''.mir)) (List._∷_ (9, Rows'.whole (Declared.row Answer.the-type)) (List._∷_ (10, Rows'.any-gone OfStation.spelt) (List._∷_ (11, Rows'.sc-here (Row.sInt Syntax.w64)) (List._∷_ (12, Rows'.any-gone Syntax.tyUnit) (List._∷_ (13, Rows'.any-gone (Syntax.tyRef Syntax.erased Syntax.mut OfOutput.named)) (List._∷_ (14, Rows'.any-gone (Syntax.tyStruct (List._∷_ 38 (List._∷_ 91 (List._∷_ 93 List.[]))) (Syntax.tcons (Syntax.tyRef Syntax.erased Syntax.mut OfOutput.named) (Syntax.tcons (Syntax.tyInt Syntax.w64) Syntax.tnil)))) (List._∷_ (15, Rows'.any-gone (Syntax.tyRef Syntax.erased Syntax.mut OfOutput.named)) List.[])))))))))))))))
 
 abbrev pub t25 : List.List Row.Entry
-t25 = List._∷_ (0, Rows'.whole (Declared.row Answer.the-type)) (List._∷_ (1, Mut.mslice (OfOutput.row) (Syntax.tyRef (Syntax.named 0) Syntax.mut OfOutput.named) 0) (List._∷_ (2, Mut.mslice (OfStation.row) (Syntax.tyRef (Syntax.named 1) Syntax.mut OfStation.named) 1) (List._∷_ (3, Rows'.mref (Referent.rtF (Referent.fInt Syntax.w64)) (Syntax.tyRef (Syntax.named 2) Syntax.mut (Syntax.tyInt Syntax.w64)) 2) (List._∷_ (4, Rows'.sslice (Referent.rtF (Referent.fInt Syntax.w8)) (Syntax.tyRef (Syntax.named 3) Syntax.imm (Syntax.tyInt Syntax.w8)) 3) (List._∷_ (5, Rows'.sc-here (Row.sInt Syntax.w8)) (List._∷_ (6, Rows'.sc-here (Row.sInt Syntax.w32)) (List._∷_ (7, Rows'.sc-here (Row.sInt Syntax.w64)) (List._∷_ (8, Rows'.sc-here (Row.sInt Syntax.w8)) (List._∷_ (9, Rows'.any-gone (Laws'.mir)) (List._∷_ (10, Rows'.any-gone (Syntax.tyInt Syntax.w64)) (List._∷_ (11, Rows'.whole (Declared.row Answer.the-type)) (List._∷_ (12, Rows'.any-gone OfStation.spelt) (List._∷_ (13, Rows'.sc-here (Row.sInt Syntax.w64)) (List._∷_ (14, Rows'.any-gone Syntax.tyUnit) (List._∷_ (15, Rows'.any-gone (Syntax.tyRef Syntax.erased Syntax.mut OfOutput.named)) List.[])))))))))))))))
+t25 = List._∷_ (16, Rows'.any-gone (Syntax.tyStruct (List._∷_ 38 (List._∷_ 91 (List._∷_ 93 List.[]))) (Syntax.tcons (Syntax.tyRef Syntax.erased Syntax.mut OfOutput.named) (Syntax.tcons (Syntax.tyInt Syntax.w64) Syntax.tnil)))) (List._∷_ (17, Rows'.any-gone (Syntax.tyInt Syntax.w64)) (List._∷_ (18, Rows'.sc-here Row.sPtr) List.[]))
 
 abbrev pub t26 : List.List Row.Entry
-t26 = List._∷_ (0, Rows'.whole (Declared.row Answer.the-type)) (List._∷_ (1, Mut.mslice (OfOutput.row) (Syntax.tyRef (Syntax.named 0) Syntax.mut OfOutput.named) 0) (List._∷_ (2, Mut.mslice (OfStation.row) (Syntax.tyRef (Syntax.named 1) Syntax.mut OfStation.named) 1) (List._∷_ (3, Rows'.mref (Referent.rtF (Referent.fInt Syntax.w64)) (Syntax.tyRef (Syntax.named 2) Syntax.mut (Syntax.tyInt Syntax.w64)) 2) (List._∷_ (4, Rows'.sslice (Referent.rtF (Referent.fInt Syntax.w8)) (Syntax.tyRef (Syntax.named 3) Syntax.imm (Syntax.tyInt Syntax.w8)) 3) (List._∷_ (5, Rows'.sc-here (Row.sInt Syntax.w8)) (List._∷_ (6, Rows'.sc-here (Row.sInt Syntax.w32)) (List._∷_ (7, Rows'.sc-here (Row.sInt Syntax.w64)) (List._∷_ (8, Rows'.sc-here (Row.sInt Syntax.w8)) (List._∷_ (9, Rows'.any-gone (Laws'.mir)) (List._∷_ (10, Rows'.any-gone (Syntax.tyInt Syntax.w64)) (List._∷_ (11, Rows'.any-gone (Laws.mir)) (List._∷_ (12, Rows'.any-gone OfStation.spelt) (List._∷_ (13, Rows'.sc-here (Row.sInt Syntax.w64)) (List._∷_ (14, Rows'.any-gone Syntax.tyUnit) (List._∷_ (15, Rows'.any-gone (Syntax.tyRef Syntax.erased Syntax.mut OfOutput.named)) List.[])))))))))))))))
+t26 = List._∷_ (0, Rows'.whole (Declared.row Answer.the-type)) (List._∷_ (1, Mut.mslice (OfOutput.row) (Syntax.tyRef (Syntax.named 0) Syntax.mut OfOutput.named) 0) (List._∷_ (2, Mut.mslice (OfStation.row) (Syntax.tyRef (Syntax.named 1) Syntax.mut OfStation.named) 1) (List._∷_ (3, Rows'.mref (Referent.rtF (Referent.fInt Syntax.w64)) (Syntax.tyRef (Syntax.named 2) Syntax.mut (Syntax.tyInt Syntax.w64)) 2) (List._∷_ (4, Rows'.sslice (Referent.rtF (Referent.fInt Syntax.w8)) (Syntax.tyRef (Syntax.named 3) Syntax.imm (Syntax.tyInt Syntax.w8)) 3) (List._∷_ (5, Rows'.any-gone (Laws'.mir)) (List._∷_ (6, Rows'.sc-here (Row.sInt Syntax.w64)) (List._∷_ (7, Rows'.sc-here (Row.sInt Syntax.w64)) (List._∷_ (8, Rows'.any-gone (Laws''.mir)) (List._∷_ (9, Rows'.whole (Declared.row Answer.the-type)) (List._∷_ (10, Rows'.any-gone OfStation.spelt) (List._∷_ (11, Rows'.sc-here (Row.sInt Syntax.w64)) (List._∷_ (12, Rows'.any-gone Syntax.tyUnit) (List._∷_ (13, Rows'.any-gone (Syntax.tyRef Syntax.erased Syntax.mut OfOutput.named)) (List._∷_ (14, Rows'.any-gone (Syntax.tyStruct (List._∷_ 38 (List._∷_ 91 (List._∷_ 93 List.[]))) (Syntax.tcons (Syntax.tyRef Syntax.erased Syntax.mut OfOutput.named) (Syntax.tcons (Syntax.tyInt Syntax.w64) Syntax.tnil)))) (List._∷_ (15, Rows'.any-gone (Syntax.tyRef Syntax.erased Syntax.mut OfOutput.named)) List.[])))))))))))))))
 
 abbrev pub t27 : List.List Row.Entry
-t27 = List._∷_ (0, Rows'.whole (Declared.row Answer.the-type)) (List._∷_ (1, Mut.mslice (OfOutput.row) (Syntax.tyRef (Syntax.named 0) Syntax.mut OfOutput.named) 0) (List._∷_ (2, Mut.mslice (OfStation.row) (Syntax.tyRef (Syntax.named 1) Syntax.mut OfStation.named) 1) (List._∷_ (3, Rows'.mref (Referent.rtF (Referent.fInt Syntax.w64)) (Syntax.tyRef (Syntax.named 2) Syntax.mut (Syntax.tyInt Syntax.w64)) 2) (List._∷_ (4, Rows'.sslice (Referent.rtF (Referent.fInt Syntax.w8)) (Syntax.tyRef (Syntax.named 3) Syntax.imm (Syntax.tyInt Syntax.w8)) 3) (List._∷_ (5, Rows'.sc-here (Row.sInt Syntax.w8)) (List._∷_ (6, Rows'.sc-here (Row.sInt Syntax.w32)) (List._∷_ (7, Rows'.sc-here (Row.sInt Syntax.w64)) (List._∷_ (8, Rows'.sc-here (Row.sInt Syntax.w8)) (List._∷_ (9, Rows'.any-gone (Laws'.mir)) (List._∷_ (10, Rows'.any-gone (Syntax.tyInt Syntax.w64)) (List._∷_ (11, Rows'.any-gone (Laws.mir)) (List._∷_ (12, Rows'.any-gone OfStation.spelt) (List._∷_ (13, Rows'.any-gone (Syntax.tyInt Syntax.w64)) (List._∷_ (14, Rows'.any-gone Syntax.tyUnit) (List._∷_ (15, Rows'.any-gone (Syntax.tyRef Syntax.erased Syntax.mut OfOutput.named)) List.[])))))))))))))))
+t27 = List._∷_ (0, Rows'.whole (Declared.row Answer.the-type)) (List._∷_ (1, Mut.mslice (OfOutput.row) (Syntax.tyRef (Syntax.named 0) Syntax.mut OfOutput.named) 0) (List._∷_ (2, Mut.mslice (OfStation.row) (Syntax.tyRef (Syntax.named 1) Syntax.mut OfStation.named) 1) (List._∷_ (3, Rows'.mref (Referent.rtF (Referent.fInt Syntax.w64)) (Syntax.tyRef (Syntax.named 2) Syntax.mut (Syntax.tyInt Syntax.w64)) 2) (List._∷_ (4, Rows'.sslice (Referent.rtF (Referent.fInt Syntax.w8)) (Syntax.tyRef (Syntax.named 3) Syntax.imm (Syntax.tyInt Syntax.w8)) 3) (List._∷_ (5, Rows'.any-gone (Laws'.mir)) (List._∷_ (6, Rows'.any-gone (Syntax.tyInt Syntax.w64)) (List._∷_ (7, Rows'.sc-here (Row.sInt Syntax.w64)) (List._∷_ (8, Rows'.any-gone (Laws''.mir)) (List._∷_ (9, Rows'.whole (Declared.row Answer.the-type)) (List._∷_ (10, Rows'.any-gone OfStation.spelt) (List._∷_ (11, Rows'.sc-here (Row.sInt Syntax.w64)) (List._∷_ (12, Rows'.any-gone Syntax.tyUnit) (List._∷_ (13, Rows'.any-gone (Syntax.tyRef Syntax.erased Syntax.mut OfOutput.named)) (List._∷_ (14, Rows'.any-gone (Syntax.tyStruct (List._∷_ 38 (List._∷_ 91 (List._∷_ 93 List.[]))) (Syntax.tcons (Syntax.tyRef Syntax.erased Syntax.mut OfOutput.named) (Syntax.tcons (Syntax.tyInt Syntax.w64) Syntax.tnil)))) (List._∷_ (15, Rows'.any-gone (Syntax.tyRef Syntax.erased Syntax.mut OfOutput.named)) List.[])))))))))))))))
 
 abbrev pub t28 : List.List Row.Entry
-t28 = List._∷_ (0, Rows'.whole (Declared.row Answer.the-type)) (List._∷_ (1, Mut.mslice (OfOutput.row) (Syntax.tyRef (Syntax.named 0) Syntax.mut OfOutput.named) 0) (List._∷_ (2, Mut.mslice (OfStation.row) (Syntax.tyRef (Syntax.named 1) Syntax.mut OfStation.named) 1) (List._∷_ (3, Rows'.mref (Referent.rtF (Referent.fInt Syntax.w64)) (Syntax.tyRef (Syntax.named 2) Syntax.mut (Syntax.tyInt Syntax.w64)) 2) (List._∷_ (4, Rows'.sslice (Referent.rtF (Referent.fInt Syntax.w8)) (Syntax.tyRef (Syntax.named 3) Syntax.imm (Syntax.tyInt Syntax.w8)) 3) (List._∷_ (5, Rows'.any-gone (Syntax.tyInt Syntax.w8)) (List._∷_ (6, Rows'.sc-here (Row.sInt Syntax.w32)) (List._∷_ (7, Rows'.sc-here (Row.sInt Syntax.w64)) (List._∷_ (8, Rows'.sc-here (Row.sInt Syntax.w8)) (List._∷_ (9, Rows'.any-gone (Laws'.mir)) (List._∷_ (10, Rows'.any-gone (Syntax.tyInt Syntax.w64)) (List._∷_ (11, Rows'.any-gone (Laws.mir)) (List._∷_ (12, Rows'.any-gone OfStation.spelt) (List._∷_ (13, Rows'.any-gone (Syntax.tyInt Syntax.w64)) (List._∷_ (14, Rows'.any-gone Syntax.tyUnit) (List._∷_ (15, Rows'.any-gone (Syntax.tyRef Syntax.erased Syntax.mut OfOutput.named)) List.[])))))))))))))))
+t28 = List._∷_ (0, Rows'.whole (Declared.row Answer.the-type)) (List._∷_ (1, Mut.mslice (OfOutput.row) (Syntax.tyRef (Syntax.named 0) Syntax.mut OfOutput.named) 0) (List._∷_ (2, Mut.mslice (OfStation.row) (Syntax.tyRef (Syntax.named 1) Syntax.mut OfStation.named) 1) (List._∷_ (3, Rows'.mref (Referent.rtF (Referent.fInt Syntax.w64)) (Syntax.tyRef (Syntax.named 2) Syntax.mut (Syntax.tyInt Syntax.w64)) 2) (List._∷_ (4, Rows'.sslice (Referent.rtF (Referent.fInt Syntax.w8)) (Syntax.tyRef (Syntax.named 3) Syntax.imm (Syntax.tyInt Syntax.w8)) 3) (List._∷_ (5, Rows'.any-gone (Laws'.mir)) (List._∷_ (6, Rows'.any-gone (Syntax.tyInt Syntax.w64)) (List._∷_ (7, Rows'.any-gone (Syntax.tyInt Syntax.w64)) (List._∷_ (8, Rows'.any-gone (Laws''.mir)) (List._∷_ (9, Rows'.whole (Declared.row Answer.the-type)) (List._∷_ (10, Rows'.any-gone OfStation.spelt) (List._∷_ (11, Rows'.sc-here (Row.sInt Syntax.w64)) (List._∷_ (12, Rows'.any-gone Syntax.tyUnit) (List._∷_ (13, Rows'.any-gone (Syntax.tyRef Syntax.erased Syntax.mut OfOutput.named)) (List._∷_ (14, Rows'.any-gone (Syntax.tyStruct (List._∷_ 38 (List._∷_ 91 (List._∷_ 93 List.[]))) (Syntax.tcons (Syntax.tyRef Syntax.erased Syntax.mut OfOutput.named) (Syntax.tcons (Syntax.tyInt Syntax.w64) Syntax.tnil)))) (List._∷_ (15, Rows'.any-gone (Syntax.tyRef Syntax.erased Syntax.mut OfOutput.named)) List.[])))))))))))))))
 
 abbrev pub t29 : List.List Row.Entry
-t29 = List._∷_ (0, Rows'.whole (Declared.row Answer.the-type)) (List._∷_ (1, Mut.mslice (OfOutput.row) (Syntax.tyRef (Syntax.named 0) Syntax.mut OfOutput.named) 0) (List._∷_ (2, Mut.mslice (OfStation.row) (Syntax.tyRef (Syntax.named 1) Syntax.mut OfStation.named) 1) (List._∷_ (3, Rows'.mref (Referent.rtF (Referent.fInt Syntax.w64)) (Syntax.tyRef (Syntax.named 2) Syntax.mut (Syntax.tyInt Syntax.w64)) 2) (List._∷_ (4, Rows'.sslice (Referent.rtF (Referent.fInt Syntax.w8)) (Syntax.tyRef (Syntax.named 3) Syntax.imm (Syntax.tyInt Syntax.w8)) 3) (List._∷_ (5, Rows'.any-gone (Syntax.tyInt Syntax.w8)) (List._∷_ (6, Rows'.any-gone (Syntax.tyInt Syntax.w32)) (List._∷_ (7, Rows'.sc-here (Row.sInt Syntax.w64)) (List._∷_ (8, Rows'.sc-here (Row.sInt Syntax.w8)) (List._∷_ (9, Rows'.any-gone (Laws'.mir)) (List._∷_ (10, Rows'.any-gone (Syntax.tyInt Syntax.w64)) (List._∷_ (11, Rows'.any-gone (Laws.mir)) (List._∷_ (12, Rows'.any-gone OfStation.spelt) (List._∷_ (13, Rows'.any-gone (Syntax.tyInt Syntax.w64)) (List._∷_ (14, Rows'.any-gone Syntax.tyUnit) (List._∷_ (15, Rows'.any-gone (Syntax.tyRef Syntax.erased Syntax.mut OfOutput.named)) List.[])))))))))))))))
-
-abbrev pub t30 : List.List Row.Entry
-t30 = List._∷_ (0, Rows'.whole (Declared.row Answer.the-type)) (List._∷_ (1, Mut.mslice (OfOutput.row) (Syntax.tyRef (Syntax.named 0) Syntax.mut OfOutput.named) 0) (List._∷_ (2, Mut.mslice (OfStation.row) (Syntax.tyRef (Syntax.named 1) Syntax.mut OfStation.named) 1) (List._∷_ (3, Rows'.mref (Referent.rtF (Referent.fInt Syntax.w64)) (Syntax.tyRef (Syntax.named 2) Syntax.mut (Syntax.tyInt Syntax.w64)) 2) (List._∷_ (4, Rows'.sslice (Referent.rtF (Referent.fInt Syntax.w8)) (Syntax.tyRef (Syntax.named 3) Syntax.imm (Syntax.tyInt Syntax.w8)) 3) (List._∷_ (5, Rows'.any-gone (Syntax.tyInt Syntax.w8)) (List._∷_ (6, Rows'.any-gone (Syntax.tyInt Syntax.w32)) (List._∷_ (7, Rows'.any-gone (Syntax.tyInt Syntax.w64)) (List._∷_ (8, Rows'.sc-here (Row.sInt Syntax.w8)) (List._∷_ (9, Rows'.any-gone (Laws'.mir)) (List._∷_ (10, Rows'.any-gone (Syntax.tyInt Syntax.w64)) (List._∷_ (11, Rows'.any-gone (Laws.mir)) (List._∷_ (12, Rows'.any-gone OfStation.spelt) (List._∷_ (13, Rows'.any-gone (Syntax.tyInt Syntax.w64)) (List._∷_ (14, Rows'.any-gone Syntax.tyUnit) (List._∷_ (15, Rows'.any-gone (Syntax.tyRef Syntax.erased Syntax.mut OfOutput.named)) List.[])))))))))))))))
+t29 = List._∷_ (0, Rows'.whole (Declared.row Answer.the-type)) (List._∷_ (1, Mut.mslice (OfOutput.row) (Syntax.tyRef (Syntax.named 0) Syntax.mut OfOutput.named) 0) (List._∷_ (2, Mut.mslice (OfStation.row) (Syntax.tyRef (Syntax.named 1) Syntax.mut OfStation.named) 1) (List._∷_ (3, Rows'.mref (Referent.rtF (Referent.fInt Syntax.w64)) (Syntax.tyRef (Syntax.named 2) Syntax.mut (Syntax.tyInt Syntax.w64)) 2) (List._∷_ (4, Rows'.sslice (Referent.rtF (Referent.fInt Syntax.w8)) (Syntax.tyRef (Syntax.named 3) Syntax.imm (Syntax.tyInt Syntax.w8)) 3) (List._∷_ (5, Rows'.any-gone (Laws'.mir)) (List._∷_ (6, Rows'.any-gone (Syntax.tyInt Syntax.w64)) (List._∷_ (7, Rows'.any-gone (Syntax.tyInt Syntax.w64)) (List._∷_ (8, Rows'.any-gone (Laws''.mir)) (List._∷_ (9, Rows'.any-gone (Laws.mir)) (List._∷_ (10, Rows'.any-gone OfStation.spelt) (List._∷_ (11, Rows'.sc-here (Row.sInt Syntax.w64)) (List._∷_ (12, Rows'.any-gone Syntax.tyUnit) (List._∷_ (13, Rows'.any-gone (Syntax.tyRef Syntax.erased Syntax.mut OfOutput.named)) (List._∷_ (14, Rows'.any-gone (Syntax.tyStruct (List._∷_ 38 (List._∷_ 91 (List._∷_ 93 List.[]))) (Syntax.tcons (Syntax.tyRef Syntax.erased Syntax.mut OfOutput.named) (Syntax.tcons (Syntax.tyInt Syntax.w64) Syntax.tnil)))) (List._∷_ (15, Rows'.any-gone (Syntax.tyRef Syntax.erased Syntax.mut OfOutput.named)) List.[])))))))))))))))
 
 abbrev pub T0 : Row.Cx
 T0 = record { locals = List._++_ t0 t1; slots = List.[] }
@@ -302,89 +318,89 @@ T3 = record { locals = List._++_ t3 t1; slots = List.[] }
 abbrev pub T4 : Row.Cx
 T4 = record { locals = List._++_ t3 t1; slots = List.[] }
 
-abbrev pub T6 : Row.Cx
-T6 = record { locals = List._++_ t4 t1; slots = List.[] }
+abbrev pub T5 : Row.Cx
+T5 = record { locals = List._++_ t4 t1; slots = List.[] }
 
 abbrev pub T7 : Row.Cx
-T7 = record { locals = List._++_ t5 t6; slots = List.[] }
+T7 = record { locals = List._++_ t5 t1; slots = List.[] }
 
 abbrev pub T8 : Row.Cx
-T8 = record { locals = List._++_ t7 t8; slots = List.[] }
+T8 = record { locals = List._++_ t6 t1; slots = List.[] }
 
 abbrev pub T9 : Row.Cx
-T9 = record { locals = List._++_ t5 t8; slots = List.[] }
+T9 = record { locals = List._++_ t7 t1; slots = List.[] }
 
-abbrev pub T11 : Row.Cx
-T11 = record { locals = List._++_ t3 t1; slots = List.[] }
+abbrev pub T10 : Row.Cx
+T10 = record { locals = List._++_ t8 t1; slots = List.[] }
+
+abbrev pub T12 : Row.Cx
+T12 = record { locals = List._++_ t4 t1; slots = List.[] }
 
 abbrev pub T14 : Row.Cx
-T14 = record { locals = List._++_ t9 t10; slots = List.[] }
-
-abbrev pub T15 : Row.Cx
-T15 = record { locals = List._++_ t9 t11; slots = List.[] }
+T14 = record { locals = List._++_ t9 t1; slots = List.[] }
 
 abbrev pub T16 : Row.Cx
-T16 = record { locals = List._++_ t9 t12; slots = List.[] }
+T16 = record { locals = List._++_ t10 t1; slots = List.[] }
 
 abbrev pub T17 : Row.Cx
-T17 = record { locals = List._++_ t13 t14; slots = List.[] }
+T17 = record { locals = List._++_ t11 t12; slots = List.[] }
 
 abbrev pub T18 : Row.Cx
-T18 = record { locals = List._++_ t15 t14; slots = List.[] }
+T18 = record { locals = List._++_ t11 t13; slots = List.[] }
 
 abbrev pub T19 : Row.Cx
-T19 = record { locals = List._++_ t15 t16; slots = List.[] }
+T19 = record { locals = List._++_ t14 t15; slots = List.[] }
+
+abbrev pub T20 : Row.Cx
+T20 = record { locals = List._++_ t16 t15; slots = List.[] }
 
 abbrev pub T21 : Row.Cx
-T21 = record { locals = List._++_ t17 t1; slots = List.[] }
+T21 = record { locals = List._++_ t16 t17; slots = List.[] }
 
 abbrev pub T23 : Row.Cx
 T23 = record { locals = List._++_ t18 t1; slots = List.[] }
 
-abbrev pub T24 : Row.Cx
-T24 = record { locals = List._++_ t19 t1; slots = List.[] }
-
 abbrev pub T25 : Row.Cx
-T25 = record { locals = List._++_ t19 t20; slots = List.[] }
+T25 = record { locals = List._++_ t19 t1; slots = List.[] }
 
 abbrev pub T26 : Row.Cx
-T26 = record { locals = List._++_ t19 t21; slots = List.[] }
+T26 = record { locals = List._++_ t20 t1; slots = List.[] }
 
 abbrev pub T27 : Row.Cx
-T27 = record { locals = List._++_ t19 t21; slots = List.[] }
+T27 = record { locals = List._++_ t21 t1; slots = List.[] }
 
 abbrev pub T28 : Row.Cx
-T28 = record { locals = List._++_ t22 t21; slots = List.[] }
+T28 = record { locals = List._++_ t21 t22; slots = List.[] }
 
 abbrev pub T29 : Row.Cx
-T29 = record { locals = List._++_ t22 t23; slots = List.[] }
+T29 = record { locals = List._++_ t21 t23; slots = List.[] }
 
 abbrev pub T30 : Row.Cx
-T30 = record { locals = List._++_ t22 t1; slots = List.[] }
+T30 = record { locals = List._++_ t21 t23; slots = List.[] }
 
 abbrev pub T31 : Row.Cx
-T31 = record { locals = List._++_ t22 t1; slots = List.[] }
+T31 = record { locals = List._++_ t24 t23; slots = List.[] }
 
 abbrev pub T32 : Row.Cx
-T32 = record { locals = List._++_ t24 t1; slots = List.[] }
+T32 = record { locals = List._++_ t24 t25; slots = List.[] }
 
 abbrev pub T33 : Row.Cx
-T33 = record { locals = List._++_ t25 t1; slots = List.[] }
+T33 = record { locals = List._++_ t24 t1; slots = List.[] }
 
 abbrev pub T34 : Row.Cx
-T34 = record { locals = List._++_ t26 t1; slots = List.[] }
+T34 = record { locals = List._++_ t24 t1; slots = List.[] }
 
 abbrev pub T35 : Row.Cx
-T35 = record { locals = List._++_ t27 t1; slots = List.[] }
+T35 = record { locals = List._++_ t26 t1; slots = List.[] }
 
 abbrev pub T36 : Row.Cx
-T36 = record { locals = List._++_ t28 t1; slots = List.[] }
+T36 = record { locals = List._++_ t27 t1; slots = List.[] }
 
 abbrev pub T37 : Row.Cx
-T37 = record { locals = List._++_ t29 t1; slots = List.[] }
+T37 = record { locals = List._++_ t28 t1; slots = List.[] }
 
 abbrev pub T38 : Row.Cx
-T38 = record { locals = List._++_ t30 t1; slots = List.[] }
+T38 = record { locals = List._++_ t29 t1; slots = List.[] }
 
 abbrev pub T39 : Row.Cx
 T39 = record { locals = List._++_ t2 t1; slots = List.[] }
@@ -397,97 +413,97 @@ module _ (claims· : Claims) where
   s0 = Know'.k-shs-known (Referent.fInt Syntax.w8) T0 4 3 (Syntax.tyRef (Syntax.named 3) Syntax.imm (Syntax.tyInt Syntax.w8)) Row.off 0 λ x. x
 
   abbrev s1 : Typed.Mo T2 → Typed.Mo T3
-  s1 = Deref.n-ref-read T2 3 10 2 (Rows'.mref (Referent.rtF (Referent.fInt Syntax.w64)) (Syntax.tyRef (Syntax.named 2) Syntax.mut (Syntax.tyInt Syntax.w64)) 2) Row.off (Rows'.sc-here (Row.sInt Syntax.w64)) (λ x. x) λ v. v .now
+  s1 = Deref.n-ref-read T2 3 6 2 (Rows'.mref (Referent.rtF (Referent.fInt Syntax.w64)) (Syntax.tyRef (Syntax.named 2) Syntax.mut (Syntax.tyInt Syntax.w64)) 2) Row.off (Rows'.sc-here (Row.sInt Syntax.w64)) (λ x. x) λ v. v .now
 
   abbrev s2 : Typed.Gives T3 T4
-  s2 = Know.k-row-known T3 10
+  s2 = Know.k-row-known T3 6
 
-  abbrev s4 : Typed.Gives T4 T6
-  s4 = Relend.k-sl-relend (OfOutput.row) T4 1 15 0 4 (Syntax.tyRef (Syntax.named 0) Syntax.mut OfOutput.named) (Syntax.tyRef Syntax.erased Syntax.mut OfOutput.named) Row.off λ x. x
+  abbrev s3 : Typed.Mo T4 → Typed.Mo T5
+  s3 = Scalar.n-use T4 (Scalar.oFld 5 (List._∷_ (Syntax.field 2) List.[]) (Syntax.tyInt Syntax.w64) 8 (Reads.fieldV Call.the-type Laws'.the-laws 2)) 7 (Rows'.sc-here (Row.sInt Syntax.w64)) (Row.sInt Syntax.w64 .of)
 
-  abbrev s5 : Typed.Asks T6 T7
-  s5 = Relend.k-sl-aggregate (OfOutput.row) (Relend.asMut (OfOutput.row)) T6 15 16 4 (Syntax.tyRef Syntax.erased Syntax.mut OfOutput.named) (Syntax.tyRef Syntax.erased Syntax.mut OfOutput.named) (λ x. x) (Scalar.oFld 1 (List._∷_ (Syntax.field 1) List.[]) (Syntax.tyInt Syntax.w64) 8 λ v. Shared.lenV (v .0))
+  abbrev s5 : Typed.Gives T5 T7
+  s5 = Relend.k-sl-relend (OfOutput.row) T5 1 13 0 4 (Syntax.tyRef (Syntax.named 0) Syntax.mut OfOutput.named) (Syntax.tyRef Syntax.erased Syntax.mut OfOutput.named) Row.off λ x. x
 
-  abbrev s6 : Typed.Both T7 T8
-  s6 = Call.callB ps·0 r·0 (claims· .0) (claims· .1) T7 (record { pos = 16; ty = Syntax.tyRef Syntax.erased Syntax.mut OfOutput.named; ref = λ x. x }, (Num.vAt 10 λ x. x, (Num.vAt 7 λ x. x, tt))) 14 (List._∷_ 4 List.[]) Syntax.tyUnit
+  abbrev s6 : Typed.Asks T7 T8
+  s6 = Relend.k-sl-aggregate (OfOutput.row) (Relend.asMut (OfOutput.row)) T7 13 14 4 (Syntax.tyRef Syntax.erased Syntax.mut OfOutput.named) (Syntax.tyRef Syntax.erased Syntax.mut OfOutput.named) (λ x. x) (Scalar.oFld 1 (List._∷_ (Syntax.field 1) List.[]) (Syntax.tyInt Syntax.w64) 8 λ v. Shared.lenV (v .0))
 
-  abbrev s7 : Typed.Mo T8 → Typed.Mo T9
-  s7 = Scalar.n-room T8 14 Syntax.tyUnit
+  abbrev s7 : Typed.Both T8 T9
+  s7 = Call'.callB ps·0 r·0 (claims· .0) (claims· .1) T8 (record { pos = 14; ty = Syntax.tyRef Syntax.erased Syntax.mut OfOutput.named; ref = λ x. x }, (Num.vAt 6 λ x. x, (Num.vAt 7 λ x. x, tt))) 12 (List._∷_ 4 List.[]) Syntax.tyUnit
 
-  abbrev s9 : Typed.Both T9 T11
-  s9 = Relend.k-back-sl (OfOutput.row) T9 16 1 0 4 (Syntax.tyRef (Syntax.named 0) Syntax.mut OfOutput.named) (Syntax.tyRef Syntax.erased Syntax.mut OfOutput.named) Row.off (λ x. x) λ x. x
+  abbrev s8 : Typed.Mo T9 → Typed.Mo T10
+  s8 = Scalar.n-room T9 12 Syntax.tyUnit
 
-  abbrev s12 : Typed.Gives T11 T14
-  s12 = Relend.k-sl-relend (OfOutput.row) T11 1 17 0 5 (Syntax.tyRef (Syntax.named 0) Syntax.mut OfOutput.named) (Syntax.tyRef Syntax.erased Syntax.mut OfOutput.named) Row.off λ x. x
+  abbrev s10 : Typed.Both T10 T12
+  s10 = Relend.k-back-sl (OfOutput.row) T10 14 1 0 4 (Syntax.tyRef (Syntax.named 0) Syntax.mut OfOutput.named) (Syntax.tyRef Syntax.erased Syntax.mut OfOutput.named) Row.off (λ x. x) λ x. x
 
-  abbrev s13 : Typed.Asks T14 T15
-  s13 = Relend.k-sl-aggregate (OfOutput.row) (Relend.asMut (OfOutput.row)) T14 17 18 5 (Syntax.tyRef Syntax.erased Syntax.mut OfOutput.named) (Syntax.tyRef Syntax.erased Syntax.mut OfOutput.named) (λ x. x) (Scalar.oFld 1 (List._∷_ (Syntax.field 1) List.[]) (Syntax.tyInt Syntax.w64) 8 λ v. Shared.lenV (v .0))
+  abbrev s12 : Typed.Mo T12 → Typed.Mo T14
+  s12 = Make.n-make (Declared.row Request.the-type) T12 8 λ m. Call.struct .as-values (m .1 .1 .1 .1 .1 .0) .1 .1 .1 .1 .0
 
-  abbrev s14 : Typed.Both T15 T16
-  s14 = Call.callB ps·1 r·1 (claims· .2) (claims· .3) T15 (Num.vAt 8 λ x. x, tt) 19 List.[] (Syntax.tyInt Syntax.w64)
+  abbrev s14 : Typed.Gives T14 T16
+  s14 = Relend.k-sl-relend (OfOutput.row) T14 1 15 0 5 (Syntax.tyRef (Syntax.named 0) Syntax.mut OfOutput.named) (Syntax.tyRef Syntax.erased Syntax.mut OfOutput.named) Row.off λ x. x
 
-  abbrev s15 : Typed.Both T16 T17
-  s15 = Call.callB ps·2 r·2 (claims· .4) (claims· .5) T16 (record { pos = 18; ty = Syntax.tyRef Syntax.erased Syntax.mut OfOutput.named; ref = λ x. x }, (Num.vAt 7 λ x. x, (Num.vAt 5 λ x. x, (Num.vAt 19 λ x. x, (record { pos = 9; st = List.[]; d = 0; at = λ x. x }, tt))))) 11 (List._∷_ 5 List.[]) (Laws.mir)
+  abbrev s15 : Typed.Asks T16 T17
+  s15 = Relend.k-sl-aggregate (OfOutput.row) (Relend.asMut (OfOutput.row)) T16 15 16 5 (Syntax.tyRef Syntax.erased Syntax.mut OfOutput.named) (Syntax.tyRef Syntax.erased Syntax.mut OfOutput.named) (λ x. x) (Scalar.oFld 1 (List._∷_ (Syntax.field 1) List.[]) (Syntax.tyInt Syntax.w64) 8 λ v. Shared.lenV (v .0))
 
-  abbrev s16 : Typed.Mo T17 → Typed.Mo T18
-  s16 = Scalar.n-room T17 9 (Laws'.mir)
+  abbrev s16 : Typed.Both T17 T18
+  s16 = Call'.callB ps·1 r·1 (claims· .2) (claims· .3) T17 (Num.vFld 5 (List._∷_ (Syntax.field 3) List.[]) 16 λ x. Call.struct .as-values x .1 .1 .1 .0, tt) 17 List.[] (Syntax.tyInt Syntax.w64)
 
-  abbrev s17 : Typed.Mo T18 → Typed.Mo T19
-  s17 = Scalar.n-room T18 19 (Syntax.tyInt Syntax.w64)
+  abbrev s17 : Typed.Both T18 T19
+  s17 = Call'.callB ps·2 r·2 (claims· .4) (claims· .5) T18 (record { pos = 16; ty = Syntax.tyRef Syntax.erased Syntax.mut OfOutput.named; ref = λ x. x }, (Num.vAt 7 λ x. x, (Num.vFld 5 (List._∷_ (Syntax.field 0) List.[]) 0 λ x. Call.struct .as-values x .0, (Num.vAt 17 λ x. x, (record { pos = 8; st = List.[]; d = 0; at = λ x. x }, tt))))) 9 (List._∷_ 5 List.[]) (Laws.mir)
 
-  abbrev s19 : Typed.Both T19 T21
-  s19 = Relend.k-back-sl (OfOutput.row) T19 18 1 0 5 (Syntax.tyRef (Syntax.named 0) Syntax.mut OfOutput.named) (Syntax.tyRef Syntax.erased Syntax.mut OfOutput.named) Row.off (λ x. x) λ x. x
+  abbrev s18 : Typed.Mo T19 → Typed.Mo T20
+  s18 = Scalar.n-room T19 8 (Laws''.mir)
+
+  abbrev s19 : Typed.Mo T20 → Typed.Mo T21
+  s19 = Scalar.n-room T20 17 (Syntax.tyInt Syntax.w64)
 
   abbrev s21 : Typed.Both T21 T23
-  s21 = Call.callB ps·3 r·3 (claims· .6) (claims· .7) T21 (record { pos = 11; st = List.[]; d = 0; at = λ x. x }, (Num.vAt 6 λ x. x, (record { pos = 4; ty = Syntax.tyRef (Syntax.named 3) Syntax.imm (Syntax.tyInt Syntax.w8); ref = λ x. x }, tt))) 12 (List._∷_ 3 List.[]) OfStation.spelt
+  s21 = Relend.k-back-sl (OfOutput.row) T21 16 1 0 5 (Syntax.tyRef (Syntax.named 0) Syntax.mut OfOutput.named) (Syntax.tyRef Syntax.erased Syntax.mut OfOutput.named) Row.off (λ x. x) λ x. x
 
-  abbrev s22 : Typed.Both T23 T24
-  s22 = Call.callB ps·1 r·1 (claims· .2) (claims· .3) T23 (Num.vAt 5 λ x. x, tt) 13 List.[] (Syntax.tyInt Syntax.w64)
+  abbrev s23 : Typed.Both T23 T25
+  s23 = Call'.callB ps·3 r·3 (claims· .6) (claims· .7) T23 (record { pos = 9; st = List.[]; d = 0; at = λ x. x }, (Num.vFld 5 (List._∷_ (Syntax.field 1) List.[]) 4 λ x. Call.struct .as-values x .1 .0, (record { pos = 4; ty = Syntax.tyRef (Syntax.named 3) Syntax.imm (Syntax.tyInt Syntax.w8); ref = λ x. x }, tt))) 10 (List._∷_ 3 List.[]) OfStation.spelt
 
-  abbrev s23 : Typed.Asks T24 T25
-  s23 = Scalar.k-op2 T24 (Syntax.mul Syntax.unsigned) (Scalar.oAt 13 (Syntax.tyInt Syntax.w64) (Row.valS (Row.sInt Syntax.w64))) (Scalar.oInt Syntax.w64 40) 19 (Rows'.sc-here (Row.sInt Syntax.w64)) (Row.sInt Syntax.w64 .of)
+  abbrev s24 : Typed.Both T25 T26
+  s24 = Call'.callB ps·1 r·1 (claims· .2) (claims· .3) T25 (Num.vFld 5 (List._∷_ (Syntax.field 0) List.[]) 0 λ x. Call.struct .as-values x .0, tt) 11 List.[] (Syntax.tyInt Syntax.w64)
 
-  abbrev s24 : Typed.Asks T25 T26
-  s24 = Scalar.k-op2 T25 Syntax.offset (Scalar.oFld 2 (List._∷_ (Syntax.field 0) List.[]) (Syntax.tyRef (Syntax.named 1) Syntax.mut OfStation.named) 0 Reads.ptrVal) (Scalar.oAt 19 (Syntax.tyInt Syntax.w64) (Row.valS (Row.sInt Syntax.w64))) 20 (Rows'.sc-here Row.sPtr) (Row.sPtr .of)
+  abbrev s25 : Typed.Mo T26 → Typed.Mo T27
+  s25 = Scalar.n-room T26 5 (Laws'.mir)
 
-  abbrev s25 : Typed.Asks T26 T27
-  s25 = Move.k-sl-set-from (OfStation.row) T26 2 20 12 1 (Syntax.tyRef (Syntax.named 1) Syntax.mut OfStation.named) Row.off (OfStation.held) (Shared.bySize 40) (λ u. u .1 .1 .1 .1 .1 .1 .1 .1 .1 .1 .1 .1 .1 .0) (λ x. x) (λ x. x) (λ x. x) λ x. x
+  abbrev s26 : Typed.Asks T27 T28
+  s26 = Scalar.k-op2 T27 (Syntax.mul Syntax.unsigned) (Scalar.oAt 11 (Syntax.tyInt Syntax.w64) (Row.valS (Row.sInt Syntax.w64))) (Scalar.oInt Syntax.w64 40) 17 (Rows'.sc-here (Row.sInt Syntax.w64)) (Row.sInt Syntax.w64 .of)
 
-  abbrev s26 : Typed.Mo T27 → Typed.Mo T28
-  s26 = Scalar.n-room T27 12 OfStation.spelt
+  abbrev s27 : Typed.Asks T28 T29
+  s27 = Scalar.k-op2 T28 Syntax.offset (Scalar.oFld 2 (List._∷_ (Syntax.field 0) List.[]) (Syntax.tyRef (Syntax.named 1) Syntax.mut OfStation.named) 0 Reads'.ptrVal) (Scalar.oAt 17 (Syntax.tyInt Syntax.w64) (Row.valS (Row.sInt Syntax.w64))) 18 (Rows'.sc-here Row.sPtr) (Row.sPtr .of)
 
-  abbrev s27 : Typed.Mo T28 → Typed.Mo T29
-  s27 = Scalar.n-room T28 19 (Syntax.tyInt Syntax.w64)
-
-  abbrev s28 : Typed.Mo T29 → Typed.Mo T30
-  s28 = Scalar.n-room T29 20 Syntax.tyPtr
+  abbrev s28 : Typed.Asks T29 T30
+  s28 = Move.k-sl-set-from (OfStation.row) T29 2 18 10 1 (Syntax.tyRef (Syntax.named 1) Syntax.mut OfStation.named) Row.off (OfStation.held) (Shared.bySize 40) (λ u. u .1 .1 .1 .1 .1 .1 .1 .1 .1 .1 .1 .0) (λ x. x) (λ x. x) (λ x. x) λ x. x
 
   abbrev s29 : Typed.Mo T30 → Typed.Mo T31
-  s29 = Deref.n-ref-write T30 3 2 (Referent.fInt Syntax.w64) (Syntax.tyRef (Syntax.named 2) Syntax.mut (Syntax.tyInt Syntax.w64)) Row.off (λ x. x) (Scalar.oAt 7 (Syntax.tyInt Syntax.w64) (Row.valS (Row.sInt Syntax.w64)))
+  s29 = Scalar.n-room T30 10 OfStation.spelt
 
   abbrev s30 : Typed.Mo T31 → Typed.Mo T32
-  s30 = LocalCopy.n-val-copy T31 11 0 (Declared.row Answer.the-type) (Rows'.whole (Declared.row Answer.the-type)) (Rows'.whole (Declared.row Answer.the-type)) (λ x. x) (λ x. x) λ x. x
+  s30 = Scalar.n-room T31 17 (Syntax.tyInt Syntax.w64)
 
   abbrev s31 : Typed.Mo T32 → Typed.Mo T33
-  s31 = Scalar.n-room T32 10 (Syntax.tyInt Syntax.w64)
+  s31 = Scalar.n-room T32 18 Syntax.tyPtr
 
   abbrev s32 : Typed.Mo T33 → Typed.Mo T34
-  s32 = Scalar.n-room T33 11 (Laws.mir)
+  s32 = Deref.n-ref-write T33 3 2 (Referent.fInt Syntax.w64) (Syntax.tyRef (Syntax.named 2) Syntax.mut (Syntax.tyInt Syntax.w64)) Row.off (λ x. x) (Scalar.oAt 7 (Syntax.tyInt Syntax.w64) (Row.valS (Row.sInt Syntax.w64)))
 
   abbrev s33 : Typed.Mo T34 → Typed.Mo T35
-  s33 = Scalar.n-room T34 13 (Syntax.tyInt Syntax.w64)
+  s33 = LocalCopy.n-val-copy T34 9 0 (Declared.row Answer.the-type) (Rows'.whole (Declared.row Answer.the-type)) (Rows'.whole (Declared.row Answer.the-type)) (λ x. x) (λ x. x) λ x. x
 
   abbrev s34 : Typed.Mo T35 → Typed.Mo T36
-  s34 = Scalar.n-room T35 5 (Syntax.tyInt Syntax.w8)
+  s34 = Scalar.n-room T35 6 (Syntax.tyInt Syntax.w64)
 
   abbrev s35 : Typed.Mo T36 → Typed.Mo T37
-  s35 = Scalar.n-room T36 6 (Syntax.tyInt Syntax.w32)
+  s35 = Scalar.n-room T36 7 (Syntax.tyInt Syntax.w64)
 
   abbrev s36 : Typed.Mo T37 → Typed.Mo T38
-  s36 = Scalar.n-room T37 7 (Syntax.tyInt Syntax.w64)
+  s36 = Scalar.n-room T37 9 (Laws.mir)
 
   abbrev s37 : Typed.Mo T38 → Typed.Mo T39
-  s37 = Scalar.n-room T38 8 (Syntax.tyInt Syntax.w8)
+  s37 = Scalar.n-room T38 11 (Syntax.tyInt Syntax.w64)
 
   module _ (Pre· : (κs : Lifetimes.Lfts 4) → Kinds.Dens κs ps → Type 0)
       (Post· : (κs : Lifetimes.Lfts 4) → (a : Kinds.Dens κs ps) → Kinds.Plain 4 ps r κs) where
@@ -527,25 +543,25 @@ module _ (claims· : Claims) where
       at9 = λ Ψ. Typed.pass T30 T31 s29 (at8 Ψ)
 
       abbrev at10 : Typed.TF T29 O0
-      at10 = λ Ψ. Typed.pass T29 T30 s28 (at9 Ψ)
+      at10 = λ Ψ. Typed.ask s28 (at9 Ψ)
 
       abbrev at11 : Typed.TF T28 O0
-      at11 = λ Ψ. Typed.pass T28 T29 s27 (at10 Ψ)
+      at11 = λ Ψ. Typed.ask s27 (at10 Ψ)
 
       abbrev at12 : Typed.TF T27 O0
-      at12 = λ Ψ. Typed.pass T27 T28 s26 (at11 Ψ)
+      at12 = λ Ψ. Typed.ask s26 (at11 Ψ)
 
       abbrev at13 : Typed.TF T26 O0
-      at13 = λ Ψ. Typed.ask s25 (at12 Ψ)
+      at13 = λ Ψ. Typed.pass T26 T27 s25 (at12 Ψ)
 
       abbrev at14 : Typed.TF T25 O0
-      at14 = λ Ψ. Typed.ask s24 (at13 Ψ)
+      at14 = λ Ψ. Typed.both s24 (at13 Ψ)
 
-      abbrev at15 : Typed.TF T24 O0
-      at15 = λ Ψ. Typed.ask s23 (at14 Ψ)
+      abbrev at15 : Typed.TF T23 O0
+      at15 = λ Ψ. Typed.both s23 (at14 Ψ)
 
       abbrev at16 : Typed.TF T23 O0
-      at16 = λ Ψ. Typed.both s22 (at15 Ψ)
+      at16 = λ Ψ. at15 Ψ
 
       abbrev at17 : Typed.TF T21 O0
       at17 = λ Ψ. Typed.both s21 (at16 Ψ)
@@ -553,56 +569,56 @@ module _ (claims· : Claims) where
       abbrev at18 : Typed.TF T21 O0
       at18 = λ Ψ. at17 Ψ
 
-      abbrev at19 : Typed.TF T19 O0
-      at19 = λ Ψ. Typed.both s19 (at18 Ψ)
+      abbrev at19 : Typed.TF T20 O0
+      at19 = λ Ψ. Typed.pass T20 T21 s19 (at18 Ψ)
 
       abbrev at20 : Typed.TF T19 O0
-      at20 = λ Ψ. at19 Ψ
+      at20 = λ Ψ. Typed.pass T19 T20 s18 (at19 Ψ)
 
       abbrev at21 : Typed.TF T18 O0
-      at21 = λ Ψ. Typed.pass T18 T19 s17 (at20 Ψ)
+      at21 = λ Ψ. Typed.both s17 (at20 Ψ)
 
       abbrev at22 : Typed.TF T17 O0
-      at22 = λ Ψ. Typed.pass T17 T18 s16 (at21 Ψ)
+      at22 = λ Ψ. Typed.both s16 (at21 Ψ)
 
       abbrev at23 : Typed.TF T16 O0
-      at23 = λ Ψ. Typed.both s15 (at22 Ψ)
+      at23 = λ Ψ. Typed.ask s15 (at22 Ψ)
 
-      abbrev at24 : Typed.TF T15 O0
-      at24 = λ Ψ. Typed.both s14 (at23 Ψ)
+      abbrev at24 : Typed.TF T14 O0
+      at24 = λ Ψ. Typed.give s14 (at23 Ψ)
 
       abbrev at25 : Typed.TF T14 O0
-      at25 = λ Ψ. Typed.ask s13 (at24 Ψ)
+      at25 = λ Ψ. at24 Ψ
 
-      abbrev at26 : Typed.TF T11 O0
-      at26 = λ Ψ. Typed.give s12 (at25 Ψ)
+      abbrev at26 : Typed.TF T12 O0
+      at26 = λ Ψ. Typed.pass T12 T14 s12 (at25 Ψ)
 
-      abbrev at27 : Typed.TF T11 O0
+      abbrev at27 : Typed.TF T12 O0
       at27 = λ Ψ. at26 Ψ
 
-      abbrev at28 : Typed.TF T11 O0
-      at28 = λ Ψ. at27 Ψ
+      abbrev at28 : Typed.TF T10 O0
+      at28 = λ Ψ. Typed.both s10 (at27 Ψ)
 
-      abbrev at29 : Typed.TF T9 O0
-      at29 = λ Ψ. Typed.both s9 (at28 Ψ)
+      abbrev at29 : Typed.TF T10 O0
+      at29 = λ Ψ. at28 Ψ
 
       abbrev at30 : Typed.TF T9 O0
-      at30 = λ Ψ. at29 Ψ
+      at30 = λ Ψ. Typed.pass T9 T10 s8 (at29 Ψ)
 
       abbrev at31 : Typed.TF T8 O0
-      at31 = λ Ψ. Typed.pass T8 T9 s7 (at30 Ψ)
+      at31 = λ Ψ. Typed.both s7 (at30 Ψ)
 
       abbrev at32 : Typed.TF T7 O0
-      at32 = λ Ψ. Typed.both s6 (at31 Ψ)
+      at32 = λ Ψ. Typed.ask s6 (at31 Ψ)
 
-      abbrev at33 : Typed.TF T6 O0
-      at33 = λ Ψ. Typed.ask s5 (at32 Ψ)
+      abbrev at33 : Typed.TF T5 O0
+      at33 = λ Ψ. Typed.give s5 (at32 Ψ)
 
-      abbrev at34 : Typed.TF T4 O0
-      at34 = λ Ψ. Typed.give s4 (at33 Ψ)
+      abbrev at34 : Typed.TF T5 O0
+      at34 = λ Ψ. at33 Ψ
 
       abbrev at35 : Typed.TF T4 O0
-      at35 = λ Ψ. at34 Ψ
+      at35 = λ Ψ. Typed.pass T4 T5 s3 (at34 Ψ)
 
       abbrev at36 : Typed.TF T3 O0
       at36 = λ Ψ. Typed.give s2 (at35 Ψ)
@@ -622,23 +638,29 @@ module _ (claims· : Claims) where
         Knowns = Plain.Known 𝓤 H A W 𝓣 1 ps·0 r·0 (claims· .0) (claims· .1) "tables::advance_outputs" × Plain.Known 𝓤 H A W 𝓣 0 ps·1 r·1 (claims· .2) (claims· .3) "ranges::index" × Plain.Known 𝓤 H A W 𝓣 1 ps·2 r·2 (claims· .4) (claims· .5) "tables::serve" × Plain.Known 𝓤 H A W 𝓣 1 ps·3 r·3 (claims· .6) (claims· .7) "kept::kept_station"
 
       module _ (κs : Lifetimes.Lfts 4) (qs : Lifetimes.Shares 4) where
-        abbrev g4 : List.List Row.Entry
-        g4 = List._∷_ (0, Rows'.any-gone (Laws.mir)) (List._∷_ (1, Relend.mslice-owed (OfOutput.row) (Syntax.tyRef (Syntax.named 0) Syntax.mut OfOutput.named) 0 4 (Row.lease (κs .0) (qs .0))) (List._∷_ (2, Mut.mslice (OfStation.row) (Syntax.tyRef (Syntax.named 1) Syntax.mut OfStation.named) 1) (List._∷_ (3, Rows'.mref (Referent.rtF (Referent.fInt Syntax.w64)) (Syntax.tyRef (Syntax.named 2) Syntax.mut (Syntax.tyInt Syntax.w64)) 2) (List._∷_ (4, Rows'.sslice (Referent.rtF (Referent.fInt Syntax.w8)) (Syntax.tyRef (Syntax.named 3) Syntax.imm (Syntax.tyInt Syntax.w8)) 3) (List._∷_ (5, Rows'.sc-here (Row.sInt Syntax.w8)) (List._∷_ (6, Rows'.sc-here (Row.sInt Syntax.w32)) (List._∷_ (7, Rows'.sc-here (Row.sInt Syntax.w64)) (List._∷_ (8, Rows'.sc-here (Row.sInt Syntax.w8)) (List._∷_ (9, Rows'.whole (Declared.row Request.the-type)) (List._∷_ (10, Rows'.sc-here (Row.sInt Syntax.w64)) (List._∷_ (11, Rows'.any-gone (Laws.mir)) (List._∷_ (12, Rows'.any-gone OfStation.spelt) (List._∷_ (13, Rows'.any-gone (Syntax.tyInt Syntax.w64)) (List._∷_ (14, Rows'.any-gone Syntax.tyUnit) (List._∷_ (15, Relend.msptr (OfOutput.row) (Syntax.tyRef Syntax.erased Syntax.mut OfOutput.named) 4) List.[])))))))))))))))
-
         abbrev g5 : List.List Row.Entry
-        g5 = List._∷_ (0, Rows'.any-gone (Laws.mir)) (List._∷_ (1, Relend.mslice-owed (OfOutput.row) (Syntax.tyRef (Syntax.named 0) Syntax.mut OfOutput.named) 0 4 (Row.lease (κs .0) (qs .0))) (List._∷_ (2, Mut.mslice (OfStation.row) (Syntax.tyRef (Syntax.named 1) Syntax.mut OfStation.named) 1) (List._∷_ (3, Rows'.mref (Referent.rtF (Referent.fInt Syntax.w64)) (Syntax.tyRef (Syntax.named 2) Syntax.mut (Syntax.tyInt Syntax.w64)) 2) (List._∷_ (4, Rows'.sslice (Referent.rtF (Referent.fInt Syntax.w8)) (Syntax.tyRef (Syntax.named 3) Syntax.imm (Syntax.tyInt Syntax.w8)) 3) (List._∷_ (5, Rows'.sc-here (Row.sInt Syntax.w8)) (List._∷_ (6, Rows'.sc-here (Row.sInt Syntax.w32)) (List._∷_ (7, Rows'.sc-here (Row.sInt Syntax.w64)) (List._∷_ (8, Rows'.sc-here (Row.sInt Syntax.w8)) (List._∷_ (9, Rows'.whole (Declared.row Request.the-type)) (List._∷_ (10, Rows'.sc-here (Row.sInt Syntax.w64)) (List._∷_ (11, Rows'.any-gone (Laws.mir)) (List._∷_ (12, Rows'.any-gone OfStation.spelt) (List._∷_ (13, Rows'.any-gone (Syntax.tyInt Syntax.w64)) (List._∷_ (14, Rows'.any-gone Syntax.tyUnit) (List._∷_ (15, Rows'.any-gone (Syntax.tyRef Syntax.erased Syntax.mut OfOutput.named)) List.[])))))))))))))))
+        g5 = List._∷_ (0, Rows'.any-gone (Laws.mir)) (List._∷_ (1, Relend.mslice-owed (OfOutput.row) (Syntax.tyRef (Syntax.named 0) Syntax.mut OfOutput.named) 0 4 (Row.lease (κs .0) (qs .0))) (List._∷_ (2, Mut.mslice (OfStation.row) (Syntax.tyRef (Syntax.named 1) Syntax.mut OfStation.named) 1) (List._∷_ (3, Rows'.mref (Referent.rtF (Referent.fInt Syntax.w64)) (Syntax.tyRef (Syntax.named 2) Syntax.mut (Syntax.tyInt Syntax.w64)) 2) (List._∷_ (4, Rows'.sslice (Referent.rtF (Referent.fInt Syntax.w8)) (Syntax.tyRef (Syntax.named 3) Syntax.imm (Syntax.tyInt Syntax.w8)) 3) (List._∷_ (5, Rows'.whole (Declared'.row Call.the-type)) (List._∷_ (6, Rows'.sc-here (Row.sInt Syntax.w64)) (List._∷_ (7, Rows'.sc-here (Row.sInt Syntax.w64)) (List._∷_ (8, Rows'.any-gone (Laws''.mir)) (List._∷_ (9, Rows'.any-gone (Laws.mir)) (List._∷_ (10, Rows'.any-gone OfStation.spelt) (List._∷_ (11, Rows'.any-gone (Syntax.tyInt Syntax.w64)) (List._∷_ (12, Rows'.any-gone Syntax.tyUnit) (List._∷_ (13, Relend.msptr (OfOutput.row) (Syntax.tyRef Syntax.erased Syntax.mut OfOutput.named) 4) (List._∷_ (14, Rows'.any-gone (Syntax.tyStruct (List._∷_ 38 (List._∷_ 91 (List._∷_ 93 List.[]))) (Syntax.tcons (Syntax.tyRef Syntax.erased Syntax.mut OfOutput.named) (Syntax.tcons (Syntax.tyInt Syntax.w64) Syntax.tnil)))) (List._∷_ (15, Rows'.any-gone (Syntax.tyRef Syntax.erased Syntax.mut OfOutput.named)) List.[])))))))))))))))
+
+        abbrev g6 : List.List Row.Entry
+        g6 = List._∷_ (0, Rows'.any-gone (Laws.mir)) (List._∷_ (1, Relend.mslice-owed (OfOutput.row) (Syntax.tyRef (Syntax.named 0) Syntax.mut OfOutput.named) 0 4 (Row.lease (κs .0) (qs .0))) (List._∷_ (2, Mut.mslice (OfStation.row) (Syntax.tyRef (Syntax.named 1) Syntax.mut OfStation.named) 1) (List._∷_ (3, Rows'.mref (Referent.rtF (Referent.fInt Syntax.w64)) (Syntax.tyRef (Syntax.named 2) Syntax.mut (Syntax.tyInt Syntax.w64)) 2) (List._∷_ (4, Rows'.sslice (Referent.rtF (Referent.fInt Syntax.w8)) (Syntax.tyRef (Syntax.named 3) Syntax.imm (Syntax.tyInt Syntax.w8)) 3) (List._∷_ (5, Rows'.whole (Declared'.row Call.the-type)) (List._∷_ (6, Rows'.sc-here (Row.sInt Syntax.w64)) (List._∷_ (7, Rows'.sc-here (Row.sInt Syntax.w64)) (List._∷_ (8, Rows'.any-gone (Laws''.mir)) (List._∷_ (9, Rows'.any-gone (Laws.mir)) (List._∷_ (10, Rows'.any-gone OfStation.spelt) (List._∷_ (11, Rows'.any-gone (Syntax.tyInt Syntax.w64)) (List._∷_ (12, Rows'.any-gone Syntax.tyUnit) (List._∷_ (13, Rows'.any-gone (Syntax.tyRef Syntax.erased Syntax.mut OfOutput.named)) (List._∷_ (14, Mut.mslice (OfOutput.row) (Syntax.tyRef Syntax.erased Syntax.mut OfOutput.named) 4) (List._∷_ (15, Rows'.any-gone (Syntax.tyRef Syntax.erased Syntax.mut OfOutput.named)) List.[])))))))))))))))
 
         abbrev g7 : List.List Row.Entry
-        g7 = List._∷_ (0, Rows'.any-gone (Laws.mir)) (List._∷_ (1, Relend.mslice-owed (OfOutput.row) (Syntax.tyRef (Syntax.named 0) Syntax.mut OfOutput.named) 0 4 (Row.lease (κs .0) (qs .0))) (List._∷_ (2, Mut.mslice (OfStation.row) (Syntax.tyRef (Syntax.named 1) Syntax.mut OfStation.named) 1) (List._∷_ (3, Rows'.mref (Referent.rtF (Referent.fInt Syntax.w64)) (Syntax.tyRef (Syntax.named 2) Syntax.mut (Syntax.tyInt Syntax.w64)) 2) (List._∷_ (4, Rows'.sslice (Referent.rtF (Referent.fInt Syntax.w8)) (Syntax.tyRef (Syntax.named 3) Syntax.imm (Syntax.tyInt Syntax.w8)) 3) (List._∷_ (5, Rows'.sc-here (Row.sInt Syntax.w8)) (List._∷_ (6, Rows'.sc-here (Row.sInt Syntax.w32)) (List._∷_ (7, Rows'.sc-here (Row.sInt Syntax.w64)) (List._∷_ (8, Rows'.sc-here (Row.sInt Syntax.w8)) (List._∷_ (9, Rows'.whole (Declared.row Request.the-type)) (List._∷_ (10, Rows'.sc-here (Row.sInt Syntax.w64)) (List._∷_ (11, Rows'.any-gone (Laws.mir)) (List._∷_ (12, Rows'.any-gone OfStation.spelt) (List._∷_ (13, Rows'.any-gone (Syntax.tyInt Syntax.w64)) (List._∷_ (14, Rows'.sc-here Row.sUnit) (List._∷_ (15, Rows'.any-gone (Syntax.tyRef Syntax.erased Syntax.mut OfOutput.named)) List.[])))))))))))))))
+        g7 = List._∷_ (0, Rows'.any-gone (Laws.mir)) (List._∷_ (1, Relend.mslice-owed (OfOutput.row) (Syntax.tyRef (Syntax.named 0) Syntax.mut OfOutput.named) 0 4 (Row.lease (κs .0) (qs .0))) (List._∷_ (2, Mut.mslice (OfStation.row) (Syntax.tyRef (Syntax.named 1) Syntax.mut OfStation.named) 1) (List._∷_ (3, Rows'.mref (Referent.rtF (Referent.fInt Syntax.w64)) (Syntax.tyRef (Syntax.named 2) Syntax.mut (Syntax.tyInt Syntax.w64)) 2) (List._∷_ (4, Rows'.sslice (Referent.rtF (Referent.fInt Syntax.w8)) (Syntax.tyRef (Syntax.named 3) Syntax.imm (Syntax.tyInt Syntax.w8)) 3) (List._∷_ (5, Rows'.whole (Declared'.row Call.the-type)) (List._∷_ (6, Rows'.sc-here (Row.sInt Syntax.w64)) (List._∷_ (7, Rows'.sc-here (Row.sInt Syntax.w64)) (List._∷_ (8, Rows'.any-gone (Laws''.mir)) (List._∷_ (9, Rows'.any-gone (Laws.mir)) (List._∷_ (10, Rows'.any-gone OfStation.spelt) (List._∷_ (11, Rows'.any-gone (Syntax.tyInt Syntax.w64)) (List._∷_ (12, Rows'.sc-here Row.sUnit) (List._∷_ (13, Rows'.any-gone (Syntax.tyRef Syntax.erased Syntax.mut OfOutput.named)) (List._∷_ (14, Mut.msleft (OfOutput.row) (Syntax.tyRef Syntax.erased Syntax.mut OfOutput.named)) (List._∷_ (15, Rows'.any-gone (Syntax.tyRef Syntax.erased Syntax.mut OfOutput.named)) List.[])))))))))))))))
 
-        abbrev g9 : List.List Row.Entry
-        g9 = List._∷_ (0, Rows'.any-gone (Laws.mir)) (List._∷_ (1, Relend.mslice-owed (OfOutput.row) (Syntax.tyRef (Syntax.named 0) Syntax.mut OfOutput.named) 0 5 (Row.lease (κs .0) (qs .0))) (List._∷_ (2, Mut.mslice (OfStation.row) (Syntax.tyRef (Syntax.named 1) Syntax.mut OfStation.named) 1) (List._∷_ (3, Rows'.mref (Referent.rtF (Referent.fInt Syntax.w64)) (Syntax.tyRef (Syntax.named 2) Syntax.mut (Syntax.tyInt Syntax.w64)) 2) (List._∷_ (4, Rows'.sslice (Referent.rtF (Referent.fInt Syntax.w8)) (Syntax.tyRef (Syntax.named 3) Syntax.imm (Syntax.tyInt Syntax.w8)) 3) (List._∷_ (5, Rows'.sc-here (Row.sInt Syntax.w8)) (List._∷_ (6, Rows'.sc-here (Row.sInt Syntax.w32)) (List._∷_ (7, Rows'.sc-here (Row.sInt Syntax.w64)) (List._∷_ (8, Rows'.sc-here (Row.sInt Syntax.w8)) (List._∷_ (9, Rows'.whole (Declared.row Request.the-type)) (List._∷_ (10, Rows'.sc-here (Row.sInt Syntax.w64)) (List._∷_ (11, Rows'.any-gone (Laws.mir)) (List._∷_ (12, Rows'.any-gone OfStation.spelt) (List._∷_ (13, Rows'.any-gone (Syntax.tyInt Syntax.w64)) (List._∷_ (14, Rows'.any-gone Syntax.tyUnit) (List._∷_ (15, Rows'.any-gone (Syntax.tyRef Syntax.erased Syntax.mut OfOutput.named)) List.[])))))))))))))))
+        abbrev g8 : List.List Row.Entry
+        g8 = List._∷_ (0, Rows'.any-gone (Laws.mir)) (List._∷_ (1, Relend.mslice-owed (OfOutput.row) (Syntax.tyRef (Syntax.named 0) Syntax.mut OfOutput.named) 0 4 (Row.lease (κs .0) (qs .0))) (List._∷_ (2, Mut.mslice (OfStation.row) (Syntax.tyRef (Syntax.named 1) Syntax.mut OfStation.named) 1) (List._∷_ (3, Rows'.mref (Referent.rtF (Referent.fInt Syntax.w64)) (Syntax.tyRef (Syntax.named 2) Syntax.mut (Syntax.tyInt Syntax.w64)) 2) (List._∷_ (4, Rows'.sslice (Referent.rtF (Referent.fInt Syntax.w8)) (Syntax.tyRef (Syntax.named 3) Syntax.imm (Syntax.tyInt Syntax.w8)) 3) (List._∷_ (5, Rows'.whole (Declared'.row Call.the-type)) (List._∷_ (6, Rows'.sc-here (Row.sInt Syntax.w64)) (List._∷_ (7, Rows'.sc-here (Row.sInt Syntax.w64)) (List._∷_ (8, Rows'.any-gone (Laws''.mir)) (List._∷_ (9, Rows'.any-gone (Laws.mir)) (List._∷_ (10, Rows'.any-gone OfStation.spelt) (List._∷_ (11, Rows'.any-gone (Syntax.tyInt Syntax.w64)) (List._∷_ (12, Rows'.any-gone Syntax.tyUnit) (List._∷_ (13, Rows'.any-gone (Syntax.tyRef Syntax.erased Syntax.mut OfOutput.named)) (List._∷_ (14, Mut.msleft (OfOutput.row) (Syntax.tyRef Syntax.erased Syntax.mut OfOutput.named)) (List._∷_ (15, Rows'.any-gone (Syntax.tyRef Syntax.erased Syntax.mut OfOutput.named)) List.[])))))))))))))))
 
-        abbrev g13 : List.List Row.Entry
-        g13 = List._∷_ (0, Rows'.any-gone (Laws.mir)) (List._∷_ (1, Relend.mslice-owed (OfOutput.row) (Syntax.tyRef (Syntax.named 0) Syntax.mut OfOutput.named) 0 5 (Row.lease (κs .0) (qs .0))) (List._∷_ (2, Mut.mslice (OfStation.row) (Syntax.tyRef (Syntax.named 1) Syntax.mut OfStation.named) 1) (List._∷_ (3, Rows'.mref (Referent.rtF (Referent.fInt Syntax.w64)) (Syntax.tyRef (Syntax.named 2) Syntax.mut (Syntax.tyInt Syntax.w64)) 2) (List._∷_ (4, Rows'.sslice (Referent.rtF (Referent.fInt Syntax.w8)) (Syntax.tyRef (Syntax.named 3) Syntax.imm (Syntax.tyInt Syntax.w8)) 3) (List._∷_ (5, Rows'.sc-here (Row.sInt Syntax.w8)) (List._∷_ (6, Rows'.sc-here (Row.sInt Syntax.w32)) (List._∷_ (7, Rows'.sc-here (Row.sInt Syntax.w64)) (List._∷_ (8, Rows'.sc-here (Row.sInt Syntax.w8)) (List._∷_ (9, Rows'.whole (Declared.row Request.the-type)) (List._∷_ (10, Rows'.sc-here (Row.sInt Syntax.w64)) (List._∷_ (11, Rows'.whole (Declared.row Answer.the-type)) (List._∷_ (12, Rows'.any-gone OfStation.spelt) (List._∷_ (13, Rows'.any-gone (Syntax.tyInt Syntax.w64)) (List._∷_ (14, Rows'.any-gone Syntax.tyUnit) (List._∷_ (15, Rows'.any-gone (Syntax.tyRef Syntax.erased Syntax.mut OfOutput.named)) List.[])))))))))))))))
+        abbrev g10 : List.List Row.Entry
+        g10 = List._∷_ (0, Rows'.any-gone (Laws.mir)) (List._∷_ (1, Relend.mslice-owed (OfOutput.row) (Syntax.tyRef (Syntax.named 0) Syntax.mut OfOutput.named) 0 5 (Row.lease (κs .0) (qs .0))) (List._∷_ (2, Mut.mslice (OfStation.row) (Syntax.tyRef (Syntax.named 1) Syntax.mut OfStation.named) 1) (List._∷_ (3, Rows'.mref (Referent.rtF (Referent.fInt Syntax.w64)) (Syntax.tyRef (Syntax.named 2) Syntax.mut (Syntax.tyInt Syntax.w64)) 2) (List._∷_ (4, Rows'.sslice (Referent.rtF (Referent.fInt Syntax.w8)) (Syntax.tyRef (Syntax.named 3) Syntax.imm (Syntax.tyInt Syntax.w8)) 3) (List._∷_ (5, Rows'.whole (Declared'.row Call.the-type)) (List._∷_ (6, Rows'.sc-here (Row.sInt Syntax.w64)) (List._∷_ (7, Rows'.sc-here (Row.sInt Syntax.w64)) (List._∷_ (8, Rows'.whole (Declared.row Request.the-type)) (List._∷_ (9, Rows'.any-gone (Laws.mir)) (List._∷_ (10, Rows'.any-gone OfStation.spelt) (List._∷_ (11, Rows'.any-gone (Syntax.tyInt Syntax.w64)) (List._∷_ (12, Rows'.any-gone Syntax.tyUnit) (List._∷_ (13, Rows'.any-gone (Syntax.tyRef Syntax.erased Syntax.mut OfOutput.named)) (List._∷_ (14, Rows'.any-gone (Syntax.tyStruct (List._∷_ 38 (List._∷_ 91 (List._∷_ 93 List.[]))) (Syntax.tcons (Syntax.tyRef Syntax.erased Syntax.mut OfOutput.named) (Syntax.tcons (Syntax.tyInt Syntax.w64) Syntax.tnil)))) (List._∷_ (15, Relend.msptr (OfOutput.row) (Syntax.tyRef Syntax.erased Syntax.mut OfOutput.named) 5) List.[])))))))))))))))
 
-        abbrev g15 : List.List Row.Entry
-        g15 = List._∷_ (0, Rows'.any-gone (Laws.mir)) (List._∷_ (1, Relend.mslice-owed (OfOutput.row) (Syntax.tyRef (Syntax.named 0) Syntax.mut OfOutput.named) 0 5 (Row.lease (κs .0) (qs .0))) (List._∷_ (2, Mut.mslice (OfStation.row) (Syntax.tyRef (Syntax.named 1) Syntax.mut OfStation.named) 1) (List._∷_ (3, Rows'.mref (Referent.rtF (Referent.fInt Syntax.w64)) (Syntax.tyRef (Syntax.named 2) Syntax.mut (Syntax.tyInt Syntax.w64)) 2) (List._∷_ (4, Rows'.sslice (Referent.rtF (Referent.fInt Syntax.w8)) (Syntax.tyRef (Syntax.named 3) Syntax.imm (Syntax.tyInt Syntax.w8)) 3) (List._∷_ (5, Rows'.sc-here (Row.sInt Syntax.w8)) (List._∷_ (6, Rows'.sc-here (Row.sInt Syntax.w32)) (List._∷_ (7, Rows'.sc-here (Row.sInt Syntax.w64)) (List._∷_ (8, Rows'.sc-here (Row.sInt Syntax.w8)) (List._∷_ (9, Rows'.any-gone (Laws'.mir)) (List._∷_ (10, Rows'.sc-here (Row.sInt Syntax.w64)) (List._∷_ (11, Rows'.whole (Declared.row Answer.the-type)) (List._∷_ (12, Rows'.any-gone OfStation.spelt) (List._∷_ (13, Rows'.any-gone (Syntax.tyInt Syntax.w64)) (List._∷_ (14, Rows'.any-gone Syntax.tyUnit) (List._∷_ (15, Rows'.any-gone (Syntax.tyRef Syntax.erased Syntax.mut OfOutput.named)) List.[])))))))))))))))
+        abbrev g11 : List.List Row.Entry
+        g11 = List._∷_ (0, Rows'.any-gone (Laws.mir)) (List._∷_ (1, Relend.mslice-owed (OfOutput.row) (Syntax.tyRef (Syntax.named 0) Syntax.mut OfOutput.named) 0 5 (Row.lease (κs .0) (qs .0))) (List._∷_ (2, Mut.mslice (OfStation.row) (Syntax.tyRef (Syntax.named 1) Syntax.mut OfStation.named) 1) (List._∷_ (3, Rows'.mref (Referent.rtF (Referent.fInt Syntax.w64)) (Syntax.tyRef (Syntax.named 2) Syntax.mut (Syntax.tyInt Syntax.w64)) 2) (List._∷_ (4, Rows'.sslice (Referent.rtF (Referent.fInt Syntax.w8)) (Syntax.tyRef (Syntax.named 3) Syntax.imm (Syntax.tyInt Syntax.w8)) 3) (List._∷_ (5, Rows'.whole (Declared'.row Call.the-type)) (List._∷_ (6, Rows'.sc-here (Row.sInt Syntax.w64)) (List._∷_ (7, Rows'.sc-here (Row.sInt Syntax.w64)) (List._∷_ (8, Rows'.whole (Declared.row Request.the-type)) (List._∷_ (9, Rows'.any-gone (Laws.mir)) (List._∷_ (10, Rows'.any-gone OfStation.spelt) (List._∷_ (11, Rows'.any-gone (Syntax.tyInt Syntax.w64)) (List._∷_ (12, Rows'.any-gone Syntax.tyUnit) (List._∷_ (13, Rows'.any-gone (Syntax.tyRef Syntax.erased Syntax.mut OfOutput.named)) (List._∷_ (14, Rows'.any-gone (Syntax.tyStruct (List._∷_ 38 (List._∷_ 91 (List._∷_ 93 List.[]))) (Syntax.tcons (Syntax.tyRef Syntax.erased Syntax.mut OfOutput.named) (Syntax.tcons (Syntax.tyInt Syntax.w64) Syntax.tnil)))) (List._∷_ (15, Rows'.any-gone (Syntax.tyRef Syntax.erased Syntax.mut OfOutput.named)) List.[])))))))))))))))
+
+        abbrev g14 : List.List Row.Entry
+        g14 = List._∷_ (0, Rows'.any-gone (Laws.mir)) (List._∷_ (1, Relend.mslice-owed (OfOutput.row) (Syntax.tyRef (Syntax.named 0) Syntax.mut OfOutput.named) 0 5 (Row.lease (κs .0) (qs .0))) (List._∷_ (2, Mut.mslice (OfStation.row) (Syntax.tyRef (Syntax.named 1) Syntax.mut OfStation.named) 1) (List._∷_ (3, Rows'.mref (Referent.rtF (Referent.fInt Syntax.w64)) (Syntax.tyRef (Syntax.named 2) Syntax.mut (Syntax.tyInt Syntax.w64)) 2) (List._∷_ (4, Rows'.sslice (Referent.rtF (Referent.fInt Syntax.w8)) (Syntax.tyRef (Syntax.named 3) Syntax.imm (Syntax.tyInt Syntax.w8)) 3) (List._∷_ (5, Rows'.whole (Declared'.row Call.the-type)) (List._∷_ (6, Rows'.sc-here (Row.sInt Syntax.w64)) (List._∷_ (7, Rows'.sc-here (Row.sInt Syntax.w64)) (List._∷_ (8, Rows'.whole (Declared.row Request.the-type)) (List._∷_ (9, Rows'.whole (Declared.row Answer.the-type)) (List._∷_ (10, Rows'.any-gone OfStation.spelt) (List._∷_ (11, Rows'.any-gone (Syntax.tyInt Syntax.w64)) (List._∷_ (12, Rows'.any-gone Syntax.tyUnit) (List._∷_ (13, Rows'.any-gone (Syntax.tyRef Syntax.erased Syntax.mut OfOutput.named)) (List._∷_ (14, Rows'.any-gone (Syntax.tyStruct (List._∷_ 38 (List._∷_ 91 (List._∷_ 93 List.[]))) (Syntax.tcons (Syntax.tyRef Syntax.erased Syntax.mut OfOutput.named) (Syntax.tcons (Syntax.tyInt Syntax.w64) Syntax.tnil)))) (List._∷_ (15, Rows'.any-gone (Syntax.tyRef Syntax.erased Syntax.mut OfOutput.named)) List.[])))))))))))))))
+
+        abbrev g16 : List.List Row.Entry
+        g16 = List._∷_ (0, Rows'.any-gone (Laws.mir)) (List._∷_ (1, Relend.mslice-owed (OfOutput.row) (Syntax.tyRef (Syntax.named 0) Syntax.mut OfOutput.named) 0 5 (Row.lease (κs .0) (qs .0))) (List._∷_ (2, Mut.mslice (OfStation.row) (Syntax.tyRef (Syntax.named 1) Syntax.mut OfStation.named) 1) (List._∷_ (3, Rows'.mref (Referent.rtF (Referent.fInt Syntax.w64)) (Syntax.tyRef (Syntax.named 2) Syntax.mut (Syntax.tyInt Syntax.w64)) 2) (List._∷_ (4, Rows'.sslice (Referent.rtF (Referent.fInt Syntax.w8)) (Syntax.tyRef (Syntax.named 3) Syntax.imm (Syntax.tyInt Syntax.w8)) 3) (List._∷_ (5, Rows'.whole (Declared'.row Call.the-type)) (List._∷_ (6, Rows'.sc-here (Row.sInt Syntax.w64)) (List._∷_ (7, Rows'.sc-here (Row.sInt Syntax.w64)) (List._∷_ (8, Rows'.any-gone (Laws''.mir)) (List._∷_ (9, Rows'.whole (Declared.row Answer.the-type)) (List._∷_ (10, Rows'.any-gone OfStation.spelt) (List._∷_ (11, Rows'.any-gone (Syntax.tyInt Syntax.w64)) (List._∷_ (12, Rows'.any-gone Syntax.tyUnit) (List._∷_ (13, Rows'.any-gone (Syntax.tyRef Syntax.erased Syntax.mut OfOutput.named)) (List._∷_ (14, Rows'.any-gone (Syntax.tyStruct (List._∷_ 38 (List._∷_ 91 (List._∷_ 93 List.[]))) (Syntax.tcons (Syntax.tyRef Syntax.erased Syntax.mut OfOutput.named) (Syntax.tcons (Syntax.tyInt Syntax.w64) Syntax.tnil)))) (List._∷_ (15, Rows'.any-gone (Syntax.tyRef Syntax.erased Syntax.mut OfOutput.named)) List.[])))))))))))))))
 
         abbrev G0 : Row.Cx
         G0 = record { locals = List._++_ t0 t1; slots = List._∷_ (Row.lease (κs .0) (qs .0)) (List._∷_ (Row.lease (κs .1 .0) (qs .1 .0)) (List._∷_ (Row.lease (κs .1 .1 .0) (qs .1 .1 .0)) (List._∷_ (Row.lease (κs .1 .1 .1 .0) (qs .1 .1 .1 .0)) (List._∷_ Row.off (List._∷_ Row.off List.[]))))) }
@@ -656,106 +678,106 @@ module _ (claims· : Claims) where
         G4 = record { locals = List._++_ t3 t1; slots = List._∷_ (Row.lease (κs .0) (qs .0)) (List._∷_ (Row.lease (κs .1 .0) (qs .1 .0)) (List._∷_ (Row.lease (κs .1 .1 .0) (qs .1 .1 .0)) (List._∷_ (Row.lease (κs .1 .1 .1 .0) (qs .1 .1 .1 .0)) (List._∷_ Row.off (List._∷_ Row.off List.[]))))) }
 
         abbrev G5 : Row.Cx
-        G5 = record { locals = List._++_ t3 t1; slots = List._∷_ (Row.lease (κs .0) (qs .0)) (List._∷_ (Row.lease (κs .1 .0) (qs .1 .0)) (List._∷_ (Row.lease (κs .1 .1 .0) (qs .1 .1 .0)) (List._∷_ (Row.lease (κs .1 .1 .1 .0) (qs .1 .1 .1 .0)) (List._∷_ Row.alive (List._∷_ Row.off List.[]))))) }
+        G5 = record { locals = List._++_ t4 t1; slots = List._∷_ (Row.lease (κs .0) (qs .0)) (List._∷_ (Row.lease (κs .1 .0) (qs .1 .0)) (List._∷_ (Row.lease (κs .1 .1 .0) (qs .1 .1 .0)) (List._∷_ (Row.lease (κs .1 .1 .1 .0) (qs .1 .1 .1 .0)) (List._∷_ Row.off (List._∷_ Row.off List.[]))))) }
 
         abbrev G6 : Row.Cx
-        G6 = record { locals = List._++_ g4 t1; slots = List._∷_ Row.off (List._∷_ (Row.lease (κs .1 .0) (qs .1 .0)) (List._∷_ (Row.lease (κs .1 .1 .0) (qs .1 .1 .0)) (List._∷_ (Row.lease (κs .1 .1 .1 .0) (qs .1 .1 .1 .0)) (List._∷_ Row.alive (List._∷_ Row.off List.[]))))) }
+        G6 = record { locals = List._++_ t4 t1; slots = List._∷_ (Row.lease (κs .0) (qs .0)) (List._∷_ (Row.lease (κs .1 .0) (qs .1 .0)) (List._∷_ (Row.lease (κs .1 .1 .0) (qs .1 .1 .0)) (List._∷_ (Row.lease (κs .1 .1 .1 .0) (qs .1 .1 .1 .0)) (List._∷_ Row.alive (List._∷_ Row.off List.[]))))) }
 
         abbrev G7 : Row.Cx
-        G7 = record { locals = List._++_ g5 t6; slots = List._∷_ Row.off (List._∷_ (Row.lease (κs .1 .0) (qs .1 .0)) (List._∷_ (Row.lease (κs .1 .1 .0) (qs .1 .1 .0)) (List._∷_ (Row.lease (κs .1 .1 .1 .0) (qs .1 .1 .1 .0)) (List._∷_ Row.alive (List._∷_ Row.off List.[]))))) }
+        G7 = record { locals = List._++_ g5 t1; slots = List._∷_ Row.off (List._∷_ (Row.lease (κs .1 .0) (qs .1 .0)) (List._∷_ (Row.lease (κs .1 .1 .0) (qs .1 .1 .0)) (List._∷_ (Row.lease (κs .1 .1 .1 .0) (qs .1 .1 .1 .0)) (List._∷_ Row.alive (List._∷_ Row.off List.[]))))) }
 
         abbrev G8 : Row.Cx
-        G8 = record { locals = List._++_ g7 t8; slots = List._∷_ Row.off (List._∷_ (Row.lease (κs .1 .0) (qs .1 .0)) (List._∷_ (Row.lease (κs .1 .1 .0) (qs .1 .1 .0)) (List._∷_ (Row.lease (κs .1 .1 .1 .0) (qs .1 .1 .1 .0)) (List._∷_ Row.alive (List._∷_ Row.off List.[]))))) }
+        G8 = record { locals = List._++_ g6 t1; slots = List._∷_ Row.off (List._∷_ (Row.lease (κs .1 .0) (qs .1 .0)) (List._∷_ (Row.lease (κs .1 .1 .0) (qs .1 .1 .0)) (List._∷_ (Row.lease (κs .1 .1 .1 .0) (qs .1 .1 .1 .0)) (List._∷_ Row.alive (List._∷_ Row.off List.[]))))) }
 
         abbrev G9 : Row.Cx
-        G9 = record { locals = List._++_ g5 t8; slots = List._∷_ Row.off (List._∷_ (Row.lease (κs .1 .0) (qs .1 .0)) (List._∷_ (Row.lease (κs .1 .1 .0) (qs .1 .1 .0)) (List._∷_ (Row.lease (κs .1 .1 .1 .0) (qs .1 .1 .1 .0)) (List._∷_ Row.alive (List._∷_ Row.off List.[]))))) }
+        G9 = record { locals = List._++_ g7 t1; slots = List._∷_ Row.off (List._∷_ (Row.lease (κs .1 .0) (qs .1 .0)) (List._∷_ (Row.lease (κs .1 .1 .0) (qs .1 .1 .0)) (List._∷_ (Row.lease (κs .1 .1 .1 .0) (qs .1 .1 .1 .0)) (List._∷_ Row.alive (List._∷_ Row.off List.[]))))) }
 
         abbrev G10 : Row.Cx
-        G10 = record { locals = List._++_ g5 t8; slots = List._∷_ Row.off (List._∷_ (Row.lease (κs .1 .0) (qs .1 .0)) (List._∷_ (Row.lease (κs .1 .1 .0) (qs .1 .1 .0)) (List._∷_ (Row.lease (κs .1 .1 .1 .0) (qs .1 .1 .1 .0)) (List._∷_ Row.dead (List._∷_ Row.off List.[]))))) }
+        G10 = record { locals = List._++_ g8 t1; slots = List._∷_ Row.off (List._∷_ (Row.lease (κs .1 .0) (qs .1 .0)) (List._∷_ (Row.lease (κs .1 .1 .0) (qs .1 .1 .0)) (List._∷_ (Row.lease (κs .1 .1 .1 .0) (qs .1 .1 .1 .0)) (List._∷_ Row.alive (List._∷_ Row.off List.[]))))) }
 
         abbrev G11 : Row.Cx
-        G11 = record { locals = List._++_ t3 t1; slots = List._∷_ (Row.lease (κs .0) (qs .0)) (List._∷_ (Row.lease (κs .1 .0) (qs .1 .0)) (List._∷_ (Row.lease (κs .1 .1 .0) (qs .1 .1 .0)) (List._∷_ (Row.lease (κs .1 .1 .1 .0) (qs .1 .1 .1 .0)) (List._∷_ Row.dead (List._∷_ Row.off List.[]))))) }
+        G11 = record { locals = List._++_ g8 t1; slots = List._∷_ Row.off (List._∷_ (Row.lease (κs .1 .0) (qs .1 .0)) (List._∷_ (Row.lease (κs .1 .1 .0) (qs .1 .1 .0)) (List._∷_ (Row.lease (κs .1 .1 .1 .0) (qs .1 .1 .1 .0)) (List._∷_ Row.dead (List._∷_ Row.off List.[]))))) }
 
         abbrev G12 : Row.Cx
-        G12 = record { locals = List._++_ t3 t1; slots = List._∷_ (Row.lease (κs .0) (qs .0)) (List._∷_ (Row.lease (κs .1 .0) (qs .1 .0)) (List._∷_ (Row.lease (κs .1 .1 .0) (qs .1 .1 .0)) (List._∷_ (Row.lease (κs .1 .1 .1 .0) (qs .1 .1 .1 .0)) (List._∷_ Row.off (List._∷_ Row.off List.[]))))) }
+        G12 = record { locals = List._++_ t4 t1; slots = List._∷_ (Row.lease (κs .0) (qs .0)) (List._∷_ (Row.lease (κs .1 .0) (qs .1 .0)) (List._∷_ (Row.lease (κs .1 .1 .0) (qs .1 .1 .0)) (List._∷_ (Row.lease (κs .1 .1 .1 .0) (qs .1 .1 .1 .0)) (List._∷_ Row.dead (List._∷_ Row.off List.[]))))) }
 
         abbrev G13 : Row.Cx
-        G13 = record { locals = List._++_ t3 t1; slots = List._∷_ (Row.lease (κs .0) (qs .0)) (List._∷_ (Row.lease (κs .1 .0) (qs .1 .0)) (List._∷_ (Row.lease (κs .1 .1 .0) (qs .1 .1 .0)) (List._∷_ (Row.lease (κs .1 .1 .1 .0) (qs .1 .1 .1 .0)) (List._∷_ Row.off (List._∷_ Row.alive List.[]))))) }
+        G13 = record { locals = List._++_ t4 t1; slots = List._∷_ (Row.lease (κs .0) (qs .0)) (List._∷_ (Row.lease (κs .1 .0) (qs .1 .0)) (List._∷_ (Row.lease (κs .1 .1 .0) (qs .1 .1 .0)) (List._∷_ (Row.lease (κs .1 .1 .1 .0) (qs .1 .1 .1 .0)) (List._∷_ Row.off (List._∷_ Row.off List.[]))))) }
 
         abbrev G14 : Row.Cx
-        G14 = record { locals = List._++_ g9 t10; slots = List._∷_ Row.off (List._∷_ (Row.lease (κs .1 .0) (qs .1 .0)) (List._∷_ (Row.lease (κs .1 .1 .0) (qs .1 .1 .0)) (List._∷_ (Row.lease (κs .1 .1 .1 .0) (qs .1 .1 .1 .0)) (List._∷_ Row.off (List._∷_ Row.alive List.[]))))) }
+        G14 = record { locals = List._++_ t9 t1; slots = List._∷_ (Row.lease (κs .0) (qs .0)) (List._∷_ (Row.lease (κs .1 .0) (qs .1 .0)) (List._∷_ (Row.lease (κs .1 .1 .0) (qs .1 .1 .0)) (List._∷_ (Row.lease (κs .1 .1 .1 .0) (qs .1 .1 .1 .0)) (List._∷_ Row.off (List._∷_ Row.off List.[]))))) }
 
         abbrev G15 : Row.Cx
-        G15 = record { locals = List._++_ g9 t11; slots = List._∷_ Row.off (List._∷_ (Row.lease (κs .1 .0) (qs .1 .0)) (List._∷_ (Row.lease (κs .1 .1 .0) (qs .1 .1 .0)) (List._∷_ (Row.lease (κs .1 .1 .1 .0) (qs .1 .1 .1 .0)) (List._∷_ Row.off (List._∷_ Row.alive List.[]))))) }
+        G15 = record { locals = List._++_ t9 t1; slots = List._∷_ (Row.lease (κs .0) (qs .0)) (List._∷_ (Row.lease (κs .1 .0) (qs .1 .0)) (List._∷_ (Row.lease (κs .1 .1 .0) (qs .1 .1 .0)) (List._∷_ (Row.lease (κs .1 .1 .1 .0) (qs .1 .1 .1 .0)) (List._∷_ Row.off (List._∷_ Row.alive List.[]))))) }
 
         abbrev G16 : Row.Cx
-        G16 = record { locals = List._++_ g9 t12; slots = List._∷_ Row.off (List._∷_ (Row.lease (κs .1 .0) (qs .1 .0)) (List._∷_ (Row.lease (κs .1 .1 .0) (qs .1 .1 .0)) (List._∷_ (Row.lease (κs .1 .1 .1 .0) (qs .1 .1 .1 .0)) (List._∷_ Row.off (List._∷_ Row.alive List.[]))))) }
+        G16 = record { locals = List._++_ g10 t1; slots = List._∷_ Row.off (List._∷_ (Row.lease (κs .1 .0) (qs .1 .0)) (List._∷_ (Row.lease (κs .1 .1 .0) (qs .1 .1 .0)) (List._∷_ (Row.lease (κs .1 .1 .1 .0) (qs .1 .1 .1 .0)) (List._∷_ Row.off (List._∷_ Row.alive List.[]))))) }
 
         abbrev G17 : Row.Cx
-        G17 = record { locals = List._++_ g13 t14; slots = List._∷_ Row.off (List._∷_ (Row.lease (κs .1 .0) (qs .1 .0)) (List._∷_ (Row.lease (κs .1 .1 .0) (qs .1 .1 .0)) (List._∷_ (Row.lease (κs .1 .1 .1 .0) (qs .1 .1 .1 .0)) (List._∷_ Row.off (List._∷_ Row.alive List.[]))))) }
+        G17 = record { locals = List._++_ g11 t12; slots = List._∷_ Row.off (List._∷_ (Row.lease (κs .1 .0) (qs .1 .0)) (List._∷_ (Row.lease (κs .1 .1 .0) (qs .1 .1 .0)) (List._∷_ (Row.lease (κs .1 .1 .1 .0) (qs .1 .1 .1 .0)) (List._∷_ Row.off (List._∷_ Row.alive List.[]))))) }
 
         abbrev G18 : Row.Cx
-        G18 = record { locals = List._++_ g15 t14; slots = List._∷_ Row.off (List._∷_ (Row.lease (κs .1 .0) (qs .1 .0)) (List._∷_ (Row.lease (κs .1 .1 .0) (qs .1 .1 .0)) (List._∷_ (Row.lease (κs .1 .1 .1 .0) (qs .1 .1 .1 .0)) (List._∷_ Row.off (List._∷_ Row.alive List.[]))))) }
+        G18 = record { locals = List._++_ g11 t13; slots = List._∷_ Row.off (List._∷_ (Row.lease (κs .1 .0) (qs .1 .0)) (List._∷_ (Row.lease (κs .1 .1 .0) (qs .1 .1 .0)) (List._∷_ (Row.lease (κs .1 .1 .1 .0) (qs .1 .1 .1 .0)) (List._∷_ Row.off (List._∷_ Row.alive List.[]))))) }
 
         abbrev G19 : Row.Cx
-        G19 = record { locals = List._++_ g15 t16; slots = List._∷_ Row.off (List._∷_ (Row.lease (κs .1 .0) (qs .1 .0)) (List._∷_ (Row.lease (κs .1 .1 .0) (qs .1 .1 .0)) (List._∷_ (Row.lease (κs .1 .1 .1 .0) (qs .1 .1 .1 .0)) (List._∷_ Row.off (List._∷_ Row.alive List.[]))))) }
+        G19 = record { locals = List._++_ g14 t15; slots = List._∷_ Row.off (List._∷_ (Row.lease (κs .1 .0) (qs .1 .0)) (List._∷_ (Row.lease (κs .1 .1 .0) (qs .1 .1 .0)) (List._∷_ (Row.lease (κs .1 .1 .1 .0) (qs .1 .1 .1 .0)) (List._∷_ Row.off (List._∷_ Row.alive List.[]))))) }
 
         abbrev G20 : Row.Cx
-        G20 = record { locals = List._++_ g15 t16; slots = List._∷_ Row.off (List._∷_ (Row.lease (κs .1 .0) (qs .1 .0)) (List._∷_ (Row.lease (κs .1 .1 .0) (qs .1 .1 .0)) (List._∷_ (Row.lease (κs .1 .1 .1 .0) (qs .1 .1 .1 .0)) (List._∷_ Row.off (List._∷_ Row.dead List.[]))))) }
+        G20 = record { locals = List._++_ g16 t15; slots = List._∷_ Row.off (List._∷_ (Row.lease (κs .1 .0) (qs .1 .0)) (List._∷_ (Row.lease (κs .1 .1 .0) (qs .1 .1 .0)) (List._∷_ (Row.lease (κs .1 .1 .1 .0) (qs .1 .1 .1 .0)) (List._∷_ Row.off (List._∷_ Row.alive List.[]))))) }
 
         abbrev G21 : Row.Cx
-        G21 = record { locals = List._++_ t17 t1; slots = List._∷_ (Row.lease (κs .0) (qs .0)) (List._∷_ (Row.lease (κs .1 .0) (qs .1 .0)) (List._∷_ (Row.lease (κs .1 .1 .0) (qs .1 .1 .0)) (List._∷_ (Row.lease (κs .1 .1 .1 .0) (qs .1 .1 .1 .0)) (List._∷_ Row.off (List._∷_ Row.dead List.[]))))) }
+        G21 = record { locals = List._++_ g16 t17; slots = List._∷_ Row.off (List._∷_ (Row.lease (κs .1 .0) (qs .1 .0)) (List._∷_ (Row.lease (κs .1 .1 .0) (qs .1 .1 .0)) (List._∷_ (Row.lease (κs .1 .1 .1 .0) (qs .1 .1 .1 .0)) (List._∷_ Row.off (List._∷_ Row.alive List.[]))))) }
 
         abbrev G22 : Row.Cx
-        G22 = record { locals = List._++_ t17 t1; slots = List._∷_ (Row.lease (κs .0) (qs .0)) (List._∷_ (Row.lease (κs .1 .0) (qs .1 .0)) (List._∷_ (Row.lease (κs .1 .1 .0) (qs .1 .1 .0)) (List._∷_ (Row.lease (κs .1 .1 .1 .0) (qs .1 .1 .1 .0)) (List._∷_ Row.off (List._∷_ Row.off List.[]))))) }
+        G22 = record { locals = List._++_ g16 t17; slots = List._∷_ Row.off (List._∷_ (Row.lease (κs .1 .0) (qs .1 .0)) (List._∷_ (Row.lease (κs .1 .1 .0) (qs .1 .1 .0)) (List._∷_ (Row.lease (κs .1 .1 .1 .0) (qs .1 .1 .1 .0)) (List._∷_ Row.off (List._∷_ Row.dead List.[]))))) }
 
         abbrev G23 : Row.Cx
-        G23 = record { locals = List._++_ t18 t1; slots = List._∷_ (Row.lease (κs .0) (qs .0)) (List._∷_ (Row.lease (κs .1 .0) (qs .1 .0)) (List._∷_ (Row.lease (κs .1 .1 .0) (qs .1 .1 .0)) (List._∷_ (Row.lease (κs .1 .1 .1 .0) (qs .1 .1 .1 .0)) (List._∷_ Row.off (List._∷_ Row.off List.[]))))) }
+        G23 = record { locals = List._++_ t18 t1; slots = List._∷_ (Row.lease (κs .0) (qs .0)) (List._∷_ (Row.lease (κs .1 .0) (qs .1 .0)) (List._∷_ (Row.lease (κs .1 .1 .0) (qs .1 .1 .0)) (List._∷_ (Row.lease (κs .1 .1 .1 .0) (qs .1 .1 .1 .0)) (List._∷_ Row.off (List._∷_ Row.dead List.[]))))) }
 
         abbrev G24 : Row.Cx
-        G24 = record { locals = List._++_ t19 t1; slots = List._∷_ (Row.lease (κs .0) (qs .0)) (List._∷_ (Row.lease (κs .1 .0) (qs .1 .0)) (List._∷_ (Row.lease (κs .1 .1 .0) (qs .1 .1 .0)) (List._∷_ (Row.lease (κs .1 .1 .1 .0) (qs .1 .1 .1 .0)) (List._∷_ Row.off (List._∷_ Row.off List.[]))))) }
+        G24 = record { locals = List._++_ t18 t1; slots = List._∷_ (Row.lease (κs .0) (qs .0)) (List._∷_ (Row.lease (κs .1 .0) (qs .1 .0)) (List._∷_ (Row.lease (κs .1 .1 .0) (qs .1 .1 .0)) (List._∷_ (Row.lease (κs .1 .1 .1 .0) (qs .1 .1 .1 .0)) (List._∷_ Row.off (List._∷_ Row.off List.[]))))) }
 
         abbrev G25 : Row.Cx
-        G25 = record { locals = List._++_ t19 t20; slots = List._∷_ (Row.lease (κs .0) (qs .0)) (List._∷_ (Row.lease (κs .1 .0) (qs .1 .0)) (List._∷_ (Row.lease (κs .1 .1 .0) (qs .1 .1 .0)) (List._∷_ (Row.lease (κs .1 .1 .1 .0) (qs .1 .1 .1 .0)) (List._∷_ Row.off (List._∷_ Row.off List.[]))))) }
+        G25 = record { locals = List._++_ t19 t1; slots = List._∷_ (Row.lease (κs .0) (qs .0)) (List._∷_ (Row.lease (κs .1 .0) (qs .1 .0)) (List._∷_ (Row.lease (κs .1 .1 .0) (qs .1 .1 .0)) (List._∷_ (Row.lease (κs .1 .1 .1 .0) (qs .1 .1 .1 .0)) (List._∷_ Row.off (List._∷_ Row.off List.[]))))) }
 
         abbrev G26 : Row.Cx
-        G26 = record { locals = List._++_ t19 t21; slots = List._∷_ (Row.lease (κs .0) (qs .0)) (List._∷_ (Row.lease (κs .1 .0) (qs .1 .0)) (List._∷_ (Row.lease (κs .1 .1 .0) (qs .1 .1 .0)) (List._∷_ (Row.lease (κs .1 .1 .1 .0) (qs .1 .1 .1 .0)) (List._∷_ Row.off (List._∷_ Row.off List.[]))))) }
+        G26 = record { locals = List._++_ t20 t1; slots = List._∷_ (Row.lease (κs .0) (qs .0)) (List._∷_ (Row.lease (κs .1 .0) (qs .1 .0)) (List._∷_ (Row.lease (κs .1 .1 .0) (qs .1 .1 .0)) (List._∷_ (Row.lease (κs .1 .1 .1 .0) (qs .1 .1 .1 .0)) (List._∷_ Row.off (List._∷_ Row.off List.[]))))) }
 
         abbrev G27 : Row.Cx
-        G27 = record { locals = List._++_ t19 t21; slots = List._∷_ (Row.lease (κs .0) (qs .0)) (List._∷_ (Row.lease (κs .1 .0) (qs .1 .0)) (List._∷_ (Row.lease (κs .1 .1 .0) (qs .1 .1 .0)) (List._∷_ (Row.lease (κs .1 .1 .1 .0) (qs .1 .1 .1 .0)) (List._∷_ Row.off (List._∷_ Row.off List.[]))))) }
+        G27 = record { locals = List._++_ t21 t1; slots = List._∷_ (Row.lease (κs .0) (qs .0)) (List._∷_ (Row.lease (κs .1 .0) (qs .1 .0)) (List._∷_ (Row.lease (κs .1 .1 .0) (qs .1 .1 .0)) (List._∷_ (Row.lease (κs .1 .1 .1 .0) (qs .1 .1 .1 .0)) (List._∷_ Row.off (List._∷_ Row.off List.[]))))) }
 
         abbrev G28 : Row.Cx
-        G28 = record { locals = List._++_ t22 t21; slots = List._∷_ (Row.lease (κs .0) (qs .0)) (List._∷_ (Row.lease (κs .1 .0) (qs .1 .0)) (List._∷_ (Row.lease (κs .1 .1 .0) (qs .1 .1 .0)) (List._∷_ (Row.lease (κs .1 .1 .1 .0) (qs .1 .1 .1 .0)) (List._∷_ Row.off (List._∷_ Row.off List.[]))))) }
+        G28 = record { locals = List._++_ t21 t22; slots = List._∷_ (Row.lease (κs .0) (qs .0)) (List._∷_ (Row.lease (κs .1 .0) (qs .1 .0)) (List._∷_ (Row.lease (κs .1 .1 .0) (qs .1 .1 .0)) (List._∷_ (Row.lease (κs .1 .1 .1 .0) (qs .1 .1 .1 .0)) (List._∷_ Row.off (List._∷_ Row.off List.[]))))) }
 
         abbrev G29 : Row.Cx
-        G29 = record { locals = List._++_ t22 t23; slots = List._∷_ (Row.lease (κs .0) (qs .0)) (List._∷_ (Row.lease (κs .1 .0) (qs .1 .0)) (List._∷_ (Row.lease (κs .1 .1 .0) (qs .1 .1 .0)) (List._∷_ (Row.lease (κs .1 .1 .1 .0) (qs .1 .1 .1 .0)) (List._∷_ Row.off (List._∷_ Row.off List.[]))))) }
+        G29 = record { locals = List._++_ t21 t23; slots = List._∷_ (Row.lease (κs .0) (qs .0)) (List._∷_ (Row.lease (κs .1 .0) (qs .1 .0)) (List._∷_ (Row.lease (κs .1 .1 .0) (qs .1 .1 .0)) (List._∷_ (Row.lease (κs .1 .1 .1 .0) (qs .1 .1 .1 .0)) (List._∷_ Row.off (List._∷_ Row.off List.[]))))) }
 
         abbrev G30 : Row.Cx
-        G30 = record { locals = List._++_ t22 t1; slots = List._∷_ (Row.lease (κs .0) (qs .0)) (List._∷_ (Row.lease (κs .1 .0) (qs .1 .0)) (List._∷_ (Row.lease (κs .1 .1 .0) (qs .1 .1 .0)) (List._∷_ (Row.lease (κs .1 .1 .1 .0) (qs .1 .1 .1 .0)) (List._∷_ Row.off (List._∷_ Row.off List.[]))))) }
+        G30 = record { locals = List._++_ t21 t23; slots = List._∷_ (Row.lease (κs .0) (qs .0)) (List._∷_ (Row.lease (κs .1 .0) (qs .1 .0)) (List._∷_ (Row.lease (κs .1 .1 .0) (qs .1 .1 .0)) (List._∷_ (Row.lease (κs .1 .1 .1 .0) (qs .1 .1 .1 .0)) (List._∷_ Row.off (List._∷_ Row.off List.[]))))) }
 
         abbrev G31 : Row.Cx
-        G31 = record { locals = List._++_ t22 t1; slots = List._∷_ (Row.lease (κs .0) (qs .0)) (List._∷_ (Row.lease (κs .1 .0) (qs .1 .0)) (List._∷_ (Row.lease (κs .1 .1 .0) (qs .1 .1 .0)) (List._∷_ (Row.lease (κs .1 .1 .1 .0) (qs .1 .1 .1 .0)) (List._∷_ Row.off (List._∷_ Row.off List.[]))))) }
+        G31 = record { locals = List._++_ t24 t23; slots = List._∷_ (Row.lease (κs .0) (qs .0)) (List._∷_ (Row.lease (κs .1 .0) (qs .1 .0)) (List._∷_ (Row.lease (κs .1 .1 .0) (qs .1 .1 .0)) (List._∷_ (Row.lease (κs .1 .1 .1 .0) (qs .1 .1 .1 .0)) (List._∷_ Row.off (List._∷_ Row.off List.[]))))) }
 
         abbrev G32 : Row.Cx
-        G32 = record { locals = List._++_ t24 t1; slots = List._∷_ (Row.lease (κs .0) (qs .0)) (List._∷_ (Row.lease (κs .1 .0) (qs .1 .0)) (List._∷_ (Row.lease (κs .1 .1 .0) (qs .1 .1 .0)) (List._∷_ (Row.lease (κs .1 .1 .1 .0) (qs .1 .1 .1 .0)) (List._∷_ Row.off (List._∷_ Row.off List.[]))))) }
+        G32 = record { locals = List._++_ t24 t25; slots = List._∷_ (Row.lease (κs .0) (qs .0)) (List._∷_ (Row.lease (κs .1 .0) (qs .1 .0)) (List._∷_ (Row.lease (κs .1 .1 .0) (qs .1 .1 .0)) (List._∷_ (Row.lease (κs .1 .1 .1 .0) (qs .1 .1 .1 .0)) (List._∷_ Row.off (List._∷_ Row.off List.[]))))) }
 
         abbrev G33 : Row.Cx
-        G33 = record { locals = List._++_ t25 t1; slots = List._∷_ (Row.lease (κs .0) (qs .0)) (List._∷_ (Row.lease (κs .1 .0) (qs .1 .0)) (List._∷_ (Row.lease (κs .1 .1 .0) (qs .1 .1 .0)) (List._∷_ (Row.lease (κs .1 .1 .1 .0) (qs .1 .1 .1 .0)) (List._∷_ Row.off (List._∷_ Row.off List.[]))))) }
+        G33 = record { locals = List._++_ t24 t1; slots = List._∷_ (Row.lease (κs .0) (qs .0)) (List._∷_ (Row.lease (κs .1 .0) (qs .1 .0)) (List._∷_ (Row.lease (κs .1 .1 .0) (qs .1 .1 .0)) (List._∷_ (Row.lease (κs .1 .1 .1 .0) (qs .1 .1 .1 .0)) (List._∷_ Row.off (List._∷_ Row.off List.[]))))) }
 
         abbrev G34 : Row.Cx
-        G34 = record { locals = List._++_ t26 t1; slots = List._∷_ (Row.lease (κs .0) (qs .0)) (List._∷_ (Row.lease (κs .1 .0) (qs .1 .0)) (List._∷_ (Row.lease (κs .1 .1 .0) (qs .1 .1 .0)) (List._∷_ (Row.lease (κs .1 .1 .1 .0) (qs .1 .1 .1 .0)) (List._∷_ Row.off (List._∷_ Row.off List.[]))))) }
+        G34 = record { locals = List._++_ t24 t1; slots = List._∷_ (Row.lease (κs .0) (qs .0)) (List._∷_ (Row.lease (κs .1 .0) (qs .1 .0)) (List._∷_ (Row.lease (κs .1 .1 .0) (qs .1 .1 .0)) (List._∷_ (Row.lease (κs .1 .1 .1 .0) (qs .1 .1 .1 .0)) (List._∷_ Row.off (List._∷_ Row.off List.[]))))) }
 
         abbrev G35 : Row.Cx
-        G35 = record { locals = List._++_ t27 t1; slots = List._∷_ (Row.lease (κs .0) (qs .0)) (List._∷_ (Row.lease (κs .1 .0) (qs .1 .0)) (List._∷_ (Row.lease (κs .1 .1 .0) (qs .1 .1 .0)) (List._∷_ (Row.lease (κs .1 .1 .1 .0) (qs .1 .1 .1 .0)) (List._∷_ Row.off (List._∷_ Row.off List.[]))))) }
+        G35 = record { locals = List._++_ t26 t1; slots = List._∷_ (Row.lease (κs .0) (qs .0)) (List._∷_ (Row.lease (κs .1 .0) (qs .1 .0)) (List._∷_ (Row.lease (κs .1 .1 .0) (qs .1 .1 .0)) (List._∷_ (Row.lease (κs .1 .1 .1 .0) (qs .1 .1 .1 .0)) (List._∷_ Row.off (List._∷_ Row.off List.[]))))) }
 
         abbrev G36 : Row.Cx
-        G36 = record { locals = List._++_ t28 t1; slots = List._∷_ (Row.lease (κs .0) (qs .0)) (List._∷_ (Row.lease (κs .1 .0) (qs .1 .0)) (List._∷_ (Row.lease (κs .1 .1 .0) (qs .1 .1 .0)) (List._∷_ (Row.lease (κs .1 .1 .1 .0) (qs .1 .1 .1 .0)) (List._∷_ Row.off (List._∷_ Row.off List.[]))))) }
+        G36 = record { locals = List._++_ t27 t1; slots = List._∷_ (Row.lease (κs .0) (qs .0)) (List._∷_ (Row.lease (κs .1 .0) (qs .1 .0)) (List._∷_ (Row.lease (κs .1 .1 .0) (qs .1 .1 .0)) (List._∷_ (Row.lease (κs .1 .1 .1 .0) (qs .1 .1 .1 .0)) (List._∷_ Row.off (List._∷_ Row.off List.[]))))) }
 
         abbrev G37 : Row.Cx
-        G37 = record { locals = List._++_ t29 t1; slots = List._∷_ (Row.lease (κs .0) (qs .0)) (List._∷_ (Row.lease (κs .1 .0) (qs .1 .0)) (List._∷_ (Row.lease (κs .1 .1 .0) (qs .1 .1 .0)) (List._∷_ (Row.lease (κs .1 .1 .1 .0) (qs .1 .1 .1 .0)) (List._∷_ Row.off (List._∷_ Row.off List.[]))))) }
+        G37 = record { locals = List._++_ t28 t1; slots = List._∷_ (Row.lease (κs .0) (qs .0)) (List._∷_ (Row.lease (κs .1 .0) (qs .1 .0)) (List._∷_ (Row.lease (κs .1 .1 .0) (qs .1 .1 .0)) (List._∷_ (Row.lease (κs .1 .1 .1 .0) (qs .1 .1 .1 .0)) (List._∷_ Row.off (List._∷_ Row.off List.[]))))) }
 
         abbrev G38 : Row.Cx
-        G38 = record { locals = List._++_ t30 t1; slots = List._∷_ (Row.lease (κs .0) (qs .0)) (List._∷_ (Row.lease (κs .1 .0) (qs .1 .0)) (List._∷_ (Row.lease (κs .1 .1 .0) (qs .1 .1 .0)) (List._∷_ (Row.lease (κs .1 .1 .1 .0) (qs .1 .1 .1 .0)) (List._∷_ Row.off (List._∷_ Row.off List.[]))))) }
+        G38 = record { locals = List._++_ t29 t1; slots = List._∷_ (Row.lease (κs .0) (qs .0)) (List._∷_ (Row.lease (κs .1 .0) (qs .1 .0)) (List._∷_ (Row.lease (κs .1 .1 .0) (qs .1 .1 .0)) (List._∷_ (Row.lease (κs .1 .1 .1 .0) (qs .1 .1 .1 .0)) (List._∷_ Row.off (List._∷_ Row.off List.[]))))) }
 
         abbrev G39 : Row.Cx
         G39 = record { locals = List._++_ t2 t1; slots = List._∷_ (Row.lease (κs .0) (qs .0)) (List._∷_ (Row.lease (κs .1 .0) (qs .1 .0)) (List._∷_ (Row.lease (κs .1 .1 .0) (qs .1 .1 .0)) (List._∷_ (Row.lease (κs .1 .1 .1 .0) (qs .1 .1 .1 .0)) (List._∷_ Row.off (List._∷_ Row.off List.[]))))) }
@@ -769,122 +791,122 @@ module _ (claims· : Claims) where
           abbrev E : Wp.Env 𝓤 H
           E = Frame.EnvOf 𝓤 H (List._∷_ (Kinds.tyR r) (Enter.tysP ps xs)) bs
 
-          d0 : Typed.Typed 𝓤 H A 𝓣 E G39 b15 Δ0 at0
+          d0 : Typed.Typed 𝓤 H A 𝓣 E G39 b17 Δ0 at0
           d0 = Typed.t-return 𝓤 H A W 𝓣 E Δ0 tt
 
-          d1 : Typed.Typed 𝓤 H A 𝓣 E G38 b15 Δ0 at1
-          d1 = Typed.g-pre 𝓤 H A W 𝓣 E G38 G39 b15 Δ0 (Typed.pass T38 T39 s37) at0 (Scalar.g-room 𝓤 H A W E G38 8 (Syntax.tyInt Syntax.w8) (Scalar.room-sc 𝓤 H A W (Row.sInt Syntax.w8))) d0
+          d1 : Typed.Typed 𝓤 H A 𝓣 E G38 b17 Δ0 at1
+          d1 = Typed.g-pre 𝓤 H A W 𝓣 E G38 G39 b17 Δ0 (Typed.pass T38 T39 s37) at0 (Scalar.g-room 𝓤 H A W E G38 11 (Syntax.tyInt Syntax.w64) (Scalar.room-sc 𝓤 H A W (Row.sInt Syntax.w64))) d0
 
-          d2 : Typed.Typed 𝓤 H A 𝓣 E G37 b15 Δ0 at2
-          d2 = Typed.g-pre 𝓤 H A W 𝓣 E G37 G38 b15 Δ0 (Typed.pass T37 T38 s36) at1 (Scalar.g-room 𝓤 H A W E G37 7 (Syntax.tyInt Syntax.w64) (Scalar.room-sc 𝓤 H A W (Row.sInt Syntax.w64))) d1
+          d2 : Typed.Typed 𝓤 H A 𝓣 E G37 b17 Δ0 at2
+          d2 = Typed.g-pre 𝓤 H A W 𝓣 E G37 G38 b17 Δ0 (Typed.pass T37 T38 s36) at1 (Scalar.g-room 𝓤 H A W E G37 9 (Laws.mir) (Local.room-whole 𝓤 H A W (Declared.row Answer.the-type) (Laws.mir) Path'.refl)) d1
 
-          d3 : Typed.Typed 𝓤 H A 𝓣 E G36 b15 Δ0 at3
-          d3 = Typed.g-pre 𝓤 H A W 𝓣 E G36 G37 b15 Δ0 (Typed.pass T36 T37 s35) at2 (Scalar.g-room 𝓤 H A W E G36 6 (Syntax.tyInt Syntax.w32) (Scalar.room-sc 𝓤 H A W (Row.sInt Syntax.w32))) d2
+          d3 : Typed.Typed 𝓤 H A 𝓣 E G36 b17 Δ0 at3
+          d3 = Typed.g-pre 𝓤 H A W 𝓣 E G36 G37 b17 Δ0 (Typed.pass T36 T37 s35) at2 (Scalar.g-room 𝓤 H A W E G36 7 (Syntax.tyInt Syntax.w64) (Scalar.room-sc 𝓤 H A W (Row.sInt Syntax.w64))) d2
 
-          d4 : Typed.Typed 𝓤 H A 𝓣 E G35 b15 Δ0 at4
-          d4 = Typed.g-pre 𝓤 H A W 𝓣 E G35 G36 b15 Δ0 (Typed.pass T35 T36 s34) at3 (Scalar.g-room 𝓤 H A W E G35 5 (Syntax.tyInt Syntax.w8) (Scalar.room-sc 𝓤 H A W (Row.sInt Syntax.w8))) d3
+          d4 : Typed.Typed 𝓤 H A 𝓣 E G35 b17 Δ0 at4
+          d4 = Typed.g-pre 𝓤 H A W 𝓣 E G35 G36 b17 Δ0 (Typed.pass T35 T36 s34) at3 (Scalar.g-room 𝓤 H A W E G35 6 (Syntax.tyInt Syntax.w64) (Scalar.room-sc 𝓤 H A W (Row.sInt Syntax.w64))) d3
 
-          d5 : Typed.Typed 𝓤 H A 𝓣 E G34 b15 Δ0 at5
-          d5 = Typed.g-pre 𝓤 H A W 𝓣 E G34 G35 b15 Δ0 (Typed.pass T34 T35 s33) at4 (Scalar.g-room 𝓤 H A W E G34 13 (Syntax.tyInt Syntax.w64) (Scalar.room-sc 𝓤 H A W (Row.sInt Syntax.w64))) d4
+          d5 : Typed.Typed 𝓤 H A 𝓣 E G34 b18 Δ0 at5
+          d5 = Typed.s-seq 𝓤 H A W 𝓣 E G34 G35 b16 b17 Δ0 (Typed.pass T34 T35 s33) at4 (LocalCopy.t-val-copy 𝓤 H A W E 𝓣 (λ ρ. Unit) G34 9 0 (Declared.row Answer.the-type) (Laws.mir) (Laws.mir) (Rows'.whole (Declared.row Answer.the-type)) (Rows'.whole (Declared.row Answer.the-type)) (λ x. x) (λ x. x) (λ x. x) Path'.refl (Own.told-none 𝓤 H A (G34 .slots)) (Yields.yields-copy 𝓤 H A W (λ ρ. Unit) (Declared.row Answer.the-type) Path'.refl (Copies.cEnum Answer.the-type Laws.the-laws Laws.the-copy .copy 𝓤 H A W) (Rows'.whole (Declared.row Answer.the-type)) (λ x. x) (λ x. x) (λ ρ told. Local.mem-whole 𝓤 H A W (Declared.row Answer.the-type) ρ) λ ρ told. Local.whole-mem 𝓤 H A W (Declared.row Answer.the-type) ρ) (Reads'.room-gone 𝓤 H A (Laws.mir)) (Yields.makes-mem 𝓤 H A W (λ ρ. Unit) (Declared.row Answer.the-type) Path'.refl (Rows'.whole (Declared.row Answer.the-type)) (λ x. x) λ ρ told. Local.whole-mem 𝓤 H A W (Declared.row Answer.the-type) ρ) Path'.refl Path'.refl) d4
 
-          d6 : Typed.Typed 𝓤 H A 𝓣 E G33 b15 Δ0 at6
-          d6 = Typed.g-pre 𝓤 H A W 𝓣 E G33 G34 b15 Δ0 (Typed.pass T33 T34 s32) at5 (Scalar.g-room 𝓤 H A W E G33 11 (Laws.mir) (Local.room-whole 𝓤 H A W (Declared.row Answer.the-type) (Laws.mir) Path'.refl)) d5
+          d6 : Typed.Typed 𝓤 H A 𝓣 E G33 b19 Δ0 at6
+          d6 = Typed.s-seq 𝓤 H A W 𝓣 E G33 G34 b15 b18 Δ0 (Typed.pass T33 T34 s32) at5 (Deref.t-ref-write 𝓤 H A W E 𝓣 G33 3 2 (Referent.fInt Syntax.w64) (Syntax.tyRef (Syntax.named 2) Syntax.mut (Syntax.tyInt Syntax.w64)) (Row.lease (κs .1 .1 .0) (qs .1 .1 .0)) (λ x. x) (Scalar.oAt 7 (Syntax.tyInt Syntax.w64) (Row.valS (Row.sInt Syntax.w64))) (Reads'.as-is 𝓤 H A (Rows'.mref (Referent.rtF (Referent.fInt Syntax.w64)) (Syntax.tyRef (Syntax.named 2) Syntax.mut (Syntax.tyInt Syntax.w64)) 2)) (Scalar.reads-sc 𝓤 H A W (Row.sInt Syntax.w64), Path'.refl) Path'.refl tt Path'.refl λ u. Path'.refl) d5
 
-          d7 : Typed.Typed 𝓤 H A 𝓣 E G32 b15 Δ0 at7
-          d7 = Typed.g-pre 𝓤 H A W 𝓣 E G32 G33 b15 Δ0 (Typed.pass T32 T33 s31) at6 (Scalar.g-room 𝓤 H A W E G32 10 (Syntax.tyInt Syntax.w64) (Scalar.room-sc 𝓤 H A W (Row.sInt Syntax.w64))) d6
+          d7 : Typed.Typed 𝓤 H A 𝓣 E G32 b19 Δ0 at7
+          d7 = Typed.g-pre 𝓤 H A W 𝓣 E G32 G33 b19 Δ0 (Typed.pass T32 T33 s31) at6 (Scalar.g-room 𝓤 H A W E G32 18 Syntax.tyPtr (Scalar.room-sc 𝓤 H A W Row.sPtr)) d6
 
-          d8 : Typed.Typed 𝓤 H A 𝓣 E G31 b16 Δ0 at8
-          d8 = Typed.s-seq 𝓤 H A W 𝓣 E G31 G32 b14 b15 Δ0 (Typed.pass T31 T32 s30) at7 (LocalCopy.t-val-copy 𝓤 H A W E 𝓣 (λ ρ. Unit) G31 11 0 (Declared.row Answer.the-type) (Laws.mir) (Laws.mir) (Rows'.whole (Declared.row Answer.the-type)) (Rows'.whole (Declared.row Answer.the-type)) (λ x. x) (λ x. x) (λ x. x) Path'.refl (Own.told-none 𝓤 H A (G31 .slots)) (Yields.yields-copy 𝓤 H A W (λ ρ. Unit) (Declared.row Answer.the-type) Path'.refl (Copies.cEnum Answer.the-type Laws.the-laws Laws.the-copy .copy 𝓤 H A W) (Rows'.whole (Declared.row Answer.the-type)) (λ x. x) (λ x. x) (λ ρ told. Local.mem-whole 𝓤 H A W (Declared.row Answer.the-type) ρ) λ ρ told. Local.whole-mem 𝓤 H A W (Declared.row Answer.the-type) ρ) (Reads.room-gone 𝓤 H A (Laws.mir)) (Yields.makes-mem 𝓤 H A W (λ ρ. Unit) (Declared.row Answer.the-type) Path'.refl (Rows'.whole (Declared.row Answer.the-type)) (λ x. x) λ ρ told. Local.whole-mem 𝓤 H A W (Declared.row Answer.the-type) ρ) Path'.refl Path'.refl) d7
+          d8 : Typed.Typed 𝓤 H A 𝓣 E G31 b19 Δ0 at8
+          d8 = Typed.g-pre 𝓤 H A W 𝓣 E G31 G32 b19 Δ0 (Typed.pass T31 T32 s30) at7 (Scalar.g-room 𝓤 H A W E G31 17 (Syntax.tyInt Syntax.w64) (Scalar.room-sc 𝓤 H A W (Row.sInt Syntax.w64))) d7
 
-          d9 : Typed.Typed 𝓤 H A 𝓣 E G30 b17 Δ0 at9
-          d9 = Typed.s-seq 𝓤 H A W 𝓣 E G30 G31 b13 b16 Δ0 (Typed.pass T30 T31 s29) at8 (Deref.t-ref-write 𝓤 H A W E 𝓣 G30 3 2 (Referent.fInt Syntax.w64) (Syntax.tyRef (Syntax.named 2) Syntax.mut (Syntax.tyInt Syntax.w64)) (Row.lease (κs .1 .1 .0) (qs .1 .1 .0)) (λ x. x) (Scalar.oAt 7 (Syntax.tyInt Syntax.w64) (Row.valS (Row.sInt Syntax.w64))) (Reads.as-is 𝓤 H A (Rows'.mref (Referent.rtF (Referent.fInt Syntax.w64)) (Syntax.tyRef (Syntax.named 2) Syntax.mut (Syntax.tyInt Syntax.w64)) 2)) (Scalar.reads-sc 𝓤 H A W (Row.sInt Syntax.w64), Path'.refl) Path'.refl tt Path'.refl λ u. Path'.refl) d8
+          d9 : Typed.Typed 𝓤 H A 𝓣 E G30 b19 Δ0 at9
+          d9 = Typed.g-pre 𝓤 H A W 𝓣 E G30 G31 b19 Δ0 (Typed.pass T30 T31 s29) at8 (Scalar.g-room 𝓤 H A W E G30 10 OfStation.spelt (OfStation.room 𝓤 H A W)) d8
 
-          d10 : Typed.Typed 𝓤 H A 𝓣 E G29 b17 Δ0 at10
-          d10 = Typed.g-pre 𝓤 H A W 𝓣 E G29 G30 b17 Δ0 (Typed.pass T29 T30 s28) at9 (Scalar.g-room 𝓤 H A W E G29 20 Syntax.tyPtr (Scalar.room-sc 𝓤 H A W Row.sPtr)) d9
+          d10 : Typed.Typed 𝓤 H A 𝓣 E G29 b20 Δ0 at10
+          d10 = Typed.s-seq 𝓤 H A W 𝓣 E G29 G30 b14 b19 Δ0 (Typed.ask s28) at9 (Move.t-sl-set-from 𝓤 H A W E (OfStation.row) 𝓣 Path'.refl (λ ρ. Unit) G29 2 18 10 1 (Syntax.tyRef (Syntax.named 1) Syntax.mut OfStation.named) (Row.lease (κs .1 .0) (qs .1 .0)) OfStation.spelt OfStation.spelt (OfStation.held) (Shared.bySize 40) (λ u. u .1 .1 .1 .1 .1 .1 .1 .1 .1 .1 .1 .0) (λ x. x) (λ x. x) (λ x. x) (λ x. x) (λ i o. Elements.at-mul o 40 i) Path'.refl Path'.refl (Own.told-none 𝓤 H A (G29 .slots)) (Reads'.as-is 𝓤 H A (Mut.mslice (OfStation.row) (Syntax.tyRef (Syntax.named 1) Syntax.mut OfStation.named) 1)) (Reads'.as-is 𝓤 H A (Rows'.sc-here Row.sPtr)) (Yields.yields-copy 𝓤 H A W (λ ρ. Unit) (OfStation.row) Path'.refl (OfStation.copies .copy 𝓤 H A W) (OfStation.held) (λ x. x) (λ x. x) (λ ρ told. OfStation.in-mem 𝓤 H A W ρ) λ ρ told. OfStation.of-mem 𝓤 H A W ρ) Path'.refl tt Path'.refl Path'.refl) d9
 
-          d11 : Typed.Typed 𝓤 H A 𝓣 E G28 b17 Δ0 at11
-          d11 = Typed.g-pre 𝓤 H A W 𝓣 E G28 G29 b17 Δ0 (Typed.pass T28 T29 s27) at10 (Scalar.g-room 𝓤 H A W E G28 19 (Syntax.tyInt Syntax.w64) (Scalar.room-sc 𝓤 H A W (Row.sInt Syntax.w64))) d10
+          d11 : Typed.Typed 𝓤 H A 𝓣 E G28 b21 Δ0 at11
+          d11 = Typed.s-seq 𝓤 H A W 𝓣 E G28 G29 b13 b20 Δ0 (Typed.ask s27) at10 (Scalar.t-op2 𝓤 H A W E 𝓣 G28 Syntax.offset (Scalar.oFld 2 (List._∷_ (Syntax.field 0) List.[]) (Syntax.tyRef (Syntax.named 1) Syntax.mut OfStation.named) 0 Reads'.ptrVal) (Scalar.oAt 17 (Syntax.tyInt Syntax.w64) (Row.valS (Row.sInt Syntax.w64))) 18 (Rows'.sc-here Row.sPtr) Syntax.tyPtr (Row.valS Row.sPtr) (Row.sPtr .of) (Mut.reads-mslice-ptr 𝓤 H A W (OfStation.row) (Syntax.tyRef (Syntax.named 1) Syntax.mut OfStation.named) 1 0 Path'.refl, Path'.refl) (Scalar.reads-sc 𝓤 H A W (Row.sInt Syntax.w64), Path'.refl) (Reads'.room-gone 𝓤 H A Syntax.tyPtr) (Scalar.holds-sc 𝓤 H A W Row.sPtr) Path'.refl (λ u. Path'.refl) λ u. tt) d10
 
-          d12 : Typed.Typed 𝓤 H A 𝓣 E G27 b17 Δ0 at12
-          d12 = Typed.g-pre 𝓤 H A W 𝓣 E G27 G28 b17 Δ0 (Typed.pass T27 T28 s26) at11 (Scalar.g-room 𝓤 H A W E G27 12 OfStation.spelt (OfStation.room 𝓤 H A W)) d11
+          d12 : Typed.Typed 𝓤 H A 𝓣 E G27 b22 Δ0 at12
+          d12 = Typed.s-seq 𝓤 H A W 𝓣 E G27 G28 b12 b21 Δ0 (Typed.ask s26) at11 (Scalar.t-op2 𝓤 H A W E 𝓣 G27 (Syntax.mul Syntax.unsigned) (Scalar.oAt 11 (Syntax.tyInt Syntax.w64) (Row.valS (Row.sInt Syntax.w64))) (Scalar.oInt Syntax.w64 40) 17 (Rows'.sc-here (Row.sInt Syntax.w64)) (Syntax.tyInt Syntax.w64) (Row.valS (Row.sInt Syntax.w64)) (Row.sInt Syntax.w64 .of) (Scalar.reads-sc 𝓤 H A W (Row.sInt Syntax.w64), Path'.refl) tt (Reads'.room-gone 𝓤 H A (Syntax.tyInt Syntax.w64)) (Scalar.holds-sc 𝓤 H A W (Row.sInt Syntax.w64)) Path'.refl (λ u. Path'.refl) λ u. tt) d11
 
-          d13 : Typed.Typed 𝓤 H A 𝓣 E G26 b18 Δ0 at13
-          d13 = Typed.s-seq 𝓤 H A W 𝓣 E G26 G27 b12 b17 Δ0 (Typed.ask s25) at12 (Move.t-sl-set-from 𝓤 H A W E (OfStation.row) 𝓣 Path'.refl (λ ρ. Unit) G26 2 20 12 1 (Syntax.tyRef (Syntax.named 1) Syntax.mut OfStation.named) (Row.lease (κs .1 .0) (qs .1 .0)) OfStation.spelt OfStation.spelt (OfStation.held) (Shared.bySize 40) (λ u. u .1 .1 .1 .1 .1 .1 .1 .1 .1 .1 .1 .1 .1 .0) (λ x. x) (λ x. x) (λ x. x) (λ x. x) (λ i o. Elements.at-mul o 40 i) Path'.refl Path'.refl (Own.told-none 𝓤 H A (G26 .slots)) (Reads.as-is 𝓤 H A (Mut.mslice (OfStation.row) (Syntax.tyRef (Syntax.named 1) Syntax.mut OfStation.named) 1)) (Reads.as-is 𝓤 H A (Rows'.sc-here Row.sPtr)) (Yields.yields-copy 𝓤 H A W (λ ρ. Unit) (OfStation.row) Path'.refl (OfStation.copies .copy 𝓤 H A W) (OfStation.held) (λ x. x) (λ x. x) (λ ρ told. OfStation.in-mem 𝓤 H A W ρ) λ ρ told. OfStation.of-mem 𝓤 H A W ρ) Path'.refl tt Path'.refl Path'.refl) d12
+          d13 : Typed.Typed 𝓤 H A 𝓣 E G26 b22 Δ0 at13
+          d13 = Typed.g-pre 𝓤 H A W 𝓣 E G26 G27 b22 Δ0 (Typed.pass T26 T27 s25) at12 (Scalar.g-room 𝓤 H A W E G26 5 (Laws'.mir) (Local.room-whole 𝓤 H A W (Declared'.row Call.the-type) (Laws'.mir) Path'.refl)) d12
 
-          d14 : Typed.Typed 𝓤 H A 𝓣 E G25 b19 Δ0 at14
-          d14 = Typed.s-seq 𝓤 H A W 𝓣 E G25 G26 b11 b18 Δ0 (Typed.ask s24) at13 (Scalar.t-op2 𝓤 H A W E 𝓣 G25 Syntax.offset (Scalar.oFld 2 (List._∷_ (Syntax.field 0) List.[]) (Syntax.tyRef (Syntax.named 1) Syntax.mut OfStation.named) 0 Reads.ptrVal) (Scalar.oAt 19 (Syntax.tyInt Syntax.w64) (Row.valS (Row.sInt Syntax.w64))) 20 (Rows'.sc-here Row.sPtr) Syntax.tyPtr (Row.valS Row.sPtr) (Row.sPtr .of) (Mut.reads-mslice-ptr 𝓤 H A W (OfStation.row) (Syntax.tyRef (Syntax.named 1) Syntax.mut OfStation.named) 1 0 Path'.refl, Path'.refl) (Scalar.reads-sc 𝓤 H A W (Row.sInt Syntax.w64), Path'.refl) (Reads.room-gone 𝓤 H A Syntax.tyPtr) (Scalar.holds-sc 𝓤 H A W Row.sPtr) Path'.refl (λ u. Path'.refl) λ u. tt) d13
+          d14 : Typed.Typed 𝓤 H A 𝓣 E G25 b23 Δ0 at14
+          d14 = Typed.s-seq 𝓤 H A W 𝓣 E G25 G26 b11 b22 Δ0 (Typed.both s24) at13 (Plain.t-call-plain 𝓤 H A W 𝓣 0 ps·1 r·1 (claims· .2) (claims· .3) "ranges::index" (known .1) E (λ pos β. β) G25 (Num.vFld 5 (List._∷_ (Syntax.field 0) List.[]) 0 λ x. Call.struct .as-values x .0, tt) 11 List.[] (Call'.sub-id 𝓤 H A W (G25 .slots)) ((Reads.reads-field 𝓤 H A W Call.the-type Laws'.the-laws 0 (Syntax.tyInt Syntax.w8) 0 Path'.refl, Path'.refl), tt) (Reads'.room-gone 𝓤 H A (Syntax.tyInt Syntax.w64)) tt Path'.refl) d13
 
-          d15 : Typed.Typed 𝓤 H A 𝓣 E G24 b20 Δ0 at15
-          d15 = Typed.s-seq 𝓤 H A W 𝓣 E G24 G25 b10 b19 Δ0 (Typed.ask s23) at14 (Scalar.t-op2 𝓤 H A W E 𝓣 G24 (Syntax.mul Syntax.unsigned) (Scalar.oAt 13 (Syntax.tyInt Syntax.w64) (Row.valS (Row.sInt Syntax.w64))) (Scalar.oInt Syntax.w64 40) 19 (Rows'.sc-here (Row.sInt Syntax.w64)) (Syntax.tyInt Syntax.w64) (Row.valS (Row.sInt Syntax.w64)) (Row.sInt Syntax.w64 .of) (Scalar.reads-sc 𝓤 H A W (Row.sInt Syntax.w64), Path'.refl) tt (Reads.room-gone 𝓤 H A (Syntax.tyInt Syntax.w64)) (Scalar.holds-sc 𝓤 H A W (Row.sInt Syntax.w64)) Path'.refl (λ u. Path'.refl) λ u. tt) d14
+          d15 : Typed.Typed 𝓤 H A 𝓣 E G24 b24 Δ0 at15
+          d15 = Typed.s-seq 𝓤 H A W 𝓣 E G24 G25 b10 b23 Δ0 (Typed.both s23) at14 (Plain.t-call-plain 𝓤 H A W 𝓣 1 ps·3 r·3 (claims· .6) (claims· .7) "kept::kept_station" (known .3) E (λ pos β. β) G24 (record { pos = 9; st = List.[]; d = 0; at = λ x. x }, (Num.vFld 5 (List._∷_ (Syntax.field 1) List.[]) 4 λ x. Call.struct .as-values x .1 .0, (record { pos = 4; ty = Syntax.tyRef (Syntax.named 3) Syntax.imm (Syntax.tyInt Syntax.w8); ref = λ x. x }, tt))) 10 (List._∷_ 3 List.[]) (Call'.sub-id 𝓤 H A W (G24 .slots)) ((Yields.yields-copy 𝓤 H A W (λ ρ. Unit) (Declared.row Answer.the-type) Path'.refl (Copies.cEnum Answer.the-type Laws.the-laws Laws.the-copy .copy 𝓤 H A W) (Rows'.whole (Declared.row Answer.the-type)) (λ x. x) (λ x. x) (λ ρ told. Local.mem-whole 𝓤 H A W (Declared.row Answer.the-type) ρ) λ ρ told. Local.whole-mem 𝓤 H A W (Declared.row Answer.the-type) ρ, Path'.refl), ((Reads.reads-field 𝓤 H A W Call.the-type Laws'.the-laws 1 (Syntax.tyInt Syntax.w32) 4 Path'.refl, Path'.refl), (ShrSlice.spares-sslice 𝓤 H A W (Referent.rtF (Referent.fInt Syntax.w8)) (Syntax.tyRef (Syntax.named 3) Syntax.imm (Syntax.tyInt Syntax.w8)) 3, Shared.reads-sslice 𝓤 H A W (Referent.rtF (Referent.fInt Syntax.w8)) (Syntax.tyRef (Syntax.named 3) Syntax.imm (Syntax.tyInt Syntax.w8)) 3, Path'.refl, tt))) (Reads'.room-gone 𝓤 H A OfStation.spelt) (tt, tt) Path'.refl) d14
 
-          d16 : Typed.Typed 𝓤 H A 𝓣 E G23 b21 Δ0 at16
-          d16 = Typed.s-seq 𝓤 H A W 𝓣 E G23 G24 b9 b20 Δ0 (Typed.both s22) at15 (Plain.t-call-plain 𝓤 H A W 𝓣 0 ps·1 r·1 (claims· .2) (claims· .3) "ranges::index" (known .1) E (λ pos β. β) G23 (Num.vAt 5 λ x. x, tt) 13 List.[] (Call.sub-id 𝓤 H A W (G23 .slots)) ((Scalar.reads-sc 𝓤 H A W (Row.sInt Syntax.w8), Path'.refl), tt) (Reads.room-gone 𝓤 H A (Syntax.tyInt Syntax.w64)) tt Path'.refl) d15
+          d16 : Typed.Typed 𝓤 H A 𝓣 E G23 b24 Δ0 at16
+          d16 = Typed.g-pre 𝓤 H A W 𝓣 E G23 G24 b24 Δ0 (λ Ψ. Ψ) at15 (Lifetime.g-forget 𝓤 H A W E G23 5 Row.dead Path'.refl) d15
 
-          d17 : Typed.Typed 𝓤 H A 𝓣 E G22 b22 Δ0 at17
-          d17 = Typed.s-seq 𝓤 H A W 𝓣 E G22 G23 b8 b21 Δ0 (Typed.both s21) at16 (Plain.t-call-plain 𝓤 H A W 𝓣 1 ps·3 r·3 (claims· .6) (claims· .7) "kept::kept_station" (known .3) E (λ pos β. β) G22 (record { pos = 11; st = List.[]; d = 0; at = λ x. x }, (Num.vAt 6 λ x. x, (record { pos = 4; ty = Syntax.tyRef (Syntax.named 3) Syntax.imm (Syntax.tyInt Syntax.w8); ref = λ x. x }, tt))) 12 (List._∷_ 3 List.[]) (Call.sub-id 𝓤 H A W (G22 .slots)) ((Yields.yields-copy 𝓤 H A W (λ ρ. Unit) (Declared.row Answer.the-type) Path'.refl (Copies.cEnum Answer.the-type Laws.the-laws Laws.the-copy .copy 𝓤 H A W) (Rows'.whole (Declared.row Answer.the-type)) (λ x. x) (λ x. x) (λ ρ told. Local.mem-whole 𝓤 H A W (Declared.row Answer.the-type) ρ) λ ρ told. Local.whole-mem 𝓤 H A W (Declared.row Answer.the-type) ρ, Path'.refl), ((Scalar.reads-sc 𝓤 H A W (Row.sInt Syntax.w32), Path'.refl), (ShrSlice.spares-sslice 𝓤 H A W (Referent.rtF (Referent.fInt Syntax.w8)) (Syntax.tyRef (Syntax.named 3) Syntax.imm (Syntax.tyInt Syntax.w8)) 3, Shared.reads-sslice 𝓤 H A W (Referent.rtF (Referent.fInt Syntax.w8)) (Syntax.tyRef (Syntax.named 3) Syntax.imm (Syntax.tyInt Syntax.w8)) 3, Path'.refl, tt))) (Reads.room-gone 𝓤 H A OfStation.spelt) (tt, tt) Path'.refl) d16
+          d17 : Typed.Typed 𝓤 H A 𝓣 E G22 b24 Δ0 at17
+          d17 = Typed.g-pre 𝓤 H A W 𝓣 E G22 G23 b24 Δ0 (Typed.both s21) at16 (Relend.g-back-sl 𝓤 H A W E (OfOutput.row) G22 16 1 0 5 (Syntax.tyRef (Syntax.named 0) Syntax.mut OfOutput.named) (Syntax.tyRef Syntax.erased Syntax.mut OfOutput.named) (Row.lease (κs .0) (qs .0)) (λ x. x) (λ x. x) (Reads'.as-is 𝓤 H A (Mut.msleft (OfOutput.row) (Syntax.tyRef Syntax.erased Syntax.mut OfOutput.named))) (Reads'.as-is 𝓤 H A (Relend.mslice-owed (OfOutput.row) (Syntax.tyRef (Syntax.named 0) Syntax.mut OfOutput.named) 0 5 (Row.lease (κs .0) (qs .0)))) Path'.refl Path'.refl) d16
 
-          d18 : Typed.Typed 𝓤 H A 𝓣 E G21 b22 Δ0 at18
-          d18 = Typed.g-pre 𝓤 H A W 𝓣 E G21 G22 b22 Δ0 (λ Ψ. Ψ) at17 (Lifetime.g-forget 𝓤 H A W E G21 5 Row.dead Path'.refl) d17
+          d18 : Typed.Typed 𝓤 H A 𝓣 E G21 b24 Δ0 at18
+          d18 = Typed.g-pre 𝓤 H A W 𝓣 E G21 G22 b24 Δ0 (λ Ψ. Ψ) at17 (Lifetime.g-end 𝓤 H A W E G21 5 Path'.refl) d17
 
-          d19 : Typed.Typed 𝓤 H A 𝓣 E G20 b22 Δ0 at19
-          d19 = Typed.g-pre 𝓤 H A W 𝓣 E G20 G21 b22 Δ0 (Typed.both s19) at18 (Relend.g-back-sl 𝓤 H A W E (OfOutput.row) G20 18 1 0 5 (Syntax.tyRef (Syntax.named 0) Syntax.mut OfOutput.named) (Syntax.tyRef Syntax.erased Syntax.mut OfOutput.named) (Row.lease (κs .0) (qs .0)) (λ x. x) (λ x. x) (Reads.as-is 𝓤 H A (Mut.msleft (OfOutput.row) (Syntax.tyRef Syntax.erased Syntax.mut OfOutput.named))) (Reads.as-is 𝓤 H A (Relend.mslice-owed (OfOutput.row) (Syntax.tyRef (Syntax.named 0) Syntax.mut OfOutput.named) 0 5 (Row.lease (κs .0) (qs .0)))) Path'.refl Path'.refl) d18
+          d19 : Typed.Typed 𝓤 H A 𝓣 E G20 b24 Δ0 at19
+          d19 = Typed.g-pre 𝓤 H A W 𝓣 E G20 G21 b24 Δ0 (Typed.pass T20 T21 s19) at18 (Scalar.g-room 𝓤 H A W E G20 17 (Syntax.tyInt Syntax.w64) (Scalar.room-sc 𝓤 H A W (Row.sInt Syntax.w64))) d18
 
-          d20 : Typed.Typed 𝓤 H A 𝓣 E G19 b22 Δ0 at20
-          d20 = Typed.g-pre 𝓤 H A W 𝓣 E G19 G20 b22 Δ0 (λ Ψ. Ψ) at19 (Lifetime.g-end 𝓤 H A W E G19 5 Path'.refl) d19
+          d20 : Typed.Typed 𝓤 H A 𝓣 E G19 b24 Δ0 at20
+          d20 = Typed.g-pre 𝓤 H A W 𝓣 E G19 G20 b24 Δ0 (Typed.pass T19 T20 s18) at19 (Scalar.g-room 𝓤 H A W E G19 8 (Laws''.mir) (Local.room-whole 𝓤 H A W (Declared.row Request.the-type) (Laws''.mir) Path'.refl)) d19
 
-          d21 : Typed.Typed 𝓤 H A 𝓣 E G18 b22 Δ0 at21
-          d21 = Typed.g-pre 𝓤 H A W 𝓣 E G18 G19 b22 Δ0 (Typed.pass T18 T19 s17) at20 (Scalar.g-room 𝓤 H A W E G18 19 (Syntax.tyInt Syntax.w64) (Scalar.room-sc 𝓤 H A W (Row.sInt Syntax.w64))) d20
+          d21 : Typed.Typed 𝓤 H A 𝓣 E G18 b25 Δ0 at21
+          d21 = Typed.s-seq 𝓤 H A W 𝓣 E G18 G19 b9 b24 Δ0 (Typed.both s17) at20 (Plain.t-call-plain 𝓤 H A W 𝓣 1 ps·2 r·2 (claims· .4) (claims· .5) "tables::serve" (known .2) E (λ pos β. β) G18 (record { pos = 16; ty = Syntax.tyRef Syntax.erased Syntax.mut OfOutput.named; ref = λ x. x }, (Num.vAt 7 λ x. x, (Num.vFld 5 (List._∷_ (Syntax.field 0) List.[]) 0 λ x. Call.struct .as-values x .0, (Num.vAt 17 λ x. x, (record { pos = 8; st = List.[]; d = 0; at = λ x. x }, tt))))) 9 (List._∷_ 5 List.[]) (Call'.sub-id 𝓤 H A W (G18 .slots)) (Reads'.as-is 𝓤 H A (Mut.mslice (OfOutput.row) (Syntax.tyRef Syntax.erased Syntax.mut OfOutput.named) 5), Mut.reads-mslice 𝓤 H A W (OfOutput.row) (Syntax.tyRef Syntax.erased Syntax.mut OfOutput.named) 5, Path'.refl, ((Scalar.reads-sc 𝓤 H A W (Row.sInt Syntax.w64), Path'.refl), ((Reads.reads-field 𝓤 H A W Call.the-type Laws'.the-laws 0 (Syntax.tyInt Syntax.w8) 0 Path'.refl, Path'.refl), ((Scalar.reads-sc 𝓤 H A W (Row.sInt Syntax.w64), Path'.refl), ((Yields.yields-copy 𝓤 H A W (λ ρ. Unit) (Declared.row Request.the-type) Path'.refl (Copies.cEnum Request.the-type Laws''.the-laws Laws''.the-copy .copy 𝓤 H A W) (Rows'.whole (Declared.row Request.the-type)) (λ x. x) (λ x. x) (λ ρ told. Local.mem-whole 𝓤 H A W (Declared.row Request.the-type) ρ) λ ρ told. Local.whole-mem 𝓤 H A W (Declared.row Request.the-type) ρ, Path'.refl), tt))))) (Reads'.room-gone 𝓤 H A (Laws.mir)) (tt, tt) Path'.refl) d20
 
-          d22 : Typed.Typed 𝓤 H A 𝓣 E G17 b22 Δ0 at22
-          d22 = Typed.g-pre 𝓤 H A W 𝓣 E G17 G18 b22 Δ0 (Typed.pass T17 T18 s16) at21 (Scalar.g-room 𝓤 H A W E G17 9 (Laws'.mir) (Local.room-whole 𝓤 H A W (Declared.row Request.the-type) (Laws'.mir) Path'.refl)) d21
+          d22 : Typed.Typed 𝓤 H A 𝓣 E G17 b26 Δ0 at22
+          d22 = Typed.s-seq 𝓤 H A W 𝓣 E G17 G18 b8 b25 Δ0 (Typed.both s16) at21 (Plain.t-call-plain 𝓤 H A W 𝓣 0 ps·1 r·1 (claims· .2) (claims· .3) "ranges::index" (known .1) E (λ pos β. β) G17 (Num.vFld 5 (List._∷_ (Syntax.field 3) List.[]) 16 λ x. Call.struct .as-values x .1 .1 .1 .0, tt) 17 List.[] (Call'.sub-id 𝓤 H A W (G17 .slots)) ((Reads.reads-field 𝓤 H A W Call.the-type Laws'.the-laws 3 (Syntax.tyInt Syntax.w8) 16 Path'.refl, Path'.refl), tt) (Reads'.room-gone 𝓤 H A (Syntax.tyInt Syntax.w64)) tt Path'.refl) d21
 
-          d23 : Typed.Typed 𝓤 H A 𝓣 E G16 b23 Δ0 at23
-          d23 = Typed.s-seq 𝓤 H A W 𝓣 E G16 G17 b7 b22 Δ0 (Typed.both s15) at22 (Plain.t-call-plain 𝓤 H A W 𝓣 1 ps·2 r·2 (claims· .4) (claims· .5) "tables::serve" (known .2) E (λ pos β. β) G16 (record { pos = 18; ty = Syntax.tyRef Syntax.erased Syntax.mut OfOutput.named; ref = λ x. x }, (Num.vAt 7 λ x. x, (Num.vAt 5 λ x. x, (Num.vAt 19 λ x. x, (record { pos = 9; st = List.[]; d = 0; at = λ x. x }, tt))))) 11 (List._∷_ 5 List.[]) (Call.sub-id 𝓤 H A W (G16 .slots)) (Reads.as-is 𝓤 H A (Mut.mslice (OfOutput.row) (Syntax.tyRef Syntax.erased Syntax.mut OfOutput.named) 5), Mut.reads-mslice 𝓤 H A W (OfOutput.row) (Syntax.tyRef Syntax.erased Syntax.mut OfOutput.named) 5, Path'.refl, ((Scalar.reads-sc 𝓤 H A W (Row.sInt Syntax.w64), Path'.refl), ((Scalar.reads-sc 𝓤 H A W (Row.sInt Syntax.w8), Path'.refl), ((Scalar.reads-sc 𝓤 H A W (Row.sInt Syntax.w64), Path'.refl), ((Yields.yields-copy 𝓤 H A W (λ ρ. Unit) (Declared.row Request.the-type) Path'.refl (Copies.cEnum Request.the-type Laws'.the-laws Laws'.the-copy .copy 𝓤 H A W) (Rows'.whole (Declared.row Request.the-type)) (λ x. x) (λ x. x) (λ ρ told. Local.mem-whole 𝓤 H A W (Declared.row Request.the-type) ρ) λ ρ told. Local.whole-mem 𝓤 H A W (Declared.row Request.the-type) ρ, Path'.refl), tt))))) (Reads.room-gone 𝓤 H A (Laws.mir)) (tt, tt) Path'.refl) d22
+          d23 : Typed.Typed 𝓤 H A 𝓣 E G16 b27 Δ0 at23
+          d23 = Typed.s-seq 𝓤 H A W 𝓣 E G16 G17 b7 b26 Δ0 (Typed.ask s15) at22 (Relend.t-sl-aggregate 𝓤 H A W E (OfOutput.row) 𝓣 (Relend.asMut (OfOutput.row)) G16 15 16 5 (Syntax.tyRef Syntax.erased Syntax.mut OfOutput.named) (Syntax.tyRef Syntax.erased Syntax.mut OfOutput.named) (λ x. x) (Scalar.oFld 1 (List._∷_ (Syntax.field 1) List.[]) (Syntax.tyInt Syntax.w64) 8 λ v. Shared.lenV (v .0)) (Reads'.as-is 𝓤 H A (Relend.msptr (OfOutput.row) (Syntax.tyRef Syntax.erased Syntax.mut OfOutput.named) 5)) (Reads'.room-gone 𝓤 H A (Syntax.tyStruct (List._∷_ 38 (List._∷_ 91 (List._∷_ 93 List.[]))) (Syntax.tcons (Syntax.tyRef Syntax.erased Syntax.mut OfOutput.named) (Syntax.tcons (Syntax.tyInt Syntax.w64) Syntax.tnil)))) (Relend.reads-owed-len 𝓤 H A W (OfOutput.row) (Syntax.tyRef (Syntax.named 0) Syntax.mut OfOutput.named) 0 5 (Row.lease (κs .0) (qs .0)) 8 Path'.refl, Path'.refl) Path'.refl Path'.refl λ b o k. tt) d22
 
-          d24 : Typed.Typed 𝓤 H A 𝓣 E G15 b24 Δ0 at24
-          d24 = Typed.s-seq 𝓤 H A W 𝓣 E G15 G16 b6 b23 Δ0 (Typed.both s14) at23 (Plain.t-call-plain 𝓤 H A W 𝓣 0 ps·1 r·1 (claims· .2) (claims· .3) "ranges::index" (known .1) E (λ pos β. β) G15 (Num.vAt 8 λ x. x, tt) 19 List.[] (Call.sub-id 𝓤 H A W (G15 .slots)) ((Scalar.reads-sc 𝓤 H A W (Row.sInt Syntax.w8), Path'.refl), tt) (Reads.room-gone 𝓤 H A (Syntax.tyInt Syntax.w64)) tt Path'.refl) d23
+          d24 : Typed.Typed 𝓤 H A 𝓣 E G15 b28 Δ0 at24
+          d24 = Typed.s-seq 𝓤 H A W 𝓣 E G15 G16 b6 b27 Δ0 (Typed.give s14) at23 (Relend.t-sl-relend 𝓤 H A W E (OfOutput.row) 𝓣 G15 1 15 0 5 (Syntax.tyRef (Syntax.named 0) Syntax.mut OfOutput.named) (Syntax.tyRef Syntax.erased Syntax.mut OfOutput.named) (Row.lease (κs .0) (qs .0)) 0 (λ x. x) (Reads'.as-is 𝓤 H A (Mut.mslice (OfOutput.row) (Syntax.tyRef (Syntax.named 0) Syntax.mut OfOutput.named) 0)) (Reads'.room-gone 𝓤 H A (Syntax.tyRef Syntax.erased Syntax.mut OfOutput.named)) Path'.refl tt Path'.refl Path'.refl Path'.refl λ b o. tt) d23
 
-          d25 : Typed.Typed 𝓤 H A 𝓣 E G14 b25 Δ0 at25
-          d25 = Typed.s-seq 𝓤 H A W 𝓣 E G14 G15 b5 b24 Δ0 (Typed.ask s13) at24 (Relend.t-sl-aggregate 𝓤 H A W E (OfOutput.row) 𝓣 (Relend.asMut (OfOutput.row)) G14 17 18 5 (Syntax.tyRef Syntax.erased Syntax.mut OfOutput.named) (Syntax.tyRef Syntax.erased Syntax.mut OfOutput.named) (λ x. x) (Scalar.oFld 1 (List._∷_ (Syntax.field 1) List.[]) (Syntax.tyInt Syntax.w64) 8 λ v. Shared.lenV (v .0)) (Reads.as-is 𝓤 H A (Relend.msptr (OfOutput.row) (Syntax.tyRef Syntax.erased Syntax.mut OfOutput.named) 5)) (Reads.room-gone 𝓤 H A (Syntax.tyStruct (List._∷_ 38 (List._∷_ 91 (List._∷_ 93 List.[]))) (Syntax.tcons (Syntax.tyRef Syntax.erased Syntax.mut OfOutput.named) (Syntax.tcons (Syntax.tyInt Syntax.w64) Syntax.tnil)))) (Relend.reads-owed-len 𝓤 H A W (OfOutput.row) (Syntax.tyRef (Syntax.named 0) Syntax.mut OfOutput.named) 0 5 (Row.lease (κs .0) (qs .0)) 8 Path'.refl, Path'.refl) Path'.refl Path'.refl λ b o k. tt) d24
+          d25 : Typed.Typed 𝓤 H A 𝓣 E G14 b28 Δ0 at25
+          d25 = Typed.g-pre 𝓤 H A W 𝓣 E G14 G15 b28 Δ0 (λ Ψ. Ψ) at24 (Lifetime.g-begin 𝓤 H A W E G14 5 (tt, (tt, (tt, (tt, (tt, (tt, (tt, (tt, (tt, (tt, (tt, (tt, (tt, (tt, (tt, (tt, (tt, (tt, (tt, tt)))))))))))))))))))) d24
 
-          d26 : Typed.Typed 𝓤 H A 𝓣 E G13 b26 Δ0 at26
-          d26 = Typed.s-seq 𝓤 H A W 𝓣 E G13 G14 b4 b25 Δ0 (Typed.give s12) at25 (Relend.t-sl-relend 𝓤 H A W E (OfOutput.row) 𝓣 G13 1 17 0 5 (Syntax.tyRef (Syntax.named 0) Syntax.mut OfOutput.named) (Syntax.tyRef Syntax.erased Syntax.mut OfOutput.named) (Row.lease (κs .0) (qs .0)) 0 (λ x. x) (Reads.as-is 𝓤 H A (Mut.mslice (OfOutput.row) (Syntax.tyRef (Syntax.named 0) Syntax.mut OfOutput.named) 0)) (Reads.room-gone 𝓤 H A (Syntax.tyRef Syntax.erased Syntax.mut OfOutput.named)) Path'.refl tt Path'.refl Path'.refl Path'.refl λ b o. tt) d25
+          d26 : Typed.Typed 𝓤 H A 𝓣 E G13 b29 Δ0 at26
+          d26 = Typed.s-seq 𝓤 H A W 𝓣 E G13 G14 b5 b28 Δ0 (Typed.pass T12 T14 s12) at25 (CopyOut.t-copy-told 𝓤 H A W E 𝓣 (Declared.row Request.the-type) Path'.refl (Laws'3.val Request.the-type Laws''.the-laws) (Laws'3.lawful Request.the-type Laws''.the-laws 𝓤 H A W tt) (Laws'3.makes Request.the-type Laws''.the-plain 𝓤 H A) G13 8 (Scalar.oFld 5 (List._∷_ (Syntax.field 4) List.[]) (Laws''.mir) 20 λ x. Laws'3.val Request.the-type Laws''.the-laws (Call.struct .as-values x .1 .1 .1 .1 .0)) (λ m. Call.struct .as-values (m .1 .1 .1 .1 .1 .0) .1 .1 .1 .1 .0) (λ m. Laws'4.Is (Declared'.row Call.the-type) (m .1 .1 .1 .1 .1 .0) (Laws'5.vals Call.the-type Laws'.the-laws (m .1 .1 .1 .1 .1 .0))) (Reads'.room-gone 𝓤 H A (Laws''.mir)) (Reads.reads-field 𝓤 H A W Call.the-type Laws'.the-laws 4 (Laws''.mir) 20 Path'.refl, Path'.refl) Path'.refl (λ ρ m. Make.tells-row 𝓤 H A W E ρ (Row.out 8 (G13 .locals)) m 5 (Laws'4.Is (Declared'.row Call.the-type) (m .1 .1 .1 .1 .1 .0) (Laws'5.vals Call.the-type Laws'.the-laws (m .1 .1 .1 .1 .1 .0))) (Make.whole-is 𝓤 H A W E (Declared'.row Call.the-type) Path'.refl (Laws'5.val Call.the-type Laws'.the-laws) (Laws'5.tells Call.the-type Laws'.the-laws) ρ 5 (m .1 .1 .1 .1 .1 .0))) (λ m k wa. Path'.refl) λ m k wa. Laws'5.owed Call.the-type Laws'.the-laws (m .1 .1 .1 .1 .1 .0) (Laws'5.vals Call.the-type Laws'.the-laws (m .1 .1 .1 .1 .1 .0)) k .1 .1 .1 .1 .0) d25
 
-          d27 : Typed.Typed 𝓤 H A 𝓣 E G12 b26 Δ0 at27
-          d27 = Typed.g-pre 𝓤 H A W 𝓣 E G12 G13 b26 Δ0 (λ Ψ. Ψ) at26 (Lifetime.g-begin 𝓤 H A W E G12 5 (tt, (tt, (tt, (tt, (tt, (tt, (tt, (tt, (tt, (tt, (tt, (tt, (tt, (tt, (tt, (tt, (tt, (tt, (tt, (tt, (tt, tt)))))))))))))))))))))) d26
+          d27 : Typed.Typed 𝓤 H A 𝓣 E G12 b29 Δ0 at27
+          d27 = Typed.g-pre 𝓤 H A W 𝓣 E G12 G13 b29 Δ0 (λ Ψ. Ψ) at26 (Lifetime.g-forget 𝓤 H A W E G12 4 Row.dead Path'.refl) d26
 
-          d28 : Typed.Typed 𝓤 H A 𝓣 E G11 b26 Δ0 at28
-          d28 = Typed.g-pre 𝓤 H A W 𝓣 E G11 G12 b26 Δ0 (λ Ψ. Ψ) at27 (Lifetime.g-forget 𝓤 H A W E G11 4 Row.dead Path'.refl) d27
+          d28 : Typed.Typed 𝓤 H A 𝓣 E G11 b29 Δ0 at28
+          d28 = Typed.g-pre 𝓤 H A W 𝓣 E G11 G12 b29 Δ0 (Typed.both s10) at27 (Relend.g-back-sl 𝓤 H A W E (OfOutput.row) G11 14 1 0 4 (Syntax.tyRef (Syntax.named 0) Syntax.mut OfOutput.named) (Syntax.tyRef Syntax.erased Syntax.mut OfOutput.named) (Row.lease (κs .0) (qs .0)) (λ x. x) (λ x. x) (Reads'.as-is 𝓤 H A (Mut.msleft (OfOutput.row) (Syntax.tyRef Syntax.erased Syntax.mut OfOutput.named))) (Reads'.as-is 𝓤 H A (Relend.mslice-owed (OfOutput.row) (Syntax.tyRef (Syntax.named 0) Syntax.mut OfOutput.named) 0 4 (Row.lease (κs .0) (qs .0)))) Path'.refl Path'.refl) d27
 
-          d29 : Typed.Typed 𝓤 H A 𝓣 E G10 b26 Δ0 at29
-          d29 = Typed.g-pre 𝓤 H A W 𝓣 E G10 G11 b26 Δ0 (Typed.both s9) at28 (Relend.g-back-sl 𝓤 H A W E (OfOutput.row) G10 16 1 0 4 (Syntax.tyRef (Syntax.named 0) Syntax.mut OfOutput.named) (Syntax.tyRef Syntax.erased Syntax.mut OfOutput.named) (Row.lease (κs .0) (qs .0)) (λ x. x) (λ x. x) (Reads.as-is 𝓤 H A (Mut.msleft (OfOutput.row) (Syntax.tyRef Syntax.erased Syntax.mut OfOutput.named))) (Reads.as-is 𝓤 H A (Relend.mslice-owed (OfOutput.row) (Syntax.tyRef (Syntax.named 0) Syntax.mut OfOutput.named) 0 4 (Row.lease (κs .0) (qs .0)))) Path'.refl Path'.refl) d28
+          d29 : Typed.Typed 𝓤 H A 𝓣 E G10 b29 Δ0 at29
+          d29 = Typed.g-pre 𝓤 H A W 𝓣 E G10 G11 b29 Δ0 (λ Ψ. Ψ) at28 (Lifetime.g-end 𝓤 H A W E G10 4 Path'.refl) d28
 
-          d30 : Typed.Typed 𝓤 H A 𝓣 E G9 b26 Δ0 at30
-          d30 = Typed.g-pre 𝓤 H A W 𝓣 E G9 G10 b26 Δ0 (λ Ψ. Ψ) at29 (Lifetime.g-end 𝓤 H A W E G9 4 Path'.refl) d29
+          d30 : Typed.Typed 𝓤 H A 𝓣 E G9 b29 Δ0 at30
+          d30 = Typed.g-pre 𝓤 H A W 𝓣 E G9 G10 b29 Δ0 (Typed.pass T9 T10 s8) at29 (Scalar.g-room 𝓤 H A W E G9 12 Syntax.tyUnit (Scalar.room-sc 𝓤 H A W Row.sUnit)) d29
 
-          d31 : Typed.Typed 𝓤 H A 𝓣 E G8 b26 Δ0 at31
-          d31 = Typed.g-pre 𝓤 H A W 𝓣 E G8 G9 b26 Δ0 (Typed.pass T8 T9 s7) at30 (Scalar.g-room 𝓤 H A W E G8 14 Syntax.tyUnit (Scalar.room-sc 𝓤 H A W Row.sUnit)) d30
+          d31 : Typed.Typed 𝓤 H A 𝓣 E G8 b30 Δ0 at31
+          d31 = Typed.s-seq 𝓤 H A W 𝓣 E G8 G9 b4 b29 Δ0 (Typed.both s7) at30 (Plain.t-call-plain 𝓤 H A W 𝓣 1 ps·0 r·0 (claims· .0) (claims· .1) "tables::advance_outputs" (known .0) E (λ pos β. β) G8 (record { pos = 14; ty = Syntax.tyRef Syntax.erased Syntax.mut OfOutput.named; ref = λ x. x }, (Num.vAt 6 λ x. x, (Num.vAt 7 λ x. x, tt))) 12 (List._∷_ 4 List.[]) (Call'.sub-id 𝓤 H A W (G8 .slots)) (Reads'.as-is 𝓤 H A (Mut.mslice (OfOutput.row) (Syntax.tyRef Syntax.erased Syntax.mut OfOutput.named) 4), Mut.reads-mslice 𝓤 H A W (OfOutput.row) (Syntax.tyRef Syntax.erased Syntax.mut OfOutput.named) 4, Path'.refl, ((Scalar.reads-sc 𝓤 H A W (Row.sInt Syntax.w64), Path'.refl), ((Scalar.reads-sc 𝓤 H A W (Row.sInt Syntax.w64), Path'.refl), tt))) (Reads'.room-gone 𝓤 H A Syntax.tyUnit) (tt, tt) Path'.refl) d30
 
-          d32 : Typed.Typed 𝓤 H A 𝓣 E G7 b27 Δ0 at32
-          d32 = Typed.s-seq 𝓤 H A W 𝓣 E G7 G8 b3 b26 Δ0 (Typed.both s6) at31 (Plain.t-call-plain 𝓤 H A W 𝓣 1 ps·0 r·0 (claims· .0) (claims· .1) "tables::advance_outputs" (known .0) E (λ pos β. β) G7 (record { pos = 16; ty = Syntax.tyRef Syntax.erased Syntax.mut OfOutput.named; ref = λ x. x }, (Num.vAt 10 λ x. x, (Num.vAt 7 λ x. x, tt))) 14 (List._∷_ 4 List.[]) (Call.sub-id 𝓤 H A W (G7 .slots)) (Reads.as-is 𝓤 H A (Mut.mslice (OfOutput.row) (Syntax.tyRef Syntax.erased Syntax.mut OfOutput.named) 4), Mut.reads-mslice 𝓤 H A W (OfOutput.row) (Syntax.tyRef Syntax.erased Syntax.mut OfOutput.named) 4, Path'.refl, ((Scalar.reads-sc 𝓤 H A W (Row.sInt Syntax.w64), Path'.refl), ((Scalar.reads-sc 𝓤 H A W (Row.sInt Syntax.w64), Path'.refl), tt))) (Reads.room-gone 𝓤 H A Syntax.tyUnit) (tt, tt) Path'.refl) d31
+          d32 : Typed.Typed 𝓤 H A 𝓣 E G7 b31 Δ0 at32
+          d32 = Typed.s-seq 𝓤 H A W 𝓣 E G7 G8 b3 b30 Δ0 (Typed.ask s6) at31 (Relend.t-sl-aggregate 𝓤 H A W E (OfOutput.row) 𝓣 (Relend.asMut (OfOutput.row)) G7 13 14 4 (Syntax.tyRef Syntax.erased Syntax.mut OfOutput.named) (Syntax.tyRef Syntax.erased Syntax.mut OfOutput.named) (λ x. x) (Scalar.oFld 1 (List._∷_ (Syntax.field 1) List.[]) (Syntax.tyInt Syntax.w64) 8 λ v. Shared.lenV (v .0)) (Reads'.as-is 𝓤 H A (Relend.msptr (OfOutput.row) (Syntax.tyRef Syntax.erased Syntax.mut OfOutput.named) 4)) (Reads'.room-gone 𝓤 H A (Syntax.tyStruct (List._∷_ 38 (List._∷_ 91 (List._∷_ 93 List.[]))) (Syntax.tcons (Syntax.tyRef Syntax.erased Syntax.mut OfOutput.named) (Syntax.tcons (Syntax.tyInt Syntax.w64) Syntax.tnil)))) (Relend.reads-owed-len 𝓤 H A W (OfOutput.row) (Syntax.tyRef (Syntax.named 0) Syntax.mut OfOutput.named) 0 4 (Row.lease (κs .0) (qs .0)) 8 Path'.refl, Path'.refl) Path'.refl Path'.refl λ b o k. tt) d31
 
-          d33 : Typed.Typed 𝓤 H A 𝓣 E G6 b28 Δ0 at33
-          d33 = Typed.s-seq 𝓤 H A W 𝓣 E G6 G7 b2 b27 Δ0 (Typed.ask s5) at32 (Relend.t-sl-aggregate 𝓤 H A W E (OfOutput.row) 𝓣 (Relend.asMut (OfOutput.row)) G6 15 16 4 (Syntax.tyRef Syntax.erased Syntax.mut OfOutput.named) (Syntax.tyRef Syntax.erased Syntax.mut OfOutput.named) (λ x. x) (Scalar.oFld 1 (List._∷_ (Syntax.field 1) List.[]) (Syntax.tyInt Syntax.w64) 8 λ v. Shared.lenV (v .0)) (Reads.as-is 𝓤 H A (Relend.msptr (OfOutput.row) (Syntax.tyRef Syntax.erased Syntax.mut OfOutput.named) 4)) (Reads.room-gone 𝓤 H A (Syntax.tyStruct (List._∷_ 38 (List._∷_ 91 (List._∷_ 93 List.[]))) (Syntax.tcons (Syntax.tyRef Syntax.erased Syntax.mut OfOutput.named) (Syntax.tcons (Syntax.tyInt Syntax.w64) Syntax.tnil)))) (Relend.reads-owed-len 𝓤 H A W (OfOutput.row) (Syntax.tyRef (Syntax.named 0) Syntax.mut OfOutput.named) 0 4 (Row.lease (κs .0) (qs .0)) 8 Path'.refl, Path'.refl) Path'.refl Path'.refl λ b o k. tt) d32
+          d33 : Typed.Typed 𝓤 H A 𝓣 E G6 b32 Δ0 at33
+          d33 = Typed.s-seq 𝓤 H A W 𝓣 E G6 G7 b2 b31 Δ0 (Typed.give s5) at32 (Relend.t-sl-relend 𝓤 H A W E (OfOutput.row) 𝓣 G6 1 13 0 4 (Syntax.tyRef (Syntax.named 0) Syntax.mut OfOutput.named) (Syntax.tyRef Syntax.erased Syntax.mut OfOutput.named) (Row.lease (κs .0) (qs .0)) 0 (λ x. x) (Reads'.as-is 𝓤 H A (Mut.mslice (OfOutput.row) (Syntax.tyRef (Syntax.named 0) Syntax.mut OfOutput.named) 0)) (Reads'.room-gone 𝓤 H A (Syntax.tyRef Syntax.erased Syntax.mut OfOutput.named)) Path'.refl tt Path'.refl Path'.refl Path'.refl λ b o. tt) d32
 
-          d34 : Typed.Typed 𝓤 H A 𝓣 E G5 b29 Δ0 at34
-          d34 = Typed.s-seq 𝓤 H A W 𝓣 E G5 G6 b1 b28 Δ0 (Typed.give s4) at33 (Relend.t-sl-relend 𝓤 H A W E (OfOutput.row) 𝓣 G5 1 15 0 4 (Syntax.tyRef (Syntax.named 0) Syntax.mut OfOutput.named) (Syntax.tyRef Syntax.erased Syntax.mut OfOutput.named) (Row.lease (κs .0) (qs .0)) 0 (λ x. x) (Reads.as-is 𝓤 H A (Mut.mslice (OfOutput.row) (Syntax.tyRef (Syntax.named 0) Syntax.mut OfOutput.named) 0)) (Reads.room-gone 𝓤 H A (Syntax.tyRef Syntax.erased Syntax.mut OfOutput.named)) Path'.refl tt Path'.refl Path'.refl Path'.refl λ b o. tt) d33
+          d34 : Typed.Typed 𝓤 H A 𝓣 E G5 b32 Δ0 at34
+          d34 = Typed.g-pre 𝓤 H A W 𝓣 E G5 G6 b32 Δ0 (λ Ψ. Ψ) at33 (Lifetime.g-begin 𝓤 H A W E G5 4 (tt, (tt, (tt, (tt, (tt, (tt, (tt, (tt, (tt, (tt, (tt, (tt, (tt, (tt, (tt, (tt, (tt, (tt, (tt, tt)))))))))))))))))))) d33
 
-          d35 : Typed.Typed 𝓤 H A 𝓣 E G4 b29 Δ0 at35
-          d35 = Typed.g-pre 𝓤 H A W 𝓣 E G4 G5 b29 Δ0 (λ Ψ. Ψ) at34 (Lifetime.g-begin 𝓤 H A W E G4 4 (tt, (tt, (tt, (tt, (tt, (tt, (tt, (tt, (tt, (tt, (tt, (tt, (tt, (tt, (tt, (tt, (tt, (tt, (tt, (tt, (tt, tt)))))))))))))))))))))) d34
+          d35 : Typed.Typed 𝓤 H A 𝓣 E G4 b33 Δ0 at35
+          d35 = Typed.s-seq 𝓤 H A W 𝓣 E G4 G5 b1 b32 Δ0 (Typed.pass T4 T5 s3) at34 (Scalar.t-use 𝓤 H A W E 𝓣 G4 (Scalar.oFld 5 (List._∷_ (Syntax.field 2) List.[]) (Syntax.tyInt Syntax.w64) 8 (Reads.fieldV Call.the-type Laws'.the-laws 2)) 7 (Rows'.sc-here (Row.sInt Syntax.w64)) (Syntax.tyInt Syntax.w64) (Row.valS (Row.sInt Syntax.w64)) (Row.sInt Syntax.w64 .of) (Reads.reads-field 𝓤 H A W Call.the-type Laws'.the-laws 2 (Syntax.tyInt Syntax.w64) 8 Path'.refl, Path'.refl) (Reads'.room-gone 𝓤 H A (Syntax.tyInt Syntax.w64)) (Scalar.holds-sc 𝓤 H A W (Row.sInt Syntax.w64)) Path'.refl (λ u. Path'.refl) λ u. tt) d34
 
-          d36 : Typed.Typed 𝓤 H A 𝓣 E G3 b29 Δ0 at36
-          d36 = Typed.g-pre 𝓤 H A W 𝓣 E G3 G4 b29 Δ0 (Typed.give s2) at35 (Know.g-row-known 𝓤 H A W E G3 10) d35
+          d36 : Typed.Typed 𝓤 H A 𝓣 E G3 b33 Δ0 at36
+          d36 = Typed.g-pre 𝓤 H A W 𝓣 E G3 G4 b33 Δ0 (Typed.give s2) at35 (Know.g-row-known 𝓤 H A W E G3 6) d35
 
-          d37 : Typed.Typed 𝓤 H A 𝓣 E G2 b30 Δ0 at37
-          d37 = Typed.s-seq 𝓤 H A W 𝓣 E G2 G3 b0 b29 Δ0 (Typed.pass T2 T3 s1) at36 (Deref.t-ref-read 𝓤 H A W E 𝓣 G2 3 10 2 (Referent.fInt Syntax.w64) (Syntax.tyRef (Syntax.named 2) Syntax.mut (Syntax.tyInt Syntax.w64)) (Row.lease (κs .1 .1 .0) (qs .1 .1 .0)) (λ x. x) (Rows'.sc-here (Row.sInt Syntax.w64)) (Row.valS (Row.sInt Syntax.w64)) (λ x. x) (Reads.as-is 𝓤 H A (Rows'.mref (Referent.rtF (Referent.fInt Syntax.w64)) (Syntax.tyRef (Syntax.named 2) Syntax.mut (Syntax.tyInt Syntax.w64)) 2)) (Reads.room-gone 𝓤 H A (Syntax.tyInt Syntax.w64)) (Scalar.holds-sc 𝓤 H A W (Row.sInt Syntax.w64)) Path'.refl tt Path'.refl Path'.refl λ u. Path'.refl) d36
+          d37 : Typed.Typed 𝓤 H A 𝓣 E G2 b34 Δ0 at37
+          d37 = Typed.s-seq 𝓤 H A W 𝓣 E G2 G3 b0 b33 Δ0 (Typed.pass T2 T3 s1) at36 (Deref.t-ref-read 𝓤 H A W E 𝓣 G2 3 6 2 (Referent.fInt Syntax.w64) (Syntax.tyRef (Syntax.named 2) Syntax.mut (Syntax.tyInt Syntax.w64)) (Row.lease (κs .1 .1 .0) (qs .1 .1 .0)) (λ x. x) (Rows'.sc-here (Row.sInt Syntax.w64)) (Row.valS (Row.sInt Syntax.w64)) (λ x. x) (Reads'.as-is 𝓤 H A (Rows'.mref (Referent.rtF (Referent.fInt Syntax.w64)) (Syntax.tyRef (Syntax.named 2) Syntax.mut (Syntax.tyInt Syntax.w64)) 2)) (Reads'.room-gone 𝓤 H A (Syntax.tyInt Syntax.w64)) (Scalar.holds-sc 𝓤 H A W (Row.sInt Syntax.w64)) Path'.refl tt Path'.refl Path'.refl λ u. Path'.refl) d36
 
-          d38 : Typed.Typed 𝓤 H A 𝓣 E G0 b30 Δ0 at38
-          d38 = Typed.g-pre 𝓤 H A W 𝓣 E G0 G2 b30 Δ0 (Typed.give s0) at37 (Know'.g-shs-known 𝓤 H A W (Referent.fInt Syntax.w8) E G0 4 3 (Syntax.tyRef (Syntax.named 3) Syntax.imm (Syntax.tyInt Syntax.w8)) (Row.lease (κs .1 .1 .1 .0) (qs .1 .1 .1 .0)) 0 (λ x. x) record { fits = Dec'.lit< tt } (Reads.as-is 𝓤 H A (Rows'.sslice (Referent.rtF (Referent.fInt Syntax.w8)) (Syntax.tyRef (Syntax.named 3) Syntax.imm (Syntax.tyInt Syntax.w8)) 3)) Path'.refl tt) d37
+          d38 : Typed.Typed 𝓤 H A 𝓣 E G0 b34 Δ0 at38
+          d38 = Typed.g-pre 𝓤 H A W 𝓣 E G0 G2 b34 Δ0 (Typed.give s0) at37 (Know'.g-shs-known 𝓤 H A W (Referent.fInt Syntax.w8) E G0 4 3 (Syntax.tyRef (Syntax.named 3) Syntax.imm (Syntax.tyInt Syntax.w8)) (Row.lease (κs .1 .1 .1 .0) (qs .1 .1 .1 .0)) 0 (λ x. x) record { fits = Dec'.lit< tt } (Reads'.as-is 𝓤 H A (Rows'.sslice (Referent.rtF (Referent.fInt Syntax.w8)) (Syntax.tyRef (Syntax.named 3) Syntax.imm (Syntax.tyInt Syntax.w8)) 3)) Path'.refl tt) d37
 
           pub typed :
               Typed.Typed
@@ -894,7 +916,7 @@ module _ (claims· : Claims) where
               𝓣
               E
               (Function.Γin 4 ps r xs m κs qs)
-              b30
+              b34
               (Function.Δret 4 ps r xs m κs qs)
               Φ
           typed = d38
@@ -911,36 +933,25 @@ module _ (claims· : Claims) where
           pub bytes : Kinds.Den {n = 4}
               κs
               (ShrSlice.pShrS (Referent.rtF (Referent.fInt Syntax.w8)) 3 tt)
-          pub station : Kinds.Den {n = 4} κs (Num.pNum Syntax.w8)
-          pub number : Kinds.Den {n = 4} κs (Num.pNum Syntax.w32)
-          pub moment : Kinds.Den {n = 4} κs (Num.pNum Syntax.w64)
-          pub output : Kinds.Den {n = 4} κs (Num.pNum Syntax.w8)
-          pub request : Kinds.Den {n = 4} κs (Value.pVal record {
-            ty = Declared.row Request.the-type;
+          pub call : Kinds.Den {n = 4} κs (Value.pVal record {
+            ty = Declared'.row Call.the-type;
             one = Path'.refl;
-            val = Laws''.val Request.the-type Laws'.the-laws;
-            tells = Laws''.tells Request.the-type Laws'.the-laws;
-            still = Laws''.still Request.the-type Laws'.the-copy Exit.yes;
-            row = Rows'.whole (Declared.row Request.the-type);
+            val = Laws'5.val Call.the-type Laws'.the-laws;
+            tells = Laws'5.tells Call.the-type Laws'.the-laws;
+            still = Laws'5.still Call.the-type Laws'.the-copy Exit.yes;
+            row = Rows'.whole (Declared'.row Call.the-type);
             rd = λ x. x;
             mk = λ x. x;
           } λ M 𝓤 H A W. record {
-            copies = Laws''.copy Request.the-type Laws'.the-copy 𝓤 H A W;
-            lawful = Laws''.lawful Request.the-type Laws'.the-laws 𝓤 H A W tt;
-            makes = Laws''.makes Request.the-type Laws'.the-plain 𝓤 H A;
-            in-mem = Local.mem-whole 𝓤 H A W (Declared.row Request.the-type);
-            of-mem = Local.whole-mem 𝓤 H A W (Declared.row Request.the-type);
+            copies = Laws'5.copy Call.the-type Laws'.the-copy 𝓤 H A W;
+            lawful = Laws'5.lawful Call.the-type Laws'.the-laws 𝓤 H A W;
+            makes = Laws'5.makes Call.the-type Laws'.the-plain 𝓤 H A;
+            in-mem = Local.mem-whole 𝓤 H A W (Declared'.row Call.the-type);
+            of-mem = Local.whole-mem 𝓤 H A W (Declared'.row Call.the-type);
           })
 
         abbrev pub dens : (a : Args) → Kinds.Dens κs ps
-        dens = λ a. (a .outputs, (a .stations, (a .time, (a .bytes, (a .station, (a .number, (a .moment, (a .output, (a .request, tt)))))))))
-
-        module _ (args· : Args) where
-          pub record Ranges : Type 0 where
-            pub station : Val.Fits Syntax.w8 (args· .station)
-            pub number : Val.Fits Syntax.w32 (args· .number)
-            pub moment : Val.Fits Syntax.w64 (args· .moment)
-            pub output : Val.Fits Syntax.w8 (args· .output)
+        dens = λ a. (a .outputs, (a .stations, (a .time, (a .bytes, (a .call, tt)))))
 
       abbrev pub m0 : (κs : Lifetimes.Lfts 4) → (args : Args κs) → Typed.Mo T0
       m0 = λ κs args. (tt, Enter.partsP κs 1 ps xs (dens κs args))
@@ -952,7 +963,6 @@ module _ (claims· : Claims) where
         pub κs : Lifetimes.Lfts 4
         pub args : Args κs
         pub good : Kinds.GoodsP κs ps (dens κs args)
-        pub fits : Ranges κs args
         pub pre : Pre· κs (dens κs args)
 
       abbrev pub m1 :
@@ -977,6 +987,12 @@ module _ (claims· : Claims) where
           Typed.Mo T4
       m3 = λ before given. s2 .next (m2 (before .before) (before .shared-slice-known .given)) given
 
+      abbrev pub m4 :
+          (before : After-shared-slice-known) →
+          (given : s2 .gives (m2 (before .before) (before .shared-slice-known .given))) →
+          Typed.Mo T5
+      m4 = λ before given. s3 (m3 before given)
+
       module _ (before· : After-shared-slice-known) where
         pub record After-row-known·own : Type 0 where
           pub given : s2 .gives (m2 (before· .before) (before· .shared-slice-known .given))
@@ -985,38 +1001,38 @@ module _ (claims· : Claims) where
         pub before : After-shared-slice-known
         pub row-known : After-row-known·own before
 
-      abbrev pub m4 :
-          (before : After-row-known) →
-          (given : s4 .gives (m3 (before .before) (before .row-known .given))) →
-          Typed.Mo T6
-      m4 = λ before given. s4 .next (m3 (before .before) (before .row-known .given)) given
-
       abbrev pub m5 :
           (before : After-row-known) →
-          (given : s4 .gives (m3 (before .before) (before .row-known .given))) →
+          (given : s5 .gives (m4 (before .before) (before .row-known .given))) →
           Typed.Mo T7
-      m5 = λ before given. s5 .next (m4 before given)
+      m5 = λ before given. s5 .next (m4 (before .before) (before .row-known .given)) given
+
+      abbrev pub m6 :
+          (before : After-row-known) →
+          (given : s5 .gives (m4 (before .before) (before .row-known .given))) →
+          Typed.Mo T8
+      m6 = λ before given. s6 .next (m5 before given)
 
       module _ (before· : After-row-known) where
         pub record After-advance-outputs-arg·own : Type 0 where
-          pub given : s4 .gives (m3 (before· .before) (before· .row-known .given))
+          pub given : s5 .gives (m4 (before· .before) (before· .row-known .given))
 
       pub record After-advance-outputs-arg : Type 0 where
         pub before : After-row-known
         pub advance-outputs-arg : After-advance-outputs-arg·own before
 
       abbrev pub Need-advance-outputs-requires : Type 0
-      Need-advance-outputs-requires = (c : After-advance-outputs-arg) → s6 .asks (m5 (c .before) (c .advance-outputs-arg .given))
+      Need-advance-outputs-requires = (c : After-advance-outputs-arg) → s7 .asks (m6 (c .before) (c .advance-outputs-arg .given))
 
-      abbrev pub m6 :
+      abbrev pub m7 :
           (before : After-advance-outputs-arg) →
-          (given : s6 .gives (m5 (before .before) (before .advance-outputs-arg .given))) →
-          Typed.Mo T8
-      m6 = λ before given. s6 .next (m5 (before .before) (before .advance-outputs-arg .given)) given
+          (given : s7 .gives (m6 (before .before) (before .advance-outputs-arg .given))) →
+          Typed.Mo T9
+      m7 = λ before given. s7 .next (m6 (before .before) (before .advance-outputs-arg .given)) given
 
       module _ (before· : After-advance-outputs-arg) where
         abbrev pub After-advance-outputs·own : Type 0
-        After-advance-outputs·own = Called.Called ps·0 r·0 (claims· .1) T7 (record { pos = 16; ty = Syntax.tyRef Syntax.erased Syntax.mut OfOutput.named; ref = λ x. x }, (Num.vAt 10 λ x. x, (Num.vAt 7 λ x. x, tt))) (m5 (before· .before) (before· .advance-outputs-arg .given))
+        After-advance-outputs·own = Called.Called ps·0 r·0 (claims· .1) T8 (record { pos = 14; ty = Syntax.tyRef Syntax.erased Syntax.mut OfOutput.named; ref = λ x. x }, (Num.vAt 6 λ x. x, (Num.vAt 7 λ x. x, tt))) (m6 (before· .before) (before· .advance-outputs-arg .given))
 
       pub record After-advance-outputs : Type 0 where
         pub before : After-advance-outputs-arg
@@ -1024,129 +1040,135 @@ module _ (claims· : Claims) where
 
       abbrev pub After-advance-outputs·gave :
           (c : After-advance-outputs) →
-          s6 .gives (m5 (c .before .before) (c .before .advance-outputs-arg .given))
-      After-advance-outputs·gave = λ c. Called.given ps·0 r·0 (claims· .1) T7 (record { pos = 16; ty = Syntax.tyRef Syntax.erased Syntax.mut OfOutput.named; ref = λ x. x }, (Num.vAt 10 λ x. x, (Num.vAt 7 λ x. x, tt))) (m5 (c .before .before) (c .before .advance-outputs-arg .given)) (c .advance-outputs)
-
-      abbrev pub m7 :
-          (before : After-advance-outputs-arg) →
-          (given : s6 .gives (m5 (before .before) (before .advance-outputs-arg .given))) →
-          Typed.Mo T9
-      m7 = λ before given. s7 (m6 before given)
+          s7 .gives (m6 (c .before .before) (c .before .advance-outputs-arg .given))
+      After-advance-outputs·gave = λ c. Called.given ps·0 r·0 (claims· .1) T8 (record { pos = 14; ty = Syntax.tyRef Syntax.erased Syntax.mut OfOutput.named; ref = λ x. x }, (Num.vAt 6 λ x. x, (Num.vAt 7 λ x. x, tt))) (m6 (c .before .before) (c .before .advance-outputs-arg .given)) (c .advance-outputs)
 
       abbrev pub m8 :
+          (before : After-advance-outputs-arg) →
+          (given : s7 .gives (m6 (before .before) (before .advance-outputs-arg .given))) →
+          Typed.Mo T10
+      m8 = λ before given. s8 (m7 before given)
+
+      abbrev pub m9 :
           (before : After-advance-outputs) →
-          (given : s9 .gives (m7 (before .before) (After-advance-outputs·gave before))) →
-          Typed.Mo T11
-      m8 = λ before given. s9 .next (m7 (before .before) (After-advance-outputs·gave before)) given
+          (given : s10 .gives (m8 (before .before) (After-advance-outputs·gave before))) →
+          Typed.Mo T12
+      m9 = λ before given. s10 .next (m8 (before .before) (After-advance-outputs·gave before)) given
+
+      abbrev pub m10 :
+          (before : After-advance-outputs) →
+          (given : s10 .gives (m8 (before .before) (After-advance-outputs·gave before))) →
+          Typed.Mo T14
+      m10 = λ before given. s12 (m9 before given)
 
       module _ (before· : After-advance-outputs) where
         pub record After-outputs·own : Type 0 where
-          pub given : s9 .gives (m7 (before· .before) (After-advance-outputs·gave before·))
+          pub given : s10 .gives (m8 (before· .before) (After-advance-outputs·gave before·))
 
       pub record After-outputs : Type 0 where
         pub before : After-advance-outputs
         pub outputs : After-outputs·own before
 
-      abbrev pub m9 :
+      abbrev pub m11 :
           (before : After-outputs) →
-          (given : s12 .gives (m8 (before .before) (before .outputs .given))) →
-          Typed.Mo T14
-      m9 = λ before given. s12 .next (m8 (before .before) (before .outputs .given)) given
+          (given : s14 .gives (m10 (before .before) (before .outputs .given))) →
+          Typed.Mo T16
+      m11 = λ before given. s14 .next (m10 (before .before) (before .outputs .given)) given
 
-      abbrev pub m10 :
+      abbrev pub m12 :
           (before : After-outputs) →
-          (given : s12 .gives (m8 (before .before) (before .outputs .given))) →
-          Typed.Mo T15
-      m10 = λ before given. s13 .next (m9 before given)
+          (given : s14 .gives (m10 (before .before) (before .outputs .given))) →
+          Typed.Mo T17
+      m12 = λ before given. s15 .next (m11 before given)
 
       module _ (before· : After-outputs) where
         pub record After-serve-arg·own : Type 0 where
-          pub given : s12 .gives (m8 (before· .before) (before· .outputs .given))
+          pub given : s14 .gives (m10 (before· .before) (before· .outputs .given))
 
       pub record After-serve-arg : Type 0 where
         pub before : After-outputs
         pub serve-arg : After-serve-arg·own before
 
       abbrev pub Need-index-requires : Type 0
-      Need-index-requires = (c : After-serve-arg) → s14 .asks (m10 (c .before) (c .serve-arg .given))
+      Need-index-requires = (c : After-serve-arg) → s16 .asks (m12 (c .before) (c .serve-arg .given))
 
-      abbrev pub m11 :
+      abbrev pub m13 :
           (before : After-serve-arg) →
-          (given : s14 .gives (m10 (before .before) (before .serve-arg .given))) →
-          Typed.Mo T16
-      m11 = λ before given. s14 .next (m10 (before .before) (before .serve-arg .given)) given
+          (given : s16 .gives (m12 (before .before) (before .serve-arg .given))) →
+          Typed.Mo T18
+      m13 = λ before given. s16 .next (m12 (before .before) (before .serve-arg .given)) given
 
       module _ (before· : After-serve-arg) where
         abbrev pub After-index·own : Type 0
-        After-index·own = Called.Called ps·1 r·1 (claims· .3) T15 (Num.vAt 8 λ x. x, tt) (m10 (before· .before) (before· .serve-arg .given))
+        After-index·own = Called.Called ps·1 r·1 (claims· .3) T17 (Num.vFld 5 (List._∷_ (Syntax.field 3) List.[]) 16 λ x. Call.struct .as-values x .1 .1 .1 .0, tt) (m12 (before· .before) (before· .serve-arg .given))
 
       pub record After-index : Type 0 where
         pub before : After-serve-arg
         pub index : After-index·own before
 
       abbrev pub After-index·gave :
-          (c : After-index) → s14 .gives (m10 (c .before .before) (c .before .serve-arg .given))
-      After-index·gave = λ c. Called.given ps·1 r·1 (claims· .3) T15 (Num.vAt 8 λ x. x, tt) (m10 (c .before .before) (c .before .serve-arg .given)) (c .index)
+          (c : After-index) → s16 .gives (m12 (c .before .before) (c .before .serve-arg .given))
+      After-index·gave = λ c. Called.given ps·1 r·1 (claims· .3) T17 (Num.vFld 5 (List._∷_ (Syntax.field 3) List.[]) 16 λ x. Call.struct .as-values x .1 .1 .1 .0, tt) (m12 (c .before .before) (c .before .serve-arg .given)) (c .index)
 
       abbrev pub Need-serve-requires : Type 0
-      Need-serve-requires = (c : After-index) → s15 .asks (m11 (c .before) (After-index·gave c))
+      Need-serve-requires = (c : After-index) → s17 .asks (m13 (c .before) (After-index·gave c))
 
-      abbrev pub m12 :
+      abbrev pub m14 :
           (before : After-index) →
-          (given : s15 .gives (m11 (before .before) (After-index·gave before))) →
-          Typed.Mo T17
-      m12 = λ before given. s15 .next (m11 (before .before) (After-index·gave before)) given
+          (given : s17 .gives (m13 (before .before) (After-index·gave before))) →
+          Typed.Mo T19
+      m14 = λ before given. s17 .next (m13 (before .before) (After-index·gave before)) given
 
       module _ (before· : After-index) where
         abbrev pub After-serve·own : Type 0
-        After-serve·own = Called.Called ps·2 r·2 (claims· .5) T16 (record { pos = 18; ty = Syntax.tyRef Syntax.erased Syntax.mut OfOutput.named; ref = λ x. x }, (Num.vAt 7 λ x. x, (Num.vAt 5 λ x. x, (Num.vAt 19 λ x. x, (record { pos = 9; st = List.[]; d = 0; at = λ x. x }, tt))))) (m11 (before· .before) (After-index·gave before·))
+        After-serve·own = Called.Called ps·2 r·2 (claims· .5) T18 (record { pos = 16; ty = Syntax.tyRef Syntax.erased Syntax.mut OfOutput.named; ref = λ x. x }, (Num.vAt 7 λ x. x, (Num.vFld 5 (List._∷_ (Syntax.field 0) List.[]) 0 λ x. Call.struct .as-values x .0, (Num.vAt 17 λ x. x, (record { pos = 8; st = List.[]; d = 0; at = λ x. x }, tt))))) (m13 (before· .before) (After-index·gave before·))
 
       pub record After-serve : Type 0 where
         pub before : After-index
         pub serve : After-serve·own before
 
       abbrev pub After-serve·gave :
-          (c : After-serve) → s15 .gives (m11 (c .before .before) (After-index·gave (c .before)))
-      After-serve·gave = λ c. Called.given ps·2 r·2 (claims· .5) T16 (record { pos = 18; ty = Syntax.tyRef Syntax.erased Syntax.mut OfOutput.named; ref = λ x. x }, (Num.vAt 7 λ x. x, (Num.vAt 5 λ x. x, (Num.vAt 19 λ x. x, (record { pos = 9; st = List.[]; d = 0; at = λ x. x }, tt))))) (m11 (c .before .before) (After-index·gave (c .before))) (c .serve)
-
-      abbrev pub m13 :
-          (before : After-index) →
-          (given : s15 .gives (m11 (before .before) (After-index·gave before))) →
-          Typed.Mo T18
-      m13 = λ before given. s16 (m12 before given)
-
-      abbrev pub m14 :
-          (before : After-index) →
-          (given : s15 .gives (m11 (before .before) (After-index·gave before))) →
-          Typed.Mo T19
-      m14 = λ before given. s17 (m13 before given)
+          (c : After-serve) → s17 .gives (m13 (c .before .before) (After-index·gave (c .before)))
+      After-serve·gave = λ c. Called.given ps·2 r·2 (claims· .5) T18 (record { pos = 16; ty = Syntax.tyRef Syntax.erased Syntax.mut OfOutput.named; ref = λ x. x }, (Num.vAt 7 λ x. x, (Num.vFld 5 (List._∷_ (Syntax.field 0) List.[]) 0 λ x. Call.struct .as-values x .0, (Num.vAt 17 λ x. x, (record { pos = 8; st = List.[]; d = 0; at = λ x. x }, tt))))) (m13 (c .before .before) (After-index·gave (c .before))) (c .serve)
 
       abbrev pub m15 :
-          (before : After-serve) →
-          (given : s19 .gives (m14 (before .before) (After-serve·gave before))) →
+          (before : After-index) →
+          (given : s17 .gives (m13 (before .before) (After-index·gave before))) →
+          Typed.Mo T20
+      m15 = λ before given. s18 (m14 before given)
+
+      abbrev pub m16 :
+          (before : After-index) →
+          (given : s17 .gives (m13 (before .before) (After-index·gave before))) →
           Typed.Mo T21
-      m15 = λ before given. s19 .next (m14 (before .before) (After-serve·gave before)) given
+      m16 = λ before given. s19 (m15 before given)
+
+      abbrev pub m17 :
+          (before : After-serve) →
+          (given : s21 .gives (m16 (before .before) (After-serve·gave before))) →
+          Typed.Mo T23
+      m17 = λ before given. s21 .next (m16 (before .before) (After-serve·gave before)) given
 
       module _ (before· : After-serve) where
         pub record After-outputs2·own : Type 0 where
-          pub given : s19 .gives (m14 (before· .before) (After-serve·gave before·))
+          pub given : s21 .gives (m16 (before· .before) (After-serve·gave before·))
 
       pub record After-outputs2 : Type 0 where
         pub before : After-serve
         pub outputs2 : After-outputs2·own before
 
       abbrev pub Need-kept-station-requires : Type 0
-      Need-kept-station-requires = (c : After-outputs2) → s21 .asks (m15 (c .before) (c .outputs2 .given))
+      Need-kept-station-requires = (c : After-outputs2) → s23 .asks (m17 (c .before) (c .outputs2 .given))
 
-      abbrev pub m16 :
+      abbrev pub m18 :
           (before : After-outputs2) →
-          (given : s21 .gives (m15 (before .before) (before .outputs2 .given))) →
-          Typed.Mo T23
-      m16 = λ before given. s21 .next (m15 (before .before) (before .outputs2 .given)) given
+          (given : s23 .gives (m17 (before .before) (before .outputs2 .given))) →
+          Typed.Mo T25
+      m18 = λ before given. s23 .next (m17 (before .before) (before .outputs2 .given)) given
 
       module _ (before· : After-outputs2) where
         abbrev pub After-kept-station·own : Type 0
-        After-kept-station·own = Called.Called ps·3 r·3 (claims· .7) T21 (record { pos = 11; st = List.[]; d = 0; at = λ x. x }, (Num.vAt 6 λ x. x, (record { pos = 4; ty = Syntax.tyRef (Syntax.named 3) Syntax.imm (Syntax.tyInt Syntax.w8); ref = λ x. x }, tt))) (m15 (before· .before) (before· .outputs2 .given))
+        After-kept-station·own = Called.Called ps·3 r·3 (claims· .7) T23 (record { pos = 9; st = List.[]; d = 0; at = λ x. x }, (Num.vFld 5 (List._∷_ (Syntax.field 1) List.[]) 4 λ x. Call.struct .as-values x .1 .0, (record { pos = 4; ty = Syntax.tyRef (Syntax.named 3) Syntax.imm (Syntax.tyInt Syntax.w8); ref = λ x. x }, tt))) (m17 (before· .before) (before· .outputs2 .given))
 
       pub record After-kept-station : Type 0 where
         pub before : After-outputs2
@@ -1154,21 +1176,21 @@ module _ (claims· : Claims) where
 
       abbrev pub After-kept-station·gave :
           (c : After-kept-station) →
-          s21 .gives (m15 (c .before .before) (c .before .outputs2 .given))
-      After-kept-station·gave = λ c. Called.given ps·3 r·3 (claims· .7) T21 (record { pos = 11; st = List.[]; d = 0; at = λ x. x }, (Num.vAt 6 λ x. x, (record { pos = 4; ty = Syntax.tyRef (Syntax.named 3) Syntax.imm (Syntax.tyInt Syntax.w8); ref = λ x. x }, tt))) (m15 (c .before .before) (c .before .outputs2 .given)) (c .kept-station)
+          s23 .gives (m17 (c .before .before) (c .before .outputs2 .given))
+      After-kept-station·gave = λ c. Called.given ps·3 r·3 (claims· .7) T23 (record { pos = 9; st = List.[]; d = 0; at = λ x. x }, (Num.vFld 5 (List._∷_ (Syntax.field 1) List.[]) 4 λ x. Call.struct .as-values x .1 .0, (record { pos = 4; ty = Syntax.tyRef (Syntax.named 3) Syntax.imm (Syntax.tyInt Syntax.w8); ref = λ x. x }, tt))) (m17 (c .before .before) (c .before .outputs2 .given)) (c .kept-station)
 
       abbrev pub Need-index-requires-2 : Type 0
-      Need-index-requires-2 = (c : After-kept-station) → s22 .asks (m16 (c .before) (After-kept-station·gave c))
+      Need-index-requires-2 = (c : After-kept-station) → s24 .asks (m18 (c .before) (After-kept-station·gave c))
 
-      abbrev pub m17 :
+      abbrev pub m19 :
           (before : After-kept-station) →
-          (given : s22 .gives (m16 (before .before) (After-kept-station·gave before))) →
-          Typed.Mo T24
-      m17 = λ before given. s22 .next (m16 (before .before) (After-kept-station·gave before)) given
+          (given : s24 .gives (m18 (before .before) (After-kept-station·gave before))) →
+          Typed.Mo T26
+      m19 = λ before given. s24 .next (m18 (before .before) (After-kept-station·gave before)) given
 
       module _ (before· : After-kept-station) where
         abbrev pub After-index2·own : Type 0
-        After-index2·own = Called.Called ps·1 r·1 (claims· .3) T23 (Num.vAt 5 λ x. x, tt) (m16 (before· .before) (After-kept-station·gave before·))
+        After-index2·own = Called.Called ps·1 r·1 (claims· .3) T25 (Num.vFld 5 (List._∷_ (Syntax.field 0) List.[]) 0 λ x. Call.struct .as-values x .0, tt) (m18 (before· .before) (After-kept-station·gave before·))
 
       pub record After-index2 : Type 0 where
         pub before : After-kept-station
@@ -1176,102 +1198,90 @@ module _ (claims· : Claims) where
 
       abbrev pub After-index2·gave :
           (c : After-index2) →
-          s22 .gives (m16 (c .before .before) (After-kept-station·gave (c .before)))
-      After-index2·gave = λ c. Called.given ps·1 r·1 (claims· .3) T23 (Num.vAt 5 λ x. x, tt) (m16 (c .before .before) (After-kept-station·gave (c .before))) (c .index2)
-
-      abbrev pub Need-mul-record : Type 0
-      Need-mul-record = (c : After-index2) → s23 .asks (m17 (c .before) (After-index2·gave c))
-
-      abbrev pub m18 :
-          (before : After-kept-station) →
-          (given : s22 .gives (m16 (before .before) (After-kept-station·gave before))) →
-          Typed.Mo T25
-      m18 = λ before given. s23 .next (m17 before given)
-
-      abbrev pub m19 :
-          (before : After-kept-station) →
-          (given : s22 .gives (m16 (before .before) (After-kept-station·gave before))) →
-          Typed.Mo T26
-      m19 = λ before given. s24 .next (m18 before given)
-
-      abbrev pub Need-slice-set-from-record : Type 0
-      Need-slice-set-from-record = (c : After-index2) → Shared.InSlice T26 2 20 (λ x. x) (λ u. u .1 .1 .1 .1 .1 .1 .1 .1 .1 .1 .1 .1 .1 .0) (m19 (c .before) (After-index2·gave c))
+          s24 .gives (m18 (c .before .before) (After-kept-station·gave (c .before)))
+      After-index2·gave = λ c. Called.given ps·1 r·1 (claims· .3) T25 (Num.vFld 5 (List._∷_ (Syntax.field 0) List.[]) 0 λ x. Call.struct .as-values x .0, tt) (m18 (c .before .before) (After-kept-station·gave (c .before))) (c .index2)
 
       abbrev pub m20 :
           (before : After-kept-station) →
-          (given : s22 .gives (m16 (before .before) (After-kept-station·gave before))) →
+          (given : s24 .gives (m18 (before .before) (After-kept-station·gave before))) →
           Typed.Mo T27
-      m20 = λ before given. s25 .next (m19 before given)
+      m20 = λ before given. s25 (m19 before given)
+
+      abbrev pub Need-mul-record : Type 0
+      Need-mul-record = (c : After-index2) → s26 .asks (m20 (c .before) (After-index2·gave c))
 
       abbrev pub m21 :
           (before : After-kept-station) →
-          (given : s22 .gives (m16 (before .before) (After-kept-station·gave before))) →
+          (given : s24 .gives (m18 (before .before) (After-kept-station·gave before))) →
           Typed.Mo T28
-      m21 = λ before given. s26 (m20 before given)
+      m21 = λ before given. s26 .next (m20 before given)
 
       abbrev pub m22 :
           (before : After-kept-station) →
-          (given : s22 .gives (m16 (before .before) (After-kept-station·gave before))) →
+          (given : s24 .gives (m18 (before .before) (After-kept-station·gave before))) →
           Typed.Mo T29
-      m22 = λ before given. s27 (m21 before given)
+      m22 = λ before given. s27 .next (m21 before given)
+
+      abbrev pub Need-slice-set-from-record : Type 0
+      Need-slice-set-from-record = (c : After-index2) → Shared.InSlice T29 2 18 (λ x. x) (λ u. u .1 .1 .1 .1 .1 .1 .1 .1 .1 .1 .1 .0) (m22 (c .before) (After-index2·gave c))
 
       abbrev pub m23 :
           (before : After-kept-station) →
-          (given : s22 .gives (m16 (before .before) (After-kept-station·gave before))) →
+          (given : s24 .gives (m18 (before .before) (After-kept-station·gave before))) →
           Typed.Mo T30
-      m23 = λ before given. s28 (m22 before given)
+      m23 = λ before given. s28 .next (m22 before given)
 
       abbrev pub m24 :
           (before : After-kept-station) →
-          (given : s22 .gives (m16 (before .before) (After-kept-station·gave before))) →
+          (given : s24 .gives (m18 (before .before) (After-kept-station·gave before))) →
           Typed.Mo T31
       m24 = λ before given. s29 (m23 before given)
 
       abbrev pub m25 :
           (before : After-kept-station) →
-          (given : s22 .gives (m16 (before .before) (After-kept-station·gave before))) →
+          (given : s24 .gives (m18 (before .before) (After-kept-station·gave before))) →
           Typed.Mo T32
       m25 = λ before given. s30 (m24 before given)
 
       abbrev pub m26 :
           (before : After-kept-station) →
-          (given : s22 .gives (m16 (before .before) (After-kept-station·gave before))) →
+          (given : s24 .gives (m18 (before .before) (After-kept-station·gave before))) →
           Typed.Mo T33
       m26 = λ before given. s31 (m25 before given)
 
       abbrev pub m27 :
           (before : After-kept-station) →
-          (given : s22 .gives (m16 (before .before) (After-kept-station·gave before))) →
+          (given : s24 .gives (m18 (before .before) (After-kept-station·gave before))) →
           Typed.Mo T34
       m27 = λ before given. s32 (m26 before given)
 
       abbrev pub m28 :
           (before : After-kept-station) →
-          (given : s22 .gives (m16 (before .before) (After-kept-station·gave before))) →
+          (given : s24 .gives (m18 (before .before) (After-kept-station·gave before))) →
           Typed.Mo T35
       m28 = λ before given. s33 (m27 before given)
 
       abbrev pub m29 :
           (before : After-kept-station) →
-          (given : s22 .gives (m16 (before .before) (After-kept-station·gave before))) →
+          (given : s24 .gives (m18 (before .before) (After-kept-station·gave before))) →
           Typed.Mo T36
       m29 = λ before given. s34 (m28 before given)
 
       abbrev pub m30 :
           (before : After-kept-station) →
-          (given : s22 .gives (m16 (before .before) (After-kept-station·gave before))) →
+          (given : s24 .gives (m18 (before .before) (After-kept-station·gave before))) →
           Typed.Mo T37
       m30 = λ before given. s35 (m29 before given)
 
       abbrev pub m31 :
           (before : After-kept-station) →
-          (given : s22 .gives (m16 (before .before) (After-kept-station·gave before))) →
+          (given : s24 .gives (m18 (before .before) (After-kept-station·gave before))) →
           Typed.Mo T38
       m31 = λ before given. s36 (m30 before given)
 
       abbrev pub m32 :
           (before : After-kept-station) →
-          (given : s22 .gives (m16 (before .before) (After-kept-station·gave before))) →
+          (given : s24 .gives (m18 (before .before) (After-kept-station·gave before))) →
           Typed.Mo T39
       m32 = λ before given. s37 (m31 before given)
 
@@ -1291,47 +1301,47 @@ module _ (claims· : Claims) where
           (slice-set-from-record : Need-slice-set-from-record) (same-length : Need-same-length)
           (same-length-2 : Need-same-length-2) (returns : Need-returns) where
         lay5 :
-            (c : After-index2) → at15 (W0
+            (c : After-index2) → at13 (W0
             (c .before .before .before .before .before .before .before .before .before .before
             .before .κs)
             (c .before .before .before .before .before .before .before .before .before .before
-            .before .args)) (m17 (c .before) (After-index2·gave c))
-        lay5 = λ c. (mul-record record { before = c .before; index2 = c .index2 }, (tt, ((Path'.refl, Path'.refl, slice-set-from-record record { before = c .before; index2 = c .index2 }), ((MutSlice.fix-len (Row.get 1 (T39 .locals) (m32 (c .before) (After-index2·gave c)) .ptr) (Row.get 1 (T39 .locals) (m32 (c .before) (After-index2·gave c)) .name) (Row.get 1 (T39 .locals) (m32 (c .before) (After-index2·gave c)) .now) (dens (c .before .before .before .before .before .before .before .before .before .before .before .κs) (c .before .before .before .before .before .before .before .before .before .before .before .args) .0 .now) (same-length record { before = c .before; index2 = c .index2 }), (MutSlice.fix-len (Row.get 2 (T39 .locals) (m32 (c .before) (After-index2·gave c)) .ptr) (Row.get 2 (T39 .locals) (m32 (c .before) (After-index2·gave c)) .name) (Row.get 2 (T39 .locals) (m32 (c .before) (After-index2·gave c)) .now) (dens (c .before .before .before .before .before .before .before .before .before .before .before .κs) (c .before .before .before .before .before .before .before .before .before .before .before .args) .1 .0 .now) (same-length-2 record { before = c .before; index2 = c .index2 }), (Path'.refl, (Path'.refl, (tt, (tt, (tt, (tt, (tt, tt))))))))), returns record { before = c .before; index2 = c .index2 }))))
+            .before .args)) (m19 (c .before) (After-index2·gave c))
+        lay5 = λ c. (mul-record record { before = c .before; index2 = c .index2 }, (tt, ((Path'.refl, Path'.refl, slice-set-from-record record { before = c .before; index2 = c .index2 }), ((MutSlice.fix-len (Row.get 1 (T39 .locals) (m32 (c .before) (After-index2·gave c)) .ptr) (Row.get 1 (T39 .locals) (m32 (c .before) (After-index2·gave c)) .name) (Row.get 1 (T39 .locals) (m32 (c .before) (After-index2·gave c)) .now) (dens (c .before .before .before .before .before .before .before .before .before .before .before .κs) (c .before .before .before .before .before .before .before .before .before .before .before .args) .0 .now) (same-length record { before = c .before; index2 = c .index2 }), (MutSlice.fix-len (Row.get 2 (T39 .locals) (m32 (c .before) (After-index2·gave c)) .ptr) (Row.get 2 (T39 .locals) (m32 (c .before) (After-index2·gave c)) .name) (Row.get 2 (T39 .locals) (m32 (c .before) (After-index2·gave c)) .now) (dens (c .before .before .before .before .before .before .before .before .before .before .before .κs) (c .before .before .before .before .before .before .before .before .before .before .before .args) .1 .0 .now) (same-length-2 record { before = c .before; index2 = c .index2 }), (Path'.refl, (Path'.refl, (tt, tt))))), returns record { before = c .before; index2 = c .index2 }))))
 
         lay4 :
-            (c : After-kept-station) → at16 (W0
+            (c : After-kept-station) → at14 (W0
             (c .before .before .before .before .before .before .before .before .before .before .κs)
             (c .before .before .before .before .before .before .before .before .before .before
-            .args)) (m16 (c .before) (After-kept-station·gave c))
-        lay4 = λ c. (index-requires-2 record { before = c .before; kept-station = c .kept-station }, λ g. lay5 record { before = record { before = c .before; kept-station = c .kept-station }; index2 = Called.called ps·1 r·1 (claims· .3) T23 (Num.vAt 5 λ x. x, tt) (m16 (c .before) (After-kept-station·gave c)) g })
+            .args)) (m18 (c .before) (After-kept-station·gave c))
+        lay4 = λ c. (index-requires-2 record { before = c .before; kept-station = c .kept-station }, λ g. lay5 record { before = record { before = c .before; kept-station = c .kept-station }; index2 = Called.called ps·1 r·1 (claims· .3) T25 (Num.vFld 5 (List._∷_ (Syntax.field 0) List.[]) 0 λ x. Call.struct .as-values x .0, tt) (m18 (c .before) (After-kept-station·gave c)) g })
 
         lay3 :
             (c : After-serve) →
-            at22
+            at20
             (W0
             (c .before .before .before .before .before .before .before .before .κs)
             (c .before .before .before .before .before .before .before .before .args))
-            (m12 (c .before) (After-serve·gave c))
-        lay3 = λ c. (Path'.refl, λ g. (kept-station-requires record { before = record { before = c .before; serve = c .serve }; outputs2 = record { given = g } }, λ g'. lay4 record { before = record { before = record { before = c .before; serve = c .serve }; outputs2 = record { given = g } }; kept-station = Called.called ps·3 r·3 (claims· .7) T21 (record { pos = 11; st = List.[]; d = 0; at = λ x. x }, (Num.vAt 6 λ x. x, (record { pos = 4; ty = Syntax.tyRef (Syntax.named 3) Syntax.imm (Syntax.tyInt Syntax.w8); ref = λ x. x }, tt))) (m15 record { before = c .before; serve = c .serve } g) g' }))
+            (m14 (c .before) (After-serve·gave c))
+        lay3 = λ c. (Path'.refl, λ g. (kept-station-requires record { before = record { before = c .before; serve = c .serve }; outputs2 = record { given = g } }, λ g'. lay4 record { before = record { before = record { before = c .before; serve = c .serve }; outputs2 = record { given = g } }; kept-station = Called.called ps·3 r·3 (claims· .7) T23 (record { pos = 9; st = List.[]; d = 0; at = λ x. x }, (Num.vFld 5 (List._∷_ (Syntax.field 1) List.[]) 4 λ x. Call.struct .as-values x .1 .0, (record { pos = 4; ty = Syntax.tyRef (Syntax.named 3) Syntax.imm (Syntax.tyInt Syntax.w8); ref = λ x. x }, tt))) (m17 record { before = c .before; serve = c .serve } g) g' }))
 
         lay2 :
             (c : After-index) →
-            at23
+            at21
             (W0
             (c .before .before .before .before .before .before .before .κs)
             (c .before .before .before .before .before .before .before .args))
-            (m11 (c .before) (After-index·gave c))
-        lay2 = λ c. (serve-requires record { before = c .before; index = c .index }, λ g. lay3 record { before = record { before = c .before; index = c .index }; serve = Called.called ps·2 r·2 (claims· .5) T16 (record { pos = 18; ty = Syntax.tyRef Syntax.erased Syntax.mut OfOutput.named; ref = λ x. x }, (Num.vAt 7 λ x. x, (Num.vAt 5 λ x. x, (Num.vAt 19 λ x. x, (record { pos = 9; st = List.[]; d = 0; at = λ x. x }, tt))))) (m11 (c .before) (After-index·gave c)) g })
+            (m13 (c .before) (After-index·gave c))
+        lay2 = λ c. (serve-requires record { before = c .before; index = c .index }, λ g. lay3 record { before = record { before = c .before; index = c .index }; serve = Called.called ps·2 r·2 (claims· .5) T18 (record { pos = 16; ty = Syntax.tyRef Syntax.erased Syntax.mut OfOutput.named; ref = λ x. x }, (Num.vAt 7 λ x. x, (Num.vFld 5 (List._∷_ (Syntax.field 0) List.[]) 0 λ x. Call.struct .as-values x .0, (Num.vAt 17 λ x. x, (record { pos = 8; st = List.[]; d = 0; at = λ x. x }, tt))))) (m13 (c .before) (After-index·gave c)) g })
 
         lay1 :
             (c : After-advance-outputs) →
-            at31
+            at30
             (W0 (c .before .before .before .before .κs) (c .before .before .before .before .args))
-            (m6 (c .before) (After-advance-outputs·gave c))
-        lay1 = λ c. (Path'.refl, λ g. λ g'. (Path'.refl, (index-requires record { before = record { before = record { before = c .before; advance-outputs = c .advance-outputs }; outputs = record { given = g } }; serve-arg = record { given = g' } }, λ g''. lay2 record { before = record { before = record { before = record { before = c .before; advance-outputs = c .advance-outputs }; outputs = record { given = g } }; serve-arg = record { given = g' } }; index = Called.called ps·1 r·1 (claims· .3) T15 (Num.vAt 8 λ x. x, tt) (m10 record { before = record { before = c .before; advance-outputs = c .advance-outputs }; outputs = record { given = g } } g') g'' })))
+            (m7 (c .before) (After-advance-outputs·gave c))
+        lay1 = λ c. (Path'.refl, λ g. λ g'. (Path'.refl, (index-requires record { before = record { before = record { before = c .before; advance-outputs = c .advance-outputs }; outputs = record { given = g } }; serve-arg = record { given = g' } }, λ g''. lay2 record { before = record { before = record { before = record { before = c .before; advance-outputs = c .advance-outputs }; outputs = record { given = g } }; serve-arg = record { given = g' } }; index = Called.called ps·1 r·1 (claims· .3) T17 (Num.vFld 5 (List._∷_ (Syntax.field 3) List.[]) 16 λ x. Call.struct .as-values x .1 .1 .1 .0, tt) (m12 record { before = record { before = c .before; advance-outputs = c .advance-outputs }; outputs = record { given = g } } g') g'' })))
 
         pub laid : (c : Start) → at38 (W0 (c .κs) (c .args)) (m0 (c .κs) (c .args))
-        laid = λ c. λ g. λ g'. λ g''. (Path'.refl, (advance-outputs-requires record { before = record { before = record { before = c; shared-slice-known = record { given = g } }; row-known = record { given = g' } }; advance-outputs-arg = record { given = g'' } }, λ g'3. lay1 record { before = record { before = record { before = record { before = c; shared-slice-known = record { given = g } }; row-known = record { given = g' } }; advance-outputs-arg = record { given = g'' } }; advance-outputs = Called.called ps·0 r·0 (claims· .1) T7 (record { pos = 16; ty = Syntax.tyRef Syntax.erased Syntax.mut OfOutput.named; ref = λ x. x }, (Num.vAt 10 λ x. x, (Num.vAt 7 λ x. x, tt))) (m5 record { before = record { before = c; shared-slice-known = record { given = g } }; row-known = record { given = g' } } g'') g'3 }))
+        laid = λ c. λ g. λ g'. λ g''. (Path'.refl, (advance-outputs-requires record { before = record { before = record { before = c; shared-slice-known = record { given = g } }; row-known = record { given = g' } }; advance-outputs-arg = record { given = g'' } }, λ g'3. lay1 record { before = record { before = record { before = record { before = c; shared-slice-known = record { given = g } }; row-known = record { given = g' } }; advance-outputs-arg = record { given = g'' } }; advance-outputs = Called.called ps·0 r·0 (claims· .1) T8 (record { pos = 14; ty = Syntax.tyRef Syntax.erased Syntax.mut OfOutput.named; ref = λ x. x }, (Num.vAt 6 λ x. x, (Num.vAt 7 λ x. x, tt))) (m6 record { before = record { before = c; shared-slice-known = record { given = g } }; row-known = record { given = g' } } g'') g'3 }))
 
         module _ (κs : Lifetimes.Lfts 4) (qs : Lifetimes.Shares 4) where
           pub asked :
@@ -1340,7 +1350,7 @@ module _ (claims· : Claims) where
               (pre : Pre· κs a) →
               (bs : List.List Nat.ℕ) →
               Φ (Any.wantQ 4 ps r xs m κs qs a (Post· κs a)) (Function.init 4 ps r xs m κs qs a)
-          asked = λ a good pre bs. laid record { κs = κs; args = record { outputs = a .0; stations = a .1 .0; time = a .1 .1 .0; bytes = a .1 .1 .1 .0; station = a .1 .1 .1 .1 .0; number = a .1 .1 .1 .1 .1 .0; moment = a .1 .1 .1 .1 .1 .1 .0; output = a .1 .1 .1 .1 .1 .1 .1 .0; request = a .1 .1 .1 .1 .1 .1 .1 .1 .0 }; good = good; fits = record { station = record { fits = good .1 .1 .1 .1 .0 .1 }; number = record { fits = good .1 .1 .1 .1 .1 .0 .1 }; moment = record { fits = good .1 .1 .1 .1 .1 .1 .0 .1 }; output = record { fits = good .1 .1 .1 .1 .1 .1 .1 .0 .1 } }; pre = pre }
+          asked = λ a good pre bs. laid record { κs = κs; args = record { outputs = a .0; stations = a .1 .0; time = a .1 .1 .0; bytes = a .1 .1 .1 .0; call = a .1 .1 .1 .1 .0 }; good = good; pre = pre }
 
         module _ {M : Type 1} (𝓤 : URA.URA M) (H : Wp.Heap 𝓤) (A : Atoms.Atoms 𝓤)
             (W : Kit.Given 𝓤 H A) (𝓣 : Wp.Tables 𝓤 H)

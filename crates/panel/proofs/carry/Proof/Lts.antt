@@ -2,10 +2,10 @@
 use Prim.Native.Nat
 use Rattle.lighting.proofs.Answer
 use Rattle.lighting.proofs.Answer.Laws
+use Rattle.lighting.proofs.Call
+use Rattle.lighting.proofs.Call.Laws as Laws'
 use Rattle.lighting.proofs.Lent.OfOutput as OfOutput
 use Rattle.lighting.proofs.Lent.OfStation as OfStation
-use Rattle.lighting.proofs.Request
-use Rattle.lighting.proofs.Request.Laws as Laws'
 use Rattle.lighting.proofs.Verdict
 use Rattle.lighting.proofs.Verdict.Laws as Laws''
 use borrow.Author.Called
@@ -14,7 +14,7 @@ use borrow.Enum.Make
 use borrow.Enum.Match
 use borrow.Enum.Whole
 use borrow.Fn.Any
-use borrow.Fn.Call
+use borrow.Fn.Call as Call'
 use borrow.Fn.Enter
 use borrow.Fn.Frame
 use borrow.Fn.Function
@@ -52,7 +52,9 @@ use contract.Lifetimes
 use denote.Enum.Declared
 use denote.Enum.Laws as Laws'3
 use denote.Exit
+use denote.Struct.Declared as Declared'
 use denote.Struct.Field
+use denote.Struct.Laws as Laws'4
 use denote.Triple.Clauses
 use denote.Triple.Statement
 use ghost.Atoms
@@ -75,7 +77,7 @@ abbrev pub r : Kinds.RK 4
 r = Value.rVal record { ty = Declared.row Answer.the-type; one = Path'.refl; val = Laws'3.val Answer.the-type Laws.the-laws; tells = Laws'3.tells Answer.the-type Laws.the-laws; still = Laws'3.still Answer.the-type Laws.the-copy Exit.yes; row = Rows.whole (Declared.row Answer.the-type); rd = λ x. x; mk = λ x. x } λ M 𝓤 H A W. record { copies = Laws'3.copy Answer.the-type Laws.the-copy 𝓤 H A W; lawful = Laws'3.lawful Answer.the-type Laws.the-laws 𝓤 H A W tt; makes = Laws'3.makes Answer.the-type Laws.the-plain 𝓤 H A; in-mem = Local.mem-whole 𝓤 H A W (Declared.row Answer.the-type); of-mem = Local.whole-mem 𝓤 H A W (Declared.row Answer.the-type) }
 
 abbrev pub xs : List.List Syntax.Ty
-xs = List._∷_ (Syntax.tyInt Syntax.w8) (List._∷_ (Laws.mir) (List._∷_ (Syntax.tyInt Syntax.w64) (List._∷_ (Syntax.tyInt Syntax.w64) (List._∷_ (Syntax.tyInt Syntax.w8) (List._∷_ (Syntax.tyInt Syntax.w32) (List._∷_ (Syntax.tyInt Syntax.w64) (List._∷_ (Syntax.tyInt Syntax.w8) (List._∷_ (Laws'.mir) (List._∷_ (Laws.mir) (List._∷_ Syntax.tyUnit (List._∷_ (Syntax.tyRef Syntax.erased Syntax.mut OfOutput.named) (List._∷_ (Syntax.tyStruct (List._∷_ 38 (List._∷_ 91 (List._∷_ 93 List.[]))) (Syntax.tcons (Syntax.tyRef Syntax.erased Syntax.mut OfOutput.named) (Syntax.tcons (Syntax.tyInt Syntax.w64) Syntax.tnil))) (List._∷_ (Syntax.tyRef Syntax.erased Syntax.mut OfOutput.named) (List._∷_ (Syntax.tyStruct (List._∷_ 38 (List._∷_ 91 (List._∷_ 93 List.[]))) (Syntax.tcons (Syntax.tyRef Syntax.erased Syntax.mut OfOutput.named) (Syntax.tcons (Syntax.tyInt Syntax.w64) Syntax.tnil))) (List._∷_ (Syntax.tyRef Syntax.erased Syntax.mut OfStation.named) (List._∷_ (Syntax.tyStruct (List._∷_ 38 (List._∷_ 91 (List._∷_ 93 List.[]))) (Syntax.tcons (Syntax.tyRef Syntax.erased Syntax.mut OfStation.named) (Syntax.tcons (Syntax.tyInt Syntax.w64) Syntax.tnil))) (List._∷_ (Syntax.tyRef Syntax.erased Syntax.mut (Syntax.tyInt Syntax.w64)) List.[])))))))))))))))))
+xs = List._∷_ (Syntax.tyInt Syntax.w8) (List._∷_ (Laws.mir) (List._∷_ (Syntax.tyInt Syntax.w64) (List._∷_ (Syntax.tyInt Syntax.w64) (List._∷_ (Laws'.mir) (List._∷_ (Laws.mir) (List._∷_ Syntax.tyUnit (List._∷_ (Syntax.tyRef Syntax.erased Syntax.mut OfOutput.named) (List._∷_ (Syntax.tyStruct (List._∷_ 38 (List._∷_ 91 (List._∷_ 93 List.[]))) (Syntax.tcons (Syntax.tyRef Syntax.erased Syntax.mut OfOutput.named) (Syntax.tcons (Syntax.tyInt Syntax.w64) Syntax.tnil))) (List._∷_ (Syntax.tyRef Syntax.erased Syntax.mut OfOutput.named) (List._∷_ (Syntax.tyStruct (List._∷_ 38 (List._∷_ 91 (List._∷_ 93 List.[]))) (Syntax.tcons (Syntax.tyRef Syntax.erased Syntax.mut OfOutput.named) (Syntax.tcons (Syntax.tyInt Syntax.w64) Syntax.tnil))) (List._∷_ (Syntax.tyRef Syntax.erased Syntax.mut OfStation.named) (List._∷_ (Syntax.tyStruct (List._∷_ 38 (List._∷_ 91 (List._∷_ 93 List.[]))) (Syntax.tcons (Syntax.tyRef Syntax.erased Syntax.mut OfStation.named) (Syntax.tcons (Syntax.tyInt Syntax.w64) Syntax.tnil))) (List._∷_ (Syntax.tyRef Syntax.erased Syntax.mut (Syntax.tyInt Syntax.w64)) List.[])))))))))))))
 
 abbrev pub m : Nat.ℕ
 m = 4
@@ -87,19 +89,19 @@ abbrev pub r·0 : Kinds.RK 1
 r·0 = Unit'.rUnit
 
 abbrev pub ps·1 : List.List (Kinds.PK 4)
-ps·1 = List._∷_ (MutSlice.pMutS (OfOutput.row) 0 tt) (List._∷_ (MutSlice.pMutS (OfStation.row) 1 tt) (List._∷_ (Kinds.pMutF (Referent.fInt Syntax.w64) 2 tt) (List._∷_ (ShrSlice.pShrS (Referent.rtF (Referent.fInt Syntax.w8)) 3 tt) (List._∷_ (Num.pNum Syntax.w8) (List._∷_ (Num.pNum Syntax.w32) (List._∷_ (Num.pNum Syntax.w64) (List._∷_ (Num.pNum Syntax.w8) (List._∷_ (Value.pVal record { ty = Declared.row Request.the-type; one = Path'.refl; val = Laws'3.val Request.the-type Laws'.the-laws; tells = Laws'3.tells Request.the-type Laws'.the-laws; still = Laws'3.still Request.the-type Laws'.the-copy Exit.yes; row = Rows.whole (Declared.row Request.the-type); rd = λ x. x; mk = λ x. x } λ M 𝓤 H A W. record { copies = Laws'3.copy Request.the-type Laws'.the-copy 𝓤 H A W; lawful = Laws'3.lawful Request.the-type Laws'.the-laws 𝓤 H A W tt; makes = Laws'3.makes Request.the-type Laws'.the-plain 𝓤 H A; in-mem = Local.mem-whole 𝓤 H A W (Declared.row Request.the-type); of-mem = Local.whole-mem 𝓤 H A W (Declared.row Request.the-type) }) List.[]))))))))
+ps·1 = List._∷_ (MutSlice.pMutS (OfOutput.row) 0 tt) (List._∷_ (MutSlice.pMutS (OfStation.row) 1 tt) (List._∷_ (Kinds.pMutF (Referent.fInt Syntax.w64) 2 tt) (List._∷_ (ShrSlice.pShrS (Referent.rtF (Referent.fInt Syntax.w8)) 3 tt) (List._∷_ (Value.pVal record { ty = Declared'.row Call.the-type; one = Path'.refl; val = Laws'4.val Call.the-type Laws'.the-laws; tells = Laws'4.tells Call.the-type Laws'.the-laws; still = Laws'4.still Call.the-type Laws'.the-copy Exit.yes; row = Rows.whole (Declared'.row Call.the-type); rd = λ x. x; mk = λ x. x } λ M 𝓤 H A W. record { copies = Laws'4.copy Call.the-type Laws'.the-copy 𝓤 H A W; lawful = Laws'4.lawful Call.the-type Laws'.the-laws 𝓤 H A W; makes = Laws'4.makes Call.the-type Laws'.the-plain 𝓤 H A; in-mem = Local.mem-whole 𝓤 H A W (Declared'.row Call.the-type); of-mem = Local.whole-mem 𝓤 H A W (Declared'.row Call.the-type) }) List.[]))))
 
 abbrev pub r·1 : Kinds.RK 4
 r·1 = Value.rVal record { ty = Declared.row Answer.the-type; one = Path'.refl; val = Laws'3.val Answer.the-type Laws.the-laws; tells = Laws'3.tells Answer.the-type Laws.the-laws; still = Laws'3.still Answer.the-type Laws.the-copy Exit.yes; row = Rows.whole (Declared.row Answer.the-type); rd = λ x. x; mk = λ x. x } λ M 𝓤 H A W. record { copies = Laws'3.copy Answer.the-type Laws.the-copy 𝓤 H A W; lawful = Laws'3.lawful Answer.the-type Laws.the-laws 𝓤 H A W tt; makes = Laws'3.makes Answer.the-type Laws.the-plain 𝓤 H A; in-mem = Local.mem-whole 𝓤 H A W (Declared.row Answer.the-type); of-mem = Local.whole-mem 𝓤 H A W (Declared.row Answer.the-type) }
 
 abbrev pub hs : List.List Syntax.Home
-hs = List._∷_ Syntax.valueLocal (List._∷_ Syntax.valueLocal (List._∷_ Syntax.valueLocal (List._∷_ Syntax.valueLocal (List._∷_ Syntax.valueLocal (List._∷_ Syntax.valueLocal (List._∷_ Syntax.valueLocal (List._∷_ Syntax.valueLocal (List._∷_ Syntax.valueLocal (List._∷_ Syntax.valueLocal (List._∷_ Syntax.valueLocal (List._∷_ Syntax.valueLocal (List._∷_ Syntax.valueLocal (List._∷_ Syntax.valueLocal (List._∷_ Syntax.valueLocal (List._∷_ Syntax.valueLocal (List._∷_ Syntax.valueLocal (List._∷_ Syntax.valueLocal (List._∷_ Syntax.valueLocal (List._∷_ Syntax.valueLocal (List._∷_ Syntax.valueLocal (List._∷_ Syntax.valueLocal (List._∷_ Syntax.valueLocal (List._∷_ Syntax.valueLocal List.[])))))))))))))))))))))))
+hs = List._∷_ Syntax.valueLocal (List._∷_ Syntax.valueLocal (List._∷_ Syntax.valueLocal (List._∷_ Syntax.valueLocal (List._∷_ Syntax.valueLocal (List._∷_ Syntax.valueLocal (List._∷_ Syntax.valueLocal (List._∷_ Syntax.valueLocal (List._∷_ Syntax.valueLocal (List._∷_ Syntax.valueLocal (List._∷_ Syntax.valueLocal (List._∷_ Syntax.valueLocal (List._∷_ Syntax.valueLocal (List._∷_ Syntax.valueLocal (List._∷_ Syntax.valueLocal (List._∷_ Syntax.valueLocal (List._∷_ Syntax.valueLocal (List._∷_ Syntax.valueLocal (List._∷_ Syntax.valueLocal (List._∷_ Syntax.valueLocal List.[])))))))))))))))))))
 
 abbrev b0 : Syntax.Body
 b0 = Syntax.assign (Syntax.place 6 List.[]) (Syntax.rvOpd (Syntax.copy (Syntax.place 5 (List._∷_ (Syntax.variant 0) (List._∷_ (Syntax.field 1) List.[])))))
 
 abbrev b1 : Syntax.Body
-b1 = Syntax.assign (Syntax.place 15 List.[]) (Syntax.aggregate (List._∷_ (Syntax.int Syntax.w8 3) (List._∷_ (Syntax.copy (Syntax.place 6 List.[])) List.[])))
+b1 = Syntax.assign (Syntax.place 11 List.[]) (Syntax.aggregate (List._∷_ (Syntax.int Syntax.w8 3) (List._∷_ (Syntax.copy (Syntax.place 6 List.[])) List.[])))
 
 abbrev b2 : Syntax.Body
 b2 = Syntax.seq b0 b1
@@ -108,7 +110,7 @@ abbrev b3 : Syntax.Body
 b3 = Syntax.assign (Syntax.place 7 List.[]) (Syntax.rvOpd (Syntax.copy (Syntax.place 5 (List._∷_ (Syntax.variant 1) (List._∷_ (Syntax.field 1) List.[])))))
 
 abbrev b4 : Syntax.Body
-b4 = Syntax.assign (Syntax.place 15 List.[]) (Syntax.rvOpd (Syntax.copy (Syntax.place 7 List.[])))
+b4 = Syntax.assign (Syntax.place 11 List.[]) (Syntax.rvOpd (Syntax.copy (Syntax.place 7 List.[])))
 
 abbrev b5 : Syntax.Body
 b5 = Syntax.seq b3 b4
@@ -120,19 +122,19 @@ abbrev b7 : Syntax.Body
 b7 = Syntax.assign (Syntax.place 9 List.[]) (Syntax.rvOpd (Syntax.copy (Syntax.place 3 (List._∷_ (Syntax.deref (Syntax.tyInt Syntax.w64)) List.[]))))
 
 abbrev b8 : Syntax.Body
-b8 = Syntax.assign (Syntax.place 17 List.[]) (Syntax.addrOf (Syntax.place 1 (List._∷_ (Syntax.field 0) (List._∷_ (Syntax.deref OfOutput.spelt) List.[]))))
+b8 = Syntax.assign (Syntax.place 13 List.[]) (Syntax.addrOf (Syntax.place 1 (List._∷_ (Syntax.field 0) (List._∷_ (Syntax.deref OfOutput.spelt) List.[]))))
 
 abbrev b9 : Syntax.Body
-b9 = Syntax.assign (Syntax.place 18 List.[]) (Syntax.aggregate (List._∷_ (Syntax.copy (Syntax.place 17 List.[])) (List._∷_ (Syntax.copy (Syntax.place 1 (List._∷_ (Syntax.field 1) List.[]))) List.[])))
+b9 = Syntax.assign (Syntax.place 14 List.[]) (Syntax.aggregate (List._∷_ (Syntax.copy (Syntax.place 13 List.[])) (List._∷_ (Syntax.copy (Syntax.place 1 (List._∷_ (Syntax.field 1) List.[]))) List.[])))
 
 abbrev b10 : Syntax.Body
-b10 = Syntax.call "tables::advance_outputs" (List._∷_ (Syntax.copy (Syntax.place 18 List.[])) (List._∷_ (Syntax.copy (Syntax.place 9 List.[])) (List._∷_ (Syntax.copy (Syntax.place 8 List.[])) List.[]))) (Syntax.place 16 List.[])
+b10 = Syntax.call "tables::advance_outputs" (List._∷_ (Syntax.copy (Syntax.place 14 List.[])) (List._∷_ (Syntax.copy (Syntax.place 9 List.[])) (List._∷_ (Syntax.copy (Syntax.place 8 List.[])) List.[]))) (Syntax.place 12 List.[])
 
 abbrev b11 : Syntax.Body
 b11 = Syntax.assign (Syntax.place 3 (List._∷_ (Syntax.deref (Syntax.tyInt Syntax.w64)) List.[])) (Syntax.rvOpd (Syntax.copy (Syntax.place 8 List.[])))
 
 abbrev b12 : Syntax.Body
-b12 = Syntax.assign (Syntax.place 15 List.[]) (Syntax.aggregate (List._∷_ (Syntax.int Syntax.w8 0) List.[]))
+b12 = Syntax.assign (Syntax.place 11 List.[]) (Syntax.aggregate (List._∷_ (Syntax.int Syntax.w8 0) List.[]))
 
 abbrev b13 : Syntax.Body
 b13 = Syntax.seq b11 b12
@@ -156,235 +158,184 @@ abbrev b19 : Syntax.Body
 b19 = Syntax.assign (Syntax.place 10 List.[]) (Syntax.rvOpd (Syntax.copy (Syntax.place 5 (List._∷_ (Syntax.variant 3) (List._∷_ (Syntax.field 1) List.[])))))
 
 abbrev b20 : Syntax.Body
-b20 = Syntax.assign (Syntax.place 11 List.[]) (Syntax.rvOpd (Syntax.copy (Syntax.place 5 (List._∷_ (Syntax.variant 3) (List._∷_ (Syntax.field 2) List.[])))))
+b20 = Syntax.assign (Syntax.place 15 List.[]) (Syntax.addrOf (Syntax.place 1 (List._∷_ (Syntax.field 0) (List._∷_ (Syntax.deref OfOutput.spelt) List.[]))))
 
 abbrev b21 : Syntax.Body
-b21 = Syntax.assign (Syntax.place 12 List.[]) (Syntax.rvOpd (Syntax.copy (Syntax.place 5 (List._∷_ (Syntax.variant 3) (List._∷_ (Syntax.field 3) List.[])))))
+b21 = Syntax.assign (Syntax.place 16 List.[]) (Syntax.aggregate (List._∷_ (Syntax.copy (Syntax.place 15 List.[])) (List._∷_ (Syntax.copy (Syntax.place 1 (List._∷_ (Syntax.field 1) List.[]))) List.[])))
 
 abbrev b22 : Syntax.Body
-b22 = Syntax.assign (Syntax.place 13 List.[]) (Syntax.rvOpd (Syntax.copy (Syntax.place 5 (List._∷_ (Syntax.variant 3) (List._∷_ (Syntax.field 4) List.[])))))
+b22 = Syntax.assign (Syntax.place 17 List.[]) (Syntax.addrOf (Syntax.place 2 (List._∷_ (Syntax.field 0) (List._∷_ (Syntax.deref OfStation.spelt) List.[]))))
 
 abbrev b23 : Syntax.Body
-b23 = Syntax.assign (Syntax.place 14 List.[]) (Syntax.rvOpd (Syntax.copy (Syntax.place 5 (List._∷_ (Syntax.variant 3) (List._∷_ (Syntax.field 5) List.[])))))
+b23 = Syntax.assign (Syntax.place 18 List.[]) (Syntax.aggregate (List._∷_ (Syntax.copy (Syntax.place 17 List.[])) (List._∷_ (Syntax.copy (Syntax.place 2 (List._∷_ (Syntax.field 1) List.[]))) List.[])))
 
 abbrev b24 : Syntax.Body
-b24 = Syntax.assign (Syntax.place 19 List.[]) (Syntax.addrOf (Syntax.place 1 (List._∷_ (Syntax.field 0) (List._∷_ (Syntax.deref OfOutput.spelt) List.[]))))
+b24 = Syntax.assign (Syntax.place 19 List.[]) (Syntax.addrOf (Syntax.place 3 (List._∷_ (Syntax.deref (Syntax.tyInt Syntax.w64)) List.[])))
 
 abbrev b25 : Syntax.Body
-b25 = Syntax.assign (Syntax.place 20 List.[]) (Syntax.aggregate (List._∷_ (Syntax.copy (Syntax.place 19 List.[])) (List._∷_ (Syntax.copy (Syntax.place 1 (List._∷_ (Syntax.field 1) List.[]))) List.[])))
+b25 = Syntax.call "panel::arrive" (List._∷_ (Syntax.copy (Syntax.place 16 List.[])) (List._∷_ (Syntax.copy (Syntax.place 18 List.[])) (List._∷_ (Syntax.copy (Syntax.place 19 List.[])) (List._∷_ (Syntax.copy (Syntax.place 4 List.[])) (List._∷_ (Syntax.copy (Syntax.place 10 List.[])) List.[]))))) (Syntax.place 11 List.[])
 
 abbrev b26 : Syntax.Body
-b26 = Syntax.assign (Syntax.place 21 List.[]) (Syntax.addrOf (Syntax.place 2 (List._∷_ (Syntax.field 0) (List._∷_ (Syntax.deref OfStation.spelt) List.[]))))
+b26 = Syntax.seq b24 b25
 
 abbrev b27 : Syntax.Body
-b27 = Syntax.assign (Syntax.place 22 List.[]) (Syntax.aggregate (List._∷_ (Syntax.copy (Syntax.place 21 List.[])) (List._∷_ (Syntax.copy (Syntax.place 2 (List._∷_ (Syntax.field 1) List.[]))) List.[])))
+b27 = Syntax.seq b23 b26
 
 abbrev b28 : Syntax.Body
-b28 = Syntax.assign (Syntax.place 23 List.[]) (Syntax.addrOf (Syntax.place 3 (List._∷_ (Syntax.deref (Syntax.tyInt Syntax.w64)) List.[])))
+b28 = Syntax.seq b22 b27
 
 abbrev b29 : Syntax.Body
-b29 = Syntax.call "panel::arrive" (List._∷_ (Syntax.copy (Syntax.place 20 List.[])) (List._∷_ (Syntax.copy (Syntax.place 22 List.[])) (List._∷_ (Syntax.copy (Syntax.place 23 List.[])) (List._∷_ (Syntax.copy (Syntax.place 4 List.[])) (List._∷_ (Syntax.copy (Syntax.place 10 List.[])) (List._∷_ (Syntax.copy (Syntax.place 11 List.[])) (List._∷_ (Syntax.copy (Syntax.place 12 List.[])) (List._∷_ (Syntax.copy (Syntax.place 13 List.[])) (List._∷_ (Syntax.copy (Syntax.place 14 List.[])) List.[]))))))))) (Syntax.place 15 List.[])
+b29 = Syntax.seq b21 b28
 
 abbrev b30 : Syntax.Body
-b30 = Syntax.seq b28 b29
+b30 = Syntax.seq b20 b29
 
 abbrev b31 : Syntax.Body
-b31 = Syntax.seq b27 b30
+b31 = Syntax.seq b19 b30
 
 abbrev b32 : Syntax.Body
-b32 = Syntax.seq b26 b31
+b32 = Syntax.switch (Syntax.copy (Syntax.place 5 (List._∷_ (Syntax.variant 0) (List._∷_ (Syntax.field 0) List.[])))) (Syntax.arm (List._∷_ 0 List.[]) b2 (Syntax.arm (List._∷_ 1 List.[]) b5 (Syntax.arm (List._∷_ 2 List.[]) b18 (Syntax.arm (List._∷_ 3 List.[]) b31 Syntax.noDefault))))
 
 abbrev b33 : Syntax.Body
-b33 = Syntax.seq b25 b32
+b33 = Syntax.assign (Syntax.place 0 List.[]) (Syntax.rvOpd (Syntax.copy (Syntax.place 11 List.[])))
 
 abbrev b34 : Syntax.Body
-b34 = Syntax.seq b24 b33
+b34 = Syntax.return
 
 abbrev b35 : Syntax.Body
-b35 = Syntax.seq b23 b34
+b35 = Syntax.seq b33 b34
 
 abbrev b36 : Syntax.Body
-b36 = Syntax.seq b22 b35
-
-abbrev b37 : Syntax.Body
-b37 = Syntax.seq b21 b36
-
-abbrev b38 : Syntax.Body
-b38 = Syntax.seq b20 b37
-
-abbrev b39 : Syntax.Body
-b39 = Syntax.seq b19 b38
-
-abbrev b40 : Syntax.Body
-b40 = Syntax.switch (Syntax.copy (Syntax.place 5 (List._∷_ (Syntax.variant 0) (List._∷_ (Syntax.field 0) List.[])))) (Syntax.arm (List._∷_ 0 List.[]) b2 (Syntax.arm (List._∷_ 1 List.[]) b5 (Syntax.arm (List._∷_ 2 List.[]) b18 (Syntax.arm (List._∷_ 3 List.[]) b39 Syntax.noDefault))))
-
-abbrev b41 : Syntax.Body
-b41 = Syntax.assign (Syntax.place 0 List.[]) (Syntax.rvOpd (Syntax.copy (Syntax.place 15 List.[])))
-
-abbrev b42 : Syntax.Body
-b42 = Syntax.return
-
-abbrev b43 : Syntax.Body
-b43 = Syntax.seq b41 b42
-
-abbrev b44 : Syntax.Body
-b44 = Syntax.seq b40 b43
+b36 = Syntax.seq b32 b35
 
 abbrev pub body : Syntax.Body
-body = b44
+body = b36
 
 abbrev pub Claims : Type 1
 Claims = Kinds.In 1 ps·0 × Kinds.Out 1 ps·0 r·0 × Kinds.In 4 ps·1 × Kinds.Out 4 ps·1 r·1
 
 abbrev pub t0 : List.List Row.Entry
-t0 = List._∷_ (0, Rows.any-gone (Laws.mir)) (List._∷_ (1, Mut.mslice (OfOutput.row) (Syntax.tyRef (Syntax.named 0) Syntax.mut OfOutput.named) 0) (List._∷_ (2, Mut.mslice (OfStation.row) (Syntax.tyRef (Syntax.named 1) Syntax.mut OfStation.named) 1) (List._∷_ (3, Rows.mref (Referent.rtF (Referent.fInt Syntax.w64)) (Syntax.tyRef (Syntax.named 2) Syntax.mut (Syntax.tyInt Syntax.w64)) 2) (List._∷_ (4, Rows.sslice (Referent.rtF (Referent.fInt Syntax.w8)) (Syntax.tyRef (Syntax.named 3) Syntax.imm (Syntax.tyInt Syntax.w8)) 3) (List._∷_ (5, Rows.whole (Declared.row Verdict.the-type)) (List._∷_ (6, Rows.any-gone (Syntax.tyInt Syntax.w8)) (List._∷_ (7, Rows.any-gone (Laws.mir)) (List._∷_ (8, Rows.any-gone (Syntax.tyInt Syntax.w64)) (List._∷_ (9, Rows.any-gone (Syntax.tyInt Syntax.w64)) (List._∷_ (10, Rows.any-gone (Syntax.tyInt Syntax.w8)) (List._∷_ (11, Rows.any-gone (Syntax.tyInt Syntax.w32)) (List._∷_ (12, Rows.any-gone (Syntax.tyInt Syntax.w64)) (List._∷_ (13, Rows.any-gone (Syntax.tyInt Syntax.w8)) (List._∷_ (14, Rows.any-gone (Laws'.mir)) (List._∷_ (15, Rows.any-gone (Laws.mir)) List.[])))))))))))))))
+t0 = List._∷_ (0, Rows.any-gone (Laws.mir)) (List._∷_ (1, Mut.mslice (OfOutput.row) (Syntax.tyRef (Syntax.named 0) Syntax.mut OfOutput.named) 0) (List._∷_ (2, Mut.mslice (OfStation.row) (Syntax.tyRef (Syntax.named 1) Syntax.mut OfStation.named) 1) (List._∷_ (3, Rows.mref (Referent.rtF (Referent.fInt Syntax.w64)) (Syntax.tyRef (Syntax.named 2) Syntax.mut (Syntax.tyInt Syntax.w64)) 2) (List._∷_ (4, Rows.sslice (Referent.rtF (Referent.fInt Syntax.w8)) (Syntax.tyRef (Syntax.named 3) Syntax.imm (Syntax.tyInt Syntax.w8)) 3) (List._∷_ (5, Rows.whole (Declared.row Verdict.the-type)) (List._∷_ (6, Rows.any-gone (Syntax.tyInt Syntax.w8)) (List._∷_ (7, Rows.any-gone (Laws.mir)) (List._∷_ (8, Rows.any-gone (Syntax.tyInt Syntax.w64)) (List._∷_ (9, Rows.any-gone (Syntax.tyInt Syntax.w64)) (List._∷_ (10, Rows.any-gone (Laws'.mir)) (List._∷_ (11, Rows.any-gone (Laws.mir)) (List._∷_ (12, Rows.any-gone Syntax.tyUnit) (List._∷_ (13, Rows.any-gone (Syntax.tyRef Syntax.erased Syntax.mut OfOutput.named)) (List._∷_ (14, Rows.any-gone (Syntax.tyStruct (List._∷_ 38 (List._∷_ 91 (List._∷_ 93 List.[]))) (Syntax.tcons (Syntax.tyRef Syntax.erased Syntax.mut OfOutput.named) (Syntax.tcons (Syntax.tyInt Syntax.w64) Syntax.tnil)))) (List._∷_ (15, Rows.any-gone (Syntax.tyRef Syntax.erased Syntax.mut OfOutput.named)) List.[])))))))))))))))
 
 abbrev pub t1 : List.List Row.Entry
-t1 = List._∷_ (16, Rows.any-gone Syntax.tyUnit) (List._∷_ (17, Rows.any-gone (Syntax.tyRef Syntax.erased Syntax.mut OfOutput.named)) (List._∷_ (18, Rows.any-gone (Syntax.tyStruct (List._∷_ 38 (List._∷_ 91 (List._∷_ 93 List.[]))) (Syntax.tcons (Syntax.tyRef Syntax.erased Syntax.mut OfOutput.named) (Syntax.tcons (Syntax.tyInt Syntax.w64) Syntax.tnil)))) (List._∷_ (19, Rows.any-gone (Syntax.tyRef Syntax.erased Syntax.mut OfOutput.named)) (List._∷_ (20, Rows.any-gone (Syntax.tyStruct (List._∷_ 38 (List._∷_ 91 (List._∷_ 93 List.[]))) (Syntax.tcons (Syntax.tyRef Syntax.erased Syntax.mut OfOutput.named) (Syntax.tcons (Syntax.tyInt Syntax.w64) Syntax.tnil)))) (List._∷_ (21, Rows.any-gone (Syntax.tyRef Syntax.erased Syntax.mut OfStation.named)) (List._∷_ (22, Rows.any-gone (Syntax.tyStruct (List._∷_ 38 (List._∷_ 91 (List._∷_ 93 List.[]))) (Syntax.tcons (Syntax.tyRef Syntax.erased Syntax.mut OfStation.named) (Syntax.tcons (Syntax.tyInt Syntax.w64) Syntax.tnil)))) (List._∷_ (23, Rows.any-gone (Syntax.tyRef Syntax.erased Syntax.mut (Syntax.tyInt Syntax.w64))) List.[])))))))
+t1 = List._∷_ (16, Rows.any-gone (Syntax.tyStruct (List._∷_ 38 (List._∷_ 91 (List._∷_ 93 List.[]))) (Syntax.tcons (Syntax.tyRef Syntax.erased Syntax.mut OfOutput.named) (Syntax.tcons (Syntax.tyInt Syntax.w64) Syntax.tnil)))) (List._∷_ (17, Rows.any-gone (Syntax.tyRef Syntax.erased Syntax.mut OfStation.named)) (List._∷_ (18, Rows.any-gone (Syntax.tyStruct (List._∷_ 38 (List._∷_ 91 (List._∷_ 93 List.[]))) (Syntax.tcons (Syntax.tyRef Syntax.erased Syntax.mut OfStation.named) (Syntax.tcons (Syntax.tyInt Syntax.w64) Syntax.tnil)))) (List._∷_ (19, Rows.any-gone (Syntax.tyRef Syntax.erased Syntax.mut (Syntax.tyInt Syntax.w64))) List.[])))
 
 abbrev pub t2 : List.List Row.Entry
-t2 = List._∷_ (0, Rows.whole (Declared.row Answer.the-type)) (List._∷_ (1, Mut.mslice (OfOutput.row) (Syntax.tyRef (Syntax.named 0) Syntax.mut OfOutput.named) 0) (List._∷_ (2, Mut.mslice (OfStation.row) (Syntax.tyRef (Syntax.named 1) Syntax.mut OfStation.named) 1) (List._∷_ (3, Rows.mref (Referent.rtF (Referent.fInt Syntax.w64)) (Syntax.tyRef (Syntax.named 2) Syntax.mut (Syntax.tyInt Syntax.w64)) 2) (List._∷_ (4, Rows.sslice (Referent.rtF (Referent.fInt Syntax.w8)) (Syntax.tyRef (Syntax.named 3) Syntax.imm (Syntax.tyInt Syntax.w8)) 3) (List._∷_ (5, Rows.any-gone (Laws''.mir)) (List._∷_ (6, Rows.any-gone (Syntax.tyInt Syntax.w8)) (List._∷_ (7, Rows.any-gone (Laws.mir)) (List._∷_ (8, Rows.any-gone (Syntax.tyInt Syntax.w64)) (List._∷_ (9, Rows.any-gone (Syntax.tyInt Syntax.w64)) (List._∷_ (10, Rows.any-gone (Syntax.tyInt Syntax.w8)) (List._∷_ (11, Rows.any-gone (Syntax.tyInt Syntax.w32)) (List._∷_ (12, Rows.any-gone (Syntax.tyInt Syntax.w64)) (List._∷_ (13, Rows.any-gone (Syntax.tyInt Syntax.w8)) (List._∷_ (14, Rows.any-gone (Laws'.mir)) (List._∷_ (15, Rows.any-gone (Laws.mir)) List.[])))))))))))))))
+t2 = List._∷_ (0, Rows.whole (Declared.row Answer.the-type)) (List._∷_ (1, Mut.mslice (OfOutput.row) (Syntax.tyRef (Syntax.named 0) Syntax.mut OfOutput.named) 0) (List._∷_ (2, Mut.mslice (OfStation.row) (Syntax.tyRef (Syntax.named 1) Syntax.mut OfStation.named) 1) (List._∷_ (3, Rows.mref (Referent.rtF (Referent.fInt Syntax.w64)) (Syntax.tyRef (Syntax.named 2) Syntax.mut (Syntax.tyInt Syntax.w64)) 2) (List._∷_ (4, Rows.sslice (Referent.rtF (Referent.fInt Syntax.w8)) (Syntax.tyRef (Syntax.named 3) Syntax.imm (Syntax.tyInt Syntax.w8)) 3) (List._∷_ (5, Rows.any-gone (Laws''.mir)) (List._∷_ (6, Rows.any-gone (Syntax.tyInt Syntax.w8)) (List._∷_ (7, Rows.any-gone (Laws.mir)) (List._∷_ (8, Rows.any-gone (Syntax.tyInt Syntax.w64)) (List._∷_ (9, Rows.any-gone (Syntax.tyInt Syntax.w64)) (List._∷_ (10, Rows.any-gone (Laws'.mir)) (List._∷_ (11, Rows.any-gone (Laws.mir)) (List._∷_ (12, Rows.any-gone Syntax.tyUnit) (List._∷_ (13, Rows.any-gone (Syntax.tyRef Syntax.erased Syntax.mut OfOutput.named)) (List._∷_ (14, Rows.any-gone (Syntax.tyStruct (List._∷_ 38 (List._∷_ 91 (List._∷_ 93 List.[]))) (Syntax.tcons (Syntax.tyRef Syntax.erased Syntax.mut OfOutput.named) (Syntax.tcons (Syntax.tyInt Syntax.w64) Syntax.tnil)))) (List._∷_ (15, Rows.any-gone (Syntax.tyRef Syntax.erased Syntax.mut OfOutput.named)) List.[])))))))))))))))
 
 abbrev pub t3 : List.List Row.Entry
-t3 = List._∷_ (0, Rows.any-gone (Laws.mir)) (List._∷_ (1, Mut.mslice (OfOutput.row) (Syntax.tyRef (Syntax.named 0) Syntax.mut OfOutput.named) 0) (List._∷_ (2, Mut.mslice (OfStation.row) (Syntax.tyRef (Syntax.named 1) Syntax.mut OfStation.named) 1) (List._∷_ (3, Rows.mref (Referent.rtF (Referent.fInt Syntax.w64)) (Syntax.tyRef (Syntax.named 2) Syntax.mut (Syntax.tyInt Syntax.w64)) 2) (List._∷_ (4, Rows.sslice (Referent.rtF (Referent.fInt Syntax.w8)) (Syntax.tyRef (Syntax.named 3) Syntax.imm (Syntax.tyInt Syntax.w8)) 3) (List._∷_ (5, Rows.any-gone (Laws''.mir)) (List._∷_ (6, Rows.any-gone (Syntax.tyInt Syntax.w8)) (List._∷_ (7, Rows.any-gone (Laws.mir)) (List._∷_ (8, Rows.any-gone (Syntax.tyInt Syntax.w64)) (List._∷_ (9, Rows.any-gone (Syntax.tyInt Syntax.w64)) (List._∷_ (10, Rows.any-gone (Syntax.tyInt Syntax.w8)) (List._∷_ (11, Rows.any-gone (Syntax.tyInt Syntax.w32)) (List._∷_ (12, Rows.any-gone (Syntax.tyInt Syntax.w64)) (List._∷_ (13, Rows.any-gone (Syntax.tyInt Syntax.w8)) (List._∷_ (14, Rows.any-gone (Laws'.mir)) (List._∷_ (15, Rows.whole (Declared.row Answer.the-type)) List.[])))))))))))))))
+t3 = List._∷_ (0, Rows.any-gone (Laws.mir)) (List._∷_ (1, Mut.mslice (OfOutput.row) (Syntax.tyRef (Syntax.named 0) Syntax.mut OfOutput.named) 0) (List._∷_ (2, Mut.mslice (OfStation.row) (Syntax.tyRef (Syntax.named 1) Syntax.mut OfStation.named) 1) (List._∷_ (3, Rows.mref (Referent.rtF (Referent.fInt Syntax.w64)) (Syntax.tyRef (Syntax.named 2) Syntax.mut (Syntax.tyInt Syntax.w64)) 2) (List._∷_ (4, Rows.sslice (Referent.rtF (Referent.fInt Syntax.w8)) (Syntax.tyRef (Syntax.named 3) Syntax.imm (Syntax.tyInt Syntax.w8)) 3) (List._∷_ (5, Rows.any-gone (Laws''.mir)) (List._∷_ (6, Rows.any-gone (Syntax.tyInt Syntax.w8)) (List._∷_ (7, Rows.any-gone (Laws.mir)) (List._∷_ (8, Rows.any-gone (Syntax.tyInt Syntax.w64)) (List._∷_ (9, Rows.any-gone (Syntax.tyInt Syntax.w64)) (List._∷_ (10, Rows.any-gone (Laws'.mir)) (List._∷_ (11, Rows.whole (Declared.row Answer.the-type)) (List._∷_ (12, Rows.any-gone Syntax.tyUnit) (List._∷_ (13, Rows.any-gone (Syntax.tyRef Syntax.erased Syntax.mut OfOutput.named)) (List._∷_ (14, Rows.any-gone (Syntax.tyStruct (List._∷_ 38 (List._∷_ 91 (List._∷_ 93 List.[]))) (Syntax.tcons (Syntax.tyRef Syntax.erased Syntax.mut OfOutput.named) (Syntax.tcons (Syntax.tyInt Syntax.w64) Syntax.tnil)))) (List._∷_ (15, Rows.any-gone (Syntax.tyRef Syntax.erased Syntax.mut OfOutput.named)) List.[])))))))))))))))
 
 abbrev pub t4 : List.List Row.Entry
-t4 = List._∷_ (0, Rows.any-gone (Laws.mir)) (List._∷_ (1, Mut.mslice (OfOutput.row) (Syntax.tyRef (Syntax.named 0) Syntax.mut OfOutput.named) 0) (List._∷_ (2, Mut.mslice (OfStation.row) (Syntax.tyRef (Syntax.named 1) Syntax.mut OfStation.named) 1) (List._∷_ (3, Rows.mref (Referent.rtF (Referent.fInt Syntax.w64)) (Syntax.tyRef (Syntax.named 2) Syntax.mut (Syntax.tyInt Syntax.w64)) 2) (List._∷_ (4, Rows.sslice (Referent.rtF (Referent.fInt Syntax.w8)) (Syntax.tyRef (Syntax.named 3) Syntax.imm (Syntax.tyInt Syntax.w8)) 3) (List._∷_ (5, Rows.whole (Known.Known Verdict.enum 0)) (List._∷_ (6, Rows.any-gone (Syntax.tyInt Syntax.w8)) (List._∷_ (7, Rows.any-gone (Laws.mir)) (List._∷_ (8, Rows.any-gone (Syntax.tyInt Syntax.w64)) (List._∷_ (9, Rows.any-gone (Syntax.tyInt Syntax.w64)) (List._∷_ (10, Rows.any-gone (Syntax.tyInt Syntax.w8)) (List._∷_ (11, Rows.any-gone (Syntax.tyInt Syntax.w32)) (List._∷_ (12, Rows.any-gone (Syntax.tyInt Syntax.w64)) (List._∷_ (13, Rows.any-gone (Syntax.tyInt Syntax.w8)) (List._∷_ (14, Rows.any-gone (Laws'.mir)) (List._∷_ (15, Rows.any-gone (Laws.mir)) List.[])))))))))))))))
+t4 = List._∷_ (0, Rows.any-gone (Laws.mir)) (List._∷_ (1, Mut.mslice (OfOutput.row) (Syntax.tyRef (Syntax.named 0) Syntax.mut OfOutput.named) 0) (List._∷_ (2, Mut.mslice (OfStation.row) (Syntax.tyRef (Syntax.named 1) Syntax.mut OfStation.named) 1) (List._∷_ (3, Rows.mref (Referent.rtF (Referent.fInt Syntax.w64)) (Syntax.tyRef (Syntax.named 2) Syntax.mut (Syntax.tyInt Syntax.w64)) 2) (List._∷_ (4, Rows.sslice (Referent.rtF (Referent.fInt Syntax.w8)) (Syntax.tyRef (Syntax.named 3) Syntax.imm (Syntax.tyInt Syntax.w8)) 3) (List._∷_ (5, Rows.whole (Known.Known Verdict.enum 0)) (List._∷_ (6, Rows.any-gone (Syntax.tyInt Syntax.w8)) (List._∷_ (7, Rows.any-gone (Laws.mir)) (List._∷_ (8, Rows.any-gone (Syntax.tyInt Syntax.w64)) (List._∷_ (9, Rows.any-gone (Syntax.tyInt Syntax.w64)) (List._∷_ (10, Rows.any-gone (Laws'.mir)) (List._∷_ (11, Rows.any-gone (Laws.mir)) (List._∷_ (12, Rows.any-gone Syntax.tyUnit) (List._∷_ (13, Rows.any-gone (Syntax.tyRef Syntax.erased Syntax.mut OfOutput.named)) (List._∷_ (14, Rows.any-gone (Syntax.tyStruct (List._∷_ 38 (List._∷_ 91 (List._∷_ 93 List.[]))) (Syntax.tcons (Syntax.tyRef Syntax.erased Syntax.mut OfOutput.named) (Syntax.tcons (Syntax.tyInt Syntax.w64) Syntax.tnil)))) (List._∷_ (15, Rows.any-gone (Syntax.tyRef Syntax.erased Syntax.mut OfOutput.named)) List.[])))))))))))))))
 
 abbrev pub t5 : List.List Row.Entry
-t5 = List._∷_ (0, Rows.any-gone (Laws.mir)) (List._∷_ (1, Mut.mslice (OfOutput.row) (Syntax.tyRef (Syntax.named 0) Syntax.mut OfOutput.named) 0) (List._∷_ (2, Mut.mslice (OfStation.row) (Syntax.tyRef (Syntax.named 1) Syntax.mut OfStation.named) 1) (List._∷_ (3, Rows.mref (Referent.rtF (Referent.fInt Syntax.w64)) (Syntax.tyRef (Syntax.named 2) Syntax.mut (Syntax.tyInt Syntax.w64)) 2) (List._∷_ (4, Rows.sslice (Referent.rtF (Referent.fInt Syntax.w8)) (Syntax.tyRef (Syntax.named 3) Syntax.imm (Syntax.tyInt Syntax.w8)) 3) (List._∷_ (5, Rows.whole (Known.Known Verdict.enum 0)) (List._∷_ (6, Rows.sc-here (Row.sInt Syntax.w8)) (List._∷_ (7, Rows.any-gone (Laws.mir)) (List._∷_ (8, Rows.any-gone (Syntax.tyInt Syntax.w64)) (List._∷_ (9, Rows.any-gone (Syntax.tyInt Syntax.w64)) (List._∷_ (10, Rows.any-gone (Syntax.tyInt Syntax.w8)) (List._∷_ (11, Rows.any-gone (Syntax.tyInt Syntax.w32)) (List._∷_ (12, Rows.any-gone (Syntax.tyInt Syntax.w64)) (List._∷_ (13, Rows.any-gone (Syntax.tyInt Syntax.w8)) (List._∷_ (14, Rows.any-gone (Laws'.mir)) (List._∷_ (15, Rows.any-gone (Laws.mir)) List.[])))))))))))))))
+t5 = List._∷_ (0, Rows.any-gone (Laws.mir)) (List._∷_ (1, Mut.mslice (OfOutput.row) (Syntax.tyRef (Syntax.named 0) Syntax.mut OfOutput.named) 0) (List._∷_ (2, Mut.mslice (OfStation.row) (Syntax.tyRef (Syntax.named 1) Syntax.mut OfStation.named) 1) (List._∷_ (3, Rows.mref (Referent.rtF (Referent.fInt Syntax.w64)) (Syntax.tyRef (Syntax.named 2) Syntax.mut (Syntax.tyInt Syntax.w64)) 2) (List._∷_ (4, Rows.sslice (Referent.rtF (Referent.fInt Syntax.w8)) (Syntax.tyRef (Syntax.named 3) Syntax.imm (Syntax.tyInt Syntax.w8)) 3) (List._∷_ (5, Rows.whole (Known.Known Verdict.enum 0)) (List._∷_ (6, Rows.sc-here (Row.sInt Syntax.w8)) (List._∷_ (7, Rows.any-gone (Laws.mir)) (List._∷_ (8, Rows.any-gone (Syntax.tyInt Syntax.w64)) (List._∷_ (9, Rows.any-gone (Syntax.tyInt Syntax.w64)) (List._∷_ (10, Rows.any-gone (Laws'.mir)) (List._∷_ (11, Rows.any-gone (Laws.mir)) (List._∷_ (12, Rows.any-gone Syntax.tyUnit) (List._∷_ (13, Rows.any-gone (Syntax.tyRef Syntax.erased Syntax.mut OfOutput.named)) (List._∷_ (14, Rows.any-gone (Syntax.tyStruct (List._∷_ 38 (List._∷_ 91 (List._∷_ 93 List.[]))) (Syntax.tcons (Syntax.tyRef Syntax.erased Syntax.mut OfOutput.named) (Syntax.tcons (Syntax.tyInt Syntax.w64) Syntax.tnil)))) (List._∷_ (15, Rows.any-gone (Syntax.tyRef Syntax.erased Syntax.mut OfOutput.named)) List.[])))))))))))))))
 
 abbrev pub t6 : List.List Row.Entry
-t6 = List._∷_ (0, Rows.any-gone (Laws.mir)) (List._∷_ (1, Mut.mslice (OfOutput.row) (Syntax.tyRef (Syntax.named 0) Syntax.mut OfOutput.named) 0) (List._∷_ (2, Mut.mslice (OfStation.row) (Syntax.tyRef (Syntax.named 1) Syntax.mut OfStation.named) 1) (List._∷_ (3, Rows.mref (Referent.rtF (Referent.fInt Syntax.w64)) (Syntax.tyRef (Syntax.named 2) Syntax.mut (Syntax.tyInt Syntax.w64)) 2) (List._∷_ (4, Rows.sslice (Referent.rtF (Referent.fInt Syntax.w8)) (Syntax.tyRef (Syntax.named 3) Syntax.imm (Syntax.tyInt Syntax.w8)) 3) (List._∷_ (5, Rows.any-gone (Laws''.mir)) (List._∷_ (6, Rows.sc-here (Row.sInt Syntax.w8)) (List._∷_ (7, Rows.any-gone (Laws.mir)) (List._∷_ (8, Rows.any-gone (Syntax.tyInt Syntax.w64)) (List._∷_ (9, Rows.any-gone (Syntax.tyInt Syntax.w64)) (List._∷_ (10, Rows.any-gone (Syntax.tyInt Syntax.w8)) (List._∷_ (11, Rows.any-gone (Syntax.tyInt Syntax.w32)) (List._∷_ (12, Rows.any-gone (Syntax.tyInt Syntax.w64)) (List._∷_ (13, Rows.any-gone (Syntax.tyInt Syntax.w8)) (List._∷_ (14, Rows.any-gone (Laws'.mir)) (List._∷_ (15, Rows.any-gone (Laws.mir)) List.[])))))))))))))))
+t6 = List._∷_ (0, Rows.any-gone (Laws.mir)) (List._∷_ (1, Mut.mslice (OfOutput.row) (Syntax.tyRef (Syntax.named 0) Syntax.mut OfOutput.named) 0) (List._∷_ (2, Mut.mslice (OfStation.row) (Syntax.tyRef (Syntax.named 1) Syntax.mut OfStation.named) 1) (List._∷_ (3, Rows.mref (Referent.rtF (Referent.fInt Syntax.w64)) (Syntax.tyRef (Syntax.named 2) Syntax.mut (Syntax.tyInt Syntax.w64)) 2) (List._∷_ (4, Rows.sslice (Referent.rtF (Referent.fInt Syntax.w8)) (Syntax.tyRef (Syntax.named 3) Syntax.imm (Syntax.tyInt Syntax.w8)) 3) (List._∷_ (5, Rows.any-gone (Laws''.mir)) (List._∷_ (6, Rows.sc-here (Row.sInt Syntax.w8)) (List._∷_ (7, Rows.any-gone (Laws.mir)) (List._∷_ (8, Rows.any-gone (Syntax.tyInt Syntax.w64)) (List._∷_ (9, Rows.any-gone (Syntax.tyInt Syntax.w64)) (List._∷_ (10, Rows.any-gone (Laws'.mir)) (List._∷_ (11, Rows.any-gone (Laws.mir)) (List._∷_ (12, Rows.any-gone Syntax.tyUnit) (List._∷_ (13, Rows.any-gone (Syntax.tyRef Syntax.erased Syntax.mut OfOutput.named)) (List._∷_ (14, Rows.any-gone (Syntax.tyStruct (List._∷_ 38 (List._∷_ 91 (List._∷_ 93 List.[]))) (Syntax.tcons (Syntax.tyRef Syntax.erased Syntax.mut OfOutput.named) (Syntax.tcons (Syntax.tyInt Syntax.w64) Syntax.tnil)))) (List._∷_ (15, Rows.any-gone (Syntax.tyRef Syntax.erased Syntax.mut OfOutput.named)) List.[])))))))))))))))
 
 abbrev pub t7 : List.List Row.Entry
-t7 = List._∷_ (0, Rows.any-gone (Laws.mir)) (List._∷_ (1, Mut.mslice (OfOutput.row) (Syntax.tyRef (Syntax.named 0) Syntax.mut OfOutput.named) 0) (List._∷_ (2, Mut.mslice (OfStation.row) (Syntax.tyRef (Syntax.named 1) Syntax.mut OfStation.named) 1) (List._∷_ (3, Rows.mref (Referent.rtF (Referent.fInt Syntax.w64)) (Syntax.tyRef (Syntax.named 2) Syntax.mut (Syntax.tyInt Syntax.w64)) 2) (List._∷_ (4, Rows.sslice (Referent.rtF (Referent.fInt Syntax.w8)) (Syntax.tyRef (Syntax.named 3) Syntax.imm (Syntax.tyInt Syntax.w8)) 3) (List._∷_ (5, Rows.any-gone (Laws''.mir)) (List._∷_ (6, Rows.sc-here (Row.sInt Syntax.w8)) (List._∷_ (7, Rows.any-gone (Laws.mir)) (List._∷_ (8, Rows.any-gone (Syntax.tyInt Syntax.w64)) (List._∷_ (9, Rows.any-gone (Syntax.tyInt Syntax.w64)) (List._∷_ (10, Rows.any-gone (Syntax.tyInt Syntax.w8)) (List._∷_ (11, Rows.any-gone (Syntax.tyInt Syntax.w32)) (List._∷_ (12, Rows.any-gone (Syntax.tyInt Syntax.w64)) (List._∷_ (13, Rows.any-gone (Syntax.tyInt Syntax.w8)) (List._∷_ (14, Rows.any-gone (Laws'.mir)) (List._∷_ (15, Rows.whole (Declared.row Answer.the-type)) List.[])))))))))))))))
+t7 = List._∷_ (0, Rows.any-gone (Laws.mir)) (List._∷_ (1, Mut.mslice (OfOutput.row) (Syntax.tyRef (Syntax.named 0) Syntax.mut OfOutput.named) 0) (List._∷_ (2, Mut.mslice (OfStation.row) (Syntax.tyRef (Syntax.named 1) Syntax.mut OfStation.named) 1) (List._∷_ (3, Rows.mref (Referent.rtF (Referent.fInt Syntax.w64)) (Syntax.tyRef (Syntax.named 2) Syntax.mut (Syntax.tyInt Syntax.w64)) 2) (List._∷_ (4, Rows.sslice (Referent.rtF (Referent.fInt Syntax.w8)) (Syntax.tyRef (Syntax.named 3) Syntax.imm (Syntax.tyInt Syntax.w8)) 3) (List._∷_ (5, Rows.any-gone (Laws''.mir)) (List._∷_ (6, Rows.sc-here (Row.sInt Syntax.w8)) (List._∷_ (7, Rows.any-gone (Laws.mir)) (List._∷_ (8, Rows.any-gone (Syntax.tyInt Syntax.w64)) (List._∷_ (9, Rows.any-gone (Syntax.tyInt Syntax.w64)) (List._∷_ (10, Rows.any-gone (Laws'.mir)) (List._∷_ (11, Rows.whole (Declared.row Answer.the-type)) (List._∷_ (12, Rows.any-gone Syntax.tyUnit) (List._∷_ (13, Rows.any-gone (Syntax.tyRef Syntax.erased Syntax.mut OfOutput.named)) (List._∷_ (14, Rows.any-gone (Syntax.tyStruct (List._∷_ 38 (List._∷_ 91 (List._∷_ 93 List.[]))) (Syntax.tcons (Syntax.tyRef Syntax.erased Syntax.mut OfOutput.named) (Syntax.tcons (Syntax.tyInt Syntax.w64) Syntax.tnil)))) (List._∷_ (15, Rows.any-gone (Syntax.tyRef Syntax.erased Syntax.mut OfOutput.named)) List.[])))))))))))))))
 
 abbrev pub t8 : List.List Row.Entry
-t8 = List._∷_ (0, Rows.any-gone (Laws.mir)) (List._∷_ (1, Mut.mslice (OfOutput.row) (Syntax.tyRef (Syntax.named 0) Syntax.mut OfOutput.named) 0) (List._∷_ (2, Mut.mslice (OfStation.row) (Syntax.tyRef (Syntax.named 1) Syntax.mut OfStation.named) 1) (List._∷_ (3, Rows.mref (Referent.rtF (Referent.fInt Syntax.w64)) (Syntax.tyRef (Syntax.named 2) Syntax.mut (Syntax.tyInt Syntax.w64)) 2) (List._∷_ (4, Rows.sslice (Referent.rtF (Referent.fInt Syntax.w8)) (Syntax.tyRef (Syntax.named 3) Syntax.imm (Syntax.tyInt Syntax.w8)) 3) (List._∷_ (5, Rows.whole (Known.Known Verdict.enum 1)) (List._∷_ (6, Rows.any-gone (Syntax.tyInt Syntax.w8)) (List._∷_ (7, Rows.any-gone (Laws.mir)) (List._∷_ (8, Rows.any-gone (Syntax.tyInt Syntax.w64)) (List._∷_ (9, Rows.any-gone (Syntax.tyInt Syntax.w64)) (List._∷_ (10, Rows.any-gone (Syntax.tyInt Syntax.w8)) (List._∷_ (11, Rows.any-gone (Syntax.tyInt Syntax.w32)) (List._∷_ (12, Rows.any-gone (Syntax.tyInt Syntax.w64)) (List._∷_ (13, Rows.any-gone (Syntax.tyInt Syntax.w8)) (List._∷_ (14, Rows.any-gone (Laws'.mir)) (List._∷_ (15, Rows.any-gone (Laws.mir)) List.[])))))))))))))))
+t8 = List._∷_ (0, Rows.any-gone (Laws.mir)) (List._∷_ (1, Mut.mslice (OfOutput.row) (Syntax.tyRef (Syntax.named 0) Syntax.mut OfOutput.named) 0) (List._∷_ (2, Mut.mslice (OfStation.row) (Syntax.tyRef (Syntax.named 1) Syntax.mut OfStation.named) 1) (List._∷_ (3, Rows.mref (Referent.rtF (Referent.fInt Syntax.w64)) (Syntax.tyRef (Syntax.named 2) Syntax.mut (Syntax.tyInt Syntax.w64)) 2) (List._∷_ (4, Rows.sslice (Referent.rtF (Referent.fInt Syntax.w8)) (Syntax.tyRef (Syntax.named 3) Syntax.imm (Syntax.tyInt Syntax.w8)) 3) (List._∷_ (5, Rows.whole (Known.Known Verdict.enum 1)) (List._∷_ (6, Rows.any-gone (Syntax.tyInt Syntax.w8)) (List._∷_ (7, Rows.any-gone (Laws.mir)) (List._∷_ (8, Rows.any-gone (Syntax.tyInt Syntax.w64)) (List._∷_ (9, Rows.any-gone (Syntax.tyInt Syntax.w64)) (List._∷_ (10, Rows.any-gone (Laws'.mir)) (List._∷_ (11, Rows.any-gone (Laws.mir)) (List._∷_ (12, Rows.any-gone Syntax.tyUnit) (List._∷_ (13, Rows.any-gone (Syntax.tyRef Syntax.erased Syntax.mut OfOutput.named)) (List._∷_ (14, Rows.any-gone (Syntax.tyStruct (List._∷_ 38 (List._∷_ 91 (List._∷_ 93 List.[]))) (Syntax.tcons (Syntax.tyRef Syntax.erased Syntax.mut OfOutput.named) (Syntax.tcons (Syntax.tyInt Syntax.w64) Syntax.tnil)))) (List._∷_ (15, Rows.any-gone (Syntax.tyRef Syntax.erased Syntax.mut OfOutput.named)) List.[])))))))))))))))
 
 abbrev pub t9 : List.List Row.Entry
-t9 = List._∷_ (0, Rows.any-gone (Laws.mir)) (List._∷_ (1, Mut.mslice (OfOutput.row) (Syntax.tyRef (Syntax.named 0) Syntax.mut OfOutput.named) 0) (List._∷_ (2, Mut.mslice (OfStation.row) (Syntax.tyRef (Syntax.named 1) Syntax.mut OfStation.named) 1) (List._∷_ (3, Rows.mref (Referent.rtF (Referent.fInt Syntax.w64)) (Syntax.tyRef (Syntax.named 2) Syntax.mut (Syntax.tyInt Syntax.w64)) 2) (List._∷_ (4, Rows.sslice (Referent.rtF (Referent.fInt Syntax.w8)) (Syntax.tyRef (Syntax.named 3) Syntax.imm (Syntax.tyInt Syntax.w8)) 3) (List._∷_ (5, Rows.whole (Known.Known Verdict.enum 1)) (List._∷_ (6, Rows.any-gone (Syntax.tyInt Syntax.w8)) (List._∷_ (7, Rows.whole (Declared.row Answer.the-type)) (List._∷_ (8, Rows.any-gone (Syntax.tyInt Syntax.w64)) (List._∷_ (9, Rows.any-gone (Syntax.tyInt Syntax.w64)) (List._∷_ (10, Rows.any-gone (Syntax.tyInt Syntax.w8)) (List._∷_ (11, Rows.any-gone (Syntax.tyInt Syntax.w32)) (List._∷_ (12, Rows.any-gone (Syntax.tyInt Syntax.w64)) (List._∷_ (13, Rows.any-gone (Syntax.tyInt Syntax.w8)) (List._∷_ (14, Rows.any-gone (Laws'.mir)) (List._∷_ (15, Rows.any-gone (Laws.mir)) List.[])))))))))))))))
+t9 = List._∷_ (0, Rows.any-gone (Laws.mir)) (List._∷_ (1, Mut.mslice (OfOutput.row) (Syntax.tyRef (Syntax.named 0) Syntax.mut OfOutput.named) 0) (List._∷_ (2, Mut.mslice (OfStation.row) (Syntax.tyRef (Syntax.named 1) Syntax.mut OfStation.named) 1) (List._∷_ (3, Rows.mref (Referent.rtF (Referent.fInt Syntax.w64)) (Syntax.tyRef (Syntax.named 2) Syntax.mut (Syntax.tyInt Syntax.w64)) 2) (List._∷_ (4, Rows.sslice (Referent.rtF (Referent.fInt Syntax.w8)) (Syntax.tyRef (Syntax.named 3) Syntax.imm (Syntax.tyInt Syntax.w8)) 3) (List._∷_ (5, Rows.whole (Known.Known Verdict.enum 1)) (List._∷_ (6, Rows.any-gone (Syntax.tyInt Syntax.w8)) (List._∷_ (7, Rows.whole (Declared.row Answer.the-type)) (List._∷_ (8, Rows.any-gone (Syntax.tyInt Syntax.w64)) (List._∷_ (9, Rows.any-gone (Syntax.tyInt Syntax.w64)) (List._∷_ (10, Rows.any-gone (Laws'.mir)) (List._∷_ (11, Rows.any-gone (Laws.mir)) (List._∷_ (12, Rows.any-gone Syntax.tyUnit) (List._∷_ (13, Rows.any-gone (Syntax.tyRef Syntax.erased Syntax.mut OfOutput.named)) (List._∷_ (14, Rows.any-gone (Syntax.tyStruct (List._∷_ 38 (List._∷_ 91 (List._∷_ 93 List.[]))) (Syntax.tcons (Syntax.tyRef Syntax.erased Syntax.mut OfOutput.named) (Syntax.tcons (Syntax.tyInt Syntax.w64) Syntax.tnil)))) (List._∷_ (15, Rows.any-gone (Syntax.tyRef Syntax.erased Syntax.mut OfOutput.named)) List.[])))))))))))))))
 
 abbrev pub t10 : List.List Row.Entry
-t10 = List._∷_ (0, Rows.any-gone (Laws.mir)) (List._∷_ (1, Mut.mslice (OfOutput.row) (Syntax.tyRef (Syntax.named 0) Syntax.mut OfOutput.named) 0) (List._∷_ (2, Mut.mslice (OfStation.row) (Syntax.tyRef (Syntax.named 1) Syntax.mut OfStation.named) 1) (List._∷_ (3, Rows.mref (Referent.rtF (Referent.fInt Syntax.w64)) (Syntax.tyRef (Syntax.named 2) Syntax.mut (Syntax.tyInt Syntax.w64)) 2) (List._∷_ (4, Rows.sslice (Referent.rtF (Referent.fInt Syntax.w8)) (Syntax.tyRef (Syntax.named 3) Syntax.imm (Syntax.tyInt Syntax.w8)) 3) (List._∷_ (5, Rows.any-gone (Laws''.mir)) (List._∷_ (6, Rows.any-gone (Syntax.tyInt Syntax.w8)) (List._∷_ (7, Rows.whole (Declared.row Answer.the-type)) (List._∷_ (8, Rows.any-gone (Syntax.tyInt Syntax.w64)) (List._∷_ (9, Rows.any-gone (Syntax.tyInt Syntax.w64)) (List._∷_ (10, Rows.any-gone (Syntax.tyInt Syntax.w8)) (List._∷_ (11, Rows.any-gone (Syntax.tyInt Syntax.w32)) (List._∷_ (12, Rows.any-gone (Syntax.tyInt Syntax.w64)) (List._∷_ (13, Rows.any-gone (Syntax.tyInt Syntax.w8)) (List._∷_ (14, Rows.any-gone (Laws'.mir)) (List._∷_ (15, Rows.any-gone (Laws.mir)) List.[])))))))))))))))
+t10 = List._∷_ (0, Rows.any-gone (Laws.mir)) (List._∷_ (1, Mut.mslice (OfOutput.row) (Syntax.tyRef (Syntax.named 0) Syntax.mut OfOutput.named) 0) (List._∷_ (2, Mut.mslice (OfStation.row) (Syntax.tyRef (Syntax.named 1) Syntax.mut OfStation.named) 1) (List._∷_ (3, Rows.mref (Referent.rtF (Referent.fInt Syntax.w64)) (Syntax.tyRef (Syntax.named 2) Syntax.mut (Syntax.tyInt Syntax.w64)) 2) (List._∷_ (4, Rows.sslice (Referent.rtF (Referent.fInt Syntax.w8)) (Syntax.tyRef (Syntax.named 3) Syntax.imm (Syntax.tyInt Syntax.w8)) 3) (List._∷_ (5, Rows.any-gone (Laws''.mir)) (List._∷_ (6, Rows.any-gone (Syntax.tyInt Syntax.w8)) (List._∷_ (7, Rows.whole (Declared.row Answer.the-type)) (List._∷_ (8, Rows.any-gone (Syntax.tyInt Syntax.w64)) (List._∷_ (9, Rows.any-gone (Syntax.tyInt Syntax.w64)) (List._∷_ (10, Rows.any-gone (Laws'.mir)) (List._∷_ (11, Rows.any-gone (Laws.mir)) (List._∷_ (12, Rows.any-gone Syntax.tyUnit) (List._∷_ (13, Rows.any-gone (Syntax.tyRef Syntax.erased Syntax.mut OfOutput.named)) (List._∷_ (14, Rows.any-gone (Syntax.tyStruct (List._∷_ 38 (List._∷_ 91 (List._∷_ 93 List.[]))) (Syntax.tcons (Syntax.tyRef Syntax.erased Syntax.mut OfOutput.named) (Syntax.tcons (Syntax.tyInt Syntax.w64) Syntax.tnil)))) (List._∷_ (15, Rows.any-gone (Syntax.tyRef Syntax.erased Syntax.mut OfOutput.named)) List.[])))))))))))))))
 
 abbrev pub t11 : List.List Row.Entry
-t11 = List._∷_ (0, Rows.any-gone (Laws.mir)) (List._∷_ (1, Mut.mslice (OfOutput.row) (Syntax.tyRef (Syntax.named 0) Syntax.mut OfOutput.named) 0) (List._∷_ (2, Mut.mslice (OfStation.row) (Syntax.tyRef (Syntax.named 1) Syntax.mut OfStation.named) 1) (List._∷_ (3, Rows.mref (Referent.rtF (Referent.fInt Syntax.w64)) (Syntax.tyRef (Syntax.named 2) Syntax.mut (Syntax.tyInt Syntax.w64)) 2) (List._∷_ (4, Rows.sslice (Referent.rtF (Referent.fInt Syntax.w8)) (Syntax.tyRef (Syntax.named 3) Syntax.imm (Syntax.tyInt Syntax.w8)) 3) (List._∷_ (5, Rows.any-gone (Laws''.mir)) (List._∷_ (6, Rows.any-gone (Syntax.tyInt Syntax.w8)) (List._∷_ (7, Rows.whole (Declared.row Answer.the-type)) (List._∷_ (8, Rows.any-gone (Syntax.tyInt Syntax.w64)) (List._∷_ (9, Rows.any-gone (Syntax.tyInt Syntax.w64)) (List._∷_ (10, Rows.any-gone (Syntax.tyInt Syntax.w8)) (List._∷_ (11, Rows.any-gone (Syntax.tyInt Syntax.w32)) (List._∷_ (12, Rows.any-gone (Syntax.tyInt Syntax.w64)) (List._∷_ (13, Rows.any-gone (Syntax.tyInt Syntax.w8)) (List._∷_ (14, Rows.any-gone (Laws'.mir)) (List._∷_ (15, Rows.whole (Declared.row Answer.the-type)) List.[])))))))))))))))
+t11 = List._∷_ (0, Rows.any-gone (Laws.mir)) (List._∷_ (1, Mut.mslice (OfOutput.row) (Syntax.tyRef (Syntax.named 0) Syntax.mut OfOutput.named) 0) (List._∷_ (2, Mut.mslice (OfStation.row) (Syntax.tyRef (Syntax.named 1) Syntax.mut OfStation.named) 1) (List._∷_ (3, Rows.mref (Referent.rtF (Referent.fInt Syntax.w64)) (Syntax.tyRef (Syntax.named 2) Syntax.mut (Syntax.tyInt Syntax.w64)) 2) (List._∷_ (4, Rows.sslice (Referent.rtF (Referent.fInt Syntax.w8)) (Syntax.tyRef (Syntax.named 3) Syntax.imm (Syntax.tyInt Syntax.w8)) 3) (List._∷_ (5, Rows.any-gone (Laws''.mir)) (List._∷_ (6, Rows.any-gone (Syntax.tyInt Syntax.w8)) (List._∷_ (7, Rows.whole (Declared.row Answer.the-type)) (List._∷_ (8, Rows.any-gone (Syntax.tyInt Syntax.w64)) (List._∷_ (9, Rows.any-gone (Syntax.tyInt Syntax.w64)) (List._∷_ (10, Rows.any-gone (Laws'.mir)) (List._∷_ (11, Rows.whole (Declared.row Answer.the-type)) (List._∷_ (12, Rows.any-gone Syntax.tyUnit) (List._∷_ (13, Rows.any-gone (Syntax.tyRef Syntax.erased Syntax.mut OfOutput.named)) (List._∷_ (14, Rows.any-gone (Syntax.tyStruct (List._∷_ 38 (List._∷_ 91 (List._∷_ 93 List.[]))) (Syntax.tcons (Syntax.tyRef Syntax.erased Syntax.mut OfOutput.named) (Syntax.tcons (Syntax.tyInt Syntax.w64) Syntax.tnil)))) (List._∷_ (15, Rows.any-gone (Syntax.tyRef Syntax.erased Syntax.mut OfOutput.named)) List.[])))))))))))))))
 
 abbrev pub t12 : List.List Row.Entry
-t12 = List._∷_ (0, Rows.any-gone (Laws.mir)) (List._∷_ (1, Mut.mslice (OfOutput.row) (Syntax.tyRef (Syntax.named 0) Syntax.mut OfOutput.named) 0) (List._∷_ (2, Mut.mslice (OfStation.row) (Syntax.tyRef (Syntax.named 1) Syntax.mut OfStation.named) 1) (List._∷_ (3, Rows.mref (Referent.rtF (Referent.fInt Syntax.w64)) (Syntax.tyRef (Syntax.named 2) Syntax.mut (Syntax.tyInt Syntax.w64)) 2) (List._∷_ (4, Rows.sslice (Referent.rtF (Referent.fInt Syntax.w8)) (Syntax.tyRef (Syntax.named 3) Syntax.imm (Syntax.tyInt Syntax.w8)) 3) (List._∷_ (5, Rows.whole (Known.Known Verdict.enum 2)) (List._∷_ (6, Rows.any-gone (Syntax.tyInt Syntax.w8)) (List._∷_ (7, Rows.any-gone (Laws.mir)) (List._∷_ (8, Rows.any-gone (Syntax.tyInt Syntax.w64)) (List._∷_ (9, Rows.any-gone (Syntax.tyInt Syntax.w64)) (List._∷_ (10, Rows.any-gone (Syntax.tyInt Syntax.w8)) (List._∷_ (11, Rows.any-gone (Syntax.tyInt Syntax.w32)) (List._∷_ (12, Rows.any-gone (Syntax.tyInt Syntax.w64)) (List._∷_ (13, Rows.any-gone (Syntax.tyInt Syntax.w8)) (List._∷_ (14, Rows.any-gone (Laws'.mir)) (List._∷_ (15, Rows.any-gone (Laws.mir)) List.[])))))))))))))))
+t12 = List._∷_ (0, Rows.any-gone (Laws.mir)) (List._∷_ (1, Mut.mslice (OfOutput.row) (Syntax.tyRef (Syntax.named 0) Syntax.mut OfOutput.named) 0) (List._∷_ (2, Mut.mslice (OfStation.row) (Syntax.tyRef (Syntax.named 1) Syntax.mut OfStation.named) 1) (List._∷_ (3, Rows.mref (Referent.rtF (Referent.fInt Syntax.w64)) (Syntax.tyRef (Syntax.named 2) Syntax.mut (Syntax.tyInt Syntax.w64)) 2) (List._∷_ (4, Rows.sslice (Referent.rtF (Referent.fInt Syntax.w8)) (Syntax.tyRef (Syntax.named 3) Syntax.imm (Syntax.tyInt Syntax.w8)) 3) (List._∷_ (5, Rows.whole (Known.Known Verdict.enum 2)) (List._∷_ (6, Rows.any-gone (Syntax.tyInt Syntax.w8)) (List._∷_ (7, Rows.any-gone (Laws.mir)) (List._∷_ (8, Rows.any-gone (Syntax.tyInt Syntax.w64)) (List._∷_ (9, Rows.any-gone (Syntax.tyInt Syntax.w64)) (List._∷_ (10, Rows.any-gone (Laws'.mir)) (List._∷_ (11, Rows.any-gone (Laws.mir)) (List._∷_ (12, Rows.any-gone Syntax.tyUnit) (List._∷_ (13, Rows.any-gone (Syntax.tyRef Syntax.erased Syntax.mut OfOutput.named)) (List._∷_ (14, Rows.any-gone (Syntax.tyStruct (List._∷_ 38 (List._∷_ 91 (List._∷_ 93 List.[]))) (Syntax.tcons (Syntax.tyRef Syntax.erased Syntax.mut OfOutput.named) (Syntax.tcons (Syntax.tyInt Syntax.w64) Syntax.tnil)))) (List._∷_ (15, Rows.any-gone (Syntax.tyRef Syntax.erased Syntax.mut OfOutput.named)) List.[])))))))))))))))
 
 abbrev pub t13 : List.List Row.Entry
-t13 = List._∷_ (0, Rows.any-gone (Laws.mir)) (List._∷_ (1, Mut.mslice (OfOutput.row) (Syntax.tyRef (Syntax.named 0) Syntax.mut OfOutput.named) 0) (List._∷_ (2, Mut.mslice (OfStation.row) (Syntax.tyRef (Syntax.named 1) Syntax.mut OfStation.named) 1) (List._∷_ (3, Rows.mref (Referent.rtF (Referent.fInt Syntax.w64)) (Syntax.tyRef (Syntax.named 2) Syntax.mut (Syntax.tyInt Syntax.w64)) 2) (List._∷_ (4, Rows.sslice (Referent.rtF (Referent.fInt Syntax.w8)) (Syntax.tyRef (Syntax.named 3) Syntax.imm (Syntax.tyInt Syntax.w8)) 3) (List._∷_ (5, Rows.whole (Known.Known Verdict.enum 2)) (List._∷_ (6, Rows.any-gone (Syntax.tyInt Syntax.w8)) (List._∷_ (7, Rows.any-gone (Laws.mir)) (List._∷_ (8, Rows.sc-here (Row.sInt Syntax.w64)) (List._∷_ (9, Rows.any-gone (Syntax.tyInt Syntax.w64)) (List._∷_ (10, Rows.any-gone (Syntax.tyInt Syntax.w8)) (List._∷_ (11, Rows.any-gone (Syntax.tyInt Syntax.w32)) (List._∷_ (12, Rows.any-gone (Syntax.tyInt Syntax.w64)) (List._∷_ (13, Rows.any-gone (Syntax.tyInt Syntax.w8)) (List._∷_ (14, Rows.any-gone (Laws'.mir)) (List._∷_ (15, Rows.any-gone (Laws.mir)) List.[])))))))))))))))
+t13 = List._∷_ (0, Rows.any-gone (Laws.mir)) (List._∷_ (1, Mut.mslice (OfOutput.row) (Syntax.tyRef (Syntax.named 0) Syntax.mut OfOutput.named) 0) (List._∷_ (2, Mut.mslice (OfStation.row) (Syntax.tyRef (Syntax.named 1) Syntax.mut OfStation.named) 1) (List._∷_ (3, Rows.mref (Referent.rtF (Referent.fInt Syntax.w64)) (Syntax.tyRef (Syntax.named 2) Syntax.mut (Syntax.tyInt Syntax.w64)) 2) (List._∷_ (4, Rows.sslice (Referent.rtF (Referent.fInt Syntax.w8)) (Syntax.tyRef (Syntax.named 3) Syntax.imm (Syntax.tyInt Syntax.w8)) 3) (List._∷_ (5, Rows.whole (Known.Known Verdict.enum 2)) (List._∷_ (6, Rows.any-gone (Syntax.tyInt Syntax.w8)) (List._∷_ (7, Rows.any-gone (Laws.mir)) (List._∷_ (8, Rows.sc-here (Row.sInt Syntax.w64)) (List._∷_ (9, Rows.any-gone (Syntax.tyInt Syntax.w64)) (List._∷_ (10, Rows.any-gone (Laws'.mir)) (List._∷_ (11, Rows.any-gone (Laws.mir)) (List._∷_ (12, Rows.any-gone Syntax.tyUnit) (List._∷_ (13, Rows.any-gone (Syntax.tyRef Syntax.erased Syntax.mut OfOutput.named)) (List._∷_ (14, Rows.any-gone (Syntax.tyStruct (List._∷_ 38 (List._∷_ 91 (List._∷_ 93 List.[]))) (Syntax.tcons (Syntax.tyRef Syntax.erased Syntax.mut OfOutput.named) (Syntax.tcons (Syntax.tyInt Syntax.w64) Syntax.tnil)))) (List._∷_ (15, Rows.any-gone (Syntax.tyRef Syntax.erased Syntax.mut OfOutput.named)) List.[])))))))))))))))
 
 abbrev pub t14 : List.List Row.Entry
-t14 = List._∷_ (0, Rows.any-gone (Laws.mir)) (List._∷_ (1, Mut.mslice (OfOutput.row) (Syntax.tyRef (Syntax.named 0) Syntax.mut OfOutput.named) 0) (List._∷_ (2, Mut.mslice (OfStation.row) (Syntax.tyRef (Syntax.named 1) Syntax.mut OfStation.named) 1) (List._∷_ (3, Rows.mref (Referent.rtF (Referent.fInt Syntax.w64)) (Syntax.tyRef (Syntax.named 2) Syntax.mut (Syntax.tyInt Syntax.w64)) 2) (List._∷_ (4, Rows.sslice (Referent.rtF (Referent.fInt Syntax.w8)) (Syntax.tyRef (Syntax.named 3) Syntax.imm (Syntax.tyInt Syntax.w8)) 3) (List._∷_ (5, Rows.any-gone (Laws''.mir)) (List._∷_ (6, Rows.any-gone (Syntax.tyInt Syntax.w8)) (List._∷_ (7, Rows.any-gone (Laws.mir)) (List._∷_ (8, Rows.sc-here (Row.sInt Syntax.w64)) (List._∷_ (9, Rows.any-gone (Syntax.tyInt Syntax.w64)) (List._∷_ (10, Rows.any-gone (Syntax.tyInt Syntax.w8)) (List._∷_ (11, Rows.any-gone (Syntax.tyInt Syntax.w32)) (List._∷_ (12, Rows.any-gone (Syntax.tyInt Syntax.w64)) (List._∷_ (13, Rows.any-gone (Syntax.tyInt Syntax.w8)) (List._∷_ (14, Rows.any-gone (Laws'.mir)) (List._∷_ (15, Rows.any-gone (Laws.mir)) List.[])))))))))))))))
+t14 = List._∷_ (0, Rows.any-gone (Laws.mir)) (List._∷_ (1, Mut.mslice (OfOutput.row) (Syntax.tyRef (Syntax.named 0) Syntax.mut OfOutput.named) 0) (List._∷_ (2, Mut.mslice (OfStation.row) (Syntax.tyRef (Syntax.named 1) Syntax.mut OfStation.named) 1) (List._∷_ (3, Rows.mref (Referent.rtF (Referent.fInt Syntax.w64)) (Syntax.tyRef (Syntax.named 2) Syntax.mut (Syntax.tyInt Syntax.w64)) 2) (List._∷_ (4, Rows.sslice (Referent.rtF (Referent.fInt Syntax.w8)) (Syntax.tyRef (Syntax.named 3) Syntax.imm (Syntax.tyInt Syntax.w8)) 3) (List._∷_ (5, Rows.any-gone (Laws''.mir)) (List._∷_ (6, Rows.any-gone (Syntax.tyInt Syntax.w8)) (List._∷_ (7, Rows.any-gone (Laws.mir)) (List._∷_ (8, Rows.sc-here (Row.sInt Syntax.w64)) (List._∷_ (9, Rows.any-gone (Syntax.tyInt Syntax.w64)) (List._∷_ (10, Rows.any-gone (Laws'.mir)) (List._∷_ (11, Rows.any-gone (Laws.mir)) (List._∷_ (12, Rows.any-gone Syntax.tyUnit) (List._∷_ (13, Rows.any-gone (Syntax.tyRef Syntax.erased Syntax.mut OfOutput.named)) (List._∷_ (14, Rows.any-gone (Syntax.tyStruct (List._∷_ 38 (List._∷_ 91 (List._∷_ 93 List.[]))) (Syntax.tcons (Syntax.tyRef Syntax.erased Syntax.mut OfOutput.named) (Syntax.tcons (Syntax.tyInt Syntax.w64) Syntax.tnil)))) (List._∷_ (15, Rows.any-gone (Syntax.tyRef Syntax.erased Syntax.mut OfOutput.named)) List.[])))))))))))))))
 
 abbrev pub t15 : List.List Row.Entry
-t15 = List._∷_ (0, Rows.any-gone (Laws.mir)) (List._∷_ (1, Mut.mslice (OfOutput.row) (Syntax.tyRef (Syntax.named 0) Syntax.mut OfOutput.named) 0) (List._∷_ (2, Mut.mslice (OfStation.row) (Syntax.tyRef (Syntax.named 1) Syntax.mut OfStation.named) 1) (List._∷_ (3, Rows.mref (Referent.rtF (Referent.fInt Syntax.w64)) (Syntax.tyRef (Syntax.named 2) Syntax.mut (Syntax.tyInt Syntax.w64)) 2) (List._∷_ (4, Rows.sslice (Referent.rtF (Referent.fInt Syntax.w8)) (Syntax.tyRef (Syntax.named 3) Syntax.imm (Syntax.tyInt Syntax.w8)) 3) (List._∷_ (5, Rows.any-gone (Laws''.mir)) (List._∷_ (6, Rows.any-gone (Syntax.tyInt Syntax.w8)) (List._∷_ (7, Rows.any-gone (Laws.mir)) (List._∷_ (8, Rows.sc-here (Row.sInt Syntax.w64)) (List._∷_ (9, Rows.sc-here (Row.sInt Syntax.w64)) (List._∷_ (10, Rows.any-gone (Syntax.tyInt Syntax.w8)) (List._∷_ (11, Rows.any-gone (Syntax.tyInt Syntax.w32)) (List._∷_ (12, Rows.any-gone (Syntax.tyInt Syntax.w64)) (List._∷_ (13, Rows.any-gone (Syntax.tyInt Syntax.w8)) (List._∷_ (14, Rows.any-gone (Laws'.mir)) (List._∷_ (15, Rows.any-gone (Laws.mir)) List.[])))))))))))))))
+t15 = List._∷_ (0, Rows.any-gone (Laws.mir)) (List._∷_ (1, Mut.mslice (OfOutput.row) (Syntax.tyRef (Syntax.named 0) Syntax.mut OfOutput.named) 0) (List._∷_ (2, Mut.mslice (OfStation.row) (Syntax.tyRef (Syntax.named 1) Syntax.mut OfStation.named) 1) (List._∷_ (3, Rows.mref (Referent.rtF (Referent.fInt Syntax.w64)) (Syntax.tyRef (Syntax.named 2) Syntax.mut (Syntax.tyInt Syntax.w64)) 2) (List._∷_ (4, Rows.sslice (Referent.rtF (Referent.fInt Syntax.w8)) (Syntax.tyRef (Syntax.named 3) Syntax.imm (Syntax.tyInt Syntax.w8)) 3) (List._∷_ (5, Rows.any-gone (Laws''.mir)) (List._∷_ (6, Rows.any-gone (Syntax.tyInt Syntax.w8)) (List._∷_ (7, Rows.any-gone (Laws.mir)) (List._∷_ (8, Rows.sc-here (Row.sInt Syntax.w64)) (List._∷_ (9, Rows.sc-here (Row.sInt Syntax.w64)) (List._∷_ (10, Rows.any-gone (Laws'.mir)) (List._∷_ (11, Rows.any-gone (Laws.mir)) (List._∷_ (12, Rows.any-gone Syntax.tyUnit) (List._∷_ (13, Rows.any-gone (Syntax.tyRef Syntax.erased Syntax.mut OfOutput.named)) (List._∷_ (14, Rows.any-gone (Syntax.tyStruct (List._∷_ 38 (List._∷_ 91 (List._∷_ 93 List.[]))) (Syntax.tcons (Syntax.tyRef Syntax.erased Syntax.mut OfOutput.named) (Syntax.tcons (Syntax.tyInt Syntax.w64) Syntax.tnil)))) (List._∷_ (15, Rows.any-gone (Syntax.tyRef Syntax.erased Syntax.mut OfOutput.named)) List.[])))))))))))))))
 
 abbrev pub t16 : List.List Row.Entry
-t16 = List._∷_ (0, Rows.any-gone (Laws.mir)) (List._∷_ (1, Relend.mslice-owed (OfOutput.row) (Syntax.tyRef (Syntax.named 0) Syntax.mut OfOutput.named) 0 4 Row.off) (List._∷_ (2, Mut.mslice (OfStation.row) (Syntax.tyRef (Syntax.named 1) Syntax.mut OfStation.named) 1) (List._∷_ (3, Rows.mref (Referent.rtF (Referent.fInt Syntax.w64)) (Syntax.tyRef (Syntax.named 2) Syntax.mut (Syntax.tyInt Syntax.w64)) 2) (List._∷_ (4, Rows.sslice (Referent.rtF (Referent.fInt Syntax.w8)) (Syntax.tyRef (Syntax.named 3) Syntax.imm (Syntax.tyInt Syntax.w8)) 3) (List._∷_ (5, Rows.any-gone (Laws''.mir)) (List._∷_ (6, Rows.any-gone (Syntax.tyInt Syntax.w8)) (List._∷_ (7, Rows.any-gone (Laws.mir)) (List._∷_ (8, Rows.sc-here (Row.sInt Syntax.w64)) (List._∷_ (9, Rows.sc-here (Row.sInt Syntax.w64)) (List._∷_ (10, Rows.any-gone (Syntax.tyInt Syntax.w8)) (List._∷_ (11, Rows.any-gone (Syntax.tyInt Syntax.w32)) (List._∷_ (12, Rows.any-gone (Syntax.tyInt Syntax.w64)) (List._∷_ (13, Rows.any-gone (Syntax.tyInt Syntax.w8)) (List._∷_ (14, Rows.any-gone (Laws'.mir)) (List._∷_ (15, Rows.any-gone (Laws.mir)) List.[])))))))))))))))
+t16 = List._∷_ (0, Rows.any-gone (Laws.mir)) (List._∷_ (1, Relend.mslice-owed (OfOutput.row) (Syntax.tyRef (Syntax.named 0) Syntax.mut OfOutput.named) 0 4 Row.off) (List._∷_ (2, Mut.mslice (OfStation.row) (Syntax.tyRef (Syntax.named 1) Syntax.mut OfStation.named) 1) (List._∷_ (3, Rows.mref (Referent.rtF (Referent.fInt Syntax.w64)) (Syntax.tyRef (Syntax.named 2) Syntax.mut (Syntax.tyInt Syntax.w64)) 2) (List._∷_ (4, Rows.sslice (Referent.rtF (Referent.fInt Syntax.w8)) (Syntax.tyRef (Syntax.named 3) Syntax.imm (Syntax.tyInt Syntax.w8)) 3) (List._∷_ (5, Rows.any-gone (Laws''.mir)) (List._∷_ (6, Rows.any-gone (Syntax.tyInt Syntax.w8)) (List._∷_ (7, Rows.any-gone (Laws.mir)) (List._∷_ (8, Rows.sc-here (Row.sInt Syntax.w64)) (List._∷_ (9, Rows.sc-here (Row.sInt Syntax.w64)) (List._∷_ (10, Rows.any-gone (Laws'.mir)) (List._∷_ (11, Rows.any-gone (Laws.mir)) (List._∷_ (12, Rows.any-gone Syntax.tyUnit) (List._∷_ (13, Relend.msptr (OfOutput.row) (Syntax.tyRef Syntax.erased Syntax.mut OfOutput.named) 4) (List._∷_ (14, Rows.any-gone (Syntax.tyStruct (List._∷_ 38 (List._∷_ 91 (List._∷_ 93 List.[]))) (Syntax.tcons (Syntax.tyRef Syntax.erased Syntax.mut OfOutput.named) (Syntax.tcons (Syntax.tyInt Syntax.w64) Syntax.tnil)))) (List._∷_ (15, Rows.any-gone (Syntax.tyRef Syntax.erased Syntax.mut OfOutput.named)) List.[])))))))))))))))
 
 abbrev pub t17 : List.List Row.Entry
-t17 = List._∷_ (16, Rows.any-gone Syntax.tyUnit) (List._∷_ (17, Relend.msptr (OfOutput.row) (Syntax.tyRef Syntax.erased Syntax.mut OfOutput.named) 4) (List._∷_ (18, Rows.any-gone (Syntax.tyStruct (List._∷_ 38 (List._∷_ 91 (List._∷_ 93 List.[]))) (Syntax.tcons (Syntax.tyRef Syntax.erased Syntax.mut OfOutput.named) (Syntax.tcons (Syntax.tyInt Syntax.w64) Syntax.tnil)))) (List._∷_ (19, Rows.any-gone (Syntax.tyRef Syntax.erased Syntax.mut OfOutput.named)) (List._∷_ (20, Rows.any-gone (Syntax.tyStruct (List._∷_ 38 (List._∷_ 91 (List._∷_ 93 List.[]))) (Syntax.tcons (Syntax.tyRef Syntax.erased Syntax.mut OfOutput.named) (Syntax.tcons (Syntax.tyInt Syntax.w64) Syntax.tnil)))) (List._∷_ (21, Rows.any-gone (Syntax.tyRef Syntax.erased Syntax.mut OfStation.named)) (List._∷_ (22, Rows.any-gone (Syntax.tyStruct (List._∷_ 38 (List._∷_ 91 (List._∷_ 93 List.[]))) (Syntax.tcons (Syntax.tyRef Syntax.erased Syntax.mut OfStation.named) (Syntax.tcons (Syntax.tyInt Syntax.w64) Syntax.tnil)))) (List._∷_ (23, Rows.any-gone (Syntax.tyRef Syntax.erased Syntax.mut (Syntax.tyInt Syntax.w64))) List.[])))))))
+t17 = List._∷_ (0, Rows.any-gone (Laws.mir)) (List._∷_ (1, Relend.mslice-owed (OfOutput.row) (Syntax.tyRef (Syntax.named 0) Syntax.mut OfOutput.named) 0 4 Row.off) (List._∷_ (2, Mut.mslice (OfStation.row) (Syntax.tyRef (Syntax.named 1) Syntax.mut OfStation.named) 1) (List._∷_ (3, Rows.mref (Referent.rtF (Referent.fInt Syntax.w64)) (Syntax.tyRef (Syntax.named 2) Syntax.mut (Syntax.tyInt Syntax.w64)) 2) (List._∷_ (4, Rows.sslice (Referent.rtF (Referent.fInt Syntax.w8)) (Syntax.tyRef (Syntax.named 3) Syntax.imm (Syntax.tyInt Syntax.w8)) 3) (List._∷_ (5, Rows.any-gone (Laws''.mir)) (List._∷_ (6, Rows.any-gone (Syntax.tyInt Syntax.w8)) (List._∷_ (7, Rows.any-gone (Laws.mir)) (List._∷_ (8, Rows.sc-here (Row.sInt Syntax.w64)) (List._∷_ (9, Rows.sc-here (Row.sInt Syntax.w64)) (List._∷_ (10, Rows.any-gone (Laws'.mir)) (List._∷_ (11, Rows.any-gone (Laws.mir)) (List._∷_ (12, Rows.any-gone Syntax.tyUnit) (List._∷_ (13, Rows.any-gone (Syntax.tyRef Syntax.erased Syntax.mut OfOutput.named)) (List._∷_ (14, Mut.mslice (OfOutput.row) (Syntax.tyRef Syntax.erased Syntax.mut OfOutput.named) 4) (List._∷_ (15, Rows.any-gone (Syntax.tyRef Syntax.erased Syntax.mut OfOutput.named)) List.[])))))))))))))))
 
 abbrev pub t18 : List.List Row.Entry
-t18 = List._∷_ (16, Rows.any-gone Syntax.tyUnit) (List._∷_ (17, Rows.any-gone (Syntax.tyRef Syntax.erased Syntax.mut OfOutput.named)) (List._∷_ (18, Mut.mslice (OfOutput.row) (Syntax.tyRef Syntax.erased Syntax.mut OfOutput.named) 4) (List._∷_ (19, Rows.any-gone (Syntax.tyRef Syntax.erased Syntax.mut OfOutput.named)) (List._∷_ (20, Rows.any-gone (Syntax.tyStruct (List._∷_ 38 (List._∷_ 91 (List._∷_ 93 List.[]))) (Syntax.tcons (Syntax.tyRef Syntax.erased Syntax.mut OfOutput.named) (Syntax.tcons (Syntax.tyInt Syntax.w64) Syntax.tnil)))) (List._∷_ (21, Rows.any-gone (Syntax.tyRef Syntax.erased Syntax.mut OfStation.named)) (List._∷_ (22, Rows.any-gone (Syntax.tyStruct (List._∷_ 38 (List._∷_ 91 (List._∷_ 93 List.[]))) (Syntax.tcons (Syntax.tyRef Syntax.erased Syntax.mut OfStation.named) (Syntax.tcons (Syntax.tyInt Syntax.w64) Syntax.tnil)))) (List._∷_ (23, Rows.any-gone (Syntax.tyRef Syntax.erased Syntax.mut (Syntax.tyInt Syntax.w64))) List.[])))))))
+t18 = List._∷_ (0, Rows.any-gone (Laws.mir)) (List._∷_ (1, Relend.mslice-owed (OfOutput.row) (Syntax.tyRef (Syntax.named 0) Syntax.mut OfOutput.named) 0 4 Row.off) (List._∷_ (2, Mut.mslice (OfStation.row) (Syntax.tyRef (Syntax.named 1) Syntax.mut OfStation.named) 1) (List._∷_ (3, Rows.mref (Referent.rtF (Referent.fInt Syntax.w64)) (Syntax.tyRef (Syntax.named 2) Syntax.mut (Syntax.tyInt Syntax.w64)) 2) (List._∷_ (4, Rows.sslice (Referent.rtF (Referent.fInt Syntax.w8)) (Syntax.tyRef (Syntax.named 3) Syntax.imm (Syntax.tyInt Syntax.w8)) 3) (List._∷_ (5, Rows.any-gone (Laws''.mir)) (List._∷_ (6, Rows.any-gone (Syntax.tyInt Syntax.w8)) (List._∷_ (7, Rows.any-gone (Laws.mir)) (List._∷_ (8, Rows.sc-here (Row.sInt Syntax.w64)) (List._∷_ (9, Rows.sc-here (Row.sInt Syntax.w64)) (List._∷_ (10, Rows.any-gone (Laws'.mir)) (List._∷_ (11, Rows.any-gone (Laws.mir)) (List._∷_ (12, Rows.sc-here Row.sUnit) (List._∷_ (13, Rows.any-gone (Syntax.tyRef Syntax.erased Syntax.mut OfOutput.named)) (List._∷_ (14, Mut.msleft (OfOutput.row) (Syntax.tyRef Syntax.erased Syntax.mut OfOutput.named)) (List._∷_ (15, Rows.any-gone (Syntax.tyRef Syntax.erased Syntax.mut OfOutput.named)) List.[])))))))))))))))
 
 abbrev pub t19 : List.List Row.Entry
-t19 = List._∷_ (16, Rows.sc-here Row.sUnit) (List._∷_ (17, Rows.any-gone (Syntax.tyRef Syntax.erased Syntax.mut OfOutput.named)) (List._∷_ (18, Mut.msleft (OfOutput.row) (Syntax.tyRef Syntax.erased Syntax.mut OfOutput.named)) (List._∷_ (19, Rows.any-gone (Syntax.tyRef Syntax.erased Syntax.mut OfOutput.named)) (List._∷_ (20, Rows.any-gone (Syntax.tyStruct (List._∷_ 38 (List._∷_ 91 (List._∷_ 93 List.[]))) (Syntax.tcons (Syntax.tyRef Syntax.erased Syntax.mut OfOutput.named) (Syntax.tcons (Syntax.tyInt Syntax.w64) Syntax.tnil)))) (List._∷_ (21, Rows.any-gone (Syntax.tyRef Syntax.erased Syntax.mut OfStation.named)) (List._∷_ (22, Rows.any-gone (Syntax.tyStruct (List._∷_ 38 (List._∷_ 91 (List._∷_ 93 List.[]))) (Syntax.tcons (Syntax.tyRef Syntax.erased Syntax.mut OfStation.named) (Syntax.tcons (Syntax.tyInt Syntax.w64) Syntax.tnil)))) (List._∷_ (23, Rows.any-gone (Syntax.tyRef Syntax.erased Syntax.mut (Syntax.tyInt Syntax.w64))) List.[])))))))
+t19 = List._∷_ (0, Rows.any-gone (Laws.mir)) (List._∷_ (1, Relend.mslice-owed (OfOutput.row) (Syntax.tyRef (Syntax.named 0) Syntax.mut OfOutput.named) 0 4 Row.off) (List._∷_ (2, Mut.mslice (OfStation.row) (Syntax.tyRef (Syntax.named 1) Syntax.mut OfStation.named) 1) (List._∷_ (3, Rows.mref (Referent.rtF (Referent.fInt Syntax.w64)) (Syntax.tyRef (Syntax.named 2) Syntax.mut (Syntax.tyInt Syntax.w64)) 2) (List._∷_ (4, Rows.sslice (Referent.rtF (Referent.fInt Syntax.w8)) (Syntax.tyRef (Syntax.named 3) Syntax.imm (Syntax.tyInt Syntax.w8)) 3) (List._∷_ (5, Rows.any-gone (Laws''.mir)) (List._∷_ (6, Rows.any-gone (Syntax.tyInt Syntax.w8)) (List._∷_ (7, Rows.any-gone (Laws.mir)) (List._∷_ (8, Rows.sc-here (Row.sInt Syntax.w64)) (List._∷_ (9, Rows.sc-here (Row.sInt Syntax.w64)) (List._∷_ (10, Rows.any-gone (Laws'.mir)) (List._∷_ (11, Rows.any-gone (Laws.mir)) (List._∷_ (12, Rows.any-gone Syntax.tyUnit) (List._∷_ (13, Rows.any-gone (Syntax.tyRef Syntax.erased Syntax.mut OfOutput.named)) (List._∷_ (14, Mut.msleft (OfOutput.row) (Syntax.tyRef Syntax.erased Syntax.mut OfOutput.named)) (List._∷_ (15, Rows.any-gone (Syntax.tyRef Syntax.erased Syntax.mut OfOutput.named)) List.[])))))))))))))))
 
 abbrev pub t20 : List.List Row.Entry
-t20 = List._∷_ (16, Rows.any-gone Syntax.tyUnit) (List._∷_ (17, Rows.any-gone (Syntax.tyRef Syntax.erased Syntax.mut OfOutput.named)) (List._∷_ (18, Mut.msleft (OfOutput.row) (Syntax.tyRef Syntax.erased Syntax.mut OfOutput.named)) (List._∷_ (19, Rows.any-gone (Syntax.tyRef Syntax.erased Syntax.mut OfOutput.named)) (List._∷_ (20, Rows.any-gone (Syntax.tyStruct (List._∷_ 38 (List._∷_ 91 (List._∷_ 93 List.[]))) (Syntax.tcons (Syntax.tyRef Syntax.erased Syntax.mut OfOutput.named) (Syntax.tcons (Syntax.tyInt Syntax.w64) Syntax.tnil)))) (List._∷_ (21, Rows.any-gone (Syntax.tyRef Syntax.erased Syntax.mut OfStation.named)) (List._∷_ (22, Rows.any-gone (Syntax.tyStruct (List._∷_ 38 (List._∷_ 91 (List._∷_ 93 List.[]))) (Syntax.tcons (Syntax.tyRef Syntax.erased Syntax.mut OfStation.named) (Syntax.tcons (Syntax.tyInt Syntax.w64) Syntax.tnil)))) (List._∷_ (23, Rows.any-gone (Syntax.tyRef Syntax.erased Syntax.mut (Syntax.tyInt Syntax.w64))) List.[])))))))
+t20 = List._∷_ (0, Rows.any-gone (Laws.mir)) (List._∷_ (1, Mut.mslice (OfOutput.row) (Syntax.tyRef (Syntax.named 0) Syntax.mut OfOutput.named) 0) (List._∷_ (2, Mut.mslice (OfStation.row) (Syntax.tyRef (Syntax.named 1) Syntax.mut OfStation.named) 1) (List._∷_ (3, Rows.mref (Referent.rtF (Referent.fInt Syntax.w64)) (Syntax.tyRef (Syntax.named 2) Syntax.mut (Syntax.tyInt Syntax.w64)) 2) (List._∷_ (4, Rows.sslice (Referent.rtF (Referent.fInt Syntax.w8)) (Syntax.tyRef (Syntax.named 3) Syntax.imm (Syntax.tyInt Syntax.w8)) 3) (List._∷_ (5, Rows.any-gone (Laws''.mir)) (List._∷_ (6, Rows.any-gone (Syntax.tyInt Syntax.w8)) (List._∷_ (7, Rows.any-gone (Laws.mir)) (List._∷_ (8, Rows.sc-here (Row.sInt Syntax.w64)) (List._∷_ (9, Rows.sc-here (Row.sInt Syntax.w64)) (List._∷_ (10, Rows.any-gone (Laws'.mir)) (List._∷_ (11, Rows.whole (Declared.row Answer.the-type)) (List._∷_ (12, Rows.any-gone Syntax.tyUnit) (List._∷_ (13, Rows.any-gone (Syntax.tyRef Syntax.erased Syntax.mut OfOutput.named)) (List._∷_ (14, Rows.any-gone (Syntax.tyStruct (List._∷_ 38 (List._∷_ 91 (List._∷_ 93 List.[]))) (Syntax.tcons (Syntax.tyRef Syntax.erased Syntax.mut OfOutput.named) (Syntax.tcons (Syntax.tyInt Syntax.w64) Syntax.tnil)))) (List._∷_ (15, Rows.any-gone (Syntax.tyRef Syntax.erased Syntax.mut OfOutput.named)) List.[])))))))))))))))
 
 abbrev pub t21 : List.List Row.Entry
-t21 = List._∷_ (0, Rows.any-gone (Laws.mir)) (List._∷_ (1, Mut.mslice (OfOutput.row) (Syntax.tyRef (Syntax.named 0) Syntax.mut OfOutput.named) 0) (List._∷_ (2, Mut.mslice (OfStation.row) (Syntax.tyRef (Syntax.named 1) Syntax.mut OfStation.named) 1) (List._∷_ (3, Rows.mref (Referent.rtF (Referent.fInt Syntax.w64)) (Syntax.tyRef (Syntax.named 2) Syntax.mut (Syntax.tyInt Syntax.w64)) 2) (List._∷_ (4, Rows.sslice (Referent.rtF (Referent.fInt Syntax.w8)) (Syntax.tyRef (Syntax.named 3) Syntax.imm (Syntax.tyInt Syntax.w8)) 3) (List._∷_ (5, Rows.any-gone (Laws''.mir)) (List._∷_ (6, Rows.any-gone (Syntax.tyInt Syntax.w8)) (List._∷_ (7, Rows.any-gone (Laws.mir)) (List._∷_ (8, Rows.sc-here (Row.sInt Syntax.w64)) (List._∷_ (9, Rows.sc-here (Row.sInt Syntax.w64)) (List._∷_ (10, Rows.any-gone (Syntax.tyInt Syntax.w8)) (List._∷_ (11, Rows.any-gone (Syntax.tyInt Syntax.w32)) (List._∷_ (12, Rows.any-gone (Syntax.tyInt Syntax.w64)) (List._∷_ (13, Rows.any-gone (Syntax.tyInt Syntax.w8)) (List._∷_ (14, Rows.any-gone (Laws'.mir)) (List._∷_ (15, Rows.whole (Declared.row Answer.the-type)) List.[])))))))))))))))
+t21 = List._∷_ (0, Rows.any-gone (Laws.mir)) (List._∷_ (1, Mut.mslice (OfOutput.row) (Syntax.tyRef (Syntax.named 0) Syntax.mut OfOutput.named) 0) (List._∷_ (2, Mut.mslice (OfStation.row) (Syntax.tyRef (Syntax.named 1) Syntax.mut OfStation.named) 1) (List._∷_ (3, Rows.mref (Referent.rtF (Referent.fInt Syntax.w64)) (Syntax.tyRef (Syntax.named 2) Syntax.mut (Syntax.tyInt Syntax.w64)) 2) (List._∷_ (4, Rows.sslice (Referent.rtF (Referent.fInt Syntax.w8)) (Syntax.tyRef (Syntax.named 3) Syntax.imm (Syntax.tyInt Syntax.w8)) 3) (List._∷_ (5, Rows.any-gone (Laws''.mir)) (List._∷_ (6, Rows.any-gone (Syntax.tyInt Syntax.w8)) (List._∷_ (7, Rows.any-gone (Laws.mir)) (List._∷_ (8, Rows.any-gone (Syntax.tyInt Syntax.w64)) (List._∷_ (9, Rows.sc-here (Row.sInt Syntax.w64)) (List._∷_ (10, Rows.any-gone (Laws'.mir)) (List._∷_ (11, Rows.whole (Declared.row Answer.the-type)) (List._∷_ (12, Rows.any-gone Syntax.tyUnit) (List._∷_ (13, Rows.any-gone (Syntax.tyRef Syntax.erased Syntax.mut OfOutput.named)) (List._∷_ (14, Rows.any-gone (Syntax.tyStruct (List._∷_ 38 (List._∷_ 91 (List._∷_ 93 List.[]))) (Syntax.tcons (Syntax.tyRef Syntax.erased Syntax.mut OfOutput.named) (Syntax.tcons (Syntax.tyInt Syntax.w64) Syntax.tnil)))) (List._∷_ (15, Rows.any-gone (Syntax.tyRef Syntax.erased Syntax.mut OfOutput.named)) List.[])))))))))))))))
 
 abbrev pub t22 : List.List Row.Entry
-t22 = List._∷_ (0, Rows.any-gone (Laws.mir)) (List._∷_ (1, Mut.mslice (OfOutput.row) (Syntax.tyRef (Syntax.named 0) Syntax.mut OfOutput.named) 0) (List._∷_ (2, Mut.mslice (OfStation.row) (Syntax.tyRef (Syntax.named 1) Syntax.mut OfStation.named) 1) (List._∷_ (3, Rows.mref (Referent.rtF (Referent.fInt Syntax.w64)) (Syntax.tyRef (Syntax.named 2) Syntax.mut (Syntax.tyInt Syntax.w64)) 2) (List._∷_ (4, Rows.sslice (Referent.rtF (Referent.fInt Syntax.w8)) (Syntax.tyRef (Syntax.named 3) Syntax.imm (Syntax.tyInt Syntax.w8)) 3) (List._∷_ (5, Rows.any-gone (Laws''.mir)) (List._∷_ (6, Rows.any-gone (Syntax.tyInt Syntax.w8)) (List._∷_ (7, Rows.any-gone (Laws.mir)) (List._∷_ (8, Rows.any-gone (Syntax.tyInt Syntax.w64)) (List._∷_ (9, Rows.sc-here (Row.sInt Syntax.w64)) (List._∷_ (10, Rows.any-gone (Syntax.tyInt Syntax.w8)) (List._∷_ (11, Rows.any-gone (Syntax.tyInt Syntax.w32)) (List._∷_ (12, Rows.any-gone (Syntax.tyInt Syntax.w64)) (List._∷_ (13, Rows.any-gone (Syntax.tyInt Syntax.w8)) (List._∷_ (14, Rows.any-gone (Laws'.mir)) (List._∷_ (15, Rows.whole (Declared.row Answer.the-type)) List.[])))))))))))))))
+t22 = List._∷_ (0, Rows.any-gone (Laws.mir)) (List._∷_ (1, Mut.mslice (OfOutput.row) (Syntax.tyRef (Syntax.named 0) Syntax.mut OfOutput.named) 0) (List._∷_ (2, Mut.mslice (OfStation.row) (Syntax.tyRef (Syntax.named 1) Syntax.mut OfStation.named) 1) (List._∷_ (3, Rows.mref (Referent.rtF (Referent.fInt Syntax.w64)) (Syntax.tyRef (Syntax.named 2) Syntax.mut (Syntax.tyInt Syntax.w64)) 2) (List._∷_ (4, Rows.sslice (Referent.rtF (Referent.fInt Syntax.w8)) (Syntax.tyRef (Syntax.named 3) Syntax.imm (Syntax.tyInt Syntax.w8)) 3) (List._∷_ (5, Rows.whole (Known.Known Verdict.enum 3)) (List._∷_ (6, Rows.any-gone (Syntax.tyInt Syntax.w8)) (List._∷_ (7, Rows.any-gone (Laws.mir)) (List._∷_ (8, Rows.any-gone (Syntax.tyInt Syntax.w64)) (List._∷_ (9, Rows.any-gone (Syntax.tyInt Syntax.w64)) (List._∷_ (10, Rows.any-gone (Laws'.mir)) (List._∷_ (11, Rows.any-gone (Laws.mir)) (List._∷_ (12, Rows.any-gone Syntax.tyUnit) (List._∷_ (13, Rows.any-gone (Syntax.tyRef Syntax.erased Syntax.mut OfOutput.named)) (List._∷_ (14, Rows.any-gone (Syntax.tyStruct (List._∷_ 38 (List._∷_ 91 (List._∷_ 93 List.[]))) (Syntax.tcons (Syntax.tyRef Syntax.erased Syntax.mut OfOutput.named) (Syntax.tcons (Syntax.tyInt Syntax.w64) Syntax.tnil)))) (List._∷_ (15, Rows.any-gone (Syntax.tyRef Syntax.erased Syntax.mut OfOutput.named)) List.[])))))))))))))))
 
 abbrev pub t23 : List.List Row.Entry
-t23 = List._∷_ (0, Rows.any-gone (Laws.mir)) (List._∷_ (1, Mut.mslice (OfOutput.row) (Syntax.tyRef (Syntax.named 0) Syntax.mut OfOutput.named) 0) (List._∷_ (2, Mut.mslice (OfStation.row) (Syntax.tyRef (Syntax.named 1) Syntax.mut OfStation.named) 1) (List._∷_ (3, Rows.mref (Referent.rtF (Referent.fInt Syntax.w64)) (Syntax.tyRef (Syntax.named 2) Syntax.mut (Syntax.tyInt Syntax.w64)) 2) (List._∷_ (4, Rows.sslice (Referent.rtF (Referent.fInt Syntax.w8)) (Syntax.tyRef (Syntax.named 3) Syntax.imm (Syntax.tyInt Syntax.w8)) 3) (List._∷_ (5, Rows.whole (Known.Known Verdict.enum 3)) (List._∷_ (6, Rows.any-gone (Syntax.tyInt Syntax.w8)) (List._∷_ (7, Rows.any-gone (Laws.mir)) (List._∷_ (8, Rows.any-gone (Syntax.tyInt Syntax.w64)) (List._∷_ (9, Rows.any-gone (Syntax.tyInt Syntax.w64)) (List._∷_ (10, Rows.any-gone (Syntax.tyInt Syntax.w8)) (List._∷_ (11, Rows.any-gone (Syntax.tyInt Syntax.w32)) (List._∷_ (12, Rows.any-gone (Syntax.tyInt Syntax.w64)) (List._∷_ (13, Rows.any-gone (Syntax.tyInt Syntax.w8)) (List._∷_ (14, Rows.any-gone (Laws'.mir)) (List._∷_ (15, Rows.any-gone (Laws.mir)) List.[])))))))))))))))
+t23 = List._∷_ (0, Rows.any-gone (Laws.mir)) (List._∷_ (1, Mut.mslice (OfOutput.row) (Syntax.tyRef (Syntax.named 0) Syntax.mut OfOutput.named) 0) (List._∷_ (2, Mut.mslice (OfStation.row) (Syntax.tyRef (Syntax.named 1) Syntax.mut OfStation.named) 1) (List._∷_ (3, Rows.mref (Referent.rtF (Referent.fInt Syntax.w64)) (Syntax.tyRef (Syntax.named 2) Syntax.mut (Syntax.tyInt Syntax.w64)) 2) (List._∷_ (4, Rows.sslice (Referent.rtF (Referent.fInt Syntax.w8)) (Syntax.tyRef (Syntax.named 3) Syntax.imm (Syntax.tyInt Syntax.w8)) 3) (List._∷_ (5, Rows.whole (Known.Known Verdict.enum 3)) (List._∷_ (6, Rows.any-gone (Syntax.tyInt Syntax.w8)) (List._∷_ (7, Rows.any-gone (Laws.mir)) (List._∷_ (8, Rows.any-gone (Syntax.tyInt Syntax.w64)) (List._∷_ (9, Rows.any-gone (Syntax.tyInt Syntax.w64)) (List._∷_ (10, Rows.whole (Declared'.row Call.the-type)) (List._∷_ (11, Rows.any-gone (Laws.mir)) (List._∷_ (12, Rows.any-gone Syntax.tyUnit) (List._∷_ (13, Rows.any-gone (Syntax.tyRef Syntax.erased Syntax.mut OfOutput.named)) (List._∷_ (14, Rows.any-gone (Syntax.tyStruct (List._∷_ 38 (List._∷_ 91 (List._∷_ 93 List.[]))) (Syntax.tcons (Syntax.tyRef Syntax.erased Syntax.mut OfOutput.named) (Syntax.tcons (Syntax.tyInt Syntax.w64) Syntax.tnil)))) (List._∷_ (15, Rows.any-gone (Syntax.tyRef Syntax.erased Syntax.mut OfOutput.named)) List.[])))))))))))))))
 
 abbrev pub t24 : List.List Row.Entry
-t24 = List._∷_ (0, Rows.any-gone (Laws.mir)) (List._∷_ (1, Mut.mslice (OfOutput.row) (Syntax.tyRef (Syntax.named 0) Syntax.mut OfOutput.named) 0) (List._∷_ (2, Mut.mslice (OfStation.row) (Syntax.tyRef (Syntax.named 1) Syntax.mut OfStation.named) 1) (List._∷_ (3, Rows.mref (Referent.rtF (Referent.fInt Syntax.w64)) (Syntax.tyRef (Syntax.named 2) Syntax.mut (Syntax.tyInt Syntax.w64)) 2) (List._∷_ (4, Rows.sslice (Referent.rtF (Referent.fInt Syntax.w8)) (Syntax.tyRef (Syntax.named 3) Syntax.imm (Syntax.tyInt Syntax.w8)) 3) (List._∷_ (5, Rows.whole (Known.Known Verdict.enum 3)) (List._∷_ (6, Rows.any-gone (Syntax.tyInt Syntax.w8)) (List._∷_ (7, Rows.any-gone (Laws.mir)) (List._∷_ (8, Rows.any-gone (Syntax.tyInt Syntax.w64)) (List._∷_ (9, Rows.any-gone (Syntax.tyInt Syntax.w64)) (List._∷_ (10, Rows.sc-here (Row.sInt Syntax.w8)) (List._∷_ (11, Rows.any-gone (Syntax.tyInt Syntax.w32)) (List._∷_ (12, Rows.any-gone (Syntax.tyInt Syntax.w64)) (List._∷_ (13, Rows.any-gone (Syntax.tyInt Syntax.w8)) (List._∷_ (14, Rows.any-gone (Laws'.mir)) (List._∷_ (15, Rows.any-gone (Laws.mir)) List.[])))))))))))))))
+t24 = List._∷_ (0, Rows.any-gone (Laws.mir)) (List._∷_ (1, Mut.mslice (OfOutput.row) (Syntax.tyRef (Syntax.named 0) Syntax.mut OfOutput.named) 0) (List._∷_ (2, Mut.mslice (OfStation.row) (Syntax.tyRef (Syntax.named 1) Syntax.mut OfStation.named) 1) (List._∷_ (3, Rows.mref (Referent.rtF (Referent.fInt Syntax.w64)) (Syntax.tyRef (Syntax.named 2) Syntax.mut (Syntax.tyInt Syntax.w64)) 2) (List._∷_ (4, Rows.sslice (Referent.rtF (Referent.fInt Syntax.w8)) (Syntax.tyRef (Syntax.named 3) Syntax.imm (Syntax.tyInt Syntax.w8)) 3) (List._∷_ (5, Rows.any-gone (Laws''.mir)) (List._∷_ (6, Rows.any-gone (Syntax.tyInt Syntax.w8)) (List._∷_ (7, Rows.any-gone (Laws.mir)) (List._∷_ (8, Rows.any-gone (Syntax.tyInt Syntax.w64)) (List._∷_ (9, Rows.any-gone (Syntax.tyInt Syntax.w64)) (List._∷_ (10, Rows.whole (Declared'.row Call.the-type)) (List._∷_ (11, Rows.any-gone (Laws.mir)) (List._∷_ (12, Rows.any-gone Syntax.tyUnit) (List._∷_ (13, Rows.any-gone (Syntax.tyRef Syntax.erased Syntax.mut OfOutput.named)) (List._∷_ (14, Rows.any-gone (Syntax.tyStruct (List._∷_ 38 (List._∷_ 91 (List._∷_ 93 List.[]))) (Syntax.tcons (Syntax.tyRef Syntax.erased Syntax.mut OfOutput.named) (Syntax.tcons (Syntax.tyInt Syntax.w64) Syntax.tnil)))) (List._∷_ (15, Rows.any-gone (Syntax.tyRef Syntax.erased Syntax.mut OfOutput.named)) List.[])))))))))))))))
 
 abbrev pub t25 : List.List Row.Entry
-t25 = List._∷_ (0, Rows.any-gone (Laws.mir)) (List._∷_ (1, Mut.mslice (OfOutput.row) (Syntax.tyRef (Syntax.named 0) Syntax.mut OfOutput.named) 0) (List._∷_ (2, Mut.mslice (OfStation.row) (Syntax.tyRef (Syntax.named 1) Syntax.mut OfStation.named) 1) (List._∷_ (3, Rows.mref (Referent.rtF (Referent.fInt Syntax.w64)) (Syntax.tyRef (Syntax.named 2) Syntax.mut (Syntax.tyInt Syntax.w64)) 2) (List._∷_ (4, Rows.sslice (Referent.rtF (Referent.fInt Syntax.w8)) (Syntax.tyRef (Syntax.named 3) Syntax.imm (Syntax.tyInt Syntax.w8)) 3) (List._∷_ (5, Rows.whole (Known.Known Verdict.enum 3)) (List._∷_ (6, Rows.any-gone (Syntax.tyInt Syntax.w8)) (List._∷_ (7, Rows.any-gone (Laws.mir)) (List._∷_ (8, Rows.any-gone (Syntax.tyInt Syntax.w64)) (List._∷_ (9, Rows.any-gone (Syntax.tyInt Syntax.w64)) (List._∷_ (10, Rows.sc-here (Row.sInt Syntax.w8)) (List._∷_ (11, Rows.sc-here (Row.sInt Syntax.w32)) (List._∷_ (12, Rows.any-gone (Syntax.tyInt Syntax.w64)) (List._∷_ (13, Rows.any-gone (Syntax.tyInt Syntax.w8)) (List._∷_ (14, Rows.any-gone (Laws'.mir)) (List._∷_ (15, Rows.any-gone (Laws.mir)) List.[])))))))))))))))
+t25 = List._∷_ (0, Rows.any-gone (Laws.mir)) (List._∷_ (1, Relend.mslice-owed (OfOutput.row) (Syntax.tyRef (Syntax.named 0) Syntax.mut OfOutput.named) 0 5 Row.off) (List._∷_ (2, Mut.mslice (OfStation.row) (Syntax.tyRef (Syntax.named 1) Syntax.mut OfStation.named) 1) (List._∷_ (3, Rows.mref (Referent.rtF (Referent.fInt Syntax.w64)) (Syntax.tyRef (Syntax.named 2) Syntax.mut (Syntax.tyInt Syntax.w64)) 2) (List._∷_ (4, Rows.sslice (Referent.rtF (Referent.fInt Syntax.w8)) (Syntax.tyRef (Syntax.named 3) Syntax.imm (Syntax.tyInt Syntax.w8)) 3) (List._∷_ (5, Rows.any-gone (Laws''.mir)) (List._∷_ (6, Rows.any-gone (Syntax.tyInt Syntax.w8)) (List._∷_ (7, Rows.any-gone (Laws.mir)) (List._∷_ (8, Rows.any-gone (Syntax.tyInt Syntax.w64)) (List._∷_ (9, Rows.any-gone (Syntax.tyInt Syntax.w64)) (List._∷_ (10, Rows.whole (Declared'.row Call.the-type)) (List._∷_ (11, Rows.any-gone (Laws.mir)) (List._∷_ (12, Rows.any-gone Syntax.tyUnit) (List._∷_ (13, Rows.any-gone (Syntax.tyRef Syntax.erased Syntax.mut OfOutput.named)) (List._∷_ (14, Rows.any-gone (Syntax.tyStruct (List._∷_ 38 (List._∷_ 91 (List._∷_ 93 List.[]))) (Syntax.tcons (Syntax.tyRef Syntax.erased Syntax.mut OfOutput.named) (Syntax.tcons (Syntax.tyInt Syntax.w64) Syntax.tnil)))) (List._∷_ (15, Relend.msptr (OfOutput.row) (Syntax.tyRef Syntax.erased Syntax.mut OfOutput.named) 5) List.[])))))))))))))))
 
 abbrev pub t26 : List.List Row.Entry
-t26 = List._∷_ (0, Rows.any-gone (Laws.mir)) (List._∷_ (1, Mut.mslice (OfOutput.row) (Syntax.tyRef (Syntax.named 0) Syntax.mut OfOutput.named) 0) (List._∷_ (2, Mut.mslice (OfStation.row) (Syntax.tyRef (Syntax.named 1) Syntax.mut OfStation.named) 1) (List._∷_ (3, Rows.mref (Referent.rtF (Referent.fInt Syntax.w64)) (Syntax.tyRef (Syntax.named 2) Syntax.mut (Syntax.tyInt Syntax.w64)) 2) (List._∷_ (4, Rows.sslice (Referent.rtF (Referent.fInt Syntax.w8)) (Syntax.tyRef (Syntax.named 3) Syntax.imm (Syntax.tyInt Syntax.w8)) 3) (List._∷_ (5, Rows.whole (Known.Known Verdict.enum 3)) (List._∷_ (6, Rows.any-gone (Syntax.tyInt Syntax.w8)) (List._∷_ (7, Rows.any-gone (Laws.mir)) (List._∷_ (8, Rows.any-gone (Syntax.tyInt Syntax.w64)) (List._∷_ (9, Rows.any-gone (Syntax.tyInt Syntax.w64)) (List._∷_ (10, Rows.sc-here (Row.sInt Syntax.w8)) (List._∷_ (11, Rows.sc-here (Row.sInt Syntax.w32)) (List._∷_ (12, Rows.sc-here (Row.sInt Syntax.w64)) (List._∷_ (13, Rows.any-gone (Syntax.tyInt Syntax.w8)) (List._∷_ (14, Rows.any-gone (Laws'.mir)) (List._∷_ (15, Rows.any-gone (Laws.mir)) List.[])))))))))))))))
+t26 = List._∷_ (0, Rows.any-gone (Laws.mir)) (List._∷_ (1, Relend.mslice-owed (OfOutput.row) (Syntax.tyRef (Syntax.named 0) Syntax.mut OfOutput.named) 0 5 Row.off) (List._∷_ (2, Mut.mslice (OfStation.row) (Syntax.tyRef (Syntax.named 1) Syntax.mut OfStation.named) 1) (List._∷_ (3, Rows.mref (Referent.rtF (Referent.fInt Syntax.w64)) (Syntax.tyRef (Syntax.named 2) Syntax.mut (Syntax.tyInt Syntax.w64)) 2) (List._∷_ (4, Rows.sslice (Referent.rtF (Referent.fInt Syntax.w8)) (Syntax.tyRef (Syntax.named 3) Syntax.imm (Syntax.tyInt Syntax.w8)) 3) (List._∷_ (5, Rows.any-gone (Laws''.mir)) (List._∷_ (6, Rows.any-gone (Syntax.tyInt Syntax.w8)) (List._∷_ (7, Rows.any-gone (Laws.mir)) (List._∷_ (8, Rows.any-gone (Syntax.tyInt Syntax.w64)) (List._∷_ (9, Rows.any-gone (Syntax.tyInt Syntax.w64)) (List._∷_ (10, Rows.whole (Declared'.row Call.the-type)) (List._∷_ (11, Rows.any-gone (Laws.mir)) (List._∷_ (12, Rows.any-gone Syntax.tyUnit) (List._∷_ (13, Rows.any-gone (Syntax.tyRef Syntax.erased Syntax.mut OfOutput.named)) (List._∷_ (14, Rows.any-gone (Syntax.tyStruct (List._∷_ 38 (List._∷_ 91 (List._∷_ 93 List.[]))) (Syntax.tcons (Syntax.tyRef Syntax.erased Syntax.mut OfOutput.named) (Syntax.tcons (Syntax.tyInt Syntax.w64) Syntax.tnil)))) (List._∷_ (15, Rows.any-gone (Syntax.tyRef Syntax.erased Syntax.mut OfOutput.named)) List.[])))))))))))))))
 
 abbrev pub t27 : List.List Row.Entry
-t27 = List._∷_ (0, Rows.any-gone (Laws.mir)) (List._∷_ (1, Mut.mslice (OfOutput.row) (Syntax.tyRef (Syntax.named 0) Syntax.mut OfOutput.named) 0) (List._∷_ (2, Mut.mslice (OfStation.row) (Syntax.tyRef (Syntax.named 1) Syntax.mut OfStation.named) 1) (List._∷_ (3, Rows.mref (Referent.rtF (Referent.fInt Syntax.w64)) (Syntax.tyRef (Syntax.named 2) Syntax.mut (Syntax.tyInt Syntax.w64)) 2) (List._∷_ (4, Rows.sslice (Referent.rtF (Referent.fInt Syntax.w8)) (Syntax.tyRef (Syntax.named 3) Syntax.imm (Syntax.tyInt Syntax.w8)) 3) (List._∷_ (5, Rows.whole (Known.Known Verdict.enum 3)) (List._∷_ (6, Rows.any-gone (Syntax.tyInt Syntax.w8)) (List._∷_ (7, Rows.any-gone (Laws.mir)) (List._∷_ (8, Rows.any-gone (Syntax.tyInt Syntax.w64)) (List._∷_ (9, Rows.any-gone (Syntax.tyInt Syntax.w64)) (List._∷_ (10, Rows.sc-here (Row.sInt Syntax.w8)) (List._∷_ (11, Rows.sc-here (Row.sInt Syntax.w32)) (List._∷_ (12, Rows.sc-here (Row.sInt Syntax.w64)) (List._∷_ (13, Rows.sc-here (Row.sInt Syntax.w8)) (List._∷_ (14, Rows.any-gone (Laws'.mir)) (List._∷_ (15, Rows.any-gone (Laws.mir)) List.[])))))))))))))))
+t27 = List._∷_ (16, Mut.mslice (OfOutput.row) (Syntax.tyRef Syntax.erased Syntax.mut OfOutput.named) 5) (List._∷_ (17, Rows.any-gone (Syntax.tyRef Syntax.erased Syntax.mut OfStation.named)) (List._∷_ (18, Rows.any-gone (Syntax.tyStruct (List._∷_ 38 (List._∷_ 91 (List._∷_ 93 List.[]))) (Syntax.tcons (Syntax.tyRef Syntax.erased Syntax.mut OfStation.named) (Syntax.tcons (Syntax.tyInt Syntax.w64) Syntax.tnil)))) (List._∷_ (19, Rows.any-gone (Syntax.tyRef Syntax.erased Syntax.mut (Syntax.tyInt Syntax.w64))) List.[])))
 
 abbrev pub t28 : List.List Row.Entry
-t28 = List._∷_ (0, Rows.any-gone (Laws.mir)) (List._∷_ (1, Mut.mslice (OfOutput.row) (Syntax.tyRef (Syntax.named 0) Syntax.mut OfOutput.named) 0) (List._∷_ (2, Mut.mslice (OfStation.row) (Syntax.tyRef (Syntax.named 1) Syntax.mut OfStation.named) 1) (List._∷_ (3, Rows.mref (Referent.rtF (Referent.fInt Syntax.w64)) (Syntax.tyRef (Syntax.named 2) Syntax.mut (Syntax.tyInt Syntax.w64)) 2) (List._∷_ (4, Rows.sslice (Referent.rtF (Referent.fInt Syntax.w8)) (Syntax.tyRef (Syntax.named 3) Syntax.imm (Syntax.tyInt Syntax.w8)) 3) (List._∷_ (5, Rows.whole (Known.Known Verdict.enum 3)) (List._∷_ (6, Rows.any-gone (Syntax.tyInt Syntax.w8)) (List._∷_ (7, Rows.any-gone (Laws.mir)) (List._∷_ (8, Rows.any-gone (Syntax.tyInt Syntax.w64)) (List._∷_ (9, Rows.any-gone (Syntax.tyInt Syntax.w64)) (List._∷_ (10, Rows.sc-here (Row.sInt Syntax.w8)) (List._∷_ (11, Rows.sc-here (Row.sInt Syntax.w32)) (List._∷_ (12, Rows.sc-here (Row.sInt Syntax.w64)) (List._∷_ (13, Rows.sc-here (Row.sInt Syntax.w8)) (List._∷_ (14, Rows.whole (Declared.row Request.the-type)) (List._∷_ (15, Rows.any-gone (Laws.mir)) List.[])))))))))))))))
+t28 = List._∷_ (0, Rows.any-gone (Laws.mir)) (List._∷_ (1, Relend.mslice-owed (OfOutput.row) (Syntax.tyRef (Syntax.named 0) Syntax.mut OfOutput.named) 0 5 Row.off) (List._∷_ (2, Relend.mslice-owed (OfStation.row) (Syntax.tyRef (Syntax.named 1) Syntax.mut OfStation.named) 1 6 Row.off) (List._∷_ (3, Rows.mref (Referent.rtF (Referent.fInt Syntax.w64)) (Syntax.tyRef (Syntax.named 2) Syntax.mut (Syntax.tyInt Syntax.w64)) 2) (List._∷_ (4, Rows.sslice (Referent.rtF (Referent.fInt Syntax.w8)) (Syntax.tyRef (Syntax.named 3) Syntax.imm (Syntax.tyInt Syntax.w8)) 3) (List._∷_ (5, Rows.any-gone (Laws''.mir)) (List._∷_ (6, Rows.any-gone (Syntax.tyInt Syntax.w8)) (List._∷_ (7, Rows.any-gone (Laws.mir)) (List._∷_ (8, Rows.any-gone (Syntax.tyInt Syntax.w64)) (List._∷_ (9, Rows.any-gone (Syntax.tyInt Syntax.w64)) (List._∷_ (10, Rows.whole (Declared'.row Call.the-type)) (List._∷_ (11, Rows.any-gone (Laws.mir)) (List._∷_ (12, Rows.any-gone Syntax.tyUnit) (List._∷_ (13, Rows.any-gone (Syntax.tyRef Syntax.erased Syntax.mut OfOutput.named)) (List._∷_ (14, Rows.any-gone (Syntax.tyStruct (List._∷_ 38 (List._∷_ 91 (List._∷_ 93 List.[]))) (Syntax.tcons (Syntax.tyRef Syntax.erased Syntax.mut OfOutput.named) (Syntax.tcons (Syntax.tyInt Syntax.w64) Syntax.tnil)))) (List._∷_ (15, Rows.any-gone (Syntax.tyRef Syntax.erased Syntax.mut OfOutput.named)) List.[])))))))))))))))
 
 abbrev pub t29 : List.List Row.Entry
-t29 = List._∷_ (0, Rows.any-gone (Laws.mir)) (List._∷_ (1, Mut.mslice (OfOutput.row) (Syntax.tyRef (Syntax.named 0) Syntax.mut OfOutput.named) 0) (List._∷_ (2, Mut.mslice (OfStation.row) (Syntax.tyRef (Syntax.named 1) Syntax.mut OfStation.named) 1) (List._∷_ (3, Rows.mref (Referent.rtF (Referent.fInt Syntax.w64)) (Syntax.tyRef (Syntax.named 2) Syntax.mut (Syntax.tyInt Syntax.w64)) 2) (List._∷_ (4, Rows.sslice (Referent.rtF (Referent.fInt Syntax.w8)) (Syntax.tyRef (Syntax.named 3) Syntax.imm (Syntax.tyInt Syntax.w8)) 3) (List._∷_ (5, Rows.any-gone (Laws''.mir)) (List._∷_ (6, Rows.any-gone (Syntax.tyInt Syntax.w8)) (List._∷_ (7, Rows.any-gone (Laws.mir)) (List._∷_ (8, Rows.any-gone (Syntax.tyInt Syntax.w64)) (List._∷_ (9, Rows.any-gone (Syntax.tyInt Syntax.w64)) (List._∷_ (10, Rows.sc-here (Row.sInt Syntax.w8)) (List._∷_ (11, Rows.sc-here (Row.sInt Syntax.w32)) (List._∷_ (12, Rows.sc-here (Row.sInt Syntax.w64)) (List._∷_ (13, Rows.sc-here (Row.sInt Syntax.w8)) (List._∷_ (14, Rows.whole (Declared.row Request.the-type)) (List._∷_ (15, Rows.any-gone (Laws.mir)) List.[])))))))))))))))
+t29 = List._∷_ (16, Mut.mslice (OfOutput.row) (Syntax.tyRef Syntax.erased Syntax.mut OfOutput.named) 5) (List._∷_ (17, Relend.msptr (OfStation.row) (Syntax.tyRef Syntax.erased Syntax.mut OfStation.named) 6) (List._∷_ (18, Rows.any-gone (Syntax.tyStruct (List._∷_ 38 (List._∷_ 91 (List._∷_ 93 List.[]))) (Syntax.tcons (Syntax.tyRef Syntax.erased Syntax.mut OfStation.named) (Syntax.tcons (Syntax.tyInt Syntax.w64) Syntax.tnil)))) (List._∷_ (19, Rows.any-gone (Syntax.tyRef Syntax.erased Syntax.mut (Syntax.tyInt Syntax.w64))) List.[])))
 
 abbrev pub t30 : List.List Row.Entry
-t30 = List._∷_ (0, Rows.any-gone (Laws.mir)) (List._∷_ (1, Relend.mslice-owed (OfOutput.row) (Syntax.tyRef (Syntax.named 0) Syntax.mut OfOutput.named) 0 5 Row.off) (List._∷_ (2, Mut.mslice (OfStation.row) (Syntax.tyRef (Syntax.named 1) Syntax.mut OfStation.named) 1) (List._∷_ (3, Rows.mref (Referent.rtF (Referent.fInt Syntax.w64)) (Syntax.tyRef (Syntax.named 2) Syntax.mut (Syntax.tyInt Syntax.w64)) 2) (List._∷_ (4, Rows.sslice (Referent.rtF (Referent.fInt Syntax.w8)) (Syntax.tyRef (Syntax.named 3) Syntax.imm (Syntax.tyInt Syntax.w8)) 3) (List._∷_ (5, Rows.any-gone (Laws''.mir)) (List._∷_ (6, Rows.any-gone (Syntax.tyInt Syntax.w8)) (List._∷_ (7, Rows.any-gone (Laws.mir)) (List._∷_ (8, Rows.any-gone (Syntax.tyInt Syntax.w64)) (List._∷_ (9, Rows.any-gone (Syntax.tyInt Syntax.w64)) (List._∷_ (10, Rows.sc-here (Row.sInt Syntax.w8)) (List._∷_ (11, Rows.sc-here (Row.sInt Syntax.w32)) (List._∷_ (12, Rows.sc-here (Row.sInt Syntax.w64)) (List._∷_ (13, Rows.sc-here (Row.sInt Syntax.w8)) (List._∷_ (14, Rows.whole (Declared.row Request.the-type)) (List._∷_ (15, Rows.any-gone (Laws.mir)) List.[])))))))))))))))
+t30 = List._∷_ (16, Mut.mslice (OfOutput.row) (Syntax.tyRef Syntax.erased Syntax.mut OfOutput.named) 5) (List._∷_ (17, Rows.any-gone (Syntax.tyRef Syntax.erased Syntax.mut OfStation.named)) (List._∷_ (18, Mut.mslice (OfStation.row) (Syntax.tyRef Syntax.erased Syntax.mut OfStation.named) 6) (List._∷_ (19, Rows.any-gone (Syntax.tyRef Syntax.erased Syntax.mut (Syntax.tyInt Syntax.w64))) List.[])))
 
 abbrev pub t31 : List.List Row.Entry
-t31 = List._∷_ (16, Rows.any-gone Syntax.tyUnit) (List._∷_ (17, Rows.any-gone (Syntax.tyRef Syntax.erased Syntax.mut OfOutput.named)) (List._∷_ (18, Rows.any-gone (Syntax.tyStruct (List._∷_ 38 (List._∷_ 91 (List._∷_ 93 List.[]))) (Syntax.tcons (Syntax.tyRef Syntax.erased Syntax.mut OfOutput.named) (Syntax.tcons (Syntax.tyInt Syntax.w64) Syntax.tnil)))) (List._∷_ (19, Relend.msptr (OfOutput.row) (Syntax.tyRef Syntax.erased Syntax.mut OfOutput.named) 5) (List._∷_ (20, Rows.any-gone (Syntax.tyStruct (List._∷_ 38 (List._∷_ 91 (List._∷_ 93 List.[]))) (Syntax.tcons (Syntax.tyRef Syntax.erased Syntax.mut OfOutput.named) (Syntax.tcons (Syntax.tyInt Syntax.w64) Syntax.tnil)))) (List._∷_ (21, Rows.any-gone (Syntax.tyRef Syntax.erased Syntax.mut OfStation.named)) (List._∷_ (22, Rows.any-gone (Syntax.tyStruct (List._∷_ 38 (List._∷_ 91 (List._∷_ 93 List.[]))) (Syntax.tcons (Syntax.tyRef Syntax.erased Syntax.mut OfStation.named) (Syntax.tcons (Syntax.tyInt Syntax.w64) Syntax.tnil)))) (List._∷_ (23, Rows.any-gone (Syntax.tyRef Syntax.erased Syntax.mut (Syntax.tyInt Syntax.w64))) List.[])))))))
+t31 = List._∷_ (0, Rows.any-gone (Laws.mir)) (List._∷_ (1, Relend.mslice-owed (OfOutput.row) (Syntax.tyRef (Syntax.named 0) Syntax.mut OfOutput.named) 0 5 Row.off) (List._∷_ (2, Relend.mslice-owed (OfStation.row) (Syntax.tyRef (Syntax.named 1) Syntax.mut OfStation.named) 1 6 Row.off) (List._∷_ (3, Rows.mref-owed (Referent.rtF (Referent.fInt Syntax.w64)) (Syntax.tyRef (Syntax.named 2) Syntax.mut (Syntax.tyInt Syntax.w64)) 2 7 Row.off) (List._∷_ (4, Rows.sslice (Referent.rtF (Referent.fInt Syntax.w8)) (Syntax.tyRef (Syntax.named 3) Syntax.imm (Syntax.tyInt Syntax.w8)) 3) (List._∷_ (5, Rows.any-gone (Laws''.mir)) (List._∷_ (6, Rows.any-gone (Syntax.tyInt Syntax.w8)) (List._∷_ (7, Rows.any-gone (Laws.mir)) (List._∷_ (8, Rows.any-gone (Syntax.tyInt Syntax.w64)) (List._∷_ (9, Rows.any-gone (Syntax.tyInt Syntax.w64)) (List._∷_ (10, Rows.whole (Declared'.row Call.the-type)) (List._∷_ (11, Rows.any-gone (Laws.mir)) (List._∷_ (12, Rows.any-gone Syntax.tyUnit) (List._∷_ (13, Rows.any-gone (Syntax.tyRef Syntax.erased Syntax.mut OfOutput.named)) (List._∷_ (14, Rows.any-gone (Syntax.tyStruct (List._∷_ 38 (List._∷_ 91 (List._∷_ 93 List.[]))) (Syntax.tcons (Syntax.tyRef Syntax.erased Syntax.mut OfOutput.named) (Syntax.tcons (Syntax.tyInt Syntax.w64) Syntax.tnil)))) (List._∷_ (15, Rows.any-gone (Syntax.tyRef Syntax.erased Syntax.mut OfOutput.named)) List.[])))))))))))))))
 
 abbrev pub t32 : List.List Row.Entry
-t32 = List._∷_ (16, Rows.any-gone Syntax.tyUnit) (List._∷_ (17, Rows.any-gone (Syntax.tyRef Syntax.erased Syntax.mut OfOutput.named)) (List._∷_ (18, Rows.any-gone (Syntax.tyStruct (List._∷_ 38 (List._∷_ 91 (List._∷_ 93 List.[]))) (Syntax.tcons (Syntax.tyRef Syntax.erased Syntax.mut OfOutput.named) (Syntax.tcons (Syntax.tyInt Syntax.w64) Syntax.tnil)))) (List._∷_ (19, Rows.any-gone (Syntax.tyRef Syntax.erased Syntax.mut OfOutput.named)) (List._∷_ (20, Mut.mslice (OfOutput.row) (Syntax.tyRef Syntax.erased Syntax.mut OfOutput.named) 5) (List._∷_ (21, Rows.any-gone (Syntax.tyRef Syntax.erased Syntax.mut OfStation.named)) (List._∷_ (22, Rows.any-gone (Syntax.tyStruct (List._∷_ 38 (List._∷_ 91 (List._∷_ 93 List.[]))) (Syntax.tcons (Syntax.tyRef Syntax.erased Syntax.mut OfStation.named) (Syntax.tcons (Syntax.tyInt Syntax.w64) Syntax.tnil)))) (List._∷_ (23, Rows.any-gone (Syntax.tyRef Syntax.erased Syntax.mut (Syntax.tyInt Syntax.w64))) List.[])))))))
+t32 = List._∷_ (16, Mut.mslice (OfOutput.row) (Syntax.tyRef Syntax.erased Syntax.mut OfOutput.named) 5) (List._∷_ (17, Rows.any-gone (Syntax.tyRef Syntax.erased Syntax.mut OfStation.named)) (List._∷_ (18, Mut.mslice (OfStation.row) (Syntax.tyRef Syntax.erased Syntax.mut OfStation.named) 6) (List._∷_ (19, Rows.mref (Referent.rtF (Referent.fInt Syntax.w64)) (Syntax.tyRef Syntax.erased Syntax.mut (Syntax.tyInt Syntax.w64)) 7) List.[])))
 
 abbrev pub t33 : List.List Row.Entry
-t33 = List._∷_ (0, Rows.any-gone (Laws.mir)) (List._∷_ (1, Relend.mslice-owed (OfOutput.row) (Syntax.tyRef (Syntax.named 0) Syntax.mut OfOutput.named) 0 5 Row.off) (List._∷_ (2, Relend.mslice-owed (OfStation.row) (Syntax.tyRef (Syntax.named 1) Syntax.mut OfStation.named) 1 6 Row.off) (List._∷_ (3, Rows.mref (Referent.rtF (Referent.fInt Syntax.w64)) (Syntax.tyRef (Syntax.named 2) Syntax.mut (Syntax.tyInt Syntax.w64)) 2) (List._∷_ (4, Rows.sslice (Referent.rtF (Referent.fInt Syntax.w8)) (Syntax.tyRef (Syntax.named 3) Syntax.imm (Syntax.tyInt Syntax.w8)) 3) (List._∷_ (5, Rows.any-gone (Laws''.mir)) (List._∷_ (6, Rows.any-gone (Syntax.tyInt Syntax.w8)) (List._∷_ (7, Rows.any-gone (Laws.mir)) (List._∷_ (8, Rows.any-gone (Syntax.tyInt Syntax.w64)) (List._∷_ (9, Rows.any-gone (Syntax.tyInt Syntax.w64)) (List._∷_ (10, Rows.sc-here (Row.sInt Syntax.w8)) (List._∷_ (11, Rows.sc-here (Row.sInt Syntax.w32)) (List._∷_ (12, Rows.sc-here (Row.sInt Syntax.w64)) (List._∷_ (13, Rows.sc-here (Row.sInt Syntax.w8)) (List._∷_ (14, Rows.whole (Declared.row Request.the-type)) (List._∷_ (15, Rows.any-gone (Laws.mir)) List.[])))))))))))))))
+t33 = List._∷_ (0, Rows.any-gone (Laws.mir)) (List._∷_ (1, Relend.mslice-owed (OfOutput.row) (Syntax.tyRef (Syntax.named 0) Syntax.mut OfOutput.named) 0 5 Row.off) (List._∷_ (2, Relend.mslice-owed (OfStation.row) (Syntax.tyRef (Syntax.named 1) Syntax.mut OfStation.named) 1 6 Row.off) (List._∷_ (3, Rows.mref-owed (Referent.rtF (Referent.fInt Syntax.w64)) (Syntax.tyRef (Syntax.named 2) Syntax.mut (Syntax.tyInt Syntax.w64)) 2 7 Row.off) (List._∷_ (4, Rows.sslice (Referent.rtF (Referent.fInt Syntax.w8)) (Syntax.tyRef (Syntax.named 3) Syntax.imm (Syntax.tyInt Syntax.w8)) 3) (List._∷_ (5, Rows.any-gone (Laws''.mir)) (List._∷_ (6, Rows.any-gone (Syntax.tyInt Syntax.w8)) (List._∷_ (7, Rows.any-gone (Laws.mir)) (List._∷_ (8, Rows.any-gone (Syntax.tyInt Syntax.w64)) (List._∷_ (9, Rows.any-gone (Syntax.tyInt Syntax.w64)) (List._∷_ (10, Rows.whole (Declared'.row Call.the-type)) (List._∷_ (11, Rows.whole (Declared.row Answer.the-type)) (List._∷_ (12, Rows.any-gone Syntax.tyUnit) (List._∷_ (13, Rows.any-gone (Syntax.tyRef Syntax.erased Syntax.mut OfOutput.named)) (List._∷_ (14, Rows.any-gone (Syntax.tyStruct (List._∷_ 38 (List._∷_ 91 (List._∷_ 93 List.[]))) (Syntax.tcons (Syntax.tyRef Syntax.erased Syntax.mut OfOutput.named) (Syntax.tcons (Syntax.tyInt Syntax.w64) Syntax.tnil)))) (List._∷_ (15, Rows.any-gone (Syntax.tyRef Syntax.erased Syntax.mut OfOutput.named)) List.[])))))))))))))))
 
 abbrev pub t34 : List.List Row.Entry
-t34 = List._∷_ (16, Rows.any-gone Syntax.tyUnit) (List._∷_ (17, Rows.any-gone (Syntax.tyRef Syntax.erased Syntax.mut OfOutput.named)) (List._∷_ (18, Rows.any-gone (Syntax.tyStruct (List._∷_ 38 (List._∷_ 91 (List._∷_ 93 List.[]))) (Syntax.tcons (Syntax.tyRef Syntax.erased Syntax.mut OfOutput.named) (Syntax.tcons (Syntax.tyInt Syntax.w64) Syntax.tnil)))) (List._∷_ (19, Rows.any-gone (Syntax.tyRef Syntax.erased Syntax.mut OfOutput.named)) (List._∷_ (20, Mut.mslice (OfOutput.row) (Syntax.tyRef Syntax.erased Syntax.mut OfOutput.named) 5) (List._∷_ (21, Relend.msptr (OfStation.row) (Syntax.tyRef Syntax.erased Syntax.mut OfStation.named) 6) (List._∷_ (22, Rows.any-gone (Syntax.tyStruct (List._∷_ 38 (List._∷_ 91 (List._∷_ 93 List.[]))) (Syntax.tcons (Syntax.tyRef Syntax.erased Syntax.mut OfStation.named) (Syntax.tcons (Syntax.tyInt Syntax.w64) Syntax.tnil)))) (List._∷_ (23, Rows.any-gone (Syntax.tyRef Syntax.erased Syntax.mut (Syntax.tyInt Syntax.w64))) List.[])))))))
+t34 = List._∷_ (16, Mut.msleft (OfOutput.row) (Syntax.tyRef Syntax.erased Syntax.mut OfOutput.named)) (List._∷_ (17, Rows.any-gone (Syntax.tyRef Syntax.erased Syntax.mut OfStation.named)) (List._∷_ (18, Mut.msleft (OfStation.row) (Syntax.tyRef Syntax.erased Syntax.mut OfStation.named)) (List._∷_ (19, Rows.mleft (Referent.rtF (Referent.fInt Syntax.w64)) (Syntax.tyRef Syntax.erased Syntax.mut (Syntax.tyInt Syntax.w64))) List.[])))
 
 abbrev pub t35 : List.List Row.Entry
-t35 = List._∷_ (16, Rows.any-gone Syntax.tyUnit) (List._∷_ (17, Rows.any-gone (Syntax.tyRef Syntax.erased Syntax.mut OfOutput.named)) (List._∷_ (18, Rows.any-gone (Syntax.tyStruct (List._∷_ 38 (List._∷_ 91 (List._∷_ 93 List.[]))) (Syntax.tcons (Syntax.tyRef Syntax.erased Syntax.mut OfOutput.named) (Syntax.tcons (Syntax.tyInt Syntax.w64) Syntax.tnil)))) (List._∷_ (19, Rows.any-gone (Syntax.tyRef Syntax.erased Syntax.mut OfOutput.named)) (List._∷_ (20, Mut.mslice (OfOutput.row) (Syntax.tyRef Syntax.erased Syntax.mut OfOutput.named) 5) (List._∷_ (21, Rows.any-gone (Syntax.tyRef Syntax.erased Syntax.mut OfStation.named)) (List._∷_ (22, Mut.mslice (OfStation.row) (Syntax.tyRef Syntax.erased Syntax.mut OfStation.named) 6) (List._∷_ (23, Rows.any-gone (Syntax.tyRef Syntax.erased Syntax.mut (Syntax.tyInt Syntax.w64))) List.[])))))))
+t35 = List._∷_ (0, Rows.any-gone (Laws.mir)) (List._∷_ (1, Relend.mslice-owed (OfOutput.row) (Syntax.tyRef (Syntax.named 0) Syntax.mut OfOutput.named) 0 5 Row.off) (List._∷_ (2, Relend.mslice-owed (OfStation.row) (Syntax.tyRef (Syntax.named 1) Syntax.mut OfStation.named) 1 6 Row.off) (List._∷_ (3, Rows.mref-owed (Referent.rtF (Referent.fInt Syntax.w64)) (Syntax.tyRef (Syntax.named 2) Syntax.mut (Syntax.tyInt Syntax.w64)) 2 7 Row.off) (List._∷_ (4, Rows.sslice (Referent.rtF (Referent.fInt Syntax.w8)) (Syntax.tyRef (Syntax.named 3) Syntax.imm (Syntax.tyInt Syntax.w8)) 3) (List._∷_ (5, Rows.any-gone (Laws''.mir)) (List._∷_ (6, Rows.any-gone (Syntax.tyInt Syntax.w8)) (List._∷_ (7, Rows.any-gone (Laws.mir)) (List._∷_ (8, Rows.any-gone (Syntax.tyInt Syntax.w64)) (List._∷_ (9, Rows.any-gone (Syntax.tyInt Syntax.w64)) (List._∷_ (10, Rows.any-gone (Laws'.mir)) (List._∷_ (11, Rows.whole (Declared.row Answer.the-type)) (List._∷_ (12, Rows.any-gone Syntax.tyUnit) (List._∷_ (13, Rows.any-gone (Syntax.tyRef Syntax.erased Syntax.mut OfOutput.named)) (List._∷_ (14, Rows.any-gone (Syntax.tyStruct (List._∷_ 38 (List._∷_ 91 (List._∷_ 93 List.[]))) (Syntax.tcons (Syntax.tyRef Syntax.erased Syntax.mut OfOutput.named) (Syntax.tcons (Syntax.tyInt Syntax.w64) Syntax.tnil)))) (List._∷_ (15, Rows.any-gone (Syntax.tyRef Syntax.erased Syntax.mut OfOutput.named)) List.[])))))))))))))))
 
 abbrev pub t36 : List.List Row.Entry
-t36 = List._∷_ (0, Rows.any-gone (Laws.mir)) (List._∷_ (1, Relend.mslice-owed (OfOutput.row) (Syntax.tyRef (Syntax.named 0) Syntax.mut OfOutput.named) 0 5 Row.off) (List._∷_ (2, Relend.mslice-owed (OfStation.row) (Syntax.tyRef (Syntax.named 1) Syntax.mut OfStation.named) 1 6 Row.off) (List._∷_ (3, Rows.mref-owed (Referent.rtF (Referent.fInt Syntax.w64)) (Syntax.tyRef (Syntax.named 2) Syntax.mut (Syntax.tyInt Syntax.w64)) 2 7 Row.off) (List._∷_ (4, Rows.sslice (Referent.rtF (Referent.fInt Syntax.w8)) (Syntax.tyRef (Syntax.named 3) Syntax.imm (Syntax.tyInt Syntax.w8)) 3) (List._∷_ (5, Rows.any-gone (Laws''.mir)) (List._∷_ (6, Rows.any-gone (Syntax.tyInt Syntax.w8)) (List._∷_ (7, Rows.any-gone (Laws.mir)) (List._∷_ (8, Rows.any-gone (Syntax.tyInt Syntax.w64)) (List._∷_ (9, Rows.any-gone (Syntax.tyInt Syntax.w64)) (List._∷_ (10, Rows.sc-here (Row.sInt Syntax.w8)) (List._∷_ (11, Rows.sc-here (Row.sInt Syntax.w32)) (List._∷_ (12, Rows.sc-here (Row.sInt Syntax.w64)) (List._∷_ (13, Rows.sc-here (Row.sInt Syntax.w8)) (List._∷_ (14, Rows.whole (Declared.row Request.the-type)) (List._∷_ (15, Rows.any-gone (Laws.mir)) List.[])))))))))))))))
+t36 = List._∷_ (0, Rows.any-gone (Laws.mir)) (List._∷_ (1, Mut.mslice (OfOutput.row) (Syntax.tyRef (Syntax.named 0) Syntax.mut OfOutput.named) 0) (List._∷_ (2, Relend.mslice-owed (OfStation.row) (Syntax.tyRef (Syntax.named 1) Syntax.mut OfStation.named) 1 6 Row.off) (List._∷_ (3, Rows.mref-owed (Referent.rtF (Referent.fInt Syntax.w64)) (Syntax.tyRef (Syntax.named 2) Syntax.mut (Syntax.tyInt Syntax.w64)) 2 7 Row.off) (List._∷_ (4, Rows.sslice (Referent.rtF (Referent.fInt Syntax.w8)) (Syntax.tyRef (Syntax.named 3) Syntax.imm (Syntax.tyInt Syntax.w8)) 3) (List._∷_ (5, Rows.any-gone (Laws''.mir)) (List._∷_ (6, Rows.any-gone (Syntax.tyInt Syntax.w8)) (List._∷_ (7, Rows.any-gone (Laws.mir)) (List._∷_ (8, Rows.any-gone (Syntax.tyInt Syntax.w64)) (List._∷_ (9, Rows.any-gone (Syntax.tyInt Syntax.w64)) (List._∷_ (10, Rows.any-gone (Laws'.mir)) (List._∷_ (11, Rows.whole (Declared.row Answer.the-type)) (List._∷_ (12, Rows.any-gone Syntax.tyUnit) (List._∷_ (13, Rows.any-gone (Syntax.tyRef Syntax.erased Syntax.mut OfOutput.named)) (List._∷_ (14, Rows.any-gone (Syntax.tyStruct (List._∷_ 38 (List._∷_ 91 (List._∷_ 93 List.[]))) (Syntax.tcons (Syntax.tyRef Syntax.erased Syntax.mut OfOutput.named) (Syntax.tcons (Syntax.tyInt Syntax.w64) Syntax.tnil)))) (List._∷_ (15, Rows.any-gone (Syntax.tyRef Syntax.erased Syntax.mut OfOutput.named)) List.[])))))))))))))))
 
 abbrev pub t37 : List.List Row.Entry
-t37 = List._∷_ (16, Rows.any-gone Syntax.tyUnit) (List._∷_ (17, Rows.any-gone (Syntax.tyRef Syntax.erased Syntax.mut OfOutput.named)) (List._∷_ (18, Rows.any-gone (Syntax.tyStruct (List._∷_ 38 (List._∷_ 91 (List._∷_ 93 List.[]))) (Syntax.tcons (Syntax.tyRef Syntax.erased Syntax.mut OfOutput.named) (Syntax.tcons (Syntax.tyInt Syntax.w64) Syntax.tnil)))) (List._∷_ (19, Rows.any-gone (Syntax.tyRef Syntax.erased Syntax.mut OfOutput.named)) (List._∷_ (20, Mut.mslice (OfOutput.row) (Syntax.tyRef Syntax.erased Syntax.mut OfOutput.named) 5) (List._∷_ (21, Rows.any-gone (Syntax.tyRef Syntax.erased Syntax.mut OfStation.named)) (List._∷_ (22, Mut.mslice (OfStation.row) (Syntax.tyRef Syntax.erased Syntax.mut OfStation.named) 6) (List._∷_ (23, Rows.mref (Referent.rtF (Referent.fInt Syntax.w64)) (Syntax.tyRef Syntax.erased Syntax.mut (Syntax.tyInt Syntax.w64)) 7) List.[])))))))
+t37 = List._∷_ (16, Rows.any-gone (Syntax.tyStruct (List._∷_ 38 (List._∷_ 91 (List._∷_ 93 List.[]))) (Syntax.tcons (Syntax.tyRef Syntax.erased Syntax.mut OfOutput.named) (Syntax.tcons (Syntax.tyInt Syntax.w64) Syntax.tnil)))) (List._∷_ (17, Rows.any-gone (Syntax.tyRef Syntax.erased Syntax.mut OfStation.named)) (List._∷_ (18, Mut.msleft (OfStation.row) (Syntax.tyRef Syntax.erased Syntax.mut OfStation.named)) (List._∷_ (19, Rows.mleft (Referent.rtF (Referent.fInt Syntax.w64)) (Syntax.tyRef Syntax.erased Syntax.mut (Syntax.tyInt Syntax.w64))) List.[])))
 
 abbrev pub t38 : List.List Row.Entry
-t38 = List._∷_ (0, Rows.any-gone (Laws.mir)) (List._∷_ (1, Relend.mslice-owed (OfOutput.row) (Syntax.tyRef (Syntax.named 0) Syntax.mut OfOutput.named) 0 5 Row.off) (List._∷_ (2, Relend.mslice-owed (OfStation.row) (Syntax.tyRef (Syntax.named 1) Syntax.mut OfStation.named) 1 6 Row.off) (List._∷_ (3, Rows.mref-owed (Referent.rtF (Referent.fInt Syntax.w64)) (Syntax.tyRef (Syntax.named 2) Syntax.mut (Syntax.tyInt Syntax.w64)) 2 7 Row.off) (List._∷_ (4, Rows.sslice (Referent.rtF (Referent.fInt Syntax.w8)) (Syntax.tyRef (Syntax.named 3) Syntax.imm (Syntax.tyInt Syntax.w8)) 3) (List._∷_ (5, Rows.any-gone (Laws''.mir)) (List._∷_ (6, Rows.any-gone (Syntax.tyInt Syntax.w8)) (List._∷_ (7, Rows.any-gone (Laws.mir)) (List._∷_ (8, Rows.any-gone (Syntax.tyInt Syntax.w64)) (List._∷_ (9, Rows.any-gone (Syntax.tyInt Syntax.w64)) (List._∷_ (10, Rows.sc-here (Row.sInt Syntax.w8)) (List._∷_ (11, Rows.sc-here (Row.sInt Syntax.w32)) (List._∷_ (12, Rows.sc-here (Row.sInt Syntax.w64)) (List._∷_ (13, Rows.sc-here (Row.sInt Syntax.w8)) (List._∷_ (14, Rows.whole (Declared.row Request.the-type)) (List._∷_ (15, Rows.whole (Declared.row Answer.the-type)) List.[])))))))))))))))
+t38 = List._∷_ (0, Rows.any-gone (Laws.mir)) (List._∷_ (1, Mut.mslice (OfOutput.row) (Syntax.tyRef (Syntax.named 0) Syntax.mut OfOutput.named) 0) (List._∷_ (2, Mut.mslice (OfStation.row) (Syntax.tyRef (Syntax.named 1) Syntax.mut OfStation.named) 1) (List._∷_ (3, Rows.mref-owed (Referent.rtF (Referent.fInt Syntax.w64)) (Syntax.tyRef (Syntax.named 2) Syntax.mut (Syntax.tyInt Syntax.w64)) 2 7 Row.off) (List._∷_ (4, Rows.sslice (Referent.rtF (Referent.fInt Syntax.w8)) (Syntax.tyRef (Syntax.named 3) Syntax.imm (Syntax.tyInt Syntax.w8)) 3) (List._∷_ (5, Rows.any-gone (Laws''.mir)) (List._∷_ (6, Rows.any-gone (Syntax.tyInt Syntax.w8)) (List._∷_ (7, Rows.any-gone (Laws.mir)) (List._∷_ (8, Rows.any-gone (Syntax.tyInt Syntax.w64)) (List._∷_ (9, Rows.any-gone (Syntax.tyInt Syntax.w64)) (List._∷_ (10, Rows.any-gone (Laws'.mir)) (List._∷_ (11, Rows.whole (Declared.row Answer.the-type)) (List._∷_ (12, Rows.any-gone Syntax.tyUnit) (List._∷_ (13, Rows.any-gone (Syntax.tyRef Syntax.erased Syntax.mut OfOutput.named)) (List._∷_ (14, Rows.any-gone (Syntax.tyStruct (List._∷_ 38 (List._∷_ 91 (List._∷_ 93 List.[]))) (Syntax.tcons (Syntax.tyRef Syntax.erased Syntax.mut OfOutput.named) (Syntax.tcons (Syntax.tyInt Syntax.w64) Syntax.tnil)))) (List._∷_ (15, Rows.any-gone (Syntax.tyRef Syntax.erased Syntax.mut OfOutput.named)) List.[])))))))))))))))
 
 abbrev pub t39 : List.List Row.Entry
-t39 = List._∷_ (16, Rows.any-gone Syntax.tyUnit) (List._∷_ (17, Rows.any-gone (Syntax.tyRef Syntax.erased Syntax.mut OfOutput.named)) (List._∷_ (18, Rows.any-gone (Syntax.tyStruct (List._∷_ 38 (List._∷_ 91 (List._∷_ 93 List.[]))) (Syntax.tcons (Syntax.tyRef Syntax.erased Syntax.mut OfOutput.named) (Syntax.tcons (Syntax.tyInt Syntax.w64) Syntax.tnil)))) (List._∷_ (19, Rows.any-gone (Syntax.tyRef Syntax.erased Syntax.mut OfOutput.named)) (List._∷_ (20, Mut.msleft (OfOutput.row) (Syntax.tyRef Syntax.erased Syntax.mut OfOutput.named)) (List._∷_ (21, Rows.any-gone (Syntax.tyRef Syntax.erased Syntax.mut OfStation.named)) (List._∷_ (22, Mut.msleft (OfStation.row) (Syntax.tyRef Syntax.erased Syntax.mut OfStation.named)) (List._∷_ (23, Rows.mleft (Referent.rtF (Referent.fInt Syntax.w64)) (Syntax.tyRef Syntax.erased Syntax.mut (Syntax.tyInt Syntax.w64))) List.[])))))))
+t39 = List._∷_ (16, Rows.any-gone (Syntax.tyStruct (List._∷_ 38 (List._∷_ 91 (List._∷_ 93 List.[]))) (Syntax.tcons (Syntax.tyRef Syntax.erased Syntax.mut OfOutput.named) (Syntax.tcons (Syntax.tyInt Syntax.w64) Syntax.tnil)))) (List._∷_ (17, Rows.any-gone (Syntax.tyRef Syntax.erased Syntax.mut OfStation.named)) (List._∷_ (18, Rows.any-gone (Syntax.tyStruct (List._∷_ 38 (List._∷_ 91 (List._∷_ 93 List.[]))) (Syntax.tcons (Syntax.tyRef Syntax.erased Syntax.mut OfStation.named) (Syntax.tcons (Syntax.tyInt Syntax.w64) Syntax.tnil)))) (List._∷_ (19, Rows.mleft (Referent.rtF (Referent.fInt Syntax.w64)) (Syntax.tyRef Syntax.erased Syntax.mut (Syntax.tyInt Syntax.w64))) List.[])))
 
 abbrev pub t40 : List.List Row.Entry
-t40 = List._∷_ (0, Rows.any-gone (Laws.mir)) (List._∷_ (1, Relend.mslice-owed (OfOutput.row) (Syntax.tyRef (Syntax.named 0) Syntax.mut OfOutput.named) 0 5 Row.off) (List._∷_ (2, Relend.mslice-owed (OfStation.row) (Syntax.tyRef (Syntax.named 1) Syntax.mut OfStation.named) 1 6 Row.off) (List._∷_ (3, Rows.mref-owed (Referent.rtF (Referent.fInt Syntax.w64)) (Syntax.tyRef (Syntax.named 2) Syntax.mut (Syntax.tyInt Syntax.w64)) 2 7 Row.off) (List._∷_ (4, Rows.sslice (Referent.rtF (Referent.fInt Syntax.w8)) (Syntax.tyRef (Syntax.named 3) Syntax.imm (Syntax.tyInt Syntax.w8)) 3) (List._∷_ (5, Rows.any-gone (Laws''.mir)) (List._∷_ (6, Rows.any-gone (Syntax.tyInt Syntax.w8)) (List._∷_ (7, Rows.any-gone (Laws.mir)) (List._∷_ (8, Rows.any-gone (Syntax.tyInt Syntax.w64)) (List._∷_ (9, Rows.any-gone (Syntax.tyInt Syntax.w64)) (List._∷_ (10, Rows.any-gone (Syntax.tyInt Syntax.w8)) (List._∷_ (11, Rows.sc-here (Row.sInt Syntax.w32)) (List._∷_ (12, Rows.sc-here (Row.sInt Syntax.w64)) (List._∷_ (13, Rows.sc-here (Row.sInt Syntax.w8)) (List._∷_ (14, Rows.whole (Declared.row Request.the-type)) (List._∷_ (15, Rows.whole (Declared.row Answer.the-type)) List.[])))))))))))))))
-
-abbrev pub t41 : List.List Row.Entry
-t41 = List._∷_ (0, Rows.any-gone (Laws.mir)) (List._∷_ (1, Relend.mslice-owed (OfOutput.row) (Syntax.tyRef (Syntax.named 0) Syntax.mut OfOutput.named) 0 5 Row.off) (List._∷_ (2, Relend.mslice-owed (OfStation.row) (Syntax.tyRef (Syntax.named 1) Syntax.mut OfStation.named) 1 6 Row.off) (List._∷_ (3, Rows.mref-owed (Referent.rtF (Referent.fInt Syntax.w64)) (Syntax.tyRef (Syntax.named 2) Syntax.mut (Syntax.tyInt Syntax.w64)) 2 7 Row.off) (List._∷_ (4, Rows.sslice (Referent.rtF (Referent.fInt Syntax.w8)) (Syntax.tyRef (Syntax.named 3) Syntax.imm (Syntax.tyInt Syntax.w8)) 3) (List._∷_ (5, Rows.any-gone (Laws''.mir)) (List._∷_ (6, Rows.any-gone (Syntax.tyInt Syntax.w8)) (List._∷_ (7, Rows.any-gone (Laws.mir)) (List._∷_ (8, Rows.any-gone (Syntax.tyInt Syntax.w64)) (List._∷_ (9, Rows.any-gone (Syntax.tyInt Syntax.w64)) (List._∷_ (10, Rows.any-gone (Syntax.tyInt Syntax.w8)) (List._∷_ (11, Rows.any-gone (Syntax.tyInt Syntax.w32)) (List._∷_ (12, Rows.sc-here (Row.sInt Syntax.w64)) (List._∷_ (13, Rows.sc-here (Row.sInt Syntax.w8)) (List._∷_ (14, Rows.whole (Declared.row Request.the-type)) (List._∷_ (15, Rows.whole (Declared.row Answer.the-type)) List.[])))))))))))))))
-
-abbrev pub t42 : List.List Row.Entry
-t42 = List._∷_ (0, Rows.any-gone (Laws.mir)) (List._∷_ (1, Relend.mslice-owed (OfOutput.row) (Syntax.tyRef (Syntax.named 0) Syntax.mut OfOutput.named) 0 5 Row.off) (List._∷_ (2, Relend.mslice-owed (OfStation.row) (Syntax.tyRef (Syntax.named 1) Syntax.mut OfStation.named) 1 6 Row.off) (List._∷_ (3, Rows.mref-owed (Referent.rtF (Referent.fInt Syntax.w64)) (Syntax.tyRef (Syntax.named 2) Syntax.mut (Syntax.tyInt Syntax.w64)) 2 7 Row.off) (List._∷_ (4, Rows.sslice (Referent.rtF (Referent.fInt Syntax.w8)) (Syntax.tyRef (Syntax.named 3) Syntax.imm (Syntax.tyInt Syntax.w8)) 3) (List._∷_ (5, Rows.any-gone (Laws''.mir)) (List._∷_ (6, Rows.any-gone (Syntax.tyInt Syntax.w8)) (List._∷_ (7, Rows.any-gone (Laws.mir)) (List._∷_ (8, Rows.any-gone (Syntax.tyInt Syntax.w64)) (List._∷_ (9, Rows.any-gone (Syntax.tyInt Syntax.w64)) (List._∷_ (10, Rows.any-gone (Syntax.tyInt Syntax.w8)) (List._∷_ (11, Rows.any-gone (Syntax.tyInt Syntax.w32)) (List._∷_ (12, Rows.any-gone (Syntax.tyInt Syntax.w64)) (List._∷_ (13, Rows.sc-here (Row.sInt Syntax.w8)) (List._∷_ (14, Rows.whole (Declared.row Request.the-type)) (List._∷_ (15, Rows.whole (Declared.row Answer.the-type)) List.[])))))))))))))))
-
-abbrev pub t43 : List.List Row.Entry
-t43 = List._∷_ (0, Rows.any-gone (Laws.mir)) (List._∷_ (1, Relend.mslice-owed (OfOutput.row) (Syntax.tyRef (Syntax.named 0) Syntax.mut OfOutput.named) 0 5 Row.off) (List._∷_ (2, Relend.mslice-owed (OfStation.row) (Syntax.tyRef (Syntax.named 1) Syntax.mut OfStation.named) 1 6 Row.off) (List._∷_ (3, Rows.mref-owed (Referent.rtF (Referent.fInt Syntax.w64)) (Syntax.tyRef (Syntax.named 2) Syntax.mut (Syntax.tyInt Syntax.w64)) 2 7 Row.off) (List._∷_ (4, Rows.sslice (Referent.rtF (Referent.fInt Syntax.w8)) (Syntax.tyRef (Syntax.named 3) Syntax.imm (Syntax.tyInt Syntax.w8)) 3) (List._∷_ (5, Rows.any-gone (Laws''.mir)) (List._∷_ (6, Rows.any-gone (Syntax.tyInt Syntax.w8)) (List._∷_ (7, Rows.any-gone (Laws.mir)) (List._∷_ (8, Rows.any-gone (Syntax.tyInt Syntax.w64)) (List._∷_ (9, Rows.any-gone (Syntax.tyInt Syntax.w64)) (List._∷_ (10, Rows.any-gone (Syntax.tyInt Syntax.w8)) (List._∷_ (11, Rows.any-gone (Syntax.tyInt Syntax.w32)) (List._∷_ (12, Rows.any-gone (Syntax.tyInt Syntax.w64)) (List._∷_ (13, Rows.any-gone (Syntax.tyInt Syntax.w8)) (List._∷_ (14, Rows.whole (Declared.row Request.the-type)) (List._∷_ (15, Rows.whole (Declared.row Answer.the-type)) List.[])))))))))))))))
-
-abbrev pub t44 : List.List Row.Entry
-t44 = List._∷_ (0, Rows.any-gone (Laws.mir)) (List._∷_ (1, Relend.mslice-owed (OfOutput.row) (Syntax.tyRef (Syntax.named 0) Syntax.mut OfOutput.named) 0 5 Row.off) (List._∷_ (2, Relend.mslice-owed (OfStation.row) (Syntax.tyRef (Syntax.named 1) Syntax.mut OfStation.named) 1 6 Row.off) (List._∷_ (3, Rows.mref-owed (Referent.rtF (Referent.fInt Syntax.w64)) (Syntax.tyRef (Syntax.named 2) Syntax.mut (Syntax.tyInt Syntax.w64)) 2 7 Row.off) (List._∷_ (4, Rows.sslice (Referent.rtF (Referent.fInt Syntax.w8)) (Syntax.tyRef (Syntax.named 3) Syntax.imm (Syntax.tyInt Syntax.w8)) 3) (List._∷_ (5, Rows.any-gone (Laws''.mir)) (List._∷_ (6, Rows.any-gone (Syntax.tyInt Syntax.w8)) (List._∷_ (7, Rows.any-gone (Laws.mir)) (List._∷_ (8, Rows.any-gone (Syntax.tyInt Syntax.w64)) (List._∷_ (9, Rows.any-gone (Syntax.tyInt Syntax.w64)) (List._∷_ (10, Rows.any-gone (Syntax.tyInt Syntax.w8)) (List._∷_ (11, Rows.any-gone (Syntax.tyInt Syntax.w32)) (List._∷_ (12, Rows.any-gone (Syntax.tyInt Syntax.w64)) (List._∷_ (13, Rows.any-gone (Syntax.tyInt Syntax.w8)) (List._∷_ (14, Rows.any-gone (Laws'.mir)) (List._∷_ (15, Rows.whole (Declared.row Answer.the-type)) List.[])))))))))))))))
-
-abbrev pub t45 : List.List Row.Entry
-t45 = List._∷_ (0, Rows.any-gone (Laws.mir)) (List._∷_ (1, Mut.mslice (OfOutput.row) (Syntax.tyRef (Syntax.named 0) Syntax.mut OfOutput.named) 0) (List._∷_ (2, Relend.mslice-owed (OfStation.row) (Syntax.tyRef (Syntax.named 1) Syntax.mut OfStation.named) 1 6 Row.off) (List._∷_ (3, Rows.mref-owed (Referent.rtF (Referent.fInt Syntax.w64)) (Syntax.tyRef (Syntax.named 2) Syntax.mut (Syntax.tyInt Syntax.w64)) 2 7 Row.off) (List._∷_ (4, Rows.sslice (Referent.rtF (Referent.fInt Syntax.w8)) (Syntax.tyRef (Syntax.named 3) Syntax.imm (Syntax.tyInt Syntax.w8)) 3) (List._∷_ (5, Rows.any-gone (Laws''.mir)) (List._∷_ (6, Rows.any-gone (Syntax.tyInt Syntax.w8)) (List._∷_ (7, Rows.any-gone (Laws.mir)) (List._∷_ (8, Rows.any-gone (Syntax.tyInt Syntax.w64)) (List._∷_ (9, Rows.any-gone (Syntax.tyInt Syntax.w64)) (List._∷_ (10, Rows.any-gone (Syntax.tyInt Syntax.w8)) (List._∷_ (11, Rows.any-gone (Syntax.tyInt Syntax.w32)) (List._∷_ (12, Rows.any-gone (Syntax.tyInt Syntax.w64)) (List._∷_ (13, Rows.any-gone (Syntax.tyInt Syntax.w8)) (List._∷_ (14, Rows.any-gone (Laws'.mir)) (List._∷_ (15, Rows.whole (Declared.row Answer.the-type)) List.[])))))))))))))))
-
-abbrev pub t46 : List.List Row.Entry
-t46 = List._∷_ (16, Rows.any-gone Syntax.tyUnit) (List._∷_ (17, Rows.any-gone (Syntax.tyRef Syntax.erased Syntax.mut OfOutput.named)) (List._∷_ (18, Rows.any-gone (Syntax.tyStruct (List._∷_ 38 (List._∷_ 91 (List._∷_ 93 List.[]))) (Syntax.tcons (Syntax.tyRef Syntax.erased Syntax.mut OfOutput.named) (Syntax.tcons (Syntax.tyInt Syntax.w64) Syntax.tnil)))) (List._∷_ (19, Rows.any-gone (Syntax.tyRef Syntax.erased Syntax.mut OfOutput.named)) (List._∷_ (20, Rows.any-gone (Syntax.tyStruct (List._∷_ 38 (List._∷_ 91 (List._∷_ 93 List.[]))) (Syntax.tcons (Syntax.tyRef Syntax.erased Syntax.mut OfOutput.named) (Syntax.tcons (Syntax.tyInt Syntax.w64) Syntax.tnil)))) (List._∷_ (21, Rows.any-gone (Syntax.tyRef Syntax.erased Syntax.mut OfStation.named)) (List._∷_ (22, Mut.msleft (OfStation.row) (Syntax.tyRef Syntax.erased Syntax.mut OfStation.named)) (List._∷_ (23, Rows.mleft (Referent.rtF (Referent.fInt Syntax.w64)) (Syntax.tyRef Syntax.erased Syntax.mut (Syntax.tyInt Syntax.w64))) List.[])))))))
-
-abbrev pub t47 : List.List Row.Entry
-t47 = List._∷_ (0, Rows.any-gone (Laws.mir)) (List._∷_ (1, Mut.mslice (OfOutput.row) (Syntax.tyRef (Syntax.named 0) Syntax.mut OfOutput.named) 0) (List._∷_ (2, Mut.mslice (OfStation.row) (Syntax.tyRef (Syntax.named 1) Syntax.mut OfStation.named) 1) (List._∷_ (3, Rows.mref-owed (Referent.rtF (Referent.fInt Syntax.w64)) (Syntax.tyRef (Syntax.named 2) Syntax.mut (Syntax.tyInt Syntax.w64)) 2 7 Row.off) (List._∷_ (4, Rows.sslice (Referent.rtF (Referent.fInt Syntax.w8)) (Syntax.tyRef (Syntax.named 3) Syntax.imm (Syntax.tyInt Syntax.w8)) 3) (List._∷_ (5, Rows.any-gone (Laws''.mir)) (List._∷_ (6, Rows.any-gone (Syntax.tyInt Syntax.w8)) (List._∷_ (7, Rows.any-gone (Laws.mir)) (List._∷_ (8, Rows.any-gone (Syntax.tyInt Syntax.w64)) (List._∷_ (9, Rows.any-gone (Syntax.tyInt Syntax.w64)) (List._∷_ (10, Rows.any-gone (Syntax.tyInt Syntax.w8)) (List._∷_ (11, Rows.any-gone (Syntax.tyInt Syntax.w32)) (List._∷_ (12, Rows.any-gone (Syntax.tyInt Syntax.w64)) (List._∷_ (13, Rows.any-gone (Syntax.tyInt Syntax.w8)) (List._∷_ (14, Rows.any-gone (Laws'.mir)) (List._∷_ (15, Rows.whole (Declared.row Answer.the-type)) List.[])))))))))))))))
-
-abbrev pub t48 : List.List Row.Entry
-t48 = List._∷_ (16, Rows.any-gone Syntax.tyUnit) (List._∷_ (17, Rows.any-gone (Syntax.tyRef Syntax.erased Syntax.mut OfOutput.named)) (List._∷_ (18, Rows.any-gone (Syntax.tyStruct (List._∷_ 38 (List._∷_ 91 (List._∷_ 93 List.[]))) (Syntax.tcons (Syntax.tyRef Syntax.erased Syntax.mut OfOutput.named) (Syntax.tcons (Syntax.tyInt Syntax.w64) Syntax.tnil)))) (List._∷_ (19, Rows.any-gone (Syntax.tyRef Syntax.erased Syntax.mut OfOutput.named)) (List._∷_ (20, Rows.any-gone (Syntax.tyStruct (List._∷_ 38 (List._∷_ 91 (List._∷_ 93 List.[]))) (Syntax.tcons (Syntax.tyRef Syntax.erased Syntax.mut OfOutput.named) (Syntax.tcons (Syntax.tyInt Syntax.w64) Syntax.tnil)))) (List._∷_ (21, Rows.any-gone (Syntax.tyRef Syntax.erased Syntax.mut OfStation.named)) (List._∷_ (22, Rows.any-gone (Syntax.tyStruct (List._∷_ 38 (List._∷_ 91 (List._∷_ 93 List.[]))) (Syntax.tcons (Syntax.tyRef Syntax.erased Syntax.mut OfStation.named) (Syntax.tcons (Syntax.tyInt Syntax.w64) Syntax.tnil)))) (List._∷_ (23, Rows.mleft (Referent.rtF (Referent.fInt Syntax.w64)) (Syntax.tyRef Syntax.erased Syntax.mut (Syntax.tyInt Syntax.w64))) List.[])))))))
-
-abbrev pub t49 : List.List Row.Entry
-t49 = List._∷_ (0, Rows.whole (Declared.row Answer.the-type)) (List._∷_ (1, Mut.mslice (OfOutput.row) (Syntax.tyRef (Syntax.named 0) Syntax.mut OfOutput.named) 0) (List._∷_ (2, Mut.mslice (OfStation.row) (Syntax.tyRef (Syntax.named 1) Syntax.mut OfStation.named) 1) (List._∷_ (3, Rows.mref (Referent.rtF (Referent.fInt Syntax.w64)) (Syntax.tyRef (Syntax.named 2) Syntax.mut (Syntax.tyInt Syntax.w64)) 2) (List._∷_ (4, Rows.sslice (Referent.rtF (Referent.fInt Syntax.w8)) (Syntax.tyRef (Syntax.named 3) Syntax.imm (Syntax.tyInt Syntax.w8)) 3) (List._∷_ (5, Rows.any-gone (Laws''.mir)) (List._∷_ (6, Rows.any-gone (Syntax.tyInt Syntax.w8)) (List._∷_ (7, Rows.any-gone (Laws.mir)) (List._∷_ (8, Rows.any-gone (Syntax.tyInt Syntax.w64)) (List._∷_ (9, Rows.any-gone (Syntax.tyInt Syntax.w64)) (List._∷_ (10, Rows.any-gone (Syntax.tyInt Syntax.w8)) (List._∷_ (11, Rows.any-gone (Syntax.tyInt Syntax.w32)) (List._∷_ (12, Rows.any-gone (Syntax.tyInt Syntax.w64)) (List._∷_ (13, Rows.any-gone (Syntax.tyInt Syntax.w8)) (List._∷_ (14, Rows.any-gone (Laws'.mir)) (List._∷_ (15, Rows.whole (Declared.row Answer.the-type)) List.[])))))))))))))))
+t40 = List._∷_ (0, Rows.whole (Declared.row Answer.the-type)) (List._∷_ (1, Mut.mslice (OfOutput.row) (Syntax.tyRef (Syntax.named 0) Syntax.mut OfOutput.named) 0) (List._∷_ (2, Mut.mslice (OfStation.row) (Syntax.tyRef (Syntax.named 1) Syntax.mut OfStation.named) 1) (List._∷_ (3, Rows.mref (Referent.rtF (Referent.fInt Syntax.w64)) (Syntax.tyRef (Syntax.named 2) Syntax.mut (Syntax.tyInt Syntax.w64)) 2) (List._∷_ (4, Rows.sslice (Referent.rtF (Referent.fInt Syntax.w8)) (Syntax.tyRef (Syntax.named 3) Syntax.imm (Syntax.tyInt Syntax.w8)) 3) (List._∷_ (5, Rows.any-gone (Laws''.mir)) (List._∷_ (6, Rows.any-gone (Syntax.tyInt Syntax.w8)) (List._∷_ (7, Rows.any-gone (Laws.mir)) (List._∷_ (8, Rows.any-gone (Syntax.tyInt Syntax.w64)) (List._∷_ (9, Rows.any-gone (Syntax.tyInt Syntax.w64)) (List._∷_ (10, Rows.any-gone (Laws'.mir)) (List._∷_ (11, Rows.whole (Declared.row Answer.the-type)) (List._∷_ (12, Rows.any-gone Syntax.tyUnit) (List._∷_ (13, Rows.any-gone (Syntax.tyRef Syntax.erased Syntax.mut OfOutput.named)) (List._∷_ (14, Rows.any-gone (Syntax.tyStruct (List._∷_ 38 (List._∷_ 91 (List._∷_ 93 List.[]))) (Syntax.tcons (Syntax.tyRef Syntax.erased Syntax.mut OfOutput.named) (Syntax.tcons (Syntax.tyInt Syntax.w64) Syntax.tnil)))) (List._∷_ (15, Rows.any-gone (Syntax.tyRef Syntax.erased Syntax.mut OfOutput.named)) List.[])))))))))))))))
 
 abbrev pub T0 : Row.Cx
 T0 = record { locals = List._++_ t0 t1; slots = List.[] }
@@ -453,16 +404,16 @@ abbrev pub T21 : Row.Cx
 T21 = record { locals = List._++_ t15 t1; slots = List.[] }
 
 abbrev pub T23 : Row.Cx
-T23 = record { locals = List._++_ t16 t17; slots = List.[] }
+T23 = record { locals = List._++_ t16 t1; slots = List.[] }
 
 abbrev pub T24 : Row.Cx
-T24 = record { locals = List._++_ t16 t18; slots = List.[] }
+T24 = record { locals = List._++_ t17 t1; slots = List.[] }
 
 abbrev pub T25 : Row.Cx
-T25 = record { locals = List._++_ t16 t19; slots = List.[] }
+T25 = record { locals = List._++_ t18 t1; slots = List.[] }
 
 abbrev pub T26 : Row.Cx
-T26 = record { locals = List._++_ t16 t20; slots = List.[] }
+T26 = record { locals = List._++_ t19 t1; slots = List.[] }
 
 abbrev pub T28 : Row.Cx
 T28 = record { locals = List._++_ t15 t1; slots = List.[] }
@@ -471,85 +422,61 @@ abbrev pub T30 : Row.Cx
 T30 = record { locals = List._++_ t15 t1; slots = List.[] }
 
 abbrev pub T31 : Row.Cx
-T31 = record { locals = List._++_ t21 t1; slots = List.[] }
+T31 = record { locals = List._++_ t20 t1; slots = List.[] }
 
 abbrev pub T32 : Row.Cx
-T32 = record { locals = List._++_ t22 t1; slots = List.[] }
+T32 = record { locals = List._++_ t21 t1; slots = List.[] }
 
 abbrev pub T33 : Row.Cx
 T33 = record { locals = List._++_ t3 t1; slots = List.[] }
 
 abbrev pub T34 : Row.Cx
-T34 = record { locals = List._++_ t23 t1; slots = List.[] }
+T34 = record { locals = List._++_ t22 t1; slots = List.[] }
 
 abbrev pub T35 : Row.Cx
-T35 = record { locals = List._++_ t23 t1; slots = List.[] }
+T35 = record { locals = List._++_ t22 t1; slots = List.[] }
 
 abbrev pub T36 : Row.Cx
-T36 = record { locals = List._++_ t24 t1; slots = List.[] }
+T36 = record { locals = List._++_ t23 t1; slots = List.[] }
 
 abbrev pub T37 : Row.Cx
-T37 = record { locals = List._++_ t25 t1; slots = List.[] }
-
-abbrev pub T38 : Row.Cx
-T38 = record { locals = List._++_ t26 t1; slots = List.[] }
+T37 = record { locals = List._++_ t24 t1; slots = List.[] }
 
 abbrev pub T39 : Row.Cx
-T39 = record { locals = List._++_ t27 t1; slots = List.[] }
+T39 = record { locals = List._++_ t25 t1; slots = List.[] }
 
 abbrev pub T40 : Row.Cx
-T40 = record { locals = List._++_ t28 t1; slots = List.[] }
+T40 = record { locals = List._++_ t26 t27; slots = List.[] }
 
-abbrev pub T41 : Row.Cx
-T41 = record { locals = List._++_ t29 t1; slots = List.[] }
+abbrev pub T42 : Row.Cx
+T42 = record { locals = List._++_ t28 t29; slots = List.[] }
 
 abbrev pub T43 : Row.Cx
-T43 = record { locals = List._++_ t30 t31; slots = List.[] }
+T43 = record { locals = List._++_ t28 t30; slots = List.[] }
 
-abbrev pub T44 : Row.Cx
-T44 = record { locals = List._++_ t30 t32; slots = List.[] }
+abbrev pub T45 : Row.Cx
+T45 = record { locals = List._++_ t31 t32; slots = List.[] }
 
 abbrev pub T46 : Row.Cx
 T46 = record { locals = List._++_ t33 t34; slots = List.[] }
 
 abbrev pub T47 : Row.Cx
-T47 = record { locals = List._++_ t33 t35; slots = List.[] }
+T47 = record { locals = List._++_ t35 t34; slots = List.[] }
 
 abbrev pub T49 : Row.Cx
 T49 = record { locals = List._++_ t36 t37; slots = List.[] }
 
-abbrev pub T50 : Row.Cx
-T50 = record { locals = List._++_ t38 t39; slots = List.[] }
-
-abbrev pub T51 : Row.Cx
-T51 = record { locals = List._++_ t40 t39; slots = List.[] }
-
 abbrev pub T52 : Row.Cx
-T52 = record { locals = List._++_ t41 t39; slots = List.[] }
-
-abbrev pub T53 : Row.Cx
-T53 = record { locals = List._++_ t42 t39; slots = List.[] }
-
-abbrev pub T54 : Row.Cx
-T54 = record { locals = List._++_ t43 t39; slots = List.[] }
+T52 = record { locals = List._++_ t38 t39; slots = List.[] }
 
 abbrev pub T55 : Row.Cx
-T55 = record { locals = List._++_ t44 t39; slots = List.[] }
+T55 = record { locals = List._++_ t3 t1; slots = List.[] }
 
 abbrev pub T57 : Row.Cx
-T57 = record { locals = List._++_ t45 t46; slots = List.[] }
+T57 = record { locals = List._++_ t40 t1; slots = List.[] }
 
-abbrev pub T60 : Row.Cx
-T60 = record { locals = List._++_ t47 t48; slots = List.[] }
-
-abbrev pub T63 : Row.Cx
-T63 = record { locals = List._++_ t3 t1; slots = List.[] }
-
-abbrev pub T65 : Row.Cx
-T65 = record { locals = List._++_ t49 t1; slots = List.[] }
-
-abbrev pub T66 : Row.Cx
-T66 = record { locals = List._++_ t2 t1; slots = List.[] }
+abbrev pub T58 : Row.Cx
+T58 = record { locals = List._++_ t2 t1; slots = List.[] }
 
 abbrev pub O0 : Typed.Outs
 O0 = record { next = Option.none; exits = List.[]; returns = Option.some T1 }
@@ -574,7 +501,7 @@ module _ (claims· : Claims) where
   s4 = Scalar.n-room T6 5 (Laws''.mir)
 
   abbrev s5 : Typed.Mo T7 → Typed.Mo T8
-  s5 = Make.n-enum-make Answer.the-type T7 15 λ m. Answer.enum .make (Logic.inr (Logic.inr (Logic.inr (Logic.inl (m .1 .1 .1 .1 .1 .1 .0, tt)))))
+  s5 = Make.n-enum-make Answer.the-type T7 11 λ m. Answer.enum .make (Logic.inr (Logic.inr (Logic.inr (Logic.inl (m .1 .1 .1 .1 .1 .1 .0, tt)))))
 
   abbrev s6 : Typed.Mo T8 → Typed.Mo T9
   s6 = Scalar.n-room T8 6 (Syntax.tyInt Syntax.w8)
@@ -592,7 +519,7 @@ module _ (claims· : Claims) where
   s10 = Scalar.n-room T12 5 (Laws''.mir)
 
   abbrev s11 : Typed.Mo T13 → Typed.Mo T14
-  s11 = LocalCopy.n-val-copy T13 7 15 (Declared.row Answer.the-type) (Rows.whole (Declared.row Answer.the-type)) (Rows.whole (Declared.row Answer.the-type)) (λ x. x) (λ x. x) λ x. x
+  s11 = LocalCopy.n-val-copy T13 7 11 (Declared.row Answer.the-type) (Rows.whole (Declared.row Answer.the-type)) (Rows.whole (Declared.row Answer.the-type)) (λ x. x) (λ x. x) λ x. x
 
   abbrev s12 : Typed.Mo T14 → Typed.Mo T15
   s12 = Scalar.n-room T14 7 (Laws.mir)
@@ -616,25 +543,25 @@ module _ (claims· : Claims) where
   s18 = Know.k-row-known T20 9
 
   abbrev s20 : Typed.Gives T21 T23
-  s20 = Relend.k-sl-relend (OfOutput.row) T21 1 17 0 4 (Syntax.tyRef (Syntax.named 0) Syntax.mut OfOutput.named) (Syntax.tyRef Syntax.erased Syntax.mut OfOutput.named) Row.off λ x. x
+  s20 = Relend.k-sl-relend (OfOutput.row) T21 1 13 0 4 (Syntax.tyRef (Syntax.named 0) Syntax.mut OfOutput.named) (Syntax.tyRef Syntax.erased Syntax.mut OfOutput.named) Row.off λ x. x
 
   abbrev s21 : Typed.Asks T23 T24
-  s21 = Relend.k-sl-aggregate (OfOutput.row) (Relend.asMut (OfOutput.row)) T23 17 18 4 (Syntax.tyRef Syntax.erased Syntax.mut OfOutput.named) (Syntax.tyRef Syntax.erased Syntax.mut OfOutput.named) (λ x. x) (Scalar.oFld 1 (List._∷_ (Syntax.field 1) List.[]) (Syntax.tyInt Syntax.w64) 8 λ v. Shared.lenV (v .0))
+  s21 = Relend.k-sl-aggregate (OfOutput.row) (Relend.asMut (OfOutput.row)) T23 13 14 4 (Syntax.tyRef Syntax.erased Syntax.mut OfOutput.named) (Syntax.tyRef Syntax.erased Syntax.mut OfOutput.named) (λ x. x) (Scalar.oFld 1 (List._∷_ (Syntax.field 1) List.[]) (Syntax.tyInt Syntax.w64) 8 λ v. Shared.lenV (v .0))
 
   abbrev s22 : Typed.Both T24 T25
-  s22 = Call.callB ps·0 r·0 (claims· .0) (claims· .1) T24 (record { pos = 18; ty = Syntax.tyRef Syntax.erased Syntax.mut OfOutput.named; ref = λ x. x }, (Num.vAt 9 λ x. x, (Num.vAt 8 λ x. x, tt))) 16 (List._∷_ 4 List.[]) Syntax.tyUnit
+  s22 = Call'.callB ps·0 r·0 (claims· .0) (claims· .1) T24 (record { pos = 14; ty = Syntax.tyRef Syntax.erased Syntax.mut OfOutput.named; ref = λ x. x }, (Num.vAt 9 λ x. x, (Num.vAt 8 λ x. x, tt))) 12 (List._∷_ 4 List.[]) Syntax.tyUnit
 
   abbrev s23 : Typed.Mo T25 → Typed.Mo T26
-  s23 = Scalar.n-room T25 16 Syntax.tyUnit
+  s23 = Scalar.n-room T25 12 Syntax.tyUnit
 
   abbrev s25 : Typed.Both T26 T28
-  s25 = Relend.k-back-sl (OfOutput.row) T26 18 1 0 4 (Syntax.tyRef (Syntax.named 0) Syntax.mut OfOutput.named) (Syntax.tyRef Syntax.erased Syntax.mut OfOutput.named) Row.off (λ x. x) λ x. x
+  s25 = Relend.k-back-sl (OfOutput.row) T26 14 1 0 4 (Syntax.tyRef (Syntax.named 0) Syntax.mut OfOutput.named) (Syntax.tyRef Syntax.erased Syntax.mut OfOutput.named) Row.off (λ x. x) λ x. x
 
   abbrev s27 : Typed.Mo T28 → Typed.Mo T30
   s27 = Deref.n-ref-write T28 3 2 (Referent.fInt Syntax.w64) (Syntax.tyRef (Syntax.named 2) Syntax.mut (Syntax.tyInt Syntax.w64)) Row.off (λ x. x) (Scalar.oAt 8 (Syntax.tyInt Syntax.w64) (Row.valS (Row.sInt Syntax.w64)))
 
   abbrev s28 : Typed.Mo T30 → Typed.Mo T31
-  s28 = Make.n-enum-make Answer.the-type T30 15 λ m. Answer.enum .make (Logic.inl tt)
+  s28 = Make.n-enum-make Answer.the-type T30 11 λ m. Answer.enum .make (Logic.inl tt)
 
   abbrev s29 : Typed.Mo T31 → Typed.Mo T32
   s29 = Scalar.n-room T31 8 (Syntax.tyInt Syntax.w64)
@@ -649,70 +576,46 @@ module _ (claims· : Claims) where
   s32 = Known.k-known-told Verdict.enum Laws''.the-laws 3 T34 5 λ x. x
 
   abbrev s33 : Typed.Mo T35 → Typed.Mo T36
-  s33 = Scalar.n-use T35 (Scalar.oFld 5 (List._∷_ (Syntax.variant 3) (List._∷_ (Syntax.field 1) List.[])) (Syntax.tyInt Syntax.w8) 1 λ v. Laws''.the-laws .1 .1 .1 .0 .0 .val (v .0)) 10 (Rows.sc-here (Row.sInt Syntax.w8)) (Row.sInt Syntax.w8 .of)
+  s33 = Make'.n-make (Declared'.row Call.the-type) T35 10 λ m. m .1 .1 .1 .1 .1 .0 .0
 
   abbrev s34 : Typed.Mo T36 → Typed.Mo T37
-  s34 = Scalar.n-use T36 (Scalar.oFld 5 (List._∷_ (Syntax.variant 3) (List._∷_ (Syntax.field 2) List.[])) (Syntax.tyInt Syntax.w32) 4 λ v. Laws''.the-laws .1 .1 .1 .0 .1 .0 .val (v .1 .0)) 11 (Rows.sc-here (Row.sInt Syntax.w32)) (Row.sInt Syntax.w32 .of)
+  s34 = Scalar.n-room T36 5 (Laws''.mir)
 
-  abbrev s35 : Typed.Mo T37 → Typed.Mo T38
-  s35 = Scalar.n-use T37 (Scalar.oFld 5 (List._∷_ (Syntax.variant 3) (List._∷_ (Syntax.field 3) List.[])) (Syntax.tyInt Syntax.w64) 8 λ v. Laws''.the-laws .1 .1 .1 .0 .1 .1 .0 .val (v .1 .1 .0)) 12 (Rows.sc-here (Row.sInt Syntax.w64)) (Row.sInt Syntax.w64 .of)
+  abbrev s36 : Typed.Gives T37 T39
+  s36 = Relend.k-sl-relend (OfOutput.row) T37 1 15 0 5 (Syntax.tyRef (Syntax.named 0) Syntax.mut OfOutput.named) (Syntax.tyRef Syntax.erased Syntax.mut OfOutput.named) Row.off λ x. x
 
-  abbrev s36 : Typed.Mo T38 → Typed.Mo T39
-  s36 = Scalar.n-use T38 (Scalar.oFld 5 (List._∷_ (Syntax.variant 3) (List._∷_ (Syntax.field 4) List.[])) (Syntax.tyInt Syntax.w8) 16 λ v. Laws''.the-laws .1 .1 .1 .0 .1 .1 .1 .0 .val (v .1 .1 .1 .0)) 13 (Rows.sc-here (Row.sInt Syntax.w8)) (Row.sInt Syntax.w8 .of)
+  abbrev s37 : Typed.Asks T39 T40
+  s37 = Relend.k-sl-aggregate (OfOutput.row) (Relend.asMut (OfOutput.row)) T39 15 16 5 (Syntax.tyRef Syntax.erased Syntax.mut OfOutput.named) (Syntax.tyRef Syntax.erased Syntax.mut OfOutput.named) (λ x. x) (Scalar.oFld 1 (List._∷_ (Syntax.field 1) List.[]) (Syntax.tyInt Syntax.w64) 8 λ v. Shared.lenV (v .0))
 
-  abbrev s37 : Typed.Mo T39 → Typed.Mo T40
-  s37 = Make'.n-make (Declared.row Request.the-type) T39 14 λ m. m .1 .1 .1 .1 .1 .0 .1 .1 .1 .1 .0
+  abbrev s39 : Typed.Gives T40 T42
+  s39 = Relend.k-sl-relend (OfStation.row) T40 2 17 1 6 (Syntax.tyRef (Syntax.named 1) Syntax.mut OfStation.named) (Syntax.tyRef Syntax.erased Syntax.mut OfStation.named) Row.off λ x. x
 
-  abbrev s38 : Typed.Mo T40 → Typed.Mo T41
-  s38 = Scalar.n-room T40 5 (Laws''.mir)
+  abbrev s40 : Typed.Asks T42 T43
+  s40 = Relend.k-sl-aggregate (OfStation.row) (Relend.asMut (OfStation.row)) T42 17 18 6 (Syntax.tyRef Syntax.erased Syntax.mut OfStation.named) (Syntax.tyRef Syntax.erased Syntax.mut OfStation.named) (λ x. x) (Scalar.oFld 2 (List._∷_ (Syntax.field 1) List.[]) (Syntax.tyInt Syntax.w64) 8 λ v. Shared.lenV (v .0))
 
-  abbrev s40 : Typed.Gives T41 T43
-  s40 = Relend.k-sl-relend (OfOutput.row) T41 1 19 0 5 (Syntax.tyRef (Syntax.named 0) Syntax.mut OfOutput.named) (Syntax.tyRef Syntax.erased Syntax.mut OfOutput.named) Row.off λ x. x
+  abbrev s42 : Typed.Gives T43 T45
+  s42 = Reborrow.k-mref-relend T43 3 19 2 7 (Referent.rtF (Referent.fInt Syntax.w64)) (Syntax.tyRef (Syntax.named 2) Syntax.mut (Syntax.tyInt Syntax.w64)) (Syntax.tyRef Syntax.erased Syntax.mut (Syntax.tyInt Syntax.w64)) Row.off List.[] λ x. x
 
-  abbrev s41 : Typed.Asks T43 T44
-  s41 = Relend.k-sl-aggregate (OfOutput.row) (Relend.asMut (OfOutput.row)) T43 19 20 5 (Syntax.tyRef Syntax.erased Syntax.mut OfOutput.named) (Syntax.tyRef Syntax.erased Syntax.mut OfOutput.named) (λ x. x) (Scalar.oFld 1 (List._∷_ (Syntax.field 1) List.[]) (Syntax.tyInt Syntax.w64) 8 λ v. Shared.lenV (v .0))
+  abbrev s43 : Typed.Both T45 T46
+  s43 = Call'.callB ps·1 r·1 (claims· .2) (claims· .3) T45 (record { pos = 16; ty = Syntax.tyRef Syntax.erased Syntax.mut OfOutput.named; ref = λ x. x }, (record { pos = 18; ty = Syntax.tyRef Syntax.erased Syntax.mut OfStation.named; ref = λ x. x }, (record { pos = 19; ty = Syntax.tyRef Syntax.erased Syntax.mut (Syntax.tyInt Syntax.w64); ref = λ x. x }, (record { pos = 4; ty = Syntax.tyRef (Syntax.named 3) Syntax.imm (Syntax.tyInt Syntax.w8); ref = λ x. x }, (record { pos = 10; st = List.[]; d = 0; at = λ x. x }, tt))))) 11 (List._∷_ 5 (List._∷_ 6 (List._∷_ 7 (List._∷_ 3 List.[])))) (Laws.mir)
 
-  abbrev s43 : Typed.Gives T44 T46
-  s43 = Relend.k-sl-relend (OfStation.row) T44 2 21 1 6 (Syntax.tyRef (Syntax.named 1) Syntax.mut OfStation.named) (Syntax.tyRef Syntax.erased Syntax.mut OfStation.named) Row.off λ x. x
+  abbrev s44 : Typed.Mo T46 → Typed.Mo T47
+  s44 = Scalar.n-room T46 10 (Laws'.mir)
 
-  abbrev s44 : Typed.Asks T46 T47
-  s44 = Relend.k-sl-aggregate (OfStation.row) (Relend.asMut (OfStation.row)) T46 21 22 6 (Syntax.tyRef Syntax.erased Syntax.mut OfStation.named) (Syntax.tyRef Syntax.erased Syntax.mut OfStation.named) (λ x. x) (Scalar.oFld 2 (List._∷_ (Syntax.field 1) List.[]) (Syntax.tyInt Syntax.w64) 8 λ v. Shared.lenV (v .0))
+  abbrev s46 : Typed.Both T47 T49
+  s46 = Relend.k-back-sl (OfOutput.row) T47 16 1 0 5 (Syntax.tyRef (Syntax.named 0) Syntax.mut OfOutput.named) (Syntax.tyRef Syntax.erased Syntax.mut OfOutput.named) Row.off (λ x. x) λ x. x
 
-  abbrev s46 : Typed.Gives T47 T49
-  s46 = Reborrow.k-mref-relend T47 3 23 2 7 (Referent.rtF (Referent.fInt Syntax.w64)) (Syntax.tyRef (Syntax.named 2) Syntax.mut (Syntax.tyInt Syntax.w64)) (Syntax.tyRef Syntax.erased Syntax.mut (Syntax.tyInt Syntax.w64)) Row.off List.[] λ x. x
+  abbrev s49 : Typed.Both T49 T52
+  s49 = Relend.k-back-sl (OfStation.row) T49 18 2 1 6 (Syntax.tyRef (Syntax.named 1) Syntax.mut OfStation.named) (Syntax.tyRef Syntax.erased Syntax.mut OfStation.named) Row.off (λ x. x) λ x. x
 
-  abbrev s47 : Typed.Both T49 T50
-  s47 = Call.callB ps·1 r·1 (claims· .2) (claims· .3) T49 (record { pos = 20; ty = Syntax.tyRef Syntax.erased Syntax.mut OfOutput.named; ref = λ x. x }, (record { pos = 22; ty = Syntax.tyRef Syntax.erased Syntax.mut OfStation.named; ref = λ x. x }, (record { pos = 23; ty = Syntax.tyRef Syntax.erased Syntax.mut (Syntax.tyInt Syntax.w64); ref = λ x. x }, (record { pos = 4; ty = Syntax.tyRef (Syntax.named 3) Syntax.imm (Syntax.tyInt Syntax.w8); ref = λ x. x }, (Num.vAt 10 λ x. x, (Num.vAt 11 λ x. x, (Num.vAt 12 λ x. x, (Num.vAt 13 λ x. x, (record { pos = 14; st = List.[]; d = 0; at = λ x. x }, tt))))))))) 15 (List._∷_ 5 (List._∷_ 6 (List._∷_ 7 (List._∷_ 3 List.[])))) (Laws.mir)
+  abbrev s52 : Typed.Asks T52 T55
+  s52 = Reborrow.k-back-mref T52 19 3 2 (Referent.rtF (Referent.fInt Syntax.w64)) (Syntax.tyRef (Syntax.named 2) Syntax.mut (Syntax.tyInt Syntax.w64)) (Syntax.tyRef Syntax.erased Syntax.mut (Syntax.tyInt Syntax.w64)) List.[] (λ x. x) λ x. x
 
-  abbrev s48 : Typed.Mo T50 → Typed.Mo T51
-  s48 = Scalar.n-room T50 10 (Syntax.tyInt Syntax.w8)
+  abbrev s54 : Typed.Mo T2 → Typed.Mo T57
+  s54 = LocalCopy.n-val-copy T2 11 0 (Declared.row Answer.the-type) (Rows.whole (Declared.row Answer.the-type)) (Rows.whole (Declared.row Answer.the-type)) (λ x. x) (λ x. x) λ x. x
 
-  abbrev s49 : Typed.Mo T51 → Typed.Mo T52
-  s49 = Scalar.n-room T51 11 (Syntax.tyInt Syntax.w32)
-
-  abbrev s50 : Typed.Mo T52 → Typed.Mo T53
-  s50 = Scalar.n-room T52 12 (Syntax.tyInt Syntax.w64)
-
-  abbrev s51 : Typed.Mo T53 → Typed.Mo T54
-  s51 = Scalar.n-room T53 13 (Syntax.tyInt Syntax.w8)
-
-  abbrev s52 : Typed.Mo T54 → Typed.Mo T55
-  s52 = Scalar.n-room T54 14 (Laws'.mir)
-
-  abbrev s54 : Typed.Both T55 T57
-  s54 = Relend.k-back-sl (OfOutput.row) T55 20 1 0 5 (Syntax.tyRef (Syntax.named 0) Syntax.mut OfOutput.named) (Syntax.tyRef Syntax.erased Syntax.mut OfOutput.named) Row.off (λ x. x) λ x. x
-
-  abbrev s57 : Typed.Both T57 T60
-  s57 = Relend.k-back-sl (OfStation.row) T57 22 2 1 6 (Syntax.tyRef (Syntax.named 1) Syntax.mut OfStation.named) (Syntax.tyRef Syntax.erased Syntax.mut OfStation.named) Row.off (λ x. x) λ x. x
-
-  abbrev s60 : Typed.Asks T60 T63
-  s60 = Reborrow.k-back-mref T60 23 3 2 (Referent.rtF (Referent.fInt Syntax.w64)) (Syntax.tyRef (Syntax.named 2) Syntax.mut (Syntax.tyInt Syntax.w64)) (Syntax.tyRef Syntax.erased Syntax.mut (Syntax.tyInt Syntax.w64)) List.[] (λ x. x) λ x. x
-
-  abbrev s62 : Typed.Mo T2 → Typed.Mo T65
-  s62 = LocalCopy.n-val-copy T2 15 0 (Declared.row Answer.the-type) (Rows.whole (Declared.row Answer.the-type)) (Rows.whole (Declared.row Answer.the-type)) (λ x. x) (λ x. x) λ x. x
-
-  abbrev s63 : Typed.Mo T65 → Typed.Mo T66
-  s63 = Scalar.n-room T65 15 (Laws.mir)
+  abbrev s55 : Typed.Mo T57 → Typed.Mo T58
+  s55 = Scalar.n-room T57 11 (Laws.mir)
 
   module _ (Pre· : (κs : Lifetimes.Lfts 4) → Kinds.Dens κs ps → Type 0)
       (Post· : (κs : Lifetimes.Lfts 4) → (a : Kinds.Dens κs ps) → Kinds.Plain 4 ps r κs) where
@@ -799,77 +702,65 @@ module _ (claims· : Claims) where
       abbrev at25 : Typed.TF T3 O1
       at25 = λ Ψ. Typed.both s13 (at24 Ψ)
 
-      abbrev at26 : Typed.TF T49 O1
-      at26 = λ Ψ. Typed.both s47 (Typed.pass T50 T51 s48 (Typed.pass T51 T52 s49 (Typed.pass T52 T53 s50 (Typed.pass T53 T54 s51 (Typed.pass T54 T55 s52 (Typed.both s54 (Typed.both s57 (Typed.ask s60 (Typed.atNext O1 Ψ)))))))))
+      abbrev at26 : Typed.TF T45 O1
+      at26 = λ Ψ. Typed.both s43 (Typed.pass T46 T47 s44 (Typed.both s46 (Typed.both s49 (Typed.ask s52 (Typed.atNext O1 Ψ)))))
 
-      abbrev at27 : Typed.TF T47 O1
-      at27 = λ Ψ. Typed.give s46 (at26 Ψ)
+      abbrev at27 : Typed.TF T43 O1
+      at27 = λ Ψ. Typed.give s42 (at26 Ψ)
 
-      abbrev at28 : Typed.TF T47 O1
+      abbrev at28 : Typed.TF T43 O1
       at28 = λ Ψ. at27 Ψ
 
-      abbrev at29 : Typed.TF T46 O1
-      at29 = λ Ψ. Typed.ask s44 (at28 Ψ)
+      abbrev at29 : Typed.TF T42 O1
+      at29 = λ Ψ. Typed.ask s40 (at28 Ψ)
 
-      abbrev at30 : Typed.TF T44 O1
-      at30 = λ Ψ. Typed.give s43 (at29 Ψ)
+      abbrev at30 : Typed.TF T40 O1
+      at30 = λ Ψ. Typed.give s39 (at29 Ψ)
 
-      abbrev at31 : Typed.TF T44 O1
+      abbrev at31 : Typed.TF T40 O1
       at31 = λ Ψ. at30 Ψ
 
-      abbrev at32 : Typed.TF T43 O1
-      at32 = λ Ψ. Typed.ask s41 (at31 Ψ)
+      abbrev at32 : Typed.TF T39 O1
+      at32 = λ Ψ. Typed.ask s37 (at31 Ψ)
 
-      abbrev at33 : Typed.TF T41 O1
-      at33 = λ Ψ. Typed.give s40 (at32 Ψ)
+      abbrev at33 : Typed.TF T37 O1
+      at33 = λ Ψ. Typed.give s36 (at32 Ψ)
 
-      abbrev at34 : Typed.TF T41 O1
+      abbrev at34 : Typed.TF T37 O1
       at34 = λ Ψ. at33 Ψ
 
-      abbrev at35 : Typed.TF T40 O1
-      at35 = λ Ψ. Typed.pass T40 T41 s38 (at34 Ψ)
+      abbrev at35 : Typed.TF T36 O1
+      at35 = λ Ψ. Typed.pass T36 T37 s34 (at34 Ψ)
 
-      abbrev at36 : Typed.TF T39 O1
-      at36 = λ Ψ. Typed.pass T39 T40 s37 (at35 Ψ)
+      abbrev at36 : Typed.TF T35 O1
+      at36 = λ Ψ. Typed.pass T35 T36 s33 (at35 Ψ)
 
-      abbrev at37 : Typed.TF T38 O1
-      at37 = λ Ψ. Typed.pass T38 T39 s36 (at36 Ψ)
+      abbrev at37 : Typed.TF T34 O1
+      at37 = λ Ψ. Typed.give s32 (at36 Ψ)
 
-      abbrev at38 : Typed.TF T37 O1
-      at38 = λ Ψ. Typed.pass T37 T38 s35 (at37 Ψ)
+      abbrev at38 : Typed.TF T3 O1
+      at38 = λ Ψ. Typed.both s31 (at37 Ψ)
 
-      abbrev at39 : Typed.TF T36 O1
-      at39 = λ Ψ. Typed.pass T36 T37 s34 (at38 Ψ)
+      abbrev at39 : Typed.TF T3 O1
+      at39 = Switch.Φswitch T3 O1 5 (λ x. Declared.tagOf Verdict.the-type x) (Syntax.arm (List._∷_ 0 List.[]) b2 (Syntax.arm (List._∷_ 1 List.[]) b5 (Syntax.arm (List._∷_ 2 List.[]) b18 (Syntax.arm (List._∷_ 3 List.[]) b31 Syntax.noDefault)))) (at4, (at9, (at25, (at38, tt))))
 
-      abbrev at40 : Typed.TF T35 O1
-      at40 = λ Ψ. Typed.pass T35 T36 s33 (at39 Ψ)
+      abbrev at40 : Typed.TF T0 O1
+      at40 = λ Ψ. Typed.give s0 (at39 Ψ)
 
-      abbrev at41 : Typed.TF T34 O1
-      at41 = λ Ψ. Typed.give s32 (at40 Ψ)
+      abbrev at41 : Typed.TF T58 O0
+      at41 = Typed.atRet O0
 
-      abbrev at42 : Typed.TF T3 O1
-      at42 = λ Ψ. Typed.both s31 (at41 Ψ)
+      abbrev at42 : Typed.TF T57 O0
+      at42 = λ Ψ. Typed.pass T57 T58 s55 (at41 Ψ)
 
-      abbrev at43 : Typed.TF T3 O1
-      at43 = Switch.Φswitch T3 O1 5 (λ x. Declared.tagOf Verdict.the-type x) (Syntax.arm (List._∷_ 0 List.[]) b2 (Syntax.arm (List._∷_ 1 List.[]) b5 (Syntax.arm (List._∷_ 2 List.[]) b18 (Syntax.arm (List._∷_ 3 List.[]) b39 Syntax.noDefault)))) (at4, (at9, (at25, (at42, tt))))
+      abbrev at43 : Typed.TF T2 O0
+      at43 = λ Ψ. Typed.pass T2 T57 s54 (at42 Ψ)
 
-      abbrev at44 : Typed.TF T0 O1
-      at44 = λ Ψ. Typed.give s0 (at43 Ψ)
-
-      abbrev at45 : Typed.TF T66 O0
-      at45 = Typed.atRet O0
-
-      abbrev at46 : Typed.TF T65 O0
-      at46 = λ Ψ. Typed.pass T65 T66 s63 (at45 Ψ)
-
-      abbrev at47 : Typed.TF T2 O0
-      at47 = λ Ψ. Typed.pass T2 T65 s62 (at46 Ψ)
-
-      abbrev at48 : Typed.TF T0 O0
-      at48 = λ Ψ. at44 (Typed.wantNext T2 O0 (at47 Ψ) Ψ)
+      abbrev at44 : Typed.TF T0 O0
+      at44 = λ Ψ. at40 (Typed.wantNext T2 O0 (at43 Ψ) Ψ)
 
       abbrev pub Φ : Typed.TF T0 O0
-      Φ = at48
+      Φ = at44
 
       module _ {M : Type 1} (𝓤 : URA.URA M) (H : Wp.Heap 𝓤) (A : Atoms.Atoms 𝓤)
           (W : Kit.Given 𝓤 H A) (𝓣 : Wp.Tables 𝓤 H) where
@@ -878,40 +769,40 @@ module _ (claims· : Claims) where
 
       module _ (κs : Lifetimes.Lfts 4) (qs : Lifetimes.Shares 4) where
         abbrev g16 : List.List Row.Entry
-        g16 = List._∷_ (0, Rows.any-gone (Laws.mir)) (List._∷_ (1, Relend.mslice-owed (OfOutput.row) (Syntax.tyRef (Syntax.named 0) Syntax.mut OfOutput.named) 0 4 (Row.lease (κs .0) (qs .0))) (List._∷_ (2, Mut.mslice (OfStation.row) (Syntax.tyRef (Syntax.named 1) Syntax.mut OfStation.named) 1) (List._∷_ (3, Rows.mref (Referent.rtF (Referent.fInt Syntax.w64)) (Syntax.tyRef (Syntax.named 2) Syntax.mut (Syntax.tyInt Syntax.w64)) 2) (List._∷_ (4, Rows.sslice (Referent.rtF (Referent.fInt Syntax.w8)) (Syntax.tyRef (Syntax.named 3) Syntax.imm (Syntax.tyInt Syntax.w8)) 3) (List._∷_ (5, Rows.any-gone (Laws''.mir)) (List._∷_ (6, Rows.any-gone (Syntax.tyInt Syntax.w8)) (List._∷_ (7, Rows.any-gone (Laws.mir)) (List._∷_ (8, Rows.sc-here (Row.sInt Syntax.w64)) (List._∷_ (9, Rows.sc-here (Row.sInt Syntax.w64)) (List._∷_ (10, Rows.any-gone (Syntax.tyInt Syntax.w8)) (List._∷_ (11, Rows.any-gone (Syntax.tyInt Syntax.w32)) (List._∷_ (12, Rows.any-gone (Syntax.tyInt Syntax.w64)) (List._∷_ (13, Rows.any-gone (Syntax.tyInt Syntax.w8)) (List._∷_ (14, Rows.any-gone (Laws'.mir)) (List._∷_ (15, Rows.any-gone (Laws.mir)) List.[])))))))))))))))
+        g16 = List._∷_ (0, Rows.any-gone (Laws.mir)) (List._∷_ (1, Relend.mslice-owed (OfOutput.row) (Syntax.tyRef (Syntax.named 0) Syntax.mut OfOutput.named) 0 4 (Row.lease (κs .0) (qs .0))) (List._∷_ (2, Mut.mslice (OfStation.row) (Syntax.tyRef (Syntax.named 1) Syntax.mut OfStation.named) 1) (List._∷_ (3, Rows.mref (Referent.rtF (Referent.fInt Syntax.w64)) (Syntax.tyRef (Syntax.named 2) Syntax.mut (Syntax.tyInt Syntax.w64)) 2) (List._∷_ (4, Rows.sslice (Referent.rtF (Referent.fInt Syntax.w8)) (Syntax.tyRef (Syntax.named 3) Syntax.imm (Syntax.tyInt Syntax.w8)) 3) (List._∷_ (5, Rows.any-gone (Laws''.mir)) (List._∷_ (6, Rows.any-gone (Syntax.tyInt Syntax.w8)) (List._∷_ (7, Rows.any-gone (Laws.mir)) (List._∷_ (8, Rows.sc-here (Row.sInt Syntax.w64)) (List._∷_ (9, Rows.sc-here (Row.sInt Syntax.w64)) (List._∷_ (10, Rows.any-gone (Laws'.mir)) (List._∷_ (11, Rows.any-gone (Laws.mir)) (List._∷_ (12, Rows.any-gone Syntax.tyUnit) (List._∷_ (13, Relend.msptr (OfOutput.row) (Syntax.tyRef Syntax.erased Syntax.mut OfOutput.named) 4) (List._∷_ (14, Rows.any-gone (Syntax.tyStruct (List._∷_ 38 (List._∷_ 91 (List._∷_ 93 List.[]))) (Syntax.tcons (Syntax.tyRef Syntax.erased Syntax.mut OfOutput.named) (Syntax.tcons (Syntax.tyInt Syntax.w64) Syntax.tnil)))) (List._∷_ (15, Rows.any-gone (Syntax.tyRef Syntax.erased Syntax.mut OfOutput.named)) List.[])))))))))))))))
 
-        abbrev g30 : List.List Row.Entry
-        g30 = List._∷_ (0, Rows.any-gone (Laws.mir)) (List._∷_ (1, Relend.mslice-owed (OfOutput.row) (Syntax.tyRef (Syntax.named 0) Syntax.mut OfOutput.named) 0 5 (Row.lease (κs .0) (qs .0))) (List._∷_ (2, Mut.mslice (OfStation.row) (Syntax.tyRef (Syntax.named 1) Syntax.mut OfStation.named) 1) (List._∷_ (3, Rows.mref (Referent.rtF (Referent.fInt Syntax.w64)) (Syntax.tyRef (Syntax.named 2) Syntax.mut (Syntax.tyInt Syntax.w64)) 2) (List._∷_ (4, Rows.sslice (Referent.rtF (Referent.fInt Syntax.w8)) (Syntax.tyRef (Syntax.named 3) Syntax.imm (Syntax.tyInt Syntax.w8)) 3) (List._∷_ (5, Rows.any-gone (Laws''.mir)) (List._∷_ (6, Rows.any-gone (Syntax.tyInt Syntax.w8)) (List._∷_ (7, Rows.any-gone (Laws.mir)) (List._∷_ (8, Rows.any-gone (Syntax.tyInt Syntax.w64)) (List._∷_ (9, Rows.any-gone (Syntax.tyInt Syntax.w64)) (List._∷_ (10, Rows.sc-here (Row.sInt Syntax.w8)) (List._∷_ (11, Rows.sc-here (Row.sInt Syntax.w32)) (List._∷_ (12, Rows.sc-here (Row.sInt Syntax.w64)) (List._∷_ (13, Rows.sc-here (Row.sInt Syntax.w8)) (List._∷_ (14, Rows.whole (Declared.row Request.the-type)) (List._∷_ (15, Rows.any-gone (Laws.mir)) List.[])))))))))))))))
+        abbrev g17 : List.List Row.Entry
+        g17 = List._∷_ (0, Rows.any-gone (Laws.mir)) (List._∷_ (1, Relend.mslice-owed (OfOutput.row) (Syntax.tyRef (Syntax.named 0) Syntax.mut OfOutput.named) 0 4 (Row.lease (κs .0) (qs .0))) (List._∷_ (2, Mut.mslice (OfStation.row) (Syntax.tyRef (Syntax.named 1) Syntax.mut OfStation.named) 1) (List._∷_ (3, Rows.mref (Referent.rtF (Referent.fInt Syntax.w64)) (Syntax.tyRef (Syntax.named 2) Syntax.mut (Syntax.tyInt Syntax.w64)) 2) (List._∷_ (4, Rows.sslice (Referent.rtF (Referent.fInt Syntax.w8)) (Syntax.tyRef (Syntax.named 3) Syntax.imm (Syntax.tyInt Syntax.w8)) 3) (List._∷_ (5, Rows.any-gone (Laws''.mir)) (List._∷_ (6, Rows.any-gone (Syntax.tyInt Syntax.w8)) (List._∷_ (7, Rows.any-gone (Laws.mir)) (List._∷_ (8, Rows.sc-here (Row.sInt Syntax.w64)) (List._∷_ (9, Rows.sc-here (Row.sInt Syntax.w64)) (List._∷_ (10, Rows.any-gone (Laws'.mir)) (List._∷_ (11, Rows.any-gone (Laws.mir)) (List._∷_ (12, Rows.any-gone Syntax.tyUnit) (List._∷_ (13, Rows.any-gone (Syntax.tyRef Syntax.erased Syntax.mut OfOutput.named)) (List._∷_ (14, Mut.mslice (OfOutput.row) (Syntax.tyRef Syntax.erased Syntax.mut OfOutput.named) 4) (List._∷_ (15, Rows.any-gone (Syntax.tyRef Syntax.erased Syntax.mut OfOutput.named)) List.[])))))))))))))))
+
+        abbrev g18 : List.List Row.Entry
+        g18 = List._∷_ (0, Rows.any-gone (Laws.mir)) (List._∷_ (1, Relend.mslice-owed (OfOutput.row) (Syntax.tyRef (Syntax.named 0) Syntax.mut OfOutput.named) 0 4 (Row.lease (κs .0) (qs .0))) (List._∷_ (2, Mut.mslice (OfStation.row) (Syntax.tyRef (Syntax.named 1) Syntax.mut OfStation.named) 1) (List._∷_ (3, Rows.mref (Referent.rtF (Referent.fInt Syntax.w64)) (Syntax.tyRef (Syntax.named 2) Syntax.mut (Syntax.tyInt Syntax.w64)) 2) (List._∷_ (4, Rows.sslice (Referent.rtF (Referent.fInt Syntax.w8)) (Syntax.tyRef (Syntax.named 3) Syntax.imm (Syntax.tyInt Syntax.w8)) 3) (List._∷_ (5, Rows.any-gone (Laws''.mir)) (List._∷_ (6, Rows.any-gone (Syntax.tyInt Syntax.w8)) (List._∷_ (7, Rows.any-gone (Laws.mir)) (List._∷_ (8, Rows.sc-here (Row.sInt Syntax.w64)) (List._∷_ (9, Rows.sc-here (Row.sInt Syntax.w64)) (List._∷_ (10, Rows.any-gone (Laws'.mir)) (List._∷_ (11, Rows.any-gone (Laws.mir)) (List._∷_ (12, Rows.sc-here Row.sUnit) (List._∷_ (13, Rows.any-gone (Syntax.tyRef Syntax.erased Syntax.mut OfOutput.named)) (List._∷_ (14, Mut.msleft (OfOutput.row) (Syntax.tyRef Syntax.erased Syntax.mut OfOutput.named)) (List._∷_ (15, Rows.any-gone (Syntax.tyRef Syntax.erased Syntax.mut OfOutput.named)) List.[])))))))))))))))
+
+        abbrev g19 : List.List Row.Entry
+        g19 = List._∷_ (0, Rows.any-gone (Laws.mir)) (List._∷_ (1, Relend.mslice-owed (OfOutput.row) (Syntax.tyRef (Syntax.named 0) Syntax.mut OfOutput.named) 0 4 (Row.lease (κs .0) (qs .0))) (List._∷_ (2, Mut.mslice (OfStation.row) (Syntax.tyRef (Syntax.named 1) Syntax.mut OfStation.named) 1) (List._∷_ (3, Rows.mref (Referent.rtF (Referent.fInt Syntax.w64)) (Syntax.tyRef (Syntax.named 2) Syntax.mut (Syntax.tyInt Syntax.w64)) 2) (List._∷_ (4, Rows.sslice (Referent.rtF (Referent.fInt Syntax.w8)) (Syntax.tyRef (Syntax.named 3) Syntax.imm (Syntax.tyInt Syntax.w8)) 3) (List._∷_ (5, Rows.any-gone (Laws''.mir)) (List._∷_ (6, Rows.any-gone (Syntax.tyInt Syntax.w8)) (List._∷_ (7, Rows.any-gone (Laws.mir)) (List._∷_ (8, Rows.sc-here (Row.sInt Syntax.w64)) (List._∷_ (9, Rows.sc-here (Row.sInt Syntax.w64)) (List._∷_ (10, Rows.any-gone (Laws'.mir)) (List._∷_ (11, Rows.any-gone (Laws.mir)) (List._∷_ (12, Rows.any-gone Syntax.tyUnit) (List._∷_ (13, Rows.any-gone (Syntax.tyRef Syntax.erased Syntax.mut OfOutput.named)) (List._∷_ (14, Mut.msleft (OfOutput.row) (Syntax.tyRef Syntax.erased Syntax.mut OfOutput.named)) (List._∷_ (15, Rows.any-gone (Syntax.tyRef Syntax.erased Syntax.mut OfOutput.named)) List.[])))))))))))))))
+
+        abbrev g25 : List.List Row.Entry
+        g25 = List._∷_ (0, Rows.any-gone (Laws.mir)) (List._∷_ (1, Relend.mslice-owed (OfOutput.row) (Syntax.tyRef (Syntax.named 0) Syntax.mut OfOutput.named) 0 5 (Row.lease (κs .0) (qs .0))) (List._∷_ (2, Mut.mslice (OfStation.row) (Syntax.tyRef (Syntax.named 1) Syntax.mut OfStation.named) 1) (List._∷_ (3, Rows.mref (Referent.rtF (Referent.fInt Syntax.w64)) (Syntax.tyRef (Syntax.named 2) Syntax.mut (Syntax.tyInt Syntax.w64)) 2) (List._∷_ (4, Rows.sslice (Referent.rtF (Referent.fInt Syntax.w8)) (Syntax.tyRef (Syntax.named 3) Syntax.imm (Syntax.tyInt Syntax.w8)) 3) (List._∷_ (5, Rows.any-gone (Laws''.mir)) (List._∷_ (6, Rows.any-gone (Syntax.tyInt Syntax.w8)) (List._∷_ (7, Rows.any-gone (Laws.mir)) (List._∷_ (8, Rows.any-gone (Syntax.tyInt Syntax.w64)) (List._∷_ (9, Rows.any-gone (Syntax.tyInt Syntax.w64)) (List._∷_ (10, Rows.whole (Declared'.row Call.the-type)) (List._∷_ (11, Rows.any-gone (Laws.mir)) (List._∷_ (12, Rows.any-gone Syntax.tyUnit) (List._∷_ (13, Rows.any-gone (Syntax.tyRef Syntax.erased Syntax.mut OfOutput.named)) (List._∷_ (14, Rows.any-gone (Syntax.tyStruct (List._∷_ 38 (List._∷_ 91 (List._∷_ 93 List.[]))) (Syntax.tcons (Syntax.tyRef Syntax.erased Syntax.mut OfOutput.named) (Syntax.tcons (Syntax.tyInt Syntax.w64) Syntax.tnil)))) (List._∷_ (15, Relend.msptr (OfOutput.row) (Syntax.tyRef Syntax.erased Syntax.mut OfOutput.named) 5) List.[])))))))))))))))
+
+        abbrev g26 : List.List Row.Entry
+        g26 = List._∷_ (0, Rows.any-gone (Laws.mir)) (List._∷_ (1, Relend.mslice-owed (OfOutput.row) (Syntax.tyRef (Syntax.named 0) Syntax.mut OfOutput.named) 0 5 (Row.lease (κs .0) (qs .0))) (List._∷_ (2, Mut.mslice (OfStation.row) (Syntax.tyRef (Syntax.named 1) Syntax.mut OfStation.named) 1) (List._∷_ (3, Rows.mref (Referent.rtF (Referent.fInt Syntax.w64)) (Syntax.tyRef (Syntax.named 2) Syntax.mut (Syntax.tyInt Syntax.w64)) 2) (List._∷_ (4, Rows.sslice (Referent.rtF (Referent.fInt Syntax.w8)) (Syntax.tyRef (Syntax.named 3) Syntax.imm (Syntax.tyInt Syntax.w8)) 3) (List._∷_ (5, Rows.any-gone (Laws''.mir)) (List._∷_ (6, Rows.any-gone (Syntax.tyInt Syntax.w8)) (List._∷_ (7, Rows.any-gone (Laws.mir)) (List._∷_ (8, Rows.any-gone (Syntax.tyInt Syntax.w64)) (List._∷_ (9, Rows.any-gone (Syntax.tyInt Syntax.w64)) (List._∷_ (10, Rows.whole (Declared'.row Call.the-type)) (List._∷_ (11, Rows.any-gone (Laws.mir)) (List._∷_ (12, Rows.any-gone Syntax.tyUnit) (List._∷_ (13, Rows.any-gone (Syntax.tyRef Syntax.erased Syntax.mut OfOutput.named)) (List._∷_ (14, Rows.any-gone (Syntax.tyStruct (List._∷_ 38 (List._∷_ 91 (List._∷_ 93 List.[]))) (Syntax.tcons (Syntax.tyRef Syntax.erased Syntax.mut OfOutput.named) (Syntax.tcons (Syntax.tyInt Syntax.w64) Syntax.tnil)))) (List._∷_ (15, Rows.any-gone (Syntax.tyRef Syntax.erased Syntax.mut OfOutput.named)) List.[])))))))))))))))
+
+        abbrev g28 : List.List Row.Entry
+        g28 = List._∷_ (0, Rows.any-gone (Laws.mir)) (List._∷_ (1, Relend.mslice-owed (OfOutput.row) (Syntax.tyRef (Syntax.named 0) Syntax.mut OfOutput.named) 0 5 (Row.lease (κs .0) (qs .0))) (List._∷_ (2, Relend.mslice-owed (OfStation.row) (Syntax.tyRef (Syntax.named 1) Syntax.mut OfStation.named) 1 6 (Row.lease (κs .1 .0) (qs .1 .0))) (List._∷_ (3, Rows.mref (Referent.rtF (Referent.fInt Syntax.w64)) (Syntax.tyRef (Syntax.named 2) Syntax.mut (Syntax.tyInt Syntax.w64)) 2) (List._∷_ (4, Rows.sslice (Referent.rtF (Referent.fInt Syntax.w8)) (Syntax.tyRef (Syntax.named 3) Syntax.imm (Syntax.tyInt Syntax.w8)) 3) (List._∷_ (5, Rows.any-gone (Laws''.mir)) (List._∷_ (6, Rows.any-gone (Syntax.tyInt Syntax.w8)) (List._∷_ (7, Rows.any-gone (Laws.mir)) (List._∷_ (8, Rows.any-gone (Syntax.tyInt Syntax.w64)) (List._∷_ (9, Rows.any-gone (Syntax.tyInt Syntax.w64)) (List._∷_ (10, Rows.whole (Declared'.row Call.the-type)) (List._∷_ (11, Rows.any-gone (Laws.mir)) (List._∷_ (12, Rows.any-gone Syntax.tyUnit) (List._∷_ (13, Rows.any-gone (Syntax.tyRef Syntax.erased Syntax.mut OfOutput.named)) (List._∷_ (14, Rows.any-gone (Syntax.tyStruct (List._∷_ 38 (List._∷_ 91 (List._∷_ 93 List.[]))) (Syntax.tcons (Syntax.tyRef Syntax.erased Syntax.mut OfOutput.named) (Syntax.tcons (Syntax.tyInt Syntax.w64) Syntax.tnil)))) (List._∷_ (15, Rows.any-gone (Syntax.tyRef Syntax.erased Syntax.mut OfOutput.named)) List.[])))))))))))))))
+
+        abbrev g31 : List.List Row.Entry
+        g31 = List._∷_ (0, Rows.any-gone (Laws.mir)) (List._∷_ (1, Relend.mslice-owed (OfOutput.row) (Syntax.tyRef (Syntax.named 0) Syntax.mut OfOutput.named) 0 5 (Row.lease (κs .0) (qs .0))) (List._∷_ (2, Relend.mslice-owed (OfStation.row) (Syntax.tyRef (Syntax.named 1) Syntax.mut OfStation.named) 1 6 (Row.lease (κs .1 .0) (qs .1 .0))) (List._∷_ (3, Rows.mref-owed (Referent.rtF (Referent.fInt Syntax.w64)) (Syntax.tyRef (Syntax.named 2) Syntax.mut (Syntax.tyInt Syntax.w64)) 2 7 (Row.lease (κs .1 .1 .0) (qs .1 .1 .0))) (List._∷_ (4, Rows.sslice (Referent.rtF (Referent.fInt Syntax.w8)) (Syntax.tyRef (Syntax.named 3) Syntax.imm (Syntax.tyInt Syntax.w8)) 3) (List._∷_ (5, Rows.any-gone (Laws''.mir)) (List._∷_ (6, Rows.any-gone (Syntax.tyInt Syntax.w8)) (List._∷_ (7, Rows.any-gone (Laws.mir)) (List._∷_ (8, Rows.any-gone (Syntax.tyInt Syntax.w64)) (List._∷_ (9, Rows.any-gone (Syntax.tyInt Syntax.w64)) (List._∷_ (10, Rows.whole (Declared'.row Call.the-type)) (List._∷_ (11, Rows.any-gone (Laws.mir)) (List._∷_ (12, Rows.any-gone Syntax.tyUnit) (List._∷_ (13, Rows.any-gone (Syntax.tyRef Syntax.erased Syntax.mut OfOutput.named)) (List._∷_ (14, Rows.any-gone (Syntax.tyStruct (List._∷_ 38 (List._∷_ 91 (List._∷_ 93 List.[]))) (Syntax.tcons (Syntax.tyRef Syntax.erased Syntax.mut OfOutput.named) (Syntax.tcons (Syntax.tyInt Syntax.w64) Syntax.tnil)))) (List._∷_ (15, Rows.any-gone (Syntax.tyRef Syntax.erased Syntax.mut OfOutput.named)) List.[])))))))))))))))
 
         abbrev g33 : List.List Row.Entry
-        g33 = List._∷_ (0, Rows.any-gone (Laws.mir)) (List._∷_ (1, Relend.mslice-owed (OfOutput.row) (Syntax.tyRef (Syntax.named 0) Syntax.mut OfOutput.named) 0 5 (Row.lease (κs .0) (qs .0))) (List._∷_ (2, Relend.mslice-owed (OfStation.row) (Syntax.tyRef (Syntax.named 1) Syntax.mut OfStation.named) 1 6 (Row.lease (κs .1 .0) (qs .1 .0))) (List._∷_ (3, Rows.mref (Referent.rtF (Referent.fInt Syntax.w64)) (Syntax.tyRef (Syntax.named 2) Syntax.mut (Syntax.tyInt Syntax.w64)) 2) (List._∷_ (4, Rows.sslice (Referent.rtF (Referent.fInt Syntax.w8)) (Syntax.tyRef (Syntax.named 3) Syntax.imm (Syntax.tyInt Syntax.w8)) 3) (List._∷_ (5, Rows.any-gone (Laws''.mir)) (List._∷_ (6, Rows.any-gone (Syntax.tyInt Syntax.w8)) (List._∷_ (7, Rows.any-gone (Laws.mir)) (List._∷_ (8, Rows.any-gone (Syntax.tyInt Syntax.w64)) (List._∷_ (9, Rows.any-gone (Syntax.tyInt Syntax.w64)) (List._∷_ (10, Rows.sc-here (Row.sInt Syntax.w8)) (List._∷_ (11, Rows.sc-here (Row.sInt Syntax.w32)) (List._∷_ (12, Rows.sc-here (Row.sInt Syntax.w64)) (List._∷_ (13, Rows.sc-here (Row.sInt Syntax.w8)) (List._∷_ (14, Rows.whole (Declared.row Request.the-type)) (List._∷_ (15, Rows.any-gone (Laws.mir)) List.[])))))))))))))))
+        g33 = List._∷_ (0, Rows.any-gone (Laws.mir)) (List._∷_ (1, Relend.mslice-owed (OfOutput.row) (Syntax.tyRef (Syntax.named 0) Syntax.mut OfOutput.named) 0 5 (Row.lease (κs .0) (qs .0))) (List._∷_ (2, Relend.mslice-owed (OfStation.row) (Syntax.tyRef (Syntax.named 1) Syntax.mut OfStation.named) 1 6 (Row.lease (κs .1 .0) (qs .1 .0))) (List._∷_ (3, Rows.mref-owed (Referent.rtF (Referent.fInt Syntax.w64)) (Syntax.tyRef (Syntax.named 2) Syntax.mut (Syntax.tyInt Syntax.w64)) 2 7 (Row.lease (κs .1 .1 .0) (qs .1 .1 .0))) (List._∷_ (4, Rows.sslice (Referent.rtF (Referent.fInt Syntax.w8)) (Syntax.tyRef (Syntax.named 3) Syntax.imm (Syntax.tyInt Syntax.w8)) 3) (List._∷_ (5, Rows.any-gone (Laws''.mir)) (List._∷_ (6, Rows.any-gone (Syntax.tyInt Syntax.w8)) (List._∷_ (7, Rows.any-gone (Laws.mir)) (List._∷_ (8, Rows.any-gone (Syntax.tyInt Syntax.w64)) (List._∷_ (9, Rows.any-gone (Syntax.tyInt Syntax.w64)) (List._∷_ (10, Rows.whole (Declared'.row Call.the-type)) (List._∷_ (11, Rows.whole (Declared.row Answer.the-type)) (List._∷_ (12, Rows.any-gone Syntax.tyUnit) (List._∷_ (13, Rows.any-gone (Syntax.tyRef Syntax.erased Syntax.mut OfOutput.named)) (List._∷_ (14, Rows.any-gone (Syntax.tyStruct (List._∷_ 38 (List._∷_ 91 (List._∷_ 93 List.[]))) (Syntax.tcons (Syntax.tyRef Syntax.erased Syntax.mut OfOutput.named) (Syntax.tcons (Syntax.tyInt Syntax.w64) Syntax.tnil)))) (List._∷_ (15, Rows.any-gone (Syntax.tyRef Syntax.erased Syntax.mut OfOutput.named)) List.[])))))))))))))))
+
+        abbrev g35 : List.List Row.Entry
+        g35 = List._∷_ (0, Rows.any-gone (Laws.mir)) (List._∷_ (1, Relend.mslice-owed (OfOutput.row) (Syntax.tyRef (Syntax.named 0) Syntax.mut OfOutput.named) 0 5 (Row.lease (κs .0) (qs .0))) (List._∷_ (2, Relend.mslice-owed (OfStation.row) (Syntax.tyRef (Syntax.named 1) Syntax.mut OfStation.named) 1 6 (Row.lease (κs .1 .0) (qs .1 .0))) (List._∷_ (3, Rows.mref-owed (Referent.rtF (Referent.fInt Syntax.w64)) (Syntax.tyRef (Syntax.named 2) Syntax.mut (Syntax.tyInt Syntax.w64)) 2 7 (Row.lease (κs .1 .1 .0) (qs .1 .1 .0))) (List._∷_ (4, Rows.sslice (Referent.rtF (Referent.fInt Syntax.w8)) (Syntax.tyRef (Syntax.named 3) Syntax.imm (Syntax.tyInt Syntax.w8)) 3) (List._∷_ (5, Rows.any-gone (Laws''.mir)) (List._∷_ (6, Rows.any-gone (Syntax.tyInt Syntax.w8)) (List._∷_ (7, Rows.any-gone (Laws.mir)) (List._∷_ (8, Rows.any-gone (Syntax.tyInt Syntax.w64)) (List._∷_ (9, Rows.any-gone (Syntax.tyInt Syntax.w64)) (List._∷_ (10, Rows.any-gone (Laws'.mir)) (List._∷_ (11, Rows.whole (Declared.row Answer.the-type)) (List._∷_ (12, Rows.any-gone Syntax.tyUnit) (List._∷_ (13, Rows.any-gone (Syntax.tyRef Syntax.erased Syntax.mut OfOutput.named)) (List._∷_ (14, Rows.any-gone (Syntax.tyStruct (List._∷_ 38 (List._∷_ 91 (List._∷_ 93 List.[]))) (Syntax.tcons (Syntax.tyRef Syntax.erased Syntax.mut OfOutput.named) (Syntax.tcons (Syntax.tyInt Syntax.w64) Syntax.tnil)))) (List._∷_ (15, Rows.any-gone (Syntax.tyRef Syntax.erased Syntax.mut OfOutput.named)) List.[])))))))))))))))
 
         abbrev g36 : List.List Row.Entry
-        g36 = List._∷_ (0, Rows.any-gone (Laws.mir)) (List._∷_ (1, Relend.mslice-owed (OfOutput.row) (Syntax.tyRef (Syntax.named 0) Syntax.mut OfOutput.named) 0 5 (Row.lease (κs .0) (qs .0))) (List._∷_ (2, Relend.mslice-owed (OfStation.row) (Syntax.tyRef (Syntax.named 1) Syntax.mut OfStation.named) 1 6 (Row.lease (κs .1 .0) (qs .1 .0))) (List._∷_ (3, Rows.mref-owed (Referent.rtF (Referent.fInt Syntax.w64)) (Syntax.tyRef (Syntax.named 2) Syntax.mut (Syntax.tyInt Syntax.w64)) 2 7 (Row.lease (κs .1 .1 .0) (qs .1 .1 .0))) (List._∷_ (4, Rows.sslice (Referent.rtF (Referent.fInt Syntax.w8)) (Syntax.tyRef (Syntax.named 3) Syntax.imm (Syntax.tyInt Syntax.w8)) 3) (List._∷_ (5, Rows.any-gone (Laws''.mir)) (List._∷_ (6, Rows.any-gone (Syntax.tyInt Syntax.w8)) (List._∷_ (7, Rows.any-gone (Laws.mir)) (List._∷_ (8, Rows.any-gone (Syntax.tyInt Syntax.w64)) (List._∷_ (9, Rows.any-gone (Syntax.tyInt Syntax.w64)) (List._∷_ (10, Rows.sc-here (Row.sInt Syntax.w8)) (List._∷_ (11, Rows.sc-here (Row.sInt Syntax.w32)) (List._∷_ (12, Rows.sc-here (Row.sInt Syntax.w64)) (List._∷_ (13, Rows.sc-here (Row.sInt Syntax.w8)) (List._∷_ (14, Rows.whole (Declared.row Request.the-type)) (List._∷_ (15, Rows.any-gone (Laws.mir)) List.[])))))))))))))))
+        g36 = List._∷_ (0, Rows.any-gone (Laws.mir)) (List._∷_ (1, Mut.mslice (OfOutput.row) (Syntax.tyRef (Syntax.named 0) Syntax.mut OfOutput.named) 0) (List._∷_ (2, Relend.mslice-owed (OfStation.row) (Syntax.tyRef (Syntax.named 1) Syntax.mut OfStation.named) 1 6 (Row.lease (κs .1 .0) (qs .1 .0))) (List._∷_ (3, Rows.mref-owed (Referent.rtF (Referent.fInt Syntax.w64)) (Syntax.tyRef (Syntax.named 2) Syntax.mut (Syntax.tyInt Syntax.w64)) 2 7 (Row.lease (κs .1 .1 .0) (qs .1 .1 .0))) (List._∷_ (4, Rows.sslice (Referent.rtF (Referent.fInt Syntax.w8)) (Syntax.tyRef (Syntax.named 3) Syntax.imm (Syntax.tyInt Syntax.w8)) 3) (List._∷_ (5, Rows.any-gone (Laws''.mir)) (List._∷_ (6, Rows.any-gone (Syntax.tyInt Syntax.w8)) (List._∷_ (7, Rows.any-gone (Laws.mir)) (List._∷_ (8, Rows.any-gone (Syntax.tyInt Syntax.w64)) (List._∷_ (9, Rows.any-gone (Syntax.tyInt Syntax.w64)) (List._∷_ (10, Rows.any-gone (Laws'.mir)) (List._∷_ (11, Rows.whole (Declared.row Answer.the-type)) (List._∷_ (12, Rows.any-gone Syntax.tyUnit) (List._∷_ (13, Rows.any-gone (Syntax.tyRef Syntax.erased Syntax.mut OfOutput.named)) (List._∷_ (14, Rows.any-gone (Syntax.tyStruct (List._∷_ 38 (List._∷_ 91 (List._∷_ 93 List.[]))) (Syntax.tcons (Syntax.tyRef Syntax.erased Syntax.mut OfOutput.named) (Syntax.tcons (Syntax.tyInt Syntax.w64) Syntax.tnil)))) (List._∷_ (15, Rows.any-gone (Syntax.tyRef Syntax.erased Syntax.mut OfOutput.named)) List.[])))))))))))))))
 
         abbrev g38 : List.List Row.Entry
-        g38 = List._∷_ (0, Rows.any-gone (Laws.mir)) (List._∷_ (1, Relend.mslice-owed (OfOutput.row) (Syntax.tyRef (Syntax.named 0) Syntax.mut OfOutput.named) 0 5 (Row.lease (κs .0) (qs .0))) (List._∷_ (2, Relend.mslice-owed (OfStation.row) (Syntax.tyRef (Syntax.named 1) Syntax.mut OfStation.named) 1 6 (Row.lease (κs .1 .0) (qs .1 .0))) (List._∷_ (3, Rows.mref-owed (Referent.rtF (Referent.fInt Syntax.w64)) (Syntax.tyRef (Syntax.named 2) Syntax.mut (Syntax.tyInt Syntax.w64)) 2 7 (Row.lease (κs .1 .1 .0) (qs .1 .1 .0))) (List._∷_ (4, Rows.sslice (Referent.rtF (Referent.fInt Syntax.w8)) (Syntax.tyRef (Syntax.named 3) Syntax.imm (Syntax.tyInt Syntax.w8)) 3) (List._∷_ (5, Rows.any-gone (Laws''.mir)) (List._∷_ (6, Rows.any-gone (Syntax.tyInt Syntax.w8)) (List._∷_ (7, Rows.any-gone (Laws.mir)) (List._∷_ (8, Rows.any-gone (Syntax.tyInt Syntax.w64)) (List._∷_ (9, Rows.any-gone (Syntax.tyInt Syntax.w64)) (List._∷_ (10, Rows.sc-here (Row.sInt Syntax.w8)) (List._∷_ (11, Rows.sc-here (Row.sInt Syntax.w32)) (List._∷_ (12, Rows.sc-here (Row.sInt Syntax.w64)) (List._∷_ (13, Rows.sc-here (Row.sInt Syntax.w8)) (List._∷_ (14, Rows.whole (Declared.row Request.the-type)) (List._∷_ (15, Rows.whole (Declared.row Answer.the-type)) List.[])))))))))))))))
-
-        abbrev g40 : List.List Row.Entry
-        g40 = List._∷_ (0, Rows.any-gone (Laws.mir)) (List._∷_ (1, Relend.mslice-owed (OfOutput.row) (Syntax.tyRef (Syntax.named 0) Syntax.mut OfOutput.named) 0 5 (Row.lease (κs .0) (qs .0))) (List._∷_ (2, Relend.mslice-owed (OfStation.row) (Syntax.tyRef (Syntax.named 1) Syntax.mut OfStation.named) 1 6 (Row.lease (κs .1 .0) (qs .1 .0))) (List._∷_ (3, Rows.mref-owed (Referent.rtF (Referent.fInt Syntax.w64)) (Syntax.tyRef (Syntax.named 2) Syntax.mut (Syntax.tyInt Syntax.w64)) 2 7 (Row.lease (κs .1 .1 .0) (qs .1 .1 .0))) (List._∷_ (4, Rows.sslice (Referent.rtF (Referent.fInt Syntax.w8)) (Syntax.tyRef (Syntax.named 3) Syntax.imm (Syntax.tyInt Syntax.w8)) 3) (List._∷_ (5, Rows.any-gone (Laws''.mir)) (List._∷_ (6, Rows.any-gone (Syntax.tyInt Syntax.w8)) (List._∷_ (7, Rows.any-gone (Laws.mir)) (List._∷_ (8, Rows.any-gone (Syntax.tyInt Syntax.w64)) (List._∷_ (9, Rows.any-gone (Syntax.tyInt Syntax.w64)) (List._∷_ (10, Rows.any-gone (Syntax.tyInt Syntax.w8)) (List._∷_ (11, Rows.sc-here (Row.sInt Syntax.w32)) (List._∷_ (12, Rows.sc-here (Row.sInt Syntax.w64)) (List._∷_ (13, Rows.sc-here (Row.sInt Syntax.w8)) (List._∷_ (14, Rows.whole (Declared.row Request.the-type)) (List._∷_ (15, Rows.whole (Declared.row Answer.the-type)) List.[])))))))))))))))
-
-        abbrev g41 : List.List Row.Entry
-        g41 = List._∷_ (0, Rows.any-gone (Laws.mir)) (List._∷_ (1, Relend.mslice-owed (OfOutput.row) (Syntax.tyRef (Syntax.named 0) Syntax.mut OfOutput.named) 0 5 (Row.lease (κs .0) (qs .0))) (List._∷_ (2, Relend.mslice-owed (OfStation.row) (Syntax.tyRef (Syntax.named 1) Syntax.mut OfStation.named) 1 6 (Row.lease (κs .1 .0) (qs .1 .0))) (List._∷_ (3, Rows.mref-owed (Referent.rtF (Referent.fInt Syntax.w64)) (Syntax.tyRef (Syntax.named 2) Syntax.mut (Syntax.tyInt Syntax.w64)) 2 7 (Row.lease (κs .1 .1 .0) (qs .1 .1 .0))) (List._∷_ (4, Rows.sslice (Referent.rtF (Referent.fInt Syntax.w8)) (Syntax.tyRef (Syntax.named 3) Syntax.imm (Syntax.tyInt Syntax.w8)) 3) (List._∷_ (5, Rows.any-gone (Laws''.mir)) (List._∷_ (6, Rows.any-gone (Syntax.tyInt Syntax.w8)) (List._∷_ (7, Rows.any-gone (Laws.mir)) (List._∷_ (8, Rows.any-gone (Syntax.tyInt Syntax.w64)) (List._∷_ (9, Rows.any-gone (Syntax.tyInt Syntax.w64)) (List._∷_ (10, Rows.any-gone (Syntax.tyInt Syntax.w8)) (List._∷_ (11, Rows.any-gone (Syntax.tyInt Syntax.w32)) (List._∷_ (12, Rows.sc-here (Row.sInt Syntax.w64)) (List._∷_ (13, Rows.sc-here (Row.sInt Syntax.w8)) (List._∷_ (14, Rows.whole (Declared.row Request.the-type)) (List._∷_ (15, Rows.whole (Declared.row Answer.the-type)) List.[])))))))))))))))
-
-        abbrev g42 : List.List Row.Entry
-        g42 = List._∷_ (0, Rows.any-gone (Laws.mir)) (List._∷_ (1, Relend.mslice-owed (OfOutput.row) (Syntax.tyRef (Syntax.named 0) Syntax.mut OfOutput.named) 0 5 (Row.lease (κs .0) (qs .0))) (List._∷_ (2, Relend.mslice-owed (OfStation.row) (Syntax.tyRef (Syntax.named 1) Syntax.mut OfStation.named) 1 6 (Row.lease (κs .1 .0) (qs .1 .0))) (List._∷_ (3, Rows.mref-owed (Referent.rtF (Referent.fInt Syntax.w64)) (Syntax.tyRef (Syntax.named 2) Syntax.mut (Syntax.tyInt Syntax.w64)) 2 7 (Row.lease (κs .1 .1 .0) (qs .1 .1 .0))) (List._∷_ (4, Rows.sslice (Referent.rtF (Referent.fInt Syntax.w8)) (Syntax.tyRef (Syntax.named 3) Syntax.imm (Syntax.tyInt Syntax.w8)) 3) (List._∷_ (5, Rows.any-gone (Laws''.mir)) (List._∷_ (6, Rows.any-gone (Syntax.tyInt Syntax.w8)) (List._∷_ (7, Rows.any-gone (Laws.mir)) (List._∷_ (8, Rows.any-gone (Syntax.tyInt Syntax.w64)) (List._∷_ (9, Rows.any-gone (Syntax.tyInt Syntax.w64)) (List._∷_ (10, Rows.any-gone (Syntax.tyInt Syntax.w8)) (List._∷_ (11, Rows.any-gone (Syntax.tyInt Syntax.w32)) (List._∷_ (12, Rows.any-gone (Syntax.tyInt Syntax.w64)) (List._∷_ (13, Rows.sc-here (Row.sInt Syntax.w8)) (List._∷_ (14, Rows.whole (Declared.row Request.the-type)) (List._∷_ (15, Rows.whole (Declared.row Answer.the-type)) List.[])))))))))))))))
-
-        abbrev g43 : List.List Row.Entry
-        g43 = List._∷_ (0, Rows.any-gone (Laws.mir)) (List._∷_ (1, Relend.mslice-owed (OfOutput.row) (Syntax.tyRef (Syntax.named 0) Syntax.mut OfOutput.named) 0 5 (Row.lease (κs .0) (qs .0))) (List._∷_ (2, Relend.mslice-owed (OfStation.row) (Syntax.tyRef (Syntax.named 1) Syntax.mut OfStation.named) 1 6 (Row.lease (κs .1 .0) (qs .1 .0))) (List._∷_ (3, Rows.mref-owed (Referent.rtF (Referent.fInt Syntax.w64)) (Syntax.tyRef (Syntax.named 2) Syntax.mut (Syntax.tyInt Syntax.w64)) 2 7 (Row.lease (κs .1 .1 .0) (qs .1 .1 .0))) (List._∷_ (4, Rows.sslice (Referent.rtF (Referent.fInt Syntax.w8)) (Syntax.tyRef (Syntax.named 3) Syntax.imm (Syntax.tyInt Syntax.w8)) 3) (List._∷_ (5, Rows.any-gone (Laws''.mir)) (List._∷_ (6, Rows.any-gone (Syntax.tyInt Syntax.w8)) (List._∷_ (7, Rows.any-gone (Laws.mir)) (List._∷_ (8, Rows.any-gone (Syntax.tyInt Syntax.w64)) (List._∷_ (9, Rows.any-gone (Syntax.tyInt Syntax.w64)) (List._∷_ (10, Rows.any-gone (Syntax.tyInt Syntax.w8)) (List._∷_ (11, Rows.any-gone (Syntax.tyInt Syntax.w32)) (List._∷_ (12, Rows.any-gone (Syntax.tyInt Syntax.w64)) (List._∷_ (13, Rows.any-gone (Syntax.tyInt Syntax.w8)) (List._∷_ (14, Rows.whole (Declared.row Request.the-type)) (List._∷_ (15, Rows.whole (Declared.row Answer.the-type)) List.[])))))))))))))))
-
-        abbrev g44 : List.List Row.Entry
-        g44 = List._∷_ (0, Rows.any-gone (Laws.mir)) (List._∷_ (1, Relend.mslice-owed (OfOutput.row) (Syntax.tyRef (Syntax.named 0) Syntax.mut OfOutput.named) 0 5 (Row.lease (κs .0) (qs .0))) (List._∷_ (2, Relend.mslice-owed (OfStation.row) (Syntax.tyRef (Syntax.named 1) Syntax.mut OfStation.named) 1 6 (Row.lease (κs .1 .0) (qs .1 .0))) (List._∷_ (3, Rows.mref-owed (Referent.rtF (Referent.fInt Syntax.w64)) (Syntax.tyRef (Syntax.named 2) Syntax.mut (Syntax.tyInt Syntax.w64)) 2 7 (Row.lease (κs .1 .1 .0) (qs .1 .1 .0))) (List._∷_ (4, Rows.sslice (Referent.rtF (Referent.fInt Syntax.w8)) (Syntax.tyRef (Syntax.named 3) Syntax.imm (Syntax.tyInt Syntax.w8)) 3) (List._∷_ (5, Rows.any-gone (Laws''.mir)) (List._∷_ (6, Rows.any-gone (Syntax.tyInt Syntax.w8)) (List._∷_ (7, Rows.any-gone (Laws.mir)) (List._∷_ (8, Rows.any-gone (Syntax.tyInt Syntax.w64)) (List._∷_ (9, Rows.any-gone (Syntax.tyInt Syntax.w64)) (List._∷_ (10, Rows.any-gone (Syntax.tyInt Syntax.w8)) (List._∷_ (11, Rows.any-gone (Syntax.tyInt Syntax.w32)) (List._∷_ (12, Rows.any-gone (Syntax.tyInt Syntax.w64)) (List._∷_ (13, Rows.any-gone (Syntax.tyInt Syntax.w8)) (List._∷_ (14, Rows.any-gone (Laws'.mir)) (List._∷_ (15, Rows.whole (Declared.row Answer.the-type)) List.[])))))))))))))))
-
-        abbrev g45 : List.List Row.Entry
-        g45 = List._∷_ (0, Rows.any-gone (Laws.mir)) (List._∷_ (1, Mut.mslice (OfOutput.row) (Syntax.tyRef (Syntax.named 0) Syntax.mut OfOutput.named) 0) (List._∷_ (2, Relend.mslice-owed (OfStation.row) (Syntax.tyRef (Syntax.named 1) Syntax.mut OfStation.named) 1 6 (Row.lease (κs .1 .0) (qs .1 .0))) (List._∷_ (3, Rows.mref-owed (Referent.rtF (Referent.fInt Syntax.w64)) (Syntax.tyRef (Syntax.named 2) Syntax.mut (Syntax.tyInt Syntax.w64)) 2 7 (Row.lease (κs .1 .1 .0) (qs .1 .1 .0))) (List._∷_ (4, Rows.sslice (Referent.rtF (Referent.fInt Syntax.w8)) (Syntax.tyRef (Syntax.named 3) Syntax.imm (Syntax.tyInt Syntax.w8)) 3) (List._∷_ (5, Rows.any-gone (Laws''.mir)) (List._∷_ (6, Rows.any-gone (Syntax.tyInt Syntax.w8)) (List._∷_ (7, Rows.any-gone (Laws.mir)) (List._∷_ (8, Rows.any-gone (Syntax.tyInt Syntax.w64)) (List._∷_ (9, Rows.any-gone (Syntax.tyInt Syntax.w64)) (List._∷_ (10, Rows.any-gone (Syntax.tyInt Syntax.w8)) (List._∷_ (11, Rows.any-gone (Syntax.tyInt Syntax.w32)) (List._∷_ (12, Rows.any-gone (Syntax.tyInt Syntax.w64)) (List._∷_ (13, Rows.any-gone (Syntax.tyInt Syntax.w8)) (List._∷_ (14, Rows.any-gone (Laws'.mir)) (List._∷_ (15, Rows.whole (Declared.row Answer.the-type)) List.[])))))))))))))))
-
-        abbrev g47 : List.List Row.Entry
-        g47 = List._∷_ (0, Rows.any-gone (Laws.mir)) (List._∷_ (1, Mut.mslice (OfOutput.row) (Syntax.tyRef (Syntax.named 0) Syntax.mut OfOutput.named) 0) (List._∷_ (2, Mut.mslice (OfStation.row) (Syntax.tyRef (Syntax.named 1) Syntax.mut OfStation.named) 1) (List._∷_ (3, Rows.mref-owed (Referent.rtF (Referent.fInt Syntax.w64)) (Syntax.tyRef (Syntax.named 2) Syntax.mut (Syntax.tyInt Syntax.w64)) 2 7 (Row.lease (κs .1 .1 .0) (qs .1 .1 .0))) (List._∷_ (4, Rows.sslice (Referent.rtF (Referent.fInt Syntax.w8)) (Syntax.tyRef (Syntax.named 3) Syntax.imm (Syntax.tyInt Syntax.w8)) 3) (List._∷_ (5, Rows.any-gone (Laws''.mir)) (List._∷_ (6, Rows.any-gone (Syntax.tyInt Syntax.w8)) (List._∷_ (7, Rows.any-gone (Laws.mir)) (List._∷_ (8, Rows.any-gone (Syntax.tyInt Syntax.w64)) (List._∷_ (9, Rows.any-gone (Syntax.tyInt Syntax.w64)) (List._∷_ (10, Rows.any-gone (Syntax.tyInt Syntax.w8)) (List._∷_ (11, Rows.any-gone (Syntax.tyInt Syntax.w32)) (List._∷_ (12, Rows.any-gone (Syntax.tyInt Syntax.w64)) (List._∷_ (13, Rows.any-gone (Syntax.tyInt Syntax.w8)) (List._∷_ (14, Rows.any-gone (Laws'.mir)) (List._∷_ (15, Rows.whole (Declared.row Answer.the-type)) List.[])))))))))))))))
+        g38 = List._∷_ (0, Rows.any-gone (Laws.mir)) (List._∷_ (1, Mut.mslice (OfOutput.row) (Syntax.tyRef (Syntax.named 0) Syntax.mut OfOutput.named) 0) (List._∷_ (2, Mut.mslice (OfStation.row) (Syntax.tyRef (Syntax.named 1) Syntax.mut OfStation.named) 1) (List._∷_ (3, Rows.mref-owed (Referent.rtF (Referent.fInt Syntax.w64)) (Syntax.tyRef (Syntax.named 2) Syntax.mut (Syntax.tyInt Syntax.w64)) 2 7 (Row.lease (κs .1 .1 .0) (qs .1 .1 .0))) (List._∷_ (4, Rows.sslice (Referent.rtF (Referent.fInt Syntax.w8)) (Syntax.tyRef (Syntax.named 3) Syntax.imm (Syntax.tyInt Syntax.w8)) 3) (List._∷_ (5, Rows.any-gone (Laws''.mir)) (List._∷_ (6, Rows.any-gone (Syntax.tyInt Syntax.w8)) (List._∷_ (7, Rows.any-gone (Laws.mir)) (List._∷_ (8, Rows.any-gone (Syntax.tyInt Syntax.w64)) (List._∷_ (9, Rows.any-gone (Syntax.tyInt Syntax.w64)) (List._∷_ (10, Rows.any-gone (Laws'.mir)) (List._∷_ (11, Rows.whole (Declared.row Answer.the-type)) (List._∷_ (12, Rows.any-gone Syntax.tyUnit) (List._∷_ (13, Rows.any-gone (Syntax.tyRef Syntax.erased Syntax.mut OfOutput.named)) (List._∷_ (14, Rows.any-gone (Syntax.tyStruct (List._∷_ 38 (List._∷_ 91 (List._∷_ 93 List.[]))) (Syntax.tcons (Syntax.tyRef Syntax.erased Syntax.mut OfOutput.named) (Syntax.tcons (Syntax.tyInt Syntax.w64) Syntax.tnil)))) (List._∷_ (15, Rows.any-gone (Syntax.tyRef Syntax.erased Syntax.mut OfOutput.named)) List.[])))))))))))))))
 
         abbrev G0 : Row.Cx
         G0 = record { locals = List._++_ t0 t1; slots = List._∷_ (Row.lease (κs .0) (qs .0)) (List._∷_ (Row.lease (κs .1 .0) (qs .1 .0)) (List._∷_ (Row.lease (κs .1 .1 .0) (qs .1 .1 .0)) (List._∷_ (Row.lease (κs .1 .1 .1 .0) (qs .1 .1 .1 .0)) (List._∷_ Row.off (List._∷_ Row.off (List._∷_ Row.off (List._∷_ Row.off List.[]))))))) }
@@ -983,19 +874,19 @@ module _ (claims· : Claims) where
         G22 = record { locals = List._++_ t15 t1; slots = List._∷_ (Row.lease (κs .0) (qs .0)) (List._∷_ (Row.lease (κs .1 .0) (qs .1 .0)) (List._∷_ (Row.lease (κs .1 .1 .0) (qs .1 .1 .0)) (List._∷_ (Row.lease (κs .1 .1 .1 .0) (qs .1 .1 .1 .0)) (List._∷_ Row.alive (List._∷_ Row.off (List._∷_ Row.off (List._∷_ Row.off List.[]))))))) }
 
         abbrev G23 : Row.Cx
-        G23 = record { locals = List._++_ g16 t17; slots = List._∷_ Row.off (List._∷_ (Row.lease (κs .1 .0) (qs .1 .0)) (List._∷_ (Row.lease (κs .1 .1 .0) (qs .1 .1 .0)) (List._∷_ (Row.lease (κs .1 .1 .1 .0) (qs .1 .1 .1 .0)) (List._∷_ Row.alive (List._∷_ Row.off (List._∷_ Row.off (List._∷_ Row.off List.[]))))))) }
+        G23 = record { locals = List._++_ g16 t1; slots = List._∷_ Row.off (List._∷_ (Row.lease (κs .1 .0) (qs .1 .0)) (List._∷_ (Row.lease (κs .1 .1 .0) (qs .1 .1 .0)) (List._∷_ (Row.lease (κs .1 .1 .1 .0) (qs .1 .1 .1 .0)) (List._∷_ Row.alive (List._∷_ Row.off (List._∷_ Row.off (List._∷_ Row.off List.[]))))))) }
 
         abbrev G24 : Row.Cx
-        G24 = record { locals = List._++_ g16 t18; slots = List._∷_ Row.off (List._∷_ (Row.lease (κs .1 .0) (qs .1 .0)) (List._∷_ (Row.lease (κs .1 .1 .0) (qs .1 .1 .0)) (List._∷_ (Row.lease (κs .1 .1 .1 .0) (qs .1 .1 .1 .0)) (List._∷_ Row.alive (List._∷_ Row.off (List._∷_ Row.off (List._∷_ Row.off List.[]))))))) }
+        G24 = record { locals = List._++_ g17 t1; slots = List._∷_ Row.off (List._∷_ (Row.lease (κs .1 .0) (qs .1 .0)) (List._∷_ (Row.lease (κs .1 .1 .0) (qs .1 .1 .0)) (List._∷_ (Row.lease (κs .1 .1 .1 .0) (qs .1 .1 .1 .0)) (List._∷_ Row.alive (List._∷_ Row.off (List._∷_ Row.off (List._∷_ Row.off List.[]))))))) }
 
         abbrev G25 : Row.Cx
-        G25 = record { locals = List._++_ g16 t19; slots = List._∷_ Row.off (List._∷_ (Row.lease (κs .1 .0) (qs .1 .0)) (List._∷_ (Row.lease (κs .1 .1 .0) (qs .1 .1 .0)) (List._∷_ (Row.lease (κs .1 .1 .1 .0) (qs .1 .1 .1 .0)) (List._∷_ Row.alive (List._∷_ Row.off (List._∷_ Row.off (List._∷_ Row.off List.[]))))))) }
+        G25 = record { locals = List._++_ g18 t1; slots = List._∷_ Row.off (List._∷_ (Row.lease (κs .1 .0) (qs .1 .0)) (List._∷_ (Row.lease (κs .1 .1 .0) (qs .1 .1 .0)) (List._∷_ (Row.lease (κs .1 .1 .1 .0) (qs .1 .1 .1 .0)) (List._∷_ Row.alive (List._∷_ Row.off (List._∷_ Row.off (List._∷_ Row.off List.[]))))))) }
 
         abbrev G26 : Row.Cx
-        G26 = record { locals = List._++_ g16 t20; slots = List._∷_ Row.off (List._∷_ (Row.lease (κs .1 .0) (qs .1 .0)) (List._∷_ (Row.lease (κs .1 .1 .0) (qs .1 .1 .0)) (List._∷_ (Row.lease (κs .1 .1 .1 .0) (qs .1 .1 .1 .0)) (List._∷_ Row.alive (List._∷_ Row.off (List._∷_ Row.off (List._∷_ Row.off List.[]))))))) }
+        G26 = record { locals = List._++_ g19 t1; slots = List._∷_ Row.off (List._∷_ (Row.lease (κs .1 .0) (qs .1 .0)) (List._∷_ (Row.lease (κs .1 .1 .0) (qs .1 .1 .0)) (List._∷_ (Row.lease (κs .1 .1 .1 .0) (qs .1 .1 .1 .0)) (List._∷_ Row.alive (List._∷_ Row.off (List._∷_ Row.off (List._∷_ Row.off List.[]))))))) }
 
         abbrev G27 : Row.Cx
-        G27 = record { locals = List._++_ g16 t20; slots = List._∷_ Row.off (List._∷_ (Row.lease (κs .1 .0) (qs .1 .0)) (List._∷_ (Row.lease (κs .1 .1 .0) (qs .1 .1 .0)) (List._∷_ (Row.lease (κs .1 .1 .1 .0) (qs .1 .1 .1 .0)) (List._∷_ Row.dead (List._∷_ Row.off (List._∷_ Row.off (List._∷_ Row.off List.[]))))))) }
+        G27 = record { locals = List._++_ g19 t1; slots = List._∷_ Row.off (List._∷_ (Row.lease (κs .1 .0) (qs .1 .0)) (List._∷_ (Row.lease (κs .1 .1 .0) (qs .1 .1 .0)) (List._∷_ (Row.lease (κs .1 .1 .1 .0) (qs .1 .1 .1 .0)) (List._∷_ Row.dead (List._∷_ Row.off (List._∷_ Row.off (List._∷_ Row.off List.[]))))))) }
 
         abbrev G28 : Row.Cx
         G28 = record { locals = List._++_ t15 t1; slots = List._∷_ (Row.lease (κs .0) (qs .0)) (List._∷_ (Row.lease (κs .1 .0) (qs .1 .0)) (List._∷_ (Row.lease (κs .1 .1 .0) (qs .1 .1 .0)) (List._∷_ (Row.lease (κs .1 .1 .1 .0) (qs .1 .1 .1 .0)) (List._∷_ Row.dead (List._∷_ Row.off (List._∷_ Row.off (List._∷_ Row.off List.[]))))))) }
@@ -1007,112 +898,88 @@ module _ (claims· : Claims) where
         G30 = record { locals = List._++_ t15 t1; slots = List._∷_ (Row.lease (κs .0) (qs .0)) (List._∷_ (Row.lease (κs .1 .0) (qs .1 .0)) (List._∷_ (Row.lease (κs .1 .1 .0) (qs .1 .1 .0)) (List._∷_ (Row.lease (κs .1 .1 .1 .0) (qs .1 .1 .1 .0)) (List._∷_ Row.off (List._∷_ Row.off (List._∷_ Row.off (List._∷_ Row.off List.[]))))))) }
 
         abbrev G31 : Row.Cx
-        G31 = record { locals = List._++_ t21 t1; slots = List._∷_ (Row.lease (κs .0) (qs .0)) (List._∷_ (Row.lease (κs .1 .0) (qs .1 .0)) (List._∷_ (Row.lease (κs .1 .1 .0) (qs .1 .1 .0)) (List._∷_ (Row.lease (κs .1 .1 .1 .0) (qs .1 .1 .1 .0)) (List._∷_ Row.off (List._∷_ Row.off (List._∷_ Row.off (List._∷_ Row.off List.[]))))))) }
+        G31 = record { locals = List._++_ t20 t1; slots = List._∷_ (Row.lease (κs .0) (qs .0)) (List._∷_ (Row.lease (κs .1 .0) (qs .1 .0)) (List._∷_ (Row.lease (κs .1 .1 .0) (qs .1 .1 .0)) (List._∷_ (Row.lease (κs .1 .1 .1 .0) (qs .1 .1 .1 .0)) (List._∷_ Row.off (List._∷_ Row.off (List._∷_ Row.off (List._∷_ Row.off List.[]))))))) }
 
         abbrev G32 : Row.Cx
-        G32 = record { locals = List._++_ t22 t1; slots = List._∷_ (Row.lease (κs .0) (qs .0)) (List._∷_ (Row.lease (κs .1 .0) (qs .1 .0)) (List._∷_ (Row.lease (κs .1 .1 .0) (qs .1 .1 .0)) (List._∷_ (Row.lease (κs .1 .1 .1 .0) (qs .1 .1 .1 .0)) (List._∷_ Row.off (List._∷_ Row.off (List._∷_ Row.off (List._∷_ Row.off List.[]))))))) }
+        G32 = record { locals = List._++_ t21 t1; slots = List._∷_ (Row.lease (κs .0) (qs .0)) (List._∷_ (Row.lease (κs .1 .0) (qs .1 .0)) (List._∷_ (Row.lease (κs .1 .1 .0) (qs .1 .1 .0)) (List._∷_ (Row.lease (κs .1 .1 .1 .0) (qs .1 .1 .1 .0)) (List._∷_ Row.off (List._∷_ Row.off (List._∷_ Row.off (List._∷_ Row.off List.[]))))))) }
 
         abbrev G33 : Row.Cx
         G33 = record { locals = List._++_ t3 t1; slots = List._∷_ (Row.lease (κs .0) (qs .0)) (List._∷_ (Row.lease (κs .1 .0) (qs .1 .0)) (List._∷_ (Row.lease (κs .1 .1 .0) (qs .1 .1 .0)) (List._∷_ (Row.lease (κs .1 .1 .1 .0) (qs .1 .1 .1 .0)) (List._∷_ Row.off (List._∷_ Row.off (List._∷_ Row.off (List._∷_ Row.off List.[]))))))) }
 
         abbrev G34 : Row.Cx
-        G34 = record { locals = List._++_ t23 t1; slots = List._∷_ (Row.lease (κs .0) (qs .0)) (List._∷_ (Row.lease (κs .1 .0) (qs .1 .0)) (List._∷_ (Row.lease (κs .1 .1 .0) (qs .1 .1 .0)) (List._∷_ (Row.lease (κs .1 .1 .1 .0) (qs .1 .1 .1 .0)) (List._∷_ Row.off (List._∷_ Row.off (List._∷_ Row.off (List._∷_ Row.off List.[]))))))) }
+        G34 = record { locals = List._++_ t22 t1; slots = List._∷_ (Row.lease (κs .0) (qs .0)) (List._∷_ (Row.lease (κs .1 .0) (qs .1 .0)) (List._∷_ (Row.lease (κs .1 .1 .0) (qs .1 .1 .0)) (List._∷_ (Row.lease (κs .1 .1 .1 .0) (qs .1 .1 .1 .0)) (List._∷_ Row.off (List._∷_ Row.off (List._∷_ Row.off (List._∷_ Row.off List.[]))))))) }
 
         abbrev G35 : Row.Cx
-        G35 = record { locals = List._++_ t23 t1; slots = List._∷_ (Row.lease (κs .0) (qs .0)) (List._∷_ (Row.lease (κs .1 .0) (qs .1 .0)) (List._∷_ (Row.lease (κs .1 .1 .0) (qs .1 .1 .0)) (List._∷_ (Row.lease (κs .1 .1 .1 .0) (qs .1 .1 .1 .0)) (List._∷_ Row.off (List._∷_ Row.off (List._∷_ Row.off (List._∷_ Row.off List.[]))))))) }
+        G35 = record { locals = List._++_ t22 t1; slots = List._∷_ (Row.lease (κs .0) (qs .0)) (List._∷_ (Row.lease (κs .1 .0) (qs .1 .0)) (List._∷_ (Row.lease (κs .1 .1 .0) (qs .1 .1 .0)) (List._∷_ (Row.lease (κs .1 .1 .1 .0) (qs .1 .1 .1 .0)) (List._∷_ Row.off (List._∷_ Row.off (List._∷_ Row.off (List._∷_ Row.off List.[]))))))) }
 
         abbrev G36 : Row.Cx
-        G36 = record { locals = List._++_ t24 t1; slots = List._∷_ (Row.lease (κs .0) (qs .0)) (List._∷_ (Row.lease (κs .1 .0) (qs .1 .0)) (List._∷_ (Row.lease (κs .1 .1 .0) (qs .1 .1 .0)) (List._∷_ (Row.lease (κs .1 .1 .1 .0) (qs .1 .1 .1 .0)) (List._∷_ Row.off (List._∷_ Row.off (List._∷_ Row.off (List._∷_ Row.off List.[]))))))) }
+        G36 = record { locals = List._++_ t23 t1; slots = List._∷_ (Row.lease (κs .0) (qs .0)) (List._∷_ (Row.lease (κs .1 .0) (qs .1 .0)) (List._∷_ (Row.lease (κs .1 .1 .0) (qs .1 .1 .0)) (List._∷_ (Row.lease (κs .1 .1 .1 .0) (qs .1 .1 .1 .0)) (List._∷_ Row.off (List._∷_ Row.off (List._∷_ Row.off (List._∷_ Row.off List.[]))))))) }
 
         abbrev G37 : Row.Cx
-        G37 = record { locals = List._++_ t25 t1; slots = List._∷_ (Row.lease (κs .0) (qs .0)) (List._∷_ (Row.lease (κs .1 .0) (qs .1 .0)) (List._∷_ (Row.lease (κs .1 .1 .0) (qs .1 .1 .0)) (List._∷_ (Row.lease (κs .1 .1 .1 .0) (qs .1 .1 .1 .0)) (List._∷_ Row.off (List._∷_ Row.off (List._∷_ Row.off (List._∷_ Row.off List.[]))))))) }
+        G37 = record { locals = List._++_ t24 t1; slots = List._∷_ (Row.lease (κs .0) (qs .0)) (List._∷_ (Row.lease (κs .1 .0) (qs .1 .0)) (List._∷_ (Row.lease (κs .1 .1 .0) (qs .1 .1 .0)) (List._∷_ (Row.lease (κs .1 .1 .1 .0) (qs .1 .1 .1 .0)) (List._∷_ Row.off (List._∷_ Row.off (List._∷_ Row.off (List._∷_ Row.off List.[]))))))) }
 
         abbrev G38 : Row.Cx
-        G38 = record { locals = List._++_ t26 t1; slots = List._∷_ (Row.lease (κs .0) (qs .0)) (List._∷_ (Row.lease (κs .1 .0) (qs .1 .0)) (List._∷_ (Row.lease (κs .1 .1 .0) (qs .1 .1 .0)) (List._∷_ (Row.lease (κs .1 .1 .1 .0) (qs .1 .1 .1 .0)) (List._∷_ Row.off (List._∷_ Row.off (List._∷_ Row.off (List._∷_ Row.off List.[]))))))) }
+        G38 = record { locals = List._++_ t24 t1; slots = List._∷_ (Row.lease (κs .0) (qs .0)) (List._∷_ (Row.lease (κs .1 .0) (qs .1 .0)) (List._∷_ (Row.lease (κs .1 .1 .0) (qs .1 .1 .0)) (List._∷_ (Row.lease (κs .1 .1 .1 .0) (qs .1 .1 .1 .0)) (List._∷_ Row.off (List._∷_ Row.alive (List._∷_ Row.off (List._∷_ Row.off List.[]))))))) }
 
         abbrev G39 : Row.Cx
-        G39 = record { locals = List._++_ t27 t1; slots = List._∷_ (Row.lease (κs .0) (qs .0)) (List._∷_ (Row.lease (κs .1 .0) (qs .1 .0)) (List._∷_ (Row.lease (κs .1 .1 .0) (qs .1 .1 .0)) (List._∷_ (Row.lease (κs .1 .1 .1 .0) (qs .1 .1 .1 .0)) (List._∷_ Row.off (List._∷_ Row.off (List._∷_ Row.off (List._∷_ Row.off List.[]))))))) }
+        G39 = record { locals = List._++_ g25 t1; slots = List._∷_ Row.off (List._∷_ (Row.lease (κs .1 .0) (qs .1 .0)) (List._∷_ (Row.lease (κs .1 .1 .0) (qs .1 .1 .0)) (List._∷_ (Row.lease (κs .1 .1 .1 .0) (qs .1 .1 .1 .0)) (List._∷_ Row.off (List._∷_ Row.alive (List._∷_ Row.off (List._∷_ Row.off List.[]))))))) }
 
         abbrev G40 : Row.Cx
-        G40 = record { locals = List._++_ t28 t1; slots = List._∷_ (Row.lease (κs .0) (qs .0)) (List._∷_ (Row.lease (κs .1 .0) (qs .1 .0)) (List._∷_ (Row.lease (κs .1 .1 .0) (qs .1 .1 .0)) (List._∷_ (Row.lease (κs .1 .1 .1 .0) (qs .1 .1 .1 .0)) (List._∷_ Row.off (List._∷_ Row.off (List._∷_ Row.off (List._∷_ Row.off List.[]))))))) }
+        G40 = record { locals = List._++_ g26 t27; slots = List._∷_ Row.off (List._∷_ (Row.lease (κs .1 .0) (qs .1 .0)) (List._∷_ (Row.lease (κs .1 .1 .0) (qs .1 .1 .0)) (List._∷_ (Row.lease (κs .1 .1 .1 .0) (qs .1 .1 .1 .0)) (List._∷_ Row.off (List._∷_ Row.alive (List._∷_ Row.off (List._∷_ Row.off List.[]))))))) }
 
         abbrev G41 : Row.Cx
-        G41 = record { locals = List._++_ t29 t1; slots = List._∷_ (Row.lease (κs .0) (qs .0)) (List._∷_ (Row.lease (κs .1 .0) (qs .1 .0)) (List._∷_ (Row.lease (κs .1 .1 .0) (qs .1 .1 .0)) (List._∷_ (Row.lease (κs .1 .1 .1 .0) (qs .1 .1 .1 .0)) (List._∷_ Row.off (List._∷_ Row.off (List._∷_ Row.off (List._∷_ Row.off List.[]))))))) }
+        G41 = record { locals = List._++_ g26 t27; slots = List._∷_ Row.off (List._∷_ (Row.lease (κs .1 .0) (qs .1 .0)) (List._∷_ (Row.lease (κs .1 .1 .0) (qs .1 .1 .0)) (List._∷_ (Row.lease (κs .1 .1 .1 .0) (qs .1 .1 .1 .0)) (List._∷_ Row.off (List._∷_ Row.alive (List._∷_ Row.alive (List._∷_ Row.off List.[]))))))) }
 
         abbrev G42 : Row.Cx
-        G42 = record { locals = List._++_ t29 t1; slots = List._∷_ (Row.lease (κs .0) (qs .0)) (List._∷_ (Row.lease (κs .1 .0) (qs .1 .0)) (List._∷_ (Row.lease (κs .1 .1 .0) (qs .1 .1 .0)) (List._∷_ (Row.lease (κs .1 .1 .1 .0) (qs .1 .1 .1 .0)) (List._∷_ Row.off (List._∷_ Row.alive (List._∷_ Row.off (List._∷_ Row.off List.[]))))))) }
+        G42 = record { locals = List._++_ g28 t29; slots = List._∷_ Row.off (List._∷_ Row.off (List._∷_ (Row.lease (κs .1 .1 .0) (qs .1 .1 .0)) (List._∷_ (Row.lease (κs .1 .1 .1 .0) (qs .1 .1 .1 .0)) (List._∷_ Row.off (List._∷_ Row.alive (List._∷_ Row.alive (List._∷_ Row.off List.[]))))))) }
 
         abbrev G43 : Row.Cx
-        G43 = record { locals = List._++_ g30 t31; slots = List._∷_ Row.off (List._∷_ (Row.lease (κs .1 .0) (qs .1 .0)) (List._∷_ (Row.lease (κs .1 .1 .0) (qs .1 .1 .0)) (List._∷_ (Row.lease (κs .1 .1 .1 .0) (qs .1 .1 .1 .0)) (List._∷_ Row.off (List._∷_ Row.alive (List._∷_ Row.off (List._∷_ Row.off List.[]))))))) }
+        G43 = record { locals = List._++_ g28 t30; slots = List._∷_ Row.off (List._∷_ Row.off (List._∷_ (Row.lease (κs .1 .1 .0) (qs .1 .1 .0)) (List._∷_ (Row.lease (κs .1 .1 .1 .0) (qs .1 .1 .1 .0)) (List._∷_ Row.off (List._∷_ Row.alive (List._∷_ Row.alive (List._∷_ Row.off List.[]))))))) }
 
         abbrev G44 : Row.Cx
-        G44 = record { locals = List._++_ g30 t32; slots = List._∷_ Row.off (List._∷_ (Row.lease (κs .1 .0) (qs .1 .0)) (List._∷_ (Row.lease (κs .1 .1 .0) (qs .1 .1 .0)) (List._∷_ (Row.lease (κs .1 .1 .1 .0) (qs .1 .1 .1 .0)) (List._∷_ Row.off (List._∷_ Row.alive (List._∷_ Row.off (List._∷_ Row.off List.[]))))))) }
+        G44 = record { locals = List._++_ g28 t30; slots = List._∷_ Row.off (List._∷_ Row.off (List._∷_ (Row.lease (κs .1 .1 .0) (qs .1 .1 .0)) (List._∷_ (Row.lease (κs .1 .1 .1 .0) (qs .1 .1 .1 .0)) (List._∷_ Row.off (List._∷_ Row.alive (List._∷_ Row.alive (List._∷_ Row.alive List.[]))))))) }
 
         abbrev G45 : Row.Cx
-        G45 = record { locals = List._++_ g30 t32; slots = List._∷_ Row.off (List._∷_ (Row.lease (κs .1 .0) (qs .1 .0)) (List._∷_ (Row.lease (κs .1 .1 .0) (qs .1 .1 .0)) (List._∷_ (Row.lease (κs .1 .1 .1 .0) (qs .1 .1 .1 .0)) (List._∷_ Row.off (List._∷_ Row.alive (List._∷_ Row.alive (List._∷_ Row.off List.[]))))))) }
+        G45 = record { locals = List._++_ g31 t32; slots = List._∷_ Row.off (List._∷_ Row.off (List._∷_ Row.off (List._∷_ (Row.lease (κs .1 .1 .1 .0) (qs .1 .1 .1 .0)) (List._∷_ Row.off (List._∷_ Row.alive (List._∷_ Row.alive (List._∷_ Row.alive List.[]))))))) }
 
         abbrev G46 : Row.Cx
-        G46 = record { locals = List._++_ g33 t34; slots = List._∷_ Row.off (List._∷_ Row.off (List._∷_ (Row.lease (κs .1 .1 .0) (qs .1 .1 .0)) (List._∷_ (Row.lease (κs .1 .1 .1 .0) (qs .1 .1 .1 .0)) (List._∷_ Row.off (List._∷_ Row.alive (List._∷_ Row.alive (List._∷_ Row.off List.[]))))))) }
+        G46 = record { locals = List._++_ g33 t34; slots = List._∷_ Row.off (List._∷_ Row.off (List._∷_ Row.off (List._∷_ (Row.lease (κs .1 .1 .1 .0) (qs .1 .1 .1 .0)) (List._∷_ Row.off (List._∷_ Row.alive (List._∷_ Row.alive (List._∷_ Row.alive List.[]))))))) }
 
         abbrev G47 : Row.Cx
-        G47 = record { locals = List._++_ g33 t35; slots = List._∷_ Row.off (List._∷_ Row.off (List._∷_ (Row.lease (κs .1 .1 .0) (qs .1 .1 .0)) (List._∷_ (Row.lease (κs .1 .1 .1 .0) (qs .1 .1 .1 .0)) (List._∷_ Row.off (List._∷_ Row.alive (List._∷_ Row.alive (List._∷_ Row.off List.[]))))))) }
+        G47 = record { locals = List._++_ g35 t34; slots = List._∷_ Row.off (List._∷_ Row.off (List._∷_ Row.off (List._∷_ (Row.lease (κs .1 .1 .1 .0) (qs .1 .1 .1 .0)) (List._∷_ Row.off (List._∷_ Row.alive (List._∷_ Row.alive (List._∷_ Row.alive List.[]))))))) }
 
         abbrev G48 : Row.Cx
-        G48 = record { locals = List._++_ g33 t35; slots = List._∷_ Row.off (List._∷_ Row.off (List._∷_ (Row.lease (κs .1 .1 .0) (qs .1 .1 .0)) (List._∷_ (Row.lease (κs .1 .1 .1 .0) (qs .1 .1 .1 .0)) (List._∷_ Row.off (List._∷_ Row.alive (List._∷_ Row.alive (List._∷_ Row.alive List.[]))))))) }
+        G48 = record { locals = List._++_ g35 t34; slots = List._∷_ Row.off (List._∷_ Row.off (List._∷_ Row.off (List._∷_ (Row.lease (κs .1 .1 .1 .0) (qs .1 .1 .1 .0)) (List._∷_ Row.off (List._∷_ Row.dead (List._∷_ Row.alive (List._∷_ Row.alive List.[]))))))) }
 
         abbrev G49 : Row.Cx
-        G49 = record { locals = List._++_ g36 t37; slots = List._∷_ Row.off (List._∷_ Row.off (List._∷_ Row.off (List._∷_ (Row.lease (κs .1 .1 .1 .0) (qs .1 .1 .1 .0)) (List._∷_ Row.off (List._∷_ Row.alive (List._∷_ Row.alive (List._∷_ Row.alive List.[]))))))) }
+        G49 = record { locals = List._++_ g36 t37; slots = List._∷_ (Row.lease (κs .0) (qs .0)) (List._∷_ Row.off (List._∷_ Row.off (List._∷_ (Row.lease (κs .1 .1 .1 .0) (qs .1 .1 .1 .0)) (List._∷_ Row.off (List._∷_ Row.dead (List._∷_ Row.alive (List._∷_ Row.alive List.[]))))))) }
 
         abbrev G50 : Row.Cx
-        G50 = record { locals = List._++_ g38 t39; slots = List._∷_ Row.off (List._∷_ Row.off (List._∷_ Row.off (List._∷_ (Row.lease (κs .1 .1 .1 .0) (qs .1 .1 .1 .0)) (List._∷_ Row.off (List._∷_ Row.alive (List._∷_ Row.alive (List._∷_ Row.alive List.[]))))))) }
+        G50 = record { locals = List._++_ g36 t37; slots = List._∷_ (Row.lease (κs .0) (qs .0)) (List._∷_ Row.off (List._∷_ Row.off (List._∷_ (Row.lease (κs .1 .1 .1 .0) (qs .1 .1 .1 .0)) (List._∷_ Row.off (List._∷_ Row.off (List._∷_ Row.alive (List._∷_ Row.alive List.[]))))))) }
 
         abbrev G51 : Row.Cx
-        G51 = record { locals = List._++_ g40 t39; slots = List._∷_ Row.off (List._∷_ Row.off (List._∷_ Row.off (List._∷_ (Row.lease (κs .1 .1 .1 .0) (qs .1 .1 .1 .0)) (List._∷_ Row.off (List._∷_ Row.alive (List._∷_ Row.alive (List._∷_ Row.alive List.[]))))))) }
+        G51 = record { locals = List._++_ g36 t37; slots = List._∷_ (Row.lease (κs .0) (qs .0)) (List._∷_ Row.off (List._∷_ Row.off (List._∷_ (Row.lease (κs .1 .1 .1 .0) (qs .1 .1 .1 .0)) (List._∷_ Row.off (List._∷_ Row.off (List._∷_ Row.dead (List._∷_ Row.alive List.[]))))))) }
 
         abbrev G52 : Row.Cx
-        G52 = record { locals = List._++_ g41 t39; slots = List._∷_ Row.off (List._∷_ Row.off (List._∷_ Row.off (List._∷_ (Row.lease (κs .1 .1 .1 .0) (qs .1 .1 .1 .0)) (List._∷_ Row.off (List._∷_ Row.alive (List._∷_ Row.alive (List._∷_ Row.alive List.[]))))))) }
+        G52 = record { locals = List._++_ g38 t39; slots = List._∷_ (Row.lease (κs .0) (qs .0)) (List._∷_ (Row.lease (κs .1 .0) (qs .1 .0)) (List._∷_ Row.off (List._∷_ (Row.lease (κs .1 .1 .1 .0) (qs .1 .1 .1 .0)) (List._∷_ Row.off (List._∷_ Row.off (List._∷_ Row.dead (List._∷_ Row.alive List.[]))))))) }
 
         abbrev G53 : Row.Cx
-        G53 = record { locals = List._++_ g42 t39; slots = List._∷_ Row.off (List._∷_ Row.off (List._∷_ Row.off (List._∷_ (Row.lease (κs .1 .1 .1 .0) (qs .1 .1 .1 .0)) (List._∷_ Row.off (List._∷_ Row.alive (List._∷_ Row.alive (List._∷_ Row.alive List.[]))))))) }
+        G53 = record { locals = List._++_ g38 t39; slots = List._∷_ (Row.lease (κs .0) (qs .0)) (List._∷_ (Row.lease (κs .1 .0) (qs .1 .0)) (List._∷_ Row.off (List._∷_ (Row.lease (κs .1 .1 .1 .0) (qs .1 .1 .1 .0)) (List._∷_ Row.off (List._∷_ Row.off (List._∷_ Row.off (List._∷_ Row.alive List.[]))))))) }
 
         abbrev G54 : Row.Cx
-        G54 = record { locals = List._++_ g43 t39; slots = List._∷_ Row.off (List._∷_ Row.off (List._∷_ Row.off (List._∷_ (Row.lease (κs .1 .1 .1 .0) (qs .1 .1 .1 .0)) (List._∷_ Row.off (List._∷_ Row.alive (List._∷_ Row.alive (List._∷_ Row.alive List.[]))))))) }
+        G54 = record { locals = List._++_ g38 t39; slots = List._∷_ (Row.lease (κs .0) (qs .0)) (List._∷_ (Row.lease (κs .1 .0) (qs .1 .0)) (List._∷_ Row.off (List._∷_ (Row.lease (κs .1 .1 .1 .0) (qs .1 .1 .1 .0)) (List._∷_ Row.off (List._∷_ Row.off (List._∷_ Row.off (List._∷_ Row.dead List.[]))))))) }
 
         abbrev G55 : Row.Cx
-        G55 = record { locals = List._++_ g44 t39; slots = List._∷_ Row.off (List._∷_ Row.off (List._∷_ Row.off (List._∷_ (Row.lease (κs .1 .1 .1 .0) (qs .1 .1 .1 .0)) (List._∷_ Row.off (List._∷_ Row.alive (List._∷_ Row.alive (List._∷_ Row.alive List.[]))))))) }
+        G55 = record { locals = List._++_ t3 t1; slots = List._∷_ (Row.lease (κs .0) (qs .0)) (List._∷_ (Row.lease (κs .1 .0) (qs .1 .0)) (List._∷_ (Row.lease (κs .1 .1 .0) (qs .1 .1 .0)) (List._∷_ (Row.lease (κs .1 .1 .1 .0) (qs .1 .1 .1 .0)) (List._∷_ Row.off (List._∷_ Row.off (List._∷_ Row.off (List._∷_ Row.dead List.[]))))))) }
 
         abbrev G56 : Row.Cx
-        G56 = record { locals = List._++_ g44 t39; slots = List._∷_ Row.off (List._∷_ Row.off (List._∷_ Row.off (List._∷_ (Row.lease (κs .1 .1 .1 .0) (qs .1 .1 .1 .0)) (List._∷_ Row.off (List._∷_ Row.dead (List._∷_ Row.alive (List._∷_ Row.alive List.[]))))))) }
+        G56 = record { locals = List._++_ t3 t1; slots = List._∷_ (Row.lease (κs .0) (qs .0)) (List._∷_ (Row.lease (κs .1 .0) (qs .1 .0)) (List._∷_ (Row.lease (κs .1 .1 .0) (qs .1 .1 .0)) (List._∷_ (Row.lease (κs .1 .1 .1 .0) (qs .1 .1 .1 .0)) (List._∷_ Row.off (List._∷_ Row.off (List._∷_ Row.off (List._∷_ Row.off List.[]))))))) }
 
         abbrev G57 : Row.Cx
-        G57 = record { locals = List._++_ g45 t46; slots = List._∷_ (Row.lease (κs .0) (qs .0)) (List._∷_ Row.off (List._∷_ Row.off (List._∷_ (Row.lease (κs .1 .1 .1 .0) (qs .1 .1 .1 .0)) (List._∷_ Row.off (List._∷_ Row.dead (List._∷_ Row.alive (List._∷_ Row.alive List.[]))))))) }
+        G57 = record { locals = List._++_ t40 t1; slots = List._∷_ (Row.lease (κs .0) (qs .0)) (List._∷_ (Row.lease (κs .1 .0) (qs .1 .0)) (List._∷_ (Row.lease (κs .1 .1 .0) (qs .1 .1 .0)) (List._∷_ (Row.lease (κs .1 .1 .1 .0) (qs .1 .1 .1 .0)) (List._∷_ Row.off (List._∷_ Row.off (List._∷_ Row.off (List._∷_ Row.off List.[]))))))) }
 
         abbrev G58 : Row.Cx
-        G58 = record { locals = List._++_ g45 t46; slots = List._∷_ (Row.lease (κs .0) (qs .0)) (List._∷_ Row.off (List._∷_ Row.off (List._∷_ (Row.lease (κs .1 .1 .1 .0) (qs .1 .1 .1 .0)) (List._∷_ Row.off (List._∷_ Row.off (List._∷_ Row.alive (List._∷_ Row.alive List.[]))))))) }
-
-        abbrev G59 : Row.Cx
-        G59 = record { locals = List._++_ g45 t46; slots = List._∷_ (Row.lease (κs .0) (qs .0)) (List._∷_ Row.off (List._∷_ Row.off (List._∷_ (Row.lease (κs .1 .1 .1 .0) (qs .1 .1 .1 .0)) (List._∷_ Row.off (List._∷_ Row.off (List._∷_ Row.dead (List._∷_ Row.alive List.[]))))))) }
-
-        abbrev G60 : Row.Cx
-        G60 = record { locals = List._++_ g47 t48; slots = List._∷_ (Row.lease (κs .0) (qs .0)) (List._∷_ (Row.lease (κs .1 .0) (qs .1 .0)) (List._∷_ Row.off (List._∷_ (Row.lease (κs .1 .1 .1 .0) (qs .1 .1 .1 .0)) (List._∷_ Row.off (List._∷_ Row.off (List._∷_ Row.dead (List._∷_ Row.alive List.[]))))))) }
-
-        abbrev G61 : Row.Cx
-        G61 = record { locals = List._++_ g47 t48; slots = List._∷_ (Row.lease (κs .0) (qs .0)) (List._∷_ (Row.lease (κs .1 .0) (qs .1 .0)) (List._∷_ Row.off (List._∷_ (Row.lease (κs .1 .1 .1 .0) (qs .1 .1 .1 .0)) (List._∷_ Row.off (List._∷_ Row.off (List._∷_ Row.off (List._∷_ Row.alive List.[]))))))) }
-
-        abbrev G62 : Row.Cx
-        G62 = record { locals = List._++_ g47 t48; slots = List._∷_ (Row.lease (κs .0) (qs .0)) (List._∷_ (Row.lease (κs .1 .0) (qs .1 .0)) (List._∷_ Row.off (List._∷_ (Row.lease (κs .1 .1 .1 .0) (qs .1 .1 .1 .0)) (List._∷_ Row.off (List._∷_ Row.off (List._∷_ Row.off (List._∷_ Row.dead List.[]))))))) }
-
-        abbrev G63 : Row.Cx
-        G63 = record { locals = List._++_ t3 t1; slots = List._∷_ (Row.lease (κs .0) (qs .0)) (List._∷_ (Row.lease (κs .1 .0) (qs .1 .0)) (List._∷_ (Row.lease (κs .1 .1 .0) (qs .1 .1 .0)) (List._∷_ (Row.lease (κs .1 .1 .1 .0) (qs .1 .1 .1 .0)) (List._∷_ Row.off (List._∷_ Row.off (List._∷_ Row.off (List._∷_ Row.dead List.[]))))))) }
-
-        abbrev G64 : Row.Cx
-        G64 = record { locals = List._++_ t3 t1; slots = List._∷_ (Row.lease (κs .0) (qs .0)) (List._∷_ (Row.lease (κs .1 .0) (qs .1 .0)) (List._∷_ (Row.lease (κs .1 .1 .0) (qs .1 .1 .0)) (List._∷_ (Row.lease (κs .1 .1 .1 .0) (qs .1 .1 .1 .0)) (List._∷_ Row.off (List._∷_ Row.off (List._∷_ Row.off (List._∷_ Row.off List.[]))))))) }
-
-        abbrev G65 : Row.Cx
-        G65 = record { locals = List._++_ t49 t1; slots = List._∷_ (Row.lease (κs .0) (qs .0)) (List._∷_ (Row.lease (κs .1 .0) (qs .1 .0)) (List._∷_ (Row.lease (κs .1 .1 .0) (qs .1 .1 .0)) (List._∷_ (Row.lease (κs .1 .1 .1 .0) (qs .1 .1 .1 .0)) (List._∷_ Row.off (List._∷_ Row.off (List._∷_ Row.off (List._∷_ Row.off List.[]))))))) }
-
-        abbrev G66 : Row.Cx
-        G66 = record { locals = List._++_ t2 t1; slots = List._∷_ (Row.lease (κs .0) (qs .0)) (List._∷_ (Row.lease (κs .1 .0) (qs .1 .0)) (List._∷_ (Row.lease (κs .1 .1 .0) (qs .1 .1 .0)) (List._∷_ (Row.lease (κs .1 .1 .1 .0) (qs .1 .1 .1 .0)) (List._∷_ Row.off (List._∷_ Row.off (List._∷_ Row.off (List._∷_ Row.off List.[]))))))) }
+        G58 = record { locals = List._++_ t2 t1; slots = List._∷_ (Row.lease (κs .0) (qs .0)) (List._∷_ (Row.lease (κs .1 .0) (qs .1 .0)) (List._∷_ (Row.lease (κs .1 .1 .0) (qs .1 .1 .0)) (List._∷_ (Row.lease (κs .1 .1 .1 .0) (qs .1 .1 .1 .0)) (List._∷_ Row.off (List._∷_ Row.off (List._∷_ Row.off (List._∷_ Row.off List.[]))))))) }
 
         abbrev Δ0 : Typed.Outs
         Δ0 = record { next = Option.none; exits = List.[]; returns = Option.some G1 }
@@ -1127,7 +994,7 @@ module _ (claims· : Claims) where
           E = Frame.EnvOf 𝓤 H (List._∷_ (Kinds.tyR r) (Enter.tysP ps xs)) bs
 
           d0 : Typed.Typed 𝓤 H A 𝓣 E G7 b1 Δ1 at0
-          d0 = Typed.s-typed 𝓤 H A W 𝓣 E G7 b1 Δ1 (λ Ψ. Typed.pass T7 T8 s5 (Typed.pass T8 T9 s6 Ψ)) tt (Typed.g-post 𝓤 H A W 𝓣 E G7 G8 G9 b1 (Typed.pass T7 T8 s5) (Typed.pass T8 T9 s6) (Make.t-enum-make-wt 𝓤 H A W E 𝓣 Answer.the-type Laws.the-laws Laws.the-plain tt G7 15 (List._∷_ (Scalar.oInt Syntax.w8 3) (List._∷_ (Scalar.oAt 6 (Syntax.tyInt Syntax.w8) (Row.valS (Row.sInt Syntax.w8))) List.[])) (λ m. Answer.enum .make (Logic.inr (Logic.inr (Logic.inr (Logic.inl (m .1 .1 .1 .1 .1 .1 .0, tt)))))) (Reads.room-gone 𝓤 H A (Laws.mir)) (tt, ((Scalar.reads-sc 𝓤 H A W (Row.sInt Syntax.w8), Path'.refl), tt)) Path'.refl (λ m wa. Make.made-val Answer.the-type Laws.the-laws (List._∷_ (Laws.the-laws .1 .1 .1 .0 .0 .val (m .1 .1 .1 .1 .1 .1 .0)) List.[]) (Answer.enum .make (Logic.inr (Logic.inr (Logic.inr (Logic.inl (m .1 .1 .1 .1 .1 .1 .0, tt)))))) (Signed.made-wt Field.u8-field (Laws.the-laws .1 .1 .1 .0 .0) Make'.u8-wt (m .1 .1 .1 .1 .1 .1 .0), tt) (wa .1)) λ m wa. Make.made-is Answer.the-type Laws.the-laws (List._∷_ (Laws.the-laws .1 .1 .1 .0 .0 .val (m .1 .1 .1 .1 .1 .1 .0)) List.[]) (Answer.enum .make (Logic.inr (Logic.inr (Logic.inr (Logic.inl (m .1 .1 .1 .1 .1 .1 .0, tt)))))) (Signed.made-wt Field.u8-field (Laws.the-laws .1 .1 .1 .0 .0) Make'.u8-wt (m .1 .1 .1 .1 .1 .1 .0), tt) (wa .1)) (Scalar.g-room 𝓤 H A W E G8 6 (Syntax.tyInt Syntax.w8) (Scalar.room-sc 𝓤 H A W (Row.sInt Syntax.w8))))
+          d0 = Typed.s-typed 𝓤 H A W 𝓣 E G7 b1 Δ1 (λ Ψ. Typed.pass T7 T8 s5 (Typed.pass T8 T9 s6 Ψ)) tt (Typed.g-post 𝓤 H A W 𝓣 E G7 G8 G9 b1 (Typed.pass T7 T8 s5) (Typed.pass T8 T9 s6) (Make.t-enum-make-wt 𝓤 H A W E 𝓣 Answer.the-type Laws.the-laws Laws.the-plain tt G7 11 (List._∷_ (Scalar.oInt Syntax.w8 3) (List._∷_ (Scalar.oAt 6 (Syntax.tyInt Syntax.w8) (Row.valS (Row.sInt Syntax.w8))) List.[])) (λ m. Answer.enum .make (Logic.inr (Logic.inr (Logic.inr (Logic.inl (m .1 .1 .1 .1 .1 .1 .0, tt)))))) (Reads.room-gone 𝓤 H A (Laws.mir)) (tt, ((Scalar.reads-sc 𝓤 H A W (Row.sInt Syntax.w8), Path'.refl), tt)) Path'.refl (λ m wa. Make.made-val Answer.the-type Laws.the-laws (List._∷_ (Laws.the-laws .1 .1 .1 .0 .0 .val (m .1 .1 .1 .1 .1 .1 .0)) List.[]) (Answer.enum .make (Logic.inr (Logic.inr (Logic.inr (Logic.inl (m .1 .1 .1 .1 .1 .1 .0, tt)))))) (Signed.made-wt Field.u8-field (Laws.the-laws .1 .1 .1 .0 .0) Make'.u8-wt (m .1 .1 .1 .1 .1 .1 .0), tt) (wa .1)) λ m wa. Make.made-is Answer.the-type Laws.the-laws (List._∷_ (Laws.the-laws .1 .1 .1 .0 .0 .val (m .1 .1 .1 .1 .1 .1 .0)) List.[]) (Answer.enum .make (Logic.inr (Logic.inr (Logic.inr (Logic.inl (m .1 .1 .1 .1 .1 .1 .0, tt)))))) (Signed.made-wt Field.u8-field (Laws.the-laws .1 .1 .1 .0 .0) Make'.u8-wt (m .1 .1 .1 .1 .1 .1 .0), tt) (wa .1)) (Scalar.g-room 𝓤 H A W E G8 6 (Syntax.tyInt Syntax.w8) (Scalar.room-sc 𝓤 H A W (Row.sInt Syntax.w8))))
 
           d1 : Typed.Typed 𝓤 H A 𝓣 E G6 b1 Δ1 at1
           d1 = Typed.g-pre 𝓤 H A W 𝓣 E G6 G7 b1 Δ1 (Typed.pass T6 T7 s4) at0 (Scalar.g-room 𝓤 H A W E G6 5 (Laws''.mir) (Local.room-whole 𝓤 H A W (Known.Known Verdict.enum 0) (Laws''.mir) Path'.refl)) d0
@@ -1142,7 +1009,7 @@ module _ (claims· : Claims) where
           d4 = Typed.g-pre 𝓤 H A W 𝓣 E G3 G4 b2 Δ1 (Typed.both s1) at3 (Known.g-enum-known 𝓤 H A W E Verdict.enum 0 G3 5 (λ x. x) (Reads.as-is 𝓤 H A (Rows.whole (Declared.row Verdict.the-type)))) d3
 
           d5 : Typed.Typed 𝓤 H A 𝓣 E G13 b4 Δ1 at5
-          d5 = Typed.s-typed 𝓤 H A W 𝓣 E G13 b4 Δ1 (λ Ψ. Typed.pass T13 T14 s11 (Typed.pass T14 T15 s12 Ψ)) tt (Typed.g-post 𝓤 H A W 𝓣 E G13 G14 G15 b4 (Typed.pass T13 T14 s11) (Typed.pass T14 T15 s12) (LocalCopy.t-val-copy 𝓤 H A W E 𝓣 (λ ρ. Unit) G13 7 15 (Declared.row Answer.the-type) (Laws.mir) (Laws.mir) (Rows.whole (Declared.row Answer.the-type)) (Rows.whole (Declared.row Answer.the-type)) (λ x. x) (λ x. x) (λ x. x) Path'.refl (Own.told-none 𝓤 H A (G13 .slots)) (Yields.yields-copy 𝓤 H A W (λ ρ. Unit) (Declared.row Answer.the-type) Path'.refl (Copies.cEnum Answer.the-type Laws.the-laws Laws.the-copy .copy 𝓤 H A W) (Rows.whole (Declared.row Answer.the-type)) (λ x. x) (λ x. x) (λ ρ told. Local.mem-whole 𝓤 H A W (Declared.row Answer.the-type) ρ) λ ρ told. Local.whole-mem 𝓤 H A W (Declared.row Answer.the-type) ρ) (Reads.room-gone 𝓤 H A (Laws.mir)) (Yields.makes-mem 𝓤 H A W (λ ρ. Unit) (Declared.row Answer.the-type) Path'.refl (Rows.whole (Declared.row Answer.the-type)) (λ x. x) λ ρ told. Local.whole-mem 𝓤 H A W (Declared.row Answer.the-type) ρ) Path'.refl Path'.refl) (Scalar.g-room 𝓤 H A W E G14 7 (Laws.mir) (Local.room-whole 𝓤 H A W (Declared.row Answer.the-type) (Laws.mir) Path'.refl)))
+          d5 = Typed.s-typed 𝓤 H A W 𝓣 E G13 b4 Δ1 (λ Ψ. Typed.pass T13 T14 s11 (Typed.pass T14 T15 s12 Ψ)) tt (Typed.g-post 𝓤 H A W 𝓣 E G13 G14 G15 b4 (Typed.pass T13 T14 s11) (Typed.pass T14 T15 s12) (LocalCopy.t-val-copy 𝓤 H A W E 𝓣 (λ ρ. Unit) G13 7 11 (Declared.row Answer.the-type) (Laws.mir) (Laws.mir) (Rows.whole (Declared.row Answer.the-type)) (Rows.whole (Declared.row Answer.the-type)) (λ x. x) (λ x. x) (λ x. x) Path'.refl (Own.told-none 𝓤 H A (G13 .slots)) (Yields.yields-copy 𝓤 H A W (λ ρ. Unit) (Declared.row Answer.the-type) Path'.refl (Copies.cEnum Answer.the-type Laws.the-laws Laws.the-copy .copy 𝓤 H A W) (Rows.whole (Declared.row Answer.the-type)) (λ x. x) (λ x. x) (λ ρ told. Local.mem-whole 𝓤 H A W (Declared.row Answer.the-type) ρ) λ ρ told. Local.whole-mem 𝓤 H A W (Declared.row Answer.the-type) ρ) (Reads.room-gone 𝓤 H A (Laws.mir)) (Yields.makes-mem 𝓤 H A W (λ ρ. Unit) (Declared.row Answer.the-type) Path'.refl (Rows.whole (Declared.row Answer.the-type)) (λ x. x) λ ρ told. Local.whole-mem 𝓤 H A W (Declared.row Answer.the-type) ρ) Path'.refl Path'.refl) (Scalar.g-room 𝓤 H A W E G14 7 (Laws.mir) (Local.room-whole 𝓤 H A W (Declared.row Answer.the-type) (Laws.mir) Path'.refl)))
 
           d6 : Typed.Typed 𝓤 H A 𝓣 E G12 b4 Δ1 at6
           d6 = Typed.g-pre 𝓤 H A W 𝓣 E G12 G13 b4 Δ1 (Typed.pass T12 T13 s10) at5 (Scalar.g-room 𝓤 H A W E G12 5 (Laws''.mir) (Local.room-whole 𝓤 H A W (Known.Known Verdict.enum 1) (Laws''.mir) Path'.refl)) d5
@@ -1157,7 +1024,7 @@ module _ (claims· : Claims) where
           d9 = Typed.g-pre 𝓤 H A W 𝓣 E G3 G10 b5 Δ1 (Typed.both s7) at8 (Known.g-enum-known 𝓤 H A W E Verdict.enum 1 G3 5 (λ x. x) (Reads.as-is 𝓤 H A (Rows.whole (Declared.row Verdict.the-type)))) d8
 
           d10 : Typed.Typed 𝓤 H A 𝓣 E G30 b12 Δ1 at10
-          d10 = Typed.s-typed 𝓤 H A W 𝓣 E G30 b12 Δ1 (λ Ψ. Typed.pass T30 T31 s28 (Typed.pass T31 T32 s29 (Typed.pass T32 T33 s30 Ψ))) tt (Typed.g-post 𝓤 H A W 𝓣 E G30 G32 G33 b12 (λ Ψ. Typed.pass T30 T31 s28 (Typed.pass T31 T32 s29 Ψ)) (Typed.pass T32 T33 s30) (Typed.g-post 𝓤 H A W 𝓣 E G30 G31 G32 b12 (Typed.pass T30 T31 s28) (Typed.pass T31 T32 s29) (Make.t-enum-make-wt 𝓤 H A W E 𝓣 Answer.the-type Laws.the-laws Laws.the-plain tt G30 15 (List._∷_ (Scalar.oInt Syntax.w8 0) List.[]) (λ m. Answer.enum .make (Logic.inl tt)) (Reads.room-gone 𝓤 H A (Laws.mir)) (tt, tt) Path'.refl (λ m wa. Make.made-val Answer.the-type Laws.the-laws List.[] (Answer.enum .make (Logic.inl tt)) tt (wa .1)) λ m wa. Make.made-is Answer.the-type Laws.the-laws List.[] (Answer.enum .make (Logic.inl tt)) tt (wa .1)) (Scalar.g-room 𝓤 H A W E G31 8 (Syntax.tyInt Syntax.w64) (Scalar.room-sc 𝓤 H A W (Row.sInt Syntax.w64)))) (Scalar.g-room 𝓤 H A W E G32 9 (Syntax.tyInt Syntax.w64) (Scalar.room-sc 𝓤 H A W (Row.sInt Syntax.w64))))
+          d10 = Typed.s-typed 𝓤 H A W 𝓣 E G30 b12 Δ1 (λ Ψ. Typed.pass T30 T31 s28 (Typed.pass T31 T32 s29 (Typed.pass T32 T33 s30 Ψ))) tt (Typed.g-post 𝓤 H A W 𝓣 E G30 G32 G33 b12 (λ Ψ. Typed.pass T30 T31 s28 (Typed.pass T31 T32 s29 Ψ)) (Typed.pass T32 T33 s30) (Typed.g-post 𝓤 H A W 𝓣 E G30 G31 G32 b12 (Typed.pass T30 T31 s28) (Typed.pass T31 T32 s29) (Make.t-enum-make-wt 𝓤 H A W E 𝓣 Answer.the-type Laws.the-laws Laws.the-plain tt G30 11 (List._∷_ (Scalar.oInt Syntax.w8 0) List.[]) (λ m. Answer.enum .make (Logic.inl tt)) (Reads.room-gone 𝓤 H A (Laws.mir)) (tt, tt) Path'.refl (λ m wa. Make.made-val Answer.the-type Laws.the-laws List.[] (Answer.enum .make (Logic.inl tt)) tt (wa .1)) λ m wa. Make.made-is Answer.the-type Laws.the-laws List.[] (Answer.enum .make (Logic.inl tt)) tt (wa .1)) (Scalar.g-room 𝓤 H A W E G31 8 (Syntax.tyInt Syntax.w64) (Scalar.room-sc 𝓤 H A W (Row.sInt Syntax.w64)))) (Scalar.g-room 𝓤 H A W E G32 9 (Syntax.tyInt Syntax.w64) (Scalar.room-sc 𝓤 H A W (Row.sInt Syntax.w64))))
 
           d11 : Typed.Typed 𝓤 H A 𝓣 E G29 b13 Δ1 at11
           d11 = Typed.s-seq 𝓤 H A W 𝓣 E G29 G30 b11 b12 Δ1 (Typed.pass T28 T30 s27) at10 (Deref.t-ref-write 𝓤 H A W E 𝓣 G29 3 2 (Referent.fInt Syntax.w64) (Syntax.tyRef (Syntax.named 2) Syntax.mut (Syntax.tyInt Syntax.w64)) (Row.lease (κs .1 .1 .0) (qs .1 .1 .0)) (λ x. x) (Scalar.oAt 8 (Syntax.tyInt Syntax.w64) (Row.valS (Row.sInt Syntax.w64))) (Reads.as-is 𝓤 H A (Rows.mref (Referent.rtF (Referent.fInt Syntax.w64)) (Syntax.tyRef (Syntax.named 2) Syntax.mut (Syntax.tyInt Syntax.w64)) 2)) (Scalar.reads-sc 𝓤 H A W (Row.sInt Syntax.w64), Path'.refl) Path'.refl tt Path'.refl λ u. Path'.refl) d10
@@ -1166,25 +1033,25 @@ module _ (claims· : Claims) where
           d12 = Typed.g-pre 𝓤 H A W 𝓣 E G28 G29 b13 Δ1 (λ Ψ. Ψ) at11 (Lifetime.g-forget 𝓤 H A W E G28 4 Row.dead Path'.refl) d11
 
           d13 : Typed.Typed 𝓤 H A 𝓣 E G27 b13 Δ1 at13
-          d13 = Typed.g-pre 𝓤 H A W 𝓣 E G27 G28 b13 Δ1 (Typed.both s25) at12 (Relend.g-back-sl 𝓤 H A W E (OfOutput.row) G27 18 1 0 4 (Syntax.tyRef (Syntax.named 0) Syntax.mut OfOutput.named) (Syntax.tyRef Syntax.erased Syntax.mut OfOutput.named) (Row.lease (κs .0) (qs .0)) (λ x. x) (λ x. x) (Reads.as-is 𝓤 H A (Mut.msleft (OfOutput.row) (Syntax.tyRef Syntax.erased Syntax.mut OfOutput.named))) (Reads.as-is 𝓤 H A (Relend.mslice-owed (OfOutput.row) (Syntax.tyRef (Syntax.named 0) Syntax.mut OfOutput.named) 0 4 (Row.lease (κs .0) (qs .0)))) Path'.refl Path'.refl) d12
+          d13 = Typed.g-pre 𝓤 H A W 𝓣 E G27 G28 b13 Δ1 (Typed.both s25) at12 (Relend.g-back-sl 𝓤 H A W E (OfOutput.row) G27 14 1 0 4 (Syntax.tyRef (Syntax.named 0) Syntax.mut OfOutput.named) (Syntax.tyRef Syntax.erased Syntax.mut OfOutput.named) (Row.lease (κs .0) (qs .0)) (λ x. x) (λ x. x) (Reads.as-is 𝓤 H A (Mut.msleft (OfOutput.row) (Syntax.tyRef Syntax.erased Syntax.mut OfOutput.named))) (Reads.as-is 𝓤 H A (Relend.mslice-owed (OfOutput.row) (Syntax.tyRef (Syntax.named 0) Syntax.mut OfOutput.named) 0 4 (Row.lease (κs .0) (qs .0)))) Path'.refl Path'.refl) d12
 
           d14 : Typed.Typed 𝓤 H A 𝓣 E G26 b13 Δ1 at14
           d14 = Typed.g-pre 𝓤 H A W 𝓣 E G26 G27 b13 Δ1 (λ Ψ. Ψ) at13 (Lifetime.g-end 𝓤 H A W E G26 4 Path'.refl) d13
 
           d15 : Typed.Typed 𝓤 H A 𝓣 E G25 b13 Δ1 at15
-          d15 = Typed.g-pre 𝓤 H A W 𝓣 E G25 G26 b13 Δ1 (Typed.pass T25 T26 s23) at14 (Scalar.g-room 𝓤 H A W E G25 16 Syntax.tyUnit (Scalar.room-sc 𝓤 H A W Row.sUnit)) d14
+          d15 = Typed.g-pre 𝓤 H A W 𝓣 E G25 G26 b13 Δ1 (Typed.pass T25 T26 s23) at14 (Scalar.g-room 𝓤 H A W E G25 12 Syntax.tyUnit (Scalar.room-sc 𝓤 H A W Row.sUnit)) d14
 
           d16 : Typed.Typed 𝓤 H A 𝓣 E G24 b14 Δ1 at16
-          d16 = Typed.s-seq 𝓤 H A W 𝓣 E G24 G25 b10 b13 Δ1 (Typed.both s22) at15 (Plain.t-call-plain 𝓤 H A W 𝓣 1 ps·0 r·0 (claims· .0) (claims· .1) "tables::advance_outputs" (known .0) E (λ pos β. β) G24 (record { pos = 18; ty = Syntax.tyRef Syntax.erased Syntax.mut OfOutput.named; ref = λ x. x }, (Num.vAt 9 λ x. x, (Num.vAt 8 λ x. x, tt))) 16 (List._∷_ 4 List.[]) (Call.sub-id 𝓤 H A W (G24 .slots)) (Reads.as-is 𝓤 H A (Mut.mslice (OfOutput.row) (Syntax.tyRef Syntax.erased Syntax.mut OfOutput.named) 4), Mut.reads-mslice 𝓤 H A W (OfOutput.row) (Syntax.tyRef Syntax.erased Syntax.mut OfOutput.named) 4, Path'.refl, ((Scalar.reads-sc 𝓤 H A W (Row.sInt Syntax.w64), Path'.refl), ((Scalar.reads-sc 𝓤 H A W (Row.sInt Syntax.w64), Path'.refl), tt))) (Reads.room-gone 𝓤 H A Syntax.tyUnit) (tt, tt) Path'.refl) d15
+          d16 = Typed.s-seq 𝓤 H A W 𝓣 E G24 G25 b10 b13 Δ1 (Typed.both s22) at15 (Plain.t-call-plain 𝓤 H A W 𝓣 1 ps·0 r·0 (claims· .0) (claims· .1) "tables::advance_outputs" (known .0) E (λ pos β. β) G24 (record { pos = 14; ty = Syntax.tyRef Syntax.erased Syntax.mut OfOutput.named; ref = λ x. x }, (Num.vAt 9 λ x. x, (Num.vAt 8 λ x. x, tt))) 12 (List._∷_ 4 List.[]) (Call'.sub-id 𝓤 H A W (G24 .slots)) (Reads.as-is 𝓤 H A (Mut.mslice (OfOutput.row) (Syntax.tyRef Syntax.erased Syntax.mut OfOutput.named) 4), Mut.reads-mslice 𝓤 H A W (OfOutput.row) (Syntax.tyRef Syntax.erased Syntax.mut OfOutput.named) 4, Path'.refl, ((Scalar.reads-sc 𝓤 H A W (Row.sInt Syntax.w64), Path'.refl), ((Scalar.reads-sc 𝓤 H A W (Row.sInt Syntax.w64), Path'.refl), tt))) (Reads.room-gone 𝓤 H A Syntax.tyUnit) (tt, tt) Path'.refl) d15
 
           d17 : Typed.Typed 𝓤 H A 𝓣 E G23 b15 Δ1 at17
-          d17 = Typed.s-seq 𝓤 H A W 𝓣 E G23 G24 b9 b14 Δ1 (Typed.ask s21) at16 (Relend.t-sl-aggregate 𝓤 H A W E (OfOutput.row) 𝓣 (Relend.asMut (OfOutput.row)) G23 17 18 4 (Syntax.tyRef Syntax.erased Syntax.mut OfOutput.named) (Syntax.tyRef Syntax.erased Syntax.mut OfOutput.named) (λ x. x) (Scalar.oFld 1 (List._∷_ (Syntax.field 1) List.[]) (Syntax.tyInt Syntax.w64) 8 λ v. Shared.lenV (v .0)) (Reads.as-is 𝓤 H A (Relend.msptr (OfOutput.row) (Syntax.tyRef Syntax.erased Syntax.mut OfOutput.named) 4)) (Reads.room-gone 𝓤 H A (Syntax.tyStruct (List._∷_ 38 (List._∷_ 91 (List._∷_ 93 List.[]))) (Syntax.tcons (Syntax.tyRef Syntax.erased Syntax.mut OfOutput.named) (Syntax.tcons (Syntax.tyInt Syntax.w64) Syntax.tnil)))) (Relend.reads-owed-len 𝓤 H A W (OfOutput.row) (Syntax.tyRef (Syntax.named 0) Syntax.mut OfOutput.named) 0 4 (Row.lease (κs .0) (qs .0)) 8 Path'.refl, Path'.refl) Path'.refl Path'.refl λ b o k. tt) d16
+          d17 = Typed.s-seq 𝓤 H A W 𝓣 E G23 G24 b9 b14 Δ1 (Typed.ask s21) at16 (Relend.t-sl-aggregate 𝓤 H A W E (OfOutput.row) 𝓣 (Relend.asMut (OfOutput.row)) G23 13 14 4 (Syntax.tyRef Syntax.erased Syntax.mut OfOutput.named) (Syntax.tyRef Syntax.erased Syntax.mut OfOutput.named) (λ x. x) (Scalar.oFld 1 (List._∷_ (Syntax.field 1) List.[]) (Syntax.tyInt Syntax.w64) 8 λ v. Shared.lenV (v .0)) (Reads.as-is 𝓤 H A (Relend.msptr (OfOutput.row) (Syntax.tyRef Syntax.erased Syntax.mut OfOutput.named) 4)) (Reads.room-gone 𝓤 H A (Syntax.tyStruct (List._∷_ 38 (List._∷_ 91 (List._∷_ 93 List.[]))) (Syntax.tcons (Syntax.tyRef Syntax.erased Syntax.mut OfOutput.named) (Syntax.tcons (Syntax.tyInt Syntax.w64) Syntax.tnil)))) (Relend.reads-owed-len 𝓤 H A W (OfOutput.row) (Syntax.tyRef (Syntax.named 0) Syntax.mut OfOutput.named) 0 4 (Row.lease (κs .0) (qs .0)) 8 Path'.refl, Path'.refl) Path'.refl Path'.refl λ b o k. tt) d16
 
           d18 : Typed.Typed 𝓤 H A 𝓣 E G22 b16 Δ1 at18
-          d18 = Typed.s-seq 𝓤 H A W 𝓣 E G22 G23 b8 b15 Δ1 (Typed.give s20) at17 (Relend.t-sl-relend 𝓤 H A W E (OfOutput.row) 𝓣 G22 1 17 0 4 (Syntax.tyRef (Syntax.named 0) Syntax.mut OfOutput.named) (Syntax.tyRef Syntax.erased Syntax.mut OfOutput.named) (Row.lease (κs .0) (qs .0)) 0 (λ x. x) (Reads.as-is 𝓤 H A (Mut.mslice (OfOutput.row) (Syntax.tyRef (Syntax.named 0) Syntax.mut OfOutput.named) 0)) (Reads.room-gone 𝓤 H A (Syntax.tyRef Syntax.erased Syntax.mut OfOutput.named)) Path'.refl tt Path'.refl Path'.refl Path'.refl λ b o. tt) d17
+          d18 = Typed.s-seq 𝓤 H A W 𝓣 E G22 G23 b8 b15 Δ1 (Typed.give s20) at17 (Relend.t-sl-relend 𝓤 H A W E (OfOutput.row) 𝓣 G22 1 13 0 4 (Syntax.tyRef (Syntax.named 0) Syntax.mut OfOutput.named) (Syntax.tyRef Syntax.erased Syntax.mut OfOutput.named) (Row.lease (κs .0) (qs .0)) 0 (λ x. x) (Reads.as-is 𝓤 H A (Mut.mslice (OfOutput.row) (Syntax.tyRef (Syntax.named 0) Syntax.mut OfOutput.named) 0)) (Reads.room-gone 𝓤 H A (Syntax.tyRef Syntax.erased Syntax.mut OfOutput.named)) Path'.refl tt Path'.refl Path'.refl Path'.refl λ b o. tt) d17
 
           d19 : Typed.Typed 𝓤 H A 𝓣 E G21 b16 Δ1 at19
-          d19 = Typed.g-pre 𝓤 H A W 𝓣 E G21 G22 b16 Δ1 (λ Ψ. Ψ) at18 (Lifetime.g-begin 𝓤 H A W E G21 4 (tt, (tt, (tt, (tt, (tt, (tt, (tt, (tt, (tt, (tt, (tt, (tt, (tt, (tt, (tt, (tt, (tt, (tt, (tt, (tt, (tt, (tt, (tt, (tt, tt))))))))))))))))))))))))) d18
+          d19 = Typed.g-pre 𝓤 H A W 𝓣 E G21 G22 b16 Δ1 (λ Ψ. Ψ) at18 (Lifetime.g-begin 𝓤 H A W E G21 4 (tt, (tt, (tt, (tt, (tt, (tt, (tt, (tt, (tt, (tt, (tt, (tt, (tt, (tt, (tt, (tt, (tt, (tt, (tt, (tt, tt))))))))))))))))))))) d18
 
           d20 : Typed.Typed 𝓤 H A 𝓣 E G20 b16 Δ1 at20
           d20 = Typed.g-pre 𝓤 H A W 𝓣 E G20 G21 b16 Δ1 (Typed.give s18) at19 (Know.g-row-known 𝓤 H A W E G20 9) d19
@@ -1204,74 +1071,62 @@ module _ (claims· : Claims) where
           d25 : Typed.Typed 𝓤 H A 𝓣 E G3 b18 Δ1 at25
           d25 = Typed.g-pre 𝓤 H A W 𝓣 E G3 G16 b18 Δ1 (Typed.both s13) at24 (Known.g-enum-known 𝓤 H A W E Verdict.enum 2 G3 5 (λ x. x) (Reads.as-is 𝓤 H A (Rows.whole (Declared.row Verdict.the-type)))) d24
 
-          d26 : Typed.Typed 𝓤 H A 𝓣 E G49 b29 Δ1 at26
-          d26 = Typed.s-typed 𝓤 H A W 𝓣 E G49 b29 Δ1 (λ Ψ. Typed.both s47 (Typed.pass T50 T51 s48 (Typed.pass T51 T52 s49 (Typed.pass T52 T53 s50 (Typed.pass T53 T54 s51 (Typed.pass T54 T55 s52 (Typed.both s54 (Typed.both s57 (Typed.ask s60 Ψ))))))))) tt (Typed.g-post 𝓤 H A W 𝓣 E G49 G63 G64 b29 (λ Ψ. Typed.both s47 (Typed.pass T50 T51 s48 (Typed.pass T51 T52 s49 (Typed.pass T52 T53 s50 (Typed.pass T53 T54 s51 (Typed.pass T54 T55 s52 (Typed.both s54 (Typed.both s57 (Typed.ask s60 Ψ))))))))) (λ Ψ. Ψ) (Typed.g-post 𝓤 H A W 𝓣 E G49 G62 G63 b29 (λ Ψ. Typed.both s47 (Typed.pass T50 T51 s48 (Typed.pass T51 T52 s49 (Typed.pass T52 T53 s50 (Typed.pass T53 T54 s51 (Typed.pass T54 T55 s52 (Typed.both s54 (Typed.both s57 Ψ)))))))) (Typed.ask s60) (Typed.g-post 𝓤 H A W 𝓣 E G49 G61 G62 b29 (λ Ψ. Typed.both s47 (Typed.pass T50 T51 s48 (Typed.pass T51 T52 s49 (Typed.pass T52 T53 s50 (Typed.pass T53 T54 s51 (Typed.pass T54 T55 s52 (Typed.both s54 (Typed.both s57 Ψ)))))))) (λ Ψ. Ψ) (Typed.g-post 𝓤 H A W 𝓣 E G49 G60 G61 b29 (λ Ψ. Typed.both s47 (Typed.pass T50 T51 s48 (Typed.pass T51 T52 s49 (Typed.pass T52 T53 s50 (Typed.pass T53 T54 s51 (Typed.pass T54 T55 s52 (Typed.both s54 (Typed.both s57 Ψ)))))))) (λ Ψ. Ψ) (Typed.g-post 𝓤 H A W 𝓣 E G49 G59 G60 b29 (λ Ψ. Typed.both s47 (Typed.pass T50 T51 s48 (Typed.pass T51 T52 s49 (Typed.pass T52 T53 s50 (Typed.pass T53 T54 s51 (Typed.pass T54 T55 s52 (Typed.both s54 Ψ))))))) (Typed.both s57) (Typed.g-post 𝓤 H A W 𝓣 E G49 G58 G59 b29 (λ Ψ. Typed.both s47 (Typed.pass T50 T51 s48 (Typed.pass T51 T52 s49 (Typed.pass T52 T53 s50 (Typed.pass T53 T54 s51 (Typed.pass T54 T55 s52 (Typed.both s54 Ψ))))))) (λ Ψ. Ψ) (Typed.g-post 𝓤 H A W 𝓣 E G49 G57 G58 b29 (λ Ψ. Typed.both s47 (Typed.pass T50 T51 s48 (Typed.pass T51 T52 s49 (Typed.pass T52 T53 s50 (Typed.pass T53 T54 s51 (Typed.pass T54 T55 s52 (Typed.both s54 Ψ))))))) (λ Ψ. Ψ) (Typed.g-post 𝓤 H A W 𝓣 E G49 G56 G57 b29 (λ Ψ. Typed.both s47 (Typed.pass T50 T51 s48 (Typed.pass T51 T52 s49 (Typed.pass T52 T53 s50 (Typed.pass T53 T54 s51 (Typed.pass T54 T55 s52 Ψ)))))) (Typed.both s54) (Typed.g-post 𝓤 H A W 𝓣 E G49 G55 G56 b29 (λ Ψ. Typed.both s47 (Typed.pass T50 T51 s48 (Typed.pass T51 T52 s49 (Typed.pass T52 T53 s50 (Typed.pass T53 T54 s51 (Typed.pass T54 T55 s52 Ψ)))))) (λ Ψ. Ψ) (Typed.g-post 𝓤 H A W 𝓣 E G49 G54 G55 b29 (λ Ψ. Typed.both s47 (Typed.pass T50 T51 s48 (Typed.pass T51 T52 s49 (Typed.pass T52 T53 s50 (Typed.pass T53 T54 s51 Ψ))))) (Typed.pass T54 T55 s52) (Typed.g-post 𝓤 H A W 𝓣 E G49 G53 G54 b29 (λ Ψ. Typed.both s47 (Typed.pass T50 T51 s48 (Typed.pass T51 T52 s49 (Typed.pass T52 T53 s50 Ψ)))) (Typed.pass T53 T54 s51) (Typed.g-post 𝓤 H A W 𝓣 E G49 G52 G53 b29 (λ Ψ. Typed.both s47 (Typed.pass T50 T51 s48 (Typed.pass T51 T52 s49 Ψ))) (Typed.pass T52 T53 s50) (Typed.g-post 𝓤 H A W 𝓣 E G49 G51 G52 b29 (λ Ψ. Typed.both s47 (Typed.pass T50 T51 s48 Ψ)) (Typed.pass T51 T52 s49) (Typed.g-post 𝓤 H A W 𝓣 E G49 G50 G51 b29 (Typed.both s47) (Typed.pass T50 T51 s48) (Plain.t-call-plain 𝓤 H A W 𝓣 4 ps·1 r·1 (claims· .2) (claims· .3) "panel::arrive" (known .1) E (λ pos β. β) G49 (record { pos = 20; ty = Syntax.tyRef Syntax.erased Syntax.mut OfOutput.named; ref = λ x. x }, (record { pos = 22; ty = Syntax.tyRef Syntax.erased Syntax.mut OfStation.named; ref = λ x. x }, (record { pos = 23; ty = Syntax.tyRef Syntax.erased Syntax.mut (Syntax.tyInt Syntax.w64); ref = λ x. x }, (record { pos = 4; ty = Syntax.tyRef (Syntax.named 3) Syntax.imm (Syntax.tyInt Syntax.w8); ref = λ x. x }, (Num.vAt 10 λ x. x, (Num.vAt 11 λ x. x, (Num.vAt 12 λ x. x, (Num.vAt 13 λ x. x, (record { pos = 14; st = List.[]; d = 0; at = λ x. x }, tt))))))))) 15 (List._∷_ 5 (List._∷_ 6 (List._∷_ 7 (List._∷_ 3 List.[])))) (Call.sub-id 𝓤 H A W (G49 .slots)) (Reads.as-is 𝓤 H A (Mut.mslice (OfOutput.row) (Syntax.tyRef Syntax.erased Syntax.mut OfOutput.named) 5), Mut.reads-mslice 𝓤 H A W (OfOutput.row) (Syntax.tyRef Syntax.erased Syntax.mut OfOutput.named) 5, Path'.refl, (Reads.as-is 𝓤 H A (Mut.mslice (OfStation.row) (Syntax.tyRef Syntax.erased Syntax.mut OfStation.named) 6), Mut.reads-mslice 𝓤 H A W (OfStation.row) (Syntax.tyRef Syntax.erased Syntax.mut OfStation.named) 6, Path'.refl, (Reads.as-is 𝓤 H A (Rows.mref (Referent.rtF (Referent.fInt Syntax.w64)) (Syntax.tyRef Syntax.erased Syntax.mut (Syntax.tyInt Syntax.w64)) 7), Reads.reads-mref 𝓤 H A W (Referent.rtF (Referent.fInt Syntax.w64)) (Syntax.tyRef Syntax.erased Syntax.mut (Syntax.tyInt Syntax.w64)) 7, Path'.refl, (ShrSlice.spares-sslice 𝓤 H A W (Referent.rtF (Referent.fInt Syntax.w8)) (Syntax.tyRef (Syntax.named 3) Syntax.imm (Syntax.tyInt Syntax.w8)) 3, Shared.reads-sslice 𝓤 H A W (Referent.rtF (Referent.fInt Syntax.w8)) (Syntax.tyRef (Syntax.named 3) Syntax.imm (Syntax.tyInt Syntax.w8)) 3, Path'.refl, ((Scalar.reads-sc 𝓤 H A W (Row.sInt Syntax.w8), Path'.refl), ((Scalar.reads-sc 𝓤 H A W (Row.sInt Syntax.w32), Path'.refl), ((Scalar.reads-sc 𝓤 H A W (Row.sInt Syntax.w64), Path'.refl), ((Scalar.reads-sc 𝓤 H A W (Row.sInt Syntax.w8), Path'.refl), ((Yields.yields-copy 𝓤 H A W (λ ρ. Unit) (Declared.row Request.the-type) Path'.refl (Copies.cEnum Request.the-type Laws'.the-laws Laws'.the-copy .copy 𝓤 H A W) (Rows.whole (Declared.row Request.the-type)) (λ x. x) (λ x. x) (λ ρ told. Local.mem-whole 𝓤 H A W (Declared.row Request.the-type) ρ) λ ρ told. Local.whole-mem 𝓤 H A W (Declared.row Request.the-type) ρ, Path'.refl), tt))))))))) (Reads.room-gone 𝓤 H A (Laws.mir)) (tt, (tt, (tt, (tt, tt)))) Path'.refl) (Scalar.g-room 𝓤 H A W E G50 10 (Syntax.tyInt Syntax.w8) (Scalar.room-sc 𝓤 H A W (Row.sInt Syntax.w8)))) (Scalar.g-room 𝓤 H A W E G51 11 (Syntax.tyInt Syntax.w32) (Scalar.room-sc 𝓤 H A W (Row.sInt Syntax.w32)))) (Scalar.g-room 𝓤 H A W E G52 12 (Syntax.tyInt Syntax.w64) (Scalar.room-sc 𝓤 H A W (Row.sInt Syntax.w64)))) (Scalar.g-room 𝓤 H A W E G53 13 (Syntax.tyInt Syntax.w8) (Scalar.room-sc 𝓤 H A W (Row.sInt Syntax.w8)))) (Scalar.g-room 𝓤 H A W E G54 14 (Laws'.mir) (Local.room-whole 𝓤 H A W (Declared.row Request.the-type) (Laws'.mir) Path'.refl))) (Lifetime.g-end 𝓤 H A W E G55 5 Path'.refl)) (Relend.g-back-sl 𝓤 H A W E (OfOutput.row) G56 20 1 0 5 (Syntax.tyRef (Syntax.named 0) Syntax.mut OfOutput.named) (Syntax.tyRef Syntax.erased Syntax.mut OfOutput.named) (Row.lease (κs .0) (qs .0)) (λ x. x) (λ x. x) (Reads.as-is 𝓤 H A (Mut.msleft (OfOutput.row) (Syntax.tyRef Syntax.erased Syntax.mut OfOutput.named))) (Reads.as-is 𝓤 H A (Relend.mslice-owed (OfOutput.row) (Syntax.tyRef (Syntax.named 0) Syntax.mut OfOutput.named) 0 5 (Row.lease (κs .0) (qs .0)))) Path'.refl Path'.refl)) (Lifetime.g-forget 𝓤 H A W E G57 5 Row.dead Path'.refl)) (Lifetime.g-end 𝓤 H A W E G58 6 Path'.refl)) (Relend.g-back-sl 𝓤 H A W E (OfStation.row) G59 22 2 1 6 (Syntax.tyRef (Syntax.named 1) Syntax.mut OfStation.named) (Syntax.tyRef Syntax.erased Syntax.mut OfStation.named) (Row.lease (κs .1 .0) (qs .1 .0)) (λ x. x) (λ x. x) (Reads.as-is 𝓤 H A (Mut.msleft (OfStation.row) (Syntax.tyRef Syntax.erased Syntax.mut OfStation.named))) (Reads.as-is 𝓤 H A (Relend.mslice-owed (OfStation.row) (Syntax.tyRef (Syntax.named 1) Syntax.mut OfStation.named) 1 6 (Row.lease (κs .1 .0) (qs .1 .0)))) Path'.refl Path'.refl)) (Lifetime.g-forget 𝓤 H A W E G60 6 Row.dead Path'.refl)) (Lifetime.g-end 𝓤 H A W E G61 7 Path'.refl)) (Reborrow.g-back-mref 𝓤 H A W E G62 23 3 2 7 (Referent.rtF (Referent.fInt Syntax.w64)) (Syntax.tyRef (Syntax.named 2) Syntax.mut (Syntax.tyInt Syntax.w64)) (Syntax.tyRef Syntax.erased Syntax.mut (Syntax.tyInt Syntax.w64)) (Row.lease (κs .1 .1 .0) (qs .1 .1 .0)) (λ x. x) (λ x. x) (Reads.as-is 𝓤 H A (Rows.mleft (Referent.rtF (Referent.fInt Syntax.w64)) (Syntax.tyRef Syntax.erased Syntax.mut (Syntax.tyInt Syntax.w64)))) (Reads.as-is 𝓤 H A (Rows.mref-owed (Referent.rtF (Referent.fInt Syntax.w64)) (Syntax.tyRef (Syntax.named 2) Syntax.mut (Syntax.tyInt Syntax.w64)) 2 7 (Row.lease (κs .1 .1 .0) (qs .1 .1 .0)))) Path'.refl Path'.refl)) (Lifetime.g-forget 𝓤 H A W E G63 7 Row.dead Path'.refl))
+          d26 : Typed.Typed 𝓤 H A 𝓣 E G45 b25 Δ1 at26
+          d26 = Typed.s-typed 𝓤 H A W 𝓣 E G45 b25 Δ1 (λ Ψ. Typed.both s43 (Typed.pass T46 T47 s44 (Typed.both s46 (Typed.both s49 (Typed.ask s52 Ψ))))) tt (Typed.g-post 𝓤 H A W 𝓣 E G45 G55 G56 b25 (λ Ψ. Typed.both s43 (Typed.pass T46 T47 s44 (Typed.both s46 (Typed.both s49 (Typed.ask s52 Ψ))))) (λ Ψ. Ψ) (Typed.g-post 𝓤 H A W 𝓣 E G45 G54 G55 b25 (λ Ψ. Typed.both s43 (Typed.pass T46 T47 s44 (Typed.both s46 (Typed.both s49 Ψ)))) (Typed.ask s52) (Typed.g-post 𝓤 H A W 𝓣 E G45 G53 G54 b25 (λ Ψ. Typed.both s43 (Typed.pass T46 T47 s44 (Typed.both s46 (Typed.both s49 Ψ)))) (λ Ψ. Ψ) (Typed.g-post 𝓤 H A W 𝓣 E G45 G52 G53 b25 (λ Ψ. Typed.both s43 (Typed.pass T46 T47 s44 (Typed.both s46 (Typed.both s49 Ψ)))) (λ Ψ. Ψ) (Typed.g-post 𝓤 H A W 𝓣 E G45 G51 G52 b25 (λ Ψ. Typed.both s43 (Typed.pass T46 T47 s44 (Typed.both s46 Ψ))) (Typed.both s49) (Typed.g-post 𝓤 H A W 𝓣 E G45 G50 G51 b25 (λ Ψ. Typed.both s43 (Typed.pass T46 T47 s44 (Typed.both s46 Ψ))) (λ Ψ. Ψ) (Typed.g-post 𝓤 H A W 𝓣 E G45 G49 G50 b25 (λ Ψ. Typed.both s43 (Typed.pass T46 T47 s44 (Typed.both s46 Ψ))) (λ Ψ. Ψ) (Typed.g-post 𝓤 H A W 𝓣 E G45 G48 G49 b25 (λ Ψ. Typed.both s43 (Typed.pass T46 T47 s44 Ψ)) (Typed.both s46) (Typed.g-post 𝓤 H A W 𝓣 E G45 G47 G48 b25 (λ Ψ. Typed.both s43 (Typed.pass T46 T47 s44 Ψ)) (λ Ψ. Ψ) (Typed.g-post 𝓤 H A W 𝓣 E G45 G46 G47 b25 (Typed.both s43) (Typed.pass T46 T47 s44) (Plain.t-call-plain 𝓤 H A W 𝓣 4 ps·1 r·1 (claims· .2) (claims· .3) "panel::arrive" (known .1) E (λ pos β. β) G45 (record { pos = 16; ty = Syntax.tyRef Syntax.erased Syntax.mut OfOutput.named; ref = λ x. x }, (record { pos = 18; ty = Syntax.tyRef Syntax.erased Syntax.mut OfStation.named; ref = λ x. x }, (record { pos = 19; ty = Syntax.tyRef Syntax.erased Syntax.mut (Syntax.tyInt Syntax.w64); ref = λ x. x }, (record { pos = 4; ty = Syntax.tyRef (Syntax.named 3) Syntax.imm (Syntax.tyInt Syntax.w8); ref = λ x. x }, (record { pos = 10; st = List.[]; d = 0; at = λ x. x }, tt))))) 11 (List._∷_ 5 (List._∷_ 6 (List._∷_ 7 (List._∷_ 3 List.[])))) (Call'.sub-id 𝓤 H A W (G45 .slots)) (Reads.as-is 𝓤 H A (Mut.mslice (OfOutput.row) (Syntax.tyRef Syntax.erased Syntax.mut OfOutput.named) 5), Mut.reads-mslice 𝓤 H A W (OfOutput.row) (Syntax.tyRef Syntax.erased Syntax.mut OfOutput.named) 5, Path'.refl, (Reads.as-is 𝓤 H A (Mut.mslice (OfStation.row) (Syntax.tyRef Syntax.erased Syntax.mut OfStation.named) 6), Mut.reads-mslice 𝓤 H A W (OfStation.row) (Syntax.tyRef Syntax.erased Syntax.mut OfStation.named) 6, Path'.refl, (Reads.as-is 𝓤 H A (Rows.mref (Referent.rtF (Referent.fInt Syntax.w64)) (Syntax.tyRef Syntax.erased Syntax.mut (Syntax.tyInt Syntax.w64)) 7), Reads.reads-mref 𝓤 H A W (Referent.rtF (Referent.fInt Syntax.w64)) (Syntax.tyRef Syntax.erased Syntax.mut (Syntax.tyInt Syntax.w64)) 7, Path'.refl, (ShrSlice.spares-sslice 𝓤 H A W (Referent.rtF (Referent.fInt Syntax.w8)) (Syntax.tyRef (Syntax.named 3) Syntax.imm (Syntax.tyInt Syntax.w8)) 3, Shared.reads-sslice 𝓤 H A W (Referent.rtF (Referent.fInt Syntax.w8)) (Syntax.tyRef (Syntax.named 3) Syntax.imm (Syntax.tyInt Syntax.w8)) 3, Path'.refl, ((Yields.yields-copy 𝓤 H A W (λ ρ. Unit) (Declared'.row Call.the-type) Path'.refl (Copies.cStruct Call.the-type Laws'.the-laws Laws'.the-copy .copy 𝓤 H A W) (Rows.whole (Declared'.row Call.the-type)) (λ x. x) (λ x. x) (λ ρ told. Local.mem-whole 𝓤 H A W (Declared'.row Call.the-type) ρ) λ ρ told. Local.whole-mem 𝓤 H A W (Declared'.row Call.the-type) ρ, Path'.refl), tt))))) (Reads.room-gone 𝓤 H A (Laws.mir)) (tt, (tt, (tt, (tt, tt)))) Path'.refl) (Scalar.g-room 𝓤 H A W E G46 10 (Laws'.mir) (Local.room-whole 𝓤 H A W (Declared'.row Call.the-type) (Laws'.mir) Path'.refl))) (Lifetime.g-end 𝓤 H A W E G47 5 Path'.refl)) (Relend.g-back-sl 𝓤 H A W E (OfOutput.row) G48 16 1 0 5 (Syntax.tyRef (Syntax.named 0) Syntax.mut OfOutput.named) (Syntax.tyRef Syntax.erased Syntax.mut OfOutput.named) (Row.lease (κs .0) (qs .0)) (λ x. x) (λ x. x) (Reads.as-is 𝓤 H A (Mut.msleft (OfOutput.row) (Syntax.tyRef Syntax.erased Syntax.mut OfOutput.named))) (Reads.as-is 𝓤 H A (Relend.mslice-owed (OfOutput.row) (Syntax.tyRef (Syntax.named 0) Syntax.mut OfOutput.named) 0 5 (Row.lease (κs .0) (qs .0)))) Path'.refl Path'.refl)) (Lifetime.g-forget 𝓤 H A W E G49 5 Row.dead Path'.refl)) (Lifetime.g-end 𝓤 H A W E G50 6 Path'.refl)) (Relend.g-back-sl 𝓤 H A W E (OfStation.row) G51 18 2 1 6 (Syntax.tyRef (Syntax.named 1) Syntax.mut OfStation.named) (Syntax.tyRef Syntax.erased Syntax.mut OfStation.named) (Row.lease (κs .1 .0) (qs .1 .0)) (λ x. x) (λ x. x) (Reads.as-is 𝓤 H A (Mut.msleft (OfStation.row) (Syntax.tyRef Syntax.erased Syntax.mut OfStation.named))) (Reads.as-is 𝓤 H A (Relend.mslice-owed (OfStation.row) (Syntax.tyRef (Syntax.named 1) Syntax.mut OfStation.named) 1 6 (Row.lease (κs .1 .0) (qs .1 .0)))) Path'.refl Path'.refl)) (Lifetime.g-forget 𝓤 H A W E G52 6 Row.dead Path'.refl)) (Lifetime.g-end 𝓤 H A W E G53 7 Path'.refl)) (Reborrow.g-back-mref 𝓤 H A W E G54 19 3 2 7 (Referent.rtF (Referent.fInt Syntax.w64)) (Syntax.tyRef (Syntax.named 2) Syntax.mut (Syntax.tyInt Syntax.w64)) (Syntax.tyRef Syntax.erased Syntax.mut (Syntax.tyInt Syntax.w64)) (Row.lease (κs .1 .1 .0) (qs .1 .1 .0)) (λ x. x) (λ x. x) (Reads.as-is 𝓤 H A (Rows.mleft (Referent.rtF (Referent.fInt Syntax.w64)) (Syntax.tyRef Syntax.erased Syntax.mut (Syntax.tyInt Syntax.w64)))) (Reads.as-is 𝓤 H A (Rows.mref-owed (Referent.rtF (Referent.fInt Syntax.w64)) (Syntax.tyRef (Syntax.named 2) Syntax.mut (Syntax.tyInt Syntax.w64)) 2 7 (Row.lease (κs .1 .1 .0) (qs .1 .1 .0)))) Path'.refl Path'.refl)) (Lifetime.g-forget 𝓤 H A W E G55 7 Row.dead Path'.refl))
 
-          d27 : Typed.Typed 𝓤 H A 𝓣 E G48 b30 Δ1 at27
-          d27 = Typed.s-seq 𝓤 H A W 𝓣 E G48 G49 b28 b29 Δ1 (Typed.give s46) at26 (Reborrow.t-mref-relend 𝓤 H A W E 𝓣 G48 3 23 2 7 (Referent.rtF (Referent.fInt Syntax.w64)) (Syntax.tyInt Syntax.w64) (Syntax.tyRef (Syntax.named 2) Syntax.mut (Syntax.tyInt Syntax.w64)) (Syntax.tyRef Syntax.erased Syntax.mut (Syntax.tyInt Syntax.w64)) (Row.lease (κs .1 .1 .0) (qs .1 .1 .0)) (λ x. x) (Reads.as-is 𝓤 H A (Rows.mref (Referent.rtF (Referent.fInt Syntax.w64)) (Syntax.tyRef (Syntax.named 2) Syntax.mut (Syntax.tyInt Syntax.w64)) 2)) (Reads.room-gone 𝓤 H A (Syntax.tyRef Syntax.erased Syntax.mut (Syntax.tyInt Syntax.w64))) Path'.refl tt Path'.refl Path'.refl λ b o. tt) d26
+          d27 : Typed.Typed 𝓤 H A 𝓣 E G44 b26 Δ1 at27
+          d27 = Typed.s-seq 𝓤 H A W 𝓣 E G44 G45 b24 b25 Δ1 (Typed.give s42) at26 (Reborrow.t-mref-relend 𝓤 H A W E 𝓣 G44 3 19 2 7 (Referent.rtF (Referent.fInt Syntax.w64)) (Syntax.tyInt Syntax.w64) (Syntax.tyRef (Syntax.named 2) Syntax.mut (Syntax.tyInt Syntax.w64)) (Syntax.tyRef Syntax.erased Syntax.mut (Syntax.tyInt Syntax.w64)) (Row.lease (κs .1 .1 .0) (qs .1 .1 .0)) (λ x. x) (Reads.as-is 𝓤 H A (Rows.mref (Referent.rtF (Referent.fInt Syntax.w64)) (Syntax.tyRef (Syntax.named 2) Syntax.mut (Syntax.tyInt Syntax.w64)) 2)) (Reads.room-gone 𝓤 H A (Syntax.tyRef Syntax.erased Syntax.mut (Syntax.tyInt Syntax.w64))) Path'.refl tt Path'.refl Path'.refl λ b o. tt) d26
 
-          d28 : Typed.Typed 𝓤 H A 𝓣 E G47 b30 Δ1 at28
-          d28 = Typed.g-pre 𝓤 H A W 𝓣 E G47 G48 b30 Δ1 (λ Ψ. Ψ) at27 (Lifetime.g-begin 𝓤 H A W E G47 7 (tt, ((tt, tt), ((tt, tt), (tt, (tt, (tt, (tt, (tt, (tt, (tt, (tt, (tt, (tt, (tt, (tt, (tt, (tt, (tt, (tt, (tt, (tt, (tt, (tt, (tt, tt))))))))))))))))))))))))) d27
+          d28 : Typed.Typed 𝓤 H A 𝓣 E G43 b26 Δ1 at28
+          d28 = Typed.g-pre 𝓤 H A W 𝓣 E G43 G44 b26 Δ1 (λ Ψ. Ψ) at27 (Lifetime.g-begin 𝓤 H A W E G43 7 (tt, ((tt, tt), ((tt, tt), (tt, (tt, (tt, (tt, (tt, (tt, (tt, (tt, (tt, (tt, (tt, (tt, (tt, (tt, (tt, (tt, (tt, tt))))))))))))))))))))) d27
 
-          d29 : Typed.Typed 𝓤 H A 𝓣 E G46 b31 Δ1 at29
-          d29 = Typed.s-seq 𝓤 H A W 𝓣 E G46 G47 b27 b30 Δ1 (Typed.ask s44) at28 (Relend.t-sl-aggregate 𝓤 H A W E (OfStation.row) 𝓣 (Relend.asMut (OfStation.row)) G46 21 22 6 (Syntax.tyRef Syntax.erased Syntax.mut OfStation.named) (Syntax.tyRef Syntax.erased Syntax.mut OfStation.named) (λ x. x) (Scalar.oFld 2 (List._∷_ (Syntax.field 1) List.[]) (Syntax.tyInt Syntax.w64) 8 λ v. Shared.lenV (v .0)) (Reads.as-is 𝓤 H A (Relend.msptr (OfStation.row) (Syntax.tyRef Syntax.erased Syntax.mut OfStation.named) 6)) (Reads.room-gone 𝓤 H A (Syntax.tyStruct (List._∷_ 38 (List._∷_ 91 (List._∷_ 93 List.[]))) (Syntax.tcons (Syntax.tyRef Syntax.erased Syntax.mut OfStation.named) (Syntax.tcons (Syntax.tyInt Syntax.w64) Syntax.tnil)))) (Relend.reads-owed-len 𝓤 H A W (OfStation.row) (Syntax.tyRef (Syntax.named 1) Syntax.mut OfStation.named) 1 6 (Row.lease (κs .1 .0) (qs .1 .0)) 8 Path'.refl, Path'.refl) Path'.refl Path'.refl λ b o k. tt) d28
+          d29 : Typed.Typed 𝓤 H A 𝓣 E G42 b27 Δ1 at29
+          d29 = Typed.s-seq 𝓤 H A W 𝓣 E G42 G43 b23 b26 Δ1 (Typed.ask s40) at28 (Relend.t-sl-aggregate 𝓤 H A W E (OfStation.row) 𝓣 (Relend.asMut (OfStation.row)) G42 17 18 6 (Syntax.tyRef Syntax.erased Syntax.mut OfStation.named) (Syntax.tyRef Syntax.erased Syntax.mut OfStation.named) (λ x. x) (Scalar.oFld 2 (List._∷_ (Syntax.field 1) List.[]) (Syntax.tyInt Syntax.w64) 8 λ v. Shared.lenV (v .0)) (Reads.as-is 𝓤 H A (Relend.msptr (OfStation.row) (Syntax.tyRef Syntax.erased Syntax.mut OfStation.named) 6)) (Reads.room-gone 𝓤 H A (Syntax.tyStruct (List._∷_ 38 (List._∷_ 91 (List._∷_ 93 List.[]))) (Syntax.tcons (Syntax.tyRef Syntax.erased Syntax.mut OfStation.named) (Syntax.tcons (Syntax.tyInt Syntax.w64) Syntax.tnil)))) (Relend.reads-owed-len 𝓤 H A W (OfStation.row) (Syntax.tyRef (Syntax.named 1) Syntax.mut OfStation.named) 1 6 (Row.lease (κs .1 .0) (qs .1 .0)) 8 Path'.refl, Path'.refl) Path'.refl Path'.refl λ b o k. tt) d28
 
-          d30 : Typed.Typed 𝓤 H A 𝓣 E G45 b32 Δ1 at30
-          d30 = Typed.s-seq 𝓤 H A W 𝓣 E G45 G46 b26 b31 Δ1 (Typed.give s43) at29 (Relend.t-sl-relend 𝓤 H A W E (OfStation.row) 𝓣 G45 2 21 1 6 (Syntax.tyRef (Syntax.named 1) Syntax.mut OfStation.named) (Syntax.tyRef Syntax.erased Syntax.mut OfStation.named) (Row.lease (κs .1 .0) (qs .1 .0)) 0 (λ x. x) (Reads.as-is 𝓤 H A (Mut.mslice (OfStation.row) (Syntax.tyRef (Syntax.named 1) Syntax.mut OfStation.named) 1)) (Reads.room-gone 𝓤 H A (Syntax.tyRef Syntax.erased Syntax.mut OfStation.named)) Path'.refl tt Path'.refl Path'.refl Path'.refl λ b o. tt) d29
+          d30 : Typed.Typed 𝓤 H A 𝓣 E G41 b28 Δ1 at30
+          d30 = Typed.s-seq 𝓤 H A W 𝓣 E G41 G42 b22 b27 Δ1 (Typed.give s39) at29 (Relend.t-sl-relend 𝓤 H A W E (OfStation.row) 𝓣 G41 2 17 1 6 (Syntax.tyRef (Syntax.named 1) Syntax.mut OfStation.named) (Syntax.tyRef Syntax.erased Syntax.mut OfStation.named) (Row.lease (κs .1 .0) (qs .1 .0)) 0 (λ x. x) (Reads.as-is 𝓤 H A (Mut.mslice (OfStation.row) (Syntax.tyRef (Syntax.named 1) Syntax.mut OfStation.named) 1)) (Reads.room-gone 𝓤 H A (Syntax.tyRef Syntax.erased Syntax.mut OfStation.named)) Path'.refl tt Path'.refl Path'.refl Path'.refl λ b o. tt) d29
 
-          d31 : Typed.Typed 𝓤 H A 𝓣 E G44 b32 Δ1 at31
-          d31 = Typed.g-pre 𝓤 H A W 𝓣 E G44 G45 b32 Δ1 (λ Ψ. Ψ) at30 (Lifetime.g-begin 𝓤 H A W E G44 6 (tt, ((tt, tt), (tt, (tt, (tt, (tt, (tt, (tt, (tt, (tt, (tt, (tt, (tt, (tt, (tt, (tt, (tt, (tt, (tt, (tt, (tt, (tt, (tt, (tt, tt))))))))))))))))))))))))) d30
+          d31 : Typed.Typed 𝓤 H A 𝓣 E G40 b28 Δ1 at31
+          d31 = Typed.g-pre 𝓤 H A W 𝓣 E G40 G41 b28 Δ1 (λ Ψ. Ψ) at30 (Lifetime.g-begin 𝓤 H A W E G40 6 (tt, ((tt, tt), (tt, (tt, (tt, (tt, (tt, (tt, (tt, (tt, (tt, (tt, (tt, (tt, (tt, (tt, (tt, (tt, (tt, (tt, tt))))))))))))))))))))) d30
 
-          d32 : Typed.Typed 𝓤 H A 𝓣 E G43 b33 Δ1 at32
-          d32 = Typed.s-seq 𝓤 H A W 𝓣 E G43 G44 b25 b32 Δ1 (Typed.ask s41) at31 (Relend.t-sl-aggregate 𝓤 H A W E (OfOutput.row) 𝓣 (Relend.asMut (OfOutput.row)) G43 19 20 5 (Syntax.tyRef Syntax.erased Syntax.mut OfOutput.named) (Syntax.tyRef Syntax.erased Syntax.mut OfOutput.named) (λ x. x) (Scalar.oFld 1 (List._∷_ (Syntax.field 1) List.[]) (Syntax.tyInt Syntax.w64) 8 λ v. Shared.lenV (v .0)) (Reads.as-is 𝓤 H A (Relend.msptr (OfOutput.row) (Syntax.tyRef Syntax.erased Syntax.mut OfOutput.named) 5)) (Reads.room-gone 𝓤 H A (Syntax.tyStruct (List._∷_ 38 (List._∷_ 91 (List._∷_ 93 List.[]))) (Syntax.tcons (Syntax.tyRef Syntax.erased Syntax.mut OfOutput.named) (Syntax.tcons (Syntax.tyInt Syntax.w64) Syntax.tnil)))) (Relend.reads-owed-len 𝓤 H A W (OfOutput.row) (Syntax.tyRef (Syntax.named 0) Syntax.mut OfOutput.named) 0 5 (Row.lease (κs .0) (qs .0)) 8 Path'.refl, Path'.refl) Path'.refl Path'.refl λ b o k. tt) d31
+          d32 : Typed.Typed 𝓤 H A 𝓣 E G39 b29 Δ1 at32
+          d32 = Typed.s-seq 𝓤 H A W 𝓣 E G39 G40 b21 b28 Δ1 (Typed.ask s37) at31 (Relend.t-sl-aggregate 𝓤 H A W E (OfOutput.row) 𝓣 (Relend.asMut (OfOutput.row)) G39 15 16 5 (Syntax.tyRef Syntax.erased Syntax.mut OfOutput.named) (Syntax.tyRef Syntax.erased Syntax.mut OfOutput.named) (λ x. x) (Scalar.oFld 1 (List._∷_ (Syntax.field 1) List.[]) (Syntax.tyInt Syntax.w64) 8 λ v. Shared.lenV (v .0)) (Reads.as-is 𝓤 H A (Relend.msptr (OfOutput.row) (Syntax.tyRef Syntax.erased Syntax.mut OfOutput.named) 5)) (Reads.room-gone 𝓤 H A (Syntax.tyStruct (List._∷_ 38 (List._∷_ 91 (List._∷_ 93 List.[]))) (Syntax.tcons (Syntax.tyRef Syntax.erased Syntax.mut OfOutput.named) (Syntax.tcons (Syntax.tyInt Syntax.w64) Syntax.tnil)))) (Relend.reads-owed-len 𝓤 H A W (OfOutput.row) (Syntax.tyRef (Syntax.named 0) Syntax.mut OfOutput.named) 0 5 (Row.lease (κs .0) (qs .0)) 8 Path'.refl, Path'.refl) Path'.refl Path'.refl λ b o k. tt) d31
 
-          d33 : Typed.Typed 𝓤 H A 𝓣 E G42 b34 Δ1 at33
-          d33 = Typed.s-seq 𝓤 H A W 𝓣 E G42 G43 b24 b33 Δ1 (Typed.give s40) at32 (Relend.t-sl-relend 𝓤 H A W E (OfOutput.row) 𝓣 G42 1 19 0 5 (Syntax.tyRef (Syntax.named 0) Syntax.mut OfOutput.named) (Syntax.tyRef Syntax.erased Syntax.mut OfOutput.named) (Row.lease (κs .0) (qs .0)) 0 (λ x. x) (Reads.as-is 𝓤 H A (Mut.mslice (OfOutput.row) (Syntax.tyRef (Syntax.named 0) Syntax.mut OfOutput.named) 0)) (Reads.room-gone 𝓤 H A (Syntax.tyRef Syntax.erased Syntax.mut OfOutput.named)) Path'.refl tt Path'.refl Path'.refl Path'.refl λ b o. tt) d32
+          d33 : Typed.Typed 𝓤 H A 𝓣 E G38 b30 Δ1 at33
+          d33 = Typed.s-seq 𝓤 H A W 𝓣 E G38 G39 b20 b29 Δ1 (Typed.give s36) at32 (Relend.t-sl-relend 𝓤 H A W E (OfOutput.row) 𝓣 G38 1 15 0 5 (Syntax.tyRef (Syntax.named 0) Syntax.mut OfOutput.named) (Syntax.tyRef Syntax.erased Syntax.mut OfOutput.named) (Row.lease (κs .0) (qs .0)) 0 (λ x. x) (Reads.as-is 𝓤 H A (Mut.mslice (OfOutput.row) (Syntax.tyRef (Syntax.named 0) Syntax.mut OfOutput.named) 0)) (Reads.room-gone 𝓤 H A (Syntax.tyRef Syntax.erased Syntax.mut OfOutput.named)) Path'.refl tt Path'.refl Path'.refl Path'.refl λ b o. tt) d32
 
-          d34 : Typed.Typed 𝓤 H A 𝓣 E G41 b34 Δ1 at34
-          d34 = Typed.g-pre 𝓤 H A W 𝓣 E G41 G42 b34 Δ1 (λ Ψ. Ψ) at33 (Lifetime.g-begin 𝓤 H A W E G41 5 (tt, (tt, (tt, (tt, (tt, (tt, (tt, (tt, (tt, (tt, (tt, (tt, (tt, (tt, (tt, (tt, (tt, (tt, (tt, (tt, (tt, (tt, (tt, (tt, tt))))))))))))))))))))))))) d33
+          d34 : Typed.Typed 𝓤 H A 𝓣 E G37 b30 Δ1 at34
+          d34 = Typed.g-pre 𝓤 H A W 𝓣 E G37 G38 b30 Δ1 (λ Ψ. Ψ) at33 (Lifetime.g-begin 𝓤 H A W E G37 5 (tt, (tt, (tt, (tt, (tt, (tt, (tt, (tt, (tt, (tt, (tt, (tt, (tt, (tt, (tt, (tt, (tt, (tt, (tt, (tt, tt))))))))))))))))))))) d33
 
-          d35 : Typed.Typed 𝓤 H A 𝓣 E G40 b34 Δ1 at35
-          d35 = Typed.g-pre 𝓤 H A W 𝓣 E G40 G41 b34 Δ1 (Typed.pass T40 T41 s38) at34 (Scalar.g-room 𝓤 H A W E G40 5 (Laws''.mir) (Local.room-whole 𝓤 H A W (Known.Known Verdict.enum 3) (Laws''.mir) Path'.refl)) d34
+          d35 : Typed.Typed 𝓤 H A 𝓣 E G36 b30 Δ1 at35
+          d35 = Typed.g-pre 𝓤 H A W 𝓣 E G36 G37 b30 Δ1 (Typed.pass T36 T37 s34) at34 (Scalar.g-room 𝓤 H A W E G36 5 (Laws''.mir) (Local.room-whole 𝓤 H A W (Known.Known Verdict.enum 3) (Laws''.mir) Path'.refl)) d34
 
-          d36 : Typed.Typed 𝓤 H A 𝓣 E G39 b35 Δ1 at36
-          d36 = Typed.s-seq 𝓤 H A W 𝓣 E G39 G40 b23 b34 Δ1 (Typed.pass T39 T40 s37) at35 (CopyOut.t-copy-told 𝓤 H A W E 𝓣 (Declared.row Request.the-type) Path'.refl (Laws'3.val Request.the-type Laws'.the-laws) (Laws'3.lawful Request.the-type Laws'.the-laws 𝓤 H A W tt) (Laws'3.makes Request.the-type Laws'.the-plain 𝓤 H A) G39 14 (Scalar.oFld 5 (List._∷_ (Syntax.variant 3) (List._∷_ (Syntax.field 5) List.[])) (Laws'.mir) 20 λ v. Laws'3.val Request.the-type Laws'.the-laws (v .1 .1 .1 .1 .0)) (λ m. m .1 .1 .1 .1 .1 .0 .1 .1 .1 .1 .0) (λ m. Laws'3.Fields (Declared.variants Verdict.the-type) (Laws'3.spellss (Verdict.enum .parts) Laws''.the-laws) (Verdict.the-type .to (Known.at Verdict.enum 3 (m .1 .1 .1 .1 .1 .0)))) (Reads.room-gone 𝓤 H A (Laws'.mir)) (Match.reads-payload 𝓤 H A W Verdict.enum Laws''.the-laws 3 Path'.refl Path'.refl (λ v. Val.vcons (Laws''.the-laws .1 .1 .1 .0 .0 .val (v .0)) (Val.vcons (Laws''.the-laws .1 .1 .1 .0 .1 .0 .val (v .1 .0)) (Val.vcons (Laws''.the-laws .1 .1 .1 .0 .1 .1 .0 .val (v .1 .1 .0)) (Val.vcons (Laws''.the-laws .1 .1 .1 .0 .1 .1 .1 .0 .val (v .1 .1 .1 .0)) (Val.vcons (Laws'3.val Request.the-type Laws'.the-laws (v .1 .1 .1 .1 .0)) Val.vnil))))) (λ v. Path'.refl) 4 (Laws'.mir) 20 Path'.refl, Path'.refl) Path'.refl (λ ρ m. Make'.tells-row 𝓤 H A W E ρ (Row.out 14 (G39 .locals)) m 5 (Laws'3.Fields (Declared.variants Verdict.the-type) (Laws'3.spellss (Verdict.enum .parts) Laws''.the-laws) (Verdict.the-type .to (Known.at Verdict.enum 3 (m .1 .1 .1 .1 .1 .0)))) (Known.known-is 𝓤 H A W E Verdict.enum 3 Laws''.the-laws ρ 5 (m .1 .1 .1 .1 .1 .0))) (λ m k wa. Path'.refl) λ m k wa. k .1 .1 .1 .1 .0) d35
+          d36 : Typed.Typed 𝓤 H A 𝓣 E G35 b31 Δ1 at36
+          d36 = Typed.s-seq 𝓤 H A W 𝓣 E G35 G36 b19 b30 Δ1 (Typed.pass T35 T36 s33) at35 (CopyOut.t-copy-told 𝓤 H A W E 𝓣 (Declared'.row Call.the-type) Path'.refl (Laws'4.val Call.the-type Laws'.the-laws) (Laws'4.lawful Call.the-type Laws'.the-laws 𝓤 H A W) (Laws'4.makes Call.the-type Laws'.the-plain 𝓤 H A) G35 10 (Scalar.oFld 5 (List._∷_ (Syntax.variant 3) (List._∷_ (Syntax.field 1) List.[])) (Laws'.mir) 8 λ v. Laws'4.val Call.the-type Laws'.the-laws (v .0)) (λ m. m .1 .1 .1 .1 .1 .0 .0) (λ m. Laws'3.Fields (Declared.variants Verdict.the-type) (Laws'3.spellss (Verdict.enum .parts) Laws''.the-laws) (Verdict.the-type .to (Known.at Verdict.enum 3 (m .1 .1 .1 .1 .1 .0)))) (Reads.room-gone 𝓤 H A (Laws'.mir)) (Match.reads-payload 𝓤 H A W Verdict.enum Laws''.the-laws 3 Path'.refl Path'.refl (λ v. Val.vcons (Laws'4.val Call.the-type Laws'.the-laws (v .0)) Val.vnil) (λ v. Path'.refl) 0 (Laws'.mir) 8 Path'.refl, Path'.refl) Path'.refl (λ ρ m. Make'.tells-row 𝓤 H A W E ρ (Row.out 10 (G35 .locals)) m 5 (Laws'3.Fields (Declared.variants Verdict.the-type) (Laws'3.spellss (Verdict.enum .parts) Laws''.the-laws) (Verdict.the-type .to (Known.at Verdict.enum 3 (m .1 .1 .1 .1 .1 .0)))) (Known.known-is 𝓤 H A W E Verdict.enum 3 Laws''.the-laws ρ 5 (m .1 .1 .1 .1 .1 .0))) (λ m k wa. Path'.refl) λ m k wa. k .0) d35
 
-          d37 : Typed.Typed 𝓤 H A 𝓣 E G38 b36 Δ1 at37
-          d37 = Typed.s-seq 𝓤 H A W 𝓣 E G38 G39 b22 b35 Δ1 (Typed.pass T38 T39 s36) at36 (Scalar.t-use 𝓤 H A W E 𝓣 G38 (Scalar.oFld 5 (List._∷_ (Syntax.variant 3) (List._∷_ (Syntax.field 4) List.[])) (Syntax.tyInt Syntax.w8) 16 λ v. Laws''.the-laws .1 .1 .1 .0 .1 .1 .1 .0 .val (v .1 .1 .1 .0)) 13 (Rows.sc-here (Row.sInt Syntax.w8)) (Syntax.tyInt Syntax.w8) (Row.valS (Row.sInt Syntax.w8)) (Row.sInt Syntax.w8 .of) (Match.reads-payload 𝓤 H A W Verdict.enum Laws''.the-laws 3 Path'.refl Path'.refl (λ v. Val.vcons (Laws''.the-laws .1 .1 .1 .0 .0 .val (v .0)) (Val.vcons (Laws''.the-laws .1 .1 .1 .0 .1 .0 .val (v .1 .0)) (Val.vcons (Laws''.the-laws .1 .1 .1 .0 .1 .1 .0 .val (v .1 .1 .0)) (Val.vcons (Laws''.the-laws .1 .1 .1 .0 .1 .1 .1 .0 .val (v .1 .1 .1 .0)) (Val.vcons (Laws'3.val Request.the-type Laws'.the-laws (v .1 .1 .1 .1 .0)) Val.vnil))))) (λ v. Path'.refl) 3 (Syntax.tyInt Syntax.w8) 16 Path'.refl, Path'.refl) (Reads.room-gone 𝓤 H A (Syntax.tyInt Syntax.w8)) (Scalar.holds-sc 𝓤 H A W (Row.sInt Syntax.w8)) Path'.refl (λ u. Path'.refl) λ u. tt) d36
+          d37 : Typed.Typed 𝓤 H A 𝓣 E G34 b31 Δ1 at37
+          d37 = Typed.g-pre 𝓤 H A W 𝓣 E G34 G35 b31 Δ1 (Typed.give s32) at36 (Known.g-known-told 𝓤 H A W E Verdict.enum 3 G34 5 Laws''.the-laws (λ x. x) (Reads.as-is 𝓤 H A (Rows.whole (Known.Known Verdict.enum 3)))) d36
 
-          d38 : Typed.Typed 𝓤 H A 𝓣 E G37 b37 Δ1 at38
-          d38 = Typed.s-seq 𝓤 H A W 𝓣 E G37 G38 b21 b36 Δ1 (Typed.pass T37 T38 s35) at37 (Scalar.t-use 𝓤 H A W E 𝓣 G37 (Scalar.oFld 5 (List._∷_ (Syntax.variant 3) (List._∷_ (Syntax.field 3) List.[])) (Syntax.tyInt Syntax.w64) 8 λ v. Laws''.the-laws .1 .1 .1 .0 .1 .1 .0 .val (v .1 .1 .0)) 12 (Rows.sc-here (Row.sInt Syntax.w64)) (Syntax.tyInt Syntax.w64) (Row.valS (Row.sInt Syntax.w64)) (Row.sInt Syntax.w64 .of) (Match.reads-payload 𝓤 H A W Verdict.enum Laws''.the-laws 3 Path'.refl Path'.refl (λ v. Val.vcons (Laws''.the-laws .1 .1 .1 .0 .0 .val (v .0)) (Val.vcons (Laws''.the-laws .1 .1 .1 .0 .1 .0 .val (v .1 .0)) (Val.vcons (Laws''.the-laws .1 .1 .1 .0 .1 .1 .0 .val (v .1 .1 .0)) (Val.vcons (Laws''.the-laws .1 .1 .1 .0 .1 .1 .1 .0 .val (v .1 .1 .1 .0)) (Val.vcons (Laws'3.val Request.the-type Laws'.the-laws (v .1 .1 .1 .1 .0)) Val.vnil))))) (λ v. Path'.refl) 2 (Syntax.tyInt Syntax.w64) 8 Path'.refl, Path'.refl) (Reads.room-gone 𝓤 H A (Syntax.tyInt Syntax.w64)) (Scalar.holds-sc 𝓤 H A W (Row.sInt Syntax.w64)) Path'.refl (λ u. Path'.refl) λ u. tt) d37
+          d38 : Typed.Typed 𝓤 H A 𝓣 E G3 b31 Δ1 at38
+          d38 = Typed.g-pre 𝓤 H A W 𝓣 E G3 G34 b31 Δ1 (Typed.both s31) at37 (Known.g-enum-known 𝓤 H A W E Verdict.enum 3 G3 5 (λ x. x) (Reads.as-is 𝓤 H A (Rows.whole (Declared.row Verdict.the-type)))) d37
 
-          d39 : Typed.Typed 𝓤 H A 𝓣 E G36 b38 Δ1 at39
-          d39 = Typed.s-seq 𝓤 H A W 𝓣 E G36 G37 b20 b37 Δ1 (Typed.pass T36 T37 s34) at38 (Scalar.t-use 𝓤 H A W E 𝓣 G36 (Scalar.oFld 5 (List._∷_ (Syntax.variant 3) (List._∷_ (Syntax.field 2) List.[])) (Syntax.tyInt Syntax.w32) 4 λ v. Laws''.the-laws .1 .1 .1 .0 .1 .0 .val (v .1 .0)) 11 (Rows.sc-here (Row.sInt Syntax.w32)) (Syntax.tyInt Syntax.w32) (Row.valS (Row.sInt Syntax.w32)) (Row.sInt Syntax.w32 .of) (Match.reads-payload 𝓤 H A W Verdict.enum Laws''.the-laws 3 Path'.refl Path'.refl (λ v. Val.vcons (Laws''.the-laws .1 .1 .1 .0 .0 .val (v .0)) (Val.vcons (Laws''.the-laws .1 .1 .1 .0 .1 .0 .val (v .1 .0)) (Val.vcons (Laws''.the-laws .1 .1 .1 .0 .1 .1 .0 .val (v .1 .1 .0)) (Val.vcons (Laws''.the-laws .1 .1 .1 .0 .1 .1 .1 .0 .val (v .1 .1 .1 .0)) (Val.vcons (Laws'3.val Request.the-type Laws'.the-laws (v .1 .1 .1 .1 .0)) Val.vnil))))) (λ v. Path'.refl) 1 (Syntax.tyInt Syntax.w32) 4 Path'.refl, Path'.refl) (Reads.room-gone 𝓤 H A (Syntax.tyInt Syntax.w32)) (Scalar.holds-sc 𝓤 H A W (Row.sInt Syntax.w32)) Path'.refl (λ u. Path'.refl) λ u. tt) d38
+          d39 : Typed.Typed 𝓤 H A 𝓣 E G3 b32 Δ1 at39
+          d39 = Switch.t-switch-on 𝓤 H A W E 𝓣 G3 (Scalar.oFld 5 (List._∷_ (Syntax.variant 0) (List._∷_ (Syntax.field 0) List.[])) (Syntax.tyInt Syntax.w8) 0 λ x. Val.vint Syntax.w8 (Declared.tagOf Verdict.the-type x)) Syntax.w8 (λ u. Declared.tagOf Verdict.the-type (u .1 .1 .1 .1 .1 .0)) (Syntax.arm (List._∷_ 0 List.[]) b2 (Syntax.arm (List._∷_ 1 List.[]) b5 (Syntax.arm (List._∷_ 2 List.[]) b18 (Syntax.arm (List._∷_ 3 List.[]) b31 Syntax.noDefault)))) Δ1 (at4, (at9, (at25, (at38, tt)))) (Match.reads-tag 𝓤 H A W Verdict.the-type Laws''.the-laws (Rows.whole (Declared.row Verdict.the-type)) 0 (λ x. x) (Whole.reads-enum 𝓤 H A W Verdict.the-type Laws''.the-laws), Path'.refl) (λ u. Path'.refl) (d4, (d9, (d25, (d38, tt))))
 
-          d40 : Typed.Typed 𝓤 H A 𝓣 E G35 b39 Δ1 at40
-          d40 = Typed.s-seq 𝓤 H A W 𝓣 E G35 G36 b19 b38 Δ1 (Typed.pass T35 T36 s33) at39 (Scalar.t-use 𝓤 H A W E 𝓣 G35 (Scalar.oFld 5 (List._∷_ (Syntax.variant 3) (List._∷_ (Syntax.field 1) List.[])) (Syntax.tyInt Syntax.w8) 1 λ v. Laws''.the-laws .1 .1 .1 .0 .0 .val (v .0)) 10 (Rows.sc-here (Row.sInt Syntax.w8)) (Syntax.tyInt Syntax.w8) (Row.valS (Row.sInt Syntax.w8)) (Row.sInt Syntax.w8 .of) (Match.reads-payload 𝓤 H A W Verdict.enum Laws''.the-laws 3 Path'.refl Path'.refl (λ v. Val.vcons (Laws''.the-laws .1 .1 .1 .0 .0 .val (v .0)) (Val.vcons (Laws''.the-laws .1 .1 .1 .0 .1 .0 .val (v .1 .0)) (Val.vcons (Laws''.the-laws .1 .1 .1 .0 .1 .1 .0 .val (v .1 .1 .0)) (Val.vcons (Laws''.the-laws .1 .1 .1 .0 .1 .1 .1 .0 .val (v .1 .1 .1 .0)) (Val.vcons (Laws'3.val Request.the-type Laws'.the-laws (v .1 .1 .1 .1 .0)) Val.vnil))))) (λ v. Path'.refl) 0 (Syntax.tyInt Syntax.w8) 1 Path'.refl, Path'.refl) (Reads.room-gone 𝓤 H A (Syntax.tyInt Syntax.w8)) (Scalar.holds-sc 𝓤 H A W (Row.sInt Syntax.w8)) Path'.refl (λ u. Path'.refl) λ u. tt) d39
+          d40 : Typed.Typed 𝓤 H A 𝓣 E G0 b32 Δ1 at40
+          d40 = Typed.g-pre 𝓤 H A W 𝓣 E G0 G3 b32 Δ1 (Typed.give s0) at39 (Know'.g-shs-known 𝓤 H A W (Referent.fInt Syntax.w8) E G0 4 3 (Syntax.tyRef (Syntax.named 3) Syntax.imm (Syntax.tyInt Syntax.w8)) (Row.lease (κs .1 .1 .1 .0) (qs .1 .1 .1 .0)) 0 (λ x. x) record { fits = Dec'.lit< tt } (Reads.as-is 𝓤 H A (Rows.sslice (Referent.rtF (Referent.fInt Syntax.w8)) (Syntax.tyRef (Syntax.named 3) Syntax.imm (Syntax.tyInt Syntax.w8)) 3)) Path'.refl tt) d39
 
-          d41 : Typed.Typed 𝓤 H A 𝓣 E G34 b39 Δ1 at41
-          d41 = Typed.g-pre 𝓤 H A W 𝓣 E G34 G35 b39 Δ1 (Typed.give s32) at40 (Known.g-known-told 𝓤 H A W E Verdict.enum 3 G34 5 Laws''.the-laws (λ x. x) (Reads.as-is 𝓤 H A (Rows.whole (Known.Known Verdict.enum 3)))) d40
+          d41 : Typed.Typed 𝓤 H A 𝓣 E G58 b34 Δ0 at41
+          d41 = Typed.t-return 𝓤 H A W 𝓣 E Δ0 tt
 
-          d42 : Typed.Typed 𝓤 H A 𝓣 E G3 b39 Δ1 at42
-          d42 = Typed.g-pre 𝓤 H A W 𝓣 E G3 G34 b39 Δ1 (Typed.both s31) at41 (Known.g-enum-known 𝓤 H A W E Verdict.enum 3 G3 5 (λ x. x) (Reads.as-is 𝓤 H A (Rows.whole (Declared.row Verdict.the-type)))) d41
+          d42 : Typed.Typed 𝓤 H A 𝓣 E G57 b34 Δ0 at42
+          d42 = Typed.g-pre 𝓤 H A W 𝓣 E G57 G58 b34 Δ0 (Typed.pass T57 T58 s55) at41 (Scalar.g-room 𝓤 H A W E G57 11 (Laws.mir) (Local.room-whole 𝓤 H A W (Declared.row Answer.the-type) (Laws.mir) Path'.refl)) d41
 
-          d43 : Typed.Typed 𝓤 H A 𝓣 E G3 b40 Δ1 at43
-          d43 = Switch.t-switch-on 𝓤 H A W E 𝓣 G3 (Scalar.oFld 5 (List._∷_ (Syntax.variant 0) (List._∷_ (Syntax.field 0) List.[])) (Syntax.tyInt Syntax.w8) 0 λ x. Val.vint Syntax.w8 (Declared.tagOf Verdict.the-type x)) Syntax.w8 (λ u. Declared.tagOf Verdict.the-type (u .1 .1 .1 .1 .1 .0)) (Syntax.arm (List._∷_ 0 List.[]) b2 (Syntax.arm (List._∷_ 1 List.[]) b5 (Syntax.arm (List._∷_ 2 List.[]) b18 (Syntax.arm (List._∷_ 3 List.[]) b39 Syntax.noDefault)))) Δ1 (at4, (at9, (at25, (at42, tt)))) (Match.reads-tag 𝓤 H A W Verdict.the-type Laws''.the-laws (Rows.whole (Declared.row Verdict.the-type)) 0 (λ x. x) (Whole.reads-enum 𝓤 H A W Verdict.the-type Laws''.the-laws), Path'.refl) (λ u. Path'.refl) (d4, (d9, (d25, (d42, tt))))
+          d43 : Typed.Typed 𝓤 H A 𝓣 E G2 b35 Δ0 at43
+          d43 = Typed.s-seq 𝓤 H A W 𝓣 E G2 G57 b33 b34 Δ0 (Typed.pass T2 T57 s54) at42 (LocalCopy.t-val-copy 𝓤 H A W E 𝓣 (λ ρ. Unit) G2 11 0 (Declared.row Answer.the-type) (Laws.mir) (Laws.mir) (Rows.whole (Declared.row Answer.the-type)) (Rows.whole (Declared.row Answer.the-type)) (λ x. x) (λ x. x) (λ x. x) Path'.refl (Own.told-none 𝓤 H A (G2 .slots)) (Yields.yields-copy 𝓤 H A W (λ ρ. Unit) (Declared.row Answer.the-type) Path'.refl (Copies.cEnum Answer.the-type Laws.the-laws Laws.the-copy .copy 𝓤 H A W) (Rows.whole (Declared.row Answer.the-type)) (λ x. x) (λ x. x) (λ ρ told. Local.mem-whole 𝓤 H A W (Declared.row Answer.the-type) ρ) λ ρ told. Local.whole-mem 𝓤 H A W (Declared.row Answer.the-type) ρ) (Reads.room-gone 𝓤 H A (Laws.mir)) (Yields.makes-mem 𝓤 H A W (λ ρ. Unit) (Declared.row Answer.the-type) Path'.refl (Rows.whole (Declared.row Answer.the-type)) (λ x. x) λ ρ told. Local.whole-mem 𝓤 H A W (Declared.row Answer.the-type) ρ) Path'.refl Path'.refl) d42
 
-          d44 : Typed.Typed 𝓤 H A 𝓣 E G0 b40 Δ1 at44
-          d44 = Typed.g-pre 𝓤 H A W 𝓣 E G0 G3 b40 Δ1 (Typed.give s0) at43 (Know'.g-shs-known 𝓤 H A W (Referent.fInt Syntax.w8) E G0 4 3 (Syntax.tyRef (Syntax.named 3) Syntax.imm (Syntax.tyInt Syntax.w8)) (Row.lease (κs .1 .1 .1 .0) (qs .1 .1 .1 .0)) 0 (λ x. x) record { fits = Dec'.lit< tt } (Reads.as-is 𝓤 H A (Rows.sslice (Referent.rtF (Referent.fInt Syntax.w8)) (Syntax.tyRef (Syntax.named 3) Syntax.imm (Syntax.tyInt Syntax.w8)) 3)) Path'.refl tt) d43
-
-          d45 : Typed.Typed 𝓤 H A 𝓣 E G66 b42 Δ0 at45
-          d45 = Typed.t-return 𝓤 H A W 𝓣 E Δ0 tt
-
-          d46 : Typed.Typed 𝓤 H A 𝓣 E G65 b42 Δ0 at46
-          d46 = Typed.g-pre 𝓤 H A W 𝓣 E G65 G66 b42 Δ0 (Typed.pass T65 T66 s63) at45 (Scalar.g-room 𝓤 H A W E G65 15 (Laws.mir) (Local.room-whole 𝓤 H A W (Declared.row Answer.the-type) (Laws.mir) Path'.refl)) d45
-
-          d47 : Typed.Typed 𝓤 H A 𝓣 E G2 b43 Δ0 at47
-          d47 = Typed.s-seq 𝓤 H A W 𝓣 E G2 G65 b41 b42 Δ0 (Typed.pass T2 T65 s62) at46 (LocalCopy.t-val-copy 𝓤 H A W E 𝓣 (λ ρ. Unit) G2 15 0 (Declared.row Answer.the-type) (Laws.mir) (Laws.mir) (Rows.whole (Declared.row Answer.the-type)) (Rows.whole (Declared.row Answer.the-type)) (λ x. x) (λ x. x) (λ x. x) Path'.refl (Own.told-none 𝓤 H A (G2 .slots)) (Yields.yields-copy 𝓤 H A W (λ ρ. Unit) (Declared.row Answer.the-type) Path'.refl (Copies.cEnum Answer.the-type Laws.the-laws Laws.the-copy .copy 𝓤 H A W) (Rows.whole (Declared.row Answer.the-type)) (λ x. x) (λ x. x) (λ ρ told. Local.mem-whole 𝓤 H A W (Declared.row Answer.the-type) ρ) λ ρ told. Local.whole-mem 𝓤 H A W (Declared.row Answer.the-type) ρ) (Reads.room-gone 𝓤 H A (Laws.mir)) (Yields.makes-mem 𝓤 H A W (λ ρ. Unit) (Declared.row Answer.the-type) Path'.refl (Rows.whole (Declared.row Answer.the-type)) (λ x. x) λ ρ told. Local.whole-mem 𝓤 H A W (Declared.row Answer.the-type) ρ) Path'.refl Path'.refl) d46
-
-          d48 : Typed.Typed 𝓤 H A 𝓣 E G0 b44 Δ0 at48
-          d48 = Typed.t-seq 𝓤 H A W 𝓣 E G0 G2 b40 b43 Δ0 at44 at47 d44 d47
+          d44 : Typed.Typed 𝓤 H A 𝓣 E G0 b36 Δ0 at44
+          d44 = Typed.t-seq 𝓤 H A W 𝓣 E G0 G2 b32 b35 Δ0 at40 at43 d40 d43
 
           pub typed :
               Typed.Typed
@@ -1281,10 +1136,10 @@ module _ (claims· : Claims) where
               𝓣
               E
               (Function.Γin 4 ps r xs m κs qs)
-              b44
+              b36
               (Function.Δret 4 ps r xs m κs qs)
               Φ
-          typed = d48
+          typed = d44
 
       module _ (κs : Lifetimes.Lfts 4) where
         pub record Args : Type 0 where
@@ -1331,7 +1186,7 @@ module _ (claims· : Claims) where
         pub pre : Pre· κs (dens κs args)
 
       abbrev W1 : (κs : Lifetimes.Lfts 4) → (args : Args κs) → Typed.Want O1
-      W1 = λ κs args. Typed.wantNext T2 O0 (at47 (W0 κs args)) (W0 κs args)
+      W1 = λ κs args. Typed.wantNext T2 O0 (at43 (W0 κs args)) (W0 κs args)
 
       abbrev pub m1 :
           (before : Start) → (given : s0 .gives (m0 (before .κs) (before .args))) → Typed.Mo T3
@@ -1591,7 +1446,7 @@ module _ (claims· : Claims) where
 
       module _ (before· : After-advance-outputs-arg) where
         abbrev pub After-advance-outputs·own : Type 0
-        After-advance-outputs·own = Called.Called ps·0 r·0 (claims· .1) T24 (record { pos = 18; ty = Syntax.tyRef Syntax.erased Syntax.mut OfOutput.named; ref = λ x. x }, (Num.vAt 9 λ x. x, (Num.vAt 8 λ x. x, tt))) (m21 (before· .before) (before· .advance-outputs-arg .given))
+        After-advance-outputs·own = Called.Called ps·0 r·0 (claims· .1) T24 (record { pos = 14; ty = Syntax.tyRef Syntax.erased Syntax.mut OfOutput.named; ref = λ x. x }, (Num.vAt 9 λ x. x, (Num.vAt 8 λ x. x, tt))) (m21 (before· .before) (before· .advance-outputs-arg .given))
 
       pub record After-advance-outputs : Type 0 where
         pub before : After-advance-outputs-arg
@@ -1600,7 +1455,7 @@ module _ (claims· : Claims) where
       abbrev pub After-advance-outputs·gave :
           (c : After-advance-outputs) →
           s22 .gives (m21 (c .before .before) (c .before .advance-outputs-arg .given))
-      After-advance-outputs·gave = λ c. Called.given ps·0 r·0 (claims· .1) T24 (record { pos = 18; ty = Syntax.tyRef Syntax.erased Syntax.mut OfOutput.named; ref = λ x. x }, (Num.vAt 9 λ x. x, (Num.vAt 8 λ x. x, tt))) (m21 (c .before .before) (c .before .advance-outputs-arg .given)) (c .advance-outputs)
+      After-advance-outputs·gave = λ c. Called.given ps·0 r·0 (claims· .1) T24 (record { pos = 14; ty = Syntax.tyRef Syntax.erased Syntax.mut OfOutput.named; ref = λ x. x }, (Num.vAt 9 λ x. x, (Num.vAt 8 λ x. x, tt))) (m21 (c .before .before) (c .before .advance-outputs-arg .given)) (c .advance-outputs)
 
       abbrev pub m23 :
           (before : After-advance-outputs-arg) →
@@ -1695,30 +1550,6 @@ module _ (claims· : Claims) where
           Typed.Mo T37
       m32 = λ before given. s34 (m31 before given)
 
-      abbrev pub m33 :
-          (before : After-v4) →
-          (given : s32 .gives (m29 (before .before) (before .v4 .given))) →
-          Typed.Mo T38
-      m33 = λ before given. s35 (m32 before given)
-
-      abbrev pub m34 :
-          (before : After-v4) →
-          (given : s32 .gives (m29 (before .before) (before .v4 .given))) →
-          Typed.Mo T39
-      m34 = λ before given. s36 (m33 before given)
-
-      abbrev pub m35 :
-          (before : After-v4) →
-          (given : s32 .gives (m29 (before .before) (before .v4 .given))) →
-          Typed.Mo T40
-      m35 = λ before given. s37 (m34 before given)
-
-      abbrev pub m36 :
-          (before : After-v4) →
-          (given : s32 .gives (m29 (before .before) (before .v4 .given))) →
-          Typed.Mo T41
-      m36 = λ before given. s38 (m35 before given)
-
       module _ (before· : After-v4) where
         pub record After-known-told4·own : Type 0 where
           pub given : s32 .gives (m29 (before· .before) (before· .v4 .given))
@@ -1727,213 +1558,189 @@ module _ (claims· : Claims) where
         pub before : After-v4
         pub known-told4 : After-known-told4·own before
 
-      abbrev pub m37 :
+      abbrev pub m33 :
           (before : After-known-told4) →
-          (given : s40 .gives (m36 (before .before) (before .known-told4 .given))) →
-          Typed.Mo T43
-      m37 = λ before given. s40 .next (m36 (before .before) (before .known-told4 .given)) given
+          (given : s36 .gives (m32 (before .before) (before .known-told4 .given))) →
+          Typed.Mo T39
+      m33 = λ before given. s36 .next (m32 (before .before) (before .known-told4 .given)) given
 
-      abbrev pub m38 :
+      abbrev pub m34 :
           (before : After-known-told4) →
-          (given : s40 .gives (m36 (before .before) (before .known-told4 .given))) →
-          Typed.Mo T44
-      m38 = λ before given. s41 .next (m37 before given)
+          (given : s36 .gives (m32 (before .before) (before .known-told4 .given))) →
+          Typed.Mo T40
+      m34 = λ before given. s37 .next (m33 before given)
 
       module _ (before· : After-known-told4) where
         pub record After-arrive-arg·own : Type 0 where
-          pub given : s40 .gives (m36 (before· .before) (before· .known-told4 .given))
+          pub given : s36 .gives (m32 (before· .before) (before· .known-told4 .given))
 
       pub record After-arrive-arg : Type 0 where
         pub before : After-known-told4
         pub arrive-arg : After-arrive-arg·own before
 
-      abbrev pub m39 :
+      abbrev pub m35 :
           (before : After-arrive-arg) →
-          (given : s43 .gives (m38 (before .before) (before .arrive-arg .given))) →
-          Typed.Mo T46
-      m39 = λ before given. s43 .next (m38 (before .before) (before .arrive-arg .given)) given
+          (given : s39 .gives (m34 (before .before) (before .arrive-arg .given))) →
+          Typed.Mo T42
+      m35 = λ before given. s39 .next (m34 (before .before) (before .arrive-arg .given)) given
 
-      abbrev pub m40 :
+      abbrev pub m36 :
           (before : After-arrive-arg) →
-          (given : s43 .gives (m38 (before .before) (before .arrive-arg .given))) →
-          Typed.Mo T47
-      m40 = λ before given. s44 .next (m39 before given)
+          (given : s39 .gives (m34 (before .before) (before .arrive-arg .given))) →
+          Typed.Mo T43
+      m36 = λ before given. s40 .next (m35 before given)
 
       module _ (before· : After-arrive-arg) where
         pub record After-arrive-arg2·own : Type 0 where
-          pub given : s43 .gives (m38 (before· .before) (before· .arrive-arg .given))
+          pub given : s39 .gives (m34 (before· .before) (before· .arrive-arg .given))
 
       pub record After-arrive-arg2 : Type 0 where
         pub before : After-arrive-arg
         pub arrive-arg2 : After-arrive-arg2·own before
 
-      abbrev pub m41 :
+      abbrev pub m37 :
           (before : After-arrive-arg2) →
-          (given : s46 .gives (m40 (before .before) (before .arrive-arg2 .given))) →
-          Typed.Mo T49
-      m41 = λ before given. s46 .next (m40 (before .before) (before .arrive-arg2 .given)) given
+          (given : s42 .gives (m36 (before .before) (before .arrive-arg2 .given))) →
+          Typed.Mo T45
+      m37 = λ before given. s42 .next (m36 (before .before) (before .arrive-arg2 .given)) given
 
       module _ (before· : After-arrive-arg2) where
         pub record After-arrive-arg3·own : Type 0 where
-          pub given : s46 .gives (m40 (before· .before) (before· .arrive-arg2 .given))
+          pub given : s42 .gives (m36 (before· .before) (before· .arrive-arg2 .given))
 
       pub record After-arrive-arg3 : Type 0 where
         pub before : After-arrive-arg2
         pub arrive-arg3 : After-arrive-arg3·own before
 
       abbrev pub Need-arrive-requires : Type 0
-      Need-arrive-requires = (c : After-arrive-arg3) → s47 .asks (m41 (c .before) (c .arrive-arg3 .given))
+      Need-arrive-requires = (c : After-arrive-arg3) → s43 .asks (m37 (c .before) (c .arrive-arg3 .given))
 
-      abbrev pub m42 :
+      abbrev pub m38 :
           (before : After-arrive-arg3) →
-          (given : s47 .gives (m41 (before .before) (before .arrive-arg3 .given))) →
-          Typed.Mo T50
-      m42 = λ before given. s47 .next (m41 (before .before) (before .arrive-arg3 .given)) given
+          (given : s43 .gives (m37 (before .before) (before .arrive-arg3 .given))) →
+          Typed.Mo T46
+      m38 = λ before given. s43 .next (m37 (before .before) (before .arrive-arg3 .given)) given
 
-      abbrev pub m43 :
+      abbrev pub m39 :
           (before : After-arrive-arg3) →
-          (given : s47 .gives (m41 (before .before) (before .arrive-arg3 .given))) →
-          Typed.Mo T51
-      m43 = λ before given. s48 (m42 before given)
-
-      abbrev pub m44 :
-          (before : After-arrive-arg3) →
-          (given : s47 .gives (m41 (before .before) (before .arrive-arg3 .given))) →
-          Typed.Mo T52
-      m44 = λ before given. s49 (m43 before given)
-
-      abbrev pub m45 :
-          (before : After-arrive-arg3) →
-          (given : s47 .gives (m41 (before .before) (before .arrive-arg3 .given))) →
-          Typed.Mo T53
-      m45 = λ before given. s50 (m44 before given)
-
-      abbrev pub m46 :
-          (before : After-arrive-arg3) →
-          (given : s47 .gives (m41 (before .before) (before .arrive-arg3 .given))) →
-          Typed.Mo T54
-      m46 = λ before given. s51 (m45 before given)
-
-      abbrev pub m47 :
-          (before : After-arrive-arg3) →
-          (given : s47 .gives (m41 (before .before) (before .arrive-arg3 .given))) →
-          Typed.Mo T55
-      m47 = λ before given. s52 (m46 before given)
+          (given : s43 .gives (m37 (before .before) (before .arrive-arg3 .given))) →
+          Typed.Mo T47
+      m39 = λ before given. s44 (m38 before given)
 
       module _ (before· : After-arrive-arg3) where
         abbrev pub After-arrive·own : Type 0
-        After-arrive·own = Called.Called ps·1 r·1 (claims· .3) T49 (record { pos = 20; ty = Syntax.tyRef Syntax.erased Syntax.mut OfOutput.named; ref = λ x. x }, (record { pos = 22; ty = Syntax.tyRef Syntax.erased Syntax.mut OfStation.named; ref = λ x. x }, (record { pos = 23; ty = Syntax.tyRef Syntax.erased Syntax.mut (Syntax.tyInt Syntax.w64); ref = λ x. x }, (record { pos = 4; ty = Syntax.tyRef (Syntax.named 3) Syntax.imm (Syntax.tyInt Syntax.w8); ref = λ x. x }, (Num.vAt 10 λ x. x, (Num.vAt 11 λ x. x, (Num.vAt 12 λ x. x, (Num.vAt 13 λ x. x, (record { pos = 14; st = List.[]; d = 0; at = λ x. x }, tt))))))))) (m41 (before· .before) (before· .arrive-arg3 .given))
+        After-arrive·own = Called.Called ps·1 r·1 (claims· .3) T45 (record { pos = 16; ty = Syntax.tyRef Syntax.erased Syntax.mut OfOutput.named; ref = λ x. x }, (record { pos = 18; ty = Syntax.tyRef Syntax.erased Syntax.mut OfStation.named; ref = λ x. x }, (record { pos = 19; ty = Syntax.tyRef Syntax.erased Syntax.mut (Syntax.tyInt Syntax.w64); ref = λ x. x }, (record { pos = 4; ty = Syntax.tyRef (Syntax.named 3) Syntax.imm (Syntax.tyInt Syntax.w8); ref = λ x. x }, (record { pos = 10; st = List.[]; d = 0; at = λ x. x }, tt))))) (m37 (before· .before) (before· .arrive-arg3 .given))
 
       pub record After-arrive : Type 0 where
         pub before : After-arrive-arg3
         pub arrive : After-arrive·own before
 
       abbrev pub After-arrive·gave :
-          (c : After-arrive) → s47 .gives (m41 (c .before .before) (c .before .arrive-arg3 .given))
-      After-arrive·gave = λ c. Called.given ps·1 r·1 (claims· .3) T49 (record { pos = 20; ty = Syntax.tyRef Syntax.erased Syntax.mut OfOutput.named; ref = λ x. x }, (record { pos = 22; ty = Syntax.tyRef Syntax.erased Syntax.mut OfStation.named; ref = λ x. x }, (record { pos = 23; ty = Syntax.tyRef Syntax.erased Syntax.mut (Syntax.tyInt Syntax.w64); ref = λ x. x }, (record { pos = 4; ty = Syntax.tyRef (Syntax.named 3) Syntax.imm (Syntax.tyInt Syntax.w8); ref = λ x. x }, (Num.vAt 10 λ x. x, (Num.vAt 11 λ x. x, (Num.vAt 12 λ x. x, (Num.vAt 13 λ x. x, (record { pos = 14; st = List.[]; d = 0; at = λ x. x }, tt))))))))) (m41 (c .before .before) (c .before .arrive-arg3 .given)) (c .arrive)
+          (c : After-arrive) → s43 .gives (m37 (c .before .before) (c .before .arrive-arg3 .given))
+      After-arrive·gave = λ c. Called.given ps·1 r·1 (claims· .3) T45 (record { pos = 16; ty = Syntax.tyRef Syntax.erased Syntax.mut OfOutput.named; ref = λ x. x }, (record { pos = 18; ty = Syntax.tyRef Syntax.erased Syntax.mut OfStation.named; ref = λ x. x }, (record { pos = 19; ty = Syntax.tyRef Syntax.erased Syntax.mut (Syntax.tyInt Syntax.w64); ref = λ x. x }, (record { pos = 4; ty = Syntax.tyRef (Syntax.named 3) Syntax.imm (Syntax.tyInt Syntax.w8); ref = λ x. x }, (record { pos = 10; st = List.[]; d = 0; at = λ x. x }, tt))))) (m37 (c .before .before) (c .before .arrive-arg3 .given)) (c .arrive)
 
-      abbrev pub m48 :
+      abbrev pub m40 :
           (before : After-arrive) →
-          (given : s54 .gives (m47 (before .before) (After-arrive·gave before))) →
-          Typed.Mo T57
-      m48 = λ before given. s54 .next (m47 (before .before) (After-arrive·gave before)) given
+          (given : s46 .gives (m39 (before .before) (After-arrive·gave before))) →
+          Typed.Mo T49
+      m40 = λ before given. s46 .next (m39 (before .before) (After-arrive·gave before)) given
 
       module _ (before· : After-arrive) where
         pub record After-outputs2·own : Type 0 where
-          pub given : s54 .gives (m47 (before· .before) (After-arrive·gave before·))
+          pub given : s46 .gives (m39 (before· .before) (After-arrive·gave before·))
 
       pub record After-outputs2 : Type 0 where
         pub before : After-arrive
         pub outputs2 : After-outputs2·own before
 
-      abbrev pub m49 :
+      abbrev pub m41 :
           (before : After-outputs2) →
-          (given : s57 .gives (m48 (before .before) (before .outputs2 .given))) →
-          Typed.Mo T60
-      m49 = λ before given. s57 .next (m48 (before .before) (before .outputs2 .given)) given
+          (given : s49 .gives (m40 (before .before) (before .outputs2 .given))) →
+          Typed.Mo T52
+      m41 = λ before given. s49 .next (m40 (before .before) (before .outputs2 .given)) given
 
-      abbrev pub m50 :
+      abbrev pub m42 :
           (before : After-outputs2) →
-          (given : s57 .gives (m48 (before .before) (before .outputs2 .given))) →
-          Typed.Mo T63
-      m50 = λ before given. s60 .next (m49 before given)
+          (given : s49 .gives (m40 (before .before) (before .outputs2 .given))) →
+          Typed.Mo T55
+      m42 = λ before given. s52 .next (m41 before given)
 
       module _ (before· : After-outputs2) where
         pub record After-stations·own : Type 0 where
-          pub given : s57 .gives (m48 (before· .before) (before· .outputs2 .given))
+          pub given : s49 .gives (m40 (before· .before) (before· .outputs2 .given))
 
       pub record After-stations : Type 0 where
         pub before : After-outputs2
         pub stations : After-stations·own before
 
-      abbrev pub m51 :
+      abbrev pub m43 :
           (before : After-v) →
           (given : s2 .gives (m2 (before .before) (before .v .given))) →
-          Typed.Mo T65
-      m51 = λ before given. s62 (m7 before given)
+          Typed.Mo T57
+      m43 = λ before given. s54 (m7 before given)
 
-      abbrev pub m52 :
+      abbrev pub m44 :
           (before : After-v) →
           (given : s2 .gives (m2 (before .before) (before .v .given))) →
-          Typed.Mo T66
-      m52 = λ before given. s63 (m51 before given)
+          Typed.Mo T58
+      m44 = λ before given. s55 (m43 before given)
 
       abbrev pub Need-returns : Type 0
-      Need-returns = (c : After-known-told) → Post· (c .before .before .before .before .κs) (dens (c .before .before .before .before .κs) (c .before .before .before .before .args)) (Function.resV r (c .before .before .before .before .κs) (m52 (c .before) (c .known-told .given) .0)) (Clauses.atExit (Kinds.endedOf 4 ps r) (c .before .before .before .before .κs) (dens (c .before .before .before .before .κs) (c .before .before .before .before .args)) (Enter.lastsP (c .before .before .before .before .κs) 1 ps xs (dens (c .before .before .before .before .κs) (c .before .before .before .before .args)) (m52 (c .before) (c .known-told .given) .1)))
+      Need-returns = (c : After-known-told) → Post· (c .before .before .before .before .κs) (dens (c .before .before .before .before .κs) (c .before .before .before .before .args)) (Function.resV r (c .before .before .before .before .κs) (m44 (c .before) (c .known-told .given) .0)) (Clauses.atExit (Kinds.endedOf 4 ps r) (c .before .before .before .before .κs) (dens (c .before .before .before .before .κs) (c .before .before .before .before .args)) (Enter.lastsP (c .before .before .before .before .κs) 1 ps xs (dens (c .before .before .before .before .κs) (c .before .before .before .before .args)) (m44 (c .before) (c .known-told .given) .1)))
 
-      abbrev pub m53 :
+      abbrev pub m45 :
           (before : After-v2) →
           (given : s8 .gives (m8 (before .before) (before .v2 .given))) →
-          Typed.Mo T65
-      m53 = λ before given. s62 (m13 before given)
+          Typed.Mo T57
+      m45 = λ before given. s54 (m13 before given)
 
-      abbrev pub m54 :
+      abbrev pub m46 :
           (before : After-v2) →
           (given : s8 .gives (m8 (before .before) (before .v2 .given))) →
-          Typed.Mo T66
-      m54 = λ before given. s63 (m53 before given)
+          Typed.Mo T58
+      m46 = λ before given. s55 (m45 before given)
 
       abbrev pub Need-returns-2 : Type 0
-      Need-returns-2 = (c : After-known-told2) → Post· (c .before .before .before .before .κs) (dens (c .before .before .before .before .κs) (c .before .before .before .before .args)) (Function.resV r (c .before .before .before .before .κs) (m54 (c .before) (c .known-told2 .given) .0)) (Clauses.atExit (Kinds.endedOf 4 ps r) (c .before .before .before .before .κs) (dens (c .before .before .before .before .κs) (c .before .before .before .before .args)) (Enter.lastsP (c .before .before .before .before .κs) 1 ps xs (dens (c .before .before .before .before .κs) (c .before .before .before .before .args)) (m54 (c .before) (c .known-told2 .given) .1)))
+      Need-returns-2 = (c : After-known-told2) → Post· (c .before .before .before .before .κs) (dens (c .before .before .before .before .κs) (c .before .before .before .before .args)) (Function.resV r (c .before .before .before .before .κs) (m46 (c .before) (c .known-told2 .given) .0)) (Clauses.atExit (Kinds.endedOf 4 ps r) (c .before .before .before .before .κs) (dens (c .before .before .before .before .κs) (c .before .before .before .before .args)) (Enter.lastsP (c .before .before .before .before .κs) 1 ps xs (dens (c .before .before .before .before .κs) (c .before .before .before .before .args)) (m46 (c .before) (c .known-told2 .given) .1)))
 
-      abbrev pub m55 :
+      abbrev pub m47 :
           (before : After-advance-outputs) →
           (given : s25 .gives (m23 (before .before) (After-advance-outputs·gave before))) →
-          Typed.Mo T65
-      m55 = λ before given. s62 (m28 before given)
+          Typed.Mo T57
+      m47 = λ before given. s54 (m28 before given)
 
-      abbrev pub m56 :
+      abbrev pub m48 :
           (before : After-advance-outputs) →
           (given : s25 .gives (m23 (before .before) (After-advance-outputs·gave before))) →
-          Typed.Mo T66
-      m56 = λ before given. s63 (m55 before given)
+          Typed.Mo T58
+      m48 = λ before given. s55 (m47 before given)
 
       abbrev pub Need-same-length : Type 0
-      Need-same-length = (c : After-outputs) → MutSlice.SameLen (Row.get 1 (T66 .locals) (m56 (c .before) (c .outputs .given))) (dens (c .before .before .before .before .before .before .before .before .κs) (c .before .before .before .before .before .before .before .before .args) .0)
+      Need-same-length = (c : After-outputs) → MutSlice.SameLen (Row.get 1 (T58 .locals) (m48 (c .before) (c .outputs .given))) (dens (c .before .before .before .before .before .before .before .before .κs) (c .before .before .before .before .before .before .before .before .args) .0)
 
       abbrev pub Need-returns-3 : Type 0
-      Need-returns-3 = (c : After-outputs) → Post· (c .before .before .before .before .before .before .before .before .κs) (dens (c .before .before .before .before .before .before .before .before .κs) (c .before .before .before .before .before .before .before .before .args)) (Function.resV r (c .before .before .before .before .before .before .before .before .κs) (m56 (c .before) (c .outputs .given) .0)) (Clauses.atExit (Kinds.endedOf 4 ps r) (c .before .before .before .before .before .before .before .before .κs) (dens (c .before .before .before .before .before .before .before .before .κs) (c .before .before .before .before .before .before .before .before .args)) (Enter.lastsP (c .before .before .before .before .before .before .before .before .κs) 1 ps xs (dens (c .before .before .before .before .before .before .before .before .κs) (c .before .before .before .before .before .before .before .before .args)) (m56 (c .before) (c .outputs .given) .1)))
+      Need-returns-3 = (c : After-outputs) → Post· (c .before .before .before .before .before .before .before .before .κs) (dens (c .before .before .before .before .before .before .before .before .κs) (c .before .before .before .before .before .before .before .before .args)) (Function.resV r (c .before .before .before .before .before .before .before .before .κs) (m48 (c .before) (c .outputs .given) .0)) (Clauses.atExit (Kinds.endedOf 4 ps r) (c .before .before .before .before .before .before .before .before .κs) (dens (c .before .before .before .before .before .before .before .before .κs) (c .before .before .before .before .before .before .before .before .args)) (Enter.lastsP (c .before .before .before .before .before .before .before .before .κs) 1 ps xs (dens (c .before .before .before .before .before .before .before .before .κs) (c .before .before .before .before .before .before .before .before .args)) (m48 (c .before) (c .outputs .given) .1)))
 
-      abbrev pub m57 :
+      abbrev pub m49 :
           (before : After-outputs2) →
-          (given : s57 .gives (m48 (before .before) (before .outputs2 .given))) →
-          Typed.Mo T65
-      m57 = λ before given. s62 (m50 before given)
+          (given : s49 .gives (m40 (before .before) (before .outputs2 .given))) →
+          Typed.Mo T57
+      m49 = λ before given. s54 (m42 before given)
 
-      abbrev pub m58 :
+      abbrev pub m50 :
           (before : After-outputs2) →
-          (given : s57 .gives (m48 (before .before) (before .outputs2 .given))) →
-          Typed.Mo T66
-      m58 = λ before given. s63 (m57 before given)
+          (given : s49 .gives (m40 (before .before) (before .outputs2 .given))) →
+          Typed.Mo T58
+      m50 = λ before given. s55 (m49 before given)
 
       abbrev pub Need-same-length-2 : Type 0
-      Need-same-length-2 = (c : After-stations) → MutSlice.SameLen (Row.get 1 (T66 .locals) (m58 (c .before) (c .stations .given))) (dens (c .before .before .before .before .before .before .before .before .before .before .κs) (c .before .before .before .before .before .before .before .before .before .before .args) .0)
+      Need-same-length-2 = (c : After-stations) → MutSlice.SameLen (Row.get 1 (T58 .locals) (m50 (c .before) (c .stations .given))) (dens (c .before .before .before .before .before .before .before .before .before .before .κs) (c .before .before .before .before .before .before .before .before .before .before .args) .0)
 
       abbrev pub Need-same-length-3 : Type 0
-      Need-same-length-3 = (c : After-stations) → MutSlice.SameLen (Row.get 2 (T66 .locals) (m58 (c .before) (c .stations .given))) (dens (c .before .before .before .before .before .before .before .before .before .before .κs) (c .before .before .before .before .before .before .before .before .before .before .args) .1 .0)
+      Need-same-length-3 = (c : After-stations) → MutSlice.SameLen (Row.get 2 (T58 .locals) (m50 (c .before) (c .stations .given))) (dens (c .before .before .before .before .before .before .before .before .before .before .κs) (c .before .before .before .before .before .before .before .before .before .before .args) .1 .0)
 
       abbrev pub Need-returns-4 : Type 0
-      Need-returns-4 = (c : After-stations) → Post· (c .before .before .before .before .before .before .before .before .before .before .κs) (dens (c .before .before .before .before .before .before .before .before .before .before .κs) (c .before .before .before .before .before .before .before .before .before .before .args)) (Function.resV r (c .before .before .before .before .before .before .before .before .before .before .κs) (m58 (c .before) (c .stations .given) .0)) (Clauses.atExit (Kinds.endedOf 4 ps r) (c .before .before .before .before .before .before .before .before .before .before .κs) (dens (c .before .before .before .before .before .before .before .before .before .before .κs) (c .before .before .before .before .before .before .before .before .before .before .args)) (Enter.lastsP (c .before .before .before .before .before .before .before .before .before .before .κs) 1 ps xs (dens (c .before .before .before .before .before .before .before .before .before .before .κs) (c .before .before .before .before .before .before .before .before .before .before .args)) (m58 (c .before) (c .stations .given) .1)))
+      Need-returns-4 = (c : After-stations) → Post· (c .before .before .before .before .before .before .before .before .before .before .κs) (dens (c .before .before .before .before .before .before .before .before .before .before .κs) (c .before .before .before .before .before .before .before .before .before .before .args)) (Function.resV r (c .before .before .before .before .before .before .before .before .before .before .κs) (m50 (c .before) (c .stations .given) .0)) (Clauses.atExit (Kinds.endedOf 4 ps r) (c .before .before .before .before .before .before .before .before .before .before .κs) (dens (c .before .before .before .before .before .before .before .before .before .before .κs) (c .before .before .before .before .before .before .before .before .before .before .args)) (Enter.lastsP (c .before .before .before .before .before .before .before .before .before .before .κs) 1 ps xs (dens (c .before .before .before .before .before .before .before .before .before .before .κs) (c .before .before .before .before .before .before .before .before .before .before .args)) (m50 (c .before) (c .stations .given) .1)))
 
       module _ (enum-known-v : Need-enum-known-v) (enum-known-v-2 : Need-enum-known-v-2)
           (enum-known-v-3 : Need-enum-known-v-3)
@@ -1943,31 +1750,31 @@ module _ (claims· : Claims) where
           (returns-3 : Need-returns-3) (same-length-2 : Need-same-length-2)
           (same-length-3 : Need-same-length-3) (returns-4 : Need-returns-4) where
         lay5 :
-            (c : After-stations) → at47 (W0
+            (c : After-stations) → at43 (W0
             (c .before .before .before .before .before .before .before .before .before .before .κs)
             (c .before .before .before .before .before .before .before .before .before .before
-            .args)) (m50 (c .before) (c .stations .given))
-        lay5 = λ c. ((MutSlice.fix-len (Row.get 1 (T66 .locals) (m58 (c .before) (c .stations .given)) .ptr) (Row.get 1 (T66 .locals) (m58 (c .before) (c .stations .given)) .name) (Row.get 1 (T66 .locals) (m58 (c .before) (c .stations .given)) .now) (dens (c .before .before .before .before .before .before .before .before .before .before .κs) (c .before .before .before .before .before .before .before .before .before .before .args) .0 .now) (same-length-2 record { before = c .before; stations = c .stations }), (MutSlice.fix-len (Row.get 2 (T66 .locals) (m58 (c .before) (c .stations .given)) .ptr) (Row.get 2 (T66 .locals) (m58 (c .before) (c .stations .given)) .name) (Row.get 2 (T66 .locals) (m58 (c .before) (c .stations .given)) .now) (dens (c .before .before .before .before .before .before .before .before .before .before .κs) (c .before .before .before .before .before .before .before .before .before .before .args) .1 .0 .now) (same-length-3 record { before = c .before; stations = c .stations }), (Path'.refl, (Path'.refl, (tt, tt))))), returns-4 record { before = c .before; stations = c .stations })
+            .args)) (m42 (c .before) (c .stations .given))
+        lay5 = λ c. ((MutSlice.fix-len (Row.get 1 (T58 .locals) (m50 (c .before) (c .stations .given)) .ptr) (Row.get 1 (T58 .locals) (m50 (c .before) (c .stations .given)) .name) (Row.get 1 (T58 .locals) (m50 (c .before) (c .stations .given)) .now) (dens (c .before .before .before .before .before .before .before .before .before .before .κs) (c .before .before .before .before .before .before .before .before .before .before .args) .0 .now) (same-length-2 record { before = c .before; stations = c .stations }), (MutSlice.fix-len (Row.get 2 (T58 .locals) (m50 (c .before) (c .stations .given)) .ptr) (Row.get 2 (T58 .locals) (m50 (c .before) (c .stations .given)) .name) (Row.get 2 (T58 .locals) (m50 (c .before) (c .stations .given)) .now) (dens (c .before .before .before .before .before .before .before .before .before .before .κs) (c .before .before .before .before .before .before .before .before .before .before .args) .1 .0 .now) (same-length-3 record { before = c .before; stations = c .stations }), (Path'.refl, (Path'.refl, (tt, tt))))), returns-4 record { before = c .before; stations = c .stations })
 
         lay4 :
             (c : After-outputs) →
-            at47
+            at43
             (W0
             (c .before .before .before .before .before .before .before .before .κs)
             (c .before .before .before .before .before .before .before .before .args))
             (m28 (c .before) (c .outputs .given))
-        lay4 = λ c. ((MutSlice.fix-len (Row.get 1 (T66 .locals) (m56 (c .before) (c .outputs .given)) .ptr) (Row.get 1 (T66 .locals) (m56 (c .before) (c .outputs .given)) .name) (Row.get 1 (T66 .locals) (m56 (c .before) (c .outputs .given)) .now) (dens (c .before .before .before .before .before .before .before .before .κs) (c .before .before .before .before .before .before .before .before .args) .0 .now) (same-length record { before = c .before; outputs = c .outputs }), (Path'.refl, (Path'.refl, (Path'.refl, (tt, tt))))), returns-3 record { before = c .before; outputs = c .outputs })
+        lay4 = λ c. ((MutSlice.fix-len (Row.get 1 (T58 .locals) (m48 (c .before) (c .outputs .given)) .ptr) (Row.get 1 (T58 .locals) (m48 (c .before) (c .outputs .given)) .name) (Row.get 1 (T58 .locals) (m48 (c .before) (c .outputs .given)) .now) (dens (c .before .before .before .before .before .before .before .before .κs) (c .before .before .before .before .before .before .before .before .args) .0 .now) (same-length record { before = c .before; outputs = c .outputs }), (Path'.refl, (Path'.refl, (Path'.refl, (tt, tt))))), returns-3 record { before = c .before; outputs = c .outputs })
 
         lay3 :
             (c : After-known-told2) →
-            at47
+            at43
             (W0 (c .before .before .before .before .κs) (c .before .before .before .before .args))
             (m13 (c .before) (c .known-told2 .given))
         lay3 = λ c. ((Path'.refl, (Path'.refl, (Path'.refl, (Path'.refl, (tt, tt))))), returns-2 record { before = c .before; known-told2 = c .known-told2 })
 
         lay2 :
             (c : After-known-told) →
-            at47
+            at43
             (W0 (c .before .before .before .before .κs) (c .before .before .before .before .args))
             (m7 (c .before) (c .known-told .given))
         lay2 = λ c. ((Path'.refl, (Path'.refl, (Path'.refl, (Path'.refl, (tt, tt))))), returns record { before = c .before; known-told = c .known-told })
@@ -1981,8 +1788,8 @@ module _ (claims· : Claims) where
             (m22 (c .before) (After-advance-outputs·gave c))
         lay1 = λ c. (Path'.refl, λ g. lay4 record { before = record { before = c .before; advance-outputs = c .advance-outputs }; outputs = record { given = g } })
 
-        pub laid : (c : Start) → at48 (W0 (c .κs) (c .args)) (m0 (c .κs) (c .args))
-        laid = λ c. λ g. (λ k. (enum-known-v record { before = record { before = c; shared-slice-known = record { given = g } }; match = record { keys1 = k } }, λ g'. λ g''. lay2 record { before = record { before = record { before = record { before = c; shared-slice-known = record { given = g } }; match = record { keys1 = k } }; v = record { given = g' } }; known-told = record { given = g'' } }), (λ k. (enum-known-v-2 record { before = record { before = c; shared-slice-known = record { given = g } }; match = record { keys2 = k } }, λ g'3. λ g'4. lay3 record { before = record { before = record { before = record { before = c; shared-slice-known = record { given = g } }; match = record { keys2 = k } }; v2 = record { given = g'3 } }; known-told2 = record { given = g'4 } }), (λ k. (enum-known-v-3 record { before = record { before = c; shared-slice-known = record { given = g } }; match = record { keys3 = k } }, λ g'5. λ g'6. λ g'7. λ g'8. (Path'.refl, (advance-outputs-requires record { before = record { before = record { before = record { before = record { before = record { before = c; shared-slice-known = record { given = g } }; match = record { keys3 = k } }; v3 = record { given = g'5 } }; known-told3 = record { given = g'6 } }; row-known = record { given = g'7 } }; advance-outputs-arg = record { given = g'8 } }, λ g'9. lay1 record { before = record { before = record { before = record { before = record { before = record { before = record { before = c; shared-slice-known = record { given = g } }; match = record { keys3 = k } }; v3 = record { given = g'5 } }; known-told3 = record { given = g'6 } }; row-known = record { given = g'7 } }; advance-outputs-arg = record { given = g'8 } }; advance-outputs = Called.called ps·0 r·0 (claims· .1) T24 (record { pos = 18; ty = Syntax.tyRef Syntax.erased Syntax.mut OfOutput.named; ref = λ x. x }, (Num.vAt 9 λ x. x, (Num.vAt 8 λ x. x, tt))) (m21 record { before = record { before = record { before = record { before = record { before = c; shared-slice-known = record { given = g } }; match = record { keys3 = k } }; v3 = record { given = g'5 } }; known-told3 = record { given = g'6 } }; row-known = record { given = g'7 } } g'8) g'9 }))), (λ k. (enum-known-v-4 record { before = record { before = c; shared-slice-known = record { given = g } }; match = record { keys4 = k } }, λ g'10. λ g'11. λ g'12. (Path'.refl, λ g'13. (Path'.refl, λ g'14. (arrive-requires record { before = record { before = record { before = record { before = record { before = record { before = record { before = c; shared-slice-known = record { given = g } }; match = record { keys4 = k } }; v4 = record { given = g'10 } }; known-told4 = record { given = g'11 } }; arrive-arg = record { given = g'12 } }; arrive-arg2 = record { given = g'13 } }; arrive-arg3 = record { given = g'14 } }, λ g'15. (Path'.refl, λ g'16. (Path'.refl, λ g'17. (Path'.refl, lay5 record { before = record { before = record { before = record { before = record { before = record { before = record { before = record { before = record { before = record { before = c; shared-slice-known = record { given = g } }; match = record { keys4 = k } }; v4 = record { given = g'10 } }; known-told4 = record { given = g'11 } }; arrive-arg = record { given = g'12 } }; arrive-arg2 = record { given = g'13 } }; arrive-arg3 = record { given = g'14 } }; arrive = Called.called ps·1 r·1 (claims· .3) T49 (record { pos = 20; ty = Syntax.tyRef Syntax.erased Syntax.mut OfOutput.named; ref = λ x. x }, (record { pos = 22; ty = Syntax.tyRef Syntax.erased Syntax.mut OfStation.named; ref = λ x. x }, (record { pos = 23; ty = Syntax.tyRef Syntax.erased Syntax.mut (Syntax.tyInt Syntax.w64); ref = λ x. x }, (record { pos = 4; ty = Syntax.tyRef (Syntax.named 3) Syntax.imm (Syntax.tyInt Syntax.w8); ref = λ x. x }, (Num.vAt 10 λ x. x, (Num.vAt 11 λ x. x, (Num.vAt 12 λ x. x, (Num.vAt 13 λ x. x, (record { pos = 14; st = List.[]; d = 0; at = λ x. x }, tt))))))))) (m41 record { before = record { before = record { before = record { before = record { before = record { before = c; shared-slice-known = record { given = g } }; match = record { keys4 = k } }; v4 = record { given = g'10 } }; known-told4 = record { given = g'11 } }; arrive-arg = record { given = g'12 } }; arrive-arg2 = record { given = g'13 } } g'14) g'15 }; outputs2 = record { given = g'16 } }; stations = record { given = g'17 } }))))))), Match.each-below 4 (λ j. (((Unit {0} × (Run.OneOf (List._∷_ 0 List.[]) j → ⊥)) × (Run.OneOf (List._∷_ 1 List.[]) j → ⊥)) × (Run.OneOf (List._∷_ 2 List.[]) j → ⊥)) × (Run.OneOf (List._∷_ 3 List.[]) j → ⊥) → ⊥) (λ n. n .1 Path'.refl, (λ n. n .0 .1 Path'.refl, (λ n. n .0 .0 .1 Path'.refl, (λ n. n .0 .0 .0 .1 Path'.refl, tt)))) (Declared.tagOf Verdict.the-type (Row.get 5 (T3 .locals) (m1 c g))) (Match.tag-small Verdict.the-type (Row.get 5 (T3 .locals) (m1 c g)))))))
+        pub laid : (c : Start) → at44 (W0 (c .κs) (c .args)) (m0 (c .κs) (c .args))
+        laid = λ c. λ g. (λ k. (enum-known-v record { before = record { before = c; shared-slice-known = record { given = g } }; match = record { keys1 = k } }, λ g'. λ g''. lay2 record { before = record { before = record { before = record { before = c; shared-slice-known = record { given = g } }; match = record { keys1 = k } }; v = record { given = g' } }; known-told = record { given = g'' } }), (λ k. (enum-known-v-2 record { before = record { before = c; shared-slice-known = record { given = g } }; match = record { keys2 = k } }, λ g'3. λ g'4. lay3 record { before = record { before = record { before = record { before = c; shared-slice-known = record { given = g } }; match = record { keys2 = k } }; v2 = record { given = g'3 } }; known-told2 = record { given = g'4 } }), (λ k. (enum-known-v-3 record { before = record { before = c; shared-slice-known = record { given = g } }; match = record { keys3 = k } }, λ g'5. λ g'6. λ g'7. λ g'8. (Path'.refl, (advance-outputs-requires record { before = record { before = record { before = record { before = record { before = record { before = c; shared-slice-known = record { given = g } }; match = record { keys3 = k } }; v3 = record { given = g'5 } }; known-told3 = record { given = g'6 } }; row-known = record { given = g'7 } }; advance-outputs-arg = record { given = g'8 } }, λ g'9. lay1 record { before = record { before = record { before = record { before = record { before = record { before = record { before = c; shared-slice-known = record { given = g } }; match = record { keys3 = k } }; v3 = record { given = g'5 } }; known-told3 = record { given = g'6 } }; row-known = record { given = g'7 } }; advance-outputs-arg = record { given = g'8 } }; advance-outputs = Called.called ps·0 r·0 (claims· .1) T24 (record { pos = 14; ty = Syntax.tyRef Syntax.erased Syntax.mut OfOutput.named; ref = λ x. x }, (Num.vAt 9 λ x. x, (Num.vAt 8 λ x. x, tt))) (m21 record { before = record { before = record { before = record { before = record { before = c; shared-slice-known = record { given = g } }; match = record { keys3 = k } }; v3 = record { given = g'5 } }; known-told3 = record { given = g'6 } }; row-known = record { given = g'7 } } g'8) g'9 }))), (λ k. (enum-known-v-4 record { before = record { before = c; shared-slice-known = record { given = g } }; match = record { keys4 = k } }, λ g'10. λ g'11. λ g'12. (Path'.refl, λ g'13. (Path'.refl, λ g'14. (arrive-requires record { before = record { before = record { before = record { before = record { before = record { before = record { before = c; shared-slice-known = record { given = g } }; match = record { keys4 = k } }; v4 = record { given = g'10 } }; known-told4 = record { given = g'11 } }; arrive-arg = record { given = g'12 } }; arrive-arg2 = record { given = g'13 } }; arrive-arg3 = record { given = g'14 } }, λ g'15. (Path'.refl, λ g'16. (Path'.refl, λ g'17. (Path'.refl, lay5 record { before = record { before = record { before = record { before = record { before = record { before = record { before = record { before = record { before = record { before = c; shared-slice-known = record { given = g } }; match = record { keys4 = k } }; v4 = record { given = g'10 } }; known-told4 = record { given = g'11 } }; arrive-arg = record { given = g'12 } }; arrive-arg2 = record { given = g'13 } }; arrive-arg3 = record { given = g'14 } }; arrive = Called.called ps·1 r·1 (claims· .3) T45 (record { pos = 16; ty = Syntax.tyRef Syntax.erased Syntax.mut OfOutput.named; ref = λ x. x }, (record { pos = 18; ty = Syntax.tyRef Syntax.erased Syntax.mut OfStation.named; ref = λ x. x }, (record { pos = 19; ty = Syntax.tyRef Syntax.erased Syntax.mut (Syntax.tyInt Syntax.w64); ref = λ x. x }, (record { pos = 4; ty = Syntax.tyRef (Syntax.named 3) Syntax.imm (Syntax.tyInt Syntax.w8); ref = λ x. x }, (record { pos = 10; st = List.[]; d = 0; at = λ x. x }, tt))))) (m37 record { before = record { before = record { before = record { before = record { before = record { before = c; shared-slice-known = record { given = g } }; match = record { keys4 = k } }; v4 = record { given = g'10 } }; known-told4 = record { given = g'11 } }; arrive-arg = record { given = g'12 } }; arrive-arg2 = record { given = g'13 } } g'14) g'15 }; outputs2 = record { given = g'16 } }; stations = record { given = g'17 } }))))))), Match.each-below 4 (λ j. (((Unit {0} × (Run.OneOf (List._∷_ 0 List.[]) j → ⊥)) × (Run.OneOf (List._∷_ 1 List.[]) j → ⊥)) × (Run.OneOf (List._∷_ 2 List.[]) j → ⊥)) × (Run.OneOf (List._∷_ 3 List.[]) j → ⊥) → ⊥) (λ n. n .1 Path'.refl, (λ n. n .0 .1 Path'.refl, (λ n. n .0 .0 .1 Path'.refl, (λ n. n .0 .0 .0 .1 Path'.refl, tt)))) (Declared.tagOf Verdict.the-type (Row.get 5 (T3 .locals) (m1 c g))) (Match.tag-small Verdict.the-type (Row.get 5 (T3 .locals) (m1 c g)))))))
 
         module _ (κs : Lifetimes.Lfts 4) (qs : Lifetimes.Shares 4) where
           pub asked :
