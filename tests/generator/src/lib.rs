@@ -5,6 +5,7 @@ pub mod boundary;
 pub mod copies;
 pub mod hostile;
 pub mod list;
+pub mod pair;
 pub mod random;
 pub mod scenes;
 pub mod scripts;
@@ -13,4 +14,5 @@ pub mod timing;
 pub mod values;
 
 pub use list::{generate, List};
+pub use pair::{pair, Pair};
 pub use random::Random;
