@@ -9,6 +9,7 @@ pub mod pair;
 pub mod random;
 pub mod scenes;
 pub mod scripts;
+pub mod sentences;
 pub mod stream;
 pub mod timing;
 pub mod values;

@@ -49,7 +49,10 @@ fn panel(spoilt: &[Spoilt]) -> String {
         }
     }
     let files = |spoilt: &Spoilt| spoilt.edits.iter().map(|edit| edit.file.clone()).collect();
-    for file in spoilt.iter().flat_map(|spoilt| -> Vec<String> { files(spoilt) }) {
+    for file in spoilt
+        .iter()
+        .flat_map(|spoilt| -> Vec<String> { files(spoilt) })
+    {
         let module = file.trim_end_matches(".rs");
         assert!(
             text.contains(&format!("pub mod {module} {{")),

@@ -7,7 +7,9 @@ use crate::Results;
 
 /// Each spoilt panel with its number.
 fn numbered() -> impl Iterator<Item = (usize, &'static Spoilt)> {
-    ALL.iter().enumerate().map(|(index, spoilt)| (index + 1, spoilt))
+    ALL.iter()
+        .enumerate()
+        .map(|(index, spoilt)| (index + 1, spoilt))
 }
 
 /// What is not as it should be.
@@ -67,7 +69,11 @@ proved panel too. A panel that is not told apart is a failure of the run, and so
                 "## {}{}\n\n| | the panel | the paper | {} |\n|---|---|---|---|\n",
                 name[..1].to_uppercase(),
                 &name[1..],
-                if spoilt.unseen.is_some() { "why no list can show it" } else { "first told apart" }
+                if spoilt.unseen.is_some() {
+                    "why no list can show it"
+                } else {
+                    "first told apart"
+                }
             );
         }
         let result = match (&results.told[number], spoilt.unseen) {
@@ -78,7 +84,10 @@ proved panel too. A panel that is not told apart is a failure of the run, and so
         // a bar would end the cell
         let cells = [spoilt.wrong, spoilt.paper, &result].map(|cell| cell.replace('|', "\\|"));
         text += &format!("| {number} | {} |\n", cells.join(" | "));
-        if numbered().nth(number).is_none_or(|(_, next)| next.subject != subject) {
+        if numbered()
+            .nth(number)
+            .is_none_or(|(_, next)| next.subject != subject)
+        {
             text.push('\n');
         }
     }

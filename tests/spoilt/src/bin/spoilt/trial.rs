@@ -39,16 +39,15 @@ impl<'a> Expected<'a> {
     pub fn of_pair(seed: u64, pair: &'a Pair) -> [Expected<'a>; 2] {
         let (answers, panel) = pair.live_with_copies();
         let list = &pair.list;
-        let expected = |with_copies, frames, answers: &[plain::Answer], panel: &plain::Panel| {
-            Expected {
+        let expected =
+            |with_copies, frames, answers: &[plain::Answer], panel: &plain::Panel| Expected {
                 seed,
                 with_copies,
                 outputs: list.outputs,
                 frames,
                 answers: answers.iter().map(|answer| (*answer).into()).collect(),
                 found: panel.outputs().iter().map(found_of_plain).collect(),
-            }
-        };
+            };
         [
             expected(false, &list.frames, &list.answers, &list.panel),
             expected(true, &pair.with_copies.frames, &answers, &panel),
