@@ -35,6 +35,7 @@ fn write(path: &Path, text: &str) {
 fn panel(spoilt: &[Spoilt]) -> String {
     let folder = Path::new("../fast/src");
     let mut text = String::new();
+    let mut files = Vec::new();
     for line in read(&folder.join("lib.rs")).lines() {
         let words: Vec<&str> = line.trim_end_matches(';').split(' ').collect();
         match words[..] {
@@ -44,20 +45,13 @@ fn panel(spoilt: &[Spoilt]) -> String {
                 let file = format!("{name}.rs");
                 let source = weave::weave(&file, &read(&folder.join(&file)), spoilt);
                 text += &format!("pub mod {name} {{\n{source}}}\n");
+                files.push(file);
             }
             _ => text += &format!("{line}\n"),
         }
     }
-    let files = |spoilt: &Spoilt| spoilt.edits.iter().map(|edit| edit.file.clone()).collect();
-    for file in spoilt
-        .iter()
-        .flat_map(|spoilt| -> Vec<String> { files(spoilt) })
-    {
-        let module = file.trim_end_matches(".rs");
-        assert!(
-            text.contains(&format!("pub mod {module} {{")),
-            "no module of fast is in {file}"
-        );
+    for edit in spoilt.iter().flat_map(|spoilt| &spoilt.edits) {
+        assert!(files.contains(&edit.file), "fast has no {}", edit.file);
     }
     text
 }

@@ -51,39 +51,37 @@ fn run(arguments: &Arguments) -> Results {
 }
 
 fn main() -> ExitCode {
-    let arguments = match Arguments::from_command_line(std::env::args().skip(1)) {
-        Ok(arguments) => arguments,
+    match Arguments::from_command_line(std::env::args().skip(1)) {
+        Ok(arguments) => run_and_report(&arguments),
         Err(wrong) => {
             eprintln!("{wrong}\n{}", arguments::USAGE);
-            return ExitCode::from(2);
+            ExitCode::from(2)
         }
-    };
+    }
+}
+
+fn run_and_report(arguments: &Arguments) -> ExitCode {
     // A spoilt panel may panic; that tells it apart and need not be printed.
     std::panic::set_hook(Box::new(|_| {}));
-    let results = run(&arguments);
-    let failures = page::failures(&results);
+    let results = run(arguments);
+    let mut failures = page::failures(&results);
+    let page = page::page(arguments, &results);
+    match &arguments.page {
+        None => println!("{page}"),
+        Some(Page::Write(file)) => {
+            if let Err(error) = std::fs::write(file, page) {
+                failures.push(format!("{}: {error}", file.display()));
+            }
+        }
+        Some(Page::Check(file)) => {
+            if !std::fs::read_to_string(file).is_ok_and(|stored| stored == page) {
+                failures.push(format!("{} is not this run's page", file.display()));
+            }
+        }
+    }
     for failure in &failures {
         println!("FAILED: {failure}");
     }
     println!("{}", page::summary(&results));
-    let page = page::page(&arguments, &results);
-    let written = match &arguments.page {
-        None => {
-            print!("\n{page}");
-            Ok(())
-        }
-        Some(Page::Write(file)) => std::fs::write(file, page).map_err(|error| error.to_string()),
-        Some(Page::Check(file)) => match std::fs::read_to_string(file) {
-            Ok(stored) if stored == page => Ok(()),
-            Ok(_) => Err("not what the run gives now; write it again".to_string()),
-            Err(error) => Err(error.to_string()),
-        },
-    };
-    if let (Err(wrong), Some(Page::Write(file) | Page::Check(file))) = (&written, &arguments.page) {
-        println!("FAILED: {}: {wrong}", file.display());
-    }
-    match failures.is_empty() && written.is_ok() {
-        true => ExitCode::SUCCESS,
-        false => ExitCode::FAILURE,
-    }
+    ExitCode::from(u8::from(!failures.is_empty()))
 }
