@@ -1,7 +1,6 @@
 //! One list, without and with copies, against the plain panel.
 
-use generator::copies::{with_copies, WithCopies};
-use generator::{generate, List, Random};
+use generator::{pair, Pair};
 use panels::list_text::write_list;
 
 use crate::arguments::Arguments;
@@ -12,11 +11,9 @@ use crate::totals::Totals;
 
 /// The words of the first difference, with the seed and the written list.
 pub fn check_list(arguments: &Arguments, seed: u64, totals: &mut Totals) -> Result<(), String> {
-    let mut random = Random::from_seed(!seed);
-    let own_length = own_length(&mut random);
-    let list = generate(seed, arguments.list_length.unwrap_or(own_length));
+    let pair = pair(seed, arguments.list_length);
+    let Pair { list, with_copies } = &pair;
     let text = write_list(list.outputs, &list.frames);
-    let with_copies = with_copies(&mut random, &list.frames);
     let text_with_copies = write_list(list.outputs, &with_copies.frames);
 
     let run = arguments.subject.start(text.clone())?;
@@ -30,12 +27,12 @@ pub fn check_list(arguments: &Arguments, seed: u64, totals: &mut Totals) -> Resu
         .map_err(|difference| report(seed, "", &text, &difference))?;
 
     let run = arguments.subject.start(text_with_copies.clone())?;
-    let (answers, panel) = live(list.outputs, &with_copies.frames);
+    let (answers, panel) = pair.live_with_copies();
     let expectation_with_copies = Expectation::new(&answers, &panel);
     run.finish(arguments.patience)
         .and_then(|written_with_copies| {
             expectation_with_copies.compare(&written_with_copies, &with_copies.frames)?;
-            copies_change_nothing(&written, &written_with_copies, &list, &with_copies)
+            copies_change_nothing(&written, &written_with_copies, &pair)
         })
         .map_err(|difference| report(seed, "-with-copies", &text_with_copies, &difference))?;
 
@@ -44,26 +41,8 @@ pub fn check_list(arguments: &Arguments, seed: u64, totals: &mut Totals) -> Resu
             .map_err(|difference| report(seed, "", &text, &difference))?;
     }
 
-    totals.add(&list, with_copies.frames.len());
+    totals.add(list, with_copies.frames.len());
     Ok(())
-}
-
-/// Many short lists show what is found in the middle of things; long ones
-/// build up more.
-fn own_length(random: &mut Random) -> usize {
-    let length = if random.chance(40) {
-        random.between(1, 120)
-    } else {
-        random.between(500, 3_000)
-    };
-    length as usize
-}
-
-/// The plain panel over the list with copies.
-fn live(outputs: usize, frames: &[Vec<u8>]) -> (Vec<plain::Answer>, plain::Panel) {
-    let mut panel = plain::Panel::start(outputs);
-    let answers = frames.iter().map(|bytes| panel.frame(bytes)).collect();
-    (answers, panel)
 }
 
 /// What the subject wrote for the list with copies, the answers to the copies
@@ -71,8 +50,7 @@ fn live(outputs: usize, frames: &[Vec<u8>]) -> (Vec<plain::Answer>, plain::Panel
 fn copies_change_nothing(
     written: &str,
     written_with_copies: &str,
-    list: &List,
-    with_copies: &WithCopies,
+    Pair { list, with_copies }: &Pair,
 ) -> Result<(), String> {
     let mut lines = written_with_copies.lines();
     let answers_to_originals = lines

@@ -110,6 +110,13 @@ impl Generator {
         if self.random.chance(50) {
             bytes[1] = station;
             bytes[2..6].copy_from_slice(&latest.number.to_be_bytes());
+        } else if self.random.chance(20) {
+            // All but the kind, in the length of the kind that was.
+            *bytes = latest.bytes.clone();
+            let others = ALL_KINDS
+                .into_iter()
+                .filter(|kind| *kind != bytes[0] && length_of_kind(*kind) == Some(bytes.len()));
+            bytes[0] = self.random.pick(&others.collect::<Vec<u8>>());
         } else {
             // All but one bit of the frame that the station keeps, though not
             // of its kind, station and number.

@@ -5,12 +5,15 @@ pub mod boundary;
 pub mod copies;
 pub mod hostile;
 pub mod list;
+pub mod pair;
 pub mod random;
 pub mod scenes;
 pub mod scripts;
+pub mod sentences;
 pub mod stream;
 pub mod timing;
 pub mod values;
 
 pub use list::{generate, List};
+pub use pair::{pair, Pair};
 pub use random::Random;

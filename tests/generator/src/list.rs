@@ -73,7 +73,11 @@ impl Generator {
             _ => 64,
         };
         let favourites = (0..random.between(1, 3))
-            .map(|_| random.below(outputs) as u8)
+            .map(|_| match random.one_in(4) {
+                // The edge of the table.
+                true => outputs - 1,
+                false => random.below(outputs),
+            } as u8)
             .collect();
         Generator {
             random,

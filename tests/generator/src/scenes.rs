@@ -64,6 +64,7 @@ impl Generator {
             480..=599 => self.plan_command_of_rank(output, When::Whenever),
             600..=679 => self.plan_slot_of_rank(output, When::Whenever),
             680..=681 => self.plan_calm_and_great_jump(),
+            682..=831 => self.plan_sentence(output),
             _ => self.plan_anything(output, When::Whenever),
         }
     }
@@ -108,6 +109,7 @@ impl Generator {
                 self.plan(output, Body::Read { property }, When::Due);
             }
             85..=89 => self.plan_second_slot_with_duration(output),
+            90..=91 => self.plan_command_to_reached_level(output),
             _ => self.plan_anything(output, when),
         }
     }

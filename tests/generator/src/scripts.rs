@@ -9,7 +9,7 @@ use crate::list::Generator;
 use crate::timing::When;
 use crate::values;
 
-const ABSENT: u32 = 0xFFFF_FFFF;
+pub(crate) const ABSENT: u32 = 0xFFFF_FFFF;
 
 /// How the slot that is to warn is lit beforehand.
 #[derive(Clone, Copy)]
@@ -21,7 +21,7 @@ enum Lighting {
 }
 
 impl Generator {
-    fn plan_property(&mut self, output: u8, property: u8, value: u32) {
+    pub(crate) fn plan_property(&mut self, output: u8, property: u8, value: u32) {
         self.plan(output, Body::WriteProperty { property, value }, When::Now);
     }
 
@@ -33,11 +33,11 @@ impl Generator {
         }
     }
 
-    fn plan_write(&mut self, output: u8, priority: u8, bits: u32) {
+    pub(crate) fn plan_write(&mut self, output: u8, priority: u8, bits: u32) {
         self.plan(output, Body::Write { priority, bits }, When::Now);
     }
 
-    fn plan_command(&mut self, output: u8, kind: u8, fields: &[u32]) {
+    pub(crate) fn plan_command(&mut self, output: u8, kind: u8, fields: &[u32]) {
         let fields = fields.to_vec();
         self.plan(output, Body::Command { kind, fields }, When::Now);
     }
@@ -45,12 +45,8 @@ impl Generator {
     /// Leads to a warning, or to a write that misses one condition for it.
     pub(crate) fn plan_warning(&mut self, output: u8) {
         let own = self.random.between(7, 16) as u8;
-        self.plan_no_other_slots(output, own);
         let (dark, lit) = self.blink_times();
-        self.plan_setting(output, BLINK_TIME, dark);
-        self.plan_setting(output, BLINK_WARN_DELAY, lit);
-        self.plan_setting(output, BLINK_ENABLE, 1);
-        self.plan_setting(output, RELINQUISH_DEFAULT, 0);
+        self.plan_warning_settings(output, own, dark, lit);
 
         let duration = self.duration_for_warning(dark, lit);
         if self.random.chance(35) {
@@ -69,6 +65,15 @@ impl Generator {
         self.plan_write(output, priority, bits);
     }
 
+    /// All that lets a slot warn, but for its being lit.
+    pub(crate) fn plan_warning_settings(&mut self, output: u8, own: u8, dark: u32, lit: u32) {
+        self.plan_no_other_slots(output, own);
+        self.plan_setting(output, BLINK_TIME, dark);
+        self.plan_setting(output, BLINK_WARN_DELAY, lit);
+        self.plan_setting(output, BLINK_ENABLE, 1);
+        self.plan_setting(output, RELINQUISH_DEFAULT, 0);
+    }
+
     /// Empties what is stronger than the slot, darkens what is weaker.
     fn plan_no_other_slots(&mut self, output: u8, own: u8) {
         for slot in 1..=16 {
@@ -84,7 +89,7 @@ impl Generator {
         }
     }
 
-    fn blink_times(&mut self) -> (u32, u32) {
+    pub(crate) fn blink_times(&mut self) -> (u32, u32) {
         let random = &mut self.random;
         match random.below(10) {
             0 | 1 => (values::short_blink_time(random), 0),
@@ -177,8 +182,8 @@ impl Generator {
         own
     }
 
-    /// Starts a movement of a slot that wins.
-    pub(crate) fn plan_movement(&mut self, output: u8) {
+    /// Commands act on a slot that wins.
+    pub(crate) fn plan_winning_priority(&mut self, output: u8, when: When) {
         let winner = self.output(output).winner().unwrap_or(16);
         let stronger: Vec<u8> = values::PRIORITIES
             .into_iter()
@@ -186,8 +191,13 @@ impl Generator {
             .collect();
         let priority = self.random.pick(&stronger);
         if self.output(output).settings.lighting_command_priority != priority {
-            self.plan_command_priority(output, priority, When::Whenever);
+            self.plan_command_priority(output, priority, when);
         }
+    }
+
+    /// Starts a movement of a slot that wins.
+    pub(crate) fn plan_movement(&mut self, output: u8) {
+        self.plan_winning_priority(output, When::Whenever);
         let level = values::good_level(&mut self.random);
         let fade_time = values::short_time(&mut self.random);
         let duration = match self.random.below(10) {

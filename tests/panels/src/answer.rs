@@ -31,14 +31,3 @@ impl From<plain::Answer> for Answer {
         }
     }
 }
-
-impl From<fast::Answer> for Answer {
-    fn from(answer: fast::Answer) -> Answer {
-        match answer {
-            fast::Answer::Done => Answer::Done,
-            fast::Answer::Value(value) => Answer::Value(value),
-            fast::Answer::Absent => Answer::Absent,
-            fast::Answer::Refused(refusal) => Answer::Refused(refusal.number()),
-        }
-    }
-}

@@ -123,6 +123,12 @@ impl Output {
         if start > 0 && start < real::ONE_PERCENT {
             self.met.push(Event::CommandFromBelowOnePercent);
         }
+        // Where there is no level, it is 0.
+        let darkens = DARKENING.contains(&kind) && fields.level == 0;
+        if darkens && self.conditions_not_met(priority).is_empty() {
+            self.met
+                .push(Event::CommandInsteadOfWarning { kind: kind.into() });
+        }
         self.break_warning(Breaker::Command(kind.into()));
 
         let lit_target = self.settings.into_range_if_lit(fields.level);
@@ -130,22 +136,22 @@ impl Output {
             STOP => self.stop(priority),
             FADE_TO | FADE_TO_OVER => {
                 let movement = Movement::fade(priority, start, lit_target, fields.fade_time);
-                self.aim(priority, lit_target, movement);
+                self.aim(kind, priority, lit_target, movement);
             }
             RAMP_TO | RAMP_TO_AT_RATE => {
                 let movement = Movement::ramp(priority, start, lit_target, fields.rate);
-                self.aim(priority, lit_target, movement);
+                self.aim(kind, priority, lit_target, movement);
             }
             STEP_UP | STEP_UP_BY => {
                 let target = self.stepped_up(start, fields.step);
-                self.aim(priority, target, None);
+                self.aim(kind, priority, target, None);
             }
             STEP_DOWN | STEP_DOWN_BY => {
                 let target = self.stepped_down(start, fields.step);
-                self.aim(priority, target, None);
+                self.aim(kind, priority, target, None);
             }
             // "GOTO and steps jump."
-            GOTO => self.aim(priority, lit_target, None),
+            GOTO => self.aim(kind, priority, lit_target, None),
             RELINQUISH => {
                 self.empty(priority);
                 if self.owns_movement(priority) {
@@ -154,14 +160,14 @@ impl Output {
             }
             _ => unreachable!("the panel gives only commands to this function"),
         }
-        self.set_duration(priority, fields.as_written.duration);
+        self.set_duration(kind, priority, fields.as_written.duration);
         self.last = fields.as_written;
         Answer::Done
     }
 
     /// "A target is put in slot p. If p is then the winner it replaces the
     /// movement; if not, an existing movement goes on."
-    fn aim(&mut self, priority: u8, target: u32, movement: Option<Movement>) {
+    fn aim(&mut self, kind: u8, priority: u8, target: u32, movement: Option<Movement>) {
         self.store(priority, target);
         if self.winner() != Some(priority) {
             if self.movement.is_some() {
@@ -177,7 +183,8 @@ impl Output {
             }),
             None => {
                 if self.movement.is_some() {
-                    self.met.push(Event::MovementReplacedByNone);
+                    let kind = kind.into();
+                    self.met.push(Event::MovementReplacedByNone { kind });
                 }
             }
         }
@@ -236,7 +243,7 @@ impl Output {
     }
 
     /// "A new one replaces it, 0 cancels it, Absent leaves it running."
-    fn set_duration(&mut self, priority: u8, duration: Option<u32>) {
+    fn set_duration(&mut self, kind: u8, priority: u8, duration: Option<u32>) {
         let running = self.duration.as_ref().map(|running| running.slot);
         match duration {
             Some(0) => {
@@ -258,8 +265,11 @@ impl Output {
                 });
             }
             None => {
-                if running.is_some() {
-                    self.met.push(Event::DurationLeftRunning);
+                if let Some(slot) = running {
+                    self.met.push(Event::DurationLeftRunning {
+                        kind: kind.into(),
+                        own_slot: slot == priority,
+                    });
                 }
             }
         }

@@ -197,6 +197,8 @@ pub enum Event {
     NumberZero,
     OutputNotInTable,
     SameNumberOtherBytes,
+    /// All bytes but the first are the same.
+    SameNumberOtherKind,
     OlderNumberSameBytes,
     OlderNumberOtherBytes,
     LateFrame,
@@ -210,6 +212,8 @@ pub enum Event {
     Jump(Jump),
     /// The greatest time that a frame can name.
     LastMillisecond,
+    /// A first arrival at the last output of the largest table.
+    LastOutputOf64,
 
     // First arrivals.
     FirstArrival {
@@ -229,6 +233,12 @@ pub enum Event {
     ElapsedActiveTimeReadAtMost,
     ProgressReadBelowOnePercent,
     BoundMovesWarningLevel,
+    /// Fade_Time in a fade, or Ramp_Rate in a ramp, that the movement would
+    /// take if it did not keep its own.
+    PaceWrittenInMovement {
+        ramp: bool,
+        slower: bool,
+    },
     SlotWritten {
         lit: bool,
         situation: Situation,
@@ -257,7 +267,9 @@ pub enum Event {
         up: bool,
         replaces: bool,
     },
-    MovementReplacedByNone,
+    MovementReplacedByNone {
+        kind: Hexadecimal,
+    },
     MovementRanOut {
         ramp: bool,
         up: bool,
@@ -274,7 +286,10 @@ pub enum Event {
     DurationCancelled {
         other_slot: Option<bool>,
     },
-    DurationLeftRunning,
+    DurationLeftRunning {
+        kind: Hexadecimal,
+        own_slot: bool,
+    },
     DurationFired {
         fired_in: FiredIn,
         slot_live: bool,
@@ -294,7 +309,13 @@ pub enum Event {
         slot: u8,
     },
     WarningStartedByMinusZero,
+    /// A command darkens where a write of zero would start a warning.
+    CommandInsteadOfWarning {
+        kind: Hexadecimal,
+    },
     WarningTurned,
+    /// Slot 6 then holds a level that is not shown as it is.
+    WarningTurnedOutOfRange,
     WarningRanOut {
         dark: bool,
         lit: bool,

@@ -2,8 +2,8 @@
 
 use crate::event::*;
 use crate::frame::{
-    ALL_COMMANDS, ALL_KINDS, CLOCK, EMPTY_A_SLOT, READ_PROPERTY, WRITE_PRESENT_VALUE,
-    WRITE_PROPERTY,
+    ALL_COMMANDS, ALL_KINDS, CLOCK, DARKENING, EMPTY_A_SLOT, FADE_TO, GOTO, READ_PROPERTY,
+    WRITE_PRESENT_VALUE, WRITE_PROPERTY,
 };
 use crate::settings::*;
 
@@ -29,6 +29,7 @@ fn list_events(events: &mut Vec<Event>) {
         Event::NumberZero,
         Event::OutputNotInTable,
         Event::SameNumberOtherBytes,
+        Event::SameNumberOtherKind,
         Event::OlderNumberSameBytes,
         Event::OlderNumberOtherBytes,
         Event::LateFrame,
@@ -36,6 +37,7 @@ fn list_events(events: &mut Vec<Event>) {
         Event::ClockAccepted,
         Event::HighestNumber,
         Event::LastMillisecond,
+        Event::LastOutputOf64,
     ]);
     for kind in ALL_KINDS {
         events.push(Event::TooShort { kind: kind.into() });
@@ -87,6 +89,11 @@ fn property_events(events: &mut Vec<Event>) {
         Event::ProgressReadBelowOnePercent,
         Event::BoundMovesWarningLevel,
     ]);
+    for ramp in BOTH {
+        for slower in BOTH {
+            events.push(Event::PaceWrittenInMovement { ramp, slower });
+        }
+    }
     for property in 0..=255_u8 {
         let readable =
             matches!(property, RELINQUISH_DEFAULT..=LAST_DURATION | FIRST_SLOT..=LAST_SLOT);
@@ -210,7 +217,10 @@ fn movement_events(events: &mut Vec<Event>) {
             events.push(Event::MovementRanOut { ramp, up });
         }
     }
-    events.push(Event::MovementReplacedByNone);
+    // STOP and RELINQUISH have no target.
+    for kind in FADE_TO..=GOTO {
+        events.push(Event::MovementReplacedByNone { kind: kind.into() });
+    }
     events.push(Event::WholeDayMovementRanOut);
 }
 
@@ -225,7 +235,12 @@ fn duration_events(events: &mut Vec<Event>) {
         }
         events.push(Event::DurationCancelled { other_slot });
     }
-    events.push(Event::DurationLeftRunning);
+    for kind in ALL_COMMANDS {
+        for own_slot in BOTH {
+            let kind = kind.into();
+            events.push(Event::DurationLeftRunning { kind, own_slot });
+        }
+    }
     events.push(Event::WholeDayDurationFired);
     for fired_in in [
         FiredIn::Rest,
@@ -294,7 +309,11 @@ fn warning_events(events: &mut Vec<Event>) {
         events.push(Event::WarningStartedAt { slot });
     }
     events.push(Event::WarningStartedByMinusZero);
+    for kind in DARKENING {
+        events.push(Event::CommandInsteadOfWarning { kind: kind.into() });
+    }
     events.push(Event::WarningTurned);
+    events.push(Event::WarningTurnedOutOfRange);
     events.push(Event::TwoDayWarningRanOut);
     let writes = [
         Breaker::ZeroAtItsOwnSlot,

@@ -50,6 +50,16 @@ pub const ALL_COMMANDS: [u8; 11] = [
     RELINQUISH,
 ];
 
+/// Commands that can leave an output dark: a step down ends at Min.
+pub const DARKENING: [u8; 6] = [
+    FADE_TO,
+    FADE_TO_OVER,
+    RAMP_TO,
+    RAMP_TO_AT_RATE,
+    GOTO,
+    RELINQUISH,
+];
+
 /// The paper's table of kinds and bytes; nothing for an unknown kind.
 pub fn length_of_kind(kind: u8) -> Option<usize> {
     match kind {

@@ -132,6 +132,9 @@ impl Panel {
                 return self.copy(time, answer);
             }
             if latest.number == number {
+                if latest.bytes[1..] == bytes[1..] {
+                    self.tally.count(Event::SameNumberOtherKind);
+                }
                 return self
                     .turn_down(answer::LAST_NUMBER_OTHER_BYTES, Event::SameNumberOtherBytes);
             }
@@ -196,6 +199,9 @@ impl Panel {
             kind: kind.into(),
             answer: answer.into(),
         });
+        if frame::output(bytes) == 63 {
+            self.tally.count(Event::LastOutputOf64);
+        }
         if frame::number(bytes) == u32::MAX {
             self.tally.count(Event::HighestNumber);
         }

@@ -2,6 +2,7 @@
 
 use crate::answer::{self, Answer};
 use crate::event::Event;
+use crate::movement::Pace;
 use crate::output::Output;
 use crate::real;
 use crate::settings::*;
@@ -22,6 +23,9 @@ impl Output {
             answer: answer.into(),
             situation,
         });
+        if answer == Answer::Done {
+            self.note_pace(property, value);
+        }
         let is_bound = property == MINIMUM || property == MAXIMUM;
         if is_bound && answer == Answer::Done {
             if self.warning.is_some() && self.present_value() != shown_before {
@@ -31,6 +35,27 @@ impl Output {
             self.movement = None;
         }
         answer
+    }
+
+    /// For the count of events: a pace that a movement under way does not take.
+    fn note_pace(&mut self, property: u8, value: u32) {
+        let Some(movement) = &self.movement else {
+            return;
+        };
+        let (own, other) = match (property, movement.pace) {
+            (FADE_TIME, Pace::Fade) => (movement.length, u64::from(value)),
+            (RAMP_RATE, Pace::Ramp { units_a_second }) => {
+                let rate = real::rate_or_step(value).unwrap_or(units_a_second);
+                (u64::from(rate), u64::from(units_a_second))
+            }
+            _ => return,
+        };
+        if own != other {
+            self.met.push(Event::PaceWrittenInMovement {
+                ramp: movement.is_ramp(),
+                slower: other > own,
+            });
+        }
     }
 
     /// "Property unknown, or not writable" is met before the value.

@@ -33,7 +33,7 @@ impl Warning {
 impl Output {
     /// The conditions for a warning that a write of level 0 at `priority` does
     /// not meet.
-    fn conditions_not_met(&self, priority: u8) -> Vec<NoWarning> {
+    pub fn conditions_not_met(&self, priority: u8) -> Vec<NoWarning> {
         let settings = &self.settings;
         let stronger_slot_live = (1..priority).any(|other| self.slot(other).is_some());
         let weaker_slot_lit = (priority + 1..=16).any(|other| self.slot(other).unwrap_or(0) > 0);
@@ -96,6 +96,9 @@ impl Output {
             self.store(WARNING_SLOT, warning.level);
             if warning.gone == warning.dark_time && warning.gone > 0 {
                 self.met.push(Event::WarningTurned);
+                if self.settings.into_range_if_lit(warning.level) != warning.level {
+                    self.met.push(Event::WarningTurnedOutOfRange);
+                }
             }
         } else {
             self.met.push(Event::WarningRanOut {

@@ -1,0 +1,42 @@
+//! The lists that belong to a seed: one, and the same with copies put in.
+
+use plain::{Answer, Panel};
+
+use crate::copies::{with_copies, WithCopies};
+use crate::list::{generate, List};
+use crate::random::Random;
+
+pub struct Pair {
+    pub list: List,
+    pub with_copies: WithCopies,
+}
+
+/// Without a length every list has its own.
+pub fn pair(seed: u64, length: Option<usize>) -> Pair {
+    let mut random = Random::from_seed(!seed);
+    let own_length = own_length(&mut random);
+    let list = generate(seed, length.unwrap_or(own_length));
+    let with_copies = with_copies(&mut random, &list.frames);
+    Pair { list, with_copies }
+}
+
+/// Many short lists show what is found in the middle of things; long ones
+/// build up more.
+fn own_length(random: &mut Random) -> usize {
+    let length = if random.chance(40) {
+        random.between(1, 120)
+    } else {
+        random.between(500, 3_000)
+    };
+    length as usize
+}
+
+impl Pair {
+    /// The plain panel over the list with copies.
+    pub fn live_with_copies(&self) -> (Vec<Answer>, Panel) {
+        let mut panel = Panel::start(self.list.outputs);
+        let frames = self.with_copies.frames.iter();
+        let answers = frames.map(|bytes| panel.frame(bytes)).collect();
+        (answers, panel)
+    }
+}

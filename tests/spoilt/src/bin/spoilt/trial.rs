@@ -1,0 +1,106 @@
+//! A spoilt panel over a list, until it is told from the plain panel.
+
+use std::fmt;
+use std::panic::catch_unwind;
+
+use generator::Pair;
+use panels::plain_panel::found_of_plain;
+use panels::{Answer, Found, Panel};
+use spoilt::{switch, SpoiltPanel};
+
+/// A list with what the plain panel answers and what is found after it: all
+/// that a replay program shows.
+pub struct Expected<'a> {
+    seed: u64,
+    with_copies: bool,
+    outputs: usize,
+    frames: &'a [Vec<u8>],
+    answers: Vec<Answer>,
+    found: Vec<Found>,
+}
+
+/// What told a panel apart.
+enum Sign {
+    Answer { expected: Answer, got: Answer },
+    Found { output: usize },
+    Panic,
+}
+
+pub struct Difference {
+    seed: u64,
+    with_copies: bool,
+    /// From 0; the number of frames for what is found after the last.
+    frame: usize,
+    sign: Sign,
+}
+
+impl<'a> Expected<'a> {
+    /// The list without and with copies.
+    pub fn of_pair(seed: u64, pair: &'a Pair) -> [Expected<'a>; 2] {
+        let (answers, panel) = pair.live_with_copies();
+        let list = &pair.list;
+        let expected =
+            |with_copies, frames, answers: &[plain::Answer], panel: &plain::Panel| Expected {
+                seed,
+                with_copies,
+                outputs: list.outputs,
+                frames,
+                answers: answers.iter().map(|answer| (*answer).into()).collect(),
+                found: panel.outputs().iter().map(found_of_plain).collect(),
+            };
+        [
+            expected(false, &list.frames, &list.answers, &list.panel),
+            expected(true, &pair.with_copies.frames, &answers, &panel),
+        ]
+    }
+
+    pub fn first_difference(&self, number: usize) -> Option<Difference> {
+        switch::turn_on(number);
+        let mut panel = SpoiltPanel::start(self.outputs);
+        let difference = |frame, sign| {
+            Some(Difference {
+                seed: self.seed,
+                with_copies: self.with_copies,
+                frame,
+                sign,
+            })
+        };
+        for (index, (bytes, expected)) in self.frames.iter().zip(&self.answers).enumerate() {
+            let mut next = panel;
+            let Ok((answer, next)) = catch_unwind(move || (next.frame(bytes), next)) else {
+                return difference(index, Sign::Panic);
+            };
+            panel = next;
+            if answer != *expected {
+                let expected = *expected;
+                let sign = Sign::Answer {
+                    expected,
+                    got: answer,
+                };
+                return difference(index, sign);
+            }
+        }
+        let Ok(found) = catch_unwind(move || panel.found()) else {
+            return difference(self.frames.len(), Sign::Panic);
+        };
+        let output = (0..self.outputs).find(|output| found[*output] != self.found[*output])?;
+        difference(self.frames.len(), Sign::Found { output })
+    }
+}
+
+impl fmt::Display for Difference {
+    fn fmt(&self, formatter: &mut fmt::Formatter) -> fmt::Result {
+        let Difference { seed, frame, .. } = self;
+        let copies = if self.with_copies { " with copies" } else { "" };
+        write!(formatter, "list {seed}{copies}, ")?;
+        match &self.sign {
+            Sign::Answer { expected, got } => {
+                write!(formatter, "frame {frame}: {got}, not {expected}")
+            }
+            Sign::Found { output } => {
+                write!(formatter, "found of output {output} after {frame} frames")
+            }
+            Sign::Panic => write!(formatter, "frame {frame}: the panel stops"),
+        }
+    }
+}
