@@ -1,5 +1,6 @@
 pub mod Laws
 pub mod Lines
 pub mod Spelt
+pub mod Runs
 pub mod Marked
 pub mod Heading

@@ -41,13 +41,13 @@ worth (lower {d} h) =
       leb-yes {a = suc (97 + d)} {b = 103} (omega arith),
     ) (omega arith)
 
-small : {d c : ℕ} → Digit d c → d < 16
+pub small : {d c : ℕ} → Digit d c → d < 16
 small (figure h) = omega arith
 small (upper h) = omega arith
 small (lower h) = omega arith
 
 -- a digit is past every blank and mark
-past : {d c : ℕ} → Digit d c → 47 < c
+pub past : {d c : ℕ} → Digit d c → 47 < c
 past (figure h) = omega arith
 past (upper h) = omega arith
 past (lower h) = omega arith
@@ -90,12 +90,12 @@ unfolding storedBy
 unstored w v none = refl
 unstored w v some = refl
 
-first : (w : Reader) {d c : ℕ} → Ready w → Digit d c → feed w c ≡ withHeld w (Half d)
+pub first : (w : Reader) {d c : ℕ} → 0 < w .outputs → Between (w .held) → Digit d c → feed w c ≡ withHeld w (Half d)
 unfolding feed
-first w {d} {c} r g = rw (worth g, unstored w d (r .between), first-held (w .outputs) (r .named) (r .between) g)
+first w {d} {c} p b g = rw (worth g, unstored w d b, first-held (w .outputs) p b g)
 
 -- a second one
-second : (w : Reader) {d v c : ℕ} → d < 16 → Digit v c → feed (withHeld w (Half d)) c ≡ withHeld (pushed w (d * 16 + v)) Whole
+pub second : (w : Reader) {d v c : ℕ} → d < 16 → Digit v c → feed (withHeld w (Half d)) c ≡ withHeld (pushed w (d * 16 + v)) Whole
 unfolding feed withHeld step storedBy halfHeld joined pushed if_then_else_
 second w {d} {v} {c} h g =
     rw (worth g, leb-yes {a = suc v} {b = 16} (small g), pair)
@@ -155,18 +155,18 @@ between-steady : {h : Held} → Between h → Steady h
 between-steady none = at-start
 between-steady some = after-bytes
 
-passed-over : (w : Reader) (c : ℕ) → Ready w → isBlank c ≡ true → feed w c ≡ w
-passed-over w c r e = unfold withHeld in (blank-steady w c (between-steady (r .between)) e)
+pub passed-over : (w : Reader) (c : ℕ) → Between (w .held) → isBlank c ≡ true → feed w c ≡ w
+passed-over w c b e = unfold withHeld in (blank-steady w c (between-steady b) e)
 
 -- a character, and a byte, at the head of a text
 on-blank : (w : Reader) (c : ℕ) (x : Bytes) → Ready w → isBlank c ≡ true → fed w (c ∷ x) ≡ fed w x
 unfolding fed
-on-blank w c x r e = ap (λ (u : Reader). fed u x) (passed-over w c r e)
+on-blank w c x r e = ap (λ (u : Reader). fed u x) (passed-over w c (r .between) e)
 
 on-byte : (w : Reader) {d v c k : ℕ} (x : Bytes) → Ready w → Digit d c → Digit v k → fed w (c ∷ (k ∷ x)) ≡ fed (withHeld (pushed w (d * 16 + v)) Whole) x
 unfolding fed
 on-byte w {k = k} x r g h =
-    ap (λ (u : Reader). fed (feed u k) x) (first w r g) ∙ ap (λ (u : Reader). fed u x) (second w (small g) h)
+    ap (λ (u : Reader). fed (feed u k) x) (first w (r .named) (r .between) g) ∙ ap (λ (u : Reader). fed u x) (second w (small g) h)
 
 -- THE TEXT. What was read before stays in front: at a line's start that is nothing
 pub read : {b x : Bytes} → Spells b x → (w : Reader) → Ready w → content (fed w x) ≡ take bytesKept (content w ++ b)

@@ -1,5 +1,5 @@
 -- The text of a list of frames, read one byte at a time. Only newlines are not fed: they end a line. Assumes nothing.
-use mathlib.Core.Bool.{Bool, true}
+use mathlib.Core.Bool.{Bool, true, false}
 use mathlib.Core.List.{[], _∷_}
 use Prim.Native.Nat.{ℕ, suc, _+_, _-_, _*_, _%_, min}
 use lib.Dec.{ltb, eqb}
@@ -97,6 +97,19 @@ step outputs Whole v c = byteHeld v c
 step outputs (Half d) v c = halfHeld v c
 step outputs Dash v c = dashed c
 step outputs (Spoilt f) v c = Spoilt f
+
+-- whether the first digit of a byte may come next
+unfoldable pub mayBegin : ℕ → Held → Bool
+mayBegin outputs Blank = ltb 0 outputs
+mayBegin outputs Comment = false
+mayBegin outputs (Letters k) = false
+mayBegin outputs Gap = false
+mayBegin outputs (Number n) = false
+mayBegin outputs (Trail n) = false
+mayBegin outputs Whole = ltb 0 outputs
+mayBegin outputs (Half d) = false
+mayBegin outputs Dash = false
+mayBegin outputs (Spoilt f) = false
 
 -- THE READER FED. Of a string it keeps one byte more than the longest frame has
 abbrev pub bytesKept : ℕ

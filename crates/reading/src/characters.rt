@@ -1,14 +1,14 @@
 // A character of a list, and what a line holds after one more.
 ghost use mathlib.Core.Path.{_≡_};
 ghost use Prim.Native.Nat.{_+_, _*_, min};
-ghost use Rattle.reading.specs.Reading.{isBlank, hexValue, letter, digitHeld, opened, lettered, spelled, gapped, grownHeld, numbered, trailed, byteHeld, halfHeld, dashed, step};
+ghost use Rattle.reading.specs.Reading.{isBlank, hexValue, letter, digitHeld, opened, lettered, spelled, gapped, grownHeld, numbered, trailed, byteHeld, halfHeld, dashed, step, mayBegin};
 use crate::Fault;
 use crate::Held;
 
 // ---- characters
 
 // A blank, a tab, or the carriage return before a newline.
-fn is_blank(c: u8) -> bool
+pub fn is_blank(c: u8) -> bool
     ensures { λ r. ⌜ r ≡ isBlank c ⌝ }
 {
     if c == b' ' {
@@ -206,5 +206,23 @@ pub fn step(outputs: u8, h: Held, v: u8, c: u8) -> Held
         Held::Half(_) => half_held(v, c),
         Held::Dash => dashed(c),
         Held::Spoilt(_) => h,
+    }
+}
+
+// Whether the first digit of a byte may come next: the list has named its outputs, and the line holds nothing yet, or whole bytes.
+pub fn may_begin(outputs: u8, h: Held) -> bool
+    ensures { λ r. ⌜ r ≡ mayBegin outputs h ⌝ }
+{
+    match h {
+        Held::Blank => 0 < outputs,
+        Held::Comment => false,
+        Held::Letters(_) => false,
+        Held::Gap => false,
+        Held::Number(_) => false,
+        Held::Trail(_) => false,
+        Held::Whole => 0 < outputs,
+        Held::Half(_) => false,
+        Held::Dash => false,
+        Held::Spoilt(_) => false,
     }
 }

@@ -1,4 +1,4 @@
-// A list's text, read one byte at a time by value. The caller sees the ends of lines; every other byte is fed.
+// A list's text, read a line at a time: whole bytes straight to their place, every other character by value. The caller sees the ends of lines.
 mod characters;
 
 ghost use mathlib.Core.Path.{_≡_};
@@ -141,6 +141,59 @@ pub struct Fed {
     pub next: usize,
 }
 
+// As many whole bytes as stand from `from` on, with the blanks between them, where a byte may begin: each goes straight to its place, and the
+// reader is made once, after the last. What comes to the same reader at the line's end is left.
+fn feed_bytes(w: Reader, s: &[u8], from: usize) -> Fed
+    requires { ⌜ from ≤ length (now s) ⌝ }
+    ensures { λ r. ⌜ fedLine (r .reader) (drop (r .next) (now (s .entry))) ≡ fedLine w (drop from (now (s .entry))) ⌝ }
+    ensures { λ r. ⌜ r .next + lineLength (drop (r .next) (now (s .entry))) ≡ from + lineLength (drop from (now (s .entry))) ⌝ }
+    ensures { λ r. ⌜ (from ≤ r .next) × (r .next ≤ length (now (s .entry))) ⌝ }
+{
+    let outputs = w.outputs;
+    let line = w.line;
+    let mut held = w.held;
+    let mut bytes = w.bytes;
+    let mut count = w.count;
+    let mut i = from;
+    if characters::may_begin(outputs, held) {
+        while i < s.len() {
+            let c = s[i];
+            let d = characters::hex_value(c);
+            if d < 16 {
+                if BYTES_KEPT <= count {
+                    break;
+                }
+                if s.len() <= i + 1 {
+                    break;
+                }
+                let v = characters::hex_value(s[i + 1]);
+                if 16 <= v {
+                    break;
+                }
+                bytes[count] = byte_pair(d, v);
+                count += 1;
+                held = Held::Whole;
+                i += 2;
+            } else {
+                if !characters::is_blank(c) {
+                    break;
+                }
+                i += 1;
+            }
+        }
+    }
+    Fed {
+        reader: Reader {
+            outputs: outputs,
+            line: line,
+            held: held,
+            bytes: bytes,
+            count: count,
+        },
+        next: i,
+    }
+}
+
 pub fn feed_line(w: Reader, s: &[u8], from: usize) -> Fed
     requires { ⌜ from ≤ length (now s) ⌝ }
     ensures { λ r. ⌜ r .reader ≡ fedLine w (drop from (now (s .entry))) ⌝ }
@@ -149,12 +202,18 @@ pub fn feed_line(w: Reader, s: &[u8], from: usize) -> Fed
     let mut reader = w;
     let mut i = from;
     while i < s.len() {
-        let c = s[i];
-        if c == b'\n' {
-            break;
+        let run = feed_bytes(reader, s, i);
+        let after = run.reader;
+        reader = after;
+        i = run.next;
+        if i < s.len() {
+            let c = s[i];
+            if c == b'\n' {
+                break;
+            }
+            reader = feed(reader, c);
+            i += 1;
         }
-        reader = feed(reader, c);
-        i += 1;
     }
     Fed {
         reader: reader,

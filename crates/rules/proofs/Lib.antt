@@ -1,1 +1,2 @@
-pub mod FromWinner
+pub mod LiveSlots
+pub mod Order

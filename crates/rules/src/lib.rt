@@ -1,9 +1,12 @@
 // The record rules, as the test that is made of every lent record; those on what is under way are the crate `activities`. Slots are counted from
 // 0: slot 6 is 5.
 ghost use mathlib.Core.Path.{_≡_};
-ghost use Prim.Native.Nat.{_<_};
+ghost use Prim.Native.Nat.{_+_, _/_, _^_};
+ghost use lib.Count.{trailingZeros};
+ghost use lib.Dec.{ltb};
+ghost use Rattle.lighting.specs.Choice.{if_then_else_};
 ghost use Rattle.lighting.specs.Parameters.{standard};
-ghost use Rattle.lighting.specs.Rules.{levelsSound, timesSound, realsSound, settingsSound, slotSound, slotsSoundFrom, activitySound, sound};
+ghost use Rattle.lighting.specs.Rules.{levelsSound, timesSound, realsSound, settingsSound, slotsSoundFrom, activitySound, sound};
 use lighting::Activity;
 use lighting::Output;
 use lighting::Property;
@@ -78,43 +81,38 @@ fn settings_sound(c: Settings) -> bool
 
 // ---- slots
 
-// A live slot holds a level.
-fn slot_sound(s: Slots, i: usize) -> bool
-    requires { ⌜ i < 16 ⌝ }
-    ensures { λ r. ⌜ r ≡ slotSound s i ⌝ }
+// The first live slot from slot i on; a number from 16 on where none is live.
+fn live_from(live: u16, i: u32) -> u32
+    ensures { λ r. ⌜ r ≡ (if ltb i 16 then i + trailingZeros 16 (live / 2 ^ i) else i) ⌝ }
 {
-    if slots::is_live(s, i as u8) {
-        ranges::is_level(s.levels[i])
+    if i < 16 {
+        i + u16::trailing_zeros(live >> i)
     } else {
-        true
+        i
     }
 }
 
-fn slots_sound_from(s: Slots, from: usize) -> bool
-    ensures { λ r. ⌜ r ≡ slotsSoundFrom s from ⌝ }
+// A live slot holds a level. The loop goes from one live slot to the next, over a copy of the levels alone.
+fn live_sound(s: Slots) -> bool
+    ensures { λ r. ⌜ r ≡ slotsSoundFrom s 0 ⌝ }
 {
-    let mut i = from;
+    let live = s.live;
+    let levels = s.levels;
+    let mut i = live_from(live, 0);
     while i < 16 {
-        if slot_sound(s, i) {
-            i += 1;
-        } else {
+        if !ranges::is_level(levels[wide_index(i)]) {
             return false;
         }
+        i = live_from(live, i + 1);
     }
     true
 }
 
-// Slots before the winner are empty. Of most outputs at most slot 16, that of the commands, is live, and the test begins with it; a loop over
-// all sixteen is the faster one for the others.
+// Where no slot is live, the levels are not looked at.
 fn slots_sound(s: Slots) -> bool
     ensures { λ r. ⌜ r ≡ slotsSoundFrom s 0 ⌝ }
 {
-    let w = slots::winning(s);
-    if 15 <= w {
-        slots_sound_from(s, wide_index(w))
-    } else {
-        slots_sound_from(s, 0)
-    }
+    if s.live == 0 { true } else { live_sound(s) }
 }
 
 // ---- what is under way
@@ -134,6 +132,7 @@ fn activity_sound(t: u64, c: Settings, s: Slots, a: Activity) -> bool
 
 // ---- the record at panel time t
 
+// The rules on the slots come last: a test of levels copies them, and what was read before such a copy would be kept on the stack beside it.
 pub fn is_sound(t: u64, o: Output) -> bool
     ensures { λ r. ⌜ r ≡ sound standard t o ⌝ }
 {
@@ -142,10 +141,10 @@ pub fn is_sound(t: u64, o: Output) -> bool
     let a = o.activity;
     let m = o.timer;
     if settings_sound(c) {
-        if slots_sound(s) {
-            if activity_sound(t, c, s, a) {
-                if activities::timer_sound(t, m) {
-                    o.burning <= t
+        if o.burning <= t {
+            if activities::timer_sound(t, m) {
+                if activity_sound(t, c, s, a) {
+                    slots_sound(s)
                 } else {
                     false
                 }

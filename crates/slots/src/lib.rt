@@ -1,6 +1,8 @@
 // The slots of an output: sixteen bits that say which are live, beside the levels. A slot is set, cleared and tested by a shifted mask; the
 // winner is the lowest bit set. There is no slot from 16 on: it is never live, and to set or clear it changes nothing.
 ghost use mathlib.Core.Path.{_≡_};
+ghost use Prim.Native.Nat.{_<_};
+ghost use lib.ListN.{getD};
 ghost use Rattle.lighting.specs.Slots.{winner, lives, maskEmptied, maskFilled, levelSet, emptied, filled, levelAt, topmost};
 use lighting::Slots;
 
@@ -64,11 +66,20 @@ pub fn fill(s: Slots, i: u8, v: u32) -> Slots
     }
 }
 
+// The level of slot i. The levels are copied alone, and only where one is looked up: a copy of all of the slots would put the levels askew.
+fn level_of(s: Slots, i: u32) -> u32
+    requires { ⌜ i < 16 ⌝ }
+    ensures { λ r. ⌜ r ≡ getD (s .levels) i 0 ⌝ }
+{
+    let levels = s.levels;
+    levels[i as usize]
+}
+
 // The level of slot i, or d where there is no such slot.
 pub fn level_at(d: u32, s: Slots, i: u32) -> u32
     ensures { λ r. ⌜ r ≡ levelAt d s i ⌝ }
 {
-    if i < 16 { s.levels[i as usize] } else { d }
+    if i < 16 { level_of(s, i) } else { d }
 }
 
 // The winner's level, or d with no live slot.

@@ -1,5 +1,5 @@
 use Rattle.lighting.proofs.Choosing.{ifs}
-use Rattle.lighting.specs.Rules.{sound}
+use Rattle.rules.proofs.Order.{in-order}
 use borrow.Author.Needs.{needs}
 use Rattle.rules.proofs.is_sound.Statement.{statement}
 use Rattle.rules.proofs.is_sound.Tie as tie
@@ -13,43 +13,38 @@ use Rattle.activities.proofs.timer_sound.Reads as timer-sound-reads
 settings-sound-requires : tie.Need-settings-sound-requires
 settings-sound-requires c κs = search needs
 
-slots-sound-requires : tie.Need-slots-sound-requires
-slots-sound-requires c κs = search needs
+timer-sound-requires : tie.Need-timer-sound-requires
+timer-sound-requires c κs = search needs
 
 activity-sound-requires : tie.Need-activity-sound-requires
 activity-sound-requires c κs = search needs
 
-timer-sound-requires : tie.Need-timer-sound-requires
-timer-sound-requires c κs = search needs
+slots-sound-requires : tie.Need-slots-sound-requires
+slots-sound-requires c κs = search needs
 
 returns : tie.Need-returns
-unfolding sound
-returns c = search (needs, ifs)
+returns c = search (needs, ifs, in-order)
 
 returns-2 : tie.Need-returns-2
-unfolding sound
-returns-2 c = search (needs, ifs)
+returns-2 c = search (needs, ifs, in-order)
 
 returns-3 : tie.Need-returns-3
-unfolding sound
-returns-3 c = search (needs, ifs)
+returns-3 c = search (needs, ifs, in-order)
 
 returns-4 : tie.Need-returns-4
-unfolding sound
-returns-4 c = search (needs, ifs)
+returns-4 c = search (needs, ifs, in-order)
 
 returns-5 : tie.Need-returns-5
-unfolding sound
-returns-5 c = search (needs, ifs)
+returns-5 c = search (needs, ifs, in-order)
 
 pub is-sound-spec : {M : Type 1} → statement M
 is-sound-spec =
     tie.close
     (tie.spec
     settings-sound-requires
-    slots-sound-requires
-    activity-sound-requires
     timer-sound-requires
+    activity-sound-requires
+    slots-sound-requires
     returns
     returns-2
     returns-3

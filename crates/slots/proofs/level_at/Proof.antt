@@ -5,12 +5,10 @@ use Rattle.slots.proofs.level_at.Statement.{statement}
 use Rattle.slots.proofs.level_at.Tie as tie
 use Rattle.slots.proofs.level_at.Reads as reads
 use Rattle.slots.proofs.level_at.Lts as lts
+use Rattle.slots.proofs.level_of.Reads as level-of-reads
 
-mul-result : tie.Need-mul-result
-mul-result c = search needs
-
-element-copy-out-result : tie.Need-element-copy-out-result
-element-copy-out-result c = search needs
+level-of-requires : tie.Need-level-of-requires
+level-of-requires c κs = search needs
 
 returns : tie.Need-returns
 unfolding levelAt
@@ -21,4 +19,4 @@ unfolding levelAt
 returns-2 c = search (needs, ifs)
 
 pub level-at-spec : {M : Type 1} → statement M
-level-at-spec = tie.close (tie.spec mul-result element-copy-out-result returns returns-2)
+level-at-spec = tie.close (tie.spec level-of-requires returns returns-2)
