@@ -90,10 +90,9 @@ NeverOne (a ∷ l) = (refusalOf a ≢ 1) × NeverOne l
 
 -- THE DEMAND, for a lent table e, a list of frames l, and the list l′ in which frames of l come again
 pub record Demand (p : Parameters) (e : Panel) (l l′ : List Bytes) (r : Again [] l l′) : Type 0 where
-  -- after every list all that is found is what the plain panel has, at the same time
-  pub finds :
-      foundIn (after p (started p e .panel) l)
-      ≡ foundPlain (plainAfter p (plainStart (length (e .outputs))) l .panel)
+  -- after every list the outputs, all of every record, are the plain panel's, at the same time: so all that is found is the same (proofs/Demand.antt,
+  -- `finds`)
+  pub outputs : after p (started p e .panel) l .outputs ≡ plainAfter p (plainStart (length (e .outputs))) l .panel .outputs
   pub time : after p (started p e .panel) l .time ≡ plainAfter p (plainStart (length (e .outputs))) l .panel .time
   -- and every answer is its answer
   pub answered : answers p (started p e .panel) l ≡ plainAnswers p (plainStart (length (e .outputs))) l
