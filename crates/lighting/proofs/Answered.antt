@@ -5,7 +5,7 @@ use Prim.Native.Nat.{ℕ}
 use native.Mathlib.Omega.{arith}
 use Rattle.lighting.specs.Choice.{if_then_else_}
 use Rattle.lighting.specs.Slots.{Slots, lives}
-use Rattle.lighting.specs.Answers.{refusalOf}
+use Rattle.lighting.proofs.Told.{refusalOf}
 use Rattle.lighting.specs.Properties.{settingsWith, minOverMax, levelAnswer, slotAnswer, realAnswer, lastLevel, lastRate, lastStep, lastFadeTime, lastDuration, shown}
 use Rattle.lighting.specs.Acting.{made, left, changedUnless, acted}
 use Rattle.lighting.specs.declared.Duration.{Duration}
@@ -29,7 +29,7 @@ pub not-one : (a : Answer) → refusalOf a ≡ 0 → NotOne a
 not-one a h = record { other = omega arith }
 
 level-none : (o : Operation) → refusalOf (lastLevel o) ≡ 0
-unfolding lastLevel realAnswer refusalOf
+unfolding lastLevel realAnswer
 level-none Stop = refl
 level-none (FadeTo x) = refl
 level-none (FadeToOver x l) = refl
@@ -43,7 +43,7 @@ level-none (Goto x) = refl
 level-none Relinquish = refl
 
 rate-none : (o : Operation) → refusalOf (lastRate o) ≡ 0
-unfolding lastRate realAnswer refusalOf
+unfolding lastRate realAnswer
 rate-none Stop = refl
 rate-none (FadeTo x) = refl
 rate-none (FadeToOver x l) = refl
@@ -57,7 +57,7 @@ rate-none (Goto x) = refl
 rate-none Relinquish = refl
 
 step-none : (o : Operation) → refusalOf (lastStep o) ≡ 0
-unfolding lastStep realAnswer refusalOf
+unfolding lastStep realAnswer
 step-none Stop = refl
 step-none (FadeTo x) = refl
 step-none (FadeToOver x l) = refl
@@ -71,7 +71,7 @@ step-none (Goto x) = refl
 step-none Relinquish = refl
 
 fade-none : (o : Operation) → refusalOf (lastFadeTime o) ≡ 0
-unfolding lastFadeTime refusalOf
+unfolding lastFadeTime
 fade-none Stop = refl
 fade-none (FadeTo x) = refl
 fade-none (FadeToOver x l) = refl
@@ -85,17 +85,17 @@ fade-none (Goto x) = refl
 fade-none Relinquish = refl
 
 duration-none : (d : Duration) → refusalOf (lastDuration d) ≡ 0
-unfolding lastDuration refusalOf
+unfolding lastDuration
 duration-none (Lasts d) = refl
 duration-none Cancels = refl
 duration-none Omitted = refl
 
 slot-none : (s : Slots) (i : ℕ) → refusalOf (slotAnswer s i) ≡ 0
-unfolding slotAnswer levelAnswer refusalOf if_then_else_
+unfolding slotAnswer levelAnswer if_then_else_
 slot-none s i = by-bool (lives s i) (λ e. rw e) (λ e. rw e)
 
 shown-not-one : (t : ℕ) (o : Output) (n : Property) → NotOne (shown t o n)
-unfolding shown levelAnswer realAnswer refusalOf
+unfolding shown levelAnswer realAnswer
 shown-not-one t o RelinquishDefault = not-one (shown t o RelinquishDefault) refl
 shown-not-one t o FadeTime = not-one (shown t o FadeTime) refl
 shown-not-one t o RampRate = not-one (shown t o RampRate) refl
@@ -120,7 +120,7 @@ shown-not-one t o (SlotValue i) = not-one (shown t o (SlotValue i)) (slot-none (
 shown-not-one t o Unknown = record { other = omega arith }
 
 pub acted-not-one : (t : ℕ) (o : Output) (r : Request) → Good r → NotOne (acted t o r .answer)
-unfolding acted made left changedUnless refusalOf if_then_else_
+unfolding acted made left changedUnless if_then_else_
 acted-not-one t o (Refuse n) g = record { other = omega arith }
 acted-not-one t o (Write i v) g = record { other = omega arith }
 acted-not-one t o (Empty i) g = record { other = omega arith }

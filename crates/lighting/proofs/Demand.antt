@@ -15,6 +15,7 @@ use Rattle.lighting.specs.Demand.{found, foundIn, foundPlain, after, pla
 use Rattle.lighting.specs.declared.Answer.{Answer}
 use Rattle.lighting.specs.declared.Answer.the-variants.{Done, Refused}
 use Rattle.lighting.proofs.Split.{also-both, by-bool, le-of, eq-of}
+use Rattle.lighting.proofs.Told.{never-bytes}
 use Rattle.lighting.proofs.Lists.{AllOther, joined, linked-sound, linked-start, listed}
 use Rattle.lighting.proofs.Repeats.{repeats-change-nothing}
 
@@ -24,7 +25,7 @@ counts c k p = let q = also-both p in let z = also-both (q .1) in (le-of (q .0),
 
 never-one : (l : List Answer) → AllOther l → NeverOne l
 never-one [] h = tt
-never-one (a ∷ l) h = (h .0 .other, never-one l (h .1))
+never-one (a ∷ l) h = (never-bytes a 1 (h .0 .other), never-one l (h .1))
 
 -- the start answers Done by the counts alone, and leaves fresh records
 started-fresh : (e : Panel) → started standard e .answer ≡ Done

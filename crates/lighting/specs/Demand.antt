@@ -10,13 +10,14 @@ use Rattle.lighting.specs.Parameters.{Parameters}
 use Rattle.lighting.specs.Frames.{Bytes}
 use Rattle.lighting.specs.Slots.{slotsOf}
 use Rattle.lighting.specs.Value.{presentValue, progressValue, inProcess}
-use Rattle.lighting.specs.Answers.{refusalOf}
+use Rattle.lighting.specs.Answers.{answerBytes}
 use Rattle.lighting.specs.Panel.{Panel, panelSound, framed, started}
 use Rattle.lighting.specs.Plain.{Plain, Told, plainFramed, plainStart}
 use Rattle.lighting.specs.declared.Settings.{Settings}
 use Rattle.lighting.specs.declared.Command.{Command}
 use Rattle.lighting.specs.declared.Output.{Output}
 use Rattle.lighting.specs.declared.Answer.{Answer}
+use Rattle.lighting.specs.declared.Answer.the-variants.{Refused}
 
 -- EVERYTHING FOUND of an output: 'a slot is compared by being live and, if live, by its level; burning time in milliseconds'
 pub record Found : Type 0 where
@@ -86,7 +87,7 @@ kept (copy m r) (a ∷ z) = kept r z
 -- 'Refusal 1 never comes'
 abbrev pub NeverOne : List Answer → Type 0
 NeverOne [] = Unit {0}
-NeverOne (a ∷ l) = (refusalOf a ≢ 1) × NeverOne l
+NeverOne (a ∷ l) = (answerBytes a ≢ answerBytes (Refused 1)) × NeverOne l
 
 -- THE DEMAND, for a lent table e, a list of frames l, and the list l′ in which frames of l come again
 pub record Demand (p : Parameters) (e : Panel) (l l′ : List Bytes) (r : Again [] l l′) : Type 0 where
