@@ -35,7 +35,7 @@ pub record Calm (t : ℕ) (o : Output) : Type 0 where
   pub after : After t o
   pub burnt : o .burning ≤ t
 
-timer-earlier : {t t′ : ℕ} (m : Timer) → t ≤ t′ → TimerAfter t′ m → TimerAfter t m
+pub timer-earlier : {t t′ : ℕ} (m : Timer) → t ≤ t′ → TimerAfter t′ m → TimerAfter t m
 timer-earlier Off h a = tt
 timer-earlier (Running q d) h a = omega arith
 
@@ -50,17 +50,17 @@ earlier o h a =
     record { timer = timer-earlier (o .timer) h (a .timer); activity = act-earlier (o .activity) h (a .activity) }
 
 -- WHERE NOTHING IS DUE, NOTHING HAPPENS
-timer-quiet : (t : ℕ) (m : Timer) → TimerAfter t m → timerAt t m ≡ m
+pub timer-quiet : (t : ℕ) (m : Timer) → TimerAfter t m → timerAt t m ≡ m
 unfolding timerAt if_then_else_
 timer-quiet t Off a = refl
 timer-quiet t (Running q d) a = rw (eqb-miss {a = d} {b = t} (omega arith))
 
-expired-quiet : (t : ℕ) (m : Timer) (s : Slots) → TimerAfter t m → expired t m s ≡ s
+pub expired-quiet : (t : ℕ) (m : Timer) (s : Slots) → TimerAfter t m → expired t m s ≡ s
 unfolding expired if_then_else_
 expired-quiet t Off s a = refl
 expired-quiet t (Running q d) s a = rw (eqb-miss {a = d} {b = t} (omega arith))
 
-released-quiet : (t : ℕ) (m : Timer) (a : Activity) → TimerAfter t m → released t m a ≡ a
+pub released-quiet : (t : ℕ) (m : Timer) (a : Activity) → TimerAfter t m → released t m a ≡ a
 unfolding released if_then_else_
 released-quiet t Off a h = refl
 released-quiet t (Running q d) a h = rw (eqb-miss {a = d} {b = t} (omega arith))
@@ -126,7 +126,7 @@ one-more n t o =
     ∙ ap (λ (k : ℕ). burned t k o) (omega arith)
 
 -- n MILLISECONDS, of which none but perhaps the last brings anything due
-quiet-ticks : (n t : ℕ) (o : Output) → After (t + n) o → ticks n t o ≡ burned t n o
+pub quiet-ticks : (n t : ℕ) (o : Output) → After (t + n) o → ticks n t o ≡ burned t n o
 unfolding ticks tick
 quiet-ticks zero t o a = sym (burned-zero t o)
 quiet-ticks (suc n) t o a =
@@ -134,7 +134,7 @@ quiet-ticks (suc n) t o a =
     let a₂ : After (suc t + n) (burned t 1 o) = burned-after (suc t + n) t 1 o (earlier o (omega arith) a) in
     rw (quiet (suc t) (burned t 1 o) a₁, quiet-ticks n (suc t) (burned t 1 o) a₂) (one-more n t o)
 
-hop-ticks : (n t : ℕ) (o : Output) → After (t + n) o → ticks (suc n) t o ≡ fire (suc (t + n)) (burned t (suc n) o)
+pub hop-ticks : (n t : ℕ) (o : Output) → After (t + n) o → ticks (suc n) t o ≡ fire (suc (t + n)) (burned t (suc n) o)
 unfolding ticks tick
 hop-ticks zero t o a = ap (λ (k : ℕ). fire (suc k) (burned t 1 o)) (omega arith)
 hop-ticks (suc n) t o a =

@@ -1,0 +1,4 @@
+-- CONSEQUENCES: what a BACnet engineer would check by hand on the paper's definitions. A wrong sentence in a definition, changed together with the
+-- code, still fails here. One subject a file; docs/PROMISES.md says which sentence each stands for.
+pub mod Present
+pub mod Movements
