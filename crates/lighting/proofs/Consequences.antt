@@ -2,3 +2,4 @@
 -- code, still fails here. One subject a file; docs/PROMISES.md says which sentence each stands for.
 pub mod Present
 pub mod Movements
+pub mod Durations
