@@ -3,3 +3,4 @@
 pub mod Present
 pub mod Movements
 pub mod Durations
+pub mod Warning
