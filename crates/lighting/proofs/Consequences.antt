@@ -4,3 +4,4 @@ pub mod Present
 pub mod Movements
 pub mod Durations
 pub mod Warning
+pub mod Interrupted
