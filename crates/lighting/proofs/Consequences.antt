@@ -5,3 +5,6 @@ pub mod Movements
 pub mod Durations
 pub mod Warning
 pub mod Interrupted
+pub mod Reads
+pub mod Writes
+pub mod Orders
