@@ -8,3 +8,4 @@ pub mod Interrupted
 pub mod Reads
 pub mod Writes
 pub mod Orders
+pub mod Burning
