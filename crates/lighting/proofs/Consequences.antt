@@ -9,3 +9,4 @@ pub mod Reads
 pub mod Writes
 pub mod Orders
 pub mod Burning
+pub mod Others
