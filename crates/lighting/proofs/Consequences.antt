@@ -10,3 +10,4 @@ pub mod Writes
 pub mod Orders
 pub mod Burning
 pub mod Others
+pub mod Targets

@@ -195,7 +195,7 @@ module _ (t : ℕ) (o o′ : Output) (p g l : ℕ) (w : Pace) (sound : Sound t o
   course : Course t o o′ g l w
   course = by-eq (progressValue t o) g (λ e z. at-rest e) (λ e z. on-the-way e)
 
-unwarned-size : (s : Slots) (a : Activity) → length (unwarned s a .levels) ≡ length (s .levels)
+pub unwarned-size : (s : Slots) (a : Activity) → length (unwarned s a .levels) ≡ length (s .levels)
 unfolding unwarned
 unwarned-size s Still = refl
 unwarned-size s (Moving m) = refl
