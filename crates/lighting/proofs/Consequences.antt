@@ -11,3 +11,4 @@ pub mod Orders
 pub mod Burning
 pub mod Others
 pub mod Targets
+pub mod Stored
