@@ -12,3 +12,4 @@ pub mod Burning
 pub mod Others
 pub mod Targets
 pub mod Stored
+pub mod Bytes
