@@ -3,7 +3,7 @@
 use mathlib.Core.Path.{_≡_, refl, sym, ap, _∙_}
 use mathlib.Core.Bool.{Bool, true, false, false≢true}
 use mathlib.Core.List.{List, [], _∷_, map}
-use Prim.Native.Nat.{ℕ, _-_, _+_, _^_, _≤_, _<_}
+use Prim.Native.Nat.{ℕ, suc, _-_, _+_, _^_, _≤_, _<_}
 use native.Mathlib.Omega.{arith}
 use lib.Dec.{leb, eqb}
 use lib.Ieee.{Float}
@@ -11,10 +11,12 @@ use lib.ListN.{replicate}
 use Rattle.lighting.specs.Choice.{if_then_else_}
 use Rattle.lighting.specs.Parameters.{standard}
 use Rattle.lighting.specs.Level.{real, bits, readOut, levelOf, limitOf, amountOf, inRange, unitsOr, amountOperand}
-use Rattle.lighting.specs.Properties.{propertyOf, within, isPriority, changeDefault, changeMin, changeMax, changeRamp, changeStep, changeOf, settingsWith, burningWith, changed, minOverMax, levelAnswer, flag, elapsedActive, realAnswer, shown}
+use Rattle.lighting.specs.Properties.{propertyOf, within, isPriority, changeDefault, changeMin, changeMax, changeRamp, changeStep, changeOf, settingsWith, unmoved, activityWith, burningWith, changed, minOverMax, levelAnswer, flag, elapsedActive, realAnswer, shown}
 use Rattle.lighting.specs.Passing.{settled}
 use Rattle.lighting.specs.Acting.{made, left, changedUnless, acted}
 use Rattle.lighting.specs.Frames.{requestBy}
+use Rattle.lighting.specs.declared.Activity.{Activity}
+use Rattle.lighting.specs.declared.Activity.the-variants.{Still, Moving, Blink, Delay}
 use Rattle.lighting.specs.declared.Answer.{Answer}
 use Rattle.lighting.specs.declared.Answer.the-variants.{Done, Value, Absent, Refused}
 use Rattle.lighting.specs.declared.Level.{Level}
@@ -27,7 +29,7 @@ use Rattle.lighting.specs.declared.Request.{Request}
 use Rattle.lighting.specs.declared.Request.the-variants.{Refuse, Change}
 use Rattle.lighting.specs.declared.Output.{Output}
 use Rattle.lighting.specs.declared.Outcome.{Outcome}
-use Rattle.lighting.proofs.Split.{by-bool, by-eq, eqb-hit, eq-of, le-of}
+use Rattle.lighting.proofs.Split.{by-bool, by-eq, eq-of, le-of, leb-yes, leb-no}
 use Rattle.lighting.proofs.Patterns.{amount-operand-kept}
 use Rattle.lighting.proofs.Consequences.Reads.{reads}
 
@@ -51,11 +53,29 @@ unfoldable pub without : ℕ → List ℕ → List ℕ
 without n [] = []
 without n (m ∷ l) = if eqb m n then without n l else m ∷ without n l
 
+-- 'Writing 08 or 09 ends the movement'; a warning runs on, and no other property touches either
+abbrev pub ended : Activity → Activity
+ended Still = Still
+ended (Moving m) = Still
+ended (Blink owner level turn over) = Blink owner level turn over
+ended (Delay owner over) = Delay owner over
+
+abbrev pub going : ℕ → Activity → Activity
+going n a = if eqb n 0x08 then ended a else if eqb n 0x09 then ended a else a
+
+unmoved-ended : (a : Activity) → unmoved a ≡ ended a
+unfolding unmoved
+unmoved-ended Still = refl
+unmoved-ended (Moving m) = refl
+unmoved-ended (Blink owner level turn over) = refl
+unmoved-ended (Delay owner over) = refl
+
 pub record WriteRead (t : ℕ) (o o′ : Output) (n x : ℕ) : Type 0 where
   pub reads-it : reads t o′ n ≡ Value (said n x)
   pub others : map (reads t o′) (without n kept) ≡ map (reads t o) (without n kept)
   pub slots : o′ .slots ≡ o .slots
   pub timer : o′ .timer ≡ o .timer
+  pub activity : o′ .activity ≡ going n (o .activity)
 
 refused : {A : Type 0} {r : ℕ} → _≡_ {A = Answer} (Refused r) Done → A
 refused h = let z : _≡_ {A = ℕ} 0 1 = cc in absurd (omega arith)
@@ -78,48 +98,48 @@ module _ (t t′ : ℕ) (o : Output) (n x : ℕ) where
 -- WHAT EACH SETTING CHANGES, by the numbers
 module _ (t : ℕ) (o : Output) (x : ℕ) where
   default : (v : ℕ) → levelOf (real x) ≡ Units v → WriteRead t o (changed o (SetDefault v)) 0x01 x
-  unfolding unitsOr acted left requestBy propertyOf changed settingsWith burningWith without shown levelAnswer realAnswer flag elapsedActive if_then_else_
-  default v e = record { reads-it = rw e; others = refl; slots = refl; timer = refl }
+  unfolding unitsOr acted left requestBy propertyOf changed settingsWith activityWith burningWith without shown levelAnswer realAnswer flag elapsedActive if_then_else_
+  default v e = record { reads-it = rw e; others = refl; slots = refl; timer = refl; activity = refl }
 
   fade : WriteRead t o (changed o (SetFade x)) 0x02 x
-  unfolding acted left requestBy propertyOf changed settingsWith burningWith without shown levelAnswer realAnswer flag elapsedActive if_then_else_
-  fade = record { reads-it = refl; others = refl; slots = refl; timer = refl }
+  unfolding acted left requestBy propertyOf changed settingsWith activityWith burningWith without shown levelAnswer realAnswer flag elapsedActive if_then_else_
+  fade = record { reads-it = refl; others = refl; slots = refl; timer = refl; activity = refl }
 
   ramp : (r : Float) → bits r ≡ x → WriteRead t o (changed o (SetRamp r)) 0x03 x
-  unfolding acted left requestBy propertyOf changed settingsWith burningWith without shown levelAnswer realAnswer flag elapsedActive if_then_else_
-  ramp r e = record { reads-it = rw e; others = refl; slots = refl; timer = refl }
+  unfolding acted left requestBy propertyOf changed settingsWith activityWith burningWith without shown levelAnswer realAnswer flag elapsedActive if_then_else_
+  ramp r e = record { reads-it = rw e; others = refl; slots = refl; timer = refl; activity = refl }
 
   step : (r : Float) → bits r ≡ x → WriteRead t o (changed o (SetStep r)) 0x04 x
-  unfolding acted left requestBy propertyOf changed settingsWith burningWith without shown levelAnswer realAnswer flag elapsedActive if_then_else_
-  step r e = record { reads-it = rw e; others = refl; slots = refl; timer = refl }
+  unfolding acted left requestBy propertyOf changed settingsWith activityWith burningWith without shown levelAnswer realAnswer flag elapsedActive if_then_else_
+  step r e = record { reads-it = rw e; others = refl; slots = refl; timer = refl; activity = refl }
 
   enable : x ≤ 1 → WriteRead t o (changed o (SetEnable (eqb x 1))) 0x05 x
-  unfolding acted left requestBy propertyOf changed settingsWith burningWith without shown levelAnswer realAnswer flag elapsedActive if_then_else_
-  enable h = record { reads-it = ap Value (by-eq x 1 (λ p e. rw e (sym p)) (λ p e. rw e (omega arith))); others = refl; slots = refl; timer = refl }
+  unfolding acted left requestBy propertyOf changed settingsWith activityWith burningWith without shown levelAnswer realAnswer flag elapsedActive if_then_else_
+  enable h = record { reads-it = ap Value (by-eq x 1 (λ p e. rw e (sym p)) (λ p e. rw e (omega arith))); others = refl; slots = refl; timer = refl; activity = refl }
 
   blink : WriteRead t o (changed o (SetBlink x)) 0x06 x
-  unfolding acted left requestBy propertyOf changed settingsWith burningWith without shown levelAnswer realAnswer flag elapsedActive if_then_else_
-  blink = record { reads-it = refl; others = refl; slots = refl; timer = refl }
+  unfolding acted left requestBy propertyOf changed settingsWith activityWith burningWith without shown levelAnswer realAnswer flag elapsedActive if_then_else_
+  blink = record { reads-it = refl; others = refl; slots = refl; timer = refl; activity = refl }
 
   delay : WriteRead t o (changed o (SetDelay x)) 0x07 x
-  unfolding acted left requestBy propertyOf changed settingsWith burningWith without shown levelAnswer realAnswer flag elapsedActive if_then_else_
-  delay = record { reads-it = refl; others = refl; slots = refl; timer = refl }
+  unfolding acted left requestBy propertyOf changed settingsWith activityWith burningWith without shown levelAnswer realAnswer flag elapsedActive if_then_else_
+  delay = record { reads-it = refl; others = refl; slots = refl; timer = refl; activity = refl }
 
   min : (v : ℕ) → limitOf (real x) ≡ Units v → WriteRead t o (changed o (SetMin v)) 0x08 x
-  unfolding unitsOr acted left requestBy propertyOf changed settingsWith burningWith without shown levelAnswer realAnswer flag elapsedActive if_then_else_
-  min v e = record { reads-it = rw e; others = refl; slots = refl; timer = refl }
+  unfolding unitsOr acted left requestBy propertyOf changed settingsWith activityWith burningWith without shown levelAnswer realAnswer flag elapsedActive if_then_else_
+  min v e = record { reads-it = rw e; others = refl; slots = refl; timer = refl; activity = unmoved-ended (o .activity) }
 
   max : (v : ℕ) → limitOf (real x) ≡ Units v → WriteRead t o (changed o (SetMax v)) 0x09 x
-  unfolding unitsOr acted left requestBy propertyOf changed settingsWith burningWith without shown levelAnswer realAnswer flag elapsedActive if_then_else_
-  max v e = record { reads-it = rw e; others = refl; slots = refl; timer = refl }
+  unfolding unitsOr acted left requestBy propertyOf changed settingsWith activityWith burningWith without shown levelAnswer realAnswer flag elapsedActive if_then_else_
+  max v e = record { reads-it = rw e; others = refl; slots = refl; timer = refl; activity = unmoved-ended (o .activity) }
 
   slot : 0 < x → WriteRead t o (changed o (SetSlot (x - 1))) 0x0a x
-  unfolding acted left requestBy propertyOf changed settingsWith burningWith without shown levelAnswer realAnswer flag elapsedActive if_then_else_
-  slot h = record { reads-it = ap Value (omega arith); others = refl; slots = refl; timer = refl }
+  unfolding acted left requestBy propertyOf changed settingsWith activityWith burningWith without shown levelAnswer realAnswer flag elapsedActive if_then_else_
+  slot h = record { reads-it = ap Value (omega arith); others = refl; slots = refl; timer = refl; activity = refl }
 
   burning : x ≡ 0 → WriteRead t o (changed o (ClearBurning)) 0x0b x
-  unfolding acted left requestBy propertyOf changed settingsWith burningWith without shown levelAnswer realAnswer flag elapsedActive if_then_else_
-  burning h = record { reads-it = rw h; others = refl; slots = refl; timer = refl }
+  unfolding acted left requestBy propertyOf changed settingsWith activityWith burningWith without shown levelAnswer realAnswer flag elapsedActive if_then_else_
+  burning h = record { reads-it = rw h; others = refl; slots = refl; timer = refl; activity = refl }
 
 -- WHAT EACH NUMBER ASKS, and when
 pub asked-02 : (x : ℕ) → requestBy standard 4 0x02 x 0 0 0 ≡ (if within 100 86400000 x then Change (SetFade x) else Refuse 12)
@@ -227,3 +247,25 @@ module _ (t t′ : ℕ) (o : Output) (x : ℕ) where
       ≡ replicate 15 (Refused 9)
   unfolding acted left requestBy propertyOf changeOf if_then_else_
   not-writable = refl
+
+  -- 'Min over Max' is 13, and leaves everything; equal is taken
+  pub min-taken : (v : ℕ) → limitOf (real x) ≡ Units v → v ≤ o .settings .max → writes t o 0x08 x .answer ≡ Done
+  unfolding acted left made requestBy propertyOf changeOf changeMin changedUnless settingsWith minOverMax if_then_else_
+  min-taken v e h = rw (e, leb-no {a = suc (o .settings .max)} {b = v} (omega arith))
+
+  pub min-over-max : (v : ℕ) → limitOf (real x) ≡ Units v → o .settings .max < v → writes t o 0x08 x ≡ left o (Refused 13)
+  unfolding acted left made requestBy propertyOf changeOf changeMin changedUnless settingsWith minOverMax if_then_else_
+  min-over-max v e h = rw (e, leb-yes {a = suc (o .settings .max)} {b = v} h)
+
+  pub max-taken : (v : ℕ) → limitOf (real x) ≡ Units v → o .settings .min ≤ v → writes t o 0x09 x .answer ≡ Done
+  unfolding acted left made requestBy propertyOf changeOf changeMax changedUnless settingsWith minOverMax if_then_else_
+  max-taken v e h = rw (e, leb-no {a = suc v} {b = o .settings .min} (omega arith))
+
+  pub max-under-min : (v : ℕ) → limitOf (real x) ≡ Units v → v < o .settings .min → writes t o 0x09 x ≡ left o (Refused 13)
+  unfolding acted left made requestBy propertyOf changeOf changeMax changedUnless settingsWith minOverMax if_then_else_
+  max-under-min v e h = rw (e, leb-yes {a = suc v} {b = o .settings .min} h)
+
+  -- a request that is refused leaves the output as it is
+  pub refuses : (n r : ℕ) → requestBy standard 4 n x 0 0 0 ≡ Refuse r → (writes t o n x .answer ≡ Refused r) × (writes t o n x .output ≡ o)
+  unfolding acted left
+  refuses n r e = rw e (refl, refl)
