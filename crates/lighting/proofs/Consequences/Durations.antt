@@ -16,6 +16,7 @@ use Rattle.lighting.specs.Properties.{within, settingsWith, changed, min
 use Rattle.lighting.specs.Commands.{timed, withCommand, commandedFrom, commanded}
 use Rattle.lighting.specs.Acting.{made, left, changedUnless, acted}
 use Rattle.lighting.specs.Frames.{ordered}
+use Rattle.lighting.specs.declared.Movement.{Movement}
 use Rattle.lighting.specs.declared.Activity.{Activity}
 use Rattle.lighting.specs.declared.Activity.the-variants.{Still, Moving, Blink, Delay}
 use Rattle.lighting.specs.declared.Timer.{Timer}
@@ -172,6 +173,17 @@ expires t q o h e =
           (slot-same (o .slots) (h .slots .size) q none (k .inside)),
       refl,
     )
+
+-- '(ending a movement that slot owned)', and no other
+pub expires-own : (t q : ℕ) (o : Output) (m : Movement) → o .timer ≡ Running q (suc t) → o .activity ≡ Moving m → m .owner ≡ q → tick t o .activity ≡ Still
+unfolding tick fire settled burned withBurning released disowned activityAt if_then_else_
+expires-own t q o m e f w = rw (e, f, eqb-hit {a = suc t} {b = suc t} refl, eqb-hit {a = m .owner} {b = q} w)
+
+pub expires-other : (t q : ℕ) (o : Output) (m : Movement) → o .timer ≡ Running q (suc t) → o .activity ≡ Moving m → m .owner ≢ q → suc t < m .over
+    → tick t o .activity ≡ Moving m
+unfolding tick fire settled burned withBurning released disowned activityAt if_then_else_
+expires-other t q o m e f w l =
+    rw (e, f, eqb-hit {a = suc t} {b = suc t} refl, eqb-miss {a = m .owner} {b = q} w, eqb-miss {a = m .over} {b = suc t} (omega arith))
 
 -- AND NOT BEFORE: until then the passing of time changes no slot (a warning's phases aside, during which slot 6 is live)
 calm-slots : (t d : ℕ) (o : Output) (a : Activity) → Acts t (o .settings) (o .slots) a → lives (o .slots) 5 ≡ false → slotsAt d a (o .slots) ≡ o .slots

@@ -10,7 +10,7 @@ use lib.ListN.{length}
 use Rattle.lighting.specs.Choice.{if_then_else_}
 use Rattle.lighting.specs.Level.{levelUnits, amountUnits}
 use Rattle.lighting.specs.Slots.{Slots, slot, winner, put, filled, emptied}
-use Rattle.lighting.specs.Value.{brought, progressValue}
+use Rattle.lighting.specs.Value.{brought, presentValue, progressBy, progressValue, inProcess}
 use Rattle.lighting.specs.Passing.{disowned}
 use Rattle.lighting.specs.Commands.{unwarned, unwarnedActivity, replaced, placed, target, fadedOver, fadedTo, rampedAt, rampedTo, jumped, wentTo, stepUpFrom, stepDownFrom, steppedUp, steppedDown, raised, halted, asItIs, stopped, relinquished, effect, withCommand, commandedFrom, commanded}
 use Rattle.lighting.specs.declared.Settings.{Settings}
@@ -62,6 +62,24 @@ NotMoving Still = Unit {0}
 NotMoving (Moving m) = ⊥
 NotMoving (Blink owner level turn over) = Unit {0}
 NotMoving (Delay owner over) = Unit {0}
+
+-- 'Without a movement, in a warning too, Progress_Value equals Present_Value'; 'In_Process (1 exactly while a movement lasts, else 0)'
+pub progress-present : (t : ℕ) (o : Output) → NotMoving (o .activity) → progressValue t o ≡ presentValue (o .settings) (o .slots)
+unfolding progressValue
+progress-present t o n = go (o .activity) n
+  where
+    go : (a : Activity) → NotMoving a → progressBy t (presentValue (o .settings) (o .slots)) a ≡ presentValue (o .settings) (o .slots)
+    go Still n = unfold progressBy in refl
+    go (Moving m) n = elim n [ ]
+    go (Blink owner level turn over) n = unfold progressBy in refl
+    go (Delay owner over) n = unfold progressBy in refl
+
+pub not-in-process : (a : Activity) → NotMoving a → inProcess a ≡ 0
+unfolding inProcess
+not-in-process Still n = refl
+not-in-process (Moving m) n = elim n [ ]
+not-in-process (Blink owner level turn over) n = refl
+not-in-process (Delay owner over) n = refl
 
 stop-own : (t : ℕ) (c : Settings) (f : ℕ) (s : Slots) (a : Activity) (m : Movement) → a ≡ Moving m → m .owner ≡ c .slot
     → effect t c f s (unwarnedActivity a) Stop ≡ halted c f s
