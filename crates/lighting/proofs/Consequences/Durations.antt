@@ -2,14 +2,14 @@
 use mathlib.Core.Path.{_≡_, refl, sym, ap, subst, _∙_}
 use mathlib.Core.Logic.{_≢_}
 use mathlib.Core.Bool.{true, false, true≢false}
-use mathlib.Core.Option.{none, some}
+use mathlib.Core.Option.{Option, none, some}
 use Prim.Native.Nat.{ℕ, zero, suc, _+_, _≤_, _<_}
 use native.Mathlib.Omega.{arith}
 use lib.Dec.{eqb, ltb}
 use lib.ListN.{length}
 use Rattle.lighting.specs.Choice.{if_then_else_}
 use Rattle.lighting.specs.Parameters.{standard}
-use Rattle.lighting.specs.Slots.{Slots, slot, lives, emptied, filled}
+use Rattle.lighting.specs.Slots.{Slots, slot, lives, put, emptied, filled}
 use Rattle.lighting.specs.Passing.{withBurning, burned, timerAt, expired, disowned, released, activityAt, slotsAt, settled, fire, tick, ticks}
 use Rattle.lighting.specs.Writing.{withEffect, stored, warns, warnedBy, warned, endedEmpty, endedStored, writtenWarned, writtenZero, writtenCalm, writtenBy, written, vacated}
 use Rattle.lighting.specs.Properties.{within, settingsWith, changed, minOverMax}
@@ -184,6 +184,63 @@ pub expires-other : (t q : ℕ) (o : Output) (m : Movement) → o .timer ≡ Run
 unfolding tick fire settled burned withBurning released disowned activityAt if_then_else_
 expires-other t q o m e f w l =
     rw (e, f, eqb-hit {a = suc t} {b = suc t} refl, eqb-miss {a = m .owner} {b = q} w, eqb-miss {a = m .over} {b = suc t} (omega arith))
+
+-- AND NOTHING ELSE: beside the same output without a duration, no other slot differs, and a warning runs on
+abbrev pub untimed : Output → Output
+untimed o = record { settings = o .settings; slots = o .slots; activity = o .activity; timer = Off; burning = o .burning; last = o .last }
+
+put-alike : (s : Slots) → length (s .levels) ≡ 16 → (q j i : ℕ) (x : Option ℕ) → q < 16 → q ≢ j → i < 16
+    → slot (put (emptied s q) i x) j ≡ slot (put s i x) j
+put-alike s z q j i x k n w =
+    by-eq i j
+    (λ p e. rw p (slot-same (emptied s q) (put-sized s z q none) j x (rw p at w) ∙ sym (slot-same s z j x (rw p at w))))
+    (λ p e. slot-other (emptied s q) (put-sized s z q none) i j x w p ∙ slot-other s z q j none k n ∙ sym (slot-other s z i j x w p))
+
+slots-alike : (t q j : ℕ) (a : Activity) (s : Slots) → length (s .levels) ≡ 16 → q < 16 → q ≢ j → Owned a
+    → slot (slotsAt t a (emptied s q)) j ≡ slot (slotsAt t a s) j
+unfolding slotsAt if_then_else_
+slots-alike t q j Still s z k n w = slot-other s z q j none k n
+slots-alike t q j (Moving m) s z k n w = slot-other s z q j none k n
+slots-alike t q j (Blink x y u v) s z k n w =
+    by-bool (eqb u t)
+    (λ e. rw e (by-bool (ltb u v) (λ e′. rw e′ (put-alike s z q j 5 (some y) k n (omega arith))) (λ e′. rw e′ (put-alike s z q j 5 none k n (omega arith)))))
+    (λ e. rw e (slot-other s z q j none k n))
+slots-alike t q j (Delay x v) s z k n w =
+    by-bool (eqb v t)
+    (λ e. rw e
+    (by-eq x j
+    (λ p f. rw p (slot-same (emptied (emptied s q) 5) (put-sized (emptied s q) (put-sized s z q none) 5 none) j none (rw p at w)
+    ∙ sym (slot-same (emptied s 5) (put-sized s z 5 none) j none (rw p at w))))
+    (λ p f. slot-other (emptied (emptied s q) 5) (put-sized (emptied s q) (put-sized s z q none) 5 none) x j none w p
+    ∙ put-alike s z q j 5 none k n (omega arith)
+    ∙ sym (slot-other (emptied s 5) (put-sized s z 5 none) x j none w p))))
+    (λ e. rw e (slot-other s z q j none k n))
+
+pub expires-alone : (t q : ℕ) (o : Output) → Sound t o → o .timer ≡ Running q (suc t) → (j : ℕ) → q ≢ j
+    → slot (tick t o .slots) j ≡ slot (tick t (untimed o) .slots) j
+unfolding tick fire settled burned withBurning expired released if_then_else_
+expires-alone t q o h e j n =
+    let k : Slot q = (subst (λ (z : Timer). Timed t z) e (h .timer)) .0 in
+    rw (e, eqb-hit {a = suc t} {b = suc t} refl)
+    (disowned-slots (suc t) q j (o .activity)
+    ∙ slots-alike (suc t) q j (o .activity) (o .slots) (h .slots .size) (k .inside) n (owned t o (o .activity) (h .activity)))
+  where
+    disowned-slots : (d q j : ℕ) (a : Activity) → slot (slotsAt d (disowned q a) (emptied (o .slots) q)) j ≡ slot (slotsAt d a (emptied (o .slots) q)) j
+    disowned-slots d q j Still = unfold disowned in refl
+    disowned-slots d q j (Moving m) = unfold disowned slotsAt if_then_else_ in (by-bool (eqb (m .owner) q) (λ f. rw f) (λ f. rw f))
+    disowned-slots d q j (Blink x y u v) = unfold disowned in refl
+    disowned-slots d q j (Delay x v) = unfold disowned in refl
+
+pub expires-warned : (t q : ℕ) (o : Output) → Sound t o → o .timer ≡ Running q (suc t) → lives (o .slots) 5 ≡ true
+    → tick t o .activity ≡ tick t (untimed o) .activity
+unfolding tick fire settled burned withBurning released if_then_else_
+expires-warned t q o h e l = rw (e, eqb-hit {a = suc t} {b = suc t} refl) (go (o .activity) (h .activity))
+  where
+    go : (a : Activity) → Acts t (o .settings) (o .slots) a → activityAt (suc t) (disowned q a) ≡ activityAt (suc t) a
+    go Still k = absurd (true≢false (sym l ∙ k))
+    go (Moving m) k = absurd (true≢false (sym l ∙ k .six))
+    go (Blink x y u v) k = unfold disowned in refl
+    go (Delay x v) k = unfold disowned in refl
 
 -- AND NOT BEFORE: until then the passing of time changes no slot (a warning's phases aside, during which slot 6 is live)
 calm-slots : (t d : ℕ) (o : Output) (a : Activity) → Acts t (o .settings) (o .slots) a → lives (o .slots) 5 ≡ false → slotsAt d a (o .slots) ≡ o .slots
