@@ -14,6 +14,11 @@ use Rattle.lighting.specs.Level.{real, levelOf}
 use Rattle.lighting.specs.Field.{byteAt, bigEndian}
 use Rattle.lighting.specs.Properties.{isSlot, isPriority}
 use Rattle.lighting.specs.Frames.{Bytes, commandLength, kindLength, writeLevel, writeOf, emptyOf, requestBy, requestOf, callOf, calledBy, called, clockOf, parseBy, parse}
+use Rattle.lighting.specs.Passing.{settled}
+use Rattle.lighting.specs.Writing.{written, vacated}
+use Rattle.lighting.specs.Acting.{made, acted}
+use Rattle.lighting.specs.declared.Answer.the-variants.{Done}
+use Rattle.lighting.specs.declared.Output.{Output}
 use Rattle.lighting.specs.declared.Level.the-variants.{Units, OutOfRange}
 use Rattle.lighting.specs.declared.Request.{Request}
 use Rattle.lighting.specs.declared.Request.the-variants.{Refuse, Write, Empty}
@@ -87,7 +92,7 @@ module _ (c : ℕ) (b : Bytes) where
           rw (eqb-miss {a = kindLength (byteAt b 0)} {b = 0} known, eqb-hit {a = length b} {b = kindLength (byteAt b 0)} sized, eqb-miss {a = byteAt b 0} {b = 1} call, leb-yes {a = suc (byteAt b 1)} {b = 8} l, eqb-miss {a = bigEndian 4 b 2} {b = 0} n, leb-yes {a = suc (byteAt b 12)} {b = c} m)
 
 -- KINDS 02 AND 03: the priority is 1 to 16 but 6, slot i has i + 1; 'priority 0, 6 or over 16' is 10, 'REAL out of range' 11
-priority-yes : (i : ℕ) → Slot i → isPriority (suc i) ≡ true
+pub priority-yes : (i : ℕ) → Slot i → isPriority (suc i) ≡ true
 unfolding isPriority isSlot if_then_else_
 priority-yes i k =
     let e : suc i - 1 ≡ i = omega arith in
@@ -110,7 +115,7 @@ pub data NoPriority : ℕ → Type 0 where
   sixth : NoPriority 6
   beyond : {n : ℕ} → 16 < n → NoPriority n
 
-priority-no : (n : ℕ) → NoPriority n → isPriority n ≡ false
+pub priority-no : (n : ℕ) → NoPriority n → isPriority n ≡ false
 unfolding isPriority isSlot if_then_else_
 priority-no n zeroth = refl
 priority-no n sixth = refl
@@ -123,3 +128,13 @@ write-priority n x h = rw (priority-no n h)
 pub empty-priority : (n x : ℕ) → NoPriority n → requestBy standard 3 n x 0 0 0 ≡ Refuse 10
 unfolding requestBy emptyOf if_then_else_
 empty-priority n x h = rw (priority-no n h)
+
+-- and what they do: kinds 02 and 03 are answered Done, and act on slot i alone through `written` and `vacated`
+pub writes-slot : (t : ℕ) (o : Output) (i x v : ℕ) → Slot i → levelOf (real x) ≡ Units v
+    → acted t o (requestBy standard 2 (suc i) x 0 0 0) ≡ record { output = written t o i v; answer = Done }
+unfolding acted made settled
+writes-slot t o i x v k e = rw (write-slot i x v k e)
+
+pub empties-slot : (t : ℕ) (o : Output) (i x : ℕ) → Slot i → acted t o (requestBy standard 3 (suc i) x 0 0 0) ≡ record { output = vacated o i; answer = Done }
+unfolding acted made settled
+empties-slot t o i x k = rw (empty-slot i x k)

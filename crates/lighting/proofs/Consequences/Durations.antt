@@ -25,7 +25,7 @@ use Rattle.lighting.specs.declared.Operation.{Operation}
 use Rattle.lighting.specs.declared.Request.{Request}
 use Rattle.lighting.specs.declared.Request.the-variants.{Refuse, Write, Empty, Change, Read, Order}
 use Rattle.lighting.specs.declared.Output.{Output}
-use Rattle.lighting.proofs.Split.{by-bool, by-eq, by-lt, eqb-hit, eqb-miss, leb-yes}
+use Rattle.lighting.proofs.Split.{by-bool, by-eq, by-lt, eqb-hit, eqb-miss, leb-yes, leb-no}
 use Rattle.lighting.proofs.Facts.{Slot, Filled, Acts, Timed, Sound}
 use Rattle.lighting.proofs.Passing.{TimerAfter, timer-earlier, timer-quiet, expired-quiet, released-quiet}
 use Rattle.lighting.proofs.Winner.{put-sized}
@@ -291,3 +291,13 @@ duration-cancels {t} o k l = stays-off l off
 pub duration-absent : (t : ℕ) (o : Output) (k : Operation) → acted t o (ordered standard k 0xffff_ffff) .output .timer ≡ o .timer
 unfolding acted made settled ordered commanded commandedFrom withCommand timed if_then_else_
 duration-absent t o k = refl
+
+-- any other is refused: 1 to 99, and above 86,400,000
+pub duration-low : (d : ℕ) (k : Operation) → 0 < d → d < 100 → ordered standard k d ≡ Refuse 12
+unfolding ordered within if_then_else_
+duration-low d k h m = rw (eqb-miss {a = d} {b = 0xffff_ffff} (omega arith), eqb-miss {a = d} {b = 0} (omega arith), leb-no {a = 100} {b = d} m)
+
+pub duration-high : (d : ℕ) (k : Operation) → 86400000 < d → d ≢ 0xffff_ffff → ordered standard k d ≡ Refuse 12
+unfolding ordered within if_then_else_
+duration-high d k h n =
+    rw (eqb-miss {a = d} {b = 0xffff_ffff} n, eqb-miss {a = d} {b = 0} (omega arith), leb-yes {a = 100} {b = d} (omega arith), leb-no {a = d} {b = 86400000} h)

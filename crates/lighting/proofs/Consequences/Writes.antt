@@ -1,11 +1,12 @@
 -- WRITE, THEN READ: kind 04 of property n with x, answered Done; then kind 05 of n answers what was written, and every other property that is kept
 -- answers as it did. Assumes nothing.
 use mathlib.Core.Path.{_≡_, refl, sym, ap, _∙_}
+use mathlib.Core.Logic.{_≢_}
 use mathlib.Core.Bool.{Bool, true, false, false≢true}
 use mathlib.Core.List.{List, [], _∷_, map}
 use Prim.Native.Nat.{ℕ, suc, _-_, _+_, _^_, _≤_, _<_}
 use native.Mathlib.Omega.{arith}
-use lib.Dec.{leb, eqb}
+use lib.Dec.{leb, ltb, eqb}
 use lib.Ieee.{Float}
 use lib.ListN.{replicate}
 use Rattle.lighting.specs.Choice.{if_then_else_}
@@ -29,9 +30,11 @@ use Rattle.lighting.specs.declared.Request.{Request}
 use Rattle.lighting.specs.declared.Request.the-variants.{Refuse, Change}
 use Rattle.lighting.specs.declared.Output.{Output}
 use Rattle.lighting.specs.declared.Outcome.{Outcome}
-use Rattle.lighting.proofs.Split.{by-bool, by-eq, eq-of, le-of, leb-yes, leb-no}
+use Rattle.lighting.proofs.Split.{by-bool, by-eq, eqb-hit, eqb-miss, eq-of, le-of, leb-yes, leb-no}
+use Rattle.lighting.proofs.Facts.{Slot}
 use Rattle.lighting.proofs.Patterns.{amount-operand-kept}
 use Rattle.lighting.proofs.Consequences.Reads.{reads}
+use Rattle.lighting.proofs.Consequences.Bytes.{NoPriority, priority-yes, priority-no}
 
 -- kind 04 of property n with x, at t
 abbrev pub writes : ℕ → Output → ℕ → ℕ → Outcome
@@ -269,3 +272,60 @@ module _ (t t′ : ℕ) (o : Output) (x : ℕ) where
   pub refuses : (n r : ℕ) → requestBy standard 4 n x 0 0 0 ≡ Refuse r → (writes t o n x .answer ≡ Refused r) × (writes t o n x .output ≡ o)
   unfolding acted left
   refuses n r e = rw e (refl, refl)
+
+  -- THE RANGES: 02 from 100 to 86,400,000, else 12; 06 and 07 up to 86,400,000; 05 0 or 1; 0A a priority, else 10; 0B 0 alone
+  module _ (order : o .settings .min ≤ o .settings .max) where
+    not-over : ltb (o .settings .max) (o .settings .min) ≡ false
+    not-over = leb-no {a = suc (o .settings .max)} {b = o .settings .min} (omega arith)
+
+    pub fade-time-taken : 100 ≤ x → x ≤ 86400000 → writes t o 0x02 x .answer ≡ Done
+    unfolding acted left made requestBy propertyOf changeOf within changedUnless settingsWith minOverMax if_then_else_
+    fade-time-taken h k = rw (leb-yes {a = 100} {b = x} h, leb-yes {a = x} {b = 86400000} k, not-over)
+
+    pub enable-taken : x ≤ 1 → writes t o 0x05 x .answer ≡ Done
+    unfolding acted left made requestBy propertyOf changeOf changedUnless settingsWith minOverMax if_then_else_
+    enable-taken h = rw (leb-yes {a = x} {b = 1} h, not-over)
+
+    pub blink-time-taken : x ≤ 86400000 → writes t o 0x06 x .answer ≡ Done
+    unfolding acted left made requestBy propertyOf changeOf changedUnless settingsWith minOverMax if_then_else_
+    blink-time-taken h = rw (leb-yes {a = x} {b = 86400000} h, not-over)
+
+    pub delay-taken : x ≤ 86400000 → writes t o 0x07 x .answer ≡ Done
+    unfolding acted left made requestBy propertyOf changeOf changedUnless settingsWith minOverMax if_then_else_
+    delay-taken h = rw (leb-yes {a = x} {b = 86400000} h, not-over)
+
+    pub priority-taken : (i : ℕ) → Slot i → x ≡ suc i → writes t o 0x0a x .answer ≡ Done
+    unfolding acted left made requestBy propertyOf changeOf changedUnless settingsWith minOverMax if_then_else_
+    priority-taken i k e = rw (e, priority-yes i k, not-over)
+
+    pub elapsed-taken : x ≡ 0 → writes t o 0x0b x .answer ≡ Done
+    unfolding acted left made requestBy propertyOf changeOf changedUnless settingsWith minOverMax if_then_else_
+    elapsed-taken e = rw (eqb-hit {a = x} {b = 0} e, not-over)
+
+  pub fade-time-low : x < 100 → writes t o 0x02 x .answer ≡ Refused 12
+  unfolding acted left requestBy propertyOf changeOf within if_then_else_
+  fade-time-low h = rw (leb-no {a = 100} {b = x} h)
+
+  pub fade-time-high : 86400000 < x → writes t o 0x02 x .answer ≡ Refused 12
+  unfolding acted left requestBy propertyOf changeOf within if_then_else_
+  fade-time-high h = rw (leb-yes {a = 100} {b = x} (omega arith), leb-no {a = x} {b = 86400000} h)
+
+  pub enable-high : 1 < x → writes t o 0x05 x .answer ≡ Refused 12
+  unfolding acted left requestBy propertyOf changeOf if_then_else_
+  enable-high h = rw (leb-no {a = x} {b = 1} h)
+
+  pub blink-time-high : 86400000 < x → writes t o 0x06 x .answer ≡ Refused 12
+  unfolding acted left requestBy propertyOf changeOf if_then_else_
+  blink-time-high h = rw (leb-no {a = x} {b = 86400000} h)
+
+  pub delay-high : 86400000 < x → writes t o 0x07 x .answer ≡ Refused 12
+  unfolding acted left requestBy propertyOf changeOf if_then_else_
+  delay-high h = rw (leb-no {a = x} {b = 86400000} h)
+
+  pub no-priority : NoPriority x → writes t o 0x0a x .answer ≡ Refused 10
+  unfolding acted left requestBy propertyOf changeOf if_then_else_
+  no-priority h = rw (priority-no x h)
+
+  pub elapsed-other : x ≢ 0 → writes t o 0x0b x .answer ≡ Refused 12
+  unfolding acted left requestBy propertyOf changeOf if_then_else_
+  elapsed-other h = rw (eqb-miss {a = x} {b = 0} h)
