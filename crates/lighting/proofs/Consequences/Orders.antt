@@ -26,7 +26,7 @@ use Rattle.lighting.specs.declared.Request.the-variants.{Refuse, Order}
 use Rattle.lighting.specs.declared.Output.{Output}
 use Rattle.lighting.proofs.Split.{by-bool, by-eq}
 use Rattle.lighting.proofs.Patterns.{level-operand-kept, amount-operand-kept}
-use Rattle.lighting.proofs.Consequences.Reads.{reads}
+use Rattle.lighting.proofs.Consequences.Reads.{reads, refused}
 
 -- properties 0F to 14: last operation, level, rate, step, fade time, duration
 abbrev pub last : ℕ → Output → List Answer
@@ -50,9 +50,6 @@ sent k x y z =
     else if eqb k 0x18 then Value 8 ∷ Absent ∷ Absent ∷ Value x ∷ Absent ∷ lasting y ∷ []
     else if eqb k 0x19 then Value 9 ∷ Value x ∷ Absent ∷ Absent ∷ Absent ∷ lasting y ∷ []
     else Value 10 ∷ Absent ∷ Absent ∷ Absent ∷ Absent ∷ lasting x ∷ []
-
-refused : {A : Type 0} {r : ℕ} → _≡_ {A = Answer} (Refused r) Done → A
-refused h = let z : _≡_ {A = ℕ} 0 1 = cc in absurd (omega arith)
 
 -- what reads back of an operation k with the duration field d
 abbrev back : Operation → ℕ → List Answer

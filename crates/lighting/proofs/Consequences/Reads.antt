@@ -15,7 +15,7 @@ use Rattle.lighting.specs.Properties.{properties, propertyOf, levelAnswe
 use Rattle.lighting.specs.Acting.{left, acted}
 use Rattle.lighting.specs.Frames.{requestBy}
 use Rattle.lighting.specs.declared.Answer.{Answer}
-use Rattle.lighting.specs.declared.Answer.the-variants.{Value, Absent, Refused}
+use Rattle.lighting.specs.declared.Answer.the-variants.{Done, Value, Absent, Refused}
 use Rattle.lighting.specs.declared.Property.the-variants.{Unknown}
 use Rattle.lighting.specs.declared.Output.{Output}
 use Rattle.lighting.proofs.Split.{by-bool, leb-yes, leb-no}
@@ -72,3 +72,7 @@ unfolding acted left requestBy propertyOf shown slotAnswer levelAnswer levelAt i
 read-slots t o i z h =
     rw (leb-yes {a = 0x21} {b = 0x21 + i} (omega arith), leb-yes {a = 0x21 + i} {b = 0x30} (omega arith), add-sub-cancel-left 0x21 i, slot-is (o .slots) i (omega arith), leb-yes {a = suc i} {b = 16} h)
     (by-bool (lives (o .slots) i) (λ e. rw e) (λ e. rw e))
+
+-- what is refused is not Done
+pub refused : {A : Type 0} {r : ℕ} → _≡_ {A = Answer} (Refused r) Done → A
+refused h = let z : _≡_ {A = ℕ} 0 1 = cc in absurd (omega arith)

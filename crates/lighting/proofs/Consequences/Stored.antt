@@ -1,7 +1,7 @@
 -- KINDS 02 AND 03 without a warning: what is stored, and which movement goes on; and what Present_Value becomes. Assumes nothing.
 use mathlib.Core.Path.{_≡_, refl, sym, ap, _∙_}
 use mathlib.Core.Logic.{_≢_}
-use mathlib.Core.Bool.{Bool, true, false, true≢false}
+use mathlib.Core.Bool.{true, false}
 use mathlib.Core.Option.{Option, none, some}
 use Prim.Native.Nat.{ℕ, suc, _≤_, _<_}
 use native.Mathlib.Omega.{arith}
@@ -23,16 +23,8 @@ use Rattle.lighting.proofs.Winner.{put-sized}
 use Rattle.lighting.proofs.Good.{GoodDuration}
 use Rattle.lighting.proofs.Commanded.{commanded-sound}
 use Rattle.lighting.proofs.Consequences.Present.{slot-same, slot-other, present-at, present-none, next-live, none-live}
-use Rattle.lighting.proofs.Consequences.Warning.{Starts, warns-starts}
+use Rattle.lighting.proofs.Consequences.Warning.{Starts, warns-starts, calm-by}
 use Rattle.lighting.proofs.Consequences.Targets.{after, relinquish}
-
--- without a warning
-calm-by : (t : ℕ) (o : Output) (i v : ℕ) (a : Activity) → Acts t (o .settings) (o .slots) a → lives (o .slots) 5 ≡ false → writtenBy t o i v a ≡ writtenCalm t o i v
-unfolding writtenBy
-calm-by t o i v Still h e = refl
-calm-by t o i v (Moving m) h e = refl
-calm-by t o i v (Blink owner level turn over) h e = absurd (true≢false (sym (h .0 .six) ∙ e))
-calm-by t o i v (Delay owner over) h e = absurd (true≢false (sym (h .six) ∙ e))
 
 module _ (t : ℕ) (o : Output) (h : Sound t o) (calm : lives (o .slots) 5 ≡ false) (i : ℕ) (k : Slot i) where
   -- a write that starts no warning: of a level above 0, or where the paper's conditions are not met

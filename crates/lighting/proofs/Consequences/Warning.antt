@@ -324,18 +324,19 @@ module _ (c : Settings) (s : Slots) (x y : ℕ) (starts : Starts c s x) (inside 
         over-without-delay = λ n a l q. absurd (omega arith);
       }
 
--- KIND 02 OF ZERO at slot x, the paper's conditions met: none is running, for slot 6 is among the slots below x
-calm-written : (t : ℕ) (o : Output) (x : ℕ) (a : Activity) → Acts t (o .settings) (o .slots) a → slot (o .slots) 5 ≡ none → length (o .slots .levels) ≡ 16
-    → writtenBy t o x 0 a ≡ writtenZero t o x
-unfolding writtenBy writtenCalm if_then_else_
-calm-written t o x Still h e z = refl
-calm-written t o x (Moving m) h e z = refl
-calm-written t o x (Blink owner level turn over) h e z = absurd (true≢false (sym (h .0 .six) ∙ lives-slot (o .slots) 5 (omega arith) ∙ ap alive e))
-calm-written t o x (Delay owner over) h e z = absurd (true≢false (sym (h .six) ∙ lives-slot (o .slots) 5 (omega arith) ∙ ap alive e))
+-- KIND 02 without a warning running
+pub calm-by : (t : ℕ) (o : Output) (i v : ℕ) (a : Activity) → Acts t (o .settings) (o .slots) a → lives (o .slots) 5 ≡ false
+    → writtenBy t o i v a ≡ writtenCalm t o i v
+unfolding writtenBy
+calm-by t o i v Still h e = refl
+calm-by t o i v (Moving m) h e = refl
+calm-by t o i v (Blink owner level turn over) h e = absurd (true≢false (sym (h .0 .six) ∙ e))
+calm-by t o i v (Delay owner over) h e = absurd (true≢false (sym (h .six) ∙ e))
 
+-- KIND 02 OF ZERO at slot x, the paper's conditions met: none is running, for slot 6 is among the slots below x
 pub warning : (t : ℕ) (o : Output) (x : ℕ) → Sound t o → x < 16 → Starts (o .settings) (o .slots) x
     → Course (o .settings) (o .slots) x (presentValue (o .settings) (o .slots)) t (written t o x 0)
-unfolding written writtenZero warned warnedBy withEffect firstLevel firstPhase if_then_else_
+unfolding written writtenCalm writtenZero warned warnedBy withEffect firstLevel firstPhase if_then_else_
 warning t o x h inside starts =
     let c = o .settings in
     let s = o .slots in
@@ -344,7 +345,7 @@ warning t o x h inside starts =
     let n : x ≢ 5 = λ e. omega (arith, starts .own) in
     let same : brought c y ≡ y = unfold presentValue in (brought-brought c (topmost (c .default) s) (h .settings)) in
     rw
-    (calm-written t o x (o .activity) (h .activity) (starts .below 5 (omega (arith, starts .own))) z, starts-warns c s x z inside starts)
+    (calm-by t o x 0 (o .activity) (h .activity) (lives-slot s 5 (omega arith) ∙ ap alive (starts .below 5 (omega (arith, starts .own)))), starts-warns c s x z inside starts)
     (by-eq (c .blink) 0
     (λ p e. rw e
     (from-delay c s x y starts inside same t _ p refl (seen-lit c s x y starts inside same y _ same refl (begun c s x z inside n y))))

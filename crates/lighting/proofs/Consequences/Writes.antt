@@ -33,7 +33,7 @@ use Rattle.lighting.specs.declared.Outcome.{Outcome}
 use Rattle.lighting.proofs.Split.{by-bool, by-eq, eqb-hit, eqb-miss, eq-of, le-of, leb-yes, leb-no}
 use Rattle.lighting.proofs.Facts.{Slot}
 use Rattle.lighting.proofs.Patterns.{amount-operand-kept}
-use Rattle.lighting.proofs.Consequences.Reads.{reads}
+use Rattle.lighting.proofs.Consequences.Reads.{reads, refused}
 use Rattle.lighting.proofs.Consequences.Bytes.{NoPriority, priority-yes, priority-no}
 
 -- kind 04 of property n with x, at t
@@ -79,9 +79,6 @@ pub record WriteRead (t : ℕ) (o o′ : Output) (n x : ℕ) : Type 0 where
   pub slots : o′ .slots ≡ o .slots
   pub timer : o′ .timer ≡ o .timer
   pub activity : o′ .activity ≡ going n (o .activity)
-
-refused : {A : Type 0} {r : ℕ} → _≡_ {A = Answer} (Refused r) Done → A
-refused h = let z : _≡_ {A = ℕ} 0 1 = cc in absurd (omega arith)
 
 -- a write answered Done was not Min over Max, and changed one setting
 taken : (t : ℕ) (o : Output) (s : Setting) → acted t o (Change s) .answer ≡ Done → acted t o (Change s) .output ≡ changed o s
