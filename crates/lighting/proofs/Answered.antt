@@ -5,7 +5,7 @@ use Prim.Native.Nat.{ℕ}
 use native.Mathlib.Omega.{arith}
 use Rattle.lighting.specs.Choice.{if_then_else_}
 use Rattle.lighting.specs.Slots.{Slots, lives}
-use Rattle.lighting.specs.Answers.{refusalOf}
+use Rattle.lighting.proofs.AnswersApart.{refusalOf}
 use Rattle.lighting.specs.Operations.{fieldsOf}
 use Rattle.lighting.specs.Properties.{settingsWith, minOverMax, levelAnswer, slotAnswer, realAnswer, realFieldAnswer, timeFieldAnswer, lastDuration, shown}
 use Rattle.lighting.specs.Acting.{made, left, changedUnless, acted}
@@ -32,27 +32,27 @@ pub not-one : (a : Answer) → refusalOf a ≡ 0 → NotOne a
 not-one a h = record { other = omega arith }
 
 real-none : (x : RealField) → refusalOf (realFieldAnswer x) ≡ 0
-unfolding realFieldAnswer realAnswer refusalOf
+unfolding realFieldAnswer realAnswer
 real-none (Real x) = refl
 real-none NoReal = refl
 
 time-none : (x : TimeField) → refusalOf (timeFieldAnswer x) ≡ 0
-unfolding timeFieldAnswer refusalOf
+unfolding timeFieldAnswer
 time-none (Time l) = refl
 time-none NoTime = refl
 
 duration-none : (d : Duration) → refusalOf (lastDuration d) ≡ 0
-unfolding lastDuration refusalOf
+unfolding lastDuration
 duration-none (Lasts d) = refl
 duration-none Cancels = refl
 duration-none Omitted = refl
 
 slot-none : (s : Slots) (i : ℕ) → refusalOf (slotAnswer s i) ≡ 0
-unfolding slotAnswer levelAnswer refusalOf if_then_else_
+unfolding slotAnswer levelAnswer if_then_else_
 slot-none s i = by-bool (lives s i) (λ e. rw e) (λ e. rw e)
 
 shown-not-one : (t : ℕ) (o : Output) (n : Property) → NotOne (shown t o n)
-unfolding shown levelAnswer realAnswer refusalOf
+unfolding shown levelAnswer realAnswer
 shown-not-one t o RelinquishDefault = not-one (shown t o RelinquishDefault) refl
 shown-not-one t o FadeTime = not-one (shown t o FadeTime) refl
 shown-not-one t o RampRate = not-one (shown t o RampRate) refl
@@ -77,7 +77,7 @@ shown-not-one t o (SlotValue i) = not-one (shown t o (SlotValue i)) (slot-none (
 shown-not-one t o Unknown = record { other = omega arith }
 
 pub acted-not-one : (t : ℕ) (o : Output) (r : Request) → Good r → NotOne (acted t o r .answer)
-unfolding acted made left changedUnless refusalOf if_then_else_
+unfolding acted made left changedUnless if_then_else_
 acted-not-one t o (Refuse n) g = record { other = omega arith }
 acted-not-one t o (Write i v) g = record { other = omega arith }
 acted-not-one t o (Empty i) g = record { other = omega arith }

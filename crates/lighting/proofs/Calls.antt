@@ -1,14 +1,16 @@
 -- FROM THE CALLS TO THE DEMAND: who calls `start` once and `frame` for each string of a list has demand 3. Assumes nothing.
 use mathlib.Core.Path.{_≡_, refl, sym, ap, ap₂, _∙_}
 use mathlib.Core.List.{List, [], _∷_}
+use lib.ListN.{length}
 use Rattle.lighting.specs.Parameters.{Parameters, standard}
 use Rattle.lighting.specs.Frames.{Bytes, Strings}
 use Rattle.lighting.specs.Panel.{Panel, Step, leaving, started}
-use Rattle.lighting.specs.Demand.{foundIn, after, answers, Again, end, own}
+use Rattle.lighting.specs.Plain.{plainStart}
+use Rattle.lighting.specs.Demand.{foundIn, foundPlain, plainAfter, after, answers, Again, end, own}
 use Rattle.lighting.specs.Calls.{Calls, none, call, Concluded, ConcludedAgain}
 use Rattle.lighting.specs.declared.Answer.{Answer}
 use Rattle.lighting.specs.declared.Answer.the-variants.{Done}
-use Rattle.lighting.proofs.Demand.{demand-3}
+use Rattle.lighting.proofs.Demand.{demand-3, same-found}
 
 -- the calls come to what the list comes to
 calls-list : (p : Parameters) {e e′ : Panel} {l : List Bytes} {given : List Answer} → Calls p e l given e′ → (e′ ≡ after p e l) × (given ≡ answers p e l)
@@ -39,7 +41,12 @@ pub conclude : (e e₀ e′ : Panel) (l : List Bytes) (given : List Answer) → 
 conclude e e₀ e′ l given s b c =
     let d = demand-3 e l l (once [] l) s (answered e b) in
     let k = called e b c in
-    rw (k .0, k .1) (record { finds = d .finds; time = d .time; answered = d .answered; sound = d .sound; never = d .never })
+    rw (k .0, k .1) (record { outputs = d .outputs; time = d .time; answered = d .answered; sound = d .sound; never = d .never })
+
+-- so the tables show what the plain panel shows
+pub shows : (e e′ : Panel) (l : List Bytes) (given : List Answer) → Concluded standard e l given e′
+    → foundIn e′ ≡ foundPlain (plainAfter standard (plainStart (length (e .outputs))) l .panel)
+shows e e′ l given c = same-found e′ (plainAfter standard (plainStart (length (e .outputs))) l .panel) (c .outputs) (c .time)
 
 -- two callers after the same start: the one's list is l, and in the other's frames of it come again
 pub conclude-again : (e e₀ e′ e″ : Panel) (l l′ : List Bytes) (r : Again [] l l′) (given given′ : List Answer) → Strings l

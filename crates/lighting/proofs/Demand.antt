@@ -10,11 +10,12 @@ use Rattle.lighting.specs.Parameters.{standard}
 use Rattle.lighting.specs.Frames.{Bytes, Strings}
 use Rattle.lighting.specs.Fresh.{freshStation}
 use Rattle.lighting.specs.Panel.{Panel, countsSound, freshPanel, started}
-use Rattle.lighting.specs.Plain.{plainStart}
-use Rattle.lighting.specs.Demand.{plainAfter, plainAnswers, Again, NeverOne, Demand}
+use Rattle.lighting.specs.Plain.{Plain, plainStart}
+use Rattle.lighting.specs.Demand.{found, foundIn, foundPlain, after, plainAfter, plainAnswers, Again, NeverOne, Demand}
 use Rattle.lighting.specs.declared.Answer.{Answer}
 use Rattle.lighting.specs.declared.Answer.the-variants.{Done, Refused}
 use Rattle.lighting.proofs.Split.{also-both, by-bool, le-of, eq-of}
+use Rattle.lighting.proofs.AnswersApart.{never-bytes}
 use Rattle.lighting.proofs.Lists.{AllOther, joined, linked-sound, linked-start, listed}
 use Rattle.lighting.proofs.Repeats.{repeats-change-nothing}
 
@@ -24,7 +25,7 @@ counts c k p = let q = also-both p in let z = also-both (q .1) in (le-of (q .0),
 
 never-one : (l : List Answer) → AllOther l → NeverOne l
 never-one [] h = tt
-never-one (a ∷ l) h = (h .0 .other, never-one l (h .1))
+never-one (a ∷ l) h = (never-bytes a 1 (h .0 .other), never-one l (h .1))
 
 -- the start answers Done by the counts alone, and leaves fresh records
 started-fresh : (e : Panel) → started standard e .answer ≡ Done
@@ -50,7 +51,7 @@ demand-3 e l l′ r s h =
     let i = listed c (replicate 8 freshStation) (plainStart c) l s m in
     let j = repeats-change-nothing c (replicate 8 freshStation) (plainStart c) r s m in
     record {
-      finds = rw (begin, i .same);
+      outputs = rw (begin, i .same);
       time = rw (begin, i .same);
       answered = rw begin (i .answered);
       sound = rw (begin, i .same) (linked-sound c (i .stations) (plainAfter standard (plainStart c) l) (i .linked));
@@ -58,3 +59,17 @@ demand-3 e l l′ r s h =
       again = rw begin (j .0);
       answeredAgain = rw begin (j .1);
     }
+
+-- the same outputs at the same time: the same is found
+pub same-found : (e : Panel) (w : Plain) → e .outputs ≡ w .outputs → e .time ≡ w .time → foundIn e ≡ foundPlain w
+same-found e w p q = rw (p, q)
+
+-- so by demand 3 all that is found is what the plain panel has
+pub finds : (e : Panel) (l l′ : List Bytes) (r : Again [] l l′) → Demand standard e l l′ r
+    → foundIn (after standard (started standard e .panel) l) ≡ foundPlain (plainAfter standard (plainStart (length (e .outputs))) l .panel)
+finds e l l′ r d =
+    same-found
+    (after standard (started standard e .panel) l)
+    (plainAfter standard (plainStart (length (e .outputs))) l .panel)
+    (d .outputs)
+    (d .time)

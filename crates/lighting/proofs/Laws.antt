@@ -2,7 +2,7 @@
 use mathlib.Core.Path.{_≡_}
 use Prim.Native.Nat.{ℕ}
 use Rattle.lighting.specs.Acting.{acted}
-use Rattle.lighting.specs.Answers.{refusalOf, levelAnswered}
+use Rattle.lighting.specs.Answers.{answerBytes, levelAnswered}
 use Rattle.lighting.specs.Commands.{unwarned, unwarnedActivity, stopped, effect, timed}
 use Rattle.lighting.specs.Frames.{levelFieldRefusal, amountFieldRefusal, timeFieldRefusal, writeLevel, requestOf, parseBy, Bytes}
 use Rattle.lighting.specs.Kinds.{callsBy}
@@ -44,12 +44,13 @@ use Rattle.lighting.specs.declared.Verdict.{Verdict}
 use Rattle.lighting.specs.declared.Warning.{Warning}
 use lib.Ieee.{Float}
 use mathlib.Core.Bool.{Bool}
+use mathlib.Core.List.{List}
 
 pub acted-on : (x0 : ℕ) (x1 : Output) (x2 : Request) (k : Request) (r : Outcome) → x2 ≡ k → r ≡ acted x0 x1 k → r ≡ acted x0 x1 x2
 acted-on x0 x1 x2 k r e p = rw e p
 
-pub refusalOf-on : (x0 : Answer) (k : Answer) (r : ℕ) → x0 ≡ k → r ≡ refusalOf k → r ≡ refusalOf x0
-refusalOf-on x0 k r e p = rw e p
+pub answerBytes-on : (x0 : Answer) (k : Answer) (r : List ℕ) → x0 ≡ k → r ≡ answerBytes k → r ≡ answerBytes x0
+answerBytes-on x0 k r e p = rw e p
 
 pub levelAnswered-on : (x0 : Level) (k : Level) (r : Answer) → x0 ≡ k → r ≡ levelAnswered k → r ≡ levelAnswered x0
 levelAnswered-on x0 k r e p = rw e p

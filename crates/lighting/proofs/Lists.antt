@@ -32,7 +32,7 @@ use Rattle.lighting.specs.declared.Verdict.the-variants.{TurnedDown, Cop
 use Rattle.lighting.proofs.Split.{also-both, also-yes, by-eq, by-lt, by-le, by-bool, leb-yes, leb-no}
 use Rattle.lighting.proofs.Reading.{Called, Proper, proper}
 use Rattle.lighting.proofs.Lengths.{padded-kind, restored-padded}
-use Rattle.lighting.specs.Answers.{refusalOf}
+use Rattle.lighting.proofs.AnswersApart.{refusalOf}
 use Rattle.lighting.specs.declared.Answer.the-variants.{Done}
 use Rattle.lighting.proofs.Answered.{NotOne, not-one}
 use Rattle.lighting.proofs.Table.{served-not-one, AllSound, all-tested, all-fresh, lived-advance, all-advance, served-sound, served-length}
@@ -53,7 +53,7 @@ PastOther (first s n t b a ∷ h) = NotOne a × PastOther h
 
 latest-other : (s : ℕ) (h : List Event) → PastOther h → NotOne (latest s h .answer)
 unfolding latest if_then_else_
-latest-other s [] p = not-one Done (unfold refusalOf in refl)
+latest-other s [] p = not-one Done refl
 latest-other s (clock t ∷ h) p = latest-other s h p
 latest-other s (first s′ n t b a ∷ h) p = by-bool (eqb s′ s) (λ e. rw e (p .0)) (λ e. rw e (latest-other s h (p .1)))
 
@@ -307,7 +307,7 @@ step-linked c k w b (Arrives call) m g =
 
 -- its answer is not refusal 1
 handed-other : (c : ℕ) (k : List Station) (w : Told) (b : Bytes) (v : Verdict) → Linked c k w → Moved c w b v → NotOne (handed b w v .answer)
-unfolding handed refusalOf
+unfolding handed
 handed-other c k w b (TurnedDown r) m g = record { other = omega arith }
 handed-other c k w b (Copied a) m g = g
 handed-other c k w b (Clocked t) m g = record { other = omega arith }

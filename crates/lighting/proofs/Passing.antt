@@ -94,7 +94,7 @@ one-more n t o =
     ∙ ap (λ (k : ℕ). burned t k o) (omega arith)
 
 -- n MILLISECONDS, of which none but perhaps the last brings anything due
-quiet-ticks : (n t : ℕ) (o : Output) → After (t + n) o → ticks n t o ≡ burned t n o
+pub quiet-ticks : (n t : ℕ) (o : Output) → After (t + n) o → ticks n t o ≡ burned t n o
 unfolding ticks tick
 quiet-ticks zero t o a = sym (burned-zero t o)
 quiet-ticks (suc n) t o a =
@@ -102,7 +102,7 @@ quiet-ticks (suc n) t o a =
     let a₂ : After (suc t + n) (burned t 1 o) = burned-after (suc t + n) t 1 o (earlier o (omega arith) a) in
     rw (quiet (suc t) (burned t 1 o) a₁, quiet-ticks n (suc t) (burned t 1 o) a₂) (one-more n t o)
 
-hop-ticks : (n t : ℕ) (o : Output) → After (t + n) o → ticks (suc n) t o ≡ fire (suc (t + n)) (burned t (suc n) o)
+pub hop-ticks : (n t : ℕ) (o : Output) → After (t + n) o → ticks (suc n) t o ≡ fire (suc (t + n)) (burned t (suc n) o)
 unfolding ticks tick
 hop-ticks zero t o a = ap (λ (k : ℕ). fire (suc k) (burned t 1 o)) (omega arith)
 hop-ticks (suc n) t o a =

@@ -14,7 +14,7 @@ use Rattle.lighting.proofs.Split.{by-eq, by-lt, leb-yes, leb-no}
 use Rattle.lighting.specs.Slots.{Slots, view, slotsOf, put, firstLive, winner, lives, levelAt, topmost}
 use Rattle.lighting.proofs.Mask.{alive, lives-slot, put-slots, put-size, slots-size}
 
-firstLevel : ℕ → List (Option ℕ) → ℕ
+unfoldable pub firstLevel : ℕ → List (Option ℕ) → ℕ
 firstLevel d [] = d
 firstLevel d (none ∷ s) = firstLevel d s
 firstLevel d (some v ∷ s) = v
@@ -33,7 +33,7 @@ level-view d m (v ∷ l) =
     (λ p e. rw (e, leb-yes {a = 1} {b = suc (length l)} (omega arith)))
     (λ p e. rw (e, suc-ltb (firstLive (view (m / 2) l)) (length l)) (level-view d (m / 2) l))
 
-topmost-view : (d : ℕ) (s : Slots) → length (s .levels) ≡ 16 → topmost d s ≡ firstLevel d (slotsOf s)
+pub topmost-view : (d : ℕ) (s : Slots) → length (s .levels) ≡ 16 → topmost d s ≡ firstLevel d (slotsOf s)
 unfolding topmost levelAt winner slotsOf
 topmost-view d s h = rw h at (level-view d (s .live) (s .levels))
 

@@ -1,7 +1,9 @@
 -- 'The answer is Done, a Value of 32 bits, Absent, or Refused with a number': the paper's number and value for each case of each enum that
 -- is an answer. Assumes nothing.
+use mathlib.Core.List.{List, [], _∷_}
 use mathlib.Core.Option.{Option, none, some}
 use Prim.Native.Nat.{ℕ}
+use Rattle.lighting.specs.Field.{octets}
 use Rattle.lighting.specs.declared.Answer.{Answer}
 use Rattle.lighting.specs.declared.Answer.the-variants.{Done, Value, Absent, Refused}
 use Rattle.lighting.specs.declared.Level.{Level}
@@ -9,12 +11,13 @@ use Rattle.lighting.specs.declared.Level.the-variants.{Units, OutOfRange
 use Rattle.lighting.specs.declared.Operand.{Operand}
 use Rattle.lighting.specs.declared.Operand.the-variants.{Taken, Unfit}
 
--- the number of the refusal, 0 where there is none
-unfoldable pub refusalOf : Answer → ℕ
-refusalOf Done = 0
-refusalOf (Value v) = 0
-refusalOf Absent = 0
-refusalOf (Refused n) = n
+-- THE NUMBER AND THE VALUES OF EVERY ANSWER, as the bytes by which a bus log writes it down: 80 Done; 81 Value, its 32 bits; 82 Absent; 83
+-- Refused, its number. No two answers have the same (proofs/AnswersApart.antt, `told-apart`)
+unfoldable pub answerBytes : Answer → List ℕ
+answerBytes Done = 0x80 ∷ []
+answerBytes (Value v) = 0x81 ∷ octets 4 v
+answerBytes Absent = 0x82 ∷ []
+answerBytes (Refused n) = 0x83 ∷ n ∷ []
 
 -- the value of 32 bits, where there is one
 abbrev pub valueOf : Answer → Option ℕ

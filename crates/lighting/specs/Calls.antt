@@ -8,7 +8,7 @@ use Rattle.lighting.specs.Frames.{Bytes}
 use mathlib.Core.Bool.{true}
 use Rattle.lighting.specs.Panel.{Panel, leaving, panelSound, framed}
 use Rattle.lighting.specs.Plain.{plainStart}
-use Rattle.lighting.specs.Demand.{foundIn, foundPlain, plainAfter, plainAnswers, Again, kept, NeverOne}
+use Rattle.lighting.specs.Demand.{plainAfter, plainAnswers, Again, kept, NeverOne}
 use Rattle.lighting.specs.declared.Answer.{Answer}
 
 -- `Calls p e l a e′`: a call of `frame` for each string of l took the panel from e to e′ and answered a
@@ -17,10 +17,10 @@ pub data Calls (p : Parameters) : Panel → List Bytes → List Answer → Panel
   call : {e e₁ e₂ : Panel} {b : Bytes} {l : List Bytes} {a : Answer} {given : List Answer}
       → leaving e₁ a ≡ framed p e b → Calls p e₁ l given e₂ → Calls p e (b ∷ l) (a ∷ given) e₂
 
--- what such a caller may conclude: the tables show what the plain panel shows, at the same time, and every answer was its answer; the records
--- keep the rules, and no answer was refusal 1
+-- what such a caller may conclude: the outputs, all of every record, are the plain panel's, at the same time, and every answer was its answer; the
+-- records keep the rules, and no answer was refusal 1. So the tables show what the plain panel shows (proofs/Calls.antt, `shows`)
 pub record Concluded (p : Parameters) (e : Panel) (l : List Bytes) (given : List Answer) (e′ : Panel) : Type 0 where
-  pub finds : foundIn e′ ≡ foundPlain (plainAfter p (plainStart (length (e .outputs))) l .panel)
+  pub outputs : e′ .outputs ≡ plainAfter p (plainStart (length (e .outputs))) l .panel .outputs
   pub time : e′ .time ≡ plainAfter p (plainStart (length (e .outputs))) l .panel .time
   pub answered : given ≡ plainAnswers p (plainStart (length (e .outputs))) l
   pub sound : panelSound p e′ ≡ true

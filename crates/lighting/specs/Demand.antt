@@ -10,13 +10,14 @@ use Rattle.lighting.specs.Parameters.{Parameters}
 use Rattle.lighting.specs.Frames.{Bytes}
 use Rattle.lighting.specs.Slots.{slotsOf}
 use Rattle.lighting.specs.Value.{presentValue, progressValue, inProcess}
-use Rattle.lighting.specs.Answers.{refusalOf}
+use Rattle.lighting.specs.Answers.{answerBytes}
 use Rattle.lighting.specs.Panel.{Panel, panelSound, framed, started}
 use Rattle.lighting.specs.Plain.{Plain, Told, plainFramed, plainStart}
 use Rattle.lighting.specs.declared.Settings.{Settings}
 use Rattle.lighting.specs.declared.Command.{Command}
 use Rattle.lighting.specs.declared.Output.{Output}
 use Rattle.lighting.specs.declared.Answer.{Answer}
+use Rattle.lighting.specs.declared.Answer.the-variants.{Refused}
 
 -- EVERYTHING FOUND of an output: 'a slot is compared by being live and, if live, by its level; burning time in milliseconds'
 pub record Found : Type 0 where
@@ -86,14 +87,13 @@ kept (copy m r) (a ∷ z) = kept r z
 -- 'Refusal 1 never comes'
 abbrev pub NeverOne : List Answer → Type 0
 NeverOne [] = Unit {0}
-NeverOne (a ∷ l) = (refusalOf a ≢ 1) × NeverOne l
+NeverOne (a ∷ l) = (answerBytes a ≢ answerBytes (Refused 1)) × NeverOne l
 
 -- THE DEMAND, for a lent table e, a list of frames l, and the list l′ in which frames of l come again
 pub record Demand (p : Parameters) (e : Panel) (l l′ : List Bytes) (r : Again [] l l′) : Type 0 where
-  -- after every list all that is found is what the plain panel has, at the same time
-  pub finds :
-      foundIn (after p (started p e .panel) l)
-      ≡ foundPlain (plainAfter p (plainStart (length (e .outputs))) l .panel)
+  -- after every list the outputs, all of every record, are the plain panel's, at the same time: so all that is found is the same (proofs/Demand.antt,
+  -- `finds`)
+  pub outputs : after p (started p e .panel) l .outputs ≡ plainAfter p (plainStart (length (e .outputs))) l .panel .outputs
   pub time : after p (started p e .panel) l .time ≡ plainAfter p (plainStart (length (e .outputs))) l .panel .time
   -- and every answer is its answer
   pub answered : answers p (started p e .panel) l ≡ plainAnswers p (plainStart (length (e .outputs))) l

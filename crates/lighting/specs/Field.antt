@@ -1,6 +1,6 @@
 -- The bytes of a frame, and the numbers in it: document 01, Frames. Definitions only.
-use Prim.Native.Nat.{ℕ, zero, suc, _+_, _*_}
-use mathlib.Core.List.{List}
+use Prim.Native.Nat.{ℕ, zero, suc, _+_, _*_, _/_, _%_, _^_}
+use mathlib.Core.List.{List, [], _∷_}
 use lib.ListN.{getD}
 
 -- the byte at a place, and 0 past the end
@@ -11,3 +11,8 @@ byteAt b at = getD b at 0
 unfoldable pub bigEndian : ℕ → List ℕ → ℕ → ℕ
 bigEndian zero b at = 0
 bigEndian (suc n) b at = bigEndian n b at * 256 + byteAt b (at + n)
+
+-- and the other way: a number in n bytes
+unfoldable pub octets : ℕ → ℕ → List ℕ
+octets zero v = []
+octets (suc n) v = v / 256 ^ n % 256 ∷ octets n v

@@ -1,15 +1,11 @@
 -- A worked list: bench figures 9 and 10 and the traps that only a list shows, as frames to a panel of two outputs, with the answers that the
 -- paper gives. proofs/Figures.antt computes them. Assumes nothing.
 use mathlib.Core.List.{List, [], _∷_, _++_}
-use Prim.Native.Nat.{ℕ, zero, suc, _/_, _%_, _^_}
+use Prim.Native.Nat.{ℕ}
+use Rattle.lighting.specs.Field.{octets}
 use Rattle.lighting.specs.Frames.{Bytes}
 use Rattle.lighting.specs.declared.Answer.{Answer}
 use Rattle.lighting.specs.declared.Answer.the-variants.{Done, Value, Absent, Refused}
-
--- a number in n bytes, big-endian
-unfoldable pub octets : ℕ → ℕ → Bytes
-octets zero v = []
-octets (suc n) v = v / 256 ^ n % 256 ∷ octets n v
 
 abbrev call : ℕ → ℕ → ℕ → ℕ → ℕ → Bytes → Bytes
 call kind station number time output body = kind ∷ station ∷ octets 4 number ++ octets 6 time ++ output ∷ body

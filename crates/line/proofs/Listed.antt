@@ -20,7 +20,7 @@ use Rattle.lighting.specs.declared.Verdict.the-variants.{TurnedDown, Copied, Cl
 use Rattle.lighting.proofs.Split.{by-bool, leb-yes}
 use Rattle.lighting.proofs.Table.{served-length}
 use Rattle.lighting.proofs.Calls.{once}
-use Rattle.lighting.proofs.Demand.{demand-3}
+use Rattle.lighting.proofs.Demand.{demand-3, finds}
 use Rattle.reading.specs.declared.Reader.{Reader}
 use Rattle.reading.specs.Reading.{fed}
 use Rattle.reading.specs.Spelling.{Unbroken, Silent, Gives, Heading}
@@ -155,7 +155,7 @@ unfolding finished
 found-by-text n p l t m h e =
     let c = proper m in
     ap foundIn (listed-whole p m start-fresh h)
-    ∙ demand-3 (first n p) l l (once [] l) (c .strings) (starts n p (c .least) (c .most) h e) .finds
+    ∙ finds (first n p) l l (once [] l) (demand-3 (first n p) l l (once [] l) (c .strings) (starts n p (c .least) (c .most) h e))
     ∙ ap (λ (i : ℕ). foundPlain (plainAfter standard (plainStart i) l .panel)) (first-count n p h)
 
 -- and so it is after the session, by its contract, where the text that came is such a one

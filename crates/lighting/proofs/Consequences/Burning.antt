@@ -1,0 +1,34 @@
+-- ELAPSED_ACTIVE_TIME: counted while Present_Value is above zero, read in whole seconds, and at its top. Assumes nothing.
+use mathlib.Core.Path.{_≡_, refl, ap}
+use mathlib.Core.Logic.{_≢_}
+use Prim.Native.Nat.{ℕ, _+_, _*_, _/_, _≤_, _<_, min}
+use native.Mathlib.Omega.{arith}
+use Rattle.lighting.specs.Choice.{if_then_else_}
+use Rattle.lighting.specs.Value.{presentValue, lit}
+use Rattle.lighting.specs.Passing.{withBurning, glowing, burned, settled, fire, tick}
+use Rattle.lighting.specs.Properties.{propertyOf, elapsedActive, shown}
+use Rattle.lighting.specs.Acting.{left, acted}
+use Rattle.lighting.specs.Frames.{requestBy}
+use Rattle.lighting.specs.declared.Answer.the-variants.{Value}
+use Rattle.lighting.specs.declared.Output.{Output}
+use Rattle.lighting.proofs.Split.{leb-yes, leb-no}
+use Rattle.lighting.proofs.Consequences.Reads.{reads}
+
+-- 'burning time gains 1 ms if Present_Value is above zero', and nothing if it is not
+pub burns : (t : ℕ) (o : Output) → 0 < presentValue (o .settings) (o .slots) → tick t o .burning ≡ o .burning + 1
+unfolding tick fire settled burned withBurning glowing lit if_then_else_
+burns t o h = rw (leb-yes {a = 1} {b = presentValue (o .settings) (o .slots)} h)
+
+pub rests : (t : ℕ) (o : Output) → presentValue (o .settings) (o .slots) ≡ 0 → tick t o .burning ≡ o .burning
+unfolding tick fire settled burned withBurning glowing lit if_then_else_
+rests t o h = rw (leb-no {a = 1} {b = presentValue (o .settings) (o .slots)} (omega arith)) (omega arith)
+
+-- property 0B reads the whole seconds s that have burned
+pub seconds : (t s : ℕ) (o : Output) → s * 1000 ≤ o .burning → o .burning < s * 1000 + 1000 → s ≤ 4294967295 → reads t o 0x0b ≡ Value s
+unfolding acted left requestBy propertyOf shown elapsedActive if_then_else_
+seconds t s o h k m = let e : min 4294967295 (o .burning / 1000) ≡ s = omega arith in rw e
+
+-- and at its top stays there
+pub full : (t : ℕ) (o : Output) → 4294967295000 ≤ o .burning → reads t o 0x0b ≡ Value 4294967295
+unfolding acted left requestBy propertyOf shown elapsedActive if_then_else_
+full t o h = let e : min 4294967295 (o .burning / 1000) ≡ 4294967295 = omega arith in rw e

@@ -1,0 +1,91 @@
+-- WHAT ENDS A WARNING, AND WHAT IT LEAVES. A warning is running exactly while slot 6 is live (the record rules). Assumes nothing.
+use mathlib.Core.Path.{_≡_, refl, sym, ap, _∙_}
+use mathlib.Core.Logic.{_≢_}
+use mathlib.Core.Bool.{true, false, true≢false, false≢true}
+use mathlib.Core.Option.{Option, none, some}
+use Prim.Native.Nat.{ℕ, suc, _<_}
+use native.Mathlib.Omega.{arith}
+use lib.Dec.{eqb, ltb}
+use lib.ListN.{length}
+use Rattle.lighting.specs.Choice.{if_then_else_}
+use Rattle.lighting.specs.Slots.{Slots, slot, lives, put, emptied, filled}
+use Rattle.lighting.specs.Writing.{withEffect, passedOver, stored, warns, endedEmpty, endedStored, writtenWarned, writtenZero, writtenCalm, writtenBy, written, vacatedActivity, vacated}
+use Rattle.lighting.specs.declared.Activity.{Activity}
+use Rattle.lighting.specs.declared.Activity.the-variants.{Still, Moving, Blink, Delay}
+use Rattle.lighting.specs.declared.Output.{Output}
+use Rattle.lighting.proofs.Split.{by-bool, eqb-hit, eqb-miss, leb-yes, leb-no}
+use Rattle.lighting.proofs.Facts.{Slot, Acts, Sound}
+use Rattle.lighting.proofs.Winner.{put-sized}
+use Rattle.lighting.proofs.Consequences.Present.{slot-same, slot-other}
+use Rattle.lighting.proofs.Consequences.Warning.{Starts, warns-starts}
+
+-- what is left: slot 6 is a, slot i is b, every other slot is as it was, and what is under way is w
+pub record Leaves (o o′ : Output) (i : ℕ) (a b : Option ℕ) (w : Activity) : Type 0 where
+  pub six : slot (o′ .slots) 5 ≡ a
+  pub own : slot (o′ .slots) i ≡ b
+  pub rest : (j : ℕ) → j ≢ 5 → j ≢ i → slot (o′ .slots) j ≡ slot (o .slots) j
+  pub activity : o′ .activity ≡ w
+
+-- slot 6 emptied, then slot i put
+put-leaves : (o : Output) (i : ℕ) (x : Option ℕ) → length (o .slots .levels) ≡ 16 → i < 16 → i ≢ 5
+    → Leaves o (withEffect o (put (emptied (o .slots) 5) i x) Still) i none x Still
+unfolding withEffect
+put-leaves o i x z k n =
+    let s = emptied (o .slots) 5 in
+    let q = put-sized (o .slots) z 5 none in
+    record {
+      six = slot-other s q i 5 x k n ∙ slot-same (o .slots) z 5 none (omega arith);
+      own = slot-same s q i x k;
+      rest = λ j p r. slot-other s q i j x k (λ e. r (sym e)) ∙ slot-other (o .slots) z 5 j none (omega arith) (λ e. p (sym e));
+      activity = refl;
+    }
+
+-- 'During a warning'
+warned-by : (t : ℕ) (o : Output) (i v : ℕ) (a : Activity) → Acts t (o .settings) (o .slots) a → lives (o .slots) 5 ≡ true
+    → writtenBy t o i v a ≡ writtenWarned o i v
+unfolding writtenBy
+warned-by t o i v Still h e = absurd (false≢true (sym h ∙ e))
+warned-by t o i v (Moving m) h e = absurd (false≢true (sym (h .six) ∙ e))
+warned-by t o i v (Blink owner level turn over) h e = refl
+warned-by t o i v (Delay owner over) h e = refl
+
+module _ (t : ℕ) (o : Output) (h : Sound t o) (runs : lives (o .slots) 5 ≡ true) (i : ℕ) (k : Slot i) where
+  -- 'kind 02 of zero at P above 6 empties slots 6 and P'
+  pub zero-above : 5 < i → Leaves o (written t o i 0) i none none Still
+  unfolding written writtenWarned endedEmpty if_then_else_
+  zero-above l =
+      rw (warned-by t o i 0 (o .activity) (h .activity) runs, leb-yes {a = 6} {b = i} l)
+      (put-leaves o i none (h .slots .size) (k .inside) (k .free))
+
+  -- 'of zero at P below 6 it empties slot 6 and stores'
+  pub zero-below : i < 5 → Leaves o (written t o i 0) i none (some 0) Still
+  unfolding written writtenWarned endedStored if_then_else_
+  zero-below l =
+      rw (warned-by t o i 0 (o .activity) (h .activity) runs, leb-no {a = 6} {b = i} (omega arith))
+      (put-leaves o i (some 0) (h .slots .size) (k .inside) (k .free))
+
+  -- 'of non-zero it empties slot 6 and stores'
+  pub non-zero : (v : ℕ) → v ≢ 0 → Leaves o (written t o i v) i none (some v) Still
+  unfolding written writtenWarned endedStored if_then_else_
+  non-zero v n =
+      rw (warned-by t o i v (o .activity) (h .activity) runs, eqb-miss {a = v} {b = 0} n)
+      (put-leaves o i (some v) (h .slots .size) (k .inside) (k .free))
+
+  -- 'kind 03 leaves it running'
+  pub runs-on : Leaves o (vacated o i) i (slot (o .slots) 5) none (o .activity)
+  unfolding vacated withEffect
+  runs-on =
+      record {
+        six = slot-other (o .slots) (h .slots .size) i 5 none (k .inside) (k .free);
+        own = slot-same (o .slots) (h .slots .size) i none (k .inside);
+        rest = λ j p r. slot-other (o .slots) (h .slots .size) i j none (k .inside) (λ e. r (sym e));
+        activity = left (o .activity) (h .activity);
+      }
+    where
+      left : (a : Activity) → Acts t (o .settings) (o .slots) a → vacatedActivity (lives (o .slots) i) i a ≡ a
+      left Still q = absurd (false≢true (sym q ∙ runs))
+      left (Moving m) q = absurd (false≢true (sym (q .six) ∙ runs))
+      left (Blink owner level turn over) q =
+          unfold vacatedActivity passedOver if_then_else_ in (by-bool (lives (o .slots) i) (λ e. rw e) (λ e. rw e))
+      left (Delay owner over) q =
+          unfold vacatedActivity passedOver if_then_else_ in (by-bool (lives (o .slots) i) (λ e. rw e) (λ e. rw e))
