@@ -9,7 +9,7 @@ use lib.ListN.{length}
 use Rattle.lighting.specs.Choice.{if_then_else_}
 use Rattle.lighting.specs.Parameters.{standard}
 use Rattle.lighting.specs.Level.{real}
-use Rattle.lighting.specs.Slots.{Slots, topmost}
+use Rattle.lighting.specs.Slots.{slotCount, Slots, topmost}
 use Rattle.lighting.specs.Value.{presentValue}
 use Rattle.lighting.specs.Record.{withSettings}
 use Rattle.lighting.specs.Rows.{rowOf, isAmount, meetsReal}
@@ -64,7 +64,7 @@ unmoved-acts t c c′ s (Moving m) h = h .six
 unmoved-acts t c c′ s (Warned w) h = search
 
 -- of the settings a movement looks at Min and Max alone: its owner is live, so Relinquish_Default is not shown
-same-acts : (t : ℕ) (c c′ : Settings) (s : Slots) (a : Activity) → length (s .levels) ≡ 16 → c′ .min ≡ c .min → c′ .max ≡ c .max
+same-acts : (t : ℕ) (c c′ : Settings) (s : Slots) (a : Activity) → length (s .levels) ≡ slotCount → c′ .min ≡ c .min → c′ .max ≡ c .max
     → Acts t c s a → Acts t c′ s a
 unfolding presentValue
 same-acts t c c′ s Still l p q h = h
@@ -86,7 +86,7 @@ same-acts t c c′ s (Moving m) l p q h =
 same-acts t c c′ s (Warned w) l p q h = h
 
 -- Min and Max change in a write of their own, which ends a movement
-acts-kept : (t : ℕ) (c : Settings) (s : Slots) (a : Activity) (n : Property) (v : ℕ) → length (s .levels) ≡ 16 → Acts t c s a
+acts-kept : (t : ℕ) (c : Settings) (s : Slots) (a : Activity) (n : Property) (v : ℕ) → length (s .levels) ≡ slotCount → Acts t c s a
     → Acts t (settingsWith c n v) s (activityWith a n)
 unfolding activityWith if_then_else_
 acts-kept t c s a n v l h =

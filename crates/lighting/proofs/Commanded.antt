@@ -9,7 +9,7 @@ use lib.Ieee.{Float}
 use Rattle.lighting.specs.Parameters.{standard}
 use Rattle.lighting.specs.Choice.{if_then_else_}
 use Rattle.lighting.specs.Level.{levelUnits, amountUnits}
-use Rattle.lighting.specs.Slots.{Slots, lives, winner, put, filled}
+use Rattle.lighting.specs.Slots.{slot6, Slots, lives, winner, put, filled}
 use Rattle.lighting.specs.Value.{brought, presentValue, progressValue}
 use Rattle.lighting.specs.Commands.{unwarned, unwarnedActivity, replaced, placed, movement, apart, rampLength, target, fadedOver, fadedTo, rampedAt, rampedTo, jumped, wentTo, stepUpFrom, stepDownFrom, steppedUp, steppedDown, raised, halted, stopped, relinquished, effect, timed, withCommand, commandedFrom, commanded}
 use Rattle.lighting.specs.declared.Settings.{Settings}
@@ -52,7 +52,7 @@ unwarned-calm Still = tt
 unwarned-calm (Moving m) = tt
 unwarned-calm (Warned w) = tt
 
-six-empty : (t : ℕ) (c : Settings) (s : Slots) (a : Activity) → Calm a → Acts t c s a → lives s 5 ≡ false
+six-empty : (t : ℕ) (c : Settings) (s : Slots) (a : Activity) → Calm a → Acts t c s a → lives s slot6 ≡ false
 six-empty t c s Still q h = h
 six-empty t c s (Moving m) q h = h .six
 six-empty t c s (Warned w) q h = elim q [ ]
@@ -63,7 +63,7 @@ unfolding unwarned unwarnedActivity
 unwarned-staged t c s Still f h = record { slots = f; activity = h }
 unwarned-staged t c s (Moving m) f h = record { slots = f; activity = h }
 unwarned-staged t c s (Warned w) f h =
-    record { slots = put-filled s 5 none f (omega arith) tt; activity = six-set s (f .size) none }
+    record { slots = put-filled s slot6 none f (omega arith) tt; activity = six-set s (f .size) none }
 
 -- A TARGET PUT IN SLOT p, at t, with settings c, slots s and activity a
 module _ (t : ℕ) (c : Settings) (k : Settled c) (s : Slots) (f : Filled s) (a : Activity) (q : Calm a) (h : Acts t c s a) where

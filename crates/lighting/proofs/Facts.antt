@@ -3,7 +3,7 @@ use mathlib.Core.Path.{_≡_}
 use mathlib.Core.Logic.{_≢_}
 use mathlib.Core.Bool.{true, false}
 use mathlib.Core.Option.{Option, none, some}
-use Prim.Native.Nat.{ℕ, _-_, _*_, _≤_, _<_, min}
+use Prim.Native.Nat.{ℕ, _+_, _-_, _*_, _≤_, _<_, min}
 use lib.ListN.{length}
 use Rattle.lighting.specs.Parameters.{standard}
 use Rattle.lighting.specs.declared.Settings.{Settings}
@@ -14,10 +14,10 @@ use Rattle.lighting.specs.declared.Activity.the-variants.{Still, Moving,
 use Rattle.lighting.specs.declared.Timer.{Timer}
 use Rattle.lighting.specs.declared.Timer.the-variants.{Off, Running}
 use Rattle.lighting.specs.declared.Output.{Output}
-use Rattle.lighting.specs.Slots.{Slots, lives, winner, slot}
+use Rattle.lighting.specs.Slots.{Slots, slotCount, slot16, slot6, lives, winner, slot}
 use Rattle.lighting.specs.Value.{presentValue}
 use Rattle.lighting.specs.Passing.{phaseEnd}
-use Rattle.lighting.specs.Level.{real}
+use Rattle.lighting.specs.Level.{leastLevel, greatestLevel, real}
 use Rattle.lighting.specs.Rows.{rowOf, isAmount, meetsReal}
 use Rattle.lighting.specs.declared.Range.{Range}
 use Rattle.lighting.specs.declared.Range.the-variants.{Percent, Limit, Amount, Whole, Priority, ReadOnly}
@@ -25,21 +25,21 @@ use Rattle.lighting.specs.declared.Property.the-variants.{RelinquishDefa
 
 -- 0, or 1 to 100 percent: in a form that `omega` reads
 pub record IsLevel (v : ℕ) : Type 0 where
-  pub least : 65536 * min 1 v ≤ v
-  pub most : v ≤ 6553600
+  pub least : leastLevel * min 1 v ≤ v
+  pub most : v ≤ greatestLevel
 
 pub record Within (low high v : ℕ) : Type 0 where
   pub least : low ≤ v
   pub most : v ≤ high
 
 pub record Slot (i : ℕ) : Type 0 where
-  pub inside : i < 16
-  pub free : i ≢ 5
+  pub inside : i < slotCount
+  pub free : i ≢ slot6
 
 -- what is kept meets its property's row
 abbrev pub Meets : Range → ℕ → Type 0
 Meets Percent v = IsLevel v
-Meets Limit v = Within 65536 6553600 v
+Meets Limit v = Within leastLevel greatestLevel v
 Meets Amount v = isAmount (real v) ≡ true
 Meets (Whole low high) v = Within low high v
 Meets Priority v = Slot v
@@ -62,12 +62,12 @@ SlotLevel none = Unit {0}
 SlotLevel (some v) = IsLevel v
 
 pub record Filled (s : Slots) : Type 0 where
-  pub size : length (s .levels) ≡ 16
-  pub level : (i : ℕ) → i < 16 → SlotLevel (slot s i)
+  pub size : length (s .levels) ≡ slotCount
+  pub level : (i : ℕ) → i < slotCount → SlotLevel (slot s i)
 
 pub record Moves (t : ℕ) (c : Settings) (s : Slots) (m : Movement) : Type 0 where
-  pub six : lives s 5 ≡ false
-  pub owner : m .owner < 16
+  pub six : lives s slot6 ≡ false
+  pub owner : m .owner < slotCount
   pub wins : m .owner ≡ winner s
   pub start : m .start ≤ c .max
   pub aims : m .target ≡ presentValue c s
@@ -76,14 +76,14 @@ pub record Moves (t : ℕ) (c : Settings) (s : Slots) (m : Movement) : Type 0 wh
   pub later : t < m .over
 
 pub record Warns (t : ℕ) (s : Slots) (w : Warning) : Type 0 where
-  pub six : lives s 5 ≡ true
-  pub owner : Within 6 15 (w .owner)
+  pub six : lives s slot6 ≡ true
+  pub owner : Within (slot6 + 1) slot16 (w .owner)
   pub level : IsLevel (w .level)
   pub later : t < phaseEnd w (w .phase)
   pub order : phaseEnd w (w .phase) ≤ w .over
 
 abbrev pub Acts : ℕ → Settings → Slots → Activity → Type 0
-Acts t c s Still = lives s 5 ≡ false
+Acts t c s Still = lives s slot6 ≡ false
 Acts t c s (Moving m) = Moves t c s m
 Acts t c s (Warned w) = Warns t s w
 

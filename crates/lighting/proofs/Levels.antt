@@ -7,7 +7,7 @@ use lib.Seq.{getD-set-same, getD-set-other}
 use Rattle.lighting.specs.Choice.{if_then_else_}
 use Rattle.lighting.proofs.Split.{by-eq}
 use Rattle.lighting.specs.declared.Settings.{Settings}
-use Rattle.lighting.specs.Slots.{Slots, slotsOf, put}
+use Rattle.lighting.specs.Slots.{slotCount, Slots, slotsOf, put}
 use Rattle.lighting.proofs.Mask.{put-slots, slots-size}
 use Rattle.lighting.proofs.Winner.{put-sized}
 use Rattle.lighting.specs.Value.{brought, presentValue}
@@ -24,10 +24,10 @@ pub present-level : (c : Settings) (s : Slots) → Settled c → IsLevel (presen
 unfolding presentValue
 present-level c s h = brought-level c _ h
 
-pub put-filled : (s : Slots) (i : ℕ) (x : Option ℕ) → Filled s → i < 16 → SlotLevel x → Filled (put s i x)
+pub put-filled : (s : Slots) (i : ℕ) (x : Option ℕ) → Filled s → i < slotCount → SlotLevel x → Filled (put s i x)
 put-filled s i x f k l = record { size = put-sized s (f .size) i x; level = λ j m. rw (put-slots s i x (f .size) k) (at j m) }
   where
-    at : (j : ℕ) → j < 16 → SlotLevel (getD (set (slotsOf s) i x) j none)
+    at : (j : ℕ) → j < slotCount → SlotLevel (getD (set (slotsOf s) i x) j none)
     at j m =
         by-eq
         i

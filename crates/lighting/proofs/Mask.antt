@@ -14,7 +14,7 @@ use lib.Count.{trailingZeros}
 use lib.ListN.{set, getD, length, length-set}
 use Rattle.lighting.proofs.Split.{by-eq, by-lt, by-bool, eqb-miss, leb-yes}
 use Rattle.lighting.specs.Choice.{if_then_else_}
-use Rattle.lighting.specs.Slots.{Slots, view, slotsOf, slot, put, firstLive, winner, lives, maskEmptied, maskFilled, levelSet}
+use Rattle.lighting.specs.Slots.{slotCount, Slots, view, slotsOf, slot, put, firstLive, winner, lives, maskEmptied, maskFilled, levelSet}
 
 length-view : (m : ℕ) (l : List ℕ) → length (view m l) ≡ length l
 unfolding view if_then_else_
@@ -98,7 +98,7 @@ view-and m (suc i) (suc n) v (w ∷ l) h k =
     (view-and (m / 2) i n v l (omega arith) (omega arith))
 
 -- A SLOT PUT: for the sixteen slots the guard never bites
-pub put-slots : (s : Slots) (i : ℕ) (x : Option ℕ) → length (s .levels) ≡ 16 → i < 16 → slotsOf (put s i x) ≡ set (slotsOf s) i x
+pub put-slots : (s : Slots) (i : ℕ) (x : Option ℕ) → length (s .levels) ≡ slotCount → i < slotCount → slotsOf (put s i x) ≡ set (slotsOf s) i x
 unfolding put slotsOf maskEmptied maskFilled levelSet if_then_else_
 put-slots s i none h k = rw (leb-yes {a = suc i} {b = 16} k) (view-and (s .live) i 16 0 (s .levels) k (omega arith))
 put-slots s i (some v) h k = rw (leb-yes {a = suc i} {b = 16} k) (view-or (s .live) i v (s .levels))
@@ -129,7 +129,7 @@ zeros-view (suc n) m (v ∷ l) h =
     (λ p e. let z : m % 2 ≡ 0 = omega arith in
     rw (e, z) (ap suc (zeros-view n (m / 2) l (omega arith))))
 
-pub winner-zeros : (s : Slots) → length (s .levels) ≡ 16 → trailingZeros 16 (s .live) ≡ winner s
+pub winner-zeros : (s : Slots) → length (s .levels) ≡ slotCount → trailingZeros 16 (s .live) ≡ winner s
 unfolding winner slotsOf
 winner-zeros s h = zeros-view 16 (s .live) (s .levels) h
 
@@ -155,10 +155,10 @@ pub lives-slot : (s : Slots) (i : ℕ) → i < length (s .levels) → lives s i 
 unfolding if_then_else_
 lives-slot s i h = rw (slot-is s i h) (by-bool (lives s i) (λ e. rw e) (λ e. rw e))
 
-pub dead-past : (m i : ℕ) → m < 65536 → 16 ≤ i → eqb (m / 2 ^ i % 2) 1 ≡ false
+pub dead-past : (m i : ℕ) → m < 65536 → slotCount ≤ i → eqb (m / 2 ^ i % 2) 1 ≡ false
 dead-past m i h k = ap (λ (x : ℕ). eqb (x % 2) 1) (div-eq-of-lt (lt-of-lt-of-le h (pow-mono k)))
 
-pub shifted : (i : ℕ) → i < 16 → (1 * 2 ^ i) % 2 ^ 16 ≡ 2 ^ i
+pub shifted : (i : ℕ) → i < slotCount → (1 * 2 ^ i) % 2 ^ 16 ≡ 2 ^ i
 shifted i h = shl-exact 1 i 16 (omega arith) (omega arith) ∙ one-mul (2 ^ i)
 
 -- SLOT i TESTED: a shifted mask leaves bit i alone, where it stands
@@ -167,7 +167,7 @@ bit-left m i =
     let bit : 2 ^ (1 + i) - 2 ^ i ≡ 2 ^ i = omega (arith, pow-add 2 1 i) in
     ap (bitAnd m) (sym bit) ∙ and-high m 1 i
 
-pub tested : (m i : ℕ) → i < 16 → not (eqb (bitAnd m ((1 * 2 ^ i) % 2 ^ 16)) 0) ≡ eqb (m / 2 ^ i % 2) 1
+pub tested : (m i : ℕ) → i < slotCount → not (eqb (bitAnd m ((1 * 2 ^ i) % 2 ^ 16)) 0) ≡ eqb (m / 2 ^ i % 2) 1
 tested m i h =
     rw
     (shifted i h, bit-left m i)

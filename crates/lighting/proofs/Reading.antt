@@ -8,7 +8,7 @@ use lib.Dec.{leb, eqb}
 use lib.ListN.{length}
 use Rattle.lighting.specs.Choice.{if_then_else_}
 use Rattle.lighting.specs.Parameters.{standard}
-use Rattle.lighting.specs.Level.{real, levelOf}
+use Rattle.lighting.specs.Level.{leastLevel, greatestLevel, real, levelOf}
 use Rattle.lighting.specs.Field.{byteAt, bigEndian}
 use Rattle.lighting.specs.Rows.{isPriority}
 use Rattle.lighting.specs.Properties.{propertyOf}
@@ -31,7 +31,7 @@ use Rattle.lighting.proofs.Rows.{priority-of, change-good}
 use Rattle.lighting.proofs.Operations.{ordered-good}
 
 -- KINDS 02 TO 05
-level-good : (i : ℕ) (l : Level) → Slot i → ((v : ℕ) → l ≡ Units v → (65536 * min 1 v ≤ v) × (v ≤ 6553600)) → Good (writeLevel i l)
+level-good : (i : ℕ) (l : Level) → Slot i → ((v : ℕ) → l ≡ Units v → (leastLevel * min 1 v ≤ v) × (v ≤ greatestLevel)) → Good (writeLevel i l)
 unfolding writeLevel
 level-good i (Units v) g f = let r = f v refl in (g, record { least = r .0; most = r .1 })
 level-good i OutOfRange g f = omega arith

@@ -12,82 +12,82 @@ use lib.Ieee.Bits.{ofBits-toBits}
 use borrow.Author.Tests.{lt-ltb, le-ltb, le-leb, eq-eqb, ne-eqb}
 use Rattle.lighting.specs.Choice.{if_then_else_}
 use Rattle.lighting.specs.declared.Level.the-variants.{Units}
-use Rattle.lighting.specs.Level.{real, bits, levelIn, levelOf, realOf, readOut}
+use Rattle.lighting.specs.Level.{onePercent, leastLevel, greatestLevel, real, bits, levelIn, levelOf, realOf, readOut}
 use Rattle.lighting.proofs.Split.{by-eq, by-lt}
 use Rattle.lighting.proofs.Rounding.{nearest-same, nearest-whole}
 
 -- ---- "nothing lost": the REAL of a level n has exactly the value n / 65,536
-pub exact : (n : ℕ) → n ≤ 6553600 → HasValue (realOf n) false n 65536
+pub exact : (n : ℕ) → n ≤ greatestLevel → HasValue (realOf n) false n onePercent
 unfolding realOf
-exact n h = round-exact binary32 false n 65536 n 133 (lit< tt) (omega arith) (lt-of-le-of-lt (mul-le-mul-right (2 ^ 133) h) (lit< tt)) (sym (mul-assoc n (2 ^ 133) 65536))
+exact n h = round-exact binary32 false n onePercent n 133 (lit< tt) (omega arith) (lt-of-le-of-lt (mul-le-mul-right (2 ^ 133) h) (lit< tt)) (sym (mul-assoc n (2 ^ 133) leastLevel))
 
 -- what a level becomes that was read out and is written again
 abbrev pub returned : ℕ → ℕ
-returned n = if eqb n 0 then 0 else max n 65536
+returned n = if eqb n 0 then 0 else max n leastLevel
 
 -- ---- a / c is n / 65,536
-module _ (a c n : ℕ) (C : 0 < c) (h : n ≤ 6553600) (e : a * 65536 ≡ n * c) where
+module _ (a c n : ℕ) (C : 0 < c) (h : n ≤ greatestLevel) (e : a * onePercent ≡ n * c) where
   zero-back : n ≡ 0 → levelIn a c ≡ Units (returned n)
   unfolding if_then_else_
   zero-back z =
       let k : n * c ≡ 0 = rw z (omega arith) in
       rw (eq-eqb a 0 (omega arith), z)
 
-  low-back : 0 < n → n < 65536 → levelIn a c ≡ Units (returned n)
+  low-back : 0 < n → n < leastLevel → levelIn a c ≡ Units (returned n)
   unfolding if_then_else_
   low-back p l =
-      let k : suc n * c ≤ 65536 * c = mul-le-mul-right c l in
+      let k : suc n * c ≤ leastLevel * c = mul-le-mul-right c l in
       let j : 1 * c ≤ n * c = mul-le-mul-right c p in
-      let m : max n 65536 ≡ 65536 = omega arith in
+      let m : max n leastLevel ≡ leastLevel = omega arith in
       rw (ne-eqb a 0 (λ z. omega arith), lt-ltb a c (omega arith), ne-eqb n 0 (λ z. omega arith), m)
 
-  high-back : 65536 ≤ n → levelIn a c ≡ Units (returned n)
+  high-back : leastLevel ≤ n → levelIn a c ≡ Units (returned n)
   unfolding if_then_else_
   high-back l =
-      let k : 65536 * c ≤ n * c = mul-le-mul-right c l in
-      let j : n * c ≤ 6553600 * c = mul-le-mul-right c h in
-      let m : max n 65536 ≡ n = omega arith in
+      let k : leastLevel * c ≤ n * c = mul-le-mul-right c l in
+      let j : n * c ≤ greatestLevel * c = mul-le-mul-right c h in
+      let m : max n leastLevel ≡ n = omega arith in
       rw (ne-eqb a 0 (λ z. omega arith), le-ltb a c (omega arith), le-leb (8 * c) (a * 8) (omega arith), le-leb a (100 * c) (omega arith), ne-eqb n 0 (λ z. omega arith), m)
-      (ap Units (nearest-same (a * 65536) c n 1 C (lit< tt) (omega arith) ∙ nearest-whole n))
+      (ap Units (nearest-same (a * onePercent) c n 1 C (lit< tt) (omega arith) ∙ nearest-whole n))
 
   back : levelIn a c ≡ Units (returned n)
-  back = by-eq n 0 (λ z t. zero-back z) (λ z t. by-lt n 65536 (λ l u. low-back (omega arith) l) (λ l u. high-back l))
+  back = by-eq n 0 (λ z t. zero-back z) (λ z t. by-lt n leastLevel (λ l u. low-back (omega arith) l) (λ l u. high-back l))
 
-value-back : (x : Float) (n : ℕ) → n ≤ 6553600 → HasValue x false n 65536 → levelOf x ≡ Units (returned n)
+value-back : (x : Float) (n : ℕ) → n ≤ greatestLevel → HasValue x false n onePercent → levelOf x ≡ Units (returned n)
 unfolding levelOf
 value-back nan n h v = absurd v
 value-back (inf s) n h v = absurd v
 value-back (fin true m e) n h v = absurd (true≢false (v .0))
 value-back (fin false m e) n h v = back (m * up e) (down e) n (down-pos e) h (v .1)
 
-pub round-trip : (n : ℕ) → n ≤ 6553600 → levelOf (realOf n) ≡ Units (returned n)
+pub round-trip : (n : ℕ) → n ≤ greatestLevel → levelOf (realOf n) ≡ Units (returned n)
 round-trip n h = value-back (realOf n) n h (exact n h)
 
 -- "Only 1 to 65,535 .. do not return when written"
-pub comes-back : (n : ℕ) → n ≤ 6553600 → 65536 * min 1 n ≤ n → levelOf (realOf n) ≡ Units n
+pub comes-back : (n : ℕ) → n ≤ greatestLevel → leastLevel * min 1 n ≤ n → levelOf (realOf n) ≡ Units n
 unfolding if_then_else_
 comes-back n h l =
     round-trip n h
     ∙ ap Units (by-eq n 0 (λ z t. rw t (sym z)) (λ z t. rw t (omega arith)))
 
-pub is-raised : (n : ℕ) → 0 < n → n < 65536 → levelOf (realOf n) ≡ Units 65536
+pub is-raised : (n : ℕ) → 0 < n → n < leastLevel → levelOf (realOf n) ≡ Units leastLevel
 unfolding if_then_else_
 is-raised n p l = round-trip n (omega arith) ∙ ap Units (rw (ne-eqb n 0 (λ z. omega arith)) (omega arith))
 
 -- ---- the same by way of the bits: what `readOut` gives at a level is the pattern of the REAL equal to it
 pub read-real : (n : ℕ) → real (bits (realOf n)) ≡ realOf n
 unfolding real bits realOf
-read-real n = ofBits-toBits binary32 (round binary32 false n 65536) (round-fits binary32 false n 65536)
+read-real n = ofBits-toBits binary32 (round binary32 false n onePercent) (round-fits binary32 false n onePercent)
 
-pub read-out : (n : ℕ) → n ≤ 6553600 → readOut n ≡ bits (realOf n)
+pub read-out : (n : ℕ) → n ≤ greatestLevel → readOut n ≡ bits (realOf n)
 unfolding readOut
-read-out n h = let e : min n 6553600 ≡ n = omega arith in rw e
+read-out n h = let e : min n greatestLevel ≡ n = omega arith in rw e
 
-pub read-exact : (n : ℕ) → n ≤ 6553600 → HasValue (real (readOut n)) false n 65536
+pub read-exact : (n : ℕ) → n ≤ greatestLevel → HasValue (real (readOut n)) false n onePercent
 read-exact n h = rw (read-out n h, read-real n) (exact n h)
 
-pub written-back : (n : ℕ) → n ≤ 6553600 → 65536 * min 1 n ≤ n → levelOf (real (readOut n)) ≡ Units n
+pub written-back : (n : ℕ) → n ≤ greatestLevel → leastLevel * min 1 n ≤ n → levelOf (real (readOut n)) ≡ Units n
 written-back n h l = rw (read-out n h, read-real n) (comes-back n h l)
 
-pub written-raised : (n : ℕ) → 0 < n → n < 65536 → levelOf (real (readOut n)) ≡ Units 65536
+pub written-raised : (n : ℕ) → 0 < n → n < leastLevel → levelOf (real (readOut n)) ≡ Units leastLevel
 written-raised n p l = rw (read-out n (omega arith), read-real n) (is-raised n p l)

@@ -18,6 +18,7 @@ use Rattle.lighting.specs.declared.Activity.the-variants.{Still, Moving,
 use Rattle.lighting.specs.declared.Output.{Output}
 use Rattle.lighting.proofs.Split.{by-eq, by-lt, by-le}
 use Rattle.lighting.proofs.Facts.{Settled, Moves, Acts}
+use Rattle.lighting.specs.Level.{greatestLevel, leastAmount}
 
 -- BROUGHT INTO Min..Max: at most Max, and once is enough
 pub brought-most : (c : Settings) (v : ℕ) → brought c v ≤ c .max
@@ -73,7 +74,7 @@ progress-most t o h = go (o .activity) h
     go (Warned w) a = unfold progressBy in present
 
 -- A RAMP'S LENGTH, at a rate from 0.125 percent a second on
-pub ramp-span : (d r : ℕ) → 0 < d → d ≤ 6553600 → 8192 ≤ r → (1 ≤ rampLength d r) × (rampLength d r ≤ standard .longestMovement)
+pub ramp-span : (d r : ℕ) → 0 < d → d ≤ greatestLevel → leastAmount ≤ r → (1 ≤ rampLength d r) × (rampLength d r ≤ standard .longestMovement)
 unfolding rampLength
 ramp-span d r p h k = (
   by-lt

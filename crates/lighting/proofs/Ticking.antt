@@ -17,7 +17,7 @@ use Rattle.lighting.specs.declared.Activity.the-variants.{Still, Moving,
 use Rattle.lighting.specs.declared.Timer.{Timer}
 use Rattle.lighting.specs.declared.Timer.the-variants.{Off, Running}
 use Rattle.lighting.specs.declared.Output.{Output}
-use Rattle.lighting.specs.Slots.{Slots, lives, emptied}
+use Rattle.lighting.specs.Slots.{slot6, Slots, lives, emptied}
 use Rattle.lighting.proofs.Winner.{winner-empty, topmost-empty, six-kept, six-set}
 use Rattle.lighting.specs.Value.{presentValue}
 use Rattle.lighting.specs.Passing.{withBurning, burned, timerDue, phaseEnd, activityDue, isDue, timerAt, emptiedBy, expired, disowned, disownedBy, released, delayed, nextPhase, nextActivity, activityAt, phaseSlots, nextSlots, slotsAt, settled, fire, tick, ticks, top, advance}
@@ -40,7 +40,7 @@ disowned-acts t c s q (Moving m) g f h =
     let k = six-kept s (f .size) q none (g .inside) (g .free) in
     by-eq (m .owner) q (λ p e. rw e (k ∙ h .six)) (λ p e. rw e (goes-on p k))
   where
-    goes-on : m .owner ≢ q → lives (emptied s q) 5 ≡ lives s 5 → Moves t c (emptied s q) m
+    goes-on : m .owner ≢ q → lives (emptied s q) slot6 ≡ lives s slot6 → Moves t c (emptied s q) m
     goes-on n k =
         let w = winner-empty s (f .size) q (g .inside) (omega (arith, h .wins)) in
         let p = topmost-empty s (f .size) (c .default) q (g .inside) (omega (arith, h .wins)) in
@@ -59,7 +59,7 @@ expired-effect t d c s m a k f h =
         (record { slots = put-filled s q none f (k .0 .inside) tt; activity = disowned-acts t c s q a (k .0) f h })
 
 -- THE WARNING AND THE MOVEMENT
-phase-effect : (t : ℕ) (c : Settings) (s : Slots) (w : Warning) (p : Phase) → Filled s → lives s 5 ≡ true → Within 6 15 (w .owner)
+phase-effect : (t : ℕ) (c : Settings) (s : Slots) (w : Warning) (p : Phase) → Filled s → lives s slot6 ≡ true → Within 6 15 (w .owner)
     → IsLevel (w .level) → phaseEnd w p ≡ t → Effect t c (phaseSlots w p s) (nextPhase w p)
 unfolding phaseSlots nextPhase delayed phaseEnd if_then_else_
 phase-effect t c s w Blink f l x y h =
@@ -68,13 +68,13 @@ phase-effect t c s w Blink f l x y h =
     (w .over)
     (λ q e. rw e
     (let k = six-set s (f .size) (some (w .level)) in
-    record { slots = put-filled s 5 (some (w .level)) f (omega arith) y; activity = search arith }))
-    (λ q e. rw e (record { slots = put-filled s 5 none f (omega arith) tt; activity = six-set s (f .size) none }))
+    record { slots = put-filled s slot6 (some (w .level)) f (omega arith) y; activity = search arith }))
+    (λ q e. rw e (record { slots = put-filled s slot6 none f (omega arith) tt; activity = six-set s (f .size) none }))
 phase-effect t c s w Delay f l x y h =
-    let f₁ = put-filled s 5 none f (omega arith) tt in
+    let f₁ = put-filled s slot6 none f (omega arith) tt in
     record {
-      slots = put-filled (emptied s 5) (w .owner) none f₁ (omega (arith, x)) tt;
-      activity = six-kept (emptied s 5) (f₁ .size) (w .owner) none (omega (arith, x)) (omega (arith, x)) ∙ six-set s (f .size) none;
+      slots = put-filled (emptied s slot6) (w .owner) none f₁ (omega (arith, x)) tt;
+      activity = six-kept (emptied s slot6) (f₁ .size) (w .owner) none (omega (arith, x)) (omega (arith, x)) ∙ six-set s (f .size) none;
     }
 
 next-effect : (t : ℕ) (c : Settings) (s : Slots) (a : Activity) → Filled s → Acts t c s a

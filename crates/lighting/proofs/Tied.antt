@@ -16,7 +16,7 @@ use Rattle.lighting.specs.declared.Activity.the-variants.{Still, Moving,
 use Rattle.lighting.specs.declared.Timer.{Timer}
 use Rattle.lighting.specs.declared.Timer.the-variants.{Off, Running}
 use Rattle.lighting.specs.declared.Output.{Output}
-use Rattle.lighting.specs.Slots.{Slots, lives, winner, slot}
+use Rattle.lighting.specs.Slots.{slotCount, slot6, Slots, lives, winner, slot}
 use Rattle.lighting.proofs.Mask.{slot-is}
 use Rattle.lighting.specs.Value.{presentValue}
 use Rattle.lighting.specs.Passing.{top, timerDue, activityDue, ticks, advance}
@@ -27,6 +27,7 @@ use Rattle.lighting.specs.Rules.{isLevel, levelsSound, timesSound, reals
 use Rattle.lighting.specs.declared.Range.{Range}
 use Rattle.lighting.specs.declared.Range.the-variants.{Percent, Limit, Amount, Whole, Priority, ReadOnly}
 use Rattle.lighting.proofs.Facts.{IsLevel, Within, Slot, Meets, Settled, SlotLevel, Filled, Moves, Acts, Timed, Sound}
+use Rattle.lighting.specs.Level.{leastLevel, greatestLevel}
 
 -- FROM THE TEST TO THE FACTS
 pub within-of : (low high v : ℕ) → within low high v ≡ true → Within low high v
@@ -36,7 +37,7 @@ within-of low high v h = search parts
 pub level-of : (v : ℕ) → isLevel v ≡ true → IsLevel v
 unfolding isLevel if_then_else_
 level-of v h =
-    by-eq v 0 (λ p e. omega arith) (λ p e. let w = within-of 65536 6553600 v (rw e at h) in omega arith)
+    by-eq v 0 (λ p e. omega arith) (λ p e. let w = within-of leastLevel greatestLevel v (rw e at h) in omega arith)
 
 pub slot-of : (i : ℕ) → isSlot i ≡ true → Slot i
 unfolding isSlot if_then_else_
@@ -46,7 +47,7 @@ slot-of i h =
 pub meets-of : (r : Range) (v : ℕ) → meets r v ≡ true → Meets r v
 unfolding meets
 meets-of Percent v h = level-of v h
-meets-of Limit v h = within-of 65536 6553600 v h
+meets-of Limit v h = within-of leastLevel greatestLevel v h
 meets-of Amount v h = h
 meets-of (Whole low high) v h = within-of low high v h
 meets-of Priority v h = slot-of v h
@@ -56,24 +57,24 @@ settled-of : (c : Settings) → settingsSound standard c ≡ true → Settled c
 unfolding settingsSound levelsSound timesSound realsSound meets
 settled-of c h = search (parts, within-of, level-of, slot-of)
 
-filled-of : (s : Slots) → length (s .levels) ≡ 16 → slotsSoundFrom s 0 ≡ true → Filled s
+filled-of : (s : Slots) → length (s .levels) ≡ slotCount → slotsSoundFrom s 0 ≡ true → Filled s
 unfolding slotsSoundFrom
 filled-of s size h =
     record { size = size; level = λ i k. at i k (all-each (slotSound s) 16 0 i h (omega arith) (omega arith)) }
   where
-    at : (i : ℕ) → i < 16 → slotSound s i ≡ true → SlotLevel (slot s i)
+    at : (i : ℕ) → i < slotCount → slotSound s i ≡ true → SlotLevel (slot s i)
     at i k e =
         rw (slot-is s i (omega arith)) (unfold slotSound if_then_else_ in
         (by-bool (lives s i) (λ p. rw p (level-of (getD (s .levels) i 0) (rw p at e))) (λ p. rw p tt)))
 
-moves-of : (t : ℕ) (c : Settings) (s : Slots) (m : Movement) → lives s 5 ≡ false
+moves-of : (t : ℕ) (c : Settings) (s : Slots) (m : Movement) → lives s slot6 ≡ false
     → movementSound standard t (winner s) (c .max) (presentValue c s) m ≡ true → Moves t c s m
 unfolding movementSound spanSound
 moves-of t c s m l h = search (parts, within-of) depth 8
 
 acts-of : (t : ℕ) (c : Settings) (s : Slots) (a : Activity) → activitySound standard t c s a ≡ true → Acts t c s a
 unfolding activitySound activityBy warningSound warningBy
-acts-of t c s Still h = not-true (lives s 5) h
+acts-of t c s Still h = not-true (lives s slot6) h
 acts-of t c s (Moving m) h = moves-of t c s m (unless h .0) (unless h .1)
 acts-of t c s (Warned w) h = search (parts, within-of, level-of)
 
@@ -82,7 +83,7 @@ unfolding timerSound
 timed-of t Off h = tt
 timed-of t (Running slot due) h = search (parts, slot-of)
 
-pub sound-facts : (t : ℕ) (o : Output) → length (o .slots .levels) ≡ 16 → sound standard t o ≡ true → Sound t o
+pub sound-facts : (t : ℕ) (o : Output) → length (o .slots .levels) ≡ slotCount → sound standard t o ≡ true → Sound t o
 unfolding sound
 sound-facts t o size h = search (parts, settled-of, filled-of, acts-of, timed-of)
 
@@ -94,7 +95,7 @@ within-yes low high v h = search tests
 level-yes : (v : ℕ) → IsLevel v → isLevel v ≡ true
 unfolding isLevel if_then_else_
 level-yes v h =
-    by-eq v 0 (λ p e. rw e) (λ p e. rw e (within-yes 65536 6553600 v (omega arith)))
+    by-eq v 0 (λ p e. rw e) (λ p e. rw e (within-yes leastLevel greatestLevel v (omega arith)))
 
 slot-yes : (i : ℕ) → Slot i → isSlot i ≡ true
 unfolding isSlot if_then_else_
@@ -108,7 +109,7 @@ filled-yes : (s : Slots) → Filled s → slotsSoundFrom s 0 ≡ true
 unfolding slotsSoundFrom
 filled-yes s h = each-all (slotSound s) 16 0 (λ i p k. at i (omega arith) (h .level i (omega arith)))
   where
-    at : (i : ℕ) → i < 16 → SlotLevel (slot s i) → slotSound s i ≡ true
+    at : (i : ℕ) → i < slotCount → SlotLevel (slot s i) → slotSound s i ≡ true
     at i k l = unfold slotSound if_then_else_ in
         (by-bool
         (lives s i)
@@ -165,6 +166,6 @@ unfolding ticks
 tested-stays t o m h = advance-ticks t t o (omega arith) m (tested-calm t o h) ∙ rw (sub-self t)
 
 -- hops equal ticks, of a record that passed the test
-pub sound-advance : (now to : ℕ) (o : Output) → length (o .slots .levels) ≡ 16 → sound standard now o ≡ true → now ≤ to → to ≤ top
+pub sound-advance : (now to : ℕ) (o : Output) → length (o .slots .levels) ≡ slotCount → sound standard now o ≡ true → now ≤ to → to ≤ top
     → advance now to o ≡ ticks (to - now) now o
 sound-advance now to o size h l m = advance-ticks now to o l m (sound-calm now o (sound-facts now o size h))

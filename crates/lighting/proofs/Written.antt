@@ -12,7 +12,7 @@ use Rattle.lighting.specs.declared.Movement.{Movement}
 use Rattle.lighting.specs.declared.Activity.{Activity}
 use Rattle.lighting.specs.declared.Activity.the-variants.{Still, Moving, Warned}
 use Rattle.lighting.specs.declared.Output.{Output}
-use Rattle.lighting.specs.Slots.{Slots, lives, winner, topmost, put, emptied, filled}
+use Rattle.lighting.specs.Slots.{slotCount, slot6, Slots, lives, winner, topmost, put, emptied, filled}
 use Rattle.lighting.proofs.Winner.{winner-over, topmost-over, winner-dead, topmost-dead, six-kept, six-set}
 use Rattle.lighting.specs.Value.{presentValue}
 use Rattle.lighting.proofs.Facts.{IsLevel, Within, Slot, SlotLevel, Filled, Moves, Acts, Sound}
@@ -27,11 +27,11 @@ effect-sound t o s a h f k = search
 
 -- A MOVEMENT whose owner stays the winner goes on
 pub kept-moving : (t : ℕ) (c : Settings) (s s′ : Slots) (m : Movement) → Moves t c s m
-    → lives s′ 5 ≡ lives s 5 → winner s′ ≡ winner s → topmost (c .default) s′ ≡ topmost (c .default) s → Moves t c s′ m
+    → lives s′ slot6 ≡ lives s slot6 → winner s′ ≡ winner s → topmost (c .default) s′ ≡ topmost (c .default) s → Moves t c s′ m
 unfolding presentValue
 kept-moving t c s s′ m h p q r = search arith
 
-module _ (t : ℕ) (c : Settings) (s : Slots) (size : length (s .levels) ≡ 16) (i : ℕ) (slot : Slot i) where
+module _ (t : ℕ) (c : Settings) (s : Slots) (size : length (s .levels) ≡ slotCount) (i : ℕ) (slot : Slot i) where
   -- slot i gets x: with a slot above the winner all goes on
   pub moving-over : (x : Option ℕ) (m : Movement) → winner s < i → Moves t c s m → Moves t c (put s i x) m
   moving-over x m l h =
@@ -78,7 +78,7 @@ first-level : (c : Settings) (y : ℕ) → IsLevel y → IsLevel (firstLevel c y
 unfolding firstLevel if_then_else_
 first-level c y l = by-eq (c .blink) 0 (λ p e. rw e l) (λ p e. rw e level-zero)
 
-first-acts : (t : ℕ) (c : Settings) (s : Slots) (x y : ℕ) → Slot x → 5 < x → 0 < c .blink + c .delay → IsLevel y → lives s 5 ≡ true
+first-acts : (t : ℕ) (c : Settings) (s : Slots) (x y : ℕ) → Slot x → 5 < x → 0 < c .blink + c .delay → IsLevel y → lives s slot6 ≡ true
     → Acts t c s (Warned (warningFrom t c x y))
 unfolding warningFrom firstPhase phaseEnd if_then_else_
 first-acts t c s x y g l b v k =
@@ -101,12 +101,12 @@ warns-facts c s x h = search parts
 
 -- DURING A WARNING
 ended-sound : (t : ℕ) (o : Output) (i : ℕ) (x : Option ℕ) → Slot i → SlotLevel x → Sound t o
-    → Sound t (withEffect o (put (emptied (o .slots) 5) i x) Still)
+    → Sound t (withEffect o (put (emptied (o .slots) slot6) i x) Still)
 ended-sound t o i x g l h =
-    let f = put-filled (o .slots) 5 none (h .slots) (omega arith) tt in
+    let f = put-filled (o .slots) slot6 none (h .slots) (omega arith) tt in
     effect-sound t o _ _ h
-    (put-filled (emptied (o .slots) 5) i x f (g .inside) l)
-    (six-kept (emptied (o .slots) 5) (f .size) i x (g .inside) (g .free) ∙ six-set (o .slots) (h .slots .size) none)
+    (put-filled (emptied (o .slots) slot6) i x f (g .inside) l)
+    (six-kept (emptied (o .slots) slot6) (f .size) i x (g .inside) (g .free) ∙ six-set (o .slots) (h .slots .size) none)
 
 warned-written : (t : ℕ) (o : Output) (i v : ℕ) → Slot i → IsLevel v → Sound t o → Sound t (writtenWarned o i v)
 unfolding writtenWarned endedEmpty endedStored if_then_else_

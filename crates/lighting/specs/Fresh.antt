@@ -1,7 +1,8 @@
 -- 'An output's record': a fresh output and a fresh station. Assumes nothing.
 use mathlib.Core.Bool.{false}
 use lib.ListN.{replicate}
-use Rattle.lighting.specs.Level.{real}
+use Rattle.lighting.specs.Level.{leastLevel, greatestLevel, real}
+use Rattle.lighting.specs.Slots.{slotCount, slot16}
 use Rattle.lighting.specs.Kinds.{longestFrame}
 use Rattle.lighting.specs.declared.Settings.{Settings}
 use Rattle.lighting.specs.declared.Activity.the-variants.{Still}
@@ -23,9 +24,9 @@ freshSettings =
       enable = false;
       blink = 0;
       delay = 0;
-      min = 65536;
-      max = 6553600;
-      slot = 15;
+      min = leastLevel;
+      max = greatestLevel;
+      slot = slot16;
     }
 
 -- 'A fresh record has no live slot, last operation STOP without duration, burning time 0'
@@ -33,7 +34,7 @@ unfoldable pub freshOutput : Output
 freshOutput =
     record {
       settings = freshSettings;
-      slots = record { live = 0; levels = replicate 16 0 };
+      slots = record { live = 0; levels = replicate slotCount 0 };
       activity = Still;
       timer = Off;
       burning = 0;

@@ -10,6 +10,20 @@ use Rattle.lighting.specs.declared.Level.the-variants.{Units, OutOfRange
 use Rattle.lighting.specs.declared.Operand.{Operand}
 use Rattle.lighting.specs.declared.Operand.the-variants.{Taken, Unfit}
 
+-- 'a whole number of 1/65,536 percent': the units of one percent, which is the least level above 0, and of 100 percent, the greatest
+abbrev pub onePercent : ℕ
+onePercent = 65536
+
+abbrev pub leastLevel : ℕ
+leastLevel = onePercent
+
+abbrev pub greatestLevel : ℕ
+greatestLevel = 6553600
+
+-- and of 0.125 percent, the least rate or step
+abbrev pub leastAmount : ℕ
+leastAmount = 8192
+
 -- 'The base is [..] IEEE 754 binary32 for REAL': a REAL's pattern, read, and the pattern of a REAL
 unfoldable pub real : ℕ → Float
 real b = ofBits binary32 b
@@ -30,7 +44,7 @@ nearestTo a c = rule (a / c) (compare (a % c * 2) c)
 
 -- 'a whole number of 1/65,536 percent': a / c percent in units
 abbrev pub unitsIn : ℕ → ℕ → ℕ
-unitsIn a c = nearestTo (a * 65536) c
+unitsIn a c = nearestTo (a * onePercent) c
 
 -- a / c from k eighths to 100, in units
 abbrev pub fromTo : ℕ → ℕ → ℕ → Level
@@ -38,7 +52,7 @@ fromTo k a c = if leb (k * c) (a * 8) also leb a (100 * c) then Units (unitsIn a
 
 -- 'A REAL from 0 to 100 becomes the nearest unit [..]; above 0 and below 1 it becomes 65,536'
 abbrev pub levelIn : ℕ → ℕ → Level
-levelIn a c = if eqb a 0 then Units 0 else if ltb a c then Units 65536 else fromTo 8 a c
+levelIn a c = if eqb a 0 then Units 0 else if ltb a c then Units leastLevel else fromTo 8 a c
 
 -- 'Minus zero is 0. NaN, infinities, negatives and values above 100 are refused.'
 unfoldable pub levelOf : Float → Level
@@ -50,11 +64,11 @@ levelOf (fin false m e) = levelIn (m * up e) (down e)
 -- 'A level is read out as one division by 65,536': the REAL nearest to n / 65,536. Of a level it is n / 65,536 itself (proofs/Readout.antt,
 -- `exact`)
 unfoldable pub realOf : ℕ → Float
-realOf n = round binary32 false n 65536
+realOf n = round binary32 false n onePercent
 
 -- a level as it is read. No level is above 6,553,600; above that, which no record that meets the rules shows, 100 percent stands
 unfoldable pub readOut : ℕ → ℕ
-readOut n = bits (realOf (min n 6553600))
+readOut n = bits (realOf (min n greatestLevel))
 
 -- a REAL from k eighths to 100, in units
 unfoldable pub realFromTo : ℕ → Float → Level
@@ -85,7 +99,7 @@ unitsOr d OutOfRange = d
 -- A rate or a step that is kept as a REAL, in units. It is asked of settings that meet the rules and of commands that were taken: none has one
 -- out of range, for which the least stands
 unfoldable pub amountUnits : Float → ℕ
-amountUnits x = unitsOr 8192 (amountOf x)
+amountUnits x = unitsOr leastAmount (amountOf x)
 
 -- a command's level that is kept as a REAL, in units. No command taken holds one out of range
 unfoldable pub levelUnits : Float → ℕ

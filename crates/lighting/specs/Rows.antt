@@ -6,8 +6,8 @@ use lib.Dec.{ltb, leb, eqb}
 use lib.Ieee.{Float}
 use Rattle.lighting.specs.Choice.{if_then_else_, _also_}
 use Rattle.lighting.specs.Parameters.{Parameters}
-use Rattle.lighting.specs.Level.{real, inRange, amountOf}
-use Rattle.lighting.specs.Slots.{slot6}
+use Rattle.lighting.specs.Level.{leastLevel, greatestLevel, real, inRange, amountOf}
+use Rattle.lighting.specs.Slots.{slotCount, slot6}
 use Rattle.lighting.specs.declared.Property.{Property}
 use Rattle.lighting.specs.declared.Property.the-variants.{RelinquishDefault, FadeTime, RampRate, StepIncrement, BlinkEnable, BlinkTime, BlinkWarnDelay, MinValue, MaxValue, CommandPriority, ElapsedActiveTime, PresentValue, ProgressValue, InProcess, LastOperation, LastLevel, LastRate, LastStep, LastFadeTime, LastDuration, SlotValue, Unknown}
 use Rattle.lighting.specs.declared.Range.{Range}
@@ -45,7 +45,7 @@ within low high v = leb low v also leb v high
 
 -- 'slot levels and Relinquish_Default 0 or 65,536 to 6,553,600'
 unfoldable pub isLevel : ℕ → Bool
-isLevel v = if eqb v 0 then true else within 65536 6553600 v
+isLevel v = if eqb v 0 then true else within leastLevel greatestLevel v
 
 -- 'REAL 0.125 to 100'
 unfoldable pub isAmount : Float → Bool
@@ -53,7 +53,7 @@ isAmount x = inRange (amountOf x)
 
 -- a slot that a frame may name, counted from 0: any of the sixteen but slot 6; and its priority: not '0, 6 or over 16'
 unfoldable pub isSlot : ℕ → Bool
-isSlot i = if eqb i slot6 then false else ltb i 16
+isSlot i = if eqb i slot6 then false else ltb i slotCount
 
 unfoldable pub isPriority : ℕ → Bool
 isPriority n = if eqb n 0 then false else isSlot (n - 1)
@@ -61,7 +61,7 @@ isPriority n = if eqb n 0 then false else isSlot (n - 1)
 -- WHAT IS KEPT meets its row: v a level in units, a REAL's pattern, the number itself or the slot
 unfoldable pub meets : Range → ℕ → Bool
 meets Percent v = isLevel v
-meets Limit v = within 65536 6553600 v
+meets Limit v = within leastLevel greatestLevel v
 meets Amount v = isAmount (real v)
 meets (Whole low high) v = within low high v
 meets Priority v = isSlot v

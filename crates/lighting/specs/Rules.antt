@@ -1,12 +1,12 @@
 -- 'Record rules', as the test that the engine makes on every lent record. Slots are counted from 0: 7 to 16 are 6 to 15. Assumes nothing.
 use mathlib.Core.Bool.{Bool, true, false, not}
-use Prim.Native.Nat.{ℕ, _-_}
+use Prim.Native.Nat.{ℕ, _+_, _-_}
 use lib.Dec.{ltb, leb, eqb}
 use lib.ListN.{getD}
 use Rattle.lighting.specs.Choice.{if_then_else_, _also_, allFrom}
 use Rattle.lighting.specs.Parameters.{Parameters}
 use Rattle.lighting.specs.Field.{byteAt}
-use Rattle.lighting.specs.Slots.{Slots, slot6, lives, winner}
+use Rattle.lighting.specs.Slots.{Slots, slotCount, slot16, slot6, lives, winner}
 use Rattle.lighting.specs.Value.{presentValue}
 use Rattle.lighting.specs.Passing.{phaseEnd}
 unfoldable pub use Rattle.lighting.specs.Rows.{isLevel, isAmount}
@@ -47,7 +47,7 @@ unfoldable pub slotSound : Slots → ℕ → Bool
 slotSound s i = if lives s i then isLevel (getD (s .levels) i 0) else true
 
 unfoldable pub slotsSoundFrom : Slots → ℕ → Bool
-slotsSoundFrom s i = allFrom (slotSound s) (16 - i) i
+slotsSoundFrom s i = allFrom (slotSound s) (slotCount - i) i
 
 -- 'began no later than panel time' (what is left of it is not longer than it lasts), 'lasts 1 to 86,400,000 ms', 'every due moment is
 -- after panel time'
@@ -57,12 +57,12 @@ spanSound p t m = ltb t (m .over) also leb (m .over - t) (m .length) also within
 -- 'a movement belongs to the winner' w, 'starts from 0 to Max, aims at Present_Value' v
 unfoldable pub movementSound : Parameters → ℕ → ℕ → ℕ → ℕ → Movement → Bool
 movementSound p t w high v m =
-    ltb (m .owner) 16 also eqb (m .owner) w also leb (m .start) high also eqb (m .target) v also spanSound p t m
+    ltb (m .owner) slotCount also eqb (m .owner) w also leb (m .start) high also eqb (m .target) v also spanSound p t m
 
 -- 'a warning, whose own slot is 7 to 16 and whose Y is a slot level'. Its end is not before that of its phase, here e, so that both are after
 -- panel time and stay so. In Delay the turn is past, and no due moment
 unfoldable pub warningBy : ℕ → Warning → ℕ → Bool
-warningBy t w e = within 6 15 (w .owner) also isLevel (w .level) also ltb t e also leb e (w .over)
+warningBy t w e = within (slot6 + 1) slot16 (w .owner) also isLevel (w .level) also ltb t e also leb e (w .over)
 
 unfoldable pub warningSound : ℕ → Warning → Bool
 warningSound t w = warningBy t w (phaseEnd w (w .phase))

@@ -10,7 +10,13 @@ use lib.ListN.{set, getD}
 use Rattle.lighting.specs.Choice.{if_then_else_}
 pub use Rattle.lighting.specs.declared.Slots.{Slots}
 
--- slot 6, which is a warning's
+-- sixteen slots; the last is slot 16, and slot 6 is a warning's
+abbrev pub slotCount : ℕ
+slotCount = 16
+
+abbrev pub slot16 : ℕ
+slot16 = 15
+
 abbrev pub slot6 : ℕ
 slot6 = 5
 
@@ -43,13 +49,13 @@ lives s i = eqb (s .live / 2 ^ i % 2) 1
 -- bit i cleared and set; a level put in its place. There is no slot from 16 on: the guard stands for records that break
 -- the rules (proofs/Mask.antt, `put-slots`)
 unfoldable pub maskEmptied : ℕ → ℕ → ℕ
-maskEmptied m i = if ltb i 16 then bitAnd m (65535 - 2 ^ i) else m
+maskEmptied m i = if ltb i slotCount then bitAnd m (65535 - 2 ^ i) else m
 
 unfoldable pub maskFilled : ℕ → ℕ → ℕ
-maskFilled m i = if ltb i 16 then bitOr m (2 ^ i) else m
+maskFilled m i = if ltb i slotCount then bitOr m (2 ^ i) else m
 
 unfoldable pub levelSet : List ℕ → ℕ → ℕ → List ℕ
-levelSet l i v = if ltb i 16 then set l i v else l
+levelSet l i v = if ltb i slotCount then set l i v else l
 
 -- slot i emptied, its level 0 then; or filled
 unfoldable pub put : Slots → ℕ → Option ℕ → Slots
@@ -64,7 +70,7 @@ filled s i v = put s i (some v)
 
 -- the level of slot i, or d where there is no such slot; and of the winner, or d with no live slot
 unfoldable pub levelAt : ℕ → Slots → ℕ → ℕ
-levelAt d s i = if ltb i 16 then getD (s .levels) i 0 else d
+levelAt d s i = if ltb i slotCount then getD (s .levels) i 0 else d
 
 unfoldable pub topmost : ℕ → Slots → ℕ
 topmost d s = levelAt d s (winner s)

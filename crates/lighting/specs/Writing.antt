@@ -11,7 +11,7 @@ use Rattle.lighting.specs.declared.Warning.{Warning}
 use Rattle.lighting.specs.declared.Activity.{Activity}
 use Rattle.lighting.specs.declared.Activity.the-variants.{Still, Moving, Warned}
 use Rattle.lighting.specs.declared.Output.{Output}
-use Rattle.lighting.specs.Slots.{Slots, slot6, lives, winner, emptied, filled}
+use Rattle.lighting.specs.Slots.{Slots, slotCount, slot6, lives, winner, emptied, filled}
 use Rattle.lighting.specs.Value.{presentValue}
 unfoldable pub use Rattle.lighting.specs.Record.{withEffect}
 
@@ -30,7 +30,7 @@ unfoldable pub dark : Slots → ℕ → Bool
 dark s i = if lives s i then eqb (getD (s .levels) i 0) 0 else true
 
 unfoldable pub darkFrom : Slots → ℕ → Bool
-darkFrom s i = allFrom (dark s) (16 - i) i
+darkFrom s i = allFrom (dark s) (slotCount - i) i
 
 -- 'if Blink_Enable is 1, Blink_Time B plus delay D is above 0'
 unfoldable pub blinks : Settings → Bool
