@@ -1,13 +1,12 @@
 -- The table of properties at a number that a match has found. Assumes nothing.
 use mathlib.Core.Path.{_≡_, refl}
 use mathlib.Core.List.{List, [], _∷_}
-use Prim.Native.Nat.{ℕ, zero, suc, _≤_, _<_, _-_}
+use Prim.Native.Nat.{ℕ, _≤_, _<_, _-_}
 use native.Mathlib.Omega.{arith}
-use lib.ListN.{getD, length}
-use Rattle.lighting.specs.Properties.{properties, propertyOf}
+use Rattle.lighting.specs.Properties.{properties, numberOf, numbered, propertyOf}
 use Rattle.lighting.specs.declared.Property.{Property}
 use Rattle.lighting.specs.declared.Property.the-variants.{SlotValue, Unknown}
-use Rattle.lighting.proofs.Choosing.{if-le, if-nle}
+use Rattle.lighting.proofs.Choosing.{if-le, if-nle, if-ne}
 
 -- a key k
 pub propertyOf-on : (n k : ℕ) (r : Property) → n ≡ k → r ≡ propertyOf k → r ≡ propertyOf n
@@ -18,24 +17,20 @@ pub propertyOf-slot : (n : ℕ) → 33 ≤ n → n ≤ 48 → SlotValue (n - 33)
 unfolding propertyOf
 propertyOf-slot n low high = if-le _ _ _ _ _ low (if-le _ _ _ _ _ high refl)
 
--- none of the keys below k, in which an `omega` would meet a split for each
-abbrev pub Missed : ℕ → ℕ → Type 0
-Missed n zero = Unit {0}
-Missed n (suc k) = Missed n k × (n ≡ k → ⊥)
+-- a number that is none of a table's
+abbrev pub Missed : List Property → ℕ → Type 0
+Missed [] n = Unit {0}
+Missed (x ∷ l) n = (n ≡ numberOf x → ⊥) × Missed l n
 
-pub missed : (n k : ℕ) → Missed n k → k ≤ n
-missed n zero h = omega arith
-missed n (suc k) h = omega (arith, missed n k (h .0), h .1)
-
--- between the two parts of the table, and above both
-past : (l : List Property) (n : ℕ) → length l ≤ n → Unknown ≡ getD l n Unknown
+past : (l : List Property) (n : ℕ) → Missed l n → Unknown ≡ numbered l n
+unfolding numbered
 past [] n h = refl
-past (x ∷ l) zero h = absurd (omega arith)
-past (x ∷ l) (suc n) h = past l n (omega arith)
+past (x ∷ l) n h = if-ne _ _ _ _ _ (h .0) (past l n (h .1))
 
-pub propertyOf-between : (n : ℕ) → 21 ≤ n → n < 33 → Unknown ≡ propertyOf n
+-- below the slots, and above
+pub propertyOf-none : (n : ℕ) → Missed properties n → n < 33 → Unknown ≡ propertyOf n
 unfolding propertyOf
-propertyOf-between n low high = if-nle _ _ _ _ _ high (past properties n low)
+propertyOf-none n h high = if-nle _ _ _ _ _ high (past properties n h)
 
 pub propertyOf-above : (n : ℕ) → 48 < n → Unknown ≡ propertyOf n
 unfolding propertyOf
