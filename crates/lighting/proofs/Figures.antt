@@ -15,7 +15,7 @@ use Rattle.lighting.specs.Passing.{glowing, burned, timerAt, expired, di
 use Rattle.lighting.specs.Writing.{passedOver, stored, dark, darkFrom, blinks, darkAbove, warnsBy, warns, firstLevel, firstPhase, warnedBy, warned, endedEmpty, endedStored, writtenWarned, writtenZero, writtenCalm, writtenBy, written, vacatedActivity, vacated}
 use Rattle.lighting.specs.Commands.{unwarned, unwarnedActivity, replaced, placed, movement, rampLength, target, fadedOver, fadedTo, rampedAt, rampedTo, jumped, wentTo, stepUpFrom, stepDownFrom, steppedUp, steppedDown, raised, halted, stopped, relinquished, effect, timed, commandedFrom, commanded}
 use Rattle.lighting.specs.Rows.{within, isLevel, isAmount, isSlot, isPriority, meets, meetsReal}
-use Rattle.lighting.specs.Properties.{numberOf, numbered, propertyOf, same, changeTo, changeBy, changeOf, settingsWith, unmoved, activityWith, burningWith, changed, minOverMax, levelAnswer, slotAnswer, flag, elapsedActive, operationNumber, realAnswer, lastLevel, lastRate, lastStep, lastFadeTime, lastDuration, shown}
+use Rattle.lighting.specs.Properties.{numbered, propertyOf, same, changeTo, changeBy, changeOf, settingsWith, unmoved, activityWith, burningWith, changed, minOverMax, levelAnswer, slotAnswer, flag, elapsedActive, operationNumber, realAnswer, lastLevel, lastRate, lastStep, lastFadeTime, lastDuration, shown}
 use Rattle.lighting.specs.Fresh.{freshSettings, freshOutput, freshStation}
 use Rattle.lighting.specs.Answers.{refusalOf, levelAnswered}
 use Rattle.lighting.specs.Field.{byteAt, bigEndian}
@@ -27,14 +27,14 @@ use Rattle.lighting.specs.Panel.{every, countsSound, panelSound, padded,
 use Rattle.lighting.specs.Worked.{octets, frames, expected}
 
 pub figures : given ≡ said
-unfolding bitAnd bitOr ofBits if_then_else_ allFrom real bits levelOf realOf readOut realFromTo amountOf limitOf inRange unitsOr amountUnits levelUnits levelOperand amountOperand view slotsOf firstLive winner lives maskEmptied maskFilled levelSet put levelAt topmost brought presentValue lit gone reachedBy reached progressBy progressValue inProcess withBurning withEffect withCommand withSettings glowing burned timerAt expired disowned released activityAt slotsAt settled fire tick ticks timerDue activityDue due gained hop hops advance later passedOver stored dark darkFrom blinks darkAbove warnsBy warns firstLevel firstPhase warnedBy warned endedEmpty endedStored writtenWarned writtenZero writtenCalm writtenBy written vacatedActivity vacated unwarned unwarnedActivity replaced placed movement rampLength target fadedOver fadedTo rampedAt rampedTo jumped wentTo stepUpFrom stepDownFrom steppedUp steppedDown raised halted stopped relinquished effect timed commandedFrom commanded within isLevel isAmount isSlot isPriority meets meetsReal numberOf numbered propertyOf same changeTo changeBy changeOf settingsWith unmoved activityWith burningWith changed minOverMax levelAnswer slotAnswer flag elapsedActive operationNumber realAnswer lastLevel lastRate lastStep lastFadeTime lastDuration shown freshSettings freshOutput freshStation refusalOf levelAnswered
+unfolding bitAnd bitOr ofBits if_then_else_ allFrom real bits levelOf realOf readOut realFromTo amountOf limitOf inRange unitsOr amountUnits levelUnits levelOperand amountOperand view slotsOf firstLive winner lives maskEmptied maskFilled levelSet put levelAt topmost brought presentValue lit gone reachedBy reached progressBy progressValue inProcess withBurning withEffect withCommand withSettings glowing burned timerAt expired disowned released activityAt slotsAt settled fire tick ticks timerDue activityDue due gained hop hops advance later passedOver stored dark darkFrom blinks darkAbove warnsBy warns firstLevel firstPhase warnedBy warned endedEmpty endedStored writtenWarned writtenZero writtenCalm writtenBy written vacatedActivity vacated unwarned unwarnedActivity replaced placed movement rampLength target fadedOver fadedTo rampedAt rampedTo jumped wentTo stepUpFrom stepDownFrom steppedUp steppedDown raised halted stopped relinquished effect timed commandedFrom commanded within isLevel isAmount isSlot isPriority meets meetsReal numbered propertyOf same changeTo changeBy changeOf settingsWith unmoved activityWith burningWith changed minOverMax levelAnswer slotAnswer flag elapsedActive operationNumber realAnswer lastLevel lastRate lastStep lastFadeTime lastDuration shown freshSettings freshOutput freshStation refusalOf levelAnswered
 figures = refl
 
 pub traps : trapsGiven ≡ trapsSaid
-unfolding bitAnd bitOr ofBits if_then_else_ allFrom real bits levelOf realOf readOut realFromTo amountOf limitOf inRange unitsOr amountUnits levelUnits levelOperand amountOperand view slotsOf firstLive winner lives maskEmptied maskFilled levelSet put levelAt topmost brought presentValue lit gone reachedBy reached progressBy progressValue inProcess withBurning withEffect withCommand withSettings glowing burned timerAt expired disowned released activityAt slotsAt settled fire tick ticks timerDue activityDue due gained hop hops advance later passedOver stored dark darkFrom blinks darkAbove warnsBy warns firstLevel firstPhase warnedBy warned endedEmpty endedStored writtenWarned writtenZero writtenCalm writtenBy written vacatedActivity vacated unwarned unwarnedActivity replaced placed movement rampLength target fadedOver fadedTo rampedAt rampedTo jumped wentTo stepUpFrom stepDownFrom steppedUp steppedDown raised halted stopped relinquished effect timed commandedFrom commanded within isLevel isAmount isSlot isPriority meets meetsReal numberOf numbered propertyOf same changeTo changeBy changeOf settingsWith unmoved activityWith burningWith changed minOverMax levelAnswer slotAnswer flag elapsedActive operationNumber realAnswer lastLevel lastRate lastStep lastFadeTime lastDuration shown freshSettings freshOutput freshStation refusalOf levelAnswered
+unfolding bitAnd bitOr ofBits if_then_else_ allFrom real bits levelOf realOf readOut realFromTo amountOf limitOf inRange unitsOr amountUnits levelUnits levelOperand amountOperand view slotsOf firstLive winner lives maskEmptied maskFilled levelSet put levelAt topmost brought presentValue lit gone reachedBy reached progressBy progressValue inProcess withBurning withEffect withCommand withSettings glowing burned timerAt expired disowned released activityAt slotsAt settled fire tick ticks timerDue activityDue due gained hop hops advance later passedOver stored dark darkFrom blinks darkAbove warnsBy warns firstLevel firstPhase warnedBy warned endedEmpty endedStored writtenWarned writtenZero writtenCalm writtenBy written vacatedActivity vacated unwarned unwarnedActivity replaced placed movement rampLength target fadedOver fadedTo rampedAt rampedTo jumped wentTo stepUpFrom stepDownFrom steppedUp steppedDown raised halted stopped relinquished effect timed commandedFrom commanded within isLevel isAmount isSlot isPriority meets meetsReal numbered propertyOf same changeTo changeBy changeOf settingsWith unmoved activityWith burningWith changed minOverMax levelAnswer slotAnswer flag elapsedActive operationNumber realAnswer lastLevel lastRate lastStep lastFadeTime lastDuration shown freshSettings freshOutput freshStation refusalOf levelAnswered
 traps = refl
 
 -- two outputs, freshly started
 pub worked : answers standard (freshPanel 2 8) frames ≡ expected
-unfolding bitAnd bitOr ofBits toBits round answers if_then_else_ allFrom real bits levelOf realOf readOut realFromTo amountOf limitOf inRange unitsOr amountUnits levelUnits levelOperand amountOperand view slotsOf firstLive winner lives maskEmptied maskFilled levelSet put levelAt topmost brought presentValue lit gone reachedBy reached progressBy progressValue inProcess withBurning withEffect withCommand withSettings glowing burned timerAt expired disowned released activityAt slotsAt settled fire tick ticks timerDue activityDue due gained hop hops advance later passedOver stored dark darkFrom blinks darkAbove warnsBy warns firstLevel firstPhase warnedBy warned endedEmpty endedStored writtenWarned writtenZero writtenCalm writtenBy written vacatedActivity vacated unwarned unwarnedActivity replaced placed movement rampLength target fadedOver fadedTo rampedAt rampedTo jumped wentTo stepUpFrom stepDownFrom steppedUp steppedDown raised halted stopped relinquished effect timed commandedFrom commanded within isLevel isAmount isSlot isPriority meets meetsReal numberOf numbered propertyOf same changeTo changeBy changeOf settingsWith unmoved activityWith burningWith changed minOverMax levelAnswer slotAnswer flag elapsedActive operationNumber realAnswer lastLevel lastRate lastStep lastFadeTime lastDuration shown freshSettings freshOutput freshStation refusalOf levelAnswered byteAt bigEndian commandLength kindLength ordered operationWith orderedWith fadeOrder rampOrderAt rampOrder stepOrLevel orderOf writeLevel writeOf emptyOf requestBy requestOf callOf calledBy called clockOf parseBy parse levelsSound timesSound realsSound settingsSound slotSound slotsSoundFrom spanSound movementSound blinkSound delaySound activityBy activitySound timerSound sound isCall stationSound made left changedUnless acted served sameBytes copyOr6 every countsSound panelSound padded restored metNumber met stationOf metBy decide carried framed freshPanel started octets
+unfolding bitAnd bitOr ofBits toBits round answers if_then_else_ allFrom real bits levelOf realOf readOut realFromTo amountOf limitOf inRange unitsOr amountUnits levelUnits levelOperand amountOperand view slotsOf firstLive winner lives maskEmptied maskFilled levelSet put levelAt topmost brought presentValue lit gone reachedBy reached progressBy progressValue inProcess withBurning withEffect withCommand withSettings glowing burned timerAt expired disowned released activityAt slotsAt settled fire tick ticks timerDue activityDue due gained hop hops advance later passedOver stored dark darkFrom blinks darkAbove warnsBy warns firstLevel firstPhase warnedBy warned endedEmpty endedStored writtenWarned writtenZero writtenCalm writtenBy written vacatedActivity vacated unwarned unwarnedActivity replaced placed movement rampLength target fadedOver fadedTo rampedAt rampedTo jumped wentTo stepUpFrom stepDownFrom steppedUp steppedDown raised halted stopped relinquished effect timed commandedFrom commanded within isLevel isAmount isSlot isPriority meets meetsReal numbered propertyOf same changeTo changeBy changeOf settingsWith unmoved activityWith burningWith changed minOverMax levelAnswer slotAnswer flag elapsedActive operationNumber realAnswer lastLevel lastRate lastStep lastFadeTime lastDuration shown freshSettings freshOutput freshStation refusalOf levelAnswered byteAt bigEndian commandLength kindLength ordered operationWith orderedWith fadeOrder rampOrderAt rampOrder stepOrLevel orderOf writeLevel writeOf emptyOf requestBy requestOf callOf calledBy called clockOf parseBy parse levelsSound timesSound realsSound settingsSound slotSound slotsSoundFrom spanSound movementSound blinkSound delaySound activityBy activitySound timerSound sound isCall stationSound made left changedUnless acted served sameBytes copyOr6 every countsSound panelSound padded restored metNumber met stationOf metBy decide carried framed freshPanel started octets
 worked = refl

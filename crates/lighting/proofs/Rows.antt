@@ -47,7 +47,7 @@ change-good n x = row-good (rowOf standard n) n x (λ v m. m)
 
 -- THE SAME PROPERTY has the same row: the number says which it is
 row-number : (n : Property) → rowOf standard (propertyOf (numberOf n)) ≡ rowOf standard n
-unfolding propertyOf numbered numberOf if_then_else_
+unfolding propertyOf numbered if_then_else_
 row-number RelinquishDefault = refl
 row-number FadeTime = refl
 row-number RampRate = refl

@@ -34,7 +34,7 @@ use Rattle.lighting.specs.declared.Request.{Request}
 use Rattle.lighting.specs.declared.Request.the-variants.{Refuse, Change}
 
 -- THE TABLE: each property's number; 00 is none
-unfoldable pub numberOf : Property → ℕ
+abbrev pub numberOf : Property → ℕ
 numberOf Unknown = 0
 numberOf RelinquishDefault = 0x01
 numberOf FadeTime = 0x02
