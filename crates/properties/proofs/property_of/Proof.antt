@@ -1,6 +1,7 @@
+use mathlib.Core.Path.{refl}
 use native.Mathlib.Omega.{arith}
 use Rattle.lighting.specs.Choice.{if_then_else_}
-use Rattle.properties.proofs.Keys.{propertyOf-on, propertyOf-slot, propertyOf-none, propertyOf-above}
+use Rattle.properties.proofs.Keys.{below, propertyOf-on, propertyOf-slot, propertyOf-none, propertyOf-above}
 use borrow.Author.Needs.{needs}
 use Rattle.lighting.specs.Properties.{numbered, propertyOf}
 use Rattle.properties.proofs.property_of.Statement.{statement}
@@ -96,7 +97,8 @@ returns-22 : tie.Need-returns-22
 returns-22 c = propertyOf-slot _ (omega arith) (omega arith)
 
 returns-23 : tie.Need-returns-23
-returns-23 c = propertyOf-none _ (search needs) (search needs)
+unfolding if_then_else_
+returns-23 c = propertyOf-none _ (below 21) refl (search needs) (search needs)
 
 returns-24 : tie.Need-returns-24
 returns-24 c = propertyOf-above _ (omega arith)
