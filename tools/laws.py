@@ -9,7 +9,7 @@ import sys
 # definitions that no code implements
 WITHOUT_CODE = {'Plain', 'Demand'}
 # those that code implements and that unfold everywhere
-OPEN = {'rowOf'}
+OPEN = {'rowOf', 'numberOf'}
 OUT = 'crates/lighting/proofs/Laws.antt'
 
 laws, names, definitions, types = [], [], {}, {}

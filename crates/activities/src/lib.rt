@@ -5,6 +5,9 @@ ghost use Rattle.lighting.specs.Parameters.{standard};
 ghost use Rattle.lighting.specs.Rules.{spanSound, movementSound, warningBy, warningSound, activityBy, timerSound};
 use lighting::Activity;
 use lighting::Movement;
+use lighting::NO_SLOT;
+use lighting::SLOT_6;
+use lighting::SLOT_16;
 use lighting::Timer;
 use lighting::Warning;
 use ranges::is_slot;
@@ -29,7 +32,7 @@ fn span_sound(t: u64, m: Movement) -> bool
 fn movement_sound(t: u64, w: u32, high: u32, v: u32, m: Movement) -> bool
     ensures { λ r. ⌜ r ≡ movementSound standard t w high v m ⌝ }
 {
-    if m.owner < 16 {
+    if m.owner < NO_SLOT {
         if m.owner as u32 == w {
             if m.start <= high {
                 if m.target == v {
@@ -52,7 +55,7 @@ fn movement_sound(t: u64, w: u32, high: u32, v: u32, m: Movement) -> bool
 fn warning_by(t: u64, w: Warning, e: u64) -> bool
     ensures { λ r. ⌜ r ≡ warningBy t w e ⌝ }
 {
-    if is_within(6, 15, w.owner as u32) {
+    if is_within(SLOT_6 as u32 + 1, SLOT_16 as u32, w.owner as u32) {
         if ranges::is_level(w.level) {
             if t < e { e <= w.over } else { false }
         } else {

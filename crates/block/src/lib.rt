@@ -2,7 +2,9 @@
 ghost use Prim.Native.Nat.{_+_, _<_};
 ghost use Rattle.printing.specs.Page.{Wrote};
 ghost use Rattle.block.specs.Block.{levelField, slotLevel, slotField, slotFields, hexField, answerField, propertyField, propertyFields, numberLine, slotsLine, presentLine, progressLine, processLine, settingsLine, lastLine, block};
+ghost use Rattle.lighting.specs.Slots.{slotCount};
 use lighting::Answer;
+use lighting::NO_SLOT;
 use lighting::Output;
 use lighting::Slots;
 use printing::put;
@@ -36,11 +38,11 @@ fn put_slot_field(page: &mut [u8], at: usize, s: Slots, i: u8) -> usize
 }
 
 fn put_slot_fields(page: &mut [u8], at: usize, s: Slots) -> usize
-    ensures { λ r. ⌜ Wrote (now (page .entry)) at (slotFields s 16) (now (page .exit)) r ⌝ }
+    ensures { λ r. ⌜ Wrote (now (page .entry)) at (slotFields s slotCount) (now (page .exit)) r ⌝ }
 {
     let mut mark = at;
     let mut i: u8 = 0;
-    while i < 16 {
+    while i < NO_SLOT {
         mark = put_slot_field(page, mark, s, i);
         i += 1;
     }

@@ -9,6 +9,7 @@ use lighting::Command;
 use lighting::Effect;
 use lighting::Operation;
 use lighting::Output;
+use lighting::SLOT_6;
 use lighting::Settings;
 use lighting::Slots;
 
@@ -20,7 +21,7 @@ fn end_warning(s: Slots, a: Activity) -> Slots
     match a {
         Activity::Still => s,
         Activity::Moving(_) => s,
-        Activity::Warned(_) => slots::empty(s, 5),
+        Activity::Warned(_) => slots::empty(s, SLOT_6),
     }
 }
 

@@ -1,11 +1,12 @@
 // What falls due on an output at one moment: a duration, a phase of a warning, the end of a movement. By value, and on any record at all.
 ghost use mathlib.Core.Path.{_≡_};
-ghost use Rattle.lighting.specs.Slots.{emptied};
+ghost use Rattle.lighting.specs.Slots.{slot6, emptied};
 ghost use Rattle.lighting.specs.Passing.{timerDue, phaseEnd, activityDue, isDue, timerAt, emptiedBy, expired, disowned, disownedBy, released, delayed, nextPhase, nextActivity, activityAt, phaseSlots, nextSlots, slotsAt, settled, fire};
 use lighting::Activity;
 use lighting::Moment;
 use lighting::Output;
 use lighting::Phase;
+use lighting::SLOT_6;
 use lighting::Slots;
 use lighting::Timer;
 use lighting::Warning;
@@ -173,9 +174,9 @@ fn activity_at(t: u64, a: Activity) -> Activity
 
 // The end of a warning with a delay: slot 6 and the warning's own slot empty.
 fn warning_empty(s: Slots, i: u8) -> Slots
-    ensures { λ r. ⌜ r ≡ emptied (emptied s 5) i ⌝ }
+    ensures { λ r. ⌜ r ≡ emptied (emptied s slot6) i ⌝ }
 {
-    slots::empty(slots::empty(s, 5), i)
+    slots::empty(slots::empty(s, SLOT_6), i)
 }
 
 fn phase_slots(w: Warning, p: Phase, s: Slots) -> Slots
@@ -183,9 +184,9 @@ fn phase_slots(w: Warning, p: Phase, s: Slots) -> Slots
 {
     match p {
         Phase::Blink => if w.turn < w.over {
-            slots::fill(s, 5, w.level)
+            slots::fill(s, SLOT_6, w.level)
         } else {
-            slots::empty(s, 5)
+            slots::empty(s, SLOT_6)
         },
         Phase::Delay => warning_empty(s, w.owner),
     }

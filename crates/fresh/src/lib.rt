@@ -5,9 +5,13 @@ use lighting::Activity;
 use lighting::Answer;
 use lighting::Command;
 use lighting::Duration;
+use lighting::GREATEST_LEVEL;
+use lighting::LEAST_LEVEL;
 use lighting::LONGEST_FRAME;
 use lighting::Operation;
 use lighting::Output;
+use lighting::SLOT_16;
+use lighting::SLOTS;
 use lighting::Settings;
 use lighting::Slots;
 use lighting::Station;
@@ -24,9 +28,9 @@ fn fresh_settings() -> Settings
         enable: false,
         blink: 0,
         delay: 0,
-        min: 65536,
-        max: 6553600,
-        slot: 15,
+        min: LEAST_LEVEL,
+        max: GREATEST_LEVEL,
+        slot: SLOT_16,
     }
 }
 
@@ -34,7 +38,7 @@ fn fresh_settings() -> Settings
 pub fn fresh_output() -> Output
     ensures { λ r. ⌜ r ≡ freshOutput ⌝ }
 {
-    let levels = [0; 16];
+    let levels = [0; SLOTS];
     let slots = Slots {
         live: 0,
         levels: levels,

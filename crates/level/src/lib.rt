@@ -2,7 +2,9 @@
 ghost use mathlib.Core.Path.{_≡_};
 ghost use Prim.Native.Nat.{_≤_, _<_, _^_, min};
 ghost use lib.Ieee.{binary32, nanBits, isNan};
-ghost use Rattle.lighting.specs.Level.{real, bits, nearestTo, amountOf, limitOf, levelOf, inRange, unitsOr, amountUnits, levelUnits, operandBy, amountOperand, realOf, readOut};
+ghost use Rattle.lighting.specs.Level.{greatestLevel, leastAmount, real, bits, nearestTo, amountOf, limitOf, levelOf, inRange, unitsOr, amountUnits, levelUnits, operandBy, amountOperand, realOf, readOut};
+use lighting::GREATEST_LEVEL;
+use lighting::LEAST_LEVEL;
 use lighting::Level;
 use lighting::Operand;
 
@@ -85,7 +87,7 @@ pub fn level_of_real(x: f32) -> Level
     }
     if x > 0.0 {
         if x < 1.0 {
-            return Level::Units(65536);
+            return Level::Units(LEAST_LEVEL);
         }
         return limit_of_real(x);
     }
@@ -133,7 +135,7 @@ pub fn units_or(otherwise: u32, level: Level) -> u32
 // A rate or a step that is kept as a REAL: from 0.125 to 100 percent, whatever the REAL, so that a division by it is safe.
 pub fn amount_units(x: f32) -> u32
     ensures { λ r. ⌜ r ≡ amountUnits x ⌝ }
-    ensures { λ r. ⌜ (8192 ≤ r) × (r ≤ 6553600) ⌝ }
+    ensures { λ r. ⌜ (leastAmount ≤ r) × (r ≤ greatestLevel) ⌝ }
 {
     units_or(8192, amount_of_real(x))
 }
@@ -141,7 +143,7 @@ pub fn amount_units(x: f32) -> u32
 // A command's level that is kept as a REAL.
 pub fn level_units(x: f32) -> u32
     ensures { λ r. ⌜ r ≡ levelUnits x ⌝ }
-    ensures { λ r. ⌜ r ≤ 6553600 ⌝ }
+    ensures { λ r. ⌜ r ≤ greatestLevel ⌝ }
 {
     units_or(0, level_of_real(x))
 }
@@ -166,14 +168,18 @@ pub fn amount_operand(pattern: u32) -> Operand
 
 // No level is above 6,553,600.
 fn capped(level: u32) -> u32
-    ensures { λ r. ⌜ r ≡ min level 6553600 ⌝ }
+    ensures { λ r. ⌜ r ≡ min level greatestLevel ⌝ }
 {
-    if level < 6553600 { level } else { 6553600 }
+    if level < GREATEST_LEVEL {
+        level
+    } else {
+        GREATEST_LEVEL
+    }
 }
 
 // One division by a power of two, which is exact.
 fn real_of(level: u32) -> f32
-    requires { ⌜ level ≤ 6553600 ⌝ }
+    requires { ⌜ level ≤ greatestLevel ⌝ }
     ensures { λ r. ⌜ r ≡ realOf level ⌝ }
 {
     (level as f32) / 65536.0

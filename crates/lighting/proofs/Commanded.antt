@@ -11,6 +11,8 @@ use Rattle.lighting.specs.Choice.{if_then_else_}
 use Rattle.lighting.specs.Level.{levelUnits, amountUnits}
 use Rattle.lighting.specs.Slots.{slot6, Slots, lives, winner, put, filled}
 use Rattle.lighting.specs.Value.{brought, presentValue, progressValue}
+use Rattle.lighting.specs.Rows.{rowOf}
+use Rattle.lighting.specs.declared.Property.the-variants.{FadeTime}
 use Rattle.lighting.specs.Commands.{unwarned, unwarnedActivity, replaced, placed, movement, apart, rampLength, target, fadedOver, fadedTo, rampedAt, rampedTo, jumped, wentTo, stepUpFrom, stepDownFrom, steppedUp, steppedDown, raised, halted, stopped, relinquished, effect, timed, withCommand, commandedFrom, commanded}
 use Rattle.lighting.specs.declared.Settings.{Settings}
 use Rattle.lighting.specs.declared.Pace.{Pace}
@@ -28,7 +30,7 @@ use Rattle.lighting.specs.declared.Output.{Output}
 use Rattle.lighting.proofs.Split.{by-eq, by-le}
 use Rattle.lighting.proofs.Ranges.{amount-range}
 use Rattle.lighting.proofs.Winner.{winner-filled, topmost-filled, six-kept, six-set}
-use Rattle.lighting.proofs.Facts.{IsLevel, Within, Slot, Settled, Filled, Acts, Timed, Sound}
+use Rattle.lighting.proofs.Facts.{IsLevel, Within, Slot, Meets, Settled, Filled, Acts, Timed, Sound}
 use Rattle.lighting.proofs.Levels.{level-zero, brought-level, put-filled}
 use Rattle.lighting.proofs.Shown.{brought-most, brought-brought, progress-most, ramp-span}
 use Rattle.lighting.proofs.Ticking.{disowned-acts}
@@ -181,7 +183,7 @@ module _ (t : ℕ) (c : Settings) (k : Settled c) (s : Slots) (f : Filled s) (a 
       by-eq b 0 (λ p e. rw e level-zero)
       (λ p e. rw e (record { least = omega (arith, k .min, k .order); most = omega (arith, k .max) }))
 
-  faded-staged : (b l : ℕ) (x : Float) → b ≤ c .max → Within 100 (standard .longestFade) l → Staged t c (fadedTo t c b s a x l)
+  faded-staged : (b l : ℕ) (x : Float) → b ≤ c .max → Meets (rowOf standard FadeTime) l → Staged t c (fadedTo t c b s a x l)
   unfolding fadedTo fadedOver
   faded-staged b l x m w =
       moved-staged b (target c x) l Fade m (target-level x) (target-same x) (λ n. record { least = omega (arith, w .least); most = w .most })

@@ -16,7 +16,7 @@ use Rattle.lighting.specs.Writing.{passedOver, stored, dark, darkFrom, b
 use Rattle.lighting.specs.Operations.{operationNumber, fieldsOf}
 use Rattle.lighting.specs.Commands.{unwarned, unwarnedActivity, replaced, placed, movement, rampLength, target, fadedOver, fadedTo, rampedAt, rampedTo, jumped, wentTo, stepUpFrom, stepDownFrom, steppedUp, steppedDown, raised, halted, stopped, relinquished, effect, timed, commandedFrom, commanded}
 use Rattle.lighting.specs.Rows.{within, isLevel, isAmount, isSlot, isPriority, meets, meetsReal}
-use Rattle.lighting.specs.Properties.{propertyOf, numberOf, same, changeTo, changeBy, changeOf, settingsWith, unmoved, activityWith, burningWith, changed, minOverMax, levelAnswer, slotAnswer, flag, elapsedActive, realAnswer, realFieldAnswer, timeFieldAnswer, lastDuration, shown}
+use Rattle.lighting.specs.Properties.{numbered, propertyOf, same, changeTo, changeBy, changeOf, settingsWith, unmoved, activityWith, burningWith, changed, minOverMax, levelAnswer, slotAnswer, flag, elapsedActive, realAnswer, realFieldAnswer, timeFieldAnswer, lastDuration, shown}
 use Rattle.lighting.specs.Fresh.{freshSettings, freshOutput, freshStation}
 use Rattle.lighting.specs.Answers.{answerBytes, levelAnswered}
 use Rattle.lighting.specs.Field.{byteAt, bigEndian, octets}
@@ -29,14 +29,14 @@ use Rattle.lighting.specs.Panel.{every, countsSound, panelSound, padded,
 use Rattle.lighting.specs.Worked.{frames, expected}
 
 pub figures : given ≡ said
-unfolding bitAnd bitOr ofBits if_then_else_ allFrom real bits levelOf realOf readOut realFromTo amountOf limitOf inRange unitsOr amountUnits levelUnits amountOperand view slotsOf firstLive winner lives maskEmptied maskFilled levelSet put levelAt topmost brought presentValue lit gone reachedBy reached progressBy progressValue inProcess withBurning withEffect withCommand withSettings glowing burned timerDue phaseEnd activityDue isDue timerAt emptiedBy expired disowned disownedBy released delayed nextPhase nextActivity activityAt phaseSlots nextSlots slotsAt settled fire tick ticks sooner due gained hop hops advance later passedOver stored dark darkFrom blinks darkAbove warnsBy warns firstLevel firstPhase warningFrom warnedBy warned endedEmpty endedStored writtenWarned writtenZero writtenCalm writtenBy written vacatedActivity vacated operationNumber fieldsOf unwarned unwarnedActivity replaced placed movement rampLength target fadedOver fadedTo rampedAt rampedTo jumped wentTo stepUpFrom stepDownFrom steppedUp steppedDown raised halted stopped relinquished effect timed commandedFrom commanded within isLevel isAmount isSlot isPriority meets meetsReal propertyOf numberOf same changeTo changeBy changeOf settingsWith unmoved activityWith burningWith changed minOverMax levelAnswer slotAnswer flag elapsedActive realAnswer realFieldAnswer timeFieldAnswer lastDuration shown freshSettings freshOutput freshStation answerBytes levelAnswered
+unfolding bitAnd bitOr ofBits if_then_else_ allFrom real bits levelOf realOf readOut realFromTo amountOf limitOf inRange unitsOr amountUnits levelUnits amountOperand view slotsOf firstLive winner lives maskEmptied maskFilled levelSet put levelAt topmost brought presentValue lit gone reachedBy reached progressBy progressValue inProcess withBurning withEffect withCommand withSettings glowing burned timerDue phaseEnd activityDue isDue timerAt emptiedBy expired disowned disownedBy released delayed nextPhase nextActivity activityAt phaseSlots nextSlots slotsAt settled fire tick ticks sooner due gained hop hops advance later passedOver stored dark darkFrom blinks darkAbove warnsBy warns firstLevel firstPhase warningFrom warnedBy warned endedEmpty endedStored writtenWarned writtenZero writtenCalm writtenBy written vacatedActivity vacated operationNumber fieldsOf unwarned unwarnedActivity replaced placed movement rampLength target fadedOver fadedTo rampedAt rampedTo jumped wentTo stepUpFrom stepDownFrom steppedUp steppedDown raised halted stopped relinquished effect timed commandedFrom commanded within isLevel isAmount isSlot isPriority meets meetsReal numbered propertyOf same changeTo changeBy changeOf settingsWith unmoved activityWith burningWith changed minOverMax levelAnswer slotAnswer flag elapsedActive realAnswer realFieldAnswer timeFieldAnswer lastDuration shown freshSettings freshOutput freshStation answerBytes levelAnswered
 figures = refl
 
 pub traps : trapsGiven ≡ trapsSaid
-unfolding bitAnd bitOr ofBits if_then_else_ allFrom real bits levelOf realOf readOut realFromTo amountOf limitOf inRange unitsOr amountUnits levelUnits amountOperand view slotsOf firstLive winner lives maskEmptied maskFilled levelSet put levelAt topmost brought presentValue lit gone reachedBy reached progressBy progressValue inProcess withBurning withEffect withCommand withSettings glowing burned timerDue phaseEnd activityDue isDue timerAt emptiedBy expired disowned disownedBy released delayed nextPhase nextActivity activityAt phaseSlots nextSlots slotsAt settled fire tick ticks sooner due gained hop hops advance later passedOver stored dark darkFrom blinks darkAbove warnsBy warns firstLevel firstPhase warningFrom warnedBy warned endedEmpty endedStored writtenWarned writtenZero writtenCalm writtenBy written vacatedActivity vacated operationNumber fieldsOf unwarned unwarnedActivity replaced placed movement rampLength target fadedOver fadedTo rampedAt rampedTo jumped wentTo stepUpFrom stepDownFrom steppedUp steppedDown raised halted stopped relinquished effect timed commandedFrom commanded within isLevel isAmount isSlot isPriority meets meetsReal propertyOf numberOf same changeTo changeBy changeOf settingsWith unmoved activityWith burningWith changed minOverMax levelAnswer slotAnswer flag elapsedActive realAnswer realFieldAnswer timeFieldAnswer lastDuration shown freshSettings freshOutput freshStation answerBytes levelAnswered
+unfolding bitAnd bitOr ofBits if_then_else_ allFrom real bits levelOf realOf readOut realFromTo amountOf limitOf inRange unitsOr amountUnits levelUnits amountOperand view slotsOf firstLive winner lives maskEmptied maskFilled levelSet put levelAt topmost brought presentValue lit gone reachedBy reached progressBy progressValue inProcess withBurning withEffect withCommand withSettings glowing burned timerDue phaseEnd activityDue isDue timerAt emptiedBy expired disowned disownedBy released delayed nextPhase nextActivity activityAt phaseSlots nextSlots slotsAt settled fire tick ticks sooner due gained hop hops advance later passedOver stored dark darkFrom blinks darkAbove warnsBy warns firstLevel firstPhase warningFrom warnedBy warned endedEmpty endedStored writtenWarned writtenZero writtenCalm writtenBy written vacatedActivity vacated operationNumber fieldsOf unwarned unwarnedActivity replaced placed movement rampLength target fadedOver fadedTo rampedAt rampedTo jumped wentTo stepUpFrom stepDownFrom steppedUp steppedDown raised halted stopped relinquished effect timed commandedFrom commanded within isLevel isAmount isSlot isPriority meets meetsReal numbered propertyOf same changeTo changeBy changeOf settingsWith unmoved activityWith burningWith changed minOverMax levelAnswer slotAnswer flag elapsedActive realAnswer realFieldAnswer timeFieldAnswer lastDuration shown freshSettings freshOutput freshStation answerBytes levelAnswered
 traps = refl
 
 -- two outputs, freshly started
 pub worked : answers standard (freshPanel 2 8) frames ≡ expected
-unfolding bitAnd bitOr ofBits toBits round answers if_then_else_ allFrom real bits levelOf realOf readOut realFromTo amountOf limitOf inRange unitsOr amountUnits levelUnits amountOperand view slotsOf firstLive winner lives maskEmptied maskFilled levelSet put levelAt topmost brought presentValue lit gone reachedBy reached progressBy progressValue inProcess withBurning withEffect withCommand withSettings glowing burned timerDue phaseEnd activityDue isDue timerAt emptiedBy expired disowned disownedBy released delayed nextPhase nextActivity activityAt phaseSlots nextSlots slotsAt settled fire tick ticks sooner due gained hop hops advance later passedOver stored dark darkFrom blinks darkAbove warnsBy warns firstLevel firstPhase warningFrom warnedBy warned endedEmpty endedStored writtenWarned writtenZero writtenCalm writtenBy written vacatedActivity vacated operationNumber fieldsOf unwarned unwarnedActivity replaced placed movement rampLength target fadedOver fadedTo rampedAt rampedTo jumped wentTo stepUpFrom stepDownFrom steppedUp steppedDown raised halted stopped relinquished effect timed commandedFrom commanded within isLevel isAmount isSlot isPriority meets meetsReal propertyOf numberOf same changeTo changeBy changeOf settingsWith unmoved activityWith burningWith changed minOverMax levelAnswer slotAnswer flag elapsedActive realAnswer realFieldAnswer timeFieldAnswer lastDuration shown freshSettings freshOutput freshStation answerBytes levelAnswered byteAt bigEndian octets kindRow kindLength callsBy isCall levelFieldRefusal amountFieldRefusal timeFieldRefusal firstRefusal fieldsRefusal lasting orderedBy ordered writeLevel writeOf emptyOf requestOf callOf called clockOf parseBy parse levelsSound timesSound realsSound settingsSound slotSound slotsSoundFrom spanSound movementSound warningBy warningSound activityBy activitySound timerSound sound stationSound made left changedUnless acted served sameBytes copyOr6 every countsSound panelSound padded restored metNumber met stationOf metBy decide carried framed freshPanel started
+unfolding bitAnd bitOr ofBits toBits round answers if_then_else_ allFrom real bits levelOf realOf readOut realFromTo amountOf limitOf inRange unitsOr amountUnits levelUnits amountOperand view slotsOf firstLive winner lives maskEmptied maskFilled levelSet put levelAt topmost brought presentValue lit gone reachedBy reached progressBy progressValue inProcess withBurning withEffect withCommand withSettings glowing burned timerDue phaseEnd activityDue isDue timerAt emptiedBy expired disowned disownedBy released delayed nextPhase nextActivity activityAt phaseSlots nextSlots slotsAt settled fire tick ticks sooner due gained hop hops advance later passedOver stored dark darkFrom blinks darkAbove warnsBy warns firstLevel firstPhase warningFrom warnedBy warned endedEmpty endedStored writtenWarned writtenZero writtenCalm writtenBy written vacatedActivity vacated operationNumber fieldsOf unwarned unwarnedActivity replaced placed movement rampLength target fadedOver fadedTo rampedAt rampedTo jumped wentTo stepUpFrom stepDownFrom steppedUp steppedDown raised halted stopped relinquished effect timed commandedFrom commanded within isLevel isAmount isSlot isPriority meets meetsReal numbered propertyOf same changeTo changeBy changeOf settingsWith unmoved activityWith burningWith changed minOverMax levelAnswer slotAnswer flag elapsedActive realAnswer realFieldAnswer timeFieldAnswer lastDuration shown freshSettings freshOutput freshStation answerBytes levelAnswered byteAt bigEndian octets kindRow kindLength callsBy isCall levelFieldRefusal amountFieldRefusal timeFieldRefusal firstRefusal fieldsRefusal lasting orderedBy ordered writeLevel writeOf emptyOf requestOf callOf called clockOf parseBy parse levelsSound timesSound realsSound settingsSound slotSound slotsSoundFrom spanSound movementSound warningBy warningSound activityBy activitySound timerSound sound stationSound made left changedUnless acted served sameBytes copyOr6 every countsSound panelSound padded restored metNumber met stationOf metBy decide carried framed freshPanel started
 worked = refl

@@ -8,7 +8,7 @@ use Rattle.lighting.specs.Choice.{if_then_else_}
 use Rattle.lighting.specs.Parameters.{standard}
 use Rattle.lighting.specs.Level.{real, levelOf, limitOf}
 use Rattle.lighting.specs.Rows.{rowOf, within, isAmount, isPriority}
-use Rattle.lighting.specs.Properties.{propertyOf, numberOf, same, changeTo, changeBy, changeOf}
+use Rattle.lighting.specs.Properties.{numberOf, numbered, propertyOf, same, changeTo, changeBy, changeOf}
 use Rattle.lighting.specs.declared.Level.{Level}
 use Rattle.lighting.specs.declared.Level.the-variants.{Units, OutOfRange}
 use Rattle.lighting.specs.declared.Property.{Property}
@@ -47,7 +47,7 @@ change-good n x = row-good (rowOf standard n) n x (λ v m. m)
 
 -- THE SAME PROPERTY has the same row: the number says which it is
 row-number : (n : Property) → rowOf standard (propertyOf (numberOf n)) ≡ rowOf standard n
-unfolding propertyOf numberOf if_then_else_
+unfolding propertyOf numbered if_then_else_
 row-number RelinquishDefault = refl
 row-number FadeTime = refl
 row-number RampRate = refl

@@ -4,7 +4,6 @@ use mathlib.Core.List.{List, [], _∷_}
 use Prim.Native.Nat.{ℕ, _+_, _-_, _/_, _%_, min}
 use lib.Dec.{ltb, leb, eqb}
 use lib.Ieee.{Float}
-use lib.ListN.{getD}
 use Rattle.lighting.specs.Choice.{if_then_else_}
 use Rattle.lighting.specs.Parameters.{Parameters}
 use Rattle.lighting.specs.Answers.{levelRefusal, operandRefusal}
@@ -37,39 +36,8 @@ use Rattle.lighting.specs.declared.Range.the-variants.{Percent, Limit, A
 use Rattle.lighting.specs.declared.Request.{Request}
 use Rattle.lighting.specs.declared.Request.the-variants.{Refuse, Change}
 
--- THE TABLE: properties 01 to 14, by number; 00 is none
-abbrev pub properties : List Property
-properties =
-    Unknown
-    ∷ RelinquishDefault
-    ∷ FadeTime
-    ∷ RampRate
-    ∷ StepIncrement
-    ∷ BlinkEnable
-    ∷ BlinkTime
-    ∷ BlinkWarnDelay
-    ∷ MinValue
-    ∷ MaxValue
-    ∷ CommandPriority
-    ∷ ElapsedActiveTime
-    ∷ PresentValue
-    ∷ ProgressValue
-    ∷ InProcess
-    ∷ LastOperation
-    ∷ LastLevel
-    ∷ LastRate
-    ∷ LastStep
-    ∷ LastFadeTime
-    ∷ LastDuration
-    ∷ []
-
--- and '21 to 30 slots 1 to 16'
-unfoldable pub propertyOf : ℕ → Property
-propertyOf n =
-    if leb 0x21 n then (if leb n 0x30 then SlotValue (n - 0x21) else Unknown) else getD properties n Unknown
-
--- each property's number; `same`: the one is the other
-unfoldable pub numberOf : Property → ℕ
+-- THE TABLE: each property's number; 00 is none
+abbrev pub numberOf : Property → ℕ
 numberOf Unknown = 0
 numberOf RelinquishDefault = 0x01
 numberOf FadeTime = 0x02
@@ -93,6 +61,40 @@ numberOf LastFadeTime = 0x13
 numberOf LastDuration = 0x14
 numberOf (SlotValue i) = 0x21 + i
 
+abbrev pub properties : List Property
+properties =
+    RelinquishDefault
+    ∷ FadeTime
+    ∷ RampRate
+    ∷ StepIncrement
+    ∷ BlinkEnable
+    ∷ BlinkTime
+    ∷ BlinkWarnDelay
+    ∷ MinValue
+    ∷ MaxValue
+    ∷ CommandPriority
+    ∷ ElapsedActiveTime
+    ∷ PresentValue
+    ∷ ProgressValue
+    ∷ InProcess
+    ∷ LastOperation
+    ∷ LastLevel
+    ∷ LastRate
+    ∷ LastStep
+    ∷ LastFadeTime
+    ∷ LastDuration
+    ∷ []
+
+-- the property of a number, '21 to 30 slots 1 to 16'
+unfoldable pub numbered : List Property → ℕ → Property
+numbered [] n = Unknown
+numbered (x ∷ l) n = if eqb n (numberOf x) then x else numbered l n
+
+unfoldable pub propertyOf : ℕ → Property
+propertyOf n =
+    if leb 0x21 n then (if leb n 0x30 then SlotValue (n - 0x21) else Unknown) else numbered properties n
+
+-- the one is the other
 unfoldable pub same : Property → Property → Bool
 same n m = eqb (numberOf n) (numberOf m)
 

@@ -2,12 +2,28 @@
 // Slots are counted from 0: priority p is slot p - 1, and the paper's slot 6 is 5. Levels are in units of 1/65,536 percent, times in
 // milliseconds.
 
+// ---- numbers by name; the definitions have the same (specs/Slots.antt, specs/Level.antt)
+
+// Sixteen slots: how many there are, and the first number that is no slot. Slot 6, which is a warning's, and slot 16, the last.
+pub const SLOTS: usize = 16;
+
+pub const NO_SLOT: u8 = 16;
+
+pub const SLOT_6: u8 = 5;
+
+pub const SLOT_16: u8 = 15;
+
+// One percent, which is the least level above 0, and 100 percent, in units.
+pub const LEAST_LEVEL: u32 = 65_536;
+
+pub const GREATEST_LEVEL: u32 = 6_553_600;
+
 // ---- an output's record
 
 // Sixteen bits say which slots are live, priority 1 being the lowest, beside the levels. An emptied slot's level is 0.
 pub struct Slots {
     pub live: u16,
-    pub levels: [u32; 16],
+    pub levels: [u32; SLOTS],
 }
 
 // The writable properties but Elapsed_Active_Time. Fields have names of one word: the definitions would have to put others between marks.

@@ -6,7 +6,11 @@ ghost use Prim.Native.Nat.{min};
 ghost use Rattle.lighting.specs.Parameters.{standard};
 ghost use Rattle.lighting.specs.Rows.{rowOf, within, isLevel, isSlot, isPriority, meets};
 ghost use Rattle.lighting.specs.declared.Property.the-variants.{FadeTime};
+use lighting::GREATEST_LEVEL;
+use lighting::LEAST_LEVEL;
+use lighting::NO_SLOT;
 use lighting::Property;
+use lighting::SLOT_6;
 
 // Both ends belong to the range.
 pub fn is_within(low: u32, high: u32, v: u32) -> bool
@@ -22,7 +26,7 @@ pub fn is_level(v: u32) -> bool
     if v == 0 {
         true
     } else {
-        is_within(65536, 6553600, v)
+        is_within(LEAST_LEVEL, GREATEST_LEVEL, v)
     }
 }
 
@@ -58,7 +62,11 @@ pub fn is_length(v: u32) -> bool
 pub fn is_slot(i: u32) -> bool
     ensures { λ r. ⌜ r ≡ isSlot i ⌝ }
 {
-    if i == 5 { false } else { i < 16 }
+    if i == SLOT_6 as u32 {
+        false
+    } else {
+        i < NO_SLOT as u32
+    }
 }
 
 // A priority is a slot's number counted from 1.

@@ -3,6 +3,8 @@ ghost use mathlib.Core.Path.{_≡_};
 ghost use Rattle.lighting.specs.Parameters.{standard};
 ghost use Rattle.lighting.specs.Level.{real};
 ghost use Rattle.lighting.specs.Rows.{rowOf, isAmount, meets, meetsReal};
+use lighting::GREATEST_LEVEL;
+use lighting::LEAST_LEVEL;
 use lighting::Property;
 use lighting::Range;
 
@@ -69,7 +71,7 @@ fn is_met(row: Range, v: u32) -> bool
 {
     match row {
         Range::Percent => super::is_level(v),
-        Range::Limit => super::is_within(65536, 6553600, v),
+        Range::Limit => super::is_within(LEAST_LEVEL, GREATEST_LEVEL, v),
         Range::Amount => is_amount_pattern(v),
         Range::Whole { low, high } => super::is_within(low, high, v),
         Range::Priority => super::is_slot(v),

@@ -7,9 +7,12 @@ ghost use lib.Dec.{ltb};
 ghost use Rattle.lighting.specs.Choice.{if_then_else_};
 ghost use Rattle.lighting.specs.Parameters.{standard};
 ghost use Rattle.lighting.specs.Rules.{levelsSound, timesSound, realsSound, settingsSound, slotsSoundFrom, activitySound, sound};
+ghost use Rattle.lighting.specs.Slots.{slotCount};
 use lighting::Activity;
+use lighting::NO_SLOT;
 use lighting::Output;
 use lighting::Property;
+use lighting::SLOT_6;
 use lighting::Settings;
 use lighting::Slots;
 use ranges::rows::fits;
@@ -83,9 +86,9 @@ fn settings_sound(c: Settings) -> bool
 
 // The first live slot from slot i on; a number from 16 on where none is live.
 fn live_from(live: u16, i: u32) -> u32
-    ensures { λ r. ⌜ r ≡ (if ltb i 16 then i + trailingZeros 16 (live / 2 ^ i) else i) ⌝ }
+    ensures { λ r. ⌜ r ≡ (if ltb i slotCount then i + trailingZeros slotCount (live / 2 ^ i) else i) ⌝ }
 {
-    if i < 16 {
+    if i < NO_SLOT as u32 {
         i + u16::trailing_zeros(live >> i)
     } else {
         i
@@ -99,7 +102,7 @@ fn live_sound(s: Slots) -> bool
     let live = s.live;
     let levels = s.levels;
     let mut i = live_from(live, 0);
-    while i < 16 {
+    while i < NO_SLOT as u32 {
         if !ranges::is_level(levels[wide_index(i)]) {
             return false;
         }
@@ -122,7 +125,7 @@ fn activity_sound(t: u64, c: Settings, s: Slots, a: Activity) -> bool
 {
     activities::activity_by(
         t,
-        slots::is_live(s, 5),
+        slots::is_live(s, SLOT_6),
         slots::winning(s),
         c.max,
         value::present_value(c, s),

@@ -3,7 +3,9 @@
 ghost use mathlib.Core.Path.{_≡_};
 ghost use Prim.Native.Nat.{_<_};
 ghost use lib.ListN.{getD};
-ghost use Rattle.lighting.specs.Slots.{winner, lives, maskEmptied, maskFilled, levelSet, emptied, filled, levelAt, topmost};
+ghost use Rattle.lighting.specs.Slots.{slotCount, winner, lives, maskEmptied, maskFilled, levelSet, emptied, filled, levelAt, topmost};
+use lighting::NO_SLOT;
+use lighting::SLOTS;
 use lighting::Slots;
 
 // The lowest bit set, or 16 with no live slot.
@@ -16,7 +18,7 @@ pub fn winning(s: Slots) -> u32
 pub fn is_live(s: Slots, i: u8) -> bool
     ensures { λ r. ⌜ r ≡ lives s i ⌝ }
 {
-    if i < 16 {
+    if i < NO_SLOT {
         s.live & (1u16 << i) != 0
     } else {
         false
@@ -26,20 +28,28 @@ pub fn is_live(s: Slots, i: u8) -> bool
 fn mask_empty(live: u16, i: u8) -> u16
     ensures { λ r. ⌜ r ≡ maskEmptied live i ⌝ }
 {
-    if i < 16 { live & !(1u16 << i) } else { live }
+    if i < NO_SLOT {
+        live & !(1u16 << i)
+    } else {
+        live
+    }
 }
 
 fn mask_fill(live: u16, i: u8) -> u16
     ensures { λ r. ⌜ r ≡ maskFilled live i ⌝ }
 {
-    if i < 16 { live | (1u16 << i) } else { live }
+    if i < NO_SLOT {
+        live | (1u16 << i)
+    } else {
+        live
+    }
 }
 
-fn level_set(levels: [u32; 16], i: u8, v: u32) -> [u32; 16]
+fn level_set(levels: [u32; SLOTS], i: u8, v: u32) -> [u32; SLOTS]
     ensures { λ r. ⌜ r ≡ levelSet levels i v ⌝ }
 {
     let mut l = levels;
-    if i < 16 {
+    if i < NO_SLOT {
         l[i as usize] = v;
     }
     l
@@ -68,7 +78,7 @@ pub fn fill(s: Slots, i: u8, v: u32) -> Slots
 
 // The level of slot i. The levels are copied alone, and only where one is looked up: a copy of all of the slots would put the levels askew.
 fn level_of(s: Slots, i: u32) -> u32
-    requires { ⌜ i < 16 ⌝ }
+    requires { ⌜ i < slotCount ⌝ }
     ensures { λ r. ⌜ r ≡ getD (s .levels) i 0 ⌝ }
 {
     let levels = s.levels;
@@ -79,7 +89,7 @@ fn level_of(s: Slots, i: u32) -> u32
 pub fn level_at(d: u32, s: Slots, i: u32) -> u32
     ensures { λ r. ⌜ r ≡ levelAt d s i ⌝ }
 {
-    if i < 16 { level_of(s, i) } else { d }
+    if i < NO_SLOT { level_of(s, i) } else { d }
 }
 
 // The winner's level, or d with no live slot.

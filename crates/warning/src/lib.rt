@@ -3,7 +3,10 @@
 ghost use mathlib.Core.Path.{_≡_};
 ghost use Prim.Native.Nat.{_<_, _^_};
 ghost use Rattle.lighting.specs.Writing.{dark, darkFrom, blinks, darkAbove, warnsBy, warns, firstLevel, firstPhase, warningFrom};
+ghost use Rattle.lighting.specs.Slots.{slotCount};
 use lighting::Phase;
+use lighting::SLOT_6;
+use lighting::SLOTS;
 use lighting::Settings;
 use lighting::Slots;
 use lighting::Warning;
@@ -12,7 +15,7 @@ use lighting::Warning;
 
 // A slot is 'zero or empty'.
 fn is_dark(s: Slots, i: usize) -> bool
-    requires { ⌜ i < 16 ⌝ }
+    requires { ⌜ i < slotCount ⌝ }
     ensures { λ r. ⌜ r ≡ dark s i ⌝ }
 {
     if slots::is_live(s, i as u8) {
@@ -26,7 +29,7 @@ fn dark_from(s: Slots, from: usize) -> bool
     ensures { λ r. ⌜ r ≡ darkFrom s from ⌝ }
 {
     let mut i = from;
-    while i < 16 {
+    while i < SLOTS {
         if is_dark(s, i) {
             i += 1;
         } else {
@@ -62,7 +65,7 @@ fn dark_above(c: Settings, s: Slots, x: u8) -> bool
 fn warns_by(c: Settings, s: Slots, x: u8, w: u32, y: u32) -> bool
     ensures { λ r. ⌜ r ≡ warnsBy c s x w y ⌝ }
 {
-    if 5 < x {
+    if SLOT_6 < x {
         if does_blink(c) {
             if x as u32 <= w {
                 if 0 < y { dark_above(c, s, x) } else { false }

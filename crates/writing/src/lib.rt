@@ -5,6 +5,7 @@ ghost use Prim.Native.Nat.{_<_, _^_};
 ghost use Rattle.lighting.specs.Writing.{passedOver, stored, warnedBy, warned, endedEmpty, endedStored, writtenWarned, writtenZero, writtenCalm, writtenBy, written, vacatedActivity, vacated};
 use lighting::Activity;
 use lighting::Output;
+use lighting::SLOT_6;
 use record::with_effect;
 
 // ---- warnings aside
@@ -38,7 +39,7 @@ fn warn_by(t: u64, o: Output, x: u8, y: u32) -> Output
     let s = o.slots;
     with_effect(
         o,
-        slots::fill(slots::fill(s, x, 0), 5, warning::first_level(c, y)),
+        slots::fill(slots::fill(s, x, 0), SLOT_6, warning::first_level(c, y)),
         Activity::Warned(warning::warning_from(t, c, x, y)),
     )
 }
@@ -59,14 +60,18 @@ fn end_empty(o: Output, i: u8) -> Output
     ensures { λ r. ⌜ r ≡ endedEmpty o i ⌝ }
 {
     let s = o.slots;
-    with_effect(o, slots::empty(slots::empty(s, 5), i), Activity::Still)
+    with_effect(o, slots::empty(slots::empty(s, SLOT_6), i), Activity::Still)
 }
 
 fn end_store(o: Output, i: u8, v: u32) -> Output
     ensures { λ r. ⌜ r ≡ endedStored o i v ⌝ }
 {
     let s = o.slots;
-    with_effect(o, slots::fill(slots::empty(s, 5), i, v), Activity::Still)
+    with_effect(
+        o,
+        slots::fill(slots::empty(s, SLOT_6), i, v),
+        Activity::Still,
+    )
 }
 
 // 'kind 02 of zero at P above 6 empties slots 6 and P'; any other empties slot 6 and stores.
@@ -74,7 +79,7 @@ fn write_warned(o: Output, i: u8, v: u32) -> Output
     ensures { λ r. ⌜ r ≡ writtenWarned o i v ⌝ }
 {
     if v == 0 {
-        if 5 < i {
+        if SLOT_6 < i {
             end_empty(o, i)
         } else {
             end_store(o, i, v)

@@ -1,6 +1,5 @@
 use Rattle.lighting.proofs.Choosing.{ifs}
 use Rattle.lighting.proofs.Laws.{numberOf-on}
-use Rattle.lighting.specs.Properties.{numberOf}
 use borrow.Author.Needs.{needs}
 use Rattle.properties.proofs.number_of.Statement.{statement}
 use Rattle.properties.proofs.number_of.Tie as tie
@@ -80,91 +79,69 @@ add-result : tie.Need-add-result
 add-result c = search needs
 
 returns : tie.Need-returns
-unfolding numberOf
 returns c = search (needs, ifs, numberOf-on)
 
 returns-2 : tie.Need-returns-2
-unfolding numberOf
 returns-2 c = search (needs, ifs, numberOf-on)
 
 returns-3 : tie.Need-returns-3
-unfolding numberOf
 returns-3 c = search (needs, ifs, numberOf-on)
 
 returns-4 : tie.Need-returns-4
-unfolding numberOf
 returns-4 c = search (needs, ifs, numberOf-on)
 
 returns-5 : tie.Need-returns-5
-unfolding numberOf
 returns-5 c = search (needs, ifs, numberOf-on)
 
 returns-6 : tie.Need-returns-6
-unfolding numberOf
 returns-6 c = search (needs, ifs, numberOf-on)
 
 returns-7 : tie.Need-returns-7
-unfolding numberOf
 returns-7 c = search (needs, ifs, numberOf-on)
 
 returns-8 : tie.Need-returns-8
-unfolding numberOf
 returns-8 c = search (needs, ifs, numberOf-on)
 
 returns-9 : tie.Need-returns-9
-unfolding numberOf
 returns-9 c = search (needs, ifs, numberOf-on)
 
 returns-10 : tie.Need-returns-10
-unfolding numberOf
 returns-10 c = search (needs, ifs, numberOf-on)
 
 returns-11 : tie.Need-returns-11
-unfolding numberOf
 returns-11 c = search (needs, ifs, numberOf-on)
 
 returns-12 : tie.Need-returns-12
-unfolding numberOf
 returns-12 c = search (needs, ifs, numberOf-on)
 
 returns-13 : tie.Need-returns-13
-unfolding numberOf
 returns-13 c = search (needs, ifs, numberOf-on)
 
 returns-14 : tie.Need-returns-14
-unfolding numberOf
 returns-14 c = search (needs, ifs, numberOf-on)
 
 returns-15 : tie.Need-returns-15
-unfolding numberOf
 returns-15 c = search (needs, ifs, numberOf-on)
 
 returns-16 : tie.Need-returns-16
-unfolding numberOf
 returns-16 c = search (needs, ifs, numberOf-on)
 
 returns-17 : tie.Need-returns-17
-unfolding numberOf
 returns-17 c = search (needs, ifs, numberOf-on)
 
 returns-18 : tie.Need-returns-18
-unfolding numberOf
 returns-18 c = search (needs, ifs, numberOf-on)
 
 returns-19 : tie.Need-returns-19
-unfolding numberOf
 returns-19 c = search (needs, ifs, numberOf-on)
 
 returns-20 : tie.Need-returns-20
-unfolding numberOf
 returns-20 c = search (needs, ifs, numberOf-on)
 
 returns-21 : tie.Need-returns-21
-unfolding numberOf
 returns-21 c = search (needs, ifs, numberOf-on)
 
 returns-22 : tie.Need-returns-22
-unfolding numberOf
 returns-22 c = search (needs, ifs, numberOf-on)
 
 pub number-of-spec : {M : Type 1} → statement M
