@@ -89,7 +89,11 @@ fn level_of(s: Slots, i: u32) -> u32
 pub fn level_at(d: u32, s: Slots, i: u32) -> u32
     ensures { λ r. ⌜ r ≡ levelAt d s i ⌝ }
 {
-    if i < NO_SLOT { level_of(s, i) } else { d }
+    if i < NO_SLOT as u32 {
+        level_of(s, i)
+    } else {
+        d
+    }
 }
 
 // The winner's level, or d with no live slot.
