@@ -13,7 +13,7 @@ use Rattle.lighting.specs.Writing.{withEffect, passedOver, stored, warns
 use Rattle.lighting.specs.Commands.{commanded}
 use Rattle.lighting.specs.declared.Movement.{Movement}
 use Rattle.lighting.specs.declared.Activity.{Activity}
-use Rattle.lighting.specs.declared.Activity.the-variants.{Still, Moving, Blink, Delay}
+use Rattle.lighting.specs.declared.Activity.the-variants.{Still, Moving, Warned}
 use Rattle.lighting.specs.declared.Duration.{Duration}
 use Rattle.lighting.specs.declared.Operation.the-variants.{Relinquish}
 use Rattle.lighting.specs.declared.Output.{Output}

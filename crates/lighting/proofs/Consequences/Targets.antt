@@ -16,7 +16,7 @@ use Rattle.lighting.specs.Commands.{unwarned, unwarnedActivity, replaced
 use Rattle.lighting.specs.declared.Settings.{Settings}
 use Rattle.lighting.specs.declared.Movement.{Movement}
 use Rattle.lighting.specs.declared.Activity.{Activity}
-use Rattle.lighting.specs.declared.Activity.the-variants.{Still, Moving, Blink, Delay}
+use Rattle.lighting.specs.declared.Activity.the-variants.{Still, Moving, Warned}
 use Rattle.lighting.specs.declared.Duration.{Duration}
 use Rattle.lighting.specs.declared.Operation.{Operation}
 use Rattle.lighting.specs.declared.Operation.the-variants.{Stop, FadeTo, FadeToOver, RampTo, RampToAtRate, StepUp, StepDown, StepUpBy, StepDownBy, Goto, Relinquish}
@@ -46,22 +46,19 @@ unwarned-six : (t : ℕ) (c : Settings) (s : Slots) (a : Activity) → length (s
 unfolding unwarned
 unwarned-six t c s Still z h = dead-slot s 5 z (omega arith) h
 unwarned-six t c s (Moving m) z h = dead-slot s 5 z (omega arith) (h .six)
-unwarned-six t c s (Blink owner level turn over) z h = slot-same s z 5 none (omega arith)
-unwarned-six t c s (Delay owner over) z h = slot-same s z 5 none (omega arith)
+unwarned-six t c s (Warned w) z h = slot-same s z 5 none (omega arith)
 
 unwarned-rest : (s : Slots) (a : Activity) (j : ℕ) → length (s .levels) ≡ 16 → j ≢ 5 → slot (unwarned s a) j ≡ slot s j
 unfolding unwarned
 unwarned-rest s Still j z n = refl
 unwarned-rest s (Moving m) j z n = refl
-unwarned-rest s (Blink owner level turn over) j z n = slot-other s z 5 j none (omega arith) (λ e. n (sym e))
-unwarned-rest s (Delay owner over) j z n = slot-other s z 5 j none (omega arith) (λ e. n (sym e))
+unwarned-rest s (Warned w) j z n = slot-other s z 5 j none (omega arith) (λ e. n (sym e))
 
 -- STOP, and RELINQUISH's movement, of what was under way
 abbrev pub NotMoving : Activity → Type 0
 NotMoving Still = Unit {0}
 NotMoving (Moving m) = ⊥
-NotMoving (Blink owner level turn over) = Unit {0}
-NotMoving (Delay owner over) = Unit {0}
+NotMoving (Warned w) = Unit {0}
 
 -- 'Without a movement, in a warning too, Progress_Value equals Present_Value'; 'In_Process (1 exactly while a movement lasts, else 0)'
 pub progress-present : (t : ℕ) (o : Output) → NotMoving (o .activity) → progressValue t o ≡ presentValue (o .settings) (o .slots)
@@ -71,15 +68,13 @@ progress-present t o n = go (o .activity) n
     go : (a : Activity) → NotMoving a → progressBy t (presentValue (o .settings) (o .slots)) a ≡ presentValue (o .settings) (o .slots)
     go Still n = unfold progressBy in refl
     go (Moving m) n = elim n [ ]
-    go (Blink owner level turn over) n = unfold progressBy in refl
-    go (Delay owner over) n = unfold progressBy in refl
+    go (Warned w) n = unfold progressBy in refl
 
 pub not-in-process : (a : Activity) → NotMoving a → inProcess a ≡ 0
 unfolding inProcess
 not-in-process Still n = refl
 not-in-process (Moving m) n = elim n [ ]
-not-in-process (Blink owner level turn over) n = refl
-not-in-process (Delay owner over) n = refl
+not-in-process (Warned w) n = refl
 
 stop-own : (t : ℕ) (c : Settings) (f : ℕ) (s : Slots) (a : Activity) (m : Movement) → a ≡ Moving m → m .owner ≡ c .slot
     → effect t c f s (unwarnedActivity a) Stop ≡ halted c f s
@@ -95,8 +90,7 @@ stop-none : (t : ℕ) (c : Settings) (f : ℕ) (s : Slots) (a : Activity) → No
 unfolding effect stopped unwarnedActivity
 stop-none t c f s Still n = refl
 stop-none t c f s (Moving m) n = elim n [ ]
-stop-none t c f s (Blink owner level turn over) n = refl
-stop-none t c f s (Delay owner over) n = refl
+stop-none t c f s (Warned w) n = refl
 
 disowned-own : (p : ℕ) (a : Activity) (m : Movement) → a ≡ Moving m → m .owner ≡ p → disowned p (unwarnedActivity a) ≡ Still
 unfolding disowned unwarnedActivity if_then_else_
