@@ -30,12 +30,6 @@ abbrev pub MomentAfter : ℕ → Moment → Type 0
 MomentAfter t Never = Unit {0}
 MomentAfter t (At d) = t < d
 
-abbrev pub TimerAfter : ℕ → Timer → Type 0
-TimerAfter t m = MomentAfter t (timerDue m)
-
-abbrev pub ActivityAfter : ℕ → Activity → Type 0
-ActivityAfter t a = MomentAfter t (activityDue a)
-
 abbrev AllAfter : ℕ → List Moment → Type 0
 AllAfter t [] = Unit {0}
 AllAfter t (d ∷ l) = MomentAfter t d × AllAfter t l
@@ -46,16 +40,6 @@ pub record After (t : ℕ) (o : Output) : Type 0 where
 pub record Calm (t : ℕ) (o : Output) : Type 0 where
   pub after : After t o
   pub burnt : o .burning ≤ t
-
-pub both-after : (t : ℕ) (o : Output) → TimerAfter t (o .timer) → ActivityAfter t (o .activity) → After t o
-both-after t o a b = record { all = (a, (b, tt)) }
-
-pub timer-earlier : {t t′ : ℕ} (m : Timer) → t ≤ t′ → TimerAfter t′ m → TimerAfter t m
-timer-earlier {t = t} {t′ = t′} m h a = go (timerDue m) a
-  where
-    go : (d : Moment) → MomentAfter t′ d → MomentAfter t d
-    go Never b = tt
-    go (At d) b = omega arith
 
 all-earlier : {t t′ : ℕ} (l : List Moment) → t ≤ t′ → AllAfter t′ l → AllAfter t l
 all-earlier [] h a = tt
@@ -71,21 +55,38 @@ unfolding isDue
 not-due t Never a = refl
 not-due t (At d) a = eqb-miss {a = d} {b = t} (omega arith)
 
-pub timer-quiet : (t : ℕ) (m : Timer) → TimerAfter t m → timerAt t m ≡ m
-unfolding timerAt if_then_else_
-timer-quiet t m a = rw (not-due t (timerDue m) a)
-
-pub expired-quiet : (t : ℕ) (m : Timer) (s : Slots) → TimerAfter t m → expired t m s ≡ s
-unfolding expired if_then_else_
-expired-quiet t m s a = rw (not-due t (timerDue m) a)
-
-pub released-quiet : (t : ℕ) (m : Timer) (a : Activity) → TimerAfter t m → released t m a ≡ a
-unfolding released if_then_else_
-released-quiet t m a h = rw (not-due t (timerDue m) h)
-
 pub quiet : (t : ℕ) (o : Output) → After t o → fire t o ≡ o
 unfolding fire settled timerAt expired released activityAt slotsAt if_then_else_
 quiet t o a = rw (not-due t (timerDue (o .timer)) (a .all .0), not-due t (activityDue (o .activity)) (a .all .1 .0))
+
+-- and where no duration is due, none does anything
+abbrev pub TimerAfter : ℕ → Timer → Type 0
+TimerAfter t Off = Unit {0}
+TimerAfter t (Running q d) = t < d
+
+pub timer-earlier : {t t′ : ℕ} (m : Timer) → t ≤ t′ → TimerAfter t′ m → TimerAfter t m
+timer-earlier Off h a = tt
+timer-earlier (Running q d) h a = omega arith
+
+timer-moment : (t : ℕ) (m : Timer) → TimerAfter t m → MomentAfter t (timerDue m)
+unfolding timerDue
+timer-moment t Off a = tt
+timer-moment t (Running q d) a = a
+
+pub both-after : (t : ℕ) (o : Output) → TimerAfter t (o .timer) → MomentAfter t (activityDue (o .activity)) → After t o
+both-after t o a b = record { all = (timer-moment t (o .timer) a, (b, tt)) }
+
+pub timer-quiet : (t : ℕ) (m : Timer) → TimerAfter t m → timerAt t m ≡ m
+unfolding timerAt if_then_else_
+timer-quiet t m a = rw (not-due t (timerDue m) (timer-moment t m a))
+
+pub expired-quiet : (t : ℕ) (m : Timer) (s : Slots) → TimerAfter t m → expired t m s ≡ s
+unfolding expired if_then_else_
+expired-quiet t m s a = rw (not-due t (timerDue m) (timer-moment t m a))
+
+pub released-quiet : (t : ℕ) (m : Timer) (a : Activity) → TimerAfter t m → released t m a ≡ a
+unfolding released if_then_else_
+released-quiet t m a h = rw (not-due t (timerDue m) (timer-moment t m h))
 
 -- BURNING: of n milliseconds at most n, of none none, and stretches add up
 pub glowing-le : (from n : ℕ) (o : Output) → glowing from n o ≤ n

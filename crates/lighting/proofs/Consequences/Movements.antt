@@ -12,7 +12,7 @@ use Rattle.lighting.specs.Choice.{if_then_else_}
 use Rattle.lighting.specs.Level.{levelUnits, amountUnits}
 use Rattle.lighting.specs.Slots.{Slots, winner, filled}
 use Rattle.lighting.specs.Value.{brought, presentValue, elapsed, gone, reachedBy, reached, progressBy, progressValue, inProcess}
-use Rattle.lighting.specs.Passing.{withBurning, burned, timerDue, activityDue, isDue, timerAt, expired, released, nextActivity, activityAt, nextSlots, slotsAt, settled, fire, ticks}
+use Rattle.lighting.specs.Passing.{withBurning, burned, activityDue, isDue, timerAt, expired, released, nextActivity, activityAt, nextSlots, slotsAt, settled, fire, ticks}
 use Rattle.lighting.specs.Commands.{unwarned, unwarnedActivity, replaced, placed, movement, apart, rampLength, target, fadedOver, fadedTo, rampedAt, rampedTo, effect, withCommand, commandedFrom, commanded}
 use Rattle.lighting.specs.declared.Pace.{Pace}
 use Rattle.lighting.specs.declared.Pace.the-variants.{Fade, Ramp}
@@ -153,7 +153,6 @@ along-none Fade g l k = rw (sub-self g, no-way k l) (omega arith)
 along-none (Ramp r) g l k = omega arith
 
 timer-sound : (t : ℕ) (m : Timer) → Timed t m → TimerAfter t m
-unfolding timerDue
 timer-sound t Off h = tt
 timer-sound t (Running q d) h = h .1
 
