@@ -9,7 +9,7 @@ use lib.Dec.{eqb, ltb}
 use lib.ListN.{length}
 use Rattle.lighting.specs.Choice.{if_then_else_}
 use Rattle.lighting.specs.Parameters.{standard}
-use Rattle.lighting.specs.Slots.{Slots, slot, lives, put, emptied, filled}
+use Rattle.lighting.specs.Slots.{Slots, slot, lives, put, emptied}
 use Rattle.lighting.specs.Passing.{withBurning, burned, timerDue, activityDue, isDue, timerAt, emptiedBy, expired, disowned, disownedBy, released, nextActivity, activityAt, phaseSlots, nextSlots, slotsAt, settled, fire, tick, ticks}
 use Rattle.lighting.specs.Writing.{withEffect, stored, warns, warnedBy, warned, endedEmpty, endedStored, writtenWarned, writtenZero, writtenCalm, writtenBy, written, vacated}
 use Rattle.lighting.specs.Record.{withSettings}
@@ -30,8 +30,8 @@ use Rattle.lighting.specs.declared.Operation.{Operation}
 use Rattle.lighting.specs.declared.Request.{Request}
 use Rattle.lighting.specs.declared.Request.the-variants.{Refuse, Write, Empty, Change, Read, Order}
 use Rattle.lighting.specs.declared.Output.{Output}
-use Rattle.lighting.proofs.Split.{by-bool, by-eq, by-lt, eqb-hit, eqb-miss, leb-yes, leb-no}
-use Rattle.lighting.proofs.Facts.{Slot, Filled, Acts, Timed, Sound}
+use Rattle.lighting.proofs.Split.{by-bool, by-eq, eqb-hit, eqb-miss, leb-yes, leb-no}
+use Rattle.lighting.proofs.Facts.{Slot, Acts, Timed, Sound}
 use Rattle.lighting.proofs.Passing.{TimerAfter, timer-earlier, timer-quiet, expired-quiet, released-quiet}
 use Rattle.lighting.proofs.Winner.{put-sized}
 use Rattle.lighting.proofs.Ticking.{tick-sound}

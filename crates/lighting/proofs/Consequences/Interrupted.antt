@@ -1,23 +1,21 @@
 -- WHAT ENDS A WARNING, AND WHAT IT LEAVES. A warning is running exactly while slot 6 is live (the record rules). Assumes nothing.
-use mathlib.Core.Path.{_≡_, refl, sym, ap, _∙_}
+use mathlib.Core.Path.{_≡_, refl, sym, _∙_}
 use mathlib.Core.Logic.{_≢_}
-use mathlib.Core.Bool.{true, false, true≢false, false≢true}
+use mathlib.Core.Bool.{true, false, false≢true}
 use mathlib.Core.Option.{Option, none, some}
-use Prim.Native.Nat.{ℕ, suc, _<_}
+use Prim.Native.Nat.{ℕ, _<_}
 use native.Mathlib.Omega.{arith}
-use lib.Dec.{eqb, ltb}
 use lib.ListN.{length}
 use Rattle.lighting.specs.Choice.{if_then_else_}
-use Rattle.lighting.specs.Slots.{Slots, slot, lives, put, emptied, filled}
-use Rattle.lighting.specs.Writing.{withEffect, passedOver, stored, warns, endedEmpty, endedStored, writtenWarned, writtenZero, writtenCalm, writtenBy, written, vacatedActivity, vacated}
+use Rattle.lighting.specs.Slots.{slot, lives, put, emptied}
+use Rattle.lighting.specs.Writing.{withEffect, passedOver, endedEmpty, endedStored, writtenWarned, writtenBy, written, vacatedActivity, vacated}
 use Rattle.lighting.specs.declared.Activity.{Activity}
 use Rattle.lighting.specs.declared.Activity.the-variants.{Still, Moving, Warned}
 use Rattle.lighting.specs.declared.Output.{Output}
-use Rattle.lighting.proofs.Split.{by-bool, eqb-hit, eqb-miss, leb-yes, leb-no}
+use Rattle.lighting.proofs.Split.{by-bool, eqb-miss, leb-yes, leb-no}
 use Rattle.lighting.proofs.Facts.{Slot, Acts, Sound}
 use Rattle.lighting.proofs.Winner.{put-sized}
 use Rattle.lighting.proofs.Consequences.Present.{slot-same, slot-other}
-use Rattle.lighting.proofs.Consequences.Warning.{Starts, warns-starts}
 
 -- what is left: slot 6 is a, slot i is b, every other slot is as it was, and what is under way is w
 pub record Leaves (o o′ : Output) (i : ℕ) (a b : Option ℕ) (w : Activity) : Type 0 where

@@ -12,7 +12,7 @@ use Rattle.lighting.specs.Choice.{if_then_else_}
 use Rattle.lighting.specs.Level.{levelUnits, amountUnits}
 use Rattle.lighting.specs.Slots.{Slots, winner, filled}
 use Rattle.lighting.specs.Value.{brought, presentValue, elapsed, gone, reachedBy, reached, progressBy, progressValue, inProcess}
-use Rattle.lighting.specs.Passing.{withBurning, burned, activityDue, isDue, timerAt, expired, released, nextActivity, activityAt, nextSlots, slotsAt, settled, fire, ticks}
+use Rattle.lighting.specs.Passing.{withBurning, burned, activityDue, isDue, nextActivity, activityAt, nextSlots, slotsAt, settled, fire, ticks}
 use Rattle.lighting.specs.Commands.{unwarned, unwarnedActivity, replaced, placed, movement, apart, rampLength, target, fadedOver, fadedTo, rampedAt, rampedTo, effect, withCommand, commandedFrom, commanded}
 use Rattle.lighting.specs.declared.Pace.{Pace}
 use Rattle.lighting.specs.declared.Pace.the-variants.{Fade, Ramp}
@@ -28,12 +28,12 @@ use Rattle.lighting.specs.declared.Effect.{Effect}
 use Rattle.lighting.specs.declared.Output.{Output}
 use Rattle.lighting.proofs.Split.{by-eq, by-le, eqb-hit, eqb-miss}
 use Rattle.lighting.proofs.Passing.{TimerAfter, After, both-after, timer-earlier, released-quiet, expired-quiet, quiet-ticks, hop-ticks}
-use Rattle.lighting.proofs.Facts.{Moves, Acts, Timed, Sound}
+use Rattle.lighting.proofs.Facts.{Acts, Timed, Sound}
 use Rattle.lighting.proofs.Good.{GoodOperation, GoodDuration}
 use Rattle.lighting.proofs.Mask.{put-size}
 use Rattle.lighting.proofs.Winner.{topmost-filled}
 use Rattle.lighting.proofs.Ranges.{amount-range}
-use Rattle.lighting.proofs.Shown.{brought-brought, ramp-span}
+use Rattle.lighting.proofs.Shown.{brought-brought}
 use Rattle.lighting.proofs.Commanded.{commanded-sound}
 
 -- THE FORMULA, up or down: of the two ways g - s and s - g one is 0

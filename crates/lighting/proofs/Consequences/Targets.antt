@@ -1,7 +1,6 @@
 -- WHAT A COMMAND LEAVES IN THE SLOTS: in slot p what its operation says, slot 6 empty, every other slot as it was. Assumes nothing.
 use mathlib.Core.Path.{_≡_, refl, sym, ap, _∙_}
 use mathlib.Core.Logic.{_≢_}
-use mathlib.Core.Bool.{true, false}
 use mathlib.Core.Option.{Option, none, some}
 use Prim.Native.Nat.{ℕ, _+_, _-_, _<_, min, max}
 use native.Mathlib.Omega.{arith}
@@ -9,7 +8,7 @@ use lib.Ieee.{Float}
 use lib.ListN.{length}
 use Rattle.lighting.specs.Choice.{if_then_else_}
 use Rattle.lighting.specs.Level.{levelUnits, amountUnits}
-use Rattle.lighting.specs.Slots.{Slots, slot, winner, put, filled, emptied}
+use Rattle.lighting.specs.Slots.{Slots, slot, winner, put, filled}
 use Rattle.lighting.specs.Value.{brought, presentValue, progressBy, progressValue, inProcess}
 use Rattle.lighting.specs.Passing.{disowned}
 use Rattle.lighting.specs.Commands.{unwarned, unwarnedActivity, replaced, placed, target, fadedOver, fadedTo, rampedAt, rampedTo, jumped, wentTo, stepUpFrom, stepDownFrom, steppedUp, steppedDown, raised, halted, asItIs, stopped, relinquished, effect, withCommand, commandedFrom, commanded}
@@ -22,9 +21,8 @@ use Rattle.lighting.specs.declared.Operation.{Operation}
 use Rattle.lighting.specs.declared.Operation.the-variants.{Stop, FadeTo, FadeToOver, RampTo, RampToAtRate, StepUp, StepDown, StepUpBy, StepDownBy, Goto, Relinquish}
 use Rattle.lighting.specs.declared.Effect.{Effect}
 use Rattle.lighting.specs.declared.Output.{Output}
-use Rattle.lighting.proofs.Split.{by-eq, eqb-hit, eqb-miss}
-use Rattle.lighting.proofs.Facts.{Slot, Acts, Sound}
-use Rattle.lighting.proofs.Winner.{put-sized}
+use Rattle.lighting.proofs.Split.{eqb-hit, eqb-miss}
+use Rattle.lighting.proofs.Facts.{Acts, Sound}
 use Rattle.lighting.proofs.Consequences.Present.{slot-same, slot-other}
 use Rattle.lighting.proofs.Consequences.Movements.{unwarned-size}
 use Rattle.lighting.proofs.Consequences.Warning.{dead-slot}

@@ -8,11 +8,11 @@ use mathlib.Core.Option.{Option, none, some}
 use Prim.Native.Nat.{ℕ, zero, suc, _+_, _-_, _≤_, _<_}
 use native.Mathlib.Omega.{arith}
 use lib.ListN.{getD, length}
-use Rattle.lighting.specs.Choice.{if_then_else_, allFrom}
+use Rattle.lighting.specs.Choice.{if_then_else_}
 use Rattle.lighting.specs.Slots.{Slots, slot, slotsOf, topmost, firstLive, winner, lives, put, emptied, filled}
 use Rattle.lighting.specs.Value.{brought, presentValue}
-use Rattle.lighting.specs.Passing.{withBurning, burned, phaseEnd, activityDue, isDue, timerAt, delayed, nextPhase, nextActivity, activityAt, phaseSlots, nextSlots, slotsAt, settled, fire, ticks}
-use Rattle.lighting.specs.Writing.{withEffect, passedOver, stored, dark, darkFrom, blinks, darkAbove, warnsBy, warns, firstLevel, firstPhase, warningFrom, warnedBy, warned, endedEmpty, endedStored, writtenWarned, writtenZero, writtenCalm, writtenBy, written, vacatedActivity, vacated}
+use Rattle.lighting.specs.Passing.{withBurning, burned, phaseEnd, activityDue, isDue, delayed, nextPhase, nextActivity, activityAt, phaseSlots, nextSlots, slotsAt, settled, fire, ticks}
+use Rattle.lighting.specs.Writing.{withEffect, dark, darkFrom, blinks, darkAbove, warnsBy, warns, firstLevel, firstPhase, warningFrom, warnedBy, warned, writtenZero, writtenCalm, writtenBy, written}
 use Rattle.lighting.specs.declared.Settings.{Settings}
 use Rattle.lighting.specs.declared.Phase.{Phase}
 use Rattle.lighting.specs.declared.Phase.the-variants.{Blink, Delay}
@@ -20,7 +20,7 @@ use Rattle.lighting.specs.declared.Activity.{Activity}
 use Rattle.lighting.specs.declared.Activity.the-variants.{Still, Moving, Warned}
 use Rattle.lighting.specs.declared.Timer.{Timer}
 use Rattle.lighting.specs.declared.Output.{Output}
-use Rattle.lighting.proofs.Split.{also-yes, also-both, by-bool, by-eq, by-lt, eqb-hit, eqb-miss, leb-yes, leb-no, le-of, eq-of}
+use Rattle.lighting.proofs.Split.{also-yes, also-both, by-bool, by-eq, by-lt, eqb-hit, leb-yes, leb-no, le-of, eq-of}
 use Rattle.lighting.proofs.Scan.{all-each, each-all}
 use Rattle.lighting.proofs.Passing.{TimerAfter, After, both-after, timer-earlier, timer-quiet, expired-quiet, released-quiet, quiet-ticks, hop-ticks, ticks-add}
 use Rattle.lighting.proofs.Mask.{alive, slots-size, slot-is, lives-slot}
