@@ -21,6 +21,7 @@ use Rattle.lighting.specs.declared.Timer.the-variants.{Off, Running}
 use Rattle.lighting.specs.declared.Moment.{Moment}
 use Rattle.lighting.specs.declared.Moment.the-variants.{Never, At}
 use Rattle.lighting.specs.declared.Output.{Output}
+use Rattle.lighting.specs.Slots.{Slots}
 use Rattle.lighting.specs.Value.{lit}
 use Rattle.lighting.specs.Passing.{top, withBurning, glowing, burned, gained, timerDue, phaseEnd, activityDue, dueMoments, isDue, timerAt, expired, disowned, disownedBy, released, delayed, nextPhase, nextActivity, activityAt, slotsAt, settled, fire, tick, ticks, sooner, soonest, due, hop, hops, advance}
 
@@ -57,6 +58,35 @@ not-due t (At d) a = eqb-miss {a = d} {b = t} (omega arith)
 pub quiet : (t : ℕ) (o : Output) → After t o → fire t o ≡ o
 unfolding fire settled timerAt expired released activityAt slotsAt if_then_else_
 quiet t o a = rw (not-due t (timerDue (o .timer)) (a .all .0), not-due t (activityDue (o .activity)) (a .all .1 .0))
+
+-- and where no duration is due, none does anything
+abbrev pub TimerAfter : ℕ → Timer → Type 0
+TimerAfter t Off = Unit {0}
+TimerAfter t (Running q d) = t < d
+
+pub timer-earlier : {t t′ : ℕ} (m : Timer) → t ≤ t′ → TimerAfter t′ m → TimerAfter t m
+timer-earlier Off h a = tt
+timer-earlier (Running q d) h a = omega arith
+
+timer-moment : (t : ℕ) (m : Timer) → TimerAfter t m → MomentAfter t (timerDue m)
+unfolding timerDue
+timer-moment t Off a = tt
+timer-moment t (Running q d) a = a
+
+pub both-after : (t : ℕ) (o : Output) → TimerAfter t (o .timer) → MomentAfter t (activityDue (o .activity)) → After t o
+both-after t o a b = record { all = (timer-moment t (o .timer) a, (b, tt)) }
+
+pub timer-quiet : (t : ℕ) (m : Timer) → TimerAfter t m → timerAt t m ≡ m
+unfolding timerAt if_then_else_
+timer-quiet t m a = rw (not-due t (timerDue m) (timer-moment t m a))
+
+pub expired-quiet : (t : ℕ) (m : Timer) (s : Slots) → TimerAfter t m → expired t m s ≡ s
+unfolding expired if_then_else_
+expired-quiet t m s a = rw (not-due t (timerDue m) (timer-moment t m a))
+
+pub released-quiet : (t : ℕ) (m : Timer) (a : Activity) → TimerAfter t m → released t m a ≡ a
+unfolding released if_then_else_
+released-quiet t m a h = rw (not-due t (timerDue m) (timer-moment t m h))
 
 -- BURNING: of n milliseconds at most n, of none none, and stretches add up
 pub glowing-le : (from n : ℕ) (o : Output) → glowing from n o ≤ n

@@ -9,24 +9,29 @@ use lib.Dec.{eqb, ltb}
 use lib.ListN.{length}
 use Rattle.lighting.specs.Choice.{if_then_else_}
 use Rattle.lighting.specs.Parameters.{standard}
-use Rattle.lighting.specs.Slots.{Slots, slot, lives, put, emptied, filled}
-use Rattle.lighting.specs.Passing.{withBurning, burned, timerAt, expired, disowned, released, activityAt, slotsAt, settled, fire, tick, ticks}
+use Rattle.lighting.specs.Slots.{Slots, slot, lives, put, emptied}
+use Rattle.lighting.specs.Passing.{withBurning, burned, timerDue, activityDue, isDue, timerAt, emptiedBy, expired, disowned, disownedBy, released, nextActivity, activityAt, phaseSlots, nextSlots, slotsAt, settled, fire, tick, ticks}
 use Rattle.lighting.specs.Writing.{withEffect, stored, warns, warnedBy, warned, endedEmpty, endedStored, writtenWarned, writtenZero, writtenCalm, writtenBy, written, vacated}
+use Rattle.lighting.specs.Record.{withSettings}
 use Rattle.lighting.specs.Properties.{within, settingsWith, changed, minOverMax}
 use Rattle.lighting.specs.Commands.{timed, withCommand, commandedFrom, commanded}
 use Rattle.lighting.specs.Acting.{made, left, changedUnless, acted}
-use Rattle.lighting.specs.Frames.{ordered}
+use Rattle.lighting.specs.Operations.{fieldsOf}
+use Rattle.lighting.specs.Frames.{fieldsRefusal, lasting, orderedBy, ordered}
 use Rattle.lighting.specs.declared.Movement.{Movement}
+use Rattle.lighting.specs.declared.Phase.{Phase}
+use Rattle.lighting.specs.declared.Phase.the-variants.{Blink, Delay}
+use Rattle.lighting.specs.declared.Warning.{Warning}
 use Rattle.lighting.specs.declared.Activity.{Activity}
-use Rattle.lighting.specs.declared.Activity.the-variants.{Still, Moving, Blink, Delay}
+use Rattle.lighting.specs.declared.Activity.the-variants.{Still, Moving, Warned}
 use Rattle.lighting.specs.declared.Timer.{Timer}
 use Rattle.lighting.specs.declared.Timer.the-variants.{Off, Running}
 use Rattle.lighting.specs.declared.Operation.{Operation}
 use Rattle.lighting.specs.declared.Request.{Request}
 use Rattle.lighting.specs.declared.Request.the-variants.{Refuse, Write, Empty, Change, Read, Order}
 use Rattle.lighting.specs.declared.Output.{Output}
-use Rattle.lighting.proofs.Split.{by-bool, by-eq, by-lt, eqb-hit, eqb-miss, leb-yes, leb-no}
-use Rattle.lighting.proofs.Facts.{Slot, Filled, Acts, Timed, Sound}
+use Rattle.lighting.proofs.Split.{by-bool, by-eq, eqb-hit, eqb-miss, leb-yes, leb-no}
+use Rattle.lighting.proofs.Facts.{Slot, Acts, Timed, Sound}
 use Rattle.lighting.proofs.Passing.{TimerAfter, timer-earlier, timer-quiet, expired-quiet, released-quiet}
 use Rattle.lighting.proofs.Winner.{put-sized}
 use Rattle.lighting.proofs.Ticking.{tick-sound}
@@ -39,7 +44,7 @@ abbrev pub NoCommand : Request → Type 0
 NoCommand (Refuse r) = Unit {0}
 NoCommand (Write i v) = Unit {0}
 NoCommand (Empty i) = Unit {0}
-NoCommand (Change n) = Unit {0}
+NoCommand (Change n v) = Unit {0}
 NoCommand (Read n) = Unit {0}
 NoCommand (Order k) = ⊥
 
@@ -87,25 +92,24 @@ written-by-rest : (t : ℕ) (o : Output) (i v : ℕ) (a : Activity) → Rest o (
 unfolding writtenBy
 written-by-rest t o i v Still = calm-rest t o i v
 written-by-rest t o i v (Moving m) = calm-rest t o i v
-written-by-rest t o i v (Blink owner level turn over) = warned-rest o i v
-written-by-rest t o i v (Delay owner over) = warned-rest o i v
+written-by-rest t o i v (Warned w) = warned-rest o i v
 
 pub written-rest : (t : ℕ) (o : Output) (i v : ℕ) → Rest o (written t o i v)
 unfolding written
 written-rest t o i v = written-by-rest t o i v (o .activity)
 
 acted-timer : (t : ℕ) (o : Output) (r : Request) → NoCommand r → acted t o r .output .timer ≡ o .timer
-unfolding acted made left settled vacated withEffect changedUnless changed if_then_else_
+unfolding acted made left settled vacated withEffect changedUnless changed withSettings if_then_else_
 acted-timer t o (Refuse r) n = refl
 acted-timer t o (Write i v) n = written-rest t o i v .timer
 acted-timer t o (Empty i) n = refl
-acted-timer t o (Change s) n = by-bool (minOverMax (settingsWith (o .settings) s)) (λ e. rw e) (λ e. rw e)
+acted-timer t o (Change m v) n = by-bool (minOverMax (settingsWith (o .settings) m v)) (λ e. rw e) (λ e. rw e)
 acted-timer t o (Read q) n = refl
 acted-timer t o (Order k) n = elim n [ ]
 
 -- UNTIL ITS MOMENT it runs on
 tick-timer : (t q d : ℕ) (o : Output) → o .timer ≡ Running q d → suc t < d → tick t o .timer ≡ Running q d
-unfolding tick fire settled burned withBurning timerAt if_then_else_
+unfolding tick fire settled burned withBurning timerDue isDue timerAt if_then_else_
 tick-timer t q d o e h = rw (e, eqb-miss {a = d} {b = suc t} (omega arith))
 
 pub runs-on : {t t′ : ℕ} {o o′ : Output} (q d : ℕ) → Life t o t′ o′ → o .timer ≡ Running q d → t′ < d → o′ .timer ≡ Running q d
@@ -115,7 +119,7 @@ runs-on q d (request {t = t} {o = o} r g n l) e h = runs-on q d l (acted-timer t
 
 -- one that was cancelled does not come back
 tick-off : (t : ℕ) (o : Output) → o .timer ≡ Off → tick t o .timer ≡ Off
-unfolding tick fire settled burned withBurning timerAt
+unfolding tick fire settled burned withBurning timerDue isDue timerAt if_then_else_
 tick-off t o e = rw e
 
 pub stays-off : {t t′ : ℕ} {o o′ : Output} → Life t o t′ o′ → o .timer ≡ Off → o′ .timer ≡ Off
@@ -127,44 +131,41 @@ stays-off (request {t = t} {o = o} r g n l) e = stays-off l (acted-timer t o r n
 abbrev Owned : Activity → Type 0
 Owned Still = Unit {0}
 Owned (Moving m) = Unit {0}
-Owned (Blink x y u v) = x < 16
-Owned (Delay x v) = x < 16
+Owned (Warned w) = w .owner < 16
 
 owned : (t : ℕ) (o : Output) (a : Activity) → Acts t (o .settings) (o .slots) a → Owned a
 owned t o Still h = tt
 owned t o (Moving m) h = tt
-owned t o (Blink x y u v) h = omega (arith, h .0 .owner)
-owned t o (Delay x v) h = omega (arith, h .owner)
+owned t o (Warned w) h = omega (arith, h .owner)
 
 disowned-owned : (q : ℕ) (a : Activity) → Owned a → Owned (disowned q a)
 unfolding disowned if_then_else_
 disowned-owned q Still h = tt
 disowned-owned q (Moving m) h = by-bool (eqb (m .owner) q) (λ e. rw e tt) (λ e. rw e tt)
-disowned-owned q (Blink x y u v) h = h
-disowned-owned q (Delay x v) h = h
+disowned-owned q (Warned w) h = h
 
 -- AT ITS MOMENT its slot is empty, whatever a warning does at the same moment
 slots-none : (t q : ℕ) (a : Activity) (s : Slots) → length (s .levels) ≡ 16 → q < 16 → q ≢ 5 → Owned a → slot s q ≡ none → slot (slotsAt t a s) q ≡ none
 unfolding slotsAt if_then_else_
-slots-none t q Still s z k n w h = h
-slots-none t q (Moving m) s z k n w h = h
-slots-none t q (Blink x y u v) s z k n w h =
-    by-bool (eqb u t)
-    (λ e. rw e
-    (by-bool (ltb u v)
-    (λ e′. rw e′ (slot-other s z 5 q (some y) (omega arith) (λ p. n (sym p)) ∙ h))
-    (λ e′. rw e′ (slot-other s z 5 q none (omega arith) (λ p. n (sym p)) ∙ h))))
-    (λ e. rw e h)
-slots-none t q (Delay x v) s z k n w h =
-    by-bool (eqb v t)
-    (λ e. rw e
-    (by-eq x q
-    (λ p e′. rw p (slot-same (emptied s 5) (put-sized s z 5 none) q none k))
-    (λ p e′. slot-other (emptied s 5) (put-sized s z 5 none) x q none w p ∙ slot-other s z 5 q none (omega arith) (λ r. n (sym r)) ∙ h)))
-    (λ e. rw e h)
+slots-none t q a s z k n w h = by-bool (isDue t (activityDue a)) (λ e. rw e (next a w)) (λ e. rw e h)
+  where
+    phase : (x : Warning) (p : Phase) → x .owner < 16 → slot (phaseSlots x p s) q ≡ none
+    phase x Blink l = unfold phaseSlots in
+        (by-bool (ltb (x .turn) (x .over))
+        (λ e. rw e (slot-other s z 5 q (some (x .level)) (omega arith) (λ p. n (sym p)) ∙ h))
+        (λ e. rw e (slot-other s z 5 q none (omega arith) (λ p. n (sym p)) ∙ h)))
+    phase x Delay l = unfold phaseSlots in
+        (by-eq (x .owner) q
+        (λ p e. rw p (slot-same (emptied s 5) (put-sized s z 5 none) q none k))
+        (λ p e. slot-other (emptied s 5) (put-sized s z 5 none) (x .owner) q none l p ∙ slot-other s z 5 q none (omega arith) (λ r. n (sym r)) ∙ h))
+
+    next : (b : Activity) → Owned b → slot (nextSlots b s) q ≡ none
+    next Still l = unfold nextSlots in h
+    next (Moving m) l = unfold nextSlots in h
+    next (Warned x) l = unfold nextSlots in (phase x (x .phase) l)
 
 pub expires : (t q : ℕ) (o : Output) → Sound t o → o .timer ≡ Running q (suc t) → (slot (tick t o .slots) q ≡ none) × (tick t o .timer ≡ Off)
-unfolding tick fire settled burned withBurning expired released timerAt if_then_else_
+unfolding tick fire settled burned withBurning timerDue isDue emptiedBy expired disownedBy released timerAt if_then_else_
 expires t q o h e =
     let k : Slot q = (subst (λ (z : Timer). Timed t z) e (h .timer)) .0 in
     rw (e, eqb-hit {a = suc t} {b = suc t} refl) (
@@ -176,12 +177,12 @@ expires t q o h e =
 
 -- '(ending a movement that slot owned)', and no other
 pub expires-own : (t q : ℕ) (o : Output) (m : Movement) → o .timer ≡ Running q (suc t) → o .activity ≡ Moving m → m .owner ≡ q → tick t o .activity ≡ Still
-unfolding tick fire settled burned withBurning released disowned activityAt if_then_else_
+unfolding tick fire settled burned withBurning timerDue activityDue isDue disownedBy released disowned nextActivity activityAt if_then_else_
 expires-own t q o m e f w = rw (e, f, eqb-hit {a = suc t} {b = suc t} refl, eqb-hit {a = m .owner} {b = q} w)
 
 pub expires-other : (t q : ℕ) (o : Output) (m : Movement) → o .timer ≡ Running q (suc t) → o .activity ≡ Moving m → m .owner ≢ q → suc t < m .over
     → tick t o .activity ≡ Moving m
-unfolding tick fire settled burned withBurning released disowned activityAt if_then_else_
+unfolding tick fire settled burned withBurning timerDue activityDue isDue disownedBy released disowned nextActivity activityAt if_then_else_
 expires-other t q o m e f w l =
     rw (e, f, eqb-hit {a = suc t} {b = suc t} refl, eqb-miss {a = m .owner} {b = q} w, eqb-miss {a = m .over} {b = suc t} (omega arith))
 
@@ -199,26 +200,35 @@ put-alike s z q j i x k n w =
 slots-alike : (t q j : ℕ) (a : Activity) (s : Slots) → length (s .levels) ≡ 16 → q < 16 → q ≢ j → Owned a
     → slot (slotsAt t a (emptied s q)) j ≡ slot (slotsAt t a s) j
 unfolding slotsAt if_then_else_
-slots-alike t q j Still s z k n w = slot-other s z q j none k n
-slots-alike t q j (Moving m) s z k n w = slot-other s z q j none k n
-slots-alike t q j (Blink x y u v) s z k n w =
-    by-bool (eqb u t)
-    (λ e. rw e (by-bool (ltb u v) (λ e′. rw e′ (put-alike s z q j 5 (some y) k n (omega arith))) (λ e′. rw e′ (put-alike s z q j 5 none k n (omega arith)))))
-    (λ e. rw e (slot-other s z q j none k n))
-slots-alike t q j (Delay x v) s z k n w =
-    by-bool (eqb v t)
-    (λ e. rw e
-    (by-eq x j
-    (λ p f. rw p (slot-same (emptied (emptied s q) 5) (put-sized (emptied s q) (put-sized s z q none) 5 none) j none (rw p at w)
-    ∙ sym (slot-same (emptied s 5) (put-sized s z 5 none) j none (rw p at w))))
-    (λ p f. slot-other (emptied (emptied s q) 5) (put-sized (emptied s q) (put-sized s z q none) 5 none) x j none w p
-    ∙ put-alike s z q j 5 none k n (omega arith)
-    ∙ sym (slot-other (emptied s 5) (put-sized s z 5 none) x j none w p))))
-    (λ e. rw e (slot-other s z q j none k n))
+slots-alike t q j a s z k n w = by-bool (isDue t (activityDue a)) (λ e. rw e (next a w)) (λ e. rw e (slot-other s z q j none k n))
+  where
+    phase : (x : Warning) (p : Phase) → x .owner < 16 → slot (phaseSlots x p (emptied s q)) j ≡ slot (phaseSlots x p s) j
+    phase x Blink l = unfold phaseSlots in
+        (by-bool (ltb (x .turn) (x .over))
+        (λ e. rw e (put-alike s z q j 5 (some (x .level)) k n (omega arith)))
+        (λ e. rw e (put-alike s z q j 5 none k n (omega arith))))
+    phase x Delay l = unfold phaseSlots in
+        (by-eq (x .owner) j
+        (λ p e. let i : j < 16 = omega arith in
+        rw p (slot-same (emptied (emptied s q) 5) (put-sized (emptied s q) (put-sized s z q none) 5 none) j none i
+        ∙ sym (slot-same (emptied s 5) (put-sized s z 5 none) j none i)))
+        (λ p e. slot-other (emptied (emptied s q) 5) (put-sized (emptied s q) (put-sized s z q none) 5 none) (x .owner) j none l p
+        ∙ put-alike s z q j 5 none k n (omega arith)
+        ∙ sym (slot-other (emptied s 5) (put-sized s z 5 none) (x .owner) j none l p)))
+
+    next : (b : Activity) → Owned b → slot (nextSlots b (emptied s q)) j ≡ slot (nextSlots b s) j
+    next Still l = unfold nextSlots in (slot-other s z q j none k n)
+    next (Moving m) l = unfold nextSlots in (slot-other s z q j none k n)
+    next (Warned x) l = unfold nextSlots in (phase x (x .phase) l)
+
+-- a movement's end touches no slot
+moving-slots : (d : ℕ) (m : Movement) (s : Slots) → slotsAt d (Moving m) s ≡ s
+unfolding slotsAt nextSlots if_then_else_
+moving-slots d m s = by-bool (isDue d (activityDue (Moving m))) (λ e. rw e) (λ e. rw e)
 
 pub expires-alone : (t q : ℕ) (o : Output) → Sound t o → o .timer ≡ Running q (suc t) → (j : ℕ) → q ≢ j
     → slot (tick t o .slots) j ≡ slot (tick t (untimed o) .slots) j
-unfolding tick fire settled burned withBurning expired released if_then_else_
+unfolding tick fire settled burned withBurning timerDue isDue emptiedBy expired disownedBy released if_then_else_
 expires-alone t q o h e j n =
     let k : Slot q = (subst (λ (z : Timer). Timed t z) e (h .timer)) .0 in
     rw (e, eqb-hit {a = suc t} {b = suc t} refl)
@@ -227,28 +237,29 @@ expires-alone t q o h e j n =
   where
     disowned-slots : (d q j : ℕ) (a : Activity) → slot (slotsAt d (disowned q a) (emptied (o .slots) q)) j ≡ slot (slotsAt d a (emptied (o .slots) q)) j
     disowned-slots d q j Still = unfold disowned in refl
-    disowned-slots d q j (Moving m) = unfold disowned slotsAt if_then_else_ in (by-bool (eqb (m .owner) q) (λ f. rw f) (λ f. rw f))
-    disowned-slots d q j (Blink x y u v) = unfold disowned in refl
-    disowned-slots d q j (Delay x v) = unfold disowned in refl
+    disowned-slots d q j (Moving m) = unfold disowned if_then_else_ in
+        (by-bool
+        (eqb (m .owner) q)
+        (λ f. rw (f, moving-slots d m (emptied (o .slots) q)) (unfold slotsAt activityDue isDue if_then_else_ in refl))
+        (λ f. rw f))
+    disowned-slots d q j (Warned w) = unfold disowned in refl
 
 pub expires-warned : (t q : ℕ) (o : Output) → Sound t o → o .timer ≡ Running q (suc t) → lives (o .slots) 5 ≡ true
     → tick t o .activity ≡ tick t (untimed o) .activity
-unfolding tick fire settled burned withBurning released if_then_else_
+unfolding tick fire settled burned withBurning timerDue isDue disownedBy released if_then_else_
 expires-warned t q o h e l = rw (e, eqb-hit {a = suc t} {b = suc t} refl) (go (o .activity) (h .activity))
   where
     go : (a : Activity) → Acts t (o .settings) (o .slots) a → activityAt (suc t) (disowned q a) ≡ activityAt (suc t) a
     go Still k = absurd (true≢false (sym l ∙ k))
     go (Moving m) k = absurd (true≢false (sym l ∙ k .six))
-    go (Blink x y u v) k = unfold disowned in refl
-    go (Delay x v) k = unfold disowned in refl
+    go (Warned w) k = unfold disowned in refl
 
 -- AND NOT BEFORE: until then the passing of time changes no slot (a warning's phases aside, during which slot 6 is live)
 calm-slots : (t d : ℕ) (o : Output) (a : Activity) → Acts t (o .settings) (o .slots) a → lives (o .slots) 5 ≡ false → slotsAt d a (o .slots) ≡ o .slots
-unfolding slotsAt
+unfolding slotsAt nextSlots activityDue isDue if_then_else_
 calm-slots t d o Still h e = refl
-calm-slots t d o (Moving m) h e = refl
-calm-slots t d o (Blink x y u v) h e = absurd (true≢false (sym (h .0 .six) ∙ e))
-calm-slots t d o (Delay x v) h e = absurd (true≢false (sym (h .six) ∙ e))
+calm-slots t d o (Moving m) h e = moving-slots d m (o .slots)
+calm-slots t d o (Warned w) h e = absurd (true≢false (sym (h .six) ∙ e))
 
 tick-kept : (t : ℕ) (o : Output) → Sound t o → lives (o .slots) 5 ≡ false → TimerAfter (suc t) (o .timer)
     → (tick t o .slots ≡ o .slots) × (tick t o .timer ≡ o .timer)
@@ -265,15 +276,20 @@ not-before (suc n) t o h e a =
     let z : t + suc n ≡ suc t + n = omega arith in
     not-before n (suc t) (tick t o) (tick-sound t o h) (rw (k .0) e) (rw (k .1) (rw z at a)) ∙ k .0
 
+-- A COMMAND WHOSE OTHER FIELDS ARE IN RANGE, which are checked before it, is judged by its duration field
+pub in-range : (k : Operation) (d : ℕ) → fieldsRefusal standard (fieldsOf k) ≡ 0 → ordered standard k d ≡ lasting standard k d
+unfolding ordered orderedBy if_then_else_
+in-range k d e = rw e
+
 -- A COMMAND'S DURATION FIELD d, of an output that keeps the rules. 100 to 86,400,000: whatever comes but a command, slot p is empty d ms later
 pub duration-lasts : (t d : ℕ) (o : Output) (k : Operation) → 100 ≤ d → d ≤ 86400000
-    → acted t o (ordered standard k d) .output .timer ≡ Running (o .settings .slot) (t + d)
-unfolding acted made settled ordered within commanded commandedFrom withCommand timed if_then_else_
+    → acted t o (lasting standard k d) .output .timer ≡ Running (o .settings .slot) (t + d)
+unfolding acted made settled lasting within commanded commandedFrom withCommand timed if_then_else_
 duration-lasts t d o k h m =
     rw (eqb-miss {a = d} {b = 0xffff_ffff} (omega arith), eqb-miss {a = d} {b = 0} (omega arith), leb-yes {a = 100} {b = d} h, leb-yes {a = d} {b = 86400000} m)
 
 pub duration-empties : {t t′ : ℕ} {o′ : Output} (o : Output) (d : ℕ) (k : Operation) → 100 ≤ d → d ≤ 86400000
-    → Sound t (acted t o (ordered standard k d) .output) → Life t (acted t o (ordered standard k d) .output) t′ o′ → suc t′ ≡ t + d
+    → Sound t (acted t o (lasting standard k d) .output) → Life t (acted t o (lasting standard k d) .output) t′ o′ → suc t′ ≡ t + d
     → (slot (tick t′ o′ .slots) (o .settings .slot) ≡ none) × (tick t′ o′ .timer ≡ Off)
 duration-empties {t} {t′} {o′} o d k h m sound l e =
     expires t′ (o .settings .slot) o′ (life-sound l sound)
@@ -281,23 +297,23 @@ duration-empties {t} {t′} {o′} o d k h m sound l e =
     ∙ ap (λ (z : ℕ). Running (o .settings .slot) z) (sym e))
 
 -- 0 cancels, and what was cancelled never falls due
-pub duration-cancels : {t t′ : ℕ} {o′ : Output} (o : Output) (k : Operation) → Life t (acted t o (ordered standard k 0) .output) t′ o′ → o′ .timer ≡ Off
+pub duration-cancels : {t t′ : ℕ} {o′ : Output} (o : Output) (k : Operation) → Life t (acted t o (lasting standard k 0) .output) t′ o′ → o′ .timer ≡ Off
 duration-cancels {t} o k l = stays-off l off
   where
-    off : acted t o (ordered standard k 0) .output .timer ≡ Off
-    off = unfold acted made settled ordered commanded commandedFrom withCommand timed if_then_else_ in refl
+    off : acted t o (lasting standard k 0) .output .timer ≡ Off
+    off = unfold acted made settled lasting commanded commandedFrom withCommand timed if_then_else_ in refl
 
 -- FFFFFFFF leaves it
-pub duration-absent : (t : ℕ) (o : Output) (k : Operation) → acted t o (ordered standard k 0xffff_ffff) .output .timer ≡ o .timer
-unfolding acted made settled ordered commanded commandedFrom withCommand timed if_then_else_
+pub duration-absent : (t : ℕ) (o : Output) (k : Operation) → acted t o (lasting standard k 0xffff_ffff) .output .timer ≡ o .timer
+unfolding acted made settled lasting commanded commandedFrom withCommand timed if_then_else_
 duration-absent t o k = refl
 
 -- any other is refused: 1 to 99, and above 86,400,000
-pub duration-low : (d : ℕ) (k : Operation) → 0 < d → d < 100 → ordered standard k d ≡ Refuse 12
-unfolding ordered within if_then_else_
+pub duration-low : (d : ℕ) (k : Operation) → 0 < d → d < 100 → lasting standard k d ≡ Refuse 12
+unfolding lasting within if_then_else_
 duration-low d k h m = rw (eqb-miss {a = d} {b = 0xffff_ffff} (omega arith), eqb-miss {a = d} {b = 0} (omega arith), leb-no {a = 100} {b = d} m)
 
-pub duration-high : (d : ℕ) (k : Operation) → 86400000 < d → d ≢ 0xffff_ffff → ordered standard k d ≡ Refuse 12
-unfolding ordered within if_then_else_
+pub duration-high : (d : ℕ) (k : Operation) → 86400000 < d → d ≢ 0xffff_ffff → lasting standard k d ≡ Refuse 12
+unfolding lasting within if_then_else_
 duration-high d k h n =
     rw (eqb-miss {a = d} {b = 0xffff_ffff} n, eqb-miss {a = d} {b = 0} (omega arith), leb-yes {a = 100} {b = d} (omega arith), leb-no {a = d} {b = 86400000} h)

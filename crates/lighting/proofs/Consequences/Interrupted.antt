@@ -1,23 +1,21 @@
 -- WHAT ENDS A WARNING, AND WHAT IT LEAVES. A warning is running exactly while slot 6 is live (the record rules). Assumes nothing.
-use mathlib.Core.Path.{_≡_, refl, sym, ap, _∙_}
+use mathlib.Core.Path.{_≡_, refl, sym, _∙_}
 use mathlib.Core.Logic.{_≢_}
-use mathlib.Core.Bool.{true, false, true≢false, false≢true}
+use mathlib.Core.Bool.{true, false, false≢true}
 use mathlib.Core.Option.{Option, none, some}
-use Prim.Native.Nat.{ℕ, suc, _<_}
+use Prim.Native.Nat.{ℕ, _<_}
 use native.Mathlib.Omega.{arith}
-use lib.Dec.{eqb, ltb}
 use lib.ListN.{length}
 use Rattle.lighting.specs.Choice.{if_then_else_}
-use Rattle.lighting.specs.Slots.{Slots, slot, lives, put, emptied, filled}
-use Rattle.lighting.specs.Writing.{withEffect, passedOver, stored, warns, endedEmpty, endedStored, writtenWarned, writtenZero, writtenCalm, writtenBy, written, vacatedActivity, vacated}
+use Rattle.lighting.specs.Slots.{slot, lives, put, emptied}
+use Rattle.lighting.specs.Writing.{withEffect, passedOver, endedEmpty, endedStored, writtenWarned, writtenBy, written, vacatedActivity, vacated}
 use Rattle.lighting.specs.declared.Activity.{Activity}
-use Rattle.lighting.specs.declared.Activity.the-variants.{Still, Moving, Blink, Delay}
+use Rattle.lighting.specs.declared.Activity.the-variants.{Still, Moving, Warned}
 use Rattle.lighting.specs.declared.Output.{Output}
-use Rattle.lighting.proofs.Split.{by-bool, eqb-hit, eqb-miss, leb-yes, leb-no}
+use Rattle.lighting.proofs.Split.{by-bool, eqb-miss, leb-yes, leb-no}
 use Rattle.lighting.proofs.Facts.{Slot, Acts, Sound}
 use Rattle.lighting.proofs.Winner.{put-sized}
 use Rattle.lighting.proofs.Consequences.Present.{slot-same, slot-other}
-use Rattle.lighting.proofs.Consequences.Warning.{Starts, warns-starts}
 
 -- what is left: slot 6 is a, slot i is b, every other slot is as it was, and what is under way is w
 pub record Leaves (o o′ : Output) (i : ℕ) (a b : Option ℕ) (w : Activity) : Type 0 where
@@ -46,8 +44,7 @@ warned-by : (t : ℕ) (o : Output) (i v : ℕ) (a : Activity) → Acts t (o .set
 unfolding writtenBy
 warned-by t o i v Still h e = absurd (false≢true (sym h ∙ e))
 warned-by t o i v (Moving m) h e = absurd (false≢true (sym (h .six) ∙ e))
-warned-by t o i v (Blink owner level turn over) h e = refl
-warned-by t o i v (Delay owner over) h e = refl
+warned-by t o i v (Warned w) h e = refl
 
 module _ (t : ℕ) (o : Output) (h : Sound t o) (runs : lives (o .slots) 5 ≡ true) (i : ℕ) (k : Slot i) where
   -- 'kind 02 of zero at P above 6 empties slots 6 and P'
@@ -85,7 +82,5 @@ module _ (t : ℕ) (o : Output) (h : Sound t o) (runs : lives (o .slots) 5 ≡ t
       left : (a : Activity) → Acts t (o .settings) (o .slots) a → vacatedActivity (lives (o .slots) i) i a ≡ a
       left Still q = absurd (false≢true (sym q ∙ runs))
       left (Moving m) q = absurd (false≢true (sym (q .six) ∙ runs))
-      left (Blink owner level turn over) q =
-          unfold vacatedActivity passedOver if_then_else_ in (by-bool (lives (o .slots) i) (λ e. rw e) (λ e. rw e))
-      left (Delay owner over) q =
+      left (Warned w) q =
           unfold vacatedActivity passedOver if_then_else_ in (by-bool (lives (o .slots) i) (λ e. rw e) (λ e. rw e))

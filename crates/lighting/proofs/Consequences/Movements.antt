@@ -12,13 +12,13 @@ use Rattle.lighting.specs.Choice.{if_then_else_}
 use Rattle.lighting.specs.Level.{levelUnits, amountUnits}
 use Rattle.lighting.specs.Slots.{Slots, winner, filled}
 use Rattle.lighting.specs.Value.{brought, presentValue, elapsed, gone, reachedBy, reached, progressBy, progressValue, inProcess}
-use Rattle.lighting.specs.Passing.{withBurning, burned, timerAt, expired, released, activityAt, slotsAt, settled, fire, ticks}
+use Rattle.lighting.specs.Passing.{withBurning, burned, activityDue, isDue, nextActivity, activityAt, nextSlots, slotsAt, settled, fire, ticks}
 use Rattle.lighting.specs.Commands.{unwarned, unwarnedActivity, replaced, placed, movement, apart, rampLength, target, fadedOver, fadedTo, rampedAt, rampedTo, effect, withCommand, commandedFrom, commanded}
 use Rattle.lighting.specs.declared.Pace.{Pace}
 use Rattle.lighting.specs.declared.Pace.the-variants.{Fade, Ramp}
 use Rattle.lighting.specs.declared.Movement.{Movement}
 use Rattle.lighting.specs.declared.Activity.{Activity}
-use Rattle.lighting.specs.declared.Activity.the-variants.{Still, Moving, Blink, Delay}
+use Rattle.lighting.specs.declared.Activity.the-variants.{Still, Moving, Warned}
 use Rattle.lighting.specs.declared.Timer.{Timer}
 use Rattle.lighting.specs.declared.Timer.the-variants.{Off, Running}
 use Rattle.lighting.specs.declared.Duration.{Duration}
@@ -27,13 +27,13 @@ use Rattle.lighting.specs.declared.Command.{Command}
 use Rattle.lighting.specs.declared.Effect.{Effect}
 use Rattle.lighting.specs.declared.Output.{Output}
 use Rattle.lighting.proofs.Split.{by-eq, by-le, eqb-hit, eqb-miss}
-use Rattle.lighting.proofs.Passing.{TimerAfter, After, timer-earlier, released-quiet, expired-quiet, quiet-ticks, hop-ticks}
-use Rattle.lighting.proofs.Facts.{Moves, Acts, Timed, Sound}
+use Rattle.lighting.proofs.Passing.{TimerAfter, After, both-after, timer-earlier, released-quiet, expired-quiet, quiet-ticks, hop-ticks}
+use Rattle.lighting.proofs.Facts.{Acts, Timed, Sound}
 use Rattle.lighting.proofs.Good.{GoodOperation, GoodDuration}
 use Rattle.lighting.proofs.Mask.{put-size}
 use Rattle.lighting.proofs.Winner.{topmost-filled}
 use Rattle.lighting.proofs.Ranges.{amount-range}
-use Rattle.lighting.proofs.Shown.{brought-brought, ramp-span}
+use Rattle.lighting.proofs.Shown.{brought-brought}
 use Rattle.lighting.proofs.Commanded.{commanded-sound}
 
 -- THE FORMULA, up or down: of the two ways g - s and s - g one is 0
@@ -95,7 +95,7 @@ ramped-before s g r k h l =
 -- at its last moment a movement ends, and no slot changes
 over-at : (d : ℕ) (o : Output) (m : Movement) → o .activity ≡ Moving m → m .over ≡ d → TimerAfter d (o .timer)
     → (fire d o .activity ≡ Still) × (fire d o .slots ≡ o .slots) × (fire d o .settings ≡ o .settings)
-unfolding fire settled activityAt slotsAt if_then_else_
+unfolding fire settled isDue activityDue nextActivity activityAt nextSlots slotsAt if_then_else_
 over-at d o m e h a =
     rw (released-quiet d (o .timer) (o .activity) a, expired-quiet d (o .timer) (o .slots) a, e, eqb-hit {a = m .over} {b = d} h)
     (refl, refl, refl)
@@ -107,7 +107,7 @@ progress-still t o e = rw e
 -- A MOVEMENT just begun, of a record that keeps the rules, if no frame comes: k milliseconds later Progress_Value is what the formula says
 module _ (t : ℕ) (o : Output) (m : Movement) (moves : o .activity ≡ Moving m) (begun : m .over ≡ t + m .length) where
   moving-after : (k : ℕ) → k < m .length → TimerAfter (t + k) (o .timer) → After (t + k) o
-  moving-after k h a = record { timer = a; activity = rw moves (omega arith) }
+  moving-after k h a = both-after (t + k) o a (rw moves (unfold activityDue in (omega arith)))
 
   pub moving : (k : ℕ) → k < m .length → TimerAfter (t + k) (o .timer)
       → (progressValue (t + k) (ticks k t o) ≡ along (m .pace) (m .start) (m .target) (m .length) k) × (inProcess (ticks k t o .activity) ≡ 1)
@@ -160,7 +160,7 @@ timer-sound t (Running q d) h = h .1
 resting : (t k : ℕ) (o : Output) → o .activity ≡ Still → TimerAfter (t + k) (o .timer)
     → (progressValue (t + k) (ticks k t o) ≡ presentValue (o .settings) (o .slots)) × (inProcess (ticks k t o .activity) ≡ 0)
 unfolding burned withBurning progressValue progressBy inProcess
-resting t k o e a = rw (quiet-ticks k t o (record { timer = a; activity = rw e tt }), e) (refl, refl)
+resting t k o e a = rw (quiet-ticks k t o (both-after (t + k) o a (rw e (unfold activityDue in tt))), e) (refl, refl)
 
 module _ (t : ℕ) (o o′ : Output) (p g l : ℕ) (w : Pace) (sound : Sound t o′)
     (acts : o′ .activity ≡ movement t p (progressValue t o) g l w)
@@ -199,8 +199,7 @@ pub unwarned-size : (s : Slots) (a : Activity) → length (unwarned s a .levels)
 unfolding unwarned
 unwarned-size s Still = refl
 unwarned-size s (Moving m) = refl
-unwarned-size s (Blink owner level turn over) = put-size s 5 none
-unwarned-size s (Delay owner over) = put-size s 5 none
+unwarned-size s (Warned w) = put-size s 5 none
 
 -- 'If p is then the winner it replaces the movement': the four commands that move, to the target x
 module _ (t : ℕ) (o : Output) (k : Command) (h : Sound t o) (good : GoodOperation (k .operation)) (lasts : GoodDuration (k .duration))

@@ -1,25 +1,21 @@
 -- KINDS 02 AND 03 without a warning: what is stored, and which movement goes on; and what Present_Value becomes. Assumes nothing.
-use mathlib.Core.Path.{_≡_, refl, sym, ap, _∙_}
+use mathlib.Core.Path.{_≡_, sym, _∙_}
 use mathlib.Core.Logic.{_≢_}
 use mathlib.Core.Bool.{true, false}
-use mathlib.Core.Option.{Option, none, some}
+use mathlib.Core.Option.{none, some}
 use Prim.Native.Nat.{ℕ, suc, _≤_, _<_}
 use native.Mathlib.Omega.{arith}
-use lib.Dec.{eqb}
 use Rattle.lighting.specs.Choice.{if_then_else_}
-use Rattle.lighting.specs.Slots.{Slots, slot, lives, filled, emptied}
+use Rattle.lighting.specs.Slots.{slot, lives}
 use Rattle.lighting.specs.Value.{brought, presentValue}
-use Rattle.lighting.specs.Writing.{withEffect, passedOver, stored, warns, writtenWarned, writtenZero, writtenCalm, writtenBy, written, vacatedActivity, vacated}
-use Rattle.lighting.specs.Commands.{commanded}
+use Rattle.lighting.specs.Writing.{withEffect, passedOver, stored, warns, writtenZero, writtenCalm, written, vacatedActivity, vacated}
 use Rattle.lighting.specs.declared.Movement.{Movement}
-use Rattle.lighting.specs.declared.Activity.{Activity}
-use Rattle.lighting.specs.declared.Activity.the-variants.{Still, Moving, Blink, Delay}
+use Rattle.lighting.specs.declared.Activity.the-variants.{Still, Moving}
 use Rattle.lighting.specs.declared.Duration.{Duration}
 use Rattle.lighting.specs.declared.Operation.the-variants.{Relinquish}
 use Rattle.lighting.specs.declared.Output.{Output}
-use Rattle.lighting.proofs.Split.{by-bool, by-eq, eqb-hit, eqb-miss, leb-yes, leb-no}
-use Rattle.lighting.proofs.Facts.{Slot, Acts, Sound}
-use Rattle.lighting.proofs.Winner.{put-sized}
+use Rattle.lighting.proofs.Split.{by-bool, by-eq, eqb-miss, leb-yes, leb-no}
+use Rattle.lighting.proofs.Facts.{Slot, Sound}
 use Rattle.lighting.proofs.Good.{GoodDuration}
 use Rattle.lighting.proofs.Commanded.{commanded-sound}
 use Rattle.lighting.proofs.Consequences.Present.{slot-same, slot-other, present-at, present-none, next-live, none-live}

@@ -1,7 +1,6 @@
 -- WHAT A COMMAND LEAVES IN THE SLOTS: in slot p what its operation says, slot 6 empty, every other slot as it was. Assumes nothing.
 use mathlib.Core.Path.{_≡_, refl, sym, ap, _∙_}
 use mathlib.Core.Logic.{_≢_}
-use mathlib.Core.Bool.{true, false}
 use mathlib.Core.Option.{Option, none, some}
 use Prim.Native.Nat.{ℕ, _+_, _-_, _<_, min, max}
 use native.Mathlib.Omega.{arith}
@@ -9,22 +8,21 @@ use lib.Ieee.{Float}
 use lib.ListN.{length}
 use Rattle.lighting.specs.Choice.{if_then_else_}
 use Rattle.lighting.specs.Level.{levelUnits, amountUnits}
-use Rattle.lighting.specs.Slots.{Slots, slot, winner, put, filled, emptied}
+use Rattle.lighting.specs.Slots.{Slots, slot, winner, put, filled}
 use Rattle.lighting.specs.Value.{brought, presentValue, progressBy, progressValue, inProcess}
 use Rattle.lighting.specs.Passing.{disowned}
 use Rattle.lighting.specs.Commands.{unwarned, unwarnedActivity, replaced, placed, target, fadedOver, fadedTo, rampedAt, rampedTo, jumped, wentTo, stepUpFrom, stepDownFrom, steppedUp, steppedDown, raised, halted, asItIs, stopped, relinquished, effect, withCommand, commandedFrom, commanded}
 use Rattle.lighting.specs.declared.Settings.{Settings}
 use Rattle.lighting.specs.declared.Movement.{Movement}
 use Rattle.lighting.specs.declared.Activity.{Activity}
-use Rattle.lighting.specs.declared.Activity.the-variants.{Still, Moving, Blink, Delay}
+use Rattle.lighting.specs.declared.Activity.the-variants.{Still, Moving, Warned}
 use Rattle.lighting.specs.declared.Duration.{Duration}
 use Rattle.lighting.specs.declared.Operation.{Operation}
 use Rattle.lighting.specs.declared.Operation.the-variants.{Stop, FadeTo, FadeToOver, RampTo, RampToAtRate, StepUp, StepDown, StepUpBy, StepDownBy, Goto, Relinquish}
 use Rattle.lighting.specs.declared.Effect.{Effect}
 use Rattle.lighting.specs.declared.Output.{Output}
-use Rattle.lighting.proofs.Split.{by-eq, eqb-hit, eqb-miss}
-use Rattle.lighting.proofs.Facts.{Slot, Acts, Sound}
-use Rattle.lighting.proofs.Winner.{put-sized}
+use Rattle.lighting.proofs.Split.{eqb-hit, eqb-miss}
+use Rattle.lighting.proofs.Facts.{Acts, Sound}
 use Rattle.lighting.proofs.Consequences.Present.{slot-same, slot-other}
 use Rattle.lighting.proofs.Consequences.Movements.{unwarned-size}
 use Rattle.lighting.proofs.Consequences.Warning.{dead-slot}
@@ -46,22 +44,19 @@ unwarned-six : (t : ℕ) (c : Settings) (s : Slots) (a : Activity) → length (s
 unfolding unwarned
 unwarned-six t c s Still z h = dead-slot s 5 z (omega arith) h
 unwarned-six t c s (Moving m) z h = dead-slot s 5 z (omega arith) (h .six)
-unwarned-six t c s (Blink owner level turn over) z h = slot-same s z 5 none (omega arith)
-unwarned-six t c s (Delay owner over) z h = slot-same s z 5 none (omega arith)
+unwarned-six t c s (Warned w) z h = slot-same s z 5 none (omega arith)
 
 unwarned-rest : (s : Slots) (a : Activity) (j : ℕ) → length (s .levels) ≡ 16 → j ≢ 5 → slot (unwarned s a) j ≡ slot s j
 unfolding unwarned
 unwarned-rest s Still j z n = refl
 unwarned-rest s (Moving m) j z n = refl
-unwarned-rest s (Blink owner level turn over) j z n = slot-other s z 5 j none (omega arith) (λ e. n (sym e))
-unwarned-rest s (Delay owner over) j z n = slot-other s z 5 j none (omega arith) (λ e. n (sym e))
+unwarned-rest s (Warned w) j z n = slot-other s z 5 j none (omega arith) (λ e. n (sym e))
 
 -- STOP, and RELINQUISH's movement, of what was under way
 abbrev pub NotMoving : Activity → Type 0
 NotMoving Still = Unit {0}
 NotMoving (Moving m) = ⊥
-NotMoving (Blink owner level turn over) = Unit {0}
-NotMoving (Delay owner over) = Unit {0}
+NotMoving (Warned w) = Unit {0}
 
 -- 'Without a movement, in a warning too, Progress_Value equals Present_Value'; 'In_Process (1 exactly while a movement lasts, else 0)'
 pub progress-present : (t : ℕ) (o : Output) → NotMoving (o .activity) → progressValue t o ≡ presentValue (o .settings) (o .slots)
@@ -71,15 +66,13 @@ progress-present t o n = go (o .activity) n
     go : (a : Activity) → NotMoving a → progressBy t (presentValue (o .settings) (o .slots)) a ≡ presentValue (o .settings) (o .slots)
     go Still n = unfold progressBy in refl
     go (Moving m) n = elim n [ ]
-    go (Blink owner level turn over) n = unfold progressBy in refl
-    go (Delay owner over) n = unfold progressBy in refl
+    go (Warned w) n = unfold progressBy in refl
 
 pub not-in-process : (a : Activity) → NotMoving a → inProcess a ≡ 0
 unfolding inProcess
 not-in-process Still n = refl
 not-in-process (Moving m) n = elim n [ ]
-not-in-process (Blink owner level turn over) n = refl
-not-in-process (Delay owner over) n = refl
+not-in-process (Warned w) n = refl
 
 stop-own : (t : ℕ) (c : Settings) (f : ℕ) (s : Slots) (a : Activity) (m : Movement) → a ≡ Moving m → m .owner ≡ c .slot
     → effect t c f s (unwarnedActivity a) Stop ≡ halted c f s
@@ -95,8 +88,7 @@ stop-none : (t : ℕ) (c : Settings) (f : ℕ) (s : Slots) (a : Activity) → No
 unfolding effect stopped unwarnedActivity
 stop-none t c f s Still n = refl
 stop-none t c f s (Moving m) n = elim n [ ]
-stop-none t c f s (Blink owner level turn over) n = refl
-stop-none t c f s (Delay owner over) n = refl
+stop-none t c f s (Warned w) n = refl
 
 disowned-own : (p : ℕ) (a : Activity) (m : Movement) → a ≡ Moving m → m .owner ≡ p → disowned p (unwarnedActivity a) ≡ Still
 unfolding disowned unwarnedActivity if_then_else_

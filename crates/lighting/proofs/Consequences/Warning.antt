@@ -8,19 +8,21 @@ use mathlib.Core.Option.{Option, none, some}
 use Prim.Native.Nat.{ℕ, zero, suc, _+_, _-_, _≤_, _<_}
 use native.Mathlib.Omega.{arith}
 use lib.ListN.{getD, length}
-use Rattle.lighting.specs.Choice.{if_then_else_, allFrom}
+use Rattle.lighting.specs.Choice.{if_then_else_}
 use Rattle.lighting.specs.Slots.{Slots, slot, slotsOf, topmost, firstLive, winner, lives, put, emptied, filled}
 use Rattle.lighting.specs.Value.{brought, presentValue}
-use Rattle.lighting.specs.Passing.{withBurning, burned, timerAt, activityAt, slotsAt, settled, fire, ticks}
-use Rattle.lighting.specs.Writing.{withEffect, passedOver, stored, dark, darkFrom, blinks, darkAbove, warnsBy, warns, firstLevel, firstPhase, warnedBy, warned, endedEmpty, endedStored, writtenWarned, writtenZero, writtenCalm, writtenBy, written, vacatedActivity, vacated}
+use Rattle.lighting.specs.Passing.{withBurning, burned, phaseEnd, activityDue, isDue, delayed, nextPhase, nextActivity, activityAt, phaseSlots, nextSlots, slotsAt, settled, fire, ticks}
+use Rattle.lighting.specs.Writing.{withEffect, dark, darkFrom, blinks, darkAbove, warnsBy, warns, firstLevel, firstPhase, warningFrom, warnedBy, warned, writtenZero, writtenCalm, writtenBy, written}
 use Rattle.lighting.specs.declared.Settings.{Settings}
+use Rattle.lighting.specs.declared.Phase.{Phase}
+use Rattle.lighting.specs.declared.Phase.the-variants.{Blink, Delay}
 use Rattle.lighting.specs.declared.Activity.{Activity}
-use Rattle.lighting.specs.declared.Activity.the-variants.{Still, Moving, Blink, Delay}
+use Rattle.lighting.specs.declared.Activity.the-variants.{Still, Moving, Warned}
 use Rattle.lighting.specs.declared.Timer.{Timer}
 use Rattle.lighting.specs.declared.Output.{Output}
-use Rattle.lighting.proofs.Split.{also-yes, also-both, by-bool, by-eq, by-lt, eqb-hit, eqb-miss, leb-yes, leb-no, le-of, eq-of}
+use Rattle.lighting.proofs.Split.{also-yes, also-both, by-bool, by-eq, by-lt, eqb-hit, leb-yes, leb-no, le-of, eq-of}
 use Rattle.lighting.proofs.Scan.{all-each, each-all}
-use Rattle.lighting.proofs.Passing.{TimerAfter, ActivityAfter, After, timer-earlier, timer-quiet, expired-quiet, released-quiet, quiet-ticks, hop-ticks, ticks-add}
+use Rattle.lighting.proofs.Passing.{TimerAfter, After, both-after, timer-earlier, timer-quiet, expired-quiet, released-quiet, quiet-ticks, hop-ticks, ticks-add}
 use Rattle.lighting.proofs.Mask.{alive, slots-size, slot-is, lives-slot}
 use Rattle.lighting.proofs.Facts.{Acts, Sound}
 use Rattle.lighting.proofs.Shown.{brought-brought}
@@ -108,6 +110,10 @@ module _ {c : Settings} {s : Slots} {x v : ℕ} {a b : Option ℕ} (n t : ℕ) (
   unfolding burned withBurning
   waits k h = rw (quiet-ticks n t o k) (record { settings = h .settings; slots = h .slots; present = h .present })
 
+-- a warning of slot x in the phase p, with the old level y, the turn u and the end v
+abbrev warningIn : Phase → ℕ → ℕ → ℕ → ℕ → Activity
+warningIn p x y u v = Warned (record { phase = p; owner = x; level = y; turn = u; over = v })
+
 -- the turn of a warning, and its end
 record Became (o o′ : Output) (z : Slots) (a : Activity) : Type 0 where
   settings : o′ .settings ≡ o .settings
@@ -115,24 +121,24 @@ record Became (o o′ : Output) (z : Slots) (a : Activity) : Type 0 where
   activity : o′ .activity ≡ a
   timer : o′ .timer ≡ o .timer
 
-turns : (d x y v : ℕ) (o : Output) → o .activity ≡ Blink x y d v → TimerAfter d (o .timer) → d < v
-    → Became o (fire d o) (filled (o .slots) 5 y) (Delay x v)
-unfolding fire settled activityAt slotsAt if_then_else_
+turns : (d x y v : ℕ) (o : Output) → o .activity ≡ warningIn Blink x y d v → TimerAfter d (o .timer) → d < v
+    → Became o (fire d o) (filled (o .slots) 5 y) (warningIn Delay x y d v)
+unfolding fire settled isDue phaseEnd activityDue delayed nextPhase nextActivity activityAt phaseSlots nextSlots slotsAt if_then_else_
 turns d x y v o e a l =
     rw (released-quiet d (o .timer) (o .activity) a, expired-quiet d (o .timer) (o .slots) a, timer-quiet d (o .timer) a, e, eqb-hit {a = d} {b = d} refl, leb-yes {a = suc d} {b = v} l)
     (record { settings = refl; slots = refl; activity = refl; timer = refl })
 
-turns-off : (d x y v : ℕ) (o : Output) → o .activity ≡ Blink x y d v → TimerAfter d (o .timer) → v ≤ d
+turns-off : (d x y v : ℕ) (o : Output) → o .activity ≡ warningIn Blink x y d v → TimerAfter d (o .timer) → v ≤ d
     → Became o (fire d o) (emptied (o .slots) 5) Still
-unfolding fire settled activityAt slotsAt if_then_else_
+unfolding fire settled isDue phaseEnd activityDue delayed nextPhase nextActivity activityAt phaseSlots nextSlots slotsAt if_then_else_
 turns-off d x y v o e a l =
     rw (released-quiet d (o .timer) (o .activity) a, expired-quiet d (o .timer) (o .slots) a, timer-quiet d (o .timer) a, e, eqb-hit {a = d} {b = d} refl, leb-no {a = suc d} {b = v} (omega arith))
     (record { settings = refl; slots = refl; activity = refl; timer = refl })
 
-ends : (d x : ℕ) (o : Output) → o .activity ≡ Delay x d → TimerAfter d (o .timer)
+ends : (d x y u : ℕ) (o : Output) → o .activity ≡ warningIn Delay x y u d → TimerAfter d (o .timer)
     → Became o (fire d o) (emptied (emptied (o .slots) 5) x) Still
-unfolding fire settled activityAt slotsAt if_then_else_
-ends d x o e a =
+unfolding fire settled isDue phaseEnd activityDue delayed nextPhase nextActivity activityAt phaseSlots nextSlots slotsAt if_then_else_
+ends d x y u o e a =
     rw (released-quiet d (o .timer) (o .activity) a, expired-quiet d (o .timer) (o .slots) a, timer-quiet d (o .timer) a, e, eqb-hit {a = d} {b = d} refl)
     (record { settings = refl; slots = refl; activity = refl; timer = refl })
 
@@ -166,34 +172,34 @@ module _ (c : Settings) (s : Slots) (x y : ℕ) (starts : Starts c s x) (inside 
 
   module _ (t : ℕ) (o : Output) where
     -- the second: slot 6 holds Y for D ms, then both slots are empty
-    delaying : (n d : ℕ) → o .activity ≡ Delay x (t + d) → Seen c s x (some y) (some 0) y o → TimerAfter (t + n) (o .timer) → n < d
+    delaying : (n d u : ℕ) → o .activity ≡ warningIn Delay x y u (t + d) → Seen c s x (some y) (some 0) y o → TimerAfter (t + n) (o .timer) → n < d
         → Seen c s x (some y) (some 0) y (ticks n t o)
-    delaying n d e h a l = waits n t o (record { timer = a; activity = rw e (omega arith) }) h
+    delaying n d u e h a l = waits n t o (both-after (t + n) o a (rw e (unfold activityDue phaseEnd in (omega arith)))) h
 
-    delayed : (n d : ℕ) → 0 < d → o .activity ≡ Delay x (t + d) → Seen c s x (some y) (some 0) y o → TimerAfter (t + n) (o .timer) → d ≤ n
+    ended : (n d u : ℕ) → 0 < d → o .activity ≡ warningIn Delay x y u (t + d) → Seen c s x (some y) (some 0) y o → TimerAfter (t + n) (o .timer) → d ≤ n
         → Seen c s x none none 0 (ticks n t o)
     unfolding burned withBurning
-    delayed n d p e h a l =
-        let q : After (t + (d - 1)) o = record { timer = timer-earlier (o .timer) (omega arith) a; activity = rw e (omega arith) } in
+    ended n d u p e h a l =
+        let q : After (t + (d - 1)) o = both-after (t + (d - 1)) o (timer-earlier (o .timer) (omega arith) a) (rw e (unfold activityDue phaseEnd in (omega arith))) in
         let r = at-last t d o (emptied (emptied (o .slots) 5) x) Still p q
-        (ends (t + d) x (burned t d o) e (timer-earlier (o .timer) (omega arith) a)) in
+        (ends (t + d) x y u (burned t d o) e (timer-earlier (o .timer) (omega arith) a)) in
         later n d t o l
         (waits (n - d) (t + d) (ticks d t o)
-        (record { timer = timer-at (t + d + (n - d)) (o .timer) (ticks d t o .timer) (r .timer) (omega arith) a; activity = rw (r .activity) tt })
+        (both-after (t + d + (n - d)) (ticks d t o) (timer-at (t + d + (n - d)) (o .timer) (ticks d t o .timer) (r .timer) (omega arith) a) (rw (r .activity) (unfold activityDue in tt)))
         (seen-over (ticks d t o) tt (r .settings ∙ h .settings) (rw (r .slots) (put-own none inside apart-six (put-six none apart-six (h .slots))))))
 
     -- the first: slot 6 holds 0 for B ms, then comes the second, or without D the end, at which slot x keeps its 0
-    module _ (b d : ℕ) (p : 0 < b) (e : o .activity ≡ Blink x y (t + b) (t + b + d)) (h : Seen c s x (some 0) (some 0) 0 o) where
+    module _ (b d : ℕ) (p : 0 < b) (e : o .activity ≡ warningIn Blink x y (t + b) (t + b + d)) (h : Seen c s x (some 0) (some 0) 0 o) where
       blinking : (n : ℕ) → TimerAfter (t + n) (o .timer) → n < b → Seen c s x (some 0) (some 0) 0 (ticks n t o)
-      blinking n a l = waits n t o (record { timer = a; activity = rw e (omega arith) }) h
+      blinking n a l = waits n t o (both-after (t + n) o a (rw e (unfold activityDue phaseEnd in (omega arith)))) h
 
       before-turn : (n : ℕ) → TimerAfter (t + n) (o .timer) → b ≤ n → After (t + (b - 1)) o
-      before-turn n a l = record { timer = timer-earlier (o .timer) (omega arith) a; activity = rw e (omega arith) }
+      before-turn n a l = both-after (t + (b - 1)) o (timer-earlier (o .timer) (omega arith) a) (rw e (unfold activityDue phaseEnd in (omega arith)))
 
-      turned : (n : ℕ) → TimerAfter (t + n) (o .timer) → b ≤ n → 0 < d → Became o (ticks b t o) (filled (o .slots) 5 y) (Delay x (t + b + d))
+      turned : (n : ℕ) → TimerAfter (t + n) (o .timer) → b ≤ n → 0 < d → Became o (ticks b t o) (filled (o .slots) 5 y) (warningIn Delay x y (t + b) (t + b + d))
       unfolding burned withBurning
       turned n a l q =
-          at-last t b o (filled (o .slots) 5 y) (Delay x (t + b + d)) p (before-turn n a l)
+          at-last t b o (filled (o .slots) 5 y) (warningIn Delay x y (t + b) (t + b + d)) p (before-turn n a l)
           (turns (t + b) x y (t + b + d) (burned t b o) e (timer-earlier (o .timer) (omega arith) a) (omega arith))
 
       turned-off : (n : ℕ) → TimerAfter (t + n) (o .timer) → b ≤ n → d ≡ 0 → Became o (ticks b t o) (emptied (o .slots) 5) Still
@@ -207,7 +213,7 @@ module _ (c : Settings) (s : Slots) (x y : ℕ) (starts : Starts c s x) (inside 
           let r = turned-off n a l q in
           later n b t o l
           (waits (n - b) (t + b) (ticks b t o)
-          (record { timer = timer-at (t + b + (n - b)) (o .timer) (ticks b t o .timer) (r .timer) (omega arith) a; activity = rw (r .activity) tt })
+          (both-after (t + b + (n - b)) (ticks b t o) (timer-at (t + b + (n - b)) (o .timer) (ticks b t o .timer) (r .timer) (omega arith) a) (rw (r .activity) (unfold activityDue in tt)))
           (seen-over (ticks b t o) refl (r .settings ∙ h .settings) (rw (r .slots) (put-six none apart-six (h .slots)))))
 
 -- WHEN A WARNING STARTS: exactly under the paper's conditions
@@ -289,38 +295,39 @@ begun c s x z k n w =
     }
 
 module _ (c : Settings) (s : Slots) (x y : ℕ) (starts : Starts c s x) (inside : x < 16) (same : brought c y ≡ y) (t : ℕ) (o : Output) where
-  from-blink : 0 < c .blink → o .activity ≡ Blink x y (t + c .blink) (t + c .blink + c .delay) → Seen c s x (some 0) (some 0) 0 o → Course c s x y t o
+  from-blink : 0 < c .blink → o .activity ≡ warningIn Blink x y (t + c .blink) (t + c .blink + c .delay) → Seen c s x (some 0) (some 0) 0 o → Course c s x y t o
   from-blink p e h =
       record {
         dark = λ n a l. blinking c s x y starts inside same t o (c .blink) (c .delay) p e h n a l;
         lit = λ n a l m. let q : 0 < c .delay = omega arith in
             let r = turned c s x y starts inside same t o (c .blink) (c .delay) p e h n a l q in
             later c s x y starts inside same n (c .blink) t o l
-            (delaying c s x y starts inside same (t + c .blink) (ticks (c .blink) t o) (n - c .blink) (c .delay) (r .activity) (bright r)
+            (delaying c s x y starts inside same (t + c .blink) (ticks (c .blink) t o) (n - c .blink) (c .delay) (t + c .blink) (r .activity) (bright r)
             (timer-at c s x y starts inside same (t + c .blink + (n - c .blink)) (o .timer) (ticks (c .blink) t o .timer) (r .timer) (omega arith) a)
             (omega arith));
         over = λ n a l q. let b : c .blink ≤ n = omega arith in
             let r = turned c s x y starts inside same t o (c .blink) (c .delay) p e h n a b q in
             later c s x y starts inside same n (c .blink) t o b
-            (delayed c s x y starts inside same (t + c .blink) (ticks (c .blink) t o) (n - c .blink) (c .delay) q (r .activity) (bright r)
+            (ended c s x y starts inside same (t + c .blink) (ticks (c .blink) t o) (n - c .blink) (c .delay) (t + c .blink) q (r .activity) (bright r)
             (timer-at c s x y starts inside same (t + c .blink + (n - c .blink)) (o .timer) (ticks (c .blink) t o .timer) (r .timer) (omega arith) a)
             (omega arith));
         over-without-delay = λ n a l q. put-out c s x y starts inside same t o (c .blink) (c .delay) p e h n a l q;
       }
     where
-      bright : Became o (ticks (c .blink) t o) (filled (o .slots) 5 y) (Delay x (t + c .blink + c .delay)) → Seen c s x (some y) (some 0) y (ticks (c .blink) t o)
+      bright : Became o (ticks (c .blink) t o) (filled (o .slots) 5 y) (warningIn Delay x y (t + c .blink) (t + c .blink + c .delay)) → Seen c s x (some y) (some 0) y (ticks (c .blink) t o)
       bright r =
           seen-lit c s x y starts inside same y (ticks (c .blink) t o) same (r .settings ∙ h .settings)
           (rw (r .slots) (put-six (some y) (apart-six c s x y starts inside same) (h .slots)))
 
   -- with B = 0 the second phase comes at once
-  from-delay : c .blink ≡ 0 → o .activity ≡ Delay x (t + c .delay) → Seen c s x (some y) (some 0) y o → Course c s x y t o
+  from-delay : c .blink ≡ 0 → o .activity ≡ warningIn Delay x y (t + c .blink) (t + c .blink + c .delay) → Seen c s x (some y) (some 0) y o → Course c s x y t o
   from-delay z e h =
       let p : 0 < c .delay = omega (arith, starts .lasts) in
+      let f : o .activity ≡ warningIn Delay x y (t + c .blink) (t + c .delay) = e ∙ ap (λ (v : ℕ). warningIn Delay x y (t + c .blink) v) (omega arith) in
       record {
         dark = λ n a l. absurd (omega arith);
-        lit = λ n a l m. delaying c s x y starts inside same t o n (c .delay) e h a (omega arith);
-        over = λ n a l q. delayed c s x y starts inside same t o n (c .delay) p e h a (omega arith);
+        lit = λ n a l m. delaying c s x y starts inside same t o n (c .delay) (t + c .blink) f h a (omega arith);
+        over = λ n a l q. ended c s x y starts inside same t o n (c .delay) (t + c .blink) p f h a (omega arith);
         over-without-delay = λ n a l q. absurd (omega arith);
       }
 
@@ -330,13 +337,12 @@ pub calm-by : (t : ℕ) (o : Output) (i v : ℕ) (a : Activity) → Acts t (o .s
 unfolding writtenBy
 calm-by t o i v Still h e = refl
 calm-by t o i v (Moving m) h e = refl
-calm-by t o i v (Blink owner level turn over) h e = absurd (true≢false (sym (h .0 .six) ∙ e))
-calm-by t o i v (Delay owner over) h e = absurd (true≢false (sym (h .six) ∙ e))
+calm-by t o i v (Warned w) h e = absurd (true≢false (sym (h .six) ∙ e))
 
 -- KIND 02 OF ZERO at slot x, the paper's conditions met: none is running, for slot 6 is among the slots below x
 pub warning : (t : ℕ) (o : Output) (x : ℕ) → Sound t o → x < 16 → Starts (o .settings) (o .slots) x
     → Course (o .settings) (o .slots) x (presentValue (o .settings) (o .slots)) t (written t o x 0)
-unfolding written writtenCalm writtenZero warned warnedBy withEffect firstLevel firstPhase if_then_else_
+unfolding written writtenCalm writtenZero warned warnedBy withEffect warningFrom firstLevel firstPhase if_then_else_
 warning t o x h inside starts =
     let c = o .settings in
     let s = o .slots in
