@@ -1,112 +1,130 @@
--- From one live slot to the next: the slots between are empty, and the test of all slots may pass them over. Assumes nothing.
+-- The slots tested from the lowest live one on: each is taken out of the mask once its level is tested. Assumes nothing.
 use mathlib.Core.Path.{_≡_, refl, sym, ap, _∙_}
-use mathlib.Core.Bool.{Bool, true, false}
+use mathlib.Core.Logic.{_≢_}
+use mathlib.Core.Bool.{Bool, true, false, false≢true}
 use mathlib.Core.List.{List}
-use Prim.Native.Nat.{ℕ, zero, suc, _+_, _-_, _/_, _%_, _^_, _≤_, _<_}
+use Prim.Native.Nat.{ℕ, zero, suc, _+_, _-_, _*_, _/_, _%_, _^_, _≤_, _<_, min}
 use native.Mathlib.Nat.{div-one, zero-div}
 use native.Mathlib.Omega.{arith}
-use lib.Count.{trailingZeros}
-use lib.Dec.{eqb, ltb}
+use lib.Bits.{bitAnd, and-step, and-self}
+use lib.Count.{trailingZeros, trailing-of-zero}
+use lib.Dec.{eqb}
 use lib.ListN.{getD}
 use lib.Pow.{shr-shr}
-use Rattle.lighting.specs.Choice.{if_then_else_, allFrom}
+use Rattle.lighting.specs.Choice.{if_then_else_, _also_, allFrom}
 use Rattle.lighting.specs.Slots.{lives}
 use Rattle.lighting.specs.declared.Slots.{Slots}
 use Rattle.lighting.specs.Rules.{isLevel, slotSound, slotsSoundFrom}
-use Rattle.lighting.proofs.Scan.{scan-on, scan-off, scan-done, each-all}
-use Rattle.lighting.proofs.Split.{by-bool, by-eq, by-lt, eqb-hit}
+use Rattle.lighting.proofs.Scan.{all-each, each-all}
+use Rattle.lighting.proofs.Split.{by-bool, by-eq, eqb-hit}
 
--- TRAILING ZEROS: zeros up to the bit that they lead to, which is set
+-- THE LOWEST BIT SET of m, by its trailing zeros
 halved : (i m : ℕ) → m / 2 ^ suc i ≡ m / 2 / 2 ^ i
 halved i m = sym (shr-shr m 1 i ∙ ap (λ (k : ℕ). m / 2 ^ k) (omega arith))
 
-zeros-on : (n m : ℕ) → trailingZeros n m < n → m / 2 ^ trailingZeros n m % 2 ≡ 1
+-- there is one
+pub low-within : (n m : ℕ) → 0 < m → m < 2 ^ n → trailingZeros n m < n
 unfolding trailingZeros
-zeros-on zero m h = absurd (omega (arith, h))
-zeros-on (suc n) m h =
+low-within zero m h k = absurd (omega (arith, h, k))
+low-within (suc n) m h k =
+    by-eq (m % 2) 1
+    (λ p e. rw p (omega arith))
+    (λ p e. let z : m % 2 ≡ 0 = omega arith in rw z (let r = low-within n (m / 2) (omega (arith, h)) (omega (arith, k)) in omega (arith, r)))
+
+low-set : (n m : ℕ) → trailingZeros n m < n → m / 2 ^ trailingZeros n m % 2 ≡ 1
+unfolding trailingZeros
+low-set zero m h = absurd (omega (arith, h))
+low-set (suc n) m h =
     by-eq (m % 2) 1
     (λ p e. rw (p, div-one m) p)
-    (λ p e. let z : m % 2 ≡ 0 = omega arith in rw (z, halved (trailingZeros n (m / 2)) m) (zeros-on n (m / 2) (let k = rw z at h in omega (arith, k))))
+    (λ p e. let z : m % 2 ≡ 0 = omega arith in rw (z, halved (trailingZeros n (m / 2)) m) (low-set n (m / 2) (let k = rw z at h in omega (arith, k))))
 
-zeros-off : (n m j : ℕ) → j < trailingZeros n m → m / 2 ^ j % 2 ≡ 0
+positive : (n m : ℕ) → trailingZeros n m < n → 0 < m
+positive n m h = by-eq m 0 (λ p e. let k = rw p at h in absurd (omega (arith, k, trailing-of-zero n))) (λ p e. omega arith)
+
+-- AND WITH m - 1 clears it
+odd-low : (m : ℕ) → m % 2 ≡ 1 → bitAnd m (m - 1) ≡ m / 2 * 2
+odd-low m p =
+    let e : (m - 1) / 2 ≡ m / 2 = omega arith in
+    let f : (m - 1) % 2 ≡ 0 = omega arith in
+    let g = rw (e, f, and-self (m / 2)) at (and-step m (m - 1)) in
+    omega (arith, g)
+
+even-low : (m : ℕ) → m % 2 ≡ 0 → 0 < m / 2 → bitAnd m (m - 1) ≡ bitAnd (m / 2) (m / 2 - 1) * 2
+even-low m p h =
+    let e : (m - 1) / 2 ≡ m / 2 - 1 = omega arith in
+    let f : (m - 1) % 2 ≡ 1 = omega arith in
+    let g = rw (e, f, p) at (and-step m (m - 1)) in
+    omega (arith, g)
+
+low-cleared : (n m : ℕ) → trailingZeros n m < n → bitAnd m (m - 1) / 2 ^ trailingZeros n m % 2 ≡ 0
 unfolding trailingZeros
-zeros-off zero m j h = absurd (omega (arith, h))
-zeros-off (suc n) m zero h =
-    by-eq (m % 2) 1 (λ p e. let k = rw p at h in absurd (omega (arith, k))) (λ p e. rw (div-one m) (omega arith))
-zeros-off (suc n) m (suc i) h =
+low-cleared zero m h = absurd (omega (arith, h))
+low-cleared (suc n) m h =
     by-eq (m % 2) 1
-    (λ p e. let k = rw p at h in absurd (omega (arith, k)))
-    (λ p e. let z : m % 2 ≡ 0 = omega arith in rw (halved i m) (zeros-off n (m / 2) i (let k = rw z at h in omega (arith, k))))
+    (λ p e. rw (p, div-one (bitAnd m (m - 1))) (omega (arith, odd-low m p)))
+    (λ p e.
+    let z : m % 2 ≡ 0 = omega arith in
+    let k : trailingZeros n (m / 2) < n = let q = rw z at h in omega (arith, q) in
+    let half : bitAnd m (m - 1) / 2 ≡ bitAnd (m / 2) (m / 2 - 1) = omega (arith, even-low m z (positive n (m / 2) k)) in
+    rw (z, halved (trailingZeros n (m / 2)) (bitAnd m (m - 1)), half) (low-cleared n (m / 2) k))
+
+low-others : (n m j : ℕ) → trailingZeros n m < n → j ≢ trailingZeros n m → bitAnd m (m - 1) / 2 ^ j % 2 ≡ m / 2 ^ j % 2
+unfolding trailingZeros
+low-others zero m j h d = absurd (omega (arith, h))
+low-others (suc n) m zero h d =
+    by-eq (m % 2) 1
+    (λ p e. let b = rw p at d in absurd (b refl))
+    (λ p e.
+    let z : m % 2 ≡ 0 = omega arith in
+    let k : trailingZeros n (m / 2) < n = let q = rw z at h in omega (arith, q) in
+    rw (div-one m, div-one (bitAnd m (m - 1))) (omega (arith, even-low m z (positive n (m / 2) k))))
+low-others (suc n) m (suc i) h d =
+    by-eq (m % 2) 1
+    (λ p e. let half : bitAnd m (m - 1) / 2 ≡ m / 2 = omega (arith, odd-low m p) in rw (halved i (bitAnd m (m - 1)), halved i m, half))
+    (λ p e.
+    let z : m % 2 ≡ 0 = omega arith in
+    let k : trailingZeros n (m / 2) < n = let q = rw z at h in omega (arith, q) in
+    let half : bitAnd m (m - 1) / 2 ≡ bitAnd (m / 2) (m / 2 - 1) = omega (arith, even-low m z (positive n (m / 2) k)) in
+    let b = rw z at d in
+    rw (halved i (bitAnd m (m - 1)), halved i m, half) (low-others n (m / 2) i k (λ q. b (ap suc q))))
 
 -- slots of a mask and levels
 abbrev pub slotsWith : ℕ → List ℕ → Slots
 slotsWith m l = record { live = m; levels = l }
 
--- a slot is live where its bit is set
-module _ (s : Slots) where
-  bit-on : (i j : ℕ) → s .live / 2 ^ i / 2 ^ j % 2 ≡ 1 → lives s (i + j) ≡ true
-  unfolding lives
-  bit-on i j h = eqb-hit (ap (λ (k : ℕ). k % 2) (sym (shr-shr (s .live) i j)) ∙ h)
+-- a test of numbers that gives the same for each gives the same for all
+all-same : (t u : ℕ → Bool) → ((j : ℕ) → t j ≡ u j) → (n i : ℕ) → allFrom t n i ≡ allFrom u n i
+unfolding allFrom
+all-same t u f zero i = refl
+all-same t u f (suc n) i = ap (λ (x : Bool). x also allFrom t n (i + 1)) (f i) ∙ ap (λ (x : Bool). u i also x) (all-same t u f n (i + 1))
 
-  bit-off : (i j : ℕ) → s .live / 2 ^ i / 2 ^ j % 2 ≡ 0 → lives s (i + j) ≡ false
-  unfolding lives
-  bit-off i j h = ap (λ (k : ℕ). eqb k 1) (ap (λ (k : ℕ). k % 2) (sym (shr-shr (s .live) i j)) ∙ h)
-
-  -- and an empty slot passes the test
-  dead-sound : (i : ℕ) → lives s i ≡ false → slotSound s i ≡ true
-  unfolding slotSound if_then_else_
-  dead-sound i e = rw e
-
--- NUMBERS THAT PASS, from i on, may be skipped
-skipped : (t : ℕ → Bool) (e d i : ℕ) → ((j : ℕ) → j < d → t (i + j) ≡ true) → allFrom t (e - i) i ≡ allFrom t (e - (i + d)) (i + d)
-skipped t e zero i f = ap (λ (j : ℕ). allFrom t (e - j) j) (omega arith)
-skipped t e (suc d) i f =
-    by-lt i e
-    (λ l x. scan-on t e i l (rw none-on at (f 0 (omega arith))) ∙ skipped t e d (i + 1) (λ j h. rw (one-on j) at (f (suc j) (omega arith))) ∙ ap (λ (j : ℕ). allFrom t (e - j) j) (omega arith))
-    (λ l x. scan-done t e i l ∙ sym (scan-done t e (i + suc d) (omega arith)))
-  where
-    none-on : i + 0 ≡ i
-    none-on = omega arith
-
-    one-on : (j : ℕ) → i + suc j ≡ i + 1 + j
-    one-on j = omega arith
-
--- FROM SLOT i TO THE NEXT LIVE ONE: no slot is left out of the test
-module _ (s : Slots) (i r : ℕ) (e : r ≡ (if ltb i 16 then i + trailingZeros 16 (s .live / 2 ^ i) else i)) where
-  pub next-past : i ≤ r
-  unfolding if_then_else_
-  next-past =
-      by-lt i 16
-      (λ l x. let q = rw x at e in omega (arith, q))
-      (λ l x. let q = rw x at e in omega (arith, q))
-
-  pub next-live : r < 16 → lives s r ≡ true
-  unfolding if_then_else_
-  next-live h =
-      by-lt i 16
-      (λ l x. let q = rw x at e in rw q (bit-on s i (trailingZeros 16 (s .live / 2 ^ i)) (zeros-on 16 (s .live / 2 ^ i) (omega (arith, q)))))
-      (λ l x. let q = rw x at e in absurd (omega (arith, q)))
-
-  pub next-same : slotsSoundFrom s i ≡ slotsSoundFrom s r
-  unfolding slotsSoundFrom if_then_else_
-  next-same =
-      by-lt i 16
-      (λ l x.
-      let q = rw x at e in
-      rw q (skipped (slotSound s) 16 (trailingZeros 16 (s .live / 2 ^ i)) i (λ j h. dead-sound s (i + j) (bit-off s i j (zeros-off 16 (s .live / 2 ^ i) j h)))))
-      (λ l x. let q = rw x at e in rw q)
-
--- AT SLOT i, whose level is v: the test goes on where v is a level; where it is none and the slot is live, it ends
-module _ (s : Slots) (i : ℕ) (h : i < 16) (v : ℕ) (n : v ≡ getD (s .levels) i 0) where
-  pub sound-at : isLevel v ≡ true → slotsSoundFrom s i ≡ slotsSoundFrom s (i + 1)
+-- THE LOWEST LIVE SLOT i of the mask m, with the level v
+module _ (m : ℕ) (l : List ℕ) (h : trailingZeros 16 m < 16) (i v : ℕ) (e : i ≡ trailingZeros 16 m) (n : v ≡ getD l i 0) where
+  -- a level: the slot is done with
+  pub low-done : isLevel v ≡ true → slotsSoundFrom (slotsWith m l) 0 ≡ slotsSoundFrom (slotsWith (bitAnd m (m - 1)) l) 0
   unfolding slotsSoundFrom
-  sound-at k = scan-on (slotSound s) 16 i h (unfold slotSound if_then_else_ in (by-bool (lives s i) (λ e. rw (e, ← n) k) (λ e. rw e)))
+  low-done k = all-same (slotSound (slotsWith m l)) (slotSound (slotsWith (bitAnd m (m - 1)) l)) same 16 0
+    where
+      at : slotSound (slotsWith m l) i ≡ slotSound (slotsWith (bitAnd m (m - 1)) l) i
+      at = unfold slotSound lives if_then_else_ in (rw (e, low-set 16 m h, low-cleared 16 m h) (rw (n, e) at k))
 
-  pub broken-at : lives s i ≡ true → isLevel v ≡ false → slotsSoundFrom s i ≡ false
+      same : (j : ℕ) → slotSound (slotsWith m l) j ≡ slotSound (slotsWith (bitAnd m (m - 1)) l) j
+      same j = by-eq j i (λ p z. rw p at) (λ p z. unfold slotSound lives in (rw (low-others 16 m j h (λ q. p (q ∙ sym e)))))
+
+  -- none: the test fails
+  pub low-broken : isLevel v ≡ false → slotsSoundFrom (slotsWith m l) 0 ≡ false
   unfolding slotsSoundFrom
-  broken-at e k = scan-off (slotSound s) 16 i h (unfold slotSound if_then_else_ in (rw (e, ← n) k))
+  low-broken k =
+      by-bool (allFrom (slotSound (slotsWith m l)) 16 0)
+      (λ z. absurd (false≢true (sym broken ∙ all-each (slotSound (slotsWith m l)) 16 0 i z (omega arith) (omega (arith, e, h)))))
+      (λ z. z)
+    where
+      broken : slotSound (slotsWith m l) i ≡ false
+      broken = unfold slotSound lives if_then_else_ in (rw (e, low-set 16 m h) (rw (n, e) at k))
 
 -- NO LIVE SLOT
 pub none-live : (s : Slots) → s .live ≡ 0 → slotsSoundFrom s 0 ≡ true
 unfolding slotsSoundFrom
-none-live s e = each-all (slotSound s) 16 0 (λ j h k. dead-sound s j (unfold lives in (rw (e, zero-div (2 ^ j)))))
+none-live s e =
+    each-all (slotSound s) 16 0 (λ j h k. unfold slotSound lives if_then_else_ in (rw (e, zero-div (2 ^ j))))

@@ -1,15 +1,9 @@
 // The record rules, as the test that is made of every lent record; those on what is under way are the crate `activities`. Slots are counted from
 // 0: slot 6 is 5.
 ghost use mathlib.Core.Path.{_≡_};
-ghost use Prim.Native.Nat.{_+_, _/_, _^_};
-ghost use lib.Count.{trailingZeros};
-ghost use lib.Dec.{ltb};
-ghost use Rattle.lighting.specs.Choice.{if_then_else_};
 ghost use Rattle.lighting.specs.Parameters.{standard};
 ghost use Rattle.lighting.specs.Rules.{levelsSound, timesSound, realsSound, settingsSound, slotsSoundFrom, activitySound, sound};
-ghost use Rattle.lighting.specs.Slots.{slotCount};
 use lighting::Activity;
-use lighting::NO_SLOT;
 use lighting::Output;
 use lighting::Property;
 use lighting::SLOT_6;
@@ -84,29 +78,18 @@ fn settings_sound(c: Settings) -> bool
 
 // ---- slots
 
-// The first live slot from slot i on; a number from 16 on where none is live.
-fn live_from(live: u16, i: u32) -> u32
-    ensures { λ r. ⌜ r ≡ (if ltb i slotCount then i + trailingZeros slotCount (live / 2 ^ i) else i) ⌝ }
-{
-    if i < NO_SLOT as u32 {
-        i + u16::trailing_zeros(live >> i)
-    } else {
-        i
-    }
-}
-
-// A live slot holds a level. The loop goes from one live slot to the next, over a copy of the levels alone.
+// A live slot holds a level. The loop takes the lowest live slot away until none is left, over a copy of the levels alone.
 fn live_sound(s: Slots) -> bool
     ensures { λ r. ⌜ r ≡ slotsSoundFrom s 0 ⌝ }
 {
-    let live = s.live;
     let levels = s.levels;
-    let mut i = live_from(live, 0);
-    while i < NO_SLOT as u32 {
-        if !ranges::is_level(levels[wide_index(i)]) {
+    let mut left = s.live;
+    while 0 < left {
+        let i = wide_index(u16::trailing_zeros(left));
+        if !ranges::is_level(levels[i]) {
             return false;
         }
-        i = live_from(live, i + 1);
+        left = left & (left - 1);
     }
     true
 }

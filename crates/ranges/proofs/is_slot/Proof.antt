@@ -6,6 +6,12 @@ use Rattle.ranges.proofs.is_slot.Tie as tie
 use Rattle.ranges.proofs.is_slot.Reads as reads
 use Rattle.ranges.proofs.is_slot.Lts as lts
 
+cast-if1 : tie.Need-cast-if1
+cast-if1 c = search needs
+
+cast-result : tie.Need-cast-result
+cast-result c = search needs
+
 returns : tie.Need-returns
 unfolding isSlot
 returns c = search (needs, ifs)
@@ -15,4 +21,4 @@ unfolding isSlot
 returns-2 c = search (needs, ifs)
 
 pub is-slot-spec : {M : Type 1} → statement M
-is-slot-spec = tie.close (tie.spec returns returns-2)
+is-slot-spec = tie.close (tie.spec cast-if1 cast-result returns returns-2)

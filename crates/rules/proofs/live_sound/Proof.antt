@@ -1,47 +1,40 @@
-use mathlib.Core.Path.{_≡_, sym, ap, _∙_}
-use mathlib.Core.Bool.{true}
-use Prim.Native.Nat.{ℕ, _+_, _-_, _<_}
+use mathlib.Core.Path.{_≡_, refl, sym, _∙_}
+use Prim.Native.Nat.{_-_, _<_}
 use native.Mathlib.Omega.{arith}
+use lib.Bits.{and-le-l, and-le-r}
+use lib.Count.{trailing-le}
 use lib.ListN.{getD}
 use borrow.Author.Needs.{needs}
 use borrow.Author.Tests.{not-true, not-false}
-use Rattle.lighting.specs.Slots.{lives}
-use Rattle.lighting.specs.Rules.{slotSound, slotsSoundFrom}
-use Rattle.lighting.proofs.Scan.{scan-done}
-use Rattle.rules.proofs.LiveSlots.{slotsWith, next-past, next-live, next-same, sound-at, broken-at}
+use Rattle.lighting.specs.Rules.{slotsSoundFrom}
+use Rattle.rules.proofs.LiveSlots.{slotsWith, low-within, low-done, low-broken, none-live}
 use Rattle.rules.proofs.live_sound.Statement.{statement}
 use Rattle.rules.proofs.live_sound.Tie as tie
 use Rattle.rules.proofs.live_sound.Reads as reads
 use Rattle.rules.proofs.live_sound.Lts as lts
 use Rattle.ranges.proofs.is_level.Reads as is-level-reads
 use Rattle.ranges.proofs.wide_index.Reads as wide-index-reads
-use Rattle.rules.proofs.live_from.Reads as live-from-reads
 
 abbrev Inv-loop : tie.InvT-loop
-Inv-loop live levels i₀ i =
-    (i < 16 → lives (slotsWith live levels) i ≡ true)
-    × (slotsSoundFrom (slotsWith live levels) 0 ≡ slotsSoundFrom (slotsWith live levels) i)
+Inv-loop levels left₀ left =
+    (left < 65536) × (slotsSoundFrom (slotsWith left₀ levels) 0 ≡ slotsSoundFrom (slotsWith left levels) 0)
 
 abbrev μ-loop : tie.MeasureT-loop
-μ-loop live levels i₀ i = 16 - i
-
-live-from-requires : tie.Need-live-from-requires Inv-loop μ-loop
-live-from-requires c κs = search needs
+μ-loop levels left₀ left = left
 
 loop-holds : tie.Need-loop-holds Inv-loop μ-loop
-loop-holds c =
-    let s = c .before .before .args .s in
-    let n = c .live-from in
-    (next-live s 0 (n .result) (n .ensures), next-same s 0 (n .result) (n .ensures))
+loop-holds c = (search needs, refl)
 
 wide-index-requires : tie.Need-wide-index-requires Inv-loop μ-loop
 wide-index-requires c κs = search needs
 
 mul-is-level : tie.Need-mul-is-level Inv-loop μ-loop
-mul-is-level c = search needs
+mul-is-level c = omega (arith, c .wide-index .ensures, trailing-le 16 (c .before .before .loop .left))
 
 array-read-is-level : tie.Need-array-read-is-level Inv-loop μ-loop
-array-read-is-level c = search needs
+array-read-is-level c =
+    let at = c .before in
+    omega (arith, c .wide-index .ensures, low-within 16 (at .before .loop .left) (at .loop-test .taken) (at .before .loop .inv .0))
 
 is-level-requires : tie.Need-is-level-requires Inv-loop μ-loop
 is-level-requires c κs = search needs
@@ -49,38 +42,34 @@ is-level-requires c κs = search needs
 returns : tie.Need-returns Inv-loop μ-loop
 returns c =
     let at = c .before .before .before in
-    let s = at .before .before .before .before .args .s in
-    let i = at .before .loop .i in
-    let v = getD (s .levels) (c .before .before .wide-index .result) 0 in
-    let n : v ≡ getD (s .levels) i 0 = ap (λ (k : ℕ). getD (s .levels) k 0) (c .before .before .wide-index .ensures) in
-    let b = sym (c .before .is-level .ensures) ∙ not-true (c .before .is-level .result) (c .if1 .taken) in
-    sym (at .before .loop .inv .1 ∙ broken-at s i (at .loop-test .taken) v n (at .before .loop .inv .0 (at .loop-test .taken)) b)
+    let l = at .before .loop in
+    let s = at .before .before .before .args .s in
+    let i = c .before .before .wide-index in
+    sym (l .inv .1 ∙ low-broken (l .left) (s .levels) (low-within 16 (l .left) (at .loop-test .taken) (l .inv .0)) (i .result) (getD (s .levels) (i .result) 0) (i .ensures) refl (sym (c .before .is-level .ensures) ∙ not-true (c .before .is-level .result) (c .if1 .taken)))
 
-add-live-from : tie.Need-add-live-from Inv-loop μ-loop
-add-live-from c = search needs
-
-live-from-requires-2 : tie.Need-live-from-requires-2 Inv-loop μ-loop
-live-from-requires-2 c κs = search needs
+sub-left : tie.Need-sub-left Inv-loop μ-loop
+sub-left c = search needs
 
 loop-less : tie.Need-loop-less Inv-loop μ-loop
 loop-less c =
-    let at = c .before .before .before .before in
-    omega (arith, at .loop-test .taken, next-past (at .before .before .before .before .args .s) (at .before .loop .i + 1) (c .live-from2 .result) (c .live-from2 .ensures))
+    let at = c .before .before .before in
+    let m = at .before .loop .left in
+    omega (arith, and-le-r m (m - 1), at .loop-test .taken)
 
 loop-again : tie.Need-loop-again Inv-loop μ-loop
 loop-again c =
-    let at = c .before .before .before .before in
-    let s = at .before .before .before .before .args .s in
-    let i = at .before .loop .i in
-    let v = getD (s .levels) (c .before .before .before .wide-index .result) 0 in
-    let n : v ≡ getD (s .levels) i 0 = ap (λ (k : ℕ). getD (s .levels) k 0) (c .before .before .before .wide-index .ensures) in
-    let b = sym (c .before .before .is-level .ensures) ∙ not-false (c .before .before .is-level .result) (c .before .if1 .left) in
-    let r = c .live-from2 in
-    (next-live s (i + 1) (r .result) (r .ensures), at .before .loop .inv .1 ∙ sound-at s i (at .loop-test .taken) v n b ∙ next-same s (i + 1) (r .result) (r .ensures))
+    let at = c .before .before .before in
+    let l = at .before .loop in
+    let s = at .before .before .before .args .s in
+    let i = c .before .before .wide-index in (
+      omega (arith, and-le-l (l .left) (l .left - 1), l .inv .0),
+      l .inv .1 ∙ low-done (l .left) (s .levels) (low-within 16 (l .left) (at .loop-test .taken) (l .inv .0)) (i .result) (getD (s .levels) (i .result) 0) (i .ensures) refl (sym (c .before .is-level .ensures) ∙ not-false (c .before .is-level .result) (c .if1 .left)),
+    )
 
 returns-2 : tie.Need-returns-2 Inv-loop μ-loop
-unfolding slotsSoundFrom
-returns-2 c = sym (c .before .loop .inv .1 ∙ scan-done (slotSound (c .before .before .before .before .args .s)) 16 (c .before .loop .i) (c .loop-test .left))
+returns-2 c =
+    let l = c .before .loop in
+    sym (l .inv .1 ∙ none-live (slotsWith (l .left) (c .before .before .before .args .s .levels)) (omega (arith, c .loop-test .left)))
 
 pub live-sound-spec : {M : Type 1} → statement M
 live-sound-spec =
@@ -88,15 +77,13 @@ live-sound-spec =
     (tie.spec
     Inv-loop
     μ-loop
-    live-from-requires
     loop-holds
     wide-index-requires
     mul-is-level
     array-read-is-level
     is-level-requires
     returns
-    add-live-from
-    live-from-requires-2
+    sub-left
     loop-less
     loop-again
     returns-2)

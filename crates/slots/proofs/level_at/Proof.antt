@@ -7,6 +7,9 @@ use Rattle.slots.proofs.level_at.Reads as reads
 use Rattle.slots.proofs.level_at.Lts as lts
 use Rattle.slots.proofs.level_of.Reads as level-of-reads
 
+cast-if1 : tie.Need-cast-if1
+cast-if1 c = search needs
+
 level-of-requires : tie.Need-level-of-requires
 level-of-requires c κs = search needs
 
@@ -19,4 +22,4 @@ unfolding levelAt
 returns-2 c = search (needs, ifs)
 
 pub level-at-spec : {M : Type 1} → statement M
-level-at-spec = tie.close (tie.spec level-of-requires returns returns-2)
+level-at-spec = tie.close (tie.spec cast-if1 level-of-requires returns returns-2)
