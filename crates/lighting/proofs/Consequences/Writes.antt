@@ -7,14 +7,14 @@ use mathlib.Core.List.{List, [], _∷_, map}
 use Prim.Native.Nat.{ℕ, suc, _-_, _+_, _%_, _^_, _≤_, _<_}
 use native.Mathlib.Omega.{arith}
 use lib.Dec.{leb, eqb}
-use lib.ListN.{replicate}
+use lib.ListN.{getD, replicate, List·getD-eq-default}
 use Rattle.lighting.specs.Choice.{if_then_else_}
 use Rattle.lighting.specs.Parameters.{standard}
 use Rattle.lighting.specs.Level.{real, bits, readOut, levelOf, limitOf, unitsOr}
 use Rattle.lighting.specs.Field.{byteAt, bigEndian}
 use Rattle.lighting.specs.Rows.{within, isAmount, isPriority}
 use Rattle.lighting.specs.Record.{withSettings}
-use Rattle.lighting.specs.Properties.{propertyOf, numberOf, same, changeTo, changeBy, changeOf, settingsWith, unmoved, activityWith, burningWith, changed, minOverMax, levelAnswer, flag, elapsedActive, realAnswer, shown}
+use Rattle.lighting.specs.Properties.{properties, propertyOf, numberOf, same, changeTo, changeBy, changeOf, settingsWith, unmoved, activityWith, burningWith, changed, minOverMax, levelAnswer, flag, elapsedActive, realAnswer, shown}
 use Rattle.lighting.specs.Passing.{settled}
 use Rattle.lighting.specs.Acting.{made, left, changedUnless, acted}
 use Rattle.lighting.specs.Kinds.{kindRow}
@@ -25,14 +25,14 @@ use Rattle.lighting.specs.declared.Answer.the-variants.{Done, Value, Ref
 use Rattle.lighting.specs.declared.Level.{Level}
 use Rattle.lighting.specs.declared.Level.the-variants.{Units, OutOfRange}
 use Rattle.lighting.specs.declared.Property.{Property}
-use Rattle.lighting.specs.declared.Property.the-variants.{RelinquishDefault, FadeTime, RampRate, StepIncrement, BlinkEnable, BlinkTime, BlinkWarnDelay, MinValue, MaxValue, CommandPriority, ElapsedActiveTime}
+use Rattle.lighting.specs.declared.Property.the-variants.{RelinquishDefault, FadeTime, RampRate, StepIncrement, BlinkEnable, BlinkTime, BlinkWarnDelay, MinValue, MaxValue, CommandPriority, ElapsedActiveTime, Unknown}
 use Rattle.lighting.specs.declared.Range.{Range}
 use Rattle.lighting.specs.declared.Range.the-variants.{Percent, Limit, Amount, Whole, Priority, ReadOnly}
 use Rattle.lighting.specs.declared.Request.{Request}
 use Rattle.lighting.specs.declared.Request.the-variants.{Refuse, Change}
 use Rattle.lighting.specs.declared.Output.{Output}
 use Rattle.lighting.specs.declared.Outcome.{Outcome}
-use Rattle.lighting.proofs.Split.{by-bool, by-eq, leb-yes, leb-no}
+use Rattle.lighting.proofs.Split.{by-bool, by-eq, by-le, leb-yes, leb-no}
 use Rattle.lighting.proofs.Facts.{Slot, Within}
 use Rattle.lighting.proofs.Tied.{within-of}
 use Rattle.lighting.proofs.Rows.{priority-of}
@@ -234,6 +234,17 @@ module _ (t t′ : ℕ) (o : Output) (x : ℕ) where
       ≡ replicate 15 (Refused 9)
   unfolding acted left propertyOf changeOf changeBy if_then_else_
   not-writable = refl
+
+  -- and so is every number past 14: unknown, or a slot's
+  pub none-past : (n : ℕ) → 0x14 < n → writes t o n x ≡ left o (Refused 9)
+  unfolding acted propertyOf changeOf changeBy if_then_else_
+  none-past n h =
+      by-le 0x21 n
+      (λ l e. rw e (by-bool (leb n 0x30) (λ f. rw f) (λ f. rw f)))
+      (λ l e. rw (e, unlisted))
+    where
+      unlisted : getD properties n Unknown ≡ Unknown
+      unlisted = List·getD-eq-default properties Unknown h
 
   -- 'Min over Max' is 13, and leaves everything; equal is taken
   pub min-taken : (v : ℕ) → limitOf (real x) ≡ Units v → v ≤ o .settings .max → writes t o 0x08 x .answer ≡ Done
