@@ -6,12 +6,15 @@ ghost use Rattle.lighting.specs.Rules.{spanSound, movementSound, warningBy, war
 use lighting::Activity;
 use lighting::Movement;
 use lighting::NO_SLOT;
-use lighting::SLOT_6;
-use lighting::SLOT_16;
 use lighting::Timer;
 use lighting::Warning;
 use ranges::is_slot;
 use ranges::is_within;
+
+// The slots that a warning may belong to, 7 to 16.
+const SLOT_7: u32 = 6;
+
+const LAST_SLOT: u32 = 15;
 
 // Its end is after panel time t, what is left of it is no longer than it lasts, and it lasts 1 ms to a day.
 fn span_sound(t: u64, m: Movement) -> bool
@@ -55,7 +58,7 @@ fn movement_sound(t: u64, w: u32, high: u32, v: u32, m: Movement) -> bool
 fn warning_by(t: u64, w: Warning, e: u64) -> bool
     ensures { λ r. ⌜ r ≡ warningBy t w e ⌝ }
 {
-    if is_within(SLOT_6 as u32 + 1, SLOT_16 as u32, w.owner as u32) {
+    if is_within(SLOT_7, LAST_SLOT, w.owner as u32) {
         if ranges::is_level(w.level) {
             if t < e { e <= w.over } else { false }
         } else {

@@ -17,7 +17,7 @@ use Rattle.lighting.specs.declared.KindRow.{KindRow}
 use Rattle.lighting.proofs.Split.{by-le, also-both, le-of, eq-of}
 
 -- a test of each row, with the kind byte that it stands at
-rowsFrom : (ℕ → KindRow → Bool) → ℕ → List KindRow → Bool
+unfoldable pub rowsFrom : (ℕ → KindRow → Bool) → ℕ → List KindRow → Bool
 rowsFrom f n [] = true
 rowsFrom f n (row ∷ rows) = f n row also rowsFrom f (suc n) rows
 
@@ -28,7 +28,7 @@ row-at f k n i [] e u h = u k
 row-at f k n zero (row ∷ rows) e u h = let e′ : k ≡ n = omega arith in rw e′ (also-both h .0)
 row-at f k n (suc i) (row ∷ rows) e u h = row-at f k (suc n) i rows (omega arith) u (also-both h .1)
 
-each-row : (f : ℕ → KindRow → Bool) → ((k : ℕ) → f k unknownRow ≡ true) → rowsFrom f 0 plainRows ≡ true → rowsFrom f 0x10 commandRows ≡ true
+pub each-row : (f : ℕ → KindRow → Bool) → ((k : ℕ) → f k unknownRow ≡ true) → rowsFrom f 0 plainRows ≡ true → rowsFrom f 0x10 commandRows ≡ true
     → (k : ℕ) → f k (kindRow k) ≡ true
 unfolding kindRow if_then_else_
 each-row f u a b k =

@@ -73,10 +73,24 @@ fields-fit f =
     first-fit _ _ (real-fit (f .level) .0)
     (first-fit _ _ (real-fit (f .rate) .1) (first-fit _ _ (real-fit (f .step) .1) (time-fit (f .fade))))
 
--- with none met, the last field met none
-first-none : (a b : ℕ) → firstRefusal a b ≡ 0 → b ≡ 0
+-- with none met, no field met one
+first-none : (a b : ℕ) → firstRefusal a b ≡ 0 → (a ≡ 0) × (b ≡ 0)
 unfolding firstRefusal if_then_else_
-first-none a b = by-eq a 0 (λ p e. rw e (λ h. h)) (λ p e. rw e (λ h. absurd (p h)))
+first-none a b = by-eq a 0 (λ p e. rw e (λ h. (p, h))) (λ p e. rw e (λ h. absurd (p h)))
+
+pub record NoneMet (f : OperationFields) : Type 0 where
+  pub level : levelFieldRefusal (f .level) ≡ 0
+  pub rate : amountFieldRefusal (f .rate) ≡ 0
+  pub step : amountFieldRefusal (f .step) ≡ 0
+  pub fade : timeFieldRefusal standard (f .fade) ≡ 0
+
+pub none-met : (f : OperationFields) → fieldsRefusal standard f ≡ 0 → NoneMet f
+unfolding fieldsRefusal
+none-met f h =
+    let level = first-none _ _ h in
+    let rate = first-none _ _ (level .1) in
+    let step = first-none _ _ (rate .1) in
+    record { level = level .0; rate = rate .0; step = step .0; fade = step .1 }
 
 time-good : (l : ℕ) → timeFieldRefusal standard (Time l) ≡ 0 → meets (rowOf standard FadeTime) l ≡ true
 unfolding timeFieldRefusal if_then_else_
@@ -84,12 +98,11 @@ time-good l =
     by-bool (meets (rowOf standard FadeTime) l) (λ e. rw e (λ h. refl)) (λ e. rw e (λ h. absurd (omega arith)))
 
 operation-good : (o : Operation) → fieldsRefusal standard (fieldsOf o) ≡ 0 → GoodOperation o
-unfolding fieldsRefusal fieldsOf
+unfolding fieldsOf
 operation-good Stop h = tt
 operation-good (FadeTo x) h = tt
 operation-good (FadeToOver x l) h =
-    meets-of (rowOf standard FadeTime) l
-    (time-good l (first-none _ _ (first-none _ _ (first-none (levelFieldRefusal (Real x)) _ h))))
+    meets-of (rowOf standard FadeTime) l (time-good l (none-met _ h .fade))
 operation-good (RampTo x) h = tt
 operation-good (RampToAtRate x r) h = tt
 operation-good StepUp h = tt

@@ -8,9 +8,9 @@ use lib.Ieee.{Float, nan, inf, fin, binary32, isNan, fits}
 use lib.Ieee.Bits.{toBits-ofBits, ofBits-toBits}
 use Rattle.lighting.specs.declared.Level.{Level}
 use Rattle.lighting.specs.declared.Level.the-variants.{Units, OutOfRange}
-use Rattle.lighting.specs.declared.Operand.the-variants.{Taken, Unfit}
-use Rattle.lighting.proofs.Split.{by-bool, passed}
-use Rattle.lighting.specs.Level.{real, bits, levelOf, amountOf, inRange, amountOperand}
+use Rattle.lighting.proofs.Split.{by-bool}
+use Rattle.lighting.specs.Level.{real, bits, levelOf, amountOf, inRange}
+use Rattle.lighting.specs.Rows.{isAmount}
 use Rattle.lighting.specs.Answers.{levelRefusal}
 use Rattle.lighting.specs.Frames.{levelFieldRefusal, amountFieldRefusal}
 use Rattle.lighting.specs.declared.RealField.the-variants.{Real}
@@ -60,13 +60,8 @@ unfolding amountFieldRefusal
 amount-field-kept b h r = kept amountOf b (unfold amountOf in refl) h (taken (amountOf (real b)) r)
 
 -- and one that is written to Ramp_Rate or Step_Increment
-pub amount-operand-kept : (b : ℕ) (x : Float) → b < 2 ^ 32 → amountOperand b ≡ Taken x → Kept amountOf b x
-unfolding amountOperand
-amount-operand-kept b x h k =
-    let p = passed (inRange (amountOf (real b))) (Taken (real b)) Unfit (Taken x) never k in
-    let d : Taken (real b) ≡ Taken x = p .1 in
-    let e : x ≡ real b = cc in
-    rw e (kept amountOf b (unfold amountOf in refl) h (p .0))
-  where
-    never : Unfit ≡ Taken x → ⊥
-    never q = let z : _≡_ {A = ℕ} 0 1 = cc in omega arith
+pub amount-kept : (b : ℕ) → b < 2 ^ 32 → isAmount (real b) ≡ true → Kept amountOf b (real b)
+unfolding isAmount
+amount-kept b h t = kept amountOf b (unfold amountOf in refl) h t
+
+-- and one that is written to Ramp_Rate or Step_Increment

@@ -1,14 +1,16 @@
 -- What a write of a property leaves meets the property's row, whichever it is. Assumes nothing.
 use mathlib.Core.Path.{_≡_, refl, sym, ap, _∙_}
 use mathlib.Core.Bool.{true, false≢true}
-use Prim.Native.Nat.{ℕ, _+_, _-_}
+use mathlib.Core.List.{List, [], _∷_}
+use Prim.Native.Nat.{ℕ, _+_, _-_, _≤_, _<_, max}
 use native.Mathlib.Omega.{arith}
+use native.Mathlib.Nat.{add-sub-cancel-left}
 use lib.Dec.{leb}
 use Rattle.lighting.specs.Choice.{if_then_else_}
 use Rattle.lighting.specs.Parameters.{standard}
 use Rattle.lighting.specs.Level.{real, levelOf, limitOf}
 use Rattle.lighting.specs.Rows.{rowOf, within, isAmount, isPriority}
-use Rattle.lighting.specs.Properties.{numberOf, numbered, propertyOf, same, changeTo, changeBy, changeOf}
+use Rattle.lighting.specs.Properties.{numberOf, properties, numbered, propertyOf, same, changeTo, changeBy, changeOf}
 use Rattle.lighting.specs.declared.Level.{Level}
 use Rattle.lighting.specs.declared.Level.the-variants.{Units, OutOfRange}
 use Rattle.lighting.specs.declared.Property.{Property}
@@ -16,7 +18,7 @@ use Rattle.lighting.specs.declared.Property.the-variants.{RelinquishDefa
 use Rattle.lighting.specs.declared.Range.{Range}
 use Rattle.lighting.specs.declared.Range.the-variants.{Percent, Limit, Amount, Whole, Priority, ReadOnly}
 use Rattle.lighting.specs.declared.Request.the-variants.{Change}
-use Rattle.lighting.proofs.Split.{by-bool, by-eq, leb-yes, eq-of}
+use Rattle.lighting.proofs.Split.{by-bool, by-eq, by-lt, leb-yes, eq-of, eqb-miss}
 use Rattle.lighting.proofs.Ranges.{level-units, limit-units}
 use Rattle.lighting.proofs.Facts.{Slot, Meets}
 use Rattle.lighting.proofs.Tied.{within-of, slot-of}
@@ -45,31 +47,60 @@ pub change-good : (n : Property) (x : ℕ) → Good (changeOf standard n x)
 unfolding changeOf
 change-good n x = row-good (rowOf standard n) n x (λ v m. m)
 
+-- THE NUMBER AND THE TABLE of properties say the same: by its number a property is found again, unless it is a slot past the sixteenth
+by-number : {P : Type 0} (n : Property) → (propertyOf (numberOf n) ≡ n → P) → ((i : ℕ) → 16 ≤ i → n ≡ SlotValue i → P) → P
+unfolding propertyOf numbered if_then_else_
+by-number RelinquishDefault found past = found refl
+by-number FadeTime found past = found refl
+by-number RampRate found past = found refl
+by-number StepIncrement found past = found refl
+by-number BlinkEnable found past = found refl
+by-number BlinkTime found past = found refl
+by-number BlinkWarnDelay found past = found refl
+by-number MinValue found past = found refl
+by-number MaxValue found past = found refl
+by-number CommandPriority found past = found refl
+by-number ElapsedActiveTime found past = found refl
+by-number PresentValue found past = found refl
+by-number ProgressValue found past = found refl
+by-number InProcess found past = found refl
+by-number LastOperation found past = found refl
+by-number LastLevel found past = found refl
+by-number LastRate found past = found refl
+by-number LastStep found past = found refl
+by-number LastFadeTime found past = found refl
+by-number LastDuration found past = found refl
+by-number (SlotValue i) found past =
+    by-lt i 16
+    (λ h e. found (rw (leb-yes {a = 0x21} {b = 0x21 + i} (omega arith), leb-yes {a = 0x21 + i} {b = 0x30} (omega arith), add-sub-cancel-left 0x21 i)))
+    (λ h e. past i h refl)
+by-number Unknown found past = found refl
+
+pub number-kept : (n : Property) → numberOf n < 0x31 → propertyOf (numberOf n) ≡ n
+number-kept n h = by-number n (λ e. e) (λ i l q. absurd (beyond i l (rw q at h)))
+  where
+    beyond : (i : ℕ) → 16 ≤ i → numberOf (SlotValue i) < 0x31 → ⊥
+    beyond i l h = omega arith
+
+-- no number past the greatest of the table is a property's
+abbrev most : List Property → ℕ
+most [] = 0
+most (x ∷ l) = max (numberOf x) (most l)
+
+past-most : (l : List Property) (n : ℕ) → most l < n → numbered l n ≡ Unknown
+unfolding numbered if_then_else_
+past-most [] n h = refl
+past-most (x ∷ l) n h = rw (eqb-miss {a = n} {b = numberOf x} (omega arith)) (past-most l n (omega arith))
+
+pub unlisted : (n : ℕ) → 0x14 < n → numbered properties n ≡ Unknown
+unlisted n h = past-most properties n h
+
 -- THE SAME PROPERTY has the same row: the number says which it is
 row-number : (n : Property) → rowOf standard (propertyOf (numberOf n)) ≡ rowOf standard n
-unfolding propertyOf numbered if_then_else_
-row-number RelinquishDefault = refl
-row-number FadeTime = refl
-row-number RampRate = refl
-row-number StepIncrement = refl
-row-number BlinkEnable = refl
-row-number BlinkTime = refl
-row-number BlinkWarnDelay = refl
-row-number MinValue = refl
-row-number MaxValue = refl
-row-number CommandPriority = refl
-row-number ElapsedActiveTime = refl
-row-number PresentValue = refl
-row-number ProgressValue = refl
-row-number InProcess = refl
-row-number LastOperation = refl
-row-number LastLevel = refl
-row-number LastRate = refl
-row-number LastStep = refl
-row-number LastFadeTime = refl
-row-number LastDuration = refl
-row-number (SlotValue i) = rw (leb-yes {a = 0x21} {b = 0x21 + i} (omega arith)) (by-bool (leb (0x21 + i) 0x30) (λ e. rw e) (λ e. rw e))
-row-number Unknown = refl
+row-number n = by-number n (λ e. ap (rowOf standard) e) (λ i l q. rw q (beyond i))
+  where
+    beyond : (i : ℕ) → rowOf standard (propertyOf (numberOf (SlotValue i))) ≡ ReadOnly
+    beyond i = unfold propertyOf numbered if_then_else_ in (rw (leb-yes {a = 0x21} {b = 0x21 + i} (omega arith)) (by-bool (leb (0x21 + i) 0x30) (λ e. rw e) (λ e. rw e)))
 
 pub same-row : (n m : Property) → same n m ≡ true → rowOf standard n ≡ rowOf standard m
 unfolding same

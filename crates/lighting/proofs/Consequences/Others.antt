@@ -6,54 +6,67 @@ use mathlib.Core.List.{List, [], _∷_, map}
 use Prim.Native.Nat.{ℕ, zero, suc, _≤_, _<_}
 use native.Mathlib.Omega.{arith}
 use lib.Dec.{ltb, eqb}
-use lib.ListN.{set, getD, length}
+use lib.ListN.{getD, length}
 use lib.Seq.{getD-set-other}
 use Rattle.lighting.specs.Choice.{if_then_else_}
 use Rattle.lighting.specs.Parameters.{standard}
-use Rattle.lighting.specs.Field.{byteAt, bigEndian}
-use Rattle.lighting.specs.Frames.{Bytes, kindLength, callOf, calledBy, called, clockOf, parseBy, parse}
-use Rattle.lighting.specs.Copies.{sameBytes, copyOr6}
+use Rattle.lighting.specs.Field.{byteAt}
+use Rattle.lighting.specs.Kinds.{kindRow}
+use Rattle.lighting.specs.Frames.{Bytes, callOf, called, clockOf, parseBy, parse}
+use Rattle.lighting.specs.Copies.{copyOr6}
 use Rattle.lighting.specs.Passing.{top, advance}
-use Rattle.lighting.specs.Fresh.{freshOutput, freshStation}
+use Rattle.lighting.specs.Fresh.{freshOutput}
 use Rattle.lighting.specs.Rules.{sound}
 use Rattle.lighting.specs.Acting.{served}
-use Rattle.lighting.specs.Panel.{Panel, Station, every, panelSound, restored, metNumber, met, metBy, stationOf, decide, carried, framed}
+use Rattle.lighting.specs.Panel.{Panel, Station, every, panelSound, metNumber, met, metBy, decide, carried, framed}
 use Rattle.lighting.specs.declared.Output.{Output}
+use Rattle.lighting.specs.declared.Kind.{Kind}
+use Rattle.lighting.specs.declared.Kind.the-variants.{NoKind, ClockKind, CallKind}
+use Rattle.lighting.specs.declared.Call.{Call}
 use Rattle.lighting.specs.declared.Frame.{Frame}
-use Rattle.lighting.specs.declared.Frame.the-variants.{Bad, Clock, Call}
+use Rattle.lighting.specs.declared.Frame.the-variants.{Bad, Clock, Calls}
 use Rattle.lighting.specs.declared.Verdict.{Verdict}
 use Rattle.lighting.specs.declared.Verdict.the-variants.{TurnedDown, Copied, Clocked, Arrives}
-use Rattle.lighting.proofs.Split.{also-both, by-bool, by-eq}
+use Rattle.lighting.proofs.Split.{also-both, by-bool}
 use Rattle.lighting.proofs.Tied.{tested-stays}
 
 -- the output that a call is for
 abbrev Of : ℕ → Frame → Type 0
 Of i (Bad r) = Unit {0}
 Of i (Clock t) = Unit {0}
-Of i (Call s n t j r) = j ≡ i
+Of i (Calls call) = call .output ≡ i
 
 abbrev For : ℕ → Verdict → Type 0
 For i (TurnedDown r) = Unit {0}
 For i (Copied a) = Unit {0}
 For i (Clocked t) = Unit {0}
-For i (Arrives s n t j r) = j ≡ i
+For i (Arrives call) = call .output ≡ i
+
+called-of : (c i : ℕ) (call : Call) → call .output ≡ i → Of i (called standard c call)
+unfolding called if_then_else_
+called-of c i call h =
+    by-bool (ltb (call .station) 8)
+    (λ e. rw e (by-bool (eqb (call .number) 0) (λ f. rw f tt) (λ f. rw f (by-bool (ltb (call .output) c) (λ g. rw g h) (λ g. rw g tt)))))
+    (λ e. rw e tt)
+
+parse-by : (c l : ℕ) (k : Kind) (b : Bytes) → Of (byteAt b 12) (parseBy standard c l k b)
+unfolding parseBy clockOf if_then_else_
+parse-by c l NoKind b = tt
+parse-by c l ClockKind b = by-bool (eqb (length b) l) (λ e. rw e tt) (λ e. rw e tt)
+parse-by c l (CallKind action) b =
+    by-bool (eqb (length b) l) (λ e. rw e (called-of c (byteAt b 12) (callOf standard action b) (unfold callOf in refl))) (λ e. rw e tt)
 
 parse-of : (c : ℕ) (b : Bytes) → Of (byteAt b 12) (parse standard c b)
-unfolding parse parseBy clockOf called calledBy callOf if_then_else_
-parse-of c b =
-    by-bool (eqb (kindLength (byteAt b 0)) 0) (λ e. rw e tt)
-    (λ e. rw e (by-bool (eqb (length b) (kindLength (byteAt b 0))) (λ f. rw f (by-bool (eqb (byteAt b 0) 1) (λ g. rw g tt) (λ g. rw g
-    (by-bool (ltb (byteAt b 1) 8)
-    (λ h. rw h (by-bool (eqb (bigEndian 4 b 2) 0) (λ i. rw i tt) (λ i. rw i (by-bool (ltb (byteAt b 12) c) (λ j. rw j refl) (λ j. rw j tt)))))
-    (λ h. rw h tt))))) (λ f. rw f tt)))
+unfolding parse
+parse-of c b = parse-by c (kindRow (byteAt b 0) .length) (kindRow (byteAt b 0) .kind) b
 
 met-for : (i now : ℕ) (k : Station) (same : Bool) (f : Frame) → Of i f → For i (met now k same f)
 unfolding met metNumber copyOr6 if_then_else_
 met-for i now k same (Bad r) h = tt
 met-for i now k same (Clock t) h = by-bool (ltb t now) (λ e. rw e tt) (λ e. rw e tt)
-met-for i now k same (Call s n t j r) h =
-    by-bool (eqb n (k .number)) (λ e. rw e (by-bool same (λ f. rw f tt) (λ f. rw f tt)))
-    (λ e. rw e (by-bool (ltb n (k .number)) (λ f. rw f tt) (λ f. rw f (by-bool (ltb t now) (λ g. rw g tt) (λ g. rw g h)))))
+met-for i now k same (Calls call) h =
+    by-bool (eqb (call .number) (k .number)) (λ e. rw e (by-bool same (λ f. rw f tt) (λ f. rw f tt)))
+    (λ e. rw e (by-bool (ltb (call .number) (k .number)) (λ f. rw f tt) (λ f. rw f (by-bool (ltb (call .time) now) (λ g. rw g tt) (λ g. rw g h)))))
 
 decide-for : (e : Panel) (b : Bytes) → For (byteAt b 12) (decide standard e b)
 unfolding decide metBy
@@ -82,9 +95,9 @@ module _ (e : Panel) (b : Bytes) (j : ℕ) (sized : j < length (e .outputs)) (bo
   carried-other (TurnedDown r) f h = stands h
   carried-other (Copied a) f h = stands h
   carried-other (Clocked t) f h = at-map (advance (e .time) t) (e .outputs) j sized
-  carried-other (Arrives s n t i r) f h =
-      getD-set-other (map (advance (e .time) t) (e .outputs)) i j _ freshOutput (λ q. other (sym f ∙ sym q))
-      ∙ at-map (advance (e .time) t) (e .outputs) j sized
+  carried-other (Arrives call) f h =
+      getD-set-other (map (advance (e .time) (call .time)) (e .outputs)) (call .output) j _ freshOutput (λ q. other (sym f ∙ sym q))
+      ∙ at-map (advance (e .time) (call .time)) (e .outputs) j sized
 
   -- any string of bytes, to any panel that keeps the rules
   pub others : panelSound standard e ≡ true

@@ -1,29 +1,37 @@
 -- KIND 05, by the property's NUMBER: what each of 01 to 14 and 21 to 30 reads as, of every output at every time. Assumes nothing.
-use mathlib.Core.Path.{_≡_, refl, ap, _∙_}
-use mathlib.Core.List.{List, [], _∷_, map}
+use mathlib.Core.Path.{_≡_, refl}
+use mathlib.Core.List.{[], _∷_, map}
 use mathlib.Core.Option.{Option, none, some}
 use Prim.Native.Nat.{ℕ, suc, _+_, _<_}
 use native.Mathlib.Omega.{arith}
 use native.Mathlib.Nat.{add-sub-cancel-left}
-use lib.ListN.{getD, length, List·getD-eq-default}
+use lib.ListN.{length}
 use Rattle.lighting.specs.Choice.{if_then_else_}
-use Rattle.lighting.specs.Parameters.{standard}
 use Rattle.lighting.specs.Level.{bits, readOut}
 use Rattle.lighting.specs.Slots.{slot, lives, levelAt}
 use Rattle.lighting.specs.Value.{presentValue, progressValue, inProcess}
-use Rattle.lighting.specs.Properties.{properties, propertyOf, levelAnswer, slotAnswer, flag, elapsedActive, realAnswer, operationNumber, lastLevel, lastRate, lastStep, lastFadeTime, lastDuration, shown}
+use Rattle.lighting.specs.Properties.{numbered, properties, propertyOf, levelAnswer, slotAnswer, flag, elapsedActive, realAnswer, shown}
 use Rattle.lighting.specs.Acting.{left, acted}
-use Rattle.lighting.specs.Frames.{requestBy}
+use Rattle.lighting.specs.Field.{byteAt}
+use Rattle.lighting.specs.Kinds.{kindRow}
+use Rattle.lighting.specs.Frames.{Bytes, requestOf}
 use Rattle.lighting.specs.declared.Answer.{Answer}
 use Rattle.lighting.specs.declared.Answer.the-variants.{Done, Value, Absent, Refused}
 use Rattle.lighting.specs.declared.Property.the-variants.{Unknown}
+use Rattle.lighting.specs.declared.Request.the-variants.{Read}
 use Rattle.lighting.specs.declared.Output.{Output}
 use Rattle.lighting.proofs.Split.{by-bool, leb-yes, leb-no}
 use Rattle.lighting.proofs.Mask.{slot-is}
+use Rattle.lighting.proofs.Consequences.Bytes.{asked}
+use Rattle.lighting.proofs.Rows.{unlisted}
 
--- a read of property n of the output o at t
+-- a read of property n of the output o at t: a frame of kind 05 whose byte 13 is n
 abbrev pub reads : ℕ → Output → ℕ → Answer
-reads t o n = acted t o (requestBy standard 5 n 0 0 0 0) .answer
+reads t o n = acted t o (Read (propertyOf n)) .answer
+
+pub read-asked : (b : Bytes) → asked 5 b ≡ Read (propertyOf (byteAt b 13))
+unfolding kindRow requestOf if_then_else_
+read-asked b = refl
 
 -- 'Properties': 01 to 0B, and 'Read only: 0C Present_Value, 0D Progress_Value, 0E In_Process, 0F last operation'
 pub read-numbers : (t : ℕ) (o : Output)
@@ -43,23 +51,20 @@ pub read-numbers : (t : ℕ) (o : Output)
     ∷ Value (readOut (progressValue t o))
     ∷ Value (inProcess (o .activity))
     ∷ []
-unfolding acted left requestBy propertyOf shown levelAnswer realAnswer flag if_then_else_
+unfolding acted left propertyOf numbered shown levelAnswer realAnswer flag if_then_else_
 read-numbers t o = refl
 
 -- 'property unknown' is 9: 00, 15 to 20 and 31 on
 pub read-unknown : (t : ℕ) (o : Output) (n : ℕ) → 0x14 < n → n < 0x21 → reads t o n ≡ Refused 9
-unfolding acted left requestBy propertyOf shown if_then_else_
-read-unknown t o n h k = rw (leb-no {a = 0x21} {b = n} k, past n h)
-  where
-    past : (n : ℕ) → 0x14 < n → getD properties n Unknown ≡ Unknown
-    past n h = List·getD-eq-default properties Unknown h
+unfolding acted left propertyOf numbered shown if_then_else_
+read-unknown t o n h k = rw (leb-no {a = 0x21} {b = n} k, unlisted n h)
 
 pub read-past : (t : ℕ) (o : Output) (n : ℕ) → 0x30 < n → reads t o n ≡ Refused 9
-unfolding acted left requestBy propertyOf shown if_then_else_
+unfolding acted left propertyOf numbered shown if_then_else_
 read-past t o n h = rw (leb-yes {a = 0x21} {b = n} (omega arith), leb-no {a = n} {b = 0x30} h)
 
 pub read-none : (t : ℕ) (o : Output) → reads t o 0 ≡ Refused 9
-unfolding acted left requestBy propertyOf shown if_then_else_
+unfolding acted left propertyOf numbered shown if_then_else_
 read-none t o = refl
 
 -- '21 to 30 slots 1 to 16 (Absent if not live)'
@@ -68,7 +73,7 @@ slotAs none = Absent
 slotAs (some v) = Value (readOut v)
 
 pub read-slots : (t : ℕ) (o : Output) (i : ℕ) → length (o .slots .levels) ≡ 16 → i < 16 → reads t o (0x21 + i) ≡ slotAs (slot (o .slots) i)
-unfolding acted left requestBy propertyOf shown slotAnswer levelAnswer levelAt if_then_else_
+unfolding acted left propertyOf numbered shown slotAnswer levelAnswer levelAt if_then_else_
 read-slots t o i z h =
     rw (leb-yes {a = 0x21} {b = 0x21 + i} (omega arith), leb-yes {a = 0x21 + i} {b = 0x30} (omega arith), add-sub-cancel-left 0x21 i, slot-is (o .slots) i (omega arith), leb-yes {a = suc i} {b = 16} h)
     (by-bool (lives (o .slots) i) (λ e. rw e) (λ e. rw e))
