@@ -1,18 +1,23 @@
 #!/usr/bin/env python3
 """figures.py [--check]: write crates/lighting/proofs/Figures.antt: that the definitions compute the bench figures, the traps and the worked list of
-specs/Figures.antt and specs/Worked.antt. Only the lists of names to unfold are made; the prover checks the equations.
+specs/Paper/Figures.antt and specs/Paper/Worked.antt. Only the lists of names to unfold are made; the prover checks the equations.
 With --check nothing is written, and a stale file is an error."""
+import os
 import re
 import sys
 
-SPECS = 'crates/lighting/specs/%s.antt'
+SPECS = 'crates/lighting/specs/%s/%s.antt'
 OUT = 'crates/lighting/proofs/Figures.antt'
-OF_OUTPUTS = 'Choice Level Slots Value Record Passing Writing Operations Commands Rows Properties Fresh Answers'.split()
-OF_PANELS = OF_OUTPUTS + 'Field Kinds Frames Rules Acting Copies Panel Worked'.split()
+OF_OUTPUTS = 'Choice Level Slots Value Record Passing Advance Writing Operations Commands Rows Properties Fresh Answers'.split()
+OF_PANELS = OF_OUTPUTS + 'Field Kinds Frames Rules Acting Copies Panel Judging Executing Worked'.split()
+
+
+def folder(module):
+    return 'Paper' if os.path.exists(SPECS % ('Paper', module)) else 'Engine'
 
 
 def definitions(module):
-    return re.findall(r'^unfoldable pub (\S+) :', open(SPECS % module).read(), re.M)
+    return re.findall(r'^unfoldable pub (\S+) :', open(SPECS % (folder(module), module)).read(), re.M)
 
 
 def opened(modules):
@@ -21,17 +26,17 @@ def opened(modules):
 
 lines = [
     '-- Made by tools/figures.py: bench figures 1 to 8, the traps of one output, and the worked list with figures 9 and 10, each computed by the',
-    '-- definitions. Assumes nothing.',
+    '-- definitions.',
     'use mathlib.Core.Path.{_≡_, refl}',
     'use lib.Bits.{bitAnd, bitOr}',
     'use lib.Ieee.{ofBits, toBits, round}',
-    'use Rattle.lighting.specs.Parameters.{standard}',
-    'use Rattle.lighting.specs.Demand.{answers}',
-    'use Rattle.lighting.specs.Figures.{given, said, trapsGiven, trapsSaid}',
+    'use Rattle.lighting.specs.Paper.Parameters.{document01}',
+    'use Rattle.lighting.specs.Paper.Demand.{answers}',
+    'use Rattle.lighting.specs.Paper.Figures.{given, said, trapsGiven, trapsSaid}',
 ]
 for module in OF_PANELS:
     names = definitions(module) + (['frames', 'expected'] if module == 'Worked' else [])
-    lines.append('use Rattle.lighting.specs.%s.{%s}' % (module, ', '.join(names)))
+    lines.append('use Rattle.lighting.specs.%s.%s.{%s}' % (folder(module), module, ', '.join(names)))
 text = '\n'.join(lines) + '''
 
 pub figures : given ≡ said
@@ -43,7 +48,7 @@ unfolding bitAnd bitOr ofBits %s
 traps = refl
 
 -- two outputs, freshly started
-pub worked : answers standard (freshPanel 2 8) frames ≡ expected
+pub worked : answers document01 (freshPanel 2 8) frames ≡ expected
 unfolding bitAnd bitOr ofBits toBits round answers %s
 worked = refl
 ''' % (opened(OF_OUTPUTS), opened(OF_OUTPUTS), opened(OF_PANELS))

@@ -13,8 +13,8 @@ OPEN = {'rowOf', 'numberOf'}
 OUT = 'crates/lighting/proofs/Laws.antt'
 
 laws, names, definitions, types = [], [], {}, {}
-for path in sorted(glob.glob('crates/lighting/specs/*.antt')):
-    module = path.split('/')[-1][:-5]
+for path in sorted(glob.glob('crates/lighting/specs/*/*.antt')):
+    folder, module = path.split('/')[-2], path.split('/')[-1][:-5]
     if module in WITHOUT_CODE:
         continue
     text = open(path).read()
@@ -39,13 +39,13 @@ for path in sorted(glob.glob('crates/lighting/specs/*.antt')):
         laws.append(
             'pub {f}-on : {bind} (k : {type}) (r : {result}) → {x} ≡ k → r ≡ {f} {after} → r ≡ {f} {before}\n{f}-on {before} k r e p = rw e p\n'.format(
                 f=name, bind=binders, type=arguments[at], result=result, x=before[at], after=' '.join(after), before=' '.join(before)))
-        definitions.setdefault('Rattle.lighting.specs.%s' % module, []).append(name)
+        definitions.setdefault('Rattle.lighting.specs.%s.%s' % (folder, module), []).append(name)
         names += re.findall(r'[A-Z]\w*|ℕ', signature)
     for used, group in re.findall(r'^(?:pub )?use (.*)\.\{([^}]*)\}', text, re.M):
         if 'the-variants' not in used:
             types.setdefault(used, set()).update(n.strip() for n in group.split(',') if re.match(r'\s*([A-Z]\w*|ℕ)\s*$', n))
     own = re.findall(r'^(?:abbrev )?pub (?:record )?([A-Z]\w*) ', text, re.M)
-    types.setdefault('Rattle.lighting.specs.%s' % module, set()).update(own)
+    types.setdefault('Rattle.lighting.specs.%s.%s' % (folder, module), set()).update(own)
 lines = ['-- Made by tools/laws.py: each definition by clauses, at the variant that a match has found.', 'use mathlib.Core.Path.{_≡_}']
 seen = set()
 for module in sorted(set(definitions) | set(types)):

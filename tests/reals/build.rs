@@ -1,4 +1,4 @@
-//! Links the static library of the proved conversions: `rt staticlib conversions` writes it.
+//! Links the static library of the proved conversions: `rt staticlib number_conversions` writes it.
 
 fn main() {
     let folder = std::env::var("BOBBINONYX_STATICLIB").unwrap_or_else(|_| {
@@ -6,7 +6,7 @@ fn main() {
         format!("{here}/../../target/staticlib")
     });
     println!("cargo:rustc-link-search=native={folder}");
-    println!("cargo:rustc-link-lib=static=conversions");
+    println!("cargo:rustc-link-lib=static=number_conversions");
     println!("cargo:rerun-if-env-changed=BOBBINONYX_STATICLIB");
-    println!("cargo:rerun-if-changed={folder}/libconversions.a");
+    println!("cargo:rerun-if-changed={folder}/libnumber_conversions.a");
 }

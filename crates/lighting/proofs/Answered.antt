@@ -1,14 +1,14 @@
--- What a first arrival is answered: never refusal 1. Assumes nothing.
+-- What a first arrival is answered: never refusal 1.
 use mathlib.Core.Path.{_≡_, refl}
 use mathlib.Core.Logic.{_≢_}
 use Prim.Native.Nat.{ℕ}
 use native.Mathlib.Omega.{arith}
-use Rattle.lighting.specs.Choice.{if_then_else_}
-use Rattle.lighting.specs.Slots.{Slots, lives}
+use Rattle.lighting.specs.Paper.Choice.{if_then_else_}
+use Rattle.lighting.specs.Paper.Slots.{Slots, isLive}
 use Rattle.lighting.proofs.AnswersApart.{refusalOf}
-use Rattle.lighting.specs.Operations.{fieldsOf}
-use Rattle.lighting.specs.Properties.{settingsWith, minOverMax, levelAnswer, slotAnswer, realAnswer, realFieldAnswer, timeFieldAnswer, lastDuration, shown}
-use Rattle.lighting.specs.Acting.{made, left, changedUnless, acted}
+use Rattle.lighting.specs.Paper.Operations.{fieldsOf}
+use Rattle.lighting.specs.Paper.Properties.{settingsWith, minOverMax, levelAnswer, slotAnswer, realAnswer, realFieldAnswer, timeFieldAnswer, lastDuration, readProperty}
+use Rattle.lighting.specs.Paper.Acting.{done, unchanged, changedUnless, acted}
 use Rattle.lighting.specs.declared.Duration.{Duration}
 use Rattle.lighting.specs.declared.Duration.the-variants.{Lasts, Cancels, Omitted}
 use Rattle.lighting.specs.declared.RealField.{RealField}
@@ -19,10 +19,10 @@ use Rattle.lighting.specs.declared.Property.{Property}
 use Rattle.lighting.specs.declared.Property.the-variants.{RelinquishDefault, FadeTime, RampRate, StepIncrement, BlinkEnable, BlinkTime, BlinkWarnDelay, MinValue, MaxValue, CommandPriority, ElapsedActiveTime, PresentValue, ProgressValue, InProcess, LastOperation, LastLevel, LastRate, LastStep, LastFadeTime, LastDuration, SlotValue, Unknown}
 use Rattle.lighting.specs.declared.Answer.{Answer}
 use Rattle.lighting.specs.declared.Request.{Request}
-use Rattle.lighting.specs.declared.Request.the-variants.{Refuse, Write, Empty, Change, Read, Order}
+use Rattle.lighting.specs.declared.Request.the-variants.{Refuse, Write, Empty, Change, Read, Commands}
 use Rattle.lighting.specs.declared.Output.{Output}
 use Rattle.lighting.proofs.Split.{by-bool}
-use Rattle.lighting.proofs.Good.{Good}
+use Rattle.lighting.proofs.RequestInRange.{RequestInRange}
 
 -- an answer that is not refusal 1
 pub record NotOne (a : Answer) : Type 0 where
@@ -49,35 +49,35 @@ duration-none Omitted = refl
 
 slot-none : (s : Slots) (i : ℕ) → refusalOf (slotAnswer s i) ≡ 0
 unfolding slotAnswer levelAnswer if_then_else_
-slot-none s i = by-bool (lives s i) (λ e. rw e) (λ e. rw e)
+slot-none s i = by-bool (isLive s i) (λ e. rw e) (λ e. rw e)
 
-shown-not-one : (t : ℕ) (o : Output) (n : Property) → NotOne (shown t o n)
-unfolding shown levelAnswer realAnswer
-shown-not-one t o RelinquishDefault = not-one (shown t o RelinquishDefault) refl
-shown-not-one t o FadeTime = not-one (shown t o FadeTime) refl
-shown-not-one t o RampRate = not-one (shown t o RampRate) refl
-shown-not-one t o StepIncrement = not-one (shown t o StepIncrement) refl
-shown-not-one t o BlinkEnable = not-one (shown t o BlinkEnable) refl
-shown-not-one t o BlinkTime = not-one (shown t o BlinkTime) refl
-shown-not-one t o BlinkWarnDelay = not-one (shown t o BlinkWarnDelay) refl
-shown-not-one t o MinValue = not-one (shown t o MinValue) refl
-shown-not-one t o MaxValue = not-one (shown t o MaxValue) refl
-shown-not-one t o CommandPriority = not-one (shown t o CommandPriority) refl
-shown-not-one t o ElapsedActiveTime = not-one (shown t o ElapsedActiveTime) refl
-shown-not-one t o PresentValue = not-one (shown t o PresentValue) refl
-shown-not-one t o ProgressValue = not-one (shown t o ProgressValue) refl
-shown-not-one t o InProcess = not-one (shown t o InProcess) refl
-shown-not-one t o LastOperation = not-one (shown t o LastOperation) refl
-shown-not-one t o LastLevel = not-one (shown t o LastLevel) (real-none (fieldsOf (o .last .operation) .level))
-shown-not-one t o LastRate = not-one (shown t o LastRate) (real-none (fieldsOf (o .last .operation) .rate))
-shown-not-one t o LastStep = not-one (shown t o LastStep) (real-none (fieldsOf (o .last .operation) .step))
-shown-not-one t o LastFadeTime = not-one (shown t o LastFadeTime) (time-none (fieldsOf (o .last .operation) .fade))
-shown-not-one t o LastDuration = not-one (shown t o LastDuration) (duration-none (o .last .duration))
-shown-not-one t o (SlotValue i) = not-one (shown t o (SlotValue i)) (slot-none (o .slots) i)
-shown-not-one t o Unknown = record { other = omega arith }
+readProperty-not-one : (t : ℕ) (o : Output) (n : Property) → NotOne (readProperty t o n)
+unfolding readProperty levelAnswer realAnswer
+readProperty-not-one t o RelinquishDefault = not-one (readProperty t o RelinquishDefault) refl
+readProperty-not-one t o FadeTime = not-one (readProperty t o FadeTime) refl
+readProperty-not-one t o RampRate = not-one (readProperty t o RampRate) refl
+readProperty-not-one t o StepIncrement = not-one (readProperty t o StepIncrement) refl
+readProperty-not-one t o BlinkEnable = not-one (readProperty t o BlinkEnable) refl
+readProperty-not-one t o BlinkTime = not-one (readProperty t o BlinkTime) refl
+readProperty-not-one t o BlinkWarnDelay = not-one (readProperty t o BlinkWarnDelay) refl
+readProperty-not-one t o MinValue = not-one (readProperty t o MinValue) refl
+readProperty-not-one t o MaxValue = not-one (readProperty t o MaxValue) refl
+readProperty-not-one t o CommandPriority = not-one (readProperty t o CommandPriority) refl
+readProperty-not-one t o ElapsedActiveTime = not-one (readProperty t o ElapsedActiveTime) refl
+readProperty-not-one t o PresentValue = not-one (readProperty t o PresentValue) refl
+readProperty-not-one t o ProgressValue = not-one (readProperty t o ProgressValue) refl
+readProperty-not-one t o InProcess = not-one (readProperty t o InProcess) refl
+readProperty-not-one t o LastOperation = not-one (readProperty t o LastOperation) refl
+readProperty-not-one t o LastLevel = not-one (readProperty t o LastLevel) (real-none (fieldsOf (o .last .operation) .level))
+readProperty-not-one t o LastRate = not-one (readProperty t o LastRate) (real-none (fieldsOf (o .last .operation) .rate))
+readProperty-not-one t o LastStep = not-one (readProperty t o LastStep) (real-none (fieldsOf (o .last .operation) .step))
+readProperty-not-one t o LastFadeTime = not-one (readProperty t o LastFadeTime) (time-none (fieldsOf (o .last .operation) .fade))
+readProperty-not-one t o LastDuration = not-one (readProperty t o LastDuration) (duration-none (o .last .duration))
+readProperty-not-one t o (SlotValue i) = not-one (readProperty t o (SlotValue i)) (slot-none (o .slots) i)
+readProperty-not-one t o Unknown = record { other = omega arith }
 
-pub acted-not-one : (t : ℕ) (o : Output) (r : Request) → Good r → NotOne (acted t o r .answer)
-unfolding acted made left changedUnless if_then_else_
+pub acted-not-one : (t : ℕ) (o : Output) (r : Request) → RequestInRange r → NotOne (acted t o r .answer)
+unfolding acted done unchanged changedUnless if_then_else_
 acted-not-one t o (Refuse n) g = record { other = omega arith }
 acted-not-one t o (Write i v) g = record { other = omega arith }
 acted-not-one t o (Empty i) g = record { other = omega arith }
@@ -86,5 +86,5 @@ acted-not-one t o (Change n v) g =
     (minOverMax (settingsWith (o .settings) n v))
     (λ e. rw e (record { other = omega arith }))
     (λ e. rw e (record { other = omega arith }))
-acted-not-one t o (Read n) g = shown-not-one t o n
-acted-not-one t o (Order k) g = record { other = omega arith }
+acted-not-one t o (Read n) g = readProperty-not-one t o n
+acted-not-one t o (Commands k) g = record { other = omega arith }

@@ -1,13 +1,13 @@
--- FROM THE CALLS TO THE DEMAND: who calls `start` once and `frame` for each string of a list has demand 3. Assumes nothing.
+-- FROM THE CALLS TO THE DEMAND: who calls `start` once and `frame_parse` for each string of a list has demand 3.
 use mathlib.Core.Path.{_≡_, refl, sym, ap, ap₂, _∙_}
 use mathlib.Core.List.{List, [], _∷_}
 use lib.ListN.{length}
-use Rattle.lighting.specs.Parameters.{Parameters, standard}
-use Rattle.lighting.specs.Frames.{Bytes, Strings}
-use Rattle.lighting.specs.Panel.{Panel, Step, leaving, started}
-use Rattle.lighting.specs.Plain.{plainStart}
-use Rattle.lighting.specs.Demand.{foundIn, foundPlain, plainAfter, after, answers, Again, end, own}
-use Rattle.lighting.specs.Calls.{Calls, none, call, Concluded, ConcludedAgain}
+use Rattle.lighting.specs.Paper.Parameters.{Parameters, document01}
+use Rattle.lighting.specs.Paper.Frames.{Bytes, Strings}
+use Rattle.lighting.specs.Paper.Panel.{Panel, Step, result, startStep}
+use Rattle.lighting.specs.Paper.Plain.{plainStart}
+use Rattle.lighting.specs.Paper.Demand.{foundIn, foundPlain, plainAfter, after, answers, Again, end, own}
+use Rattle.lighting.specs.Paper.Calls.{Calls, none, call, Concluded, ConcludedAgain}
 use Rattle.lighting.specs.declared.Answer.{Answer}
 use Rattle.lighting.specs.declared.Answer.the-variants.{Done}
 use Rattle.lighting.proofs.Demand.{demand-3, same-found}
@@ -23,13 +23,13 @@ calls-list p (call {l = l} {given = given} x z) =
     (i .0 ∙ ap (λ (e : Panel). after p e l) e₁, ap₂ (λ (a : Answer) (m : List Answer). a ∷ m) a (i .1 ∙ ap (λ (e : Panel). answers p e l) e₁))
 
 -- a start that answered Done, by its contract
-answered : (e : Panel) {e₀ : Panel} → leaving e₀ Done ≡ started standard e → started standard e .answer ≡ Done
+answered : (e : Panel) {e₀ : Panel} → result e₀ Done ≡ startStep document01 e → startStep document01 e .answer ≡ Done
 answered e b = sym (ap (λ (k : Step). k .answer) b)
 
 -- the same after a start
-called : (e : Panel) {e₀ e′ : Panel} {l : List Bytes} {given : List Answer} → leaving e₀ Done ≡ started standard e → Calls standard e₀ l given e′
-    → (e′ ≡ after standard (started standard e .panel) l) × (given ≡ answers standard (started standard e .panel) l)
-called e b c = rw (← ap (λ (k : Step). k .panel) b) (calls-list standard c)
+called : (e : Panel) {e₀ e′ : Panel} {l : List Bytes} {given : List Answer} → result e₀ Done ≡ startStep document01 e → Calls document01 e₀ l given e′
+    → (e′ ≡ after document01 (startStep document01 e .panel) l) × (given ≡ answers document01 (startStep document01 e .panel) l)
+called e b c = rw (← ap (λ (k : Step). k .panel) b) (calls-list document01 c)
 
 -- a list with no frame that comes again
 pub once : (seen l : List Bytes) → Again seen l l
@@ -37,21 +37,21 @@ once seen [] = end
 once seen (b ∷ l) = own (once (b ∷ seen) l)
 
 pub conclude : (e e₀ e′ : Panel) (l : List Bytes) (given : List Answer) → Strings l
-    → leaving e₀ Done ≡ started standard e → Calls standard e₀ l given e′ → Concluded standard e l given e′
+    → result e₀ Done ≡ startStep document01 e → Calls document01 e₀ l given e′ → Concluded document01 e l given e′
 conclude e e₀ e′ l given s b c =
     let d = demand-3 e l l (once [] l) s (answered e b) in
     let k = called e b c in
     rw (k .0, k .1) (record { outputs = d .outputs; time = d .time; answered = d .answered; sound = d .sound; never = d .never })
 
 -- so the tables show what the plain panel shows
-pub shows : (e e′ : Panel) (l : List Bytes) (given : List Answer) → Concluded standard e l given e′
-    → foundIn e′ ≡ foundPlain (plainAfter standard (plainStart (length (e .outputs))) l .panel)
-shows e e′ l given c = same-found e′ (plainAfter standard (plainStart (length (e .outputs))) l .panel) (c .outputs) (c .time)
+pub shows : (e e′ : Panel) (l : List Bytes) (given : List Answer) → Concluded document01 e l given e′
+    → foundIn e′ ≡ foundPlain (plainAfter document01 (plainStart (length (e .outputs))) l .panel)
+shows e e′ l given c = same-found e′ (plainAfter document01 (plainStart (length (e .outputs))) l .panel) (c .outputs) (c .time)
 
 -- two callers after the same start: the one's list is l, and in the other's frames of it come again
 pub conclude-again : (e e₀ e′ e″ : Panel) (l l′ : List Bytes) (r : Again [] l l′) (given given′ : List Answer) → Strings l
-    → leaving e₀ Done ≡ started standard e → Calls standard e₀ l given e′ → Calls standard e₀ l′ given′ e″
-    → ConcludedAgain standard l l′ r given given′ e′ e″
+    → result e₀ Done ≡ startStep document01 e → Calls document01 e₀ l given e′ → Calls document01 e₀ l′ given′ e″
+    → ConcludedAgain document01 l l′ r given given′ e′ e″
 conclude-again e e₀ e′ e″ l l′ r given given′ s b c c′ =
     let d = demand-3 e l l′ r s (answered e b) in
     let k = called e b c in

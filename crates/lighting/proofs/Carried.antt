@@ -1,5 +1,5 @@
--- `started`, `framed` and `carried` on each of their ways, as the code over the lent tables takes them; and what a verdict is sure of.
--- Assumes nothing.
+-- `startStep`, `frameStep` and `execute` on each of their ways, as the code over the lent tables takes them; and what a verdict is sure of.
+--
 use mathlib.Core.Path.{_≡_, refl, ap₂}
 use mathlib.Core.Bool.{Bool, true, false}
 use mathlib.Core.List.{List, [], _∷_, map}
@@ -7,61 +7,63 @@ use Prim.Native.Nat.{ℕ, suc, _≤_, _<_}
 use native.Mathlib.Omega.{arith}
 use lib.Dec.{ltb, eqb}
 use lib.ListN.{length, getD}
-use Rattle.lighting.specs.Choice.{if_then_else_}
-use Rattle.lighting.specs.Parameters.{standard}
-use Rattle.lighting.specs.Field.{byteAt}
-use Rattle.lighting.specs.Frames.{Bytes, Octets, parse}
-use Rattle.lighting.specs.Passing.{top, advance}
-use Rattle.lighting.specs.Rules.{sound}
-use Rattle.lighting.specs.Fresh.{freshStation}
-use Rattle.lighting.specs.Copies.{sameBytes, copyOr6}
-use Rattle.lighting.specs.Sure.{Sure}
-use Rattle.lighting.specs.Panel.{Panel, leaving, Station, every, countsSound, panelSound, restored, metNumber, met, stationOf, metBy, decide, carried, framed, freshPanel, started}
+use Rattle.lighting.specs.Paper.Choice.{if_then_else_}
+use Rattle.lighting.specs.Paper.Parameters.{document01}
+use Rattle.lighting.specs.Paper.Field.{byteAt}
+use Rattle.lighting.specs.Paper.Frames.{Bytes, Octets, parse}
+use Rattle.lighting.specs.Engine.Advance.{greatestCount, advance}
+use Rattle.lighting.specs.Paper.Rules.{sound}
+use Rattle.lighting.specs.Paper.Fresh.{freshStation}
+use Rattle.lighting.specs.Paper.Copies.{sameBytes, retransmissionOrConflict}
+use Rattle.lighting.specs.Engine.VerdictPrecondition.{VerdictPrecondition}
+use Rattle.lighting.specs.Paper.Panel.{Panel, result, Station, every, countsSound, panelSound, freshPanel, startStep}
+use Rattle.lighting.specs.Engine.Judging.{restored, judgedByNumber, judgedByRecord, stationOf, judgedByStation, decide}
+use Rattle.lighting.specs.Engine.Executing.{execute, frameStep}
 use Rattle.lighting.specs.declared.Output.{Output}
 use Rattle.lighting.specs.declared.Answer.{Answer}
 use Rattle.lighting.specs.declared.Answer.the-variants.{Done, Refused}
 use Rattle.lighting.specs.declared.Frame.{Frame}
 use Rattle.lighting.specs.declared.Frame.the-variants.{Bad, Clock, Calls}
 use Rattle.lighting.proofs.Split.{by-bool, by-lt, also-both, eq-of}
-use Rattle.lighting.proofs.Reading.{Proper, proper}
+use Rattle.lighting.proofs.Reading.{FrameInRange, proper}
 use Rattle.lighting.proofs.KindTable.{length-most}
 use Rattle.lighting.proofs.Tied.{tested-stays}
 
 -- THE START
 module _ (e : Panel) where
-  pub started-refused : countsSound standard (length (e .outputs)) (length (e .stations)) ≡ false
-      → started standard e ≡ leaving e (Refused 1)
-  unfolding started if_then_else_
-  started-refused h = rw h
+  pub startStep-refused : countsSound document01 (length (e .outputs)) (length (e .stations)) ≡ false
+      → startStep document01 e ≡ result e (Refused 1)
+  unfolding startStep if_then_else_
+  startStep-refused h = rw h
 
-  pub started-done : countsSound standard (length (e .outputs)) (length (e .stations)) ≡ true
-      → started standard e ≡ leaving (freshPanel (length (e .outputs)) (length (e .stations))) Done
-  unfolding started if_then_else_
-  started-done h = rw h
+  pub startStep-done : countsSound document01 (length (e .outputs)) (length (e .stations)) ≡ true
+      → startStep document01 e ≡ result (freshPanel (length (e .outputs)) (length (e .stations))) Done
+  unfolding startStep if_then_else_
+  startStep-done h = rw h
 
 -- ONE FRAME
 module _ (e : Panel) (b : Bytes) where
-  pub framed-refused : panelSound standard e ≡ false → framed standard e b ≡ leaving e (Refused 1)
-  unfolding framed if_then_else_
-  framed-refused h = rw h
+  pub frameStep-refused : panelSound document01 e ≡ false → frameStep document01 e b ≡ result e (Refused 1)
+  unfolding frameStep if_then_else_
+  frameStep-refused h = rw h
 
-  pub framed-carried : panelSound standard e ≡ true → framed standard e b ≡ carried b e (decide standard e b)
-  unfolding framed if_then_else_
-  framed-carried h = rw h
+  pub frameStep-execute : panelSound document01 e ≡ true → frameStep document01 e b ≡ execute b e (decide document01 e b)
+  unfolding frameStep if_then_else_
+  frameStep-execute h = rw h
 
 -- WHILE TIME STANDS nothing changes
-pub all-stay : (t : ℕ) (l : List Output) → t ≤ top → every (sound standard t) l ≡ true → map (advance t t) l ≡ l
+pub all-stay : (t : ℕ) (l : List Output) → t ≤ greatestCount → every (sound document01 t) l ≡ true → map (advance t t) l ≡ l
 unfolding every
 all-stay t [] m h = refl
 all-stay t (o ∷ l) m h =
     ap₂ (λ (x : Output) (k : List Output). x ∷ k) (tested-stays t o m (also-both h .0)) (all-stay t l m (also-both h .1))
 
 -- the parts of the test of refusal 1
-pub sound-stations : (e : Panel) → panelSound standard e ≡ true → length (e .stations) ≡ 8
+pub sound-stations : (e : Panel) → panelSound document01 e ≡ true → length (e .stations) ≡ 8
 unfolding panelSound countsSound
 sound-stations e h = eq-of (also-both (also-both (also-both h .0) .1) .1)
 
-pub sound-outputs : (e : Panel) → panelSound standard e ≡ true → every (sound standard (e .time)) (e .outputs) ≡ true
+pub sound-outputs : (e : Panel) → panelSound document01 e ≡ true → every (sound document01 (e .time)) (e .outputs) ≡ true
 unfolding panelSound
 sound-outputs e h = also-both (also-both h .1) .0
 
@@ -71,21 +73,21 @@ octets [] h = tt
 octets (x ∷ b) h = (h 0, octets b (λ i. h (suc i)))
 
 -- the station that a frame names has its record
-station-within : (c : ℕ) (b : Bytes) (f : Frame) → Proper c b f → stationOf f < 8
+station-within : (c : ℕ) (b : Bytes) (f : Frame) → FrameInRange c b f → stationOf f < 8
 unfolding stationOf
 station-within c b (Bad r) g = omega arith
 station-within c b (Clock t) g = omega arith
 station-within c b (Calls call) g = g .station
 
-pub station-found : (c : ℕ) (b : Bytes) → Octets b → stationOf (parse standard c b) < 8
-station-found c b h = station-within c b (parse standard c b) (proper c b h)
+pub station-found : (c : ℕ) (b : Bytes) → Octets b → stationOf (parse document01 c b) < 8
+station-found c b h = station-within c b (parse document01 c b) (proper c b h)
 
-met-sure : (now c k : ℕ) (b : Bytes) (a : Station) (same : Bool) (f : Frame) → k ≡ 8 → Proper c b f → Sure now c k b (met now a same f)
-unfolding met metNumber copyOr6 if_then_else_
-met-sure now c k b a same (Bad r) e g = tt
-met-sure now c k b a same (Clock t) e g =
+judgedByRecord-sure : (now c k : ℕ) (b : Bytes) (a : Station) (same : Bool) (f : Frame) → k ≡ 8 → FrameInRange c b f → VerdictPrecondition now c k b (judgedByRecord now a same f)
+unfolding judgedByRecord judgedByNumber retransmissionOrConflict if_then_else_
+judgedByRecord-sure now c k b a same (Bad r) e g = tt
+judgedByRecord-sure now c k b a same (Clock t) e g =
     by-lt t now (λ l p. rw p tt) (λ l p. rw p (record { due = l; time = g }))
-met-sure now c k b a same (Calls call) e g =
+judgedByRecord-sure now c k b a same (Calls call) e g =
     by-bool
     (eqb (call .number) (a .number))
     (λ p. rw p (by-bool same (λ q. rw q tt) (λ q. rw q tt)))
@@ -106,10 +108,10 @@ met-sure now c k b a same (Calls call) e g =
       size = omega (arith, g .sized, length-most (byteAt b 0));
     }))))))
 
-pub decide-sure : (e : Panel) (b : Bytes) → Octets b → panelSound standard e ≡ true
-    → Sure (e .time) (length (e .outputs)) (length (e .stations)) b (decide standard e b)
-unfolding decide metBy
+pub decide-sure : (e : Panel) (b : Bytes) → Octets b → panelSound document01 e ≡ true
+    → VerdictPrecondition (e .time) (length (e .outputs)) (length (e .stations)) b (decide document01 e b)
+unfolding decide judgedByStation
 decide-sure e b h p =
-    let f = parse standard (length (e .outputs)) b in
+    let f = parse document01 (length (e .outputs)) b in
     let k = getD (e .stations) (stationOf f) freshStation in
-    met-sure (e .time) (length (e .outputs)) (length (e .stations)) b k (sameBytes b (restored (k .frame))) f (sound-stations e p) (proper (length (e .outputs)) b h)
+    judgedByRecord-sure (e .time) (length (e .outputs)) (length (e .stations)) b k (sameBytes b (restored (k .frame))) f (sound-stations e p) (proper (length (e .outputs)) b h)

@@ -1,4 +1,4 @@
--- Kind 04 keeps the record rules. Assumes nothing.
+-- Kind 04 keeps the record rules.
 use mathlib.Core.Path.{_≡_, refl, sym, _∙_}
 use mathlib.Core.Bool.{true, false}
 use Prim.Native.Nat.{ℕ, _%_, _≤_}
@@ -6,14 +6,14 @@ use native.Mathlib.Nat.{mod-eq-of-lt}
 use native.Mathlib.Omega.{arith}
 use lib.Ieee.{Float}
 use lib.ListN.{length}
-use Rattle.lighting.specs.Choice.{if_then_else_}
-use Rattle.lighting.specs.Parameters.{standard}
-use Rattle.lighting.specs.Level.{real}
-use Rattle.lighting.specs.Slots.{slotCount, Slots, topmost}
-use Rattle.lighting.specs.Value.{presentValue}
-use Rattle.lighting.specs.Record.{withSettings}
-use Rattle.lighting.specs.Rows.{rowOf, isAmount, meetsReal}
-use Rattle.lighting.specs.Properties.{same, settingsWith, unmoved, activityWith, burningWith, changed, minOverMax}
+use Rattle.lighting.specs.Paper.Choice.{if_then_else_}
+use Rattle.lighting.specs.Paper.Parameters.{document01}
+use Rattle.lighting.specs.Paper.Level.{real}
+use Rattle.lighting.specs.Paper.Slots.{slotCount, Slots, winningLevel}
+use Rattle.lighting.specs.Paper.Value.{presentValue}
+use Rattle.lighting.specs.Paper.Record.{withSettings}
+use Rattle.lighting.specs.Paper.Rows.{rowOf, isAmount, meetsReal}
+use Rattle.lighting.specs.Paper.Properties.{same, settingsWith, endMovement, activityWith, burningWith, changed, minOverMax}
 use Rattle.lighting.specs.declared.Settings.{Settings}
 use Rattle.lighting.specs.declared.Activity.{Activity}
 use Rattle.lighting.specs.declared.Activity.the-variants.{Still, Moving, Warned}
@@ -22,17 +22,17 @@ use Rattle.lighting.specs.declared.Property.the-variants.{RelinquishDefa
 use Rattle.lighting.specs.declared.Range.the-variants.{Amount}
 use Rattle.lighting.specs.declared.Output.{Output}
 use Rattle.lighting.proofs.Split.{by-bool, not-lt}
-use Rattle.lighting.proofs.Winner.{topmost-live}
-use Rattle.lighting.proofs.Facts.{Slot, Meets, Settled, Acts, Sound}
+use Rattle.lighting.proofs.Winner.{winningLevel-live}
+use Rattle.lighting.proofs.Facts.{Slot, Meets, SettingsInRange, Acts, Sound}
 use Rattle.lighting.proofs.Rows.{same-row, kept-met}
 
 -- a REAL, and a slot in its byte
-real-kept : (field n : Property) (v : ℕ) (old : Float) → rowOf standard field ≡ Amount → Meets (rowOf standard n) v → isAmount old ≡ true
+real-kept : (field n : Property) (v : ℕ) (old : Float) → rowOf document01 field ≡ Amount → Meets (rowOf document01 n) v → isAmount old ≡ true
     → isAmount (if same field n then real v else old) ≡ true
 unfolding if_then_else_
 real-kept field n v old r g h = by-bool (same field n) (λ e. rw e (rw (sym (same-row field n e) ∙ r) at g)) (λ e. rw e h)
 
-slot-kept : (n : Property) (v old : ℕ) → Meets (rowOf standard n) v → Slot old → Slot (if same CommandPriority n then v % 256 else old)
+slot-kept : (n : Property) (v old : ℕ) → Meets (rowOf document01 n) v → Slot old → Slot (if same CommandPriority n then v % 256 else old)
 unfolding if_then_else_
 slot-kept n v old g h =
     by-bool
@@ -40,8 +40,8 @@ slot-kept n v old g h =
     (λ e. let k : Slot v = rw (sym (same-row CommandPriority n e)) at g in rw (e, mod-eq-of-lt {n = v} {m = 256} (omega arith)) k)
     (λ e. rw e h)
 
-settings-kept : (c : Settings) (n : Property) (v : ℕ) → Meets (rowOf standard n) v → minOverMax (settingsWith c n v) ≡ false → Settled c
-    → Settled (settingsWith c n v)
+settings-kept : (c : Settings) (n : Property) (v : ℕ) → Meets (rowOf document01 n) v → minOverMax (settingsWith c n v) ≡ false → SettingsInRange c
+    → SettingsInRange (settingsWith c n v)
 unfolding settingsWith minOverMax meetsReal
 settings-kept c n v g p h =
     record {
@@ -57,11 +57,11 @@ settings-kept c n v g p h =
       slot = slot-kept n v (c .slot) g (h .slot);
     }
 
-unmoved-acts : (t : ℕ) (c c′ : Settings) (s : Slots) (a : Activity) → Acts t c s a → Acts t c′ s (unmoved a)
-unfolding unmoved
-unmoved-acts t c c′ s Still h = h
-unmoved-acts t c c′ s (Moving m) h = h .six
-unmoved-acts t c c′ s (Warned w) h = search
+endMovement-acts : (t : ℕ) (c c′ : Settings) (s : Slots) (a : Activity) → Acts t c s a → Acts t c′ s (endMovement a)
+unfolding endMovement
+endMovement-acts t c c′ s Still h = h
+endMovement-acts t c c′ s (Moving m) h = h .six
+endMovement-acts t c c′ s (Warned w) h = search
 
 -- of the settings a movement looks at Min and Max alone: its owner is live, so Relinquish_Default is not shown
 same-acts : (t : ℕ) (c c′ : Settings) (s : Slots) (a : Activity) → length (s .levels) ≡ slotCount → c′ .min ≡ c .min → c′ .max ≡ c .max
@@ -69,7 +69,7 @@ same-acts : (t : ℕ) (c c′ : Settings) (s : Slots) (a : Activity) → length 
 unfolding presentValue
 same-acts t c c′ s Still l p q h = h
 same-acts t c c′ s (Moving m) l p q h =
-    let e = topmost-live s l (c′ .default) (c .default) (omega (arith, h .wins, h .owner)) in
+    let e = winningLevel-live s l (c′ .default) (c .default) (omega (arith, h .wins, h .owner)) in
     record {
       six = h .six;
       owner = h .owner;
@@ -81,8 +81,8 @@ same-acts t c c′ s (Moving m) l p q h =
       later = h .later;
     }
   where
-    same : topmost (c′ .default) s ≡ topmost (c .default) s → presentValue c s ≡ presentValue c′ s
-    same e = unfold Rattle.lighting.specs.Value.brought in rw (p, q, e)
+    same : winningLevel (c′ .default) s ≡ winningLevel (c .default) s → presentValue c s ≡ presentValue c′ s
+    same e = unfold Rattle.lighting.specs.Paper.Value.clampLit in rw (p, q, e)
 same-acts t c c′ s (Warned w) l p q h = h
 
 -- Min and Max change in a write of their own, which ends a movement
@@ -92,17 +92,17 @@ unfolding activityWith if_then_else_
 acts-kept t c s a n v l h =
     by-bool
     (same MinValue n)
-    (λ e. rw e (unmoved-acts t c (settingsWith c n v) s a h))
+    (λ e. rw e (endMovement-acts t c (settingsWith c n v) s a h))
     (λ e. by-bool
     (same MaxValue n)
-    (λ e′. rw (e, e′) (unmoved-acts t c (settingsWith c n v) s a h))
+    (λ e′. rw (e, e′) (endMovement-acts t c (settingsWith c n v) s a h))
     (λ e′. rw (e, e′) (same-acts t c (settingsWith c n v) s a l (unfold settingsWith in rw e) (unfold settingsWith in rw e′) h)))
 
 burning-le : (b : ℕ) (n : Property) → burningWith b n ≤ b
 unfolding burningWith if_then_else_
 burning-le b n = by-bool (same ElapsedActiveTime n) (λ e. rw e (omega arith)) (λ e. rw e (omega arith))
 
-pub changed-sound : (t : ℕ) (o : Output) (n : Property) (v : ℕ) → Meets (rowOf standard n) v → minOverMax (settingsWith (o .settings) n v) ≡ false → Sound t o
+pub changed-sound : (t : ℕ) (o : Output) (n : Property) (v : ℕ) → Meets (rowOf document01 n) v → minOverMax (settingsWith (o .settings) n v) ≡ false → Sound t o
     → Sound t (changed o n v)
 unfolding changed withSettings
 changed-sound t o n v g p h =

@@ -1,10 +1,10 @@
--- The laws by which `search` makes a choice where code has branched: of a test, its fact and the branch. Assumes nothing.
+-- The laws by which `search` makes a choice where code has branched: of a test, its fact and the branch.
 use Prim.Native.Nat.{ℕ, _≤_, _<_}
 use mathlib.Core.Path.{_≡_, sym, ap, _∙_}
 use mathlib.Core.Bool.{Bool, true, false}
 use lib.Dec.{ltb, leb, eqb}
 use borrow.Author.Tests.{lt-ltb, le-ltb, le-leb, lt-leb, eq-eqb, ne-eqb}
-use Rattle.lighting.specs.Choice.{if_then_else_}
+use Rattle.lighting.specs.Paper.Choice.{if_then_else_}
 
 pub if-true : {A : Type 0} (t : Bool) (r a b : A) → t ≡ true → r ≡ a → r ≡ (if t then a else b)
 unfolding if_then_else_

@@ -1,4 +1,4 @@
--- Each of the eleven commands keeps the record rules. Assumes nothing.
+-- Each of the eleven commands keeps the record rules.
 use mathlib.Core.Path.{_≡_, sym, ap, _∙_}
 use mathlib.Core.Logic.{_≢_}
 use mathlib.Core.Bool.{false}
@@ -6,14 +6,14 @@ use mathlib.Core.Option.{Option, none, some}
 use Prim.Native.Nat.{ℕ, _≤_, _<_, min, max}
 use native.Mathlib.Omega.{arith}
 use lib.Ieee.{Float}
-use Rattle.lighting.specs.Parameters.{standard}
-use Rattle.lighting.specs.Choice.{if_then_else_}
-use Rattle.lighting.specs.Level.{levelUnits, amountUnits}
-use Rattle.lighting.specs.Slots.{slot6, Slots, lives, winner, put, filled}
-use Rattle.lighting.specs.Value.{brought, presentValue, progressValue}
-use Rattle.lighting.specs.Rows.{rowOf}
+use Rattle.lighting.specs.Paper.Parameters.{document01}
+use Rattle.lighting.specs.Paper.Choice.{if_then_else_}
+use Rattle.lighting.specs.Paper.Level.{levelUnits, amountUnits}
+use Rattle.lighting.specs.Paper.Slots.{slot6, Slots, isLive, winner, put, filled}
+use Rattle.lighting.specs.Paper.Value.{clampLit, presentValue, progressValue}
+use Rattle.lighting.specs.Paper.Rows.{rowOf}
 use Rattle.lighting.specs.declared.Property.the-variants.{FadeTime}
-use Rattle.lighting.specs.Commands.{unwarned, unwarnedActivity, replaced, placed, movement, apart, rampLength, target, fadedOver, fadedTo, rampedAt, rampedTo, jumped, wentTo, stepUpFrom, stepDownFrom, steppedUp, steppedDown, raised, halted, stopped, relinquished, effect, timed, withCommand, commandedFrom, commanded}
+use Rattle.lighting.specs.Paper.Commands.{withoutWarning, activityWithoutWarning, replaced, placed, movement, distance, rampLength, target, fadedOver, fadedTo, rampedAt, rampedTo, jumped, wentTo, stepUpFrom, stepDownFrom, steppedUp, steppedDown, raised, halted, stopped, relinquished, effect, timed, withCommand, commandedFrom, commanded}
 use Rattle.lighting.specs.declared.Settings.{Settings}
 use Rattle.lighting.specs.declared.Pace.{Pace}
 use Rattle.lighting.specs.declared.Pace.the-variants.{Fade, Ramp}
@@ -29,13 +29,13 @@ use Rattle.lighting.specs.declared.Effect.{Effect}
 use Rattle.lighting.specs.declared.Output.{Output}
 use Rattle.lighting.proofs.Split.{by-eq, by-le}
 use Rattle.lighting.proofs.Ranges.{amount-range}
-use Rattle.lighting.proofs.Winner.{winner-filled, topmost-filled, six-kept, six-set}
-use Rattle.lighting.proofs.Facts.{IsLevel, Within, Slot, Meets, Settled, Filled, Acts, Timed, Sound}
-use Rattle.lighting.proofs.Levels.{level-zero, brought-level, put-filled}
-use Rattle.lighting.proofs.Shown.{brought-most, brought-brought, progress-most, ramp-span}
-use Rattle.lighting.proofs.Ticking.{disowned-acts}
+use Rattle.lighting.proofs.Winner.{winner-filled, winningLevel-filled, six-kept, six-set}
+use Rattle.lighting.proofs.Facts.{IsLevel, Within, Slot, Meets, SettingsInRange, Filled, Acts, Timed, Sound}
+use Rattle.lighting.proofs.Levels.{level-zero, clampLit-level, put-filled}
+use Rattle.lighting.proofs.Shown.{clampLit-most, clampLit-clampLit, progress-most, ramp-span}
+use Rattle.lighting.proofs.Ticking.{endMovementOf-acts}
 use Rattle.lighting.proofs.Written.{moving-over}
-use Rattle.lighting.proofs.Good.{GoodDuration, GoodOperation}
+use Rattle.lighting.proofs.RequestInRange.{DurationInRange, OperationInRange}
 
 -- slots and activity, together
 record Staged (t : ℕ) (c : Settings) (r : Effect) : Type 0 where
@@ -48,29 +48,29 @@ Calm Still = Unit {0}
 Calm (Moving m) = Unit {0}
 Calm (Warned w) = ⊥
 
-unwarned-calm : (a : Activity) → Calm (unwarnedActivity a)
-unfolding unwarnedActivity
-unwarned-calm Still = tt
-unwarned-calm (Moving m) = tt
-unwarned-calm (Warned w) = tt
+withoutWarning-calm : (a : Activity) → Calm (activityWithoutWarning a)
+unfolding activityWithoutWarning
+withoutWarning-calm Still = tt
+withoutWarning-calm (Moving m) = tt
+withoutWarning-calm (Warned w) = tt
 
-six-empty : (t : ℕ) (c : Settings) (s : Slots) (a : Activity) → Calm a → Acts t c s a → lives s slot6 ≡ false
+six-empty : (t : ℕ) (c : Settings) (s : Slots) (a : Activity) → Calm a → Acts t c s a → isLive s slot6 ≡ false
 six-empty t c s Still q h = h
 six-empty t c s (Moving m) q h = h .six
 six-empty t c s (Warned w) q h = elim q [ ]
 
-unwarned-staged : (t : ℕ) (c : Settings) (s : Slots) (a : Activity) → Filled s → Acts t c s a
-    → Staged t c (record { slots = unwarned s a; activity = unwarnedActivity a })
-unfolding unwarned unwarnedActivity
-unwarned-staged t c s Still f h = record { slots = f; activity = h }
-unwarned-staged t c s (Moving m) f h = record { slots = f; activity = h }
-unwarned-staged t c s (Warned w) f h =
+withoutWarning-staged : (t : ℕ) (c : Settings) (s : Slots) (a : Activity) → Filled s → Acts t c s a
+    → Staged t c (record { slots = withoutWarning s a; activity = activityWithoutWarning a })
+unfolding withoutWarning activityWithoutWarning
+withoutWarning-staged t c s Still f h = record { slots = f; activity = h }
+withoutWarning-staged t c s (Moving m) f h = record { slots = f; activity = h }
+withoutWarning-staged t c s (Warned w) f h =
     record { slots = put-filled s slot6 none f (omega arith) tt; activity = six-set s (f .size) none }
 
 -- A TARGET PUT IN SLOT p, at t, with settings c, slots s and activity a
-module _ (t : ℕ) (c : Settings) (k : Settled c) (s : Slots) (f : Filled s) (a : Activity) (q : Calm a) (h : Acts t c s a) where
+module _ (t : ℕ) (c : Settings) (k : SettingsInRange c) (s : Slots) (f : Filled s) (a : Activity) (q : Calm a) (h : Acts t c s a) where
   -- slot 6 stays empty
-  six : (x : Option ℕ) → lives (put s (c .slot) x) 5 ≡ false
+  six : (x : Option ℕ) → isLive (put s (c .slot) x) 5 ≡ false
   six x = six-kept s (f .size) (c .slot) x (k .slot .inside) (k .slot .free) ∙ six-empty t c s a q h
 
   -- an activity goes on when a slot is filled that does not win
@@ -104,7 +104,7 @@ module _ (t : ℕ) (c : Settings) (k : Settled c) (s : Slots) (f : Filled s) (a 
   jumped-staged g l = placed-staged g Still l (λ p. six (some g))
 
   -- a movement from b to a target that Min..Max leave as it is
-  moved-staged : (b g l : ℕ) (pace : Pace) → b ≤ c .max → IsLevel g → brought c g ≡ g → (b ≢ g → Within 1 (standard .longestMovement) l)
+  moved-staged : (b g l : ℕ) (pace : Pace) → b ≤ c .max → IsLevel g → clampLit c g ≡ g → (b ≢ g → Within 1 (document01 .longestMovement) l)
       → Staged t c (placed s a (c .slot) g (movement t (c .slot) b g l pace))
   unfolding movement presentValue if_then_else_
   moved-staged b g l pace m v same long =
@@ -124,7 +124,7 @@ module _ (t : ℕ) (c : Settings) (k : Settled c) (s : Slots) (f : Filled s) (a 
         owner = k .slot .inside;
         wins = sym w;
         start = m;
-        aims = sym (ap (brought c) (topmost-filled s (f .size) (c .default) (c .slot) g (k .slot .inside) w) ∙ same);
+        aims = sym (ap (clampLit c) (winningLevel-filled s (f .size) (c .default) (c .slot) g (k .slot .inside) w) ∙ same);
         began = omega arith;
         long = z;
         later = omega (arith, z .least);
@@ -158,20 +158,20 @@ module _ (t : ℕ) (c : Settings) (k : Settled c) (s : Slots) (f : Filled s) (a 
   relinquished-staged =
       record {
         slots = put-filled s (c .slot) none f (k .slot .inside) tt;
-        activity = disowned-acts t c s (c .slot) a (k .slot) f h;
+        activity = endMovementOf-acts t c s (c .slot) a (k .slot) f h;
       }
 
   target-level : (x : Float) → IsLevel (target c x)
   unfolding target
-  target-level x = brought-level c (levelUnits x) k
+  target-level x = clampLit-level c (levelUnits x) k
 
-  target-same : (x : Float) → brought c (target c x) ≡ target c x
+  target-same : (x : Float) → clampLit c (target c x) ≡ target c x
   unfolding target
-  target-same x = brought-brought c (levelUnits x) k
+  target-same x = clampLit-clampLit c (levelUnits x) k
 
   target-most : (x : Float) → target c x ≤ c .max
   unfolding target
-  target-most x = brought-most c (levelUnits x)
+  target-most x = clampLit-most c (levelUnits x)
 
   up-level : (b x : ℕ) → 0 < x → IsLevel (stepUpFrom c b x)
   unfolding stepUpFrom
@@ -183,7 +183,7 @@ module _ (t : ℕ) (c : Settings) (k : Settled c) (s : Slots) (f : Filled s) (a 
       by-eq b 0 (λ p e. rw e level-zero)
       (λ p e. rw e (record { least = omega (arith, k .min, k .order); most = omega (arith, k .max) }))
 
-  faded-staged : (b l : ℕ) (x : Float) → b ≤ c .max → Meets (rowOf standard FadeTime) l → Staged t c (fadedTo t c b s a x l)
+  faded-staged : (b l : ℕ) (x : Float) → b ≤ c .max → Meets (rowOf document01 FadeTime) l → Staged t c (fadedTo t c b s a x l)
   unfolding fadedTo fadedOver
   faded-staged b l x m w =
       moved-staged b (target c x) l Fade m (target-level x) (target-same x) (λ n. record { least = omega (arith, w .least); most = w .most })
@@ -191,11 +191,11 @@ module _ (t : ℕ) (c : Settings) (k : Settled c) (s : Slots) (f : Filled s) (a 
   ramped-staged : (b : ℕ) (x r : Float) → b ≤ c .max → Staged t c (rampedTo t c b s a x r)
   unfolding rampedTo rampedAt
   ramped-staged b x r m =
-      moved-staged b (target c x) (rampLength (apart b (target c x)) (amountUnits r)) (Ramp (amountUnits r)) m (target-level x) (target-same x) span
+      moved-staged b (target c x) (rampLength (distance b (target c x)) (amountUnits r)) (Ramp (amountUnits r)) m (target-level x) (target-same x) span
     where
-      span : b ≢ target c x → Within 1 (standard .longestMovement) (rampLength (apart b (target c x)) (amountUnits r))
+      span : b ≢ target c x → Within 1 (document01 .longestMovement) (rampLength (distance b (target c x)) (amountUnits r))
       span n =
-          let z = ramp-span (apart b (target c x)) (amountUnits r) (omega arith) (omega (arith, target-most x, k .max)) (amount-range r .0) in
+          let z = ramp-span (distance b (target c x)) (amountUnits r) (omega arith) (omega (arith, target-most x, k .max)) (amount-range r .0) in
           record { least = z .0; most = z .1 }
 
   up-staged : (b : ℕ) (x : Float) → Staged t c (steppedUp c b s a x)
@@ -206,7 +206,7 @@ module _ (t : ℕ) (c : Settings) (k : Settled c) (s : Slots) (f : Filled s) (a 
   unfolding steppedDown
   down-staged b x = jumped-staged (stepDownFrom c b (amountUnits x)) (down-level b (amountUnits x))
 
-  effect-staged : (b : ℕ) (o : Operation) → b ≤ c .max → GoodOperation o → Staged t c (effect t c b s a o)
+  effect-staged : (b : ℕ) (o : Operation) → b ≤ c .max → OperationInRange o → Staged t c (effect t c b s a o)
   unfolding effect wentTo
   effect-staged b Stop m g = stopped-staged b m
   effect-staged b (FadeTo x) m g = faded-staged b (c .fade) x m (k .fade)
@@ -221,25 +221,25 @@ module _ (t : ℕ) (c : Settings) (k : Settled c) (s : Slots) (f : Filled s) (a 
   effect-staged b Relinquish m g = relinquished-staged
 
 -- THE DURATION
-timed-kept : (t p : ℕ) (m : Timer) (d : Duration) → Slot p → GoodDuration d → Timed t m → Timed t (timed t p m d)
+timed-kept : (t p : ℕ) (m : Timer) (d : Duration) → Slot p → DurationInRange d → Timed t m → Timed t (timed t p m d)
 unfolding timed
 timed-kept t p m (Lasts d) k g h = (k, omega (arith, g .least))
 timed-kept t p m Cancels k g h = tt
 timed-kept t p m Omitted k g h = h
 
-pub commanded-sound : (t : ℕ) (o : Output) (k : Command) → GoodOperation (k .operation) → GoodDuration (k .duration) → Sound t o → Sound t (commanded t o k)
+pub commanded-sound : (t : ℕ) (o : Output) (k : Command) → OperationInRange (k .operation) → DurationInRange (k .duration) → Sound t o → Sound t (commanded t o k)
 unfolding commanded commandedFrom withCommand
 commanded-sound t o k g d h =
-    let u = unwarned-staged t (o .settings) (o .slots) (o .activity) (h .slots) (h .activity) in
+    let u = withoutWarning-staged t (o .settings) (o .slots) (o .activity) (h .slots) (h .activity) in
     let r =
     effect-staged
     t
     (o .settings)
     (h .settings)
-    (unwarned (o .slots) (o .activity))
+    (withoutWarning (o .slots) (o .activity))
     (u .slots)
-    (unwarnedActivity (o .activity))
-    (unwarned-calm (o .activity))
+    (activityWithoutWarning (o .activity))
+    (withoutWarning-calm (o .activity))
     (u .activity)
     (progressValue t o)
     (k .operation)

@@ -1,17 +1,17 @@
--- DEMAND 3, whole. Assumes nothing.
+-- DEMAND 3, whole.
 use mathlib.Core.Path.{_≡_, refl, ap, _∙_}
 use mathlib.Core.Bool.{true}
 use mathlib.Core.List.{List, [], _∷_}
 use Prim.Native.Nat.{ℕ, _≤_}
 use native.Mathlib.Omega.{arith}
 use lib.ListN.{length, replicate}
-use Rattle.lighting.specs.Choice.{if_then_else_}
-use Rattle.lighting.specs.Parameters.{standard}
-use Rattle.lighting.specs.Frames.{Bytes, Strings}
-use Rattle.lighting.specs.Fresh.{freshStation}
-use Rattle.lighting.specs.Panel.{Panel, countsSound, freshPanel, started}
-use Rattle.lighting.specs.Plain.{Plain, plainStart}
-use Rattle.lighting.specs.Demand.{found, foundIn, foundPlain, after, plainAfter, plainAnswers, Again, NeverOne, Demand}
+use Rattle.lighting.specs.Paper.Choice.{if_then_else_}
+use Rattle.lighting.specs.Paper.Parameters.{document01}
+use Rattle.lighting.specs.Paper.Frames.{Bytes, Strings}
+use Rattle.lighting.specs.Paper.Fresh.{freshStation}
+use Rattle.lighting.specs.Paper.Panel.{Panel, countsSound, freshPanel, startStep}
+use Rattle.lighting.specs.Paper.Plain.{Plain, plainStart}
+use Rattle.lighting.specs.Paper.Demand.{found, foundIn, foundPlain, after, plainAfter, plainAnswers, Again, NeverOne, Demand}
 use Rattle.lighting.specs.declared.Answer.{Answer}
 use Rattle.lighting.specs.declared.Answer.the-variants.{Done, Refused}
 use Rattle.lighting.proofs.Split.{also-both, by-bool, le-of, eq-of}
@@ -19,7 +19,7 @@ use Rattle.lighting.proofs.AnswersApart.{never-bytes}
 use Rattle.lighting.proofs.Lists.{AllOther, joined, linked-sound, linked-start, listed}
 use Rattle.lighting.proofs.Repeats.{repeats-change-nothing}
 
-counts : (c k : ℕ) → countsSound standard c k ≡ true → (1 ≤ c) × (c ≤ 64) × (k ≡ 8)
+counts : (c k : ℕ) → countsSound document01 c k ≡ true → (1 ≤ c) × (c ≤ 64) × (k ≡ 8)
 unfolding countsSound
 counts c k p = let q = also-both p in let z = also-both (q .1) in (le-of (q .0), le-of (z .0), eq-of (z .1))
 
@@ -28,12 +28,12 @@ never-one [] h = tt
 never-one (a ∷ l) h = (never-bytes a 1 (h .0 .other), never-one l (h .1))
 
 -- the start answers Done by the counts alone, and leaves fresh records
-started-fresh : (e : Panel) → started standard e .answer ≡ Done
-    → (1 ≤ length (e .outputs)) × (length (e .outputs) ≤ 64) × (started standard e .panel ≡ freshPanel (length (e .outputs)) 8)
-unfolding started if_then_else_
-started-fresh e h =
+startStep-fresh : (e : Panel) → startStep document01 e .answer ≡ Done
+    → (1 ≤ length (e .outputs)) × (length (e .outputs) ≤ 64) × (startStep document01 e .panel ≡ freshPanel (length (e .outputs)) 8)
+unfolding startStep if_then_else_
+startStep-fresh e h =
     by-bool
-    (countsSound standard (length (e .outputs)) (length (e .stations)))
+    (countsSound document01 (length (e .outputs)) (length (e .stations)))
     (λ p. let q = counts (length (e .outputs)) (length (e .stations)) p in (q .0, q .1, rw p (ap (freshPanel (length (e .outputs))) (q .2))))
     (λ p. absurd (never (rw p at h)))
   where
@@ -42,20 +42,20 @@ started-fresh e h =
 
 -- For EVERY lent table e on which the start answered Done, EVERY list l of strings of bytes, and EVERY list l′ in which frames of l come
 -- again, anywhere later and any number of times
-pub demand-3 : (e : Panel) (l l′ : List Bytes) (r : Again [] l l′) → Strings l → started standard e .answer ≡ Done → Demand standard e l l′ r
+pub demand-3 : (e : Panel) (l l′ : List Bytes) (r : Again [] l l′) → Strings l → startStep document01 e .answer ≡ Done → Demand document01 e l l′ r
 demand-3 e l l′ r s h =
     let c = length (e .outputs) in
-    let f = started-fresh e h in
+    let f = startStep-fresh e h in
     let m = linked-start c (f .0) (f .1) in
-    let begin : started standard e .panel ≡ joined (replicate 8 freshStation) (plainStart c) = f .2 ∙ (unfold freshPanel plainStart in refl) in
+    let begin : startStep document01 e .panel ≡ joined (replicate 8 freshStation) (plainStart c) = f .2 ∙ (unfold freshPanel plainStart in refl) in
     let i = listed c (replicate 8 freshStation) (plainStart c) l s m in
     let j = repeats-change-nothing c (replicate 8 freshStation) (plainStart c) r s m in
     record {
       outputs = rw (begin, i .same);
       time = rw (begin, i .same);
       answered = rw begin (i .answered);
-      sound = rw (begin, i .same) (linked-sound c (i .stations) (plainAfter standard (plainStart c) l) (i .linked));
-      never = rw (begin, i .answered) (never-one (plainAnswers standard (plainStart c) l) (i .others));
+      sound = rw (begin, i .same) (linked-sound c (i .stations) (plainAfter document01 (plainStart c) l) (i .linked));
+      never = rw (begin, i .answered) (never-one (plainAnswers document01 (plainStart c) l) (i .others));
       again = rw begin (j .0);
       answeredAgain = rw begin (j .1);
     }
@@ -65,11 +65,11 @@ pub same-found : (e : Panel) (w : Plain) → e .outputs ≡ w .outputs → e .ti
 same-found e w p q = rw (p, q)
 
 -- so by demand 3 all that is found is what the plain panel has
-pub finds : (e : Panel) (l l′ : List Bytes) (r : Again [] l l′) → Demand standard e l l′ r
-    → foundIn (after standard (started standard e .panel) l) ≡ foundPlain (plainAfter standard (plainStart (length (e .outputs))) l .panel)
+pub finds : (e : Panel) (l l′ : List Bytes) (r : Again [] l l′) → Demand document01 e l l′ r
+    → foundIn (after document01 (startStep document01 e .panel) l) ≡ foundPlain (plainAfter document01 (plainStart (length (e .outputs))) l .panel)
 finds e l l′ r d =
     same-found
-    (after standard (started standard e .panel) l)
-    (plainAfter standard (plainStart (length (e .outputs))) l .panel)
+    (after document01 (startStep document01 e .panel) l)
+    (plainAfter document01 (plainStart (length (e .outputs))) l .panel)
     (d .outputs)
     (d .time)

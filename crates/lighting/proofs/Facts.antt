@@ -1,11 +1,11 @@
--- The record rules as facts, which the theorems use. Assumes nothing.
+-- The record rules as facts, which the theorems use.
 use mathlib.Core.Path.{_≡_}
 use mathlib.Core.Logic.{_≢_}
 use mathlib.Core.Bool.{true, false}
 use mathlib.Core.Option.{Option, none, some}
 use Prim.Native.Nat.{ℕ, _+_, _-_, _*_, _≤_, _<_, min}
 use lib.ListN.{length}
-use Rattle.lighting.specs.Parameters.{standard}
+use Rattle.lighting.specs.Paper.Parameters.{document01}
 use Rattle.lighting.specs.declared.Settings.{Settings}
 use Rattle.lighting.specs.declared.Movement.{Movement}
 use Rattle.lighting.specs.declared.Warning.{Warning}
@@ -14,11 +14,11 @@ use Rattle.lighting.specs.declared.Activity.the-variants.{Still, Moving,
 use Rattle.lighting.specs.declared.Timer.{Timer}
 use Rattle.lighting.specs.declared.Timer.the-variants.{Off, Running}
 use Rattle.lighting.specs.declared.Output.{Output}
-use Rattle.lighting.specs.Slots.{Slots, slotCount, slot16, slot6, lives, winner, slot}
-use Rattle.lighting.specs.Value.{presentValue}
-use Rattle.lighting.specs.Passing.{phaseEnd}
-use Rattle.lighting.specs.Level.{leastLevel, greatestLevel, real}
-use Rattle.lighting.specs.Rows.{rowOf, isAmount, meetsReal}
+use Rattle.lighting.specs.Paper.Slots.{Slots, slotCount, slot16, slot6, isLive, winner, slot}
+use Rattle.lighting.specs.Paper.Value.{presentValue}
+use Rattle.lighting.specs.Paper.Passing.{phaseEnd}
+use Rattle.lighting.specs.Paper.Level.{leastLevel, greatestLevel, real}
+use Rattle.lighting.specs.Paper.Rows.{rowOf, isAmount, meetsReal}
 use Rattle.lighting.specs.declared.Range.{Range}
 use Rattle.lighting.specs.declared.Range.the-variants.{Percent, Limit, Amount, Whole, Priority, ReadOnly}
 use Rattle.lighting.specs.declared.Property.the-variants.{RelinquishDefault, FadeTime, RampRate, StepIncrement, BlinkTime, BlinkWarnDelay, MinValue, MaxValue, CommandPriority}
@@ -45,17 +45,17 @@ Meets (Whole low high) v = Within low high v
 Meets Priority v = Slot v
 Meets ReadOnly v = ⊥
 
-pub record Settled (c : Settings) : Type 0 where
-  pub default : Meets (rowOf standard RelinquishDefault) (c .default)
-  pub min : Meets (rowOf standard MinValue) (c .min)
-  pub max : Meets (rowOf standard MaxValue) (c .max)
+pub record SettingsInRange (c : Settings) : Type 0 where
+  pub default : Meets (rowOf document01 RelinquishDefault) (c .default)
+  pub min : Meets (rowOf document01 MinValue) (c .min)
+  pub max : Meets (rowOf document01 MaxValue) (c .max)
   pub order : c .min ≤ c .max
-  pub fade : Meets (rowOf standard FadeTime) (c .fade)
-  pub blink : Meets (rowOf standard BlinkTime) (c .blink)
-  pub delay : Meets (rowOf standard BlinkWarnDelay) (c .delay)
-  pub ramp : meetsReal (rowOf standard RampRate) (c .ramp) ≡ true
-  pub step : meetsReal (rowOf standard StepIncrement) (c .step) ≡ true
-  pub slot : Meets (rowOf standard CommandPriority) (c .slot)
+  pub fade : Meets (rowOf document01 FadeTime) (c .fade)
+  pub blink : Meets (rowOf document01 BlinkTime) (c .blink)
+  pub delay : Meets (rowOf document01 BlinkWarnDelay) (c .delay)
+  pub ramp : meetsReal (rowOf document01 RampRate) (c .ramp) ≡ true
+  pub step : meetsReal (rowOf document01 StepIncrement) (c .step) ≡ true
+  pub slot : Meets (rowOf document01 CommandPriority) (c .slot)
 
 abbrev pub SlotLevel : Option ℕ → Type 0
 SlotLevel none = Unit {0}
@@ -66,24 +66,24 @@ pub record Filled (s : Slots) : Type 0 where
   pub level : (i : ℕ) → i < slotCount → SlotLevel (slot s i)
 
 pub record Moves (t : ℕ) (c : Settings) (s : Slots) (m : Movement) : Type 0 where
-  pub six : lives s slot6 ≡ false
+  pub six : isLive s slot6 ≡ false
   pub owner : m .owner < slotCount
   pub wins : m .owner ≡ winner s
   pub start : m .start ≤ c .max
   pub aims : m .target ≡ presentValue c s
   pub began : m .over - t ≤ m .length
-  pub long : Within 1 (standard .longestMovement) (m .length)
+  pub long : Within 1 (document01 .longestMovement) (m .length)
   pub later : t < m .over
 
 pub record Warns (t : ℕ) (s : Slots) (w : Warning) : Type 0 where
-  pub six : lives s slot6 ≡ true
+  pub six : isLive s slot6 ≡ true
   pub owner : Within (slot6 + 1) slot16 (w .owner)
   pub level : IsLevel (w .level)
   pub later : t < phaseEnd w (w .phase)
   pub order : phaseEnd w (w .phase) ≤ w .over
 
 abbrev pub Acts : ℕ → Settings → Slots → Activity → Type 0
-Acts t c s Still = lives s slot6 ≡ false
+Acts t c s Still = isLive s slot6 ≡ false
 Acts t c s (Moving m) = Moves t c s m
 Acts t c s (Warned w) = Warns t s w
 
@@ -92,7 +92,7 @@ Timed t Off = Unit {0}
 Timed t (Running slot due) = Slot slot × (t < due)
 
 pub record Sound (t : ℕ) (o : Output) : Type 0 where
-  pub settings : Settled (o .settings)
+  pub settings : SettingsInRange (o .settings)
   pub slots : Filled (o .slots)
   pub activity : Acts t (o .settings) (o .slots) (o .activity)
   pub timer : Timed t (o .timer)

@@ -1,11 +1,11 @@
--- Numbers in bytes: one law for every width. Assumes nothing.
+-- Numbers in bytes: one law for every width.
 use mathlib.Core.Path.{_≡_, refl, sym, ap, _∙_}
 use mathlib.Core.List.{List}
 use Prim.Native.Nat.{ℕ, zero, suc, _+_, _*_, _^_, _≤_, _<_, min}
 use native.Mathlib.Nat.{add-zero, add-suc, pow-suc}
 use native.Mathlib.Omega.{arith}
 use lib.ListN.{length, List·getD-eq-default}
-use Rattle.lighting.specs.Field.{byteAt, bigEndian}
+use Rattle.lighting.specs.Paper.Field.{byteAt, bigEndian}
 use Rattle.lighting.proofs.Split.{by-le}
 
 module _ (b : List ℕ) where
@@ -30,11 +30,11 @@ module _ (b : List ℕ) where
   past (suc n) at h = omega (arith, past n at h, List·getD-eq-default b 0 {n = at + n} (omega arith))
 
   -- so a place may be brought down to any that is not within
-  pub as-far : (n at top : ℕ) → length b ≤ top → bigEndian n b (min at top) ≡ bigEndian n b at
-  as-far n at top h =
-      by-le at top
-      (λ l e. let m : min at top ≡ at = omega arith in rw m)
-      (λ l e. past n (min at top) (omega arith) ∙ sym (past n at (omega arith)))
+  pub as-far : (n at greatestCount : ℕ) → length b ≤ greatestCount → bigEndian n b (min at greatestCount) ≡ bigEndian n b at
+  as-far n at greatestCount h =
+      by-le at greatestCount
+      (λ l e. let m : min at greatestCount ≡ at = omega arith in rw m)
+      (λ l e. past n (min at greatestCount) (omega arith) ∙ sym (past n at (omega arith)))
 
   -- one byte
   pub single : (at : ℕ) → bigEndian 1 b at ≡ byteAt b at
@@ -42,6 +42,6 @@ module _ (b : List ℕ) where
   single at = let i : at + 0 ≡ at = omega arith in rw i (omega arith)
 
   -- m bytes and n more, the second read from i on: their place, or top, if that is less
-  pub joined-within : (m n at i top : ℕ) {x y : ℕ} → length b ≤ top → i ≡ min (at + m) top → x ≡ bigEndian m b at → y ≡ bigEndian n b i
+  pub joined-within : (m n at i greatestCount : ℕ) {x y : ℕ} → length b ≤ greatestCount → i ≡ min (at + m) greatestCount → x ≡ bigEndian m b at → y ≡ bigEndian n b i
       → x * 256 ^ n + y ≡ bigEndian (m + n) b at
-  joined-within m n at i top h k p q = rw (p, q, k, as-far n (at + m) top h) (sym (joined m n at))
+  joined-within m n at i greatestCount h k p q = rw (p, q, k, as-far n (at + m) greatestCount h) (sym (joined m n at))

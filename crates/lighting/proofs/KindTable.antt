@@ -7,8 +7,8 @@ use Prim.Native.Nat.{ℕ, zero, suc, _+_, _-_, _≤_, _<_}
 use native.Mathlib.Omega.{arith}
 use lib.Dec.{leb, eqb}
 use lib.ListN.{getD}
-use Rattle.lighting.specs.Choice.{if_then_else_, _also_}
-use Rattle.lighting.specs.Kinds.{longestFrame, unknownRow, plainRows, commandRows, kindRow, kindLength}
+use Rattle.lighting.specs.Paper.Choice.{if_then_else_, _also_}
+use Rattle.lighting.specs.Paper.Kinds.{longestFrame, unknownRow, plainRows, commandRows, kindRow, kindLength}
 use Rattle.lighting.specs.declared.Action.{Action}
 use Rattle.lighting.specs.declared.Action.the-variants.{WritesLevel, EmptiesSlot, WritesProperty, ReadsProperty, Stops, FadesTo, FadesToOver, RampsTo, RampsToAtRate, StepsUp, StepsDown, StepsUpBy, StepsDownBy, GoesTo, Relinquishes}
 use Rattle.lighting.specs.declared.Kind.{Kind}

@@ -1,22 +1,25 @@
 -- Made by tools/laws.py: each definition by clauses, at the variant that a match has found.
 use mathlib.Core.Path.{_≡_}
 use Prim.Native.Nat.{ℕ}
-use Rattle.lighting.specs.Acting.{acted}
-use Rattle.lighting.specs.Answers.{answerBytes, levelAnswered}
-use Rattle.lighting.specs.Commands.{unwarned, unwarnedActivity, stopped, effect, timed}
-use Rattle.lighting.specs.Frames.{levelFieldRefusal, amountFieldRefusal, timeFieldRefusal, writeLevel, requestOf, parseBy, Bytes}
-use Rattle.lighting.specs.Kinds.{callsBy}
-use Rattle.lighting.specs.Level.{inRange, unitsOr}
-use Rattle.lighting.specs.Operations.{operationNumber, fieldsOf}
-use Rattle.lighting.specs.Panel.{met, stationOf, carried, Panel, Step}
-use Rattle.lighting.specs.Parameters.{Parameters}
-use Rattle.lighting.specs.Passing.{timerDue, phaseEnd, activityDue, isDue, emptiedBy, disowned, disownedBy, nextPhase, nextActivity, phaseSlots, nextSlots, sooner}
-use Rattle.lighting.specs.Properties.{numberOf, changeTo, changeBy, unmoved, realFieldAnswer, timeFieldAnswer, lastDuration, shown}
-use Rattle.lighting.specs.Rows.{rowOf, meets, meetsReal}
-use Rattle.lighting.specs.Rules.{activityBy, timerSound}
-use Rattle.lighting.specs.Slots.{Slots}
-use Rattle.lighting.specs.Value.{gone, progressBy, inProcess}
-use Rattle.lighting.specs.Writing.{passedOver, writtenBy}
+use Rattle.lighting.specs.Engine.Advance.{sooner}
+use Rattle.lighting.specs.Engine.Executing.{execute}
+use Rattle.lighting.specs.Engine.Judging.{judgedByRecord, stationOf}
+use Rattle.lighting.specs.Paper.Acting.{acted}
+use Rattle.lighting.specs.Paper.Answers.{answerBytes, levelAnswered}
+use Rattle.lighting.specs.Paper.Commands.{withoutWarning, activityWithoutWarning, stopped, effect, timed}
+use Rattle.lighting.specs.Paper.Frames.{levelFieldRefusal, amountFieldRefusal, timeFieldRefusal, writeLevel, requestOf, parseBy, Bytes}
+use Rattle.lighting.specs.Paper.Kinds.{callsBy}
+use Rattle.lighting.specs.Paper.Level.{inRange, unitsOr}
+use Rattle.lighting.specs.Paper.Operations.{operationNumber, fieldsOf}
+use Rattle.lighting.specs.Paper.Panel.{Panel, Step}
+use Rattle.lighting.specs.Paper.Parameters.{Parameters}
+use Rattle.lighting.specs.Paper.Passing.{timerDue, phaseEnd, activityDue, isDue, emptiedBy, endMovementOf, endMovementBy, nextPhase, nextActivity, phaseSlots, nextSlots}
+use Rattle.lighting.specs.Paper.Properties.{numberOf, changeTo, changeBy, endMovement, realFieldAnswer, timeFieldAnswer, lastDuration, readProperty}
+use Rattle.lighting.specs.Paper.Rows.{rowOf, meets, meetsReal}
+use Rattle.lighting.specs.Paper.Rules.{activityBy, timerSound}
+use Rattle.lighting.specs.Paper.Slots.{Slots}
+use Rattle.lighting.specs.Paper.Value.{distanceMoved, progressBy, inProcess}
+use Rattle.lighting.specs.Paper.Writing.{endMovementUnlessAbove, writtenBy}
 use Rattle.lighting.specs.declared.Action.{Action}
 use Rattle.lighting.specs.declared.Activity.{Activity}
 use Rattle.lighting.specs.declared.Answer.{Answer}
@@ -46,6 +49,18 @@ use lib.Ieee.{Float}
 use mathlib.Core.Bool.{Bool}
 use mathlib.Core.List.{List}
 
+pub sooner-on : (x0 : ℕ) (x1 : Moment) (k : Moment) (r : ℕ) → x1 ≡ k → r ≡ sooner x0 k → r ≡ sooner x0 x1
+sooner-on x0 x1 k r e p = rw e p
+
+pub execute-on : (x0 : Bytes) (x1 : Panel) (x2 : Verdict) (k : Verdict) (r : Step) → x2 ≡ k → r ≡ execute x0 x1 k → r ≡ execute x0 x1 x2
+execute-on x0 x1 x2 k r e p = rw e p
+
+pub judgedByRecord-on : (x0 : ℕ) (x1 : Station) (x2 : Bool) (x3 : Frame) (k : Frame) (r : Verdict) → x3 ≡ k → r ≡ judgedByRecord x0 x1 x2 k → r ≡ judgedByRecord x0 x1 x2 x3
+judgedByRecord-on x0 x1 x2 x3 k r e p = rw e p
+
+pub stationOf-on : (x0 : Frame) (k : Frame) (r : ℕ) → x0 ≡ k → r ≡ stationOf k → r ≡ stationOf x0
+stationOf-on x0 k r e p = rw e p
+
 pub acted-on : (x0 : ℕ) (x1 : Output) (x2 : Request) (k : Request) (r : Outcome) → x2 ≡ k → r ≡ acted x0 x1 k → r ≡ acted x0 x1 x2
 acted-on x0 x1 x2 k r e p = rw e p
 
@@ -55,11 +70,11 @@ answerBytes-on x0 k r e p = rw e p
 pub levelAnswered-on : (x0 : Level) (k : Level) (r : Answer) → x0 ≡ k → r ≡ levelAnswered k → r ≡ levelAnswered x0
 levelAnswered-on x0 k r e p = rw e p
 
-pub unwarned-on : (x0 : Slots) (x1 : Activity) (k : Activity) (r : Slots) → x1 ≡ k → r ≡ unwarned x0 k → r ≡ unwarned x0 x1
-unwarned-on x0 x1 k r e p = rw e p
+pub withoutWarning-on : (x0 : Slots) (x1 : Activity) (k : Activity) (r : Slots) → x1 ≡ k → r ≡ withoutWarning x0 k → r ≡ withoutWarning x0 x1
+withoutWarning-on x0 x1 k r e p = rw e p
 
-pub unwarnedActivity-on : (x0 : Activity) (k : Activity) (r : Activity) → x0 ≡ k → r ≡ unwarnedActivity k → r ≡ unwarnedActivity x0
-unwarnedActivity-on x0 k r e p = rw e p
+pub activityWithoutWarning-on : (x0 : Activity) (k : Activity) (r : Activity) → x0 ≡ k → r ≡ activityWithoutWarning k → r ≡ activityWithoutWarning x0
+activityWithoutWarning-on x0 k r e p = rw e p
 
 pub stopped-on : (x0 : Settings) (x1 : ℕ) (x2 : Slots) (x3 : Activity) (k : Activity) (r : Effect) → x3 ≡ k → r ≡ stopped x0 x1 x2 k → r ≡ stopped x0 x1 x2 x3
 stopped-on x0 x1 x2 x3 k r e p = rw e p
@@ -103,15 +118,6 @@ operationNumber-on x0 k r e p = rw e p
 pub fieldsOf-on : (x0 : Operation) (k : Operation) (r : OperationFields) → x0 ≡ k → r ≡ fieldsOf k → r ≡ fieldsOf x0
 fieldsOf-on x0 k r e p = rw e p
 
-pub met-on : (x0 : ℕ) (x1 : Station) (x2 : Bool) (x3 : Frame) (k : Frame) (r : Verdict) → x3 ≡ k → r ≡ met x0 x1 x2 k → r ≡ met x0 x1 x2 x3
-met-on x0 x1 x2 x3 k r e p = rw e p
-
-pub stationOf-on : (x0 : Frame) (k : Frame) (r : ℕ) → x0 ≡ k → r ≡ stationOf k → r ≡ stationOf x0
-stationOf-on x0 k r e p = rw e p
-
-pub carried-on : (x0 : Bytes) (x1 : Panel) (x2 : Verdict) (k : Verdict) (r : Step) → x2 ≡ k → r ≡ carried x0 x1 k → r ≡ carried x0 x1 x2
-carried-on x0 x1 x2 k r e p = rw e p
-
 pub timerDue-on : (x0 : Timer) (k : Timer) (r : Moment) → x0 ≡ k → r ≡ timerDue k → r ≡ timerDue x0
 timerDue-on x0 k r e p = rw e p
 
@@ -127,11 +133,11 @@ isDue-on x0 x1 k r e p = rw e p
 pub emptiedBy-on : (x0 : Timer) (x1 : Slots) (k : Timer) (r : Slots) → x0 ≡ k → r ≡ emptiedBy k x1 → r ≡ emptiedBy x0 x1
 emptiedBy-on x0 x1 k r e p = rw e p
 
-pub disowned-on : (x0 : ℕ) (x1 : Activity) (k : Activity) (r : Activity) → x1 ≡ k → r ≡ disowned x0 k → r ≡ disowned x0 x1
-disowned-on x0 x1 k r e p = rw e p
+pub endMovementOf-on : (x0 : ℕ) (x1 : Activity) (k : Activity) (r : Activity) → x1 ≡ k → r ≡ endMovementOf x0 k → r ≡ endMovementOf x0 x1
+endMovementOf-on x0 x1 k r e p = rw e p
 
-pub disownedBy-on : (x0 : Timer) (x1 : Activity) (k : Timer) (r : Activity) → x0 ≡ k → r ≡ disownedBy k x1 → r ≡ disownedBy x0 x1
-disownedBy-on x0 x1 k r e p = rw e p
+pub endMovementBy-on : (x0 : Timer) (x1 : Activity) (k : Timer) (r : Activity) → x0 ≡ k → r ≡ endMovementBy k x1 → r ≡ endMovementBy x0 x1
+endMovementBy-on x0 x1 k r e p = rw e p
 
 pub nextPhase-on : (x0 : Warning) (x1 : Phase) (k : Phase) (r : Activity) → x1 ≡ k → r ≡ nextPhase x0 k → r ≡ nextPhase x0 x1
 nextPhase-on x0 x1 k r e p = rw e p
@@ -145,9 +151,6 @@ phaseSlots-on x0 x1 x2 k r e p = rw e p
 pub nextSlots-on : (x0 : Activity) (x1 : Slots) (k : Activity) (r : Slots) → x0 ≡ k → r ≡ nextSlots k x1 → r ≡ nextSlots x0 x1
 nextSlots-on x0 x1 k r e p = rw e p
 
-pub sooner-on : (x0 : ℕ) (x1 : Moment) (k : Moment) (r : ℕ) → x1 ≡ k → r ≡ sooner x0 k → r ≡ sooner x0 x1
-sooner-on x0 x1 k r e p = rw e p
-
 pub numberOf-on : (x0 : Property) (k : Property) (r : ℕ) → x0 ≡ k → r ≡ numberOf k → r ≡ numberOf x0
 numberOf-on x0 k r e p = rw e p
 
@@ -157,8 +160,8 @@ changeTo-on x0 x1 k r e p = rw e p
 pub changeBy-on : (x0 : Range) (x1 : Property) (x2 : ℕ) (k : Range) (r : Request) → x0 ≡ k → r ≡ changeBy k x1 x2 → r ≡ changeBy x0 x1 x2
 changeBy-on x0 x1 x2 k r e p = rw e p
 
-pub unmoved-on : (x0 : Activity) (k : Activity) (r : Activity) → x0 ≡ k → r ≡ unmoved k → r ≡ unmoved x0
-unmoved-on x0 k r e p = rw e p
+pub endMovement-on : (x0 : Activity) (k : Activity) (r : Activity) → x0 ≡ k → r ≡ endMovement k → r ≡ endMovement x0
+endMovement-on x0 k r e p = rw e p
 
 pub realFieldAnswer-on : (x0 : RealField) (k : RealField) (r : Answer) → x0 ≡ k → r ≡ realFieldAnswer k → r ≡ realFieldAnswer x0
 realFieldAnswer-on x0 k r e p = rw e p
@@ -169,8 +172,8 @@ timeFieldAnswer-on x0 k r e p = rw e p
 pub lastDuration-on : (x0 : Duration) (k : Duration) (r : Answer) → x0 ≡ k → r ≡ lastDuration k → r ≡ lastDuration x0
 lastDuration-on x0 k r e p = rw e p
 
-pub shown-on : (x0 : ℕ) (x1 : Output) (x2 : Property) (k : Property) (r : Answer) → x2 ≡ k → r ≡ shown x0 x1 k → r ≡ shown x0 x1 x2
-shown-on x0 x1 x2 k r e p = rw e p
+pub readProperty-on : (x0 : ℕ) (x1 : Output) (x2 : Property) (k : Property) (r : Answer) → x2 ≡ k → r ≡ readProperty x0 x1 k → r ≡ readProperty x0 x1 x2
+readProperty-on x0 x1 x2 k r e p = rw e p
 
 pub rowOf-on : (x0 : Parameters) (x1 : Property) (k : Property) (r : Range) → x1 ≡ k → r ≡ rowOf x0 k → r ≡ rowOf x0 x1
 rowOf-on x0 x1 k r e p = rw e p
@@ -187,8 +190,8 @@ activityBy-on x0 x1 x2 x3 x4 x5 x6 k r e p = rw e p
 pub timerSound-on : (x0 : ℕ) (x1 : Timer) (k : Timer) (r : Bool) → x1 ≡ k → r ≡ timerSound x0 k → r ≡ timerSound x0 x1
 timerSound-on x0 x1 k r e p = rw e p
 
-pub gone-on : (x0 : Pace) (x1 : ℕ) (x2 : ℕ) (x3 : ℕ) (k : Pace) (r : ℕ) → x0 ≡ k → r ≡ gone k x1 x2 x3 → r ≡ gone x0 x1 x2 x3
-gone-on x0 x1 x2 x3 k r e p = rw e p
+pub distanceMoved-on : (x0 : Pace) (x1 : ℕ) (x2 : ℕ) (x3 : ℕ) (k : Pace) (r : ℕ) → x0 ≡ k → r ≡ distanceMoved k x1 x2 x3 → r ≡ distanceMoved x0 x1 x2 x3
+distanceMoved-on x0 x1 x2 x3 k r e p = rw e p
 
 pub progressBy-on : (x0 : ℕ) (x1 : ℕ) (x2 : Activity) (k : Activity) (r : ℕ) → x2 ≡ k → r ≡ progressBy x0 x1 k → r ≡ progressBy x0 x1 x2
 progressBy-on x0 x1 x2 k r e p = rw e p
@@ -196,8 +199,8 @@ progressBy-on x0 x1 x2 k r e p = rw e p
 pub inProcess-on : (x0 : Activity) (k : Activity) (r : ℕ) → x0 ≡ k → r ≡ inProcess k → r ≡ inProcess x0
 inProcess-on x0 k r e p = rw e p
 
-pub passedOver-on : (x0 : ℕ) (x1 : Activity) (k : Activity) (r : Activity) → x1 ≡ k → r ≡ passedOver x0 k → r ≡ passedOver x0 x1
-passedOver-on x0 x1 k r e p = rw e p
+pub endMovementUnlessAbove-on : (x0 : ℕ) (x1 : Activity) (k : Activity) (r : Activity) → x1 ≡ k → r ≡ endMovementUnlessAbove x0 k → r ≡ endMovementUnlessAbove x0 x1
+endMovementUnlessAbove-on x0 x1 k r e p = rw e p
 
 pub writtenBy-on : (x0 : ℕ) (x1 : Output) (x2 : ℕ) (x3 : ℕ) (x4 : Activity) (k : Activity) (r : Output) → x4 ≡ k → r ≡ writtenBy x0 x1 x2 x3 k → r ≡ writtenBy x0 x1 x2 x3 x4
 writtenBy-on x0 x1 x2 x3 x4 k r e p = rw e p

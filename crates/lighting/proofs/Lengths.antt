@@ -1,14 +1,14 @@
--- A frame as a station keeps it, and read back. Assumes nothing.
+-- A frame as a station keeps it, and read back.
 use mathlib.Core.Path.{_≡_, refl}
 use mathlib.Core.List.{[], _∷_}
 use Prim.Native.Nat.{ℕ, _-_, _≤_}
 use native.Mathlib.Omega.{arith}
 use lib.ListN.{length, replicate, length-append, length-replicate}
 use lib.Seq.{take-append-seam}
-use Rattle.lighting.specs.Field.{byteAt}
-use Rattle.lighting.specs.Kinds.{longestFrame, kindLength}
-use Rattle.lighting.specs.Frames.{Bytes}
-use Rattle.lighting.specs.Panel.{padded, restored}
+use Rattle.lighting.specs.Paper.Field.{byteAt}
+use Rattle.lighting.specs.Paper.Kinds.{longestFrame, kindLength}
+use Rattle.lighting.specs.Paper.Frames.{Bytes}
+use Rattle.lighting.specs.Engine.Judging.{padded, restored}
 
 pub padded-kind : (b : Bytes) → byteAt (padded b) 0 ≡ byteAt b 0
 unfolding padded byteAt

@@ -1,28 +1,28 @@
--- Levels stay levels: of Present_Value, and of the slots after one is emptied or filled. Assumes nothing.
+-- Levels stay levels: of Present_Value, and of the slots after one is emptied or filled.
 use mathlib.Core.Option.{Option, none}
 use Prim.Native.Nat.{ℕ, _<_}
 use native.Mathlib.Omega.{arith}
 use lib.ListN.{set, getD}
 use lib.Seq.{getD-set-same, getD-set-other}
-use Rattle.lighting.specs.Choice.{if_then_else_}
+use Rattle.lighting.specs.Paper.Choice.{if_then_else_}
 use Rattle.lighting.proofs.Split.{by-eq}
 use Rattle.lighting.specs.declared.Settings.{Settings}
-use Rattle.lighting.specs.Slots.{slotCount, Slots, slotsOf, put}
+use Rattle.lighting.specs.Paper.Slots.{slotCount, Slots, slotsOf, put}
 use Rattle.lighting.proofs.Mask.{put-slots, slots-size}
 use Rattle.lighting.proofs.Winner.{put-sized}
-use Rattle.lighting.specs.Value.{brought, presentValue}
-use Rattle.lighting.proofs.Facts.{IsLevel, Settled, SlotLevel, Filled}
+use Rattle.lighting.specs.Paper.Value.{clampLit, presentValue}
+use Rattle.lighting.proofs.Facts.{IsLevel, SettingsInRange, SlotLevel, Filled}
 
 pub level-zero : IsLevel 0
 level-zero = record { least = omega arith; most = omega arith }
 
-pub brought-level : (c : Settings) (v : ℕ) → Settled c → IsLevel (brought c v)
-unfolding brought if_then_else_
-brought-level c v h = by-eq v 0 (λ p e. rw e level-zero) (λ p e. rw e (record { least = omega arith; most = omega arith }))
+pub clampLit-level : (c : Settings) (v : ℕ) → SettingsInRange c → IsLevel (clampLit c v)
+unfolding clampLit if_then_else_
+clampLit-level c v h = by-eq v 0 (λ p e. rw e level-zero) (λ p e. rw e (record { least = omega arith; most = omega arith }))
 
-pub present-level : (c : Settings) (s : Slots) → Settled c → IsLevel (presentValue c s)
+pub present-level : (c : Settings) (s : Slots) → SettingsInRange c → IsLevel (presentValue c s)
 unfolding presentValue
-present-level c s h = brought-level c _ h
+present-level c s h = clampLit-level c _ h
 
 pub put-filled : (s : Slots) (i : ℕ) (x : Option ℕ) → Filled s → i < slotCount → SlotLevel x → Filled (put s i x)
 put-filled s i x f k l = record { size = put-sized s (f .size) i x; level = λ j m. rw (put-slots s i x (f .size) k) (at j m) }

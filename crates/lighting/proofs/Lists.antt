@@ -1,5 +1,5 @@
 -- THE LIST THEOREM: over every list of frames the engine finds and answers what the plain panel finds and answers. It stands on laws of
--- the table (proofs/Table.antt) and of reading (proofs/Reading.antt), and never looks at a kind of request. Assumes nothing.
+-- the table (proofs/Table.antt) and of reading (proofs/Reading.antt), and never looks at a kind of request.
 use mathlib.Core.Path.{_≡_, refl, sym, ap, _∙_}
 use mathlib.Core.Logic.{_≢_}
 use mathlib.Core.Bool.{true}
@@ -9,19 +9,21 @@ use native.Mathlib.Omega.{arith}
 use lib.Dec.{leb, ltb, eqb}
 use lib.ListN.{set, getD, length, replicate, length-map, length-set, length-replicate, getD-replicate}
 use lib.Seq.{getD-set-same, getD-set-other}
-use Rattle.lighting.specs.Choice.{if_then_else_, _also_}
-use Rattle.lighting.specs.Parameters.{standard}
-use Rattle.lighting.specs.Field.{byteAt}
-use Rattle.lighting.specs.Kinds.{kindRow, kindLength, isCall}
-use Rattle.lighting.specs.Frames.{Bytes, Octets, Strings, parse}
-use Rattle.lighting.specs.Passing.{top, advance}
-use Rattle.lighting.specs.Rules.{sound, stationSound}
-use Rattle.lighting.specs.Fresh.{freshOutput, freshStation}
-use Rattle.lighting.specs.Acting.{served}
-use Rattle.lighting.specs.Copies.{sameBytes, copyOr6}
-use Rattle.lighting.specs.Panel.{Panel, Station, every, countsSound, panelSound, padded, restored, metNumber, met, stationOf, metBy, decide, carried, framed}
-use Rattle.lighting.specs.Plain.{Event, clock, first, above, inTime, Latest, latest, judged, Told, handed, plainFramed, plainStart}
-use Rattle.lighting.specs.Demand.{after, answers, plainAfter, plainAnswers}
+use Rattle.lighting.specs.Paper.Choice.{if_then_else_, _also_}
+use Rattle.lighting.specs.Paper.Parameters.{document01}
+use Rattle.lighting.specs.Paper.Field.{byteAt}
+use Rattle.lighting.specs.Paper.Kinds.{kindRow, kindLength, isCall}
+use Rattle.lighting.specs.Paper.Frames.{Bytes, Octets, Strings, parse}
+use Rattle.lighting.specs.Engine.Advance.{greatestCount, advance}
+use Rattle.lighting.specs.Paper.Rules.{sound, stationSound}
+use Rattle.lighting.specs.Paper.Fresh.{freshOutput, freshStation}
+use Rattle.lighting.specs.Paper.Acting.{served}
+use Rattle.lighting.specs.Paper.Copies.{sameBytes, retransmissionOrConflict}
+use Rattle.lighting.specs.Paper.Panel.{Panel, Station, every, countsSound, panelSound}
+use Rattle.lighting.specs.Engine.Judging.{padded, restored, judgedByNumber, judgedByRecord, stationOf, judgedByStation, decide}
+use Rattle.lighting.specs.Engine.Executing.{execute, frameStep}
+use Rattle.lighting.specs.Paper.Plain.{Event, clock, first, above, inTime, Latest, latest, judged, PlainState, plainExecute, plainFrameStep, plainStart}
+use Rattle.lighting.specs.Paper.Demand.{after, answers, plainAfter, plainAnswers}
 use Rattle.lighting.specs.declared.Output.{Output}
 use Rattle.lighting.specs.declared.Answer.{Answer}
 use Rattle.lighting.specs.declared.Call.{Call}
@@ -30,15 +32,15 @@ use Rattle.lighting.specs.declared.Frame.the-variants.{Bad, Clock, Calls
 use Rattle.lighting.specs.declared.Verdict.{Verdict}
 use Rattle.lighting.specs.declared.Verdict.the-variants.{TurnedDown, Copied, Clocked, Arrives}
 use Rattle.lighting.proofs.Split.{also-both, also-yes, by-eq, by-lt, by-le, by-bool, leb-yes, leb-no}
-use Rattle.lighting.proofs.Reading.{Called, Proper, proper}
+use Rattle.lighting.proofs.Reading.{Called, FrameInRange, proper}
 use Rattle.lighting.proofs.Lengths.{padded-kind, restored-padded}
 use Rattle.lighting.proofs.AnswersApart.{refusalOf}
 use Rattle.lighting.specs.declared.Answer.the-variants.{Done}
 use Rattle.lighting.proofs.Answered.{NotOne, not-one}
-use Rattle.lighting.proofs.Table.{served-not-one, AllSound, all-tested, all-fresh, lived-advance, all-advance, served-sound, served-length}
+use Rattle.lighting.proofs.Table.{served-not-one, AllSound, all-tested, all-fresh, runPlain-advance, all-advance, served-sound, served-length}
 
 -- THE LINK between the station records and the list so far. The engine's panel is rebuilt from the plain one
-abbrev pub joined : List Station → Told → Panel
+abbrev pub joined : List Station → PlainState → Panel
 joined k w = record { outputs = w .panel .outputs; stations = k; time = w .panel .time }
 
 -- a station's record, as the list's own
@@ -57,12 +59,12 @@ latest-other s [] p = not-one Done refl
 latest-other s (clock t ∷ h) p = latest-other s h p
 latest-other s (first s′ n t b a ∷ h) p = by-bool (eqb s′ s) (λ e. rw e (p .0)) (λ e. rw e (latest-other s h (p .1)))
 
-pub record Linked (c : ℕ) (k : List Station) (w : Told) : Type 0 where
+pub record Refines (c : ℕ) (k : List Station) (w : PlainState) : Type 0 where
   pub least : 1 ≤ c
   pub most : c ≤ 64
   pub count : length (w .panel .outputs) ≡ c
   pub sound : AllSound (w .panel .time) (w .panel .outputs)
-  pub bounded : w .panel .time ≤ top
+  pub bounded : w .panel .time ≤ greatestCount
   pub eight : length k ≡ 8
   pub kept : every stationSound k ≡ true
   -- each station's record is its latest first arrival in the list
@@ -73,7 +75,7 @@ pub record Linked (c : ℕ) (k : List Station) (w : Told) : Type 0 where
   pub others : PastOther (w .past)
 
 -- refusal 1 does not come
-pub linked-sound : (c : ℕ) (k : List Station) (w : Told) → Linked c k w → panelSound standard (joined k w) ≡ true
+pub linked-sound : (c : ℕ) (k : List Station) (w : PlainState) → Refines c k w → panelSound document01 (joined k w) ≡ true
 unfolding panelSound countsSound
 linked-sound c k w m =
     rw
@@ -103,12 +105,12 @@ alike n a t now same low late go =
     (λ q e′. rw (e, e′, leb-no {a = suc a} {b = n} (omega arith)))
     (λ q e′. rw (e, e′, leb-yes {a = suc a} {b = n} (omega arith)) (not-before t now late go)))
 
-met-judged : (c : ℕ) (k : List Station) (w : Told) (b : Bytes) (f : Frame) → Linked c k w → Proper c b f
-    → metBy (w .panel .time) (getD k (stationOf f) freshStation) b f ≡ judged (w .past) b f
-unfolding metBy met metNumber judged stationOf
-met-judged c k w b (Bad r) m g = refl
-met-judged c k w b (Clock t) m g = rw (m .times t) (not-before t (w .panel .time) (TurnedDown 8) (Clocked t))
-met-judged c k w b (Calls call) m g =
+judgedByRecord-judged : (c : ℕ) (k : List Station) (w : PlainState) (b : Bytes) (f : Frame) → Refines c k w → FrameInRange c b f
+    → judgedByStation (w .panel .time) (getD k (stationOf f) freshStation) b f ≡ judged (w .past) b f
+unfolding judgedByStation judgedByRecord judgedByNumber judged stationOf
+judgedByRecord-judged c k w b (Bad r) m g = refl
+judgedByRecord-judged c k w b (Clock t) m g = rw (m .times t) (not-before t (w .panel .time) (TurnedDown 8) (Clocked t))
+judgedByRecord-judged c k w b (Calls call) m g =
     let s = call .station in
     let n = call .number in
     let t = call .time in
@@ -122,27 +124,27 @@ met-judged c k w b (Calls call) m g =
     )
     (alike n (latest s (w .past) .number) t (w .panel .time) _ (TurnedDown 7) (TurnedDown 8) (Arrives call))
 
-pub decide-judged : (c : ℕ) (k : List Station) (w : Told) (b : Bytes) → Octets b → Linked c k w
-    → decide standard (joined k w) b ≡ judged (w .past) b (parse standard (length (w .panel .outputs)) b)
+pub decide-judged : (c : ℕ) (k : List Station) (w : PlainState) (b : Bytes) → Octets b → Refines c k w
+    → decide document01 (joined k w) b ≡ judged (w .past) b (parse document01 (length (w .panel .outputs)) b)
 unfolding decide
 decide-judged c k w b h m =
-    rw (m .count) (met-judged c k w b (parse standard c b) m (proper c b h))
+    rw (m .count) (judgedByRecord-judged c k w b (parse document01 c b) m (proper c b h))
 
 -- WHAT IS KNOWN of a verdict
-pub record Arrived (c : ℕ) (w : Told) (b : Bytes) (call : Call) : Type 0 where
+pub record Arrived (c : ℕ) (w : PlainState) (b : Bytes) (call : Call) : Type 0 where
   pub frame : Called c b call
   pub new : latest (call .station) (w .past) .number < call .number
   pub due : w .panel .time ≤ call .time
 
-abbrev pub Moved : ℕ → Told → Bytes → Verdict → Type 0
+abbrev pub Moved : ℕ → PlainState → Bytes → Verdict → Type 0
 Moved c w b (TurnedDown r) = 2 ≤ r
 Moved c w b (Copied a) = NotOne a
 Moved c w b (Clocked t) = (w .panel .time ≤ t) × (t < 2 ^ 48)
 Moved c w b (Arrives call) = Arrived c w b call
 
-pub judged-moved : (c : ℕ) (k : List Station) (w : Told) (b : Bytes) (f : Frame) → Linked c k w → Proper c b f
+pub judged-moved : (c : ℕ) (k : List Station) (w : PlainState) (b : Bytes) (f : Frame) → Refines c k w → FrameInRange c b f
     → Moved c w b (judged (w .past) b f)
-unfolding judged copyOr6 if_then_else_
+unfolding judged retransmissionOrConflict if_then_else_
 judged-moved c k w b (Bad r) m g = g
 judged-moved c k w b (Clock t) m g =
     rw
@@ -171,21 +173,21 @@ judged-moved c k w b (Calls call) m g =
     (λ p. rw (e, p) (omega arith))))
 
 -- ONE FRAME
-abbrev pub nextStations : Bytes → List Station → Told → Verdict → List Station
+abbrev pub nextStations : Bytes → List Station → PlainState → Verdict → List Station
 nextStations b k w (TurnedDown r) = k
 nextStations b k w (Copied a) = k
 nextStations b k w (Clocked t) = k
 nextStations b k w (Arrives call) =
-    set k (call .station) (record { answer = handed b w (Arrives call) .answer; number = call .number; frame = padded b })
+    set k (call .station) (record { answer = plainExecute b w (Arrives call) .answer; number = call .number; frame = padded b })
 
-step-same : (c : ℕ) (k : List Station) (w : Told) (b : Bytes) (v : Verdict) → Linked c k w → Moved c w b v
-    → carried b (joined k w) v ≡ record { panel = joined (nextStations b k w v) (handed b w v .told); answer = handed b w v .answer }
-unfolding carried handed
+step-same : (c : ℕ) (k : List Station) (w : PlainState) (b : Bytes) (v : Verdict) → Refines c k w → Moved c w b v
+    → execute b (joined k w) v ≡ record { panel = joined (nextStations b k w v) (plainExecute b w v .state); answer = plainExecute b w v .answer }
+unfolding execute plainExecute
 step-same c k w b (TurnedDown r) m g = refl
 step-same c k w b (Copied a) m g = refl
-step-same c k w b (Clocked t) m g = rw (lived-advance t (w .panel) (g .0) (omega (arith, g .1)) (m .sound))
+step-same c k w b (Clocked t) m g = rw (runPlain-advance t (w .panel) (g .0) (omega (arith, g .1)) (m .sound))
 step-same c k w b (Arrives call) m g =
-    rw (lived-advance (call .time) (w .panel) (g .due) (omega (arith, g .frame .time)) (m .sound))
+    rw (runPlain-advance (call .time) (w .panel) (g .due) (omega (arith, g .frame .time)) (m .sound))
 
 and-le : (a b c : ℕ) → b ≤ a → (leb a c also leb b c) ≡ leb a c
 unfolding if_then_else_
@@ -228,8 +230,8 @@ known-set k s s′ n t b a h l z p =
     ∙ ap (λ (f : Bytes). record { answer = a; number = n; frame = f }) (restored-padded b z)))
     (λ q e. rw e (ap asLatest (getD-set-other k s s′ x freshStation (omega arith)) ∙ p))
 
-linked-clock : (c : ℕ) (k : List Station) (w : Told) (t : ℕ) → Linked c k w → w .panel .time ≤ t → t < 2 ^ 48
-    → Linked
+linked-clock : (c : ℕ) (k : List Station) (w : PlainState) (t : ℕ) → Refines c k w → w .panel .time ≤ t → t < 2 ^ 48
+    → Refines
     c
     k
     (record {
@@ -252,9 +254,9 @@ linked-clock c k w t m g u =
       others = m .others;
     }
 
-linked-first : (c : ℕ) (k : List Station) (w : Told) (b : Bytes) (call : Call) (l : List Output) (a : Answer)
-    → Linked c k w → Arrived c w b call → length l ≡ c → AllSound (call .time) l → NotOne a
-    → Linked
+linked-first : (c : ℕ) (k : List Station) (w : PlainState) (b : Bytes) (call : Call) (l : List Output) (a : Answer)
+    → Refines c k w → Arrived c w b call → length l ≡ c → AllSound (call .time) l → NotOne a
+    → Refines
     c
     (set k (call .station) (record { answer = a; number = call .number; frame = padded b }))
     (record {
@@ -282,56 +284,56 @@ linked-first c k w b call l a m g e h z =
       others = (z, m .others);
     }
 
-pub step-linked : (c : ℕ) (k : List Station) (w : Told) (b : Bytes) (v : Verdict) → Linked c k w → Moved c w b v
-    → Linked c (nextStations b k w v) (handed b w v .told)
-unfolding handed
+pub step-linked : (c : ℕ) (k : List Station) (w : PlainState) (b : Bytes) (v : Verdict) → Refines c k w → Moved c w b v
+    → Refines c (nextStations b k w v) (plainExecute b w v .state)
+unfolding plainExecute
 step-linked c k w b (TurnedDown r) m g = m
 step-linked c k w b (Copied a) m g = m
 step-linked c k w b (Clocked t) m g =
-    rw (lived-advance t (w .panel) (g .0) (omega (arith, g .1)) (m .sound)) (linked-clock c k w t m (g .0) (g .1))
+    rw (runPlain-advance t (w .panel) (g .0) (omega (arith, g .1)) (m .sound)) (linked-clock c k w t m (g .0) (g .1))
 step-linked c k w b (Arrives call) m g =
     let s = call .station in
     let t = call .time in
     let i = call .output in
     let r = call .request in
-    let u : t ≤ top = omega (arith, g .frame .time) in
+    let u : t ≤ greatestCount = omega (arith, g .frame .time) in
     let l = map (advance (w .panel .time) t) (w .panel .outputs) in
     let e : length l ≡ c = length-map (w .panel .outputs) (advance (w .panel .time) t) ∙ m .count in
     let h : AllSound t l = all-advance (w .panel .time) t (w .panel .outputs) (g .due) u (m .sound) in
     rw
-    (lived-advance t (w .panel) (g .due) u (m .sound))
+    (runPlain-advance t (w .panel) (g .due) u (m .sound))
     (linked-first c k w b call (served t l s i r .outputs) (served t l s i r .answer) m g
     (served-length t l s i r ∙ e)
     (served-sound t l s i r (g .frame .good) (omega (arith, e, g .frame .output)) h)
     (served-not-one t l s i r (g .frame .good)))
 
 -- its answer is not refusal 1
-handed-other : (c : ℕ) (k : List Station) (w : Told) (b : Bytes) (v : Verdict) → Linked c k w → Moved c w b v → NotOne (handed b w v .answer)
-unfolding handed
-handed-other c k w b (TurnedDown r) m g = record { other = omega arith }
-handed-other c k w b (Copied a) m g = g
-handed-other c k w b (Clocked t) m g = record { other = omega arith }
-handed-other c k w b (Arrives call) m g = served-not-one _ _ (call .station) (call .output) (call .request) (g .frame .good)
+plainExecute-other : (c : ℕ) (k : List Station) (w : PlainState) (b : Bytes) (v : Verdict) → Refines c k w → Moved c w b v → NotOne (plainExecute b w v .answer)
+unfolding plainExecute
+plainExecute-other c k w b (TurnedDown r) m g = record { other = omega arith }
+plainExecute-other c k w b (Copied a) m g = g
+plainExecute-other c k w b (Clocked t) m g = record { other = omega arith }
+plainExecute-other c k w b (Arrives call) m g = served-not-one _ _ (call .station) (call .output) (call .request) (g .frame .good)
 
 -- the engine's step from a linked panel is the plain panel's, and the panels are linked again
-pub record Stepped (c : ℕ) (k : List Station) (w : Told) (b : Bytes) : Type 0 where
+pub record Stepped (c : ℕ) (k : List Station) (w : PlainState) (b : Bytes) : Type 0 where
   pub stations : List Station
   pub same :
-      framed standard (joined k w) b
-      ≡ record { panel = joined stations (plainFramed standard w b .told); answer = plainFramed standard w b .answer }
-  pub linked : Linked c stations (plainFramed standard w b .told)
-  pub other : NotOne (plainFramed standard w b .answer)
+      frameStep document01 (joined k w) b
+      ≡ record { panel = joined stations (plainFrameStep document01 w b .state); answer = plainFrameStep document01 w b .answer }
+  pub linked : Refines c stations (plainFrameStep document01 w b .state)
+  pub other : NotOne (plainFrameStep document01 w b .answer)
 
-pub step : (c : ℕ) (k : List Station) (w : Told) (b : Bytes) → Octets b → Linked c k w → Stepped c k w b
-unfolding framed plainFramed if_then_else_
+pub step : (c : ℕ) (k : List Station) (w : PlainState) (b : Bytes) → Octets b → Refines c k w → Stepped c k w b
+unfolding frameStep plainFrameStep if_then_else_
 step c k w b h m =
-    let v = judged (w .past) b (parse standard (length (w .panel .outputs)) b) in
-    let g : Moved c w b v = rw (m .count) (judged-moved c k w b (parse standard c b) m (proper c b h)) in
+    let v = judged (w .past) b (parse document01 (length (w .panel .outputs)) b) in
+    let g : Moved c w b v = rw (m .count) (judged-moved c k w b (parse document01 c b) m (proper c b h)) in
     record {
       stations = nextStations b k w v;
       same = rw (linked-sound c k w m, decide-judged c k w b h m) (step-same c k w b v m g);
       linked = step-linked c k w b v m g;
-      other = handed-other c k w b v m g;
+      other = plainExecute-other c k w b v m g;
     }
 
 -- EVERY LIST
@@ -339,28 +341,28 @@ abbrev pub AllOther : List Answer → Type 0
 AllOther [] = Unit {0}
 AllOther (a ∷ l) = NotOne a × AllOther l
 
-pub record Listed (c : ℕ) (k : List Station) (w : Told) (l : List Bytes) : Type 0 where
+pub record Listed (c : ℕ) (k : List Station) (w : PlainState) (l : List Bytes) : Type 0 where
   pub stations : List Station
-  pub same : after standard (joined k w) l ≡ joined stations (plainAfter standard w l)
-  pub answered : answers standard (joined k w) l ≡ plainAnswers standard w l
-  pub linked : Linked c stations (plainAfter standard w l)
-  pub others : AllOther (plainAnswers standard w l)
+  pub same : after document01 (joined k w) l ≡ joined stations (plainAfter document01 w l)
+  pub answered : answers document01 (joined k w) l ≡ plainAnswers document01 w l
+  pub linked : Refines c stations (plainAfter document01 w l)
+  pub others : AllOther (plainAnswers document01 w l)
 
-pub listed : (c : ℕ) (k : List Station) (w : Told) (l : List Bytes) → Strings l → Linked c k w → Listed c k w l
+pub listed : (c : ℕ) (k : List Station) (w : PlainState) (l : List Bytes) → Strings l → Refines c k w → Listed c k w l
 unfolding after answers plainAfter plainAnswers
 listed c k w [] s m = record { stations = k; same = refl; answered = refl; linked = m; others = tt }
 listed c k w (b ∷ l) s m =
     let h = step c k w b (s .0) m in
-    let i = listed c (h .stations) (plainFramed standard w b .told) l (s .1) (h .linked) in
+    let i = listed c (h .stations) (plainFrameStep document01 w b .state) l (s .1) (h .linked) in
     record {
       stations = i .stations;
       same = rw (h .same) (i .same);
-      answered = rw (h .same) (ap (λ (z : List Answer). plainFramed standard w b .answer ∷ z) (i .answered));
+      answered = rw (h .same) (ap (λ (z : List Answer). plainFrameStep document01 w b .answer ∷ z) (i .answered));
       linked = i .linked;
       others = (h .other, i .others);
     }
 
-pub linked-start : (c : ℕ) → 1 ≤ c → c ≤ 64 → Linked c (replicate 8 freshStation) (plainStart c)
+pub linked-start : (c : ℕ) → 1 ≤ c → c ≤ 64 → Refines c (replicate 8 freshStation) (plainStart c)
 unfolding plainStart every stationSound latest above inTime if_then_else_ restored kindRow kindLength byteAt freshStation
 linked-start c p q =
     record {

@@ -1,17 +1,19 @@
 -- A string that is longer than the longest frame is refused by its first byte and its length alone: its first bytes, one more than that frame
--- has, are refused likewise. So a reader may keep these of a string of any length. Assumes nothing.
+-- has, are refused likewise. So a reader may keep these of a string of any length.
 use mathlib.Core.Path.{_≡_, refl, sym, ap, _∙_}
 use mathlib.Core.List.{[], _∷_}
 use Prim.Native.Nat.{ℕ, _+_, _≤_, _<_}
 use native.Mathlib.Omega.{arith}
 use lib.ListN.{length, take, getD, length-take}
-use Rattle.lighting.specs.Choice.{if_then_else_}
-use Rattle.lighting.specs.Field.{byteAt}
-use Rattle.lighting.specs.Parameters.{Parameters}
-use Rattle.lighting.specs.Kinds.{longestFrame, kindRow, kindLength}
-use Rattle.lighting.specs.Frames.{Bytes, parse, parseBy}
-use Rattle.lighting.specs.Panel.{Panel, Step, panelSound, framed, decide, metBy, met, stationOf, carried}
-use Rattle.lighting.specs.Fresh.{freshStation}
+use Rattle.lighting.specs.Paper.Choice.{if_then_else_}
+use Rattle.lighting.specs.Paper.Field.{byteAt}
+use Rattle.lighting.specs.Paper.Parameters.{Parameters}
+use Rattle.lighting.specs.Paper.Kinds.{longestFrame, kindRow, kindLength}
+use Rattle.lighting.specs.Paper.Frames.{Bytes, parse, parseBy}
+use Rattle.lighting.specs.Paper.Panel.{Panel, Step, panelSound}
+use Rattle.lighting.specs.Engine.Executing.{frameStep, execute}
+use Rattle.lighting.specs.Engine.Judging.{decide, judgedByStation, judgedByRecord, stationOf}
+use Rattle.lighting.specs.Paper.Fresh.{freshStation}
 use Rattle.lighting.specs.declared.Answer.the-variants.{Refused}
 use Rattle.lighting.specs.declared.Kind.{Kind}
 use Rattle.lighting.specs.declared.Kind.the-variants.{NoKind, ClockKind, CallKind}
@@ -54,19 +56,19 @@ parse-first p c b h =
     ∙ sym (parse-long p c (take (longestFrame + 1) b) (omega (arith, length-take (longestFrame + 1) b)))
 
 -- so the panel does with such a string what it does with its first bytes: neither gets past refusals 2 and 3
-decide-long : (p : Parameters) (e : Panel) (b : Bytes) (f : Frame) → parse p (length (e .outputs)) b ≡ f → decide p e b ≡ metBy (e .time) (getD (e .stations) (stationOf f) freshStation) b f
+decide-long : (p : Parameters) (e : Panel) (b : Bytes) (f : Frame) → parse p (length (e .outputs)) b ≡ f → decide p e b ≡ judgedByStation (e .time) (getD (e .stations) (stationOf f) freshStation) b f
 unfolding decide
 decide-long p e b f h = rw h
 
-pub framed-first : (p : Parameters) (e : Panel) (b : Bytes) → longestFrame + 1 ≤ length b → framed p e b ≡ framed p e (take (longestFrame + 1) b)
-unfolding framed
-framed-first p e b h =
+pub frameStep-first : (p : Parameters) (e : Panel) (b : Bytes) → longestFrame + 1 ≤ length b → frameStep p e b ≡ frameStep p e (take (longestFrame + 1) b)
+unfolding frameStep
+frameStep-first p e b h =
     ap (λ (s : Step). if panelSound p e then s else record { panel = e; answer = Refused 1 })
     (alike (refusal b) (parse-long p (length (e .outputs)) b h))
   where
-    refused : (b : Bytes) (r : ℕ) → parse p (length (e .outputs)) b ≡ Bad r → carried b e (decide p e b) ≡ record { panel = e; answer = Refused r }
-    refused b r q = rw (decide-long p e b (Bad r) q) (unfold metBy met carried in refl)
+    refused : (b : Bytes) (r : ℕ) → parse p (length (e .outputs)) b ≡ Bad r → execute b e (decide p e b) ≡ record { panel = e; answer = Refused r }
+    refused b r q = rw (decide-long p e b (Bad r) q) (unfold judgedByStation judgedByRecord execute in refl)
 
-    alike : (r : ℕ) → parse p (length (e .outputs)) b ≡ Bad r → carried b e (decide p e b) ≡ carried (take (longestFrame + 1) b) e (decide p e (take (longestFrame + 1) b))
+    alike : (r : ℕ) → parse p (length (e .outputs)) b ≡ Bad r → execute b e (decide p e b) ≡ execute (take (longestFrame + 1) b) e (decide p e (take (longestFrame + 1) b))
     alike r q =
         refused b r q ∙ sym (refused (take (longestFrame + 1) b) r (sym (parse-first p (length (e .outputs)) b h) ∙ q))

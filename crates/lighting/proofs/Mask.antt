@@ -1,4 +1,4 @@
--- The mask's operations, as the code makes them, are those on the slots. Assumes nothing.
+-- The mask's operations, as the code makes them, are those on the slots.
 use mathlib.Core.Path.{_≡_, refl, sym, ap, _∙_}
 use mathlib.Core.Bool.{Bool, true, false, not}
 use mathlib.Core.List.{List, [], _∷_}
@@ -13,8 +13,8 @@ use native.Mathlib.Numerals.{add-one}
 use lib.Count.{trailingZeros}
 use lib.ListN.{set, getD, length, length-set}
 use Rattle.lighting.proofs.Split.{by-eq, by-lt, by-bool, eqb-miss, leb-yes}
-use Rattle.lighting.specs.Choice.{if_then_else_}
-use Rattle.lighting.specs.Slots.{slotCount, Slots, view, slotsOf, slot, put, firstLive, winner, lives, maskEmptied, maskFilled, levelSet}
+use Rattle.lighting.specs.Paper.Choice.{if_then_else_}
+use Rattle.lighting.specs.Paper.Slots.{slotCount, Slots, view, slotsOf, slot, put, firstLive, winner, isLive, maskEmptied, maskFilled, levelSet}
 
 length-view : (m : ℕ) (l : List ℕ) → length (view m l) ≡ length l
 unfolding view if_then_else_
@@ -147,13 +147,13 @@ slot-view m i [] h = absurd (omega arith)
 slot-view m zero (v ∷ l) h = rw (div-one m)
 slot-view m (suc i) (v ∷ l) h = rw (halved i m) (slot-view (m / 2) i l (omega arith))
 
-pub slot-is : (s : Slots) (i : ℕ) → i < length (s .levels) → slot s i ≡ (if lives s i then some (getD (s .levels) i 0) else none)
-unfolding lives slotsOf
+pub slot-is : (s : Slots) (i : ℕ) → i < length (s .levels) → slot s i ≡ (if isLive s i then some (getD (s .levels) i 0) else none)
+unfolding isLive slotsOf
 slot-is s i h = slot-view (s .live) i (s .levels) h
 
-pub lives-slot : (s : Slots) (i : ℕ) → i < length (s .levels) → lives s i ≡ alive (slot s i)
+pub isLive-slot : (s : Slots) (i : ℕ) → i < length (s .levels) → isLive s i ≡ alive (slot s i)
 unfolding if_then_else_
-lives-slot s i h = rw (slot-is s i h) (by-bool (lives s i) (λ e. rw e) (λ e. rw e))
+isLive-slot s i h = rw (slot-is s i h) (by-bool (isLive s i) (λ e. rw e) (λ e. rw e))
 
 pub dead-past : (m i : ℕ) → m < 65536 → slotCount ≤ i → eqb (m / 2 ^ i % 2) 1 ≡ false
 dead-past m i h k = ap (λ (x : ℕ). eqb (x % 2) 1) (div-eq-of-lt (lt-of-lt-of-le h (pow-mono k)))

@@ -6,19 +6,19 @@ use Prim.Native.Nat.{ℕ, _+_, _-_, _≤_}
 use native.Mathlib.Omega.{arith}
 use lib.Dec.{ltb, eqb}
 use lib.ListN.{length}
-use Rattle.lighting.specs.Choice.{if_then_else_}
-use Rattle.lighting.specs.Parameters.{Parameters, standard}
-use Rattle.lighting.specs.Answers.{levelRefusal}
-use Rattle.lighting.specs.Level.{levelOf, amountOf}
-use Rattle.lighting.specs.Field.{byteAt}
-use Rattle.lighting.specs.Operations.{operationNumber, fieldsOf}
-use Rattle.lighting.specs.Passing.{settled}
-use Rattle.lighting.specs.Commands.{withCommand, commandedFrom, commanded}
-use Rattle.lighting.specs.Rows.{rowOf, within, meets}
-use Rattle.lighting.specs.Properties.{shown}
-use Rattle.lighting.specs.Acting.{made, acted}
-use Rattle.lighting.specs.Kinds.{kindRow}
-use Rattle.lighting.specs.Frames.{Bytes, levelFieldRefusal, amountFieldRefusal, timeFieldRefusal, firstRefusal, fieldsRefusal, lasting, orderedBy, ordered, requestOf, callOf, called, clockOf, parseBy, parse}
+use Rattle.lighting.specs.Paper.Choice.{if_then_else_}
+use Rattle.lighting.specs.Paper.Parameters.{Parameters, document01}
+use Rattle.lighting.specs.Paper.Answers.{levelRefusal}
+use Rattle.lighting.specs.Paper.Level.{levelOf, amountOf}
+use Rattle.lighting.specs.Paper.Field.{byteAt}
+use Rattle.lighting.specs.Paper.Operations.{operationNumber, fieldsOf}
+use Rattle.lighting.specs.Paper.Passing.{afterEvents}
+use Rattle.lighting.specs.Paper.Commands.{withCommand, commandedFrom, commanded}
+use Rattle.lighting.specs.Paper.Rows.{rowOf, within, meets}
+use Rattle.lighting.specs.Paper.Properties.{readProperty}
+use Rattle.lighting.specs.Paper.Acting.{done, acted}
+use Rattle.lighting.specs.Paper.Kinds.{kindRow}
+use Rattle.lighting.specs.Paper.Frames.{Bytes, levelFieldRefusal, amountFieldRefusal, timeFieldRefusal, firstRefusal, fieldsRefusal, commandWithDuration, commandRequestBy, commandRequest, requestOf, callOf, called, clockOf, parseBy, parse}
 use Rattle.lighting.specs.declared.Level.{Level}
 use Rattle.lighting.specs.declared.Level.the-variants.{Units, OutOfRange}
 use Rattle.lighting.specs.declared.Operation.{Operation}
@@ -38,11 +38,11 @@ use Rattle.lighting.specs.declared.Frame.the-variants.{Bad, Calls}
 use Rattle.lighting.specs.declared.Property.the-variants.{FadeTime, LastOperation}
 use Rattle.lighting.specs.declared.Answer.the-variants.{Value}
 use Rattle.lighting.specs.declared.Output.{Output}
-use Rattle.lighting.specs.declared.Request.the-variants.{Refuse, Order}
+use Rattle.lighting.specs.declared.Request.the-variants.{Refuse, Commands}
 use Rattle.lighting.proofs.Split.{by-bool, by-eq}
 use Rattle.lighting.proofs.Tied.{within-of, meets-of}
 use Rattle.lighting.proofs.KindTable.{actionByte, kind-byte}
-use Rattle.lighting.proofs.Good.{GoodOperation, Good}
+use Rattle.lighting.proofs.RequestInRange.{OperationInRange, RequestInRange}
 
 -- RANGES. A refusal that a field may meet: none, or 11, or 12
 abbrev Fit : ℕ → Type 0
@@ -57,17 +57,17 @@ unfolding levelFieldRefusal amountFieldRefusal
 real-fit (Real x) = (level-fit (levelOf x), level-fit (amountOf x))
 real-fit NoReal = ((λ n. absurd (n refl)), (λ n. absurd (n refl)))
 
-time-fit : (x : TimeField) → Fit (timeFieldRefusal standard x)
+time-fit : (x : TimeField) → Fit (timeFieldRefusal document01 x)
 unfolding timeFieldRefusal if_then_else_
 time-fit (Time l) =
-    by-bool (meets (rowOf standard FadeTime) l) (λ e. rw e (λ n. absurd (n refl))) (λ e. rw e (λ n. omega arith))
+    by-bool (meets (rowOf document01 FadeTime) l) (λ e. rw e (λ n. absurd (n refl))) (λ e. rw e (λ n. omega arith))
 time-fit NoTime = λ n. absurd (n refl)
 
 first-fit : (a b : ℕ) → Fit a → Fit b → Fit (firstRefusal a b)
 unfolding firstRefusal if_then_else_
 first-fit a b f g = by-eq a 0 (λ p e. rw e g) (λ p e. rw e f)
 
-pub fields-fit : (f : OperationFields) → Fit (fieldsRefusal standard f)
+pub fields-fit : (f : OperationFields) → Fit (fieldsRefusal document01 f)
 unfolding fieldsRefusal
 fields-fit f =
     first-fit _ _ (real-fit (f .level) .0)
@@ -82,9 +82,9 @@ pub record NoneMet (f : OperationFields) : Type 0 where
   pub level : levelFieldRefusal (f .level) ≡ 0
   pub rate : amountFieldRefusal (f .rate) ≡ 0
   pub step : amountFieldRefusal (f .step) ≡ 0
-  pub fade : timeFieldRefusal standard (f .fade) ≡ 0
+  pub fade : timeFieldRefusal document01 (f .fade) ≡ 0
 
-pub none-met : (f : OperationFields) → fieldsRefusal standard f ≡ 0 → NoneMet f
+pub none-met : (f : OperationFields) → fieldsRefusal document01 f ≡ 0 → NoneMet f
 unfolding fieldsRefusal
 none-met f h =
     let level = first-none _ _ h in
@@ -92,17 +92,17 @@ none-met f h =
     let step = first-none _ _ (rate .1) in
     record { level = level .0; rate = rate .0; step = step .0; fade = step .1 }
 
-time-good : (l : ℕ) → timeFieldRefusal standard (Time l) ≡ 0 → meets (rowOf standard FadeTime) l ≡ true
+time-good : (l : ℕ) → timeFieldRefusal document01 (Time l) ≡ 0 → meets (rowOf document01 FadeTime) l ≡ true
 unfolding timeFieldRefusal if_then_else_
 time-good l =
-    by-bool (meets (rowOf standard FadeTime) l) (λ e. rw e (λ h. refl)) (λ e. rw e (λ h. absurd (omega arith)))
+    by-bool (meets (rowOf document01 FadeTime) l) (λ e. rw e (λ h. refl)) (λ e. rw e (λ h. absurd (omega arith)))
 
-operation-good : (o : Operation) → fieldsRefusal standard (fieldsOf o) ≡ 0 → GoodOperation o
+operation-good : (o : Operation) → fieldsRefusal document01 (fieldsOf o) ≡ 0 → OperationInRange o
 unfolding fieldsOf
 operation-good Stop h = tt
 operation-good (FadeTo x) h = tt
 operation-good (FadeToOver x l) h =
-    meets-of (rowOf standard FadeTime) l (time-good l (none-met _ h .fade))
+    meets-of (rowOf document01 FadeTime) l (time-good l (none-met _ h .fade))
 operation-good (RampTo x) h = tt
 operation-good (RampToAtRate x r) h = tt
 operation-good StepUp h = tt
@@ -112,53 +112,53 @@ operation-good (StepDownBy x) h = tt
 operation-good (Goto x) h = tt
 operation-good Relinquish h = tt
 
-lasting-good : (o : Operation) (d : ℕ) → GoodOperation o → Good (lasting standard o d)
-unfolding lasting if_then_else_
-lasting-good o d g =
+commandWithDuration-good : (o : Operation) (d : ℕ) → OperationInRange o → RequestInRange (commandWithDuration document01 o d)
+unfolding commandWithDuration if_then_else_
+commandWithDuration-good o d g =
     by-bool (eqb d 0xffff_ffff) (λ e. rw e ((g, tt))) (λ e. rw e
     (by-bool (eqb d 0) (λ e. rw e ((g, tt))) (λ e. rw e
-    (by-bool (within 100 (standard .longestDuration) d) (λ e. rw e ((g, within-of 100 (standard .longestDuration) d e))) (λ e. rw e (omega arith))))))
+    (by-bool (within 100 (document01 .longestDuration) d) (λ e. rw e ((g, within-of 100 (document01 .longestDuration) d e))) (λ e. rw e (omega arith))))))
 
-pub ordered-good : (o : Operation) (d : ℕ) → Good (ordered standard o d)
-unfolding ordered orderedBy if_then_else_
-ordered-good o d =
+pub commandRequest-good : (o : Operation) (d : ℕ) → RequestInRange (commandRequest document01 o d)
+unfolding commandRequest commandRequestBy if_then_else_
+commandRequest-good o d =
     by-eq
-    (fieldsRefusal standard (fieldsOf o))
+    (fieldsRefusal document01 (fieldsOf o))
     0
-    (λ p e. rw e (lasting-good o d (operation-good o p)))
+    (λ p e. rw e (commandWithDuration-good o d (operation-good o p)))
     (λ p e. rw e (fields-fit (fieldsOf o) p))
 
 -- THE NUMBER. The operation of a command that was taken is the one that its kind says
-lasting-operation : (p : Parameters) (o : Operation) (d : ℕ) (k : Command) → lasting p o d ≡ Order k → k .operation ≡ o
-unfolding lasting if_then_else_
-lasting-operation p o d k =
+commandWithDuration-operation : (p : Parameters) (o : Operation) (d : ℕ) (k : Command) → commandWithDuration p o d ≡ Commands k → k .operation ≡ o
+unfolding commandWithDuration if_then_else_
+commandWithDuration-operation p o d k =
     by-bool (eqb d 0xffff_ffff) (λ e. rw e (λ h. cc)) (λ e. rw e
     (by-bool (eqb d 0) (λ e. rw e (λ h. cc)) (λ e. rw e
     (by-bool (within 100 (p .longestDuration) d) (λ e. rw e (λ h. cc)) (λ e. rw e (λ h. cc))))))
 
-ordered-operation : (p : Parameters) (o : Operation) (d : ℕ) (k : Command) → ordered p o d ≡ Order k → k .operation ≡ o
-unfolding ordered orderedBy if_then_else_
-ordered-operation p o d k =
-    by-bool (eqb (fieldsRefusal p (fieldsOf o)) 0) (λ e. rw e (lasting-operation p o d k)) (λ e. rw e (λ h. cc))
+commandRequest-operation : (p : Parameters) (o : Operation) (d : ℕ) (k : Command) → commandRequest p o d ≡ Commands k → k .operation ≡ o
+unfolding commandRequest commandRequestBy if_then_else_
+commandRequest-operation p o d k =
+    by-bool (eqb (fieldsRefusal p (fieldsOf o)) 0) (λ e. rw e (commandWithDuration-operation p o d k)) (λ e. rw e (λ h. cc))
 
 request-number : (p : Parameters) (action : Action) (b : Bytes) (command : Command) → 0x10 ≤ actionByte action
-    → requestOf p action b ≡ Order command → operationNumber (command .operation) ≡ actionByte action - 0x10
+    → requestOf p action b ≡ Commands command → operationNumber (command .operation) ≡ actionByte action - 0x10
 unfolding requestOf operationNumber
 request-number p WritesLevel b command k h = absurd (omega arith)
 request-number p EmptiesSlot b command k h = absurd (omega arith)
 request-number p WritesProperty b command k h = absurd (omega arith)
 request-number p ReadsProperty b command k h = absurd (omega arith)
-request-number p Stops b command k h = ap operationNumber (ordered-operation p _ _ command h)
-request-number p FadesTo b command k h = ap operationNumber (ordered-operation p _ _ command h)
-request-number p FadesToOver b command k h = ap operationNumber (ordered-operation p _ _ command h)
-request-number p RampsTo b command k h = ap operationNumber (ordered-operation p _ _ command h)
-request-number p RampsToAtRate b command k h = ap operationNumber (ordered-operation p _ _ command h)
-request-number p StepsUp b command k h = ap operationNumber (ordered-operation p _ _ command h)
-request-number p StepsDown b command k h = ap operationNumber (ordered-operation p _ _ command h)
-request-number p StepsUpBy b command k h = ap operationNumber (ordered-operation p _ _ command h)
-request-number p StepsDownBy b command k h = ap operationNumber (ordered-operation p _ _ command h)
-request-number p GoesTo b command k h = ap operationNumber (ordered-operation p _ _ command h)
-request-number p Relinquishes b command k h = ap operationNumber (ordered-operation p _ _ command h)
+request-number p Stops b command k h = ap operationNumber (commandRequest-operation p _ _ command h)
+request-number p FadesTo b command k h = ap operationNumber (commandRequest-operation p _ _ command h)
+request-number p FadesToOver b command k h = ap operationNumber (commandRequest-operation p _ _ command h)
+request-number p RampsTo b command k h = ap operationNumber (commandRequest-operation p _ _ command h)
+request-number p RampsToAtRate b command k h = ap operationNumber (commandRequest-operation p _ _ command h)
+request-number p StepsUp b command k h = ap operationNumber (commandRequest-operation p _ _ command h)
+request-number p StepsDown b command k h = ap operationNumber (commandRequest-operation p _ _ command h)
+request-number p StepsUpBy b command k h = ap operationNumber (commandRequest-operation p _ _ command h)
+request-number p StepsDownBy b command k h = ap operationNumber (commandRequest-operation p _ _ command h)
+request-number p GoesTo b command k h = ap operationNumber (commandRequest-operation p _ _ command h)
+request-number p Relinquishes b command k h = ap operationNumber (commandRequest-operation p _ _ command h)
 
 -- a frame that was read as a call asks what the table has for its kind
 called-request : (p : Parameters) (c : ℕ) (call call′ : Call) → called p c call ≡ Calls call′ → call′ ≡ call
@@ -173,7 +173,7 @@ unfolding callOf
 call-asks p action b call e = rw e
 
 number-by : (p : Parameters) (c l : ℕ) (k : Kind) (b : Bytes) (call : Call) (command : Command)
-    → kindRow (byteAt b 0) .kind ≡ k → parseBy p c l k b ≡ Calls call → call .request ≡ Order command → 0x10 ≤ byteAt b 0
+    → kindRow (byteAt b 0) .kind ≡ k → parseBy p c l k b ≡ Calls call → call .request ≡ Commands command → 0x10 ≤ byteAt b 0
     → operationNumber (command .operation) ≡ byteAt b 0 - 0x10
 unfolding parseBy if_then_else_
 number-by p c l NoKind b call command e h r n = cc
@@ -199,14 +199,14 @@ number-by p c l (CallKind action) b call command e h r n = by-bool (eqb (length 
 
 -- '0F last operation (kind minus 10)': a frame of kind 10 or above that is taken as a command has the operation whose number is its kind less 10
 pub kind-number : (p : Parameters) (c : ℕ) (b : Bytes) (call : Call) (command : Command)
-    → parse p c b ≡ Calls call → call .request ≡ Order command → 0x10 ≤ byteAt b 0
+    → parse p c b ≡ Calls call → call .request ≡ Commands command → 0x10 ≤ byteAt b 0
     → operationNumber (command .operation) ≡ byteAt b 0 - 0x10
 unfolding parse
 kind-number p c b call command h r n = number-by p c _ _ b call command refl h r n
 
 -- and that is what property 0F of its output reads from then on
 pub kind-read : (p : Parameters) (c : ℕ) (b : Bytes) (call : Call) (command : Command) (t t′ : ℕ) (o : Output)
-    → parse p c b ≡ Calls call → call .request ≡ Order command → 0x10 ≤ byteAt b 0
-    → shown t′ (acted t o (call .request) .output) LastOperation ≡ Value (byteAt b 0 - 0x10)
-unfolding acted made settled commanded commandedFrom withCommand shown
+    → parse p c b ≡ Calls call → call .request ≡ Commands command → 0x10 ≤ byteAt b 0
+    → readProperty t′ (acted t o (call .request) .output) LastOperation ≡ Value (byteAt b 0 - 0x10)
+unfolding acted done afterEvents commanded commandedFrom withCommand readProperty
 kind-read p c b call command t t′ o h r n = rw r (ap Value (kind-number p c b call command h r n))

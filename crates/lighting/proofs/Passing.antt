@@ -1,6 +1,6 @@
 -- HOPS EQUAL TICKS: the engine's way from due moment to due moment comes to what the plain panel's milliseconds come to.
 -- What it asks of the output (`Calm`): every due moment is after the moment it starts from, and it has burned no longer than the panel stands.
--- Neither the slots nor what lights an output play a part. Assumes nothing.
+-- Neither the slots nor what lights an output play a part.
 use mathlib.Core.Path.{_≡_, refl, sym, ap, ap₂, _∙_}
 use mathlib.Core.Logic.{_≢_}
 use mathlib.Core.Bool.{true, false, false≢true}
@@ -9,7 +9,7 @@ use Prim.Native.Nat.{ℕ, zero, suc, _+_, _-_, _≤_, _<_, min}
 use native.Mathlib.Nat.{zero-add, add-zero, suc-add, sub-self, add-assoc}
 use native.Mathlib.Omega.{arith}
 use lib.Dec.{eqb}
-use Rattle.lighting.specs.Choice.{if_then_else_}
+use Rattle.lighting.specs.Paper.Choice.{if_then_else_}
 use Rattle.lighting.proofs.Split.{by-eq, by-lt, by-bool, eqb-miss, eqb-hit, eq-of}
 use Rattle.lighting.specs.declared.Phase.{Phase}
 use Rattle.lighting.specs.declared.Phase.the-variants.{Blink, Delay}
@@ -21,9 +21,10 @@ use Rattle.lighting.specs.declared.Timer.the-variants.{Off, Running}
 use Rattle.lighting.specs.declared.Moment.{Moment}
 use Rattle.lighting.specs.declared.Moment.the-variants.{Never, At}
 use Rattle.lighting.specs.declared.Output.{Output}
-use Rattle.lighting.specs.Slots.{Slots}
-use Rattle.lighting.specs.Value.{lit}
-use Rattle.lighting.specs.Passing.{top, withBurning, glowing, burned, gained, timerDue, phaseEnd, activityDue, dueMoments, isDue, timerAt, expired, disowned, disownedBy, released, delayed, nextPhase, nextActivity, activityAt, slotsAt, settled, fire, tick, ticks, sooner, soonest, due, hop, hops, advance}
+use Rattle.lighting.specs.Paper.Slots.{Slots}
+use Rattle.lighting.specs.Paper.Value.{lit}
+use Rattle.lighting.specs.Engine.Advance.{greatestCount, withBurnedSaturating, sooner, soonest, due, eventStep, eventSteps, advance}
+use Rattle.lighting.specs.Paper.Passing.{withBurning, litMilliseconds, withBurned, timerDue, phaseEnd, activityDue, dueMoments, isDue, timerAt, expired, endMovementOf, endMovementBy, endMovementOnExpiry, delayed, nextPhase, nextActivity, activityAt, slotsAt, afterEvents, fire, tick, ticks}
 
 -- every due moment is after t
 abbrev pub MomentAfter : ℕ → Moment → Type 0
@@ -56,7 +57,7 @@ not-due t Never a = refl
 not-due t (At d) a = eqb-miss {a = d} {b = t} (omega arith)
 
 pub quiet : (t : ℕ) (o : Output) → After t o → fire t o ≡ o
-unfolding fire settled timerAt expired released activityAt slotsAt if_then_else_
+unfolding fire afterEvents timerAt expired endMovementOnExpiry activityAt slotsAt if_then_else_
 quiet t o a = rw (not-due t (timerDue (o .timer)) (a .all .0), not-due t (activityDue (o .activity)) (a .all .1 .0))
 
 -- and where no duration is due, none does anything
@@ -84,62 +85,62 @@ pub expired-quiet : (t : ℕ) (m : Timer) (s : Slots) → TimerAfter t m → exp
 unfolding expired if_then_else_
 expired-quiet t m s a = rw (not-due t (timerDue m) (timer-moment t m a))
 
-pub released-quiet : (t : ℕ) (m : Timer) (a : Activity) → TimerAfter t m → released t m a ≡ a
-unfolding released if_then_else_
-released-quiet t m a h = rw (not-due t (timerDue m) (timer-moment t m h))
+pub endMovementOnExpiry-quiet : (t : ℕ) (m : Timer) (a : Activity) → TimerAfter t m → endMovementOnExpiry t m a ≡ a
+unfolding endMovementOnExpiry if_then_else_
+endMovementOnExpiry-quiet t m a h = rw (not-due t (timerDue m) (timer-moment t m h))
 
 -- BURNING: of n milliseconds at most n, of none none, and stretches add up
-pub glowing-le : (from n : ℕ) (o : Output) → glowing from n o ≤ n
-unfolding glowing if_then_else_
-glowing-le from n o = by-bool (lit (o .settings) (o .slots)) (λ e. rw e (omega arith)) (λ e. rw e (omega arith))
+pub litMilliseconds-le : (from n : ℕ) (o : Output) → litMilliseconds from n o ≤ n
+unfolding litMilliseconds if_then_else_
+litMilliseconds-le from n o = by-bool (lit (o .settings) (o .slots)) (λ e. rw e (omega arith)) (λ e. rw e (omega arith))
 
-glowing-add : (from a b : ℕ) (o : Output) → glowing from a o + glowing (from + a) b (burned from a o) ≡ glowing from (a + b) o
-unfolding glowing burned withBurning if_then_else_
-glowing-add from a b o = by-bool (lit (o .settings) (o .slots)) (λ e. rw e) (λ e. rw e)
+litMilliseconds-add : (from a b : ℕ) (o : Output) → litMilliseconds from a o + litMilliseconds (from + a) b (withBurned from a o) ≡ litMilliseconds from (a + b) o
+unfolding litMilliseconds withBurned withBurning if_then_else_
+litMilliseconds-add from a b o = by-bool (lit (o .settings) (o .slots)) (λ e. rw e) (λ e. rw e)
 
-burned-zero : (from : ℕ) (o : Output) → burned from 0 o ≡ o
-unfolding burned withBurning
-burned-zero from o = let z : glowing from 0 o ≡ 0 = omega (arith, glowing-le from 0 o) in rw (z, add-zero (o .burning))
+withBurned-zero : (from : ℕ) (o : Output) → withBurned from 0 o ≡ o
+unfolding withBurned withBurning
+withBurned-zero from o = let z : litMilliseconds from 0 o ≡ 0 = omega (arith, litMilliseconds-le from 0 o) in rw (z, add-zero (o .burning))
 
-burned-burned : (from a b : ℕ) (o : Output) → burned (from + a) b (burned from a o) ≡ burned from (a + b) o
-unfolding burned withBurning
-burned-burned from a b o = rw (← glowing-add from a b o) (same (glowing from a o) (glowing (from + a) b (burned from a o)))
+withBurned-withBurned : (from a b : ℕ) (o : Output) → withBurned (from + a) b (withBurned from a o) ≡ withBurned from (a + b) o
+unfolding withBurned withBurning
+withBurned-withBurned from a b o = rw (← litMilliseconds-add from a b o) (same (litMilliseconds from a o) (litMilliseconds (from + a) b (withBurned from a o)))
   where
     same : (x y : ℕ) → withBurning (withBurning o (o .burning + x)) (o .burning + x + y) ≡ withBurning o (o .burning + (x + y))
     same x y = unfold withBurning in rw (add-assoc (o .burning) x y)
 
-burned-after : (t from n : ℕ) (o : Output) → After t o → After t (burned from n o)
-unfolding burned withBurning
-burned-after t from n o a = record { all = a .all }
+withBurned-after : (t from n : ℕ) (o : Output) → After t o → After t (withBurned from n o)
+unfolding withBurned withBurning
+withBurned-after t from n o a = record { all = a .all }
 
 -- THE ENGINE'S COUNT does not come to its top
-gained-burned : (from n : ℕ) (o : Output) → o .burning + n ≤ top → gained from n o ≡ burned from n o
-unfolding gained burned
-gained-burned from n o h = ap (λ (b : ℕ). withBurning o b) (omega (arith, glowing-le from n o))
+withBurnedSaturating-withBurned : (from n : ℕ) (o : Output) → o .burning + n ≤ greatestCount → withBurnedSaturating from n o ≡ withBurned from n o
+unfolding withBurnedSaturating withBurned
+withBurnedSaturating-withBurned from n o h = ap (λ (b : ℕ). withBurning o b) (omega (arith, litMilliseconds-le from n o))
 
-one-more : (n t : ℕ) (o : Output) → burned (suc t) n (burned t 1 o) ≡ burned t (suc n) o
+one-more : (n t : ℕ) (o : Output) → withBurned (suc t) n (withBurned t 1 o) ≡ withBurned t (suc n) o
 one-more n t o =
-    ap (λ (k : ℕ). burned k n (burned t 1 o)) (omega arith)
-    ∙ burned-burned t 1 n o
-    ∙ ap (λ (k : ℕ). burned t k o) (omega arith)
+    ap (λ (k : ℕ). withBurned k n (withBurned t 1 o)) (omega arith)
+    ∙ withBurned-withBurned t 1 n o
+    ∙ ap (λ (k : ℕ). withBurned t k o) (omega arith)
 
 -- n MILLISECONDS, of which none but perhaps the last brings anything due
-pub quiet-ticks : (n t : ℕ) (o : Output) → After (t + n) o → ticks n t o ≡ burned t n o
+pub quiet-ticks : (n t : ℕ) (o : Output) → After (t + n) o → ticks n t o ≡ withBurned t n o
 unfolding ticks tick
-quiet-ticks zero t o a = sym (burned-zero t o)
+quiet-ticks zero t o a = sym (withBurned-zero t o)
 quiet-ticks (suc n) t o a =
-    let a₁ : After (suc t) (burned t 1 o) = burned-after (suc t) t 1 o (earlier o (omega arith) a) in
-    let a₂ : After (suc t + n) (burned t 1 o) = burned-after (suc t + n) t 1 o (earlier o (omega arith) a) in
-    rw (quiet (suc t) (burned t 1 o) a₁, quiet-ticks n (suc t) (burned t 1 o) a₂) (one-more n t o)
+    let a₁ : After (suc t) (withBurned t 1 o) = withBurned-after (suc t) t 1 o (earlier o (omega arith) a) in
+    let a₂ : After (suc t + n) (withBurned t 1 o) = withBurned-after (suc t + n) t 1 o (earlier o (omega arith) a) in
+    rw (quiet (suc t) (withBurned t 1 o) a₁, quiet-ticks n (suc t) (withBurned t 1 o) a₂) (one-more n t o)
 
-pub hop-ticks : (n t : ℕ) (o : Output) → After (t + n) o → ticks (suc n) t o ≡ fire (suc (t + n)) (burned t (suc n) o)
+pub eventStep-ticks : (n t : ℕ) (o : Output) → After (t + n) o → ticks (suc n) t o ≡ fire (suc (t + n)) (withBurned t (suc n) o)
 unfolding ticks tick
-hop-ticks zero t o a = ap (λ (k : ℕ). fire (suc k) (burned t 1 o)) (omega arith)
-hop-ticks (suc n) t o a =
-    let a₁ : After (suc t) (burned t 1 o) = burned-after (suc t) t 1 o (earlier o (omega arith) a) in
-    let a₂ : After (suc t + n) (burned t 1 o) = burned-after (suc t + n) t 1 o (earlier o (omega arith) a) in
-    ap (λ (z : Output). ticks (suc n) (suc t) z) (quiet (suc t) (burned t 1 o) a₁)
-    ∙ hop-ticks n (suc t) (burned t 1 o) a₂
+eventStep-ticks zero t o a = ap (λ (k : ℕ). fire (suc k) (withBurned t 1 o)) (omega arith)
+eventStep-ticks (suc n) t o a =
+    let a₁ : After (suc t) (withBurned t 1 o) = withBurned-after (suc t) t 1 o (earlier o (omega arith) a) in
+    let a₂ : After (suc t + n) (withBurned t 1 o) = withBurned-after (suc t + n) t 1 o (earlier o (omega arith) a) in
+    ap (λ (z : Output). ticks (suc n) (suc t) z) (quiet (suc t) (withBurned t 1 o) a₁)
+    ∙ eventStep-ticks n (suc t) (withBurned t 1 o) a₂
     ∙ ap₂ (λ (k : ℕ) (z : Output). fire k z) (omega arith) (one-more (suc n) t o)
 
 pub ticks-add : (m n t : ℕ) (o : Output) → ticks (m + n) t o ≡ ticks n (t + m) (ticks m t o)
@@ -157,18 +158,18 @@ not-yet n t Never p a e = tt
 not-yet n t (At d) p a e = by-eq d t (λ q e′. absurd (false≢true (sym e ∙ e′))) (λ q e′. omega arith)
 
 -- a duration leaves what is under way, or ends it
-released-either : (P : Activity → Type 0) (t : ℕ) (m : Timer) (a : Activity) → P Still → P a → P (released t m a)
-unfolding released if_then_else_
-released-either P t m a s h = by-bool (isDue t (timerDue m)) (λ e. rw e (by-timer m)) (λ e. rw e h)
+endMovementOnExpiry-either : (P : Activity → Type 0) (t : ℕ) (m : Timer) (a : Activity) → P Still → P a → P (endMovementOnExpiry t m a)
+unfolding endMovementOnExpiry if_then_else_
+endMovementOnExpiry-either P t m a s h = by-bool (isDue t (timerDue m)) (λ e. rw e (by-timer m)) (λ e. rw e h)
   where
-    by-owner : (q : ℕ) (b : Activity) → P b → P (disowned q b)
-    by-owner q Still k = unfold disowned in k
-    by-owner q (Moving n) k = unfold disowned in by-eq (n .owner) q (λ p e. rw e s) (λ p e. rw e k)
-    by-owner q (Warned w) k = unfold disowned in k
+    by-owner : (q : ℕ) (b : Activity) → P b → P (endMovementOf q b)
+    by-owner q Still k = unfold endMovementOf in k
+    by-owner q (Moving n) k = unfold endMovementOf in by-eq (n .owner) q (λ p e. rw e s) (λ p e. rw e k)
+    by-owner q (Warned w) k = unfold endMovementOf in k
 
-    by-timer : (n : Timer) → P (disownedBy n a)
-    by-timer Off = unfold disownedBy in h
-    by-timer (Running q d) = unfold disownedBy in by-owner q a h
+    by-timer : (n : Timer) → P (endMovementBy n a)
+    by-timer Off = unfold endMovementBy in h
+    by-timer (Running q d) = unfold endMovementBy in by-owner q a h
 
 phase-after : (t : ℕ) (w : Warning) (p : Phase) → eqb (phaseEnd w p) t ≡ true → MomentAfter t (activityDue (nextPhase w p))
 unfolding phaseEnd nextPhase delayed activityDue if_then_else_
@@ -183,8 +184,8 @@ next-after t (Moving m) h = tt
 next-after t (Warned w) h = phase-after t w (w .phase) h
 
 pub fire-after : (t : ℕ) (o : Output) → After t o → After (suc t) (fire (suc t) o)
-unfolding fire settled
-fire-after t o a = record { all = (timer, (activity (released (suc t) (o .timer) (o .activity)) left, tt)) }
+unfolding fire afterEvents
+fire-after t o a = record { all = (timer, (activity (endMovementOnExpiry (suc t) (o .timer) (o .activity)) unchanged, tt)) }
   where
     timer : MomentAfter (suc t) (timerDue (timerAt (suc t) (o .timer)))
     timer = unfold timerAt if_then_else_ in
@@ -193,9 +194,9 @@ fire-after t o a = record { all = (timer, (activity (released (suc t) (o .timer)
         (λ e. rw e (unfold timerDue in tt))
         (λ e. rw e (not-yet t (suc t) (timerDue (o .timer)) refl (a .all .0) e)))
 
-    left : MomentAfter t (activityDue (released (suc t) (o .timer) (o .activity)))
-    left =
-        released-either
+    unchanged : MomentAfter t (activityDue (endMovementOnExpiry (suc t) (o .timer) (o .activity)))
+    unchanged =
+        endMovementOnExpiry-either
         (λ (b : Activity). MomentAfter t (activityDue b))
         (suc t)
         (o .timer)
@@ -313,39 +314,39 @@ due-here t o a = go (dueMoments o) (a .all)
     go (At d ∷ l) k = omega (arith, k .0, go l (k .1))
 
 -- one hop, from `now` to d before which nothing is due
-hop-quiet : (now n d : ℕ) (o : Output) → d ≡ suc (now + n) → After (now + n) o
-    → (ticks (d - now) now o ≡ fire d (burned now (d - now) o)) × After d (fire d (burned now (d - now) o))
-hop-quiet now n d o p a =
+eventStep-quiet : (now n d : ℕ) (o : Output) → d ≡ suc (now + n) → After (now + n) o
+    → (ticks (d - now) now o ≡ fire d (withBurned now (d - now) o)) × After d (fire d (withBurned now (d - now) o))
+eventStep-quiet now n d o p a =
     rw
     (p, sub-here)
-    (hop-ticks n now o a, fire-after (now + n) (burned now (suc n) o) (burned-after (now + n) now (suc n) o a))
+    (eventStep-ticks n now o a, fire-after (now + n) (withBurned now (suc n) o) (withBurned-after (now + n) now (suc n) o a))
   where
     sub-here : suc (now + n) - now ≡ suc n
     sub-here = omega arith
 
-next-hop : (now to : ℕ) (o : Output) → now < to → After now o
-    → (ticks (due to o - now) now o ≡ fire (due to o) (burned now (due to o - now) o))
-    × After (due to o) (fire (due to o) (burned now (due to o - now) o))
-next-hop now to o l a =
+next-eventStep : (now to : ℕ) (o : Output) → now < to → After now o
+    → (ticks (due to o - now) now o ≡ fire (due to o) (withBurned now (due to o - now) o))
+    × After (due to o) (fire (due to o) (withBurned now (due to o - now) o))
+next-eventStep now to o l a =
     let h : now < due to o = due-later now to o l a in
-    hop-quiet now (due to o - suc now) (due to o) o (omega arith) (before-due (now + (due to o - suc now)) to o (omega arith))
+    eventStep-quiet now (due to o - suc now) (due to o) o (omega arith) (before-due (now + (due to o - suc now)) to o (omega arith))
 
 -- at the next due moment something is due: one fewer is to come
-hop-fewer : (n d from k to : ℕ) (o : Output) → d ≡ suc n → After n o → due to o ≡ d → d < to → suc (count (fire d (burned from k o))) ≤ count o
-unfolding fire settled burned withBurning timerAt if_then_else_
-hop-fewer n d from k to o p a q h =
+eventStep-fewer : (n d from k to : ℕ) (o : Output) → d ≡ suc n → After n o → due to o ≡ d → d < to → suc (count (fire d (withBurned from k o))) ≤ count o
+unfolding fire afterEvents withBurned withBurning timerAt if_then_else_
+eventStep-fewer n d from k to o p a q h =
     by-bool
     (isDue d (timerDue (o .timer)))
     (λ e. rw e
-    (unfold timerDue in (omega (arith, moment-hit d (timerDue (o .timer)) e, act-fewer d (released d (o .timer) (o .activity)), left))))
-    (λ e. unfold released activityAt in rw e
+    (unfold timerDue in (omega (arith, moment-hit d (timerDue (o .timer)) e, act-fewer d (endMovementOnExpiry d (o .timer) (o .activity)), unchanged))))
+    (λ e. unfold endMovementOnExpiry activityAt in rw e
     (by-bool
     (isDue d (activityDue (o .activity)))
     (λ e′. rw e′ (omega (arith, next-fewer d (o .activity) e′)))
     (λ e′. absurd (omega (arith, due-later d to o h (none e e′))))))
   where
-    left : count-act (released d (o .timer) (o .activity)) ≤ count-act (o .activity)
-    left = released-either (λ (b : Activity). count-act b ≤ count-act (o .activity)) d (o .timer) (o .activity) (unfold activityDue in (omega arith)) (omega arith)
+    unchanged : count-act (endMovementOnExpiry d (o .timer) (o .activity)) ≤ count-act (o .activity)
+    unchanged = endMovementOnExpiry-either (λ (b : Activity). count-act b ≤ count-act (o .activity)) d (o .timer) (o .activity) (unfold activityDue in (omega arith)) (omega arith)
 
     none : isDue d (timerDue (o .timer)) ≡ false → isDue d (activityDue (o .activity)) ≡ false → After d o
     none e e′ =
@@ -354,21 +355,21 @@ hop-fewer n d from k to o p a q h =
         }
 
 -- burning is at most the time to which it has burned
-fire-burnt : (now d : ℕ) (o : Output) → now ≤ d → o .burning ≤ now → fire d (burned now (d - now) o) .burning ≤ d
-unfolding fire settled burned withBurning
-fire-burnt now d o l h = omega (arith, glowing-le now (d - now) o)
+fire-burnt : (now d : ℕ) (o : Output) → now ≤ d → o .burning ≤ now → fire d (withBurned now (d - now) o) .burning ≤ d
+unfolding fire afterEvents withBurned withBurning
+fire-burnt now d o l h = omega (arith, litMilliseconds-le now (d - now) o)
 
-hop-burned : (now d : ℕ) (o : Output) → now ≤ d → d ≤ top → o .burning ≤ now → hop now d o ≡ fire d (burned now (d - now) o)
-unfolding hop
-hop-burned now d o l m h = rw (gained-burned now (d - now) o (omega arith))
+eventStep-withBurned : (now d : ℕ) (o : Output) → now ≤ d → d ≤ greatestCount → o .burning ≤ now → eventStep now d o ≡ fire d (withBurned now (d - now) o)
+unfolding eventStep
+eventStep-withBurned now d o l m h = rw (withBurnedSaturating-withBurned now (d - now) o (omega arith))
 
-hops-here : (k t : ℕ) (o : Output) → t ≤ top → Calm t o → hops k t t o ≡ o
-unfolding hops
-hops-here zero t o m c = gained-burned t (t - t) o (omega (arith, c .burnt)) ∙ rw (sub-self t) (burned-zero t o)
-hops-here (suc k) t o m c =
+eventSteps-here : (k t : ℕ) (o : Output) → t ≤ greatestCount → Calm t o → eventSteps k t t o ≡ o
+unfolding eventSteps
+eventSteps-here zero t o m c = withBurnedSaturating-withBurned t (t - t) o (omega (arith, c .burnt)) ∙ rw (sub-self t) (withBurned-zero t o)
+eventSteps-here (suc k) t o m c =
     rw
-    (due-here t o (c .after), hop-burned t t o (omega arith) m (c .burnt), sub-self t, burned-zero t o, quiet t o (c .after))
-    (hops-here k t o m c)
+    (due-here t o (c .after), eventStep-withBurned t t o (omega arith) m (c .burnt), sub-self t, withBurned-zero t o, quiet t o (c .after))
+    (eventSteps-here k t o m c)
 
 join : (now d to : ℕ) (o : Output) → now ≤ d → d ≤ to
     → ticks (to - d) d (ticks (d - now) now o) ≡ ticks (to - now) now o
@@ -377,44 +378,44 @@ join now d to o p q =
     ∙ sym (ticks-add (d - now) (to - d) now o)
     ∙ ap (λ (j : ℕ). ticks j now o) (omega arith)
 
-hops-ticks : (k now to : ℕ) (o : Output) → now ≤ to → to ≤ top → Calm now o → count o ≤ k
-    → hops k now to o ≡ ticks (to - now) now o
-unfolding hops ticks
-hops-ticks zero now to o l m c n =
-    gained-burned now (to - now) o (omega (arith, c .burnt))
+eventSteps-ticks : (k now to : ℕ) (o : Output) → now ≤ to → to ≤ greatestCount → Calm now o → count o ≤ k
+    → eventSteps k now to o ≡ ticks (to - now) now o
+unfolding eventSteps ticks
+eventSteps-ticks zero now to o l m c n =
+    withBurnedSaturating-withBurned now (to - now) o (omega (arith, c .burnt))
     ∙ sym (quiet-ticks (to - now) now o (none-left (now + (to - now)) o n))
-hops-ticks (suc k) now to o l m c n =
+eventSteps-ticks (suc k) now to o l m c n =
     by-eq
     now
     to
-    (λ p e. rw (p, sub-self to) (hops-here (suc k) to o m (rw p at c)))
+    (λ p e. rw (p, sub-self to) (eventSteps-here (suc k) to o m (rw p at c)))
     (λ p e. let l′ : now < to = omega arith in
-    let h = next-hop now to o l′ (c .after) in
+    let h = next-eventStep now to o l′ (c .after) in
     let later : now < due to o = due-later now to o l′ (c .after) in
     let soon : due to o ≤ to = due-le to o in
-    let calm : Calm (due to o) (fire (due to o) (burned now (due to o - now) o)) =
+    let calm : Calm (due to o) (fire (due to o) (withBurned now (due to o - now) o)) =
     record { after = h .1; burnt = fire-burnt now (due to o) o (omega arith) (c .burnt) } in
     rw
-    (hop-burned now (due to o) o (omega arith) (omega arith) (c .burnt))
+    (eventStep-withBurned now (due to o) o (omega arith) (omega arith) (c .burnt))
     (by-eq
     (due to o)
     to
-    (λ q e′. rw q (hops-here k to (fire to (burned now (to - now) o)) m (rw q at calm) ∙ sym (rw q at (h .0))))
+    (λ q e′. rw q (eventSteps-here k to (fire to (withBurned now (to - now) o)) m (rw q at calm) ∙ sym (rw q at (h .0))))
     (λ q e′. let s : due to o < to = omega arith in
     let before : ℕ = due to o - 1 in
-    hops-ticks
+    eventSteps-ticks
     k
     (due to o)
     to
-    (fire (due to o) (burned now (due to o - now) o))
+    (fire (due to o) (withBurned now (due to o - now) o))
     (omega arith)
     m
     calm
-    (omega (arith, hop-fewer before (due to o) now (due to o - now) to o (omega arith) (before-due before to o (omega arith)) refl s))
+    (omega (arith, eventStep-fewer before (due to o) now (due to o - now) to o (omega arith) (before-due before to o (omega arith)) refl s))
     ∙ ap (λ (z : Output). ticks (to - due to o) (due to o) z) (sym (h .0))
     ∙ join now (due to o) to o (omega arith) (omega arith))))
 
 -- the engine's hops, as many as `advance` has, equal the plain panel's ticks
-pub advance-ticks : (now to : ℕ) (o : Output) → now ≤ to → to ≤ top → Calm now o → advance now to o ≡ ticks (to - now) now o
+pub advance-ticks : (now to : ℕ) (o : Output) → now ≤ to → to ≤ greatestCount → Calm now o → advance now to o ≡ ticks (to - now) now o
 unfolding advance
-advance-ticks now to o l m c = hops-ticks _ now to o l m c (omega (arith, count-three o))
+advance-ticks now to o l m c = eventSteps-ticks _ now to o l m c (omega (arith, count-three o))

@@ -1,4 +1,4 @@
--- Between a REAL and its pattern nothing is lost, unless it is no number. Assumes nothing.
+-- Between a REAL and its pattern nothing is lost, unless it is no number.
 use mathlib.Core.Path.{_≡_, refl, sym, ap, _∙_, subst}
 use mathlib.Core.Bool.{Bool, true, false, not, false≢true}
 use Prim.Native.Nat.{ℕ, _^_, _<_}
@@ -9,10 +9,10 @@ use lib.Ieee.Bits.{toBits-ofBits, ofBits-toBits}
 use Rattle.lighting.specs.declared.Level.{Level}
 use Rattle.lighting.specs.declared.Level.the-variants.{Units, OutOfRange}
 use Rattle.lighting.proofs.Split.{by-bool}
-use Rattle.lighting.specs.Level.{real, bits, levelOf, amountOf, inRange}
-use Rattle.lighting.specs.Rows.{isAmount}
-use Rattle.lighting.specs.Answers.{levelRefusal}
-use Rattle.lighting.specs.Frames.{levelFieldRefusal, amountFieldRefusal}
+use Rattle.lighting.specs.Paper.Level.{real, bits, levelOf, amountOf, inRange}
+use Rattle.lighting.specs.Paper.Rows.{isAmount}
+use Rattle.lighting.specs.Paper.Answers.{levelRefusal}
+use Rattle.lighting.specs.Paper.Frames.{levelFieldRefusal, amountFieldRefusal}
 use Rattle.lighting.specs.declared.RealField.the-variants.{Real}
 
 pub only-nan : (x : Float) → isNan x ≡ true → x ≡ nan

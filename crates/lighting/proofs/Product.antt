@@ -1,4 +1,4 @@
--- One law for every width: the product of two numbers of k bits has at most k + k. Assumes nothing.
+-- One law for every width: the product of two numbers of k bits has at most k + k.
 use mathlib.Core.Path.{subst⁻¹}
 use Prim.Native.Nat.{ℕ, _+_, _*_, _^_, _<_}
 use native.Mathlib.Nat.{le-of-lt, lt-of-le-of-lt, mul-le-mul-left, mul-lt-mul-of-pos-right}

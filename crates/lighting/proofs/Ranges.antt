@@ -1,4 +1,4 @@
--- Where the units of a level, a limit, a rate and a step lie. Assumes nothing.
+-- Where the units of a level, a limit, a rate and a step lie.
 use mathlib.Core.Path.{_≡_, refl}
 use mathlib.Core.Bool.{Bool, true, false}
 use Prim.Native.Nat.{ℕ, _*_, _≤_, _<_, min}
@@ -6,10 +6,10 @@ use native.Mathlib.Omega.{arith}
 use lib.Dec.{leb, ltb, eqb, lit<}
 use lib.Ieee.{Float, nan, inf, fin, up, down}
 use lib.Ieee.Fits.{down-pos}
-use Rattle.lighting.specs.Choice.{if_then_else_, _also_}
+use Rattle.lighting.specs.Paper.Choice.{if_then_else_, _also_}
 use Rattle.lighting.specs.declared.Level.{Level}
 use Rattle.lighting.specs.declared.Level.the-variants.{Units, OutOfRange}
-use Rattle.lighting.specs.Level.{onePercent, leastLevel, greatestLevel, leastAmount, unitsIn, fromTo, realFromTo, levelOf, amountOf, limitOf, unitsOr, amountUnits, levelUnits}
+use Rattle.lighting.specs.Paper.Level.{onePercent, leastLevel, greatestLevel, leastAmount, unitsIn, fromTo, realFromTo, levelOf, amountOf, limitOf, unitsOr, amountUnits, levelUnits}
 use Rattle.lighting.proofs.Split.{also-both, le-of, passed}
 use Rattle.lighting.proofs.Rounding.{nearest-mono, nearest-whole}
 

@@ -1,4 +1,4 @@
--- What the reading of a frame leaves in range. Assumes nothing.
+-- What the reading of a frame leaves in range.
 use mathlib.Core.Path.{_≡_, refl}
 use mathlib.Core.Bool.{true}
 use mathlib.Core.List.{[], _∷_}
@@ -6,14 +6,14 @@ use Prim.Native.Nat.{ℕ, zero, suc, _+_, _-_, _*_, _^_, _≤_, _<_, min}
 use native.Mathlib.Omega.{arith}
 use lib.Dec.{leb, eqb}
 use lib.ListN.{length}
-use Rattle.lighting.specs.Choice.{if_then_else_}
-use Rattle.lighting.specs.Parameters.{standard}
-use Rattle.lighting.specs.Level.{leastLevel, greatestLevel, real, levelOf}
-use Rattle.lighting.specs.Field.{byteAt, bigEndian}
-use Rattle.lighting.specs.Rows.{isPriority}
-use Rattle.lighting.specs.Properties.{propertyOf}
-use Rattle.lighting.specs.Kinds.{kindRow, kindLength, callsBy, isCall}
-use Rattle.lighting.specs.Frames.{Bytes, Octets, writeLevel, writeOf, emptyOf, requestOf, callOf, called, clockOf, parseBy, parse}
+use Rattle.lighting.specs.Paper.Choice.{if_then_else_}
+use Rattle.lighting.specs.Paper.Parameters.{document01}
+use Rattle.lighting.specs.Paper.Level.{leastLevel, greatestLevel, real, levelOf}
+use Rattle.lighting.specs.Paper.Field.{byteAt, bigEndian}
+use Rattle.lighting.specs.Paper.Rows.{isPriority}
+use Rattle.lighting.specs.Paper.Properties.{propertyOf}
+use Rattle.lighting.specs.Paper.Kinds.{kindRow, kindLength, callsBy, isCall}
+use Rattle.lighting.specs.Paper.Frames.{Bytes, Octets, writeLevel, writeOf, emptyOf, requestOf, callOf, called, clockOf, parseBy, parse}
 use Rattle.lighting.specs.declared.Level.{Level}
 use Rattle.lighting.specs.declared.Level.the-variants.{Units, OutOfRange}
 use Rattle.lighting.specs.declared.Action.{Action}
@@ -26,17 +26,17 @@ use Rattle.lighting.specs.declared.Frame.the-variants.{Bad, Clock, Calls
 use Rattle.lighting.proofs.Split.{by-bool, by-eq, by-lt}
 use Rattle.lighting.proofs.Ranges.{level-units}
 use Rattle.lighting.proofs.Facts.{Slot}
-use Rattle.lighting.proofs.Good.{Good}
+use Rattle.lighting.proofs.RequestInRange.{RequestInRange}
 use Rattle.lighting.proofs.Rows.{priority-of, change-good}
-use Rattle.lighting.proofs.Operations.{ordered-good}
+use Rattle.lighting.proofs.Operations.{commandRequest-good}
 
 -- KINDS 02 TO 05
-level-good : (i : ℕ) (l : Level) → Slot i → ((v : ℕ) → l ≡ Units v → (leastLevel * min 1 v ≤ v) × (v ≤ greatestLevel)) → Good (writeLevel i l)
+level-good : (i : ℕ) (l : Level) → Slot i → ((v : ℕ) → l ≡ Units v → (leastLevel * min 1 v ≤ v) × (v ≤ greatestLevel)) → RequestInRange (writeLevel i l)
 unfolding writeLevel
 level-good i (Units v) g f = let r = f v refl in (g, record { least = r .0; most = r .1 })
 level-good i OutOfRange g f = omega arith
 
-request-good : (action : Action) (b : Bytes) → Good (requestOf standard action b)
+request-good : (action : Action) (b : Bytes) → RequestInRange (requestOf document01 action b)
 unfolding requestOf writeOf emptyOf if_then_else_
 request-good WritesLevel b =
     let n = byteAt b 13 in
@@ -46,17 +46,17 @@ request-good EmptiesSlot b =
     by-bool (isPriority (byteAt b 13)) (λ p. rw p (priority-of (byteAt b 13) p)) (λ p. rw p (omega arith))
 request-good WritesProperty b = change-good (propertyOf (byteAt b 13)) (bigEndian 4 b 14)
 request-good ReadsProperty b = tt
-request-good Stops b = ordered-good _ _
-request-good FadesTo b = ordered-good _ _
-request-good FadesToOver b = ordered-good _ _
-request-good RampsTo b = ordered-good _ _
-request-good RampsToAtRate b = ordered-good _ _
-request-good StepsUp b = ordered-good _ _
-request-good StepsDown b = ordered-good _ _
-request-good StepsUpBy b = ordered-good _ _
-request-good StepsDownBy b = ordered-good _ _
-request-good GoesTo b = ordered-good _ _
-request-good Relinquishes b = ordered-good _ _
+request-good Stops b = commandRequest-good _ _
+request-good FadesTo b = commandRequest-good _ _
+request-good FadesToOver b = commandRequest-good _ _
+request-good RampsTo b = commandRequest-good _ _
+request-good RampsToAtRate b = commandRequest-good _ _
+request-good StepsUp b = commandRequest-good _ _
+request-good StepsDown b = commandRequest-good _ _
+request-good StepsUpBy b = commandRequest-good _ _
+request-good StepsDownBy b = commandRequest-good _ _
+request-good GoesTo b = commandRequest-good _ _
+request-good Relinquishes b = commandRequest-good _ _
 
 -- A TIME of six bytes
 octet : (b : Bytes) (at : ℕ) → Octets b → byteAt b at < 256
@@ -84,18 +84,18 @@ pub record Called (c : ℕ) (b : Bytes) (call : Call) : Type 0 where
   pub number : 0 < call .number
   pub time : call .time < 2 ^ 48
   pub output : call .output < c
-  pub good : Good (call .request)
+  pub good : RequestInRange (call .request)
   -- the bytes are those of a call, and as many as its kind has
   pub sized : length b ≡ kindLength (byteAt b 0)
   pub kind : isCall (byteAt b 0) ≡ true
 
-abbrev pub Proper : ℕ → Bytes → Frame → Type 0
-Proper c b (Bad r) = 2 ≤ r
-Proper c b (Clock t) = t < 2 ^ 48
-Proper c b (Calls call) = Called c b call
+abbrev pub FrameInRange : ℕ → Bytes → Frame → Type 0
+FrameInRange c b (Bad r) = 2 ≤ r
+FrameInRange c b (Clock t) = t < 2 ^ 48
+FrameInRange c b (Calls call) = Called c b call
 
 called-proper : (c : ℕ) (b : Bytes) (action : Action) → Octets b → length b ≡ kindLength (byteAt b 0) → isCall (byteAt b 0) ≡ true
-    → Proper c b (called standard c (callOf standard action b))
+    → FrameInRange c b (called document01 c (callOf document01 action b))
 unfolding called callOf if_then_else_
 called-proper c b action h z y =
     by-lt
@@ -122,7 +122,7 @@ called-proper c b action h z y =
     (λ m e″. rw (e, e′, e″) (omega arith))))
     (λ l e. rw e (omega arith))
 
-proper-by : (c : ℕ) (b : Bytes) (k : Kind) → Octets b → kindRow (byteAt b 0) .kind ≡ k → Proper c b (parseBy standard c (kindLength (byteAt b 0)) k b)
+proper-by : (c : ℕ) (b : Bytes) (k : Kind) → Octets b → kindRow (byteAt b 0) .kind ≡ k → FrameInRange c b (parseBy document01 c (kindLength (byteAt b 0)) k b)
 unfolding parseBy clockOf if_then_else_
 proper-by c b NoKind h e = omega arith
 proper-by c b ClockKind h e =
@@ -134,6 +134,6 @@ proper-by c b (CallKind action) h e =
     (λ q e′. rw e′ (called-proper c b action h q (unfold isCall callsBy in (rw e))))
     (λ q e′. rw e′ (omega arith))
 
-pub proper : (c : ℕ) (b : Bytes) → Octets b → Proper c b (parse standard c b)
+pub proper : (c : ℕ) (b : Bytes) → Octets b → FrameInRange c b (parse document01 c b)
 unfolding parse
 proper c b h = unfold kindLength in (proper-by c b (kindRow (byteAt b 0) .kind) h refl)

@@ -1,4 +1,4 @@
--- A level is read out exactly, and comes back when it is written, unless it is one of 1 to 65,535. Assumes nothing.
+-- A level is read out exactly, and comes back when it is written, unless it is one of 1 to 65,535.
 use mathlib.Core.Path.{_≡_, sym, ap, _∙_}
 use mathlib.Core.Bool.{true, false, true≢false}
 use Prim.Native.Nat.{ℕ, suc, _*_, _^_, _≤_, _<_, min, max}
@@ -10,9 +10,9 @@ use lib.Ieee.Exact.{HasValue, round-exact}
 use lib.Ieee.Fits.{down-pos, round-fits}
 use lib.Ieee.Bits.{ofBits-toBits}
 use borrow.Author.Tests.{lt-ltb, le-ltb, le-leb, eq-eqb, ne-eqb}
-use Rattle.lighting.specs.Choice.{if_then_else_}
+use Rattle.lighting.specs.Paper.Choice.{if_then_else_}
 use Rattle.lighting.specs.declared.Level.the-variants.{Units}
-use Rattle.lighting.specs.Level.{onePercent, leastLevel, greatestLevel, real, bits, levelIn, levelOf, realOf, readOut}
+use Rattle.lighting.specs.Paper.Level.{onePercent, leastLevel, greatestLevel, real, bits, levelIn, levelOf, realOf, readOut}
 use Rattle.lighting.proofs.Split.{by-eq, by-lt}
 use Rattle.lighting.proofs.Rounding.{nearest-same, nearest-whole}
 

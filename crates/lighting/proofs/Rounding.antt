@@ -1,5 +1,5 @@
 -- The rounding fact, proved once: `nearestTo` sees only the value of a fraction, keeps the order, leaves a whole number as it is, and is within a half.
--- All but the last law, `a-half`, hold whichever way the rule sends a half. Assumes nothing.
+-- All but the last law, `a-half`, hold whichever way the rule sends a half.
 use mathlib.Core.Path.{_≡_, refl, sym, ap, subst}
 use mathlib.Core.Logic.{inl, inr}
 use mathlib.Core.Bool.{not}
@@ -9,7 +9,7 @@ use native.Mathlib.Omega.{arith}
 use lib.Dec.{T, isLe, isEq, eqb, leb→le, nleb→lt, eqb→eq, eqb-refl}
 use lib.Arith.{lt-of-le-ne}
 use lib.Ieee.Nearest.{div-mono}
-use Rattle.lighting.specs.Level.{rule, nearestTo}
+use Rattle.lighting.specs.Paper.Level.{rule, nearestTo}
 
 -- ---- what `compare` says
 abbrev Cmp : Ordering → ℕ → ℕ → Type 0

@@ -1,4 +1,4 @@
--- What a write of a property leaves meets the property's row, whichever it is. Assumes nothing.
+-- What a write of a property leaves meets the property's row, whichever it is.
 use mathlib.Core.Path.{_≡_, refl, sym, ap, _∙_}
 use mathlib.Core.Bool.{true, false≢true}
 use mathlib.Core.List.{List, [], _∷_}
@@ -6,11 +6,11 @@ use Prim.Native.Nat.{ℕ, _+_, _-_, _≤_, _<_, max}
 use native.Mathlib.Omega.{arith}
 use native.Mathlib.Nat.{add-sub-cancel-left}
 use lib.Dec.{leb}
-use Rattle.lighting.specs.Choice.{if_then_else_}
-use Rattle.lighting.specs.Parameters.{standard}
-use Rattle.lighting.specs.Level.{real, levelOf, limitOf}
-use Rattle.lighting.specs.Rows.{rowOf, within, isAmount, isPriority}
-use Rattle.lighting.specs.Properties.{numberOf, properties, numbered, propertyOf, same, changeTo, changeBy, changeOf}
+use Rattle.lighting.specs.Paper.Choice.{if_then_else_}
+use Rattle.lighting.specs.Paper.Parameters.{document01}
+use Rattle.lighting.specs.Paper.Level.{real, levelOf, limitOf}
+use Rattle.lighting.specs.Paper.Rows.{rowOf, within, isAmount, isPriority}
+use Rattle.lighting.specs.Paper.Properties.{numberOf, properties, numbered, propertyOf, same, changeTo, changeBy, changeOf}
 use Rattle.lighting.specs.declared.Level.{Level}
 use Rattle.lighting.specs.declared.Level.the-variants.{Units, OutOfRange}
 use Rattle.lighting.specs.declared.Property.{Property}
@@ -22,19 +22,19 @@ use Rattle.lighting.proofs.Split.{by-bool, by-eq, by-lt, leb-yes, eq-of
 use Rattle.lighting.proofs.Ranges.{level-units, limit-units}
 use Rattle.lighting.proofs.Facts.{Slot, Meets}
 use Rattle.lighting.proofs.Tied.{within-of, slot-of}
-use Rattle.lighting.proofs.Good.{Good}
+use Rattle.lighting.proofs.RequestInRange.{RequestInRange}
 
 -- A WRITE's request is good, by the row
 pub priority-of : (n : ℕ) → isPriority n ≡ true → Slot (n - 1)
 unfolding isPriority if_then_else_
 priority-of n h = by-eq n 0 (λ p e. absurd (false≢true (rw e at h))) (λ p e. slot-of (n - 1) (rw e at h))
 
-to-good : (n : Property) (l : Level) → ((v : ℕ) → l ≡ Units v → Good (Change n v)) → Good (changeTo n l)
+to-good : (n : Property) (l : Level) → ((v : ℕ) → l ≡ Units v → RequestInRange (Change n v)) → RequestInRange (changeTo n l)
 unfolding changeTo
 to-good n (Units v) f = f v refl
 to-good n OutOfRange f = omega arith
 
-row-good : (r : Range) (n : Property) (x : ℕ) → ((v : ℕ) → Meets r v → Good (Change n v)) → Good (changeBy r n x)
+row-good : (r : Range) (n : Property) (x : ℕ) → ((v : ℕ) → Meets r v → RequestInRange (Change n v)) → RequestInRange (changeBy r n x)
 unfolding changeBy if_then_else_
 row-good Percent n x f = to-good n (levelOf (real x)) (λ v e. let u = level-units (real x) v e in f v (record { least = u .0; most = u .1 }))
 row-good Limit n x f = to-good n (limitOf (real x)) (λ v e. let u = limit-units (real x) v e in f v (record { least = u .0; most = u .1 }))
@@ -43,9 +43,9 @@ row-good (Whole low high) n x f = by-bool (within low high x) (λ e. rw e (f x (
 row-good Priority n x f = by-bool (isPriority x) (λ e. rw e (f (x - 1) (priority-of x e))) (λ e. rw e (omega arith))
 row-good ReadOnly n x f = omega arith
 
-pub change-good : (n : Property) (x : ℕ) → Good (changeOf standard n x)
+pub change-good : (n : Property) (x : ℕ) → RequestInRange (changeOf document01 n x)
 unfolding changeOf
-change-good n x = row-good (rowOf standard n) n x (λ v m. m)
+change-good n x = row-good (rowOf document01 n) n x (λ v m. m)
 
 -- THE NUMBER AND THE TABLE of properties say the same: by its number a property is found again, unless it is a slot past the sixteenth
 by-number : {P : Type 0} (n : Property) → (propertyOf (numberOf n) ≡ n → P) → ((i : ℕ) → 16 ≤ i → n ≡ SlotValue i → P) → P
@@ -96,19 +96,19 @@ pub unlisted : (n : ℕ) → 0x14 < n → numbered properties n ≡ Unknown
 unlisted n h = past-most properties n h
 
 -- THE SAME PROPERTY has the same row: the number says which it is
-row-number : (n : Property) → rowOf standard (propertyOf (numberOf n)) ≡ rowOf standard n
-row-number n = by-number n (λ e. ap (rowOf standard) e) (λ i l q. rw q (beyond i))
+row-number : (n : Property) → rowOf document01 (propertyOf (numberOf n)) ≡ rowOf document01 n
+row-number n = by-number n (λ e. ap (rowOf document01) e) (λ i l q. rw q (beyond i))
   where
-    beyond : (i : ℕ) → rowOf standard (propertyOf (numberOf (SlotValue i))) ≡ ReadOnly
+    beyond : (i : ℕ) → rowOf document01 (propertyOf (numberOf (SlotValue i))) ≡ ReadOnly
     beyond i = unfold propertyOf numbered if_then_else_ in (rw (leb-yes {a = 0x21} {b = 0x21 + i} (omega arith)) (by-bool (leb (0x21 + i) 0x30) (λ e. rw e) (λ e. rw e)))
 
-pub same-row : (n m : Property) → same n m ≡ true → rowOf standard n ≡ rowOf standard m
+pub same-row : (n m : Property) → same n m ≡ true → rowOf document01 n ≡ rowOf document01 m
 unfolding same
 same-row n m h =
-    sym (row-number n) ∙ ap (λ (k : ℕ). rowOf standard (propertyOf k)) (eq-of h) ∙ row-number m
+    sym (row-number n) ∙ ap (λ (k : ℕ). rowOf document01 (propertyOf k)) (eq-of h) ∙ row-number m
 
 -- A FIELD that takes the value of a write of its own property keeps its row
-pub kept-met : (field n : Property) (v old : ℕ) → Meets (rowOf standard n) v → Meets (rowOf standard field) old
-    → Meets (rowOf standard field) (if same field n then v else old)
+pub kept-met : (field n : Property) (v old : ℕ) → Meets (rowOf document01 n) v → Meets (rowOf document01 field) old
+    → Meets (rowOf document01 field) (if same field n then v else old)
 unfolding if_then_else_
 kept-met field n v old g h = by-bool (same field n) (λ e. rw e (rw (same-row field n e) g)) (λ e. rw e h)

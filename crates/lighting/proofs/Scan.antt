@@ -1,17 +1,17 @@
--- A loop that tests one number after another, up to e: what a turn, an early end and its end say of the whole test. Assumes nothing.
+-- A loop that tests one number after another, up to e: what a turn, an early end and its end say of the whole test.
 use Prim.Native.Nat.{ℕ, zero, suc, _+_, _-_, _≤_, _<_}
 use mathlib.Core.Path.{_≡_, refl, sym, ap, _∙_}
 use mathlib.Core.Bool.{Bool, true, false}
 use native.Mathlib.Omega.{arith}
-use Rattle.lighting.specs.Choice.{if_then_else_, _also_, allFrom}
+use Rattle.lighting.specs.Paper.Choice.{if_then_else_, _also_, allFrom}
 use Rattle.lighting.proofs.Split.{also-both, also-yes, by-eq, by-lt}
 
 module _ (t : ℕ → Bool) (e : ℕ) where
   opened : (i : ℕ) (b : Bool) → i < e → t i ≡ b → allFrom t (e - i) i ≡ (b also allFrom t (e - (i + 1)) (i + 1))
   unfolding allFrom
   opened i b h q =
-      let left : e - i ≡ suc (e - (i + 1)) = omega arith in
-      ap (λ (n : ℕ). allFrom t n i) left ∙ ap (λ (x : Bool). x also allFrom t (e - (i + 1)) (i + 1)) q
+      let unchanged : e - i ≡ suc (e - (i + 1)) = omega arith in
+      ap (λ (n : ℕ). allFrom t n i) unchanged ∙ ap (λ (x : Bool). x also allFrom t (e - (i + 1)) (i + 1)) q
 
   pub scan-on : (i : ℕ) → i < e → t i ≡ true → allFrom t (e - i) i ≡ allFrom t (e - (i + 1)) (i + 1)
   unfolding if_then_else_

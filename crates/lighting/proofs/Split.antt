@@ -1,11 +1,11 @@
 -- Splitting a proof on a test that computes. Each lemma hands both cases the fact on the numbers and the test's value as an equation,
--- so that `rw` can put the value into the goal; the goal is read off where the lemma is called. Assumes nothing.
+-- so that `rw` can put the value into the goal; the goal is read off where the lemma is called.
 use mathlib.Core.Path.{_≡_, refl, sym, _∙_}
 use mathlib.Core.Logic.{_≢_}
 use mathlib.Core.Bool.{Bool, true, false, false≢true}
 use Prim.Native.Nat.{ℕ, suc, _≤_, _<_}
 use native.Mathlib.Omega.{arith}
-use Rattle.lighting.specs.Choice.{if_then_else_, _also_}
+use Rattle.lighting.specs.Paper.Choice.{if_then_else_, _also_}
 use lib.Dec.{T, leb, ltb, eqb, leb→le, le→leb, eqb→eq, eqb-refl, nleb→lt}
 
 -- A CONJUNCTION, made and taken apart

@@ -1,5 +1,5 @@
 -- All outputs of a table at once: the laws of time passing, of acting and of the record rules that the list theorem stands on. It asks
--- nothing else of an output or of a request. Assumes nothing.
+-- nothing else of an output or of a request.
 use mathlib.Core.Path.{_≡_, refl, sym, ap, ap₂, _∙_}
 use mathlib.Core.Bool.{true}
 use mathlib.Core.List.{List, [], _∷_, map}
@@ -8,18 +8,19 @@ use native.Mathlib.Nat.{sub-self}
 use native.Mathlib.Omega.{arith}
 use lib.Ieee.{ofBits}
 use lib.ListN.{set, getD, length, replicate, length-set}
-use Rattle.lighting.specs.Choice.{if_then_else_, allFrom}
-use Rattle.lighting.specs.Parameters.{standard}
-use Rattle.lighting.specs.Level.{real, amountOf, inRange}
-use Rattle.lighting.specs.Slots.{view, slotsOf, lives, firstLive, winner, levelAt, topmost}
-use Rattle.lighting.specs.Value.{brought, presentValue}
-use Rattle.lighting.specs.Passing.{top, tick, ticks, advance}
-use Rattle.lighting.specs.Rows.{within, isLevel, isAmount, isSlot, meets, meetsReal}
-use Rattle.lighting.specs.Rules.{levelsSound, timesSound, realsSound, settingsSound, slotSound, slotsSoundFrom, activityBy, activitySound, timerSound, sound}
-use Rattle.lighting.specs.Fresh.{freshSettings, freshOutput}
-use Rattle.lighting.specs.Acting.{served, acted}
-use Rattle.lighting.specs.Panel.{every}
-use Rattle.lighting.specs.Plain.{Plain, lived}
+use Rattle.lighting.specs.Paper.Choice.{if_then_else_, allFrom}
+use Rattle.lighting.specs.Paper.Parameters.{document01}
+use Rattle.lighting.specs.Paper.Level.{real, amountOf, inRange}
+use Rattle.lighting.specs.Paper.Slots.{view, slotsOf, isLive, firstLive, winner, levelAt, winningLevel}
+use Rattle.lighting.specs.Paper.Value.{clampLit, presentValue}
+use Rattle.lighting.specs.Engine.Advance.{greatestCount, advance}
+use Rattle.lighting.specs.Paper.Passing.{tick, ticks}
+use Rattle.lighting.specs.Paper.Rows.{within, isLevel, isAmount, isSlot, meets, meetsReal}
+use Rattle.lighting.specs.Paper.Rules.{levelsSound, timesSound, realsSound, settingsSound, slotSound, slotsSoundFrom, activityBy, activitySound, timerSound, sound}
+use Rattle.lighting.specs.Paper.Fresh.{freshSettings, freshOutput}
+use Rattle.lighting.specs.Paper.Acting.{served, acted}
+use Rattle.lighting.specs.Paper.Panel.{every}
+use Rattle.lighting.specs.Paper.Plain.{Plain, runPlain}
 use Rattle.lighting.specs.declared.Request.{Request}
 use Rattle.lighting.specs.declared.Output.{Output}
 use Rattle.lighting.proofs.Split.{also-yes}
@@ -27,7 +28,7 @@ use Rattle.lighting.proofs.Passing.{advance-ticks}
 use Rattle.lighting.proofs.Facts.{Sound}
 use Rattle.lighting.proofs.Tied.{sound-facts, facts-sound, sound-calm}
 use Rattle.lighting.proofs.Ticking.{advance-sound}
-use Rattle.lighting.proofs.Good.{Good}
+use Rattle.lighting.proofs.RequestInRange.{RequestInRange}
 use Rattle.lighting.proofs.Acted.{acted-sound}
 use Rattle.lighting.proofs.Answered.{NotOne, acted-not-one}
 
@@ -36,13 +37,13 @@ AllSound t [] = Unit {0}
 AllSound t (o ∷ l) = Sound t o × AllSound t l
 
 -- THE RULES
-pub all-tested : (t : ℕ) (l : List Output) → AllSound t l → every (sound standard t) l ≡ true
+pub all-tested : (t : ℕ) (l : List Output) → AllSound t l → every (sound document01 t) l ≡ true
 unfolding every
 all-tested t [] a = refl
 all-tested t (o ∷ l) a = also-yes (facts-sound t o (a .0)) (all-tested t l (a .1))
 
-fresh-tested : sound standard 0 freshOutput ≡ true
-unfolding if_then_else_ allFrom real ofBits amountOf inRange view slotsOf lives firstLive winner levelAt topmost brought presentValue within isLevel isAmount isSlot meets meetsReal levelsSound timesSound realsSound settingsSound slotSound slotsSoundFrom activityBy activitySound timerSound sound freshSettings freshOutput
+fresh-tested : sound document01 0 freshOutput ≡ true
+unfolding if_then_else_ allFrom real ofBits amountOf inRange view slotsOf isLive firstLive winner levelAt winningLevel clampLit presentValue within isLevel isAmount isSlot meets meetsReal levelsSound timesSound realsSound settingsSound slotSound slotsSoundFrom activityBy activitySound timerSound sound freshSettings freshOutput
 fresh-tested = refl
 
 fresh-sound : Sound 0 freshOutput
@@ -63,7 +64,7 @@ unfolding ticks
 map-more n t [] = refl
 map-more n t (o ∷ l) = ap (λ (k : List Output). ticks n (suc t) (tick t o) ∷ k) (map-more n t l)
 
-map-advance : (now to : ℕ) (l : List Output) → now ≤ to → to ≤ top → AllSound now l → map (ticks (to - now) now) l ≡ map (advance now to) l
+map-advance : (now to : ℕ) (l : List Output) → now ≤ to → to ≤ greatestCount → AllSound now l → map (ticks (to - now) now) l ≡ map (advance now to) l
 map-advance now to [] h b a = refl
 map-advance now to (o ∷ l) h b a =
     ap₂
@@ -71,34 +72,34 @@ map-advance now to (o ∷ l) h b a =
     (sym (advance-ticks now to o h b (sound-calm now o (a .0))))
     (map-advance now to l h b (a .1))
 
-lived-ticks : (n : ℕ) (p : Plain) → lived n p ≡ record { outputs = map (ticks n (p .time)) (p .outputs); time = p .time + n }
-unfolding lived
-lived-ticks zero p =
+runPlain-ticks : (n : ℕ) (p : Plain) → runPlain n p ≡ record { outputs = map (ticks n (p .time)) (p .outputs); time = p .time + n }
+unfolding runPlain
+runPlain-ticks zero p =
     ap₂
     (λ (l : List Output) (t : ℕ). record { outputs = l; time = t })
     (map-none (p .time) (p .outputs))
     (omega arith)
-lived-ticks (suc n) p =
-    lived-ticks n (record { outputs = map (tick (p .time)) (p .outputs); time = suc (p .time) })
+runPlain-ticks (suc n) p =
+    runPlain-ticks n (record { outputs = map (tick (p .time)) (p .outputs); time = suc (p .time) })
     ∙ ap₂
     (λ (l : List Output) (t : ℕ). record { outputs = l; time = t })
     (map-more n (p .time) (p .outputs))
     (omega arith)
 
-pub lived-advance : (t : ℕ) (p : Plain) → p .time ≤ t → t ≤ top → AllSound (p .time) (p .outputs)
-    → lived (t - p .time) p ≡ record { outputs = map (advance (p .time) t) (p .outputs); time = t }
-lived-advance t p h b a =
-    lived-ticks (t - p .time) p
+pub runPlain-advance : (t : ℕ) (p : Plain) → p .time ≤ t → t ≤ greatestCount → AllSound (p .time) (p .outputs)
+    → runPlain (t - p .time) p ≡ record { outputs = map (advance (p .time) t) (p .outputs); time = t }
+runPlain-advance t p h b a =
+    runPlain-ticks (t - p .time) p
     ∙ ap₂
     (λ (l : List Output) (t : ℕ). record { outputs = l; time = t })
     (map-advance (p .time) t (p .outputs) h b a)
     (omega arith)
 
-pub advance-here : (t : ℕ) (l : List Output) → t ≤ top → AllSound t l → map (advance t t) l ≡ l
+pub advance-here : (t : ℕ) (l : List Output) → t ≤ greatestCount → AllSound t l → map (advance t t) l ≡ l
 advance-here t l b a =
     sym (map-advance t t l (omega arith) b a) ∙ rw (sub-self t) (sym (map-none t l))
 
-pub all-advance : (now to : ℕ) (l : List Output) → now ≤ to → to ≤ top → AllSound now l → AllSound to (map (advance now to) l)
+pub all-advance : (now to : ℕ) (l : List Output) → now ≤ to → to ≤ greatestCount → AllSound now l → AllSound to (map (advance now to) l)
 all-advance now to [] h b a = tt
 all-advance now to (o ∷ l) h b a = (advance-sound now to o h b (a .0), all-advance now to l h b (a .1))
 
@@ -113,7 +114,7 @@ all-get t [] i h a = absurd (omega arith)
 all-get t (x ∷ l) zero h a = a .0
 all-get t (x ∷ l) (suc i) h a = all-get t l i (omega arith) (a .1)
 
-pub served-sound : (t : ℕ) (l : List Output) (s i : ℕ) (r : Request) → Good r → i < length l → AllSound t l → AllSound t (served t l s i r .outputs)
+pub served-sound : (t : ℕ) (l : List Output) (s i : ℕ) (r : Request) → RequestInRange r → i < length l → AllSound t l → AllSound t (served t l s i r .outputs)
 unfolding served
 served-sound t l s i r g h a =
     all-set t l i (acted t (getD l i freshOutput) r .output) a (acted-sound t (getD l i freshOutput) r g (all-get t l i h a))
@@ -122,6 +123,6 @@ pub served-length : (t : ℕ) (l : List Output) (s i : ℕ) (r : Request) → le
 unfolding served
 served-length t l s i r = length-set l i (acted t (getD l i freshOutput) r .output)
 
-pub served-not-one : (t : ℕ) (l : List Output) (s i : ℕ) (r : Request) → Good r → NotOne (served t l s i r .answer)
+pub served-not-one : (t : ℕ) (l : List Output) (s i : ℕ) (r : Request) → RequestInRange r → NotOne (served t l s i r .answer)
 unfolding served
 served-not-one t l s i r g = acted-not-one t (getD l i freshOutput) r g

@@ -1,4 +1,4 @@
--- A tick keeps the record rules, and so does the engine's way. Assumes nothing.
+-- A tick keeps the record rules, and so does the engine's way.
 use mathlib.Core.Path.{_≡_, _∙_}
 use mathlib.Core.Logic.{_≢_}
 use mathlib.Core.Bool.{true}
@@ -6,7 +6,7 @@ use mathlib.Core.Option.{none, some}
 use Prim.Native.Nat.{ℕ, zero, suc, _+_, _-_, _≤_}
 use native.Mathlib.Nat.{add-zero}
 use native.Mathlib.Omega.{arith}
-use Rattle.lighting.specs.Choice.{if_then_else_}
+use Rattle.lighting.specs.Paper.Choice.{if_then_else_}
 use Rattle.lighting.proofs.Split.{by-eq, by-lt, by-bool}
 use Rattle.lighting.specs.declared.Settings.{Settings}
 use Rattle.lighting.specs.declared.Phase.{Phase}
@@ -17,11 +17,12 @@ use Rattle.lighting.specs.declared.Activity.the-variants.{Still, Moving,
 use Rattle.lighting.specs.declared.Timer.{Timer}
 use Rattle.lighting.specs.declared.Timer.the-variants.{Off, Running}
 use Rattle.lighting.specs.declared.Output.{Output}
-use Rattle.lighting.specs.Slots.{slot6, Slots, lives, emptied}
-use Rattle.lighting.proofs.Winner.{winner-empty, topmost-empty, six-kept, six-set}
-use Rattle.lighting.specs.Value.{presentValue}
-use Rattle.lighting.specs.Passing.{withBurning, burned, timerDue, phaseEnd, activityDue, isDue, timerAt, emptiedBy, expired, disowned, disownedBy, released, delayed, nextPhase, nextActivity, activityAt, phaseSlots, nextSlots, slotsAt, settled, fire, tick, ticks, top, advance}
-use Rattle.lighting.proofs.Passing.{glowing-le, advance-ticks}
+use Rattle.lighting.specs.Paper.Slots.{slot6, Slots, isLive, emptied}
+use Rattle.lighting.proofs.Winner.{winner-empty, winningLevel-empty, six-kept, six-set}
+use Rattle.lighting.specs.Paper.Value.{presentValue}
+use Rattle.lighting.specs.Paper.Passing.{withBurning, withBurned, timerDue, phaseEnd, activityDue, isDue, timerAt, emptiedBy, expired, endMovementOf, endMovementBy, endMovementOnExpiry, delayed, nextPhase, nextActivity, activityAt, phaseSlots, nextSlots, slotsAt, afterEvents, fire, tick, ticks}
+use Rattle.lighting.specs.Engine.Advance.{greatestCount, advance}
+use Rattle.lighting.proofs.Passing.{litMilliseconds-le, advance-ticks}
 use Rattle.lighting.proofs.Facts.{IsLevel, Within, Slot, Filled, Moves, Acts, Timed, Sound}
 use Rattle.lighting.proofs.Tied.{sound-calm}
 use Rattle.lighting.proofs.Levels.{put-filled}
@@ -32,34 +33,34 @@ record Effect (t : ℕ) (c : Settings) (s : Slots) (a : Activity) : Type 0 where
   activity : Acts t c s a
 
 -- THE DURATION
-pub disowned-acts : (t : ℕ) (c : Settings) (s : Slots) (q : ℕ) (a : Activity) → Slot q → Filled s → Acts t c s a
-    → Acts t c (emptied s q) (disowned q a)
-unfolding disowned if_then_else_
-disowned-acts t c s q Still g f h = six-kept s (f .size) q none (g .inside) (g .free) ∙ h
-disowned-acts t c s q (Moving m) g f h =
+pub endMovementOf-acts : (t : ℕ) (c : Settings) (s : Slots) (q : ℕ) (a : Activity) → Slot q → Filled s → Acts t c s a
+    → Acts t c (emptied s q) (endMovementOf q a)
+unfolding endMovementOf if_then_else_
+endMovementOf-acts t c s q Still g f h = six-kept s (f .size) q none (g .inside) (g .free) ∙ h
+endMovementOf-acts t c s q (Moving m) g f h =
     let k = six-kept s (f .size) q none (g .inside) (g .free) in
     by-eq (m .owner) q (λ p e. rw e (k ∙ h .six)) (λ p e. rw e (goes-on p k))
   where
-    goes-on : m .owner ≢ q → lives (emptied s q) slot6 ≡ lives s slot6 → Moves t c (emptied s q) m
+    goes-on : m .owner ≢ q → isLive (emptied s q) slot6 ≡ isLive s slot6 → Moves t c (emptied s q) m
     goes-on n k =
         let w = winner-empty s (f .size) q (g .inside) (omega (arith, h .wins)) in
-        let p = topmost-empty s (f .size) (c .default) q (g .inside) (omega (arith, h .wins)) in
+        let p = winningLevel-empty s (f .size) (c .default) q (g .inside) (omega (arith, h .wins)) in
         unfold presentValue in search arith
-disowned-acts t c s q (Warned w) g f h = let k = six-kept s (f .size) q none (g .inside) (g .free) in search
+endMovementOf-acts t c s q (Warned w) g f h = let k = six-kept s (f .size) q none (g .inside) (g .free) in search
 
 expired-effect : (t d : ℕ) (c : Settings) (s : Slots) (m : Timer) (a : Activity) → Timed t m → Filled s → Acts t c s a
-    → Effect t c (expired d m s) (released d m a)
-unfolding expired released if_then_else_
+    → Effect t c (expired d m s) (endMovementOnExpiry d m a)
+unfolding expired endMovementOnExpiry if_then_else_
 expired-effect t d c s m a k f h =
     by-bool (isDue d (timerDue m)) (λ e. rw e (falls m k)) (λ e. rw e (record { slots = f; activity = h }))
   where
-    falls : (n : Timer) → Timed t n → Effect t c (emptiedBy n s) (disownedBy n a)
-    falls Off k = unfold emptiedBy disownedBy in (record { slots = f; activity = h })
-    falls (Running q e) k = unfold emptiedBy disownedBy in
-        (record { slots = put-filled s q none f (k .0 .inside) tt; activity = disowned-acts t c s q a (k .0) f h })
+    falls : (n : Timer) → Timed t n → Effect t c (emptiedBy n s) (endMovementBy n a)
+    falls Off k = unfold emptiedBy endMovementBy in (record { slots = f; activity = h })
+    falls (Running q e) k = unfold emptiedBy endMovementBy in
+        (record { slots = put-filled s q none f (k .0 .inside) tt; activity = endMovementOf-acts t c s q a (k .0) f h })
 
 -- THE WARNING AND THE MOVEMENT
-phase-effect : (t : ℕ) (c : Settings) (s : Slots) (w : Warning) (p : Phase) → Filled s → lives s slot6 ≡ true → Within 6 15 (w .owner)
+phase-effect : (t : ℕ) (c : Settings) (s : Slots) (w : Warning) (p : Phase) → Filled s → isLive s slot6 ≡ true → Within 6 15 (w .owner)
     → IsLevel (w .level) → phaseEnd w p ≡ t → Effect t c (phaseSlots w p s) (nextPhase w p)
 unfolding phaseSlots nextPhase delayed phaseEnd if_then_else_
 phase-effect t c s w Blink f l x y h =
@@ -100,16 +101,16 @@ next-timer t Off h = tt
 next-timer t (Running q d) h = by-eq d (suc t) (λ p e. rw e tt) (λ p e. rw e (h .0, omega (arith, h .1)))
 
 pub tick-sound : (t : ℕ) (o : Output) → Sound t o → Sound (suc t) (tick t o)
-unfolding tick fire settled burned withBurning
+unfolding tick fire afterEvents withBurned withBurning
 tick-sound t o h =
     let x = expired-effect t (suc t) (o .settings) (o .slots) (o .timer) (o .activity) (h .timer) (h .slots) (h .activity) in
-    let n = next-effect t (o .settings) (expired (suc t) (o .timer) (o .slots)) (released (suc t) (o .timer) (o .activity)) (x .slots) (x .activity) in
+    let n = next-effect t (o .settings) (expired (suc t) (o .timer) (o .slots)) (endMovementOnExpiry (suc t) (o .timer) (o .activity)) (x .slots) (x .activity) in
     record {
       settings = h .settings;
       slots = n .slots;
       activity = n .activity;
       timer = next-timer t (o .timer) (h .timer);
-      burnt = omega (arith, glowing-le t 1 o, h .burnt);
+      burnt = omega (arith, litMilliseconds-le t 1 o, h .burnt);
     }
 
 ticks-sound : (n t : ℕ) (o : Output) → Sound t o → Sound (t + n) (ticks n t o)
@@ -119,7 +120,7 @@ ticks-sound (suc n) t o h =
     let e : t + suc n ≡ suc t + n = omega arith in rw e (ticks-sound n (suc t) (tick t o) (tick-sound t o h))
 
 -- so the engine keeps them too
-pub advance-sound : (now to : ℕ) (o : Output) → now ≤ to → to ≤ top → Sound now o → Sound to (advance now to o)
+pub advance-sound : (now to : ℕ) (o : Output) → now ≤ to → to ≤ greatestCount → Sound now o → Sound to (advance now to o)
 advance-sound now to o l m h =
     let e : now + (to - now) ≡ to = omega arith in
     rw (advance-ticks now to o l m (sound-calm now o h)) (rw e at (ticks-sound (to - now) now o h))

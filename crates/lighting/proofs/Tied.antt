@@ -1,4 +1,4 @@
--- The test of the record rules holds exactly where their facts do. An array's length is part of the code's type. Assumes nothing.
+-- The test of the record rules holds exactly where their facts do. An array's length is part of the code's type.
 use mathlib.Core.Path.{_≡_, refl, _∙_}
 use mathlib.Core.Bool.{true, false, false≢true}
 use Prim.Native.Nat.{ℕ, _-_, _≤_, _<_}
@@ -6,7 +6,7 @@ use native.Mathlib.Nat.{sub-self}
 use native.Mathlib.Omega.{arith}
 use lib.ListN.{length, getD}
 use borrow.Author.Tests.{not-true}
-use Rattle.lighting.specs.Choice.{if_then_else_}
+use Rattle.lighting.specs.Paper.Choice.{if_then_else_}
 use Rattle.lighting.proofs.Split.{unless, by-eq, by-bool, le-of, leb-yes, eqb-miss, parts, tests}
 use Rattle.lighting.proofs.Scan.{all-each, each-all}
 use Rattle.lighting.specs.declared.Settings.{Settings}
@@ -16,18 +16,19 @@ use Rattle.lighting.specs.declared.Activity.the-variants.{Still, Moving,
 use Rattle.lighting.specs.declared.Timer.{Timer}
 use Rattle.lighting.specs.declared.Timer.the-variants.{Off, Running}
 use Rattle.lighting.specs.declared.Output.{Output}
-use Rattle.lighting.specs.Slots.{slotCount, slot6, Slots, lives, winner, slot}
+use Rattle.lighting.specs.Paper.Slots.{slotCount, slot6, Slots, isLive, winner, slot}
 use Rattle.lighting.proofs.Mask.{slot-is}
-use Rattle.lighting.specs.Value.{presentValue}
-use Rattle.lighting.specs.Passing.{top, timerDue, activityDue, ticks, advance}
+use Rattle.lighting.specs.Paper.Value.{presentValue}
+use Rattle.lighting.specs.Engine.Advance.{greatestCount, advance}
+use Rattle.lighting.specs.Paper.Passing.{timerDue, activityDue, ticks}
 use Rattle.lighting.proofs.Passing.{advance-ticks, Calm, MomentAfter}
-use Rattle.lighting.specs.Parameters.{standard}
-use Rattle.lighting.specs.Rows.{within, isSlot, meets}
-use Rattle.lighting.specs.Rules.{isLevel, levelsSound, timesSound, realsSound, settingsSound, slotSound, slotsSoundFrom, spanSound, movementSound, warningBy, warningSound, activityBy, activitySound, timerSound, sound}
+use Rattle.lighting.specs.Paper.Parameters.{document01}
+use Rattle.lighting.specs.Paper.Rows.{within, isSlot, meets}
+use Rattle.lighting.specs.Paper.Rules.{isLevel, levelsSound, timesSound, realsSound, settingsSound, slotSound, slotsSoundFrom, spanSound, movementSound, warningBy, warningSound, activityBy, activitySound, timerSound, sound}
 use Rattle.lighting.specs.declared.Range.{Range}
 use Rattle.lighting.specs.declared.Range.the-variants.{Percent, Limit, Amount, Whole, Priority, ReadOnly}
-use Rattle.lighting.proofs.Facts.{IsLevel, Within, Slot, Meets, Settled, SlotLevel, Filled, Moves, Acts, Timed, Sound}
-use Rattle.lighting.specs.Level.{leastLevel, greatestLevel}
+use Rattle.lighting.proofs.Facts.{IsLevel, Within, Slot, Meets, SettingsInRange, SlotLevel, Filled, Moves, Acts, Timed, Sound}
+use Rattle.lighting.specs.Paper.Level.{leastLevel, greatestLevel}
 
 -- FROM THE TEST TO THE FACTS
 pub within-of : (low high v : ℕ) → within low high v ≡ true → Within low high v
@@ -53,9 +54,9 @@ meets-of (Whole low high) v h = within-of low high v h
 meets-of Priority v h = slot-of v h
 meets-of ReadOnly v h = false≢true h
 
-settled-of : (c : Settings) → settingsSound standard c ≡ true → Settled c
+afterEvents-of : (c : Settings) → settingsSound document01 c ≡ true → SettingsInRange c
 unfolding settingsSound levelsSound timesSound realsSound meets
-settled-of c h = search (parts, within-of, level-of, slot-of)
+afterEvents-of c h = search (parts, within-of, level-of, slot-of)
 
 filled-of : (s : Slots) → length (s .levels) ≡ slotCount → slotsSoundFrom s 0 ≡ true → Filled s
 unfolding slotsSoundFrom
@@ -65,16 +66,16 @@ filled-of s size h =
     at : (i : ℕ) → i < slotCount → slotSound s i ≡ true → SlotLevel (slot s i)
     at i k e =
         rw (slot-is s i (omega arith)) (unfold slotSound if_then_else_ in
-        (by-bool (lives s i) (λ p. rw p (level-of (getD (s .levels) i 0) (rw p at e))) (λ p. rw p tt)))
+        (by-bool (isLive s i) (λ p. rw p (level-of (getD (s .levels) i 0) (rw p at e))) (λ p. rw p tt)))
 
-moves-of : (t : ℕ) (c : Settings) (s : Slots) (m : Movement) → lives s slot6 ≡ false
-    → movementSound standard t (winner s) (c .max) (presentValue c s) m ≡ true → Moves t c s m
+moves-of : (t : ℕ) (c : Settings) (s : Slots) (m : Movement) → isLive s slot6 ≡ false
+    → movementSound document01 t (winner s) (c .max) (presentValue c s) m ≡ true → Moves t c s m
 unfolding movementSound spanSound
 moves-of t c s m l h = search (parts, within-of) depth 8
 
-acts-of : (t : ℕ) (c : Settings) (s : Slots) (a : Activity) → activitySound standard t c s a ≡ true → Acts t c s a
+acts-of : (t : ℕ) (c : Settings) (s : Slots) (a : Activity) → activitySound document01 t c s a ≡ true → Acts t c s a
 unfolding activitySound activityBy warningSound warningBy
-acts-of t c s Still h = not-true (lives s slot6) h
+acts-of t c s Still h = not-true (isLive s slot6) h
 acts-of t c s (Moving m) h = moves-of t c s m (unless h .0) (unless h .1)
 acts-of t c s (Warned w) h = search (parts, within-of, level-of)
 
@@ -83,9 +84,9 @@ unfolding timerSound
 timed-of t Off h = tt
 timed-of t (Running slot due) h = search (parts, slot-of)
 
-pub sound-facts : (t : ℕ) (o : Output) → length (o .slots .levels) ≡ slotCount → sound standard t o ≡ true → Sound t o
+pub sound-facts : (t : ℕ) (o : Output) → length (o .slots .levels) ≡ slotCount → sound document01 t o ≡ true → Sound t o
 unfolding sound
-sound-facts t o size h = search (parts, settled-of, filled-of, acts-of, timed-of)
+sound-facts t o size h = search (parts, afterEvents-of, filled-of, acts-of, timed-of)
 
 -- FROM THE FACTS TO THE TEST
 within-yes : (low high v : ℕ) → Within low high v → within low high v ≡ true
@@ -101,9 +102,9 @@ slot-yes : (i : ℕ) → Slot i → isSlot i ≡ true
 unfolding isSlot if_then_else_
 slot-yes i h = rw (eqb-miss (h .free)) (leb-yes (h .inside))
 
-settled-yes : (c : Settings) → Settled c → settingsSound standard c ≡ true
+afterEvents-yes : (c : Settings) → SettingsInRange c → settingsSound document01 c ≡ true
 unfolding settingsSound levelsSound timesSound realsSound meets
-settled-yes c h = search (tests, within-yes, level-yes, slot-yes)
+afterEvents-yes c h = search (tests, within-yes, level-yes, slot-yes)
 
 filled-yes : (s : Slots) → Filled s → slotsSoundFrom s 0 ≡ true
 unfolding slotsSoundFrom
@@ -112,16 +113,16 @@ filled-yes s h = each-all (slotSound s) 16 0 (λ i p k. at i (omega arith) (h .l
     at : (i : ℕ) → i < slotCount → SlotLevel (slot s i) → slotSound s i ≡ true
     at i k l = unfold slotSound if_then_else_ in
         (by-bool
-        (lives s i)
+        (isLive s i)
         (λ p. rw p (level-yes (getD (s .levels) i 0) (rw p at (rw (slot-is s i (omega (arith, h .size))) at l))))
         (λ p. rw p))
 
 moves-yes : (t : ℕ) (c : Settings) (s : Slots) (m : Movement) → Moves t c s m
-    → movementSound standard t (winner s) (c .max) (presentValue c s) m ≡ true
+    → movementSound document01 t (winner s) (c .max) (presentValue c s) m ≡ true
 unfolding movementSound spanSound
 moves-yes t c s m h = search (tests, within-yes) depth 12
 
-acts-yes : (t : ℕ) (c : Settings) (s : Slots) (a : Activity) → Acts t c s a → activitySound standard t c s a ≡ true
+acts-yes : (t : ℕ) (c : Settings) (s : Slots) (a : Activity) → Acts t c s a → activitySound document01 t c s a ≡ true
 unfolding activitySound activityBy warningSound warningBy
 acts-yes t c s Still h = rw h
 acts-yes t c s (Moving m) h = unfold if_then_else_ in rw (h .six) (moves-yes t c s m h)
@@ -132,12 +133,12 @@ unfolding timerSound
 timed-yes t Off h = refl
 timed-yes t (Running slot due) h = search (tests, slot-yes)
 
-pub facts-sound : (t : ℕ) (o : Output) → Sound t o → sound standard t o ≡ true
+pub facts-sound : (t : ℕ) (o : Output) → Sound t o → sound document01 t o ≡ true
 unfolding sound
-facts-sound t o h = search (tests, settled-yes, filled-yes, acts-yes, timed-yes) depth 7
+facts-sound t o h = search (tests, afterEvents-yes, filled-yes, acts-yes, timed-yes) depth 7
 
 -- what `advance-ticks` asks
-pub tested-calm : (t : ℕ) (o : Output) → sound standard t o ≡ true → Calm t o
+pub tested-calm : (t : ℕ) (o : Output) → sound document01 t o ≡ true → Calm t o
 unfolding sound
 tested-calm t o h =
     record {
@@ -161,11 +162,11 @@ pub sound-calm : (t : ℕ) (o : Output) → Sound t o → Calm t o
 sound-calm t o h = tested-calm t o (facts-sound t o h)
 
 -- a record that passed the test stays as it is while time stands
-pub tested-stays : (t : ℕ) (o : Output) → t ≤ top → sound standard t o ≡ true → advance t t o ≡ o
+pub tested-stays : (t : ℕ) (o : Output) → t ≤ greatestCount → sound document01 t o ≡ true → advance t t o ≡ o
 unfolding ticks
 tested-stays t o m h = advance-ticks t t o (omega arith) m (tested-calm t o h) ∙ rw (sub-self t)
 
 -- hops equal ticks, of a record that passed the test
-pub sound-advance : (now to : ℕ) (o : Output) → length (o .slots .levels) ≡ slotCount → sound standard now o ≡ true → now ≤ to → to ≤ top
+pub sound-advance : (now to : ℕ) (o : Output) → length (o .slots .levels) ≡ slotCount → sound document01 now o ≡ true → now ≤ to → to ≤ greatestCount
     → advance now to o ≡ ticks (to - now) now o
 sound-advance now to o size h l m = advance-ticks now to o l m (sound-calm now o (sound-facts now o size h))

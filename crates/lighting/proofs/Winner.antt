@@ -1,4 +1,4 @@
--- What a slot emptied or filled does to the winner, to its level, and to slot 6. Assumes nothing.
+-- What a slot emptied or filled does to the winner, to its level, and to slot 6.
 use mathlib.Core.Path.{_≡_, refl, sym, ap, _∙_}
 use mathlib.Core.Logic.{_≢_}
 use mathlib.Core.Bool.{false, true≢false}
@@ -9,10 +9,10 @@ use native.Mathlib.Omega.{arith}
 use lib.Dec.{ltb}
 use lib.ListN.{set, getD, length}
 use lib.Seq.{getD-set-same, getD-set-other}
-use Rattle.lighting.specs.Choice.{if_then_else_}
+use Rattle.lighting.specs.Paper.Choice.{if_then_else_}
 use Rattle.lighting.proofs.Split.{by-eq, by-lt, leb-yes, leb-no}
-use Rattle.lighting.specs.Slots.{slotCount, slot6, Slots, view, slotsOf, put, firstLive, winner, lives, levelAt, topmost}
-use Rattle.lighting.proofs.Mask.{alive, lives-slot, put-slots, put-size, slots-size}
+use Rattle.lighting.specs.Paper.Slots.{slotCount, slot6, Slots, view, slotsOf, put, firstLive, winner, isLive, levelAt, winningLevel}
+use Rattle.lighting.proofs.Mask.{alive, isLive-slot, put-slots, put-size, slots-size}
 
 unfoldable pub firstLevel : ℕ → List (Option ℕ) → ℕ
 firstLevel d [] = d
@@ -33,9 +33,9 @@ level-view d m (v ∷ l) =
     (λ p e. rw (e, leb-yes {a = 1} {b = suc (length l)} (omega arith)))
     (λ p e. rw (e, suc-ltb (firstLive (view (m / 2) l)) (length l)) (level-view d (m / 2) l))
 
-pub topmost-view : (d : ℕ) (s : Slots) → length (s .levels) ≡ slotCount → topmost d s ≡ firstLevel d (slotsOf s)
-unfolding topmost levelAt winner slotsOf
-topmost-view d s h = rw h at (level-view d (s .live) (s .levels))
+pub winningLevel-view : (d : ℕ) (s : Slots) → length (s .levels) ≡ slotCount → winningLevel d s ≡ firstLevel d (slotsOf s)
+unfolding winningLevel levelAt winner slotsOf
+winningLevel-view d s h = rw h at (level-view d (s .live) (s .levels))
 
 -- THE WINNER AND ITS LEVEL, on the list of slots, after a slot was emptied or filled
 live-empty : (s : List (Option ℕ)) (q : ℕ) → q ≢ firstLive s → firstLive (set s q none) ≡ firstLive s
@@ -115,69 +115,69 @@ module _ (s : Slots) (size : length (s .levels) ≡ slotCount) where
   pub put-sized : (i : ℕ) (x : Option ℕ) → length (put s i x .levels) ≡ slotCount
   put-sized i x = put-size s i x ∙ size
 
-  topmost-put : (d i : ℕ) (x : Option ℕ) → i < slotCount → topmost d (put s i x) ≡ firstLevel d (set (slotsOf s) i x)
-  topmost-put d i x k = topmost-view d (put s i x) (put-sized i x) ∙ ap (firstLevel d) (put-slots s i x size k)
+  winningLevel-put : (d i : ℕ) (x : Option ℕ) → i < slotCount → winningLevel d (put s i x) ≡ firstLevel d (set (slotsOf s) i x)
+  winningLevel-put d i x k = winningLevel-view d (put s i x) (put-sized i x) ∙ ap (firstLevel d) (put-slots s i x size k)
 
   pub winner-over : (p : ℕ) (x : Option ℕ) → p < slotCount → winner s < p → winner (put s p x) ≡ winner s
   unfolding winner
   winner-over p x k h = rw (put-slots s p x size k) (live-over (slotsOf s) p x h)
 
-  pub topmost-over : (d p : ℕ) (x : Option ℕ) → p < slotCount → winner s < p → topmost d (put s p x) ≡ topmost d s
+  pub winningLevel-over : (d p : ℕ) (x : Option ℕ) → p < slotCount → winner s < p → winningLevel d (put s p x) ≡ winningLevel d s
   unfolding winner
-  topmost-over d p x k h = topmost-put d p x k ∙ level-over d (slotsOf s) p x h ∙ sym (topmost-view d s size)
+  winningLevel-over d p x k h = winningLevel-put d p x k ∙ level-over d (slotsOf s) p x h ∙ sym (winningLevel-view d s size)
 
   pub winner-empty : (q : ℕ) → q < slotCount → q ≢ winner s → winner (put s q none) ≡ winner s
   unfolding winner
   winner-empty q k h = rw (put-slots s q none size k) (live-empty (slotsOf s) q h)
 
-  pub topmost-empty : (d q : ℕ) → q < slotCount → q ≢ winner s → topmost d (put s q none) ≡ topmost d s
+  pub winningLevel-empty : (d q : ℕ) → q < slotCount → q ≢ winner s → winningLevel d (put s q none) ≡ winningLevel d s
   unfolding winner
-  topmost-empty d q k h = topmost-put d q none k ∙ level-empty d (slotsOf s) q h ∙ sym (topmost-view d s size)
+  winningLevel-empty d q k h = winningLevel-put d q none k ∙ level-empty d (slotsOf s) q h ∙ sym (winningLevel-view d s size)
 
   pub winner-filled : (p v : ℕ) → p < slotCount → p ≤ winner s → winner (put s p (some v)) ≡ p
   unfolding winner
   winner-filled p v k h =
       rw (put-slots s p (some v) size k) (live-filled (slotsOf s) p v (omega (arith, slots-size s)) h)
 
-  pub topmost-filled : (d p v : ℕ) → p < slotCount → winner (put s p (some v)) ≡ p → topmost d (put s p (some v)) ≡ v
+  pub winningLevel-filled : (d p v : ℕ) → p < slotCount → winner (put s p (some v)) ≡ p → winningLevel d (put s p (some v)) ≡ v
   unfolding winner
-  topmost-filled d p v k h =
-      topmost-put d p (some v) k
+  winningLevel-filled d p v k h =
+      winningLevel-put d p (some v) k
       ∙ level-filled d (slotsOf s) p v (omega (arith, slots-size s)) (rw (put-slots s p (some v) size k) at h)
 
-  pub topmost-live : (d d′ : ℕ) → winner s < slotCount → topmost d s ≡ topmost d′ s
+  pub winningLevel-live : (d d′ : ℕ) → winner s < slotCount → winningLevel d s ≡ winningLevel d′ s
   unfolding winner
-  topmost-live d d′ h =
-      topmost-view d s size ∙ level-live d d′ (slotsOf s) (omega (arith, slots-size s)) ∙ sym (topmost-view d′ s size)
+  winningLevel-live d d′ h =
+      winningLevel-view d s size ∙ level-live d d′ (slotsOf s) (omega (arith, slots-size s)) ∙ sym (winningLevel-view d′ s size)
 
   -- an empty slot emptied: no slot changes
-  pub put-dead : (i : ℕ) → i < slotCount → lives s i ≡ false → slotsOf (put s i none) ≡ slotsOf s
+  pub put-dead : (i : ℕ) → i < slotCount → isLive s i ≡ false → slotsOf (put s i none) ≡ slotsOf s
   put-dead i k h =
-      put-slots s i none size k ∙ set-dead (slotsOf s) i (sym (lives-slot s i (omega arith)) ∙ h)
+      put-slots s i none size k ∙ set-dead (slotsOf s) i (sym (isLive-slot s i (omega arith)) ∙ h)
 
-  pub topmost-dead : (d i : ℕ) → i < slotCount → lives s i ≡ false → topmost d (put s i none) ≡ topmost d s
-  topmost-dead d i k h =
-      topmost-view d (put s i none) (put-sized i none) ∙ ap (firstLevel d) (put-dead i k h) ∙ sym (topmost-view d s size)
+  pub winningLevel-dead : (d i : ℕ) → i < slotCount → isLive s i ≡ false → winningLevel d (put s i none) ≡ winningLevel d s
+  winningLevel-dead d i k h =
+      winningLevel-view d (put s i none) (put-sized i none) ∙ ap (firstLevel d) (put-dead i k h) ∙ sym (winningLevel-view d s size)
 
-  pub winner-dead : (i : ℕ) → i < slotCount → lives s i ≡ false → winner (put s i none) ≡ winner s
+  pub winner-dead : (i : ℕ) → i < slotCount → isLive s i ≡ false → winner (put s i none) ≡ winner s
   unfolding winner
   winner-dead i k h = ap firstLive (put-dead i k h)
 
-  pub six-kept : (i : ℕ) (x : Option ℕ) → i < slotCount → i ≢ slot6 → lives (put s i x) slot6 ≡ lives s slot6
+  pub six-kept : (i : ℕ) (x : Option ℕ) → i < slotCount → i ≢ slot6 → isLive (put s i x) slot6 ≡ isLive s slot6
   six-kept i x k n =
-      lives-slot (put s i x) slot6 (omega (arith, put-sized i x))
+      isLive-slot (put s i x) slot6 (omega (arith, put-sized i x))
       ∙ rw (put-slots s i x size k) (ap alive (getD-set-other (slotsOf s) i 5 x none (omega arith)))
-      ∙ sym (lives-slot s slot6 (omega arith))
+      ∙ sym (isLive-slot s slot6 (omega arith))
 
-  pub six-set : (x : Option ℕ) → lives (put s 5 x) slot6 ≡ alive x
+  pub six-set : (x : Option ℕ) → isLive (put s 5 x) slot6 ≡ alive x
   six-set x =
-      lives-slot (put s 5 x) slot6 (omega (arith, put-sized 5 x))
+      isLive-slot (put s 5 x) slot6 (omega (arith, put-sized 5 x))
       ∙ rw (put-slots s 5 x size (omega arith)) (ap alive (getD-set-same (slotsOf s) 5 x none (omega (arith, slots-size s))))
 
   -- every slot before the winner is empty
-  pub dead-before : (i : ℕ) → i < winner s → lives s i ≡ false
+  pub dead-before : (i : ℕ) → i < winner s → isLive s i ≡ false
   dead-before i h =
-      lives-slot s i (omega (arith, winner-within, size)) ∙ none-before (slotsOf s) i (unfold winner in h)
+      isLive-slot s i (omega (arith, winner-within, size)) ∙ none-before (slotsOf s) i (unfold winner in h)
     where
       winner-within : winner s ≤ 16
       winner-within = unfold winner in (omega (arith, live-within (slotsOf s), slots-size s, size))

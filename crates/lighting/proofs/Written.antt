@@ -1,24 +1,24 @@
--- Kinds 02 and 03 keep the record rules. Assumes nothing.
+-- Kinds 02 and 03 keep the record rules.
 use mathlib.Core.Path.{_≡_, _∙_}
 use mathlib.Core.Bool.{true, false}
 use mathlib.Core.Option.{Option, none, some}
 use Prim.Native.Nat.{ℕ, _+_, _<_}
 use native.Mathlib.Omega.{arith}
 use lib.ListN.{length}
-use Rattle.lighting.specs.Choice.{if_then_else_}
+use Rattle.lighting.specs.Paper.Choice.{if_then_else_}
 use Rattle.lighting.proofs.Split.{by-eq, by-lt, by-bool, parts}
 use Rattle.lighting.specs.declared.Settings.{Settings}
 use Rattle.lighting.specs.declared.Movement.{Movement}
 use Rattle.lighting.specs.declared.Activity.{Activity}
 use Rattle.lighting.specs.declared.Activity.the-variants.{Still, Moving, Warned}
 use Rattle.lighting.specs.declared.Output.{Output}
-use Rattle.lighting.specs.Slots.{slotCount, slot6, Slots, lives, winner, topmost, put, emptied, filled}
-use Rattle.lighting.proofs.Winner.{winner-over, topmost-over, winner-dead, topmost-dead, six-kept, six-set}
-use Rattle.lighting.specs.Value.{presentValue}
+use Rattle.lighting.specs.Paper.Slots.{slotCount, slot6, Slots, isLive, winner, winningLevel, put, emptied, filled}
+use Rattle.lighting.proofs.Winner.{winner-over, winningLevel-over, winner-dead, winningLevel-dead, six-kept, six-set}
+use Rattle.lighting.specs.Paper.Value.{presentValue}
 use Rattle.lighting.proofs.Facts.{IsLevel, Within, Slot, SlotLevel, Filled, Moves, Acts, Sound}
 use Rattle.lighting.proofs.Levels.{level-zero, present-level, put-filled}
-use Rattle.lighting.specs.Passing.{phaseEnd}
-use Rattle.lighting.specs.Writing.{withEffect, passedOver, stored, blinks, warnsBy, warns, firstLevel, firstPhase, warningFrom, warnedBy, warned, endedEmpty, endedStored, writtenWarned, writtenZero, writtenCalm, writtenBy, written, vacatedActivity, vacated}
+use Rattle.lighting.specs.Paper.Passing.{phaseEnd}
+use Rattle.lighting.specs.Paper.Writing.{withEffect, endMovementUnlessAbove, stored, blinks, warnsBy, warns, firstLevel, firstPhase, warningFrom, warnedBy, warned, endedEmpty, endedStored, writtenWarned, writtenZero, writtenCalm, writtenBy, written, activityRelinquished, slotRelinquished}
 
 -- all that a change of slots and activity has to keep
 effect-sound : (t : ℕ) (o : Output) (s : Slots) (a : Activity) → Sound t o → Filled s → Acts t (o .settings) s a → Sound t (withEffect o s a)
@@ -27,7 +27,7 @@ effect-sound t o s a h f k = search
 
 -- A MOVEMENT whose owner stays the winner goes on
 pub kept-moving : (t : ℕ) (c : Settings) (s s′ : Slots) (m : Movement) → Moves t c s m
-    → lives s′ slot6 ≡ lives s slot6 → winner s′ ≡ winner s → topmost (c .default) s′ ≡ topmost (c .default) s → Moves t c s′ m
+    → isLive s′ slot6 ≡ isLive s slot6 → winner s′ ≡ winner s → winningLevel (c .default) s′ ≡ winningLevel (c .default) s → Moves t c s′ m
 unfolding presentValue
 kept-moving t c s s′ m h p q r = search arith
 
@@ -38,11 +38,11 @@ module _ (t : ℕ) (c : Settings) (s : Slots) (size : length (s .levels) ≡ slo
       kept-moving t c s (put s i x) m h
       (six-kept s size i x (slot .inside) (slot .free))
       (winner-over s size i x (slot .inside) l)
-      (topmost-over s size (c .default) i x (slot .inside) l)
+      (winningLevel-over s size (c .default) i x (slot .inside) l)
 
   -- WARNINGS ASIDE: a movement goes on if the slot is above its owner's number, else it ends
-  passed-acts : (x : Option ℕ) (a : Activity) → Acts t c s a → Acts t c (put s i x) (passedOver i a)
-  unfolding passedOver if_then_else_
+  passed-acts : (x : Option ℕ) (a : Activity) → Acts t c s a → Acts t c (put s i x) (endMovementUnlessAbove i a)
+  unfolding endMovementUnlessAbove if_then_else_
   passed-acts x Still h = six-kept s size i x (slot .inside) (slot .free) ∙ h
   passed-acts x (Moving m) h =
       by-lt
@@ -53,18 +53,18 @@ module _ (t : ℕ) (c : Settings) (s : Slots) (size : length (s .levels) ≡ slo
   passed-acts x (Warned w) h = let k = six-kept s size i x (slot .inside) (slot .free) in search
 
   -- an empty slot emptied: all goes on
-  dead-acts : (a : Activity) → lives s i ≡ false → Acts t c s a → Acts t c (put s i none) a
+  dead-acts : (a : Activity) → isLive s i ≡ false → Acts t c s a → Acts t c (put s i none) a
   dead-acts Still e h = six-kept s size i none (slot .inside) (slot .free) ∙ h
   dead-acts (Moving m) e h =
       kept-moving t c s (put s i none) m h
       (six-kept s size i none (slot .inside) (slot .free))
       (winner-dead s size i (slot .inside) e)
-      (topmost-dead s size (c .default) i (slot .inside) e)
+      (winningLevel-dead s size (c .default) i (slot .inside) e)
   dead-acts (Warned w) e h = let k = six-kept s size i none (slot .inside) (slot .free) in search
 
-  vacated-acts : (a : Activity) → Acts t c s a → Acts t c (put s i none) (vacatedActivity (lives s i) i a)
-  unfolding vacatedActivity if_then_else_
-  vacated-acts a h = by-bool (lives s i) (λ e. rw e (passed-acts none a h)) (λ e. rw e (dead-acts a e h))
+  slotRelinquished-acts : (a : Activity) → Acts t c s a → Acts t c (put s i none) (activityRelinquished (isLive s i) i a)
+  unfolding activityRelinquished if_then_else_
+  slotRelinquished-acts a h = by-bool (isLive s i) (λ e. rw e (passed-acts none a h)) (λ e. rw e (dead-acts a e h))
 
 stored-sound : (t : ℕ) (o : Output) (i v : ℕ) → Slot i → IsLevel v → Sound t o → Sound t (stored o i v)
 unfolding stored
@@ -78,7 +78,7 @@ first-level : (c : Settings) (y : ℕ) → IsLevel y → IsLevel (firstLevel c y
 unfolding firstLevel if_then_else_
 first-level c y l = by-eq (c .blink) 0 (λ p e. rw e l) (λ p e. rw e level-zero)
 
-first-acts : (t : ℕ) (c : Settings) (s : Slots) (x y : ℕ) → Slot x → 5 < x → 0 < c .blink + c .delay → IsLevel y → lives s slot6 ≡ true
+first-acts : (t : ℕ) (c : Settings) (s : Slots) (x y : ℕ) → Slot x → 5 < x → 0 < c .blink + c .delay → IsLevel y → isLive s slot6 ≡ true
     → Acts t c s (Warned (warningFrom t c x y))
 unfolding warningFrom firstPhase phaseEnd if_then_else_
 first-acts t c s x y g l b v k =
@@ -145,9 +145,9 @@ written-sound t o i v g l h = go (o .activity)
     go (Warned w) = warned-written t o i v g l h
 
 -- KIND 03
-pub vacated-sound : (t : ℕ) (o : Output) (i : ℕ) → Slot i → Sound t o → Sound t (vacated o i)
-unfolding vacated
-vacated-sound t o i g h =
+pub slotRelinquished-sound : (t : ℕ) (o : Output) (i : ℕ) → Slot i → Sound t o → Sound t (slotRelinquished o i)
+unfolding slotRelinquished
+slotRelinquished-sound t o i g h =
     effect-sound t o _ _ h
     (put-filled (o .slots) i none (h .slots) (g .inside) tt)
-    (vacated-acts t (o .settings) (o .slots) (h .slots .size) i g (o .activity) (h .activity))
+    (slotRelinquished-acts t (o .settings) (o .slots) (h .slots .size) i g (o .activity) (h .activity))

@@ -2,7 +2,7 @@
 // Slots are counted from 0: priority p is slot p - 1, and the paper's slot 6 is 5. Levels are in units of 1/65,536 percent, times in
 // milliseconds.
 
-// ---- numbers by name; the definitions have the same (specs/Slots.antt, specs/Level.antt)
+// ---- numbers by name; the definitions have the same (specs/Paper/Slots.antt, specs/Paper/Level.antt)
 
 // Sixteen slots: how many there are, and the first number that is no slot. Slot 6, which is a warning's, and slot 16, the last.
 pub const SLOTS: usize = 16;
@@ -248,7 +248,7 @@ pub enum Property {
     Unknown,
 }
 
-// What a property's value must be, and how it is kept (`rowOf` of specs/Rows.antt has the row of each property).
+// What a property's value must be, and how it is kept (`rowOf` of specs/Paper/Rows.antt has the row of each property).
 pub enum Range {
     // REAL 0 to 100, kept as a level
     Percent,
@@ -273,7 +273,7 @@ pub enum Request {
     // The value as it is kept: in units, a REAL's pattern, the number itself, or the slot.
     Change { property: Property, value: u32 },
     Read(Property),
-    Order(Command),
+    Commands(Command),
 }
 
 // A call of a station: 'station (1), number (4), time (6), output (1)', and what its kind asks of that output.

@@ -1,6 +1,6 @@
 -- Made by tools/twin.py.
 pub mod panel_sound
 pub mod arrive
-pub mod carry
+pub mod execute
 pub mod start
 pub mod frame

@@ -27,5 +27,5 @@ fn is_report(word: &[u8; 16], n: usize) -> bool {
 fn main() {
     let mut word = [0u8; 16];
     let n = os::arg(1, &mut word);
-    session::run(is_report(&word, n));
+    replay_session::run(is_report(&word, n));
 }

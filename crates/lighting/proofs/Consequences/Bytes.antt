@@ -1,5 +1,5 @@
 -- WHERE THE FIELDS STAND: the kinds and their lengths, the bytes of station, number, time and output, and of what follows; and refusals 2 to 5.
--- Assumes nothing.
+--
 use mathlib.Core.Path.{_≡_, refl, ap, _∙_}
 use mathlib.Core.Logic.{_≢_}
 use mathlib.Core.Bool.{Bool, true, false}
@@ -8,16 +8,16 @@ use Prim.Native.Nat.{ℕ, suc, _-_, _≤_, _<_}
 use native.Mathlib.Omega.{arith}
 use lib.Dec.{ltb, eqb}
 use lib.ListN.{getD, length, List·getD-eq-default}
-use Rattle.lighting.specs.Choice.{if_then_else_, _also_}
-use Rattle.lighting.specs.Parameters.{standard}
-use Rattle.lighting.specs.Level.{real, levelOf}
-use Rattle.lighting.specs.Field.{byteAt, bigEndian}
-use Rattle.lighting.specs.Rows.{isSlot, isPriority}
-use Rattle.lighting.specs.Kinds.{unknownRow, commandRows, kindRow, kindLength}
-use Rattle.lighting.specs.Frames.{Bytes, writeLevel, writeOf, emptyOf, requestOf, callOf, called, clockOf, parseBy, parse}
-use Rattle.lighting.specs.Passing.{settled}
-use Rattle.lighting.specs.Writing.{written, vacated}
-use Rattle.lighting.specs.Acting.{made, acted}
+use Rattle.lighting.specs.Paper.Choice.{if_then_else_, _also_}
+use Rattle.lighting.specs.Paper.Parameters.{document01}
+use Rattle.lighting.specs.Paper.Level.{real, levelOf}
+use Rattle.lighting.specs.Paper.Field.{byteAt, bigEndian}
+use Rattle.lighting.specs.Paper.Rows.{isSlot, isPriority}
+use Rattle.lighting.specs.Paper.Kinds.{unknownRow, commandRows, kindRow, kindLength}
+use Rattle.lighting.specs.Paper.Frames.{Bytes, writeLevel, writeOf, emptyOf, requestOf, callOf, called, clockOf, parseBy, parse}
+use Rattle.lighting.specs.Paper.Passing.{afterEvents}
+use Rattle.lighting.specs.Paper.Writing.{written, slotRelinquished}
+use Rattle.lighting.specs.Paper.Acting.{done, acted}
 use Rattle.lighting.specs.declared.Kind.{Kind}
 use Rattle.lighting.specs.declared.Kind.the-variants.{NoKind, ClockKind, CallKind}
 use Rattle.lighting.specs.declared.KindRow.{KindRow}
@@ -68,7 +68,7 @@ fits k = each-row (λ (n : ℕ) (row : KindRow). Fits n (row .length) (row .kind
 abbrev askedBy : Kind → Bytes → Request
 askedBy NoKind b = Refuse 9
 askedBy ClockKind b = Refuse 9
-askedBy (CallKind action) b = requestOf standard action b
+askedBy (CallKind action) b = requestOf document01 action b
 
 abbrev pub asked : ℕ → Bytes → Request
 asked k b = askedBy (kindRow k .kind) b
@@ -80,13 +80,13 @@ theCall b = record { station = byteAt b 1; number = bigEndian 4 b 2; time = bigE
 -- REFUSALS 2 TO 5, in their order
 module _ (c : ℕ) (b : Bytes) where
   abbrev Parsed : Kind → Frame → Type 0
-  Parsed k f = kindRow (byteAt b 0) .kind ≡ k → Fits (byteAt b 0) (kindLength (byteAt b 0)) k ≡ true → parseBy standard c (kindLength (byteAt b 0)) k b ≡ f
+  Parsed k f = kindRow (byteAt b 0) .kind ≡ k → Fits (byteAt b 0) (kindLength (byteAt b 0)) k ≡ true → parseBy document01 c (kindLength (byteAt b 0)) k b ≡ f
 
-  parsed : (f : Frame) → ((k : Kind) → Parsed k f) → parse standard c b ≡ f
+  parsed : (f : Frame) → ((k : Kind) → Parsed k f) → parse document01 c b ≡ f
   unfolding parse
   parsed f h = unfold kindLength in (h (kindRow (byteAt b 0) .kind) refl (fits (byteAt b 0)))
 
-  pub two : kindLength (byteAt b 0) ≡ 0 → parse standard c b ≡ Bad 2
+  pub two : kindLength (byteAt b 0) ≡ 0 → parse document01 c b ≡ Bad 2
   unfolding parseBy
   two e = parsed (Bad 2) by
     where
@@ -95,7 +95,7 @@ module _ (c : ℕ) (b : Bytes) where
       by ClockKind q h = let l : 1 ≤ kindLength (byteAt b 0) = le-of (also-both h .1) in absurd (omega arith)
       by (CallKind action) q h = let l : 1 ≤ kindLength (byteAt b 0) = le-of (also-both h .1) in absurd (omega arith)
 
-  pub three : kindLength (byteAt b 0) ≢ 0 → length b ≢ kindLength (byteAt b 0) → parse standard c b ≡ Bad 3
+  pub three : kindLength (byteAt b 0) ≢ 0 → length b ≢ kindLength (byteAt b 0) → parse document01 c b ≡ Bad 3
   unfolding parseBy if_then_else_
   three known n = parsed (Bad 3) by
     where
@@ -105,7 +105,7 @@ module _ (c : ℕ) (b : Bytes) where
       by (CallKind action) q h = rw (eqb-miss {a = length b} {b = kindLength (byteAt b 0)} n)
 
   module _ (known : kindLength (byteAt b 0) ≢ 0) (sized : length b ≡ kindLength (byteAt b 0)) where
-    pub clock : byteAt b 0 ≡ 1 → parse standard c b ≡ Clock (bigEndian 6 b 1)
+    pub clock : byteAt b 0 ≡ 1 → parse document01 c b ≡ Clock (bigEndian 6 b 1)
     unfolding parseBy clockOf if_then_else_
     clock e = parsed (Clock (bigEndian 6 b 1)) by
       where
@@ -115,30 +115,30 @@ module _ (c : ℕ) (b : Bytes) where
         by (CallKind action) q h = let l : 2 ≤ byteAt b 0 = le-of (also-both h .0) in absurd (omega arith)
 
     module _ (call : byteAt b 0 ≢ 1) where
-      calls : parse standard c b ≡ called standard c (theCall b)
+      calls : parse document01 c b ≡ called document01 c (theCall b)
       unfolding parseBy callOf if_then_else_
-      calls = parsed (called standard c (theCall b)) by
+      calls = parsed (called document01 c (theCall b)) by
         where
-          by : (k : Kind) → Parsed k (called standard c (theCall b))
+          by : (k : Kind) → Parsed k (called document01 c (theCall b))
           by NoKind q h = absurd (known (eq-of h))
           by ClockKind q h = absurd (call (eq-of (also-both h .0)))
           by (CallKind action) q h = rw (q, eqb-hit {a = length b} {b = kindLength (byteAt b 0)} sized)
 
-      pub four-station : 8 ≤ byteAt b 1 → parse standard c b ≡ Bad 4
+      pub four-station : 8 ≤ byteAt b 1 → parse document01 c b ≡ Bad 4
       unfolding called if_then_else_
       four-station l = calls ∙ rw (leb-no {a = suc (byteAt b 1)} {b = 8} (omega arith))
 
-      pub four-number : byteAt b 1 < 8 → bigEndian 4 b 2 ≡ 0 → parse standard c b ≡ Bad 4
+      pub four-number : byteAt b 1 < 8 → bigEndian 4 b 2 ≡ 0 → parse document01 c b ≡ Bad 4
       unfolding called if_then_else_
       four-number l e = calls ∙ rw (leb-yes {a = suc (byteAt b 1)} {b = 8} l, eqb-hit {a = bigEndian 4 b 2} {b = 0} e)
 
-      pub five : byteAt b 1 < 8 → bigEndian 4 b 2 ≢ 0 → c ≤ byteAt b 12 → parse standard c b ≡ Bad 5
+      pub five : byteAt b 1 < 8 → bigEndian 4 b 2 ≢ 0 → c ≤ byteAt b 12 → parse document01 c b ≡ Bad 5
       unfolding called if_then_else_
       five l n m =
           calls ∙ rw (leb-yes {a = suc (byteAt b 1)} {b = 8} l, eqb-miss {a = bigEndian 4 b 2} {b = 0} n, leb-no {a = suc (byteAt b 12)} {b = c} (omega arith))
 
       -- else it is a call, and the request is read off the bytes from 13 on
-      pub call-of : byteAt b 1 < 8 → bigEndian 4 b 2 ≢ 0 → byteAt b 12 < c → parse standard c b ≡ Calls (theCall b)
+      pub call-of : byteAt b 1 < 8 → bigEndian 4 b 2 ≢ 0 → byteAt b 12 < c → parse document01 c b ≡ Calls (theCall b)
       unfolding called if_then_else_
       call-of l n m =
           calls ∙ rw (leb-yes {a = suc (byteAt b 1)} {b = 8} l, eqb-miss {a = bigEndian 4 b 2} {b = 0} n, leb-yes {a = suc (byteAt b 12)} {b = c} m)
@@ -183,13 +183,13 @@ module _ (b : Bytes) where
   unfolding kindRow requestOf emptyOf if_then_else_
   empty-priority h = rw (priority-no (byteAt b 13) h)
 
-  -- and what they do: kinds 02 and 03 are answered Done, and act on slot i alone through `written` and `vacated`
+  -- and what they do: kinds 02 and 03 are answered Done, and act on slot i alone through `written` and `slotRelinquished`
   pub writes-slot : (t : ℕ) (o : Output) (i v : ℕ) → Slot i → byteAt b 13 ≡ suc i → levelOf (real (bigEndian 4 b 14)) ≡ Units v
       → acted t o (asked 2 b) ≡ record { output = written t o i v; answer = Done }
-  unfolding acted made settled
+  unfolding acted done afterEvents
   writes-slot t o i v k n e = rw (write-slot i v k n e)
 
   pub empties-slot : (t : ℕ) (o : Output) (i : ℕ) → Slot i → byteAt b 13 ≡ suc i
-      → acted t o (asked 3 b) ≡ record { output = vacated o i; answer = Done }
-  unfolding acted made settled
+      → acted t o (asked 3 b) ≡ record { output = slotRelinquished o i; answer = Done }
+  unfolding acted done afterEvents
   empties-slot t o i k n = rw (empty-slot i k n)

@@ -1,4 +1,4 @@
--- A DURATION empties its slot at its moment and not before, whatever writes come; 0 cancels it, absent leaves it. Assumes nothing.
+-- A DURATION empties its slot at its moment and not before, whatever writes come; 0 cancels it, absent leaves it.
 use mathlib.Core.Path.{_≡_, refl, sym, ap, subst, _∙_}
 use mathlib.Core.Logic.{_≢_}
 use mathlib.Core.Bool.{true, false, true≢false}
@@ -7,17 +7,17 @@ use Prim.Native.Nat.{ℕ, zero, suc, _+_, _≤_, _<_}
 use native.Mathlib.Omega.{arith}
 use lib.Dec.{eqb, ltb}
 use lib.ListN.{length}
-use Rattle.lighting.specs.Choice.{if_then_else_}
-use Rattle.lighting.specs.Parameters.{standard}
-use Rattle.lighting.specs.Slots.{Slots, slot, lives, put, emptied}
-use Rattle.lighting.specs.Passing.{withBurning, burned, timerDue, activityDue, isDue, timerAt, emptiedBy, expired, disowned, disownedBy, released, nextActivity, activityAt, phaseSlots, nextSlots, slotsAt, settled, fire, tick, ticks}
-use Rattle.lighting.specs.Writing.{withEffect, stored, warns, warnedBy, warned, endedEmpty, endedStored, writtenWarned, writtenZero, writtenCalm, writtenBy, written, vacated}
-use Rattle.lighting.specs.Record.{withSettings}
-use Rattle.lighting.specs.Properties.{within, settingsWith, changed, minOverMax}
-use Rattle.lighting.specs.Commands.{timed, withCommand, commandedFrom, commanded}
-use Rattle.lighting.specs.Acting.{made, left, changedUnless, acted}
-use Rattle.lighting.specs.Operations.{fieldsOf}
-use Rattle.lighting.specs.Frames.{fieldsRefusal, lasting, orderedBy, ordered}
+use Rattle.lighting.specs.Paper.Choice.{if_then_else_}
+use Rattle.lighting.specs.Paper.Parameters.{document01}
+use Rattle.lighting.specs.Paper.Slots.{Slots, slot, isLive, put, emptied}
+use Rattle.lighting.specs.Paper.Passing.{withBurning, withBurned, timerDue, activityDue, isDue, timerAt, emptiedBy, expired, endMovementOf, endMovementBy, endMovementOnExpiry, nextActivity, activityAt, phaseSlots, nextSlots, slotsAt, afterEvents, fire, tick, ticks}
+use Rattle.lighting.specs.Paper.Writing.{withEffect, stored, warns, warnedBy, warned, endedEmpty, endedStored, writtenWarned, writtenZero, writtenCalm, writtenBy, written, slotRelinquished}
+use Rattle.lighting.specs.Paper.Record.{withSettings}
+use Rattle.lighting.specs.Paper.Properties.{within, settingsWith, changed, minOverMax}
+use Rattle.lighting.specs.Paper.Commands.{timed, withCommand, commandedFrom, commanded}
+use Rattle.lighting.specs.Paper.Acting.{done, unchanged, changedUnless, acted}
+use Rattle.lighting.specs.Paper.Operations.{fieldsOf}
+use Rattle.lighting.specs.Paper.Frames.{fieldsRefusal, commandWithDuration, commandRequestBy, commandRequest}
 use Rattle.lighting.specs.declared.Movement.{Movement}
 use Rattle.lighting.specs.declared.Phase.{Phase}
 use Rattle.lighting.specs.declared.Phase.the-variants.{Blink, Delay}
@@ -28,14 +28,14 @@ use Rattle.lighting.specs.declared.Timer.{Timer}
 use Rattle.lighting.specs.declared.Timer.the-variants.{Off, Running}
 use Rattle.lighting.specs.declared.Operation.{Operation}
 use Rattle.lighting.specs.declared.Request.{Request}
-use Rattle.lighting.specs.declared.Request.the-variants.{Refuse, Write, Empty, Change, Read, Order}
+use Rattle.lighting.specs.declared.Request.the-variants.{Refuse, Write, Empty, Change, Read, Commands}
 use Rattle.lighting.specs.declared.Output.{Output}
 use Rattle.lighting.proofs.Split.{by-bool, by-eq, eqb-hit, eqb-miss, leb-yes, leb-no}
 use Rattle.lighting.proofs.Facts.{Slot, Acts, Timed, Sound}
-use Rattle.lighting.proofs.Passing.{TimerAfter, timer-earlier, timer-quiet, expired-quiet, released-quiet}
+use Rattle.lighting.proofs.Passing.{TimerAfter, timer-earlier, timer-quiet, expired-quiet, endMovementOnExpiry-quiet}
 use Rattle.lighting.proofs.Winner.{put-sized}
 use Rattle.lighting.proofs.Ticking.{tick-sound}
-use Rattle.lighting.proofs.Good.{Good}
+use Rattle.lighting.proofs.RequestInRange.{RequestInRange}
 use Rattle.lighting.proofs.Acted.{acted-sound}
 use Rattle.lighting.proofs.Consequences.Present.{slot-same, slot-other}
 
@@ -46,12 +46,12 @@ NoCommand (Write i v) = Unit {0}
 NoCommand (Empty i) = Unit {0}
 NoCommand (Change n v) = Unit {0}
 NoCommand (Read n) = Unit {0}
-NoCommand (Order k) = ⊥
+NoCommand (Commands k) = ⊥
 
 pub data Life : ℕ → Output → ℕ → Output → Type 0 where
   here : {t : ℕ} {o : Output} → Life t o t o
   millisecond : {t t′ : ℕ} {o o′ : Output} → Life (suc t) (tick t o) t′ o′ → Life t o t′ o′
-  request : {t t′ : ℕ} {o o′ : Output} (r : Request) → Good r → NoCommand r → Life t (acted t o r .output) t′ o′ → Life t o t′ o′
+  request : {t t′ : ℕ} {o o′ : Output} (r : Request) → RequestInRange r → NoCommand r → Life t (acted t o r .output) t′ o′ → Life t o t′ o′
 
 forward : {t t′ : ℕ} {o o′ : Output} → Life t o t′ o′ → t ≤ t′
 forward here = omega arith
@@ -99,17 +99,17 @@ unfolding written
 written-rest t o i v = written-by-rest t o i v (o .activity)
 
 acted-timer : (t : ℕ) (o : Output) (r : Request) → NoCommand r → acted t o r .output .timer ≡ o .timer
-unfolding acted made left settled vacated withEffect changedUnless changed withSettings if_then_else_
+unfolding acted done unchanged afterEvents slotRelinquished withEffect changedUnless changed withSettings if_then_else_
 acted-timer t o (Refuse r) n = refl
 acted-timer t o (Write i v) n = written-rest t o i v .timer
 acted-timer t o (Empty i) n = refl
 acted-timer t o (Change m v) n = by-bool (minOverMax (settingsWith (o .settings) m v)) (λ e. rw e) (λ e. rw e)
 acted-timer t o (Read q) n = refl
-acted-timer t o (Order k) n = elim n [ ]
+acted-timer t o (Commands k) n = elim n [ ]
 
 -- UNTIL ITS MOMENT it runs on
 tick-timer : (t q d : ℕ) (o : Output) → o .timer ≡ Running q d → suc t < d → tick t o .timer ≡ Running q d
-unfolding tick fire settled burned withBurning timerDue isDue timerAt if_then_else_
+unfolding tick fire afterEvents withBurned withBurning timerDue isDue timerAt if_then_else_
 tick-timer t q d o e h = rw (e, eqb-miss {a = d} {b = suc t} (omega arith))
 
 pub runs-on : {t t′ : ℕ} {o o′ : Output} (q d : ℕ) → Life t o t′ o′ → o .timer ≡ Running q d → t′ < d → o′ .timer ≡ Running q d
@@ -119,7 +119,7 @@ runs-on q d (request {t = t} {o = o} r g n l) e h = runs-on q d l (acted-timer t
 
 -- one that was cancelled does not come back
 tick-off : (t : ℕ) (o : Output) → o .timer ≡ Off → tick t o .timer ≡ Off
-unfolding tick fire settled burned withBurning timerDue isDue timerAt if_then_else_
+unfolding tick fire afterEvents withBurned withBurning timerDue isDue timerAt if_then_else_
 tick-off t o e = rw e
 
 pub stays-off : {t t′ : ℕ} {o o′ : Output} → Life t o t′ o′ → o .timer ≡ Off → o′ .timer ≡ Off
@@ -138,11 +138,11 @@ owned t o Still h = tt
 owned t o (Moving m) h = tt
 owned t o (Warned w) h = omega (arith, h .owner)
 
-disowned-owned : (q : ℕ) (a : Activity) → Owned a → Owned (disowned q a)
-unfolding disowned if_then_else_
-disowned-owned q Still h = tt
-disowned-owned q (Moving m) h = by-bool (eqb (m .owner) q) (λ e. rw e tt) (λ e. rw e tt)
-disowned-owned q (Warned w) h = h
+endMovementOf-owned : (q : ℕ) (a : Activity) → Owned a → Owned (endMovementOf q a)
+unfolding endMovementOf if_then_else_
+endMovementOf-owned q Still h = tt
+endMovementOf-owned q (Moving m) h = by-bool (eqb (m .owner) q) (λ e. rw e tt) (λ e. rw e tt)
+endMovementOf-owned q (Warned w) h = h
 
 -- AT ITS MOMENT its slot is empty, whatever a warning does at the same moment
 slots-none : (t q : ℕ) (a : Activity) (s : Slots) → length (s .levels) ≡ 16 → q < 16 → q ≢ 5 → Owned a → slot s q ≡ none → slot (slotsAt t a s) q ≡ none
@@ -165,24 +165,24 @@ slots-none t q a s z k n w h = by-bool (isDue t (activityDue a)) (λ e. rw e (ne
     next (Warned x) l = unfold nextSlots in (phase x (x .phase) l)
 
 pub expires : (t q : ℕ) (o : Output) → Sound t o → o .timer ≡ Running q (suc t) → (slot (tick t o .slots) q ≡ none) × (tick t o .timer ≡ Off)
-unfolding tick fire settled burned withBurning timerDue isDue emptiedBy expired disownedBy released timerAt if_then_else_
+unfolding tick fire afterEvents withBurned withBurning timerDue isDue emptiedBy expired endMovementBy endMovementOnExpiry timerAt if_then_else_
 expires t q o h e =
     let k : Slot q = (subst (λ (z : Timer). Timed t z) e (h .timer)) .0 in
     rw (e, eqb-hit {a = suc t} {b = suc t} refl) (
-      slots-none (suc t) q (disowned q (o .activity)) (emptied (o .slots) q) (put-sized (o .slots) (h .slots .size) q none) (k .inside) (k .free)
-          (disowned-owned q (o .activity) (owned t o (o .activity) (h .activity)))
+      slots-none (suc t) q (endMovementOf q (o .activity)) (emptied (o .slots) q) (put-sized (o .slots) (h .slots .size) q none) (k .inside) (k .free)
+          (endMovementOf-owned q (o .activity) (owned t o (o .activity) (h .activity)))
           (slot-same (o .slots) (h .slots .size) q none (k .inside)),
       refl,
     )
 
 -- '(ending a movement that slot owned)', and no other
 pub expires-own : (t q : ℕ) (o : Output) (m : Movement) → o .timer ≡ Running q (suc t) → o .activity ≡ Moving m → m .owner ≡ q → tick t o .activity ≡ Still
-unfolding tick fire settled burned withBurning timerDue activityDue isDue disownedBy released disowned nextActivity activityAt if_then_else_
+unfolding tick fire afterEvents withBurned withBurning timerDue activityDue isDue endMovementBy endMovementOnExpiry endMovementOf nextActivity activityAt if_then_else_
 expires-own t q o m e f w = rw (e, f, eqb-hit {a = suc t} {b = suc t} refl, eqb-hit {a = m .owner} {b = q} w)
 
 pub expires-other : (t q : ℕ) (o : Output) (m : Movement) → o .timer ≡ Running q (suc t) → o .activity ≡ Moving m → m .owner ≢ q → suc t < m .over
     → tick t o .activity ≡ Moving m
-unfolding tick fire settled burned withBurning timerDue activityDue isDue disownedBy released disowned nextActivity activityAt if_then_else_
+unfolding tick fire afterEvents withBurned withBurning timerDue activityDue isDue endMovementBy endMovementOnExpiry endMovementOf nextActivity activityAt if_then_else_
 expires-other t q o m e f w l =
     rw (e, f, eqb-hit {a = suc t} {b = suc t} refl, eqb-miss {a = m .owner} {b = q} w, eqb-miss {a = m .over} {b = suc t} (omega arith))
 
@@ -228,47 +228,47 @@ moving-slots d m s = by-bool (isDue d (activityDue (Moving m))) (λ e. rw e) (λ
 
 pub expires-alone : (t q : ℕ) (o : Output) → Sound t o → o .timer ≡ Running q (suc t) → (j : ℕ) → q ≢ j
     → slot (tick t o .slots) j ≡ slot (tick t (untimed o) .slots) j
-unfolding tick fire settled burned withBurning timerDue isDue emptiedBy expired disownedBy released if_then_else_
+unfolding tick fire afterEvents withBurned withBurning timerDue isDue emptiedBy expired endMovementBy endMovementOnExpiry if_then_else_
 expires-alone t q o h e j n =
     let k : Slot q = (subst (λ (z : Timer). Timed t z) e (h .timer)) .0 in
     rw (e, eqb-hit {a = suc t} {b = suc t} refl)
-    (disowned-slots (suc t) q j (o .activity)
+    (endMovementOf-slots (suc t) q j (o .activity)
     ∙ slots-alike (suc t) q j (o .activity) (o .slots) (h .slots .size) (k .inside) n (owned t o (o .activity) (h .activity)))
   where
-    disowned-slots : (d q j : ℕ) (a : Activity) → slot (slotsAt d (disowned q a) (emptied (o .slots) q)) j ≡ slot (slotsAt d a (emptied (o .slots) q)) j
-    disowned-slots d q j Still = unfold disowned in refl
-    disowned-slots d q j (Moving m) = unfold disowned if_then_else_ in
+    endMovementOf-slots : (d q j : ℕ) (a : Activity) → slot (slotsAt d (endMovementOf q a) (emptied (o .slots) q)) j ≡ slot (slotsAt d a (emptied (o .slots) q)) j
+    endMovementOf-slots d q j Still = unfold endMovementOf in refl
+    endMovementOf-slots d q j (Moving m) = unfold endMovementOf if_then_else_ in
         (by-bool
         (eqb (m .owner) q)
         (λ f. rw (f, moving-slots d m (emptied (o .slots) q)) (unfold slotsAt activityDue isDue if_then_else_ in refl))
         (λ f. rw f))
-    disowned-slots d q j (Warned w) = unfold disowned in refl
+    endMovementOf-slots d q j (Warned w) = unfold endMovementOf in refl
 
-pub expires-warned : (t q : ℕ) (o : Output) → Sound t o → o .timer ≡ Running q (suc t) → lives (o .slots) 5 ≡ true
+pub expires-warned : (t q : ℕ) (o : Output) → Sound t o → o .timer ≡ Running q (suc t) → isLive (o .slots) 5 ≡ true
     → tick t o .activity ≡ tick t (untimed o) .activity
-unfolding tick fire settled burned withBurning timerDue isDue disownedBy released if_then_else_
+unfolding tick fire afterEvents withBurned withBurning timerDue isDue endMovementBy endMovementOnExpiry if_then_else_
 expires-warned t q o h e l = rw (e, eqb-hit {a = suc t} {b = suc t} refl) (go (o .activity) (h .activity))
   where
-    go : (a : Activity) → Acts t (o .settings) (o .slots) a → activityAt (suc t) (disowned q a) ≡ activityAt (suc t) a
+    go : (a : Activity) → Acts t (o .settings) (o .slots) a → activityAt (suc t) (endMovementOf q a) ≡ activityAt (suc t) a
     go Still k = absurd (true≢false (sym l ∙ k))
     go (Moving m) k = absurd (true≢false (sym l ∙ k .six))
-    go (Warned w) k = unfold disowned in refl
+    go (Warned w) k = unfold endMovementOf in refl
 
 -- AND NOT BEFORE: until then the passing of time changes no slot (a warning's phases aside, during which slot 6 is live)
-calm-slots : (t d : ℕ) (o : Output) (a : Activity) → Acts t (o .settings) (o .slots) a → lives (o .slots) 5 ≡ false → slotsAt d a (o .slots) ≡ o .slots
+calm-slots : (t d : ℕ) (o : Output) (a : Activity) → Acts t (o .settings) (o .slots) a → isLive (o .slots) 5 ≡ false → slotsAt d a (o .slots) ≡ o .slots
 unfolding slotsAt nextSlots activityDue isDue if_then_else_
 calm-slots t d o Still h e = refl
 calm-slots t d o (Moving m) h e = moving-slots d m (o .slots)
 calm-slots t d o (Warned w) h e = absurd (true≢false (sym (h .six) ∙ e))
 
-tick-kept : (t : ℕ) (o : Output) → Sound t o → lives (o .slots) 5 ≡ false → TimerAfter (suc t) (o .timer)
+tick-kept : (t : ℕ) (o : Output) → Sound t o → isLive (o .slots) 5 ≡ false → TimerAfter (suc t) (o .timer)
     → (tick t o .slots ≡ o .slots) × (tick t o .timer ≡ o .timer)
-unfolding tick fire settled burned withBurning
+unfolding tick fire afterEvents withBurned withBurning
 tick-kept t o h e a =
-    rw (expired-quiet (suc t) (o .timer) (o .slots) a, released-quiet (suc t) (o .timer) (o .activity) a)
+    rw (expired-quiet (suc t) (o .timer) (o .slots) a, endMovementOnExpiry-quiet (suc t) (o .timer) (o .activity) a)
     (calm-slots t (suc t) o (o .activity) (h .activity) e, timer-quiet (suc t) (o .timer) a)
 
-pub not-before : (n t : ℕ) (o : Output) → Sound t o → lives (o .slots) 5 ≡ false → TimerAfter (t + n) (o .timer) → ticks n t o .slots ≡ o .slots
+pub not-before : (n t : ℕ) (o : Output) → Sound t o → isLive (o .slots) 5 ≡ false → TimerAfter (t + n) (o .timer) → ticks n t o .slots ≡ o .slots
 unfolding ticks
 not-before zero t o h e a = refl
 not-before (suc n) t o h e a =
@@ -277,19 +277,19 @@ not-before (suc n) t o h e a =
     not-before n (suc t) (tick t o) (tick-sound t o h) (rw (k .0) e) (rw (k .1) (rw z at a)) ∙ k .0
 
 -- A COMMAND WHOSE OTHER FIELDS ARE IN RANGE, which are checked before it, is judged by its duration field
-pub in-range : (k : Operation) (d : ℕ) → fieldsRefusal standard (fieldsOf k) ≡ 0 → ordered standard k d ≡ lasting standard k d
-unfolding ordered orderedBy if_then_else_
+pub in-range : (k : Operation) (d : ℕ) → fieldsRefusal document01 (fieldsOf k) ≡ 0 → commandRequest document01 k d ≡ commandWithDuration document01 k d
+unfolding commandRequest commandRequestBy if_then_else_
 in-range k d e = rw e
 
 -- A COMMAND'S DURATION FIELD d, of an output that keeps the rules. 100 to 86,400,000: whatever comes but a command, slot p is empty d ms later
 pub duration-lasts : (t d : ℕ) (o : Output) (k : Operation) → 100 ≤ d → d ≤ 86400000
-    → acted t o (lasting standard k d) .output .timer ≡ Running (o .settings .slot) (t + d)
-unfolding acted made settled lasting within commanded commandedFrom withCommand timed if_then_else_
+    → acted t o (commandWithDuration document01 k d) .output .timer ≡ Running (o .settings .slot) (t + d)
+unfolding acted done afterEvents commandWithDuration within commanded commandedFrom withCommand timed if_then_else_
 duration-lasts t d o k h m =
     rw (eqb-miss {a = d} {b = 0xffff_ffff} (omega arith), eqb-miss {a = d} {b = 0} (omega arith), leb-yes {a = 100} {b = d} h, leb-yes {a = d} {b = 86400000} m)
 
 pub duration-empties : {t t′ : ℕ} {o′ : Output} (o : Output) (d : ℕ) (k : Operation) → 100 ≤ d → d ≤ 86400000
-    → Sound t (acted t o (lasting standard k d) .output) → Life t (acted t o (lasting standard k d) .output) t′ o′ → suc t′ ≡ t + d
+    → Sound t (acted t o (commandWithDuration document01 k d) .output) → Life t (acted t o (commandWithDuration document01 k d) .output) t′ o′ → suc t′ ≡ t + d
     → (slot (tick t′ o′ .slots) (o .settings .slot) ≡ none) × (tick t′ o′ .timer ≡ Off)
 duration-empties {t} {t′} {o′} o d k h m sound l e =
     expires t′ (o .settings .slot) o′ (life-sound l sound)
@@ -297,23 +297,23 @@ duration-empties {t} {t′} {o′} o d k h m sound l e =
     ∙ ap (λ (z : ℕ). Running (o .settings .slot) z) (sym e))
 
 -- 0 cancels, and what was cancelled never falls due
-pub duration-cancels : {t t′ : ℕ} {o′ : Output} (o : Output) (k : Operation) → Life t (acted t o (lasting standard k 0) .output) t′ o′ → o′ .timer ≡ Off
+pub duration-cancels : {t t′ : ℕ} {o′ : Output} (o : Output) (k : Operation) → Life t (acted t o (commandWithDuration document01 k 0) .output) t′ o′ → o′ .timer ≡ Off
 duration-cancels {t} o k l = stays-off l off
   where
-    off : acted t o (lasting standard k 0) .output .timer ≡ Off
-    off = unfold acted made settled lasting commanded commandedFrom withCommand timed if_then_else_ in refl
+    off : acted t o (commandWithDuration document01 k 0) .output .timer ≡ Off
+    off = unfold acted done afterEvents commandWithDuration commanded commandedFrom withCommand timed if_then_else_ in refl
 
 -- FFFFFFFF leaves it
-pub duration-absent : (t : ℕ) (o : Output) (k : Operation) → acted t o (lasting standard k 0xffff_ffff) .output .timer ≡ o .timer
-unfolding acted made settled lasting commanded commandedFrom withCommand timed if_then_else_
+pub duration-absent : (t : ℕ) (o : Output) (k : Operation) → acted t o (commandWithDuration document01 k 0xffff_ffff) .output .timer ≡ o .timer
+unfolding acted done afterEvents commandWithDuration commanded commandedFrom withCommand timed if_then_else_
 duration-absent t o k = refl
 
 -- any other is refused: 1 to 99, and above 86,400,000
-pub duration-low : (d : ℕ) (k : Operation) → 0 < d → d < 100 → lasting standard k d ≡ Refuse 12
-unfolding lasting within if_then_else_
+pub duration-low : (d : ℕ) (k : Operation) → 0 < d → d < 100 → commandWithDuration document01 k d ≡ Refuse 12
+unfolding commandWithDuration within if_then_else_
 duration-low d k h m = rw (eqb-miss {a = d} {b = 0xffff_ffff} (omega arith), eqb-miss {a = d} {b = 0} (omega arith), leb-no {a = 100} {b = d} m)
 
-pub duration-high : (d : ℕ) (k : Operation) → 86400000 < d → d ≢ 0xffff_ffff → lasting standard k d ≡ Refuse 12
-unfolding lasting within if_then_else_
+pub duration-high : (d : ℕ) (k : Operation) → 86400000 < d → d ≢ 0xffff_ffff → commandWithDuration document01 k d ≡ Refuse 12
+unfolding commandWithDuration within if_then_else_
 duration-high d k h n =
     rw (eqb-miss {a = d} {b = 0xffff_ffff} n, eqb-miss {a = d} {b = 0} (omega arith), leb-yes {a = 100} {b = d} (omega arith), leb-no {a = d} {b = 86400000} h)

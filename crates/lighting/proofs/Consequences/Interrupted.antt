@@ -1,4 +1,4 @@
--- WHAT ENDS A WARNING, AND WHAT IT LEAVES. A warning is running exactly while slot 6 is live (the record rules). Assumes nothing.
+-- WHAT ENDS A WARNING, AND WHAT IT LEAVES. A warning is running exactly while slot 6 is live (the record rules).
 use mathlib.Core.Path.{_≡_, refl, sym, _∙_}
 use mathlib.Core.Logic.{_≢_}
 use mathlib.Core.Bool.{true, false, false≢true}
@@ -6,9 +6,9 @@ use mathlib.Core.Option.{Option, none, some}
 use Prim.Native.Nat.{ℕ, _<_}
 use native.Mathlib.Omega.{arith}
 use lib.ListN.{length}
-use Rattle.lighting.specs.Choice.{if_then_else_}
-use Rattle.lighting.specs.Slots.{slot, lives, put, emptied}
-use Rattle.lighting.specs.Writing.{withEffect, passedOver, endedEmpty, endedStored, writtenWarned, writtenBy, written, vacatedActivity, vacated}
+use Rattle.lighting.specs.Paper.Choice.{if_then_else_}
+use Rattle.lighting.specs.Paper.Slots.{slot, isLive, put, emptied}
+use Rattle.lighting.specs.Paper.Writing.{withEffect, endMovementUnlessAbove, endedEmpty, endedStored, writtenWarned, writtenBy, written, activityRelinquished, slotRelinquished}
 use Rattle.lighting.specs.declared.Activity.{Activity}
 use Rattle.lighting.specs.declared.Activity.the-variants.{Still, Moving, Warned}
 use Rattle.lighting.specs.declared.Output.{Output}
@@ -39,14 +39,14 @@ put-leaves o i x z k n =
     }
 
 -- 'During a warning'
-warned-by : (t : ℕ) (o : Output) (i v : ℕ) (a : Activity) → Acts t (o .settings) (o .slots) a → lives (o .slots) 5 ≡ true
+warned-by : (t : ℕ) (o : Output) (i v : ℕ) (a : Activity) → Acts t (o .settings) (o .slots) a → isLive (o .slots) 5 ≡ true
     → writtenBy t o i v a ≡ writtenWarned o i v
 unfolding writtenBy
 warned-by t o i v Still h e = absurd (false≢true (sym h ∙ e))
 warned-by t o i v (Moving m) h e = absurd (false≢true (sym (h .six) ∙ e))
 warned-by t o i v (Warned w) h e = refl
 
-module _ (t : ℕ) (o : Output) (h : Sound t o) (runs : lives (o .slots) 5 ≡ true) (i : ℕ) (k : Slot i) where
+module _ (t : ℕ) (o : Output) (h : Sound t o) (runs : isLive (o .slots) 5 ≡ true) (i : ℕ) (k : Slot i) where
   -- 'kind 02 of zero at P above 6 empties slots 6 and P'
   pub zero-above : 5 < i → Leaves o (written t o i 0) i none none Still
   unfolding written writtenWarned endedEmpty if_then_else_
@@ -69,18 +69,18 @@ module _ (t : ℕ) (o : Output) (h : Sound t o) (runs : lives (o .slots) 5 ≡ t
       (put-leaves o i (some v) (h .slots .size) (k .inside) (k .free))
 
   -- 'kind 03 leaves it running'
-  pub runs-on : Leaves o (vacated o i) i (slot (o .slots) 5) none (o .activity)
-  unfolding vacated withEffect
+  pub runs-on : Leaves o (slotRelinquished o i) i (slot (o .slots) 5) none (o .activity)
+  unfolding slotRelinquished withEffect
   runs-on =
       record {
         six = slot-other (o .slots) (h .slots .size) i 5 none (k .inside) (k .free);
         own = slot-same (o .slots) (h .slots .size) i none (k .inside);
         rest = λ j p r. slot-other (o .slots) (h .slots .size) i j none (k .inside) (λ e. r (sym e));
-        activity = left (o .activity) (h .activity);
+        activity = unchanged (o .activity) (h .activity);
       }
     where
-      left : (a : Activity) → Acts t (o .settings) (o .slots) a → vacatedActivity (lives (o .slots) i) i a ≡ a
-      left Still q = absurd (false≢true (sym q ∙ runs))
-      left (Moving m) q = absurd (false≢true (sym (q .six) ∙ runs))
-      left (Warned w) q =
-          unfold vacatedActivity passedOver if_then_else_ in (by-bool (lives (o .slots) i) (λ e. rw e) (λ e. rw e))
+      unchanged : (a : Activity) → Acts t (o .settings) (o .slots) a → activityRelinquished (isLive (o .slots) i) i a ≡ a
+      unchanged Still q = absurd (false≢true (sym q ∙ runs))
+      unchanged (Moving m) q = absurd (false≢true (sym (q .six) ∙ runs))
+      unchanged (Warned w) q =
+          unfold activityRelinquished endMovementUnlessAbove if_then_else_ in (by-bool (isLive (o .slots) i) (λ e. rw e) (λ e. rw e))

@@ -1,4 +1,4 @@
--- A FADE AND A RAMP begin at the start level and end on the target at their length; between, they are where the paper's formula says. Assumes nothing.
+-- A FADE AND A RAMP begin at the start level and end on the target at their length; between, they are where the paper's formula says.
 use mathlib.Core.Path.{_≡_, refl, sym, ap, subst, _∙_}
 use mathlib.Core.Logic.{_≢_}
 use Prim.Native.Nat.{ℕ, zero, suc, _+_, _-_, _*_, _/_, _≤_, _<_, min}
@@ -8,12 +8,12 @@ use lib.Dec.{leb}
 use lib.Ieee.{Float}
 use lib.ListN.{length}
 use mathlib.Core.Option.{none}
-use Rattle.lighting.specs.Choice.{if_then_else_}
-use Rattle.lighting.specs.Level.{levelUnits, amountUnits}
-use Rattle.lighting.specs.Slots.{Slots, winner, filled}
-use Rattle.lighting.specs.Value.{brought, presentValue, elapsed, gone, reachedBy, reached, progressBy, progressValue, inProcess}
-use Rattle.lighting.specs.Passing.{withBurning, burned, activityDue, isDue, nextActivity, activityAt, nextSlots, slotsAt, settled, fire, ticks}
-use Rattle.lighting.specs.Commands.{unwarned, unwarnedActivity, replaced, placed, movement, apart, rampLength, target, fadedOver, fadedTo, rampedAt, rampedTo, effect, withCommand, commandedFrom, commanded}
+use Rattle.lighting.specs.Paper.Choice.{if_then_else_}
+use Rattle.lighting.specs.Paper.Level.{levelUnits, amountUnits}
+use Rattle.lighting.specs.Paper.Slots.{Slots, winner, filled}
+use Rattle.lighting.specs.Paper.Value.{clampLit, presentValue, elapsed, distanceMoved, reachedBy, reached, progressBy, progressValue, inProcess}
+use Rattle.lighting.specs.Paper.Passing.{withBurning, withBurned, activityDue, isDue, nextActivity, activityAt, nextSlots, slotsAt, afterEvents, fire, ticks}
+use Rattle.lighting.specs.Paper.Commands.{withoutWarning, activityWithoutWarning, replaced, placed, movement, distance, rampLength, target, fadedOver, fadedTo, rampedAt, rampedTo, effect, withCommand, commandedFrom, commanded}
 use Rattle.lighting.specs.declared.Pace.{Pace}
 use Rattle.lighting.specs.declared.Pace.the-variants.{Fade, Ramp}
 use Rattle.lighting.specs.declared.Movement.{Movement}
@@ -27,13 +27,13 @@ use Rattle.lighting.specs.declared.Command.{Command}
 use Rattle.lighting.specs.declared.Effect.{Effect}
 use Rattle.lighting.specs.declared.Output.{Output}
 use Rattle.lighting.proofs.Split.{by-eq, by-le, eqb-hit, eqb-miss}
-use Rattle.lighting.proofs.Passing.{TimerAfter, After, both-after, timer-earlier, released-quiet, expired-quiet, quiet-ticks, hop-ticks}
+use Rattle.lighting.proofs.Passing.{TimerAfter, After, both-after, timer-earlier, endMovementOnExpiry-quiet, expired-quiet, quiet-ticks, eventStep-ticks}
 use Rattle.lighting.proofs.Facts.{Acts, Timed, Sound}
-use Rattle.lighting.proofs.Good.{GoodOperation, GoodDuration}
+use Rattle.lighting.proofs.RequestInRange.{OperationInRange, DurationInRange}
 use Rattle.lighting.proofs.Mask.{put-size}
-use Rattle.lighting.proofs.Winner.{topmost-filled}
+use Rattle.lighting.proofs.Winner.{winningLevel-filled}
 use Rattle.lighting.proofs.Ranges.{amount-range}
-use Rattle.lighting.proofs.Shown.{brought-brought}
+use Rattle.lighting.proofs.Shown.{clampLit-clampLit}
 use Rattle.lighting.proofs.Commanded.{commanded-sound}
 
 -- THE FORMULA, up or down: of the two ways g - s and s - g one is 0
@@ -50,8 +50,8 @@ along (Ramp r) s g l k = ramped s g r k
 no-way : (k l : ℕ) → 0 * k / l ≡ 0
 no-way k l = rw (zero-mul k) (zero-div l)
 
-along-by : (w : Pace) (s g l k : ℕ) → (if leb s g then s + gone w (g - s) l k else s - gone w (s - g) l k) ≡ along w s g l k
-unfolding gone if_then_else_
+along-by : (w : Pace) (s g l k : ℕ) → (if leb s g then s + distanceMoved w (g - s) l k else s - distanceMoved w (s - g) l k) ≡ along w s g l k
+unfolding distanceMoved if_then_else_
 along-by Fade s g l k =
     by-le s g
     (λ h e. let z : s - g ≡ 0 = omega arith in rw (e, z, no-way k l) (omega arith))
@@ -80,24 +80,24 @@ ceiling d r h =
     let m = mod-lt (1000 * d + (r - 1)) h in
     omega arith
 
-pub ramped-last : (s g r : ℕ) → 0 < r → ramped s g r (rampLength (apart s g) r) ≡ g
+pub ramped-last : (s g r : ℕ) → 0 < r → ramped s g r (rampLength (distance s g) r) ≡ g
 ramped-last s g r h =
-    let c = ceiling (apart s g) r h in
-    let z : apart s g ≤ r * rampLength (apart s g) r / 1000 = le-div-iff-mul-le {k = 1000} (omega arith) .1 (omega arith) in
+    let c = ceiling (distance s g) r h in
+    let z : distance s g ≤ r * rampLength (distance s g) r / 1000 = le-div-iff-mul-le {k = 1000} (omega arith) .1 (omega arith) in
     omega arith
 
-pub ramped-before : (s g r k : ℕ) → 0 < r → k < rampLength (apart s g) r → r * k < 1000 * apart s g
+pub ramped-before : (s g r k : ℕ) → 0 < r → k < rampLength (distance s g) r → r * k < 1000 * distance s g
 ramped-before s g r k h l =
-    let c = ceiling (apart s g) r h in
-    let z : r * suc k ≤ r * rampLength (apart s g) r = mul-le-mul-left r l in
+    let c = ceiling (distance s g) r h in
+    let z : r * suc k ≤ r * rampLength (distance s g) r = mul-le-mul-left r l in
     omega arith
 
 -- at its last moment a movement ends, and no slot changes
 over-at : (d : ℕ) (o : Output) (m : Movement) → o .activity ≡ Moving m → m .over ≡ d → TimerAfter d (o .timer)
     → (fire d o .activity ≡ Still) × (fire d o .slots ≡ o .slots) × (fire d o .settings ≡ o .settings)
-unfolding fire settled isDue activityDue nextActivity activityAt nextSlots slotsAt if_then_else_
+unfolding fire afterEvents isDue activityDue nextActivity activityAt nextSlots slotsAt if_then_else_
 over-at d o m e h a =
-    rw (released-quiet d (o .timer) (o .activity) a, expired-quiet d (o .timer) (o .slots) a, e, eqb-hit {a = m .over} {b = d} h)
+    rw (endMovementOnExpiry-quiet d (o .timer) (o .activity) a, expired-quiet d (o .timer) (o .slots) a, e, eqb-hit {a = m .over} {b = d} h)
     (refl, refl, refl)
 
 pub progress-still : (t : ℕ) (o : Output) → o .activity ≡ Still → progressValue t o ≡ presentValue (o .settings) (o .slots)
@@ -111,7 +111,7 @@ module _ (t : ℕ) (o : Output) (m : Movement) (moves : o .activity ≡ Moving m
 
   pub moving : (k : ℕ) → k < m .length → TimerAfter (t + k) (o .timer)
       → (progressValue (t + k) (ticks k t o) ≡ along (m .pace) (m .start) (m .target) (m .length) k) × (inProcess (ticks k t o .activity) ≡ 1)
-  unfolding burned withBurning progressValue progressBy inProcess reached
+  unfolding withBurned withBurning progressValue progressBy inProcess reached
   moving k h a =
       let z : elapsed (t + k) m ≡ k = omega arith in
       rw (quiet-ticks k t o (moving-after k h a), moves) (ap (reachedBy m) z ∙ along-reached m k, refl)
@@ -127,14 +127,14 @@ module _ (t : ℕ) (o : Output) (m : Movement) (moves : o .activity ≡ Moving m
       go : (l : ℕ) → m .length ≡ l → (progressValue (t + l) (ticks l t o) ≡ m .target) × (inProcess (ticks l t o .activity) ≡ 0)
       go zero e = absurd (omega arith)
       go (suc n) e =
-          let b = burned t (suc n) o in
-          let f = over-at (suc (t + n)) b m (unfold burned withBurning in moves) (omega arith)
-          (unfold burned withBurning in (subst (λ (d : ℕ). TimerAfter d (o .timer)) (let z : t + m .length ≡ suc (t + n) = omega arith in z) a)) in
+          let b = withBurned t (suc n) o in
+          let f = over-at (suc (t + n)) b m (unfold withBurned withBurning in moves) (omega arith)
+          (unfold withBurned withBurning in (subst (λ (d : ℕ). TimerAfter d (o .timer)) (let z : t + m .length ≡ suc (t + n) = omega arith in z) a)) in
           let q = moving-after n (omega arith) (timer-earlier (o .timer) (omega arith) a) in
           rw
-          (hop-ticks n t o q) (
+          (eventStep-ticks n t o q) (
             progress-still (t + suc n) (fire (suc (t + n)) b) (f .0)
-                ∙ rw (f .1, f .2) (unfold burned withBurning in (sym aims)),
+                ∙ rw (f .1, f .2) (unfold withBurned withBurning in (sym aims)),
             unfold inProcess in (rw (f .0)),
           )
 
@@ -159,7 +159,7 @@ timer-sound t (Running q d) h = h .1
 -- an output at rest stays as it is
 resting : (t k : ℕ) (o : Output) → o .activity ≡ Still → TimerAfter (t + k) (o .timer)
     → (progressValue (t + k) (ticks k t o) ≡ presentValue (o .settings) (o .slots)) × (inProcess (ticks k t o .activity) ≡ 0)
-unfolding burned withBurning progressValue progressBy inProcess
+unfolding withBurned withBurning progressValue progressBy inProcess
 resting t k o e a = rw (quiet-ticks k t o (both-after (t + k) o a (rw e (unfold activityDue in tt))), e) (refl, refl)
 
 module _ (t : ℕ) (o o′ : Output) (p g l : ℕ) (w : Pace) (sound : Sound t o′)
@@ -195,24 +195,24 @@ module _ (t : ℕ) (o o′ : Output) (p g l : ℕ) (w : Pace) (sound : Sound t o
   course : Course t o o′ g l w
   course = by-eq (progressValue t o) g (λ e z. at-rest e) (λ e z. on-the-way e)
 
-pub unwarned-size : (s : Slots) (a : Activity) → length (unwarned s a .levels) ≡ length (s .levels)
-unfolding unwarned
-unwarned-size s Still = refl
-unwarned-size s (Moving m) = refl
-unwarned-size s (Warned w) = put-size s 5 none
+pub withoutWarning-size : (s : Slots) (a : Activity) → length (withoutWarning s a .levels) ≡ length (s .levels)
+unfolding withoutWarning
+withoutWarning-size s Still = refl
+withoutWarning-size s (Moving m) = refl
+withoutWarning-size s (Warned w) = put-size s 5 none
 
 -- 'If p is then the winner it replaces the movement': the four commands that move, to the target x
-module _ (t : ℕ) (o : Output) (k : Command) (h : Sound t o) (good : GoodOperation (k .operation)) (lasts : GoodDuration (k .duration))
+module _ (t : ℕ) (o : Output) (k : Command) (h : Sound t o) (good : OperationInRange (k .operation)) (lasts : DurationInRange (k .duration))
     (wins : winner (commanded t o k .slots) ≡ o .settings .slot) (x : Float) where
   abbrev before : Slots
-  before = unwarned (o .slots) (o .activity)
+  before = withoutWarning (o .slots) (o .activity)
 
   abbrev goal : ℕ
   goal = target (o .settings) x
 
   moved : (l : ℕ) (w : Pace)
-      → effect t (o .settings) (progressValue t o) before (unwarnedActivity (o .activity)) (k .operation)
-      ≡ placed before (unwarnedActivity (o .activity)) (o .settings .slot) goal (movement t (o .settings .slot) (progressValue t o) goal l w)
+      → effect t (o .settings) (progressValue t o) before (activityWithoutWarning (o .activity)) (k .operation)
+      ≡ placed before (activityWithoutWarning (o .activity)) (o .settings .slot) goal (movement t (o .settings .slot) (progressValue t o) goal l w)
       → (progressValue t o ≢ goal → 0 < l) → along w (progressValue t o) goal l l ≡ goal
       → Course t o (commanded t o k) goal l w
   moved l w e long last =
@@ -229,16 +229,16 @@ module _ (t : ℕ) (o : Output) (k : Command) (h : Sound t o) (good : GoodOperat
       settings = unfold commanded commandedFrom withCommand in refl
 
       size : length (before .levels) ≡ 16
-      size = unwarned-size (o .slots) (o .activity) ∙ h .slots .size
+      size = withoutWarning-size (o .slots) (o .activity) ∙ h .slots .size
 
       shows : presentValue (commanded t o k .settings) (commanded t o k .slots) ≡ goal
       shows = rw (settings, slots)
           (unfold presentValue in
-          (ap (brought (o .settings)) (topmost-filled before size (o .settings .default) (o .settings .slot) goal (h .settings .slot .inside) (ap winner (sym slots) ∙ wins))
-          ∙ (unfold target in (brought-brought (o .settings) (levelUnits x) (h .settings)))))
+          (ap (clampLit (o .settings)) (winningLevel-filled before size (o .settings .default) (o .settings .slot) goal (h .settings .slot .inside) (ap winner (sym slots) ∙ wins))
+          ∙ (unfold target in (clampLit-clampLit (o .settings) (levelUnits x) (h .settings)))))
 
 -- FADE_TO and FADE_TO_OVER begin at Progress_Value and end on the target at the fade time
-pub fade-to : (t : ℕ) (o : Output) (x : Float) (d : Duration) → Sound t o → GoodDuration d
+pub fade-to : (t : ℕ) (o : Output) (x : Float) (d : Duration) → Sound t o → DurationInRange d
     → winner (commanded t o (record { operation = FadeTo x; duration = d }) .slots) ≡ o .settings .slot
     → Course t o (commanded t o (record { operation = FadeTo x; duration = d })) (target (o .settings) x) (o .settings .fade) Fade
 fade-to t o x d h g w =
@@ -247,7 +247,7 @@ fade-to t o x d h g w =
     (λ n. omega (arith, h .settings .fade))
     (faded-last (progressValue t o) (target (o .settings) x) (o .settings .fade) (omega (arith, h .settings .fade)))
 
-pub fade-to-over : (t : ℕ) (o : Output) (x : Float) (l : ℕ) (d : Duration) → Sound t o → GoodOperation (FadeToOver x l) → GoodDuration d
+pub fade-to-over : (t : ℕ) (o : Output) (x : Float) (l : ℕ) (d : Duration) → Sound t o → OperationInRange (FadeToOver x l) → DurationInRange d
     → winner (commanded t o (record { operation = FadeToOver x l; duration = d }) .slots) ≡ o .settings .slot
     → Course t o (commanded t o (record { operation = FadeToOver x l; duration = d })) (target (o .settings) x) l Fade
 fade-to-over t o x l d h r g w =
@@ -257,31 +257,31 @@ fade-to-over t o x l d h r g w =
     (faded-last (progressValue t o) (target (o .settings) x) l (omega (arith, r .least)))
 
 -- RAMP_TO and RAMP_TO_AT_RATE begin at Progress_Value and end on the target at 'L = ceiling(1,000 × |g - s| / R)'
-ramp-long : (s g : ℕ) (r : Float) → s ≢ g → 0 < rampLength (apart s g) (amountUnits r)
+ramp-long : (s g : ℕ) (r : Float) → s ≢ g → 0 < rampLength (distance s g) (amountUnits r)
 unfolding rampLength
 ramp-long s g r n =
     let a = amount-range r in
-    let z : 1 ≤ (1000 * apart s g + (amountUnits r - 1)) / amountUnits r = le-div-iff-mul-le {k = amountUnits r} (omega arith) .1 (omega arith) in
+    let z : 1 ≤ (1000 * distance s g + (amountUnits r - 1)) / amountUnits r = le-div-iff-mul-le {k = amountUnits r} (omega arith) .1 (omega arith) in
     z
 
-pub ramp-to : (t : ℕ) (o : Output) (x : Float) (d : Duration) → Sound t o → GoodDuration d
+pub ramp-to : (t : ℕ) (o : Output) (x : Float) (d : Duration) → Sound t o → DurationInRange d
     → winner (commanded t o (record { operation = RampTo x; duration = d }) .slots) ≡ o .settings .slot
     → Course t o (commanded t o (record { operation = RampTo x; duration = d })) (target (o .settings) x)
-    (rampLength (apart (progressValue t o) (target (o .settings) x)) (amountUnits (o .settings .ramp))) (Ramp (amountUnits (o .settings .ramp)))
+    (rampLength (distance (progressValue t o) (target (o .settings) x)) (amountUnits (o .settings .ramp))) (Ramp (amountUnits (o .settings .ramp)))
 ramp-to t o x d h g w =
     moved t o (record { operation = RampTo x; duration = d }) h tt g w x
-    (rampLength (apart (progressValue t o) (target (o .settings) x)) (amountUnits (o .settings .ramp))) (Ramp (amountUnits (o .settings .ramp)))
+    (rampLength (distance (progressValue t o) (target (o .settings) x)) (amountUnits (o .settings .ramp))) (Ramp (amountUnits (o .settings .ramp)))
     (unfold effect rampedTo rampedAt in refl)
     (ramp-long (progressValue t o) (target (o .settings) x) (o .settings .ramp))
     (ramped-last (progressValue t o) (target (o .settings) x) (amountUnits (o .settings .ramp)) (omega (arith, amount-range (o .settings .ramp))))
 
-pub ramp-to-at-rate : (t : ℕ) (o : Output) (x r : Float) (d : Duration) → Sound t o → GoodDuration d
+pub ramp-to-at-rate : (t : ℕ) (o : Output) (x r : Float) (d : Duration) → Sound t o → DurationInRange d
     → winner (commanded t o (record { operation = RampToAtRate x r; duration = d }) .slots) ≡ o .settings .slot
     → Course t o (commanded t o (record { operation = RampToAtRate x r; duration = d })) (target (o .settings) x)
-    (rampLength (apart (progressValue t o) (target (o .settings) x)) (amountUnits r)) (Ramp (amountUnits r))
+    (rampLength (distance (progressValue t o) (target (o .settings) x)) (amountUnits r)) (Ramp (amountUnits r))
 ramp-to-at-rate t o x r d h g w =
     moved t o (record { operation = RampToAtRate x r; duration = d }) h tt g w x
-    (rampLength (apart (progressValue t o) (target (o .settings) x)) (amountUnits r)) (Ramp (amountUnits r))
+    (rampLength (distance (progressValue t o) (target (o .settings) x)) (amountUnits r)) (Ramp (amountUnits r))
     (unfold effect rampedTo rampedAt in refl)
     (ramp-long (progressValue t o) (target (o .settings) x) r)
     (ramped-last (progressValue t o) (target (o .settings) x) (amountUnits r) (omega (arith, amount-range r)))

@@ -1,21 +1,21 @@
 -- COMMAND, THEN READ 0F to 14: kind k, 10 to 1A, with the 32-bit fields x, y, z, answered Done; then kind 05 answers the fields as they were sent,
--- Absent where the operation has none. Assumes nothing.
+-- Absent where the operation has none.
 use mathlib.Core.Path.{_≡_, refl, _∙_}
 use mathlib.Core.List.{List, [], _∷_, map}
 use Prim.Native.Nat.{ℕ, _^_, _<_}
 use lib.Dec.{eqb}
-use Rattle.lighting.specs.Choice.{if_then_else_}
-use Rattle.lighting.specs.Parameters.{standard}
-use Rattle.lighting.specs.Level.{real}
-use Rattle.lighting.specs.Field.{bigEndian}
-use Rattle.lighting.specs.Rows.{within}
-use Rattle.lighting.specs.Passing.{settled}
-use Rattle.lighting.specs.Operations.{operationNumber, fieldsOf}
-use Rattle.lighting.specs.Properties.{numbered, propertyOf, realAnswer, realFieldAnswer, timeFieldAnswer, lastDuration, shown}
-use Rattle.lighting.specs.Commands.{withCommand, commandedFrom, commanded}
-use Rattle.lighting.specs.Acting.{made, left, acted}
-use Rattle.lighting.specs.Kinds.{kindRow}
-use Rattle.lighting.specs.Frames.{Bytes, fieldsRefusal, lasting, orderedBy, ordered, requestOf}
+use Rattle.lighting.specs.Paper.Choice.{if_then_else_}
+use Rattle.lighting.specs.Paper.Parameters.{document01}
+use Rattle.lighting.specs.Paper.Level.{real}
+use Rattle.lighting.specs.Paper.Field.{bigEndian}
+use Rattle.lighting.specs.Paper.Rows.{within}
+use Rattle.lighting.specs.Paper.Passing.{afterEvents}
+use Rattle.lighting.specs.Paper.Operations.{operationNumber, fieldsOf}
+use Rattle.lighting.specs.Paper.Properties.{numbered, propertyOf, realAnswer, realFieldAnswer, timeFieldAnswer, lastDuration, readProperty}
+use Rattle.lighting.specs.Paper.Commands.{withCommand, commandedFrom, commanded}
+use Rattle.lighting.specs.Paper.Acting.{done, unchanged, acted}
+use Rattle.lighting.specs.Paper.Kinds.{kindRow}
+use Rattle.lighting.specs.Paper.Frames.{Bytes, fieldsRefusal, commandWithDuration, commandRequestBy, commandRequest, requestOf}
 use Rattle.lighting.specs.declared.Answer.{Answer}
 use Rattle.lighting.specs.declared.Answer.the-variants.{Done, Value, Absent}
 use Rattle.lighting.specs.declared.Operation.{Operation}
@@ -64,9 +64,9 @@ back k d =
 
 module _ (t t′ : ℕ) (o : Output) where
   -- an operation whose fields are in range, and any
-  of-lasting : (k : Operation) (d : ℕ) → acted t o (lasting standard k d) .answer ≡ Done → last t′ (acted t o (lasting standard k d) .output) ≡ back k d
-  unfolding acted made left settled lasting commanded commandedFrom withCommand propertyOf numbered shown lastDuration if_then_else_
-  of-lasting k d =
+  of-commandWithDuration : (k : Operation) (d : ℕ) → acted t o (commandWithDuration document01 k d) .answer ≡ Done → last t′ (acted t o (commandWithDuration document01 k d) .output) ≡ back k d
+  unfolding acted done unchanged afterEvents commandWithDuration commanded commandedFrom withCommand propertyOf numbered readProperty lastDuration if_then_else_
+  of-commandWithDuration k d =
       by-eq d 0xffff_ffff
       (λ p e. rw e (λ h. refl))
       (λ p e. rw e
@@ -74,13 +74,13 @@ module _ (t t′ : ℕ) (o : Output) where
       (λ q f. rw f (λ h. rw q))
       (λ q f. rw f (by-bool (within 100 86400000 d) (λ g. rw g (λ h. refl)) (λ g. rw g (λ h. refused h))))))
 
-  of-ordered : (k : Operation) (d : ℕ) (l : List Answer) → (fieldsRefusal standard (fieldsOf k) ≡ 0 → back k d ≡ l)
-      → acted t o (ordered standard k d) .answer ≡ Done → last t′ (acted t o (ordered standard k d) .output) ≡ l
-  unfolding ordered orderedBy if_then_else_
-  of-ordered k d l f =
-      by-eq (fieldsRefusal standard (fieldsOf k)) 0
-      (λ p e. rw e (λ h. of-lasting k d h ∙ f p))
-      (λ p e. rw e (λ h. unfold acted left in (refused h)))
+  of-commandRequest : (k : Operation) (d : ℕ) (l : List Answer) → (fieldsRefusal document01 (fieldsOf k) ≡ 0 → back k d ≡ l)
+      → acted t o (commandRequest document01 k d) .answer ≡ Done → last t′ (acted t o (commandRequest document01 k d) .output) ≡ l
+  unfolding commandRequest commandRequestBy if_then_else_
+  of-commandRequest k d l f =
+      by-eq (fieldsRefusal document01 (fieldsOf k)) 0
+      (λ p e. rw e (λ h. of-commandWithDuration k d h ∙ f p))
+      (λ p e. rw e (λ h. unfold acted unchanged in (refused h)))
 
   -- A FRAME of kind k: its fields are the words at 13, 17 and 21
   module _ (b : Bytes) where
@@ -95,17 +95,17 @@ module _ (t t′ : ℕ) (o : Output) where
 
     -- 'fields left to right', the duration last
     pub commands-asked : map (λ (k : ℕ). asked k b) (0x10 ∷ 0x11 ∷ 0x12 ∷ 0x13 ∷ 0x14 ∷ 0x15 ∷ 0x16 ∷ 0x17 ∷ 0x18 ∷ 0x19 ∷ 0x1a ∷ [])
-        ≡ ordered standard Stop x
-        ∷ ordered standard (FadeTo (real x)) y
-        ∷ ordered standard (FadeToOver (real x) y) z
-        ∷ ordered standard (RampTo (real x)) y
-        ∷ ordered standard (RampToAtRate (real x) (real y)) z
-        ∷ ordered standard StepUp x
-        ∷ ordered standard StepDown x
-        ∷ ordered standard (StepUpBy (real x)) y
-        ∷ ordered standard (StepDownBy (real x)) y
-        ∷ ordered standard (Goto (real x)) y
-        ∷ ordered standard Relinquish x
+        ≡ commandRequest document01 Stop x
+        ∷ commandRequest document01 (FadeTo (real x)) y
+        ∷ commandRequest document01 (FadeToOver (real x) y) z
+        ∷ commandRequest document01 (RampTo (real x)) y
+        ∷ commandRequest document01 (RampToAtRate (real x) (real y)) z
+        ∷ commandRequest document01 StepUp x
+        ∷ commandRequest document01 StepDown x
+        ∷ commandRequest document01 (StepUpBy (real x)) y
+        ∷ commandRequest document01 (StepDownBy (real x)) y
+        ∷ commandRequest document01 (Goto (real x)) y
+        ∷ commandRequest document01 Relinquish x
         ∷ []
     unfolding kindRow requestOf if_then_else_
     commands-asked = refl
@@ -115,46 +115,46 @@ module _ (t t′ : ℕ) (o : Output) where
 
     pub stop : Then 0x10
     unfolding kindRow requestOf operationNumber fieldsOf realFieldAnswer timeFieldAnswer realAnswer if_then_else_
-    stop = of-ordered Stop x (sent 0x10 x y z) (λ p. refl)
+    stop = of-commandRequest Stop x (sent 0x10 x y z) (λ p. refl)
 
     pub step-up : Then 0x15
     unfolding kindRow requestOf operationNumber fieldsOf realFieldAnswer timeFieldAnswer realAnswer if_then_else_
-    step-up = of-ordered StepUp x (sent 0x15 x y z) (λ p. refl)
+    step-up = of-commandRequest StepUp x (sent 0x15 x y z) (λ p. refl)
 
     pub step-down : Then 0x16
     unfolding kindRow requestOf operationNumber fieldsOf realFieldAnswer timeFieldAnswer realAnswer if_then_else_
-    step-down = of-ordered StepDown x (sent 0x16 x y z) (λ p. refl)
+    step-down = of-commandRequest StepDown x (sent 0x16 x y z) (λ p. refl)
 
     pub relinquish : Then 0x1a
     unfolding kindRow requestOf operationNumber fieldsOf realFieldAnswer timeFieldAnswer realAnswer if_then_else_
-    relinquish = of-ordered Relinquish x (sent 0x1a x y z) (λ p. refl)
+    relinquish = of-commandRequest Relinquish x (sent 0x1a x y z) (λ p. refl)
 
     pub fade-to : x < 2 ^ 32 → Then 0x11
     unfolding kindRow requestOf operationNumber fieldsOf realFieldAnswer timeFieldAnswer realAnswer if_then_else_
-    fade-to h = of-ordered (FadeTo (real x)) y (sent 0x11 x y z) (λ p. rw (level-field-kept x h (none-met _ p .level) .written))
+    fade-to h = of-commandRequest (FadeTo (real x)) y (sent 0x11 x y z) (λ p. rw (level-field-kept x h (none-met _ p .level) .written))
 
     pub ramp-to : x < 2 ^ 32 → Then 0x13
     unfolding kindRow requestOf operationNumber fieldsOf realFieldAnswer timeFieldAnswer realAnswer if_then_else_
-    ramp-to h = of-ordered (RampTo (real x)) y (sent 0x13 x y z) (λ p. rw (level-field-kept x h (none-met _ p .level) .written))
+    ramp-to h = of-commandRequest (RampTo (real x)) y (sent 0x13 x y z) (λ p. rw (level-field-kept x h (none-met _ p .level) .written))
 
     pub goto : x < 2 ^ 32 → Then 0x19
     unfolding kindRow requestOf operationNumber fieldsOf realFieldAnswer timeFieldAnswer realAnswer if_then_else_
-    goto h = of-ordered (Goto (real x)) y (sent 0x19 x y z) (λ p. rw (level-field-kept x h (none-met _ p .level) .written))
+    goto h = of-commandRequest (Goto (real x)) y (sent 0x19 x y z) (λ p. rw (level-field-kept x h (none-met _ p .level) .written))
 
     pub step-up-by : x < 2 ^ 32 → Then 0x17
     unfolding kindRow requestOf operationNumber fieldsOf realFieldAnswer timeFieldAnswer realAnswer if_then_else_
-    step-up-by h = of-ordered (StepUpBy (real x)) y (sent 0x17 x y z) (λ p. rw (amount-field-kept x h (none-met _ p .step) .written))
+    step-up-by h = of-commandRequest (StepUpBy (real x)) y (sent 0x17 x y z) (λ p. rw (amount-field-kept x h (none-met _ p .step) .written))
 
     pub step-down-by : x < 2 ^ 32 → Then 0x18
     unfolding kindRow requestOf operationNumber fieldsOf realFieldAnswer timeFieldAnswer realAnswer if_then_else_
-    step-down-by h = of-ordered (StepDownBy (real x)) y (sent 0x18 x y z) (λ p. rw (amount-field-kept x h (none-met _ p .step) .written))
+    step-down-by h = of-commandRequest (StepDownBy (real x)) y (sent 0x18 x y z) (λ p. rw (amount-field-kept x h (none-met _ p .step) .written))
 
     -- level, fade time, duration
     pub fade-to-over : x < 2 ^ 32 → Then 0x12
     unfolding kindRow requestOf operationNumber fieldsOf realFieldAnswer timeFieldAnswer realAnswer if_then_else_
-    fade-to-over h = of-ordered (FadeToOver (real x) y) z (sent 0x12 x y z) (λ p. rw (level-field-kept x h (none-met _ p .level) .written))
+    fade-to-over h = of-commandRequest (FadeToOver (real x) y) z (sent 0x12 x y z) (λ p. rw (level-field-kept x h (none-met _ p .level) .written))
 
     -- level, rate, duration
     pub ramp-to-at-rate : x < 2 ^ 32 → y < 2 ^ 32 → Then 0x14
     unfolding kindRow requestOf operationNumber fieldsOf realFieldAnswer timeFieldAnswer realAnswer if_then_else_
-    ramp-to-at-rate h k = of-ordered (RampToAtRate (real x) (real y)) z (sent 0x14 x y z) (λ p. rw (level-field-kept x h (none-met _ p .level) .written, amount-field-kept y k (none-met _ p .rate) .written))
+    ramp-to-at-rate h k = of-commandRequest (RampToAtRate (real x) (real y)) z (sent 0x14 x y z) (λ p. rw (level-field-kept x h (none-met _ p .level) .written, amount-field-kept y k (none-met _ p .rate) .written))

@@ -1,4 +1,4 @@
--- PRESENT_VALUE is the level of the first live slot, or Relinquish_Default's: so an emptied slot hands over to the next live one. Assumes nothing.
+-- PRESENT_VALUE is the level of the first live slot, or Relinquish_Default's: so an emptied slot hands over to the next live one.
 use mathlib.Core.Path.{_≡_, refl, sym, ap, _∙_}
 use mathlib.Core.Logic.{_≢_}
 use mathlib.Core.List.{List, [], _∷_}
@@ -7,12 +7,12 @@ use Prim.Native.Nat.{ℕ, zero, suc, _<_}
 use native.Mathlib.Omega.{arith}
 use lib.ListN.{getD, length}
 use lib.Seq.{getD-set-same, getD-set-other}
-use Rattle.lighting.specs.Slots.{Slots, slotsOf, slot, put, emptied}
-use Rattle.lighting.specs.Value.{brought, presentValue}
+use Rattle.lighting.specs.Paper.Slots.{Slots, slotsOf, slot, put, emptied}
+use Rattle.lighting.specs.Paper.Value.{clampLit, presentValue}
 use Rattle.lighting.specs.declared.Settings.{Settings}
 use Rattle.lighting.proofs.Split.{by-eq}
 use Rattle.lighting.proofs.Mask.{put-slots, slots-size}
-use Rattle.lighting.proofs.Winner.{firstLevel, topmost-view, put-sized}
+use Rattle.lighting.proofs.Winner.{firstLevel, winningLevel-view, put-sized}
 
 pub no-slot : {A : Type 0} {v : ℕ} → _≡_ {A = Option ℕ} none (some v) → A
 no-slot h = let z : _≡_ {A = ℕ} 0 1 = cc in absurd (omega arith)
@@ -40,28 +40,28 @@ module _ (s : Slots) (size : length (s .levels) ≡ 16) where
   slot-other i j x k n = rw (put-slots s i x size k) (getD-set-other (slotsOf s) i j x none (omega arith))
 
   module _ (c : Settings) where
-    present-first : presentValue c s ≡ brought c (firstLevel (c .default) (slotsOf s))
+    present-first : presentValue c s ≡ clampLit c (firstLevel (c .default) (slotsOf s))
     unfolding presentValue
-    present-first = ap (brought c) (topmost-view (c .default) s size)
+    present-first = ap (clampLit c) (winningLevel-view (c .default) s size)
 
     -- 'Present_Value is the winner's level': slot j is live with v, and none before it
-    pub present-at : (j v : ℕ) → slot s j ≡ some v → ((i : ℕ) → i < j → slot s i ≡ none) → presentValue c s ≡ brought c v
-    present-at j v h k = present-first ∙ ap (brought c) (first-at (c .default) (slotsOf s) j v h k)
+    pub present-at : (j v : ℕ) → slot s j ≡ some v → ((i : ℕ) → i < j → slot s i ≡ none) → presentValue c s ≡ clampLit c v
+    present-at j v h k = present-first ∙ ap (clampLit c) (first-at (c .default) (slotsOf s) j v h k)
 
     -- 'or Relinquish_Default with no live slot'
-    pub present-none : ((i : ℕ) → i < 16 → slot s i ≡ none) → presentValue c s ≡ brought c (c .default)
-    present-none k = present-first ∙ ap (brought c) (first-none (c .default) (slotsOf s) (λ i m. k i (omega (arith, slots-size s))))
+    pub present-none : ((i : ℕ) → i < 16 → slot s i ≡ none) → presentValue c s ≡ clampLit c (c .default)
+    present-none k = present-first ∙ ap (clampLit c) (first-none (c .default) (slotsOf s) (λ i m. k i (omega (arith, slots-size s))))
 
 -- A SLOT p EMPTIED, by kind 03, by RELINQUISH or by its duration: Present_Value is the next live slot's
 module _ (s : Slots) (size : length (s .levels) ≡ 16) (c : Settings) (p : ℕ) (inside : p < 16) where
   pub next-live : (j v : ℕ) → j ≢ p → slot s j ≡ some v → ((i : ℕ) → i < j → i ≢ p → slot s i ≡ none)
-      → presentValue c (emptied s p) ≡ brought c v
+      → presentValue c (emptied s p) ≡ clampLit c v
   next-live j v n h k =
       present-at (emptied s p) (put-sized s size p none) c j v (slot-other s size p j none inside (λ e. n (sym e)) ∙ h)
       (λ i m. by-eq i p (λ e t. rw e (slot-same s size p none inside)) (λ e t. slot-other s size p i none inside (λ z. e (sym z)) ∙ k i m e))
 
   -- or Relinquish_Default's, if no other is live
-  pub none-live : ((i : ℕ) → i < 16 → i ≢ p → slot s i ≡ none) → presentValue c (emptied s p) ≡ brought c (c .default)
+  pub none-live : ((i : ℕ) → i < 16 → i ≢ p → slot s i ≡ none) → presentValue c (emptied s p) ≡ clampLit c (c .default)
   none-live k =
       present-none (emptied s p) (put-sized s size p none) c
       (λ i m. by-eq i p (λ e t. rw e (slot-same s size p none inside)) (λ e t. slot-other s size p i none inside (λ z. e (sym z)) ∙ k i m e))

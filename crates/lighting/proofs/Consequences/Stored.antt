@@ -1,14 +1,14 @@
--- KINDS 02 AND 03 without a warning: what is stored, and which movement goes on; and what Present_Value becomes. Assumes nothing.
+-- KINDS 02 AND 03 without a warning: what is stored, and which movement goes on; and what Present_Value becomes.
 use mathlib.Core.Path.{_≡_, sym, _∙_}
 use mathlib.Core.Logic.{_≢_}
 use mathlib.Core.Bool.{true, false}
 use mathlib.Core.Option.{none, some}
 use Prim.Native.Nat.{ℕ, suc, _≤_, _<_}
 use native.Mathlib.Omega.{arith}
-use Rattle.lighting.specs.Choice.{if_then_else_}
-use Rattle.lighting.specs.Slots.{slot, lives}
-use Rattle.lighting.specs.Value.{brought, presentValue}
-use Rattle.lighting.specs.Writing.{withEffect, passedOver, stored, warns, writtenZero, writtenCalm, written, vacatedActivity, vacated}
+use Rattle.lighting.specs.Paper.Choice.{if_then_else_}
+use Rattle.lighting.specs.Paper.Slots.{slot, isLive}
+use Rattle.lighting.specs.Paper.Value.{clampLit, presentValue}
+use Rattle.lighting.specs.Paper.Writing.{withEffect, endMovementUnlessAbove, stored, warns, writtenZero, writtenCalm, written, activityRelinquished, slotRelinquished}
 use Rattle.lighting.specs.declared.Movement.{Movement}
 use Rattle.lighting.specs.declared.Activity.the-variants.{Still, Moving}
 use Rattle.lighting.specs.declared.Duration.{Duration}
@@ -16,13 +16,13 @@ use Rattle.lighting.specs.declared.Operation.the-variants.{Relinquish}
 use Rattle.lighting.specs.declared.Output.{Output}
 use Rattle.lighting.proofs.Split.{by-bool, by-eq, eqb-miss, leb-yes, leb-no}
 use Rattle.lighting.proofs.Facts.{Slot, Sound}
-use Rattle.lighting.proofs.Good.{GoodDuration}
+use Rattle.lighting.proofs.RequestInRange.{DurationInRange}
 use Rattle.lighting.proofs.Commanded.{commanded-sound}
 use Rattle.lighting.proofs.Consequences.Present.{slot-same, slot-other, present-at, present-none, next-live, none-live}
 use Rattle.lighting.proofs.Consequences.Warning.{Starts, warns-starts, calm-by}
 use Rattle.lighting.proofs.Consequences.Targets.{after, relinquish}
 
-module _ (t : ℕ) (o : Output) (h : Sound t o) (calm : lives (o .slots) 5 ≡ false) (i : ℕ) (k : Slot i) where
+module _ (t : ℕ) (o : Output) (h : Sound t o) (calm : isLive (o .slots) 5 ≡ false) (i : ℕ) (k : Slot i) where
   -- a write that starts no warning: of a level above 0, or where the paper's conditions are not met
   pub data Plainly (v : ℕ) : Type 0 where
     above-zero : v ≢ 0 → Plainly v
@@ -47,54 +47,54 @@ module _ (t : ℕ) (o : Output) (h : Sound t o) (calm : lives (o .slots) 5 ≡ f
 
   -- 'A movement goes on if P is above its owner's number [..]; else it ends'
   pub goes-on : (v : ℕ) → Plainly v → (m : Movement) → o .activity ≡ Moving m → m .owner < i → written t o i v .activity ≡ Moving m
-  unfolding stored withEffect passedOver if_then_else_
+  unfolding stored withEffect endMovementUnlessAbove if_then_else_
   goes-on v n m e l = rw (store v n, e, leb-yes {a = suc (m .owner)} {b = i} l)
 
   pub breaks-off : (v : ℕ) → Plainly v → (m : Movement) → o .activity ≡ Moving m → i ≤ m .owner → written t o i v .activity ≡ Still
-  unfolding stored withEffect passedOver if_then_else_
+  unfolding stored withEffect endMovementUnlessAbove if_then_else_
   breaks-off v n m e l = rw (store v n, e, leb-no {a = suc (m .owner)} {b = i} (omega arith))
 
 -- KIND 03
 module _ (t : ℕ) (o : Output) (h : Sound t o) (i : ℕ) (k : Slot i) where
-  pub empties : slot (vacated o i .slots) i ≡ none
-  unfolding vacated withEffect
+  pub empties : slot (slotRelinquished o i .slots) i ≡ none
+  unfolding slotRelinquished withEffect
   empties = slot-same (o .slots) (h .slots .size) i none (k .inside)
 
-  pub empties-rest : (j : ℕ) → j ≢ i → slot (vacated o i .slots) j ≡ slot (o .slots) j
-  unfolding vacated withEffect
+  pub empties-rest : (j : ℕ) → j ≢ i → slot (slotRelinquished o i .slots) j ≡ slot (o .slots) j
+  unfolding slotRelinquished withEffect
   empties-rest j m = slot-other (o .slots) (h .slots .size) i j none (k .inside) (λ e. m (sym e))
 
   -- 'or if kind 03 empties an empty slot'
-  pub empty-goes-on : lives (o .slots) i ≡ false → vacated o i .activity ≡ o .activity
-  unfolding vacated withEffect vacatedActivity if_then_else_
+  pub empty-goes-on : isLive (o .slots) i ≡ false → slotRelinquished o i .activity ≡ o .activity
+  unfolding slotRelinquished withEffect activityRelinquished if_then_else_
   empty-goes-on e = rw e
 
-  pub emptied-goes-on : (m : Movement) → o .activity ≡ Moving m → m .owner < i → vacated o i .activity ≡ Moving m
-  unfolding vacated withEffect vacatedActivity passedOver if_then_else_
-  emptied-goes-on m e l = rw e (by-bool (lives (o .slots) i) (λ f. rw (f, leb-yes {a = suc (m .owner)} {b = i} l)) (λ f. rw f))
+  pub emptied-goes-on : (m : Movement) → o .activity ≡ Moving m → m .owner < i → slotRelinquished o i .activity ≡ Moving m
+  unfolding slotRelinquished withEffect activityRelinquished endMovementUnlessAbove if_then_else_
+  emptied-goes-on m e l = rw e (by-bool (isLive (o .slots) i) (λ f. rw (f, leb-yes {a = suc (m .owner)} {b = i} l)) (λ f. rw f))
 
-  pub emptied-breaks-off : (m : Movement) → o .activity ≡ Moving m → i ≤ m .owner → lives (o .slots) i ≡ true → vacated o i .activity ≡ Still
-  unfolding vacated withEffect vacatedActivity passedOver if_then_else_
+  pub emptied-breaks-off : (m : Movement) → o .activity ≡ Moving m → i ≤ m .owner → isLive (o .slots) i ≡ true → slotRelinquished o i .activity ≡ Still
+  unfolding slotRelinquished withEffect activityRelinquished endMovementUnlessAbove if_then_else_
   emptied-breaks-off m e l f = rw (e, f, leb-no {a = suc (m .owner)} {b = i} (omega arith))
 
   -- PRESENT_VALUE becomes the next live slot's, or Relinquish_Default's
   pub emptied-shows : (j v : ℕ) → j ≢ i → slot (o .slots) j ≡ some v → ((q : ℕ) → q < j → q ≢ i → slot (o .slots) q ≡ none)
-      → presentValue (vacated o i .settings) (vacated o i .slots) ≡ brought (o .settings) v
-  unfolding vacated withEffect
+      → presentValue (slotRelinquished o i .settings) (slotRelinquished o i .slots) ≡ clampLit (o .settings) v
+  unfolding slotRelinquished withEffect
   emptied-shows j v n s b = next-live (o .slots) (h .slots .size) (o .settings) i (k .inside) j v n s b
 
   pub emptied-shows-default : ((q : ℕ) → q < 16 → q ≢ i → slot (o .slots) q ≡ none)
-      → presentValue (vacated o i .settings) (vacated o i .slots) ≡ brought (o .settings) (o .settings .default)
-  unfolding vacated withEffect
+      → presentValue (slotRelinquished o i .settings) (slotRelinquished o i .slots) ≡ clampLit (o .settings) (o .settings .default)
+  unfolding slotRelinquished withEffect
   emptied-shows-default b = none-live (o .slots) (h .slots .size) (o .settings) i (k .inside) b
 
 -- RELINQUISH, of slot p; slot 6 is empty after it in any case
-module _ (t : ℕ) (o : Output) (h : Sound t o) (d : Duration) (g : GoodDuration d) where
+module _ (t : ℕ) (o : Output) (h : Sound t o) (d : Duration) (g : DurationInRange d) where
   abbrev p : ℕ
   p = o .settings .slot
 
   pub relinquished-shows : (j v : ℕ) → j ≢ p → j ≢ 5 → slot (o .slots) j ≡ some v → ((q : ℕ) → q < j → q ≢ p → q ≢ 5 → slot (o .slots) q ≡ none)
-      → presentValue (after t o Relinquish d .settings) (after t o Relinquish d .slots) ≡ brought (o .settings) v
+      → presentValue (after t o Relinquish d .settings) (after t o Relinquish d .slots) ≡ clampLit (o .settings) v
   relinquished-shows j v n m s b =
       rw (relinquish t o h d .settings)
       (present-at (after t o Relinquish d .slots) (commanded-sound t o (record { operation = Relinquish; duration = d }) tt g h .slots .size) (o .settings) j v
@@ -103,7 +103,7 @@ module _ (t : ℕ) (o : Output) (h : Sound t o) (d : Duration) (g : GoodDuration
       (λ e z. by-eq q 5 (λ e′ z′. rw e′ (relinquish t o h d .six)) (λ e′ z′. relinquish t o h d .rest q e′ e ∙ b q l e e′))))
 
   pub relinquished-shows-default : ((q : ℕ) → q < 16 → q ≢ p → q ≢ 5 → slot (o .slots) q ≡ none)
-      → presentValue (after t o Relinquish d .settings) (after t o Relinquish d .slots) ≡ brought (o .settings) (o .settings .default)
+      → presentValue (after t o Relinquish d .settings) (after t o Relinquish d .slots) ≡ clampLit (o .settings) (o .settings .default)
   relinquished-shows-default b =
       rw (relinquish t o h d .settings)
       (present-none (after t o Relinquish d .slots) (commanded-sound t o (record { operation = Relinquish; duration = d }) tt g h .slots .size) (o .settings)

@@ -1,4 +1,4 @@
--- WHAT A COMMAND LEAVES IN THE SLOTS: in slot p what its operation says, slot 6 empty, every other slot as it was. Assumes nothing.
+-- WHAT A COMMAND LEAVES IN THE SLOTS: in slot p what its operation says, slot 6 empty, every other slot as it was.
 use mathlib.Core.Path.{_≡_, refl, sym, ap, _∙_}
 use mathlib.Core.Logic.{_≢_}
 use mathlib.Core.Option.{Option, none, some}
@@ -6,12 +6,12 @@ use Prim.Native.Nat.{ℕ, _+_, _-_, _<_, min, max}
 use native.Mathlib.Omega.{arith}
 use lib.Ieee.{Float}
 use lib.ListN.{length}
-use Rattle.lighting.specs.Choice.{if_then_else_}
-use Rattle.lighting.specs.Level.{levelUnits, amountUnits}
-use Rattle.lighting.specs.Slots.{Slots, slot, winner, put, filled}
-use Rattle.lighting.specs.Value.{brought, presentValue, progressBy, progressValue, inProcess}
-use Rattle.lighting.specs.Passing.{disowned}
-use Rattle.lighting.specs.Commands.{unwarned, unwarnedActivity, replaced, placed, target, fadedOver, fadedTo, rampedAt, rampedTo, jumped, wentTo, stepUpFrom, stepDownFrom, steppedUp, steppedDown, raised, halted, asItIs, stopped, relinquished, effect, withCommand, commandedFrom, commanded}
+use Rattle.lighting.specs.Paper.Choice.{if_then_else_}
+use Rattle.lighting.specs.Paper.Level.{levelUnits, amountUnits}
+use Rattle.lighting.specs.Paper.Slots.{Slots, slot, winner, put, filled}
+use Rattle.lighting.specs.Paper.Value.{clampLit, presentValue, progressBy, progressValue, inProcess}
+use Rattle.lighting.specs.Paper.Passing.{endMovementOf}
+use Rattle.lighting.specs.Paper.Commands.{withoutWarning, activityWithoutWarning, replaced, placed, target, fadedOver, fadedTo, rampedAt, rampedTo, jumped, wentTo, stepUpFrom, stepDownFrom, steppedUp, steppedDown, raised, halted, asItIs, stopped, relinquished, effect, withCommand, commandedFrom, commanded}
 use Rattle.lighting.specs.declared.Settings.{Settings}
 use Rattle.lighting.specs.declared.Movement.{Movement}
 use Rattle.lighting.specs.declared.Activity.{Activity}
@@ -24,7 +24,7 @@ use Rattle.lighting.specs.declared.Output.{Output}
 use Rattle.lighting.proofs.Split.{eqb-hit, eqb-miss}
 use Rattle.lighting.proofs.Facts.{Acts, Sound}
 use Rattle.lighting.proofs.Consequences.Present.{slot-same, slot-other}
-use Rattle.lighting.proofs.Consequences.Movements.{unwarned-size}
+use Rattle.lighting.proofs.Consequences.Movements.{withoutWarning-size}
 use Rattle.lighting.proofs.Consequences.Warning.{dead-slot}
 
 -- the output after an operation k with a duration d
@@ -40,17 +40,17 @@ pub record Sets (o o′ : Output) (p : ℕ) (x : Option ℕ) : Type 0 where
   pub burning : o′ .burning ≡ o .burning
 
 -- a warning's end
-unwarned-six : (t : ℕ) (c : Settings) (s : Slots) (a : Activity) → length (s .levels) ≡ 16 → Acts t c s a → slot (unwarned s a) 5 ≡ none
-unfolding unwarned
-unwarned-six t c s Still z h = dead-slot s 5 z (omega arith) h
-unwarned-six t c s (Moving m) z h = dead-slot s 5 z (omega arith) (h .six)
-unwarned-six t c s (Warned w) z h = slot-same s z 5 none (omega arith)
+withoutWarning-six : (t : ℕ) (c : Settings) (s : Slots) (a : Activity) → length (s .levels) ≡ 16 → Acts t c s a → slot (withoutWarning s a) 5 ≡ none
+unfolding withoutWarning
+withoutWarning-six t c s Still z h = dead-slot s 5 z (omega arith) h
+withoutWarning-six t c s (Moving m) z h = dead-slot s 5 z (omega arith) (h .six)
+withoutWarning-six t c s (Warned w) z h = slot-same s z 5 none (omega arith)
 
-unwarned-rest : (s : Slots) (a : Activity) (j : ℕ) → length (s .levels) ≡ 16 → j ≢ 5 → slot (unwarned s a) j ≡ slot s j
-unfolding unwarned
-unwarned-rest s Still j z n = refl
-unwarned-rest s (Moving m) j z n = refl
-unwarned-rest s (Warned w) j z n = slot-other s z 5 j none (omega arith) (λ e. n (sym e))
+withoutWarning-rest : (s : Slots) (a : Activity) (j : ℕ) → length (s .levels) ≡ 16 → j ≢ 5 → slot (withoutWarning s a) j ≡ slot s j
+unfolding withoutWarning
+withoutWarning-rest s Still j z n = refl
+withoutWarning-rest s (Moving m) j z n = refl
+withoutWarning-rest s (Warned w) j z n = slot-other s z 5 j none (omega arith) (λ e. n (sym e))
 
 -- STOP, and RELINQUISH's movement, of what was under way
 abbrev pub NotMoving : Activity → Type 0
@@ -75,42 +75,42 @@ not-in-process (Moving m) n = elim n [ ]
 not-in-process (Warned w) n = refl
 
 stop-own : (t : ℕ) (c : Settings) (f : ℕ) (s : Slots) (a : Activity) (m : Movement) → a ≡ Moving m → m .owner ≡ c .slot
-    → effect t c f s (unwarnedActivity a) Stop ≡ halted c f s
-unfolding effect stopped unwarnedActivity if_then_else_
+    → effect t c f s (activityWithoutWarning a) Stop ≡ halted c f s
+unfolding effect stopped activityWithoutWarning if_then_else_
 stop-own t c f s a m e w = rw (e, eqb-hit {a = m .owner} {b = c .slot} w)
 
 stop-not-own : (t : ℕ) (c : Settings) (f : ℕ) (s : Slots) (a : Activity) (m : Movement) → a ≡ Moving m → m .owner ≢ c .slot
-    → effect t c f s (unwarnedActivity a) Stop ≡ asItIs s (Moving m)
-unfolding effect stopped unwarnedActivity if_then_else_
+    → effect t c f s (activityWithoutWarning a) Stop ≡ asItIs s (Moving m)
+unfolding effect stopped activityWithoutWarning if_then_else_
 stop-not-own t c f s a m e w = rw (e, eqb-miss {a = m .owner} {b = c .slot} w)
 
-stop-none : (t : ℕ) (c : Settings) (f : ℕ) (s : Slots) (a : Activity) → NotMoving a → effect t c f s (unwarnedActivity a) Stop ≡ asItIs s Still
-unfolding effect stopped unwarnedActivity
+stop-none : (t : ℕ) (c : Settings) (f : ℕ) (s : Slots) (a : Activity) → NotMoving a → effect t c f s (activityWithoutWarning a) Stop ≡ asItIs s Still
+unfolding effect stopped activityWithoutWarning
 stop-none t c f s Still n = refl
 stop-none t c f s (Moving m) n = elim n [ ]
 stop-none t c f s (Warned w) n = refl
 
-disowned-own : (p : ℕ) (a : Activity) (m : Movement) → a ≡ Moving m → m .owner ≡ p → disowned p (unwarnedActivity a) ≡ Still
-unfolding disowned unwarnedActivity if_then_else_
-disowned-own p a m e w = rw (e, eqb-hit {a = m .owner} {b = p} w)
+endMovementOf-own : (p : ℕ) (a : Activity) (m : Movement) → a ≡ Moving m → m .owner ≡ p → endMovementOf p (activityWithoutWarning a) ≡ Still
+unfolding endMovementOf activityWithoutWarning if_then_else_
+endMovementOf-own p a m e w = rw (e, eqb-hit {a = m .owner} {b = p} w)
 
-disowned-other : (p : ℕ) (a : Activity) (m : Movement) → a ≡ Moving m → m .owner ≢ p → disowned p (unwarnedActivity a) ≡ Moving m
-unfolding disowned unwarnedActivity if_then_else_
-disowned-other p a m e w = rw (e, eqb-miss {a = m .owner} {b = p} w)
+endMovementOf-other : (p : ℕ) (a : Activity) (m : Movement) → a ≡ Moving m → m .owner ≢ p → endMovementOf p (activityWithoutWarning a) ≡ Moving m
+unfolding endMovementOf activityWithoutWarning if_then_else_
+endMovementOf-other p a m e w = rw (e, eqb-miss {a = m .owner} {b = p} w)
 
 module _ (t : ℕ) (o : Output) (h : Sound t o) (d : Duration) where
   abbrev p : ℕ
   p = o .settings .slot
 
   abbrev before : Slots
-  before = unwarned (o .slots) (o .activity)
+  before = withoutWarning (o .slots) (o .activity)
 
   size : length (before .levels) ≡ 16
-  size = unwarned-size (o .slots) (o .activity) ∙ h .slots .size
+  size = withoutWarning-size (o .slots) (o .activity) ∙ h .slots .size
 
   -- an operation that puts x into slot p
   puts : (k : Operation) (x : Option ℕ)
-      → effect t (o .settings) (progressValue t o) before (unwarnedActivity (o .activity)) k .slots ≡ put before p x → Sets o (after t o k d) p x
+      → effect t (o .settings) (progressValue t o) before (activityWithoutWarning (o .activity)) k .slots ≡ put before p x → Sets o (after t o k d) p x
   unfolding commanded commandedFrom withCommand
   puts k x e =
       record {
@@ -118,28 +118,28 @@ module _ (t : ℕ) (o : Output) (h : Sound t o) (d : Duration) where
         six =
             rw e
             (slot-other before size p 5 x (h .settings .slot .inside) (h .settings .slot .free)
-            ∙ unwarned-six t (o .settings) (o .slots) (o .activity) (h .slots .size) (h .activity));
+            ∙ withoutWarning-six t (o .settings) (o .slots) (o .activity) (h .slots .size) (h .activity));
         rest = λ j m n.
             rw e
-            (slot-other before size p j x (h .settings .slot .inside) (λ q. n (sym q)) ∙ unwarned-rest (o .slots) (o .activity) j (h .slots .size) m);
+            (slot-other before size p j x (h .settings .slot .inside) (λ q. n (sym q)) ∙ withoutWarning-rest (o .slots) (o .activity) j (h .slots .size) m);
         settings = refl;
         burning = refl;
       }
 
   -- 'A target is brought into Min..Max if above zero and put in slot p'
-  pub goto : (x : Float) → Sets o (after t o (Goto x) d) p (some (brought (o .settings) (levelUnits x)))
+  pub goto : (x : Float) → Sets o (after t o (Goto x) d) p (some (clampLit (o .settings) (levelUnits x)))
   goto x = puts (Goto x) (some _) (unfold effect wentTo jumped placed target in refl)
 
-  pub fade-to : (x : Float) → Sets o (after t o (FadeTo x) d) p (some (brought (o .settings) (levelUnits x)))
+  pub fade-to : (x : Float) → Sets o (after t o (FadeTo x) d) p (some (clampLit (o .settings) (levelUnits x)))
   fade-to x = puts (FadeTo x) (some _) (unfold effect fadedTo fadedOver placed target in refl)
 
-  pub fade-to-over : (x : Float) (l : ℕ) → Sets o (after t o (FadeToOver x l) d) p (some (brought (o .settings) (levelUnits x)))
+  pub fade-to-over : (x : Float) (l : ℕ) → Sets o (after t o (FadeToOver x l) d) p (some (clampLit (o .settings) (levelUnits x)))
   fade-to-over x l = puts (FadeToOver x l) (some _) (unfold effect fadedTo fadedOver placed target in refl)
 
-  pub ramp-to : (x : Float) → Sets o (after t o (RampTo x) d) p (some (brought (o .settings) (levelUnits x)))
+  pub ramp-to : (x : Float) → Sets o (after t o (RampTo x) d) p (some (clampLit (o .settings) (levelUnits x)))
   ramp-to x = puts (RampTo x) (some _) (unfold effect rampedTo rampedAt placed target in refl)
 
-  pub ramp-to-at-rate : (x r : Float) → Sets o (after t o (RampToAtRate x r) d) p (some (brought (o .settings) (levelUnits x)))
+  pub ramp-to-at-rate : (x r : Float) → Sets o (after t o (RampToAtRate x r) d) p (some (clampLit (o .settings) (levelUnits x)))
   ramp-to-at-rate x r = puts (RampToAtRate x r) (some _) (unfold effect rampedTo rampedAt placed target in refl)
 
   -- 'Step up: s plus step; step down: s minus step, not below 0; both brought into Min..Max. Step down from s = 0 stays 0'
@@ -158,11 +158,11 @@ module _ (t : ℕ) (o : Output) (h : Sound t o) (d : Duration) where
   step-down-by x n =
       puts (StepDownBy x) (some _) (unfold effect steppedDown jumped placed stepDownFrom if_then_else_ in (rw (eqb-miss {a = progressValue t o} {b = 0} n)))
 
-  pub step-down-dark : progressValue t o ≡ 0 → Sets o (after t o StepDown d) p (some 0)
-  step-down-dark e = puts StepDown (some _) (unfold effect steppedDown jumped placed stepDownFrom if_then_else_ in (rw (eqb-hit {a = progressValue t o} {b = 0} e)))
+  pub step-down-zeroOrEmpty : progressValue t o ≡ 0 → Sets o (after t o StepDown d) p (some 0)
+  step-down-zeroOrEmpty e = puts StepDown (some _) (unfold effect steppedDown jumped placed stepDownFrom if_then_else_ in (rw (eqb-hit {a = progressValue t o} {b = 0} e)))
 
-  pub step-down-by-dark : (x : Float) → progressValue t o ≡ 0 → Sets o (after t o (StepDownBy x) d) p (some 0)
-  step-down-by-dark x e =
+  pub step-down-by-zeroOrEmpty : (x : Float) → progressValue t o ≡ 0 → Sets o (after t o (StepDownBy x) d) p (some 0)
+  step-down-by-zeroOrEmpty x e =
       puts (StepDownBy x) (some _) (unfold effect steppedDown jumped placed stepDownFrom if_then_else_ in (rw (eqb-hit {a = progressValue t o} {b = 0} e)))
 
   -- 'RELINQUISH empties slot p'
@@ -182,9 +182,9 @@ module _ (t : ℕ) (o : Output) (h : Sound t o) (d : Duration) where
       → Sets o (after t o Stop d) p (some (max (o .settings .min) (progressValue t o))) × (after t o Stop d .activity ≡ Still)
   stop-lit m e w n = stop-by m _ e w (unfold raised if_then_else_ in (rw (eqb-miss {a = progressValue t o} {b = 0} n)))
 
-  pub stop-dark : (m : Movement) → o .activity ≡ Moving m → m .owner ≡ p → progressValue t o ≡ 0
+  pub stop-zeroOrEmpty : (m : Movement) → o .activity ≡ Moving m → m .owner ≡ p → progressValue t o ≡ 0
       → Sets o (after t o Stop d) p (some 0) × (after t o Stop d .activity ≡ Still)
-  stop-dark m e w n = stop-by m _ e w (unfold raised if_then_else_ in (rw (eqb-hit {a = progressValue t o} {b = 0} n)))
+  stop-zeroOrEmpty m e w n = stop-by m _ e w (unfold raised if_then_else_ in (rw (eqb-hit {a = progressValue t o} {b = 0} n)))
 
   -- 'Else it changes no slot, a warning's end aside', and another slot's movement goes on
   pub stop-other : (m : Movement) → o .activity ≡ Moving m → m .owner ≢ p → (after t o Stop d .slots ≡ before) × (after t o Stop d .activity ≡ Moving m)
@@ -204,15 +204,15 @@ module _ (t : ℕ) (o : Output) (h : Sound t o) (d : Duration) where
   unfolding commanded commandedFrom withCommand effect wentTo jumped placed replaced if_then_else_
   goto-wins x w = rw (eqb-hit {a = winner (filled before p (target (o .settings) x))} {b = p} w)
 
-  pub goto-loses : (x : Float) → winner (after t o (Goto x) d .slots) ≢ p → after t o (Goto x) d .activity ≡ unwarnedActivity (o .activity)
+  pub goto-loses : (x : Float) → winner (after t o (Goto x) d .slots) ≢ p → after t o (Goto x) d .activity ≡ activityWithoutWarning (o .activity)
   unfolding commanded commandedFrom withCommand effect wentTo jumped placed replaced if_then_else_
   goto-loses x w = rw (eqb-miss {a = winner (filled before p (target (o .settings) x))} {b = p} w)
 
   -- 'if p owned the movement, it ends', and no other does
   pub relinquish-own : (m : Movement) → o .activity ≡ Moving m → m .owner ≡ p → after t o Relinquish d .activity ≡ Still
   unfolding commanded commandedFrom withCommand effect relinquished
-  relinquish-own m e w = disowned-own p (o .activity) m e w
+  relinquish-own m e w = endMovementOf-own p (o .activity) m e w
 
   pub relinquish-other : (m : Movement) → o .activity ≡ Moving m → m .owner ≢ p → after t o Relinquish d .activity ≡ Moving m
   unfolding commanded commandedFrom withCommand effect relinquished
-  relinquish-other m e w = disowned-other p (o .activity) m e w
+  relinquish-other m e w = endMovementOf-other p (o .activity) m e w

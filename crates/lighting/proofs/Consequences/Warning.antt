@@ -1,5 +1,5 @@
 -- A WARNING'S WHOLE COURSE, for all B, D, X and Y: what Present_Value and slots 6 and X are at every moment from its start on, if no frame comes
--- and no duration falls due. Assumes nothing.
+-- and no duration falls due.
 use mathlib.Core.Path.{_≡_, refl, sym, ap, subst, _∙_}
 use mathlib.Core.Logic.{_≢_}
 use mathlib.Core.Bool.{true, false, true≢false}
@@ -8,11 +8,11 @@ use mathlib.Core.Option.{Option, none, some}
 use Prim.Native.Nat.{ℕ, zero, suc, _+_, _-_, _≤_, _<_}
 use native.Mathlib.Omega.{arith}
 use lib.ListN.{getD, length}
-use Rattle.lighting.specs.Choice.{if_then_else_}
-use Rattle.lighting.specs.Slots.{Slots, slot, slotsOf, topmost, firstLive, winner, lives, put, emptied, filled}
-use Rattle.lighting.specs.Value.{brought, presentValue}
-use Rattle.lighting.specs.Passing.{withBurning, burned, phaseEnd, activityDue, isDue, delayed, nextPhase, nextActivity, activityAt, phaseSlots, nextSlots, slotsAt, settled, fire, ticks}
-use Rattle.lighting.specs.Writing.{withEffect, dark, darkFrom, blinks, darkAbove, warnsBy, warns, firstLevel, firstPhase, warningFrom, warnedBy, warned, writtenZero, writtenCalm, writtenBy, written}
+use Rattle.lighting.specs.Paper.Choice.{if_then_else_}
+use Rattle.lighting.specs.Paper.Slots.{Slots, slot, slotsOf, winningLevel, firstLive, winner, isLive, put, emptied, filled}
+use Rattle.lighting.specs.Paper.Value.{clampLit, presentValue}
+use Rattle.lighting.specs.Paper.Passing.{withBurning, withBurned, phaseEnd, activityDue, isDue, delayed, nextPhase, nextActivity, activityAt, phaseSlots, nextSlots, slotsAt, afterEvents, fire, ticks}
+use Rattle.lighting.specs.Paper.Writing.{withEffect, zeroOrEmpty, zeroOrEmptyFrom, blinks, zeroOrEmptyAbove, warnsBy, warns, firstLevel, firstPhase, warningFrom, warnedBy, warned, writtenZero, writtenCalm, writtenBy, written}
 use Rattle.lighting.specs.declared.Settings.{Settings}
 use Rattle.lighting.specs.declared.Phase.{Phase}
 use Rattle.lighting.specs.declared.Phase.the-variants.{Blink, Delay}
@@ -22,11 +22,11 @@ use Rattle.lighting.specs.declared.Timer.{Timer}
 use Rattle.lighting.specs.declared.Output.{Output}
 use Rattle.lighting.proofs.Split.{also-yes, also-both, by-bool, by-eq, by-lt, eqb-hit, leb-yes, leb-no, le-of, eq-of}
 use Rattle.lighting.proofs.Scan.{all-each, each-all}
-use Rattle.lighting.proofs.Passing.{TimerAfter, After, both-after, timer-earlier, timer-quiet, expired-quiet, released-quiet, quiet-ticks, hop-ticks, ticks-add}
-use Rattle.lighting.proofs.Mask.{alive, slots-size, slot-is, lives-slot}
+use Rattle.lighting.proofs.Passing.{TimerAfter, After, both-after, timer-earlier, timer-quiet, expired-quiet, endMovementOnExpiry-quiet, quiet-ticks, eventStep-ticks, ticks-add}
+use Rattle.lighting.proofs.Mask.{alive, slots-size, slot-is, isLive-slot}
 use Rattle.lighting.proofs.Facts.{Acts, Sound}
-use Rattle.lighting.proofs.Shown.{brought-brought}
-use Rattle.lighting.proofs.Winner.{topmost-view, put-sized, dead-before}
+use Rattle.lighting.proofs.Shown.{clampLit-clampLit}
+use Rattle.lighting.proofs.Winner.{winningLevel-view, put-sized, dead-before}
 use Rattle.lighting.proofs.Winner as Winning
 use Rattle.lighting.proofs.Consequences.Present.{no-slot, slot-same, slot-other, present-at}
 
@@ -35,11 +35,11 @@ abbrev pub Unlit : Option ℕ → Type 0
 Unlit none = Unit {0}
 Unlit (some v) = v ≡ 0
 
-first-dark : (l : List (Option ℕ)) → ((i : ℕ) → i < length l → Unlit (getD l i none)) → Winning.firstLevel 0 l ≡ 0
+first-zeroOrEmpty : (l : List (Option ℕ)) → ((i : ℕ) → i < length l → Unlit (getD l i none)) → Winning.firstLevel 0 l ≡ 0
 unfolding Winning.firstLevel
-first-dark [] k = refl
-first-dark (none ∷ l) k = first-dark l (λ i m. k (suc i) (omega arith))
-first-dark (some v ∷ l) k = k 0 (omega arith)
+first-zeroOrEmpty [] k = refl
+first-zeroOrEmpty (none ∷ l) k = first-zeroOrEmpty l (λ i m. k (suc i) (omega arith))
+first-zeroOrEmpty (some v ∷ l) k = k 0 (omega arith)
 
 -- THE PAPER'S CONDITIONS on the slots s, with Present_Value y, for a zero at slot x; slots are counted from 0
 pub record Starts (c : Settings) (s : Slots) (x : ℕ) : Type 0 where
@@ -78,7 +78,7 @@ put-own {z = z} {x = x} w k n h =
 
 module _ (c : Settings) (s : Slots) (x : ℕ) (starts : Starts c s x) where
   -- while slot 6 is live it is the winner
-  present-six : {w : ℕ} {b : Option ℕ} (z : Slots) → State s x (some w) b z → presentValue c z ≡ brought c w
+  present-six : {w : ℕ} {b : Option ℕ} (z : Slots) → State s x (some w) b z → presentValue c z ≡ clampLit c w
   present-six {w} z h =
       present-at z (h .size) c 5 w (h .six)
       (λ i m. h .rest i (λ e. omega arith) (λ e. omega (arith, starts .own)) ∙ starts .below i (omega (arith, starts .own)))
@@ -87,7 +87,7 @@ module _ (c : Settings) (s : Slots) (x : ℕ) (starts : Starts c s x) where
   present-over : {b : Option ℕ} (z : Slots) → Unlit b → State s x none b z → presentValue c z ≡ 0
   unfolding presentValue
   present-over {b} z u h =
-      rw (topmost-view (c .default) z (h .size), starts .default, first-dark (slotsOf z) unlit) (unfold brought if_then_else_ in refl)
+      rw (winningLevel-view (c .default) z (h .size), starts .default, first-zeroOrEmpty (slotsOf z) unlit) (unfold clampLit if_then_else_ in refl)
     where
       unlit : (i : ℕ) → i < length (slotsOf z) → Unlit (getD (slotsOf z) i none)
       unlit i m =
@@ -107,7 +107,7 @@ pub record Seen (c : Settings) (s : Slots) (x : ℕ) (a b : Option ℕ) (v : ℕ
 -- nothing falls due
 module _ {c : Settings} {s : Slots} {x v : ℕ} {a b : Option ℕ} (n t : ℕ) (o : Output) where
   waits : After (t + n) o → Seen c s x a b v o → Seen c s x a b v (ticks n t o)
-  unfolding burned withBurning
+  unfolding withBurned withBurning
   waits k h = rw (quiet-ticks n t o k) (record { settings = h .settings; slots = h .slots; present = h .present })
 
 -- a warning of slot x in the phase p, with the old level y, the turn u and the end v
@@ -123,41 +123,41 @@ record Became (o o′ : Output) (z : Slots) (a : Activity) : Type 0 where
 
 turns : (d x y v : ℕ) (o : Output) → o .activity ≡ warningIn Blink x y d v → TimerAfter d (o .timer) → d < v
     → Became o (fire d o) (filled (o .slots) 5 y) (warningIn Delay x y d v)
-unfolding fire settled isDue phaseEnd activityDue delayed nextPhase nextActivity activityAt phaseSlots nextSlots slotsAt if_then_else_
+unfolding fire afterEvents isDue phaseEnd activityDue delayed nextPhase nextActivity activityAt phaseSlots nextSlots slotsAt if_then_else_
 turns d x y v o e a l =
-    rw (released-quiet d (o .timer) (o .activity) a, expired-quiet d (o .timer) (o .slots) a, timer-quiet d (o .timer) a, e, eqb-hit {a = d} {b = d} refl, leb-yes {a = suc d} {b = v} l)
+    rw (endMovementOnExpiry-quiet d (o .timer) (o .activity) a, expired-quiet d (o .timer) (o .slots) a, timer-quiet d (o .timer) a, e, eqb-hit {a = d} {b = d} refl, leb-yes {a = suc d} {b = v} l)
     (record { settings = refl; slots = refl; activity = refl; timer = refl })
 
 turns-off : (d x y v : ℕ) (o : Output) → o .activity ≡ warningIn Blink x y d v → TimerAfter d (o .timer) → v ≤ d
     → Became o (fire d o) (emptied (o .slots) 5) Still
-unfolding fire settled isDue phaseEnd activityDue delayed nextPhase nextActivity activityAt phaseSlots nextSlots slotsAt if_then_else_
+unfolding fire afterEvents isDue phaseEnd activityDue delayed nextPhase nextActivity activityAt phaseSlots nextSlots slotsAt if_then_else_
 turns-off d x y v o e a l =
-    rw (released-quiet d (o .timer) (o .activity) a, expired-quiet d (o .timer) (o .slots) a, timer-quiet d (o .timer) a, e, eqb-hit {a = d} {b = d} refl, leb-no {a = suc d} {b = v} (omega arith))
+    rw (endMovementOnExpiry-quiet d (o .timer) (o .activity) a, expired-quiet d (o .timer) (o .slots) a, timer-quiet d (o .timer) a, e, eqb-hit {a = d} {b = d} refl, leb-no {a = suc d} {b = v} (omega arith))
     (record { settings = refl; slots = refl; activity = refl; timer = refl })
 
 ends : (d x y u : ℕ) (o : Output) → o .activity ≡ warningIn Delay x y u d → TimerAfter d (o .timer)
     → Became o (fire d o) (emptied (emptied (o .slots) 5) x) Still
-unfolding fire settled isDue phaseEnd activityDue delayed nextPhase nextActivity activityAt phaseSlots nextSlots slotsAt if_then_else_
+unfolding fire afterEvents isDue phaseEnd activityDue delayed nextPhase nextActivity activityAt phaseSlots nextSlots slotsAt if_then_else_
 ends d x y u o e a =
-    rw (released-quiet d (o .timer) (o .activity) a, expired-quiet d (o .timer) (o .slots) a, timer-quiet d (o .timer) a, e, eqb-hit {a = d} {b = d} refl)
+    rw (endMovementOnExpiry-quiet d (o .timer) (o .activity) a, expired-quiet d (o .timer) (o .slots) a, timer-quiet d (o .timer) a, e, eqb-hit {a = d} {b = d} refl)
     (record { settings = refl; slots = refl; activity = refl; timer = refl })
 
 -- an output to which nothing but burning happened before d: what it is at d, and n milliseconds later
 at-last : (t d : ℕ) (o : Output) (z : Slots) (w : Activity) → 0 < d → After (t + (d - 1)) o
-    → Became (burned t d o) (fire (t + d) (burned t d o)) z w → Became o (ticks d t o) z w
+    → Became (withBurned t d o) (fire (t + d) (withBurned t d o)) z w → Became o (ticks d t o) z w
 at-last t zero o z w l a b = absurd (omega arith)
 at-last t (suc d) o z w l a b =
     let e : t + suc d ≡ suc (t + d) = omega arith in
     let q : After (t + d) o = subst (λ (k : ℕ). After (t + k) o) (let r : suc d - 1 ≡ d = omega arith in r) a in
-    rw (hop-ticks d t o q, ← e) (record { settings = unfold burned withBurning in (b .settings); slots = b .slots; activity = b .activity; timer = unfold burned withBurning in (b .timer) })
+    rw (eventStep-ticks d t o q, ← e) (record { settings = unfold withBurned withBurning in (b .settings); slots = b .slots; activity = b .activity; timer = unfold withBurned withBurning in (b .timer) })
 
 -- THE PHASES
-module _ (c : Settings) (s : Slots) (x y : ℕ) (starts : Starts c s x) (inside : x < 16) (same : brought c y ≡ y) where
-  apart-six : x ≢ 5
-  apart-six e = omega (arith, starts .own)
+module _ (c : Settings) (s : Slots) (x y : ℕ) (starts : Starts c s x) (inside : x < 16) (same : clampLit c y ≡ y) where
+  distance-six : x ≢ 5
+  distance-six e = omega (arith, starts .own)
 
   -- what is seen of slots in a known state
-  seen-lit : {w : ℕ} {b : Option ℕ} (v : ℕ) (o : Output) → brought c w ≡ v → o .settings ≡ c → State s x (some w) b (o .slots) → Seen c s x (some w) b v o
+  seen-lit : {w : ℕ} {b : Option ℕ} (v : ℕ) (o : Output) → clampLit c w ≡ v → o .settings ≡ c → State s x (some w) b (o .slots) → Seen c s x (some w) b v o
   seen-lit v o e p h = record { settings = p; slots = h; present = rw p (present-six c s x starts (o .slots) h ∙ e) }
 
   seen-over : {b : Option ℕ} (o : Output) → Unlit b → o .settings ≡ c → State s x none b (o .slots) → Seen c s x none b 0 o
@@ -178,15 +178,15 @@ module _ (c : Settings) (s : Slots) (x y : ℕ) (starts : Starts c s x) (inside 
 
     ended : (n d u : ℕ) → 0 < d → o .activity ≡ warningIn Delay x y u (t + d) → Seen c s x (some y) (some 0) y o → TimerAfter (t + n) (o .timer) → d ≤ n
         → Seen c s x none none 0 (ticks n t o)
-    unfolding burned withBurning
+    unfolding withBurned withBurning
     ended n d u p e h a l =
         let q : After (t + (d - 1)) o = both-after (t + (d - 1)) o (timer-earlier (o .timer) (omega arith) a) (rw e (unfold activityDue phaseEnd in (omega arith))) in
         let r = at-last t d o (emptied (emptied (o .slots) 5) x) Still p q
-        (ends (t + d) x y u (burned t d o) e (timer-earlier (o .timer) (omega arith) a)) in
+        (ends (t + d) x y u (withBurned t d o) e (timer-earlier (o .timer) (omega arith) a)) in
         later n d t o l
         (waits (n - d) (t + d) (ticks d t o)
         (both-after (t + d + (n - d)) (ticks d t o) (timer-at (t + d + (n - d)) (o .timer) (ticks d t o .timer) (r .timer) (omega arith) a) (rw (r .activity) (unfold activityDue in tt)))
-        (seen-over (ticks d t o) tt (r .settings ∙ h .settings) (rw (r .slots) (put-own none inside apart-six (put-six none apart-six (h .slots))))))
+        (seen-over (ticks d t o) tt (r .settings ∙ h .settings) (rw (r .slots) (put-own none inside distance-six (put-six none distance-six (h .slots))))))
 
     -- the first: slot 6 holds 0 for B ms, then comes the second, or without D the end, at which slot x keeps its 0
     module _ (b d : ℕ) (p : 0 < b) (e : o .activity ≡ warningIn Blink x y (t + b) (t + b + d)) (h : Seen c s x (some 0) (some 0) 0 o) where
@@ -197,16 +197,16 @@ module _ (c : Settings) (s : Slots) (x y : ℕ) (starts : Starts c s x) (inside 
       before-turn n a l = both-after (t + (b - 1)) o (timer-earlier (o .timer) (omega arith) a) (rw e (unfold activityDue phaseEnd in (omega arith)))
 
       turned : (n : ℕ) → TimerAfter (t + n) (o .timer) → b ≤ n → 0 < d → Became o (ticks b t o) (filled (o .slots) 5 y) (warningIn Delay x y (t + b) (t + b + d))
-      unfolding burned withBurning
+      unfolding withBurned withBurning
       turned n a l q =
           at-last t b o (filled (o .slots) 5 y) (warningIn Delay x y (t + b) (t + b + d)) p (before-turn n a l)
-          (turns (t + b) x y (t + b + d) (burned t b o) e (timer-earlier (o .timer) (omega arith) a) (omega arith))
+          (turns (t + b) x y (t + b + d) (withBurned t b o) e (timer-earlier (o .timer) (omega arith) a) (omega arith))
 
       turned-off : (n : ℕ) → TimerAfter (t + n) (o .timer) → b ≤ n → d ≡ 0 → Became o (ticks b t o) (emptied (o .slots) 5) Still
-      unfolding burned withBurning
+      unfolding withBurned withBurning
       turned-off n a l q =
           at-last t b o (emptied (o .slots) 5) Still p (before-turn n a l)
-          (turns-off (t + b) x y (t + b + d) (burned t b o) e (timer-earlier (o .timer) (omega arith) a) (omega arith))
+          (turns-off (t + b) x y (t + b + d) (withBurned t b o) e (timer-earlier (o .timer) (omega arith) a) (omega arith))
 
       put-out : (n : ℕ) → TimerAfter (t + n) (o .timer) → b ≤ n → d ≡ 0 → Seen c s x none (some 0) 0 (ticks n t o)
       put-out n a l q =
@@ -214,26 +214,26 @@ module _ (c : Settings) (s : Slots) (x y : ℕ) (starts : Starts c s x) (inside 
           later n b t o l
           (waits (n - b) (t + b) (ticks b t o)
           (both-after (t + b + (n - b)) (ticks b t o) (timer-at (t + b + (n - b)) (o .timer) (ticks b t o .timer) (r .timer) (omega arith) a) (rw (r .activity) (unfold activityDue in tt)))
-          (seen-over (ticks b t o) refl (r .settings ∙ h .settings) (rw (r .slots) (put-six none apart-six (h .slots)))))
+          (seen-over (ticks b t o) refl (r .settings ∙ h .settings) (rw (r .slots) (put-six none distance-six (h .slots)))))
 
 -- WHEN A WARNING STARTS: exactly under the paper's conditions
-dark-slot : (s : Slots) (i : ℕ) → length (s .levels) ≡ 16 → i < 16 → Unlit (slot s i) → dark s i ≡ true
-unfolding dark if_then_else_
-dark-slot s i z k h =
-    by-bool (lives s i)
+zeroOrEmpty-slot : (s : Slots) (i : ℕ) → length (s .levels) ≡ 16 → i < 16 → Unlit (slot s i) → zeroOrEmpty s i ≡ true
+unfolding zeroOrEmpty if_then_else_
+zeroOrEmpty-slot s i z k h =
+    by-bool (isLive s i)
     (λ e. rw e (eqb-hit {a = getD (s .levels) i 0} {b = 0} (go (getD (s .levels) i 0) (slot-is s i (omega arith) ∙ rw e))))
     (λ e. rw e)
   where
     go : (v : ℕ) → slot s i ≡ some v → v ≡ 0
     go v e = rw e at h
 
-slot-dark : (s : Slots) (i : ℕ) → length (s .levels) ≡ 16 → i < 16 → dark s i ≡ true → Unlit (slot s i)
-unfolding dark if_then_else_
-slot-dark s i z k h =
+slot-zeroOrEmpty : (s : Slots) (i : ℕ) → length (s .levels) ≡ 16 → i < 16 → zeroOrEmpty s i ≡ true → Unlit (slot s i)
+unfolding zeroOrEmpty if_then_else_
+slot-zeroOrEmpty s i z k h =
     rw (slot-is s i (omega arith))
-    (by-bool (lives s i) (λ e. rw e (eq-of (rw e at h))) (λ e. rw e tt))
+    (by-bool (isLive s i) (λ e. rw e (eq-of (rw e at h))) (λ e. rw e tt))
 
-pub dead-slot : (s : Slots) (i : ℕ) → length (s .levels) ≡ 16 → i < 16 → lives s i ≡ false → slot s i ≡ none
+pub dead-slot : (s : Slots) (i : ℕ) → length (s .levels) ≡ 16 → i < 16 → isLive s i ≡ false → slot s i ≡ none
 unfolding if_then_else_
 dead-slot s i z k e = slot-is s i (omega arith) ∙ rw e
 
@@ -246,17 +246,17 @@ first-from (some v ∷ l) (suc x) h k = no-slot (sym (k 0 (omega arith)))
 
 module _ (c : Settings) (s : Slots) (x : ℕ) (size : length (s .levels) ≡ 16) (inside : x < 16) where
   pub starts-warns : Starts c s x → warns c s x ≡ true
-  unfolding warns warnsBy blinks darkAbove darkFrom winner
+  unfolding warns warnsBy blinks zeroOrEmptyAbove zeroOrEmptyFrom winner
   starts-warns h =
       also-yes (leb-yes {a = 6} {b = x} (h .own))
       (also-yes (also-yes (h .enabled) (leb-yes {a = 1} {b = c .blink + c .delay} (h .lasts)))
       (also-yes (leb-yes (first-from (slotsOf s) x (omega (arith, slots-size s)) (h .below)))
       (also-yes (leb-yes {a = 1} {b = presentValue c s} (h .lit))
       (also-yes (eqb-hit {a = c .default} {b = 0} (h .default))
-      (each-all (dark s) (16 - (x + 1)) (x + 1) (λ j p q. dark-slot s j size (omega arith) (h .above j (omega arith) (omega arith))))))))
+      (each-all (zeroOrEmpty s) (16 - (x + 1)) (x + 1) (λ j p q. zeroOrEmpty-slot s j size (omega arith) (h .above j (omega arith) (omega arith))))))))
 
   pub warns-starts : warns c s x ≡ true → Starts c s x
-  unfolding warns warnsBy blinks darkAbove darkFrom
+  unfolding warns warnsBy blinks zeroOrEmptyAbove zeroOrEmptyFrom
   warns-starts h =
       let a = also-both h in
       let b = also-both (a .1) in
@@ -272,12 +272,12 @@ module _ (c : Settings) (s : Slots) (x : ℕ) (size : length (s .levels) ≡ 16)
         below = λ i m. dead-slot s i size (omega arith) (dead-before s size i (omega arith));
         lit = le-of (f .0);
         default = eq-of (g .0);
-        above = λ i l m. slot-dark s i size m (all-each (dark s) (16 - (x + 1)) (x + 1) i (g .1) (omega arith) (omega arith));
+        above = λ i l m. slot-zeroOrEmpty s i size m (all-each (zeroOrEmpty s) (16 - (x + 1)) (x + 1) i (g .1) (omega arith) (omega arith));
       }
 
 -- THE COURSE: B ms dark, D ms at the old level Y, then dark; slot x empties with slot 6 if D is above 0, else keeps its 0
 pub record Course (c : Settings) (s : Slots) (x y t : ℕ) (o : Output) : Type 0 where
-  pub dark : (n : ℕ) → TimerAfter (t + n) (o .timer) → n < c .blink → Seen c s x (some 0) (some 0) 0 (ticks n t o)
+  pub zeroOrEmpty : (n : ℕ) → TimerAfter (t + n) (o .timer) → n < c .blink → Seen c s x (some 0) (some 0) 0 (ticks n t o)
   pub lit : (n : ℕ) → TimerAfter (t + n) (o .timer) → c .blink ≤ n → n < c .blink + c .delay → Seen c s x (some y) (some 0) y (ticks n t o)
   pub over : (n : ℕ) → TimerAfter (t + n) (o .timer) → c .blink + c .delay ≤ n → 0 < c .delay → Seen c s x none none 0 (ticks n t o)
   pub over-without-delay : (n : ℕ) → TimerAfter (t + n) (o .timer) → c .blink ≤ n → c .delay ≡ 0 → Seen c s x none (some 0) 0 (ticks n t o)
@@ -294,11 +294,11 @@ begun c s x z k n w =
           slot-other (filled s x 0) (put-sized s z x (some 0)) 5 i (some w) (omega arith) (λ e. p (sym e)) ∙ slot-other s z x i (some 0) k (λ e. q (sym e));
     }
 
-module _ (c : Settings) (s : Slots) (x y : ℕ) (starts : Starts c s x) (inside : x < 16) (same : brought c y ≡ y) (t : ℕ) (o : Output) where
+module _ (c : Settings) (s : Slots) (x y : ℕ) (starts : Starts c s x) (inside : x < 16) (same : clampLit c y ≡ y) (t : ℕ) (o : Output) where
   from-blink : 0 < c .blink → o .activity ≡ warningIn Blink x y (t + c .blink) (t + c .blink + c .delay) → Seen c s x (some 0) (some 0) 0 o → Course c s x y t o
   from-blink p e h =
       record {
-        dark = λ n a l. blinking c s x y starts inside same t o (c .blink) (c .delay) p e h n a l;
+        zeroOrEmpty = λ n a l. blinking c s x y starts inside same t o (c .blink) (c .delay) p e h n a l;
         lit = λ n a l m. let q : 0 < c .delay = omega arith in
             let r = turned c s x y starts inside same t o (c .blink) (c .delay) p e h n a l q in
             later c s x y starts inside same n (c .blink) t o l
@@ -317,7 +317,7 @@ module _ (c : Settings) (s : Slots) (x y : ℕ) (starts : Starts c s x) (inside 
       bright : Became o (ticks (c .blink) t o) (filled (o .slots) 5 y) (warningIn Delay x y (t + c .blink) (t + c .blink + c .delay)) → Seen c s x (some y) (some 0) y (ticks (c .blink) t o)
       bright r =
           seen-lit c s x y starts inside same y (ticks (c .blink) t o) same (r .settings ∙ h .settings)
-          (rw (r .slots) (put-six (some y) (apart-six c s x y starts inside same) (h .slots)))
+          (rw (r .slots) (put-six (some y) (distance-six c s x y starts inside same) (h .slots)))
 
   -- with B = 0 the second phase comes at once
   from-delay : c .blink ≡ 0 → o .activity ≡ warningIn Delay x y (t + c .blink) (t + c .blink + c .delay) → Seen c s x (some y) (some 0) y o → Course c s x y t o
@@ -325,14 +325,14 @@ module _ (c : Settings) (s : Slots) (x y : ℕ) (starts : Starts c s x) (inside 
       let p : 0 < c .delay = omega (arith, starts .lasts) in
       let f : o .activity ≡ warningIn Delay x y (t + c .blink) (t + c .delay) = e ∙ ap (λ (v : ℕ). warningIn Delay x y (t + c .blink) v) (omega arith) in
       record {
-        dark = λ n a l. absurd (omega arith);
+        zeroOrEmpty = λ n a l. absurd (omega arith);
         lit = λ n a l m. delaying c s x y starts inside same t o n (c .delay) (t + c .blink) f h a (omega arith);
         over = λ n a l q. ended c s x y starts inside same t o n (c .delay) (t + c .blink) p f h a (omega arith);
         over-without-delay = λ n a l q. absurd (omega arith);
       }
 
 -- KIND 02 without a warning running
-pub calm-by : (t : ℕ) (o : Output) (i v : ℕ) (a : Activity) → Acts t (o .settings) (o .slots) a → lives (o .slots) 5 ≡ false
+pub calm-by : (t : ℕ) (o : Output) (i v : ℕ) (a : Activity) → Acts t (o .settings) (o .slots) a → isLive (o .slots) 5 ≡ false
     → writtenBy t o i v a ≡ writtenCalm t o i v
 unfolding writtenBy
 calm-by t o i v Still h e = refl
@@ -349,14 +349,14 @@ warning t o x h inside starts =
     let y = presentValue c s in
     let z = h .slots .size in
     let n : x ≢ 5 = λ e. omega (arith, starts .own) in
-    let same : brought c y ≡ y = unfold presentValue in (brought-brought c (topmost (c .default) s) (h .settings)) in
+    let same : clampLit c y ≡ y = unfold presentValue in (clampLit-clampLit c (winningLevel (c .default) s) (h .settings)) in
     rw
-    (calm-by t o x 0 (o .activity) (h .activity) (lives-slot s 5 (omega arith) ∙ ap alive (starts .below 5 (omega (arith, starts .own)))), starts-warns c s x z inside starts)
+    (calm-by t o x 0 (o .activity) (h .activity) (isLive-slot s 5 (omega arith) ∙ ap alive (starts .below 5 (omega (arith, starts .own)))), starts-warns c s x z inside starts)
     (by-eq (c .blink) 0
     (λ p e. rw e
     (from-delay c s x y starts inside same t _ p refl (seen-lit c s x y starts inside same y _ same refl (begun c s x z inside n y))))
     (λ p e. rw e
-    (from-blink c s x y starts inside same t _ (omega arith) refl (seen-lit c s x y starts inside same 0 _ dark-zero refl (begun c s x z inside n 0)))))
+    (from-blink c s x y starts inside same t _ (omega arith) refl (seen-lit c s x y starts inside same 0 _ zeroOrEmpty-zero refl (begun c s x z inside n 0)))))
   where
-    dark-zero : brought (o .settings) 0 ≡ 0
-    dark-zero = unfold brought if_then_else_ in refl
+    zeroOrEmpty-zero : clampLit (o .settings) 0 ≡ 0
+    zeroOrEmpty-zero = unfold clampLit if_then_else_ in refl

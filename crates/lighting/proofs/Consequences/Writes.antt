@@ -1,4 +1,4 @@
--- KIND 05, by the property's NUMBER: what each of 01 to 14 and 21 to 30 reads as, of every output at every time. Assumes nothing.
+-- KIND 05, by the property's NUMBER: what each of 01 to 14 and 21 to 30 reads as, of every output at every time.
 use mathlib.Core.Path.{_≡_, refl}
 use mathlib.Core.List.{[], _∷_, map}
 use mathlib.Core.Option.{Option, none, some}
@@ -6,15 +6,15 @@ use Prim.Native.Nat.{ℕ, suc, _+_, _<_}
 use native.Mathlib.Omega.{arith}
 use native.Mathlib.Nat.{add-sub-cancel-left}
 use lib.ListN.{length}
-use Rattle.lighting.specs.Choice.{if_then_else_}
-use Rattle.lighting.specs.Level.{bits, readOut}
-use Rattle.lighting.specs.Slots.{slot, lives, levelAt}
-use Rattle.lighting.specs.Value.{presentValue, progressValue, inProcess}
-use Rattle.lighting.specs.Properties.{numbered, properties, propertyOf, levelAnswer, slotAnswer, flag, elapsedActive, realAnswer, shown}
-use Rattle.lighting.specs.Acting.{left, acted}
-use Rattle.lighting.specs.Field.{byteAt}
-use Rattle.lighting.specs.Kinds.{kindRow}
-use Rattle.lighting.specs.Frames.{Bytes, requestOf}
+use Rattle.lighting.specs.Paper.Choice.{if_then_else_}
+use Rattle.lighting.specs.Paper.Level.{bits, readOut}
+use Rattle.lighting.specs.Paper.Slots.{slot, isLive, levelAt}
+use Rattle.lighting.specs.Paper.Value.{presentValue, progressValue, inProcess}
+use Rattle.lighting.specs.Paper.Properties.{numbered, properties, propertyOf, levelAnswer, slotAnswer, flag, elapsedActive, realAnswer, readProperty}
+use Rattle.lighting.specs.Paper.Acting.{unchanged, acted}
+use Rattle.lighting.specs.Paper.Field.{byteAt}
+use Rattle.lighting.specs.Paper.Kinds.{kindRow}
+use Rattle.lighting.specs.Paper.Frames.{Bytes, requestOf}
 use Rattle.lighting.specs.declared.Answer.{Answer}
 use Rattle.lighting.specs.declared.Answer.the-variants.{Done, Value, Absent, Refused}
 use Rattle.lighting.specs.declared.Property.the-variants.{Unknown}
@@ -51,20 +51,20 @@ pub read-numbers : (t : ℕ) (o : Output)
     ∷ Value (readOut (progressValue t o))
     ∷ Value (inProcess (o .activity))
     ∷ []
-unfolding acted left propertyOf numbered shown levelAnswer realAnswer flag if_then_else_
+unfolding acted unchanged propertyOf numbered readProperty levelAnswer realAnswer flag if_then_else_
 read-numbers t o = refl
 
 -- 'property unknown' is 9: 00, 15 to 20 and 31 on
 pub read-unknown : (t : ℕ) (o : Output) (n : ℕ) → 0x14 < n → n < 0x21 → reads t o n ≡ Refused 9
-unfolding acted left propertyOf numbered shown if_then_else_
+unfolding acted unchanged propertyOf numbered readProperty if_then_else_
 read-unknown t o n h k = rw (leb-no {a = 0x21} {b = n} k, unlisted n h)
 
 pub read-past : (t : ℕ) (o : Output) (n : ℕ) → 0x30 < n → reads t o n ≡ Refused 9
-unfolding acted left propertyOf numbered shown if_then_else_
+unfolding acted unchanged propertyOf numbered readProperty if_then_else_
 read-past t o n h = rw (leb-yes {a = 0x21} {b = n} (omega arith), leb-no {a = n} {b = 0x30} h)
 
 pub read-none : (t : ℕ) (o : Output) → reads t o 0 ≡ Refused 9
-unfolding acted left propertyOf numbered shown if_then_else_
+unfolding acted unchanged propertyOf numbered readProperty if_then_else_
 read-none t o = refl
 
 -- '21 to 30 slots 1 to 16 (Absent if not live)'
@@ -73,10 +73,10 @@ slotAs none = Absent
 slotAs (some v) = Value (readOut v)
 
 pub read-slots : (t : ℕ) (o : Output) (i : ℕ) → length (o .slots .levels) ≡ 16 → i < 16 → reads t o (0x21 + i) ≡ slotAs (slot (o .slots) i)
-unfolding acted left propertyOf numbered shown slotAnswer levelAnswer levelAt if_then_else_
+unfolding acted unchanged propertyOf numbered readProperty slotAnswer levelAnswer levelAt if_then_else_
 read-slots t o i z h =
     rw (leb-yes {a = 0x21} {b = 0x21 + i} (omega arith), leb-yes {a = 0x21 + i} {b = 0x30} (omega arith), add-sub-cancel-left 0x21 i, slot-is (o .slots) i (omega arith), leb-yes {a = suc i} {b = 16} h)
-    (by-bool (lives (o .slots) i) (λ e. rw e) (λ e. rw e))
+    (by-bool (isLive (o .slots) i) (λ e. rw e) (λ e. rw e))
 
 -- what is refused is not Done
 pub refused : {A : Type 0} {r : ℕ} → _≡_ {A = Answer} (Refused r) Done → A

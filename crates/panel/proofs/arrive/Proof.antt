@@ -3,8 +3,8 @@ mod Tie
 use mathlib.Core.Path.{refl, ap}
 use native.Mathlib.Omega.{arith}
 use lib.ListN.{length, length-map}
-use Rattle.lighting.specs.Passing.{advance}
-use Rattle.lighting.specs.Panel.{carried}
+use Rattle.lighting.specs.Engine.Advance.{advance}
+use Rattle.lighting.specs.Engine.Executing.{execute}
 use borrow.Author.Needs.{needs}
 use Rattle.panel.proofs.arrive.Statement.{statement}
 use Rattle.panel.proofs.arrive.Proof.Tie as tie
@@ -23,8 +23,8 @@ serve-requires c κs =
     let a = c .before .before .before .before .before .before .before .args in
     (p .moment .time, omega (arith, p .output, ap length (c .before .before .before .advance-outputs .ensures), length-map (a .outputs .now) (advance (a .time .now) (a .call .time))))
 
-kept-station-requires : tie.Need-kept-station-requires
-kept-station-requires c κs = search needs
+station-record-requires : tie.Need-station-record-requires
+station-record-requires c κs = search needs
 
 index-requires-2 : tie.Need-index-requires-2
 index-requires-2 c κs = search needs
@@ -42,11 +42,11 @@ same-length-2 : tie.Need-same-length-2
 same-length-2 c = search needs
 
 returns : tie.Need-returns
-unfolding carried
+unfolding execute
 returns c =
     simp (
       c .index2 .ensures,
-      c .before .kept-station .ensures,
+      c .before .station-record .ensures,
       c .before .before .before .serve .ensures .0,
       c .before .before .before .serve .ensures .1,
       c .before .before .before .before .index .ensures,
@@ -60,7 +60,7 @@ arrive-spec =
     advance-outputs-requires
     index-requires
     serve-requires
-    kept-station-requires
+    station-record-requires
     index-requires-2
     mul-record
     slice-set-from-record

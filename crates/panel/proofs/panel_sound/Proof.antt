@@ -1,6 +1,6 @@
 mod Lts
 mod Tie
-use Rattle.lighting.specs.Panel.{panelSound}
+use Rattle.lighting.specs.Paper.Panel.{panelSound}
 use Rattle.lighting.proofs.Choosing.{ifs}
 use borrow.Author.Tests.{not-true, not-false}
 use borrow.Author.Needs.{needs}

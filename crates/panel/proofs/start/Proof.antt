@@ -2,8 +2,8 @@ mod Lts
 mod Tie
 use mathlib.Core.Path.{sym, _∙_}
 use borrow.Author.Tests.{not-true, not-false}
-use Rattle.lighting.specs.Panel.{freshPanel, lent}
-use Rattle.lighting.proofs.Carried.{started-refused, started-done}
+use Rattle.lighting.specs.Paper.Panel.{freshPanel, panelOf}
+use Rattle.lighting.proofs.Carried.{startStep-refused, startStep-done}
 use borrow.Author.Needs.{needs}
 use Rattle.panel.proofs.start.Statement.{statement}
 use Rattle.panel.proofs.start.Proof.Tie as tie
@@ -16,7 +16,7 @@ counts-sound-requires c κs = search needs
 returns : tie.Need-returns
 returns c =
     let a = c .before .before .args in
-    sym (started-refused (lent (a .outputs .now) (a .stations .now) (a .time .now)) (sym (c .before .counts-sound .ensures) ∙ not-true _ (c .if1 .taken)))
+    sym (startStep-refused (panelOf (a .outputs .now) (a .stations .now) (a .time .now)) (sym (c .before .counts-sound .ensures) ∙ not-true _ (c .if1 .taken)))
 
 fresh-outputs-requires : tie.Need-fresh-outputs-requires
 fresh-outputs-requires c κs = search needs
@@ -36,7 +36,7 @@ returns-2 c =
     let a = c .before .before .before .before .before .before .before .before .args in
     let b = c .before .before .before .before .before .before in
     rw (c .before .before .before .before .fresh-outputs .ensures, c .before .fresh-stations .ensures)
-    (sym (started-done (lent (a .outputs .now) (a .stations .now) (a .time .now)) (sym (b .before .counts-sound .ensures) ∙ not-false _ (b .if1 .left))))
+    (sym (startStep-done (panelOf (a .outputs .now) (a .stations .now) (a .time .now)) (sym (b .before .counts-sound .ensures) ∙ not-false _ (b .if1 .left))))
 
 pub start-spec : {M : Type 1} → statement M
 start-spec =

@@ -1,22 +1,22 @@
 -- Made by tools/twin.py.
-use Rattle.kept.proofs.kept_station.Met
-use Rattle.kept.proofs.kept_station.Reads
-use Rattle.kept.proofs.kept_station.Symbol
+use Rattle.station_frame.proofs.station_record.Met
+use Rattle.station_frame.proofs.station_record.Reads
+use Rattle.station_frame.proofs.station_record.Symbol
 use Rattle.panel.proofs.Lent.arrive.Kinds
 use Rattle.panel.proofs.Lent.arrive.Reads as Reads'
 use Rattle.panel.proofs.arrive.Code
 use Rattle.panel.proofs.arrive.Key
 use Rattle.panel.proofs.arrive.Proof.Lts
 use Rattle.panel.proofs.arrive.Statement
-use Rattle.ranges.proofs.index.Met as Met'
-use Rattle.ranges.proofs.index.Reads as Reads''
-use Rattle.ranges.proofs.index.Symbol as Symbol'
-use Rattle.tables.proofs.Lent.advance_outputs.Reads as Reads'3
-use Rattle.tables.proofs.Lent.serve.Reads as Reads'4
-use Rattle.tables.proofs.advance_outputs.Met as Met''
-use Rattle.tables.proofs.advance_outputs.Symbol as Symbol''
-use Rattle.tables.proofs.serve.Met as Met'3
-use Rattle.tables.proofs.serve.Symbol as Symbol'3
+use Rattle.number_ranges.proofs.index.Met as Met'
+use Rattle.number_ranges.proofs.index.Reads as Reads''
+use Rattle.number_ranges.proofs.index.Symbol as Symbol'
+use Rattle.panel_tables.proofs.Lent.advance_outputs.Reads as Reads'3
+use Rattle.panel_tables.proofs.Lent.serve.Reads as Reads'4
+use Rattle.panel_tables.proofs.advance_outputs.Met as Met''
+use Rattle.panel_tables.proofs.advance_outputs.Symbol as Symbol''
+use Rattle.panel_tables.proofs.serve.Met as Met'3
+use Rattle.panel_tables.proofs.serve.Symbol as Symbol'3
 use borrow.Fn.Run
 use borrow.Fn.Written
 use contract.Running

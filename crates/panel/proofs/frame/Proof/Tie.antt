@@ -1,19 +1,19 @@
 -- Made by tools/twin.py.
-use Rattle.panel.proofs.Lent.carry.Reads
+use Rattle.panel.proofs.Lent.execute.Reads
 use Rattle.panel.proofs.Lent.frame.Kinds
 use Rattle.panel.proofs.Lent.frame.Reads as Reads'
 use Rattle.panel.proofs.Lent.panel_sound.Reads as Reads''
-use Rattle.panel.proofs.carry.Met
-use Rattle.panel.proofs.carry.Symbol
+use Rattle.panel.proofs.execute.Met
+use Rattle.panel.proofs.execute.Symbol
 use Rattle.panel.proofs.frame.Code
 use Rattle.panel.proofs.frame.Key
 use Rattle.panel.proofs.frame.Proof.Lts
 use Rattle.panel.proofs.frame.Statement
 use Rattle.panel.proofs.panel_sound.Met as Met'
 use Rattle.panel.proofs.panel_sound.Symbol as Symbol'
-use Rattle.tables.proofs.Lent.decide.Reads as Reads'3
-use Rattle.tables.proofs.decide.Met as Met''
-use Rattle.tables.proofs.decide.Symbol as Symbol''
+use Rattle.panel_tables.proofs.Lent.decide.Reads as Reads'3
+use Rattle.panel_tables.proofs.decide.Met as Met''
+use Rattle.panel_tables.proofs.decide.Symbol as Symbol''
 use borrow.Fn.Run
 use borrow.Fn.Written
 use contract.Running

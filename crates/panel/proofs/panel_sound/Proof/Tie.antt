@@ -5,15 +5,15 @@ use Rattle.panel.proofs.panel_sound.Code
 use Rattle.panel.proofs.panel_sound.Key
 use Rattle.panel.proofs.panel_sound.Proof.Lts
 use Rattle.panel.proofs.panel_sound.Statement
-use Rattle.station.proofs.counts_sound.Met
-use Rattle.station.proofs.counts_sound.Reads as Reads'
-use Rattle.station.proofs.counts_sound.Symbol
-use Rattle.tables.proofs.Lent.outputs_sound.Reads as Reads''
-use Rattle.tables.proofs.Lent.stations_sound.Reads as Reads'3
-use Rattle.tables.proofs.outputs_sound.Met as Met'
-use Rattle.tables.proofs.outputs_sound.Symbol as Symbol'
-use Rattle.tables.proofs.stations_sound.Met as Met''
-use Rattle.tables.proofs.stations_sound.Symbol as Symbol''
+use Rattle.station_judging.proofs.counts_sound.Met
+use Rattle.station_judging.proofs.counts_sound.Reads as Reads'
+use Rattle.station_judging.proofs.counts_sound.Symbol
+use Rattle.panel_tables.proofs.Lent.outputs_sound.Reads as Reads''
+use Rattle.panel_tables.proofs.Lent.stations_sound.Reads as Reads'3
+use Rattle.panel_tables.proofs.outputs_sound.Met as Met'
+use Rattle.panel_tables.proofs.outputs_sound.Symbol as Symbol'
+use Rattle.panel_tables.proofs.stations_sound.Met as Met''
+use Rattle.panel_tables.proofs.stations_sound.Symbol as Symbol''
 use borrow.Fn.Run
 use borrow.Fn.Written
 use contract.Running

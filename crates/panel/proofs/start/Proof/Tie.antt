@@ -5,15 +5,15 @@ use Rattle.panel.proofs.start.Code
 use Rattle.panel.proofs.start.Key
 use Rattle.panel.proofs.start.Proof.Lts
 use Rattle.panel.proofs.start.Statement
-use Rattle.station.proofs.counts_sound.Met
-use Rattle.station.proofs.counts_sound.Reads as Reads'
-use Rattle.station.proofs.counts_sound.Symbol
-use Rattle.tables.proofs.Lent.fresh_outputs.Reads as Reads''
-use Rattle.tables.proofs.Lent.fresh_stations.Reads as Reads'3
-use Rattle.tables.proofs.fresh_outputs.Met as Met'
-use Rattle.tables.proofs.fresh_outputs.Symbol as Symbol'
-use Rattle.tables.proofs.fresh_stations.Met as Met''
-use Rattle.tables.proofs.fresh_stations.Symbol as Symbol''
+use Rattle.station_judging.proofs.counts_sound.Met
+use Rattle.station_judging.proofs.counts_sound.Reads as Reads'
+use Rattle.station_judging.proofs.counts_sound.Symbol
+use Rattle.panel_tables.proofs.Lent.fresh_outputs.Reads as Reads''
+use Rattle.panel_tables.proofs.Lent.fresh_stations.Reads as Reads'3
+use Rattle.panel_tables.proofs.fresh_outputs.Met as Met'
+use Rattle.panel_tables.proofs.fresh_outputs.Symbol as Symbol'
+use Rattle.panel_tables.proofs.fresh_stations.Met as Met''
+use Rattle.panel_tables.proofs.fresh_stations.Symbol as Symbol''
 use borrow.Fn.Run
 use borrow.Fn.Written
 use contract.Running

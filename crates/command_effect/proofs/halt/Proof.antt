@@ -1,0 +1,18 @@
+-- `command_effect::halt` meets its contract.
+use Rattle.lighting.specs.Paper.Commands.{halted}
+use borrow.Author.Needs.{needs}
+use Rattle.command_effect.proofs.halt.Statement.{statement}
+use Rattle.command_effect.proofs.halt.Tie as tie
+
+raise-requires : tie.Need-raise-requires
+raise-requires c κs = search needs
+
+fill-requires : tie.Need-fill-requires
+fill-requires c κs = search needs
+
+returns : tie.Need-returns
+unfolding halted
+returns c = simp (c .fill .ensures, c .before .raise .ensures)
+
+pub halt-spec : {M : Type 1} → statement M
+halt-spec = tie.close (tie.spec raise-requires fill-requires returns)

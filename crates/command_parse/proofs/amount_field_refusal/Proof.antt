@@ -1,0 +1,41 @@
+use Rattle.lighting.proofs.Choosing.{ifs}
+use Rattle.lighting.proofs.Laws.{amountFieldRefusal-on}
+use Rattle.lighting.specs.Paper.Frames.{amountFieldRefusal}
+use borrow.Author.Needs.{needs}
+use Rattle.command_parse.proofs.amount_field_refusal.Statement.{statement}
+use Rattle.command_parse.proofs.amount_field_refusal.Tie as tie
+use Rattle.command_parse.proofs.amount_field_refusal.Reads as reads
+use Rattle.command_parse.proofs.amount_field_refusal.Lts as lts
+use Rattle.number_level.proofs.amount_of_real.Reads as amount-of-real-reads
+use Rattle.command_parse.proofs.level_refusal.Reads as level-refusal-reads
+
+enum-known-x : tie.Need-enum-known-x
+enum-known-x c = search needs
+
+amount-of-real-requires : tie.Need-amount-of-real-requires
+amount-of-real-requires c κs = search needs
+
+level-refusal-requires : tie.Need-level-refusal-requires
+level-refusal-requires c κs = search needs
+
+enum-told : tie.Need-enum-told
+enum-told c = search needs
+
+returns : tie.Need-returns
+unfolding amountFieldRefusal
+returns c = search (needs, ifs, amountFieldRefusal-on, ← c .before .amount-of-real .ensures)
+
+returns-2 : tie.Need-returns-2
+unfolding amountFieldRefusal
+returns-2 c = search (needs, ifs, amountFieldRefusal-on)
+
+pub amount-field-refusal-spec : {M : Type 1} → statement M
+amount-field-refusal-spec =
+    tie.close
+    (tie.spec
+    enum-known-x
+    amount-of-real-requires
+    level-refusal-requires
+    enum-told
+    returns
+    returns-2)

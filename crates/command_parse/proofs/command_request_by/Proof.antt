@@ -1,0 +1,22 @@
+use Rattle.lighting.proofs.Choosing.{ifs}
+use Rattle.lighting.specs.Paper.Frames.{commandRequestBy}
+use borrow.Author.Needs.{needs}
+use Rattle.orders.proofs.command_request_by.Statement.{statement}
+use Rattle.orders.proofs.command_request_by.Tie as tie
+use Rattle.orders.proofs.command_request_by.Reads as reads
+use Rattle.orders.proofs.command_request_by.Lts as lts
+use Rattle.orders.proofs.command_with_duration.Reads as command-with-duration-reads
+
+command-with-duration-requires : tie.Need-command-with-duration-requires
+command-with-duration-requires c κs = search needs
+
+returns : tie.Need-returns
+unfolding commandRequestBy
+returns c = search (needs, ifs)
+
+returns-2 : tie.Need-returns-2
+unfolding commandRequestBy
+returns-2 c = search (needs, ifs)
+
+pub command-request-by-spec : {M : Type 1} → statement M
+command-request-by-spec = tie.close (tie.spec command-with-duration-requires returns returns-2)

@@ -1,0 +1,48 @@
+use Rattle.lighting.specs.Paper.Frames.{fieldsRefusal}
+use borrow.Author.Needs.{needs}
+use Rattle.command_parse.proofs.fields_refusal.Statement.{statement}
+use Rattle.command_parse.proofs.fields_refusal.Tie as tie
+use Rattle.command_parse.proofs.fields_refusal.Reads as reads
+use Rattle.command_parse.proofs.fields_refusal.Lts as lts
+use Rattle.command_parse.proofs.amount_field_refusal.Reads as amount-field-refusal-reads
+use Rattle.command_parse.proofs.first_refusal.Reads as first-refusal-reads
+use Rattle.command_parse.proofs.level_field_refusal.Reads as level-field-refusal-reads
+use Rattle.command_parse.proofs.time_field_refusal.Reads as time-field-refusal-reads
+
+level-field-refusal-requires : tie.Need-level-field-refusal-requires
+level-field-refusal-requires c κs = search needs
+
+amount-field-refusal-requires : tie.Need-amount-field-refusal-requires
+amount-field-refusal-requires c κs = search needs
+
+amount-field-refusal-requires-2 : tie.Need-amount-field-refusal-requires-2
+amount-field-refusal-requires-2 c κs = search needs
+
+time-field-refusal-requires : tie.Need-time-field-refusal-requires
+time-field-refusal-requires c κs = search needs
+
+first-refusal-requires : tie.Need-first-refusal-requires
+first-refusal-requires c κs = search needs
+
+first-refusal-requires-2 : tie.Need-first-refusal-requires-2
+first-refusal-requires-2 c κs = search needs
+
+first-refusal-requires-3 : tie.Need-first-refusal-requires-3
+first-refusal-requires-3 c κs = search needs
+
+returns : tie.Need-returns
+unfolding fieldsRefusal
+returns c = simp (c .first-refusal3 .ensures, c .before .first-refusal2 .ensures, c .before .before .first-refusal .ensures, c .before .before .before .time-field-refusal .ensures, c .before .before .before .before .amount-field-refusal2 .ensures, c .before .before .before .before .before .amount-field-refusal .ensures, c .before .before .before .before .before .before .level-field-refusal .ensures)
+
+pub fields-refusal-spec : {M : Type 1} → statement M
+fields-refusal-spec =
+    tie.close
+    (tie.spec
+    level-field-refusal-requires
+    amount-field-refusal-requires
+    amount-field-refusal-requires-2
+    time-field-refusal-requires
+    first-refusal-requires
+    first-refusal-requires-2
+    first-refusal-requires-3
+    returns)

@@ -1,0 +1,18 @@
+use borrow.Author.Needs.{needs}
+use Rattle.lighting.proofs.Choosing.{ifs}
+use Rattle.lighting.specs.Paper.Frames.{firstRefusal}
+use Rattle.command_parse.proofs.first_refusal.Statement.{statement}
+use Rattle.command_parse.proofs.first_refusal.Tie as tie
+use Rattle.command_parse.proofs.first_refusal.Reads as reads
+use Rattle.command_parse.proofs.first_refusal.Lts as lts
+
+returns : tie.Need-returns
+unfolding firstRefusal
+returns c = search (needs, ifs)
+
+returns-2 : tie.Need-returns-2
+unfolding firstRefusal
+returns-2 c = search (needs, ifs)
+
+pub first-refusal-spec : {M : Type 1} → statement M
+first-refusal-spec = tie.close (tie.spec returns returns-2)

@@ -1,0 +1,126 @@
+// A command, read: an operation with its fields and its duration as a request, or the refusal that the first field out of range meets.
+ghost use mathlib.Core.Path.{_≡_};
+ghost use Rattle.lighting.specs.Paper.Parameters.{document01};
+ghost use Rattle.lighting.specs.Paper.Answers.{levelRefusal};
+ghost use Rattle.lighting.specs.Paper.Frames.{levelFieldRefusal, amountFieldRefusal, timeFieldRefusal, firstRefusal, fieldsRefusal, commandWithDuration, commandRequestBy, commandRequest};
+use lighting::Command;
+use lighting::Duration;
+use lighting::Level;
+use lighting::Operation;
+use lighting::OperationFields;
+use lighting::RealField;
+use lighting::Request;
+use lighting::TimeField;
+
+// ---- the ranges: 0, or the refusal of a field that is out of its range
+
+fn level_refusal(level: Level) -> u8
+    ensures { λ r. ⌜ r ≡ levelRefusal level ⌝ }
+{
+    match level {
+        Level::Units(_) => 0,
+        Level::OutOfRange => 11,
+    }
+}
+
+fn level_field_refusal(x: RealField) -> u8
+    ensures { λ r. ⌜ r ≡ levelFieldRefusal x ⌝ }
+{
+    match x {
+        RealField::Real(real) => level_refusal(number_level::level_of_real(real)),
+        RealField::NoReal => 0,
+    }
+}
+
+// A rate or a step.
+fn amount_field_refusal(x: RealField) -> u8
+    ensures { λ r. ⌜ r ≡ amountFieldRefusal x ⌝ }
+{
+    match x {
+        RealField::Real(real) => level_refusal(number_level::amount_of_real(real)),
+        RealField::NoReal => 0,
+    }
+}
+
+fn time_field_refusal(x: TimeField) -> u8
+    ensures { λ r. ⌜ r ≡ timeFieldRefusal document01 x ⌝ }
+{
+    match x {
+        TimeField::Time(l) => if number_ranges::is_fade_time(l) {
+            0
+        } else {
+            12
+        },
+        TimeField::NoTime => 0,
+    }
+}
+
+fn first_refusal(earlier: u8, later: u8) -> u8
+    ensures { λ r. ⌜ r ≡ firstRefusal earlier later ⌝ }
+{
+    if earlier == 0 { later } else { earlier }
+}
+
+// Fields are judged from left to right.
+pub fn fields_refusal(f: OperationFields) -> u8
+    ensures { λ r. ⌜ r ≡ fieldsRefusal document01 f ⌝ }
+{
+    let level = f.level;
+    let rate = f.rate;
+    let step = f.step;
+    let fade = f.fade;
+    first_refusal(
+        level_field_refusal(level),
+        first_refusal(
+            amount_field_refusal(rate),
+            first_refusal(amount_field_refusal(step), time_field_refusal(fade)),
+        ),
+    )
+}
+
+// ---- the request
+
+// An operation with its duration: 0 cancels, 100 to 86,400,000 sets, FFFFFFFF means absent.
+fn command_with_duration(operation: Operation, d: u32) -> Request
+    ensures { λ r. ⌜ r ≡ commandWithDuration document01 operation d ⌝ }
+{
+    if d == 0xFFFF_FFFF {
+        Request::Commands(Command {
+            operation,
+            duration: Duration::Omitted,
+        })
+    } else if d == 0 {
+        Request::Commands(Command {
+            operation,
+            duration: Duration::Cancels,
+        })
+    } else if number_ranges::is_duration(d) {
+        Request::Commands(Command {
+            operation,
+            duration: Duration::Lasts(d),
+        })
+    } else {
+        Request::Refuse(12)
+    }
+}
+
+fn command_request_by(refusal: u8, operation: Operation, d: u32) -> Request
+    ensures { λ r. ⌜ r ≡ commandRequestBy document01 refusal operation d ⌝ }
+{
+    if refusal == 0 {
+        command_with_duration(operation, d)
+    } else {
+        Request::Refuse(refusal)
+    }
+}
+
+// The duration comes after the operation's own fields.
+pub fn command_request(operation: Operation, d: u32) -> Request
+    ensures { λ r. ⌜ r ≡ commandRequest document01 operation d ⌝ }
+{
+    command_request_by(
+        fields_refusal(command_operations::fields_of(operation)),
+        operation,
+        d,
+    )
+}

@@ -1,0 +1,18 @@
+-- `command_steps::step_up_from` meets its contract.
+use Rattle.lighting.specs.Paper.Commands.{stepUpFrom}
+use borrow.Author.Needs.{needs}
+use Rattle.command_steps.proofs.step_up_from.Statement.{statement}
+use Rattle.command_steps.proofs.step_up_from.Tie as tie
+
+add-clamp : tie.Need-add-clamp
+add-clamp c = search needs
+
+clamp-requires : tie.Need-clamp-requires
+clamp-requires c κs = search needs
+
+returns : tie.Need-returns
+unfolding stepUpFrom
+returns c = c .clamp .ensures
+
+pub step-up-from-spec : {M : Type 1} → statement M
+step-up-from-spec = tie.close (tie.spec add-clamp clamp-requires returns)

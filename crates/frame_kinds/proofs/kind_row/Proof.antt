@@ -1,0 +1,41 @@
+use Rattle.kinds.proofs.Table.{table}
+use borrow.Author.Needs.{needs}
+use Rattle.kinds.proofs.kind_row.Statement.{statement}
+use Rattle.kinds.proofs.kind_row.Tie as tie
+use Rattle.kinds.proofs.kind_row.Reads as reads
+use Rattle.kinds.proofs.kind_row.Lts as lts
+use Rattle.kinds.proofs.command_row.Reads as command-row-reads
+use Rattle.kinds.proofs.plain_row.Reads as plain-row-reads
+
+plain-row-requires : tie.Need-plain-row-requires
+plain-row-requires c κs = search needs
+
+command-row-requires : tie.Need-command-row-requires
+command-row-requires c κs = search needs
+
+returns : tie.Need-returns
+returns c = search needs
+
+returns-2 : tie.Need-returns-2
+returns-2 c = search needs
+
+returns-3 : tie.Need-returns-3
+returns-3 c = search (needs, table)
+
+returns-4 : tie.Need-returns-4
+returns-4 c = search (needs, table)
+
+returns-5 : tie.Need-returns-5
+returns-5 c = search (needs, table)
+
+pub kind-row-spec : {M : Type 1} → statement M
+kind-row-spec =
+    tie.close
+    (tie.spec
+    plain-row-requires
+    command-row-requires
+    returns
+    returns-2
+    returns-3
+    returns-4
+    returns-5)

@@ -1,0 +1,26 @@
+use Rattle.lighting.proofs.Choosing.{ifs}
+use Rattle.lighting.specs.Paper.Frames.{emptyOf}
+use borrow.Author.Needs.{needs}
+use Rattle.frame_parse.proofs.empty_of.Statement.{statement}
+use Rattle.frame_parse.proofs.empty_of.Tie as tie
+use Rattle.frame_parse.proofs.empty_of.Reads as reads
+use Rattle.frame_parse.proofs.empty_of.Lts as lts
+use Rattle.property_write.proofs.values.slot_of.Reads as slot-of-reads
+use Rattle.number_ranges.proofs.is_priority.Reads as is-priority-reads
+
+is-priority-requires : tie.Need-is-priority-requires
+is-priority-requires c κs = search needs
+
+slot-of-requires : tie.Need-slot-of-requires
+slot-of-requires c κs = cc
+
+returns : tie.Need-returns
+unfolding emptyOf
+returns c = search (needs, ifs)
+
+returns-2 : tie.Need-returns-2
+unfolding emptyOf
+returns-2 c = search (needs, ifs)
+
+pub empty-of-spec : {M : Type 1} → statement M
+empty-of-spec = tie.close (tie.spec is-priority-requires slot-of-requires returns returns-2)

@@ -1,0 +1,42 @@
+use Rattle.lighting.proofs.Choosing.{ifs}
+use Rattle.lighting.specs.Paper.Frames.{writeOf}
+use borrow.Author.Needs.{needs}
+use Rattle.frame_parse.proofs.write_of.Statement.{statement}
+use Rattle.frame_parse.proofs.write_of.Tie as tie
+use Rattle.frame_parse.proofs.write_of.Reads as reads
+use Rattle.frame_parse.proofs.write_of.Lts as lts
+use Rattle.frame_parse.proofs.write_level.Reads as write-level-reads
+use Rattle.number_level.proofs.level_of.Reads as level-of-reads
+use Rattle.property_write.proofs.values.slot_of.Reads as slot-of-reads
+use Rattle.number_ranges.proofs.is_priority.Reads as is-priority-reads
+
+is-priority-requires : tie.Need-is-priority-requires
+is-priority-requires c κs = search needs
+
+slot-of-requires : tie.Need-slot-of-requires
+slot-of-requires c κs = cc
+
+level-of-requires : tie.Need-level-of-requires
+level-of-requires c κs = search needs
+
+write-level-requires : tie.Need-write-level-requires
+write-level-requires c κs = search needs
+
+returns : tie.Need-returns
+unfolding writeOf
+returns c = search (needs, ifs, ← c .before .before .slot-of .ensures, ← c .before .level-of .ensures)
+
+returns-2 : tie.Need-returns-2
+unfolding writeOf
+returns-2 c = search (needs, ifs)
+
+pub write-of-spec : {M : Type 1} → statement M
+write-of-spec =
+    tie.close
+    (tie.spec
+    is-priority-requires
+    slot-of-requires
+    level-of-requires
+    write-level-requires
+    returns
+    returns-2)

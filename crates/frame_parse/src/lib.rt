@@ -1,0 +1,199 @@
+// A string of bytes, read: refusals 2 to 5, a clock, or a call with its request. Nothing here looks at a panel but for its number of
+// outputs.
+ghost use mathlib.Core.Path.{_≡_};
+ghost use Rattle.lighting.specs.Paper.Parameters.{document01};
+ghost use Rattle.lighting.specs.Paper.Level.{real};
+ghost use Rattle.lighting.specs.Paper.Field.{bigEndian};
+ghost use Rattle.lighting.specs.Paper.Properties.{propertyOf, changeOf};
+ghost use Rattle.lighting.specs.Paper.Frames.{writeLevel, writeOf, emptyOf, requestOf, callOf, called, clockOf, parseBy, parse};
+use lighting::Action;
+use lighting::Call;
+use lighting::Frame;
+use lighting::Kind;
+use lighting::Level;
+use lighting::Operation;
+use lighting::Request;
+
+// ---- kinds 02 to 05
+
+fn write_level(i: u8, v: Level) -> Request
+    ensures { λ r. ⌜ r ≡ writeLevel i v ⌝ }
+{
+    match v {
+        Level::Units(level) => Request::Write { slot: i, level },
+        Level::OutOfRange => Request::Refuse(11),
+    }
+}
+
+fn write_of(n: u8, x: u32) -> Request
+    ensures { λ r. ⌜ r ≡ writeOf n x ⌝ }
+{
+    if number_ranges::is_priority(n as u32) {
+        write_level(
+            property_write::values::slot_of(n as u32),
+            number_level::level_of(x),
+        )
+    } else {
+        Request::Refuse(10)
+    }
+}
+
+fn empty_of(p: u8) -> Request
+    ensures { λ r. ⌜ r ≡ emptyOf p ⌝ }
+{
+    if number_ranges::is_priority(p as u32) {
+        Request::Empty {
+            slot: property_write::values::slot_of(p as u32),
+        }
+    } else {
+        Request::Refuse(10)
+    }
+}
+
+// ---- the request and the frame
+
+fn change_of(n: u8, x: u32) -> Request
+    ensures { λ r. ⌜ r ≡ changeOf document01 (propertyOf n) x ⌝ }
+{
+    property_write::change_of(property_write::property_of(n), x)
+}
+
+fn real_at(b: &[u8], at: usize) -> f32
+    ensures { λ r. ⌜ r ≡ real (bigEndian 4 (now (b .entry)) at) ⌝ }
+{
+    number_level::real_from(frame_field::word32_at(b, at))
+}
+
+// The kind gives the action, and each reads what it adds to the 13 common bytes.
+fn request_of(action: Action, b: &[u8]) -> Request
+    ensures { λ r. ⌜ r ≡ requestOf document01 action (now (b .entry)) ⌝ }
+{
+    match action {
+        Action::WritesLevel => write_of(frame_field::byte_at(b, 13), frame_field::word32_at(b, 14)),
+        Action::EmptiesSlot => empty_of(frame_field::byte_at(b, 13)),
+        Action::WritesProperty => change_of(
+            frame_field::byte_at(b, 13),
+            frame_field::word32_at(b, 14),
+        ),
+        Action::ReadsProperty => Request::Read(property_write::property_of(frame_field::byte_at(
+            b,
+            13,
+        ))),
+        Action::Stops => command_parse::command_request(
+            Operation::Stop,
+            frame_field::word32_at(b, 13),
+        ),
+        Action::FadesTo => {
+            command_parse::command_request(
+                Operation::FadeTo(real_at(b, 13)),
+                frame_field::word32_at(b, 17),
+            )
+        }
+        Action::FadesToOver => command_parse::command_request(
+            Operation::FadeToOver(real_at(b, 13), frame_field::word32_at(b, 17)),
+            frame_field::word32_at(b, 21),
+        ),
+        Action::RampsTo => {
+            command_parse::command_request(
+                Operation::RampTo(real_at(b, 13)),
+                frame_field::word32_at(b, 17),
+            )
+        }
+        Action::RampsToAtRate => command_parse::command_request(
+            Operation::RampToAtRate(real_at(b, 13), real_at(b, 17)),
+            frame_field::word32_at(b, 21),
+        ),
+        Action::StepsUp => command_parse::command_request(
+            Operation::StepUp,
+            frame_field::word32_at(b, 13),
+        ),
+        Action::StepsDown => command_parse::command_request(
+            Operation::StepDown,
+            frame_field::word32_at(b, 13),
+        ),
+        Action::StepsUpBy => {
+            command_parse::command_request(
+                Operation::StepUpBy(real_at(b, 13)),
+                frame_field::word32_at(b, 17),
+            )
+        }
+        Action::StepsDownBy => {
+            command_parse::command_request(
+                Operation::StepDownBy(real_at(b, 13)),
+                frame_field::word32_at(b, 17),
+            )
+        }
+        Action::GoesTo => {
+            command_parse::command_request(
+                Operation::Goto(real_at(b, 13)),
+                frame_field::word32_at(b, 17),
+            )
+        }
+        Action::Relinquishes => command_parse::command_request(
+            Operation::Relinquish,
+            frame_field::word32_at(b, 13),
+        ),
+    }
+}
+
+fn call_of(action: Action, b: &[u8]) -> Call
+    ensures { λ r. ⌜ r ≡ callOf document01 action (now (b .entry)) ⌝ }
+{
+    Call {
+        station: frame_field::byte_at(b, 1),
+        number: frame_field::word32_at(b, 2),
+        time: frame_field::word48_at(b, 6),
+        output: frame_field::byte_at(b, 12),
+        request: request_of(action, b),
+    }
+}
+
+// Station over 7, or number 0, is refusal 4; an output that is not in the table of c is 5.
+fn called(c: usize, call: Call) -> Frame
+    ensures { λ r. ⌜ r ≡ called document01 c call ⌝ }
+{
+    if call.station < 8 {
+        if call.number == 0 {
+            Frame::Bad(4)
+        } else if (call.output as usize) < c {
+            Frame::Calls(call)
+        } else {
+            Frame::Bad(5)
+        }
+    } else {
+        Frame::Bad(4)
+    }
+}
+
+fn clock_of(b: &[u8]) -> Frame
+    ensures { λ r. ⌜ r ≡ clockOf (now (b .entry)) ⌝ }
+{
+    Frame::Clock(frame_field::word48_at(b, 1))
+}
+
+// No byte, or an unknown kind, is refusal 2, and another length than l, which the kind fixes, is 3.
+fn parse_by(c: usize, l: u32, kind: Kind, b: &[u8]) -> Frame
+    ensures { λ r. ⌜ r ≡ parseBy document01 c l kind (now (b .entry)) ⌝ }
+{
+    match kind {
+        Kind::NoKind => Frame::Bad(2),
+        Kind::ClockKind => if b.len() == l as usize {
+            clock_of(b)
+        } else {
+            Frame::Bad(3)
+        },
+        Kind::CallKind(action) => if b.len() == l as usize {
+            called(c, call_of(action, b))
+        } else {
+            Frame::Bad(3)
+        },
+    }
+}
+
+pub fn parse(c: usize, b: &[u8]) -> Frame
+    ensures { λ r. ⌜ r ≡ parse document01 c (now (b .entry)) ⌝ }
+{
+    let row = frame_kinds::kind_row(frame_field::byte_at(b, 0));
+    let kind = row.kind;
+    parse_by(c, row.length, kind, b)
+}

@@ -1,0 +1,4 @@
+pub mod Advance
+pub mod Judging
+pub mod Executing
+pub mod VerdictPrecondition

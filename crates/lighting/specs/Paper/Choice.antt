@@ -1,0 +1,19 @@
+-- Tests. A definition chooses by clauses, or by an `if` that stays shut: a proof about code then reads its parts off a goal, and a proof about
+-- the definitions opens `if_then_else_` and computes.
+use Prim.Native.Nat.{ℕ, zero, suc, _+_}
+use mathlib.Core.Bool.{Bool, true, false}
+
+infix 5 if_then_else_
+unfoldable pub if_then_else_ : {A : Type 0} → Bool → A → A → A
+if_then_else_ true a b = a
+if_then_else_ false a b = b
+
+-- the one and the other
+infixr 32 _also_
+abbrev pub _also_ : Bool → Bool → Bool
+a also b = if a then b else false
+
+-- each of the n numbers from i on
+unfoldable pub allFrom : (ℕ → Bool) → ℕ → ℕ → Bool
+allFrom t zero i = true
+allFrom t (suc n) i = t i also allFrom t n (i + 1)

@@ -1,0 +1,46 @@
+-- 'An output's record': a fresh output and a fresh station.
+use mathlib.Core.Bool.{false}
+use lib.ListN.{replicate}
+use Rattle.lighting.specs.Paper.Level.{leastLevel, greatestLevel, real}
+use Rattle.lighting.specs.Paper.Slots.{slotCount, slot16}
+use Rattle.lighting.specs.Paper.Kinds.{longestFrame}
+use Rattle.lighting.specs.declared.Settings.{Settings}
+use Rattle.lighting.specs.declared.Activity.the-variants.{Still}
+use Rattle.lighting.specs.declared.Timer.the-variants.{Off}
+use Rattle.lighting.specs.declared.Duration.the-variants.{Omitted}
+use Rattle.lighting.specs.declared.Operation.the-variants.{Stop}
+use Rattle.lighting.specs.declared.Output.{Output}
+use Rattle.lighting.specs.declared.Answer.the-variants.{Done}
+use Rattle.lighting.specs.declared.Station.{Station}
+
+-- 'Properties, with fresh values'
+unfoldable pub freshSettings : Settings
+freshSettings =
+    record {
+      default = 0;
+      fade = 1000;
+      ramp = real 0x4120_0000;
+      step = real 0x40a0_0000;
+      enable = false;
+      blink = 0;
+      delay = 0;
+      min = leastLevel;
+      max = greatestLevel;
+      slot = slot16;
+    }
+
+-- 'A fresh record has no live slot, last operation STOP without duration, burning time 0'
+unfoldable pub freshOutput : Output
+freshOutput =
+    record {
+      settings = freshSettings;
+      slots = record { live = 0; levels = replicate slotCount 0 };
+      activity = Still;
+      timer = Off;
+      burning = 0;
+      last = record { operation = Stop; duration = Omitted };
+    }
+
+-- 'number 0 meaning none'
+unfoldable pub freshStation : Station
+freshStation = record { answer = Done; number = 0; frame = replicate longestFrame 0 }

@@ -1,0 +1,24 @@
+use borrow.Author.Needs.{needs}
+use Rattle.lighting.proofs.Choosing.{ifs}
+use Rattle.lighting.specs.Paper.Rows.{isSlot}
+use Rattle.number_ranges.proofs.is_slot.Statement.{statement}
+use Rattle.number_ranges.proofs.is_slot.Tie as tie
+use Rattle.number_ranges.proofs.is_slot.Reads as reads
+use Rattle.number_ranges.proofs.is_slot.Lts as lts
+
+cast-if1 : tie.Need-cast-if1
+cast-if1 c = search needs
+
+cast-result : tie.Need-cast-result
+cast-result c = search needs
+
+returns : tie.Need-returns
+unfolding isSlot
+returns c = search (needs, ifs)
+
+returns-2 : tie.Need-returns-2
+unfolding isSlot
+returns-2 c = search (needs, ifs)
+
+pub is-slot-spec : {M : Type 1} → statement M
+is-slot-spec = tie.close (tie.spec cast-if1 cast-result returns returns-2)

@@ -1,0 +1,18 @@
+use borrow.Author.Needs.{needs}
+use Rattle.lighting.proofs.Choosing.{ifs}
+use Rattle.lighting.specs.Paper.Rows.{within}
+use Rattle.number_ranges.proofs.is_within.Statement.{statement}
+use Rattle.number_ranges.proofs.is_within.Tie as tie
+use Rattle.number_ranges.proofs.is_within.Reads as reads
+use Rattle.number_ranges.proofs.is_within.Lts as lts
+
+returns : tie.Need-returns
+unfolding within
+returns c = search (needs, ifs)
+
+returns-2 : tie.Need-returns-2
+unfolding within
+returns-2 c = search (needs, ifs)
+
+pub is-within-spec : {M : Type 1} → statement M
+is-within-spec = tie.close (tie.spec returns returns-2)

@@ -1,0 +1,106 @@
+// What a property's value must be: one row a property. What is kept of it meets the row: a write is judged by it, and so is a record.
+ghost use mathlib.Core.Path.{_≡_};
+ghost use Rattle.lighting.specs.Paper.Parameters.{document01};
+ghost use Rattle.lighting.specs.Paper.Level.{real};
+ghost use Rattle.lighting.specs.Paper.Rows.{rowOf, isAmount, meets, meetsReal};
+use lighting::GREATEST_LEVEL;
+use lighting::LEAST_LEVEL;
+use lighting::Property;
+use lighting::Range;
+
+// In milliseconds: `document01` of the definitions has the same greatest values.
+const LONGEST_FADE: u32 = 86400000;
+
+const LONGEST_BLINK: u32 = 86400000;
+
+pub fn row_of(p: Property) -> Range
+    ensures { λ r. ⌜ r ≡ rowOf document01 p ⌝ }
+{
+    match p {
+        Property::RelinquishDefault => Range::Percent,
+        Property::FadeTime => Range::Whole {
+            low: 100,
+            high: LONGEST_FADE,
+        },
+        Property::RampRate => Range::Amount,
+        Property::StepIncrement => Range::Amount,
+        Property::BlinkEnable => Range::Whole { low: 0, high: 1 },
+        Property::BlinkTime => Range::Whole {
+            low: 0,
+            high: LONGEST_BLINK,
+        },
+        Property::BlinkWarnDelay => Range::Whole {
+            low: 0,
+            high: LONGEST_BLINK,
+        },
+        Property::MinValue => Range::Limit,
+        Property::MaxValue => Range::Limit,
+        Property::CommandPriority => Range::Priority,
+        Property::ElapsedActiveTime => Range::Whole { low: 0, high: 0 },
+        Property::PresentValue => Range::ReadOnly,
+        Property::ProgressValue => Range::ReadOnly,
+        Property::InProcess => Range::ReadOnly,
+        Property::LastOperation => Range::ReadOnly,
+        Property::LastLevel => Range::ReadOnly,
+        Property::LastRate => Range::ReadOnly,
+        Property::LastStep => Range::ReadOnly,
+        Property::LastFadeTime => Range::ReadOnly,
+        Property::LastDuration => Range::ReadOnly,
+        Property::SlotValue(_) => Range::ReadOnly,
+        Property::Unknown => Range::ReadOnly,
+    }
+}
+
+// ---- what is kept
+
+// A rate or a step, 0.125 to 100; and by its pattern.
+fn is_amount(x: f32) -> bool
+    ensures { λ r. ⌜ r ≡ isAmount x ⌝ }
+{
+    number_level::in_range(number_level::amount_of_real(x))
+}
+
+pub fn is_amount_pattern(pattern: u32) -> bool
+    ensures { λ r. ⌜ r ≡ isAmount (real pattern) ⌝ }
+{
+    is_amount(number_level::real_from(pattern))
+}
+
+fn is_met(row: Range, v: u32) -> bool
+    ensures { λ r. ⌜ r ≡ meets row v ⌝ }
+{
+    match row {
+        Range::Percent => super::is_level(v),
+        Range::Limit => super::is_within(LEAST_LEVEL, GREATEST_LEVEL, v),
+        Range::Amount => is_amount_pattern(v),
+        Range::Whole { low, high } => super::is_within(low, high, v),
+        Range::Priority => super::is_slot(v),
+        Range::ReadOnly => false,
+    }
+}
+
+fn is_met_real(row: Range, x: f32) -> bool
+    ensures { λ r. ⌜ r ≡ meetsReal row x ⌝ }
+{
+    match row {
+        Range::Percent => false,
+        Range::Limit => false,
+        Range::Amount => is_amount(x),
+        Range::Whole { low: _, high: _ } => false,
+        Range::Priority => false,
+        Range::ReadOnly => false,
+    }
+}
+
+// What is kept of a property, as a number and as a REAL.
+pub fn fits(p: Property, v: u32) -> bool
+    ensures { λ r. ⌜ r ≡ meets (rowOf document01 p) v ⌝ }
+{
+    is_met(row_of(p), v)
+}
+
+pub fn fits_real(p: Property, x: f32) -> bool
+    ensures { λ r. ⌜ r ≡ meetsReal (rowOf document01 p) x ⌝ }
+{
+    is_met_real(row_of(p), x)
+}

@@ -1,0 +1,31 @@
+use Rattle.lighting.proofs.Choosing.{ifs}
+use Rattle.lighting.specs.Paper.Acting.{changedUnless}
+use borrow.Author.Needs.{needs}
+use Rattle.output_acting.proofs.change_unless.Statement.{statement}
+use Rattle.output_acting.proofs.change_unless.Tie as tie
+use Rattle.output_acting.proofs.change_unless.Reads as reads
+use Rattle.output_acting.proofs.change_unless.Lts as lts
+use Rattle.output_acting.proofs.unchanged.Reads as unchanged-reads
+use Rattle.output_acting.proofs.done.Reads as done-reads
+use Rattle.property_write.proofs.settings.change.Reads as change-reads
+
+unchanged-requires : tie.Need-unchanged-requires
+unchanged-requires c κs = search needs
+
+change-requires : tie.Need-change-requires
+change-requires c κs = search needs
+
+done-requires : tie.Need-done-requires
+done-requires c κs = search needs
+
+returns : tie.Need-returns
+unfolding changedUnless
+returns c = search (needs, ifs)
+
+returns-2 : tie.Need-returns-2
+unfolding changedUnless
+returns-2 c = search (needs, ifs, ← c .before .change .ensures)
+
+pub change-unless-spec : {M : Type 1} → statement M
+change-unless-spec =
+    tie.close (tie.spec unchanged-requires change-requires done-requires returns returns-2)

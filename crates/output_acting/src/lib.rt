@@ -1,0 +1,82 @@
+// What a first arrival does to its output, once the output is at the frame's time: the request acts, reads, or is refused. By value, and on
+// any record at all; the time comes from six bytes.
+ghost use mathlib.Core.Path.{_≡_};
+ghost use Prim.Native.Nat.{_<_, _^_};
+ghost use Rattle.lighting.specs.Paper.Properties.{settingsWith, minOverMax};
+ghost use Rattle.lighting.specs.Paper.Acting.{done, unchanged, changedUnless, acted};
+use lighting::Answer;
+use lighting::Outcome;
+use lighting::Output;
+use lighting::Property;
+use lighting::Request;
+
+// The output changed, and judged.
+fn done(o: Output) -> Outcome
+    ensures { λ r. ⌜ r ≡ done o ⌝ }
+{
+    Outcome {
+        output: output_due::after_events(o),
+        answer: Answer::Done,
+    }
+}
+
+// The output as it was: a read, or a refusal.
+fn unchanged(o: Output, a: Answer) -> Outcome
+    ensures { λ r. ⌜ r ≡ unchanged o a ⌝ }
+{
+    Outcome {
+        output: o,
+        answer: a,
+    }
+}
+
+// A write of a property, unless it would leave Min over Max.
+fn change_unless(m: bool, o: Output, n: Property, v: u32) -> Outcome
+    ensures { λ r. ⌜ r ≡ changedUnless m o n v ⌝ }
+{
+    if m {
+        unchanged(o, Answer::Refused(13))
+    } else {
+        done(property_write::settings::change(o, n, v))
+    }
+}
+
+// The settings as they would be decide.
+fn change(o: Output, n: Property, v: u32) -> Outcome
+    ensures { λ r. ⌜ r ≡ changedUnless (minOverMax (settingsWith (o .settings) n v)) o n v ⌝ }
+{
+    let c = o.settings;
+    change_unless(
+        property_write::settings::min_over_max(property_write::settings::settings_with(c, n, v)),
+        o,
+        n,
+        v,
+    )
+}
+
+pub fn act(t: u64, o: Output, q: Request) -> Outcome
+    requires { ⌜ t < 2 ^ 48 ⌝ }
+    ensures { λ r. ⌜ r ≡ acted t o q ⌝ }
+{
+    match q {
+        Request::Refuse(number) => unchanged(o, Answer::Refused(number)),
+        Request::Write { slot, level } => done(output_writing::write(t, o, slot, level)),
+        Request::Empty { slot } => done(output_writing::relinquish_slot(o, slot)),
+        Request::Change { property, value } => change(o, property, value),
+        Request::Read(property) => unchanged(o, property_read::read_property(t, o, property)),
+        Request::Commands(k) => done(command_effect::command(t, o, k)),
+    }
+}
+
+// An outcome's parts.
+pub fn outcome_output(a: Outcome) -> Output
+    ensures { λ r. ⌜ r ≡ a .output ⌝ }
+{
+    a.output
+}
+
+pub fn outcome_answer(a: Outcome) -> Answer
+    ensures { λ r. ⌜ r ≡ a .answer ⌝ }
+{
+    a.answer
+}

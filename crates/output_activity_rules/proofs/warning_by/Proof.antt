@@ -1,0 +1,46 @@
+use Rattle.lighting.proofs.Choosing.{ifs}
+use Rattle.lighting.specs.Paper.Rules.{warningBy}
+use borrow.Author.Needs.{needs}
+use Rattle.output_activity_rules.proofs.warning_by.Statement.{statement}
+use Rattle.output_activity_rules.proofs.warning_by.Tie as tie
+use Rattle.output_activity_rules.proofs.warning_by.Reads as reads
+use Rattle.output_activity_rules.proofs.warning_by.Lts as lts
+use Rattle.number_ranges.proofs.is_level.Reads as is-level-reads
+use Rattle.number_ranges.proofs.is_within.Reads as is-within-reads
+
+cast-is-within : tie.Need-cast-is-within
+cast-is-within c = search needs
+
+is-within-requires : tie.Need-is-within-requires
+is-within-requires c κs = search needs
+
+is-level-requires : tie.Need-is-level-requires
+is-level-requires c κs = search needs
+
+returns : tie.Need-returns
+unfolding warningBy
+returns c = search (needs, ifs)
+
+returns-2 : tie.Need-returns-2
+unfolding warningBy
+returns-2 c = search (needs, ifs)
+
+returns-3 : tie.Need-returns-3
+unfolding warningBy
+returns-3 c = search (needs, ifs)
+
+returns-4 : tie.Need-returns-4
+unfolding warningBy
+returns-4 c = search (needs, ifs)
+
+pub warning-by-spec : {M : Type 1} → statement M
+warning-by-spec =
+    tie.close
+    (tie.spec
+    cast-is-within
+    is-within-requires
+    is-level-requires
+    returns
+    returns-2
+    returns-3
+    returns-4)

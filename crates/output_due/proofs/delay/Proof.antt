@@ -1,0 +1,14 @@
+use borrow.Author.Needs.{needs}
+use Rattle.lighting.proofs.Choosing.{ifs}
+use Rattle.lighting.specs.Paper.Passing.{delayed}
+use Rattle.output_due.proofs.delay.Statement.{statement}
+use Rattle.output_due.proofs.delay.Tie as tie
+use Rattle.output_due.proofs.delay.Reads as reads
+use Rattle.output_due.proofs.delay.Lts as lts
+
+returns : tie.Need-returns
+unfolding delayed
+returns c = search (needs, ifs)
+
+pub delay-spec : {M : Type 1} → statement M
+delay-spec = tie.close (tie.spec returns)

@@ -1,0 +1,29 @@
+use Rattle.lighting.proofs.Choosing.{ifs}
+use Rattle.lighting.proofs.Laws.{emptiedBy-on}
+use Rattle.lighting.specs.Paper.Passing.{emptiedBy}
+use borrow.Author.Needs.{needs}
+use Rattle.output_due.proofs.empty_by.Statement.{statement}
+use Rattle.output_due.proofs.empty_by.Tie as tie
+use Rattle.output_due.proofs.empty_by.Reads as reads
+use Rattle.output_due.proofs.empty_by.Lts as lts
+use Rattle.output_slots.proofs.empty.Reads as empty-reads
+
+enum-told : tie.Need-enum-told
+enum-told c = search needs
+
+enum-known-m : tie.Need-enum-known-m
+enum-known-m c = search needs
+
+empty-requires : tie.Need-empty-requires
+empty-requires c κs = search needs
+
+returns : tie.Need-returns
+unfolding emptiedBy
+returns c = search (needs, ifs, emptiedBy-on)
+
+returns-2 : tie.Need-returns-2
+unfolding emptiedBy
+returns-2 c = search (needs, ifs, emptiedBy-on)
+
+pub empty-by-spec : {M : Type 1} → statement M
+empty-by-spec = tie.close (tie.spec enum-told enum-known-m empty-requires returns returns-2)

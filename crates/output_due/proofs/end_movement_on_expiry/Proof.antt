@@ -1,0 +1,26 @@
+use Rattle.lighting.proofs.Choosing.{ifs}
+use Rattle.lighting.specs.Paper.Passing.{endMovementOnExpiry}
+use borrow.Author.Needs.{needs}
+use Rattle.due.proofs.end_movement_on_expiry.Statement.{statement}
+use Rattle.due.proofs.end_movement_on_expiry.Tie as tie
+use Rattle.due.proofs.end_movement_on_expiry.Reads as reads
+use Rattle.due.proofs.end_movement_on_expiry.Lts as lts
+use Rattle.due.proofs.end_movement_by.Reads as end-movement-by-reads
+use Rattle.due.proofs.is_timer_due.Reads as is-timer-due-reads
+
+is-timer-due-requires : tie.Need-is-timer-due-requires
+is-timer-due-requires c κs = search needs
+
+end-movement-by-requires : tie.Need-end-movement-by-requires
+end-movement-by-requires c κs = search needs
+
+returns : tie.Need-returns
+unfolding endMovementOnExpiry
+returns c = search (needs, ifs)
+
+returns-2 : tie.Need-returns-2
+unfolding endMovementOnExpiry
+returns-2 c = search (needs, ifs)
+
+pub end-movement-on-expiry-spec : {M : Type 1} → statement M
+end-movement-on-expiry-spec = tie.close (tie.spec is-timer-due-requires end-movement-by-requires returns returns-2)

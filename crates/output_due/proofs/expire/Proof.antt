@@ -1,0 +1,26 @@
+use Rattle.lighting.proofs.Choosing.{ifs}
+use Rattle.lighting.specs.Paper.Passing.{expired}
+use borrow.Author.Needs.{needs}
+use Rattle.output_due.proofs.expire.Statement.{statement}
+use Rattle.output_due.proofs.expire.Tie as tie
+use Rattle.output_due.proofs.expire.Reads as reads
+use Rattle.output_due.proofs.expire.Lts as lts
+use Rattle.output_due.proofs.empty_by.Reads as empty-by-reads
+use Rattle.output_due.proofs.is_timer_due.Reads as is-timer-due-reads
+
+is-timer-due-requires : tie.Need-is-timer-due-requires
+is-timer-due-requires c κs = search needs
+
+empty-by-requires : tie.Need-empty-by-requires
+empty-by-requires c κs = search needs
+
+returns : tie.Need-returns
+unfolding expired
+returns c = search (needs, ifs)
+
+returns-2 : tie.Need-returns-2
+unfolding expired
+returns-2 c = search (needs, ifs)
+
+pub expire-spec : {M : Type 1} → statement M
+expire-spec = tie.close (tie.spec is-timer-due-requires empty-by-requires returns returns-2)

@@ -1,0 +1,25 @@
+use Rattle.lighting.proofs.Choosing.{ifs}
+use Rattle.lighting.proofs.Laws.{isDue-on}
+use Rattle.lighting.specs.Paper.Passing.{isDue}
+use borrow.Author.Needs.{needs}
+use Rattle.output_due.proofs.is_due.Statement.{statement}
+use Rattle.output_due.proofs.is_due.Tie as tie
+use Rattle.output_due.proofs.is_due.Reads as reads
+use Rattle.output_due.proofs.is_due.Lts as lts
+
+enum-told : tie.Need-enum-told
+enum-told c = search needs
+
+enum-known-d : tie.Need-enum-known-d
+enum-known-d c = search needs
+
+returns : tie.Need-returns
+unfolding isDue
+returns c = search (needs, ifs, isDue-on)
+
+returns-2 : tie.Need-returns-2
+unfolding isDue
+returns-2 c = search (needs, ifs, isDue-on)
+
+pub is-due-spec : {M : Type 1} → statement M
+is-due-spec = tie.close (tie.spec enum-told enum-known-d returns returns-2)

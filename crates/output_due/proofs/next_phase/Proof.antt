@@ -1,0 +1,34 @@
+use Rattle.lighting.proofs.Choosing.{ifs}
+use Rattle.lighting.proofs.Laws.{nextPhase-on}
+use Rattle.lighting.specs.Paper.Passing.{nextPhase}
+use borrow.Author.Needs.{needs}
+use Rattle.output_due.proofs.next_phase.Statement.{statement}
+use Rattle.output_due.proofs.next_phase.Tie as tie
+use Rattle.output_due.proofs.next_phase.Reads as reads
+use Rattle.output_due.proofs.next_phase.Lts as lts
+use Rattle.output_due.proofs.delay.Reads as delay-reads
+
+enum-told : tie.Need-enum-told
+enum-told c = search needs
+
+delay-requires : tie.Need-delay-requires
+delay-requires c κs = search needs
+
+enum-told-2 : tie.Need-enum-told-2
+enum-told-2 c = search needs
+
+returns : tie.Need-returns
+unfolding nextPhase
+returns c = search (needs, ifs, nextPhase-on)
+
+returns-2 : tie.Need-returns-2
+unfolding nextPhase
+returns-2 c = search (needs, ifs, nextPhase-on)
+
+returns-3 : tie.Need-returns-3
+unfolding nextPhase
+returns-3 c = search (needs, ifs, nextPhase-on)
+
+pub next-phase-spec : {M : Type 1} → statement M
+next-phase-spec =
+    tie.close (tie.spec enum-told delay-requires enum-told-2 returns returns-2 returns-3)

@@ -1,0 +1,16 @@
+use lib.Ieee.{ofBits}
+use Rattle.lighting.specs.Paper.Level.{real}
+use borrow.Author.Needs.{needs}
+use Rattle.lighting.proofs.Choosing.{ifs}
+use Rattle.lighting.specs.Paper.Fresh.{freshSettings}
+use Rattle.output_fresh.proofs.fresh_settings.Statement.{statement}
+use Rattle.output_fresh.proofs.fresh_settings.Tie as tie
+use Rattle.output_fresh.proofs.fresh_settings.Reads as reads
+use Rattle.output_fresh.proofs.fresh_settings.Lts as lts
+
+returns : tie.Need-returns
+unfolding freshSettings real ofBits
+returns c = search (needs, ifs)
+
+pub fresh-settings-spec : {M : Type 1} → statement M
+fresh-settings-spec = tie.close (tie.spec returns)

@@ -1,0 +1,71 @@
+// Fresh records, by value.
+ghost use mathlib.Core.Path.{_≡_};
+ghost use Rattle.lighting.specs.Paper.Fresh.{freshSettings, freshOutput, freshStation};
+use lighting::Activity;
+use lighting::Answer;
+use lighting::Command;
+use lighting::Duration;
+use lighting::GREATEST_LEVEL;
+use lighting::LEAST_LEVEL;
+use lighting::LONGEST_FRAME;
+use lighting::Operation;
+use lighting::Output;
+use lighting::SLOT_16;
+use lighting::SLOTS;
+use lighting::Settings;
+use lighting::Slots;
+use lighting::Station;
+use lighting::Timer;
+
+fn fresh_settings() -> Settings
+    ensures { λ r. ⌜ r ≡ freshSettings ⌝ }
+{
+    Settings {
+        default: 0,
+        fade: 1000,
+        ramp: 10.0,
+        step: 5.0,
+        enable: false,
+        blink: 0,
+        delay: 0,
+        min: LEAST_LEVEL,
+        max: GREATEST_LEVEL,
+        slot: SLOT_16,
+    }
+}
+
+// No live slot, last operation STOP without duration, burning time 0.
+pub fn fresh_output() -> Output
+    ensures { λ r. ⌜ r ≡ freshOutput ⌝ }
+{
+    let levels = [0; SLOTS];
+    let slots = Slots {
+        live: 0,
+        levels: levels,
+    };
+    let last = Command {
+        operation: Operation::Stop,
+        duration: Duration::Omitted,
+    };
+    let settings = fresh_settings();
+    Output {
+        settings: settings,
+        slots: slots,
+        activity: Activity::Still,
+        timer: Timer::Off,
+        burning: 0,
+        last: last,
+    }
+}
+
+// Number 0: no first arrival yet.
+pub fn fresh_station() -> Station
+    ensures { λ r. ⌜ r ≡ freshStation ⌝ }
+{
+    let frame = [0; LONGEST_FRAME];
+    Station {
+        answer: Answer::Done,
+        number: 0,
+        frame: frame,
+    }
+}

@@ -1,0 +1,30 @@
+use Rattle.lighting.specs.Engine.Advance.{due}
+use borrow.Author.Needs.{needs}
+use Rattle.output_passing.proofs.next_due.Statement.{statement}
+use Rattle.output_passing.proofs.next_due.Tie as tie
+use Rattle.output_passing.proofs.next_due.Reads as reads
+use Rattle.output_passing.proofs.next_due.Lts as lts
+use Rattle.output_due.proofs.activity_due.Reads as activity-due-reads
+use Rattle.output_due.proofs.timer_due.Reads as timer-due-reads
+use Rattle.output_passing.proofs.sooner.Reads as sooner-reads
+
+activity-due-requires : tie.Need-activity-due-requires
+activity-due-requires c κs = search needs
+
+sooner-requires : tie.Need-sooner-requires
+sooner-requires c κs = search needs
+
+timer-due-requires : tie.Need-timer-due-requires
+timer-due-requires c κs = search needs
+
+sooner-requires-2 : tie.Need-sooner-requires-2
+sooner-requires-2 c κs = search needs
+
+returns : tie.Need-returns
+unfolding due
+returns c = simp (c .sooner2 .ensures, c .before .timer-due .ensures, c .before .before .sooner .ensures, c .before .before .before .activity-due .ensures)
+
+pub next-due-spec : {M : Type 1} → statement M
+next-due-spec =
+    tie.close
+    (tie.spec activity-due-requires sooner-requires timer-due-requires sooner-requires-2 returns)

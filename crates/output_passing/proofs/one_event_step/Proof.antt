@@ -1,0 +1,25 @@
+use Rattle.lighting.specs.Engine.Advance.{eventSteps}
+use borrow.Author.Needs.{needs}
+use Rattle.passing.proofs.one_event_step.Statement.{statement}
+use Rattle.passing.proofs.one_event_step.Tie as tie
+use Rattle.passing.proofs.one_event_step.Reads as reads
+use Rattle.passing.proofs.one_event_step.Lts as lts
+use Rattle.passing.proofs.event_step.Reads as event-step-reads
+use Rattle.passing.proofs.next_due.Reads as next-due-reads
+use Rattle.passing.proofs.no_event_step.Reads as no-event-step-reads
+
+next-due-requires : tie.Need-next-due-requires
+next-due-requires c κs = search needs
+
+event-step-requires : tie.Need-event-step-requires
+event-step-requires c κs = search needs
+
+no-event-step-requires : tie.Need-no-event-step-requires
+no-event-step-requires c κs = search needs
+
+returns : tie.Need-returns
+unfolding eventSteps
+returns c = simp (c .no-event-step .ensures, c .before .event-step .ensures, c .before .before .next-due .ensures)
+
+pub one-event-step-spec : {M : Type 1} → statement M
+one-event-step-spec = tie.close (tie.spec next-due-requires event-step-requires no-event-step-requires returns)

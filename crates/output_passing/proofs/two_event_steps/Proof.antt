@@ -1,0 +1,25 @@
+use Rattle.lighting.specs.Engine.Advance.{eventSteps}
+use borrow.Author.Needs.{needs}
+use Rattle.passing.proofs.two_event_steps.Statement.{statement}
+use Rattle.passing.proofs.two_event_steps.Tie as tie
+use Rattle.passing.proofs.two_event_steps.Reads as reads
+use Rattle.passing.proofs.two_event_steps.Lts as lts
+use Rattle.passing.proofs.one_event_step.Reads as one-event-step-reads
+use Rattle.passing.proofs.event_step.Reads as event-step-reads
+use Rattle.passing.proofs.next_due.Reads as next-due-reads
+
+next-due-requires : tie.Need-next-due-requires
+next-due-requires c κs = search needs
+
+event-step-requires : tie.Need-event-step-requires
+event-step-requires c κs = search needs
+
+one-event-step-requires : tie.Need-one-event-step-requires
+one-event-step-requires c κs = search needs
+
+returns : tie.Need-returns
+unfolding eventSteps
+returns c = simp (c .one-event-step .ensures, c .before .event-step .ensures, c .before .before .next-due .ensures)
+
+pub two-event-steps-spec : {M : Type 1} → statement M
+two-event-steps-spec = tie.close (tie.spec next-due-requires event-step-requires one-event-step-requires returns)

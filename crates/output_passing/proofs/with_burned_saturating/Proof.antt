@@ -1,0 +1,25 @@
+use Rattle.lighting.specs.Engine.Advance.{withBurnedSaturating}
+use borrow.Author.Needs.{needs}
+use Rattle.passing.proofs.with_burned_saturating.Statement.{statement}
+use Rattle.passing.proofs.with_burned_saturating.Tie as tie
+use Rattle.passing.proofs.with_burned_saturating.Reads as reads
+use Rattle.passing.proofs.with_burned_saturating.Lts as lts
+use Rattle.passing.proofs.added.Reads as added-reads
+use Rattle.passing.proofs.lit_milliseconds.Reads as lit-milliseconds-reads
+use Rattle.record.proofs.with_burning.Reads as with-burning-reads
+
+lit-milliseconds-requires : tie.Need-lit-milliseconds-requires
+lit-milliseconds-requires c κs = search needs
+
+added-requires : tie.Need-added-requires
+added-requires c κs = search needs
+
+with-burning-requires : tie.Need-with-burning-requires
+with-burning-requires c κs = search needs
+
+returns : tie.Need-returns
+unfolding withBurnedSaturating
+returns c = simp (c .with-burning .ensures, c .before .added .ensures, c .before .before .lit-milliseconds .ensures)
+
+pub with-burned-saturating-spec : {M : Type 1} → statement M
+with-burned-saturating-spec = tie.close (tie.spec lit-milliseconds-requires added-requires with-burning-requires returns)

@@ -1,0 +1,15 @@
+use borrow.Author.Needs.{needs}
+use Rattle.lighting.proofs.Choosing.{ifs}
+use Rattle.lighting.specs.Paper.Record.{withCommand}
+use Rattle.output_record.proofs.with_command.Statement.{statement}
+use Rattle.output_record.proofs.with_command.Tie as tie
+use Rattle.output_record.proofs.with_command.Reads as reads
+use Rattle.output_record.proofs.with_command.Lts as lts
+
+-- src/lib.rt:55:1
+returns : tie.Need-returns
+unfolding withCommand
+returns c = search (needs, ifs)
+
+pub with-command-spec : {M : Type 1} → statement M
+with-command-spec = tie.close (tie.spec returns)

@@ -1,0 +1,14 @@
+use borrow.Author.Needs.{needs}
+use Rattle.lighting.proofs.Choosing.{ifs}
+use Rattle.lighting.specs.Paper.Record.{withSettings}
+use Rattle.output_record.proofs.with_settings.Statement.{statement}
+use Rattle.output_record.proofs.with_settings.Tie as tie
+use Rattle.output_record.proofs.with_settings.Reads as reads
+use Rattle.output_record.proofs.with_settings.Lts as lts
+
+returns : tie.Need-returns
+unfolding withSettings
+returns c = search (needs, ifs)
+
+pub with-settings-spec : {M : Type 1} → statement M
+with-settings-spec = tie.close (tie.spec returns)

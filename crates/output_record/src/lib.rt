@@ -1,0 +1,86 @@
+// Every way in which an output's record is changed, field by field: the like of specs/Record.antt. A fresh record is the crate `output_fresh`.
+ghost use mathlib.Core.Path.{_≡_};
+ghost use Rattle.lighting.specs.Paper.Record.{withBurning, withDue, withEffect, withCommand, withSettings};
+use lighting::Activity;
+use lighting::Command;
+use lighting::Effect;
+use lighting::Output;
+use lighting::Settings;
+use lighting::Slots;
+use lighting::Timer;
+
+// Time passes while nothing falls due. Written in place: of all the ways this one is gone most.
+pub fn with_burning(o: Output, b: u64) -> Output
+    ensures { λ r. ⌜ r ≡ withBurning o b ⌝ }
+{
+    let mut n = o;
+    n.burning = b;
+    n
+}
+
+// A moment's due events.
+pub fn with_due(o: Output, slots: Slots, activity: Activity, timer: Timer) -> Output
+    ensures { λ r. ⌜ r ≡ withDue o slots activity timer ⌝ }
+{
+    let settings = o.settings;
+    let last = o.last;
+    Output {
+        settings,
+        slots,
+        activity,
+        timer,
+        burning: o.burning,
+        last,
+    }
+}
+
+// A slot written or emptied.
+pub fn with_effect(o: Output, slots: Slots, activity: Activity) -> Output
+    ensures { λ r. ⌜ r ≡ withEffect o slots activity ⌝ }
+{
+    let settings = o.settings;
+    let timer = o.timer;
+    let last = o.last;
+    Output {
+        settings,
+        slots,
+        activity,
+        timer,
+        burning: o.burning,
+        last,
+    }
+}
+
+// A command.
+pub fn with_command(o: Output, n: Effect, timer: Timer, k: Command) -> Output
+    ensures { λ r. ⌜ r ≡ withCommand o n timer k ⌝ }
+{
+    let settings = o.settings;
+    let slots = n.slots;
+    let activity = n.activity;
+    Output {
+        settings,
+        slots,
+        activity,
+        timer,
+        burning: o.burning,
+        last: k,
+    }
+}
+
+// A property written.
+pub fn with_settings(o: Output, settings: Settings, activity: Activity, burning: u64) -> Output
+    ensures { λ r. ⌜ r ≡ withSettings o settings activity burning ⌝ }
+{
+    let slots = o.slots;
+    let timer = o.timer;
+    let last = o.last;
+    Output {
+        settings,
+        slots,
+        activity,
+        timer,
+        burning,
+        last,
+    }
+}

@@ -1,0 +1,2 @@
+pub mod LiveSlots
+pub mod Commands

@@ -1,0 +1,146 @@
+// The record rules, as the test that is made of every lent record; those on what is under way are the crate `output_activity_rules`. Slots are counted from
+// 0: slot 6 is 5.
+ghost use mathlib.Core.Path.{_≡_};
+ghost use Rattle.lighting.specs.Paper.Parameters.{document01};
+ghost use Rattle.lighting.specs.Paper.Rules.{levelsSound, timesSound, realsSound, settingsSound, slotsSoundFrom, activitySound, sound};
+use lighting::Activity;
+use lighting::Output;
+use lighting::Property;
+use lighting::SLOT_6;
+use lighting::Settings;
+use lighting::Slots;
+use number_ranges::rows::fits;
+use number_ranges::rows::fits_real;
+use number_ranges::wide_index;
+
+// ---- settings
+
+// Each meets the row of its property, and Min is at most Max.
+fn levels_sound(c: Settings) -> bool
+    ensures { λ r. ⌜ r ≡ levelsSound document01 c ⌝ }
+{
+    if fits(Property::RelinquishDefault, c.default) {
+        if fits(Property::MinValue, c.min) {
+            if fits(Property::MaxValue, c.max) {
+                c.min <= c.max
+            } else {
+                false
+            }
+        } else {
+            false
+        }
+    } else {
+        false
+    }
+}
+
+fn times_sound(c: Settings) -> bool
+    ensures { λ r. ⌜ r ≡ timesSound document01 c ⌝ }
+{
+    if fits(Property::FadeTime, c.fade) {
+        if fits(Property::BlinkTime, c.blink) {
+            fits(Property::BlinkWarnDelay, c.delay)
+        } else {
+            false
+        }
+    } else {
+        false
+    }
+}
+
+fn reals_sound(c: Settings) -> bool
+    ensures { λ r. ⌜ r ≡ realsSound document01 c ⌝ }
+{
+    if fits_real(Property::RampRate, c.ramp) {
+        fits_real(Property::StepIncrement, c.step)
+    } else {
+        false
+    }
+}
+
+fn settings_sound(c: Settings) -> bool
+    ensures { λ r. ⌜ r ≡ settingsSound document01 c ⌝ }
+{
+    if levels_sound(c) {
+        if times_sound(c) {
+            if reals_sound(c) {
+                fits(Property::CommandPriority, c.slot as u32)
+            } else {
+                false
+            }
+        } else {
+            false
+        }
+    } else {
+        false
+    }
+}
+
+// ---- slots
+
+// A live slot holds a level. The loop takes the lowest live slot away until none is left, over a copy of the levels alone.
+fn live_sound(s: Slots) -> bool
+    ensures { λ r. ⌜ r ≡ slotsSoundFrom s 0 ⌝ }
+{
+    let levels = s.levels;
+    let mut left = s.live;
+    while 0 < left {
+        let i = wide_index(u16::trailing_zeros(left));
+        if !number_ranges::is_level(levels[i]) {
+            return false;
+        }
+        left = left & (left - 1);
+    }
+    true
+}
+
+// Where no slot is live, the levels are not looked at.
+fn slots_sound(s: Slots) -> bool
+    ensures { λ r. ⌜ r ≡ slotsSoundFrom s 0 ⌝ }
+{
+    if s.live == 0 { true } else { live_sound(s) }
+}
+
+// ---- what is under way
+
+fn activity_sound(t: u64, c: Settings, s: Slots, a: Activity) -> bool
+    ensures { λ r. ⌜ r ≡ activitySound document01 t c s a ⌝ }
+{
+    output_activity_rules::activity_by(
+        t,
+        output_slots::is_live(s, SLOT_6),
+        output_slots::winning(s),
+        c.max,
+        output_value::present_value(c, s),
+        a,
+    )
+}
+
+// ---- the record at panel time t
+
+// The rules on the slots come last: a test of levels copies them, and what was read before such a copy would be kept on the stack beside it.
+pub fn is_sound(t: u64, o: Output) -> bool
+    ensures { λ r. ⌜ r ≡ sound document01 t o ⌝ }
+{
+    let c = o.settings;
+    let s = o.slots;
+    let a = o.activity;
+    let m = o.timer;
+    if settings_sound(c) {
+        if o.burning <= t {
+            if output_activity_rules::timer_sound(t, m) {
+                if activity_sound(t, c, s, a) {
+                    slots_sound(s)
+                } else {
+                    false
+                }
+            } else {
+                false
+            }
+        } else {
+            false
+        }
+    } else {
+        false
+    }
+}

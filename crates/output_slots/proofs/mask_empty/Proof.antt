@@ -1,0 +1,22 @@
+use Rattle.lighting.proofs.Mask.{shifted}
+use Rattle.lighting.proofs.Choosing.{ifs}
+use Rattle.lighting.specs.Paper.Slots.{maskEmptied}
+use borrow.Author.Needs.{needs}
+use Rattle.output_slots.proofs.mask_empty.Statement.{statement}
+use Rattle.output_slots.proofs.mask_empty.Tie as tie
+use Rattle.output_slots.proofs.mask_empty.Reads as reads
+use Rattle.output_slots.proofs.mask_empty.Lts as lts
+
+shl-result : tie.Need-shl-result
+shl-result c = search needs
+
+returns : tie.Need-returns
+unfolding maskEmptied
+returns c = rw (shifted (c .before .args .i) (c .if1 .taken)) (search (needs, ifs))
+
+returns-2 : tie.Need-returns-2
+unfolding maskEmptied
+returns-2 c = search (needs, ifs)
+
+pub mask-empty-spec : {M : Type 1} → statement M
+mask-empty-spec = tie.close (tie.spec shl-result returns returns-2)

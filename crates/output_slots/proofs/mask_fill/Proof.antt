@@ -1,0 +1,22 @@
+use Rattle.lighting.proofs.Mask.{shifted}
+use Rattle.lighting.proofs.Choosing.{ifs}
+use Rattle.lighting.specs.Paper.Slots.{maskFilled}
+use borrow.Author.Needs.{needs}
+use Rattle.output_slots.proofs.mask_fill.Statement.{statement}
+use Rattle.output_slots.proofs.mask_fill.Tie as tie
+use Rattle.output_slots.proofs.mask_fill.Reads as reads
+use Rattle.output_slots.proofs.mask_fill.Lts as lts
+
+shl-result : tie.Need-shl-result
+shl-result c = search needs
+
+returns : tie.Need-returns
+unfolding maskFilled
+returns c = rw (shifted (c .before .args .i) (c .if1 .taken)) (search (needs, ifs))
+
+returns-2 : tie.Need-returns-2
+unfolding maskFilled
+returns-2 c = search (needs, ifs)
+
+pub mask-fill-spec : {M : Type 1} → statement M
+mask-fill-spec = tie.close (tie.spec shl-result returns returns-2)

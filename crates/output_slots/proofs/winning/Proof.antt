@@ -1,0 +1,12 @@
+use borrow.Author.Needs.{needs}
+use Rattle.lighting.proofs.Mask.{winner-zeros}
+use Rattle.output_slots.proofs.winning.Statement.{statement}
+use Rattle.output_slots.proofs.winning.Tie as tie
+use Rattle.output_slots.proofs.winning.Reads as reads
+use Rattle.output_slots.proofs.winning.Lts as lts
+
+returns : tie.Need-returns
+returns c = winner-zeros (c .before .args .s) (search needs)
+
+pub winning-spec : {M : Type 1} → statement M
+winning-spec = tie.close (tie.spec returns)

@@ -1,0 +1,22 @@
+use Rattle.lighting.proofs.Choosing.{ifs}
+use Rattle.lighting.specs.Paper.Value.{clampLit}
+use borrow.Author.Needs.{needs}
+use Rattle.value.proofs.clamp_lit.Statement.{statement}
+use Rattle.value.proofs.clamp_lit.Tie as tie
+use Rattle.value.proofs.clamp_lit.Reads as reads
+use Rattle.value.proofs.clamp_lit.Lts as lts
+use Rattle.value.proofs.clamp.Reads as clamp-reads
+
+clamp-requires : tie.Need-clamp-requires
+clamp-requires c κs = search needs
+
+returns : tie.Need-returns
+unfolding clampLit
+returns c = search (needs, ifs)
+
+returns-2 : tie.Need-returns-2
+unfolding clampLit
+returns-2 c = search (needs, ifs)
+
+pub clamp-lit-spec : {M : Type 1} → statement M
+clamp-lit-spec = tie.close (tie.spec clamp-requires returns returns-2)

@@ -1,0 +1,21 @@
+use Rattle.lighting.specs.Paper.Value.{progressValue}
+use borrow.Author.Needs.{needs}
+use Rattle.output_value.proofs.progress_value.Statement.{statement}
+use Rattle.output_value.proofs.progress_value.Tie as tie
+use Rattle.output_value.proofs.progress_value.Reads as reads
+use Rattle.output_value.proofs.progress_value.Lts as lts
+use Rattle.output_value.proofs.present_value.Reads as present-value-reads
+use Rattle.output_value.proofs.progress_by.Reads as progress-by-reads
+
+present-value-requires : tie.Need-present-value-requires
+present-value-requires c κs = search needs
+
+progress-by-requires : tie.Need-progress-by-requires
+progress-by-requires c κs = search needs
+
+returns : tie.Need-returns
+unfolding progressValue
+returns c = simp (c .progress-by .ensures, c .before .present-value .ensures)
+
+pub progress-value-spec : {M : Type 1} → statement M
+progress-value-spec = tie.close (tie.spec present-value-requires progress-by-requires returns)

@@ -1,0 +1,18 @@
+-- `output_writing::warn` meets its contract.
+use Rattle.lighting.specs.Paper.Writing.{warned}
+use borrow.Author.Needs.{needs}
+use Rattle.output_writing.proofs.warn.Statement.{statement}
+use Rattle.output_writing.proofs.warn.Tie as tie
+
+present-value-requires : tie.Need-present-value-requires
+present-value-requires c κs = search needs
+
+warn-by-requires : tie.Need-warn-by-requires
+warn-by-requires c κs = search needs
+
+returns : tie.Need-returns
+unfolding warned
+returns c = simp (c .warn-by .ensures, c .before .present-value .ensures)
+
+pub warn-spec : {M : Type 1} → statement M
+warn-spec = tie.close (tie.spec present-value-requires warn-by-requires returns)

@@ -1,0 +1,15 @@
+-- `output_writing::write` meets its contract.
+use Rattle.lighting.specs.Paper.Writing.{written}
+use borrow.Author.Needs.{needs}
+use Rattle.output_writing.proofs.write.Statement.{statement}
+use Rattle.output_writing.proofs.write.Tie as tie
+
+write-by-requires : tie.Need-write-by-requires
+write-by-requires c κs = search needs
+
+returns : tie.Need-returns
+unfolding written
+returns c = c .write-by .ensures
+
+pub write-spec : {M : Type 1} → statement M
+write-spec = tie.close (tie.spec write-by-requires returns)

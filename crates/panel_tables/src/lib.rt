@@ -1,0 +1,129 @@
+// The tables that a caller lends: each record in turn, and one record taken out and put back. The functions here are thin: a record is taken out
+// of its table by value, a by-value function of the crates below does the work, and the record is put back.
+ghost use mathlib.Core.Bool.{true};
+ghost use mathlib.Core.List.{map};
+ghost use mathlib.Core.Path.{_≡_};
+ghost use Prim.Native.Nat.{_≤_, _<_, _^_};
+ghost use lib.ListN.{length, replicate, set, getD};
+ghost use Rattle.lighting.specs.Paper.Parameters.{document01};
+ghost use Rattle.lighting.specs.Paper.Fresh.{freshOutput, freshStation};
+ghost use Rattle.lighting.specs.Engine.Advance.{advance};
+ghost use Rattle.lighting.specs.Paper.Rules.{sound, stationSound};
+ghost use Rattle.lighting.specs.Paper.Acting.{served};
+ghost use Rattle.lighting.specs.Paper.Panel.{every, panelOf};
+ghost use Rattle.lighting.specs.Engine.Judging.{decide};
+use lighting::Answer;
+use lighting::Output;
+use lighting::Request;
+use lighting::Station;
+use lighting::Verdict;
+
+// ---- each record of a table
+
+pub fn fresh_outputs(outputs: &mut [Output])
+    ensures { λ _. ⌜ now (outputs .exit) ≡ replicate (length (now (outputs .entry))) freshOutput ⌝ }
+{
+    let fresh = output_fresh::fresh_output();
+    let mut i: usize = 0;
+    while i < outputs.len() {
+        outputs[i] = fresh;
+        i += 1;
+    }
+}
+
+pub fn fresh_stations(stations: &mut [Station])
+    ensures { λ _. ⌜ now (stations .exit) ≡ replicate (length (now (stations .entry))) freshStation ⌝ }
+{
+    let fresh = output_fresh::fresh_station();
+    let mut i: usize = 0;
+    while i < stations.len() {
+        stations[i] = fresh;
+        i += 1;
+    }
+}
+
+pub fn outputs_sound(outputs: &[Output], t: u64) -> bool
+    ensures { λ r. ⌜ r ≡ every (sound document01 t) (now (outputs .entry)) ⌝ }
+{
+    let mut i: usize = 0;
+    while i < outputs.len() {
+        let o = outputs[i];
+        if !output_rules::is_sound(t, o) {
+            return false;
+        }
+        i += 1;
+    }
+    true
+}
+
+pub fn stations_sound(stations: &[Station]) -> bool
+    ensures { λ r. ⌜ r ≡ every stationSound (now (stations .entry)) ⌝ }
+{
+    let mut i: usize = 0;
+    while i < stations.len() {
+        let k = stations[i];
+        if !station_judging::station_sound(k) {
+            return false;
+        }
+        i += 1;
+    }
+    true
+}
+
+// Brings one output to a moment. Where nothing falls due on the way only its burning time changes.
+fn advance_output(outputs: &mut [Output], i: usize, from: u64, to: u64)
+    requires { ⌜ i < length (now outputs) ⌝ }
+    ensures { λ _. ⌜ now (outputs .exit) ≡ set (now (outputs .entry)) i (advance from to (getD (now (outputs .entry)) i freshOutput)) ⌝ }
+{
+    let o = outputs[i];
+    if output_passing::is_later(to, o) {
+        let n = output_passing::no_event_step(from, to, o);
+        outputs[i] = n;
+        return;
+    }
+    let n = output_passing::three_event_steps(from, to, o);
+    outputs[i] = n;
+}
+
+// Brings every output to a moment. While time stands nothing falls due, and no record is written.
+pub fn advance_outputs(outputs: &mut [Output], from: u64, to: u64)
+    requires { ⌜ every (sound document01 from) (now outputs) ≡ true ⌝ }
+    requires { ⌜ from ≤ to ⌝ }
+    ensures { λ _. ⌜ now (outputs .exit) ≡ map (advance from to) (now (outputs .entry)) ⌝ }
+{
+    if to <= from {
+        return;
+    }
+    let mut i: usize = 0;
+    while i < outputs.len() {
+        advance_output(outputs, i, from, to);
+        i += 1;
+    }
+}
+
+// ---- one record of a table
+
+// The output is taken out, acted on, and put back.
+pub fn serve(outputs: &mut [Output], time: u64, station: u8, at: usize, request: Request) -> Answer
+    requires { ⌜ time < 2 ^ 48 ⌝ }
+    requires { ⌜ at < length (now outputs) ⌝ }
+    ensures { λ a. ⌜ a ≡ served time (now (outputs .entry)) station at request .answer ⌝ }
+    ensures { λ _. ⌜ now (outputs .exit) ≡ served time (now (outputs .entry)) station at request .outputs ⌝ }
+{
+    let o = outputs[at];
+    let done = output_acting::act(time, o, request);
+    let n = output_acting::outcome_output(done);
+    outputs[at] = n;
+    output_acting::outcome_answer(done)
+}
+
+// What is to be done with the bytes, by the record of the station that they name.
+pub fn decide(outputs: &[Output], stations: &[Station], time: u64, bytes: &[u8]) -> Verdict
+    requires { ⌜ length (now stations) ≡ document01 .stations ⌝ }
+    ensures { λ v. ⌜ v ≡ decide document01 (panelOf (now (outputs .entry)) (now (stations .entry)) time) (now (bytes .entry)) ⌝ }
+{
+    let f = frame_parse::parse(outputs.len(), bytes);
+    let at = number_ranges::index(station_judging::station_of(f));
+    let record = stations[at];
+    station_judging::judge_by_station(time, record, bytes, f)
+}

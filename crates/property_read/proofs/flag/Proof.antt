@@ -1,0 +1,18 @@
+use borrow.Author.Needs.{needs}
+use Rattle.lighting.proofs.Choosing.{ifs}
+use Rattle.lighting.specs.Paper.Properties.{flag}
+use Rattle.property_read.proofs.flag.Statement.{statement}
+use Rattle.property_read.proofs.flag.Tie as tie
+use Rattle.property_read.proofs.flag.Reads as reads
+use Rattle.property_read.proofs.flag.Lts as lts
+
+returns : tie.Need-returns
+unfolding flag
+returns c = search (needs, ifs)
+
+returns-2 : tie.Need-returns-2
+unfolding flag
+returns-2 c = search (needs, ifs)
+
+pub flag-spec : {M : Type 1} → statement M
+flag-spec = tie.close (tie.spec returns returns-2)

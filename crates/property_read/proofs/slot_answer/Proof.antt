@@ -1,0 +1,31 @@
+use Rattle.lighting.proofs.Choosing.{ifs}
+use Rattle.lighting.specs.Paper.Properties.{slotAnswer}
+use borrow.Author.Needs.{needs}
+use Rattle.property_read.proofs.slot_answer.Statement.{statement}
+use Rattle.property_read.proofs.slot_answer.Tie as tie
+use Rattle.property_read.proofs.slot_answer.Reads as reads
+use Rattle.property_read.proofs.slot_answer.Lts as lts
+use Rattle.property_read.proofs.level_answer.Reads as level-answer-reads
+use Rattle.output_slots.proofs.is_live.Reads as is-live-reads
+use Rattle.output_slots.proofs.level_at.Reads as level-at-reads
+
+is-live-requires : tie.Need-is-live-requires
+is-live-requires c κs = search needs
+
+level-at-requires : tie.Need-level-at-requires
+level-at-requires c κs = search needs
+
+level-answer-requires : tie.Need-level-answer-requires
+level-answer-requires c κs = search needs
+
+returns : tie.Need-returns
+unfolding slotAnswer
+returns c = search (needs, ifs, ← c .before .level-at .ensures)
+
+returns-2 : tie.Need-returns-2
+unfolding slotAnswer
+returns-2 c = search (needs, ifs)
+
+pub slot-answer-spec : {M : Type 1} → statement M
+slot-answer-spec =
+    tie.close (tie.spec is-live-requires level-at-requires level-answer-requires returns returns-2)

@@ -1,0 +1,60 @@
+-- The table of properties at a number that a match has found.
+use mathlib.Core.Path.{_≡_, refl, _∙_}
+use mathlib.Core.Bool.{Bool, true, false, false≢true}
+use mathlib.Core.List.{List, [], _∷_}
+use Prim.Native.Nat.{ℕ, zero, suc, _≤_, _<_, _-_}
+use native.Mathlib.Omega.{arith}
+use lib.Dec.{eqb}
+use Rattle.lighting.specs.Paper.Choice.{if_then_else_, _also_}
+use Rattle.lighting.specs.Paper.Properties.{properties, numberOf, numbered, propertyOf}
+use Rattle.lighting.specs.declared.Property.{Property}
+use Rattle.lighting.specs.declared.Property.the-variants.{SlotValue, Unknown}
+use Rattle.lighting.proofs.Choosing.{if-le, if-nle, if-ne}
+use Rattle.lighting.proofs.Split.{also-both, by-eq}
+
+-- a key k
+pub propertyOf-on : (n k : ℕ) (r : Property) → n ≡ k → r ≡ propertyOf k → r ≡ propertyOf n
+propertyOf-on n k r e p = rw e p
+
+-- '21 to 30 slots 1 to 16'
+pub propertyOf-slot : (n : ℕ) → 33 ≤ n → n ≤ 48 → SlotValue (n - 33) ≡ propertyOf n
+unfolding propertyOf
+propertyOf-slot n low high = if-le _ _ _ _ _ low (if-le _ _ _ _ _ high refl)
+
+-- none of a match's keys, the last first, in which an `omega` would meet a split for each; and the keys below k
+abbrev pub Missed : List ℕ → ℕ → Type 0
+Missed [] n = Unit {0}
+Missed (k ∷ ks) n = Missed ks n × (n ≡ k → ⊥)
+
+abbrev pub below : ℕ → List ℕ
+below zero = []
+below (suc k) = k ∷ below k
+
+-- every number of a table is a key
+abbrev isIn : ℕ → List ℕ → Bool
+isIn n [] = false
+isIn n (k ∷ ks) = if eqb n k then true else isIn n ks
+
+abbrev pub allIn : List Property → List ℕ → Bool
+allIn [] ks = true
+allIn (x ∷ l) ks = isIn (numberOf x) ks also allIn l ks
+
+missed : (n m : ℕ) (ks : List ℕ) → isIn m ks ≡ true → Missed ks n → n ≡ m → ⊥
+unfolding if_then_else_
+missed n m [] h o e = false≢true h
+missed n m (k ∷ ks) h o e = by-eq m k (λ p q. o .1 (e ∙ p)) (λ p q. missed n m ks (rw q at h) (o .0) e)
+
+past : (l : List Property) (n : ℕ) (ks : List ℕ) → allIn l ks ≡ true → Missed ks n → Unknown ≡ numbered l n
+unfolding numbered
+past [] n ks h o = refl
+past (x ∷ l) n ks h o =
+    if-ne _ _ _ _ _ (missed n (numberOf x) ks (also-both h .0) o) (past l n ks (also-both h .1) o)
+
+-- below the slots, and above
+pub propertyOf-none : (n : ℕ) (ks : List ℕ) → allIn properties ks ≡ true → Missed ks n → n < 33 → Unknown ≡ propertyOf n
+unfolding propertyOf
+propertyOf-none n ks h o high = if-nle _ _ _ _ _ high (past properties n ks h o)
+
+pub propertyOf-above : (n : ℕ) → 48 < n → Unknown ≡ propertyOf n
+unfolding propertyOf
+propertyOf-above n low = if-le 33 n _ _ _ (omega arith) (if-nle _ _ _ _ _ low refl)

@@ -1,0 +1,32 @@
+use Rattle.lighting.proofs.Choosing.{ifs}
+use Rattle.lighting.proofs.Laws.{endMovement-on}
+use Rattle.lighting.specs.Paper.Properties.{endMovement}
+use borrow.Author.Needs.{needs}
+use Rattle.properties.proofs.settings.end_movement.Statement.{statement}
+use Rattle.properties.proofs.settings.end_movement.Tie as tie
+use Rattle.properties.proofs.settings.end_movement.Reads as reads
+use Rattle.properties.proofs.settings.end_movement.Lts as lts
+
+enum-told : tie.Need-enum-told
+enum-told c = search needs
+
+enum-told-2 : tie.Need-enum-told-2
+enum-told-2 c = search needs
+
+enum-told-3 : tie.Need-enum-told-3
+enum-told-3 c = search needs
+
+returns : tie.Need-returns
+unfolding endMovement
+returns c = search (needs, ifs, endMovement-on)
+
+returns-2 : tie.Need-returns-2
+unfolding endMovement
+returns-2 c = search (needs, ifs, endMovement-on)
+
+returns-3 : tie.Need-returns-3
+unfolding endMovement
+returns-3 c = search (needs, ifs, endMovement-on)
+
+pub end-movement-spec : {M : Type 1} → statement M
+end-movement-spec = tie.close (tie.spec enum-told enum-told-2 enum-told-3 returns returns-2 returns-3)

@@ -1,0 +1,23 @@
+use Rattle.lighting.proofs.Choosing.{ifs}
+use borrow.Author.Needs.{needs}
+use Rattle.property_write.proofs.settings.real_with.Statement.{statement}
+use Rattle.property_write.proofs.settings.real_with.Tie as tie
+use Rattle.property_write.proofs.settings.real_with.Reads as reads
+use Rattle.property_write.proofs.settings.real_with.Lts as lts
+use Rattle.number_level.proofs.real_from.Reads as real-from-reads
+use Rattle.property_write.proofs.is_same.Reads as is-same-reads
+
+is-same-requires : tie.Need-is-same-requires
+is-same-requires c κs = search needs
+
+real-from-requires : tie.Need-real-from-requires
+real-from-requires c κs = search needs
+
+returns : tie.Need-returns
+returns c = search (needs, ifs)
+
+returns-2 : tie.Need-returns-2
+returns-2 c = search (needs, ifs)
+
+pub real-with-spec : {M : Type 1} → statement M
+real-with-spec = tie.close (tie.spec is-same-requires real-from-requires returns returns-2)

@@ -1,0 +1,126 @@
+use mathlib.Core.Path.{_≡_}
+use mathlib.Core.Bool.{true}
+use Rattle.lighting.specs.Paper.Rows.{isPriority}
+use Rattle.property_write.proofs.Priorities.{priority-range}
+use Rattle.lighting.proofs.Choosing.{ifs}
+use Rattle.lighting.proofs.Laws.{changeBy-on}
+use Rattle.lighting.specs.Paper.Properties.{changeBy}
+use borrow.Author.Needs.{needs}
+use Rattle.property_write.proofs.values.change_by.Statement.{statement}
+use Rattle.property_write.proofs.values.change_by.Tie as tie
+use Rattle.property_write.proofs.values.change_by.Reads as reads
+use Rattle.property_write.proofs.values.change_by.Lts as lts
+use Rattle.number_level.proofs.level_of.Reads as level-of-reads
+use Rattle.number_level.proofs.limit_of.Reads as limit-of-reads
+use Rattle.property_write.proofs.values.change_to.Reads as change-to-reads
+use Rattle.number_ranges.proofs.is_priority.Reads as is-priority-reads
+use Rattle.number_ranges.proofs.is_within.Reads as is-within-reads
+use Rattle.number_ranges.proofs.rows.is_amount_pattern.Reads as is-amount-pattern-reads
+
+enum-told : tie.Need-enum-told
+enum-told c = search needs
+
+level-of-requires : tie.Need-level-of-requires
+level-of-requires c κs = search needs
+
+change-to-requires : tie.Need-change-to-requires
+change-to-requires c κs = search needs
+
+enum-told-2 : tie.Need-enum-told-2
+enum-told-2 c = search needs
+
+limit-of-requires : tie.Need-limit-of-requires
+limit-of-requires c κs = search needs
+
+change-to-requires-2 : tie.Need-change-to-requires-2
+change-to-requires-2 c κs = search needs
+
+enum-told-3 : tie.Need-enum-told-3
+enum-told-3 c = search needs
+
+is-amount-pattern-requires : tie.Need-is-amount-pattern-requires
+is-amount-pattern-requires c κs = search needs
+
+enum-known-row : tie.Need-enum-known-row
+enum-known-row c = search needs
+
+is-within-requires : tie.Need-is-within-requires
+is-within-requires c κs = search needs
+
+enum-told-4 : tie.Need-enum-told-4
+enum-told-4 c = search needs
+
+is-priority-requires : tie.Need-is-priority-requires
+is-priority-requires c κs = search needs
+
+sub-t15 : tie.Need-sub-t15
+sub-t15 c =
+    let h : isPriority (c .before .before .before .before .args .x) ≡ true = cc in
+    priority-range _ h .0
+
+enum-told-5 : tie.Need-enum-told-5
+enum-told-5 c = search needs
+
+returns : tie.Need-returns
+unfolding changeBy
+returns c = search (needs, changeBy-on, ← c .before .level-of .ensures)
+
+returns-2 : tie.Need-returns-2
+unfolding changeBy
+returns-2 c = search (needs, changeBy-on, ← c .before .limit-of .ensures)
+
+returns-3 : tie.Need-returns-3
+unfolding changeBy
+returns-3 c = search (needs, ifs, changeBy-on)
+
+returns-4 : tie.Need-returns-4
+unfolding changeBy
+returns-4 c = search (needs, ifs, changeBy-on)
+
+returns-5 : tie.Need-returns-5
+unfolding changeBy
+returns-5 c = search (needs, ifs, changeBy-on)
+
+returns-6 : tie.Need-returns-6
+unfolding changeBy
+returns-6 c = search (needs, ifs, changeBy-on)
+
+returns-7 : tie.Need-returns-7
+unfolding changeBy
+returns-7 c = search (needs, ifs, changeBy-on)
+
+returns-8 : tie.Need-returns-8
+unfolding changeBy
+returns-8 c = search (needs, ifs, changeBy-on)
+
+returns-9 : tie.Need-returns-9
+unfolding changeBy
+returns-9 c = search (needs, ifs, changeBy-on)
+
+pub change-by-spec : {M : Type 1} → statement M
+change-by-spec =
+    tie.close
+    (tie.spec
+    enum-told
+    level-of-requires
+    change-to-requires
+    enum-told-2
+    limit-of-requires
+    change-to-requires-2
+    enum-told-3
+    is-amount-pattern-requires
+    enum-known-row
+    is-within-requires
+    enum-told-4
+    is-priority-requires
+    sub-t15
+    enum-told-5
+    returns
+    returns-2
+    returns-3
+    returns-4
+    returns-5
+    returns-6
+    returns-7
+    returns-8
+    returns-9)

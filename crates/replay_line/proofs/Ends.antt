@@ -1,0 +1,23 @@
+-- A line's end, by what the line is.
+use mathlib.Core.Path.{_≡_, sym, _∙_}
+use mathlib.Core.Bool.{Bool}
+use Prim.Native.Nat.{ℕ}
+use Rattle.lighting.specs.Paper.Frames.{Bytes}
+use Rattle.lighting.specs.Paper.Panel.{Panel}
+use Rattle.text_reading.specs.declared.Line.{Line}
+use Rattle.text_reading.specs.declared.Reader.{Reader}
+use Rattle.text_reading.specs.Reading.{lineOf}
+use Rattle.text_printing.specs.Page.{Wrote}
+use Rattle.replay_line.specs.Taking.{takenBy, taken}
+
+pub ended :
+    (p : Panel) (w : Reader) (k l : Line) (page : Bytes) (at : ℕ) (r : Reader) (g : Bool) (after : Bytes) (mark : ℕ) (q : Panel) →
+    l ≡ lineOf (w .held) →
+    l ≡ k →
+    r ≡ takenBy p w k .reader →
+    g ≡ takenBy p w k .good →
+    Wrote page at (takenBy p w k .text) after mark →
+    q ≡ takenBy p w k .panel →
+    (r ≡ taken p w .reader) × ((g ≡ taken p w .good) × (Wrote page at (taken p w .text) after mark × (q ≡ taken p w .panel)))
+unfolding taken
+ended p w k l page at r g after mark q e h a b c d = rw (sym e ∙ h) (a, (b, (c, d)))

@@ -1,0 +1,114 @@
+// A line of a list, at its end: `outputs N` starts the panel of the first N outputs, bytes go to that panel, and the answer or the fault is put on
+// the page. Nothing is read or written here but what is lent, and the contracts give all of it.
+ghost use mathlib.Core.Path.{_≡_};
+ghost use lib.ListN.{take};
+ghost use Rattle.lighting.specs.Paper.Panel.{panelOf};
+ghost use Rattle.text_reading.specs.Reading.{content};
+ghost use Rattle.text_printing.specs.Page.{Wrote};
+ghost use Rattle.text_printing.specs.Writing.{answerLine};
+ghost use Rattle.replay_line.specs.Taking.{begun, sent, taken};
+use lighting::Answer;
+use lighting::Output;
+use lighting::Station;
+use text_reading::Line;
+use text_reading::Reader;
+
+// After a line: the reader at the next one, the page's mark, and whether the line was a good one.
+pub struct Ended {
+    pub reader: Reader,
+    pub mark: usize,
+    pub good: bool,
+}
+
+// `outputs N`: the panel of the first N outputs starts.
+fn start(outputs: &mut [Output], stations: &mut [Station], time: &mut u64, n: u8)
+    ensures { λ _. ⌜ panelOf (now (outputs .exit)) (now (stations .exit)) (now (time .exit)) ≡ begun n (panelOf (now (outputs .entry)) (now (stations .entry)) (now (time .entry))) ⌝ }
+{
+    let named = number_ranges::least(number_ranges::index(n), outputs.len());
+    panel::start(&mut outputs[0..named], stations, time);
+}
+
+// The bytes go to that panel: the first `count` of those that the reader keeps.
+fn frame(
+    outputs: &mut [Output],
+    stations: &mut [Station],
+    time: &mut u64,
+    bytes: &[u8; text_reading::BYTES_KEPT],
+    count: usize,
+    n: u8,
+) -> Answer
+    ensures { λ a. ⌜ a ≡ sent n (take count (now (bytes .entry))) (panelOf (now (outputs .entry)) (now (stations .entry)) (now (time .entry))) .answer ⌝ }
+    ensures { λ _. ⌜ panelOf (now (outputs .exit)) (now (stations .exit)) (now (time .exit)) ≡ sent n (take count (now (bytes .entry))) (panelOf (now (outputs .entry)) (now (stations .entry)) (now (time .entry))) .panel ⌝ }
+{
+    let named = number_ranges::least(number_ranges::index(n), outputs.len());
+    let kept = &bytes[..];
+    let held = number_ranges::least(count, kept.len());
+    panel::frame(&mut outputs[0..named], stations, time, &kept[0..held])
+}
+
+fn answer(
+    outputs: &mut [Output],
+    stations: &mut [Station],
+    time: &mut u64,
+    page: &mut [u8],
+    mark: usize,
+    r: Reader,
+) -> usize
+    ensures { λ m. ⌜ Wrote (now (page .entry)) mark (answerLine (sent (r .outputs) (content r) (panelOf (now (outputs .entry)) (now (stations .entry)) (now (time .entry))) .answer)) (now (page .exit)) m ⌝ }
+    ensures { λ _. ⌜ panelOf (now (outputs .exit)) (now (stations .exit)) (now (time .exit)) ≡ sent (r .outputs) (content r) (panelOf (now (outputs .entry)) (now (stations .entry)) (now (time .entry))) .panel ⌝ }
+{
+    let bytes = r.bytes;
+    let a = frame(outputs, stations, time, &bytes, r.count, r.outputs);
+    text_printing::put_answer(page, mark, a)
+}
+
+pub fn take_line(
+    outputs: &mut [Output],
+    stations: &mut [Station],
+    time: &mut u64,
+    page: &mut [u8],
+    mark: usize,
+    r: Reader,
+) -> Ended
+    ensures { λ t. ⌜ t .reader ≡ taken (panelOf (now (outputs .entry)) (now (stations .entry)) (now (time .entry))) r .reader ⌝ }
+    ensures { λ t. ⌜ t .good ≡ taken (panelOf (now (outputs .entry)) (now (stations .entry)) (now (time .entry))) r .good ⌝ }
+    ensures { λ t. ⌜ Wrote (now (page .entry)) mark (taken (panelOf (now (outputs .entry)) (now (stations .entry)) (now (time .entry))) r .text) (now (page .exit)) (t .mark) ⌝ }
+    ensures { λ _. ⌜ panelOf (now (outputs .exit)) (now (stations .exit)) (now (time .exit)) ≡ taken (panelOf (now (outputs .entry)) (now (stations .entry)) (now (time .entry))) r .panel ⌝ }
+{
+    let held = r.held;
+    let number = r.line;
+    let line = text_reading::line_of(held);
+    let next = text_reading::next_line(r);
+    match line {
+        Line::Nothing => Ended {
+            reader: next,
+            mark: mark,
+            good: true,
+        },
+        Line::Outputs(n) => {
+            start(outputs, stations, time, n);
+            let named = text_reading::with_outputs(next, n);
+            Ended {
+                reader: named,
+                mark: mark,
+                good: true,
+            }
+        }
+        Line::Frame => {
+            let m = answer(outputs, stations, time, page, mark, r);
+            Ended {
+                reader: next,
+                mark: m,
+                good: true,
+            }
+        }
+        Line::Wrong(f) => {
+            let m = text_faults::put_fault(page, mark, number, f);
+            Ended {
+                reader: next,
+                mark: m,
+                good: false,
+            }
+        }
+    }
+}

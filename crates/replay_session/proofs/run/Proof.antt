@@ -1,0 +1,52 @@
+mod Lts
+mod Tie
+use borrow.Author.Needs.{needs}
+use Rattle.replay_session.proofs.run.Statement.{statement}
+use Rattle.replay_session.proofs.run.Proof.Tie as tie
+use Rattle.replay_session.proofs.Lent.run.Reads as reads
+use Rattle.replay_session.proofs.run.Proof.Lts as lts
+
+fresh-output-requires : tie.Need-fresh-output-requires
+fresh-output-requires c κs = search needs
+
+fresh-station-requires : tie.Need-fresh-station-requires
+fresh-station-requires c κs = search needs
+
+large-buffer-requires : tie.Need-large-buffer-requires
+large-buffer-requires c κs = search needs
+
+large-buffer-requires-2 : tie.Need-large-buffer-requires-2
+large-buffer-requires-2 c κs = search needs
+
+slice-aggregate-replay : tie.Need-slice-aggregate-replay
+slice-aggregate-replay c = search needs
+
+slice-aggregate-replay-2 : tie.Need-slice-aggregate-replay-2
+slice-aggregate-replay-2 c = search needs
+
+slice-aggregate-replay-3 : tie.Need-slice-aggregate-replay-3
+slice-aggregate-replay-3 c = search needs
+
+slice-aggregate-replay-4 : tie.Need-slice-aggregate-replay-4
+slice-aggregate-replay-4 c = search needs
+
+replay-requires : tie.Need-replay-requires
+replay-requires c κs = search needs
+
+returns : tie.Need-returns
+returns c = search needs
+
+pub run-spec : {M : Type 1} → statement M
+run-spec =
+    tie.close
+    (tie.spec
+    fresh-output-requires
+    fresh-station-requires
+    large-buffer-requires
+    large-buffer-requires-2
+    slice-aggregate-replay
+    slice-aggregate-replay-2
+    slice-aggregate-replay-3
+    slice-aggregate-replay-4
+    replay-requires
+    returns)

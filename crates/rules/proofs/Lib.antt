@@ -1,2 +1,0 @@
-pub mod LiveSlots
-pub mod Order

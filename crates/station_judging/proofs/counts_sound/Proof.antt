@@ -1,0 +1,22 @@
+use borrow.Author.Needs.{needs}
+use Rattle.lighting.proofs.Choosing.{ifs}
+use Rattle.lighting.specs.Paper.Panel.{countsSound}
+use Rattle.station_judging.proofs.counts_sound.Statement.{statement}
+use Rattle.station_judging.proofs.counts_sound.Tie as tie
+use Rattle.station_judging.proofs.counts_sound.Reads as reads
+use Rattle.station_judging.proofs.counts_sound.Lts as lts
+
+returns : tie.Need-returns
+unfolding countsSound
+returns c = search (needs, ifs)
+
+returns-2 : tie.Need-returns-2
+unfolding countsSound
+returns-2 c = search (needs, ifs)
+
+returns-3 : tie.Need-returns-3
+unfolding countsSound
+returns-3 c = search (needs, ifs)
+
+pub counts-sound-spec : {M : Type 1} → statement M
+counts-sound-spec = tie.close (tie.spec returns returns-2 returns-3)

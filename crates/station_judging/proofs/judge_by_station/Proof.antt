@@ -1,0 +1,51 @@
+use Rattle.lighting.proofs.Laws.{judgedByRecord-on}
+use Rattle.lighting.specs.Engine.Judging.{judgedByRecord}
+use Rattle.lighting.proofs.Choosing.{ifs}
+use Rattle.lighting.specs.Engine.Judging.{judgedByStation}
+use borrow.Author.Needs.{needs}
+use Rattle.station.proofs.judge_by_station.Statement.{statement}
+use Rattle.station.proofs.judge_by_station.Tie as tie
+use Rattle.station.proofs.judge_by_station.Reads as reads
+use Rattle.station.proofs.judge_by_station.Lts as lts
+use Rattle.station.proofs.judge_by_number.Reads as judge-by-number-reads
+
+enum-known-f : tie.Need-enum-known-f
+enum-known-f c = search needs
+
+enum-known-f-2 : tie.Need-enum-known-f-2
+enum-known-f-2 c = search needs
+
+enum-known-f-3 : tie.Need-enum-known-f-3
+enum-known-f-3 c = search needs
+
+judge-by-number-requires : tie.Need-judge-by-number-requires
+judge-by-number-requires c κs = search needs
+
+returns : tie.Need-returns
+unfolding judgedByStation judgedByRecord
+returns c = search (needs, ifs, judgedByRecord-on)
+
+returns-2 : tie.Need-returns-2
+unfolding judgedByStation judgedByRecord
+returns-2 c = search (needs, ifs, judgedByRecord-on)
+
+returns-3 : tie.Need-returns-3
+unfolding judgedByStation judgedByRecord
+returns-3 c = search (needs, ifs, judgedByRecord-on)
+
+returns-4 : tie.Need-returns-4
+unfolding judgedByStation judgedByRecord
+returns-4 c = search (needs, ifs, judgedByRecord-on)
+
+pub judge-by-station-spec : {M : Type 1} → statement M
+judge-by-station-spec =
+    tie.close
+    (tie.spec
+    enum-known-f
+    enum-known-f-2
+    enum-known-f-3
+    judge-by-number-requires
+    returns
+    returns-2
+    returns-3
+    returns-4)

@@ -1,0 +1,22 @@
+use Rattle.lighting.proofs.Choosing.{ifs}
+use Rattle.lighting.specs.Paper.Copies.{retransmissionOrConflict}
+use borrow.Author.Needs.{needs}
+use Rattle.station.proofs.retransmission_or_conflict.Statement.{statement}
+use Rattle.station.proofs.retransmission_or_conflict.Tie as tie
+use Rattle.station.proofs.retransmission_or_conflict.Reads as reads
+use Rattle.station.proofs.retransmission_or_conflict.Lts as lts
+use Rattle.kept.proofs.same_frame.Reads as same-frame-reads
+
+same-frame-requires : tie.Need-same-frame-requires
+same-frame-requires c κs = search needs
+
+returns : tie.Need-returns
+unfolding retransmissionOrConflict
+returns c = search (needs, ifs)
+
+returns-2 : tie.Need-returns-2
+unfolding retransmissionOrConflict
+returns-2 c = search (needs, ifs)
+
+pub retransmission-or-conflict-spec : {M : Type 1} → statement M
+retransmission-or-conflict-spec = tie.close (tie.spec same-frame-requires returns returns-2)

@@ -1,0 +1,94 @@
+use Rattle.text_block.proofs.Turns.{answerField-on}
+use Rattle.text_block.specs.Block.{answerField}
+use borrow.Author.Needs.{needs}
+use Rattle.text_block.proofs.put_answer_field.Statement.{statement}
+use Rattle.text_block.proofs.put_answer_field.Tie as tie
+use Rattle.text_block.proofs.put_answer_field.Reads as reads
+use Rattle.text_block.proofs.put_answer_field.Lts as lts
+use Rattle.text_block.proofs.put_hex_field.Reads as put-hex-field-reads
+use Rattle.text_printing.proofs.put_all.Reads as put-all-reads
+
+enum-told : tie.Need-enum-told
+enum-told c = search needs
+
+slice-aggregate-put-all : tie.Need-slice-aggregate-put-all
+slice-aggregate-put-all c = search needs
+
+put-all-requires : tie.Need-put-all-requires
+put-all-requires c κs = search needs
+
+enum-known-a : tie.Need-enum-known-a
+enum-known-a c = search needs
+
+put-hex-field-requires : tie.Need-put-hex-field-requires
+put-hex-field-requires c κs = search needs
+
+enum-told-2 : tie.Need-enum-told-2
+enum-told-2 c = search needs
+
+slice-aggregate-put-all-2 : tie.Need-slice-aggregate-put-all-2
+slice-aggregate-put-all-2 c = search needs
+
+put-all-requires-2 : tie.Need-put-all-requires-2
+put-all-requires-2 c κs = search needs
+
+enum-told-3 : tie.Need-enum-told-3
+enum-told-3 c = search needs
+
+slice-aggregate-put-all-3 : tie.Need-slice-aggregate-put-all-3
+slice-aggregate-put-all-3 c = search needs
+
+put-all-requires-3 : tie.Need-put-all-requires-3
+put-all-requires-3 c κs = search needs
+
+same-length : tie.Need-same-length
+same-length c = search needs
+
+returns : tie.Need-returns
+unfolding answerField
+returns c = search (needs, answerField-on)
+
+same-length-2 : tie.Need-same-length-2
+same-length-2 c = search needs
+
+returns-2 : tie.Need-returns-2
+unfolding answerField
+returns-2 c = search (needs, answerField-on)
+
+same-length-3 : tie.Need-same-length-3
+same-length-3 c = search needs
+
+returns-3 : tie.Need-returns-3
+unfolding answerField
+returns-3 c = search (needs, answerField-on)
+
+same-length-4 : tie.Need-same-length-4
+same-length-4 c = search needs
+
+returns-4 : tie.Need-returns-4
+unfolding answerField
+returns-4 c = search (needs, answerField-on)
+
+pub put-answer-field-spec : {M : Type 1} → statement M
+put-answer-field-spec =
+    tie.close
+    (tie.spec
+    enum-told
+    slice-aggregate-put-all
+    put-all-requires
+    enum-known-a
+    put-hex-field-requires
+    enum-told-2
+    slice-aggregate-put-all-2
+    put-all-requires-2
+    enum-told-3
+    slice-aggregate-put-all-3
+    put-all-requires-3
+    same-length
+    returns
+    same-length-2
+    returns-2
+    same-length-3
+    returns-3
+    same-length-4
+    returns-4)

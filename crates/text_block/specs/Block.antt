@@ -1,0 +1,87 @@
+-- What is found of an output after a list, as text: demand 3's values.
+use mathlib.Core.List.{[], _++_}
+use mathlib.Core.Option.{Option, none, some}
+use Prim.Native.Nat.{ℕ, zero, suc, _+_}
+use Rattle.lighting.specs.Paper.Choice.{if_then_else_}
+use Rattle.lighting.specs.Paper.Frames.{Bytes}
+use Rattle.lighting.specs.Paper.Slots.{isLive, levelAt}
+use Rattle.lighting.specs.Paper.Value.{presentValue, progressValue, inProcess}
+use Rattle.lighting.specs.Paper.Answers.{valueOf}
+use Rattle.lighting.specs.Paper.Properties.{propertyOf, readProperty}
+use Rattle.lighting.specs.declared.Answer.{Answer}
+use Rattle.lighting.specs.declared.Output.{Output}
+use Rattle.lighting.specs.declared.Slots.{Slots}
+use Rattle.text_printing.specs.Text.{text}
+use Rattle.text_printing.specs.Writing.{hex8, decimal, newline}
+
+-- for what is not there
+abbrev pub missing : Bytes
+missing = text " -"
+
+-- a slot: its level in units, or `-`
+unfoldable pub levelField : ℕ → Bytes
+levelField v = text " " ++ decimal v
+
+unfoldable pub slotLevel : Slots → ℕ → Bytes
+slotLevel s i = levelField (levelAt 0 s i)
+
+unfoldable pub slotField : Slots → ℕ → Bytes
+slotField s i = if isLive s i then slotLevel s i else missing
+
+-- the first n slots
+unfoldable pub slotFields : Slots → ℕ → Bytes
+slotFields s zero = []
+slotFields s (suc n) = slotFields s n ++ slotField s n
+
+-- a property as it reads: its value in eight hexadecimal digits, or `-` where it has none
+unfoldable pub hexField : ℕ → Bytes
+hexField v = text " " ++ hex8 v
+
+abbrev valueField : Option ℕ → Bytes
+valueField none = missing
+valueField (some v) = hexField v
+
+unfoldable pub answerField : Answer → Bytes
+answerField a = valueField (valueOf a)
+
+unfoldable pub propertyField : ℕ → Output → ℕ → Bytes
+propertyField t o k = answerField (readProperty t o (propertyOf k))
+
+-- n properties from the number k on
+unfoldable pub propertyFields : ℕ → Output → ℕ → ℕ → Bytes
+propertyFields t o k zero = []
+propertyFields t o k (suc n) = propertyFields t o k n ++ propertyField t o (k + n)
+
+-- A LINE with a number, and the lines of the output i at the time t
+unfoldable pub numberLine : Bytes → ℕ → Bytes
+numberLine word n = word ++ (decimal n ++ newline)
+
+unfoldable pub slotsLine : Slots → Bytes
+slotsLine s = text "slots" ++ (slotFields s 16 ++ newline)
+
+unfoldable pub presentLine : Output → Bytes
+presentLine o = numberLine (text "pv ") (presentValue (o .settings) (o .slots))
+
+unfoldable pub progressLine : ℕ → Output → Bytes
+progressLine t o = numberLine (text "progress ") (progressValue t o)
+
+unfoldable pub processLine : Output → Bytes
+processLine o = numberLine (text "inprocess ") (inProcess (o .activity))
+
+-- the settings are properties 01 to 0A, the last command is properties 0F to 14
+unfoldable pub settingsLine : ℕ → Output → Bytes
+settingsLine t o = text "settings" ++ (propertyFields t o 1 10 ++ newline)
+
+unfoldable pub lastLine : ℕ → Output → Bytes
+lastLine t o = text "last" ++ (propertyFields t o 15 6 ++ newline)
+
+unfoldable pub block : ℕ → ℕ → Output → Bytes
+block i t o =
+    numberLine (text "output ") i
+    ++ (slotsLine (o .slots)
+    ++ (presentLine o
+    ++ (progressLine t o
+    ++ (processLine o
+    ++ (settingsLine t o
+    ++ (lastLine t o
+    ++ numberLine (text "burning ") (o .burning)))))))

@@ -1,0 +1,61 @@
+use Prim.Native.Nat.{_≤_, _-_}
+use mathlib.Core.Path.{_≡_, refl}
+use native.Mathlib.Omega.{arith}
+use lib.ListN.{length, take}
+use lib.Seq.{take-all}
+use Rattle.text_printing.specs.Page.{Wrote}
+use Rattle.text_printing.proofs.Pages.{wrote-none, wrote-turn, wrote-as}
+use borrow.Author.Needs.{needs}
+use Rattle.text_printing.proofs.put_all.Statement.{statement}
+use Rattle.text_printing.proofs.put_all.Tie as tie
+use Rattle.text_printing.proofs.put_all.Reads as reads
+use Rattle.text_printing.proofs.put_all.Lts as lts
+use Rattle.text_printing.proofs.put.Reads as put-reads
+
+abbrev Inv-loop : tie.InvT-loop
+Inv-loop page₀ at s mark₀ i₀ page mark i = (i ≤ length s) × (length page ≡ length page₀) × Wrote page₀ at (take i s) page mark
+
+abbrev μ-loop : tie.MeasureT-loop
+μ-loop page₀ at s mark₀ i₀ page mark i = length s - i
+
+loop-holds : tie.Need-loop-holds Inv-loop μ-loop
+loop-holds c = (omega arith, refl, wrote-none _ _)
+
+shared-slice-read-put : tie.Need-shared-slice-read-put Inv-loop μ-loop
+shared-slice-read-put c = search needs
+
+put-requires : tie.Need-put-requires Inv-loop μ-loop
+put-requires c κs = search needs
+
+add-i : tie.Need-add-i Inv-loop μ-loop
+add-i c = search needs
+
+loop-less : tie.Need-loop-less Inv-loop μ-loop
+loop-less c = search needs
+
+loop-again : tie.Need-loop-again Inv-loop μ-loop
+loop-again c =
+    let l = c .before .before .before .before .before .before .loop in
+    let s = c .before .before .before .before .before .before .before .before .before .args .s .now in
+    (omega arith, search needs, wrote-turn s (l .i) (omega arith) (l .inv .2) (c .before .before .put .ensures))
+
+same-length : tie.Need-same-length Inv-loop μ-loop
+same-length c = search needs
+
+returns : tie.Need-returns Inv-loop μ-loop
+returns c = wrote-as (take-all (c .before .loop .i) (c .before .before .before .before .args .s .now) (omega arith)) (c .before .loop .inv .2)
+
+pub put-all-spec : {M : Type 1} → statement M
+put-all-spec =
+    tie.close
+    (tie.spec
+    Inv-loop
+    μ-loop
+    loop-holds
+    shared-slice-read-put
+    put-requires
+    add-i
+    loop-less
+    loop-again
+    same-length
+    returns)

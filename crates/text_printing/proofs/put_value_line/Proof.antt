@@ -1,0 +1,38 @@
+use Rattle.text_printing.proofs.Pages.{wrote-then}
+use borrow.Author.Needs.{needs}
+use Rattle.text_printing.proofs.put_value_line.Statement.{statement}
+use Rattle.text_printing.proofs.put_value_line.Tie as tie
+use Rattle.text_printing.proofs.put_value_line.Reads as reads
+use Rattle.text_printing.proofs.put_value_line.Lts as lts
+use Rattle.text_printing.proofs.put.Reads as put-reads
+use Rattle.text_printing.proofs.put_all.Reads as put-all-reads
+use Rattle.text_printing.proofs.put_hex8.Reads as put-hex8-reads
+
+slice-aggregate-put-all : tie.Need-slice-aggregate-put-all
+slice-aggregate-put-all c = search needs
+
+put-all-requires : tie.Need-put-all-requires
+put-all-requires c κs = search needs
+
+put-hex8-requires : tie.Need-put-hex8-requires
+put-hex8-requires c κs = search needs
+
+put-requires : tie.Need-put-requires
+put-requires c κs = search needs
+
+same-length : tie.Need-same-length
+same-length c = search needs
+
+returns : tie.Need-returns
+returns c = wrote-then (c .before .before .before .before .before .before .before .before .before .before .put-all .ensures) (wrote-then (c .before .before .before .before .before .before .put-hex8 .ensures) (c .before .before .put .ensures))
+
+pub put-value-line-spec : {M : Type 1} → statement M
+put-value-line-spec =
+    tie.close
+    (tie.spec
+    slice-aggregate-put-all
+    put-all-requires
+    put-hex8-requires
+    put-requires
+    same-length
+    returns)

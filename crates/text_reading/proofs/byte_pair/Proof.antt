@@ -1,0 +1,20 @@
+use Rattle.lighting.proofs.Choosing.{ifs}
+use Rattle.text_reading.specs.Reading.{bytePair}
+use borrow.Author.Needs.{needs}
+use Rattle.text_reading.proofs.byte_pair.Statement.{statement}
+use Rattle.text_reading.proofs.byte_pair.Tie as tie
+use Rattle.text_reading.proofs.byte_pair.Reads as reads
+use Rattle.text_reading.proofs.byte_pair.Lts as lts
+
+mul-result : tie.Need-mul-result
+mul-result c = search needs
+
+add-result : tie.Need-add-result
+add-result c = search needs
+
+returns : tie.Need-returns
+unfolding bytePair
+returns c = search (needs, ifs)
+
+pub byte-pair-spec : {M : Type 1} → statement M
+byte-pair-spec = tie.close (tie.spec mul-result add-result returns)

@@ -1,0 +1,26 @@
+use Rattle.lighting.proofs.Choosing.{ifs}
+use Rattle.text_reading.specs.Reading.{gapped}
+use borrow.Author.Needs.{needs}
+use Rattle.text_reading.proofs.characters.gapped.Statement.{statement}
+use Rattle.text_reading.proofs.characters.gapped.Tie as tie
+use Rattle.text_reading.proofs.characters.gapped.Reads as reads
+use Rattle.text_reading.proofs.characters.gapped.Lts as lts
+use Rattle.text_reading.proofs.characters.is_blank.Reads as is-blank-reads
+
+is-blank-requires : tie.Need-is-blank-requires
+is-blank-requires c κs = search needs
+
+returns : tie.Need-returns
+unfolding gapped
+returns c = search (needs, ifs)
+
+returns-2 : tie.Need-returns-2
+unfolding gapped
+returns-2 c = search (needs, ifs)
+
+returns-3 : tie.Need-returns-3
+unfolding gapped
+returns-3 c = search (needs, ifs)
+
+pub gapped-spec : {M : Type 1} → statement M
+gapped-spec = tie.close (tie.spec is-blank-requires returns returns-2 returns-3)

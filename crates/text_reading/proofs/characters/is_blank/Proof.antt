@@ -1,0 +1,22 @@
+use borrow.Author.Needs.{needs}
+use Rattle.lighting.proofs.Choosing.{ifs}
+use Rattle.text_reading.specs.Reading.{isBlank}
+use Rattle.text_reading.proofs.characters.is_blank.Statement.{statement}
+use Rattle.text_reading.proofs.characters.is_blank.Tie as tie
+use Rattle.text_reading.proofs.characters.is_blank.Reads as reads
+use Rattle.text_reading.proofs.characters.is_blank.Lts as lts
+
+returns : tie.Need-returns
+unfolding isBlank
+returns c = search (needs, ifs)
+
+returns-2 : tie.Need-returns-2
+unfolding isBlank
+returns-2 c = search (needs, ifs)
+
+returns-3 : tie.Need-returns-3
+unfolding isBlank
+returns-3 c = search (needs, ifs)
+
+pub is-blank-spec : {M : Type 1} → statement M
+is-blank-spec = tie.close (tie.spec returns returns-2 returns-3)

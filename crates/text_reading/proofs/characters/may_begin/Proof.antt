@@ -1,0 +1,103 @@
+use Rattle.lighting.proofs.Choosing.{ifs}
+use Rattle.text_reading.proofs.Laws.{mayBegin-on}
+use Rattle.text_reading.specs.Reading.{mayBegin}
+use borrow.Author.Needs.{needs}
+use Rattle.text_reading.proofs.characters.may_begin.Statement.{statement}
+use Rattle.text_reading.proofs.characters.may_begin.Tie as tie
+use Rattle.text_reading.proofs.characters.may_begin.Reads as reads
+use Rattle.text_reading.proofs.characters.may_begin.Lts as lts
+
+enum-told : tie.Need-enum-told
+enum-told c = search needs
+
+enum-told-2 : tie.Need-enum-told-2
+enum-told-2 c = search needs
+
+enum-told-3 : tie.Need-enum-told-3
+enum-told-3 c = search needs
+
+enum-told-4 : tie.Need-enum-told-4
+enum-told-4 c = search needs
+
+enum-told-5 : tie.Need-enum-told-5
+enum-told-5 c = search needs
+
+enum-told-6 : tie.Need-enum-told-6
+enum-told-6 c = search needs
+
+enum-told-7 : tie.Need-enum-told-7
+enum-told-7 c = search needs
+
+enum-told-8 : tie.Need-enum-told-8
+enum-told-8 c = search needs
+
+enum-told-9 : tie.Need-enum-told-9
+enum-told-9 c = search needs
+
+enum-told-10 : tie.Need-enum-told-10
+enum-told-10 c = search needs
+
+returns : tie.Need-returns
+unfolding mayBegin
+returns c = search (needs, ifs, mayBegin-on)
+
+returns-2 : tie.Need-returns-2
+unfolding mayBegin
+returns-2 c = search (needs, ifs, mayBegin-on)
+
+returns-3 : tie.Need-returns-3
+unfolding mayBegin
+returns-3 c = search (needs, ifs, mayBegin-on)
+
+returns-4 : tie.Need-returns-4
+unfolding mayBegin
+returns-4 c = search (needs, ifs, mayBegin-on)
+
+returns-5 : tie.Need-returns-5
+unfolding mayBegin
+returns-5 c = search (needs, ifs, mayBegin-on)
+
+returns-6 : tie.Need-returns-6
+unfolding mayBegin
+returns-6 c = search (needs, ifs, mayBegin-on)
+
+returns-7 : tie.Need-returns-7
+unfolding mayBegin
+returns-7 c = search (needs, ifs, mayBegin-on)
+
+returns-8 : tie.Need-returns-8
+unfolding mayBegin
+returns-8 c = search (needs, ifs, mayBegin-on)
+
+returns-9 : tie.Need-returns-9
+unfolding mayBegin
+returns-9 c = search (needs, ifs, mayBegin-on)
+
+returns-10 : tie.Need-returns-10
+unfolding mayBegin
+returns-10 c = search (needs, ifs, mayBegin-on)
+
+pub may-begin-spec : {M : Type 1} → statement M
+may-begin-spec =
+    tie.close
+    (tie.spec
+    enum-told
+    enum-told-2
+    enum-told-3
+    enum-told-4
+    enum-told-5
+    enum-told-6
+    enum-told-7
+    enum-told-8
+    enum-told-9
+    enum-told-10
+    returns
+    returns-2
+    returns-3
+    returns-4
+    returns-5
+    returns-6
+    returns-7
+    returns-8
+    returns-9
+    returns-10)

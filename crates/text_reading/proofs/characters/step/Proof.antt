@@ -1,0 +1,143 @@
+use Rattle.lighting.proofs.Choosing.{ifs}
+use Rattle.text_reading.proofs.Laws.{step-on}
+use Rattle.text_reading.specs.Reading.{step}
+use borrow.Author.Needs.{needs}
+use Rattle.text_reading.proofs.characters.step.Statement.{statement}
+use Rattle.text_reading.proofs.characters.step.Tie as tie
+use Rattle.text_reading.proofs.characters.step.Reads as reads
+use Rattle.text_reading.proofs.characters.step.Lts as lts
+use Rattle.text_reading.proofs.characters.byte_held.Reads as byte-held-reads
+use Rattle.text_reading.proofs.characters.dashed.Reads as dashed-reads
+use Rattle.text_reading.proofs.characters.gapped.Reads as gapped-reads
+use Rattle.text_reading.proofs.characters.half_held.Reads as half-held-reads
+use Rattle.text_reading.proofs.characters.numbered.Reads as numbered-reads
+use Rattle.text_reading.proofs.characters.opened.Reads as opened-reads
+use Rattle.text_reading.proofs.characters.spelled.Reads as spelled-reads
+use Rattle.text_reading.proofs.characters.trailed.Reads as trailed-reads
+
+enum-told : tie.Need-enum-told
+enum-told c = search needs
+
+opened-requires : tie.Need-opened-requires
+opened-requires c κs = search needs
+
+enum-told-2 : tie.Need-enum-told-2
+enum-told-2 c = search needs
+
+enum-known-h : tie.Need-enum-known-h
+enum-known-h c = search needs
+
+spelled-requires : tie.Need-spelled-requires
+spelled-requires c κs = search needs
+
+enum-told-3 : tie.Need-enum-told-3
+enum-told-3 c = search needs
+
+gapped-requires : tie.Need-gapped-requires
+gapped-requires c κs = search needs
+
+enum-known-h-2 : tie.Need-enum-known-h-2
+enum-known-h-2 c = search needs
+
+numbered-requires : tie.Need-numbered-requires
+numbered-requires c κs = search needs
+
+enum-known-h-3 : tie.Need-enum-known-h-3
+enum-known-h-3 c = search needs
+
+trailed-requires : tie.Need-trailed-requires
+trailed-requires c κs = search needs
+
+enum-told-4 : tie.Need-enum-told-4
+enum-told-4 c = search needs
+
+byte-held-requires : tie.Need-byte-held-requires
+byte-held-requires c κs = search needs
+
+enum-told-5 : tie.Need-enum-told-5
+enum-told-5 c = search needs
+
+half-held-requires : tie.Need-half-held-requires
+half-held-requires c κs = search needs
+
+enum-told-6 : tie.Need-enum-told-6
+enum-told-6 c = search needs
+
+dashed-requires : tie.Need-dashed-requires
+dashed-requires c κs = search needs
+
+enum-told-7 : tie.Need-enum-told-7
+enum-told-7 c = search needs
+
+returns : tie.Need-returns
+unfolding step
+returns c = search (needs, ifs, step-on)
+
+returns-2 : tie.Need-returns-2
+unfolding step
+returns-2 c = search (needs, ifs, step-on)
+
+returns-3 : tie.Need-returns-3
+unfolding step
+returns-3 c = search (needs, ifs, step-on)
+
+returns-4 : tie.Need-returns-4
+unfolding step
+returns-4 c = search (needs, ifs, step-on)
+
+returns-5 : tie.Need-returns-5
+unfolding step
+returns-5 c = search (needs, ifs, step-on)
+
+returns-6 : tie.Need-returns-6
+unfolding step
+returns-6 c = search (needs, ifs, step-on)
+
+returns-7 : tie.Need-returns-7
+unfolding step
+returns-7 c = search (needs, ifs, step-on)
+
+returns-8 : tie.Need-returns-8
+unfolding step
+returns-8 c = search (needs, ifs, step-on)
+
+returns-9 : tie.Need-returns-9
+unfolding step
+returns-9 c = search (needs, ifs, step-on)
+
+returns-10 : tie.Need-returns-10
+unfolding step
+returns-10 c = search (needs, ifs, step-on)
+
+pub step-spec : {M : Type 1} → statement M
+step-spec =
+    tie.close
+    (tie.spec
+    enum-told
+    opened-requires
+    enum-told-2
+    enum-known-h
+    spelled-requires
+    enum-told-3
+    gapped-requires
+    enum-known-h-2
+    numbered-requires
+    enum-known-h-3
+    trailed-requires
+    enum-told-4
+    byte-held-requires
+    enum-told-5
+    half-held-requires
+    enum-told-6
+    dashed-requires
+    enum-told-7
+    returns
+    returns-2
+    returns-3
+    returns-4
+    returns-5
+    returns-6
+    returns-7
+    returns-8
+    returns-9
+    returns-10)

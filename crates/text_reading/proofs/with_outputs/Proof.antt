@@ -1,0 +1,14 @@
+use borrow.Author.Needs.{needs}
+use Rattle.lighting.proofs.Choosing.{ifs}
+use Rattle.text_reading.specs.Reading.{withOutputs}
+use Rattle.text_reading.proofs.with_outputs.Statement.{statement}
+use Rattle.text_reading.proofs.with_outputs.Tie as tie
+use Rattle.text_reading.proofs.with_outputs.Reads as reads
+use Rattle.text_reading.proofs.with_outputs.Lts as lts
+
+returns : tie.Need-returns
+unfolding withOutputs
+returns c = search (needs, ifs)
+
+pub with-outputs-spec : {M : Type 1} → statement M
+with-outputs-spec = tie.close (tie.spec returns)

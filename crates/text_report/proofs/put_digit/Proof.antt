@@ -1,0 +1,24 @@
+use Rattle.text_report.specs.Report.{digit}
+use borrow.Author.Needs.{needs}
+use Rattle.text_report.proofs.put_digit.Statement.{statement}
+use Rattle.text_report.proofs.put_digit.Tie as tie
+use Rattle.text_report.proofs.put_digit.Reads as reads
+use Rattle.text_report.proofs.put_digit.Lts as lts
+use Rattle.text_printing.proofs.last_digit.Reads as last-digit-reads
+use Rattle.text_printing.proofs.put.Reads as put-reads
+
+last-digit-requires : tie.Need-last-digit-requires
+last-digit-requires c κs = search needs
+
+put-requires : tie.Need-put-requires
+put-requires c κs = search needs
+
+same-length : tie.Need-same-length
+same-length c = search needs
+
+returns : tie.Need-returns
+unfolding digit
+returns c = rw (← c .before .before .before .last-digit .ensures) (c .before .before .put .ensures)
+
+pub put-digit-spec : {M : Type 1} → statement M
+put-digit-spec = tie.close (tie.spec last-digit-requires put-requires same-length returns)
