@@ -1,2 +1,2 @@
 pub mod LiveSlots
-pub mod Commands
+pub mod Order

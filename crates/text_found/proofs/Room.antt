@@ -29,7 +29,7 @@ use Rattle.text_printing.specs.Page.{Wrote}
 use Rattle.text_printing.proofs.Lengths.{decimal-length, hex-length, answer-length}
 use Rattle.text_printing.proofs.Pages.{wrote-then, written}
 use Rattle.text_block.specs.Block.{levelField, slotLevel, slotField, slotFields, hexField, answerField, propertyField, propertyFields, numberLine, slotsLine, presentLine, progressLine, processLine, settingsLine, lastLine, block}
-use Rattle.text_report.specs.Report.{twoDigits, threeDigits, lead, aligned, percent, minutes, moment, commandWithDuration, light, operationName, until, activityText, timerText, lightFields, levelFields, timeFields, wayFields, reportLine, reportHead}
+use Rattle.text_report.specs.Report.{twoDigits, threeDigits, lead, aligned, percent, minutes, moment, lasting, light, operationName, until, activityText, timerText, lightFields, levelFields, timeFields, wayFields, reportLine, reportHead}
 use Rattle.text_found.specs.Found.{foundHead, foundOutput, roomy, marked, Sheet, withText, withRoom, withOutput, withOutputs}
 
 -- A BLOCK: eight lines, 642 bytes at most
@@ -97,9 +97,9 @@ moment-length : (t : ℕ) → length (moment t) ≤ 30
 unfolding moment threeDigits twoDigits
 moment-length t = simp (length-append, minutes-length) (omega (arith, decimal-length (t / 3600000)))
 
-commandWithDuration-length : (n : ℕ) → length (commandWithDuration n) ≤ 28
-unfolding commandWithDuration
-commandWithDuration-length n = simp (length-append, minutes-length) (omega (arith, aligned-length (n / 3600000)))
+lasting-length : (n : ℕ) → length (lasting n) ≤ 28
+unfolding lasting
+lasting-length n = simp (length-append, minutes-length) (omega (arith, aligned-length (n / 3600000)))
 
 light-length : (b : Bool) → length (light b) ≡ 7
 unfolding light if_then_else_
@@ -144,7 +144,7 @@ report-length i t o =
       light-length (lit (o .settings) (o .slots)),
       percent-length (presentValue (o .settings) (o .slots)),
       percent-length (progressValue t o),
-      commandWithDuration-length (o .burning),
+      lasting-length (o .burning),
       operation-length (o .last .operation),
       activity-length (o .activity),
       timer-length (o .timer),

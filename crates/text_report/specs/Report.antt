@@ -45,8 +45,8 @@ minutes n = text ":" ++ (twoDigits (n / 60000 % 60) ++ (text ":" ++ twoDigits (n
 unfoldable pub moment : ℕ → Bytes
 moment t = decimal (t / 3600000) ++ (minutes t ++ (text "." ++ threeDigits (t % 1000)))
 
-unfoldable pub commandWithDuration : ℕ → Bytes
-commandWithDuration n = aligned (n / 3600000) ++ minutes n
+unfoldable pub lasting : ℕ → Bytes
+lasting n = aligned (n / 3600000) ++ minutes n
 
 -- WORDS
 abbrev pub gap : Bytes
@@ -90,7 +90,7 @@ unfoldable pub levelFields : ℕ → Output → Bytes
 levelFields t o = gap ++ (percent (presentValue (o .settings) (o .slots)) ++ (gap ++ (gap ++ percent (progressValue t o))))
 
 unfoldable pub timeFields : Output → Bytes
-timeFields o = gap ++ (commandWithDuration (o .burning) ++ operationName (o .last .operation))
+timeFields o = gap ++ (lasting (o .burning) ++ operationName (o .last .operation))
 
 unfoldable pub wayFields : Output → Bytes
 wayFields o = activityText (o .activity) ++ (timerText (o .timer) ++ newline)

@@ -2,7 +2,7 @@
 ghost use mathlib.Core.Path.{_≡_};
 ghost use Prim.Native.Nat.{_*_, _/_, _%_};
 ghost use Rattle.text_printing.specs.Page.{Wrote};
-ghost use Rattle.text_report.specs.Report.{digit, twoDigits, threeDigits, lead, aligned, percent, minutes, moment, commandWithDuration, light, operationName, until, activityText, timerText, lightFields, levelFields, timeFields, wayFields, reportLine, reportHead};
+ghost use Rattle.text_report.specs.Report.{digit, twoDigits, threeDigits, lead, aligned, percent, minutes, moment, lasting, light, operationName, until, activityText, timerText, lightFields, levelFields, timeFields, wayFields, reportLine, reportHead};
 use lighting::Activity;
 use lighting::Operation;
 use lighting::Output;
@@ -87,7 +87,7 @@ fn put_moment(page: &mut [u8], at: usize, t: u64) -> usize
 }
 
 fn put_lasting(page: &mut [u8], at: usize, n: u64) -> usize
-    ensures { λ r. ⌜ Wrote (now (page .entry)) at (commandWithDuration n) (now (page .exit)) r ⌝ }
+    ensures { λ r. ⌜ Wrote (now (page .entry)) at (lasting n) (now (page .exit)) r ⌝ }
 {
     let hours = put_aligned(page, at, n / 3600000);
     put_minutes(page, hours, n)

@@ -1,12 +1,12 @@
 use Rattle.lighting.specs.Paper.Frames.{commandRequest}
 use borrow.Author.Needs.{needs}
-use Rattle.orders.proofs.command_request.Statement.{statement}
-use Rattle.orders.proofs.command_request.Tie as tie
-use Rattle.orders.proofs.command_request.Reads as reads
-use Rattle.orders.proofs.command_request.Lts as lts
-use Rattle.operations.proofs.fields_of.Reads as fields-of-reads
-use Rattle.orders.proofs.fields_refusal.Reads as fields-refusal-reads
-use Rattle.orders.proofs.command_request_by.Reads as command-request-by-reads
+use Rattle.command_parse.proofs.command_request.Statement.{statement}
+use Rattle.command_parse.proofs.command_request.Tie as tie
+use Rattle.command_parse.proofs.command_request.Reads as reads
+use Rattle.command_parse.proofs.command_request.Lts as lts
+use Rattle.command_operations.proofs.fields_of.Reads as fields-of-reads
+use Rattle.command_parse.proofs.fields_refusal.Reads as fields-refusal-reads
+use Rattle.command_parse.proofs.command_request_by.Reads as command-request-by-reads
 
 fields-of-requires : tie.Need-fields-of-requires
 fields-of-requires c κs = search needs

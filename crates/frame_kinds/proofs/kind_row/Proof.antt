@@ -1,11 +1,11 @@
-use Rattle.kinds.proofs.Table.{table}
+use Rattle.frame_kinds.proofs.Table.{table}
 use borrow.Author.Needs.{needs}
-use Rattle.kinds.proofs.kind_row.Statement.{statement}
-use Rattle.kinds.proofs.kind_row.Tie as tie
-use Rattle.kinds.proofs.kind_row.Reads as reads
-use Rattle.kinds.proofs.kind_row.Lts as lts
-use Rattle.kinds.proofs.command_row.Reads as command-row-reads
-use Rattle.kinds.proofs.plain_row.Reads as plain-row-reads
+use Rattle.frame_kinds.proofs.kind_row.Statement.{statement}
+use Rattle.frame_kinds.proofs.kind_row.Tie as tie
+use Rattle.frame_kinds.proofs.kind_row.Reads as reads
+use Rattle.frame_kinds.proofs.kind_row.Lts as lts
+use Rattle.frame_kinds.proofs.command_row.Reads as command-row-reads
+use Rattle.frame_kinds.proofs.plain_row.Reads as plain-row-reads
 
 plain-row-requires : tie.Need-plain-row-requires
 plain-row-requires c κs = search needs

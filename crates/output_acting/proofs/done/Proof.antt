@@ -1,10 +1,10 @@
 use Rattle.lighting.specs.Paper.Acting.{done}
 use borrow.Author.Needs.{needs}
-use Rattle.acting.proofs.done.Statement.{statement}
-use Rattle.acting.proofs.done.Tie as tie
-use Rattle.acting.proofs.done.Reads as reads
-use Rattle.acting.proofs.done.Lts as lts
-use Rattle.due.proofs.after_events.Reads as after-events-reads
+use Rattle.output_acting.proofs.done.Statement.{statement}
+use Rattle.output_acting.proofs.done.Tie as tie
+use Rattle.output_acting.proofs.done.Reads as reads
+use Rattle.output_acting.proofs.done.Lts as lts
+use Rattle.output_due.proofs.after_events.Reads as after-events-reads
 
 after-events-requires : tie.Need-after-events-requires
 after-events-requires c κs = search needs

@@ -1,9 +1,9 @@
 use borrow.Author.Needs.{needs}
 use Rattle.lighting.specs.Paper.Acting.{unchanged}
-use Rattle.acting.proofs.unchanged.Statement.{statement}
-use Rattle.acting.proofs.unchanged.Tie as tie
-use Rattle.acting.proofs.unchanged.Reads as reads
-use Rattle.acting.proofs.unchanged.Lts as lts
+use Rattle.output_acting.proofs.unchanged.Statement.{statement}
+use Rattle.output_acting.proofs.unchanged.Tie as tie
+use Rattle.output_acting.proofs.unchanged.Reads as reads
+use Rattle.output_acting.proofs.unchanged.Lts as lts
 
 returns : tie.Need-returns
 unfolding unchanged

@@ -2,10 +2,10 @@ use Rattle.lighting.proofs.Choosing.{ifs}
 use Rattle.lighting.proofs.Laws.{endMovementOf-on}
 use Rattle.lighting.specs.Paper.Passing.{endMovementOf}
 use borrow.Author.Needs.{needs}
-use Rattle.due.proofs.end_movement_of.Statement.{statement}
-use Rattle.due.proofs.end_movement_of.Tie as tie
-use Rattle.due.proofs.end_movement_of.Reads as reads
-use Rattle.due.proofs.end_movement_of.Lts as lts
+use Rattle.output_due.proofs.end_movement_of.Statement.{statement}
+use Rattle.output_due.proofs.end_movement_of.Tie as tie
+use Rattle.output_due.proofs.end_movement_of.Reads as reads
+use Rattle.output_due.proofs.end_movement_of.Lts as lts
 
 enum-told : tie.Need-enum-told
 enum-told c = search needs

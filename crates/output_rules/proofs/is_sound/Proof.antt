@@ -1,5 +1,5 @@
 use Rattle.lighting.proofs.Choosing.{ifs}
-use Rattle.output_rules.proofs.Commands.{in-order}
+use Rattle.output_rules.proofs.Order.{in-order}
 use borrow.Author.Needs.{needs}
 use Rattle.output_rules.proofs.is_sound.Statement.{statement}
 use Rattle.output_rules.proofs.is_sound.Tie as tie

@@ -2,12 +2,12 @@ use Rattle.lighting.proofs.Choosing.{ifs}
 use Rattle.lighting.proofs.Laws.{distanceMoved-on}
 use Rattle.lighting.specs.Paper.Value.{distanceMoved}
 use borrow.Author.Needs.{needs}
-use Rattle.value.proofs.distance_moved.Statement.{statement}
-use Rattle.value.proofs.distance_moved.Tie as tie
-use Rattle.value.proofs.distance_moved.Reads as reads
-use Rattle.value.proofs.distance_moved.Lts as lts
-use Rattle.value.proofs.ramp_distance.Reads as ramp-distance-reads
-use Rattle.value.proofs.fade_distance.Reads as fade-distance-reads
+use Rattle.output_value.proofs.distance_moved.Statement.{statement}
+use Rattle.output_value.proofs.distance_moved.Tie as tie
+use Rattle.output_value.proofs.distance_moved.Reads as reads
+use Rattle.output_value.proofs.distance_moved.Lts as lts
+use Rattle.output_value.proofs.ramp_distance.Reads as ramp-distance-reads
+use Rattle.output_value.proofs.fade_distance.Reads as fade-distance-reads
 
 enum-told : tie.Need-enum-told
 enum-told c = search needs

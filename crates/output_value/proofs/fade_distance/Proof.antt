@@ -1,13 +1,13 @@
 use mathlib.Core.Path.{sym}
 use Prim.Native.Nat.{_*_, _/_, _≤_}
 use native.Mathlib.Nat.{div-zero}
-use Rattle.value.proofs.Way.{share-most}
+use Rattle.output_value.proofs.Way.{share-most}
 use Rattle.lighting.proofs.Product.{below}
 use borrow.Author.Needs.{needs}
-use Rattle.value.proofs.fade_distance.Statement.{statement}
-use Rattle.value.proofs.fade_distance.Tie as tie
-use Rattle.value.proofs.fade_distance.Reads as reads
-use Rattle.value.proofs.fade_distance.Lts as lts
+use Rattle.output_value.proofs.fade_distance.Statement.{statement}
+use Rattle.output_value.proofs.fade_distance.Tie as tie
+use Rattle.output_value.proofs.fade_distance.Reads as reads
+use Rattle.output_value.proofs.fade_distance.Lts as lts
 
 mul-result : tie.Need-mul-result
 mul-result c = record { fits = below 32 (search needs) (search needs) }

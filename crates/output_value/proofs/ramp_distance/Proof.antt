@@ -1,9 +1,9 @@
 use Rattle.lighting.proofs.Product.{below}
 use borrow.Author.Needs.{needs}
-use Rattle.value.proofs.ramp_distance.Statement.{statement}
-use Rattle.value.proofs.ramp_distance.Tie as tie
-use Rattle.value.proofs.ramp_distance.Reads as reads
-use Rattle.value.proofs.ramp_distance.Lts as lts
+use Rattle.output_value.proofs.ramp_distance.Statement.{statement}
+use Rattle.output_value.proofs.ramp_distance.Tie as tie
+use Rattle.output_value.proofs.ramp_distance.Reads as reads
+use Rattle.output_value.proofs.ramp_distance.Lts as lts
 
 mul-n : tie.Need-mul-n
 mul-n c = record { fits = below 32 (search needs) (search needs) }

@@ -2,8 +2,8 @@
 use Rattle.lighting.proofs.Choosing.{ifs}
 use Rattle.lighting.specs.Paper.Writing.{zeroOrEmpty}
 use borrow.Author.Needs.{needs}
-use Rattle.warning.proofs.is_zero_or_empty.Statement.{statement}
-use Rattle.warning.proofs.is_zero_or_empty.Tie as tie
+use Rattle.output_warning.proofs.is_zero_or_empty.Statement.{statement}
+use Rattle.output_warning.proofs.is_zero_or_empty.Tie as tie
 
 cast-is-live : tie.Need-cast-is-live
 cast-is-live c = search needs

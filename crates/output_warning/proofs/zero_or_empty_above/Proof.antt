@@ -2,8 +2,8 @@
 use Rattle.lighting.proofs.Choosing.{ifs}
 use Rattle.lighting.specs.Paper.Writing.{zeroOrEmptyAbove}
 use borrow.Author.Needs.{needs}
-use Rattle.warning.proofs.zero_or_empty_above.Statement.{statement}
-use Rattle.warning.proofs.zero_or_empty_above.Tie as tie
+use Rattle.output_warning.proofs.zero_or_empty_above.Statement.{statement}
+use Rattle.output_warning.proofs.zero_or_empty_above.Tie as tie
 
 add-zero-or-empty-from : tie.Need-add-zero-or-empty-from
 add-zero-or-empty-from c = search needs

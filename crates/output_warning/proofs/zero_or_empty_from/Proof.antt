@@ -5,8 +5,8 @@ use Prim.Native.Nat.{_-_}
 use mathlib.Core.Path.{_≡_, sym, _∙_}
 use Rattle.lighting.proofs.Scan.{scan-on, scan-off, scan-done}
 use Rattle.lighting.specs.Paper.Writing.{zeroOrEmptyFrom, zeroOrEmpty}
-use Rattle.warning.proofs.zero_or_empty_from.Statement.{statement}
-use Rattle.warning.proofs.zero_or_empty_from.Tie as tie
+use Rattle.output_warning.proofs.zero_or_empty_from.Statement.{statement}
+use Rattle.output_warning.proofs.zero_or_empty_from.Tie as tie
 
 abbrev Inv-loop : tie.InvT-loop
 Inv-loop s from i₀ i = zeroOrEmptyFrom s from ≡ zeroOrEmptyFrom s i

@@ -3,8 +3,8 @@ use Rattle.lighting.proofs.Choosing.{ifs}
 use Rattle.lighting.proofs.Laws.{endMovementUnlessAbove-on}
 use Rattle.lighting.specs.Paper.Writing.{endMovementUnlessAbove}
 use borrow.Author.Needs.{needs}
-use Rattle.writing.proofs.end_movement_unless_above.Statement.{statement}
-use Rattle.writing.proofs.end_movement_unless_above.Tie as tie
+use Rattle.output_writing.proofs.end_movement_unless_above.Statement.{statement}
+use Rattle.output_writing.proofs.end_movement_unless_above.Tie as tie
 
 enum-told : tie.Need-enum-told
 enum-told c = search needs

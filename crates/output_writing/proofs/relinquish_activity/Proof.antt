@@ -2,8 +2,8 @@
 use Rattle.lighting.proofs.Choosing.{ifs}
 use Rattle.lighting.specs.Paper.Writing.{activityRelinquished}
 use borrow.Author.Needs.{needs}
-use Rattle.writing.proofs.relinquish_activity.Statement.{statement}
-use Rattle.writing.proofs.relinquish_activity.Tie as tie
+use Rattle.output_writing.proofs.relinquish_activity.Statement.{statement}
+use Rattle.output_writing.proofs.relinquish_activity.Tie as tie
 
 end-movement-unless-above-requires : tie.Need-end-movement-unless-above-requires
 end-movement-unless-above-requires c κs = search needs

@@ -1,8 +1,8 @@
 -- `writing::relinquish_slot` meets its contract.
 use Rattle.lighting.specs.Paper.Writing.{slotRelinquished}
 use borrow.Author.Needs.{needs}
-use Rattle.writing.proofs.relinquish_slot.Statement.{statement}
-use Rattle.writing.proofs.relinquish_slot.Tie as tie
+use Rattle.output_writing.proofs.relinquish_slot.Statement.{statement}
+use Rattle.output_writing.proofs.relinquish_slot.Tie as tie
 
 empty-requires : tie.Need-empty-requires
 empty-requires c κs = search needs

@@ -1,24 +1,24 @@
 use Rattle.lighting.proofs.Laws.{readProperty-on}
 use Rattle.lighting.specs.Paper.Properties.{readProperty}
 use borrow.Author.Needs.{needs}
-use Rattle.answers.proofs.read_property.Statement.{statement}
-use Rattle.answers.proofs.read_property.Tie as tie
-use Rattle.answers.proofs.read_property.Reads as reads
-use Rattle.answers.proofs.read_property.Lts as lts
-use Rattle.answers.proofs.elapsed_active.Reads as elapsed-active-reads
-use Rattle.answers.proofs.flag.Reads as flag-reads
-use Rattle.answers.proofs.last_duration.Reads as last-duration-reads
-use Rattle.answers.proofs.level_answer.Reads as level-answer-reads
-use Rattle.answers.proofs.priority.Reads as priority-reads
-use Rattle.answers.proofs.real_answer.Reads as real-answer-reads
-use Rattle.answers.proofs.real_field_answer.Reads as real-field-answer-reads
-use Rattle.answers.proofs.slot_answer.Reads as slot-answer-reads
-use Rattle.answers.proofs.time_field_answer.Reads as time-field-answer-reads
-use Rattle.operations.proofs.fields_of.Reads as fields-of-reads
-use Rattle.operations.proofs.operation_number.Reads as operation-number-reads
-use Rattle.value.proofs.in_process.Reads as in-process-reads
-use Rattle.value.proofs.present_value.Reads as present-value-reads
-use Rattle.value.proofs.progress_value.Reads as progress-value-reads
+use Rattle.property_read.proofs.read_property.Statement.{statement}
+use Rattle.property_read.proofs.read_property.Tie as tie
+use Rattle.property_read.proofs.read_property.Reads as reads
+use Rattle.property_read.proofs.read_property.Lts as lts
+use Rattle.property_read.proofs.elapsed_active.Reads as elapsed-active-reads
+use Rattle.property_read.proofs.flag.Reads as flag-reads
+use Rattle.property_read.proofs.last_duration.Reads as last-duration-reads
+use Rattle.property_read.proofs.level_answer.Reads as level-answer-reads
+use Rattle.property_read.proofs.priority.Reads as priority-reads
+use Rattle.property_read.proofs.real_answer.Reads as real-answer-reads
+use Rattle.property_read.proofs.real_field_answer.Reads as real-field-answer-reads
+use Rattle.property_read.proofs.slot_answer.Reads as slot-answer-reads
+use Rattle.property_read.proofs.time_field_answer.Reads as time-field-answer-reads
+use Rattle.command_operations.proofs.fields_of.Reads as fields-of-reads
+use Rattle.command_operations.proofs.operation_number.Reads as operation-number-reads
+use Rattle.output_value.proofs.in_process.Reads as in-process-reads
+use Rattle.output_value.proofs.present_value.Reads as present-value-reads
+use Rattle.output_value.proofs.progress_value.Reads as progress-value-reads
 
 fields-of-requires : tie.Need-fields-of-requires
 fields-of-requires c κs = search needs

@@ -1,9 +1,9 @@
 use borrow.Author.Needs.{needs}
-use Rattle.kept.proofs.station_record.Statement.{statement}
-use Rattle.kept.proofs.station_record.Tie as tie
-use Rattle.kept.proofs.station_record.Reads as reads
-use Rattle.kept.proofs.station_record.Lts as lts
-use Rattle.kept.proofs.pad.Reads as pad-reads
+use Rattle.station_frame.proofs.station_record.Statement.{statement}
+use Rattle.station_frame.proofs.station_record.Tie as tie
+use Rattle.station_frame.proofs.station_record.Reads as reads
+use Rattle.station_frame.proofs.station_record.Lts as lts
+use Rattle.station_frame.proofs.pad.Reads as pad-reads
 
 pad-requires : tie.Need-pad-requires
 pad-requires c κs = search needs

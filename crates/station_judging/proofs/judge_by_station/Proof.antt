@@ -3,11 +3,11 @@ use Rattle.lighting.specs.Engine.Judging.{judgedByRecord}
 use Rattle.lighting.proofs.Choosing.{ifs}
 use Rattle.lighting.specs.Engine.Judging.{judgedByStation}
 use borrow.Author.Needs.{needs}
-use Rattle.station.proofs.judge_by_station.Statement.{statement}
-use Rattle.station.proofs.judge_by_station.Tie as tie
-use Rattle.station.proofs.judge_by_station.Reads as reads
-use Rattle.station.proofs.judge_by_station.Lts as lts
-use Rattle.station.proofs.judge_by_number.Reads as judge-by-number-reads
+use Rattle.station_judging.proofs.judge_by_station.Statement.{statement}
+use Rattle.station_judging.proofs.judge_by_station.Tie as tie
+use Rattle.station_judging.proofs.judge_by_station.Reads as reads
+use Rattle.station_judging.proofs.judge_by_station.Lts as lts
+use Rattle.station_judging.proofs.judge_by_number.Reads as judge-by-number-reads
 
 enum-known-f : tie.Need-enum-known-f
 enum-known-f c = search needs

@@ -1,5 +1,5 @@
 use Rattle.text_printing.proofs.Pages.{wrote-then}
-use Rattle.text_report.specs.Report.{commandWithDuration}
+use Rattle.text_report.specs.Report.{lasting}
 use borrow.Author.Needs.{needs}
 use Rattle.text_report.proofs.put_lasting.Statement.{statement}
 use Rattle.text_report.proofs.put_lasting.Tie as tie
@@ -18,9 +18,9 @@ same-length : tie.Need-same-length
 same-length c = search needs
 
 returns : tie.Need-returns
-unfolding commandWithDuration
+unfolding lasting
 returns c = wrote-then (c .before .before .before .before .before .before .put-aligned .ensures) (c .before .before .put-minutes .ensures)
 
-pub put-commandWithDuration-spec : {M : Type 1} → statement M
-put-commandWithDuration-spec =
+pub put-lasting-spec : {M : Type 1} → statement M
+put-lasting-spec =
     tie.close (tie.spec put-aligned-requires put-minutes-requires same-length returns)

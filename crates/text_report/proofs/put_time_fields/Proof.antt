@@ -5,7 +5,7 @@ use Rattle.text_report.proofs.put_time_fields.Statement.{statement}
 use Rattle.text_report.proofs.put_time_fields.Tie as tie
 use Rattle.text_report.proofs.put_time_fields.Reads as reads
 use Rattle.text_report.proofs.put_time_fields.Lts as lts
-use Rattle.text_report.proofs.put_lasting.Reads as put-commandWithDuration-reads
+use Rattle.text_report.proofs.put_lasting.Reads as put-lasting-reads
 use Rattle.text_report.proofs.put_operation.Reads as put-operation-reads
 use Rattle.text_printing.proofs.put_all.Reads as put-all-reads
 
@@ -15,8 +15,8 @@ slice-aggregate-put-all c = search needs
 put-all-requires : tie.Need-put-all-requires
 put-all-requires c κs = search needs
 
-put-commandWithDuration-requires : tie.Need-put-commandWithDuration-requires
-put-commandWithDuration-requires c κs = search needs
+put-lasting-requires : tie.Need-put-lasting-requires
+put-lasting-requires c κs = search needs
 
 put-operation-requires : tie.Need-put-operation-requires
 put-operation-requires c κs = search needs
@@ -26,7 +26,7 @@ same-length c = search needs
 
 returns : tie.Need-returns
 unfolding timeFields
-returns c = wrote-then (c .before .before .before .before .before .before .before .before .before .before .put-all .ensures) (wrote-then (c .before .before .before .before .before .before .put-commandWithDuration .ensures) (c .before .before .put-operation .ensures))
+returns c = wrote-then (c .before .before .before .before .before .before .before .before .before .before .put-all .ensures) (wrote-then (c .before .before .before .before .before .before .put-lasting .ensures) (c .before .before .put-operation .ensures))
 
 pub put-time-fields-spec : {M : Type 1} → statement M
 put-time-fields-spec =
@@ -34,7 +34,7 @@ put-time-fields-spec =
     (tie.spec
     slice-aggregate-put-all
     put-all-requires
-    put-commandWithDuration-requires
+    put-lasting-requires
     put-operation-requires
     same-length
     returns)

@@ -8,9 +8,9 @@ use Rattle.panel.proofs.execute.Code
 use Rattle.panel.proofs.execute.Key
 use Rattle.panel.proofs.execute.Proof.Lts
 use Rattle.panel.proofs.execute.Statement
-use Rattle.tables.proofs.Lent.advance_outputs.Reads as Reads''
-use Rattle.tables.proofs.advance_outputs.Met as Met'
-use Rattle.tables.proofs.advance_outputs.Symbol as Symbol'
+use Rattle.panel_tables.proofs.Lent.advance_outputs.Reads as Reads''
+use Rattle.panel_tables.proofs.advance_outputs.Met as Met'
+use Rattle.panel_tables.proofs.advance_outputs.Symbol as Symbol'
 use borrow.Fn.Run
 use borrow.Fn.Written
 use contract.Running
