@@ -1,4 +1,4 @@
--- HOPS EQUAL TICKS: the engine's way from due moment to due moment comes to what the plain panel's milliseconds come to.
+-- EVENT STEPS EQUAL TICKS: the engine's way from due moment to due moment comes to what the plain panel's milliseconds come to.
 -- What it asks of the output (`Calm`): every due moment is after the moment it starts from, and it has burned no longer than the panel stands.
 -- Neither the slots nor what lights an output play a part.
 use mathlib.Core.Path.{_≡_, refl, sym, ap, ap₂, _∙_}
@@ -313,7 +313,7 @@ due-here t o a = go (dueMoments o) (a .all)
     go (Never ∷ l) k = go l (k .1)
     go (At d ∷ l) k = omega (arith, k .0, go l (k .1))
 
--- one hop, from `now` to d before which nothing is due
+-- one event step, from `now` to d before which nothing is due
 eventStep-quiet : (now n d : ℕ) (o : Output) → d ≡ suc (now + n) → After (now + n) o
     → (ticks (d - now) now o ≡ fire d (withBurned now (d - now) o)) × After d (fire d (withBurned now (d - now) o))
 eventStep-quiet now n d o p a =
@@ -415,7 +415,7 @@ eventSteps-ticks (suc k) now to o l m c n =
     ∙ ap (λ (z : Output). ticks (to - due to o) (due to o) z) (sym (h .0))
     ∙ join now (due to o) to o (omega arith) (omega arith))))
 
--- the engine's hops, as many as `advance` has, equal the plain panel's ticks
+-- the engine's event steps, as many as `advance` has, equal the plain panel's ticks
 pub advance-ticks : (now to : ℕ) (o : Output) → now ≤ to → to ≤ greatestCount → Calm now o → advance now to o ≡ ticks (to - now) now o
 unfolding advance
 advance-ticks now to o l m c = eventSteps-ticks _ now to o l m c (omega (arith, count-three o))

@@ -27,7 +27,7 @@ withBurnedSaturating-top : (from n : ℕ) (o : Output) → withBurnedSaturating 
 unfolding withBurnedSaturating withBurning
 withBurnedSaturating-top from n o = omega arith
 
--- at `to` already: each hop leaves the output as it is
+-- at `to` already: each step leaves the output as it is
 eventSteps-none : (k to : ℕ) (o : Output) → After to o → o .burning ≤ greatestCount → eventSteps k to to o ≡ o
 unfolding eventSteps eventStep
 eventSteps-none zero to o a b = rw (sub-self to) (withBurnedSaturating-none to o b)

@@ -166,7 +166,7 @@ pub tested-stays : (t : ℕ) (o : Output) → t ≤ greatestCount → sound docu
 unfolding ticks
 tested-stays t o m h = advance-ticks t t o (omega arith) m (tested-calm t o h) ∙ rw (sub-self t)
 
--- hops equal ticks, of a record that passed the test
+-- event steps equal ticks, of a record that passed the test
 pub sound-advance : (now to : ℕ) (o : Output) → length (o .slots .levels) ≡ slotCount → sound document01 now o ≡ true → now ≤ to → to ≤ greatestCount
     → advance now to o ≡ ticks (to - now) now o
 sound-advance now to o size h l m = advance-ticks now to o l m (sound-calm now o (sound-facts now o size h))

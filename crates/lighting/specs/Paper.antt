@@ -1,26 +1,37 @@
+-- DOCUMENT 01 AS DEFINITIONS: what a reader must believe. In reading order; docs/TRUST.md counts the lines.
+-- tests and conjunctions, and the numbers that a set of parameters may move
 pub mod Choice
 pub mod Parameters
+-- 'Levels'; big-endian fields
 pub mod Level
 pub mod Field
+-- 'An output's record': slots, what an output shows, every way to change its record
 pub mod Slots
 pub mod Value
 pub mod Record
+-- 'The plain panel': one millisecond of an output, and what falls due in it
 pub mod Passing
+-- 'Writes and commands', 'Blink warning'
 pub mod Writing
 pub mod Operations
 pub mod Commands
+-- the four answers; the properties, a row each, written and read
 pub mod Answers
 pub mod Rows
 pub mod Properties
+-- 'Frames': the table of kinds, fresh records, what a request does, a string of bytes read
 pub mod Kinds
 pub mod Fresh
 pub mod Acting
 pub mod Frames
+-- 'Record rules'; the panel, its counts, and the start
 pub mod Rules
 pub mod Copies
 pub mod Panel
+-- 'The plain panel' over a list; demand 3; what a caller may conclude
 pub mod Plain
 pub mod Demand
 pub mod Calls
+-- 'Bench figures', and a worked list
 pub mod Figures
 pub mod Worked

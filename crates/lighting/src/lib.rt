@@ -180,7 +180,7 @@ pub enum Level {
     OutOfRange,
 }
 
-// A REAL that a command, or a write of Ramp_Rate or Step_Increment, takes and keeps as it was written.
+// A REAL that a write of Ramp_Rate or Step_Increment takes and keeps as it was written.
 pub enum Operand {
     Taken(f32),
     Unfit,

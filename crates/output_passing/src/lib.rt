@@ -62,7 +62,7 @@ fn next_due(to: u64, o: Output) -> u64
     )
 }
 
-// ---- three hops, and what is left of the way
+// ---- three event steps, and what is left of the way
 
 fn event_step(now: u64, d: u64, o: Output) -> Output
     ensures { λ r. ⌜ r ≡ eventStep now d o ⌝ }

@@ -10,6 +10,7 @@ ghost use Rattle.replay_line.specs.Taking.{begun, sent, taken};
 use lighting::Answer;
 use lighting::Output;
 use lighting::Station;
+use text_reading::BYTES_KEPT;
 use text_reading::Line;
 use text_reading::Reader;
 
@@ -33,7 +34,7 @@ fn frame(
     outputs: &mut [Output],
     stations: &mut [Station],
     time: &mut u64,
-    bytes: &[u8; text_reading::BYTES_KEPT],
+    bytes: &[u8; BYTES_KEPT],
     count: usize,
     n: u8,
 ) -> Answer

@@ -25,7 +25,7 @@ unfoldable pub padded : Bytes → Bytes
 padded b = b ++ replicate (longestFrame - length b) 0
 
 unfoldable pub restored : Bytes → Bytes
-restored f = take (kindLength (byteAt f 0)) f
+restored frame = take (kindLength (byteAt frame 0)) frame
 
 -- JUDGED by the station's record k at panel time: 'station's last number, other bytes' is 6, the same bytes 'a copy: last answer'; 'number
 -- below the station's last' is 7, 'time before panel time' 8. 'A clock meets 1, 2, 3, 8'

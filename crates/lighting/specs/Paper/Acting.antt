@@ -27,7 +27,7 @@ unchanged o a = record { output = o; answer = a }
 
 -- a write of a property, unless it would leave Min over Max (m): 13
 unfoldable pub changedUnless : Bool → Output → Property → ℕ → Outcome
-changedUnless m o n v = if m then unchanged o (Refused 13) else done (changed o n v)
+changedUnless m o property value = if m then unchanged o (Refused 13) else done (changed o property value)
 
 -- 'does what its kind calls for, or refuses 9 to 13'
 unfoldable pub acted : ℕ → Output → Request → Outcome
@@ -44,6 +44,6 @@ pub record Served : Type 0 where
   pub answer : Answer
 
 unfoldable pub served : ℕ → List Output → ℕ → ℕ → Request → Served
-served t outputs station i r =
-    let done = acted t (getD outputs i freshOutput) r in
+served t outputs station i request =
+    let done = acted t (getD outputs i freshOutput) request in
     record { outputs = set outputs i (done .output); answer = done .answer }

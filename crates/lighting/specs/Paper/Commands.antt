@@ -34,9 +34,9 @@ activityWithoutWarning Still = Still
 activityWithoutWarning (Moving m) = Moving m
 activityWithoutWarning (Warned w) = Still
 
--- 'put in slot p. If p is then the winner [w] it replaces the movement; if not, an existing movement goes on'
+-- 'put in slot p. If p is then the winner (`first`) it replaces the movement; if not, an existing movement goes on'
 unfoldable pub replaced : ℕ → ℕ → Activity → Activity → Activity
-replaced w p new old = if eqb w p then new else old
+replaced first p new old = if eqb first p then new else old
 
 unfoldable pub placed : Slots → Activity → ℕ → ℕ → Activity → Effect
 placed s a p g new = record { slots = filled s p g; activity = replaced (winner (filled s p g)) p new a }
@@ -50,9 +50,9 @@ movement t p f g l pace =
 abbrev pub distance : ℕ → ℕ → ℕ
 distance f g = (g - f) + (f - g)
 
--- 'L = ceiling(1,000 × |g - s| / R)', d the way
+-- 'L = ceiling(1,000 × |g - s| / R)', of the way
 unfoldable pub rampLength : ℕ → ℕ → ℕ
-rampLength d r = (1000 * d + (r - 1)) / r
+rampLength way r = (1000 * way + (r - 1)) / r
 
 -- 'A target is brought into Min..Max if above zero'
 unfoldable pub target : Settings → Float → ℕ
@@ -81,10 +81,10 @@ wentTo c s a x = jumped c s a (target c x)
 
 -- 'Step up: s plus step; step down: s minus step, not below 0; both brought into Min..Max. Step down from s = 0 stays 0'
 unfoldable pub stepUpFrom : Settings → ℕ → ℕ → ℕ
-stepUpFrom c f x = clamp c (f + x)
+stepUpFrom c f step = clamp c (f + step)
 
 unfoldable pub stepDownFrom : Settings → ℕ → ℕ → ℕ
-stepDownFrom c f x = if eqb f 0 then 0 else clamp c (f - x)
+stepDownFrom c f step = if eqb f 0 then 0 else clamp c (f - step)
 
 unfoldable pub steppedUp : Settings → ℕ → Slots → Activity → Float → Effect
 steppedUp c f s a x = jumped c s a (stepUpFrom c f (amountUnits x))

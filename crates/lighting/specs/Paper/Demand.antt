@@ -46,7 +46,7 @@ abbrev pub foundIn : Panel → List Found
 foundIn e = map (found (e .time)) (e .outputs)
 
 abbrev pub foundPlain : Plain → List Found
-foundPlain w = map (found (w .time)) (w .outputs)
+foundPlain plain = map (found (plain .time)) (plain .outputs)
 
 -- A LIST OF FRAMES: 'outputs, station records and time pass from frame to frame as left'. The panel after it, and the answers
 unfoldable pub after : Parameters → Panel → List Bytes → Panel
@@ -88,7 +88,7 @@ answersToOriginals (copy m r) (a ∷ z) = answersToOriginals r z
 -- 'Refusal 1 never comes'
 abbrev pub NeverOne : List Answer → Type 0
 NeverOne [] = Unit {0}
-NeverOne (a ∷ l) = (answerBytes a ≢ answerBytes (Refused 1)) × NeverOne l
+NeverOne (a ∷ given) = (answerBytes a ≢ answerBytes (Refused 1)) × NeverOne given
 
 -- THE DEMAND, for a lent table e, a list of frames l, and the list l′ in which frames of l come again
 pub record Demand (p : Parameters) (e : Panel) (l l′ : List Bytes) (r : Again [] l l′) : Type 0 where

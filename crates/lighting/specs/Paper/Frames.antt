@@ -41,11 +41,11 @@ Bytes = List ℕ
 -- a string of bytes, and a list of them: each number is below 256
 abbrev pub Octets : Bytes → Type 0
 Octets [] = Unit {0}
-Octets (x ∷ b) = (x < 256) × Octets b
+Octets (x ∷ rest) = (x < 256) × Octets rest
 
 abbrev pub Strings : List Bytes → Type 0
 Strings [] = Unit {0}
-Strings (b ∷ l) = Octets b × Strings l
+Strings (b ∷ rest) = Octets b × Strings rest
 
 -- COMMANDS. 'Checked in this order; fields left to right': the refusal that a field meets, 0 where it is in range or not there. 'REAL out of range' is
 -- 11, of a level and of a rate or step; 'Fade times: 100 to 86,400,000', which is Fade_Time's row, else 12
@@ -58,7 +58,7 @@ amountFieldRefusal (Real x) = levelRefusal (amountOf x)
 amountFieldRefusal NoReal = 0
 
 unfoldable pub timeFieldRefusal : Parameters → TimeField → ℕ
-timeFieldRefusal p (Time l) = if meets (rowOf p FadeTime) l then 0 else 12
+timeFieldRefusal p (Time fade) = if meets (rowOf p FadeTime) fade then 0 else 12
 timeFieldRefusal p NoTime = 0
 
 -- the first of two refusals
@@ -90,7 +90,7 @@ writeLevel i (Units v) = Write i v
 writeLevel i OutOfRange = Refuse (levelRefusal OutOfRange)
 
 unfoldable pub writeOf : ℕ → ℕ → Request
-writeOf n x = if isPriority n then writeLevel (n - 1) (levelOf (real x)) else Refuse 10
+writeOf n pattern = if isPriority n then writeLevel (n - 1) (levelOf (real pattern)) else Refuse 10
 
 unfoldable pub emptyOf : ℕ → Request
 emptyOf n = if isPriority n then Empty (n - 1) else Refuse 10
@@ -141,11 +141,11 @@ called p c call =
 unfoldable pub clockOf : Bytes → Frame
 clockOf b = Clock (bigEndian 6 b 1)
 
--- 'no byte, or unknown kind' is 2, 'wrong length' is 3: l is the length that the kind fixes
+-- 'no byte, or unknown kind' is 2, 'wrong length' is 3: `size` is the length that the kind fixes
 unfoldable pub parseBy : Parameters → ℕ → ℕ → Kind → Bytes → Frame
-parseBy p c l NoKind b = Bad 2
-parseBy p c l ClockKind b = if eqb (length b) l then clockOf b else Bad 3
-parseBy p c l (CallKind action) b = if eqb (length b) l then called p c (callOf p action b) else Bad 3
+parseBy p c size NoKind b = Bad 2
+parseBy p c size ClockKind b = if eqb (length b) size then clockOf b else Bad 3
+parseBy p c size (CallKind action) b = if eqb (length b) size then called p c (callOf p action b) else Bad 3
 
 unfoldable pub parse : Parameters → ℕ → Bytes → Frame
 parse p c b = let row = kindRow (byteAt b 0) in parseBy p c (row .length) (row .kind) b

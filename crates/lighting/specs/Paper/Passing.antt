@@ -53,14 +53,14 @@ isDue t (At d) = eqb d t
 
 -- WHAT FALLS DUE at the moment t. 'then a due duration empties its slot': the timer and the slots after it
 unfoldable pub timerAt : ℕ → Timer → Timer
-timerAt t m = if isDue t (timerDue m) then Off else m
+timerAt t timer = if isDue t (timerDue timer) then Off else timer
 
 unfoldable pub emptiedBy : Timer → Slots → Slots
 emptiedBy Off s = s
 emptiedBy (Running slot due) s = emptied s slot
 
 unfoldable pub expired : ℕ → Timer → Slots → Slots
-expired t m s = if isDue t (timerDue m) then emptiedBy m s else s
+expired t timer s = if isDue t (timerDue timer) then emptiedBy timer s else s
 
 -- '(ending a movement that slot owned)'
 unfoldable pub endMovementOf : ℕ → Activity → Activity
@@ -73,7 +73,7 @@ endMovementBy Off a = a
 endMovementBy (Running slot due) a = endMovementOf slot a
 
 unfoldable pub endMovementOnExpiry : ℕ → Timer → Activity → Activity
-endMovementOnExpiry t m a = if isDue t (timerDue m) then endMovementBy m a else a
+endMovementOnExpiry t timer a = if isDue t (timerDue timer) then endMovementBy timer a else a
 
 -- the warning's phases follow one another, the second if D is above 0, and a movement is over at its last moment
 unfoldable pub delayed : Warning → Warning

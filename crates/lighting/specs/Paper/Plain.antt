@@ -26,8 +26,8 @@ pub record Plain : Type 0 where
 
 -- it lives n milliseconds, one after another
 unfoldable pub runPlain : ℕ → Plain → Plain
-runPlain zero p = p
-runPlain (suc n) p = runPlain n (record { outputs = map (tick (p .time)) (p .outputs); time = suc (p .time) })
+runPlain zero panel = panel
+runPlain (suc n) panel = runPlain n (record { outputs = map (tick (panel .time)) (panel .outputs); time = suc (panel .time) })
 
 -- THE LIST SO FAR: accepted clocks and first arrivals (the paper's word for frames that are taken, and are no retransmission), the latest first
 pub data Event : Type 0 where

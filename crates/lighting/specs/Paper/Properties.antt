@@ -88,7 +88,7 @@ properties =
 -- the property of a number, '21 to 30 slots 1 to 16'
 unfoldable pub numbered : List Property → ℕ → Property
 numbered [] n = Unknown
-numbered (x ∷ l) n = if eqb n (numberOf x) then x else numbered l n
+numbered (first ∷ rest) n = if eqb n (numberOf first) then first else numbered rest n
 
 unfoldable pub propertyOf : ℕ → Property
 propertyOf n =
@@ -96,39 +96,39 @@ propertyOf n =
 
 -- the one is the other
 unfoldable pub same : Property → Property → Bool
-same n m = eqb (numberOf n) (numberOf m)
+same one other = eqb (numberOf one) (numberOf other)
 
 -- WRITES, kind 04: the value x, of 32 bits, as the property's row (Rows.antt) has it kept, or the refusal that it meets: 'property unknown, or
 -- not writable' is 9, a priority's is 10, a REAL's 11, a whole number's 12
 unfoldable pub changeTo : Property → Level → Request
-changeTo n (Units v) = Change n v
-changeTo n OutOfRange = Refuse (levelRefusal OutOfRange)
+changeTo property (Units v) = Change property v
+changeTo property OutOfRange = Refuse (levelRefusal OutOfRange)
 
 unfoldable pub changeBy : Range → Property → ℕ → Request
-changeBy Percent n x = changeTo n (levelOf (real x))
-changeBy Limit n x = changeTo n (limitOf (real x))
-changeBy Amount n x = if isAmount (real x) then Change n x else Refuse (operandRefusal Unfit)
-changeBy (Whole low high) n x = if within low high x then Change n x else Refuse 12
-changeBy Priority n x = if isPriority x then Change n (x - 1) else Refuse 10
-changeBy ReadOnly n x = Refuse 9
+changeBy Percent property x = changeTo property (levelOf (real x))
+changeBy Limit property x = changeTo property (limitOf (real x))
+changeBy Amount property x = if isAmount (real x) then Change property x else Refuse (operandRefusal Unfit)
+changeBy (Whole low high) property x = if within low high x then Change property x else Refuse 12
+changeBy Priority property x = if isPriority x then Change property (x - 1) else Refuse 10
+changeBy ReadOnly property x = Refuse 9
 
 unfoldable pub changeOf : Parameters → Property → ℕ → Request
-changeOf p n x = changeBy (rowOf p n) n x
+changeOf p property x = changeBy (rowOf p property) property x
 
--- WHAT A WRITE CHANGES: of the settings the property n, whose kept value is v. A slot stands in one byte
+-- WHAT A WRITE CHANGES: of the settings the property, whose kept value is v. A slot stands in one byte
 unfoldable pub settingsWith : Settings → Property → ℕ → Settings
-settingsWith c n v =
+settingsWith c property v =
     record {
-      default = if same RelinquishDefault n then v else c .default;
-      fade = if same FadeTime n then v else c .fade;
-      ramp = if same RampRate n then real v else c .ramp;
-      step = if same StepIncrement n then real v else c .step;
-      enable = if same BlinkEnable n then eqb v 1 else c .enable;
-      blink = if same BlinkTime n then v else c .blink;
-      delay = if same BlinkWarnDelay n then v else c .delay;
-      min = if same MinValue n then v else c .min;
-      max = if same MaxValue n then v else c .max;
-      slot = if same CommandPriority n then v % 256 else c .slot;
+      default = if same RelinquishDefault property then v else c .default;
+      fade = if same FadeTime property then v else c .fade;
+      ramp = if same RampRate property then real v else c .ramp;
+      step = if same StepIncrement property then real v else c .step;
+      enable = if same BlinkEnable property then eqb v 1 else c .enable;
+      blink = if same BlinkTime property then v else c .blink;
+      delay = if same BlinkWarnDelay property then v else c .delay;
+      min = if same MinValue property then v else c .min;
+      max = if same MaxValue property then v else c .max;
+      slot = if same CommandPriority property then v % 256 else c .slot;
     }
 
 -- an end to a movement, and to nothing else
@@ -139,15 +139,15 @@ endMovement (Warned w) = Warned w
 
 -- 'Writing 08 or 09 ends the movement'
 unfoldable pub activityWith : Activity → Property → Activity
-activityWith a n = if same MinValue n then endMovement a else if same MaxValue n then endMovement a else a
+activityWith a property = if same MinValue property then endMovement a else if same MaxValue property then endMovement a else a
 
 -- '0B Elapsed_Active_Time, written only with 0'
 unfoldable pub burningWith : ℕ → Property → ℕ
-burningWith b n = if same ElapsedActiveTime n then 0 else b
+burningWith b property = if same ElapsedActiveTime property then 0 else b
 
 unfoldable pub changed : Output → Property → ℕ → Output
-changed o n v =
-    withSettings o (settingsWith (o .settings) n v) (activityWith (o .activity) n) (burningWith (o .burning) n)
+changed o property v =
+    withSettings o (settingsWith (o .settings) property v) (activityWith (o .activity) property) (burningWith (o .burning) property)
 
 -- 'Min over Max', which is 13
 unfoldable pub minOverMax : Settings → Bool
@@ -162,7 +162,7 @@ unfoldable pub slotAnswer : Slots → ℕ → Answer
 slotAnswer s i = if isLive s i then levelAnswer (levelAt 0 s i) else Absent
 
 unfoldable pub flag : Bool → ℕ
-flag b = if b then 1 else 0
+flag on = if on then 1 else 0
 
 -- 'Elapsed_Active_Time reads floor(burning / 1,000), at most 4,294,967,295'
 unfoldable pub elapsedActive : ℕ → ℕ
@@ -170,14 +170,14 @@ elapsedActive burning = min 4294967295 (burning / 1000)
 
 -- '10 its level, 11 rate, 12 step, 13 fade time, 14 duration (Absent where it had none)', the REALs as they were written
 unfoldable pub realAnswer : Float → Answer
-realAnswer x = Value (bits x)
+realAnswer amount = Value (bits amount)
 
 unfoldable pub realFieldAnswer : RealField → Answer
-realFieldAnswer (Real x) = realAnswer x
+realFieldAnswer (Real amount) = realAnswer amount
 realFieldAnswer NoReal = Absent
 
 unfoldable pub timeFieldAnswer : TimeField → Answer
-timeFieldAnswer (Time l) = Value l
+timeFieldAnswer (Time fade) = Value fade
 timeFieldAnswer NoTime = Absent
 
 unfoldable pub lastDuration : Duration → Answer

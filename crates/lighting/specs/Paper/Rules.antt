@@ -56,8 +56,8 @@ spanSound p t m = ltb t (m .over) also leb (m .over - t) (m .length) also within
 
 -- 'a movement belongs to the winner' w, 'starts from 0 to Max, aims at Present_Value' v
 unfoldable pub movementSound : Parameters → ℕ → ℕ → ℕ → ℕ → Movement → Bool
-movementSound p t w high v m =
-    ltb (m .owner) slotCount also eqb (m .owner) w also leb (m .start) high also eqb (m .target) v also spanSound p t m
+movementSound p t first high v m =
+    ltb (m .owner) slotCount also eqb (m .owner) first also leb (m .start) high also eqb (m .target) v also spanSound p t m
 
 -- 'a warning, whose own slot is 7 to 16 and whose Y is a slot level'. Its end is not before that of its phase, here e, so that both are after
 -- panel time and stay so. In Delay the turn is past, and no due moment
@@ -67,11 +67,11 @@ warningBy t w e = within (slot6 + 1) slot16 (w .owner) also isLevel (w .level) a
 unfoldable pub warningSound : ℕ → Warning → Bool
 warningSound t w = warningBy t w (phaseEnd w (w .phase))
 
--- 'slot 6 live exactly during a warning'. l: whether slot 6 is live; w: the winner; high: Max; v: Present_Value
+-- 'slot 6 live exactly during a warning'. l: whether slot 6 is live; first: the winner; high: Max; v: Present_Value
 unfoldable pub activityBy : Parameters → ℕ → Bool → ℕ → ℕ → ℕ → Activity → Bool
-activityBy p t l w high v Still = not l
-activityBy p t l w high v (Moving m) = if l then false else movementSound p t w high v m
-activityBy p t l w high v (Warned g) = l also warningSound t g
+activityBy p t l first high v Still = not l
+activityBy p t l first high v (Moving m) = if l then false else movementSound p t first high v m
+activityBy p t l first high v (Warned g) = l also warningSound t g
 
 unfoldable pub activitySound : Parameters → ℕ → Settings → Slots → Activity → Bool
 activitySound p t c s a = activityBy p t (isLive s slot6) (winner s) (c .max) (presentValue c s) a

@@ -40,10 +40,10 @@ blinks c = c .enable also ltb 0 (c .blink + c .delay)
 unfoldable pub zeroOrEmptyAbove : Settings → Slots → ℕ → Bool
 zeroOrEmptyAbove c s x = eqb (c .default) 0 also zeroOrEmptyFrom s (x + 1)
 
--- 'X from 7 to 16' (a frame's priority is at most 16), 'slots 1 to X - 1 are empty' (the winner w is no lower), 'Present_Value Y was above 0'.
+-- 'X from 7 to 16' (a frame's priority is at most 16), 'slots 1 to X - 1 are empty' (the winner, `first`, is no lower), 'Present_Value Y was above 0'.
 -- That no warning is running, `writtenBy` sees to
 unfoldable pub warnsBy : Settings → Slots → ℕ → ℕ → ℕ → Bool
-warnsBy c s x w y = ltb slot6 x also blinks c also leb x w also ltb 0 y also zeroOrEmptyAbove c s x
+warnsBy c s x first y = ltb slot6 x also blinks c also leb x first also ltb 0 y also zeroOrEmptyAbove c s x
 
 unfoldable pub warns : Settings → Slots → ℕ → Bool
 warns c s x = warnsBy c s x (winner s) (presentValue c s)

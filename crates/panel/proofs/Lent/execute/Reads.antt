@@ -1,6 +1,6 @@
 -- Made by tools/twin.py.
 use Rattle.panel.proofs.Lent.execute.Kinds
-use Rattle.panel.proofs.carry
+use Rattle.panel.proofs.execute
 use base.Logic
 use borrow.Fn.Kinds as Kinds'
 use borrow.Fn.Learn
@@ -17,21 +17,21 @@ abbrev pub Ghost : Type 0
 Ghost = Unit {0}
 
 module _ (κs : Lifetimes.Lfts 4) where
-  abbrev pub Pinned : (a : World.ArgsD carry.signature κs) → (w : World.World) → Type 1
-  Pinned = Learn.no-pin carry.signature κs
+  abbrev pub Pinned : (a : World.ArgsD execute.signature κs) → (w : World.World) → Type 1
+  Pinned = Learn.no-pin execute.signature κs
 
   abbrev pub Owned :
-      (r : World.ResD carry.signature κs) →
+      (r : World.ResD execute.signature κs) →
       (s : Clauses.AtExit (Kinds'.endedOf 4 Kinds.ps Kinds.r) κs) →
       (w : World.World) →
       Type 1
   Owned = Learn.no-own (Kinds'.endedOf 4 Kinds.ps Kinds.r) κs
 
-  abbrev pub Base : (a : World.ArgsD carry.signature κs) → (w : World.World) → World.Pr w
+  abbrev pub Base : (a : World.ArgsD execute.signature κs) → (w : World.World) → World.Pr w
   Base = Written.Base 4 Kinds.ps Kinds.r (λ κs. Pinned) κs
 
-  abbrev pub pins : (w : World.World) → Learn.PinOf carry.signature κs w λ a. Pinned a w
-  pins = λ w. Learn.no-pins carry.signature κs w
+  abbrev pub pins : (w : World.World) → Learn.PinOf execute.signature κs w λ a. Pinned a w
+  pins = λ w. Learn.no-pins execute.signature κs w
 
   abbrev pub owns :
       (w : World.World) →
@@ -47,25 +47,25 @@ module _ (κs : Lifetimes.Lfts 4) where
   owns = λ w. Learn.no-owns (Kinds'.endedOf 4 Kinds.ps Kinds.r) (Kinds'.stays Kinds.ps) κs w
 
   abbrev pub requires :
-      (a : World.ArgsD carry.signature κs) → (g : Ghost) → (w : World.World) → World.Pr w
-  requires = λ a g w. carry.clauses (w .𝓤) (w .H) (w .𝓖 .A) (w .𝓜 .mem) (w .𝓡 .run) κs a .requires g
+      (a : World.ArgsD execute.signature κs) → (g : Ghost) → (w : World.World) → World.Pr w
+  requires = λ a g w. execute.clauses (w .𝓤) (w .H) (w .𝓖 .A) (w .𝓜 .mem) (w .𝓡 .run) κs a .requires g
 
   abbrev pub ensures :
-      (a : World.ArgsD carry.signature κs) →
+      (a : World.ArgsD execute.signature κs) →
       (g : Ghost) →
-      (r : World.ResD carry.signature κs) →
+      (r : World.ResD execute.signature κs) →
       (s : Clauses.AtExit (Kinds'.endedOf 4 Kinds.ps Kinds.r) κs) →
       (w : World.World) →
       World.Pr w
-  ensures = λ a g r s w. carry.clauses (w .𝓤) (w .H) (w .𝓖 .A) (w .𝓜 .mem) (w .𝓡 .run) κs a .ensures g r s
+  ensures = λ a g r s w. execute.clauses (w .𝓤) (w .H) (w .𝓖 .A) (w .𝓜 .mem) (w .𝓡 .run) κs a .ensures g r s
 
   abbrev pub requires-1·read :
-      (a : World.ArgsD carry.signature κs) →
+      (a : World.ArgsD execute.signature κs) →
       (g : Ghost) →
       Read.Read
-      (World.In carry.signature κs a)
+      (World.In execute.signature κs a)
       Read.no-know
-      λ w. carry.requires-1
+      λ w. execute.requires-1
       (w .𝓤)
       (w .H)
       κs
@@ -77,15 +77,15 @@ module _ (κs : Lifetimes.Lfts 4) where
       (a .1 .1 .0)
       (a .1 .1 .1 .0)
       (a .1 .1 .1 .1 .0)
-  requires-1·read = λ a g. Read.all-models (λ w. carry.requires-1 (w .𝓤) (w .H) κs (w .𝓖 .A) (w .𝓜 .mem) (w .𝓡 .run) (a .0) (a .1 .0) (a .1 .1 .0) (a .1 .1 .1 .0) (a .1 .1 .1 .1 .0)) (λ w. Read.r-last _) (λ w. Path'.refl) (λ w. Path'.refl) λ w. Path'.refl
+  requires-1·read = λ a g. Read.all-models (λ w. execute.requires-1 (w .𝓤) (w .H) κs (w .𝓖 .A) (w .𝓜 .mem) (w .𝓡 .run) (a .0) (a .1 .0) (a .1 .1 .0) (a .1 .1 .1 .0) (a .1 .1 .1 .1 .0)) (λ w. Read.r-last _) (λ w. Path'.refl) (λ w. Path'.refl) λ w. Path'.refl
 
   abbrev pub requires-2·read :
-      (a : World.ArgsD carry.signature κs) →
+      (a : World.ArgsD execute.signature κs) →
       (g : Ghost) →
       Read.Read
-      (World.In carry.signature κs a)
+      (World.In execute.signature κs a)
       Read.no-know
-      λ w. carry.requires-2
+      λ w. execute.requires-2
       (w .𝓤)
       (w .H)
       κs
@@ -97,23 +97,23 @@ module _ (κs : Lifetimes.Lfts 4) where
       (a .1 .1 .0)
       (a .1 .1 .1 .0)
       (a .1 .1 .1 .1 .0)
-  requires-2·read = λ a g. Read.all-models (λ w. carry.requires-2 (w .𝓤) (w .H) κs (w .𝓖 .A) (w .𝓜 .mem) (w .𝓡 .run) (a .0) (a .1 .0) (a .1 .1 .0) (a .1 .1 .1 .0) (a .1 .1 .1 .1 .0)) (λ w. Read.r-last _) (λ w. Path'.refl) (λ w. Path'.refl) λ w. Path'.refl
+  requires-2·read = λ a g. Read.all-models (λ w. execute.requires-2 (w .𝓤) (w .H) κs (w .𝓖 .A) (w .𝓜 .mem) (w .𝓡 .run) (a .0) (a .1 .0) (a .1 .1 .0) (a .1 .1 .1 .0) (a .1 .1 .1 .1 .0)) (λ w. Read.r-last _) (λ w. Path'.refl) (λ w. Path'.refl) λ w. Path'.refl
 
   abbrev pub pre-read :
-      (a : World.ArgsD carry.signature κs) →
+      (a : World.ArgsD execute.signature κs) →
       (g : Ghost) →
-      Read.Read (World.In carry.signature κs a) Read.no-know (requires a g)
-  pre-read = λ a g. Read.read-join (λ w. carry.requires-1 (w .𝓤) (w .H) κs (w .𝓖 .A) (w .𝓜 .mem) (w .𝓡 .run) (a .0) (a .1 .0) (a .1 .1 .0) (a .1 .1 .1 .0) (a .1 .1 .1 .1 .0)) (λ w. carry.requires-2 (w .𝓤) (w .H) κs (w .𝓖 .A) (w .𝓜 .mem) (w .𝓡 .run) (a .0) (a .1 .0) (a .1 .1 .0) (a .1 .1 .1 .0) (a .1 .1 .1 .1 .0)) (requires-1·read a g) (requires-2·read a g)
+      Read.Read (World.In execute.signature κs a) Read.no-know (requires a g)
+  pre-read = λ a g. Read.read-join (λ w. execute.requires-1 (w .𝓤) (w .H) κs (w .𝓖 .A) (w .𝓜 .mem) (w .𝓡 .run) (a .0) (a .1 .0) (a .1 .1 .0) (a .1 .1 .1 .0) (a .1 .1 .1 .1 .0)) (λ w. execute.requires-2 (w .𝓤) (w .H) κs (w .𝓖 .A) (w .𝓜 .mem) (w .𝓡 .run) (a .0) (a .1 .0) (a .1 .1 .0) (a .1 .1 .1 .0) (a .1 .1 .1 .1 .0)) (requires-1·read a g) (requires-2·read a g)
 
   abbrev pub ensures-1·read :
-      (a : World.ArgsD carry.signature κs) →
+      (a : World.ArgsD execute.signature κs) →
       (g : Ghost) →
-      (r : World.ResD carry.signature κs) →
+      (r : World.ResD execute.signature κs) →
       (s : Clauses.AtExit (Kinds'.endedOf 4 Kinds.ps Kinds.r) κs) →
       Read.Read
       (Base a)
       (Owned r s)
-      λ w. carry.ensures-1
+      λ w. execute.ensures-1
       (w .𝓤)
       (w .H)
       κs
@@ -131,12 +131,12 @@ module _ (κs : Lifetimes.Lfts 4) where
       record { entry = a .1 .1 .1 .0; exit = s .1 .1 .1 .0 }
       record { entry = a .1 .1 .1 .1 .0; exit = s .1 .1 .1 .1 .0 }
       r
-  ensures-1·read = λ a g r s. Read.all-models (λ w. carry.ensures-1 (w .𝓤) (w .H) κs (w .𝓖 .A) (w .𝓜 .mem) (w .𝓡 .run) (a .0) (a .1 .0) (a .1 .1 .0) (a .1 .1 .1 .0) (a .1 .1 .1 .1 .0) record { entry = a .0; exit = s .0 } record { entry = a .1 .0; exit = s .1 .0 } record { entry = a .1 .1 .0; exit = s .1 .1 .0 } record { entry = a .1 .1 .1 .0; exit = s .1 .1 .1 .0 } record { entry = a .1 .1 .1 .1 .0; exit = s .1 .1 .1 .1 .0 } r) (λ w. Read.r-last _) (λ w. Path'.refl) (λ w. Path'.refl) λ w. Path'.refl
+  ensures-1·read = λ a g r s. Read.all-models (λ w. execute.ensures-1 (w .𝓤) (w .H) κs (w .𝓖 .A) (w .𝓜 .mem) (w .𝓡 .run) (a .0) (a .1 .0) (a .1 .1 .0) (a .1 .1 .1 .0) (a .1 .1 .1 .1 .0) record { entry = a .0; exit = s .0 } record { entry = a .1 .0; exit = s .1 .0 } record { entry = a .1 .1 .0; exit = s .1 .1 .0 } record { entry = a .1 .1 .1 .0; exit = s .1 .1 .1 .0 } record { entry = a .1 .1 .1 .1 .0; exit = s .1 .1 .1 .1 .0 } r) (λ w. Read.r-last _) (λ w. Path'.refl) (λ w. Path'.refl) λ w. Path'.refl
 
   abbrev pub post-read :
-      (a : World.ArgsD carry.signature κs) →
+      (a : World.ArgsD execute.signature κs) →
       (g : Ghost) →
-      (r : World.ResD carry.signature κs) →
+      (r : World.ResD execute.signature κs) →
       (s : Clauses.AtExit (Kinds'.endedOf 4 Kinds.ps Kinds.r) κs) →
       Read.Read (Base a) (Owned r s) (ensures a g r s)
   post-read = λ a g r s. ensures-1·read a g r s
@@ -161,7 +161,7 @@ passes = λ w κs a g r ws ft p q. Monad.top (w .𝓤) (Read.all∗ w (pre-read 
 pub lent :
     (w : World.World) →
     (κs : Lifetimes.Lfts 4) →
-    (a : World.ArgsD carry.signature κs) →
+    (a : World.ArgsD execute.signature κs) →
     Logic.ent (w .𝓤) (Logic.emp (w .𝓤)) (Read.all∗ w (pre-read κs a tt .held w))
 lent = λ w κs a. Logic.id⊢ (w .𝓤) (Logic.emp (w .𝓤))
 

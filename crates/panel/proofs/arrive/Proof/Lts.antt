@@ -115,7 +115,7 @@ abbrev b3 : Syntax.Body
 b3 = Syntax.assign (Syntax.place 14 List.[]) (Syntax.aggregate (List._∷_ (Syntax.copy (Syntax.place 13 List.[])) (List._∷_ (Syntax.copy (Syntax.place 1 (List._∷_ (Syntax.field 1) List.[]))) List.[])))
 
 abbrev b4 : Syntax.Body
-b4 = Syntax.call "tables::advance_outputs" (List._∷_ (Syntax.copy (Syntax.place 14 List.[])) (List._∷_ (Syntax.copy (Syntax.place 6 List.[])) (List._∷_ (Syntax.copy (Syntax.place 7 List.[])) List.[]))) (Syntax.place 12 List.[])
+b4 = Syntax.call "panel_tables::advance_outputs" (List._∷_ (Syntax.copy (Syntax.place 14 List.[])) (List._∷_ (Syntax.copy (Syntax.place 6 List.[])) (List._∷_ (Syntax.copy (Syntax.place 7 List.[])) List.[]))) (Syntax.place 12 List.[])
 
 abbrev b5 : Syntax.Body
 b5 = Syntax.assign (Syntax.place 8 List.[]) (Syntax.rvOpd (Syntax.copy (Syntax.place 5 (List._∷_ (Syntax.field 4) List.[]))))
@@ -127,16 +127,16 @@ abbrev b7 : Syntax.Body
 b7 = Syntax.assign (Syntax.place 16 List.[]) (Syntax.aggregate (List._∷_ (Syntax.copy (Syntax.place 15 List.[])) (List._∷_ (Syntax.copy (Syntax.place 1 (List._∷_ (Syntax.field 1) List.[]))) List.[])))
 
 abbrev b8 : Syntax.Body
-b8 = Syntax.call "ranges::index" (List._∷_ (Syntax.copy (Syntax.place 5 (List._∷_ (Syntax.field 3) List.[]))) List.[]) (Syntax.place 17 List.[])
+b8 = Syntax.call "number_ranges::index" (List._∷_ (Syntax.copy (Syntax.place 5 (List._∷_ (Syntax.field 3) List.[]))) List.[]) (Syntax.place 17 List.[])
 
 abbrev b9 : Syntax.Body
-b9 = Syntax.call "tables::serve" (List._∷_ (Syntax.copy (Syntax.place 16 List.[])) (List._∷_ (Syntax.copy (Syntax.place 7 List.[])) (List._∷_ (Syntax.copy (Syntax.place 5 (List._∷_ (Syntax.field 0) List.[]))) (List._∷_ (Syntax.copy (Syntax.place 17 List.[])) (List._∷_ (Syntax.copy (Syntax.place 8 List.[])) List.[]))))) (Syntax.place 9 List.[])
+b9 = Syntax.call "panel_tables::serve" (List._∷_ (Syntax.copy (Syntax.place 16 List.[])) (List._∷_ (Syntax.copy (Syntax.place 7 List.[])) (List._∷_ (Syntax.copy (Syntax.place 5 (List._∷_ (Syntax.field 0) List.[]))) (List._∷_ (Syntax.copy (Syntax.place 17 List.[])) (List._∷_ (Syntax.copy (Syntax.place 8 List.[])) List.[]))))) (Syntax.place 9 List.[])
 
 abbrev b10 : Syntax.Body
-b10 = Syntax.call "kept::kept_station" (List._∷_ (Syntax.copy (Syntax.place 9 List.[])) (List._∷_ (Syntax.copy (Syntax.place 5 (List._∷_ (Syntax.field 1) List.[]))) (List._∷_ (Syntax.copy (Syntax.place 4 List.[])) List.[]))) (Syntax.place 10 List.[])
+b10 = Syntax.call "station_frame::station_record" (List._∷_ (Syntax.copy (Syntax.place 9 List.[])) (List._∷_ (Syntax.copy (Syntax.place 5 (List._∷_ (Syntax.field 1) List.[]))) (List._∷_ (Syntax.copy (Syntax.place 4 List.[])) List.[]))) (Syntax.place 10 List.[])
 
 abbrev b11 : Syntax.Body
-b11 = Syntax.call "ranges::index" (List._∷_ (Syntax.copy (Syntax.place 5 (List._∷_ (Syntax.field 0) List.[]))) List.[]) (Syntax.place 11 List.[])
+b11 = Syntax.call "number_ranges::index" (List._∷_ (Syntax.copy (Syntax.place 5 (List._∷_ (Syntax.field 0) List.[]))) List.[]) (Syntax.place 11 List.[])
 
 abbrev b12 : Syntax.Body
 b12 = Syntax.assign (Syntax.place 17 List.[]) (Syntax.op2 (Syntax.mul Syntax.unsigned) (Syntax.copy (Syntax.place 11 List.[])) (Syntax.int Syntax.w64 40))
@@ -509,7 +509,7 @@ module _ (claims· : Claims) where
       (Post· : (κs : Lifetimes.Lfts 4) → (a : Kinds.Dens κs ps) → Kinds.Plain 4 ps r κs) where
     module _ (M : Type 1) where
       abbrev pub Closed : Type 2
-      Closed = (𝓤 : URA.URA M) (H : Wp.Heap 𝓤) (A : Atoms.Atoms 𝓤) (W : Kit.Given 𝓤 H A) (𝓣 : Wp.Tables 𝓤 H) (known0 : Plain.Known 𝓤 H A W 𝓣 1 ps·0 r·0 (claims· .0) (claims· .1) "tables::advance_outputs") (known1 : Plain.Known 𝓤 H A W 𝓣 0 ps·1 r·1 (claims· .2) (claims· .3) "ranges::index") (known2 : Plain.Known 𝓤 H A W 𝓣 1 ps·2 r·2 (claims· .4) (claims· .5) "tables::serve") (known3 : Plain.Known 𝓤 H A W 𝓣 1 ps·3 r·3 (claims· .6) (claims· .7) "kept::kept_station") → Statement.Triple 𝓤 (Wp.WpFn 𝓤 H (𝓣 .C) (𝓣 .Λ) (Function.fnOf 4 ps r xs m hs body)) (Function.plainOf 𝓤 H A 4 ps r Pre· Post·)
+      Closed = (𝓤 : URA.URA M) (H : Wp.Heap 𝓤) (A : Atoms.Atoms 𝓤) (W : Kit.Given 𝓤 H A) (𝓣 : Wp.Tables 𝓤 H) (known0 : Plain.Known 𝓤 H A W 𝓣 1 ps·0 r·0 (claims· .0) (claims· .1) "panel_tables::advance_outputs") (known1 : Plain.Known 𝓤 H A W 𝓣 0 ps·1 r·1 (claims· .2) (claims· .3) "number_ranges::index") (known2 : Plain.Known 𝓤 H A W 𝓣 1 ps·2 r·2 (claims· .4) (claims· .5) "panel_tables::serve") (known3 : Plain.Known 𝓤 H A W 𝓣 1 ps·3 r·3 (claims· .6) (claims· .7) "station_frame::station_record") → Statement.Triple 𝓤 (Wp.WpFn 𝓤 H (𝓣 .C) (𝓣 .Λ) (Function.fnOf 4 ps r xs m hs body)) (Function.plainOf 𝓤 H A 4 ps r Pre· Post·)
 
     module _ where
       abbrev at0 : Typed.TF T39 O0
@@ -635,7 +635,7 @@ module _ (claims· : Claims) where
       module _ {M : Type 1} (𝓤 : URA.URA M) (H : Wp.Heap 𝓤) (A : Atoms.Atoms 𝓤)
           (W : Kit.Given 𝓤 H A) (𝓣 : Wp.Tables 𝓤 H) where
         abbrev Knowns : Type 1
-        Knowns = Plain.Known 𝓤 H A W 𝓣 1 ps·0 r·0 (claims· .0) (claims· .1) "tables::advance_outputs" × Plain.Known 𝓤 H A W 𝓣 0 ps·1 r·1 (claims· .2) (claims· .3) "ranges::index" × Plain.Known 𝓤 H A W 𝓣 1 ps·2 r·2 (claims· .4) (claims· .5) "tables::serve" × Plain.Known 𝓤 H A W 𝓣 1 ps·3 r·3 (claims· .6) (claims· .7) "kept::kept_station"
+        Knowns = Plain.Known 𝓤 H A W 𝓣 1 ps·0 r·0 (claims· .0) (claims· .1) "panel_tables::advance_outputs" × Plain.Known 𝓤 H A W 𝓣 0 ps·1 r·1 (claims· .2) (claims· .3) "number_ranges::index" × Plain.Known 𝓤 H A W 𝓣 1 ps·2 r·2 (claims· .4) (claims· .5) "panel_tables::serve" × Plain.Known 𝓤 H A W 𝓣 1 ps·3 r·3 (claims· .6) (claims· .7) "station_frame::station_record"
 
       module _ (κs : Lifetimes.Lfts 4) (qs : Lifetimes.Shares 4) where
         abbrev g5 : List.List Row.Entry
@@ -834,10 +834,10 @@ module _ (claims· : Claims) where
           d13 = Typed.g-pre 𝓤 H A W 𝓣 E G26 G27 b22 Δ0 (Typed.pass T26 T27 s25) at12 (Scalar.g-room 𝓤 H A W E G26 5 (Laws'.mir) (Local.room-whole 𝓤 H A W (Declared'.row Call.the-type) (Laws'.mir) Path'.refl)) d12
 
           d14 : Typed.Typed 𝓤 H A 𝓣 E G25 b23 Δ0 at14
-          d14 = Typed.s-seq 𝓤 H A W 𝓣 E G25 G26 b11 b22 Δ0 (Typed.both s24) at13 (Plain.t-call-plain 𝓤 H A W 𝓣 0 ps·1 r·1 (claims· .2) (claims· .3) "ranges::index" (known .1) E (λ pos β. β) G25 (Num.vFld 5 (List._∷_ (Syntax.field 0) List.[]) 0 λ x. Call.struct .as-values x .0, tt) 11 List.[] (Call'.sub-id 𝓤 H A W (G25 .slots)) ((Reads.reads-field 𝓤 H A W Call.the-type Laws'.the-laws 0 (Syntax.tyInt Syntax.w8) 0 Path'.refl, Path'.refl), tt) (Reads'.room-gone 𝓤 H A (Syntax.tyInt Syntax.w64)) tt Path'.refl) d13
+          d14 = Typed.s-seq 𝓤 H A W 𝓣 E G25 G26 b11 b22 Δ0 (Typed.both s24) at13 (Plain.t-call-plain 𝓤 H A W 𝓣 0 ps·1 r·1 (claims· .2) (claims· .3) "number_ranges::index" (known .1) E (λ pos β. β) G25 (Num.vFld 5 (List._∷_ (Syntax.field 0) List.[]) 0 λ x. Call.struct .as-values x .0, tt) 11 List.[] (Call'.sub-id 𝓤 H A W (G25 .slots)) ((Reads.reads-field 𝓤 H A W Call.the-type Laws'.the-laws 0 (Syntax.tyInt Syntax.w8) 0 Path'.refl, Path'.refl), tt) (Reads'.room-gone 𝓤 H A (Syntax.tyInt Syntax.w64)) tt Path'.refl) d13
 
           d15 : Typed.Typed 𝓤 H A 𝓣 E G24 b24 Δ0 at15
-          d15 = Typed.s-seq 𝓤 H A W 𝓣 E G24 G25 b10 b23 Δ0 (Typed.both s23) at14 (Plain.t-call-plain 𝓤 H A W 𝓣 1 ps·3 r·3 (claims· .6) (claims· .7) "kept::kept_station" (known .3) E (λ pos β. β) G24 (record { pos = 9; st = List.[]; d = 0; at = λ x. x }, (Num.vFld 5 (List._∷_ (Syntax.field 1) List.[]) 4 λ x. Call.struct .as-values x .1 .0, (record { pos = 4; ty = Syntax.tyRef (Syntax.named 3) Syntax.imm (Syntax.tyInt Syntax.w8); ref = λ x. x }, tt))) 10 (List._∷_ 3 List.[]) (Call'.sub-id 𝓤 H A W (G24 .slots)) ((Yields.yields-copy 𝓤 H A W (λ ρ. Unit) (Declared.row Answer.the-type) Path'.refl (Copies.cEnum Answer.the-type Laws.the-laws Laws.the-copy .copy 𝓤 H A W) (Rows'.whole (Declared.row Answer.the-type)) (λ x. x) (λ x. x) (λ ρ told. Local.mem-whole 𝓤 H A W (Declared.row Answer.the-type) ρ) λ ρ told. Local.whole-mem 𝓤 H A W (Declared.row Answer.the-type) ρ, Path'.refl), ((Reads.reads-field 𝓤 H A W Call.the-type Laws'.the-laws 1 (Syntax.tyInt Syntax.w32) 4 Path'.refl, Path'.refl), (ShrSlice.spares-sslice 𝓤 H A W (Referent.rtF (Referent.fInt Syntax.w8)) (Syntax.tyRef (Syntax.named 3) Syntax.imm (Syntax.tyInt Syntax.w8)) 3, Shared.reads-sslice 𝓤 H A W (Referent.rtF (Referent.fInt Syntax.w8)) (Syntax.tyRef (Syntax.named 3) Syntax.imm (Syntax.tyInt Syntax.w8)) 3, Path'.refl, tt))) (Reads'.room-gone 𝓤 H A OfStation.spelt) (tt, tt) Path'.refl) d14
+          d15 = Typed.s-seq 𝓤 H A W 𝓣 E G24 G25 b10 b23 Δ0 (Typed.both s23) at14 (Plain.t-call-plain 𝓤 H A W 𝓣 1 ps·3 r·3 (claims· .6) (claims· .7) "station_frame::station_record" (known .3) E (λ pos β. β) G24 (record { pos = 9; st = List.[]; d = 0; at = λ x. x }, (Num.vFld 5 (List._∷_ (Syntax.field 1) List.[]) 4 λ x. Call.struct .as-values x .1 .0, (record { pos = 4; ty = Syntax.tyRef (Syntax.named 3) Syntax.imm (Syntax.tyInt Syntax.w8); ref = λ x. x }, tt))) 10 (List._∷_ 3 List.[]) (Call'.sub-id 𝓤 H A W (G24 .slots)) ((Yields.yields-copy 𝓤 H A W (λ ρ. Unit) (Declared.row Answer.the-type) Path'.refl (Copies.cEnum Answer.the-type Laws.the-laws Laws.the-copy .copy 𝓤 H A W) (Rows'.whole (Declared.row Answer.the-type)) (λ x. x) (λ x. x) (λ ρ told. Local.mem-whole 𝓤 H A W (Declared.row Answer.the-type) ρ) λ ρ told. Local.whole-mem 𝓤 H A W (Declared.row Answer.the-type) ρ, Path'.refl), ((Reads.reads-field 𝓤 H A W Call.the-type Laws'.the-laws 1 (Syntax.tyInt Syntax.w32) 4 Path'.refl, Path'.refl), (ShrSlice.spares-sslice 𝓤 H A W (Referent.rtF (Referent.fInt Syntax.w8)) (Syntax.tyRef (Syntax.named 3) Syntax.imm (Syntax.tyInt Syntax.w8)) 3, Shared.reads-sslice 𝓤 H A W (Referent.rtF (Referent.fInt Syntax.w8)) (Syntax.tyRef (Syntax.named 3) Syntax.imm (Syntax.tyInt Syntax.w8)) 3, Path'.refl, tt))) (Reads'.room-gone 𝓤 H A OfStation.spelt) (tt, tt) Path'.refl) d14
 
           d16 : Typed.Typed 𝓤 H A 𝓣 E G23 b24 Δ0 at16
           d16 = Typed.g-pre 𝓤 H A W 𝓣 E G23 G24 b24 Δ0 (λ Ψ. Ψ) at15 (Lifetime.g-forget 𝓤 H A W E G23 5 Row.dead Path'.refl) d15
@@ -855,10 +855,10 @@ module _ (claims· : Claims) where
           d20 = Typed.g-pre 𝓤 H A W 𝓣 E G19 G20 b24 Δ0 (Typed.pass T19 T20 s18) at19 (Scalar.g-room 𝓤 H A W E G19 8 (Laws''.mir) (Local.room-whole 𝓤 H A W (Declared.row Request.the-type) (Laws''.mir) Path'.refl)) d19
 
           d21 : Typed.Typed 𝓤 H A 𝓣 E G18 b25 Δ0 at21
-          d21 = Typed.s-seq 𝓤 H A W 𝓣 E G18 G19 b9 b24 Δ0 (Typed.both s17) at20 (Plain.t-call-plain 𝓤 H A W 𝓣 1 ps·2 r·2 (claims· .4) (claims· .5) "tables::serve" (known .2) E (λ pos β. β) G18 (record { pos = 16; ty = Syntax.tyRef Syntax.erased Syntax.mut OfOutput.named; ref = λ x. x }, (Num.vAt 7 λ x. x, (Num.vFld 5 (List._∷_ (Syntax.field 0) List.[]) 0 λ x. Call.struct .as-values x .0, (Num.vAt 17 λ x. x, (record { pos = 8; st = List.[]; d = 0; at = λ x. x }, tt))))) 9 (List._∷_ 5 List.[]) (Call'.sub-id 𝓤 H A W (G18 .slots)) (Reads'.as-is 𝓤 H A (Mut.mslice (OfOutput.row) (Syntax.tyRef Syntax.erased Syntax.mut OfOutput.named) 5), Mut.reads-mslice 𝓤 H A W (OfOutput.row) (Syntax.tyRef Syntax.erased Syntax.mut OfOutput.named) 5, Path'.refl, ((Scalar.reads-sc 𝓤 H A W (Row.sInt Syntax.w64), Path'.refl), ((Reads.reads-field 𝓤 H A W Call.the-type Laws'.the-laws 0 (Syntax.tyInt Syntax.w8) 0 Path'.refl, Path'.refl), ((Scalar.reads-sc 𝓤 H A W (Row.sInt Syntax.w64), Path'.refl), ((Yields.yields-copy 𝓤 H A W (λ ρ. Unit) (Declared.row Request.the-type) Path'.refl (Copies.cEnum Request.the-type Laws''.the-laws Laws''.the-copy .copy 𝓤 H A W) (Rows'.whole (Declared.row Request.the-type)) (λ x. x) (λ x. x) (λ ρ told. Local.mem-whole 𝓤 H A W (Declared.row Request.the-type) ρ) λ ρ told. Local.whole-mem 𝓤 H A W (Declared.row Request.the-type) ρ, Path'.refl), tt))))) (Reads'.room-gone 𝓤 H A (Laws.mir)) (tt, tt) Path'.refl) d20
+          d21 = Typed.s-seq 𝓤 H A W 𝓣 E G18 G19 b9 b24 Δ0 (Typed.both s17) at20 (Plain.t-call-plain 𝓤 H A W 𝓣 1 ps·2 r·2 (claims· .4) (claims· .5) "panel_tables::serve" (known .2) E (λ pos β. β) G18 (record { pos = 16; ty = Syntax.tyRef Syntax.erased Syntax.mut OfOutput.named; ref = λ x. x }, (Num.vAt 7 λ x. x, (Num.vFld 5 (List._∷_ (Syntax.field 0) List.[]) 0 λ x. Call.struct .as-values x .0, (Num.vAt 17 λ x. x, (record { pos = 8; st = List.[]; d = 0; at = λ x. x }, tt))))) 9 (List._∷_ 5 List.[]) (Call'.sub-id 𝓤 H A W (G18 .slots)) (Reads'.as-is 𝓤 H A (Mut.mslice (OfOutput.row) (Syntax.tyRef Syntax.erased Syntax.mut OfOutput.named) 5), Mut.reads-mslice 𝓤 H A W (OfOutput.row) (Syntax.tyRef Syntax.erased Syntax.mut OfOutput.named) 5, Path'.refl, ((Scalar.reads-sc 𝓤 H A W (Row.sInt Syntax.w64), Path'.refl), ((Reads.reads-field 𝓤 H A W Call.the-type Laws'.the-laws 0 (Syntax.tyInt Syntax.w8) 0 Path'.refl, Path'.refl), ((Scalar.reads-sc 𝓤 H A W (Row.sInt Syntax.w64), Path'.refl), ((Yields.yields-copy 𝓤 H A W (λ ρ. Unit) (Declared.row Request.the-type) Path'.refl (Copies.cEnum Request.the-type Laws''.the-laws Laws''.the-copy .copy 𝓤 H A W) (Rows'.whole (Declared.row Request.the-type)) (λ x. x) (λ x. x) (λ ρ told. Local.mem-whole 𝓤 H A W (Declared.row Request.the-type) ρ) λ ρ told. Local.whole-mem 𝓤 H A W (Declared.row Request.the-type) ρ, Path'.refl), tt))))) (Reads'.room-gone 𝓤 H A (Laws.mir)) (tt, tt) Path'.refl) d20
 
           d22 : Typed.Typed 𝓤 H A 𝓣 E G17 b26 Δ0 at22
-          d22 = Typed.s-seq 𝓤 H A W 𝓣 E G17 G18 b8 b25 Δ0 (Typed.both s16) at21 (Plain.t-call-plain 𝓤 H A W 𝓣 0 ps·1 r·1 (claims· .2) (claims· .3) "ranges::index" (known .1) E (λ pos β. β) G17 (Num.vFld 5 (List._∷_ (Syntax.field 3) List.[]) 16 λ x. Call.struct .as-values x .1 .1 .1 .0, tt) 17 List.[] (Call'.sub-id 𝓤 H A W (G17 .slots)) ((Reads.reads-field 𝓤 H A W Call.the-type Laws'.the-laws 3 (Syntax.tyInt Syntax.w8) 16 Path'.refl, Path'.refl), tt) (Reads'.room-gone 𝓤 H A (Syntax.tyInt Syntax.w64)) tt Path'.refl) d21
+          d22 = Typed.s-seq 𝓤 H A W 𝓣 E G17 G18 b8 b25 Δ0 (Typed.both s16) at21 (Plain.t-call-plain 𝓤 H A W 𝓣 0 ps·1 r·1 (claims· .2) (claims· .3) "number_ranges::index" (known .1) E (λ pos β. β) G17 (Num.vFld 5 (List._∷_ (Syntax.field 3) List.[]) 16 λ x. Call.struct .as-values x .1 .1 .1 .0, tt) 17 List.[] (Call'.sub-id 𝓤 H A W (G17 .slots)) ((Reads.reads-field 𝓤 H A W Call.the-type Laws'.the-laws 3 (Syntax.tyInt Syntax.w8) 16 Path'.refl, Path'.refl), tt) (Reads'.room-gone 𝓤 H A (Syntax.tyInt Syntax.w64)) tt Path'.refl) d21
 
           d23 : Typed.Typed 𝓤 H A 𝓣 E G16 b27 Δ0 at23
           d23 = Typed.s-seq 𝓤 H A W 𝓣 E G16 G17 b7 b26 Δ0 (Typed.ask s15) at22 (Relend.t-sl-aggregate 𝓤 H A W E (OfOutput.row) 𝓣 (Relend.asMut (OfOutput.row)) G16 15 16 5 (Syntax.tyRef Syntax.erased Syntax.mut OfOutput.named) (Syntax.tyRef Syntax.erased Syntax.mut OfOutput.named) (λ x. x) (Scalar.oFld 1 (List._∷_ (Syntax.field 1) List.[]) (Syntax.tyInt Syntax.w64) 8 λ v. Shared.lenV (v .0)) (Reads'.as-is 𝓤 H A (Relend.msptr (OfOutput.row) (Syntax.tyRef Syntax.erased Syntax.mut OfOutput.named) 5)) (Reads'.room-gone 𝓤 H A (Syntax.tyStruct (List._∷_ 38 (List._∷_ 91 (List._∷_ 93 List.[]))) (Syntax.tcons (Syntax.tyRef Syntax.erased Syntax.mut OfOutput.named) (Syntax.tcons (Syntax.tyInt Syntax.w64) Syntax.tnil)))) (Relend.reads-owed-len 𝓤 H A W (OfOutput.row) (Syntax.tyRef (Syntax.named 0) Syntax.mut OfOutput.named) 0 5 (Row.lease (κs .0) (qs .0)) 8 Path'.refl, Path'.refl) Path'.refl Path'.refl λ b o k. tt) d22
@@ -885,7 +885,7 @@ module _ (claims· : Claims) where
           d30 = Typed.g-pre 𝓤 H A W 𝓣 E G9 G10 b29 Δ0 (Typed.pass T9 T10 s8) at29 (Scalar.g-room 𝓤 H A W E G9 12 Syntax.tyUnit (Scalar.room-sc 𝓤 H A W Row.sUnit)) d29
 
           d31 : Typed.Typed 𝓤 H A 𝓣 E G8 b30 Δ0 at31
-          d31 = Typed.s-seq 𝓤 H A W 𝓣 E G8 G9 b4 b29 Δ0 (Typed.both s7) at30 (Plain.t-call-plain 𝓤 H A W 𝓣 1 ps·0 r·0 (claims· .0) (claims· .1) "tables::advance_outputs" (known .0) E (λ pos β. β) G8 (record { pos = 14; ty = Syntax.tyRef Syntax.erased Syntax.mut OfOutput.named; ref = λ x. x }, (Num.vAt 6 λ x. x, (Num.vAt 7 λ x. x, tt))) 12 (List._∷_ 4 List.[]) (Call'.sub-id 𝓤 H A W (G8 .slots)) (Reads'.as-is 𝓤 H A (Mut.mslice (OfOutput.row) (Syntax.tyRef Syntax.erased Syntax.mut OfOutput.named) 4), Mut.reads-mslice 𝓤 H A W (OfOutput.row) (Syntax.tyRef Syntax.erased Syntax.mut OfOutput.named) 4, Path'.refl, ((Scalar.reads-sc 𝓤 H A W (Row.sInt Syntax.w64), Path'.refl), ((Scalar.reads-sc 𝓤 H A W (Row.sInt Syntax.w64), Path'.refl), tt))) (Reads'.room-gone 𝓤 H A Syntax.tyUnit) (tt, tt) Path'.refl) d30
+          d31 = Typed.s-seq 𝓤 H A W 𝓣 E G8 G9 b4 b29 Δ0 (Typed.both s7) at30 (Plain.t-call-plain 𝓤 H A W 𝓣 1 ps·0 r·0 (claims· .0) (claims· .1) "panel_tables::advance_outputs" (known .0) E (λ pos β. β) G8 (record { pos = 14; ty = Syntax.tyRef Syntax.erased Syntax.mut OfOutput.named; ref = λ x. x }, (Num.vAt 6 λ x. x, (Num.vAt 7 λ x. x, tt))) 12 (List._∷_ 4 List.[]) (Call'.sub-id 𝓤 H A W (G8 .slots)) (Reads'.as-is 𝓤 H A (Mut.mslice (OfOutput.row) (Syntax.tyRef Syntax.erased Syntax.mut OfOutput.named) 4), Mut.reads-mslice 𝓤 H A W (OfOutput.row) (Syntax.tyRef Syntax.erased Syntax.mut OfOutput.named) 4, Path'.refl, ((Scalar.reads-sc 𝓤 H A W (Row.sInt Syntax.w64), Path'.refl), ((Scalar.reads-sc 𝓤 H A W (Row.sInt Syntax.w64), Path'.refl), tt))) (Reads'.room-gone 𝓤 H A Syntax.tyUnit) (tt, tt) Path'.refl) d30
 
           d32 : Typed.Typed 𝓤 H A 𝓣 E G7 b31 Δ0 at32
           d32 = Typed.s-seq 𝓤 H A W 𝓣 E G7 G8 b3 b30 Δ0 (Typed.ask s6) at31 (Relend.t-sl-aggregate 𝓤 H A W E (OfOutput.row) 𝓣 (Relend.asMut (OfOutput.row)) G7 13 14 4 (Syntax.tyRef Syntax.erased Syntax.mut OfOutput.named) (Syntax.tyRef Syntax.erased Syntax.mut OfOutput.named) (λ x. x) (Scalar.oFld 1 (List._∷_ (Syntax.field 1) List.[]) (Syntax.tyInt Syntax.w64) 8 λ v. Shared.lenV (v .0)) (Reads'.as-is 𝓤 H A (Relend.msptr (OfOutput.row) (Syntax.tyRef Syntax.erased Syntax.mut OfOutput.named) 4)) (Reads'.room-gone 𝓤 H A (Syntax.tyStruct (List._∷_ 38 (List._∷_ 91 (List._∷_ 93 List.[]))) (Syntax.tcons (Syntax.tyRef Syntax.erased Syntax.mut OfOutput.named) (Syntax.tcons (Syntax.tyInt Syntax.w64) Syntax.tnil)))) (Relend.reads-owed-len 𝓤 H A W (OfOutput.row) (Syntax.tyRef (Syntax.named 0) Syntax.mut OfOutput.named) 0 4 (Row.lease (κs .0) (qs .0)) 8 Path'.refl, Path'.refl) Path'.refl Path'.refl λ b o k. tt) d31
@@ -1157,8 +1157,8 @@ module _ (claims· : Claims) where
         pub before : After-serve
         pub outputs2 : After-outputs2·own before
 
-      abbrev pub Need-kept-station-requires : Type 0
-      Need-kept-station-requires = (c : After-outputs2) → s23 .asks (m17 (c .before) (c .outputs2 .given))
+      abbrev pub Need-station-record-requires : Type 0
+      Need-station-record-requires = (c : After-outputs2) → s23 .asks (m17 (c .before) (c .outputs2 .given))
 
       abbrev pub m18 :
           (before : After-outputs2) →
@@ -1167,43 +1167,43 @@ module _ (claims· : Claims) where
       m18 = λ before given. s23 .next (m17 (before .before) (before .outputs2 .given)) given
 
       module _ (before· : After-outputs2) where
-        abbrev pub After-kept-station·own : Type 0
-        After-kept-station·own = Called.Called ps·3 r·3 (claims· .7) T23 (record { pos = 9; st = List.[]; d = 0; at = λ x. x }, (Num.vFld 5 (List._∷_ (Syntax.field 1) List.[]) 4 λ x. Call.struct .as-values x .1 .0, (record { pos = 4; ty = Syntax.tyRef (Syntax.named 3) Syntax.imm (Syntax.tyInt Syntax.w8); ref = λ x. x }, tt))) (m17 (before· .before) (before· .outputs2 .given))
+        abbrev pub After-station-record·own : Type 0
+        After-station-record·own = Called.Called ps·3 r·3 (claims· .7) T23 (record { pos = 9; st = List.[]; d = 0; at = λ x. x }, (Num.vFld 5 (List._∷_ (Syntax.field 1) List.[]) 4 λ x. Call.struct .as-values x .1 .0, (record { pos = 4; ty = Syntax.tyRef (Syntax.named 3) Syntax.imm (Syntax.tyInt Syntax.w8); ref = λ x. x }, tt))) (m17 (before· .before) (before· .outputs2 .given))
 
-      pub record After-kept-station : Type 0 where
+      pub record After-station-record : Type 0 where
         pub before : After-outputs2
-        pub kept-station : After-kept-station·own before
+        pub station-record : After-station-record·own before
 
-      abbrev pub After-kept-station·gave :
-          (c : After-kept-station) →
+      abbrev pub After-station-record·gave :
+          (c : After-station-record) →
           s23 .gives (m17 (c .before .before) (c .before .outputs2 .given))
-      After-kept-station·gave = λ c. Called.given ps·3 r·3 (claims· .7) T23 (record { pos = 9; st = List.[]; d = 0; at = λ x. x }, (Num.vFld 5 (List._∷_ (Syntax.field 1) List.[]) 4 λ x. Call.struct .as-values x .1 .0, (record { pos = 4; ty = Syntax.tyRef (Syntax.named 3) Syntax.imm (Syntax.tyInt Syntax.w8); ref = λ x. x }, tt))) (m17 (c .before .before) (c .before .outputs2 .given)) (c .kept-station)
+      After-station-record·gave = λ c. Called.given ps·3 r·3 (claims· .7) T23 (record { pos = 9; st = List.[]; d = 0; at = λ x. x }, (Num.vFld 5 (List._∷_ (Syntax.field 1) List.[]) 4 λ x. Call.struct .as-values x .1 .0, (record { pos = 4; ty = Syntax.tyRef (Syntax.named 3) Syntax.imm (Syntax.tyInt Syntax.w8); ref = λ x. x }, tt))) (m17 (c .before .before) (c .before .outputs2 .given)) (c .station-record)
 
       abbrev pub Need-index-requires-2 : Type 0
-      Need-index-requires-2 = (c : After-kept-station) → s24 .asks (m18 (c .before) (After-kept-station·gave c))
+      Need-index-requires-2 = (c : After-station-record) → s24 .asks (m18 (c .before) (After-station-record·gave c))
 
       abbrev pub m19 :
-          (before : After-kept-station) →
-          (given : s24 .gives (m18 (before .before) (After-kept-station·gave before))) →
+          (before : After-station-record) →
+          (given : s24 .gives (m18 (before .before) (After-station-record·gave before))) →
           Typed.Mo T26
-      m19 = λ before given. s24 .next (m18 (before .before) (After-kept-station·gave before)) given
+      m19 = λ before given. s24 .next (m18 (before .before) (After-station-record·gave before)) given
 
-      module _ (before· : After-kept-station) where
+      module _ (before· : After-station-record) where
         abbrev pub After-index2·own : Type 0
-        After-index2·own = Called.Called ps·1 r·1 (claims· .3) T25 (Num.vFld 5 (List._∷_ (Syntax.field 0) List.[]) 0 λ x. Call.struct .as-values x .0, tt) (m18 (before· .before) (After-kept-station·gave before·))
+        After-index2·own = Called.Called ps·1 r·1 (claims· .3) T25 (Num.vFld 5 (List._∷_ (Syntax.field 0) List.[]) 0 λ x. Call.struct .as-values x .0, tt) (m18 (before· .before) (After-station-record·gave before·))
 
       pub record After-index2 : Type 0 where
-        pub before : After-kept-station
+        pub before : After-station-record
         pub index2 : After-index2·own before
 
       abbrev pub After-index2·gave :
           (c : After-index2) →
-          s24 .gives (m18 (c .before .before) (After-kept-station·gave (c .before)))
-      After-index2·gave = λ c. Called.given ps·1 r·1 (claims· .3) T25 (Num.vFld 5 (List._∷_ (Syntax.field 0) List.[]) 0 λ x. Call.struct .as-values x .0, tt) (m18 (c .before .before) (After-kept-station·gave (c .before))) (c .index2)
+          s24 .gives (m18 (c .before .before) (After-station-record·gave (c .before)))
+      After-index2·gave = λ c. Called.given ps·1 r·1 (claims· .3) T25 (Num.vFld 5 (List._∷_ (Syntax.field 0) List.[]) 0 λ x. Call.struct .as-values x .0, tt) (m18 (c .before .before) (After-station-record·gave (c .before))) (c .index2)
 
       abbrev pub m20 :
-          (before : After-kept-station) →
-          (given : s24 .gives (m18 (before .before) (After-kept-station·gave before))) →
+          (before : After-station-record) →
+          (given : s24 .gives (m18 (before .before) (After-station-record·gave before))) →
           Typed.Mo T27
       m20 = λ before given. s25 (m19 before given)
 
@@ -1211,14 +1211,14 @@ module _ (claims· : Claims) where
       Need-mul-record = (c : After-index2) → s26 .asks (m20 (c .before) (After-index2·gave c))
 
       abbrev pub m21 :
-          (before : After-kept-station) →
-          (given : s24 .gives (m18 (before .before) (After-kept-station·gave before))) →
+          (before : After-station-record) →
+          (given : s24 .gives (m18 (before .before) (After-station-record·gave before))) →
           Typed.Mo T28
       m21 = λ before given. s26 .next (m20 before given)
 
       abbrev pub m22 :
-          (before : After-kept-station) →
-          (given : s24 .gives (m18 (before .before) (After-kept-station·gave before))) →
+          (before : After-station-record) →
+          (given : s24 .gives (m18 (before .before) (After-station-record·gave before))) →
           Typed.Mo T29
       m22 = λ before given. s27 .next (m21 before given)
 
@@ -1226,62 +1226,62 @@ module _ (claims· : Claims) where
       Need-slice-set-from-record = (c : After-index2) → Shared.InSlice T29 2 18 (λ x. x) (λ u. u .1 .1 .1 .1 .1 .1 .1 .1 .1 .1 .1 .0) (m22 (c .before) (After-index2·gave c))
 
       abbrev pub m23 :
-          (before : After-kept-station) →
-          (given : s24 .gives (m18 (before .before) (After-kept-station·gave before))) →
+          (before : After-station-record) →
+          (given : s24 .gives (m18 (before .before) (After-station-record·gave before))) →
           Typed.Mo T30
       m23 = λ before given. s28 .next (m22 before given)
 
       abbrev pub m24 :
-          (before : After-kept-station) →
-          (given : s24 .gives (m18 (before .before) (After-kept-station·gave before))) →
+          (before : After-station-record) →
+          (given : s24 .gives (m18 (before .before) (After-station-record·gave before))) →
           Typed.Mo T31
       m24 = λ before given. s29 (m23 before given)
 
       abbrev pub m25 :
-          (before : After-kept-station) →
-          (given : s24 .gives (m18 (before .before) (After-kept-station·gave before))) →
+          (before : After-station-record) →
+          (given : s24 .gives (m18 (before .before) (After-station-record·gave before))) →
           Typed.Mo T32
       m25 = λ before given. s30 (m24 before given)
 
       abbrev pub m26 :
-          (before : After-kept-station) →
-          (given : s24 .gives (m18 (before .before) (After-kept-station·gave before))) →
+          (before : After-station-record) →
+          (given : s24 .gives (m18 (before .before) (After-station-record·gave before))) →
           Typed.Mo T33
       m26 = λ before given. s31 (m25 before given)
 
       abbrev pub m27 :
-          (before : After-kept-station) →
-          (given : s24 .gives (m18 (before .before) (After-kept-station·gave before))) →
+          (before : After-station-record) →
+          (given : s24 .gives (m18 (before .before) (After-station-record·gave before))) →
           Typed.Mo T34
       m27 = λ before given. s32 (m26 before given)
 
       abbrev pub m28 :
-          (before : After-kept-station) →
-          (given : s24 .gives (m18 (before .before) (After-kept-station·gave before))) →
+          (before : After-station-record) →
+          (given : s24 .gives (m18 (before .before) (After-station-record·gave before))) →
           Typed.Mo T35
       m28 = λ before given. s33 (m27 before given)
 
       abbrev pub m29 :
-          (before : After-kept-station) →
-          (given : s24 .gives (m18 (before .before) (After-kept-station·gave before))) →
+          (before : After-station-record) →
+          (given : s24 .gives (m18 (before .before) (After-station-record·gave before))) →
           Typed.Mo T36
       m29 = λ before given. s34 (m28 before given)
 
       abbrev pub m30 :
-          (before : After-kept-station) →
-          (given : s24 .gives (m18 (before .before) (After-kept-station·gave before))) →
+          (before : After-station-record) →
+          (given : s24 .gives (m18 (before .before) (After-station-record·gave before))) →
           Typed.Mo T37
       m30 = λ before given. s35 (m29 before given)
 
       abbrev pub m31 :
-          (before : After-kept-station) →
-          (given : s24 .gives (m18 (before .before) (After-kept-station·gave before))) →
+          (before : After-station-record) →
+          (given : s24 .gives (m18 (before .before) (After-station-record·gave before))) →
           Typed.Mo T38
       m31 = λ before given. s36 (m30 before given)
 
       abbrev pub m32 :
-          (before : After-kept-station) →
-          (given : s24 .gives (m18 (before .before) (After-kept-station·gave before))) →
+          (before : After-station-record) →
+          (given : s24 .gives (m18 (before .before) (After-station-record·gave before))) →
           Typed.Mo T39
       m32 = λ before given. s37 (m31 before given)
 
@@ -1296,7 +1296,7 @@ module _ (claims· : Claims) where
 
       module _ (advance-outputs-requires : Need-advance-outputs-requires)
           (index-requires : Need-index-requires) (serve-requires : Need-serve-requires)
-          (kept-station-requires : Need-kept-station-requires)
+          (station-record-requires : Need-station-record-requires)
           (index-requires-2 : Need-index-requires-2) (mul-record : Need-mul-record)
           (slice-set-from-record : Need-slice-set-from-record) (same-length : Need-same-length)
           (same-length-2 : Need-same-length-2) (returns : Need-returns) where
@@ -1309,11 +1309,11 @@ module _ (claims· : Claims) where
         lay5 = λ c. (mul-record record { before = c .before; index2 = c .index2 }, (tt, ((Path'.refl, Path'.refl, slice-set-from-record record { before = c .before; index2 = c .index2 }), ((MutSlice.fix-len (Row.get 1 (T39 .locals) (m32 (c .before) (After-index2·gave c)) .ptr) (Row.get 1 (T39 .locals) (m32 (c .before) (After-index2·gave c)) .name) (Row.get 1 (T39 .locals) (m32 (c .before) (After-index2·gave c)) .now) (dens (c .before .before .before .before .before .before .before .before .before .before .before .κs) (c .before .before .before .before .before .before .before .before .before .before .before .args) .0 .now) (same-length record { before = c .before; index2 = c .index2 }), (MutSlice.fix-len (Row.get 2 (T39 .locals) (m32 (c .before) (After-index2·gave c)) .ptr) (Row.get 2 (T39 .locals) (m32 (c .before) (After-index2·gave c)) .name) (Row.get 2 (T39 .locals) (m32 (c .before) (After-index2·gave c)) .now) (dens (c .before .before .before .before .before .before .before .before .before .before .before .κs) (c .before .before .before .before .before .before .before .before .before .before .before .args) .1 .0 .now) (same-length-2 record { before = c .before; index2 = c .index2 }), (Path'.refl, (Path'.refl, (tt, tt))))), returns record { before = c .before; index2 = c .index2 }))))
 
         lay4 :
-            (c : After-kept-station) → at14 (W0
+            (c : After-station-record) → at14 (W0
             (c .before .before .before .before .before .before .before .before .before .before .κs)
             (c .before .before .before .before .before .before .before .before .before .before
-            .args)) (m18 (c .before) (After-kept-station·gave c))
-        lay4 = λ c. (index-requires-2 record { before = c .before; kept-station = c .kept-station }, λ g. lay5 record { before = record { before = c .before; kept-station = c .kept-station }; index2 = Called.called ps·1 r·1 (claims· .3) T25 (Num.vFld 5 (List._∷_ (Syntax.field 0) List.[]) 0 λ x. Call.struct .as-values x .0, tt) (m18 (c .before) (After-kept-station·gave c)) g })
+            .args)) (m18 (c .before) (After-station-record·gave c))
+        lay4 = λ c. (index-requires-2 record { before = c .before; station-record = c .station-record }, λ g. lay5 record { before = record { before = c .before; station-record = c .station-record }; index2 = Called.called ps·1 r·1 (claims· .3) T25 (Num.vFld 5 (List._∷_ (Syntax.field 0) List.[]) 0 λ x. Call.struct .as-values x .0, tt) (m18 (c .before) (After-station-record·gave c)) g })
 
         lay3 :
             (c : After-serve) →
@@ -1322,7 +1322,7 @@ module _ (claims· : Claims) where
             (c .before .before .before .before .before .before .before .before .κs)
             (c .before .before .before .before .before .before .before .before .args))
             (m14 (c .before) (After-serve·gave c))
-        lay3 = λ c. (Path'.refl, λ g. (kept-station-requires record { before = record { before = c .before; serve = c .serve }; outputs2 = record { given = g } }, λ g'. lay4 record { before = record { before = record { before = c .before; serve = c .serve }; outputs2 = record { given = g } }; kept-station = Called.called ps·3 r·3 (claims· .7) T23 (record { pos = 9; st = List.[]; d = 0; at = λ x. x }, (Num.vFld 5 (List._∷_ (Syntax.field 1) List.[]) 4 λ x. Call.struct .as-values x .1 .0, (record { pos = 4; ty = Syntax.tyRef (Syntax.named 3) Syntax.imm (Syntax.tyInt Syntax.w8); ref = λ x. x }, tt))) (m17 record { before = c .before; serve = c .serve } g) g' }))
+        lay3 = λ c. (Path'.refl, λ g. (station-record-requires record { before = record { before = c .before; serve = c .serve }; outputs2 = record { given = g } }, λ g'. lay4 record { before = record { before = record { before = c .before; serve = c .serve }; outputs2 = record { given = g } }; station-record = Called.called ps·3 r·3 (claims· .7) T23 (record { pos = 9; st = List.[]; d = 0; at = λ x. x }, (Num.vFld 5 (List._∷_ (Syntax.field 1) List.[]) 4 λ x. Call.struct .as-values x .1 .0, (record { pos = 4; ty = Syntax.tyRef (Syntax.named 3) Syntax.imm (Syntax.tyInt Syntax.w8); ref = λ x. x }, tt))) (m17 record { before = c .before; serve = c .serve } g) g' }))
 
         lay2 :
             (c : After-index) →
@@ -1365,9 +1365,31 @@ module _ (claims· : Claims) where
             r·0
             (claims· .0)
             (claims· .1)
-            "tables::advance_outputs")
-            (known1 : Plain.Known 𝓤 H A W 𝓣 0 ps·1 r·1 (claims· .2) (claims· .3) "ranges::index")
-            (known2 : Plain.Known 𝓤 H A W 𝓣 1 ps·2 r·2 (claims· .4) (claims· .5) "tables::serve")
+            "panel_tables::advance_outputs")
+            (known1 : Plain.Known
+            𝓤
+            H
+            A
+            W
+            𝓣
+            0
+            ps·1
+            r·1
+            (claims· .2)
+            (claims· .3)
+            "number_ranges::index")
+            (known2 : Plain.Known
+            𝓤
+            H
+            A
+            W
+            𝓣
+            1
+            ps·2
+            r·2
+            (claims· .4)
+            (claims· .5)
+            "panel_tables::serve")
             (known3 : Plain.Known
             𝓤
             H
@@ -1379,7 +1401,7 @@ module _ (claims· : Claims) where
             r·3
             (claims· .6)
             (claims· .7)
-            "kept::kept_station") where
+            "station_frame::station_record") where
           pub spec :
               Statement.Triple
               𝓤

@@ -141,7 +141,7 @@ abbrev b15 : Syntax.Body
 b15 = Syntax.assign (Syntax.place 16 List.[]) (Syntax.aggregate (List._∷_ (Syntax.copy (Syntax.place 15 List.[])) (List._∷_ (Syntax.copy (Syntax.place 2 (List._∷_ (Syntax.field 1) List.[]))) List.[])))
 
 abbrev b16 : Syntax.Body
-b16 = Syntax.call "tables::decide" (List._∷_ (Syntax.copy (Syntax.place 14 List.[])) (List._∷_ (Syntax.copy (Syntax.place 16 List.[])) (List._∷_ (Syntax.copy (Syntax.place 5 List.[])) (List._∷_ (Syntax.copy (Syntax.place 4 List.[])) List.[])))) (Syntax.place 6 List.[])
+b16 = Syntax.call "panel_tables::decide" (List._∷_ (Syntax.copy (Syntax.place 14 List.[])) (List._∷_ (Syntax.copy (Syntax.place 16 List.[])) (List._∷_ (Syntax.copy (Syntax.place 5 List.[])) (List._∷_ (Syntax.copy (Syntax.place 4 List.[])) List.[])))) (Syntax.place 6 List.[])
 
 abbrev b17 : Syntax.Body
 b17 = Syntax.assign (Syntax.place 17 List.[]) (Syntax.addrOf (Syntax.place 1 (List._∷_ (Syntax.field 0) (List._∷_ (Syntax.deref OfOutput.spelt) List.[]))))
@@ -159,7 +159,7 @@ abbrev b21 : Syntax.Body
 b21 = Syntax.assign (Syntax.place 21 List.[]) (Syntax.addrOf (Syntax.place 3 (List._∷_ (Syntax.deref (Syntax.tyInt Syntax.w64)) List.[])))
 
 abbrev b22 : Syntax.Body
-b22 = Syntax.call "panel::carry" (List._∷_ (Syntax.copy (Syntax.place 18 List.[])) (List._∷_ (Syntax.copy (Syntax.place 20 List.[])) (List._∷_ (Syntax.copy (Syntax.place 21 List.[])) (List._∷_ (Syntax.copy (Syntax.place 4 List.[])) (List._∷_ (Syntax.copy (Syntax.place 6 List.[])) List.[]))))) (Syntax.place 0 List.[])
+b22 = Syntax.call "panel::execute" (List._∷_ (Syntax.copy (Syntax.place 18 List.[])) (List._∷_ (Syntax.copy (Syntax.place 20 List.[])) (List._∷_ (Syntax.copy (Syntax.place 21 List.[])) (List._∷_ (Syntax.copy (Syntax.place 4 List.[])) (List._∷_ (Syntax.copy (Syntax.place 6 List.[])) List.[]))))) (Syntax.place 0 List.[])
 
 abbrev b23 : Syntax.Body
 b23 = Syntax.return
@@ -598,7 +598,7 @@ module _ (claims· : Claims) where
       (Post· : (κs : Lifetimes.Lfts 4) → (a : Kinds.Dens κs ps) → Kinds.Plain 4 ps r κs) where
     module _ (M : Type 1) where
       abbrev pub Closed : Type 2
-      Closed = (𝓤 : URA.URA M) (H : Wp.Heap 𝓤) (A : Atoms.Atoms 𝓤) (W : Kit.Given 𝓤 H A) (𝓣 : Wp.Tables 𝓤 H) (known0 : Plain.Known 𝓤 H A W 𝓣 2 ps·0 r·0 (claims· .0) (claims· .1) "panel::panel_sound") (known1 : Plain.Known 𝓤 H A W 𝓣 3 ps·1 r·1 (claims· .2) (claims· .3) "tables::decide") (known2 : Plain.Known 𝓤 H A W 𝓣 4 ps·2 r·2 (claims· .4) (claims· .5) "panel::carry") → Statement.Triple 𝓤 (Wp.WpFn 𝓤 H (𝓣 .C) (𝓣 .Λ) (Function.fnOf 4 ps r xs m hs body)) (Function.plainOf 𝓤 H A 4 ps r Pre· Post·)
+      Closed = (𝓤 : URA.URA M) (H : Wp.Heap 𝓤) (A : Atoms.Atoms 𝓤) (W : Kit.Given 𝓤 H A) (𝓣 : Wp.Tables 𝓤 H) (known0 : Plain.Known 𝓤 H A W 𝓣 2 ps·0 r·0 (claims· .0) (claims· .1) "panel::panel_sound") (known1 : Plain.Known 𝓤 H A W 𝓣 3 ps·1 r·1 (claims· .2) (claims· .3) "panel_tables::decide") (known2 : Plain.Known 𝓤 H A W 𝓣 4 ps·2 r·2 (claims· .4) (claims· .5) "panel::execute") → Statement.Triple 𝓤 (Wp.WpFn 𝓤 H (𝓣 .C) (𝓣 .Λ) (Function.fnOf 4 ps r xs m hs body)) (Function.plainOf 𝓤 H A 4 ps r Pre· Post·)
 
     module _ where
       abbrev at0 : Typed.TF T25 O1
@@ -799,7 +799,7 @@ module _ (claims· : Claims) where
       module _ {M : Type 1} (𝓤 : URA.URA M) (H : Wp.Heap 𝓤) (A : Atoms.Atoms 𝓤)
           (W : Kit.Given 𝓤 H A) (𝓣 : Wp.Tables 𝓤 H) where
         abbrev Knowns : Type 1
-        Knowns = Plain.Known 𝓤 H A W 𝓣 2 ps·0 r·0 (claims· .0) (claims· .1) "panel::panel_sound" × Plain.Known 𝓤 H A W 𝓣 3 ps·1 r·1 (claims· .2) (claims· .3) "tables::decide" × Plain.Known 𝓤 H A W 𝓣 4 ps·2 r·2 (claims· .4) (claims· .5) "panel::carry"
+        Knowns = Plain.Known 𝓤 H A W 𝓣 2 ps·0 r·0 (claims· .0) (claims· .1) "panel::panel_sound" × Plain.Known 𝓤 H A W 𝓣 3 ps·1 r·1 (claims· .2) (claims· .3) "panel_tables::decide" × Plain.Known 𝓤 H A W 𝓣 4 ps·2 r·2 (claims· .4) (claims· .5) "panel::execute"
 
       module _ (κs : Lifetimes.Lfts 4) (qs : Lifetimes.Shares 4) where
         abbrev g4 : List.List Row.Entry
@@ -1130,7 +1130,7 @@ module _ (claims· : Claims) where
           d19 = Typed.g-pre 𝓤 H A W 𝓣 E G50 G51 b23 Δ0 (Typed.pass T50 T51 s48) at18 (Scalar.g-room 𝓤 H A W E G50 5 (Syntax.tyInt Syntax.w64) (Scalar.room-sc 𝓤 H A W (Row.sInt Syntax.w64))) d18
 
           d20 : Typed.Typed 𝓤 H A 𝓣 E G49 b24 Δ0 at20
-          d20 = Typed.s-seq 𝓤 H A W 𝓣 E G49 G50 b22 b23 Δ0 (Typed.both s47) at19 (Plain.t-call-plain 𝓤 H A W 𝓣 4 ps·2 r·2 (claims· .4) (claims· .5) "panel::carry" (known .2) E (λ pos β. β) G49 (record { pos = 18; ty = Syntax.tyRef Syntax.erased Syntax.mut OfOutput.named; ref = λ x. x }, (record { pos = 20; ty = Syntax.tyRef Syntax.erased Syntax.mut OfStation.named; ref = λ x. x }, (record { pos = 21; ty = Syntax.tyRef Syntax.erased Syntax.mut (Syntax.tyInt Syntax.w64); ref = λ x. x }, (record { pos = 4; ty = Syntax.tyRef (Syntax.named 3) Syntax.imm (Syntax.tyInt Syntax.w8); ref = λ x. x }, (record { pos = 6; st = List.[]; d = 0; at = λ x. x }, tt))))) 0 (List._∷_ 8 (List._∷_ 9 (List._∷_ 10 (List._∷_ 3 List.[])))) (Call.sub-id 𝓤 H A W (G49 .slots)) (Reads.as-is 𝓤 H A (Mut.mslice (OfOutput.row) (Syntax.tyRef Syntax.erased Syntax.mut OfOutput.named) 8), Mut.reads-mslice 𝓤 H A W (OfOutput.row) (Syntax.tyRef Syntax.erased Syntax.mut OfOutput.named) 8, Path'.refl, (Reads.as-is 𝓤 H A (Mut.mslice (OfStation.row) (Syntax.tyRef Syntax.erased Syntax.mut OfStation.named) 9), Mut.reads-mslice 𝓤 H A W (OfStation.row) (Syntax.tyRef Syntax.erased Syntax.mut OfStation.named) 9, Path'.refl, (Reads.as-is 𝓤 H A (Rows.mref (Referent.rtF (Referent.fInt Syntax.w64)) (Syntax.tyRef Syntax.erased Syntax.mut (Syntax.tyInt Syntax.w64)) 10), Reads.reads-mref 𝓤 H A W (Referent.rtF (Referent.fInt Syntax.w64)) (Syntax.tyRef Syntax.erased Syntax.mut (Syntax.tyInt Syntax.w64)) 10, Path'.refl, (ShrSlice.spares-sslice 𝓤 H A W (Referent.rtF (Referent.fInt Syntax.w8)) (Syntax.tyRef (Syntax.named 3) Syntax.imm (Syntax.tyInt Syntax.w8)) 3, Shared.reads-sslice 𝓤 H A W (Referent.rtF (Referent.fInt Syntax.w8)) (Syntax.tyRef (Syntax.named 3) Syntax.imm (Syntax.tyInt Syntax.w8)) 3, Path'.refl, ((Yields.yields-copy 𝓤 H A W (λ ρ. Unit) (Declared.row Verdict.the-type) Path'.refl (Copies.cEnum Verdict.the-type Laws'.the-laws Laws'.the-copy .copy 𝓤 H A W) (Rows.whole (Declared.row Verdict.the-type)) (λ x. x) (λ x. x) (λ ρ told. Local.mem-whole 𝓤 H A W (Declared.row Verdict.the-type) ρ) λ ρ told. Local.whole-mem 𝓤 H A W (Declared.row Verdict.the-type) ρ, Path'.refl), tt))))) (Reads.room-gone 𝓤 H A (Laws.mir)) (tt, (tt, (tt, (tt, tt)))) Path'.refl) d19
+          d20 = Typed.s-seq 𝓤 H A W 𝓣 E G49 G50 b22 b23 Δ0 (Typed.both s47) at19 (Plain.t-call-plain 𝓤 H A W 𝓣 4 ps·2 r·2 (claims· .4) (claims· .5) "panel::execute" (known .2) E (λ pos β. β) G49 (record { pos = 18; ty = Syntax.tyRef Syntax.erased Syntax.mut OfOutput.named; ref = λ x. x }, (record { pos = 20; ty = Syntax.tyRef Syntax.erased Syntax.mut OfStation.named; ref = λ x. x }, (record { pos = 21; ty = Syntax.tyRef Syntax.erased Syntax.mut (Syntax.tyInt Syntax.w64); ref = λ x. x }, (record { pos = 4; ty = Syntax.tyRef (Syntax.named 3) Syntax.imm (Syntax.tyInt Syntax.w8); ref = λ x. x }, (record { pos = 6; st = List.[]; d = 0; at = λ x. x }, tt))))) 0 (List._∷_ 8 (List._∷_ 9 (List._∷_ 10 (List._∷_ 3 List.[])))) (Call.sub-id 𝓤 H A W (G49 .slots)) (Reads.as-is 𝓤 H A (Mut.mslice (OfOutput.row) (Syntax.tyRef Syntax.erased Syntax.mut OfOutput.named) 8), Mut.reads-mslice 𝓤 H A W (OfOutput.row) (Syntax.tyRef Syntax.erased Syntax.mut OfOutput.named) 8, Path'.refl, (Reads.as-is 𝓤 H A (Mut.mslice (OfStation.row) (Syntax.tyRef Syntax.erased Syntax.mut OfStation.named) 9), Mut.reads-mslice 𝓤 H A W (OfStation.row) (Syntax.tyRef Syntax.erased Syntax.mut OfStation.named) 9, Path'.refl, (Reads.as-is 𝓤 H A (Rows.mref (Referent.rtF (Referent.fInt Syntax.w64)) (Syntax.tyRef Syntax.erased Syntax.mut (Syntax.tyInt Syntax.w64)) 10), Reads.reads-mref 𝓤 H A W (Referent.rtF (Referent.fInt Syntax.w64)) (Syntax.tyRef Syntax.erased Syntax.mut (Syntax.tyInt Syntax.w64)) 10, Path'.refl, (ShrSlice.spares-sslice 𝓤 H A W (Referent.rtF (Referent.fInt Syntax.w8)) (Syntax.tyRef (Syntax.named 3) Syntax.imm (Syntax.tyInt Syntax.w8)) 3, Shared.reads-sslice 𝓤 H A W (Referent.rtF (Referent.fInt Syntax.w8)) (Syntax.tyRef (Syntax.named 3) Syntax.imm (Syntax.tyInt Syntax.w8)) 3, Path'.refl, ((Yields.yields-copy 𝓤 H A W (λ ρ. Unit) (Declared.row Verdict.the-type) Path'.refl (Copies.cEnum Verdict.the-type Laws'.the-laws Laws'.the-copy .copy 𝓤 H A W) (Rows.whole (Declared.row Verdict.the-type)) (λ x. x) (λ x. x) (λ ρ told. Local.mem-whole 𝓤 H A W (Declared.row Verdict.the-type) ρ) λ ρ told. Local.whole-mem 𝓤 H A W (Declared.row Verdict.the-type) ρ, Path'.refl), tt))))) (Reads.room-gone 𝓤 H A (Laws.mir)) (tt, (tt, (tt, (tt, tt)))) Path'.refl) d19
 
           d21 : Typed.Typed 𝓤 H A 𝓣 E G48 b25 Δ0 at21
           d21 = Typed.s-seq 𝓤 H A W 𝓣 E G48 G49 b21 b24 Δ0 (Typed.give s46) at20 (Reborrow.t-mref-relend 𝓤 H A W E 𝓣 G48 3 21 2 10 (Referent.rtF (Referent.fInt Syntax.w64)) (Syntax.tyInt Syntax.w64) (Syntax.tyRef (Syntax.named 2) Syntax.mut (Syntax.tyInt Syntax.w64)) (Syntax.tyRef Syntax.erased Syntax.mut (Syntax.tyInt Syntax.w64)) (Row.lease (κs .1 .1 .0) (qs .1 .1 .0)) (λ x. x) (Reads.as-is 𝓤 H A (Rows.mref (Referent.rtF (Referent.fInt Syntax.w64)) (Syntax.tyRef (Syntax.named 2) Syntax.mut (Syntax.tyInt Syntax.w64)) 2)) (Reads.room-gone 𝓤 H A (Syntax.tyRef Syntax.erased Syntax.mut (Syntax.tyInt Syntax.w64))) Path'.refl tt Path'.refl Path'.refl λ b o. tt) d20
@@ -1181,7 +1181,7 @@ module _ (claims· : Claims) where
           d36 = Typed.g-pre 𝓤 H A W 𝓣 E G33 G34 b29 Δ0 (Typed.pass T33 T34 s31) at35 (Scalar.g-room 𝓤 H A W E G33 14 (Syntax.tyStruct (List._∷_ 38 (List._∷_ 91 (List._∷_ 93 List.[]))) (Syntax.tcons (Syntax.tyRef Syntax.erased Syntax.imm OfOutput.named) (Syntax.tcons (Syntax.tyInt Syntax.w64) Syntax.tnil))) (Shared.room-sslice 𝓤 H A W (OfOutput.row) (Syntax.tyRef Syntax.erased Syntax.imm OfOutput.named) 6)) d35
 
           d37 : Typed.Typed 𝓤 H A 𝓣 E G32 b30 Δ0 at37
-          d37 = Typed.s-seq 𝓤 H A W 𝓣 E G32 G33 b16 b29 Δ0 (Typed.both s30) at36 (Plain.t-call-plain 𝓤 H A W 𝓣 3 ps·1 r·1 (claims· .2) (claims· .3) "tables::decide" (known .1) E (λ pos β. β) G32 (record { pos = 14; ty = Syntax.tyRef Syntax.erased Syntax.imm OfOutput.named; ref = λ x. x }, (record { pos = 16; ty = Syntax.tyRef Syntax.erased Syntax.imm OfStation.named; ref = λ x. x }, (Num.vAt 5 λ x. x, (record { pos = 4; ty = Syntax.tyRef (Syntax.named 3) Syntax.imm (Syntax.tyInt Syntax.w8); ref = λ x. x }, tt)))) 6 (List._∷_ 6 (List._∷_ 7 (List._∷_ 3 List.[]))) (Call.sub-id 𝓤 H A W (G32 .slots)) (ShrSlice.spares-sslice 𝓤 H A W (OfOutput.row) (Syntax.tyRef Syntax.erased Syntax.imm OfOutput.named) 6, Shared.reads-sslice 𝓤 H A W (OfOutput.row) (Syntax.tyRef Syntax.erased Syntax.imm OfOutput.named) 6, Path'.refl, (ShrSlice.spares-sslice 𝓤 H A W (OfStation.row) (Syntax.tyRef Syntax.erased Syntax.imm OfStation.named) 7, Shared.reads-sslice 𝓤 H A W (OfStation.row) (Syntax.tyRef Syntax.erased Syntax.imm OfStation.named) 7, Path'.refl, ((Scalar.reads-sc 𝓤 H A W (Row.sInt Syntax.w64), Path'.refl), (ShrSlice.spares-sslice 𝓤 H A W (Referent.rtF (Referent.fInt Syntax.w8)) (Syntax.tyRef (Syntax.named 3) Syntax.imm (Syntax.tyInt Syntax.w8)) 3, Shared.reads-sslice 𝓤 H A W (Referent.rtF (Referent.fInt Syntax.w8)) (Syntax.tyRef (Syntax.named 3) Syntax.imm (Syntax.tyInt Syntax.w8)) 3, Path'.refl, tt)))) (Reads.room-gone 𝓤 H A (Laws'.mir)) (tt, (tt, (tt, tt))) Path'.refl) d36
+          d37 = Typed.s-seq 𝓤 H A W 𝓣 E G32 G33 b16 b29 Δ0 (Typed.both s30) at36 (Plain.t-call-plain 𝓤 H A W 𝓣 3 ps·1 r·1 (claims· .2) (claims· .3) "panel_tables::decide" (known .1) E (λ pos β. β) G32 (record { pos = 14; ty = Syntax.tyRef Syntax.erased Syntax.imm OfOutput.named; ref = λ x. x }, (record { pos = 16; ty = Syntax.tyRef Syntax.erased Syntax.imm OfStation.named; ref = λ x. x }, (Num.vAt 5 λ x. x, (record { pos = 4; ty = Syntax.tyRef (Syntax.named 3) Syntax.imm (Syntax.tyInt Syntax.w8); ref = λ x. x }, tt)))) 6 (List._∷_ 6 (List._∷_ 7 (List._∷_ 3 List.[]))) (Call.sub-id 𝓤 H A W (G32 .slots)) (ShrSlice.spares-sslice 𝓤 H A W (OfOutput.row) (Syntax.tyRef Syntax.erased Syntax.imm OfOutput.named) 6, Shared.reads-sslice 𝓤 H A W (OfOutput.row) (Syntax.tyRef Syntax.erased Syntax.imm OfOutput.named) 6, Path'.refl, (ShrSlice.spares-sslice 𝓤 H A W (OfStation.row) (Syntax.tyRef Syntax.erased Syntax.imm OfStation.named) 7, Shared.reads-sslice 𝓤 H A W (OfStation.row) (Syntax.tyRef Syntax.erased Syntax.imm OfStation.named) 7, Path'.refl, ((Scalar.reads-sc 𝓤 H A W (Row.sInt Syntax.w64), Path'.refl), (ShrSlice.spares-sslice 𝓤 H A W (Referent.rtF (Referent.fInt Syntax.w8)) (Syntax.tyRef (Syntax.named 3) Syntax.imm (Syntax.tyInt Syntax.w8)) 3, Shared.reads-sslice 𝓤 H A W (Referent.rtF (Referent.fInt Syntax.w8)) (Syntax.tyRef (Syntax.named 3) Syntax.imm (Syntax.tyInt Syntax.w8)) 3, Path'.refl, tt)))) (Reads.room-gone 𝓤 H A (Laws'.mir)) (tt, (tt, (tt, tt))) Path'.refl) d36
 
           d38 : Typed.Typed 𝓤 H A 𝓣 E G31 b31 Δ0 at38
           d38 = Typed.s-seq 𝓤 H A W 𝓣 E G31 G32 b15 b30 Δ0 (Typed.ask s29) at37 (Relend.t-sl-aggregate 𝓤 H A W E (OfStation.row) 𝓣 (Relend.asShr (OfStation.row)) G31 15 16 7 (Syntax.tyRef Syntax.erased Syntax.imm OfStation.named) (Syntax.tyRef Syntax.erased Syntax.imm OfStation.named) (λ x. x) (Scalar.oFld 2 (List._∷_ (Syntax.field 1) List.[]) (Syntax.tyInt Syntax.w64) 8 λ v. Shared.lenV (v .0)) (Reads.as-is 𝓤 H A (Relend.ssptr (OfStation.row) (Syntax.tyRef Syntax.erased Syntax.imm OfStation.named) 7)) (Reads.room-gone 𝓤 H A (Syntax.tyStruct (List._∷_ 38 (List._∷_ 91 (List._∷_ 93 List.[]))) (Syntax.tcons (Syntax.tyRef Syntax.erased Syntax.imm OfStation.named) (Syntax.tcons (Syntax.tyInt Syntax.w64) Syntax.tnil)))) (Reshare.reads-owedS-len 𝓤 H A W (OfStation.row) (Syntax.tyRef (Syntax.named 1) Syntax.mut OfStation.named) 1 7 (Row.lease (κs .1 .0) (qs .1 .0)) 8 Path'.refl, Path'.refl) Path'.refl Path'.refl λ b o k. tt) d37
@@ -1571,92 +1571,93 @@ module _ (claims· : Claims) where
       m29 = λ before given. s41 .next (m28 before given)
 
       module _ (before· : After-decide) where
-        pub record After-carry-arg·own : Type 0 where
+        pub record After-execute-arg·own : Type 0 where
           pub given : s40 .gives (m27 (before· .before) (After-decide·gave before·))
 
-      pub record After-carry-arg : Type 0 where
+      pub record After-execute-arg : Type 0 where
         pub before : After-decide
-        pub carry-arg : After-carry-arg·own before
+        pub execute-arg : After-execute-arg·own before
 
       abbrev pub m30 :
-          (before : After-carry-arg) →
-          (given : s43 .gives (m29 (before .before) (before .carry-arg .given))) →
+          (before : After-execute-arg) →
+          (given : s43 .gives (m29 (before .before) (before .execute-arg .given))) →
           Typed.Mo T46
-      m30 = λ before given. s43 .next (m29 (before .before) (before .carry-arg .given)) given
+      m30 = λ before given. s43 .next (m29 (before .before) (before .execute-arg .given)) given
 
       abbrev pub m31 :
-          (before : After-carry-arg) →
-          (given : s43 .gives (m29 (before .before) (before .carry-arg .given))) →
+          (before : After-execute-arg) →
+          (given : s43 .gives (m29 (before .before) (before .execute-arg .given))) →
           Typed.Mo T47
       m31 = λ before given. s44 .next (m30 before given)
 
-      module _ (before· : After-carry-arg) where
-        pub record After-carry-arg2·own : Type 0 where
-          pub given : s43 .gives (m29 (before· .before) (before· .carry-arg .given))
+      module _ (before· : After-execute-arg) where
+        pub record After-execute-arg2·own : Type 0 where
+          pub given : s43 .gives (m29 (before· .before) (before· .execute-arg .given))
 
-      pub record After-carry-arg2 : Type 0 where
-        pub before : After-carry-arg
-        pub carry-arg2 : After-carry-arg2·own before
+      pub record After-execute-arg2 : Type 0 where
+        pub before : After-execute-arg
+        pub execute-arg2 : After-execute-arg2·own before
 
       abbrev pub m32 :
-          (before : After-carry-arg2) →
-          (given : s46 .gives (m31 (before .before) (before .carry-arg2 .given))) →
+          (before : After-execute-arg2) →
+          (given : s46 .gives (m31 (before .before) (before .execute-arg2 .given))) →
           Typed.Mo T49
-      m32 = λ before given. s46 .next (m31 (before .before) (before .carry-arg2 .given)) given
+      m32 = λ before given. s46 .next (m31 (before .before) (before .execute-arg2 .given)) given
 
-      module _ (before· : After-carry-arg2) where
-        pub record After-carry-arg3·own : Type 0 where
-          pub given : s46 .gives (m31 (before· .before) (before· .carry-arg2 .given))
+      module _ (before· : After-execute-arg2) where
+        pub record After-execute-arg3·own : Type 0 where
+          pub given : s46 .gives (m31 (before· .before) (before· .execute-arg2 .given))
 
-      pub record After-carry-arg3 : Type 0 where
-        pub before : After-carry-arg2
-        pub carry-arg3 : After-carry-arg3·own before
+      pub record After-execute-arg3 : Type 0 where
+        pub before : After-execute-arg2
+        pub execute-arg3 : After-execute-arg3·own before
 
-      abbrev pub Need-carry-requires : Type 0
-      Need-carry-requires = (c : After-carry-arg3) → s47 .asks (m32 (c .before) (c .carry-arg3 .given))
+      abbrev pub Need-execute-requires : Type 0
+      Need-execute-requires = (c : After-execute-arg3) → s47 .asks (m32 (c .before) (c .execute-arg3 .given))
 
       abbrev pub m33 :
-          (before : After-carry-arg3) →
-          (given : s47 .gives (m32 (before .before) (before .carry-arg3 .given))) →
+          (before : After-execute-arg3) →
+          (given : s47 .gives (m32 (before .before) (before .execute-arg3 .given))) →
           Typed.Mo T50
-      m33 = λ before given. s47 .next (m32 (before .before) (before .carry-arg3 .given)) given
+      m33 = λ before given. s47 .next (m32 (before .before) (before .execute-arg3 .given)) given
 
-      module _ (before· : After-carry-arg3) where
-        abbrev pub After-carry·own : Type 0
-        After-carry·own = Called.Called ps·2 r·2 (claims· .5) T49 (record { pos = 18; ty = Syntax.tyRef Syntax.erased Syntax.mut OfOutput.named; ref = λ x. x }, (record { pos = 20; ty = Syntax.tyRef Syntax.erased Syntax.mut OfStation.named; ref = λ x. x }, (record { pos = 21; ty = Syntax.tyRef Syntax.erased Syntax.mut (Syntax.tyInt Syntax.w64); ref = λ x. x }, (record { pos = 4; ty = Syntax.tyRef (Syntax.named 3) Syntax.imm (Syntax.tyInt Syntax.w8); ref = λ x. x }, (record { pos = 6; st = List.[]; d = 0; at = λ x. x }, tt))))) (m32 (before· .before) (before· .carry-arg3 .given))
+      module _ (before· : After-execute-arg3) where
+        abbrev pub After-execute·own : Type 0
+        After-execute·own = Called.Called ps·2 r·2 (claims· .5) T49 (record { pos = 18; ty = Syntax.tyRef Syntax.erased Syntax.mut OfOutput.named; ref = λ x. x }, (record { pos = 20; ty = Syntax.tyRef Syntax.erased Syntax.mut OfStation.named; ref = λ x. x }, (record { pos = 21; ty = Syntax.tyRef Syntax.erased Syntax.mut (Syntax.tyInt Syntax.w64); ref = λ x. x }, (record { pos = 4; ty = Syntax.tyRef (Syntax.named 3) Syntax.imm (Syntax.tyInt Syntax.w8); ref = λ x. x }, (record { pos = 6; st = List.[]; d = 0; at = λ x. x }, tt))))) (m32 (before· .before) (before· .execute-arg3 .given))
 
-      pub record After-carry : Type 0 where
-        pub before : After-carry-arg3
-        pub carry : After-carry·own before
+      pub record After-execute : Type 0 where
+        pub before : After-execute-arg3
+        pub execute : After-execute·own before
 
-      abbrev pub After-carry·gave :
-          (c : After-carry) → s47 .gives (m32 (c .before .before) (c .before .carry-arg3 .given))
-      After-carry·gave = λ c. Called.given ps·2 r·2 (claims· .5) T49 (record { pos = 18; ty = Syntax.tyRef Syntax.erased Syntax.mut OfOutput.named; ref = λ x. x }, (record { pos = 20; ty = Syntax.tyRef Syntax.erased Syntax.mut OfStation.named; ref = λ x. x }, (record { pos = 21; ty = Syntax.tyRef Syntax.erased Syntax.mut (Syntax.tyInt Syntax.w64); ref = λ x. x }, (record { pos = 4; ty = Syntax.tyRef (Syntax.named 3) Syntax.imm (Syntax.tyInt Syntax.w8); ref = λ x. x }, (record { pos = 6; st = List.[]; d = 0; at = λ x. x }, tt))))) (m32 (c .before .before) (c .before .carry-arg3 .given)) (c .carry)
+      abbrev pub After-execute·gave :
+          (c : After-execute) →
+          s47 .gives (m32 (c .before .before) (c .before .execute-arg3 .given))
+      After-execute·gave = λ c. Called.given ps·2 r·2 (claims· .5) T49 (record { pos = 18; ty = Syntax.tyRef Syntax.erased Syntax.mut OfOutput.named; ref = λ x. x }, (record { pos = 20; ty = Syntax.tyRef Syntax.erased Syntax.mut OfStation.named; ref = λ x. x }, (record { pos = 21; ty = Syntax.tyRef Syntax.erased Syntax.mut (Syntax.tyInt Syntax.w64); ref = λ x. x }, (record { pos = 4; ty = Syntax.tyRef (Syntax.named 3) Syntax.imm (Syntax.tyInt Syntax.w8); ref = λ x. x }, (record { pos = 6; st = List.[]; d = 0; at = λ x. x }, tt))))) (m32 (c .before .before) (c .before .execute-arg3 .given)) (c .execute)
 
       abbrev pub m34 :
-          (before : After-carry-arg3) →
-          (given : s47 .gives (m32 (before .before) (before .carry-arg3 .given))) →
+          (before : After-execute-arg3) →
+          (given : s47 .gives (m32 (before .before) (before .execute-arg3 .given))) →
           Typed.Mo T51
       m34 = λ before given. s48 (m33 before given)
 
       abbrev pub m35 :
-          (before : After-carry-arg3) →
-          (given : s47 .gives (m32 (before .before) (before .carry-arg3 .given))) →
+          (before : After-execute-arg3) →
+          (given : s47 .gives (m32 (before .before) (before .execute-arg3 .given))) →
           Typed.Mo T52
       m35 = λ before given. s49 (m34 before given)
 
       abbrev pub m36 :
-          (before : After-carry) →
-          (given : s51 .gives (m35 (before .before) (After-carry·gave before))) →
+          (before : After-execute) →
+          (given : s51 .gives (m35 (before .before) (After-execute·gave before))) →
           Typed.Mo T54
-      m36 = λ before given. s51 .next (m35 (before .before) (After-carry·gave before)) given
+      m36 = λ before given. s51 .next (m35 (before .before) (After-execute·gave before)) given
 
-      module _ (before· : After-carry) where
+      module _ (before· : After-execute) where
         pub record After-outputs·own : Type 0 where
-          pub given : s51 .gives (m35 (before· .before) (After-carry·gave before·))
+          pub given : s51 .gives (m35 (before· .before) (After-execute·gave before·))
 
       pub record After-outputs : Type 0 where
-        pub before : After-carry
+        pub before : After-execute
         pub outputs : After-outputs·own before
 
       abbrev pub m37 :
@@ -1690,16 +1691,16 @@ module _ (claims· : Claims) where
 
       module _ (panel-sound-requires : Need-panel-sound-requires) (same-length : Need-same-length)
           (same-length-2 : Need-same-length-2) (returns : Need-returns)
-          (decide-requires : Need-decide-requires) (carry-requires : Need-carry-requires)
+          (decide-requires : Need-decide-requires) (execute-requires : Need-execute-requires)
           (same-length-3 : Need-same-length-3) (same-length-4 : Need-same-length-4)
           (returns-2 : Need-returns-2) where
         lay4 :
-            (c : After-carry) → at19 (W0
+            (c : After-execute) → at19 (W0
             (c .before .before .before .before .before .before .before .before .before .before
             .before .before .before .κs)
             (c .before .before .before .before .before .before .before .before .before .before
-            .before .before .before .args)) (m33 (c .before) (After-carry·gave c))
-        lay4 = λ c. (Path'.refl, λ g. (Path'.refl, λ g'. (Path'.refl, ((MutSlice.fix-len (Row.get 1 (T60 .locals) (m38 record { before = record { before = c .before; carry = c .carry }; outputs = record { given = g } } g') .ptr) (Row.get 1 (T60 .locals) (m38 record { before = record { before = c .before; carry = c .carry }; outputs = record { given = g } } g') .name) (Row.get 1 (T60 .locals) (m38 record { before = record { before = c .before; carry = c .carry }; outputs = record { given = g } } g') .now) (dens (c .before .before .before .before .before .before .before .before .before .before .before .before .before .κs) (c .before .before .before .before .before .before .before .before .before .before .before .before .before .args) .0 .now) (same-length-3 record { before = record { before = record { before = c .before; carry = c .carry }; outputs = record { given = g } }; stations = record { given = g' } }), (MutSlice.fix-len (Row.get 2 (T60 .locals) (m38 record { before = record { before = c .before; carry = c .carry }; outputs = record { given = g } } g') .ptr) (Row.get 2 (T60 .locals) (m38 record { before = record { before = c .before; carry = c .carry }; outputs = record { given = g } } g') .name) (Row.get 2 (T60 .locals) (m38 record { before = record { before = c .before; carry = c .carry }; outputs = record { given = g } } g') .now) (dens (c .before .before .before .before .before .before .before .before .before .before .before .before .before .κs) (c .before .before .before .before .before .before .before .before .before .before .before .before .before .args) .1 .0 .now) (same-length-4 record { before = record { before = record { before = c .before; carry = c .carry }; outputs = record { given = g } }; stations = record { given = g' } }), (Path'.refl, (Path'.refl, tt)))), returns-2 record { before = record { before = record { before = c .before; carry = c .carry }; outputs = record { given = g } }; stations = record { given = g' } }))))
+            .before .before .before .args)) (m33 (c .before) (After-execute·gave c))
+        lay4 = λ c. (Path'.refl, λ g. (Path'.refl, λ g'. (Path'.refl, ((MutSlice.fix-len (Row.get 1 (T60 .locals) (m38 record { before = record { before = c .before; execute = c .execute }; outputs = record { given = g } } g') .ptr) (Row.get 1 (T60 .locals) (m38 record { before = record { before = c .before; execute = c .execute }; outputs = record { given = g } } g') .name) (Row.get 1 (T60 .locals) (m38 record { before = record { before = c .before; execute = c .execute }; outputs = record { given = g } } g') .now) (dens (c .before .before .before .before .before .before .before .before .before .before .before .before .before .κs) (c .before .before .before .before .before .before .before .before .before .before .before .before .before .args) .0 .now) (same-length-3 record { before = record { before = record { before = c .before; execute = c .execute }; outputs = record { given = g } }; stations = record { given = g' } }), (MutSlice.fix-len (Row.get 2 (T60 .locals) (m38 record { before = record { before = c .before; execute = c .execute }; outputs = record { given = g } } g') .ptr) (Row.get 2 (T60 .locals) (m38 record { before = record { before = c .before; execute = c .execute }; outputs = record { given = g } } g') .name) (Row.get 2 (T60 .locals) (m38 record { before = record { before = c .before; execute = c .execute }; outputs = record { given = g } } g') .now) (dens (c .before .before .before .before .before .before .before .before .before .before .before .before .before .κs) (c .before .before .before .before .before .before .before .before .before .before .before .before .before .args) .1 .0 .now) (same-length-4 record { before = record { before = record { before = c .before; execute = c .execute }; outputs = record { given = g } }; stations = record { given = g' } }), (Path'.refl, (Path'.refl, tt)))), returns-2 record { before = record { before = record { before = c .before; execute = c .execute }; outputs = record { given = g } }; stations = record { given = g' } }))))
 
         lay3 :
             (c : After-decide) →
@@ -1708,7 +1709,7 @@ module _ (claims· : Claims) where
             (c .before .before .before .before .before .before .before .before .before .κs)
             (c .before .before .before .before .before .before .before .before .before .args))
             (m23 (c .before) (After-decide·gave c))
-        lay3 = λ c. λ g. (Path'.refl, λ g'. (Path'.refl, λ g''. (carry-requires record { before = record { before = record { before = record { before = c .before; decide = c .decide }; carry-arg = record { given = g } }; carry-arg2 = record { given = g' } }; carry-arg3 = record { given = g'' } }, λ g'3. lay4 record { before = record { before = record { before = record { before = record { before = c .before; decide = c .decide }; carry-arg = record { given = g } }; carry-arg2 = record { given = g' } }; carry-arg3 = record { given = g'' } }; carry = Called.called ps·2 r·2 (claims· .5) T49 (record { pos = 18; ty = Syntax.tyRef Syntax.erased Syntax.mut OfOutput.named; ref = λ x. x }, (record { pos = 20; ty = Syntax.tyRef Syntax.erased Syntax.mut OfStation.named; ref = λ x. x }, (record { pos = 21; ty = Syntax.tyRef Syntax.erased Syntax.mut (Syntax.tyInt Syntax.w64); ref = λ x. x }, (record { pos = 4; ty = Syntax.tyRef (Syntax.named 3) Syntax.imm (Syntax.tyInt Syntax.w8); ref = λ x. x }, (record { pos = 6; st = List.[]; d = 0; at = λ x. x }, tt))))) (m32 record { before = record { before = record { before = c .before; decide = c .decide }; carry-arg = record { given = g } }; carry-arg2 = record { given = g' } } g'') g'3 })))
+        lay3 = λ c. λ g. (Path'.refl, λ g'. (Path'.refl, λ g''. (execute-requires record { before = record { before = record { before = record { before = c .before; decide = c .decide }; execute-arg = record { given = g } }; execute-arg2 = record { given = g' } }; execute-arg3 = record { given = g'' } }, λ g'3. lay4 record { before = record { before = record { before = record { before = record { before = c .before; decide = c .decide }; execute-arg = record { given = g } }; execute-arg2 = record { given = g' } }; execute-arg3 = record { given = g'' } }; execute = Called.called ps·2 r·2 (claims· .5) T49 (record { pos = 18; ty = Syntax.tyRef Syntax.erased Syntax.mut OfOutput.named; ref = λ x. x }, (record { pos = 20; ty = Syntax.tyRef Syntax.erased Syntax.mut OfStation.named; ref = λ x. x }, (record { pos = 21; ty = Syntax.tyRef Syntax.erased Syntax.mut (Syntax.tyInt Syntax.w64); ref = λ x. x }, (record { pos = 4; ty = Syntax.tyRef (Syntax.named 3) Syntax.imm (Syntax.tyInt Syntax.w8); ref = λ x. x }, (record { pos = 6; st = List.[]; d = 0; at = λ x. x }, tt))))) (m32 record { before = record { before = record { before = c .before; decide = c .decide }; execute-arg = record { given = g } }; execute-arg2 = record { given = g' } } g'') g'3 })))
 
         lay2 :
             (c : Else1) →
@@ -1754,7 +1755,18 @@ module _ (claims· : Claims) where
             (claims· .0)
             (claims· .1)
             "panel::panel_sound")
-            (known1 : Plain.Known 𝓤 H A W 𝓣 3 ps·1 r·1 (claims· .2) (claims· .3) "tables::decide")
+            (known1 : Plain.Known
+            𝓤
+            H
+            A
+            W
+            𝓣
+            3
+            ps·1
+            r·1
+            (claims· .2)
+            (claims· .3)
+            "panel_tables::decide")
             (known2 : Plain.Known
             𝓤
             H
@@ -1766,7 +1778,7 @@ module _ (claims· : Claims) where
             r·2
             (claims· .4)
             (claims· .5)
-            "panel::carry") where
+            "panel::execute") where
           pub spec :
               Statement.Triple
               𝓤

@@ -73,7 +73,7 @@ abbrev b1 : Syntax.Body
 b1 = Syntax.assign (Syntax.place 6 List.[]) (Syntax.rvOpd (Syntax.copy (Syntax.place 2 (List._∷_ (Syntax.field 1) List.[]))))
 
 abbrev b2 : Syntax.Body
-b2 = Syntax.call "station::counts_sound" (List._∷_ (Syntax.copy (Syntax.place 5 List.[])) (List._∷_ (Syntax.copy (Syntax.place 6 List.[])) List.[])) (Syntax.place 4 List.[])
+b2 = Syntax.call "station_judging::counts_sound" (List._∷_ (Syntax.copy (Syntax.place 5 List.[])) (List._∷_ (Syntax.copy (Syntax.place 6 List.[])) List.[])) (Syntax.place 4 List.[])
 
 abbrev b3 : Syntax.Body
 b3 = Syntax.assign (Syntax.place 7 List.[]) (Syntax.op1 Syntax.bitNot (Syntax.copy (Syntax.place 4 List.[])))
@@ -94,7 +94,7 @@ abbrev b8 : Syntax.Body
 b8 = Syntax.cond (Syntax.copy (Syntax.place 7 List.[])) b6 b7
 
 abbrev b9 : Syntax.Body
-b9 = Syntax.call "tables::outputs_sound" (List._∷_ (Syntax.copy (Syntax.place 1 List.[])) (List._∷_ (Syntax.copy (Syntax.place 3 List.[])) List.[])) (Syntax.place 4 List.[])
+b9 = Syntax.call "panel_tables::outputs_sound" (List._∷_ (Syntax.copy (Syntax.place 1 List.[])) (List._∷_ (Syntax.copy (Syntax.place 3 List.[])) List.[])) (Syntax.place 4 List.[])
 
 abbrev b10 : Syntax.Body
 b10 = Syntax.assign (Syntax.place 7 List.[]) (Syntax.op1 Syntax.bitNot (Syntax.copy (Syntax.place 4 List.[])))
@@ -115,7 +115,7 @@ abbrev b15 : Syntax.Body
 b15 = Syntax.cond (Syntax.copy (Syntax.place 7 List.[])) b13 b14
 
 abbrev b16 : Syntax.Body
-b16 = Syntax.call "tables::stations_sound" (List._∷_ (Syntax.copy (Syntax.place 2 List.[])) List.[]) (Syntax.place 0 List.[])
+b16 = Syntax.call "panel_tables::stations_sound" (List._∷_ (Syntax.copy (Syntax.place 2 List.[])) List.[]) (Syntax.place 0 List.[])
 
 abbrev b17 : Syntax.Body
 b17 = Syntax.return
@@ -329,7 +329,7 @@ module _ (claims· : Claims) where
       (Post· : (κs : Lifetimes.Lfts 2) → (a : Kinds.Dens κs ps) → Kinds.Plain 2 ps r κs) where
     module _ (M : Type 1) where
       abbrev pub Closed : Type 2
-      Closed = (𝓤 : URA.URA M) (H : Wp.Heap 𝓤) (A : Atoms.Atoms 𝓤) (W : Kit.Given 𝓤 H A) (𝓣 : Wp.Tables 𝓤 H) (known0 : Plain.Known 𝓤 H A W 𝓣 0 ps·0 r·0 (claims· .0) (claims· .1) "station::counts_sound") (known1 : Plain.Known 𝓤 H A W 𝓣 1 ps·1 r·1 (claims· .2) (claims· .3) "tables::outputs_sound") (known2 : Plain.Known 𝓤 H A W 𝓣 1 ps·2 r·2 (claims· .4) (claims· .5) "tables::stations_sound") → Statement.Triple 𝓤 (Wp.WpFn 𝓤 H (𝓣 .C) (𝓣 .Λ) (Function.fnOf 2 ps r xs m hs body)) (Function.plainOf 𝓤 H A 2 ps r Pre· Post·)
+      Closed = (𝓤 : URA.URA M) (H : Wp.Heap 𝓤) (A : Atoms.Atoms 𝓤) (W : Kit.Given 𝓤 H A) (𝓣 : Wp.Tables 𝓤 H) (known0 : Plain.Known 𝓤 H A W 𝓣 0 ps·0 r·0 (claims· .0) (claims· .1) "station_judging::counts_sound") (known1 : Plain.Known 𝓤 H A W 𝓣 1 ps·1 r·1 (claims· .2) (claims· .3) "panel_tables::outputs_sound") (known2 : Plain.Known 𝓤 H A W 𝓣 1 ps·2 r·2 (claims· .4) (claims· .5) "panel_tables::stations_sound") → Statement.Triple 𝓤 (Wp.WpFn 𝓤 H (𝓣 .C) (𝓣 .Λ) (Function.fnOf 2 ps r xs m hs body)) (Function.plainOf 𝓤 H A 2 ps r Pre· Post·)
 
     module _ where
       abbrev at0 : Typed.TF T12 O1
@@ -425,7 +425,7 @@ module _ (claims· : Claims) where
       module _ {M : Type 1} (𝓤 : URA.URA M) (H : Wp.Heap 𝓤) (A : Atoms.Atoms 𝓤)
           (W : Kit.Given 𝓤 H A) (𝓣 : Wp.Tables 𝓤 H) where
         abbrev Knowns : Type 1
-        Knowns = Plain.Known 𝓤 H A W 𝓣 0 ps·0 r·0 (claims· .0) (claims· .1) "station::counts_sound" × Plain.Known 𝓤 H A W 𝓣 1 ps·1 r·1 (claims· .2) (claims· .3) "tables::outputs_sound" × Plain.Known 𝓤 H A W 𝓣 1 ps·2 r·2 (claims· .4) (claims· .5) "tables::stations_sound"
+        Knowns = Plain.Known 𝓤 H A W 𝓣 0 ps·0 r·0 (claims· .0) (claims· .1) "station_judging::counts_sound" × Plain.Known 𝓤 H A W 𝓣 1 ps·1 r·1 (claims· .2) (claims· .3) "panel_tables::outputs_sound" × Plain.Known 𝓤 H A W 𝓣 1 ps·2 r·2 (claims· .4) (claims· .5) "panel_tables::stations_sound"
 
       module _ (κs : Lifetimes.Lfts 2) (qs : Lifetimes.Shares 2) where
         abbrev G0 : Row.Cx
@@ -570,7 +570,7 @@ module _ (claims· : Claims) where
           d17 = Typed.g-pre 𝓤 H A W 𝓣 E G22 G23 b17 Δ0 (Typed.pass T22 T23 s19) at16 (Scalar.g-room 𝓤 H A W E G22 3 (Syntax.tyInt Syntax.w64) (Scalar.room-sc 𝓤 H A W (Row.sInt Syntax.w64))) d16
 
           d18 : Typed.Typed 𝓤 H A 𝓣 E G16 b18 Δ0 at18
-          d18 = Typed.s-seq 𝓤 H A W 𝓣 E G16 G22 b16 b17 Δ0 (Typed.both s18) at17 (Plain.t-call-plain 𝓤 H A W 𝓣 1 ps·2 r·2 (claims· .4) (claims· .5) "tables::stations_sound" (known .2) E (λ pos β. β) G16 (record { pos = 2; ty = Syntax.tyRef (Syntax.named 1) Syntax.imm OfStation.named; ref = λ x. x }, tt) 0 (List._∷_ 1 List.[]) (Call.sub-id 𝓤 H A W (G16 .slots)) (ShrSlice.spares-sslice 𝓤 H A W (OfStation.row) (Syntax.tyRef (Syntax.named 1) Syntax.imm OfStation.named) 1, Shared.reads-sslice 𝓤 H A W (OfStation.row) (Syntax.tyRef (Syntax.named 1) Syntax.imm OfStation.named) 1, Path'.refl, tt) (Reads.room-gone 𝓤 H A Syntax.tyBool) (tt, tt) Path'.refl) d17
+          d18 = Typed.s-seq 𝓤 H A W 𝓣 E G16 G22 b16 b17 Δ0 (Typed.both s18) at17 (Plain.t-call-plain 𝓤 H A W 𝓣 1 ps·2 r·2 (claims· .4) (claims· .5) "panel_tables::stations_sound" (known .2) E (λ pos β. β) G16 (record { pos = 2; ty = Syntax.tyRef (Syntax.named 1) Syntax.imm OfStation.named; ref = λ x. x }, tt) 0 (List._∷_ 1 List.[]) (Call.sub-id 𝓤 H A W (G16 .slots)) (ShrSlice.spares-sslice 𝓤 H A W (OfStation.row) (Syntax.tyRef (Syntax.named 1) Syntax.imm OfStation.named) 1, Shared.reads-sslice 𝓤 H A W (OfStation.row) (Syntax.tyRef (Syntax.named 1) Syntax.imm OfStation.named) 1, Path'.refl, tt) (Reads.room-gone 𝓤 H A Syntax.tyBool) (tt, tt) Path'.refl) d17
 
           d19 : Typed.Typed 𝓤 H A 𝓣 E G15 b19 Δ0 at19
           d19 = Typed.t-seq 𝓤 H A W 𝓣 E G15 G16 b15 b18 Δ0 at15 at18 d15 d18
@@ -579,7 +579,7 @@ module _ (claims· : Claims) where
           d20 = Typed.s-seq 𝓤 H A W 𝓣 E G14 G15 b10 b19 Δ0 (Typed.ask s12) at19 (Scalar.t-op1 𝓤 H A W E 𝓣 G14 Syntax.bitNot (Scalar.oAt 4 Syntax.tyBool (Row.valS Row.sBool)) 7 (Rows.sc-here Row.sBool) Syntax.tyBool (Row.valS Row.sBool) (Row.sBool .of) (Scalar.reads-sc 𝓤 H A W Row.sBool, Path'.refl) (Reads.room-gone 𝓤 H A Syntax.tyBool) (Scalar.holds-sc 𝓤 H A W Row.sBool) Path'.refl (λ u. Path'.refl) λ u. tt) d19
 
           d21 : Typed.Typed 𝓤 H A 𝓣 E G8 b21 Δ0 at21
-          d21 = Typed.s-seq 𝓤 H A W 𝓣 E G8 G14 b9 b20 Δ0 (Typed.both s11) at20 (Plain.t-call-plain 𝓤 H A W 𝓣 1 ps·1 r·1 (claims· .2) (claims· .3) "tables::outputs_sound" (known .1) E (λ pos β. β) G8 (record { pos = 1; ty = Syntax.tyRef (Syntax.named 0) Syntax.imm OfOutput.named; ref = λ x. x }, (Num.vAt 3 λ x. x, tt)) 4 (List._∷_ 0 List.[]) (Call.sub-id 𝓤 H A W (G8 .slots)) (ShrSlice.spares-sslice 𝓤 H A W (OfOutput.row) (Syntax.tyRef (Syntax.named 0) Syntax.imm OfOutput.named) 0, Shared.reads-sslice 𝓤 H A W (OfOutput.row) (Syntax.tyRef (Syntax.named 0) Syntax.imm OfOutput.named) 0, Path'.refl, ((Scalar.reads-sc 𝓤 H A W (Row.sInt Syntax.w64), Path'.refl), tt)) (Reads.room-gone 𝓤 H A Syntax.tyBool) (tt, tt) Path'.refl) d20
+          d21 = Typed.s-seq 𝓤 H A W 𝓣 E G8 G14 b9 b20 Δ0 (Typed.both s11) at20 (Plain.t-call-plain 𝓤 H A W 𝓣 1 ps·1 r·1 (claims· .2) (claims· .3) "panel_tables::outputs_sound" (known .1) E (λ pos β. β) G8 (record { pos = 1; ty = Syntax.tyRef (Syntax.named 0) Syntax.imm OfOutput.named; ref = λ x. x }, (Num.vAt 3 λ x. x, tt)) 4 (List._∷_ 0 List.[]) (Call.sub-id 𝓤 H A W (G8 .slots)) (ShrSlice.spares-sslice 𝓤 H A W (OfOutput.row) (Syntax.tyRef (Syntax.named 0) Syntax.imm OfOutput.named) 0, Shared.reads-sslice 𝓤 H A W (OfOutput.row) (Syntax.tyRef (Syntax.named 0) Syntax.imm OfOutput.named) 0, Path'.refl, ((Scalar.reads-sc 𝓤 H A W (Row.sInt Syntax.w64), Path'.refl), tt)) (Reads.room-gone 𝓤 H A Syntax.tyBool) (tt, tt) Path'.refl) d20
 
           d22 : Typed.Typed 𝓤 H A 𝓣 E G7 b22 Δ0 at22
           d22 = Typed.t-seq 𝓤 H A W 𝓣 E G7 G8 b8 b21 Δ0 at7 at21 d7 d21
@@ -594,7 +594,7 @@ module _ (claims· : Claims) where
           d25 = Typed.g-pre 𝓤 H A W 𝓣 E G4 G5 b23 Δ0 (Typed.pass T4 T5 s3) at24 (Scalar.g-room 𝓤 H A W E G4 5 (Syntax.tyInt Syntax.w64) (Scalar.room-sc 𝓤 H A W (Row.sInt Syntax.w64))) d24
 
           d26 : Typed.Typed 𝓤 H A 𝓣 E G3 b24 Δ0 at26
-          d26 = Typed.s-seq 𝓤 H A W 𝓣 E G3 G4 b2 b23 Δ0 (Typed.both s2) at25 (Plain.t-call-plain 𝓤 H A W 𝓣 0 ps·0 r·0 (claims· .0) (claims· .1) "station::counts_sound" (known .0) E (λ pos β. β) G3 (Num.vAt 5 λ x. x, (Num.vAt 6 λ x. x, tt)) 4 List.[] (Call.sub-id 𝓤 H A W (G3 .slots)) ((Scalar.reads-sc 𝓤 H A W (Row.sInt Syntax.w64), Path'.refl), ((Scalar.reads-sc 𝓤 H A W (Row.sInt Syntax.w64), Path'.refl), tt)) (Reads.room-gone 𝓤 H A Syntax.tyBool) tt Path'.refl) d25
+          d26 = Typed.s-seq 𝓤 H A W 𝓣 E G3 G4 b2 b23 Δ0 (Typed.both s2) at25 (Plain.t-call-plain 𝓤 H A W 𝓣 0 ps·0 r·0 (claims· .0) (claims· .1) "station_judging::counts_sound" (known .0) E (λ pos β. β) G3 (Num.vAt 5 λ x. x, (Num.vAt 6 λ x. x, tt)) 4 List.[] (Call.sub-id 𝓤 H A W (G3 .slots)) ((Scalar.reads-sc 𝓤 H A W (Row.sInt Syntax.w64), Path'.refl), ((Scalar.reads-sc 𝓤 H A W (Row.sInt Syntax.w64), Path'.refl), tt)) (Reads.room-gone 𝓤 H A Syntax.tyBool) tt Path'.refl) d25
 
           d27 : Typed.Typed 𝓤 H A 𝓣 E G2 b25 Δ0 at27
           d27 = Typed.s-seq 𝓤 H A W 𝓣 E G2 G3 b1 b24 Δ0 (Typed.pass T2 T3 s1) at26 (Scalar.t-use 𝓤 H A W E 𝓣 G2 (Scalar.oFld 2 (List._∷_ (Syntax.field 1) List.[]) (Syntax.tyInt Syntax.w64) 8 Shared.lenV) 6 (Rows.sc-here (Row.sInt Syntax.w64)) (Syntax.tyInt Syntax.w64) (Row.valS (Row.sInt Syntax.w64)) (Row.sInt Syntax.w64 .of) (Shared.reads-sslice-len 𝓤 H A W (OfStation.row) (Syntax.tyRef (Syntax.named 1) Syntax.imm OfStation.named) 1 8 Path'.refl, Path'.refl) (Reads.room-gone 𝓤 H A (Syntax.tyInt Syntax.w64)) (Scalar.holds-sc 𝓤 H A W (Row.sInt Syntax.w64)) Path'.refl (λ u. Path'.refl) λ u. tt) d26
@@ -880,7 +880,7 @@ module _ (claims· : Claims) where
             r·0
             (claims· .0)
             (claims· .1)
-            "station::counts_sound")
+            "station_judging::counts_sound")
             (known1 : Plain.Known
             𝓤
             H
@@ -892,7 +892,7 @@ module _ (claims· : Claims) where
             r·1
             (claims· .2)
             (claims· .3)
-            "tables::outputs_sound")
+            "panel_tables::outputs_sound")
             (known2 : Plain.Known
             𝓤
             H
@@ -904,7 +904,7 @@ module _ (claims· : Claims) where
             r·2
             (claims· .4)
             (claims· .5)
-            "tables::stations_sound") where
+            "panel_tables::stations_sound") where
           pub spec :
               Statement.Triple
               𝓤

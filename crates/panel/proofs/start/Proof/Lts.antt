@@ -90,7 +90,7 @@ abbrev b1 : Syntax.Body
 b1 = Syntax.assign (Syntax.place 6 List.[]) (Syntax.rvOpd (Syntax.copy (Syntax.place 2 (List._∷_ (Syntax.field 1) List.[]))))
 
 abbrev b2 : Syntax.Body
-b2 = Syntax.call "station::counts_sound" (List._∷_ (Syntax.copy (Syntax.place 5 List.[])) (List._∷_ (Syntax.copy (Syntax.place 6 List.[])) List.[])) (Syntax.place 4 List.[])
+b2 = Syntax.call "station_judging::counts_sound" (List._∷_ (Syntax.copy (Syntax.place 5 List.[])) (List._∷_ (Syntax.copy (Syntax.place 6 List.[])) List.[])) (Syntax.place 4 List.[])
 
 abbrev b3 : Syntax.Body
 b3 = Syntax.assign (Syntax.place 7 List.[]) (Syntax.op1 Syntax.bitNot (Syntax.copy (Syntax.place 4 List.[])))
@@ -117,7 +117,7 @@ abbrev b10 : Syntax.Body
 b10 = Syntax.assign (Syntax.place 10 List.[]) (Syntax.aggregate (List._∷_ (Syntax.copy (Syntax.place 9 List.[])) (List._∷_ (Syntax.copy (Syntax.place 1 (List._∷_ (Syntax.field 1) List.[]))) List.[])))
 
 abbrev b11 : Syntax.Body
-b11 = Syntax.call "tables::fresh_outputs" (List._∷_ (Syntax.copy (Syntax.place 10 List.[])) List.[]) (Syntax.place 8 List.[])
+b11 = Syntax.call "panel_tables::fresh_outputs" (List._∷_ (Syntax.copy (Syntax.place 10 List.[])) List.[]) (Syntax.place 8 List.[])
 
 abbrev b12 : Syntax.Body
 b12 = Syntax.assign (Syntax.place 11 List.[]) (Syntax.addrOf (Syntax.place 2 (List._∷_ (Syntax.field 0) (List._∷_ (Syntax.deref OfStation.spelt) List.[]))))
@@ -126,7 +126,7 @@ abbrev b13 : Syntax.Body
 b13 = Syntax.assign (Syntax.place 12 List.[]) (Syntax.aggregate (List._∷_ (Syntax.copy (Syntax.place 11 List.[])) (List._∷_ (Syntax.copy (Syntax.place 2 (List._∷_ (Syntax.field 1) List.[]))) List.[])))
 
 abbrev b14 : Syntax.Body
-b14 = Syntax.call "tables::fresh_stations" (List._∷_ (Syntax.copy (Syntax.place 12 List.[])) List.[]) (Syntax.place 8 List.[])
+b14 = Syntax.call "panel_tables::fresh_stations" (List._∷_ (Syntax.copy (Syntax.place 12 List.[])) List.[]) (Syntax.place 8 List.[])
 
 abbrev b15 : Syntax.Body
 b15 = Syntax.assign (Syntax.place 3 (List._∷_ (Syntax.deref (Syntax.tyInt Syntax.w64)) List.[])) (Syntax.rvOpd (Syntax.int Syntax.w64 0))
@@ -385,7 +385,7 @@ module _ (claims· : Claims) where
       (Post· : (κs : Lifetimes.Lfts 3) → (a : Kinds.Dens κs ps) → Kinds.Plain 3 ps r κs) where
     module _ (M : Type 1) where
       abbrev pub Closed : Type 2
-      Closed = (𝓤 : URA.URA M) (H : Wp.Heap 𝓤) (A : Atoms.Atoms 𝓤) (W : Kit.Given 𝓤 H A) (𝓣 : Wp.Tables 𝓤 H) (known0 : Plain.Known 𝓤 H A W 𝓣 0 ps·0 r·0 (claims· .0) (claims· .1) "station::counts_sound") (known1 : Plain.Known 𝓤 H A W 𝓣 1 ps·1 r·1 (claims· .2) (claims· .3) "tables::fresh_outputs") (known2 : Plain.Known 𝓤 H A W 𝓣 1 ps·2 r·2 (claims· .4) (claims· .5) "tables::fresh_stations") → Statement.Triple 𝓤 (Wp.WpFn 𝓤 H (𝓣 .C) (𝓣 .Λ) (Function.fnOf 3 ps r xs m hs body)) (Function.plainOf 𝓤 H A 3 ps r Pre· Post·)
+      Closed = (𝓤 : URA.URA M) (H : Wp.Heap 𝓤) (A : Atoms.Atoms 𝓤) (W : Kit.Given 𝓤 H A) (𝓣 : Wp.Tables 𝓤 H) (known0 : Plain.Known 𝓤 H A W 𝓣 0 ps·0 r·0 (claims· .0) (claims· .1) "station_judging::counts_sound") (known1 : Plain.Known 𝓤 H A W 𝓣 1 ps·1 r·1 (claims· .2) (claims· .3) "panel_tables::fresh_outputs") (known2 : Plain.Known 𝓤 H A W 𝓣 1 ps·2 r·2 (claims· .4) (claims· .5) "panel_tables::fresh_stations") → Statement.Triple 𝓤 (Wp.WpFn 𝓤 H (𝓣 .C) (𝓣 .Λ) (Function.fnOf 3 ps r xs m hs body)) (Function.plainOf 𝓤 H A 3 ps r Pre· Post·)
 
     module _ where
       abbrev at0 : Typed.TF T11 O1
@@ -493,7 +493,7 @@ module _ (claims· : Claims) where
       module _ {M : Type 1} (𝓤 : URA.URA M) (H : Wp.Heap 𝓤) (A : Atoms.Atoms 𝓤)
           (W : Kit.Given 𝓤 H A) (𝓣 : Wp.Tables 𝓤 H) where
         abbrev Knowns : Type 1
-        Knowns = Plain.Known 𝓤 H A W 𝓣 0 ps·0 r·0 (claims· .0) (claims· .1) "station::counts_sound" × Plain.Known 𝓤 H A W 𝓣 1 ps·1 r·1 (claims· .2) (claims· .3) "tables::fresh_outputs" × Plain.Known 𝓤 H A W 𝓣 1 ps·2 r·2 (claims· .4) (claims· .5) "tables::fresh_stations"
+        Knowns = Plain.Known 𝓤 H A W 𝓣 0 ps·0 r·0 (claims· .0) (claims· .1) "station_judging::counts_sound" × Plain.Known 𝓤 H A W 𝓣 1 ps·1 r·1 (claims· .2) (claims· .3) "panel_tables::fresh_outputs" × Plain.Known 𝓤 H A W 𝓣 1 ps·2 r·2 (claims· .4) (claims· .5) "panel_tables::fresh_stations"
 
       module _ (κs : Lifetimes.Lfts 3) (qs : Lifetimes.Shares 3) where
         abbrev g9 : List.List Row.Entry
@@ -668,7 +668,7 @@ module _ (claims· : Claims) where
           d13 = Typed.g-pre 𝓤 H A W 𝓣 E G24 G25 b19 Δ0 (Typed.pass T24 T25 s22) at12 (Scalar.g-room 𝓤 H A W E G24 8 Syntax.tyUnit (Scalar.room-sc 𝓤 H A W Row.sUnit)) d12
 
           d14 : Typed.Typed 𝓤 H A 𝓣 E G23 b20 Δ0 at14
-          d14 = Typed.s-seq 𝓤 H A W 𝓣 E G23 G24 b14 b19 Δ0 (Typed.both s21) at13 (Plain.t-call-plain 𝓤 H A W 𝓣 1 ps·2 r·2 (claims· .4) (claims· .5) "tables::fresh_stations" (known .2) E (λ pos β. β) G23 (record { pos = 12; ty = Syntax.tyRef Syntax.erased Syntax.mut OfStation.named; ref = λ x. x }, tt) 8 (List._∷_ 4 List.[]) (Call.sub-id 𝓤 H A W (G23 .slots)) (Reads.as-is 𝓤 H A (Mut.mslice (OfStation.row) (Syntax.tyRef Syntax.erased Syntax.mut OfStation.named) 4), Mut.reads-mslice 𝓤 H A W (OfStation.row) (Syntax.tyRef Syntax.erased Syntax.mut OfStation.named) 4, Path'.refl, tt) (Reads.room-gone 𝓤 H A Syntax.tyUnit) (tt, tt) Path'.refl) d13
+          d14 = Typed.s-seq 𝓤 H A W 𝓣 E G23 G24 b14 b19 Δ0 (Typed.both s21) at13 (Plain.t-call-plain 𝓤 H A W 𝓣 1 ps·2 r·2 (claims· .4) (claims· .5) "panel_tables::fresh_stations" (known .2) E (λ pos β. β) G23 (record { pos = 12; ty = Syntax.tyRef Syntax.erased Syntax.mut OfStation.named; ref = λ x. x }, tt) 8 (List._∷_ 4 List.[]) (Call.sub-id 𝓤 H A W (G23 .slots)) (Reads.as-is 𝓤 H A (Mut.mslice (OfStation.row) (Syntax.tyRef Syntax.erased Syntax.mut OfStation.named) 4), Mut.reads-mslice 𝓤 H A W (OfStation.row) (Syntax.tyRef Syntax.erased Syntax.mut OfStation.named) 4, Path'.refl, tt) (Reads.room-gone 𝓤 H A Syntax.tyUnit) (tt, tt) Path'.refl) d13
 
           d15 : Typed.Typed 𝓤 H A 𝓣 E G22 b21 Δ0 at15
           d15 = Typed.s-seq 𝓤 H A W 𝓣 E G22 G23 b13 b20 Δ0 (Typed.ask s20) at14 (Relend.t-sl-aggregate 𝓤 H A W E (OfStation.row) 𝓣 (Relend.asMut (OfStation.row)) G22 11 12 4 (Syntax.tyRef Syntax.erased Syntax.mut OfStation.named) (Syntax.tyRef Syntax.erased Syntax.mut OfStation.named) (λ x. x) (Scalar.oFld 2 (List._∷_ (Syntax.field 1) List.[]) (Syntax.tyInt Syntax.w64) 8 λ v. Shared.lenV (v .0)) (Reads.as-is 𝓤 H A (Relend.msptr (OfStation.row) (Syntax.tyRef Syntax.erased Syntax.mut OfStation.named) 4)) (Reads.room-gone 𝓤 H A (Syntax.tyStruct (List._∷_ 38 (List._∷_ 91 (List._∷_ 93 List.[]))) (Syntax.tcons (Syntax.tyRef Syntax.erased Syntax.mut OfStation.named) (Syntax.tcons (Syntax.tyInt Syntax.w64) Syntax.tnil)))) (Relend.reads-owed-len 𝓤 H A W (OfStation.row) (Syntax.tyRef (Syntax.named 1) Syntax.mut OfStation.named) 1 4 (Row.lease (κs .1 .0) (qs .1 .0)) 8 Path'.refl, Path'.refl) Path'.refl Path'.refl λ b o k. tt) d14
@@ -692,7 +692,7 @@ module _ (claims· : Claims) where
           d21 = Typed.g-pre 𝓤 H A W 𝓣 E G16 G17 b22 Δ0 (Typed.pass T16 T17 s14) at20 (Scalar.g-room 𝓤 H A W E G16 8 Syntax.tyUnit (Scalar.room-sc 𝓤 H A W Row.sUnit)) d20
 
           d22 : Typed.Typed 𝓤 H A 𝓣 E G15 b23 Δ0 at22
-          d22 = Typed.s-seq 𝓤 H A W 𝓣 E G15 G16 b11 b22 Δ0 (Typed.both s13) at21 (Plain.t-call-plain 𝓤 H A W 𝓣 1 ps·1 r·1 (claims· .2) (claims· .3) "tables::fresh_outputs" (known .1) E (λ pos β. β) G15 (record { pos = 10; ty = Syntax.tyRef Syntax.erased Syntax.mut OfOutput.named; ref = λ x. x }, tt) 8 (List._∷_ 3 List.[]) (Call.sub-id 𝓤 H A W (G15 .slots)) (Reads.as-is 𝓤 H A (Mut.mslice (OfOutput.row) (Syntax.tyRef Syntax.erased Syntax.mut OfOutput.named) 3), Mut.reads-mslice 𝓤 H A W (OfOutput.row) (Syntax.tyRef Syntax.erased Syntax.mut OfOutput.named) 3, Path'.refl, tt) (Reads.room-gone 𝓤 H A Syntax.tyUnit) (tt, tt) Path'.refl) d21
+          d22 = Typed.s-seq 𝓤 H A W 𝓣 E G15 G16 b11 b22 Δ0 (Typed.both s13) at21 (Plain.t-call-plain 𝓤 H A W 𝓣 1 ps·1 r·1 (claims· .2) (claims· .3) "panel_tables::fresh_outputs" (known .1) E (λ pos β. β) G15 (record { pos = 10; ty = Syntax.tyRef Syntax.erased Syntax.mut OfOutput.named; ref = λ x. x }, tt) 8 (List._∷_ 3 List.[]) (Call.sub-id 𝓤 H A W (G15 .slots)) (Reads.as-is 𝓤 H A (Mut.mslice (OfOutput.row) (Syntax.tyRef Syntax.erased Syntax.mut OfOutput.named) 3), Mut.reads-mslice 𝓤 H A W (OfOutput.row) (Syntax.tyRef Syntax.erased Syntax.mut OfOutput.named) 3, Path'.refl, tt) (Reads.room-gone 𝓤 H A Syntax.tyUnit) (tt, tt) Path'.refl) d21
 
           d23 : Typed.Typed 𝓤 H A 𝓣 E G14 b24 Δ0 at23
           d23 = Typed.s-seq 𝓤 H A W 𝓣 E G14 G15 b10 b23 Δ0 (Typed.ask s12) at22 (Relend.t-sl-aggregate 𝓤 H A W E (OfOutput.row) 𝓣 (Relend.asMut (OfOutput.row)) G14 9 10 3 (Syntax.tyRef Syntax.erased Syntax.mut OfOutput.named) (Syntax.tyRef Syntax.erased Syntax.mut OfOutput.named) (λ x. x) (Scalar.oFld 1 (List._∷_ (Syntax.field 1) List.[]) (Syntax.tyInt Syntax.w64) 8 λ v. Shared.lenV (v .0)) (Reads.as-is 𝓤 H A (Relend.msptr (OfOutput.row) (Syntax.tyRef Syntax.erased Syntax.mut OfOutput.named) 3)) (Reads.room-gone 𝓤 H A (Syntax.tyStruct (List._∷_ 38 (List._∷_ 91 (List._∷_ 93 List.[]))) (Syntax.tcons (Syntax.tyRef Syntax.erased Syntax.mut OfOutput.named) (Syntax.tcons (Syntax.tyInt Syntax.w64) Syntax.tnil)))) (Relend.reads-owed-len 𝓤 H A W (OfOutput.row) (Syntax.tyRef (Syntax.named 0) Syntax.mut OfOutput.named) 0 3 (Row.lease (κs .0) (qs .0)) 8 Path'.refl, Path'.refl) Path'.refl Path'.refl λ b o k. tt) d22
@@ -716,7 +716,7 @@ module _ (claims· : Claims) where
           d29 = Typed.g-pre 𝓤 H A W 𝓣 E G4 G5 b27 Δ0 (Typed.pass T4 T5 s3) at28 (Scalar.g-room 𝓤 H A W E G4 5 (Syntax.tyInt Syntax.w64) (Scalar.room-sc 𝓤 H A W (Row.sInt Syntax.w64))) d28
 
           d30 : Typed.Typed 𝓤 H A 𝓣 E G3 b28 Δ0 at30
-          d30 = Typed.s-seq 𝓤 H A W 𝓣 E G3 G4 b2 b27 Δ0 (Typed.both s2) at29 (Plain.t-call-plain 𝓤 H A W 𝓣 0 ps·0 r·0 (claims· .0) (claims· .1) "station::counts_sound" (known .0) E (λ pos β. β) G3 (Num.vAt 5 λ x. x, (Num.vAt 6 λ x. x, tt)) 4 List.[] (Call.sub-id 𝓤 H A W (G3 .slots)) ((Scalar.reads-sc 𝓤 H A W (Row.sInt Syntax.w64), Path'.refl), ((Scalar.reads-sc 𝓤 H A W (Row.sInt Syntax.w64), Path'.refl), tt)) (Reads.room-gone 𝓤 H A Syntax.tyBool) tt Path'.refl) d29
+          d30 = Typed.s-seq 𝓤 H A W 𝓣 E G3 G4 b2 b27 Δ0 (Typed.both s2) at29 (Plain.t-call-plain 𝓤 H A W 𝓣 0 ps·0 r·0 (claims· .0) (claims· .1) "station_judging::counts_sound" (known .0) E (λ pos β. β) G3 (Num.vAt 5 λ x. x, (Num.vAt 6 λ x. x, tt)) 4 List.[] (Call.sub-id 𝓤 H A W (G3 .slots)) ((Scalar.reads-sc 𝓤 H A W (Row.sInt Syntax.w64), Path'.refl), ((Scalar.reads-sc 𝓤 H A W (Row.sInt Syntax.w64), Path'.refl), tt)) (Reads.room-gone 𝓤 H A Syntax.tyBool) tt Path'.refl) d29
 
           d31 : Typed.Typed 𝓤 H A 𝓣 E G2 b29 Δ0 at31
           d31 = Typed.s-seq 𝓤 H A W 𝓣 E G2 G3 b1 b28 Δ0 (Typed.pass T2 T3 s1) at30 (Scalar.t-use 𝓤 H A W E 𝓣 G2 (Scalar.oFld 2 (List._∷_ (Syntax.field 1) List.[]) (Syntax.tyInt Syntax.w64) 8 Shared.lenV) 6 (Rows.sc-here (Row.sInt Syntax.w64)) (Syntax.tyInt Syntax.w64) (Row.valS (Row.sInt Syntax.w64)) (Row.sInt Syntax.w64 .of) (Mut.reads-mslice-len 𝓤 H A W (OfStation.row) (Syntax.tyRef (Syntax.named 1) Syntax.mut OfStation.named) 1 8 Path'.refl, Path'.refl) (Reads.room-gone 𝓤 H A (Syntax.tyInt Syntax.w64)) (Scalar.holds-sc 𝓤 H A W (Row.sInt Syntax.w64)) Path'.refl (λ u. Path'.refl) λ u. tt) d30
@@ -1037,7 +1037,7 @@ module _ (claims· : Claims) where
             r·0
             (claims· .0)
             (claims· .1)
-            "station::counts_sound")
+            "station_judging::counts_sound")
             (known1 : Plain.Known
             𝓤
             H
@@ -1049,7 +1049,7 @@ module _ (claims· : Claims) where
             r·1
             (claims· .2)
             (claims· .3)
-            "tables::fresh_outputs")
+            "panel_tables::fresh_outputs")
             (known2 : Plain.Known
             𝓤
             H
@@ -1061,7 +1061,7 @@ module _ (claims· : Claims) where
             r·2
             (claims· .4)
             (claims· .5)
-            "tables::fresh_stations") where
+            "panel_tables::fresh_stations") where
           pub spec :
               Statement.Triple
               𝓤

@@ -86,10 +86,10 @@ abbrev b3 : Syntax.Body
 b3 = Syntax.assign (Syntax.place 5 List.[]) (Syntax.rvOpd (Syntax.copy (Syntax.place 10 List.[])))
 
 abbrev b4 : Syntax.Body
-b4 = Syntax.call "passing::is_later" (List._∷_ (Syntax.copy (Syntax.place 4 List.[])) (List._∷_ (Syntax.copy (Syntax.place 5 List.[])) List.[])) (Syntax.place 11 List.[])
+b4 = Syntax.call "output_passing::is_later" (List._∷_ (Syntax.copy (Syntax.place 4 List.[])) (List._∷_ (Syntax.copy (Syntax.place 5 List.[])) List.[])) (Syntax.place 11 List.[])
 
 abbrev b5 : Syntax.Body
-b5 = Syntax.call "passing::rest" (List._∷_ (Syntax.copy (Syntax.place 3 List.[])) (List._∷_ (Syntax.copy (Syntax.place 4 List.[])) (List._∷_ (Syntax.copy (Syntax.place 5 List.[])) List.[]))) (Syntax.place 6 List.[])
+b5 = Syntax.call "output_passing::no_event_step" (List._∷_ (Syntax.copy (Syntax.place 3 List.[])) (List._∷_ (Syntax.copy (Syntax.place 4 List.[])) (List._∷_ (Syntax.copy (Syntax.place 5 List.[])) List.[]))) (Syntax.place 6 List.[])
 
 abbrev b6 : Syntax.Body
 b6 = Syntax.assign (Syntax.place 12 List.[]) (Syntax.op2 (Syntax.mul Syntax.unsigned) (Syntax.copy (Syntax.place 2 List.[])) (Syntax.int Syntax.w64 200))
@@ -128,7 +128,7 @@ abbrev b17 : Syntax.Body
 b17 = Syntax.cond (Syntax.copy (Syntax.place 11 List.[])) b15 b16
 
 abbrev b18 : Syntax.Body
-b18 = Syntax.call "passing::hop_thrice" (List._∷_ (Syntax.copy (Syntax.place 3 List.[])) (List._∷_ (Syntax.copy (Syntax.place 4 List.[])) (List._∷_ (Syntax.copy (Syntax.place 5 List.[])) List.[]))) (Syntax.place 7 List.[])
+b18 = Syntax.call "output_passing::three_event_steps" (List._∷_ (Syntax.copy (Syntax.place 3 List.[])) (List._∷_ (Syntax.copy (Syntax.place 4 List.[])) (List._∷_ (Syntax.copy (Syntax.place 5 List.[])) List.[]))) (Syntax.place 7 List.[])
 
 abbrev b19 : Syntax.Body
 b19 = Syntax.assign (Syntax.place 8 List.[]) (Syntax.op2 (Syntax.mul Syntax.unsigned) (Syntax.copy (Syntax.place 2 List.[])) (Syntax.int Syntax.w64 200))
@@ -483,7 +483,7 @@ module _ (claims· : Claims) where
       (Post· : (κs : Lifetimes.Lfts 1) → (a : Kinds.Dens κs ps) → Kinds.Plain 1 ps r κs) where
     module _ (M : Type 1) where
       abbrev pub Closed : Type 2
-      Closed = (𝓤 : URA.URA M) (H : Wp.Heap 𝓤) (A : Atoms.Atoms 𝓤) (W : Kit.Given 𝓤 H A) (𝓣 : Wp.Tables 𝓤 H) (known0 : Plain.Known 𝓤 H A W 𝓣 0 ps·0 r·0 (claims· .0) (claims· .1) "passing::is_later") (known1 : Plain.Known 𝓤 H A W 𝓣 0 ps·1 r·1 (claims· .2) (claims· .3) "passing::rest") (known2 : Plain.Known 𝓤 H A W 𝓣 0 ps·2 r·2 (claims· .4) (claims· .5) "passing::hop_thrice") → Statement.Triple 𝓤 (Wp.WpFn 𝓤 H (𝓣 .C) (𝓣 .Λ) (Function.fnOf 1 ps r xs m hs body)) (Function.plainOf 𝓤 H A 1 ps r Pre· Post·)
+      Closed = (𝓤 : URA.URA M) (H : Wp.Heap 𝓤) (A : Atoms.Atoms 𝓤) (W : Kit.Given 𝓤 H A) (𝓣 : Wp.Tables 𝓤 H) (known0 : Plain.Known 𝓤 H A W 𝓣 0 ps·0 r·0 (claims· .0) (claims· .1) "output_passing::is_later") (known1 : Plain.Known 𝓤 H A W 𝓣 0 ps·1 r·1 (claims· .2) (claims· .3) "output_passing::no_event_step") (known2 : Plain.Known 𝓤 H A W 𝓣 0 ps·2 r·2 (claims· .4) (claims· .5) "output_passing::three_event_steps") → Statement.Triple 𝓤 (Wp.WpFn 𝓤 H (𝓣 .C) (𝓣 .Λ) (Function.fnOf 1 ps r xs m hs body)) (Function.plainOf 𝓤 H A 1 ps r Pre· Post·)
 
     module _ where
       abbrev at0 : Typed.TF T23 O1
@@ -609,7 +609,7 @@ module _ (claims· : Claims) where
       module _ {M : Type 1} (𝓤 : URA.URA M) (H : Wp.Heap 𝓤) (A : Atoms.Atoms 𝓤)
           (W : Kit.Given 𝓤 H A) (𝓣 : Wp.Tables 𝓤 H) where
         abbrev Knowns : Type 1
-        Knowns = Plain.Known 𝓤 H A W 𝓣 0 ps·0 r·0 (claims· .0) (claims· .1) "passing::is_later" × Plain.Known 𝓤 H A W 𝓣 0 ps·1 r·1 (claims· .2) (claims· .3) "passing::rest" × Plain.Known 𝓤 H A W 𝓣 0 ps·2 r·2 (claims· .4) (claims· .5) "passing::hop_thrice"
+        Knowns = Plain.Known 𝓤 H A W 𝓣 0 ps·0 r·0 (claims· .0) (claims· .1) "output_passing::is_later" × Plain.Known 𝓤 H A W 𝓣 0 ps·1 r·1 (claims· .2) (claims· .3) "output_passing::no_event_step" × Plain.Known 𝓤 H A W 𝓣 0 ps·2 r·2 (claims· .4) (claims· .5) "output_passing::three_event_steps"
 
       module _ (κs : Lifetimes.Lfts 1) (qs : Lifetimes.Shares 1) where
         abbrev G0 : Row.Cx
@@ -772,7 +772,7 @@ module _ (claims· : Claims) where
           d11 = Typed.g-pre 𝓤 H A W 𝓣 E G12 G13 b14 Δ1 (Typed.pass T12 T13 s10) at10 (Scalar.g-room 𝓤 H A W E G12 5 OfOutput.spelt (OfOutput.room 𝓤 H A W)) d10
 
           d12 : Typed.Typed 𝓤 H A 𝓣 E G11 b15 Δ1 at12
-          d12 = Typed.s-seq 𝓤 H A W 𝓣 E G11 G12 b5 b14 Δ1 (Typed.both s9) at11 (Plain.t-call-plain 𝓤 H A W 𝓣 0 ps·1 r·1 (claims· .2) (claims· .3) "passing::rest" (known .1) E (λ pos β. β) G11 (Num.vAt 3 λ x. x, (Num.vAt 4 λ x. x, (record { pos = 5; st = List.[]; d = 0; at = λ x. x }, tt))) 6 List.[] (Call.sub-id 𝓤 H A W (G11 .slots)) ((Scalar.reads-sc 𝓤 H A W (Row.sInt Syntax.w64), Path'.refl), ((Scalar.reads-sc 𝓤 H A W (Row.sInt Syntax.w64), Path'.refl), ((OfOutput.yields 𝓤 H A W, Path'.refl), tt))) (Reads.room-gone 𝓤 H A OfOutput.spelt) tt Path'.refl) d11
+          d12 = Typed.s-seq 𝓤 H A W 𝓣 E G11 G12 b5 b14 Δ1 (Typed.both s9) at11 (Plain.t-call-plain 𝓤 H A W 𝓣 0 ps·1 r·1 (claims· .2) (claims· .3) "output_passing::no_event_step" (known .1) E (λ pos β. β) G11 (Num.vAt 3 λ x. x, (Num.vAt 4 λ x. x, (record { pos = 5; st = List.[]; d = 0; at = λ x. x }, tt))) 6 List.[] (Call.sub-id 𝓤 H A W (G11 .slots)) ((Scalar.reads-sc 𝓤 H A W (Row.sInt Syntax.w64), Path'.refl), ((Scalar.reads-sc 𝓤 H A W (Row.sInt Syntax.w64), Path'.refl), ((OfOutput.yields 𝓤 H A W, Path'.refl), tt))) (Reads.room-gone 𝓤 H A OfOutput.spelt) tt Path'.refl) d11
 
           d13 : Typed.Typed 𝓤 H A 𝓣 E G9 b15 Δ1 at13
           d13 = Typed.g-pre 𝓤 H A W 𝓣 E G9 G11 b15 Δ1 (Typed.pass T9 T11 s8) at12 (Scalar.g-room 𝓤 H A W E G9 11 Syntax.tyBool (Scalar.room-sc 𝓤 H A W Row.sBool)) d12
@@ -823,13 +823,13 @@ module _ (claims· : Claims) where
           d28 = Typed.g-pre 𝓤 H A W 𝓣 E G25 G26 b27 Δ0 (Typed.pass T25 T26 s23) at27 (Scalar.g-room 𝓤 H A W E G25 5 OfOutput.spelt (OfOutput.room 𝓤 H A W)) d27
 
           d29 : Typed.Typed 𝓤 H A 𝓣 E G10 b28 Δ0 at29
-          d29 = Typed.s-seq 𝓤 H A W 𝓣 E G10 G25 b18 b27 Δ0 (Typed.both s22) at28 (Plain.t-call-plain 𝓤 H A W 𝓣 0 ps·2 r·2 (claims· .4) (claims· .5) "passing::hop_thrice" (known .2) E (λ pos β. β) G10 (Num.vAt 3 λ x. x, (Num.vAt 4 λ x. x, (record { pos = 5; st = List.[]; d = 0; at = λ x. x }, tt))) 7 List.[] (Call.sub-id 𝓤 H A W (G10 .slots)) ((Scalar.reads-sc 𝓤 H A W (Row.sInt Syntax.w64), Path'.refl), ((Scalar.reads-sc 𝓤 H A W (Row.sInt Syntax.w64), Path'.refl), ((OfOutput.yields 𝓤 H A W, Path'.refl), tt))) (Reads.room-gone 𝓤 H A OfOutput.spelt) tt Path'.refl) d28
+          d29 = Typed.s-seq 𝓤 H A W 𝓣 E G10 G25 b18 b27 Δ0 (Typed.both s22) at28 (Plain.t-call-plain 𝓤 H A W 𝓣 0 ps·2 r·2 (claims· .4) (claims· .5) "output_passing::three_event_steps" (known .2) E (λ pos β. β) G10 (Num.vAt 3 λ x. x, (Num.vAt 4 λ x. x, (record { pos = 5; st = List.[]; d = 0; at = λ x. x }, tt))) 7 List.[] (Call.sub-id 𝓤 H A W (G10 .slots)) ((Scalar.reads-sc 𝓤 H A W (Row.sInt Syntax.w64), Path'.refl), ((Scalar.reads-sc 𝓤 H A W (Row.sInt Syntax.w64), Path'.refl), ((OfOutput.yields 𝓤 H A W, Path'.refl), tt))) (Reads.room-gone 𝓤 H A OfOutput.spelt) tt Path'.refl) d28
 
           d30 : Typed.Typed 𝓤 H A 𝓣 E G9 b29 Δ0 at30
           d30 = Typed.t-seq 𝓤 H A W 𝓣 E G9 G10 b17 b28 Δ0 at16 at29 d16 d29
 
           d31 : Typed.Typed 𝓤 H A 𝓣 E G8 b30 Δ0 at31
-          d31 = Typed.s-seq 𝓤 H A W 𝓣 E G8 G9 b4 b29 Δ0 (Typed.both s7) at30 (Plain.t-call-plain 𝓤 H A W 𝓣 0 ps·0 r·0 (claims· .0) (claims· .1) "passing::is_later" (known .0) E (λ pos β. β) G8 (Num.vAt 4 λ x. x, (record { pos = 5; st = List.[]; d = 0; at = λ x. x }, tt)) 11 List.[] (Call.sub-id 𝓤 H A W (G8 .slots)) ((Scalar.reads-sc 𝓤 H A W (Row.sInt Syntax.w64), Path'.refl), ((OfOutput.yields 𝓤 H A W, Path'.refl), tt)) (Reads.room-gone 𝓤 H A Syntax.tyBool) tt Path'.refl) d30
+          d31 = Typed.s-seq 𝓤 H A W 𝓣 E G8 G9 b4 b29 Δ0 (Typed.both s7) at30 (Plain.t-call-plain 𝓤 H A W 𝓣 0 ps·0 r·0 (claims· .0) (claims· .1) "output_passing::is_later" (known .0) E (λ pos β. β) G8 (Num.vAt 4 λ x. x, (record { pos = 5; st = List.[]; d = 0; at = λ x. x }, tt)) 11 List.[] (Call.sub-id 𝓤 H A W (G8 .slots)) ((Scalar.reads-sc 𝓤 H A W (Row.sInt Syntax.w64), Path'.refl), ((OfOutput.yields 𝓤 H A W, Path'.refl), tt)) (Reads.room-gone 𝓤 H A Syntax.tyBool) tt Path'.refl) d30
 
           d32 : Typed.Typed 𝓤 H A 𝓣 E G7 b30 Δ0 at32
           d32 = Typed.g-pre 𝓤 H A W 𝓣 E G7 G8 b30 Δ0 (Typed.pass T7 T8 s6) at31 (Scalar.g-room 𝓤 H A W E G7 10 OfOutput.spelt (OfOutput.room 𝓤 H A W)) d31
@@ -976,28 +976,29 @@ module _ (claims· : Claims) where
         pub before : After-is-later
         pub if1 : Then1·own before
 
-      abbrev pub Need-rest-requires : Type 0
-      Need-rest-requires = (c : Then1) → s9 .asks (m9 (c .before))
+      abbrev pub Need-no-event-step-requires : Type 0
+      Need-no-event-step-requires = (c : Then1) → s9 .asks (m9 (c .before))
 
       abbrev pub m10 : (before : Then1) → (given : s9 .gives (m9 (before .before))) → Typed.Mo T12
       m10 = λ before given. s9 .next (m9 (before .before)) given
 
       module _ (before· : Then1) where
-        abbrev pub After-rest·own : Type 0
-        After-rest·own = Called.Called ps·1 r·1 (claims· .3) T11 (Num.vAt 3 λ x. x, (Num.vAt 4 λ x. x, (record { pos = 5; st = List.[]; d = 0; at = λ x. x }, tt))) (m9 (before· .before))
+        abbrev pub After-no-event-step·own : Type 0
+        After-no-event-step·own = Called.Called ps·1 r·1 (claims· .3) T11 (Num.vAt 3 λ x. x, (Num.vAt 4 λ x. x, (record { pos = 5; st = List.[]; d = 0; at = λ x. x }, tt))) (m9 (before· .before))
 
-      pub record After-rest : Type 0 where
+      pub record After-no-event-step : Type 0 where
         pub before : Then1
-        pub rest : After-rest·own before
+        pub no-event-step : After-no-event-step·own before
 
-      abbrev pub After-rest·gave : (c : After-rest) → s9 .gives (m9 (c .before .before))
-      After-rest·gave = λ c. Called.given ps·1 r·1 (claims· .3) T11 (Num.vAt 3 λ x. x, (Num.vAt 4 λ x. x, (record { pos = 5; st = List.[]; d = 0; at = λ x. x }, tt))) (m9 (c .before .before)) (c .rest)
+      abbrev pub After-no-event-step·gave :
+          (c : After-no-event-step) → s9 .gives (m9 (c .before .before))
+      After-no-event-step·gave = λ c. Called.given ps·1 r·1 (claims· .3) T11 (Num.vAt 3 λ x. x, (Num.vAt 4 λ x. x, (record { pos = 5; st = List.[]; d = 0; at = λ x. x }, tt))) (m9 (c .before .before)) (c .no-event-step)
 
       abbrev pub m11 : (before : Then1) → (given : s9 .gives (m9 (before .before))) → Typed.Mo T13
       m11 = λ before given. s10 (m10 before given)
 
       abbrev pub Need-mul-n : Type 0
-      Need-mul-n = (c : After-rest) → s11 .asks (m11 (c .before) (After-rest·gave c))
+      Need-mul-n = (c : After-no-event-step) → s11 .asks (m11 (c .before) (After-no-event-step·gave c))
 
       abbrev pub m12 : (before : Then1) → (given : s9 .gives (m9 (before .before))) → Typed.Mo T14
       m12 = λ before given. s11 .next (m11 before given)
@@ -1006,7 +1007,7 @@ module _ (claims· : Claims) where
       m13 = λ before given. s12 .next (m12 before given)
 
       abbrev pub Need-slice-set-from-n : Type 0
-      Need-slice-set-from-n = (c : After-rest) → Shared.InSlice T15 1 13 (λ x. x) (λ u. u .1 .1 .0) (m13 (c .before) (After-rest·gave c))
+      Need-slice-set-from-n = (c : After-no-event-step) → Shared.InSlice T15 1 13 (λ x. x) (λ u. u .1 .1 .0) (m13 (c .before) (After-no-event-step·gave c))
 
       abbrev pub m14 : (before : Then1) → (given : s9 .gives (m9 (before .before))) → Typed.Mo T16
       m14 = λ before given. s13 .next (m13 before given)
@@ -1033,10 +1034,10 @@ module _ (claims· : Claims) where
       m21 = λ before given. s20 (m20 before given)
 
       abbrev pub Need-same-length : Type 0
-      Need-same-length = (c : After-rest) → MutSlice.SameLen (Row.get 1 (T23 .locals) (m21 (c .before) (After-rest·gave c))) (dens (c .before .before .before .before .κs) (c .before .before .before .before .args) .0)
+      Need-same-length = (c : After-no-event-step) → MutSlice.SameLen (Row.get 1 (T23 .locals) (m21 (c .before) (After-no-event-step·gave c))) (dens (c .before .before .before .before .κs) (c .before .before .before .before .args) .0)
 
       abbrev pub Need-returns : Type 0
-      Need-returns = (c : After-rest) → Post· (c .before .before .before .before .κs) (dens (c .before .before .before .before .κs) (c .before .before .before .before .args)) (Function.resV r (c .before .before .before .before .κs) (m21 (c .before) (After-rest·gave c) .0)) (Clauses.atExit (Kinds.endedOf 1 ps r) (c .before .before .before .before .κs) (dens (c .before .before .before .before .κs) (c .before .before .before .before .args)) (Enter.lastsP (c .before .before .before .before .κs) 1 ps xs (dens (c .before .before .before .before .κs) (c .before .before .before .before .args)) (m21 (c .before) (After-rest·gave c) .1)))
+      Need-returns = (c : After-no-event-step) → Post· (c .before .before .before .before .κs) (dens (c .before .before .before .before .κs) (c .before .before .before .before .args)) (Function.resV r (c .before .before .before .before .κs) (m21 (c .before) (After-no-event-step·gave c) .0)) (Clauses.atExit (Kinds.endedOf 1 ps r) (c .before .before .before .before .κs) (dens (c .before .before .before .before .κs) (c .before .before .before .before .args)) (Enter.lastsP (c .before .before .before .before .κs) 1 ps xs (dens (c .before .before .before .before .κs) (c .before .before .before .before .args)) (m21 (c .before) (After-no-event-step·gave c) .1)))
 
       abbrev pub m22 : (before : After-is-later) → Typed.Mo T24
       m22 = λ before. s21 (m8 (before .before) (After-is-later·gave before))
@@ -1051,31 +1052,31 @@ module _ (claims· : Claims) where
         pub before : After-is-later
         pub if1 : Else1·own before
 
-      abbrev pub Need-hop-thrice-requires : Type 0
-      Need-hop-thrice-requires = (c : Else1) → s22 .asks (m22 (c .before))
+      abbrev pub Need-three-event-steps-requires : Type 0
+      Need-three-event-steps-requires = (c : Else1) → s22 .asks (m22 (c .before))
 
       abbrev pub m23 :
           (before : Else1) → (given : s22 .gives (m22 (before .before))) → Typed.Mo T25
       m23 = λ before given. s22 .next (m22 (before .before)) given
 
       module _ (before· : Else1) where
-        abbrev pub After-hop-thrice·own : Type 0
-        After-hop-thrice·own = Called.Called ps·2 r·2 (claims· .5) T10 (Num.vAt 3 λ x. x, (Num.vAt 4 λ x. x, (record { pos = 5; st = List.[]; d = 0; at = λ x. x }, tt))) (m22 (before· .before))
+        abbrev pub After-three-event-steps·own : Type 0
+        After-three-event-steps·own = Called.Called ps·2 r·2 (claims· .5) T10 (Num.vAt 3 λ x. x, (Num.vAt 4 λ x. x, (record { pos = 5; st = List.[]; d = 0; at = λ x. x }, tt))) (m22 (before· .before))
 
-      pub record After-hop-thrice : Type 0 where
+      pub record After-three-event-steps : Type 0 where
         pub before : Else1
-        pub hop-thrice : After-hop-thrice·own before
+        pub three-event-steps : After-three-event-steps·own before
 
-      abbrev pub After-hop-thrice·gave :
-          (c : After-hop-thrice) → s22 .gives (m22 (c .before .before))
-      After-hop-thrice·gave = λ c. Called.given ps·2 r·2 (claims· .5) T10 (Num.vAt 3 λ x. x, (Num.vAt 4 λ x. x, (record { pos = 5; st = List.[]; d = 0; at = λ x. x }, tt))) (m22 (c .before .before)) (c .hop-thrice)
+      abbrev pub After-three-event-steps·gave :
+          (c : After-three-event-steps) → s22 .gives (m22 (c .before .before))
+      After-three-event-steps·gave = λ c. Called.given ps·2 r·2 (claims· .5) T10 (Num.vAt 3 λ x. x, (Num.vAt 4 λ x. x, (record { pos = 5; st = List.[]; d = 0; at = λ x. x }, tt))) (m22 (c .before .before)) (c .three-event-steps)
 
       abbrev pub m24 :
           (before : Else1) → (given : s22 .gives (m22 (before .before))) → Typed.Mo T26
       m24 = λ before given. s23 (m23 before given)
 
       abbrev pub Need-mul-n-2 : Type 0
-      Need-mul-n-2 = (c : After-hop-thrice) → s24 .asks (m24 (c .before) (After-hop-thrice·gave c))
+      Need-mul-n-2 = (c : After-three-event-steps) → s24 .asks (m24 (c .before) (After-three-event-steps·gave c))
 
       abbrev pub m25 :
           (before : Else1) → (given : s22 .gives (m22 (before .before))) → Typed.Mo T27
@@ -1086,7 +1087,7 @@ module _ (claims· : Claims) where
       m26 = λ before given. s25 .next (m25 before given)
 
       abbrev pub Need-slice-set-from-n-2 : Type 0
-      Need-slice-set-from-n-2 = (c : After-hop-thrice) → Shared.InSlice T28 1 14 (λ x. x) (λ u. u .1 .1 .0) (m26 (c .before) (After-hop-thrice·gave c))
+      Need-slice-set-from-n-2 = (c : After-three-event-steps) → Shared.InSlice T28 1 14 (λ x. x) (λ u. u .1 .1 .0) (m26 (c .before) (After-three-event-steps·gave c))
 
       abbrev pub m27 :
           (before : Else1) → (given : s22 .gives (m22 (before .before))) → Typed.Mo T29
@@ -1121,45 +1122,45 @@ module _ (claims· : Claims) where
       m34 = λ before given. s33 (m33 before given)
 
       abbrev pub Need-same-length-2 : Type 0
-      Need-same-length-2 = (c : After-hop-thrice) → MutSlice.SameLen (Row.get 1 (T36 .locals) (m34 (c .before) (After-hop-thrice·gave c))) (dens (c .before .before .before .before .κs) (c .before .before .before .before .args) .0)
+      Need-same-length-2 = (c : After-three-event-steps) → MutSlice.SameLen (Row.get 1 (T36 .locals) (m34 (c .before) (After-three-event-steps·gave c))) (dens (c .before .before .before .before .κs) (c .before .before .before .before .args) .0)
 
       abbrev pub Need-returns-2 : Type 0
-      Need-returns-2 = (c : After-hop-thrice) → Post· (c .before .before .before .before .κs) (dens (c .before .before .before .before .κs) (c .before .before .before .before .args)) (Function.resV r (c .before .before .before .before .κs) (m34 (c .before) (After-hop-thrice·gave c) .0)) (Clauses.atExit (Kinds.endedOf 1 ps r) (c .before .before .before .before .κs) (dens (c .before .before .before .before .κs) (c .before .before .before .before .args)) (Enter.lastsP (c .before .before .before .before .κs) 1 ps xs (dens (c .before .before .before .before .κs) (c .before .before .before .before .args)) (m34 (c .before) (After-hop-thrice·gave c) .1)))
+      Need-returns-2 = (c : After-three-event-steps) → Post· (c .before .before .before .before .κs) (dens (c .before .before .before .before .κs) (c .before .before .before .before .args)) (Function.resV r (c .before .before .before .before .κs) (m34 (c .before) (After-three-event-steps·gave c) .0)) (Clauses.atExit (Kinds.endedOf 1 ps r) (c .before .before .before .before .κs) (dens (c .before .before .before .before .κs) (c .before .before .before .before .args)) (Enter.lastsP (c .before .before .before .before .κs) 1 ps xs (dens (c .before .before .before .before .κs) (c .before .before .before .before .args)) (m34 (c .before) (After-three-event-steps·gave c) .1)))
 
       module _ (mul-o : Need-mul-o) (slice-copy-out-o : Need-slice-copy-out-o)
-          (is-later-requires : Need-is-later-requires) (rest-requires : Need-rest-requires)
-          (mul-n : Need-mul-n) (slice-set-from-n : Need-slice-set-from-n)
-          (same-length : Need-same-length) (returns : Need-returns)
-          (hop-thrice-requires : Need-hop-thrice-requires) (mul-n-2 : Need-mul-n-2)
-          (slice-set-from-n-2 : Need-slice-set-from-n-2) (same-length-2 : Need-same-length-2)
-          (returns-2 : Need-returns-2) where
+          (is-later-requires : Need-is-later-requires)
+          (no-event-step-requires : Need-no-event-step-requires) (mul-n : Need-mul-n)
+          (slice-set-from-n : Need-slice-set-from-n) (same-length : Need-same-length)
+          (returns : Need-returns) (three-event-steps-requires : Need-three-event-steps-requires)
+          (mul-n-2 : Need-mul-n-2) (slice-set-from-n-2 : Need-slice-set-from-n-2)
+          (same-length-2 : Need-same-length-2) (returns-2 : Need-returns-2) where
         lay4 :
-            (c : After-hop-thrice) →
+            (c : After-three-event-steps) →
             at28
             (W0 (c .before .before .before .before .κs) (c .before .before .before .before .args))
-            (m23 (c .before) (After-hop-thrice·gave c))
-        lay4 = λ c. (mul-n-2 record { before = c .before; hop-thrice = c .hop-thrice }, (tt, ((Path'.refl, Path'.refl, slice-set-from-n-2 record { before = c .before; hop-thrice = c .hop-thrice }), ((MutSlice.fix-len (Row.get 1 (T36 .locals) (m34 (c .before) (After-hop-thrice·gave c)) .ptr) (Row.get 1 (T36 .locals) (m34 (c .before) (After-hop-thrice·gave c)) .name) (Row.get 1 (T36 .locals) (m34 (c .before) (After-hop-thrice·gave c)) .now) (dens (c .before .before .before .before .κs) (c .before .before .before .before .args) .0 .now) (same-length-2 record { before = c .before; hop-thrice = c .hop-thrice }), (tt, (tt, (tt, tt)))), returns-2 record { before = c .before; hop-thrice = c .hop-thrice }))))
+            (m23 (c .before) (After-three-event-steps·gave c))
+        lay4 = λ c. (mul-n-2 record { before = c .before; three-event-steps = c .three-event-steps }, (tt, ((Path'.refl, Path'.refl, slice-set-from-n-2 record { before = c .before; three-event-steps = c .three-event-steps }), ((MutSlice.fix-len (Row.get 1 (T36 .locals) (m34 (c .before) (After-three-event-steps·gave c)) .ptr) (Row.get 1 (T36 .locals) (m34 (c .before) (After-three-event-steps·gave c)) .name) (Row.get 1 (T36 .locals) (m34 (c .before) (After-three-event-steps·gave c)) .now) (dens (c .before .before .before .before .κs) (c .before .before .before .before .args) .0 .now) (same-length-2 record { before = c .before; three-event-steps = c .three-event-steps }), (tt, (tt, (tt, tt)))), returns-2 record { before = c .before; three-event-steps = c .three-event-steps }))))
 
         lay3 :
             (c : Else1) →
             at29
             (W0 (c .before .before .before .κs) (c .before .before .before .args))
             (m22 (c .before))
-        lay3 = λ c. (hop-thrice-requires record { before = c .before; if1 = c .if1 }, λ g. lay4 record { before = record { before = c .before; if1 = c .if1 }; hop-thrice = Called.called ps·2 r·2 (claims· .5) T10 (Num.vAt 3 λ x. x, (Num.vAt 4 λ x. x, (record { pos = 5; st = List.[]; d = 0; at = λ x. x }, tt))) (m22 (c .before)) g })
+        lay3 = λ c. (three-event-steps-requires record { before = c .before; if1 = c .if1 }, λ g. lay4 record { before = record { before = c .before; if1 = c .if1 }; three-event-steps = Called.called ps·2 r·2 (claims· .5) T10 (Num.vAt 3 λ x. x, (Num.vAt 4 λ x. x, (record { pos = 5; st = List.[]; d = 0; at = λ x. x }, tt))) (m22 (c .before)) g })
 
         lay2 :
-            (c : After-rest) →
+            (c : After-no-event-step) →
             at11
             (W1 (c .before .before .before) (After-is-later·gave (c .before .before)))
-            (m10 (c .before) (After-rest·gave c))
-        lay2 = λ c. (mul-n record { before = c .before; rest = c .rest }, (tt, ((Path'.refl, Path'.refl, slice-set-from-n record { before = c .before; rest = c .rest }), ((MutSlice.fix-len (Row.get 1 (T23 .locals) (m21 (c .before) (After-rest·gave c)) .ptr) (Row.get 1 (T23 .locals) (m21 (c .before) (After-rest·gave c)) .name) (Row.get 1 (T23 .locals) (m21 (c .before) (After-rest·gave c)) .now) (dens (c .before .before .before .before .κs) (c .before .before .before .before .args) .0 .now) (same-length record { before = c .before; rest = c .rest }), (tt, (tt, (tt, tt)))), returns record { before = c .before; rest = c .rest }))))
+            (m10 (c .before) (After-no-event-step·gave c))
+        lay2 = λ c. (mul-n record { before = c .before; no-event-step = c .no-event-step }, (tt, ((Path'.refl, Path'.refl, slice-set-from-n record { before = c .before; no-event-step = c .no-event-step }), ((MutSlice.fix-len (Row.get 1 (T23 .locals) (m21 (c .before) (After-no-event-step·gave c)) .ptr) (Row.get 1 (T23 .locals) (m21 (c .before) (After-no-event-step·gave c)) .name) (Row.get 1 (T23 .locals) (m21 (c .before) (After-no-event-step·gave c)) .now) (dens (c .before .before .before .before .κs) (c .before .before .before .before .args) .0 .now) (same-length record { before = c .before; no-event-step = c .no-event-step }), (tt, (tt, (tt, tt)))), returns record { before = c .before; no-event-step = c .no-event-step }))))
 
         lay1 :
             (c : After-is-later) →
             at30
             (W0 (c .before .before .κs) (c .before .before .args))
             (m8 (c .before) (After-is-later·gave c))
-        lay1 = λ c. (λ taken. (rest-requires record { before = record { before = c .before; is-later = c .is-later }; if1 = record { taken = taken } }, λ g. lay2 record { before = record { before = record { before = c .before; is-later = c .is-later }; if1 = record { taken = taken } }; rest = Called.called ps·1 r·1 (claims· .3) T11 (Num.vAt 3 λ x. x, (Num.vAt 4 λ x. x, (record { pos = 5; st = List.[]; d = 0; at = λ x. x }, tt))) (m9 record { before = c .before; is-later = c .is-later }) g }), λ left. lay3 record { before = record { before = c .before; is-later = c .is-later }; if1 = record { left = left } })
+        lay1 = λ c. (λ taken. (no-event-step-requires record { before = record { before = c .before; is-later = c .is-later }; if1 = record { taken = taken } }, λ g. lay2 record { before = record { before = record { before = c .before; is-later = c .is-later }; if1 = record { taken = taken } }; no-event-step = Called.called ps·1 r·1 (claims· .3) T11 (Num.vAt 3 λ x. x, (Num.vAt 4 λ x. x, (record { pos = 5; st = List.[]; d = 0; at = λ x. x }, tt))) (m9 record { before = c .before; is-later = c .is-later }) g }), λ left. lay3 record { before = record { before = c .before; is-later = c .is-later }; if1 = record { left = left } })
 
         pub laid : (c : Start) → at38 (W0 (c .κs) (c .args)) (m0 (c .κs) (c .args))
         laid = λ c. (mul-o c, (tt, ((Path'.refl, Path'.refl, slice-copy-out-o c), λ g. (is-later-requires record { before = c; o = record { given = g } }, λ g'. lay1 record { before = record { before = c; o = record { given = g } }; is-later = Called.called ps·0 r·0 (claims· .1) T8 (Num.vAt 4 λ x. x, (record { pos = 5; st = List.[]; d = 0; at = λ x. x }, tt)) (m7 c g) g' }))))
@@ -1186,8 +1187,19 @@ module _ (claims· : Claims) where
             r·0
             (claims· .0)
             (claims· .1)
-            "passing::is_later")
-            (known1 : Plain.Known 𝓤 H A W 𝓣 0 ps·1 r·1 (claims· .2) (claims· .3) "passing::rest")
+            "output_passing::is_later")
+            (known1 : Plain.Known
+            𝓤
+            H
+            A
+            W
+            𝓣
+            0
+            ps·1
+            r·1
+            (claims· .2)
+            (claims· .3)
+            "output_passing::no_event_step")
             (known2 : Plain.Known
             𝓤
             H
@@ -1199,7 +1211,7 @@ module _ (claims· : Claims) where
             r·2
             (claims· .4)
             (claims· .5)
-            "passing::hop_thrice") where
+            "output_passing::three_event_steps") where
           pub spec :
               Statement.Triple
               𝓤

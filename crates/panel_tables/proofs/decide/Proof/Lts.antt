@@ -93,13 +93,13 @@ abbrev b0 : Syntax.Body
 b0 = Syntax.assign (Syntax.place 8 List.[]) (Syntax.rvOpd (Syntax.copy (Syntax.place 1 (List._∷_ (Syntax.field 1) List.[]))))
 
 abbrev b1 : Syntax.Body
-b1 = Syntax.call "frame::parse" (List._∷_ (Syntax.copy (Syntax.place 8 List.[])) (List._∷_ (Syntax.copy (Syntax.place 4 List.[])) List.[])) (Syntax.place 5 List.[])
+b1 = Syntax.call "frame_parse::parse" (List._∷_ (Syntax.copy (Syntax.place 8 List.[])) (List._∷_ (Syntax.copy (Syntax.place 4 List.[])) List.[])) (Syntax.place 5 List.[])
 
 abbrev b2 : Syntax.Body
-b2 = Syntax.call "station::station_of" (List._∷_ (Syntax.copy (Syntax.place 5 List.[])) List.[]) (Syntax.place 9 List.[])
+b2 = Syntax.call "station_judging::station_of" (List._∷_ (Syntax.copy (Syntax.place 5 List.[])) List.[]) (Syntax.place 9 List.[])
 
 abbrev b3 : Syntax.Body
-b3 = Syntax.call "ranges::index" (List._∷_ (Syntax.copy (Syntax.place 9 List.[])) List.[]) (Syntax.place 6 List.[])
+b3 = Syntax.call "number_ranges::index" (List._∷_ (Syntax.copy (Syntax.place 9 List.[])) List.[]) (Syntax.place 6 List.[])
 
 abbrev b4 : Syntax.Body
 b4 = Syntax.assign (Syntax.place 8 List.[]) (Syntax.op2 (Syntax.mul Syntax.unsigned) (Syntax.copy (Syntax.place 6 List.[])) (Syntax.int Syntax.w64 40))
@@ -114,7 +114,7 @@ abbrev b7 : Syntax.Body
 b7 = Syntax.assign (Syntax.place 7 List.[]) (Syntax.rvOpd (Syntax.copy (Syntax.place 11 List.[])))
 
 abbrev b8 : Syntax.Body
-b8 = Syntax.call "station::met_by" (List._∷_ (Syntax.copy (Syntax.place 3 List.[])) (List._∷_ (Syntax.copy (Syntax.place 7 List.[])) (List._∷_ (Syntax.copy (Syntax.place 4 List.[])) (List._∷_ (Syntax.copy (Syntax.place 5 List.[])) List.[])))) (Syntax.place 0 List.[])
+b8 = Syntax.call "station_judging::judge_by_station" (List._∷_ (Syntax.copy (Syntax.place 3 List.[])) (List._∷_ (Syntax.copy (Syntax.place 7 List.[])) (List._∷_ (Syntax.copy (Syntax.place 4 List.[])) (List._∷_ (Syntax.copy (Syntax.place 5 List.[])) List.[])))) (Syntax.place 0 List.[])
 
 abbrev b9 : Syntax.Body
 b9 = Syntax.return
@@ -337,7 +337,7 @@ module _ (claims· : Claims) where
       (Post· : (κs : Lifetimes.Lfts 3) → (a : Kinds.Dens κs ps) → Kinds.Plain 3 ps r κs) where
     module _ (M : Type 1) where
       abbrev pub Closed : Type 2
-      Closed = (𝓤 : URA.URA M) (H : Wp.Heap 𝓤) (A : Atoms.Atoms 𝓤) (W : Kit.Given 𝓤 H A) (𝓣 : Wp.Tables 𝓤 H) (known0 : Plain.Known 𝓤 H A W 𝓣 1 ps·0 r·0 (claims· .0) (claims· .1) "frame::parse") (known1 : Plain.Known 𝓤 H A W 𝓣 0 ps·1 r·1 (claims· .2) (claims· .3) "station::station_of") (known2 : Plain.Known 𝓤 H A W 𝓣 0 ps·2 r·2 (claims· .4) (claims· .5) "ranges::index") (known3 : Plain.Known 𝓤 H A W 𝓣 1 ps·3 r·3 (claims· .6) (claims· .7) "station::met_by") → Statement.Triple 𝓤 (Wp.WpFn 𝓤 H (𝓣 .C) (𝓣 .Λ) (Function.fnOf 3 ps r xs m hs body)) (Function.plainOf 𝓤 H A 3 ps r Pre· Post·)
+      Closed = (𝓤 : URA.URA M) (H : Wp.Heap 𝓤) (A : Atoms.Atoms 𝓤) (W : Kit.Given 𝓤 H A) (𝓣 : Wp.Tables 𝓤 H) (known0 : Plain.Known 𝓤 H A W 𝓣 1 ps·0 r·0 (claims· .0) (claims· .1) "frame_parse::parse") (known1 : Plain.Known 𝓤 H A W 𝓣 0 ps·1 r·1 (claims· .2) (claims· .3) "station_judging::station_of") (known2 : Plain.Known 𝓤 H A W 𝓣 0 ps·2 r·2 (claims· .4) (claims· .5) "number_ranges::index") (known3 : Plain.Known 𝓤 H A W 𝓣 1 ps·3 r·3 (claims· .6) (claims· .7) "station_judging::judge_by_station") → Statement.Triple 𝓤 (Wp.WpFn 𝓤 H (𝓣 .C) (𝓣 .Λ) (Function.fnOf 3 ps r xs m hs body)) (Function.plainOf 𝓤 H A 3 ps r Pre· Post·)
 
     module _ where
       abbrev at0 : Typed.TF T20 O0
@@ -406,7 +406,7 @@ module _ (claims· : Claims) where
       module _ {M : Type 1} (𝓤 : URA.URA M) (H : Wp.Heap 𝓤) (A : Atoms.Atoms 𝓤)
           (W : Kit.Given 𝓤 H A) (𝓣 : Wp.Tables 𝓤 H) where
         abbrev Knowns : Type 1
-        Knowns = Plain.Known 𝓤 H A W 𝓣 1 ps·0 r·0 (claims· .0) (claims· .1) "frame::parse" × Plain.Known 𝓤 H A W 𝓣 0 ps·1 r·1 (claims· .2) (claims· .3) "station::station_of" × Plain.Known 𝓤 H A W 𝓣 0 ps·2 r·2 (claims· .4) (claims· .5) "ranges::index" × Plain.Known 𝓤 H A W 𝓣 1 ps·3 r·3 (claims· .6) (claims· .7) "station::met_by"
+        Knowns = Plain.Known 𝓤 H A W 𝓣 1 ps·0 r·0 (claims· .0) (claims· .1) "frame_parse::parse" × Plain.Known 𝓤 H A W 𝓣 0 ps·1 r·1 (claims· .2) (claims· .3) "station_judging::station_of" × Plain.Known 𝓤 H A W 𝓣 0 ps·2 r·2 (claims· .4) (claims· .5) "number_ranges::index" × Plain.Known 𝓤 H A W 𝓣 1 ps·3 r·3 (claims· .6) (claims· .7) "station_judging::judge_by_station"
 
       module _ (κs : Lifetimes.Lfts 3) (qs : Lifetimes.Shares 3) where
         abbrev G0 : Row.Cx
@@ -497,7 +497,7 @@ module _ (claims· : Claims) where
           d4 = Typed.g-pre 𝓤 H A W 𝓣 E G16 G17 b9 Δ0 (Typed.pass T16 T17 s15) at3 (Scalar.g-room 𝓤 H A W E G16 5 (Laws.mir) (Local.room-whole 𝓤 H A W (Declared.row Frame.the-type) (Laws.mir) Path'.refl)) d3
 
           d5 : Typed.Typed 𝓤 H A 𝓣 E G15 b10 Δ0 at5
-          d5 = Typed.s-seq 𝓤 H A W 𝓣 E G15 G16 b8 b9 Δ0 (Typed.both s14) at4 (Plain.t-call-plain 𝓤 H A W 𝓣 1 ps·3 r·3 (claims· .6) (claims· .7) "station::met_by" (known .3) E (λ pos β. β) G15 (Num.vAt 3 λ x. x, (record { pos = 7; st = List.[]; d = 0; at = λ x. x }, (record { pos = 4; ty = Syntax.tyRef (Syntax.named 2) Syntax.imm (Syntax.tyInt Syntax.w8); ref = λ x. x }, (record { pos = 5; st = List.[]; d = 0; at = λ x. x }, tt)))) 0 (List._∷_ 2 List.[]) (Call.sub-id 𝓤 H A W (G15 .slots)) ((Scalar.reads-sc 𝓤 H A W (Row.sInt Syntax.w64), Path'.refl), ((OfStation.yields 𝓤 H A W, Path'.refl), (ShrSlice.spares-sslice 𝓤 H A W (Referent.rtF (Referent.fInt Syntax.w8)) (Syntax.tyRef (Syntax.named 2) Syntax.imm (Syntax.tyInt Syntax.w8)) 2, Shared.reads-sslice 𝓤 H A W (Referent.rtF (Referent.fInt Syntax.w8)) (Syntax.tyRef (Syntax.named 2) Syntax.imm (Syntax.tyInt Syntax.w8)) 2, Path'.refl, ((Yields.yields-copy 𝓤 H A W (λ ρ. Unit) (Declared.row Frame.the-type) Path'.refl (Copies.cEnum Frame.the-type Laws.the-laws Laws.the-copy .copy 𝓤 H A W) (Rows'.whole (Declared.row Frame.the-type)) (λ x. x) (λ x. x) (λ ρ told. Local.mem-whole 𝓤 H A W (Declared.row Frame.the-type) ρ) λ ρ told. Local.whole-mem 𝓤 H A W (Declared.row Frame.the-type) ρ, Path'.refl), tt)))) (Reads.room-gone 𝓤 H A (Laws'.mir)) (tt, tt) Path'.refl) d4
+          d5 = Typed.s-seq 𝓤 H A W 𝓣 E G15 G16 b8 b9 Δ0 (Typed.both s14) at4 (Plain.t-call-plain 𝓤 H A W 𝓣 1 ps·3 r·3 (claims· .6) (claims· .7) "station_judging::judge_by_station" (known .3) E (λ pos β. β) G15 (Num.vAt 3 λ x. x, (record { pos = 7; st = List.[]; d = 0; at = λ x. x }, (record { pos = 4; ty = Syntax.tyRef (Syntax.named 2) Syntax.imm (Syntax.tyInt Syntax.w8); ref = λ x. x }, (record { pos = 5; st = List.[]; d = 0; at = λ x. x }, tt)))) 0 (List._∷_ 2 List.[]) (Call.sub-id 𝓤 H A W (G15 .slots)) ((Scalar.reads-sc 𝓤 H A W (Row.sInt Syntax.w64), Path'.refl), ((OfStation.yields 𝓤 H A W, Path'.refl), (ShrSlice.spares-sslice 𝓤 H A W (Referent.rtF (Referent.fInt Syntax.w8)) (Syntax.tyRef (Syntax.named 2) Syntax.imm (Syntax.tyInt Syntax.w8)) 2, Shared.reads-sslice 𝓤 H A W (Referent.rtF (Referent.fInt Syntax.w8)) (Syntax.tyRef (Syntax.named 2) Syntax.imm (Syntax.tyInt Syntax.w8)) 2, Path'.refl, ((Yields.yields-copy 𝓤 H A W (λ ρ. Unit) (Declared.row Frame.the-type) Path'.refl (Copies.cEnum Frame.the-type Laws.the-laws Laws.the-copy .copy 𝓤 H A W) (Rows'.whole (Declared.row Frame.the-type)) (λ x. x) (λ x. x) (λ ρ told. Local.mem-whole 𝓤 H A W (Declared.row Frame.the-type) ρ) λ ρ told. Local.whole-mem 𝓤 H A W (Declared.row Frame.the-type) ρ, Path'.refl), tt)))) (Reads.room-gone 𝓤 H A (Laws'.mir)) (tt, tt) Path'.refl) d4
 
           d6 : Typed.Typed 𝓤 H A 𝓣 E G14 b10 Δ0 at6
           d6 = Typed.g-pre 𝓤 H A W 𝓣 E G14 G15 b10 Δ0 (Typed.pass T14 T15 s13) at5 (Scalar.g-room 𝓤 H A W E G14 11 OfStation.spelt (OfStation.room 𝓤 H A W)) d5
@@ -524,16 +524,16 @@ module _ (claims· : Claims) where
           d13 = Typed.g-pre 𝓤 H A W 𝓣 E G7 G8 b14 Δ0 (Typed.pass T7 T8 s6) at12 (Scalar.g-room 𝓤 H A W E G7 9 (Syntax.tyInt Syntax.w8) (Scalar.room-sc 𝓤 H A W (Row.sInt Syntax.w8))) d12
 
           d14 : Typed.Typed 𝓤 H A 𝓣 E G6 b15 Δ0 at14
-          d14 = Typed.s-seq 𝓤 H A W 𝓣 E G6 G7 b3 b14 Δ0 (Typed.both s5) at13 (Plain.t-call-plain 𝓤 H A W 𝓣 0 ps·2 r·2 (claims· .4) (claims· .5) "ranges::index" (known .2) E (λ pos β. β) G6 (Num.vAt 9 λ x. x, tt) 6 List.[] (Call.sub-id 𝓤 H A W (G6 .slots)) ((Scalar.reads-sc 𝓤 H A W (Row.sInt Syntax.w8), Path'.refl), tt) (Reads.room-gone 𝓤 H A (Syntax.tyInt Syntax.w64)) tt Path'.refl) d13
+          d14 = Typed.s-seq 𝓤 H A W 𝓣 E G6 G7 b3 b14 Δ0 (Typed.both s5) at13 (Plain.t-call-plain 𝓤 H A W 𝓣 0 ps·2 r·2 (claims· .4) (claims· .5) "number_ranges::index" (known .2) E (λ pos β. β) G6 (Num.vAt 9 λ x. x, tt) 6 List.[] (Call.sub-id 𝓤 H A W (G6 .slots)) ((Scalar.reads-sc 𝓤 H A W (Row.sInt Syntax.w8), Path'.refl), tt) (Reads.room-gone 𝓤 H A (Syntax.tyInt Syntax.w64)) tt Path'.refl) d13
 
           d15 : Typed.Typed 𝓤 H A 𝓣 E G5 b16 Δ0 at15
-          d15 = Typed.s-seq 𝓤 H A W 𝓣 E G5 G6 b2 b15 Δ0 (Typed.both s4) at14 (Plain.t-call-plain 𝓤 H A W 𝓣 0 ps·1 r·1 (claims· .2) (claims· .3) "station::station_of" (known .1) E (λ pos β. β) G5 (record { pos = 5; st = List.[]; d = 0; at = λ x. x }, tt) 9 List.[] (Call.sub-id 𝓤 H A W (G5 .slots)) ((Yields.yields-copy 𝓤 H A W (λ ρ. Unit) (Declared.row Frame.the-type) Path'.refl (Copies.cEnum Frame.the-type Laws.the-laws Laws.the-copy .copy 𝓤 H A W) (Rows'.whole (Declared.row Frame.the-type)) (λ x. x) (λ x. x) (λ ρ told. Local.mem-whole 𝓤 H A W (Declared.row Frame.the-type) ρ) λ ρ told. Local.whole-mem 𝓤 H A W (Declared.row Frame.the-type) ρ, Path'.refl), tt) (Reads.room-gone 𝓤 H A (Syntax.tyInt Syntax.w8)) tt Path'.refl) d14
+          d15 = Typed.s-seq 𝓤 H A W 𝓣 E G5 G6 b2 b15 Δ0 (Typed.both s4) at14 (Plain.t-call-plain 𝓤 H A W 𝓣 0 ps·1 r·1 (claims· .2) (claims· .3) "station_judging::station_of" (known .1) E (λ pos β. β) G5 (record { pos = 5; st = List.[]; d = 0; at = λ x. x }, tt) 9 List.[] (Call.sub-id 𝓤 H A W (G5 .slots)) ((Yields.yields-copy 𝓤 H A W (λ ρ. Unit) (Declared.row Frame.the-type) Path'.refl (Copies.cEnum Frame.the-type Laws.the-laws Laws.the-copy .copy 𝓤 H A W) (Rows'.whole (Declared.row Frame.the-type)) (λ x. x) (λ x. x) (λ ρ told. Local.mem-whole 𝓤 H A W (Declared.row Frame.the-type) ρ) λ ρ told. Local.whole-mem 𝓤 H A W (Declared.row Frame.the-type) ρ, Path'.refl), tt) (Reads.room-gone 𝓤 H A (Syntax.tyInt Syntax.w8)) tt Path'.refl) d14
 
           d16 : Typed.Typed 𝓤 H A 𝓣 E G4 b16 Δ0 at16
           d16 = Typed.g-pre 𝓤 H A W 𝓣 E G4 G5 b16 Δ0 (Typed.pass T4 T5 s3) at15 (Scalar.g-room 𝓤 H A W E G4 8 (Syntax.tyInt Syntax.w64) (Scalar.room-sc 𝓤 H A W (Row.sInt Syntax.w64))) d15
 
           d17 : Typed.Typed 𝓤 H A 𝓣 E G3 b17 Δ0 at17
-          d17 = Typed.s-seq 𝓤 H A W 𝓣 E G3 G4 b1 b16 Δ0 (Typed.both s2) at16 (Plain.t-call-plain 𝓤 H A W 𝓣 1 ps·0 r·0 (claims· .0) (claims· .1) "frame::parse" (known .0) E (λ pos β. β) G3 (Num.vAt 8 λ x. x, (record { pos = 4; ty = Syntax.tyRef (Syntax.named 2) Syntax.imm (Syntax.tyInt Syntax.w8); ref = λ x. x }, tt)) 5 (List._∷_ 2 List.[]) (Call.sub-id 𝓤 H A W (G3 .slots)) ((Scalar.reads-sc 𝓤 H A W (Row.sInt Syntax.w64), Path'.refl), (ShrSlice.spares-sslice 𝓤 H A W (Referent.rtF (Referent.fInt Syntax.w8)) (Syntax.tyRef (Syntax.named 2) Syntax.imm (Syntax.tyInt Syntax.w8)) 2, Shared.reads-sslice 𝓤 H A W (Referent.rtF (Referent.fInt Syntax.w8)) (Syntax.tyRef (Syntax.named 2) Syntax.imm (Syntax.tyInt Syntax.w8)) 2, Path'.refl, tt)) (Reads.room-gone 𝓤 H A (Laws.mir)) (tt, tt) Path'.refl) d16
+          d17 = Typed.s-seq 𝓤 H A W 𝓣 E G3 G4 b1 b16 Δ0 (Typed.both s2) at16 (Plain.t-call-plain 𝓤 H A W 𝓣 1 ps·0 r·0 (claims· .0) (claims· .1) "frame_parse::parse" (known .0) E (λ pos β. β) G3 (Num.vAt 8 λ x. x, (record { pos = 4; ty = Syntax.tyRef (Syntax.named 2) Syntax.imm (Syntax.tyInt Syntax.w8); ref = λ x. x }, tt)) 5 (List._∷_ 2 List.[]) (Call.sub-id 𝓤 H A W (G3 .slots)) ((Scalar.reads-sc 𝓤 H A W (Row.sInt Syntax.w64), Path'.refl), (ShrSlice.spares-sslice 𝓤 H A W (Referent.rtF (Referent.fInt Syntax.w8)) (Syntax.tyRef (Syntax.named 2) Syntax.imm (Syntax.tyInt Syntax.w8)) 2, Shared.reads-sslice 𝓤 H A W (Referent.rtF (Referent.fInt Syntax.w8)) (Syntax.tyRef (Syntax.named 2) Syntax.imm (Syntax.tyInt Syntax.w8)) 2, Path'.refl, tt)) (Reads.room-gone 𝓤 H A (Laws.mir)) (tt, tt) Path'.refl) d16
 
           d18 : Typed.Typed 𝓤 H A 𝓣 E G2 b18 Δ0 at18
           d18 = Typed.s-seq 𝓤 H A W 𝓣 E G2 G3 b0 b17 Δ0 (Typed.pass T2 T3 s1) at17 (Scalar.t-use 𝓤 H A W E 𝓣 G2 (Scalar.oFld 1 (List._∷_ (Syntax.field 1) List.[]) (Syntax.tyInt Syntax.w64) 8 Shared.lenV) 8 (Rows'.sc-here (Row.sInt Syntax.w64)) (Syntax.tyInt Syntax.w64) (Row.valS (Row.sInt Syntax.w64)) (Row.sInt Syntax.w64 .of) (Shared.reads-sslice-len 𝓤 H A W (OfOutput.row) (Syntax.tyRef (Syntax.named 0) Syntax.imm OfOutput.named) 0 8 Path'.refl, Path'.refl) (Reads.room-gone 𝓤 H A (Syntax.tyInt Syntax.w64)) (Scalar.holds-sc 𝓤 H A W (Row.sInt Syntax.w64)) Path'.refl (λ u. Path'.refl) λ u. tt) d17
@@ -737,8 +737,8 @@ module _ (claims· : Claims) where
         pub before : After-index
         pub «record» : After-record·own before
 
-      abbrev pub Need-met-by-requires : Type 0
-      Need-met-by-requires = (c : After-record) → s14 .asks (m14 (c .before) (c .«record» .given))
+      abbrev pub Need-judge-by-station-requires : Type 0
+      Need-judge-by-station-requires = (c : After-record) → s14 .asks (m14 (c .before) (c .«record» .given))
 
       abbrev pub m15 :
           (before : After-record) →
@@ -747,16 +747,17 @@ module _ (claims· : Claims) where
       m15 = λ before given. s14 .next (m14 (before .before) (before .«record» .given)) given
 
       module _ (before· : After-record) where
-        abbrev pub After-met-by·own : Type 0
-        After-met-by·own = Called.Called ps·3 r·3 (claims· .7) T15 (Num.vAt 3 λ x. x, (record { pos = 7; st = List.[]; d = 0; at = λ x. x }, (record { pos = 4; ty = Syntax.tyRef (Syntax.named 2) Syntax.imm (Syntax.tyInt Syntax.w8); ref = λ x. x }, (record { pos = 5; st = List.[]; d = 0; at = λ x. x }, tt)))) (m14 (before· .before) (before· .«record» .given))
+        abbrev pub After-judge-by-station·own : Type 0
+        After-judge-by-station·own = Called.Called ps·3 r·3 (claims· .7) T15 (Num.vAt 3 λ x. x, (record { pos = 7; st = List.[]; d = 0; at = λ x. x }, (record { pos = 4; ty = Syntax.tyRef (Syntax.named 2) Syntax.imm (Syntax.tyInt Syntax.w8); ref = λ x. x }, (record { pos = 5; st = List.[]; d = 0; at = λ x. x }, tt)))) (m14 (before· .before) (before· .«record» .given))
 
-      pub record After-met-by : Type 0 where
+      pub record After-judge-by-station : Type 0 where
         pub before : After-record
-        pub met-by : After-met-by·own before
+        pub judge-by-station : After-judge-by-station·own before
 
-      abbrev pub After-met-by·gave :
-          (c : After-met-by) → s14 .gives (m14 (c .before .before) (c .before .«record» .given))
-      After-met-by·gave = λ c. Called.given ps·3 r·3 (claims· .7) T15 (Num.vAt 3 λ x. x, (record { pos = 7; st = List.[]; d = 0; at = λ x. x }, (record { pos = 4; ty = Syntax.tyRef (Syntax.named 2) Syntax.imm (Syntax.tyInt Syntax.w8); ref = λ x. x }, (record { pos = 5; st = List.[]; d = 0; at = λ x. x }, tt)))) (m14 (c .before .before) (c .before .«record» .given)) (c .met-by)
+      abbrev pub After-judge-by-station·gave :
+          (c : After-judge-by-station) →
+          s14 .gives (m14 (c .before .before) (c .before .«record» .given))
+      After-judge-by-station·gave = λ c. Called.given ps·3 r·3 (claims· .7) T15 (Num.vAt 3 λ x. x, (record { pos = 7; st = List.[]; d = 0; at = λ x. x }, (record { pos = 4; ty = Syntax.tyRef (Syntax.named 2) Syntax.imm (Syntax.tyInt Syntax.w8); ref = λ x. x }, (record { pos = 5; st = List.[]; d = 0; at = λ x. x }, tt)))) (m14 (c .before .before) (c .before .«record» .given)) (c .judge-by-station)
 
       abbrev pub m16 :
           (before : After-record) →
@@ -783,28 +784,29 @@ module _ (claims· : Claims) where
       m19 = λ before given. s18 (m18 before given)
 
       abbrev pub Need-returns : Type 0
-      Need-returns = (c : After-met-by) → Post· (c .before .before .before .before .before .before .κs) (dens (c .before .before .before .before .before .before .κs) (c .before .before .before .before .before .before .args)) (Function.resV r (c .before .before .before .before .before .before .κs) (m19 (c .before) (After-met-by·gave c) .0)) (Clauses.atExit (Kinds.endedOf 3 ps r) (c .before .before .before .before .before .before .κs) (dens (c .before .before .before .before .before .before .κs) (c .before .before .before .before .before .before .args)) (Enter.lastsP (c .before .before .before .before .before .before .κs) 1 ps xs (dens (c .before .before .before .before .before .before .κs) (c .before .before .before .before .before .before .args)) (m19 (c .before) (After-met-by·gave c) .1)))
+      Need-returns = (c : After-judge-by-station) → Post· (c .before .before .before .before .before .before .κs) (dens (c .before .before .before .before .before .before .κs) (c .before .before .before .before .before .before .args)) (Function.resV r (c .before .before .before .before .before .before .κs) (m19 (c .before) (After-judge-by-station·gave c) .0)) (Clauses.atExit (Kinds.endedOf 3 ps r) (c .before .before .before .before .before .before .κs) (dens (c .before .before .before .before .before .before .κs) (c .before .before .before .before .before .before .args)) (Enter.lastsP (c .before .before .before .before .before .before .κs) 1 ps xs (dens (c .before .before .before .before .before .before .κs) (c .before .before .before .before .before .before .args)) (m19 (c .before) (After-judge-by-station·gave c) .1)))
 
       module _ (parse-requires : Need-parse-requires)
           (station-of-requires : Need-station-of-requires) (index-requires : Need-index-requires)
           (mul-record : Need-mul-record)
           (shared-slice-copy-out-record : Need-shared-slice-copy-out-record)
-          (met-by-requires : Need-met-by-requires) (returns : Need-returns) where
+          (judge-by-station-requires : Need-judge-by-station-requires)
+          (returns : Need-returns) where
         lay4 :
-            (c : After-met-by) →
+            (c : After-judge-by-station) →
             at4
             (W0
             (c .before .before .before .before .before .before .κs)
             (c .before .before .before .before .before .before .args))
-            (m15 (c .before) (After-met-by·gave c))
-        lay4 = λ c. ((Path'.refl, (Path'.refl, (tt, (Path'.refl, tt)))), returns record { before = c .before; met-by = c .met-by })
+            (m15 (c .before) (After-judge-by-station·gave c))
+        lay4 = λ c. ((Path'.refl, (Path'.refl, (tt, (Path'.refl, tt)))), returns record { before = c .before; judge-by-station = c .judge-by-station })
 
         lay3 :
             (c : After-index) →
             at13
             (W0 (c .before .before .before .before .κs) (c .before .before .before .before .args))
             (m6 (c .before) (After-index·gave c))
-        lay3 = λ c. (mul-record record { before = c .before; index = c .index }, (tt, ((Path'.refl, Path'.refl, shared-slice-copy-out-record record { before = c .before; index = c .index }), λ g. (met-by-requires record { before = record { before = c .before; index = c .index }; «record» = record { given = g } }, λ g'. lay4 record { before = record { before = record { before = c .before; index = c .index }; «record» = record { given = g } }; met-by = Called.called ps·3 r·3 (claims· .7) T15 (Num.vAt 3 λ x. x, (record { pos = 7; st = List.[]; d = 0; at = λ x. x }, (record { pos = 4; ty = Syntax.tyRef (Syntax.named 2) Syntax.imm (Syntax.tyInt Syntax.w8); ref = λ x. x }, (record { pos = 5; st = List.[]; d = 0; at = λ x. x }, tt)))) (m14 record { before = c .before; index = c .index } g) g' }))))
+        lay3 = λ c. (mul-record record { before = c .before; index = c .index }, (tt, ((Path'.refl, Path'.refl, shared-slice-copy-out-record record { before = c .before; index = c .index }), λ g. (judge-by-station-requires record { before = record { before = c .before; index = c .index }; «record» = record { given = g } }, λ g'. lay4 record { before = record { before = record { before = c .before; index = c .index }; «record» = record { given = g } }; judge-by-station = Called.called ps·3 r·3 (claims· .7) T15 (Num.vAt 3 λ x. x, (record { pos = 7; st = List.[]; d = 0; at = λ x. x }, (record { pos = 4; ty = Syntax.tyRef (Syntax.named 2) Syntax.imm (Syntax.tyInt Syntax.w8); ref = λ x. x }, (record { pos = 5; st = List.[]; d = 0; at = λ x. x }, tt)))) (m14 record { before = c .before; index = c .index } g) g' }))))
 
         lay2 :
             (c : After-station-of) →
@@ -834,7 +836,18 @@ module _ (claims· : Claims) where
 
         module _ {M : Type 1} (𝓤 : URA.URA M) (H : Wp.Heap 𝓤) (A : Atoms.Atoms 𝓤)
             (W : Kit.Given 𝓤 H A) (𝓣 : Wp.Tables 𝓤 H)
-            (known0 : Plain.Known 𝓤 H A W 𝓣 1 ps·0 r·0 (claims· .0) (claims· .1) "frame::parse")
+            (known0 : Plain.Known
+            𝓤
+            H
+            A
+            W
+            𝓣
+            1
+            ps·0
+            r·0
+            (claims· .0)
+            (claims· .1)
+            "frame_parse::parse")
             (known1 : Plain.Known
             𝓤
             H
@@ -846,8 +859,19 @@ module _ (claims· : Claims) where
             r·1
             (claims· .2)
             (claims· .3)
-            "station::station_of")
-            (known2 : Plain.Known 𝓤 H A W 𝓣 0 ps·2 r·2 (claims· .4) (claims· .5) "ranges::index")
+            "station_judging::station_of")
+            (known2 : Plain.Known
+            𝓤
+            H
+            A
+            W
+            𝓣
+            0
+            ps·2
+            r·2
+            (claims· .4)
+            (claims· .5)
+            "number_ranges::index")
             (known3 : Plain.Known
             𝓤
             H
@@ -859,7 +883,7 @@ module _ (claims· : Claims) where
             r·3
             (claims· .6)
             (claims· .7)
-            "station::met_by") where
+            "station_judging::judge_by_station") where
           pub spec :
               Statement.Triple
               𝓤

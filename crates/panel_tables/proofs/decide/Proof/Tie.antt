@@ -5,63 +5,63 @@ use Rattle.frame_parse.proofs.parse.Symbol
 use Rattle.number_ranges.proofs.index.Met as Met'
 use Rattle.number_ranges.proofs.index.Reads as Reads'
 use Rattle.number_ranges.proofs.index.Symbol as Symbol'
-use Rattle.station_judging.proofs.judge_by_station.Met as Met''
-use Rattle.station_judging.proofs.judge_by_station.Reads as Reads''
-use Rattle.station_judging.proofs.judge_by_station.Symbol as Symbol''
-use Rattle.station_judging.proofs.station_of.Met as Met'3
-use Rattle.station_judging.proofs.station_of.Reads as Reads'3
-use Rattle.station_judging.proofs.station_of.Symbol as Symbol'3
 use Rattle.panel_tables.proofs.Lent.decide.Kinds
-use Rattle.panel_tables.proofs.Lent.decide.Reads as Reads'4
+use Rattle.panel_tables.proofs.Lent.decide.Reads as Reads''
 use Rattle.panel_tables.proofs.decide.Code
 use Rattle.panel_tables.proofs.decide.Key
 use Rattle.panel_tables.proofs.decide.Proof.Lts
 use Rattle.panel_tables.proofs.decide.Statement
+use Rattle.station_judging.proofs.judge_by_station.Met as Met''
+use Rattle.station_judging.proofs.judge_by_station.Reads as Reads'3
+use Rattle.station_judging.proofs.judge_by_station.Symbol as Symbol''
+use Rattle.station_judging.proofs.station_of.Met as Met'3
+use Rattle.station_judging.proofs.station_of.Reads as Reads'4
+use Rattle.station_judging.proofs.station_of.Symbol as Symbol'3
 use borrow.Fn.Run
 use borrow.Fn.Written
 use contract.Running
 
 abbrev pub Start : Type 0
-Start = Lts.Start (Reads.Asked, Reads.Learnt, Reads'3.Asked, Reads'3.Learnt, Reads'.Asked, Reads'.Learnt, Reads''.Asked, Reads''.Learnt) Reads'4.Pre Reads'4.Post
+Start = Lts.Start (Reads.Asked, Reads.Learnt, Reads'4.Asked, Reads'4.Learnt, Reads'.Asked, Reads'.Learnt, Reads'3.Asked, Reads'3.Learnt) Reads''.Pre Reads''.Post
 
 abbrev pub After-shared-slice-known : Type 0
-After-shared-slice-known = Lts.After-shared-slice-known (Reads.Asked, Reads.Learnt, Reads'3.Asked, Reads'3.Learnt, Reads'.Asked, Reads'.Learnt, Reads''.Asked, Reads''.Learnt) Reads'4.Pre Reads'4.Post
+After-shared-slice-known = Lts.After-shared-slice-known (Reads.Asked, Reads.Learnt, Reads'4.Asked, Reads'4.Learnt, Reads'.Asked, Reads'.Learnt, Reads'3.Asked, Reads'3.Learnt) Reads''.Pre Reads''.Post
 
 abbrev pub After-parse : Type 0
-After-parse = Lts.After-parse (Reads.Asked, Reads.Learnt, Reads'3.Asked, Reads'3.Learnt, Reads'.Asked, Reads'.Learnt, Reads''.Asked, Reads''.Learnt) Reads'4.Pre Reads'4.Post
+After-parse = Lts.After-parse (Reads.Asked, Reads.Learnt, Reads'4.Asked, Reads'4.Learnt, Reads'.Asked, Reads'.Learnt, Reads'3.Asked, Reads'3.Learnt) Reads''.Pre Reads''.Post
 
 abbrev pub After-station-of : Type 0
-After-station-of = Lts.After-station-of (Reads.Asked, Reads.Learnt, Reads'3.Asked, Reads'3.Learnt, Reads'.Asked, Reads'.Learnt, Reads''.Asked, Reads''.Learnt) Reads'4.Pre Reads'4.Post
+After-station-of = Lts.After-station-of (Reads.Asked, Reads.Learnt, Reads'4.Asked, Reads'4.Learnt, Reads'.Asked, Reads'.Learnt, Reads'3.Asked, Reads'3.Learnt) Reads''.Pre Reads''.Post
 
 abbrev pub After-index : Type 0
-After-index = Lts.After-index (Reads.Asked, Reads.Learnt, Reads'3.Asked, Reads'3.Learnt, Reads'.Asked, Reads'.Learnt, Reads''.Asked, Reads''.Learnt) Reads'4.Pre Reads'4.Post
+After-index = Lts.After-index (Reads.Asked, Reads.Learnt, Reads'4.Asked, Reads'4.Learnt, Reads'.Asked, Reads'.Learnt, Reads'3.Asked, Reads'3.Learnt) Reads''.Pre Reads''.Post
 
 abbrev pub After-record : Type 0
-After-record = Lts.After-record (Reads.Asked, Reads.Learnt, Reads'3.Asked, Reads'3.Learnt, Reads'.Asked, Reads'.Learnt, Reads''.Asked, Reads''.Learnt) Reads'4.Pre Reads'4.Post
+After-record = Lts.After-record (Reads.Asked, Reads.Learnt, Reads'4.Asked, Reads'4.Learnt, Reads'.Asked, Reads'.Learnt, Reads'3.Asked, Reads'3.Learnt) Reads''.Pre Reads''.Post
 
-abbrev pub After-met-by : Type 0
-After-met-by = Lts.After-met-by (Reads.Asked, Reads.Learnt, Reads'3.Asked, Reads'3.Learnt, Reads'.Asked, Reads'.Learnt, Reads''.Asked, Reads''.Learnt) Reads'4.Pre Reads'4.Post
+abbrev pub After-judge-by-station : Type 0
+After-judge-by-station = Lts.After-judge-by-station (Reads.Asked, Reads.Learnt, Reads'4.Asked, Reads'4.Learnt, Reads'.Asked, Reads'.Learnt, Reads'3.Asked, Reads'3.Learnt) Reads''.Pre Reads''.Post
 
 abbrev pub Need-parse-requires : Type 0
-Need-parse-requires = Lts.Need-parse-requires (Reads.Asked, Reads.Learnt, Reads'3.Asked, Reads'3.Learnt, Reads'.Asked, Reads'.Learnt, Reads''.Asked, Reads''.Learnt) Reads'4.Pre Reads'4.Post
+Need-parse-requires = Lts.Need-parse-requires (Reads.Asked, Reads.Learnt, Reads'4.Asked, Reads'4.Learnt, Reads'.Asked, Reads'.Learnt, Reads'3.Asked, Reads'3.Learnt) Reads''.Pre Reads''.Post
 
 abbrev pub Need-station-of-requires : Type 0
-Need-station-of-requires = Lts.Need-station-of-requires (Reads.Asked, Reads.Learnt, Reads'3.Asked, Reads'3.Learnt, Reads'.Asked, Reads'.Learnt, Reads''.Asked, Reads''.Learnt) Reads'4.Pre Reads'4.Post
+Need-station-of-requires = Lts.Need-station-of-requires (Reads.Asked, Reads.Learnt, Reads'4.Asked, Reads'4.Learnt, Reads'.Asked, Reads'.Learnt, Reads'3.Asked, Reads'3.Learnt) Reads''.Pre Reads''.Post
 
 abbrev pub Need-index-requires : Type 0
-Need-index-requires = Lts.Need-index-requires (Reads.Asked, Reads.Learnt, Reads'3.Asked, Reads'3.Learnt, Reads'.Asked, Reads'.Learnt, Reads''.Asked, Reads''.Learnt) Reads'4.Pre Reads'4.Post
+Need-index-requires = Lts.Need-index-requires (Reads.Asked, Reads.Learnt, Reads'4.Asked, Reads'4.Learnt, Reads'.Asked, Reads'.Learnt, Reads'3.Asked, Reads'3.Learnt) Reads''.Pre Reads''.Post
 
 abbrev pub Need-mul-record : Type 0
-Need-mul-record = Lts.Need-mul-record (Reads.Asked, Reads.Learnt, Reads'3.Asked, Reads'3.Learnt, Reads'.Asked, Reads'.Learnt, Reads''.Asked, Reads''.Learnt) Reads'4.Pre Reads'4.Post
+Need-mul-record = Lts.Need-mul-record (Reads.Asked, Reads.Learnt, Reads'4.Asked, Reads'4.Learnt, Reads'.Asked, Reads'.Learnt, Reads'3.Asked, Reads'3.Learnt) Reads''.Pre Reads''.Post
 
 abbrev pub Need-shared-slice-copy-out-record : Type 0
-Need-shared-slice-copy-out-record = Lts.Need-shared-slice-copy-out-record (Reads.Asked, Reads.Learnt, Reads'3.Asked, Reads'3.Learnt, Reads'.Asked, Reads'.Learnt, Reads''.Asked, Reads''.Learnt) Reads'4.Pre Reads'4.Post
+Need-shared-slice-copy-out-record = Lts.Need-shared-slice-copy-out-record (Reads.Asked, Reads.Learnt, Reads'4.Asked, Reads'4.Learnt, Reads'.Asked, Reads'.Learnt, Reads'3.Asked, Reads'3.Learnt) Reads''.Pre Reads''.Post
 
-abbrev pub Need-met-by-requires : Type 0
-Need-met-by-requires = Lts.Need-met-by-requires (Reads.Asked, Reads.Learnt, Reads'3.Asked, Reads'3.Learnt, Reads'.Asked, Reads'.Learnt, Reads''.Asked, Reads''.Learnt) Reads'4.Pre Reads'4.Post
+abbrev pub Need-judge-by-station-requires : Type 0
+Need-judge-by-station-requires = Lts.Need-judge-by-station-requires (Reads.Asked, Reads.Learnt, Reads'4.Asked, Reads'4.Learnt, Reads'.Asked, Reads'.Learnt, Reads'3.Asked, Reads'3.Learnt) Reads''.Pre Reads''.Post
 
 abbrev pub Need-returns : Type 0
-Need-returns = Lts.Need-returns (Reads.Asked, Reads.Learnt, Reads'3.Asked, Reads'3.Learnt, Reads'.Asked, Reads'.Learnt, Reads''.Asked, Reads''.Learnt) Reads'4.Pre Reads'4.Post
+Need-returns = Lts.Need-returns (Reads.Asked, Reads.Learnt, Reads'4.Asked, Reads'4.Learnt, Reads'.Asked, Reads'.Learnt, Reads'3.Asked, Reads'3.Learnt) Reads''.Pre Reads''.Post
 
 module _ {M : Type 1} where
   pub spec :
@@ -70,29 +70,29 @@ module _ {M : Type 1} where
       (answer : Need-index-requires) →
       (answer : Need-mul-record) →
       (answer : Need-shared-slice-copy-out-record) →
-      (answer : Need-met-by-requires) →
+      (answer : Need-judge-by-station-requires) →
       (answer : Need-returns) →
       Lts.Closed (
         Reads.Asked,
         Reads.Learnt,
-        Reads'3.Asked,
-        Reads'3.Learnt,
+        Reads'4.Asked,
+        Reads'4.Learnt,
         Reads'.Asked,
         Reads'.Learnt,
-        Reads''.Asked,
-        Reads''.Learnt,
-      ) Reads'4.Pre Reads'4.Post M
-  spec = λ answer answer' answer'' answer'3 answer'4 answer'5 answer'6. Lts.spec (Reads.Asked, Reads.Learnt, Reads'3.Asked, Reads'3.Learnt, Reads'.Asked, Reads'.Learnt, Reads''.Asked, Reads''.Learnt) Reads'4.Pre Reads'4.Post answer answer' answer'' answer'3 answer'4 answer'5 answer'6
+        Reads'3.Asked,
+        Reads'3.Learnt,
+      ) Reads''.Pre Reads''.Post M
+  spec = λ answer answer' answer'' answer'3 answer'4 answer'5 answer'6. Lts.spec (Reads.Asked, Reads.Learnt, Reads'4.Asked, Reads'4.Learnt, Reads'.Asked, Reads'.Learnt, Reads'3.Asked, Reads'3.Learnt) Reads''.Pre Reads''.Post answer answer' answer'' answer'3 answer'4 answer'5 answer'6
 
   pub close : Lts.Closed (
     Reads.Asked,
     Reads.Learnt,
-    Reads'3.Asked,
-    Reads'3.Learnt,
+    Reads'4.Asked,
+    Reads'4.Learnt,
     Reads'.Asked,
     Reads'.Learnt,
-    Reads''.Asked,
-    Reads''.Learnt,
-  ) Reads'4.Pre Reads'4.Post M → Statement.statement M
+    Reads'3.Asked,
+    Reads'3.Learnt,
+  ) Reads''.Pre Reads''.Post M → Statement.statement M
   unfolding Code.routine Running.tablesOf
-  close = λ closed 𝓤 H 𝓜 𝓖 𝓡. Written.close 3 Kinds.ps Kinds.r Reads'4.Ghost Reads'4.requires Reads'4.ensures Reads'4.pre-read Reads'4.Pinned Reads'4.Owned Reads'4.post-read record { M = M; 𝓤 = 𝓤; H = H; 𝓜 = 𝓜; 𝓖 = 𝓖; 𝓡 = 𝓡 } Code.env Key.name Code.function (Code.unfolded 𝓤 H 𝓜 𝓡) (λ κs a g. tt) (λ κs. Reads'4.owns κs record { M = M; 𝓤 = 𝓤; H = H; 𝓜 = 𝓜; 𝓖 = 𝓖; 𝓡 = 𝓡 }) (Reads'4.passes record { M = M; 𝓤 = 𝓤; H = H; 𝓜 = 𝓜; 𝓖 = 𝓖; 𝓡 = 𝓡 }) λ g. closed 𝓤 H (𝓖 .A) (Running.givenOf 𝓤 H 𝓜 𝓖) (Run.Over 𝓤 H 𝓜 𝓖 𝓡 Code.env) (Reads.known record { M = M; 𝓤 = 𝓤; H = H; 𝓜 = 𝓜; 𝓖 = 𝓖; 𝓡 = 𝓡 } Code.env Symbol.name Symbol.routine Code.calls-frame·parse (Met.met 𝓤 H 𝓜 𝓖 𝓡)) (Reads'3.known record { M = M; 𝓤 = 𝓤; H = H; 𝓜 = 𝓜; 𝓖 = 𝓖; 𝓡 = 𝓡 } Code.env Symbol'3.name Symbol'3.routine Code.calls-station·station-of (Met'3.met 𝓤 H 𝓜 𝓖 𝓡)) (Reads'.known record { M = M; 𝓤 = 𝓤; H = H; 𝓜 = 𝓜; 𝓖 = 𝓖; 𝓡 = 𝓡 } Code.env Symbol'.name Symbol'.routine Code.calls-ranges·index (Met'.met 𝓤 H 𝓜 𝓖 𝓡)) (Reads''.known record { M = M; 𝓤 = 𝓤; H = H; 𝓜 = 𝓜; 𝓖 = 𝓖; 𝓡 = 𝓡 } Code.env Symbol''.name Symbol''.routine Code.calls-station·met-by (Met''.met 𝓤 H 𝓜 𝓖 𝓡))
+  close = λ closed 𝓤 H 𝓜 𝓖 𝓡. Written.close 3 Kinds.ps Kinds.r Reads''.Ghost Reads''.requires Reads''.ensures Reads''.pre-read Reads''.Pinned Reads''.Owned Reads''.post-read record { M = M; 𝓤 = 𝓤; H = H; 𝓜 = 𝓜; 𝓖 = 𝓖; 𝓡 = 𝓡 } Code.env Key.name Code.function (Code.unfolded 𝓤 H 𝓜 𝓡) (λ κs a g. tt) (λ κs. Reads''.owns κs record { M = M; 𝓤 = 𝓤; H = H; 𝓜 = 𝓜; 𝓖 = 𝓖; 𝓡 = 𝓡 }) (Reads''.passes record { M = M; 𝓤 = 𝓤; H = H; 𝓜 = 𝓜; 𝓖 = 𝓖; 𝓡 = 𝓡 }) λ g. closed 𝓤 H (𝓖 .A) (Running.givenOf 𝓤 H 𝓜 𝓖) (Run.Over 𝓤 H 𝓜 𝓖 𝓡 Code.env) (Reads.known record { M = M; 𝓤 = 𝓤; H = H; 𝓜 = 𝓜; 𝓖 = 𝓖; 𝓡 = 𝓡 } Code.env Symbol.name Symbol.routine Code.calls-frame-parse·parse (Met.met 𝓤 H 𝓜 𝓖 𝓡)) (Reads'4.known record { M = M; 𝓤 = 𝓤; H = H; 𝓜 = 𝓜; 𝓖 = 𝓖; 𝓡 = 𝓡 } Code.env Symbol'3.name Symbol'3.routine Code.calls-station-judging·station-of (Met'3.met 𝓤 H 𝓜 𝓖 𝓡)) (Reads'.known record { M = M; 𝓤 = 𝓤; H = H; 𝓜 = 𝓜; 𝓖 = 𝓖; 𝓡 = 𝓡 } Code.env Symbol'.name Symbol'.routine Code.calls-number-ranges·index (Met'.met 𝓤 H 𝓜 𝓖 𝓡)) (Reads'3.known record { M = M; 𝓤 = 𝓤; H = H; 𝓜 = 𝓜; 𝓖 = 𝓖; 𝓡 = 𝓡 } Code.env Symbol''.name Symbol''.routine Code.calls-station-judging·judge-by-station (Met''.met 𝓤 H 𝓜 𝓖 𝓡))

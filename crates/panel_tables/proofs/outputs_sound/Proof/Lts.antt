@@ -92,7 +92,7 @@ abbrev b9 : Syntax.Body
 b9 = Syntax.assign (Syntax.place 4 List.[]) (Syntax.rvOpd (Syntax.copy (Syntax.place 8 List.[])))
 
 abbrev b10 : Syntax.Body
-b10 = Syntax.call "rules::is_sound" (List._∷_ (Syntax.copy (Syntax.place 2 List.[])) (List._∷_ (Syntax.copy (Syntax.place 4 List.[])) List.[])) (Syntax.place 6 List.[])
+b10 = Syntax.call "output_rules::is_sound" (List._∷_ (Syntax.copy (Syntax.place 2 List.[])) (List._∷_ (Syntax.copy (Syntax.place 4 List.[])) List.[])) (Syntax.place 6 List.[])
 
 abbrev b11 : Syntax.Body
 b11 = Syntax.assign (Syntax.place 9 List.[]) (Syntax.op1 Syntax.bitNot (Syntax.copy (Syntax.place 6 List.[])))
@@ -429,7 +429,7 @@ module _ (claims· : Claims) where
       (Post· : (κs : Lifetimes.Lfts 1) → (a : Kinds.Dens κs ps) → Kinds.Plain 1 ps r κs) where
     module _ (M : Type 1) where
       abbrev pub Closed : Type 2
-      Closed = (𝓤 : URA.URA M) (H : Wp.Heap 𝓤) (A : Atoms.Atoms 𝓤) (W : Kit.Given 𝓤 H A) (𝓣 : Wp.Tables 𝓤 H) (known0 : Plain.Known 𝓤 H A W 𝓣 0 ps·0 r·0 (claims· .0) (claims· .1) "rules::is_sound") → Statement.Triple 𝓤 (Wp.WpFn 𝓤 H (𝓣 .C) (𝓣 .Λ) (Function.fnOf 1 ps r xs m hs body)) (Function.plainOf 𝓤 H A 1 ps r Pre· Post·)
+      Closed = (𝓤 : URA.URA M) (H : Wp.Heap 𝓤) (A : Atoms.Atoms 𝓤) (W : Kit.Given 𝓤 H A) (𝓣 : Wp.Tables 𝓤 H) (known0 : Plain.Known 𝓤 H A W 𝓣 0 ps·0 r·0 (claims· .0) (claims· .1) "output_rules::is_sound") → Statement.Triple 𝓤 (Wp.WpFn 𝓤 H (𝓣 .C) (𝓣 .Λ) (Function.fnOf 1 ps r xs m hs body)) (Function.plainOf 𝓤 H A 1 ps r Pre· Post·)
 
     module _ (Inv·0 : InvT-loop) (μ·0 : MeasureT-loop) where
       abbrev at0 : Typed.TF T8 O4
@@ -552,7 +552,7 @@ module _ (claims· : Claims) where
       module _ {M : Type 1} (𝓤 : URA.URA M) (H : Wp.Heap 𝓤) (A : Atoms.Atoms 𝓤)
           (W : Kit.Given 𝓤 H A) (𝓣 : Wp.Tables 𝓤 H) where
         abbrev Knowns : Type 1
-        Knowns = Plain.Known 𝓤 H A W 𝓣 0 ps·0 r·0 (claims· .0) (claims· .1) "rules::is_sound"
+        Knowns = Plain.Known 𝓤 H A W 𝓣 0 ps·0 r·0 (claims· .0) (claims· .1) "output_rules::is_sound"
 
       module _ (κs : Lifetimes.Lfts 1) (qs : Lifetimes.Shares 1) where
         abbrev G0 : Row.Cx
@@ -730,7 +730,7 @@ module _ (claims· : Claims) where
           d18 = Typed.g-pre 𝓤 H A W 𝓣 E G17 G18 b19 Δ3 (Typed.pass T17 T18 s14) at17 (Scalar.g-room 𝓤 H A W E G17 4 OfOutput.spelt (OfOutput.room 𝓤 H A W)) d17
 
           d19 : Typed.Typed 𝓤 H A 𝓣 E G16 b20 Δ3 at19
-          d19 = Typed.s-seq 𝓤 H A W 𝓣 E G16 G17 b10 b19 Δ3 (Typed.both s13) at18 (Plain.t-call-plain 𝓤 H A W 𝓣 0 ps·0 r·0 (claims· .0) (claims· .1) "rules::is_sound" known E (λ pos β. β) G16 (Num.vAt 2 λ x. x, (record { pos = 4; st = List.[]; d = 0; at = λ x. x }, tt)) 6 List.[] (Call.sub-id 𝓤 H A W (G16 .slots)) ((Scalar.reads-sc 𝓤 H A W (Row.sInt Syntax.w64), Path'.refl), ((OfOutput.yields 𝓤 H A W, Path'.refl), tt)) (Reads.room-gone 𝓤 H A Syntax.tyBool) tt Path'.refl) d18
+          d19 = Typed.s-seq 𝓤 H A W 𝓣 E G16 G17 b10 b19 Δ3 (Typed.both s13) at18 (Plain.t-call-plain 𝓤 H A W 𝓣 0 ps·0 r·0 (claims· .0) (claims· .1) "output_rules::is_sound" known E (λ pos β. β) G16 (Num.vAt 2 λ x. x, (record { pos = 4; st = List.[]; d = 0; at = λ x. x }, tt)) 6 List.[] (Call.sub-id 𝓤 H A W (G16 .slots)) ((Scalar.reads-sc 𝓤 H A W (Row.sInt Syntax.w64), Path'.refl), ((OfOutput.yields 𝓤 H A W, Path'.refl), tt)) (Reads.room-gone 𝓤 H A Syntax.tyBool) tt Path'.refl) d18
 
           d20 : Typed.Typed 𝓤 H A 𝓣 E G15 b20 Δ3 at20
           d20 = Typed.g-pre 𝓤 H A W 𝓣 E G15 G16 b20 Δ3 (Typed.pass T15 T16 s12) at19 (Scalar.g-room 𝓤 H A W E G15 8 OfOutput.spelt (OfOutput.room 𝓤 H A W)) d19
@@ -1114,7 +1114,7 @@ module _ (claims· : Claims) where
             r·0
             (claims· .0)
             (claims· .1)
-            "rules::is_sound") where
+            "output_rules::is_sound") where
           pub spec :
               Statement.Triple
               𝓤

@@ -97,10 +97,10 @@ abbrev b3 : Syntax.Body
 b3 = Syntax.assign (Syntax.place 6 List.[]) (Syntax.rvOpd (Syntax.copy (Syntax.place 11 List.[])))
 
 abbrev b4 : Syntax.Body
-b4 = Syntax.call "acting::act" (List._∷_ (Syntax.copy (Syntax.place 2 List.[])) (List._∷_ (Syntax.copy (Syntax.place 6 List.[])) (List._∷_ (Syntax.copy (Syntax.place 5 List.[])) List.[]))) (Syntax.place 7 List.[])
+b4 = Syntax.call "output_acting::act" (List._∷_ (Syntax.copy (Syntax.place 2 List.[])) (List._∷_ (Syntax.copy (Syntax.place 6 List.[])) (List._∷_ (Syntax.copy (Syntax.place 5 List.[])) List.[]))) (Syntax.place 7 List.[])
 
 abbrev b5 : Syntax.Body
-b5 = Syntax.call "acting::outcome_output" (List._∷_ (Syntax.copy (Syntax.place 7 List.[])) List.[]) (Syntax.place 8 List.[])
+b5 = Syntax.call "output_acting::outcome_output" (List._∷_ (Syntax.copy (Syntax.place 7 List.[])) List.[]) (Syntax.place 8 List.[])
 
 abbrev b6 : Syntax.Body
 b6 = Syntax.assign (Syntax.place 9 List.[]) (Syntax.op2 (Syntax.mul Syntax.unsigned) (Syntax.copy (Syntax.place 4 List.[])) (Syntax.int Syntax.w64 200))
@@ -112,7 +112,7 @@ abbrev b8 : Syntax.Body
 b8 = Syntax.assign (Syntax.place 12 (List._∷_ (Syntax.deref OfOutput.spelt) List.[])) (Syntax.rvOpd (Syntax.copy (Syntax.place 8 List.[])))
 
 abbrev b9 : Syntax.Body
-b9 = Syntax.call "acting::outcome_answer" (List._∷_ (Syntax.copy (Syntax.place 7 List.[])) List.[]) (Syntax.place 0 List.[])
+b9 = Syntax.call "output_acting::outcome_answer" (List._∷_ (Syntax.copy (Syntax.place 7 List.[])) List.[]) (Syntax.place 0 List.[])
 
 abbrev b10 : Syntax.Body
 b10 = Syntax.return
@@ -362,7 +362,7 @@ module _ (claims· : Claims) where
       (Post· : (κs : Lifetimes.Lfts 1) → (a : Kinds.Dens κs ps) → Kinds.Plain 1 ps r κs) where
     module _ (M : Type 1) where
       abbrev pub Closed : Type 2
-      Closed = (𝓤 : URA.URA M) (H : Wp.Heap 𝓤) (A : Atoms.Atoms 𝓤) (W : Kit.Given 𝓤 H A) (𝓣 : Wp.Tables 𝓤 H) (known0 : Plain.Known 𝓤 H A W 𝓣 0 ps·0 r·0 (claims· .0) (claims· .1) "acting::act") (known1 : Plain.Known 𝓤 H A W 𝓣 0 ps·1 r·1 (claims· .2) (claims· .3) "acting::outcome_output") (known2 : Plain.Known 𝓤 H A W 𝓣 0 ps·2 r·2 (claims· .4) (claims· .5) "acting::outcome_answer") → Statement.Triple 𝓤 (Wp.WpFn 𝓤 H (𝓣 .C) (𝓣 .Λ) (Function.fnOf 1 ps r xs m hs body)) (Function.plainOf 𝓤 H A 1 ps r Pre· Post·)
+      Closed = (𝓤 : URA.URA M) (H : Wp.Heap 𝓤) (A : Atoms.Atoms 𝓤) (W : Kit.Given 𝓤 H A) (𝓣 : Wp.Tables 𝓤 H) (known0 : Plain.Known 𝓤 H A W 𝓣 0 ps·0 r·0 (claims· .0) (claims· .1) "output_acting::act") (known1 : Plain.Known 𝓤 H A W 𝓣 0 ps·1 r·1 (claims· .2) (claims· .3) "output_acting::outcome_output") (known2 : Plain.Known 𝓤 H A W 𝓣 0 ps·2 r·2 (claims· .4) (claims· .5) "output_acting::outcome_answer") → Statement.Triple 𝓤 (Wp.WpFn 𝓤 H (𝓣 .C) (𝓣 .Λ) (Function.fnOf 1 ps r xs m hs body)) (Function.plainOf 𝓤 H A 1 ps r Pre· Post·)
 
     module _ where
       abbrev at0 : Typed.TF T23 O0
@@ -440,7 +440,7 @@ module _ (claims· : Claims) where
       module _ {M : Type 1} (𝓤 : URA.URA M) (H : Wp.Heap 𝓤) (A : Atoms.Atoms 𝓤)
           (W : Kit.Given 𝓤 H A) (𝓣 : Wp.Tables 𝓤 H) where
         abbrev Knowns : Type 1
-        Knowns = Plain.Known 𝓤 H A W 𝓣 0 ps·0 r·0 (claims· .0) (claims· .1) "acting::act" × Plain.Known 𝓤 H A W 𝓣 0 ps·1 r·1 (claims· .2) (claims· .3) "acting::outcome_output" × Plain.Known 𝓤 H A W 𝓣 0 ps·2 r·2 (claims· .4) (claims· .5) "acting::outcome_answer"
+        Knowns = Plain.Known 𝓤 H A W 𝓣 0 ps·0 r·0 (claims· .0) (claims· .1) "output_acting::act" × Plain.Known 𝓤 H A W 𝓣 0 ps·1 r·1 (claims· .2) (claims· .3) "output_acting::outcome_output" × Plain.Known 𝓤 H A W 𝓣 0 ps·2 r·2 (claims· .4) (claims· .5) "output_acting::outcome_answer"
 
       module _ (κs : Lifetimes.Lfts 1) (qs : Lifetimes.Shares 1) where
         abbrev G0 : Row.Cx
@@ -540,7 +540,7 @@ module _ (claims· : Claims) where
           d4 = Typed.g-pre 𝓤 H A W 𝓣 E G19 G20 b10 Δ0 (Typed.pass T19 T20 s18) at3 (Scalar.g-room 𝓤 H A W E G19 7 (Laws'.mir) (Local.room-whole 𝓤 H A W (Declared'.row Outcome.the-type) (Laws'.mir) Path'.refl)) d3
 
           d5 : Typed.Typed 𝓤 H A 𝓣 E G18 b11 Δ0 at5
-          d5 = Typed.s-seq 𝓤 H A W 𝓣 E G18 G19 b9 b10 Δ0 (Typed.both s17) at4 (Plain.t-call-plain 𝓤 H A W 𝓣 0 ps·2 r·2 (claims· .4) (claims· .5) "acting::outcome_answer" (known .2) E (λ pos β. β) G18 (record { pos = 7; st = List.[]; d = 0; at = λ x. x }, tt) 0 List.[] (Call.sub-id 𝓤 H A W (G18 .slots)) ((Yields.yields-copy 𝓤 H A W (λ ρ. Unit) (Declared'.row Outcome.the-type) Path'.refl (Copies.cStruct Outcome.the-type Laws'.the-laws Laws'.the-copy .copy 𝓤 H A W) (Rows'.whole (Declared'.row Outcome.the-type)) (λ x. x) (λ x. x) (λ ρ told. Local.mem-whole 𝓤 H A W (Declared'.row Outcome.the-type) ρ) λ ρ told. Local.whole-mem 𝓤 H A W (Declared'.row Outcome.the-type) ρ, Path'.refl), tt) (Reads.room-gone 𝓤 H A (Laws.mir)) tt Path'.refl) d4
+          d5 = Typed.s-seq 𝓤 H A W 𝓣 E G18 G19 b9 b10 Δ0 (Typed.both s17) at4 (Plain.t-call-plain 𝓤 H A W 𝓣 0 ps·2 r·2 (claims· .4) (claims· .5) "output_acting::outcome_answer" (known .2) E (λ pos β. β) G18 (record { pos = 7; st = List.[]; d = 0; at = λ x. x }, tt) 0 List.[] (Call.sub-id 𝓤 H A W (G18 .slots)) ((Yields.yields-copy 𝓤 H A W (λ ρ. Unit) (Declared'.row Outcome.the-type) Path'.refl (Copies.cStruct Outcome.the-type Laws'.the-laws Laws'.the-copy .copy 𝓤 H A W) (Rows'.whole (Declared'.row Outcome.the-type)) (λ x. x) (λ x. x) (λ ρ told. Local.mem-whole 𝓤 H A W (Declared'.row Outcome.the-type) ρ) λ ρ told. Local.whole-mem 𝓤 H A W (Declared'.row Outcome.the-type) ρ, Path'.refl), tt) (Reads.room-gone 𝓤 H A (Laws.mir)) tt Path'.refl) d4
 
           d6 : Typed.Typed 𝓤 H A 𝓣 E G17 b11 Δ0 at6
           d6 = Typed.g-pre 𝓤 H A W 𝓣 E G17 G18 b11 Δ0 (Typed.pass T17 T18 s16) at5 (Scalar.g-room 𝓤 H A W E G17 12 Syntax.tyPtr (Scalar.room-sc 𝓤 H A W Row.sPtr)) d5
@@ -561,7 +561,7 @@ module _ (claims· : Claims) where
           d11 = Typed.s-seq 𝓤 H A W 𝓣 E G12 G13 b6 b13 Δ0 (Typed.ask s11) at10 (Scalar.t-op2 𝓤 H A W E 𝓣 G12 (Syntax.mul Syntax.unsigned) (Scalar.oAt 4 (Syntax.tyInt Syntax.w64) (Row.valS (Row.sInt Syntax.w64))) (Scalar.oInt Syntax.w64 200) 9 (Rows'.sc-here (Row.sInt Syntax.w64)) (Syntax.tyInt Syntax.w64) (Row.valS (Row.sInt Syntax.w64)) (Row.sInt Syntax.w64 .of) (Scalar.reads-sc 𝓤 H A W (Row.sInt Syntax.w64), Path'.refl) tt (Reads.room-gone 𝓤 H A (Syntax.tyInt Syntax.w64)) (Scalar.holds-sc 𝓤 H A W (Row.sInt Syntax.w64)) Path'.refl (λ u. Path'.refl) λ u. tt) d10
 
           d12 : Typed.Typed 𝓤 H A 𝓣 E G11 b15 Δ0 at12
-          d12 = Typed.s-seq 𝓤 H A W 𝓣 E G11 G12 b5 b14 Δ0 (Typed.both s10) at11 (Plain.t-call-plain 𝓤 H A W 𝓣 0 ps·1 r·1 (claims· .2) (claims· .3) "acting::outcome_output" (known .1) E (λ pos β. β) G11 (record { pos = 7; st = List.[]; d = 0; at = λ x. x }, tt) 8 List.[] (Call.sub-id 𝓤 H A W (G11 .slots)) ((Yields.yields-copy 𝓤 H A W (λ ρ. Unit) (Declared'.row Outcome.the-type) Path'.refl (Copies.cStruct Outcome.the-type Laws'.the-laws Laws'.the-copy .copy 𝓤 H A W) (Rows'.whole (Declared'.row Outcome.the-type)) (λ x. x) (λ x. x) (λ ρ told. Local.mem-whole 𝓤 H A W (Declared'.row Outcome.the-type) ρ) λ ρ told. Local.whole-mem 𝓤 H A W (Declared'.row Outcome.the-type) ρ, Path'.refl), tt) (Reads.room-gone 𝓤 H A OfOutput.spelt) tt Path'.refl) d11
+          d12 = Typed.s-seq 𝓤 H A W 𝓣 E G11 G12 b5 b14 Δ0 (Typed.both s10) at11 (Plain.t-call-plain 𝓤 H A W 𝓣 0 ps·1 r·1 (claims· .2) (claims· .3) "output_acting::outcome_output" (known .1) E (λ pos β. β) G11 (record { pos = 7; st = List.[]; d = 0; at = λ x. x }, tt) 8 List.[] (Call.sub-id 𝓤 H A W (G11 .slots)) ((Yields.yields-copy 𝓤 H A W (λ ρ. Unit) (Declared'.row Outcome.the-type) Path'.refl (Copies.cStruct Outcome.the-type Laws'.the-laws Laws'.the-copy .copy 𝓤 H A W) (Rows'.whole (Declared'.row Outcome.the-type)) (λ x. x) (λ x. x) (λ ρ told. Local.mem-whole 𝓤 H A W (Declared'.row Outcome.the-type) ρ) λ ρ told. Local.whole-mem 𝓤 H A W (Declared'.row Outcome.the-type) ρ, Path'.refl), tt) (Reads.room-gone 𝓤 H A OfOutput.spelt) tt Path'.refl) d11
 
           d13 : Typed.Typed 𝓤 H A 𝓣 E G10 b15 Δ0 at13
           d13 = Typed.g-pre 𝓤 H A W 𝓣 E G10 G11 b15 Δ0 (Typed.pass T10 T11 s9) at12 (Scalar.g-room 𝓤 H A W E G10 6 OfOutput.spelt (OfOutput.room 𝓤 H A W)) d12
@@ -570,7 +570,7 @@ module _ (claims· : Claims) where
           d14 = Typed.g-pre 𝓤 H A W 𝓣 E G9 G10 b15 Δ0 (Typed.pass T9 T10 s8) at13 (Scalar.g-room 𝓤 H A W E G9 5 (Laws''.mir) (Local.room-whole 𝓤 H A W (Declared.row Request.the-type) (Laws''.mir) Path'.refl)) d13
 
           d15 : Typed.Typed 𝓤 H A 𝓣 E G8 b16 Δ0 at15
-          d15 = Typed.s-seq 𝓤 H A W 𝓣 E G8 G9 b4 b15 Δ0 (Typed.both s7) at14 (Plain.t-call-plain 𝓤 H A W 𝓣 0 ps·0 r·0 (claims· .0) (claims· .1) "acting::act" (known .0) E (λ pos β. β) G8 (Num.vAt 2 λ x. x, (record { pos = 6; st = List.[]; d = 0; at = λ x. x }, (record { pos = 5; st = List.[]; d = 0; at = λ x. x }, tt))) 7 List.[] (Call.sub-id 𝓤 H A W (G8 .slots)) ((Scalar.reads-sc 𝓤 H A W (Row.sInt Syntax.w64), Path'.refl), ((OfOutput.yields 𝓤 H A W, Path'.refl), ((Yields.yields-copy 𝓤 H A W (λ ρ. Unit) (Declared.row Request.the-type) Path'.refl (Copies.cEnum Request.the-type Laws''.the-laws Laws''.the-copy .copy 𝓤 H A W) (Rows'.whole (Declared.row Request.the-type)) (λ x. x) (λ x. x) (λ ρ told. Local.mem-whole 𝓤 H A W (Declared.row Request.the-type) ρ) λ ρ told. Local.whole-mem 𝓤 H A W (Declared.row Request.the-type) ρ, Path'.refl), tt))) (Reads.room-gone 𝓤 H A (Laws'.mir)) tt Path'.refl) d14
+          d15 = Typed.s-seq 𝓤 H A W 𝓣 E G8 G9 b4 b15 Δ0 (Typed.both s7) at14 (Plain.t-call-plain 𝓤 H A W 𝓣 0 ps·0 r·0 (claims· .0) (claims· .1) "output_acting::act" (known .0) E (λ pos β. β) G8 (Num.vAt 2 λ x. x, (record { pos = 6; st = List.[]; d = 0; at = λ x. x }, (record { pos = 5; st = List.[]; d = 0; at = λ x. x }, tt))) 7 List.[] (Call.sub-id 𝓤 H A W (G8 .slots)) ((Scalar.reads-sc 𝓤 H A W (Row.sInt Syntax.w64), Path'.refl), ((OfOutput.yields 𝓤 H A W, Path'.refl), ((Yields.yields-copy 𝓤 H A W (λ ρ. Unit) (Declared.row Request.the-type) Path'.refl (Copies.cEnum Request.the-type Laws''.the-laws Laws''.the-copy .copy 𝓤 H A W) (Rows'.whole (Declared.row Request.the-type)) (λ x. x) (λ x. x) (λ ρ told. Local.mem-whole 𝓤 H A W (Declared.row Request.the-type) ρ) λ ρ told. Local.whole-mem 𝓤 H A W (Declared.row Request.the-type) ρ, Path'.refl), tt))) (Reads.room-gone 𝓤 H A (Laws'.mir)) tt Path'.refl) d14
 
           d16 : Typed.Typed 𝓤 H A 𝓣 E G7 b16 Δ0 at16
           d16 = Typed.g-pre 𝓤 H A W 𝓣 E G7 G8 b16 Δ0 (Typed.pass T7 T8 s6) at15 (Scalar.g-room 𝓤 H A W E G7 11 OfOutput.spelt (OfOutput.room 𝓤 H A W)) d15
@@ -883,7 +883,18 @@ module _ (claims· : Claims) where
 
         module _ {M : Type 1} (𝓤 : URA.URA M) (H : Wp.Heap 𝓤) (A : Atoms.Atoms 𝓤)
             (W : Kit.Given 𝓤 H A) (𝓣 : Wp.Tables 𝓤 H)
-            (known0 : Plain.Known 𝓤 H A W 𝓣 0 ps·0 r·0 (claims· .0) (claims· .1) "acting::act")
+            (known0 : Plain.Known
+            𝓤
+            H
+            A
+            W
+            𝓣
+            0
+            ps·0
+            r·0
+            (claims· .0)
+            (claims· .1)
+            "output_acting::act")
             (known1 : Plain.Known
             𝓤
             H
@@ -895,7 +906,7 @@ module _ (claims· : Claims) where
             r·1
             (claims· .2)
             (claims· .3)
-            "acting::outcome_output")
+            "output_acting::outcome_output")
             (known2 : Plain.Known
             𝓤
             H
@@ -907,7 +918,7 @@ module _ (claims· : Claims) where
             r·2
             (claims· .4)
             (claims· .5)
-            "acting::outcome_answer") where
+            "output_acting::outcome_answer") where
           pub spec :
               Statement.Triple
               𝓤

@@ -90,7 +90,7 @@ abbrev b9 : Syntax.Body
 b9 = Syntax.assign (Syntax.place 3 List.[]) (Syntax.rvOpd (Syntax.copy (Syntax.place 7 List.[])))
 
 abbrev b10 : Syntax.Body
-b10 = Syntax.call "station::station_sound" (List._∷_ (Syntax.copy (Syntax.place 3 List.[])) List.[]) (Syntax.place 5 List.[])
+b10 = Syntax.call "station_judging::station_sound" (List._∷_ (Syntax.copy (Syntax.place 3 List.[])) List.[]) (Syntax.place 5 List.[])
 
 abbrev b11 : Syntax.Body
 b11 = Syntax.assign (Syntax.place 8 List.[]) (Syntax.op1 Syntax.bitNot (Syntax.copy (Syntax.place 5 List.[])))
@@ -409,7 +409,7 @@ module _ (claims· : Claims) where
       (Post· : (κs : Lifetimes.Lfts 1) → (a : Kinds.Dens κs ps) → Kinds.Plain 1 ps r κs) where
     module _ (M : Type 1) where
       abbrev pub Closed : Type 2
-      Closed = (𝓤 : URA.URA M) (H : Wp.Heap 𝓤) (A : Atoms.Atoms 𝓤) (W : Kit.Given 𝓤 H A) (𝓣 : Wp.Tables 𝓤 H) (known0 : Plain.Known 𝓤 H A W 𝓣 0 ps·0 r·0 (claims· .0) (claims· .1) "station::station_sound") → Statement.Triple 𝓤 (Wp.WpFn 𝓤 H (𝓣 .C) (𝓣 .Λ) (Function.fnOf 1 ps r xs m hs body)) (Function.plainOf 𝓤 H A 1 ps r Pre· Post·)
+      Closed = (𝓤 : URA.URA M) (H : Wp.Heap 𝓤) (A : Atoms.Atoms 𝓤) (W : Kit.Given 𝓤 H A) (𝓣 : Wp.Tables 𝓤 H) (known0 : Plain.Known 𝓤 H A W 𝓣 0 ps·0 r·0 (claims· .0) (claims· .1) "station_judging::station_sound") → Statement.Triple 𝓤 (Wp.WpFn 𝓤 H (𝓣 .C) (𝓣 .Λ) (Function.fnOf 1 ps r xs m hs body)) (Function.plainOf 𝓤 H A 1 ps r Pre· Post·)
 
     module _ (Inv·0 : InvT-loop) (μ·0 : MeasureT-loop) where
       abbrev at0 : Typed.TF T8 O4
@@ -526,7 +526,7 @@ module _ (claims· : Claims) where
       module _ {M : Type 1} (𝓤 : URA.URA M) (H : Wp.Heap 𝓤) (A : Atoms.Atoms 𝓤)
           (W : Kit.Given 𝓤 H A) (𝓣 : Wp.Tables 𝓤 H) where
         abbrev Knowns : Type 1
-        Knowns = Plain.Known 𝓤 H A W 𝓣 0 ps·0 r·0 (claims· .0) (claims· .1) "station::station_sound"
+        Knowns = Plain.Known 𝓤 H A W 𝓣 0 ps·0 r·0 (claims· .0) (claims· .1) "station_judging::station_sound"
 
       module _ (κs : Lifetimes.Lfts 1) (qs : Lifetimes.Shares 1) where
         abbrev G0 : Row.Cx
@@ -695,7 +695,7 @@ module _ (claims· : Claims) where
           d17 = Typed.g-pre 𝓤 H A W 𝓣 E G17 G18 b19 Δ3 (Typed.pass T17 T18 s14) at16 (Scalar.g-room 𝓤 H A W E G17 3 OfStation.spelt (OfStation.room 𝓤 H A W)) d16
 
           d18 : Typed.Typed 𝓤 H A 𝓣 E G16 b20 Δ3 at18
-          d18 = Typed.s-seq 𝓤 H A W 𝓣 E G16 G17 b10 b19 Δ3 (Typed.both s13) at17 (Plain.t-call-plain 𝓤 H A W 𝓣 0 ps·0 r·0 (claims· .0) (claims· .1) "station::station_sound" known E (λ pos β. β) G16 (record { pos = 3; st = List.[]; d = 0; at = λ x. x }, tt) 5 List.[] (Call.sub-id 𝓤 H A W (G16 .slots)) ((OfStation.yields 𝓤 H A W, Path'.refl), tt) (Reads.room-gone 𝓤 H A Syntax.tyBool) tt Path'.refl) d17
+          d18 = Typed.s-seq 𝓤 H A W 𝓣 E G16 G17 b10 b19 Δ3 (Typed.both s13) at17 (Plain.t-call-plain 𝓤 H A W 𝓣 0 ps·0 r·0 (claims· .0) (claims· .1) "station_judging::station_sound" known E (λ pos β. β) G16 (record { pos = 3; st = List.[]; d = 0; at = λ x. x }, tt) 5 List.[] (Call.sub-id 𝓤 H A W (G16 .slots)) ((OfStation.yields 𝓤 H A W, Path'.refl), tt) (Reads.room-gone 𝓤 H A Syntax.tyBool) tt Path'.refl) d17
 
           d19 : Typed.Typed 𝓤 H A 𝓣 E G15 b20 Δ3 at19
           d19 = Typed.g-pre 𝓤 H A W 𝓣 E G15 G16 b20 Δ3 (Typed.pass T15 T16 s12) at18 (Scalar.g-room 𝓤 H A W E G15 7 OfStation.spelt (OfStation.room 𝓤 H A W)) d18
@@ -1063,7 +1063,7 @@ module _ (claims· : Claims) where
             r·0
             (claims· .0)
             (claims· .1)
-            "station::station_sound") where
+            "station_judging::station_sound") where
           pub spec :
               Statement.Triple
               𝓤

@@ -87,13 +87,13 @@ abbrev pub hs : List.List Syntax.Home
 hs = List._∷_ Syntax.valueLocal (List._∷_ Syntax.valueLocal (List._∷_ Syntax.valueLocal (List._∷_ Syntax.valueLocal (List._∷_ Syntax.valueLocal (List._∷_ Syntax.valueLocal (List._∷_ Syntax.valueLocal (List._∷_ Syntax.valueLocal (List._∷_ Syntax.valueLocal (List._∷_ Syntax.valueLocal (List._∷_ Syntax.valueLocal (List._∷_ Syntax.valueLocal (List._∷_ Syntax.valueLocal (List._∷_ Syntax.valueLocal (List._∷_ Syntax.valueLocal (List._∷_ Syntax.valueLocal (List._∷_ Syntax.valueLocal (List._∷_ Syntax.valueLocal (List._∷_ Syntax.valueLocal (List._∷_ Syntax.valueLocal (List._∷_ Syntax.valueLocal (List._∷_ Syntax.valueLocal List.[])))))))))))))))))))))
 
 abbrev b0 : Syntax.Body
-b0 = Syntax.call "ranges::index" (List._∷_ (Syntax.copy (Syntax.place 6 List.[])) List.[]) (Syntax.place 10 List.[])
+b0 = Syntax.call "number_ranges::index" (List._∷_ (Syntax.copy (Syntax.place 6 List.[])) List.[]) (Syntax.place 10 List.[])
 
 abbrev b1 : Syntax.Body
 b1 = Syntax.assign (Syntax.place 11 List.[]) (Syntax.rvOpd (Syntax.copy (Syntax.place 1 (List._∷_ (Syntax.field 1) List.[]))))
 
 abbrev b2 : Syntax.Body
-b2 = Syntax.call "ranges::least" (List._∷_ (Syntax.copy (Syntax.place 10 List.[])) (List._∷_ (Syntax.copy (Syntax.place 11 List.[])) List.[])) (Syntax.place 7 List.[])
+b2 = Syntax.call "number_ranges::least" (List._∷_ (Syntax.copy (Syntax.place 10 List.[])) (List._∷_ (Syntax.copy (Syntax.place 11 List.[])) List.[])) (Syntax.place 7 List.[])
 
 abbrev b3 : Syntax.Body
 b3 = Syntax.assign (Syntax.place 12 List.[]) (Syntax.addrOf (Syntax.place 4 (List._∷_ (Syntax.deref (Syntax.tyInt Syntax.w8)) List.[])))
@@ -105,7 +105,7 @@ abbrev b5 : Syntax.Body
 b5 = Syntax.assign (Syntax.place 10 List.[]) (Syntax.rvOpd (Syntax.copy (Syntax.place 8 (List._∷_ (Syntax.field 1) List.[]))))
 
 abbrev b6 : Syntax.Body
-b6 = Syntax.call "ranges::least" (List._∷_ (Syntax.copy (Syntax.place 5 List.[])) (List._∷_ (Syntax.copy (Syntax.place 10 List.[])) List.[])) (Syntax.place 9 List.[])
+b6 = Syntax.call "number_ranges::least" (List._∷_ (Syntax.copy (Syntax.place 5 List.[])) (List._∷_ (Syntax.copy (Syntax.place 10 List.[])) List.[])) (Syntax.place 9 List.[])
 
 abbrev b7 : Syntax.Body
 b7 = Syntax.assign (Syntax.place 13 List.[]) (Syntax.op2 Syntax.offset (Syntax.copy (Syntax.place 1 (List._∷_ (Syntax.field 0) List.[]))) (Syntax.int Syntax.w64 0))
@@ -565,7 +565,7 @@ module _ (claims· : Claims) where
       (Post· : (κs : Lifetimes.Lfts 4) → (a : Kinds.Dens κs ps) → Kinds.Plain 4 ps r κs) where
     module _ (M : Type 1) where
       abbrev pub Closed : Type 2
-      Closed = (𝓤 : URA.URA M) (H : Wp.Heap 𝓤) (A : Atoms.Atoms 𝓤) (W : Kit.Given 𝓤 H A) (𝓣 : Wp.Tables 𝓤 H) (known0 : Plain.Known 𝓤 H A W 𝓣 0 ps·0 r·0 (claims· .0) (claims· .1) "ranges::index") (known1 : Plain.Known 𝓤 H A W 𝓣 0 ps·1 r·1 (claims· .2) (claims· .3) "ranges::least") (known2 : Plain.Known 𝓤 H A W 𝓣 4 ps·2 r·2 (claims· .4) (claims· .5) "panel::frame") → Statement.Triple 𝓤 (Wp.WpFn 𝓤 H (𝓣 .C) (𝓣 .Λ) (Function.fnOf 4 ps r xs m hs body)) (Function.plainOf 𝓤 H A 4 ps r Pre· Post·)
+      Closed = (𝓤 : URA.URA M) (H : Wp.Heap 𝓤) (A : Atoms.Atoms 𝓤) (W : Kit.Given 𝓤 H A) (𝓣 : Wp.Tables 𝓤 H) (known0 : Plain.Known 𝓤 H A W 𝓣 0 ps·0 r·0 (claims· .0) (claims· .1) "number_ranges::index") (known1 : Plain.Known 𝓤 H A W 𝓣 0 ps·1 r·1 (claims· .2) (claims· .3) "number_ranges::least") (known2 : Plain.Known 𝓤 H A W 𝓣 4 ps·2 r·2 (claims· .4) (claims· .5) "panel::frame") → Statement.Triple 𝓤 (Wp.WpFn 𝓤 H (𝓣 .C) (𝓣 .Λ) (Function.fnOf 4 ps r xs m hs body)) (Function.plainOf 𝓤 H A 4 ps r Pre· Post·)
 
     module _ where
       abbrev at0 : Typed.TF T46 O0
@@ -712,7 +712,7 @@ module _ (claims· : Claims) where
       module _ {M : Type 1} (𝓤 : URA.URA M) (H : Wp.Heap 𝓤) (A : Atoms.Atoms 𝓤)
           (W : Kit.Given 𝓤 H A) (𝓣 : Wp.Tables 𝓤 H) where
         abbrev Knowns : Type 1
-        Knowns = Plain.Known 𝓤 H A W 𝓣 0 ps·0 r·0 (claims· .0) (claims· .1) "ranges::index" × Plain.Known 𝓤 H A W 𝓣 0 ps·1 r·1 (claims· .2) (claims· .3) "ranges::least" × Plain.Known 𝓤 H A W 𝓣 4 ps·2 r·2 (claims· .4) (claims· .5) "panel::frame"
+        Knowns = Plain.Known 𝓤 H A W 𝓣 0 ps·0 r·0 (claims· .0) (claims· .1) "number_ranges::index" × Plain.Known 𝓤 H A W 𝓣 0 ps·1 r·1 (claims· .2) (claims· .3) "number_ranges::least" × Plain.Known 𝓤 H A W 𝓣 4 ps·2 r·2 (claims· .4) (claims· .5) "panel::frame"
 
       module _ (κs : Lifetimes.Lfts 4) (qs : Lifetimes.Shares 4) where
         abbrev g16 : List.List Row.Entry
@@ -1016,7 +1016,7 @@ module _ (claims· : Claims) where
           d35 = Typed.g-pre 𝓤 H A W 𝓣 E G11 G12 b31 Δ0 (Typed.pass T11 T12 s10) at34 (Scalar.g-room 𝓤 H A W E G11 10 (Syntax.tyInt Syntax.w64) (Scalar.room-sc 𝓤 H A W (Row.sInt Syntax.w64))) d34
 
           d36 : Typed.Typed 𝓤 H A 𝓣 E G10 b32 Δ0 at36
-          d36 = Typed.s-seq 𝓤 H A W 𝓣 E G10 G11 b6 b31 Δ0 (Typed.both s9) at35 (Plain.t-call-plain 𝓤 H A W 𝓣 0 ps·1 r·1 (claims· .2) (claims· .3) "ranges::least" (known .1) E (λ pos β. β) G10 (Num.vAt 5 λ x. x, (Num.vAt 10 λ x. x, tt)) 9 List.[] (Call.sub-id 𝓤 H A W (G10 .slots)) ((Scalar.reads-sc 𝓤 H A W (Row.sInt Syntax.w64), Path'.refl), ((Scalar.reads-sc 𝓤 H A W (Row.sInt Syntax.w64), Path'.refl), tt)) (Reads.room-gone 𝓤 H A (Syntax.tyInt Syntax.w64)) tt Path'.refl) d35
+          d36 = Typed.s-seq 𝓤 H A W 𝓣 E G10 G11 b6 b31 Δ0 (Typed.both s9) at35 (Plain.t-call-plain 𝓤 H A W 𝓣 0 ps·1 r·1 (claims· .2) (claims· .3) "number_ranges::least" (known .1) E (λ pos β. β) G10 (Num.vAt 5 λ x. x, (Num.vAt 10 λ x. x, tt)) 9 List.[] (Call.sub-id 𝓤 H A W (G10 .slots)) ((Scalar.reads-sc 𝓤 H A W (Row.sInt Syntax.w64), Path'.refl), ((Scalar.reads-sc 𝓤 H A W (Row.sInt Syntax.w64), Path'.refl), tt)) (Reads.room-gone 𝓤 H A (Syntax.tyInt Syntax.w64)) tt Path'.refl) d35
 
           d37 : Typed.Typed 𝓤 H A 𝓣 E G9 b33 Δ0 at37
           d37 = Typed.s-seq 𝓤 H A W 𝓣 E G9 G10 b5 b32 Δ0 (Typed.pass T9 T10 s8) at36 (Scalar.t-use 𝓤 H A W E 𝓣 G9 (Scalar.oFld 8 (List._∷_ (Syntax.field 1) List.[]) (Syntax.tyInt Syntax.w64) 8 Shared.lenV) 10 (Rows.sc-here (Row.sInt Syntax.w64)) (Syntax.tyInt Syntax.w64) (Row.valS (Row.sInt Syntax.w64)) (Row.sInt Syntax.w64 .of) (Shared.reads-sslice-len 𝓤 H A W (Referent.rtF (Referent.fInt Syntax.w8)) (Syntax.tyRef Syntax.erased Syntax.imm (Syntax.tyInt Syntax.w8)) 3 8 Path'.refl, Path'.refl) (Reads.room-gone 𝓤 H A (Syntax.tyInt Syntax.w64)) (Scalar.holds-sc 𝓤 H A W (Row.sInt Syntax.w64)) Path'.refl (λ u. Path'.refl) λ u. tt) d36
@@ -1037,13 +1037,13 @@ module _ (claims· : Claims) where
           d42 = Typed.g-pre 𝓤 H A W 𝓣 E G4 G5 b35 Δ0 (Typed.pass T4 T5 s3) at41 (Scalar.g-room 𝓤 H A W E G4 10 (Syntax.tyInt Syntax.w64) (Scalar.room-sc 𝓤 H A W (Row.sInt Syntax.w64))) d41
 
           d43 : Typed.Typed 𝓤 H A 𝓣 E G3 b36 Δ0 at43
-          d43 = Typed.s-seq 𝓤 H A W 𝓣 E G3 G4 b2 b35 Δ0 (Typed.both s2) at42 (Plain.t-call-plain 𝓤 H A W 𝓣 0 ps·1 r·1 (claims· .2) (claims· .3) "ranges::least" (known .1) E (λ pos β. β) G3 (Num.vAt 10 λ x. x, (Num.vAt 11 λ x. x, tt)) 7 List.[] (Call.sub-id 𝓤 H A W (G3 .slots)) ((Scalar.reads-sc 𝓤 H A W (Row.sInt Syntax.w64), Path'.refl), ((Scalar.reads-sc 𝓤 H A W (Row.sInt Syntax.w64), Path'.refl), tt)) (Reads.room-gone 𝓤 H A (Syntax.tyInt Syntax.w64)) tt Path'.refl) d42
+          d43 = Typed.s-seq 𝓤 H A W 𝓣 E G3 G4 b2 b35 Δ0 (Typed.both s2) at42 (Plain.t-call-plain 𝓤 H A W 𝓣 0 ps·1 r·1 (claims· .2) (claims· .3) "number_ranges::least" (known .1) E (λ pos β. β) G3 (Num.vAt 10 λ x. x, (Num.vAt 11 λ x. x, tt)) 7 List.[] (Call.sub-id 𝓤 H A W (G3 .slots)) ((Scalar.reads-sc 𝓤 H A W (Row.sInt Syntax.w64), Path'.refl), ((Scalar.reads-sc 𝓤 H A W (Row.sInt Syntax.w64), Path'.refl), tt)) (Reads.room-gone 𝓤 H A (Syntax.tyInt Syntax.w64)) tt Path'.refl) d42
 
           d44 : Typed.Typed 𝓤 H A 𝓣 E G2 b37 Δ0 at44
           d44 = Typed.s-seq 𝓤 H A W 𝓣 E G2 G3 b1 b36 Δ0 (Typed.pass T2 T3 s1) at43 (Scalar.t-use 𝓤 H A W E 𝓣 G2 (Scalar.oFld 1 (List._∷_ (Syntax.field 1) List.[]) (Syntax.tyInt Syntax.w64) 8 Shared.lenV) 11 (Rows.sc-here (Row.sInt Syntax.w64)) (Syntax.tyInt Syntax.w64) (Row.valS (Row.sInt Syntax.w64)) (Row.sInt Syntax.w64 .of) (Mut.reads-mslice-len 𝓤 H A W (OfOutput.row) (Syntax.tyRef (Syntax.named 0) Syntax.mut OfOutput.named) 0 8 Path'.refl, Path'.refl) (Reads.room-gone 𝓤 H A (Syntax.tyInt Syntax.w64)) (Scalar.holds-sc 𝓤 H A W (Row.sInt Syntax.w64)) Path'.refl (λ u. Path'.refl) λ u. tt) d43
 
           d45 : Typed.Typed 𝓤 H A 𝓣 E G0 b38 Δ0 at45
-          d45 = Typed.s-seq 𝓤 H A W 𝓣 E G0 G2 b0 b37 Δ0 (Typed.both s0) at44 (Plain.t-call-plain 𝓤 H A W 𝓣 0 ps·0 r·0 (claims· .0) (claims· .1) "ranges::index" (known .0) E (λ pos β. β) G0 (Num.vAt 6 λ x. x, tt) 10 List.[] (Call.sub-id 𝓤 H A W (G0 .slots)) ((Scalar.reads-sc 𝓤 H A W (Row.sInt Syntax.w8), Path'.refl), tt) (Reads.room-gone 𝓤 H A (Syntax.tyInt Syntax.w64)) tt Path'.refl) d44
+          d45 = Typed.s-seq 𝓤 H A W 𝓣 E G0 G2 b0 b37 Δ0 (Typed.both s0) at44 (Plain.t-call-plain 𝓤 H A W 𝓣 0 ps·0 r·0 (claims· .0) (claims· .1) "number_ranges::index" (known .0) E (λ pos β. β) G0 (Num.vAt 6 λ x. x, tt) 10 List.[] (Call.sub-id 𝓤 H A W (G0 .slots)) ((Scalar.reads-sc 𝓤 H A W (Row.sInt Syntax.w8), Path'.refl), tt) (Reads.room-gone 𝓤 H A (Syntax.tyInt Syntax.w64)) tt Path'.refl) d44
 
           pub typed :
               Typed.Typed
@@ -1498,8 +1498,30 @@ module _ (claims· : Claims) where
 
         module _ {M : Type 1} (𝓤 : URA.URA M) (H : Wp.Heap 𝓤) (A : Atoms.Atoms 𝓤)
             (W : Kit.Given 𝓤 H A) (𝓣 : Wp.Tables 𝓤 H)
-            (known0 : Plain.Known 𝓤 H A W 𝓣 0 ps·0 r·0 (claims· .0) (claims· .1) "ranges::index")
-            (known1 : Plain.Known 𝓤 H A W 𝓣 0 ps·1 r·1 (claims· .2) (claims· .3) "ranges::least")
+            (known0 : Plain.Known
+            𝓤
+            H
+            A
+            W
+            𝓣
+            0
+            ps·0
+            r·0
+            (claims· .0)
+            (claims· .1)
+            "number_ranges::index")
+            (known1 : Plain.Known
+            𝓤
+            H
+            A
+            W
+            𝓣
+            0
+            ps·1
+            r·1
+            (claims· .2)
+            (claims· .3)
+            "number_ranges::least")
             (known2 : Plain.Known
             𝓤
             H

@@ -1,97 +1,97 @@
 -- Made by tools/twin.py.
+use Rattle.number_ranges.proofs.index.Met
+use Rattle.number_ranges.proofs.index.Reads
+use Rattle.number_ranges.proofs.index.Symbol
+use Rattle.number_ranges.proofs.least.Met as Met'
+use Rattle.number_ranges.proofs.least.Reads as Reads'
+use Rattle.number_ranges.proofs.least.Symbol as Symbol'
+use Rattle.panel.proofs.Lent.frame.Reads as Reads''
+use Rattle.panel.proofs.frame.Met as Met''
+use Rattle.panel.proofs.frame.Symbol as Symbol''
 use Rattle.replay_line.proofs.Lent.frame.Kinds
-use Rattle.replay_line.proofs.Lent.frame.Reads
+use Rattle.replay_line.proofs.Lent.frame.Reads as Reads'3
 use Rattle.replay_line.proofs.frame.Code
 use Rattle.replay_line.proofs.frame.Key
 use Rattle.replay_line.proofs.frame.Proof.Lts
 use Rattle.replay_line.proofs.frame.Statement
-use Rattle.panel.proofs.Lent.frame.Reads as Reads'
-use Rattle.panel.proofs.frame.Met
-use Rattle.panel.proofs.frame.Symbol
-use Rattle.number_ranges.proofs.index.Met as Met'
-use Rattle.number_ranges.proofs.index.Reads as Reads''
-use Rattle.number_ranges.proofs.index.Symbol as Symbol'
-use Rattle.number_ranges.proofs.least.Met as Met''
-use Rattle.number_ranges.proofs.least.Reads as Reads'3
-use Rattle.number_ranges.proofs.least.Symbol as Symbol''
 use borrow.Fn.Run
 use borrow.Fn.Written
 use contract.Running
 
 abbrev pub Start : Type 0
-Start = Lts.Start (Reads''.Asked, Reads''.Learnt, Reads'3.Asked, Reads'3.Learnt, Reads'.Asked, Reads'.Learnt) Reads.Pre Reads.Post
+Start = Lts.Start (Reads.Asked, Reads.Learnt, Reads'.Asked, Reads'.Learnt, Reads''.Asked, Reads''.Learnt) Reads'3.Pre Reads'3.Post
 
 abbrev pub After-index : Type 0
-After-index = Lts.After-index (Reads''.Asked, Reads''.Learnt, Reads'3.Asked, Reads'3.Learnt, Reads'.Asked, Reads'.Learnt) Reads.Pre Reads.Post
+After-index = Lts.After-index (Reads.Asked, Reads.Learnt, Reads'.Asked, Reads'.Learnt, Reads''.Asked, Reads''.Learnt) Reads'3.Pre Reads'3.Post
 
 abbrev pub After-least : Type 0
-After-least = Lts.After-least (Reads''.Asked, Reads''.Learnt, Reads'3.Asked, Reads'3.Learnt, Reads'.Asked, Reads'.Learnt) Reads.Pre Reads.Post
+After-least = Lts.After-least (Reads.Asked, Reads.Learnt, Reads'.Asked, Reads'.Learnt, Reads''.Asked, Reads''.Learnt) Reads'3.Pre Reads'3.Post
 
 abbrev pub After-kept : Type 0
-After-kept = Lts.After-kept (Reads''.Asked, Reads''.Learnt, Reads'3.Asked, Reads'3.Learnt, Reads'.Asked, Reads'.Learnt) Reads.Pre Reads.Post
+After-kept = Lts.After-kept (Reads.Asked, Reads.Learnt, Reads'.Asked, Reads'.Learnt, Reads''.Asked, Reads''.Learnt) Reads'3.Pre Reads'3.Post
 
 abbrev pub After-least2 : Type 0
-After-least2 = Lts.After-least2 (Reads''.Asked, Reads''.Learnt, Reads'3.Asked, Reads'3.Learnt, Reads'.Asked, Reads'.Learnt) Reads.Pre Reads.Post
+After-least2 = Lts.After-least2 (Reads.Asked, Reads.Learnt, Reads'.Asked, Reads'.Learnt, Reads''.Asked, Reads''.Learnt) Reads'3.Pre Reads'3.Post
 
 abbrev pub After-frame-arg : Type 0
-After-frame-arg = Lts.After-frame-arg (Reads''.Asked, Reads''.Learnt, Reads'3.Asked, Reads'3.Learnt, Reads'.Asked, Reads'.Learnt) Reads.Pre Reads.Post
+After-frame-arg = Lts.After-frame-arg (Reads.Asked, Reads.Learnt, Reads'.Asked, Reads'.Learnt, Reads''.Asked, Reads''.Learnt) Reads'3.Pre Reads'3.Post
 
 abbrev pub After-frame-arg2 : Type 0
-After-frame-arg2 = Lts.After-frame-arg2 (Reads''.Asked, Reads''.Learnt, Reads'3.Asked, Reads'3.Learnt, Reads'.Asked, Reads'.Learnt) Reads.Pre Reads.Post
+After-frame-arg2 = Lts.After-frame-arg2 (Reads.Asked, Reads.Learnt, Reads'.Asked, Reads'.Learnt, Reads''.Asked, Reads''.Learnt) Reads'3.Pre Reads'3.Post
 
 abbrev pub After-frame-arg3 : Type 0
-After-frame-arg3 = Lts.After-frame-arg3 (Reads''.Asked, Reads''.Learnt, Reads'3.Asked, Reads'3.Learnt, Reads'.Asked, Reads'.Learnt) Reads.Pre Reads.Post
+After-frame-arg3 = Lts.After-frame-arg3 (Reads.Asked, Reads.Learnt, Reads'.Asked, Reads'.Learnt, Reads''.Asked, Reads''.Learnt) Reads'3.Pre Reads'3.Post
 
 abbrev pub After-frame-arg4 : Type 0
-After-frame-arg4 = Lts.After-frame-arg4 (Reads''.Asked, Reads''.Learnt, Reads'3.Asked, Reads'3.Learnt, Reads'.Asked, Reads'.Learnt) Reads.Pre Reads.Post
+After-frame-arg4 = Lts.After-frame-arg4 (Reads.Asked, Reads.Learnt, Reads'.Asked, Reads'.Learnt, Reads''.Asked, Reads''.Learnt) Reads'3.Pre Reads'3.Post
 
 abbrev pub After-frame : Type 0
-After-frame = Lts.After-frame (Reads''.Asked, Reads''.Learnt, Reads'3.Asked, Reads'3.Learnt, Reads'.Asked, Reads'.Learnt) Reads.Pre Reads.Post
+After-frame = Lts.After-frame (Reads.Asked, Reads.Learnt, Reads'.Asked, Reads'.Learnt, Reads''.Asked, Reads''.Learnt) Reads'3.Pre Reads'3.Post
 
 abbrev pub After-outputs : Type 0
-After-outputs = Lts.After-outputs (Reads''.Asked, Reads''.Learnt, Reads'3.Asked, Reads'3.Learnt, Reads'.Asked, Reads'.Learnt) Reads.Pre Reads.Post
+After-outputs = Lts.After-outputs (Reads.Asked, Reads.Learnt, Reads'.Asked, Reads'.Learnt, Reads''.Asked, Reads''.Learnt) Reads'3.Pre Reads'3.Post
 
 abbrev pub After-stations : Type 0
-After-stations = Lts.After-stations (Reads''.Asked, Reads''.Learnt, Reads'3.Asked, Reads'3.Learnt, Reads'.Asked, Reads'.Learnt) Reads.Pre Reads.Post
+After-stations = Lts.After-stations (Reads.Asked, Reads.Learnt, Reads'.Asked, Reads'.Learnt, Reads''.Asked, Reads''.Learnt) Reads'3.Pre Reads'3.Post
 
 abbrev pub Need-index-requires : Type 0
-Need-index-requires = Lts.Need-index-requires (Reads''.Asked, Reads''.Learnt, Reads'3.Asked, Reads'3.Learnt, Reads'.Asked, Reads'.Learnt) Reads.Pre Reads.Post
+Need-index-requires = Lts.Need-index-requires (Reads.Asked, Reads.Learnt, Reads'.Asked, Reads'.Learnt, Reads''.Asked, Reads''.Learnt) Reads'3.Pre Reads'3.Post
 
 abbrev pub Need-least-requires : Type 0
-Need-least-requires = Lts.Need-least-requires (Reads''.Asked, Reads''.Learnt, Reads'3.Asked, Reads'3.Learnt, Reads'.Asked, Reads'.Learnt) Reads.Pre Reads.Post
+Need-least-requires = Lts.Need-least-requires (Reads.Asked, Reads.Learnt, Reads'.Asked, Reads'.Learnt, Reads''.Asked, Reads''.Learnt) Reads'3.Pre Reads'3.Post
 
 abbrev pub Need-least-requires-2 : Type 0
-Need-least-requires-2 = Lts.Need-least-requires-2 (Reads''.Asked, Reads''.Learnt, Reads'3.Asked, Reads'3.Learnt, Reads'.Asked, Reads'.Learnt) Reads.Pre Reads.Post
+Need-least-requires-2 = Lts.Need-least-requires-2 (Reads.Asked, Reads.Learnt, Reads'.Asked, Reads'.Learnt, Reads''.Asked, Reads''.Learnt) Reads'3.Pre Reads'3.Post
 
 abbrev pub Need-sub-frame : Type 0
-Need-sub-frame = Lts.Need-sub-frame (Reads''.Asked, Reads''.Learnt, Reads'3.Asked, Reads'3.Learnt, Reads'.Asked, Reads'.Learnt) Reads.Pre Reads.Post
+Need-sub-frame = Lts.Need-sub-frame (Reads.Asked, Reads.Learnt, Reads'.Asked, Reads'.Learnt, Reads''.Asked, Reads''.Learnt) Reads'3.Pre Reads'3.Post
 
 abbrev pub Need-part-frame-start : Type 0
-Need-part-frame-start = Lts.Need-part-frame-start (Reads''.Asked, Reads''.Learnt, Reads'3.Asked, Reads'3.Learnt, Reads'.Asked, Reads'.Learnt) Reads.Pre Reads.Post
+Need-part-frame-start = Lts.Need-part-frame-start (Reads.Asked, Reads.Learnt, Reads'.Asked, Reads'.Learnt, Reads''.Asked, Reads''.Learnt) Reads'3.Pre Reads'3.Post
 
 abbrev pub Need-part-frame-end : Type 0
-Need-part-frame-end = Lts.Need-part-frame-end (Reads''.Asked, Reads''.Learnt, Reads'3.Asked, Reads'3.Learnt, Reads'.Asked, Reads'.Learnt) Reads.Pre Reads.Post
+Need-part-frame-end = Lts.Need-part-frame-end (Reads.Asked, Reads.Learnt, Reads'.Asked, Reads'.Learnt, Reads''.Asked, Reads''.Learnt) Reads'3.Pre Reads'3.Post
 
 abbrev pub Need-sub-frame-2 : Type 0
-Need-sub-frame-2 = Lts.Need-sub-frame-2 (Reads''.Asked, Reads''.Learnt, Reads'3.Asked, Reads'3.Learnt, Reads'.Asked, Reads'.Learnt) Reads.Pre Reads.Post
+Need-sub-frame-2 = Lts.Need-sub-frame-2 (Reads.Asked, Reads.Learnt, Reads'.Asked, Reads'.Learnt, Reads''.Asked, Reads''.Learnt) Reads'3.Pre Reads'3.Post
 
 abbrev pub Need-part-frame-start-2 : Type 0
-Need-part-frame-start-2 = Lts.Need-part-frame-start-2 (Reads''.Asked, Reads''.Learnt, Reads'3.Asked, Reads'3.Learnt, Reads'.Asked, Reads'.Learnt) Reads.Pre Reads.Post
+Need-part-frame-start-2 = Lts.Need-part-frame-start-2 (Reads.Asked, Reads.Learnt, Reads'.Asked, Reads'.Learnt, Reads''.Asked, Reads''.Learnt) Reads'3.Pre Reads'3.Post
 
 abbrev pub Need-part-frame-end-2 : Type 0
-Need-part-frame-end-2 = Lts.Need-part-frame-end-2 (Reads''.Asked, Reads''.Learnt, Reads'3.Asked, Reads'3.Learnt, Reads'.Asked, Reads'.Learnt) Reads.Pre Reads.Post
+Need-part-frame-end-2 = Lts.Need-part-frame-end-2 (Reads.Asked, Reads.Learnt, Reads'.Asked, Reads'.Learnt, Reads''.Asked, Reads''.Learnt) Reads'3.Pre Reads'3.Post
 
 abbrev pub Need-frame-requires : Type 0
-Need-frame-requires = Lts.Need-frame-requires (Reads''.Asked, Reads''.Learnt, Reads'3.Asked, Reads'3.Learnt, Reads'.Asked, Reads'.Learnt) Reads.Pre Reads.Post
+Need-frame-requires = Lts.Need-frame-requires (Reads.Asked, Reads.Learnt, Reads'.Asked, Reads'.Learnt, Reads''.Asked, Reads''.Learnt) Reads'3.Pre Reads'3.Post
 
 abbrev pub Need-same-length : Type 0
-Need-same-length = Lts.Need-same-length (Reads''.Asked, Reads''.Learnt, Reads'3.Asked, Reads'3.Learnt, Reads'.Asked, Reads'.Learnt) Reads.Pre Reads.Post
+Need-same-length = Lts.Need-same-length (Reads.Asked, Reads.Learnt, Reads'.Asked, Reads'.Learnt, Reads''.Asked, Reads''.Learnt) Reads'3.Pre Reads'3.Post
 
 abbrev pub Need-same-length-2 : Type 0
-Need-same-length-2 = Lts.Need-same-length-2 (Reads''.Asked, Reads''.Learnt, Reads'3.Asked, Reads'3.Learnt, Reads'.Asked, Reads'.Learnt) Reads.Pre Reads.Post
+Need-same-length-2 = Lts.Need-same-length-2 (Reads.Asked, Reads.Learnt, Reads'.Asked, Reads'.Learnt, Reads''.Asked, Reads''.Learnt) Reads'3.Pre Reads'3.Post
 
 abbrev pub Need-returns : Type 0
-Need-returns = Lts.Need-returns (Reads''.Asked, Reads''.Learnt, Reads'3.Asked, Reads'3.Learnt, Reads'.Asked, Reads'.Learnt) Reads.Pre Reads.Post
+Need-returns = Lts.Need-returns (Reads.Asked, Reads.Learnt, Reads'.Asked, Reads'.Learnt, Reads''.Asked, Reads''.Learnt) Reads'3.Pre Reads'3.Post
 
 module _ {M : Type 1} where
   pub spec :
@@ -109,22 +109,22 @@ module _ {M : Type 1} where
       (answer : Need-same-length-2) →
       (answer : Need-returns) →
       Lts.Closed (
-        Reads''.Asked,
-        Reads''.Learnt,
-        Reads'3.Asked,
-        Reads'3.Learnt,
+        Reads.Asked,
+        Reads.Learnt,
         Reads'.Asked,
         Reads'.Learnt,
-      ) Reads.Pre Reads.Post M
-  spec = λ answer answer' answer'' answer'3 answer'4 answer'5 answer'6 answer'7 answer'8 answer'9 answer'10 answer'11 answer'12. Lts.spec (Reads''.Asked, Reads''.Learnt, Reads'3.Asked, Reads'3.Learnt, Reads'.Asked, Reads'.Learnt) Reads.Pre Reads.Post answer answer' answer'' answer'3 answer'4 answer'5 answer'6 answer'7 answer'8 answer'9 answer'10 answer'11 answer'12
+        Reads''.Asked,
+        Reads''.Learnt,
+      ) Reads'3.Pre Reads'3.Post M
+  spec = λ answer answer' answer'' answer'3 answer'4 answer'5 answer'6 answer'7 answer'8 answer'9 answer'10 answer'11 answer'12. Lts.spec (Reads.Asked, Reads.Learnt, Reads'.Asked, Reads'.Learnt, Reads''.Asked, Reads''.Learnt) Reads'3.Pre Reads'3.Post answer answer' answer'' answer'3 answer'4 answer'5 answer'6 answer'7 answer'8 answer'9 answer'10 answer'11 answer'12
 
   pub close : Lts.Closed (
-    Reads''.Asked,
-    Reads''.Learnt,
-    Reads'3.Asked,
-    Reads'3.Learnt,
+    Reads.Asked,
+    Reads.Learnt,
     Reads'.Asked,
     Reads'.Learnt,
-  ) Reads.Pre Reads.Post M → Statement.statement M
+    Reads''.Asked,
+    Reads''.Learnt,
+  ) Reads'3.Pre Reads'3.Post M → Statement.statement M
   unfolding Code.routine Running.tablesOf
-  close = λ closed 𝓤 H 𝓜 𝓖 𝓡. Written.close 4 Kinds.ps Kinds.r Reads.Ghost Reads.requires Reads.ensures Reads.pre-read Reads.Pinned Reads.Owned Reads.post-read record { M = M; 𝓤 = 𝓤; H = H; 𝓜 = 𝓜; 𝓖 = 𝓖; 𝓡 = 𝓡 } Code.env Key.name Code.function (Code.unfolded 𝓤 H 𝓜 𝓡) (λ κs a g. tt) (λ κs. Reads.owns κs record { M = M; 𝓤 = 𝓤; H = H; 𝓜 = 𝓜; 𝓖 = 𝓖; 𝓡 = 𝓡 }) (Reads.passes record { M = M; 𝓤 = 𝓤; H = H; 𝓜 = 𝓜; 𝓖 = 𝓖; 𝓡 = 𝓡 }) λ g. closed 𝓤 H (𝓖 .A) (Running.givenOf 𝓤 H 𝓜 𝓖) (Run.Over 𝓤 H 𝓜 𝓖 𝓡 Code.env) (Reads''.known record { M = M; 𝓤 = 𝓤; H = H; 𝓜 = 𝓜; 𝓖 = 𝓖; 𝓡 = 𝓡 } Code.env Symbol'.name Symbol'.routine Code.calls-ranges·index (Met'.met 𝓤 H 𝓜 𝓖 𝓡)) (Reads'3.known record { M = M; 𝓤 = 𝓤; H = H; 𝓜 = 𝓜; 𝓖 = 𝓖; 𝓡 = 𝓡 } Code.env Symbol''.name Symbol''.routine Code.calls-ranges·least (Met''.met 𝓤 H 𝓜 𝓖 𝓡)) (Reads'.known record { M = M; 𝓤 = 𝓤; H = H; 𝓜 = 𝓜; 𝓖 = 𝓖; 𝓡 = 𝓡 } Code.env Symbol.name Symbol.routine Code.calls-panel·frame (Met.met 𝓤 H 𝓜 𝓖 𝓡))
+  close = λ closed 𝓤 H 𝓜 𝓖 𝓡. Written.close 4 Kinds.ps Kinds.r Reads'3.Ghost Reads'3.requires Reads'3.ensures Reads'3.pre-read Reads'3.Pinned Reads'3.Owned Reads'3.post-read record { M = M; 𝓤 = 𝓤; H = H; 𝓜 = 𝓜; 𝓖 = 𝓖; 𝓡 = 𝓡 } Code.env Key.name Code.function (Code.unfolded 𝓤 H 𝓜 𝓡) (λ κs a g. tt) (λ κs. Reads'3.owns κs record { M = M; 𝓤 = 𝓤; H = H; 𝓜 = 𝓜; 𝓖 = 𝓖; 𝓡 = 𝓡 }) (Reads'3.passes record { M = M; 𝓤 = 𝓤; H = H; 𝓜 = 𝓜; 𝓖 = 𝓖; 𝓡 = 𝓡 }) λ g. closed 𝓤 H (𝓖 .A) (Running.givenOf 𝓤 H 𝓜 𝓖) (Run.Over 𝓤 H 𝓜 𝓖 𝓡 Code.env) (Reads.known record { M = M; 𝓤 = 𝓤; H = H; 𝓜 = 𝓜; 𝓖 = 𝓖; 𝓡 = 𝓡 } Code.env Symbol.name Symbol.routine Code.calls-number-ranges·index (Met.met 𝓤 H 𝓜 𝓖 𝓡)) (Reads'.known record { M = M; 𝓤 = 𝓤; H = H; 𝓜 = 𝓜; 𝓖 = 𝓖; 𝓡 = 𝓡 } Code.env Symbol'.name Symbol'.routine Code.calls-number-ranges·least (Met'.met 𝓤 H 𝓜 𝓖 𝓡)) (Reads''.known record { M = M; 𝓤 = 𝓤; H = H; 𝓜 = 𝓜; 𝓖 = 𝓖; 𝓡 = 𝓡 } Code.env Symbol''.name Symbol''.routine Code.calls-panel·frame (Met''.met 𝓤 H 𝓜 𝓖 𝓡))

@@ -1,76 +1,76 @@
 -- Made by tools/twin.py.
+use Rattle.number_ranges.proofs.index.Met
+use Rattle.number_ranges.proofs.index.Reads
+use Rattle.number_ranges.proofs.index.Symbol
+use Rattle.number_ranges.proofs.least.Met as Met'
+use Rattle.number_ranges.proofs.least.Reads as Reads'
+use Rattle.number_ranges.proofs.least.Symbol as Symbol'
+use Rattle.panel.proofs.Lent.start.Reads as Reads''
+use Rattle.panel.proofs.start.Met as Met''
+use Rattle.panel.proofs.start.Symbol as Symbol''
 use Rattle.replay_line.proofs.Lent.start.Kinds
-use Rattle.replay_line.proofs.Lent.start.Reads
+use Rattle.replay_line.proofs.Lent.start.Reads as Reads'3
 use Rattle.replay_line.proofs.start.Code
 use Rattle.replay_line.proofs.start.Key
 use Rattle.replay_line.proofs.start.Proof.Lts
 use Rattle.replay_line.proofs.start.Statement
-use Rattle.panel.proofs.Lent.start.Reads as Reads'
-use Rattle.panel.proofs.start.Met
-use Rattle.panel.proofs.start.Symbol
-use Rattle.number_ranges.proofs.index.Met as Met'
-use Rattle.number_ranges.proofs.index.Reads as Reads''
-use Rattle.number_ranges.proofs.index.Symbol as Symbol'
-use Rattle.number_ranges.proofs.least.Met as Met''
-use Rattle.number_ranges.proofs.least.Reads as Reads'3
-use Rattle.number_ranges.proofs.least.Symbol as Symbol''
 use borrow.Fn.Run
 use borrow.Fn.Written
 use contract.Running
 
 abbrev pub Start : Type 0
-Start = Lts.Start (Reads''.Asked, Reads''.Learnt, Reads'3.Asked, Reads'3.Learnt, Reads'.Asked, Reads'.Learnt) Reads.Pre Reads.Post
+Start = Lts.Start (Reads.Asked, Reads.Learnt, Reads'.Asked, Reads'.Learnt, Reads''.Asked, Reads''.Learnt) Reads'3.Pre Reads'3.Post
 
 abbrev pub After-index : Type 0
-After-index = Lts.After-index (Reads''.Asked, Reads''.Learnt, Reads'3.Asked, Reads'3.Learnt, Reads'.Asked, Reads'.Learnt) Reads.Pre Reads.Post
+After-index = Lts.After-index (Reads.Asked, Reads.Learnt, Reads'.Asked, Reads'.Learnt, Reads''.Asked, Reads''.Learnt) Reads'3.Pre Reads'3.Post
 
 abbrev pub After-least : Type 0
-After-least = Lts.After-least (Reads''.Asked, Reads''.Learnt, Reads'3.Asked, Reads'3.Learnt, Reads'.Asked, Reads'.Learnt) Reads.Pre Reads.Post
+After-least = Lts.After-least (Reads.Asked, Reads.Learnt, Reads'.Asked, Reads'.Learnt, Reads''.Asked, Reads''.Learnt) Reads'3.Pre Reads'3.Post
 
 abbrev pub After-start-arg : Type 0
-After-start-arg = Lts.After-start-arg (Reads''.Asked, Reads''.Learnt, Reads'3.Asked, Reads'3.Learnt, Reads'.Asked, Reads'.Learnt) Reads.Pre Reads.Post
+After-start-arg = Lts.After-start-arg (Reads.Asked, Reads.Learnt, Reads'.Asked, Reads'.Learnt, Reads''.Asked, Reads''.Learnt) Reads'3.Pre Reads'3.Post
 
 abbrev pub After-start-arg2 : Type 0
-After-start-arg2 = Lts.After-start-arg2 (Reads''.Asked, Reads''.Learnt, Reads'3.Asked, Reads'3.Learnt, Reads'.Asked, Reads'.Learnt) Reads.Pre Reads.Post
+After-start-arg2 = Lts.After-start-arg2 (Reads.Asked, Reads.Learnt, Reads'.Asked, Reads'.Learnt, Reads''.Asked, Reads''.Learnt) Reads'3.Pre Reads'3.Post
 
 abbrev pub After-start-arg3 : Type 0
-After-start-arg3 = Lts.After-start-arg3 (Reads''.Asked, Reads''.Learnt, Reads'3.Asked, Reads'3.Learnt, Reads'.Asked, Reads'.Learnt) Reads.Pre Reads.Post
+After-start-arg3 = Lts.After-start-arg3 (Reads.Asked, Reads.Learnt, Reads'.Asked, Reads'.Learnt, Reads''.Asked, Reads''.Learnt) Reads'3.Pre Reads'3.Post
 
 abbrev pub After-start : Type 0
-After-start = Lts.After-start (Reads''.Asked, Reads''.Learnt, Reads'3.Asked, Reads'3.Learnt, Reads'.Asked, Reads'.Learnt) Reads.Pre Reads.Post
+After-start = Lts.After-start (Reads.Asked, Reads.Learnt, Reads'.Asked, Reads'.Learnt, Reads''.Asked, Reads''.Learnt) Reads'3.Pre Reads'3.Post
 
 abbrev pub After-outputs : Type 0
-After-outputs = Lts.After-outputs (Reads''.Asked, Reads''.Learnt, Reads'3.Asked, Reads'3.Learnt, Reads'.Asked, Reads'.Learnt) Reads.Pre Reads.Post
+After-outputs = Lts.After-outputs (Reads.Asked, Reads.Learnt, Reads'.Asked, Reads'.Learnt, Reads''.Asked, Reads''.Learnt) Reads'3.Pre Reads'3.Post
 
 abbrev pub After-stations : Type 0
-After-stations = Lts.After-stations (Reads''.Asked, Reads''.Learnt, Reads'3.Asked, Reads'3.Learnt, Reads'.Asked, Reads'.Learnt) Reads.Pre Reads.Post
+After-stations = Lts.After-stations (Reads.Asked, Reads.Learnt, Reads'.Asked, Reads'.Learnt, Reads''.Asked, Reads''.Learnt) Reads'3.Pre Reads'3.Post
 
 abbrev pub Need-index-requires : Type 0
-Need-index-requires = Lts.Need-index-requires (Reads''.Asked, Reads''.Learnt, Reads'3.Asked, Reads'3.Learnt, Reads'.Asked, Reads'.Learnt) Reads.Pre Reads.Post
+Need-index-requires = Lts.Need-index-requires (Reads.Asked, Reads.Learnt, Reads'.Asked, Reads'.Learnt, Reads''.Asked, Reads''.Learnt) Reads'3.Pre Reads'3.Post
 
 abbrev pub Need-least-requires : Type 0
-Need-least-requires = Lts.Need-least-requires (Reads''.Asked, Reads''.Learnt, Reads'3.Asked, Reads'3.Learnt, Reads'.Asked, Reads'.Learnt) Reads.Pre Reads.Post
+Need-least-requires = Lts.Need-least-requires (Reads.Asked, Reads.Learnt, Reads'.Asked, Reads'.Learnt, Reads''.Asked, Reads''.Learnt) Reads'3.Pre Reads'3.Post
 
 abbrev pub Need-sub-start : Type 0
-Need-sub-start = Lts.Need-sub-start (Reads''.Asked, Reads''.Learnt, Reads'3.Asked, Reads'3.Learnt, Reads'.Asked, Reads'.Learnt) Reads.Pre Reads.Post
+Need-sub-start = Lts.Need-sub-start (Reads.Asked, Reads.Learnt, Reads'.Asked, Reads'.Learnt, Reads''.Asked, Reads''.Learnt) Reads'3.Pre Reads'3.Post
 
 abbrev pub Need-part-start-start : Type 0
-Need-part-start-start = Lts.Need-part-start-start (Reads''.Asked, Reads''.Learnt, Reads'3.Asked, Reads'3.Learnt, Reads'.Asked, Reads'.Learnt) Reads.Pre Reads.Post
+Need-part-start-start = Lts.Need-part-start-start (Reads.Asked, Reads.Learnt, Reads'.Asked, Reads'.Learnt, Reads''.Asked, Reads''.Learnt) Reads'3.Pre Reads'3.Post
 
 abbrev pub Need-part-start-end : Type 0
-Need-part-start-end = Lts.Need-part-start-end (Reads''.Asked, Reads''.Learnt, Reads'3.Asked, Reads'3.Learnt, Reads'.Asked, Reads'.Learnt) Reads.Pre Reads.Post
+Need-part-start-end = Lts.Need-part-start-end (Reads.Asked, Reads.Learnt, Reads'.Asked, Reads'.Learnt, Reads''.Asked, Reads''.Learnt) Reads'3.Pre Reads'3.Post
 
 abbrev pub Need-start-requires : Type 0
-Need-start-requires = Lts.Need-start-requires (Reads''.Asked, Reads''.Learnt, Reads'3.Asked, Reads'3.Learnt, Reads'.Asked, Reads'.Learnt) Reads.Pre Reads.Post
+Need-start-requires = Lts.Need-start-requires (Reads.Asked, Reads.Learnt, Reads'.Asked, Reads'.Learnt, Reads''.Asked, Reads''.Learnt) Reads'3.Pre Reads'3.Post
 
 abbrev pub Need-same-length : Type 0
-Need-same-length = Lts.Need-same-length (Reads''.Asked, Reads''.Learnt, Reads'3.Asked, Reads'3.Learnt, Reads'.Asked, Reads'.Learnt) Reads.Pre Reads.Post
+Need-same-length = Lts.Need-same-length (Reads.Asked, Reads.Learnt, Reads'.Asked, Reads'.Learnt, Reads''.Asked, Reads''.Learnt) Reads'3.Pre Reads'3.Post
 
 abbrev pub Need-same-length-2 : Type 0
-Need-same-length-2 = Lts.Need-same-length-2 (Reads''.Asked, Reads''.Learnt, Reads'3.Asked, Reads'3.Learnt, Reads'.Asked, Reads'.Learnt) Reads.Pre Reads.Post
+Need-same-length-2 = Lts.Need-same-length-2 (Reads.Asked, Reads.Learnt, Reads'.Asked, Reads'.Learnt, Reads''.Asked, Reads''.Learnt) Reads'3.Pre Reads'3.Post
 
 abbrev pub Need-returns : Type 0
-Need-returns = Lts.Need-returns (Reads''.Asked, Reads''.Learnt, Reads'3.Asked, Reads'3.Learnt, Reads'.Asked, Reads'.Learnt) Reads.Pre Reads.Post
+Need-returns = Lts.Need-returns (Reads.Asked, Reads.Learnt, Reads'.Asked, Reads'.Learnt, Reads''.Asked, Reads''.Learnt) Reads'3.Pre Reads'3.Post
 
 module _ {M : Type 1} where
   pub spec :
@@ -84,22 +84,22 @@ module _ {M : Type 1} where
       (answer : Need-same-length-2) →
       (answer : Need-returns) →
       Lts.Closed (
-        Reads''.Asked,
-        Reads''.Learnt,
-        Reads'3.Asked,
-        Reads'3.Learnt,
+        Reads.Asked,
+        Reads.Learnt,
         Reads'.Asked,
         Reads'.Learnt,
-      ) Reads.Pre Reads.Post M
-  spec = λ answer answer' answer'' answer'3 answer'4 answer'5 answer'6 answer'7 answer'8. Lts.spec (Reads''.Asked, Reads''.Learnt, Reads'3.Asked, Reads'3.Learnt, Reads'.Asked, Reads'.Learnt) Reads.Pre Reads.Post answer answer' answer'' answer'3 answer'4 answer'5 answer'6 answer'7 answer'8
+        Reads''.Asked,
+        Reads''.Learnt,
+      ) Reads'3.Pre Reads'3.Post M
+  spec = λ answer answer' answer'' answer'3 answer'4 answer'5 answer'6 answer'7 answer'8. Lts.spec (Reads.Asked, Reads.Learnt, Reads'.Asked, Reads'.Learnt, Reads''.Asked, Reads''.Learnt) Reads'3.Pre Reads'3.Post answer answer' answer'' answer'3 answer'4 answer'5 answer'6 answer'7 answer'8
 
   pub close : Lts.Closed (
-    Reads''.Asked,
-    Reads''.Learnt,
-    Reads'3.Asked,
-    Reads'3.Learnt,
+    Reads.Asked,
+    Reads.Learnt,
     Reads'.Asked,
     Reads'.Learnt,
-  ) Reads.Pre Reads.Post M → Statement.statement M
+    Reads''.Asked,
+    Reads''.Learnt,
+  ) Reads'3.Pre Reads'3.Post M → Statement.statement M
   unfolding Code.routine Running.tablesOf
-  close = λ closed 𝓤 H 𝓜 𝓖 𝓡. Written.close 3 Kinds.ps Kinds.r Reads.Ghost Reads.requires Reads.ensures Reads.pre-read Reads.Pinned Reads.Owned Reads.post-read record { M = M; 𝓤 = 𝓤; H = H; 𝓜 = 𝓜; 𝓖 = 𝓖; 𝓡 = 𝓡 } Code.env Key.name Code.function (Code.unfolded 𝓤 H 𝓜 𝓡) (λ κs a g. tt) (λ κs. Reads.owns κs record { M = M; 𝓤 = 𝓤; H = H; 𝓜 = 𝓜; 𝓖 = 𝓖; 𝓡 = 𝓡 }) (Reads.passes record { M = M; 𝓤 = 𝓤; H = H; 𝓜 = 𝓜; 𝓖 = 𝓖; 𝓡 = 𝓡 }) λ g. closed 𝓤 H (𝓖 .A) (Running.givenOf 𝓤 H 𝓜 𝓖) (Run.Over 𝓤 H 𝓜 𝓖 𝓡 Code.env) (Reads''.known record { M = M; 𝓤 = 𝓤; H = H; 𝓜 = 𝓜; 𝓖 = 𝓖; 𝓡 = 𝓡 } Code.env Symbol'.name Symbol'.routine Code.calls-ranges·index (Met'.met 𝓤 H 𝓜 𝓖 𝓡)) (Reads'3.known record { M = M; 𝓤 = 𝓤; H = H; 𝓜 = 𝓜; 𝓖 = 𝓖; 𝓡 = 𝓡 } Code.env Symbol''.name Symbol''.routine Code.calls-ranges·least (Met''.met 𝓤 H 𝓜 𝓖 𝓡)) (Reads'.known record { M = M; 𝓤 = 𝓤; H = H; 𝓜 = 𝓜; 𝓖 = 𝓖; 𝓡 = 𝓡 } Code.env Symbol.name Symbol.routine Code.calls-panel·start (Met.met 𝓤 H 𝓜 𝓖 𝓡))
+  close = λ closed 𝓤 H 𝓜 𝓖 𝓡. Written.close 3 Kinds.ps Kinds.r Reads'3.Ghost Reads'3.requires Reads'3.ensures Reads'3.pre-read Reads'3.Pinned Reads'3.Owned Reads'3.post-read record { M = M; 𝓤 = 𝓤; H = H; 𝓜 = 𝓜; 𝓖 = 𝓖; 𝓡 = 𝓡 } Code.env Key.name Code.function (Code.unfolded 𝓤 H 𝓜 𝓡) (λ κs a g. tt) (λ κs. Reads'3.owns κs record { M = M; 𝓤 = 𝓤; H = H; 𝓜 = 𝓜; 𝓖 = 𝓖; 𝓡 = 𝓡 }) (Reads'3.passes record { M = M; 𝓤 = 𝓤; H = H; 𝓜 = 𝓜; 𝓖 = 𝓖; 𝓡 = 𝓡 }) λ g. closed 𝓤 H (𝓖 .A) (Running.givenOf 𝓤 H 𝓜 𝓖) (Run.Over 𝓤 H 𝓜 𝓖 𝓡 Code.env) (Reads.known record { M = M; 𝓤 = 𝓤; H = H; 𝓜 = 𝓜; 𝓖 = 𝓖; 𝓡 = 𝓡 } Code.env Symbol.name Symbol.routine Code.calls-number-ranges·index (Met.met 𝓤 H 𝓜 𝓖 𝓡)) (Reads'.known record { M = M; 𝓤 = 𝓤; H = H; 𝓜 = 𝓜; 𝓖 = 𝓖; 𝓡 = 𝓡 } Code.env Symbol'.name Symbol'.routine Code.calls-number-ranges·least (Met'.met 𝓤 H 𝓜 𝓖 𝓡)) (Reads''.known record { M = M; 𝓤 = 𝓤; H = H; 𝓜 = 𝓜; 𝓖 = 𝓖; 𝓡 = 𝓡 } Code.env Symbol''.name Symbol''.routine Code.calls-panel·start (Met''.met 𝓤 H 𝓜 𝓖 𝓡))

@@ -90,13 +90,13 @@ abbrev pub hs : List.List Syntax.Home
 hs = List._∷_ Syntax.valueLocal (List._∷_ Syntax.valueLocal (List._∷_ Syntax.valueLocal (List._∷_ Syntax.memorySlot (List._∷_ Syntax.valueLocal (List._∷_ Syntax.memorySlot (List._∷_ Syntax.memorySlot (List._∷_ Syntax.memorySlot (List._∷_ Syntax.memorySlot (List._∷_ Syntax.valueLocal (List._∷_ Syntax.valueLocal (List._∷_ Syntax.valueLocal (List._∷_ Syntax.valueLocal (List._∷_ Syntax.valueLocal (List._∷_ Syntax.valueLocal (List._∷_ Syntax.valueLocal (List._∷_ Syntax.valueLocal (List._∷_ Syntax.valueLocal (List._∷_ Syntax.valueLocal (List._∷_ Syntax.valueLocal List.[])))))))))))))))))))
 
 abbrev b0 : Syntax.Body
-b0 = Syntax.call "fresh::fresh_output" List.[] (Syntax.place 2 List.[])
+b0 = Syntax.call "output_fresh::fresh_output" List.[] (Syntax.place 2 List.[])
 
 abbrev b1 : Syntax.Body
 b1 = Syntax.assign (Syntax.place 3 List.[]) (Syntax.repeat (Syntax.copy (Syntax.place 2 List.[])) 64)
 
 abbrev b2 : Syntax.Body
-b2 = Syntax.call "fresh::fresh_station" List.[] (Syntax.place 4 List.[])
+b2 = Syntax.call "output_fresh::fresh_station" List.[] (Syntax.place 4 List.[])
 
 abbrev b3 : Syntax.Body
 b3 = Syntax.assign (Syntax.place 5 List.[]) (Syntax.repeat (Syntax.copy (Syntax.place 4 List.[])) 8)
@@ -144,7 +144,7 @@ abbrev b17 : Syntax.Body
 b17 = Syntax.assign (Syntax.place 19 List.[]) (Syntax.aggregate (List._∷_ (Syntax.copy (Syntax.place 18 List.[])) (List._∷_ (Syntax.intBig Syntax.w64 65536) List.[])))
 
 abbrev b18 : Syntax.Body
-b18 = Syntax.call "session::replay" (List._∷_ (Syntax.copy (Syntax.place 12 List.[])) (List._∷_ (Syntax.copy (Syntax.place 14 List.[])) (List._∷_ (Syntax.copy (Syntax.place 15 List.[])) (List._∷_ (Syntax.copy (Syntax.place 17 List.[])) (List._∷_ (Syntax.copy (Syntax.place 19 List.[])) (List._∷_ (Syntax.copy (Syntax.place 1 List.[])) List.[])))))) (Syntax.place 10 List.[])
+b18 = Syntax.call "replay_session::replay" (List._∷_ (Syntax.copy (Syntax.place 12 List.[])) (List._∷_ (Syntax.copy (Syntax.place 14 List.[])) (List._∷_ (Syntax.copy (Syntax.place 15 List.[])) (List._∷_ (Syntax.copy (Syntax.place 17 List.[])) (List._∷_ (Syntax.copy (Syntax.place 19 List.[])) (List._∷_ (Syntax.copy (Syntax.place 1 List.[])) List.[])))))) (Syntax.place 10 List.[])
 
 abbrev b19 : Syntax.Body
 b19 = Syntax.assign (Syntax.place 0 List.[]) (Syntax.rvOpd Syntax.opdUnit)
@@ -589,7 +589,7 @@ module _ (claims· : Claims) where
       (Post· : (κs : Lifetimes.Lfts 0) → (a : Kinds.Dens κs ps) → Kinds.Plain 0 ps r κs) where
     module _ (M : Type 1) where
       abbrev pub Closed : Type 2
-      Closed = (𝓤 : URA.URA M) (H : Wp.Heap 𝓤) (A : Atoms.Atoms 𝓤) (W : Kit.Given 𝓤 H A) (𝓣 : Wp.Tables 𝓤 H) (known0 : Plain.Known 𝓤 H A W 𝓣 0 ps·0 r·0 (claims· .0) (claims· .1) "fresh::fresh_output") (known1 : Plain.Known 𝓤 H A W 𝓣 0 ps·1 r·1 (claims· .2) (claims· .3) "fresh::fresh_station") (known2 : Plain.Known 𝓤 H A W 𝓣 0 ps·2 r·2 (claims· .4) (claims· .5) "io::large_buffer") (known3 : Plain.Known 𝓤 H A W 𝓣 5 ps·3 r·3 (claims· .6) (claims· .7) "session::replay") → Statement.Triple 𝓤 (Wp.WpFn 𝓤 H (𝓣 .C) (𝓣 .Λ) (Function.fnOf 0 ps r xs m hs body)) (Function.plainOf 𝓤 H A 0 ps r Pre· Post·)
+      Closed = (𝓤 : URA.URA M) (H : Wp.Heap 𝓤) (A : Atoms.Atoms 𝓤) (W : Kit.Given 𝓤 H A) (𝓣 : Wp.Tables 𝓤 H) (known0 : Plain.Known 𝓤 H A W 𝓣 0 ps·0 r·0 (claims· .0) (claims· .1) "output_fresh::fresh_output") (known1 : Plain.Known 𝓤 H A W 𝓣 0 ps·1 r·1 (claims· .2) (claims· .3) "output_fresh::fresh_station") (known2 : Plain.Known 𝓤 H A W 𝓣 0 ps·2 r·2 (claims· .4) (claims· .5) "io::large_buffer") (known3 : Plain.Known 𝓤 H A W 𝓣 5 ps·3 r·3 (claims· .6) (claims· .7) "replay_session::replay") → Statement.Triple 𝓤 (Wp.WpFn 𝓤 H (𝓣 .C) (𝓣 .Λ) (Function.fnOf 0 ps r xs m hs body)) (Function.plainOf 𝓤 H A 0 ps r Pre· Post·)
 
     module _ where
       abbrev at0 : (bs : List.List Nat.ℕ) → Typed.TF T54 O0
@@ -760,7 +760,7 @@ module _ (claims· : Claims) where
       module _ {M : Type 1} (𝓤 : URA.URA M) (H : Wp.Heap 𝓤) (A : Atoms.Atoms 𝓤)
           (W : Kit.Given 𝓤 H A) (𝓣 : Wp.Tables 𝓤 H) where
         abbrev Knowns : Type 1
-        Knowns = Plain.Known 𝓤 H A W 𝓣 0 ps·0 r·0 (claims· .0) (claims· .1) "fresh::fresh_output" × Plain.Known 𝓤 H A W 𝓣 0 ps·1 r·1 (claims· .2) (claims· .3) "fresh::fresh_station" × Plain.Known 𝓤 H A W 𝓣 0 ps·2 r·2 (claims· .4) (claims· .5) "io::large_buffer" × Plain.Known 𝓤 H A W 𝓣 5 ps·3 r·3 (claims· .6) (claims· .7) "session::replay"
+        Knowns = Plain.Known 𝓤 H A W 𝓣 0 ps·0 r·0 (claims· .0) (claims· .1) "output_fresh::fresh_output" × Plain.Known 𝓤 H A W 𝓣 0 ps·1 r·1 (claims· .2) (claims· .3) "output_fresh::fresh_station" × Plain.Known 𝓤 H A W 𝓣 0 ps·2 r·2 (claims· .4) (claims· .5) "io::large_buffer" × Plain.Known 𝓤 H A W 𝓣 5 ps·3 r·3 (claims· .6) (claims· .7) "replay_session::replay"
 
       module _ (κs : Lifetimes.Lfts 0) (qs : Lifetimes.Shares 0) where
         abbrev G0 : Row.Cx
@@ -1010,7 +1010,7 @@ module _ (claims· : Claims) where
           d23 = Typed.g-pre 𝓤 H A W 𝓣 E G31 G32 b21 Δ0 (Typed.pass T31 T32 (s30 bs)) (at22 bs) (Scalar.g-room 𝓤 H A W E G31 10 Syntax.tyUnit (Scalar.room-sc 𝓤 H A W Row.sUnit)) d22
 
           d24 : Typed.Typed 𝓤 H A 𝓣 E G30 b22 Δ0 (at24 bs)
-          d24 = Typed.s-seq 𝓤 H A W 𝓣 E G30 G31 b18 b21 Δ0 (Typed.both (s29 bs)) (at23 bs) (Plain.t-call-plain 𝓤 H A W 𝓣 5 ps·3 r·3 (claims· .6) (claims· .7) "session::replay" (known .3) E (λ pos β. β) G30 (record { pos = 12; ty = Syntax.tyRef Syntax.erased Syntax.mut OfOutput.named; ref = λ x. x }, (record { pos = 14; ty = Syntax.tyRef Syntax.erased Syntax.mut OfStation.named; ref = λ x. x }, (record { pos = 15; ty = Syntax.tyRef Syntax.erased Syntax.mut (Syntax.tyInt Syntax.w64); ref = λ x. x }, (record { pos = 17; ty = Syntax.tyRef Syntax.erased Syntax.mut (Syntax.tyInt Syntax.w8); ref = λ x. x }, (record { pos = 19; ty = Syntax.tyRef Syntax.erased Syntax.mut (Syntax.tyInt Syntax.w8); ref = λ x. x }, (Bool.bAt 1 λ x. x, tt)))))) 10 (List._∷_ 0 (List._∷_ 1 (List._∷_ 2 (List._∷_ 3 (List._∷_ 4 List.[]))))) (Call.sub-id 𝓤 H A W (G30 .slots)) (Reads.as-is 𝓤 H A (Mut.mslice (OfOutput.row) (Syntax.tyRef Syntax.erased Syntax.mut OfOutput.named) 0), Mut.reads-mslice 𝓤 H A W (OfOutput.row) (Syntax.tyRef Syntax.erased Syntax.mut OfOutput.named) 0, Path'.refl, (Reads.as-is 𝓤 H A (Mut.mslice (OfStation.row) (Syntax.tyRef Syntax.erased Syntax.mut OfStation.named) 1), Mut.reads-mslice 𝓤 H A W (OfStation.row) (Syntax.tyRef Syntax.erased Syntax.mut OfStation.named) 1, Path'.refl, (Reads.as-is 𝓤 H A (Rows'.mref (Referent.rtF (Referent.fInt Syntax.w64)) (Syntax.tyRef Syntax.erased Syntax.mut (Syntax.tyInt Syntax.w64)) 2), Reads.reads-mref 𝓤 H A W (Referent.rtF (Referent.fInt Syntax.w64)) (Syntax.tyRef Syntax.erased Syntax.mut (Syntax.tyInt Syntax.w64)) 2, Path'.refl, (Reads.as-is 𝓤 H A (Mut.mslice (Referent.rtF (Referent.fInt Syntax.w8)) (Syntax.tyRef Syntax.erased Syntax.mut (Syntax.tyInt Syntax.w8)) 3), Mut.reads-mslice 𝓤 H A W (Referent.rtF (Referent.fInt Syntax.w8)) (Syntax.tyRef Syntax.erased Syntax.mut (Syntax.tyInt Syntax.w8)) 3, Path'.refl, (Reads.as-is 𝓤 H A (Mut.mslice (Referent.rtF (Referent.fInt Syntax.w8)) (Syntax.tyRef Syntax.erased Syntax.mut (Syntax.tyInt Syntax.w8)) 4), Mut.reads-mslice 𝓤 H A W (Referent.rtF (Referent.fInt Syntax.w8)) (Syntax.tyRef Syntax.erased Syntax.mut (Syntax.tyInt Syntax.w8)) 4, Path'.refl, ((Scalar.reads-sc 𝓤 H A W Row.sBool, Path'.refl), tt)))))) (Reads.room-gone 𝓤 H A Syntax.tyUnit) (tt, (tt, (tt, (tt, (tt, tt))))) Path'.refl) d23
+          d24 = Typed.s-seq 𝓤 H A W 𝓣 E G30 G31 b18 b21 Δ0 (Typed.both (s29 bs)) (at23 bs) (Plain.t-call-plain 𝓤 H A W 𝓣 5 ps·3 r·3 (claims· .6) (claims· .7) "replay_session::replay" (known .3) E (λ pos β. β) G30 (record { pos = 12; ty = Syntax.tyRef Syntax.erased Syntax.mut OfOutput.named; ref = λ x. x }, (record { pos = 14; ty = Syntax.tyRef Syntax.erased Syntax.mut OfStation.named; ref = λ x. x }, (record { pos = 15; ty = Syntax.tyRef Syntax.erased Syntax.mut (Syntax.tyInt Syntax.w64); ref = λ x. x }, (record { pos = 17; ty = Syntax.tyRef Syntax.erased Syntax.mut (Syntax.tyInt Syntax.w8); ref = λ x. x }, (record { pos = 19; ty = Syntax.tyRef Syntax.erased Syntax.mut (Syntax.tyInt Syntax.w8); ref = λ x. x }, (Bool.bAt 1 λ x. x, tt)))))) 10 (List._∷_ 0 (List._∷_ 1 (List._∷_ 2 (List._∷_ 3 (List._∷_ 4 List.[]))))) (Call.sub-id 𝓤 H A W (G30 .slots)) (Reads.as-is 𝓤 H A (Mut.mslice (OfOutput.row) (Syntax.tyRef Syntax.erased Syntax.mut OfOutput.named) 0), Mut.reads-mslice 𝓤 H A W (OfOutput.row) (Syntax.tyRef Syntax.erased Syntax.mut OfOutput.named) 0, Path'.refl, (Reads.as-is 𝓤 H A (Mut.mslice (OfStation.row) (Syntax.tyRef Syntax.erased Syntax.mut OfStation.named) 1), Mut.reads-mslice 𝓤 H A W (OfStation.row) (Syntax.tyRef Syntax.erased Syntax.mut OfStation.named) 1, Path'.refl, (Reads.as-is 𝓤 H A (Rows'.mref (Referent.rtF (Referent.fInt Syntax.w64)) (Syntax.tyRef Syntax.erased Syntax.mut (Syntax.tyInt Syntax.w64)) 2), Reads.reads-mref 𝓤 H A W (Referent.rtF (Referent.fInt Syntax.w64)) (Syntax.tyRef Syntax.erased Syntax.mut (Syntax.tyInt Syntax.w64)) 2, Path'.refl, (Reads.as-is 𝓤 H A (Mut.mslice (Referent.rtF (Referent.fInt Syntax.w8)) (Syntax.tyRef Syntax.erased Syntax.mut (Syntax.tyInt Syntax.w8)) 3), Mut.reads-mslice 𝓤 H A W (Referent.rtF (Referent.fInt Syntax.w8)) (Syntax.tyRef Syntax.erased Syntax.mut (Syntax.tyInt Syntax.w8)) 3, Path'.refl, (Reads.as-is 𝓤 H A (Mut.mslice (Referent.rtF (Referent.fInt Syntax.w8)) (Syntax.tyRef Syntax.erased Syntax.mut (Syntax.tyInt Syntax.w8)) 4), Mut.reads-mslice 𝓤 H A W (Referent.rtF (Referent.fInt Syntax.w8)) (Syntax.tyRef Syntax.erased Syntax.mut (Syntax.tyInt Syntax.w8)) 4, Path'.refl, ((Scalar.reads-sc 𝓤 H A W Row.sBool, Path'.refl), tt)))))) (Reads.room-gone 𝓤 H A Syntax.tyUnit) (tt, (tt, (tt, (tt, (tt, tt))))) Path'.refl) d23
 
           d25 : Typed.Typed 𝓤 H A 𝓣 E G29 b23 Δ0 (at25 bs)
           d25 = Typed.s-seq 𝓤 H A W 𝓣 E G29 G30 b17 b22 Δ0 (Typed.ask (s28 bs)) (at24 bs) (Relend.t-sl-aggregate 𝓤 H A W E (Referent.rtF (Referent.fInt Syntax.w8)) 𝓣 (Relend.asMut (Referent.rtF (Referent.fInt Syntax.w8))) G29 18 19 4 (Syntax.tyRef Syntax.erased Syntax.mut (Syntax.tyArray (Syntax.tyInt Syntax.w8) 65536)) (Syntax.tyRef Syntax.erased Syntax.mut (Syntax.tyInt Syntax.w8)) (λ x. x) (Scalar.oBig Syntax.w64 65536) (Reads.as-is 𝓤 H A (Relend.msptr (Referent.rtF (Referent.fInt Syntax.w8)) (Syntax.tyRef Syntax.erased Syntax.mut (Syntax.tyArray (Syntax.tyInt Syntax.w8) 65536)) 4)) (Reads.room-gone 𝓤 H A (Syntax.tyStruct (List._∷_ 38 (List._∷_ 91 (List._∷_ 93 List.[]))) (Syntax.tcons (Syntax.tyRef Syntax.erased Syntax.mut (Syntax.tyInt Syntax.w8)) (Syntax.tcons (Syntax.tyInt Syntax.w64) Syntax.tnil)))) record { lower = record { fits = Dec'.lit< tt } } Path'.refl Path'.refl λ b o k. tt) d24
@@ -1085,7 +1085,7 @@ module _ (claims· : Claims) where
           d48 = Typed.s-seq 𝓤 H A W 𝓣 E G6 G7 b3 b36 Δ0 (Typed.pass T6 T7 (s5 bs)) (at47 bs) (Repeat.t-repeat-by 𝓤 H A W E 𝓣 (OfStation.row) (OfStation.lawful 𝓤 H A W) (OfStation.copies .copy 𝓤 H A W) 8 G6 5 (Scalar.oAt 4 OfStation.spelt λ x. Steps.only (OfStation.copies .vals x)) (λ m. m .1 .1 .1 .1 .0) (λ ρ. Unit) (Reads.room-gone 𝓤 H A (Syntax.tyArray OfStation.spelt 8)) (OfStation.reads 𝓤 H A W, Path'.refl) Path'.refl (Own.told-none 𝓤 H A (G6 .slots)) λ ρ m pf wa. Gives.elem-local 𝓤 H A W E ρ (OfStation.row) (λ x. Steps.only (OfStation.copies .vals x)) (OfStation.copies .tells) (Row.out 5 (G6 .locals)) m (λ ρ. Unit) pf 4 OfStation.spelt (λ x. x) (Yields.yields-copy 𝓤 H A W (λ ρ. Unit) (OfStation.row) Path'.refl (OfStation.copies .copy 𝓤 H A W) (OfStation.held) (λ x. x) (λ x. x) (λ ρ told. OfStation.in-mem 𝓤 H A W ρ) λ ρ told. OfStation.of-mem 𝓤 H A W ρ)) d47
 
           d49 : Typed.Typed 𝓤 H A 𝓣 E G5 b38 Δ0 (at49 bs)
-          d49 = Typed.s-seq 𝓤 H A W 𝓣 E G5 G6 b2 b37 Δ0 (Typed.both (s4 bs)) (at48 bs) (Plain.t-call-plain 𝓤 H A W 𝓣 0 ps·1 r·1 (claims· .2) (claims· .3) "fresh::fresh_station" (known .1) E (λ pos β. β) G5 tt 4 List.[] (Call.sub-id 𝓤 H A W (G5 .slots)) tt (Reads.room-gone 𝓤 H A OfStation.spelt) tt Path'.refl) d48
+          d49 = Typed.s-seq 𝓤 H A W 𝓣 E G5 G6 b2 b37 Δ0 (Typed.both (s4 bs)) (at48 bs) (Plain.t-call-plain 𝓤 H A W 𝓣 0 ps·1 r·1 (claims· .2) (claims· .3) "output_fresh::fresh_station" (known .1) E (λ pos β. β) G5 tt 4 List.[] (Call.sub-id 𝓤 H A W (G5 .slots)) tt (Reads.room-gone 𝓤 H A OfStation.spelt) tt Path'.refl) d48
 
           d50 : Typed.Typed 𝓤 H A 𝓣 E G4 b38 Δ0 (at50 bs)
           d50 = Typed.g-pre 𝓤 H A W 𝓣 E G4 G5 b38 Δ0 (Typed.pass T4 T5 (s3 bs)) (at49 bs) (Scalar.g-room 𝓤 H A W E G4 2 OfOutput.spelt (OfOutput.room 𝓤 H A W)) d49
@@ -1097,7 +1097,7 @@ module _ (claims· : Claims) where
           d52 = Typed.s-seq 𝓤 H A W 𝓣 E G2 G3 b1 b38 Δ0 (Typed.pass T2 T3 (s1 bs)) (at51 bs) (Repeat.t-repeat-by 𝓤 H A W E 𝓣 (OfOutput.row) (OfOutput.lawful 𝓤 H A W) (OfOutput.copies .copy 𝓤 H A W) 64 G2 3 (Scalar.oAt 2 OfOutput.spelt λ x. Steps.only (OfOutput.copies .vals x)) (λ m. m .1 .1 .0) (λ ρ. Unit) (Reads.room-gone 𝓤 H A (Syntax.tyArray OfOutput.spelt 64)) (OfOutput.reads 𝓤 H A W, Path'.refl) Path'.refl (Own.told-none 𝓤 H A (G2 .slots)) λ ρ m pf wa. Gives.elem-local 𝓤 H A W E ρ (OfOutput.row) (λ x. Steps.only (OfOutput.copies .vals x)) (OfOutput.copies .tells) (Row.out 3 (G2 .locals)) m (λ ρ. Unit) pf 2 OfOutput.spelt (λ x. x) (Yields.yields-copy 𝓤 H A W (λ ρ. Unit) (OfOutput.row) Path'.refl (OfOutput.copies .copy 𝓤 H A W) (OfOutput.held) (λ x. x) (λ x. x) (λ ρ told. OfOutput.in-mem 𝓤 H A W ρ) λ ρ told. OfOutput.of-mem 𝓤 H A W ρ)) d51
 
           d53 : Typed.Typed 𝓤 H A 𝓣 E G0 b40 Δ0 (at53 bs)
-          d53 = Typed.s-seq 𝓤 H A W 𝓣 E G0 G2 b0 b39 Δ0 (Typed.both (s0 bs)) (at52 bs) (Plain.t-call-plain 𝓤 H A W 𝓣 0 ps·0 r·0 (claims· .0) (claims· .1) "fresh::fresh_output" (known .0) E (λ pos β. β) G0 tt 2 List.[] (Call.sub-id 𝓤 H A W (G0 .slots)) tt (Reads.room-gone 𝓤 H A OfOutput.spelt) tt Path'.refl) d52
+          d53 = Typed.s-seq 𝓤 H A W 𝓣 E G0 G2 b0 b39 Δ0 (Typed.both (s0 bs)) (at52 bs) (Plain.t-call-plain 𝓤 H A W 𝓣 0 ps·0 r·0 (claims· .0) (claims· .1) "output_fresh::fresh_output" (known .0) E (λ pos β. β) G0 tt 2 List.[] (Call.sub-id 𝓤 H A W (G0 .slots)) tt (Reads.room-gone 𝓤 H A OfOutput.spelt) tt Path'.refl) d52
 
           pub typed :
               Typed.Typed
@@ -1681,7 +1681,7 @@ module _ (claims· : Claims) where
             r·0
             (claims· .0)
             (claims· .1)
-            "fresh::fresh_output")
+            "output_fresh::fresh_output")
             (known1 : Plain.Known
             𝓤
             H
@@ -1693,7 +1693,7 @@ module _ (claims· : Claims) where
             r·1
             (claims· .2)
             (claims· .3)
-            "fresh::fresh_station")
+            "output_fresh::fresh_station")
             (known2 : Plain.Known
             𝓤
             H
@@ -1717,7 +1717,7 @@ module _ (claims· : Claims) where
             r·3
             (claims· .6)
             (claims· .7)
-            "session::replay") where
+            "replay_session::replay") where
           pub spec :
               Statement.Triple
               𝓤

@@ -1,16 +1,16 @@
 -- Made by tools/twin.py.
-use Rattle.text_reading.proofs.fresh_reader.Met
-use Rattle.text_reading.proofs.fresh_reader.Reads
-use Rattle.text_reading.proofs.fresh_reader.Symbol
 use Rattle.replay_session.proofs.Lent.take_all.Kinds
-use Rattle.replay_session.proofs.Lent.take_all.Reads as Reads'
-use Rattle.replay_session.proofs.Lent.take_some.Reads as Reads''
+use Rattle.replay_session.proofs.Lent.take_all.Reads
+use Rattle.replay_session.proofs.Lent.take_some.Reads as Reads'
 use Rattle.replay_session.proofs.take_all.Code
 use Rattle.replay_session.proofs.take_all.Key
 use Rattle.replay_session.proofs.take_all.Proof.Lts
 use Rattle.replay_session.proofs.take_all.Statement
-use Rattle.replay_session.proofs.take_some.Met as Met'
-use Rattle.replay_session.proofs.take_some.Symbol as Symbol'
+use Rattle.replay_session.proofs.take_some.Met
+use Rattle.replay_session.proofs.take_some.Symbol
+use Rattle.text_reading.proofs.fresh_reader.Met as Met'
+use Rattle.text_reading.proofs.fresh_reader.Reads as Reads''
+use Rattle.text_reading.proofs.fresh_reader.Symbol as Symbol'
 use borrow.Fn.Run
 use borrow.Fn.Written
 use contract.Running
@@ -22,145 +22,145 @@ abbrev pub MeasureT-loop : Type 0
 MeasureT-loop = Lts.MeasureT-loop
 
 abbrev pub Start : (Inv : InvT-loop) → (μ : MeasureT-loop) → Type 0
-Start = λ Inv μ. Lts.Start (Reads.Asked, Reads.Learnt, Reads''.Asked, Reads''.Learnt) Reads'.Pre Reads'.Post Inv μ
+Start = λ Inv μ. Lts.Start (Reads''.Asked, Reads''.Learnt, Reads'.Asked, Reads'.Learnt) Reads.Pre Reads.Post Inv μ
 
 abbrev pub After-slice-known : (Inv : InvT-loop) → (μ : MeasureT-loop) → Type 0
-After-slice-known = λ Inv μ. Lts.After-slice-known (Reads.Asked, Reads.Learnt, Reads''.Asked, Reads''.Learnt) Reads'.Pre Reads'.Post Inv μ
+After-slice-known = λ Inv μ. Lts.After-slice-known (Reads''.Asked, Reads''.Learnt, Reads'.Asked, Reads'.Learnt) Reads.Pre Reads.Post Inv μ
 
 abbrev pub After-slice-known2 : (Inv : InvT-loop) → (μ : MeasureT-loop) → Type 0
-After-slice-known2 = λ Inv μ. Lts.After-slice-known2 (Reads.Asked, Reads.Learnt, Reads''.Asked, Reads''.Learnt) Reads'.Pre Reads'.Post Inv μ
+After-slice-known2 = λ Inv μ. Lts.After-slice-known2 (Reads''.Asked, Reads''.Learnt, Reads'.Asked, Reads'.Learnt) Reads.Pre Reads.Post Inv μ
 
 abbrev pub After-fresh-reader : (Inv : InvT-loop) → (μ : MeasureT-loop) → Type 0
-After-fresh-reader = λ Inv μ. Lts.After-fresh-reader (Reads.Asked, Reads.Learnt, Reads''.Asked, Reads''.Learnt) Reads'.Pre Reads'.Post Inv μ
+After-fresh-reader = λ Inv μ. Lts.After-fresh-reader (Reads''.Asked, Reads''.Learnt, Reads'.Asked, Reads'.Learnt) Reads.Pre Reads.Post Inv μ
 
 abbrev pub At-loop : (Inv : InvT-loop) → (μ : MeasureT-loop) → Type 0
-At-loop = λ Inv μ. Lts.At-loop (Reads.Asked, Reads.Learnt, Reads''.Asked, Reads''.Learnt) Reads'.Pre Reads'.Post Inv μ
+At-loop = λ Inv μ. Lts.At-loop (Reads''.Asked, Reads''.Learnt, Reads'.Asked, Reads'.Learnt) Reads.Pre Reads.Post Inv μ
 
 abbrev pub In-loop : (Inv : InvT-loop) → (μ : MeasureT-loop) → Type 0
-In-loop = λ Inv μ. Lts.In-loop (Reads.Asked, Reads.Learnt, Reads''.Asked, Reads''.Learnt) Reads'.Pre Reads'.Post Inv μ
+In-loop = λ Inv μ. Lts.In-loop (Reads''.Asked, Reads''.Learnt, Reads'.Asked, Reads'.Learnt) Reads.Pre Reads.Post Inv μ
 
 abbrev pub After-loop : (Inv : InvT-loop) → (μ : MeasureT-loop) → Type 0
-After-loop = λ Inv μ. Lts.After-loop (Reads.Asked, Reads.Learnt, Reads''.Asked, Reads''.Learnt) Reads'.Pre Reads'.Post Inv μ
+After-loop = λ Inv μ. Lts.After-loop (Reads''.Asked, Reads''.Learnt, Reads'.Asked, Reads'.Learnt) Reads.Pre Reads.Post Inv μ
 
 abbrev pub After-take-some-arg : (Inv : InvT-loop) → (μ : MeasureT-loop) → Type 0
-After-take-some-arg = λ Inv μ. Lts.After-take-some-arg (Reads.Asked, Reads.Learnt, Reads''.Asked, Reads''.Learnt) Reads'.Pre Reads'.Post Inv μ
+After-take-some-arg = λ Inv μ. Lts.After-take-some-arg (Reads''.Asked, Reads''.Learnt, Reads'.Asked, Reads'.Learnt) Reads.Pre Reads.Post Inv μ
 
 abbrev pub After-take-some-arg2 : (Inv : InvT-loop) → (μ : MeasureT-loop) → Type 0
-After-take-some-arg2 = λ Inv μ. Lts.After-take-some-arg2 (Reads.Asked, Reads.Learnt, Reads''.Asked, Reads''.Learnt) Reads'.Pre Reads'.Post Inv μ
+After-take-some-arg2 = λ Inv μ. Lts.After-take-some-arg2 (Reads''.Asked, Reads''.Learnt, Reads'.Asked, Reads'.Learnt) Reads.Pre Reads.Post Inv μ
 
 abbrev pub After-take-some-arg3 : (Inv : InvT-loop) → (μ : MeasureT-loop) → Type 0
-After-take-some-arg3 = λ Inv μ. Lts.After-take-some-arg3 (Reads.Asked, Reads.Learnt, Reads''.Asked, Reads''.Learnt) Reads'.Pre Reads'.Post Inv μ
+After-take-some-arg3 = λ Inv μ. Lts.After-take-some-arg3 (Reads''.Asked, Reads''.Learnt, Reads'.Asked, Reads'.Learnt) Reads.Pre Reads.Post Inv μ
 
 abbrev pub After-take-some-arg4 : (Inv : InvT-loop) → (μ : MeasureT-loop) → Type 0
-After-take-some-arg4 = λ Inv μ. Lts.After-take-some-arg4 (Reads.Asked, Reads.Learnt, Reads''.Asked, Reads''.Learnt) Reads'.Pre Reads'.Post Inv μ
+After-take-some-arg4 = λ Inv μ. Lts.After-take-some-arg4 (Reads''.Asked, Reads''.Learnt, Reads'.Asked, Reads'.Learnt) Reads.Pre Reads.Post Inv μ
 
 abbrev pub After-take-some-arg5 : (Inv : InvT-loop) → (μ : MeasureT-loop) → Type 0
-After-take-some-arg5 = λ Inv μ. Lts.After-take-some-arg5 (Reads.Asked, Reads.Learnt, Reads''.Asked, Reads''.Learnt) Reads'.Pre Reads'.Post Inv μ
+After-take-some-arg5 = λ Inv μ. Lts.After-take-some-arg5 (Reads''.Asked, Reads''.Learnt, Reads'.Asked, Reads'.Learnt) Reads.Pre Reads.Post Inv μ
 
 abbrev pub After-take-some : (Inv : InvT-loop) → (μ : MeasureT-loop) → Type 0
-After-take-some = λ Inv μ. Lts.After-take-some (Reads.Asked, Reads.Learnt, Reads''.Asked, Reads''.Learnt) Reads'.Pre Reads'.Post Inv μ
+After-take-some = λ Inv μ. Lts.After-take-some (Reads''.Asked, Reads''.Learnt, Reads'.Asked, Reads'.Learnt) Reads.Pre Reads.Post Inv μ
 
 abbrev pub After-outputs : (Inv : InvT-loop) → (μ : MeasureT-loop) → Type 0
-After-outputs = λ Inv μ. Lts.After-outputs (Reads.Asked, Reads.Learnt, Reads''.Asked, Reads''.Learnt) Reads'.Pre Reads'.Post Inv μ
+After-outputs = λ Inv μ. Lts.After-outputs (Reads''.Asked, Reads''.Learnt, Reads'.Asked, Reads'.Learnt) Reads.Pre Reads.Post Inv μ
 
 abbrev pub After-stations : (Inv : InvT-loop) → (μ : MeasureT-loop) → Type 0
-After-stations = λ Inv μ. Lts.After-stations (Reads.Asked, Reads.Learnt, Reads''.Asked, Reads''.Learnt) Reads'.Pre Reads'.Post Inv μ
+After-stations = λ Inv μ. Lts.After-stations (Reads''.Asked, Reads''.Learnt, Reads'.Asked, Reads'.Learnt) Reads.Pre Reads.Post Inv μ
 
 abbrev pub After-page : (Inv : InvT-loop) → (μ : MeasureT-loop) → Type 0
-After-page = λ Inv μ. Lts.After-page (Reads.Asked, Reads.Learnt, Reads''.Asked, Reads''.Learnt) Reads'.Pre Reads'.Post Inv μ
+After-page = λ Inv μ. Lts.After-page (Reads''.Asked, Reads''.Learnt, Reads'.Asked, Reads'.Learnt) Reads.Pre Reads.Post Inv μ
 
 abbrev pub After-slice-known3 : (Inv : InvT-loop) → (μ : MeasureT-loop) → Type 0
-After-slice-known3 = λ Inv μ. Lts.After-slice-known3 (Reads.Asked, Reads.Learnt, Reads''.Asked, Reads''.Learnt) Reads'.Pre Reads'.Post Inv μ
+After-slice-known3 = λ Inv μ. Lts.After-slice-known3 (Reads''.Asked, Reads''.Learnt, Reads'.Asked, Reads'.Learnt) Reads.Pre Reads.Post Inv μ
 
 abbrev pub After-chunk : (Inv : InvT-loop) → (μ : MeasureT-loop) → Type 0
-After-chunk = λ Inv μ. Lts.After-chunk (Reads.Asked, Reads.Learnt, Reads''.Asked, Reads''.Learnt) Reads'.Pre Reads'.Post Inv μ
+After-chunk = λ Inv μ. Lts.After-chunk (Reads''.Asked, Reads''.Learnt, Reads'.Asked, Reads'.Learnt) Reads.Pre Reads.Post Inv μ
 
 abbrev pub After-slice-known4 : (Inv : InvT-loop) → (μ : MeasureT-loop) → Type 0
-After-slice-known4 = λ Inv μ. Lts.After-slice-known4 (Reads.Asked, Reads.Learnt, Reads''.Asked, Reads''.Learnt) Reads'.Pre Reads'.Post Inv μ
+After-slice-known4 = λ Inv μ. Lts.After-slice-known4 (Reads''.Asked, Reads''.Learnt, Reads'.Asked, Reads'.Learnt) Reads.Pre Reads.Post Inv μ
 
 abbrev pub After-next : (Inv : InvT-loop) → (μ : MeasureT-loop) → Type 0
-After-next = λ Inv μ. Lts.After-next (Reads.Asked, Reads.Learnt, Reads''.Asked, Reads''.Learnt) Reads'.Pre Reads'.Post Inv μ
+After-next = λ Inv μ. Lts.After-next (Reads''.Asked, Reads''.Learnt, Reads'.Asked, Reads'.Learnt) Reads.Pre Reads.Post Inv μ
 
 abbrev pub After-struct-known : (Inv : InvT-loop) → (μ : MeasureT-loop) → Type 0
-After-struct-known = λ Inv μ. Lts.After-struct-known (Reads.Asked, Reads.Learnt, Reads''.Asked, Reads''.Learnt) Reads'.Pre Reads'.Post Inv μ
+After-struct-known = λ Inv μ. Lts.After-struct-known (Reads''.Asked, Reads''.Learnt, Reads'.Asked, Reads'.Learnt) Reads.Pre Reads.Post Inv μ
 
 abbrev pub Then1 : (Inv : InvT-loop) → (μ : MeasureT-loop) → Type 0
-Then1 = λ Inv μ. Lts.Then1 (Reads.Asked, Reads.Learnt, Reads''.Asked, Reads''.Learnt) Reads'.Pre Reads'.Post Inv μ
+Then1 = λ Inv μ. Lts.Then1 (Reads''.Asked, Reads''.Learnt, Reads'.Asked, Reads'.Learnt) Reads.Pre Reads.Post Inv μ
 
 abbrev pub Else1 : (Inv : InvT-loop) → (μ : MeasureT-loop) → Type 0
-Else1 = λ Inv μ. Lts.Else1 (Reads.Asked, Reads.Learnt, Reads''.Asked, Reads''.Learnt) Reads'.Pre Reads'.Post Inv μ
+Else1 = λ Inv μ. Lts.Else1 (Reads''.Asked, Reads''.Learnt, Reads'.Asked, Reads'.Learnt) Reads.Pre Reads.Post Inv μ
 
 abbrev pub After-struct-known2 : (Inv : InvT-loop) → (μ : MeasureT-loop) → Type 0
-After-struct-known2 = λ Inv μ. Lts.After-struct-known2 (Reads.Asked, Reads.Learnt, Reads''.Asked, Reads''.Learnt) Reads'.Pre Reads'.Post Inv μ
+After-struct-known2 = λ Inv μ. Lts.After-struct-known2 (Reads''.Asked, Reads''.Learnt, Reads'.Asked, Reads'.Learnt) Reads.Pre Reads.Post Inv μ
 
 abbrev pub Then2 : (Inv : InvT-loop) → (μ : MeasureT-loop) → Type 0
-Then2 = λ Inv μ. Lts.Then2 (Reads.Asked, Reads.Learnt, Reads''.Asked, Reads''.Learnt) Reads'.Pre Reads'.Post Inv μ
+Then2 = λ Inv μ. Lts.Then2 (Reads''.Asked, Reads''.Learnt, Reads'.Asked, Reads'.Learnt) Reads.Pre Reads.Post Inv μ
 
 abbrev pub Else2 : (Inv : InvT-loop) → (μ : MeasureT-loop) → Type 0
-Else2 = λ Inv μ. Lts.Else2 (Reads.Asked, Reads.Learnt, Reads''.Asked, Reads''.Learnt) Reads'.Pre Reads'.Post Inv μ
+Else2 = λ Inv μ. Lts.Else2 (Reads''.Asked, Reads''.Learnt, Reads'.Asked, Reads'.Learnt) Reads.Pre Reads.Post Inv μ
 
 abbrev pub Need-fresh-reader-requires : (Inv : InvT-loop) → (μ : MeasureT-loop) → Type 0
-Need-fresh-reader-requires = λ Inv μ. Lts.Need-fresh-reader-requires (Reads.Asked, Reads.Learnt, Reads''.Asked, Reads''.Learnt) Reads'.Pre Reads'.Post Inv μ
+Need-fresh-reader-requires = λ Inv μ. Lts.Need-fresh-reader-requires (Reads''.Asked, Reads''.Learnt, Reads'.Asked, Reads'.Learnt) Reads.Pre Reads.Post Inv μ
 
 abbrev pub Need-loop-holds : (Inv : InvT-loop) → (μ : MeasureT-loop) → Type 0
-Need-loop-holds = λ Inv μ. Lts.Need-loop-holds (Reads.Asked, Reads.Learnt, Reads''.Asked, Reads''.Learnt) Reads'.Pre Reads'.Post Inv μ
+Need-loop-holds = λ Inv μ. Lts.Need-loop-holds (Reads''.Asked, Reads''.Learnt, Reads'.Asked, Reads'.Learnt) Reads.Pre Reads.Post Inv μ
 
 abbrev pub Need-sub-turns : (Inv : InvT-loop) → (μ : MeasureT-loop) → Type 0
-Need-sub-turns = λ Inv μ. Lts.Need-sub-turns (Reads.Asked, Reads.Learnt, Reads''.Asked, Reads''.Learnt) Reads'.Pre Reads'.Post Inv μ
+Need-sub-turns = λ Inv μ. Lts.Need-sub-turns (Reads''.Asked, Reads''.Learnt, Reads'.Asked, Reads'.Learnt) Reads.Pre Reads.Post Inv μ
 
 abbrev pub Need-take-some-requires : (Inv : InvT-loop) → (μ : MeasureT-loop) → Type 0
-Need-take-some-requires = λ Inv μ. Lts.Need-take-some-requires (Reads.Asked, Reads.Learnt, Reads''.Asked, Reads''.Learnt) Reads'.Pre Reads'.Post Inv μ
+Need-take-some-requires = λ Inv μ. Lts.Need-take-some-requires (Reads''.Asked, Reads''.Learnt, Reads'.Asked, Reads'.Learnt) Reads.Pre Reads.Post Inv μ
 
 abbrev pub Need-same-length : (Inv : InvT-loop) → (μ : MeasureT-loop) → Type 0
-Need-same-length = λ Inv μ. Lts.Need-same-length (Reads.Asked, Reads.Learnt, Reads''.Asked, Reads''.Learnt) Reads'.Pre Reads'.Post Inv μ
+Need-same-length = λ Inv μ. Lts.Need-same-length (Reads''.Asked, Reads''.Learnt, Reads'.Asked, Reads'.Learnt) Reads.Pre Reads.Post Inv μ
 
 abbrev pub Need-same-length-2 : (Inv : InvT-loop) → (μ : MeasureT-loop) → Type 0
-Need-same-length-2 = λ Inv μ. Lts.Need-same-length-2 (Reads.Asked, Reads.Learnt, Reads''.Asked, Reads''.Learnt) Reads'.Pre Reads'.Post Inv μ
+Need-same-length-2 = λ Inv μ. Lts.Need-same-length-2 (Reads''.Asked, Reads''.Learnt, Reads'.Asked, Reads'.Learnt) Reads.Pre Reads.Post Inv μ
 
 abbrev pub Need-same-length-3 : (Inv : InvT-loop) → (μ : MeasureT-loop) → Type 0
-Need-same-length-3 = λ Inv μ. Lts.Need-same-length-3 (Reads.Asked, Reads.Learnt, Reads''.Asked, Reads''.Learnt) Reads'.Pre Reads'.Post Inv μ
+Need-same-length-3 = λ Inv μ. Lts.Need-same-length-3 (Reads''.Asked, Reads''.Learnt, Reads'.Asked, Reads'.Learnt) Reads.Pre Reads.Post Inv μ
 
 abbrev pub Need-same-length-4 : (Inv : InvT-loop) → (μ : MeasureT-loop) → Type 0
-Need-same-length-4 = λ Inv μ. Lts.Need-same-length-4 (Reads.Asked, Reads.Learnt, Reads''.Asked, Reads''.Learnt) Reads'.Pre Reads'.Post Inv μ
+Need-same-length-4 = λ Inv μ. Lts.Need-same-length-4 (Reads''.Asked, Reads''.Learnt, Reads'.Asked, Reads'.Learnt) Reads.Pre Reads.Post Inv μ
 
 abbrev pub Need-returns : (Inv : InvT-loop) → (μ : MeasureT-loop) → Type 0
-Need-returns = λ Inv μ. Lts.Need-returns (Reads.Asked, Reads.Learnt, Reads''.Asked, Reads''.Learnt) Reads'.Pre Reads'.Post Inv μ
+Need-returns = λ Inv μ. Lts.Need-returns (Reads''.Asked, Reads''.Learnt, Reads'.Asked, Reads'.Learnt) Reads.Pre Reads.Post Inv μ
 
 abbrev pub Need-same-length-5 : (Inv : InvT-loop) → (μ : MeasureT-loop) → Type 0
-Need-same-length-5 = λ Inv μ. Lts.Need-same-length-5 (Reads.Asked, Reads.Learnt, Reads''.Asked, Reads''.Learnt) Reads'.Pre Reads'.Post Inv μ
+Need-same-length-5 = λ Inv μ. Lts.Need-same-length-5 (Reads''.Asked, Reads''.Learnt, Reads'.Asked, Reads'.Learnt) Reads.Pre Reads.Post Inv μ
 
 abbrev pub Need-same-length-6 : (Inv : InvT-loop) → (μ : MeasureT-loop) → Type 0
-Need-same-length-6 = λ Inv μ. Lts.Need-same-length-6 (Reads.Asked, Reads.Learnt, Reads''.Asked, Reads''.Learnt) Reads'.Pre Reads'.Post Inv μ
+Need-same-length-6 = λ Inv μ. Lts.Need-same-length-6 (Reads''.Asked, Reads''.Learnt, Reads'.Asked, Reads'.Learnt) Reads.Pre Reads.Post Inv μ
 
 abbrev pub Need-same-length-7 : (Inv : InvT-loop) → (μ : MeasureT-loop) → Type 0
-Need-same-length-7 = λ Inv μ. Lts.Need-same-length-7 (Reads.Asked, Reads.Learnt, Reads''.Asked, Reads''.Learnt) Reads'.Pre Reads'.Post Inv μ
+Need-same-length-7 = λ Inv μ. Lts.Need-same-length-7 (Reads''.Asked, Reads''.Learnt, Reads'.Asked, Reads'.Learnt) Reads.Pre Reads.Post Inv μ
 
 abbrev pub Need-same-length-8 : (Inv : InvT-loop) → (μ : MeasureT-loop) → Type 0
-Need-same-length-8 = λ Inv μ. Lts.Need-same-length-8 (Reads.Asked, Reads.Learnt, Reads''.Asked, Reads''.Learnt) Reads'.Pre Reads'.Post Inv μ
+Need-same-length-8 = λ Inv μ. Lts.Need-same-length-8 (Reads''.Asked, Reads''.Learnt, Reads'.Asked, Reads'.Learnt) Reads.Pre Reads.Post Inv μ
 
 abbrev pub Need-returns-2 : (Inv : InvT-loop) → (μ : MeasureT-loop) → Type 0
-Need-returns-2 = λ Inv μ. Lts.Need-returns-2 (Reads.Asked, Reads.Learnt, Reads''.Asked, Reads''.Learnt) Reads'.Pre Reads'.Post Inv μ
+Need-returns-2 = λ Inv μ. Lts.Need-returns-2 (Reads''.Asked, Reads''.Learnt, Reads'.Asked, Reads'.Learnt) Reads.Pre Reads.Post Inv μ
 
 abbrev pub Need-loop-less : (Inv : InvT-loop) → (μ : MeasureT-loop) → Type 0
-Need-loop-less = λ Inv μ. Lts.Need-loop-less (Reads.Asked, Reads.Learnt, Reads''.Asked, Reads''.Learnt) Reads'.Pre Reads'.Post Inv μ
+Need-loop-less = λ Inv μ. Lts.Need-loop-less (Reads''.Asked, Reads''.Learnt, Reads'.Asked, Reads'.Learnt) Reads.Pre Reads.Post Inv μ
 
 abbrev pub Need-loop-again : (Inv : InvT-loop) → (μ : MeasureT-loop) → Type 0
-Need-loop-again = λ Inv μ. Lts.Need-loop-again (Reads.Asked, Reads.Learnt, Reads''.Asked, Reads''.Learnt) Reads'.Pre Reads'.Post Inv μ
+Need-loop-again = λ Inv μ. Lts.Need-loop-again (Reads''.Asked, Reads''.Learnt, Reads'.Asked, Reads'.Learnt) Reads.Pre Reads.Post Inv μ
 
 abbrev pub Need-same-length-9 : (Inv : InvT-loop) → (μ : MeasureT-loop) → Type 0
-Need-same-length-9 = λ Inv μ. Lts.Need-same-length-9 (Reads.Asked, Reads.Learnt, Reads''.Asked, Reads''.Learnt) Reads'.Pre Reads'.Post Inv μ
+Need-same-length-9 = λ Inv μ. Lts.Need-same-length-9 (Reads''.Asked, Reads''.Learnt, Reads'.Asked, Reads'.Learnt) Reads.Pre Reads.Post Inv μ
 
 abbrev pub Need-same-length-10 : (Inv : InvT-loop) → (μ : MeasureT-loop) → Type 0
-Need-same-length-10 = λ Inv μ. Lts.Need-same-length-10 (Reads.Asked, Reads.Learnt, Reads''.Asked, Reads''.Learnt) Reads'.Pre Reads'.Post Inv μ
+Need-same-length-10 = λ Inv μ. Lts.Need-same-length-10 (Reads''.Asked, Reads''.Learnt, Reads'.Asked, Reads'.Learnt) Reads.Pre Reads.Post Inv μ
 
 abbrev pub Need-same-length-11 : (Inv : InvT-loop) → (μ : MeasureT-loop) → Type 0
-Need-same-length-11 = λ Inv μ. Lts.Need-same-length-11 (Reads.Asked, Reads.Learnt, Reads''.Asked, Reads''.Learnt) Reads'.Pre Reads'.Post Inv μ
+Need-same-length-11 = λ Inv μ. Lts.Need-same-length-11 (Reads''.Asked, Reads''.Learnt, Reads'.Asked, Reads'.Learnt) Reads.Pre Reads.Post Inv μ
 
 abbrev pub Need-same-length-12 : (Inv : InvT-loop) → (μ : MeasureT-loop) → Type 0
-Need-same-length-12 = λ Inv μ. Lts.Need-same-length-12 (Reads.Asked, Reads.Learnt, Reads''.Asked, Reads''.Learnt) Reads'.Pre Reads'.Post Inv μ
+Need-same-length-12 = λ Inv μ. Lts.Need-same-length-12 (Reads''.Asked, Reads''.Learnt, Reads'.Asked, Reads'.Learnt) Reads.Pre Reads.Post Inv μ
 
 abbrev pub Need-returns-3 : (Inv : InvT-loop) → (μ : MeasureT-loop) → Type 0
-Need-returns-3 = λ Inv μ. Lts.Need-returns-3 (Reads.Asked, Reads.Learnt, Reads''.Asked, Reads''.Learnt) Reads'.Pre Reads'.Post Inv μ
+Need-returns-3 = λ Inv μ. Lts.Need-returns-3 (Reads''.Asked, Reads''.Learnt, Reads'.Asked, Reads'.Learnt) Reads.Pre Reads.Post Inv μ
 
 module _ {M : Type 1} where
   pub spec :
@@ -188,18 +188,18 @@ module _ {M : Type 1} where
       (answer : Need-same-length-12 Inv μ) →
       (answer : Need-returns-3 Inv μ) →
       Lts.Closed
-      (Reads.Asked, Reads.Learnt, Reads''.Asked, Reads''.Learnt)
-      Reads'.Pre
-      Reads'.Post
+      (Reads''.Asked, Reads''.Learnt, Reads'.Asked, Reads'.Learnt)
+      Reads.Pre
+      Reads.Post
       M
-  spec = λ Inv μ answer answer' answer'' answer'3 answer'4 answer'5 answer'6 answer'7 answer'8 answer'9 answer'10 answer'11 answer'12 answer'13 answer'14 answer'15 answer'16 answer'17 answer'18 answer'19 answer'20. Lts.spec (Reads.Asked, Reads.Learnt, Reads''.Asked, Reads''.Learnt) Reads'.Pre Reads'.Post Inv μ answer answer' answer'' answer'3 answer'4 answer'5 answer'6 answer'7 answer'8 answer'9 answer'10 answer'11 answer'12 answer'13 answer'14 answer'15 answer'16 answer'17 answer'18 answer'19 answer'20
+  spec = λ Inv μ answer answer' answer'' answer'3 answer'4 answer'5 answer'6 answer'7 answer'8 answer'9 answer'10 answer'11 answer'12 answer'13 answer'14 answer'15 answer'16 answer'17 answer'18 answer'19 answer'20. Lts.spec (Reads''.Asked, Reads''.Learnt, Reads'.Asked, Reads'.Learnt) Reads.Pre Reads.Post Inv μ answer answer' answer'' answer'3 answer'4 answer'5 answer'6 answer'7 answer'8 answer'9 answer'10 answer'11 answer'12 answer'13 answer'14 answer'15 answer'16 answer'17 answer'18 answer'19 answer'20
 
   pub close :
       Lts.Closed
-      (Reads.Asked, Reads.Learnt, Reads''.Asked, Reads''.Learnt)
-      Reads'.Pre
-      Reads'.Post
+      (Reads''.Asked, Reads''.Learnt, Reads'.Asked, Reads'.Learnt)
+      Reads.Pre
+      Reads.Post
       M →
       Statement.statement M
   unfolding Code.routine Running.tablesOf
-  close = λ closed 𝓤 H 𝓜 𝓖 𝓡. Written.close 5 Kinds.ps Kinds.r Reads'.Ghost Reads'.requires Reads'.ensures Reads'.pre-read Reads'.Pinned Reads'.Owned Reads'.post-read record { M = M; 𝓤 = 𝓤; H = H; 𝓜 = 𝓜; 𝓖 = 𝓖; 𝓡 = 𝓡 } Code.env Key.name Code.function (Code.unfolded 𝓤 H 𝓜 𝓡) (λ κs a g. tt) (λ κs. Reads'.owns κs record { M = M; 𝓤 = 𝓤; H = H; 𝓜 = 𝓜; 𝓖 = 𝓖; 𝓡 = 𝓡 }) (Reads'.passes record { M = M; 𝓤 = 𝓤; H = H; 𝓜 = 𝓜; 𝓖 = 𝓖; 𝓡 = 𝓡 }) λ g. closed 𝓤 H (𝓖 .A) (Running.givenOf 𝓤 H 𝓜 𝓖) (Run.Over 𝓤 H 𝓜 𝓖 𝓡 Code.env) (Reads.known record { M = M; 𝓤 = 𝓤; H = H; 𝓜 = 𝓜; 𝓖 = 𝓖; 𝓡 = 𝓡 } Code.env Symbol.name Symbol.routine Code.calls-reading·fresh-reader (Met.met 𝓤 H 𝓜 𝓖 𝓡)) (Reads''.known record { M = M; 𝓤 = 𝓤; H = H; 𝓜 = 𝓜; 𝓖 = 𝓖; 𝓡 = 𝓡 } Code.env Symbol'.name Symbol'.routine Code.calls-session·take-some (Met'.met 𝓤 H 𝓜 𝓖 𝓡))
+  close = λ closed 𝓤 H 𝓜 𝓖 𝓡. Written.close 5 Kinds.ps Kinds.r Reads.Ghost Reads.requires Reads.ensures Reads.pre-read Reads.Pinned Reads.Owned Reads.post-read record { M = M; 𝓤 = 𝓤; H = H; 𝓜 = 𝓜; 𝓖 = 𝓖; 𝓡 = 𝓡 } Code.env Key.name Code.function (Code.unfolded 𝓤 H 𝓜 𝓡) (λ κs a g. tt) (λ κs. Reads.owns κs record { M = M; 𝓤 = 𝓤; H = H; 𝓜 = 𝓜; 𝓖 = 𝓖; 𝓡 = 𝓡 }) (Reads.passes record { M = M; 𝓤 = 𝓤; H = H; 𝓜 = 𝓜; 𝓖 = 𝓖; 𝓡 = 𝓡 }) λ g. closed 𝓤 H (𝓖 .A) (Running.givenOf 𝓤 H 𝓜 𝓖) (Run.Over 𝓤 H 𝓜 𝓖 𝓡 Code.env) (Reads''.known record { M = M; 𝓤 = 𝓤; H = H; 𝓜 = 𝓜; 𝓖 = 𝓖; 𝓡 = 𝓡 } Code.env Symbol'.name Symbol'.routine Code.calls-text-reading·fresh-reader (Met'.met 𝓤 H 𝓜 𝓖 𝓡)) (Reads'.known record { M = M; 𝓤 = 𝓤; H = H; 𝓜 = 𝓜; 𝓖 = 𝓖; 𝓡 = 𝓡 } Code.env Symbol.name Symbol.routine Code.calls-replay-session·take-some (Met.met 𝓤 H 𝓜 𝓖 𝓡))
