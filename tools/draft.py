@@ -7,7 +7,9 @@ written by people. The prover checks both alike.
 
     draft.py NAME             runs `rt dev NAME` and drafts a file for each function that has none; what the rule cannot answer is left as a hole
     draft.py NAME --replace   tries the rule in place of each file written by people, and keeps it where the prover takes it
-    draft.py --check          fails where a marked file is not what the rule gives for its needs and the source, or an unmarked one is
+    draft.py --attributes     writes .gitattributes: drafts, derivations and what other tools make are marked as generated
+    draft.py --check          fails where a marked file is not what the rule gives for its needs and the source, where an unmarked one is, or where
+                              .gitattributes is stale
     draft.py --count          how many files and lines are drafted, and how many people wrote
 
 The rule. A need that is no return: `search needs`. A return: where the function returns once and calls others, it composes: `simp` with the
@@ -21,6 +23,9 @@ import sys
 
 MARK = '-- Drafted by tools/draft.py: nothing here was written by hand.'
 LAWS = 'crates/lighting/proofs/Laws.antt'
+# what tools/twin.py, laws.py and figures.py make
+MADE = ['crates/*/proofs/Lent.antt', 'crates/*/proofs/Lent/**', 'crates/*/proofs/**/Proof/Lts.antt', 'crates/*/proofs/**/Proof/Tie.antt',
+        'crates/lighting/proofs/Laws.antt', 'crates/lighting/proofs/Figures.antt', 'docs/SPOILT.md', 'tests/EVENTS.txt']
 
 
 def read(path):
@@ -194,8 +199,19 @@ def replace(name):
         print('drafted ' + path)
 
 
+def attributes():
+    """.gitattributes: what no person wrote, so that a reader's tools fold it away."""
+    lines = ['# Made by tools/draft.py --attributes: what tools made, and no person wrote.']
+    lines += [pattern + ' linguist-generated' for pattern in MADE]
+    for name in sorted(os.listdir('crates')):
+        lines += [path + ' linguist-generated' for path in proof_files(name) if read(path).startswith(MARK)]
+    return '\n'.join(lines) + '\n'
+
+
 def check():
     faults, marked = [], 0
+    if not os.path.exists('.gitattributes') or read('.gitattributes') != attributes():
+        faults.append('.gitattributes is stale: run tools/draft.py --attributes')
     for name in sorted(os.listdir('crates')):
         crate = Crate(name)
         for path in proof_files(name):
@@ -230,6 +246,9 @@ if __name__ == '__main__':
         sys.exit(check())
     elif words == ['--count']:
         count()
+    elif words == ['--attributes']:
+        with open('.gitattributes', 'w') as f:
+            f.write(attributes())
     elif len(words) == 2 and words[1] == '--replace':
         replace(words[0])
     elif len(words) == 1 and not words[0].startswith('-'):

@@ -9,7 +9,7 @@ import sys
 PAGES = ['README.md', 'docs/PROMISES.md', 'docs/CHANGING.md', 'docs/TRUST.md', 'docs/DECISIONS.md']
 # words that are no names of the repository: of the language, of the toolchain, of the text of lists, of papers
 OTHERS = set('''requires ensures unfolding abbrev unfoldable search needs simp cc rw omega let if match while loop for use mod pub fn struct enum const f32 u8 u16 u32 u64 bool usize
-pv inprocess stdin stdout also toBits rt cargo valgrind python3 target main returns old new to start frame'''.split())
+pv inprocess stdin stdout also toBits refl tagged Relay frame_tags old: new: DEFINITION-on rt cargo valgrind python3 target main returns old new to start frame'''.split())
 
 
 def read(path):
@@ -32,7 +32,7 @@ edits = {(p.split('/')[1], os.path.basename(p)[:-5]) for p in files if p.endswit
 
 
 def there(name):
-    if re.search(r'[ *<>|=(){}"$]|\.\.', name) or re.match(r'^[-\d"\'.:#]', name) or not re.search(r'[A-Za-z]{2}', name):
+    if re.search(r'[ *<>|=(){}"$&\[]|\.\.', name) or re.match(r'^[-\d"\'.:#]', name) or not re.search(r'[A-Za-z]{2}', name):
         return True
     if name in known or name in OTHERS or name in files or os.path.exists(name) or os.path.exists(name.rstrip('/')):
         return True

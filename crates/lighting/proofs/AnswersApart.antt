@@ -58,27 +58,27 @@ other : {A : Type 0} {a b : ℕ} {k l : List ℕ} → a ≢ b → a ∷ k ≡ b 
 other n h = absurd (n (first-byte h))
 
 -- NO TWO ANSWERS have the same bytes
-pub told-distance : (a b : Answer) → Fits a → Fits b → answerBytes a ≡ answerBytes b → a ≡ b
+pub told-apart : (a b : Answer) → Fits a → Fits b → answerBytes a ≡ answerBytes b → a ≡ b
 unfolding answerBytes
-told-distance Done Done f g h = refl
-told-distance Done (Value v) f g h = other (omega arith) h
-told-distance Done Absent f g h = other (omega arith) h
-told-distance Done (Refused n) f g h = other (omega arith) h
-told-distance (Value v) Done f g h = other (omega arith) h
-told-distance (Value v) (Value w) f g h =
+told-apart Done Done f g h = refl
+told-apart Done (Value v) f g h = other (omega arith) h
+told-apart Done Absent f g h = other (omega arith) h
+told-apart Done (Refused n) f g h = other (omega arith) h
+told-apart (Value v) Done f g h = other (omega arith) h
+told-apart (Value v) (Value w) f g h =
     let e : octets 4 v ≡ octets 4 w = other-bytes h in
     let z : v ≡ w = omega (arith, four-bytes v f, four-bytes w g, ap (λ (l : List ℕ). bigEndian 4 l 0) e) in
     ap Value z
-told-distance (Value v) Absent f g h = other (omega arith) h
-told-distance (Value v) (Refused n) f g h = other (omega arith) h
-told-distance Absent Done f g h = other (omega arith) h
-told-distance Absent (Value v) f g h = other (omega arith) h
-told-distance Absent Absent f g h = refl
-told-distance Absent (Refused n) f g h = other (omega arith) h
-told-distance (Refused m) Done f g h = other (omega arith) h
-told-distance (Refused m) (Value v) f g h = other (omega arith) h
-told-distance (Refused m) Absent f g h = other (omega arith) h
-told-distance (Refused m) (Refused n) f g h = let e : m ≡ n = first-byte (other-bytes h) in ap Refused e
+told-apart (Value v) Absent f g h = other (omega arith) h
+told-apart (Value v) (Refused n) f g h = other (omega arith) h
+told-apart Absent Done f g h = other (omega arith) h
+told-apart Absent (Value v) f g h = other (omega arith) h
+told-apart Absent Absent f g h = refl
+told-apart Absent (Refused n) f g h = other (omega arith) h
+told-apart (Refused m) Done f g h = other (omega arith) h
+told-apart (Refused m) (Value v) f g h = other (omega arith) h
+told-apart (Refused m) Absent f g h = other (omega arith) h
+told-apart (Refused m) (Refused n) f g h = let e : m ≡ n = first-byte (other-bytes h) in ap Refused e
 
 -- the value that is printed is the one of the bytes
 pub value-bytes : (a : Answer) (v : ℕ) → valueOf a ≡ some v → answerBytes a ≡ answerBytes (Value v)

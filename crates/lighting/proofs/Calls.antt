@@ -1,4 +1,4 @@
--- FROM THE CALLS TO THE DEMAND: who calls `start` once and `frame_parse` for each string of a list has demand 3.
+-- FROM THE CALLS TO THE DEMAND: who calls `start` once and `frame` for each string of a list has demand 3.
 use mathlib.Core.Path.{_≡_, refl, sym, ap, ap₂, _∙_}
 use mathlib.Core.List.{List, [], _∷_}
 use lib.ListN.{length}

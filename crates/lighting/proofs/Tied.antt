@@ -54,9 +54,9 @@ meets-of (Whole low high) v h = within-of low high v h
 meets-of Priority v h = slot-of v h
 meets-of ReadOnly v h = false≢true h
 
-afterEvents-of : (c : Settings) → settingsSound document01 c ≡ true → SettingsInRange c
+settings-of : (c : Settings) → settingsSound document01 c ≡ true → SettingsInRange c
 unfolding settingsSound levelsSound timesSound realsSound meets
-afterEvents-of c h = search (parts, within-of, level-of, slot-of)
+settings-of c h = search (parts, within-of, level-of, slot-of)
 
 filled-of : (s : Slots) → length (s .levels) ≡ slotCount → slotsSoundFrom s 0 ≡ true → Filled s
 unfolding slotsSoundFrom
@@ -86,7 +86,7 @@ timed-of t (Running slot due) h = search (parts, slot-of)
 
 pub sound-facts : (t : ℕ) (o : Output) → length (o .slots .levels) ≡ slotCount → sound document01 t o ≡ true → Sound t o
 unfolding sound
-sound-facts t o size h = search (parts, afterEvents-of, filled-of, acts-of, timed-of)
+sound-facts t o size h = search (parts, settings-of, filled-of, acts-of, timed-of)
 
 -- FROM THE FACTS TO THE TEST
 within-yes : (low high v : ℕ) → Within low high v → within low high v ≡ true
@@ -102,9 +102,9 @@ slot-yes : (i : ℕ) → Slot i → isSlot i ≡ true
 unfolding isSlot if_then_else_
 slot-yes i h = rw (eqb-miss (h .free)) (leb-yes (h .inside))
 
-afterEvents-yes : (c : Settings) → SettingsInRange c → settingsSound document01 c ≡ true
+settings-yes : (c : Settings) → SettingsInRange c → settingsSound document01 c ≡ true
 unfolding settingsSound levelsSound timesSound realsSound meets
-afterEvents-yes c h = search (tests, within-yes, level-yes, slot-yes)
+settings-yes c h = search (tests, within-yes, level-yes, slot-yes)
 
 filled-yes : (s : Slots) → Filled s → slotsSoundFrom s 0 ≡ true
 unfolding slotsSoundFrom
@@ -135,7 +135,7 @@ timed-yes t (Running slot due) h = search (tests, slot-yes)
 
 pub facts-sound : (t : ℕ) (o : Output) → Sound t o → sound document01 t o ≡ true
 unfolding sound
-facts-sound t o h = search (tests, afterEvents-yes, filled-yes, acts-yes, timed-yes) depth 7
+facts-sound t o h = search (tests, settings-yes, filled-yes, acts-yes, timed-yes) depth 7
 
 -- what `advance-ticks` asks
 pub tested-calm : (t : ℕ) (o : Output) → sound document01 t o ≡ true → Calm t o

@@ -1,4 +1,4 @@
-// Every way in which an output's record is changed, field by field: the like of specs/Record.antt. A fresh record is the crate `output_fresh`.
+// Every way in which an output's record is changed, field by field: the like of specs/Paper/Record.antt. A fresh record is the crate `output_fresh`.
 ghost use mathlib.Core.Path.{_≡_};
 ghost use Rattle.lighting.specs.Paper.Record.{withBurning, withDue, withEffect, withCommand, withSettings};
 use lighting::Activity;

@@ -1,7 +1,7 @@
 // A list of frames from standard input, replayed over a panel: a line for each answer, then what is found of every output, or a report for
 // people in place of that. A bad line ends it with a line that says what is wrong and where.
 //
-// Thin: the crate `replay_line` takes each line, `reading` its characters, and `found` says what is found. Input and output go by
+// Thin: the crate `replay_line` takes each line, `text_reading` its characters, and `text_found` says what is found. Input and output go by
 // pages of 64 KiB, so that memory does not grow with the list.
 ghost use mathlib.Core.Path.{_≡_};
 ghost use Rattle.lighting.specs.Paper.Panel.{panelOf};

@@ -1,4 +1,4 @@
--- `command_durations::time` meets its contract.
+-- Drafted by tools/draft.py: nothing here was written by hand.
 use Rattle.lighting.proofs.Choosing.{ifs}
 use Rattle.lighting.proofs.Laws.{timed-on}
 use Rattle.lighting.specs.Paper.Commands.{timed}
@@ -31,6 +31,4 @@ unfolding timed
 returns-3 c = search (needs, ifs, timed-on)
 
 pub time-spec : {M : Type 1} → statement M
-time-spec =
-    tie.close
-    (tie.spec enum-known-d running-requires enum-told enum-told-2 returns returns-2 returns-3)
+time-spec = tie.close (tie.spec enum-known-d running-requires enum-told enum-told-2 returns returns-2 returns-3)

@@ -1,4 +1,4 @@
--- `command_effect::command_from` meets its contract.
+-- Drafted by tools/draft.py: nothing here was written by hand.
 use Rattle.lighting.specs.Paper.Commands.{commandedFrom}
 use borrow.Author.Needs.{needs}
 use Rattle.command_effect.proofs.command_from.Statement.{statement}
@@ -24,12 +24,4 @@ unfolding commandedFrom
 returns c = simp (c .with-command .ensures, c .before .time .ensures, c .before .before .make-effect .ensures, c .before .before .before .without-warning .ensures, c .before .before .before .before .end-warning .ensures)
 
 pub command-from-spec : {M : Type 1} → statement M
-command-from-spec =
-    tie.close
-    (tie.spec
-    end-warning-requires
-    without-warning-requires
-    make-effect-requires
-    time-requires
-    with-command-requires
-    returns)
+command-from-spec = tie.close (tie.spec end-warning-requires without-warning-requires make-effect-requires time-requires with-command-requires returns)

@@ -1,12 +1,10 @@
+-- Drafted by tools/draft.py: nothing here was written by hand.
 use Rattle.lighting.proofs.Choosing.{ifs}
 use Rattle.lighting.proofs.Laws.{withoutWarning-on}
 use Rattle.lighting.specs.Paper.Commands.{withoutWarning}
 use borrow.Author.Needs.{needs}
 use Rattle.command_effect.proofs.end_warning.Statement.{statement}
 use Rattle.command_effect.proofs.end_warning.Tie as tie
-use Rattle.command_effect.proofs.end_warning.Reads as reads
-use Rattle.command_effect.proofs.end_warning.Lts as lts
-use Rattle.output_slots.proofs.empty.Reads as empty-reads
 
 enum-told : tie.Need-enum-told
 enum-told c = search needs
@@ -33,6 +31,4 @@ unfolding withoutWarning
 returns-3 c = search (needs, ifs, withoutWarning-on)
 
 pub end-warning-spec : {M : Type 1} → statement M
-end-warning-spec =
-    tie.close
-    (tie.spec enum-told enum-told-2 enum-told-3 empty-requires returns returns-2 returns-3)
+end-warning-spec = tie.close (tie.spec enum-told enum-told-2 enum-told-3 empty-requires returns returns-2 returns-3)

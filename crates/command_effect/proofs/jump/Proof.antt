@@ -1,4 +1,4 @@
--- `command_effect::jump` meets its contract.
+-- Drafted by tools/draft.py: nothing here was written by hand.
 use Rattle.lighting.specs.Paper.Commands.{jumped}
 use borrow.Author.Needs.{needs}
 use Rattle.command_effect.proofs.jump.Statement.{statement}
@@ -9,7 +9,7 @@ place-requires c κs = search needs
 
 returns : tie.Need-returns
 unfolding jumped
-returns c = c .place .ensures
+returns c = simp (c .place .ensures)
 
 pub jump-spec : {M : Type 1} → statement M
 jump-spec = tie.close (tie.spec place-requires returns)

@@ -1,4 +1,4 @@
--- `command_effect::step_down` meets its contract.
+-- Drafted by tools/draft.py: nothing here was written by hand.
 use Rattle.lighting.specs.Paper.Commands.{steppedDown}
 use borrow.Author.Needs.{needs}
 use Rattle.command_effect.proofs.step_down.Statement.{statement}
@@ -18,5 +18,4 @@ unfolding steppedDown
 returns c = simp (c .jump .ensures, c .before .step-down-from .ensures, c .before .before .amount-units .ensures .0)
 
 pub step-down-spec : {M : Type 1} → statement M
-step-down-spec =
-    tie.close (tie.spec amount-units-requires step-down-from-requires jump-requires returns)
+step-down-spec = tie.close (tie.spec amount-units-requires step-down-from-requires jump-requires returns)

@@ -1,11 +1,10 @@
+-- Drafted by tools/draft.py: nothing here was written by hand.
 use Rattle.lighting.proofs.Choosing.{ifs}
 use Rattle.lighting.proofs.Laws.{activityWithoutWarning-on}
 use Rattle.lighting.specs.Paper.Commands.{activityWithoutWarning}
 use borrow.Author.Needs.{needs}
 use Rattle.command_effect.proofs.without_warning.Statement.{statement}
 use Rattle.command_effect.proofs.without_warning.Tie as tie
-use Rattle.command_effect.proofs.without_warning.Reads as reads
-use Rattle.command_effect.proofs.without_warning.Lts as lts
 
 enum-told : tie.Need-enum-told
 enum-told c = search needs
@@ -29,5 +28,4 @@ unfolding activityWithoutWarning
 returns-3 c = search (needs, ifs, activityWithoutWarning-on)
 
 pub without-warning-spec : {M : Type 1} → statement M
-without-warning-spec =
-    tie.close (tie.spec enum-told enum-told-2 enum-told-3 returns returns-2 returns-3)
+without-warning-spec = tie.close (tie.spec enum-told enum-told-2 enum-told-3 returns returns-2 returns-3)

@@ -1,4 +1,4 @@
--- `command_moving::ramp_at` meets its contract.
+-- Drafted by tools/draft.py: nothing here was written by hand.
 use Rattle.lighting.specs.Paper.Commands.{rampedAt}
 use borrow.Author.Needs.{needs}
 use Rattle.command_moving.proofs.ramp_at.Statement.{statement}
@@ -21,5 +21,4 @@ unfolding rampedAt
 returns c = simp (c .place .ensures, c .before .begin .ensures, c .before .before .ramp-length .ensures, c .before .before .before .distance .ensures)
 
 pub ramp-at-spec : {M : Type 1} → statement M
-ramp-at-spec =
-    tie.close (tie.spec distance-requires ramp-length-requires begin-requires place-requires returns)
+ramp-at-spec = tie.close (tie.spec distance-requires ramp-length-requires begin-requires place-requires returns)

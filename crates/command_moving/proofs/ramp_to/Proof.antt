@@ -1,4 +1,4 @@
--- `command_moving::ramp_to` meets its contract.
+-- Drafted by tools/draft.py: nothing here was written by hand.
 use Rattle.lighting.specs.Paper.Commands.{rampedTo}
 use borrow.Author.Needs.{needs}
 use Rattle.command_moving.proofs.ramp_to.Statement.{statement}

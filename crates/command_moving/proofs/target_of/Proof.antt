@@ -1,4 +1,4 @@
--- `command_moving::target_of` meets its contract.
+-- Drafted by tools/draft.py: nothing here was written by hand.
 use Rattle.lighting.specs.Paper.Commands.{target}
 use borrow.Author.Needs.{needs}
 use Rattle.command_moving.proofs.target_of.Statement.{statement}

@@ -1,11 +1,10 @@
+-- Drafted by tools/draft.py: nothing here was written by hand.
 use Rattle.lighting.proofs.Choosing.{ifs}
 use Rattle.lighting.proofs.Laws.{operationNumber-on}
 use Rattle.lighting.specs.Paper.Operations.{operationNumber}
 use borrow.Author.Needs.{needs}
 use Rattle.command_operations.proofs.operation_number.Statement.{statement}
 use Rattle.command_operations.proofs.operation_number.Tie as tie
-use Rattle.command_operations.proofs.operation_number.Reads as reads
-use Rattle.command_operations.proofs.operation_number.Lts as lts
 
 enum-told : tie.Need-enum-told
 enum-told c = search needs
@@ -85,28 +84,4 @@ unfolding operationNumber
 returns-11 c = search (needs, ifs, operationNumber-on)
 
 pub operation-number-spec : {M : Type 1} → statement M
-operation-number-spec =
-    tie.close
-    (tie.spec
-    enum-told
-    enum-told-2
-    enum-told-3
-    enum-told-4
-    enum-told-5
-    enum-told-6
-    enum-told-7
-    enum-told-8
-    enum-told-9
-    enum-told-10
-    enum-told-11
-    returns
-    returns-2
-    returns-3
-    returns-4
-    returns-5
-    returns-6
-    returns-7
-    returns-8
-    returns-9
-    returns-10
-    returns-11)
+operation-number-spec = tie.close (tie.spec enum-told enum-told-2 enum-told-3 enum-told-4 enum-told-5 enum-told-6 enum-told-7 enum-told-8 enum-told-9 enum-told-10 enum-told-11 returns returns-2 returns-3 returns-4 returns-5 returns-6 returns-7 returns-8 returns-9 returns-10 returns-11)

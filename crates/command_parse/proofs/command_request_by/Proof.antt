@@ -1,11 +1,9 @@
+-- Drafted by tools/draft.py: nothing here was written by hand.
 use Rattle.lighting.proofs.Choosing.{ifs}
 use Rattle.lighting.specs.Paper.Frames.{commandRequestBy}
 use borrow.Author.Needs.{needs}
 use Rattle.command_parse.proofs.command_request_by.Statement.{statement}
 use Rattle.command_parse.proofs.command_request_by.Tie as tie
-use Rattle.command_parse.proofs.command_request_by.Reads as reads
-use Rattle.command_parse.proofs.command_request_by.Lts as lts
-use Rattle.command_parse.proofs.command_with_duration.Reads as command-with-duration-reads
 
 command-with-duration-requires : tie.Need-command-with-duration-requires
 command-with-duration-requires c κs = search needs

@@ -1,11 +1,9 @@
+-- Drafted by tools/draft.py: nothing here was written by hand.
 use Rattle.lighting.proofs.Choosing.{ifs}
 use Rattle.lighting.specs.Paper.Frames.{commandWithDuration}
 use borrow.Author.Needs.{needs}
 use Rattle.command_parse.proofs.command_with_duration.Statement.{statement}
 use Rattle.command_parse.proofs.command_with_duration.Tie as tie
-use Rattle.command_parse.proofs.command_with_duration.Reads as reads
-use Rattle.command_parse.proofs.command_with_duration.Lts as lts
-use Rattle.number_ranges.proofs.is_duration.Reads as is-duration-reads
 
 is-duration-requires : tie.Need-is-duration-requires
 is-duration-requires c κs = search needs

@@ -1,13 +1,8 @@
+-- Drafted by tools/draft.py: nothing here was written by hand.
 use Rattle.lighting.specs.Paper.Frames.{fieldsRefusal}
 use borrow.Author.Needs.{needs}
 use Rattle.command_parse.proofs.fields_refusal.Statement.{statement}
 use Rattle.command_parse.proofs.fields_refusal.Tie as tie
-use Rattle.command_parse.proofs.fields_refusal.Reads as reads
-use Rattle.command_parse.proofs.fields_refusal.Lts as lts
-use Rattle.command_parse.proofs.amount_field_refusal.Reads as amount-field-refusal-reads
-use Rattle.command_parse.proofs.first_refusal.Reads as first-refusal-reads
-use Rattle.command_parse.proofs.level_field_refusal.Reads as level-field-refusal-reads
-use Rattle.command_parse.proofs.time_field_refusal.Reads as time-field-refusal-reads
 
 level-field-refusal-requires : tie.Need-level-field-refusal-requires
 level-field-refusal-requires c κs = search needs
@@ -35,14 +30,4 @@ unfolding fieldsRefusal
 returns c = simp (c .first-refusal3 .ensures, c .before .first-refusal2 .ensures, c .before .before .first-refusal .ensures, c .before .before .before .time-field-refusal .ensures, c .before .before .before .before .amount-field-refusal2 .ensures, c .before .before .before .before .before .amount-field-refusal .ensures, c .before .before .before .before .before .before .level-field-refusal .ensures)
 
 pub fields-refusal-spec : {M : Type 1} → statement M
-fields-refusal-spec =
-    tie.close
-    (tie.spec
-    level-field-refusal-requires
-    amount-field-refusal-requires
-    amount-field-refusal-requires-2
-    time-field-refusal-requires
-    first-refusal-requires
-    first-refusal-requires-2
-    first-refusal-requires-3
-    returns)
+fields-refusal-spec = tie.close (tie.spec level-field-refusal-requires amount-field-refusal-requires amount-field-refusal-requires-2 time-field-refusal-requires first-refusal-requires first-refusal-requires-2 first-refusal-requires-3 returns)

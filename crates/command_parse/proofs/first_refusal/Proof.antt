@@ -1,10 +1,9 @@
-use borrow.Author.Needs.{needs}
+-- Drafted by tools/draft.py: nothing here was written by hand.
 use Rattle.lighting.proofs.Choosing.{ifs}
 use Rattle.lighting.specs.Paper.Frames.{firstRefusal}
+use borrow.Author.Needs.{needs}
 use Rattle.command_parse.proofs.first_refusal.Statement.{statement}
 use Rattle.command_parse.proofs.first_refusal.Tie as tie
-use Rattle.command_parse.proofs.first_refusal.Reads as reads
-use Rattle.command_parse.proofs.first_refusal.Lts as lts
 
 returns : tie.Need-returns
 unfolding firstRefusal

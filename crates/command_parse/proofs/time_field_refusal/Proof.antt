@@ -1,12 +1,10 @@
+-- Drafted by tools/draft.py: nothing here was written by hand.
 use Rattle.lighting.proofs.Choosing.{ifs}
 use Rattle.lighting.proofs.Laws.{timeFieldRefusal-on}
 use Rattle.lighting.specs.Paper.Frames.{timeFieldRefusal}
 use borrow.Author.Needs.{needs}
 use Rattle.command_parse.proofs.time_field_refusal.Statement.{statement}
 use Rattle.command_parse.proofs.time_field_refusal.Tie as tie
-use Rattle.command_parse.proofs.time_field_refusal.Reads as reads
-use Rattle.command_parse.proofs.time_field_refusal.Lts as lts
-use Rattle.number_ranges.proofs.is_fade_time.Reads as is-fade-time-reads
 
 enum-known-x : tie.Need-enum-known-x
 enum-known-x c = search needs
@@ -30,5 +28,4 @@ unfolding timeFieldRefusal
 returns-3 c = search (needs, ifs, timeFieldRefusal-on)
 
 pub time-field-refusal-spec : {M : Type 1} → statement M
-time-field-refusal-spec =
-    tie.close (tie.spec enum-known-x is-fade-time-requires enum-told returns returns-2 returns-3)
+time-field-refusal-spec = tie.close (tie.spec enum-known-x is-fade-time-requires enum-told returns returns-2 returns-3)

@@ -1,4 +1,4 @@
--- `command_steps::step_down_from` meets its contract.
+-- Drafted by tools/draft.py: nothing here was written by hand.
 use Rattle.lighting.proofs.Choosing.{ifs}
 use Rattle.lighting.specs.Paper.Commands.{stepDownFrom}
 use borrow.Author.Needs.{needs}

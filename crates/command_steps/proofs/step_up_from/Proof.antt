@@ -1,4 +1,4 @@
--- `command_steps::step_up_from` meets its contract.
+-- Drafted by tools/draft.py: nothing here was written by hand.
 use Rattle.lighting.specs.Paper.Commands.{stepUpFrom}
 use borrow.Author.Needs.{needs}
 use Rattle.command_steps.proofs.step_up_from.Statement.{statement}
@@ -12,7 +12,7 @@ clamp-requires c κs = search needs
 
 returns : tie.Need-returns
 unfolding stepUpFrom
-returns c = c .clamp .ensures
+returns c = simp (c .clamp .ensures)
 
 pub step-up-from-spec : {M : Type 1} → statement M
 step-up-from-spec = tie.close (tie.spec add-clamp clamp-requires returns)

@@ -1,11 +1,10 @@
+-- Drafted by tools/draft.py: nothing here was written by hand.
 use Rattle.lighting.proofs.Choosing.{ifs}
 use Rattle.lighting.proofs.Laws.{callsBy-on}
 use Rattle.lighting.specs.Paper.Kinds.{callsBy}
 use borrow.Author.Needs.{needs}
 use Rattle.frame_kinds.proofs.calls_by.Statement.{statement}
 use Rattle.frame_kinds.proofs.calls_by.Tie as tie
-use Rattle.frame_kinds.proofs.calls_by.Reads as reads
-use Rattle.frame_kinds.proofs.calls_by.Lts as lts
 
 enum-told : tie.Need-enum-told
 enum-told c = search needs

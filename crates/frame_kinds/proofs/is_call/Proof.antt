@@ -1,11 +1,8 @@
+-- Drafted by tools/draft.py: nothing here was written by hand.
 use Rattle.lighting.specs.Paper.Kinds.{isCall}
 use borrow.Author.Needs.{needs}
 use Rattle.frame_kinds.proofs.is_call.Statement.{statement}
 use Rattle.frame_kinds.proofs.is_call.Tie as tie
-use Rattle.frame_kinds.proofs.is_call.Reads as reads
-use Rattle.frame_kinds.proofs.is_call.Lts as lts
-use Rattle.frame_kinds.proofs.calls_by.Reads as calls-by-reads
-use Rattle.frame_kinds.proofs.kind_row.Reads as kind-row-reads
 
 kind-row-requires : tie.Need-kind-row-requires
 kind-row-requires c κs = search needs

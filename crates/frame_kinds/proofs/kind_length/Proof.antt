@@ -1,10 +1,8 @@
+-- Drafted by tools/draft.py: nothing here was written by hand.
 use Rattle.lighting.specs.Paper.Kinds.{kindLength}
 use borrow.Author.Needs.{needs}
 use Rattle.frame_kinds.proofs.kind_length.Statement.{statement}
 use Rattle.frame_kinds.proofs.kind_length.Tie as tie
-use Rattle.frame_kinds.proofs.kind_length.Reads as reads
-use Rattle.frame_kinds.proofs.kind_length.Lts as lts
-use Rattle.frame_kinds.proofs.kind_row.Reads as kind-row-reads
 
 kind-row-requires : tie.Need-kind-row-requires
 kind-row-requires c κs = search needs

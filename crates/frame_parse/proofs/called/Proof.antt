@@ -1,10 +1,9 @@
+-- Drafted by tools/draft.py: nothing here was written by hand.
 use Rattle.lighting.proofs.Choosing.{ifs}
 use Rattle.lighting.specs.Paper.Frames.{called}
 use borrow.Author.Needs.{needs}
 use Rattle.frame_parse.proofs.called.Statement.{statement}
 use Rattle.frame_parse.proofs.called.Tie as tie
-use Rattle.frame_parse.proofs.called.Reads as reads
-use Rattle.frame_parse.proofs.called.Lts as lts
 
 cast-if3 : tie.Need-cast-if3
 cast-if3 c = search needs

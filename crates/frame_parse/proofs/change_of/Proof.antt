@@ -1,11 +1,8 @@
+-- Drafted by tools/draft.py: nothing here was written by hand.
 use Rattle.lighting.specs.Paper.Properties.{changeOf}
 use borrow.Author.Needs.{needs}
 use Rattle.frame_parse.proofs.change_of.Statement.{statement}
 use Rattle.frame_parse.proofs.change_of.Tie as tie
-use Rattle.frame_parse.proofs.change_of.Reads as reads
-use Rattle.frame_parse.proofs.change_of.Lts as lts
-use Rattle.property_write.proofs.change_of.Reads as change-of-reads
-use Rattle.property_write.proofs.property_of.Reads as property-of-reads
 
 property-of-requires : tie.Need-property-of-requires
 property-of-requires c κs = search needs

@@ -1,12 +1,8 @@
+-- Drafted by tools/draft.py: nothing here was written by hand.
 use Rattle.lighting.specs.Paper.Frames.{parse}
 use borrow.Author.Needs.{needs}
 use Rattle.frame_parse.proofs.parse.Statement.{statement}
 use Rattle.frame_parse.proofs.parse.Tie as tie
-use Rattle.frame_parse.proofs.parse.Reads as reads
-use Rattle.frame_parse.proofs.parse.Lts as lts
-use Rattle.frame_field.proofs.byte_at.Reads as byte-at-reads
-use Rattle.frame_parse.proofs.parse_by.Reads as parse-by-reads
-use Rattle.frame_kinds.proofs.kind_row.Reads as kind-row-reads
 
 byte-at-requires : tie.Need-byte-at-requires
 byte-at-requires c κs = search needs

@@ -1,11 +1,8 @@
+-- Drafted by tools/draft.py: nothing here was written by hand.
 use Rattle.lighting.specs.Paper.Level.{real}
 use borrow.Author.Needs.{needs}
 use Rattle.frame_parse.proofs.real_at.Statement.{statement}
 use Rattle.frame_parse.proofs.real_at.Tie as tie
-use Rattle.frame_parse.proofs.real_at.Reads as reads
-use Rattle.frame_parse.proofs.real_at.Lts as lts
-use Rattle.frame_field.proofs.word32_at.Reads as word32-at-reads
-use Rattle.number_level.proofs.real_from.Reads as real-from-reads
 
 word32-at-requires : tie.Need-word32-at-requires
 word32-at-requires c κs = search needs

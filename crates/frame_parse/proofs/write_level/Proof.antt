@@ -1,11 +1,10 @@
+-- Drafted by tools/draft.py: nothing here was written by hand.
 use Rattle.lighting.proofs.Choosing.{ifs}
 use Rattle.lighting.proofs.Laws.{writeLevel-on}
 use Rattle.lighting.specs.Paper.Frames.{writeLevel}
 use borrow.Author.Needs.{needs}
 use Rattle.frame_parse.proofs.write_level.Statement.{statement}
 use Rattle.frame_parse.proofs.write_level.Tie as tie
-use Rattle.frame_parse.proofs.write_level.Reads as reads
-use Rattle.frame_parse.proofs.write_level.Lts as lts
 
 enum-known-v : tie.Need-enum-known-v
 enum-known-v c = search needs

@@ -158,11 +158,11 @@ module _ (t : ℕ) (o : Output) (h : Sound t o) (d : Duration) where
   step-down-by x n =
       puts (StepDownBy x) (some _) (unfold effect steppedDown jumped placed stepDownFrom if_then_else_ in (rw (eqb-miss {a = progressValue t o} {b = 0} n)))
 
-  pub step-down-zeroOrEmpty : progressValue t o ≡ 0 → Sets o (after t o StepDown d) p (some 0)
-  step-down-zeroOrEmpty e = puts StepDown (some _) (unfold effect steppedDown jumped placed stepDownFrom if_then_else_ in (rw (eqb-hit {a = progressValue t o} {b = 0} e)))
+  pub step-down-dark : progressValue t o ≡ 0 → Sets o (after t o StepDown d) p (some 0)
+  step-down-dark e = puts StepDown (some _) (unfold effect steppedDown jumped placed stepDownFrom if_then_else_ in (rw (eqb-hit {a = progressValue t o} {b = 0} e)))
 
-  pub step-down-by-zeroOrEmpty : (x : Float) → progressValue t o ≡ 0 → Sets o (after t o (StepDownBy x) d) p (some 0)
-  step-down-by-zeroOrEmpty x e =
+  pub step-down-by-dark : (x : Float) → progressValue t o ≡ 0 → Sets o (after t o (StepDownBy x) d) p (some 0)
+  step-down-by-dark x e =
       puts (StepDownBy x) (some _) (unfold effect steppedDown jumped placed stepDownFrom if_then_else_ in (rw (eqb-hit {a = progressValue t o} {b = 0} e)))
 
   -- 'RELINQUISH empties slot p'
@@ -182,9 +182,9 @@ module _ (t : ℕ) (o : Output) (h : Sound t o) (d : Duration) where
       → Sets o (after t o Stop d) p (some (max (o .settings .min) (progressValue t o))) × (after t o Stop d .activity ≡ Still)
   stop-lit m e w n = stop-by m _ e w (unfold raised if_then_else_ in (rw (eqb-miss {a = progressValue t o} {b = 0} n)))
 
-  pub stop-zeroOrEmpty : (m : Movement) → o .activity ≡ Moving m → m .owner ≡ p → progressValue t o ≡ 0
+  pub stop-dark : (m : Movement) → o .activity ≡ Moving m → m .owner ≡ p → progressValue t o ≡ 0
       → Sets o (after t o Stop d) p (some 0) × (after t o Stop d .activity ≡ Still)
-  stop-zeroOrEmpty m e w n = stop-by m _ e w (unfold raised if_then_else_ in (rw (eqb-hit {a = progressValue t o} {b = 0} n)))
+  stop-dark m e w n = stop-by m _ e w (unfold raised if_then_else_ in (rw (eqb-hit {a = progressValue t o} {b = 0} n)))
 
   -- 'Else it changes no slot, a warning's end aside', and another slot's movement goes on
   pub stop-other : (m : Movement) → o .activity ≡ Moving m → m .owner ≢ p → (after t o Stop d .slots ≡ before) × (after t o Stop d .activity ≡ Moving m)

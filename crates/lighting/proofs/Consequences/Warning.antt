@@ -277,7 +277,7 @@ module _ (c : Settings) (s : Slots) (x : ℕ) (size : length (s .levels) ≡ 16)
 
 -- THE COURSE: B ms dark, D ms at the old level Y, then dark; slot x empties with slot 6 if D is above 0, else keeps its 0
 pub record Course (c : Settings) (s : Slots) (x y t : ℕ) (o : Output) : Type 0 where
-  pub zeroOrEmpty : (n : ℕ) → TimerAfter (t + n) (o .timer) → n < c .blink → Seen c s x (some 0) (some 0) 0 (ticks n t o)
+  pub dark : (n : ℕ) → TimerAfter (t + n) (o .timer) → n < c .blink → Seen c s x (some 0) (some 0) 0 (ticks n t o)
   pub lit : (n : ℕ) → TimerAfter (t + n) (o .timer) → c .blink ≤ n → n < c .blink + c .delay → Seen c s x (some y) (some 0) y (ticks n t o)
   pub over : (n : ℕ) → TimerAfter (t + n) (o .timer) → c .blink + c .delay ≤ n → 0 < c .delay → Seen c s x none none 0 (ticks n t o)
   pub over-without-delay : (n : ℕ) → TimerAfter (t + n) (o .timer) → c .blink ≤ n → c .delay ≡ 0 → Seen c s x none (some 0) 0 (ticks n t o)
@@ -298,7 +298,7 @@ module _ (c : Settings) (s : Slots) (x y : ℕ) (starts : Starts c s x) (inside 
   from-blink : 0 < c .blink → o .activity ≡ warningIn Blink x y (t + c .blink) (t + c .blink + c .delay) → Seen c s x (some 0) (some 0) 0 o → Course c s x y t o
   from-blink p e h =
       record {
-        zeroOrEmpty = λ n a l. blinking c s x y starts inside same t o (c .blink) (c .delay) p e h n a l;
+        dark = λ n a l. blinking c s x y starts inside same t o (c .blink) (c .delay) p e h n a l;
         lit = λ n a l m. let q : 0 < c .delay = omega arith in
             let r = turned c s x y starts inside same t o (c .blink) (c .delay) p e h n a l q in
             later c s x y starts inside same n (c .blink) t o l
@@ -325,7 +325,7 @@ module _ (c : Settings) (s : Slots) (x y : ℕ) (starts : Starts c s x) (inside 
       let p : 0 < c .delay = omega (arith, starts .lasts) in
       let f : o .activity ≡ warningIn Delay x y (t + c .blink) (t + c .delay) = e ∙ ap (λ (v : ℕ). warningIn Delay x y (t + c .blink) v) (omega arith) in
       record {
-        zeroOrEmpty = λ n a l. absurd (omega arith);
+        dark = λ n a l. absurd (omega arith);
         lit = λ n a l m. delaying c s x y starts inside same t o n (c .delay) (t + c .blink) f h a (omega arith);
         over = λ n a l q. ended c s x y starts inside same t o n (c .delay) (t + c .blink) p f h a (omega arith);
         over-without-delay = λ n a l q. absurd (omega arith);

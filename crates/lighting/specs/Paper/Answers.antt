@@ -12,7 +12,7 @@ use Rattle.lighting.specs.declared.Operand.{Operand}
 use Rattle.lighting.specs.declared.Operand.the-variants.{Taken, Unfit}
 
 -- THE NUMBER AND THE VALUES OF EVERY ANSWER, as the bytes by which a bus log writes it down: 80 Done; 81 Value, its 32 bits; 82 Absent; 83
--- Refused, its number. No two answers have the same (proofs/AnswersApart.antt, `told-distance`)
+-- Refused, its number. No two answers have the same (proofs/AnswersApart.antt, `told-apart`)
 unfoldable pub answerBytes : Answer → List ℕ
 answerBytes Done = 0x80 ∷ []
 answerBytes (Value v) = 0x81 ∷ octets 4 v

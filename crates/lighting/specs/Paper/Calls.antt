@@ -1,4 +1,4 @@
--- What a caller has who called `start` and then calls `frame_parse` for each string of a list, on the same lent tables: by the contracts of the crate
+-- What a caller has who called `start` and then calls `frame` for each string of a list, on the same lent tables: by the contracts of the crate
 -- `panel`, each call leaves and answers what `frameStep` says.
 use mathlib.Core.Path.{_≡_}
 use mathlib.Core.List.{List, [], _∷_}
@@ -12,7 +12,7 @@ use Rattle.lighting.specs.Paper.Plain.{plainStart}
 use Rattle.lighting.specs.Paper.Demand.{plainAfter, plainAnswers, Again, answersToOriginals, NeverOne}
 use Rattle.lighting.specs.declared.Answer.{Answer}
 
--- `Calls p e l a e′`: a call of `frame_parse` for each string of l took the panel from e to e′ and answered a
+-- `Calls p e l a e′`: a call of `frame` for each string of l took the panel from e to e′ and answered a
 pub data Calls (p : Parameters) : Panel → List Bytes → List Answer → Panel → Type 0 where
   none : {e : Panel} → Calls p e [] [] e
   call : {e e₁ e₂ : Panel} {b : Bytes} {l : List Bytes} {a : Answer} {given : List Answer}

@@ -1,5 +1,4 @@
--- `number_level::amount_of` meets its contract.
-use mathlib.Core.Path.{ap, _∙_}
+-- Drafted by tools/draft.py: nothing here was written by hand.
 use Rattle.lighting.specs.Paper.Level.{amountOf}
 use borrow.Author.Needs.{needs}
 use Rattle.number_level.proofs.amount_of.Statement.{statement}
@@ -12,7 +11,8 @@ amount-of-real-requires : tie.Need-amount-of-real-requires
 amount-of-real-requires c κs = search needs
 
 returns : tie.Need-returns
-returns c = c .amount-of-real .ensures ∙ ap amountOf (c .before .real-from .ensures)
+unfolding amountOf
+returns c = simp (c .amount-of-real .ensures, c .before .real-from .ensures)
 
 pub amount-of-spec : {M : Type 1} → statement M
 amount-of-spec = tie.close (tie.spec real-from-requires amount-of-real-requires returns)

@@ -1,4 +1,6 @@
--- `number_level::in_range` meets its contract.
+-- Drafted by tools/draft.py: nothing here was written by hand.
+use Rattle.lighting.proofs.Choosing.{ifs}
+use Rattle.lighting.proofs.Laws.{inRange-on}
 use Rattle.lighting.specs.Paper.Level.{inRange}
 use borrow.Author.Needs.{needs}
 use Rattle.number_level.proofs.in_range.Statement.{statement}
@@ -12,11 +14,11 @@ enum-told-2 c = search needs
 
 returns : tie.Need-returns
 unfolding inRange
-returns c = cc
+returns c = search (needs, ifs, inRange-on)
 
 returns-2 : tie.Need-returns-2
 unfolding inRange
-returns-2 c = cc
+returns-2 c = search (needs, ifs, inRange-on)
 
 pub in-range-spec : {M : Type 1} → statement M
 in-range-spec = tie.close (tie.spec enum-told enum-told-2 returns returns-2)

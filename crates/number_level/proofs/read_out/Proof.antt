@@ -1,6 +1,5 @@
--- `number_level::read_out` meets its contract.
-use mathlib.Core.Path.{ap, _∙_}
-use Rattle.lighting.specs.Paper.Level.{bits, realOf, readOut}
+-- Drafted by tools/draft.py: nothing here was written by hand.
+use Rattle.lighting.specs.Paper.Level.{readOut}
 use borrow.Author.Needs.{needs}
 use Rattle.number_level.proofs.read_out.Statement.{statement}
 use Rattle.number_level.proofs.read_out.Tie as tie
@@ -16,7 +15,7 @@ bits-of-requires c κs = search needs
 
 returns : tie.Need-returns
 unfolding readOut
-returns c = c .bits-of .ensures ∙ ap bits (c .before .real-of .ensures ∙ ap realOf (c .before .before .capped .ensures))
+returns c = simp (c .bits-of .ensures, c .before .real-of .ensures, c .before .before .capped .ensures)
 
 pub read-out-spec : {M : Type 1} → statement M
 read-out-spec = tie.close (tie.spec capped-requires real-of-requires bits-of-requires returns)

@@ -1,4 +1,6 @@
--- `number_level::units_or` meets its contract.
+-- Drafted by tools/draft.py: nothing here was written by hand.
+use Rattle.lighting.proofs.Choosing.{ifs}
+use Rattle.lighting.proofs.Laws.{unitsOr-on}
 use Rattle.lighting.specs.Paper.Level.{unitsOr}
 use borrow.Author.Needs.{needs}
 use Rattle.number_level.proofs.units_or.Statement.{statement}
@@ -12,11 +14,11 @@ enum-told c = search needs
 
 returns : tie.Need-returns
 unfolding unitsOr
-returns c = cc
+returns c = search (needs, ifs, unitsOr-on)
 
 returns-2 : tie.Need-returns-2
 unfolding unitsOr
-returns-2 c = cc
+returns-2 c = search (needs, ifs, unitsOr-on)
 
 pub units-or-spec : {M : Type 1} → statement M
 units-or-spec = tie.close (tie.spec enum-known-level enum-told returns returns-2)

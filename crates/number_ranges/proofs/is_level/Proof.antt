@@ -1,11 +1,9 @@
+-- Drafted by tools/draft.py: nothing here was written by hand.
 use Rattle.lighting.proofs.Choosing.{ifs}
 use Rattle.lighting.specs.Paper.Rows.{isLevel}
 use borrow.Author.Needs.{needs}
 use Rattle.number_ranges.proofs.is_level.Statement.{statement}
 use Rattle.number_ranges.proofs.is_level.Tie as tie
-use Rattle.number_ranges.proofs.is_level.Reads as reads
-use Rattle.number_ranges.proofs.is_level.Lts as lts
-use Rattle.number_ranges.proofs.is_within.Reads as is-within-reads
 
 is-within-requires : tie.Need-is-within-requires
 is-within-requires c κs = search needs

@@ -1,11 +1,9 @@
+-- Drafted by tools/draft.py: nothing here was written by hand.
 use Rattle.lighting.proofs.Choosing.{ifs}
 use Rattle.lighting.specs.Paper.Rows.{isPriority}
 use borrow.Author.Needs.{needs}
 use Rattle.number_ranges.proofs.is_priority.Statement.{statement}
 use Rattle.number_ranges.proofs.is_priority.Tie as tie
-use Rattle.number_ranges.proofs.is_priority.Reads as reads
-use Rattle.number_ranges.proofs.is_priority.Lts as lts
-use Rattle.number_ranges.proofs.is_slot.Reads as is-slot-reads
 
 sub-is-slot : tie.Need-sub-is-slot
 sub-is-slot c = search needs

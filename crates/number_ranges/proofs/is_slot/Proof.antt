@@ -1,10 +1,9 @@
-use borrow.Author.Needs.{needs}
+-- Drafted by tools/draft.py: nothing here was written by hand.
 use Rattle.lighting.proofs.Choosing.{ifs}
 use Rattle.lighting.specs.Paper.Rows.{isSlot}
+use borrow.Author.Needs.{needs}
 use Rattle.number_ranges.proofs.is_slot.Statement.{statement}
 use Rattle.number_ranges.proofs.is_slot.Tie as tie
-use Rattle.number_ranges.proofs.is_slot.Reads as reads
-use Rattle.number_ranges.proofs.is_slot.Lts as lts
 
 cast-if1 : tie.Need-cast-if1
 cast-if1 c = search needs

@@ -1,10 +1,9 @@
-use borrow.Author.Needs.{needs}
+-- Drafted by tools/draft.py: nothing here was written by hand.
 use Rattle.lighting.proofs.Choosing.{ifs}
 use Rattle.lighting.specs.Paper.Rows.{within}
+use borrow.Author.Needs.{needs}
 use Rattle.number_ranges.proofs.is_within.Statement.{statement}
 use Rattle.number_ranges.proofs.is_within.Tie as tie
-use Rattle.number_ranges.proofs.is_within.Reads as reads
-use Rattle.number_ranges.proofs.is_within.Lts as lts
 
 returns : tie.Need-returns
 unfolding within

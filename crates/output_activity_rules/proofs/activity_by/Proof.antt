@@ -1,13 +1,10 @@
+-- Drafted by tools/draft.py: nothing here was written by hand.
 use Rattle.lighting.proofs.Choosing.{ifs}
 use Rattle.lighting.proofs.Laws.{activityBy-on}
 use Rattle.lighting.specs.Paper.Rules.{activityBy}
 use borrow.Author.Needs.{needs}
 use Rattle.output_activity_rules.proofs.activity_by.Statement.{statement}
 use Rattle.output_activity_rules.proofs.activity_by.Tie as tie
-use Rattle.output_activity_rules.proofs.activity_by.Reads as reads
-use Rattle.output_activity_rules.proofs.activity_by.Lts as lts
-use Rattle.output_activity_rules.proofs.movement_sound.Reads as movement-sound-reads
-use Rattle.output_activity_rules.proofs.warning_sound.Reads as warning-sound-reads
 
 enum-told : tie.Need-enum-told
 enum-told c = search needs
@@ -45,16 +42,4 @@ unfolding activityBy
 returns-5 c = search (needs, ifs, activityBy-on)
 
 pub activity-by-spec : {M : Type 1} → statement M
-activity-by-spec =
-    tie.close
-    (tie.spec
-    enum-told
-    enum-known-a
-    movement-sound-requires
-    enum-known-a-2
-    warning-sound-requires
-    returns
-    returns-2
-    returns-3
-    returns-4
-    returns-5)
+activity-by-spec = tie.close (tie.spec enum-told enum-known-a movement-sound-requires enum-known-a-2 warning-sound-requires returns returns-2 returns-3 returns-4 returns-5)

@@ -1,11 +1,9 @@
+-- Drafted by tools/draft.py: nothing here was written by hand.
 use Rattle.lighting.proofs.Choosing.{ifs}
 use Rattle.lighting.specs.Paper.Rules.{movementSound}
 use borrow.Author.Needs.{needs}
 use Rattle.output_activity_rules.proofs.movement_sound.Statement.{statement}
 use Rattle.output_activity_rules.proofs.movement_sound.Tie as tie
-use Rattle.output_activity_rules.proofs.movement_sound.Reads as reads
-use Rattle.output_activity_rules.proofs.movement_sound.Lts as lts
-use Rattle.output_activity_rules.proofs.span_sound.Reads as span-sound-reads
 
 cast-if2 : tie.Need-cast-if2
 cast-if2 c = search needs
@@ -34,6 +32,4 @@ unfolding movementSound
 returns-5 c = search (needs, ifs)
 
 pub movement-sound-spec : {M : Type 1} → statement M
-movement-sound-spec =
-    tie.close
-    (tie.spec cast-if2 span-sound-requires returns returns-2 returns-3 returns-4 returns-5)
+movement-sound-spec = tie.close (tie.spec cast-if2 span-sound-requires returns returns-2 returns-3 returns-4 returns-5)

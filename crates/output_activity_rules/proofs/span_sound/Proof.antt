@@ -1,11 +1,9 @@
+-- Drafted by tools/draft.py: nothing here was written by hand.
 use Rattle.lighting.proofs.Choosing.{ifs}
 use Rattle.lighting.specs.Paper.Rules.{spanSound}
 use borrow.Author.Needs.{needs}
 use Rattle.output_activity_rules.proofs.span_sound.Statement.{statement}
 use Rattle.output_activity_rules.proofs.span_sound.Tie as tie
-use Rattle.output_activity_rules.proofs.span_sound.Reads as reads
-use Rattle.output_activity_rules.proofs.span_sound.Lts as lts
-use Rattle.number_ranges.proofs.is_length.Reads as is-length-reads
 
 sub-if2 : tie.Need-sub-if2
 sub-if2 c = search needs
@@ -29,5 +27,4 @@ unfolding spanSound
 returns-3 c = search (needs, ifs)
 
 pub span-sound-spec : {M : Type 1} → statement M
-span-sound-spec =
-    tie.close (tie.spec sub-if2 cast-if2 is-length-requires returns returns-2 returns-3)
+span-sound-spec = tie.close (tie.spec sub-if2 cast-if2 is-length-requires returns returns-2 returns-3)

@@ -1,12 +1,10 @@
+-- Drafted by tools/draft.py: nothing here was written by hand.
 use Rattle.lighting.proofs.Choosing.{ifs}
 use Rattle.lighting.proofs.Laws.{timerSound-on}
 use Rattle.lighting.specs.Paper.Rules.{timerSound}
 use borrow.Author.Needs.{needs}
 use Rattle.output_activity_rules.proofs.timer_sound.Statement.{statement}
 use Rattle.output_activity_rules.proofs.timer_sound.Tie as tie
-use Rattle.output_activity_rules.proofs.timer_sound.Reads as reads
-use Rattle.output_activity_rules.proofs.timer_sound.Lts as lts
-use Rattle.number_ranges.proofs.is_slot.Reads as is-slot-reads
 
 enum-told : tie.Need-enum-told
 enum-told c = search needs
@@ -33,6 +31,4 @@ unfolding timerSound
 returns-3 c = search (needs, ifs, timerSound-on)
 
 pub timer-sound-spec : {M : Type 1} → statement M
-timer-sound-spec =
-    tie.close
-    (tie.spec enum-told enum-known-m cast-is-slot is-slot-requires returns returns-2 returns-3)
+timer-sound-spec = tie.close (tie.spec enum-told enum-known-m cast-is-slot is-slot-requires returns returns-2 returns-3)

@@ -1,12 +1,9 @@
+-- Drafted by tools/draft.py: nothing here was written by hand.
 use Rattle.lighting.proofs.Choosing.{ifs}
 use Rattle.lighting.specs.Paper.Rules.{warningBy}
 use borrow.Author.Needs.{needs}
 use Rattle.output_activity_rules.proofs.warning_by.Statement.{statement}
 use Rattle.output_activity_rules.proofs.warning_by.Tie as tie
-use Rattle.output_activity_rules.proofs.warning_by.Reads as reads
-use Rattle.output_activity_rules.proofs.warning_by.Lts as lts
-use Rattle.number_ranges.proofs.is_level.Reads as is-level-reads
-use Rattle.number_ranges.proofs.is_within.Reads as is-within-reads
 
 cast-is-within : tie.Need-cast-is-within
 cast-is-within c = search needs
@@ -34,13 +31,4 @@ unfolding warningBy
 returns-4 c = search (needs, ifs)
 
 pub warning-by-spec : {M : Type 1} → statement M
-warning-by-spec =
-    tie.close
-    (tie.spec
-    cast-is-within
-    is-within-requires
-    is-level-requires
-    returns
-    returns-2
-    returns-3
-    returns-4)
+warning-by-spec = tie.close (tie.spec cast-is-within is-within-requires is-level-requires returns returns-2 returns-3 returns-4)

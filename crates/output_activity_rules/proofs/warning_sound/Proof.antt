@@ -1,11 +1,8 @@
+-- Drafted by tools/draft.py: nothing here was written by hand.
 use Rattle.lighting.specs.Paper.Rules.{warningSound}
 use borrow.Author.Needs.{needs}
 use Rattle.output_activity_rules.proofs.warning_sound.Statement.{statement}
 use Rattle.output_activity_rules.proofs.warning_sound.Tie as tie
-use Rattle.output_activity_rules.proofs.warning_sound.Reads as reads
-use Rattle.output_activity_rules.proofs.warning_sound.Lts as lts
-use Rattle.output_activity_rules.proofs.warning_by.Reads as warning-by-reads
-use Rattle.output_due.proofs.phase_end.Reads as phase-end-reads
 
 phase-end-requires : tie.Need-phase-end-requires
 phase-end-requires c κs = search needs

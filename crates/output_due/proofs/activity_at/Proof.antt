@@ -1,12 +1,9 @@
+-- Drafted by tools/draft.py: nothing here was written by hand.
 use Rattle.lighting.proofs.Choosing.{ifs}
 use Rattle.lighting.specs.Paper.Passing.{activityAt}
 use borrow.Author.Needs.{needs}
 use Rattle.output_due.proofs.activity_at.Statement.{statement}
 use Rattle.output_due.proofs.activity_at.Tie as tie
-use Rattle.output_due.proofs.activity_at.Reads as reads
-use Rattle.output_due.proofs.activity_at.Lts as lts
-use Rattle.output_due.proofs.is_activity_due.Reads as is-activity-due-reads
-use Rattle.output_due.proofs.next_activity.Reads as next-activity-reads
 
 is-activity-due-requires : tie.Need-is-activity-due-requires
 is-activity-due-requires c κs = search needs
@@ -23,5 +20,4 @@ unfolding activityAt
 returns-2 c = search (needs, ifs)
 
 pub activity-at-spec : {M : Type 1} → statement M
-activity-at-spec =
-    tie.close (tie.spec is-activity-due-requires next-activity-requires returns returns-2)
+activity-at-spec = tie.close (tie.spec is-activity-due-requires next-activity-requires returns returns-2)

@@ -1,12 +1,10 @@
+-- Drafted by tools/draft.py: nothing here was written by hand.
 use Rattle.lighting.proofs.Choosing.{ifs}
 use Rattle.lighting.proofs.Laws.{activityDue-on}
 use Rattle.lighting.specs.Paper.Passing.{activityDue}
 use borrow.Author.Needs.{needs}
 use Rattle.output_due.proofs.activity_due.Statement.{statement}
 use Rattle.output_due.proofs.activity_due.Tie as tie
-use Rattle.output_due.proofs.activity_due.Reads as reads
-use Rattle.output_due.proofs.activity_due.Lts as lts
-use Rattle.output_due.proofs.phase_end.Reads as phase-end-reads
 
 enum-told : tie.Need-enum-told
 enum-told c = search needs
@@ -33,6 +31,4 @@ unfolding activityDue
 returns-3 c = search (needs, ifs, activityDue-on)
 
 pub activity-due-spec : {M : Type 1} → statement M
-activity-due-spec =
-    tie.close
-    (tie.spec enum-told enum-known-a enum-known-a-2 phase-end-requires returns returns-2 returns-3)
+activity-due-spec = tie.close (tie.spec enum-told enum-known-a enum-known-a-2 phase-end-requires returns returns-2 returns-3)

@@ -1,10 +1,9 @@
-use borrow.Author.Needs.{needs}
+-- Drafted by tools/draft.py: nothing here was written by hand.
 use Rattle.lighting.proofs.Choosing.{ifs}
 use Rattle.lighting.specs.Paper.Passing.{delayed}
+use borrow.Author.Needs.{needs}
 use Rattle.output_due.proofs.delay.Statement.{statement}
 use Rattle.output_due.proofs.delay.Tie as tie
-use Rattle.output_due.proofs.delay.Reads as reads
-use Rattle.output_due.proofs.delay.Lts as lts
 
 returns : tie.Need-returns
 unfolding delayed

@@ -1,12 +1,10 @@
+-- Drafted by tools/draft.py: nothing here was written by hand.
 use Rattle.lighting.proofs.Choosing.{ifs}
 use Rattle.lighting.proofs.Laws.{emptiedBy-on}
 use Rattle.lighting.specs.Paper.Passing.{emptiedBy}
 use borrow.Author.Needs.{needs}
 use Rattle.output_due.proofs.empty_by.Statement.{statement}
 use Rattle.output_due.proofs.empty_by.Tie as tie
-use Rattle.output_due.proofs.empty_by.Reads as reads
-use Rattle.output_due.proofs.empty_by.Lts as lts
-use Rattle.output_slots.proofs.empty.Reads as empty-reads
 
 enum-told : tie.Need-enum-told
 enum-told c = search needs

@@ -1,12 +1,10 @@
+-- Drafted by tools/draft.py: nothing here was written by hand.
 use Rattle.lighting.proofs.Choosing.{ifs}
 use Rattle.lighting.proofs.Laws.{endMovementBy-on}
 use Rattle.lighting.specs.Paper.Passing.{endMovementBy}
 use borrow.Author.Needs.{needs}
 use Rattle.output_due.proofs.end_movement_by.Statement.{statement}
 use Rattle.output_due.proofs.end_movement_by.Tie as tie
-use Rattle.output_due.proofs.end_movement_by.Reads as reads
-use Rattle.output_due.proofs.end_movement_by.Lts as lts
-use Rattle.output_due.proofs.end_movement_of.Reads as end-movement-of-reads
 
 enum-told : tie.Need-enum-told
 enum-told c = search needs

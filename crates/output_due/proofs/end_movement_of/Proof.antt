@@ -1,11 +1,10 @@
+-- Drafted by tools/draft.py: nothing here was written by hand.
 use Rattle.lighting.proofs.Choosing.{ifs}
 use Rattle.lighting.proofs.Laws.{endMovementOf-on}
 use Rattle.lighting.specs.Paper.Passing.{endMovementOf}
 use borrow.Author.Needs.{needs}
 use Rattle.output_due.proofs.end_movement_of.Statement.{statement}
 use Rattle.output_due.proofs.end_movement_of.Tie as tie
-use Rattle.output_due.proofs.end_movement_of.Reads as reads
-use Rattle.output_due.proofs.end_movement_of.Lts as lts
 
 enum-told : tie.Need-enum-told
 enum-told c = search needs
@@ -33,5 +32,4 @@ unfolding endMovementOf
 returns-4 c = search (needs, ifs, endMovementOf-on)
 
 pub end-movement-of-spec : {M : Type 1} → statement M
-end-movement-of-spec =
-    tie.close (tie.spec enum-told enum-known-a enum-told-2 returns returns-2 returns-3 returns-4)
+end-movement-of-spec = tie.close (tie.spec enum-told enum-known-a enum-told-2 returns returns-2 returns-3 returns-4)

@@ -1,12 +1,9 @@
+-- Drafted by tools/draft.py: nothing here was written by hand.
 use Rattle.lighting.proofs.Choosing.{ifs}
 use Rattle.lighting.specs.Paper.Passing.{expired}
 use borrow.Author.Needs.{needs}
 use Rattle.output_due.proofs.expire.Statement.{statement}
 use Rattle.output_due.proofs.expire.Tie as tie
-use Rattle.output_due.proofs.expire.Reads as reads
-use Rattle.output_due.proofs.expire.Lts as lts
-use Rattle.output_due.proofs.empty_by.Reads as empty-by-reads
-use Rattle.output_due.proofs.is_timer_due.Reads as is-timer-due-reads
 
 is-timer-due-requires : tie.Need-is-timer-due-requires
 is-timer-due-requires c κs = search needs

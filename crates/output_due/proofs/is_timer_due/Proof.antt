@@ -1,11 +1,8 @@
+-- Drafted by tools/draft.py: nothing here was written by hand.
 use Rattle.lighting.specs.Paper.Passing.{isDue}
 use borrow.Author.Needs.{needs}
 use Rattle.output_due.proofs.is_timer_due.Statement.{statement}
 use Rattle.output_due.proofs.is_timer_due.Tie as tie
-use Rattle.output_due.proofs.is_timer_due.Reads as reads
-use Rattle.output_due.proofs.is_timer_due.Lts as lts
-use Rattle.output_due.proofs.is_due.Reads as is-due-reads
-use Rattle.output_due.proofs.timer_due.Reads as timer-due-reads
 
 timer-due-requires : tie.Need-timer-due-requires
 timer-due-requires c κs = search needs

@@ -1,12 +1,10 @@
+-- Drafted by tools/draft.py: nothing here was written by hand.
 use Rattle.lighting.proofs.Choosing.{ifs}
 use Rattle.lighting.proofs.Laws.{nextActivity-on}
 use Rattle.lighting.specs.Paper.Passing.{nextActivity}
 use borrow.Author.Needs.{needs}
 use Rattle.output_due.proofs.next_activity.Statement.{statement}
 use Rattle.output_due.proofs.next_activity.Tie as tie
-use Rattle.output_due.proofs.next_activity.Reads as reads
-use Rattle.output_due.proofs.next_activity.Lts as lts
-use Rattle.output_due.proofs.next_phase.Reads as next-phase-reads
 
 enum-told : tie.Need-enum-told
 enum-told c = search needs
@@ -33,6 +31,4 @@ unfolding nextActivity
 returns-3 c = search (needs, ifs, nextActivity-on)
 
 pub next-activity-spec : {M : Type 1} → statement M
-next-activity-spec =
-    tie.close
-    (tie.spec enum-told enum-told-2 enum-known-a next-phase-requires returns returns-2 returns-3)
+next-activity-spec = tie.close (tie.spec enum-told enum-told-2 enum-known-a next-phase-requires returns returns-2 returns-3)

@@ -1,12 +1,10 @@
+-- Drafted by tools/draft.py: nothing here was written by hand.
 use Rattle.lighting.proofs.Choosing.{ifs}
 use Rattle.lighting.proofs.Laws.{nextPhase-on}
 use Rattle.lighting.specs.Paper.Passing.{nextPhase}
 use borrow.Author.Needs.{needs}
 use Rattle.output_due.proofs.next_phase.Statement.{statement}
 use Rattle.output_due.proofs.next_phase.Tie as tie
-use Rattle.output_due.proofs.next_phase.Reads as reads
-use Rattle.output_due.proofs.next_phase.Lts as lts
-use Rattle.output_due.proofs.delay.Reads as delay-reads
 
 enum-told : tie.Need-enum-told
 enum-told c = search needs
@@ -30,5 +28,4 @@ unfolding nextPhase
 returns-3 c = search (needs, ifs, nextPhase-on)
 
 pub next-phase-spec : {M : Type 1} → statement M
-next-phase-spec =
-    tie.close (tie.spec enum-told delay-requires enum-told-2 returns returns-2 returns-3)
+next-phase-spec = tie.close (tie.spec enum-told delay-requires enum-told-2 returns returns-2 returns-3)

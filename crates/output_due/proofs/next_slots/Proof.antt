@@ -1,12 +1,10 @@
+-- Drafted by tools/draft.py: nothing here was written by hand.
 use Rattle.lighting.proofs.Choosing.{ifs}
 use Rattle.lighting.proofs.Laws.{nextSlots-on}
 use Rattle.lighting.specs.Paper.Passing.{nextSlots}
 use borrow.Author.Needs.{needs}
 use Rattle.output_due.proofs.next_slots.Statement.{statement}
 use Rattle.output_due.proofs.next_slots.Tie as tie
-use Rattle.output_due.proofs.next_slots.Reads as reads
-use Rattle.output_due.proofs.next_slots.Lts as lts
-use Rattle.output_due.proofs.phase_slots.Reads as phase-slots-reads
 
 enum-told : tie.Need-enum-told
 enum-told c = search needs
@@ -33,6 +31,4 @@ unfolding nextSlots
 returns-3 c = search (needs, ifs, nextSlots-on)
 
 pub next-slots-spec : {M : Type 1} → statement M
-next-slots-spec =
-    tie.close
-    (tie.spec enum-told enum-told-2 enum-known-a phase-slots-requires returns returns-2 returns-3)
+next-slots-spec = tie.close (tie.spec enum-told enum-told-2 enum-known-a phase-slots-requires returns returns-2 returns-3)

@@ -1,11 +1,10 @@
+-- Drafted by tools/draft.py: nothing here was written by hand.
 use Rattle.lighting.proofs.Choosing.{ifs}
 use Rattle.lighting.proofs.Laws.{phaseEnd-on}
 use Rattle.lighting.specs.Paper.Passing.{phaseEnd}
 use borrow.Author.Needs.{needs}
 use Rattle.output_due.proofs.phase_end.Statement.{statement}
 use Rattle.output_due.proofs.phase_end.Tie as tie
-use Rattle.output_due.proofs.phase_end.Reads as reads
-use Rattle.output_due.proofs.phase_end.Lts as lts
 
 enum-told : tie.Need-enum-told
 enum-told c = search needs

@@ -1,14 +1,10 @@
+-- Drafted by tools/draft.py: nothing here was written by hand.
 use Rattle.lighting.proofs.Choosing.{ifs}
 use Rattle.lighting.proofs.Laws.{phaseSlots-on}
 use Rattle.lighting.specs.Paper.Passing.{phaseSlots}
 use borrow.Author.Needs.{needs}
 use Rattle.output_due.proofs.phase_slots.Statement.{statement}
 use Rattle.output_due.proofs.phase_slots.Tie as tie
-use Rattle.output_due.proofs.phase_slots.Reads as reads
-use Rattle.output_due.proofs.phase_slots.Lts as lts
-use Rattle.output_due.proofs.warning_empty.Reads as warning-empty-reads
-use Rattle.output_slots.proofs.empty.Reads as empty-reads
-use Rattle.output_slots.proofs.fill.Reads as fill-reads
 
 enum-told : tie.Need-enum-told
 enum-told c = search needs
@@ -38,14 +34,4 @@ unfolding phaseSlots
 returns-3 c = search (needs, ifs, phaseSlots-on)
 
 pub phase-slots-spec : {M : Type 1} → statement M
-phase-slots-spec =
-    tie.close
-    (tie.spec
-    enum-told
-    fill-requires
-    empty-requires
-    enum-told-2
-    warning-empty-requires
-    returns
-    returns-2
-    returns-3)
+phase-slots-spec = tie.close (tie.spec enum-told fill-requires empty-requires enum-told-2 warning-empty-requires returns returns-2 returns-3)

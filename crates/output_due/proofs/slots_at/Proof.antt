@@ -1,12 +1,9 @@
+-- Drafted by tools/draft.py: nothing here was written by hand.
 use Rattle.lighting.proofs.Choosing.{ifs}
 use Rattle.lighting.specs.Paper.Passing.{slotsAt}
 use borrow.Author.Needs.{needs}
 use Rattle.output_due.proofs.slots_at.Statement.{statement}
 use Rattle.output_due.proofs.slots_at.Tie as tie
-use Rattle.output_due.proofs.slots_at.Reads as reads
-use Rattle.output_due.proofs.slots_at.Lts as lts
-use Rattle.output_due.proofs.is_activity_due.Reads as is-activity-due-reads
-use Rattle.output_due.proofs.next_slots.Reads as next-slots-reads
 
 is-activity-due-requires : tie.Need-is-activity-due-requires
 is-activity-due-requires c κs = search needs

@@ -1,10 +1,8 @@
+-- Drafted by tools/draft.py: nothing here was written by hand.
 use Rattle.lighting.specs.Paper.Fresh.{freshOutput}
 use borrow.Author.Needs.{needs}
 use Rattle.output_fresh.proofs.fresh_output.Statement.{statement}
 use Rattle.output_fresh.proofs.fresh_output.Tie as tie
-use Rattle.output_fresh.proofs.fresh_output.Reads as reads
-use Rattle.output_fresh.proofs.fresh_output.Lts as lts
-use Rattle.output_fresh.proofs.fresh_settings.Reads as fresh-settings-reads
 
 fresh-settings-requires : tie.Need-fresh-settings-requires
 fresh-settings-requires c κs = search needs

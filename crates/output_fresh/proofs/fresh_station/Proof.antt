@@ -1,10 +1,9 @@
-use borrow.Author.Needs.{needs}
+-- Drafted by tools/draft.py: nothing here was written by hand.
 use Rattle.lighting.proofs.Choosing.{ifs}
 use Rattle.lighting.specs.Paper.Fresh.{freshStation}
+use borrow.Author.Needs.{needs}
 use Rattle.output_fresh.proofs.fresh_station.Statement.{statement}
 use Rattle.output_fresh.proofs.fresh_station.Tie as tie
-use Rattle.output_fresh.proofs.fresh_station.Reads as reads
-use Rattle.output_fresh.proofs.fresh_station.Lts as lts
 
 returns : tie.Need-returns
 unfolding freshStation

@@ -1,12 +1,8 @@
+-- Drafted by tools/draft.py: nothing here was written by hand.
 use Rattle.lighting.specs.Engine.Advance.{eventStep}
 use borrow.Author.Needs.{needs}
 use Rattle.output_passing.proofs.event_step.Statement.{statement}
 use Rattle.output_passing.proofs.event_step.Tie as tie
-use Rattle.output_passing.proofs.event_step.Reads as reads
-use Rattle.output_passing.proofs.event_step.Lts as lts
-use Rattle.output_due.proofs.fire_at.Reads as fire-at-reads
-use Rattle.output_passing.proofs.with_burned_saturating.Reads as with-burned-saturating-reads
-use Rattle.output_value.proofs.since.Reads as since-reads
 
 since-requires : tie.Need-since-requires
 since-requires c κs = search needs

@@ -1,10 +1,8 @@
+-- Drafted by tools/draft.py: nothing here was written by hand.
 use Rattle.lighting.specs.Engine.Advance.{later}
 use borrow.Author.Needs.{needs}
 use Rattle.output_passing.proofs.is_later.Statement.{statement}
 use Rattle.output_passing.proofs.is_later.Tie as tie
-use Rattle.output_passing.proofs.is_later.Reads as reads
-use Rattle.output_passing.proofs.is_later.Lts as lts
-use Rattle.output_passing.proofs.next_due.Reads as next-due-reads
 
 next-due-requires : tie.Need-next-due-requires
 next-due-requires c κs = search needs

@@ -1,11 +1,9 @@
+-- Drafted by tools/draft.py: nothing here was written by hand.
 use Rattle.lighting.proofs.Choosing.{ifs}
 use Rattle.lighting.specs.Paper.Passing.{litMilliseconds}
 use borrow.Author.Needs.{needs}
 use Rattle.output_passing.proofs.lit_milliseconds.Statement.{statement}
 use Rattle.output_passing.proofs.lit_milliseconds.Tie as tie
-use Rattle.output_passing.proofs.lit_milliseconds.Reads as reads
-use Rattle.output_passing.proofs.lit_milliseconds.Lts as lts
-use Rattle.output_value.proofs.is_lit.Reads as is-lit-reads
 
 is-lit-requires : tie.Need-is-lit-requires
 is-lit-requires c κs = search needs

@@ -1,12 +1,8 @@
+-- Drafted by tools/draft.py: nothing here was written by hand.
 use Rattle.lighting.specs.Engine.Advance.{due}
 use borrow.Author.Needs.{needs}
 use Rattle.output_passing.proofs.next_due.Statement.{statement}
 use Rattle.output_passing.proofs.next_due.Tie as tie
-use Rattle.output_passing.proofs.next_due.Reads as reads
-use Rattle.output_passing.proofs.next_due.Lts as lts
-use Rattle.output_due.proofs.activity_due.Reads as activity-due-reads
-use Rattle.output_due.proofs.timer_due.Reads as timer-due-reads
-use Rattle.output_passing.proofs.sooner.Reads as sooner-reads
 
 activity-due-requires : tie.Need-activity-due-requires
 activity-due-requires c κs = search needs
@@ -25,6 +21,4 @@ unfolding due
 returns c = simp (c .sooner2 .ensures, c .before .timer-due .ensures, c .before .before .sooner .ensures, c .before .before .before .activity-due .ensures)
 
 pub next-due-spec : {M : Type 1} → statement M
-next-due-spec =
-    tie.close
-    (tie.spec activity-due-requires sooner-requires timer-due-requires sooner-requires-2 returns)
+next-due-spec = tie.close (tie.spec activity-due-requires sooner-requires timer-due-requires sooner-requires-2 returns)

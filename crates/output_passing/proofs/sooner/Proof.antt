@@ -1,12 +1,10 @@
+-- Drafted by tools/draft.py: nothing here was written by hand.
 use Rattle.lighting.proofs.Choosing.{ifs}
 use Rattle.lighting.proofs.Laws.{sooner-on}
 use Rattle.lighting.specs.Engine.Advance.{sooner}
 use borrow.Author.Needs.{needs}
 use Rattle.output_passing.proofs.sooner.Statement.{statement}
 use Rattle.output_passing.proofs.sooner.Tie as tie
-use Rattle.output_passing.proofs.sooner.Reads as reads
-use Rattle.output_passing.proofs.sooner.Lts as lts
-use Rattle.output_passing.proofs.least.Reads as least-reads
 
 enum-told : tie.Need-enum-told
 enum-told c = search needs

@@ -1,12 +1,8 @@
+-- Drafted by tools/draft.py: nothing here was written by hand.
 use Rattle.lighting.specs.Engine.Advance.{withBurnedSaturating}
 use borrow.Author.Needs.{needs}
 use Rattle.output_passing.proofs.with_burned_saturating.Statement.{statement}
 use Rattle.output_passing.proofs.with_burned_saturating.Tie as tie
-use Rattle.output_passing.proofs.with_burned_saturating.Reads as reads
-use Rattle.output_passing.proofs.with_burned_saturating.Lts as lts
-use Rattle.output_passing.proofs.added.Reads as added-reads
-use Rattle.output_passing.proofs.lit_milliseconds.Reads as lit-milliseconds-reads
-use Rattle.output_record.proofs.with_burning.Reads as with-burning-reads
 
 lit-milliseconds-requires : tie.Need-lit-milliseconds-requires
 lit-milliseconds-requires c κs = search needs

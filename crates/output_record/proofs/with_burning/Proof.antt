@@ -1,12 +1,10 @@
-use borrow.Author.Needs.{needs}
+-- Drafted by tools/draft.py: nothing here was written by hand.
 use Rattle.lighting.proofs.Choosing.{ifs}
 use Rattle.lighting.specs.Paper.Record.{withBurning}
+use borrow.Author.Needs.{needs}
 use Rattle.output_record.proofs.with_burning.Statement.{statement}
 use Rattle.output_record.proofs.with_burning.Tie as tie
-use Rattle.output_record.proofs.with_burning.Reads as reads
-use Rattle.output_record.proofs.with_burning.Lts as lts
 
--- src/lib.rt:13:1
 returns : tie.Need-returns
 unfolding withBurning
 returns c = search (needs, ifs)

@@ -1,12 +1,10 @@
-use borrow.Author.Needs.{needs}
+-- Drafted by tools/draft.py: nothing here was written by hand.
 use Rattle.lighting.proofs.Choosing.{ifs}
 use Rattle.lighting.specs.Paper.Record.{withCommand}
+use borrow.Author.Needs.{needs}
 use Rattle.output_record.proofs.with_command.Statement.{statement}
 use Rattle.output_record.proofs.with_command.Tie as tie
-use Rattle.output_record.proofs.with_command.Reads as reads
-use Rattle.output_record.proofs.with_command.Lts as lts
 
--- src/lib.rt:55:1
 returns : tie.Need-returns
 unfolding withCommand
 returns c = search (needs, ifs)

@@ -1,12 +1,10 @@
-use borrow.Author.Needs.{needs}
+-- Drafted by tools/draft.py: nothing here was written by hand.
 use Rattle.lighting.proofs.Choosing.{ifs}
 use Rattle.lighting.specs.Paper.Record.{withEffect}
+use borrow.Author.Needs.{needs}
 use Rattle.output_record.proofs.with_effect.Statement.{statement}
 use Rattle.output_record.proofs.with_effect.Tie as tie
-use Rattle.output_record.proofs.with_effect.Reads as reads
-use Rattle.output_record.proofs.with_effect.Lts as lts
 
--- src/lib.rt:38:1
 returns : tie.Need-returns
 unfolding withEffect
 returns c = search (needs, ifs)

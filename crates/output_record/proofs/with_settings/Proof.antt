@@ -1,10 +1,9 @@
-use borrow.Author.Needs.{needs}
+-- Drafted by tools/draft.py: nothing here was written by hand.
 use Rattle.lighting.proofs.Choosing.{ifs}
 use Rattle.lighting.specs.Paper.Record.{withSettings}
+use borrow.Author.Needs.{needs}
 use Rattle.output_record.proofs.with_settings.Statement.{statement}
 use Rattle.output_record.proofs.with_settings.Tie as tie
-use Rattle.output_record.proofs.with_settings.Reads as reads
-use Rattle.output_record.proofs.with_settings.Lts as lts
 
 returns : tie.Need-returns
 unfolding withSettings

@@ -1,13 +1,8 @@
+-- Drafted by tools/draft.py: nothing here was written by hand.
 use Rattle.lighting.specs.Paper.Rules.{activitySound}
 use borrow.Author.Needs.{needs}
 use Rattle.output_rules.proofs.activity_sound.Statement.{statement}
 use Rattle.output_rules.proofs.activity_sound.Tie as tie
-use Rattle.output_rules.proofs.activity_sound.Reads as reads
-use Rattle.output_rules.proofs.activity_sound.Lts as lts
-use Rattle.output_activity_rules.proofs.activity_by.Reads as activity-by-reads
-use Rattle.output_slots.proofs.is_live.Reads as is-live-reads
-use Rattle.output_slots.proofs.winning.Reads as winning-reads
-use Rattle.output_value.proofs.present_value.Reads as present-value-reads
 
 is-live-requires : tie.Need-is-live-requires
 is-live-requires c κs = search needs
@@ -26,11 +21,4 @@ unfolding activitySound
 returns c = simp (c .activity-by .ensures, c .before .present-value .ensures, c .before .before .winning .ensures, c .before .before .before .is-live .ensures)
 
 pub activity-sound-spec : {M : Type 1} → statement M
-activity-sound-spec =
-    tie.close
-    (tie.spec
-    is-live-requires
-    winning-requires
-    present-value-requires
-    activity-by-requires
-    returns)
+activity-sound-spec = tie.close (tie.spec is-live-requires winning-requires present-value-requires activity-by-requires returns)

@@ -1,11 +1,9 @@
+-- Drafted by tools/draft.py: nothing here was written by hand.
 use Rattle.lighting.proofs.Choosing.{ifs}
 use Rattle.lighting.specs.Paper.Slots.{levelAt}
 use borrow.Author.Needs.{needs}
 use Rattle.output_slots.proofs.level_at.Statement.{statement}
 use Rattle.output_slots.proofs.level_at.Tie as tie
-use Rattle.output_slots.proofs.level_at.Reads as reads
-use Rattle.output_slots.proofs.level_at.Lts as lts
-use Rattle.output_slots.proofs.level_of.Reads as level-of-reads
 
 cast-if1 : tie.Need-cast-if1
 cast-if1 c = search needs

@@ -1,10 +1,9 @@
+-- Drafted by tools/draft.py: nothing here was written by hand.
 use Rattle.lighting.proofs.Choosing.{ifs}
 use Rattle.lighting.specs.Paper.Slots.{levelSet}
 use borrow.Author.Needs.{needs}
 use Rattle.output_slots.proofs.level_set.Statement.{statement}
 use Rattle.output_slots.proofs.level_set.Tie as tie
-use Rattle.output_slots.proofs.level_set.Reads as reads
-use Rattle.output_slots.proofs.level_set.Lts as lts
 
 mul-l : tie.Need-mul-l
 mul-l c = search needs

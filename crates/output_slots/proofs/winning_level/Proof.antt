@@ -1,11 +1,8 @@
+-- Drafted by tools/draft.py: nothing here was written by hand.
 use Rattle.lighting.specs.Paper.Slots.{winningLevel}
 use borrow.Author.Needs.{needs}
 use Rattle.output_slots.proofs.winning_level.Statement.{statement}
 use Rattle.output_slots.proofs.winning_level.Tie as tie
-use Rattle.output_slots.proofs.winning_level.Reads as reads
-use Rattle.output_slots.proofs.winning_level.Lts as lts
-use Rattle.output_slots.proofs.level_at.Reads as level-at-reads
-use Rattle.output_slots.proofs.winning.Reads as winning-reads
 
 winning-requires : tie.Need-winning-requires
 winning-requires c κs = search needs

@@ -1,11 +1,9 @@
+-- Drafted by tools/draft.py: nothing here was written by hand.
 use Rattle.lighting.proofs.Choosing.{ifs}
 use Rattle.lighting.specs.Paper.Value.{clampLit}
 use borrow.Author.Needs.{needs}
 use Rattle.output_value.proofs.clamp_lit.Statement.{statement}
 use Rattle.output_value.proofs.clamp_lit.Tie as tie
-use Rattle.output_value.proofs.clamp_lit.Reads as reads
-use Rattle.output_value.proofs.clamp_lit.Lts as lts
-use Rattle.output_value.proofs.clamp.Reads as clamp-reads
 
 clamp-requires : tie.Need-clamp-requires
 clamp-requires c κs = search needs

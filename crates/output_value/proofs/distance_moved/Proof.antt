@@ -1,13 +1,10 @@
+-- Drafted by tools/draft.py: nothing here was written by hand.
 use Rattle.lighting.proofs.Choosing.{ifs}
 use Rattle.lighting.proofs.Laws.{distanceMoved-on}
 use Rattle.lighting.specs.Paper.Value.{distanceMoved}
 use borrow.Author.Needs.{needs}
 use Rattle.output_value.proofs.distance_moved.Statement.{statement}
 use Rattle.output_value.proofs.distance_moved.Tie as tie
-use Rattle.output_value.proofs.distance_moved.Reads as reads
-use Rattle.output_value.proofs.distance_moved.Lts as lts
-use Rattle.output_value.proofs.ramp_distance.Reads as ramp-distance-reads
-use Rattle.output_value.proofs.fade_distance.Reads as fade-distance-reads
 
 enum-told : tie.Need-enum-told
 enum-told c = search needs
@@ -30,5 +27,4 @@ unfolding distanceMoved
 returns-2 c = search (needs, ifs, distanceMoved-on)
 
 pub distance-moved-spec : {M : Type 1} → statement M
-distance-moved-spec =
-    tie.close (tie.spec enum-told fade-distance-requires enum-known-p ramp-distance-requires returns returns-2)
+distance-moved-spec = tie.close (tie.spec enum-told fade-distance-requires enum-known-p ramp-distance-requires returns returns-2)

@@ -1,11 +1,10 @@
+-- Drafted by tools/draft.py: nothing here was written by hand.
 use Rattle.lighting.proofs.Choosing.{ifs}
 use Rattle.lighting.proofs.Laws.{inProcess-on}
 use Rattle.lighting.specs.Paper.Value.{inProcess}
 use borrow.Author.Needs.{needs}
 use Rattle.output_value.proofs.in_process.Statement.{statement}
 use Rattle.output_value.proofs.in_process.Tie as tie
-use Rattle.output_value.proofs.in_process.Reads as reads
-use Rattle.output_value.proofs.in_process.Lts as lts
 
 enum-told : tie.Need-enum-told
 enum-told c = search needs
@@ -29,5 +28,4 @@ unfolding inProcess
 returns-3 c = search (needs, ifs, inProcess-on)
 
 pub in-process-spec : {M : Type 1} → statement M
-in-process-spec =
-    tie.close (tie.spec enum-told enum-told-2 enum-told-3 returns returns-2 returns-3)
+in-process-spec = tie.close (tie.spec enum-told enum-told-2 enum-told-3 returns returns-2 returns-3)

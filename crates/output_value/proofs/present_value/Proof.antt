@@ -1,11 +1,8 @@
+-- Drafted by tools/draft.py: nothing here was written by hand.
 use Rattle.lighting.specs.Paper.Value.{presentValue}
 use borrow.Author.Needs.{needs}
 use Rattle.output_value.proofs.present_value.Statement.{statement}
 use Rattle.output_value.proofs.present_value.Tie as tie
-use Rattle.output_value.proofs.present_value.Reads as reads
-use Rattle.output_value.proofs.present_value.Lts as lts
-use Rattle.output_slots.proofs.winning_level.Reads as winning-level-reads
-use Rattle.output_value.proofs.clamp_lit.Reads as clamp-lit-reads
 
 winning-level-requires : tie.Need-winning-level-requires
 winning-level-requires c κs = search needs

@@ -1,12 +1,10 @@
+-- Drafted by tools/draft.py: nothing here was written by hand.
 use Rattle.lighting.proofs.Choosing.{ifs}
 use Rattle.lighting.proofs.Laws.{progressBy-on}
 use Rattle.lighting.specs.Paper.Value.{progressBy}
 use borrow.Author.Needs.{needs}
 use Rattle.output_value.proofs.progress_by.Statement.{statement}
 use Rattle.output_value.proofs.progress_by.Tie as tie
-use Rattle.output_value.proofs.progress_by.Reads as reads
-use Rattle.output_value.proofs.progress_by.Lts as lts
-use Rattle.output_value.proofs.reached.Reads as reached-reads
 
 enum-told : tie.Need-enum-told
 enum-told c = search needs
@@ -33,6 +31,4 @@ unfolding progressBy
 returns-3 c = search (needs, ifs, progressBy-on)
 
 pub progress-by-spec : {M : Type 1} → statement M
-progress-by-spec =
-    tie.close
-    (tie.spec enum-told enum-known-a reached-requires enum-told-2 returns returns-2 returns-3)
+progress-by-spec = tie.close (tie.spec enum-told enum-known-a reached-requires enum-told-2 returns returns-2 returns-3)

@@ -1,11 +1,8 @@
+-- Drafted by tools/draft.py: nothing here was written by hand.
 use Rattle.lighting.specs.Paper.Value.{progressValue}
 use borrow.Author.Needs.{needs}
 use Rattle.output_value.proofs.progress_value.Statement.{statement}
 use Rattle.output_value.proofs.progress_value.Tie as tie
-use Rattle.output_value.proofs.progress_value.Reads as reads
-use Rattle.output_value.proofs.progress_value.Lts as lts
-use Rattle.output_value.proofs.present_value.Reads as present-value-reads
-use Rattle.output_value.proofs.progress_by.Reads as progress-by-reads
 
 present-value-requires : tie.Need-present-value-requires
 present-value-requires c κs = search needs

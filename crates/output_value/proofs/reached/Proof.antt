@@ -1,11 +1,8 @@
+-- Drafted by tools/draft.py: nothing here was written by hand.
 use Rattle.lighting.specs.Paper.Value.{reached}
 use borrow.Author.Needs.{needs}
 use Rattle.output_value.proofs.reached.Statement.{statement}
 use Rattle.output_value.proofs.reached.Tie as tie
-use Rattle.output_value.proofs.reached.Reads as reads
-use Rattle.output_value.proofs.reached.Lts as lts
-use Rattle.output_value.proofs.elapsed.Reads as elapsed-reads
-use Rattle.output_value.proofs.reached_by.Reads as reached-by-reads
 
 elapsed-requires : tie.Need-elapsed-requires
 elapsed-requires c κs = search needs

@@ -1,4 +1,4 @@
--- `output_warning::does_blink` meets its contract.
+-- Drafted by tools/draft.py: nothing here was written by hand.
 use Rattle.lighting.proofs.Choosing.{ifs}
 use Rattle.lighting.specs.Paper.Writing.{blinks}
 use borrow.Author.Needs.{needs}

@@ -1,4 +1,4 @@
--- `output_warning::does_warn` meets its contract.
+-- Drafted by tools/draft.py: nothing here was written by hand.
 use Rattle.lighting.specs.Paper.Writing.{warns}
 use borrow.Author.Needs.{needs}
 use Rattle.output_warning.proofs.does_warn.Statement.{statement}
@@ -18,5 +18,4 @@ unfolding warns
 returns c = simp (c .warns-by .ensures, c .before .present-value .ensures, c .before .before .winning .ensures)
 
 pub does-warn-spec : {M : Type 1} → statement M
-does-warn-spec =
-    tie.close (tie.spec winning-requires present-value-requires warns-by-requires returns)
+does-warn-spec = tie.close (tie.spec winning-requires present-value-requires warns-by-requires returns)

@@ -1,7 +1,7 @@
--- `output_warning::first_level` meets its contract.
-use borrow.Author.Needs.{needs}
+-- Drafted by tools/draft.py: nothing here was written by hand.
 use Rattle.lighting.proofs.Choosing.{ifs}
 use Rattle.lighting.specs.Paper.Writing.{firstLevel}
+use borrow.Author.Needs.{needs}
 use Rattle.output_warning.proofs.first_level.Statement.{statement}
 use Rattle.output_warning.proofs.first_level.Tie as tie
 

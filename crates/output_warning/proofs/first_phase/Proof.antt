@@ -1,10 +1,9 @@
-use borrow.Author.Needs.{needs}
+-- Drafted by tools/draft.py: nothing here was written by hand.
 use Rattle.lighting.proofs.Choosing.{ifs}
 use Rattle.lighting.specs.Paper.Writing.{firstPhase}
+use borrow.Author.Needs.{needs}
 use Rattle.output_warning.proofs.first_phase.Statement.{statement}
 use Rattle.output_warning.proofs.first_phase.Tie as tie
-use Rattle.output_warning.proofs.first_phase.Reads as reads
-use Rattle.output_warning.proofs.first_phase.Lts as lts
 
 returns : tie.Need-returns
 unfolding firstPhase

@@ -1,4 +1,4 @@
--- `warning::is_zero_or_empty` meets its contract.
+-- Drafted by tools/draft.py: nothing here was written by hand.
 use Rattle.lighting.proofs.Choosing.{ifs}
 use Rattle.lighting.specs.Paper.Writing.{zeroOrEmpty}
 use borrow.Author.Needs.{needs}
@@ -26,6 +26,4 @@ unfolding zeroOrEmpty
 returns-2 c = search (needs, ifs)
 
 pub is-zero-or-empty-spec : {M : Type 1} → statement M
-is-zero-or-empty-spec =
-    tie.close
-    (tie.spec cast-is-live is-live-requires mul-result element-copy-out-result returns returns-2)
+is-zero-or-empty-spec = tie.close (tie.spec cast-is-live is-live-requires mul-result element-copy-out-result returns returns-2)

@@ -1,4 +1,4 @@
--- `output_warning::warns_by` meets its contract.
+-- Drafted by tools/draft.py: nothing here was written by hand.
 use Rattle.lighting.proofs.Choosing.{ifs}
 use Rattle.lighting.specs.Paper.Writing.{warnsBy}
 use borrow.Author.Needs.{needs}
@@ -32,13 +32,4 @@ unfolding warnsBy
 returns-5 c = search (needs, ifs)
 
 pub warns-by-spec : {M : Type 1} → statement M
-warns-by-spec =
-    tie.close
-    (tie.spec
-    does-blink-requires
-    zero-or-empty-above-requires
-    returns
-    returns-2
-    returns-3
-    returns-4
-    returns-5)
+warns-by-spec = tie.close (tie.spec does-blink-requires zero-or-empty-above-requires returns returns-2 returns-3 returns-4 returns-5)

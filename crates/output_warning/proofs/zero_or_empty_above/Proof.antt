@@ -1,4 +1,4 @@
--- `warning::zero_or_empty_above` meets its contract.
+-- Drafted by tools/draft.py: nothing here was written by hand.
 use Rattle.lighting.proofs.Choosing.{ifs}
 use Rattle.lighting.specs.Paper.Writing.{zeroOrEmptyAbove}
 use borrow.Author.Needs.{needs}

@@ -1,4 +1,4 @@
--- `writing::end_movement_unless_above` meets its contract.
+-- Drafted by tools/draft.py: nothing here was written by hand.
 use Rattle.lighting.proofs.Choosing.{ifs}
 use Rattle.lighting.proofs.Laws.{endMovementUnlessAbove-on}
 use Rattle.lighting.specs.Paper.Writing.{endMovementUnlessAbove}
@@ -32,13 +32,4 @@ unfolding endMovementUnlessAbove
 returns-4 c = search (needs, ifs, endMovementUnlessAbove-on)
 
 pub end-movement-unless-above-spec : {M : Type 1} → statement M
-end-movement-unless-above-spec =
-    tie.close
-    (tie.spec
-    enum-told
-    enum-known-a
-    enum-told-2
-    returns
-    returns-2
-    returns-3
-    returns-4)
+end-movement-unless-above-spec = tie.close (tie.spec enum-told enum-known-a enum-told-2 returns returns-2 returns-3 returns-4)

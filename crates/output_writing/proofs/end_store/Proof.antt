@@ -1,4 +1,4 @@
--- `output_writing::end_store` meets its contract.
+-- Drafted by tools/draft.py: nothing here was written by hand.
 use Rattle.lighting.specs.Paper.Writing.{endedStored}
 use borrow.Author.Needs.{needs}
 use Rattle.output_writing.proofs.end_store.Statement.{statement}

@@ -1,4 +1,4 @@
--- `writing::relinquish_activity` meets its contract.
+-- Drafted by tools/draft.py: nothing here was written by hand.
 use Rattle.lighting.proofs.Choosing.{ifs}
 use Rattle.lighting.specs.Paper.Writing.{activityRelinquished}
 use borrow.Author.Needs.{needs}

@@ -1,4 +1,4 @@
--- `writing::relinquish_slot` meets its contract.
+-- Drafted by tools/draft.py: nothing here was written by hand.
 use Rattle.lighting.specs.Paper.Writing.{slotRelinquished}
 use borrow.Author.Needs.{needs}
 use Rattle.output_writing.proofs.relinquish_slot.Statement.{statement}
@@ -21,6 +21,4 @@ unfolding slotRelinquished
 returns c = simp (c .with-effect .ensures, c .before .relinquish-activity .ensures, c .before .before .is-live .ensures, c .before .before .before .empty .ensures)
 
 pub relinquish-slot-spec : {M : Type 1} → statement M
-relinquish-slot-spec =
-    tie.close
-    (tie.spec empty-requires is-live-requires relinquish-activity-requires with-effect-requires returns)
+relinquish-slot-spec = tie.close (tie.spec empty-requires is-live-requires relinquish-activity-requires with-effect-requires returns)

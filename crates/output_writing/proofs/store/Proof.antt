@@ -1,4 +1,4 @@
--- `output_writing::store` meets its contract.
+-- Drafted by tools/draft.py: nothing here was written by hand.
 use Rattle.lighting.specs.Paper.Writing.{stored}
 use borrow.Author.Needs.{needs}
 use Rattle.output_writing.proofs.store.Statement.{statement}

@@ -1,4 +1,4 @@
--- `output_writing::warn_by` meets its contract.
+-- Drafted by tools/draft.py: nothing here was written by hand.
 use Rattle.lighting.specs.Paper.Writing.{warnedBy}
 use borrow.Author.Needs.{needs}
 use Rattle.output_writing.proofs.warn_by.Statement.{statement}
@@ -24,12 +24,4 @@ unfolding warnedBy
 returns c = simp (c .with-effect .ensures, c .before .warning-from .ensures, c .before .before .fill2 .ensures, c .before .before .before .first-level .ensures, c .before .before .before .before .fill .ensures)
 
 pub warn-by-spec : {M : Type 1} → statement M
-warn-by-spec =
-    tie.close
-    (tie.spec
-    fill-requires
-    first-level-requires
-    fill-requires-2
-    warning-from-requires
-    with-effect-requires
-    returns)
+warn-by-spec = tie.close (tie.spec fill-requires first-level-requires fill-requires-2 warning-from-requires with-effect-requires returns)

@@ -1,4 +1,4 @@
--- `output_writing::write` meets its contract.
+-- Drafted by tools/draft.py: nothing here was written by hand.
 use Rattle.lighting.specs.Paper.Writing.{written}
 use borrow.Author.Needs.{needs}
 use Rattle.output_writing.proofs.write.Statement.{statement}
@@ -9,7 +9,7 @@ write-by-requires c κs = search needs
 
 returns : tie.Need-returns
 unfolding written
-returns c = c .write-by .ensures
+returns c = simp (c .write-by .ensures)
 
 pub write-spec : {M : Type 1} → statement M
 write-spec = tie.close (tie.spec write-by-requires returns)

@@ -1,4 +1,4 @@
--- `output_writing::write_by` meets its contract.
+-- Drafted by tools/draft.py: nothing here was written by hand.
 use Rattle.lighting.proofs.Choosing.{ifs}
 use Rattle.lighting.proofs.Laws.{writtenBy-on}
 use Rattle.lighting.specs.Paper.Writing.{writtenBy}
@@ -37,15 +37,4 @@ unfolding writtenBy
 returns-3 c = search (needs, ifs, writtenBy-on)
 
 pub write-by-spec : {M : Type 1} → statement M
-write-by-spec =
-    tie.close
-    (tie.spec
-    enum-told
-    write-calm-requires
-    enum-told-2
-    write-calm-requires-2
-    enum-told-3
-    write-warned-requires
-    returns
-    returns-2
-    returns-3)
+write-by-spec = tie.close (tie.spec enum-told write-calm-requires enum-told-2 write-calm-requires-2 enum-told-3 write-warned-requires returns returns-2 returns-3)

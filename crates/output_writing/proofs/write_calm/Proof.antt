@@ -1,4 +1,4 @@
--- `output_writing::write_calm` meets its contract.
+-- Drafted by tools/draft.py: nothing here was written by hand.
 use Rattle.lighting.proofs.Choosing.{ifs}
 use Rattle.lighting.specs.Paper.Writing.{writtenCalm}
 use borrow.Author.Needs.{needs}

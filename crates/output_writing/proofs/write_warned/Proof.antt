@@ -1,4 +1,4 @@
--- `output_writing::write_warned` meets its contract.
+-- Drafted by tools/draft.py: nothing here was written by hand.
 use Rattle.lighting.proofs.Choosing.{ifs}
 use Rattle.lighting.specs.Paper.Writing.{writtenWarned}
 use borrow.Author.Needs.{needs}
@@ -27,12 +27,4 @@ unfolding writtenWarned
 returns-3 c = search (needs, ifs)
 
 pub write-warned-spec : {M : Type 1} → statement M
-write-warned-spec =
-    tie.close
-    (tie.spec
-    end-empty-requires
-    end-store-requires
-    end-store-requires-2
-    returns
-    returns-2
-    returns-3)
+write-warned-spec = tie.close (tie.spec end-empty-requires end-store-requires end-store-requires-2 returns returns-2 returns-3)

@@ -1,4 +1,4 @@
--- `output_writing::write_zero` meets its contract.
+-- Drafted by tools/draft.py: nothing here was written by hand.
 use Rattle.lighting.proofs.Choosing.{ifs}
 use Rattle.lighting.specs.Paper.Writing.{writtenZero}
 use borrow.Author.Needs.{needs}
@@ -23,5 +23,4 @@ unfolding writtenZero
 returns-2 c = search (needs, ifs)
 
 pub write-zero-spec : {M : Type 1} → statement M
-write-zero-spec =
-    tie.close (tie.spec does-warn-requires warn-requires store-requires returns returns-2)
+write-zero-spec = tie.close (tie.spec does-warn-requires warn-requires store-requires returns returns-2)

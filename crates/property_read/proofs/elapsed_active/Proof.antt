@@ -1,10 +1,9 @@
+-- Drafted by tools/draft.py: nothing here was written by hand.
 use Rattle.lighting.proofs.Choosing.{ifs}
 use Rattle.lighting.specs.Paper.Properties.{elapsedActive}
 use borrow.Author.Needs.{needs}
 use Rattle.property_read.proofs.elapsed_active.Statement.{statement}
 use Rattle.property_read.proofs.elapsed_active.Tie as tie
-use Rattle.property_read.proofs.elapsed_active.Reads as reads
-use Rattle.property_read.proofs.elapsed_active.Lts as lts
 
 cast-result : tie.Need-cast-result
 cast-result c = search needs

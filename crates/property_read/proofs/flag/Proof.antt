@@ -1,10 +1,9 @@
-use borrow.Author.Needs.{needs}
+-- Drafted by tools/draft.py: nothing here was written by hand.
 use Rattle.lighting.proofs.Choosing.{ifs}
 use Rattle.lighting.specs.Paper.Properties.{flag}
+use borrow.Author.Needs.{needs}
 use Rattle.property_read.proofs.flag.Statement.{statement}
 use Rattle.property_read.proofs.flag.Tie as tie
-use Rattle.property_read.proofs.flag.Reads as reads
-use Rattle.property_read.proofs.flag.Lts as lts
 
 returns : tie.Need-returns
 unfolding flag

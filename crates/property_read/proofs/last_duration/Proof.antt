@@ -1,11 +1,10 @@
+-- Drafted by tools/draft.py: nothing here was written by hand.
 use Rattle.lighting.proofs.Choosing.{ifs}
 use Rattle.lighting.proofs.Laws.{lastDuration-on}
 use Rattle.lighting.specs.Paper.Properties.{lastDuration}
 use borrow.Author.Needs.{needs}
 use Rattle.property_read.proofs.last_duration.Statement.{statement}
 use Rattle.property_read.proofs.last_duration.Tie as tie
-use Rattle.property_read.proofs.last_duration.Reads as reads
-use Rattle.property_read.proofs.last_duration.Lts as lts
 
 enum-known-d : tie.Need-enum-known-d
 enum-known-d c = search needs
@@ -29,5 +28,4 @@ unfolding lastDuration
 returns-3 c = search (needs, ifs, lastDuration-on)
 
 pub last-duration-spec : {M : Type 1} → statement M
-last-duration-spec =
-    tie.close (tie.spec enum-known-d enum-told enum-told-2 returns returns-2 returns-3)
+last-duration-spec = tie.close (tie.spec enum-known-d enum-told enum-told-2 returns returns-2 returns-3)

@@ -1,10 +1,8 @@
+-- Drafted by tools/draft.py: nothing here was written by hand.
 use Rattle.lighting.specs.Paper.Properties.{levelAnswer}
 use borrow.Author.Needs.{needs}
 use Rattle.property_read.proofs.level_answer.Statement.{statement}
 use Rattle.property_read.proofs.level_answer.Tie as tie
-use Rattle.property_read.proofs.level_answer.Reads as reads
-use Rattle.property_read.proofs.level_answer.Lts as lts
-use Rattle.number_level.proofs.read_out.Reads as read-out-reads
 
 read-out-requires : tie.Need-read-out-requires
 read-out-requires c κs = search needs

@@ -1,12 +1,10 @@
+-- Drafted by tools/draft.py: nothing here was written by hand.
 use Rattle.lighting.proofs.Choosing.{ifs}
 use Rattle.lighting.proofs.Laws.{realFieldAnswer-on}
 use Rattle.lighting.specs.Paper.Properties.{realFieldAnswer}
 use borrow.Author.Needs.{needs}
 use Rattle.property_read.proofs.real_field_answer.Statement.{statement}
 use Rattle.property_read.proofs.real_field_answer.Tie as tie
-use Rattle.property_read.proofs.real_field_answer.Reads as reads
-use Rattle.property_read.proofs.real_field_answer.Lts as lts
-use Rattle.property_read.proofs.real_answer.Reads as real-answer-reads
 
 enum-known-x : tie.Need-enum-known-x
 enum-known-x c = search needs
@@ -26,5 +24,4 @@ unfolding realFieldAnswer
 returns-2 c = search (needs, ifs, realFieldAnswer-on)
 
 pub real-field-answer-spec : {M : Type 1} → statement M
-real-field-answer-spec =
-    tie.close (tie.spec enum-known-x real-answer-requires enum-told returns returns-2)
+real-field-answer-spec = tie.close (tie.spec enum-known-x real-answer-requires enum-told returns returns-2)

@@ -1,11 +1,10 @@
+-- Drafted by tools/draft.py: nothing here was written by hand.
 use Rattle.lighting.proofs.Choosing.{ifs}
 use Rattle.lighting.proofs.Laws.{timeFieldAnswer-on}
 use Rattle.lighting.specs.Paper.Properties.{timeFieldAnswer}
 use borrow.Author.Needs.{needs}
 use Rattle.property_read.proofs.time_field_answer.Statement.{statement}
 use Rattle.property_read.proofs.time_field_answer.Tie as tie
-use Rattle.property_read.proofs.time_field_answer.Reads as reads
-use Rattle.property_read.proofs.time_field_answer.Lts as lts
 
 enum-known-x : tie.Need-enum-known-x
 enum-known-x c = search needs

@@ -1,10 +1,8 @@
+-- Drafted by tools/draft.py: nothing here was written by hand.
 use Rattle.lighting.specs.Paper.Properties.{same}
 use borrow.Author.Needs.{needs}
 use Rattle.property_write.proofs.is_same.Statement.{statement}
 use Rattle.property_write.proofs.is_same.Tie as tie
-use Rattle.property_write.proofs.is_same.Reads as reads
-use Rattle.property_write.proofs.is_same.Lts as lts
-use Rattle.property_write.proofs.number_of.Reads as number-of-reads
 
 number-of-requires : tie.Need-number-of-requires
 number-of-requires c κs = search needs

@@ -1,10 +1,9 @@
-use borrow.Author.Needs.{needs}
+-- Drafted by tools/draft.py: nothing here was written by hand.
 use Rattle.lighting.proofs.Choosing.{ifs}
 use Rattle.lighting.specs.Paper.Panel.{countsSound}
+use borrow.Author.Needs.{needs}
 use Rattle.station_judging.proofs.counts_sound.Statement.{statement}
 use Rattle.station_judging.proofs.counts_sound.Tie as tie
-use Rattle.station_judging.proofs.counts_sound.Reads as reads
-use Rattle.station_judging.proofs.counts_sound.Lts as lts
 
 returns : tie.Need-returns
 unfolding countsSound

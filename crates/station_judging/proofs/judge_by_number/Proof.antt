@@ -1,11 +1,9 @@
+-- Drafted by tools/draft.py: nothing here was written by hand.
 use Rattle.lighting.proofs.Choosing.{ifs}
 use Rattle.lighting.specs.Engine.Judging.{judgedByNumber}
 use borrow.Author.Needs.{needs}
 use Rattle.station_judging.proofs.judge_by_number.Statement.{statement}
 use Rattle.station_judging.proofs.judge_by_number.Tie as tie
-use Rattle.station_judging.proofs.judge_by_number.Reads as reads
-use Rattle.station_judging.proofs.judge_by_number.Lts as lts
-use Rattle.station_judging.proofs.retransmission_or_conflict.Reads as retransmission-or-conflict-reads
 
 retransmission-or-conflict-requires : tie.Need-retransmission-or-conflict-requires
 retransmission-or-conflict-requires c κs = search needs

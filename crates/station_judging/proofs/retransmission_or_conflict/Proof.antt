@@ -1,11 +1,9 @@
+-- Drafted by tools/draft.py: nothing here was written by hand.
 use Rattle.lighting.proofs.Choosing.{ifs}
 use Rattle.lighting.specs.Paper.Copies.{retransmissionOrConflict}
 use borrow.Author.Needs.{needs}
 use Rattle.station_judging.proofs.retransmission_or_conflict.Statement.{statement}
 use Rattle.station_judging.proofs.retransmission_or_conflict.Tie as tie
-use Rattle.station_judging.proofs.retransmission_or_conflict.Reads as reads
-use Rattle.station_judging.proofs.retransmission_or_conflict.Lts as lts
-use Rattle.station_frame.proofs.same_frame.Reads as same-frame-reads
 
 same-frame-requires : tie.Need-same-frame-requires
 same-frame-requires c κs = search needs

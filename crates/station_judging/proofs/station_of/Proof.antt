@@ -1,11 +1,10 @@
+-- Drafted by tools/draft.py: nothing here was written by hand.
 use Rattle.lighting.proofs.Choosing.{ifs}
 use Rattle.lighting.proofs.Laws.{stationOf-on}
 use Rattle.lighting.specs.Engine.Judging.{stationOf}
 use borrow.Author.Needs.{needs}
 use Rattle.station_judging.proofs.station_of.Statement.{statement}
 use Rattle.station_judging.proofs.station_of.Tie as tie
-use Rattle.station_judging.proofs.station_of.Reads as reads
-use Rattle.station_judging.proofs.station_of.Lts as lts
 
 enum-told : tie.Need-enum-told
 enum-told c = search needs
@@ -29,5 +28,4 @@ unfolding stationOf
 returns-3 c = search (needs, ifs, stationOf-on)
 
 pub station-of-spec : {M : Type 1} → statement M
-station-of-spec =
-    tie.close (tie.spec enum-told enum-told-2 enum-known-f returns returns-2 returns-3)
+station-of-spec = tie.close (tie.spec enum-told enum-told-2 enum-known-f returns returns-2 returns-3)

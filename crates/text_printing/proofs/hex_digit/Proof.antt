@@ -1,10 +1,9 @@
+-- Drafted by tools/draft.py: nothing here was written by hand.
 use Rattle.lighting.proofs.Choosing.{ifs}
 use Rattle.text_printing.specs.Writing.{hexDigit}
 use borrow.Author.Needs.{needs}
 use Rattle.text_printing.proofs.hex_digit.Statement.{statement}
 use Rattle.text_printing.proofs.hex_digit.Tie as tie
-use Rattle.text_printing.proofs.hex_digit.Reads as reads
-use Rattle.text_printing.proofs.hex_digit.Lts as lts
 
 add-result : tie.Need-add-result
 add-result c = search needs

@@ -1,10 +1,9 @@
+-- Drafted by tools/draft.py: nothing here was written by hand.
 use Rattle.lighting.proofs.Choosing.{ifs}
 use Rattle.text_reading.specs.Reading.{bytePair}
 use borrow.Author.Needs.{needs}
 use Rattle.text_reading.proofs.byte_pair.Statement.{statement}
 use Rattle.text_reading.proofs.byte_pair.Tie as tie
-use Rattle.text_reading.proofs.byte_pair.Reads as reads
-use Rattle.text_reading.proofs.byte_pair.Lts as lts
 
 mul-result : tie.Need-mul-result
 mul-result c = search needs

@@ -1,12 +1,10 @@
+-- Drafted by tools/draft.py: nothing here was written by hand.
 use Rattle.lighting.proofs.Choosing.{ifs}
 use Rattle.text_reading.proofs.Laws.{lineOf-on}
 use Rattle.text_reading.specs.Reading.{lineOf}
 use borrow.Author.Needs.{needs}
 use Rattle.text_reading.proofs.line_of.Statement.{statement}
 use Rattle.text_reading.proofs.line_of.Tie as tie
-use Rattle.text_reading.proofs.line_of.Reads as reads
-use Rattle.text_reading.proofs.line_of.Lts as lts
-use Rattle.text_reading.proofs.count_line.Reads as count-line-reads
 
 enum-told : tie.Need-enum-told
 enum-told c = search needs
@@ -85,28 +83,4 @@ unfolding lineOf
 returns-10 c = search (needs, ifs, lineOf-on)
 
 pub line-of-spec : {M : Type 1} → statement M
-line-of-spec =
-    tie.close
-    (tie.spec
-    enum-told
-    enum-told-2
-    enum-told-3
-    enum-told-4
-    enum-known-h
-    count-line-requires
-    enum-known-h-2
-    count-line-requires-2
-    enum-told-5
-    enum-told-6
-    enum-told-7
-    enum-known-h-3
-    returns
-    returns-2
-    returns-3
-    returns-4
-    returns-5
-    returns-6
-    returns-7
-    returns-8
-    returns-9
-    returns-10)
+line-of-spec = tie.close (tie.spec enum-told enum-told-2 enum-told-3 enum-told-4 enum-known-h count-line-requires enum-known-h-2 count-line-requires-2 enum-told-5 enum-told-6 enum-told-7 enum-known-h-3 returns returns-2 returns-3 returns-4 returns-5 returns-6 returns-7 returns-8 returns-9 returns-10)

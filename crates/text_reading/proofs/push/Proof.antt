@@ -1,10 +1,9 @@
+-- Drafted by tools/draft.py: nothing here was written by hand.
 use Rattle.lighting.proofs.Choosing.{ifs}
 use Rattle.text_reading.specs.Reading.{pushed}
 use borrow.Author.Needs.{needs}
 use Rattle.text_reading.proofs.push.Statement.{statement}
 use Rattle.text_reading.proofs.push.Tie as tie
-use Rattle.text_reading.proofs.push.Reads as reads
-use Rattle.text_reading.proofs.push.Lts as lts
 
 array-write-bytes : tie.Need-array-write-bytes
 array-write-bytes c = search needs

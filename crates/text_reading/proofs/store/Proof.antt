@@ -1,12 +1,10 @@
+-- Drafted by tools/draft.py: nothing here was written by hand.
 use Rattle.lighting.proofs.Choosing.{ifs}
 use Rattle.text_reading.proofs.Laws.{storedBy-on}
 use Rattle.text_reading.specs.Reading.{storedBy}
 use borrow.Author.Needs.{needs}
 use Rattle.text_reading.proofs.store.Statement.{statement}
 use Rattle.text_reading.proofs.store.Tie as tie
-use Rattle.text_reading.proofs.store.Reads as reads
-use Rattle.text_reading.proofs.store.Lts as lts
-use Rattle.text_reading.proofs.join.Reads as join-reads
 
 enum-told : tie.Need-enum-told
 enum-told c = search needs
@@ -86,28 +84,4 @@ unfolding storedBy
 returns-11 c = search (needs, ifs, storedBy-on)
 
 pub store-spec : {M : Type 1} → statement M
-store-spec =
-    tie.close
-    (tie.spec
-    enum-told
-    enum-told-2
-    enum-told-3
-    enum-told-4
-    enum-told-5
-    enum-told-6
-    enum-told-7
-    enum-known-h
-    join-requires
-    enum-told-8
-    enum-told-9
-    returns
-    returns-2
-    returns-3
-    returns-4
-    returns-5
-    returns-6
-    returns-7
-    returns-8
-    returns-9
-    returns-10
-    returns-11)
+store-spec = tie.close (tie.spec enum-told enum-told-2 enum-told-3 enum-told-4 enum-told-5 enum-told-6 enum-told-7 enum-known-h join-requires enum-told-8 enum-told-9 returns returns-2 returns-3 returns-4 returns-5 returns-6 returns-7 returns-8 returns-9 returns-10 returns-11)

@@ -1,11 +1,8 @@
+-- Drafted by tools/draft.py: nothing here was written by hand.
 use Rattle.lighting.specs.Paper.Rows.{meets}
 use borrow.Author.Needs.{needs}
 use Rattle.number_ranges.proofs.rows.fits.Statement.{statement}
 use Rattle.number_ranges.proofs.rows.fits.Tie as tie
-use Rattle.number_ranges.proofs.rows.fits.Reads as reads
-use Rattle.number_ranges.proofs.rows.fits.Lts as lts
-use Rattle.number_ranges.proofs.rows.is_met.Reads as is-met-reads
-use Rattle.number_ranges.proofs.rows.row_of.Reads as row-of-reads
 
 row-of-requires : tie.Need-row-of-requires
 row-of-requires c κs = search needs

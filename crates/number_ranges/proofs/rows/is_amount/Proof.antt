@@ -1,11 +1,8 @@
+-- Drafted by tools/draft.py: nothing here was written by hand.
 use Rattle.lighting.specs.Paper.Rows.{isAmount}
 use borrow.Author.Needs.{needs}
 use Rattle.number_ranges.proofs.rows.is_amount.Statement.{statement}
 use Rattle.number_ranges.proofs.rows.is_amount.Tie as tie
-use Rattle.number_ranges.proofs.rows.is_amount.Reads as reads
-use Rattle.number_ranges.proofs.rows.is_amount.Lts as lts
-use Rattle.number_level.proofs.amount_of_real.Reads as amount-of-real-reads
-use Rattle.number_level.proofs.in_range.Reads as in-range-reads
 
 amount-of-real-requires : tie.Need-amount-of-real-requires
 amount-of-real-requires c κs = search needs

@@ -1,11 +1,8 @@
+-- Drafted by tools/draft.py: nothing here was written by hand.
 use Rattle.lighting.specs.Paper.Rows.{isAmount}
 use borrow.Author.Needs.{needs}
 use Rattle.number_ranges.proofs.rows.is_amount_pattern.Statement.{statement}
 use Rattle.number_ranges.proofs.rows.is_amount_pattern.Tie as tie
-use Rattle.number_ranges.proofs.rows.is_amount_pattern.Reads as reads
-use Rattle.number_ranges.proofs.rows.is_amount_pattern.Lts as lts
-use Rattle.number_level.proofs.real_from.Reads as real-from-reads
-use Rattle.number_ranges.proofs.rows.is_amount.Reads as is-amount-reads
 
 real-from-requires : tie.Need-real-from-requires
 real-from-requires c κs = search needs

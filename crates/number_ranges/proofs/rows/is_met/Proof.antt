@@ -1,15 +1,10 @@
+-- Drafted by tools/draft.py: nothing here was written by hand.
 use Rattle.lighting.proofs.Choosing.{ifs}
 use Rattle.lighting.proofs.Laws.{meets-on}
 use Rattle.lighting.specs.Paper.Rows.{meets}
 use borrow.Author.Needs.{needs}
 use Rattle.number_ranges.proofs.rows.is_met.Statement.{statement}
 use Rattle.number_ranges.proofs.rows.is_met.Tie as tie
-use Rattle.number_ranges.proofs.rows.is_met.Reads as reads
-use Rattle.number_ranges.proofs.rows.is_met.Lts as lts
-use Rattle.number_ranges.proofs.is_level.Reads as is-level-reads
-use Rattle.number_ranges.proofs.is_slot.Reads as is-slot-reads
-use Rattle.number_ranges.proofs.is_within.Reads as is-within-reads
-use Rattle.number_ranges.proofs.rows.is_amount_pattern.Reads as is-amount-pattern-reads
 
 enum-told : tie.Need-enum-told
 enum-told c = search needs
@@ -69,23 +64,4 @@ unfolding meets
 returns-6 c = search (needs, ifs, meets-on)
 
 pub is-met-spec : {M : Type 1} → statement M
-is-met-spec =
-    tie.close
-    (tie.spec
-    enum-told
-    is-level-requires
-    enum-told-2
-    is-within-requires
-    enum-told-3
-    is-amount-pattern-requires
-    enum-known-row
-    is-within-requires-2
-    enum-told-4
-    is-slot-requires
-    enum-told-5
-    returns
-    returns-2
-    returns-3
-    returns-4
-    returns-5
-    returns-6)
+is-met-spec = tie.close (tie.spec enum-told is-level-requires enum-told-2 is-within-requires enum-told-3 is-amount-pattern-requires enum-known-row is-within-requires-2 enum-told-4 is-slot-requires enum-told-5 returns returns-2 returns-3 returns-4 returns-5 returns-6)

@@ -1,12 +1,10 @@
+-- Drafted by tools/draft.py: nothing here was written by hand.
 use Rattle.lighting.proofs.Choosing.{ifs}
 use Rattle.lighting.proofs.Laws.{meetsReal-on}
 use Rattle.lighting.specs.Paper.Rows.{meetsReal}
 use borrow.Author.Needs.{needs}
 use Rattle.number_ranges.proofs.rows.is_met_real.Statement.{statement}
 use Rattle.number_ranges.proofs.rows.is_met_real.Tie as tie
-use Rattle.number_ranges.proofs.rows.is_met_real.Reads as reads
-use Rattle.number_ranges.proofs.rows.is_met_real.Lts as lts
-use Rattle.number_ranges.proofs.rows.is_amount.Reads as is-amount-reads
 
 enum-told : tie.Need-enum-told
 enum-told c = search needs
@@ -54,19 +52,4 @@ unfolding meetsReal
 returns-6 c = search (needs, ifs, meetsReal-on)
 
 pub is-met-real-spec : {M : Type 1} → statement M
-is-met-real-spec =
-    tie.close
-    (tie.spec
-    enum-told
-    enum-told-2
-    enum-told-3
-    is-amount-requires
-    enum-told-4
-    enum-told-5
-    enum-told-6
-    returns
-    returns-2
-    returns-3
-    returns-4
-    returns-5
-    returns-6)
+is-met-real-spec = tie.close (tie.spec enum-told enum-told-2 enum-told-3 is-amount-requires enum-told-4 enum-told-5 enum-told-6 returns returns-2 returns-3 returns-4 returns-5 returns-6)

@@ -1,11 +1,10 @@
+-- Drafted by tools/draft.py: nothing here was written by hand.
 use Rattle.lighting.proofs.Choosing.{ifs}
 use Rattle.lighting.proofs.Laws.{endMovement-on}
 use Rattle.lighting.specs.Paper.Properties.{endMovement}
 use borrow.Author.Needs.{needs}
 use Rattle.property_write.proofs.settings.end_movement.Statement.{statement}
 use Rattle.property_write.proofs.settings.end_movement.Tie as tie
-use Rattle.property_write.proofs.settings.end_movement.Reads as reads
-use Rattle.property_write.proofs.settings.end_movement.Lts as lts
 
 enum-told : tie.Need-enum-told
 enum-told c = search needs

@@ -1,10 +1,9 @@
-use borrow.Author.Needs.{needs}
+-- Drafted by tools/draft.py: nothing here was written by hand.
 use Rattle.lighting.proofs.Choosing.{ifs}
 use Rattle.lighting.specs.Paper.Properties.{minOverMax}
+use borrow.Author.Needs.{needs}
 use Rattle.property_write.proofs.settings.min_over_max.Statement.{statement}
 use Rattle.property_write.proofs.settings.min_over_max.Tie as tie
-use Rattle.property_write.proofs.settings.min_over_max.Reads as reads
-use Rattle.property_write.proofs.settings.min_over_max.Lts as lts
 
 returns : tie.Need-returns
 unfolding minOverMax

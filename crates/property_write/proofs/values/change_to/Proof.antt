@@ -1,11 +1,10 @@
+-- Drafted by tools/draft.py: nothing here was written by hand.
 use Rattle.lighting.proofs.Choosing.{ifs}
 use Rattle.lighting.proofs.Laws.{changeTo-on}
 use Rattle.lighting.specs.Paper.Properties.{changeTo}
 use borrow.Author.Needs.{needs}
 use Rattle.property_write.proofs.values.change_to.Statement.{statement}
 use Rattle.property_write.proofs.values.change_to.Tie as tie
-use Rattle.property_write.proofs.values.change_to.Reads as reads
-use Rattle.property_write.proofs.values.change_to.Lts as lts
 
 enum-known-v : tie.Need-enum-known-v
 enum-known-v c = search needs

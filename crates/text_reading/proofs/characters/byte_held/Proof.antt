@@ -1,12 +1,9 @@
+-- Drafted by tools/draft.py: nothing here was written by hand.
 use Rattle.lighting.proofs.Choosing.{ifs}
 use Rattle.text_reading.specs.Reading.{byteHeld}
 use borrow.Author.Needs.{needs}
 use Rattle.text_reading.proofs.characters.byte_held.Statement.{statement}
 use Rattle.text_reading.proofs.characters.byte_held.Tie as tie
-use Rattle.text_reading.proofs.characters.byte_held.Reads as reads
-use Rattle.text_reading.proofs.characters.byte_held.Lts as lts
-use Rattle.text_reading.proofs.characters.digit_held.Reads as digit-held-reads
-use Rattle.text_reading.proofs.characters.is_blank.Reads as is-blank-reads
 
 is-blank-requires : tie.Need-is-blank-requires
 is-blank-requires c κs = search needs

@@ -1,10 +1,8 @@
+-- Drafted by tools/draft.py: nothing here was written by hand.
 use Rattle.text_reading.specs.Reading.{grownHeld}
 use borrow.Author.Needs.{needs}
 use Rattle.text_reading.proofs.characters.grown_held.Statement.{statement}
 use Rattle.text_reading.proofs.characters.grown_held.Tie as tie
-use Rattle.text_reading.proofs.characters.grown_held.Reads as reads
-use Rattle.text_reading.proofs.characters.grown_held.Lts as lts
-use Rattle.text_reading.proofs.characters.grown.Reads as grown-reads
 
 grown-requires : tie.Need-grown-requires
 grown-requires c κs = search needs

@@ -1,11 +1,9 @@
+-- Drafted by tools/draft.py: nothing here was written by hand.
 use Rattle.lighting.proofs.Choosing.{ifs}
 use Rattle.text_reading.specs.Reading.{lettered}
 use borrow.Author.Needs.{needs}
 use Rattle.text_reading.proofs.characters.lettered.Statement.{statement}
 use Rattle.text_reading.proofs.characters.lettered.Tie as tie
-use Rattle.text_reading.proofs.characters.lettered.Reads as reads
-use Rattle.text_reading.proofs.characters.lettered.Lts as lts
-use Rattle.text_reading.proofs.characters.is_blank.Reads as is-blank-reads
 
 add-t8 : tie.Need-add-t8
 add-t8 c = search needs

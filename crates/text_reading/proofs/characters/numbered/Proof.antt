@@ -1,12 +1,9 @@
+-- Drafted by tools/draft.py: nothing here was written by hand.
 use Rattle.lighting.proofs.Choosing.{ifs}
 use Rattle.text_reading.specs.Reading.{numbered}
 use borrow.Author.Needs.{needs}
 use Rattle.text_reading.proofs.characters.numbered.Statement.{statement}
 use Rattle.text_reading.proofs.characters.numbered.Tie as tie
-use Rattle.text_reading.proofs.characters.numbered.Reads as reads
-use Rattle.text_reading.proofs.characters.numbered.Lts as lts
-use Rattle.text_reading.proofs.characters.grown_held.Reads as grown-held-reads
-use Rattle.text_reading.proofs.characters.is_blank.Reads as is-blank-reads
 
 grown-held-requires : tie.Need-grown-held-requires
 grown-held-requires c κs = search needs
@@ -27,5 +24,4 @@ unfolding numbered
 returns-3 c = search (needs, ifs)
 
 pub numbered-spec : {M : Type 1} → statement M
-numbered-spec =
-    tie.close (tie.spec grown-held-requires is-blank-requires returns returns-2 returns-3)
+numbered-spec = tie.close (tie.spec grown-held-requires is-blank-requires returns returns-2 returns-3)

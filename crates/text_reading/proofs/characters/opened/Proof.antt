@@ -1,12 +1,9 @@
+-- Drafted by tools/draft.py: nothing here was written by hand.
 use Rattle.lighting.proofs.Choosing.{ifs}
 use Rattle.text_reading.specs.Reading.{opened}
 use borrow.Author.Needs.{needs}
 use Rattle.text_reading.proofs.characters.opened.Statement.{statement}
 use Rattle.text_reading.proofs.characters.opened.Tie as tie
-use Rattle.text_reading.proofs.characters.opened.Reads as reads
-use Rattle.text_reading.proofs.characters.opened.Lts as lts
-use Rattle.text_reading.proofs.characters.digit_held.Reads as digit-held-reads
-use Rattle.text_reading.proofs.characters.is_blank.Reads as is-blank-reads
 
 is-blank-requires : tie.Need-is-blank-requires
 is-blank-requires c κs = search needs
@@ -39,14 +36,4 @@ unfolding opened
 returns-6 c = search (needs, ifs)
 
 pub opened-spec : {M : Type 1} → statement M
-opened-spec =
-    tie.close
-    (tie.spec
-    is-blank-requires
-    digit-held-requires
-    returns
-    returns-2
-    returns-3
-    returns-4
-    returns-5
-    returns-6)
+opened-spec = tie.close (tie.spec is-blank-requires digit-held-requires returns returns-2 returns-3 returns-4 returns-5 returns-6)

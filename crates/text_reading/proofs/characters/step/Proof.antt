@@ -1,19 +1,10 @@
+-- Drafted by tools/draft.py: nothing here was written by hand.
 use Rattle.lighting.proofs.Choosing.{ifs}
 use Rattle.text_reading.proofs.Laws.{step-on}
 use Rattle.text_reading.specs.Reading.{step}
 use borrow.Author.Needs.{needs}
 use Rattle.text_reading.proofs.characters.step.Statement.{statement}
 use Rattle.text_reading.proofs.characters.step.Tie as tie
-use Rattle.text_reading.proofs.characters.step.Reads as reads
-use Rattle.text_reading.proofs.characters.step.Lts as lts
-use Rattle.text_reading.proofs.characters.byte_held.Reads as byte-held-reads
-use Rattle.text_reading.proofs.characters.dashed.Reads as dashed-reads
-use Rattle.text_reading.proofs.characters.gapped.Reads as gapped-reads
-use Rattle.text_reading.proofs.characters.half_held.Reads as half-held-reads
-use Rattle.text_reading.proofs.characters.numbered.Reads as numbered-reads
-use Rattle.text_reading.proofs.characters.opened.Reads as opened-reads
-use Rattle.text_reading.proofs.characters.spelled.Reads as spelled-reads
-use Rattle.text_reading.proofs.characters.trailed.Reads as trailed-reads
 
 enum-told : tie.Need-enum-told
 enum-told c = search needs
@@ -110,34 +101,4 @@ unfolding step
 returns-10 c = search (needs, ifs, step-on)
 
 pub step-spec : {M : Type 1} → statement M
-step-spec =
-    tie.close
-    (tie.spec
-    enum-told
-    opened-requires
-    enum-told-2
-    enum-known-h
-    spelled-requires
-    enum-told-3
-    gapped-requires
-    enum-known-h-2
-    numbered-requires
-    enum-known-h-3
-    trailed-requires
-    enum-told-4
-    byte-held-requires
-    enum-told-5
-    half-held-requires
-    enum-told-6
-    dashed-requires
-    enum-told-7
-    returns
-    returns-2
-    returns-3
-    returns-4
-    returns-5
-    returns-6
-    returns-7
-    returns-8
-    returns-9
-    returns-10)
+step-spec = tie.close (tie.spec enum-told opened-requires enum-told-2 enum-known-h spelled-requires enum-told-3 gapped-requires enum-known-h-2 numbered-requires enum-known-h-3 trailed-requires enum-told-4 byte-held-requires enum-told-5 half-held-requires enum-told-6 dashed-requires enum-told-7 returns returns-2 returns-3 returns-4 returns-5 returns-6 returns-7 returns-8 returns-9 returns-10)
