@@ -30,7 +30,7 @@ def lines(text):
 
 
 def folder(path):
-    files = sorted(glob.glob(path + '/*.antt'))
+    files = sorted(glob.glob(path + "/*.antt"))
     return len(files), sum(lines(read(f)) for f in files)
 
 
