@@ -13,7 +13,8 @@ use Rattle.lighting.specs.Paper.Slots.{slot6, Slots, isLive, winner, put
 use Rattle.lighting.specs.Paper.Value.{clampLit, presentValue, progressValue}
 use Rattle.lighting.specs.Paper.Rows.{rowOf}
 use Rattle.lighting.specs.declared.Property.the-variants.{FadeTime}
-use Rattle.lighting.specs.Paper.Commands.{withoutWarning, activityWithoutWarning, replaced, placed, movement, distance, rampLength, target, fadedOver, fadedTo, rampedAt, rampedTo, jumped, wentTo, stepUpFrom, stepDownFrom, steppedUp, steppedDown, raised, halted, stopped, relinquished, effect, timed, withCommand, commandedFrom, commanded}
+use Rattle.lighting.specs.Paper.Commands.{withoutWarning, activityWithoutWarning, replaced, placed, movement, distance, rampLength, target, fadedOver, fadedTo, rampedAt, rampedTo, jumped, wentTo, stepUpFrom, stepDownFrom, steppedUp, steppedDown, raised, halted, stopped, relinquished, effect, timed, commandedFrom, commanded}
+use Rattle.lighting.specs.Paper.Record.{withCommand}
 use Rattle.lighting.specs.declared.Settings.{Settings}
 use Rattle.lighting.specs.declared.Pace.{Pace}
 use Rattle.lighting.specs.declared.Pace.the-variants.{Fade, Ramp}

@@ -13,7 +13,8 @@ use Rattle.lighting.specs.Paper.Level.{levelOf, amountOf}
 use Rattle.lighting.specs.Paper.Field.{byteAt}
 use Rattle.lighting.specs.Paper.Operations.{operationNumber, fieldsOf}
 use Rattle.lighting.specs.Paper.Passing.{afterEvents}
-use Rattle.lighting.specs.Paper.Commands.{withCommand, commandedFrom, commanded}
+use Rattle.lighting.specs.Paper.Record.{withCommand}
+use Rattle.lighting.specs.Paper.Commands.{commandedFrom, commanded}
 use Rattle.lighting.specs.Paper.Rows.{rowOf, within, meets}
 use Rattle.lighting.specs.Paper.Properties.{readProperty}
 use Rattle.lighting.specs.Paper.Acting.{done, acted}

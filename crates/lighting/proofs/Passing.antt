@@ -24,7 +24,8 @@ use Rattle.lighting.specs.declared.Output.{Output}
 use Rattle.lighting.specs.Paper.Slots.{Slots}
 use Rattle.lighting.specs.Paper.Value.{lit}
 use Rattle.lighting.specs.Engine.Advance.{greatestCount, withBurnedSaturating, sooner, soonest, due, eventStep, eventSteps, advance}
-use Rattle.lighting.specs.Paper.Passing.{withBurning, litMilliseconds, withBurned, timerDue, phaseEnd, activityDue, dueMoments, isDue, timerAt, expired, endMovementOf, endMovementBy, endMovementOnExpiry, delayed, nextPhase, nextActivity, activityAt, slotsAt, afterEvents, fire, tick, ticks}
+use Rattle.lighting.specs.Paper.Record.{withBurning}
+use Rattle.lighting.specs.Paper.Passing.{litMilliseconds, withBurned, timerDue, phaseEnd, activityDue, dueMoments, isDue, timerAt, expired, endMovementOf, endMovementBy, endMovementOnExpiry, delayed, nextPhase, nextActivity, activityAt, slotsAt, afterEvents, fire, tick, ticks}
 
 -- every due moment is after t
 abbrev pub MomentAfter : ℕ → Moment → Type 0

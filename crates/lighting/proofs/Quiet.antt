@@ -5,7 +5,8 @@ use Prim.Native.Nat.{ℕ, zero, suc, _+_, _-_, _≤_, _<_, min}
 use native.Mathlib.Nat.{sub-self}
 use native.Mathlib.Omega.{arith}
 use Rattle.lighting.specs.Engine.Advance.{greatestCount, withBurnedSaturating, eventStep, eventSteps, advance, later}
-use Rattle.lighting.specs.Paper.Passing.{withBurning, litMilliseconds}
+use Rattle.lighting.specs.Paper.Record.{withBurning}
+use Rattle.lighting.specs.Paper.Passing.{litMilliseconds}
 use Rattle.lighting.specs.declared.Output.{Output}
 use Rattle.lighting.proofs.Split.{le-of}
 use Rattle.lighting.proofs.Passing.{After, quiet, litMilliseconds-le, before-due, due-here}

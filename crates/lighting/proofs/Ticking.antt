@@ -20,7 +20,8 @@ use Rattle.lighting.specs.declared.Output.{Output}
 use Rattle.lighting.specs.Paper.Slots.{slot6, Slots, isLive, emptied}
 use Rattle.lighting.proofs.Winner.{winner-empty, winningLevel-empty, six-kept, six-set}
 use Rattle.lighting.specs.Paper.Value.{presentValue}
-use Rattle.lighting.specs.Paper.Passing.{withBurning, withBurned, timerDue, phaseEnd, activityDue, isDue, timerAt, emptiedBy, expired, endMovementOf, endMovementBy, endMovementOnExpiry, delayed, nextPhase, nextActivity, activityAt, phaseSlots, nextSlots, slotsAt, afterEvents, fire, tick, ticks}
+use Rattle.lighting.specs.Paper.Record.{withBurning}
+use Rattle.lighting.specs.Paper.Passing.{withBurned, timerDue, phaseEnd, activityDue, isDue, timerAt, emptiedBy, expired, endMovementOf, endMovementBy, endMovementOnExpiry, delayed, nextPhase, nextActivity, activityAt, phaseSlots, nextSlots, slotsAt, afterEvents, fire, tick, ticks}
 use Rattle.lighting.specs.Engine.Advance.{greatestCount, advance}
 use Rattle.lighting.proofs.Passing.{litMilliseconds-le, advance-ticks}
 use Rattle.lighting.proofs.Facts.{IsLevel, Within, Slot, Filled, Moves, Acts, Timed, Sound}

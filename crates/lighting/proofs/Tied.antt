@@ -23,8 +23,8 @@ use Rattle.lighting.specs.Engine.Advance.{greatestCount, advance}
 use Rattle.lighting.specs.Paper.Passing.{timerDue, activityDue, ticks}
 use Rattle.lighting.proofs.Passing.{advance-ticks, Calm, MomentAfter}
 use Rattle.lighting.specs.Paper.Parameters.{document01}
-use Rattle.lighting.specs.Paper.Rows.{within, isSlot, meets}
-use Rattle.lighting.specs.Paper.Rules.{isLevel, levelsSound, timesSound, realsSound, settingsSound, slotSound, slotsSoundFrom, spanSound, movementSound, warningBy, warningSound, activityBy, activitySound, timerSound, sound}
+use Rattle.lighting.specs.Paper.Rows.{within, isSlot, meets, isLevel}
+use Rattle.lighting.specs.Paper.Rules.{levelsSound, timesSound, realsSound, settingsSound, slotSound, slotsSoundFrom, spanSound, movementSound, warningBy, warningSound, activityBy, activitySound, timerSound, sound}
 use Rattle.lighting.specs.declared.Range.{Range}
 use Rattle.lighting.specs.declared.Range.the-variants.{Percent, Limit, Amount, Whole, Priority, ReadOnly}
 use Rattle.lighting.proofs.Facts.{IsLevel, Within, Slot, Meets, SettingsInRange, SlotLevel, Filled, Moves, Acts, Timed, Sound}

@@ -18,7 +18,8 @@ use Rattle.lighting.specs.Paper.Value.{presentValue}
 use Rattle.lighting.proofs.Facts.{IsLevel, Within, Slot, SlotLevel, Filled, Moves, Acts, Sound}
 use Rattle.lighting.proofs.Levels.{level-zero, present-level, put-filled}
 use Rattle.lighting.specs.Paper.Passing.{phaseEnd}
-use Rattle.lighting.specs.Paper.Writing.{withEffect, endMovementUnlessAbove, stored, blinks, warnsBy, warns, firstLevel, firstPhase, warningFrom, warnedBy, warned, endedEmpty, endedStored, writtenWarned, writtenZero, writtenCalm, writtenBy, written, activityRelinquished, slotRelinquished}
+use Rattle.lighting.specs.Paper.Record.{withEffect}
+use Rattle.lighting.specs.Paper.Writing.{endMovementUnlessAbove, stored, blinks, warnsBy, warns, firstLevel, firstPhase, warningFrom, warnedBy, warned, endedEmpty, endedStored, writtenWarned, writtenZero, writtenCalm, writtenBy, written, activityRelinquished, slotRelinquished}
 
 -- all that a change of slots and activity has to keep
 effect-sound : (t : ℕ) (o : Output) (s : Slots) (a : Activity) → Sound t o → Filled s → Acts t (o .settings) s a → Sound t (withEffect o s a)

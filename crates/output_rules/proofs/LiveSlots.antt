@@ -14,7 +14,8 @@ use lib.Pow.{shr-shr}
 use Rattle.lighting.specs.Paper.Choice.{if_then_else_, _also_, allFrom}
 use Rattle.lighting.specs.Paper.Slots.{isLive}
 use Rattle.lighting.specs.declared.Slots.{Slots}
-use Rattle.lighting.specs.Paper.Rules.{isLevel, slotSound, slotsSoundFrom}
+use Rattle.lighting.specs.Paper.Rows.{isLevel}
+use Rattle.lighting.specs.Paper.Rules.{slotSound, slotsSoundFrom}
 use Rattle.lighting.proofs.Scan.{all-each, each-all}
 use Rattle.lighting.proofs.Split.{by-bool, by-eq, eqb-hit}
 

@@ -4,7 +4,8 @@ use Prim.Native.Nat.{ℕ, _+_, _*_, _/_, _≤_, _<_, min}
 use native.Mathlib.Omega.{arith}
 use Rattle.lighting.specs.Paper.Choice.{if_then_else_}
 use Rattle.lighting.specs.Paper.Value.{presentValue, lit}
-use Rattle.lighting.specs.Paper.Passing.{withBurning, litMilliseconds, withBurned, afterEvents, fire, tick}
+use Rattle.lighting.specs.Paper.Record.{withBurning}
+use Rattle.lighting.specs.Paper.Passing.{litMilliseconds, withBurned, afterEvents, fire, tick}
 use Rattle.lighting.specs.Paper.Properties.{numbered, propertyOf, elapsedActive, readProperty}
 use Rattle.lighting.specs.Paper.Acting.{unchanged, acted}
 use Rattle.lighting.specs.declared.Answer.the-variants.{Value}

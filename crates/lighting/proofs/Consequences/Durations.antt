@@ -10,11 +10,12 @@ use lib.ListN.{length}
 use Rattle.lighting.specs.Paper.Choice.{if_then_else_}
 use Rattle.lighting.specs.Paper.Parameters.{document01}
 use Rattle.lighting.specs.Paper.Slots.{Slots, slot, isLive, put, emptied}
-use Rattle.lighting.specs.Paper.Passing.{withBurning, withBurned, timerDue, activityDue, isDue, timerAt, emptiedBy, expired, endMovementOf, endMovementBy, endMovementOnExpiry, nextActivity, activityAt, phaseSlots, nextSlots, slotsAt, afterEvents, fire, tick, ticks}
-use Rattle.lighting.specs.Paper.Writing.{withEffect, stored, warns, warnedBy, warned, endedEmpty, endedStored, writtenWarned, writtenZero, writtenCalm, writtenBy, written, slotRelinquished}
-use Rattle.lighting.specs.Paper.Record.{withSettings}
-use Rattle.lighting.specs.Paper.Properties.{within, settingsWith, changed, minOverMax}
-use Rattle.lighting.specs.Paper.Commands.{timed, withCommand, commandedFrom, commanded}
+use Rattle.lighting.specs.Paper.Record.{withBurning, withEffect, withSettings, withCommand}
+use Rattle.lighting.specs.Paper.Passing.{withBurned, timerDue, activityDue, isDue, timerAt, emptiedBy, expired, endMovementOf, endMovementBy, endMovementOnExpiry, nextActivity, activityAt, phaseSlots, nextSlots, slotsAt, afterEvents, fire, tick, ticks}
+use Rattle.lighting.specs.Paper.Writing.{stored, warns, warnedBy, warned, endedEmpty, endedStored, writtenWarned, writtenZero, writtenCalm, writtenBy, written, slotRelinquished}
+use Rattle.lighting.specs.Paper.Rows.{within}
+use Rattle.lighting.specs.Paper.Properties.{settingsWith, changed, minOverMax}
+use Rattle.lighting.specs.Paper.Commands.{timed, commandedFrom, commanded}
 use Rattle.lighting.specs.Paper.Acting.{done, unchanged, changedUnless, acted}
 use Rattle.lighting.specs.Paper.Operations.{fieldsOf}
 use Rattle.lighting.specs.Paper.Frames.{fieldsRefusal, commandWithDuration, commandRequestBy, commandRequest}

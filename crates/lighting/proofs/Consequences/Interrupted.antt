@@ -8,7 +8,8 @@ use native.Mathlib.Omega.{arith}
 use lib.ListN.{length}
 use Rattle.lighting.specs.Paper.Choice.{if_then_else_}
 use Rattle.lighting.specs.Paper.Slots.{slot, isLive, put, emptied}
-use Rattle.lighting.specs.Paper.Writing.{withEffect, endMovementUnlessAbove, endedEmpty, endedStored, writtenWarned, writtenBy, written, activityRelinquished, slotRelinquished}
+use Rattle.lighting.specs.Paper.Record.{withEffect}
+use Rattle.lighting.specs.Paper.Writing.{endMovementUnlessAbove, endedEmpty, endedStored, writtenWarned, writtenBy, written, activityRelinquished, slotRelinquished}
 use Rattle.lighting.specs.declared.Activity.{Activity}
 use Rattle.lighting.specs.declared.Activity.the-variants.{Still, Moving, Warned}
 use Rattle.lighting.specs.declared.Output.{Output}

@@ -12,8 +12,9 @@ use Rattle.lighting.specs.Paper.Choice.{if_then_else_}
 use Rattle.lighting.specs.Paper.Level.{levelUnits, amountUnits}
 use Rattle.lighting.specs.Paper.Slots.{Slots, winner, filled}
 use Rattle.lighting.specs.Paper.Value.{clampLit, presentValue, elapsed, distanceMoved, reachedBy, reached, progressBy, progressValue, inProcess}
-use Rattle.lighting.specs.Paper.Passing.{withBurning, withBurned, activityDue, isDue, nextActivity, activityAt, nextSlots, slotsAt, afterEvents, fire, ticks}
-use Rattle.lighting.specs.Paper.Commands.{withoutWarning, activityWithoutWarning, replaced, placed, movement, distance, rampLength, target, fadedOver, fadedTo, rampedAt, rampedTo, effect, withCommand, commandedFrom, commanded}
+use Rattle.lighting.specs.Paper.Record.{withBurning, withCommand}
+use Rattle.lighting.specs.Paper.Passing.{withBurned, activityDue, isDue, nextActivity, activityAt, nextSlots, slotsAt, afterEvents, fire, ticks}
+use Rattle.lighting.specs.Paper.Commands.{withoutWarning, activityWithoutWarning, replaced, placed, movement, distance, rampLength, target, fadedOver, fadedTo, rampedAt, rampedTo, effect, commandedFrom, commanded}
 use Rattle.lighting.specs.declared.Pace.{Pace}
 use Rattle.lighting.specs.declared.Pace.the-variants.{Fade, Ramp}
 use Rattle.lighting.specs.declared.Movement.{Movement}

@@ -12,7 +12,8 @@ use Rattle.lighting.specs.Paper.Rows.{within}
 use Rattle.lighting.specs.Paper.Passing.{afterEvents}
 use Rattle.lighting.specs.Paper.Operations.{operationNumber, fieldsOf}
 use Rattle.lighting.specs.Paper.Properties.{numbered, propertyOf, realAnswer, realFieldAnswer, timeFieldAnswer, lastDuration, readProperty}
-use Rattle.lighting.specs.Paper.Commands.{withCommand, commandedFrom, commanded}
+use Rattle.lighting.specs.Paper.Record.{withCommand}
+use Rattle.lighting.specs.Paper.Commands.{commandedFrom, commanded}
 use Rattle.lighting.specs.Paper.Acting.{done, unchanged, acted}
 use Rattle.lighting.specs.Paper.Kinds.{kindRow}
 use Rattle.lighting.specs.Paper.Frames.{Bytes, fieldsRefusal, commandWithDuration, commandRequestBy, commandRequest, requestOf}

@@ -8,7 +8,8 @@ use native.Mathlib.Omega.{arith}
 use Rattle.lighting.specs.Paper.Choice.{if_then_else_}
 use Rattle.lighting.specs.Paper.Slots.{slot, isLive}
 use Rattle.lighting.specs.Paper.Value.{clampLit, presentValue}
-use Rattle.lighting.specs.Paper.Writing.{withEffect, endMovementUnlessAbove, stored, warns, writtenZero, writtenCalm, written, activityRelinquished, slotRelinquished}
+use Rattle.lighting.specs.Paper.Record.{withEffect}
+use Rattle.lighting.specs.Paper.Writing.{endMovementUnlessAbove, stored, warns, writtenZero, writtenCalm, written, activityRelinquished, slotRelinquished}
 use Rattle.lighting.specs.declared.Movement.{Movement}
 use Rattle.lighting.specs.declared.Activity.the-variants.{Still, Moving}
 use Rattle.lighting.specs.declared.Duration.{Duration}

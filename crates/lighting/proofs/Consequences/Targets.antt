@@ -11,7 +11,8 @@ use Rattle.lighting.specs.Paper.Level.{levelUnits, amountUnits}
 use Rattle.lighting.specs.Paper.Slots.{Slots, slot, winner, put, filled}
 use Rattle.lighting.specs.Paper.Value.{clampLit, presentValue, progressBy, progressValue, inProcess}
 use Rattle.lighting.specs.Paper.Passing.{endMovementOf}
-use Rattle.lighting.specs.Paper.Commands.{withoutWarning, activityWithoutWarning, replaced, placed, target, fadedOver, fadedTo, rampedAt, rampedTo, jumped, wentTo, stepUpFrom, stepDownFrom, steppedUp, steppedDown, raised, halted, asItIs, stopped, relinquished, effect, withCommand, commandedFrom, commanded}
+use Rattle.lighting.specs.Paper.Commands.{withoutWarning, activityWithoutWarning, replaced, placed, target, fadedOver, fadedTo, rampedAt, rampedTo, jumped, wentTo, stepUpFrom, stepDownFrom, steppedUp, steppedDown, raised, halted, asItIs, stopped, relinquished, effect, commandedFrom, commanded}
+use Rattle.lighting.specs.Paper.Record.{withCommand}
 use Rattle.lighting.specs.declared.Settings.{Settings}
 use Rattle.lighting.specs.declared.Movement.{Movement}
 use Rattle.lighting.specs.declared.Activity.{Activity}

@@ -11,8 +11,9 @@ use lib.ListN.{getD, length}
 use Rattle.lighting.specs.Paper.Choice.{if_then_else_}
 use Rattle.lighting.specs.Paper.Slots.{Slots, slot, slotsOf, winningLevel, firstLive, winner, isLive, put, emptied, filled}
 use Rattle.lighting.specs.Paper.Value.{clampLit, presentValue}
-use Rattle.lighting.specs.Paper.Passing.{withBurning, withBurned, phaseEnd, activityDue, isDue, delayed, nextPhase, nextActivity, activityAt, phaseSlots, nextSlots, slotsAt, afterEvents, fire, ticks}
-use Rattle.lighting.specs.Paper.Writing.{withEffect, zeroOrEmpty, zeroOrEmptyFrom, blinks, zeroOrEmptyAbove, warnsBy, warns, firstLevel, firstPhase, warningFrom, warnedBy, warned, writtenZero, writtenCalm, writtenBy, written}
+use Rattle.lighting.specs.Paper.Record.{withBurning, withEffect}
+use Rattle.lighting.specs.Paper.Passing.{withBurned, phaseEnd, activityDue, isDue, delayed, nextPhase, nextActivity, activityAt, phaseSlots, nextSlots, slotsAt, afterEvents, fire, ticks}
+use Rattle.lighting.specs.Paper.Writing.{zeroOrEmpty, zeroOrEmptyFrom, blinks, zeroOrEmptyAbove, warnsBy, warns, firstLevel, firstPhase, warningFrom, warnedBy, warned, writtenZero, writtenCalm, writtenBy, written}
 use Rattle.lighting.specs.declared.Settings.{Settings}
 use Rattle.lighting.specs.declared.Phase.{Phase}
 use Rattle.lighting.specs.declared.Phase.the-variants.{Blink, Delay}

@@ -6,7 +6,7 @@ use Rattle.lighting.specs.Paper.Choice.{if_then_else_}
 use Rattle.lighting.specs.Paper.Level.{levelUnits, amountUnits}
 use Rattle.lighting.specs.Paper.Slots.{Slots, slot6, winner, emptied, filled}
 use Rattle.lighting.specs.Paper.Value.{clamp, clampLit, progressValue}
-unfoldable pub use Rattle.lighting.specs.Paper.Record.{withCommand}
+use Rattle.lighting.specs.Paper.Record.{withCommand}
 use Rattle.lighting.specs.Paper.Passing.{endMovementOf}
 use Rattle.lighting.specs.declared.Settings.{Settings}
 use Rattle.lighting.specs.declared.Pace.{Pace}

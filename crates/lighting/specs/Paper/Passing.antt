@@ -17,8 +17,7 @@ use Rattle.lighting.specs.declared.Moment.the-variants.{Never, At}
 use Rattle.lighting.specs.declared.Output.{Output}
 use Rattle.lighting.specs.Paper.Slots.{Slots, slot6, emptied, filled}
 use Rattle.lighting.specs.Paper.Value.{lit}
-unfoldable pub use Rattle.lighting.specs.Paper.Record.{withBurning}
-use Rattle.lighting.specs.Paper.Record.{withDue}
+use Rattle.lighting.specs.Paper.Record.{withBurning, withDue}
 
 -- 'burning time gains 1 ms if Present_Value is above zero': of the n milliseconds from a moment on, those in which the output burns.
 -- While nothing falls due these are all or none, wherever they begin (`from`)

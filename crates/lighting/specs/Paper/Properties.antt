@@ -11,8 +11,7 @@ use Rattle.lighting.specs.Paper.Level.{real, bits, readOut, levelOf, lim
 use Rattle.lighting.specs.Paper.Slots.{Slots, isLive, levelAt}
 use Rattle.lighting.specs.Paper.Value.{presentValue, progressValue, inProcess}
 use Rattle.lighting.specs.Paper.Record.{withSettings}
-unfoldable pub use Rattle.lighting.specs.Paper.Rows.{within, isSlot, isPriority}
-use Rattle.lighting.specs.Paper.Rows.{rowOf, isAmount}
+use Rattle.lighting.specs.Paper.Rows.{within, isPriority, rowOf, isAmount}
 use Rattle.lighting.specs.Paper.Operations.{operationNumber, fieldsOf}
 use Rattle.lighting.specs.declared.Settings.{Settings}
 use Rattle.lighting.specs.declared.Activity.{Activity}

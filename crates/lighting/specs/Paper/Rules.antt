@@ -9,8 +9,7 @@ use Rattle.lighting.specs.Paper.Field.{byteAt}
 use Rattle.lighting.specs.Paper.Slots.{Slots, slotCount, slot16, slot6, isLive, winner}
 use Rattle.lighting.specs.Paper.Value.{presentValue}
 use Rattle.lighting.specs.Paper.Passing.{phaseEnd}
-unfoldable pub use Rattle.lighting.specs.Paper.Rows.{isLevel, isAmount}
-use Rattle.lighting.specs.Paper.Rows.{rowOf, within, isSlot, meets, meetsReal}
+use Rattle.lighting.specs.Paper.Rows.{isLevel, rowOf, within, isSlot, meets, meetsReal}
 use Rattle.lighting.specs.Paper.Kinds.{isCall}
 use Rattle.lighting.specs.declared.Property.the-variants.{RelinquishDefault, FadeTime, RampRate, StepIncrement, BlinkTime, BlinkWarnDelay, MinValue, MaxValue, CommandPriority}
 use Rattle.lighting.specs.declared.Settings.{Settings}

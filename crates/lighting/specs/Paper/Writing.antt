@@ -13,7 +13,7 @@ use Rattle.lighting.specs.declared.Activity.the-variants.{Still, Moving,
 use Rattle.lighting.specs.declared.Output.{Output}
 use Rattle.lighting.specs.Paper.Slots.{Slots, slotCount, slot6, isLive, winner, emptied, filled}
 use Rattle.lighting.specs.Paper.Value.{presentValue}
-unfoldable pub use Rattle.lighting.specs.Paper.Record.{withEffect}
+use Rattle.lighting.specs.Paper.Record.{withEffect}
 
 -- 'A movement goes on if P is above its owner's number [..]; else it ends', warnings aside
 unfoldable pub endMovementUnlessAbove : ℕ → Activity → Activity
