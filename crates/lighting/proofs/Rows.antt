@@ -23,6 +23,7 @@ use Rattle.lighting.proofs.Ranges.{level-units, limit-units}
 use Rattle.lighting.proofs.Facts.{Slot, Meets}
 use Rattle.lighting.proofs.Tied.{within-of, slot-of}
 use Rattle.lighting.proofs.RequestInRange.{RequestInRange}
+use Rattle.lighting.specs.Paper.Slots.{slotCount}
 
 -- A WRITE's request is good, by the row
 pub priority-of : (n : ℕ) → isPriority n ≡ true → Slot (n - 1)
@@ -48,7 +49,7 @@ unfolding changeOf
 change-good n x = row-good (rowOf document01 n) n x (λ v m. m)
 
 -- THE NUMBER AND THE TABLE of properties say the same: by its number a property is found again, unless it is a slot past the sixteenth
-by-number : {P : Type 0} (n : Property) → (propertyOf (numberOf n) ≡ n → P) → ((i : ℕ) → 16 ≤ i → n ≡ SlotValue i → P) → P
+by-number : {P : Type 0} (n : Property) → (propertyOf (numberOf n) ≡ n → P) → ((i : ℕ) → slotCount ≤ i → n ≡ SlotValue i → P) → P
 unfolding propertyOf numbered if_then_else_
 by-number RelinquishDefault found past = found refl
 by-number FadeTime found past = found refl
@@ -79,7 +80,7 @@ by-number Unknown found past = found refl
 pub number-kept : (n : Property) → numberOf n < 0x31 → propertyOf (numberOf n) ≡ n
 number-kept n h = by-number n (λ e. e) (λ i l q. absurd (beyond i l (rw q at h)))
   where
-    beyond : (i : ℕ) → 16 ≤ i → numberOf (SlotValue i) < 0x31 → ⊥
+    beyond : (i : ℕ) → slotCount ≤ i → numberOf (SlotValue i) < 0x31 → ⊥
     beyond i l h = omega arith
 
 -- no number past the greatest of the table is a property's

@@ -9,7 +9,7 @@ use lib.Dec.{eqb, ltb}
 use lib.ListN.{length}
 use Rattle.lighting.specs.Paper.Choice.{if_then_else_}
 use Rattle.lighting.specs.Paper.Parameters.{document01}
-use Rattle.lighting.specs.Paper.Slots.{Slots, slot, isLive, put, emptied}
+use Rattle.lighting.specs.Paper.Slots.{slotCount, slot6, Slots, slot, isLive, put, emptied}
 use Rattle.lighting.specs.Paper.Record.{withBurning, withEffect, withSettings, withCommand}
 use Rattle.lighting.specs.Paper.Passing.{withBurned, timerDue, activityDue, isDue, timerAt, emptiedBy, expired, endMovementOf, endMovementBy, endMovementOnExpiry, nextActivity, activityAt, phaseSlots, nextSlots, slotsAt, afterEvents, fire, tick, ticks}
 use Rattle.lighting.specs.Paper.Writing.{stored, warns, warnedBy, warned, endedEmpty, endedStored, writtenWarned, writtenZero, writtenCalm, writtenBy, written, slotRelinquished}
@@ -132,7 +132,7 @@ stays-off (request {t = t} {o = o} r g n l) e = stays-off l (acted-timer t o r n
 abbrev Owned : Activity → Type 0
 Owned Still = Unit {0}
 Owned (Moving m) = Unit {0}
-Owned (Warned w) = w .owner < 16
+Owned (Warned w) = w .owner < slotCount
 
 owned : (t : ℕ) (o : Output) (a : Activity) → Acts t (o .settings) (o .slots) a → Owned a
 owned t o Still h = tt
@@ -146,19 +146,19 @@ endMovementOf-owned q (Moving m) h = by-bool (eqb (m .owner) q) (λ e. rw e tt) 
 endMovementOf-owned q (Warned w) h = h
 
 -- AT ITS MOMENT its slot is empty, whatever a warning does at the same moment
-slots-none : (t q : ℕ) (a : Activity) (s : Slots) → length (s .levels) ≡ 16 → q < 16 → q ≢ 5 → Owned a → slot s q ≡ none → slot (slotsAt t a s) q ≡ none
+slots-none : (t q : ℕ) (a : Activity) (s : Slots) → length (s .levels) ≡ slotCount → q < slotCount → q ≢ slot6 → Owned a → slot s q ≡ none → slot (slotsAt t a s) q ≡ none
 unfolding slotsAt if_then_else_
 slots-none t q a s z k n w h = by-bool (isDue t (activityDue a)) (λ e. rw e (next a w)) (λ e. rw e h)
   where
-    phase : (x : Warning) (p : Phase) → x .owner < 16 → slot (phaseSlots x p s) q ≡ none
+    phase : (x : Warning) (p : Phase) → x .owner < slotCount → slot (phaseSlots x p s) q ≡ none
     phase x Blink l = unfold phaseSlots in
         (by-bool (ltb (x .turn) (x .over))
         (λ e. rw e (slot-other s z 5 q (some (x .level)) (omega arith) (λ p. n (sym p)) ∙ h))
         (λ e. rw e (slot-other s z 5 q none (omega arith) (λ p. n (sym p)) ∙ h)))
     phase x Delay l = unfold phaseSlots in
         (by-eq (x .owner) q
-        (λ p e. rw p (slot-same (emptied s 5) (put-sized s z 5 none) q none k))
-        (λ p e. slot-other (emptied s 5) (put-sized s z 5 none) (x .owner) q none l p ∙ slot-other s z 5 q none (omega arith) (λ r. n (sym r)) ∙ h))
+        (λ p e. rw p (slot-same (emptied s slot6) (put-sized s z 5 none) q none k))
+        (λ p e. slot-other (emptied s slot6) (put-sized s z 5 none) (x .owner) q none l p ∙ slot-other s z 5 q none (omega arith) (λ r. n (sym r)) ∙ h))
 
     next : (b : Activity) → Owned b → slot (nextSlots b s) q ≡ none
     next Still l = unfold nextSlots in h
@@ -191,31 +191,31 @@ expires-other t q o m e f w l =
 abbrev pub untimed : Output → Output
 untimed o = record { settings = o .settings; slots = o .slots; activity = o .activity; timer = Off; burning = o .burning; last = o .last }
 
-put-alike : (s : Slots) → length (s .levels) ≡ 16 → (q j i : ℕ) (x : Option ℕ) → q < 16 → q ≢ j → i < 16
+put-alike : (s : Slots) → length (s .levels) ≡ slotCount → (q j i : ℕ) (x : Option ℕ) → q < slotCount → q ≢ j → i < slotCount
     → slot (put (emptied s q) i x) j ≡ slot (put s i x) j
 put-alike s z q j i x k n w =
     by-eq i j
     (λ p e. rw p (slot-same (emptied s q) (put-sized s z q none) j x (rw p at w) ∙ sym (slot-same s z j x (rw p at w))))
     (λ p e. slot-other (emptied s q) (put-sized s z q none) i j x w p ∙ slot-other s z q j none k n ∙ sym (slot-other s z i j x w p))
 
-slots-alike : (t q j : ℕ) (a : Activity) (s : Slots) → length (s .levels) ≡ 16 → q < 16 → q ≢ j → Owned a
+slots-alike : (t q j : ℕ) (a : Activity) (s : Slots) → length (s .levels) ≡ slotCount → q < slotCount → q ≢ j → Owned a
     → slot (slotsAt t a (emptied s q)) j ≡ slot (slotsAt t a s) j
 unfolding slotsAt if_then_else_
 slots-alike t q j a s z k n w = by-bool (isDue t (activityDue a)) (λ e. rw e (next a w)) (λ e. rw e (slot-other s z q j none k n))
   where
-    phase : (x : Warning) (p : Phase) → x .owner < 16 → slot (phaseSlots x p (emptied s q)) j ≡ slot (phaseSlots x p s) j
+    phase : (x : Warning) (p : Phase) → x .owner < slotCount → slot (phaseSlots x p (emptied s q)) j ≡ slot (phaseSlots x p s) j
     phase x Blink l = unfold phaseSlots in
         (by-bool (ltb (x .turn) (x .over))
         (λ e. rw e (put-alike s z q j 5 (some (x .level)) k n (omega arith)))
         (λ e. rw e (put-alike s z q j 5 none k n (omega arith))))
     phase x Delay l = unfold phaseSlots in
         (by-eq (x .owner) j
-        (λ p e. let i : j < 16 = omega arith in
-        rw p (slot-same (emptied (emptied s q) 5) (put-sized (emptied s q) (put-sized s z q none) 5 none) j none i
-        ∙ sym (slot-same (emptied s 5) (put-sized s z 5 none) j none i)))
-        (λ p e. slot-other (emptied (emptied s q) 5) (put-sized (emptied s q) (put-sized s z q none) 5 none) (x .owner) j none l p
+        (λ p e. let i : j < slotCount = omega arith in
+        rw p (slot-same (emptied (emptied s q) slot6) (put-sized (emptied s q) (put-sized s z q none) 5 none) j none i
+        ∙ sym (slot-same (emptied s slot6) (put-sized s z 5 none) j none i)))
+        (λ p e. slot-other (emptied (emptied s q) slot6) (put-sized (emptied s q) (put-sized s z q none) 5 none) (x .owner) j none l p
         ∙ put-alike s z q j 5 none k n (omega arith)
-        ∙ sym (slot-other (emptied s 5) (put-sized s z 5 none) (x .owner) j none l p)))
+        ∙ sym (slot-other (emptied s slot6) (put-sized s z 5 none) (x .owner) j none l p)))
 
     next : (b : Activity) → Owned b → slot (nextSlots b (emptied s q)) j ≡ slot (nextSlots b s) j
     next Still l = unfold nextSlots in (slot-other s z q j none k n)
@@ -245,7 +245,7 @@ expires-alone t q o h e j n =
         (λ f. rw f))
     endMovementOf-slots d q j (Warned w) = unfold endMovementOf in refl
 
-pub expires-warned : (t q : ℕ) (o : Output) → Sound t o → o .timer ≡ Running q (suc t) → isLive (o .slots) 5 ≡ true
+pub expires-warned : (t q : ℕ) (o : Output) → Sound t o → o .timer ≡ Running q (suc t) → isLive (o .slots) slot6 ≡ true
     → tick t o .activity ≡ tick t (untimed o) .activity
 unfolding tick fire afterEvents withBurned withBurning timerDue isDue endMovementBy endMovementOnExpiry if_then_else_
 expires-warned t q o h e l = rw (e, eqb-hit {a = suc t} {b = suc t} refl) (go (o .activity) (h .activity))
@@ -256,20 +256,20 @@ expires-warned t q o h e l = rw (e, eqb-hit {a = suc t} {b = suc t} refl) (go (o
     go (Warned w) k = unfold endMovementOf in refl
 
 -- AND NOT BEFORE: until then the passing of time changes no slot (a warning's phases aside, during which slot 6 is live)
-calm-slots : (t d : ℕ) (o : Output) (a : Activity) → Acts t (o .settings) (o .slots) a → isLive (o .slots) 5 ≡ false → slotsAt d a (o .slots) ≡ o .slots
+calm-slots : (t d : ℕ) (o : Output) (a : Activity) → Acts t (o .settings) (o .slots) a → isLive (o .slots) slot6 ≡ false → slotsAt d a (o .slots) ≡ o .slots
 unfolding slotsAt nextSlots activityDue isDue if_then_else_
 calm-slots t d o Still h e = refl
 calm-slots t d o (Moving m) h e = moving-slots d m (o .slots)
 calm-slots t d o (Warned w) h e = absurd (true≢false (sym (h .six) ∙ e))
 
-tick-kept : (t : ℕ) (o : Output) → Sound t o → isLive (o .slots) 5 ≡ false → TimerAfter (suc t) (o .timer)
+tick-kept : (t : ℕ) (o : Output) → Sound t o → isLive (o .slots) slot6 ≡ false → TimerAfter (suc t) (o .timer)
     → (tick t o .slots ≡ o .slots) × (tick t o .timer ≡ o .timer)
 unfolding tick fire afterEvents withBurned withBurning
 tick-kept t o h e a =
     rw (expired-quiet (suc t) (o .timer) (o .slots) a, endMovementOnExpiry-quiet (suc t) (o .timer) (o .activity) a)
     (calm-slots t (suc t) o (o .activity) (h .activity) e, timer-quiet (suc t) (o .timer) a)
 
-pub not-before : (n t : ℕ) (o : Output) → Sound t o → isLive (o .slots) 5 ≡ false → TimerAfter (t + n) (o .timer) → ticks n t o .slots ≡ o .slots
+pub not-before : (n t : ℕ) (o : Output) → Sound t o → isLive (o .slots) slot6 ≡ false → TimerAfter (t + n) (o .timer) → ticks n t o .slots ≡ o .slots
 unfolding ticks
 not-before zero t o h e a = refl
 not-before (suc n) t o h e a =

@@ -7,7 +7,7 @@ use Prim.Native.Nat.{ℕ, _<_}
 use native.Mathlib.Omega.{arith}
 use lib.ListN.{length}
 use Rattle.lighting.specs.Paper.Choice.{if_then_else_}
-use Rattle.lighting.specs.Paper.Slots.{slot, isLive, put, emptied}
+use Rattle.lighting.specs.Paper.Slots.{slotCount, slot6, slot, isLive, put, emptied}
 use Rattle.lighting.specs.Paper.Record.{withEffect}
 use Rattle.lighting.specs.Paper.Writing.{endMovementUnlessAbove, endedEmpty, endedStored, writtenWarned, writtenBy, written, activityRelinquished, slotRelinquished}
 use Rattle.lighting.specs.declared.Activity.{Activity}
@@ -20,17 +20,17 @@ use Rattle.lighting.proofs.Consequences.Present.{slot-same, slot-other}
 
 -- what is left: slot 6 is a, slot i is b, every other slot is as it was, and what is under way is w
 pub record Leaves (o o′ : Output) (i : ℕ) (a b : Option ℕ) (w : Activity) : Type 0 where
-  pub six : slot (o′ .slots) 5 ≡ a
+  pub six : slot (o′ .slots) slot6 ≡ a
   pub own : slot (o′ .slots) i ≡ b
-  pub rest : (j : ℕ) → j ≢ 5 → j ≢ i → slot (o′ .slots) j ≡ slot (o .slots) j
+  pub rest : (j : ℕ) → j ≢ slot6 → j ≢ i → slot (o′ .slots) j ≡ slot (o .slots) j
   pub activity : o′ .activity ≡ w
 
 -- slot 6 emptied, then slot i put
-put-leaves : (o : Output) (i : ℕ) (x : Option ℕ) → length (o .slots .levels) ≡ 16 → i < 16 → i ≢ 5
-    → Leaves o (withEffect o (put (emptied (o .slots) 5) i x) Still) i none x Still
+put-leaves : (o : Output) (i : ℕ) (x : Option ℕ) → length (o .slots .levels) ≡ slotCount → i < slotCount → i ≢ slot6
+    → Leaves o (withEffect o (put (emptied (o .slots) slot6) i x) Still) i none x Still
 unfolding withEffect
 put-leaves o i x z k n =
-    let s = emptied (o .slots) 5 in
+    let s = emptied (o .slots) slot6 in
     let q = put-sized (o .slots) z 5 none in
     record {
       six = slot-other s q i 5 x k n ∙ slot-same (o .slots) z 5 none (omega arith);
@@ -40,14 +40,14 @@ put-leaves o i x z k n =
     }
 
 -- 'During a warning'
-warned-by : (t : ℕ) (o : Output) (i v : ℕ) (a : Activity) → Acts t (o .settings) (o .slots) a → isLive (o .slots) 5 ≡ true
+warned-by : (t : ℕ) (o : Output) (i v : ℕ) (a : Activity) → Acts t (o .settings) (o .slots) a → isLive (o .slots) slot6 ≡ true
     → writtenBy t o i v a ≡ writtenWarned o i v
 unfolding writtenBy
 warned-by t o i v Still h e = absurd (false≢true (sym h ∙ e))
 warned-by t o i v (Moving m) h e = absurd (false≢true (sym (h .six) ∙ e))
 warned-by t o i v (Warned w) h e = refl
 
-module _ (t : ℕ) (o : Output) (h : Sound t o) (runs : isLive (o .slots) 5 ≡ true) (i : ℕ) (k : Slot i) where
+module _ (t : ℕ) (o : Output) (h : Sound t o) (runs : isLive (o .slots) slot6 ≡ true) (i : ℕ) (k : Slot i) where
   -- 'kind 02 of zero at P above 6 empties slots 6 and P'
   pub zero-above : 5 < i → Leaves o (written t o i 0) i none none Still
   unfolding written writtenWarned endedEmpty if_then_else_
@@ -70,7 +70,7 @@ module _ (t : ℕ) (o : Output) (h : Sound t o) (runs : isLive (o .slots) 5 ≡ 
       (put-leaves o i (some v) (h .slots .size) (k .inside) (k .free))
 
   -- 'kind 03 leaves it running'
-  pub runs-on : Leaves o (slotRelinquished o i) i (slot (o .slots) 5) none (o .activity)
+  pub runs-on : Leaves o (slotRelinquished o i) i (slot (o .slots) slot6) none (o .activity)
   unfolding slotRelinquished withEffect
   runs-on =
       record {

@@ -10,7 +10,7 @@ use lib.ListN.{length}
 use mathlib.Core.Option.{none}
 use Rattle.lighting.specs.Paper.Choice.{if_then_else_}
 use Rattle.lighting.specs.Paper.Level.{levelUnits, amountUnits}
-use Rattle.lighting.specs.Paper.Slots.{Slots, winner, filled}
+use Rattle.lighting.specs.Paper.Slots.{slotCount, Slots, winner, filled}
 use Rattle.lighting.specs.Paper.Value.{clampLit, presentValue, elapsed, distanceMoved, reachedBy, reached, progressBy, progressValue, inProcess}
 use Rattle.lighting.specs.Paper.Record.{withBurning, withCommand}
 use Rattle.lighting.specs.Paper.Passing.{withBurned, activityDue, isDue, nextActivity, activityAt, nextSlots, slotsAt, afterEvents, fire, ticks}
@@ -229,7 +229,7 @@ module _ (t : ℕ) (o : Output) (k : Command) (h : Sound t o) (good : OperationI
       settings : commanded t o k .settings ≡ o .settings
       settings = unfold commanded commandedFrom withCommand in refl
 
-      size : length (before .levels) ≡ 16
+      size : length (before .levels) ≡ slotCount
       size = withoutWarning-size (o .slots) (o .activity) ∙ h .slots .size
 
       shows : presentValue (commanded t o k .settings) (commanded t o k .slots) ≡ goal

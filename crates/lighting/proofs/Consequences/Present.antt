@@ -7,7 +7,7 @@ use Prim.Native.Nat.{ℕ, zero, suc, _<_}
 use native.Mathlib.Omega.{arith}
 use lib.ListN.{getD, length}
 use lib.Seq.{getD-set-same, getD-set-other}
-use Rattle.lighting.specs.Paper.Slots.{Slots, slotsOf, slot, put, emptied}
+use Rattle.lighting.specs.Paper.Slots.{slotCount, Slots, slotsOf, slot, put, emptied}
 use Rattle.lighting.specs.Paper.Value.{clampLit, presentValue}
 use Rattle.lighting.specs.declared.Settings.{Settings}
 use Rattle.lighting.proofs.Split.{by-eq}
@@ -31,12 +31,12 @@ first-none d [] k = refl
 first-none d (none ∷ l) k = first-none d l (λ i m. k (suc i) (omega arith))
 first-none d (some w ∷ l) k = no-slot (sym (k 0 (omega arith)))
 
-module _ (s : Slots) (size : length (s .levels) ≡ 16) where
+module _ (s : Slots) (size : length (s .levels) ≡ slotCount) where
   -- a slot that was put, and every other
-  pub slot-same : (i : ℕ) (x : Option ℕ) → i < 16 → slot (put s i x) i ≡ x
+  pub slot-same : (i : ℕ) (x : Option ℕ) → i < slotCount → slot (put s i x) i ≡ x
   slot-same i x k = rw (put-slots s i x size k) (getD-set-same (slotsOf s) i x none (omega (arith, slots-size s)))
 
-  pub slot-other : (i j : ℕ) (x : Option ℕ) → i < 16 → i ≢ j → slot (put s i x) j ≡ slot s j
+  pub slot-other : (i j : ℕ) (x : Option ℕ) → i < slotCount → i ≢ j → slot (put s i x) j ≡ slot s j
   slot-other i j x k n = rw (put-slots s i x size k) (getD-set-other (slotsOf s) i j x none (omega arith))
 
   module _ (c : Settings) where
@@ -49,11 +49,11 @@ module _ (s : Slots) (size : length (s .levels) ≡ 16) where
     present-at j v h k = present-first ∙ ap (clampLit c) (first-at (c .default) (slotsOf s) j v h k)
 
     -- 'or Relinquish_Default with no live slot'
-    pub present-none : ((i : ℕ) → i < 16 → slot s i ≡ none) → presentValue c s ≡ clampLit c (c .default)
+    pub present-none : ((i : ℕ) → i < slotCount → slot s i ≡ none) → presentValue c s ≡ clampLit c (c .default)
     present-none k = present-first ∙ ap (clampLit c) (first-none (c .default) (slotsOf s) (λ i m. k i (omega (arith, slots-size s))))
 
 -- A SLOT p EMPTIED, by kind 03, by RELINQUISH or by its duration: Present_Value is the next live slot's
-module _ (s : Slots) (size : length (s .levels) ≡ 16) (c : Settings) (p : ℕ) (inside : p < 16) where
+module _ (s : Slots) (size : length (s .levels) ≡ slotCount) (c : Settings) (p : ℕ) (inside : p < slotCount) where
   pub next-live : (j v : ℕ) → j ≢ p → slot s j ≡ some v → ((i : ℕ) → i < j → i ≢ p → slot s i ≡ none)
       → presentValue c (emptied s p) ≡ clampLit c v
   next-live j v n h k =
@@ -61,7 +61,7 @@ module _ (s : Slots) (size : length (s .levels) ≡ 16) (c : Settings) (p : ℕ)
       (λ i m. by-eq i p (λ e t. rw e (slot-same s size p none inside)) (λ e t. slot-other s size p i none inside (λ z. e (sym z)) ∙ k i m e))
 
   -- or Relinquish_Default's, if no other is live
-  pub none-live : ((i : ℕ) → i < 16 → i ≢ p → slot s i ≡ none) → presentValue c (emptied s p) ≡ clampLit c (c .default)
+  pub none-live : ((i : ℕ) → i < slotCount → i ≢ p → slot s i ≡ none) → presentValue c (emptied s p) ≡ clampLit c (c .default)
   none-live k =
       present-none (emptied s p) (put-sized s size p none) c
       (λ i m. by-eq i p (λ e t. rw e (slot-same s size p none inside)) (λ e t. slot-other s size p i none inside (λ z. e (sym z)) ∙ k i m e))

@@ -8,7 +8,7 @@ use native.Mathlib.Nat.{add-sub-cancel-left}
 use lib.ListN.{length}
 use Rattle.lighting.specs.Paper.Choice.{if_then_else_}
 use Rattle.lighting.specs.Paper.Level.{bits, readOut}
-use Rattle.lighting.specs.Paper.Slots.{slot, isLive, levelAt}
+use Rattle.lighting.specs.Paper.Slots.{slotCount, slot, isLive, levelAt}
 use Rattle.lighting.specs.Paper.Value.{presentValue, progressValue, inProcess}
 use Rattle.lighting.specs.Paper.Properties.{numbered, properties, propertyOf, levelAnswer, slotAnswer, flag, elapsedActive, realAnswer, readProperty}
 use Rattle.lighting.specs.Paper.Acting.{unchanged, acted}
@@ -72,7 +72,7 @@ abbrev slotAs : Option ℕ → Answer
 slotAs none = Absent
 slotAs (some v) = Value (readOut v)
 
-pub read-slots : (t : ℕ) (o : Output) (i : ℕ) → length (o .slots .levels) ≡ 16 → i < 16 → reads t o (0x21 + i) ≡ slotAs (slot (o .slots) i)
+pub read-slots : (t : ℕ) (o : Output) (i : ℕ) → length (o .slots .levels) ≡ slotCount → i < slotCount → reads t o (0x21 + i) ≡ slotAs (slot (o .slots) i)
 unfolding acted unchanged propertyOf numbered readProperty slotAnswer levelAnswer levelAt if_then_else_
 read-slots t o i z h =
     rw (leb-yes {a = 0x21} {b = 0x21 + i} (omega arith), leb-yes {a = 0x21 + i} {b = 0x30} (omega arith), add-sub-cancel-left 0x21 i, slot-is (o .slots) i (omega arith), leb-yes {a = suc i} {b = 16} h)

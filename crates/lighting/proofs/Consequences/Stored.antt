@@ -6,7 +6,7 @@ use mathlib.Core.Option.{none, some}
 use Prim.Native.Nat.{ℕ, suc, _≤_, _<_}
 use native.Mathlib.Omega.{arith}
 use Rattle.lighting.specs.Paper.Choice.{if_then_else_}
-use Rattle.lighting.specs.Paper.Slots.{slot, isLive}
+use Rattle.lighting.specs.Paper.Slots.{slotCount, slot6, slot, isLive}
 use Rattle.lighting.specs.Paper.Value.{clampLit, presentValue}
 use Rattle.lighting.specs.Paper.Record.{withEffect}
 use Rattle.lighting.specs.Paper.Writing.{endMovementUnlessAbove, stored, warns, writtenZero, writtenCalm, written, activityRelinquished, slotRelinquished}
@@ -23,7 +23,7 @@ use Rattle.lighting.proofs.Consequences.Present.{slot-same, slot-other,
 use Rattle.lighting.proofs.Consequences.Warning.{Starts, warns-starts, calm-by}
 use Rattle.lighting.proofs.Consequences.Targets.{after, relinquish}
 
-module _ (t : ℕ) (o : Output) (h : Sound t o) (calm : isLive (o .slots) 5 ≡ false) (i : ℕ) (k : Slot i) where
+module _ (t : ℕ) (o : Output) (h : Sound t o) (calm : isLive (o .slots) slot6 ≡ false) (i : ℕ) (k : Slot i) where
   -- a write that starts no warning: of a level above 0, or where the paper's conditions are not met
   pub data Plainly (v : ℕ) : Type 0 where
     above-zero : v ≢ 0 → Plainly v
@@ -84,7 +84,7 @@ module _ (t : ℕ) (o : Output) (h : Sound t o) (i : ℕ) (k : Slot i) where
   unfolding slotRelinquished withEffect
   emptied-shows j v n s b = next-live (o .slots) (h .slots .size) (o .settings) i (k .inside) j v n s b
 
-  pub emptied-shows-default : ((q : ℕ) → q < 16 → q ≢ i → slot (o .slots) q ≡ none)
+  pub emptied-shows-default : ((q : ℕ) → q < slotCount → q ≢ i → slot (o .slots) q ≡ none)
       → presentValue (slotRelinquished o i .settings) (slotRelinquished o i .slots) ≡ clampLit (o .settings) (o .settings .default)
   unfolding slotRelinquished withEffect
   emptied-shows-default b = none-live (o .slots) (h .slots .size) (o .settings) i (k .inside) b
@@ -94,7 +94,7 @@ module _ (t : ℕ) (o : Output) (h : Sound t o) (d : Duration) (g : DurationInRa
   abbrev p : ℕ
   p = o .settings .slot
 
-  pub relinquished-shows : (j v : ℕ) → j ≢ p → j ≢ 5 → slot (o .slots) j ≡ some v → ((q : ℕ) → q < j → q ≢ p → q ≢ 5 → slot (o .slots) q ≡ none)
+  pub relinquished-shows : (j v : ℕ) → j ≢ p → j ≢ slot6 → slot (o .slots) j ≡ some v → ((q : ℕ) → q < j → q ≢ p → q ≢ slot6 → slot (o .slots) q ≡ none)
       → presentValue (after t o Relinquish d .settings) (after t o Relinquish d .slots) ≡ clampLit (o .settings) v
   relinquished-shows j v n m s b =
       rw (relinquish t o h d .settings)
@@ -103,7 +103,7 @@ module _ (t : ℕ) (o : Output) (h : Sound t o) (d : Duration) (g : DurationInRa
       (λ q l. by-eq q p (λ e z. rw e (relinquish t o h d .own))
       (λ e z. by-eq q 5 (λ e′ z′. rw e′ (relinquish t o h d .six)) (λ e′ z′. relinquish t o h d .rest q e′ e ∙ b q l e e′))))
 
-  pub relinquished-shows-default : ((q : ℕ) → q < 16 → q ≢ p → q ≢ 5 → slot (o .slots) q ≡ none)
+  pub relinquished-shows-default : ((q : ℕ) → q < slotCount → q ≢ p → q ≢ slot6 → slot (o .slots) q ≡ none)
       → presentValue (after t o Relinquish d .settings) (after t o Relinquish d .slots) ≡ clampLit (o .settings) (o .settings .default)
   relinquished-shows-default b =
       rw (relinquish t o h d .settings)

@@ -8,7 +8,7 @@ use lib.Ieee.{Float}
 use lib.ListN.{length}
 use Rattle.lighting.specs.Paper.Choice.{if_then_else_}
 use Rattle.lighting.specs.Paper.Level.{levelUnits, amountUnits}
-use Rattle.lighting.specs.Paper.Slots.{Slots, slot, winner, put, filled}
+use Rattle.lighting.specs.Paper.Slots.{slotCount, slot6, Slots, slot, winner, put, filled}
 use Rattle.lighting.specs.Paper.Value.{clampLit, presentValue, progressBy, progressValue, inProcess}
 use Rattle.lighting.specs.Paper.Passing.{endMovementOf}
 use Rattle.lighting.specs.Paper.Commands.{withoutWarning, activityWithoutWarning, replaced, placed, target, fadedOver, fadedTo, rampedAt, rampedTo, jumped, wentTo, stepUpFrom, stepDownFrom, steppedUp, steppedDown, raised, halted, asItIs, stopped, relinquished, effect, commandedFrom, commanded}
@@ -35,19 +35,19 @@ after t o k d = commanded t o (record { operation = k; duration = d })
 -- slot 6 is empty, slot p is x, every other slot as it was; what the command does not speak of stays
 pub record Sets (o o′ : Output) (p : ℕ) (x : Option ℕ) : Type 0 where
   pub own : slot (o′ .slots) p ≡ x
-  pub six : slot (o′ .slots) 5 ≡ none
-  pub rest : (j : ℕ) → j ≢ 5 → j ≢ p → slot (o′ .slots) j ≡ slot (o .slots) j
+  pub six : slot (o′ .slots) slot6 ≡ none
+  pub rest : (j : ℕ) → j ≢ slot6 → j ≢ p → slot (o′ .slots) j ≡ slot (o .slots) j
   pub settings : o′ .settings ≡ o .settings
   pub burning : o′ .burning ≡ o .burning
 
 -- a warning's end
-withoutWarning-six : (t : ℕ) (c : Settings) (s : Slots) (a : Activity) → length (s .levels) ≡ 16 → Acts t c s a → slot (withoutWarning s a) 5 ≡ none
+withoutWarning-six : (t : ℕ) (c : Settings) (s : Slots) (a : Activity) → length (s .levels) ≡ slotCount → Acts t c s a → slot (withoutWarning s a) slot6 ≡ none
 unfolding withoutWarning
-withoutWarning-six t c s Still z h = dead-slot s 5 z (omega arith) h
-withoutWarning-six t c s (Moving m) z h = dead-slot s 5 z (omega arith) (h .six)
+withoutWarning-six t c s Still z h = dead-slot s slot6 z (omega arith) h
+withoutWarning-six t c s (Moving m) z h = dead-slot s slot6 z (omega arith) (h .six)
 withoutWarning-six t c s (Warned w) z h = slot-same s z 5 none (omega arith)
 
-withoutWarning-rest : (s : Slots) (a : Activity) (j : ℕ) → length (s .levels) ≡ 16 → j ≢ 5 → slot (withoutWarning s a) j ≡ slot s j
+withoutWarning-rest : (s : Slots) (a : Activity) (j : ℕ) → length (s .levels) ≡ slotCount → j ≢ slot6 → slot (withoutWarning s a) j ≡ slot s j
 unfolding withoutWarning
 withoutWarning-rest s Still j z n = refl
 withoutWarning-rest s (Moving m) j z n = refl
@@ -106,7 +106,7 @@ module _ (t : ℕ) (o : Output) (h : Sound t o) (d : Duration) where
   abbrev before : Slots
   before = withoutWarning (o .slots) (o .activity)
 
-  size : length (before .levels) ≡ 16
+  size : length (before .levels) ≡ slotCount
   size = withoutWarning-size (o .slots) (o .activity) ∙ h .slots .size
 
   -- an operation that puts x into slot p

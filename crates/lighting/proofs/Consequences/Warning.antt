@@ -9,7 +9,7 @@ use Prim.Native.Nat.{ℕ, zero, suc, _+_, _-_, _≤_, _<_}
 use native.Mathlib.Omega.{arith}
 use lib.ListN.{getD, length}
 use Rattle.lighting.specs.Paper.Choice.{if_then_else_}
-use Rattle.lighting.specs.Paper.Slots.{Slots, slot, slotsOf, winningLevel, firstLive, winner, isLive, put, emptied, filled}
+use Rattle.lighting.specs.Paper.Slots.{slotCount, slot6, Slots, slot, slotsOf, winningLevel, firstLive, winner, isLive, put, emptied, filled}
 use Rattle.lighting.specs.Paper.Value.{clampLit, presentValue}
 use Rattle.lighting.specs.Paper.Record.{withBurning, withEffect}
 use Rattle.lighting.specs.Paper.Passing.{withBurned, phaseEnd, activityDue, isDue, delayed, nextPhase, nextActivity, activityAt, phaseSlots, nextSlots, slotsAt, afterEvents, fire, ticks}
@@ -50,16 +50,16 @@ pub record Starts (c : Settings) (s : Slots) (x : ℕ) : Type 0 where
   pub below : (i : ℕ) → i < x → slot s i ≡ none
   pub lit : 0 < presentValue c s
   pub default : c .default ≡ 0
-  pub above : (i : ℕ) → x < i → i < 16 → Unlit (slot s i)
+  pub above : (i : ℕ) → x < i → i < slotCount → Unlit (slot s i)
 
 -- slots that are s but for slot 6 and slot x
 pub record State (s : Slots) (x : ℕ) (a b : Option ℕ) (z : Slots) : Type 0 where
-  pub size : length (z .levels) ≡ 16
-  pub six : slot z 5 ≡ a
+  pub size : length (z .levels) ≡ slotCount
+  pub six : slot z slot6 ≡ a
   pub own : slot z x ≡ b
-  pub rest : (i : ℕ) → i ≢ 5 → i ≢ x → slot z i ≡ slot s i
+  pub rest : (i : ℕ) → i ≢ slot6 → i ≢ x → slot z i ≡ slot s i
 
-put-six : {s z : Slots} {x : ℕ} {a b : Option ℕ} (w : Option ℕ) → x ≢ 5 → State s x a b z → State s x w b (put z 5 w)
+put-six : {s z : Slots} {x : ℕ} {a b : Option ℕ} (w : Option ℕ) → x ≢ slot6 → State s x a b z → State s x w b (put z 5 w)
 put-six {z = z} {x = x} w n h =
     record {
       size = put-sized z (h .size) 5 w;
@@ -68,7 +68,7 @@ put-six {z = z} {x = x} w n h =
       rest = λ i p q. slot-other z (h .size) 5 i w (omega arith) (λ e. p (sym e)) ∙ h .rest i p q;
     }
 
-put-own : {s z : Slots} {x : ℕ} {a b : Option ℕ} (w : Option ℕ) → x < 16 → x ≢ 5 → State s x a b z → State s x a w (put z x w)
+put-own : {s z : Slots} {x : ℕ} {a b : Option ℕ} (w : Option ℕ) → x < slotCount → x ≢ slot6 → State s x a b z → State s x a w (put z x w)
 put-own {z = z} {x = x} w k n h =
     record {
       size = put-sized z (h .size) x w;
@@ -123,21 +123,21 @@ record Became (o o′ : Output) (z : Slots) (a : Activity) : Type 0 where
   timer : o′ .timer ≡ o .timer
 
 turns : (d x y v : ℕ) (o : Output) → o .activity ≡ warningIn Blink x y d v → TimerAfter d (o .timer) → d < v
-    → Became o (fire d o) (filled (o .slots) 5 y) (warningIn Delay x y d v)
+    → Became o (fire d o) (filled (o .slots) slot6 y) (warningIn Delay x y d v)
 unfolding fire afterEvents isDue phaseEnd activityDue delayed nextPhase nextActivity activityAt phaseSlots nextSlots slotsAt if_then_else_
 turns d x y v o e a l =
     rw (endMovementOnExpiry-quiet d (o .timer) (o .activity) a, expired-quiet d (o .timer) (o .slots) a, timer-quiet d (o .timer) a, e, eqb-hit {a = d} {b = d} refl, leb-yes {a = suc d} {b = v} l)
     (record { settings = refl; slots = refl; activity = refl; timer = refl })
 
 turns-off : (d x y v : ℕ) (o : Output) → o .activity ≡ warningIn Blink x y d v → TimerAfter d (o .timer) → v ≤ d
-    → Became o (fire d o) (emptied (o .slots) 5) Still
+    → Became o (fire d o) (emptied (o .slots) slot6) Still
 unfolding fire afterEvents isDue phaseEnd activityDue delayed nextPhase nextActivity activityAt phaseSlots nextSlots slotsAt if_then_else_
 turns-off d x y v o e a l =
     rw (endMovementOnExpiry-quiet d (o .timer) (o .activity) a, expired-quiet d (o .timer) (o .slots) a, timer-quiet d (o .timer) a, e, eqb-hit {a = d} {b = d} refl, leb-no {a = suc d} {b = v} (omega arith))
     (record { settings = refl; slots = refl; activity = refl; timer = refl })
 
 ends : (d x y u : ℕ) (o : Output) → o .activity ≡ warningIn Delay x y u d → TimerAfter d (o .timer)
-    → Became o (fire d o) (emptied (emptied (o .slots) 5) x) Still
+    → Became o (fire d o) (emptied (emptied (o .slots) slot6) x) Still
 unfolding fire afterEvents isDue phaseEnd activityDue delayed nextPhase nextActivity activityAt phaseSlots nextSlots slotsAt if_then_else_
 ends d x y u o e a =
     rw (endMovementOnExpiry-quiet d (o .timer) (o .activity) a, expired-quiet d (o .timer) (o .slots) a, timer-quiet d (o .timer) a, e, eqb-hit {a = d} {b = d} refl)
@@ -153,8 +153,8 @@ at-last t (suc d) o z w l a b =
     rw (eventStep-ticks d t o q, ← e) (record { settings = unfold withBurned withBurning in (b .settings); slots = b .slots; activity = b .activity; timer = unfold withBurned withBurning in (b .timer) })
 
 -- THE PHASES
-module _ (c : Settings) (s : Slots) (x y : ℕ) (starts : Starts c s x) (inside : x < 16) (same : clampLit c y ≡ y) where
-  distance-six : x ≢ 5
+module _ (c : Settings) (s : Slots) (x y : ℕ) (starts : Starts c s x) (inside : x < slotCount) (same : clampLit c y ≡ y) where
+  distance-six : x ≢ slot6
   distance-six e = omega (arith, starts .own)
 
   -- what is seen of slots in a known state
@@ -182,7 +182,7 @@ module _ (c : Settings) (s : Slots) (x y : ℕ) (starts : Starts c s x) (inside 
     unfolding withBurned withBurning
     ended n d u p e h a l =
         let q : After (t + (d - 1)) o = both-after (t + (d - 1)) o (timer-earlier (o .timer) (omega arith) a) (rw e (unfold activityDue phaseEnd in (omega arith))) in
-        let r = at-last t d o (emptied (emptied (o .slots) 5) x) Still p q
+        let r = at-last t d o (emptied (emptied (o .slots) slot6) x) Still p q
         (ends (t + d) x y u (withBurned t d o) e (timer-earlier (o .timer) (omega arith) a)) in
         later n d t o l
         (waits (n - d) (t + d) (ticks d t o)
@@ -197,16 +197,16 @@ module _ (c : Settings) (s : Slots) (x y : ℕ) (starts : Starts c s x) (inside 
       before-turn : (n : ℕ) → TimerAfter (t + n) (o .timer) → b ≤ n → After (t + (b - 1)) o
       before-turn n a l = both-after (t + (b - 1)) o (timer-earlier (o .timer) (omega arith) a) (rw e (unfold activityDue phaseEnd in (omega arith)))
 
-      turned : (n : ℕ) → TimerAfter (t + n) (o .timer) → b ≤ n → 0 < d → Became o (ticks b t o) (filled (o .slots) 5 y) (warningIn Delay x y (t + b) (t + b + d))
+      turned : (n : ℕ) → TimerAfter (t + n) (o .timer) → b ≤ n → 0 < d → Became o (ticks b t o) (filled (o .slots) slot6 y) (warningIn Delay x y (t + b) (t + b + d))
       unfolding withBurned withBurning
       turned n a l q =
-          at-last t b o (filled (o .slots) 5 y) (warningIn Delay x y (t + b) (t + b + d)) p (before-turn n a l)
+          at-last t b o (filled (o .slots) slot6 y) (warningIn Delay x y (t + b) (t + b + d)) p (before-turn n a l)
           (turns (t + b) x y (t + b + d) (withBurned t b o) e (timer-earlier (o .timer) (omega arith) a) (omega arith))
 
-      turned-off : (n : ℕ) → TimerAfter (t + n) (o .timer) → b ≤ n → d ≡ 0 → Became o (ticks b t o) (emptied (o .slots) 5) Still
+      turned-off : (n : ℕ) → TimerAfter (t + n) (o .timer) → b ≤ n → d ≡ 0 → Became o (ticks b t o) (emptied (o .slots) slot6) Still
       unfolding withBurned withBurning
       turned-off n a l q =
-          at-last t b o (emptied (o .slots) 5) Still p (before-turn n a l)
+          at-last t b o (emptied (o .slots) slot6) Still p (before-turn n a l)
           (turns-off (t + b) x y (t + b + d) (withBurned t b o) e (timer-earlier (o .timer) (omega arith) a) (omega arith))
 
       put-out : (n : ℕ) → TimerAfter (t + n) (o .timer) → b ≤ n → d ≡ 0 → Seen c s x none (some 0) 0 (ticks n t o)
@@ -218,7 +218,7 @@ module _ (c : Settings) (s : Slots) (x y : ℕ) (starts : Starts c s x) (inside 
           (seen-over (ticks b t o) refl (r .settings ∙ h .settings) (rw (r .slots) (put-six none distance-six (h .slots)))))
 
 -- WHEN A WARNING STARTS: exactly under the paper's conditions
-zeroOrEmpty-slot : (s : Slots) (i : ℕ) → length (s .levels) ≡ 16 → i < 16 → Unlit (slot s i) → zeroOrEmpty s i ≡ true
+zeroOrEmpty-slot : (s : Slots) (i : ℕ) → length (s .levels) ≡ slotCount → i < slotCount → Unlit (slot s i) → zeroOrEmpty s i ≡ true
 unfolding zeroOrEmpty if_then_else_
 zeroOrEmpty-slot s i z k h =
     by-bool (isLive s i)
@@ -228,13 +228,13 @@ zeroOrEmpty-slot s i z k h =
     go : (v : ℕ) → slot s i ≡ some v → v ≡ 0
     go v e = rw e at h
 
-slot-zeroOrEmpty : (s : Slots) (i : ℕ) → length (s .levels) ≡ 16 → i < 16 → zeroOrEmpty s i ≡ true → Unlit (slot s i)
+slot-zeroOrEmpty : (s : Slots) (i : ℕ) → length (s .levels) ≡ slotCount → i < slotCount → zeroOrEmpty s i ≡ true → Unlit (slot s i)
 unfolding zeroOrEmpty if_then_else_
 slot-zeroOrEmpty s i z k h =
     rw (slot-is s i (omega arith))
     (by-bool (isLive s i) (λ e. rw e (eq-of (rw e at h))) (λ e. rw e tt))
 
-pub dead-slot : (s : Slots) (i : ℕ) → length (s .levels) ≡ 16 → i < 16 → isLive s i ≡ false → slot s i ≡ none
+pub dead-slot : (s : Slots) (i : ℕ) → length (s .levels) ≡ slotCount → i < slotCount → isLive s i ≡ false → slot s i ≡ none
 unfolding if_then_else_
 dead-slot s i z k e = slot-is s i (omega arith) ∙ rw e
 
@@ -245,7 +245,7 @@ first-from [] (suc x) h k = absurd (omega arith)
 first-from (none ∷ l) (suc x) h k = omega (arith, first-from l x (omega arith) (λ i m. k (suc i) (omega arith)))
 first-from (some v ∷ l) (suc x) h k = no-slot (sym (k 0 (omega arith)))
 
-module _ (c : Settings) (s : Slots) (x : ℕ) (size : length (s .levels) ≡ 16) (inside : x < 16) where
+module _ (c : Settings) (s : Slots) (x : ℕ) (size : length (s .levels) ≡ slotCount) (inside : x < slotCount) where
   pub starts-warns : Starts c s x → warns c s x ≡ true
   unfolding warns warnsBy blinks zeroOrEmptyAbove zeroOrEmptyFrom winner
   starts-warns h =
@@ -284,8 +284,8 @@ pub record Course (c : Settings) (s : Slots) (x y t : ℕ) (o : Output) : Type 0
   pub over-without-delay : (n : ℕ) → TimerAfter (t + n) (o .timer) → c .blink ≤ n → c .delay ≡ 0 → Seen c s x none (some 0) 0 (ticks n t o)
 
 -- a warning's start
-begun : (c : Settings) (s : Slots) (x : ℕ) → length (s .levels) ≡ 16 → x < 16 → x ≢ 5 → (w : ℕ)
-    → State s x (some w) (some 0) (filled (filled s x 0) 5 w)
+begun : (c : Settings) (s : Slots) (x : ℕ) → length (s .levels) ≡ slotCount → x < slotCount → x ≢ slot6 → (w : ℕ)
+    → State s x (some w) (some 0) (filled (filled s x 0) slot6 w)
 begun c s x z k n w =
     record {
       size = put-sized (filled s x 0) (put-sized s z x (some 0)) 5 (some w);
@@ -295,7 +295,7 @@ begun c s x z k n w =
           slot-other (filled s x 0) (put-sized s z x (some 0)) 5 i (some w) (omega arith) (λ e. p (sym e)) ∙ slot-other s z x i (some 0) k (λ e. q (sym e));
     }
 
-module _ (c : Settings) (s : Slots) (x y : ℕ) (starts : Starts c s x) (inside : x < 16) (same : clampLit c y ≡ y) (t : ℕ) (o : Output) where
+module _ (c : Settings) (s : Slots) (x y : ℕ) (starts : Starts c s x) (inside : x < slotCount) (same : clampLit c y ≡ y) (t : ℕ) (o : Output) where
   from-blink : 0 < c .blink → o .activity ≡ warningIn Blink x y (t + c .blink) (t + c .blink + c .delay) → Seen c s x (some 0) (some 0) 0 o → Course c s x y t o
   from-blink p e h =
       record {
@@ -315,7 +315,7 @@ module _ (c : Settings) (s : Slots) (x y : ℕ) (starts : Starts c s x) (inside 
         over-without-delay = λ n a l q. put-out c s x y starts inside same t o (c .blink) (c .delay) p e h n a l q;
       }
     where
-      bright : Became o (ticks (c .blink) t o) (filled (o .slots) 5 y) (warningIn Delay x y (t + c .blink) (t + c .blink + c .delay)) → Seen c s x (some y) (some 0) y (ticks (c .blink) t o)
+      bright : Became o (ticks (c .blink) t o) (filled (o .slots) slot6 y) (warningIn Delay x y (t + c .blink) (t + c .blink + c .delay)) → Seen c s x (some y) (some 0) y (ticks (c .blink) t o)
       bright r =
           seen-lit c s x y starts inside same y (ticks (c .blink) t o) same (r .settings ∙ h .settings)
           (rw (r .slots) (put-six (some y) (distance-six c s x y starts inside same) (h .slots)))
@@ -333,7 +333,7 @@ module _ (c : Settings) (s : Slots) (x y : ℕ) (starts : Starts c s x) (inside 
       }
 
 -- KIND 02 without a warning running
-pub calm-by : (t : ℕ) (o : Output) (i v : ℕ) (a : Activity) → Acts t (o .settings) (o .slots) a → isLive (o .slots) 5 ≡ false
+pub calm-by : (t : ℕ) (o : Output) (i v : ℕ) (a : Activity) → Acts t (o .settings) (o .slots) a → isLive (o .slots) slot6 ≡ false
     → writtenBy t o i v a ≡ writtenCalm t o i v
 unfolding writtenBy
 calm-by t o i v Still h e = refl
@@ -341,7 +341,7 @@ calm-by t o i v (Moving m) h e = refl
 calm-by t o i v (Warned w) h e = absurd (true≢false (sym (h .six) ∙ e))
 
 -- KIND 02 OF ZERO at slot x, the paper's conditions met: none is running, for slot 6 is among the slots below x
-pub warning : (t : ℕ) (o : Output) (x : ℕ) → Sound t o → x < 16 → Starts (o .settings) (o .slots) x
+pub warning : (t : ℕ) (o : Output) (x : ℕ) → Sound t o → x < slotCount → Starts (o .settings) (o .slots) x
     → Course (o .settings) (o .slots) x (presentValue (o .settings) (o .slots)) t (written t o x 0)
 unfolding written writtenCalm writtenZero warned warnedBy withEffect warningFrom firstLevel firstPhase if_then_else_
 warning t o x h inside starts =
@@ -349,10 +349,10 @@ warning t o x h inside starts =
     let s = o .slots in
     let y = presentValue c s in
     let z = h .slots .size in
-    let n : x ≢ 5 = λ e. omega (arith, starts .own) in
+    let n : x ≢ slot6 = λ e. omega (arith, starts .own) in
     let same : clampLit c y ≡ y = unfold presentValue in (clampLit-clampLit c (winningLevel (c .default) s) (h .settings)) in
     rw
-    (calm-by t o x 0 (o .activity) (h .activity) (isLive-slot s 5 (omega arith) ∙ ap alive (starts .below 5 (omega (arith, starts .own)))), starts-warns c s x z inside starts)
+    (calm-by t o x 0 (o .activity) (h .activity) (isLive-slot s slot6 (omega arith) ∙ ap alive (starts .below 5 (omega (arith, starts .own)))), starts-warns c s x z inside starts)
     (by-eq (c .blink) 0
     (λ p e. rw e
     (from-delay c s x y starts inside same t _ p refl (seen-lit c s x y starts inside same y _ same refl (begun c s x z inside n y))))
