@@ -71,7 +71,7 @@ withoutWarning-staged t c s (Warned w) f h =
 -- A TARGET PUT IN SLOT p, at t, with settings c, slots s and activity a
 module _ (t : ℕ) (c : Settings) (k : SettingsInRange c) (s : Slots) (f : Filled s) (a : Activity) (q : Calm a) (h : Acts t c s a) where
   -- slot 6 stays empty
-  six : (x : Option ℕ) → isLive (put s (c .slot) x) 5 ≡ false
+  six : (x : Option ℕ) → isLive (put s (c .slot) x) slot6 ≡ false
   six x = six-kept s (f .size) (c .slot) x (k .slot .inside) (k .slot .free) ∙ six-empty t c s a q h
 
   -- an activity goes on when a slot is filled that does not win

@@ -100,12 +100,12 @@ view-and m (suc i) (suc n) v (w ∷ l) h k =
 -- A SLOT PUT: for the sixteen slots the guard never bites
 pub put-slots : (s : Slots) (i : ℕ) (x : Option ℕ) → length (s .levels) ≡ slotCount → i < slotCount → slotsOf (put s i x) ≡ set (slotsOf s) i x
 unfolding put slotsOf maskEmptied maskFilled levelSet if_then_else_
-put-slots s i none h k = rw (leb-yes {a = suc i} {b = 16} k) (view-and (s .live) i 16 0 (s .levels) k (omega arith))
-put-slots s i (some v) h k = rw (leb-yes {a = suc i} {b = 16} k) (view-or (s .live) i v (s .levels))
+put-slots s i none h k = rw (leb-yes {a = suc i} {b = slotCount} k) (view-and (s .live) i slotCount 0 (s .levels) k (omega arith))
+put-slots s i (some v) h k = rw (leb-yes {a = suc i} {b = slotCount} k) (view-or (s .live) i v (s .levels))
 
 set-size : (l : List ℕ) (i v : ℕ) → length (levelSet l i v) ≡ length l
 unfolding levelSet if_then_else_
-set-size l i v = by-lt i 16 (λ p e. rw e (length-set l i v)) (λ p e. rw e)
+set-size l i v = by-lt i slotCount (λ p e. rw e (length-set l i v)) (λ p e. rw e)
 
 pub put-size : (s : Slots) (i : ℕ) (x : Option ℕ) → length (put s i x .levels) ≡ length (s .levels)
 unfolding put
@@ -129,9 +129,9 @@ zeros-view (suc n) m (v ∷ l) h =
     (λ p e. let z : m % 2 ≡ 0 = omega arith in
     rw (e, z) (ap suc (zeros-view n (m / 2) l (omega arith))))
 
-pub winner-zeros : (s : Slots) → length (s .levels) ≡ slotCount → trailingZeros 16 (s .live) ≡ winner s
+pub winner-zeros : (s : Slots) → length (s .levels) ≡ slotCount → trailingZeros slotCount (s .live) ≡ winner s
 unfolding winner slotsOf
-winner-zeros s h = zeros-view 16 (s .live) (s .levels) h
+winner-zeros s h = zeros-view slotCount (s .live) (s .levels) h
 
 -- WHETHER A SLOT IS LIVE, by the mask
 abbrev pub alive : Option ℕ → Bool
@@ -159,7 +159,7 @@ pub dead-past : (m i : ℕ) → m < 65536 → slotCount ≤ i → eqb (m / 2 ^ i
 dead-past m i h k = ap (λ (x : ℕ). eqb (x % 2) 1) (div-eq-of-lt (lt-of-lt-of-le h (pow-mono k)))
 
 pub shifted : (i : ℕ) → i < slotCount → (1 * 2 ^ i) % 2 ^ 16 ≡ 2 ^ i
-shifted i h = shl-exact 1 i 16 (omega arith) (omega arith) ∙ one-mul (2 ^ i)
+shifted i h = shl-exact 1 i slotCount (omega arith) (omega arith) ∙ one-mul (2 ^ i)
 
 -- SLOT i TESTED: a shifted mask leaves bit i alone, where it stands
 bit-left : (m i : ℕ) → bitAnd m (2 ^ i) ≡ (m / 2 ^ i % 2) * 2 ^ i

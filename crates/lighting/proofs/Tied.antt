@@ -43,7 +43,7 @@ level-of v h =
 pub slot-of : (i : ℕ) → isSlot i ≡ true → Slot i
 unfolding isSlot if_then_else_
 slot-of i h =
-    by-eq i 5 (λ p e. absurd (false≢true (rw e at h))) (λ p e. record { inside = le-of (rw e at h); free = p })
+    by-eq i slot6 (λ p e. absurd (false≢true (rw e at h))) (λ p e. record { inside = le-of (rw e at h); free = p })
 
 pub meets-of : (r : Range) (v : ℕ) → meets r v ≡ true → Meets r v
 unfolding meets
@@ -61,7 +61,7 @@ settings-of c h = search (parts, within-of, level-of, slot-of)
 filled-of : (s : Slots) → length (s .levels) ≡ slotCount → slotsSoundFrom s 0 ≡ true → Filled s
 unfolding slotsSoundFrom
 filled-of s size h =
-    record { size = size; level = λ i k. at i k (all-each (slotSound s) 16 0 i h (omega arith) (omega arith)) }
+    record { size = size; level = λ i k. at i k (all-each (slotSound s) slotCount 0 i h (omega arith) (omega arith)) }
   where
     at : (i : ℕ) → i < slotCount → slotSound s i ≡ true → SlotLevel (slot s i)
     at i k e =
@@ -108,7 +108,7 @@ settings-yes c h = search (tests, within-yes, level-yes, slot-yes)
 
 filled-yes : (s : Slots) → Filled s → slotsSoundFrom s 0 ≡ true
 unfolding slotsSoundFrom
-filled-yes s h = each-all (slotSound s) 16 0 (λ i p k. at i (omega arith) (h .level i (omega arith)))
+filled-yes s h = each-all (slotSound s) slotCount 0 (λ i p k. at i (omega arith) (h .level i (omega arith)))
   where
     at : (i : ℕ) → i < slotCount → SlotLevel (slot s i) → slotSound s i ≡ true
     at i k l = unfold slotSound if_then_else_ in

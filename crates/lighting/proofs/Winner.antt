@@ -166,18 +166,18 @@ module _ (s : Slots) (size : length (s .levels) ≡ slotCount) where
   pub six-kept : (i : ℕ) (x : Option ℕ) → i < slotCount → i ≢ slot6 → isLive (put s i x) slot6 ≡ isLive s slot6
   six-kept i x k n =
       isLive-slot (put s i x) slot6 (omega (arith, put-sized i x))
-      ∙ rw (put-slots s i x size k) (ap alive (getD-set-other (slotsOf s) i 5 x none (omega arith)))
+      ∙ rw (put-slots s i x size k) (ap alive (getD-set-other (slotsOf s) i slot6 x none (omega arith)))
       ∙ sym (isLive-slot s slot6 (omega arith))
 
-  pub six-set : (x : Option ℕ) → isLive (put s 5 x) slot6 ≡ alive x
+  pub six-set : (x : Option ℕ) → isLive (put s slot6 x) slot6 ≡ alive x
   six-set x =
-      isLive-slot (put s 5 x) slot6 (omega (arith, put-sized 5 x))
-      ∙ rw (put-slots s 5 x size (omega arith)) (ap alive (getD-set-same (slotsOf s) 5 x none (omega (arith, slots-size s))))
+      isLive-slot (put s slot6 x) slot6 (omega (arith, put-sized slot6 x))
+      ∙ rw (put-slots s slot6 x size (omega arith)) (ap alive (getD-set-same (slotsOf s) slot6 x none (omega (arith, slots-size s))))
 
   -- every slot before the winner is empty
   pub dead-before : (i : ℕ) → i < winner s → isLive s i ≡ false
   dead-before i h =
       isLive-slot s i (omega (arith, winner-within, size)) ∙ none-before (slotsOf s) i (unfold winner in h)
     where
-      winner-within : winner s ≤ 16
+      winner-within : winner s ≤ slotCount
       winner-within = unfold winner in (omega (arith, live-within (slotsOf s), slots-size s, size))

@@ -79,24 +79,24 @@ first-level : (c : Settings) (y : ℕ) → IsLevel y → IsLevel (firstLevel c y
 unfolding firstLevel if_then_else_
 first-level c y l = by-eq (c .blink) 0 (λ p e. rw e l) (λ p e. rw e level-zero)
 
-first-acts : (t : ℕ) (c : Settings) (s : Slots) (x y : ℕ) → Slot x → 5 < x → 0 < c .blink + c .delay → IsLevel y → isLive s slot6 ≡ true
+first-acts : (t : ℕ) (c : Settings) (s : Slots) (x y : ℕ) → Slot x → slot6 < x → 0 < c .blink + c .delay → IsLevel y → isLive s slot6 ≡ true
     → Acts t c s (Warned (warningFrom t c x y))
 unfolding warningFrom firstPhase phaseEnd if_then_else_
 first-acts t c s x y g l b v k =
     let w : Within 6 15 x = omega (arith, g .inside) in
     by-eq (c .blink) 0 (λ p e. rw e (search arith)) (λ p e. rw e (search arith))
 
-warned-sound : (t : ℕ) (o : Output) (x : ℕ) → Slot x → 5 < x → 0 < o .settings .blink + o .settings .delay → Sound t o → Sound t (warned t o x)
+warned-sound : (t : ℕ) (o : Output) (x : ℕ) → Slot x → slot6 < x → 0 < o .settings .blink + o .settings .delay → Sound t o → Sound t (warned t o x)
 unfolding warned warnedBy
 warned-sound t o x g l b h =
     let y = present-level (o .settings) (o .slots) (h .settings) in
     let f = put-filled (o .slots) x (some 0) (h .slots) (g .inside) level-zero in
     effect-sound t o _ _ h
-    (put-filled (filled (o .slots) x 0) 5 (some _) f (omega arith) (first-level (o .settings) _ y))
+    (put-filled (filled (o .slots) x 0) slot6 (some _) f (omega arith) (first-level (o .settings) _ y))
     (first-acts t (o .settings) _ x _ g l b y (six-set (filled (o .slots) x 0) (f .size) (some _)))
 
 -- what the test for a warning tells
-warns-facts : (c : Settings) (s : Slots) (x : ℕ) → warns c s x ≡ true → (0 < c .blink + c .delay) × (5 < x)
+warns-facts : (c : Settings) (s : Slots) (x : ℕ) → warns c s x ≡ true → (0 < c .blink + c .delay) × (slot6 < x)
 unfolding warns warnsBy blinks
 warns-facts c s x h = search parts
 
@@ -116,7 +116,7 @@ warned-written t o i v g l h =
     v
     0
     (λ p e. by-lt
-    5
+    slot6
     i
     (λ q e′. rw (e, e′) (ended-sound t o i none g tt h))
     (λ q e′. rw (e, e′) (ended-sound t o i (some v) g l h)))

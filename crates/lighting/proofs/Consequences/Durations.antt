@@ -86,7 +86,7 @@ warned-rest : (o : Output) (i v : ℕ) → Rest o (writtenWarned o i v)
 unfolding writtenWarned endedEmpty endedStored if_then_else_
 warned-rest o i v =
     by-bool (eqb v 0)
-    (λ e. rw e (by-bool (ltb 5 i) (λ e′. rw e′ (effect-rest o _ _)) (λ e′. rw e′ (effect-rest o _ _))))
+    (λ e. rw e (by-bool (ltb slot6 i) (λ e′. rw e′ (effect-rest o _ _)) (λ e′. rw e′ (effect-rest o _ _))))
     (λ e. rw e (effect-rest o _ _))
 
 written-by-rest : (t : ℕ) (o : Output) (i v : ℕ) (a : Activity) → Rest o (writtenBy t o i v a)
@@ -153,12 +153,12 @@ slots-none t q a s z k n w h = by-bool (isDue t (activityDue a)) (λ e. rw e (ne
     phase : (x : Warning) (p : Phase) → x .owner < slotCount → slot (phaseSlots x p s) q ≡ none
     phase x Blink l = unfold phaseSlots in
         (by-bool (ltb (x .turn) (x .over))
-        (λ e. rw e (slot-other s z 5 q (some (x .level)) (omega arith) (λ p. n (sym p)) ∙ h))
-        (λ e. rw e (slot-other s z 5 q none (omega arith) (λ p. n (sym p)) ∙ h)))
+        (λ e. rw e (slot-other s z slot6 q (some (x .level)) (omega arith) (λ p. n (sym p)) ∙ h))
+        (λ e. rw e (slot-other s z slot6 q none (omega arith) (λ p. n (sym p)) ∙ h)))
     phase x Delay l = unfold phaseSlots in
         (by-eq (x .owner) q
-        (λ p e. rw p (slot-same (emptied s slot6) (put-sized s z 5 none) q none k))
-        (λ p e. slot-other (emptied s slot6) (put-sized s z 5 none) (x .owner) q none l p ∙ slot-other s z 5 q none (omega arith) (λ r. n (sym r)) ∙ h))
+        (λ p e. rw p (slot-same (emptied s slot6) (put-sized s z slot6 none) q none k))
+        (λ p e. slot-other (emptied s slot6) (put-sized s z slot6 none) (x .owner) q none l p ∙ slot-other s z slot6 q none (omega arith) (λ r. n (sym r)) ∙ h))
 
     next : (b : Activity) → Owned b → slot (nextSlots b s) q ≡ none
     next Still l = unfold nextSlots in h
@@ -206,16 +206,16 @@ slots-alike t q j a s z k n w = by-bool (isDue t (activityDue a)) (λ e. rw e (n
     phase : (x : Warning) (p : Phase) → x .owner < slotCount → slot (phaseSlots x p (emptied s q)) j ≡ slot (phaseSlots x p s) j
     phase x Blink l = unfold phaseSlots in
         (by-bool (ltb (x .turn) (x .over))
-        (λ e. rw e (put-alike s z q j 5 (some (x .level)) k n (omega arith)))
-        (λ e. rw e (put-alike s z q j 5 none k n (omega arith))))
+        (λ e. rw e (put-alike s z q j slot6 (some (x .level)) k n (omega arith)))
+        (λ e. rw e (put-alike s z q j slot6 none k n (omega arith))))
     phase x Delay l = unfold phaseSlots in
         (by-eq (x .owner) j
         (λ p e. let i : j < slotCount = omega arith in
-        rw p (slot-same (emptied (emptied s q) slot6) (put-sized (emptied s q) (put-sized s z q none) 5 none) j none i
-        ∙ sym (slot-same (emptied s slot6) (put-sized s z 5 none) j none i)))
-        (λ p e. slot-other (emptied (emptied s q) slot6) (put-sized (emptied s q) (put-sized s z q none) 5 none) (x .owner) j none l p
-        ∙ put-alike s z q j 5 none k n (omega arith)
-        ∙ sym (slot-other (emptied s slot6) (put-sized s z 5 none) (x .owner) j none l p)))
+        rw p (slot-same (emptied (emptied s q) slot6) (put-sized (emptied s q) (put-sized s z q none) slot6 none) j none i
+        ∙ sym (slot-same (emptied s slot6) (put-sized s z slot6 none) j none i)))
+        (λ p e. slot-other (emptied (emptied s q) slot6) (put-sized (emptied s q) (put-sized s z q none) slot6 none) (x .owner) j none l p
+        ∙ put-alike s z q j slot6 none k n (omega arith)
+        ∙ sym (slot-other (emptied s slot6) (put-sized s z slot6 none) (x .owner) j none l p)))
 
     next : (b : Activity) → Owned b → slot (nextSlots b (emptied s q)) j ≡ slot (nextSlots b s) j
     next Still l = unfold nextSlots in (slot-other s z q j none k n)

@@ -31,11 +31,11 @@ put-leaves : (o : Output) (i : ℕ) (x : Option ℕ) → length (o .slots .level
 unfolding withEffect
 put-leaves o i x z k n =
     let s = emptied (o .slots) slot6 in
-    let q = put-sized (o .slots) z 5 none in
+    let q = put-sized (o .slots) z slot6 none in
     record {
-      six = slot-other s q i 5 x k n ∙ slot-same (o .slots) z 5 none (omega arith);
+      six = slot-other s q i slot6 x k n ∙ slot-same (o .slots) z slot6 none (omega arith);
       own = slot-same s q i x k;
-      rest = λ j p r. slot-other s q i j x k (λ e. r (sym e)) ∙ slot-other (o .slots) z 5 j none (omega arith) (λ e. p (sym e));
+      rest = λ j p r. slot-other s q i j x k (λ e. r (sym e)) ∙ slot-other (o .slots) z slot6 j none (omega arith) (λ e. p (sym e));
       activity = refl;
     }
 
@@ -49,14 +49,14 @@ warned-by t o i v (Warned w) h e = refl
 
 module _ (t : ℕ) (o : Output) (h : Sound t o) (runs : isLive (o .slots) slot6 ≡ true) (i : ℕ) (k : Slot i) where
   -- 'kind 02 of zero at P above 6 empties slots 6 and P'
-  pub zero-above : 5 < i → Leaves o (written t o i 0) i none none Still
+  pub zero-above : slot6 < i → Leaves o (written t o i 0) i none none Still
   unfolding written writtenWarned endedEmpty if_then_else_
   zero-above l =
       rw (warned-by t o i 0 (o .activity) (h .activity) runs, leb-yes {a = 6} {b = i} l)
       (put-leaves o i none (h .slots .size) (k .inside) (k .free))
 
   -- 'of zero at P below 6 it empties slot 6 and stores'
-  pub zero-below : i < 5 → Leaves o (written t o i 0) i none (some 0) Still
+  pub zero-below : i < slot6 → Leaves o (written t o i 0) i none (some 0) Still
   unfolding written writtenWarned endedStored if_then_else_
   zero-below l =
       rw (warned-by t o i 0 (o .activity) (h .activity) runs, leb-no {a = 6} {b = i} (omega arith))
@@ -74,7 +74,7 @@ module _ (t : ℕ) (o : Output) (h : Sound t o) (runs : isLive (o .slots) slot6 
   unfolding slotRelinquished withEffect
   runs-on =
       record {
-        six = slot-other (o .slots) (h .slots .size) i 5 none (k .inside) (k .free);
+        six = slot-other (o .slots) (h .slots .size) i slot6 none (k .inside) (k .free);
         own = slot-same (o .slots) (h .slots .size) i none (k .inside);
         rest = λ j p r. slot-other (o .slots) (h .slots .size) i j none (k .inside) (λ e. r (sym e));
         activity = unchanged (o .activity) (h .activity);

@@ -10,7 +10,7 @@ use lib.ListN.{length}
 use mathlib.Core.Option.{none}
 use Rattle.lighting.specs.Paper.Choice.{if_then_else_}
 use Rattle.lighting.specs.Paper.Level.{levelUnits, amountUnits}
-use Rattle.lighting.specs.Paper.Slots.{slotCount, Slots, winner, filled}
+use Rattle.lighting.specs.Paper.Slots.{slot6, slotCount, Slots, winner, filled}
 use Rattle.lighting.specs.Paper.Value.{clampLit, presentValue, elapsed, distanceMoved, reachedBy, reached, progressBy, progressValue, inProcess}
 use Rattle.lighting.specs.Paper.Record.{withBurning, withCommand}
 use Rattle.lighting.specs.Paper.Passing.{withBurned, activityDue, isDue, nextActivity, activityAt, nextSlots, slotsAt, afterEvents, fire, ticks}
@@ -200,7 +200,7 @@ pub withoutWarning-size : (s : Slots) (a : Activity) → length (withoutWarning 
 unfolding withoutWarning
 withoutWarning-size s Still = refl
 withoutWarning-size s (Moving m) = refl
-withoutWarning-size s (Warned w) = put-size s 5 none
+withoutWarning-size s (Warned w) = put-size s slot6 none
 
 -- 'If p is then the winner it replaces the movement': the four commands that move, to the target x
 module _ (t : ℕ) (o : Output) (k : Command) (h : Sound t o) (good : OperationInRange (k .operation)) (lasts : DurationInRange (k .duration))

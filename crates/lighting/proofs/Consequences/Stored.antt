@@ -101,7 +101,7 @@ module _ (t : ℕ) (o : Output) (h : Sound t o) (d : Duration) (g : DurationInRa
       (present-at (after t o Relinquish d .slots) (commanded-sound t o (record { operation = Relinquish; duration = d }) tt g h .slots .size) (o .settings) j v
       (relinquish t o h d .rest j m n ∙ s)
       (λ q l. by-eq q p (λ e z. rw e (relinquish t o h d .own))
-      (λ e z. by-eq q 5 (λ e′ z′. rw e′ (relinquish t o h d .six)) (λ e′ z′. relinquish t o h d .rest q e′ e ∙ b q l e e′))))
+      (λ e z. by-eq q slot6 (λ e′ z′. rw e′ (relinquish t o h d .six)) (λ e′ z′. relinquish t o h d .rest q e′ e ∙ b q l e e′))))
 
   pub relinquished-shows-default : ((q : ℕ) → q < slotCount → q ≢ p → q ≢ slot6 → slot (o .slots) q ≡ none)
       → presentValue (after t o Relinquish d .settings) (after t o Relinquish d .slots) ≡ clampLit (o .settings) (o .settings .default)
@@ -109,4 +109,4 @@ module _ (t : ℕ) (o : Output) (h : Sound t o) (d : Duration) (g : DurationInRa
       rw (relinquish t o h d .settings)
       (present-none (after t o Relinquish d .slots) (commanded-sound t o (record { operation = Relinquish; duration = d }) tt g h .slots .size) (o .settings)
       (λ q l. by-eq q p (λ e z. rw e (relinquish t o h d .own))
-      (λ e z. by-eq q 5 (λ e′ z′. rw e′ (relinquish t o h d .six)) (λ e′ z′. relinquish t o h d .rest q e′ e ∙ b q l e e′))))
+      (λ e z. by-eq q slot6 (λ e′ z′. rw e′ (relinquish t o h d .six)) (λ e′ z′. relinquish t o h d .rest q e′ e ∙ b q l e e′))))

@@ -45,13 +45,13 @@ withoutWarning-six : (t : ℕ) (c : Settings) (s : Slots) (a : Activity) → len
 unfolding withoutWarning
 withoutWarning-six t c s Still z h = dead-slot s slot6 z (omega arith) h
 withoutWarning-six t c s (Moving m) z h = dead-slot s slot6 z (omega arith) (h .six)
-withoutWarning-six t c s (Warned w) z h = slot-same s z 5 none (omega arith)
+withoutWarning-six t c s (Warned w) z h = slot-same s z slot6 none (omega arith)
 
 withoutWarning-rest : (s : Slots) (a : Activity) (j : ℕ) → length (s .levels) ≡ slotCount → j ≢ slot6 → slot (withoutWarning s a) j ≡ slot s j
 unfolding withoutWarning
 withoutWarning-rest s Still j z n = refl
 withoutWarning-rest s (Moving m) j z n = refl
-withoutWarning-rest s (Warned w) j z n = slot-other s z 5 j none (omega arith) (λ e. n (sym e))
+withoutWarning-rest s (Warned w) j z n = slot-other s z slot6 j none (omega arith) (λ e. n (sym e))
 
 -- STOP, and RELINQUISH's movement, of what was under way
 abbrev pub NotMoving : Activity → Type 0
@@ -118,7 +118,7 @@ module _ (t : ℕ) (o : Output) (h : Sound t o) (d : Duration) where
         own = rw e (slot-same before size p x (h .settings .slot .inside));
         six =
             rw e
-            (slot-other before size p 5 x (h .settings .slot .inside) (h .settings .slot .free)
+            (slot-other before size p slot6 x (h .settings .slot .inside) (h .settings .slot .free)
             ∙ withoutWarning-six t (o .settings) (o .slots) (o .activity) (h .slots .size) (h .activity));
         rest = λ j m n.
             rw e

@@ -59,20 +59,20 @@ pub record State (s : Slots) (x : ℕ) (a b : Option ℕ) (z : Slots) : Type 0 w
   pub own : slot z x ≡ b
   pub rest : (i : ℕ) → i ≢ slot6 → i ≢ x → slot z i ≡ slot s i
 
-put-six : {s z : Slots} {x : ℕ} {a b : Option ℕ} (w : Option ℕ) → x ≢ slot6 → State s x a b z → State s x w b (put z 5 w)
+put-six : {s z : Slots} {x : ℕ} {a b : Option ℕ} (w : Option ℕ) → x ≢ slot6 → State s x a b z → State s x w b (put z slot6 w)
 put-six {z = z} {x = x} w n h =
     record {
-      size = put-sized z (h .size) 5 w;
-      six = slot-same z (h .size) 5 w (omega arith);
-      own = slot-other z (h .size) 5 x w (omega arith) (λ e. n (sym e)) ∙ h .own;
-      rest = λ i p q. slot-other z (h .size) 5 i w (omega arith) (λ e. p (sym e)) ∙ h .rest i p q;
+      size = put-sized z (h .size) slot6 w;
+      six = slot-same z (h .size) slot6 w (omega arith);
+      own = slot-other z (h .size) slot6 x w (omega arith) (λ e. n (sym e)) ∙ h .own;
+      rest = λ i p q. slot-other z (h .size) slot6 i w (omega arith) (λ e. p (sym e)) ∙ h .rest i p q;
     }
 
 put-own : {s z : Slots} {x : ℕ} {a b : Option ℕ} (w : Option ℕ) → x < slotCount → x ≢ slot6 → State s x a b z → State s x a w (put z x w)
 put-own {z = z} {x = x} w k n h =
     record {
       size = put-sized z (h .size) x w;
-      six = slot-other z (h .size) x 5 w k n ∙ h .six;
+      six = slot-other z (h .size) x slot6 w k n ∙ h .six;
       own = slot-same z (h .size) x w k;
       rest = λ i p q. slot-other z (h .size) x i w k (λ e. q (sym e)) ∙ h .rest i p q;
     }
@@ -81,7 +81,7 @@ module _ (c : Settings) (s : Slots) (x : ℕ) (starts : Starts c s x) where
   -- while slot 6 is live it is the winner
   present-six : {w : ℕ} {b : Option ℕ} (z : Slots) → State s x (some w) b z → presentValue c z ≡ clampLit c w
   present-six {w} z h =
-      present-at z (h .size) c 5 w (h .six)
+      present-at z (h .size) c slot6 w (h .six)
       (λ i m. h .rest i (λ e. omega arith) (λ e. omega (arith, starts .own)) ∙ starts .below i (omega (arith, starts .own)))
 
   -- when it is empty, and slot x is zero or empty, nothing is lit
@@ -92,7 +92,7 @@ module _ (c : Settings) (s : Slots) (x : ℕ) (starts : Starts c s x) where
     where
       unlit : (i : ℕ) → i < length (slotsOf z) → Unlit (getD (slotsOf z) i none)
       unlit i m =
-          by-eq i 5
+          by-eq i slot6
           (λ e t. rw (e, h .six) tt)
           (λ e t. by-eq i x
           (λ e′ t′. rw (e′, h .own) u)
@@ -254,7 +254,7 @@ module _ (c : Settings) (s : Slots) (x : ℕ) (size : length (s .levels) ≡ slo
       (also-yes (leb-yes (first-from (slotsOf s) x (omega (arith, slots-size s)) (h .below)))
       (also-yes (leb-yes {a = 1} {b = presentValue c s} (h .lit))
       (also-yes (eqb-hit {a = c .default} {b = 0} (h .default))
-      (each-all (zeroOrEmpty s) (16 - (x + 1)) (x + 1) (λ j p q. zeroOrEmpty-slot s j size (omega arith) (h .above j (omega arith) (omega arith))))))))
+      (each-all (zeroOrEmpty s) (slotCount - (x + 1)) (x + 1) (λ j p q. zeroOrEmpty-slot s j size (omega arith) (h .above j (omega arith) (omega arith))))))))
 
   pub warns-starts : warns c s x ≡ true → Starts c s x
   unfolding warns warnsBy blinks zeroOrEmptyAbove zeroOrEmptyFrom
@@ -273,7 +273,7 @@ module _ (c : Settings) (s : Slots) (x : ℕ) (size : length (s .levels) ≡ slo
         below = λ i m. dead-slot s i size (omega arith) (dead-before s size i (omega arith));
         lit = le-of (f .0);
         default = eq-of (g .0);
-        above = λ i l m. slot-zeroOrEmpty s i size m (all-each (zeroOrEmpty s) (16 - (x + 1)) (x + 1) i (g .1) (omega arith) (omega arith));
+        above = λ i l m. slot-zeroOrEmpty s i size m (all-each (zeroOrEmpty s) (slotCount - (x + 1)) (x + 1) i (g .1) (omega arith) (omega arith));
       }
 
 -- THE COURSE: B ms dark, D ms at the old level Y, then dark; slot x empties with slot 6 if D is above 0, else keeps its 0
@@ -288,11 +288,11 @@ begun : (c : Settings) (s : Slots) (x : ℕ) → length (s .levels) ≡ slotCoun
     → State s x (some w) (some 0) (filled (filled s x 0) slot6 w)
 begun c s x z k n w =
     record {
-      size = put-sized (filled s x 0) (put-sized s z x (some 0)) 5 (some w);
-      six = slot-same (filled s x 0) (put-sized s z x (some 0)) 5 (some w) (omega arith);
-      own = slot-other (filled s x 0) (put-sized s z x (some 0)) 5 x (some w) (omega arith) (λ e. n (sym e)) ∙ slot-same s z x (some 0) k;
+      size = put-sized (filled s x 0) (put-sized s z x (some 0)) slot6 (some w);
+      six = slot-same (filled s x 0) (put-sized s z x (some 0)) slot6 (some w) (omega arith);
+      own = slot-other (filled s x 0) (put-sized s z x (some 0)) slot6 x (some w) (omega arith) (λ e. n (sym e)) ∙ slot-same s z x (some 0) k;
       rest = λ i p q.
-          slot-other (filled s x 0) (put-sized s z x (some 0)) 5 i (some w) (omega arith) (λ e. p (sym e)) ∙ slot-other s z x i (some 0) k (λ e. q (sym e));
+          slot-other (filled s x 0) (put-sized s z x (some 0)) slot6 i (some w) (omega arith) (λ e. p (sym e)) ∙ slot-other s z x i (some 0) k (λ e. q (sym e));
     }
 
 module _ (c : Settings) (s : Slots) (x y : ℕ) (starts : Starts c s x) (inside : x < slotCount) (same : clampLit c y ≡ y) (t : ℕ) (o : Output) where
@@ -352,7 +352,7 @@ warning t o x h inside starts =
     let n : x ≢ slot6 = λ e. omega (arith, starts .own) in
     let same : clampLit c y ≡ y = unfold presentValue in (clampLit-clampLit c (winningLevel (c .default) s) (h .settings)) in
     rw
-    (calm-by t o x 0 (o .activity) (h .activity) (isLive-slot s slot6 (omega arith) ∙ ap alive (starts .below 5 (omega (arith, starts .own)))), starts-warns c s x z inside starts)
+    (calm-by t o x 0 (o .activity) (h .activity) (isLive-slot s slot6 (omega arith) ∙ ap alive (starts .below slot6 (omega (arith, starts .own)))), starts-warns c s x z inside starts)
     (by-eq (c .blink) 0
     (λ p e. rw e
     (from-delay c s x y starts inside same t _ p refl (seen-lit c s x y starts inside same y _ same refl (begun c s x z inside n y))))
