@@ -1,7 +1,12 @@
--- Drafted by tools/draft.py: nothing here was written by hand.
+use Rattle.text_block.proofs.Turns.{answerField-on}
+use Rattle.text_block.specs.Block.{answerField}
 use borrow.Author.Needs.{needs}
 use Rattle.text_block.proofs.put_answer_field.Statement.{statement}
 use Rattle.text_block.proofs.put_answer_field.Tie as tie
+use Rattle.text_block.proofs.put_answer_field.Reads as reads
+use Rattle.text_block.proofs.put_answer_field.Lts as lts
+use Rattle.text_block.proofs.put_hex_field.Reads as put-hex-field-reads
+use Rattle.text_printing.proofs.put_all.Reads as put-all-reads
 
 enum-told : tie.Need-enum-told
 enum-told c = search needs
@@ -40,25 +45,50 @@ same-length : tie.Need-same-length
 same-length c = search needs
 
 returns : tie.Need-returns
-returns c = search needs
+unfolding answerField
+returns c = search (needs, answerField-on)
 
 same-length-2 : tie.Need-same-length-2
 same-length-2 c = search needs
 
 returns-2 : tie.Need-returns-2
-returns-2 c = search needs
+unfolding answerField
+returns-2 c = search (needs, answerField-on)
 
 same-length-3 : tie.Need-same-length-3
 same-length-3 c = search needs
 
 returns-3 : tie.Need-returns-3
-returns-3 c = search needs
+unfolding answerField
+returns-3 c = search (needs, answerField-on)
 
 same-length-4 : tie.Need-same-length-4
 same-length-4 c = search needs
 
 returns-4 : tie.Need-returns-4
-returns-4 c = search needs
+unfolding answerField
+returns-4 c = search (needs, answerField-on)
 
 pub put-answer-field-spec : {M : Type 1} → statement M
-put-answer-field-spec = tie.close (tie.spec enum-told slice-aggregate-put-all put-all-requires enum-known-a put-hex-field-requires enum-told-2 slice-aggregate-put-all-2 put-all-requires-2 enum-told-3 slice-aggregate-put-all-3 put-all-requires-3 same-length returns same-length-2 returns-2 same-length-3 returns-3 same-length-4 returns-4)
+put-answer-field-spec =
+    tie.close
+    (tie.spec
+    enum-told
+    slice-aggregate-put-all
+    put-all-requires
+    enum-known-a
+    put-hex-field-requires
+    enum-told-2
+    slice-aggregate-put-all-2
+    put-all-requires-2
+    enum-told-3
+    slice-aggregate-put-all-3
+    put-all-requires-3
+    same-length
+    returns
+    same-length-2
+    returns-2
+    same-length-3
+    returns-3
+    same-length-4
+    returns-4)

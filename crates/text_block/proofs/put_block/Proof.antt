@@ -1,7 +1,17 @@
--- Drafted by tools/draft.py: nothing here was written by hand.
+use Rattle.text_printing.proofs.Pages.{wrote-then}
+use Rattle.text_block.specs.Block.{block}
 use borrow.Author.Needs.{needs}
 use Rattle.text_block.proofs.put_block.Statement.{statement}
 use Rattle.text_block.proofs.put_block.Tie as tie
+use Rattle.text_block.proofs.put_block.Reads as reads
+use Rattle.text_block.proofs.put_block.Lts as lts
+use Rattle.text_block.proofs.put_last_line.Reads as put-last-line-reads
+use Rattle.text_block.proofs.put_number_line.Reads as put-number-line-reads
+use Rattle.text_block.proofs.put_present_line.Reads as put-present-line-reads
+use Rattle.text_block.proofs.put_process_line.Reads as put-process-line-reads
+use Rattle.text_block.proofs.put_progress_line.Reads as put-progress-line-reads
+use Rattle.text_block.proofs.put_settings_line.Reads as put-settings-line-reads
+use Rattle.text_block.proofs.put_slots_line.Reads as put-slots-line-reads
 
 slice-aggregate-put-number-line : tie.Need-slice-aggregate-put-number-line
 slice-aggregate-put-number-line c = search needs
@@ -37,7 +47,22 @@ same-length : tie.Need-same-length
 same-length c = search needs
 
 returns : tie.Need-returns
-returns c = search needs
+unfolding block
+returns c = wrote-then (c .before .before .before .before .before .before .before .before .before .before .before .before .before .before .before .before .before .before .before .before .before .before .before .before .before .before .before .before .before .before .before .put-number-line .ensures) (wrote-then (c .before .before .before .before .before .before .before .before .before .before .before .before .before .before .before .before .before .before .before .before .before .before .before .before .before .before .before .put-slots-line .ensures) (wrote-then (c .before .before .before .before .before .before .before .before .before .before .before .before .before .before .before .before .before .before .before .before .before .before .before .put-present-line .ensures) (wrote-then (c .before .before .before .before .before .before .before .before .before .before .before .before .before .before .before .before .before .before .before .put-progress-line .ensures) (wrote-then (c .before .before .before .before .before .before .before .before .before .before .before .before .before .before .before .put-process-line .ensures) (wrote-then (c .before .before .before .before .before .before .before .before .before .before .before .put-settings-line .ensures) (wrote-then (c .before .before .before .before .before .before .before .put-last-line .ensures) (c .before .before .put-number-line2 .ensures)))))))
 
 pub put-block-spec : {M : Type 1} → statement M
-put-block-spec = tie.close (tie.spec slice-aggregate-put-number-line put-number-line-requires put-slots-line-requires put-present-line-requires put-progress-line-requires put-process-line-requires put-settings-line-requires put-last-line-requires slice-aggregate-put-number-line-2 put-number-line-requires-2 same-length returns)
+put-block-spec =
+    tie.close
+    (tie.spec
+    slice-aggregate-put-number-line
+    put-number-line-requires
+    put-slots-line-requires
+    put-present-line-requires
+    put-progress-line-requires
+    put-process-line-requires
+    put-settings-line-requires
+    put-last-line-requires
+    slice-aggregate-put-number-line-2
+    put-number-line-requires-2
+    same-length
+    returns)

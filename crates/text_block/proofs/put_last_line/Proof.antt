@@ -1,7 +1,13 @@
--- Drafted by tools/draft.py: nothing here was written by hand.
+use Rattle.text_printing.proofs.Pages.{wrote-then}
+use Rattle.text_block.specs.Block.{lastLine}
 use borrow.Author.Needs.{needs}
 use Rattle.text_block.proofs.put_last_line.Statement.{statement}
 use Rattle.text_block.proofs.put_last_line.Tie as tie
+use Rattle.text_block.proofs.put_last_line.Reads as reads
+use Rattle.text_block.proofs.put_last_line.Lts as lts
+use Rattle.text_block.proofs.put_properties.Reads as put-properties-reads
+use Rattle.text_printing.proofs.put.Reads as put-reads
+use Rattle.text_printing.proofs.put_all.Reads as put-all-reads
 
 slice-aggregate-put-all : tie.Need-slice-aggregate-put-all
 slice-aggregate-put-all c = search needs
@@ -19,7 +25,16 @@ same-length : tie.Need-same-length
 same-length c = search needs
 
 returns : tie.Need-returns
-returns c = search needs
+unfolding lastLine
+returns c = wrote-then (c .before .before .before .before .before .before .before .before .before .before .put-all .ensures) (wrote-then (c .before .before .before .before .before .before .put-properties .ensures) (c .before .before .put .ensures))
 
 pub put-last-line-spec : {M : Type 1} → statement M
-put-last-line-spec = tie.close (tie.spec slice-aggregate-put-all put-all-requires put-properties-requires put-requires same-length returns)
+put-last-line-spec =
+    tie.close
+    (tie.spec
+    slice-aggregate-put-all
+    put-all-requires
+    put-properties-requires
+    put-requires
+    same-length
+    returns)

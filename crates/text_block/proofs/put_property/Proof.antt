@@ -1,7 +1,12 @@
--- Drafted by tools/draft.py: nothing here was written by hand.
+use Rattle.text_block.specs.Block.{propertyField}
 use borrow.Author.Needs.{needs}
 use Rattle.text_block.proofs.put_property.Statement.{statement}
 use Rattle.text_block.proofs.put_property.Tie as tie
+use Rattle.text_block.proofs.put_property.Reads as reads
+use Rattle.text_block.proofs.put_property.Lts as lts
+use Rattle.text_block.proofs.put_answer_field.Reads as put-answer-field-reads
+use Rattle.property_write.proofs.property_of.Reads as property-of-reads
+use Rattle.property_read.proofs.read_property.Reads as read-property-reads
 
 property-of-requires : tie.Need-property-of-requires
 property-of-requires c κs = search needs
@@ -16,7 +21,10 @@ same-length : tie.Need-same-length
 same-length c = search needs
 
 returns : tie.Need-returns
-returns c = search needs
+unfolding propertyField
+returns c = rw (← c .before .before .before .before .before .property-of .ensures, ← c .before .before .before .before .read-property .ensures) (c .before .before .put-answer-field .ensures)
 
 pub put-property-spec : {M : Type 1} → statement M
-put-property-spec = tie.close (tie.spec property-of-requires read-property-requires put-answer-field-requires same-length returns)
+put-property-spec =
+    tie.close
+    (tie.spec property-of-requires read-property-requires put-answer-field-requires same-length returns)

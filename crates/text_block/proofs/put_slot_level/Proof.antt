@@ -1,7 +1,11 @@
--- Drafted by tools/draft.py: nothing here was written by hand.
+use Rattle.text_block.specs.Block.{slotLevel}
 use borrow.Author.Needs.{needs}
 use Rattle.text_block.proofs.put_slot_level.Statement.{statement}
 use Rattle.text_block.proofs.put_slot_level.Tie as tie
+use Rattle.text_block.proofs.put_slot_level.Reads as reads
+use Rattle.text_block.proofs.put_slot_level.Lts as lts
+use Rattle.text_block.proofs.put_level_field.Reads as put-level-field-reads
+use Rattle.output_slots.proofs.level_at.Reads as level-at-reads
 
 level-at-requires : tie.Need-level-at-requires
 level-at-requires c κs = search needs
@@ -13,7 +17,9 @@ same-length : tie.Need-same-length
 same-length c = search needs
 
 returns : tie.Need-returns
-returns c = search needs
+unfolding slotLevel
+returns c = rw (← c .before .before .before .level-at .ensures) (c .before .before .put-level-field .ensures)
 
 pub put-slot-level-spec : {M : Type 1} → statement M
-put-slot-level-spec = tie.close (tie.spec level-at-requires put-level-field-requires same-length returns)
+put-slot-level-spec =
+    tie.close (tie.spec level-at-requires put-level-field-requires same-length returns)

@@ -1,10 +1,9 @@
+-- Drafted by tools/draft.py: nothing here was written by hand.
 use Rattle.lighting.proofs.Choosing.{ifs}
 use Rattle.text_found.specs.Found.{roomy}
 use borrow.Author.Needs.{needs}
 use Rattle.text_found.proofs.has_room.Statement.{statement}
 use Rattle.text_found.proofs.has_room.Tie as tie
-use Rattle.text_found.proofs.has_room.Reads as reads
-use Rattle.text_found.proofs.has_room.Lts as lts
 
 sub-result : tie.Need-sub-result
 sub-result c = search needs

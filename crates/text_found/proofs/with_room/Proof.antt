@@ -1,12 +1,9 @@
+-- Drafted by tools/draft.py: nothing here was written by hand.
 use Rattle.lighting.proofs.Choosing.{ifs}
 use Rattle.text_found.specs.Found.{marked}
 use borrow.Author.Needs.{needs}
 use Rattle.text_found.proofs.with_room.Statement.{statement}
 use Rattle.text_found.proofs.with_room.Tie as tie
-use Rattle.text_found.proofs.with_room.Reads as reads
-use Rattle.text_found.proofs.with_room.Lts as lts
-use Rattle.text_found.proofs.flush.Reads as flush-reads
-use Rattle.text_found.proofs.has_room.Reads as has-room-reads
 
 has-room-requires : tie.Need-has-room-requires
 has-room-requires c κs = search needs
