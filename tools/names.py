@@ -34,6 +34,9 @@ edits = {(p.split('/')[1], os.path.basename(p)[:-5]) for p in files if p.endswit
 def there(name):
     if re.search(r'[ *<>|=(){}"$&\[]|\.\.', name) or re.match(r'^[-\d"\'.:#]', name) or not re.search(r'[A-Za-z]{2}', name):
         return True
+    # what a build makes
+    if re.match(r'^(tests/)?target/', name):
+        return True
     if name in known or name in OTHERS or name in files or os.path.exists(name) or os.path.exists(name.rstrip('/')):
         return True
     if '::' in name:
