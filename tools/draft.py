@@ -23,6 +23,7 @@ import sys
 
 MARK = '-- Drafted by tools/draft.py: nothing here was written by hand.'
 LAWS = 'crates/lighting/proofs/Laws.antt'
+SPECS = ['crates/lighting/specs/*/*.antt', 'crates/*/specs/*.antt']
 # what tools/twin.py, laws.py and figures.py make
 MADE = ['crates/*/proofs/Lent.antt', 'crates/*/proofs/Lent/**', 'crates/*/proofs/**/Proof/Lts.antt', 'crates/*/proofs/**/Proof/Tie.antt',
         'crates/lighting/proofs/Laws.antt', 'crates/lighting/proofs/Figures.antt', 'docs/SPOILT.md', 'tests/EVENTS.txt']
@@ -39,6 +40,8 @@ def write(path, text):
         f.write(text)
 
 
+# definitions that open by themselves, so that no proof says so
+OPEN = {name for pattern in SPECS for path in glob.glob(pattern) for name in re.findall(r'^abbrev pub (\w+) :', read(path), re.M)}
 DEPENDS = {m.group(1): m.group(2).split() for m in re.finditer(r'^(\w+):(.*)', read('crates.txt'), re.M)}
 
 
@@ -121,14 +124,14 @@ def drafted(crate, path, text):
         lines.append('use Rattle.lighting.proofs.Choosing.{ifs}')
     if law and not composes:
         lines.append('use %s.{%s-on}' % (crate.laws[definition], definition))
-    if definition:
+    if definition and definition not in OPEN:
         lines.append('use %s.{%s}' % (crate.where[module][definition], definition))
     lines.append('use borrow.Author.Needs.{needs}')
     lines.append('use Rattle.%s.proofs.%s.Statement.{statement}' % (crate.name, dotted))
     lines.append('use Rattle.%s.proofs.%s.Tie as tie' % (crate.name, dotted))
     for name, arguments in needs:
         lines += ['', '%s : tie.Need-%s' % (name, name)]
-        if name in returns and definition:
+        if name in returns and definition and definition not in OPEN:
             lines.append('unfolding ' + definition)
         lines.append('%s %s = %s' % (name, arguments, answer if name in returns else 'search needs'))
     spec = function.replace('_', '-') + '-spec'

@@ -1,9 +1,9 @@
+-- Drafted by tools/draft.py: nothing here was written by hand.
+use Rattle.lighting.proofs.Choosing.{ifs}
 use Rattle.lighting.proofs.Laws.{rowOf-on}
 use borrow.Author.Needs.{needs}
 use Rattle.number_ranges.proofs.rows.row_of.Statement.{statement}
 use Rattle.number_ranges.proofs.rows.row_of.Tie as tie
-use Rattle.number_ranges.proofs.rows.row_of.Reads as reads
-use Rattle.number_ranges.proofs.rows.row_of.Lts as lts
 
 enum-told : tie.Need-enum-told
 enum-told c = search needs
@@ -72,116 +72,70 @@ enum-told-22 : tie.Need-enum-told-22
 enum-told-22 c = search needs
 
 returns : tie.Need-returns
-returns c = search (needs, rowOf-on)
+returns c = search (needs, ifs, rowOf-on)
 
 returns-2 : tie.Need-returns-2
-returns-2 c = search (needs, rowOf-on)
+returns-2 c = search (needs, ifs, rowOf-on)
 
 returns-3 : tie.Need-returns-3
-returns-3 c = search (needs, rowOf-on)
+returns-3 c = search (needs, ifs, rowOf-on)
 
 returns-4 : tie.Need-returns-4
-returns-4 c = search (needs, rowOf-on)
+returns-4 c = search (needs, ifs, rowOf-on)
 
 returns-5 : tie.Need-returns-5
-returns-5 c = search (needs, rowOf-on)
+returns-5 c = search (needs, ifs, rowOf-on)
 
 returns-6 : tie.Need-returns-6
-returns-6 c = search (needs, rowOf-on)
+returns-6 c = search (needs, ifs, rowOf-on)
 
 returns-7 : tie.Need-returns-7
-returns-7 c = search (needs, rowOf-on)
+returns-7 c = search (needs, ifs, rowOf-on)
 
 returns-8 : tie.Need-returns-8
-returns-8 c = search (needs, rowOf-on)
+returns-8 c = search (needs, ifs, rowOf-on)
 
 returns-9 : tie.Need-returns-9
-returns-9 c = search (needs, rowOf-on)
+returns-9 c = search (needs, ifs, rowOf-on)
 
 returns-10 : tie.Need-returns-10
-returns-10 c = search (needs, rowOf-on)
+returns-10 c = search (needs, ifs, rowOf-on)
 
 returns-11 : tie.Need-returns-11
-returns-11 c = search (needs, rowOf-on)
+returns-11 c = search (needs, ifs, rowOf-on)
 
 returns-12 : tie.Need-returns-12
-returns-12 c = search (needs, rowOf-on)
+returns-12 c = search (needs, ifs, rowOf-on)
 
 returns-13 : tie.Need-returns-13
-returns-13 c = search (needs, rowOf-on)
+returns-13 c = search (needs, ifs, rowOf-on)
 
 returns-14 : tie.Need-returns-14
-returns-14 c = search (needs, rowOf-on)
+returns-14 c = search (needs, ifs, rowOf-on)
 
 returns-15 : tie.Need-returns-15
-returns-15 c = search (needs, rowOf-on)
+returns-15 c = search (needs, ifs, rowOf-on)
 
 returns-16 : tie.Need-returns-16
-returns-16 c = search (needs, rowOf-on)
+returns-16 c = search (needs, ifs, rowOf-on)
 
 returns-17 : tie.Need-returns-17
-returns-17 c = search (needs, rowOf-on)
+returns-17 c = search (needs, ifs, rowOf-on)
 
 returns-18 : tie.Need-returns-18
-returns-18 c = search (needs, rowOf-on)
+returns-18 c = search (needs, ifs, rowOf-on)
 
 returns-19 : tie.Need-returns-19
-returns-19 c = search (needs, rowOf-on)
+returns-19 c = search (needs, ifs, rowOf-on)
 
 returns-20 : tie.Need-returns-20
-returns-20 c = search (needs, rowOf-on)
+returns-20 c = search (needs, ifs, rowOf-on)
 
 returns-21 : tie.Need-returns-21
-returns-21 c = search (needs, rowOf-on)
+returns-21 c = search (needs, ifs, rowOf-on)
 
 returns-22 : tie.Need-returns-22
-returns-22 c = search (needs, rowOf-on)
+returns-22 c = search (needs, ifs, rowOf-on)
 
 pub row-of-spec : {M : Type 1} → statement M
-row-of-spec =
-    tie.close
-    (tie.spec
-    enum-told
-    enum-told-2
-    enum-told-3
-    enum-told-4
-    enum-told-5
-    enum-told-6
-    enum-told-7
-    enum-told-8
-    enum-told-9
-    enum-told-10
-    enum-told-11
-    enum-told-12
-    enum-told-13
-    enum-told-14
-    enum-told-15
-    enum-told-16
-    enum-told-17
-    enum-told-18
-    enum-told-19
-    enum-told-20
-    enum-told-21
-    enum-told-22
-    returns
-    returns-2
-    returns-3
-    returns-4
-    returns-5
-    returns-6
-    returns-7
-    returns-8
-    returns-9
-    returns-10
-    returns-11
-    returns-12
-    returns-13
-    returns-14
-    returns-15
-    returns-16
-    returns-17
-    returns-18
-    returns-19
-    returns-20
-    returns-21
-    returns-22)
+row-of-spec = tie.close (tie.spec enum-told enum-told-2 enum-told-3 enum-told-4 enum-told-5 enum-told-6 enum-told-7 enum-told-8 enum-told-9 enum-told-10 enum-told-11 enum-told-12 enum-told-13 enum-told-14 enum-told-15 enum-told-16 enum-told-17 enum-told-18 enum-told-19 enum-told-20 enum-told-21 enum-told-22 returns returns-2 returns-3 returns-4 returns-5 returns-6 returns-7 returns-8 returns-9 returns-10 returns-11 returns-12 returns-13 returns-14 returns-15 returns-16 returns-17 returns-18 returns-19 returns-20 returns-21 returns-22)
