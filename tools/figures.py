@@ -1,6 +1,6 @@
 #!/usr/bin/env python3
 """figures.py [--check]: write crates/lighting/proofs/Figures.antt: that the definitions compute the bench figures, the traps and the worked list of
-specs/Paper/Figures.antt and specs/Paper/Worked.antt. Only the lists of names to unfold are made; the prover checks the equations.
+specs/Paper/Figures.antt, Worked.antt and WorkedTags.antt. Only the lists of names to unfold are made; the prover checks the equations.
 With --check nothing is written, and a stale file is an error."""
 import os
 import re
@@ -9,7 +9,7 @@ import sys
 SPECS = 'crates/lighting/specs/%s/%s.antt'
 OUT = 'crates/lighting/proofs/Figures.antt'
 OF_OUTPUTS = 'Choice Level Slots Value Record Passing Advance Writing Operations Commands Rows Properties Fresh Answers'.split()
-OF_PANELS = OF_OUTPUTS + 'Field Kinds Frames Rules Acting Copies Panel Judging Executing Worked'.split()
+OF_PANELS = OF_OUTPUTS + 'Field Kinds Tags Frames Rules Acting Copies Panel Judging Executing'.split()
 
 
 def folder(module):
@@ -35,8 +35,11 @@ lines = [
     'use Rattle.lighting.specs.Paper.Figures.{given, said, trapsGiven, trapsSaid}',
 ]
 for module in OF_PANELS:
-    names = definitions(module) + (['frames', 'expected'] if module == 'Worked' else [])
-    lines.append('use Rattle.lighting.specs.%s.%s.{%s}' % (folder(module), module, ', '.join(names)))
+    lines.append('use Rattle.lighting.specs.%s.%s.{%s}' % (folder(module), module, ', '.join(definitions(module))))
+lines += [
+    'use Rattle.lighting.specs.Paper.Worked.{frames, expected}',
+    'use Rattle.lighting.specs.Paper.WorkedTags.{commandsWritten, theirOctets, refused, refusals, framesInTags, answersInTags}',
+]
 text = '\n'.join(lines) + '''
 
 pub figures : given ≡ said
@@ -47,11 +50,24 @@ pub traps : trapsGiven ≡ trapsSaid
 unfolding bitAnd bitOr ofBits %s
 traps = refl
 
+-- §1: the octets of commands, the refusals of bodies
+pub tags-written : commandsWritten ≡ theirOctets
+unfolding bitAnd bitOr ofBits toBits round %s
+tags-written = refl
+
+pub tags-refused : refused ≡ refusals
+unfolding bitAnd bitOr ofBits toBits round %s
+tags-refused = refl
+
 -- two outputs, freshly started
 pub worked : answers document01 (freshPanel 2 8) frames ≡ expected
 unfolding bitAnd bitOr ofBits toBits round answers %s
 worked = refl
-''' % (opened(OF_OUTPUTS), opened(OF_OUTPUTS), opened(OF_PANELS))
+
+pub worked-in-tags : answers document01 (freshPanel 2 8) framesInTags ≡ answersInTags
+unfolding bitAnd bitOr ofBits toBits round answers %s
+worked-in-tags = refl
+''' % ((opened(OF_OUTPUTS),) * 2 + (opened(OF_PANELS),) * 4)
 if '--check' in sys.argv:
     # the layout is rt fmt's
     if open(OUT).read().split() != text.split():

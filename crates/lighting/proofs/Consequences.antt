@@ -7,6 +7,8 @@ pub mod Warning
 pub mod Interrupted
 pub mod Reads
 pub mod Writes
+pub mod Tags
+pub mod KeptInLists
 pub mod Orders
 pub mod Burning
 pub mod Others

@@ -10,7 +10,7 @@ use lib.ListN.{getD}
 use Rattle.lighting.specs.Paper.Choice.{if_then_else_, _also_}
 use Rattle.lighting.specs.Paper.Kinds.{longestFrame, unknownRow, plainRows, commandRows, kindRow, kindLength}
 use Rattle.lighting.specs.declared.Action.{Action}
-use Rattle.lighting.specs.declared.Action.the-variants.{WritesLevel, EmptiesSlot, WritesProperty, ReadsProperty, Stops, FadesTo, FadesToOver, RampsTo, RampsToAtRate, StepsUp, StepsDown, StepsUpBy, StepsDownBy, GoesTo, Relinquishes}
+use Rattle.lighting.specs.declared.Action.the-variants.{WritesLevel, EmptiesSlot, WritesProperty, ReadsProperty, Stops, FadesTo, FadesToOver, RampsTo, RampsToAtRate, StepsUp, StepsDown, StepsUpBy, StepsDownBy, GoesTo, Relinquishes, CommandsTagged}
 use Rattle.lighting.specs.declared.Kind.{Kind}
 use Rattle.lighting.specs.declared.Kind.the-variants.{NoKind, ClockKind, CallKind}
 use Rattle.lighting.specs.declared.KindRow.{KindRow}
@@ -60,6 +60,7 @@ actionByte StepsUpBy = 0x17
 actionByte StepsDownBy = 0x18
 actionByte GoesTo = 0x19
 actionByte Relinquishes = 0x1a
+actionByte CommandsTagged = 0x1b
 
 isByte : ℕ → Kind → Bool
 isByte k NoKind = true

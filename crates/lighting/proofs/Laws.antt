@@ -7,7 +7,8 @@ use Rattle.lighting.specs.Engine.Judging.{judgedByRecord, stationOf}
 use Rattle.lighting.specs.Paper.Acting.{acted}
 use Rattle.lighting.specs.Paper.Answers.{answerBytes, levelAnswered}
 use Rattle.lighting.specs.Paper.Commands.{withoutWarning, activityWithoutWarning, stopped, effect, timed}
-use Rattle.lighting.specs.Paper.Frames.{levelFieldRefusal, amountFieldRefusal, timeFieldRefusal, writeLevel, requestOf, parseBy, Bytes}
+use Rattle.lighting.specs.Paper.Frames.{levelFieldRefusal, amountFieldRefusal, timeFieldRefusal, commandWithDuration, taggedRequest, writeLevel, requestOf, parseBy, Bytes}
+use Rattle.lighting.specs.Paper.InTags.{plainTags}
 use Rattle.lighting.specs.Paper.Kinds.{callsBy}
 use Rattle.lighting.specs.Paper.Level.{inRange, unitsOr}
 use Rattle.lighting.specs.Paper.Operations.{operationNumber, fieldsOf}
@@ -18,6 +19,7 @@ use Rattle.lighting.specs.Paper.Properties.{numberOf, changeTo, changeBy
 use Rattle.lighting.specs.Paper.Rows.{rowOf, meets, meetsReal}
 use Rattle.lighting.specs.Paper.Rules.{activityBy, timerSound}
 use Rattle.lighting.specs.Paper.Slots.{Slots}
+use Rattle.lighting.specs.Paper.Tags.{fieldSize, fieldBytes, realTag, wholeTag, durationField, holdsAtMost, heldBy, timeOf, fewest}
 use Rattle.lighting.specs.Paper.Value.{distanceMoved, progressBy, inProcess}
 use Rattle.lighting.specs.Paper.Writing.{endMovementUnlessAbove, writtenBy}
 use Rattle.lighting.specs.declared.Action.{Action}
@@ -41,6 +43,9 @@ use Rattle.lighting.specs.declared.RealField.{RealField}
 use Rattle.lighting.specs.declared.Request.{Request}
 use Rattle.lighting.specs.declared.Settings.{Settings}
 use Rattle.lighting.specs.declared.Station.{Station}
+use Rattle.lighting.specs.declared.TagField.{TagField}
+use Rattle.lighting.specs.declared.TagFields.{TagFields}
+use Rattle.lighting.specs.declared.TaggedReading.{TaggedReading}
 use Rattle.lighting.specs.declared.TimeField.{TimeField}
 use Rattle.lighting.specs.declared.Timer.{Timer}
 use Rattle.lighting.specs.declared.Verdict.{Verdict}
@@ -48,6 +53,7 @@ use Rattle.lighting.specs.declared.Warning.{Warning}
 use lib.Ieee.{Float}
 use mathlib.Core.Bool.{Bool}
 use mathlib.Core.List.{List}
+use mathlib.Core.Option.{Option}
 
 pub sooner-on : (x0 : ℕ) (x1 : Moment) (k : Moment) (r : ℕ) → x1 ≡ k → r ≡ sooner x0 k → r ≡ sooner x0 x1
 sooner-on x0 x1 k r e p = rw e p
@@ -94,6 +100,12 @@ amountFieldRefusal-on x0 k r e p = rw e p
 pub timeFieldRefusal-on : (x0 : Parameters) (x1 : TimeField) (k : TimeField) (r : ℕ) → x1 ≡ k → r ≡ timeFieldRefusal x0 k → r ≡ timeFieldRefusal x0 x1
 timeFieldRefusal-on x0 x1 k r e p = rw e p
 
+pub commandWithDuration-on : (x0 : Parameters) (x1 : Operation) (x2 : TimeField) (k : TimeField) (r : Request) → x2 ≡ k → r ≡ commandWithDuration x0 x1 k → r ≡ commandWithDuration x0 x1 x2
+commandWithDuration-on x0 x1 x2 k r e p = rw e p
+
+pub taggedRequest-on : (x0 : Parameters) (x1 : TaggedReading) (k : TaggedReading) (r : Request) → x1 ≡ k → r ≡ taggedRequest x0 k → r ≡ taggedRequest x0 x1
+taggedRequest-on x0 x1 k r e p = rw e p
+
 pub writeLevel-on : (x0 : ℕ) (x1 : Level) (k : Level) (r : Request) → x1 ≡ k → r ≡ writeLevel x0 k → r ≡ writeLevel x0 x1
 writeLevel-on x0 x1 k r e p = rw e p
 
@@ -102,6 +114,9 @@ requestOf-on x0 x1 x2 k r e p = rw e p
 
 pub parseBy-on : (x0 : Parameters) (x1 : ℕ) (x2 : ℕ) (x3 : Kind) (x4 : Bytes) (k : Kind) (r : Frame) → x3 ≡ k → r ≡ parseBy x0 x1 x2 k x4 → r ≡ parseBy x0 x1 x2 x3 x4
 parseBy-on x0 x1 x2 x3 x4 k r e p = rw e p
+
+pub plainTags-on : (x0 : Action) (x1 : Bytes) (k : Action) (r : Option TagFields) → x0 ≡ k → r ≡ plainTags k x1 → r ≡ plainTags x0 x1
+plainTags-on x0 x1 k r e p = rw e p
 
 pub callsBy-on : (x0 : Kind) (k : Kind) (r : Bool) → x0 ≡ k → r ≡ callsBy k → r ≡ callsBy x0
 callsBy-on x0 k r e p = rw e p
@@ -189,6 +204,33 @@ activityBy-on x0 x1 x2 x3 x4 x5 x6 k r e p = rw e p
 
 pub timerSound-on : (x0 : ℕ) (x1 : Timer) (k : Timer) (r : Bool) → x1 ≡ k → r ≡ timerSound x0 k → r ≡ timerSound x0 x1
 timerSound-on x0 x1 k r e p = rw e p
+
+pub fieldSize-on : (x0 : TagField) (k : TagField) (r : ℕ) → x0 ≡ k → r ≡ fieldSize k → r ≡ fieldSize x0
+fieldSize-on x0 k r e p = rw e p
+
+pub fieldBytes-on : (x0 : ℕ) (x1 : TagField) (k : TagField) (r : List ℕ) → x1 ≡ k → r ≡ fieldBytes x0 k → r ≡ fieldBytes x0 x1
+fieldBytes-on x0 x1 k r e p = rw e p
+
+pub realTag-on : (x0 : RealField) (k : RealField) (r : TagField) → x0 ≡ k → r ≡ realTag k → r ≡ realTag x0
+realTag-on x0 k r e p = rw e p
+
+pub wholeTag-on : (x0 : TimeField) (k : TimeField) (r : TagField) → x0 ≡ k → r ≡ wholeTag k → r ≡ wholeTag x0
+wholeTag-on x0 k r e p = rw e p
+
+pub durationField-on : (x0 : Duration) (k : Duration) (r : TimeField) → x0 ≡ k → r ≡ durationField k → r ≡ durationField x0
+durationField-on x0 k r e p = rw e p
+
+pub holdsAtMost-on : (x0 : ℕ) (x1 : TagField) (k : TagField) (r : Bool) → x1 ≡ k → r ≡ holdsAtMost x0 k → r ≡ holdsAtMost x0 x1
+holdsAtMost-on x0 x1 k r e p = rw e p
+
+pub heldBy-on : (x0 : TagField) (k : TagField) (r : ℕ) → x0 ≡ k → r ≡ heldBy k → r ≡ heldBy x0
+heldBy-on x0 k r e p = rw e p
+
+pub timeOf-on : (x0 : TagField) (k : TagField) (r : TimeField) → x0 ≡ k → r ≡ timeOf k → r ≡ timeOf x0
+timeOf-on x0 k r e p = rw e p
+
+pub fewest-on : (x0 : TagField) (k : TagField) (r : Bool) → x0 ≡ k → r ≡ fewest k → r ≡ fewest x0
+fewest-on x0 k r e p = rw e p
 
 pub distanceMoved-on : (x0 : Pace) (x1 : ℕ) (x2 : ℕ) (x3 : ℕ) (k : Pace) (r : ℕ) → x0 ≡ k → r ≡ distanceMoved k x1 x2 x3 → r ≡ distanceMoved x0 x1 x2 x3
 distanceMoved-on x0 x1 x2 x3 k r e p = rw e p

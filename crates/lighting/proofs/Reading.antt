@@ -5,7 +5,7 @@ use mathlib.Core.List.{[], _∷_}
 use Prim.Native.Nat.{ℕ, zero, suc, _+_, _-_, _*_, _^_, _≤_, _<_, min}
 use native.Mathlib.Omega.{arith}
 use lib.Dec.{leb, eqb}
-use lib.ListN.{length}
+use lib.ListN.{length, drop}
 use Rattle.lighting.specs.Paper.Choice.{if_then_else_}
 use Rattle.lighting.specs.Paper.Parameters.{document01}
 use Rattle.lighting.specs.Paper.Level.{leastLevel, greatestLevel, real, levelOf}
@@ -17,7 +17,7 @@ use Rattle.lighting.specs.Paper.Frames.{Bytes, Octets, writeLevel, write
 use Rattle.lighting.specs.declared.Level.{Level}
 use Rattle.lighting.specs.declared.Level.the-variants.{Units, OutOfRange}
 use Rattle.lighting.specs.declared.Action.{Action}
-use Rattle.lighting.specs.declared.Action.the-variants.{WritesLevel, EmptiesSlot, WritesProperty, ReadsProperty, Stops, FadesTo, FadesToOver, RampsTo, RampsToAtRate, StepsUp, StepsDown, StepsUpBy, StepsDownBy, GoesTo, Relinquishes}
+use Rattle.lighting.specs.declared.Action.the-variants.{WritesLevel, EmptiesSlot, WritesProperty, ReadsProperty, Stops, FadesTo, FadesToOver, RampsTo, RampsToAtRate, StepsUp, StepsDown, StepsUpBy, StepsDownBy, GoesTo, Relinquishes, CommandsTagged}
 use Rattle.lighting.specs.declared.Kind.{Kind}
 use Rattle.lighting.specs.declared.Kind.the-variants.{NoKind, ClockKind, CallKind}
 use Rattle.lighting.specs.declared.Call.{Call}
@@ -25,10 +25,12 @@ use Rattle.lighting.specs.declared.Frame.{Frame}
 use Rattle.lighting.specs.declared.Frame.the-variants.{Bad, Clock, Calls}
 use Rattle.lighting.proofs.Split.{by-bool, by-eq, by-lt}
 use Rattle.lighting.proofs.Ranges.{level-units}
+use Rattle.lighting.proofs.Octets.{octet}
 use Rattle.lighting.proofs.Facts.{Slot}
 use Rattle.lighting.proofs.RequestInRange.{RequestInRange}
 use Rattle.lighting.proofs.Rows.{priority-of, change-good}
 use Rattle.lighting.proofs.Operations.{commandRequest-good}
+use Rattle.lighting.proofs.TagsRefused.{tagged-good}
 
 -- KINDS 02 TO 05
 level-good : (i : ℕ) (l : Level) → Slot i → ((v : ℕ) → l ≡ Units v → (leastLevel * min 1 v ≤ v) × (v ≤ greatestLevel)) → RequestInRange (writeLevel i l)
@@ -57,14 +59,9 @@ request-good StepsUpBy b = commandRequest-good _ _
 request-good StepsDownBy b = commandRequest-good _ _
 request-good GoesTo b = commandRequest-good _ _
 request-good Relinquishes b = commandRequest-good _ _
+request-good CommandsTagged b = tagged-good (drop 13 b)
 
 -- A TIME of six bytes
-octet : (b : Bytes) (at : ℕ) → Octets b → byteAt b at < 256
-unfolding byteAt
-octet [] at h = omega arith
-octet (x ∷ b) zero h = h .0
-octet (x ∷ b) (suc at) h = octet b at (h .1)
-
 six-bytes : (b : Bytes) (at : ℕ) → Octets b → bigEndian 6 b at < 2 ^ 48
 unfolding bigEndian
 six-bytes b at h =

@@ -19,8 +19,9 @@ pub mod Commands
 pub mod Answers
 pub mod Rows
 pub mod Properties
--- 'Frames': the table of kinds, fresh records, what a request does, a string of bytes read
+-- 'Frames': the table of kinds, fresh records, what a request does, a string of bytes read; a command in BACnet's own tagging (§1)
 pub mod Kinds
+pub mod Tags
 pub mod Fresh
 pub mod Acting
 pub mod Frames
@@ -32,6 +33,9 @@ pub mod Panel
 pub mod Plain
 pub mod Demand
 pub mod Calls
--- 'Bench figures', and a worked list
+-- §1 in lists: commands sent in tags instead of plain
+pub mod InTags
+-- 'Bench figures', and a worked list; §1 by hand
 pub mod Figures
 pub mod Worked
+pub mod WorkedTags

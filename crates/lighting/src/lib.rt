@@ -143,6 +143,44 @@ pub struct OperationFields {
     pub fade: TimeField,
 }
 
+// ---- a command in BACnet's own tagging (§1 of the change requests)
+
+// A field behind its context tag, there or not: of how many octets its content is, and the number that they spell, a REAL's pattern for a REAL.
+pub enum TagField {
+    Holds { count: u8, value: u32 },
+    Missing,
+}
+
+// The fields of a tagged command, in the order of their tags, 0 to 5.
+pub struct TagFields {
+    pub operation: TagField,
+    pub level: TagField,
+    pub rate: TagField,
+    pub step: TagField,
+    pub fade: TagField,
+    pub duration: TagField,
+}
+
+// The most bytes of a tagged command. The definitions have the same number, `mostTagged`.
+pub const MOST_TAGGED: usize = 17;
+
+// A tagged command as a frame carries it after the 13 common bytes: how many bytes there are, and they, with zeros after them.
+pub struct TaggedBody {
+    pub length: u8,
+    pub bytes: [u8; MOST_TAGGED],
+}
+
+// What a body in tags is read as: an operation and its duration, there or not, or refusal 14 or 15.
+pub enum TaggedReading {
+    Unreadable(u8),
+    Reads {
+        operation: Operation,
+        duration: TimeField,
+    },
+}
+
+// ---- an output, whole
+
 pub struct Output {
     pub settings: Settings,
     pub slots: Slots,
@@ -163,7 +201,7 @@ pub enum Answer {
 }
 
 // The bytes of the longest frame: no kind has more. The definitions have the same number, `longestFrame`.
-pub const LONGEST_FRAME: usize = 25;
+pub const LONGEST_FRAME: usize = 31;
 
 // What a station was answered last, to which number and which frame: a retransmission, the paper's copy, is known by them. Number 0: none yet.
 pub struct Station {
@@ -188,7 +226,7 @@ pub enum Operand {
 
 // ---- kinds of frames
 
-// What a call asks of its output, by its kind: 02 to 05, then the commands, 10 to 1A.
+// What a call asks of its output, by its kind: 02 to 05, then the commands, 10 to 1A, and a command in tags, 1B.
 pub enum Action {
     WritesLevel,
     EmptiesSlot,
@@ -205,6 +243,7 @@ pub enum Action {
     StepsDownBy,
     GoesTo,
     Relinquishes,
+    CommandsTagged,
 }
 
 // What a kind byte says: none that is known, a clock, or a call of a station.
@@ -264,7 +303,7 @@ pub enum Range {
     ReadOnly,
 }
 
-// What a frame asks of its output, or the refusal from 9 to 12 that its fields meet (a read of an unknown property meets its 9 when it is
+// What a frame asks of its output, or the refusal from 9 to 12, or 14 or 15, that its fields meet (a read of an unknown property meets its 9 when it is
 // answered).
 pub enum Request {
     Refuse(u8),

@@ -33,9 +33,9 @@ use Rattle.lighting.proofs.Split.{also-both, eq-of, le-of, eqb-hit, eqb
 use Rattle.lighting.proofs.Facts.{Slot}
 use Rattle.lighting.proofs.KindTable.{rowsFrom, each-row}
 
--- THE TABLE OF KINDS: 01 to 05 and 10 to 1A have these lengths, and no other kind is known
-pub lengths : map kindLength (0x01 ∷ 0x02 ∷ 0x03 ∷ 0x04 ∷ 0x05 ∷ 0x10 ∷ 0x11 ∷ 0x12 ∷ 0x13 ∷ 0x14 ∷ 0x15 ∷ 0x16 ∷ 0x17 ∷ 0x18 ∷ 0x19 ∷ 0x1a ∷ [])
-    ≡ 7 ∷ 18 ∷ 14 ∷ 18 ∷ 14 ∷ 17 ∷ 21 ∷ 25 ∷ 21 ∷ 25 ∷ 17 ∷ 17 ∷ 21 ∷ 21 ∷ 21 ∷ 17 ∷ []
+-- THE TABLE OF KINDS: 01 to 05 and 10 to 1B have these lengths, and no other kind is known
+pub lengths : map kindLength (0x01 ∷ 0x02 ∷ 0x03 ∷ 0x04 ∷ 0x05 ∷ 0x10 ∷ 0x11 ∷ 0x12 ∷ 0x13 ∷ 0x14 ∷ 0x15 ∷ 0x16 ∷ 0x17 ∷ 0x18 ∷ 0x19 ∷ 0x1a ∷ 0x1b ∷ [])
+    ≡ 7 ∷ 18 ∷ 14 ∷ 18 ∷ 14 ∷ 17 ∷ 21 ∷ 25 ∷ 21 ∷ 25 ∷ 17 ∷ 17 ∷ 21 ∷ 21 ∷ 21 ∷ 17 ∷ 31 ∷ []
 unfolding kindLength kindRow if_then_else_
 lengths = refl
 
@@ -44,11 +44,11 @@ pub unknown-low : map kindLength (0x00 ∷ 0x06 ∷ 0x07 ∷ 0x08 ∷ 0x09 ∷ 0
 unfolding kindLength kindRow if_then_else_
 unknown-low = refl
 
-pub unknown-high : (k : ℕ) → 0x1b ≤ k → kindLength k ≡ 0
+pub unknown-high : (k : ℕ) → 0x1c ≤ k → kindLength k ≡ 0
 unfolding kindLength
 unknown-high k h = ap (λ (row : KindRow). row .length) past
   where
-    beyond : (i : ℕ) → 0x0a < i → getD commandRows i unknownRow ≡ unknownRow
+    beyond : (i : ℕ) → 0x0b < i → getD commandRows i unknownRow ≡ unknownRow
     beyond i l = List·getD-eq-default commandRows unknownRow l
 
     past : kindRow k ≡ unknownRow

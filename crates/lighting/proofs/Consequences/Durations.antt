@@ -18,7 +18,7 @@ use Rattle.lighting.specs.Paper.Properties.{settingsWith, changed, minOv
 use Rattle.lighting.specs.Paper.Commands.{timed, commandedFrom, commanded}
 use Rattle.lighting.specs.Paper.Acting.{done, unchanged, changedUnless, acted}
 use Rattle.lighting.specs.Paper.Operations.{fieldsOf}
-use Rattle.lighting.specs.Paper.Frames.{fieldsRefusal, commandWithDuration, commandRequestBy, commandRequest}
+use Rattle.lighting.specs.Paper.Frames.{fieldsRefusal, plainDuration, commandLasting, commandOf, commandWithDuration, commandRequestBy, commandRequest}
 use Rattle.lighting.specs.declared.Movement.{Movement}
 use Rattle.lighting.specs.declared.Phase.{Phase}
 use Rattle.lighting.specs.declared.Phase.the-variants.{Blink, Delay}
@@ -278,19 +278,19 @@ not-before (suc n) t o h e a =
     not-before n (suc t) (tick t o) (tick-sound t o h) (rw (k .0) e) (rw (k .1) (rw z at a)) ∙ k .0
 
 -- A COMMAND WHOSE OTHER FIELDS ARE IN RANGE, which are checked before it, is judged by its duration field
-pub in-range : (k : Operation) (d : ℕ) → fieldsRefusal document01 (fieldsOf k) ≡ 0 → commandRequest document01 k d ≡ commandWithDuration document01 k d
-unfolding commandRequest commandRequestBy if_then_else_
+pub in-range : (k : Operation) (d : ℕ) → fieldsRefusal document01 (fieldsOf k) ≡ 0 → commandRequest document01 k d ≡ commandWithDuration document01 k (plainDuration d)
+unfolding commandRequest commandOf commandRequestBy if_then_else_
 in-range k d e = rw e
 
 -- A COMMAND'S DURATION FIELD d, of an output that keeps the rules. 100 to 86,400,000: whatever comes but a command, slot p is empty d ms later
 pub duration-lasts : (t d : ℕ) (o : Output) (k : Operation) → 100 ≤ d → d ≤ 86400000
-    → acted t o (commandWithDuration document01 k d) .output .timer ≡ Running (o .settings .slot) (t + d)
-unfolding acted done afterEvents commandWithDuration within commanded commandedFrom withCommand timed if_then_else_
+    → acted t o (commandWithDuration document01 k (plainDuration d)) .output .timer ≡ Running (o .settings .slot) (t + d)
+unfolding acted done afterEvents plainDuration commandWithDuration commandLasting within commanded commandedFrom withCommand timed if_then_else_
 duration-lasts t d o k h m =
     rw (eqb-miss {a = d} {b = 0xffff_ffff} (omega arith), eqb-miss {a = d} {b = 0} (omega arith), leb-yes {a = 100} {b = d} h, leb-yes {a = d} {b = 86400000} m)
 
 pub duration-empties : {t t′ : ℕ} {o′ : Output} (o : Output) (d : ℕ) (k : Operation) → 100 ≤ d → d ≤ 86400000
-    → Sound t (acted t o (commandWithDuration document01 k d) .output) → Life t (acted t o (commandWithDuration document01 k d) .output) t′ o′ → suc t′ ≡ t + d
+    → Sound t (acted t o (commandWithDuration document01 k (plainDuration d)) .output) → Life t (acted t o (commandWithDuration document01 k (plainDuration d)) .output) t′ o′ → suc t′ ≡ t + d
     → (slot (tick t′ o′ .slots) (o .settings .slot) ≡ none) × (tick t′ o′ .timer ≡ Off)
 duration-empties {t} {t′} {o′} o d k h m sound l e =
     expires t′ (o .settings .slot) o′ (life-sound l sound)
@@ -298,23 +298,23 @@ duration-empties {t} {t′} {o′} o d k h m sound l e =
     ∙ ap (λ (z : ℕ). Running (o .settings .slot) z) (sym e))
 
 -- 0 cancels, and what was cancelled never falls due
-pub duration-cancels : {t t′ : ℕ} {o′ : Output} (o : Output) (k : Operation) → Life t (acted t o (commandWithDuration document01 k 0) .output) t′ o′ → o′ .timer ≡ Off
+pub duration-cancels : {t t′ : ℕ} {o′ : Output} (o : Output) (k : Operation) → Life t (acted t o (commandWithDuration document01 k (plainDuration 0)) .output) t′ o′ → o′ .timer ≡ Off
 duration-cancels {t} o k l = stays-off l off
   where
-    off : acted t o (commandWithDuration document01 k 0) .output .timer ≡ Off
-    off = unfold acted done afterEvents commandWithDuration commanded commandedFrom withCommand timed if_then_else_ in refl
+    off : acted t o (commandWithDuration document01 k (plainDuration 0)) .output .timer ≡ Off
+    off = unfold acted done afterEvents plainDuration commandWithDuration commandLasting commanded commandedFrom withCommand timed if_then_else_ in refl
 
 -- FFFFFFFF leaves it
-pub duration-absent : (t : ℕ) (o : Output) (k : Operation) → acted t o (commandWithDuration document01 k 0xffff_ffff) .output .timer ≡ o .timer
-unfolding acted done afterEvents commandWithDuration commanded commandedFrom withCommand timed if_then_else_
+pub duration-absent : (t : ℕ) (o : Output) (k : Operation) → acted t o (commandWithDuration document01 k (plainDuration 0xffff_ffff)) .output .timer ≡ o .timer
+unfolding acted done afterEvents plainDuration commandWithDuration commandLasting commanded commandedFrom withCommand timed if_then_else_
 duration-absent t o k = refl
 
 -- any other is refused: 1 to 99, and above 86,400,000
-pub duration-low : (d : ℕ) (k : Operation) → 0 < d → d < 100 → commandWithDuration document01 k d ≡ Refuse 12
-unfolding commandWithDuration within if_then_else_
+pub duration-low : (d : ℕ) (k : Operation) → 0 < d → d < 100 → commandWithDuration document01 k (plainDuration d) ≡ Refuse 12
+unfolding plainDuration commandWithDuration commandLasting within if_then_else_
 duration-low d k h m = rw (eqb-miss {a = d} {b = 0xffff_ffff} (omega arith), eqb-miss {a = d} {b = 0} (omega arith), leb-no {a = 100} {b = d} m)
 
-pub duration-high : (d : ℕ) (k : Operation) → 86400000 < d → d ≢ 0xffff_ffff → commandWithDuration document01 k d ≡ Refuse 12
-unfolding commandWithDuration within if_then_else_
+pub duration-high : (d : ℕ) (k : Operation) → 86400000 < d → d ≢ 0xffff_ffff → commandWithDuration document01 k (plainDuration d) ≡ Refuse 12
+unfolding plainDuration commandWithDuration commandLasting within if_then_else_
 duration-high d k h n =
     rw (eqb-miss {a = d} {b = 0xffff_ffff} n, eqb-miss {a = d} {b = 0} (omega arith), leb-yes {a = 100} {b = d} (omega arith), leb-no {a = d} {b = 86400000} h)

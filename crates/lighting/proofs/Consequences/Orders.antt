@@ -16,7 +16,7 @@ use Rattle.lighting.specs.Paper.Record.{withCommand}
 use Rattle.lighting.specs.Paper.Commands.{commandedFrom, commanded}
 use Rattle.lighting.specs.Paper.Acting.{done, unchanged, acted}
 use Rattle.lighting.specs.Paper.Kinds.{kindRow}
-use Rattle.lighting.specs.Paper.Frames.{Bytes, fieldsRefusal, commandWithDuration, commandRequestBy, commandRequest, requestOf}
+use Rattle.lighting.specs.Paper.Frames.{Bytes, fieldsRefusal, plainDuration, commandLasting, commandOf, commandWithDuration, commandRequestBy, commandRequest, requestOf}
 use Rattle.lighting.specs.declared.Answer.{Answer}
 use Rattle.lighting.specs.declared.Answer.the-variants.{Done, Value, Absent}
 use Rattle.lighting.specs.declared.Operation.{Operation}
@@ -65,8 +65,8 @@ back k d =
 
 module _ (t t′ : ℕ) (o : Output) where
   -- an operation whose fields are in range, and any
-  of-commandWithDuration : (k : Operation) (d : ℕ) → acted t o (commandWithDuration document01 k d) .answer ≡ Done → last t′ (acted t o (commandWithDuration document01 k d) .output) ≡ back k d
-  unfolding acted done unchanged afterEvents commandWithDuration commanded commandedFrom withCommand propertyOf numbered readProperty lastDuration if_then_else_
+  of-commandWithDuration : (k : Operation) (d : ℕ) → acted t o (commandWithDuration document01 k (plainDuration d)) .answer ≡ Done → last t′ (acted t o (commandWithDuration document01 k (plainDuration d)) .output) ≡ back k d
+  unfolding acted done unchanged afterEvents plainDuration commandWithDuration commandLasting commanded commandedFrom withCommand propertyOf numbered readProperty lastDuration if_then_else_
   of-commandWithDuration k d =
       by-eq d 0xffff_ffff
       (λ p e. rw e (λ h. refl))
@@ -77,7 +77,7 @@ module _ (t t′ : ℕ) (o : Output) where
 
   of-commandRequest : (k : Operation) (d : ℕ) (l : List Answer) → (fieldsRefusal document01 (fieldsOf k) ≡ 0 → back k d ≡ l)
       → acted t o (commandRequest document01 k d) .answer ≡ Done → last t′ (acted t o (commandRequest document01 k d) .output) ≡ l
-  unfolding commandRequest commandRequestBy if_then_else_
+  unfolding commandRequest commandOf commandRequestBy if_then_else_
   of-commandRequest k d l f =
       by-eq (fieldsRefusal document01 (fieldsOf k)) 0
       (λ p e. rw e (λ h. of-commandWithDuration k d h ∙ f p))

@@ -1,10 +1,11 @@
--- 'Frames' and 'When a frame is turned down': a string of bytes, read. Refusals 2 to 5, and the request with refusals 9 to 12 (but a
+-- 'Frames' and 'When a frame is turned down': a string of bytes, read. Refusals 2 to 5, and the request with refusals 9 to 12, 14 and 15 (but a
 -- read's 9, which `readProperty` of Properties.antt gives). Nothing here looks at a panel but for its number of outputs.
+use mathlib.Core.Path.{_≡_}
 use mathlib.Core.List.{List, [], _∷_}
 use Prim.Native.Nat.{ℕ, _-_, _<_}
 use lib.Dec.{ltb, eqb}
 use lib.Ieee.{Float}
-use lib.ListN.{length}
+use lib.ListN.{length, drop}
 use Rattle.lighting.specs.Paper.Choice.{if_then_else_}
 use Rattle.lighting.specs.Paper.Parameters.{Parameters}
 use Rattle.lighting.specs.Paper.Answers.{levelRefusal}
@@ -14,9 +15,11 @@ use Rattle.lighting.specs.Paper.Rows.{rowOf, within, isPriority, meets}
 use Rattle.lighting.specs.Paper.Operations.{fieldsOf}
 use Rattle.lighting.specs.Paper.Properties.{propertyOf, changeOf}
 use Rattle.lighting.specs.Paper.Kinds.{kindRow}
+use Rattle.lighting.specs.Paper.Tags.{readBody}
 use Rattle.lighting.specs.declared.Level.{Level}
 use Rattle.lighting.specs.declared.Level.the-variants.{Units, OutOfRange}
 use Rattle.lighting.specs.declared.Duration.the-variants.{Lasts, Cancels, Omitted}
+use Rattle.lighting.specs.declared.Command.{Command}
 use Rattle.lighting.specs.declared.Operation.{Operation}
 use Rattle.lighting.specs.declared.Operation.the-variants.{Stop, FadeTo, FadeToOver, RampTo, RampToAtRate, StepUp, StepDown, StepUpBy, StepDownBy, Goto, Relinquish}
 use Rattle.lighting.specs.declared.Property.the-variants.{FadeTime}
@@ -25,8 +28,10 @@ use Rattle.lighting.specs.declared.RealField.the-variants.{Real, NoReal}
 use Rattle.lighting.specs.declared.TimeField.{TimeField}
 use Rattle.lighting.specs.declared.TimeField.the-variants.{Time, NoTime}
 use Rattle.lighting.specs.declared.OperationFields.{OperationFields}
+use Rattle.lighting.specs.declared.TaggedReading.{TaggedReading}
+use Rattle.lighting.specs.declared.TaggedReading.the-variants.{Unreadable, Reads}
 use Rattle.lighting.specs.declared.Action.{Action}
-use Rattle.lighting.specs.declared.Action.the-variants.{WritesLevel, EmptiesSlot, WritesProperty, ReadsProperty, Stops, FadesTo, FadesToOver, RampsTo, RampsToAtRate, StepsUp, StepsDown, StepsUpBy, StepsDownBy, GoesTo, Relinquishes}
+use Rattle.lighting.specs.declared.Action.the-variants.{WritesLevel, EmptiesSlot, WritesProperty, ReadsProperty, Stops, FadesTo, FadesToOver, RampsTo, RampsToAtRate, StepsUp, StepsDown, StepsUpBy, StepsDownBy, GoesTo, Relinquishes, CommandsTagged}
 use Rattle.lighting.specs.declared.Kind.{Kind}
 use Rattle.lighting.specs.declared.Kind.the-variants.{NoKind, ClockKind, CallKind}
 use Rattle.lighting.specs.declared.Request.{Request}
@@ -69,20 +74,36 @@ unfoldable pub fieldsRefusal : Parameters → OperationFields → ℕ
 fieldsRefusal p f =
     firstRefusal (levelFieldRefusal (f .level)) (firstRefusal (amountFieldRefusal (f .rate)) (firstRefusal (amountFieldRefusal (f .step)) (timeFieldRefusal p (f .fade))))
 
--- 'Duration is milliseconds: 0 cancels, 100 to 86,400,000 sets, FFFFFFFF means absent'; any other is 12
-unfoldable pub commandWithDuration : Parameters → Operation → ℕ → Request
-commandWithDuration p operation d =
-    if eqb d 0xffff_ffff then Commands (record { operation = operation; duration = Omitted })
-    else if eqb d 0 then Commands (record { operation = operation; duration = Cancels })
+-- 'Duration is milliseconds: 0 cancels, 100 to 86,400,000 sets'; any other is 12
+unfoldable pub commandLasting : Parameters → Operation → ℕ → Request
+commandLasting p operation d =
+    if eqb d 0 then Commands (record { operation = operation; duration = Cancels })
     else if within 100 (p .longestDuration) d then Commands (record { operation = operation; duration = Lasts d })
     else Refuse 12
 
--- an operation with its duration d, whose fields meet a refusal, or 0 for none
-unfoldable pub commandRequestBy : Parameters → ℕ → Operation → ℕ → Request
-commandRequestBy p refusal operation d = if eqb refusal 0 then commandWithDuration p operation d else Refuse refusal
+unfoldable pub commandWithDuration : Parameters → Operation → TimeField → Request
+commandWithDuration p operation (Time d) = commandLasting p operation d
+commandWithDuration p operation NoTime = Commands (record { operation = operation; duration = Omitted })
+
+-- an operation with its duration, whose fields meet a refusal, or 0 for none
+unfoldable pub commandRequestBy : Parameters → ℕ → Operation → TimeField → Request
+commandRequestBy p refusal operation duration = if eqb refusal 0 then commandWithDuration p operation duration else Refuse refusal
+
+-- THE RANGES OF A COMMAND, in whatever form it came: its fields from left to right, the duration last
+unfoldable pub commandOf : Parameters → Operation → TimeField → Request
+commandOf p operation duration = commandRequestBy p (fieldsRefusal p (fieldsOf operation)) operation duration
+
+-- in the plain kinds, 10 to 1A, 'FFFFFFFF means absent'
+unfoldable pub plainDuration : ℕ → TimeField
+plainDuration d = if eqb d 0xffff_ffff then NoTime else Time d
 
 unfoldable pub commandRequest : Parameters → Operation → ℕ → Request
-commandRequest p operation d = commandRequestBy p (fieldsRefusal p (fieldsOf operation)) operation d
+commandRequest p operation d = commandOf p operation (plainDuration d)
+
+-- and in tags (§1): 14 and 15 come before the ranges. 'A tagged duration of FFFFFFFF meets 12': absent is a missing field there
+unfoldable pub taggedRequest : Parameters → TaggedReading → Request
+taggedRequest p (Unreadable refusal) = Refuse refusal
+taggedRequest p (Reads operation duration) = commandOf p operation duration
 
 -- KINDS 02 TO 05. Kind 02: priority, then REAL
 unfoldable pub writeLevel : ℕ → Level → Request
@@ -118,6 +139,7 @@ requestOf p StepsUpBy b = commandRequest p (StepUpBy (realAt b 13)) (wordAt b 17
 requestOf p StepsDownBy b = commandRequest p (StepDownBy (realAt b 13)) (wordAt b 17)
 requestOf p GoesTo b = commandRequest p (Goto (realAt b 13)) (wordAt b 17)
 requestOf p Relinquishes b = commandRequest p Relinquish (wordAt b 13)
+requestOf p CommandsTagged b = taggedRequest p (readBody (drop 13 b))
 
 -- THE FRAME that b is, to a table of c outputs. 'Every other kind goes on with station (1), number (4), time (6), output (1)'
 unfoldable pub callOf : Parameters → Action → Bytes → Call
@@ -149,3 +171,7 @@ parseBy p c size (CallKind action) b = if eqb (length b) size then called p c (c
 
 unfoldable pub parse : Parameters → ℕ → Bytes → Frame
 parse p c b = let row = kindRow (byteAt b 0) in parseBy p c (row .length) (row .kind) b
+
+-- 'every command the panel keeps' (§1): one that a string of bytes asks for, as a call of some kind
+pub data Kept (p : Parameters) : Command → Type 0 where
+  asked : {command : Command} (action : Action) (b : Bytes) → Octets b → requestOf p action b ≡ Commands command → Kept p command

@@ -7,14 +7,14 @@ use lib.Dec.{leb}
 use lib.ListN.{getD}
 use Rattle.lighting.specs.Paper.Choice.{if_then_else_}
 use Rattle.lighting.specs.declared.Action.{Action}
-use Rattle.lighting.specs.declared.Action.the-variants.{WritesLevel, EmptiesSlot, WritesProperty, ReadsProperty, Stops, FadesTo, FadesToOver, RampsTo, RampsToAtRate, StepsUp, StepsDown, StepsUpBy, StepsDownBy, GoesTo, Relinquishes}
+use Rattle.lighting.specs.declared.Action.the-variants.{WritesLevel, EmptiesSlot, WritesProperty, ReadsProperty, Stops, FadesTo, FadesToOver, RampsTo, RampsToAtRate, StepsUp, StepsDown, StepsUpBy, StepsDownBy, GoesTo, Relinquishes, CommandsTagged}
 use Rattle.lighting.specs.declared.Kind.{Kind}
 use Rattle.lighting.specs.declared.Kind.the-variants.{NoKind, ClockKind, CallKind}
 use Rattle.lighting.specs.declared.KindRow.{KindRow}
 
 -- the bytes of the longest frame: no kind has more (proofs/KindTable.antt, `length-most`)
 abbrev pub longestFrame : ℕ
-longestFrame = 25
+longestFrame = 31
 
 -- an unknown kind; and a kind of a call: so many bytes, and what it asks
 abbrev pub unknownRow : KindRow
@@ -34,7 +34,7 @@ plainRows =
     ∷ callRow 14 ReadsProperty
     ∷ []
 
--- the commands, 10 to 1A
+-- the commands, 10 to 1A; 'New kind 1B: after the 13 common bytes, a length L from 2 to 17, then 17 bytes [..] (31 in all)' (§1)
 abbrev pub commandRows : List KindRow
 commandRows =
     callRow 17 Stops
@@ -48,6 +48,7 @@ commandRows =
     ∷ callRow 21 StepsDownBy
     ∷ callRow 21 GoesTo
     ∷ callRow 17 Relinquishes
+    ∷ callRow 31 CommandsTagged
     ∷ []
 
 unfoldable pub kindRow : ℕ → KindRow

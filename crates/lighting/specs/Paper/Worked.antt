@@ -7,10 +7,10 @@ use Rattle.lighting.specs.Paper.Frames.{Bytes}
 use Rattle.lighting.specs.declared.Answer.{Answer}
 use Rattle.lighting.specs.declared.Answer.the-variants.{Done, Value, Absent, Refused}
 
-abbrev call : ℕ → ℕ → ℕ → ℕ → ℕ → Bytes → Bytes
+abbrev pub call : ℕ → ℕ → ℕ → ℕ → ℕ → Bytes → Bytes
 call kind station number time output body = kind ∷ station ∷ octets 4 number ++ octets 6 time ++ output ∷ body
 
-abbrev clockAt : ℕ → Bytes
+abbrev pub clockAt : ℕ → Bytes
 clockAt time = 1 ∷ octets 6 time
 
 -- figure 9: 'Slot 8 to 50 percent: 02 02 00000001 0000000003E8 00 08 42480000'
@@ -25,7 +25,7 @@ abbrev ten : ℕ → ℕ → ℕ → Bytes
 ten number fade duration = call 0x12 3 number 2000 1 (octets 4 0x4248_0000 ++ octets 4 fade ++ octets 4 duration)
 
 -- a read of a property
-abbrev asked : ℕ → ℕ → ℕ → ℕ → ℕ → Bytes
+abbrev pub asked : ℕ → ℕ → ℕ → ℕ → ℕ → Bytes
 asked station number time output property = call 5 station number time output (property ∷ [])
 
 -- STEP_DOWN_BY of output 1 by 12.5 percent
