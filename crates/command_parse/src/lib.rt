@@ -2,7 +2,7 @@
 ghost use mathlib.Core.Path.{_≡_};
 ghost use Rattle.lighting.specs.Paper.Parameters.{document01};
 ghost use Rattle.lighting.specs.Paper.Answers.{levelRefusal};
-ghost use Rattle.lighting.specs.Paper.Frames.{levelFieldRefusal, amountFieldRefusal, timeFieldRefusal, firstRefusal, fieldsRefusal, commandWithDuration, commandRequestBy, commandRequest};
+ghost use Rattle.lighting.specs.Paper.Frames.{levelFieldRefusal, amountFieldRefusal, timeFieldRefusal, firstRefusal, fieldsRefusal, commandLasting, commandWithDuration, commandRequestBy, commandOf, plainDuration, commandRequest, taggedRequest};
 use lighting::Command;
 use lighting::Duration;
 use lighting::Level;
@@ -10,6 +10,7 @@ use lighting::Operation;
 use lighting::OperationFields;
 use lighting::RealField;
 use lighting::Request;
+use lighting::TaggedReading;
 use lighting::TimeField;
 
 // ---- the ranges: 0, or the refusal of a field that is out of its range
@@ -80,16 +81,11 @@ pub fn fields_refusal(f: OperationFields) -> u8
 
 // ---- the request
 
-// An operation with its duration: 0 cancels, 100 to 86,400,000 sets, FFFFFFFF means absent.
-fn command_with_duration(operation: Operation, d: u32) -> Request
-    ensures { λ r. ⌜ r ≡ commandWithDuration document01 operation d ⌝ }
+// An operation with a duration that is there: 0 cancels, 100 to 86,400,000 sets.
+fn command_lasting(operation: Operation, d: u32) -> Request
+    ensures { λ r. ⌜ r ≡ commandLasting document01 operation d ⌝ }
 {
-    if d == 0xFFFF_FFFF {
-        Request::Commands(Command {
-            operation,
-            duration: Duration::Omitted,
-        })
-    } else if d == 0 {
+    if d == 0 {
         Request::Commands(Command {
             operation,
             duration: Duration::Cancels,
@@ -104,23 +100,65 @@ fn command_with_duration(operation: Operation, d: u32) -> Request
     }
 }
 
-fn command_request_by(refusal: u8, operation: Operation, d: u32) -> Request
-    ensures { λ r. ⌜ r ≡ commandRequestBy document01 refusal operation d ⌝ }
+fn command_with_duration(operation: Operation, duration: TimeField) -> Request
+    ensures { λ r. ⌜ r ≡ commandWithDuration document01 operation duration ⌝ }
+{
+    match duration {
+        TimeField::Time(d) => command_lasting(operation, d),
+        TimeField::NoTime => Request::Commands(Command {
+            operation,
+            duration: Duration::Omitted,
+        }),
+    }
+}
+
+fn command_request_by(refusal: u8, operation: Operation, duration: TimeField) -> Request
+    ensures { λ r. ⌜ r ≡ commandRequestBy document01 refusal operation duration ⌝ }
 {
     if refusal == 0 {
-        command_with_duration(operation, d)
+        command_with_duration(operation, duration)
     } else {
         Request::Refuse(refusal)
     }
 }
 
-// The duration comes after the operation's own fields.
-pub fn command_request(operation: Operation, d: u32) -> Request
-    ensures { λ r. ⌜ r ≡ commandRequest document01 operation d ⌝ }
+// In whatever form a command came, the duration comes after the operation's own fields.
+pub fn command_of(operation: Operation, duration: TimeField) -> Request
+    ensures { λ r. ⌜ r ≡ commandOf document01 operation duration ⌝ }
 {
     command_request_by(
         fields_refusal(command_operations::fields_of(operation)),
         operation,
-        d,
+        duration,
     )
+}
+
+// The kinds 10 to 1A: FFFFFFFF means absent.
+fn plain_duration(d: u32) -> TimeField
+    ensures { λ r. ⌜ r ≡ plainDuration d ⌝ }
+{
+    if d == 0xFFFF_FFFF {
+        TimeField::NoTime
+    } else {
+        TimeField::Time(d)
+    }
+}
+
+pub fn command_request(operation: Operation, d: u32) -> Request
+    ensures { λ r. ⌜ r ≡ commandRequest document01 operation d ⌝ }
+{
+    command_of(operation, plain_duration(d))
+}
+
+// Kind 1B: an absent duration is a missing field, and FFFFFFFF is out of range.
+pub fn tagged_request(reading: TaggedReading) -> Request
+    ensures { λ r. ⌜ r ≡ taggedRequest document01 reading ⌝ }
+{
+    match reading {
+        TaggedReading::Unreadable(refusal) => Request::Refuse(refusal),
+        TaggedReading::Reads {
+            operation,
+            duration,
+        } => command_of(operation, duration),
+    }
 }

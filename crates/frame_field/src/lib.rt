@@ -1,7 +1,8 @@
-// Bytes and big-endian numbers out of a frame. Past the end of the frame every byte is 0, so that a field can be read before the length
-// is judged.
+// Bytes, big-endian numbers and parts out of a frame. Past the end of the frame every byte is 0, and a part has what is there, so that a field can be
+// read before the length is judged.
 ghost use mathlib.Core.Path.{_≡_};
 ghost use Prim.Native.Nat.{_+_, _<_, min};
+ghost use lib.ListN.{take, drop};
 ghost use Rattle.lighting.specs.Paper.Field.{byteAt, bigEndian};
 
 pub fn byte_at(s: &[u8], at: usize) -> u8
@@ -58,4 +59,23 @@ pub fn word48_at(s: &[u8], at: usize) -> u64
 {
     let rest = later(at, 2);
     word_wide(word16_at(s, at)) * 4294967296 + word_wide(word32_at(s, rest))
+}
+
+// The bytes from `at` on, and the first `n`.
+pub fn from_on(s: &[u8], at: usize) -> &[u8]
+    ensures { λ r. ⌜ now r ≡ drop at (now (s .entry)) ⌝ }
+{
+    if at < s.len() {
+        return &s[at..];
+    }
+    &s[..0]
+}
+
+pub fn first(s: &[u8], n: usize) -> &[u8]
+    ensures { λ r. ⌜ now r ≡ take n (now (s .entry)) ⌝ }
+{
+    if n < s.len() {
+        return &s[..n];
+    }
+    s
 }

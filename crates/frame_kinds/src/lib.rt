@@ -36,7 +36,7 @@ fn plain_row(k: u8) -> KindRow
     }
 }
 
-// The commands, 10 to 1A.
+// The commands, 10 to 1A, and 1B, a command in tags.
 fn command_row(k: u8) -> KindRow
     requires { ⌜ 0x10 ≤ k ⌝ }
     ensures { λ r. ⌜ r ≡ kindRow k ⌝ }
@@ -53,6 +53,7 @@ fn command_row(k: u8) -> KindRow
         0x18 => call_row(21, Action::StepsDownBy),
         0x19 => call_row(21, Action::GoesTo),
         0x1A => call_row(17, Action::Relinquishes),
+        0x1B => call_row(31, Action::CommandsTagged),
         _ => KindRow {
             length: 0,
             kind: Kind::NoKind,
@@ -66,7 +67,7 @@ pub fn kind_row(k: u8) -> KindRow
 {
     match k {
         0x01..=0x05 => plain_row(k),
-        0x10..=0x1A => command_row(k),
+        0x10..=0x1B => command_row(k),
         _ => KindRow {
             length: 0,
             kind: Kind::NoKind,

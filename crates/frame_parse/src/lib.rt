@@ -133,6 +133,8 @@ fn request_of(action: Action, b: &[u8]) -> Request
             Operation::Relinquish,
             frame_field::word32_at(b, 13),
         ),
+        Action::CommandsTagged =>
+            command_parse::tagged_request(tag_reading::read_body(frame_field::from_on(b, 13))),
     }
 }
 

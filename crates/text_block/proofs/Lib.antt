@@ -1,1 +1,2 @@
+pub mod Tagged
 pub mod Turns

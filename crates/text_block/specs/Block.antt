@@ -8,11 +8,13 @@ use Rattle.lighting.specs.Paper.Slots.{isLive, levelAt}
 use Rattle.lighting.specs.Paper.Value.{presentValue, progressValue, inProcess}
 use Rattle.lighting.specs.Paper.Answers.{valueOf}
 use Rattle.lighting.specs.Paper.Properties.{propertyOf, readProperty}
+use Rattle.lighting.specs.Paper.Tags.{tagBytes, commandTags}
 use Rattle.lighting.specs.declared.Answer.{Answer}
+use Rattle.lighting.specs.declared.Command.{Command}
 use Rattle.lighting.specs.declared.Output.{Output}
 use Rattle.lighting.specs.declared.Slots.{Slots}
 use Rattle.text_printing.specs.Text.{text}
-use Rattle.text_printing.specs.Writing.{hex8, decimal, newline}
+use Rattle.text_printing.specs.Writing.{hex8, hexBytes, decimal, newline}
 
 -- for what is not there
 abbrev pub missing : Bytes
@@ -75,6 +77,10 @@ settingsLine t o = text "settings" ++ (propertyFields t o 1 10 ++ newline)
 unfoldable pub lastLine : ℕ → Output → Bytes
 lastLine t o = text "last" ++ (propertyFields t o 15 6 ++ newline)
 
+-- and the last command once more, as the writer of tags has it (§1)
+unfoldable pub taggedLine : Command → Bytes
+taggedLine k = text "tagged " ++ (hexBytes (tagBytes (commandTags k)) ++ newline)
+
 unfoldable pub block : ℕ → ℕ → Output → Bytes
 block i t o =
     numberLine (text "output ") i
@@ -84,4 +90,5 @@ block i t o =
     ++ (processLine o
     ++ (settingsLine t o
     ++ (lastLine t o
-    ++ numberLine (text "burning ") (o .burning)))))))
+    ++ (numberLine (text "burning ") (o .burning)
+    ++ taggedLine (o .last))))))))

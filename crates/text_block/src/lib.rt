@@ -1,15 +1,17 @@
 // The lines of one output.
 ghost use Prim.Native.Nat.{_+_, _<_};
 ghost use Rattle.text_printing.specs.Page.{Wrote};
-ghost use Rattle.text_block.specs.Block.{levelField, slotLevel, slotField, slotFields, hexField, answerField, propertyField, propertyFields, numberLine, slotsLine, presentLine, progressLine, processLine, settingsLine, lastLine, block};
+ghost use Rattle.text_block.specs.Block.{levelField, slotLevel, slotField, slotFields, hexField, answerField, propertyField, propertyFields, numberLine, slotsLine, presentLine, progressLine, processLine, settingsLine, lastLine, taggedLine, block};
 ghost use Rattle.lighting.specs.Paper.Slots.{slotCount};
 use lighting::Answer;
+use lighting::Command;
 use lighting::NO_SLOT;
 use lighting::Output;
 use lighting::Slots;
 use text_printing::put;
 use text_printing::put_all;
 use text_printing::put_decimal;
+use text_printing::put_hex_bytes;
 use text_printing::put_hex8;
 
 // ---- fields
@@ -149,11 +151,24 @@ fn put_last_line(page: &mut [u8], at: usize, t: u64, o: Output) -> usize
     put(page, fields, b'\n')
 }
 
+// The command's own bytes, without the zeros after them.
+fn put_tagged_line(page: &mut [u8], at: usize, k: Command) -> usize
+    ensures { λ r. ⌜ Wrote (now (page .entry)) at (taggedLine k) (now (page .exit)) r ⌝ }
+{
+    let body = tag_writing::tagged_body(k);
+    let bytes = body.bytes;
+    let n = body.length as usize;
+    let word = put_all(page, at, b"tagged ");
+    let digits = put_hex_bytes(page, word, &bytes[0..n]);
+    put(page, digits, b'\n')
+}
+
 pub fn put_block(page: &mut [u8], at: usize, i: u64, t: u64, o: Output) -> usize
     ensures { λ r. ⌜ Wrote (now (page .entry)) at (block i t o) (now (page .exit)) r ⌝ }
 {
     let s = o.slots;
     let burning = o.burning;
+    let command = o.last;
     let output = put_number_line(page, at, b"output ", i);
     let slots = put_slots_line(page, output, s);
     let present = put_present_line(page, slots, o);
@@ -161,5 +176,6 @@ pub fn put_block(page: &mut [u8], at: usize, i: u64, t: u64, o: Output) -> usize
     let process = put_process_line(page, progress, o);
     let settings = put_settings_line(page, process, t, o);
     let last = put_last_line(page, settings, t, o);
-    put_number_line(page, last, b"burning ", burning)
+    let lit = put_number_line(page, last, b"burning ", burning);
+    put_tagged_line(page, lit, command)
 }

@@ -29,10 +29,11 @@ use Rattle.text_printing.specs.Page.{Wrote}
 use Rattle.text_printing.proofs.Lengths.{decimal-length, hex-length, answer-length}
 use Rattle.text_printing.proofs.Pages.{wrote-then, written}
 use Rattle.text_block.specs.Block.{levelField, slotLevel, slotField, slotFields, hexField, answerField, propertyField, propertyFields, numberLine, slotsLine, presentLine, progressLine, processLine, settingsLine, lastLine, block}
+use Rattle.text_block.proofs.Tagged.{tagged-length}
 use Rattle.text_report.specs.Report.{twoDigits, threeDigits, lead, aligned, percent, minutes, moment, lasting, light, operationName, until, activityText, timerText, lightFields, levelFields, timeFields, wayFields, reportLine, reportHead}
 use Rattle.text_found.specs.Found.{foundHead, foundOutput, roomy, marked, Sheet, withText, withRoom, withOutput, withOutputs}
 
--- A BLOCK: eight lines, 642 bytes at most
+-- A BLOCK: nine lines, 684 bytes at most
 number-line : (word : Bytes) (n : ℕ) → length (numberLine word n) ≤ length word + 21
 unfolding numberLine
 number-line word n = simp length-append (omega (arith, decimal-length n))
@@ -58,7 +59,7 @@ unfolding propertyFields propertyField
 property-fields t o k zero = omega arith
 property-fields t o k (suc n) = simp length-append (omega (arith, property-fields t o k n, answer-field (readProperty t o (propertyOf (k + n)))))
 
-pub block-length : (i t : ℕ) (o : Output) → length (block i t o) ≤ 642
+pub block-length : (i t : ℕ) (o : Output) → length (block i t o) ≤ 684
 unfolding block slotsLine presentLine progressLine processLine settingsLine lastLine
 block-length i t o =
     simp length-append (omega (
@@ -71,6 +72,7 @@ block-length i t o =
       property-fields t o 1 10,
       property-fields t o 15 6,
       number-line (text "burning ") (o .burning),
+      tagged-length (o .last),
     ))
 
 -- A LINE OF THE REPORT: 236 bytes at most, and its head 114

@@ -1,6 +1,6 @@
 -- One text written after another.
 use mathlib.Core.Path.{_≡_, refl, sym, ap, _∙_}
-use mathlib.Core.List.{[], _∷_, _++_}
+use mathlib.Core.List.{[], _∷_, _++_, append-assoc, append-nil}
 use Prim.Native.Nat.{ℕ, suc, _+_, _≤_, _<_}
 use native.Mathlib.Omega.{arith}
 use native.Mathlib.Numerals.{add-one}
@@ -9,6 +9,7 @@ use lib.Seq.{sets, length-sets, sets-eq, set-out, take-suc, take-at, length-take
 use Rattle.lighting.specs.Paper.Frames.{Bytes}
 use Rattle.lighting.proofs.Split.{by-le}
 use Rattle.text_printing.specs.Page.{Wrote}
+use Rattle.text_printing.specs.Writing.{hex2, hexBytes}
 
 sets-append : (l : Bytes) (i : ℕ) (x y : Bytes) → sets l i (x ++ y) ≡ sets (sets l i x) (i + length x) y
 sets-append l i [] y = ap (λ (n : ℕ). sets l n y) (omega arith)
@@ -19,9 +20,14 @@ sets-out : (l : Bytes) (i : ℕ) (x : Bytes) → length l ≤ i → sets l i x �
 sets-out l i [] h = refl
 sets-out l i (a ∷ x) h = rw (set-out l i a h) (sets-out l (suc i) x (omega arith))
 
+-- the page is as long as it was
+pub wrote-length : {p q : Bytes} {a b : ℕ} {x : Bytes} → Wrote p a x q b → length q ≡ length p
+wrote-length {p} {q} {a} {b} {x} f = ap length (f .filled) ∙ length-sets p a x
+
+-- one after the other
 pub wrote-then : {p q s : Bytes} {a b c : ℕ} {x y : Bytes} → Wrote p a x q b → Wrote q b y s c → Wrote p a (x ++ y) s c
 wrote-then {p} {q} {s} {a} {b} {c} {x} {y} f g =
-    let e : length q ≡ length p = ap length (f .filled) ∙ length-sets p a x in
+    let e : length q ≡ length p = wrote-length f in
     let n : length (x ++ y) ≡ length x + length y = length-append x y in
     record {
       filled = g .filled ∙ ap (λ (l : Bytes). sets l b y) (f .filled) ∙ place ∙ sym (sets-append p a x y);
@@ -53,6 +59,19 @@ wrote-two d e f g = rw (← d, ← e) (wrote-then f g)
 -- a turn of a loop that writes a text byte by byte
 pub wrote-turn : {p q s : Bytes} {a b c : ℕ} (l : Bytes) (i : ℕ) → i < length l → Wrote p a (take i l) q b → Wrote q b (getD l i 0 ∷ []) s c → Wrote p a (take (i + 1) l) s c
 wrote-turn l i h f g = rw (add-one, take-suc l i 0 h) (wrote-then f g)
+
+-- and of one that writes bytes in hexadecimal
+hex-append : (x y : Bytes) → hexBytes (x ++ y) ≡ hexBytes x ++ hexBytes y
+unfolding hexBytes
+hex-append [] y = refl
+hex-append (b ∷ x) y = ap (λ (l : Bytes). hex2 b ++ l) (hex-append x y) ∙ sym (append-assoc (hex2 b) (hexBytes x) (hexBytes y))
+
+hex-more : (l : Bytes) (i : ℕ) → i < length l → hexBytes (take (i + 1) l) ≡ hexBytes (take i l) ++ hex2 (getD l i 0)
+unfolding hexBytes
+hex-more l i h = rw (add-one, take-suc l i 0 h, hex-append (take i l) (getD l i 0 ∷ []), append-nil)
+
+pub wrote-hex-turn : {p q s : Bytes} {a b c : ℕ} (l : Bytes) (i : ℕ) → i < length l → Wrote p a (hexBytes (take i l)) q b → Wrote q b (hex2 (getD l i 0)) s c → Wrote p a (hexBytes (take (i + 1) l)) s c
+wrote-hex-turn l i h f g = rw (hex-more l i h) (wrote-then f g)
 
 -- what is written can be read: it stands after what stood before the mark, if there was room
 pub written : {p q : Bytes} {a b : ℕ} {x : Bytes} → a + length x ≤ length p → Wrote p a x q b → (b ≡ a + length x) × (take b q ≡ take a p ++ x)

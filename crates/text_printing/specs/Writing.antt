@@ -22,6 +22,11 @@ hex4 v = hex2 (v / 256) ++ hex2 (v % 256)
 unfoldable pub hex8 : ℕ → Bytes
 hex8 v = hex4 (v / 65536) ++ hex4 (v % 65536)
 
+-- bytes, with no blank between them
+unfoldable pub hexBytes : Bytes → Bytes
+hexBytes [] = []
+hexBytes (b ∷ l) = hex2 b ++ hexBytes l
+
 -- DECIMAL, with no zero in front: k more digits may stand before the last. 64 bits take 20 digits at most
 unfoldable pub decimalBy : ℕ → ℕ → Bytes
 decimalBy zero n = (48 + n % 10) ∷ []

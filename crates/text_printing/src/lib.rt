@@ -5,7 +5,7 @@ ghost use mathlib.Core.List.{_∷_, [], _++_};
 ghost use Prim.Native.Nat.{_+_, _%_, _≤_, _<_};
 ghost use lib.ListN.{drop, length};
 ghost use Rattle.text_printing.specs.Page.{Wrote};
-ghost use Rattle.text_printing.specs.Writing.{hexDigit, hex2, hex4, hex8, decimal, newline, valueWord, refusedWord, answerLine};
+ghost use Rattle.text_printing.specs.Writing.{hexDigit, hex2, hex4, hex8, hexBytes, decimal, newline, valueWord, refusedWord, answerLine};
 use lighting::Answer;
 
 // ---- bytes
@@ -61,6 +61,18 @@ pub fn put_hex8(page: &mut [u8], at: usize, v: u32) -> usize
 {
     let mark = put_hex4(page, at, (v / 65536) as u16);
     put_hex4(page, mark, (v % 65536) as u16)
+}
+
+pub fn put_hex_bytes(page: &mut [u8], at: usize, s: &[u8]) -> usize
+    ensures { λ r. ⌜ Wrote (now (page .entry)) at (hexBytes (now (s .entry))) (now (page .exit)) r ⌝ }
+{
+    let mut mark = at;
+    let mut i: usize = 0;
+    while i < s.len() {
+        mark = put_hex2(page, mark, s[i]);
+        i += 1;
+    }
+    mark
 }
 
 // A number's decimal digits: the bytes of `bytes` from `from` on.

@@ -4,18 +4,15 @@ use borrow.Author.Needs.{needs}
 use Rattle.command_parse.proofs.command_request.Statement.{statement}
 use Rattle.command_parse.proofs.command_request.Tie as tie
 
-fields-of-requires : tie.Need-fields-of-requires
-fields-of-requires c κs = search needs
+plain-duration-requires : tie.Need-plain-duration-requires
+plain-duration-requires c κs = search needs
 
-fields-refusal-requires : tie.Need-fields-refusal-requires
-fields-refusal-requires c κs = search needs
-
-command-request-by-requires : tie.Need-command-request-by-requires
-command-request-by-requires c κs = search needs
+command-of-requires : tie.Need-command-of-requires
+command-of-requires c κs = search needs
 
 returns : tie.Need-returns
 unfolding commandRequest
-returns c = simp (c .command-request-by .ensures, c .before .fields-refusal .ensures, c .before .before .fields-of .ensures)
+returns c = simp (c .command-of .ensures, c .before .plain-duration .ensures)
 
 pub command-request-spec : {M : Type 1} → statement M
-command-request-spec = tie.close (tie.spec fields-of-requires fields-refusal-requires command-request-by-requires returns)
+command-request-spec = tie.close (tie.spec plain-duration-requires command-of-requires returns)

@@ -41,6 +41,9 @@ call-row-requires-10 c κs = search needs
 call-row-requires-11 : tie.Need-call-row-requires-11
 call-row-requires-11 c κs = search needs
 
+call-row-requires-12 : tie.Need-call-row-requires-12
+call-row-requires-12 c κs = search needs
+
 returns : tie.Need-returns
 unfolding kindRow if_then_else_
 returns c = search (needs, table)
@@ -89,6 +92,10 @@ returns-12 : tie.Need-returns-12
 unfolding kindRow if_then_else_
 returns-12 c = search (needs, table)
 
+returns-13 : tie.Need-returns-13
+unfolding kindRow if_then_else_
+returns-13 c = search (needs, table)
+
 pub command-row-spec : {M : Type 1} → statement M
 command-row-spec =
     tie.close
@@ -104,6 +111,7 @@ command-row-spec =
     call-row-requires-9
     call-row-requires-10
     call-row-requires-11
+    call-row-requires-12
     returns
     returns-2
     returns-3
@@ -115,4 +123,5 @@ command-row-spec =
     returns-9
     returns-10
     returns-11
-    returns-12)
+    returns-12
+    returns-13)

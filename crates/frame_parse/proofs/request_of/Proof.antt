@@ -182,6 +182,18 @@ word32-at-requires-14 c κs = search needs
 command-request-requires-11 : tie.Need-command-request-requires-11
 command-request-requires-11 c κs = search needs
 
+enum-told-16 : tie.Need-enum-told-16
+enum-told-16 c = search needs
+
+from-on-requires : tie.Need-from-on-requires
+from-on-requires c κs = search needs
+
+read-body-requires : tie.Need-read-body-requires
+read-body-requires c κs = search needs
+
+tagged-request-requires : tie.Need-tagged-request-requires
+tagged-request-requires c κs = search needs
+
 returns : tie.Need-returns
 unfolding requestOf
 returns c = search (needs, requestOf-on, ← c .before .word32-at .ensures, ← c .before .before .byte-at .ensures)
@@ -241,6 +253,10 @@ returns-14 c = search (needs, requestOf-on, ← c .before .word32-at13 .ensures,
 returns-15 : tie.Need-returns-15
 unfolding requestOf
 returns-15 c = search (needs, requestOf-on, ← c .before .word32-at14 .ensures)
+
+returns-16 : tie.Need-returns-16
+unfolding requestOf
+returns-16 c = search (needs, requestOf-on, ← c .before .read-body .ensures, ← c .before .before .from-on .ensures)
 
 pub request-of-spec : {M : Type 1} → statement M
 request-of-spec =
@@ -302,6 +318,10 @@ request-of-spec =
     enum-told-15
     word32-at-requires-14
     command-request-requires-11
+    enum-told-16
+    from-on-requires
+    read-body-requires
+    tagged-request-requires
     returns
     returns-2
     returns-3
@@ -316,4 +336,5 @@ request-of-spec =
     returns-12
     returns-13
     returns-14
-    returns-15)
+    returns-15
+    returns-16)

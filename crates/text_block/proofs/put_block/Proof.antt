@@ -1,4 +1,4 @@
-use Rattle.text_printing.proofs.Pages.{wrote-then}
+use Rattle.text_printing.proofs.Pages.{wrote-then, wrote-length}
 use Rattle.text_block.specs.Block.{block}
 use borrow.Author.Needs.{needs}
 use Rattle.text_block.proofs.put_block.Statement.{statement}
@@ -12,6 +12,7 @@ use Rattle.text_block.proofs.put_process_line.Reads as put-process-line
 use Rattle.text_block.proofs.put_progress_line.Reads as put-progress-line-reads
 use Rattle.text_block.proofs.put_settings_line.Reads as put-settings-line-reads
 use Rattle.text_block.proofs.put_slots_line.Reads as put-slots-line-reads
+use Rattle.text_block.proofs.put_tagged_line.Reads as put-tagged-line-reads
 
 slice-aggregate-put-number-line : tie.Need-slice-aggregate-put-number-line
 slice-aggregate-put-number-line c = search needs
@@ -43,12 +44,16 @@ slice-aggregate-put-number-line-2 c = search needs
 put-number-line-requires-2 : tie.Need-put-number-line-requires-2
 put-number-line-requires-2 c κs = search needs
 
-same-length : tie.Need-same-length
-same-length c = search needs
+put-tagged-line-requires : tie.Need-put-tagged-line-requires
+put-tagged-line-requires c κs = search needs
 
 returns : tie.Need-returns
 unfolding block
-returns c = wrote-then (c .before .before .before .before .before .before .before .before .before .before .before .before .before .before .before .before .before .before .before .before .before .before .before .before .before .before .before .before .before .before .before .put-number-line .ensures) (wrote-then (c .before .before .before .before .before .before .before .before .before .before .before .before .before .before .before .before .before .before .before .before .before .before .before .before .before .before .before .put-slots-line .ensures) (wrote-then (c .before .before .before .before .before .before .before .before .before .before .before .before .before .before .before .before .before .before .before .before .before .before .before .put-present-line .ensures) (wrote-then (c .before .before .before .before .before .before .before .before .before .before .before .before .before .before .before .before .before .before .before .put-progress-line .ensures) (wrote-then (c .before .before .before .before .before .before .before .before .before .before .before .before .before .before .before .put-process-line .ensures) (wrote-then (c .before .before .before .before .before .before .before .before .before .before .before .put-settings-line .ensures) (wrote-then (c .before .before .before .before .before .before .before .put-last-line .ensures) (c .before .before .put-number-line2 .ensures)))))))
+returns c = wrote-then (c .before .before .before .before .before .before .before .before .before .before .before .before .before .before .before .before .before .before .before .before .before .before .before .before .before .before .before .before .before .before .before .before .before .before .before .put-number-line .ensures) (wrote-then (c .before .before .before .before .before .before .before .before .before .before .before .before .before .before .before .before .before .before .before .before .before .before .before .before .before .before .before .before .before .before .before .put-slots-line .ensures) (wrote-then (c .before .before .before .before .before .before .before .before .before .before .before .before .before .before .before .before .before .before .before .before .before .before .before .before .before .before .before .put-present-line .ensures) (wrote-then (c .before .before .before .before .before .before .before .before .before .before .before .before .before .before .before .before .before .before .before .before .before .before .before .put-progress-line .ensures) (wrote-then (c .before .before .before .before .before .before .before .before .before .before .before .before .before .before .before .before .before .before .before .put-process-line .ensures) (wrote-then (c .before .before .before .before .before .before .before .before .before .before .before .before .before .before .before .put-settings-line .ensures) (wrote-then (c .before .before .before .before .before .before .before .before .before .before .before .put-last-line .ensures) (wrote-then (c .before .before .before .before .before .before .put-number-line2 .ensures) (c .before .before .put-tagged-line .ensures))))))))
+
+-- a page that a text was written on is as long as it was; the calls are too many for the search
+same-length : tie.Need-same-length
+same-length c = wrote-length (returns c)
 
 pub put-block-spec : {M : Type 1} → statement M
 put-block-spec =
@@ -64,5 +69,6 @@ put-block-spec =
     put-last-line-requires
     slice-aggregate-put-number-line-2
     put-number-line-requires-2
+    put-tagged-line-requires
     same-length
     returns)

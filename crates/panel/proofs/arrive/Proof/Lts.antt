@@ -139,7 +139,7 @@ abbrev b11 : Syntax.Body
 b11 = Syntax.call "number_ranges::index" (List._∷_ (Syntax.copy (Syntax.place 5 (List._∷_ (Syntax.field 0) List.[]))) List.[]) (Syntax.place 11 List.[])
 
 abbrev b12 : Syntax.Body
-b12 = Syntax.assign (Syntax.place 17 List.[]) (Syntax.op2 (Syntax.mul Syntax.unsigned) (Syntax.copy (Syntax.place 11 List.[])) (Syntax.int Syntax.w64 40))
+b12 = Syntax.assign (Syntax.place 17 List.[]) (Syntax.op2 (Syntax.mul Syntax.unsigned) (Syntax.copy (Syntax.place 11 List.[])) (Syntax.int Syntax.w64 44))
 
 abbrev b13 : Syntax.Body
 b13 = Syntax.assign (Syntax.place 18 List.[]) (Syntax.op2 Syntax.offset (Syntax.copy (Syntax.place 2 (List._∷_ (Syntax.field 0) List.[]))) (Syntax.copy (Syntax.place 17 List.[])))
@@ -470,13 +470,13 @@ module _ (claims· : Claims) where
   s25 = Scalar.n-room T26 5 (Laws'.mir)
 
   abbrev s26 : Typed.Asks T27 T28
-  s26 = Scalar.k-op2 T27 (Syntax.mul Syntax.unsigned) (Scalar.oAt 11 (Syntax.tyInt Syntax.w64) (Row.valS (Row.sInt Syntax.w64))) (Scalar.oInt Syntax.w64 40) 17 (Rows'.sc-here (Row.sInt Syntax.w64)) (Row.sInt Syntax.w64 .of)
+  s26 = Scalar.k-op2 T27 (Syntax.mul Syntax.unsigned) (Scalar.oAt 11 (Syntax.tyInt Syntax.w64) (Row.valS (Row.sInt Syntax.w64))) (Scalar.oInt Syntax.w64 44) 17 (Rows'.sc-here (Row.sInt Syntax.w64)) (Row.sInt Syntax.w64 .of)
 
   abbrev s27 : Typed.Asks T28 T29
   s27 = Scalar.k-op2 T28 Syntax.offset (Scalar.oFld 2 (List._∷_ (Syntax.field 0) List.[]) (Syntax.tyRef (Syntax.named 1) Syntax.mut OfStation.named) 0 Reads'.ptrVal) (Scalar.oAt 17 (Syntax.tyInt Syntax.w64) (Row.valS (Row.sInt Syntax.w64))) 18 (Rows'.sc-here Row.sPtr) (Row.sPtr .of)
 
   abbrev s28 : Typed.Asks T29 T30
-  s28 = Move.k-sl-set-from (OfStation.row) T29 2 18 10 1 (Syntax.tyRef (Syntax.named 1) Syntax.mut OfStation.named) Row.off (OfStation.held) (Shared.bySize 40) (λ u. u .1 .1 .1 .1 .1 .1 .1 .1 .1 .1 .1 .0) (λ x. x) (λ x. x) (λ x. x) λ x. x
+  s28 = Move.k-sl-set-from (OfStation.row) T29 2 18 10 1 (Syntax.tyRef (Syntax.named 1) Syntax.mut OfStation.named) Row.off (OfStation.held) (Shared.bySize 44) (λ u. u .1 .1 .1 .1 .1 .1 .1 .1 .1 .1 .1 .0) (λ x. x) (λ x. x) (λ x. x) λ x. x
 
   abbrev s29 : Typed.Mo T30 → Typed.Mo T31
   s29 = Scalar.n-room T30 10 OfStation.spelt
@@ -822,13 +822,13 @@ module _ (claims· : Claims) where
           d9 = Typed.g-pre 𝓤 H A W 𝓣 E G30 G31 b19 Δ0 (Typed.pass T30 T31 s29) at8 (Scalar.g-room 𝓤 H A W E G30 10 OfStation.spelt (OfStation.room 𝓤 H A W)) d8
 
           d10 : Typed.Typed 𝓤 H A 𝓣 E G29 b20 Δ0 at10
-          d10 = Typed.s-seq 𝓤 H A W 𝓣 E G29 G30 b14 b19 Δ0 (Typed.ask s28) at9 (Move.t-sl-set-from 𝓤 H A W E (OfStation.row) 𝓣 Path'.refl (λ ρ. Unit) G29 2 18 10 1 (Syntax.tyRef (Syntax.named 1) Syntax.mut OfStation.named) (Row.lease (κs .1 .0) (qs .1 .0)) OfStation.spelt OfStation.spelt (OfStation.held) (Shared.bySize 40) (λ u. u .1 .1 .1 .1 .1 .1 .1 .1 .1 .1 .1 .0) (λ x. x) (λ x. x) (λ x. x) (λ x. x) (λ i o. Elements.at-mul o 40 i) Path'.refl Path'.refl (Own.told-none 𝓤 H A (G29 .slots)) (Reads'.as-is 𝓤 H A (Mut.mslice (OfStation.row) (Syntax.tyRef (Syntax.named 1) Syntax.mut OfStation.named) 1)) (Reads'.as-is 𝓤 H A (Rows'.sc-here Row.sPtr)) (Yields.yields-copy 𝓤 H A W (λ ρ. Unit) (OfStation.row) Path'.refl (OfStation.copies .copy 𝓤 H A W) (OfStation.held) (λ x. x) (λ x. x) (λ ρ told. OfStation.in-mem 𝓤 H A W ρ) λ ρ told. OfStation.of-mem 𝓤 H A W ρ) Path'.refl tt Path'.refl Path'.refl) d9
+          d10 = Typed.s-seq 𝓤 H A W 𝓣 E G29 G30 b14 b19 Δ0 (Typed.ask s28) at9 (Move.t-sl-set-from 𝓤 H A W E (OfStation.row) 𝓣 Path'.refl (λ ρ. Unit) G29 2 18 10 1 (Syntax.tyRef (Syntax.named 1) Syntax.mut OfStation.named) (Row.lease (κs .1 .0) (qs .1 .0)) OfStation.spelt OfStation.spelt (OfStation.held) (Shared.bySize 44) (λ u. u .1 .1 .1 .1 .1 .1 .1 .1 .1 .1 .1 .0) (λ x. x) (λ x. x) (λ x. x) (λ x. x) (λ i o. Elements.at-mul o 44 i) Path'.refl Path'.refl (Own.told-none 𝓤 H A (G29 .slots)) (Reads'.as-is 𝓤 H A (Mut.mslice (OfStation.row) (Syntax.tyRef (Syntax.named 1) Syntax.mut OfStation.named) 1)) (Reads'.as-is 𝓤 H A (Rows'.sc-here Row.sPtr)) (Yields.yields-copy 𝓤 H A W (λ ρ. Unit) (OfStation.row) Path'.refl (OfStation.copies .copy 𝓤 H A W) (OfStation.held) (λ x. x) (λ x. x) (λ ρ told. OfStation.in-mem 𝓤 H A W ρ) λ ρ told. OfStation.of-mem 𝓤 H A W ρ) Path'.refl tt Path'.refl Path'.refl) d9
 
           d11 : Typed.Typed 𝓤 H A 𝓣 E G28 b21 Δ0 at11
           d11 = Typed.s-seq 𝓤 H A W 𝓣 E G28 G29 b13 b20 Δ0 (Typed.ask s27) at10 (Scalar.t-op2 𝓤 H A W E 𝓣 G28 Syntax.offset (Scalar.oFld 2 (List._∷_ (Syntax.field 0) List.[]) (Syntax.tyRef (Syntax.named 1) Syntax.mut OfStation.named) 0 Reads'.ptrVal) (Scalar.oAt 17 (Syntax.tyInt Syntax.w64) (Row.valS (Row.sInt Syntax.w64))) 18 (Rows'.sc-here Row.sPtr) Syntax.tyPtr (Row.valS Row.sPtr) (Row.sPtr .of) (Mut.reads-mslice-ptr 𝓤 H A W (OfStation.row) (Syntax.tyRef (Syntax.named 1) Syntax.mut OfStation.named) 1 0 Path'.refl, Path'.refl) (Scalar.reads-sc 𝓤 H A W (Row.sInt Syntax.w64), Path'.refl) (Reads'.room-gone 𝓤 H A Syntax.tyPtr) (Scalar.holds-sc 𝓤 H A W Row.sPtr) Path'.refl (λ u. Path'.refl) λ u. tt) d10
 
           d12 : Typed.Typed 𝓤 H A 𝓣 E G27 b22 Δ0 at12
-          d12 = Typed.s-seq 𝓤 H A W 𝓣 E G27 G28 b12 b21 Δ0 (Typed.ask s26) at11 (Scalar.t-op2 𝓤 H A W E 𝓣 G27 (Syntax.mul Syntax.unsigned) (Scalar.oAt 11 (Syntax.tyInt Syntax.w64) (Row.valS (Row.sInt Syntax.w64))) (Scalar.oInt Syntax.w64 40) 17 (Rows'.sc-here (Row.sInt Syntax.w64)) (Syntax.tyInt Syntax.w64) (Row.valS (Row.sInt Syntax.w64)) (Row.sInt Syntax.w64 .of) (Scalar.reads-sc 𝓤 H A W (Row.sInt Syntax.w64), Path'.refl) tt (Reads'.room-gone 𝓤 H A (Syntax.tyInt Syntax.w64)) (Scalar.holds-sc 𝓤 H A W (Row.sInt Syntax.w64)) Path'.refl (λ u. Path'.refl) λ u. tt) d11
+          d12 = Typed.s-seq 𝓤 H A W 𝓣 E G27 G28 b12 b21 Δ0 (Typed.ask s26) at11 (Scalar.t-op2 𝓤 H A W E 𝓣 G27 (Syntax.mul Syntax.unsigned) (Scalar.oAt 11 (Syntax.tyInt Syntax.w64) (Row.valS (Row.sInt Syntax.w64))) (Scalar.oInt Syntax.w64 44) 17 (Rows'.sc-here (Row.sInt Syntax.w64)) (Syntax.tyInt Syntax.w64) (Row.valS (Row.sInt Syntax.w64)) (Row.sInt Syntax.w64 .of) (Scalar.reads-sc 𝓤 H A W (Row.sInt Syntax.w64), Path'.refl) tt (Reads'.room-gone 𝓤 H A (Syntax.tyInt Syntax.w64)) (Scalar.holds-sc 𝓤 H A W (Row.sInt Syntax.w64)) Path'.refl (λ u. Path'.refl) λ u. tt) d11
 
           d13 : Typed.Typed 𝓤 H A 𝓣 E G26 b22 Δ0 at13
           d13 = Typed.g-pre 𝓤 H A W 𝓣 E G26 G27 b22 Δ0 (Typed.pass T26 T27 s25) at12 (Scalar.g-room 𝓤 H A W E G26 5 (Laws'.mir) (Local.room-whole 𝓤 H A W (Declared'.row Call.the-type) (Laws'.mir) Path'.refl)) d12

@@ -102,7 +102,7 @@ abbrev b3 : Syntax.Body
 b3 = Syntax.call "number_ranges::index" (List._∷_ (Syntax.copy (Syntax.place 9 List.[])) List.[]) (Syntax.place 6 List.[])
 
 abbrev b4 : Syntax.Body
-b4 = Syntax.assign (Syntax.place 8 List.[]) (Syntax.op2 (Syntax.mul Syntax.unsigned) (Syntax.copy (Syntax.place 6 List.[])) (Syntax.int Syntax.w64 40))
+b4 = Syntax.assign (Syntax.place 8 List.[]) (Syntax.op2 (Syntax.mul Syntax.unsigned) (Syntax.copy (Syntax.place 6 List.[])) (Syntax.int Syntax.w64 44))
 
 abbrev b5 : Syntax.Body
 b5 = Syntax.assign (Syntax.place 10 List.[]) (Syntax.op2 Syntax.offset (Syntax.copy (Syntax.place 2 (List._∷_ (Syntax.field 0) List.[]))) (Syntax.copy (Syntax.place 8 List.[])))
@@ -298,13 +298,13 @@ module _ (claims· : Claims) where
   s6 = Scalar.n-room T7 9 (Syntax.tyInt Syntax.w8)
 
   abbrev s7 : Typed.Asks T8 T9
-  s7 = Scalar.k-op2 T8 (Syntax.mul Syntax.unsigned) (Scalar.oAt 6 (Syntax.tyInt Syntax.w64) (Row.valS (Row.sInt Syntax.w64))) (Scalar.oInt Syntax.w64 40) 8 (Rows'.sc-here (Row.sInt Syntax.w64)) (Row.sInt Syntax.w64 .of)
+  s7 = Scalar.k-op2 T8 (Syntax.mul Syntax.unsigned) (Scalar.oAt 6 (Syntax.tyInt Syntax.w64) (Row.valS (Row.sInt Syntax.w64))) (Scalar.oInt Syntax.w64 44) 8 (Rows'.sc-here (Row.sInt Syntax.w64)) (Row.sInt Syntax.w64 .of)
 
   abbrev s8 : Typed.Asks T9 T10
   s8 = Scalar.k-op2 T9 Syntax.offset (Scalar.oFld 2 (List._∷_ (Syntax.field 0) List.[]) (Syntax.tyRef (Syntax.named 1) Syntax.imm OfStation.named) 0 Reads.ptrVal) (Scalar.oAt 8 (Syntax.tyInt Syntax.w64) (Row.valS (Row.sInt Syntax.w64))) 10 (Rows'.sc-here Row.sPtr) (Row.sPtr .of)
 
   abbrev s9 : Typed.Both T10 T11
-  s9 = Move.k-shs-copy-out (OfStation.row) T10 2 10 11 1 (Syntax.tyRef (Syntax.named 1) Syntax.imm OfStation.named) Row.off (OfStation.held) (Shared.bySize 40) (λ u. u .1 .1 .1 .1 .1 .1 .0) (λ x. x) OfStation.none (λ x. Unit) (λ x. x) λ x. x
+  s9 = Move.k-shs-copy-out (OfStation.row) T10 2 10 11 1 (Syntax.tyRef (Syntax.named 1) Syntax.imm OfStation.named) Row.off (OfStation.held) (Shared.bySize 44) (λ u. u .1 .1 .1 .1 .1 .1 .0) (λ x. x) OfStation.none (λ x. Unit) (λ x. x) λ x. x
 
   abbrev s10 : Typed.Mo T11 → Typed.Mo T12
   s10 = Scalar.n-room T11 8 (Syntax.tyInt Syntax.w64)
@@ -512,13 +512,13 @@ module _ (claims· : Claims) where
           d9 = Typed.g-pre 𝓤 H A W 𝓣 E G11 G12 b11 Δ0 (Typed.pass T11 T12 s10) at8 (Scalar.g-room 𝓤 H A W E G11 8 (Syntax.tyInt Syntax.w64) (Scalar.room-sc 𝓤 H A W (Row.sInt Syntax.w64))) d8
 
           d10 : Typed.Typed 𝓤 H A 𝓣 E G10 b12 Δ0 at10
-          d10 = Typed.s-seq 𝓤 H A W 𝓣 E G10 G11 b6 b11 Δ0 (Typed.both s9) at9 (Move.t-shs-copy-out 𝓤 H A W E (OfStation.row) 𝓣 Path'.refl (OfStation.copies .copy 𝓤 H A W) (Copies.halved 𝓤 H A W (OfStation.copies)) (λ ρ. Unit) G10 2 10 11 1 (Syntax.tyRef (Syntax.named 1) Syntax.imm OfStation.named) (Row.lease (κs .1 .0) (qs .1 .0)) OfStation.spelt OfStation.spelt (OfStation.held) (Shared.bySize 40) (λ u. u .1 .1 .1 .1 .1 .1 .0) (λ x. x) OfStation.none (λ x. Unit) (λ x. x) (λ x. x) (λ i o. Elements.at-mul o 40 i) Path'.refl Path'.refl (Own.told-none 𝓤 H A (G10 .slots)) (DerefMove.learns-nothing 𝓤 H A (OfStation.row)) (Reads.as-is 𝓤 H A (Rows'.sslice (OfStation.row) (Syntax.tyRef (Syntax.named 1) Syntax.imm OfStation.named) 1)) (Reads.as-is 𝓤 H A (Rows'.sc-here Row.sPtr)) (Reads.room-gone 𝓤 H A OfStation.spelt) (Yields.makes-mem 𝓤 H A W (λ ρ. Unit) (OfStation.row) Path'.refl (OfStation.held) (λ x. x) λ ρ told. OfStation.of-mem 𝓤 H A W ρ) Path'.refl tt Path'.refl Path'.refl) d9
+          d10 = Typed.s-seq 𝓤 H A W 𝓣 E G10 G11 b6 b11 Δ0 (Typed.both s9) at9 (Move.t-shs-copy-out 𝓤 H A W E (OfStation.row) 𝓣 Path'.refl (OfStation.copies .copy 𝓤 H A W) (Copies.halved 𝓤 H A W (OfStation.copies)) (λ ρ. Unit) G10 2 10 11 1 (Syntax.tyRef (Syntax.named 1) Syntax.imm OfStation.named) (Row.lease (κs .1 .0) (qs .1 .0)) OfStation.spelt OfStation.spelt (OfStation.held) (Shared.bySize 44) (λ u. u .1 .1 .1 .1 .1 .1 .0) (λ x. x) OfStation.none (λ x. Unit) (λ x. x) (λ x. x) (λ i o. Elements.at-mul o 44 i) Path'.refl Path'.refl (Own.told-none 𝓤 H A (G10 .slots)) (DerefMove.learns-nothing 𝓤 H A (OfStation.row)) (Reads.as-is 𝓤 H A (Rows'.sslice (OfStation.row) (Syntax.tyRef (Syntax.named 1) Syntax.imm OfStation.named) 1)) (Reads.as-is 𝓤 H A (Rows'.sc-here Row.sPtr)) (Reads.room-gone 𝓤 H A OfStation.spelt) (Yields.makes-mem 𝓤 H A W (λ ρ. Unit) (OfStation.row) Path'.refl (OfStation.held) (λ x. x) λ ρ told. OfStation.of-mem 𝓤 H A W ρ) Path'.refl tt Path'.refl Path'.refl) d9
 
           d11 : Typed.Typed 𝓤 H A 𝓣 E G9 b13 Δ0 at11
           d11 = Typed.s-seq 𝓤 H A W 𝓣 E G9 G10 b5 b12 Δ0 (Typed.ask s8) at10 (Scalar.t-op2 𝓤 H A W E 𝓣 G9 Syntax.offset (Scalar.oFld 2 (List._∷_ (Syntax.field 0) List.[]) (Syntax.tyRef (Syntax.named 1) Syntax.imm OfStation.named) 0 Reads.ptrVal) (Scalar.oAt 8 (Syntax.tyInt Syntax.w64) (Row.valS (Row.sInt Syntax.w64))) 10 (Rows'.sc-here Row.sPtr) Syntax.tyPtr (Row.valS Row.sPtr) (Row.sPtr .of) (Shared.reads-sslice-ptr 𝓤 H A W (OfStation.row) (Syntax.tyRef (Syntax.named 1) Syntax.imm OfStation.named) 1 0 Path'.refl, Path'.refl) (Scalar.reads-sc 𝓤 H A W (Row.sInt Syntax.w64), Path'.refl) (Reads.room-gone 𝓤 H A Syntax.tyPtr) (Scalar.holds-sc 𝓤 H A W Row.sPtr) Path'.refl (λ u. Path'.refl) λ u. tt) d10
 
           d12 : Typed.Typed 𝓤 H A 𝓣 E G8 b14 Δ0 at12
-          d12 = Typed.s-seq 𝓤 H A W 𝓣 E G8 G9 b4 b13 Δ0 (Typed.ask s7) at11 (Scalar.t-op2 𝓤 H A W E 𝓣 G8 (Syntax.mul Syntax.unsigned) (Scalar.oAt 6 (Syntax.tyInt Syntax.w64) (Row.valS (Row.sInt Syntax.w64))) (Scalar.oInt Syntax.w64 40) 8 (Rows'.sc-here (Row.sInt Syntax.w64)) (Syntax.tyInt Syntax.w64) (Row.valS (Row.sInt Syntax.w64)) (Row.sInt Syntax.w64 .of) (Scalar.reads-sc 𝓤 H A W (Row.sInt Syntax.w64), Path'.refl) tt (Reads.room-gone 𝓤 H A (Syntax.tyInt Syntax.w64)) (Scalar.holds-sc 𝓤 H A W (Row.sInt Syntax.w64)) Path'.refl (λ u. Path'.refl) λ u. tt) d11
+          d12 = Typed.s-seq 𝓤 H A W 𝓣 E G8 G9 b4 b13 Δ0 (Typed.ask s7) at11 (Scalar.t-op2 𝓤 H A W E 𝓣 G8 (Syntax.mul Syntax.unsigned) (Scalar.oAt 6 (Syntax.tyInt Syntax.w64) (Row.valS (Row.sInt Syntax.w64))) (Scalar.oInt Syntax.w64 44) 8 (Rows'.sc-here (Row.sInt Syntax.w64)) (Syntax.tyInt Syntax.w64) (Row.valS (Row.sInt Syntax.w64)) (Row.sInt Syntax.w64 .of) (Scalar.reads-sc 𝓤 H A W (Row.sInt Syntax.w64), Path'.refl) tt (Reads.room-gone 𝓤 H A (Syntax.tyInt Syntax.w64)) (Scalar.holds-sc 𝓤 H A W (Row.sInt Syntax.w64)) Path'.refl (λ u. Path'.refl) λ u. tt) d11
 
           d13 : Typed.Typed 𝓤 H A 𝓣 E G7 b14 Δ0 at13
           d13 = Typed.g-pre 𝓤 H A W 𝓣 E G7 G8 b14 Δ0 (Typed.pass T7 T8 s6) at12 (Scalar.g-room 𝓤 H A W E G7 9 (Syntax.tyInt Syntax.w8) (Scalar.room-sc 𝓤 H A W (Row.sInt Syntax.w8))) d12

@@ -1,0 +1,51 @@
+-- The padding of a body, byte after byte, and the operation by its number.
+use mathlib.Core.Path.{_≡_, sym}
+use mathlib.Core.Bool.{Bool}
+use mathlib.Core.List.{List}
+use Prim.Native.Nat.{ℕ, zero, suc, _+_, _-_, _≤_}
+use native.Mathlib.Omega.{arith}
+use lib.Dec.{eqb}
+use lib.ListN.{getD, List·getD-eq-default}
+use Rattle.lighting.specs.Paper.Choice.{allFrom}
+use Rattle.lighting.specs.Paper.Field.{byteAt}
+use Rattle.lighting.specs.Paper.Level.{real}
+use Rattle.lighting.specs.Paper.Tags.{lengthOf, zeroBeyond, heldBy, operations, operationOf}
+use Rattle.lighting.specs.declared.Operation.{Operation}
+use Rattle.lighting.specs.declared.Operation.the-variants.{Stop}
+use Rattle.lighting.specs.declared.TagFields.{TagFields}
+
+-- THE PADDING from a place on
+abbrev pub isZero : List ℕ → ℕ → Bool
+isZero body i = eqb (byteAt body i) 0
+
+unfoldable pub zeroFrom : List ℕ → ℕ → Bool
+zeroFrom body i = allFrom (isZero body) (18 - i) i
+
+pub beyond : (body : List ℕ) (i : ℕ) → i ≡ 1 + lengthOf body → zeroBeyond body ≡ zeroFrom body i
+unfolding zeroBeyond zeroFrom
+beyond body i e =
+    let n : 18 - (1 + lengthOf body) ≡ 17 - lengthOf body = omega arith in
+    let s : 1 + lengthOf body ≡ suc (lengthOf body) = omega arith in
+    rw (e, n, s)
+
+-- THE OPERATION that has the number
+module _ (f : TagFields) where
+  abbrev known : List Operation
+  known = operations (real (heldBy (f .level))) (real (heldBy (f .rate))) (real (heldBy (f .step))) (heldBy (f .fade))
+
+  pub numbered : (n : ℕ) {held : ℕ} {r : Operation} → held ≡ heldBy (f .operation) → held ≡ n → r ≡ getD known n Stop → r ≡ operationOf f
+  unfolding operationOf
+  numbered n h k e = rw (← h, k) e
+
+  pub unnumbered : {held : ℕ} → held ≡ heldBy (f .operation) → 11 ≤ held → Stop ≡ operationOf f
+  unfolding operationOf
+  unnumbered h k = rw (← h) (sym (List·getD-eq-default known Stop k))
+
+-- none of a match's keys, 0 to k - 1, in which an `omega` would meet a split for each
+abbrev pub Missed : ℕ → ℕ → Type 0
+Missed zero n = Unit {0}
+Missed (suc k) n = Missed k n × (n ≡ k → ⊥)
+
+pub above : (k n : ℕ) → Missed k n → k ≤ n
+above zero n o = omega arith
+above (suc k) n o = omega (arith, above k n (o .0), o .1)

@@ -1,0 +1,67 @@
+use mathlib.Core.Path.{ap}
+use native.Mathlib.Omega.{arith}
+use Rattle.text_printing.specs.Writing.{hexBytes}
+use Rattle.text_printing.proofs.Pages.{wrote-then, wrote-as}
+use Rattle.text_block.specs.Block.{taggedLine}
+use Rattle.text_block.proofs.Tagged.{own-end, own-bytes}
+use borrow.Author.Needs.{needs}
+use Rattle.text_block.proofs.put_tagged_line.Statement.{statement}
+use Rattle.text_block.proofs.put_tagged_line.Tie as tie
+use Rattle.text_block.proofs.put_tagged_line.Reads as reads
+use Rattle.text_block.proofs.put_tagged_line.Lts as lts
+use Rattle.tag_writing.proofs.tagged_body.Reads as tagged-body-reads
+use Rattle.text_printing.proofs.put.Reads as put-reads
+use Rattle.text_printing.proofs.put_all.Reads as put-all-reads
+use Rattle.text_printing.proofs.put_hex_bytes.Reads as put-hex-bytes-reads
+
+tagged-body-requires : tie.Need-tagged-body-requires
+tagged-body-requires c κs = search needs
+
+cast-n : tie.Need-cast-n
+cast-n c = search needs
+
+slice-aggregate-put-all : tie.Need-slice-aggregate-put-all
+slice-aggregate-put-all c = search needs
+
+put-all-requires : tie.Need-put-all-requires
+put-all-requires c κs = search needs
+
+sub-put-hex-bytes : tie.Need-sub-put-hex-bytes
+sub-put-hex-bytes c = search needs
+
+part-put-hex-bytes-start : tie.Need-part-put-hex-bytes-start
+part-put-hex-bytes-start c = search needs
+
+part-put-hex-bytes-end : tie.Need-part-put-hex-bytes-end
+part-put-hex-bytes-end c = omega (arith, own-end (c .before .before .before .before .before .before .before .before .before .before .before .args .k) (c .before .before .before .before .before .before .before .before .before .tagged-body .result) (c .before .before .before .before .before .before .before .before .before .tagged-body .ensures))
+
+put-hex-bytes-requires : tie.Need-put-hex-bytes-requires
+put-hex-bytes-requires c κs = search needs
+
+put-requires : tie.Need-put-requires
+put-requires c κs = search needs
+
+same-length : tie.Need-same-length
+same-length c = search needs
+
+returns : tie.Need-returns
+unfolding taggedLine
+returns c =
+    let own = own-bytes (c .before .before .before .before .before .before .before .before .before .before .before .before .before .before .before .before .before .before .before .args .k) (c .before .before .before .before .before .before .before .before .before .before .before .before .before .before .before .before .before .tagged-body .result) (c .before .before .before .before .before .before .before .before .before .before .before .before .before .before .before .before .before .tagged-body .ensures) in
+    wrote-then (c .before .before .before .before .before .before .before .before .before .before .before .before .put-all .ensures) (wrote-then (wrote-as (ap hexBytes own) (c .before .before .before .before .before .before .put-hex-bytes .ensures)) (c .before .before .put .ensures))
+
+pub put-tagged-line-spec : {M : Type 1} → statement M
+put-tagged-line-spec =
+    tie.close
+    (tie.spec
+    tagged-body-requires
+    cast-n
+    slice-aggregate-put-all
+    put-all-requires
+    sub-put-hex-bytes
+    part-put-hex-bytes-start
+    part-put-hex-bytes-end
+    put-hex-bytes-requires
+    put-requires
+    same-length
+    returns)
