@@ -4,6 +4,7 @@ use crate::answer::{Answer, Refusal};
 use crate::frame::{u32_at, HEAD_LENGTH};
 use crate::level::level_from_real;
 use crate::output::{Output, Warning, WARNING_PRIORITY};
+use crate::tags::TAGGED_COMMAND;
 
 pub fn is_priority(number: u32) -> bool {
     matches!(number, 1..=5 | 7..=16)
@@ -17,6 +18,7 @@ impl Output {
             0x03 => self.empty_a_slot(byte_field),
             0x04 => self.write_property(byte_field, u32_at(bytes, 14)),
             0x05 => self.read_property(now, byte_field),
+            TAGGED_COMMAND => self.run_tagged_command(now, bytes),
             _ => self.run_command(now, kind, bytes),
         }
     }

@@ -1,4 +1,4 @@
-//! Answers and the refusals of the paper's table.
+//! Answers and the refusals of the paper's table, with those of §1.
 
 #[derive(Clone, Copy, Debug, PartialEq, Eq)]
 pub enum Answer {
@@ -24,6 +24,8 @@ pub enum Refusal {
     Real = 11,
     WholeNumber = 12,
     MinimumOverMaximum = 13,
+    Tagging = 14,
+    TaggedField = 15,
 }
 
 impl Refusal {

@@ -6,11 +6,20 @@ use crate::level::{level_from_real, rate_or_step_from_real};
 use crate::output::{
     Command, Movement, Operation, Output, RunningDuration, LONGEST_TIME, SHORTEST_TIME,
 };
+use crate::tags::Tagged;
 
 const ABSENT: u32 = u32::MAX;
 
 fn is_time(milliseconds: u32) -> bool {
     (SHORTEST_TIME..=LONGEST_TIME).contains(&milliseconds)
+}
+
+/// A duration that is not absent.
+fn duration_in_range(milliseconds: u32) -> Result<u32, Refusal> {
+    match milliseconds == 0 || is_time(milliseconds) {
+        true => Ok(milliseconds),
+        false => Err(Refusal::WholeNumber),
+    }
 }
 
 /// What an operation comes to, in units and milliseconds.
@@ -108,10 +117,23 @@ impl Output {
         let (operation, action) = self.operation(kind, &mut fields)?;
         let duration = match fields.whole() {
             ABSENT => None,
-            milliseconds if milliseconds == 0 || is_time(milliseconds) => Some(milliseconds),
-            _ => return Err(Refusal::WholeNumber),
+            milliseconds => Some(duration_in_range(milliseconds)?),
         };
+        self.carry_out(now, operation, action, duration);
+        Ok(Answer::Done)
+    }
 
+    /// The tags are judged as a whole before any range.
+    pub fn run_tagged_command(&mut self, now: u64, bytes: &[u8]) -> Result<Answer, Refusal> {
+        let tagged = Tagged::read(bytes)?;
+        let (operation, action) = self.operation(tagged.kind, &mut tagged.fields())?;
+        // Absent is a tag that is missing: FFFFFFFF is out of range here.
+        let duration = tagged.duration.map(duration_in_range).transpose()?;
+        self.carry_out(now, operation, action, duration);
+        Ok(Answer::Done)
+    }
+
+    fn carry_out(&mut self, now: u64, operation: Operation, action: Action, duration: Option<u32>) {
         let priority = self.settings.command_priority;
         let start = self.progress_value(now);
         self.end_warning();
@@ -130,7 +152,6 @@ impl Output {
             operation,
             duration,
         };
-        Ok(Answer::Done)
     }
 
     fn run_action(&mut self, now: u64, priority: u8, start: u32, action: Action) {

@@ -4,7 +4,7 @@ use crate::answer::Refusal;
 
 pub const CLOCK: u8 = 0x01;
 pub const HEAD_LENGTH: usize = 13;
-pub const LONGEST_FRAME: usize = 25;
+pub const LONGEST_FRAME: usize = 31;
 
 /// The length that the kind byte fixes.
 pub fn length_of_kind(kind: u8) -> Option<usize> {
@@ -15,6 +15,7 @@ pub fn length_of_kind(kind: u8) -> Option<usize> {
         0x10 | 0x15 | 0x16 | 0x1A => 17,
         0x11 | 0x13 | 0x17..=0x19 => 21,
         0x12 | 0x14 => 25,
+        0x1B => 31,
         _ => return None,
     })
 }
@@ -70,9 +71,11 @@ pub struct Fields<'a> {
 
 impl<'a> Fields<'a> {
     pub fn after_head(bytes: &'a [u8]) -> Fields<'a> {
-        Fields {
-            rest: &bytes[HEAD_LENGTH..],
-        }
+        Fields::of(&bytes[HEAD_LENGTH..])
+    }
+
+    pub fn of(rest: &'a [u8]) -> Fields<'a> {
+        Fields { rest }
     }
 
     pub fn whole(&mut self) -> u32 {

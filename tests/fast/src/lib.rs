@@ -13,6 +13,8 @@ pub mod panel;
 pub mod property;
 pub mod rules;
 pub mod station;
+pub mod tag_writer;
+mod tags;
 
 pub use answer::Answer;
 pub use output::Output;

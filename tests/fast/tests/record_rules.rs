@@ -159,4 +159,6 @@ fn stations() {
     assert_eq!(with_kind(1, 0x02), Answer::Done);
     assert_eq!(with_kind(1, 0x01), REFUSED);
     assert_eq!(with_kind(1, 0x06), REFUSED);
+    assert_eq!(with_kind(1, 0x1B), Answer::Done);
+    assert_eq!(with_kind(1, 0x1C), REFUSED);
 }

@@ -1,8 +1,11 @@
 //! Frames in the making.
 
 use plain::frame::{
-    length_of_kind, CLOCK, EMPTY_A_SLOT, READ_PROPERTY, WRITE_PRESENT_VALUE, WRITE_PROPERTY,
+    length_of_kind, CLOCK, EMPTY_A_SLOT, READ_PROPERTY, STOP, TAGGED_COMMAND, WRITE_PRESENT_VALUE,
+    WRITE_PROPERTY,
 };
+use plain::last_command::LastCommand;
+use plain::settings::ABSENT_DURATION;
 
 #[derive(Clone, Debug)]
 pub enum Body {
@@ -24,6 +27,11 @@ pub enum Body {
     Command {
         kind: u8,
         fields: Vec<u32>,
+    },
+    /// A command in tags (§1): L and the 17 bytes after it.
+    Tagged {
+        length: u8,
+        bytes: Vec<u8>,
     },
 }
 
@@ -48,17 +56,25 @@ fn six_bytes(time: u64) -> [u8; 6] {
 
 impl Body {
     pub fn bytes(&self, head: Head) -> Vec<u8> {
+        let mut bytes = vec![head.station];
+        bytes.extend(head.number.to_be_bytes());
+        bytes.extend(six_bytes(head.time));
+        bytes.push(head.output);
+        self.with_head(&bytes)
+    }
+
+    /// The kind, the twelve bytes of a head, and the rest.
+    pub fn with_head(&self, head: &[u8]) -> Vec<u8> {
         let kind = match self {
             Body::Write { .. } => WRITE_PRESENT_VALUE,
             Body::Empty { .. } => EMPTY_A_SLOT,
             Body::WriteProperty { .. } => WRITE_PROPERTY,
             Body::Read { .. } => READ_PROPERTY,
             Body::Command { kind, .. } => *kind,
+            Body::Tagged { .. } => TAGGED_COMMAND,
         };
-        let mut bytes = vec![kind, head.station];
-        bytes.extend(head.number.to_be_bytes());
-        bytes.extend(six_bytes(head.time));
-        bytes.push(head.output);
+        let mut bytes = vec![kind];
+        bytes.extend(head);
         match self {
             Body::Write { priority, bits } => {
                 bytes.push(*priority);
@@ -75,8 +91,32 @@ impl Body {
                     bytes.extend(field.to_be_bytes());
                 }
             }
+            Body::Tagged {
+                length,
+                bytes: tags,
+            } => {
+                bytes.push(*length);
+                bytes.extend(tags);
+            }
         }
         debug_assert_eq!(length_of_kind(kind), Some(bytes.len()));
         bytes
+    }
+
+    /// The plain kind of a command.
+    pub fn plain_command(command: &LastCommand) -> Body {
+        let own_fields = [command.level, command.rate, command.step, command.fade_time];
+        let mut fields: Vec<u32> = own_fields.into_iter().flatten().collect();
+        fields.push(command.duration.unwrap_or(ABSENT_DURATION));
+        Body::Command {
+            kind: STOP + command.operation,
+            fields,
+        }
+    }
+
+    /// What the plain kind of a command says.
+    pub fn command(&self) -> Option<LastCommand> {
+        matches!(self, Body::Command { .. })
+            .then(|| LastCommand::of_plain_kind(&self.with_head(&[0; 12])))
     }
 }

@@ -2,7 +2,10 @@
 
 use plain::event::Tally;
 use plain::frame::*;
+use plain::last_command::LastCommand;
 use plain::settings::*;
+
+use crate::tag_boundary::{self, TagEdge};
 
 #[derive(Clone, Copy, Debug, PartialEq, Eq, PartialOrd, Ord)]
 pub enum RealField {
@@ -10,6 +13,9 @@ pub enum RealField {
     CommandLevel,
     CommandRate,
     CommandStep,
+    TaggedLevel,
+    TaggedRate,
+    TaggedStep,
     RelinquishDefault,
     RampRate,
     StepIncrement,
@@ -45,6 +51,8 @@ pub enum RealEdge {
 pub enum WholeField {
     Duration,
     CommandFadeTime,
+    TaggedDuration,
+    TaggedFadeTime,
     FadeTime,
     BlinkEnable,
     BlinkTime,
@@ -59,13 +67,17 @@ pub enum Boundary {
     WritePriority(u8),
     EmptyPriority(u8),
     CommandPriority(u32),
+    Tagged(TagEdge),
 }
 
-const REAL_FIELDS: [RealField; 9] = [
+const REAL_FIELDS: [RealField; 12] = [
     RealField::WrittenLevel,
     RealField::CommandLevel,
     RealField::CommandRate,
     RealField::CommandStep,
+    RealField::TaggedLevel,
+    RealField::TaggedRate,
+    RealField::TaggedStep,
     RealField::RelinquishDefault,
     RealField::RampRate,
     RealField::StepIncrement,
@@ -96,9 +108,11 @@ const REAL_EDGES: [RealEdge; 20] = [
     RealEdge::Negative,
 ];
 
-const WHOLE_FIELDS: [WholeField; 7] = [
+const WHOLE_FIELDS: [WholeField; 9] = [
     WholeField::Duration,
     WholeField::CommandFadeTime,
+    WholeField::TaggedDuration,
+    WholeField::TaggedFadeTime,
     WholeField::FadeTime,
     WholeField::BlinkEnable,
     WholeField::BlinkTime,
@@ -132,6 +146,7 @@ pub fn expected() -> Vec<Boundary> {
     for priority in (0..=16).chain(WIDE_PRIORITIES) {
         boundaries.push(Boundary::CommandPriority(priority));
     }
+    boundaries.extend(tag_boundary::expected().into_iter().map(Boundary::Tagged));
     boundaries
 }
 
@@ -203,22 +218,43 @@ pub fn count_edges(tally: &mut Tally<Boundary>, bytes: &[u8]) {
                 _ => {}
             }
         }
-        STOP..=RELINQUISH => {
-            let duration = command_field(bytes, (bytes.len() - 17) / 4);
-            whole(tally, WholeField::Duration, duration);
-            match kind {
-                FADE_TO | FADE_TO_OVER | RAMP_TO | RAMP_TO_AT_RATE | GOTO => {
-                    real(tally, RealField::CommandLevel, command_field(bytes, 0));
-                }
-                STEP_UP_BY | STEP_DOWN_BY => {
-                    real(tally, RealField::CommandStep, command_field(bytes, 0));
-                }
-                _ => {}
+        STOP..=TAGGED_COMMAND => {
+            let tagged = kind == TAGGED_COMMAND;
+            if tagged {
+                let edges = tag_boundary::edges(tagged_body(bytes));
+                edges
+                    .into_iter()
+                    .for_each(|edge| tally.count(Boundary::Tagged(edge)));
             }
-            match kind {
-                FADE_TO_OVER => whole(tally, WholeField::CommandFadeTime, command_field(bytes, 1)),
-                RAMP_TO_AT_RATE => real(tally, RealField::CommandRate, command_field(bytes, 1)),
-                _ => {}
+            let Some(command) = LastCommand::of_frame(bytes) else {
+                return;
+            };
+            let by_form = |plain, in_tags| if tagged { in_tags } else { plain };
+            let level = by_form(RealField::CommandLevel, RealField::TaggedLevel);
+            let rate = by_form(RealField::CommandRate, RealField::TaggedRate);
+            let step = by_form(RealField::CommandStep, RealField::TaggedStep);
+            for (field, bits) in [
+                (level, command.level),
+                (rate, command.rate),
+                (step, command.step),
+            ] {
+                if let Some(bits) = bits {
+                    real(tally, field, bits);
+                }
+            }
+            // Absent in the plain kind is FFFFFFFF, an edge too.
+            let (fade_time, duration) = match tagged {
+                true => (WholeField::TaggedFadeTime, WholeField::TaggedDuration),
+                false => (WholeField::CommandFadeTime, WholeField::Duration),
+            };
+            let absent = (!tagged).then_some(ABSENT_DURATION);
+            for (field, value) in [
+                (fade_time, command.fade_time),
+                (duration, command.duration.or(absent)),
+            ] {
+                if let Some(value) = value {
+                    whole(tally, field, value);
+                }
             }
         }
         _ => {}

@@ -4,9 +4,10 @@ use plain::frame::{length_of_kind, ALL_KINDS};
 
 use crate::body::{clock, Body};
 use crate::list::{Generator, Planned};
+use crate::tag_scenes::in_other_form;
 use crate::timing::When;
 
-const UNKNOWN_KINDS: [u8; 10] = [0x00, 0x06, 0x07, 0x0F, 0x1B, 0x1C, 0x20, 0x80, 0x91, 0xFF];
+const UNKNOWN_KINDS: [u8; 9] = [0x00, 0x06, 0x07, 0x0F, 0x1C, 0x20, 0x80, 0x91, 0xFF];
 
 impl Generator {
     /// A copy of a station's latest first arrival, or of any earlier frame.
@@ -21,7 +22,12 @@ impl Generator {
             _ => None,
         };
         if let Some(arrival) = copied {
-            return arrival.bytes.clone();
+            let bytes = arrival.bytes.clone();
+            // What means the same is no copy for that.
+            return match in_other_form(&bytes) {
+                Some(other) if self.random.chance(10) => other,
+                _ => bytes,
+            };
         }
         if self.frames.is_empty() {
             return Vec::new();
@@ -34,7 +40,10 @@ impl Generator {
     /// order of the refusals shows.
     pub(crate) fn hostile_frame(&mut self) -> Vec<u8> {
         let output = self.some_output();
-        let body = self.any_body(output);
+        let body = match self.random.chance(10) {
+            true => self.body_for_a_sentence(),
+            false => self.any_body(output),
+        };
         let mut bytes = self.frame_of(&Planned {
             output,
             body,
@@ -93,7 +102,7 @@ impl Generator {
             2 | 3 => length + 1,
             4 => self.random.between(1, length as u64 - 1) as usize,
             5 => self.random.between(length as u64 + 1, 40) as usize,
-            6 => self.random.pick(&[7, 13, 14, 17, 18, 21, 25, 26]),
+            6 => self.random.pick(&[7, 13, 14, 17, 18, 21, 25, 26, 31]),
             _ if self.random.one_in(20) => self.random.between(100, 3_000) as usize,
             _ => length + 1,
         };
@@ -113,10 +122,14 @@ impl Generator {
         } else if self.random.chance(20) {
             // All but the kind, in the length of the kind that was.
             *bytes = latest.bytes.clone();
-            let others = ALL_KINDS
+            let others: Vec<u8> = ALL_KINDS
                 .into_iter()
-                .filter(|kind| *kind != bytes[0] && length_of_kind(*kind) == Some(bytes.len()));
-            bytes[0] = self.random.pick(&others.collect::<Vec<u8>>());
+                .filter(|kind| *kind != bytes[0] && length_of_kind(*kind) == Some(bytes.len()))
+                .collect();
+            // A tagged command has its length to itself.
+            if !others.is_empty() {
+                bytes[0] = self.random.pick(&others);
+            }
         } else {
             // All but one bit of the frame that the station keeps, though not
             // of its kind, station and number.

@@ -3,6 +3,7 @@
 pub mod body;
 pub mod boundary;
 pub mod copies;
+pub mod draft;
 pub mod hostile;
 pub mod list;
 pub mod pair;
@@ -11,6 +12,8 @@ pub mod scenes;
 pub mod scripts;
 pub mod sentences;
 pub mod stream;
+pub mod tag_boundary;
+pub mod tag_scenes;
 pub mod timing;
 pub mod values;
 

@@ -138,7 +138,8 @@ impl Generator {
         };
         let time = self.next_time(planned.output, when);
         let (station, number) = self.station_and_number();
-        planned.body.bytes(Head {
+        let body = self.perhaps_tagged(&planned.body);
+        body.bytes(Head {
             station,
             number,
             time,

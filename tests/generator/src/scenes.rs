@@ -65,6 +65,7 @@ impl Generator {
             600..=679 => self.plan_slot_of_rank(output, When::Whenever),
             680..=681 => self.plan_calm_and_great_jump(),
             682..=831 => self.plan_sentence(output),
+            832..=879 => self.plan_tags(output),
             _ => self.plan_anything(output, When::Whenever),
         }
     }
@@ -87,6 +88,7 @@ impl Generator {
                     .pick(&[PRESENT_VALUE, PROGRESS_VALUE, IN_PROCESS, 0x26]);
                 self.plan(output, Body::Read { property }, When::Due);
             }
+            85..=88 => self.plan_refused_tags(output, when),
             _ => self.plan_anything(output, when),
         }
     }
@@ -110,6 +112,7 @@ impl Generator {
             }
             85..=89 => self.plan_second_slot_with_duration(output),
             90..=91 => self.plan_command_to_reached_level(output),
+            92 => self.plan_refused_tags(output, when),
             _ => self.plan_anything(output, when),
         }
     }

@@ -21,7 +21,7 @@ fn beside(edges: [u32; 2]) -> Vec<u32> {
 
 impl Generator {
     pub(crate) fn plan_sentence(&mut self, output: u8) {
-        match self.random.below(10) {
+        match self.random.below(11) {
             0 => self.plan_pace_setting_in_movement(output),
             1 => self.plan_refused_bound_in_movement(output),
             2 => self.plan_bound_before_the_turn(output),
@@ -31,6 +31,7 @@ impl Generator {
             6 => self.plan_command_edge(output),
             7 => self.plan_default_out_of_range(output),
             8 => self.plan_two_bad_fields(output),
+            9 => self.plan_delay_in_warning(output),
             _ => self.plan_property_edge(output),
         }
     }
@@ -164,6 +165,21 @@ impl Generator {
         self.plan_read(output, PRESENT_VALUE, When::After(1));
     }
 
+    /// Whether slot X empties at the end is decided by the delay of the start,
+    /// whatever Blink_Warn_Delay has become.
+    fn plan_delay_in_warning(&mut self, output: u8) {
+        let own = self.random.between(7, 16) as u8;
+        let (before, later) = self.random.pick(&[(0, 50), (50, 0)]);
+        let dark = self.random.between(1, 300) as u32;
+        self.plan_warning_settings(output, own, dark, before);
+        let level = values::lit_level(&mut self.random);
+        self.plan_write(output, own, level);
+        self.plan_write(output, own, 0);
+        self.plan_property(output, BLINK_WARN_DELAY, later);
+        let end = u64::from(dark + before);
+        self.plan_read(output, FIRST_SLOT + own - 1, When::After(end));
+    }
+
     /// Commands never start a warning, also where a write of zero would.
     fn plan_command_instead_of_warning(&mut self, output: u8) {
         let own = self.random.between(7, 16) as u8;
@@ -211,13 +227,17 @@ impl Generator {
         self.plan_property(output, RELINQUISH_DEFAULT, 0);
     }
 
-    /// A fade time or a duration at the edges of its range and beside them.
+    /// A fade time, a duration, a rate or a step at the edges of its range and
+    /// beside them.
     fn plan_command_edge(&mut self, output: u8) {
         let edge = self.random.pick(&beside([SHORTEST, LONGEST]));
+        let real = self.random.pick(&values::edge_reals());
         let level = values::good_level(&mut self.random);
-        match self.random.chance(50) {
-            true => self.plan_command(output, FADE_TO_OVER, &[level, edge, ABSENT]),
-            false => self.plan_command(output, GOTO, &[level, edge]),
+        match self.random.below(4) {
+            0 => self.plan_command(output, FADE_TO_OVER, &[level, edge, ABSENT]),
+            1 => self.plan_command(output, GOTO, &[level, edge]),
+            2 => self.plan_command(output, RAMP_TO_AT_RATE, &[level, real, ABSENT]),
+            _ => self.plan_command(output, STEP_UP_BY, &[real, ABSENT]),
         }
         // Else the output is under way for a day.
         self.plan_command(output, GOTO, &[level, 0]);

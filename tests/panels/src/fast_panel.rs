@@ -52,6 +52,7 @@ macro_rules! face_of_fast {
                     settings: std::array::from_fn(|index| read(0x01 + index as u8).unwrap_or(0)),
                     last: std::array::from_fn(|index| read(0x0F + index as u8)),
                     burning: output.burning,
+                    tagged: output.last.tagged().bytes().to_vec(),
                 }
             }
         }

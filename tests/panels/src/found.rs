@@ -17,6 +17,8 @@ pub struct Found {
     /// Properties 0F to 14 as they read; nothing for Absent.
     pub last: [Option<u32>; 6],
     pub burning: u64,
+    /// The last command as the writer of §1 makes it: the L bytes.
+    pub tagged: Vec<u8>,
 }
 
 /// The lines of one output, without the line that says which.
@@ -46,6 +48,11 @@ impl fmt::Display for Found {
             }
         }
         writeln!(formatter)?;
-        writeln!(formatter, "burning {}", self.burning)
+        writeln!(formatter, "burning {}", self.burning)?;
+        write!(formatter, "tagged ")?;
+        for byte in &self.tagged {
+            write!(formatter, "{byte:02X}")?;
+        }
+        writeln!(formatter)
     }
 }

@@ -33,6 +33,7 @@ pub fn found_of_plain(output: &plain::Output) -> Found {
         settings: std::array::from_fn(|index| read(output, 0x01 + index as u8).unwrap_or(0)),
         last: std::array::from_fn(|index| read(output, 0x0F + index as u8)),
         burning: output.burning,
+        tagged: output.last.tagged(),
     }
 }
 

@@ -1,44 +1,12 @@
 //! The paper's bench figures and traps, on both panels.
 
-use panels::list_text::{read_string, Line};
-use panels::{Answer, FastPanel, Found, Panel, PlainPanel};
+#[macro_use]
+mod bench;
 
-/// A panel with one output, spoken to in hexadecimal.
-struct Bench<Chosen: Panel> {
-    panel: Chosen,
-    number: u32,
-}
+use bench::Bench;
+use panels::{Answer, Panel};
 
 impl<Chosen: Panel> Bench<Chosen> {
-    fn new() -> Bench<Chosen> {
-        Bench {
-            panel: Chosen::start(1),
-            number: 0,
-        }
-    }
-
-    fn bytes(&mut self, text: &str) -> Answer {
-        match read_string(text) {
-            Ok(Line::Content(bytes)) => self.panel.frame(&bytes),
-            _ => panic!("{text} is no string of bytes"),
-        }
-    }
-
-    /// A frame of station 0 with the next number.
-    fn frame(&mut self, kind: u8, time: u64, rest: &str) -> Answer {
-        self.number += 1;
-        let number = self.number;
-        self.bytes(&format!("{kind:02X} 00 {number:08X} {time:012X} 00 {rest}"))
-    }
-
-    fn clock(&mut self, time: u64) {
-        assert_eq!(self.bytes(&format!("01 {time:012X}")), Answer::Done);
-    }
-
-    fn found(&self) -> Found {
-        self.panel.found().remove(0)
-    }
-
     /// The level in slot 16 after a write, or the refusal.
     fn level(&mut self, real: &str) -> Result<u32, Answer> {
         match self.frame(0x02, 0, &format!("10 {real}")) {
@@ -46,23 +14,6 @@ impl<Chosen: Panel> Bench<Chosen> {
             refused => Err(refused),
         }
     }
-}
-
-/// Runs a function with the bench of each panel.
-macro_rules! on_both_panels {
-    ($($name:ident)*) => {
-        $(mod $name {
-            #[test]
-            fn plain() {
-                super::$name(super::Bench::<super::PlainPanel>::new());
-            }
-
-            #[test]
-            fn fast() {
-                super::$name(super::Bench::<super::FastPanel>::new());
-            }
-        })*
-    };
 }
 
 on_both_panels! {
@@ -220,6 +171,7 @@ fn fresh_output<Chosen: Panel>(bench: Bench<Chosen>) {
                 settings 00000000 000003E8 41200000 40A00000 00000000 \
                 00000000 00000000 3F800000 42C80000 00000010\n\
                 last 00000000 - - - - -\n\
-                burning 0\n";
+                burning 0\n\
+                tagged 0900\n";
     assert_eq!(bench.found().to_string(), text);
 }

@@ -20,3 +20,8 @@ pub const PRIORITY: u8 = 10;
 pub const REAL: u8 = 11;
 pub const WHOLE_NUMBER: u8 = 12;
 pub const MINIMUM_OVER_MAXIMUM: u8 = 13;
+/// §1: "L, tag, tag order, tag length or padding wrong, or an operation above
+/// 10."
+pub const TAGGING: u8 = 14;
+/// §1: "Field missing, foreign, or not in fewest octets."
+pub const TAGGED_FIELD: u8 = 15;

@@ -1,39 +1,14 @@
-//! Kinds 10 to 1A: the lighting commands.
+//! Kinds 10 to 1B: the lighting commands.
 
 use crate::answer::{self, Answer};
 use crate::event::{Breaker, Event, Step, Stop};
 use crate::frame::*;
+use crate::last_command::LastCommand;
 use crate::movement::Movement;
 use crate::output::{Output, RunningDuration};
 use crate::real;
-use crate::settings::{ABSENT_DURATION, LONGEST, SHORTEST};
-
-/// "The last command is kept with its REALs as they were written", and "Absent
-/// where it had none".
-#[derive(Clone, Debug)]
-pub struct LastCommand {
-    /// "Kind minus 10."
-    pub operation: u8,
-    pub level: Option<u32>,
-    pub rate: Option<u32>,
-    pub step: Option<u32>,
-    pub fade_time: Option<u32>,
-    pub duration: Option<u32>,
-}
-
-impl LastCommand {
-    /// "Last operation STOP without duration."
-    pub fn fresh() -> LastCommand {
-        LastCommand {
-            operation: 0,
-            level: None,
-            rate: None,
-            step: None,
-            fade_time: None,
-            duration: None,
-        }
-    }
-}
+use crate::settings::{LONGEST, SHORTEST};
+use crate::tags;
 
 /// What the fields of a command say, once none of them is refused.
 struct Fields {
@@ -49,52 +24,25 @@ struct Fields {
 }
 
 impl Output {
-    /// Reads the fields left to right; the first one out of range refuses.
-    fn fields(&self, bytes: &[u8]) -> Result<Fields, u8> {
-        let kind = bytes[0];
-        let mut as_written = LastCommand::fresh();
-        as_written.operation = kind - STOP;
-        let mut next_field = 0;
-        let mut take = || {
-            next_field += 1;
-            command_field(bytes, next_field - 1)
+    /// Judges the fields left to right, which is the order of their tags; the
+    /// first one out of range refuses.
+    fn fields(&self, as_written: LastCommand) -> Result<Fields, u8> {
+        let level = match as_written.level {
+            Some(bits) => real::level(bits).ok_or(answer::REAL)?,
+            None => 0,
         };
-
-        let mut level = 0;
-        if matches!(
-            kind,
-            FADE_TO | FADE_TO_OVER | RAMP_TO | RAMP_TO_AT_RATE | GOTO
-        ) {
-            let bits = take();
-            level = real::level(bits).ok_or(answer::REAL)?;
-            as_written.level = Some(bits);
-        }
-        let mut rate_bits = self.settings.ramp_rate;
-        if kind == RAMP_TO_AT_RATE {
-            rate_bits = take();
-            as_written.rate = Some(rate_bits);
-        }
+        let rate_bits = as_written.rate.unwrap_or(self.settings.ramp_rate);
         let rate = real::rate_or_step(rate_bits).ok_or(answer::REAL)?;
-        let mut step_bits = self.settings.step_increment;
-        if matches!(kind, STEP_UP_BY | STEP_DOWN_BY) {
-            step_bits = take();
-            as_written.step = Some(step_bits);
-        }
+        let step_bits = as_written.step.unwrap_or(self.settings.step_increment);
         let step = real::rate_or_step(step_bits).ok_or(answer::REAL)?;
-        let mut fade_time = self.settings.fade_time;
-        if kind == FADE_TO_OVER {
-            fade_time = take();
-            as_written.fade_time = Some(fade_time);
-        }
+        let fade_time = as_written.fade_time.unwrap_or(self.settings.fade_time);
         if !(SHORTEST..=LONGEST).contains(&fade_time) {
             return Err(answer::WHOLE_NUMBER);
         }
-        // "0 cancels, 100 to 86,400,000 sets, FFFFFFFF means absent."
-        as_written.duration = match take() {
-            ABSENT_DURATION => None,
-            duration @ (0 | SHORTEST..=LONGEST) => Some(duration),
-            _ => return Err(answer::WHOLE_NUMBER),
-        };
+        // "0 cancels, 100 to 86,400,000 sets."
+        if !matches!(as_written.duration, None | Some(0 | SHORTEST..=LONGEST)) {
+            return Err(answer::WHOLE_NUMBER);
+        }
         Ok(Fields {
             as_written,
             level,
@@ -104,18 +52,43 @@ impl Output {
         })
     }
 
+    /// Kinds 10 to 1A.
     pub fn command(&mut self, bytes: &[u8]) -> Answer {
-        let kind = bytes[0];
-        let fields = match self.fields(bytes) {
-            Ok(fields) => fields,
-            Err(number) => return Answer::Refused(number),
-        };
+        match self.fields(LastCommand::of_plain_kind(bytes)) {
+            Ok(fields) => self.carry_out(fields, false),
+            Err(number) => Answer::Refused(number),
+        }
+    }
+
+    /// Kind 1B: "it acts as the plain kind does." A duration of FFFFFFFF is out
+    /// of range here, since absent is missing.
+    pub fn tagged_command(&mut self, bytes: &[u8]) -> Answer {
+        let reading = tags::read(tagged_body(bytes));
+        let fields = self.fields(reading.command.clone());
+        if let Some(number) = reading.refusal() {
+            let out_of_range = fields.err();
+            self.note_refused_tags(&reading.faults, number, out_of_range);
+            return Answer::Refused(number);
+        }
+        match fields {
+            Ok(fields) => self.carry_out(fields, true),
+            Err(number) => Answer::Refused(number),
+        }
+    }
+
+    fn carry_out(&mut self, fields: Fields, tagged: bool) -> Answer {
+        let kind = STOP + fields.as_written.operation;
         let priority = self.settings.lighting_command_priority;
-        self.met.push(Event::Command {
-            kind: kind.into(),
-            situation: self.situation(),
-            rank: self.rank(priority),
-        });
+        let (situation, rank) = (self.situation(), self.rank(priority));
+        if tagged {
+            self.note_taken_tags(&fields.as_written, situation, rank);
+        } else {
+            self.met.push(Event::Command {
+                kind: kind.into(),
+                situation,
+                rank,
+            });
+        }
 
         // "It starts from Progress_Value before it and first ends any warning
         // by emptying slot 6."

@@ -7,6 +7,7 @@ use std::collections::BTreeMap;
 use std::fmt;
 
 use crate::answer::Answer;
+use crate::tag_event::TaggedEvent;
 
 /// A byte that the paper writes in hexadecimal.
 #[derive(Clone, Copy, PartialEq, Eq, PartialOrd, Ord)]
@@ -250,6 +251,9 @@ pub enum Event {
         rank: Rank,
     },
 
+    /// Tagged commands, which are not counted as `Command` and `Copy`.
+    Tagged(TaggedEvent),
+
     // Commands.
     Command {
         kind: Hexadecimal,
@@ -320,6 +324,10 @@ pub enum Event {
         dark: bool,
         lit: bool,
         own_slot_live: bool,
+    },
+    /// Blink_Warn_Delay is 0 by then and was not at its start, or the reverse.
+    WarningRanOutUnderOtherDelay {
+        lit: bool,
     },
     /// The longest warning, two days, lived to its end.
     TwoDayWarningRanOut,

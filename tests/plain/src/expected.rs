@@ -3,11 +3,12 @@
 use crate::event::*;
 use crate::frame::{
     ALL_COMMANDS, ALL_KINDS, CLOCK, DARKENING, EMPTY_A_SLOT, FADE_TO, GOTO, READ_PROPERTY,
-    WRITE_PRESENT_VALUE, WRITE_PROPERTY,
+    TAGGED_COMMAND, WRITE_PRESENT_VALUE, WRITE_PROPERTY,
 };
 use crate::settings::*;
+use crate::tag_event;
 
-const BOTH: [bool; 2] = [false, true];
+pub(crate) const BOTH: [bool; 2] = [false, true];
 
 pub fn expected() -> Vec<Event> {
     let mut events = Vec::new();
@@ -18,6 +19,7 @@ pub fn expected() -> Vec<Event> {
     movement_events(&mut events);
     duration_events(&mut events);
     warning_events(&mut events);
+    events.extend(tag_event::expected().into_iter().map(Event::Tagged));
     events
 }
 
@@ -70,6 +72,13 @@ fn first_arrival_events(events: &mut Vec<Event>) {
                 Answered::Refused(13),
             ],
             READ_PROPERTY => &[Answered::Value, Answered::Absent, Answered::Refused(9)],
+            TAGGED_COMMAND => &[
+                Answered::Done,
+                Answered::Refused(11),
+                Answered::Refused(12),
+                Answered::Refused(14),
+                Answered::Refused(15),
+            ],
             0x10 | 0x15 | 0x16 | 0x1A => &[Answered::Done, Answered::Refused(12)],
             _ => &[Answered::Done, Answered::Refused(11), Answered::Refused(12)],
         };
@@ -145,7 +154,7 @@ fn read(property: u8, answer: Answered) -> Event {
 }
 
 /// In a warning slot 6 wins, and no frame acts on slot 6.
-fn situations_and_ranks() -> Vec<(Situation, Rank)> {
+pub(crate) fn situations_and_ranks() -> Vec<(Situation, Rank)> {
     let mut pairs = Vec::new();
     for situation in Situation::ALL {
         for rank in [Rank::Stronger, Rank::Winner, Rank::Weaker] {
@@ -315,6 +324,7 @@ fn warning_events(events: &mut Vec<Event>) {
     events.push(Event::WarningTurned);
     events.push(Event::WarningTurnedOutOfRange);
     events.push(Event::TwoDayWarningRanOut);
+    events.extend(BOTH.map(|lit| Event::WarningRanOutUnderOtherDelay { lit }));
     let writes = [
         Breaker::ZeroAtItsOwnSlot,
         Breaker::ZeroAtAnotherSlotAboveSix,

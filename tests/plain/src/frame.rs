@@ -16,8 +16,10 @@ pub const STEP_UP_BY: u8 = 0x17;
 pub const STEP_DOWN_BY: u8 = 0x18;
 pub const GOTO: u8 = 0x19;
 pub const RELINQUISH: u8 = 0x1A;
+/// Any of these commands in context tags (§1).
+pub const TAGGED_COMMAND: u8 = 0x1B;
 
-pub const ALL_KINDS: [u8; 16] = [
+pub const ALL_KINDS: [u8; 17] = [
     CLOCK,
     WRITE_PRESENT_VALUE,
     EMPTY_A_SLOT,
@@ -34,8 +36,10 @@ pub const ALL_KINDS: [u8; 16] = [
     STEP_DOWN_BY,
     GOTO,
     RELINQUISH,
+    TAGGED_COMMAND,
 ];
 
+/// The kinds of the operations, in their order; §1 brings the same ones.
 pub const ALL_COMMANDS: [u8; 11] = [
     STOP,
     FADE_TO,
@@ -69,6 +73,7 @@ pub fn length_of_kind(kind: u8) -> Option<usize> {
         WRITE_PRESENT_VALUE | WRITE_PROPERTY => Some(18),
         FADE_TO | RAMP_TO | GOTO | STEP_UP_BY | STEP_DOWN_BY => Some(21),
         FADE_TO_OVER | RAMP_TO_AT_RATE => Some(25),
+        TAGGED_COMMAND => Some(31),
         _ => None,
     }
 }
@@ -121,4 +126,9 @@ pub fn value_field(bytes: &[u8]) -> u32 {
 /// Field `index`, from 0, of a command: all of them have four bytes.
 pub fn command_field(bytes: &[u8], index: usize) -> u32 {
     four_bytes(bytes, 13 + 4 * index)
+}
+
+/// What follows the common bytes of a tagged command: L, then 17 bytes (§1).
+pub fn tagged_body(bytes: &[u8]) -> &[u8] {
+    &bytes[13..]
 }

@@ -1,4 +1,5 @@
-//! The plain panel of document 01: outputs and a time, no stations.
+//! The plain panel of document 01, with §1 of document 02: outputs and a time,
+//! no stations.
 //!
 //! It is written to be read beside the paper, not to be quick. It lives every
 //! millisecond in the paper's order, and it decides what a first arrival is
@@ -9,6 +10,7 @@ pub mod command;
 pub mod event;
 pub mod expected;
 pub mod frame;
+pub mod last_command;
 pub mod movement;
 pub mod output;
 pub mod panel;
@@ -17,6 +19,9 @@ pub mod property;
 pub mod real;
 pub mod settings;
 pub mod slots;
+pub mod tag_event;
+pub mod tag_writer;
+pub mod tags;
 pub mod warning;
 
 pub use answer::Answer;

@@ -1,7 +1,7 @@
 //! "An output's record", without what a list never sees.
 
-use crate::command::LastCommand;
 use crate::event::{Event, Rank, Situation};
+use crate::last_command::LastCommand;
 use crate::movement::Movement;
 use crate::settings::Settings;
 use crate::warning::Warning;

@@ -4,6 +4,7 @@ use crate::answer::{self, Answer};
 use crate::event::{Event, Jump, Tally};
 use crate::frame;
 use crate::output::Output;
+use crate::tag_event::{self, TaggedEvent};
 
 /// A frame that was a first arrival, with the answer it got.
 #[derive(Clone, Debug)]
@@ -95,7 +96,11 @@ impl Panel {
         if kind == frame::CLOCK {
             self.clock(frame::clock_time(bytes))
         } else {
-            self.frame_of_station(bytes)
+            let answer = self.frame_of_station(bytes);
+            if kind == frame::TAGGED_COMMAND {
+                self.count_tagged(tag_event::turned_down(bytes, answer));
+            }
+            answer
         }
     }
 
@@ -129,12 +134,14 @@ impl Panel {
         if let Some(latest) = self.latest_of_station(station) {
             if latest.bytes == bytes {
                 let answer = latest.answer;
-                return self.copy(time, answer);
+                return self.copy(bytes[0], time, answer);
             }
             if latest.number == number {
+                let same_command = tag_event::same_command_other_form(&latest.bytes, bytes);
                 if latest.bytes[1..] == bytes[1..] {
                     self.tally.count(Event::SameNumberOtherKind);
                 }
+                self.count_tagged(same_command);
                 return self
                     .turn_down(answer::LAST_NUMBER_OTHER_BYTES, Event::SameNumberOtherBytes);
             }
@@ -174,7 +181,7 @@ impl Panel {
     }
 
     /// "For a first arrival it steps to the frame's time and does what its kind
-    /// calls for, or refuses 9 to 13."
+    /// calls for, or refuses 9 to 13", and 14 or 15 (§1).
     fn first_arrival(&mut self, bytes: &[u8], time: u64, output: usize) -> Answer {
         self.step_to(time);
         let kind = bytes[0];
@@ -193,6 +200,7 @@ impl Panel {
                 output.note_reading(property, answer);
                 answer
             }
+            frame::TAGGED_COMMAND => output.tagged_command(bytes),
             _ => output.command(bytes),
         };
         self.tally.count(Event::FirstArrival {
@@ -222,12 +230,26 @@ impl Panel {
         self.collect_events();
     }
 
-    fn copy(&mut self, time: u64, answer: Answer) -> Answer {
-        self.tally.count(Event::Copy {
-            late: time < self.latest_time(),
-            answer: answer.into(),
+    fn copy(&mut self, kind: u8, time: u64, answer: Answer) -> Answer {
+        let late = time < self.latest_time();
+        let answered = answer.into();
+        self.tally.count(match kind {
+            frame::TAGGED_COMMAND => Event::Tagged(TaggedEvent::Copy {
+                late,
+                answer: answered,
+            }),
+            _ => Event::Copy {
+                late,
+                answer: answered,
+            },
         });
         answer
+    }
+
+    fn count_tagged(&mut self, event: Option<TaggedEvent>) {
+        if let Some(event) = event {
+            self.tally.count(Event::Tagged(event));
+        }
     }
 
     fn turn_down(&mut self, number: u8, event: Event) -> Answer {

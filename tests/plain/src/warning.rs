@@ -109,6 +109,10 @@ impl Output {
             if warning.gone == 2 * u64::from(LONGEST) {
                 self.met.push(Event::TwoDayWarningRanOut);
             }
+            let lit = warning.lit_time > 0;
+            if lit != (self.settings.blink_warn_delay > 0) {
+                self.met.push(Event::WarningRanOutUnderOtherDelay { lit });
+            }
             self.empty(WARNING_SLOT);
             if warning.lit_time > 0 {
                 self.empty(warning.slot);

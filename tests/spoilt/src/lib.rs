@@ -5,6 +5,7 @@
 #![allow(unused_parens, unused_variables, unused_braces)]
 
 pub mod bought;
+pub mod forms;
 pub mod switch;
 pub mod table;
 

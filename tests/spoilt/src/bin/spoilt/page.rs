@@ -50,7 +50,7 @@ pub fn page(arguments: &Arguments, results: &Results) -> String {
 
 Made by `tests/target/release/spoilt --frames {} --seed {} --write docs/SPOILT.md`; the gate asks with `--check` that it is what the run gives.
 
-`tests/fast`, the panel in plain Rust, is spoilt in one way after another (`tests/spoilt/edits`: an old text, a new one, and the sentence of the paper, document 01, that it breaks),
+`tests/fast`, the panel in plain Rust, is spoilt in one way after another (`tests/spoilt/edits`: an old text, a new one, and the sentence of the paper, document 01 or a § of document 02, that it breaks),
 and each spoilt panel runs over the lists that the gate gives to the proved one (`compare --frames {} --seed {}`: the same seeds, the same frames, without and with copies) until an answer, or
 what is found after a list, is not the plain panel's. It does not check its record rules, so each shows by what it does and not by refusal 1. What the lists tell apart here, they would tell apart in the
 proved panel too. A panel that is not told apart is a failure of the run, and so is one that is told though its reason says that no list can show it.

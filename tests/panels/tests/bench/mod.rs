@@ -1,0 +1,57 @@
+//! A panel with one output, spoken to in hexadecimal.
+
+use panels::list_text::{read_string, Line};
+use panels::{Answer, Found, Panel};
+
+pub struct Bench<Chosen: Panel> {
+    panel: Chosen,
+    number: u32,
+}
+
+impl<Chosen: Panel> Bench<Chosen> {
+    pub fn new() -> Bench<Chosen> {
+        Bench {
+            panel: Chosen::start(1),
+            number: 0,
+        }
+    }
+
+    pub fn bytes(&mut self, text: &str) -> Answer {
+        match read_string(text) {
+            Ok(Line::Content(bytes)) => self.panel.frame(&bytes),
+            _ => panic!("{text} is no string of bytes"),
+        }
+    }
+
+    /// A frame of station 0 with the next number.
+    pub fn frame(&mut self, kind: u8, time: u64, rest: &str) -> Answer {
+        self.number += 1;
+        let number = self.number;
+        self.bytes(&format!("{kind:02X} 00 {number:08X} {time:012X} 00 {rest}"))
+    }
+
+    pub fn clock(&mut self, time: u64) {
+        assert_eq!(self.bytes(&format!("01 {time:012X}")), Answer::Done);
+    }
+
+    pub fn found(&self) -> Found {
+        self.panel.found().remove(0)
+    }
+}
+
+/// Runs a function with the bench of each panel.
+macro_rules! on_both_panels {
+    ($($name:ident)*) => {
+        $(mod $name {
+            #[test]
+            fn plain() {
+                super::$name(super::Bench::<panels::PlainPanel>::new());
+            }
+
+            #[test]
+            fn fast() {
+                super::$name(super::Bench::<panels::FastPanel>::new());
+            }
+        })*
+    };
+}
