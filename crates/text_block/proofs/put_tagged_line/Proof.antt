@@ -33,7 +33,9 @@ part-put-hex-bytes-start : tie.Need-part-put-hex-bytes-start
 part-put-hex-bytes-start c = search needs
 
 part-put-hex-bytes-end : tie.Need-part-put-hex-bytes-end
-part-put-hex-bytes-end c = omega (arith, own-end (c .before .before .before .before .before .before .before .before .before .before .before .args .k) (c .before .before .before .before .before .before .before .before .before .tagged-body .result) (c .before .before .before .before .before .before .before .before .before .tagged-body .ensures))
+part-put-hex-bytes-end c =
+    let body = c .before .before .before .before .before .before .before .before .before in
+    omega (arith, own-end (body .before .before .args .k) (body .tagged-body .result) (body .tagged-body .ensures))
 
 put-hex-bytes-requires : tie.Need-put-hex-bytes-requires
 put-hex-bytes-requires c κs = search needs
@@ -47,8 +49,12 @@ same-length c = search needs
 returns : tie.Need-returns
 unfolding taggedLine
 returns c =
-    let own = own-bytes (c .before .before .before .before .before .before .before .before .before .before .before .before .before .before .before .before .before .before .before .args .k) (c .before .before .before .before .before .before .before .before .before .before .before .before .before .before .before .before .before .tagged-body .result) (c .before .before .before .before .before .before .before .before .before .before .before .before .before .before .before .before .before .tagged-body .ensures) in
-    wrote-then (c .before .before .before .before .before .before .before .before .before .before .before .before .put-all .ensures) (wrote-then (wrote-as (ap hexBytes own) (c .before .before .before .before .before .before .put-hex-bytes .ensures)) (c .before .before .put .ensures))
+    let newline = c .before .before in
+    let digits = newline .before .before .before .before in
+    let word = digits .before .before .before .before .before .before in
+    let body = word .before .before .before .before .before in
+    let own = own-bytes (body .before .before .args .k) (body .tagged-body .result) (body .tagged-body .ensures) in
+    wrote-then (word .put-all .ensures) (wrote-then (wrote-as (ap hexBytes own) (digits .put-hex-bytes .ensures)) (newline .put .ensures))
 
 pub put-tagged-line-spec : {M : Type 1} → statement M
 put-tagged-line-spec =
