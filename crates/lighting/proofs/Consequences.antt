@@ -11,6 +11,7 @@ pub mod Tags
 pub mod KeptInLists
 pub mod Orders
 pub mod Burning
+pub mod Light
 pub mod Others
 pub mod Targets
 pub mod Stored

@@ -9,10 +9,11 @@ use Rattle.lighting.specs.Paper.Figures.{given, said, trapsGiven, trapsS
 use Rattle.lighting.specs.Paper.Choice.{if_then_else_, allFrom}
 use Rattle.lighting.specs.Paper.Level.{real, bits, levelOf, realOf, readOut, realFromTo, amountOf, limitOf, inRange, unitsOr, amountUnits, levelUnits, amountOperand}
 use Rattle.lighting.specs.Paper.Slots.{view, slotsOf, firstLive, winner, isLive, maskEmptied, maskFilled, levelSet, put, levelAt, winningLevel}
-use Rattle.lighting.specs.Paper.Value.{clampLit, presentValue, lit, distanceMoved, reachedBy, reached, progressBy, progressValue, inProcess}
+use Rattle.lighting.specs.Paper.Value.{clampLit, presentValue, distanceMoved, reachedBy, reached, progressBy, progressValue, lit, inProcess}
 use Rattle.lighting.specs.Paper.Record.{withBurning, withEffect, withCommand, withSettings}
 use Rattle.lighting.specs.Paper.Passing.{litMilliseconds, withBurned, timerDue, phaseEnd, activityDue, isDue, timerAt, emptiedBy, expired, endMovementOf, endMovementBy, endMovementOnExpiry, delayed, nextPhase, nextActivity, activityAt, phaseSlots, nextSlots, slotsAt, afterEvents, fire, tick, ticks}
-use Rattle.lighting.specs.Engine.Advance.{sooner, due, withBurnedSaturating, eventStep, eventSteps, advance, later}
+use Rattle.lighting.specs.Engine.Light.{lastShort, momentAfter, goneAt, countBefore, countSince, litFromZero, litFromLight, litAt, litByPace, litMoving, litInMovement, litResting, litStretch}
+use Rattle.lighting.specs.Engine.Advance.{sooner, due, burnedBy, withBurnedSaturating, eventStep, eventSteps, advance, later}
 use Rattle.lighting.specs.Paper.Writing.{endMovementUnlessAbove, stored, zeroOrEmpty, zeroOrEmptyFrom, blinks, zeroOrEmptyAbove, warnsBy, warns, firstLevel, firstPhase, warningFrom, warnedBy, warned, endedEmpty, endedStored, writtenWarned, writtenZero, writtenCalm, writtenBy, written, activityRelinquished, slotRelinquished}
 use Rattle.lighting.specs.Paper.Operations.{operationNumber, fieldsOf}
 use Rattle.lighting.specs.Paper.Commands.{withoutWarning, activityWithoutWarning, replaced, placed, movement, rampLength, target, fadedOver, fadedTo, rampedAt, rampedTo, jumped, wentTo, stepUpFrom, stepDownFrom, steppedUp, steppedDown, raised, halted, stopped, relinquished, effect, timed, commandedFrom, commanded}
@@ -32,29 +33,35 @@ use Rattle.lighting.specs.Engine.Judging.{padded, restored, judgedByNumb
 use Rattle.lighting.specs.Engine.Executing.{execute, frameStep}
 use Rattle.lighting.specs.Paper.Worked.{frames, expected}
 use Rattle.lighting.specs.Paper.WorkedTags.{commandsWritten, theirOctets, refused, refusals, framesInTags, answersInTags}
+use Rattle.lighting.specs.Paper.WorkedLight.{burningGiven, burningSaid}
 
 pub figures : given ≡ said
-unfolding bitAnd bitOr ofBits if_then_else_ allFrom real bits levelOf realOf readOut realFromTo amountOf limitOf inRange unitsOr amountUnits levelUnits amountOperand view slotsOf firstLive winner isLive maskEmptied maskFilled levelSet put levelAt winningLevel clampLit presentValue lit distanceMoved reachedBy reached progressBy progressValue inProcess withBurning withEffect withCommand withSettings litMilliseconds withBurned timerDue phaseEnd activityDue isDue timerAt emptiedBy expired endMovementOf endMovementBy endMovementOnExpiry delayed nextPhase nextActivity activityAt phaseSlots nextSlots slotsAt afterEvents fire tick ticks sooner due withBurnedSaturating eventStep eventSteps advance later endMovementUnlessAbove stored zeroOrEmpty zeroOrEmptyFrom blinks zeroOrEmptyAbove warnsBy warns firstLevel firstPhase warningFrom warnedBy warned endedEmpty endedStored writtenWarned writtenZero writtenCalm writtenBy written activityRelinquished slotRelinquished operationNumber fieldsOf withoutWarning activityWithoutWarning replaced placed movement rampLength target fadedOver fadedTo rampedAt rampedTo jumped wentTo stepUpFrom stepDownFrom steppedUp steppedDown raised halted stopped relinquished effect timed commandedFrom commanded within isLevel isAmount isSlot isPriority meets meetsReal numbered propertyOf same changeTo changeBy changeOf settingsWith endMovement activityWith burningWith changed minOverMax levelAnswer slotAnswer flag elapsedActive realAnswer realFieldAnswer timeFieldAnswer lastDuration readProperty freshSettings freshOutput freshStation answerBytes levelAnswered
+unfolding bitAnd bitOr ofBits if_then_else_ allFrom real bits levelOf realOf readOut realFromTo amountOf limitOf inRange unitsOr amountUnits levelUnits amountOperand view slotsOf firstLive winner isLive maskEmptied maskFilled levelSet put levelAt winningLevel clampLit presentValue distanceMoved reachedBy reached progressBy progressValue lit inProcess withBurning withEffect withCommand withSettings litMilliseconds withBurned timerDue phaseEnd activityDue isDue timerAt emptiedBy expired endMovementOf endMovementBy endMovementOnExpiry delayed nextPhase nextActivity activityAt phaseSlots nextSlots slotsAt afterEvents fire tick ticks lastShort momentAfter goneAt countBefore countSince litFromZero litFromLight litAt litByPace litMoving litInMovement litResting litStretch sooner due burnedBy withBurnedSaturating eventStep eventSteps advance later endMovementUnlessAbove stored zeroOrEmpty zeroOrEmptyFrom blinks zeroOrEmptyAbove warnsBy warns firstLevel firstPhase warningFrom warnedBy warned endedEmpty endedStored writtenWarned writtenZero writtenCalm writtenBy written activityRelinquished slotRelinquished operationNumber fieldsOf withoutWarning activityWithoutWarning replaced placed movement rampLength target fadedOver fadedTo rampedAt rampedTo jumped wentTo stepUpFrom stepDownFrom steppedUp steppedDown raised halted stopped relinquished effect timed commandedFrom commanded within isLevel isAmount isSlot isPriority meets meetsReal numbered propertyOf same changeTo changeBy changeOf settingsWith endMovement activityWith burningWith changed minOverMax levelAnswer slotAnswer flag elapsedActive realAnswer realFieldAnswer timeFieldAnswer lastDuration readProperty freshSettings freshOutput freshStation answerBytes levelAnswered
 figures = refl
 
 pub traps : trapsGiven ≡ trapsSaid
-unfolding bitAnd bitOr ofBits if_then_else_ allFrom real bits levelOf realOf readOut realFromTo amountOf limitOf inRange unitsOr amountUnits levelUnits amountOperand view slotsOf firstLive winner isLive maskEmptied maskFilled levelSet put levelAt winningLevel clampLit presentValue lit distanceMoved reachedBy reached progressBy progressValue inProcess withBurning withEffect withCommand withSettings litMilliseconds withBurned timerDue phaseEnd activityDue isDue timerAt emptiedBy expired endMovementOf endMovementBy endMovementOnExpiry delayed nextPhase nextActivity activityAt phaseSlots nextSlots slotsAt afterEvents fire tick ticks sooner due withBurnedSaturating eventStep eventSteps advance later endMovementUnlessAbove stored zeroOrEmpty zeroOrEmptyFrom blinks zeroOrEmptyAbove warnsBy warns firstLevel firstPhase warningFrom warnedBy warned endedEmpty endedStored writtenWarned writtenZero writtenCalm writtenBy written activityRelinquished slotRelinquished operationNumber fieldsOf withoutWarning activityWithoutWarning replaced placed movement rampLength target fadedOver fadedTo rampedAt rampedTo jumped wentTo stepUpFrom stepDownFrom steppedUp steppedDown raised halted stopped relinquished effect timed commandedFrom commanded within isLevel isAmount isSlot isPriority meets meetsReal numbered propertyOf same changeTo changeBy changeOf settingsWith endMovement activityWith burningWith changed minOverMax levelAnswer slotAnswer flag elapsedActive realAnswer realFieldAnswer timeFieldAnswer lastDuration readProperty freshSettings freshOutput freshStation answerBytes levelAnswered
+unfolding bitAnd bitOr ofBits if_then_else_ allFrom real bits levelOf realOf readOut realFromTo amountOf limitOf inRange unitsOr amountUnits levelUnits amountOperand view slotsOf firstLive winner isLive maskEmptied maskFilled levelSet put levelAt winningLevel clampLit presentValue distanceMoved reachedBy reached progressBy progressValue lit inProcess withBurning withEffect withCommand withSettings litMilliseconds withBurned timerDue phaseEnd activityDue isDue timerAt emptiedBy expired endMovementOf endMovementBy endMovementOnExpiry delayed nextPhase nextActivity activityAt phaseSlots nextSlots slotsAt afterEvents fire tick ticks lastShort momentAfter goneAt countBefore countSince litFromZero litFromLight litAt litByPace litMoving litInMovement litResting litStretch sooner due burnedBy withBurnedSaturating eventStep eventSteps advance later endMovementUnlessAbove stored zeroOrEmpty zeroOrEmptyFrom blinks zeroOrEmptyAbove warnsBy warns firstLevel firstPhase warningFrom warnedBy warned endedEmpty endedStored writtenWarned writtenZero writtenCalm writtenBy written activityRelinquished slotRelinquished operationNumber fieldsOf withoutWarning activityWithoutWarning replaced placed movement rampLength target fadedOver fadedTo rampedAt rampedTo jumped wentTo stepUpFrom stepDownFrom steppedUp steppedDown raised halted stopped relinquished effect timed commandedFrom commanded within isLevel isAmount isSlot isPriority meets meetsReal numbered propertyOf same changeTo changeBy changeOf settingsWith endMovement activityWith burningWith changed minOverMax levelAnswer slotAnswer flag elapsedActive realAnswer realFieldAnswer timeFieldAnswer lastDuration readProperty freshSettings freshOutput freshStation answerBytes levelAnswered
 traps = refl
+
+-- §2: what outputs have burned
+pub burning-by-light : burningGiven ≡ burningSaid
+unfolding bitAnd bitOr ofBits if_then_else_ allFrom real bits levelOf realOf readOut realFromTo amountOf limitOf inRange unitsOr amountUnits levelUnits amountOperand view slotsOf firstLive winner isLive maskEmptied maskFilled levelSet put levelAt winningLevel clampLit presentValue distanceMoved reachedBy reached progressBy progressValue lit inProcess withBurning withEffect withCommand withSettings litMilliseconds withBurned timerDue phaseEnd activityDue isDue timerAt emptiedBy expired endMovementOf endMovementBy endMovementOnExpiry delayed nextPhase nextActivity activityAt phaseSlots nextSlots slotsAt afterEvents fire tick ticks lastShort momentAfter goneAt countBefore countSince litFromZero litFromLight litAt litByPace litMoving litInMovement litResting litStretch sooner due burnedBy withBurnedSaturating eventStep eventSteps advance later endMovementUnlessAbove stored zeroOrEmpty zeroOrEmptyFrom blinks zeroOrEmptyAbove warnsBy warns firstLevel firstPhase warningFrom warnedBy warned endedEmpty endedStored writtenWarned writtenZero writtenCalm writtenBy written activityRelinquished slotRelinquished operationNumber fieldsOf withoutWarning activityWithoutWarning replaced placed movement rampLength target fadedOver fadedTo rampedAt rampedTo jumped wentTo stepUpFrom stepDownFrom steppedUp steppedDown raised halted stopped relinquished effect timed commandedFrom commanded within isLevel isAmount isSlot isPriority meets meetsReal numbered propertyOf same changeTo changeBy changeOf settingsWith endMovement activityWith burningWith changed minOverMax levelAnswer slotAnswer flag elapsedActive realAnswer realFieldAnswer timeFieldAnswer lastDuration readProperty freshSettings freshOutput freshStation answerBytes levelAnswered
+burning-by-light = refl
 
 -- §1: the octets of commands, the refusals of bodies
 pub tags-written : commandsWritten ≡ theirOctets
-unfolding bitAnd bitOr ofBits toBits round if_then_else_ allFrom real bits levelOf realOf readOut realFromTo amountOf limitOf inRange unitsOr amountUnits levelUnits amountOperand view slotsOf firstLive winner isLive maskEmptied maskFilled levelSet put levelAt winningLevel clampLit presentValue lit distanceMoved reachedBy reached progressBy progressValue inProcess withBurning withEffect withCommand withSettings litMilliseconds withBurned timerDue phaseEnd activityDue isDue timerAt emptiedBy expired endMovementOf endMovementBy endMovementOnExpiry delayed nextPhase nextActivity activityAt phaseSlots nextSlots slotsAt afterEvents fire tick ticks sooner due withBurnedSaturating eventStep eventSteps advance later endMovementUnlessAbove stored zeroOrEmpty zeroOrEmptyFrom blinks zeroOrEmptyAbove warnsBy warns firstLevel firstPhase warningFrom warnedBy warned endedEmpty endedStored writtenWarned writtenZero writtenCalm writtenBy written activityRelinquished slotRelinquished operationNumber fieldsOf withoutWarning activityWithoutWarning replaced placed movement rampLength target fadedOver fadedTo rampedAt rampedTo jumped wentTo stepUpFrom stepDownFrom steppedUp steppedDown raised halted stopped relinquished effect timed commandedFrom commanded within isLevel isAmount isSlot isPriority meets meetsReal numbered propertyOf same changeTo changeBy changeOf settingsWith endMovement activityWith burningWith changed minOverMax levelAnswer slotAnswer flag elapsedActive realAnswer realFieldAnswer timeFieldAnswer lastDuration readProperty freshSettings freshOutput freshStation answerBytes levelAnswered byteAt bigEndian octets kindRow kindLength callsBy isCall fewestOctets fieldSize sizes fieldBytes bytesFrom tagBytes realTag wholeTag tagsOf durationField commandTags zeroFilled taggedBody bodyBytes fieldIn fieldsFrom bodyFields zeroBeyond holdsAtMost wellTagged heldBy operationOf timeOf bothOrNeither fewest ownTags readFields readBody levelFieldRefusal amountFieldRefusal timeFieldRefusal firstRefusal fieldsRefusal commandLasting commandWithDuration commandRequestBy commandOf plainDuration commandRequest taggedRequest writeLevel writeOf emptyOf requestOf callOf called clockOf parseBy parse levelsSound timesSound realsSound settingsSound slotSound slotsSoundFrom spanSound movementSound warningBy warningSound activityBy activitySound timerSound sound stationSound done unchanged changedUnless acted served sameBytes retransmissionOrConflict every countsSound panelSound freshPanel startStep padded restored judgedByNumber judgedByRecord stationOf judgedByStation decide execute frameStep
+unfolding bitAnd bitOr ofBits toBits round if_then_else_ allFrom real bits levelOf realOf readOut realFromTo amountOf limitOf inRange unitsOr amountUnits levelUnits amountOperand view slotsOf firstLive winner isLive maskEmptied maskFilled levelSet put levelAt winningLevel clampLit presentValue distanceMoved reachedBy reached progressBy progressValue lit inProcess withBurning withEffect withCommand withSettings litMilliseconds withBurned timerDue phaseEnd activityDue isDue timerAt emptiedBy expired endMovementOf endMovementBy endMovementOnExpiry delayed nextPhase nextActivity activityAt phaseSlots nextSlots slotsAt afterEvents fire tick ticks lastShort momentAfter goneAt countBefore countSince litFromZero litFromLight litAt litByPace litMoving litInMovement litResting litStretch sooner due burnedBy withBurnedSaturating eventStep eventSteps advance later endMovementUnlessAbove stored zeroOrEmpty zeroOrEmptyFrom blinks zeroOrEmptyAbove warnsBy warns firstLevel firstPhase warningFrom warnedBy warned endedEmpty endedStored writtenWarned writtenZero writtenCalm writtenBy written activityRelinquished slotRelinquished operationNumber fieldsOf withoutWarning activityWithoutWarning replaced placed movement rampLength target fadedOver fadedTo rampedAt rampedTo jumped wentTo stepUpFrom stepDownFrom steppedUp steppedDown raised halted stopped relinquished effect timed commandedFrom commanded within isLevel isAmount isSlot isPriority meets meetsReal numbered propertyOf same changeTo changeBy changeOf settingsWith endMovement activityWith burningWith changed minOverMax levelAnswer slotAnswer flag elapsedActive realAnswer realFieldAnswer timeFieldAnswer lastDuration readProperty freshSettings freshOutput freshStation answerBytes levelAnswered byteAt bigEndian octets kindRow kindLength callsBy isCall fewestOctets fieldSize sizes fieldBytes bytesFrom tagBytes realTag wholeTag tagsOf durationField commandTags zeroFilled taggedBody bodyBytes fieldIn fieldsFrom bodyFields zeroBeyond holdsAtMost wellTagged heldBy operationOf timeOf bothOrNeither fewest ownTags readFields readBody levelFieldRefusal amountFieldRefusal timeFieldRefusal firstRefusal fieldsRefusal commandLasting commandWithDuration commandRequestBy commandOf plainDuration commandRequest taggedRequest writeLevel writeOf emptyOf requestOf callOf called clockOf parseBy parse levelsSound timesSound realsSound settingsSound slotSound slotsSoundFrom spanSound movementSound warningBy warningSound activityBy activitySound timerSound sound stationSound done unchanged changedUnless acted served sameBytes retransmissionOrConflict every countsSound panelSound freshPanel startStep padded restored judgedByNumber judgedByRecord stationOf judgedByStation decide execute frameStep
 tags-written = refl
 
 pub tags-refused : refused ≡ refusals
-unfolding bitAnd bitOr ofBits toBits round if_then_else_ allFrom real bits levelOf realOf readOut realFromTo amountOf limitOf inRange unitsOr amountUnits levelUnits amountOperand view slotsOf firstLive winner isLive maskEmptied maskFilled levelSet put levelAt winningLevel clampLit presentValue lit distanceMoved reachedBy reached progressBy progressValue inProcess withBurning withEffect withCommand withSettings litMilliseconds withBurned timerDue phaseEnd activityDue isDue timerAt emptiedBy expired endMovementOf endMovementBy endMovementOnExpiry delayed nextPhase nextActivity activityAt phaseSlots nextSlots slotsAt afterEvents fire tick ticks sooner due withBurnedSaturating eventStep eventSteps advance later endMovementUnlessAbove stored zeroOrEmpty zeroOrEmptyFrom blinks zeroOrEmptyAbove warnsBy warns firstLevel firstPhase warningFrom warnedBy warned endedEmpty endedStored writtenWarned writtenZero writtenCalm writtenBy written activityRelinquished slotRelinquished operationNumber fieldsOf withoutWarning activityWithoutWarning replaced placed movement rampLength target fadedOver fadedTo rampedAt rampedTo jumped wentTo stepUpFrom stepDownFrom steppedUp steppedDown raised halted stopped relinquished effect timed commandedFrom commanded within isLevel isAmount isSlot isPriority meets meetsReal numbered propertyOf same changeTo changeBy changeOf settingsWith endMovement activityWith burningWith changed minOverMax levelAnswer slotAnswer flag elapsedActive realAnswer realFieldAnswer timeFieldAnswer lastDuration readProperty freshSettings freshOutput freshStation answerBytes levelAnswered byteAt bigEndian octets kindRow kindLength callsBy isCall fewestOctets fieldSize sizes fieldBytes bytesFrom tagBytes realTag wholeTag tagsOf durationField commandTags zeroFilled taggedBody bodyBytes fieldIn fieldsFrom bodyFields zeroBeyond holdsAtMost wellTagged heldBy operationOf timeOf bothOrNeither fewest ownTags readFields readBody levelFieldRefusal amountFieldRefusal timeFieldRefusal firstRefusal fieldsRefusal commandLasting commandWithDuration commandRequestBy commandOf plainDuration commandRequest taggedRequest writeLevel writeOf emptyOf requestOf callOf called clockOf parseBy parse levelsSound timesSound realsSound settingsSound slotSound slotsSoundFrom spanSound movementSound warningBy warningSound activityBy activitySound timerSound sound stationSound done unchanged changedUnless acted served sameBytes retransmissionOrConflict every countsSound panelSound freshPanel startStep padded restored judgedByNumber judgedByRecord stationOf judgedByStation decide execute frameStep
+unfolding bitAnd bitOr ofBits toBits round if_then_else_ allFrom real bits levelOf realOf readOut realFromTo amountOf limitOf inRange unitsOr amountUnits levelUnits amountOperand view slotsOf firstLive winner isLive maskEmptied maskFilled levelSet put levelAt winningLevel clampLit presentValue distanceMoved reachedBy reached progressBy progressValue lit inProcess withBurning withEffect withCommand withSettings litMilliseconds withBurned timerDue phaseEnd activityDue isDue timerAt emptiedBy expired endMovementOf endMovementBy endMovementOnExpiry delayed nextPhase nextActivity activityAt phaseSlots nextSlots slotsAt afterEvents fire tick ticks lastShort momentAfter goneAt countBefore countSince litFromZero litFromLight litAt litByPace litMoving litInMovement litResting litStretch sooner due burnedBy withBurnedSaturating eventStep eventSteps advance later endMovementUnlessAbove stored zeroOrEmpty zeroOrEmptyFrom blinks zeroOrEmptyAbove warnsBy warns firstLevel firstPhase warningFrom warnedBy warned endedEmpty endedStored writtenWarned writtenZero writtenCalm writtenBy written activityRelinquished slotRelinquished operationNumber fieldsOf withoutWarning activityWithoutWarning replaced placed movement rampLength target fadedOver fadedTo rampedAt rampedTo jumped wentTo stepUpFrom stepDownFrom steppedUp steppedDown raised halted stopped relinquished effect timed commandedFrom commanded within isLevel isAmount isSlot isPriority meets meetsReal numbered propertyOf same changeTo changeBy changeOf settingsWith endMovement activityWith burningWith changed minOverMax levelAnswer slotAnswer flag elapsedActive realAnswer realFieldAnswer timeFieldAnswer lastDuration readProperty freshSettings freshOutput freshStation answerBytes levelAnswered byteAt bigEndian octets kindRow kindLength callsBy isCall fewestOctets fieldSize sizes fieldBytes bytesFrom tagBytes realTag wholeTag tagsOf durationField commandTags zeroFilled taggedBody bodyBytes fieldIn fieldsFrom bodyFields zeroBeyond holdsAtMost wellTagged heldBy operationOf timeOf bothOrNeither fewest ownTags readFields readBody levelFieldRefusal amountFieldRefusal timeFieldRefusal firstRefusal fieldsRefusal commandLasting commandWithDuration commandRequestBy commandOf plainDuration commandRequest taggedRequest writeLevel writeOf emptyOf requestOf callOf called clockOf parseBy parse levelsSound timesSound realsSound settingsSound slotSound slotsSoundFrom spanSound movementSound warningBy warningSound activityBy activitySound timerSound sound stationSound done unchanged changedUnless acted served sameBytes retransmissionOrConflict every countsSound panelSound freshPanel startStep padded restored judgedByNumber judgedByRecord stationOf judgedByStation decide execute frameStep
 tags-refused = refl
 
 -- two outputs, freshly started
 pub worked : answers document01 (freshPanel 2 8) frames ≡ expected
-unfolding bitAnd bitOr ofBits toBits round answers if_then_else_ allFrom real bits levelOf realOf readOut realFromTo amountOf limitOf inRange unitsOr amountUnits levelUnits amountOperand view slotsOf firstLive winner isLive maskEmptied maskFilled levelSet put levelAt winningLevel clampLit presentValue lit distanceMoved reachedBy reached progressBy progressValue inProcess withBurning withEffect withCommand withSettings litMilliseconds withBurned timerDue phaseEnd activityDue isDue timerAt emptiedBy expired endMovementOf endMovementBy endMovementOnExpiry delayed nextPhase nextActivity activityAt phaseSlots nextSlots slotsAt afterEvents fire tick ticks sooner due withBurnedSaturating eventStep eventSteps advance later endMovementUnlessAbove stored zeroOrEmpty zeroOrEmptyFrom blinks zeroOrEmptyAbove warnsBy warns firstLevel firstPhase warningFrom warnedBy warned endedEmpty endedStored writtenWarned writtenZero writtenCalm writtenBy written activityRelinquished slotRelinquished operationNumber fieldsOf withoutWarning activityWithoutWarning replaced placed movement rampLength target fadedOver fadedTo rampedAt rampedTo jumped wentTo stepUpFrom stepDownFrom steppedUp steppedDown raised halted stopped relinquished effect timed commandedFrom commanded within isLevel isAmount isSlot isPriority meets meetsReal numbered propertyOf same changeTo changeBy changeOf settingsWith endMovement activityWith burningWith changed minOverMax levelAnswer slotAnswer flag elapsedActive realAnswer realFieldAnswer timeFieldAnswer lastDuration readProperty freshSettings freshOutput freshStation answerBytes levelAnswered byteAt bigEndian octets kindRow kindLength callsBy isCall fewestOctets fieldSize sizes fieldBytes bytesFrom tagBytes realTag wholeTag tagsOf durationField commandTags zeroFilled taggedBody bodyBytes fieldIn fieldsFrom bodyFields zeroBeyond holdsAtMost wellTagged heldBy operationOf timeOf bothOrNeither fewest ownTags readFields readBody levelFieldRefusal amountFieldRefusal timeFieldRefusal firstRefusal fieldsRefusal commandLasting commandWithDuration commandRequestBy commandOf plainDuration commandRequest taggedRequest writeLevel writeOf emptyOf requestOf callOf called clockOf parseBy parse levelsSound timesSound realsSound settingsSound slotSound slotsSoundFrom spanSound movementSound warningBy warningSound activityBy activitySound timerSound sound stationSound done unchanged changedUnless acted served sameBytes retransmissionOrConflict every countsSound panelSound freshPanel startStep padded restored judgedByNumber judgedByRecord stationOf judgedByStation decide execute frameStep
+unfolding bitAnd bitOr ofBits toBits round answers if_then_else_ allFrom real bits levelOf realOf readOut realFromTo amountOf limitOf inRange unitsOr amountUnits levelUnits amountOperand view slotsOf firstLive winner isLive maskEmptied maskFilled levelSet put levelAt winningLevel clampLit presentValue distanceMoved reachedBy reached progressBy progressValue lit inProcess withBurning withEffect withCommand withSettings litMilliseconds withBurned timerDue phaseEnd activityDue isDue timerAt emptiedBy expired endMovementOf endMovementBy endMovementOnExpiry delayed nextPhase nextActivity activityAt phaseSlots nextSlots slotsAt afterEvents fire tick ticks lastShort momentAfter goneAt countBefore countSince litFromZero litFromLight litAt litByPace litMoving litInMovement litResting litStretch sooner due burnedBy withBurnedSaturating eventStep eventSteps advance later endMovementUnlessAbove stored zeroOrEmpty zeroOrEmptyFrom blinks zeroOrEmptyAbove warnsBy warns firstLevel firstPhase warningFrom warnedBy warned endedEmpty endedStored writtenWarned writtenZero writtenCalm writtenBy written activityRelinquished slotRelinquished operationNumber fieldsOf withoutWarning activityWithoutWarning replaced placed movement rampLength target fadedOver fadedTo rampedAt rampedTo jumped wentTo stepUpFrom stepDownFrom steppedUp steppedDown raised halted stopped relinquished effect timed commandedFrom commanded within isLevel isAmount isSlot isPriority meets meetsReal numbered propertyOf same changeTo changeBy changeOf settingsWith endMovement activityWith burningWith changed minOverMax levelAnswer slotAnswer flag elapsedActive realAnswer realFieldAnswer timeFieldAnswer lastDuration readProperty freshSettings freshOutput freshStation answerBytes levelAnswered byteAt bigEndian octets kindRow kindLength callsBy isCall fewestOctets fieldSize sizes fieldBytes bytesFrom tagBytes realTag wholeTag tagsOf durationField commandTags zeroFilled taggedBody bodyBytes fieldIn fieldsFrom bodyFields zeroBeyond holdsAtMost wellTagged heldBy operationOf timeOf bothOrNeither fewest ownTags readFields readBody levelFieldRefusal amountFieldRefusal timeFieldRefusal firstRefusal fieldsRefusal commandLasting commandWithDuration commandRequestBy commandOf plainDuration commandRequest taggedRequest writeLevel writeOf emptyOf requestOf callOf called clockOf parseBy parse levelsSound timesSound realsSound settingsSound slotSound slotsSoundFrom spanSound movementSound warningBy warningSound activityBy activitySound timerSound sound stationSound done unchanged changedUnless acted served sameBytes retransmissionOrConflict every countsSound panelSound freshPanel startStep padded restored judgedByNumber judgedByRecord stationOf judgedByStation decide execute frameStep
 worked = refl
 
 pub worked-in-tags : answers document01 (freshPanel 2 8) framesInTags ≡ answersInTags
-unfolding bitAnd bitOr ofBits toBits round answers if_then_else_ allFrom real bits levelOf realOf readOut realFromTo amountOf limitOf inRange unitsOr amountUnits levelUnits amountOperand view slotsOf firstLive winner isLive maskEmptied maskFilled levelSet put levelAt winningLevel clampLit presentValue lit distanceMoved reachedBy reached progressBy progressValue inProcess withBurning withEffect withCommand withSettings litMilliseconds withBurned timerDue phaseEnd activityDue isDue timerAt emptiedBy expired endMovementOf endMovementBy endMovementOnExpiry delayed nextPhase nextActivity activityAt phaseSlots nextSlots slotsAt afterEvents fire tick ticks sooner due withBurnedSaturating eventStep eventSteps advance later endMovementUnlessAbove stored zeroOrEmpty zeroOrEmptyFrom blinks zeroOrEmptyAbove warnsBy warns firstLevel firstPhase warningFrom warnedBy warned endedEmpty endedStored writtenWarned writtenZero writtenCalm writtenBy written activityRelinquished slotRelinquished operationNumber fieldsOf withoutWarning activityWithoutWarning replaced placed movement rampLength target fadedOver fadedTo rampedAt rampedTo jumped wentTo stepUpFrom stepDownFrom steppedUp steppedDown raised halted stopped relinquished effect timed commandedFrom commanded within isLevel isAmount isSlot isPriority meets meetsReal numbered propertyOf same changeTo changeBy changeOf settingsWith endMovement activityWith burningWith changed minOverMax levelAnswer slotAnswer flag elapsedActive realAnswer realFieldAnswer timeFieldAnswer lastDuration readProperty freshSettings freshOutput freshStation answerBytes levelAnswered byteAt bigEndian octets kindRow kindLength callsBy isCall fewestOctets fieldSize sizes fieldBytes bytesFrom tagBytes realTag wholeTag tagsOf durationField commandTags zeroFilled taggedBody bodyBytes fieldIn fieldsFrom bodyFields zeroBeyond holdsAtMost wellTagged heldBy operationOf timeOf bothOrNeither fewest ownTags readFields readBody levelFieldRefusal amountFieldRefusal timeFieldRefusal firstRefusal fieldsRefusal commandLasting commandWithDuration commandRequestBy commandOf plainDuration commandRequest taggedRequest writeLevel writeOf emptyOf requestOf callOf called clockOf parseBy parse levelsSound timesSound realsSound settingsSound slotSound slotsSoundFrom spanSound movementSound warningBy warningSound activityBy activitySound timerSound sound stationSound done unchanged changedUnless acted served sameBytes retransmissionOrConflict every countsSound panelSound freshPanel startStep padded restored judgedByNumber judgedByRecord stationOf judgedByStation decide execute frameStep
+unfolding bitAnd bitOr ofBits toBits round answers if_then_else_ allFrom real bits levelOf realOf readOut realFromTo amountOf limitOf inRange unitsOr amountUnits levelUnits amountOperand view slotsOf firstLive winner isLive maskEmptied maskFilled levelSet put levelAt winningLevel clampLit presentValue distanceMoved reachedBy reached progressBy progressValue lit inProcess withBurning withEffect withCommand withSettings litMilliseconds withBurned timerDue phaseEnd activityDue isDue timerAt emptiedBy expired endMovementOf endMovementBy endMovementOnExpiry delayed nextPhase nextActivity activityAt phaseSlots nextSlots slotsAt afterEvents fire tick ticks lastShort momentAfter goneAt countBefore countSince litFromZero litFromLight litAt litByPace litMoving litInMovement litResting litStretch sooner due burnedBy withBurnedSaturating eventStep eventSteps advance later endMovementUnlessAbove stored zeroOrEmpty zeroOrEmptyFrom blinks zeroOrEmptyAbove warnsBy warns firstLevel firstPhase warningFrom warnedBy warned endedEmpty endedStored writtenWarned writtenZero writtenCalm writtenBy written activityRelinquished slotRelinquished operationNumber fieldsOf withoutWarning activityWithoutWarning replaced placed movement rampLength target fadedOver fadedTo rampedAt rampedTo jumped wentTo stepUpFrom stepDownFrom steppedUp steppedDown raised halted stopped relinquished effect timed commandedFrom commanded within isLevel isAmount isSlot isPriority meets meetsReal numbered propertyOf same changeTo changeBy changeOf settingsWith endMovement activityWith burningWith changed minOverMax levelAnswer slotAnswer flag elapsedActive realAnswer realFieldAnswer timeFieldAnswer lastDuration readProperty freshSettings freshOutput freshStation answerBytes levelAnswered byteAt bigEndian octets kindRow kindLength callsBy isCall fewestOctets fieldSize sizes fieldBytes bytesFrom tagBytes realTag wholeTag tagsOf durationField commandTags zeroFilled taggedBody bodyBytes fieldIn fieldsFrom bodyFields zeroBeyond holdsAtMost wellTagged heldBy operationOf timeOf bothOrNeither fewest ownTags readFields readBody levelFieldRefusal amountFieldRefusal timeFieldRefusal firstRefusal fieldsRefusal commandLasting commandWithDuration commandRequestBy commandOf plainDuration commandRequest taggedRequest writeLevel writeOf emptyOf requestOf callOf called clockOf parseBy parse levelsSound timesSound realsSound settingsSound slotSound slotsSoundFrom spanSound movementSound warningBy warningSound activityBy activitySound timerSound sound stationSound done unchanged changedUnless acted served sameBytes retransmissionOrConflict every countsSound panelSound freshPanel startStep padded restored judgedByNumber judgedByRecord stationOf judgedByStation decide execute frameStep
 worked-in-tags = refl

@@ -4,6 +4,7 @@ use Prim.Native.Nat.{ℕ}
 use Rattle.lighting.specs.Engine.Advance.{sooner}
 use Rattle.lighting.specs.Engine.Executing.{execute}
 use Rattle.lighting.specs.Engine.Judging.{judgedByRecord, stationOf}
+use Rattle.lighting.specs.Engine.Light.{countBefore, countSince, litByPace, litInMovement}
 use Rattle.lighting.specs.Paper.Acting.{acted}
 use Rattle.lighting.specs.Paper.Answers.{answerBytes, levelAnswered}
 use Rattle.lighting.specs.Paper.Commands.{withoutWarning, activityWithoutWarning, stopped, effect, timed}
@@ -31,6 +32,7 @@ use Rattle.lighting.specs.declared.Frame.{Frame}
 use Rattle.lighting.specs.declared.Kind.{Kind}
 use Rattle.lighting.specs.declared.Level.{Level}
 use Rattle.lighting.specs.declared.Moment.{Moment}
+use Rattle.lighting.specs.declared.Movement.{Movement}
 use Rattle.lighting.specs.declared.Operation.{Operation}
 use Rattle.lighting.specs.declared.OperationFields.{OperationFields}
 use Rattle.lighting.specs.declared.Outcome.{Outcome}
@@ -66,6 +68,18 @@ judgedByRecord-on x0 x1 x2 x3 k r e p = rw e p
 
 pub stationOf-on : (x0 : Frame) (k : Frame) (r : ℕ) → x0 ≡ k → r ≡ stationOf k → r ≡ stationOf x0
 stationOf-on x0 k r e p = rw e p
+
+pub countBefore-on : (x0 : ℕ) (x1 : ℕ) (x2 : Moment) (k : Moment) (r : ℕ) → x2 ≡ k → r ≡ countBefore x0 x1 k → r ≡ countBefore x0 x1 x2
+countBefore-on x0 x1 x2 k r e p = rw e p
+
+pub countSince-on : (x0 : ℕ) (x1 : ℕ) (x2 : Moment) (k : Moment) (r : ℕ) → x2 ≡ k → r ≡ countSince x0 x1 k → r ≡ countSince x0 x1 x2
+countSince-on x0 x1 x2 k r e p = rw e p
+
+pub litByPace-on : (x0 : ℕ) (x1 : ℕ) (x2 : Movement) (x3 : Pace) (k : Pace) (r : ℕ) → x3 ≡ k → r ≡ litByPace x0 x1 x2 k → r ≡ litByPace x0 x1 x2 x3
+litByPace-on x0 x1 x2 x3 k r e p = rw e p
+
+pub litInMovement-on : (x0 : ℕ) (x1 : ℕ) (x2 : Activity) (k : Activity) (r : ℕ) → x2 ≡ k → r ≡ litInMovement x0 x1 k → r ≡ litInMovement x0 x1 x2
+litInMovement-on x0 x1 x2 k r e p = rw e p
 
 pub acted-on : (x0 : ℕ) (x1 : Output) (x2 : Request) (k : Request) (r : Outcome) → x2 ≡ k → r ≡ acted x0 x1 k → r ≡ acted x0 x1 x2
 acted-on x0 x1 x2 k r e p = rw e p

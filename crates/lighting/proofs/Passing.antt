@@ -1,6 +1,6 @@
 -- EVENT STEPS EQUAL TICKS: the engine's way from due moment to due moment comes to what the plain panel's milliseconds come to.
 -- What it asks of the output (`Calm`): every due moment is after the moment it starts from, and it has burned no longer than the panel stands.
--- Neither the slots nor what lights an output play a part.
+-- Neither the slots nor what lights a lamp play a part: of the count of a stretch it asks that it is its milliseconds one by one (Light.antt).
 use mathlib.Core.Path.{_≡_, refl, sym, ap, ap₂, _∙_}
 use mathlib.Core.Logic.{_≢_}
 use mathlib.Core.Bool.{true, false, false≢true}
@@ -10,6 +10,7 @@ use native.Mathlib.Nat.{zero-add, add-zero, suc-add, sub-self, add-assoc}
 use native.Mathlib.Omega.{arith}
 use lib.Dec.{eqb}
 use Rattle.lighting.specs.Paper.Choice.{if_then_else_}
+use Rattle.lighting.proofs.Light.{counted}
 use Rattle.lighting.proofs.Split.{by-eq, by-lt, by-bool, eqb-miss, eqb-hit, eq-of}
 use Rattle.lighting.specs.declared.Phase.{Phase}
 use Rattle.lighting.specs.declared.Phase.the-variants.{Blink, Delay}
@@ -22,8 +23,8 @@ use Rattle.lighting.specs.declared.Moment.{Moment}
 use Rattle.lighting.specs.declared.Moment.the-variants.{Never, At}
 use Rattle.lighting.specs.declared.Output.{Output}
 use Rattle.lighting.specs.Paper.Slots.{Slots}
-use Rattle.lighting.specs.Paper.Value.{lit}
-use Rattle.lighting.specs.Engine.Advance.{greatestCount, withBurnedSaturating, sooner, soonest, due, eventStep, eventSteps, advance}
+use Rattle.lighting.specs.Paper.Value.{progressValue, lit}
+use Rattle.lighting.specs.Engine.Advance.{greatestCount, burnedBy, withBurnedSaturating, sooner, soonest, due, eventStep, eventSteps, advance}
 use Rattle.lighting.specs.Paper.Record.{withBurning}
 use Rattle.lighting.specs.Paper.Passing.{litMilliseconds, withBurned, timerDue, phaseEnd, activityDue, dueMoments, isDue, timerAt, expired, endMovementOf, endMovementBy, endMovementOnExpiry, delayed, nextPhase, nextActivity, activityAt, slotsAt, afterEvents, fire, tick, ticks}
 
@@ -93,11 +94,30 @@ endMovementOnExpiry-quiet t m a h = rw (not-due t (timerDue m) (timer-moment t m
 -- BURNING: of n milliseconds at most n, of none none, and stretches add up
 pub litMilliseconds-le : (from n : ℕ) (o : Output) → litMilliseconds from n o ≤ n
 unfolding litMilliseconds if_then_else_
-litMilliseconds-le from n o = by-bool (lit (o .settings) (o .slots)) (λ e. rw e (omega arith)) (λ e. rw e (omega arith))
+litMilliseconds-le from zero o = omega arith
+litMilliseconds-le from (suc n) o =
+    by-bool
+    (lit from o)
+    (λ e. rw e (omega (arith, litMilliseconds-le (suc from) n o)))
+    (λ e. rw e (omega (arith, litMilliseconds-le (suc from) n o)))
+
+-- what has burned plays no part in it
+litMilliseconds-withBurning : (from n b : ℕ) (o : Output) → litMilliseconds from n (withBurning o b) ≡ litMilliseconds from n o
+unfolding litMilliseconds lit progressValue withBurning
+litMilliseconds-withBurning from zero b o = refl
+litMilliseconds-withBurning from (suc n) b o = rw (litMilliseconds-withBurning (suc from) n b o)
+
+litMilliseconds-split : (from a b : ℕ) (o : Output) → litMilliseconds from a o + litMilliseconds (from + a) b o ≡ litMilliseconds from (a + b) o
+unfolding litMilliseconds
+litMilliseconds-split from zero b o = rw (add-zero from, zero-add b, zero-add (litMilliseconds from b o))
+litMilliseconds-split from (suc a) b o =
+    let k : from + suc a ≡ suc from + a = omega arith in
+    let n : suc a + b ≡ suc (a + b) = omega arith in
+    rw (k, n, ← litMilliseconds-split (suc from) a b o) (add-assoc (if lit from o then 1 else 0) (litMilliseconds (suc from) a o) (litMilliseconds (suc from + a) b o))
 
 litMilliseconds-add : (from a b : ℕ) (o : Output) → litMilliseconds from a o + litMilliseconds (from + a) b (withBurned from a o) ≡ litMilliseconds from (a + b) o
-unfolding litMilliseconds withBurned withBurning if_then_else_
-litMilliseconds-add from a b o = by-bool (lit (o .settings) (o .slots)) (λ e. rw e) (λ e. rw e)
+unfolding withBurned
+litMilliseconds-add from a b o = rw (litMilliseconds-withBurning (from + a) b (o .burning + litMilliseconds from a o) o) (litMilliseconds-split from a b o)
 
 withBurned-zero : (from : ℕ) (o : Output) → withBurned from 0 o ≡ o
 unfolding withBurned withBurning
@@ -116,8 +136,8 @@ withBurned-after t from n o a = record { all = a .all }
 
 -- THE ENGINE'S COUNT does not come to its top
 withBurnedSaturating-withBurned : (from n : ℕ) (o : Output) → o .burning + n ≤ greatestCount → withBurnedSaturating from n o ≡ withBurned from n o
-unfolding withBurnedSaturating withBurned
-withBurnedSaturating-withBurned from n o h = ap (λ (b : ℕ). withBurning o b) (omega (arith, litMilliseconds-le from n o))
+unfolding withBurnedSaturating burnedBy withBurned
+withBurnedSaturating-withBurned from n o h = ap (λ (b : ℕ). withBurning o b) (omega (arith, counted from n o, litMilliseconds-le from n o))
 
 one-more : (n t : ℕ) (o : Output) → withBurned (suc t) n (withBurned t 1 o) ≡ withBurned t (suc n) o
 one-more n t o =

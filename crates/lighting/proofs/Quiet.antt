@@ -1,14 +1,18 @@
 -- Where nothing falls due on the way, the engine's way is burning alone: of any record at all.
-use mathlib.Core.Path.{_≡_, refl, sym, _∙_}
-use mathlib.Core.Bool.{Bool, true}
+use mathlib.Core.Path.{_≡_, refl, sym, ap, _∙_}
+use mathlib.Core.Bool.{Bool, true, false}
 use Prim.Native.Nat.{ℕ, zero, suc, _+_, _-_, _≤_, _<_, min}
 use native.Mathlib.Nat.{sub-self}
 use native.Mathlib.Omega.{arith}
-use Rattle.lighting.specs.Engine.Advance.{greatestCount, withBurnedSaturating, eventStep, eventSteps, advance, later}
+use Rattle.lighting.specs.Engine.Advance.{greatestCount, burnedBy, withBurnedSaturating, eventStep, eventSteps, advance, later}
 use Rattle.lighting.specs.Paper.Record.{withBurning}
-use Rattle.lighting.specs.Paper.Passing.{litMilliseconds}
+use lib.Dec.{eqb}
+use Rattle.lighting.specs.Paper.Choice.{if_then_else_}
+use Rattle.lighting.specs.Paper.Value.{presentValue, inProcess}
+use Rattle.lighting.specs.Engine.Light.{litInMovement, litResting, litStretch}
 use Rattle.lighting.specs.declared.Output.{Output}
 use Rattle.lighting.proofs.Split.{le-of}
+use Rattle.lighting.proofs.Light.{counted}
 use Rattle.lighting.proofs.Passing.{After, quiet, litMilliseconds-le, before-due, due-here}
 
 later-after : (to : ℕ) (o : Output) → later to o ≡ true → After to o
@@ -16,16 +20,16 @@ unfolding later
 later-after to o h = before-due to greatestCount o (le-of h)
 
 withBurnedSaturating-after : (t from n : ℕ) (o : Output) → After t o → After t (withBurnedSaturating from n o)
-unfolding withBurnedSaturating withBurning
+unfolding withBurnedSaturating burnedBy withBurning
 withBurnedSaturating-after t from n o a = record { all = a .all }
 
 -- no more burning in no time
 withBurnedSaturating-none : (t : ℕ) (o : Output) → o .burning ≤ greatestCount → withBurnedSaturating t 0 o ≡ o
-unfolding withBurnedSaturating withBurning
-withBurnedSaturating-none t o h = let e : min (o .burning + litMilliseconds t 0 o) greatestCount ≡ o .burning = omega (arith, litMilliseconds-le t 0 o) in rw e
+unfolding withBurnedSaturating burnedBy withBurning
+withBurnedSaturating-none t o h = let e : min (o .burning + litStretch t 0 o) greatestCount ≡ o .burning = omega (arith, counted t 0 o, litMilliseconds-le t 0 o) in rw e
 
 withBurnedSaturating-top : (from n : ℕ) (o : Output) → withBurnedSaturating from n o .burning ≤ greatestCount
-unfolding withBurnedSaturating withBurning
+unfolding withBurnedSaturating burnedBy withBurning
 withBurnedSaturating-top from n o = omega arith
 
 -- at `to` already: each step leaves the output as it is
@@ -44,7 +48,26 @@ eventSteps-later (suc k) now to o a =
     (due-here to o a, quiet to (withBurnedSaturating now (to - now) o) g)
     (eventSteps-none k to (withBurnedSaturating now (to - now) o) g (withBurnedSaturating-top now (to - now) o))
 
--- in the form in which code cites it: f is what the test said, r what was made of it
-pub advance-later : (now to : ℕ) (o r : Output) (f : Bool) → f ≡ later to o → f ≡ true → r ≡ eventSteps 0 now to o → r ≡ advance now to o
-unfolding advance eventSteps
-advance-later now to o r f e t h = h ∙ sym (eventSteps-later 3 now to o (later-after to o (sym e ∙ t)))
+advance-burned : (now to : ℕ) (o : Output) → later to o ≡ true → advance now to o ≡ burnedBy (litStretch now (to - now) o) o
+unfolding advance withBurnedSaturating
+advance-burned now to o h = eventSteps-later 3 now to o (later-after to o h)
+
+-- and what burns is counted by the movement, or by Present_Value alone
+stretch-moving : (from n : ℕ) (o : Output) → eqb (inProcess (o .activity)) 1 ≡ true → litStretch from n o ≡ litInMovement from n (o .activity)
+unfolding litStretch if_then_else_
+stretch-moving from n o h = rw h
+
+stretch-resting : (from n : ℕ) (o : Output) → eqb (inProcess (o .activity)) 1 ≡ false → litStretch from n o ≡ litResting n (presentValue (o .settings) (o .slots))
+unfolding litStretch if_then_else_
+stretch-resting from n o h = rw h
+
+-- in the form in which code cites it: f is what the test said, g whether the output moves, r what was made of it
+pub advance-moving : (now to : ℕ) (o r : Output) (f g : Bool) → f ≡ later to o → f ≡ true → g ≡ eqb (inProcess (o .activity)) 1 → g ≡ true
+    → r ≡ burnedBy (litInMovement now (to - now) (o .activity)) o → r ≡ advance now to o
+advance-moving now to o r f g e t d u h =
+    h ∙ ap (λ (n : ℕ). burnedBy n o) (sym (stretch-moving now (to - now) o (sym d ∙ u))) ∙ sym (advance-burned now to o (sym e ∙ t))
+
+pub advance-resting : (now to : ℕ) (o r : Output) (f g : Bool) → f ≡ later to o → f ≡ true → g ≡ eqb (inProcess (o .activity)) 1 → g ≡ false
+    → r ≡ burnedBy (litResting (to - now) (presentValue (o .settings) (o .slots))) o → r ≡ advance now to o
+advance-resting now to o r f g e t d u h =
+    h ∙ ap (λ (n : ℕ). burnedBy n o) (sym (stretch-resting now (to - now) o (sym d ∙ u))) ∙ sym (advance-burned now to o (sym e ∙ t))

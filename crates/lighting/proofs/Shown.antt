@@ -2,21 +2,20 @@
 use mathlib.Core.Path.{_≡_, refl}
 use mathlib.Core.Logic.{_≢_}
 use Prim.Native.Nat.{ℕ, suc, _+_, _-_, _*_, _/_, _≤_, _<_, min, max}
-use native.Mathlib.Nat.{div-lt-iff-lt-mul, mul-le-mul-left}
+use native.Mathlib.Nat.{div-lt-iff-lt-mul}
 use native.Mathlib.Omega.{arith}
 use Rattle.lighting.specs.Paper.Parameters.{document01}
 use Rattle.lighting.specs.Paper.Choice.{if_then_else_}
 use Rattle.lighting.specs.Paper.Slots.{Slots, winningLevel}
-use Rattle.lighting.specs.Paper.Value.{clampLit, presentValue, elapsed, distanceMoved, reachedBy, reached, progressBy, progressValue}
+use Rattle.lighting.specs.Paper.Value.{clampLit, presentValue, elapsed, reachedBy, reached, progressBy, progressValue}
 use Rattle.lighting.specs.Paper.Commands.{rampLength}
 use Rattle.lighting.specs.declared.Settings.{Settings}
-use Rattle.lighting.specs.declared.Pace.{Pace}
-use Rattle.lighting.specs.declared.Pace.the-variants.{Fade, Ramp}
 use Rattle.lighting.specs.declared.Movement.{Movement}
 use Rattle.lighting.specs.declared.Activity.{Activity}
 use Rattle.lighting.specs.declared.Activity.the-variants.{Still, Moving, Warned}
 use Rattle.lighting.specs.declared.Output.{Output}
 use Rattle.lighting.proofs.Split.{by-eq, by-lt, by-le}
+use Rattle.lighting.proofs.Way.{distanceMoved-most}
 use Rattle.lighting.proofs.Facts.{SettingsInRange, Moves, Acts}
 use Rattle.lighting.specs.Paper.Level.{greatestLevel, leastAmount}
 
@@ -37,18 +36,10 @@ clampLit-clampLit c v h = clampLit-same c (clampLit c v) inside
     inside = unfold clampLit if_then_else_ in
         (by-eq v 0 (λ p e. rw e (λ n. absurd (n refl))) (λ p e. rw e (λ n. omega (arith, h .order))))
 
--- A MOVEMENT goes no further than its way, and stays at most at Max
-distanceMoved-le : (w : Pace) (d l k : ℕ) → k ≤ l → 0 < l → distanceMoved w d l k ≤ d
-unfolding distanceMoved
-distanceMoved-le Fade d l k h p =
-    let z : d * k < suc d * l = omega (arith, mul-le-mul-left d h) in
-    omega (arith, div-lt-iff-lt-mul p .1 z)
-distanceMoved-le (Ramp r) d l k h p = omega arith
-
+-- A MOVEMENT stays at most at Max
 reached-most : (t : ℕ) (c : Settings) (s : Slots) (m : Movement) → Moves t c s m → reached t m ≤ c .max
 unfolding reached reachedBy presentValue if_then_else_
 reached-most t c s m h =
-    let z : 0 < m .length = omega (arith, h .long) in
     by-le
     (m .start)
     (m .target)
@@ -57,7 +48,7 @@ reached-most t c s m h =
       arith,
       h .aims,
       clampLit-most c (winningLevel (c .default) s),
-      distanceMoved-le (m .pace) (m .target - m .start) (m .length) (elapsed t m) (omega arith) z,
+      distanceMoved-most (m .pace) (m .target - m .start) (m .length) (elapsed t m) (omega arith),
     )))
     (λ p e. rw e (omega (arith, h .start)))
 

@@ -35,7 +35,8 @@ pub mod Demand
 pub mod Calls
 -- §1 in lists: commands sent in tags instead of plain
 pub mod InTags
--- 'Bench figures', and a worked list; §1 by hand
+-- 'Bench figures', and a worked list; §1 and §2 by hand
 pub mod Figures
 pub mod Worked
 pub mod WorkedTags
+pub mod WorkedLight

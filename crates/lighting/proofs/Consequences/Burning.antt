@@ -1,9 +1,9 @@
--- ELAPSED_ACTIVE_TIME: counted while Present_Value is above zero, read in whole seconds, and at its top.
+-- ELAPSED_ACTIVE_TIME: counted while Progress_Value is above zero, read in whole seconds, and at its top.
 use mathlib.Core.Path.{_≡_}
 use Prim.Native.Nat.{ℕ, _+_, _*_, _/_, _≤_, _<_, min}
 use native.Mathlib.Omega.{arith}
 use Rattle.lighting.specs.Paper.Choice.{if_then_else_}
-use Rattle.lighting.specs.Paper.Value.{presentValue, lit}
+use Rattle.lighting.specs.Paper.Value.{progressValue, lit}
 use Rattle.lighting.specs.Paper.Record.{withBurning}
 use Rattle.lighting.specs.Paper.Passing.{litMilliseconds, withBurned, afterEvents, fire, tick}
 use Rattle.lighting.specs.Paper.Properties.{numbered, propertyOf, elapsedActive, readProperty}
@@ -13,14 +13,14 @@ use Rattle.lighting.specs.declared.Output.{Output}
 use Rattle.lighting.proofs.Split.{leb-yes, leb-no}
 use Rattle.lighting.proofs.Consequences.Reads.{reads}
 
--- 'burning time gains 1 ms if Present_Value is above zero', and nothing if it is not
-pub burns : (t : ℕ) (o : Output) → 0 < presentValue (o .settings) (o .slots) → tick t o .burning ≡ o .burning + 1
+-- 'Burning time gains a millisecond when Progress_Value is above zero', and nothing if it is not
+pub burns : (t : ℕ) (o : Output) → 0 < progressValue t o → tick t o .burning ≡ o .burning + 1
 unfolding tick fire afterEvents withBurned withBurning litMilliseconds lit if_then_else_
-burns t o h = rw (leb-yes {a = 1} {b = presentValue (o .settings) (o .slots)} h)
+burns t o h = rw (leb-yes {a = 1} {b = progressValue t o} h)
 
-pub rests : (t : ℕ) (o : Output) → presentValue (o .settings) (o .slots) ≡ 0 → tick t o .burning ≡ o .burning
+pub rests : (t : ℕ) (o : Output) → progressValue t o ≡ 0 → tick t o .burning ≡ o .burning
 unfolding tick fire afterEvents withBurned withBurning litMilliseconds lit if_then_else_
-rests t o h = rw (leb-no {a = 1} {b = presentValue (o .settings) (o .slots)} (omega arith)) (omega arith)
+rests t o h = rw (leb-no {a = 1} {b = progressValue t o} (omega arith)) (omega arith)
 
 -- property 0B reads the whole seconds s that have burned
 pub seconds : (t s : ℕ) (o : Output) → s * 1000 ≤ o .burning → o .burning < s * 1000 + 1000 → s ≤ 4294967295 → reads t o 0x0b ≡ Value s

@@ -107,7 +107,7 @@ progress-still t o e = rw e
 
 -- A MOVEMENT just begun, of a record that keeps the rules, if no frame comes: k milliseconds later Progress_Value is what the formula says
 module _ (t : ℕ) (o : Output) (m : Movement) (moves : o .activity ≡ Moving m) (begun : m .over ≡ t + m .length) where
-  moving-after : (k : ℕ) → k < m .length → TimerAfter (t + k) (o .timer) → After (t + k) o
+  pub moving-after : (k : ℕ) → k < m .length → TimerAfter (t + k) (o .timer) → After (t + k) o
   moving-after k h a = both-after (t + k) o a (rw moves (unfold activityDue in (omega arith)))
 
   pub moving : (k : ℕ) → k < m .length → TimerAfter (t + k) (o .timer)

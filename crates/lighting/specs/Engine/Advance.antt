@@ -8,7 +8,8 @@ use Rattle.lighting.specs.declared.Moment.{Moment}
 use Rattle.lighting.specs.declared.Moment.the-variants.{Never, At}
 use Rattle.lighting.specs.declared.Output.{Output}
 use Rattle.lighting.specs.Paper.Record.{withBurning}
-use Rattle.lighting.specs.Paper.Passing.{litMilliseconds, dueMoments, fire}
+use Rattle.lighting.specs.Paper.Passing.{dueMoments, fire}
+use Rattle.lighting.specs.Engine.Light.{litStretch}
 
 -- THE ENGINE: the next due moment, or `to` if nothing falls due before it
 unfoldable pub sooner : ℕ → Moment → ℕ
@@ -27,8 +28,11 @@ due to o = soonest to (dueMoments o)
 abbrev pub greatestCount : ℕ
 greatestCount = 18446744073709551615
 
+unfoldable pub burnedBy : ℕ → Output → Output
+burnedBy n o = withBurning o (min (o .burning + n) greatestCount)
+
 unfoldable pub withBurnedSaturating : ℕ → ℕ → Output → Output
-withBurnedSaturating from n o = withBurning o (min (o .burning + litMilliseconds from n o) greatestCount)
+withBurnedSaturating from n o = burnedBy (litStretch from n o) o
 
 unfoldable pub eventStep : ℕ → ℕ → Output → Output
 eventStep now d o = fire d (withBurnedSaturating now (d - now) o)

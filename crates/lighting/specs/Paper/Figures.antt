@@ -22,8 +22,8 @@ use Rattle.lighting.specs.declared.Property.the-variants.{BlinkEnable, B
 use Rattle.lighting.specs.declared.Output.{Output}
 
 -- an output that an operation was ordered of at t
-abbrev commandRequest : ℕ → Operation → Duration → Output → Output
-commandRequest t operation duration o = commanded t o (record { operation = operation; duration = duration })
+abbrev pub ordered : ℕ → Operation → Duration → Output → Output
+ordered t operation duration o = commanded t o (record { operation = operation; duration = duration })
 
 -- what it shows at `to`, brought there from t
 abbrev presents : ℕ → ℕ → Output → Answer
@@ -36,21 +36,21 @@ abbrev moves : ℕ → ℕ → Output → Answer
 moves t to o = Value (inProcess (advance t to o .activity))
 
 -- 50 percent in slot 16
-abbrev half : Output
+abbrev pub half : Output
 half = written 0 freshOutput 15 3276800
 
 -- figures 5 to 7: the movements that they speak of
-abbrev fadeUp : Output
-fadeUp = commandRequest 0 (FadeToOver (real 0x4248_0000) 1000) Omitted freshOutput
+abbrev pub fadeUp : Output
+fadeUp = ordered 0 (FadeToOver (real 0x4248_0000) 1000) Omitted freshOutput
 
-abbrev fadeDown : Output
-fadeDown = commandRequest 0 (FadeToOver (real 0) 1000) Omitted half
+abbrev pub fadeDown : Output
+fadeDown = ordered 0 (FadeToOver (real 0) 1000) Omitted half
 
-abbrev rampUp : Output
-rampUp = commandRequest 0 (RampToAtRate (real 0x3f80_0000) (real 0x4040_0000)) Omitted freshOutput
+abbrev pub rampUp : Output
+rampUp = ordered 0 (RampToAtRate (real 0x3f80_0000) (real 0x4040_0000)) Omitted freshOutput
 
-abbrev slowRamp : Output
-slowRamp = commandRequest 0 (RampToAtRate (real 0x42c8_0000) (real 0x3e00_0000)) Omitted freshOutput
+abbrev pub slowRamp : Output
+slowRamp = ordered 0 (RampToAtRate (real 0x42c8_0000) (real 0x3e00_0000)) Omitted freshOutput
 
 -- figure 8: 'Blink_Enable 1, B 700, D 120,000, 50 percent in slot 16, zero there at 1,000'
 abbrev warned : Output
@@ -91,10 +91,10 @@ said =
 -- TRAPS that one output shows: 'step down lighting a dark output at Min; a fade started from Present_Value instead of Progress_Value; a
 -- duration read in seconds'; and a warning without delay
 abbrev fadeTurned : Output
-fadeTurned = commandRequest 500 (FadeToOver (real 0) 1000) Omitted (advance 0 500 fadeUp)
+fadeTurned = ordered 500 (FadeToOver (real 0) 1000) Omitted (advance 0 500 fadeUp)
 
 abbrev short : Output
-short = commandRequest 0 (Goto (real 0x4248_0000)) (Lasts 100) freshOutput
+short = ordered 0 (Goto (real 0x4248_0000)) (Lasts 100) freshOutput
 
 -- 'if D is above 0, slot X empties with it', and with D = 0 it keeps its 0
 abbrev warnedBriefly : Output
@@ -102,8 +102,8 @@ warnedBriefly = written 1000 (changed (changed half BlinkEnable 1) BlinkTime 700
 
 abbrev pub trapsGiven : List Answer
 trapsGiven =
-    presents 0 0 (commandRequest 0 StepDown Omitted freshOutput)
-    ∷ presents 0 0 (commandRequest 0 StepDown Omitted half)
+    presents 0 0 (ordered 0 StepDown Omitted freshOutput)
+    ∷ presents 0 0 (ordered 0 StepDown Omitted half)
     ∷ progresses 500 500 fadeTurned
     ∷ progresses 500 1000 fadeTurned
     ∷ presents 0 99 short

@@ -19,10 +19,11 @@ use Rattle.lighting.specs.Paper.Slots.{Slots, slot6, emptied, filled}
 use Rattle.lighting.specs.Paper.Value.{lit}
 use Rattle.lighting.specs.Paper.Record.{withBurning, withDue}
 
--- 'burning time gains 1 ms if Present_Value is above zero': of the n milliseconds from a moment on, those in which the output burns.
--- While nothing falls due these are all or none, wherever they begin (`from`)
+-- 'Burning time gains a millisecond when Progress_Value is above zero' (§2 of the change requests): of the n milliseconds from a moment on, those at
+-- whose start the lamp gives light
 unfoldable pub litMilliseconds : ℕ → ℕ → Output → ℕ
-litMilliseconds from n o = if lit (o .settings) (o .slots) then n else 0
+litMilliseconds from zero o = 0
+litMilliseconds from (suc n) o = (if lit from o then 1 else 0) + litMilliseconds (suc from) n o
 
 unfoldable pub withBurned : ℕ → ℕ → Output → Output
 withBurned from n o = withBurning o (o .burning + litMilliseconds from n o)

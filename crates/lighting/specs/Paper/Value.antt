@@ -23,10 +23,6 @@ clampLit c v = if eqb v 0 then 0 else clamp c v
 unfoldable pub presentValue : Settings → Slots → ℕ
 presentValue c s = clampLit c (winningLevel (c .default) s)
 
--- whether Present_Value is above zero
-unfoldable pub lit : Settings → Slots → Bool
-lit c s = ltb 0 (presentValue c s)
-
 -- the paper's k: how many milliseconds of a movement have gone by at the moment t, its length less what is left of it
 abbrev pub elapsed : ℕ → Movement → ℕ
 elapsed t m = m .length - (m .over - t)
@@ -55,6 +51,10 @@ progressBy t v (Warned w) = v
 
 unfoldable pub progressValue : ℕ → Output → ℕ
 progressValue t o = progressBy t (presentValue (o .settings) (o .slots)) (o .activity)
+
+-- whether the lamp gives light at the moment t: 'when Progress_Value is above zero' (§2 of the change requests)
+unfoldable pub lit : ℕ → Output → Bool
+lit t o = ltb 0 (progressValue t o)
 
 -- In_Process: '1 exactly while a movement lasts, else 0'
 unfoldable pub inProcess : Activity → ℕ

@@ -56,7 +56,7 @@ frames =
     ∷ clockAt 3000
     ∷ stepDown
     ∷ asked 2 4 3000 1 0x0c
-    -- the seconds that both have burned
+    -- the seconds that both have burned: output 1 was dark in the first of its thousand milliseconds, at the beginning of its fade (§2 of the change requests)
     ∷ asked 2 5 3000 0 0x0b
     ∷ asked 2 6 3000 1 0x0b
     -- a clock that comes again, and a late one
@@ -87,7 +87,7 @@ expected =
     ∷ Done
     ∷ Value 0x4216_0000
     ∷ Value 2
-    ∷ Value 1
+    ∷ Value 0
     ∷ Done
     ∷ Refused 8
     ∷ Value 0x4248_0000
