@@ -1,16 +1,12 @@
 // The passing of time: from due moment to due moment, at most three an output and frame. Nothing here lives a millisecond by itself.
 ghost use mathlib.Core.Path.{_≡_};
-ghost use Prim.Native.Nat.{_+_, min};
-ghost use Rattle.lighting.specs.Paper.Passing.{litMilliseconds};
-ghost use Rattle.lighting.specs.Engine.Advance.{sooner, due, withBurnedSaturating, eventStep, eventSteps, advance, later};
+ghost use Prim.Native.Nat.{_+_, _-_, min};
+ghost use Rattle.lighting.specs.Engine.Advance.{sooner, due, burnedBy, withBurnedSaturating, eventStep, eventSteps, advance, later};
+ghost use Rattle.lighting.specs.Engine.Light.{litInMovement, litResting};
+ghost use Rattle.lighting.specs.Paper.Choice.{if_then_else_};
+ghost use Rattle.lighting.specs.Paper.Value.{presentValue};
 use lighting::Moment;
 use lighting::Output;
-
-fn least(a: u64, b: u64) -> u64
-    ensures { λ r. ⌜ r ≡ min a b ⌝ }
-{
-    if a < b { a } else { b }
-}
 
 // The sum, or the largest count where it does not fit.
 fn added(a: u64, b: u64) -> u64
@@ -25,19 +21,16 @@ fn added(a: u64, b: u64) -> u64
 
 // ---- burning time
 
-// Of the n milliseconds from a moment on, those in which the output burns: all or none, while nothing falls due.
-fn lit_milliseconds(from: u64, n: u64, o: Output) -> u64
-    ensures { λ r. ⌜ r ≡ litMilliseconds from n o ⌝ }
+fn burn(lit: u64, o: Output) -> Output
+    ensures { λ r. ⌜ r ≡ burnedBy lit o ⌝ }
 {
-    let c = o.settings;
-    let s = o.slots;
-    if output_value::is_lit(c, s) { n } else { 0 }
+    output_record::with_burning(o, added(o.burning, lit))
 }
 
 fn with_burned_saturating(from: u64, n: u64, o: Output) -> Output
     ensures { λ r. ⌜ r ≡ withBurnedSaturating from n o ⌝ }
 {
-    output_record::with_burning(o, added(o.burning, lit_milliseconds(from, n, o)))
+    burn(output_light::lit_stretch(from, n, o), o)
 }
 
 // ---- the next due moment, or `to` if nothing falls due before it
@@ -47,7 +40,7 @@ fn sooner(to: u64, d: Moment) -> u64
 {
     match d {
         Moment::Never => to,
-        Moment::At(at) => least(to, at),
+        Moment::At(at) => output_value::least(to, at),
     }
 }
 
@@ -64,46 +57,64 @@ fn next_due(to: u64, o: Output) -> u64
 
 // ---- three event steps, and what is left of the way
 
-fn event_step(now: u64, d: u64, o: Output) -> Output
-    ensures { λ r. ⌜ r ≡ eventStep now d o ⌝ }
+// A stretch up to d, and what falls due at its end, or nothing after the last one. One function makes every stretch: a second one would be passed the record by
+// value, which costs more than the stretch.
+fn stretch(now: u64, d: u64, fires: bool, o: Output) -> Output
+    ensures { λ r. ⌜ r ≡ (if fires then eventStep now d o else eventSteps 0 now d o) ⌝ }
 {
-    output_due::fire_at(
-        d,
-        with_burned_saturating(now, output_value::since(now, d), o),
-    )
-}
-
-pub fn no_event_step(now: u64, to: u64, o: Output) -> Output
-    ensures { λ r. ⌜ r ≡ eventSteps 0 now to o ⌝ }
-{
-    with_burned_saturating(now, output_value::since(now, to), o)
+    let burned = with_burned_saturating(now, output_value::since(now, d), o);
+    if fires {
+        output_due::fire_at(d, burned)
+    } else {
+        burned
+    }
 }
 
 fn one_event_step(now: u64, to: u64, o: Output) -> Output
     ensures { λ r. ⌜ r ≡ eventSteps 1 now to o ⌝ }
 {
     let d = next_due(to, o);
-    no_event_step(d, to, event_step(now, d, o))
+    stretch(d, to, false, stretch(now, d, true, o))
 }
 
 fn two_event_steps(now: u64, to: u64, o: Output) -> Output
     ensures { λ r. ⌜ r ≡ eventSteps 2 now to o ⌝ }
 {
     let d = next_due(to, o);
-    one_event_step(d, to, event_step(now, d, o))
+    one_event_step(d, to, stretch(now, d, true, o))
 }
 
 pub fn three_event_steps(now: u64, to: u64, o: Output) -> Output
     ensures { λ r. ⌜ r ≡ advance now to o ⌝ }
 {
     let d = next_due(to, o);
-    two_event_steps(d, to, event_step(now, d, o))
+    two_event_steps(d, to, stretch(now, d, true, o))
 }
 
-// ---- the way of most outputs at most frames: nothing falls due up to its end, and `rest` is all of it
+// ---- the way of most outputs at most frames: nothing falls due up to its end, and `rest` or `move_on` is all of it
 
 pub fn is_later(to: u64, o: Output) -> bool
     ensures { λ r. ⌜ r ≡ later to o ⌝ }
 {
     to < next_due(18446744073709551615, o)
+}
+
+// Of an output without a movement, and of one with it. Each is called in one place, so that the compiler puts it there and copies no record.
+pub fn rest(now: u64, to: u64, o: Output) -> Output
+    ensures { λ r. ⌜ r ≡ burnedBy (litResting (to - now) (presentValue (o .settings) (o .slots))) o ⌝ }
+{
+    burn(
+        output_light::lit_resting(output_value::since(now, to), o),
+        o,
+    )
+}
+
+pub fn move_on(now: u64, to: u64, o: Output) -> Output
+    ensures { λ r. ⌜ r ≡ burnedBy (litInMovement now (to - now) (o .activity)) o ⌝ }
+{
+    let a = o.activity;
+    burn(
+        output_light::lit_in_movement(now, output_value::since(now, to), a),
+        o,
+    )
 }

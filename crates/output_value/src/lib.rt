@@ -1,7 +1,7 @@
 // What an output shows: Present_Value, Progress_Value, In_Process.
 ghost use mathlib.Core.Path.{_≡_};
 ghost use Prim.Native.Nat.{_-_, _*_, _/_, _≤_, min};
-ghost use Rattle.lighting.specs.Paper.Value.{clamp, clampLit, presentValue, lit, elapsed, distanceMoved, reachedBy, reached, progressBy, progressValue, inProcess};
+ghost use Rattle.lighting.specs.Paper.Value.{clamp, clampLit, presentValue, elapsed, distanceMoved, reachedBy, reached, progressBy, progressValue, lit, inProcess};
 use lighting::Activity;
 use lighting::Movement;
 use lighting::Output;
@@ -14,6 +14,13 @@ pub fn since(a: u64, b: u64) -> u64
     ensures { λ r. ⌜ r ≡ b - a ⌝ }
 {
     if a < b { b - a } else { 0 }
+}
+
+// The lesser of two numbers of milliseconds.
+pub fn least(a: u64, b: u64) -> u64
+    ensures { λ r. ⌜ r ≡ min a b ⌝ }
+{
+    if a < b { a } else { b }
 }
 
 // ---- Present_Value
@@ -41,12 +48,6 @@ pub fn present_value(c: Settings, s: Slots) -> u32
     ensures { λ r. ⌜ r ≡ presentValue c s ⌝ }
 {
     clamp_lit(c, output_slots::winning_level(c.default, s))
-}
-
-pub fn is_lit(c: Settings, s: Slots) -> bool
-    ensures { λ r. ⌜ r ≡ lit c s ⌝ }
-{
-    0 < present_value(c, s)
 }
 
 // ---- a movement
@@ -125,6 +126,13 @@ pub fn progress_value(t: u64, o: Output) -> u32
     let s = o.slots;
     let a = o.activity;
     progress_by(t, present_value(c, s), a)
+}
+
+// Whether the lamp gives light.
+pub fn is_lit(t: u64, o: Output) -> bool
+    ensures { λ r. ⌜ r ≡ lit t o ⌝ }
+{
+    0 < progress_value(t, o)
 }
 
 pub fn in_process(a: Activity) -> u32

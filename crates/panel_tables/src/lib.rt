@@ -70,19 +70,38 @@ pub fn stations_sound(stations: &[Station]) -> bool
     true
 }
 
-// Brings one output to a moment. Where nothing falls due on the way only its burning time changes.
+// Brings one output to a moment, from due moment to due moment. A function of its own, so that the copies of a record that the compiler makes here stay out of
+// the way of most outputs (docs/DECISIONS.md, 'With and without a movement apart').
+fn step_output(outputs: &mut [Output], i: usize, from: u64, to: u64)
+    requires { ⌜ i < length (now outputs) ⌝ }
+    ensures { λ _. ⌜ now (outputs .exit) ≡ set (now (outputs .entry)) i (advance from to (getD (now (outputs .entry)) i freshOutput)) ⌝ }
+{
+    let o = outputs[i];
+    let n = output_passing::three_event_steps(from, to, o);
+    outputs[i] = n;
+}
+
+// Brings one output to a moment. Where nothing falls due on the way, only its burning time changes: by the movement, or by Present_Value alone.
 fn advance_output(outputs: &mut [Output], i: usize, from: u64, to: u64)
     requires { ⌜ i < length (now outputs) ⌝ }
     ensures { λ _. ⌜ now (outputs .exit) ≡ set (now (outputs .entry)) i (advance from to (getD (now (outputs .entry)) i freshOutput)) ⌝ }
 {
     let o = outputs[i];
+    if output_light::is_moving(o) {
+        if output_passing::is_later(to, o) {
+            let n = output_passing::move_on(from, to, o);
+            outputs[i] = n;
+            return;
+        }
+        step_output(outputs, i, from, to);
+        return;
+    }
     if output_passing::is_later(to, o) {
-        let n = output_passing::no_event_step(from, to, o);
+        let n = output_passing::rest(from, to, o);
         outputs[i] = n;
         return;
     }
-    let n = output_passing::three_event_steps(from, to, o);
-    outputs[i] = n;
+    step_output(outputs, i, from, to);
 }
 
 // Brings every output to a moment. While time stands nothing falls due, and no record is written.

@@ -143,7 +143,7 @@ report-length i t o =
     simp length-append (omega (
       arith,
       aligned-length i,
-      light-length (lit (o .settings) (o .slots)),
+      light-length (lit t o),
       percent-length (presentValue (o .settings) (o .slots)),
       percent-length (progressValue t o),
       lasting-length (o .burning),

@@ -82,9 +82,10 @@ unfoldable pub timerText : Timer → Bytes
 timerText Off = []
 timerText (Running slot due) = until (text "  duration until ") due
 
--- THE LINE of the output i at the time t: output, lit or dark, present and progress level, burning time, last command, what is under way
-unfoldable pub lightFields : ℕ → Output → Bytes
-lightFields i o = gap ++ (aligned i ++ (gap ++ light (lit (o .settings) (o .slots))))
+-- THE LINE of the output i at the time t: output, whether its lamp gives light (by Progress_Value: §2 of the change requests), present and progress
+-- level, burning time, last command, what is under way
+unfoldable pub lightFields : ℕ → ℕ → Output → Bytes
+lightFields i t o = gap ++ (aligned i ++ (gap ++ light (lit t o)))
 
 unfoldable pub levelFields : ℕ → Output → Bytes
 levelFields t o = gap ++ (percent (presentValue (o .settings) (o .slots)) ++ (gap ++ (gap ++ percent (progressValue t o))))
@@ -96,7 +97,7 @@ unfoldable pub wayFields : Output → Bytes
 wayFields o = activityText (o .activity) ++ (timerText (o .timer) ++ newline)
 
 unfoldable pub reportLine : ℕ → ℕ → Output → Bytes
-reportLine i t o = lightFields i o ++ (levelFields t o ++ (timeFields o ++ wayFields o))
+reportLine i t o = lightFields i t o ++ (levelFields t o ++ (timeFields o ++ wayFields o))
 
 -- the lines above: the panel's time, and the heads of the columns
 abbrev pub heads : Bytes

@@ -153,12 +153,10 @@ fn put_timer(page: &mut [u8], at: usize, t: Timer) -> usize
 
 // ---- the line of an output
 
-fn put_light_fields(page: &mut [u8], at: usize, i: u64, o: Output) -> usize
-    ensures { λ r. ⌜ Wrote (now (page .entry)) at (lightFields i o) (now (page .exit)) r ⌝ }
+fn put_light_fields(page: &mut [u8], at: usize, i: u64, t: u64, o: Output) -> usize
+    ensures { λ r. ⌜ Wrote (now (page .entry)) at (lightFields i t o) (now (page .exit)) r ⌝ }
 {
-    let c = o.settings;
-    let s = o.slots;
-    let b = output_value::is_lit(c, s);
+    let b = output_value::is_lit(t, o);
     let left = put_all(page, at, b"  ");
     let number = put_aligned(page, left, i);
     let middle = put_all(page, number, b"  ");
@@ -202,7 +200,7 @@ fn put_way_fields(page: &mut [u8], at: usize, o: Output) -> usize
 pub fn put_report_line(page: &mut [u8], at: usize, i: u64, t: u64, o: Output) -> usize
     ensures { λ r. ⌜ Wrote (now (page .entry)) at (reportLine i t o) (now (page .exit)) r ⌝ }
 {
-    let light = put_light_fields(page, at, i, o);
+    let light = put_light_fields(page, at, i, t, o);
     let levels = put_level_fields(page, light, t, o);
     let times = put_time_fields(page, levels, o);
     put_way_fields(page, times, o)

@@ -1,7 +1,7 @@
 use mathlib.Core.Path.{sym}
 use Prim.Native.Nat.{_*_, _/_, _≤_}
 use native.Mathlib.Nat.{div-zero}
-use Rattle.output_value.proofs.Way.{share-most}
+use Rattle.lighting.proofs.Way.{share-most}
 use Rattle.lighting.proofs.Product.{below}
 use borrow.Author.Needs.{needs}
 use Rattle.output_value.proofs.fade_distance.Statement.{statement}

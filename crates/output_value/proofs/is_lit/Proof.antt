@@ -4,12 +4,12 @@ use borrow.Author.Needs.{needs}
 use Rattle.output_value.proofs.is_lit.Statement.{statement}
 use Rattle.output_value.proofs.is_lit.Tie as tie
 
-present-value-requires : tie.Need-present-value-requires
-present-value-requires c κs = search needs
+progress-value-requires : tie.Need-progress-value-requires
+progress-value-requires c κs = search needs
 
 returns : tie.Need-returns
 unfolding lit
-returns c = simp (c .present-value .ensures)
+returns c = simp (c .progress-value .ensures)
 
 pub is-lit-spec : {M : Type 1} → statement M
-is-lit-spec = tie.close (tie.spec present-value-requires returns)
+is-lit-spec = tie.close (tie.spec progress-value-requires returns)

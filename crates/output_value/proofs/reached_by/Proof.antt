@@ -1,5 +1,5 @@
 use Prim.Native.Nat.{_-_, _≤_}
-use Rattle.output_value.proofs.Way.{distanceMoved-most}
+use Rattle.lighting.proofs.Way.{distanceMoved-most}
 use Rattle.lighting.proofs.Choosing.{ifs}
 use Rattle.lighting.specs.Paper.Value.{reachedBy}
 use borrow.Author.Needs.{needs}

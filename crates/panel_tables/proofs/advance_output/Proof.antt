@@ -4,7 +4,7 @@ use mathlib.Core.Path.{ap}
 use lib.ListN.{set, getD}
 use Rattle.lighting.specs.declared.Output.{Output}
 use Rattle.lighting.specs.Paper.Fresh.{freshOutput}
-use Rattle.lighting.proofs.Quiet.{advance-later}
+use Rattle.lighting.proofs.Quiet.{advance-moving, advance-resting}
 use borrow.Author.Needs.{needs}
 use Rattle.panel_tables.proofs.advance_output.Statement.{statement}
 use Rattle.panel_tables.proofs.advance_output.Proof.Tie as tie
@@ -17,11 +17,14 @@ mul-o c = search needs
 slice-copy-out-o : tie.Need-slice-copy-out-o
 slice-copy-out-o c = search needs
 
+is-moving-requires : tie.Need-is-moving-requires
+is-moving-requires c κs = search needs
+
 is-later-requires : tie.Need-is-later-requires
 is-later-requires c κs = search needs
 
-no-event-step-requires : tie.Need-no-event-step-requires
-no-event-step-requires c κs = search needs
+move-on-requires : tie.Need-move-on-requires
+move-on-requires c κs = search needs
 
 mul-n : tie.Need-mul-n
 mul-n c = search needs
@@ -34,14 +37,28 @@ same-length c = search needs
 
 returns : tie.Need-returns
 returns c =
-    let a = c .before .before .before .before .args in
+    let a = c .before .before .before .before .before .before .args in
     let o = getD (a .outputs .now) (a .i) freshOutput in
+    let later = c .before .before .is-later in
+    let moves = c .before .before .before .before .is-moving in
     ap
     (λ (x : Output). set (a .outputs .now) (a .i) x)
-    (advance-later (a .from) (a .to) o (c .no-event-step .result) (c .before .before .is-later .result) (c .before .before .is-later .ensures) (c .before .if1 .taken) (c .no-event-step .ensures))
+    (advance-moving (a .from) (a .to) o (c .move-on .result) (later .result) (moves .result) (later .ensures) (c .before .if2 .taken) (moves .ensures) (c .before .before .before .if1 .taken) (c .move-on .ensures))
 
-three-event-steps-requires : tie.Need-three-event-steps-requires
-three-event-steps-requires c κs = search needs
+step-output-requires : tie.Need-step-output-requires
+step-output-requires c κs = search needs
+
+same-length-2 : tie.Need-same-length-2
+same-length-2 c = search needs
+
+returns-2 : tie.Need-returns-2
+returns-2 c = search needs
+
+is-later-requires-2 : tie.Need-is-later-requires-2
+is-later-requires-2 c κs = search needs
+
+rest-requires : tie.Need-rest-requires
+rest-requires c κs = search needs
 
 mul-n-2 : tie.Need-mul-n-2
 mul-n-2 c = search needs
@@ -49,11 +66,27 @@ mul-n-2 c = search needs
 slice-set-from-n-2 : tie.Need-slice-set-from-n-2
 slice-set-from-n-2 c = search needs
 
-same-length-2 : tie.Need-same-length-2
-same-length-2 c = search needs
+same-length-3 : tie.Need-same-length-3
+same-length-3 c = search needs
 
-returns-2 : tie.Need-returns-2
-returns-2 c = simp (c .three-event-steps .ensures)
+returns-3 : tie.Need-returns-3
+returns-3 c =
+    let a = c .before .before .before .before .before .before .args in
+    let o = getD (a .outputs .now) (a .i) freshOutput in
+    let later = c .before .before .is-later2 in
+    let moves = c .before .before .before .before .is-moving in
+    ap
+    (λ (x : Output). set (a .outputs .now) (a .i) x)
+    (advance-resting (a .from) (a .to) o (c .rest .result) (later .result) (moves .result) (later .ensures) (c .before .if3 .taken) (moves .ensures) (c .before .before .before .if1 .left) (c .rest .ensures))
+
+step-output-requires-2 : tie.Need-step-output-requires-2
+step-output-requires-2 c κs = search needs
+
+same-length-4 : tie.Need-same-length-4
+same-length-4 c = search needs
+
+returns-4 : tie.Need-returns-4
+returns-4 c = search needs
 
 pub advance-output-spec : {M : Type 1} → statement M
 advance-output-spec =
@@ -61,14 +94,22 @@ advance-output-spec =
     (tie.spec
     mul-o
     slice-copy-out-o
+    is-moving-requires
     is-later-requires
-    no-event-step-requires
+    move-on-requires
     mul-n
     slice-set-from-n
     same-length
     returns
-    three-event-steps-requires
+    step-output-requires
+    same-length-2
+    returns-2
+    is-later-requires-2
+    rest-requires
     mul-n-2
     slice-set-from-n-2
-    same-length-2
-    returns-2)
+    same-length-3
+    returns-3
+    step-output-requires-2
+    same-length-4
+    returns-4)

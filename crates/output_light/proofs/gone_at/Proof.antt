@@ -1,0 +1,22 @@
+use Rattle.lighting.proofs.Choosing.{ifs}
+use Rattle.lighting.specs.Engine.Light.{goneAt}
+use borrow.Author.Needs.{needs}
+use Rattle.output_light.proofs.gone_at.Statement.{statement}
+use Rattle.output_light.proofs.gone_at.Tie as tie
+
+last-short-requires : tie.Need-last-short-requires
+last-short-requires c κs = search needs
+
+moment-after-requires : tie.Need-moment-after-requires
+moment-after-requires c κs = search needs
+
+returns : tie.Need-returns
+unfolding goneAt
+returns c = search (needs, ifs)
+
+returns-2 : tie.Need-returns-2
+unfolding goneAt
+returns-2 c = search (needs, ifs, ← c .before .last-short .ensures)
+
+pub gone-at-spec : {M : Type 1} → statement M
+gone-at-spec = tie.close (tie.spec last-short-requires moment-after-requires returns returns-2)

@@ -1,0 +1,22 @@
+use Rattle.lighting.proofs.Choosing.{ifs}
+use Rattle.lighting.specs.Engine.Light.{litFromZero}
+use borrow.Author.Needs.{needs}
+use Rattle.output_light.proofs.lit_from_zero.Statement.{statement}
+use Rattle.output_light.proofs.lit_from_zero.Tie as tie
+
+gone-at-requires : tie.Need-gone-at-requires
+gone-at-requires c κs = search needs
+
+count-since-requires : tie.Need-count-since-requires
+count-since-requires c κs = search needs
+
+returns : tie.Need-returns
+unfolding litFromZero
+returns c = search (needs, ifs)
+
+returns-2 : tie.Need-returns-2
+unfolding litFromZero
+returns-2 c = search (needs, ifs, ← c .before .gone-at .ensures)
+
+pub lit-from-zero-spec : {M : Type 1} → statement M
+lit-from-zero-spec = tie.close (tie.spec gone-at-requires count-since-requires returns returns-2)

@@ -1,0 +1,25 @@
+use Rattle.lighting.proofs.Choosing.{ifs}
+use Rattle.lighting.specs.Engine.Advance.{eventStep, eventSteps}
+use borrow.Author.Needs.{needs}
+use Rattle.output_passing.proofs.stretch.Statement.{statement}
+use Rattle.output_passing.proofs.stretch.Tie as tie
+
+since-requires : tie.Need-since-requires
+since-requires c κs = search needs
+
+with-burned-saturating-requires : tie.Need-with-burned-saturating-requires
+with-burned-saturating-requires c κs = search needs
+
+fire-at-requires : tie.Need-fire-at-requires
+fire-at-requires c κs = search needs
+
+returns : tie.Need-returns
+unfolding eventStep
+returns c = search (needs, ifs, ← c .before .before .with-burned-saturating .ensures, ← c .before .before .before .since .ensures)
+
+returns-2 : tie.Need-returns-2
+unfolding eventSteps
+returns-2 c = search (needs, ifs, ← c .before .before .since .ensures)
+
+pub stretch-spec : {M : Type 1} → statement M
+stretch-spec = tie.close (tie.spec since-requires with-burned-saturating-requires fire-at-requires returns returns-2)
