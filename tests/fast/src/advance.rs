@@ -7,13 +7,13 @@ impl Output {
     pub fn advance(&mut self, from: u64, to: u64) {
         let mut now = from;
         while let Some(due) = self.next_due(now).filter(|due| *due <= to) {
-            self.burn(due - now);
+            self.burn(now, due);
             now = due;
             self.pass_duration(now);
             self.pass_warning(now);
             self.pass_movement(now);
         }
-        self.burn(to - now);
+        self.burn(now, to);
     }
 
     /// The next moment after `now` at which something happens by itself.
@@ -28,12 +28,6 @@ impl Output {
             }
         });
         [duration, movement, warning].into_iter().flatten().min()
-    }
-
-    fn burn(&mut self, milliseconds: u64) {
-        if self.present_value() > 0 {
-            self.burning += milliseconds;
-        }
     }
 
     fn pass_duration(&mut self, now: u64) {

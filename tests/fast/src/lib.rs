@@ -8,6 +8,7 @@ pub mod answer;
 mod command;
 pub mod frame;
 pub mod level;
+mod light;
 pub mod output;
 pub mod panel;
 pub mod property;

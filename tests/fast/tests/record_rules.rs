@@ -119,6 +119,12 @@ fn movements() {
     refused(|output| move_slot_eight(output, |movement| movement.length = 0));
     refused(|output| move_slot_eight(output, |movement| movement.length = 100));
     refused(|output| move_slot_eight(output, |movement| movement.length = 86_400_001));
+    // No rule speaks of the rate, or asks that a movement goes anywhere.
+    taken(|output| move_slot_eight(output, |movement| movement.from = movement.to));
+    for units_per_second in [0, 1, u32::MAX] {
+        let pace = Pace::Ramp { units_per_second };
+        taken(|output| move_slot_eight(output, |movement| movement.pace = pace));
+    }
     refused(|output| {
         move_slot_eight(output, |movement| movement.owner = 6);
         warn_at_slot_nine(output, |warning| warning.level = 0);

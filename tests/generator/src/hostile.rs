@@ -46,7 +46,7 @@ impl Generator {
         };
         let mut bytes = self.frame_of(&Planned {
             output,
-            body,
+            body: Some(body),
             when: When::Whenever,
         });
         self.spoil(&mut bytes);

@@ -22,8 +22,10 @@ pub struct List {
 /// A frame to come; head and time are made when its turn is there.
 #[derive(Clone, Debug)]
 pub struct Planned {
+    /// The one that the time is aimed at, of a clock too.
     pub output: u8,
-    pub body: Body,
+    /// Nothing for a clock.
+    pub body: Option<Body>,
     pub when: When,
 }
 
@@ -137,8 +139,11 @@ impl Generator {
             when => when,
         };
         let time = self.next_time(planned.output, when);
+        let Some(body) = &planned.body else {
+            return clock(time);
+        };
         let (station, number) = self.station_and_number();
-        let body = self.perhaps_tagged(&planned.body);
+        let body = self.perhaps_tagged(body);
         body.bytes(Head {
             station,
             number,
@@ -148,6 +153,12 @@ impl Generator {
     }
 
     pub(crate) fn plan(&mut self, output: u8, body: Body, when: When) {
+        let body = Some(body);
+        self.plan.push_back(Planned { output, body, when });
+    }
+
+    pub(crate) fn plan_clock(&mut self, output: u8, when: When) {
+        let body = None;
         self.plan.push_back(Planned { output, body, when });
     }
 

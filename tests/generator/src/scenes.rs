@@ -59,13 +59,14 @@ impl Generator {
             return;
         }
         match self.random.below(1_000) {
-            0..=279 => self.plan_warning(output),
-            280..=479 => self.plan_movement(output),
-            480..=599 => self.plan_command_of_rank(output, When::Whenever),
-            600..=679 => self.plan_slot_of_rank(output, When::Whenever),
-            680..=681 => self.plan_calm_and_great_jump(),
-            682..=831 => self.plan_sentence(output),
-            832..=879 => self.plan_tags(output),
+            0..=249 => self.plan_warning(output),
+            250..=429 => self.plan_movement(output),
+            430..=539 => self.plan_command_of_rank(output, When::Whenever),
+            540..=619 => self.plan_slot_of_rank(output, When::Whenever),
+            620..=621 => self.plan_calm_and_great_jump(),
+            622..=771 => self.plan_sentence(output),
+            772..=819 => self.plan_tags(output),
+            820..=899 => self.plan_light(output),
             _ => self.plan_anything(output, When::Whenever),
         }
     }
@@ -192,7 +193,12 @@ impl Generator {
     /// emptied.
     fn plan_slot_of_rank(&mut self, output: u8, when: When) {
         let priority = self.priority_by_rank(output);
-        let body = match self.random.below(3) {
+        let body = self.some_slot_body(priority);
+        self.plan(output, body, when);
+    }
+
+    pub(crate) fn some_slot_body(&mut self, priority: u8) -> Body {
+        match self.random.below(3) {
             0 => Body::Write {
                 priority,
                 bits: values::zero(&mut self.random),
@@ -202,8 +208,7 @@ impl Generator {
                 bits: values::lit_level(&mut self.random),
             },
             _ => Body::Empty { priority },
-        };
-        self.plan(output, body, when);
+        }
     }
 
     fn any_priority(&mut self) -> u8 {
@@ -240,7 +245,10 @@ impl Generator {
 
     pub(crate) fn any_property_write(&mut self, output: u8) -> Body {
         let property = match self.random.below(20) {
-            0 => self.random.pick(&[0x00, 0x15, 0x20, 0x31, 0xFF]),
+            // Unknown ones, and the one that kind 02 writes.
+            0 => self
+                .random
+                .pick(&[0x00, 0x15, 0x20, 0x31, 0xFF, PRESENT_VALUE]),
             1 => self.random.between(0x0C, 0x30) as u8,
             2 => self.random.bits() as u8,
             3..=6 => self.random.pick(&[MINIMUM, MAXIMUM]),

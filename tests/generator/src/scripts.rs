@@ -26,7 +26,7 @@ impl Generator {
     }
 
     /// Mostly without the write if the property reads so already.
-    fn plan_setting(&mut self, output: u8, property: u8, value: u32) {
+    pub(crate) fn plan_setting(&mut self, output: u8, property: u8, value: u32) {
         let already = self.output(output).read_property(property) == Answer::Value(value);
         if !already || self.random.chance(5) {
             self.plan_property(output, property, value);

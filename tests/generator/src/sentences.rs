@@ -11,8 +11,8 @@ use crate::scripts::ABSENT;
 use crate::timing::When;
 use crate::values;
 
-const ONE_PERCENT: u32 = 0x3F80_0000;
-const HUNDRED_PERCENT: u32 = 0x42C8_0000;
+pub(crate) const ONE_PERCENT: u32 = 0x3F80_0000;
+pub(crate) const HUNDRED_PERCENT: u32 = 0x42C8_0000;
 
 /// Two edges and what lies just below and above them, in units or in REALs.
 fn beside(edges: [u32; 2]) -> Vec<u32> {
@@ -21,7 +21,7 @@ fn beside(edges: [u32; 2]) -> Vec<u32> {
 
 impl Generator {
     pub(crate) fn plan_sentence(&mut self, output: u8) {
-        match self.random.below(11) {
+        match self.random.below(13) {
             0 => self.plan_pace_setting_in_movement(output),
             1 => self.plan_refused_bound_in_movement(output),
             2 => self.plan_bound_before_the_turn(output),
@@ -32,11 +32,12 @@ impl Generator {
             7 => self.plan_default_out_of_range(output),
             8 => self.plan_two_bad_fields(output),
             9 => self.plan_delay_in_warning(output),
+            10 => self.plan_step_out_of_range(output),
             _ => self.plan_property_edge(output),
         }
     }
 
-    fn plan_read(&mut self, output: u8, property: u8, when: When) {
+    pub(crate) fn plan_read(&mut self, output: u8, property: u8, when: When) {
         self.plan(output, Body::Read { property }, when);
     }
 
@@ -114,6 +115,22 @@ impl Generator {
         );
         self.plan_read(output, PROGRESS_VALUE, When::Now);
         self.plan_property(output, MINIMUM, ONE_PERCENT);
+        self.plan_read(output, PRESENT_VALUE, When::Now);
+    }
+
+    /// Steps up and down are brought into Min..Max.
+    fn plan_step_out_of_range(&mut self, output: u8) {
+        self.plan_property(output, MAXIMUM, 80.0_f32.to_bits());
+        self.plan_property(output, MINIMUM, 20.0_f32.to_bits());
+        self.plan_winning_priority(output, When::Now);
+        let (level, kind) = self
+            .random
+            .pick(&[(75.0_f32, STEP_UP_BY), (25.0_f32, STEP_DOWN_BY)]);
+        self.plan_command(output, GOTO, &[level.to_bits(), ABSENT]);
+        self.plan_command(output, kind, &[10.0_f32.to_bits(), ABSENT]);
+        // What the slot holds shows once more is shown.
+        self.plan_property(output, MINIMUM, ONE_PERCENT);
+        self.plan_property(output, MAXIMUM, HUNDRED_PERCENT);
         self.plan_read(output, PRESENT_VALUE, When::Now);
     }
 

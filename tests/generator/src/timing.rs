@@ -1,6 +1,8 @@
-//! When the next frame comes: now, a little later, or aimed at a due moment.
+//! When the next frame comes: now, a little later, or aimed at a due moment or
+//! at the moment at which a movement's light begins or ends.
 
 use plain::frame::LAST_TIME;
+use plain::movement::Movement;
 use plain::Output;
 
 use crate::list::Generator;
@@ -13,6 +15,14 @@ pub enum When {
     Due,
     /// After so many milliseconds, if the budget allows them to be lived.
     After(u64),
+    /// So many milliseconds after the light of the output's movement begins or
+    /// ends (§2), or before it.
+    Light(i64),
+    /// When the burning time of an output that rests is a whole number of
+    /// seconds, or one millisecond before: there a wrong millisecond is read.
+    WholeSecond {
+        before: bool,
+    },
     Whenever,
 }
 
@@ -39,6 +49,21 @@ fn pending(output: &Output) -> u64 {
     due_moments(output).into_iter().max().unwrap_or(0)
 }
 
+/// Milliseconds from a movement's start to the first moment at which it is lit
+/// though it was dark, or dark though it was lit; else to its end.
+fn light_turns(movement: &Movement) -> u64 {
+    let lit = |gone| movement.level_after(gone) > 0;
+    let (mut before, mut turned) = (0, movement.length);
+    while turned - before > 1 {
+        let middle = (before + turned) / 2;
+        match lit(middle) == lit(0) {
+            true => before = middle,
+            false => turned = middle,
+        }
+    }
+    turned
+}
+
 impl Generator {
     /// How many milliseconds the outputs would have to live one by one.
     fn cost(&self, jump: u64) -> u64 {
@@ -59,7 +84,12 @@ impl Generator {
     }
 
     fn due_jump(&mut self, output: u8) -> u64 {
-        let moments = due_moments(&self.panel.outputs()[usize::from(output)]);
+        let output = &self.panel.outputs()[usize::from(output)];
+        let mut moments = due_moments(output);
+        if let Some(movement) = &output.movement {
+            let turns = light_turns(movement);
+            moments.extend((turns > movement.gone).then(|| turns - movement.gone));
+        }
         if moments.is_empty() {
             return self.random.below(50);
         }
@@ -73,12 +103,29 @@ impl Generator {
         }
     }
 
+    /// Nothing if the moment is past.
+    fn light_jump(&self, output: u8, offset: i64) -> Option<u64> {
+        let movement = self.output(output).movement.as_ref()?;
+        light_turns(movement)
+            .checked_add_signed(offset)?
+            .checked_sub(movement.gone)
+    }
+
+    /// Nothing if the output does not burn, or not only.
+    fn second_jump(&self, output: u8, before: bool) -> Option<u64> {
+        let output = self.output(output);
+        let burns = output.nothing_pending() && output.present_value() > 0;
+        burns.then(|| 1_000 - output.burning % 1_000 - u64::from(before))
+    }
+
     /// The time of the next frame.
     pub fn next_time(&mut self, output: u8, when: When) -> u64 {
         let jump = match when {
             When::Now => 0,
             When::Due => self.due_jump(output),
             When::After(jump) => jump,
+            When::Light(offset) => self.light_jump(output, offset).unwrap_or(0),
+            When::WholeSecond { before } => self.second_jump(output, before).unwrap_or(0),
             When::Whenever => match self.random.below(1_000) {
                 0..=399 => 0,
                 400..=499 => 1,

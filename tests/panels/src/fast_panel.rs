@@ -55,6 +55,37 @@ macro_rules! face_of_fast {
                     tagged: output.last.tagged().bytes().to_vec(),
                 }
             }
+
+            /// Burning time after each step of a clock, of a table that is lent
+            /// with such a movement in it.
+            pub fn burning_of_lent(
+                lent: &$crate::lent::LentMovement,
+                steps: &[u64],
+            ) -> Vec<u64> {
+                use $source::output::{Movement, Pace};
+                let mut panel = <$name as $crate::Panel>::start(1);
+                panel.time = lent.gone.into();
+                panel.outputs[0].store($crate::lent::OWNER, lent.to);
+                panel.outputs[0].movement = Some(Movement {
+                    owner: $crate::lent::OWNER,
+                    from: lent.from,
+                    to: lent.to,
+                    began: 0,
+                    length: lent.length,
+                    pace: match lent.rate {
+                        Some(units_per_second) => Pace::Ramp { units_per_second },
+                        None => Pace::Fade,
+                    },
+                });
+                let go = |step: &u64| {
+                    let mut clock = (panel.time + step).to_be_bytes()[1..].to_vec();
+                    clock[0] = 0x01;
+                    let answer = $crate::Panel::frame(&mut panel, &clock);
+                    assert_eq!(answer, $crate::Answer::Done, "{lent:?}");
+                    panel.outputs[0].burning
+                };
+                steps.iter().map(go).collect()
+            }
         }
 
         impl From<$source::Answer> for $crate::Answer {

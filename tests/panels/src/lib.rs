@@ -4,6 +4,7 @@
 pub mod answer;
 pub mod fast_panel;
 pub mod found;
+pub mod lent;
 pub mod list_text;
 pub mod panel;
 pub mod plain_panel;

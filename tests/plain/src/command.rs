@@ -148,6 +148,7 @@ impl Output {
             }
             return;
         }
+        self.note_retarget(kind, movement.as_ref());
         match &movement {
             Some(movement) => self.met.push(Event::MovementStarted {
                 ramp: movement.is_ramp(),

@@ -7,6 +7,7 @@ use std::collections::BTreeMap;
 use std::fmt;
 
 use crate::answer::Answer;
+use crate::light_event::LightEvent;
 use crate::tag_event::TaggedEvent;
 
 /// A byte that the paper writes in hexadecimal.
@@ -253,6 +254,8 @@ pub enum Event {
 
     /// Tagged commands, which are not counted as `Command` and `Copy`.
     Tagged(TaggedEvent),
+    /// Where the light of a movement begins or ends.
+    Light(LightEvent),
 
     // Commands.
     Command {

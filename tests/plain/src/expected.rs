@@ -5,6 +5,7 @@ use crate::frame::{
     ALL_COMMANDS, ALL_KINDS, CLOCK, DARKENING, EMPTY_A_SLOT, FADE_TO, GOTO, READ_PROPERTY,
     TAGGED_COMMAND, WRITE_PRESENT_VALUE, WRITE_PROPERTY,
 };
+use crate::light_expected;
 use crate::settings::*;
 use crate::tag_event;
 
@@ -20,6 +21,7 @@ pub fn expected() -> Vec<Event> {
     duration_events(&mut events);
     warning_events(&mut events);
     events.extend(tag_event::expected().into_iter().map(Event::Tagged));
+    events.extend(light_expected::expected().into_iter().map(Event::Light));
     events
 }
 

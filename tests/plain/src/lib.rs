@@ -1,5 +1,5 @@
-//! The plain panel of document 01, with §1 of document 02: outputs and a time,
-//! no stations.
+//! The plain panel of document 01, with §1 and §2 of document 02: outputs and a
+//! time, no stations.
 //!
 //! It is written to be read beside the paper, not to be quick. It lives every
 //! millisecond in the paper's order, and it decides what a first arrival is
@@ -11,6 +11,8 @@ pub mod event;
 pub mod expected;
 pub mod frame;
 pub mod last_command;
+pub mod light_event;
+pub mod light_expected;
 pub mod movement;
 pub mod output;
 pub mod panel;

@@ -55,13 +55,11 @@ impl Movement {
 
     /// "k ms later, s plus or minus floor(|g - s| × k / L)"; "ramp at R units a
     /// second: floor(R × k / 1,000), stopping at g".
-    fn level_after_gone(&self) -> u32 {
+    pub fn level_after(&self, gone: u64) -> u32 {
         let way = u64::from(self.from.abs_diff(self.to));
         let gone_way = match self.pace {
-            Pace::Fade => way * self.gone / self.length,
-            Pace::Ramp { units_a_second } => {
-                (u64::from(units_a_second) * self.gone / 1_000).min(way)
-            }
+            Pace::Fade => way * gone / self.length,
+            Pace::Ramp { units_a_second } => (u64::from(units_a_second) * gone / 1_000).min(way),
         } as u32;
         if self.to > self.from {
             self.from + gone_way
@@ -85,7 +83,7 @@ impl Output {
     pub fn pass_movement(&mut self) {
         if let Some(movement) = &mut self.movement {
             movement.gone += 1;
-            movement.reached = movement.level_after_gone();
+            movement.reached = movement.level_after(movement.gone);
             if movement.gone == movement.length {
                 self.met.push(Event::MovementRanOut {
                     ramp: movement.is_ramp(),

@@ -29,7 +29,7 @@ pub struct Output {
     pub warning: Option<Warning>,
     pub duration: Option<RunningDuration>,
     pub last: LastCommand,
-    /// Milliseconds with Present_Value above zero.
+    /// Milliseconds with Progress_Value above zero (§2).
     pub burning: u64,
     /// What was met since the panel last collected it. It decides nothing.
     pub met: Vec<Event>,

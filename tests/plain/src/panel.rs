@@ -186,6 +186,7 @@ impl Panel {
         self.step_to(time);
         let kind = bytes[0];
         let output = &mut self.outputs[output];
+        let act_in_light = output.act_in_light(bytes);
         let answer = match kind {
             frame::WRITE_PRESENT_VALUE => {
                 output.write_present_value(frame::byte_field(bytes), frame::value_field(bytes))
@@ -203,6 +204,9 @@ impl Panel {
             frame::TAGGED_COMMAND => output.tagged_command(bytes),
             _ => output.command(bytes),
         };
+        if let (Some(event), false) = (act_in_light, matches!(answer, Answer::Refused(_))) {
+            output.met.push(Event::Light(event));
+        }
         self.tally.count(Event::FirstArrival {
             kind: kind.into(),
             answer: answer.into(),

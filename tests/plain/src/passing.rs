@@ -12,14 +12,20 @@ impl Output {
     /// burning time, and the rest is added in one go: a jump of 2^47 ms cannot
     /// be lived. Nothing else is cut short.
     pub fn pass(&mut self, milliseconds: u64) {
+        let begins = self.way_and_place();
+        let mut moving = 0;
         for lived in 0..milliseconds {
             if self.nothing_pending() {
-                if self.present_value() > 0 {
+                if self.progress_value() > 0 {
                     self.burning += milliseconds - lived;
                 }
-                return;
+                break;
             }
+            moving += u64::from(self.movement.is_some());
             self.pass_one_millisecond();
+        }
+        if let Some(begins) = begins.filter(|_| milliseconds > 0) {
+            self.note_stretch(begins, moving == milliseconds);
         }
     }
 
@@ -27,11 +33,12 @@ impl Output {
         self.movement.is_none() && self.warning.is_none() && self.duration.is_none()
     }
 
-    /// "Burning time gains 1 ms if Present_Value is above zero; then time is
-    /// t + 1; then a due duration empties its slot, then the warning's slots
-    /// are set, then Progress_Value by the movement's formula."
+    /// §2: "burning time gains a millisecond when Progress_Value is above
+    /// zero"; "then time is t + 1; then a due duration empties its slot, then
+    /// the warning's slots are set, then Progress_Value by the movement's
+    /// formula."
     fn pass_one_millisecond(&mut self) {
-        if self.present_value() > 0 {
+        if self.progress_value() > 0 {
             self.burning += 1;
         }
         // The time itself is the panel's; what is counted here is how much of
@@ -67,6 +74,7 @@ impl Output {
     /// millisecond.
     fn note_firing(&mut self, slot: u8) {
         let own_movement = self.owns_movement(slot);
+        self.note_firing_in_light(own_movement);
         let mut coincidence = None;
         let fired_in = if let Some(movement) = &self.movement {
             if movement.gone + 1 == movement.length {

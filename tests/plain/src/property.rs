@@ -170,6 +170,9 @@ impl Output {
         if property == ELAPSED_ACTIVE_TIME && answer == Answer::Value(u32::MAX) {
             self.met.push(Event::ElapsedActiveTimeReadAtMost);
         }
+        if property == ELAPSED_ACTIVE_TIME {
+            self.note_elapsed_reading();
+        }
         let below_one_percent = 1..real::ONE_PERCENT;
         if property == PROGRESS_VALUE && below_one_percent.contains(&self.progress_value()) {
             self.met.push(Event::ProgressReadBelowOnePercent);
