@@ -26,7 +26,9 @@ withBurnedSaturating-after t from n o a = record { all = a .all }
 -- no more burning in no time
 withBurnedSaturating-none : (t : ℕ) (o : Output) → o .burning ≤ greatestCount → withBurnedSaturating t 0 o ≡ o
 unfolding withBurnedSaturating burnedBy withBurning
-withBurnedSaturating-none t o h = let e : min (o .burning + litStretch t 0 o) greatestCount ≡ o .burning = omega (arith, counted t 0 o, litMilliseconds-le t 0 o) in rw e
+withBurnedSaturating-none t o h =
+    let e : min (o .burning + litStretch t 0 o) greatestCount ≡ o .burning = omega (arith, counted t 0 o, litMilliseconds-le t 0 o) in
+    rw e
 
 withBurnedSaturating-top : (from n : ℕ) (o : Output) → withBurnedSaturating from n o .burning ≤ greatestCount
 unfolding withBurnedSaturating burnedBy withBurning
@@ -52,22 +54,18 @@ advance-burned : (now to : ℕ) (o : Output) → later to o ≡ true → advance
 unfolding advance withBurnedSaturating
 advance-burned now to o h = eventSteps-later 3 now to o (later-after to o h)
 
--- and what burns is counted by the movement, or by Present_Value alone
-stretch-moving : (from n : ℕ) (o : Output) → eqb (inProcess (o .activity)) 1 ≡ true → litStretch from n o ≡ litInMovement from n (o .activity)
+-- in the form in which code cites it: f is what the test said, x what is counted, r what was made of it
+pub advance-later : (now to x : ℕ) (o r : Output) (f : Bool) → f ≡ later to o → f ≡ true → litStretch now (to - now) o ≡ x
+    → r ≡ burnedBy x o → r ≡ advance now to o
+advance-later now to x o r f e t c h = h ∙ ap (λ (n : ℕ). burnedBy n o) (sym c) ∙ sym (advance-burned now to o (sym e ∙ t))
+
+-- and what is counted: by the movement, or by Present_Value alone. g is whether the output moves
+pub stretch-moving : (from n : ℕ) (o : Output) (g : Bool) → g ≡ eqb (inProcess (o .activity)) 1 → g ≡ true
+    → litStretch from n o ≡ litInMovement from n (o .activity)
 unfolding litStretch if_then_else_
-stretch-moving from n o h = rw h
+stretch-moving from n o g d u = rw (sym d ∙ u)
 
-stretch-resting : (from n : ℕ) (o : Output) → eqb (inProcess (o .activity)) 1 ≡ false → litStretch from n o ≡ litResting n (presentValue (o .settings) (o .slots))
+pub stretch-resting : (from n : ℕ) (o : Output) (g : Bool) → g ≡ eqb (inProcess (o .activity)) 1 → g ≡ false
+    → litStretch from n o ≡ litResting n (presentValue (o .settings) (o .slots))
 unfolding litStretch if_then_else_
-stretch-resting from n o h = rw h
-
--- in the form in which code cites it: f is what the test said, g whether the output moves, r what was made of it
-pub advance-moving : (now to : ℕ) (o r : Output) (f g : Bool) → f ≡ later to o → f ≡ true → g ≡ eqb (inProcess (o .activity)) 1 → g ≡ true
-    → r ≡ burnedBy (litInMovement now (to - now) (o .activity)) o → r ≡ advance now to o
-advance-moving now to o r f g e t d u h =
-    h ∙ ap (λ (n : ℕ). burnedBy n o) (sym (stretch-moving now (to - now) o (sym d ∙ u))) ∙ sym (advance-burned now to o (sym e ∙ t))
-
-pub advance-resting : (now to : ℕ) (o r : Output) (f g : Bool) → f ≡ later to o → f ≡ true → g ≡ eqb (inProcess (o .activity)) 1 → g ≡ false
-    → r ≡ burnedBy (litResting (to - now) (presentValue (o .settings) (o .slots))) o → r ≡ advance now to o
-advance-resting now to o r f g e t d u h =
-    h ∙ ap (λ (n : ℕ). burnedBy n o) (sym (stretch-resting now (to - now) o (sym d ∙ u))) ∙ sym (advance-burned now to o (sym e ∙ t))
+stretch-resting from n o g d u = rw (sym d ∙ u)

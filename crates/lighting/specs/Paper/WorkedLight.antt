@@ -58,6 +58,13 @@ lent s v pace =
       last = freshOutput .last;
     }
 
+-- what such a one has burned 6,000 ms later
+abbrev burnsLent : ℕ → ℕ → Pace → ℕ
+burnsLent s v pace = burns 0 6000 (lent s v pace)
+
+abbrev slowRise : Output
+slowRise = onePercent 0 100000 freshOutput
+
 abbrev pub burningGiven : List (List ℕ)
 burningGiven =
     -- a rise is dark while its way is less than a unit: 1,319 ms of a day's fade by one percent, also where a clock comes in between
@@ -71,9 +78,9 @@ burningGiven =
     -- a rise that is broken off while it is dark
     ∷ (burns 1000 2319 begunAgain ∷ burns 1000 2320 begunAgain ∷ burns 1000 90000 haltedDark ∷ burns 1000 1500 writtenAbove ∷ [])
     -- from 0 to 0; a ramp that stands; one that is at 0 after a second; no way at all, of a lamp that is lit
-    ∷ (burns 0 6000 (lent 0 0 Fade) ∷ burns 0 6000 (lent 0 0 (Ramp 65536)) ∷ burns 0 6000 (lent 0 65536 (Ramp 0)) ∷ burns 0 6000 (lent 65536 0 (Ramp 65536)) ∷ burns 0 6000 (lent 65536 65536 Fade) ∷ [])
+    ∷ (burnsLent 0 0 Fade ∷ burnsLent 0 0 (Ramp 65536) ∷ burnsLent 0 65536 (Ramp 0) ∷ burnsLent 65536 0 (Ramp 65536) ∷ burnsLent 65536 65536 Fade ∷ [])
     -- one millisecond after another: two are dark of a fade by one percent over 100 s
-    ∷ (lives 1 (onePercent 0 100000 freshOutput) ∷ lives 2 (onePercent 0 100000 freshOutput) ∷ lives 3 (onePercent 0 100000 freshOutput) ∷ lives 4 (onePercent 0 100000 freshOutput) ∷ lives 3 fadeDown ∷ [])
+    ∷ (lives 1 slowRise ∷ lives 2 slowRise ∷ lives 3 slowRise ∷ lives 4 slowRise ∷ lives 3 fadeDown ∷ [])
     ∷ []
 
 abbrev pub burningSaid : List (List ℕ)

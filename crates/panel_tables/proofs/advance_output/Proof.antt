@@ -4,7 +4,8 @@ use mathlib.Core.Path.{ap}
 use lib.ListN.{set, getD}
 use Rattle.lighting.specs.declared.Output.{Output}
 use Rattle.lighting.specs.Paper.Fresh.{freshOutput}
-use Rattle.lighting.proofs.Quiet.{advance-moving, advance-resting}
+use Prim.Native.Nat.{_-_}
+use Rattle.lighting.proofs.Quiet.{advance-later, stretch-moving, stretch-resting}
 use borrow.Author.Needs.{needs}
 use Rattle.panel_tables.proofs.advance_output.Statement.{statement}
 use Rattle.panel_tables.proofs.advance_output.Proof.Tie as tie
@@ -41,9 +42,10 @@ returns c =
     let o = getD (a .outputs .now) (a .i) freshOutput in
     let later = c .before .before .is-later in
     let moves = c .before .before .before .before .is-moving in
+    let counts = stretch-moving (a .from) (a .to - a .from) o (moves .result) (moves .ensures) (c .before .before .before .if1 .taken) in
     ap
     (λ (x : Output). set (a .outputs .now) (a .i) x)
-    (advance-moving (a .from) (a .to) o (c .move-on .result) (later .result) (moves .result) (later .ensures) (c .before .if2 .taken) (moves .ensures) (c .before .before .before .if1 .taken) (c .move-on .ensures))
+    (advance-later (a .from) (a .to) _ o (c .move-on .result) (later .result) (later .ensures) (c .before .if2 .taken) counts (c .move-on .ensures))
 
 step-output-requires : tie.Need-step-output-requires
 step-output-requires c κs = search needs
@@ -75,9 +77,10 @@ returns-3 c =
     let o = getD (a .outputs .now) (a .i) freshOutput in
     let later = c .before .before .is-later2 in
     let moves = c .before .before .before .before .is-moving in
+    let counts = stretch-resting (a .from) (a .to - a .from) o (moves .result) (moves .ensures) (c .before .before .before .if1 .left) in
     ap
     (λ (x : Output). set (a .outputs .now) (a .i) x)
-    (advance-resting (a .from) (a .to) o (c .rest .result) (later .result) (moves .result) (later .ensures) (c .before .if3 .taken) (moves .ensures) (c .before .before .before .if1 .left) (c .rest .ensures))
+    (advance-later (a .from) (a .to) _ o (c .rest .result) (later .result) (later .ensures) (c .before .if3 .taken) counts (c .rest .ensures))
 
 step-output-requires-2 : tie.Need-step-output-requires-2
 step-output-requires-2 c κs = search needs
