@@ -1,6 +1,6 @@
 #!/usr/bin/env python3
 """figures.py [--check]: write crates/lighting/proofs/Figures.antt: that the definitions compute the bench figures, the traps and the worked list of
-specs/Paper/Figures.antt, Worked.antt, WorkedTags.antt and WorkedLight.antt. Only the lists of names to unfold are made; the prover checks the equations.
+specs/Paper/Figures.antt, Worked.antt, WorkedTags.antt, WorkedLight.antt and WorkedRelay.antt. Only the lists of names to unfold are made; the prover checks the equations.
 With --check nothing is written, and a stale file is an error."""
 import os
 import re
@@ -8,8 +8,9 @@ import sys
 
 SPECS = 'crates/lighting/specs/%s/%s.antt'
 OUT = 'crates/lighting/proofs/Figures.antt'
-OF_OUTPUTS = 'Choice Level Slots Value Record Passing Light Advance Writing Operations Commands Rows Properties Fresh Answers'.split()
-OF_PANELS = OF_OUTPUTS + 'Field Kinds Tags Frames Rules Acting Copies Panel Judging Executing'.split()
+OF_OUTPUTS = 'Choice Level Slots Value Relay Record Passing Light Advance Writing Operations Commands Rows Properties Fresh Answers'.split()
+OF_ACTS = OF_OUTPUTS + ['Acting']
+OF_PANELS = OF_ACTS + 'Field Kinds Tags Frames Rules Copies Panel Judging Executing'.split()
 
 
 def folder(module):
@@ -40,6 +41,7 @@ lines += [
     'use Rattle.lighting.specs.Paper.Worked.{frames, expected}',
     'use Rattle.lighting.specs.Paper.WorkedTags.{commandsWritten, theirOctets, refused, refusals, framesInTags, answersInTags}',
     'use Rattle.lighting.specs.Paper.WorkedLight.{burningGiven, burningSaid}',
+    'use Rattle.lighting.specs.Paper.WorkedRelay.{relayGiven, relaySaid}',
 ]
 text = '\n'.join(lines) + '''
 
@@ -55,6 +57,11 @@ traps = refl
 pub burning-by-light : burningGiven ≡ burningSaid
 unfolding bitAnd bitOr ofBits %s
 burning-by-light = refl
+
+-- §3: Binary_Present_Value
+pub relay-by-hand : relayGiven ≡ relaySaid
+unfolding bitAnd bitOr ofBits %s
+relay-by-hand = refl
 
 -- §1: the octets of commands, the refusals of bodies
 pub tags-written : commandsWritten ≡ theirOctets
@@ -73,7 +80,7 @@ worked = refl
 pub worked-in-tags : answers document01 (freshPanel 2 8) framesInTags ≡ answersInTags
 unfolding bitAnd bitOr ofBits toBits round answers %s
 worked-in-tags = refl
-''' % ((opened(OF_OUTPUTS),) * 3 + (opened(OF_PANELS),) * 4)
+''' % ((opened(OF_OUTPUTS),) * 3 + (opened(OF_ACTS),) + (opened(OF_PANELS),) * 4)
 if '--check' in sys.argv:
     # the layout is rt fmt's
     if open(OUT).read().split() != text.split():

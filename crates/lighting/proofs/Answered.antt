@@ -7,8 +7,8 @@ use Rattle.lighting.specs.Paper.Choice.{if_then_else_}
 use Rattle.lighting.specs.Paper.Slots.{Slots, isLive}
 use Rattle.lighting.proofs.AnswersApart.{refusalOf}
 use Rattle.lighting.specs.Paper.Operations.{fieldsOf}
-use Rattle.lighting.specs.Paper.Properties.{settingsWith, minOverMax, levelAnswer, slotAnswer, realAnswer, realFieldAnswer, timeFieldAnswer, lastDuration, readProperty}
-use Rattle.lighting.specs.Paper.Acting.{done, unchanged, changedUnless, acted}
+use Rattle.lighting.specs.Paper.Properties.{levelAnswer, slotAnswer, realAnswer, realFieldAnswer, timeFieldAnswer, lastDuration, readProperty}
+use Rattle.lighting.specs.Paper.Acting.{done, unchanged, acted}
 use Rattle.lighting.specs.declared.Duration.{Duration}
 use Rattle.lighting.specs.declared.Duration.the-variants.{Lasts, Cancels, Omitted}
 use Rattle.lighting.specs.declared.RealField.{RealField}
@@ -16,13 +16,15 @@ use Rattle.lighting.specs.declared.RealField.the-variants.{Real, NoReal}
 use Rattle.lighting.specs.declared.TimeField.{TimeField}
 use Rattle.lighting.specs.declared.TimeField.the-variants.{Time, NoTime}
 use Rattle.lighting.specs.declared.Property.{Property}
-use Rattle.lighting.specs.declared.Property.the-variants.{RelinquishDefault, FadeTime, RampRate, StepIncrement, BlinkEnable, BlinkTime, BlinkWarnDelay, MinValue, MaxValue, CommandPriority, ElapsedActiveTime, PresentValue, ProgressValue, InProcess, LastOperation, LastLevel, LastRate, LastStep, LastFadeTime, LastDuration, SlotValue, Unknown}
+use Rattle.lighting.specs.declared.Property.the-variants.{RelinquishDefault, FadeTime, RampRate, StepIncrement, BlinkEnable, BlinkTime, BlinkWarnDelay, MinValue, MaxValue, CommandPriority, ElapsedActiveTime, PresentValue, ProgressValue, InProcess, LastOperation, LastLevel, LastRate, LastStep, LastFadeTime, LastDuration, BinaryActiveValue, BinaryInactiveValue, Polarity, BinaryPresentValue, RelayState, SlotValue, Unknown}
 use Rattle.lighting.specs.declared.Answer.{Answer}
 use Rattle.lighting.specs.declared.Request.{Request}
 use Rattle.lighting.specs.declared.Request.the-variants.{Refuse, Write, Empty, Change, Read, Commands}
 use Rattle.lighting.specs.declared.Output.{Output}
+use Rattle.lighting.specs.declared.Outcome.{Outcome}
 use Rattle.lighting.proofs.Split.{by-bool}
 use Rattle.lighting.proofs.RequestInRange.{RequestInRange}
+use Rattle.lighting.proofs.Acted.{by-change}
 
 -- an answer that is not refusal 1
 pub record NotOne (a : Answer) : Type 0 where
@@ -73,18 +75,20 @@ readProperty-not-one t o LastRate = not-one (readProperty t o LastRate) (real-no
 readProperty-not-one t o LastStep = not-one (readProperty t o LastStep) (real-none (fieldsOf (o .last .operation) .step))
 readProperty-not-one t o LastFadeTime = not-one (readProperty t o LastFadeTime) (time-none (fieldsOf (o .last .operation) .fade))
 readProperty-not-one t o LastDuration = not-one (readProperty t o LastDuration) (duration-none (o .last .duration))
+readProperty-not-one t o BinaryActiveValue = not-one (readProperty t o BinaryActiveValue) refl
+readProperty-not-one t o BinaryInactiveValue = not-one (readProperty t o BinaryInactiveValue) refl
+readProperty-not-one t o Polarity = not-one (readProperty t o Polarity) refl
+readProperty-not-one t o BinaryPresentValue = not-one (readProperty t o BinaryPresentValue) refl
+readProperty-not-one t o RelayState = not-one (readProperty t o RelayState) refl
 readProperty-not-one t o (SlotValue i) = not-one (readProperty t o (SlotValue i)) (slot-none (o .slots) i)
 readProperty-not-one t o Unknown = record { other = omega arith }
 
 pub acted-not-one : (t : ℕ) (o : Output) (r : Request) → RequestInRange r → NotOne (acted t o r .answer)
-unfolding acted done unchanged changedUnless if_then_else_
+unfolding acted done unchanged
 acted-not-one t o (Refuse n) g = record { other = omega arith }
 acted-not-one t o (Write i v) g = record { other = omega arith }
 acted-not-one t o (Empty i) g = record { other = omega arith }
 acted-not-one t o (Change n v) g =
-    by-bool
-    (minOverMax (settingsWith (o .settings) n v))
-    (λ e. rw e (record { other = omega arith }))
-    (λ e. rw e (record { other = omega arith }))
+    by-change (λ (z : Outcome). NotOne (z .answer)) t o n v (λ r h. record { other = omega arith }) (λ e e′. record { other = omega arith })
 acted-not-one t o (Read n) g = readProperty-not-one t o n
 acted-not-one t o (Commands k) g = record { other = omega arith }

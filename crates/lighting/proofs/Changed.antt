@@ -11,19 +11,21 @@ use Rattle.lighting.specs.Paper.Parameters.{document01}
 use Rattle.lighting.specs.Paper.Level.{real}
 use Rattle.lighting.specs.Paper.Slots.{slotCount, Slots, winningLevel}
 use Rattle.lighting.specs.Paper.Value.{presentValue}
+use Rattle.lighting.specs.Paper.Relay.{inactiveNotBelow}
 use Rattle.lighting.specs.Paper.Record.{withSettings}
 use Rattle.lighting.specs.Paper.Rows.{rowOf, isAmount, meetsReal}
-use Rattle.lighting.specs.Paper.Properties.{same, settingsWith, endMovement, activityWith, burningWith, changed, minOverMax}
+use Rattle.lighting.specs.Paper.Properties.{same, settingsWith, relayWith, endMovement, activityWith, burningWith, changed, minOverMax}
 use Rattle.lighting.specs.declared.Settings.{Settings}
+use Rattle.lighting.specs.declared.Relay.{Relay}
 use Rattle.lighting.specs.declared.Activity.{Activity}
 use Rattle.lighting.specs.declared.Activity.the-variants.{Still, Moving, Warned}
 use Rattle.lighting.specs.declared.Property.{Property}
-use Rattle.lighting.specs.declared.Property.the-variants.{RelinquishDefault, FadeTime, RampRate, StepIncrement, BlinkTime, BlinkWarnDelay, MinValue, MaxValue, CommandPriority, ElapsedActiveTime}
+use Rattle.lighting.specs.declared.Property.the-variants.{RelinquishDefault, FadeTime, RampRate, StepIncrement, BlinkTime, BlinkWarnDelay, MinValue, MaxValue, CommandPriority, ElapsedActiveTime, BinaryActiveValue, BinaryInactiveValue}
 use Rattle.lighting.specs.declared.Range.the-variants.{Amount}
 use Rattle.lighting.specs.declared.Output.{Output}
-use Rattle.lighting.proofs.Split.{by-bool, not-lt}
+use Rattle.lighting.proofs.Split.{by-bool, not-le, not-lt}
 use Rattle.lighting.proofs.Winner.{winningLevel-live}
-use Rattle.lighting.proofs.Facts.{Slot, Meets, SettingsInRange, Acts, Sound}
+use Rattle.lighting.proofs.Facts.{Slot, Meets, SettingsInRange, Acts, RelayInRange, Sound}
 use Rattle.lighting.proofs.Rows.{same-row, kept-met}
 
 -- a REAL, and a slot in its byte
@@ -39,6 +41,16 @@ slot-kept n v old g h =
     (same CommandPriority n)
     (λ e. let k : Slot v = rw (sym (same-row CommandPriority n e)) at g in rw (e, mod-eq-of-lt {n = v} {m = 256} (omega arith)) k)
     (λ e. rw e h)
+
+relay-kept : (r : Relay) (n : Property) (v : ℕ) → Meets (rowOf document01 n) v → inactiveNotBelow (relayWith r n v) ≡ false → RelayInRange r
+    → RelayInRange (relayWith r n v)
+unfolding relayWith inactiveNotBelow
+relay-kept r n v g p h =
+    record {
+      active = kept-met BinaryActiveValue n v (r .active) g (h .active);
+      inactive = kept-met BinaryInactiveValue n v (r .inactive) g (h .inactive);
+      order = not-le p;
+    }
 
 settings-kept : (c : Settings) (n : Property) (v : ℕ) → Meets (rowOf document01 n) v → minOverMax (settingsWith c n v) ≡ false → SettingsInRange c
     → SettingsInRange (settingsWith c n v)
@@ -102,14 +114,15 @@ burning-le : (b : ℕ) (n : Property) → burningWith b n ≤ b
 unfolding burningWith if_then_else_
 burning-le b n = by-bool (same ElapsedActiveTime n) (λ e. rw e (omega arith)) (λ e. rw e (omega arith))
 
-pub changed-sound : (t : ℕ) (o : Output) (n : Property) (v : ℕ) → Meets (rowOf document01 n) v → minOverMax (settingsWith (o .settings) n v) ≡ false → Sound t o
-    → Sound t (changed o n v)
+pub changed-sound : (t : ℕ) (o : Output) (n : Property) (v : ℕ) → Meets (rowOf document01 n) v → minOverMax (settingsWith (o .settings) n v) ≡ false
+    → inactiveNotBelow (relayWith (o .relay) n v) ≡ false → Sound t o → Sound t (changed o n v)
 unfolding changed withSettings
-changed-sound t o n v g p h =
+changed-sound t o n v g p q h =
     record {
       settings = settings-kept (o .settings) n v g p (h .settings);
       slots = h .slots;
       activity = acts-kept t (o .settings) (o .slots) (o .activity) n v (h .slots .size) (h .activity);
       timer = h .timer;
       burnt = omega (arith, burning-le (o .burning) n, h .burnt);
+      relay = relay-kept (o .relay) n v g q (h .relay);
     }

@@ -44,3 +44,9 @@ pub ruleset ifs = (if-true, if-false, if-lt, if-nlt, if-le, if-nle, if-eq, if-ne
 -- a choice by a key in an arm of a match, where the number is another key
 pub if-other : {A : Type 0} (k i j : ℕ) (r a b : A) → k ≡ j → eqb j i ≡ false → r ≡ b → r ≡ (if eqb k i then a else b)
 if-other k i j r a b e h = if-false (eqb k i) r a b (ap (λ (x : ℕ). eqb x i) e ∙ h)
+
+-- the last test of several is the answer itself
+pub if-itself : (t r : Bool) → r ≡ t → r ≡ (if t then true else false)
+unfolding if_then_else_
+if-itself true r e = e
+if-itself false r e = e

@@ -252,4 +252,5 @@ commanded-sound t o k g d h =
       activity = r .activity;
       timer = timed-kept t (o .settings .slot) (o .timer) (k .duration) (h .settings .slot) d (h .timer);
       burnt = h .burnt;
+      relay = h .relay;
     }

@@ -12,6 +12,7 @@ pub mod KeptInLists
 pub mod Orders
 pub mod Burning
 pub mod Light
+pub mod Relay
 pub mod Others
 pub mod Targets
 pub mod Stored

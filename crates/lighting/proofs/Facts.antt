@@ -7,6 +7,7 @@ use Prim.Native.Nat.{ℕ, _+_, _-_, _*_, _≤_, _<_, min}
 use lib.ListN.{length}
 use Rattle.lighting.specs.Paper.Parameters.{document01}
 use Rattle.lighting.specs.declared.Settings.{Settings}
+use Rattle.lighting.specs.declared.Relay.{Relay}
 use Rattle.lighting.specs.declared.Movement.{Movement}
 use Rattle.lighting.specs.declared.Warning.{Warning}
 use Rattle.lighting.specs.declared.Activity.{Activity}
@@ -16,12 +17,13 @@ use Rattle.lighting.specs.declared.Timer.the-variants.{Off, Running}
 use Rattle.lighting.specs.declared.Output.{Output}
 use Rattle.lighting.specs.Paper.Slots.{Slots, slotCount, slot16, slot6, isLive, winner, slot}
 use Rattle.lighting.specs.Paper.Value.{presentValue}
+use Rattle.lighting.specs.Paper.Relay.{binaryAt}
 use Rattle.lighting.specs.Paper.Passing.{phaseEnd}
 use Rattle.lighting.specs.Paper.Level.{leastLevel, greatestLevel, real}
 use Rattle.lighting.specs.Paper.Rows.{rowOf, isAmount, meetsReal}
 use Rattle.lighting.specs.declared.Range.{Range}
 use Rattle.lighting.specs.declared.Range.the-variants.{Percent, Limit, Amount, Whole, Priority, ReadOnly}
-use Rattle.lighting.specs.declared.Property.the-variants.{RelinquishDefault, FadeTime, RampRate, StepIncrement, BlinkTime, BlinkWarnDelay, MinValue, MaxValue, CommandPriority}
+use Rattle.lighting.specs.declared.Property.the-variants.{RelinquishDefault, FadeTime, RampRate, StepIncrement, BlinkTime, BlinkWarnDelay, MinValue, MaxValue, CommandPriority, BinaryActiveValue, BinaryInactiveValue}
 
 -- 0, or 1 to 100 percent: in a form that `omega` reads
 pub record IsLevel (v : ℕ) : Type 0 where
@@ -91,9 +93,24 @@ abbrev pub Timed : ℕ → Timer → Type 0
 Timed t Off = Unit {0}
 Timed t (Running slot due) = Slot slot × (t < due)
 
+pub record RelayInRange (r : Relay) : Type 0 where
+  pub active : Meets (rowOf document01 BinaryActiveValue) (r .active)
+  pub inactive : Meets (rowOf document01 BinaryInactiveValue) (r .inactive)
+  pub order : r .inactive < r .active
+
+-- all the rules but the last
 pub record Sound (t : ℕ) (o : Output) : Type 0 where
   pub settings : SettingsInRange (o .settings)
   pub slots : Filled (o .slots)
   pub activity : Acts t (o .settings) (o .slots) (o .activity)
   pub timer : Timed t (o .timer)
   pub burnt : o .burning ≤ t
+  pub relay : RelayInRange (o .relay)
+
+-- the last: the relay is as judging leaves it (§3). Between an act and its judging the others hold without it
+pub record Judged (o : Output) : Type 0 where
+  pub same : o .relay .binary ≡ binaryAt (presentValue (o .settings) (o .slots)) (o .relay)
+
+pub record Lawful (t : ℕ) (o : Output) : Type 0 where
+  pub sound : Sound t o
+  pub judged : Judged o

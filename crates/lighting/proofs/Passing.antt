@@ -1,5 +1,6 @@
 -- EVENT STEPS EQUAL TICKS: the engine's way from due moment to due moment comes to what the plain panel's milliseconds come to.
--- What it asks of the output (`Calm`): every due moment is after the moment it starts from, and it has burned no longer than the panel stands.
+-- What it asks of the output (`Calm`): every due moment is after the moment it starts from, it has burned no longer than the panel stands, and its relay
+-- is judged: so the milliseconds at which nothing falls due, which the engine leaves out, would have judged it for nothing (Judged.antt).
 -- Neither the slots nor what lights a lamp play a part: of the count of a stretch it asks that it is its milliseconds one by one (Light.antt).
 use mathlib.Core.Path.{_≡_, refl, sym, ap, ap₂, _∙_}
 use mathlib.Core.Logic.{_≢_}
@@ -11,6 +12,8 @@ use native.Mathlib.Omega.{arith}
 use lib.Dec.{eqb}
 use Rattle.lighting.specs.Paper.Choice.{if_then_else_}
 use Rattle.lighting.proofs.Light.{counted}
+use Rattle.lighting.proofs.Facts.{Judged}
+use Rattle.lighting.proofs.Judged.{judged-stays, withBurning-judged, fire-judged}
 use Rattle.lighting.proofs.Split.{by-eq, by-lt, by-bool, eqb-miss, eqb-hit, eq-of}
 use Rattle.lighting.specs.declared.Phase.{Phase}
 use Rattle.lighting.specs.declared.Phase.the-variants.{Blink, Delay}
@@ -21,11 +24,12 @@ use Rattle.lighting.specs.declared.Timer.{Timer}
 use Rattle.lighting.specs.declared.Timer.the-variants.{Off, Running}
 use Rattle.lighting.specs.declared.Moment.{Moment}
 use Rattle.lighting.specs.declared.Moment.the-variants.{Never, At}
+use Rattle.lighting.specs.declared.Relay.{Relay}
 use Rattle.lighting.specs.declared.Output.{Output}
 use Rattle.lighting.specs.Paper.Slots.{Slots}
 use Rattle.lighting.specs.Paper.Value.{progressValue, lit}
-use Rattle.lighting.specs.Engine.Advance.{greatestCount, burnedBy, withBurnedSaturating, sooner, soonest, due, eventStep, eventSteps, advance}
-use Rattle.lighting.specs.Paper.Record.{withBurning}
+use Rattle.lighting.specs.Engine.Advance.{greatestCount, burnedBy, withBurnedSaturating, sooner, soonest, due, fireDue, eventStep, eventSteps, advance}
+use Rattle.lighting.specs.Paper.Record.{withBurning, withRelay}
 use Rattle.lighting.specs.Paper.Passing.{litMilliseconds, withBurned, timerDue, phaseEnd, activityDue, dueMoments, isDue, timerAt, expired, endMovementOf, endMovementBy, endMovementOnExpiry, delayed, nextPhase, nextActivity, activityAt, slotsAt, afterEvents, fire, tick, ticks}
 
 -- every due moment is after t
@@ -43,6 +47,7 @@ pub record After (t : ℕ) (o : Output) : Type 0 where
 pub record Calm (t : ℕ) (o : Output) : Type 0 where
   pub after : After t o
   pub burnt : o .burning ≤ t
+  pub judged : Judged o
 
 all-earlier : {t t′ : ℕ} (l : List Moment) → t ≤ t′ → AllAfter t′ l → AllAfter t l
 all-earlier [] h a = tt
@@ -58,9 +63,32 @@ unfolding isDue
 not-due t Never a = refl
 not-due t (At d) a = eqb-miss {a = d} {b = t} (omega arith)
 
-pub quiet : (t : ℕ) (o : Output) → After t o → fire t o ≡ o
-unfolding fire afterEvents timerAt expired endMovementOnExpiry activityAt slotsAt if_then_else_
-quiet t o a = rw (not-due t (timerDue (o .timer)) (a .all .0), not-due t (activityDue (o .activity)) (a .all .1 .0))
+idle : (t : ℕ) (o : Output) → isDue t (timerDue (o .timer)) ≡ false → isDue t (activityDue (o .activity)) ≡ false → fire t o ≡ afterEvents o
+unfolding fire timerAt expired endMovementOnExpiry activityAt slotsAt if_then_else_
+idle t o p q = rw (p, q)
+
+-- but that the plain panel judges
+pub only-judges : (t : ℕ) (o : Output) → After t o → fire t o ≡ afterEvents o
+only-judges t o a = idle t o (not-due t (timerDue (o .timer)) (a .all .0)) (not-due t (activityDue (o .activity)) (a .all .1 .0))
+
+quiet : (t : ℕ) (o : Output) → After t o → Judged o → fire t o ≡ o
+quiet t o a j = only-judges t o a ∙ judged-stays o j
+
+-- and the engine does not
+pub fireDue-quiet : (t : ℕ) (o : Output) → After t o → fireDue t o ≡ o
+unfolding fireDue if_then_else_
+fireDue-quiet t o a = rw (not-due t (timerDue (o .timer)) (a .all .0), not-due t (activityDue (o .activity)) (a .all .1 .0))
+
+fireDue-fire : (t : ℕ) (o : Output) → Judged o → fireDue t o ≡ fire t o
+unfolding fireDue if_then_else_
+fireDue-fire t o j =
+    by-bool
+    (isDue t (timerDue (o .timer)))
+    (λ e. rw e)
+    (λ e. by-bool
+    (isDue t (activityDue (o .activity)))
+    (λ e′. rw (e, e′))
+    (λ e′. rw (e, e′) (sym (idle t o e e′ ∙ judged-stays o j))))
 
 -- and where no duration is due, none does anything
 abbrev pub TimerAfter : ℕ → Timer → Type 0
@@ -101,11 +129,21 @@ litMilliseconds-le from (suc n) o =
     (λ e. rw e (omega (arith, litMilliseconds-le (suc from) n o)))
     (λ e. rw e (omega (arith, litMilliseconds-le (suc from) n o)))
 
--- what has burned plays no part in it
+-- it looks at settings, slots and what is under way alone: neither what has burned nor the relay plays a part in it
+pub litMilliseconds-alike : (from n : ℕ) (o o′ : Output) → o′ .settings ≡ o .settings → o′ .slots ≡ o .slots → o′ .activity ≡ o .activity
+    → litMilliseconds from n o′ ≡ litMilliseconds from n o
+unfolding litMilliseconds lit progressValue
+litMilliseconds-alike from zero o o′ p q r = refl
+litMilliseconds-alike from (suc n) o o′ p q r = rw (litMilliseconds-alike (suc from) n o o′ p q r, p, q, r)
+
 litMilliseconds-withBurning : (from n b : ℕ) (o : Output) → litMilliseconds from n (withBurning o b) ≡ litMilliseconds from n o
-unfolding litMilliseconds lit progressValue withBurning
-litMilliseconds-withBurning from zero b o = refl
-litMilliseconds-withBurning from (suc n) b o = rw (litMilliseconds-withBurning (suc from) n b o)
+unfolding withBurning
+litMilliseconds-withBurning from n b o = litMilliseconds-alike from n o (withBurning o b) refl refl refl
+
+pub withBurned-withRelay : (from n : ℕ) (o : Output) (relay : Relay)
+    → withBurned from n (withRelay o relay) ≡ withRelay (withBurned from n o) relay
+unfolding withBurned withBurning
+withBurned-withRelay from n o relay = rw (litMilliseconds-alike from n o (withRelay o relay) refl refl refl)
 
 litMilliseconds-split : (from a b : ℕ) (o : Output) → litMilliseconds from a o + litMilliseconds (from + a) b o ≡ litMilliseconds from (a + b) o
 unfolding litMilliseconds
@@ -119,49 +157,55 @@ litMilliseconds-add : (from a b : ℕ) (o : Output) → litMilliseconds from a o
 unfolding withBurned
 litMilliseconds-add from a b o = rw (litMilliseconds-withBurning (from + a) b (o .burning + litMilliseconds from a o) o) (litMilliseconds-split from a b o)
 
-withBurned-zero : (from : ℕ) (o : Output) → withBurned from 0 o ≡ o
+pub withBurned-zero : (from : ℕ) (o : Output) → withBurned from 0 o ≡ o
 unfolding withBurned withBurning
 withBurned-zero from o = let z : litMilliseconds from 0 o ≡ 0 = omega (arith, litMilliseconds-le from 0 o) in rw (z, add-zero (o .burning))
 
-withBurned-withBurned : (from a b : ℕ) (o : Output) → withBurned (from + a) b (withBurned from a o) ≡ withBurned from (a + b) o
+pub withBurned-withBurned : (from a b : ℕ) (o : Output) → withBurned (from + a) b (withBurned from a o) ≡ withBurned from (a + b) o
 unfolding withBurned withBurning
 withBurned-withBurned from a b o = rw (← litMilliseconds-add from a b o) (same (litMilliseconds from a o) (litMilliseconds (from + a) b (withBurned from a o)))
   where
     same : (x y : ℕ) → withBurning (withBurning o (o .burning + x)) (o .burning + x + y) ≡ withBurning o (o .burning + (x + y))
     same x y = unfold withBurning in rw (add-assoc (o .burning) x y)
 
-withBurned-after : (t from n : ℕ) (o : Output) → After t o → After t (withBurned from n o)
+pub withBurned-after : (t from n : ℕ) (o : Output) → After t o → After t (withBurned from n o)
 unfolding withBurned withBurning
 withBurned-after t from n o a = record { all = a .all }
+
+withBurned-judged : (from n : ℕ) (o : Output) → Judged o → Judged (withBurned from n o)
+unfolding withBurned
+withBurned-judged from n o j = withBurning-judged o (o .burning + litMilliseconds from n o) j
 
 -- THE ENGINE'S COUNT does not come to its top
 withBurnedSaturating-withBurned : (from n : ℕ) (o : Output) → o .burning + n ≤ greatestCount → withBurnedSaturating from n o ≡ withBurned from n o
 unfolding withBurnedSaturating burnedBy withBurned
 withBurnedSaturating-withBurned from n o h = ap (λ (b : ℕ). withBurning o b) (omega (arith, counted from n o, litMilliseconds-le from n o))
 
-one-more : (n t : ℕ) (o : Output) → withBurned (suc t) n (withBurned t 1 o) ≡ withBurned t (suc n) o
+pub one-more : (n t : ℕ) (o : Output) → withBurned (suc t) n (withBurned t 1 o) ≡ withBurned t (suc n) o
 one-more n t o =
     ap (λ (k : ℕ). withBurned k n (withBurned t 1 o)) (omega arith)
     ∙ withBurned-withBurned t 1 n o
     ∙ ap (λ (k : ℕ). withBurned t k o) (omega arith)
 
 -- n MILLISECONDS, of which none but perhaps the last brings anything due
-pub quiet-ticks : (n t : ℕ) (o : Output) → After (t + n) o → ticks n t o ≡ withBurned t n o
+pub quiet-ticks : (n t : ℕ) (o : Output) → After (t + n) o → Judged o → ticks n t o ≡ withBurned t n o
 unfolding ticks tick
-quiet-ticks zero t o a = sym (withBurned-zero t o)
-quiet-ticks (suc n) t o a =
+quiet-ticks zero t o a j = sym (withBurned-zero t o)
+quiet-ticks (suc n) t o a j =
+    let j₁ : Judged (withBurned t 1 o) = withBurned-judged t 1 o j in
     let a₁ : After (suc t) (withBurned t 1 o) = withBurned-after (suc t) t 1 o (earlier o (omega arith) a) in
     let a₂ : After (suc t + n) (withBurned t 1 o) = withBurned-after (suc t + n) t 1 o (earlier o (omega arith) a) in
-    rw (quiet (suc t) (withBurned t 1 o) a₁, quiet-ticks n (suc t) (withBurned t 1 o) a₂) (one-more n t o)
+    rw (quiet (suc t) (withBurned t 1 o) a₁ j₁, quiet-ticks n (suc t) (withBurned t 1 o) a₂ j₁) (one-more n t o)
 
-pub eventStep-ticks : (n t : ℕ) (o : Output) → After (t + n) o → ticks (suc n) t o ≡ fire (suc (t + n)) (withBurned t (suc n) o)
+pub eventStep-ticks : (n t : ℕ) (o : Output) → After (t + n) o → Judged o → ticks (suc n) t o ≡ fire (suc (t + n)) (withBurned t (suc n) o)
 unfolding ticks tick
-eventStep-ticks zero t o a = ap (λ (k : ℕ). fire (suc k) (withBurned t 1 o)) (omega arith)
-eventStep-ticks (suc n) t o a =
+eventStep-ticks zero t o a j = ap (λ (k : ℕ). fire (suc k) (withBurned t 1 o)) (omega arith)
+eventStep-ticks (suc n) t o a j =
+    let j₁ : Judged (withBurned t 1 o) = withBurned-judged t 1 o j in
     let a₁ : After (suc t) (withBurned t 1 o) = withBurned-after (suc t) t 1 o (earlier o (omega arith) a) in
     let a₂ : After (suc t + n) (withBurned t 1 o) = withBurned-after (suc t + n) t 1 o (earlier o (omega arith) a) in
-    ap (λ (z : Output). ticks (suc n) (suc t) z) (quiet (suc t) (withBurned t 1 o) a₁)
-    ∙ eventStep-ticks n (suc t) (withBurned t 1 o) a₂
+    ap (λ (z : Output). ticks (suc n) (suc t) z) (quiet (suc t) (withBurned t 1 o) a₁ j₁)
+    ∙ eventStep-ticks n (suc t) (withBurned t 1 o) a₂ j₁
     ∙ ap₂ (λ (k : ℕ) (z : Output). fire k z) (omega arith) (one-more (suc n) t o)
 
 pub ticks-add : (m n t : ℕ) (o : Output) → ticks (m + n) t o ≡ ticks n (t + m) (ticks m t o)
@@ -335,22 +379,22 @@ due-here t o a = go (dueMoments o) (a .all)
     go (At d ∷ l) k = omega (arith, k .0, go l (k .1))
 
 -- one event step, from `now` to d before which nothing is due
-eventStep-quiet : (now n d : ℕ) (o : Output) → d ≡ suc (now + n) → After (now + n) o
+eventStep-quiet : (now n d : ℕ) (o : Output) → d ≡ suc (now + n) → After (now + n) o → Judged o
     → (ticks (d - now) now o ≡ fire d (withBurned now (d - now) o)) × After d (fire d (withBurned now (d - now) o))
-eventStep-quiet now n d o p a =
+eventStep-quiet now n d o p a j =
     rw
     (p, sub-here)
-    (eventStep-ticks n now o a, fire-after (now + n) (withBurned now (suc n) o) (withBurned-after (now + n) now (suc n) o a))
+    (eventStep-ticks n now o a j, fire-after (now + n) (withBurned now (suc n) o) (withBurned-after (now + n) now (suc n) o a))
   where
     sub-here : suc (now + n) - now ≡ suc n
     sub-here = omega arith
 
-next-eventStep : (now to : ℕ) (o : Output) → now < to → After now o
+next-eventStep : (now to : ℕ) (o : Output) → now < to → After now o → Judged o
     → (ticks (due to o - now) now o ≡ fire (due to o) (withBurned now (due to o - now) o))
     × After (due to o) (fire (due to o) (withBurned now (due to o - now) o))
-next-eventStep now to o l a =
+next-eventStep now to o l a j =
     let h : now < due to o = due-later now to o l a in
-    eventStep-quiet now (due to o - suc now) (due to o) o (omega arith) (before-due (now + (due to o - suc now)) to o (omega arith))
+    eventStep-quiet now (due to o - suc now) (due to o) o (omega arith) (before-due (now + (due to o - suc now)) to o (omega arith)) j
 
 -- at the next due moment something is due: one fewer is to come
 eventStep-fewer : (n d from k to : ℕ) (o : Output) → d ≡ suc n → After n o → due to o ≡ d → d < to → suc (count (fire d (withBurned from k o))) ≤ count o
@@ -380,16 +424,18 @@ fire-burnt : (now d : ℕ) (o : Output) → now ≤ d → o .burning ≤ now →
 unfolding fire afterEvents withBurned withBurning
 fire-burnt now d o l h = omega (arith, litMilliseconds-le now (d - now) o)
 
-eventStep-withBurned : (now d : ℕ) (o : Output) → now ≤ d → d ≤ greatestCount → o .burning ≤ now → eventStep now d o ≡ fire d (withBurned now (d - now) o)
+eventStep-withBurned : (now d : ℕ) (o : Output) → now ≤ d → d ≤ greatestCount → Calm now o → eventStep now d o ≡ fire d (withBurned now (d - now) o)
 unfolding eventStep
-eventStep-withBurned now d o l m h = rw (withBurnedSaturating-withBurned now (d - now) o (omega arith))
+eventStep-withBurned now d o l m c =
+    rw (withBurnedSaturating-withBurned now (d - now) o (omega (arith, c .burnt)))
+    (fireDue-fire d (withBurned now (d - now) o) (withBurned-judged now (d - now) o (c .judged)))
 
 eventSteps-here : (k t : ℕ) (o : Output) → t ≤ greatestCount → Calm t o → eventSteps k t t o ≡ o
 unfolding eventSteps
 eventSteps-here zero t o m c = withBurnedSaturating-withBurned t (t - t) o (omega (arith, c .burnt)) ∙ rw (sub-self t) (withBurned-zero t o)
 eventSteps-here (suc k) t o m c =
     rw
-    (due-here t o (c .after), eventStep-withBurned t t o (omega arith) m (c .burnt), sub-self t, withBurned-zero t o, quiet t o (c .after))
+    (due-here t o (c .after), eventStep-withBurned t t o (omega arith) m c, sub-self t, withBurned-zero t o, quiet t o (c .after) (c .judged))
     (eventSteps-here k t o m c)
 
 join : (now d to : ℕ) (o : Output) → now ≤ d → d ≤ to
@@ -404,20 +450,24 @@ eventSteps-ticks : (k now to : ℕ) (o : Output) → now ≤ to → to ≤ great
 unfolding eventSteps ticks
 eventSteps-ticks zero now to o l m c n =
     withBurnedSaturating-withBurned now (to - now) o (omega (arith, c .burnt))
-    ∙ sym (quiet-ticks (to - now) now o (none-left (now + (to - now)) o n))
+    ∙ sym (quiet-ticks (to - now) now o (none-left (now + (to - now)) o n) (c .judged))
 eventSteps-ticks (suc k) now to o l m c n =
     by-eq
     now
     to
     (λ p e. rw (p, sub-self to) (eventSteps-here (suc k) to o m (rw p at c)))
     (λ p e. let l′ : now < to = omega arith in
-    let h = next-eventStep now to o l′ (c .after) in
+    let h = next-eventStep now to o l′ (c .after) (c .judged) in
     let later : now < due to o = due-later now to o l′ (c .after) in
     let soon : due to o ≤ to = due-le to o in
     let calm : Calm (due to o) (fire (due to o) (withBurned now (due to o - now) o)) =
-    record { after = h .1; burnt = fire-burnt now (due to o) o (omega arith) (c .burnt) } in
+    record {
+      after = h .1;
+      burnt = fire-burnt now (due to o) o (omega arith) (c .burnt);
+      judged = fire-judged (due to o) (withBurned now (due to o - now) o);
+    } in
     rw
-    (eventStep-withBurned now (due to o) o (omega arith) (omega arith) (c .burnt))
+    (eventStep-withBurned now (due to o) o (omega arith) (omega arith) c)
     (by-eq
     (due to o)
     to

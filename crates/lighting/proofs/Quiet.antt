@@ -13,7 +13,7 @@ use Rattle.lighting.specs.Engine.Light.{litInMovement, litResting, litSt
 use Rattle.lighting.specs.declared.Output.{Output}
 use Rattle.lighting.proofs.Split.{le-of}
 use Rattle.lighting.proofs.Light.{counted}
-use Rattle.lighting.proofs.Passing.{After, quiet, litMilliseconds-le, before-due, due-here}
+use Rattle.lighting.proofs.Passing.{After, fireDue-quiet, litMilliseconds-le, before-due, due-here}
 
 later-after : (to : ℕ) (o : Output) → later to o ≡ true → After to o
 unfolding later
@@ -39,7 +39,7 @@ eventSteps-none : (k to : ℕ) (o : Output) → After to o → o .burning ≤ gr
 unfolding eventSteps eventStep
 eventSteps-none zero to o a b = rw (sub-self to) (withBurnedSaturating-none to o b)
 eventSteps-none (suc k) to o a b =
-    rw (due-here to o a, sub-self to, withBurnedSaturating-none to o b, quiet to o a) (eventSteps-none k to o a b)
+    rw (due-here to o a, sub-self to, withBurnedSaturating-none to o b, fireDue-quiet to o a) (eventSteps-none k to o a b)
 
 eventSteps-later : (k now to : ℕ) (o : Output) → After to o → eventSteps k now to o ≡ withBurnedSaturating now (to - now) o
 unfolding eventSteps eventStep
@@ -47,7 +47,7 @@ eventSteps-later zero now to o a = refl
 eventSteps-later (suc k) now to o a =
     let g = withBurnedSaturating-after to now (to - now) o a in
     rw
-    (due-here to o a, quiet to (withBurnedSaturating now (to - now) o) g)
+    (due-here to o a, fireDue-quiet to (withBurnedSaturating now (to - now) o) g)
     (eventSteps-none k to (withBurnedSaturating now (to - now) o) g (withBurnedSaturating-top now (to - now) o))
 
 advance-burned : (now to : ℕ) (o : Output) → later to o ≡ true → advance now to o ≡ burnedBy (litStretch now (to - now) o) o

@@ -14,7 +14,7 @@ use Rattle.lighting.specs.Paper.Properties.{numberOf, properties, number
 use Rattle.lighting.specs.declared.Level.{Level}
 use Rattle.lighting.specs.declared.Level.the-variants.{Units, OutOfRange}
 use Rattle.lighting.specs.declared.Property.{Property}
-use Rattle.lighting.specs.declared.Property.the-variants.{RelinquishDefault, FadeTime, RampRate, StepIncrement, BlinkEnable, BlinkTime, BlinkWarnDelay, MinValue, MaxValue, CommandPriority, ElapsedActiveTime, PresentValue, ProgressValue, InProcess, LastOperation, LastLevel, LastRate, LastStep, LastFadeTime, LastDuration, SlotValue, Unknown}
+use Rattle.lighting.specs.declared.Property.the-variants.{RelinquishDefault, FadeTime, RampRate, StepIncrement, BlinkEnable, BlinkTime, BlinkWarnDelay, MinValue, MaxValue, CommandPriority, ElapsedActiveTime, PresentValue, ProgressValue, InProcess, LastOperation, LastLevel, LastRate, LastStep, LastFadeTime, LastDuration, BinaryActiveValue, BinaryInactiveValue, Polarity, BinaryPresentValue, RelayState, SlotValue, Unknown}
 use Rattle.lighting.specs.declared.Range.{Range}
 use Rattle.lighting.specs.declared.Range.the-variants.{Percent, Limit, Amount, Whole, Priority, ReadOnly}
 use Rattle.lighting.specs.declared.Request.the-variants.{Change}
@@ -71,6 +71,11 @@ by-number LastRate found past = found refl
 by-number LastStep found past = found refl
 by-number LastFadeTime found past = found refl
 by-number LastDuration found past = found refl
+by-number BinaryActiveValue found past = found refl
+by-number BinaryInactiveValue found past = found refl
+by-number Polarity found past = found refl
+by-number BinaryPresentValue found past = found refl
+by-number RelayState found past = found refl
 by-number (SlotValue i) found past =
     by-lt i 16
     (λ h e. found (rw (leb-yes {a = 0x21} {b = 0x21 + i} (omega arith), leb-yes {a = 0x21 + i} {b = 0x30} (omega arith), add-sub-cancel-left 0x21 i)))
@@ -93,7 +98,7 @@ unfolding numbered if_then_else_
 past-most [] n h = refl
 past-most (x ∷ l) n h = rw (eqb-miss {a = n} {b = numberOf x} (omega arith)) (past-most l n (omega arith))
 
-pub unlisted : (n : ℕ) → 0x14 < n → numbered properties n ≡ Unknown
+pub unlisted : (n : ℕ) → 0x1b < n → numbered properties n ≡ Unknown
 unlisted n h = past-most properties n h
 
 -- THE SAME PROPERTY has the same row: the number says which it is

@@ -1,8 +1,10 @@
--- A loop that tests one number after another, up to e: what a turn, an early end and its end say of the whole test.
+-- A loop that tests one number after another, up to e: what a turn, an early end and its end say of the whole test. And the test whether a number is in a list.
 use Prim.Native.Nat.{ℕ, zero, suc, _+_, _-_, _≤_, _<_}
 use mathlib.Core.Path.{_≡_, refl, sym, ap, _∙_}
 use mathlib.Core.Bool.{Bool, true, false}
+use mathlib.Core.List.{List, [], _∷_}
 use native.Mathlib.Omega.{arith}
+use lib.Dec.{eqb}
 use Rattle.lighting.specs.Paper.Choice.{if_then_else_, _also_, allFrom}
 use Rattle.lighting.proofs.Split.{also-both, also-yes, by-eq, by-lt}
 
@@ -50,3 +52,8 @@ all-skip t e (suc w) f =
     e
     (λ l x. scan-on t e w l (f w (omega arith)) ∙ ap (λ (j : ℕ). allFrom t (e - j) j) (omega arith))
     (λ l x. scan-done t e w l ∙ sym (scan-done t e (suc w) (omega arith)))
+
+-- A NUMBER OF A LIST, by the test
+abbrev pub isIn : ℕ → List ℕ → Bool
+isIn n [] = false
+isIn n (m ∷ l) = if eqb n m then true else isIn n l

@@ -83,8 +83,11 @@ by-le a b f g =
 pub by-lt : {P : Type 0} (a b : ℕ) → (a < b → ltb a b ≡ true → P) → (b ≤ a → ltb a b ≡ false → P) → P
 by-lt a b f g = by-le (suc a) b f (λ h e. g (omega arith) e)
 
+pub not-le : {a b : ℕ} → leb a b ≡ false → b < a
+not-le {a} {b} h = by-le a b (λ l e. absurd (false≢true (sym h ∙ e))) (λ l e. l)
+
 pub not-lt : {a b : ℕ} → ltb a b ≡ false → b ≤ a
-not-lt {a} {b} h = by-lt a b (λ l e. absurd (false≢true (sym h ∙ e))) (λ l e. l)
+not-lt {a} {b} h = omega (arith, not-le {a = suc a} {b = b} h)
 
 pub ruleset parts = (also-left, also-right, le-of, eq-of)
 

@@ -13,11 +13,12 @@ use Rattle.lighting.specs.Paper.Parameters.{document01}
 use Rattle.lighting.specs.Paper.Level.{real, amountOf, inRange}
 use Rattle.lighting.specs.Paper.Slots.{view, slotsOf, isLive, firstLive, winner, levelAt, winningLevel}
 use Rattle.lighting.specs.Paper.Value.{clampLit, presentValue}
+use Rattle.lighting.specs.Paper.Relay.{binaryAt}
 use Rattle.lighting.specs.Engine.Advance.{greatestCount, advance}
 use Rattle.lighting.specs.Paper.Passing.{tick, ticks}
 use Rattle.lighting.specs.Paper.Rows.{within, isLevel, isAmount, isSlot, meets, meetsReal}
-use Rattle.lighting.specs.Paper.Rules.{levelsSound, timesSound, realsSound, settingsSound, slotSound, slotsSoundFrom, activityBy, activitySound, timerSound, sound}
-use Rattle.lighting.specs.Paper.Fresh.{freshSettings, freshOutput}
+use Rattle.lighting.specs.Paper.Rules.{levelsSound, timesSound, realsSound, settingsSound, slotSound, slotsSoundFrom, activityBy, activitySound, timerSound, agrees, relaySound, sound}
+use Rattle.lighting.specs.Paper.Fresh.{freshSettings, freshRelay, freshOutput}
 use Rattle.lighting.specs.Paper.Acting.{served, acted}
 use Rattle.lighting.specs.Paper.Panel.{every}
 use Rattle.lighting.specs.Paper.Plain.{Plain, runPlain}
@@ -25,16 +26,16 @@ use Rattle.lighting.specs.declared.Request.{Request}
 use Rattle.lighting.specs.declared.Output.{Output}
 use Rattle.lighting.proofs.Split.{also-yes}
 use Rattle.lighting.proofs.Passing.{advance-ticks}
-use Rattle.lighting.proofs.Facts.{Sound}
+use Rattle.lighting.proofs.Facts.{Lawful}
 use Rattle.lighting.proofs.Tied.{sound-facts, facts-sound, sound-calm}
 use Rattle.lighting.proofs.Ticking.{advance-sound}
 use Rattle.lighting.proofs.RequestInRange.{RequestInRange}
-use Rattle.lighting.proofs.Acted.{acted-sound}
+use Rattle.lighting.proofs.Acted.{acted-lawful}
 use Rattle.lighting.proofs.Answered.{NotOne, acted-not-one}
 
 abbrev pub AllSound : ℕ → List Output → Type 0
 AllSound t [] = Unit {0}
-AllSound t (o ∷ l) = Sound t o × AllSound t l
+AllSound t (o ∷ l) = Lawful t o × AllSound t l
 
 -- THE RULES
 pub all-tested : (t : ℕ) (l : List Output) → AllSound t l → every (sound document01 t) l ≡ true
@@ -43,10 +44,10 @@ all-tested t [] a = refl
 all-tested t (o ∷ l) a = also-yes (facts-sound t o (a .0)) (all-tested t l (a .1))
 
 fresh-tested : sound document01 0 freshOutput ≡ true
-unfolding if_then_else_ allFrom real ofBits amountOf inRange view slotsOf isLive firstLive winner levelAt winningLevel clampLit presentValue within isLevel isAmount isSlot meets meetsReal levelsSound timesSound realsSound settingsSound slotSound slotsSoundFrom activityBy activitySound timerSound sound freshSettings freshOutput
+unfolding if_then_else_ allFrom real ofBits amountOf inRange view slotsOf isLive firstLive winner levelAt winningLevel clampLit presentValue within isLevel isAmount isSlot meets meetsReal levelsSound timesSound realsSound settingsSound slotSound slotsSoundFrom activityBy activitySound timerSound agrees binaryAt relaySound sound freshSettings freshRelay freshOutput
 fresh-tested = refl
 
-fresh-sound : Sound 0 freshOutput
+fresh-sound : Lawful 0 freshOutput
 fresh-sound = sound-facts 0 freshOutput (unfold freshOutput in refl) fresh-tested
 
 pub all-fresh : (c : ℕ) → AllSound 0 (replicate c freshOutput)
@@ -104,12 +105,12 @@ all-advance now to [] h b a = tt
 all-advance now to (o ∷ l) h b a = (advance-sound now to o h b (a .0), all-advance now to l h b (a .1))
 
 -- ACTING
-all-set : (t : ℕ) (l : List Output) (i : ℕ) (o : Output) → AllSound t l → Sound t o → AllSound t (set l i o)
+all-set : (t : ℕ) (l : List Output) (i : ℕ) (o : Output) → AllSound t l → Lawful t o → AllSound t (set l i o)
 all-set t [] i o a h = tt
 all-set t (x ∷ l) zero o a h = (h, a .1)
 all-set t (x ∷ l) (suc i) o a h = (a .0, all-set t l i o (a .1) h)
 
-all-get : (t : ℕ) (l : List Output) (i : ℕ) → i < length l → AllSound t l → Sound t (getD l i freshOutput)
+all-get : (t : ℕ) (l : List Output) (i : ℕ) → i < length l → AllSound t l → Lawful t (getD l i freshOutput)
 all-get t [] i h a = absurd (omega arith)
 all-get t (x ∷ l) zero h a = a .0
 all-get t (x ∷ l) (suc i) h a = all-get t l i (omega arith) (a .1)
@@ -117,7 +118,7 @@ all-get t (x ∷ l) (suc i) h a = all-get t l i (omega arith) (a .1)
 pub served-sound : (t : ℕ) (l : List Output) (s i : ℕ) (r : Request) → RequestInRange r → i < length l → AllSound t l → AllSound t (served t l s i r .outputs)
 unfolding served
 served-sound t l s i r g h a =
-    all-set t l i (acted t (getD l i freshOutput) r .output) a (acted-sound t (getD l i freshOutput) r g (all-get t l i h a))
+    all-set t l i (acted t (getD l i freshOutput) r .output) a (acted-lawful t (getD l i freshOutput) r g (all-get t l i h a))
 
 pub served-length : (t : ℕ) (l : List Output) (s i : ℕ) (r : Request) → length (served t l s i r .outputs) ≡ length l
 unfolding served

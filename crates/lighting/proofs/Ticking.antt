@@ -16,15 +16,18 @@ use Rattle.lighting.specs.declared.Activity.{Activity}
 use Rattle.lighting.specs.declared.Activity.the-variants.{Still, Moving, Warned}
 use Rattle.lighting.specs.declared.Timer.{Timer}
 use Rattle.lighting.specs.declared.Timer.the-variants.{Off, Running}
+use Rattle.lighting.specs.declared.Relay.{Relay}
 use Rattle.lighting.specs.declared.Output.{Output}
 use Rattle.lighting.specs.Paper.Slots.{slot6, Slots, isLive, emptied}
 use Rattle.lighting.proofs.Winner.{winner-empty, winningLevel-empty, six-kept, six-set}
 use Rattle.lighting.specs.Paper.Value.{presentValue}
+use Rattle.lighting.specs.Paper.Relay.{switched}
 use Rattle.lighting.specs.Paper.Record.{withBurning}
 use Rattle.lighting.specs.Paper.Passing.{withBurned, timerDue, phaseEnd, activityDue, isDue, timerAt, emptiedBy, expired, endMovementOf, endMovementBy, endMovementOnExpiry, delayed, nextPhase, nextActivity, activityAt, phaseSlots, nextSlots, slotsAt, afterEvents, fire, tick, ticks}
 use Rattle.lighting.specs.Engine.Advance.{greatestCount, advance}
 use Rattle.lighting.proofs.Passing.{litMilliseconds-le, advance-ticks}
-use Rattle.lighting.proofs.Facts.{IsLevel, Within, Slot, Filled, Moves, Acts, Timed, Sound}
+use Rattle.lighting.proofs.Facts.{IsLevel, Within, Slot, Filled, Moves, Acts, Timed, RelayInRange, Sound, Lawful}
+use Rattle.lighting.proofs.Judged.{tick-judged}
 use Rattle.lighting.proofs.Tied.{sound-calm}
 use Rattle.lighting.proofs.Levels.{put-filled}
 
@@ -101,6 +104,23 @@ unfolding timerAt timerDue isDue if_then_else_
 next-timer t Off h = tt
 next-timer t (Running q d) h = by-eq d (suc t) (λ p e. rw e tt) (λ p e. rw e (h .0, omega (arith, h .1)))
 
+-- judging leaves what the relay is set to
+switched-range : (v : ℕ) (r : Relay) → RelayInRange r → RelayInRange (switched v r)
+unfolding switched
+switched-range v r h = record { active = h .active; inactive = h .inactive; order = h .order }
+
+pub afterEvents-sound : (t : ℕ) (o : Output) → Sound t o → Sound t (afterEvents o)
+unfolding afterEvents
+afterEvents-sound t o h =
+    record {
+      settings = h .settings;
+      slots = h .slots;
+      activity = h .activity;
+      timer = h .timer;
+      burnt = h .burnt;
+      relay = switched-range (presentValue (o .settings) (o .slots)) (o .relay) (h .relay);
+    }
+
 pub tick-sound : (t : ℕ) (o : Output) → Sound t o → Sound (suc t) (tick t o)
 unfolding tick fire afterEvents withBurned withBurning
 tick-sound t o h =
@@ -112,16 +132,18 @@ tick-sound t o h =
       activity = n .activity;
       timer = next-timer t (o .timer) (h .timer);
       burnt = omega (arith, litMilliseconds-le t 1 o, h .burnt);
+      relay = switched-range _ (o .relay) (h .relay);
     }
 
-ticks-sound : (n t : ℕ) (o : Output) → Sound t o → Sound (t + n) (ticks n t o)
+ticks-sound : (n t : ℕ) (o : Output) → Lawful t o → Lawful (t + n) (ticks n t o)
 unfolding ticks
 ticks-sound zero t o h = rw (add-zero t) h
 ticks-sound (suc n) t o h =
-    let e : t + suc n ≡ suc t + n = omega arith in rw e (ticks-sound n (suc t) (tick t o) (tick-sound t o h))
+    let e : t + suc n ≡ suc t + n = omega arith in
+    rw e (ticks-sound n (suc t) (tick t o) (record { sound = tick-sound t o (h .sound); judged = tick-judged t o }))
 
 -- so the engine keeps them too
-pub advance-sound : (now to : ℕ) (o : Output) → now ≤ to → to ≤ greatestCount → Sound now o → Sound to (advance now to o)
+pub advance-sound : (now to : ℕ) (o : Output) → now ≤ to → to ≤ greatestCount → Lawful now o → Lawful to (advance now to o)
 advance-sound now to o l m h =
     let e : now + (to - now) ≡ to = omega arith in
     rw (advance-ticks now to o l m (sound-calm now o h)) (rw e at (ticks-sound (to - now) now o h))

@@ -1,6 +1,6 @@
 -- The test of the record rules holds exactly where their facts do. An array's length is part of the code's type.
-use mathlib.Core.Path.{_≡_, refl, _∙_}
-use mathlib.Core.Bool.{true, false, false≢true}
+use mathlib.Core.Path.{_≡_, refl, sym, _∙_}
+use mathlib.Core.Bool.{Bool, true, false, false≢true}
 use Prim.Native.Nat.{ℕ, _-_, _≤_, _<_}
 use native.Mathlib.Nat.{sub-self}
 use native.Mathlib.Omega.{arith}
@@ -10,6 +10,7 @@ use Rattle.lighting.specs.Paper.Choice.{if_then_else_}
 use Rattle.lighting.proofs.Split.{unless, by-eq, by-bool, le-of, leb-yes, eqb-miss, parts, tests}
 use Rattle.lighting.proofs.Scan.{all-each, each-all}
 use Rattle.lighting.specs.declared.Settings.{Settings}
+use Rattle.lighting.specs.declared.Relay.{Relay}
 use Rattle.lighting.specs.declared.Movement.{Movement}
 use Rattle.lighting.specs.declared.Activity.{Activity}
 use Rattle.lighting.specs.declared.Activity.the-variants.{Still, Moving, Warned}
@@ -19,15 +20,16 @@ use Rattle.lighting.specs.declared.Output.{Output}
 use Rattle.lighting.specs.Paper.Slots.{slotCount, slot6, Slots, isLive, winner, slot}
 use Rattle.lighting.proofs.Mask.{slot-is}
 use Rattle.lighting.specs.Paper.Value.{presentValue}
+use Rattle.lighting.specs.Paper.Relay.{binaryAt}
 use Rattle.lighting.specs.Engine.Advance.{greatestCount, advance}
 use Rattle.lighting.specs.Paper.Passing.{timerDue, activityDue, ticks}
 use Rattle.lighting.proofs.Passing.{advance-ticks, Calm, MomentAfter}
 use Rattle.lighting.specs.Paper.Parameters.{document01}
 use Rattle.lighting.specs.Paper.Rows.{within, isSlot, meets, isLevel}
-use Rattle.lighting.specs.Paper.Rules.{levelsSound, timesSound, realsSound, settingsSound, slotSound, slotsSoundFrom, spanSound, movementSound, warningBy, warningSound, activityBy, activitySound, timerSound, sound}
+use Rattle.lighting.specs.Paper.Rules.{levelsSound, timesSound, realsSound, settingsSound, slotSound, slotsSoundFrom, spanSound, movementSound, warningBy, warningSound, activityBy, activitySound, timerSound, agrees, relaySound, sound}
 use Rattle.lighting.specs.declared.Range.{Range}
 use Rattle.lighting.specs.declared.Range.the-variants.{Percent, Limit, Amount, Whole, Priority, ReadOnly}
-use Rattle.lighting.proofs.Facts.{IsLevel, Within, Slot, Meets, SettingsInRange, SlotLevel, Filled, Moves, Acts, Timed, Sound}
+use Rattle.lighting.proofs.Facts.{IsLevel, Within, Slot, Meets, SettingsInRange, SlotLevel, Filled, Moves, Acts, Timed, RelayInRange, Sound, Judged, Lawful}
 use Rattle.lighting.specs.Paper.Level.{leastLevel, greatestLevel}
 
 -- FROM THE TEST TO THE FACTS
@@ -84,9 +86,28 @@ unfolding timerSound
 timed-of t Off h = tt
 timed-of t (Running slot due) h = search (parts, slot-of)
 
-pub sound-facts : (t : ℕ) (o : Output) → length (o .slots .levels) ≡ slotCount → sound document01 t o ≡ true → Sound t o
+agrees-of : (one other : Bool) → agrees one other ≡ true → one ≡ other
+unfolding agrees if_then_else_
+agrees-of true other h = sym h
+agrees-of false other h = sym (not-true other h)
+
+relay-of : (v : ℕ) (r : Relay) → relaySound document01 v r ≡ true → RelayInRange r
+unfolding relaySound meets
+relay-of v r h = search (parts, level-of)
+
+binary-of : (v : ℕ) (r : Relay) → relaySound document01 v r ≡ true → r .binary ≡ binaryAt v r
+unfolding relaySound
+binary-of v r h = search (parts, agrees-of)
+
+pub tested-judged : (t : ℕ) (o : Output) → sound document01 t o ≡ true → Judged o
 unfolding sound
-sound-facts t o size h = search (parts, settings-of, filled-of, acts-of, timed-of)
+tested-judged t o h = search (parts, binary-of)
+
+pub sound-facts : (t : ℕ) (o : Output) → length (o .slots .levels) ≡ slotCount → sound document01 t o ≡ true → Lawful t o
+sound-facts t o size h = record { sound = rules; judged = tested-judged t o h }
+  where
+    rules : Sound t o
+    rules = unfold sound in search (parts, settings-of, filled-of, acts-of, timed-of, relay-of)
 
 -- FROM THE FACTS TO THE TEST
 within-yes : (low high v : ℕ) → Within low high v → within low high v ≡ true
@@ -133,9 +154,21 @@ unfolding timerSound
 timed-yes t Off h = refl
 timed-yes t (Running slot due) h = search (tests, slot-yes)
 
-pub facts-sound : (t : ℕ) (o : Output) → Sound t o → sound document01 t o ≡ true
+agrees-yes : (one other : Bool) → one ≡ other → agrees one other ≡ true
+unfolding agrees if_then_else_
+agrees-yes true other h = sym h
+agrees-yes false other h = rw (sym h)
+
+relay-yes : (v : ℕ) (r : Relay) → RelayInRange r → r .binary ≡ binaryAt v r → relaySound document01 v r ≡ true
+unfolding relaySound meets
+relay-yes v r h e = search (tests, level-yes, agrees-yes)
+
+pub facts-sound : (t : ℕ) (o : Output) → Lawful t o → sound document01 t o ≡ true
 unfolding sound
-facts-sound t o h = search (tests, settings-yes, filled-yes, acts-yes, timed-yes) depth 7
+facts-sound t o l =
+    let h = l .sound in
+    let relay = relay-yes (presentValue (o .settings) (o .slots)) (o .relay) (h .relay) (l .judged .same) in
+    search (tests, settings-yes, filled-yes, acts-yes, timed-yes) depth 7
 
 -- what `advance-ticks` asks
 pub tested-calm : (t : ℕ) (o : Output) → sound document01 t o ≡ true → Calm t o
@@ -147,6 +180,7 @@ tested-calm t o h =
             all = (timer (o .timer) (search (parts, timed-of)), (activity (o .activity) (search (parts, acts-of)), tt));
           };
       burnt = search parts;
+      judged = tested-judged t o h;
     }
   where
     timer : (m : Timer) → Timed t m → MomentAfter t (timerDue m)
@@ -158,7 +192,7 @@ tested-calm t o h =
     activity (Moving m) k = unfold activityDue in (k .later)
     activity (Warned w) k = unfold activityDue in (k .later)
 
-pub sound-calm : (t : ℕ) (o : Output) → Sound t o → Calm t o
+pub sound-calm : (t : ℕ) (o : Output) → Lawful t o → Calm t o
 sound-calm t o h = tested-calm t o (facts-sound t o h)
 
 -- a record that passed the test stays as it is while time stands

@@ -5,9 +5,10 @@ pub mod Parameters
 -- 'Levels'; big-endian fields
 pub mod Level
 pub mod Field
--- 'An output's record': slots, what an output shows, every way to change its record
+-- 'An output's record': slots, what an output shows, its relay (§3), every way to change its record
 pub mod Slots
 pub mod Value
+pub mod Relay
 pub mod Record
 -- 'The plain panel': one millisecond of an output, and what falls due in it
 pub mod Passing
@@ -35,8 +36,9 @@ pub mod Demand
 pub mod Calls
 -- §1 in lists: commands sent in tags instead of plain
 pub mod InTags
--- 'Bench figures', and a worked list; §1 and §2 by hand
+-- 'Bench figures', and a worked list; §1 to §3 by hand
 pub mod Figures
 pub mod Worked
 pub mod WorkedTags
 pub mod WorkedLight
+pub mod WorkedRelay

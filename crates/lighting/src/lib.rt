@@ -26,7 +26,7 @@ pub struct Slots {
     pub levels: [u32; SLOTS],
 }
 
-// The writable properties but Elapsed_Active_Time. Fields have names of one word: the definitions would have to put others between marks.
+// The writable properties of document 01 but Elapsed_Active_Time; those of §3 stand in the relay. Fields have names of one word: the definitions would have to put others between marks.
 pub struct Settings {
     // Relinquish_Default, a level
     pub default: u32,
@@ -44,6 +44,17 @@ pub struct Settings {
     pub max: u32,
     // Lighting_Command_Priority, less one
     pub slot: u8,
+}
+
+// The relay of an output (§3 of the change requests), which Present_Value switches.
+pub struct Relay {
+    // Binary_Active_Value and Binary_Inactive_Value, levels: at or above the one it turns active, at or below the other inactive
+    pub active: u32,
+    pub inactive: u32,
+    // Polarity: normal, or reverse
+    pub reverse: bool,
+    // Binary_Present_Value: active, or inactive
+    pub binary: bool,
 }
 
 // How a movement goes: a fade by an even share of its way, a ramp at a rate in units a second.
@@ -189,6 +200,7 @@ pub struct Output {
     // Elapsed_Active_Time in milliseconds, the paper's burning time.
     pub burning: u64,
     pub last: Command,
+    pub relay: Relay,
 }
 
 // ---- answers and stations
@@ -261,7 +273,7 @@ pub struct KindRow {
 
 // ---- requests
 
-// The paper's properties 01 to 14 and, as SlotValue 0 to 15, 21 to 30.
+// The paper's properties 01 to 14, 17 to 1B and, as SlotValue 0 to 15, 21 to 30.
 pub enum Property {
     RelinquishDefault,
     FadeTime,
@@ -283,6 +295,11 @@ pub enum Property {
     LastStep,
     LastFadeTime,
     LastDuration,
+    BinaryActiveValue,
+    BinaryInactiveValue,
+    Polarity,
+    BinaryPresentValue,
+    RelayState,
     SlotValue(u8),
     Unknown,
 }

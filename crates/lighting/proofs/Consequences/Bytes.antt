@@ -183,13 +183,13 @@ module _ (b : Bytes) where
   unfolding kindRow requestOf emptyOf if_then_else_
   empty-priority h = rw (priority-no (byteAt b 13) h)
 
-  -- and what they do: kinds 02 and 03 are answered Done, and act on slot i alone through `written` and `slotRelinquished`
+  -- and what they do: kinds 02 and 03 are answered Done, and act on slot i alone through `written` and `slotRelinquished`; then the relay is judged (§3)
   pub writes-slot : (t : ℕ) (o : Output) (i v : ℕ) → Slot i → byteAt b 13 ≡ suc i → levelOf (real (bigEndian 4 b 14)) ≡ Units v
-      → acted t o (asked 2 b) ≡ record { output = written t o i v; answer = Done }
-  unfolding acted done afterEvents
+      → acted t o (asked 2 b) ≡ record { output = afterEvents (written t o i v); answer = Done }
+  unfolding acted done
   writes-slot t o i v k n e = rw (write-slot i v k n e)
 
   pub empties-slot : (t : ℕ) (o : Output) (i : ℕ) → Slot i → byteAt b 13 ≡ suc i
-      → acted t o (asked 3 b) ≡ record { output = slotRelinquished o i; answer = Done }
-  unfolding acted done afterEvents
+      → acted t o (asked 3 b) ≡ record { output = afterEvents (slotRelinquished o i); answer = Done }
+  unfolding acted done
   empties-slot t o i k n = rw (empty-slot i k n)

@@ -14,9 +14,9 @@ use Rattle.lighting.specs.Paper.Record.{withBurning, withEffect, withSet
 use Rattle.lighting.specs.Paper.Passing.{withBurned, timerDue, activityDue, isDue, timerAt, emptiedBy, expired, endMovementOf, endMovementBy, endMovementOnExpiry, nextActivity, activityAt, phaseSlots, nextSlots, slotsAt, afterEvents, fire, tick, ticks}
 use Rattle.lighting.specs.Paper.Writing.{stored, warns, warnedBy, warned, endedEmpty, endedStored, writtenWarned, writtenZero, writtenCalm, writtenBy, written, slotRelinquished}
 use Rattle.lighting.specs.Paper.Rows.{within}
-use Rattle.lighting.specs.Paper.Properties.{settingsWith, changed, minOverMax}
+use Rattle.lighting.specs.Paper.Properties.{changed}
 use Rattle.lighting.specs.Paper.Commands.{timed, commandedFrom, commanded}
-use Rattle.lighting.specs.Paper.Acting.{done, unchanged, changedUnless, acted}
+use Rattle.lighting.specs.Paper.Acting.{done, unchanged, acted}
 use Rattle.lighting.specs.Paper.Operations.{fieldsOf}
 use Rattle.lighting.specs.Paper.Frames.{fieldsRefusal, plainDuration, commandLasting, commandOf, commandWithDuration, commandRequestBy, commandRequest}
 use Rattle.lighting.specs.declared.Movement.{Movement}
@@ -31,13 +31,14 @@ use Rattle.lighting.specs.declared.Operation.{Operation}
 use Rattle.lighting.specs.declared.Request.{Request}
 use Rattle.lighting.specs.declared.Request.the-variants.{Refuse, Write, Empty, Change, Read, Commands}
 use Rattle.lighting.specs.declared.Output.{Output}
+use Rattle.lighting.specs.declared.Outcome.{Outcome}
 use Rattle.lighting.proofs.Split.{by-bool, by-eq, eqb-hit, eqb-miss, leb-yes, leb-no}
 use Rattle.lighting.proofs.Facts.{Slot, Acts, Timed, Sound}
 use Rattle.lighting.proofs.Passing.{TimerAfter, timer-earlier, timer-quiet, expired-quiet, endMovementOnExpiry-quiet}
 use Rattle.lighting.proofs.Winner.{put-sized}
 use Rattle.lighting.proofs.Ticking.{tick-sound}
 use Rattle.lighting.proofs.RequestInRange.{RequestInRange}
-use Rattle.lighting.proofs.Acted.{acted-sound}
+use Rattle.lighting.proofs.Acted.{by-change, acted-sound}
 use Rattle.lighting.proofs.Consequences.Present.{slot-same, slot-other}
 
 -- A STRETCH OF AN OUTPUT'S LIFE without a command: milliseconds, and whatever else a frame may ask, in any order
@@ -70,10 +71,11 @@ pub record Rest (o o′ : Output) : Type 0 where
   pub timer : o′ .timer ≡ o .timer
   pub burning : o′ .burning ≡ o .burning
   pub last : o′ .last ≡ o .last
+  pub relay : o′ .relay ≡ o .relay
 
 effect-rest : (o : Output) (s : Slots) (a : Activity) → Rest o (withEffect o s a)
 unfolding withEffect
-effect-rest o s a = record { settings = refl; timer = refl; burning = refl; last = refl }
+effect-rest o s a = record { settings = refl; timer = refl; burning = refl; last = refl; relay = refl }
 
 calm-rest : (t : ℕ) (o : Output) (i v : ℕ) → Rest o (writtenCalm t o i v)
 unfolding writtenCalm writtenZero stored warned warnedBy if_then_else_
@@ -100,11 +102,11 @@ unfolding written
 written-rest t o i v = written-by-rest t o i v (o .activity)
 
 acted-timer : (t : ℕ) (o : Output) (r : Request) → NoCommand r → acted t o r .output .timer ≡ o .timer
-unfolding acted done unchanged afterEvents slotRelinquished withEffect changedUnless changed withSettings if_then_else_
+unfolding acted done unchanged afterEvents slotRelinquished withEffect changed withSettings
 acted-timer t o (Refuse r) n = refl
 acted-timer t o (Write i v) n = written-rest t o i v .timer
 acted-timer t o (Empty i) n = refl
-acted-timer t o (Change m v) n = by-bool (minOverMax (settingsWith (o .settings) m v)) (λ e. rw e) (λ e. rw e)
+acted-timer t o (Change m v) n = by-change (λ (z : Outcome). z .output .timer ≡ o .timer) t o m v (λ r l. refl) (λ e e′. refl)
 acted-timer t o (Read q) n = refl
 acted-timer t o (Commands k) n = elim n [ ]
 
@@ -189,7 +191,7 @@ expires-other t q o m e f w l =
 
 -- AND NOTHING ELSE: beside the same output without a duration, no other slot differs, and a warning runs on
 abbrev pub untimed : Output → Output
-untimed o = record { settings = o .settings; slots = o .slots; activity = o .activity; timer = Off; burning = o .burning; last = o .last }
+untimed o = record { settings = o .settings; slots = o .slots; activity = o .activity; timer = Off; burning = o .burning; last = o .last; relay = o .relay }
 
 put-alike : (s : Slots) → length (s .levels) ≡ slotCount → (q j i : ℕ) (x : Option ℕ) → q < slotCount → q ≢ j → i < slotCount
     → slot (put (emptied s q) i x) j ≡ slot (put s i x) j

@@ -14,10 +14,10 @@ use Rattle.lighting.specs.Paper.Record.{withBurning, withEffect, withCom
 use Rattle.lighting.specs.Paper.Passing.{withBurned, afterEvents, fire, tick}
 use Rattle.lighting.specs.Paper.Writing.{slotRelinquished}
 use Rattle.lighting.specs.Paper.Commands.{commandedFrom, commanded}
-use Rattle.lighting.specs.Paper.Properties.{settingsWith, changed, minOverMax}
+use Rattle.lighting.specs.Paper.Properties.{changed}
 use Rattle.lighting.specs.Paper.Kinds.{kindRow}
 use Rattle.lighting.specs.Paper.Fresh.{freshOutput}
-use Rattle.lighting.specs.Paper.Acting.{done, unchanged, changedUnless, acted, served}
+use Rattle.lighting.specs.Paper.Acting.{done, unchanged, acted, served}
 use Rattle.lighting.specs.Paper.Tags.{commandTags, bodyBytes, readBody}
 use Rattle.lighting.specs.Paper.Frames.{Bytes, Octets, Strings, levelFieldRefusal, amountFieldRefusal, timeFieldRefusal, firstRefusal, fieldsRefusal, commandWithDuration, commandRequestBy, commandOf, plainDuration, commandRequest, taggedRequest, requestOf, callOf, called, clockOf, parseBy, parse, Kept, asked}
 use Rattle.lighting.specs.Paper.Copies.{sameBytes, retransmissionOrConflict}
@@ -33,11 +33,13 @@ use Rattle.lighting.specs.declared.Frame.the-variants.{Bad, Clock, Calls
 use Rattle.lighting.specs.declared.Kind.{Kind}
 use Rattle.lighting.specs.declared.Kind.the-variants.{NoKind, ClockKind, CallKind}
 use Rattle.lighting.specs.declared.Output.{Output}
+use Rattle.lighting.specs.declared.Outcome.{Outcome}
 use Rattle.lighting.specs.declared.Request.{Request}
 use Rattle.lighting.specs.declared.Request.the-variants.{Refuse, Write, Empty, Change, Read, Commands}
 use Rattle.lighting.specs.declared.Verdict.{Verdict}
 use Rattle.lighting.specs.declared.Verdict.the-variants.{TurnedDown, Copied, Clocked, Arrives}
 use Rattle.lighting.proofs.Split.{by-bool}
+use Rattle.lighting.proofs.Acted.{by-change}
 use Rattle.lighting.proofs.Octets.{appended-octets, repeated-octets}
 use Rattle.lighting.proofs.KeptCommands.{gives-back}
 use Rattle.lighting.proofs.Demand.{demand-3}
@@ -105,11 +107,11 @@ unfolding tick fire afterEvents withBurned withBurning
 tick-last t o = refl
 
 acted-last : (t : ℕ) (o : Output) (r : Request) → Asking r → Kept document01 (o .last) → Kept document01 (acted t o r .output .last)
-unfolding acted done unchanged afterEvents slotRelinquished withEffect changedUnless changed withSettings commanded commandedFrom withCommand if_then_else_
+unfolding acted done unchanged afterEvents slotRelinquished withEffect changed withSettings commanded commandedFrom withCommand
 acted-last t o (Refuse r) g h = h
 acted-last t o (Write i v) g h = rw (written-rest t o i v .last) h
 acted-last t o (Empty i) g h = h
-acted-last t o (Change n v) g h = by-bool (minOverMax (settingsWith (o .settings) n v)) (λ e. rw e h) (λ e. rw e h)
+acted-last t o (Change n v) g h = by-change (λ (z : Outcome). Kept document01 (z .output .last)) t o n v (λ r l. h) (λ e e′. h)
 acted-last t o (Read n) g h = h
 acted-last t o (Commands k) g h = g k refl
 

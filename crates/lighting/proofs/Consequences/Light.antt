@@ -16,7 +16,8 @@ use Rattle.lighting.specs.declared.Activity.the-variants.{Moving}
 use Rattle.lighting.specs.declared.Output.{Output}
 use Rattle.lighting.proofs.Split.{by-eq, by-lt, eqb-hit, eqb-miss}
 use Rattle.lighting.proofs.Light.{counted}
-use Rattle.lighting.proofs.Passing.{TimerAfter, timer-earlier, eventStep-ticks}
+use Rattle.lighting.proofs.Passing.{TimerAfter, timer-earlier}
+use Rattle.lighting.proofs.Unjudged.{step-but-relay}
 use Rattle.lighting.proofs.Consequences.Movements.{moving-after}
 
 -- the ceiling d + 1 of w / s, by hand
@@ -35,7 +36,7 @@ module _ (t : ℕ) (o : Output) (m : Movement) (moves : o .activity ≡ Moving m
   burned n zero h a e = let y : 0 ≡ n = gained 0 ∙ e in omega arith
   burned n (suc k) h a e =
       rw
-      (eventStep-ticks k t o (moving-after t o m moves begun k (omega arith) (timer-earlier (o .timer) (omega arith) a)))
+      (step-but-relay k t o (moving-after t o m moves begun k (omega arith) (timer-earlier (o .timer) (omega arith) a)))
       (ap (λ (x : ℕ). o .burning + x) (gained (suc k) ∙ e))
 
   by-fade : (k : ℕ) → m .pace ≡ Fade → litMoving t k m ≡ litAt (max (m .start) (m .target)) (m .length) t k m

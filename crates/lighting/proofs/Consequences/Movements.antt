@@ -12,7 +12,7 @@ use Rattle.lighting.specs.Paper.Choice.{if_then_else_}
 use Rattle.lighting.specs.Paper.Level.{levelUnits, amountUnits}
 use Rattle.lighting.specs.Paper.Slots.{slot6, slotCount, Slots, winner, filled}
 use Rattle.lighting.specs.Paper.Value.{clampLit, presentValue, elapsed, distanceMoved, reachedBy, reached, progressBy, progressValue, inProcess}
-use Rattle.lighting.specs.Paper.Record.{withBurning, withCommand}
+use Rattle.lighting.specs.Paper.Record.{withBurning, withRelay, withCommand}
 use Rattle.lighting.specs.Paper.Passing.{withBurned, activityDue, isDue, nextActivity, activityAt, nextSlots, slotsAt, afterEvents, fire, ticks}
 use Rattle.lighting.specs.Paper.Commands.{withoutWarning, activityWithoutWarning, replaced, placed, movement, distance, rampLength, target, fadedOver, fadedTo, rampedAt, rampedTo, effect, commandedFrom, commanded}
 use Rattle.lighting.specs.declared.Pace.{Pace}
@@ -28,7 +28,8 @@ use Rattle.lighting.specs.declared.Command.{Command}
 use Rattle.lighting.specs.declared.Effect.{Effect}
 use Rattle.lighting.specs.declared.Output.{Output}
 use Rattle.lighting.proofs.Split.{by-eq, by-le, eqb-hit, eqb-miss}
-use Rattle.lighting.proofs.Passing.{TimerAfter, After, both-after, timer-earlier, endMovementOnExpiry-quiet, expired-quiet, quiet-ticks, eventStep-ticks}
+use Rattle.lighting.proofs.Passing.{TimerAfter, MomentAfter, After, both-after, timer-earlier, endMovementOnExpiry-quiet, expired-quiet}
+use Rattle.lighting.proofs.Unjudged.{quiet-but-relay, step-but-relay}
 use Rattle.lighting.proofs.Facts.{Acts, Timed, Sound}
 use Rattle.lighting.proofs.RequestInRange.{OperationInRange, DurationInRange}
 use Rattle.lighting.proofs.Mask.{put-size}
@@ -115,7 +116,7 @@ module _ (t : ℕ) (o : Output) (m : Movement) (moves : o .activity ≡ Moving m
   unfolding withBurned withBurning progressValue progressBy inProcess reached
   moving k h a =
       let z : elapsed (t + k) m ≡ k = omega arith in
-      rw (quiet-ticks k t o (moving-after k h a), moves) (ap (reachedBy m) z ∙ along-reached m k, refl)
+      rw (quiet-but-relay k t o (moving-after k h a), moves) (ap (reachedBy m) z ∙ along-reached m k, refl)
 
   -- and at its length it is over, on the target
   pub arrived : 0 < m .length → TimerAfter (t + m .length) (o .timer) → Sound t o
@@ -128,20 +129,22 @@ module _ (t : ℕ) (o : Output) (m : Movement) (moves : o .activity ≡ Moving m
       go : (l : ℕ) → m .length ≡ l → (progressValue (t + l) (ticks l t o) ≡ m .target) × (inProcess (ticks l t o .activity) ≡ 0)
       go zero e = absurd (omega arith)
       go (suc n) e =
-          let b = withBurned t (suc n) o in
+          let b = withRelay (withBurned t (suc n) o) (ticks n t o .relay) in
           let f = over-at (suc (t + n)) b m (unfold withBurned withBurning in moves) (omega arith)
           (unfold withBurned withBurning in (subst (λ (d : ℕ). TimerAfter d (o .timer)) (let z : t + m .length ≡ suc (t + n) = omega arith in z) a)) in
           let q = moving-after n (omega arith) (timer-earlier (o .timer) (omega arith) a) in
           rw
-          (eventStep-ticks n t o q) (
+          (step-but-relay n t o q) (
             progress-still (t + suc n) (fire (suc (t + n)) b) (f .0)
                 ∙ rw (f .1, f .2) (unfold withBurned withBurning in (sym aims)),
             unfold inProcess in (rw (f .0)),
           )
 
--- A COMMAND THAT MOVES, from Progress_Value before it to g over l, if no frame comes and no duration falls due
+-- A COMMAND THAT MOVES, from Progress_Value before it to g over l, if no frame comes and no duration falls due. Present_Value is g at once
 pub record Course (t : ℕ) (o o′ : Output) (g l : ℕ) (w : Pace) : Type 0 where
   pub begins : progressValue t o′ ≡ progressValue t o
+  pub shows : presentValue (o′ .settings) (o′ .slots) ≡ g
+  pub lasts : (k : ℕ) → k < l → MomentAfter (t + k) (activityDue (o′ .activity))
   pub between : (k : ℕ) → k ≤ l → TimerAfter (t + k) (o′ .timer) → progressValue (t + k) (ticks k t o′) ≡ along w (progressValue t o) g l k
   pub ends : TimerAfter (t + l) (o′ .timer) → (progressValue (t + l) (ticks l t o′) ≡ g) × (inProcess (ticks l t o′ .activity) ≡ 0)
 
@@ -161,7 +164,7 @@ timer-sound t (Running q d) h = h .1
 resting : (t k : ℕ) (o : Output) → o .activity ≡ Still → TimerAfter (t + k) (o .timer)
     → (progressValue (t + k) (ticks k t o) ≡ presentValue (o .settings) (o .slots)) × (inProcess (ticks k t o .activity) ≡ 0)
 unfolding withBurned withBurning progressValue progressBy inProcess
-resting t k o e a = rw (quiet-ticks k t o (both-after (t + k) o a (rw e (unfold activityDue in tt))), e) (refl, refl)
+resting t k o e a = rw (quiet-but-relay k t o (both-after (t + k) o a (rw e (unfold activityDue in tt))), e) (refl, refl)
 
 module _ (t : ℕ) (o o′ : Output) (p g l : ℕ) (w : Pace) (sound : Sound t o′)
     (acts : o′ .activity ≡ movement t p (progressValue t o) g l w)
@@ -173,6 +176,8 @@ module _ (t : ℕ) (o o′ : Output) (p g l : ℕ) (w : Pace) (sound : Sound t o
       let q : o′ .activity ≡ Still = acts ∙ (unfold movement if_then_else_ in (rw (eqb-hit {a = progressValue t o} {b = g} e))) in
       record {
         begins = progress-still t o′ q ∙ shows ∙ sym e;
+        shows = shows;
+        lasts = λ k m. rw q (unfold activityDue in tt);
         between = λ k m a. resting t k o′ q a .0 ∙ shows ∙ sym (rw e (along-none w g l k));
         ends = λ a. (resting t l o′ q a .0 ∙ shows, resting t l o′ q a .1);
       }
@@ -186,6 +191,8 @@ module _ (t : ℕ) (o o′ : Output) (p g l : ℕ) (w : Pace) (sound : Sound t o
       let begin : progressValue t o′ ≡ along w (progressValue t o) g l 0 = rw (add-zero t) at first in
       record {
         begins = begin ∙ along-first w (progressValue t o) g l;
+        shows = shows;
+        lasts = λ k h. rw q (unfold activityDue in (omega arith));
         between =
             λ k h a. by-eq k l
             (λ e z. rw e (arrived t o′ m q refl (long n) (rw e at a) sound .0 ∙ sym last))

@@ -1,5 +1,6 @@
--- KIND 05, by the property's NUMBER: what each of 01 to 14 and 21 to 30 reads as, of every output at every time.
+-- KIND 05, by the property's NUMBER: what each of 01 to 14, 17 to 1B and 21 to 30 reads as, of every output at every time.
 use mathlib.Core.Path.{_≡_, refl}
+use mathlib.Core.Bool.{not}
 use mathlib.Core.List.{[], _∷_, map}
 use mathlib.Core.Option.{Option, none, some}
 use Prim.Native.Nat.{ℕ, suc, _+_, _<_}
@@ -11,6 +12,7 @@ use Rattle.lighting.specs.Paper.Level.{bits, readOut}
 use Rattle.lighting.specs.Paper.Slots.{slotCount, slot, isLive, levelAt}
 use Rattle.lighting.specs.Paper.Value.{presentValue, progressValue, inProcess}
 use Rattle.lighting.specs.Paper.Properties.{numbered, properties, propertyOf, levelAnswer, slotAnswer, flag, elapsedActive, realAnswer, readProperty}
+use Rattle.lighting.specs.Paper.Relay.{relayState}
 use Rattle.lighting.specs.Paper.Acting.{unchanged, acted}
 use Rattle.lighting.specs.Paper.Field.{byteAt}
 use Rattle.lighting.specs.Paper.Kinds.{kindRow}
@@ -54,8 +56,25 @@ pub read-numbers : (t : ℕ) (o : Output)
 unfolding acted unchanged propertyOf numbered readProperty levelAnswer realAnswer flag if_then_else_
 read-numbers t o = refl
 
--- 'property unknown' is 9: 00, 15 to 20 and 31 on
-pub read-unknown : (t : ℕ) (o : Output) (n : ℕ) → 0x14 < n → n < 0x21 → reads t o n ≡ Refused 9
+-- 'Binary_Active_Value and Binary_Inactive_Value (properties 17 and 18, levels [..]) and Polarity (19, 0 normal, 1 reverse [..]). Binary_Present_Value (1A,
+-- read only, 1 active, 0 inactive) [..] The relay's state (1B, read only) is that value, or its opposite under reverse'
+pub read-relay : (t : ℕ) (o : Output)
+    → map (reads t o) (0x17 ∷ 0x18 ∷ 0x19 ∷ 0x1a ∷ 0x1b ∷ [])
+    ≡ Value (readOut (o .relay .active))
+    ∷ Value (readOut (o .relay .inactive))
+    ∷ Value (if o .relay .reverse then 1 else 0)
+    ∷ Value (if o .relay .binary then 1 else 0)
+    ∷ Value (if (if o .relay .reverse then not (o .relay .binary) else o .relay .binary) then 1 else 0)
+    ∷ []
+unfolding acted unchanged propertyOf numbered readProperty levelAnswer flag relayState if_then_else_
+read-relay t o = refl
+
+-- 'property unknown' is 9: 00, 15 and 16, 1C to 20 and 31 on
+pub read-between : (t : ℕ) (o : Output) → map (reads t o) (0x15 ∷ 0x16 ∷ []) ≡ Refused 9 ∷ Refused 9 ∷ []
+unfolding acted unchanged propertyOf numbered readProperty if_then_else_
+read-between t o = refl
+
+pub read-unknown : (t : ℕ) (o : Output) (n : ℕ) → 0x1b < n → n < 0x21 → reads t o n ≡ Refused 9
 unfolding acted unchanged propertyOf numbered readProperty if_then_else_
 read-unknown t o n h k = rw (leb-no {a = 0x21} {b = n} k, unlisted n h)
 

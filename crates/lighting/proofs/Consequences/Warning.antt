@@ -11,7 +11,7 @@ use lib.ListN.{getD, length}
 use Rattle.lighting.specs.Paper.Choice.{if_then_else_}
 use Rattle.lighting.specs.Paper.Slots.{slotCount, slot6, Slots, slot, slotsOf, winningLevel, firstLive, winner, isLive, put, emptied, filled}
 use Rattle.lighting.specs.Paper.Value.{clampLit, presentValue}
-use Rattle.lighting.specs.Paper.Record.{withBurning, withEffect}
+use Rattle.lighting.specs.Paper.Record.{withBurning, withRelay, withEffect}
 use Rattle.lighting.specs.Paper.Passing.{withBurned, phaseEnd, activityDue, isDue, delayed, nextPhase, nextActivity, activityAt, phaseSlots, nextSlots, slotsAt, afterEvents, fire, ticks}
 use Rattle.lighting.specs.Paper.Writing.{zeroOrEmpty, zeroOrEmptyFrom, blinks, zeroOrEmptyAbove, warnsBy, warns, firstLevel, firstPhase, warningFrom, warnedBy, warned, writtenZero, writtenCalm, writtenBy, written}
 use Rattle.lighting.specs.declared.Settings.{Settings}
@@ -20,10 +20,12 @@ use Rattle.lighting.specs.declared.Phase.the-variants.{Blink, Delay}
 use Rattle.lighting.specs.declared.Activity.{Activity}
 use Rattle.lighting.specs.declared.Activity.the-variants.{Still, Moving, Warned}
 use Rattle.lighting.specs.declared.Timer.{Timer}
+use Rattle.lighting.specs.declared.Relay.{Relay}
 use Rattle.lighting.specs.declared.Output.{Output}
 use Rattle.lighting.proofs.Split.{also-yes, also-both, by-bool, by-eq, by-lt, eqb-hit, leb-yes, leb-no, le-of, eq-of}
 use Rattle.lighting.proofs.Scan.{all-each, each-all}
-use Rattle.lighting.proofs.Passing.{TimerAfter, After, both-after, timer-earlier, timer-quiet, expired-quiet, endMovementOnExpiry-quiet, quiet-ticks, eventStep-ticks, ticks-add}
+use Rattle.lighting.proofs.Passing.{TimerAfter, After, both-after, timer-earlier, timer-quiet, expired-quiet, endMovementOnExpiry-quiet, ticks-add}
+use Rattle.lighting.proofs.Unjudged.{quiet-but-relay, step-but-relay}
 use Rattle.lighting.proofs.Mask.{alive, slots-size, slot-is, isLive-slot}
 use Rattle.lighting.proofs.Facts.{Acts, Sound}
 use Rattle.lighting.proofs.Shown.{clampLit-clampLit}
@@ -109,7 +111,7 @@ pub record Seen (c : Settings) (s : Slots) (x : ℕ) (a b : Option ℕ) (v : ℕ
 module _ {c : Settings} {s : Slots} {x v : ℕ} {a b : Option ℕ} (n t : ℕ) (o : Output) where
   waits : After (t + n) o → Seen c s x a b v o → Seen c s x a b v (ticks n t o)
   unfolding withBurned withBurning
-  waits k h = rw (quiet-ticks n t o k) (record { settings = h .settings; slots = h .slots; present = h .present })
+  waits k h = rw (quiet-but-relay n t o k) (record { settings = h .settings; slots = h .slots; present = h .present })
 
 -- a warning of slot x in the phase p, with the old level y, the turn u and the end v
 abbrev warningIn : Phase → ℕ → ℕ → ℕ → ℕ → Activity
@@ -145,12 +147,15 @@ ends d x y u o e a =
 
 -- an output to which nothing but burning happened before d: what it is at d, and n milliseconds later
 at-last : (t d : ℕ) (o : Output) (z : Slots) (w : Activity) → 0 < d → After (t + (d - 1)) o
-    → Became (withBurned t d o) (fire (t + d) (withBurned t d o)) z w → Became o (ticks d t o) z w
+    → ((r : Relay) → Became (withRelay (withBurned t d o) r) (fire (t + d) (withRelay (withBurned t d o) r)) z w) → Became o (ticks d t o) z w
 at-last t zero o z w l a b = absurd (omega arith)
 at-last t (suc d) o z w l a b =
     let e : t + suc d ≡ suc (t + d) = omega arith in
     let q : After (t + d) o = subst (λ (k : ℕ). After (t + k) o) (let r : suc d - 1 ≡ d = omega arith in r) a in
-    rw (eventStep-ticks d t o q, ← e) (record { settings = unfold withBurned withBurning in (b .settings); slots = b .slots; activity = b .activity; timer = unfold withBurned withBurning in (b .timer) })
+    let r = ticks d t o .relay in
+    rw
+    (step-but-relay d t o q, ← e)
+    (record { settings = unfold withBurned withBurning in (b r .settings); slots = b r .slots; activity = b r .activity; timer = unfold withBurned withBurning in (b r .timer) })
 
 -- THE PHASES
 module _ (c : Settings) (s : Slots) (x y : ℕ) (starts : Starts c s x) (inside : x < slotCount) (same : clampLit c y ≡ y) where
@@ -183,7 +188,7 @@ module _ (c : Settings) (s : Slots) (x y : ℕ) (starts : Starts c s x) (inside 
     ended n d u p e h a l =
         let q : After (t + (d - 1)) o = both-after (t + (d - 1)) o (timer-earlier (o .timer) (omega arith) a) (rw e (unfold activityDue phaseEnd in (omega arith))) in
         let r = at-last t d o (emptied (emptied (o .slots) slot6) x) Still p q
-        (ends (t + d) x y u (withBurned t d o) e (timer-earlier (o .timer) (omega arith) a)) in
+        (λ r. ends (t + d) x y u (withRelay (withBurned t d o) r) e (timer-earlier (o .timer) (omega arith) a)) in
         later n d t o l
         (waits (n - d) (t + d) (ticks d t o)
         (both-after (t + d + (n - d)) (ticks d t o) (timer-at (t + d + (n - d)) (o .timer) (ticks d t o .timer) (r .timer) (omega arith) a) (rw (r .activity) (unfold activityDue in tt)))
@@ -201,13 +206,13 @@ module _ (c : Settings) (s : Slots) (x y : ℕ) (starts : Starts c s x) (inside 
       unfolding withBurned withBurning
       turned n a l q =
           at-last t b o (filled (o .slots) slot6 y) (warningIn Delay x y (t + b) (t + b + d)) p (before-turn n a l)
-          (turns (t + b) x y (t + b + d) (withBurned t b o) e (timer-earlier (o .timer) (omega arith) a) (omega arith))
+          (λ r. turns (t + b) x y (t + b + d) (withRelay (withBurned t b o) r) e (timer-earlier (o .timer) (omega arith) a) (omega arith))
 
       turned-off : (n : ℕ) → TimerAfter (t + n) (o .timer) → b ≤ n → d ≡ 0 → Became o (ticks b t o) (emptied (o .slots) slot6) Still
       unfolding withBurned withBurning
       turned-off n a l q =
           at-last t b o (emptied (o .slots) slot6) Still p (before-turn n a l)
-          (turns-off (t + b) x y (t + b + d) (withBurned t b o) e (timer-earlier (o .timer) (omega arith) a) (omega arith))
+          (λ r. turns-off (t + b) x y (t + b + d) (withRelay (withBurned t b o) r) e (timer-earlier (o .timer) (omega arith) a) (omega arith))
 
       put-out : (n : ℕ) → TimerAfter (t + n) (o .timer) → b ≤ n → d ≡ 0 → Seen c s x none (some 0) 0 (ticks n t o)
       put-out n a l q =

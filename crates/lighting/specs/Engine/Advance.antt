@@ -1,14 +1,15 @@
 -- THE ENGINE's passing of time: from due moment to due moment. proofs/Passing.antt has that it comes to the plain panel's milliseconds (`ticks` of
 -- Paper/Passing.antt), so that nobody need believe this file.
-use mathlib.Core.Bool.{Bool}
+use mathlib.Core.Bool.{Bool, true, false}
 use mathlib.Core.List.{List, [], _∷_}
 use Prim.Native.Nat.{ℕ, zero, suc, _+_, _-_, min}
 use lib.Dec.{ltb}
+use Rattle.lighting.specs.Paper.Choice.{if_then_else_}
 use Rattle.lighting.specs.declared.Moment.{Moment}
 use Rattle.lighting.specs.declared.Moment.the-variants.{Never, At}
 use Rattle.lighting.specs.declared.Output.{Output}
 use Rattle.lighting.specs.Paper.Record.{withBurning}
-use Rattle.lighting.specs.Paper.Passing.{dueMoments, fire}
+use Rattle.lighting.specs.Paper.Passing.{dueMoments, isDue, fire}
 use Rattle.lighting.specs.Engine.Light.{litStretch}
 
 -- THE ENGINE: the next due moment, or `to` if nothing falls due before it
@@ -34,8 +35,17 @@ burnedBy n o = withBurning o (min (o .burning + n) greatestCount)
 unfoldable pub withBurnedSaturating : ℕ → ℕ → Output → Output
 withBurnedSaturating from n o = burnedBy (litStretch from n o) o
 
+-- whether one of these moments is d. The engine does something at due moments alone: elsewhere an output that was judged needs no judging again
+-- (proofs/Judged.antt)
+abbrev pub anyDue : ℕ → List Moment → Bool
+anyDue d [] = false
+anyDue d (first ∷ rest) = if isDue d first then true else anyDue d rest
+
+unfoldable pub fireDue : ℕ → Output → Output
+fireDue d o = if anyDue d (dueMoments o) then fire d o else o
+
 unfoldable pub eventStep : ℕ → ℕ → Output → Output
-eventStep now d o = fire d (withBurnedSaturating now (d - now) o)
+eventStep now d o = fireDue d (withBurnedSaturating now (d - now) o)
 
 unfoldable pub eventSteps : ℕ → ℕ → ℕ → Output → Output
 eventSteps zero now to o = withBurnedSaturating now (to - now) o

@@ -5,9 +5,10 @@ use mathlib.Core.List.{List}
 use Prim.Native.Nat.{ℕ}
 use lib.ListN.{getD, set}
 use Rattle.lighting.specs.Paper.Choice.{if_then_else_}
+use Rattle.lighting.specs.Paper.Relay.{inactiveNotBelow}
 use Rattle.lighting.specs.Paper.Passing.{afterEvents}
 use Rattle.lighting.specs.Paper.Writing.{written, slotRelinquished}
-use Rattle.lighting.specs.Paper.Properties.{settingsWith, changed, minOverMax, readProperty}
+use Rattle.lighting.specs.Paper.Properties.{settingsWith, relayWith, changed, minOverMax, readProperty}
 use Rattle.lighting.specs.Paper.Commands.{commanded}
 use Rattle.lighting.specs.Paper.Fresh.{freshOutput}
 use Rattle.lighting.specs.declared.Property.{Property}
@@ -18,23 +19,26 @@ use Rattle.lighting.specs.declared.Answer.the-variants.{Done, Refused}
 use Rattle.lighting.specs.declared.Output.{Output}
 use Rattle.lighting.specs.declared.Outcome.{Outcome}
 
--- the output changed, by way of `afterEvents` (Passing.antt: as it is); or left as it was
+-- the output changed, and its relay judged (`afterEvents`, Passing.antt); or left as it was
 unfoldable pub done : Output → Outcome
 done o = record { output = afterEvents o; answer = Done }
 
 unfoldable pub unchanged : Output → Answer → Outcome
 unchanged o a = record { output = o; answer = a }
 
--- a write of a property, unless it would leave Min over Max (m): 13
-unfoldable pub changedUnless : Bool → Output → Property → ℕ → Outcome
-changedUnless m o property value = if m then unchanged o (Refused 13) else done (changed o property value)
+-- a write of a property, unless it would leave Min over Max (m): 13; or the relay's inactive value not below its active one (unordered): 16, 'tested after 13,
+-- leaving what 13 leaves' (§3)
+unfoldable pub changedUnless : Bool → Bool → Output → Property → ℕ → Outcome
+changedUnless m unordered o property value =
+    if m then unchanged o (Refused 13) else if unordered then unchanged o (Refused 16) else done (changed o property value)
 
--- 'does what its kind calls for, or refuses 9 to 13'
+-- 'does what its kind calls for, or refuses 9 to 13', and 14 to 16 of the change requests
 unfoldable pub acted : ℕ → Output → Request → Outcome
 acted t o (Refuse r) = unchanged o (Refused r)
 acted t o (Write slot level) = done (written t o slot level)
 acted t o (Empty slot) = done (slotRelinquished o slot)
-acted t o (Change n v) = changedUnless (minOverMax (settingsWith (o .settings) n v)) o n v
+acted t o (Change n v) =
+    changedUnless (minOverMax (settingsWith (o .settings) n v)) (inactiveNotBelow (relayWith (o .relay) n v)) o n v
 acted t o (Read property) = unchanged o (readProperty t o property)
 acted t o (Commands k) = done (commanded t o k)
 

@@ -15,12 +15,14 @@ use Rattle.lighting.specs.Paper.Panel.{Panel, panelSound, startStep}
 use Rattle.lighting.specs.Engine.Executing.{frameStep}
 use Rattle.lighting.specs.Paper.Plain.{Plain, PlainState, plainFrameStep, plainStart}
 use Rattle.lighting.specs.declared.Settings.{Settings}
+use Rattle.lighting.specs.declared.Relay.{Relay}
 use Rattle.lighting.specs.declared.Command.{Command}
 use Rattle.lighting.specs.declared.Output.{Output}
 use Rattle.lighting.specs.declared.Answer.{Answer}
 use Rattle.lighting.specs.declared.Answer.the-variants.{Refused}
 
--- EVERYTHING FOUND of an output: 'a slot is compared by being live and, if live, by its level; burning time in milliseconds'
+-- EVERYTHING FOUND of an output: 'a slot is compared by being live and, if live, by its level; burning time in milliseconds'. In the relay stand the
+-- settings of §3 and Binary_Present_Value: 'The plain panel carries the same values through every list'
 pub record Found : Type 0 where
   pub slots : List (Option ℕ)
   pub present : ℕ
@@ -29,6 +31,7 @@ pub record Found : Type 0 where
   pub settings : Settings
   pub last : Command
   pub burning : ℕ
+  pub relay : Relay
 
 abbrev pub found : ℕ → Output → Found
 found t o =
@@ -40,6 +43,7 @@ found t o =
       settings = o .settings;
       last = o .last;
       burning = o .burning;
+      relay = o .relay;
     }
 
 abbrev pub foundIn : Panel → List Found

@@ -1,10 +1,12 @@
 -- 'An output's record': a fresh output and a fresh station.
 use mathlib.Core.Bool.{false}
+use Prim.Native.Nat.{_*_}
 use lib.ListN.{replicate}
 use Rattle.lighting.specs.Paper.Level.{leastLevel, greatestLevel, real}
 use Rattle.lighting.specs.Paper.Slots.{slotCount, slot16}
 use Rattle.lighting.specs.Paper.Kinds.{longestFrame}
 use Rattle.lighting.specs.declared.Settings.{Settings}
+use Rattle.lighting.specs.declared.Relay.{Relay}
 use Rattle.lighting.specs.declared.Activity.the-variants.{Still}
 use Rattle.lighting.specs.declared.Timer.the-variants.{Off}
 use Rattle.lighting.specs.declared.Duration.the-variants.{Omitted}
@@ -29,6 +31,10 @@ freshSettings =
       slot = slot16;
     }
 
+-- '(properties 17 and 18, levels, fresh values 50 and 45) and Polarity (19, 0 normal, 1 reverse, fresh 0). Binary_Present_Value [..] starts inactive' (§3)
+unfoldable pub freshRelay : Relay
+freshRelay = record { active = 50 * leastLevel; inactive = 45 * leastLevel; reverse = false; binary = false }
+
 -- 'A fresh record has no live slot, last operation STOP without duration, burning time 0'
 unfoldable pub freshOutput : Output
 freshOutput =
@@ -39,6 +45,7 @@ freshOutput =
       timer = Off;
       burning = 0;
       last = record { operation = Stop; duration = Omitted };
+      relay = freshRelay;
     }
 
 -- 'number 0 meaning none'

@@ -16,8 +16,9 @@ use Rattle.lighting.specs.declared.Moment.{Moment}
 use Rattle.lighting.specs.declared.Moment.the-variants.{Never, At}
 use Rattle.lighting.specs.declared.Output.{Output}
 use Rattle.lighting.specs.Paper.Slots.{Slots, slot6, emptied, filled}
-use Rattle.lighting.specs.Paper.Value.{lit}
-use Rattle.lighting.specs.Paper.Record.{withBurning, withDue}
+use Rattle.lighting.specs.Paper.Value.{presentValue, lit}
+use Rattle.lighting.specs.Paper.Relay.{switched}
+use Rattle.lighting.specs.Paper.Record.{withBurning, withDue, withRelay}
 
 -- 'Burning time gains a millisecond when Progress_Value is above zero' (§2 of the change requests): of the n milliseconds from a moment on, those at
 -- whose start the lamp gives light
@@ -104,9 +105,9 @@ nextSlots (Warned w) s = phaseSlots w (w .phase) s
 unfoldable pub slotsAt : ℕ → Activity → Slots → Slots
 slotsAt t a s = if isDue t (activityDue a) then nextSlots a s else s
 
--- After each act and after each moment's due events. The paper judges nothing there: the output as it is
+-- 'It is judged after each frame's act and after each millisecond's due moments' (§3 of the change requests): the relay, by Present_Value
 unfoldable pub afterEvents : Output → Output
-afterEvents o = o
+afterEvents o = withRelay o (switched (presentValue (o .settings) (o .slots)) (o .relay))
 
 -- all of it. 'then Progress_Value by the movement's formula': it is not kept, `progressValue` has the formula
 unfoldable pub fire : ℕ → Output → Output

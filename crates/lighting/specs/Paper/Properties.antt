@@ -10,10 +10,12 @@ use Rattle.lighting.specs.Paper.Answers.{levelRefusal, operandRefusal}
 use Rattle.lighting.specs.Paper.Level.{real, bits, readOut, levelOf, limitOf}
 use Rattle.lighting.specs.Paper.Slots.{Slots, isLive, levelAt}
 use Rattle.lighting.specs.Paper.Value.{presentValue, progressValue, inProcess}
+use Rattle.lighting.specs.Paper.Relay.{relayState}
 use Rattle.lighting.specs.Paper.Record.{withSettings}
 use Rattle.lighting.specs.Paper.Rows.{within, isPriority, rowOf, isAmount}
 use Rattle.lighting.specs.Paper.Operations.{operationNumber, fieldsOf}
 use Rattle.lighting.specs.declared.Settings.{Settings}
+use Rattle.lighting.specs.declared.Relay.{Relay}
 use Rattle.lighting.specs.declared.Activity.{Activity}
 use Rattle.lighting.specs.declared.Activity.the-variants.{Still, Moving, Warned}
 use Rattle.lighting.specs.declared.Duration.{Duration}
@@ -29,7 +31,7 @@ use Rattle.lighting.specs.declared.Level.{Level}
 use Rattle.lighting.specs.declared.Level.the-variants.{Units, OutOfRange}
 use Rattle.lighting.specs.declared.Operand.the-variants.{Unfit}
 use Rattle.lighting.specs.declared.Property.{Property}
-use Rattle.lighting.specs.declared.Property.the-variants.{RelinquishDefault, FadeTime, RampRate, StepIncrement, BlinkEnable, BlinkTime, BlinkWarnDelay, MinValue, MaxValue, CommandPriority, ElapsedActiveTime, PresentValue, ProgressValue, InProcess, LastOperation, LastLevel, LastRate, LastStep, LastFadeTime, LastDuration, SlotValue, Unknown}
+use Rattle.lighting.specs.declared.Property.the-variants.{RelinquishDefault, FadeTime, RampRate, StepIncrement, BlinkEnable, BlinkTime, BlinkWarnDelay, MinValue, MaxValue, CommandPriority, ElapsedActiveTime, PresentValue, ProgressValue, InProcess, LastOperation, LastLevel, LastRate, LastStep, LastFadeTime, LastDuration, BinaryActiveValue, BinaryInactiveValue, Polarity, BinaryPresentValue, RelayState, SlotValue, Unknown}
 use Rattle.lighting.specs.declared.Range.{Range}
 use Rattle.lighting.specs.declared.Range.the-variants.{Percent, Limit, Amount, Whole, Priority, ReadOnly}
 use Rattle.lighting.specs.declared.Request.{Request}
@@ -58,6 +60,11 @@ numberOf LastRate = 0x11
 numberOf LastStep = 0x12
 numberOf LastFadeTime = 0x13
 numberOf LastDuration = 0x14
+numberOf BinaryActiveValue = 0x17
+numberOf BinaryInactiveValue = 0x18
+numberOf Polarity = 0x19
+numberOf BinaryPresentValue = 0x1a
+numberOf RelayState = 0x1b
 numberOf (SlotValue i) = 0x21 + i
 
 abbrev pub properties : List Property
@@ -82,6 +89,11 @@ properties =
     ∷ LastStep
     ∷ LastFadeTime
     ∷ LastDuration
+    ∷ BinaryActiveValue
+    ∷ BinaryInactiveValue
+    ∷ Polarity
+    ∷ BinaryPresentValue
+    ∷ RelayState
     ∷ []
 
 -- the property of a number, '21 to 30 slots 1 to 16'
@@ -130,6 +142,16 @@ settingsWith c property v =
       slot = if same CommandPriority property then v % 256 else c .slot;
     }
 
+-- and the settings of the relay (§3): its Binary_Present_Value is never written
+unfoldable pub relayWith : Relay → Property → ℕ → Relay
+relayWith r property v =
+    record {
+      active = if same BinaryActiveValue property then v else r .active;
+      inactive = if same BinaryInactiveValue property then v else r .inactive;
+      reverse = if same Polarity property then eqb v 1 else r .reverse;
+      binary = r .binary;
+    }
+
 -- an end to a movement, and to nothing else
 unfoldable pub endMovement : Activity → Activity
 endMovement Still = Still
@@ -146,13 +168,18 @@ burningWith b property = if same ElapsedActiveTime property then 0 else b
 
 unfoldable pub changed : Output → Property → ℕ → Output
 changed o property v =
-    withSettings o (settingsWith (o .settings) property v) (activityWith (o .activity) property) (burningWith (o .burning) property)
+    withSettings
+    o
+    (settingsWith (o .settings) property v)
+    (relayWith (o .relay) property v)
+    (activityWith (o .activity) property)
+    (burningWith (o .burning) property)
 
 -- 'Min over Max', which is 13
 unfoldable pub minOverMax : Settings → Bool
 minOverMax c = ltb (c .max) (c .min)
 
--- READS. '01, 08, 09, 0C, 0D and slots read as levels'
+-- READS. '01, 08, 09, 0C, 0D and slots read as levels', and so do 17 and 18, which are levels
 unfoldable pub levelAnswer : ℕ → Answer
 levelAnswer v = Value (readOut v)
 
@@ -206,5 +233,10 @@ readProperty t o LastRate = realFieldAnswer (fieldsOf (o .last .operation) .rate
 readProperty t o LastStep = realFieldAnswer (fieldsOf (o .last .operation) .step)
 readProperty t o LastFadeTime = timeFieldAnswer (fieldsOf (o .last .operation) .fade)
 readProperty t o LastDuration = lastDuration (o .last .duration)
+readProperty t o BinaryActiveValue = levelAnswer (o .relay .active)
+readProperty t o BinaryInactiveValue = levelAnswer (o .relay .inactive)
+readProperty t o Polarity = Value (flag (o .relay .reverse))
+readProperty t o BinaryPresentValue = Value (flag (o .relay .binary))
+readProperty t o RelayState = Value (flag (relayState (o .relay)))
 readProperty t o (SlotValue i) = slotAnswer (o .slots) i
 readProperty t o Unknown = Refused 9

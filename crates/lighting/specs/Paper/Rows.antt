@@ -9,12 +9,12 @@ use Rattle.lighting.specs.Paper.Parameters.{Parameters}
 use Rattle.lighting.specs.Paper.Level.{leastLevel, greatestLevel, real, inRange, amountOf}
 use Rattle.lighting.specs.Paper.Slots.{slotCount, slot6}
 use Rattle.lighting.specs.declared.Property.{Property}
-use Rattle.lighting.specs.declared.Property.the-variants.{RelinquishDefault, FadeTime, RampRate, StepIncrement, BlinkEnable, BlinkTime, BlinkWarnDelay, MinValue, MaxValue, CommandPriority, ElapsedActiveTime, PresentValue, ProgressValue, InProcess, LastOperation, LastLevel, LastRate, LastStep, LastFadeTime, LastDuration, SlotValue, Unknown}
+use Rattle.lighting.specs.declared.Property.the-variants.{RelinquishDefault, FadeTime, RampRate, StepIncrement, BlinkEnable, BlinkTime, BlinkWarnDelay, MinValue, MaxValue, CommandPriority, ElapsedActiveTime, PresentValue, ProgressValue, InProcess, LastOperation, LastLevel, LastRate, LastStep, LastFadeTime, LastDuration, BinaryActiveValue, BinaryInactiveValue, Polarity, BinaryPresentValue, RelayState, SlotValue, Unknown}
 use Rattle.lighting.specs.declared.Range.{Range}
 use Rattle.lighting.specs.declared.Range.the-variants.{Percent, Limit, Amount, Whole, Priority, ReadOnly}
 
 -- THE ROWS, with the paper's 'each up to 86,400,000' and 'Fade times: 100 to 86,400,000' as parameters; '0B Elapsed_Active_Time, written only
--- with 0'
+-- with 0'. Those of §3: 'both are in Relinquish_Default's range', 'Polarity (19, 0 normal, 1 reverse)'
 abbrev pub rowOf : Parameters → Property → Range
 rowOf p RelinquishDefault = Percent
 rowOf p FadeTime = Whole 100 (p .longestFade)
@@ -36,6 +36,11 @@ rowOf p LastRate = ReadOnly
 rowOf p LastStep = ReadOnly
 rowOf p LastFadeTime = ReadOnly
 rowOf p LastDuration = ReadOnly
+rowOf p BinaryActiveValue = Percent
+rowOf p BinaryInactiveValue = Percent
+rowOf p Polarity = Whole 0 1
+rowOf p BinaryPresentValue = ReadOnly
+rowOf p RelayState = ReadOnly
 rowOf p (SlotValue i) = ReadOnly
 rowOf p Unknown = ReadOnly
 

@@ -8,11 +8,13 @@ use Rattle.lighting.specs.Paper.Parameters.{Parameters}
 use Rattle.lighting.specs.Paper.Field.{byteAt}
 use Rattle.lighting.specs.Paper.Slots.{Slots, slotCount, slot16, slot6, isLive, winner}
 use Rattle.lighting.specs.Paper.Value.{presentValue}
+use Rattle.lighting.specs.Paper.Relay.{binaryAt}
 use Rattle.lighting.specs.Paper.Passing.{phaseEnd}
 use Rattle.lighting.specs.Paper.Rows.{isLevel, rowOf, within, isSlot, meets, meetsReal}
 use Rattle.lighting.specs.Paper.Kinds.{isCall}
-use Rattle.lighting.specs.declared.Property.the-variants.{RelinquishDefault, FadeTime, RampRate, StepIncrement, BlinkTime, BlinkWarnDelay, MinValue, MaxValue, CommandPriority}
+use Rattle.lighting.specs.declared.Property.the-variants.{RelinquishDefault, FadeTime, RampRate, StepIncrement, BlinkTime, BlinkWarnDelay, MinValue, MaxValue, CommandPriority, BinaryActiveValue, BinaryInactiveValue}
 use Rattle.lighting.specs.declared.Settings.{Settings}
+use Rattle.lighting.specs.declared.Relay.{Relay}
 use Rattle.lighting.specs.declared.Movement.{Movement}
 use Rattle.lighting.specs.declared.Warning.{Warning}
 use Rattle.lighting.specs.declared.Activity.{Activity}
@@ -80,6 +82,18 @@ unfoldable pub timerSound : ℕ → Timer → Bool
 timerSound t Off = true
 timerSound t (Running slot due) = isSlot slot also ltb t due
 
+-- §3: 'both are in Relinquish_Default's range, the inactive value is below the active one, and Binary_Present_Value is as judging leaves it'. A
+-- polarity is always in range. v: Present_Value
+unfoldable pub agrees : Bool → Bool → Bool
+agrees one other = if one then other else not other
+
+unfoldable pub relaySound : Parameters → ℕ → Relay → Bool
+relaySound p v r =
+    meets (rowOf p BinaryActiveValue) (r .active)
+    also meets (rowOf p BinaryInactiveValue) (r .inactive)
+    also ltb (r .inactive) (r .active)
+    also agrees (r .binary) (binaryAt v r)
+
 -- an output's record at panel time t; 'burning time is at most panel time'
 unfoldable pub sound : Parameters → ℕ → Output → Bool
 sound p t o =
@@ -88,6 +102,7 @@ sound p t o =
     also activitySound p t (o .settings) (o .slots) (o .activity)
     also timerSound t (o .timer)
     also leb (o .burning) t
+    also relaySound p (presentValue (o .settings) (o .slots)) (o .relay)
 
 -- 'each station's record keeps its last answer, number and frame (of its kind's length), number 0 meaning none'
 unfoldable pub stationSound : Station → Bool

@@ -56,6 +56,7 @@ lent s v pace =
       timer = freshOutput .timer;
       burning = 0;
       last = freshOutput .last;
+      relay = freshOutput .relay;
     }
 
 -- what such a one has burned 6,000 ms later
