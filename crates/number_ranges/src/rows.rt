@@ -46,6 +46,11 @@ pub fn row_of(p: Property) -> Range
         Property::LastStep => Range::ReadOnly,
         Property::LastFadeTime => Range::ReadOnly,
         Property::LastDuration => Range::ReadOnly,
+        Property::BinaryActiveValue => Range::Percent,
+        Property::BinaryInactiveValue => Range::Percent,
+        Property::Polarity => Range::Whole { low: 0, high: 1 },
+        Property::BinaryPresentValue => Range::ReadOnly,
+        Property::RelayState => Range::ReadOnly,
         Property::SlotValue(_) => Range::ReadOnly,
         Property::Unknown => Range::ReadOnly,
     }

@@ -2,7 +2,8 @@
 // any record at all; the time comes from six bytes.
 ghost use mathlib.Core.Path.{_≡_};
 ghost use Prim.Native.Nat.{_<_, _^_};
-ghost use Rattle.lighting.specs.Paper.Properties.{settingsWith, minOverMax};
+ghost use Rattle.lighting.specs.Paper.Properties.{settingsWith, relayWith, minOverMax};
+ghost use Rattle.lighting.specs.Paper.Relay.{inactiveNotBelow};
 ghost use Rattle.lighting.specs.Paper.Acting.{done, unchanged, changedUnless, acted};
 use lighting::Answer;
 use lighting::Outcome;
@@ -30,12 +31,14 @@ fn unchanged(o: Output, a: Answer) -> Outcome
     }
 }
 
-// A write of a property, unless it would leave Min over Max.
-fn change_unless(m: bool, o: Output, n: Property, v: u32) -> Outcome
-    ensures { λ r. ⌜ r ≡ changedUnless m o n v ⌝ }
+// A write of a property, unless it would leave Min over Max (m), or the relay's inactive value not below its active one.
+fn change_unless(m: bool, unordered: bool, o: Output, n: Property, v: u32) -> Outcome
+    ensures { λ r. ⌜ r ≡ changedUnless m unordered o n v ⌝ }
 {
     if m {
         unchanged(o, Answer::Refused(13))
+    } else if unordered {
+        unchanged(o, Answer::Refused(16))
     } else {
         done(property_write::settings::change(o, n, v))
     }
@@ -43,11 +46,13 @@ fn change_unless(m: bool, o: Output, n: Property, v: u32) -> Outcome
 
 // The settings as they would be decide.
 fn change(o: Output, n: Property, v: u32) -> Outcome
-    ensures { λ r. ⌜ r ≡ changedUnless (minOverMax (settingsWith (o .settings) n v)) o n v ⌝ }
+    ensures { λ r. ⌜ r ≡ changedUnless (minOverMax (settingsWith (o .settings) n v)) (inactiveNotBelow (relayWith (o .relay) n v)) o n v ⌝ }
 {
     let c = o.settings;
+    let relay = o.relay;
     change_unless(
         property_write::settings::min_over_max(property_write::settings::settings_with(c, n, v)),
+        output_relay::inactive_not_below(property_write::settings::relay_with(relay, n, v)),
         o,
         n,
         v,

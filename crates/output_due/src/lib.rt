@@ -1,7 +1,9 @@
 // What falls due on an output at one moment: a duration, a phase of a warning, the end of a movement. By value, and on any record at all.
 ghost use mathlib.Core.Path.{_≡_};
+ghost use mathlib.Core.List.{[], _∷_};
 ghost use Rattle.lighting.specs.Paper.Slots.{slot6, emptied};
 ghost use Rattle.lighting.specs.Paper.Passing.{timerDue, phaseEnd, activityDue, isDue, timerAt, emptiedBy, expired, endMovementOf, endMovementBy, endMovementOnExpiry, delayed, nextPhase, nextActivity, activityAt, phaseSlots, nextSlots, slotsAt, afterEvents, fire};
+ghost use Rattle.lighting.specs.Engine.Advance.{anyDue};
 use lighting::Activity;
 use lighting::Moment;
 use lighting::Output;
@@ -63,6 +65,17 @@ fn is_activity_due(t: u64, a: Activity) -> bool
     ensures { λ r. ⌜ r ≡ isDue t (activityDue a) ⌝ }
 {
     is_due(t, activity_due(a))
+}
+
+// Whether anything is due at t of what is under way.
+pub fn is_any_due(t: u64, m: Timer, a: Activity) -> bool
+    ensures { λ r. ⌜ r ≡ anyDue t (timerDue m ∷ activityDue a ∷ []) ⌝ }
+{
+    if is_timer_due(t, m) {
+        true
+    } else {
+        is_activity_due(t, a)
+    }
 }
 
 // ---- a duration
@@ -215,11 +228,17 @@ fn slots_at(t: u64, a: Activity, s: Slots) -> Slots
     }
 }
 
-// Judged after each act and after each moment's due events: nothing is.
+// Judged after each act and after each moment's due events: the relay, by Present_Value.
 pub fn after_events(o: Output) -> Output
     ensures { λ r. ⌜ r ≡ afterEvents o ⌝ }
 {
-    o
+    let settings = o.settings;
+    let slots = o.slots;
+    let relay = o.relay;
+    output_record::with_relay(
+        o,
+        output_relay::switch(output_value::present_value(settings, slots), relay),
+    )
 }
 
 // The duration first: it may end the movement, and the slot that it empties may be the warning's.

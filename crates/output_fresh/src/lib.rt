@@ -1,6 +1,6 @@
 // Fresh records, by value.
 ghost use mathlib.Core.Path.{_≡_};
-ghost use Rattle.lighting.specs.Paper.Fresh.{freshSettings, freshOutput, freshStation};
+ghost use Rattle.lighting.specs.Paper.Fresh.{freshSettings, freshRelay, freshOutput, freshStation};
 use lighting::Activity;
 use lighting::Answer;
 use lighting::Command;
@@ -10,6 +10,7 @@ use lighting::LEAST_LEVEL;
 use lighting::LONGEST_FRAME;
 use lighting::Operation;
 use lighting::Output;
+use lighting::Relay;
 use lighting::SLOT_16;
 use lighting::SLOTS;
 use lighting::Settings;
@@ -34,6 +35,18 @@ fn fresh_settings() -> Settings
     }
 }
 
+// Levels of 50 and 45 percent, polarity normal, inactive.
+fn fresh_relay() -> Relay
+    ensures { λ r. ⌜ r ≡ freshRelay ⌝ }
+{
+    Relay {
+        active: 50 * LEAST_LEVEL,
+        inactive: 45 * LEAST_LEVEL,
+        reverse: false,
+        binary: false,
+    }
+}
+
 // No live slot, last operation STOP without duration, burning time 0.
 pub fn fresh_output() -> Output
     ensures { λ r. ⌜ r ≡ freshOutput ⌝ }
@@ -48,6 +61,7 @@ pub fn fresh_output() -> Output
         duration: Duration::Omitted,
     };
     let settings = fresh_settings();
+    let relay = fresh_relay();
     Output {
         settings: settings,
         slots: slots,
@@ -55,6 +69,7 @@ pub fn fresh_output() -> Output
         timer: Timer::Off,
         burning: 0,
         last: last,
+        relay: relay,
     }
 }
 

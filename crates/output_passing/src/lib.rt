@@ -1,7 +1,7 @@
 // The passing of time: from due moment to due moment, at most three an output and frame. Nothing here lives a millisecond by itself.
 ghost use mathlib.Core.Path.{_≡_};
 ghost use Prim.Native.Nat.{_+_, _-_, min};
-ghost use Rattle.lighting.specs.Engine.Advance.{sooner, due, burnedBy, withBurnedSaturating, eventStep, eventSteps, advance, later};
+ghost use Rattle.lighting.specs.Engine.Advance.{sooner, due, burnedBy, withBurnedSaturating, fireDue, eventStep, eventSteps, advance, later};
 ghost use Rattle.lighting.specs.Engine.Light.{litInMovement, litResting};
 ghost use Rattle.lighting.specs.Paper.Choice.{if_then_else_};
 ghost use Rattle.lighting.specs.Paper.Value.{presentValue};
@@ -57,17 +57,26 @@ fn next_due(to: u64, o: Output) -> u64
 
 // ---- three event steps, and what is left of the way
 
+// What falls due at d; where nothing does, the relay is not judged either.
+fn fire_due(d: u64, o: Output) -> Output
+    ensures { λ r. ⌜ r ≡ fireDue d o ⌝ }
+{
+    let m = o.timer;
+    let a = o.activity;
+    if output_due::is_any_due(d, m, a) {
+        output_due::fire_at(d, o)
+    } else {
+        o
+    }
+}
+
 // A stretch up to d, and what falls due at its end, or nothing after the last one. One function makes every stretch: a second one would be passed the record by
 // value, which costs more than the stretch.
 fn stretch(now: u64, d: u64, fires: bool, o: Output) -> Output
     ensures { λ r. ⌜ r ≡ (if fires then eventStep now d o else eventSteps 0 now d o) ⌝ }
 {
     let burned = with_burned_saturating(now, output_value::since(now, d), o);
-    if fires {
-        output_due::fire_at(d, burned)
-    } else {
-        burned
-    }
+    if fires { fire_due(d, burned) } else { burned }
 }
 
 fn one_event_step(now: u64, to: u64, o: Output) -> Output

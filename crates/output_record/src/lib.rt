@@ -1,10 +1,11 @@
 // Every way in which an output's record is changed, field by field: the like of specs/Paper/Record.antt. A fresh record is the crate `output_fresh`.
 ghost use mathlib.Core.Path.{_≡_};
-ghost use Rattle.lighting.specs.Paper.Record.{withBurning, withDue, withEffect, withCommand, withSettings};
+ghost use Rattle.lighting.specs.Paper.Record.{withBurning, withDue, withRelay, withEffect, withCommand, withSettings};
 use lighting::Activity;
 use lighting::Command;
 use lighting::Effect;
 use lighting::Output;
+use lighting::Relay;
 use lighting::Settings;
 use lighting::Slots;
 use lighting::Timer;
@@ -24,6 +25,7 @@ pub fn with_due(o: Output, slots: Slots, activity: Activity, timer: Timer) -> Ou
 {
     let settings = o.settings;
     let last = o.last;
+    let relay = o.relay;
     Output {
         settings,
         slots,
@@ -31,7 +33,17 @@ pub fn with_due(o: Output, slots: Slots, activity: Activity, timer: Timer) -> Ou
         timer,
         burning: o.burning,
         last,
+        relay,
     }
+}
+
+// The relay judged. Written in place, as burning time is.
+pub fn with_relay(o: Output, relay: Relay) -> Output
+    ensures { λ r. ⌜ r ≡ withRelay o relay ⌝ }
+{
+    let mut n = o;
+    n.relay = relay;
+    n
 }
 
 // A slot written or emptied.
@@ -41,6 +53,7 @@ pub fn with_effect(o: Output, slots: Slots, activity: Activity) -> Output
     let settings = o.settings;
     let timer = o.timer;
     let last = o.last;
+    let relay = o.relay;
     Output {
         settings,
         slots,
@@ -48,6 +61,7 @@ pub fn with_effect(o: Output, slots: Slots, activity: Activity) -> Output
         timer,
         burning: o.burning,
         last,
+        relay,
     }
 }
 
@@ -58,6 +72,7 @@ pub fn with_command(o: Output, n: Effect, timer: Timer, k: Command) -> Output
     let settings = o.settings;
     let slots = n.slots;
     let activity = n.activity;
+    let relay = o.relay;
     Output {
         settings,
         slots,
@@ -65,12 +80,19 @@ pub fn with_command(o: Output, n: Effect, timer: Timer, k: Command) -> Output
         timer,
         burning: o.burning,
         last: k,
+        relay,
     }
 }
 
 // A property written.
-pub fn with_settings(o: Output, settings: Settings, activity: Activity, burning: u64) -> Output
-    ensures { λ r. ⌜ r ≡ withSettings o settings activity burning ⌝ }
+pub fn with_settings(
+    o: Output,
+    settings: Settings,
+    relay: Relay,
+    activity: Activity,
+    burning: u64,
+) -> Output
+    ensures { λ r. ⌜ r ≡ withSettings o settings relay activity burning ⌝ }
 {
     let slots = o.slots;
     let timer = o.timer;
@@ -82,5 +104,6 @@ pub fn with_settings(o: Output, settings: Settings, activity: Activity, burning:
         timer,
         burning,
         last,
+        relay,
     }
 }

@@ -5,7 +5,9 @@ use Prim.Native.Nat.{ℕ}
 use lib.Dec.{leb}
 use Rattle.lighting.specs.Paper.Choice.{if_then_else_, _also_}
 use Rattle.lighting.specs.Paper.Parameters.{document01}
-use Rattle.lighting.specs.Paper.Rules.{settingsSound, slotsSoundFrom, activitySound, timerSound, sound}
+use Rattle.lighting.specs.Paper.Slots.{isLive, slot6, winner}
+use Rattle.lighting.specs.Paper.Value.{presentValue}
+use Rattle.lighting.specs.Paper.Rules.{settingsSound, slotsSoundFrom, activityBy, activitySound, timerSound, relaySound, sound}
 use Rattle.lighting.specs.declared.Output.{Output}
 
 swapped : (a b : Bool) → (a also b) ≡ (b also a)
@@ -20,21 +22,44 @@ unfolding if_then_else_
 grouped true b c = refl
 grouped false b c = refl
 
-reversed : (a b c d : Bool) → (d also c also b also a) ≡ (a also b also c also d)
-reversed a b c d =
+reversed : (a b c d e : Bool) → (e also d also c also b also a) ≡ (a also b also c also d also e)
+reversed a b c d e =
     sym
-    (swapped a (b also c also d)
-    ∙ ap (λ (x : Bool). x also a) (swapped b (c also d) ∙ ap (λ (x : Bool). x also b) (swapped c d))
-    ∙ grouped (d also c) b a
-    ∙ grouped d c (b also a))
+    (swapped a (b also c also d also e)
+    ∙ ap
+    (λ (x : Bool). x also a)
+    (swapped b (c also d also e) ∙ ap (λ (x : Bool). x also b) (swapped c (d also e) ∙ ap (λ (x : Bool). x also c) (swapped d e)))
+    ∙ grouped ((e also d) also c) b a
+    ∙ grouped (e also d) c (b also a)
+    ∙ grouped e d (c also b also a))
 
+-- v is Present_Value
 pub in-order :
-    (t : ℕ) (o : Output) (r : Bool) →
-    r ≡ (settingsSound document01 (o .settings) also leb (o .burning) t also timerSound t (o .timer) also activitySound document01 t (o .settings) (o .slots) (o .activity) also slotsSoundFrom (o .slots) 0) →
+    (t : ℕ) (o : Output) (v : ℕ) (r : Bool) →
+    v ≡ presentValue (o .settings) (o .slots) →
+    r
+    ≡ (settingsSound document01 (o .settings)
+    also relaySound document01 v (o .relay)
+    also leb (o .burning) t
+    also timerSound t (o .timer)
+    also activityBy document01 t (isLive (o .slots) slot6) (winner (o .slots)) (o .settings .max) v (o .activity)
+    also slotsSoundFrom (o .slots) 0) →
     r ≡ sound document01 t o
-unfolding sound
-in-order t o r e =
+unfolding sound activitySound
+in-order t o v r p e =
     e
     ∙ ap
     (λ (x : Bool). settingsSound document01 (o .settings) also x)
-    (reversed (slotsSoundFrom (o .slots) 0) (activitySound document01 t (o .settings) (o .slots) (o .activity)) (timerSound t (o .timer)) (leb (o .burning) t))
+    (rw p
+    (reversed
+    (slotsSoundFrom (o .slots) 0)
+    (activityBy document01 t (isLive (o .slots) slot6) (winner (o .slots)) (o .settings .max) (presentValue (o .settings) (o .slots)) (o .activity))
+    (timerSound t (o .timer))
+    (leb (o .burning) t)
+    (relaySound document01 (presentValue (o .settings) (o .slots)) (o .relay))))
+
+-- where it has not been looked up: f is what the test of the settings said
+pub settings-first :
+    (t : ℕ) (o : Output) (f r : Bool) → f ≡ settingsSound document01 (o .settings) → f ≡ false → r ≡ false → r ≡ sound document01 t o
+unfolding sound if_then_else_
+settings-first t o f r p h e = e ∙ rw (sym p ∙ h)

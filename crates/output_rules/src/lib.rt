@@ -1,8 +1,9 @@
-// The record rules, as the test that is made of every lent record; those on what is under way are the crate `output_activity_rules`. Slots are counted from
+// The record rules, as the test that is made of every lent record; those on what is under way are the crate `output_activity_rules`, those on the relay `output_relay`. Slots are counted from
 // 0: slot 6 is 5.
 ghost use mathlib.Core.Path.{_≡_};
 ghost use Rattle.lighting.specs.Paper.Parameters.{document01};
-ghost use Rattle.lighting.specs.Paper.Rules.{levelsSound, timesSound, realsSound, settingsSound, slotsSoundFrom, activitySound, sound};
+ghost use Rattle.lighting.specs.Paper.Slots.{slot6, isLive, winner};
+ghost use Rattle.lighting.specs.Paper.Rules.{levelsSound, timesSound, realsSound, settingsSound, slotsSoundFrom, activityBy, sound};
 use lighting::Activity;
 use lighting::Output;
 use lighting::Property;
@@ -103,15 +104,16 @@ fn slots_sound(s: Slots) -> bool
 
 // ---- what is under way
 
-fn activity_sound(t: u64, c: Settings, s: Slots, a: Activity) -> bool
-    ensures { λ r. ⌜ r ≡ activitySound document01 t c s a ⌝ }
+// v is Present_Value, which the relay's rule asks for too: it is looked up once.
+fn activity_sound(t: u64, high: u32, s: Slots, v: u32, a: Activity) -> bool
+    ensures { λ r. ⌜ r ≡ activityBy document01 t (isLive s slot6) (winner s) high v a ⌝ }
 {
     output_activity_rules::activity_by(
         t,
         output_slots::is_live(s, SLOT_6),
         output_slots::winning(s),
-        c.max,
-        output_value::present_value(c, s),
+        high,
+        v,
         a,
     )
 }
@@ -126,11 +128,17 @@ pub fn is_sound(t: u64, o: Output) -> bool
     let s = o.slots;
     let a = o.activity;
     let m = o.timer;
+    let relay = o.relay;
     if settings_sound(c) {
-        if o.burning <= t {
-            if output_activity_rules::timer_sound(t, m) {
-                if activity_sound(t, c, s, a) {
-                    slots_sound(s)
+        let v = output_value::present_value(c, s);
+        if output_relay::relay_sound(v, relay) {
+            if o.burning <= t {
+                if output_activity_rules::timer_sound(t, m) {
+                    if activity_sound(t, c.max, s, v, a) {
+                        slots_sound(s)
+                    } else {
+                        false
+                    }
                 } else {
                     false
                 }

@@ -94,6 +94,7 @@ pub fn read_property(t: u64, o: Output, p: Property) -> Answer
     let settings = o.settings;
     let slots = o.slots;
     let activity = o.activity;
+    let relay = o.relay;
     let last = o.last;
     let operation = last.operation;
     let duration = last.duration;
@@ -123,6 +124,11 @@ pub fn read_property(t: u64, o: Output, p: Property) -> Answer
         Property::LastStep => real_field_answer(step),
         Property::LastFadeTime => time_field_answer(fade),
         Property::LastDuration => last_duration(duration),
+        Property::BinaryActiveValue => level_answer(relay.active),
+        Property::BinaryInactiveValue => level_answer(relay.inactive),
+        Property::Polarity => Answer::Value(flag(relay.reverse)),
+        Property::BinaryPresentValue => Answer::Value(flag(relay.binary)),
+        Property::RelayState => Answer::Value(flag(output_relay::relay_state(relay))),
         Property::SlotValue(i) => slot_answer(slots, i),
         Property::Unknown => Answer::Refused(9),
     }

@@ -4,12 +4,12 @@ use mathlib.Core.Bool.{Bool, true, false, false≢true}
 use mathlib.Core.List.{List, [], _∷_}
 use Prim.Native.Nat.{ℕ, zero, suc, _≤_, _<_, _-_}
 use native.Mathlib.Omega.{arith}
-use lib.Dec.{eqb}
 use Rattle.lighting.specs.Paper.Choice.{if_then_else_, _also_}
 use Rattle.lighting.specs.Paper.Properties.{properties, numberOf, numbered, propertyOf}
 use Rattle.lighting.specs.declared.Property.{Property}
 use Rattle.lighting.specs.declared.Property.the-variants.{SlotValue, Unknown}
 use Rattle.lighting.proofs.Choosing.{if-le, if-nle, if-ne}
+use Rattle.lighting.proofs.Scan.{isIn}
 use Rattle.lighting.proofs.Split.{also-both, by-eq}
 
 -- a key k
@@ -31,10 +31,6 @@ below zero = []
 below (suc k) = k ∷ below k
 
 -- every number of a table is a key
-abbrev isIn : ℕ → List ℕ → Bool
-isIn n [] = false
-isIn n (k ∷ ks) = if eqb n k then true else isIn n ks
-
 abbrev pub allIn : List Property → List ℕ → Bool
 allIn [] ks = true
 allIn (x ∷ l) ks = isIn (numberOf x) ks also allIn l ks

@@ -36,6 +36,11 @@ pub fn property_of(n: u8) -> Property
         0x12 => Property::LastStep,
         0x13 => Property::LastFadeTime,
         0x14 => Property::LastDuration,
+        0x17 => Property::BinaryActiveValue,
+        0x18 => Property::BinaryInactiveValue,
+        0x19 => Property::Polarity,
+        0x1A => Property::BinaryPresentValue,
+        0x1B => Property::RelayState,
         0x21..=0x30 => Property::SlotValue(n - 0x21),
         _ => Property::Unknown,
     }
@@ -67,6 +72,11 @@ pub fn number_of(p: Property) -> u32
         Property::LastStep => 0x12,
         Property::LastFadeTime => 0x13,
         Property::LastDuration => 0x14,
+        Property::BinaryActiveValue => 0x17,
+        Property::BinaryInactiveValue => 0x18,
+        Property::Polarity => 0x19,
+        Property::BinaryPresentValue => 0x1A,
+        Property::RelayState => 0x1B,
         Property::SlotValue(i) => 0x21 + i as u32,
     }
 }

@@ -5,11 +5,12 @@ ghost use Prim.Native.Nat.{_%_};
 ghost use lib.Dec.{eqb};
 ghost use Rattle.lighting.specs.Paper.Choice.{if_then_else_};
 ghost use Rattle.lighting.specs.Paper.Level.{real};
-ghost use Rattle.lighting.specs.Paper.Properties.{same, settingsWith, endMovement, activityWith, burningWith, changed, minOverMax};
+ghost use Rattle.lighting.specs.Paper.Properties.{same, settingsWith, relayWith, endMovement, activityWith, burningWith, changed, minOverMax};
 use super::is_same;
 use lighting::Activity;
 use lighting::Output;
 use lighting::Property;
+use lighting::Relay;
 use lighting::Settings;
 
 // ---- a field of the property `field`: the new value if this is the one that is written, else as it was
@@ -63,6 +64,18 @@ pub fn settings_with(c: Settings, n: Property, v: u32) -> Settings
     }
 }
 
+// And the settings of the relay. Its Binary_Present_Value is never written.
+pub fn relay_with(relay: Relay, n: Property, v: u32) -> Relay
+    ensures { λ r. ⌜ r ≡ relayWith relay n v ⌝ }
+{
+    Relay {
+        active: number_with(Property::BinaryActiveValue, n, v, relay.active),
+        inactive: number_with(Property::BinaryInactiveValue, n, v, relay.inactive),
+        reverse: flag_with(Property::Polarity, n, v, relay.reverse),
+        binary: relay.binary,
+    }
+}
+
 // An end to a movement, and to nothing else.
 pub fn end_movement(a: Activity) -> Activity
     ensures { λ r. ⌜ r ≡ endMovement a ⌝ }
@@ -103,10 +116,12 @@ pub fn change(o: Output, n: Property, v: u32) -> Output
     ensures { λ r. ⌜ r ≡ changed o n v ⌝ }
 {
     let settings = o.settings;
+    let relay = o.relay;
     let activity = o.activity;
     output_record::with_settings(
         o,
         settings_with(settings, n, v),
+        relay_with(relay, n, v),
         activity_with(activity, n),
         burning_with(o.burning, n),
     )

@@ -70,17 +70,15 @@ progressLine t o = numberLine (text "progress ") (progressValue t o)
 unfoldable pub processLine : Output → Bytes
 processLine o = numberLine (text "inprocess ") (inProcess (o .activity))
 
--- the settings are properties 01 to 0A, the last command is properties 0F to 14
-unfoldable pub settingsLine : ℕ → Output → Bytes
-settingsLine t o = text "settings" ++ (propertyFields t o 1 10 ++ newline)
+-- a line with n properties from the number k on
+unfoldable pub propertiesLine : Bytes → ℕ → Output → ℕ → ℕ → Bytes
+propertiesLine word t o k n = word ++ (propertyFields t o k n ++ newline)
 
-unfoldable pub lastLine : ℕ → Output → Bytes
-lastLine t o = text "last" ++ (propertyFields t o 15 6 ++ newline)
-
--- and the last command once more, as the writer of tags has it (§1)
+-- the last command as the writer of tags has it (§1)
 unfoldable pub taggedLine : Command → Bytes
 taggedLine k = text "tagged " ++ (hexBytes (tagBytes (commandTags k)) ++ newline)
 
+-- the settings of document 01 are properties 01 to 0A, the last command is properties 0F to 14, the relay is properties 17 to 1B (§3)
 unfoldable pub block : ℕ → ℕ → Output → Bytes
 block i t o =
     numberLine (text "output ") i
@@ -88,7 +86,8 @@ block i t o =
     ++ (presentLine o
     ++ (progressLine t o
     ++ (processLine o
-    ++ (settingsLine t o
-    ++ (lastLine t o
+    ++ (propertiesLine (text "settings") t o 0x01 10
+    ++ (propertiesLine (text "last") t o 0x0f 6
     ++ (numberLine (text "burning ") (o .burning)
-    ++ taggedLine (o .last))))))))
+    ++ (taggedLine (o .last)
+    ++ propertiesLine (text "relay") t o 0x17 5))))))))

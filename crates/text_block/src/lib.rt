@@ -1,7 +1,7 @@
 // The lines of one output.
 ghost use Prim.Native.Nat.{_+_, _<_};
 ghost use Rattle.text_printing.specs.Page.{Wrote};
-ghost use Rattle.text_block.specs.Block.{levelField, slotLevel, slotField, slotFields, hexField, answerField, propertyField, propertyFields, numberLine, slotsLine, presentLine, progressLine, processLine, settingsLine, lastLine, taggedLine, block};
+ghost use Rattle.text_block.specs.Block.{levelField, slotLevel, slotField, slotFields, hexField, answerField, propertyField, propertyFields, numberLine, slotsLine, presentLine, progressLine, processLine, propertiesLine, taggedLine, block};
 ghost use Rattle.lighting.specs.Paper.Slots.{slotCount};
 use lighting::Answer;
 use lighting::Command;
@@ -135,19 +135,22 @@ fn put_process_line(page: &mut [u8], at: usize, o: Output) -> usize
     put_number_line(page, at, b"inprocess ", output_value::in_process(a) as u64)
 }
 
-fn put_settings_line(page: &mut [u8], at: usize, t: u64, o: Output) -> usize
-    ensures { λ r. ⌜ Wrote (now (page .entry)) at (settingsLine t o) (now (page .exit)) r ⌝ }
+// A word, and n properties from the number k on.
+fn put_properties_line(
+    page: &mut [u8],
+    at: usize,
+    word: &[u8],
+    t: u64,
+    o: Output,
+    k: u8,
+    n: u8,
+) -> usize
+    requires { ⌜ k < 128 ⌝ }
+    requires { ⌜ n < 128 ⌝ }
+    ensures { λ r. ⌜ Wrote (now (page .entry)) at (propertiesLine (now (word .entry)) t o k n) (now (page .exit)) r ⌝ }
 {
-    let word = put_all(page, at, b"settings");
-    let fields = put_properties(page, word, t, o, 1, 10);
-    put(page, fields, b'\n')
-}
-
-fn put_last_line(page: &mut [u8], at: usize, t: u64, o: Output) -> usize
-    ensures { λ r. ⌜ Wrote (now (page .entry)) at (lastLine t o) (now (page .exit)) r ⌝ }
-{
-    let word = put_all(page, at, b"last");
-    let fields = put_properties(page, word, t, o, 15, 6);
+    let words = put_all(page, at, word);
+    let fields = put_properties(page, words, t, o, k, n);
     put(page, fields, b'\n')
 }
 
@@ -174,8 +177,9 @@ pub fn put_block(page: &mut [u8], at: usize, i: u64, t: u64, o: Output) -> usize
     let present = put_present_line(page, slots, o);
     let progress = put_progress_line(page, present, t, o);
     let process = put_process_line(page, progress, o);
-    let settings = put_settings_line(page, process, t, o);
-    let last = put_last_line(page, settings, t, o);
+    let settings = put_properties_line(page, process, b"settings", t, o, 0x01, 10);
+    let last = put_properties_line(page, settings, b"last", t, o, 0x0F, 6);
     let lit = put_number_line(page, last, b"burning ", burning);
-    put_tagged_line(page, lit, command)
+    let tagged = put_tagged_line(page, lit, command);
+    put_properties_line(page, tagged, b"relay", t, o, 0x17, 5)
 }

@@ -11,6 +11,7 @@ use Rattle.lighting.specs.Paper.Choice.{if_then_else_}
 use Rattle.lighting.specs.Paper.Frames.{Bytes}
 use Rattle.lighting.specs.Paper.Slots.{isLive, levelAt}
 use Rattle.lighting.specs.Paper.Value.{presentValue, progressValue, inProcess, lit}
+use Rattle.lighting.specs.Paper.Relay.{relayState}
 use Rattle.lighting.specs.Paper.Properties.{propertyOf, readProperty}
 use Rattle.lighting.specs.declared.Activity.{Activity}
 use Rattle.lighting.specs.declared.Activity.the-variants.{Still, Moving, Warned}
@@ -28,12 +29,12 @@ use Rattle.text_printing.specs.Writing.{answerLine}
 use Rattle.text_printing.specs.Page.{Wrote}
 use Rattle.text_printing.proofs.Lengths.{decimal-length, hex-length, answer-length}
 use Rattle.text_printing.proofs.Pages.{wrote-then, written}
-use Rattle.text_block.specs.Block.{levelField, slotLevel, slotField, slotFields, hexField, answerField, propertyField, propertyFields, numberLine, slotsLine, presentLine, progressLine, processLine, settingsLine, lastLine, block}
+use Rattle.text_block.specs.Block.{levelField, slotLevel, slotField, slotFields, hexField, answerField, propertyField, propertyFields, numberLine, slotsLine, presentLine, progressLine, processLine, propertiesLine, block}
 use Rattle.text_block.proofs.Tagged.{tagged-length}
-use Rattle.text_report.specs.Report.{twoDigits, threeDigits, lead, aligned, percent, minutes, moment, lasting, light, operationName, until, activityText, timerText, lightFields, levelFields, timeFields, wayFields, reportLine, reportHead}
+use Rattle.text_report.specs.Report.{twoDigits, threeDigits, lead, aligned, percent, minutes, moment, lasting, either, operationName, until, activityText, timerText, lightFields, levelFields, timeFields, relayField, wayFields, reportLine, reportHead}
 use Rattle.text_found.specs.Found.{foundHead, foundOutput, roomy, marked, Sheet, withText, withRoom, withOutput, withOutputs}
 
--- A BLOCK: nine lines, 684 bytes at most
+-- A BLOCK: ten lines, 735 bytes at most
 number-line : (word : Bytes) (n : ℕ) → length (numberLine word n) ≤ length word + 21
 unfolding numberLine
 number-line word n = simp length-append (omega (arith, decimal-length n))
@@ -59,8 +60,8 @@ unfolding propertyFields propertyField
 property-fields t o k zero = omega arith
 property-fields t o k (suc n) = simp length-append (omega (arith, property-fields t o k n, answer-field (readProperty t o (propertyOf (k + n)))))
 
-pub block-length : (i t : ℕ) (o : Output) → length (block i t o) ≤ 684
-unfolding block slotsLine presentLine progressLine processLine settingsLine lastLine
+pub block-length : (i t : ℕ) (o : Output) → length (block i t o) ≤ 735
+unfolding block slotsLine presentLine progressLine processLine propertiesLine
 block-length i t o =
     simp length-append (omega (
       arith,
@@ -71,11 +72,12 @@ block-length i t o =
       number-line (text "inprocess ") (inProcess (o .activity)),
       property-fields t o 1 10,
       property-fields t o 15 6,
+      property-fields t o 0x17 5,
       number-line (text "burning ") (o .burning),
       tagged-length (o .last),
     ))
 
--- A LINE OF THE REPORT: 236 bytes at most, and its head 114
+-- A LINE OF THE REPORT: 243 bytes at most, and its head 121
 lead-length : (n : ℕ) → length (lead n) ≤ 2
 unfolding lead if_then_else_
 lead-length n =
@@ -103,10 +105,11 @@ lasting-length : (n : ℕ) → length (lasting n) ≤ 28
 unfolding lasting
 lasting-length n = simp (length-append, minutes-length) (omega (arith, aligned-length (n / 3600000)))
 
-light-length : (b : Bool) → length (light b) ≡ 7
-unfolding light if_then_else_
-light-length true = refl
-light-length false = refl
+-- of two words of the same length
+either-length : (n : ℕ) (this that : Bytes) (b : Bool) → length this ≡ n → length that ≡ n → length (either this that b) ≡ n
+unfolding either if_then_else_
+either-length n this that true e f = e
+either-length n this that false e f = f
 
 operation-length : (x : Operation) → length (operationName x) ≡ 17
 unfolding operationName
@@ -137,22 +140,23 @@ unfolding timerText
 timer-length Off = omega arith
 timer-length (Running slot due) = omega (arith, until-length (text "  duration until ") due)
 
-pub report-length : (i t : ℕ) (o : Output) → length (reportLine i t o) ≤ 236
-unfolding reportLine lightFields levelFields timeFields wayFields
+pub report-length : (i t : ℕ) (o : Output) → length (reportLine i t o) ≤ 243
+unfolding reportLine lightFields levelFields timeFields relayField wayFields
 report-length i t o =
     simp length-append (omega (
       arith,
       aligned-length i,
-      light-length (lit t o),
+      either-length 7 (text "  lit  ") (text "  dark ") (lit t o) refl refl,
       percent-length (presentValue (o .settings) (o .slots)),
       percent-length (progressValue t o),
       lasting-length (o .burning),
       operation-length (o .last .operation),
+      either-length 7 (text "  on   ") (text "  off  ") (relayState (o .relay)) refl refl,
       activity-length (o .activity),
       timer-length (o .timer),
     ))
 
-pub head-length : (t : ℕ) → length (reportHead t) ≤ 114
+pub head-length : (t : ℕ) → length (reportHead t) ≤ 121
 unfolding reportHead
 head-length t = simp length-append (omega (arith, moment-length t))
 

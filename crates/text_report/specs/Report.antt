@@ -6,6 +6,8 @@ use lib.Dec.{ltb}
 use Rattle.lighting.specs.Paper.Choice.{if_then_else_}
 use Rattle.lighting.specs.Paper.Frames.{Bytes}
 use Rattle.lighting.specs.Paper.Value.{presentValue, progressValue, lit}
+use Rattle.lighting.specs.Paper.Relay.{relayState}
+use Rattle.lighting.specs.declared.Relay.{Relay}
 use Rattle.lighting.specs.declared.Activity.{Activity}
 use Rattle.lighting.specs.declared.Activity.the-variants.{Still, Moving, Warned}
 use Rattle.lighting.specs.declared.Timer.{Timer}
@@ -52,8 +54,8 @@ lasting n = aligned (n / 3600000) ++ minutes n
 abbrev pub gap : Bytes
 gap = text "  "
 
-unfoldable pub light : Bool → Bytes
-light b = if b then text "  lit  " else text "  dark "
+unfoldable pub either : Bytes → Bytes → Bool → Bytes
+either this that b = if b then this else that
 
 -- the names of clause 12.X's operations, one as long as the other
 unfoldable pub operationName : Operation → Bytes
@@ -83,9 +85,9 @@ timerText Off = []
 timerText (Running slot due) = until (text "  duration until ") due
 
 -- THE LINE of the output i at the time t: output, whether its lamp gives light (by Progress_Value: §2 of the change requests), present and progress
--- level, burning time, last command, what is under way
+-- level, burning time, last command, the relay's state (§3), what is under way
 unfoldable pub lightFields : ℕ → ℕ → Output → Bytes
-lightFields i t o = gap ++ (aligned i ++ (gap ++ light (lit t o)))
+lightFields i t o = gap ++ (aligned i ++ (gap ++ either (text "  lit  ") (text "  dark ") (lit t o)))
 
 unfoldable pub levelFields : ℕ → Output → Bytes
 levelFields t o = gap ++ (percent (presentValue (o .settings) (o .slots)) ++ (gap ++ (gap ++ percent (progressValue t o))))
@@ -93,15 +95,18 @@ levelFields t o = gap ++ (percent (presentValue (o .settings) (o .slots)) ++ (ga
 unfoldable pub timeFields : Output → Bytes
 timeFields o = gap ++ (lasting (o .burning) ++ operationName (o .last .operation))
 
+unfoldable pub relayField : Relay → Bytes
+relayField r = either (text "  on   ") (text "  off  ") (relayState r)
+
 unfoldable pub wayFields : Output → Bytes
-wayFields o = activityText (o .activity) ++ (timerText (o .timer) ++ newline)
+wayFields o = relayField (o .relay) ++ (activityText (o .activity) ++ (timerText (o .timer) ++ newline))
 
 unfoldable pub reportLine : ℕ → ℕ → Output → Bytes
 reportLine i t o = lightFields i t o ++ (levelFields t o ++ (timeFields o ++ wayFields o))
 
 -- the lines above: the panel's time, and the heads of the columns
 abbrev pub heads : Bytes
-heads = text "output  light  present  progress    burning  last command     under way\n"
+heads = text "output  light  present  progress    burning  last command     relay  under way\n"
 
 unfoldable pub reportHead : ℕ → Bytes
 reportHead t = text "panel time " ++ (moment t ++ (newline ++ heads))

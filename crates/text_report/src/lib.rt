@@ -2,10 +2,11 @@
 ghost use mathlib.Core.Path.{_≡_};
 ghost use Prim.Native.Nat.{_*_, _/_, _%_};
 ghost use Rattle.text_printing.specs.Page.{Wrote};
-ghost use Rattle.text_report.specs.Report.{digit, twoDigits, threeDigits, lead, aligned, percent, minutes, moment, lasting, light, operationName, until, activityText, timerText, lightFields, levelFields, timeFields, wayFields, reportLine, reportHead};
+ghost use Rattle.text_report.specs.Report.{digit, twoDigits, threeDigits, lead, aligned, percent, minutes, moment, lasting, either, operationName, until, activityText, timerText, lightFields, levelFields, timeFields, relayField, wayFields, reportLine, reportHead};
 use lighting::Activity;
 use lighting::Operation;
 use lighting::Output;
+use lighting::Relay;
 use lighting::Timer;
 use text_printing::put;
 use text_printing::put_all;
@@ -95,13 +96,13 @@ fn put_lasting(page: &mut [u8], at: usize, n: u64) -> usize
 
 // ---- words
 
-fn put_light(page: &mut [u8], at: usize, b: bool) -> usize
-    ensures { λ r. ⌜ Wrote (now (page .entry)) at (light b) (now (page .exit)) r ⌝ }
+fn put_either(page: &mut [u8], at: usize, this: &[u8], that: &[u8], b: bool) -> usize
+    ensures { λ r. ⌜ Wrote (now (page .entry)) at (either (now (this .entry)) (now (that .entry)) b) (now (page .exit)) r ⌝ }
 {
     if b {
-        put_all(page, at, b"  lit  ")
+        put_all(page, at, this)
     } else {
-        put_all(page, at, b"  dark ")
+        put_all(page, at, that)
     }
 }
 
@@ -160,7 +161,7 @@ fn put_light_fields(page: &mut [u8], at: usize, i: u64, t: u64, o: Output) -> us
     let left = put_all(page, at, b"  ");
     let number = put_aligned(page, left, i);
     let middle = put_all(page, number, b"  ");
-    put_light(page, middle, b)
+    put_either(page, middle, b"  lit  ", b"  dark ", b)
 }
 
 fn put_level_fields(page: &mut [u8], at: usize, t: u64, o: Output) -> usize
@@ -187,12 +188,21 @@ fn put_time_fields(page: &mut [u8], at: usize, o: Output) -> usize
     put_operation(page, burning, operation)
 }
 
+fn put_relay(page: &mut [u8], at: usize, relay: Relay) -> usize
+    ensures { λ r. ⌜ Wrote (now (page .entry)) at (relayField relay) (now (page .exit)) r ⌝ }
+{
+    let on = output_relay::relay_state(relay);
+    put_either(page, at, b"  on   ", b"  off  ", on)
+}
+
 fn put_way_fields(page: &mut [u8], at: usize, o: Output) -> usize
     ensures { λ r. ⌜ Wrote (now (page .entry)) at (wayFields o) (now (page .exit)) r ⌝ }
 {
     let a = o.activity;
     let t = o.timer;
-    let way = put_activity(page, at, a);
+    let relay = o.relay;
+    let switched = put_relay(page, at, relay);
+    let way = put_activity(page, switched, a);
     let timer = put_timer(page, way, t);
     put(page, timer, b'\n')
 }
@@ -215,6 +225,6 @@ pub fn put_report_head(page: &mut [u8], at: usize, t: u64) -> usize
     put_all(
         page,
         end,
-        b"output  light  present  progress    burning  last command     under way\n",
+        b"output  light  present  progress    burning  last command     relay  under way\n",
     )
 }

@@ -12,6 +12,9 @@ use Rattle.property_write.proofs.settings.change.Reads as change-reads
 unchanged-requires : tie.Need-unchanged-requires
 unchanged-requires c κs = search needs
 
+unchanged-requires-2 : tie.Need-unchanged-requires-2
+unchanged-requires-2 c κs = search needs
+
 change-requires : tie.Need-change-requires
 change-requires c κs = search needs
 
@@ -24,8 +27,12 @@ returns c = search (needs, ifs)
 
 returns-2 : tie.Need-returns-2
 unfolding changedUnless
-returns-2 c = search (needs, ifs, ← c .before .change .ensures)
+returns-2 c = search (needs, ifs)
+
+returns-3 : tie.Need-returns-3
+unfolding changedUnless
+returns-3 c = search (needs, ifs, ← c .before .change .ensures)
 
 pub change-unless-spec : {M : Type 1} → statement M
 change-unless-spec =
-    tie.close (tie.spec unchanged-requires change-requires done-requires returns returns-2)
+    tie.close (tie.spec unchanged-requires unchanged-requires-2 change-requires done-requires returns returns-2 returns-3)

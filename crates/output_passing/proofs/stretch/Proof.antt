@@ -10,8 +10,8 @@ since-requires c κs = search needs
 with-burned-saturating-requires : tie.Need-with-burned-saturating-requires
 with-burned-saturating-requires c κs = search needs
 
-fire-at-requires : tie.Need-fire-at-requires
-fire-at-requires c κs = search needs
+fire-due-requires : tie.Need-fire-due-requires
+fire-due-requires c κs = search needs
 
 returns : tie.Need-returns
 unfolding eventStep
@@ -22,4 +22,4 @@ unfolding eventSteps
 returns-2 c = search (needs, ifs, ← c .before .before .since .ensures)
 
 pub stretch-spec : {M : Type 1} → statement M
-stretch-spec = tie.close (tie.spec since-requires with-burned-saturating-requires fire-at-requires returns returns-2)
+stretch-spec = tie.close (tie.spec since-requires with-burned-saturating-requires fire-due-requires returns returns-2)

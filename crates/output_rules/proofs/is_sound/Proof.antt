@@ -1,17 +1,17 @@
 use Rattle.lighting.proofs.Choosing.{ifs}
-use Rattle.output_rules.proofs.Order.{in-order}
+use Rattle.output_rules.proofs.Order.{in-order, settings-first}
 use borrow.Author.Needs.{needs}
 use Rattle.output_rules.proofs.is_sound.Statement.{statement}
 use Rattle.output_rules.proofs.is_sound.Tie as tie
-use Rattle.output_rules.proofs.is_sound.Reads as reads
-use Rattle.output_rules.proofs.is_sound.Lts as lts
-use Rattle.output_rules.proofs.activity_sound.Reads as activity-sound-reads
-use Rattle.output_rules.proofs.settings_sound.Reads as settings-sound-reads
-use Rattle.output_rules.proofs.slots_sound.Reads as slots-sound-reads
-use Rattle.output_activity_rules.proofs.timer_sound.Reads as timer-sound-reads
 
 settings-sound-requires : tie.Need-settings-sound-requires
 settings-sound-requires c κs = search needs
+
+present-value-requires : tie.Need-present-value-requires
+present-value-requires c κs = search needs
+
+relay-sound-requires : tie.Need-relay-sound-requires
+relay-sound-requires c κs = search needs
 
 timer-sound-requires : tie.Need-timer-sound-requires
 timer-sound-requires c κs = search needs
@@ -23,25 +23,30 @@ slots-sound-requires : tie.Need-slots-sound-requires
 slots-sound-requires c κs = search needs
 
 returns : tie.Need-returns
-returns c = search (needs, ifs, in-order)
+returns c = search (needs, ifs, in-order) depth 9
 
 returns-2 : tie.Need-returns-2
-returns-2 c = search (needs, ifs, in-order)
+returns-2 c = search (needs, ifs, in-order) depth 9
 
 returns-3 : tie.Need-returns-3
-returns-3 c = search (needs, ifs, in-order)
+returns-3 c = search (needs, ifs, in-order) depth 9
 
 returns-4 : tie.Need-returns-4
-returns-4 c = search (needs, ifs, in-order)
+returns-4 c = search (needs, ifs, in-order) depth 9
 
 returns-5 : tie.Need-returns-5
-returns-5 c = search (needs, ifs, in-order)
+returns-5 c = search (needs, ifs, in-order) depth 9
+
+returns-6 : tie.Need-returns-6
+returns-6 c = search (needs, settings-first)
 
 pub is-sound-spec : {M : Type 1} → statement M
 is-sound-spec =
     tie.close
     (tie.spec
     settings-sound-requires
+    present-value-requires
+    relay-sound-requires
     timer-sound-requires
     activity-sound-requires
     slots-sound-requires
@@ -49,4 +54,5 @@ is-sound-spec =
     returns-2
     returns-3
     returns-4
-    returns-5)
+    returns-5
+    returns-6)

@@ -140,14 +140,47 @@ enum-told-20 c = search needs
 last-duration-requires : tie.Need-last-duration-requires
 last-duration-requires c κs = search needs
 
+enum-told-21 : tie.Need-enum-told-21
+enum-told-21 c = search needs
+
+level-answer-requires-6 : tie.Need-level-answer-requires-6
+level-answer-requires-6 c κs = search needs
+
+enum-told-22 : tie.Need-enum-told-22
+enum-told-22 c = search needs
+
+level-answer-requires-7 : tie.Need-level-answer-requires-7
+level-answer-requires-7 c κs = search needs
+
+enum-told-23 : tie.Need-enum-told-23
+enum-told-23 c = search needs
+
+flag-requires-2 : tie.Need-flag-requires-2
+flag-requires-2 c κs = search needs
+
+enum-told-24 : tie.Need-enum-told-24
+enum-told-24 c = search needs
+
+flag-requires-3 : tie.Need-flag-requires-3
+flag-requires-3 c κs = search needs
+
+enum-told-25 : tie.Need-enum-told-25
+enum-told-25 c = search needs
+
+relay-state-requires : tie.Need-relay-state-requires
+relay-state-requires c κs = search needs
+
+flag-requires-4 : tie.Need-flag-requires-4
+flag-requires-4 c κs = search needs
+
 enum-known-p : tie.Need-enum-known-p
 enum-known-p c = search needs
 
 slot-answer-requires : tie.Need-slot-answer-requires
 slot-answer-requires c κs = search needs
 
-enum-told-21 : tie.Need-enum-told-21
-enum-told-21 c = search needs
+enum-told-26 : tie.Need-enum-told-26
+enum-told-26 c = search needs
 
 returns : tie.Need-returns
 unfolding readProperty
@@ -237,6 +270,26 @@ returns-22 : tie.Need-returns-22
 unfolding readProperty
 returns-22 c = search (needs, readProperty-on)
 
+returns-23 : tie.Need-returns-23
+unfolding readProperty
+returns-23 c = search (needs, readProperty-on)
+
+returns-24 : tie.Need-returns-24
+unfolding readProperty
+returns-24 c = search (needs, readProperty-on)
+
+returns-25 : tie.Need-returns-25
+unfolding readProperty
+returns-25 c = search (needs, readProperty-on, ← c .before .relay-state .ensures)
+
+returns-26 : tie.Need-returns-26
+unfolding readProperty
+returns-26 c = search (needs, readProperty-on)
+
+returns-27 : tie.Need-returns-27
+unfolding readProperty
+returns-27 c = search (needs, readProperty-on)
+
 pub read-property-spec : {M : Type 1} → statement M
 read-property-spec =
     tie.close
@@ -281,9 +334,20 @@ read-property-spec =
     time-field-answer-requires
     enum-told-20
     last-duration-requires
+    enum-told-21
+    level-answer-requires-6
+    enum-told-22
+    level-answer-requires-7
+    enum-told-23
+    flag-requires-2
+    enum-told-24
+    flag-requires-3
+    enum-told-25
+    relay-state-requires
+    flag-requires-4
     enum-known-p
     slot-answer-requires
-    enum-told-21
+    enum-told-26
     returns
     returns-2
     returns-3
@@ -305,4 +369,9 @@ read-property-spec =
     returns-19
     returns-20
     returns-21
-    returns-22)
+    returns-22
+    returns-23
+    returns-24
+    returns-25
+    returns-26
+    returns-27)

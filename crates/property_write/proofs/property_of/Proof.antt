@@ -1,4 +1,5 @@
 use mathlib.Core.Path.{refl}
+use mathlib.Core.List.{_∷_}
 use native.Mathlib.Omega.{arith}
 use Rattle.lighting.specs.Paper.Choice.{if_then_else_}
 use Rattle.property_write.proofs.Keys.{below, propertyOf-on, propertyOf-slot, propertyOf-none, propertyOf-above}
@@ -94,14 +95,34 @@ unfolding propertyOf numbered if_then_else_
 returns-21 c = search (needs, propertyOf-on)
 
 returns-22 : tie.Need-returns-22
-returns-22 c = propertyOf-slot _ (omega arith) (omega arith)
+unfolding propertyOf numbered if_then_else_
+returns-22 c = search (needs, propertyOf-on)
 
 returns-23 : tie.Need-returns-23
-unfolding if_then_else_
-returns-23 c = propertyOf-none _ (below 21) refl (search needs) (search needs)
+unfolding propertyOf numbered if_then_else_
+returns-23 c = search (needs, propertyOf-on)
 
 returns-24 : tie.Need-returns-24
-returns-24 c = propertyOf-above _ (omega arith)
+unfolding propertyOf numbered if_then_else_
+returns-24 c = search (needs, propertyOf-on)
+
+returns-25 : tie.Need-returns-25
+unfolding propertyOf numbered if_then_else_
+returns-25 c = search (needs, propertyOf-on)
+
+returns-26 : tie.Need-returns-26
+unfolding propertyOf numbered if_then_else_
+returns-26 c = search (needs, propertyOf-on)
+
+returns-27 : tie.Need-returns-27
+returns-27 c = propertyOf-slot _ (omega arith) (omega arith)
+
+returns-28 : tie.Need-returns-28
+unfolding if_then_else_
+returns-28 c = propertyOf-none _ (0x1b ∷ 0x1a ∷ 0x19 ∷ 0x18 ∷ 0x17 ∷ below 21) refl (search needs) (search needs)
+
+returns-29 : tie.Need-returns-29
+returns-29 c = propertyOf-above _ (omega arith)
 
 pub property-of-spec : {M : Type 1} → statement M
 property-of-spec =
@@ -130,4 +151,9 @@ property-of-spec =
     returns-21
     returns-22
     returns-23
-    returns-24)
+    returns-24
+    returns-25
+    returns-26
+    returns-27
+    returns-28
+    returns-29)

@@ -3,12 +3,6 @@ use Rattle.text_report.specs.Report.{lightFields}
 use borrow.Author.Needs.{needs}
 use Rattle.text_report.proofs.put_light_fields.Statement.{statement}
 use Rattle.text_report.proofs.put_light_fields.Tie as tie
-use Rattle.text_report.proofs.put_light_fields.Reads as reads
-use Rattle.text_report.proofs.put_light_fields.Lts as lts
-use Rattle.text_report.proofs.put_aligned.Reads as put-aligned-reads
-use Rattle.text_report.proofs.put_light.Reads as put-light-reads
-use Rattle.text_printing.proofs.put_all.Reads as put-all-reads
-use Rattle.output_value.proofs.is_lit.Reads as is-lit-reads
 
 is-lit-requires : tie.Need-is-lit-requires
 is-lit-requires c κs = search needs
@@ -28,15 +22,21 @@ slice-aggregate-put-all-2 c = search needs
 put-all-requires-2 : tie.Need-put-all-requires-2
 put-all-requires-2 c κs = search needs
 
-put-light-requires : tie.Need-put-light-requires
-put-light-requires c κs = search needs
+slice-aggregate-put-either : tie.Need-slice-aggregate-put-either
+slice-aggregate-put-either c = search needs
+
+slice-aggregate-put-either-2 : tie.Need-slice-aggregate-put-either-2
+slice-aggregate-put-either-2 c = search needs
+
+put-either-requires : tie.Need-put-either-requires
+put-either-requires c κs = search needs
 
 same-length : tie.Need-same-length
 same-length c = search needs
 
 returns : tie.Need-returns
 unfolding lightFields
-returns c = rw (← c .before .before .before .before .before .before .before .before .before .before .before .before .before .before .before .before .before .before .is-lit .ensures) (wrote-then (c .before .before .before .before .before .before .before .before .before .before .before .before .before .before .before .put-all .ensures) (wrote-then (c .before .before .before .before .before .before .before .before .before .before .before .put-aligned .ensures) (wrote-then (c .before .before .before .before .before .before .put-all2 .ensures) (c .before .before .put-light .ensures))))
+returns c = rw (← c .before .before .before .before .before .before .before .before .before .before .before .before .before .before .before .before .before .before .before .before .is-lit .ensures) (wrote-then (c .before .before .before .before .before .before .before .before .before .before .before .before .before .before .before .before .before .put-all .ensures) (wrote-then (c .before .before .before .before .before .before .before .before .before .before .before .before .before .put-aligned .ensures) (wrote-then (c .before .before .before .before .before .before .before .before .put-all2 .ensures) (c .before .before .put-either .ensures))))
 
 pub put-light-fields-spec : {M : Type 1} → statement M
 put-light-fields-spec =
@@ -48,6 +48,8 @@ put-light-fields-spec =
     put-aligned-requires
     slice-aggregate-put-all-2
     put-all-requires-2
-    put-light-requires
+    slice-aggregate-put-either
+    slice-aggregate-put-either-2
+    put-either-requires
     same-length
     returns)

@@ -3,11 +3,9 @@ use Rattle.text_report.specs.Report.{wayFields}
 use borrow.Author.Needs.{needs}
 use Rattle.text_report.proofs.put_way_fields.Statement.{statement}
 use Rattle.text_report.proofs.put_way_fields.Tie as tie
-use Rattle.text_report.proofs.put_way_fields.Reads as reads
-use Rattle.text_report.proofs.put_way_fields.Lts as lts
-use Rattle.text_report.proofs.put_activity.Reads as put-activity-reads
-use Rattle.text_report.proofs.put_timer.Reads as put-timer-reads
-use Rattle.text_printing.proofs.put.Reads as put-reads
+
+put-relay-requires : tie.Need-put-relay-requires
+put-relay-requires c κs = search needs
 
 put-activity-requires : tie.Need-put-activity-requires
 put-activity-requires c κs = search needs
@@ -23,8 +21,8 @@ same-length c = search needs
 
 returns : tie.Need-returns
 unfolding wayFields
-returns c = wrote-then (c .before .before .before .before .before .before .before .before .before .before .put-activity .ensures) (wrote-then (c .before .before .before .before .before .before .put-timer .ensures) (c .before .before .put .ensures))
+returns c = wrote-then (c .before .before .before .before .before .before .before .before .before .before .before .before .before .before .put-relay .ensures) (wrote-then (c .before .before .before .before .before .before .before .before .before .before .put-activity .ensures) (wrote-then (c .before .before .before .before .before .before .put-timer .ensures) (c .before .before .put .ensures)))
 
 pub put-way-fields-spec : {M : Type 1} → statement M
 put-way-fields-spec =
-    tie.close (tie.spec put-activity-requires put-timer-requires put-requires same-length returns)
+    tie.close (tie.spec put-relay-requires put-activity-requires put-timer-requires put-requires same-length returns)

@@ -78,7 +78,7 @@ abbrev b6 : Syntax.Body
 b6 = Syntax.cond (Syntax.copy (Syntax.place 5 List.[])) b4 b5
 
 abbrev b7 : Syntax.Body
-b7 = Syntax.assign (Syntax.place 4 List.[]) (Syntax.op2 (Syntax.mul Syntax.unsigned) (Syntax.copy (Syntax.place 3 List.[])) (Syntax.int Syntax.w64 200))
+b7 = Syntax.assign (Syntax.place 4 List.[]) (Syntax.op2 (Syntax.mul Syntax.unsigned) (Syntax.copy (Syntax.place 3 List.[])) (Syntax.int Syntax.w64 208))
 
 abbrev b8 : Syntax.Body
 b8 = Syntax.assign (Syntax.place 6 List.[]) (Syntax.op2 Syntax.offset (Syntax.copy (Syntax.place 1 (List._∷_ (Syntax.field 0) List.[]))) (Syntax.copy (Syntax.place 4 List.[])))
@@ -280,13 +280,13 @@ module _ (claims· : Claims) where
   s7 = Scalar.n-room T10 5 Syntax.tyBool
 
   abbrev s8 : Typed.Asks T7 T12
-  s8 = Scalar.k-op2 T7 (Syntax.mul Syntax.unsigned) (Scalar.oAt 3 (Syntax.tyInt Syntax.w64) (Row.valS (Row.sInt Syntax.w64))) (Scalar.oInt Syntax.w64 200) 4 (Rows'.sc-here (Row.sInt Syntax.w64)) (Row.sInt Syntax.w64 .of)
+  s8 = Scalar.k-op2 T7 (Syntax.mul Syntax.unsigned) (Scalar.oAt 3 (Syntax.tyInt Syntax.w64) (Row.valS (Row.sInt Syntax.w64))) (Scalar.oInt Syntax.w64 208) 4 (Rows'.sc-here (Row.sInt Syntax.w64)) (Row.sInt Syntax.w64 .of)
 
   abbrev s9 : Typed.Asks T12 T13
   s9 = Scalar.k-op2 T12 Syntax.offset (Scalar.oFld 1 (List._∷_ (Syntax.field 0) List.[]) (Syntax.tyRef (Syntax.named 0) Syntax.mut OfOutput.named) 0 Reads.ptrVal) (Scalar.oAt 4 (Syntax.tyInt Syntax.w64) (Row.valS (Row.sInt Syntax.w64))) 6 (Rows'.sc-here Row.sPtr) (Row.sPtr .of)
 
   abbrev s10 : Typed.Asks T13 T14
-  s10 = Move.k-sl-set-from (OfOutput.row) T13 1 6 2 0 (Syntax.tyRef (Syntax.named 0) Syntax.mut OfOutput.named) Row.off (OfOutput.held) (Shared.bySize 200) (λ u. u .1 .1 .1 .0) (λ x. x) (λ x. x) (λ x. x) λ x. x
+  s10 = Move.k-sl-set-from (OfOutput.row) T13 1 6 2 0 (Syntax.tyRef (Syntax.named 0) Syntax.mut OfOutput.named) Row.off (OfOutput.held) (Shared.bySize 208) (λ u. u .1 .1 .1 .0) (λ x. x) (λ x. x) (λ x. x) λ x. x
 
   abbrev s11 : Typed.Mo T14 → Typed.Mo T15
   s11 = Scalar.n-room T14 4 (Syntax.tyInt Syntax.w64)
@@ -510,13 +510,13 @@ module _ (claims· : Claims) where
           d9 = Typed.g-pre 𝓤 H A W 𝓣 E G14 G15 b10 Δ3 (Typed.pass T14 T15 s11) at8 (Scalar.g-room 𝓤 H A W E G14 4 (Syntax.tyInt Syntax.w64) (Scalar.room-sc 𝓤 H A W (Row.sInt Syntax.w64))) d8
 
           d10 : Typed.Typed 𝓤 H A 𝓣 E G13 b11 Δ3 at10
-          d10 = Typed.s-seq 𝓤 H A W 𝓣 E G13 G14 b9 b10 Δ3 (Typed.ask s10) at9 (Move.t-sl-set-from 𝓤 H A W E (OfOutput.row) 𝓣 Path'.refl (λ ρ. Unit) G13 1 6 2 0 (Syntax.tyRef (Syntax.named 0) Syntax.mut OfOutput.named) (Row.lease (κs .0) (qs .0)) OfOutput.spelt OfOutput.spelt (OfOutput.held) (Shared.bySize 200) (λ u. u .1 .1 .1 .0) (λ x. x) (λ x. x) (λ x. x) (λ x. x) (λ i o. Elements.at-mul o 200 i) Path'.refl Path'.refl (Own.told-none 𝓤 H A (G13 .slots)) (Reads.as-is 𝓤 H A (Mut.mslice (OfOutput.row) (Syntax.tyRef (Syntax.named 0) Syntax.mut OfOutput.named) 0)) (Reads.as-is 𝓤 H A (Rows'.sc-here Row.sPtr)) (Yields.yields-copy 𝓤 H A W (λ ρ. Unit) (OfOutput.row) Path'.refl (OfOutput.copies .copy 𝓤 H A W) (OfOutput.held) (λ x. x) (λ x. x) (λ ρ told. OfOutput.in-mem 𝓤 H A W ρ) λ ρ told. OfOutput.of-mem 𝓤 H A W ρ) Path'.refl tt Path'.refl Path'.refl) d9
+          d10 = Typed.s-seq 𝓤 H A W 𝓣 E G13 G14 b9 b10 Δ3 (Typed.ask s10) at9 (Move.t-sl-set-from 𝓤 H A W E (OfOutput.row) 𝓣 Path'.refl (λ ρ. Unit) G13 1 6 2 0 (Syntax.tyRef (Syntax.named 0) Syntax.mut OfOutput.named) (Row.lease (κs .0) (qs .0)) OfOutput.spelt OfOutput.spelt (OfOutput.held) (Shared.bySize 208) (λ u. u .1 .1 .1 .0) (λ x. x) (λ x. x) (λ x. x) (λ x. x) (λ i o. Elements.at-mul o 208 i) Path'.refl Path'.refl (Own.told-none 𝓤 H A (G13 .slots)) (Reads.as-is 𝓤 H A (Mut.mslice (OfOutput.row) (Syntax.tyRef (Syntax.named 0) Syntax.mut OfOutput.named) 0)) (Reads.as-is 𝓤 H A (Rows'.sc-here Row.sPtr)) (Yields.yields-copy 𝓤 H A W (λ ρ. Unit) (OfOutput.row) Path'.refl (OfOutput.copies .copy 𝓤 H A W) (OfOutput.held) (λ x. x) (λ x. x) (λ ρ told. OfOutput.in-mem 𝓤 H A W ρ) λ ρ told. OfOutput.of-mem 𝓤 H A W ρ) Path'.refl tt Path'.refl Path'.refl) d9
 
           d11 : Typed.Typed 𝓤 H A 𝓣 E G12 b12 Δ3 at11
           d11 = Typed.s-seq 𝓤 H A W 𝓣 E G12 G13 b8 b11 Δ3 (Typed.ask s9) at10 (Scalar.t-op2 𝓤 H A W E 𝓣 G12 Syntax.offset (Scalar.oFld 1 (List._∷_ (Syntax.field 0) List.[]) (Syntax.tyRef (Syntax.named 0) Syntax.mut OfOutput.named) 0 Reads.ptrVal) (Scalar.oAt 4 (Syntax.tyInt Syntax.w64) (Row.valS (Row.sInt Syntax.w64))) 6 (Rows'.sc-here Row.sPtr) Syntax.tyPtr (Row.valS Row.sPtr) (Row.sPtr .of) (Mut.reads-mslice-ptr 𝓤 H A W (OfOutput.row) (Syntax.tyRef (Syntax.named 0) Syntax.mut OfOutput.named) 0 0 Path'.refl, Path'.refl) (Scalar.reads-sc 𝓤 H A W (Row.sInt Syntax.w64), Path'.refl) (Reads.room-gone 𝓤 H A Syntax.tyPtr) (Scalar.holds-sc 𝓤 H A W Row.sPtr) Path'.refl (λ u. Path'.refl) λ u. tt) d10
 
           d12 : Typed.Typed 𝓤 H A 𝓣 E G7 b13 Δ3 at12
-          d12 = Typed.s-seq 𝓤 H A W 𝓣 E G7 G12 b7 b12 Δ3 (Typed.ask s8) at11 (Scalar.t-op2 𝓤 H A W E 𝓣 G7 (Syntax.mul Syntax.unsigned) (Scalar.oAt 3 (Syntax.tyInt Syntax.w64) (Row.valS (Row.sInt Syntax.w64))) (Scalar.oInt Syntax.w64 200) 4 (Rows'.sc-here (Row.sInt Syntax.w64)) (Syntax.tyInt Syntax.w64) (Row.valS (Row.sInt Syntax.w64)) (Row.sInt Syntax.w64 .of) (Scalar.reads-sc 𝓤 H A W (Row.sInt Syntax.w64), Path'.refl) tt (Reads.room-gone 𝓤 H A (Syntax.tyInt Syntax.w64)) (Scalar.holds-sc 𝓤 H A W (Row.sInt Syntax.w64)) Path'.refl (λ u. Path'.refl) λ u. tt) d11
+          d12 = Typed.s-seq 𝓤 H A W 𝓣 E G7 G12 b7 b12 Δ3 (Typed.ask s8) at11 (Scalar.t-op2 𝓤 H A W E 𝓣 G7 (Syntax.mul Syntax.unsigned) (Scalar.oAt 3 (Syntax.tyInt Syntax.w64) (Row.valS (Row.sInt Syntax.w64))) (Scalar.oInt Syntax.w64 208) 4 (Rows'.sc-here (Row.sInt Syntax.w64)) (Syntax.tyInt Syntax.w64) (Row.valS (Row.sInt Syntax.w64)) (Row.sInt Syntax.w64 .of) (Scalar.reads-sc 𝓤 H A W (Row.sInt Syntax.w64), Path'.refl) tt (Reads.room-gone 𝓤 H A (Syntax.tyInt Syntax.w64)) (Scalar.holds-sc 𝓤 H A W (Row.sInt Syntax.w64)) Path'.refl (λ u. Path'.refl) λ u. tt) d11
 
           d13 : Typed.Typed 𝓤 H A 𝓣 E G6 b14 Δ3 at13
           d13 = Typed.t-seq 𝓤 H A W 𝓣 E G6 G7 b6 b13 Δ3 at6 at12 d6 d12

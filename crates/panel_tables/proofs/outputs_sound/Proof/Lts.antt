@@ -80,7 +80,7 @@ abbrev b5 : Syntax.Body
 b5 = Syntax.cond (Syntax.copy (Syntax.place 6 List.[])) b3 b4
 
 abbrev b6 : Syntax.Body
-b6 = Syntax.assign (Syntax.place 5 List.[]) (Syntax.op2 (Syntax.mul Syntax.unsigned) (Syntax.copy (Syntax.place 3 List.[])) (Syntax.int Syntax.w64 200))
+b6 = Syntax.assign (Syntax.place 5 List.[]) (Syntax.op2 (Syntax.mul Syntax.unsigned) (Syntax.copy (Syntax.place 3 List.[])) (Syntax.int Syntax.w64 208))
 
 abbrev b7 : Syntax.Body
 b7 = Syntax.assign (Syntax.place 7 List.[]) (Syntax.op2 Syntax.offset (Syntax.copy (Syntax.place 1 (List._∷_ (Syntax.field 0) List.[]))) (Syntax.copy (Syntax.place 5 List.[])))
@@ -363,13 +363,13 @@ module _ (claims· : Claims) where
   s5 = Scalar.n-room T7 6 Syntax.tyBool
 
   abbrev s6 : Typed.Asks T6 T10
-  s6 = Scalar.k-op2 T6 (Syntax.mul Syntax.unsigned) (Scalar.oAt 3 (Syntax.tyInt Syntax.w64) (Row.valS (Row.sInt Syntax.w64))) (Scalar.oInt Syntax.w64 200) 5 (Rows'.sc-here (Row.sInt Syntax.w64)) (Row.sInt Syntax.w64 .of)
+  s6 = Scalar.k-op2 T6 (Syntax.mul Syntax.unsigned) (Scalar.oAt 3 (Syntax.tyInt Syntax.w64) (Row.valS (Row.sInt Syntax.w64))) (Scalar.oInt Syntax.w64 208) 5 (Rows'.sc-here (Row.sInt Syntax.w64)) (Row.sInt Syntax.w64 .of)
 
   abbrev s7 : Typed.Asks T10 T11
   s7 = Scalar.k-op2 T10 Syntax.offset (Scalar.oFld 1 (List._∷_ (Syntax.field 0) List.[]) (Syntax.tyRef (Syntax.named 0) Syntax.imm OfOutput.named) 0 Reads.ptrVal) (Scalar.oAt 5 (Syntax.tyInt Syntax.w64) (Row.valS (Row.sInt Syntax.w64))) 7 (Rows'.sc-here Row.sPtr) (Row.sPtr .of)
 
   abbrev s8 : Typed.Both T11 T12
-  s8 = Move.k-shs-copy-out (OfOutput.row) T11 1 7 8 0 (Syntax.tyRef (Syntax.named 0) Syntax.imm OfOutput.named) Row.off (OfOutput.held) (Shared.bySize 200) (λ u. u .1 .1 .1 .0) (λ x. x) OfOutput.none (λ x. Unit) (λ x. x) λ x. x
+  s8 = Move.k-shs-copy-out (OfOutput.row) T11 1 7 8 0 (Syntax.tyRef (Syntax.named 0) Syntax.imm OfOutput.named) Row.off (OfOutput.held) (Shared.bySize 208) (λ u. u .1 .1 .1 .0) (λ x. x) OfOutput.none (λ x. Unit) (λ x. x) λ x. x
 
   abbrev s9 : Typed.Mo T12 → Typed.Mo T13
   s9 = Scalar.n-room T12 5 (Syntax.tyInt Syntax.w64)
@@ -745,13 +745,13 @@ module _ (claims· : Claims) where
           d23 = Typed.g-pre 𝓤 H A W 𝓣 E G12 G13 b21 Δ3 (Typed.pass T12 T13 s9) at22 (Scalar.g-room 𝓤 H A W E G12 5 (Syntax.tyInt Syntax.w64) (Scalar.room-sc 𝓤 H A W (Row.sInt Syntax.w64))) d22
 
           d24 : Typed.Typed 𝓤 H A 𝓣 E G11 b22 Δ3 at24
-          d24 = Typed.s-seq 𝓤 H A W 𝓣 E G11 G12 b8 b21 Δ3 (Typed.both s8) at23 (Move.t-shs-copy-out 𝓤 H A W E (OfOutput.row) 𝓣 Path'.refl (OfOutput.copies .copy 𝓤 H A W) (Copies.halved 𝓤 H A W (OfOutput.copies)) (λ ρ. Unit) G11 1 7 8 0 (Syntax.tyRef (Syntax.named 0) Syntax.imm OfOutput.named) (Row.lease (κs .0) (qs .0)) OfOutput.spelt OfOutput.spelt (OfOutput.held) (Shared.bySize 200) (λ u. u .1 .1 .1 .0) (λ x. x) OfOutput.none (λ x. Unit) (λ x. x) (λ x. x) (λ i o. Elements.at-mul o 200 i) Path'.refl Path'.refl (Own.told-none 𝓤 H A (G11 .slots)) (DerefMove.learns-nothing 𝓤 H A (OfOutput.row)) (Reads.as-is 𝓤 H A (Rows'.sslice (OfOutput.row) (Syntax.tyRef (Syntax.named 0) Syntax.imm OfOutput.named) 0)) (Reads.as-is 𝓤 H A (Rows'.sc-here Row.sPtr)) (Reads.room-gone 𝓤 H A OfOutput.spelt) (Yields.makes-mem 𝓤 H A W (λ ρ. Unit) (OfOutput.row) Path'.refl (OfOutput.held) (λ x. x) λ ρ told. OfOutput.of-mem 𝓤 H A W ρ) Path'.refl tt Path'.refl Path'.refl) d23
+          d24 = Typed.s-seq 𝓤 H A W 𝓣 E G11 G12 b8 b21 Δ3 (Typed.both s8) at23 (Move.t-shs-copy-out 𝓤 H A W E (OfOutput.row) 𝓣 Path'.refl (OfOutput.copies .copy 𝓤 H A W) (Copies.halved 𝓤 H A W (OfOutput.copies)) (λ ρ. Unit) G11 1 7 8 0 (Syntax.tyRef (Syntax.named 0) Syntax.imm OfOutput.named) (Row.lease (κs .0) (qs .0)) OfOutput.spelt OfOutput.spelt (OfOutput.held) (Shared.bySize 208) (λ u. u .1 .1 .1 .0) (λ x. x) OfOutput.none (λ x. Unit) (λ x. x) (λ x. x) (λ i o. Elements.at-mul o 208 i) Path'.refl Path'.refl (Own.told-none 𝓤 H A (G11 .slots)) (DerefMove.learns-nothing 𝓤 H A (OfOutput.row)) (Reads.as-is 𝓤 H A (Rows'.sslice (OfOutput.row) (Syntax.tyRef (Syntax.named 0) Syntax.imm OfOutput.named) 0)) (Reads.as-is 𝓤 H A (Rows'.sc-here Row.sPtr)) (Reads.room-gone 𝓤 H A OfOutput.spelt) (Yields.makes-mem 𝓤 H A W (λ ρ. Unit) (OfOutput.row) Path'.refl (OfOutput.held) (λ x. x) λ ρ told. OfOutput.of-mem 𝓤 H A W ρ) Path'.refl tt Path'.refl Path'.refl) d23
 
           d25 : Typed.Typed 𝓤 H A 𝓣 E G10 b23 Δ3 at25
           d25 = Typed.s-seq 𝓤 H A W 𝓣 E G10 G11 b7 b22 Δ3 (Typed.ask s7) at24 (Scalar.t-op2 𝓤 H A W E 𝓣 G10 Syntax.offset (Scalar.oFld 1 (List._∷_ (Syntax.field 0) List.[]) (Syntax.tyRef (Syntax.named 0) Syntax.imm OfOutput.named) 0 Reads.ptrVal) (Scalar.oAt 5 (Syntax.tyInt Syntax.w64) (Row.valS (Row.sInt Syntax.w64))) 7 (Rows'.sc-here Row.sPtr) Syntax.tyPtr (Row.valS Row.sPtr) (Row.sPtr .of) (Shared.reads-sslice-ptr 𝓤 H A W (OfOutput.row) (Syntax.tyRef (Syntax.named 0) Syntax.imm OfOutput.named) 0 0 Path'.refl, Path'.refl) (Scalar.reads-sc 𝓤 H A W (Row.sInt Syntax.w64), Path'.refl) (Reads.room-gone 𝓤 H A Syntax.tyPtr) (Scalar.holds-sc 𝓤 H A W Row.sPtr) Path'.refl (λ u. Path'.refl) λ u. tt) d24
 
           d26 : Typed.Typed 𝓤 H A 𝓣 E G6 b24 Δ3 at26
-          d26 = Typed.s-seq 𝓤 H A W 𝓣 E G6 G10 b6 b23 Δ3 (Typed.ask s6) at25 (Scalar.t-op2 𝓤 H A W E 𝓣 G6 (Syntax.mul Syntax.unsigned) (Scalar.oAt 3 (Syntax.tyInt Syntax.w64) (Row.valS (Row.sInt Syntax.w64))) (Scalar.oInt Syntax.w64 200) 5 (Rows'.sc-here (Row.sInt Syntax.w64)) (Syntax.tyInt Syntax.w64) (Row.valS (Row.sInt Syntax.w64)) (Row.sInt Syntax.w64 .of) (Scalar.reads-sc 𝓤 H A W (Row.sInt Syntax.w64), Path'.refl) tt (Reads.room-gone 𝓤 H A (Syntax.tyInt Syntax.w64)) (Scalar.holds-sc 𝓤 H A W (Row.sInt Syntax.w64)) Path'.refl (λ u. Path'.refl) λ u. tt) d25
+          d26 = Typed.s-seq 𝓤 H A W 𝓣 E G6 G10 b6 b23 Δ3 (Typed.ask s6) at25 (Scalar.t-op2 𝓤 H A W E 𝓣 G6 (Syntax.mul Syntax.unsigned) (Scalar.oAt 3 (Syntax.tyInt Syntax.w64) (Row.valS (Row.sInt Syntax.w64))) (Scalar.oInt Syntax.w64 208) 5 (Rows'.sc-here (Row.sInt Syntax.w64)) (Syntax.tyInt Syntax.w64) (Row.valS (Row.sInt Syntax.w64)) (Row.sInt Syntax.w64 .of) (Scalar.reads-sc 𝓤 H A W (Row.sInt Syntax.w64), Path'.refl) tt (Reads.room-gone 𝓤 H A (Syntax.tyInt Syntax.w64)) (Scalar.holds-sc 𝓤 H A W (Row.sInt Syntax.w64)) Path'.refl (λ u. Path'.refl) λ u. tt) d25
 
           d27 : Typed.Typed 𝓤 H A 𝓣 E G5 b25 Δ3 at27
           d27 = Typed.t-seq 𝓤 H A W 𝓣 E G5 G6 b5 b24 Δ3 at5 at26 d5 d26

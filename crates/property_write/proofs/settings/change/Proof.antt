@@ -7,6 +7,9 @@ use Rattle.property_write.proofs.settings.change.Tie as tie
 settings-with-requires : tie.Need-settings-with-requires
 settings-with-requires c κs = search needs
 
+relay-with-requires : tie.Need-relay-with-requires
+relay-with-requires c κs = search needs
+
 activity-with-requires : tie.Need-activity-with-requires
 activity-with-requires c κs = search needs
 
@@ -18,7 +21,7 @@ with-settings-requires c κs = search needs
 
 returns : tie.Need-returns
 unfolding changed
-returns c = simp (c .with-settings .ensures, c .before .burning-with .ensures, c .before .before .activity-with .ensures, c .before .before .before .settings-with .ensures)
+returns c = simp (c .with-settings .ensures, c .before .burning-with .ensures, c .before .before .activity-with .ensures, c .before .before .before .relay-with .ensures, c .before .before .before .before .settings-with .ensures)
 
 pub change-spec : {M : Type 1} → statement M
-change-spec = tie.close (tie.spec settings-with-requires activity-with-requires burning-with-requires with-settings-requires returns)
+change-spec = tie.close (tie.spec settings-with-requires relay-with-requires activity-with-requires burning-with-requires with-settings-requires returns)

@@ -493,7 +493,7 @@ module _ (claims· : Claims) where
   s12 = Scalar.k-op2 T13 (Syntax.sub Syntax.unsigned) (Scalar.oAt 7 (Syntax.tyInt Syntax.w64) (Row.valS (Row.sInt Syntax.w64))) (Scalar.oInt Syntax.w64 0) 11 (Rows.sc-here (Row.sInt Syntax.w64)) (Row.sInt Syntax.w64 .of)
 
   abbrev s14 : Typed.Both T14 T16
-  s14 = PartMut.k-sl-relendᵐ (OfOutput.row) T14 1 13 14 0 4 (Syntax.tyRef (Syntax.named 0) Syntax.mut OfOutput.named) (Syntax.tyRef Syntax.erased Syntax.mut OfOutput.named) Row.off (Shared.bySize 200) (λ x. x) (λ x. x) (λ u. 0) λ u. u .1 .1 .1 .1 .1 .1 .1 .0
+  s14 = PartMut.k-sl-relendᵐ (OfOutput.row) T14 1 13 14 0 4 (Syntax.tyRef (Syntax.named 0) Syntax.mut OfOutput.named) (Syntax.tyRef Syntax.erased Syntax.mut OfOutput.named) Row.off (Shared.bySize 208) (λ x. x) (λ x. x) (λ u. 0) λ u. u .1 .1 .1 .1 .1 .1 .1 .0
 
   abbrev s15 : Typed.Mo T16 → Typed.Mo T17
   s15 = Scalar.n-room T16 13 Syntax.tyPtr
@@ -1001,7 +1001,7 @@ module _ (claims· : Claims) where
           d30 = Typed.g-pre 𝓤 H A W 𝓣 E G16 G17 b28 Δ0 (Typed.pass T16 T17 s15) at29 (Scalar.g-room 𝓤 H A W E G16 13 Syntax.tyPtr (Scalar.room-sc 𝓤 H A W Row.sPtr)) d29
 
           d31 : Typed.Typed 𝓤 H A 𝓣 E G15 b29 Δ0 at31
-          d31 = Typed.s-seq 𝓤 H A W 𝓣 E G15 G16 b9 b28 Δ0 (Typed.both s14) at30 (PartMut.t-sl-relendᵐ 𝓤 H A W E (OfOutput.row) 𝓣 G15 1 13 14 0 4 OfOutput.spelt (Syntax.tyRef (Syntax.named 0) Syntax.mut OfOutput.named) (Syntax.tyRef Syntax.erased Syntax.mut OfOutput.named) (Row.lease (κs .0) (qs .0)) (Shared.bySize 200) (λ x. x) (λ x. x) (λ u. 0) (λ u. u .1 .1 .1 .1 .1 .1 .1 .0) (λ i o. Elements.at-mul o 200 i) (Reads.as-is 𝓤 H A (Mut.mslice (OfOutput.row) (Syntax.tyRef (Syntax.named 0) Syntax.mut OfOutput.named) 0)) (Reads.as-is 𝓤 H A (Rows.sc-here Row.sPtr)) (Reads.room-gone 𝓤 H A (Syntax.tyRef Syntax.erased Syntax.mut OfOutput.named)) Path'.refl tt Path'.refl Path'.refl λ b o. tt) d30
+          d31 = Typed.s-seq 𝓤 H A W 𝓣 E G15 G16 b9 b28 Δ0 (Typed.both s14) at30 (PartMut.t-sl-relendᵐ 𝓤 H A W E (OfOutput.row) 𝓣 G15 1 13 14 0 4 OfOutput.spelt (Syntax.tyRef (Syntax.named 0) Syntax.mut OfOutput.named) (Syntax.tyRef Syntax.erased Syntax.mut OfOutput.named) (Row.lease (κs .0) (qs .0)) (Shared.bySize 208) (λ x. x) (λ x. x) (λ u. 0) (λ u. u .1 .1 .1 .1 .1 .1 .1 .0) (λ i o. Elements.at-mul o 208 i) (Reads.as-is 𝓤 H A (Mut.mslice (OfOutput.row) (Syntax.tyRef (Syntax.named 0) Syntax.mut OfOutput.named) 0)) (Reads.as-is 𝓤 H A (Rows.sc-here Row.sPtr)) (Reads.room-gone 𝓤 H A (Syntax.tyRef Syntax.erased Syntax.mut OfOutput.named)) Path'.refl tt Path'.refl Path'.refl λ b o. tt) d30
 
           d32 : Typed.Typed 𝓤 H A 𝓣 E G14 b29 Δ0 at32
           d32 = Typed.g-pre 𝓤 H A W 𝓣 E G14 G15 b29 Δ0 (λ Ψ. Ψ) at31 (Lifetime.g-begin 𝓤 H A W E G14 4 (tt, (tt, (tt, (tt, (tt, (tt, (tt, (tt, (tt, (tt, (tt, (tt, (tt, (tt, (tt, (tt, (tt, (tt, (tt, (tt, (tt, (tt, tt))))))))))))))))))))))) d31

@@ -325,7 +325,7 @@ module _ (claims· : Claims) where
   s6 = Scalar.k-op2 T7 (Syntax.sub Syntax.unsigned) (Scalar.oAt 5 (Syntax.tyInt Syntax.w64) (Row.valS (Row.sInt Syntax.w64))) (Scalar.oInt Syntax.w64 0) 6 (Rows.sc-here (Row.sInt Syntax.w64)) (Row.sInt Syntax.w64 .of)
 
   abbrev s8 : Typed.Both T8 T10
-  s8 = PartMut.k-sl-relendᵐ (OfOutput.row) T8 1 9 10 0 3 (Syntax.tyRef (Syntax.named 0) Syntax.mut OfOutput.named) (Syntax.tyRef Syntax.erased Syntax.mut OfOutput.named) Row.off (Shared.bySize 200) (λ x. x) (λ x. x) (λ u. 0) λ u. u .1 .1 .1 .1 .1 .0
+  s8 = PartMut.k-sl-relendᵐ (OfOutput.row) T8 1 9 10 0 3 (Syntax.tyRef (Syntax.named 0) Syntax.mut OfOutput.named) (Syntax.tyRef Syntax.erased Syntax.mut OfOutput.named) Row.off (Shared.bySize 208) (λ x. x) (λ x. x) (λ u. 0) λ u. u .1 .1 .1 .1 .1 .0
 
   abbrev s9 : Typed.Mo T10 → Typed.Mo T11
   s9 = Scalar.n-room T10 9 Syntax.tyPtr
@@ -692,7 +692,7 @@ module _ (claims· : Claims) where
           d22 = Typed.g-pre 𝓤 H A W 𝓣 E G10 G11 b18 Δ0 (Typed.pass T10 T11 s9) at21 (Scalar.g-room 𝓤 H A W E G10 9 Syntax.tyPtr (Scalar.room-sc 𝓤 H A W Row.sPtr)) d21
 
           d23 : Typed.Typed 𝓤 H A 𝓣 E G9 b19 Δ0 at23
-          d23 = Typed.s-seq 𝓤 H A W 𝓣 E G9 G10 b5 b18 Δ0 (Typed.both s8) at22 (PartMut.t-sl-relendᵐ 𝓤 H A W E (OfOutput.row) 𝓣 G9 1 9 10 0 3 OfOutput.spelt (Syntax.tyRef (Syntax.named 0) Syntax.mut OfOutput.named) (Syntax.tyRef Syntax.erased Syntax.mut OfOutput.named) (Row.lease (κs .0) (qs .0)) (Shared.bySize 200) (λ x. x) (λ x. x) (λ u. 0) (λ u. u .1 .1 .1 .1 .1 .0) (λ i o. Elements.at-mul o 200 i) (Reads.as-is 𝓤 H A (Mut.mslice (OfOutput.row) (Syntax.tyRef (Syntax.named 0) Syntax.mut OfOutput.named) 0)) (Reads.as-is 𝓤 H A (Rows.sc-here Row.sPtr)) (Reads.room-gone 𝓤 H A (Syntax.tyRef Syntax.erased Syntax.mut OfOutput.named)) Path'.refl tt Path'.refl Path'.refl λ b o. tt) d22
+          d23 = Typed.s-seq 𝓤 H A W 𝓣 E G9 G10 b5 b18 Δ0 (Typed.both s8) at22 (PartMut.t-sl-relendᵐ 𝓤 H A W E (OfOutput.row) 𝓣 G9 1 9 10 0 3 OfOutput.spelt (Syntax.tyRef (Syntax.named 0) Syntax.mut OfOutput.named) (Syntax.tyRef Syntax.erased Syntax.mut OfOutput.named) (Row.lease (κs .0) (qs .0)) (Shared.bySize 208) (λ x. x) (λ x. x) (λ u. 0) (λ u. u .1 .1 .1 .1 .1 .0) (λ i o. Elements.at-mul o 208 i) (Reads.as-is 𝓤 H A (Mut.mslice (OfOutput.row) (Syntax.tyRef (Syntax.named 0) Syntax.mut OfOutput.named) 0)) (Reads.as-is 𝓤 H A (Rows.sc-here Row.sPtr)) (Reads.room-gone 𝓤 H A (Syntax.tyRef Syntax.erased Syntax.mut OfOutput.named)) Path'.refl tt Path'.refl Path'.refl λ b o. tt) d22
 
           d24 : Typed.Typed 𝓤 H A 𝓣 E G8 b19 Δ0 at24
           d24 = Typed.g-pre 𝓤 H A W 𝓣 E G8 G9 b19 Δ0 (λ Ψ. Ψ) at23 (Lifetime.g-begin 𝓤 H A W E G8 3 (tt, (tt, (tt, (tt, (tt, (tt, (tt, (tt, (tt, (tt, (tt, (tt, (tt, (tt, (tt, tt)))))))))))))))) d23

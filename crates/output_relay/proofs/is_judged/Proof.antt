@@ -1,0 +1,13 @@
+use Rattle.lighting.proofs.Choosing.{ifs}
+use borrow.Author.Needs.{needs}
+use Rattle.output_relay.proofs.is_judged.Statement.{statement}
+use Rattle.output_relay.proofs.is_judged.Tie as tie
+
+returns : tie.Need-returns
+returns c = search (needs, ifs)
+
+returns-2 : tie.Need-returns-2
+returns-2 c = search (needs, ifs)
+
+pub is-judged-spec : {M : Type 1} → statement M
+is-judged-spec = tie.close (tie.spec returns returns-2)
