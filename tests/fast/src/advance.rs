@@ -12,6 +12,7 @@ impl Output {
             self.pass_duration(now);
             self.pass_warning(now);
             self.pass_movement(now);
+            self.judge();
         }
         self.burn(now, to);
     }

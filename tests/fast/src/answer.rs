@@ -1,4 +1,4 @@
-//! Answers and the refusals of the paper's table, with those of §1.
+//! Answers and the refusals of the paper's table, with those of §1 and §3.
 
 #[derive(Clone, Copy, Debug, PartialEq, Eq)]
 pub enum Answer {
@@ -26,6 +26,7 @@ pub enum Refusal {
     MinimumOverMaximum = 13,
     Tagging = 14,
     TaggedField = 15,
+    RelayValues = 16,
 }
 
 impl Refusal {

@@ -12,6 +12,7 @@ mod light;
 pub mod output;
 pub mod panel;
 pub mod property;
+mod relay;
 pub mod rules;
 pub mod station;
 pub mod tag_writer;

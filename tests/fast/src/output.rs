@@ -1,6 +1,6 @@
 //! An output's record.
 
-use crate::level::{HIGHEST, LOWEST_LIT};
+use crate::level::{HIGHEST, LOWEST_LIT, UNITS_PER_PERCENT};
 
 pub const WARNING_PRIORITY: u8 = 6;
 pub const LONGEST_TIME: u32 = 86_400_000;
@@ -18,6 +18,12 @@ pub struct Settings {
     pub minimum: u32,
     pub maximum: u32,
     pub command_priority: u8,
+    /// The relay turns on from this level upward, and off from
+    /// `inactive_value` downward.
+    pub active_value: u32,
+    pub inactive_value: u32,
+    /// The relay is on while it would be off otherwise.
+    pub reverse: bool,
 }
 
 impl Settings {
@@ -32,6 +38,9 @@ impl Settings {
         minimum: LOWEST_LIT,
         maximum: HIGHEST,
         command_priority: 16,
+        active_value: 50 * UNITS_PER_PERCENT,
+        inactive_value: 45 * UNITS_PER_PERCENT,
+        reverse: false,
     };
 
     pub fn clamp(&self, level: u32) -> u32 {
@@ -172,6 +181,8 @@ pub struct Output {
     pub duration: Option<RunningDuration>,
     pub last: Command,
     pub burning: u64,
+    /// What the relay was told last.
+    pub active: bool,
 }
 
 impl Output {
@@ -187,6 +198,7 @@ impl Output {
             duration: None,
         },
         burning: 0,
+        active: false,
     };
 
     pub fn is_live(&self, priority: u8) -> bool {

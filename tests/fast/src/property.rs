@@ -40,6 +40,21 @@ impl Output {
                 settings.command_priority = value as u8;
             }
             0x0B => self.burning = u64::from(whole_in(0, 0, value)?),
+            0x17 => {
+                let active_value = level_from_real(real)?;
+                if settings.inactive_value >= active_value {
+                    return Err(Refusal::RelayValues);
+                }
+                settings.active_value = active_value;
+            }
+            0x18 => {
+                let inactive_value = level_from_real(real)?;
+                if inactive_value >= settings.active_value {
+                    return Err(Refusal::RelayValues);
+                }
+                settings.inactive_value = inactive_value;
+            }
+            0x19 => settings.reverse = whole_in(0, 1, value)? == 1,
             _ => return Err(Refusal::Property),
         }
         Ok(Answer::Done)
@@ -68,6 +83,11 @@ impl Output {
             0x12 => self.last.operation.step().map(f32::to_bits),
             0x13 => self.last.operation.fade_time(),
             0x14 => self.last.duration,
+            0x17 => Some(level_bits(settings.active_value)),
+            0x18 => Some(level_bits(settings.inactive_value)),
+            0x19 => Some(u32::from(settings.reverse)),
+            0x1A => Some(u32::from(self.active)),
+            0x1B => Some(u32::from(self.relay_is_on())),
             0x21..=0x30 => self.slot(property - 0x20).map(level_bits),
             _ => return Err(Refusal::Property),
         };

@@ -37,6 +37,7 @@ fn output_rules_hold(output: &Output, time: u64) -> bool {
             .duration
             .is_none_or(|duration| duration_holds(&duration, time))
         && output.burning <= time
+        && output.active == output.judged()
 }
 
 /// Slot 6 is live exactly during a warning.
@@ -56,6 +57,9 @@ fn settings_hold(settings: &Settings) -> bool {
         && bounds.contains(&settings.maximum)
         && settings.minimum <= settings.maximum
         && is_priority(u32::from(settings.command_priority))
+        && is_slot_level(settings.active_value)
+        && is_slot_level(settings.inactive_value)
+        && settings.inactive_value < settings.active_value
 }
 
 /// The rule speaks of live slots; what stands in the others does not matter.

@@ -6,6 +6,7 @@ use fast::{frame, start, Answer, Output, Station, STATIONS};
 
 const TIME: u64 = 10_000;
 const FIFTY_PERCENT: u32 = 3_276_800;
+const FORTY_FIVE_PERCENT: u32 = 2_949_120;
 const CLOCK: [u8; 7] = [0x01, 0, 0, 0, 0, 0x4E, 0x20];
 const REFUSED: Answer = Answer::Refused(Refusal::Records);
 
@@ -34,6 +35,7 @@ fn taken(change: impl Fn(&mut Output)) {
 
 fn move_slot_eight(output: &mut Output, change: impl Fn(&mut Movement)) {
     output.store(8, FIFTY_PERCENT);
+    output.active = true;
     let mut movement = Movement {
         owner: 8,
         from: 0,
@@ -106,6 +108,36 @@ fn slots_and_burning_time() {
     refused(|output| output.store(6, 0));
     taken(|output| output.burning = TIME);
     refused(|output| output.burning = TIME + 1);
+}
+
+#[test]
+fn relays() {
+    let set = |output: &mut Output, active, inactive| {
+        (output.settings.active_value, output.settings.inactive_value) = (active, inactive);
+    };
+    taken(|output| set(output, 65_536, 0));
+    taken(|output| set(output, 6_553_600, 6_553_599));
+    taken(|output| output.settings.reverse = true);
+    refused(|output| set(output, 0, 0));
+    refused(|output| set(output, 65_535, 0));
+    refused(|output| set(output, 6_553_601, 0));
+    refused(|output| set(output, 131_072, 65_535));
+    refused(|output| set(output, 131_072, 131_072));
+    refused(|output| set(output, 131_072, 131_073));
+    // As judging leaves it: between the two values either way.
+    let shows = |output: &mut Output, level, active| {
+        output.store(3, level);
+        output.active = active;
+    };
+    for level in [FORTY_FIVE_PERCENT + 1, FIFTY_PERCENT - 1] {
+        taken(|output| shows(output, level, false));
+        taken(|output| shows(output, level, true));
+    }
+    taken(|output| shows(output, FORTY_FIVE_PERCENT, false));
+    refused(|output| shows(output, FORTY_FIVE_PERCENT, true));
+    refused(|output| shows(output, FIFTY_PERCENT, false));
+    taken(|output| shows(output, FIFTY_PERCENT, true));
+    refused(|output| output.active = true);
 }
 
 #[test]

@@ -21,6 +21,8 @@ pub enum RealField {
     StepIncrement,
     Minimum,
     Maximum,
+    BinaryActiveValue,
+    BinaryInactiveValue,
 }
 
 #[derive(Clone, Copy, Debug, PartialEq, Eq, PartialOrd, Ord)]
@@ -58,6 +60,7 @@ pub enum WholeField {
     BlinkTime,
     BlinkWarnDelay,
     ElapsedActiveTime,
+    Polarity,
 }
 
 #[derive(Clone, Copy, Debug, PartialEq, Eq, PartialOrd, Ord)]
@@ -70,7 +73,7 @@ pub enum Boundary {
     Tagged(TagEdge),
 }
 
-const REAL_FIELDS: [RealField; 12] = [
+const REAL_FIELDS: [RealField; 14] = [
     RealField::WrittenLevel,
     RealField::CommandLevel,
     RealField::CommandRate,
@@ -83,6 +86,8 @@ const REAL_FIELDS: [RealField; 12] = [
     RealField::StepIncrement,
     RealField::Minimum,
     RealField::Maximum,
+    RealField::BinaryActiveValue,
+    RealField::BinaryInactiveValue,
 ];
 
 const REAL_EDGES: [RealEdge; 20] = [
@@ -108,7 +113,7 @@ const REAL_EDGES: [RealEdge; 20] = [
     RealEdge::Negative,
 ];
 
-const WHOLE_FIELDS: [WholeField; 9] = [
+const WHOLE_FIELDS: [WholeField; 10] = [
     WholeField::Duration,
     WholeField::CommandFadeTime,
     WholeField::TaggedDuration,
@@ -118,6 +123,7 @@ const WHOLE_FIELDS: [WholeField; 9] = [
     WholeField::BlinkTime,
     WholeField::BlinkWarnDelay,
     WholeField::ElapsedActiveTime,
+    WholeField::Polarity,
 ];
 
 /// Values of property 0A that only a look at all 32 bits tells apart.
@@ -215,6 +221,9 @@ pub fn count_edges(tally: &mut Tally<Boundary>, bytes: &[u8]) {
                     tally.count(Boundary::CommandPriority(value));
                 }
                 ELAPSED_ACTIVE_TIME => whole(tally, WholeField::ElapsedActiveTime, value),
+                BINARY_ACTIVE_VALUE => real(tally, RealField::BinaryActiveValue, value),
+                BINARY_INACTIVE_VALUE => real(tally, RealField::BinaryInactiveValue, value),
+                POLARITY => whole(tally, WholeField::Polarity, value),
                 _ => {}
             }
         }

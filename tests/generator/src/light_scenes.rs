@@ -12,10 +12,10 @@ use crate::sentences::{HUNDRED_PERCENT, ONE_PERCENT};
 use crate::timing::When;
 use crate::values;
 
-const STRONGEST: u8 = 1;
-const WEAKEST: u8 = 16;
+pub(crate) const STRONGEST: u8 = 1;
+pub(crate) const WEAKEST: u8 = 16;
 /// Priorities with others above and below them.
-const MIDDLE_PRIORITIES: [u8; 13] = [2, 3, 4, 5, 7, 8, 9, 10, 11, 12, 13, 14, 15];
+pub(crate) const MIDDLE_PRIORITIES: [u8; 13] = [2, 3, 4, 5, 7, 8, 9, 10, 11, 12, 13, 14, 15];
 
 /// A movement to come.
 struct Moving {

@@ -12,6 +12,9 @@ use crate::list::Generator;
 use crate::timing::When;
 use crate::values::{self, BAD_PRIORITIES, PRIORITIES};
 
+/// Numbers beside known ones, and the ends.
+const UNKNOWN_PROPERTIES: [u8; 7] = [0x00, 0x15, 0x16, 0x1C, 0x20, 0x31, 0xFF];
+
 impl Generator {
     pub(crate) fn output(&self, output: u8) -> &Output {
         &self.panel.outputs()[usize::from(output)]
@@ -45,6 +48,8 @@ impl Generator {
             PROGRESS_VALUE,
             IN_PROCESS,
             ELAPSED_ACTIVE_TIME,
+            BINARY_PRESENT_VALUE,
+            RELAY_STATE,
             FIRST_SLOT + 5,
             FIRST_SLOT + slot - 1,
         ]);
@@ -59,14 +64,15 @@ impl Generator {
             return;
         }
         match self.random.below(1_000) {
-            0..=249 => self.plan_warning(output),
-            250..=429 => self.plan_movement(output),
-            430..=539 => self.plan_command_of_rank(output, When::Whenever),
-            540..=619 => self.plan_slot_of_rank(output, When::Whenever),
-            620..=621 => self.plan_calm_and_great_jump(),
-            622..=771 => self.plan_sentence(output),
-            772..=819 => self.plan_tags(output),
-            820..=899 => self.plan_light(output),
+            0..=229 => self.plan_warning(output),
+            230..=394 => self.plan_movement(output),
+            395..=499 => self.plan_command_of_rank(output, When::Whenever),
+            500..=574 => self.plan_slot_of_rank(output, When::Whenever),
+            575..=576 => self.plan_calm_and_great_jump(),
+            577..=721 => self.plan_sentence(output),
+            722..=769 => self.plan_tags(output),
+            770..=844 => self.plan_light(output),
+            845..=914 => self.plan_relay(output),
             _ => self.plan_anything(output, When::Whenever),
         }
     }
@@ -234,10 +240,14 @@ impl Generator {
 
     pub(crate) fn any_read(&mut self) -> Body {
         let property = match self.random.below(20) {
-            0 => self.random.pick(&[0x00, 0x15, 0x20, 0x31, 0xFF]),
+            0 => self.random.pick(&UNKNOWN_PROPERTIES),
             1 => self.random.bits() as u8,
             2..=6 => self.random.between(0x21, 0x30) as u8,
             7..=10 => self.random.pick(&[0x0B, 0x0C, 0x0D, 0x0E]),
+            11..=12 => {
+                self.random
+                    .between(BINARY_ACTIVE_VALUE.into(), RELAY_STATE.into()) as u8
+            }
             _ => self.random.between(0x01, 0x14) as u8,
         };
         Body::Read { property }
@@ -246,25 +256,28 @@ impl Generator {
     pub(crate) fn any_property_write(&mut self, output: u8) -> Body {
         let property = match self.random.below(20) {
             // Unknown ones, and the one that kind 02 writes.
-            0 => self
-                .random
-                .pick(&[0x00, 0x15, 0x20, 0x31, 0xFF, PRESENT_VALUE]),
-            1 => self.random.between(0x0C, 0x30) as u8,
-            2 => self.random.bits() as u8,
+            0 if self.random.chance(20) => PRESENT_VALUE,
+            0 => self.random.pick(&UNKNOWN_PROPERTIES),
+            1 if self.random.chance(30) => self.random.bits() as u8,
+            1 | 2 => self.random.between(0x0C, 0x30) as u8,
             3..=6 => self.random.pick(&[MINIMUM, MAXIMUM]),
+            7..=9 => self
+                .random
+                .pick(&[BINARY_ACTIVE_VALUE, BINARY_INACTIVE_VALUE, POLARITY]),
             _ => self.random.between(0x01, 0x0B) as u8,
         };
         let value = match property {
             RELINQUISH_DEFAULT => values::level(&mut self.random),
             FADE_TIME => values::fade_time(&mut self.random),
             RAMP_RATE | STEP_INCREMENT => values::rate_or_step(&mut self.random),
-            BLINK_ENABLE => match self.random.below(10) {
+            BLINK_ENABLE | POLARITY => match self.random.below(10) {
                 0..=7 => self.random.below(2) as u32,
                 8 => self.random.pick(&values::EDGE_TIMES),
                 _ => self.random.bits() as u32,
             },
             BLINK_TIME | BLINK_WARN_DELAY => values::blink_time(&mut self.random),
             MINIMUM | MAXIMUM => self.any_bound(output),
+            BINARY_ACTIVE_VALUE | BINARY_INACTIVE_VALUE => self.any_relay_value(output),
             LIGHTING_COMMAND_PRIORITY => match self.random.below(10) {
                 0 => self.random.pick(&[0, 6]),
                 1 => self.random.pick(&WIDE_PRIORITIES),

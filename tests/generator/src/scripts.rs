@@ -68,6 +68,10 @@ impl Generator {
     /// All that lets a slot warn, but for its being lit.
     pub(crate) fn plan_warning_settings(&mut self, output: u8, own: u8, dark: u32, lit: u32) {
         self.plan_no_other_slots(output, own);
+        self.plan_blink_settings(output, dark, lit);
+    }
+
+    pub(crate) fn plan_blink_settings(&mut self, output: u8, dark: u32, lit: u32) {
         self.plan_setting(output, BLINK_TIME, dark);
         self.plan_setting(output, BLINK_WARN_DELAY, lit);
         self.plan_setting(output, BLINK_ENABLE, 1);

@@ -118,14 +118,18 @@ impl Generator {
         self.plan_read(output, PRESENT_VALUE, When::Now);
     }
 
-    /// Steps up and down are brought into Min..Max.
+    /// Steps up and down are brought into Min..Max, from the dark too, and so is
+    /// the level of a command.
     fn plan_step_out_of_range(&mut self, output: u8) {
         self.plan_property(output, MAXIMUM, 80.0_f32.to_bits());
         self.plan_property(output, MINIMUM, 20.0_f32.to_bits());
         self.plan_winning_priority(output, When::Now);
-        let (level, kind) = self
-            .random
-            .pick(&[(75.0_f32, STEP_UP_BY), (25.0_f32, STEP_DOWN_BY)]);
+        let (level, kind) = self.random.pick(&[
+            (75.0_f32, STEP_UP_BY),
+            (25.0, STEP_DOWN_BY),
+            (0.0, STEP_UP_BY),
+            (50.0, GOTO),
+        ]);
         self.plan_command(output, GOTO, &[level.to_bits(), ABSENT]);
         self.plan_command(output, kind, &[10.0_f32.to_bits(), ABSENT]);
         // What the slot holds shows once more is shown.
@@ -287,8 +291,9 @@ impl Generator {
             (MINIMUM, &bounds),
             (MAXIMUM, &bounds),
             (RELINQUISH_DEFAULT, &bounds),
-            (BLINK_ENABLE, &[2, 3]),
-            (LIGHTING_COMMAND_PRIORITY, &[0, 1, 5, 6, 7, 16, 17]),
+            (BLINK_ENABLE, &values::EDGE_TIMES),
+            (POLARITY, &values::EDGE_TIMES),
+            (LIGHTING_COMMAND_PRIORITY, &[0, 1, 5, 6, 7, 16, 17, 257]),
             (ELAPSED_ACTIVE_TIME, &[0, 1]),
         ]);
         let settings = &self.output(output).settings;

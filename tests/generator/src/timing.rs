@@ -23,6 +23,8 @@ pub enum When {
     WholeSecond {
         before: bool,
     },
+    /// One millisecond before the panel's time: too late.
+    Late,
     Whenever,
 }
 
@@ -121,6 +123,7 @@ impl Generator {
     /// The time of the next frame.
     pub fn next_time(&mut self, output: u8, when: When) -> u64 {
         let jump = match when {
+            When::Late => return self.panel.time().saturating_sub(1),
             When::Now => 0,
             When::Due => self.due_jump(output),
             When::After(jump) => jump,

@@ -53,6 +53,7 @@ macro_rules! face_of_fast {
                     last: std::array::from_fn(|index| read(0x0F + index as u8)),
                     burning: output.burning,
                     tagged: output.last.tagged().bytes().to_vec(),
+                    relay: std::array::from_fn(|index| read(0x17 + index as u8).unwrap_or(0)),
                 }
             }
 
@@ -66,6 +67,7 @@ macro_rules! face_of_fast {
                 let mut panel = <$name as $crate::Panel>::start(1);
                 panel.time = lent.gone.into();
                 panel.outputs[0].store($crate::lent::OWNER, lent.to);
+                panel.outputs[0].judge();
                 panel.outputs[0].movement = Some(Movement {
                     owner: $crate::lent::OWNER,
                     from: lent.from,
@@ -85,6 +87,33 @@ macro_rules! face_of_fast {
                     panel.outputs[0].burning
                 };
                 steps.iter().map(go).collect()
+            }
+        }
+
+        impl $name {
+            /// Binary_Present_Value when a lent warning has turned.
+            pub fn active_of_lent(lent: &$crate::lent_warning::LentWarning) -> bool {
+                use $crate::lent_warning::{BLINK_SLOT, DUE, OWN_SLOT, STRONGER_SLOT};
+                use $source::output::{RunningDuration, Warning};
+                let mut panel = <$name as $crate::Panel>::start(1);
+                let output = &mut panel.outputs[0];
+                output.store(STRONGER_SLOT, lent.stronger);
+                output.store(BLINK_SLOT, 0);
+                output.store(OWN_SLOT, 0);
+                output.active = lent.active;
+                output.duration = Some(RunningDuration {
+                    slot: STRONGER_SLOT,
+                    end: DUE,
+                });
+                output.warning = Some(Warning {
+                    slot: OWN_SLOT,
+                    level: lent.level,
+                    turn: DUE,
+                    end: 2 * DUE,
+                });
+                let answer = $crate::Panel::frame(&mut panel, &$crate::lent_warning::CLOCK);
+                assert_eq!(answer, $crate::Answer::Done, "{lent:?}");
+                panel.outputs[0].active
             }
         }
 

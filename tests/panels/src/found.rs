@@ -19,6 +19,9 @@ pub struct Found {
     pub burning: u64,
     /// The last command as the writer of §1 makes it: the L bytes.
     pub tagged: Vec<u8>,
+    /// Properties 17 to 1B as they read (§3): the relay's settings,
+    /// Binary_Present_Value and the relay's state.
+    pub relay: [u32; 5],
 }
 
 /// The lines of one output, without the line that says which.
@@ -52,6 +55,11 @@ impl fmt::Display for Found {
         write!(formatter, "tagged ")?;
         for byte in &self.tagged {
             write!(formatter, "{byte:02X}")?;
+        }
+        writeln!(formatter)?;
+        write!(formatter, "relay")?;
+        for value in self.relay {
+            write!(formatter, " {value:08X}")?;
         }
         writeln!(formatter)
     }

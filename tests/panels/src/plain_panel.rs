@@ -34,6 +34,7 @@ pub fn found_of_plain(output: &plain::Output) -> Found {
         last: std::array::from_fn(|index| read(output, 0x0F + index as u8)),
         burning: output.burning,
         tagged: output.last.tagged(),
+        relay: std::array::from_fn(|index| read(output, 0x17 + index as u8).unwrap_or(0)),
     }
 }
 

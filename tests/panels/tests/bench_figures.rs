@@ -172,6 +172,7 @@ fn fresh_output<Chosen: Panel>(bench: Bench<Chosen>) {
                 00000000 00000000 3F800000 42C80000 00000010\n\
                 last 00000000 - - - - -\n\
                 burning 0\n\
-                tagged 0900\n";
+                tagged 0900\n\
+                relay 42480000 42340000 00000000 00000000 00000000\n";
     assert_eq!(bench.found().to_string(), text);
 }

@@ -25,3 +25,6 @@ pub const MINIMUM_OVER_MAXIMUM: u8 = 13;
 pub const TAGGING: u8 = 14;
 /// §1: "Field missing, foreign, or not in fewest octets."
 pub const TAGGED_FIELD: u8 = 15;
+/// §3: "A write to 17 or 18 that would leave the inactive value not below the
+/// active one."
+pub const INACTIVE_NOT_BELOW_ACTIVE: u8 = 16;

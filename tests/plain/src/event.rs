@@ -8,6 +8,7 @@ use std::fmt;
 
 use crate::answer::Answer;
 use crate::light_event::LightEvent;
+use crate::relay_event::RelayEvent;
 use crate::tag_event::TaggedEvent;
 
 /// A byte that the paper writes in hexadecimal.
@@ -256,6 +257,8 @@ pub enum Event {
     Tagged(TaggedEvent),
     /// Where the light of a movement begins or ends.
     Light(LightEvent),
+    /// Relays (§3).
+    Relay(RelayEvent),
 
     // Commands.
     Command {

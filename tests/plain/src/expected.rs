@@ -6,6 +6,7 @@ use crate::frame::{
     TAGGED_COMMAND, WRITE_PRESENT_VALUE, WRITE_PROPERTY,
 };
 use crate::light_expected;
+use crate::relay_expected;
 use crate::settings::*;
 use crate::tag_event;
 
@@ -22,6 +23,7 @@ pub fn expected() -> Vec<Event> {
     warning_events(&mut events);
     events.extend(tag_event::expected().into_iter().map(Event::Tagged));
     events.extend(light_expected::expected().into_iter().map(Event::Light));
+    events.extend(relay_expected::expected().into_iter().map(Event::Relay));
     events
 }
 
@@ -51,7 +53,7 @@ fn list_events(events: &mut Vec<Event>) {
         for answer in [Answered::Done, Answered::Value, Answered::Absent] {
             events.push(Event::Copy { late, answer });
         }
-        for number in 9..=13 {
+        for number in (9..=13).chain([16]) {
             let answer = Answered::Refused(number);
             events.push(Event::Copy { late, answer });
         }
@@ -72,6 +74,7 @@ fn first_arrival_events(events: &mut Vec<Event>) {
                 Answered::Refused(11),
                 Answered::Refused(12),
                 Answered::Refused(13),
+                Answered::Refused(16),
             ],
             READ_PROPERTY => &[Answered::Value, Answered::Absent, Answered::Refused(9)],
             TAGGED_COMMAND => &[
@@ -106,12 +109,16 @@ fn property_events(events: &mut Vec<Event>) {
         }
     }
     for property in 0..=255_u8 {
-        let readable =
-            matches!(property, RELINQUISH_DEFAULT..=LAST_DURATION | FIRST_SLOT..=LAST_SLOT);
+        let readable = matches!(
+            property,
+            RELINQUISH_DEFAULT..=LAST_DURATION
+                | BINARY_ACTIVE_VALUE..=RELAY_STATE
+                | FIRST_SLOT..=LAST_SLOT
+        );
         let sometimes_absent =
             matches!(property, LAST_LEVEL..=LAST_DURATION | FIRST_SLOT..=LAST_SLOT);
         // Of the unknown numbers, those beside a known one and the ends.
-        let unknown_but_tried = matches!(property, 0x00 | 0x15 | 0x20 | 0x31 | 0xFF);
+        let unknown_but_tried = matches!(property, 0x00 | 0x15 | 0x16 | 0x1C | 0x20 | 0x31 | 0xFF);
         if readable {
             events.push(read(property, Answered::Value));
         }
@@ -125,11 +132,13 @@ fn property_events(events: &mut Vec<Event>) {
             RELINQUISH_DEFAULT | RAMP_RATE | STEP_INCREMENT => {
                 &[Answered::Done, Answered::Refused(11)]
             }
-            FADE_TIME | BLINK_ENABLE | BLINK_TIME | BLINK_WARN_DELAY | ELAPSED_ACTIVE_TIME => {
-                &[Answered::Done, Answered::Refused(12)]
-            }
+            FADE_TIME | BLINK_ENABLE | BLINK_TIME | BLINK_WARN_DELAY | ELAPSED_ACTIVE_TIME
+            | POLARITY => &[Answered::Done, Answered::Refused(12)],
             MINIMUM | MAXIMUM => &[Answered::Done, Answered::Refused(11), Answered::Refused(13)],
             LIGHTING_COMMAND_PRIORITY => &[Answered::Done, Answered::Refused(10)],
+            BINARY_ACTIVE_VALUE | BINARY_INACTIVE_VALUE => {
+                &[Answered::Done, Answered::Refused(11), Answered::Refused(16)]
+            }
             _ if readable || unknown_but_tried => &[Answered::Refused(9)],
             _ => &[],
         };

@@ -1,4 +1,4 @@
-//! The plain panel of document 01, with §1 and §2 of document 02: outputs and a
+//! The plain panel of document 01, with §1 to §3 of document 02: outputs and a
 //! time, no stations.
 //!
 //! It is written to be read beside the paper, not to be quick. It lives every
@@ -19,6 +19,9 @@ pub mod panel;
 pub mod passing;
 pub mod property;
 pub mod real;
+pub mod relay;
+pub mod relay_event;
+pub mod relay_expected;
 pub mod settings;
 pub mod slots;
 pub mod tag_event;

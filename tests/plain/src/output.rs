@@ -31,13 +31,18 @@ pub struct Output {
     pub last: LastCommand,
     /// Milliseconds with Progress_Value above zero (§2).
     pub burning: u64,
+    /// Whether Binary_Present_Value is active (§3).
+    pub active: bool,
+    /// How often the relay has turned on the way to the present millisecond,
+    /// for the count of events.
+    pub turns_on_the_way: u8,
     /// What was met since the panel last collected it. It decides nothing.
     pub met: Vec<Event>,
 }
 
 impl Output {
     /// "A fresh record has no live slot, last operation STOP without duration,
-    /// burning time 0."
+    /// burning time 0"; Binary_Present_Value "starts inactive" (§3).
     pub fn fresh() -> Output {
         Output {
             slots: [None; 16],
@@ -47,6 +52,8 @@ impl Output {
             duration: None,
             last: LastCommand::fresh(),
             burning: 0,
+            active: false,
+            turns_on_the_way: 0,
             met: Vec::new(),
         }
     }

@@ -4,6 +4,7 @@ use crate::answer::{self, Answer};
 use crate::event::{Event, Jump, Tally};
 use crate::frame;
 use crate::output::Output;
+use crate::relay_event::{self, RelayEvent};
 use crate::tag_event::{self, TaggedEvent};
 
 /// A frame that was a first arrival, with the answer it got.
@@ -167,9 +168,12 @@ impl Panel {
             );
         }
         if time < self.latest_time() {
+            let (arrivals, clocks) = (&self.first_arrivals, &self.accepted_clocks);
+            self.count_relay(relay_event::late_after_refusal(arrivals, clocks, time));
             return self.turn_down(answer::TIME_BEFORE_PANEL_TIME, Event::LateFrame);
         }
         let answer = self.first_arrival(bytes, time, output);
+        self.count_relay(relay_event::read_after_refusal(&self.first_arrivals, bytes));
         self.first_arrivals.push(FirstArrival {
             station,
             number,
@@ -181,12 +185,13 @@ impl Panel {
     }
 
     /// "For a first arrival it steps to the frame's time and does what its kind
-    /// calls for, or refuses 9 to 13", and 14 or 15 (§1).
+    /// calls for, or refuses 9 to 13", and 14, 15 (§1) or 16 (§3).
     fn first_arrival(&mut self, bytes: &[u8], time: u64, output: usize) -> Answer {
         self.step_to(time);
         let kind = bytes[0];
         let output = &mut self.outputs[output];
         let act_in_light = output.act_in_light(bytes);
+        let before = output.before_judging();
         let answer = match kind {
             frame::WRITE_PRESENT_VALUE => {
                 output.write_present_value(frame::byte_field(bytes), frame::value_field(bytes))
@@ -207,6 +212,9 @@ impl Panel {
         if let (Some(event), false) = (act_in_light, matches!(answer, Answer::Refused(_))) {
             output.met.push(Event::Light(event));
         }
+        // §3: "It is judged after each frame's act."
+        output.judge_relay();
+        output.note_act_judging(before, bytes);
         self.tally.count(Event::FirstArrival {
             kind: kind.into(),
             answer: answer.into(),
@@ -253,6 +261,12 @@ impl Panel {
     fn count_tagged(&mut self, event: Option<TaggedEvent>) {
         if let Some(event) = event {
             self.tally.count(Event::Tagged(event));
+        }
+    }
+
+    fn count_relay(&mut self, event: Option<RelayEvent>) {
+        if let Some(event) = event {
+            self.tally.count(Event::Relay(event));
         }
     }
 

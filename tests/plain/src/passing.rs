@@ -14,6 +14,7 @@ impl Output {
     pub fn pass(&mut self, milliseconds: u64) {
         let begins = self.way_and_place();
         let mut moving = 0;
+        self.turns_on_the_way = 0;
         for lived in 0..milliseconds {
             if self.nothing_pending() {
                 if self.progress_value() > 0 {
@@ -27,6 +28,7 @@ impl Output {
         if let Some(begins) = begins.filter(|_| milliseconds > 0) {
             self.note_stretch(begins, moving == milliseconds);
         }
+        self.note_turns_on_the_way();
     }
 
     pub fn nothing_pending(&self) -> bool {
@@ -36,8 +38,10 @@ impl Output {
     /// §2: "burning time gains a millisecond when Progress_Value is above
     /// zero"; "then time is t + 1; then a due duration empties its slot, then
     /// the warning's slots are set, then Progress_Value by the movement's
-    /// formula."
+    /// formula." §3: the relay "is judged after each millisecond's due moments",
+    /// once for all of them.
     fn pass_one_millisecond(&mut self) {
+        let falling_due = self.about_to_fall_due();
         if self.progress_value() > 0 {
             self.burning += 1;
         }
@@ -46,6 +50,10 @@ impl Output {
         self.pass_duration();
         self.pass_warning();
         self.pass_movement();
+        self.judge_relay();
+        if let Some(falling_due) = falling_due {
+            self.note_due_judging(falling_due);
+        }
     }
 
     /// "A due duration empties its slot (ending a movement that slot owned)."

@@ -18,6 +18,7 @@ impl Output {
         let situation = self.situation();
         let shown_before = self.present_value();
         let answer = self.store_property(property, value);
+        self.note_relay_write(property, value, answer);
         self.met.push(Event::PropertyWritten {
             property: property.into(),
             answer: answer.into(),
@@ -115,6 +116,27 @@ impl Output {
                 }
                 self.burning = 0;
             }
+            BINARY_ACTIVE_VALUE => {
+                return match real::level(value) {
+                    Some(active) => {
+                        self.set_relay_values(active, self.settings.binary_inactive_value)
+                    }
+                    None => REFUSED_REAL,
+                }
+            }
+            BINARY_INACTIVE_VALUE => {
+                return match real::level(value) {
+                    Some(inactive) => {
+                        self.set_relay_values(self.settings.binary_active_value, inactive)
+                    }
+                    None => REFUSED_REAL,
+                }
+            }
+            POLARITY => match value {
+                0 => self.settings.polarity_reverse = false,
+                1 => self.settings.polarity_reverse = true,
+                _ => return REFUSED_WHOLE_NUMBER,
+            },
             _ => return REFUSED_PROPERTY,
         }
         Answer::Done
@@ -153,6 +175,11 @@ impl Output {
             LAST_STEP => self.last.step,
             LAST_FADE_TIME => self.last.fade_time,
             LAST_DURATION => self.last.duration,
+            BINARY_ACTIVE_VALUE => Some(real::level_as_real(settings.binary_active_value)),
+            BINARY_INACTIVE_VALUE => Some(real::level_as_real(settings.binary_inactive_value)),
+            POLARITY => Some(u32::from(settings.polarity_reverse)),
+            BINARY_PRESENT_VALUE => Some(u32::from(self.active)),
+            RELAY_STATE => Some(u32::from(self.relay_state())),
             FIRST_SLOT..=LAST_SLOT => self
                 .slot(property - FIRST_SLOT + 1)
                 .map(real::level_as_real),
@@ -173,6 +200,7 @@ impl Output {
         if property == ELAPSED_ACTIVE_TIME {
             self.note_elapsed_reading();
         }
+        self.note_relay_reading(property);
         let below_one_percent = 1..real::ONE_PERCENT;
         if property == PROGRESS_VALUE && below_one_percent.contains(&self.progress_value()) {
             self.met.push(Event::ProgressReadBelowOnePercent);

@@ -22,6 +22,12 @@ pub const LAST_RATE: u8 = 0x11;
 pub const LAST_STEP: u8 = 0x12;
 pub const LAST_FADE_TIME: u8 = 0x13;
 pub const LAST_DURATION: u8 = 0x14;
+pub const BINARY_ACTIVE_VALUE: u8 = 0x17;
+pub const BINARY_INACTIVE_VALUE: u8 = 0x18;
+pub const POLARITY: u8 = 0x19;
+pub const BINARY_PRESENT_VALUE: u8 = 0x1A;
+/// "The relay's state (1B, read only)."
+pub const RELAY_STATE: u8 = 0x1B;
 pub const FIRST_SLOT: u8 = 0x21;
 pub const LAST_SLOT: u8 = 0x30;
 
@@ -45,6 +51,11 @@ pub struct Settings {
     pub minimum: u32,
     pub maximum: u32,
     pub lighting_command_priority: u8,
+    /// §3: the inactive value is below the active one.
+    pub binary_active_value: u32,
+    pub binary_inactive_value: u32,
+    /// "Polarity (19, 0 normal, 1 reverse)."
+    pub polarity_reverse: bool,
 }
 
 impl Settings {
@@ -60,6 +71,9 @@ impl Settings {
             minimum: ONE_PERCENT,
             maximum: HUNDRED_PERCENT,
             lighting_command_priority: 16,
+            binary_active_value: 50 * ONE_PERCENT,
+            binary_inactive_value: 45 * ONE_PERCENT,
+            polarity_reverse: false,
         }
     }
 
