@@ -1,6 +1,6 @@
 #!/usr/bin/env python3
 """figures.py [--check]: write crates/lighting/proofs/Figures.antt: that the definitions compute the bench figures, the traps and the worked list of
-specs/Paper/Figures.antt, Worked.antt, WorkedTags.antt, WorkedLight.antt and WorkedRelay.antt. Only the lists of names to unfold are made; the prover checks the equations.
+specs/Paper/Figures.antt, Worked.antt, WorkedTags.antt, WorkedLight.antt, WorkedRelay.antt and WorkedJumps.antt. Only the lists of names to unfold are made; the prover checks the equations.
 With --check nothing is written, and a stale file is an error."""
 import os
 import re
@@ -42,6 +42,7 @@ lines += [
     'use Rattle.lighting.specs.Paper.WorkedTags.{commandsWritten, theirOctets, refused, refusals, framesInTags, answersInTags}',
     'use Rattle.lighting.specs.Paper.WorkedLight.{burningGiven, burningSaid}',
     'use Rattle.lighting.specs.Paper.WorkedRelay.{relayGiven, relaySaid}',
+    'use Rattle.lighting.specs.Paper.WorkedJumps.{jumpsGiven, jumpsSaid, framesOfJumps, answersToJumps}',
 ]
 text = '\n'.join(lines) + '''
 
@@ -63,6 +64,11 @@ pub relay-by-hand : relayGiven ≡ relaySaid
 unfolding bitAnd bitOr ofBits %s
 relay-by-hand = refl
 
+-- §4: movements under way at far jumps
+pub jumps-by-hand : jumpsGiven ≡ jumpsSaid
+unfolding bitAnd bitOr ofBits %s
+jumps-by-hand = refl
+
 -- §1: the octets of commands, the refusals of bodies
 pub tags-written : commandsWritten ≡ theirOctets
 unfolding bitAnd bitOr ofBits toBits round %s
@@ -80,7 +86,11 @@ worked = refl
 pub worked-in-tags : answers document01 (freshPanel 2 8) framesInTags ≡ answersInTags
 unfolding bitAnd bitOr ofBits toBits round answers %s
 worked-in-tags = refl
-''' % ((opened(OF_OUTPUTS),) * 3 + (opened(OF_ACTS),) + (opened(OF_PANELS),) * 4)
+
+pub worked-jumps : answers document01 (freshPanel 2 8) framesOfJumps ≡ answersToJumps
+unfolding bitAnd bitOr ofBits toBits round answers %s
+worked-jumps = refl
+''' % ((opened(OF_OUTPUTS),) * 3 + (opened(OF_ACTS), opened(OF_OUTPUTS)) + (opened(OF_PANELS),) * 5)
 if '--check' in sys.argv:
     # the layout is rt fmt's
     if open(OUT).read().split() != text.split():

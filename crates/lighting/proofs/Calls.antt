@@ -13,7 +13,7 @@ use Rattle.lighting.specs.declared.Answer.the-variants.{Done}
 use Rattle.lighting.proofs.Demand.{demand-3, same-found}
 
 -- the calls come to what the list comes to
-calls-list : (p : Parameters) {e e′ : Panel} {l : List Bytes} {given : List Answer} → Calls p e l given e′ → (e′ ≡ after p e l) × (given ≡ answers p e l)
+pub calls-list : (p : Parameters) {e e′ : Panel} {l : List Bytes} {given : List Answer} → Calls p e l given e′ → (e′ ≡ after p e l) × (given ≡ answers p e l)
 unfolding after answers
 calls-list p none = (refl, refl)
 calls-list p (call {l = l} {given = given} x z) =

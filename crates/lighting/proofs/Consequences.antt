@@ -2,6 +2,7 @@
 -- code, still fails here. One subject a file; docs/PROMISES.md says which sentence each stands for.
 pub mod Present
 pub mod Movements
+pub mod Elapsed
 pub mod Durations
 pub mod Warning
 pub mod Interrupted

@@ -36,9 +36,10 @@ pub mod Demand
 pub mod Calls
 -- §1 in lists: commands sent in tags instead of plain
 pub mod InTags
--- 'Bench figures', and a worked list; §1 to §3 by hand
+-- 'Bench figures', and a worked list; §1 to §4 by hand
 pub mod Figures
 pub mod Worked
 pub mod WorkedTags
 pub mod WorkedLight
 pub mod WorkedRelay
+pub mod WorkedJumps

@@ -28,9 +28,9 @@ use Rattle.lighting.specs.declared.Command.{Command}
 use Rattle.lighting.specs.declared.Effect.{Effect}
 use Rattle.lighting.specs.declared.Output.{Output}
 use Rattle.lighting.proofs.Split.{by-eq, by-le, eqb-hit, eqb-miss}
-use Rattle.lighting.proofs.Passing.{TimerAfter, MomentAfter, After, both-after, timer-earlier, endMovementOnExpiry-quiet, expired-quiet}
+use Rattle.lighting.proofs.Passing.{TimerAfter, MomentAfter, After, both-after, timer-earlier, timer-quiet, endMovementOnExpiry-quiet, expired-quiet, ticks-add}
 use Rattle.lighting.proofs.Unjudged.{quiet-but-relay, step-but-relay}
-use Rattle.lighting.proofs.Facts.{Acts, Timed, Sound}
+use Rattle.lighting.proofs.Facts.{Acts, Moves, Timed, Sound}
 use Rattle.lighting.proofs.RequestInRange.{OperationInRange, DurationInRange}
 use Rattle.lighting.proofs.Mask.{put-size}
 use Rattle.lighting.proofs.Winner.{winningLevel-filled}
@@ -106,39 +106,67 @@ pub progress-still : (t : ℕ) (o : Output) → o .activity ≡ Still → progre
 unfolding progressValue progressBy
 progress-still t o e = rw e
 
--- A MOVEMENT just begun, of a record that keeps the rules, if no frame comes: k milliseconds later Progress_Value is what the formula says
-module _ (t : ℕ) (o : Output) (m : Movement) (moves : o .activity ≡ Moving m) (begun : m .over ≡ t + m .length) where
-  pub moving-after : (k : ℕ) → k < m .length → TimerAfter (t + k) (o .timer) → After (t + k) o
+-- an output at rest stays as it is
+resting : (t k : ℕ) (o : Output) → o .activity ≡ Still → TimerAfter (t + k) (o .timer)
+    → (progressValue (t + k) (ticks k t o) ≡ presentValue (o .settings) (o .slots)) × (inProcess (ticks k t o .activity) ≡ 0)
+unfolding withBurned withBurning progressValue progressBy inProcess
+resting t k o e a = rw (quiet-but-relay k t o (both-after (t + k) o a (rw e (unfold activityDue in tt))), e) (refl, refl)
+
+-- what the rules say of a movement
+pub rules : (t : ℕ) (o : Output) (m : Movement) → Sound t o → o .activity ≡ Moving m → Moves t (o .settings) (o .slots) m
+rules t o m sound moves = subst (λ (a : Activity). Acts t (o .settings) (o .slots) a) moves (sound .activity)
+
+-- an output at rest where its movement aimed, its duration as it was
+abbrev Over : Output → Movement → Output → Type 0
+Over o m o′ = (o′ .activity ≡ Still) × (presentValue (o′ .settings) (o′ .slots) ≡ m .target) × (o′ .timer ≡ o .timer)
+
+-- A MOVEMENT with so many milliseconds left, of a record that keeps the rules, if no frame comes: k milliseconds later Progress_Value is what the formula says
+module _ (t : ℕ) {left : ℕ} (o : Output) (m : Movement) (moves : o .activity ≡ Moving m) (ends : m .over ≡ t + left) where
+  pub moving-after : (k : ℕ) → k < left → TimerAfter (t + k) (o .timer) → After (t + k) o
   moving-after k h a = both-after (t + k) o a (rw moves (unfold activityDue in (omega arith)))
 
-  pub moving : (k : ℕ) → k < m .length → TimerAfter (t + k) (o .timer)
-      → (progressValue (t + k) (ticks k t o) ≡ along (m .pace) (m .start) (m .target) (m .length) k) × (inProcess (ticks k t o .activity) ≡ 1)
+  pub moving : (k : ℕ) → k < left → TimerAfter (t + k) (o .timer)
+      → (progressValue (t + k) (ticks k t o) ≡ along (m .pace) (m .start) (m .target) (m .length) (elapsed (t + k) m))
+      × (inProcess (ticks k t o .activity) ≡ 1)
   unfolding withBurned withBurning progressValue progressBy inProcess reached
-  moving k h a =
-      let z : elapsed (t + k) m ≡ k = omega arith in
-      rw (quiet-but-relay k t o (moving-after k h a), moves) (ap (reachedBy m) z ∙ along-reached m k, refl)
+  moving k h a = rw (quiet-but-relay k t o (moving-after k h a), moves) (along-reached m (elapsed (t + k) m), refl)
 
-  -- and at its length it is over, on the target
-  pub arrived : 0 < m .length → TimerAfter (t + m .length) (o .timer) → Sound t o
-      → (progressValue (t + m .length) (ticks (m .length) t o) ≡ m .target) × (inProcess (ticks (m .length) t o .activity) ≡ 0)
-  arrived h a k = go (m .length) refl
+  -- and when they have passed it is over, on the target
+  over-then : 0 < left → TimerAfter (t + left) (o .timer) → Sound t o → Over o m (ticks left t o)
+  over-then h a sound = go left refl
     where
       aims : m .target ≡ presentValue (o .settings) (o .slots)
-      aims = (subst (λ (z : Activity). Acts t (o .settings) (o .slots) z) moves (k .activity)) .aims
+      aims = rules t o m sound moves .aims
 
-      go : (l : ℕ) → m .length ≡ l → (progressValue (t + l) (ticks l t o) ≡ m .target) × (inProcess (ticks l t o .activity) ≡ 0)
+      go : (l : ℕ) → left ≡ l → Over o m (ticks l t o)
       go zero e = absurd (omega arith)
       go (suc n) e =
           let b = withRelay (withBurned t (suc n) o) (ticks n t o .relay) in
-          let f = over-at (suc (t + n)) b m (unfold withBurned withBurning in moves) (omega arith)
-          (unfold withBurned withBurning in (subst (λ (d : ℕ). TimerAfter d (o .timer)) (let z : t + m .length ≡ suc (t + n) = omega arith in z) a)) in
+          let z : t + left ≡ suc (t + n) = omega arith in
+          let c : TimerAfter (suc (t + n)) (o .timer) = rw z at a in
+          let f = over-at (suc (t + n)) b m (unfold withBurned withBurning in moves) (omega arith) (unfold withBurned withBurning in c) in
           let q = moving-after n (omega arith) (timer-earlier (o .timer) (omega arith) a) in
           rw
           (step-but-relay n t o q) (
-            progress-still (t + suc n) (fire (suc (t + n)) b) (f .0)
-                ∙ rw (f .1, f .2) (unfold withBurned withBurning in (sym aims)),
-            unfold inProcess in (rw (f .0)),
+            f .0,
+            rw (f .1, f .2) (unfold withBurned withBurning in (sym aims)),
+            unfold fire afterEvents withBurned withBurning in (timer-quiet (suc (t + n)) (o .timer) c),
           )
+
+  pub arrived : 0 < left → TimerAfter (t + left) (o .timer) → Sound t o
+      → (progressValue (t + left) (ticks left t o) ≡ m .target) × (inProcess (ticks left t o .activity) ≡ 0)
+  arrived h a sound =
+      let f = over-then h a sound in
+      (progress-still (t + left) (ticks left t o) (f .0) ∙ f .1, unfold inProcess in (rw (f .0)))
+
+  -- and stays there
+  pub stays : (more : ℕ) → 0 < left → TimerAfter (t + (left + more)) (o .timer) → Sound t o
+      → (progressValue (t + (left + more)) (ticks (left + more) t o) ≡ m .target) × (inProcess (ticks (left + more) t o .activity) ≡ 0)
+  stays more h a sound =
+      let f = over-then h (timer-earlier (o .timer) (omega arith) a) sound in
+      let e : t + (left + more) ≡ t + left + more = omega arith in
+      let r = resting (t + left) more (ticks left t o) (f .0) (rw (f .2) (rw e at a)) in
+      rw (ticks-add left more t o, e) (r .0 ∙ f .1, r .1)
 
 -- A COMMAND THAT MOVES, from Progress_Value before it to g over l, if no frame comes and no duration falls due. Present_Value is g at once
 pub record Course (t : ℕ) (o o′ : Output) (g l : ℕ) (w : Pace) : Type 0 where
@@ -159,12 +187,6 @@ along-none (Ramp r) g l k = omega arith
 timer-sound : (t : ℕ) (m : Timer) → Timed t m → TimerAfter t m
 timer-sound t Off h = tt
 timer-sound t (Running q d) h = h .1
-
--- an output at rest stays as it is
-resting : (t k : ℕ) (o : Output) → o .activity ≡ Still → TimerAfter (t + k) (o .timer)
-    → (progressValue (t + k) (ticks k t o) ≡ presentValue (o .settings) (o .slots)) × (inProcess (ticks k t o .activity) ≡ 0)
-unfolding withBurned withBurning progressValue progressBy inProcess
-resting t k o e a = rw (quiet-but-relay k t o (both-after (t + k) o a (rw e (unfold activityDue in tt))), e) (refl, refl)
 
 module _ (t : ℕ) (o o′ : Output) (p g l : ℕ) (w : Pace) (sound : Sound t o′)
     (acts : o′ .activity ≡ movement t p (progressValue t o) g l w)
@@ -188,7 +210,7 @@ module _ (t : ℕ) (o o′ : Output) (p g l : ℕ) (w : Pace) (sound : Sound t o
       let m : Movement = record { owner = p; start = progressValue t o; target = g; length = l; over = t + l; pace = w } in
       let q : o′ .activity ≡ Moving m = acts ∙ (unfold movement if_then_else_ in (rw (eqb-miss {a = progressValue t o} {b = g} n))) in
       let first = moving t o′ m q refl 0 (long n) (rw (add-zero t) (timer-sound t (o′ .timer) (sound .timer))) .0 in
-      let begin : progressValue t o′ ≡ along w (progressValue t o) g l 0 = rw (add-zero t) at first in
+      let begin : progressValue t o′ ≡ along w (progressValue t o) g l 0 = rw (add-zero t) at (first ∙ gone 0 (omega arith)) in
       record {
         begins = begin ∙ along-first w (progressValue t o) g l;
         shows = shows;
@@ -196,9 +218,12 @@ module _ (t : ℕ) (o o′ : Output) (p g l : ℕ) (w : Pace) (sound : Sound t o
         between =
             λ k h a. by-eq k l
             (λ e z. rw e (arrived t o′ m q refl (long n) (rw e at a) sound .0 ∙ sym last))
-            (λ e z. moving t o′ m q refl k (omega arith) a .0);
+            (λ e z. moving t o′ m q refl k (omega arith) a .0 ∙ gone k h);
         ends = λ a. arrived t o′ m q refl (long n) a sound;
       }
+    where
+      gone : (k : ℕ) → k ≤ l → along w (progressValue t o) g l (l - (t + l - (t + k))) ≡ along w (progressValue t o) g l k
+      gone k h = let e : l - (t + l - (t + k)) ≡ k = omega arith in rw e
 
   course : Course t o o′ g l w
   course = by-eq (progressValue t o) g (λ e z. at-rest e) (λ e z. on-the-way e)

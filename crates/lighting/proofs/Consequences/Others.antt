@@ -80,7 +80,7 @@ at-map f [] j h = absurd (omega arith)
 at-map f (x ∷ l) zero h = refl
 at-map f (x ∷ l) (suc j) h = at-map f l j (omega arith)
 
-every-at : (t : ℕ) (l : List Output) (j : ℕ) → j < length l → every (sound document01 t) l ≡ true → sound document01 t (getD l j freshOutput) ≡ true
+pub every-at : (t : ℕ) (l : List Output) (j : ℕ) → j < length l → every (sound document01 t) l ≡ true → sound document01 t (getD l j freshOutput) ≡ true
 unfolding every
 every-at t [] j h e = absurd (omega arith)
 every-at t (x ∷ l) zero h e = also-both e .0
