@@ -1,7 +1,7 @@
 // How long a lamp gives light: of the milliseconds of a stretch those at whose start Progress_Value is above zero (§2 of the change requests), by one
-// product and one division, whatever the stretch. On any record at all: with a way, a rate or a length of 0 too.
+// product and one division at most, whatever the stretch. On any record at all: with a way, a rate or a length of 0 too.
 ghost use mathlib.Core.Path.{_≡_};
-ghost use Prim.Native.Nat.{_<_, max};
+ghost use Prim.Native.Nat.{_<_, _-_, max};
 ghost use lib.Dec.{eqb};
 ghost use Rattle.lighting.specs.Paper.Value.{presentValue, inProcess};
 ghost use Rattle.lighting.specs.Engine.Light.{lastShort, momentAfter, goneAt, countBefore, countSince, litFromZero, litFromLight, litAt, litMoving, litInMovement, litResting, litStretch};
@@ -11,34 +11,59 @@ use lighting::Movement;
 use lighting::Output;
 use lighting::Pace;
 
-// ---- when so many units of a movement's way are gone
+// ---- when so many units of a movement's way are gone. In milliseconds of the movement, which have 32 bits once they are known to be at most its length
+// (§4 of the change requests)
 
-// The last millisecond of a movement at which u units are not yet gone. The product has up to 64 bits.
+// One less, and 0 of 0, in 32 bits.
+fn one_less(w: u32) -> u32
+    ensures { λ r. ⌜ r ≡ w - 1 ⌝ }
+{
+    if w == 0 { 0 } else { w - 1 }
+}
+
+// The last millisecond of a movement at which u units are not yet gone, where s units go in w milliseconds. Of all s, as in a fade to 0, it is the last of the w;
+// else, in a ramp, it takes a product, which has up to 64 bits.
 fn last_short(u: u32, s: u32, w: u32) -> u64
     requires { ⌜ 0 < s ⌝ }
     ensures { λ r. ⌜ r ≡ lastShort u s w ⌝ }
 {
-    output_value::since(1, (u as u64) * (w as u64)) / (s as u64)
+    if u == s {
+        one_less(w) as u64
+    } else {
+        output_value::since(1, (u as u64) * (w as u64)) / (s as u64)
+    }
 }
 
 // The moment after the millisecond k of a movement, if it lasts so long.
-fn moment_after(k: u64, m: Movement) -> Moment
+fn moment_after(k: u32, m: Movement) -> Moment
     ensures { λ r. ⌜ r ≡ momentAfter k m ⌝ }
 {
-    if k < m.length as u64 {
-        Moment::At(output_value::since(m.length as u64 - (k + 1), m.over))
+    if k < m.length {
+        Moment::At(output_value::since((m.length - (k + 1)) as u64, m.over))
     } else {
         Moment::Never
     }
 }
 
+// The moment from which on the first unit is gone: no product.
+fn first_gone_at(s: u32, w: u32, m: Movement) -> Moment
+    ensures { λ r. ⌜ r ≡ goneAt 1 s w m ⌝ }
+{
+    if s == 0 {
+        Moment::Never
+    } else {
+        moment_after(one_less(w) / s, m)
+    }
+}
+
+// The moment from which on u units are gone. Whether the movement lasts so long is asked of the whole quotient, before it is narrowed.
 fn gone_at(u: u32, s: u32, w: u32, m: Movement) -> Moment
     ensures { λ r. ⌜ r ≡ goneAt u s w m ⌝ }
 {
     if s == 0 {
         Moment::Never
     } else {
-        moment_after(last_short(u, s, w), m)
+        moment_after(output_value::at_most(last_short(u, s, w), m.length), m)
     }
 }
 
@@ -69,7 +94,7 @@ fn lit_from_zero(s: u32, w: u32, from: u64, n: u64, m: Movement) -> u64
     if m.target == 0 {
         0
     } else {
-        count_since(from, n, gone_at(1, s, w, m))
+        count_since(from, n, first_gone_at(s, w, m))
     }
 }
 

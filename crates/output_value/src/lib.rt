@@ -23,6 +23,13 @@ pub fn least(a: u64, b: u64) -> u64
     if a < b { a } else { b }
 }
 
+// A number brought to 32 bits, where it is below another, and else that other: asked of all 64 bits, and narrowed then.
+pub fn at_most(n: u64, most: u32) -> u32
+    ensures { λ r. ⌜ r ≡ min most n ⌝ }
+{
+    if n < most as u64 { n as u32 } else { most }
+}
+
 // ---- Present_Value
 
 // Brought into Min..Max. The number may be a sum of two levels.
@@ -52,11 +59,17 @@ pub fn present_value(c: Settings, s: Slots) -> u32
 
 // ---- a movement
 
-// The milliseconds of a movement that have gone by: its length less what is left of it, so at most its length.
+// The milliseconds of a movement that have gone by: its length less what is left of it. This is the one place that makes them from moments (§4 of
+// the change requests): whether the movement still runs is asked of all 64 bits, and what is then left of it is brought to 32. From here on only the
+// product has 64, its quotient, and what a ramp's quotient is asked.
 fn elapsed(t: u64, m: Movement) -> u32
     ensures { λ r. ⌜ r ≡ elapsed t m ⌝ }
 {
-    since(since(t, m.over), m.length as u64) as u32
+    if t < m.over {
+        m.length - at_most(m.over - t, m.length)
+    } else {
+        m.length
+    }
 }
 
 // An even share of the way d: k of l. The product has up to 64 bits, and the share is at most d.
@@ -75,8 +88,7 @@ fn fade_distance(d: u32, l: u32, k: u32) -> u32
 fn ramp_distance(rate: u32, d: u32, k: u32) -> u32
     ensures { λ r. ⌜ r ≡ min d (rate * k / 1000) ⌝ }
 {
-    let n = (rate as u64) * (k as u64) / 1000;
-    if n < d as u64 { n as u32 } else { d }
+    at_most((rate as u64) * (k as u64) / 1000, d)
 }
 
 fn distance_moved(p: Pace, d: u32, l: u32, k: u32) -> u32

@@ -1,8 +1,15 @@
-use Rattle.lighting.specs.Engine.Light.{lastShort}
 use Rattle.lighting.proofs.Product.{below}
+use Rattle.lighting.specs.Engine.Light.{lastShort}
+use Rattle.output_light.proofs.Short.{short-all}
 use borrow.Author.Needs.{needs}
 use Rattle.output_light.proofs.last_short.Statement.{statement}
 use Rattle.output_light.proofs.last_short.Tie as tie
+
+one-less-requires : tie.Need-one-less-requires
+one-less-requires c κs = search needs
+
+cast-result : tie.Need-cast-result
+cast-result c = search needs
 
 mul-since : tie.Need-mul-since
 mul-since c = record { fits = below 32 (search needs) (search needs) }
@@ -14,8 +21,11 @@ div-result : tie.Need-div-result
 div-result c = search needs
 
 returns : tie.Need-returns
+returns c = search (needs, short-all)
+
+returns-2 : tie.Need-returns-2
 unfolding lastShort
-returns c = simp (c .since .ensures)
+returns-2 c = simp (c .since .ensures)
 
 pub last-short-spec : {M : Type 1} → statement M
-last-short-spec = tie.close (tie.spec mul-since since-requires div-result returns)
+last-short-spec = tie.close (tie.spec one-less-requires cast-result mul-since since-requires div-result returns returns-2)

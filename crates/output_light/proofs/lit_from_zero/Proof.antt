@@ -4,8 +4,8 @@ use borrow.Author.Needs.{needs}
 use Rattle.output_light.proofs.lit_from_zero.Statement.{statement}
 use Rattle.output_light.proofs.lit_from_zero.Tie as tie
 
-gone-at-requires : tie.Need-gone-at-requires
-gone-at-requires c κs = search needs
+first-gone-at-requires : tie.Need-first-gone-at-requires
+first-gone-at-requires c κs = search needs
 
 count-since-requires : tie.Need-count-since-requires
 count-since-requires c κs = search needs
@@ -16,7 +16,7 @@ returns c = search (needs, ifs)
 
 returns-2 : tie.Need-returns-2
 unfolding litFromZero
-returns-2 c = search (needs, ifs, ← c .before .gone-at .ensures)
+returns-2 c = search (needs, ifs, ← c .before .first-gone-at .ensures)
 
 pub lit-from-zero-spec : {M : Type 1} → statement M
-lit-from-zero-spec = tie.close (tie.spec gone-at-requires count-since-requires returns returns-2)
+lit-from-zero-spec = tie.close (tie.spec first-gone-at-requires count-since-requires returns returns-2)

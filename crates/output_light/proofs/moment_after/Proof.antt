@@ -5,17 +5,14 @@ use borrow.Author.Needs.{needs}
 use Rattle.output_light.proofs.moment_after.Statement.{statement}
 use Rattle.output_light.proofs.moment_after.Tie as tie
 
-cast-if1 : tie.Need-cast-if1
-cast-if1 c = search needs
-
-cast-since : tie.Need-cast-since
-cast-since c = search needs
-
 add-since : tie.Need-add-since
 add-since c = search needs
 
 sub-since : tie.Need-sub-since
 sub-since c = search needs
+
+cast-since : tie.Need-cast-since
+cast-since c = search needs
 
 since-requires : tie.Need-since-requires
 since-requires c κs = search needs
@@ -29,4 +26,4 @@ unfolding momentAfter
 returns-2 c = search (needs, ifs)
 
 pub moment-after-spec : {M : Type 1} → statement M
-moment-after-spec = tie.close (tie.spec cast-if1 cast-since add-since sub-since since-requires returns returns-2)
+moment-after-spec = tie.close (tie.spec add-since sub-since cast-since since-requires returns returns-2)
