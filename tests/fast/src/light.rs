@@ -39,9 +39,15 @@ impl Movement {
         }
     }
 
-    /// The first moment at which the level is `units` away from where it
-    /// began. The way is not 0; a lent ramp may come there only past its end.
+    /// The first moment at which the level is `units` away from where it began.
     fn moment_of(&self, units: u32) -> u64 {
+        self.began + u64::from(self.gone_when(units))
+    }
+
+    /// The same in milliseconds since the beginning, for which 32 bits are
+    /// enough (§4). The way is not 0; a lent ramp may come there only past its
+    /// end, and its length stands for that.
+    fn gone_when(&self, units: u32) -> u32 {
         let units = u64::from(units);
         let length = u64::from(self.length);
         let way = u64::from(self.from.abs_diff(self.to));
@@ -51,8 +57,10 @@ impl Movement {
             Pace::Ramp {
                 units_per_second: 0,
             } => length,
-            Pace::Ramp { units_per_second } => (1_000 * units).div_ceil(units_per_second.into()),
+            Pace::Ramp { units_per_second } => (1_000 * units)
+                .div_ceil(units_per_second.into())
+                .min(length),
         };
-        self.began + gone
+        gone as u32
     }
 }

@@ -106,14 +106,25 @@ impl Movement {
         self.began + u64::from(self.length)
     }
 
-    /// The level at a moment from the beginning to before the end.
+    /// The milliseconds since its beginning, and no more than its length once it
+    /// is over. That is decided on 64 bits, and the one place that makes 32 of
+    /// them comes after it (§4): 2^32 + 5 ms do not look like 5.
+    fn gone_at(&self, time: u64) -> u32 {
+        let gone = time.saturating_sub(self.began);
+        gone.min(u64::from(self.length)) as u32
+    }
+
+    /// The level at a moment from the beginning on.
     pub fn level_at(&self, time: u64) -> u32 {
-        let gone = time - self.began;
+        let gone = self.gone_at(time);
+        if gone == self.length {
+            return self.to;
+        }
         let way = self.from.abs_diff(self.to);
         let gone_way = match self.pace {
-            Pace::Fade => (u64::from(way) * gone / u64::from(self.length)) as u32,
+            Pace::Fade => (u64::from(way) * u64::from(gone) / u64::from(self.length)) as u32,
             Pace::Ramp { units_per_second } => {
-                let ramped = u64::from(units_per_second) * gone / 1_000;
+                let ramped = u64::from(units_per_second) * u64::from(gone) / 1_000;
                 ramped.min(u64::from(way)) as u32
             }
         };

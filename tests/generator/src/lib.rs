@@ -5,6 +5,7 @@ pub mod boundary;
 pub mod copies;
 pub mod draft;
 pub mod hostile;
+pub mod jump_scenes;
 pub mod light_scenes;
 pub mod list;
 pub mod pair;

@@ -29,9 +29,9 @@ struct Moving {
 }
 
 impl Generator {
-    pub(crate) fn plan_light(&mut self, output: u8) {
+    /// A slot that wins, between bounds that the levels lie in.
+    pub(crate) fn plan_winning_slot(&mut self, output: u8) -> u8 {
         let own = self.random.pick(&MIDDLE_PRIORITIES);
-        // A slot that wins, between bounds that the levels lie in.
         for stronger in 1..own {
             if self.output(output).slot(stronger).is_some() && stronger != 6 {
                 self.plan(output, Body::Empty { priority: stronger }, When::Now);
@@ -39,6 +39,11 @@ impl Generator {
         }
         self.plan_setting(output, MINIMUM, ONE_PERCENT);
         self.plan_setting(output, MAXIMUM, HUNDRED_PERCENT);
+        own
+    }
+
+    pub(crate) fn plan_light(&mut self, output: u8) {
+        let own = self.plan_winning_slot(output);
         if self.random.chance(30) {
             self.plan_property(output, ELAPSED_ACTIVE_TIME, 0);
         }
@@ -205,7 +210,7 @@ impl Generator {
         }
     }
 
-    fn plan_look_at_light(&mut self, output: u8, when: When) {
+    pub(crate) fn plan_look_at_light(&mut self, output: u8, when: When) {
         if self.random.chance(40) {
             self.plan_clock(output, when);
         } else {
@@ -217,7 +222,7 @@ impl Generator {
     }
 
     /// A command of the movement's own slot: it ends or replaces the movement.
-    fn plan_command_at(&mut self, output: u8, when: When) {
+    pub(crate) fn plan_command_at(&mut self, output: u8, when: When) {
         let kind = match self.random.below(10) {
             0 | 1 => STOP,
             2..=4 => self.random.between(FADE_TO.into(), RAMP_TO_AT_RATE.into()) as u8,

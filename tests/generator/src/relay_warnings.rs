@@ -46,7 +46,7 @@ impl Generator {
     pub(crate) fn plan_relay_in_warning(&mut self, output: u8) {
         let mut aim = self.some_aim();
         let mut blink = self.some_blink();
-        match self.random.below(10) {
+        match self.random.below(11) {
             // The turn shows Y.
             0 | 1 => {
                 blink.dark = blink.dark.max(1);
@@ -77,6 +77,17 @@ impl Generator {
                 self.plan_before_blink(output, &blink, aim, aim.before);
                 self.plan_command(output, GOTO, &[aim.real(), ABSENT]);
                 self.plan_write(output, blink.own, 0);
+            }
+            // What lies beneath is not shown before that which ends it.
+            7 => {
+                aim = aim.between();
+                (blink.dark, blink.lit) = (0, blink.lit.max(1));
+                self.plan_before_blink(output, &blink, aim, real::HUNDRED_PERCENT);
+                self.plan_write(output, blink.own, 0);
+                match self.random.chance(50) {
+                    true => self.plan_write(output, blink.own, aim.real()),
+                    false => self.plan_command(output, GOTO, &[aim.real(), ABSENT]),
+                }
             }
             _ => {
                 if self.random.chance(40) {

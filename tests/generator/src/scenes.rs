@@ -64,15 +64,16 @@ impl Generator {
             return;
         }
         match self.random.below(1_000) {
-            0..=229 => self.plan_warning(output),
-            230..=394 => self.plan_movement(output),
-            395..=499 => self.plan_command_of_rank(output, When::Whenever),
-            500..=574 => self.plan_slot_of_rank(output, When::Whenever),
-            575..=576 => self.plan_calm_and_great_jump(),
-            577..=721 => self.plan_sentence(output),
-            722..=769 => self.plan_tags(output),
-            770..=844 => self.plan_light(output),
-            845..=914 => self.plan_relay(output),
+            0..=219 => self.plan_warning(output),
+            220..=374 => self.plan_movement(output),
+            375..=479 => self.plan_command_of_rank(output, When::Whenever),
+            480..=554 => self.plan_slot_of_rank(output, When::Whenever),
+            555..=556 => self.plan_calm_and_great_jump(),
+            557..=701 => self.plan_sentence(output),
+            702..=749 => self.plan_tags(output),
+            750..=824 => self.plan_light(output),
+            825..=894 => self.plan_relay(output),
+            895..=924 => self.plan_jump(output),
             _ => self.plan_anything(output, When::Whenever),
         }
     }
@@ -120,6 +121,7 @@ impl Generator {
             85..=89 => self.plan_second_slot_with_duration(output),
             90..=91 => self.plan_command_to_reached_level(output),
             92 => self.plan_refused_tags(output, when),
+            93 => self.plan_jump_out_of_movement(output),
             _ => self.plan_anything(output, when),
         }
     }
@@ -259,8 +261,8 @@ impl Generator {
             0 if self.random.chance(20) => PRESENT_VALUE,
             0 => self.random.pick(&UNKNOWN_PROPERTIES),
             1 if self.random.chance(30) => self.random.bits() as u8,
-            1 | 2 => self.random.between(0x0C, 0x30) as u8,
-            3..=6 => self.random.pick(&[MINIMUM, MAXIMUM]),
+            1..=3 => self.random.between(0x0C, 0x30) as u8,
+            4..=6 => self.random.pick(&[MINIMUM, MAXIMUM]),
             7..=9 => self
                 .random
                 .pick(&[BINARY_ACTIVE_VALUE, BINARY_INACTIVE_VALUE, POLARITY]),

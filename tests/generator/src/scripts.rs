@@ -289,17 +289,20 @@ impl Generator {
         }
     }
 
+    /// Ends a warning and a duration, then a movement.
+    pub(crate) fn plan_calm(&mut self, output: u8) {
+        self.plan_command(output, STOP, &[0]);
+        let maximum = plain::real::level_as_real(self.output(output).settings.maximum);
+        self.plan_property(output, MAXIMUM, maximum);
+    }
+
     /// Brings every output to rest, then jumps by years or centuries.
     pub(crate) fn plan_calm_and_great_jump(&mut self) {
         let outputs = self.panel.outputs().len() as u8;
         for output in 0..outputs {
-            if self.output(output).nothing_pending() {
-                continue;
+            if !self.output(output).nothing_pending() {
+                self.plan_calm(output);
             }
-            // Ends a warning and a duration, then a movement.
-            self.plan_command(output, STOP, &[0]);
-            let maximum = plain::real::level_as_real(self.output(output).settings.maximum);
-            self.plan_property(output, MAXIMUM, maximum);
         }
         let jump = match self.random.below(4) {
             0 => 1 << 47,

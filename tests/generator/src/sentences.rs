@@ -254,9 +254,10 @@ impl Generator {
         let edge = self.random.pick(&beside([SHORTEST, LONGEST]));
         let real = self.random.pick(&values::edge_reals());
         let level = values::good_level(&mut self.random);
+        let duration = self.random.pick(&[edge, edge, ABSENT - 1]);
         match self.random.below(4) {
             0 => self.plan_command(output, FADE_TO_OVER, &[level, edge, ABSENT]),
-            1 => self.plan_command(output, GOTO, &[level, edge]),
+            1 => self.plan_command(output, GOTO, &[level, duration]),
             2 => self.plan_command(output, RAMP_TO_AT_RATE, &[level, real, ABSENT]),
             _ => self.plan_command(output, STEP_UP_BY, &[real, ABSENT]),
         }
@@ -281,7 +282,8 @@ impl Generator {
     fn plan_property_edge(&mut self, output: u8) {
         let times = beside([SHORTEST, LONGEST]);
         let rates = beside([0.125_f32.to_bits(), HUNDRED_PERCENT]);
-        let bounds = beside([ONE_PERCENT, HUNDRED_PERCENT]);
+        let mut bounds = beside([ONE_PERCENT, HUNDRED_PERCENT]);
+        bounds.push(0);
         let (property, edges) = self.random.pick(&[
             (FADE_TIME, &times[..]),
             (BLINK_TIME, &times),

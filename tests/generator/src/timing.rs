@@ -2,6 +2,7 @@
 //! at the moment at which a movement's light begins or ends.
 
 use plain::frame::LAST_TIME;
+use plain::jump_event::Far;
 use plain::movement::Movement;
 use plain::Output;
 
@@ -18,6 +19,14 @@ pub enum When {
     /// So many milliseconds after the light of the output's movement begins or
     /// ends (§2), or before it.
     Light(i64),
+    /// So far after the start of the output's movement, or from now (§4).
+    Far {
+        far: Far,
+        since_start: bool,
+    },
+    /// So many milliseconds, below 2^32, before the low 32 bits of the panel's
+    /// time are 0 (§4).
+    BeforeWrap(u64),
     /// When the burning time of an output that rests is a whole number of
     /// seconds, or one millisecond before: there a wrong millisecond is read.
     WholeSecond {
@@ -47,7 +56,7 @@ fn due_moments(output: &Output) -> Vec<u64> {
 }
 
 /// Milliseconds until nothing is pending any more.
-fn pending(output: &Output) -> u64 {
+pub(crate) fn pending(output: &Output) -> u64 {
     due_moments(output).into_iter().max().unwrap_or(0)
 }
 
@@ -113,6 +122,18 @@ impl Generator {
             .checked_sub(movement.gone)
     }
 
+    /// Nothing without a movement.
+    fn far_jump(&self, output: u8, far: Far, since_start: bool) -> Option<u64> {
+        let movement = self.output(output).movement.as_ref()?;
+        let before = if since_start { movement.gone } else { 0 };
+        far.milliseconds(movement.length).checked_sub(before)
+    }
+
+    fn wrap_jump(&self, before: u64) -> u64 {
+        let low = (self.panel.time() + before) as u32;
+        low.wrapping_neg().into()
+    }
+
     /// Nothing if the output does not burn, or not only.
     fn second_jump(&self, output: u8, before: bool) -> Option<u64> {
         let output = self.output(output);
@@ -128,6 +149,8 @@ impl Generator {
             When::Due => self.due_jump(output),
             When::After(jump) => jump,
             When::Light(offset) => self.light_jump(output, offset).unwrap_or(0),
+            When::Far { far, since_start } => self.far_jump(output, far, since_start).unwrap_or(0),
+            When::BeforeWrap(before) => self.wrap_jump(before),
             When::WholeSecond { before } => self.second_jump(output, before).unwrap_or(0),
             When::Whenever => match self.random.below(1_000) {
                 0..=399 => 0,

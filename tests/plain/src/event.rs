@@ -7,6 +7,7 @@ use std::collections::BTreeMap;
 use std::fmt;
 
 use crate::answer::Answer;
+use crate::jump_event::JumpEvent;
 use crate::light_event::LightEvent;
 use crate::relay_event::RelayEvent;
 use crate::tag_event::TaggedEvent;
@@ -259,6 +260,8 @@ pub enum Event {
     Light(LightEvent),
     /// Relays (§3).
     Relay(RelayEvent),
+    /// Far jumps and movements (§4).
+    Jumped(JumpEvent),
 
     // Commands.
     Command {

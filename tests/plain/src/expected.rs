@@ -5,6 +5,7 @@ use crate::frame::{
     ALL_COMMANDS, ALL_KINDS, CLOCK, DARKENING, EMPTY_A_SLOT, FADE_TO, GOTO, READ_PROPERTY,
     TAGGED_COMMAND, WRITE_PRESENT_VALUE, WRITE_PROPERTY,
 };
+use crate::jump_expected;
 use crate::light_expected;
 use crate::relay_expected;
 use crate::settings::*;
@@ -24,6 +25,7 @@ pub fn expected() -> Vec<Event> {
     events.extend(tag_event::expected().into_iter().map(Event::Tagged));
     events.extend(light_expected::expected().into_iter().map(Event::Light));
     events.extend(relay_expected::expected().into_iter().map(Event::Relay));
+    events.extend(jump_expected::expected().into_iter().map(Event::Jumped));
     events
 }
 

@@ -1,4 +1,4 @@
-//! The plain panel of document 01, with §1 to §3 of document 02: outputs and a
+//! The plain panel of document 01, with §1 to §4 of document 02: outputs and a
 //! time, no stations.
 //!
 //! It is written to be read beside the paper, not to be quick. It lives every
@@ -10,6 +10,8 @@ pub mod command;
 pub mod event;
 pub mod expected;
 pub mod frame;
+pub mod jump_event;
+pub mod jump_expected;
 pub mod last_command;
 pub mod light_event;
 pub mod light_expected;

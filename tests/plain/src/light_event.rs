@@ -116,7 +116,7 @@ pub enum LightEvent {
 }
 
 impl Movement {
-    fn way(&self) -> Way {
+    pub(crate) fn way(&self) -> Way {
         Way {
             course: match (self.from, self.to) {
                 (0, _) => Course::RiseFromZero,

@@ -95,7 +95,7 @@ impl Panel {
             );
         }
         if kind == frame::CLOCK {
-            self.clock(frame::clock_time(bytes))
+            self.clock(bytes)
         } else {
             let answer = self.frame_of_station(bytes);
             if kind == frame::TAGGED_COMMAND {
@@ -106,11 +106,15 @@ impl Panel {
     }
 
     /// "Clocks, accepted by that same time rule, only step it."
-    fn clock(&mut self, time: u64) -> Answer {
+    fn clock(&mut self, bytes: &[u8]) -> Answer {
+        let time = frame::clock_time(bytes);
         if time < self.latest_time() {
             return self.turn_down(answer::TIME_BEFORE_PANEL_TIME, Event::LateClock);
         }
         self.tally.count(Event::ClockAccepted);
+        for output in &mut self.outputs {
+            output.note_jump_by(bytes, time - self.time);
+        }
         self.step_to(time);
         self.accepted_clocks.push(time);
         Answer::Done
@@ -187,6 +191,7 @@ impl Panel {
     /// "For a first arrival it steps to the frame's time and does what its kind
     /// calls for, or refuses 9 to 13", and 14, 15 (§1) or 16 (§3).
     fn first_arrival(&mut self, bytes: &[u8], time: u64, output: usize) -> Answer {
+        self.outputs[output].note_jump_by(bytes, time - self.time);
         self.step_to(time);
         let kind = bytes[0];
         let output = &mut self.outputs[output];
@@ -237,6 +242,7 @@ impl Panel {
         }
         for output in &mut self.outputs {
             output.pass(milliseconds);
+            output.note_wrap(time);
         }
         self.time = time;
         self.collect_events();

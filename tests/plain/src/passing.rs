@@ -12,6 +12,7 @@ impl Output {
     /// burning time, and the rest is added in one go: a jump of 2^47 ms cannot
     /// be lived. Nothing else is cut short.
     pub fn pass(&mut self, milliseconds: u64) {
+        self.note_jump(milliseconds);
         let begins = self.way_and_place();
         let mut moving = 0;
         self.turns_on_the_way = 0;
