@@ -1,6 +1,7 @@
 #!/usr/bin/env python3
 """figures.py [--check]: write crates/lighting/proofs/Figures.antt: that the definitions compute the bench figures, the traps and the worked list of
-specs/Paper/Figures.antt, Worked.antt, WorkedTags.antt, WorkedLight.antt, WorkedRelay.antt and WorkedJumps.antt. Only the lists of names to unfold are made; the prover checks the equations.
+specs/Paper/Figures.antt, Worked.antt, WorkedTags.antt, WorkedLight.antt, WorkedRelay.antt, WorkedJumps.antt and WorkedHalves.antt.
+Only the lists of names to unfold are made; the prover checks the equations.
 With --check nothing is written, and a stale file is an error."""
 import os
 import re
@@ -43,6 +44,7 @@ lines += [
     'use Rattle.lighting.specs.Paper.WorkedLight.{burningGiven, burningSaid}',
     'use Rattle.lighting.specs.Paper.WorkedRelay.{relayGiven, relaySaid}',
     'use Rattle.lighting.specs.Paper.WorkedJumps.{jumpsGiven, jumpsSaid, framesOfJumps, answersToJumps}',
+    'use Rattle.lighting.specs.Paper.WorkedHalves.{halvesGiven, halvesSaid, framesOfHalves, answersToHalves}',
 ]
 text = '\n'.join(lines) + '''
 
@@ -69,6 +71,11 @@ pub jumps-by-hand : jumpsGiven ≡ jumpsSaid
 unfolding bitAnd bitOr ofBits %s
 jumps-by-hand = refl
 
+-- §5: REALs halfway between two units
+pub halves-by-hand : halvesGiven ≡ halvesSaid
+unfolding bitAnd bitOr ofBits %s
+halves-by-hand = refl
+
 -- §1: the octets of commands, the refusals of bodies
 pub tags-written : commandsWritten ≡ theirOctets
 unfolding bitAnd bitOr ofBits toBits round %s
@@ -90,7 +97,11 @@ worked-in-tags = refl
 pub worked-jumps : answers document01 (freshPanel 2 8) framesOfJumps ≡ answersToJumps
 unfolding bitAnd bitOr ofBits toBits round answers %s
 worked-jumps = refl
-''' % ((opened(OF_OUTPUTS),) * 3 + (opened(OF_ACTS), opened(OF_OUTPUTS)) + (opened(OF_PANELS),) * 5)
+
+pub worked-halves : answers document01 (freshPanel 2 8) framesOfHalves ≡ answersToHalves
+unfolding bitAnd bitOr ofBits toBits round answers %s
+worked-halves = refl
+''' % ((opened(OF_OUTPUTS),) * 3 + (opened(OF_ACTS), opened(OF_OUTPUTS), opened(OF_OUTPUTS)) + (opened(OF_PANELS),) * 6)
 if '--check' in sys.argv:
     # the layout is rt fmt's
     if open(OUT).read().split() != text.split():

@@ -18,3 +18,4 @@ pub mod Others
 pub mod Targets
 pub mod Stored
 pub mod Bytes
+pub mod Halves

@@ -37,6 +37,7 @@ use Rattle.lighting.specs.Paper.WorkedTags.{commandsWritten, theirOctets
 use Rattle.lighting.specs.Paper.WorkedLight.{burningGiven, burningSaid}
 use Rattle.lighting.specs.Paper.WorkedRelay.{relayGiven, relaySaid}
 use Rattle.lighting.specs.Paper.WorkedJumps.{jumpsGiven, jumpsSaid, framesOfJumps, answersToJumps}
+use Rattle.lighting.specs.Paper.WorkedHalves.{halvesGiven, halvesSaid, framesOfHalves, answersToHalves}
 
 pub figures : given ≡ said
 unfolding bitAnd bitOr ofBits if_then_else_ allFrom real bits levelOf realOf readOut realFromTo amountOf limitOf inRange unitsOr amountUnits levelUnits amountOperand view slotsOf firstLive winner isLive maskEmptied maskFilled levelSet put levelAt winningLevel clampLit presentValue distanceMoved reachedBy reached progressBy progressValue lit inProcess binaryAt switched relayState inactiveNotBelow withBurning withEffect withCommand withSettings litMilliseconds withBurned timerDue phaseEnd activityDue isDue timerAt emptiedBy expired endMovementOf endMovementBy endMovementOnExpiry delayed nextPhase nextActivity activityAt phaseSlots nextSlots slotsAt afterEvents fire tick ticks lastShort momentAfter goneAt countBefore countSince litFromZero litFromLight litAt litByPace litMoving litInMovement litResting litStretch sooner due burnedBy withBurnedSaturating fireDue eventStep eventSteps advance later endMovementUnlessAbove stored zeroOrEmpty zeroOrEmptyFrom blinks zeroOrEmptyAbove warnsBy warns firstLevel firstPhase warningFrom warnedBy warned endedEmpty endedStored writtenWarned writtenZero writtenCalm writtenBy written activityRelinquished slotRelinquished operationNumber fieldsOf withoutWarning activityWithoutWarning replaced placed movement rampLength target fadedOver fadedTo rampedAt rampedTo jumped wentTo stepUpFrom stepDownFrom steppedUp steppedDown raised halted stopped relinquished effect timed commandedFrom commanded within isLevel isAmount isSlot isPriority meets meetsReal numbered propertyOf same changeTo changeBy changeOf settingsWith relayWith endMovement activityWith burningWith changed minOverMax levelAnswer slotAnswer flag elapsedActive realAnswer realFieldAnswer timeFieldAnswer lastDuration readProperty freshSettings freshRelay freshOutput freshStation answerBytes levelAnswered
@@ -61,6 +62,11 @@ pub jumps-by-hand : jumpsGiven ≡ jumpsSaid
 unfolding bitAnd bitOr ofBits if_then_else_ allFrom real bits levelOf realOf readOut realFromTo amountOf limitOf inRange unitsOr amountUnits levelUnits amountOperand view slotsOf firstLive winner isLive maskEmptied maskFilled levelSet put levelAt winningLevel clampLit presentValue distanceMoved reachedBy reached progressBy progressValue lit inProcess binaryAt switched relayState inactiveNotBelow withBurning withEffect withCommand withSettings litMilliseconds withBurned timerDue phaseEnd activityDue isDue timerAt emptiedBy expired endMovementOf endMovementBy endMovementOnExpiry delayed nextPhase nextActivity activityAt phaseSlots nextSlots slotsAt afterEvents fire tick ticks lastShort momentAfter goneAt countBefore countSince litFromZero litFromLight litAt litByPace litMoving litInMovement litResting litStretch sooner due burnedBy withBurnedSaturating fireDue eventStep eventSteps advance later endMovementUnlessAbove stored zeroOrEmpty zeroOrEmptyFrom blinks zeroOrEmptyAbove warnsBy warns firstLevel firstPhase warningFrom warnedBy warned endedEmpty endedStored writtenWarned writtenZero writtenCalm writtenBy written activityRelinquished slotRelinquished operationNumber fieldsOf withoutWarning activityWithoutWarning replaced placed movement rampLength target fadedOver fadedTo rampedAt rampedTo jumped wentTo stepUpFrom stepDownFrom steppedUp steppedDown raised halted stopped relinquished effect timed commandedFrom commanded within isLevel isAmount isSlot isPriority meets meetsReal numbered propertyOf same changeTo changeBy changeOf settingsWith relayWith endMovement activityWith burningWith changed minOverMax levelAnswer slotAnswer flag elapsedActive realAnswer realFieldAnswer timeFieldAnswer lastDuration readProperty freshSettings freshRelay freshOutput freshStation answerBytes levelAnswered
 jumps-by-hand = refl
 
+-- §5: REALs halfway between two units
+pub halves-by-hand : halvesGiven ≡ halvesSaid
+unfolding bitAnd bitOr ofBits if_then_else_ allFrom real bits levelOf realOf readOut realFromTo amountOf limitOf inRange unitsOr amountUnits levelUnits amountOperand view slotsOf firstLive winner isLive maskEmptied maskFilled levelSet put levelAt winningLevel clampLit presentValue distanceMoved reachedBy reached progressBy progressValue lit inProcess binaryAt switched relayState inactiveNotBelow withBurning withEffect withCommand withSettings litMilliseconds withBurned timerDue phaseEnd activityDue isDue timerAt emptiedBy expired endMovementOf endMovementBy endMovementOnExpiry delayed nextPhase nextActivity activityAt phaseSlots nextSlots slotsAt afterEvents fire tick ticks lastShort momentAfter goneAt countBefore countSince litFromZero litFromLight litAt litByPace litMoving litInMovement litResting litStretch sooner due burnedBy withBurnedSaturating fireDue eventStep eventSteps advance later endMovementUnlessAbove stored zeroOrEmpty zeroOrEmptyFrom blinks zeroOrEmptyAbove warnsBy warns firstLevel firstPhase warningFrom warnedBy warned endedEmpty endedStored writtenWarned writtenZero writtenCalm writtenBy written activityRelinquished slotRelinquished operationNumber fieldsOf withoutWarning activityWithoutWarning replaced placed movement rampLength target fadedOver fadedTo rampedAt rampedTo jumped wentTo stepUpFrom stepDownFrom steppedUp steppedDown raised halted stopped relinquished effect timed commandedFrom commanded within isLevel isAmount isSlot isPriority meets meetsReal numbered propertyOf same changeTo changeBy changeOf settingsWith relayWith endMovement activityWith burningWith changed minOverMax levelAnswer slotAnswer flag elapsedActive realAnswer realFieldAnswer timeFieldAnswer lastDuration readProperty freshSettings freshRelay freshOutput freshStation answerBytes levelAnswered
+halves-by-hand = refl
+
 -- §1: the octets of commands, the refusals of bodies
 pub tags-written : commandsWritten ≡ theirOctets
 unfolding bitAnd bitOr ofBits toBits round if_then_else_ allFrom real bits levelOf realOf readOut realFromTo amountOf limitOf inRange unitsOr amountUnits levelUnits amountOperand view slotsOf firstLive winner isLive maskEmptied maskFilled levelSet put levelAt winningLevel clampLit presentValue distanceMoved reachedBy reached progressBy progressValue lit inProcess binaryAt switched relayState inactiveNotBelow withBurning withEffect withCommand withSettings litMilliseconds withBurned timerDue phaseEnd activityDue isDue timerAt emptiedBy expired endMovementOf endMovementBy endMovementOnExpiry delayed nextPhase nextActivity activityAt phaseSlots nextSlots slotsAt afterEvents fire tick ticks lastShort momentAfter goneAt countBefore countSince litFromZero litFromLight litAt litByPace litMoving litInMovement litResting litStretch sooner due burnedBy withBurnedSaturating fireDue eventStep eventSteps advance later endMovementUnlessAbove stored zeroOrEmpty zeroOrEmptyFrom blinks zeroOrEmptyAbove warnsBy warns firstLevel firstPhase warningFrom warnedBy warned endedEmpty endedStored writtenWarned writtenZero writtenCalm writtenBy written activityRelinquished slotRelinquished operationNumber fieldsOf withoutWarning activityWithoutWarning replaced placed movement rampLength target fadedOver fadedTo rampedAt rampedTo jumped wentTo stepUpFrom stepDownFrom steppedUp steppedDown raised halted stopped relinquished effect timed commandedFrom commanded within isLevel isAmount isSlot isPriority meets meetsReal numbered propertyOf same changeTo changeBy changeOf settingsWith relayWith endMovement activityWith burningWith changed minOverMax levelAnswer slotAnswer flag elapsedActive realAnswer realFieldAnswer timeFieldAnswer lastDuration readProperty freshSettings freshRelay freshOutput freshStation answerBytes levelAnswered done unchanged changedUnless acted served byteAt bigEndian octets kindRow kindLength callsBy isCall fewestOctets fieldSize sizes fieldBytes bytesFrom tagBytes realTag wholeTag tagsOf durationField commandTags zeroFilled taggedBody bodyBytes fieldIn fieldsFrom bodyFields zeroBeyond holdsAtMost wellTagged heldBy operationOf timeOf bothOrNeither fewest ownTags readFields readBody levelFieldRefusal amountFieldRefusal timeFieldRefusal firstRefusal fieldsRefusal commandLasting commandWithDuration commandRequestBy commandOf plainDuration commandRequest taggedRequest writeLevel writeOf emptyOf requestOf callOf called clockOf parseBy parse levelsSound timesSound realsSound settingsSound slotSound slotsSoundFrom spanSound movementSound warningBy warningSound activityBy activitySound timerSound agrees relaySound sound stationSound sameBytes retransmissionOrConflict every countsSound panelSound freshPanel startStep padded restored judgedByNumber judgedByRecord stationOf judgedByStation decide execute frameStep
@@ -82,3 +88,7 @@ worked-in-tags = refl
 pub worked-jumps : answers document01 (freshPanel 2 8) framesOfJumps ≡ answersToJumps
 unfolding bitAnd bitOr ofBits toBits round answers if_then_else_ allFrom real bits levelOf realOf readOut realFromTo amountOf limitOf inRange unitsOr amountUnits levelUnits amountOperand view slotsOf firstLive winner isLive maskEmptied maskFilled levelSet put levelAt winningLevel clampLit presentValue distanceMoved reachedBy reached progressBy progressValue lit inProcess binaryAt switched relayState inactiveNotBelow withBurning withEffect withCommand withSettings litMilliseconds withBurned timerDue phaseEnd activityDue isDue timerAt emptiedBy expired endMovementOf endMovementBy endMovementOnExpiry delayed nextPhase nextActivity activityAt phaseSlots nextSlots slotsAt afterEvents fire tick ticks lastShort momentAfter goneAt countBefore countSince litFromZero litFromLight litAt litByPace litMoving litInMovement litResting litStretch sooner due burnedBy withBurnedSaturating fireDue eventStep eventSteps advance later endMovementUnlessAbove stored zeroOrEmpty zeroOrEmptyFrom blinks zeroOrEmptyAbove warnsBy warns firstLevel firstPhase warningFrom warnedBy warned endedEmpty endedStored writtenWarned writtenZero writtenCalm writtenBy written activityRelinquished slotRelinquished operationNumber fieldsOf withoutWarning activityWithoutWarning replaced placed movement rampLength target fadedOver fadedTo rampedAt rampedTo jumped wentTo stepUpFrom stepDownFrom steppedUp steppedDown raised halted stopped relinquished effect timed commandedFrom commanded within isLevel isAmount isSlot isPriority meets meetsReal numbered propertyOf same changeTo changeBy changeOf settingsWith relayWith endMovement activityWith burningWith changed minOverMax levelAnswer slotAnswer flag elapsedActive realAnswer realFieldAnswer timeFieldAnswer lastDuration readProperty freshSettings freshRelay freshOutput freshStation answerBytes levelAnswered done unchanged changedUnless acted served byteAt bigEndian octets kindRow kindLength callsBy isCall fewestOctets fieldSize sizes fieldBytes bytesFrom tagBytes realTag wholeTag tagsOf durationField commandTags zeroFilled taggedBody bodyBytes fieldIn fieldsFrom bodyFields zeroBeyond holdsAtMost wellTagged heldBy operationOf timeOf bothOrNeither fewest ownTags readFields readBody levelFieldRefusal amountFieldRefusal timeFieldRefusal firstRefusal fieldsRefusal commandLasting commandWithDuration commandRequestBy commandOf plainDuration commandRequest taggedRequest writeLevel writeOf emptyOf requestOf callOf called clockOf parseBy parse levelsSound timesSound realsSound settingsSound slotSound slotsSoundFrom spanSound movementSound warningBy warningSound activityBy activitySound timerSound agrees relaySound sound stationSound sameBytes retransmissionOrConflict every countsSound panelSound freshPanel startStep padded restored judgedByNumber judgedByRecord stationOf judgedByStation decide execute frameStep
 worked-jumps = refl
+
+pub worked-halves : answers document01 (freshPanel 2 8) framesOfHalves ≡ answersToHalves
+unfolding bitAnd bitOr ofBits toBits round answers if_then_else_ allFrom real bits levelOf realOf readOut realFromTo amountOf limitOf inRange unitsOr amountUnits levelUnits amountOperand view slotsOf firstLive winner isLive maskEmptied maskFilled levelSet put levelAt winningLevel clampLit presentValue distanceMoved reachedBy reached progressBy progressValue lit inProcess binaryAt switched relayState inactiveNotBelow withBurning withEffect withCommand withSettings litMilliseconds withBurned timerDue phaseEnd activityDue isDue timerAt emptiedBy expired endMovementOf endMovementBy endMovementOnExpiry delayed nextPhase nextActivity activityAt phaseSlots nextSlots slotsAt afterEvents fire tick ticks lastShort momentAfter goneAt countBefore countSince litFromZero litFromLight litAt litByPace litMoving litInMovement litResting litStretch sooner due burnedBy withBurnedSaturating fireDue eventStep eventSteps advance later endMovementUnlessAbove stored zeroOrEmpty zeroOrEmptyFrom blinks zeroOrEmptyAbove warnsBy warns firstLevel firstPhase warningFrom warnedBy warned endedEmpty endedStored writtenWarned writtenZero writtenCalm writtenBy written activityRelinquished slotRelinquished operationNumber fieldsOf withoutWarning activityWithoutWarning replaced placed movement rampLength target fadedOver fadedTo rampedAt rampedTo jumped wentTo stepUpFrom stepDownFrom steppedUp steppedDown raised halted stopped relinquished effect timed commandedFrom commanded within isLevel isAmount isSlot isPriority meets meetsReal numbered propertyOf same changeTo changeBy changeOf settingsWith relayWith endMovement activityWith burningWith changed minOverMax levelAnswer slotAnswer flag elapsedActive realAnswer realFieldAnswer timeFieldAnswer lastDuration readProperty freshSettings freshRelay freshOutput freshStation answerBytes levelAnswered done unchanged changedUnless acted served byteAt bigEndian octets kindRow kindLength callsBy isCall fewestOctets fieldSize sizes fieldBytes bytesFrom tagBytes realTag wholeTag tagsOf durationField commandTags zeroFilled taggedBody bodyBytes fieldIn fieldsFrom bodyFields zeroBeyond holdsAtMost wellTagged heldBy operationOf timeOf bothOrNeither fewest ownTags readFields readBody levelFieldRefusal amountFieldRefusal timeFieldRefusal firstRefusal fieldsRefusal commandLasting commandWithDuration commandRequestBy commandOf plainDuration commandRequest taggedRequest writeLevel writeOf emptyOf requestOf callOf called clockOf parseBy parse levelsSound timesSound realsSound settingsSound slotSound slotsSoundFrom spanSound movementSound warningBy warningSound activityBy activitySound timerSound agrees relaySound sound stationSound sameBytes retransmissionOrConflict every countsSound panelSound freshPanel startStep padded restored judgedByNumber judgedByRecord stationOf judgedByStation decide execute frameStep
+worked-halves = refl

@@ -4,6 +4,7 @@ use mathlib.Core.Bool.{true, false, true≢false}
 use Prim.Native.Nat.{ℕ, suc, _*_, _^_, _≤_, _<_, min, max}
 use native.Mathlib.Nat.{lt-of-le-of-lt, mul-assoc, mul-le-mul-right}
 use native.Mathlib.Omega.{arith}
+use lib.IntN.{ℤ}
 use lib.Dec.{eqb, lit<}
 use lib.Ieee.{Float, nan, inf, fin, binary32, up, down, round}
 use lib.Ieee.Exact.{HasValue, round-exact}
@@ -53,12 +54,16 @@ module _ (a c n : ℕ) (C : 0 < c) (h : n ≤ greatestLevel) (e : a * onePercent
   back : levelIn a c ≡ Units (returned n)
   back = by-eq n 0 (λ z t. zero-back z) (λ z t. by-lt n leastLevel (λ l u. low-back (omega arith) l) (λ l u. high-back l))
 
+-- a REAL that is a / c is finite and has no minus
+pub by-value : (P : Float → Type 0) (a c : ℕ) (x : Float) → HasValue x false a c → ((m : ℕ) (e : ℤ) → m * up e * c ≡ a * down e → P (fin false m e)) → P x
+by-value P a c nan v f = absurd v
+by-value P a c (inf s) v f = absurd v
+by-value P a c (fin true m e) v f = absurd (true≢false (v .0))
+by-value P a c (fin false m e) v f = f m e (v .1)
+
 value-back : (x : Float) (n : ℕ) → n ≤ greatestLevel → HasValue x false n onePercent → levelOf x ≡ Units (returned n)
 unfolding levelOf
-value-back nan n h v = absurd v
-value-back (inf s) n h v = absurd v
-value-back (fin true m e) n h v = absurd (true≢false (v .0))
-value-back (fin false m e) n h v = back (m * up e) (down e) n (down-pos e) h (v .1)
+value-back x n h v = by-value (λ y. levelOf y ≡ Units (returned n)) n onePercent x v (λ m e same. back (m * up e) (down e) n (down-pos e) h same)
 
 pub round-trip : (n : ℕ) → n ≤ greatestLevel → levelOf (realOf n) ≡ Units (returned n)
 round-trip n h = value-back (realOf n) n h (exact n h)

@@ -1,15 +1,17 @@
--- The rounding fact, proved once: `nearestTo` sees only the value of a fraction, keeps the order, leaves a whole number as it is, and is within a half.
--- All but the last law, `a-half`, hold whichever way the rule sends a half.
+-- The rounding fact, proved once: `nearestTo` sees only the value of a fraction, keeps the order, leaves a whole number as it is, and gives the
+-- nearest number, of two the even one. What stands above `twiceApart` needs of a half only that it becomes the whole part or the next number.
 use mathlib.Core.Path.{_≡_, refl, sym, ap, subst}
 use mathlib.Core.Logic.{inl, inr}
 use mathlib.Core.Bool.{not}
 use Prim.Native.Nat.{ℕ, suc, _+_, _*_, _/_, _%_, _≤_, _<_, compare, Ordering, Ordering·lt, Ordering·eq, Ordering·gt}
-use native.Mathlib.Nat.{le-trans, le-of-eq, le-antisymm, eq-or-lt-of-le, mul-le-mul-right, mul-lt-mul-of-pos-right, div-add-mod', mod-lt, div-one}
+use native.Mathlib.Nat.{le-trans, le-of-eq, le-antisymm, eq-or-lt-of-le, mul-le-mul-right, mul-lt-mul-of-pos-right, eq-of-mul-eq-mul-right, div-add-mod', mod-lt, div-one}
 use native.Mathlib.Omega.{arith}
 use lib.Dec.{T, isLe, isEq, eqb, leb→le, nleb→lt, eqb→eq, eqb-refl}
 use lib.Arith.{lt-of-le-ne}
 use lib.Ieee.Nearest.{div-mono}
 use Rattle.lighting.specs.Paper.Level.{rule, nearestTo}
+use Rattle.lighting.specs.Paper.Commands.{distance}
+use Rattle.lighting.proofs.Split.{by-eq, by-lt}
 
 -- ---- what `compare` says
 abbrev Cmp : Ordering → ℕ → ℕ → Type 0
@@ -89,15 +91,42 @@ nearest-same a b c d B D e = le-antisymm (nearest-mono a b c d B D (le-of-eq e))
 pub nearest-whole : (n : ℕ) → nearestTo n 1 ≡ n
 nearest-whole n = rw (let z : n % 1 ≡ 0 = omega arith in z) (div-one n)
 
--- n is nearest to a / c: they are at most a half apart, n * c * 2 - c ≤ a * 2 ≤ n * c * 2 + c
-pub near : (a c : ℕ) → 0 < c → (nearestTo a c * c * 2 ≤ a * 2 + c) × (a * 2 ≤ nearestTo a c * c * 2 + c)
-near a c C =
-    let e = div-add-mod' a c in
-    let l = mod-lt a C in
-    by-cases (λ n. (n * c * 2 ≤ a * 2 + c) × (a * 2 ≤ n * c * 2 + c)) a c (λ h. omega arith)
-    (λ h. omega (arith, mul-le-mul-right c (rule-ge (a / c) Ordering·eq), mul-le-mul-right c (rule-le (a / c) Ordering·eq)))
-    (λ h. omega arith)
+-- THE ROUNDING FACT (§5): `nearestTo a c` is within half a unit of a / c, and even where it is half a unit from it; and it is the only such number.
+-- Twice |a / c - n|, counted in parts of 1 / c: at half a unit it is c
+abbrev pub twiceApart : ℕ → ℕ → ℕ → ℕ
+twiceApart a c n = distance (a * 2) (n * c * 2)
 
--- and a half goes up
-pub a-half : (q : ℕ) → nearestTo (q * 2 + 1) 2 ≡ q + 1
-a-half q = by-cases (λ n. n ≡ q + 1) (q * 2 + 1) 2 (λ h. omega arith) (λ h. omega arith) (λ h. omega arith)
+pub record Nearest (a c n : ℕ) : Type 0 where
+  pub within : twiceApart a c n ≤ c
+  pub even : twiceApart a c n ≡ c → n % 2 ≡ 0
+
+-- at a half the whole part and the number above it are both half a unit away
+half-way : (a c n : ℕ) → a / c ≤ n → n ≤ suc (a / c) → a % c * 2 ≡ c → twiceApart a c n ≡ c
+half-way a c n low high half =
+    let parts = div-add-mod' a c in
+    by-eq n (a / c) (λ e u. let scaled = ap (λ (z : ℕ). z * c) e in omega arith)
+    (λ e u. let next : n ≡ suc (a / c) = omega arith in let scaled = ap (λ (z : ℕ). z * c) next in omega arith)
+
+pub rounds : (a c : ℕ) → 0 < c → Nearest a c (nearestTo a c)
+rounds a c C =
+    let parts = div-add-mod' a c in
+    let below = mod-lt a C in
+    by-cases (Nearest a c) a c (λ less. record { within = omega arith; even = λ e. absurd (omega arith) })
+    (λ half. record { within = le-of-eq (half-way a c _ (rule-ge (a / c) Ordering·eq) (rule-le (a / c) Ordering·eq) half); even = λ e. omega arith })
+    (λ more. record { within = omega arith; even = λ e. absurd (omega arith) })
+
+-- two such numbers would be neighbours, half a unit from a / c both, and both even
+not-both : (a c n m : ℕ) → 0 < c → Nearest a c n → Nearest a c m → n < m → ⊥
+not-both a c n m C lower upper l =
+    let scaled : suc n * c ≤ m * c = mul-le-mul-right c l in
+    let next : m * c ≡ suc n * c = omega (arith, lower .within, upper .within) in
+    let neighbours : m ≡ suc n = eq-of-mul-eq-mul-right c C m (suc n) next in
+    omega (arith, lower .even (omega (arith, lower .within, upper .within)), upper .even (omega (arith, lower .within, upper .within)))
+
+pub only : (a c n : ℕ) → 0 < c → Nearest a c n → n ≡ nearestTo a c
+only a c n C near =
+    let found = rounds a c C in
+    by-eq n (nearestTo a c) (λ e u. e)
+    (λ e u.
+    by-lt n (nearestTo a c) (λ l s. absurd (not-both a c n (nearestTo a c) C near found l))
+    (λ l s. absurd (not-both a c (nearestTo a c) n C found near (omega arith))))

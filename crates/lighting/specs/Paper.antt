@@ -2,7 +2,7 @@
 -- tests and conjunctions, and the numbers that a set of parameters may move
 pub mod Choice
 pub mod Parameters
--- 'Levels'; big-endian fields
+-- 'Levels', rounded as §5 says; big-endian fields
 pub mod Level
 pub mod Field
 -- 'An output's record': slots, what an output shows, its relay (§3), every way to change its record
@@ -36,10 +36,11 @@ pub mod Demand
 pub mod Calls
 -- §1 in lists: commands sent in tags instead of plain
 pub mod InTags
--- 'Bench figures', and a worked list; §1 to §4 by hand
+-- 'Bench figures', and a worked list; §1 to §5 by hand
 pub mod Figures
 pub mod Worked
 pub mod WorkedTags
 pub mod WorkedLight
 pub mod WorkedRelay
 pub mod WorkedJumps
+pub mod WorkedHalves

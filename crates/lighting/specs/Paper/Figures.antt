@@ -1,6 +1,5 @@
--- 'Bench figures' 1 to 8, and the 'Traps' that one output shows (Worked.antt has those that only a list shows): what the definitions give, beside
--- what the paper says. proofs/Figures.antt proves them equal.
---
+-- 'Bench figures' 1 to 8, figure 4 as §5 of the change requests has it, and the 'Traps' that one output shows (Worked.antt has those that only a list
+-- shows): what the definitions give, beside what the papers say. proofs/Figures.antt proves them equal.
 use mathlib.Core.List.{List, [], _∷_, map}
 use Prim.Native.Nat.{ℕ}
 use Rattle.lighting.specs.Paper.Level.{real, levelOf}
@@ -62,7 +61,7 @@ given =
     map (λ (b : ℕ). levelAnswered (levelOf (real b))) (0x4248_0000 ∷ [])
     ∷ map (λ (b : ℕ). levelAnswered (levelOf (real b))) (0x3f00_0000 ∷ 0x0000_0001 ∷ 0x8000_0000 ∷ [])
     ∷ map (λ (b : ℕ). levelAnswered (levelOf (real b))) (0x42c8_0000 ∷ 0x42c8_0001 ∷ 0xbf80_0000 ∷ 0x7fc0_0000 ∷ [])
-    ∷ map (λ (b : ℕ). levelAnswered (levelOf (real b))) (0x3f80_003f ∷ 0x3f80_0040 ∷ [])
+    ∷ map (λ (b : ℕ). levelAnswered (levelOf (real b))) (0x3f80_0040 ∷ 0x3f80_00c0 ∷ [])
     ∷ (progresses 0 333 fadeUp ∷ progresses 0 999 fadeUp ∷ progresses 0 1000 fadeUp ∷ [])
     ∷ (progresses 0 333 fadeDown ∷ [])
     ∷ (progresses 0 333 rampUp ∷ moves 0 333 rampUp ∷ moves 0 334 rampUp ∷ moves 0 799999 slowRamp ∷ moves 0 800000 slowRamp ∷ [])
@@ -75,13 +74,13 @@ given =
     ∷ [])
     ∷ []
 
--- AND WHAT THE PAPER SAYS
+-- AND WHAT THE PAPERS SAY
 abbrev pub said : List (List Answer)
 said =
     (Value 3276800 ∷ [])
     ∷ (Value 65536 ∷ Value 65536 ∷ Value 0 ∷ [])
     ∷ (Value 6553600 ∷ Refused 11 ∷ Refused 11 ∷ Refused 11 ∷ [])
-    ∷ (Value 65536 ∷ Value 65537 ∷ [])
+    ∷ (Value 65536 ∷ Value 65538 ∷ [])
     ∷ (Value 1091174 ∷ Value 3273523 ∷ Value 3276800 ∷ [])
     ∷ (Value 2185626 ∷ [])
     ∷ (Value 65470 ∷ Value 1 ∷ Value 0 ∷ Value 1 ∷ Value 0 ∷ [])

@@ -1,6 +1,6 @@
 -- A REAL (IEEE 754 binary32, `lib.Ieee`'s Float) as a whole number of 1 / 65,536 percent, and back: 'Levels' and 'Frames'.
 -- A finite REAL `fin s m e` is the exact number a / c, with a = m * up e and c = down e, negative where s is true.
-use Prim.Native.Nat.{ℕ, suc, _*_, _/_, _%_, min, compare, Ordering, Ordering·lt, Ordering·eq, Ordering·gt}
+use Prim.Native.Nat.{ℕ, suc, _+_, _*_, _/_, _%_, min, compare, Ordering, Ordering·lt, Ordering·eq, Ordering·gt}
 use mathlib.Core.Bool.{Bool, true, false}
 use lib.Dec.{leb, ltb, eqb}
 use lib.Ieee.{Float, nan, inf, fin, binary32, up, down, round, ofBits, toBits}
@@ -31,11 +31,11 @@ real b = ofBits binary32 b
 unfoldable pub bits : Float → ℕ
 bits x = toBits binary32 x
 
--- 'the nearest unit, a half going up': THE ROUNDING RULE, the only place that has it. Of q whole units and a rest, by how twice the
--- rest compares with a unit
+-- 'the nearest unit'; §5 of the change requests, 'Halves go to the even unit', in place of 'a half going up': THE ROUNDING RULE, the only place
+-- that has it. Of q whole units and a rest, by how twice the rest compares with a unit; at a half, the even one of q and q + 1
 abbrev pub rule : ℕ → Ordering → ℕ
 rule q Ordering·lt = q
-rule q Ordering·eq = suc q
+rule q Ordering·eq = q + q % 2
 rule q Ordering·gt = suc q
 
 -- the whole number nearest to a / c
@@ -77,7 +77,7 @@ realFromTo k (inf s) = OutOfRange
 realFromTo k (fin true m e) = OutOfRange
 realFromTo k (fin false m e) = fromTo k (m * up e) (down e)
 
--- 'Rates (percent a second) and steps: REAL 0.125 to 100, to the nearest unit, a half going up, never raised to 65,536.'
+-- 'Rates (percent a second) and steps: REAL 0.125 to 100, to the nearest unit, [..] never raised to 65,536.'
 unfoldable pub amountOf : Float → Level
 unfolding realFromTo
 amountOf x = realFromTo 1 x

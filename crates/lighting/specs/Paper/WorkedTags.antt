@@ -59,7 +59,7 @@ theirOctets =
 abbrev sized : ℕ → Bytes → Bytes
 sized size tags = size ∷ (tags ++ replicate (17 - length tags) 0)
 
-abbrev body : Bytes → Bytes
+abbrev pub body : Bytes → Bytes
 body tags = sized (length tags) tags
 
 abbrev refusal : Request → ℕ
