@@ -46,12 +46,13 @@ pub fn bits_of(x: f32) -> u32
 
 // ---- from a REAL to units
 
-// The rounding: the whole number nearest to n / 1,024, a half going up.
+// The rounding: the whole number nearest to n / 1,024, a half going to the even one. What is added carries all that is more than a half to the next number,
+// and a half only from an odd one.
 fn rounded(n: u64) -> u64
     requires { ⌜ n < 2 ^ 34 ⌝ }
     ensures { λ r. ⌜ r ≡ nearestTo n 1024 ⌝ }
 {
-    (n + 512) / 1024
+    (n + 511 + n / 1024 % 2) / 1024
 }
 
 // A rate or a step: from 0.125 to 100.
