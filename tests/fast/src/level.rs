@@ -6,10 +6,10 @@ pub const UNITS_PER_PERCENT: u32 = 65_536;
 pub const LOWEST_LIT: u32 = UNITS_PER_PERCENT;
 pub const HIGHEST: u32 = 100 * UNITS_PER_PERCENT;
 
-/// Scaling by a power of two is exact, and `round` takes a half away from
-/// zero, which is up for what is not negative.
+/// Scaling by a power of two is exact, and a half goes to the even unit as the
+/// machine's own rounding takes it (§5).
 fn nearest_unit(real: f32) -> u32 {
-    (real * UNITS_PER_PERCENT as f32).round() as u32
+    (real * UNITS_PER_PERCENT as f32).round_ties_even() as u32
 }
 
 pub fn level_from_real(real: f32) -> Result<u32, Refusal> {

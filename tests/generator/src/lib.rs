@@ -19,6 +19,8 @@ pub mod sentences;
 pub mod stream;
 pub mod tag_boundary;
 pub mod tag_scenes;
+pub mod tie_scenes;
+pub mod tie_values;
 pub mod timing;
 pub mod values;
 

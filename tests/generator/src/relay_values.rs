@@ -1,6 +1,7 @@
 //! Scenes for refusal 16 (§3): 17 and 18 are written at, beside and beyond one
 //! another.
 
+use plain::frame::GOTO;
 use plain::real::{self, level_as_real};
 use plain::settings::*;
 
@@ -35,6 +36,11 @@ impl Generator {
         // Neither value has anything to do with Min and Max.
         let maximum = self.random.pick(&[HUNDRED_PERCENT, 10.0_f32.to_bits()]);
         self.plan_setting(output, MAXIMUM, maximum);
+        // Mostly active then, so that a write which is refused and still turns
+        // the relay is seen.
+        if self.random.chance(40) {
+            self.plan_command(output, GOTO, &[HUNDRED_PERCENT, 0]);
+        }
         for _ in 0..self.random.between(2, 4) {
             let away = self.random.pick(&AWAY);
             let beside = ((f64::from(other) + away) / 65_536.0) as f32;
@@ -57,6 +63,7 @@ impl Generator {
                         BINARY_ACTIVE_VALUE,
                         BINARY_INACTIVE_VALUE,
                         PRESENT_VALUE,
+                        BINARY_PRESENT_VALUE,
                     ]);
                     self.plan_read(output, read, When::Now);
                 }

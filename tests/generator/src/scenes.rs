@@ -64,16 +64,17 @@ impl Generator {
             return;
         }
         match self.random.below(1_000) {
-            0..=219 => self.plan_warning(output),
-            220..=374 => self.plan_movement(output),
-            375..=479 => self.plan_command_of_rank(output, When::Whenever),
-            480..=554 => self.plan_slot_of_rank(output, When::Whenever),
-            555..=556 => self.plan_calm_and_great_jump(),
-            557..=701 => self.plan_sentence(output),
-            702..=749 => self.plan_tags(output),
-            750..=824 => self.plan_light(output),
-            825..=894 => self.plan_relay(output),
-            895..=924 => self.plan_jump(output),
+            0..=199 => self.plan_warning(output),
+            200..=334 => self.plan_movement(output),
+            335..=439 => self.plan_command_of_rank(output, When::Whenever),
+            440..=514 => self.plan_slot_of_rank(output, When::Whenever),
+            515..=516 => self.plan_calm_and_great_jump(),
+            517..=661 => self.plan_sentence(output),
+            662..=709 => self.plan_tags(output),
+            710..=784 => self.plan_light(output),
+            785..=854 => self.plan_relay(output),
+            855..=884 => self.plan_jump(output),
+            885..=924 => self.plan_tie(output),
             _ => self.plan_anything(output, When::Whenever),
         }
     }
@@ -97,6 +98,7 @@ impl Generator {
                 self.plan(output, Body::Read { property }, When::Due);
             }
             85..=88 => self.plan_refused_tags(output, when),
+            89 => self.plan_refused_bound_in_warning(output, when),
             _ => self.plan_anything(output, when),
         }
     }

@@ -263,7 +263,13 @@ impl Generator {
         self.plan_command_priority(output, 16, When::Now);
         self.plan_property(output, RELINQUISH_DEFAULT, 0);
         let mut length = u64::from(LONGEST);
-        match self.random.below(4) {
+        // Few lists live a day: the first one of a list is a fade, whose level
+        // shows on the way, and what comes later is not.
+        let choices: &[u8] = match self.budget > 3 * length {
+            true => &[0, 1],
+            false => &[2, 3, 3],
+        };
+        match self.random.pick(choices) {
             0 => self.plan_command(output, FADE_TO_OVER, &[level, LONGEST, ABSENT]),
             1 => self.plan_command(output, FADE_TO_OVER, &[level, LONGEST, LONGEST]),
             2 => self.plan_command(output, GOTO, &[level, LONGEST]),

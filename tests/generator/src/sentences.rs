@@ -98,6 +98,18 @@ impl Generator {
         self.plan_property(output, MINIMUM, ONE_PERCENT);
     }
 
+    /// Min over Max is refused in a warning too, and nothing of it changes.
+    pub(crate) fn plan_refused_bound_in_warning(&mut self, output: u8, when: When) {
+        let (minimum, maximum) = ((MINIMUM, 60.0_f32), (MAXIMUM, 30.0_f32));
+        let (taken, refused) = self.random.pick(&[(minimum, maximum), (maximum, minimum)]);
+        let (property, value) = (taken.0, taken.1.to_bits());
+        self.plan(output, Body::WriteProperty { property, value }, when);
+        self.plan_property(output, refused.0, refused.1.to_bits());
+        self.plan_read(output, PRESENT_VALUE, When::Now);
+        self.plan_property(output, MAXIMUM, HUNDRED_PERCENT);
+        self.plan_property(output, MINIMUM, ONE_PERCENT);
+    }
+
     /// STOP raises what is reached to Min, but not zero.
     fn plan_stop_below_minimum(&mut self, output: u8) {
         self.plan_property(output, MAXIMUM, HUNDRED_PERCENT);
@@ -151,8 +163,8 @@ impl Generator {
         self.plan_read(output, IN_PROCESS, When::Now);
     }
 
-    /// A command of any kind that darkens, and no duration.
-    fn plan_command_to(&mut self, output: u8, kind: u8, level: u32) {
+    /// A command of any kind, to a level if it has one, and no duration.
+    pub(crate) fn plan_command_to(&mut self, output: u8, kind: u8, level: u32) {
         match kind {
             FADE_TO_OVER => self.plan_command(output, kind, &[level, 200, ABSENT]),
             RAMP_TO_AT_RATE => self.plan_command(output, kind, &[level, HUNDRED_PERCENT, ABSENT]),
@@ -281,8 +293,14 @@ impl Generator {
     /// A setting at the edges of its range and beside them, and back again.
     fn plan_property_edge(&mut self, output: u8) {
         let times = beside([SHORTEST, LONGEST]);
-        let rates = beside([0.125_f32.to_bits(), HUNDRED_PERCENT]);
-        let mut bounds = beside([ONE_PERCENT, HUNDRED_PERCENT]);
+        // Of its range alone, or of all ranges and of the format.
+        let of_all = self.random.chance(40);
+        let reals = |edges| match of_all {
+            true => values::edge_reals(),
+            false => beside(edges),
+        };
+        let rates = reals([0.125_f32.to_bits(), HUNDRED_PERCENT]);
+        let mut bounds = reals([ONE_PERCENT, HUNDRED_PERCENT]);
         bounds.push(0);
         let (property, edges) = self.random.pick(&[
             (FADE_TIME, &times[..]),
@@ -295,7 +313,10 @@ impl Generator {
             (RELINQUISH_DEFAULT, &bounds),
             (BLINK_ENABLE, &values::EDGE_TIMES),
             (POLARITY, &values::EDGE_TIMES),
-            (LIGHTING_COMMAND_PRIORITY, &[0, 1, 5, 6, 7, 16, 17, 257]),
+            (
+                LIGHTING_COMMAND_PRIORITY,
+                &[0, 1, 5, 6, 7, 16, 17, 257, 272],
+            ),
             (ELAPSED_ACTIVE_TIME, &[0, 1]),
         ]);
         let settings = &self.output(output).settings;

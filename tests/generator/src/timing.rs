@@ -16,6 +16,8 @@ pub enum When {
     Due,
     /// After so many milliseconds, if the budget allows them to be lived.
     After(u64),
+    /// When so many milliseconds of the output's movement are left.
+    Left(u64),
     /// So many milliseconds after the light of the output's movement begins or
     /// ends (§2), or before it.
     Light(i64),
@@ -122,6 +124,12 @@ impl Generator {
             .checked_sub(movement.gone)
     }
 
+    /// Nothing without a movement, or too late for it.
+    fn jump_to_left(&self, output: u8, left: u64) -> Option<u64> {
+        let movement = self.output(output).movement.as_ref()?;
+        (movement.length - movement.gone).checked_sub(left)
+    }
+
     /// Nothing without a movement.
     fn far_jump(&self, output: u8, far: Far, since_start: bool) -> Option<u64> {
         let movement = self.output(output).movement.as_ref()?;
@@ -148,6 +156,7 @@ impl Generator {
             When::Now => 0,
             When::Due => self.due_jump(output),
             When::After(jump) => jump,
+            When::Left(left) => self.jump_to_left(output, left).unwrap_or(0),
             When::Light(offset) => self.light_jump(output, offset).unwrap_or(0),
             When::Far { far, since_start } => self.far_jump(output, far, since_start).unwrap_or(0),
             When::BeforeWrap(before) => self.wrap_jump(before),

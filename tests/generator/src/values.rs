@@ -1,6 +1,7 @@
 //! REALs and whole numbers, good and bad, with a love for the edges.
 
 use crate::random::Random;
+use crate::tie_values::near_tie;
 
 /// The edges of the REAL ranges, of the format, and of the rounding.
 pub fn edge_reals() -> Vec<u32> {
@@ -27,15 +28,6 @@ pub fn edge_reals() -> Vec<u32> {
         edges.extend([bits - 1, bits, bits + 1]);
     }
     edges
-}
-
-/// A REAL at, just below or just above a half of a unit.
-pub fn near_half_of_unit(random: &mut Random) -> u32 {
-    // Below 64 percent the spacing of REALs is finer than half a unit.
-    let unit = random.between(8_192, 64 * 65_536 - 1);
-    let half = (unit as f64 + 0.5) / 65_536.0;
-    let bits = (half as f32).to_bits();
-    bits - 1 + random.below(3) as u32
 }
 
 /// A percentage a person would write.
@@ -68,7 +60,7 @@ pub fn level(random: &mut Random) -> u32 {
     match random.below(100) {
         0..=19 => zero(random),
         20..=69 => lit_level(random),
-        70..=79 => near_half_of_unit(random),
+        70..=79 => near_tie(random),
         80..=95 => random.pick(&edge_reals()),
         _ => random.bits() as u32,
     }
@@ -87,7 +79,7 @@ pub fn rate_or_step(random: &mut Random) -> u32 {
     match random.below(100) {
         0..=59 => usual_percentage(random),
         60..=69 => random.between(0x3E00_0000, 0x3F80_0000) as u32,
-        70..=79 => near_half_of_unit(random),
+        70..=79 => near_tie(random),
         80..=96 => random.pick(&edge_reals()),
         _ => random.bits() as u32,
     }
@@ -98,7 +90,7 @@ pub fn bound(random: &mut Random) -> u32 {
     match random.below(100) {
         0..=54 => usual_percentage(random),
         55..=64 => random.pick(&[0x3F80_0000, 0x42C8_0000]),
-        65..=74 => near_half_of_unit(random),
+        65..=74 => near_tie(random),
         75..=96 => random.pick(&edge_reals()),
         _ => random.bits() as u32,
     }

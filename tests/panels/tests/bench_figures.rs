@@ -37,7 +37,9 @@ fn levels<Chosen: Panel>(mut bench: Bench<Chosen>) {
     assert_eq!(bench.level("80000000"), Ok(0));
     assert_eq!(bench.level("42C80000"), Ok(6_553_600));
     assert_eq!(bench.level("3F80003F"), Ok(65_536));
-    assert_eq!(bench.level("3F800040"), Ok(65_537));
+    // Figure 4 as §5 has it.
+    assert_eq!(bench.level("3F800040"), Ok(65_536));
+    assert_eq!(bench.level("3F8000C0"), Ok(65_538));
     for refused in ["42C80001", "BF800000", "7FC00000", "7F800000"] {
         assert_eq!(bench.level(refused), Err(Answer::Refused(11)));
     }

@@ -159,8 +159,9 @@ fn the_inactive_value_is_below_the_active_one<Chosen: Panel>(mut bench: Bench<Ch
         (0x17, "42C80001", Answer::Refused(11)),
         (0x18, "7FC00000", Answer::Refused(11)),
         (0x18, "BF800000", Answer::Refused(11)),
-        // A half goes up, to the next unit.
-        (0x17, "42340002", Answer::Done),
+        // A half goes to the even unit (§5): down to 45 percent, and up.
+        (0x17, "42340002", Answer::Refused(16)),
+        (0x17, "42340006", Answer::Done),
         (0x17, "42C80000", Answer::Done),
         (0x18, "80000000", Answer::Done),
         (0x17, "3F000000", Answer::Done),

@@ -133,6 +133,7 @@ impl Output {
             }
             _ => unreachable!("the panel gives only commands to this function"),
         }
+        self.note_command_reals(&fields.as_written, tagged, start);
         self.set_duration(kind, priority, fields.as_written.duration);
         self.last = fields.as_written;
         Answer::Done

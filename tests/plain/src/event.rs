@@ -11,6 +11,7 @@ use crate::jump_event::JumpEvent;
 use crate::light_event::LightEvent;
 use crate::relay_event::RelayEvent;
 use crate::tag_event::TaggedEvent;
+use crate::tie_event::TieEvent;
 
 /// A byte that the paper writes in hexadecimal.
 #[derive(Clone, Copy, PartialEq, Eq, PartialOrd, Ord)]
@@ -262,6 +263,8 @@ pub enum Event {
     Relay(RelayEvent),
     /// Far jumps and movements (§4).
     Jumped(JumpEvent),
+    /// REALs between two units (§5).
+    Tie(TieEvent),
 
     // Commands.
     Command {

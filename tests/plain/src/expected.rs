@@ -10,6 +10,7 @@ use crate::light_expected;
 use crate::relay_expected;
 use crate::settings::*;
 use crate::tag_event;
+use crate::tie_expected;
 
 pub(crate) const BOTH: [bool; 2] = [false, true];
 
@@ -26,6 +27,7 @@ pub fn expected() -> Vec<Event> {
     events.extend(light_expected::expected().into_iter().map(Event::Light));
     events.extend(relay_expected::expected().into_iter().map(Event::Relay));
     events.extend(jump_expected::expected().into_iter().map(Event::Jumped));
+    events.extend(tie_expected::expected().into_iter().map(Event::Tie));
     events
 }
 

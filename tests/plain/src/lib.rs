@@ -1,4 +1,4 @@
-//! The plain panel of document 01, with §1 to §4 of document 02: outputs and a
+//! The plain panel of document 01, with §1 to §5 of document 02: outputs and a
 //! time, no stations.
 //!
 //! It is written to be read beside the paper, not to be quick. It lives every
@@ -29,6 +29,8 @@ pub mod slots;
 pub mod tag_event;
 pub mod tag_writer;
 pub mod tags;
+pub mod tie_event;
+pub mod tie_expected;
 pub mod warning;
 
 pub use answer::Answer;

@@ -4,6 +4,7 @@ use crate::event::{Event, Rank, Situation};
 use crate::last_command::LastCommand;
 use crate::movement::Movement;
 use crate::settings::Settings;
+use crate::tie_event::Field;
 use crate::warning::Warning;
 
 /// The slot that a warning takes while it lasts.
@@ -36,6 +37,12 @@ pub struct Output {
     /// How often the relay has turned on the way to the present millisecond,
     /// for the count of events.
     pub turns_on_the_way: u8,
+    /// Where the rate of the last ramp comes from, and its REAL, for the count
+    /// of events (§5).
+    pub ramp_by: Option<(Field, u32)>,
+    /// Properties that hold the even unit below the REAL that was written, for
+    /// the count of events (§5).
+    pub below_a_tie: Vec<u8>,
     /// What was met since the panel last collected it. It decides nothing.
     pub met: Vec<Event>,
 }
@@ -54,6 +61,8 @@ impl Output {
             burning: 0,
             active: false,
             turns_on_the_way: 0,
+            ramp_by: None,
+            below_a_tie: Vec::new(),
             met: Vec::new(),
         }
     }

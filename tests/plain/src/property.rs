@@ -19,6 +19,7 @@ impl Output {
         let shown_before = self.present_value();
         let answer = self.store_property(property, value);
         self.note_relay_write(property, value, answer);
+        self.note_property_real(property, value, answer);
         self.met.push(Event::PropertyWritten {
             property: property.into(),
             answer: answer.into(),
@@ -205,6 +206,7 @@ impl Output {
         if property == PROGRESS_VALUE && below_one_percent.contains(&self.progress_value()) {
             self.met.push(Event::ProgressReadBelowOnePercent);
         }
+        self.note_ramp_reading(property);
     }
 
     /// "Elapsed_Active_Time reads floor(burning / 1,000), at most

@@ -4,6 +4,7 @@ use crate::answer::{self, Answer};
 use crate::event::{Breaker, Event};
 use crate::output::{Output, WARNING_SLOT};
 use crate::real;
+use crate::tie_event::Field;
 
 /// "Priority 0, 6 or over 16" is refused.
 pub fn is_priority(number: u32) -> bool {
@@ -24,6 +25,7 @@ impl Output {
             situation: self.situation(),
             rank: self.rank(priority),
         });
+        self.note_level(Field::Slot, bits);
         if self.warning.is_some() {
             self.write_in_warning(priority, level);
             return Answer::Done;

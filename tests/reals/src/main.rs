@@ -1,10 +1,14 @@
 //! reals [--stride N]: the proved conversions against the machine's floats, over every N-th of the 2^32 patterns (all of them by default),
-//! and every level from 0 to 6,553,600 out and back. Prints what both sides took and refused; status 1 at the first difference.
+//! and every level from 0 to 6,553,600 out and back. Prints what both sides took and refused, and how many of the patterns lie exactly
+//! between two units (§5); status 1 at the first difference.
 
 mod hardware;
 mod proved;
 
+use std::ops::AddAssign;
 use std::process::ExitCode;
+
+use hardware::Even;
 
 /// What a side took and refused.
 #[derive(Clone, Copy, Default, PartialEq, Eq)]
@@ -22,23 +26,63 @@ impl Count {
     }
 }
 
-type Conversion = fn(u32) -> Option<u32>;
+/// What both sides of a conversion did.
+#[derive(Clone, Copy, Default)]
+struct Counts {
+    ours: Count,
+    theirs: Count,
+    /// Patterns exactly between two units, by the even one, to which they went.
+    ties_below: u64,
+    ties_above: u64,
+}
+
+impl AddAssign for Counts {
+    fn add_assign(&mut self, other: Counts) {
+        self.ours.taken += other.ours.taken;
+        self.ours.refused += other.ours.refused;
+        self.theirs.taken += other.theirs.taken;
+        self.theirs.refused += other.theirs.refused;
+        self.ties_below += other.ties_below;
+        self.ties_above += other.ties_above;
+    }
+}
+
+/// One conversion, as both sides have it.
+#[derive(Clone, Copy)]
+struct Conversion {
+    name: &'static str,
+    ours: fn(u32) -> Option<u32>,
+    theirs: fn(u32) -> Option<u32>,
+    /// The least REAL that is rounded.
+    rounded_from: f32,
+}
+
+const CONVERSIONS: [Conversion; 3] = [
+    Conversion { name: "level", ours: proved::level, theirs: hardware::level, rounded_from: 1.0 },
+    Conversion { name: "limit", ours: proved::limit, theirs: hardware::limit, rounded_from: 1.0 },
+    Conversion { name: "amount", ours: proved::amount, theirs: hardware::amount, rounded_from: 0.125 },
+];
 
 /// Both sides of one conversion, over the patterns `first`, `first + step` and so on.
-fn compare(name: &str, ours: Conversion, theirs: Conversion, first: u64, step: u64) -> Result<(Count, Count), String> {
-    let (mut our_count, mut their_count) = (Count::default(), Count::default());
+fn compare(conversion: Conversion, first: u64, step: u64) -> Result<Counts, String> {
+    let mut counts = Counts::default();
     let mut pattern = first;
     while pattern < 1 << 32 {
         let bits = pattern as u32;
-        let (our_units, their_units) = (ours(bits), theirs(bits));
-        if our_units != their_units {
-            return Err(format!("{name}: pattern {bits:08X}: proved {our_units:?}, hardware {their_units:?}"));
+        let (ours, theirs) = ((conversion.ours)(bits), (conversion.theirs)(bits));
+        if ours != theirs {
+            return Err(format!("{}: pattern {bits:08X}: proved {ours:?}, hardware {theirs:?}", conversion.name));
         }
-        our_count.add(our_units);
-        their_count.add(their_units);
+        counts.ours.add(ours);
+        counts.theirs.add(theirs);
+        match hardware::tie(conversion.rounded_from, bits) {
+            Some(Even::Below) => counts.ties_below += 1,
+            Some(Even::Above) => counts.ties_above += 1,
+            None => {}
+        }
         pattern += step;
     }
-    Ok((our_count, their_count))
+    Ok(counts)
 }
 
 /// Every level out and back: the REAL equal to it, and itself again but for 1 to 65,535.
@@ -57,27 +101,23 @@ fn levels() -> Result<u64, String> {
 }
 
 fn run(stride: u64) -> Result<(), String> {
-    let conversions: [(&str, Conversion, Conversion); 3] = [
-        ("level", proved::level, hardware::level),
-        ("limit", proved::limit, hardware::limit),
-        ("amount", proved::amount, hardware::amount),
-    ];
-    for (name, ours, theirs) in conversions {
+    for conversion in CONVERSIONS {
         // two halves side by side
         let halves: Vec<_> = (0..2)
-            .map(|half| std::thread::spawn(move || compare(name, ours, theirs, half * stride, 2 * stride)))
+            .map(|half| std::thread::spawn(move || compare(conversion, half * stride, 2 * stride)))
             .collect();
-        let (mut our_count, mut their_count) = (Count::default(), Count::default());
+        let mut counts = Counts::default();
         for half in halves {
-            let (ours, theirs) = half.join().map_err(|_| "a thread ended early".to_string())??;
-            our_count.taken += ours.taken;
-            our_count.refused += ours.refused;
-            their_count.taken += theirs.taken;
-            their_count.refused += theirs.refused;
+            counts += half.join().map_err(|_| "a thread ended early".to_string())??;
         }
+        let (name, Counts { ours, theirs, ties_below, ties_above }) = (conversion.name, counts);
         println!(
             "{name}: proved took {} and refused {}; hardware took {} and refused {}",
-            our_count.taken, our_count.refused, their_count.taken, their_count.refused
+            ours.taken, ours.refused, theirs.taken, theirs.refused
+        );
+        println!(
+            "{name}: {} exactly between two units; {ties_below} became the even unit below, {ties_above} the one above",
+            ties_below + ties_above
         );
     }
     println!("levels out and back: {}", levels()?);

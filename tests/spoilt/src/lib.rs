@@ -6,6 +6,7 @@
 
 pub mod bought;
 pub mod forms;
+pub mod halves;
 pub mod kept_real;
 pub mod switch;
 pub mod table;
