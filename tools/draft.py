@@ -22,11 +22,11 @@ import subprocess
 import sys
 
 MARK = '-- Drafted by tools/draft.py: nothing here was written by hand.'
-LAWS = 'crates/lighting/proofs/Laws.antt'
-SPECS = ['crates/lighting/specs/*/*.antt', 'crates/*/specs/*.antt']
+LAWS = sorted(glob.glob('crates/lighting_*/proofs/Laws.antt'))
+SPECS = ['crates/lighting_*/specs/*/*.antt', 'crates/*/specs/*.antt']
 # what tools/twin.py, laws.py and figures.py make
 MADE = ['crates/*/proofs/Lent.antt', 'crates/*/proofs/Lent/**', 'crates/*/proofs/**/Proof/Lts.antt', 'crates/*/proofs/**/Proof/Tie.antt',
-        'crates/lighting/proofs/Laws.antt', 'crates/lighting/proofs/Figures.antt', 'docs/SPOILT.md', 'tests/EVENTS.txt']
+        'crates/lighting_*/proofs/Laws.antt', 'crates/lighting_*/proofs/Figures.antt', 'docs/SPOILT.md', 'tests/EVENTS.txt']
 
 
 def read(path):
@@ -83,7 +83,7 @@ class Crate:
             self.bodies[(module, function)] = body
         for other in [name] + DEPENDS.get(name, []):
             self.several.update((other, function) for _, function, clauses, _ in heads(other) if len(clauses) > 1)
-        for path, library in [(LAWS, 'Rattle.lighting.proofs.Laws'), ('crates/%s/proofs/Laws.antt' % name, 'Rattle.%s.proofs.Laws' % name)]:
+        for path, library in [(law, 'Rattle.%s.proofs.Laws' % law.split('/')[1]) for law in LAWS] + [('crates/%s/proofs/Laws.antt' % name, 'Rattle.%s.proofs.Laws' % name)]:
             for law in re.findall(r'^pub (\w+)-on :', read(path) if os.path.exists(path) else '', re.M):
                 self.laws[law] = library
 
@@ -121,7 +121,7 @@ def drafted(crate, path, text):
         answer = 'search needs'
     lines = [MARK]
     if 'ifs' in answer:
-        lines.append('use Rattle.lighting.proofs.Choosing.{ifs}')
+        lines.append('use Rattle.lighting_levels.proofs.Choosing.{ifs}')
     if law and not composes:
         lines.append('use %s.{%s-on}' % (crate.laws[definition], definition))
     if definition and definition not in OPEN:

@@ -1,110 +1,89 @@
 #!/usr/bin/env python3
-"""figures.py [--check]: write crates/lighting/proofs/Figures.antt: that the definitions compute the bench figures, the traps and the worked list of
-specs/Paper/Figures.antt, Worked.antt, WorkedTags.antt, WorkedLight.antt, WorkedRelay.antt, WorkedJumps.antt and WorkedHalves.antt.
-Only the lists of names to unfold are made; the prover checks the equations.
-With --check nothing is written, and a stale file is an error."""
+"""figures.py [--check]: write proofs/Figures.antt of each crate of definitions (crates/lighting_*): that the definitions compute the bench figures,
+the traps and the worked lists, which stand in specs/Paper/Figures.antt and Worked*.antt of the crate. Only the lists of names to unfold are
+made; the prover checks the equations. With --check nothing is written, and a stale file is an error."""
+import glob
 import os
 import re
 import sys
 
-SPECS = 'crates/lighting/specs/%s/%s.antt'
-OUT = 'crates/lighting/proofs/Figures.antt'
-OF_OUTPUTS = 'Choice Level Slots Value Relay Record Passing Light Advance Writing Operations Commands Rows Properties Fresh Answers'.split()
-OF_ACTS = OF_OUTPUTS + ['Acting']
-OF_PANELS = OF_ACTS + 'Field Kinds Tags Frames Rules Copies Panel Judging Executing'.split()
+LEVELS = 'Choice Level'.split()
+OUTPUTS = LEVELS + 'Slots Value Relay Record Passing Light Advance Writing Operations Commands Answers Rows Properties Fresh'.split()
+ACTS = OUTPUTS + 'Requests Acting'.split()
+FRAMES = ACTS + 'Field Kinds Tags Frames'.split()
+PANELS = FRAMES + 'Rules Stations Copies Panel Judging Executing'.split()
+PANEL = 'answers document01 (freshPanel 2 8) '
+
+# of each crate: the name of a theorem, what is given and said, their module, the modules whose definitions unfold, and a comment
+FIGURES = {
+    'lighting_levels': [
+        ('halves-by-hand', 'halvesGiven', 'halvesSaid', 'WorkedHalves', LEVELS, '§5: REALs halfway between two units'),
+    ],
+    'lighting_outputs': [
+        ('figures', 'given', 'said', 'Figures', OUTPUTS, 'bench figures 1 to 8'),
+        ('traps', 'trapsGiven', 'trapsSaid', 'Figures', OUTPUTS, 'the traps that one output shows'),
+        ('burning-by-light', 'burningGiven', 'burningSaid', 'WorkedLight', OUTPUTS, '§2: what outputs have burned'),
+        ('relay-by-hand', 'relayGiven', 'relaySaid', 'WorkedRelay', ACTS, '§3: Binary_Present_Value'),
+        ('jumps-by-hand', 'jumpsGiven', 'jumpsSaid', 'WorkedJumps', OUTPUTS, '§4: movements under way at far jumps'),
+    ],
+    'lighting_frames': [
+        ('tags-written', 'commandsWritten', 'theirOctets', 'WorkedTags', FRAMES, '§1: the octets of commands'),
+        ('tags-refused', 'refused', 'refusals', 'WorkedTags', FRAMES, '§1: the refusals of bodies'),
+    ],
+    'lighting_panel': [
+        ('worked', PANEL + 'frames', 'expected', 'Worked', PANELS, 'bench figures 9 and 10, and the traps of a list'),
+        ('worked-in-tags', PANEL + 'framesInTags', 'answersInTags', 'WorkedTagLists', PANELS, '§1 in a list'),
+        ('worked-jumps', PANEL + 'framesOfJumps', 'answersToJumps', 'WorkedJumpLists', PANELS, '§4 in a list'),
+        ('worked-halves', PANEL + 'framesOfHalves', 'answersToHalves', 'WorkedHalfLists', PANELS, '§5 in a list'),
+    ],
+}
+# what unfolds beside the definitions
+ALSO = {'lighting_levels': 'ofBits', 'lighting_outputs': 'bitAnd bitOr ofBits', 'lighting_frames': 'bitAnd bitOr ofBits toBits round', 'lighting_panel': 'bitAnd bitOr ofBits toBits round answers'}
 
 
-def folder(module):
-    return 'Paper' if os.path.exists(SPECS % ('Paper', module)) else 'Engine'
+def path_of(module):
+    return glob.glob('crates/lighting_*/specs/*/%s.antt' % module)[0]
+
+
+def library(module, crate):
+    _, owner, _, folder, _ = path_of(module).split('/')
+    return 'Rattle.%s.%s.%s' % (owner + '·specs.specs' if owner == crate else owner + '.specs', folder, module)
 
 
 def definitions(module):
-    return re.findall(r'^unfoldable pub (\S+) :', open(SPECS % (folder(module), module)).read(), re.M)
+    return re.findall(r'^unfoldable pub (\S+) :', open(path_of(module)).read(), re.M)
 
 
-def opened(modules):
-    return ' '.join(name for module in modules for name in definitions(module))
+def figures_of(crate, figures):
+    lines = ['-- Made by tools/figures.py: bench figures, traps and worked lists of this layer, each computed by the definitions.', 'use mathlib.Core.Path.{_≡_, refl}']
+    also = ALSO[crate].split()
+    bits = [name for name in also if name.startswith('bit')]
+    if bits:
+        lines.append('use lib.Bits.{%s}' % ', '.join(bits))
+    lines.append('use lib.Ieee.{%s}' % ', '.join(name for name in also if name in ('ofBits', 'toBits', 'round')))
+    if crate == 'lighting_panel':
+        lines.append('use %s.{document01}' % library('Parameters', crate))
+        lines.append('use %s.{answers}' % library('Demand', crate))
+    modules = []
+    for figure in figures:
+        modules += [module for module in figure[4] if module not in modules]
+    for module in modules:
+        lines.append('use %s.{%s}' % (library(module, crate), ', '.join(definitions(module))))
+    for worked in dict.fromkeys(figure[3] for figure in figures):
+        names = [name.split()[-1] for figure in figures if figure[3] == worked for name in figure[1:3]]
+        lines.append('use %s.{%s}' % (library(worked, crate), ', '.join(names)))
+    for name, given, said, _, unfolds, comment in figures:
+        opened = ' '.join(definition for module in unfolds for definition in definitions(module))
+        lines += ['', '-- ' + comment, 'pub %s : %s ≡ %s' % (name, given, said), 'unfolding %s %s' % (ALSO[crate], opened), '%s = refl' % name]
+    return '\n'.join(lines) + '\n'
 
 
-lines = [
-    '-- Made by tools/figures.py: bench figures 1 to 8, the traps of one output, and the worked list with figures 9 and 10, each computed by the',
-    '-- definitions.',
-    'use mathlib.Core.Path.{_≡_, refl}',
-    'use lib.Bits.{bitAnd, bitOr}',
-    'use lib.Ieee.{ofBits, toBits, round}',
-    'use Rattle.lighting.specs.Paper.Parameters.{document01}',
-    'use Rattle.lighting.specs.Paper.Demand.{answers}',
-    'use Rattle.lighting.specs.Paper.Figures.{given, said, trapsGiven, trapsSaid}',
-]
-for module in OF_PANELS:
-    lines.append('use Rattle.lighting.specs.%s.%s.{%s}' % (folder(module), module, ', '.join(definitions(module))))
-lines += [
-    'use Rattle.lighting.specs.Paper.Worked.{frames, expected}',
-    'use Rattle.lighting.specs.Paper.WorkedTags.{commandsWritten, theirOctets, refused, refusals, framesInTags, answersInTags}',
-    'use Rattle.lighting.specs.Paper.WorkedLight.{burningGiven, burningSaid}',
-    'use Rattle.lighting.specs.Paper.WorkedRelay.{relayGiven, relaySaid}',
-    'use Rattle.lighting.specs.Paper.WorkedJumps.{jumpsGiven, jumpsSaid, framesOfJumps, answersToJumps}',
-    'use Rattle.lighting.specs.Paper.WorkedHalves.{halvesGiven, halvesSaid, framesOfHalves, answersToHalves}',
-]
-text = '\n'.join(lines) + '''
-
-pub figures : given ≡ said
-unfolding bitAnd bitOr ofBits %s
-figures = refl
-
-pub traps : trapsGiven ≡ trapsSaid
-unfolding bitAnd bitOr ofBits %s
-traps = refl
-
--- §2: what outputs have burned
-pub burning-by-light : burningGiven ≡ burningSaid
-unfolding bitAnd bitOr ofBits %s
-burning-by-light = refl
-
--- §3: Binary_Present_Value
-pub relay-by-hand : relayGiven ≡ relaySaid
-unfolding bitAnd bitOr ofBits %s
-relay-by-hand = refl
-
--- §4: movements under way at far jumps
-pub jumps-by-hand : jumpsGiven ≡ jumpsSaid
-unfolding bitAnd bitOr ofBits %s
-jumps-by-hand = refl
-
--- §5: REALs halfway between two units
-pub halves-by-hand : halvesGiven ≡ halvesSaid
-unfolding bitAnd bitOr ofBits %s
-halves-by-hand = refl
-
--- §1: the octets of commands, the refusals of bodies
-pub tags-written : commandsWritten ≡ theirOctets
-unfolding bitAnd bitOr ofBits toBits round %s
-tags-written = refl
-
-pub tags-refused : refused ≡ refusals
-unfolding bitAnd bitOr ofBits toBits round %s
-tags-refused = refl
-
--- two outputs, freshly started
-pub worked : answers document01 (freshPanel 2 8) frames ≡ expected
-unfolding bitAnd bitOr ofBits toBits round answers %s
-worked = refl
-
-pub worked-in-tags : answers document01 (freshPanel 2 8) framesInTags ≡ answersInTags
-unfolding bitAnd bitOr ofBits toBits round answers %s
-worked-in-tags = refl
-
-pub worked-jumps : answers document01 (freshPanel 2 8) framesOfJumps ≡ answersToJumps
-unfolding bitAnd bitOr ofBits toBits round answers %s
-worked-jumps = refl
-
-pub worked-halves : answers document01 (freshPanel 2 8) framesOfHalves ≡ answersToHalves
-unfolding bitAnd bitOr ofBits toBits round answers %s
-worked-halves = refl
-''' % ((opened(OF_OUTPUTS),) * 3 + (opened(OF_ACTS), opened(OF_OUTPUTS), opened(OF_OUTPUTS)) + (opened(OF_PANELS),) * 6)
-if '--check' in sys.argv:
-    # the layout is rt fmt's
-    if open(OUT).read().split() != text.split():
-        sys.exit('figures.py: %s is stale: run tools/figures.py' % OUT)
-else:
-    open(OUT, 'w').write(text)
+for crate, figures in FIGURES.items():
+    out = 'crates/%s/proofs/Figures.antt' % crate
+    text = figures_of(crate, figures)
+    if '--check' in sys.argv:
+        # the layout is rt fmt's
+        if not os.path.exists(out) or open(out).read().split() != text.split():
+            sys.exit('figures.py: %s is stale: run tools/figures.py' % out)
+    else:
+        open(out, 'w').write(text)

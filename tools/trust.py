@@ -66,12 +66,12 @@ for name in crates():
 for fault in faults:
     print('trust.py: ' + fault)
 
-paper, engine = folder('crates/lighting/specs/Paper'), folder('crates/lighting/specs/Engine')
+paper, engine = folder('crates/lighting_*/specs/Paper'), folder('crates/lighting_*/specs/Engine')
 rows = [
-    ('the paper as definitions', '`crates/lighting/specs/Paper`', '%d in %d files' % (paper[1], paper[0])),
-    ('of these the statement of demand 3', '`Paper/Demand.antt`', str(lines(read('crates/lighting/specs/Paper/Demand.antt')))),
-    ('the engine as definitions: for demand 3 nobody need believe them', '`crates/lighting/specs/Engine`', '%d in %d files' % (engine[1], engine[0])),
-    ('the types', '`crates/lighting/src/lib.rt`', str(lines(read('crates/lighting/src/lib.rt')))),
+    ('the paper as definitions', '`specs/Paper` of `crates/lighting_*`', '%d in %d files' % (paper[1], paper[0])),
+    ('of these the statement of demand 3', '`lighting_panel/specs/Paper/Demand.antt`', str(lines(read('crates/lighting_panel/specs/Paper/Demand.antt')))),
+    ('the engine as definitions: for demand 3 nobody need believe them', '`specs/Engine` of `crates/lighting_*`', '%d in %d files' % (engine[1], engine[0])),
+    ('the types', '`src/lib.rt` of `crates/lighting_*`', str(sum(lines(read(p)) for p in glob.glob('crates/lighting_*/src/lib.rt')))),
     ('the contract of `panel::start`', '`crates/panel/src/lib.rt`', str(contract('start'))),
     ('the contract of `panel::frame`', '`crates/panel/src/lib.rt`', str(contract('frame'))),
 ]

@@ -1,10 +1,10 @@
 // A command's duration, by value.
 ghost use mathlib.Core.Path.{_≡_};
 ghost use Prim.Native.Nat.{_<_, _^_, _+_};
-ghost use Rattle.lighting.specs.Paper.Commands.{timed};
-ghost use Rattle.lighting.specs.declared.Timer.the-variants.{Running};
-use lighting::Duration;
-use lighting::Timer;
+ghost use Rattle.lighting_outputs.specs.Paper.Commands.{timed};
+ghost use Rattle.lighting_outputs.specs.declared.Timer.the-variants.{Running};
+use lighting_outputs::Duration;
+use lighting_outputs::Timer;
 
 // 'slot p empties d ms later': milliseconds, as they were sent.
 fn running(t: u64, p: u8, d: u32) -> Timer

@@ -3,15 +3,15 @@
 // any warning ended; `g` is a target, in units.
 ghost use mathlib.Core.Path.{_≡_};
 ghost use Prim.Native.Nat.{_<_, _^_, max};
-ghost use Rattle.lighting.specs.Paper.Commands.{withoutWarning, activityWithoutWarning, jumped, wentTo, steppedUp, steppedDown, raised, halted, stopped, relinquished, effect, commandedFrom, commanded};
-use lighting::Activity;
-use lighting::Command;
-use lighting::Effect;
-use lighting::Operation;
-use lighting::Output;
-use lighting::SLOT_6;
-use lighting::Settings;
-use lighting::Slots;
+ghost use Rattle.lighting_outputs.specs.Paper.Commands.{withoutWarning, activityWithoutWarning, jumped, wentTo, steppedUp, steppedDown, raised, halted, stopped, relinquished, effect, commandedFrom, commanded};
+use lighting_outputs::Activity;
+use lighting_outputs::Command;
+use lighting_outputs::Effect;
+use lighting_outputs::Operation;
+use lighting_outputs::Output;
+use lighting_outputs::SLOT_6;
+use lighting_outputs::Settings;
+use lighting_outputs::Slots;
 
 // ---- 'and first ends any warning by emptying slot 6'
 

@@ -3,13 +3,14 @@
 // target, in units.
 ghost use mathlib.Core.Path.{_≡_};
 ghost use Prim.Native.Nat.{_<_, _≤_, _^_};
-ghost use Rattle.lighting.specs.Paper.Commands.{replaced, placed, movement, distance, rampLength, target, fadedOver, fadedTo, rampedAt, rampedTo};
-use lighting::Activity;
-use lighting::Effect;
-use lighting::Movement;
-use lighting::Pace;
-use lighting::Settings;
-use lighting::Slots;
+ghost use Rattle.lighting_outputs.specs.Paper.Commands.{replaced, placed, movement, rampLength, target, fadedOver, fadedTo, rampedAt, rampedTo};
+ghost use Rattle.lighting_levels.specs.Paper.Level.{distance};
+use lighting_outputs::Activity;
+use lighting_outputs::Effect;
+use lighting_outputs::Movement;
+use lighting_outputs::Pace;
+use lighting_outputs::Settings;
+use lighting_outputs::Slots;
 
 // 'If p is then the winner [w] it replaces the movement; if not, an existing movement goes on'.
 fn replace(w: u32, p: u8, new: Activity, old: Activity) -> Activity

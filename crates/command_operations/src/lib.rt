@@ -1,10 +1,10 @@
 // The lighting operations: their numbers, and the fields that each has.
 ghost use mathlib.Core.Path.{_≡_};
-ghost use Rattle.lighting.specs.Paper.Operations.{operationNumber, noFields, levelAlone, stepAlone, fieldsOf};
-use lighting::Operation;
-use lighting::OperationFields;
-use lighting::RealField;
-use lighting::TimeField;
+ghost use Rattle.lighting_outputs.specs.Paper.Operations.{operationNumber, noFields, levelAlone, stepAlone, fieldsOf};
+use lighting_outputs::Operation;
+use lighting_outputs::OperationFields;
+use lighting_outputs::RealField;
+use lighting_outputs::TimeField;
 
 // The operation's kind, less 10.
 pub fn operation_number(k: Operation) -> u32

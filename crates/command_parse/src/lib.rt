@@ -1,17 +1,18 @@
 // A command, read: an operation with its fields and its duration as a request, or the refusal that the first field out of range meets.
 ghost use mathlib.Core.Path.{_≡_};
-ghost use Rattle.lighting.specs.Paper.Parameters.{document01};
-ghost use Rattle.lighting.specs.Paper.Answers.{levelRefusal};
-ghost use Rattle.lighting.specs.Paper.Frames.{levelFieldRefusal, amountFieldRefusal, timeFieldRefusal, firstRefusal, fieldsRefusal, commandLasting, commandWithDuration, commandRequestBy, commandOf, plainDuration, commandRequest, taggedRequest};
-use lighting::Command;
-use lighting::Duration;
-use lighting::Level;
-use lighting::Operation;
-use lighting::OperationFields;
-use lighting::RealField;
-use lighting::Request;
-use lighting::TaggedReading;
-use lighting::TimeField;
+ghost use Rattle.lighting_outputs.specs.Paper.Parameters.{document01};
+ghost use Rattle.lighting_outputs.specs.Paper.Answers.{levelRefusal};
+ghost use Rattle.lighting_outputs.specs.Paper.Requests.{levelFieldRefusal, amountFieldRefusal, timeFieldRefusal, firstRefusal, fieldsRefusal, commandLasting, commandWithDuration, commandRequestBy, commandOf, plainDuration, commandRequest};
+ghost use Rattle.lighting_frames.specs.Paper.Frames.{taggedRequest};
+use lighting_frames::TaggedReading;
+use lighting_levels::Level;
+use lighting_outputs::Command;
+use lighting_outputs::Duration;
+use lighting_outputs::Operation;
+use lighting_outputs::OperationFields;
+use lighting_outputs::RealField;
+use lighting_outputs::Request;
+use lighting_outputs::TimeField;
 
 // ---- the ranges: 0, or the refusal of a field that is out of its range
 

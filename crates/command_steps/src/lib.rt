@@ -1,9 +1,9 @@
 // Where a step leads, by value: f is the level from which it starts, x the step, in units.
 ghost use mathlib.Core.Path.{_≡_};
 ghost use Prim.Native.Nat.{_<_, _+_, _-_};
-ghost use Rattle.lighting.specs.Paper.Value.{clamp};
-ghost use Rattle.lighting.specs.Paper.Commands.{stepUpFrom, stepDownFrom};
-use lighting::Settings;
+ghost use Rattle.lighting_outputs.specs.Paper.Value.{clamp};
+ghost use Rattle.lighting_outputs.specs.Paper.Commands.{stepUpFrom, stepDownFrom};
+use lighting_outputs::Settings;
 
 // 'Step up: s plus step [..] brought into Min..Max'. The sum is made in 64 bits.
 pub fn step_up_from(c: Settings, f: u32, x: u32) -> u32

@@ -3,7 +3,7 @@
 ghost use mathlib.Core.Path.{_≡_};
 ghost use Prim.Native.Nat.{_+_, _<_, min};
 ghost use lib.ListN.{take, drop};
-ghost use Rattle.lighting.specs.Paper.Field.{byteAt, bigEndian};
+ghost use Rattle.lighting_levels.specs.Paper.Field.{byteAt, bigEndian};
 
 pub fn byte_at(s: &[u8], at: usize) -> u8
     ensures { λ r. ⌜ r ≡ byteAt (now (s .entry)) at ⌝ }

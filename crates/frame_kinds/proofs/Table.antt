@@ -4,9 +4,9 @@ use mathlib.Core.Logic.{_≢_}
 use Prim.Native.Nat.{ℕ, suc, _-_, _≤_, _<_}
 use native.Mathlib.Omega.{arith}
 use lib.ListN.{getD, List·getD-eq-default}
-use Rattle.lighting.specs.Paper.Kinds.{unknownRow, plainRows, commandRows, kindRow}
-use Rattle.lighting.specs.declared.KindRow.{KindRow}
-use Rattle.lighting.proofs.Choosing.{if-le, if-nle}
+use Rattle.lighting_frames.specs.Paper.Kinds.{unknownRow, plainRows, commandRows, kindRow}
+use Rattle.lighting_frames.specs.declared.KindRow.{KindRow}
+use Rattle.lighting_levels.proofs.Choosing.{if-le, if-nle}
 
 pub kindRow-on : (k n : ℕ) (r : KindRow) → k ≡ n → r ≡ kindRow n → r ≡ kindRow k
 kindRow-on k n r e p = rw e p

@@ -1,10 +1,10 @@
 // The table of kinds: the kind byte fixes the length, and says whether a frame is a call and what it asks.
 ghost use mathlib.Core.Path.{_≡_};
 ghost use Prim.Native.Nat.{_<_, _≤_};
-ghost use Rattle.lighting.specs.Paper.Kinds.{callRow, kindRow, kindLength, callsBy, isCall};
-use lighting::Action;
-use lighting::Kind;
-use lighting::KindRow;
+ghost use Rattle.lighting_frames.specs.Paper.Kinds.{callRow, kindRow, kindLength, callsBy, isCall};
+use lighting_frames::Action;
+use lighting_frames::Kind;
+use lighting_frames::KindRow;
 
 fn call_row(length: u32, action: Action) -> KindRow
     ensures { λ r. ⌜ r ≡ callRow length action ⌝ }

@@ -1,18 +1,19 @@
 // A string of bytes, read: refusals 2 to 5, a clock, or a call with its request. Nothing here looks at a panel but for its number of
 // outputs.
 ghost use mathlib.Core.Path.{_≡_};
-ghost use Rattle.lighting.specs.Paper.Parameters.{document01};
-ghost use Rattle.lighting.specs.Paper.Level.{real};
-ghost use Rattle.lighting.specs.Paper.Field.{bigEndian};
-ghost use Rattle.lighting.specs.Paper.Properties.{propertyOf, changeOf};
-ghost use Rattle.lighting.specs.Paper.Frames.{writeLevel, writeOf, emptyOf, requestOf, callOf, called, clockOf, parseBy, parse};
-use lighting::Action;
-use lighting::Call;
-use lighting::Frame;
-use lighting::Kind;
-use lighting::Level;
-use lighting::Operation;
-use lighting::Request;
+ghost use Rattle.lighting_outputs.specs.Paper.Parameters.{document01};
+ghost use Rattle.lighting_levels.specs.Paper.Level.{real};
+ghost use Rattle.lighting_levels.specs.Paper.Field.{bigEndian};
+ghost use Rattle.lighting_outputs.specs.Paper.Properties.{propertyOf, changeOf};
+ghost use Rattle.lighting_outputs.specs.Paper.Requests.{writeLevel, writeOf, emptyOf};
+ghost use Rattle.lighting_frames.specs.Paper.Frames.{requestOf, callOf, called, clockOf, parseBy, parse};
+use lighting_frames::Action;
+use lighting_frames::Call;
+use lighting_frames::Frame;
+use lighting_frames::Kind;
+use lighting_levels::Level;
+use lighting_outputs::Operation;
+use lighting_outputs::Request;
 
 // ---- kinds 02 to 05
 

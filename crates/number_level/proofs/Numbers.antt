@@ -6,7 +6,7 @@ use lib.Dec.{T}
 use lib.Ieee.{Float, nan, inf, fin, binary32, up, down, eq, ne, nanBits, isNan, ofBits}
 use lib.Ieee.Bits.{nanBits-is}
 use borrow.Author.Tests.{eq-eqb}
-use Rattle.lighting.proofs.Patterns.{only-nan}
+use Rattle.lighting_outputs.proofs.Patterns.{only-nan}
 
 -- only a NaN differs from itself
 pub differs : (x : Float) → ne x x ≡ isNan x

@@ -14,10 +14,10 @@ use lib.Ieee.Back.{unsigned-back}
 use lib.Ieee.Scale.{round-same}
 use lib.Ieee.Positive.{positive, le→cross, between}
 use borrow.Author.Tests.{le-leb}
-use Rattle.lighting.specs.Paper.Choice.{if_then_else_}
-use Rattle.lighting.specs.declared.Level.the-variants.{Units}
-use Rattle.lighting.specs.Paper.Level.{nearestTo, amountOf}
-use Rattle.lighting.proofs.Rounding.{nearest-same, nearest-mono}
+use Rattle.lighting_levels.specs.Paper.Choice.{if_then_else_}
+use Rattle.lighting_levels.specs.declared.Level.the-variants.{Units}
+use Rattle.lighting_levels.specs.Paper.Level.{nearestTo, amountOf}
+use Rattle.lighting_levels.proofs.Rounding.{nearest-same, nearest-mono}
 
 abbrev pub eighth : Float
 eighth = fin false 1 (negsuc 2)

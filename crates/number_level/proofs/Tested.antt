@@ -9,10 +9,10 @@ use lib.Ieee.{Float, nan, inf, fin, up, down, lt, le, eq}
 use lib.Ieee.Fits.{down-pos, and-l}
 use lib.Ieee.Order.{le-of-values}
 use borrow.Author.Tests.{ltb-true, ltb-false, le-ltb, lt-ltb, le-leb, lt-leb, eq-eqb, ne-eqb}
-use Rattle.lighting.specs.declared.Level.{Level}
-use Rattle.lighting.specs.declared.Level.the-variants.{Units, OutOfRange}
-use Rattle.lighting.specs.Paper.Choice.{if_then_else_, _also_}
-use Rattle.lighting.specs.Paper.Level.{amountOf, limitOf, levelOf}
+use Rattle.lighting_levels.specs.declared.Level.{Level}
+use Rattle.lighting_levels.specs.declared.Level.the-variants.{Units, OutOfRange}
+use Rattle.lighting_levels.specs.Paper.Choice.{if_then_else_, _also_}
+use Rattle.lighting_levels.specs.Paper.Level.{amountOf, limitOf, levelOf}
 use Rattle.number_level.proofs.Scaled.{eighth, hundred}
 
 abbrev pub one : Float

@@ -2,11 +2,11 @@
 ghost use mathlib.Core.Path.{_≡_};
 ghost use Prim.Native.Nat.{_≤_, _<_, _^_, min};
 ghost use lib.Ieee.{binary32, nanBits, isNan};
-ghost use Rattle.lighting.specs.Paper.Level.{greatestLevel, leastAmount, real, bits, nearestTo, amountOf, limitOf, levelOf, inRange, unitsOr, amountUnits, levelUnits, operandBy, amountOperand, realOf, readOut};
-use lighting::GREATEST_LEVEL;
-use lighting::LEAST_LEVEL;
-use lighting::Level;
-use lighting::Operand;
+ghost use Rattle.lighting_levels.specs.Paper.Level.{greatestLevel, leastAmount, real, bits, nearestTo, amountOf, limitOf, levelOf, inRange, unitsOr, amountUnits, levelUnits, operandBy, amountOperand, realOf, readOut};
+use lighting_levels::GREATEST_LEVEL;
+use lighting_levels::LEAST_LEVEL;
+use lighting_levels::Level;
+use lighting_levels::Operand;
 
 // ---- patterns
 

@@ -3,14 +3,14 @@ pub mod rows;
 
 ghost use mathlib.Core.Path.{_≡_};
 ghost use Prim.Native.Nat.{min};
-ghost use Rattle.lighting.specs.Paper.Parameters.{document01};
-ghost use Rattle.lighting.specs.Paper.Rows.{rowOf, within, isLevel, isSlot, isPriority, meets};
-ghost use Rattle.lighting.specs.declared.Property.the-variants.{FadeTime};
-use lighting::GREATEST_LEVEL;
-use lighting::LEAST_LEVEL;
-use lighting::NO_SLOT;
-use lighting::Property;
-use lighting::SLOT_6;
+ghost use Rattle.lighting_outputs.specs.Paper.Parameters.{document01};
+ghost use Rattle.lighting_outputs.specs.Paper.Rows.{rowOf, within, isLevel, isSlot, isPriority, meets};
+ghost use Rattle.lighting_outputs.specs.declared.Property.the-variants.{FadeTime};
+use lighting_levels::GREATEST_LEVEL;
+use lighting_levels::LEAST_LEVEL;
+use lighting_outputs::NO_SLOT;
+use lighting_outputs::Property;
+use lighting_outputs::SLOT_6;
 
 // Both ends belong to the range.
 pub fn is_within(low: u32, high: u32, v: u32) -> bool

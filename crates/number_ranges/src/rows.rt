@@ -1,12 +1,12 @@
 // What a property's value must be: one row a property. What is kept of it meets the row: a write is judged by it, and so is a record.
 ghost use mathlib.Core.Path.{_≡_};
-ghost use Rattle.lighting.specs.Paper.Parameters.{document01};
-ghost use Rattle.lighting.specs.Paper.Level.{real};
-ghost use Rattle.lighting.specs.Paper.Rows.{rowOf, isAmount, meets, meetsReal};
-use lighting::GREATEST_LEVEL;
-use lighting::LEAST_LEVEL;
-use lighting::Property;
-use lighting::Range;
+ghost use Rattle.lighting_outputs.specs.Paper.Parameters.{document01};
+ghost use Rattle.lighting_levels.specs.Paper.Level.{real};
+ghost use Rattle.lighting_outputs.specs.Paper.Rows.{rowOf, isAmount, meets, meetsReal};
+use lighting_levels::GREATEST_LEVEL;
+use lighting_levels::LEAST_LEVEL;
+use lighting_outputs::Property;
+use lighting_outputs::Range;
 
 // In milliseconds: `document01` of the definitions has the same greatest values.
 const LONGEST_FADE: u32 = 86400000;

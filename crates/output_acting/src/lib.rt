@@ -2,14 +2,14 @@
 // any record at all; the time comes from six bytes.
 ghost use mathlib.Core.Path.{_≡_};
 ghost use Prim.Native.Nat.{_<_, _^_};
-ghost use Rattle.lighting.specs.Paper.Properties.{settingsWith, relayWith, minOverMax};
-ghost use Rattle.lighting.specs.Paper.Relay.{inactiveNotBelow};
-ghost use Rattle.lighting.specs.Paper.Acting.{done, unchanged, changedUnless, acted};
-use lighting::Answer;
-use lighting::Outcome;
-use lighting::Output;
-use lighting::Property;
-use lighting::Request;
+ghost use Rattle.lighting_outputs.specs.Paper.Properties.{settingsWith, relayWith, minOverMax};
+ghost use Rattle.lighting_outputs.specs.Paper.Relay.{inactiveNotBelow};
+ghost use Rattle.lighting_outputs.specs.Paper.Acting.{done, unchanged, changedUnless, acted};
+use lighting_outputs::Answer;
+use lighting_outputs::Outcome;
+use lighting_outputs::Output;
+use lighting_outputs::Property;
+use lighting_outputs::Request;
 
 // The output changed, and judged.
 fn done(o: Output) -> Outcome

@@ -1,13 +1,13 @@
 // The record rules on what is under way: a movement, a warning, a duration. Slots are counted from 0: 7 to 16 are 6 to 15.
 ghost use mathlib.Core.Path.{_≡_};
 ghost use Prim.Native.Nat.{_<_};
-ghost use Rattle.lighting.specs.Paper.Parameters.{document01};
-ghost use Rattle.lighting.specs.Paper.Rules.{spanSound, movementSound, warningBy, warningSound, activityBy, timerSound};
-use lighting::Activity;
-use lighting::Movement;
-use lighting::NO_SLOT;
-use lighting::Timer;
-use lighting::Warning;
+ghost use Rattle.lighting_outputs.specs.Paper.Parameters.{document01};
+ghost use Rattle.lighting_outputs.specs.Paper.Rules.{spanSound, movementSound, warningBy, warningSound, activityBy, timerSound};
+use lighting_outputs::Activity;
+use lighting_outputs::Movement;
+use lighting_outputs::NO_SLOT;
+use lighting_outputs::Timer;
+use lighting_outputs::Warning;
 use number_ranges::is_slot;
 use number_ranges::is_within;
 

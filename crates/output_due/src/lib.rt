@@ -1,17 +1,17 @@
 // What falls due on an output at one moment: a duration, a phase of a warning, the end of a movement. By value, and on any record at all.
 ghost use mathlib.Core.Path.{_≡_};
 ghost use mathlib.Core.List.{[], _∷_};
-ghost use Rattle.lighting.specs.Paper.Slots.{slot6, emptied};
-ghost use Rattle.lighting.specs.Paper.Passing.{timerDue, phaseEnd, activityDue, isDue, timerAt, emptiedBy, expired, endMovementOf, endMovementBy, endMovementOnExpiry, delayed, nextPhase, nextActivity, activityAt, phaseSlots, nextSlots, slotsAt, afterEvents, fire};
-ghost use Rattle.lighting.specs.Engine.Advance.{anyDue};
-use lighting::Activity;
-use lighting::Moment;
-use lighting::Output;
-use lighting::Phase;
-use lighting::SLOT_6;
-use lighting::Slots;
-use lighting::Timer;
-use lighting::Warning;
+ghost use Rattle.lighting_outputs.specs.Paper.Slots.{slot6, emptied};
+ghost use Rattle.lighting_outputs.specs.Paper.Passing.{timerDue, phaseEnd, activityDue, isDue, timerAt, emptiedBy, expired, endMovementOf, endMovementBy, endMovementOnExpiry, delayed, nextPhase, nextActivity, activityAt, phaseSlots, nextSlots, slotsAt, afterEvents, fire};
+ghost use Rattle.lighting_outputs.specs.Engine.Advance.{anyDue};
+use lighting_outputs::Activity;
+use lighting_outputs::Moment;
+use lighting_outputs::Output;
+use lighting_outputs::Phase;
+use lighting_outputs::SLOT_6;
+use lighting_outputs::Slots;
+use lighting_outputs::Timer;
+use lighting_outputs::Warning;
 
 // ---- when
 

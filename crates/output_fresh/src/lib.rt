@@ -1,22 +1,23 @@
 // Fresh records, by value.
 ghost use mathlib.Core.Path.{_≡_};
-ghost use Rattle.lighting.specs.Paper.Fresh.{freshSettings, freshRelay, freshOutput, freshStation};
-use lighting::Activity;
-use lighting::Answer;
-use lighting::Command;
-use lighting::Duration;
-use lighting::GREATEST_LEVEL;
-use lighting::LEAST_LEVEL;
-use lighting::LONGEST_FRAME;
-use lighting::Operation;
-use lighting::Output;
-use lighting::Relay;
-use lighting::SLOT_16;
-use lighting::SLOTS;
-use lighting::Settings;
-use lighting::Slots;
-use lighting::Station;
-use lighting::Timer;
+ghost use Rattle.lighting_outputs.specs.Paper.Fresh.{freshSettings, freshRelay, freshOutput};
+ghost use Rattle.lighting_frames.specs.Paper.Stations.{freshStation};
+use lighting_frames::LONGEST_FRAME;
+use lighting_frames::Station;
+use lighting_levels::GREATEST_LEVEL;
+use lighting_levels::LEAST_LEVEL;
+use lighting_outputs::Activity;
+use lighting_outputs::Answer;
+use lighting_outputs::Command;
+use lighting_outputs::Duration;
+use lighting_outputs::Operation;
+use lighting_outputs::Output;
+use lighting_outputs::Relay;
+use lighting_outputs::SLOT_16;
+use lighting_outputs::SLOTS;
+use lighting_outputs::Settings;
+use lighting_outputs::Slots;
+use lighting_outputs::Timer;
 
 fn fresh_settings() -> Settings
     ensures { λ r. ⌜ r ≡ freshSettings ⌝ }

@@ -6,11 +6,11 @@ use Prim.Native.Nat.{ℕ, zero, suc, _-_, _*_, _/_, _≤_, _<_, min}
 use native.Mathlib.Nat.{one-mul, mul-zero, mul-comm, zero-div, le-div-iff-mul-le, div-lt-iff-lt-mul}
 use native.Mathlib.Omega.{arith}
 use borrow.Author.Tests.{ne-eqb}
-use Rattle.lighting.specs.Paper.Choice.{if_then_else_}
-use Rattle.lighting.specs.Engine.Light.{lastShort, momentAfter, goneAt}
-use Rattle.lighting.specs.declared.Moment.{Moment}
-use Rattle.lighting.specs.declared.Movement.{Movement}
-use Rattle.lighting.proofs.Split.{by-lt, leb-no}
+use Rattle.lighting_levels.specs.Paper.Choice.{if_then_else_}
+use Rattle.lighting_outputs.specs.Engine.Light.{lastShort, momentAfter, goneAt}
+use Rattle.lighting_outputs.specs.declared.Moment.{Moment}
+use Rattle.lighting_outputs.specs.declared.Movement.{Movement}
+use Rattle.lighting_levels.proofs.Split.{by-lt, leb-no}
 
 -- something goes: the moment after the last millisecond short
 gone-by : (u s w : ℕ) (m : Movement) → (s ≡ 0 → ⊥) → goneAt u s w m ≡ momentAfter (lastShort u s w) m

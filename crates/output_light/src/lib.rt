@@ -3,13 +3,13 @@
 ghost use mathlib.Core.Path.{_≡_};
 ghost use Prim.Native.Nat.{_<_, _-_, max};
 ghost use lib.Dec.{eqb};
-ghost use Rattle.lighting.specs.Paper.Value.{presentValue, inProcess};
-ghost use Rattle.lighting.specs.Engine.Light.{lastShort, momentAfter, goneAt, countBefore, countSince, litFromZero, litFromLight, litAt, litMoving, litInMovement, litResting, litStretch};
-use lighting::Activity;
-use lighting::Moment;
-use lighting::Movement;
-use lighting::Output;
-use lighting::Pace;
+ghost use Rattle.lighting_outputs.specs.Paper.Value.{presentValue, inProcess};
+ghost use Rattle.lighting_outputs.specs.Engine.Light.{lastShort, momentAfter, goneAt, countBefore, countSince, litFromZero, litFromLight, litAt, litMoving, litInMovement, litResting, litStretch};
+use lighting_outputs::Activity;
+use lighting_outputs::Moment;
+use lighting_outputs::Movement;
+use lighting_outputs::Output;
+use lighting_outputs::Pace;
 
 // ---- when so many units of a movement's way are gone. In milliseconds of the movement, which have 32 bits once they are known to be at most its length
 // (§4 of the change requests)

@@ -1,12 +1,12 @@
 // The passing of time: from due moment to due moment, at most three an output and frame. Nothing here lives a millisecond by itself.
 ghost use mathlib.Core.Path.{_≡_};
 ghost use Prim.Native.Nat.{_+_, _-_, min};
-ghost use Rattle.lighting.specs.Engine.Advance.{sooner, due, burnedBy, withBurnedSaturating, fireDue, eventStep, eventSteps, advance, later};
-ghost use Rattle.lighting.specs.Engine.Light.{litInMovement, litResting};
-ghost use Rattle.lighting.specs.Paper.Choice.{if_then_else_};
-ghost use Rattle.lighting.specs.Paper.Value.{presentValue};
-use lighting::Moment;
-use lighting::Output;
+ghost use Rattle.lighting_outputs.specs.Engine.Advance.{sooner, due, burnedBy, withBurnedSaturating, fireDue, eventStep, eventSteps, advance, later};
+ghost use Rattle.lighting_outputs.specs.Engine.Light.{litInMovement, litResting};
+ghost use Rattle.lighting_levels.specs.Paper.Choice.{if_then_else_};
+ghost use Rattle.lighting_outputs.specs.Paper.Value.{presentValue};
+use lighting_outputs::Moment;
+use lighting_outputs::Output;
 
 // The sum, or the largest count where it does not fit.
 fn added(a: u64, b: u64) -> u64

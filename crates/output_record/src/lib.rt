@@ -1,14 +1,14 @@
 // Every way in which an output's record is changed, field by field: the like of specs/Paper/Record.antt. A fresh record is the crate `output_fresh`.
 ghost use mathlib.Core.Path.{_≡_};
-ghost use Rattle.lighting.specs.Paper.Record.{withBurning, withDue, withRelay, withEffect, withCommand, withSettings};
-use lighting::Activity;
-use lighting::Command;
-use lighting::Effect;
-use lighting::Output;
-use lighting::Relay;
-use lighting::Settings;
-use lighting::Slots;
-use lighting::Timer;
+ghost use Rattle.lighting_outputs.specs.Paper.Record.{withBurning, withDue, withRelay, withEffect, withCommand, withSettings};
+use lighting_outputs::Activity;
+use lighting_outputs::Command;
+use lighting_outputs::Effect;
+use lighting_outputs::Output;
+use lighting_outputs::Relay;
+use lighting_outputs::Settings;
+use lighting_outputs::Slots;
+use lighting_outputs::Timer;
 
 // Time passes while nothing falls due. Written in place: of all the ways this one is gone most.
 pub fn with_burning(o: Output, b: u64) -> Output

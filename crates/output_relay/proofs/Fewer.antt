@@ -5,15 +5,15 @@ use mathlib.Core.Bool.{Bool, true, false}
 use Prim.Native.Nat.{ℕ, suc, _<_}
 use native.Mathlib.Omega.{arith}
 use lib.Dec.{ltb, leb, eqb}
-use Rattle.lighting.specs.Paper.Choice.{if_then_else_, _also_}
-use Rattle.lighting.specs.Paper.Parameters.{document01}
-use Rattle.lighting.specs.Paper.Level.{leastLevel, greatestLevel}
-use Rattle.lighting.specs.Paper.Rows.{within, isLevel, meets}
-use Rattle.lighting.specs.Paper.Relay.{binaryAt}
-use Rattle.lighting.specs.Paper.Rules.{agrees, relaySound}
-use Rattle.lighting.specs.declared.Relay.{Relay}
-use Rattle.lighting.proofs.Split.{by-bool, by-le, by-lt, leb-yes, leb-no, eqb-miss}
-use Rattle.lighting.proofs.Tied.{within-of}
+use Rattle.lighting_levels.specs.Paper.Choice.{if_then_else_, _also_}
+use Rattle.lighting_outputs.specs.Paper.Parameters.{document01}
+use Rattle.lighting_levels.specs.Paper.Level.{leastLevel, greatestLevel}
+use Rattle.lighting_outputs.specs.Paper.Rows.{within, isLevel, meets}
+use Rattle.lighting_outputs.specs.Paper.Relay.{binaryAt}
+use Rattle.lighting_outputs.specs.Paper.Rules.{agrees, relaySound}
+use Rattle.lighting_outputs.specs.declared.Relay.{Relay}
+use Rattle.lighting_levels.proofs.Split.{by-bool, by-le, by-lt, leb-yes, leb-no, eqb-miss}
+use Rattle.lighting_outputs.proofs.Rules.Tied.{within-of}
 
 module _ (v : ℕ) (r : Relay) where
   abbrev low : Bool

@@ -2,14 +2,14 @@
 ghost use mathlib.Core.Path.{_≡_};
 ghost use mathlib.Core.Bool.{true};
 ghost use lib.Dec.{ltb, leb, eqb};
-ghost use Rattle.lighting.specs.Paper.Choice.{if_then_else_};
-ghost use Rattle.lighting.specs.Paper.Level.{leastLevel};
-ghost use Rattle.lighting.specs.Paper.Parameters.{document01};
-ghost use Rattle.lighting.specs.Paper.Relay.{binaryAt, switched, relayState, inactiveNotBelow};
-ghost use Rattle.lighting.specs.Paper.Rules.{relaySound};
-use lighting::GREATEST_LEVEL;
-use lighting::LEAST_LEVEL;
-use lighting::Relay;
+ghost use Rattle.lighting_levels.specs.Paper.Choice.{if_then_else_};
+ghost use Rattle.lighting_levels.specs.Paper.Level.{leastLevel};
+ghost use Rattle.lighting_outputs.specs.Paper.Parameters.{document01};
+ghost use Rattle.lighting_outputs.specs.Paper.Relay.{binaryAt, switched, relayState, inactiveNotBelow};
+ghost use Rattle.lighting_outputs.specs.Paper.Rules.{relaySound};
+use lighting_levels::GREATEST_LEVEL;
+use lighting_levels::LEAST_LEVEL;
+use lighting_outputs::Relay;
 use number_ranges::is_within;
 
 // Binary_Present_Value where Present_Value is v: between the two values it is as it was.

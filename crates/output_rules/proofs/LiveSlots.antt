@@ -11,13 +11,13 @@ use lib.Count.{trailingZeros, trailing-of-zero}
 use lib.Dec.{eqb}
 use lib.ListN.{getD}
 use lib.Pow.{shr-shr}
-use Rattle.lighting.specs.Paper.Choice.{if_then_else_, _also_, allFrom}
-use Rattle.lighting.specs.Paper.Slots.{isLive}
-use Rattle.lighting.specs.declared.Slots.{Slots}
-use Rattle.lighting.specs.Paper.Rows.{isLevel}
-use Rattle.lighting.specs.Paper.Rules.{slotSound, slotsSoundFrom}
-use Rattle.lighting.proofs.Scan.{all-each, each-all}
-use Rattle.lighting.proofs.Split.{by-bool, by-eq, eqb-hit}
+use Rattle.lighting_levels.specs.Paper.Choice.{if_then_else_, _also_, allFrom}
+use Rattle.lighting_outputs.specs.Paper.Slots.{isLive}
+use Rattle.lighting_outputs.specs.declared.Slots.{Slots}
+use Rattle.lighting_outputs.specs.Paper.Rows.{isLevel}
+use Rattle.lighting_outputs.specs.Paper.Rules.{slotSound, slotsSoundFrom}
+use Rattle.lighting_levels.proofs.Scan.{all-each, each-all}
+use Rattle.lighting_levels.proofs.Split.{by-bool, by-eq, eqb-hit}
 
 -- THE LOWEST BIT SET of m, by its trailing zeros
 halved : (i m : ℕ) → m / 2 ^ suc i ≡ m / 2 / 2 ^ i

@@ -3,12 +3,12 @@ use mathlib.Core.Path.{_≡_, refl, sym, ap, _∙_}
 use mathlib.Core.Bool.{Bool, true, false}
 use Prim.Native.Nat.{ℕ}
 use lib.Dec.{leb}
-use Rattle.lighting.specs.Paper.Choice.{if_then_else_, _also_}
-use Rattle.lighting.specs.Paper.Parameters.{document01}
-use Rattle.lighting.specs.Paper.Slots.{isLive, slot6, winner}
-use Rattle.lighting.specs.Paper.Value.{presentValue}
-use Rattle.lighting.specs.Paper.Rules.{settingsSound, slotsSoundFrom, activityBy, activitySound, timerSound, relaySound, sound}
-use Rattle.lighting.specs.declared.Output.{Output}
+use Rattle.lighting_levels.specs.Paper.Choice.{if_then_else_, _also_}
+use Rattle.lighting_outputs.specs.Paper.Parameters.{document01}
+use Rattle.lighting_outputs.specs.Paper.Slots.{isLive, slot6, winner}
+use Rattle.lighting_outputs.specs.Paper.Value.{presentValue}
+use Rattle.lighting_outputs.specs.Paper.Rules.{settingsSound, slotsSoundFrom, activityBy, activitySound, timerSound, relaySound, sound}
+use Rattle.lighting_outputs.specs.declared.Output.{Output}
 
 swapped : (a b : Bool) → (a also b) ≡ (b also a)
 unfolding if_then_else_

@@ -1,15 +1,15 @@
 // The record rules, as the test that is made of every lent record; those on what is under way are the crate `output_activity_rules`, those on the relay `output_relay`. Slots are counted from
 // 0: slot 6 is 5.
 ghost use mathlib.Core.Path.{_≡_};
-ghost use Rattle.lighting.specs.Paper.Parameters.{document01};
-ghost use Rattle.lighting.specs.Paper.Slots.{slot6, isLive, winner};
-ghost use Rattle.lighting.specs.Paper.Rules.{levelsSound, timesSound, realsSound, settingsSound, slotsSoundFrom, activityBy, sound};
-use lighting::Activity;
-use lighting::Output;
-use lighting::Property;
-use lighting::SLOT_6;
-use lighting::Settings;
-use lighting::Slots;
+ghost use Rattle.lighting_outputs.specs.Paper.Parameters.{document01};
+ghost use Rattle.lighting_outputs.specs.Paper.Slots.{slot6, isLive, winner};
+ghost use Rattle.lighting_outputs.specs.Paper.Rules.{levelsSound, timesSound, realsSound, settingsSound, slotsSoundFrom, activityBy, sound};
+use lighting_outputs::Activity;
+use lighting_outputs::Output;
+use lighting_outputs::Property;
+use lighting_outputs::SLOT_6;
+use lighting_outputs::Settings;
+use lighting_outputs::Slots;
 use number_ranges::rows::fits;
 use number_ranges::rows::fits_real;
 use number_ranges::wide_index;

@@ -3,10 +3,10 @@
 ghost use mathlib.Core.Path.{_≡_};
 ghost use Prim.Native.Nat.{_<_};
 ghost use lib.ListN.{getD};
-ghost use Rattle.lighting.specs.Paper.Slots.{slotCount, winner, isLive, maskEmptied, maskFilled, levelSet, emptied, filled, levelAt, winningLevel};
-use lighting::NO_SLOT;
-use lighting::SLOTS;
-use lighting::Slots;
+ghost use Rattle.lighting_outputs.specs.Paper.Slots.{slotCount, winner, isLive, maskEmptied, maskFilled, levelSet, emptied, filled, levelAt, winningLevel};
+use lighting_outputs::NO_SLOT;
+use lighting_outputs::SLOTS;
+use lighting_outputs::Slots;
 
 // The lowest bit set, or 16 with no live slot.
 pub fn winning(s: Slots) -> u32

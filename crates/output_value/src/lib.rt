@@ -1,13 +1,13 @@
 // What an output shows: Present_Value, Progress_Value, In_Process.
 ghost use mathlib.Core.Path.{_≡_};
 ghost use Prim.Native.Nat.{_-_, _*_, _/_, _≤_, min};
-ghost use Rattle.lighting.specs.Paper.Value.{clamp, clampLit, presentValue, elapsed, distanceMoved, reachedBy, reached, progressBy, progressValue, lit, inProcess};
-use lighting::Activity;
-use lighting::Movement;
-use lighting::Output;
-use lighting::Pace;
-use lighting::Settings;
-use lighting::Slots;
+ghost use Rattle.lighting_outputs.specs.Paper.Value.{clamp, clampLit, presentValue, elapsed, distanceMoved, reachedBy, reached, progressBy, progressValue, lit, inProcess};
+use lighting_outputs::Activity;
+use lighting_outputs::Movement;
+use lighting_outputs::Output;
+use lighting_outputs::Pace;
+use lighting_outputs::Settings;
+use lighting_outputs::Slots;
 
 // How long it is from a to b, and nothing where b comes first.
 pub fn since(a: u64, b: u64) -> u64

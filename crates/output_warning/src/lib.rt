@@ -2,14 +2,14 @@
 // Slots are counted from 0: the paper's slot 6, which a warning holds, is 5. `t` is the moment, `c` the settings, `s` the slots, `x` the slot.
 ghost use mathlib.Core.Path.{_≡_};
 ghost use Prim.Native.Nat.{_<_, _^_};
-ghost use Rattle.lighting.specs.Paper.Writing.{zeroOrEmpty, zeroOrEmptyFrom, blinks, zeroOrEmptyAbove, warnsBy, warns, firstLevel, firstPhase, warningFrom};
-ghost use Rattle.lighting.specs.Paper.Slots.{slotCount};
-use lighting::Phase;
-use lighting::SLOT_6;
-use lighting::SLOTS;
-use lighting::Settings;
-use lighting::Slots;
-use lighting::Warning;
+ghost use Rattle.lighting_outputs.specs.Paper.Writing.{zeroOrEmpty, zeroOrEmptyFrom, blinks, zeroOrEmptyAbove, warnsBy, warns, firstLevel, firstPhase, warningFrom};
+ghost use Rattle.lighting_outputs.specs.Paper.Slots.{slotCount};
+use lighting_outputs::Phase;
+use lighting_outputs::SLOT_6;
+use lighting_outputs::SLOTS;
+use lighting_outputs::Settings;
+use lighting_outputs::Slots;
+use lighting_outputs::Warning;
 
 // ---- whether it starts
 

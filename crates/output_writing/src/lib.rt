@@ -2,10 +2,10 @@
 // Slots are counted from 0: the paper's slot 6, which a warning holds, is 5. `t` is the moment, `o` the output, `i` the slot, `v` the level.
 ghost use mathlib.Core.Path.{_≡_};
 ghost use Prim.Native.Nat.{_<_, _^_};
-ghost use Rattle.lighting.specs.Paper.Writing.{endMovementUnlessAbove, stored, warnedBy, warned, endedEmpty, endedStored, writtenWarned, writtenZero, writtenCalm, writtenBy, written, activityRelinquished, slotRelinquished};
-use lighting::Activity;
-use lighting::Output;
-use lighting::SLOT_6;
+ghost use Rattle.lighting_outputs.specs.Paper.Writing.{endMovementUnlessAbove, stored, warnedBy, warned, endedEmpty, endedStored, writtenWarned, writtenZero, writtenCalm, writtenBy, written, activityRelinquished, slotRelinquished};
+use lighting_outputs::Activity;
+use lighting_outputs::Output;
+use lighting_outputs::SLOT_6;
 use output_record::with_effect;
 
 // ---- warnings aside

@@ -3,16 +3,16 @@
 ghost use mathlib.Core.Bool.{true};
 ghost use mathlib.Core.Path.{_≡_};
 ghost use lib.ListN.{length};
-ghost use Rattle.lighting.specs.Paper.Parameters.{document01};
-ghost use Rattle.lighting.specs.Paper.Rules.{sound};
-ghost use Rattle.lighting.specs.Engine.VerdictPrecondition.{Arrival, VerdictPrecondition};
-ghost use Rattle.lighting.specs.Paper.Panel.{every, panelOf, result, panelSound, startStep};
-ghost use Rattle.lighting.specs.Engine.Executing.{execute, frameStep};
-use lighting::Answer;
-use lighting::Call;
-use lighting::Output;
-use lighting::Station;
-use lighting::Verdict;
+ghost use Rattle.lighting_outputs.specs.Paper.Parameters.{document01};
+ghost use Rattle.lighting_outputs.specs.Paper.Rules.{sound};
+ghost use Rattle.lighting_panel.specs.Engine.VerdictPrecondition.{Arrival, VerdictPrecondition};
+ghost use Rattle.lighting_panel.specs.Paper.Panel.{every, panelOf, result, panelSound, startStep};
+ghost use Rattle.lighting_panel.specs.Engine.Executing.{execute, frameStep};
+use lighting_frames::Call;
+use lighting_frames::Station;
+use lighting_frames::Verdict;
+use lighting_outputs::Answer;
+use lighting_outputs::Output;
 
 // Refusal 1: the counts, then each record.
 fn panel_sound(outputs: &[Output], stations: &[Station], time: u64) -> bool

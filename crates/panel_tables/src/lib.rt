@@ -5,18 +5,19 @@ ghost use mathlib.Core.List.{map};
 ghost use mathlib.Core.Path.{_≡_};
 ghost use Prim.Native.Nat.{_≤_, _<_, _^_};
 ghost use lib.ListN.{length, replicate, set, getD};
-ghost use Rattle.lighting.specs.Paper.Parameters.{document01};
-ghost use Rattle.lighting.specs.Paper.Fresh.{freshOutput, freshStation};
-ghost use Rattle.lighting.specs.Engine.Advance.{advance};
-ghost use Rattle.lighting.specs.Paper.Rules.{sound, stationSound};
-ghost use Rattle.lighting.specs.Paper.Acting.{served};
-ghost use Rattle.lighting.specs.Paper.Panel.{every, panelOf};
-ghost use Rattle.lighting.specs.Engine.Judging.{decide};
-use lighting::Answer;
-use lighting::Output;
-use lighting::Request;
-use lighting::Station;
-use lighting::Verdict;
+ghost use Rattle.lighting_outputs.specs.Paper.Parameters.{document01};
+ghost use Rattle.lighting_outputs.specs.Paper.Fresh.{freshOutput};
+ghost use Rattle.lighting_frames.specs.Paper.Stations.{freshStation, stationSound};
+ghost use Rattle.lighting_outputs.specs.Engine.Advance.{advance};
+ghost use Rattle.lighting_outputs.specs.Paper.Rules.{sound};
+ghost use Rattle.lighting_outputs.specs.Paper.Acting.{served};
+ghost use Rattle.lighting_panel.specs.Paper.Panel.{every, panelOf};
+ghost use Rattle.lighting_panel.specs.Engine.Judging.{decide};
+use lighting_frames::Station;
+use lighting_frames::Verdict;
+use lighting_outputs::Answer;
+use lighting_outputs::Output;
+use lighting_outputs::Request;
 
 // ---- each record of a table
 

@@ -1,14 +1,14 @@
 // What the properties read as. Levels read out as REALs, and the last command's REALs as they were written.
 ghost use mathlib.Core.Path.{_≡_};
 ghost use Prim.Native.Nat.{_+_};
-ghost use Rattle.lighting.specs.Paper.Properties.{levelAnswer, slotAnswer, flag, elapsedActive, realAnswer, realFieldAnswer, timeFieldAnswer, lastDuration, readProperty};
-use lighting::Answer;
-use lighting::Duration;
-use lighting::Output;
-use lighting::Property;
-use lighting::RealField;
-use lighting::Slots;
-use lighting::TimeField;
+ghost use Rattle.lighting_outputs.specs.Paper.Properties.{levelAnswer, slotAnswer, flag, elapsedActive, realAnswer, realFieldAnswer, timeFieldAnswer, lastDuration, readProperty};
+use lighting_outputs::Answer;
+use lighting_outputs::Duration;
+use lighting_outputs::Output;
+use lighting_outputs::Property;
+use lighting_outputs::RealField;
+use lighting_outputs::Slots;
+use lighting_outputs::TimeField;
 
 fn level_answer(v: u32) -> Answer
     ensures { λ r. ⌜ r ≡ levelAnswer v ⌝ }

@@ -4,13 +4,13 @@ use mathlib.Core.Bool.{Bool, true, false, false≢true}
 use mathlib.Core.List.{List, [], _∷_}
 use Prim.Native.Nat.{ℕ, zero, suc, _≤_, _<_, _-_}
 use native.Mathlib.Omega.{arith}
-use Rattle.lighting.specs.Paper.Choice.{if_then_else_, _also_}
-use Rattle.lighting.specs.Paper.Properties.{properties, numberOf, numbered, propertyOf}
-use Rattle.lighting.specs.declared.Property.{Property}
-use Rattle.lighting.specs.declared.Property.the-variants.{SlotValue, Unknown}
-use Rattle.lighting.proofs.Choosing.{if-le, if-nle, if-ne}
-use Rattle.lighting.proofs.Scan.{isIn}
-use Rattle.lighting.proofs.Split.{also-both, by-eq}
+use Rattle.lighting_levels.specs.Paper.Choice.{if_then_else_, _also_}
+use Rattle.lighting_outputs.specs.Paper.Properties.{properties, numberOf, numbered, propertyOf}
+use Rattle.lighting_outputs.specs.declared.Property.{Property}
+use Rattle.lighting_outputs.specs.declared.Property.the-variants.{SlotValue, Unknown}
+use Rattle.lighting_levels.proofs.Choosing.{if-le, if-nle, if-ne}
+use Rattle.lighting_levels.proofs.Scan.{isIn}
+use Rattle.lighting_levels.proofs.Split.{also-both, by-eq}
 
 -- a key k
 pub propertyOf-on : (n k : ℕ) (r : Property) → n ≡ k → r ≡ propertyOf k → r ≡ propertyOf n

@@ -3,8 +3,8 @@ use mathlib.Core.Path.{_≡_, sym, _∙_}
 use mathlib.Core.Bool.{true, false≢true}
 use Prim.Native.Nat.{ℕ, _≤_, _<_, _-_}
 use native.Mathlib.Omega.{arith}
-use Rattle.lighting.specs.Paper.Rows.{isSlot, isPriority}
-use Rattle.lighting.proofs.Split.{unless, by-eq, le-of}
+use Rattle.lighting_outputs.specs.Paper.Rows.{isSlot, isPriority}
+use Rattle.lighting_levels.proofs.Split.{unless, by-eq, le-of}
 
 -- 'priority 0, 6 or over 16' is none
 pub priority-range : (n : ℕ) → isPriority n ≡ true → (1 ≤ n) × (n ≤ 16)

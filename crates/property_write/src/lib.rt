@@ -4,10 +4,10 @@ pub mod settings;
 pub mod values;
 
 ghost use mathlib.Core.Path.{_≡_};
-ghost use Rattle.lighting.specs.Paper.Parameters.{document01};
-ghost use Rattle.lighting.specs.Paper.Properties.{propertyOf, numberOf, same, changeOf};
-use lighting::Property;
-use lighting::Request;
+ghost use Rattle.lighting_outputs.specs.Paper.Parameters.{document01};
+ghost use Rattle.lighting_outputs.specs.Paper.Properties.{propertyOf, numberOf, same, changeOf};
+use lighting_outputs::Property;
+use lighting_outputs::Request;
 use number_ranges::rows;
 
 // By its number. 21 to 30 are slots 1 to 16, counted from 0 here.

@@ -3,15 +3,15 @@
 ghost use mathlib.Core.Path.{_≡_};
 ghost use Prim.Native.Nat.{_%_};
 ghost use lib.Dec.{eqb};
-ghost use Rattle.lighting.specs.Paper.Choice.{if_then_else_};
-ghost use Rattle.lighting.specs.Paper.Level.{real};
-ghost use Rattle.lighting.specs.Paper.Properties.{same, settingsWith, relayWith, endMovement, activityWith, burningWith, changed, minOverMax};
+ghost use Rattle.lighting_levels.specs.Paper.Choice.{if_then_else_};
+ghost use Rattle.lighting_levels.specs.Paper.Level.{real};
+ghost use Rattle.lighting_outputs.specs.Paper.Properties.{same, settingsWith, relayWith, endMovement, activityWith, burningWith, changed, minOverMax};
 use super::is_same;
-use lighting::Activity;
-use lighting::Output;
-use lighting::Property;
-use lighting::Relay;
-use lighting::Settings;
+use lighting_outputs::Activity;
+use lighting_outputs::Output;
+use lighting_outputs::Property;
+use lighting_outputs::Relay;
+use lighting_outputs::Settings;
 
 // ---- a field of the property `field`: the new value if this is the one that is written, else as it was
 

@@ -3,12 +3,12 @@
 ghost use mathlib.Core.Path.{_≡_};
 ghost use mathlib.Core.Bool.{true};
 ghost use Prim.Native.Nat.{_-_};
-ghost use Rattle.lighting.specs.Paper.Rows.{isPriority};
-ghost use Rattle.lighting.specs.Paper.Properties.{changeTo, changeBy};
-use lighting::Level;
-use lighting::Property;
-use lighting::Range;
-use lighting::Request;
+ghost use Rattle.lighting_outputs.specs.Paper.Rows.{isPriority};
+ghost use Rattle.lighting_outputs.specs.Paper.Properties.{changeTo, changeBy};
+use lighting_levels::Level;
+use lighting_outputs::Property;
+use lighting_outputs::Range;
+use lighting_outputs::Request;
 
 fn change_to(n: Property, v: Level) -> Request
     ensures { λ r. ⌜ r ≡ changeTo n v ⌝ }

@@ -2,8 +2,8 @@
 use mathlib.Core.Path.{_≡_, sym, _∙_}
 use mathlib.Core.Bool.{Bool}
 use Prim.Native.Nat.{ℕ}
-use Rattle.lighting.specs.Paper.Frames.{Bytes}
-use Rattle.lighting.specs.Paper.Panel.{Panel}
+use Rattle.lighting_frames.specs.Paper.Frames.{Bytes}
+use Rattle.lighting_panel.specs.Paper.Panel.{Panel}
 use Rattle.text_reading.specs.declared.Line.{Line}
 use Rattle.text_reading.specs.declared.Reader.{Reader}
 use Rattle.text_reading.specs.Reading.{lineOf}

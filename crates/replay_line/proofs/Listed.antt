@@ -6,23 +6,23 @@ use Prim.Native.Nat.{ℕ, _≤_, _<_}
 use native.Mathlib.Omega.{arith}
 use lib.ListN.{length, drop, length-map, length-append, length-replicate}
 use lib.Seq.{take-at, length-take-le}
-use Rattle.lighting.specs.Paper.Choice.{if_then_else_}
-use Rattle.lighting.specs.Paper.Parameters.{document01}
-use Rattle.lighting.specs.Paper.Frames.{Bytes, Strings}
-use Rattle.lighting.specs.Engine.Advance.{advance}
-use Rattle.lighting.specs.Paper.Panel.{Panel, panelOf, panelSound, countsSound, freshPanel, startStep}
-use Rattle.lighting.specs.Engine.Judging.{decide}
-use Rattle.lighting.specs.Engine.Executing.{execute, frameStep}
-use Rattle.lighting.specs.Paper.Plain.{plainStart}
-use Rattle.lighting.specs.Paper.Demand.{foundIn, foundPlain, plainAfter, after}
-use Rattle.lighting.specs.declared.Answer.the-variants.{Done}
-use Rattle.lighting.specs.declared.Output.{Output}
-use Rattle.lighting.specs.declared.Verdict.{Verdict}
-use Rattle.lighting.specs.declared.Verdict.the-variants.{TurnedDown, Copied, Clocked, Arrives}
-use Rattle.lighting.proofs.Split.{by-bool, leb-yes}
-use Rattle.lighting.proofs.Table.{served-length}
-use Rattle.lighting.proofs.Calls.{once}
-use Rattle.lighting.proofs.Demand.{demand-3, finds}
+use Rattle.lighting_levels.specs.Paper.Choice.{if_then_else_}
+use Rattle.lighting_outputs.specs.Paper.Parameters.{document01}
+use Rattle.lighting_frames.specs.Paper.Frames.{Bytes, Strings}
+use Rattle.lighting_outputs.specs.Engine.Advance.{advance}
+use Rattle.lighting_panel.specs.Paper.Panel.{Panel, panelOf, panelSound, countsSound, freshPanel, startStep}
+use Rattle.lighting_panel.specs.Engine.Judging.{decide}
+use Rattle.lighting_panel.specs.Engine.Executing.{execute, frameStep}
+use Rattle.lighting_panel.specs.Paper.Plain.{plainStart}
+use Rattle.lighting_panel.specs.Paper.Demand.{foundIn, foundPlain, plainAfter, after}
+use Rattle.lighting_outputs.specs.declared.Answer.the-variants.{Done}
+use Rattle.lighting_outputs.specs.declared.Output.{Output}
+use Rattle.lighting_frames.specs.declared.Verdict.{Verdict}
+use Rattle.lighting_frames.specs.declared.Verdict.the-variants.{TurnedDown, Copied, Clocked, Arrives}
+use Rattle.lighting_levels.proofs.Split.{by-bool, leb-yes}
+use Rattle.lighting_panel.proofs.Table.{served-length}
+use Rattle.lighting_panel.proofs.Calls.{once}
+use Rattle.lighting_panel.proofs.Demand.{demand-3, finds}
 use Rattle.text_reading.specs.declared.Reader.{Reader}
 use Rattle.text_reading.specs.Reading.{fed}
 use Rattle.text_reading.specs.Spelling.{Unbroken, Silent, Gives, Heading}

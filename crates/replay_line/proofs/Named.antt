@@ -5,10 +5,10 @@ use Prim.Native.Nat.{ℕ, _-_, min}
 use native.Mathlib.Omega.{arith}
 use lib.ListN.{length, take, drop, drop-of-length-le}
 use lib.Seq.{take-all}
-use Rattle.lighting.proofs.Split.{by-le}
-use Rattle.lighting.specs.Paper.Panel.{Panel, panelOf}
-use Rattle.lighting.specs.declared.Output.{Output}
-use Rattle.lighting.specs.declared.Station.{Station}
+use Rattle.lighting_levels.proofs.Split.{by-le}
+use Rattle.lighting_panel.specs.Paper.Panel.{Panel, panelOf}
+use Rattle.lighting_outputs.specs.declared.Output.{Output}
+use Rattle.lighting_frames.specs.declared.Station.{Station}
 use Rattle.replay_line.specs.Taking.{first, rejoined}
 
 pub part-taken : {A : Type 0} (n k : ℕ) (l : List A) → k ≡ min n (length l) → take (k - 0) l ≡ take n l

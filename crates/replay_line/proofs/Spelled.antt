@@ -5,12 +5,12 @@ use Prim.Native.Nat.{ℕ}
 use native.Mathlib.Omega.{arith}
 use lib.ListN.{length, take}
 use lib.Seq.{take-all}
-use Rattle.lighting.specs.Paper.Frames.{Bytes}
-use Rattle.lighting.specs.Paper.Parameters.{document01}
-use Rattle.lighting.specs.Paper.Panel.{Panel}
-use Rattle.lighting.specs.Engine.Executing.{frameStep}
-use Rattle.lighting.proofs.Split.{by-le}
-use Rattle.lighting.proofs.Long.{frameStep-first}
+use Rattle.lighting_frames.specs.Paper.Frames.{Bytes}
+use Rattle.lighting_outputs.specs.Paper.Parameters.{document01}
+use Rattle.lighting_panel.specs.Paper.Panel.{Panel}
+use Rattle.lighting_panel.specs.Engine.Executing.{frameStep}
+use Rattle.lighting_levels.proofs.Split.{by-le}
+use Rattle.lighting_panel.proofs.Long.{frameStep-first}
 use Rattle.text_reading.specs.declared.Reader.{Reader}
 use Rattle.text_reading.specs.Reading.{bytesKept, fed}
 use Rattle.text_reading.proofs.Marked.{Given}

@@ -7,10 +7,10 @@ use native.Mathlib.Omega.{arith}
 use lib.Dec.{eqb}
 use lib.ListN.{length, drop, length-drop, drop-of-length-le}
 use lib.Seq.{drop-drop}
-use Rattle.lighting.specs.Paper.Choice.{if_then_else_}
-use Rattle.lighting.specs.Paper.Frames.{Bytes}
-use Rattle.lighting.specs.Paper.Panel.{Panel}
-use Rattle.lighting.proofs.Split.{by-bool, eqb-miss}
+use Rattle.lighting_levels.specs.Paper.Choice.{if_then_else_}
+use Rattle.lighting_frames.specs.Paper.Frames.{Bytes}
+use Rattle.lighting_panel.specs.Paper.Panel.{Panel}
+use Rattle.lighting_levels.proofs.Split.{by-bool, eqb-miss}
 use Rattle.text_reading.specs.declared.Reader.{Reader}
 use Rattle.text_reading.specs.Reading.{feed, fed, fedLine, lineLength}
 use Rattle.text_reading.specs.Spelling.{Unbroken, nothing, char}

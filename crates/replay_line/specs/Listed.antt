@@ -1,7 +1,7 @@
 -- The whole text of a list. Each line ends with a newline (10). Definitions only.
 use mathlib.Core.List.{List, [], _∷_, _++_}
 use Prim.Native.Nat.{ℕ}
-use Rattle.lighting.specs.Paper.Frames.{Bytes}
+use Rattle.lighting_frames.specs.Paper.Frames.{Bytes}
 use Rattle.text_reading.specs.Spelling.{Gives, Silent, Heading}
 
 -- for each string the line that gives it, and anywhere lines that say nothing

@@ -6,11 +6,11 @@ use mathlib.Core.List.{[], _∷_, _++_}
 use mathlib.Core.Path.{_≡_}
 use Prim.Native.Nat.{ℕ}
 use lib.ListN.{take, drop}
-use Rattle.lighting.specs.Paper.Choice.{if_then_else_}
-use Rattle.lighting.specs.Paper.Parameters.{document01}
-use Rattle.lighting.specs.Paper.Frames.{Bytes}
-use Rattle.lighting.specs.Paper.Panel.{Panel, Step, panelOf, startStep}
-use Rattle.lighting.specs.Engine.Executing.{frameStep}
+use Rattle.lighting_levels.specs.Paper.Choice.{if_then_else_}
+use Rattle.lighting_outputs.specs.Paper.Parameters.{document01}
+use Rattle.lighting_frames.specs.Paper.Frames.{Bytes}
+use Rattle.lighting_panel.specs.Paper.Panel.{Panel, Step, panelOf, startStep}
+use Rattle.lighting_panel.specs.Engine.Executing.{frameStep}
 use Rattle.text_reading.specs.declared.Line.{Line}
 use Rattle.text_reading.specs.declared.Line.the-variants.{Nothing, Outputs, Frame, Wrong}
 use Rattle.text_reading.specs.declared.Reader.{Reader}

@@ -2,14 +2,14 @@
 // the page. Nothing is read or written here but what is lent, and the contracts give all of it.
 ghost use mathlib.Core.Path.{_≡_};
 ghost use lib.ListN.{take};
-ghost use Rattle.lighting.specs.Paper.Panel.{panelOf};
+ghost use Rattle.lighting_panel.specs.Paper.Panel.{panelOf};
 ghost use Rattle.text_reading.specs.Reading.{content};
 ghost use Rattle.text_printing.specs.Page.{Wrote};
 ghost use Rattle.text_printing.specs.Writing.{answerLine};
 ghost use Rattle.replay_line.specs.Taking.{begun, sent, taken};
-use lighting::Answer;
-use lighting::Output;
-use lighting::Station;
+use lighting_frames::Station;
+use lighting_outputs::Answer;
+use lighting_outputs::Output;
 use text_reading::BYTES_KEPT;
 use text_reading::Line;
 use text_reading::Reader;

@@ -4,11 +4,11 @@
 // Thin: the crate `replay_line` takes each line, `text_reading` its characters, and `text_found` says what is found. Input and output go by
 // pages of 64 KiB, so that memory does not grow with the list.
 ghost use mathlib.Core.Path.{_≡_};
-ghost use Rattle.lighting.specs.Paper.Panel.{panelOf};
+ghost use Rattle.lighting_panel.specs.Paper.Panel.{panelOf};
 ghost use Rattle.text_reading.specs.Reading.{freshReader};
 ghost use Rattle.replay_line.specs.Taking.{taken, through, Went, Replayed};
-use lighting::Output;
-use lighting::Station;
+use lighting_frames::Station;
+use lighting_outputs::Output;
 use text_reading::Reader;
 
 // After some of the list: the reader, the page's mark, whether more of the list may come, and whether all lines were good.

@@ -10,13 +10,13 @@ use native.Mathlib.Omega.{arith}
 use lib.Dec.{eqb}
 use lib.ListN.{length, getD, set, take, drop, replicate, length-take, drop-of-length-le}
 use lib.Seq.{take-all, drop-cons, getD-take}
-use Rattle.lighting.specs.Paper.Kinds.{longestFrame, kindLength}
-use Rattle.lighting.specs.Paper.Choice.{if_then_else_, _also_}
-use Rattle.lighting.specs.Paper.Field.{byteAt}
-use Rattle.lighting.specs.Paper.Copies.{sameBytes}
-use Rattle.lighting.specs.Engine.Judging.{padded, restored}
-use Rattle.lighting.proofs.Split.{by-bool, eqb-hit, eqb-miss}
-use Rattle.lighting.proofs.KindTable.{length-most}
+use Rattle.lighting_frames.specs.Paper.Kinds.{longestFrame, kindLength}
+use Rattle.lighting_levels.specs.Paper.Choice.{if_then_else_, _also_}
+use Rattle.lighting_levels.specs.Paper.Field.{byteAt}
+use Rattle.lighting_frames.specs.Paper.Copies.{sameBytes}
+use Rattle.lighting_panel.specs.Engine.Judging.{padded, restored}
+use Rattle.lighting_levels.proofs.Split.{by-bool, eqb-hit, eqb-miss}
+use Rattle.lighting_frames.proofs.KindTable.{length-most}
 
 -- A FRAME KEPT: its first i bytes, zeros after them, and the byte at i stored
 stored : (k i : ℕ) (b : List ℕ) → i < length b → set (take i b ++ replicate (suc k) 0) i (getD b i 0) ≡ take (suc i) b ++ replicate k 0

@@ -2,12 +2,12 @@
 ghost use mathlib.Core.Path.{_≡_};
 ghost use Prim.Native.Nat.{_≤_};
 ghost use lib.ListN.{length};
-ghost use Rattle.lighting.specs.Paper.Kinds.{longestFrame};
-ghost use Rattle.lighting.specs.Paper.Copies.{sameBytes};
-ghost use Rattle.lighting.specs.Engine.Judging.{padded, restored};
-use lighting::Answer;
-use lighting::LONGEST_FRAME;
-use lighting::Station;
+ghost use Rattle.lighting_frames.specs.Paper.Kinds.{longestFrame};
+ghost use Rattle.lighting_frames.specs.Paper.Copies.{sameBytes};
+ghost use Rattle.lighting_panel.specs.Engine.Judging.{padded, restored};
+use lighting_frames::LONGEST_FRAME;
+use lighting_frames::Station;
+use lighting_outputs::Answer;
 
 // Zeros after its own bytes.
 fn pad(b: &[u8]) -> [u8; LONGEST_FRAME]

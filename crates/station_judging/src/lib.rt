@@ -1,14 +1,14 @@
 // How a frame is judged by its station's record; the counts of a panel, and a station's record rule. One record at a time, by value.
 ghost use mathlib.Core.Path.{_≡_};
-ghost use Rattle.lighting.specs.Paper.Parameters.{document01};
-ghost use Rattle.lighting.specs.Paper.Rules.{stationSound};
-ghost use Rattle.lighting.specs.Paper.Copies.{sameBytes, retransmissionOrConflict};
-ghost use Rattle.lighting.specs.Paper.Panel.{countsSound};
-ghost use Rattle.lighting.specs.Engine.Judging.{restored, judgedByNumber, stationOf, judgedByStation};
-use lighting::Call;
-use lighting::Frame;
-use lighting::Station;
-use lighting::Verdict;
+ghost use Rattle.lighting_outputs.specs.Paper.Parameters.{document01};
+ghost use Rattle.lighting_frames.specs.Paper.Stations.{stationSound};
+ghost use Rattle.lighting_frames.specs.Paper.Copies.{sameBytes, retransmissionOrConflict};
+ghost use Rattle.lighting_panel.specs.Paper.Panel.{countsSound};
+ghost use Rattle.lighting_panel.specs.Engine.Judging.{restored, judgedByNumber, stationOf, judgedByStation};
+use lighting_frames::Call;
+use lighting_frames::Frame;
+use lighting_frames::Station;
+use lighting_frames::Verdict;
 
 // ---- the counts, and a station's record rule
 

@@ -1,14 +1,15 @@
 // The fields of a tagged command, by value: what each holds, and how many bytes it takes.
 ghost use mathlib.Core.Path.{_≡_};
 ghost use Prim.Native.Nat.{_≤_};
-ghost use Rattle.lighting.specs.Paper.Tags.{contextTag, fewestOctets, fieldSize, realTag, wholeTag, tagsOf, durationField, commandTags, heldBy};
-use lighting::Command;
-use lighting::Duration;
-use lighting::Operation;
-use lighting::RealField;
-use lighting::TagField;
-use lighting::TagFields;
-use lighting::TimeField;
+ghost use Rattle.lighting_frames.specs.Paper.Tags.{contextTag, fewestOctets, fieldSize, realTag, wholeTag, tagsOf, commandTags, heldBy};
+ghost use Rattle.lighting_outputs.specs.Paper.Operations.{durationField};
+use lighting_frames::TagField;
+use lighting_frames::TagFields;
+use lighting_outputs::Command;
+use lighting_outputs::Duration;
+use lighting_outputs::Operation;
+use lighting_outputs::RealField;
+use lighting_outputs::TimeField;
 
 // ---- one field
 

@@ -6,13 +6,13 @@ use Prim.Native.Nat.{ℕ, zero, suc, _+_, _-_, _≤_}
 use native.Mathlib.Omega.{arith}
 use lib.Dec.{eqb}
 use lib.ListN.{getD, List·getD-eq-default}
-use Rattle.lighting.specs.Paper.Choice.{allFrom}
-use Rattle.lighting.specs.Paper.Field.{byteAt}
-use Rattle.lighting.specs.Paper.Level.{real}
-use Rattle.lighting.specs.Paper.Tags.{lengthOf, zeroBeyond, heldBy, operations, operationOf}
-use Rattle.lighting.specs.declared.Operation.{Operation}
-use Rattle.lighting.specs.declared.Operation.the-variants.{Stop}
-use Rattle.lighting.specs.declared.TagFields.{TagFields}
+use Rattle.lighting_levels.specs.Paper.Choice.{allFrom}
+use Rattle.lighting_levels.specs.Paper.Field.{byteAt}
+use Rattle.lighting_levels.specs.Paper.Level.{real}
+use Rattle.lighting_frames.specs.Paper.Tags.{lengthOf, zeroBeyond, heldBy, operations, operationOf}
+use Rattle.lighting_outputs.specs.declared.Operation.{Operation}
+use Rattle.lighting_outputs.specs.declared.Operation.the-variants.{Stop}
+use Rattle.lighting_frames.specs.declared.TagFields.{TagFields}
 
 -- THE PADDING from a place on
 abbrev pub isZero : List ℕ → ℕ → Bool

@@ -7,14 +7,14 @@ use native.Mathlib.Nat.{mul-add-div-right, div-eq-of-lt, one-le-pow}
 use native.Mathlib.Omega.{arith}
 use lib.ListN.{length}
 use borrow.Author.Tests.{lt-ltb, le-ltb}
-use Rattle.lighting.specs.Paper.Choice.{if_then_else_}
-use Rattle.lighting.specs.Paper.Field.{byteAt, bigEndian}
-use Rattle.lighting.specs.Paper.Rows.{within}
-use Rattle.lighting.specs.Paper.Tags.{contextTag, fieldIn}
-use Rattle.lighting.specs.declared.TagField.the-variants.{Holds, Missing}
-use Rattle.lighting.proofs.Facts.{Within}
-use Rattle.lighting.proofs.Fields.{joined, below}
-use Rattle.lighting.proofs.Tied.{within-of}
+use Rattle.lighting_levels.specs.Paper.Choice.{if_then_else_}
+use Rattle.lighting_levels.specs.Paper.Field.{byteAt, bigEndian}
+use Rattle.lighting_outputs.specs.Paper.Rows.{within}
+use Rattle.lighting_frames.specs.Paper.Tags.{contextTag, fieldIn}
+use Rattle.lighting_frames.specs.declared.TagField.the-variants.{Holds, Missing}
+use Rattle.lighting_outputs.proofs.Rules.Facts.{Within}
+use Rattle.lighting_levels.proofs.Fields.{joined, below}
+use Rattle.lighting_outputs.proofs.Rules.Tied.{within-of}
 
 -- of m + n octets the first m
 pub front : (b : List ℕ) → ((i : ℕ) → byteAt b i < 256) → (m n : ℕ) {count word : ℕ} → count ≡ m → word ≡ bigEndian (m + n) b 1 → word / 256 ^ n ≡ bigEndian count b 1

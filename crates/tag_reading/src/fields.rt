@@ -2,10 +2,10 @@
 ghost use mathlib.Core.Path.{_≡_};
 ghost use Prim.Native.Nat.{_≤_};
 ghost use lib.ListN.{take, drop};
-ghost use Rattle.lighting.specs.Paper.Field.{bigEndian};
-ghost use Rattle.lighting.specs.Paper.Tags.{tagOctets, named, fieldSize, fieldIn, fieldsFrom, lengthOf, bodyFields};
-use lighting::TagField;
-use lighting::TagFields;
+ghost use Rattle.lighting_levels.specs.Paper.Field.{bigEndian};
+ghost use Rattle.lighting_frames.specs.Paper.Tags.{tagOctets, named, fieldSize, fieldIn, fieldsFrom, lengthOf, bodyFields};
+use lighting_frames::TagField;
+use lighting_frames::TagFields;
 
 // The number in the `count` octets behind a tag: of the four bytes there, with zeros past the end, the first.
 fn number_behind(left: &[u8], count: u8) -> u32

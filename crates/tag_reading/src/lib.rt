@@ -3,14 +3,14 @@
 mod fields;
 
 ghost use mathlib.Core.Path.{_≡_};
-ghost use Rattle.lighting.specs.Paper.Level.{real};
-ghost use Rattle.lighting.specs.Paper.Tags.{listed, sizes, bodyFields, zeroBeyond, holdsAtMost, wellTagged, heldBy, operationOf, timeOf, bothOrNeither, fewest, ownTags, readFields, readBody};
-use lighting::MOST_TAGGED;
-use lighting::Operation;
-use lighting::TagField;
-use lighting::TagFields;
-use lighting::TaggedReading;
-use lighting::TimeField;
+ghost use Rattle.lighting_levels.specs.Paper.Level.{real};
+ghost use Rattle.lighting_frames.specs.Paper.Tags.{listed, sizes, bodyFields, zeroBeyond, holdsAtMost, wellTagged, heldBy, operationOf, timeOf, bothOrNeither, fewest, ownTags, readFields, readBody};
+use lighting_frames::MOST_TAGGED;
+use lighting_frames::TagField;
+use lighting_frames::TagFields;
+use lighting_frames::TaggedReading;
+use lighting_outputs::Operation;
+use lighting_outputs::TimeField;
 
 // ---- refusal 14
 

@@ -5,11 +5,11 @@ use Prim.Native.Nat.{ℕ, zero, suc, _+_, _-_, _/_, _%_, _≤_}
 use native.Mathlib.Omega.{arith}
 use lib.ListN.{take, drop}
 use lib.Seq.{take-all}
-use Rattle.lighting.specs.Paper.Field.{octets}
-use Rattle.lighting.specs.Paper.Tags.{contextTag, fieldSize, fieldBytes}
-use Rattle.lighting.specs.declared.TagField.{TagField}
-use Rattle.lighting.specs.declared.TagField.the-variants.{Holds, Missing}
-use Rattle.lighting.proofs.Octets.{length-octets}
+use Rattle.lighting_levels.specs.Paper.Field.{octets}
+use Rattle.lighting_frames.specs.Paper.Tags.{contextTag, fieldSize, fieldBytes}
+use Rattle.lighting_frames.specs.declared.TagField.{TagField}
+use Rattle.lighting_frames.specs.declared.TagField.the-variants.{Holds, Missing}
+use Rattle.lighting_frames.proofs.Octets.{length-octets}
 use Rattle.text_printing.specs.Page.{Wrote}
 use Rattle.text_printing.proofs.Pages.{wrote-then, wrote-none}
 

@@ -5,12 +5,13 @@ use Prim.Native.Nat.{ℕ, zero, suc, _+_, _-_, _≤_}
 use native.Mathlib.Omega.{arith}
 use lib.ListN.{length, drop, replicate}
 use lib.Seq.{sets-eq}
-use Rattle.lighting.specs.Paper.Tags.{fieldSize, tagBytes, tagsOf, durationField, commandTags, zeroFilled, taggedBody}
-use Rattle.lighting.specs.declared.Command.{Command}
-use Rattle.lighting.specs.declared.TagFields.{TagFields}
-use Rattle.lighting.specs.declared.TaggedBody.{TaggedBody}
-use Rattle.lighting.proofs.TaggedBodies.{sizes-written}
-use Rattle.lighting.proofs.TaggedCommands.{real-size, whole-size, sizes-most}
+use Rattle.lighting_frames.specs.Paper.Tags.{fieldSize, tagBytes, tagsOf, commandTags, zeroFilled, taggedBody}
+use Rattle.lighting_outputs.specs.Paper.Operations.{durationField}
+use Rattle.lighting_outputs.specs.declared.Command.{Command}
+use Rattle.lighting_frames.specs.declared.TagFields.{TagFields}
+use Rattle.lighting_frames.specs.declared.TaggedBody.{TaggedBody}
+use Rattle.lighting_frames.proofs.Tagging.Bodies.{sizes-written}
+use Rattle.lighting_frames.proofs.Tagging.Commands.{real-size, whole-size, sizes-most}
 use Rattle.text_printing.specs.Page.{Wrote}
 
 -- NO FIELD is of more than four octets

@@ -2,14 +2,14 @@
 // on a page.
 ghost use mathlib.Core.Path.{_≡_};
 ghost use Prim.Native.Nat.{_≤_};
-ghost use Rattle.lighting.specs.Paper.Field.{octets};
-ghost use Rattle.lighting.specs.Paper.Tags.{fieldSize, fieldBytes, tagBytes, commandTags, taggedBody};
+ghost use Rattle.lighting_levels.specs.Paper.Field.{octets};
+ghost use Rattle.lighting_frames.specs.Paper.Tags.{fieldSize, fieldBytes, tagBytes, commandTags, taggedBody};
 ghost use Rattle.text_printing.specs.Page.{Wrote};
-use lighting::Command;
-use lighting::MOST_TAGGED;
-use lighting::TagField;
-use lighting::TagFields;
-use lighting::TaggedBody;
+use lighting_frames::MOST_TAGGED;
+use lighting_frames::TagField;
+use lighting_frames::TagFields;
+use lighting_frames::TaggedBody;
+use lighting_outputs::Command;
 
 // ---- one field
 

@@ -4,9 +4,9 @@ use Prim.Native.Nat.{_-_, _≤_}
 use native.Mathlib.Omega.{arith}
 use lib.ListN.{length, take, replicate, length-append, length-replicate}
 use lib.Seq.{take-append-seam}
-use Rattle.lighting.specs.Paper.Tags.{tagBytes, commandTags, mostTagged, zeroFilled, taggedBody}
-use Rattle.lighting.specs.declared.Command.{Command}
-use Rattle.lighting.specs.declared.TaggedBody.{TaggedBody}
+use Rattle.lighting_frames.specs.Paper.Tags.{tagBytes, commandTags, mostTagged, zeroFilled, taggedBody}
+use Rattle.lighting_outputs.specs.declared.Command.{Command}
+use Rattle.lighting_frames.specs.declared.TaggedBody.{TaggedBody}
 use Rattle.tag_writing.proofs.Room.{command-most}
 use Rattle.text_printing.proofs.Lengths.{hex-bytes-length}
 use Rattle.text_block.specs.Block.{taggedLine}

@@ -2,10 +2,10 @@
 use mathlib.Core.Path.{_≡_}
 use Prim.Native.Nat.{ℕ, _+_}
 use native.Mathlib.Numerals.{add-one}
-use Rattle.lighting.specs.Paper.Frames.{Bytes}
-use Rattle.lighting.specs.declared.Answer.{Answer}
-use Rattle.lighting.specs.declared.Output.{Output}
-use Rattle.lighting.specs.declared.Slots.{Slots}
+use Rattle.lighting_frames.specs.Paper.Frames.{Bytes}
+use Rattle.lighting_outputs.specs.declared.Answer.{Answer}
+use Rattle.lighting_outputs.specs.declared.Output.{Output}
+use Rattle.lighting_outputs.specs.declared.Slots.{Slots}
 use Rattle.text_printing.specs.Page.{Wrote}
 use Rattle.text_printing.proofs.Pages.{wrote-then}
 use Rattle.text_block.specs.Block.{slotField, slotFields, answerField, propertyField, propertyFields}

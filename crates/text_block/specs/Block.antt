@@ -2,17 +2,17 @@
 use mathlib.Core.List.{[], _++_}
 use mathlib.Core.Option.{Option, none, some}
 use Prim.Native.Nat.{ℕ, zero, suc, _+_}
-use Rattle.lighting.specs.Paper.Choice.{if_then_else_}
-use Rattle.lighting.specs.Paper.Frames.{Bytes}
-use Rattle.lighting.specs.Paper.Slots.{isLive, levelAt}
-use Rattle.lighting.specs.Paper.Value.{presentValue, progressValue, inProcess}
-use Rattle.lighting.specs.Paper.Answers.{valueOf}
-use Rattle.lighting.specs.Paper.Properties.{propertyOf, readProperty}
-use Rattle.lighting.specs.Paper.Tags.{tagBytes, commandTags}
-use Rattle.lighting.specs.declared.Answer.{Answer}
-use Rattle.lighting.specs.declared.Command.{Command}
-use Rattle.lighting.specs.declared.Output.{Output}
-use Rattle.lighting.specs.declared.Slots.{Slots}
+use Rattle.lighting_levels.specs.Paper.Choice.{if_then_else_}
+use Rattle.lighting_frames.specs.Paper.Frames.{Bytes}
+use Rattle.lighting_outputs.specs.Paper.Slots.{isLive, levelAt}
+use Rattle.lighting_outputs.specs.Paper.Value.{presentValue, progressValue, inProcess}
+use Rattle.lighting_outputs.specs.Paper.Answers.{valueOf}
+use Rattle.lighting_outputs.specs.Paper.Properties.{propertyOf, readProperty}
+use Rattle.lighting_frames.specs.Paper.Tags.{tagBytes, commandTags}
+use Rattle.lighting_outputs.specs.declared.Answer.{Answer}
+use Rattle.lighting_outputs.specs.declared.Command.{Command}
+use Rattle.lighting_outputs.specs.declared.Output.{Output}
+use Rattle.lighting_outputs.specs.declared.Slots.{Slots}
 use Rattle.text_printing.specs.Text.{text}
 use Rattle.text_printing.specs.Writing.{hex8, hexBytes, decimal, newline}
 

@@ -2,12 +2,12 @@
 ghost use Prim.Native.Nat.{_+_, _<_};
 ghost use Rattle.text_printing.specs.Page.{Wrote};
 ghost use Rattle.text_block.specs.Block.{levelField, slotLevel, slotField, slotFields, hexField, answerField, propertyField, propertyFields, numberLine, slotsLine, presentLine, progressLine, processLine, propertiesLine, taggedLine, block};
-ghost use Rattle.lighting.specs.Paper.Slots.{slotCount};
-use lighting::Answer;
-use lighting::Command;
-use lighting::NO_SLOT;
-use lighting::Output;
-use lighting::Slots;
+ghost use Rattle.lighting_outputs.specs.Paper.Slots.{slotCount};
+use lighting_outputs::Answer;
+use lighting_outputs::Command;
+use lighting_outputs::NO_SLOT;
+use lighting_outputs::Output;
+use lighting_outputs::Slots;
 use text_printing::put;
 use text_printing::put_all;
 use text_printing::put_decimal;

@@ -1,7 +1,7 @@
 -- Each definition by clauses, at the variant that a match has found (as lighting/proofs/Laws.antt).
 use mathlib.Core.Path.{_≡_}
 use Prim.Native.Nat.{ℕ}
-use Rattle.lighting.specs.Paper.Frames.{Bytes}
+use Rattle.lighting_frames.specs.Paper.Frames.{Bytes}
 use Rattle.text_printing.specs.Page.{Wrote}
 use Rattle.text_faults.specs.Faults.{faultWords}
 use Rattle.text_reading.specs.declared.Fault.{Fault}

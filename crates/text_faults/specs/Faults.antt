@@ -1,7 +1,7 @@
 -- The line that says what is wrong with a list, and where.
 use mathlib.Core.List.{_++_}
 use Prim.Native.Nat.{ℕ}
-use Rattle.lighting.specs.Paper.Frames.{Bytes}
+use Rattle.lighting_frames.specs.Paper.Frames.{Bytes}
 use Rattle.text_printing.specs.Text.{text}
 use Rattle.text_printing.specs.Writing.{decimal, newline}
 use Rattle.text_reading.specs.declared.Fault.{Fault}

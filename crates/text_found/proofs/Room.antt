@@ -7,23 +7,23 @@ use native.Mathlib.Omega.{arith}
 use lib.Dec.{ltb}
 use lib.ListN.{length, take, length-append}
 use lib.Seq.{length-sets}
-use Rattle.lighting.specs.Paper.Choice.{if_then_else_}
-use Rattle.lighting.specs.Paper.Frames.{Bytes}
-use Rattle.lighting.specs.Paper.Slots.{isLive, levelAt}
-use Rattle.lighting.specs.Paper.Value.{presentValue, progressValue, inProcess, lit}
-use Rattle.lighting.specs.Paper.Relay.{relayState}
-use Rattle.lighting.specs.Paper.Properties.{propertyOf, readProperty}
-use Rattle.lighting.specs.declared.Activity.{Activity}
-use Rattle.lighting.specs.declared.Activity.the-variants.{Still, Moving, Warned}
-use Rattle.lighting.specs.declared.Answer.{Answer}
-use Rattle.lighting.specs.declared.Answer.the-variants.{Done, Value, Absent, Refused}
-use Rattle.lighting.specs.declared.Operation.{Operation}
-use Rattle.lighting.specs.declared.Operation.the-variants.{Stop, FadeTo, FadeToOver, RampTo, RampToAtRate, StepUp, StepDown, StepUpBy, StepDownBy, Goto, Relinquish}
-use Rattle.lighting.specs.declared.Output.{Output}
-use Rattle.lighting.specs.declared.Slots.{Slots}
-use Rattle.lighting.specs.declared.Timer.{Timer}
-use Rattle.lighting.specs.declared.Timer.the-variants.{Off, Running}
-use Rattle.lighting.proofs.Split.{by-bool, by-lt}
+use Rattle.lighting_levels.specs.Paper.Choice.{if_then_else_}
+use Rattle.lighting_frames.specs.Paper.Frames.{Bytes}
+use Rattle.lighting_outputs.specs.Paper.Slots.{isLive, levelAt}
+use Rattle.lighting_outputs.specs.Paper.Value.{presentValue, progressValue, inProcess, lit}
+use Rattle.lighting_outputs.specs.Paper.Relay.{relayState}
+use Rattle.lighting_outputs.specs.Paper.Properties.{propertyOf, readProperty}
+use Rattle.lighting_outputs.specs.declared.Activity.{Activity}
+use Rattle.lighting_outputs.specs.declared.Activity.the-variants.{Still, Moving, Warned}
+use Rattle.lighting_outputs.specs.declared.Answer.{Answer}
+use Rattle.lighting_outputs.specs.declared.Answer.the-variants.{Done, Value, Absent, Refused}
+use Rattle.lighting_outputs.specs.declared.Operation.{Operation}
+use Rattle.lighting_outputs.specs.declared.Operation.the-variants.{Stop, FadeTo, FadeToOver, RampTo, RampToAtRate, StepUp, StepDown, StepUpBy, StepDownBy, Goto, Relinquish}
+use Rattle.lighting_outputs.specs.declared.Output.{Output}
+use Rattle.lighting_outputs.specs.declared.Slots.{Slots}
+use Rattle.lighting_outputs.specs.declared.Timer.{Timer}
+use Rattle.lighting_outputs.specs.declared.Timer.the-variants.{Off, Running}
+use Rattle.lighting_levels.proofs.Split.{by-bool, by-lt}
 use Rattle.text_printing.specs.Text.{text}
 use Rattle.text_printing.specs.Writing.{answerLine}
 use Rattle.text_printing.specs.Page.{Wrote}

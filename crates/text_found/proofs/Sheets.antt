@@ -7,8 +7,8 @@ use native.Mathlib.Numerals.{add-one}
 use native.Mathlib.Omega.{arith}
 use lib.ListN.{length, take, drop, getD, length-take, drop-of-length-le}
 use lib.Seq.{drop-cons, getD-take}
-use Rattle.lighting.specs.Paper.Frames.{Bytes}
-use Rattle.lighting.specs.declared.Output.{Output}
+use Rattle.lighting_frames.specs.Paper.Frames.{Bytes}
+use Rattle.lighting_outputs.specs.declared.Output.{Output}
 use Rattle.text_printing.specs.Page.{Wrote}
 use Rattle.text_found.specs.Found.{foundHead, foundOutput, marked, Sheet, sheet, withText, withRoom, withOutput, withOutputs, withFound}
 

@@ -5,9 +5,9 @@ use Prim.Native.Nat.{ℕ, suc, _+_, _-_, min, max}
 use lib.Dec.{ltb}
 use lib.ListN.{length}
 use lib.Seq.{sets}
-use Rattle.lighting.specs.Paper.Choice.{if_then_else_, _also_}
-use Rattle.lighting.specs.Paper.Frames.{Bytes}
-use Rattle.lighting.specs.declared.Output.{Output}
+use Rattle.lighting_levels.specs.Paper.Choice.{if_then_else_, _also_}
+use Rattle.lighting_frames.specs.Paper.Frames.{Bytes}
+use Rattle.lighting_outputs.specs.declared.Output.{Output}
 use Rattle.text_block.specs.Block.{block}
 use Rattle.text_report.specs.Report.{reportLine, reportHead}
 use Rattle.text_printing.specs.Text.{text}

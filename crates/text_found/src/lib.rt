@@ -4,7 +4,7 @@ ghost use lib.ListN.{length, take};
 ghost use Rattle.text_printing.specs.Page.{Wrote};
 ghost use Rattle.text_found.specs.Found.{foundHead, foundOutput, roomy, marked, sheet, withFound};
 use libc::STDOUT_FILENO;
-use lighting::Output;
+use lighting_outputs::Output;
 
 // A page with fewer free bytes than this is written out before more text is put on it. No answer's line and no output's block is longer.
 const ROOM: usize = 1024;

@@ -1,8 +1,8 @@
 -- Each definition by clauses, at the variant that a match has found (as lighting/proofs/Laws.antt).
 use mathlib.Core.Path.{_≡_}
 use Prim.Native.Nat.{ℕ}
-use Rattle.lighting.specs.Paper.Frames.{Bytes}
-use Rattle.lighting.specs.declared.Answer.{Answer}
+use Rattle.lighting_frames.specs.Paper.Frames.{Bytes}
+use Rattle.lighting_outputs.specs.declared.Answer.{Answer}
 use Rattle.text_printing.specs.Page.{Wrote}
 use Rattle.text_printing.specs.Writing.{answerLine}
 

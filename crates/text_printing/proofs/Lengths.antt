@@ -5,11 +5,11 @@ use Prim.Native.Nat.{ℕ, zero, suc, _*_, _/_, _≤_}
 use native.Mathlib.Omega.{arith}
 use lib.ListN.{length, length-append}
 use lib.Dec.{ltb}
-use Rattle.lighting.specs.Paper.Choice.{if_then_else_}
-use Rattle.lighting.specs.Paper.Frames.{Bytes}
-use Rattle.lighting.specs.declared.Answer.{Answer}
-use Rattle.lighting.specs.declared.Answer.the-variants.{Done, Value, Absent, Refused}
-use Rattle.lighting.proofs.Split.{by-bool}
+use Rattle.lighting_levels.specs.Paper.Choice.{if_then_else_}
+use Rattle.lighting_frames.specs.Paper.Frames.{Bytes}
+use Rattle.lighting_outputs.specs.declared.Answer.{Answer}
+use Rattle.lighting_outputs.specs.declared.Answer.the-variants.{Done, Value, Absent, Refused}
+use Rattle.lighting_levels.proofs.Split.{by-bool}
 use Rattle.text_printing.specs.Writing.{hex2, hex4, hex8, hexBytes, decimalBy, decimal, answerLine}
 
 decimal-by-length : (k n : ℕ) → length (decimalBy k n) ≤ suc k

@@ -6,8 +6,8 @@ use native.Mathlib.Omega.{arith}
 use native.Mathlib.Numerals.{add-one}
 use lib.ListN.{length, take, drop, getD, set, length-append}
 use lib.Seq.{sets, length-sets, sets-eq, set-out, take-suc, take-at, length-take-le}
-use Rattle.lighting.specs.Paper.Frames.{Bytes}
-use Rattle.lighting.proofs.Split.{by-le}
+use Rattle.lighting_frames.specs.Paper.Frames.{Bytes}
+use Rattle.lighting_levels.proofs.Split.{by-le}
 use Rattle.text_printing.specs.Page.{Wrote}
 use Rattle.text_printing.specs.Writing.{hex2, hexBytes}
 

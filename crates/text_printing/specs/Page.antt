@@ -3,7 +3,7 @@ use mathlib.Core.Path.{_≡_}
 use Prim.Native.Nat.{ℕ, _+_, min, max}
 use lib.ListN.{length}
 use lib.Seq.{sets}
-use Rattle.lighting.specs.Paper.Frames.{Bytes}
+use Rattle.lighting_frames.specs.Paper.Frames.{Bytes}
 
 -- the text x written on the page from the mark `at` on: what the page is then, and the new mark
 pub record Wrote (page : Bytes) (at : ℕ) (x after : Bytes) (mark : ℕ) : Type 0 where

@@ -2,10 +2,10 @@
 use mathlib.Core.List.{[], _∷_, _++_}
 use Prim.Native.Nat.{ℕ, zero, suc, _+_, _/_, _%_}
 use lib.Dec.{ltb}
-use Rattle.lighting.specs.Paper.Choice.{if_then_else_}
-use Rattle.lighting.specs.Paper.Frames.{Bytes}
-use Rattle.lighting.specs.declared.Answer.{Answer}
-use Rattle.lighting.specs.declared.Answer.the-variants.{Done, Value, Absent, Refused}
+use Rattle.lighting_levels.specs.Paper.Choice.{if_then_else_}
+use Rattle.lighting_frames.specs.Paper.Frames.{Bytes}
+use Rattle.lighting_outputs.specs.declared.Answer.{Answer}
+use Rattle.lighting_outputs.specs.declared.Answer.the-variants.{Done, Value, Absent, Refused}
 use Rattle.text_printing.specs.Text.{text}
 
 -- HEXADECIMAL, in upper case: `0` to `9`, `A` to `F`

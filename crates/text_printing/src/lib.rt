@@ -6,7 +6,7 @@ ghost use Prim.Native.Nat.{_+_, _%_, _≤_, _<_};
 ghost use lib.ListN.{drop, length};
 ghost use Rattle.text_printing.specs.Page.{Wrote};
 ghost use Rattle.text_printing.specs.Writing.{hexDigit, hex2, hex4, hex8, hexBytes, decimal, newline, valueWord, refusedWord, answerLine};
-use lighting::Answer;
+use lighting_outputs::Answer;
 
 // ---- bytes
 

@@ -4,9 +4,9 @@ use mathlib.Core.Logic.{_≢_}
 use mathlib.Core.List.{_∷_, _++_}
 use Prim.Native.Nat.{ℕ, suc, _+_, _*_, _≤_, _<_, min}
 use native.Mathlib.Omega.{arith}
-use Rattle.lighting.specs.Paper.Choice.{if_then_else_}
-use Rattle.lighting.specs.Paper.Frames.{Bytes}
-use Rattle.lighting.proofs.Split.{eqb-hit, eqb-miss, leb-yes}
+use Rattle.lighting_levels.specs.Paper.Choice.{if_then_else_}
+use Rattle.lighting_frames.specs.Paper.Frames.{Bytes}
+use Rattle.lighting_levels.proofs.Split.{eqb-hit, eqb-miss, leb-yes}
 use Rattle.text_reading.specs.Reading.{isBlank, letter, opened, lettered, spelled, gapped, grownHeld, numbered, step, storedBy, withHeld, feed, lineOf, countLine}
 use Rattle.text_reading.specs.Spelling.{figure, Blanks, no-blank, one-blank, Writes, no-digit, one-digit, outputsWord, Heading, heading}
 use Rattle.text_reading.specs.declared.Held.{Held}

@@ -5,9 +5,9 @@ use mathlib.Core.List.{[], _∷_, _++_}
 use Prim.Native.Nat.{ℕ, _<_}
 use native.Mathlib.Omega.{arith}
 use lib.ListN.{length, take}
-use Rattle.lighting.specs.Paper.Choice.{if_then_else_}
-use Rattle.lighting.specs.Paper.Frames.{Bytes, Octets}
-use Rattle.lighting.proofs.Split.{leb-yes}
+use Rattle.lighting_levels.specs.Paper.Choice.{if_then_else_}
+use Rattle.lighting_frames.specs.Paper.Frames.{Bytes, Octets}
+use Rattle.lighting_levels.proofs.Split.{leb-yes}
 use Rattle.text_reading.specs.Reading.{bytesKept, isBlank, hexValue, opened, step, storedBy, withHeld, feed, fed, lineOf, content, nextLine, withOutputs, freshReader}
 use Rattle.text_reading.specs.Spelling.{Unbroken, nothing, char, Blanks, no-blank, one-blank, Silent, blanks, comment, Gives, bytes, dash}
 use Rattle.text_reading.specs.declared.Held.{Held}

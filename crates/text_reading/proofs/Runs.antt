@@ -5,9 +5,9 @@ use mathlib.Core.Bool.{true, false≢true}
 use Prim.Native.Nat.{ℕ, suc, _+_, _-_, _*_, _≤_, _<_}
 use native.Mathlib.Omega.{arith}
 use lib.ListN.{length, getD, set}
-use Rattle.lighting.specs.Paper.Choice.{if_then_else_}
-use Rattle.lighting.specs.Paper.Frames.{Bytes}
-use Rattle.lighting.proofs.Split.{by-lt, le-of, leb-yes}
+use Rattle.lighting_levels.specs.Paper.Choice.{if_then_else_}
+use Rattle.lighting_frames.specs.Paper.Frames.{Bytes}
+use Rattle.lighting_levels.proofs.Split.{by-lt, le-of, leb-yes}
 use Rattle.text_reading.specs.Reading.{isBlank, hexValue, mayBegin, bytesKept, bytePair, pushed, withHeld, feed}
 use Rattle.text_reading.specs.Spelling.{Digit, figure, upper, lower}
 use Rattle.text_reading.specs.declared.Held.{Held}

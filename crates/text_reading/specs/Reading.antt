@@ -4,9 +4,9 @@ use mathlib.Core.List.{[], _∷_}
 use Prim.Native.Nat.{ℕ, suc, _+_, _-_, _*_, _%_, min}
 use lib.Dec.{ltb, eqb}
 use lib.ListN.{set, replicate, take}
-use Rattle.lighting.specs.Paper.Choice.{if_then_else_}
-use Rattle.lighting.specs.Paper.Kinds.{longestFrame}
-use Rattle.lighting.specs.Paper.Frames.{Bytes}
+use Rattle.lighting_levels.specs.Paper.Choice.{if_then_else_}
+use Rattle.lighting_frames.specs.Paper.Kinds.{longestFrame}
+use Rattle.lighting_frames.specs.Paper.Frames.{Bytes}
 use Rattle.text_reading.specs.declared.Fault.the-variants.{NoOutputs, BadCount, NoDigit, HalfByte}
 use Rattle.text_reading.specs.declared.Held.{Held}
 use Rattle.text_reading.specs.declared.Held.the-variants.{Blank, Comment, Letters, Gap, Number, Trail, Whole, Half, Dash, Spoilt}

@@ -4,7 +4,7 @@ use mathlib.Core.Logic.{_≢_}
 use mathlib.Core.Bool.{true}
 use mathlib.Core.List.{[], _∷_, _++_}
 use Prim.Native.Nat.{ℕ, _+_, _*_, _≤_, _<_}
-use Rattle.lighting.specs.Paper.Frames.{Bytes}
+use Rattle.lighting_frames.specs.Paper.Frames.{Bytes}
 use Rattle.text_reading.specs.Reading.{isBlank}
 
 -- BYTES. A hexadecimal digit of either case, and its character: `0` to `9`, `A` to `F`, `a` to `f`

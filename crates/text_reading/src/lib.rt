@@ -49,7 +49,7 @@ pub enum Line {
 }
 
 // How many bytes of a line's string are kept: one more than the longest frame has, so that they tell any longer string from a frame.
-pub const BYTES_KEPT: usize = lighting::LONGEST_FRAME + 1;
+pub const BYTES_KEPT: usize = lighting_frames::LONGEST_FRAME + 1;
 
 // The reader between two bytes: the number of outputs that the list has named (0: none yet), the line's number, what it holds so far, and
 // of its bytes the first ones.

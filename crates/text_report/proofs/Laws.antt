@@ -1,10 +1,10 @@
 -- Each definition by clauses, at the variant that a match has found (as lighting/proofs/Laws.antt).
 use mathlib.Core.Path.{_≡_}
 use Prim.Native.Nat.{ℕ}
-use Rattle.lighting.specs.Paper.Frames.{Bytes}
-use Rattle.lighting.specs.declared.Activity.{Activity}
-use Rattle.lighting.specs.declared.Operation.{Operation}
-use Rattle.lighting.specs.declared.Timer.{Timer}
+use Rattle.lighting_frames.specs.Paper.Frames.{Bytes}
+use Rattle.lighting_outputs.specs.declared.Activity.{Activity}
+use Rattle.lighting_outputs.specs.declared.Operation.{Operation}
+use Rattle.lighting_outputs.specs.declared.Timer.{Timer}
 use Rattle.text_printing.specs.Page.{Wrote}
 use Rattle.text_report.specs.Report.{operationName, activityText, timerText}
 

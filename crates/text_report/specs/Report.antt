@@ -3,18 +3,18 @@ use mathlib.Core.Bool.{Bool}
 use mathlib.Core.List.{[], _∷_, _++_}
 use Prim.Native.Nat.{ℕ, _+_, _*_, _/_, _%_}
 use lib.Dec.{ltb}
-use Rattle.lighting.specs.Paper.Choice.{if_then_else_}
-use Rattle.lighting.specs.Paper.Frames.{Bytes}
-use Rattle.lighting.specs.Paper.Value.{presentValue, progressValue, lit}
-use Rattle.lighting.specs.Paper.Relay.{relayState}
-use Rattle.lighting.specs.declared.Relay.{Relay}
-use Rattle.lighting.specs.declared.Activity.{Activity}
-use Rattle.lighting.specs.declared.Activity.the-variants.{Still, Moving, Warned}
-use Rattle.lighting.specs.declared.Timer.{Timer}
-use Rattle.lighting.specs.declared.Timer.the-variants.{Off, Running}
-use Rattle.lighting.specs.declared.Operation.{Operation}
-use Rattle.lighting.specs.declared.Operation.the-variants.{Stop, FadeTo, FadeToOver, RampTo, RampToAtRate, StepUp, StepDown, StepUpBy, StepDownBy, Goto, Relinquish}
-use Rattle.lighting.specs.declared.Output.{Output}
+use Rattle.lighting_levels.specs.Paper.Choice.{if_then_else_}
+use Rattle.lighting_frames.specs.Paper.Frames.{Bytes}
+use Rattle.lighting_outputs.specs.Paper.Value.{presentValue, progressValue, lit}
+use Rattle.lighting_outputs.specs.Paper.Relay.{relayState}
+use Rattle.lighting_outputs.specs.declared.Relay.{Relay}
+use Rattle.lighting_outputs.specs.declared.Activity.{Activity}
+use Rattle.lighting_outputs.specs.declared.Activity.the-variants.{Still, Moving, Warned}
+use Rattle.lighting_outputs.specs.declared.Timer.{Timer}
+use Rattle.lighting_outputs.specs.declared.Timer.the-variants.{Off, Running}
+use Rattle.lighting_outputs.specs.declared.Operation.{Operation}
+use Rattle.lighting_outputs.specs.declared.Operation.the-variants.{Stop, FadeTo, FadeToOver, RampTo, RampToAtRate, StepUp, StepDown, StepUpBy, StepDownBy, Goto, Relinquish}
+use Rattle.lighting_outputs.specs.declared.Output.{Output}
 use Rattle.text_printing.specs.Text.{text}
 use Rattle.text_printing.specs.Writing.{decimal, newline}
 

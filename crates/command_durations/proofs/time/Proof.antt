@@ -1,7 +1,7 @@
 -- Drafted by tools/draft.py: nothing here was written by hand.
-use Rattle.lighting.proofs.Choosing.{ifs}
-use Rattle.lighting.proofs.Laws.{timed-on}
-use Rattle.lighting.specs.Paper.Commands.{timed}
+use Rattle.lighting_levels.proofs.Choosing.{ifs}
+use Rattle.lighting_outputs.proofs.Laws.{timed-on}
+use Rattle.lighting_outputs.specs.Paper.Commands.{timed}
 use borrow.Author.Needs.{needs}
 use Rattle.command_durations.proofs.time.Statement.{statement}
 use Rattle.command_durations.proofs.time.Tie as tie

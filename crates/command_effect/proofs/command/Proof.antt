@@ -1,5 +1,5 @@
 -- Drafted by tools/draft.py: nothing here was written by hand.
-use Rattle.lighting.specs.Paper.Commands.{commanded}
+use Rattle.lighting_outputs.specs.Paper.Commands.{commanded}
 use borrow.Author.Needs.{needs}
 use Rattle.command_effect.proofs.command.Statement.{statement}
 use Rattle.command_effect.proofs.command.Tie as tie

@@ -1,5 +1,5 @@
 -- Drafted by tools/draft.py: nothing here was written by hand.
-use Rattle.lighting.specs.Paper.Commands.{wentTo}
+use Rattle.lighting_outputs.specs.Paper.Commands.{wentTo}
 use borrow.Author.Needs.{needs}
 use Rattle.command_effect.proofs.go_to.Statement.{statement}
 use Rattle.command_effect.proofs.go_to.Tie as tie

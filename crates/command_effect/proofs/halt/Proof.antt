@@ -1,5 +1,5 @@
 -- Drafted by tools/draft.py: nothing here was written by hand.
-use Rattle.lighting.specs.Paper.Commands.{halted}
+use Rattle.lighting_outputs.specs.Paper.Commands.{halted}
 use borrow.Author.Needs.{needs}
 use Rattle.command_effect.proofs.halt.Statement.{statement}
 use Rattle.command_effect.proofs.halt.Tie as tie

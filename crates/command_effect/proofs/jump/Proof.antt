@@ -1,5 +1,5 @@
 -- Drafted by tools/draft.py: nothing here was written by hand.
-use Rattle.lighting.specs.Paper.Commands.{jumped}
+use Rattle.lighting_outputs.specs.Paper.Commands.{jumped}
 use borrow.Author.Needs.{needs}
 use Rattle.command_effect.proofs.jump.Statement.{statement}
 use Rattle.command_effect.proofs.jump.Tie as tie

@@ -1,7 +1,7 @@
 -- Drafted by tools/draft.py: nothing here was written by hand.
-use Rattle.lighting.proofs.Choosing.{ifs}
-use Rattle.lighting.proofs.Laws.{effect-on}
-use Rattle.lighting.specs.Paper.Commands.{effect}
+use Rattle.lighting_levels.proofs.Choosing.{ifs}
+use Rattle.lighting_outputs.proofs.Laws.{effect-on}
+use Rattle.lighting_outputs.specs.Paper.Commands.{effect}
 use borrow.Author.Needs.{needs}
 use Rattle.command_effect.proofs.make_effect.Statement.{statement}
 use Rattle.command_effect.proofs.make_effect.Tie as tie

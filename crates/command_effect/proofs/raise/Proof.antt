@@ -1,6 +1,6 @@
 -- Drafted by tools/draft.py: nothing here was written by hand.
-use Rattle.lighting.proofs.Choosing.{ifs}
-use Rattle.lighting.specs.Paper.Commands.{raised}
+use Rattle.lighting_levels.proofs.Choosing.{ifs}
+use Rattle.lighting_outputs.specs.Paper.Commands.{raised}
 use borrow.Author.Needs.{needs}
 use Rattle.command_effect.proofs.raise.Statement.{statement}
 use Rattle.command_effect.proofs.raise.Tie as tie

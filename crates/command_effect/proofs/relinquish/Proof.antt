@@ -1,5 +1,5 @@
 -- Drafted by tools/draft.py: nothing here was written by hand.
-use Rattle.lighting.specs.Paper.Commands.{relinquished}
+use Rattle.lighting_outputs.specs.Paper.Commands.{relinquished}
 use borrow.Author.Needs.{needs}
 use Rattle.command_effect.proofs.relinquish.Statement.{statement}
 use Rattle.command_effect.proofs.relinquish.Tie as tie

@@ -1,5 +1,5 @@
 -- Drafted by tools/draft.py: nothing here was written by hand.
-use Rattle.lighting.specs.Paper.Commands.{steppedDown}
+use Rattle.lighting_outputs.specs.Paper.Commands.{steppedDown}
 use borrow.Author.Needs.{needs}
 use Rattle.command_effect.proofs.step_down.Statement.{statement}
 use Rattle.command_effect.proofs.step_down.Tie as tie

@@ -1,5 +1,5 @@
 -- Drafted by tools/draft.py: nothing here was written by hand.
-use Rattle.lighting.specs.Paper.Commands.{steppedUp}
+use Rattle.lighting_outputs.specs.Paper.Commands.{steppedUp}
 use borrow.Author.Needs.{needs}
 use Rattle.command_effect.proofs.step_up.Statement.{statement}
 use Rattle.command_effect.proofs.step_up.Tie as tie

@@ -1,10 +1,10 @@
 -- `command_effect::stop` meets its contract.
 use mathlib.Core.Path.{_≡_}
-use Rattle.lighting.specs.declared.Slots.{Slots}
-use Rattle.lighting.specs.declared.Activity.{Activity}
-use Rattle.lighting.proofs.Choosing.{ifs}
-use Rattle.lighting.proofs.Laws.{stopped-on}
-use Rattle.lighting.specs.Paper.Commands.{stopped, asItIs}
+use Rattle.lighting_outputs.specs.declared.Slots.{Slots}
+use Rattle.lighting_outputs.specs.declared.Activity.{Activity}
+use Rattle.lighting_levels.proofs.Choosing.{ifs}
+use Rattle.lighting_outputs.proofs.Laws.{stopped-on}
+use Rattle.lighting_outputs.specs.Paper.Commands.{stopped, asItIs}
 use borrow.Author.Needs.{needs}
 use Rattle.command_effect.proofs.stop.Statement.{statement}
 use Rattle.command_effect.proofs.stop.Tie as tie

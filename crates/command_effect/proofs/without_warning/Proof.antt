@@ -1,7 +1,7 @@
 -- Drafted by tools/draft.py: nothing here was written by hand.
-use Rattle.lighting.proofs.Choosing.{ifs}
-use Rattle.lighting.proofs.Laws.{activityWithoutWarning-on}
-use Rattle.lighting.specs.Paper.Commands.{activityWithoutWarning}
+use Rattle.lighting_levels.proofs.Choosing.{ifs}
+use Rattle.lighting_outputs.proofs.Laws.{activityWithoutWarning-on}
+use Rattle.lighting_outputs.specs.Paper.Commands.{activityWithoutWarning}
 use borrow.Author.Needs.{needs}
 use Rattle.command_effect.proofs.without_warning.Statement.{statement}
 use Rattle.command_effect.proofs.without_warning.Tie as tie

@@ -1,5 +1,5 @@
 -- Drafted by tools/draft.py: nothing here was written by hand.
-use Rattle.lighting.specs.Paper.Commands.{fadedOver}
+use Rattle.lighting_outputs.specs.Paper.Commands.{fadedOver}
 use borrow.Author.Needs.{needs}
 use Rattle.command_moving.proofs.fade_over.Statement.{statement}
 use Rattle.command_moving.proofs.fade_over.Tie as tie

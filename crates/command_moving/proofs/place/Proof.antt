@@ -1,5 +1,5 @@
 -- Drafted by tools/draft.py: nothing here was written by hand.
-use Rattle.lighting.specs.Paper.Commands.{placed}
+use Rattle.lighting_outputs.specs.Paper.Commands.{placed}
 use borrow.Author.Needs.{needs}
 use Rattle.command_moving.proofs.place.Statement.{statement}
 use Rattle.command_moving.proofs.place.Tie as tie

@@ -1,5 +1,5 @@
 -- Drafted by tools/draft.py: nothing here was written by hand.
-use Rattle.lighting.specs.Paper.Commands.{rampedAt}
+use Rattle.lighting_outputs.specs.Paper.Commands.{rampedAt}
 use borrow.Author.Needs.{needs}
 use Rattle.command_moving.proofs.ramp_at.Statement.{statement}
 use Rattle.command_moving.proofs.ramp_at.Tie as tie

@@ -1,5 +1,5 @@
 -- `command_moving::ramp_length` meets its contract: the length fits since no rate is below 8,192.
-use Rattle.lighting.specs.Paper.Commands.{rampLength}
+use Rattle.lighting_outputs.specs.Paper.Commands.{rampLength}
 use borrow.Author.Needs.{needs}
 use Prim.Native.Nat.{ℕ, _+_, _-_, _*_, _/_, _≤_, _<_}
 use native.Mathlib.Omega.{arith}

@@ -1,5 +1,5 @@
 -- Drafted by tools/draft.py: nothing here was written by hand.
-use Rattle.lighting.specs.Paper.Commands.{rampedTo}
+use Rattle.lighting_outputs.specs.Paper.Commands.{rampedTo}
 use borrow.Author.Needs.{needs}
 use Rattle.command_moving.proofs.ramp_to.Statement.{statement}
 use Rattle.command_moving.proofs.ramp_to.Tie as tie

@@ -1,6 +1,6 @@
 -- Drafted by tools/draft.py: nothing here was written by hand.
-use Rattle.lighting.proofs.Choosing.{ifs}
-use Rattle.lighting.specs.Paper.Commands.{replaced}
+use Rattle.lighting_levels.proofs.Choosing.{ifs}
+use Rattle.lighting_outputs.specs.Paper.Commands.{replaced}
 use borrow.Author.Needs.{needs}
 use Rattle.command_moving.proofs.replace.Statement.{statement}
 use Rattle.command_moving.proofs.replace.Tie as tie

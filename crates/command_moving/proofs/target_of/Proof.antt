@@ -1,5 +1,5 @@
 -- Drafted by tools/draft.py: nothing here was written by hand.
-use Rattle.lighting.specs.Paper.Commands.{target}
+use Rattle.lighting_outputs.specs.Paper.Commands.{target}
 use borrow.Author.Needs.{needs}
 use Rattle.command_moving.proofs.target_of.Statement.{statement}
 use Rattle.command_moving.proofs.target_of.Tie as tie

@@ -1,7 +1,7 @@
 -- Drafted by tools/draft.py: nothing here was written by hand.
-use Rattle.lighting.proofs.Choosing.{ifs}
-use Rattle.lighting.proofs.Laws.{fieldsOf-on}
-use Rattle.lighting.specs.Paper.Operations.{fieldsOf}
+use Rattle.lighting_levels.proofs.Choosing.{ifs}
+use Rattle.lighting_outputs.proofs.Laws.{fieldsOf-on}
+use Rattle.lighting_outputs.specs.Paper.Operations.{fieldsOf}
 use borrow.Author.Needs.{needs}
 use Rattle.command_operations.proofs.fields_of.Statement.{statement}
 use Rattle.command_operations.proofs.fields_of.Tie as tie

@@ -1,7 +1,7 @@
 -- Drafted by tools/draft.py: nothing here was written by hand.
-use Rattle.lighting.proofs.Choosing.{ifs}
-use Rattle.lighting.proofs.Laws.{operationNumber-on}
-use Rattle.lighting.specs.Paper.Operations.{operationNumber}
+use Rattle.lighting_levels.proofs.Choosing.{ifs}
+use Rattle.lighting_outputs.proofs.Laws.{operationNumber-on}
+use Rattle.lighting_outputs.specs.Paper.Operations.{operationNumber}
 use borrow.Author.Needs.{needs}
 use Rattle.command_operations.proofs.operation_number.Statement.{statement}
 use Rattle.command_operations.proofs.operation_number.Tie as tie

@@ -1,6 +1,6 @@
-use Rattle.lighting.proofs.Choosing.{ifs}
-use Rattle.lighting.proofs.Laws.{amountFieldRefusal-on}
-use Rattle.lighting.specs.Paper.Frames.{amountFieldRefusal}
+use Rattle.lighting_levels.proofs.Choosing.{ifs}
+use Rattle.lighting_outputs.proofs.Laws.{amountFieldRefusal-on}
+use Rattle.lighting_outputs.specs.Paper.Requests.{amountFieldRefusal}
 use borrow.Author.Needs.{needs}
 use Rattle.command_parse.proofs.amount_field_refusal.Statement.{statement}
 use Rattle.command_parse.proofs.amount_field_refusal.Tie as tie

@@ -1,6 +1,6 @@
 -- Drafted by tools/draft.py: nothing here was written by hand.
-use Rattle.lighting.proofs.Choosing.{ifs}
-use Rattle.lighting.specs.Paper.Frames.{commandRequestBy}
+use Rattle.lighting_levels.proofs.Choosing.{ifs}
+use Rattle.lighting_outputs.specs.Paper.Requests.{commandRequestBy}
 use borrow.Author.Needs.{needs}
 use Rattle.command_parse.proofs.command_request_by.Statement.{statement}
 use Rattle.command_parse.proofs.command_request_by.Tie as tie

@@ -1,7 +1,7 @@
 -- Drafted by tools/draft.py: nothing here was written by hand.
-use Rattle.lighting.proofs.Choosing.{ifs}
-use Rattle.lighting.proofs.Laws.{commandWithDuration-on}
-use Rattle.lighting.specs.Paper.Frames.{commandWithDuration}
+use Rattle.lighting_levels.proofs.Choosing.{ifs}
+use Rattle.lighting_outputs.proofs.Laws.{commandWithDuration-on}
+use Rattle.lighting_outputs.specs.Paper.Requests.{commandWithDuration}
 use borrow.Author.Needs.{needs}
 use Rattle.command_parse.proofs.command_with_duration.Statement.{statement}
 use Rattle.command_parse.proofs.command_with_duration.Tie as tie

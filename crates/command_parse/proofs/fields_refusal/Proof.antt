@@ -1,5 +1,5 @@
 -- Drafted by tools/draft.py: nothing here was written by hand.
-use Rattle.lighting.specs.Paper.Frames.{fieldsRefusal}
+use Rattle.lighting_outputs.specs.Paper.Requests.{fieldsRefusal}
 use borrow.Author.Needs.{needs}
 use Rattle.command_parse.proofs.fields_refusal.Statement.{statement}
 use Rattle.command_parse.proofs.fields_refusal.Tie as tie

@@ -1,7 +1,7 @@
 -- Drafted by tools/draft.py: nothing here was written by hand.
-use Rattle.lighting.proofs.Choosing.{ifs}
-use Rattle.lighting.proofs.Laws.{taggedRequest-on}
-use Rattle.lighting.specs.Paper.Frames.{taggedRequest}
+use Rattle.lighting_levels.proofs.Choosing.{ifs}
+use Rattle.lighting_frames.proofs.Laws.{taggedRequest-on}
+use Rattle.lighting_frames.specs.Paper.Frames.{taggedRequest}
 use borrow.Author.Needs.{needs}
 use Rattle.command_parse.proofs.tagged_request.Statement.{statement}
 use Rattle.command_parse.proofs.tagged_request.Tie as tie

@@ -1,7 +1,7 @@
 -- Drafted by tools/draft.py: nothing here was written by hand.
-use Rattle.lighting.proofs.Choosing.{ifs}
-use Rattle.lighting.proofs.Laws.{timeFieldRefusal-on}
-use Rattle.lighting.specs.Paper.Frames.{timeFieldRefusal}
+use Rattle.lighting_levels.proofs.Choosing.{ifs}
+use Rattle.lighting_outputs.proofs.Laws.{timeFieldRefusal-on}
+use Rattle.lighting_outputs.specs.Paper.Requests.{timeFieldRefusal}
 use borrow.Author.Needs.{needs}
 use Rattle.command_parse.proofs.time_field_refusal.Statement.{statement}
 use Rattle.command_parse.proofs.time_field_refusal.Tie as tie

@@ -1,5 +1,5 @@
 -- Drafted by tools/draft.py: nothing here was written by hand.
-use Rattle.lighting.specs.Paper.Commands.{stepUpFrom}
+use Rattle.lighting_outputs.specs.Paper.Commands.{stepUpFrom}
 use borrow.Author.Needs.{needs}
 use Rattle.command_steps.proofs.step_up_from.Statement.{statement}
 use Rattle.command_steps.proofs.step_up_from.Tie as tie

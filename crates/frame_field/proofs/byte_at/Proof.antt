@@ -1,7 +1,7 @@
 -- `frame_field::byte_at` meets its contract.
 use mathlib.Core.Path.{refl, sym}
 use lib.ListN.{List·getD-eq-default}
-use Rattle.lighting.specs.Paper.Field.{byteAt}
+use Rattle.lighting_levels.specs.Paper.Field.{byteAt}
 use borrow.Author.Needs.{needs}
 use Rattle.frame_field.proofs.byte_at.Statement.{statement}
 use Rattle.frame_field.proofs.byte_at.Tie as tie

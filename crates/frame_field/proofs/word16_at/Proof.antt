@@ -1,7 +1,7 @@
 -- `frame_field::word16_at` meets its contract.
 use mathlib.Core.Path.{sym, _∙_}
 use native.Mathlib.Omega.{arith}
-use Rattle.lighting.proofs.Fields.{single, joined-within}
+use Rattle.lighting_levels.proofs.Fields.{single, joined-within}
 use borrow.Author.Needs.{needs}
 use Rattle.frame_field.proofs.word16_at.Statement.{statement}
 use Rattle.frame_field.proofs.word16_at.Tie as tie

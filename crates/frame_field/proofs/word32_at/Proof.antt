@@ -1,6 +1,6 @@
 -- `frame_field::word32_at` meets its contract.
 use native.Mathlib.Omega.{arith}
-use Rattle.lighting.proofs.Fields.{joined-within}
+use Rattle.lighting_levels.proofs.Fields.{joined-within}
 use borrow.Author.Needs.{needs}
 use Rattle.frame_field.proofs.word32_at.Statement.{statement}
 use Rattle.frame_field.proofs.word32_at.Tie as tie

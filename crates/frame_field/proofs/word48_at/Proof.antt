@@ -1,7 +1,7 @@
 -- `frame_field::word48_at` meets its contract.
 use mathlib.Core.Path.{_∙_}
 use native.Mathlib.Omega.{arith}
-use Rattle.lighting.proofs.Fields.{joined-within}
+use Rattle.lighting_levels.proofs.Fields.{joined-within}
 use borrow.Author.Needs.{needs}
 use Rattle.frame_field.proofs.word48_at.Statement.{statement}
 use Rattle.frame_field.proofs.word48_at.Tie as tie

@@ -1,7 +1,7 @@
 -- Drafted by tools/draft.py: nothing here was written by hand.
-use Rattle.lighting.proofs.Choosing.{ifs}
-use Rattle.lighting.proofs.Laws.{callsBy-on}
-use Rattle.lighting.specs.Paper.Kinds.{callsBy}
+use Rattle.lighting_levels.proofs.Choosing.{ifs}
+use Rattle.lighting_frames.proofs.Laws.{callsBy-on}
+use Rattle.lighting_frames.specs.Paper.Kinds.{callsBy}
 use borrow.Author.Needs.{needs}
 use Rattle.frame_kinds.proofs.calls_by.Statement.{statement}
 use Rattle.frame_kinds.proofs.calls_by.Tie as tie

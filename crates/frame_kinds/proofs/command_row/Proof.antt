@@ -1,6 +1,6 @@
-use Rattle.lighting.specs.Paper.Choice.{if_then_else_}
+use Rattle.lighting_levels.specs.Paper.Choice.{if_then_else_}
 use Rattle.frame_kinds.proofs.Table.{table}
-use Rattle.lighting.specs.Paper.Kinds.{kindRow}
+use Rattle.lighting_frames.specs.Paper.Kinds.{kindRow}
 use borrow.Author.Needs.{needs}
 use Rattle.frame_kinds.proofs.command_row.Statement.{statement}
 use Rattle.frame_kinds.proofs.command_row.Tie as tie

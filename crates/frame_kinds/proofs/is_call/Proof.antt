@@ -1,5 +1,5 @@
 -- Drafted by tools/draft.py: nothing here was written by hand.
-use Rattle.lighting.specs.Paper.Kinds.{isCall}
+use Rattle.lighting_frames.specs.Paper.Kinds.{isCall}
 use borrow.Author.Needs.{needs}
 use Rattle.frame_kinds.proofs.is_call.Statement.{statement}
 use Rattle.frame_kinds.proofs.is_call.Tie as tie

@@ -1,5 +1,5 @@
 -- Drafted by tools/draft.py: nothing here was written by hand.
-use Rattle.lighting.specs.Paper.Kinds.{kindLength}
+use Rattle.lighting_frames.specs.Paper.Kinds.{kindLength}
 use borrow.Author.Needs.{needs}
 use Rattle.frame_kinds.proofs.kind_length.Statement.{statement}
 use Rattle.frame_kinds.proofs.kind_length.Tie as tie

@@ -1,4 +1,4 @@
-use Rattle.lighting.specs.Paper.Frames.{callOf}
+use Rattle.lighting_frames.specs.Paper.Frames.{callOf}
 use borrow.Author.Needs.{needs}
 use Rattle.frame_parse.proofs.call_of.Statement.{statement}
 use Rattle.frame_parse.proofs.call_of.Tie as tie

@@ -1,6 +1,6 @@
 -- Drafted by tools/draft.py: nothing here was written by hand.
-use Rattle.lighting.proofs.Choosing.{ifs}
-use Rattle.lighting.specs.Paper.Frames.{called}
+use Rattle.lighting_levels.proofs.Choosing.{ifs}
+use Rattle.lighting_frames.specs.Paper.Frames.{called}
 use borrow.Author.Needs.{needs}
 use Rattle.frame_parse.proofs.called.Statement.{statement}
 use Rattle.frame_parse.proofs.called.Tie as tie

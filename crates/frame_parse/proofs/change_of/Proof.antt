@@ -1,5 +1,5 @@
 -- Drafted by tools/draft.py: nothing here was written by hand.
-use Rattle.lighting.specs.Paper.Properties.{changeOf}
+use Rattle.lighting_outputs.specs.Paper.Properties.{changeOf}
 use borrow.Author.Needs.{needs}
 use Rattle.frame_parse.proofs.change_of.Statement.{statement}
 use Rattle.frame_parse.proofs.change_of.Tie as tie

@@ -1,4 +1,4 @@
-use Rattle.lighting.specs.Paper.Frames.{clockOf}
+use Rattle.lighting_frames.specs.Paper.Frames.{clockOf}
 use borrow.Author.Needs.{needs}
 use Rattle.frame_parse.proofs.clock_of.Statement.{statement}
 use Rattle.frame_parse.proofs.clock_of.Tie as tie

@@ -1,5 +1,5 @@
-use Rattle.lighting.proofs.Choosing.{ifs}
-use Rattle.lighting.specs.Paper.Frames.{emptyOf}
+use Rattle.lighting_levels.proofs.Choosing.{ifs}
+use Rattle.lighting_outputs.specs.Paper.Requests.{emptyOf}
 use borrow.Author.Needs.{needs}
 use Rattle.frame_parse.proofs.empty_of.Statement.{statement}
 use Rattle.frame_parse.proofs.empty_of.Tie as tie

@@ -1,5 +1,5 @@
 -- Drafted by tools/draft.py: nothing here was written by hand.
-use Rattle.lighting.specs.Paper.Frames.{parse}
+use Rattle.lighting_frames.specs.Paper.Frames.{parse}
 use borrow.Author.Needs.{needs}
 use Rattle.frame_parse.proofs.parse.Statement.{statement}
 use Rattle.frame_parse.proofs.parse.Tie as tie

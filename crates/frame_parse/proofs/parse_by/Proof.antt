@@ -1,6 +1,6 @@
-use Rattle.lighting.proofs.Choosing.{ifs}
-use Rattle.lighting.proofs.Laws.{parseBy-on}
-use Rattle.lighting.specs.Paper.Frames.{parseBy}
+use Rattle.lighting_levels.proofs.Choosing.{ifs}
+use Rattle.lighting_frames.proofs.Laws.{parseBy-on}
+use Rattle.lighting_frames.specs.Paper.Frames.{parseBy}
 use borrow.Author.Needs.{needs}
 use Rattle.frame_parse.proofs.parse_by.Statement.{statement}
 use Rattle.frame_parse.proofs.parse_by.Tie as tie

@@ -1,5 +1,5 @@
 -- Drafted by tools/draft.py: nothing here was written by hand.
-use Rattle.lighting.specs.Paper.Level.{real}
+use Rattle.lighting_levels.specs.Paper.Level.{real}
 use borrow.Author.Needs.{needs}
 use Rattle.frame_parse.proofs.real_at.Statement.{statement}
 use Rattle.frame_parse.proofs.real_at.Tie as tie

@@ -1,5 +1,5 @@
-use Rattle.lighting.proofs.Laws.{requestOf-on}
-use Rattle.lighting.specs.Paper.Frames.{requestOf}
+use Rattle.lighting_frames.proofs.Laws.{requestOf-on}
+use Rattle.lighting_frames.specs.Paper.Frames.{requestOf}
 use borrow.Author.Needs.{needs}
 use Rattle.frame_parse.proofs.request_of.Statement.{statement}
 use Rattle.frame_parse.proofs.request_of.Tie as tie

@@ -1,7 +1,7 @@
 -- Drafted by tools/draft.py: nothing here was written by hand.
-use Rattle.lighting.proofs.Choosing.{ifs}
-use Rattle.lighting.proofs.Laws.{writeLevel-on}
-use Rattle.lighting.specs.Paper.Frames.{writeLevel}
+use Rattle.lighting_levels.proofs.Choosing.{ifs}
+use Rattle.lighting_outputs.proofs.Laws.{writeLevel-on}
+use Rattle.lighting_outputs.specs.Paper.Requests.{writeLevel}
 use borrow.Author.Needs.{needs}
 use Rattle.frame_parse.proofs.write_level.Statement.{statement}
 use Rattle.frame_parse.proofs.write_level.Tie as tie

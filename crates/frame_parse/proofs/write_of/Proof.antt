@@ -1,5 +1,5 @@
-use Rattle.lighting.proofs.Choosing.{ifs}
-use Rattle.lighting.specs.Paper.Frames.{writeOf}
+use Rattle.lighting_levels.proofs.Choosing.{ifs}
+use Rattle.lighting_outputs.specs.Paper.Requests.{writeOf}
 use borrow.Author.Needs.{needs}
 use Rattle.frame_parse.proofs.write_of.Statement.{statement}
 use Rattle.frame_parse.proofs.write_of.Tie as tie

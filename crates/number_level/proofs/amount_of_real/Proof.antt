@@ -4,8 +4,8 @@ use native.Mathlib.Omega.{arith}
 use Prim.Native.Nat.{ℕ}
 use lib.Dec.{T}
 use lib.Ieee.{ofBits}
-use Rattle.lighting.specs.declared.Level.the-variants.{Units}
-use Rattle.lighting.specs.Paper.Level.{nearestTo}
+use Rattle.lighting_levels.specs.declared.Level.the-variants.{Units}
+use Rattle.lighting_levels.specs.Paper.Level.{nearestTo}
 use Rattle.number_level.proofs.Scaled.{Scaled, scaled, few-units, cast}
 use Rattle.number_level.proofs.Tested.{too-low, too-high}
 use Rattle.number_level.proofs.amount_of_real.Statement.{statement}

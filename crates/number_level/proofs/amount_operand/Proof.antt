@@ -1,5 +1,5 @@
 -- Drafted by tools/draft.py: nothing here was written by hand.
-use Rattle.lighting.specs.Paper.Level.{amountOperand}
+use Rattle.lighting_levels.specs.Paper.Level.{amountOperand}
 use borrow.Author.Needs.{needs}
 use Rattle.number_level.proofs.amount_operand.Statement.{statement}
 use Rattle.number_level.proofs.amount_operand.Tie as tie

@@ -1,8 +1,8 @@
 -- `number_level::amount_units` meets its contract.
-use Rattle.lighting.specs.Paper.Level.{unitsOr, amountUnits}
+use Rattle.lighting_levels.specs.Paper.Level.{unitsOr, amountUnits}
 use mathlib.Core.Path.{_≡_, ap, _∙_}
 use native.Mathlib.Omega.{arith}
-use Rattle.lighting.proofs.Ranges.{amount-range}
+use Rattle.lighting_levels.proofs.Ranges.{amount-range}
 use borrow.Author.Needs.{needs}
 use Rattle.number_level.proofs.amount_units.Statement.{statement}
 use Rattle.number_level.proofs.amount_units.Tie as tie

@@ -1,6 +1,6 @@
 -- `number_level::bits_of` meets its contract.
 use lib.Ieee.{toBits}
-use Rattle.lighting.specs.Paper.Level.{bits}
+use Rattle.lighting_levels.specs.Paper.Level.{bits}
 use Rattle.number_level.proofs.Numbers.{found, failed}
 use borrow.Author.Needs.{needs}
 use Rattle.number_level.proofs.bits_of.Statement.{statement}

@@ -1,7 +1,7 @@
 -- Drafted by tools/draft.py: nothing here was written by hand.
-use Rattle.lighting.proofs.Choosing.{ifs}
-use Rattle.lighting.proofs.Laws.{inRange-on}
-use Rattle.lighting.specs.Paper.Level.{inRange}
+use Rattle.lighting_levels.proofs.Choosing.{ifs}
+use Rattle.lighting_levels.proofs.Laws.{inRange-on}
+use Rattle.lighting_levels.specs.Paper.Level.{inRange}
 use borrow.Author.Needs.{needs}
 use Rattle.number_level.proofs.in_range.Statement.{statement}
 use Rattle.number_level.proofs.in_range.Tie as tie

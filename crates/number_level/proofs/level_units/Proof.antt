@@ -1,8 +1,8 @@
 -- `number_level::level_units` meets its contract.
-use Rattle.lighting.specs.Paper.Level.{unitsOr, levelUnits}
+use Rattle.lighting_levels.specs.Paper.Level.{unitsOr, levelUnits}
 use mathlib.Core.Path.{_≡_, ap, _∙_}
 use native.Mathlib.Omega.{arith}
-use Rattle.lighting.proofs.Ranges.{level-range}
+use Rattle.lighting_levels.proofs.Ranges.{level-range}
 use borrow.Author.Needs.{needs}
 use Rattle.number_level.proofs.level_units.Statement.{statement}
 use Rattle.number_level.proofs.level_units.Tie as tie

@@ -1,7 +1,7 @@
 -- `number_level::operand` meets its contract.
 use mathlib.Core.Path.{refl, ap}
-use Rattle.lighting.proofs.Choosing.{if-flag, if-nflag}
-use Rattle.lighting.specs.declared.Operand.the-variants.{Taken}
+use Rattle.lighting_levels.proofs.Choosing.{if-flag, if-nflag}
+use Rattle.lighting_levels.specs.declared.Operand.the-variants.{Taken}
 use borrow.Author.Needs.{needs}
 use Rattle.number_level.proofs.operand.Statement.{statement}
 use Rattle.number_level.proofs.operand.Tie as tie

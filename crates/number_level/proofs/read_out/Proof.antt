@@ -1,5 +1,5 @@
 -- Drafted by tools/draft.py: nothing here was written by hand.
-use Rattle.lighting.specs.Paper.Level.{readOut}
+use Rattle.lighting_levels.specs.Paper.Level.{readOut}
 use borrow.Author.Needs.{needs}
 use Rattle.number_level.proofs.read_out.Statement.{statement}
 use Rattle.number_level.proofs.read_out.Tie as tie

@@ -1,7 +1,7 @@
 -- `number_level::real_from` meets its contract.
 use mathlib.Core.Path.{sym}
 use lib.Ieee.{ofBits, div}
-use Rattle.lighting.specs.Paper.Level.{real}
+use Rattle.lighting_levels.specs.Paper.Level.{real}
 use Rattle.number_level.proofs.Numbers.{read, failed}
 use borrow.Author.Needs.{needs}
 use Rattle.number_level.proofs.real_from.Statement.{statement}

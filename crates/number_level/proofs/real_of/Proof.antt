@@ -11,7 +11,7 @@ use lib.Ieee.Exact.{HasValue}
 use lib.Ieee.Fits.{down-pos}
 use lib.Ieee.Back.{round-whole}
 use lib.Ieee.Scale.{round-same}
-use Rattle.lighting.specs.Paper.Level.{realOf}
+use Rattle.lighting_levels.specs.Paper.Level.{realOf}
 use Rattle.number_level.proofs.real_of.Statement.{statement}
 use Rattle.number_level.proofs.real_of.Tie as tie
 

@@ -3,8 +3,8 @@ use borrow.Author.Needs.{needs}
 use mathlib.Core.Path.{_≡_}
 use Prim.Native.Nat.{ℕ, _*_, _/_, _%_, _<_, Ordering·lt, Ordering·eq, Ordering·gt}
 use native.Mathlib.Omega.{arith}
-use Rattle.lighting.specs.Paper.Level.{rule, nearestTo}
-use Rattle.lighting.proofs.Rounding.{by-cases}
+use Rattle.lighting_levels.specs.Paper.Level.{rule, nearestTo}
+use Rattle.lighting_levels.proofs.Rounding.{by-cases}
 use Rattle.number_level.proofs.rounded.Statement.{statement}
 use Rattle.number_level.proofs.rounded.Tie as tie
 

@@ -1,7 +1,7 @@
 -- Drafted by tools/draft.py: nothing here was written by hand.
-use Rattle.lighting.proofs.Choosing.{ifs}
-use Rattle.lighting.proofs.Laws.{unitsOr-on}
-use Rattle.lighting.specs.Paper.Level.{unitsOr}
+use Rattle.lighting_levels.proofs.Choosing.{ifs}
+use Rattle.lighting_levels.proofs.Laws.{unitsOr-on}
+use Rattle.lighting_levels.specs.Paper.Level.{unitsOr}
 use borrow.Author.Needs.{needs}
 use Rattle.number_level.proofs.units_or.Statement.{statement}
 use Rattle.number_level.proofs.units_or.Tie as tie

@@ -1,5 +1,5 @@
-use Rattle.lighting.proofs.Laws.{acted-on}
-use Rattle.lighting.specs.Paper.Acting.{acted}
+use Rattle.lighting_outputs.proofs.Laws.{acted-on}
+use Rattle.lighting_outputs.specs.Paper.Acting.{acted}
 use borrow.Author.Needs.{needs}
 use Rattle.output_acting.proofs.act.Statement.{statement}
 use Rattle.output_acting.proofs.act.Tie as tie

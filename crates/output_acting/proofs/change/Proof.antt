@@ -1,5 +1,5 @@
 -- Drafted by tools/draft.py: nothing here was written by hand.
-use Rattle.lighting.specs.Paper.Acting.{changedUnless}
+use Rattle.lighting_outputs.specs.Paper.Acting.{changedUnless}
 use borrow.Author.Needs.{needs}
 use Rattle.output_acting.proofs.change.Statement.{statement}
 use Rattle.output_acting.proofs.change.Tie as tie

@@ -1,5 +1,5 @@
-use Rattle.lighting.proofs.Choosing.{ifs}
-use Rattle.lighting.specs.Paper.Acting.{changedUnless}
+use Rattle.lighting_levels.proofs.Choosing.{ifs}
+use Rattle.lighting_outputs.specs.Paper.Acting.{changedUnless}
 use borrow.Author.Needs.{needs}
 use Rattle.output_acting.proofs.change_unless.Statement.{statement}
 use Rattle.output_acting.proofs.change_unless.Tie as tie

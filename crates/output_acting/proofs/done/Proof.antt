@@ -1,5 +1,5 @@
 -- Drafted by tools/draft.py: nothing here was written by hand.
-use Rattle.lighting.specs.Paper.Acting.{done}
+use Rattle.lighting_outputs.specs.Paper.Acting.{done}
 use borrow.Author.Needs.{needs}
 use Rattle.output_acting.proofs.done.Statement.{statement}
 use Rattle.output_acting.proofs.done.Tie as tie

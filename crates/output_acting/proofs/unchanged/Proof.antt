@@ -1,6 +1,6 @@
 -- Drafted by tools/draft.py: nothing here was written by hand.
-use Rattle.lighting.proofs.Choosing.{ifs}
-use Rattle.lighting.specs.Paper.Acting.{unchanged}
+use Rattle.lighting_levels.proofs.Choosing.{ifs}
+use Rattle.lighting_outputs.specs.Paper.Acting.{unchanged}
 use borrow.Author.Needs.{needs}
 use Rattle.output_acting.proofs.unchanged.Statement.{statement}
 use Rattle.output_acting.proofs.unchanged.Tie as tie

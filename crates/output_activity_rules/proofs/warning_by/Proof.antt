@@ -1,6 +1,6 @@
 -- Drafted by tools/draft.py: nothing here was written by hand.
-use Rattle.lighting.proofs.Choosing.{ifs}
-use Rattle.lighting.specs.Paper.Rules.{warningBy}
+use Rattle.lighting_levels.proofs.Choosing.{ifs}
+use Rattle.lighting_outputs.specs.Paper.Rules.{warningBy}
 use borrow.Author.Needs.{needs}
 use Rattle.output_activity_rules.proofs.warning_by.Statement.{statement}
 use Rattle.output_activity_rules.proofs.warning_by.Tie as tie

@@ -1,5 +1,5 @@
 -- Drafted by tools/draft.py: nothing here was written by hand.
-use Rattle.lighting.specs.Paper.Rules.{warningSound}
+use Rattle.lighting_outputs.specs.Paper.Rules.{warningSound}
 use borrow.Author.Needs.{needs}
 use Rattle.output_activity_rules.proofs.warning_sound.Statement.{statement}
 use Rattle.output_activity_rules.proofs.warning_sound.Tie as tie

@@ -1,5 +1,5 @@
 -- Drafted by tools/draft.py: nothing here was written by hand.
-use Rattle.lighting.specs.Paper.Passing.{afterEvents}
+use Rattle.lighting_outputs.specs.Paper.Passing.{afterEvents}
 use borrow.Author.Needs.{needs}
 use Rattle.output_due.proofs.after_events.Statement.{statement}
 use Rattle.output_due.proofs.after_events.Tie as tie

@@ -1,7 +1,7 @@
 -- Drafted by tools/draft.py: nothing here was written by hand.
-use Rattle.lighting.proofs.Choosing.{ifs}
-use Rattle.lighting.proofs.Laws.{emptiedBy-on}
-use Rattle.lighting.specs.Paper.Passing.{emptiedBy}
+use Rattle.lighting_levels.proofs.Choosing.{ifs}
+use Rattle.lighting_outputs.proofs.Laws.{emptiedBy-on}
+use Rattle.lighting_outputs.specs.Paper.Passing.{emptiedBy}
 use borrow.Author.Needs.{needs}
 use Rattle.output_due.proofs.empty_by.Statement.{statement}
 use Rattle.output_due.proofs.empty_by.Tie as tie

@@ -1,7 +1,7 @@
 -- Drafted by tools/draft.py: nothing here was written by hand.
-use Rattle.lighting.proofs.Choosing.{ifs}
-use Rattle.lighting.proofs.Laws.{endMovementBy-on}
-use Rattle.lighting.specs.Paper.Passing.{endMovementBy}
+use Rattle.lighting_levels.proofs.Choosing.{ifs}
+use Rattle.lighting_outputs.proofs.Laws.{endMovementBy-on}
+use Rattle.lighting_outputs.specs.Paper.Passing.{endMovementBy}
 use borrow.Author.Needs.{needs}
 use Rattle.output_due.proofs.end_movement_by.Statement.{statement}
 use Rattle.output_due.proofs.end_movement_by.Tie as tie

@@ -1,7 +1,7 @@
 -- Drafted by tools/draft.py: nothing here was written by hand.
-use Rattle.lighting.proofs.Choosing.{ifs}
-use Rattle.lighting.proofs.Laws.{endMovementOf-on}
-use Rattle.lighting.specs.Paper.Passing.{endMovementOf}
+use Rattle.lighting_levels.proofs.Choosing.{ifs}
+use Rattle.lighting_outputs.proofs.Laws.{endMovementOf-on}
+use Rattle.lighting_outputs.specs.Paper.Passing.{endMovementOf}
 use borrow.Author.Needs.{needs}
 use Rattle.output_due.proofs.end_movement_of.Statement.{statement}
 use Rattle.output_due.proofs.end_movement_of.Tie as tie

@@ -1,6 +1,6 @@
 -- Drafted by tools/draft.py: nothing here was written by hand.
-use Rattle.lighting.proofs.Choosing.{ifs}
-use Rattle.lighting.specs.Paper.Passing.{expired}
+use Rattle.lighting_levels.proofs.Choosing.{ifs}
+use Rattle.lighting_outputs.specs.Paper.Passing.{expired}
 use borrow.Author.Needs.{needs}
 use Rattle.output_due.proofs.expire.Statement.{statement}
 use Rattle.output_due.proofs.expire.Tie as tie

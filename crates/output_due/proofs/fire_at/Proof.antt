@@ -1,5 +1,5 @@
 -- Drafted by tools/draft.py: nothing here was written by hand.
-use Rattle.lighting.specs.Paper.Passing.{fire}
+use Rattle.lighting_outputs.specs.Paper.Passing.{fire}
 use borrow.Author.Needs.{needs}
 use Rattle.output_due.proofs.fire_at.Statement.{statement}
 use Rattle.output_due.proofs.fire_at.Tie as tie

@@ -1,5 +1,5 @@
 -- Drafted by tools/draft.py: nothing here was written by hand.
-use Rattle.lighting.specs.Paper.Passing.{isDue}
+use Rattle.lighting_outputs.specs.Paper.Passing.{isDue}
 use borrow.Author.Needs.{needs}
 use Rattle.output_due.proofs.is_activity_due.Statement.{statement}
 use Rattle.output_due.proofs.is_activity_due.Tie as tie

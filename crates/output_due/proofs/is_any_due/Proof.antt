@@ -1,4 +1,4 @@
-use Rattle.lighting.proofs.Choosing.{ifs, if-itself}
+use Rattle.lighting_levels.proofs.Choosing.{ifs, if-itself}
 use borrow.Author.Needs.{needs}
 use Rattle.output_due.proofs.is_any_due.Statement.{statement}
 use Rattle.output_due.proofs.is_any_due.Tie as tie

@@ -1,7 +1,7 @@
 -- Drafted by tools/draft.py: nothing here was written by hand.
-use Rattle.lighting.proofs.Choosing.{ifs}
-use Rattle.lighting.proofs.Laws.{isDue-on}
-use Rattle.lighting.specs.Paper.Passing.{isDue}
+use Rattle.lighting_levels.proofs.Choosing.{ifs}
+use Rattle.lighting_outputs.proofs.Laws.{isDue-on}
+use Rattle.lighting_outputs.specs.Paper.Passing.{isDue}
 use borrow.Author.Needs.{needs}
 use Rattle.output_due.proofs.is_due.Statement.{statement}
 use Rattle.output_due.proofs.is_due.Tie as tie

@@ -1,7 +1,7 @@
 -- Drafted by tools/draft.py: nothing here was written by hand.
-use Rattle.lighting.proofs.Choosing.{ifs}
-use Rattle.lighting.proofs.Laws.{nextActivity-on}
-use Rattle.lighting.specs.Paper.Passing.{nextActivity}
+use Rattle.lighting_levels.proofs.Choosing.{ifs}
+use Rattle.lighting_outputs.proofs.Laws.{nextActivity-on}
+use Rattle.lighting_outputs.specs.Paper.Passing.{nextActivity}
 use borrow.Author.Needs.{needs}
 use Rattle.output_due.proofs.next_activity.Statement.{statement}
 use Rattle.output_due.proofs.next_activity.Tie as tie

@@ -1,7 +1,7 @@
 -- Drafted by tools/draft.py: nothing here was written by hand.
-use Rattle.lighting.proofs.Choosing.{ifs}
-use Rattle.lighting.proofs.Laws.{nextPhase-on}
-use Rattle.lighting.specs.Paper.Passing.{nextPhase}
+use Rattle.lighting_levels.proofs.Choosing.{ifs}
+use Rattle.lighting_outputs.proofs.Laws.{nextPhase-on}
+use Rattle.lighting_outputs.specs.Paper.Passing.{nextPhase}
 use borrow.Author.Needs.{needs}
 use Rattle.output_due.proofs.next_phase.Statement.{statement}
 use Rattle.output_due.proofs.next_phase.Tie as tie

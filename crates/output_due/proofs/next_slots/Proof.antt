@@ -1,7 +1,7 @@
 -- Drafted by tools/draft.py: nothing here was written by hand.
-use Rattle.lighting.proofs.Choosing.{ifs}
-use Rattle.lighting.proofs.Laws.{nextSlots-on}
-use Rattle.lighting.specs.Paper.Passing.{nextSlots}
+use Rattle.lighting_levels.proofs.Choosing.{ifs}
+use Rattle.lighting_outputs.proofs.Laws.{nextSlots-on}
+use Rattle.lighting_outputs.specs.Paper.Passing.{nextSlots}
 use borrow.Author.Needs.{needs}
 use Rattle.output_due.proofs.next_slots.Statement.{statement}
 use Rattle.output_due.proofs.next_slots.Tie as tie

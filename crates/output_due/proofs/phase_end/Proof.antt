@@ -1,7 +1,7 @@
 -- Drafted by tools/draft.py: nothing here was written by hand.
-use Rattle.lighting.proofs.Choosing.{ifs}
-use Rattle.lighting.proofs.Laws.{phaseEnd-on}
-use Rattle.lighting.specs.Paper.Passing.{phaseEnd}
+use Rattle.lighting_levels.proofs.Choosing.{ifs}
+use Rattle.lighting_outputs.proofs.Laws.{phaseEnd-on}
+use Rattle.lighting_outputs.specs.Paper.Passing.{phaseEnd}
 use borrow.Author.Needs.{needs}
 use Rattle.output_due.proofs.phase_end.Statement.{statement}
 use Rattle.output_due.proofs.phase_end.Tie as tie

@@ -1,7 +1,7 @@
 -- Drafted by tools/draft.py: nothing here was written by hand.
-use Rattle.lighting.proofs.Choosing.{ifs}
-use Rattle.lighting.proofs.Laws.{phaseSlots-on}
-use Rattle.lighting.specs.Paper.Passing.{phaseSlots}
+use Rattle.lighting_levels.proofs.Choosing.{ifs}
+use Rattle.lighting_outputs.proofs.Laws.{phaseSlots-on}
+use Rattle.lighting_outputs.specs.Paper.Passing.{phaseSlots}
 use borrow.Author.Needs.{needs}
 use Rattle.output_due.proofs.phase_slots.Statement.{statement}
 use Rattle.output_due.proofs.phase_slots.Tie as tie

@@ -1,7 +1,7 @@
 -- Drafted by tools/draft.py: nothing here was written by hand.
-use Rattle.lighting.proofs.Choosing.{ifs}
-use Rattle.lighting.proofs.Laws.{timerDue-on}
-use Rattle.lighting.specs.Paper.Passing.{timerDue}
+use Rattle.lighting_levels.proofs.Choosing.{ifs}
+use Rattle.lighting_outputs.proofs.Laws.{timerDue-on}
+use Rattle.lighting_outputs.specs.Paper.Passing.{timerDue}
 use borrow.Author.Needs.{needs}
 use Rattle.output_due.proofs.timer_due.Statement.{statement}
 use Rattle.output_due.proofs.timer_due.Tie as tie

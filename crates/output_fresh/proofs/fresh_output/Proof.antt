@@ -1,5 +1,5 @@
 -- Drafted by tools/draft.py: nothing here was written by hand.
-use Rattle.lighting.specs.Paper.Fresh.{freshOutput}
+use Rattle.lighting_outputs.specs.Paper.Fresh.{freshOutput}
 use borrow.Author.Needs.{needs}
 use Rattle.output_fresh.proofs.fresh_output.Statement.{statement}
 use Rattle.output_fresh.proofs.fresh_output.Tie as tie

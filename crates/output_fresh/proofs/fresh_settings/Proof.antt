@@ -1,8 +1,8 @@
 use lib.Ieee.{ofBits}
-use Rattle.lighting.specs.Paper.Level.{real}
+use Rattle.lighting_levels.specs.Paper.Level.{real}
 use borrow.Author.Needs.{needs}
-use Rattle.lighting.proofs.Choosing.{ifs}
-use Rattle.lighting.specs.Paper.Fresh.{freshSettings}
+use Rattle.lighting_levels.proofs.Choosing.{ifs}
+use Rattle.lighting_outputs.specs.Paper.Fresh.{freshSettings}
 use Rattle.output_fresh.proofs.fresh_settings.Statement.{statement}
 use Rattle.output_fresh.proofs.fresh_settings.Tie as tie
 use Rattle.output_fresh.proofs.fresh_settings.Reads as reads

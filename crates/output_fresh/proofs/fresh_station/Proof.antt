@@ -1,6 +1,6 @@
 -- Drafted by tools/draft.py: nothing here was written by hand.
-use Rattle.lighting.proofs.Choosing.{ifs}
-use Rattle.lighting.specs.Paper.Fresh.{freshStation}
+use Rattle.lighting_levels.proofs.Choosing.{ifs}
+use Rattle.lighting_frames.specs.Paper.Stations.{freshStation}
 use borrow.Author.Needs.{needs}
 use Rattle.output_fresh.proofs.fresh_station.Statement.{statement}
 use Rattle.output_fresh.proofs.fresh_station.Tie as tie

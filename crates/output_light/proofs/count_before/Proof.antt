@@ -1,6 +1,6 @@
-use Rattle.lighting.proofs.Choosing.{ifs}
-use Rattle.lighting.proofs.Laws.{countBefore-on}
-use Rattle.lighting.specs.Engine.Light.{countBefore}
+use Rattle.lighting_levels.proofs.Choosing.{ifs}
+use Rattle.lighting_outputs.proofs.Laws.{countBefore-on}
+use Rattle.lighting_outputs.specs.Engine.Light.{countBefore}
 use borrow.Author.Needs.{needs}
 use Rattle.output_light.proofs.count_before.Statement.{statement}
 use Rattle.output_light.proofs.count_before.Tie as tie

@@ -1,6 +1,6 @@
-use Rattle.lighting.proofs.Choosing.{ifs}
-use Rattle.lighting.proofs.Laws.{countSince-on}
-use Rattle.lighting.specs.Engine.Light.{countSince}
+use Rattle.lighting_levels.proofs.Choosing.{ifs}
+use Rattle.lighting_outputs.proofs.Laws.{countSince-on}
+use Rattle.lighting_outputs.specs.Engine.Light.{countSince}
 use borrow.Author.Needs.{needs}
 use Rattle.output_light.proofs.count_since.Statement.{statement}
 use Rattle.output_light.proofs.count_since.Tie as tie

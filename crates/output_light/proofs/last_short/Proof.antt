@@ -1,5 +1,5 @@
-use Rattle.lighting.proofs.Product.{below}
-use Rattle.lighting.specs.Engine.Light.{lastShort}
+use Rattle.lighting_levels.proofs.Product.{below}
+use Rattle.lighting_outputs.specs.Engine.Light.{lastShort}
 use Rattle.output_light.proofs.Short.{short-all}
 use borrow.Author.Needs.{needs}
 use Rattle.output_light.proofs.last_short.Statement.{statement}

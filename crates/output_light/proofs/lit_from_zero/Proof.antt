@@ -1,5 +1,5 @@
-use Rattle.lighting.proofs.Choosing.{ifs}
-use Rattle.lighting.specs.Engine.Light.{litFromZero}
+use Rattle.lighting_levels.proofs.Choosing.{ifs}
+use Rattle.lighting_outputs.specs.Engine.Light.{litFromZero}
 use borrow.Author.Needs.{needs}
 use Rattle.output_light.proofs.lit_from_zero.Statement.{statement}
 use Rattle.output_light.proofs.lit_from_zero.Tie as tie

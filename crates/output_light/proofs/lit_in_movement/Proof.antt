@@ -1,7 +1,7 @@
 -- Drafted by tools/draft.py: nothing here was written by hand.
-use Rattle.lighting.proofs.Choosing.{ifs}
-use Rattle.lighting.proofs.Laws.{litInMovement-on}
-use Rattle.lighting.specs.Engine.Light.{litInMovement}
+use Rattle.lighting_levels.proofs.Choosing.{ifs}
+use Rattle.lighting_outputs.proofs.Laws.{litInMovement-on}
+use Rattle.lighting_outputs.specs.Engine.Light.{litInMovement}
 use borrow.Author.Needs.{needs}
 use Rattle.output_light.proofs.lit_in_movement.Statement.{statement}
 use Rattle.output_light.proofs.lit_in_movement.Tie as tie

@@ -1,5 +1,5 @@
-use Rattle.lighting.proofs.Laws.{litByPace-on}
-use Rattle.lighting.specs.Engine.Light.{litByPace, litMoving}
+use Rattle.lighting_outputs.proofs.Laws.{litByPace-on}
+use Rattle.lighting_outputs.specs.Engine.Light.{litByPace, litMoving}
 use borrow.Author.Needs.{needs}
 use Rattle.output_light.proofs.lit_moving.Statement.{statement}
 use Rattle.output_light.proofs.lit_moving.Tie as tie

@@ -1,6 +1,6 @@
 -- Drafted by tools/draft.py: nothing here was written by hand.
-use Rattle.lighting.proofs.Choosing.{ifs}
-use Rattle.lighting.specs.Engine.Light.{momentAfter}
+use Rattle.lighting_levels.proofs.Choosing.{ifs}
+use Rattle.lighting_outputs.specs.Engine.Light.{momentAfter}
 use borrow.Author.Needs.{needs}
 use Rattle.output_light.proofs.moment_after.Statement.{statement}
 use Rattle.output_light.proofs.moment_after.Tie as tie

@@ -1,6 +1,6 @@
 -- Drafted by tools/draft.py: nothing here was written by hand.
-use Rattle.lighting.proofs.Choosing.{ifs}
-use Rattle.lighting.specs.Engine.Advance.{fireDue}
+use Rattle.lighting_levels.proofs.Choosing.{ifs}
+use Rattle.lighting_outputs.specs.Engine.Advance.{fireDue}
 use borrow.Author.Needs.{needs}
 use Rattle.output_passing.proofs.fire_due.Statement.{statement}
 use Rattle.output_passing.proofs.fire_due.Tie as tie

@@ -1,5 +1,5 @@
 -- Drafted by tools/draft.py: nothing here was written by hand.
-use Rattle.lighting.specs.Engine.Advance.{later}
+use Rattle.lighting_outputs.specs.Engine.Advance.{later}
 use borrow.Author.Needs.{needs}
 use Rattle.output_passing.proofs.is_later.Statement.{statement}
 use Rattle.output_passing.proofs.is_later.Tie as tie

@@ -1,5 +1,5 @@
 -- Drafted by tools/draft.py: nothing here was written by hand.
-use Rattle.lighting.specs.Engine.Advance.{due}
+use Rattle.lighting_outputs.specs.Engine.Advance.{due}
 use borrow.Author.Needs.{needs}
 use Rattle.output_passing.proofs.next_due.Statement.{statement}
 use Rattle.output_passing.proofs.next_due.Tie as tie

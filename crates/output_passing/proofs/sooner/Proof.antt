@@ -1,7 +1,7 @@
 -- Drafted by tools/draft.py: nothing here was written by hand.
-use Rattle.lighting.proofs.Choosing.{ifs}
-use Rattle.lighting.proofs.Laws.{sooner-on}
-use Rattle.lighting.specs.Engine.Advance.{sooner}
+use Rattle.lighting_levels.proofs.Choosing.{ifs}
+use Rattle.lighting_outputs.proofs.Laws.{sooner-on}
+use Rattle.lighting_outputs.specs.Engine.Advance.{sooner}
 use borrow.Author.Needs.{needs}
 use Rattle.output_passing.proofs.sooner.Statement.{statement}
 use Rattle.output_passing.proofs.sooner.Tie as tie

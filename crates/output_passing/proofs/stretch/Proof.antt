@@ -1,5 +1,5 @@
-use Rattle.lighting.proofs.Choosing.{ifs}
-use Rattle.lighting.specs.Engine.Advance.{eventStep, eventSteps}
+use Rattle.lighting_levels.proofs.Choosing.{ifs}
+use Rattle.lighting_outputs.specs.Engine.Advance.{eventStep, eventSteps}
 use borrow.Author.Needs.{needs}
 use Rattle.output_passing.proofs.stretch.Statement.{statement}
 use Rattle.output_passing.proofs.stretch.Tie as tie

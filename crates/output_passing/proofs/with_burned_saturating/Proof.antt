@@ -1,5 +1,5 @@
 -- Drafted by tools/draft.py: nothing here was written by hand.
-use Rattle.lighting.specs.Engine.Advance.{withBurnedSaturating}
+use Rattle.lighting_outputs.specs.Engine.Advance.{withBurnedSaturating}
 use borrow.Author.Needs.{needs}
 use Rattle.output_passing.proofs.with_burned_saturating.Statement.{statement}
 use Rattle.output_passing.proofs.with_burned_saturating.Tie as tie

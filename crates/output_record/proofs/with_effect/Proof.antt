@@ -1,6 +1,6 @@
 -- Drafted by tools/draft.py: nothing here was written by hand.
-use Rattle.lighting.proofs.Choosing.{ifs}
-use Rattle.lighting.specs.Paper.Record.{withEffect}
+use Rattle.lighting_levels.proofs.Choosing.{ifs}
+use Rattle.lighting_outputs.specs.Paper.Record.{withEffect}
 use borrow.Author.Needs.{needs}
 use Rattle.output_record.proofs.with_effect.Statement.{statement}
 use Rattle.output_record.proofs.with_effect.Tie as tie

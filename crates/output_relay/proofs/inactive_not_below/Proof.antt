@@ -1,6 +1,6 @@
 -- Drafted by tools/draft.py: nothing here was written by hand.
-use Rattle.lighting.proofs.Choosing.{ifs}
-use Rattle.lighting.specs.Paper.Relay.{inactiveNotBelow}
+use Rattle.lighting_levels.proofs.Choosing.{ifs}
+use Rattle.lighting_outputs.specs.Paper.Relay.{inactiveNotBelow}
 use borrow.Author.Needs.{needs}
 use Rattle.output_relay.proofs.inactive_not_below.Statement.{statement}
 use Rattle.output_relay.proofs.inactive_not_below.Tie as tie

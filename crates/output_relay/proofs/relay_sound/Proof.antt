@@ -1,4 +1,4 @@
-use Rattle.lighting.proofs.Choosing.{ifs}
+use Rattle.lighting_levels.proofs.Choosing.{ifs}
 use Rattle.output_relay.proofs.Fewer.{fewer}
 use borrow.Author.Needs.{needs}
 use Rattle.output_relay.proofs.relay_sound.Statement.{statement}

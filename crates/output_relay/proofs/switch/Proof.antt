@@ -1,5 +1,5 @@
 -- Drafted by tools/draft.py: nothing here was written by hand.
-use Rattle.lighting.specs.Paper.Relay.{switched}
+use Rattle.lighting_outputs.specs.Paper.Relay.{switched}
 use borrow.Author.Needs.{needs}
 use Rattle.output_relay.proofs.switch.Statement.{statement}
 use Rattle.output_relay.proofs.switch.Tie as tie

@@ -1,5 +1,5 @@
 -- Drafted by tools/draft.py: nothing here was written by hand.
-use Rattle.lighting.specs.Paper.Rules.{activityBy}
+use Rattle.lighting_outputs.specs.Paper.Rules.{activityBy}
 use borrow.Author.Needs.{needs}
 use Rattle.output_rules.proofs.activity_sound.Statement.{statement}
 use Rattle.output_rules.proofs.activity_sound.Tie as tie

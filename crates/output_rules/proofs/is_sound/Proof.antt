@@ -1,4 +1,4 @@
-use Rattle.lighting.proofs.Choosing.{ifs}
+use Rattle.lighting_levels.proofs.Choosing.{ifs}
 use Rattle.output_rules.proofs.Order.{in-order, settings-first}
 use borrow.Author.Needs.{needs}
 use Rattle.output_rules.proofs.is_sound.Statement.{statement}

@@ -6,7 +6,7 @@ use lib.Count.{trailing-le}
 use lib.ListN.{getD}
 use borrow.Author.Needs.{needs}
 use borrow.Author.Tests.{not-true, not-false}
-use Rattle.lighting.specs.Paper.Rules.{slotsSoundFrom}
+use Rattle.lighting_outputs.specs.Paper.Rules.{slotsSoundFrom}
 use Rattle.output_rules.proofs.LiveSlots.{slotsWith, low-within, low-done, low-broken, none-live}
 use Rattle.output_rules.proofs.live_sound.Statement.{statement}
 use Rattle.output_rules.proofs.live_sound.Tie as tie

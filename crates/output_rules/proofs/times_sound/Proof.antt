@@ -1,6 +1,6 @@
 -- Drafted by tools/draft.py: nothing here was written by hand.
-use Rattle.lighting.proofs.Choosing.{ifs}
-use Rattle.lighting.specs.Paper.Rules.{timesSound}
+use Rattle.lighting_levels.proofs.Choosing.{ifs}
+use Rattle.lighting_outputs.specs.Paper.Rules.{timesSound}
 use borrow.Author.Needs.{needs}
 use Rattle.output_rules.proofs.times_sound.Statement.{statement}
 use Rattle.output_rules.proofs.times_sound.Tie as tie

@@ -1,6 +1,6 @@
 use mathlib.Core.Path.{sym}
-use Rattle.lighting.proofs.Mask.{dead-past, tested}
-use Rattle.lighting.specs.Paper.Slots.{isLive}
+use Rattle.lighting_outputs.proofs.Priorities.Mask.{dead-past, tested}
+use Rattle.lighting_outputs.specs.Paper.Slots.{isLive}
 use borrow.Author.Needs.{needs}
 use Rattle.output_slots.proofs.is_live.Statement.{statement}
 use Rattle.output_slots.proofs.is_live.Tie as tie

@@ -1,6 +1,6 @@
 -- Drafted by tools/draft.py: nothing here was written by hand.
-use Rattle.lighting.proofs.Choosing.{ifs}
-use Rattle.lighting.specs.Paper.Slots.{levelSet}
+use Rattle.lighting_levels.proofs.Choosing.{ifs}
+use Rattle.lighting_outputs.specs.Paper.Slots.{levelSet}
 use borrow.Author.Needs.{needs}
 use Rattle.output_slots.proofs.level_set.Statement.{statement}
 use Rattle.output_slots.proofs.level_set.Tie as tie

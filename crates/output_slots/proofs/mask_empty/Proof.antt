@@ -1,6 +1,6 @@
-use Rattle.lighting.proofs.Mask.{shifted}
-use Rattle.lighting.proofs.Choosing.{ifs}
-use Rattle.lighting.specs.Paper.Slots.{maskEmptied}
+use Rattle.lighting_outputs.proofs.Priorities.Mask.{shifted}
+use Rattle.lighting_levels.proofs.Choosing.{ifs}
+use Rattle.lighting_outputs.specs.Paper.Slots.{maskEmptied}
 use borrow.Author.Needs.{needs}
 use Rattle.output_slots.proofs.mask_empty.Statement.{statement}
 use Rattle.output_slots.proofs.mask_empty.Tie as tie

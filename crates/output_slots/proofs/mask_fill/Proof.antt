@@ -1,6 +1,6 @@
-use Rattle.lighting.proofs.Mask.{shifted}
-use Rattle.lighting.proofs.Choosing.{ifs}
-use Rattle.lighting.specs.Paper.Slots.{maskFilled}
+use Rattle.lighting_outputs.proofs.Priorities.Mask.{shifted}
+use Rattle.lighting_levels.proofs.Choosing.{ifs}
+use Rattle.lighting_outputs.specs.Paper.Slots.{maskFilled}
 use borrow.Author.Needs.{needs}
 use Rattle.output_slots.proofs.mask_fill.Statement.{statement}
 use Rattle.output_slots.proofs.mask_fill.Tie as tie

@@ -1,5 +1,5 @@
 use borrow.Author.Needs.{needs}
-use Rattle.lighting.proofs.Mask.{winner-zeros}
+use Rattle.lighting_outputs.proofs.Priorities.Mask.{winner-zeros}
 use Rattle.output_slots.proofs.winning.Statement.{statement}
 use Rattle.output_slots.proofs.winning.Tie as tie
 use Rattle.output_slots.proofs.winning.Reads as reads

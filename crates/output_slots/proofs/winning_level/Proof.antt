@@ -1,5 +1,5 @@
 -- Drafted by tools/draft.py: nothing here was written by hand.
-use Rattle.lighting.specs.Paper.Slots.{winningLevel}
+use Rattle.lighting_outputs.specs.Paper.Slots.{winningLevel}
 use borrow.Author.Needs.{needs}
 use Rattle.output_slots.proofs.winning_level.Statement.{statement}
 use Rattle.output_slots.proofs.winning_level.Tie as tie

@@ -1,6 +1,6 @@
 -- Drafted by tools/draft.py: nothing here was written by hand.
-use Rattle.lighting.proofs.Choosing.{ifs}
-use Rattle.lighting.specs.Paper.Value.{clampLit}
+use Rattle.lighting_levels.proofs.Choosing.{ifs}
+use Rattle.lighting_outputs.specs.Paper.Value.{clampLit}
 use borrow.Author.Needs.{needs}
 use Rattle.output_value.proofs.clamp_lit.Statement.{statement}
 use Rattle.output_value.proofs.clamp_lit.Tie as tie

@@ -1,7 +1,7 @@
 -- Drafted by tools/draft.py: nothing here was written by hand.
-use Rattle.lighting.proofs.Choosing.{ifs}
-use Rattle.lighting.proofs.Laws.{distanceMoved-on}
-use Rattle.lighting.specs.Paper.Value.{distanceMoved}
+use Rattle.lighting_levels.proofs.Choosing.{ifs}
+use Rattle.lighting_outputs.proofs.Laws.{distanceMoved-on}
+use Rattle.lighting_outputs.specs.Paper.Value.{distanceMoved}
 use borrow.Author.Needs.{needs}
 use Rattle.output_value.proofs.distance_moved.Statement.{statement}
 use Rattle.output_value.proofs.distance_moved.Tie as tie

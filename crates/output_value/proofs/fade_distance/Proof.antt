@@ -1,8 +1,8 @@
 use mathlib.Core.Path.{sym}
 use Prim.Native.Nat.{_*_, _/_, _≤_}
 use native.Mathlib.Nat.{div-zero}
-use Rattle.lighting.proofs.Way.{share-most}
-use Rattle.lighting.proofs.Product.{below}
+use Rattle.lighting_outputs.proofs.Time.Way.{share-most}
+use Rattle.lighting_levels.proofs.Product.{below}
 use borrow.Author.Needs.{needs}
 use Rattle.output_value.proofs.fade_distance.Statement.{statement}
 use Rattle.output_value.proofs.fade_distance.Tie as tie

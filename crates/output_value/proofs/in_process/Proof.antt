@@ -1,7 +1,7 @@
 -- Drafted by tools/draft.py: nothing here was written by hand.
-use Rattle.lighting.proofs.Choosing.{ifs}
-use Rattle.lighting.proofs.Laws.{inProcess-on}
-use Rattle.lighting.specs.Paper.Value.{inProcess}
+use Rattle.lighting_levels.proofs.Choosing.{ifs}
+use Rattle.lighting_outputs.proofs.Laws.{inProcess-on}
+use Rattle.lighting_outputs.specs.Paper.Value.{inProcess}
 use borrow.Author.Needs.{needs}
 use Rattle.output_value.proofs.in_process.Statement.{statement}
 use Rattle.output_value.proofs.in_process.Tie as tie

@@ -1,5 +1,5 @@
 -- Drafted by tools/draft.py: nothing here was written by hand.
-use Rattle.lighting.specs.Paper.Value.{lit}
+use Rattle.lighting_outputs.specs.Paper.Value.{lit}
 use borrow.Author.Needs.{needs}
 use Rattle.output_value.proofs.is_lit.Statement.{statement}
 use Rattle.output_value.proofs.is_lit.Tie as tie

@@ -1,7 +1,7 @@
 -- Drafted by tools/draft.py: nothing here was written by hand.
-use Rattle.lighting.proofs.Choosing.{ifs}
-use Rattle.lighting.proofs.Laws.{progressBy-on}
-use Rattle.lighting.specs.Paper.Value.{progressBy}
+use Rattle.lighting_levels.proofs.Choosing.{ifs}
+use Rattle.lighting_outputs.proofs.Laws.{progressBy-on}
+use Rattle.lighting_outputs.specs.Paper.Value.{progressBy}
 use borrow.Author.Needs.{needs}
 use Rattle.output_value.proofs.progress_by.Statement.{statement}
 use Rattle.output_value.proofs.progress_by.Tie as tie

@@ -1,4 +1,4 @@
-use Rattle.lighting.proofs.Product.{below}
+use Rattle.lighting_levels.proofs.Product.{below}
 use borrow.Author.Needs.{needs}
 use Rattle.output_value.proofs.ramp_distance.Statement.{statement}
 use Rattle.output_value.proofs.ramp_distance.Tie as tie

@@ -1,5 +1,5 @@
 -- Drafted by tools/draft.py: nothing here was written by hand.
-use Rattle.lighting.specs.Paper.Value.{reached}
+use Rattle.lighting_outputs.specs.Paper.Value.{reached}
 use borrow.Author.Needs.{needs}
 use Rattle.output_value.proofs.reached.Statement.{statement}
 use Rattle.output_value.proofs.reached.Tie as tie

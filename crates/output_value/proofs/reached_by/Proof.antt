@@ -1,7 +1,7 @@
 use Prim.Native.Nat.{_-_, _≤_}
-use Rattle.lighting.proofs.Way.{distanceMoved-most}
-use Rattle.lighting.proofs.Choosing.{ifs}
-use Rattle.lighting.specs.Paper.Value.{reachedBy}
+use Rattle.lighting_outputs.proofs.Time.Way.{distanceMoved-most}
+use Rattle.lighting_levels.proofs.Choosing.{ifs}
+use Rattle.lighting_outputs.specs.Paper.Value.{reachedBy}
 use borrow.Author.Needs.{needs}
 use Rattle.output_value.proofs.reached_by.Statement.{statement}
 use Rattle.output_value.proofs.reached_by.Tie as tie

@@ -1,5 +1,5 @@
 -- Drafted by tools/draft.py: nothing here was written by hand.
-use Rattle.lighting.specs.Paper.Writing.{warns}
+use Rattle.lighting_outputs.specs.Paper.Writing.{warns}
 use borrow.Author.Needs.{needs}
 use Rattle.output_warning.proofs.does_warn.Statement.{statement}
 use Rattle.output_warning.proofs.does_warn.Tie as tie

@@ -1,6 +1,6 @@
 -- Drafted by tools/draft.py: nothing here was written by hand.
-use Rattle.lighting.proofs.Choosing.{ifs}
-use Rattle.lighting.specs.Paper.Writing.{zeroOrEmpty}
+use Rattle.lighting_levels.proofs.Choosing.{ifs}
+use Rattle.lighting_outputs.specs.Paper.Writing.{zeroOrEmpty}
 use borrow.Author.Needs.{needs}
 use Rattle.output_warning.proofs.is_zero_or_empty.Statement.{statement}
 use Rattle.output_warning.proofs.is_zero_or_empty.Tie as tie

@@ -1,4 +1,4 @@
-use Rattle.lighting.specs.Paper.Writing.{warningFrom}
+use Rattle.lighting_outputs.specs.Paper.Writing.{warningFrom}
 use borrow.Author.Needs.{needs}
 use Rattle.output_warning.proofs.warning_from.Statement.{statement}
 use Rattle.output_warning.proofs.warning_from.Tie as tie

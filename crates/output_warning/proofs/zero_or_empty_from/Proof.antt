@@ -3,8 +3,8 @@
 use borrow.Author.Needs.{needs}
 use Prim.Native.Nat.{_-_}
 use mathlib.Core.Path.{_≡_, sym, _∙_}
-use Rattle.lighting.proofs.Scan.{scan-on, scan-off, scan-done}
-use Rattle.lighting.specs.Paper.Writing.{zeroOrEmptyFrom, zeroOrEmpty}
+use Rattle.lighting_levels.proofs.Scan.{scan-on, scan-off, scan-done}
+use Rattle.lighting_outputs.specs.Paper.Writing.{zeroOrEmptyFrom, zeroOrEmpty}
 use Rattle.output_warning.proofs.zero_or_empty_from.Statement.{statement}
 use Rattle.output_warning.proofs.zero_or_empty_from.Tie as tie
 

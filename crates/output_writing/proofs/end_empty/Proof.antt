@@ -1,5 +1,5 @@
 -- Drafted by tools/draft.py: nothing here was written by hand.
-use Rattle.lighting.specs.Paper.Writing.{endedEmpty}
+use Rattle.lighting_outputs.specs.Paper.Writing.{endedEmpty}
 use borrow.Author.Needs.{needs}
 use Rattle.output_writing.proofs.end_empty.Statement.{statement}
 use Rattle.output_writing.proofs.end_empty.Tie as tie

@@ -1,7 +1,7 @@
 -- Drafted by tools/draft.py: nothing here was written by hand.
-use Rattle.lighting.proofs.Choosing.{ifs}
-use Rattle.lighting.proofs.Laws.{endMovementUnlessAbove-on}
-use Rattle.lighting.specs.Paper.Writing.{endMovementUnlessAbove}
+use Rattle.lighting_levels.proofs.Choosing.{ifs}
+use Rattle.lighting_outputs.proofs.Laws.{endMovementUnlessAbove-on}
+use Rattle.lighting_outputs.specs.Paper.Writing.{endMovementUnlessAbove}
 use borrow.Author.Needs.{needs}
 use Rattle.output_writing.proofs.end_movement_unless_above.Statement.{statement}
 use Rattle.output_writing.proofs.end_movement_unless_above.Tie as tie

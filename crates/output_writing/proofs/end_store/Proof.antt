@@ -1,5 +1,5 @@
 -- Drafted by tools/draft.py: nothing here was written by hand.
-use Rattle.lighting.specs.Paper.Writing.{endedStored}
+use Rattle.lighting_outputs.specs.Paper.Writing.{endedStored}
 use borrow.Author.Needs.{needs}
 use Rattle.output_writing.proofs.end_store.Statement.{statement}
 use Rattle.output_writing.proofs.end_store.Tie as tie

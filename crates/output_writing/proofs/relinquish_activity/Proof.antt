@@ -1,6 +1,6 @@
 -- Drafted by tools/draft.py: nothing here was written by hand.
-use Rattle.lighting.proofs.Choosing.{ifs}
-use Rattle.lighting.specs.Paper.Writing.{activityRelinquished}
+use Rattle.lighting_levels.proofs.Choosing.{ifs}
+use Rattle.lighting_outputs.specs.Paper.Writing.{activityRelinquished}
 use borrow.Author.Needs.{needs}
 use Rattle.output_writing.proofs.relinquish_activity.Statement.{statement}
 use Rattle.output_writing.proofs.relinquish_activity.Tie as tie

@@ -1,5 +1,5 @@
 -- Drafted by tools/draft.py: nothing here was written by hand.
-use Rattle.lighting.specs.Paper.Writing.{slotRelinquished}
+use Rattle.lighting_outputs.specs.Paper.Writing.{slotRelinquished}
 use borrow.Author.Needs.{needs}
 use Rattle.output_writing.proofs.relinquish_slot.Statement.{statement}
 use Rattle.output_writing.proofs.relinquish_slot.Tie as tie

@@ -1,5 +1,5 @@
 -- Drafted by tools/draft.py: nothing here was written by hand.
-use Rattle.lighting.specs.Paper.Writing.{stored}
+use Rattle.lighting_outputs.specs.Paper.Writing.{stored}
 use borrow.Author.Needs.{needs}
 use Rattle.output_writing.proofs.store.Statement.{statement}
 use Rattle.output_writing.proofs.store.Tie as tie

@@ -1,5 +1,5 @@
 -- Drafted by tools/draft.py: nothing here was written by hand.
-use Rattle.lighting.specs.Paper.Writing.{written}
+use Rattle.lighting_outputs.specs.Paper.Writing.{written}
 use borrow.Author.Needs.{needs}
 use Rattle.output_writing.proofs.write.Statement.{statement}
 use Rattle.output_writing.proofs.write.Tie as tie

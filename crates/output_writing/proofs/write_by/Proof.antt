@@ -1,7 +1,7 @@
 -- Drafted by tools/draft.py: nothing here was written by hand.
-use Rattle.lighting.proofs.Choosing.{ifs}
-use Rattle.lighting.proofs.Laws.{writtenBy-on}
-use Rattle.lighting.specs.Paper.Writing.{writtenBy}
+use Rattle.lighting_levels.proofs.Choosing.{ifs}
+use Rattle.lighting_outputs.proofs.Laws.{writtenBy-on}
+use Rattle.lighting_outputs.specs.Paper.Writing.{writtenBy}
 use borrow.Author.Needs.{needs}
 use Rattle.output_writing.proofs.write_by.Statement.{statement}
 use Rattle.output_writing.proofs.write_by.Tie as tie

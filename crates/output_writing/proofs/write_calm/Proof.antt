@@ -1,6 +1,6 @@
 -- Drafted by tools/draft.py: nothing here was written by hand.
-use Rattle.lighting.proofs.Choosing.{ifs}
-use Rattle.lighting.specs.Paper.Writing.{writtenCalm}
+use Rattle.lighting_levels.proofs.Choosing.{ifs}
+use Rattle.lighting_outputs.specs.Paper.Writing.{writtenCalm}
 use borrow.Author.Needs.{needs}
 use Rattle.output_writing.proofs.write_calm.Statement.{statement}
 use Rattle.output_writing.proofs.write_calm.Tie as tie

@@ -1,6 +1,6 @@
 -- Drafted by tools/draft.py: nothing here was written by hand.
-use Rattle.lighting.proofs.Choosing.{ifs}
-use Rattle.lighting.specs.Paper.Writing.{writtenZero}
+use Rattle.lighting_levels.proofs.Choosing.{ifs}
+use Rattle.lighting_outputs.specs.Paper.Writing.{writtenZero}
 use borrow.Author.Needs.{needs}
 use Rattle.output_writing.proofs.write_zero.Statement.{statement}
 use Rattle.output_writing.proofs.write_zero.Tie as tie

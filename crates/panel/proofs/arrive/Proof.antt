@@ -3,8 +3,8 @@ mod Tie
 use mathlib.Core.Path.{refl, ap}
 use native.Mathlib.Omega.{arith}
 use lib.ListN.{length, length-map}
-use Rattle.lighting.specs.Engine.Advance.{advance}
-use Rattle.lighting.specs.Engine.Executing.{execute}
+use Rattle.lighting_outputs.specs.Engine.Advance.{advance}
+use Rattle.lighting_panel.specs.Engine.Executing.{execute}
 use borrow.Author.Needs.{needs}
 use Rattle.panel.proofs.arrive.Statement.{statement}
 use Rattle.panel.proofs.arrive.Proof.Tie as tie

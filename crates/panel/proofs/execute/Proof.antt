@@ -1,8 +1,8 @@
 mod Lts
 mod Tie
-use Rattle.lighting.specs.Paper.Panel.{panelOf}
+use Rattle.lighting_panel.specs.Paper.Panel.{panelOf}
 use mathlib.Core.Path.{sym, ap, _∙_}
-use Rattle.lighting.specs.Engine.Executing.{execute}
+use Rattle.lighting_panel.specs.Engine.Executing.{execute}
 use borrow.Author.Needs.{needs}
 use Rattle.panel.proofs.execute.Statement.{statement}
 use Rattle.panel.proofs.execute.Proof.Tie as tie

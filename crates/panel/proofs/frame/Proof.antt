@@ -4,9 +4,9 @@ use Prim.Native.Nat.{ℕ}
 use mathlib.Core.Path.{sym, ap, _∙_}
 use native.Mathlib.Omega.{arith}
 use borrow.Author.Tests.{not-true, not-false}
-use Rattle.lighting.specs.Paper.Panel.{panelOf}
-use Rattle.lighting.specs.Engine.Executing.{execute}
-use Rattle.lighting.proofs.Carried.{frameStep-refused, frameStep-execute, sound-stations, sound-outputs, octets, decide-sure}
+use Rattle.lighting_panel.specs.Paper.Panel.{panelOf}
+use Rattle.lighting_panel.specs.Engine.Executing.{execute}
+use Rattle.lighting_panel.proofs.Carried.{frameStep-refused, frameStep-execute, sound-stations, sound-outputs, octets, decide-sure}
 use borrow.Author.Needs.{needs}
 use Rattle.panel.proofs.frame.Statement.{statement}
 use Rattle.panel.proofs.frame.Proof.Tie as tie

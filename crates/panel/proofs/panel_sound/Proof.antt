@@ -1,7 +1,7 @@
 mod Lts
 mod Tie
-use Rattle.lighting.specs.Paper.Panel.{panelSound}
-use Rattle.lighting.proofs.Choosing.{ifs}
+use Rattle.lighting_panel.specs.Paper.Panel.{panelSound}
+use Rattle.lighting_levels.proofs.Choosing.{ifs}
 use borrow.Author.Tests.{not-true, not-false}
 use borrow.Author.Needs.{needs}
 use Rattle.panel.proofs.panel_sound.Statement.{statement}

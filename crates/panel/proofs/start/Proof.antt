@@ -2,8 +2,8 @@ mod Lts
 mod Tie
 use mathlib.Core.Path.{sym, _∙_}
 use borrow.Author.Tests.{not-true, not-false}
-use Rattle.lighting.specs.Paper.Panel.{freshPanel, panelOf}
-use Rattle.lighting.proofs.Carried.{startStep-refused, startStep-done}
+use Rattle.lighting_panel.specs.Paper.Panel.{freshPanel, panelOf}
+use Rattle.lighting_panel.proofs.Carried.{startStep-refused, startStep-done}
 use borrow.Author.Needs.{needs}
 use Rattle.panel.proofs.start.Statement.{statement}
 use Rattle.panel.proofs.start.Proof.Tie as tie

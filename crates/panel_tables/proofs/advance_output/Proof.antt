@@ -2,10 +2,10 @@ mod Lts
 mod Tie
 use mathlib.Core.Path.{ap}
 use lib.ListN.{set, getD}
-use Rattle.lighting.specs.declared.Output.{Output}
-use Rattle.lighting.specs.Paper.Fresh.{freshOutput}
+use Rattle.lighting_outputs.specs.declared.Output.{Output}
+use Rattle.lighting_outputs.specs.Paper.Fresh.{freshOutput}
 use Prim.Native.Nat.{_-_}
-use Rattle.lighting.proofs.Quiet.{advance-later, stretch-moving, stretch-resting}
+use Rattle.lighting_outputs.proofs.Time.Quiet.{advance-later, stretch-moving, stretch-resting}
 use borrow.Author.Needs.{needs}
 use Rattle.panel_tables.proofs.advance_output.Statement.{statement}
 use Rattle.panel_tables.proofs.advance_output.Proof.Tie as tie

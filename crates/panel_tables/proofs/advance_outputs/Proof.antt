@@ -6,9 +6,9 @@ use mathlib.Core.Path.{_≡_, refl, sym, ap, _∙_}
 use Prim.Native.Nat.{_≤_, _-_}
 use native.Mathlib.Omega.{arith}
 use lib.ListN.{length, length-set}
-use Rattle.lighting.specs.Paper.Fresh.{freshOutput}
-use Rattle.lighting.specs.Engine.Advance.{advance}
-use Rattle.lighting.proofs.Carried.{all-stay}
+use Rattle.lighting_outputs.specs.Paper.Fresh.{freshOutput}
+use Rattle.lighting_outputs.specs.Engine.Advance.{advance}
+use Rattle.lighting_panel.proofs.Carried.{all-stay}
 use Rattle.panel_tables.proofs.Loops.{mapped, mapped-more, mapped-all}
 use borrow.Author.Needs.{needs}
 use Rattle.panel_tables.proofs.advance_outputs.Statement.{statement}

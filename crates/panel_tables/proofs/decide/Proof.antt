@@ -4,10 +4,10 @@ use mathlib.Core.Path.{_≡_, ap, _∙_}
 use Prim.Native.Nat.{ℕ, _<_}
 use native.Mathlib.Omega.{arith}
 use lib.ListN.{length}
-use Rattle.lighting.specs.Paper.Parameters.{document01}
-use Rattle.lighting.specs.Paper.Frames.{parse}
-use Rattle.lighting.specs.Engine.Judging.{stationOf, decide}
-use Rattle.lighting.proofs.Carried.{octets, station-found}
+use Rattle.lighting_outputs.specs.Paper.Parameters.{document01}
+use Rattle.lighting_frames.specs.Paper.Frames.{parse}
+use Rattle.lighting_panel.specs.Engine.Judging.{stationOf, decide}
+use Rattle.lighting_panel.proofs.Carried.{octets, station-found}
 use borrow.Author.Needs.{needs}
 use Rattle.panel_tables.proofs.decide.Statement.{statement}
 use Rattle.panel_tables.proofs.decide.Proof.Tie as tie

@@ -4,8 +4,8 @@ use mathlib.Core.Path.{_≡_}
 use Prim.Native.Nat.{_≤_, _-_}
 use native.Mathlib.Omega.{arith}
 use lib.ListN.{length, length-set}
-use Rattle.lighting.specs.Paper.Fresh.{freshOutput}
-use Rattle.lighting.specs.declared.Output.{Output}
+use Rattle.lighting_outputs.specs.Paper.Fresh.{freshOutput}
+use Rattle.lighting_outputs.specs.declared.Output.{Output}
 use Rattle.panel_tables.proofs.Loops.{mapped, mapped-more, mapped-alike}
 use borrow.Author.Needs.{needs}
 use Rattle.panel_tables.proofs.fresh_outputs.Statement.{statement}

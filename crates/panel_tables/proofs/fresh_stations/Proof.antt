@@ -4,8 +4,8 @@ use mathlib.Core.Path.{_≡_}
 use Prim.Native.Nat.{_≤_, _-_}
 use native.Mathlib.Omega.{arith}
 use lib.ListN.{length, length-set}
-use Rattle.lighting.specs.Paper.Fresh.{freshStation}
-use Rattle.lighting.specs.declared.Station.{Station}
+use Rattle.lighting_frames.specs.Paper.Stations.{freshStation}
+use Rattle.lighting_frames.specs.declared.Station.{Station}
 use Rattle.panel_tables.proofs.Loops.{mapped, mapped-more, mapped-alike}
 use borrow.Author.Needs.{needs}
 use Rattle.panel_tables.proofs.fresh_stations.Statement.{statement}

@@ -5,10 +5,10 @@ use Prim.Native.Nat.{_≤_, _-_}
 use native.Mathlib.Omega.{arith}
 use lib.ListN.{length, drop}
 use borrow.Author.Tests.{not-true, not-false}
-use Rattle.lighting.specs.Paper.Parameters.{document01}
-use Rattle.lighting.specs.Paper.Fresh.{freshOutput}
-use Rattle.lighting.specs.Paper.Rules.{sound}
-use Rattle.lighting.specs.Paper.Panel.{every}
+use Rattle.lighting_outputs.specs.Paper.Parameters.{document01}
+use Rattle.lighting_outputs.specs.Paper.Fresh.{freshOutput}
+use Rattle.lighting_outputs.specs.Paper.Rules.{sound}
+use Rattle.lighting_panel.specs.Paper.Panel.{every}
 use Rattle.panel_tables.proofs.Loops.{every-more, every-stop, every-all}
 use borrow.Author.Needs.{needs}
 use Rattle.panel_tables.proofs.outputs_sound.Statement.{statement}

@@ -1,6 +1,6 @@
 mod Lts
 mod Tie
-use Rattle.lighting.specs.Paper.Acting.{served}
+use Rattle.lighting_outputs.specs.Paper.Acting.{served}
 use borrow.Author.Needs.{needs}
 use Rattle.panel_tables.proofs.serve.Statement.{statement}
 use Rattle.panel_tables.proofs.serve.Proof.Tie as tie

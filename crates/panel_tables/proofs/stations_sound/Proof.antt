@@ -5,9 +5,8 @@ use Prim.Native.Nat.{_≤_, _-_}
 use native.Mathlib.Omega.{arith}
 use lib.ListN.{length, drop}
 use borrow.Author.Tests.{not-true, not-false}
-use Rattle.lighting.specs.Paper.Fresh.{freshStation}
-use Rattle.lighting.specs.Paper.Rules.{stationSound}
-use Rattle.lighting.specs.Paper.Panel.{every}
+use Rattle.lighting_frames.specs.Paper.Stations.{freshStation, stationSound}
+use Rattle.lighting_panel.specs.Paper.Panel.{every}
 use Rattle.panel_tables.proofs.Loops.{every-more, every-stop, every-all}
 use borrow.Author.Needs.{needs}
 use Rattle.panel_tables.proofs.stations_sound.Statement.{statement}

@@ -1,6 +1,6 @@
 -- Drafted by tools/draft.py: nothing here was written by hand.
-use Rattle.lighting.proofs.Choosing.{ifs}
-use Rattle.lighting.specs.Paper.Properties.{elapsedActive}
+use Rattle.lighting_levels.proofs.Choosing.{ifs}
+use Rattle.lighting_outputs.specs.Paper.Properties.{elapsedActive}
 use borrow.Author.Needs.{needs}
 use Rattle.property_read.proofs.elapsed_active.Statement.{statement}
 use Rattle.property_read.proofs.elapsed_active.Tie as tie

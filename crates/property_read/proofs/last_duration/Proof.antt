@@ -1,7 +1,7 @@
 -- Drafted by tools/draft.py: nothing here was written by hand.
-use Rattle.lighting.proofs.Choosing.{ifs}
-use Rattle.lighting.proofs.Laws.{lastDuration-on}
-use Rattle.lighting.specs.Paper.Properties.{lastDuration}
+use Rattle.lighting_levels.proofs.Choosing.{ifs}
+use Rattle.lighting_outputs.proofs.Laws.{lastDuration-on}
+use Rattle.lighting_outputs.specs.Paper.Properties.{lastDuration}
 use borrow.Author.Needs.{needs}
 use Rattle.property_read.proofs.last_duration.Statement.{statement}
 use Rattle.property_read.proofs.last_duration.Tie as tie

@@ -1,5 +1,5 @@
 -- Drafted by tools/draft.py: nothing here was written by hand.
-use Rattle.lighting.specs.Paper.Properties.{levelAnswer}
+use Rattle.lighting_outputs.specs.Paper.Properties.{levelAnswer}
 use borrow.Author.Needs.{needs}
 use Rattle.property_read.proofs.level_answer.Statement.{statement}
 use Rattle.property_read.proofs.level_answer.Tie as tie

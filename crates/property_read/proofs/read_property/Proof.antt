@@ -1,5 +1,5 @@
-use Rattle.lighting.proofs.Laws.{readProperty-on}
-use Rattle.lighting.specs.Paper.Properties.{readProperty}
+use Rattle.lighting_outputs.proofs.Laws.{readProperty-on}
+use Rattle.lighting_outputs.specs.Paper.Properties.{readProperty}
 use borrow.Author.Needs.{needs}
 use Rattle.property_read.proofs.read_property.Statement.{statement}
 use Rattle.property_read.proofs.read_property.Tie as tie

@@ -1,5 +1,5 @@
-use Rattle.lighting.proofs.Choosing.{ifs}
-use Rattle.lighting.specs.Paper.Properties.{slotAnswer}
+use Rattle.lighting_levels.proofs.Choosing.{ifs}
+use Rattle.lighting_outputs.specs.Paper.Properties.{slotAnswer}
 use borrow.Author.Needs.{needs}
 use Rattle.property_read.proofs.slot_answer.Statement.{statement}
 use Rattle.property_read.proofs.slot_answer.Tie as tie

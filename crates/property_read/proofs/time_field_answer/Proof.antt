@@ -1,7 +1,7 @@
 -- Drafted by tools/draft.py: nothing here was written by hand.
-use Rattle.lighting.proofs.Choosing.{ifs}
-use Rattle.lighting.proofs.Laws.{timeFieldAnswer-on}
-use Rattle.lighting.specs.Paper.Properties.{timeFieldAnswer}
+use Rattle.lighting_levels.proofs.Choosing.{ifs}
+use Rattle.lighting_outputs.proofs.Laws.{timeFieldAnswer-on}
+use Rattle.lighting_outputs.specs.Paper.Properties.{timeFieldAnswer}
 use borrow.Author.Needs.{needs}
 use Rattle.property_read.proofs.time_field_answer.Statement.{statement}
 use Rattle.property_read.proofs.time_field_answer.Tie as tie

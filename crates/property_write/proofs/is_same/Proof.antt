@@ -1,5 +1,5 @@
 -- Drafted by tools/draft.py: nothing here was written by hand.
-use Rattle.lighting.specs.Paper.Properties.{same}
+use Rattle.lighting_outputs.specs.Paper.Properties.{same}
 use borrow.Author.Needs.{needs}
 use Rattle.property_write.proofs.is_same.Statement.{statement}
 use Rattle.property_write.proofs.is_same.Tie as tie

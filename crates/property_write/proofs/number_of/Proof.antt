@@ -1,6 +1,6 @@
 -- Drafted by tools/draft.py: nothing here was written by hand.
-use Rattle.lighting.proofs.Choosing.{ifs}
-use Rattle.lighting.proofs.Laws.{numberOf-on}
+use Rattle.lighting_levels.proofs.Choosing.{ifs}
+use Rattle.lighting_outputs.proofs.Laws.{numberOf-on}
 use borrow.Author.Needs.{needs}
 use Rattle.property_write.proofs.number_of.Statement.{statement}
 use Rattle.property_write.proofs.number_of.Tie as tie

@@ -1,10 +1,10 @@
 use mathlib.Core.Path.{refl}
 use mathlib.Core.List.{_∷_}
 use native.Mathlib.Omega.{arith}
-use Rattle.lighting.specs.Paper.Choice.{if_then_else_}
+use Rattle.lighting_levels.specs.Paper.Choice.{if_then_else_}
 use Rattle.property_write.proofs.Keys.{below, propertyOf-on, propertyOf-slot, propertyOf-none, propertyOf-above}
 use borrow.Author.Needs.{needs}
-use Rattle.lighting.specs.Paper.Properties.{numbered, propertyOf}
+use Rattle.lighting_outputs.specs.Paper.Properties.{numbered, propertyOf}
 use Rattle.property_write.proofs.property_of.Statement.{statement}
 use Rattle.property_write.proofs.property_of.Tie as tie
 use Rattle.property_write.proofs.property_of.Reads as reads

@@ -3,9 +3,9 @@ mod Tie
 use mathlib.Core.Path.{_≡_, ap}
 use Prim.Native.Nat.{_-_, min}
 use lib.ListN.{length, take}
-use Rattle.lighting.specs.Paper.Parameters.{document01}
-use Rattle.lighting.specs.Paper.Panel.{Panel, Step, panelOf}
-use Rattle.lighting.specs.Engine.Executing.{frameStep}
+use Rattle.lighting_outputs.specs.Paper.Parameters.{document01}
+use Rattle.lighting_panel.specs.Paper.Panel.{Panel, Step, panelOf}
+use Rattle.lighting_panel.specs.Engine.Executing.{frameStep}
 use Rattle.replay_line.specs.Taking.{sent}
 use Rattle.replay_line.proofs.Named.{part-taken, part-joined}
 use borrow.Author.Needs.{needs}

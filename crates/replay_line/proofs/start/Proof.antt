@@ -3,8 +3,8 @@ mod Tie
 use mathlib.Core.Path.{_≡_, ap}
 use Prim.Native.Nat.{min}
 use lib.ListN.{length}
-use Rattle.lighting.specs.Paper.Parameters.{document01}
-use Rattle.lighting.specs.Paper.Panel.{Panel, Step, panelOf, startStep}
+use Rattle.lighting_outputs.specs.Paper.Parameters.{document01}
+use Rattle.lighting_panel.specs.Paper.Panel.{Panel, Step, panelOf, startStep}
 use Rattle.replay_line.specs.Taking.{begun}
 use Rattle.replay_line.proofs.Named.{part-joined}
 use borrow.Author.Needs.{needs}

@@ -2,7 +2,7 @@ mod Lts
 mod Tie
 use mathlib.Core.Path.{refl}
 use mathlib.Core.Bool.{true, false}
-use Rattle.lighting.specs.Paper.Panel.{panelOf}
+use Rattle.lighting_panel.specs.Paper.Panel.{panelOf}
 use Rattle.text_printing.proofs.Pages.{wrote-none}
 use Rattle.replay_line.specs.Taking.{takenBy}
 use Rattle.replay_line.proofs.Ends.{ended}

@@ -1,7 +1,7 @@
 use mathlib.Core.Path.{_≡_, refl}
 use mathlib.Core.Bool.{true}
 use lib.ListN.{length}
-use Rattle.lighting.specs.Paper.Panel.{panelOf}
+use Rattle.lighting_panel.specs.Paper.Panel.{panelOf}
 use Rattle.text_reading.specs.Reading.{freshReader}
 use Rattle.replay_line.specs.Taking.{Went}
 use Rattle.replay_line.proofs.Parts.{went-none, went-is, went-then}

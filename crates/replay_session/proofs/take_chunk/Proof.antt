@@ -1,7 +1,7 @@
 use mathlib.Core.Path.{_≡_, refl}
 use Prim.Native.Nat.{_-_}
 use lib.ListN.{length, drop}
-use Rattle.lighting.specs.Paper.Panel.{panelOf}
+use Rattle.lighting_panel.specs.Paper.Panel.{panelOf}
 use Rattle.replay_line.specs.Taking.{through}
 use Rattle.replay_line.proofs.Through.{went-on, broke-off, line-open, text-over}
 mod Lts

@@ -4,7 +4,7 @@ use Prim.Native.Nat.{_≤_, _-_}
 use native.Mathlib.Omega.{arith}
 use lib.ListN.{length, take}
 use borrow.Author.Needs.{needs}
-use Rattle.lighting.specs.Engine.Judging.{padded}
+use Rattle.lighting_panel.specs.Engine.Judging.{padded}
 use Rattle.station_frame.proofs.Bytes.{padded-more, padded-all}
 use Rattle.station_frame.proofs.pad.Statement.{statement}
 use Rattle.station_frame.proofs.pad.Tie as tie

@@ -4,11 +4,11 @@ use Prim.Native.Nat.{_≤_, _-_}
 use native.Mathlib.Omega.{arith}
 use lib.ListN.{length, drop}
 use borrow.Author.Needs.{needs}
-use Rattle.lighting.specs.Paper.Field.{byteAt}
-use Rattle.lighting.specs.Paper.Kinds.{kindLength}
-use Rattle.lighting.specs.Paper.Copies.{sameBytes}
-use Rattle.lighting.specs.Engine.Judging.{restored}
-use Rattle.lighting.proofs.KindTable.{length-most}
+use Rattle.lighting_levels.specs.Paper.Field.{byteAt}
+use Rattle.lighting_frames.specs.Paper.Kinds.{kindLength}
+use Rattle.lighting_frames.specs.Paper.Copies.{sameBytes}
+use Rattle.lighting_panel.specs.Engine.Judging.{restored}
+use Rattle.lighting_frames.proofs.KindTable.{length-most}
 use Rattle.station_frame.proofs.Bytes.{other-length, same-more, same-stop, same-end, restored-length, restored-at}
 use Rattle.station_frame.proofs.same_frame.Statement.{statement}
 use Rattle.station_frame.proofs.same_frame.Tie as tie

@@ -1,6 +1,6 @@
 -- Drafted by tools/draft.py: nothing here was written by hand.
-use Rattle.lighting.proofs.Choosing.{ifs}
-use Rattle.lighting.specs.Paper.Panel.{countsSound}
+use Rattle.lighting_levels.proofs.Choosing.{ifs}
+use Rattle.lighting_panel.specs.Paper.Panel.{countsSound}
 use borrow.Author.Needs.{needs}
 use Rattle.station_judging.proofs.counts_sound.Statement.{statement}
 use Rattle.station_judging.proofs.counts_sound.Tie as tie

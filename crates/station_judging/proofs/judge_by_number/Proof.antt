@@ -1,6 +1,6 @@
 -- Drafted by tools/draft.py: nothing here was written by hand.
-use Rattle.lighting.proofs.Choosing.{ifs}
-use Rattle.lighting.specs.Engine.Judging.{judgedByNumber}
+use Rattle.lighting_levels.proofs.Choosing.{ifs}
+use Rattle.lighting_panel.specs.Engine.Judging.{judgedByNumber}
 use borrow.Author.Needs.{needs}
 use Rattle.station_judging.proofs.judge_by_number.Statement.{statement}
 use Rattle.station_judging.proofs.judge_by_number.Tie as tie

@@ -1,7 +1,6 @@
-use Rattle.lighting.proofs.Laws.{judgedByRecord-on}
-use Rattle.lighting.specs.Engine.Judging.{judgedByRecord}
-use Rattle.lighting.proofs.Choosing.{ifs}
-use Rattle.lighting.specs.Engine.Judging.{judgedByStation}
+use Rattle.lighting_panel.proofs.Laws.{judgedByRecord-on}
+use Rattle.lighting_panel.specs.Engine.Judging.{judgedByRecord, judgedByStation}
+use Rattle.lighting_levels.proofs.Choosing.{ifs}
 use borrow.Author.Needs.{needs}
 use Rattle.station_judging.proofs.judge_by_station.Statement.{statement}
 use Rattle.station_judging.proofs.judge_by_station.Tie as tie

@@ -1,6 +1,6 @@
 -- Drafted by tools/draft.py: nothing here was written by hand.
-use Rattle.lighting.proofs.Choosing.{ifs}
-use Rattle.lighting.specs.Paper.Copies.{retransmissionOrConflict}
+use Rattle.lighting_levels.proofs.Choosing.{ifs}
+use Rattle.lighting_frames.specs.Paper.Copies.{retransmissionOrConflict}
 use borrow.Author.Needs.{needs}
 use Rattle.station_judging.proofs.retransmission_or_conflict.Statement.{statement}
 use Rattle.station_judging.proofs.retransmission_or_conflict.Tie as tie

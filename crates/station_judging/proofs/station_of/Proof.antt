@@ -1,7 +1,7 @@
 -- Drafted by tools/draft.py: nothing here was written by hand.
-use Rattle.lighting.proofs.Choosing.{ifs}
-use Rattle.lighting.proofs.Laws.{stationOf-on}
-use Rattle.lighting.specs.Engine.Judging.{stationOf}
+use Rattle.lighting_levels.proofs.Choosing.{ifs}
+use Rattle.lighting_panel.proofs.Laws.{stationOf-on}
+use Rattle.lighting_panel.specs.Engine.Judging.{stationOf}
 use borrow.Author.Needs.{needs}
 use Rattle.station_judging.proofs.station_of.Statement.{statement}
 use Rattle.station_judging.proofs.station_of.Tie as tie

@@ -1,6 +1,6 @@
-use Rattle.lighting.specs.Paper.Field.{byteAt}
-use Rattle.lighting.proofs.Choosing.{ifs}
-use Rattle.lighting.specs.Paper.Rules.{stationSound}
+use Rattle.lighting_levels.specs.Paper.Field.{byteAt}
+use Rattle.lighting_levels.proofs.Choosing.{ifs}
+use Rattle.lighting_frames.specs.Paper.Stations.{stationSound}
 use borrow.Author.Needs.{needs}
 use Rattle.station_judging.proofs.station_sound.Statement.{statement}
 use Rattle.station_judging.proofs.station_sound.Tie as tie

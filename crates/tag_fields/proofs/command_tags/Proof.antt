@@ -1,5 +1,5 @@
 -- Drafted by tools/draft.py: nothing here was written by hand.
-use Rattle.lighting.specs.Paper.Tags.{commandTags}
+use Rattle.lighting_frames.specs.Paper.Tags.{commandTags}
 use borrow.Author.Needs.{needs}
 use Rattle.tag_fields.proofs.command_tags.Statement.{statement}
 use Rattle.tag_fields.proofs.command_tags.Tie as tie

@@ -1,7 +1,7 @@
 -- Drafted by tools/draft.py: nothing here was written by hand.
-use Rattle.lighting.proofs.Choosing.{ifs}
-use Rattle.lighting.proofs.Laws.{durationField-on}
-use Rattle.lighting.specs.Paper.Tags.{durationField}
+use Rattle.lighting_levels.proofs.Choosing.{ifs}
+use Rattle.lighting_outputs.proofs.Laws.{durationField-on}
+use Rattle.lighting_outputs.specs.Paper.Operations.{durationField}
 use borrow.Author.Needs.{needs}
 use Rattle.tag_fields.proofs.duration_field.Statement.{statement}
 use Rattle.tag_fields.proofs.duration_field.Tie as tie

@@ -1,6 +1,6 @@
 -- Drafted by tools/draft.py: nothing here was written by hand.
-use Rattle.lighting.proofs.Choosing.{ifs}
-use Rattle.lighting.specs.Paper.Tags.{fewestOctets}
+use Rattle.lighting_levels.proofs.Choosing.{ifs}
+use Rattle.lighting_frames.specs.Paper.Tags.{fewestOctets}
 use borrow.Author.Needs.{needs}
 use Rattle.tag_fields.proofs.fewest_octets.Statement.{statement}
 use Rattle.tag_fields.proofs.fewest_octets.Tie as tie

@@ -1,7 +1,7 @@
 -- `tag_fields::field_size` meets its contract.
 use native.Mathlib.Omega.{arith}
-use Rattle.lighting.specs.Paper.Tags.{fieldSize}
-use Rattle.lighting.proofs.Laws.{fieldSize-on}
+use Rattle.lighting_frames.specs.Paper.Tags.{fieldSize}
+use Rattle.lighting_frames.proofs.Laws.{fieldSize-on}
 use borrow.Author.Needs.{needs}
 use Rattle.tag_fields.proofs.field_size.Statement.{statement}
 use Rattle.tag_fields.proofs.field_size.Tie as tie

@@ -1,7 +1,7 @@
 -- Drafted by tools/draft.py: nothing here was written by hand.
-use Rattle.lighting.proofs.Choosing.{ifs}
-use Rattle.lighting.proofs.Laws.{heldBy-on}
-use Rattle.lighting.specs.Paper.Tags.{heldBy}
+use Rattle.lighting_levels.proofs.Choosing.{ifs}
+use Rattle.lighting_frames.proofs.Laws.{heldBy-on}
+use Rattle.lighting_frames.specs.Paper.Tags.{heldBy}
 use borrow.Author.Needs.{needs}
 use Rattle.tag_fields.proofs.held_by.Statement.{statement}
 use Rattle.tag_fields.proofs.held_by.Tie as tie

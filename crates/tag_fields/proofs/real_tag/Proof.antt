@@ -1,7 +1,7 @@
 -- Drafted by tools/draft.py: nothing here was written by hand.
-use Rattle.lighting.proofs.Choosing.{ifs}
-use Rattle.lighting.proofs.Laws.{realTag-on}
-use Rattle.lighting.specs.Paper.Tags.{realTag}
+use Rattle.lighting_levels.proofs.Choosing.{ifs}
+use Rattle.lighting_frames.proofs.Laws.{realTag-on}
+use Rattle.lighting_frames.specs.Paper.Tags.{realTag}
 use borrow.Author.Needs.{needs}
 use Rattle.tag_fields.proofs.real_tag.Statement.{statement}
 use Rattle.tag_fields.proofs.real_tag.Tie as tie

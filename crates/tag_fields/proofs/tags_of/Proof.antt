@@ -1,5 +1,5 @@
 -- Drafted by tools/draft.py: nothing here was written by hand.
-use Rattle.lighting.specs.Paper.Tags.{tagsOf}
+use Rattle.lighting_frames.specs.Paper.Tags.{tagsOf}
 use borrow.Author.Needs.{needs}
 use Rattle.tag_fields.proofs.tags_of.Statement.{statement}
 use Rattle.tag_fields.proofs.tags_of.Tie as tie

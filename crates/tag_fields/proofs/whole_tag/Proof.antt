@@ -1,7 +1,7 @@
 -- Drafted by tools/draft.py: nothing here was written by hand.
-use Rattle.lighting.proofs.Choosing.{ifs}
-use Rattle.lighting.proofs.Laws.{wholeTag-on}
-use Rattle.lighting.specs.Paper.Tags.{wholeTag}
+use Rattle.lighting_levels.proofs.Choosing.{ifs}
+use Rattle.lighting_frames.proofs.Laws.{wholeTag-on}
+use Rattle.lighting_frames.specs.Paper.Tags.{wholeTag}
 use borrow.Author.Needs.{needs}
 use Rattle.tag_fields.proofs.whole_tag.Statement.{statement}
 use Rattle.tag_fields.proofs.whole_tag.Tie as tie

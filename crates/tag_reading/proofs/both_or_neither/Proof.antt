@@ -1,6 +1,6 @@
 -- Drafted by tools/draft.py: nothing here was written by hand.
-use Rattle.lighting.proofs.Choosing.{ifs}
-use Rattle.lighting.specs.Paper.Tags.{bothOrNeither}
+use Rattle.lighting_levels.proofs.Choosing.{ifs}
+use Rattle.lighting_frames.specs.Paper.Tags.{bothOrNeither}
 use borrow.Author.Needs.{needs}
 use Rattle.tag_reading.proofs.both_or_neither.Statement.{statement}
 use Rattle.tag_reading.proofs.both_or_neither.Tie as tie

@@ -1,7 +1,7 @@
 -- Drafted by tools/draft.py: nothing here was written by hand.
-use Rattle.lighting.proofs.Choosing.{ifs}
-use Rattle.lighting.proofs.Laws.{holdsAtMost-on}
-use Rattle.lighting.specs.Paper.Tags.{holdsAtMost}
+use Rattle.lighting_levels.proofs.Choosing.{ifs}
+use Rattle.lighting_frames.proofs.Laws.{holdsAtMost-on}
+use Rattle.lighting_frames.specs.Paper.Tags.{holdsAtMost}
 use borrow.Author.Needs.{needs}
 use Rattle.tag_reading.proofs.holds_at_most.Statement.{statement}
 use Rattle.tag_reading.proofs.holds_at_most.Tie as tie

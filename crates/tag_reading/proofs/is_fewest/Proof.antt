@@ -1,6 +1,6 @@
 -- `tag_reading::is_fewest` meets its contract.
-use Rattle.lighting.proofs.Laws.{fewest-on}
-use Rattle.lighting.specs.Paper.Tags.{fewest}
+use Rattle.lighting_frames.proofs.Laws.{fewest-on}
+use Rattle.lighting_frames.specs.Paper.Tags.{fewest}
 use borrow.Author.Needs.{needs}
 use Rattle.tag_reading.proofs.is_fewest.Statement.{statement}
 use Rattle.tag_reading.proofs.is_fewest.Tie as tie

@@ -1,6 +1,6 @@
 -- `tag_reading::own_tags` meets its contract.
-use Rattle.lighting.proofs.Choosing.{ifs}
-use Rattle.lighting.specs.Paper.Tags.{ownTags}
+use Rattle.lighting_levels.proofs.Choosing.{ifs}
+use Rattle.lighting_frames.specs.Paper.Tags.{ownTags}
 use borrow.Author.Needs.{needs}
 use Rattle.tag_reading.proofs.own_tags.Statement.{statement}
 use Rattle.tag_reading.proofs.own_tags.Tie as tie

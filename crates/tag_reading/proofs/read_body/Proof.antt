@@ -1,6 +1,6 @@
 -- `tag_reading::read_body` meets its contract.
-use Rattle.lighting.proofs.Choosing.{ifs}
-use Rattle.lighting.specs.Paper.Tags.{readBody}
+use Rattle.lighting_levels.proofs.Choosing.{ifs}
+use Rattle.lighting_frames.specs.Paper.Tags.{readBody}
 use borrow.Author.Needs.{needs}
 use Rattle.tag_reading.proofs.read_body.Statement.{statement}
 use Rattle.tag_reading.proofs.read_body.Tie as tie

@@ -1,6 +1,6 @@
 -- `tag_reading::read_fields` meets its contract.
-use Rattle.lighting.proofs.Choosing.{ifs}
-use Rattle.lighting.specs.Paper.Tags.{readFields}
+use Rattle.lighting_levels.proofs.Choosing.{ifs}
+use Rattle.lighting_frames.specs.Paper.Tags.{readFields}
 use borrow.Author.Needs.{needs}
 use Rattle.tag_reading.proofs.read_fields.Statement.{statement}
 use Rattle.tag_reading.proofs.read_fields.Tie as tie

@@ -1,6 +1,6 @@
 -- `tag_reading::sizes_of` meets its contract.
 use native.Mathlib.Omega.{arith}
-use Rattle.lighting.specs.Paper.Tags.{sizes}
+use Rattle.lighting_frames.specs.Paper.Tags.{sizes}
 use borrow.Author.Needs.{needs}
 use Rattle.tag_reading.proofs.sizes_of.Statement.{statement}
 use Rattle.tag_reading.proofs.sizes_of.Tie as tie

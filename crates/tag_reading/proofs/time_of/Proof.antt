@@ -1,7 +1,7 @@
 -- Drafted by tools/draft.py: nothing here was written by hand.
-use Rattle.lighting.proofs.Choosing.{ifs}
-use Rattle.lighting.proofs.Laws.{timeOf-on}
-use Rattle.lighting.specs.Paper.Tags.{timeOf}
+use Rattle.lighting_levels.proofs.Choosing.{ifs}
+use Rattle.lighting_frames.proofs.Laws.{timeOf-on}
+use Rattle.lighting_frames.specs.Paper.Tags.{timeOf}
 use borrow.Author.Needs.{needs}
 use Rattle.tag_reading.proofs.time_of.Statement.{statement}
 use Rattle.tag_reading.proofs.time_of.Tie as tie

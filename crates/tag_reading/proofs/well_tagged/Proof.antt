@@ -1,6 +1,6 @@
 -- `tag_reading::well_tagged` meets its contract.
-use Rattle.lighting.proofs.Choosing.{ifs}
-use Rattle.lighting.specs.Paper.Tags.{wellTagged}
+use Rattle.lighting_levels.proofs.Choosing.{ifs}
+use Rattle.lighting_frames.specs.Paper.Tags.{wellTagged}
 use borrow.Author.Needs.{needs}
 use Rattle.tag_reading.proofs.well_tagged.Statement.{statement}
 use Rattle.tag_reading.proofs.well_tagged.Tie as tie

@@ -5,8 +5,8 @@ use mathlib.Core.Path.{_≡_, sym, _∙_}
 use native.Mathlib.Omega.{arith}
 use borrow.Author.Needs.{needs}
 use borrow.Author.Tests.{eq-eqb, ne-eqb}
-use Rattle.lighting.specs.Paper.Tags.{zeroBeyond}
-use Rattle.lighting.proofs.Scan.{scan-on, scan-off, scan-done}
+use Rattle.lighting_frames.specs.Paper.Tags.{zeroBeyond}
+use Rattle.lighting_levels.proofs.Scan.{scan-on, scan-off, scan-done}
 use Rattle.tag_reading.proofs.Judging.{isZero, zeroFrom, beyond}
 use Rattle.tag_reading.proofs.zero_beyond.Statement.{statement}
 use Rattle.tag_reading.proofs.zero_beyond.Tie as tie

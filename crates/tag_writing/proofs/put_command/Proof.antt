@@ -1,7 +1,7 @@
 -- `tag_writing::put_command` meets its contract.
 use mathlib.Core.Path.{ap}
 use native.Mathlib.Omega.{arith}
-use Rattle.lighting.specs.Paper.Tags.{bytesFrom, tagBytes}
+use Rattle.lighting_frames.specs.Paper.Tags.{bytesFrom, tagBytes}
 use Rattle.text_printing.proofs.Pages.{wrote-then, wrote-none, wrote-as}
 use Rattle.tag_writing.proofs.Room.{operation-most, level-most, rate-most, step-most, fade-most, duration-most}
 use borrow.Author.Needs.{needs}

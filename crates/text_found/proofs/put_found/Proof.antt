@@ -1,7 +1,7 @@
 use mathlib.Core.Path.{_≡_, refl, _∙_}
 use Prim.Native.Nat.{_-_, _≤_, _<_, min}
 use lib.ListN.{length, take, drop}
-use Rattle.lighting.specs.Paper.Fresh.{freshOutput}
+use Rattle.lighting_outputs.specs.Paper.Fresh.{freshOutput}
 use Rattle.text_found.specs.Found.{sheet, withOutputs}
 use Rattle.text_found.proofs.Sheets.{found-begun, found-more, found-over}
 mod Lts

@@ -1,5 +1,5 @@
 -- Drafted by tools/draft.py: nothing here was written by hand.
-use Rattle.lighting.specs.Paper.Rows.{meetsReal}
+use Rattle.lighting_outputs.specs.Paper.Rows.{meetsReal}
 use borrow.Author.Needs.{needs}
 use Rattle.number_ranges.proofs.rows.fits_real.Statement.{statement}
 use Rattle.number_ranges.proofs.rows.fits_real.Tie as tie

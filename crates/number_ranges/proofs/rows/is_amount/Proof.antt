@@ -1,5 +1,5 @@
 -- Drafted by tools/draft.py: nothing here was written by hand.
-use Rattle.lighting.specs.Paper.Rows.{isAmount}
+use Rattle.lighting_outputs.specs.Paper.Rows.{isAmount}
 use borrow.Author.Needs.{needs}
 use Rattle.number_ranges.proofs.rows.is_amount.Statement.{statement}
 use Rattle.number_ranges.proofs.rows.is_amount.Tie as tie

@@ -1,6 +1,6 @@
 -- Drafted by tools/draft.py: nothing here was written by hand.
-use Rattle.lighting.proofs.Choosing.{ifs}
-use Rattle.lighting.proofs.Laws.{rowOf-on}
+use Rattle.lighting_levels.proofs.Choosing.{ifs}
+use Rattle.lighting_outputs.proofs.Laws.{rowOf-on}
 use borrow.Author.Needs.{needs}
 use Rattle.number_ranges.proofs.rows.row_of.Statement.{statement}
 use Rattle.number_ranges.proofs.rows.row_of.Tie as tie

@@ -1,13 +1,13 @@
 -- Made by tools/twin.py.
 use Prim.Native.Nat
-use Rattle.lighting.proofs.Answer
-use Rattle.lighting.proofs.Answer.Laws
-use Rattle.lighting.proofs.Call
-use Rattle.lighting.proofs.Call.Laws as Laws'
-use Rattle.lighting.proofs.Lent.OfOutput as OfOutput
-use Rattle.lighting.proofs.Lent.OfStation as OfStation
-use Rattle.lighting.proofs.Request
-use Rattle.lighting.proofs.Request.Laws as Laws''
+use Rattle.lighting_outputs.proofs.Answer
+use Rattle.lighting_outputs.proofs.Answer.Laws
+use Rattle.lighting_frames.proofs.Call
+use Rattle.lighting_frames.proofs.Call.Laws as Laws'
+use Rattle.lighting_outputs.proofs.Lent.OfOutput as OfOutput
+use Rattle.lighting_frames.proofs.Lent.OfStation as OfStation
+use Rattle.lighting_outputs.proofs.Request
+use Rattle.lighting_outputs.proofs.Request.Laws as Laws''
 use borrow.Author.Called
 use borrow.Fn.Any
 use borrow.Fn.Call as Call'

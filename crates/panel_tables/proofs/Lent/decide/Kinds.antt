@@ -1,8 +1,8 @@
 -- Made by tools/twin.py.
-use Rattle.lighting.proofs.Lent.OfOutput as OfOutput
-use Rattle.lighting.proofs.Lent.OfStation as OfStation
-use Rattle.lighting.proofs.Verdict
-use Rattle.lighting.proofs.Verdict.Laws
+use Rattle.lighting_outputs.proofs.Lent.OfOutput as OfOutput
+use Rattle.lighting_frames.proofs.Lent.OfStation as OfStation
+use Rattle.lighting_frames.proofs.Verdict
+use Rattle.lighting_frames.proofs.Verdict.Laws
 use borrow.Fn.Kinds
 use borrow.Kind.ShrSlice
 use borrow.Kind.Value

@@ -1,9 +1,9 @@
 -- Made by tools/twin.py.
-use Rattle.lighting.proofs.Answer
-use Rattle.lighting.proofs.Answer.Laws
-use Rattle.lighting.proofs.Lent.OfOutput as OfOutput
-use Rattle.lighting.proofs.Request
-use Rattle.lighting.proofs.Request.Laws as Laws'
+use Rattle.lighting_outputs.proofs.Answer
+use Rattle.lighting_outputs.proofs.Answer.Laws
+use Rattle.lighting_outputs.proofs.Lent.OfOutput as OfOutput
+use Rattle.lighting_outputs.proofs.Request
+use Rattle.lighting_outputs.proofs.Request.Laws as Laws'
 use borrow.Fn.Kinds
 use borrow.Kind.MutSlice
 use borrow.Kind.Value

@@ -1,5 +1,5 @@
 -- Made by tools/twin.py.
-use Rattle.lighting.proofs.Lent.OfStation as OfStation
+use Rattle.lighting_frames.proofs.Lent.OfStation as OfStation
 use borrow.Fn.Kinds
 use borrow.Kind.ShrSlice
 use mathlib.Core.List

@@ -1,6 +1,6 @@
 -- Made by tools/twin.py.
 use Prim.Native.Nat
-use Rattle.lighting.proofs.Lent.OfOutput as OfOutput
+use Rattle.lighting_outputs.proofs.Lent.OfOutput as OfOutput
 use borrow.Author.Called
 use borrow.Author.Tests
 use borrow.Fn.Any

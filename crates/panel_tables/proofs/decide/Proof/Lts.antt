@@ -1,11 +1,11 @@
 -- Made by tools/twin.py.
 use Prim.Native.Nat
-use Rattle.lighting.proofs.Frame
-use Rattle.lighting.proofs.Frame.Laws
-use Rattle.lighting.proofs.Lent.OfOutput as OfOutput
-use Rattle.lighting.proofs.Lent.OfStation as OfStation
-use Rattle.lighting.proofs.Verdict
-use Rattle.lighting.proofs.Verdict.Laws as Laws'
+use Rattle.lighting_frames.proofs.Frame
+use Rattle.lighting_frames.proofs.Frame.Laws
+use Rattle.lighting_outputs.proofs.Lent.OfOutput as OfOutput
+use Rattle.lighting_frames.proofs.Lent.OfStation as OfStation
+use Rattle.lighting_frames.proofs.Verdict
+use Rattle.lighting_frames.proofs.Verdict.Laws as Laws'
 use borrow.Author.Called
 use borrow.Fn.Any
 use borrow.Fn.Call

@@ -1,12 +1,12 @@
 -- Made by tools/twin.py.
 use Prim.Native.Nat
-use Rattle.lighting.proofs.Answer
-use Rattle.lighting.proofs.Answer.Laws
-use Rattle.lighting.proofs.Lent.OfOutput as OfOutput
-use Rattle.lighting.proofs.Outcome
-use Rattle.lighting.proofs.Outcome.Laws as Laws'
-use Rattle.lighting.proofs.Request
-use Rattle.lighting.proofs.Request.Laws as Laws''
+use Rattle.lighting_outputs.proofs.Answer
+use Rattle.lighting_outputs.proofs.Answer.Laws
+use Rattle.lighting_outputs.proofs.Lent.OfOutput as OfOutput
+use Rattle.lighting_outputs.proofs.Outcome
+use Rattle.lighting_outputs.proofs.Outcome.Laws as Laws'
+use Rattle.lighting_outputs.proofs.Request
+use Rattle.lighting_outputs.proofs.Request.Laws as Laws''
 use borrow.Author.Called
 use borrow.Fn.Any
 use borrow.Fn.Call

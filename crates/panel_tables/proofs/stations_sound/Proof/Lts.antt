@@ -1,6 +1,6 @@
 -- Made by tools/twin.py.
 use Prim.Native.Nat
-use Rattle.lighting.proofs.Lent.OfStation as OfStation
+use Rattle.lighting_frames.proofs.Lent.OfStation as OfStation
 use borrow.Author.Called
 use borrow.Author.Tests
 use borrow.Fn.Any

@@ -1,6 +1,6 @@
 -- Drafted by tools/draft.py: nothing here was written by hand.
-use Rattle.lighting.proofs.Choosing.{ifs}
-use Rattle.lighting.specs.Paper.Properties.{activityWith}
+use Rattle.lighting_levels.proofs.Choosing.{ifs}
+use Rattle.lighting_outputs.specs.Paper.Properties.{activityWith}
 use borrow.Author.Needs.{needs}
 use Rattle.property_write.proofs.settings.activity_with.Statement.{statement}
 use Rattle.property_write.proofs.settings.activity_with.Tie as tie

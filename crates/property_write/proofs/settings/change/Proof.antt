@@ -1,5 +1,5 @@
 -- Drafted by tools/draft.py: nothing here was written by hand.
-use Rattle.lighting.specs.Paper.Properties.{changed}
+use Rattle.lighting_outputs.specs.Paper.Properties.{changed}
 use borrow.Author.Needs.{needs}
 use Rattle.property_write.proofs.settings.change.Statement.{statement}
 use Rattle.property_write.proofs.settings.change.Tie as tie

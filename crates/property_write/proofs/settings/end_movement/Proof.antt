@@ -1,7 +1,7 @@
 -- Drafted by tools/draft.py: nothing here was written by hand.
-use Rattle.lighting.proofs.Choosing.{ifs}
-use Rattle.lighting.proofs.Laws.{endMovement-on}
-use Rattle.lighting.specs.Paper.Properties.{endMovement}
+use Rattle.lighting_levels.proofs.Choosing.{ifs}
+use Rattle.lighting_outputs.proofs.Laws.{endMovement-on}
+use Rattle.lighting_outputs.specs.Paper.Properties.{endMovement}
 use borrow.Author.Needs.{needs}
 use Rattle.property_write.proofs.settings.end_movement.Statement.{statement}
 use Rattle.property_write.proofs.settings.end_movement.Tie as tie

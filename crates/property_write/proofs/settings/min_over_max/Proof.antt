@@ -1,6 +1,6 @@
 -- Drafted by tools/draft.py: nothing here was written by hand.
-use Rattle.lighting.proofs.Choosing.{ifs}
-use Rattle.lighting.specs.Paper.Properties.{minOverMax}
+use Rattle.lighting_levels.proofs.Choosing.{ifs}
+use Rattle.lighting_outputs.specs.Paper.Properties.{minOverMax}
 use borrow.Author.Needs.{needs}
 use Rattle.property_write.proofs.settings.min_over_max.Statement.{statement}
 use Rattle.property_write.proofs.settings.min_over_max.Tie as tie

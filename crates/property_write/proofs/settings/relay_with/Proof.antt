@@ -1,5 +1,5 @@
 -- Drafted by tools/draft.py: nothing here was written by hand.
-use Rattle.lighting.specs.Paper.Properties.{relayWith}
+use Rattle.lighting_outputs.specs.Paper.Properties.{relayWith}
 use borrow.Author.Needs.{needs}
 use Rattle.property_write.proofs.settings.relay_with.Statement.{statement}
 use Rattle.property_write.proofs.settings.relay_with.Tie as tie

@@ -1,10 +1,10 @@
 use mathlib.Core.Path.{_≡_}
 use mathlib.Core.Bool.{true}
-use Rattle.lighting.specs.Paper.Rows.{isPriority}
+use Rattle.lighting_outputs.specs.Paper.Rows.{isPriority}
 use Rattle.property_write.proofs.Priorities.{priority-range}
-use Rattle.lighting.proofs.Choosing.{ifs}
-use Rattle.lighting.proofs.Laws.{changeBy-on}
-use Rattle.lighting.specs.Paper.Properties.{changeBy}
+use Rattle.lighting_levels.proofs.Choosing.{ifs}
+use Rattle.lighting_outputs.proofs.Laws.{changeBy-on}
+use Rattle.lighting_outputs.specs.Paper.Properties.{changeBy}
 use borrow.Author.Needs.{needs}
 use Rattle.property_write.proofs.values.change_by.Statement.{statement}
 use Rattle.property_write.proofs.values.change_by.Tie as tie

@@ -1,7 +1,7 @@
 -- Drafted by tools/draft.py: nothing here was written by hand.
-use Rattle.lighting.proofs.Choosing.{ifs}
-use Rattle.lighting.proofs.Laws.{changeTo-on}
-use Rattle.lighting.specs.Paper.Properties.{changeTo}
+use Rattle.lighting_levels.proofs.Choosing.{ifs}
+use Rattle.lighting_outputs.proofs.Laws.{changeTo-on}
+use Rattle.lighting_outputs.specs.Paper.Properties.{changeTo}
 use borrow.Author.Needs.{needs}
 use Rattle.property_write.proofs.values.change_to.Statement.{statement}
 use Rattle.property_write.proofs.values.change_to.Tie as tie

@@ -1,5 +1,5 @@
 -- Made by tools/twin.py.
-use Rattle.lighting.proofs.Lent.OfOutput as OfOutput
+use Rattle.lighting_outputs.proofs.Lent.OfOutput as OfOutput
 use Rattle.text_reading.proofs.Reader
 use Rattle.text_reading.proofs.Reader.Laws
 use borrow.Fn.Kinds

@@ -1,5 +1,5 @@
 -- Drafted by tools/draft.py: nothing here was written by hand.
-use Rattle.lighting.specs.Paper.Tags.{bodyFields}
+use Rattle.lighting_frames.specs.Paper.Tags.{bodyFields}
 use borrow.Author.Needs.{needs}
 use Rattle.tag_reading.proofs.fields.body_fields.Statement.{statement}
 use Rattle.tag_reading.proofs.fields.body_fields.Tie as tie

@@ -1,5 +1,5 @@
 -- `tag_reading::fields::fields_in` meets its contract.
-use Rattle.lighting.specs.Paper.Tags.{fieldsFrom}
+use Rattle.lighting_frames.specs.Paper.Tags.{fieldsFrom}
 use borrow.Author.Needs.{needs}
 use Rattle.tag_reading.proofs.fields.fields_in.Statement.{statement}
 use Rattle.tag_reading.proofs.fields.fields_in.Tie as tie

@@ -2,7 +2,7 @@
 use mathlib.Core.Path.{_≡_}
 use Prim.Native.Nat.{ℕ, _<_}
 use native.Mathlib.Omega.{arith}
-use Rattle.lighting.specs.Paper.Field.{byteAt}
+use Rattle.lighting_levels.specs.Paper.Field.{byteAt}
 use Rattle.tag_reading.proofs.Looking.{front}
 use borrow.Author.Needs.{needs}
 use Rattle.tag_reading.proofs.fields.number_behind.Statement.{statement}

@@ -1,4 +1,4 @@
-use Rattle.lighting.proofs.Choosing.{ifs}
+use Rattle.lighting_levels.proofs.Choosing.{ifs}
 use Rattle.text_reading.specs.Reading.{hexValue}
 use borrow.Author.Needs.{needs}
 use Rattle.text_reading.proofs.characters.hex_value.Statement.{statement}

@@ -1,0 +1,2 @@
+-- halves go to the even unit (§5)
+pub mod Halves

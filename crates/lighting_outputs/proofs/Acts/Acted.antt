@@ -1,0 +1,61 @@
+-- Every request that a frame brings keeps the record rules.
+use mathlib.Core.Path.{_≡_}
+use mathlib.Core.Bool.{false}
+use Prim.Native.Nat.{ℕ, _≤_}
+use native.Mathlib.Omega.{arith}
+use Rattle.lighting_levels.specs.Paper.Choice.{if_then_else_}
+use Rattle.lighting_outputs.specs.Paper.Relay.{inactiveNotBelow}
+use Rattle.lighting_outputs.specs.Paper.Properties.{settingsWith, relayWith, changed, minOverMax}
+use Rattle.lighting_outputs.specs.Paper.Acting.{done, unchanged, changedUnless, acted}
+use Rattle.lighting_outputs.specs.declared.Output.{Output}
+use Rattle.lighting_outputs.specs.declared.Outcome.{Outcome}
+use Rattle.lighting_outputs.specs.declared.Answer.the-variants.{Refused}
+use Rattle.lighting_outputs.specs.declared.Property.{Property}
+use Rattle.lighting_outputs.specs.declared.Request.{Request}
+use Rattle.lighting_outputs.specs.declared.Request.the-variants.{Refuse, Write, Empty, Change, Read, Commands}
+use Rattle.lighting_levels.proofs.Split.{by-bool}
+use Rattle.lighting_outputs.proofs.Rules.Facts.{Sound, Judged, Lawful}
+use Rattle.lighting_outputs.proofs.Time.Judged.{afterEvents-judged}
+use Rattle.lighting_outputs.proofs.Rules.RequestInRange.{RequestInRange}
+use Rattle.lighting_outputs.proofs.Acts.Written.{written-sound, slotRelinquished-sound}
+use Rattle.lighting_outputs.proofs.Acts.Changed.{changed-sound}
+use Rattle.lighting_outputs.proofs.Acts.Commanded.{commanded-sound}
+use Rattle.lighting_outputs.proofs.Time.Ticking.{afterEvents-sound}
+
+-- A WRITE OF A PROPERTY is turned down and leaves the output as it is, or is done
+pub by-change : (P : Outcome → Type 0) (t : ℕ) (o : Output) (n : Property) (v : ℕ) → ((r : ℕ) → 9 ≤ r → P (unchanged o (Refused r)))
+    → (minOverMax (settingsWith (o .settings) n v) ≡ false → inactiveNotBelow (relayWith (o .relay) n v) ≡ false → P (done (changed o n v)))
+    → P (acted t o (Change n v))
+unfolding acted changedUnless if_then_else_
+by-change P t o n v refused taken =
+    by-bool
+    (minOverMax (settingsWith (o .settings) n v))
+    (λ e. rw e (refused 13 (omega arith)))
+    (λ e. rw e
+    (by-bool
+    (inactiveNotBelow (relayWith (o .relay) n v))
+    (λ e′. rw e′ (refused 16 (omega arith)))
+    (λ e′. rw e′ (taken e e′))))
+
+pub acted-sound : (t : ℕ) (o : Output) (r : Request) → RequestInRange r → Sound t o → Sound t (acted t o r .output)
+unfolding acted done unchanged
+acted-sound t o (Refuse n) g h = h
+acted-sound t o (Write i v) g h = afterEvents-sound t _ (written-sound t o i v (g .0) (g .1) h)
+acted-sound t o (Empty i) g h = afterEvents-sound t _ (slotRelinquished-sound t o i g h)
+acted-sound t o (Change n v) g h =
+    by-change (λ (z : Outcome). Sound t (z .output)) t o n v (λ r l. h) (λ e e′. afterEvents-sound t _ (changed-sound t o n v g e e′ h))
+acted-sound t o (Read n) g h = h
+acted-sound t o (Commands k) g h = afterEvents-sound t _ (commanded-sound t o k (g .0) (g .1) h)
+
+-- and leaves the relay judged
+acted-judged : (t : ℕ) (o : Output) (r : Request) → Judged o → Judged (acted t o r .output)
+unfolding acted done unchanged
+acted-judged t o (Refuse n) j = j
+acted-judged t o (Write i v) j = afterEvents-judged _
+acted-judged t o (Empty i) j = afterEvents-judged _
+acted-judged t o (Change n v) j = by-change (λ (z : Outcome). Judged (z .output)) t o n v (λ r l. j) (λ e e′. afterEvents-judged _)
+acted-judged t o (Read n) j = j
+acted-judged t o (Commands k) j = afterEvents-judged _
+
+pub acted-lawful : (t : ℕ) (o : Output) (r : Request) → RequestInRange r → Lawful t o → Lawful t (acted t o r .output)
+acted-lawful t o r g h = record { sound = acted-sound t o r g (h .sound); judged = acted-judged t o r (h .judged) }

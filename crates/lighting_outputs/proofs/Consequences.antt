@@ -1,0 +1,24 @@
+-- Present_Value
+pub mod Present
+-- kind 05 by number
+pub mod Reads
+-- kind 04, then kind 05
+pub mod Writes
+-- kinds 02 and 03
+pub mod Stored
+-- a warning's whole course
+pub mod Warning
+-- what ends a warning
+pub mod Interrupted
+-- fades and ramps
+pub mod Movements
+-- what a command leaves in the slots
+pub mod Targets
+-- durations
+pub mod Durations
+-- Elapsed_Active_Time
+pub mod Burning
+-- how long a movement burns (§2)
+pub mod Light
+-- the relay (§3)
+pub mod Relay

@@ -1,0 +1,93 @@
+-- KIND 05, by the property's NUMBER: what each of 01 to 14, 17 to 1B and 21 to 30 reads as, of every output at every time.
+use mathlib.Core.Path.{_≡_, refl}
+use mathlib.Core.Bool.{not}
+use mathlib.Core.List.{[], _∷_, map}
+use mathlib.Core.Option.{Option, none, some}
+use Prim.Native.Nat.{ℕ, suc, _+_, _<_}
+use native.Mathlib.Omega.{arith}
+use native.Mathlib.Nat.{add-sub-cancel-left}
+use lib.ListN.{length}
+use Rattle.lighting_levels.specs.Paper.Choice.{if_then_else_}
+use Rattle.lighting_levels.specs.Paper.Level.{bits, readOut}
+use Rattle.lighting_outputs.specs.Paper.Slots.{slotCount, slot, isLive, levelAt}
+use Rattle.lighting_outputs.specs.Paper.Value.{presentValue, progressValue, inProcess}
+use Rattle.lighting_outputs.specs.Paper.Properties.{numbered, propertyOf, levelAnswer, slotAnswer, flag, elapsedActive, realAnswer, readProperty}
+use Rattle.lighting_outputs.specs.Paper.Relay.{relayState}
+use Rattle.lighting_outputs.specs.Paper.Acting.{unchanged, acted}
+use Rattle.lighting_outputs.specs.declared.Answer.{Answer}
+use Rattle.lighting_outputs.specs.declared.Answer.the-variants.{Done, Value, Absent, Refused}
+use Rattle.lighting_outputs.specs.declared.Request.the-variants.{Read}
+use Rattle.lighting_outputs.specs.declared.Output.{Output}
+use Rattle.lighting_levels.proofs.Split.{by-bool, leb-yes, leb-no}
+use Rattle.lighting_outputs.proofs.Priorities.Mask.{slot-is}
+use Rattle.lighting_outputs.proofs.Rules.Rows.{unlisted}
+
+-- a read of property n of the output o at t: a frame of kind 05 whose byte 13 is n
+abbrev pub reads : ℕ → Output → ℕ → Answer
+reads t o n = acted t o (Read (propertyOf n)) .answer
+
+-- 'Properties': 01 to 0B, and 'Read only: 0C Present_Value, 0D Progress_Value, 0E In_Process, 0F last operation'
+pub read-numbers : (t : ℕ) (o : Output)
+    → map (reads t o) (0x01 ∷ 0x02 ∷ 0x03 ∷ 0x04 ∷ 0x05 ∷ 0x06 ∷ 0x07 ∷ 0x08 ∷ 0x09 ∷ 0x0a ∷ 0x0b ∷ 0x0c ∷ 0x0d ∷ 0x0e ∷ [])
+    ≡ Value (readOut (o .settings .default))
+    ∷ Value (o .settings .fade)
+    ∷ Value (bits (o .settings .ramp))
+    ∷ Value (bits (o .settings .step))
+    ∷ Value (if o .settings .enable then 1 else 0)
+    ∷ Value (o .settings .blink)
+    ∷ Value (o .settings .delay)
+    ∷ Value (readOut (o .settings .min))
+    ∷ Value (readOut (o .settings .max))
+    ∷ Value (o .settings .slot + 1)
+    ∷ Value (elapsedActive (o .burning))
+    ∷ Value (readOut (presentValue (o .settings) (o .slots)))
+    ∷ Value (readOut (progressValue t o))
+    ∷ Value (inProcess (o .activity))
+    ∷ []
+unfolding acted unchanged propertyOf numbered readProperty levelAnswer realAnswer flag if_then_else_
+read-numbers t o = refl
+
+-- 'Binary_Active_Value and Binary_Inactive_Value (properties 17 and 18, levels [..]) and Polarity (19, 0 normal, 1 reverse [..]). Binary_Present_Value (1A,
+-- read only, 1 active, 0 inactive) [..] The relay's state (1B, read only) is that value, or its opposite under reverse'
+pub read-relay : (t : ℕ) (o : Output)
+    → map (reads t o) (0x17 ∷ 0x18 ∷ 0x19 ∷ 0x1a ∷ 0x1b ∷ [])
+    ≡ Value (readOut (o .relay .active))
+    ∷ Value (readOut (o .relay .inactive))
+    ∷ Value (if o .relay .reverse then 1 else 0)
+    ∷ Value (if o .relay .binary then 1 else 0)
+    ∷ Value (if (if o .relay .reverse then not (o .relay .binary) else o .relay .binary) then 1 else 0)
+    ∷ []
+unfolding acted unchanged propertyOf numbered readProperty levelAnswer flag relayState if_then_else_
+read-relay t o = refl
+
+-- 'property unknown' is 9: 00, 15 and 16, 1C to 20 and 31 on
+pub read-between : (t : ℕ) (o : Output) → map (reads t o) (0x15 ∷ 0x16 ∷ []) ≡ Refused 9 ∷ Refused 9 ∷ []
+unfolding acted unchanged propertyOf numbered readProperty if_then_else_
+read-between t o = refl
+
+pub read-unknown : (t : ℕ) (o : Output) (n : ℕ) → 0x1b < n → n < 0x21 → reads t o n ≡ Refused 9
+unfolding acted unchanged propertyOf numbered readProperty if_then_else_
+read-unknown t o n h k = rw (leb-no {a = 0x21} {b = n} k, unlisted n h)
+
+pub read-past : (t : ℕ) (o : Output) (n : ℕ) → 0x30 < n → reads t o n ≡ Refused 9
+unfolding acted unchanged propertyOf numbered readProperty if_then_else_
+read-past t o n h = rw (leb-yes {a = 0x21} {b = n} (omega arith), leb-no {a = n} {b = 0x30} h)
+
+pub read-none : (t : ℕ) (o : Output) → reads t o 0 ≡ Refused 9
+unfolding acted unchanged propertyOf numbered readProperty if_then_else_
+read-none t o = refl
+
+-- '21 to 30 slots 1 to 16 (Absent if not live)'
+abbrev slotAs : Option ℕ → Answer
+slotAs none = Absent
+slotAs (some v) = Value (readOut v)
+
+pub read-slots : (t : ℕ) (o : Output) (i : ℕ) → length (o .slots .levels) ≡ slotCount → i < slotCount → reads t o (0x21 + i) ≡ slotAs (slot (o .slots) i)
+unfolding acted unchanged propertyOf numbered readProperty slotAnswer levelAnswer levelAt if_then_else_
+read-slots t o i z h =
+    rw (leb-yes {a = 0x21} {b = 0x21 + i} (omega arith), leb-yes {a = 0x21 + i} {b = 0x30} (omega arith), add-sub-cancel-left 0x21 i, slot-is (o .slots) i (omega arith), leb-yes {a = suc i} {b = 16} h)
+    (by-bool (isLive (o .slots) i) (λ e. rw e) (λ e. rw e))
+
+-- what is refused is not Done
+pub refused : {A : Type 0} {r : ℕ} → _≡_ {A = Answer} (Refused r) Done → A
+refused h = let z : _≡_ {A = ℕ} 0 1 = cc in absurd (omega arith)

@@ -1,0 +1,6 @@
+-- the other outputs
+pub mod Others
+-- 32 bits hold a movement (§4)
+pub mod Elapsed
+-- the last command after every list (§1)
+pub mod KeptInLists

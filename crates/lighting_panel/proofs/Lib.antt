@@ -1,0 +1,27 @@
+-- The theorems of this layer, in reading order.
+-- all outputs of a table at once: what the list theorem stands on
+pub mod Table
+-- a frame as a station keeps it
+pub mod Lengths
+-- strings that are too long
+pub mod Long
+-- THE LIST THEOREM
+pub mod Lists
+-- frames that come again change nothing
+pub mod Repeats
+-- DEMAND 3
+pub mod Demand
+-- what a caller may conclude
+pub mod Calls
+-- the ways of `start` and `frame`, for proofs of code
+pub mod Carried
+-- frames under other names
+pub mod Renamed
+-- commands in tags, in lists (§1)
+pub mod TaggedLists
+-- what an engineer would check by hand
+pub mod Consequences
+-- worked lists, computed
+pub mod Figures
+-- definitions by clauses, for proofs of code
+pub mod Laws

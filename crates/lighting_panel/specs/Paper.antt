@@ -1,0 +1,14 @@
+-- DOCUMENT 01 AND §1 TO §5 AS DEFINITIONS, this layer's part: what a reader must believe. In reading order; docs/PAPER.md has all layers.
+-- the panel, its counts, and the start
+pub mod Panel
+-- 'The plain panel' over a list; demand 3; what a caller may conclude
+pub mod Plain
+pub mod Demand
+pub mod Calls
+-- §1 in lists
+pub mod ActsAsPlain
+-- worked lists: bench figures 9 and 10 and the traps; §1, §4 and §5
+pub mod Worked
+pub mod WorkedTagLists
+pub mod WorkedJumpLists
+pub mod WorkedHalfLists

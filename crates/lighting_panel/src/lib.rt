@@ -1,0 +1,1 @@
+// The panel: its definitions are over the types of the layers below.
