@@ -10,6 +10,7 @@ use lighting_outputs::Command;
 use lighting_outputs::Duration;
 use lighting_outputs::Operation;
 use lighting_outputs::OperationFields;
+use lighting_outputs::OutputRequest;
 use lighting_outputs::RealField;
 use lighting_outputs::Request;
 use lighting_outputs::TimeField;
@@ -87,15 +88,15 @@ fn command_lasting(operation: Operation, d: u32) -> Request
     ensures { λ r. ⌜ r ≡ commandLasting document01 operation d ⌝ }
 {
     if d == 0 {
-        Request::Commands(Command {
+        Request::ToOutput(OutputRequest::Commands(Command {
             operation,
             duration: Duration::Cancels,
-        })
+        }))
     } else if number_ranges::is_duration(d) {
-        Request::Commands(Command {
+        Request::ToOutput(OutputRequest::Commands(Command {
             operation,
             duration: Duration::Lasts(d),
-        })
+        }))
     } else {
         Request::Refuse(12)
     }
@@ -106,10 +107,10 @@ fn command_with_duration(operation: Operation, duration: TimeField) -> Request
 {
     match duration {
         TimeField::Time(d) => command_lasting(operation, d),
-        TimeField::NoTime => Request::Commands(Command {
+        TimeField::NoTime => Request::ToOutput(OutputRequest::Commands(Command {
             operation,
             duration: Duration::Omitted,
-        }),
+        })),
     }
 }
 

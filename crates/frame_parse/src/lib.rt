@@ -13,6 +13,7 @@ use lighting_frames::Frame;
 use lighting_frames::Kind;
 use lighting_levels::Level;
 use lighting_outputs::Operation;
+use lighting_outputs::OutputRequest;
 use lighting_outputs::Request;
 
 // ---- kinds 02 to 05
@@ -21,7 +22,7 @@ fn write_level(i: u8, v: Level) -> Request
     ensures { λ r. ⌜ r ≡ writeLevel i v ⌝ }
 {
     match v {
-        Level::Units(level) => Request::Write { slot: i, level },
+        Level::Units(level) => Request::ToOutput(OutputRequest::Write { slot: i, level }),
         Level::OutOfRange => Request::Refuse(11),
     }
 }
@@ -43,9 +44,9 @@ fn empty_of(p: u8) -> Request
     ensures { λ r. ⌜ r ≡ emptyOf p ⌝ }
 {
     if number_ranges::is_priority(p as u32) {
-        Request::Empty {
+        Request::ToOutput(OutputRequest::Empty {
             slot: property_write::values::slot_of(p as u32),
-        }
+        })
     } else {
         Request::Refuse(10)
     }
@@ -76,10 +77,11 @@ fn request_of(action: Action, b: &[u8]) -> Request
             frame_field::byte_at(b, 13),
             frame_field::word32_at(b, 14),
         ),
-        Action::ReadsProperty => Request::Read(property_write::property_of(frame_field::byte_at(
-            b,
-            13,
-        ))),
+        Action::ReadsProperty =>
+            Request::ToOutput(OutputRequest::Read(property_write::property_of(frame_field::byte_at(
+                b,
+                13,
+            )))),
         Action::Stops => command_parse::command_request(
             Operation::Stop,
             frame_field::word32_at(b, 13),

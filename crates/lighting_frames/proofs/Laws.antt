@@ -11,7 +11,7 @@ use Rattle.lighting_frames.specs.declared.Kind.{Kind}
 use Rattle.lighting_frames.specs.declared.TagField.{TagField}
 use Rattle.lighting_frames.specs.declared.TagFields.{TagFields}
 use Rattle.lighting_frames.specs.declared.TaggedReading.{TaggedReading}
-use Rattle.lighting_outputs.specs.Paper.Parameters.{Parameters}
+use Rattle.lighting_outputs.specs.declared.Parameters.{Parameters}
 use Rattle.lighting_outputs.specs.declared.RealField.{RealField}
 use Rattle.lighting_outputs.specs.declared.Request.{Request}
 use Rattle.lighting_outputs.specs.declared.TimeField.{TimeField}

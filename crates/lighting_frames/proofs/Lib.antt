@@ -1,6 +1,8 @@
 -- The theorems of this layer, in reading order.
 -- the table of kinds
 pub mod KindTable
+-- the rule of a station's record
+pub mod StationRule
 -- a number in octets, and read back
 pub mod Octets
 -- a kind and the number that 0F reads

@@ -5,7 +5,7 @@ use native.Mathlib.Omega.{arith}
 use lib.Dec.{ltb, eqb}
 use lib.ListN.{length}
 use Rattle.lighting_levels.specs.Paper.Choice.{if_then_else_}
-use Rattle.lighting_outputs.specs.Paper.Parameters.{Parameters}
+use Rattle.lighting_outputs.specs.declared.Parameters.{Parameters}
 use Rattle.lighting_levels.specs.Paper.Field.{byteAt}
 use Rattle.lighting_outputs.specs.Paper.Operations.{operationNumber}
 use Rattle.lighting_outputs.specs.Paper.Passing.{afterEvents}
@@ -27,18 +27,19 @@ use Rattle.lighting_frames.specs.declared.Frame.the-variants.{Bad, Calls
 use Rattle.lighting_outputs.specs.declared.Property.the-variants.{LastOperation}
 use Rattle.lighting_outputs.specs.declared.Answer.the-variants.{Value}
 use Rattle.lighting_outputs.specs.declared.Output.{Output}
-use Rattle.lighting_outputs.specs.declared.Request.the-variants.{Commands}
+use Rattle.lighting_outputs.specs.declared.Request.the-variants.{ToOutput}
+use Rattle.lighting_outputs.specs.declared.OutputRequest.the-variants.{Commands}
 use Rattle.lighting_levels.proofs.Split.{by-bool}
 use Rattle.lighting_frames.proofs.KindTable.{actionByte, kind-byte}
-use Rattle.lighting_outputs.proofs.Rules.CommandRanges.{taken}
+use Rattle.lighting_outputs.proofs.Rules.CommandRanges.{command-taken}
 
 -- THE NUMBER. The operation of a command that was taken is the one that its kind says
-commandRequest-operation : (p : Parameters) (o : Operation) (d : ℕ) (k : Command) → commandRequest p o d ≡ Commands k → k .operation ≡ o
+commandRequest-operation : (p : Parameters) (o : Operation) (d : ℕ) (k : Command) → commandRequest p o d ≡ ToOutput (Commands k) → k .operation ≡ o
 unfolding commandRequest
-commandRequest-operation p o d k h = taken p o (plainDuration d) k h .operation
+commandRequest-operation p o d k h = command-taken p o (plainDuration d) k h .operation
 
 request-number : (p : Parameters) (action : Action) (b : Bytes) (command : Command) → 0x10 ≤ actionByte action → actionByte action ≤ 0x1a
-    → requestOf p action b ≡ Commands command → operationNumber (command .operation) ≡ actionByte action - 0x10
+    → requestOf p action b ≡ ToOutput (Commands command) → operationNumber (command .operation) ≡ actionByte action - 0x10
 unfolding requestOf operationNumber
 request-number p WritesLevel b command k m h = absurd (omega arith)
 request-number p EmptiesSlot b command k m h = absurd (omega arith)
@@ -70,7 +71,7 @@ unfolding callOf
 call-asks p action b call e = rw e
 
 number-by : (p : Parameters) (c l : ℕ) (k : Kind) (b : Bytes) (call : Call) (command : Command)
-    → kindRow (byteAt b 0) .kind ≡ k → parseBy p c l k b ≡ Calls call → call .request ≡ Commands command → 0x10 ≤ byteAt b 0 → byteAt b 0 ≤ 0x1a
+    → kindRow (byteAt b 0) .kind ≡ k → parseBy p c l k b ≡ Calls call → call .request ≡ ToOutput (Commands command) → 0x10 ≤ byteAt b 0 → byteAt b 0 ≤ 0x1a
     → operationNumber (command .operation) ≡ byteAt b 0 - 0x10
 unfolding parseBy if_then_else_
 number-by p c l NoKind b call command e h r n m = cc
@@ -96,14 +97,14 @@ number-by p c l (CallKind action) b call command e h r n m = by-bool (eqb (lengt
 
 -- '0F last operation (kind minus 10)': a frame of kind 10 to 1A that is taken as a command has the operation whose number is its kind less 10
 pub kind-number : (p : Parameters) (c : ℕ) (b : Bytes) (call : Call) (command : Command)
-    → parse p c b ≡ Calls call → call .request ≡ Commands command → 0x10 ≤ byteAt b 0 → byteAt b 0 ≤ 0x1a
+    → parse p c b ≡ Calls call → call .request ≡ ToOutput (Commands command) → 0x10 ≤ byteAt b 0 → byteAt b 0 ≤ 0x1a
     → operationNumber (command .operation) ≡ byteAt b 0 - 0x10
 unfolding parse
 kind-number p c b call command h r n m = number-by p c _ _ b call command refl h r n m
 
 -- and that is what property 0F of its output reads from then on
 pub kind-read : (p : Parameters) (c : ℕ) (b : Bytes) (call : Call) (command : Command) (t t′ : ℕ) (o : Output)
-    → parse p c b ≡ Calls call → call .request ≡ Commands command → 0x10 ≤ byteAt b 0 → byteAt b 0 ≤ 0x1a
-    → readProperty t′ (acted t o (call .request) .output) LastOperation ≡ Value (byteAt b 0 - 0x10)
+    → parse p c b ≡ Calls call → call .request ≡ ToOutput (Commands command) → 0x10 ≤ byteAt b 0 → byteAt b 0 ≤ 0x1a
+    → readProperty t′ (acted t o (Commands command) .output) LastOperation ≡ Value (byteAt b 0 - 0x10)
 unfolding acted done afterEvents commanded commandedFrom withCommand readProperty
-kind-read p c b call command t t′ o h r n m = rw r (ap Value (kind-number p c b call command h r n m))
+kind-read p c b call command t t′ o h r n m = ap Value (kind-number p c b call command h r n m)

@@ -86,7 +86,7 @@ pub struct KindRow {
     pub kind: Kind,
 }
 
-// A call of a station: 'station (1), number (4), time (6), output (1)', and what its kind asks of that output.
+// A call of a station: 'station (1), number (4), time (6), output (1)', and what its kind asks.
 pub struct Call {
     pub station: u8,
     pub number: u32,

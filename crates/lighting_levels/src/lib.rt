@@ -13,9 +13,3 @@ pub enum Level {
     Units(u32),
     OutOfRange,
 }
-
-// A REAL that a write of Ramp_Rate or Step_Increment takes and keeps as it was written.
-pub enum Operand {
-    Taken(f32),
-    Unfit,
-}

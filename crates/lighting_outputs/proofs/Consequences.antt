@@ -1,9 +1,17 @@
+-- a request to a table of one output
+pub mod Alone
 -- Present_Value
 pub mod Present
 -- kind 05 by number
 pub mod Reads
 -- kind 04, then kind 05
 pub mod Writes
+-- the order of a command's refusals
+pub mod FirstRefusal
+-- REALs outside, row by row
+pub mod Outside
+-- and by their patterns
+pub mod OutsidePatterns
 -- kinds 02 and 03
 pub mod Stored
 -- a warning's whole course

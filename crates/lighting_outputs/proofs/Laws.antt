@@ -4,7 +4,7 @@ use Prim.Native.Nat.{ℕ}
 use Rattle.lighting_levels.specs.declared.Level.{Level}
 use Rattle.lighting_outputs.specs.Engine.Advance.{sooner}
 use Rattle.lighting_outputs.specs.Engine.Light.{countBefore, countSince, litByPace, litInMovement}
-use Rattle.lighting_outputs.specs.Paper.Acting.{acted}
+use Rattle.lighting_outputs.specs.Paper.Acting.{acted, served, Served}
 use Rattle.lighting_outputs.specs.Paper.Answers.{answerBytes, levelAnswered}
 use Rattle.lighting_outputs.specs.Paper.Commands.{withoutWarning, activityWithoutWarning, stopped, effect, timed}
 use Rattle.lighting_outputs.specs.Paper.Operations.{operationNumber, fieldsOf, durationField}
@@ -27,6 +27,7 @@ use Rattle.lighting_outputs.specs.declared.Operation.{Operation}
 use Rattle.lighting_outputs.specs.declared.OperationFields.{OperationFields}
 use Rattle.lighting_outputs.specs.declared.Outcome.{Outcome}
 use Rattle.lighting_outputs.specs.declared.Output.{Output}
+use Rattle.lighting_outputs.specs.declared.OutputRequest.{OutputRequest}
 use Rattle.lighting_outputs.specs.declared.Pace.{Pace}
 use Rattle.lighting_outputs.specs.declared.Phase.{Phase}
 use Rattle.lighting_outputs.specs.declared.Property.{Property}
@@ -56,8 +57,11 @@ litByPace-on x0 x1 x2 x3 k r e p = rw e p
 pub litInMovement-on : (x0 : ℕ) (x1 : ℕ) (x2 : Activity) (k : Activity) (r : ℕ) → x2 ≡ k → r ≡ litInMovement x0 x1 k → r ≡ litInMovement x0 x1 x2
 litInMovement-on x0 x1 x2 k r e p = rw e p
 
-pub acted-on : (x0 : ℕ) (x1 : Output) (x2 : Request) (k : Request) (r : Outcome) → x2 ≡ k → r ≡ acted x0 x1 k → r ≡ acted x0 x1 x2
+pub acted-on : (x0 : ℕ) (x1 : Output) (x2 : OutputRequest) (k : OutputRequest) (r : Outcome) → x2 ≡ k → r ≡ acted x0 x1 k → r ≡ acted x0 x1 x2
 acted-on x0 x1 x2 k r e p = rw e p
+
+pub served-on : (x0 : ℕ) (x1 : List Output) (x2 : ℕ) (x3 : Request) (k : Request) (r : Served) → x3 ≡ k → r ≡ served x0 x1 x2 k → r ≡ served x0 x1 x2 x3
+served-on x0 x1 x2 x3 k r e p = rw e p
 
 pub answerBytes-on : (x0 : Answer) (k : Answer) (r : List ℕ) → x0 ≡ k → r ≡ answerBytes k → r ≡ answerBytes x0
 answerBytes-on x0 k r e p = rw e p

@@ -46,18 +46,18 @@ kept f b o h t =
     record { read = refl; written = bits-kept b h number; in-range = t }
 
 -- a level, and a rate or step, of a command
-taken : (l : Level) → levelRefusal l ≡ 0 → inRange l ≡ true
+within-range : (l : Level) → levelRefusal l ≡ 0 → inRange l ≡ true
 unfolding inRange
-taken (Units v) h = refl
-taken OutOfRange h = absurd (omega arith)
+within-range (Units v) h = refl
+within-range OutOfRange h = absurd (omega arith)
 
 pub level-field-kept : (b : ℕ) → b < 2 ^ 32 → levelFieldRefusal (Real (real b)) ≡ 0 → Kept levelOf b (real b)
 unfolding levelFieldRefusal
-level-field-kept b h r = kept levelOf b (unfold levelOf in refl) h (taken (levelOf (real b)) r)
+level-field-kept b h r = kept levelOf b (unfold levelOf in refl) h (within-range (levelOf (real b)) r)
 
 pub amount-field-kept : (b : ℕ) → b < 2 ^ 32 → amountFieldRefusal (Real (real b)) ≡ 0 → Kept amountOf b (real b)
 unfolding amountFieldRefusal
-amount-field-kept b h r = kept amountOf b (unfold amountOf in refl) h (taken (amountOf (real b)) r)
+amount-field-kept b h r = kept amountOf b (unfold amountOf in refl) h (within-range (amountOf (real b)) r)
 
 -- and one that is written to Ramp_Rate or Step_Increment
 pub amount-kept : (b : ℕ) → b < 2 ^ 32 → isAmount (real b) ≡ true → Kept amountOf b (real b)

@@ -6,6 +6,8 @@ pub mod Tied
 pub mod RequestInRange
 -- what a write leaves meets its row
 pub mod Rows
+-- which numbers a set may have
+pub mod Startable
 -- a priority as a frame names it
 pub mod PrioritiesNamed
 -- a command's fields in range

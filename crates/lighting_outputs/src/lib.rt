@@ -170,6 +170,16 @@ pub enum Answer {
     Refused(u8),
 }
 
+// The set of parameters that a panel is made with. Which numbers it may have, the definitions say (`startable` of specs/Paper/Startable.antt).
+pub struct Parameters {
+    // How many station records there are, and the most outputs
+    pub stations: u32,
+    pub outputs: u32,
+    // The longest fade time and the longest duration
+    pub fade: u32,
+    pub duration: u32,
+}
+
 // ---- requests
 
 // The paper's properties 01 to 14, 17 to 1B and, as SlotValue 0 to 15, 21 to 30.
@@ -219,16 +229,22 @@ pub enum Range {
     ReadOnly,
 }
 
-// What a frame asks of its output, or the refusal from 9 to 12, or 14 or 15, that its fields meet (a read of an unknown property meets its 9 when it is
-// answered).
-pub enum Request {
-    Refuse(u8),
+// What a frame asks of its output.
+pub enum OutputRequest {
     Write { slot: u8, level: u32 },
     Empty { slot: u8 },
     // The value as it is kept: in units, a REAL's pattern, the number itself, or the slot.
     Change { property: Property, value: u32 },
     Read(Property),
     Commands(Command),
+}
+
+// What a frame asks: something of its own output, and of no other; or nothing, by the refusal from 9 to 12, or 14 or 15,
+// that its fields meet (a read of an unknown property meets its 9 when it is answered). A request to the whole table is a
+// case of its own here.
+pub enum Request {
+    Refuse(u8),
+    ToOutput(OutputRequest),
 }
 
 // ---- results of acting

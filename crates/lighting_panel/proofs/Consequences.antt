@@ -1,3 +1,5 @@
+-- refusal 1
+pub mod RefusalOne
 -- the other outputs
 pub mod Others
 -- 32 bits hold a movement (§4)

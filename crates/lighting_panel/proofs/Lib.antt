@@ -1,6 +1,8 @@
 -- The theorems of this layer, in reading order.
 -- all outputs of a table at once: what the list theorem stands on
 pub mod Table
+-- a frame among those of a list
+pub mod Among
 -- a frame as a station keeps it
 pub mod Lengths
 -- strings that are too long
@@ -15,6 +17,8 @@ pub mod Demand
 pub mod Calls
 -- the ways of `start` and `frame`, for proofs of code
 pub mod Carried
+-- for functions over a lent record
+pub mod Lent
 -- frames under other names
 pub mod Renamed
 -- commands in tags, in lists (§1)

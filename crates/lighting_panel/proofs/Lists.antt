@@ -9,18 +9,18 @@ use native.Mathlib.Omega.{arith}
 use lib.Dec.{leb, ltb, eqb}
 use lib.ListN.{set, getD, length, replicate, length-map, length-set, length-replicate, getD-replicate}
 use lib.Seq.{getD-set-same, getD-set-other}
-use Rattle.lighting_levels.specs.Paper.Choice.{if_then_else_, _also_}
-use Rattle.lighting_outputs.specs.Paper.Parameters.{document01}
+use Rattle.lighting_levels.specs.Paper.Choice.{if_then_else_, _also_, Every, every}
+use Rattle.lighting_outputs.specs.declared.Parameters.{Parameters}
 use Rattle.lighting_levels.specs.Paper.Field.{byteAt}
 use Rattle.lighting_frames.specs.Paper.Kinds.{kindRow, kindLength, isCall}
 use Rattle.lighting_frames.specs.Paper.Frames.{Bytes, Octets, Strings, parse}
 use Rattle.lighting_outputs.specs.Engine.Advance.{greatestCount, advance}
 use Rattle.lighting_outputs.specs.Paper.Rules.{sound}
 use Rattle.lighting_frames.specs.Paper.Stations.{stationSound, freshStation}
-use Rattle.lighting_outputs.specs.Paper.Fresh.{freshOutput}
+use Rattle.lighting_outputs.specs.Paper.Fresh.{freshFor}
 use Rattle.lighting_outputs.specs.Paper.Acting.{served}
 use Rattle.lighting_frames.specs.Paper.Copies.{sameBytes, retransmissionOrConflict}
-use Rattle.lighting_panel.specs.Paper.Panel.{Panel, Station, every, countsSound, panelSound}
+use Rattle.lighting_panel.specs.Paper.Panel.{Panel, Station, countsSound, panelSound}
 use Rattle.lighting_panel.specs.Engine.Judging.{padded, restored, judgedByNumber, judgedByRecord, stationOf, judgedByStation, decide}
 use Rattle.lighting_panel.specs.Engine.Executing.{execute, frameStep}
 use Rattle.lighting_panel.specs.Paper.Plain.{Event, clock, first, above, inTime, Latest, latest, judged, PlainState, plainExecute, plainFrameStep, plainStart}
@@ -32,8 +32,9 @@ use Rattle.lighting_frames.specs.declared.Frame.{Frame}
 use Rattle.lighting_frames.specs.declared.Frame.the-variants.{Bad, Clock, Calls}
 use Rattle.lighting_frames.specs.declared.Verdict.{Verdict}
 use Rattle.lighting_frames.specs.declared.Verdict.the-variants.{TurnedDown, Copied, Clocked, Arrives}
-use Rattle.lighting_levels.proofs.Split.{also-both, also-yes, by-eq, by-lt, by-le, by-bool, leb-yes, leb-no}
-use Rattle.lighting_frames.proofs.Reading.{Called, FrameInRange, proper}
+use Rattle.lighting_levels.proofs.Split.{also-both, also-yes, by-eq, by-lt, by-le, by-bool, leb-yes, leb-no, eqb-hit}
+use Rattle.lighting_outputs.proofs.Rules.Startable.{Startable}
+use Rattle.lighting_frames.proofs.Reading.{Called, FrameInRange, frame-in-range}
 use Rattle.lighting_panel.proofs.Lengths.{padded-kind, restored-padded}
 use Rattle.lighting_outputs.proofs.AnswersApart.{refusalOf}
 use Rattle.lighting_outputs.specs.declared.Answer.the-variants.{Done}
@@ -42,7 +43,7 @@ use Rattle.lighting_panel.proofs.Table.{served-not-one, AllSound, all-t
 
 -- THE LINK between the station records and the list so far. The engine's panel is rebuilt from the plain one
 abbrev pub joined : List Station → PlainState → Panel
-joined k w = record { outputs = w .panel .outputs; stations = k; time = w .panel .time }
+joined k w = record { outputs = w .panel .outputs; stations = k; kept = record { time = w .panel .time } }
 
 -- a station's record, as the list's own
 abbrev pub asLatest : Station → Latest
@@ -56,34 +57,34 @@ PastOther (first s n t b a ∷ h) = NotOne a × PastOther h
 
 latest-other : (s : ℕ) (h : List Event) → PastOther h → NotOne (latest s h .answer)
 unfolding latest if_then_else_
-latest-other s [] p = not-one Done refl
-latest-other s (clock t ∷ h) p = latest-other s h p
-latest-other s (first s′ n t b a ∷ h) p = by-bool (eqb s′ s) (λ e. rw e (p .0)) (λ e. rw e (latest-other s h (p .1)))
+latest-other s [] j = not-one Done refl
+latest-other s (clock t ∷ h) j = latest-other s h j
+latest-other s (first s′ n t b a ∷ h) j = by-bool (eqb s′ s) (λ e. rw e (j .0)) (λ e. rw e (latest-other s h (j .1)))
 
-pub record Refines (c : ℕ) (k : List Station) (w : PlainState) : Type 0 where
+pub record Refines (p : Parameters) (c : ℕ) (k : List Station) (w : PlainState) : Type 0 where
   pub least : 1 ≤ c
-  pub most : c ≤ 64
+  pub most : c ≤ p .outputs
   pub count : length (w .panel .outputs) ≡ c
-  pub sound : AllSound (w .panel .time) (w .panel .outputs)
+  pub sound : AllSound p (w .panel .time) (w .panel .outputs)
   pub bounded : w .panel .time ≤ greatestCount
-  pub eight : length k ≡ 8
+  pub counted : length k ≡ p .stations
   pub kept : every stationSound k ≡ true
   -- each station's record is its latest first arrival in the list
-  pub known : (s : ℕ) → s < 8 → asLatest (getD k s freshStation) ≡ latest s (w .past)
+  pub known : (s : ℕ) → s < p .stations → asLatest (getD k s freshStation) ≡ latest s (w .past)
   -- so its number decides 'above all earlier', and panel time 'not before the latest'
   pub tops : (s n : ℕ) → 0 < n → above s n (w .past) ≡ ltb (latest s (w .past) .number) n
   pub times : (t : ℕ) → inTime t (w .past) ≡ leb (w .panel .time) t
   pub others : PastOther (w .past)
 
 -- refusal 1 does not come
-pub linked-sound : (c : ℕ) (k : List Station) (w : PlainState) → Refines c k w → panelSound document01 (joined k w) ≡ true
+pub linked-sound : (p : Parameters) (c : ℕ) (k : List Station) (w : PlainState) → Refines p c k w → panelSound p (joined k w) ≡ true
 unfolding panelSound countsSound
-linked-sound c k w m =
+linked-sound p c k w m =
     rw
-    (m .count, m .eight)
+    (m .count, m .counted)
     (also-yes
-    (also-yes (leb-yes (m .least)) (also-yes (leb-yes (m .most)) refl))
-    (also-yes (all-tested (w .panel .time) (w .panel .outputs) (m .sound)) (m .kept)))
+    (also-yes (leb-yes (m .least)) (also-yes (leb-yes (m .most)) (eqb-hit {a = p .stations} {b = p .stations} refl)))
+    (also-yes (all-tested p (w .panel .time) (w .panel .outputs) (m .sound)) (m .kept)))
 
 -- BOTH JUDGE ALIKE
 not-before : (a b : ℕ) {A : Type 0} (x y : A) → (if ltb a b then x else y) ≡ (if leb b a then y else x)
@@ -99,19 +100,19 @@ alike n a t now same low late go =
     by-eq
     n
     a
-    (λ p e. rw (e, leb-no {a = suc a} {b = n} (omega arith)))
-    (λ p e. by-lt
+    (λ j e. rw (e, leb-no {a = suc a} {b = n} (omega arith)))
+    (λ j e. by-lt
     n
     a
     (λ q e′. rw (e, e′, leb-no {a = suc a} {b = n} (omega arith)))
     (λ q e′. rw (e, e′, leb-yes {a = suc a} {b = n} (omega arith)) (not-before t now late go)))
 
-judgedByRecord-judged : (c : ℕ) (k : List Station) (w : PlainState) (b : Bytes) (f : Frame) → Refines c k w → FrameInRange c b f
+judgedByRecord-judged : (p : Parameters) (c : ℕ) (k : List Station) (w : PlainState) (b : Bytes) (f : Frame) → Refines p c k w → FrameInRange p c b f
     → judgedByStation (w .panel .time) (getD k (stationOf f) freshStation) b f ≡ judged (w .past) b f
 unfolding judgedByStation judgedByRecord judgedByNumber judged stationOf
-judgedByRecord-judged c k w b (Bad r) m g = refl
-judgedByRecord-judged c k w b (Clock t) m g = rw (m .times t) (not-before t (w .panel .time) (TurnedDown 8) (Clocked t))
-judgedByRecord-judged c k w b (Calls call) m g =
+judgedByRecord-judged p c k w b (Bad r) m g = refl
+judgedByRecord-judged p c k w b (Clock t) m g = rw (m .times t) (not-before t (w .panel .time) (TurnedDown 8) (Clocked t))
+judgedByRecord-judged p c k w b (Calls call) m g =
     let s = call .station in
     let n = call .number in
     let t = call .time in
@@ -125,33 +126,33 @@ judgedByRecord-judged c k w b (Calls call) m g =
     )
     (alike n (latest s (w .past) .number) t (w .panel .time) _ (TurnedDown 7) (TurnedDown 8) (Arrives call))
 
-pub decide-judged : (c : ℕ) (k : List Station) (w : PlainState) (b : Bytes) → Octets b → Refines c k w
-    → decide document01 (joined k w) b ≡ judged (w .past) b (parse document01 (length (w .panel .outputs)) b)
+pub decide-judged : (p : Parameters) (c : ℕ) (k : List Station) (w : PlainState) (b : Bytes) → Octets b → Refines p c k w
+    → decide p (joined k w) b ≡ judged (w .past) b (parse p (length (w .panel .outputs)) b)
 unfolding decide
-decide-judged c k w b h m =
-    rw (m .count) (judgedByRecord-judged c k w b (parse document01 c b) m (proper c b h))
+decide-judged p c k w b h m =
+    rw (m .count) (judgedByRecord-judged p c k w b (parse p c b) m (frame-in-range p c b h))
 
 -- WHAT IS KNOWN of a verdict
-pub record Arrived (c : ℕ) (w : PlainState) (b : Bytes) (call : Call) : Type 0 where
-  pub frame : Called c b call
+pub record Arrived (p : Parameters) (c : ℕ) (w : PlainState) (b : Bytes) (call : Call) : Type 0 where
+  pub frame : Called p c b call
   pub new : latest (call .station) (w .past) .number < call .number
   pub due : w .panel .time ≤ call .time
 
-abbrev pub Moved : ℕ → PlainState → Bytes → Verdict → Type 0
-Moved c w b (TurnedDown r) = 2 ≤ r
-Moved c w b (Copied a) = NotOne a
-Moved c w b (Clocked t) = (w .panel .time ≤ t) × (t < 2 ^ 48)
-Moved c w b (Arrives call) = Arrived c w b call
+abbrev pub Moved : Parameters → ℕ → PlainState → Bytes → Verdict → Type 0
+Moved p c w b (TurnedDown r) = 2 ≤ r
+Moved p c w b (Copied a) = NotOne a
+Moved p c w b (Clocked t) = (w .panel .time ≤ t) × (t < 2 ^ 48)
+Moved p c w b (Arrives call) = Arrived p c w b call
 
-pub judged-moved : (c : ℕ) (k : List Station) (w : PlainState) (b : Bytes) (f : Frame) → Refines c k w → FrameInRange c b f
-    → Moved c w b (judged (w .past) b f)
+pub judged-moved : (p : Parameters) (c : ℕ) (k : List Station) (w : PlainState) (b : Bytes) (f : Frame) → Refines p c k w → FrameInRange p c b f
+    → Moved p c w b (judged (w .past) b f)
 unfolding judged retransmissionOrConflict if_then_else_
-judged-moved c k w b (Bad r) m g = g
-judged-moved c k w b (Clock t) m g =
+judged-moved p c k w b (Bad r) m g = g
+judged-moved p c k w b (Clock t) m g =
     rw
     (m .times t)
     (by-le (w .panel .time) t (λ h e. rw e (h, g)) (λ h e. rw e (omega arith)))
-judged-moved c k w b (Calls call) m g =
+judged-moved p c k w b (Calls call) m g =
     let s = call .station in
     let n = call .number in
     let t = call .time in
@@ -167,11 +168,11 @@ judged-moved c k w b (Calls call) m g =
     (λ h′ e′. rw (e, e′) (omega arith)))
     (λ h e. by-bool
     (eqb n (latest s (w .past) .number))
-    (λ p. by-bool
+    (λ j. by-bool
     (sameBytes b (latest s (w .past) .frame))
-    (λ q. rw (e, p, q) (latest-other s (w .past) (m .others)))
-    (λ q. rw (e, p, q) (omega arith)))
-    (λ p. rw (e, p) (omega arith))))
+    (λ q. rw (e, j, q) (latest-other s (w .past) (m .others)))
+    (λ q. rw (e, j, q) (omega arith)))
+    (λ j. rw (e, j) (omega arith))))
 
 -- ONE FRAME
 abbrev pub nextStations : Bytes → List Station → PlainState → Verdict → List Station
@@ -181,30 +182,30 @@ nextStations b k w (Clocked t) = k
 nextStations b k w (Arrives call) =
     set k (call .station) (record { answer = plainExecute b w (Arrives call) .answer; number = call .number; frame = padded b })
 
-step-same : (c : ℕ) (k : List Station) (w : PlainState) (b : Bytes) (v : Verdict) → Refines c k w → Moved c w b v
+step-same : (p : Parameters) (c : ℕ) (k : List Station) (w : PlainState) (b : Bytes) (v : Verdict) → Refines p c k w → Moved p c w b v
     → execute b (joined k w) v ≡ record { panel = joined (nextStations b k w v) (plainExecute b w v .state); answer = plainExecute b w v .answer }
 unfolding execute plainExecute
-step-same c k w b (TurnedDown r) m g = refl
-step-same c k w b (Copied a) m g = refl
-step-same c k w b (Clocked t) m g = rw (runPlain-advance t (w .panel) (g .0) (omega (arith, g .1)) (m .sound))
-step-same c k w b (Arrives call) m g =
-    rw (runPlain-advance (call .time) (w .panel) (g .due) (omega (arith, g .frame .time)) (m .sound))
+step-same p c k w b (TurnedDown r) m g = refl
+step-same p c k w b (Copied a) m g = refl
+step-same p c k w b (Clocked t) m g = rw (runPlain-advance p t (w .panel) (g .0) (omega (arith, g .1)) (m .sound))
+step-same p c k w b (Arrives call) m g =
+    rw (runPlain-advance p (call .time) (w .panel) (g .due) (omega (arith, g .frame .time)) (m .sound))
 
 and-le : (a b c : ℕ) → b ≤ a → (leb a c also leb b c) ≡ leb a c
 unfolding if_then_else_
 and-le a b c h =
-    by-le a c (λ p e. rw (e, leb-yes {a = b} {b = c} (omega arith))) (λ p e. rw e)
+    by-le a c (λ j e. rw (e, leb-yes {a = b} {b = c} (omega arith))) (λ j e. rw e)
 
 tops-more : (s n s′ n′ t : ℕ) (b : Bytes) (a : Answer) (h : List Event)
     → above s′ n′ h ≡ ltb (latest s′ h .number) n′ → latest s h .number < n
     → above s′ n′ (first s n t b a ∷ h) ≡ ltb (latest s′ (first s n t b a ∷ h) .number) n′
 unfolding above latest if_then_else_
-tops-more s n s′ n′ t b a h p l =
+tops-more s n s′ n′ t b a h j l =
     by-eq
     s
     s′
-    (λ q e. rw (e, p) (and-le (suc n) (suc (latest s′ h .number)) n′ (omega (arith, rw q at l))))
-    (λ q e. rw (e, p))
+    (λ q e. rw (e, j) (and-le (suc n) (suc (latest s′ h .number)) n′ (omega (arith, rw q at l))))
+    (λ q e. rw (e, j))
 
 kept-set : (k : List Station) (i : ℕ) (x : Station) → every stationSound k ≡ true → stationSound x ≡ true → every stationSound (set k i x) ≡ true
 unfolding every
@@ -221,7 +222,7 @@ known-set : (k : List Station) (s s′ n t : ℕ) (b : Bytes) (a : Answer) (h : 
     → asLatest (getD k s′ freshStation) ≡ latest s′ h
     → asLatest (getD (set k s (record { answer = a; number = n; frame = padded b })) s′ freshStation) ≡ latest s′ (first s n t b a ∷ h)
 unfolding latest if_then_else_
-known-set k s s′ n t b a h l z p =
+known-set k s s′ n t b a h l z j =
     let x : Station = record { answer = a; number = n; frame = padded b } in
     by-eq
     s
@@ -229,10 +230,10 @@ known-set k s s′ n t b a h l z p =
     (λ q e. rw (e, ← q)
     (ap asLatest (getD-set-same k s x freshStation l)
     ∙ ap (λ (f : Bytes). record { answer = a; number = n; frame = f }) (restored-padded b z)))
-    (λ q e. rw e (ap asLatest (getD-set-other k s s′ x freshStation (omega arith)) ∙ p))
+    (λ q e. rw e (ap asLatest (getD-set-other k s s′ x freshStation (omega arith)) ∙ j))
 
-linked-clock : (c : ℕ) (k : List Station) (w : PlainState) (t : ℕ) → Refines c k w → w .panel .time ≤ t → t < 2 ^ 48
-    → Refines
+linked-clock : (p : Parameters) (c : ℕ) (k : List Station) (w : PlainState) (t : ℕ) → Refines p c k w → w .panel .time ≤ t → t < 2 ^ 48
+    → Refines p
     c
     k
     (record {
@@ -240,14 +241,14 @@ linked-clock : (c : ℕ) (k : List Station) (w : PlainState) (t : ℕ) → Refin
       panel = record { outputs = map (advance (w .panel .time) t) (w .panel .outputs); time = t };
     })
 unfolding latest above inTime
-linked-clock c k w t m g u =
+linked-clock p c k w t m g u =
     record {
       least = m .least;
       most = m .most;
       count = length-map (w .panel .outputs) (advance (w .panel .time) t) ∙ m .count;
-      sound = all-advance (w .panel .time) t (w .panel .outputs) g (omega arith) (m .sound);
+      sound = all-advance p (w .panel .time) t (w .panel .outputs) g (omega arith) (m .sound);
       bounded = omega arith;
-      eight = m .eight;
+      counted = m .counted;
       kept = m .kept;
       known = m .known;
       tops = m .tops;
@@ -255,9 +256,9 @@ linked-clock c k w t m g u =
       others = m .others;
     }
 
-linked-first : (c : ℕ) (k : List Station) (w : PlainState) (b : Bytes) (call : Call) (l : List Output) (a : Answer)
-    → Refines c k w → Arrived c w b call → length l ≡ c → AllSound (call .time) l → NotOne a
-    → Refines
+linked-first : (p : Parameters) (c : ℕ) (k : List Station) (w : PlainState) (b : Bytes) (call : Call) (l : List Output) (a : Answer)
+    → Refines p c k w → Arrived p c w b call → length l ≡ c → AllSound p (call .time) l → NotOne a
+    → Refines p
     c
     (set k (call .station) (record { answer = a; number = call .number; frame = padded b }))
     (record {
@@ -265,7 +266,7 @@ linked-first : (c : ℕ) (k : List Station) (w : PlainState) (b : Bytes) (call :
       panel = record { outputs = l; time = call .time };
     })
 unfolding inTime
-linked-first c k w b call l a m g e h z =
+linked-first p c k w b call l a m g e h z =
     let s = call .station in
     let n = call .number in
     let t = call .time in
@@ -276,105 +277,108 @@ linked-first c k w b call l a m g e h z =
       count = e;
       sound = h;
       bounded = omega (arith, g .frame .time);
-      eight = length-set k s x ∙ m .eight;
+      counted = length-set k s x ∙ m .counted;
       kept = kept-set k s x (m .kept) (station-kept a n b (g .frame .kind));
       known = λ s′ l′.
-          known-set k s s′ n t b a (w .past) (omega (arith, m .eight, g .frame .station)) (g .frame .sized) (m .known s′ l′);
+          known-set k s s′ n t b a (w .past) (omega (arith, m .counted, g .frame .station)) (g .frame .sized) (m .known s′ l′);
       tops = λ s′ n′ l′. tops-more s n s′ n′ t b a (w .past) (m .tops s′ n′ l′) (g .new);
       times = λ t′. rw (m .times t′) (and-le t (w .panel .time) t′ (g .due));
       others = (z, m .others);
     }
 
-pub step-linked : (c : ℕ) (k : List Station) (w : PlainState) (b : Bytes) (v : Verdict) → Refines c k w → Moved c w b v
-    → Refines c (nextStations b k w v) (plainExecute b w v .state)
+pub step-linked : (p : Parameters) (c : ℕ) (k : List Station) (w : PlainState) (b : Bytes) (v : Verdict) → Refines p c k w → Moved p c w b v
+    → Refines p c (nextStations b k w v) (plainExecute b w v .state)
 unfolding plainExecute
-step-linked c k w b (TurnedDown r) m g = m
-step-linked c k w b (Copied a) m g = m
-step-linked c k w b (Clocked t) m g =
-    rw (runPlain-advance t (w .panel) (g .0) (omega (arith, g .1)) (m .sound)) (linked-clock c k w t m (g .0) (g .1))
-step-linked c k w b (Arrives call) m g =
-    let s = call .station in
+step-linked p c k w b (TurnedDown r) m g = m
+step-linked p c k w b (Copied a) m g = m
+step-linked p c k w b (Clocked t) m g =
+    rw (runPlain-advance p t (w .panel) (g .0) (omega (arith, g .1)) (m .sound)) (linked-clock p c k w t m (g .0) (g .1))
+step-linked p c k w b (Arrives call) m g =
     let t = call .time in
     let i = call .output in
     let r = call .request in
     let u : t ≤ greatestCount = omega (arith, g .frame .time) in
     let l = map (advance (w .panel .time) t) (w .panel .outputs) in
     let e : length l ≡ c = length-map (w .panel .outputs) (advance (w .panel .time) t) ∙ m .count in
-    let h : AllSound t l = all-advance (w .panel .time) t (w .panel .outputs) (g .due) u (m .sound) in
+    let h : AllSound p t l = all-advance p (w .panel .time) t (w .panel .outputs) (g .due) u (m .sound) in
     rw
-    (runPlain-advance t (w .panel) (g .due) u (m .sound))
-    (linked-first c k w b call (served t l s i r .outputs) (served t l s i r .answer) m g
-    (served-length t l s i r ∙ e)
-    (served-sound t l s i r (g .frame .good) (omega (arith, e, g .frame .output)) h)
-    (served-not-one t l s i r (g .frame .good)))
+    (runPlain-advance p t (w .panel) (g .due) u (m .sound))
+    (linked-first p c k w b call (served t l i r .outputs) (served t l i r .answer) m g
+    (served-length t l i r ∙ e)
+    (served-sound p t l i r (g .frame .good) h)
+    (served-not-one p t l i r (g .frame .good)))
 
 -- its answer is not refusal 1
-plainExecute-other : (c : ℕ) (k : List Station) (w : PlainState) (b : Bytes) (v : Verdict) → Refines c k w → Moved c w b v → NotOne (plainExecute b w v .answer)
+plainExecute-other : (p : Parameters) (c : ℕ) (k : List Station) (w : PlainState) (b : Bytes) (v : Verdict) → Refines p c k w → Moved p c w b v → NotOne (plainExecute b w v .answer)
 unfolding plainExecute
-plainExecute-other c k w b (TurnedDown r) m g = record { other = omega arith }
-plainExecute-other c k w b (Copied a) m g = g
-plainExecute-other c k w b (Clocked t) m g = record { other = omega arith }
-plainExecute-other c k w b (Arrives call) m g = served-not-one _ _ (call .station) (call .output) (call .request) (g .frame .good)
+plainExecute-other p c k w b (TurnedDown r) m g = record { other = omega arith }
+plainExecute-other p c k w b (Copied a) m g = g
+plainExecute-other p c k w b (Clocked t) m g = record { other = omega arith }
+plainExecute-other p c k w b (Arrives call) m g = served-not-one p _ _ (call .output) (call .request) (g .frame .good)
 
 -- the engine's step from a linked panel is the plain panel's, and the panels are linked again
-pub record Stepped (c : ℕ) (k : List Station) (w : PlainState) (b : Bytes) : Type 0 where
+pub record Stepped (p : Parameters) (c : ℕ) (k : List Station) (w : PlainState) (b : Bytes) : Type 0 where
   pub stations : List Station
   pub same :
-      frameStep document01 (joined k w) b
-      ≡ record { panel = joined stations (plainFrameStep document01 w b .state); answer = plainFrameStep document01 w b .answer }
-  pub linked : Refines c stations (plainFrameStep document01 w b .state)
-  pub other : NotOne (plainFrameStep document01 w b .answer)
+      frameStep p (joined k w) b
+      ≡ record { panel = joined stations (plainFrameStep p w b .state); answer = plainFrameStep p w b .answer }
+  pub linked : Refines p c stations (plainFrameStep p w b .state)
+  pub other : NotOne (plainFrameStep p w b .answer)
 
-pub step : (c : ℕ) (k : List Station) (w : PlainState) (b : Bytes) → Octets b → Refines c k w → Stepped c k w b
+pub step : (p : Parameters) (c : ℕ) (k : List Station) (w : PlainState) (b : Bytes) → Octets b → Refines p c k w → Stepped p c k w b
 unfolding frameStep plainFrameStep if_then_else_
-step c k w b h m =
-    let v = judged (w .past) b (parse document01 (length (w .panel .outputs)) b) in
-    let g : Moved c w b v = rw (m .count) (judged-moved c k w b (parse document01 c b) m (proper c b h)) in
+step p c k w b h m =
+    let v = judged (w .past) b (parse p (length (w .panel .outputs)) b) in
+    let g : Moved p c w b v = rw (m .count) (judged-moved p c k w b (parse p c b) m (frame-in-range p c b h)) in
     record {
       stations = nextStations b k w v;
-      same = rw (linked-sound c k w m, decide-judged c k w b h m) (step-same c k w b v m g);
-      linked = step-linked c k w b v m g;
-      other = plainExecute-other c k w b v m g;
+      same = rw (linked-sound p c k w m, decide-judged p c k w b h m) (step-same p c k w b v m g);
+      linked = step-linked p c k w b v m g;
+      other = plainExecute-other p c k w b v m g;
     }
 
 -- EVERY LIST
 abbrev pub AllOther : List Answer → Type 0
-AllOther [] = Unit {0}
-AllOther (a ∷ l) = NotOne a × AllOther l
+AllOther l = Every NotOne l
 
-pub record Listed (c : ℕ) (k : List Station) (w : PlainState) (l : List Bytes) : Type 0 where
+pub record Listed (p : Parameters) (c : ℕ) (k : List Station) (w : PlainState) (l : List Bytes) : Type 0 where
   pub stations : List Station
-  pub same : after document01 (joined k w) l ≡ joined stations (plainAfter document01 w l)
-  pub answered : answers document01 (joined k w) l ≡ plainAnswers document01 w l
-  pub linked : Refines c stations (plainAfter document01 w l)
-  pub others : AllOther (plainAnswers document01 w l)
+  pub same : after p (joined k w) l ≡ joined stations (plainAfter p w l)
+  pub answered : answers p (joined k w) l ≡ plainAnswers p w l
+  pub linked : Refines p c stations (plainAfter p w l)
+  pub others : AllOther (plainAnswers p w l)
 
-pub listed : (c : ℕ) (k : List Station) (w : PlainState) (l : List Bytes) → Strings l → Refines c k w → Listed c k w l
+pub listed : (p : Parameters) (c : ℕ) (k : List Station) (w : PlainState) (l : List Bytes) → Strings l → Refines p c k w → Listed p c k w l
 unfolding after answers plainAfter plainAnswers
-listed c k w [] s m = record { stations = k; same = refl; answered = refl; linked = m; others = tt }
-listed c k w (b ∷ l) s m =
-    let h = step c k w b (s .0) m in
-    let i = listed c (h .stations) (plainFrameStep document01 w b .state) l (s .1) (h .linked) in
+listed p c k w [] s m = record { stations = k; same = refl; answered = refl; linked = m; others = tt }
+listed p c k w (b ∷ l) s m =
+    let h = step p c k w b (s .0) m in
+    let i = listed p c (h .stations) (plainFrameStep p w b .state) l (s .1) (h .linked) in
     record {
       stations = i .stations;
       same = rw (h .same) (i .same);
-      answered = rw (h .same) (ap (λ (z : List Answer). plainFrameStep document01 w b .answer ∷ z) (i .answered));
+      answered = rw (h .same) (ap (λ (z : List Answer). plainFrameStep p w b .answer ∷ z) (i .answered));
       linked = i .linked;
       others = (h .other, i .others);
     }
 
-pub linked-start : (c : ℕ) → 1 ≤ c → c ≤ 64 → Refines c (replicate 8 freshStation) (plainStart c)
-unfolding plainStart every stationSound latest above inTime if_then_else_ restored kindRow kindLength byteAt freshStation
-linked-start c p q =
+kept-fresh : (n : ℕ) → every stationSound (replicate n freshStation) ≡ true
+unfolding every stationSound freshStation if_then_else_
+kept-fresh zero = refl
+kept-fresh (suc n) = also-yes refl (kept-fresh n)
+
+pub linked-start : (p : Parameters) → Startable p → (c : ℕ) → 1 ≤ c → c ≤ p .outputs → Refines p c (replicate (p .stations) freshStation) (plainStart p c)
+unfolding plainStart latest above inTime if_then_else_ restored kindRow kindLength byteAt freshStation
+linked-start p allowed c j q =
     record {
-      least = p;
+      least = j;
       most = q;
-      count = length-replicate c freshOutput;
-      sound = all-fresh c;
+      count = length-replicate c (freshFor p);
+      sound = all-fresh p allowed c;
       bounded = omega arith;
-      eight = refl;
-      kept = refl;
-      known = λ s h. ap asLatest (getD-replicate 8 s freshStation freshStation h);
+      counted = length-replicate (p .stations) freshStation;
+      kept = kept-fresh (p .stations);
+      known = λ s h. ap asLatest (getD-replicate (p .stations) s freshStation freshStation h);
       tops = λ s n h. sym (leb-yes h);
       times = λ t. sym (leb-yes {a = 0} {b = t} (omega arith));
       others = tt;

@@ -7,7 +7,7 @@ use native.Mathlib.Omega.{arith}
 use lib.ListN.{length, take, getD, length-take}
 use Rattle.lighting_levels.specs.Paper.Choice.{if_then_else_}
 use Rattle.lighting_levels.specs.Paper.Field.{byteAt}
-use Rattle.lighting_outputs.specs.Paper.Parameters.{Parameters}
+use Rattle.lighting_outputs.specs.declared.Parameters.{Parameters}
 use Rattle.lighting_frames.specs.Paper.Kinds.{longestFrame, kindRow, kindLength}
 use Rattle.lighting_frames.specs.Paper.Frames.{Bytes, parse, parseBy}
 use Rattle.lighting_panel.specs.Paper.Panel.{Panel, Step, panelSound}
@@ -56,7 +56,7 @@ parse-first p c b h =
     ∙ sym (parse-long p c (take (longestFrame + 1) b) (omega (arith, length-take (longestFrame + 1) b)))
 
 -- so the panel does with such a string what it does with its first bytes: neither gets past refusals 2 and 3
-decide-long : (p : Parameters) (e : Panel) (b : Bytes) (f : Frame) → parse p (length (e .outputs)) b ≡ f → decide p e b ≡ judgedByStation (e .time) (getD (e .stations) (stationOf f) freshStation) b f
+decide-long : (p : Parameters) (e : Panel) (b : Bytes) (f : Frame) → parse p (length (e .outputs)) b ≡ f → decide p e b ≡ judgedByStation (e .kept .time) (getD (e .stations) (stationOf f) freshStation) b f
 unfolding decide
 decide-long p e b f h = rw h
 

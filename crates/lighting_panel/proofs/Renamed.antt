@@ -1,12 +1,12 @@
 -- FRAMES UNDER OTHER NAMES: a list in which each frame is put into another form that is read alike, and in which different frames stay different, finds and
 -- answers the same. Nothing here looks at a kind of frame.
-use Rattle.lighting_levels.specs.Paper.Choice.{if_then_else_}
+use Rattle.lighting_levels.specs.Paper.Choice.{if_then_else_, Every}
 use mathlib.Core.Path.{_≡_, refl, ap, _∙_}
 use mathlib.Core.List.{List, _∷_, map, []}
 use Prim.Native.Nat.{ℕ}
 use lib.Dec.{eqb}
 use lib.ListN.{length}
-use Rattle.lighting_outputs.specs.Paper.Parameters.{Parameters}
+use Rattle.lighting_outputs.specs.declared.Parameters.{Parameters}
 use Rattle.lighting_frames.specs.Paper.Frames.{Bytes, parse}
 use Rattle.lighting_frames.specs.Paper.Copies.{sameBytes}
 use Rattle.lighting_panel.specs.Paper.Plain.{Event, clock, first, above, inTime, Latest, latest, judged, PlainState, Reply, plainExecute, plainFrameStep, plainStart}
@@ -25,10 +25,6 @@ pub record Renaming (p : Parameters) (s : Bytes → Bytes) (Sort : Bytes → Typ
   -- the empty string, which stands where a station has sent nothing
   pub empty : Sort []
   pub nothing : s [] ≡ []
-
-abbrev pub All : (Bytes → Type 0) → List Bytes → Type 0
-All Sort [] = Unit {0}
-All Sort (b ∷ l) = Sort b × All Sort l
 
 module _ (p : Parameters) (s : Bytes → Bytes) (Sort : Bytes → Type 0) (r : Renaming p s Sort) where
   abbrev rename : Event → Event
@@ -108,7 +104,7 @@ module _ (p : Parameters) (s : Bytes → Bytes) (Sort : Bytes → Type 0) (r : R
   step-sort w b g d = execute-sort b w (judged (w .past) b (parse p (length (w .panel .outputs)) b)) d g
 
   -- OVER A LIST
-  list-renamed : (w : PlainState) (l : List Bytes) → AllPast (w .past) → All Sort l
+  list-renamed : (w : PlainState) (l : List Bytes) → AllPast (w .past) → Every Sort l
       → (plainAfter p (renameState w) (map s l) .panel ≡ plainAfter p w l .panel) × (plainAnswers p (renameState w) (map s l) ≡ plainAnswers p w l)
   unfolding plainAfter plainAnswers
   list-renamed w [] g d = (refl, refl)
@@ -120,7 +116,7 @@ module _ (p : Parameters) (s : Bytes → Bytes) (Sort : Bytes → Type 0) (r : R
       )
 
   -- from a fresh start
-  pub start-renamed : (c : ℕ) (l : List Bytes) → All Sort l
-      → (plainAfter p (plainStart c) (map s l) .panel ≡ plainAfter p (plainStart c) l .panel) × (plainAnswers p (plainStart c) (map s l) ≡ plainAnswers p (plainStart c) l)
+  pub start-renamed : (c : ℕ) (l : List Bytes) → Every Sort l
+      → (plainAfter p (plainStart p c) (map s l) .panel ≡ plainAfter p (plainStart p c) l .panel) × (plainAnswers p (plainStart p c) (map s l) ≡ plainAnswers p (plainStart p c) l)
   unfolding plainStart
-  start-renamed c l d = list-renamed (plainStart c) l tt d
+  start-renamed c l d = list-renamed (plainStart p c) l tt d

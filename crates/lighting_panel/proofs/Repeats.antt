@@ -4,14 +4,14 @@ use mathlib.Core.List.{List, [], _∷_}
 use Prim.Native.Nat.{ℕ, suc, _≤_, _<_}
 use native.Mathlib.Omega.{arith}
 use lib.Dec.{eqb}
-use Rattle.lighting_levels.specs.Paper.Choice.{if_then_else_}
-use Rattle.lighting_outputs.specs.Paper.Parameters.{document01}
+use Rattle.lighting_levels.specs.Paper.Choice.{if_then_else_, Every}
+use Rattle.lighting_outputs.specs.declared.Parameters.{Parameters}
 use Rattle.lighting_frames.specs.Paper.Frames.{Bytes, Octets, Strings, parse}
 use Rattle.lighting_frames.specs.Paper.Copies.{sameBytes, retransmissionOrConflict}
 use Rattle.lighting_panel.specs.Paper.Panel.{Station}
 use Rattle.lighting_panel.specs.Engine.Executing.{execute, frameStep}
 use Rattle.lighting_panel.specs.Paper.Plain.{latest, judged, PlainState, plainExecute, plainFrameStep}
-use Rattle.lighting_panel.specs.Paper.Demand.{after, answers, Among, here, there, Again, end, own, copy, answersToOriginals}
+use Rattle.lighting_panel.specs.Paper.Demand.{after, answers, Again, end, own, copy, answersToOriginals}
 use Rattle.lighting_outputs.specs.declared.Answer.{Answer}
 use Rattle.lighting_frames.specs.declared.Call.{Call}
 use Rattle.lighting_frames.specs.declared.Frame.{Frame}
@@ -19,7 +19,9 @@ use Rattle.lighting_frames.specs.declared.Frame.the-variants.{Bad, Clock, Calls
 use Rattle.lighting_frames.specs.declared.Verdict.{Verdict}
 use Rattle.lighting_frames.specs.declared.Verdict.the-variants.{TurnedDown, Copied, Clocked, Arrives}
 use Rattle.lighting_levels.proofs.Split.{by-eq, by-lt, by-le, by-bool, eqb-hit, leb-no}
-use Rattle.lighting_frames.proofs.Reading.{FrameInRange, proper}
+use Rattle.lighting_levels.proofs.Every.{every-then}
+use Rattle.lighting_panel.proofs.Among.{every-among}
+use Rattle.lighting_frames.proofs.Reading.{FrameInRange, frame-in-range}
 use Rattle.lighting_panel.proofs.Table.{runPlain-advance, advance-here}
 use Rattle.lighting_panel.proofs.Lists.{joined, Refines, Moved, judged-moved, decide-judged, linked-sound, step}
 
@@ -44,36 +46,36 @@ spent-grows w w′ (Clock t) g h = omega (arith, g .time)
 spent-grows w w′ (Calls call) g (old h) = old (omega (arith, g .number (call .station)))
 spent-grows w w′ (Calls call) g (late h) = late (omega (arith, g .time))
 
-plainExecute-grows : (c : ℕ) (k : List Station) (w : PlainState) (b : Bytes) (v : Verdict) → Refines c k w → Moved c w b v → Grows w (plainExecute b w v .state)
+plainExecute-grows : (p : Parameters) (c : ℕ) (k : List Station) (w : PlainState) (b : Bytes) (v : Verdict) → Refines p c k w → Moved p c w b v → Grows w (plainExecute b w v .state)
 unfolding plainExecute latest if_then_else_
-plainExecute-grows c k w b (TurnedDown r) m g = record { time = omega arith; number = λ s. omega arith }
-plainExecute-grows c k w b (Copied a) m g = record { time = omega arith; number = λ s. omega arith }
-plainExecute-grows c k w b (Clocked t) m g =
+plainExecute-grows p c k w b (TurnedDown r) m g = record { time = omega arith; number = λ s. omega arith }
+plainExecute-grows p c k w b (Copied a) m g = record { time = omega arith; number = λ s. omega arith }
+plainExecute-grows p c k w b (Clocked t) m g =
     rw
-    (runPlain-advance t (w .panel) (g .0) (omega (arith, g .1)) (m .sound))
+    (runPlain-advance p t (w .panel) (g .0) (omega (arith, g .1)) (m .sound))
     (record { time = g .0; number = λ s. omega arith })
-plainExecute-grows c k w b (Arrives call) m g =
+plainExecute-grows p c k w b (Arrives call) m g =
     rw
-    (runPlain-advance (call .time) (w .panel) (g .due) (omega (arith, g .frame .time)) (m .sound))
+    (runPlain-advance p (call .time) (w .panel) (g .due) (omega (arith, g .frame .time)) (m .sound))
     (record {
       time = g .due;
-      number = λ s′. by-eq (call .station) s′ (λ p e. rw e (omega (arith, rw p at (g .new)))) (λ p e. rw e (omega arith));
+      number = λ s′. by-eq (call .station) s′ (λ y e. rw e (omega (arith, rw y at (g .new)))) (λ y e. rw e (omega arith));
     })
 
 -- once judged, a frame is spent
-now-spent : (c : ℕ) (k : List Station) (w : PlainState) (b : Bytes) (f : Frame) → Refines c k w → FrameInRange c b f
+now-spent : (p : Parameters) (c : ℕ) (k : List Station) (w : PlainState) (b : Bytes) (f : Frame) → Refines p c k w → FrameInRange p c b f
     → Spent (plainExecute b w (judged (w .past) b f) .state) f
 unfolding judged retransmissionOrConflict plainExecute latest if_then_else_
-now-spent c k w b (Bad r) m g = tt
-now-spent c k w b (Clock t) m g =
+now-spent p c k w b (Bad r) m g = tt
+now-spent p c k w b (Clock t) m g =
     rw
     (m .times t)
     (by-le
     (w .panel .time)
     t
-    (λ h e. rw (e, runPlain-advance t (w .panel) h (omega arith) (m .sound)) (omega arith))
+    (λ h e. rw (e, runPlain-advance p t (w .panel) h (omega arith) (m .sound)) (omega arith))
     (λ h e. rw e (omega arith)))
-now-spent c k w b (Calls call) m g =
+now-spent p c k w b (Calls call) m g =
     let s = call .station in
     let n = call .number in
     let t = call .time in
@@ -89,37 +91,37 @@ now-spent c k w b (Calls call) m g =
     (λ h′ e′. rw (e, e′) (late h′)))
     (λ h e. by-bool
     (eqb n (latest s (w .past) .number))
-    (λ p. by-bool
+    (λ y. by-bool
     (sameBytes b (latest s (w .past) .frame))
-    (λ q. rw (e, p, q) (old h))
-    (λ q. rw (e, p, q) (old h)))
-    (λ p. rw (e, p) (old h))))
+    (λ q. rw (e, y, q) (old h))
+    (λ q. rw (e, y, q) (old h)))
+    (λ y. rw (e, y) (old h))))
 
 -- what a spent frame leaves: everything
-stays : (c : ℕ) (k : List Station) (w : PlainState) (b : Bytes) (f : Frame) → Refines c k w → FrameInRange c b f → Spent w f
+stays : (p : Parameters) (c : ℕ) (k : List Station) (w : PlainState) (b : Bytes) (f : Frame) → Refines p c k w → FrameInRange p c b f → Spent w f
     → execute b (joined k w) (judged (w .past) b f) .panel ≡ joined k w
 unfolding judged retransmissionOrConflict execute if_then_else_
-stays c k w b (Bad r) m g h = refl
-stays c k w b (Clock t) m g h =
+stays p c k w b (Bad r) m g h = refl
+stays p c k w b (Clock t) m g h =
     rw
     (m .times t)
     (by-le
     (w .panel .time)
     t
-    (λ h′ e. let p : t ≡ w .panel .time = omega arith in
-    let q = advance-here (w .panel .time) (w .panel .outputs) (m .bounded) (m .sound) in
-    rw e (rw p (rw q)))
+    (λ h′ e. let y : t ≡ w .panel .time = omega arith in
+    let q = advance-here p (w .panel .time) (w .panel .outputs) (m .bounded) (m .sound) in
+    rw e (rw y (rw q)))
     (λ h′ e. rw e))
-stays c k w b (Calls call) m g (old h) =
+stays p c k w b (Calls call) m g (old h) =
     let s = call .station in
     let n = call .number in
     rw
     (m .tops s n (g .number), leb-no {a = suc (latest s (w .past) .number)} {b = n} (omega arith))
     (by-bool
     (eqb n (latest s (w .past) .number))
-    (λ p. by-bool (sameBytes b (latest s (w .past) .frame)) (λ q. rw (p, q)) (λ q. rw (p, q)))
-    (λ p. rw p))
-stays c k w b (Calls call) m g (late h) =
+    (λ y. by-bool (sameBytes b (latest s (w .past) .frame)) (λ q. rw (y, q)) (λ q. rw (y, q)))
+    (λ y. rw y))
+stays p c k w b (Calls call) m g (late h) =
     let s = call .station in
     let n = call .number in
     let t = call .time in
@@ -132,63 +134,60 @@ stays c k w b (Calls call) m g (late h) =
     (λ h′ e. rw e
     (by-bool
     (eqb n (latest s (w .past) .number))
-    (λ p. by-bool (sameBytes b (latest s (w .past) .frame)) (λ q. rw (p, q)) (λ q. rw (p, q)))
-    (λ p. rw p))))
+    (λ y. by-bool (sameBytes b (latest s (w .past) .frame)) (λ q. rw (y, q)) (λ q. rw (y, q)))
+    (λ y. rw y))))
 
 -- the frames seen so far, each spent
-abbrev AllSpent : ℕ → PlainState → List Bytes → Type 0
-AllSpent c w [] = Unit {0}
-AllSpent c w (b ∷ l) = Octets b × Spent w (parse document01 c b) × AllSpent c w l
+abbrev SpentString : Parameters → ℕ → PlainState → Bytes → Type 0
+SpentString p c w b = Octets b × Spent w (parse p c b)
 
-all-grow : (c : ℕ) (w w′ : PlainState) (l : List Bytes) → Grows w w′ → AllSpent c w l → AllSpent c w′ l
-all-grow c w w′ [] g h = tt
-all-grow c w w′ (b ∷ l) g h = (h .0, spent-grows w w′ (parse document01 c b) g (h .1), all-grow c w w′ l g (h .2))
+abbrev AllSpent : Parameters → ℕ → PlainState → List Bytes → Type 0
+AllSpent p c w l = Every (SpentString p c w) l
 
-spent-among : (c : ℕ) (w : PlainState) {b : Bytes} {l : List Bytes} → Among b l → AllSpent c w l → Octets b × Spent w (parse document01 c b)
-spent-among c w here h = (h .0, h .1)
-spent-among c w (there m) h = spent-among c w m (h .2)
+all-grow : (p : Parameters) (c : ℕ) (w w′ : PlainState) (l : List Bytes) → Grows w w′ → AllSpent p c w l → AllSpent p c w′ l
+all-grow p c w w′ l g h =
+    every-then (SpentString p c w) (SpentString p c w′) l (λ b s. (s .0, spent-grows w w′ (parse p c b) g (s .1))) h
 
-engine-stays : (c : ℕ) (k : List Station) (w : PlainState) (b : Bytes) → Octets b → Refines c k w → Spent w (parse document01 c b)
-    → frameStep document01 (joined k w) b .panel ≡ joined k w
+engine-stays : (p : Parameters) (c : ℕ) (k : List Station) (w : PlainState) (b : Bytes) → Octets b → Refines p c k w → Spent w (parse p c b)
+    → frameStep p (joined k w) b .panel ≡ joined k w
 unfolding frameStep if_then_else_
-engine-stays c k w b o m h =
+engine-stays p c k w b o m h =
     rw
-    (linked-sound c k w m, decide-judged c k w b o m, m .count)
-    (stays c k w b (parse document01 c b) m (proper c b o) h)
+    (linked-sound p c k w m, decide-judged p c k w b o m, m .count)
+    (stays p c k w b (parse p c b) m (frame-in-range p c b o) h)
 
-plain-spends : (c : ℕ) (k : List Station) (w : PlainState) (b : Bytes) (l : List Bytes) → Octets b → Refines c k w → AllSpent c w l
-    → AllSpent c (plainFrameStep document01 w b .state) (b ∷ l)
+plain-spends : (p : Parameters) (c : ℕ) (k : List Station) (w : PlainState) (b : Bytes) (l : List Bytes) → Octets b → Refines p c k w → AllSpent p c w l
+    → AllSpent p c (plainFrameStep p w b .state) (b ∷ l)
 unfolding plainFrameStep
-plain-spends c k w b l o m h =
+plain-spends p c k w b l o m h =
     rw
     (m .count) (
-      o,
-      now-spent c k w b (parse document01 c b) m (proper c b o),
-      all-grow
+      (o, now-spent p c k w b (parse p c b) m (frame-in-range p c b o)),
+      all-grow p
           c
           w
-          (plainExecute b w (judged (w .past) b (parse document01 c b)) .state)
+          (plainExecute b w (judged (w .past) b (parse p c b)) .state)
           l
-          (plainExecute-grows c k w b (judged (w .past) b (parse document01 c b)) m (judged-moved c k w b (parse document01 c b) m (proper c b o)))
+          (plainExecute-grows p c k w b (judged (w .past) b (parse p c b)) m (judged-moved p c k w b (parse p c b) m (frame-in-range p c b o)))
           h,
     )
 
-repeats : (c : ℕ) (k : List Station) (w : PlainState) {seen l l′ : List Bytes} (r : Again seen l l′) → Strings l → Refines c k w → AllSpent c w seen
-    → (after document01 (joined k w) l′ ≡ after document01 (joined k w) l)
-    × (answersToOriginals r (answers document01 (joined k w) l′) ≡ answers document01 (joined k w) l)
+repeats : (p : Parameters) (c : ℕ) (k : List Station) (w : PlainState) {seen l l′ : List Bytes} (r : Again seen l l′) → Strings l → Refines p c k w → AllSpent p c w seen
+    → (after p (joined k w) l′ ≡ after p (joined k w) l)
+    × (answersToOriginals r (answers p (joined k w) l′) ≡ answers p (joined k w) l)
 unfolding after answers answersToOriginals
-repeats c k w end s m h = (refl, refl)
-repeats c k w (own {seen = seen} {b = b} r) s m h =
-    let z = step c k w b (s .0) m in
-    let i = repeats c (z .stations) (plainFrameStep document01 w b .state) r (s .1) (z .linked) (plain-spends c k w b seen (s .0) m h) in
-    rw (z .same) (i .0, ap (λ (x : List Answer). plainFrameStep document01 w b .answer ∷ x) (i .1))
-repeats c k w (copy {b = b} a r) s m h =
-    let i = repeats c k w r s m h in
-    let o = spent-among c w a h in
-    rw (engine-stays c k w b (o .0) m (o .1)) i
+repeats p c k w end s m h = (refl, refl)
+repeats p c k w (own {seen = seen} {b = b} r) s m h =
+    let z = step p c k w b (s .0) m in
+    let i = repeats p c (z .stations) (plainFrameStep p w b .state) r (s .1) (z .linked) (plain-spends p c k w b seen (s .0) m h) in
+    rw (z .same) (i .0, ap (λ (x : List Answer). plainFrameStep p w b .answer ∷ x) (i .1))
+repeats p c k w (copy {seen = seen} {b = b} a r) s m h =
+    let i = repeats p c k w r s m h in
+    let o = every-among (SpentString p c w) seen b a h in
+    rw (engine-stays p c k w b (o .0) m (o .1)) i
 
 -- after a start nothing is seen yet
-pub repeats-change-nothing : (c : ℕ) (k : List Station) (w : PlainState) {l l′ : List Bytes} (r : Again [] l l′) → Strings l → Refines c k w
-    → (after document01 (joined k w) l′ ≡ after document01 (joined k w) l)
-    × (answersToOriginals r (answers document01 (joined k w) l′) ≡ answers document01 (joined k w) l)
-repeats-change-nothing c k w r s m = repeats c k w r s m tt
+pub repeats-change-nothing : (p : Parameters) (c : ℕ) (k : List Station) (w : PlainState) {l l′ : List Bytes} (r : Again [] l l′) → Strings l → Refines p c k w
+    → (after p (joined k w) l′ ≡ after p (joined k w) l)
+    × (answersToOriginals r (answers p (joined k w) l′) ≡ answers p (joined k w) l)
+repeats-change-nothing p c k w r s m = repeats p c k w r s m tt

@@ -1,15 +1,19 @@
 -- All outputs of a table at once: the laws of time passing, of acting and of the record rules that the list theorem stands on. It asks
 -- nothing else of an output or of a request.
 use mathlib.Core.Path.{_≡_, refl, sym, ap, ap₂, _∙_}
+use mathlib.Core.Logic.{_≢_}
 use mathlib.Core.Bool.{true}
 use mathlib.Core.List.{List, [], _∷_, map}
-use Prim.Native.Nat.{ℕ, zero, suc, _+_, _-_, _≤_, _<_}
+use Prim.Native.Nat.{ℕ, zero, suc, _+_, _-_, _≤_}
 use native.Mathlib.Nat.{sub-self}
 use native.Mathlib.Omega.{arith}
+use lib.Dec.{leb}
 use lib.Ieee.{ofBits}
-use lib.ListN.{set, getD, length, replicate, length-set}
-use Rattle.lighting_levels.specs.Paper.Choice.{if_then_else_, allFrom}
-use Rattle.lighting_outputs.specs.Paper.Parameters.{document01}
+use lib.ListN.{getD, length, replicate, length-set}
+use lib.Seq.{getD-set-other}
+use Rattle.lighting_levels.specs.Paper.Choice.{if_then_else_, allFrom, Every, every}
+use Rattle.lighting_outputs.specs.declared.Parameters.{Parameters}
+use Rattle.lighting_outputs.specs.Paper.Parameters.{freshFade}
 use Rattle.lighting_levels.specs.Paper.Level.{real, amountOf, inRange}
 use Rattle.lighting_outputs.specs.Paper.Slots.{view, slotsOf, isLive, firstLive, winner, levelAt, winningLevel}
 use Rattle.lighting_outputs.specs.Paper.Value.{clampLit, presentValue}
@@ -18,41 +22,43 @@ use Rattle.lighting_outputs.specs.Engine.Advance.{greatestCount, advance}
 use Rattle.lighting_outputs.specs.Paper.Passing.{tick, ticks}
 use Rattle.lighting_outputs.specs.Paper.Rows.{within, isLevel, isAmount, isSlot, meets, meetsReal}
 use Rattle.lighting_outputs.specs.Paper.Rules.{levelsSound, timesSound, realsSound, settingsSound, slotSound, slotsSoundFrom, activityBy, activitySound, timerSound, agrees, relaySound, sound}
-use Rattle.lighting_outputs.specs.Paper.Fresh.{freshSettings, freshRelay, freshOutput}
+use Rattle.lighting_outputs.specs.Paper.Fresh.{freshSettings, freshRelay, freshWith, freshFor, freshOutput}
 use Rattle.lighting_outputs.specs.Paper.Acting.{served, acted}
-use Rattle.lighting_panel.specs.Paper.Panel.{every}
 use Rattle.lighting_panel.specs.Paper.Plain.{Plain, runPlain}
 use Rattle.lighting_outputs.specs.declared.Request.{Request}
+use Rattle.lighting_outputs.specs.declared.Request.the-variants.{Refuse, ToOutput}
+use Rattle.lighting_outputs.specs.declared.OutputRequest.{OutputRequest}
 use Rattle.lighting_outputs.specs.declared.Output.{Output}
-use Rattle.lighting_levels.proofs.Split.{also-yes}
+use Rattle.lighting_levels.proofs.Split.{leb-yes}
+use Rattle.lighting_levels.proofs.Every.{every-map, every-set, every-replicate, every-tested}
 use Rattle.lighting_outputs.proofs.Time.Passing.{advance-ticks}
 use Rattle.lighting_outputs.proofs.Rules.Facts.{Lawful}
+use Rattle.lighting_outputs.proofs.Rules.Startable.{Startable}
 use Rattle.lighting_outputs.proofs.Rules.Tied.{sound-facts, facts-sound, sound-calm}
 use Rattle.lighting_outputs.proofs.Time.Ticking.{advance-sound}
 use Rattle.lighting_outputs.proofs.Rules.RequestInRange.{RequestInRange}
 use Rattle.lighting_outputs.proofs.Acts.Acted.{acted-lawful}
 use Rattle.lighting_outputs.proofs.Acts.Answered.{NotOne, acted-not-one}
 
-abbrev pub AllSound : ℕ → List Output → Type 0
-AllSound t [] = Unit {0}
-AllSound t (o ∷ l) = Lawful t o × AllSound t l
+abbrev pub AllSound : Parameters → ℕ → List Output → Type 0
+AllSound p t l = Every (Lawful p t) l
 
 -- THE RULES
-pub all-tested : (t : ℕ) (l : List Output) → AllSound t l → every (sound document01 t) l ≡ true
-unfolding every
-all-tested t [] a = refl
-all-tested t (o ∷ l) a = also-yes (facts-sound t o (a .0)) (all-tested t l (a .1))
+pub all-tested : (p : Parameters) (t : ℕ) (l : List Output) → AllSound p t l → every (sound p t) l ≡ true
+all-tested p t l a = every-tested (Lawful p t) (sound p t) l (facts-sound p t) a
 
-fresh-tested : sound document01 0 freshOutput ≡ true
-unfolding if_then_else_ allFrom real ofBits amountOf inRange view slotsOf isLive firstLive winner levelAt winningLevel clampLit presentValue within isLevel isAmount isSlot meets meetsReal levelsSound timesSound realsSound settingsSound slotSound slotsSoundFrom activityBy activitySound timerSound agrees binaryAt relaySound sound freshSettings freshRelay freshOutput
-fresh-tested = refl
+fresh-tested : (p : Parameters) → Startable p → sound p 0 (freshFor p) ≡ true
+unfolding if_then_else_ allFrom real ofBits amountOf inRange view slotsOf isLive firstLive winner levelAt winningLevel clampLit presentValue within isLevel isAmount isSlot meets meetsReal levelsSound timesSound realsSound settingsSound slotSound slotsSoundFrom activityBy activitySound timerSound agrees binaryAt relaySound sound freshSettings freshRelay freshWith freshFor
+fresh-tested p allowed =
+    let short : leb 100 (freshFade p) ≡ true = leb-yes {a = 100} {b = freshFade p} (omega (arith, allowed .fade)) in
+    let long : leb (freshFade p) (p .fade) ≡ true = leb-yes {a = freshFade p} {b = p .fade} (omega arith) in
+    rw (short, long)
 
-fresh-sound : Lawful 0 freshOutput
-fresh-sound = sound-facts 0 freshOutput (unfold freshOutput in refl) fresh-tested
+fresh-sound : (p : Parameters) → Startable p → Lawful p 0 (freshFor p)
+fresh-sound p allowed = sound-facts p 0 (freshFor p) (unfold freshFor freshWith in refl) (fresh-tested p allowed)
 
-pub all-fresh : (c : ℕ) → AllSound 0 (replicate c freshOutput)
-all-fresh zero = tt
-all-fresh (suc c) = (fresh-sound, all-fresh c)
+pub all-fresh : (p : Parameters) → Startable p → (c : ℕ) → AllSound p 0 (replicate c (freshFor p))
+all-fresh p allowed c = every-replicate (Lawful p 0) (freshFor p) c (fresh-sound p allowed)
 
 -- TIME: the plain panel's milliseconds are the engine's way
 map-none : (t : ℕ) (l : List Output) → l ≡ map (ticks zero t) l
@@ -65,65 +71,69 @@ unfolding ticks
 map-more n t [] = refl
 map-more n t (o ∷ l) = ap (λ (k : List Output). ticks n (suc t) (tick t o) ∷ k) (map-more n t l)
 
-map-advance : (now to : ℕ) (l : List Output) → now ≤ to → to ≤ greatestCount → AllSound now l → map (ticks (to - now) now) l ≡ map (advance now to) l
-map-advance now to [] h b a = refl
-map-advance now to (o ∷ l) h b a =
+map-advance : (p : Parameters) (now to : ℕ) (l : List Output) → now ≤ to → to ≤ greatestCount → AllSound p now l → map (ticks (to - now) now) l ≡ map (advance now to) l
+map-advance p now to [] h b a = refl
+map-advance p now to (o ∷ l) h b a =
     ap₂
     (λ (x : Output) (k : List Output). x ∷ k)
-    (sym (advance-ticks now to o h b (sound-calm now o (a .0))))
-    (map-advance now to l h b (a .1))
+    (sym (advance-ticks now to o h b (sound-calm p now o (a .0))))
+    (map-advance p now to l h b (a .1))
 
-runPlain-ticks : (n : ℕ) (p : Plain) → runPlain n p ≡ record { outputs = map (ticks n (p .time)) (p .outputs); time = p .time + n }
+runPlain-ticks : (n : ℕ) (z : Plain) → runPlain n z ≡ record { outputs = map (ticks n (z .time)) (z .outputs); time = z .time + n }
 unfolding runPlain
-runPlain-ticks zero p =
+runPlain-ticks zero z =
     ap₂
     (λ (l : List Output) (t : ℕ). record { outputs = l; time = t })
-    (map-none (p .time) (p .outputs))
+    (map-none (z .time) (z .outputs))
     (omega arith)
-runPlain-ticks (suc n) p =
-    runPlain-ticks n (record { outputs = map (tick (p .time)) (p .outputs); time = suc (p .time) })
+runPlain-ticks (suc n) z =
+    runPlain-ticks n (record { outputs = map (tick (z .time)) (z .outputs); time = suc (z .time) })
     ∙ ap₂
     (λ (l : List Output) (t : ℕ). record { outputs = l; time = t })
-    (map-more n (p .time) (p .outputs))
+    (map-more n (z .time) (z .outputs))
     (omega arith)
 
-pub runPlain-advance : (t : ℕ) (p : Plain) → p .time ≤ t → t ≤ greatestCount → AllSound (p .time) (p .outputs)
-    → runPlain (t - p .time) p ≡ record { outputs = map (advance (p .time) t) (p .outputs); time = t }
-runPlain-advance t p h b a =
-    runPlain-ticks (t - p .time) p
+pub runPlain-advance : (p : Parameters) (t : ℕ) (z : Plain) → z .time ≤ t → t ≤ greatestCount → AllSound p (z .time) (z .outputs)
+    → runPlain (t - z .time) z ≡ record { outputs = map (advance (z .time) t) (z .outputs); time = t }
+runPlain-advance p t z h b a =
+    runPlain-ticks (t - z .time) z
     ∙ ap₂
     (λ (l : List Output) (t : ℕ). record { outputs = l; time = t })
-    (map-advance (p .time) t (p .outputs) h b a)
+    (map-advance p (z .time) t (z .outputs) h b a)
     (omega arith)
 
-pub advance-here : (t : ℕ) (l : List Output) → t ≤ greatestCount → AllSound t l → map (advance t t) l ≡ l
-advance-here t l b a =
-    sym (map-advance t t l (omega arith) b a) ∙ rw (sub-self t) (sym (map-none t l))
+pub advance-here : (p : Parameters) (t : ℕ) (l : List Output) → t ≤ greatestCount → AllSound p t l → map (advance t t) l ≡ l
+advance-here p t l b a =
+    sym (map-advance p t t l (omega arith) b a) ∙ rw (sub-self t) (sym (map-none t l))
 
-pub all-advance : (now to : ℕ) (l : List Output) → now ≤ to → to ≤ greatestCount → AllSound now l → AllSound to (map (advance now to) l)
-all-advance now to [] h b a = tt
-all-advance now to (o ∷ l) h b a = (advance-sound now to o h b (a .0), all-advance now to l h b (a .1))
+pub all-advance : (p : Parameters) (now to : ℕ) (l : List Output) → now ≤ to → to ≤ greatestCount → AllSound p now l → AllSound p to (map (advance now to) l)
+all-advance p now to l h b a = every-map (Lawful p now) (Lawful p to) (advance now to) l (λ o k. advance-sound p now to o h b k) a
 
--- ACTING
-all-set : (t : ℕ) (l : List Output) (i : ℕ) (o : Output) → AllSound t l → Lawful t o → AllSound t (set l i o)
-all-set t [] i o a h = tt
-all-set t (x ∷ l) zero o a h = (h, a .1)
-all-set t (x ∷ l) (suc i) o a h = (a .0, all-set t l i o (a .1) h)
-
-all-get : (t : ℕ) (l : List Output) (i : ℕ) → i < length l → AllSound t l → Lawful t (getD l i freshOutput)
-all-get t [] i h a = absurd (omega arith)
-all-get t (x ∷ l) zero h a = a .0
-all-get t (x ∷ l) (suc i) h a = all-get t l i (omega arith) (a .1)
-
-pub served-sound : (t : ℕ) (l : List Output) (s i : ℕ) (r : Request) → RequestInRange r → i < length l → AllSound t l → AllSound t (served t l s i r .outputs)
+-- ACTING: the laws of `served`. A request to the table is a clause more of each that goes by clauses; nothing above looks
+-- into a request
+pub served-length : (t : ℕ) (l : List Output) (i : ℕ) (r : Request) → length (served t l i r .outputs) ≡ length l
 unfolding served
-served-sound t l s i r g h a =
-    all-set t l i (acted t (getD l i freshOutput) r .output) a (acted-lawful t (getD l i freshOutput) r g (all-get t l i h a))
+served-length t l i (Refuse n) = refl
+served-length t l i (ToOutput q) = length-set l i (acted t (getD l i freshOutput) q .output)
 
-pub served-length : (t : ℕ) (l : List Output) (s i : ℕ) (r : Request) → length (served t l s i r .outputs) ≡ length l
+-- what every output keeps, whatever is asked of it, every output of the table keeps
+pub served-every : (P : Output → Type 0) (t : ℕ) (l : List Output) (i : ℕ) (r : Request)
+    → ((q : OutputRequest) → r ≡ ToOutput q → (o : Output) → P o → P (acted t o q .output))
+    → Every P l → Every P (served t l i r .outputs)
 unfolding served
-served-length t l s i r = length-set l i (acted t (getD l i freshOutput) r .output)
+served-every P t l i (Refuse n) k a = a
+served-every P t l i (ToOutput q) k a = every-set P l i freshOutput _ (k q refl (getD l i freshOutput)) a
 
-pub served-not-one : (t : ℕ) (l : List Output) (s i : ℕ) (r : Request) → RequestInRange r → NotOne (served t l s i r .answer)
+-- an output that the frame does not name stays as it is
+pub served-other : (t : ℕ) (l : List Output) (i j : ℕ) (r : Request) → j ≢ i → getD (served t l i r .outputs) j freshOutput ≡ getD l j freshOutput
 unfolding served
-served-not-one t l s i r g = acted-not-one t (getD l i freshOutput) r g
+served-other t l i j (Refuse n) h = refl
+served-other t l i j (ToOutput q) h = getD-set-other l i j _ freshOutput h
+
+pub served-not-one : (p : Parameters) (t : ℕ) (l : List Output) (i : ℕ) (r : Request) → RequestInRange p r → NotOne (served t l i r .answer)
+unfolding served
+served-not-one p t l i (Refuse n) g = record { other = omega arith }
+served-not-one p t l i (ToOutput q) g = acted-not-one t (getD l i freshOutput) q
+
+pub served-sound : (p : Parameters) (t : ℕ) (l : List Output) (i : ℕ) (r : Request) → RequestInRange p r → AllSound p t l → AllSound p t (served t l i r .outputs)
+served-sound p t l i r g a = served-every (Lawful p t) t l i r (λ q e o h. acted-lawful p t o q (rw e at g) h) a

@@ -1,31 +1,35 @@
--- IN LISTS TOO (§1): for every list without kind 1B, any of its commands sent in tags instead, every copy of a frame like its first: what is found and
--- every answer stay.
+-- IN LISTS TOO (§1): any commands of a list sent in tags instead, every copy of a frame like its first: what
+-- is found and every answer stay, if no frame of the list is what another one becomes.
 use mathlib.Core.Path.{_≡_, refl, sym, ap, _∙_}
-use mathlib.Core.Logic.{_≢_}
-use mathlib.Core.Bool.{Bool}
+use mathlib.Core.Bool.{Bool, true}
 use mathlib.Core.List.{List, _∷_, map, []}
 use Prim.Native.Nat.{ℕ, suc, _+_, _-_, _≤_}
 use native.Mathlib.Omega.{arith}
 use lib.ListN.{length, take, drop, replicate}
-use Rattle.lighting_outputs.specs.Paper.Parameters.{document01}
-use Rattle.lighting_levels.specs.Paper.Field.{byteAt, octets}
+use Rattle.lighting_outputs.specs.declared.Parameters.{Parameters}
+use Rattle.lighting_levels.specs.Paper.Field.{octets}
 use Rattle.lighting_frames.specs.Paper.Tags.{OctetRange, tagOctets, listed, fieldBytes, bytesFrom, tagBytes, mostTagged, zeroFilled, bodyBytes}
 use Rattle.lighting_frames.specs.Paper.Frames.{Bytes, Octets, Strings}
 use Rattle.lighting_panel.specs.Paper.Panel.{Panel, startStep}
 use Rattle.lighting_panel.specs.Paper.Plain.{Plain}
+use Rattle.lighting_panel.specs.Paper.Demand.{Among, here, there}
 use Rattle.lighting_frames.specs.Paper.InTags.{sent}
-use Rattle.lighting_panel.specs.Paper.ActsAsPlain.{NoneTagged, ActsAsPlain}
+use Rattle.lighting_panel.specs.Paper.ActsAsPlain.{NoneBecomesAnother, ActsAsPlain}
 use Rattle.lighting_outputs.specs.declared.Answer.the-variants.{Done}
 use Rattle.lighting_frames.specs.declared.TagField.{TagField}
 use Rattle.lighting_frames.specs.declared.TagField.the-variants.{Holds, Missing}
 use Rattle.lighting_frames.specs.declared.TagFields.{TagFields}
+use Rattle.lighting_levels.specs.Paper.Choice.{Every}
+use Rattle.lighting_levels.proofs.Every.{every-map}
+use Rattle.lighting_panel.proofs.Among.{every-among}
 use Rattle.lighting_frames.proofs.Octets.{taken-octets, dropped-octets, appended-octets, repeated-octets, spelled-octets}
 use Rattle.lighting_frames.proofs.Tagging.Fields.{AllFit, ThreeBits, three-bits}
 use Rattle.lighting_frames.proofs.Tagging.Bodies.{sizes-written}
-use Rattle.lighting_frames.proofs.Tagging.InTags.{SentAs, itself, asTags, sent-as, parse-sent, apart}
+use Rattle.lighting_frames.proofs.Tagging.InTags.{SentAs, itself, asTags, sent-as, parse-sent, apart, NeverMade, never-made}
+use Rattle.lighting_outputs.specs.Paper.Startable.{startable}
 use Rattle.lighting_panel.proofs.Demand.{demand-3}
 use Rattle.lighting_panel.proofs.Calls.{once}
-use Rattle.lighting_panel.proofs.Renamed.{Renaming, All, start-renamed}
+use Rattle.lighting_panel.proofs.Renamed.{Renaming, start-renamed}
 
 -- A FRAME IN TAGS IS A STRING OF BYTES
 tags-octets : (number : ℕ) (allowed : List OctetRange) (fields : List TagField) → ThreeBits allowed → AllFit allowed fields → number + length fields ≤ 16
@@ -52,11 +56,11 @@ sent-octets b o (asTags action f k l s) =
     let body = body-octets f (s .fit) (omega (arith, s .high, sizes-written f)) in
     (omega arith, appended-octets (take 12 (drop 1 b)) (bodyBytes f) (taken-octets 12 (drop 1 b) (dropped-octets 1 b o)) body)
 
--- THE RENAMING: of strings of bytes that are not of kind 1B
-abbrev Untagged : Bytes → Type 0
-Untagged b = Octets b × (byteAt b 0 ≢ 0x1b)
+left-nothing : (b : Bytes) {a : Bytes} → SentAs b a → a ≡ [] → b ≡ []
+left-nothing b itself h = h
+left-nothing b (asTags action f k l s) h = let z : _≡_ {A = ℕ} 0 1 = cc in absurd (omega arith)
 
-module _ (chosen : Bytes → Bool) where
+module _ (p : Parameters) (chosen : Bytes → Bool) where
   nothing-sent : sent chosen [] ≡ []
   nothing-sent = by (sent chosen []) (sent-as chosen [] tt)
     where
@@ -64,35 +68,53 @@ module _ (chosen : Bytes → Bool) where
       by a itself = refl
       by a (asTags action f k l s) = absurd (omega (arith, s .long))
 
-  renaming : Renaming document01 (sent chosen) Untagged
-  renaming =
-      record {
-        alike = λ c b u. parse-sent document01 c b (sent-as chosen b (u .0));
-        apart = λ b b′ u u′. apart b b′ (sent-as chosen b (u .0)) (sent-as chosen b′ (u′ .0)) (u .1) (u′ .1) (λ e. ap (sent chosen) e);
-        empty = (tt, empty);
-        nothing = nothing-sent;
-      }
-    where
-      empty : byteAt [] 0 ≢ 0x1b
-      empty = unfold byteAt in (λ e. omega arith)
+  -- THE RENAMING: of the strings of a list, and of the empty one, which stands where a station has sent
+  -- nothing
+  module _ (l : List Bytes) (free : NoneBecomesAnother chosen l) where
+    abbrev Listed : Bytes → Type 0
+    Listed b = Octets b × Among b ([] ∷ l)
 
-  untagged : (l : List Bytes) → Strings l → NoneTagged l → All Untagged l
-  untagged [] s n = tt
-  untagged (b ∷ l) s n = ((s .0, n .0), untagged l (s .1) (n .1))
+    free-or-nothing : (b b′ : Bytes) → Octets b → Among b ([] ∷ l) → Among b′ ([] ∷ l) → sent chosen b ≡ b′ → b ≡ b′
+    free-or-nothing b b′ o here m′ h = sym nothing-sent ∙ h
+    free-or-nothing b b′ o (there m) here h = left-nothing b (sent-as chosen b o) h
+    free-or-nothing b b′ o (there m) (there m′) h = free b b′ m m′ h
+
+    renaming : Renaming p (sent chosen) Listed
+    renaming =
+        record {
+          alike = λ c b u. parse-sent p c b (sent-as chosen b (u .0));
+          apart = λ b b′ u u′.
+              apart b b′ (sent-as chosen b (u .0)) (sent-as chosen b′ (u′ .0))
+              (free-or-nothing b b′ (u .0) (u .1) (u′ .1))
+              (free-or-nothing b′ b (u′ .0) (u′ .1) (u .1))
+              (λ e. ap (sent chosen) e);
+          empty = (tt, here);
+          nothing = nothing-sent;
+        }
+
+    each-listed : (k : List Bytes) → Strings k → ((b : Bytes) → Among b k → Among b l) → Every Listed k
+    each-listed [] s i = tt
+    each-listed (b ∷ k) s i = ((s .0, there (i b here)), each-listed k (s .1) (λ x m. i x (there m)))
 
   strings-sent : (l : List Bytes) → Strings l → Strings (map (sent chosen) l)
-  strings-sent [] s = tt
-  strings-sent (b ∷ l) s = (sent-octets b (s .0) (sent-as chosen b (s .0)), strings-sent l (s .1))
+  strings-sent l s = every-map Octets Octets (sent chosen) l (λ b o. sent-octets b o (sent-as chosen b o)) s
 
-  -- For EVERY lent table e on which the start answered Done, EVERY list l of strings of bytes without kind 1B, and EVERY choice of its commands
-  pub acts-as-plain : (e : Panel) (l : List Bytes) → Strings l → NoneTagged l → startStep document01 e .answer ≡ Done → ActsAsPlain document01 e l chosen
-  acts-as-plain e l s n h =
+  -- For EVERY set of parameters that a panel may have, EVERY lent table e on which the start answered Done,
+  -- EVERY list l of strings of bytes, and EVERY choice of its commands of which none becomes another frame of
+  -- the list
+  pub acts-as-plain : startable p ≡ true → (e : Panel) (l : List Bytes) → Strings l → NoneBecomesAnother chosen l → startStep p e .answer ≡ Done
+      → ActsAsPlain p e l chosen
+  acts-as-plain allowed e l s n h =
       let l′ = map (sent chosen) l in
-      let plain = demand-3 e l l (once [] l) s h in
-      let tags = demand-3 e l′ l′ (once [] l′) (strings-sent l s) h in
-      let i = start-renamed document01 (sent chosen) Untagged renaming (length (e .outputs)) l (untagged l s n) in
+      let plain = demand-3 p allowed e l l (once [] l) s h in
+      let tags = demand-3 p allowed e l′ l′ (once [] l′) (strings-sent l s) h in
+      let i = start-renamed p (sent chosen) (Listed l n) (renaming l n) (length (e .outputs)) l (each-listed l n l s (λ b m. m)) in
       record {
         outputs = tags .outputs ∙ ap (λ (x : Plain). x .outputs) (i .0) ∙ sym (plain .outputs);
         time = tags .time ∙ ap (λ (x : Plain). x .time) (i .0) ∙ sym (plain .time);
         answered = tags .answered ∙ i .1 ∙ sym (plain .answered);
       }
+
+  -- so with any list none of whose frames is of kind 1B, 31 bytes long and well tagged
+  pub none-made : (l : List Bytes) → Strings l → Every NeverMade l → NoneBecomesAnother chosen l
+  none-made l s n b b′ m m′ h = never-made chosen b b′ (every-among Octets l b m s) (every-among NeverMade l b′ m′ n) h

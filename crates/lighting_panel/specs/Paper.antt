@@ -9,6 +9,9 @@ pub mod Calls
 pub mod ActsAsPlain
 -- worked lists: bench figures 9 and 10 and the traps; §1, §4 and §5
 pub mod Worked
+pub mod WorkedOrder
 pub mod WorkedTagLists
 pub mod WorkedJumpLists
 pub mod WorkedHalfLists
+-- refusal 1 by hand: the record rules
+pub mod WorkedRules

@@ -2,11 +2,10 @@
 ghost use mathlib.Core.Path.{_≡_};
 ghost use Prim.Native.Nat.{_≤_, _<_, _^_, min};
 ghost use lib.Ieee.{binary32, nanBits, isNan};
-ghost use Rattle.lighting_levels.specs.Paper.Level.{greatestLevel, leastAmount, real, bits, nearestTo, amountOf, limitOf, levelOf, inRange, unitsOr, amountUnits, levelUnits, operandBy, amountOperand, realOf, readOut};
+ghost use Rattle.lighting_levels.specs.Paper.Level.{greatestLevel, leastAmount, real, bits, nearestTo, amountOf, limitOf, levelOf, inRange, unitsOr, amountUnits, levelUnits, realOf, readOut};
 use lighting_levels::GREATEST_LEVEL;
 use lighting_levels::LEAST_LEVEL;
 use lighting_levels::Level;
-use lighting_levels::Operand;
 
 // ---- patterns
 
@@ -147,22 +146,6 @@ pub fn level_units(x: f32) -> u32
     ensures { λ r. ⌜ r ≤ greatestLevel ⌝ }
 {
     units_or(0, level_of_real(x))
-}
-
-// A REAL that a write of Ramp_Rate or Step_Increment keeps as it was written, if it is in range.
-fn operand(level: Level, pattern: u32) -> Operand
-    ensures { λ r. ⌜ r ≡ operandBy level pattern ⌝ }
-{
-    if in_range(level) {
-        return Operand::Taken(real_from(pattern));
-    }
-    Operand::Unfit
-}
-
-pub fn amount_operand(pattern: u32) -> Operand
-    ensures { λ r. ⌜ r ≡ amountOperand pattern ⌝ }
-{
-    operand(amount_of(pattern), pattern)
 }
 
 // ---- from a level to a REAL

@@ -1,5 +1,5 @@
-// What a first arrival does to its output, once the output is at the frame's time: the request acts, reads, or is refused. By value, and on
-// any record at all; the time comes from six bytes.
+// What a first arrival's request does to its output, once the output is at the frame's time: it acts, reads, or is
+// refused. By value, and on any record at all; the time comes from six bytes.
 ghost use mathlib.Core.Path.{_≡_};
 ghost use Prim.Native.Nat.{_<_, _^_};
 ghost use Rattle.lighting_outputs.specs.Paper.Properties.{settingsWith, relayWith, minOverMax};
@@ -8,8 +8,8 @@ ghost use Rattle.lighting_outputs.specs.Paper.Acting.{done, unchanged, changedU
 use lighting_outputs::Answer;
 use lighting_outputs::Outcome;
 use lighting_outputs::Output;
+use lighting_outputs::OutputRequest;
 use lighting_outputs::Property;
-use lighting_outputs::Request;
 
 // The output changed, and judged.
 fn done(o: Output) -> Outcome
@@ -59,17 +59,16 @@ fn change(o: Output, n: Property, v: u32) -> Outcome
     )
 }
 
-pub fn act(t: u64, o: Output, q: Request) -> Outcome
+pub fn act(t: u64, o: Output, q: OutputRequest) -> Outcome
     requires { ⌜ t < 2 ^ 48 ⌝ }
     ensures { λ r. ⌜ r ≡ acted t o q ⌝ }
 {
     match q {
-        Request::Refuse(number) => unchanged(o, Answer::Refused(number)),
-        Request::Write { slot, level } => done(output_writing::write(t, o, slot, level)),
-        Request::Empty { slot } => done(output_writing::relinquish_slot(o, slot)),
-        Request::Change { property, value } => change(o, property, value),
-        Request::Read(property) => unchanged(o, property_read::read_property(t, o, property)),
-        Request::Commands(k) => done(command_effect::command(t, o, k)),
+        OutputRequest::Write { slot, level } => done(output_writing::write(t, o, slot, level)),
+        OutputRequest::Empty { slot } => done(output_writing::relinquish_slot(o, slot)),
+        OutputRequest::Change { property, value } => change(o, property, value),
+        OutputRequest::Read(property) => unchanged(o, property_read::read_property(t, o, property)),
+        OutputRequest::Commands(k) => done(command_effect::command(t, o, k)),
     }
 }
 

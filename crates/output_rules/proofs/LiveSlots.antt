@@ -10,20 +10,16 @@ use lib.Bits.{bitAnd, and-step, and-self}
 use lib.Count.{trailingZeros, trailing-of-zero}
 use lib.Dec.{eqb}
 use lib.ListN.{getD}
-use lib.Pow.{shr-shr}
 use Rattle.lighting_levels.specs.Paper.Choice.{if_then_else_, _also_, allFrom}
 use Rattle.lighting_outputs.specs.Paper.Slots.{isLive}
 use Rattle.lighting_outputs.specs.declared.Slots.{Slots}
 use Rattle.lighting_outputs.specs.Paper.Rows.{isLevel}
 use Rattle.lighting_outputs.specs.Paper.Rules.{slotSound, slotsSoundFrom}
+use Rattle.lighting_outputs.proofs.Priorities.Mask.{halved}
 use Rattle.lighting_levels.proofs.Scan.{all-each, each-all}
 use Rattle.lighting_levels.proofs.Split.{by-bool, by-eq, eqb-hit}
 
--- THE LOWEST BIT SET of m, by its trailing zeros
-halved : (i m : ℕ) → m / 2 ^ suc i ≡ m / 2 / 2 ^ i
-halved i m = sym (shr-shr m 1 i ∙ ap (λ (k : ℕ). m / 2 ^ k) (omega arith))
-
--- there is one
+-- THE LOWEST BIT SET of m, by its trailing zeros: there is one
 pub low-within : (n m : ℕ) → 0 < m → m < 2 ^ n → trailingZeros n m < n
 unfolding trailingZeros
 low-within zero m h k = absurd (omega (arith, h, k))

@@ -6,7 +6,8 @@ ghost use lib.ListN.{length};
 ghost use Rattle.lighting_outputs.specs.Paper.Parameters.{document01};
 ghost use Rattle.lighting_outputs.specs.Paper.Rules.{sound};
 ghost use Rattle.lighting_panel.specs.Engine.VerdictPrecondition.{Arrival, VerdictPrecondition};
-ghost use Rattle.lighting_panel.specs.Paper.Panel.{every, panelOf, result, panelSound, startStep};
+ghost use Rattle.lighting_levels.specs.Paper.Choice.{every};
+ghost use Rattle.lighting_panel.specs.Paper.Panel.{panelOf, result, panelSound, startStep};
 ghost use Rattle.lighting_panel.specs.Engine.Executing.{execute, frameStep};
 use lighting_frames::Call;
 use lighting_frames::Station;
@@ -43,13 +44,7 @@ fn arrive(
     let moment = call.time;
     panel_tables::advance_outputs(outputs, from, moment);
     let request = call.request;
-    let answer = panel_tables::serve(
-        outputs,
-        moment,
-        call.station,
-        number_ranges::index(call.output),
-        request,
-    );
+    let answer = panel_tables::serve(outputs, moment, number_ranges::index(call.output), request);
     let record = station_frame::station_record(answer, call.number, bytes);
     let at = number_ranges::index(call.station);
     stations[at] = record;

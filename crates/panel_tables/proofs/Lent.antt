@@ -6,5 +6,6 @@ pub mod stations_sound
 pub mod step_output
 pub mod advance_output
 pub mod advance_outputs
+pub mod serve_output
 pub mod serve
 pub mod decide

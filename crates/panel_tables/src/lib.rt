@@ -11,12 +11,14 @@ ghost use Rattle.lighting_frames.specs.Paper.Stations.{freshStation, stationSou
 ghost use Rattle.lighting_outputs.specs.Engine.Advance.{advance};
 ghost use Rattle.lighting_outputs.specs.Paper.Rules.{sound};
 ghost use Rattle.lighting_outputs.specs.Paper.Acting.{served};
-ghost use Rattle.lighting_panel.specs.Paper.Panel.{every, panelOf};
+ghost use Rattle.lighting_levels.specs.Paper.Choice.{every};
+ghost use Rattle.lighting_panel.specs.Paper.Panel.{panelOf};
 ghost use Rattle.lighting_panel.specs.Engine.Judging.{decide};
 use lighting_frames::Station;
 use lighting_frames::Verdict;
 use lighting_outputs::Answer;
 use lighting_outputs::Output;
+use lighting_outputs::OutputRequest;
 use lighting_outputs::Request;
 
 // ---- each record of a table
@@ -123,18 +125,31 @@ pub fn advance_outputs(outputs: &mut [Output], from: u64, to: u64)
 
 // ---- one record of a table
 
-// The output is taken out, acted on, and put back.
-pub fn serve(outputs: &mut [Output], time: u64, station: u8, at: usize, request: Request) -> Answer
+// A request to one output: the output is taken out, acted on, and put back.
+fn serve_output(outputs: &mut [Output], time: u64, at: usize, request: OutputRequest) -> Answer
     requires { ⌜ time < 2 ^ 48 ⌝ }
     requires { ⌜ at < length (now outputs) ⌝ }
-    ensures { λ a. ⌜ a ≡ served time (now (outputs .entry)) station at request .answer ⌝ }
-    ensures { λ _. ⌜ now (outputs .exit) ≡ served time (now (outputs .entry)) station at request .outputs ⌝ }
+    ensures { λ a. ⌜ a ≡ served time (now (outputs .entry)) at (Request.ToOutput request) .answer ⌝ }
+    ensures { λ _. ⌜ now (outputs .exit) ≡ served time (now (outputs .entry)) at (Request.ToOutput request) .outputs ⌝ }
 {
     let o = outputs[at];
     let done = output_acting::act(time, o, request);
     let n = output_acting::outcome_output(done);
     outputs[at] = n;
     output_acting::outcome_answer(done)
+}
+
+// Any request: one that its fields refuse touches no output.
+pub fn serve(outputs: &mut [Output], time: u64, at: usize, request: Request) -> Answer
+    requires { ⌜ time < 2 ^ 48 ⌝ }
+    requires { ⌜ at < length (now outputs) ⌝ }
+    ensures { λ a. ⌜ a ≡ served time (now (outputs .entry)) at request .answer ⌝ }
+    ensures { λ _. ⌜ now (outputs .exit) ≡ served time (now (outputs .entry)) at request .outputs ⌝ }
+{
+    match request {
+        Request::Refuse(number) => Answer::Refused(number),
+        Request::ToOutput(asked) => serve_output(outputs, time, at, asked),
+    }
 }
 
 // What is to be done with the bytes, by the record of the station that they name.

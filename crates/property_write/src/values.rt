@@ -6,6 +6,7 @@ ghost use Prim.Native.Nat.{_-_};
 ghost use Rattle.lighting_outputs.specs.Paper.Rows.{isPriority};
 ghost use Rattle.lighting_outputs.specs.Paper.Properties.{changeTo, changeBy};
 use lighting_levels::Level;
+use lighting_outputs::OutputRequest;
 use lighting_outputs::Property;
 use lighting_outputs::Range;
 use lighting_outputs::Request;
@@ -14,7 +15,7 @@ fn change_to(n: Property, v: Level) -> Request
     ensures { λ r. ⌜ r ≡ changeTo n v ⌝ }
 {
     match v {
-        Level::Units(value) => Request::Change { property: n, value },
+        Level::Units(value) => Request::ToOutput(OutputRequest::Change { property: n, value }),
         Level::OutOfRange => Request::Refuse(11),
     }
 }
@@ -26,26 +27,26 @@ pub fn change_by(row: Range, n: Property, x: u32) -> Request
         Range::Percent => change_to(n, number_level::level_of(x)),
         Range::Limit => change_to(n, number_level::limit_of(x)),
         Range::Amount => if number_ranges::rows::is_amount_pattern(x) {
-            Request::Change {
+            Request::ToOutput(OutputRequest::Change {
                 property: n,
                 value: x,
-            }
+            })
         } else {
             Request::Refuse(11)
         },
         Range::Whole { low, high } => if number_ranges::is_within(low, high, x) {
-            Request::Change {
+            Request::ToOutput(OutputRequest::Change {
                 property: n,
                 value: x,
-            }
+            })
         } else {
             Request::Refuse(12)
         },
         Range::Priority => if number_ranges::is_priority(x) {
-            Request::Change {
+            Request::ToOutput(OutputRequest::Change {
                 property: n,
                 value: x - 1,
-            }
+            })
         } else {
             Request::Refuse(10)
         },

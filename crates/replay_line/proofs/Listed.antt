@@ -41,7 +41,7 @@ execute-count b e (TurnedDown r) = refl
 execute-count b e (Copied a) = refl
 execute-count b e (Clocked t) = length-map (e .outputs) (advance (e .time) t)
 execute-count b e (Arrives call) =
-    served-length (call .time) (map (advance (e .time) (call .time)) (e .outputs)) (call .station) (call .output) (call .request)
+    served-length (call .time) (map (advance (e .time) (call .time)) (e .outputs)) (call .output) (call .request)
     ∙ length-map (e .outputs) (advance (e .time) (call .time))
 
 frameStep-count : (e : Panel) (b : Bytes) → length (frameStep document01 e b .panel .outputs) ≡ length (e .outputs)
@@ -131,7 +131,7 @@ listed-whole p (preface {x} {t} g m) s h =
 listed-whole {w = w} p (unended {t} m) s h = rw (← closed-newline p w t) (listed-whole p m s h)
 
 -- it names 1 to 64 outputs, and its strings are strings of bytes
-record FrameInRange (n : ℕ) (l : List Bytes) : Type 0 where
+record ListingInRange (n : ℕ) (l : List Bytes) : Type 0 where
   least : 1 ≤ n
   most : n ≤ 64
   strings : Strings l
@@ -141,10 +141,10 @@ lines-strings none = tt
 lines-strings (string g m) = (gives-octets g, lines-strings m)
 lines-strings (remark g m) = lines-strings m
 
-proper : {n : ℕ} {l : List Bytes} {t : Bytes} → Listing n l t → FrameInRange n l
-proper (named g m) = record { least = heading-count g .0; most = heading-count g .1; strings = lines-strings m }
-proper (preface g m) = proper m
-proper (unended m) = proper m
+listing-in-range : {n : ℕ} {l : List Bytes} {t : Bytes} → Listing n l t → ListingInRange n l
+listing-in-range (named g m) = record { least = heading-count g .0; most = heading-count g .1; strings = lines-strings m }
+listing-in-range (preface g m) = listing-in-range m
+listing-in-range (unended m) = listing-in-range m
 
 -- so the panel that it names starts
 starts : (n : ℕ) (p : Panel) → 1 ≤ n → n ≤ 64 → n ≤ length (p .outputs) → length (p .stations) ≡ 8 → startStep document01 (first n p) .answer ≡ Done
@@ -155,7 +155,7 @@ pub found-by-text : (n : ℕ) (p : Panel) (l : List Bytes) (t : Bytes) → Listi
     foundIn (first n (finished p t)) ≡ foundPlain (plainAfter document01 (plainStart n) l .panel)
 unfolding finished
 found-by-text n p l t m h e =
-    let c = proper m in
+    let c = listing-in-range m in
     ap foundIn (listed-whole p m start-fresh h)
     ∙ finds (first n p) l l (once [] l) (demand-3 (first n p) l l (once [] l) (c .strings) (starts n p (c .least) (c .most) h e))
     ∙ ap (λ (i : ℕ). foundPlain (plainAfter document01 (plainStart i) l .panel)) (first-count n p h)

@@ -5,7 +5,7 @@ use mathlib.Core.List.{List, [], _∷_, map}
 use Prim.Native.Nat.{ℕ, _^_, _<_}
 use lib.Dec.{eqb}
 use Rattle.lighting_levels.specs.Paper.Choice.{if_then_else_}
-use Rattle.lighting_outputs.specs.Paper.Parameters.{document01}
+use Rattle.lighting_outputs.specs.declared.Parameters.{Parameters}
 use Rattle.lighting_levels.specs.Paper.Level.{real}
 use Rattle.lighting_levels.specs.Paper.Field.{bigEndian}
 use Rattle.lighting_outputs.specs.Paper.Rows.{within}
@@ -14,7 +14,7 @@ use Rattle.lighting_outputs.specs.Paper.Operations.{operationNumber, fieldsOf}
 use Rattle.lighting_outputs.specs.Paper.Properties.{numbered, propertyOf, realAnswer, realFieldAnswer, timeFieldAnswer, lastDuration, readProperty}
 use Rattle.lighting_outputs.specs.Paper.Record.{withCommand}
 use Rattle.lighting_outputs.specs.Paper.Commands.{commandedFrom, commanded}
-use Rattle.lighting_outputs.specs.Paper.Acting.{done, unchanged, acted}
+use Rattle.lighting_outputs.specs.Paper.Acting.{done, unchanged, acted, served}
 use Rattle.lighting_frames.specs.Paper.Kinds.{kindRow}
 use Rattle.lighting_frames.specs.Paper.Frames.{Bytes, requestOf}
 use Rattle.lighting_outputs.specs.Paper.Requests.{fieldsRefusal, plainDuration, commandLasting, commandOf, commandWithDuration, commandRequestBy, commandRequest}
@@ -27,6 +27,7 @@ use Rattle.lighting_levels.proofs.Split.{by-bool, by-eq}
 use Rattle.lighting_outputs.proofs.Rules.CommandRanges.{none-met}
 use Rattle.lighting_outputs.proofs.Patterns.{level-field-kept, amount-field-kept}
 use Rattle.lighting_frames.proofs.Consequences.Bytes.{asked}
+use Rattle.lighting_outputs.proofs.Consequences.Alone.{alone}
 use Rattle.lighting_outputs.proofs.Consequences.Reads.{reads, refused}
 
 -- properties 0F to 14: last operation, level, rate, step, fade time, duration
@@ -64,25 +65,25 @@ back k d =
     ∷ lastingRead d
     ∷ []
 
-module _ (t t′ : ℕ) (o : Output) where
+module _ (p : Parameters) (t t′ : ℕ) (o : Output) where
   -- an operation whose fields are in range, and any
-  of-commandWithDuration : (k : Operation) (d : ℕ) → acted t o (commandWithDuration document01 k (plainDuration d)) .answer ≡ Done → last t′ (acted t o (commandWithDuration document01 k (plainDuration d)) .output) ≡ back k d
-  unfolding acted done unchanged afterEvents plainDuration commandWithDuration commandLasting commanded commandedFrom withCommand propertyOf numbered readProperty lastDuration if_then_else_
+  of-commandWithDuration : (k : Operation) (d : ℕ) → alone t o (commandWithDuration p k (plainDuration d)) .answer ≡ Done → last t′ (alone t o (commandWithDuration p k (plainDuration d)) .output) ≡ back k d
+  unfolding acted served done unchanged afterEvents plainDuration commandWithDuration commandLasting commanded commandedFrom withCommand propertyOf numbered readProperty lastDuration if_then_else_
   of-commandWithDuration k d =
       by-eq d 0xffff_ffff
-      (λ p e. rw e (λ h. refl))
-      (λ p e. rw e
+      (λ u e. rw e (λ h. refl))
+      (λ u e. rw e
       (by-eq d 0
       (λ q f. rw f (λ h. rw q))
-      (λ q f. rw f (by-bool (within 100 86400000 d) (λ g. rw g (λ h. refl)) (λ g. rw g (λ h. refused h))))))
+      (λ q f. rw f (by-bool (within 100 (p .duration) d) (λ g. rw g (λ h. refl)) (λ g. rw g (λ h. refused h))))))
 
-  of-commandRequest : (k : Operation) (d : ℕ) (l : List Answer) → (fieldsRefusal document01 (fieldsOf k) ≡ 0 → back k d ≡ l)
-      → acted t o (commandRequest document01 k d) .answer ≡ Done → last t′ (acted t o (commandRequest document01 k d) .output) ≡ l
+  of-commandRequest : (k : Operation) (d : ℕ) (l : List Answer) → (fieldsRefusal p (fieldsOf k) ≡ 0 → back k d ≡ l)
+      → alone t o (commandRequest p k d) .answer ≡ Done → last t′ (alone t o (commandRequest p k d) .output) ≡ l
   unfolding commandRequest commandOf commandRequestBy if_then_else_
   of-commandRequest k d l f =
-      by-eq (fieldsRefusal document01 (fieldsOf k)) 0
-      (λ p e. rw e (λ h. of-commandWithDuration k d h ∙ f p))
-      (λ p e. rw e (λ h. unfold acted unchanged in (refused h)))
+      by-eq (fieldsRefusal p (fieldsOf k)) 0
+      (λ u e. rw e (λ h. of-commandWithDuration k d h ∙ f u))
+      (λ u e. rw e (λ h. unfold served in (refused h)))
 
   -- A FRAME of kind k: its fields are the words at 13, 17 and 21
   module _ (b : Bytes) where
@@ -96,67 +97,67 @@ module _ (t t′ : ℕ) (o : Output) where
     z = bigEndian 4 b 21
 
     -- 'fields left to right', the duration last
-    pub commands-asked : map (λ (k : ℕ). asked k b) (0x10 ∷ 0x11 ∷ 0x12 ∷ 0x13 ∷ 0x14 ∷ 0x15 ∷ 0x16 ∷ 0x17 ∷ 0x18 ∷ 0x19 ∷ 0x1a ∷ [])
-        ≡ commandRequest document01 Stop x
-        ∷ commandRequest document01 (FadeTo (real x)) y
-        ∷ commandRequest document01 (FadeToOver (real x) y) z
-        ∷ commandRequest document01 (RampTo (real x)) y
-        ∷ commandRequest document01 (RampToAtRate (real x) (real y)) z
-        ∷ commandRequest document01 StepUp x
-        ∷ commandRequest document01 StepDown x
-        ∷ commandRequest document01 (StepUpBy (real x)) y
-        ∷ commandRequest document01 (StepDownBy (real x)) y
-        ∷ commandRequest document01 (Goto (real x)) y
-        ∷ commandRequest document01 Relinquish x
+    pub commands-asked : map (λ (k : ℕ). asked p k b) (0x10 ∷ 0x11 ∷ 0x12 ∷ 0x13 ∷ 0x14 ∷ 0x15 ∷ 0x16 ∷ 0x17 ∷ 0x18 ∷ 0x19 ∷ 0x1a ∷ [])
+        ≡ commandRequest p Stop x
+        ∷ commandRequest p (FadeTo (real x)) y
+        ∷ commandRequest p (FadeToOver (real x) y) z
+        ∷ commandRequest p (RampTo (real x)) y
+        ∷ commandRequest p (RampToAtRate (real x) (real y)) z
+        ∷ commandRequest p StepUp x
+        ∷ commandRequest p StepDown x
+        ∷ commandRequest p (StepUpBy (real x)) y
+        ∷ commandRequest p (StepDownBy (real x)) y
+        ∷ commandRequest p (Goto (real x)) y
+        ∷ commandRequest p Relinquish x
         ∷ []
     unfolding kindRow requestOf if_then_else_
     commands-asked = refl
 
     abbrev Then : ℕ → Type 0
-    Then k = acted t o (asked k b) .answer ≡ Done → last t′ (acted t o (asked k b) .output) ≡ sent k x y z
+    Then k = alone t o (asked p k b) .answer ≡ Done → last t′ (alone t o (asked p k b) .output) ≡ sent k x y z
 
     pub stop : Then 0x10
     unfolding kindRow requestOf operationNumber fieldsOf realFieldAnswer timeFieldAnswer realAnswer if_then_else_
-    stop = of-commandRequest Stop x (sent 0x10 x y z) (λ p. refl)
+    stop = of-commandRequest Stop x (sent 0x10 x y z) (λ u. refl)
 
     pub step-up : Then 0x15
     unfolding kindRow requestOf operationNumber fieldsOf realFieldAnswer timeFieldAnswer realAnswer if_then_else_
-    step-up = of-commandRequest StepUp x (sent 0x15 x y z) (λ p. refl)
+    step-up = of-commandRequest StepUp x (sent 0x15 x y z) (λ u. refl)
 
     pub step-down : Then 0x16
     unfolding kindRow requestOf operationNumber fieldsOf realFieldAnswer timeFieldAnswer realAnswer if_then_else_
-    step-down = of-commandRequest StepDown x (sent 0x16 x y z) (λ p. refl)
+    step-down = of-commandRequest StepDown x (sent 0x16 x y z) (λ u. refl)
 
     pub relinquish : Then 0x1a
     unfolding kindRow requestOf operationNumber fieldsOf realFieldAnswer timeFieldAnswer realAnswer if_then_else_
-    relinquish = of-commandRequest Relinquish x (sent 0x1a x y z) (λ p. refl)
+    relinquish = of-commandRequest Relinquish x (sent 0x1a x y z) (λ u. refl)
 
     pub fade-to : x < 2 ^ 32 → Then 0x11
     unfolding kindRow requestOf operationNumber fieldsOf realFieldAnswer timeFieldAnswer realAnswer if_then_else_
-    fade-to h = of-commandRequest (FadeTo (real x)) y (sent 0x11 x y z) (λ p. rw (level-field-kept x h (none-met _ p .level) .written))
+    fade-to h = of-commandRequest (FadeTo (real x)) y (sent 0x11 x y z) (λ u. rw (level-field-kept x h (none-met p _ u .level) .written))
 
     pub ramp-to : x < 2 ^ 32 → Then 0x13
     unfolding kindRow requestOf operationNumber fieldsOf realFieldAnswer timeFieldAnswer realAnswer if_then_else_
-    ramp-to h = of-commandRequest (RampTo (real x)) y (sent 0x13 x y z) (λ p. rw (level-field-kept x h (none-met _ p .level) .written))
+    ramp-to h = of-commandRequest (RampTo (real x)) y (sent 0x13 x y z) (λ u. rw (level-field-kept x h (none-met p _ u .level) .written))
 
     pub goto : x < 2 ^ 32 → Then 0x19
     unfolding kindRow requestOf operationNumber fieldsOf realFieldAnswer timeFieldAnswer realAnswer if_then_else_
-    goto h = of-commandRequest (Goto (real x)) y (sent 0x19 x y z) (λ p. rw (level-field-kept x h (none-met _ p .level) .written))
+    goto h = of-commandRequest (Goto (real x)) y (sent 0x19 x y z) (λ u. rw (level-field-kept x h (none-met p _ u .level) .written))
 
     pub step-up-by : x < 2 ^ 32 → Then 0x17
     unfolding kindRow requestOf operationNumber fieldsOf realFieldAnswer timeFieldAnswer realAnswer if_then_else_
-    step-up-by h = of-commandRequest (StepUpBy (real x)) y (sent 0x17 x y z) (λ p. rw (amount-field-kept x h (none-met _ p .step) .written))
+    step-up-by h = of-commandRequest (StepUpBy (real x)) y (sent 0x17 x y z) (λ u. rw (amount-field-kept x h (none-met p _ u .step) .written))
 
     pub step-down-by : x < 2 ^ 32 → Then 0x18
     unfolding kindRow requestOf operationNumber fieldsOf realFieldAnswer timeFieldAnswer realAnswer if_then_else_
-    step-down-by h = of-commandRequest (StepDownBy (real x)) y (sent 0x18 x y z) (λ p. rw (amount-field-kept x h (none-met _ p .step) .written))
+    step-down-by h = of-commandRequest (StepDownBy (real x)) y (sent 0x18 x y z) (λ u. rw (amount-field-kept x h (none-met p _ u .step) .written))
 
     -- level, fade time, duration
     pub fade-to-over : x < 2 ^ 32 → Then 0x12
     unfolding kindRow requestOf operationNumber fieldsOf realFieldAnswer timeFieldAnswer realAnswer if_then_else_
-    fade-to-over h = of-commandRequest (FadeToOver (real x) y) z (sent 0x12 x y z) (λ p. rw (level-field-kept x h (none-met _ p .level) .written))
+    fade-to-over h = of-commandRequest (FadeToOver (real x) y) z (sent 0x12 x y z) (λ u. rw (level-field-kept x h (none-met p _ u .level) .written))
 
     -- level, rate, duration
     pub ramp-to-at-rate : x < 2 ^ 32 → y < 2 ^ 32 → Then 0x14
     unfolding kindRow requestOf operationNumber fieldsOf realFieldAnswer timeFieldAnswer realAnswer if_then_else_
-    ramp-to-at-rate h k = of-commandRequest (RampToAtRate (real x) (real y)) z (sent 0x14 x y z) (λ p. rw (level-field-kept x h (none-met _ p .level) .written, amount-field-kept y k (none-met _ p .rate) .written))
+    ramp-to-at-rate h k = of-commandRequest (RampToAtRate (real x) (real y)) z (sent 0x14 x y z) (λ u. rw (level-field-kept x h (none-met p _ u .level) .written, amount-field-kept y k (none-met p _ u .rate) .written))

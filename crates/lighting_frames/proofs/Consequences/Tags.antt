@@ -12,7 +12,7 @@ use native.Mathlib.Omega.{arith}
 use lib.Dec.{eqb}
 use lib.ListN.{length, getD, take, drop, length-take, length-drop}
 use lib.Seq.{getD-take, getD-drop}
-use Rattle.lighting_outputs.specs.Paper.Parameters.{Parameters, document01}
+use Rattle.lighting_outputs.specs.declared.Parameters.{Parameters}
 use Rattle.lighting_levels.specs.Paper.Field.{byteAt, octets}
 use Rattle.lighting_outputs.specs.Paper.Rows.{within}
 use Rattle.lighting_outputs.specs.Paper.Operations.{operationNumber, fieldsOf}
@@ -20,7 +20,7 @@ use Rattle.lighting_outputs.specs.Paper.Passing.{afterEvents}
 use Rattle.lighting_outputs.specs.Paper.Record.{withCommand}
 use Rattle.lighting_outputs.specs.Paper.Commands.{commandedFrom, commanded}
 use Rattle.lighting_outputs.specs.Paper.Properties.{readProperty}
-use Rattle.lighting_outputs.specs.Paper.Acting.{done, acted}
+use Rattle.lighting_outputs.specs.Paper.Acting.{done, acted, served}
 use Rattle.lighting_frames.specs.Paper.Kinds.{kindRow, kindLength}
 use Rattle.lighting_frames.specs.Paper.Tags.{contextTag, OctetRange, oneOctet, tagOctets, listed, fieldSize, sizes, fieldIn, fieldsFrom, fieldBytes, bytesFrom, tagBytes, tagsOf, commandTags, zeroFilled, bodyBytes, mostTagged, lengthOf, bodyFields, zeroBeyond, holdsAtMost, wellTagged, readBody}
 use Rattle.lighting_frames.specs.Paper.Frames.{Bytes, Octets, taggedRequest, requestOf, parse}
@@ -34,12 +34,15 @@ use Rattle.lighting_frames.specs.declared.Kind.the-variants.{CallKind}
 use Rattle.lighting_outputs.specs.declared.Operation.{Operation}
 use Rattle.lighting_outputs.specs.declared.Output.{Output}
 use Rattle.lighting_outputs.specs.declared.Property.the-variants.{LastOperation}
-use Rattle.lighting_outputs.specs.declared.Request.the-variants.{Refuse, Commands}
+use Rattle.lighting_outputs.specs.declared.Request.the-variants.{Refuse, ToOutput}
+use Rattle.lighting_outputs.specs.declared.OutputRequest.the-variants.{Commands}
 use Rattle.lighting_frames.specs.declared.TagField.{TagField}
 use Rattle.lighting_frames.specs.declared.TagFields.{TagFields}
 use Rattle.lighting_frames.specs.declared.TagField.the-variants.{Holds, Missing}
 use Rattle.lighting_frames.specs.declared.TaggedReading.the-variants.{Unreadable, Reads}
 use Rattle.lighting_outputs.specs.declared.TimeField.the-variants.{Time, NoTime}
+use Rattle.lighting_outputs.specs.Paper.Startable.{startable}
+use Rattle.lighting_outputs.proofs.Rules.Startable.{startable-of}
 use Rattle.lighting_levels.proofs.Split.{by-bool, eqb-hit, eqb-miss, eq-of, leb-yes, leb-no}
 use Rattle.lighting_levels.proofs.Scan.{all-each}
 use Rattle.lighting_levels.proofs.Fields.{single}
@@ -51,6 +54,8 @@ use Rattle.lighting_frames.proofs.Tagging.Commands.{number-most}
 use Rattle.lighting_frames.proofs.Tagging.Only.{only-written}
 use Rattle.lighting_frames.proofs.Tagging.PlainInTags.{SameIf, same}
 use Rattle.lighting_frames.proofs.Tagging.InTags.{tagged-asks, sent-as, parse-sent}
+use Rattle.lighting_outputs.proofs.Consequences.Alone.{alone}
+use Rattle.lighting_outputs.specs.declared.TimeField.{TimeField}
 
 -- A BODY THAT IS NOT WELL TAGGED is 14, whatever else is wrong with it
 module _ (body : Bytes) where
@@ -134,9 +139,10 @@ module _ (body : Bytes) (eighteen : length body ≡ 18) (tag : byteAt body 1 ≡
   operation-above-ten h = unless-tagged body (λ w. false≢true (sym (unknown w h) ∙ w .known))
 
 -- A TAGGED DURATION: FFFFFFFF meets 12; missing is what FFFFFFFF is in the plain kind; any other is the plain kind's
-pub duration-all-ones : (o : Operation) → fieldsRefusal document01 (fieldsOf o) ≡ 0 → taggedRequest document01 (Reads o (Time 0xffff_ffff)) ≡ Refuse 12
+pub duration-all-ones : (p : Parameters) → startable p ≡ true → (o : Operation) → fieldsRefusal p (fieldsOf o) ≡ 0 → taggedRequest p (Reads o (Time 0xffff_ffff)) ≡ Refuse 12
 unfolding taggedRequest commandOf commandRequestBy commandWithDuration commandLasting within if_then_else_
-duration-all-ones o e = rw e
+duration-all-ones p allowed o e =
+    rw (e, leb-no {a = 0xffff_ffff} {b = p .duration} (omega (arith, startable-of p allowed .duration)))
 
 pub duration-missing : (p : Parameters) (o : Operation) → taggedRequest p (Reads o NoTime) ≡ commandRequest p o 0xffff_ffff
 unfolding taggedRequest commandRequest plainDuration if_then_else_
@@ -151,15 +157,15 @@ second-byte : (k : Command) → byteAt (bodyBytes (commandTags k)) 2 ≡ operati
 unfolding bodyBytes zeroFilled tagBytes bytesFrom fieldBytes octets commandTags tagsOf byteAt
 second-byte k = rw (div-one (operationNumber (k .operation))) (mod-eq-of-lt (omega (arith, number-most (k .operation))))
 
-module _ (b : Bytes) (o : Octets b) (size : length b ≡ 31) (k : Command) (h : requestOf document01 CommandsTagged b ≡ Commands k) where
+module _ (p : Parameters) (b : Bytes) (o : Octets b) (size : length b ≡ 31) (k : Command) (h : requestOf p CommandsTagged b ≡ ToOutput (Commands k)) where
   pub tagged-number : operationNumber (k .operation) ≡ byteAt b 15
   tagged-number =
       sym (second-byte k)
-      ∙ ap (λ (x : Bytes). byteAt x 2) (sym (only-written (drop 13 b) (dropped-octets 13 b o) (omega (arith, length-drop 13 b)) k (unfold requestOf in h)))
+      ∙ ap (λ (x : Bytes). byteAt x 2) (sym (only-written p (drop 13 b) (dropped-octets 13 b o) (omega (arith, length-drop 13 b)) k (unfold requestOf in h)))
       ∙ (unfold byteAt in (getD-drop 13 b 2 0))
 
-  pub tagged-read : (t t′ : ℕ) (q : Output) → readProperty t′ (acted t q (requestOf document01 CommandsTagged b) .output) LastOperation ≡ Value (byteAt b 15)
-  unfolding acted done afterEvents commanded commandedFrom withCommand readProperty
+  pub tagged-read : (t t′ : ℕ) (q : Output) → readProperty t′ (alone t q (requestOf p CommandsTagged b) .output) LastOperation ≡ Value (byteAt b 15)
+  unfolding acted served done afterEvents commanded commandedFrom withCommand readProperty
   tagged-read t t′ q = rw h (ap Value tagged-number)
 
 -- EVERY PLAIN COMMAND goes in tags: its frame becomes one of kind 1B, which is read alike
@@ -206,3 +212,10 @@ asks-the-same p b action o k low high l =
 pub read-alike : (p : Parameters) (c : ℕ) (b : Bytes) → Octets b → parse p c (inTags b) ≡ parse p c b
 unfolding sent if_then_else_
 read-alike p c b o = parse-sent p c b (sent-as (λ (x : Bytes). true) b o)
+
+-- THE RANGES of a command are judged alike in whatever form it came, plain or in tags
+pub both-forms : (p : Parameters) (operation : Operation) (d : ℕ) (duration : TimeField)
+    → (commandRequest p operation d ≡ commandOf p operation (plainDuration d))
+    × (taggedRequest p (Reads operation duration) ≡ commandOf p operation duration)
+unfolding commandRequest taggedRequest
+both-forms p operation d duration = (refl, refl)

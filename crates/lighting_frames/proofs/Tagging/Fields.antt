@@ -1,6 +1,6 @@
 -- THE FORM, both ways (§1): fields that were written are read, and what was read is what was written. Over any list of fields whose tags rise, so once
 -- for all six.
-use Rattle.lighting_levels.specs.Paper.Choice.{if_then_else_}
+use Rattle.lighting_levels.specs.Paper.Choice.{if_then_else_, Every}
 use mathlib.Core.Path.{_≡_, refl, ap, _∙_}
 use mathlib.Core.Bool.{true, false}
 use mathlib.Core.List.{List, _∷_, _++_, []}
@@ -33,8 +33,7 @@ AllFit (allowed ∷ more) (field ∷ fields) = Fits allowed field × AllFit more
 
 -- a length of three bits, as the tag octet holds it
 abbrev pub ThreeBits : List OctetRange → Type 0
-ThreeBits [] = Unit {0}
-ThreeBits (allowed ∷ more) = (allowed .most ≤ 7) × ThreeBits more
+ThreeBits l = Every (λ (allowed : OctetRange). allowed .most ≤ 7) l
 
 pub three-bits : ThreeBits tagOctets
 three-bits = (omega arith, (omega arith, (omega arith, (omega arith, (omega arith, (omega arith, tt))))))

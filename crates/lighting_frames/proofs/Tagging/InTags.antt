@@ -2,17 +2,17 @@
 use Rattle.lighting_levels.specs.Paper.Choice.{if_then_else_}
 use mathlib.Core.Path.{_≡_, refl, sym, ap, ap₂, _∙_}
 use mathlib.Core.Logic.{_≢_}
-use mathlib.Core.Bool.{Bool, true, false≢true}
+use mathlib.Core.Bool.{Bool, true, false, false≢true}
 use mathlib.Core.List.{_∷_, _++_, []}
 use mathlib.Core.Option.{Option, none, some}
 use Prim.Native.Nat.{ℕ, zero, suc, _+_, _-_, _≤_, _<_}
 use native.Mathlib.Omega.{arith}
 use lib.ListN.{length, getD, take, drop, replicate, length-append, length-take, length-drop, length-replicate, List·getD-append, take-append-drop}
 use lib.Seq.{drop-at, take-at, drop-cons, drop-drop, getD-take, getD-drop}
-use Rattle.lighting_outputs.specs.Paper.Parameters.{Parameters}
+use Rattle.lighting_outputs.specs.declared.Parameters.{Parameters}
 use Rattle.lighting_levels.specs.Paper.Field.{byteAt, bigEndian}
 use Rattle.lighting_frames.specs.Paper.Kinds.{kindRow, kindLength}
-use Rattle.lighting_frames.specs.Paper.Tags.{heldBy, tagBytes, mostTagged, zeroFilled, bodyBytes, bodyFields, readBody}
+use Rattle.lighting_frames.specs.Paper.Tags.{heldBy, tagBytes, mostTagged, zeroFilled, bodyBytes, bodyFields, wellTagged, readBody}
 use Rattle.lighting_frames.specs.Paper.Frames.{Bytes, Octets, taggedRequest, requestOf, callOf, called, parseBy, parse}
 use Rattle.lighting_frames.specs.Paper.Copies.{sameBytes}
 use Rattle.lighting_frames.specs.Paper.InTags.{plainTags, framed, framedBy, inTags, sent}
@@ -127,12 +127,11 @@ pub parse-sent : (p : Parameters) (c : ℕ) (b : Bytes) {b′ : Bytes} → SentA
 parse-sent p c b itself = refl
 parse-sent p c b (asTags action f k l s) = parse-tagged b f s p c ∙ sym (parse-call p c b action k l)
 
--- AND NO TWO BECOME ONE, but for one and the same frame
-told-apart : (b b′ : Bytes) {a a′ : Bytes} → SentAs b a → SentAs b′ a′ → byteAt b 0 ≢ 0x1b → byteAt b′ 0 ≢ 0x1b → a ≡ a′ → b ≡ b′
-unfolding byteAt
+-- AND NO TWO BECOME ONE, but for one and the same frame, if neither is what the other becomes
+told-apart : (b b′ : Bytes) {a a′ : Bytes} → SentAs b a → SentAs b′ a′ → (a ≡ b′ → b ≡ b′) → (a′ ≡ b → b′ ≡ b) → a ≡ a′ → b ≡ b′
 told-apart b b′ itself itself n n′ h = h
-told-apart b b′ itself (asTags action f k l s) n n′ h = absurd (n (ap (λ (x : Bytes). getD x 0 0) h))
-told-apart b b′ (asTags action f k l s) itself n n′ h = absurd (n′ (sym (ap (λ (x : Bytes). getD x 0 0) h)))
+told-apart b b′ itself (asTags action f k l s) n n′ h = sym (n′ (sym h))
+told-apart b b′ (asTags action f k l s) itself n n′ h = n h
 told-apart b b′ (asTags action f k l s) (asTags action′ f′ k′ l′ s′) n n′ h =
     let body : bodyBytes f ≡ bodyBytes f′ = sym (body-of b f s) ∙ ap (drop 13) h ∙ body-of b′ f′ s′ in
     let fields : f ≡ f′ = sym (fields-read f (s .fit)) ∙ ap bodyFields body ∙ fields-read f′ (s′ .fit) in
@@ -156,10 +155,30 @@ unfolding sameBytes
 same-self [] = refl
 same-self (x ∷ k) = also-yes (eqb-hit {a = x} refl) (same-self k)
 
-pub apart : (b b′ : Bytes) {a a′ : Bytes} → SentAs b a → SentAs b′ a′ → byteAt b 0 ≢ 0x1b → byteAt b′ 0 ≢ 0x1b → (b ≡ b′ → a ≡ a′) → sameBytes a a′ ≡ sameBytes b b′
+pub apart : (b b′ : Bytes) {a a′ : Bytes} → SentAs b a → SentAs b′ a′ → (a ≡ b′ → b ≡ b′) → (a′ ≡ b → b′ ≡ b) → (b ≡ b′ → a ≡ a′) → sameBytes a a′ ≡ sameBytes b b′
 apart b b′ {a} {a′} s s′ n n′ g =
     by-bool (sameBytes a a′)
     (λ e. e ∙ sym (ap (sameBytes b) (sym (told-apart b b′ s s′ n n′ (same-equal a a′ e))) ∙ same-self b))
     (λ e. by-bool (sameBytes b b′)
     (λ q. absurd (false≢true (sym e ∙ ap (sameBytes a) (sym (g (same-equal b b′ q))) ∙ same-self a)))
     (λ q. e ∙ sym q))
+
+-- A FRAME THAT NO OTHER BECOMES, whatever the list: of another kind than 1B, of another length than 31, or
+-- with a body that is 14
+pub data NeverMade (b : Bytes) : Type 0 where
+  other-kind : byteAt b 0 ≢ 0x1b → NeverMade b
+  other-length : length b ≢ 31 → NeverMade b
+  not-tagged : wellTagged (drop 13 b) ≡ false → NeverMade b
+
+never-of : (b b′ : Bytes) {a : Bytes} → SentAs b a → NeverMade b′ → a ≡ b′ → b ≡ b′
+unfolding byteAt
+never-of b b′ itself n h = h
+never-of b b′ (asTags action f k l s) (other-kind n) h = absurd (n (sym (ap (λ (x : Bytes). getD x 0 0) h)))
+never-of b b′ (asTags action f k l s) (other-length n) h = absurd (n (sym (ap length h) ∙ length-tagged b f s))
+never-of b b′ (asTags action f k l s) (not-tagged n) h =
+    let size = sizes-written f in
+    let well = well-written f (s .fit) (omega (arith, s .low)) (omega (arith, s .high)) (s .known) in
+    absurd (false≢true (sym n ∙ ap (λ (x : Bytes). wellTagged (drop 13 x)) (sym h) ∙ ap wellTagged (body-of b f s) ∙ well))
+
+pub never-made : (chosen : Bytes → Bool) (b b′ : Bytes) → Octets b → NeverMade b′ → sent chosen b ≡ b′ → b ≡ b′
+never-made chosen b b′ o n h = never-of b b′ (sent-as chosen b o) n h

@@ -1,13 +1,13 @@
 -- EVERY COMMAND THAT THE PANEL KEEPS (§1): reading what the writer makes of it gives it back, for every command that a string of bytes asks for, in
 -- whatever form it came.
 use Rattle.lighting_levels.specs.Paper.Choice.{if_then_else_}
-use mathlib.Core.Path.{_≡_, refl, sym, ap, _∙_}
-use mathlib.Core.Bool.{Bool, true, false, false≢true}
+use mathlib.Core.Path.{_≡_, refl, ap}
+use mathlib.Core.Bool.{true}
 use mathlib.Core.List.{_∷_}
 use Prim.Native.Nat.{ℕ, _^_, _<_}
 use native.Mathlib.Omega.{arith}
 use lib.ListN.{drop}
-use Rattle.lighting_outputs.specs.Paper.Parameters.{document01}
+use Rattle.lighting_outputs.specs.declared.Parameters.{Parameters}
 use Rattle.lighting_levels.specs.Paper.Level.{real, levelOf, limitOf}
 use Rattle.lighting_levels.specs.Paper.Field.{bigEndian}
 use Rattle.lighting_outputs.specs.Paper.Rows.{rowOf, within, isAmount, isPriority}
@@ -34,11 +34,12 @@ use Rattle.lighting_frames.specs.declared.TagField.{TagField}
 use Rattle.lighting_frames.specs.declared.TagField.the-variants.{Holds, Missing}
 use Rattle.lighting_frames.specs.declared.TagFields.{TagFields}
 use Rattle.lighting_outputs.specs.declared.Request.{Request}
-use Rattle.lighting_outputs.specs.declared.Request.the-variants.{Refuse, Write, Empty, Change, Read, Commands}
+use Rattle.lighting_outputs.specs.declared.Request.the-variants.{Refuse, ToOutput}
+use Rattle.lighting_outputs.specs.declared.OutputRequest.the-variants.{Read, Commands}
 use Rattle.lighting_levels.proofs.Split.{by-bool}
 use Rattle.lighting_frames.proofs.Octets.{dropped-octets, word}
 use Rattle.lighting_outputs.proofs.Patterns.{level-field-kept, amount-field-kept}
-use Rattle.lighting_outputs.proofs.Rules.CommandRanges.{none-met, Taken, taken}
+use Rattle.lighting_outputs.proofs.Rules.CommandRanges.{none-met, Taken, command-taken}
 use Rattle.lighting_frames.proofs.Tagging.Fields.{Fits, AllFit}
 use Rattle.lighting_frames.proofs.Tagging.Bodies.{well-tagged, fields-fit}
 use Rattle.lighting_frames.proofs.Tagging.Commands.{Word, Exact, ExactOperation, lasting-word, reads-written}
@@ -63,9 +64,9 @@ record Brought (o : Operation) : Type 0 where
   step : Patterned (fieldsOf o .step)
   fade : Word (fieldsOf o .fade)
 
-exact-operation : (o : Operation) → Brought o → fieldsRefusal document01 (fieldsOf o) ≡ 0 → ExactOperation o
-exact-operation o b r =
-    let n = none-met (fieldsOf o) r in
+exact-operation : (p : Parameters) (o : Operation) → Brought o → fieldsRefusal p (fieldsOf o) ≡ 0 → ExactOperation o
+exact-operation p o b r =
+    let n = none-met p (fieldsOf o) r in
     record {
       level = level-exact (b .level) (n .level);
       rate = amount-exact (b .rate) (n .rate);
@@ -74,53 +75,54 @@ exact-operation o b r =
     }
 
 -- WHAT A REQUEST ASKS: a command so brought, or none
-abbrev isCommand : Request → Bool
-isCommand (Refuse r) = false
-isCommand (Write i v) = false
-isCommand (Empty i) = false
-isCommand (Change n v) = false
-isCommand (Read n) = false
-isCommand (Commands k) = true
+abbrev AsksNoCommand : Request → Type 0
+AsksNoCommand r = (k : Command) → r ≡ ToOutput (Commands k) → _≡_ {A = ℕ} 0 1
 
-data Asks : Request → Type 0 where
-  command : (o : Operation) (duration : TimeField) → Brought o → Word duration → Asks (commandOf document01 o duration)
-  nothing : {r : Request} → isCommand r ≡ false → Asks r
+data Asks (p : Parameters) : Request → Type 0 where
+  command : (o : Operation) (duration : TimeField) → Brought o → Word duration → Asks p (commandOf p o duration)
+  nothing : {r : Request} → AsksNoCommand r → Asks p r
 
--- kinds 02 to 05 ask for none
-level-none : (i : ℕ) (l : Level) → isCommand (writeLevel i l) ≡ false
+-- kinds 02 to 05 ask for none, and neither does what is refused
+refused-none : (r : ℕ) → AsksNoCommand (Refuse r)
+refused-none r = λ k h. cc
+
+reading-none : (n : Property) → AsksNoCommand (ToOutput (Read n))
+reading-none n = λ k h. cc
+
+level-none : (i : ℕ) (l : Level) → AsksNoCommand (writeLevel i l)
 unfolding writeLevel
-level-none i (Units v) = refl
-level-none i OutOfRange = refl
+level-none i (Units v) = λ k h. cc
+level-none i OutOfRange = refused-none _
 
-write-none : (n x : ℕ) → isCommand (writeOf n x) ≡ false
+write-none : (n x : ℕ) → AsksNoCommand (writeOf n x)
 unfolding writeOf if_then_else_
-write-none n x = by-bool (isPriority n) (λ e. rw e (level-none _ (levelOf (real x)))) (λ e. rw e)
+write-none n x = by-bool (isPriority n) (λ e. rw e (level-none _ (levelOf (real x)))) (λ e. rw e (refused-none _))
 
-empty-none : (n : ℕ) → isCommand (emptyOf n) ≡ false
+empty-none : (n : ℕ) → AsksNoCommand (emptyOf n)
 unfolding emptyOf if_then_else_
-empty-none n = by-bool (isPriority n) (λ e. rw e) (λ e. rw e)
+empty-none n = by-bool (isPriority n) (λ e. rw e (λ k h. cc)) (λ e. rw e (refused-none _))
 
-to-none : (n : Property) (l : Level) → isCommand (changeTo n l) ≡ false
+to-none : (n : Property) (l : Level) → AsksNoCommand (changeTo n l)
 unfolding changeTo
-to-none n (Units v) = refl
-to-none n OutOfRange = refl
+to-none n (Units v) = λ k h. cc
+to-none n OutOfRange = refused-none _
 
-by-none : (range : Range) (n : Property) (x : ℕ) → isCommand (changeBy range n x) ≡ false
+by-none : (range : Range) (n : Property) (x : ℕ) → AsksNoCommand (changeBy range n x)
 unfolding changeBy if_then_else_
 by-none Percent n x = to-none n (levelOf (real x))
 by-none Limit n x = to-none n (limitOf (real x))
-by-none Amount n x = by-bool (isAmount (real x)) (λ e. rw e) (λ e. rw e)
-by-none (Whole low high) n x = by-bool (within low high x) (λ e. rw e) (λ e. rw e)
-by-none Priority n x = by-bool (isPriority x) (λ e. rw e) (λ e. rw e)
-by-none ReadOnly n x = refl
+by-none Amount n x = by-bool (isAmount (real x)) (λ e. rw e (λ k h. cc)) (λ e. rw e (refused-none _))
+by-none (Whole low high) n x = by-bool (within low high x) (λ e. rw e (λ k h. cc)) (λ e. rw e (refused-none _))
+by-none Priority n x = by-bool (isPriority x) (λ e. rw e (λ k h. cc)) (λ e. rw e (refused-none _))
+by-none ReadOnly n x = refused-none 9
 
-change-none : (n : Property) (x : ℕ) → isCommand (changeOf document01 n x) ≡ false
+change-none : (p : Parameters) (n : Property) (x : ℕ) → AsksNoCommand (changeOf p n x)
 unfolding changeOf
-change-none n x = by-none (rowOf document01 n) n x
+change-none p n x = by-none (rowOf p n) n x
 
 -- the plain kinds
-module _ (b : Bytes) (octets : Octets b) where
-  asks-plain : (o : Operation) (at : ℕ) → Brought o → Asks (commandRequest document01 o (bigEndian 4 b at))
+module _ (p : Parameters) (b : Bytes) (octets : Octets b) where
+  asks-plain : (o : Operation) (at : ℕ) → Brought o → Asks p (commandRequest p o (bigEndian 4 b at))
   unfolding commandRequest
   asks-plain o at k = command o (plainDuration (bigEndian 4 b at)) k (lasting-word (bigEndian 4 b at) (word b octets at))
 
@@ -148,38 +150,38 @@ brought f fit known =
       fade = timed (fieldsOf (operationOf f) .fade) (heldBy (f .fade)) (held-word wholeOctets (f .fade) (omega arith) (fit .1 .1 .1 .1 .0)) (o .fade);
     }
 
-asks-fields : (f : TagFields) → AllFit tagOctets (listed f) → holdsAtMost 10 (f .operation) ≡ true → Asks (taggedRequest document01 (readFields f))
+asks-fields : (p : Parameters) (f : TagFields) → AllFit tagOctets (listed f) → holdsAtMost 10 (f .operation) ≡ true → Asks p (taggedRequest p (readFields f))
 unfolding readFields taggedRequest if_then_else_
-asks-fields f fit known =
+asks-fields p f fit known =
     by-bool (ownTags (tagsOf (operationOf f) (timeOf (f .duration))) f)
     (λ e. rw e (command (operationOf f) (timeOf (f .duration)) (brought f fit known) (time-word (f .duration) (fit .1 .1 .1 .1 .1 .0))))
-    (λ e. rw e (nothing refl))
+    (λ e. rw e (nothing (refused-none _)))
 
-asks-body : (body : Bytes) → Octets body → Asks (taggedRequest document01 (readBody body))
+asks-body : (p : Parameters) (body : Bytes) → Octets body → Asks p (taggedRequest p (readBody body))
 unfolding readBody taggedRequest if_then_else_
-asks-body body o =
+asks-body p body o =
     by-bool (wellTagged body)
-    (λ e. rw e (asks-fields (bodyFields body) (fields-fit body o) (well-tagged body e .known)))
-    (λ e. rw e (nothing refl))
+    (λ e. rw e (asks-fields p (bodyFields body) (fields-fit body o) (well-tagged body e .known)))
+    (λ e. rw e (nothing (refused-none _)))
 
-asks : (action : Action) (b : Bytes) → Octets b → Asks (requestOf document01 action b)
+asks : (p : Parameters) (action : Action) (b : Bytes) → Octets b → Asks p (requestOf p action b)
 unfolding requestOf fieldsOf
-asks WritesLevel b o = nothing (write-none _ _)
-asks EmptiesSlot b o = nothing (empty-none _)
-asks WritesProperty b o = nothing (change-none _ _)
-asks ReadsProperty b o = nothing refl
-asks Stops b o = asks-plain b o Stop 13 (record { level = none; rate = none; step = none; fade = tt })
-asks FadesTo b o = asks-plain b o (FadeTo _) 17 (record { level = pattern _ (word b o 13); rate = none; step = none; fade = tt })
-asks FadesToOver b o = asks-plain b o (FadeToOver _ _) 21 (record { level = pattern _ (word b o 13); rate = none; step = none; fade = word b o 17 })
-asks RampsTo b o = asks-plain b o (RampTo _) 17 (record { level = pattern _ (word b o 13); rate = none; step = none; fade = tt })
-asks RampsToAtRate b o = asks-plain b o (RampToAtRate _ _) 21 (record { level = pattern _ (word b o 13); rate = pattern _ (word b o 17); step = none; fade = tt })
-asks StepsUp b o = asks-plain b o StepUp 13 (record { level = none; rate = none; step = none; fade = tt })
-asks StepsDown b o = asks-plain b o StepDown 13 (record { level = none; rate = none; step = none; fade = tt })
-asks StepsUpBy b o = asks-plain b o (StepUpBy _) 17 (record { level = none; rate = none; step = pattern _ (word b o 13); fade = tt })
-asks StepsDownBy b o = asks-plain b o (StepDownBy _) 17 (record { level = none; rate = none; step = pattern _ (word b o 13); fade = tt })
-asks GoesTo b o = asks-plain b o (Goto _) 17 (record { level = pattern _ (word b o 13); rate = none; step = none; fade = tt })
-asks Relinquishes b o = asks-plain b o Relinquish 13 (record { level = none; rate = none; step = none; fade = tt })
-asks CommandsTagged b o = asks-body (drop 13 b) (dropped-octets 13 b o)
+asks p WritesLevel b o = nothing (write-none _ _)
+asks p EmptiesSlot b o = nothing (empty-none _)
+asks p WritesProperty b o = nothing (change-none p _ _)
+asks p ReadsProperty b o = nothing (reading-none _)
+asks p Stops b o = asks-plain p b o Stop 13 (record { level = none; rate = none; step = none; fade = tt })
+asks p FadesTo b o = asks-plain p b o (FadeTo _) 17 (record { level = pattern _ (word b o 13); rate = none; step = none; fade = tt })
+asks p FadesToOver b o = asks-plain p b o (FadeToOver _ _) 21 (record { level = pattern _ (word b o 13); rate = none; step = none; fade = word b o 17 })
+asks p RampsTo b o = asks-plain p b o (RampTo _) 17 (record { level = pattern _ (word b o 13); rate = none; step = none; fade = tt })
+asks p RampsToAtRate b o = asks-plain p b o (RampToAtRate _ _) 21 (record { level = pattern _ (word b o 13); rate = pattern _ (word b o 17); step = none; fade = tt })
+asks p StepsUp b o = asks-plain p b o StepUp 13 (record { level = none; rate = none; step = none; fade = tt })
+asks p StepsDown b o = asks-plain p b o StepDown 13 (record { level = none; rate = none; step = none; fade = tt })
+asks p StepsUpBy b o = asks-plain p b o (StepUpBy _) 17 (record { level = none; rate = none; step = pattern _ (word b o 13); fade = tt })
+asks p StepsDownBy b o = asks-plain p b o (StepDownBy _) 17 (record { level = none; rate = none; step = pattern _ (word b o 13); fade = tt })
+asks p GoesTo b o = asks-plain p b o (Goto _) 17 (record { level = pattern _ (word b o 13); rate = none; step = none; fade = tt })
+asks p Relinquishes b o = asks-plain p b o Relinquish 13 (record { level = none; rate = none; step = none; fade = tt })
+asks p CommandsTagged b o = asks-body p (drop 13 b) (dropped-octets 13 b o)
 
 -- THE 18 BYTES are what the writer answers: L, and the 17
 pub writers-bytes : (k : Command) → bodyBytes (commandTags k) ≡ taggedBody k .length ∷ taggedBody k .bytes
@@ -187,16 +189,16 @@ unfolding bodyBytes taggedBody
 writers-bytes k = refl
 
 -- READ AGAIN: the writer's form of what was asked asks for it
-tags-taken : (o : Operation) (duration : TimeField) (k : Command) → Taken document01 o duration k → commandTags k ≡ tagsOf o duration
+tags-taken : (p : Parameters) (o : Operation) (duration : TimeField) (k : Command) → Taken p o duration k → commandTags k ≡ tagsOf o duration
 unfolding commandTags
-tags-taken o duration k t = rw (t .operation, t .lasting)
+tags-taken p o duration k t = rw (t .operation, t .lasting)
 
-again : (r : Request) (k : Command) → Asks r → r ≡ Commands k → taggedRequest document01 (readBody (bodyBytes (commandTags k))) ≡ Commands k
+again : (p : Parameters) (r : Request) (k : Command) → Asks p r → r ≡ ToOutput (Commands k) → taggedRequest p (readBody (bodyBytes (commandTags k))) ≡ ToOutput (Commands k)
 unfolding taggedRequest
-again r k (command o duration brought word) h =
-    let t = taken document01 o duration k h in
-    rw (tags-taken o duration k t, reads-written o duration (exact-operation o brought (t .ranges)) word) h
-again r k (nothing e) h = absurd (false≢true (sym e ∙ ap isCommand h))
+again p r k (command o duration brought word) h =
+    let t = command-taken p o duration k h in
+    rw (tags-taken p o duration k t, reads-written o duration (exact-operation p o brought (t .ranges)) word) h
+again p r k (nothing never) h = let z = never k h in absurd (omega arith)
 
-pub gives-back : (k : Command) → Kept document01 k → taggedRequest document01 (readBody (bodyBytes (commandTags k))) ≡ Commands k
-gives-back k (asked action b o h) = again (requestOf document01 action b) k (asks action b o) h
+pub gives-back : (p : Parameters) (k : Command) → Kept p k → taggedRequest p (readBody (bodyBytes (commandTags k))) ≡ ToOutput (Commands k)
+gives-back p k (asked action b o h) = again p (requestOf p action b) k (asks p action b o) h

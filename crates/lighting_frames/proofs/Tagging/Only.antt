@@ -9,7 +9,7 @@ use native.Mathlib.Nat.{pow-le-pow-right}
 use native.Mathlib.Omega.{arith}
 use lib.Ieee.{Float}
 use lib.ListN.{length, getD}
-use Rattle.lighting_outputs.specs.Paper.Parameters.{document01}
+use Rattle.lighting_outputs.specs.declared.Parameters.{Parameters}
 use Rattle.lighting_levels.specs.Paper.Level.{real, bits}
 use Rattle.lighting_outputs.specs.Paper.Operations.{operationNumber, fieldsOf}
 use Rattle.lighting_frames.specs.Paper.Tags.{OctetRange, oneOctet, realOctets, tagOctets, listed, realTag, wholeTag, tagsOf, commandTags, bodyBytes, mostTagged, holdsAtMost, wellTagged, heldBy, operations, operationOf, timeOf, bothOrNeither, fewest, ownTags, bodyFields, readFields, readBody}
@@ -25,10 +25,11 @@ use Rattle.lighting_outputs.specs.declared.TimeField.the-variants.{Time, NoTime
 use Rattle.lighting_frames.specs.declared.TagField.{TagField}
 use Rattle.lighting_frames.specs.declared.TagField.the-variants.{Holds, Missing}
 use Rattle.lighting_frames.specs.declared.TagFields.{TagFields}
-use Rattle.lighting_outputs.specs.declared.Request.the-variants.{Commands}
+use Rattle.lighting_outputs.specs.declared.Request.the-variants.{ToOutput}
+use Rattle.lighting_outputs.specs.declared.OutputRequest.the-variants.{Commands}
 use Rattle.lighting_levels.proofs.Split.{also-both, by-bool, eq-of, le-of}
 use Rattle.lighting_outputs.proofs.Patterns.{level-field-kept, amount-field-kept}
-use Rattle.lighting_outputs.proofs.Rules.CommandRanges.{none-met, refused-never, taken}
+use Rattle.lighting_outputs.proofs.Rules.CommandRanges.{none-met, refused-never, command-taken}
 use Rattle.lighting_frames.proofs.Tagging.Fields.{Fits, AllFit}
 use Rattle.lighting_frames.proofs.Tagging.Bodies.{well-tagged, fields-fit, only-body}
 
@@ -158,12 +159,12 @@ unfolding holdsAtMost heldBy
 at-most (Holds count value) h = le-of h
 at-most Missing h = omega arith
 
-pub tags-same : (f : TagFields) → AllFit tagOctets (listed f) → holdsAtMost 10 (f .operation) ≡ true → ownTags (tagsOf (operationOf f) (timeOf (f .duration))) f ≡ true
-    → fieldsRefusal document01 (fieldsOf (operationOf f)) ≡ 0 → tagsOf (operationOf f) (timeOf (f .duration)) ≡ f
+pub tags-same : (p : Parameters) (f : TagFields) → AllFit tagOctets (listed f) → holdsAtMost 10 (f .operation) ≡ true → ownTags (tagsOf (operationOf f) (timeOf (f .duration))) f ≡ true
+    → fieldsRefusal p (fieldsOf (operationOf f)) ≡ 0 → tagsOf (operationOf f) (timeOf (f .duration)) ≡ f
 unfolding ownTags tagsOf
-tags-same f fit known own ranges =
+tags-same p f fit known own ranges =
     let o = operation-of f (at-most (f .operation) known) in
-    let n = none-met (fieldsOf (operationOf f)) ranges in
+    let n = none-met p (fieldsOf (operationOf f)) ranges in
     let a = also-both own in
     let b = also-both (a .1) in
     let c = also-both (b .1) in
@@ -183,21 +184,21 @@ tags-same f fit known own ranges =
   where
     same : {a b c d e g : TagField} → a ≡ f .operation → b ≡ f .level → c ≡ f .rate → d ≡ f .step → e ≡ f .fade → g ≡ f .duration
         → record { operation = a; level = b; rate = c; step = d; fade = e; duration = g } ≡ f
-    same p q r s t u = rw (p, q, r, s, t, u)
+    same z′ q r s t u = rw (z′, q, r, s, t, u)
 
 -- WHATEVER 18 BYTES ask for a command are the writer's
-module _ (body : Bytes) (o : Octets body) (eighteen : length body ≡ suc mostTagged) (k : Command) where
-  own-body : wellTagged body ≡ true → taggedRequest document01 (readFields (bodyFields body)) ≡ Commands k → commandTags k ≡ bodyFields body
+module _ (p : Parameters) (body : Bytes) (o : Octets body) (eighteen : length body ≡ suc mostTagged) (k : Command) where
+  own-body : wellTagged body ≡ true → taggedRequest p (readFields (bodyFields body)) ≡ ToOutput (Commands k) → commandTags k ≡ bodyFields body
   unfolding readFields taggedRequest commandTags if_then_else_
   own-body w =
       let f = bodyFields body in
       by-bool (ownTags (tagsOf (operationOf f) (timeOf (f .duration))) f)
       (λ e. rw e (λ h.
-      let t = taken document01 (operationOf f) (timeOf (f .duration)) k h in
-      rw (t .operation, t .lasting) (tags-same f (fields-fit body o) (well-tagged body w .known) e (t .ranges))))
+      let t = command-taken p (operationOf f) (timeOf (f .duration)) k h in
+      rw (t .operation, t .lasting) (tags-same p f (fields-fit body o) (well-tagged body w .known) e (t .ranges))))
       (λ e. rw e (λ h. absurd (refused-never k h)))
 
-  pub only-written : taggedRequest document01 (readBody body) ≡ Commands k → body ≡ bodyBytes (commandTags k)
+  pub only-written : taggedRequest p (readBody body) ≡ ToOutput (Commands k) → body ≡ bodyBytes (commandTags k)
   unfolding readBody taggedRequest if_then_else_
   only-written =
       by-bool (wellTagged body)

@@ -8,7 +8,7 @@ use Prim.Native.Nat.{ℕ, _+_, _≤_}
 use native.Mathlib.Omega.{arith}
 use lib.ListN.{length, drop, take-append-drop}
 use lib.Seq.{drop-drop, drop-length}
-use Rattle.lighting_outputs.specs.Paper.Parameters.{Parameters}
+use Rattle.lighting_outputs.specs.declared.Parameters.{Parameters}
 use Rattle.lighting_levels.specs.Paper.Level.{real}
 use Rattle.lighting_levels.specs.Paper.Field.{byteAt, bigEndian, octets}
 use Rattle.lighting_outputs.specs.Paper.Operations.{fieldsOf}

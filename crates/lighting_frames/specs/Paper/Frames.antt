@@ -1,13 +1,13 @@
 -- 'Frames' and 'When a frame is turned down': a string of bytes, read. Refusals 2 to 5, and the request with refusals 9 to 12, 14 and 15 (but a
 -- read's 9, which `readProperty` of Properties.antt gives). Nothing here looks at a panel but for its number of outputs.
 use mathlib.Core.Path.{_≡_}
-use mathlib.Core.List.{List, [], _∷_}
+use mathlib.Core.List.{List}
 use Prim.Native.Nat.{ℕ, _<_}
 use lib.Dec.{ltb, eqb}
 use lib.Ieee.{Float}
 use lib.ListN.{length, drop}
-use Rattle.lighting_levels.specs.Paper.Choice.{if_then_else_}
-use Rattle.lighting_outputs.specs.Paper.Parameters.{Parameters}
+use Rattle.lighting_levels.specs.Paper.Choice.{if_then_else_, Every}
+use Rattle.lighting_outputs.specs.declared.Parameters.{Parameters}
 use Rattle.lighting_levels.specs.Paper.Level.{real}
 use Rattle.lighting_levels.specs.Paper.Field.{byteAt, bigEndian}
 use Rattle.lighting_outputs.specs.Paper.Properties.{propertyOf, changeOf}
@@ -22,7 +22,8 @@ use Rattle.lighting_frames.specs.declared.Action.the-variants.{WritesLev
 use Rattle.lighting_frames.specs.declared.Kind.{Kind}
 use Rattle.lighting_frames.specs.declared.Kind.the-variants.{NoKind, ClockKind, CallKind}
 use Rattle.lighting_outputs.specs.declared.Request.{Request}
-use Rattle.lighting_outputs.specs.declared.Request.the-variants.{Refuse, Read, Commands}
+use Rattle.lighting_outputs.specs.declared.Request.the-variants.{Refuse, ToOutput}
+use Rattle.lighting_outputs.specs.declared.OutputRequest.the-variants.{Read, Commands}
 use Rattle.lighting_frames.specs.declared.Frame.{Frame}
 use Rattle.lighting_frames.specs.declared.Call.{Call}
 use Rattle.lighting_frames.specs.declared.Frame.the-variants.{Bad, Clock, Calls}
@@ -33,12 +34,10 @@ Bytes = List ℕ
 
 -- a string of bytes, and a list of them: each number is below 256
 abbrev pub Octets : Bytes → Type 0
-Octets [] = Unit {0}
-Octets (x ∷ rest) = (x < 256) × Octets rest
+Octets b = Every (λ (x : ℕ). x < 256) b
 
 abbrev pub Strings : List Bytes → Type 0
-Strings [] = Unit {0}
-Strings (b ∷ rest) = Octets b × Strings rest
+Strings l = Every Octets l
 
 -- and in tags (§1): 14 and 15 come before the ranges. 'A tagged duration of FFFFFFFF meets 12': absent is a missing field there
 unfoldable pub taggedRequest : Parameters → TaggedReading → Request
@@ -56,7 +55,7 @@ unfoldable pub requestOf : Parameters → Action → Bytes → Request
 requestOf p WritesLevel b = writeOf (byteAt b 13) (wordAt b 14)
 requestOf p EmptiesSlot b = emptyOf (byteAt b 13)
 requestOf p WritesProperty b = changeOf p (propertyOf (byteAt b 13)) (wordAt b 14)
-requestOf p ReadsProperty b = Read (propertyOf (byteAt b 13))
+requestOf p ReadsProperty b = ToOutput (Read (propertyOf (byteAt b 13)))
 requestOf p Stops b = commandRequest p Stop (wordAt b 13)
 requestOf p FadesTo b = commandRequest p (FadeTo (realAt b 13)) (wordAt b 17)
 requestOf p FadesToOver b = commandRequest p (FadeToOver (realAt b 13) (wordAt b 17)) (wordAt b 21)
@@ -103,4 +102,4 @@ parse p c b = let row = kindRow (byteAt b 0) in parseBy p c (row .length) (row .
 
 -- 'every command the panel keeps' (§1): one that a string of bytes asks for, as a call of some kind
 pub data Kept (p : Parameters) : Command → Type 0 where
-  asked : {command : Command} (action : Action) (b : Bytes) → Octets b → requestOf p action b ≡ Commands command → Kept p command
+  asked : {command : Command} (action : Action) (b : Bytes) → Octets b → requestOf p action b ≡ ToOutput (Commands command) → Kept p command

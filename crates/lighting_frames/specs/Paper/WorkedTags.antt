@@ -7,12 +7,14 @@ use Rattle.lighting_levels.specs.Paper.Level.{real}
 use Rattle.lighting_levels.specs.Paper.Field.{octets}
 use Rattle.lighting_frames.specs.Paper.Tags.{commandTags, tagBytes, readBody}
 use Rattle.lighting_frames.specs.Paper.Frames.{Bytes, taggedRequest}
+use Rattle.lighting_outputs.specs.Paper.Fresh.{freshOutput}
+use Rattle.lighting_outputs.specs.Paper.Acting.{served}
+use Rattle.lighting_outputs.specs.declared.Answer.{Answer}
+use Rattle.lighting_outputs.specs.declared.Answer.the-variants.{Done, Refused}
 use Rattle.lighting_outputs.specs.declared.Duration.{Duration}
 use Rattle.lighting_outputs.specs.declared.Duration.the-variants.{Lasts, Cancels, Omitted}
 use Rattle.lighting_outputs.specs.declared.Operation.{Operation}
 use Rattle.lighting_outputs.specs.declared.Operation.the-variants.{Stop, FadeTo, FadeToOver, RampTo, RampToAtRate, StepUp, StepDown, StepUpBy, StepDownBy, Goto, Relinquish}
-use Rattle.lighting_outputs.specs.declared.Request.{Request}
-use Rattle.lighting_outputs.specs.declared.Request.the-variants.{Refuse, Write, Empty, Change, Read, Commands}
 
 -- COMMANDS, and the octets of each: the eleven operations, whole numbers at each end of 1, 2, 3 and 4 octets
 abbrev written : Operation → Duration → Bytes
@@ -52,30 +54,22 @@ theirOctets =
     ∷ (0x09 ∷ 0x0a ∷ 0x5c ∷ 0x01 ∷ 0x00 ∷ 0x00 ∷ 0x00 ∷ [])
     ∷ []
 
--- BODIES: L, then the bytes, then zeros; and the refusal, 0 for a command that is taken
+-- BODIES: L, then the bytes, then zeros; and what a fresh output answers
 abbrev pub sized : ℕ → Bytes → Bytes
 sized size tags = size ∷ (tags ++ replicate (17 - length tags) 0)
 
 abbrev pub body : Bytes → Bytes
 body tags = sized (length tags) tags
 
-abbrev refusal : Request → ℕ
-refusal (Refuse r) = r
-refusal (Write slot level) = 0
-refusal (Empty slot) = 0
-refusal (Change property value) = 0
-refusal (Read property) = 0
-refusal (Commands command) = 0
-
-abbrev met : List Bytes → List ℕ
-met bodies = map (λ (b : Bytes). refusal (taggedRequest document01 (readBody b))) bodies
+abbrev met : List Bytes → List Answer
+met bodies = map (λ (b : Bytes). served 0 (freshOutput ∷ []) 0 (taggedRequest document01 (readBody b)) .answer) bodies
 
 abbrev pub half : Bytes
 half = 0x1c ∷ octets 4 0x4248_0000
 
 -- L: 0, 1 and 18; a tag above 5; an application tag; a zero byte inside L; a tag again; a falling one; tag 0 of two octets, a level of three, a fade time of
 -- five; content past L; a byte beyond L; an operation above 10, with what it would need or not
-abbrev pub fourteen : List ℕ
+abbrev pub fourteen : List Answer
 fourteen =
     met (
     sized 0 []
@@ -99,7 +93,7 @@ fourteen =
 
 -- a level missing; the operation missing; a level that is foreign; a fade time that is; a duration, and a fade time, that begin with 00; and 15 comes before
 -- 11: a NaN, and a step that is foreign
-abbrev pub fifteen : List ℕ
+abbrev pub fifteen : List Answer
 fifteen =
     met (
     body (0x09 ∷ 0x01 ∷ [])
@@ -113,7 +107,7 @@ fifteen =
 
 -- then as the plain kind has them: 101 percent, NaN, a rate of 0.1; a level before a fade time; a fade time of 99, a duration of 99, of 86,400,001, of
 -- FFFFFFFF; and those that are taken
-abbrev pub ranges : List ℕ
+abbrev pub ranges : List Answer
 ranges =
     met (
     body (0x09 ∷ 0x01 ∷ 0x1c ∷ octets 4 0x42ca_0000)
@@ -129,8 +123,12 @@ ranges =
     ∷ body (0x09 ∷ 0x02 ∷ half ++ (0x49 ∷ 0x64 ∷ 0x5c ∷ octets 4 86400000))
     ∷ [])
 
-abbrev pub refused : List (List ℕ)
+abbrev pub refused : List (List Answer)
 refused = fourteen ∷ fifteen ∷ ranges ∷ []
 
-abbrev pub refusals : List (List ℕ)
-refusals = replicate 16 14 ∷ replicate 7 15 ∷ (11 ∷ 11 ∷ 11 ∷ 11 ∷ 12 ∷ 12 ∷ 12 ∷ 12 ∷ 0 ∷ 0 ∷ 0 ∷ []) ∷ []
+abbrev pub refusals : List (List Answer)
+refusals =
+    replicate 16 (Refused 14)
+    ∷ replicate 7 (Refused 15)
+    ∷ (replicate 4 (Refused 11) ++ replicate 4 (Refused 12) ++ replicate 3 Done)
+    ∷ []

@@ -22,7 +22,7 @@ use Rattle.lighting_levels.proofs.Rounding.{twiceApart, Nearest, rounds
 -- A REAL OF a / c PERCENT, TAKEN: its units are the whole number nearest to a / c × 65,536, of two the even one
 pub record Rounded (level : Level) (a c : ℕ) : Type 0 where
   pub units : ℕ
-  pub taken : level ≡ Units units
+  pub becomes : level ≡ Units units
   pub nearest : Nearest (a * onePercent) c units
 
 -- m / d, as a REAL has it, is a / c
@@ -37,7 +37,7 @@ module _ (a c m d : ℕ) (C : 0 < c) (D : 0 < d) (same : m * c ≡ a * d) where
   unfolding if_then_else_
   rounded k low high = record {
     units = nearestTo (a * onePercent) c;
-    taken =
+    becomes =
         rw (le-leb (k * d) (m * 8) (from k low), le-leb m (100 * d) (to high))
         (ap Units (nearest-same (m * onePercent) d (a * onePercent) c D C (omega arith)));
     nearest = rounds (a * onePercent) c C;
@@ -90,11 +90,11 @@ module _ (a c : ℕ) (C : 0 < c) (x : Float) (v : HasValue x false a c) where
   -- and so are those that commands use
   pub amounts-used : c ≤ a * 8 → a ≤ 100 * c → Nearest (a * onePercent) c (amountUnits x)
   unfolding amountUnits unitsOr
-  amounts-used low high = let r = amounts low high in rw (r .taken) (r .nearest)
+  amounts-used low high = let r = amounts low high in rw (r .becomes) (r .nearest)
 
   pub levels-used : c ≤ a → a ≤ 100 * c → Nearest (a * onePercent) c (levelUnits x)
   unfolding levelUnits unitsOr
-  levels-used low high = let r = levels low high in rw (r .taken) (r .nearest)
+  levels-used low high = let r = levels low high in rw (r .becomes) (r .nearest)
 
   -- 'above 0 and below 1 it becomes 65,536', at whatever half: half a unit or less does not go to 0
   pub raised-to-one-percent : 0 < a → a < c → levelOf x ≡ Units leastLevel
@@ -122,7 +122,7 @@ module _ (a c : ℕ) (C : 0 < c) (x : Float) (v : HasValue x false a c) where
 -- BY HAND, of all of them: what is nearer than half a unit to n is n, be it even or odd
 module _ (level : Level) (a c : ℕ) (C : 0 < c) (r : Rounded level a c) (n : ℕ) where
   is-nearest : Nearest (a * onePercent) c n → level ≡ Units n
-  is-nearest near = r .taken ∙ ap Units (only (a * onePercent) c (r .units) C (r .nearest) ∙ sym (only (a * onePercent) c n C near))
+  is-nearest near = r .becomes ∙ ap Units (only (a * onePercent) c (r .units) C (r .nearest) ∙ sym (only (a * onePercent) c n C near))
 
   pub less-than-half : twiceApart (a * onePercent) c n < c → level ≡ Units n
   less-than-half less = is-nearest (record { within = omega arith; even = λ half. absurd (omega arith) })

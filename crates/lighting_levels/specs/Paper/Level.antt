@@ -7,8 +7,6 @@ use lib.Ieee.{Float, nan, inf, fin, binary32, up, down, round, ofBits, toBits}
 use Rattle.lighting_levels.specs.Paper.Choice.{if_then_else_, _also_}
 use Rattle.lighting_levels.specs.declared.Level.{Level}
 use Rattle.lighting_levels.specs.declared.Level.the-variants.{Units, OutOfRange}
-use Rattle.lighting_levels.specs.declared.Operand.{Operand}
-use Rattle.lighting_levels.specs.declared.Operand.the-variants.{Taken, Unfit}
 
 -- 'a whole number of 1/65,536 percent': the units of one percent, which is the least level above 0, and of 100 percent, the greatest
 abbrev pub onePercent : ℕ
@@ -104,13 +102,6 @@ amountUnits x = unitsOr leastAmount (amountOf x)
 -- a command's level that is kept as a REAL, in units. No command taken holds one out of range
 unfoldable pub levelUnits : Float → ℕ
 levelUnits x = unitsOr 0 (levelOf x)
-
--- 'Ramp_Rate and Step_Increment are kept as REALs, bit for bit': a REAL by its pattern b, if l is in range
-abbrev pub operandBy : Level → ℕ → Operand
-operandBy l b = if inRange l then Taken (real b) else Unfit
-
-unfoldable pub amountOperand : ℕ → Operand
-amountOperand b = operandBy (amountOf (real b)) b
 
 -- |g - s|
 abbrev pub distance : ℕ → ℕ → ℕ

@@ -1,8 +1,9 @@
--- Every request that a frame brings keeps the record rules.
+-- Every request to an output keeps the record rules.
 use mathlib.Core.Path.{_≡_}
 use mathlib.Core.Bool.{false}
 use Prim.Native.Nat.{ℕ, _≤_}
 use native.Mathlib.Omega.{arith}
+use Rattle.lighting_outputs.specs.Paper.Parameters.{Parameters}
 use Rattle.lighting_levels.specs.Paper.Choice.{if_then_else_}
 use Rattle.lighting_outputs.specs.Paper.Relay.{inactiveNotBelow}
 use Rattle.lighting_outputs.specs.Paper.Properties.{settingsWith, relayWith, changed, minOverMax}
@@ -11,12 +12,12 @@ use Rattle.lighting_outputs.specs.declared.Output.{Output}
 use Rattle.lighting_outputs.specs.declared.Outcome.{Outcome}
 use Rattle.lighting_outputs.specs.declared.Answer.the-variants.{Refused}
 use Rattle.lighting_outputs.specs.declared.Property.{Property}
-use Rattle.lighting_outputs.specs.declared.Request.{Request}
-use Rattle.lighting_outputs.specs.declared.Request.the-variants.{Refuse, Write, Empty, Change, Read, Commands}
+use Rattle.lighting_outputs.specs.declared.OutputRequest.{OutputRequest}
+use Rattle.lighting_outputs.specs.declared.OutputRequest.the-variants.{Write, Empty, Change, Read, Commands}
 use Rattle.lighting_levels.proofs.Split.{by-bool}
 use Rattle.lighting_outputs.proofs.Rules.Facts.{Sound, Judged, Lawful}
 use Rattle.lighting_outputs.proofs.Time.Judged.{afterEvents-judged}
-use Rattle.lighting_outputs.proofs.Rules.RequestInRange.{RequestInRange}
+use Rattle.lighting_outputs.proofs.Rules.RequestInRange.{OutputRequestInRange}
 use Rattle.lighting_outputs.proofs.Acts.Written.{written-sound, slotRelinquished-sound}
 use Rattle.lighting_outputs.proofs.Acts.Changed.{changed-sound}
 use Rattle.lighting_outputs.proofs.Acts.Commanded.{commanded-sound}
@@ -37,25 +38,23 @@ by-change P t o n v refused taken =
     (λ e′. rw e′ (refused 16 (omega arith)))
     (λ e′. rw e′ (taken e e′))))
 
-pub acted-sound : (t : ℕ) (o : Output) (r : Request) → RequestInRange r → Sound t o → Sound t (acted t o r .output)
+pub acted-sound : (p : Parameters) (t : ℕ) (o : Output) (q : OutputRequest) → OutputRequestInRange p q → Sound p t o → Sound p t (acted t o q .output)
 unfolding acted done unchanged
-acted-sound t o (Refuse n) g h = h
-acted-sound t o (Write i v) g h = afterEvents-sound t _ (written-sound t o i v (g .0) (g .1) h)
-acted-sound t o (Empty i) g h = afterEvents-sound t _ (slotRelinquished-sound t o i g h)
-acted-sound t o (Change n v) g h =
-    by-change (λ (z : Outcome). Sound t (z .output)) t o n v (λ r l. h) (λ e e′. afterEvents-sound t _ (changed-sound t o n v g e e′ h))
-acted-sound t o (Read n) g h = h
-acted-sound t o (Commands k) g h = afterEvents-sound t _ (commanded-sound t o k (g .0) (g .1) h)
+acted-sound p t o (Write i v) g h = afterEvents-sound p t _ (written-sound p t o i v (g .0) (g .1) h)
+acted-sound p t o (Empty i) g h = afterEvents-sound p t _ (slotRelinquished-sound p t o i g h)
+acted-sound p t o (Change n v) g h =
+    by-change (λ (z : Outcome). Sound p t (z .output)) t o n v (λ r l. h) (λ e e′. afterEvents-sound p t _ (changed-sound p t o n v g e e′ h))
+acted-sound p t o (Read n) g h = h
+acted-sound p t o (Commands k) g h = afterEvents-sound p t _ (commanded-sound p t o k (g .0) (g .1) h)
 
 -- and leaves the relay judged
-acted-judged : (t : ℕ) (o : Output) (r : Request) → Judged o → Judged (acted t o r .output)
+acted-judged : (t : ℕ) (o : Output) (q : OutputRequest) → Judged o → Judged (acted t o q .output)
 unfolding acted done unchanged
-acted-judged t o (Refuse n) j = j
 acted-judged t o (Write i v) j = afterEvents-judged _
 acted-judged t o (Empty i) j = afterEvents-judged _
 acted-judged t o (Change n v) j = by-change (λ (z : Outcome). Judged (z .output)) t o n v (λ r l. j) (λ e e′. afterEvents-judged _)
 acted-judged t o (Read n) j = j
 acted-judged t o (Commands k) j = afterEvents-judged _
 
-pub acted-lawful : (t : ℕ) (o : Output) (r : Request) → RequestInRange r → Lawful t o → Lawful t (acted t o r .output)
-acted-lawful t o r g h = record { sound = acted-sound t o r g (h .sound); judged = acted-judged t o r (h .judged) }
+pub acted-lawful : (p : Parameters) (t : ℕ) (o : Output) (q : OutputRequest) → OutputRequestInRange p q → Lawful p t o → Lawful p t (acted t o q .output)
+acted-lawful p t o q g h = record { sound = acted-sound p t o q g (h .sound); judged = acted-judged t o q (h .judged) }

@@ -18,12 +18,11 @@ use Rattle.lighting_outputs.specs.declared.TimeField.the-variants.{Time,
 use Rattle.lighting_outputs.specs.declared.Property.{Property}
 use Rattle.lighting_outputs.specs.declared.Property.the-variants.{RelinquishDefault, FadeTime, RampRate, StepIncrement, BlinkEnable, BlinkTime, BlinkWarnDelay, MinValue, MaxValue, CommandPriority, ElapsedActiveTime, PresentValue, ProgressValue, InProcess, LastOperation, LastLevel, LastRate, LastStep, LastFadeTime, LastDuration, BinaryActiveValue, BinaryInactiveValue, Polarity, BinaryPresentValue, RelayState, SlotValue, Unknown}
 use Rattle.lighting_outputs.specs.declared.Answer.{Answer}
-use Rattle.lighting_outputs.specs.declared.Request.{Request}
-use Rattle.lighting_outputs.specs.declared.Request.the-variants.{Refuse, Write, Empty, Change, Read, Commands}
+use Rattle.lighting_outputs.specs.declared.OutputRequest.{OutputRequest}
+use Rattle.lighting_outputs.specs.declared.OutputRequest.the-variants.{Write, Empty, Change, Read, Commands}
 use Rattle.lighting_outputs.specs.declared.Output.{Output}
 use Rattle.lighting_outputs.specs.declared.Outcome.{Outcome}
 use Rattle.lighting_levels.proofs.Split.{by-bool}
-use Rattle.lighting_outputs.proofs.Rules.RequestInRange.{RequestInRange}
 use Rattle.lighting_outputs.proofs.Acts.Acted.{by-change}
 
 -- an answer that is not refusal 1
@@ -83,12 +82,11 @@ readProperty-not-one t o RelayState = not-one (readProperty t o RelayState) refl
 readProperty-not-one t o (SlotValue i) = not-one (readProperty t o (SlotValue i)) (slot-none (o .slots) i)
 readProperty-not-one t o Unknown = record { other = omega arith }
 
-pub acted-not-one : (t : ℕ) (o : Output) (r : Request) → RequestInRange r → NotOne (acted t o r .answer)
+pub acted-not-one : (t : ℕ) (o : Output) (q : OutputRequest) → NotOne (acted t o q .answer)
 unfolding acted done unchanged
-acted-not-one t o (Refuse n) g = record { other = omega arith }
-acted-not-one t o (Write i v) g = record { other = omega arith }
-acted-not-one t o (Empty i) g = record { other = omega arith }
-acted-not-one t o (Change n v) g =
+acted-not-one t o (Write i v) = record { other = omega arith }
+acted-not-one t o (Empty i) = record { other = omega arith }
+acted-not-one t o (Change n v) =
     by-change (λ (z : Outcome). NotOne (z .answer)) t o n v (λ r h. record { other = omega arith }) (λ e e′. record { other = omega arith })
-acted-not-one t o (Read n) g = readProperty-not-one t o n
-acted-not-one t o (Commands k) g = record { other = omega arith }
+acted-not-one t o (Read n) = readProperty-not-one t o n
+acted-not-one t o (Commands k) = record { other = omega arith }

@@ -7,7 +7,7 @@ use native.Mathlib.Omega.{arith}
 use lib.Ieee.{Float}
 use lib.ListN.{length}
 use Rattle.lighting_levels.specs.Paper.Choice.{if_then_else_}
-use Rattle.lighting_outputs.specs.Paper.Parameters.{document01}
+use Rattle.lighting_outputs.specs.Paper.Parameters.{Parameters}
 use Rattle.lighting_levels.specs.Paper.Level.{real}
 use Rattle.lighting_outputs.specs.Paper.Slots.{slotCount, Slots, winningLevel}
 use Rattle.lighting_outputs.specs.Paper.Value.{presentValue}
@@ -29,58 +29,58 @@ use Rattle.lighting_outputs.proofs.Rules.Facts.{Slot, Meets, SettingsIn
 use Rattle.lighting_outputs.proofs.Rules.Rows.{same-row, kept-met}
 
 -- a REAL, and a slot in its byte
-real-kept : (field n : Property) (v : ℕ) (old : Float) → rowOf document01 field ≡ Amount → Meets (rowOf document01 n) v → isAmount old ≡ true
+real-kept : (p : Parameters) (field n : Property) (v : ℕ) (old : Float) → rowOf p field ≡ Amount → Meets (rowOf p n) v → isAmount old ≡ true
     → isAmount (if same field n then real v else old) ≡ true
 unfolding if_then_else_
-real-kept field n v old r g h = by-bool (same field n) (λ e. rw e (rw (sym (same-row field n e) ∙ r) at g)) (λ e. rw e h)
+real-kept p field n v old r g h = by-bool (same field n) (λ e. rw e (rw (sym (same-row p field n e) ∙ r) at g)) (λ e. rw e h)
 
-slot-kept : (n : Property) (v old : ℕ) → Meets (rowOf document01 n) v → Slot old → Slot (if same CommandPriority n then v % 256 else old)
+slot-kept : (p : Parameters) (n : Property) (v old : ℕ) → Meets (rowOf p n) v → Slot old → Slot (if same CommandPriority n then v % 256 else old)
 unfolding if_then_else_
-slot-kept n v old g h =
+slot-kept p n v old g h =
     by-bool
     (same CommandPriority n)
-    (λ e. let k : Slot v = rw (sym (same-row CommandPriority n e)) at g in rw (e, mod-eq-of-lt {n = v} {m = 256} (omega arith)) k)
+    (λ e. let k : Slot v = rw (sym (same-row p CommandPriority n e)) at g in rw (e, mod-eq-of-lt {n = v} {m = 256} (omega arith)) k)
     (λ e. rw e h)
 
-relay-kept : (r : Relay) (n : Property) (v : ℕ) → Meets (rowOf document01 n) v → inactiveNotBelow (relayWith r n v) ≡ false → RelayInRange r
-    → RelayInRange (relayWith r n v)
+relay-kept : (p : Parameters) (r : Relay) (n : Property) (v : ℕ) → Meets (rowOf p n) v → inactiveNotBelow (relayWith r n v) ≡ false → RelayInRange p r
+    → RelayInRange p (relayWith r n v)
 unfolding relayWith inactiveNotBelow
-relay-kept r n v g p h =
+relay-kept p r n v g z h =
     record {
-      active = kept-met BinaryActiveValue n v (r .active) g (h .active);
-      inactive = kept-met BinaryInactiveValue n v (r .inactive) g (h .inactive);
-      order = not-le p;
+      active = kept-met p BinaryActiveValue n v (r .active) g (h .active);
+      inactive = kept-met p BinaryInactiveValue n v (r .inactive) g (h .inactive);
+      order = not-le z;
     }
 
-settings-kept : (c : Settings) (n : Property) (v : ℕ) → Meets (rowOf document01 n) v → minOverMax (settingsWith c n v) ≡ false → SettingsInRange c
-    → SettingsInRange (settingsWith c n v)
+settings-kept : (p : Parameters) (c : Settings) (n : Property) (v : ℕ) → Meets (rowOf p n) v → minOverMax (settingsWith c n v) ≡ false → SettingsInRange p c
+    → SettingsInRange p (settingsWith c n v)
 unfolding settingsWith minOverMax meetsReal
-settings-kept c n v g p h =
+settings-kept p c n v g z h =
     record {
-      default = kept-met RelinquishDefault n v (c .default) g (h .default);
-      min = kept-met MinValue n v (c .min) g (h .min);
-      max = kept-met MaxValue n v (c .max) g (h .max);
-      order = not-lt p;
-      fade = kept-met FadeTime n v (c .fade) g (h .fade);
-      blink = kept-met BlinkTime n v (c .blink) g (h .blink);
-      delay = kept-met BlinkWarnDelay n v (c .delay) g (h .delay);
-      ramp = real-kept RampRate n v (c .ramp) refl g (h .ramp);
-      step = real-kept StepIncrement n v (c .step) refl g (h .step);
-      slot = slot-kept n v (c .slot) g (h .slot);
+      default = kept-met p RelinquishDefault n v (c .default) g (h .default);
+      min = kept-met p MinValue n v (c .min) g (h .min);
+      max = kept-met p MaxValue n v (c .max) g (h .max);
+      order = not-lt z;
+      fade = kept-met p FadeTime n v (c .fade) g (h .fade);
+      blink = kept-met p BlinkTime n v (c .blink) g (h .blink);
+      delay = kept-met p BlinkWarnDelay n v (c .delay) g (h .delay);
+      ramp = real-kept p RampRate n v (c .ramp) refl g (h .ramp);
+      step = real-kept p StepIncrement n v (c .step) refl g (h .step);
+      slot = slot-kept p n v (c .slot) g (h .slot);
     }
 
-endMovement-acts : (t : ℕ) (c c′ : Settings) (s : Slots) (a : Activity) → Acts t c s a → Acts t c′ s (endMovement a)
+endMovement-acts : (p : Parameters) (t : ℕ) (c c′ : Settings) (s : Slots) (a : Activity) → Acts p t c s a → Acts p t c′ s (endMovement a)
 unfolding endMovement
-endMovement-acts t c c′ s Still h = h
-endMovement-acts t c c′ s (Moving m) h = h .six
-endMovement-acts t c c′ s (Warned w) h = search
+endMovement-acts p t c c′ s Still h = h
+endMovement-acts p t c c′ s (Moving m) h = h .six
+endMovement-acts p t c c′ s (Warned w) h = search
 
 -- of the settings a movement looks at Min and Max alone: its owner is live, so Relinquish_Default is not shown
-same-acts : (t : ℕ) (c c′ : Settings) (s : Slots) (a : Activity) → length (s .levels) ≡ slotCount → c′ .min ≡ c .min → c′ .max ≡ c .max
-    → Acts t c s a → Acts t c′ s a
+same-acts : (p : Parameters) (t : ℕ) (c c′ : Settings) (s : Slots) (a : Activity) → length (s .levels) ≡ slotCount → c′ .min ≡ c .min → c′ .max ≡ c .max
+    → Acts p t c s a → Acts p t c′ s a
 unfolding presentValue
-same-acts t c c′ s Still l p q h = h
-same-acts t c c′ s (Moving m) l p q h =
+same-acts p t c c′ s Still l z q h = h
+same-acts p t c c′ s (Moving m) l z q h =
     let e = winningLevel-live s l (c′ .default) (c .default) (omega (arith, h .wins, h .owner)) in
     record {
       six = h .six;
@@ -94,35 +94,35 @@ same-acts t c c′ s (Moving m) l p q h =
     }
   where
     same : winningLevel (c′ .default) s ≡ winningLevel (c .default) s → presentValue c s ≡ presentValue c′ s
-    same e = unfold Rattle.lighting_outputs.specs.Paper.Value.clampLit in rw (p, q, e)
-same-acts t c c′ s (Warned w) l p q h = h
+    same e = unfold Rattle.lighting_outputs.specs.Paper.Value.clampLit in rw (z, q, e)
+same-acts p t c c′ s (Warned w) l z q h = h
 
 -- Min and Max change in a write of their own, which ends a movement
-acts-kept : (t : ℕ) (c : Settings) (s : Slots) (a : Activity) (n : Property) (v : ℕ) → length (s .levels) ≡ slotCount → Acts t c s a
-    → Acts t (settingsWith c n v) s (activityWith a n)
+acts-kept : (p : Parameters) (t : ℕ) (c : Settings) (s : Slots) (a : Activity) (n : Property) (v : ℕ) → length (s .levels) ≡ slotCount → Acts p t c s a
+    → Acts p t (settingsWith c n v) s (activityWith a n)
 unfolding activityWith if_then_else_
-acts-kept t c s a n v l h =
+acts-kept p t c s a n v l h =
     by-bool
     (same MinValue n)
-    (λ e. rw e (endMovement-acts t c (settingsWith c n v) s a h))
+    (λ e. rw e (endMovement-acts p t c (settingsWith c n v) s a h))
     (λ e. by-bool
     (same MaxValue n)
-    (λ e′. rw (e, e′) (endMovement-acts t c (settingsWith c n v) s a h))
-    (λ e′. rw (e, e′) (same-acts t c (settingsWith c n v) s a l (unfold settingsWith in rw e) (unfold settingsWith in rw e′) h)))
+    (λ e′. rw (e, e′) (endMovement-acts p t c (settingsWith c n v) s a h))
+    (λ e′. rw (e, e′) (same-acts p t c (settingsWith c n v) s a l (unfold settingsWith in rw e) (unfold settingsWith in rw e′) h)))
 
 burning-le : (b : ℕ) (n : Property) → burningWith b n ≤ b
 unfolding burningWith if_then_else_
 burning-le b n = by-bool (same ElapsedActiveTime n) (λ e. rw e (omega arith)) (λ e. rw e (omega arith))
 
-pub changed-sound : (t : ℕ) (o : Output) (n : Property) (v : ℕ) → Meets (rowOf document01 n) v → minOverMax (settingsWith (o .settings) n v) ≡ false
-    → inactiveNotBelow (relayWith (o .relay) n v) ≡ false → Sound t o → Sound t (changed o n v)
+pub changed-sound : (p : Parameters) (t : ℕ) (o : Output) (n : Property) (v : ℕ) → Meets (rowOf p n) v → minOverMax (settingsWith (o .settings) n v) ≡ false
+    → inactiveNotBelow (relayWith (o .relay) n v) ≡ false → Sound p t o → Sound p t (changed o n v)
 unfolding changed withSettings
-changed-sound t o n v g p q h =
+changed-sound p t o n v g z q h =
     record {
-      settings = settings-kept (o .settings) n v g p (h .settings);
+      settings = settings-kept p (o .settings) n v g z (h .settings);
       slots = h .slots;
-      activity = acts-kept t (o .settings) (o .slots) (o .activity) n v (h .slots .size) (h .activity);
+      activity = acts-kept p t (o .settings) (o .slots) (o .activity) n v (h .slots .size) (h .activity);
       timer = h .timer;
       burnt = omega (arith, burning-le (o .burning) n, h .burnt);
-      relay = relay-kept (o .relay) n v g q (h .relay);
+      relay = relay-kept p (o .relay) n v g q (h .relay);
     }

@@ -6,7 +6,7 @@ use mathlib.Core.Option.{Option, none, some}
 use Prim.Native.Nat.{ℕ, _≤_, _<_, min, max}
 use native.Mathlib.Omega.{arith}
 use lib.Ieee.{Float}
-use Rattle.lighting_outputs.specs.Paper.Parameters.{document01}
+use Rattle.lighting_outputs.specs.Paper.Parameters.{Parameters, longestMovement}
 use Rattle.lighting_levels.specs.Paper.Choice.{if_then_else_}
 use Rattle.lighting_levels.specs.Paper.Level.{levelUnits, amountUnits, distance}
 use Rattle.lighting_outputs.specs.Paper.Slots.{slot6, Slots, isLive, winner, put, filled}
@@ -39,9 +39,9 @@ use Rattle.lighting_outputs.proofs.Acts.Written.{moving-over}
 use Rattle.lighting_outputs.proofs.Rules.RequestInRange.{DurationInRange, OperationInRange}
 
 -- slots and activity, together
-record Staged (t : ℕ) (c : Settings) (r : Effect) : Type 0 where
+record Staged (p : Parameters) (t : ℕ) (c : Settings) (r : Effect) : Type 0 where
   slots : Filled (r .slots)
-  activity : Acts t c (r .slots) (r .activity)
+  activity : Acts p t c (r .slots) (r .activity)
 
 -- THE WARNING'S END: after it slot 6 is empty
 abbrev Calm : Activity → Type 0
@@ -55,39 +55,39 @@ withoutWarning-calm Still = tt
 withoutWarning-calm (Moving m) = tt
 withoutWarning-calm (Warned w) = tt
 
-six-empty : (t : ℕ) (c : Settings) (s : Slots) (a : Activity) → Calm a → Acts t c s a → isLive s slot6 ≡ false
-six-empty t c s Still q h = h
-six-empty t c s (Moving m) q h = h .six
-six-empty t c s (Warned w) q h = elim q [ ]
+six-empty : (p : Parameters) (t : ℕ) (c : Settings) (s : Slots) (a : Activity) → Calm a → Acts p t c s a → isLive s slot6 ≡ false
+six-empty p t c s Still q h = h
+six-empty p t c s (Moving m) q h = h .six
+six-empty p t c s (Warned w) q h = elim q [ ]
 
-withoutWarning-staged : (t : ℕ) (c : Settings) (s : Slots) (a : Activity) → Filled s → Acts t c s a
-    → Staged t c (record { slots = withoutWarning s a; activity = activityWithoutWarning a })
+withoutWarning-staged : (p : Parameters) (t : ℕ) (c : Settings) (s : Slots) (a : Activity) → Filled s → Acts p t c s a
+    → Staged p t c (record { slots = withoutWarning s a; activity = activityWithoutWarning a })
 unfolding withoutWarning activityWithoutWarning
-withoutWarning-staged t c s Still f h = record { slots = f; activity = h }
-withoutWarning-staged t c s (Moving m) f h = record { slots = f; activity = h }
-withoutWarning-staged t c s (Warned w) f h =
+withoutWarning-staged p t c s Still f h = record { slots = f; activity = h }
+withoutWarning-staged p t c s (Moving m) f h = record { slots = f; activity = h }
+withoutWarning-staged p t c s (Warned w) f h =
     record { slots = put-filled s slot6 none f (omega arith) tt; activity = six-set s (f .size) none }
 
 -- A TARGET PUT IN SLOT p, at t, with settings c, slots s and activity a
-module _ (t : ℕ) (c : Settings) (k : SettingsInRange c) (s : Slots) (f : Filled s) (a : Activity) (q : Calm a) (h : Acts t c s a) where
+module _ (p : Parameters) (t : ℕ) (c : Settings) (k : SettingsInRange p c) (s : Slots) (f : Filled s) (a : Activity) (q : Calm a) (h : Acts p t c s a) where
   -- slot 6 stays empty
   six : (x : Option ℕ) → isLive (put s (c .slot) x) slot6 ≡ false
-  six x = six-kept s (f .size) (c .slot) x (k .slot .inside) (k .slot .free) ∙ six-empty t c s a q h
+  six x = six-kept s (f .size) (c .slot) x (k .slot .inside) (k .slot .free) ∙ six-empty p t c s a q h
 
   -- an activity goes on when a slot is filled that does not win
-  outdone-acts : (g : ℕ) (b : Activity) → Calm b → Acts t c s b → winner (filled s (c .slot) g) ≢ c .slot → Acts t c (filled s (c .slot) g) b
+  outdone-acts : (g : ℕ) (b : Activity) → Calm b → Acts p t c s b → winner (filled s (c .slot) g) ≢ c .slot → Acts p t c (filled s (c .slot) g) b
   outdone-acts g Still r b n = six (some g)
   outdone-acts g (Moving m) r b n =
       by-le
       (c .slot)
       (winner s)
       (λ l e. absurd (n (winner-filled s (f .size) (c .slot) g (k .slot .inside) l)))
-      (λ l e. moving-over t c s (f .size) (c .slot) (k .slot) (some g) m l b)
+      (λ l e. moving-over p t c s (f .size) (c .slot) (k .slot) (some g) m l b)
   outdone-acts g (Warned w) r b n = elim r [ ]
 
   -- if it wins, the new activity has to fit the new slots
-  placed-staged : (g : ℕ) (new : Activity) → IsLevel g → (winner (filled s (c .slot) g) ≡ c .slot → Acts t c (filled s (c .slot) g) new)
-      → Staged t c (placed s a (c .slot) g new)
+  placed-staged : (g : ℕ) (new : Activity) → IsLevel g → (winner (filled s (c .slot) g) ≡ c .slot → Acts p t c (filled s (c .slot) g) new)
+      → Staged p t c (placed s a (c .slot) g new)
   unfolding placed replaced if_then_else_
   placed-staged g new l fit =
       record {
@@ -96,17 +96,17 @@ module _ (t : ℕ) (c : Settings) (k : SettingsInRange c) (s : Slots) (f : Fille
             by-eq
             (winner (filled s (c .slot) g))
             (c .slot)
-            (λ p e. rw e (fit p))
-            (λ p e. rw e (outdone-acts g a q h p));
+            (λ y e. rw e (fit y))
+            (λ y e. rw e (outdone-acts g a q h y));
       }
 
-  jumped-staged : (g : ℕ) → IsLevel g → Staged t c (jumped c s a g)
+  jumped-staged : (g : ℕ) → IsLevel g → Staged p t c (jumped c s a g)
   unfolding jumped
-  jumped-staged g l = placed-staged g Still l (λ p. six (some g))
+  jumped-staged g l = placed-staged g Still l (λ y. six (some g))
 
   -- a movement from b to a target that Min..Max leave as it is
-  moved-staged : (b g l : ℕ) (pace : Pace) → b ≤ c .max → IsLevel g → clampLit c g ≡ g → (b ≢ g → Within 1 (document01 .longestMovement) l)
-      → Staged t c (placed s a (c .slot) g (movement t (c .slot) b g l pace))
+  moved-staged : (b g l : ℕ) (pace : Pace) → b ≤ c .max → IsLevel g → clampLit c g ≡ g → (b ≢ g → Within 1 (longestMovement p) l)
+      → Staged p t c (placed s a (c .slot) g (movement t (c .slot) b g l pace))
   unfolding movement presentValue if_then_else_
   moved-staged b g l pace m v same long =
       placed-staged
@@ -116,8 +116,8 @@ module _ (t : ℕ) (c : Settings) (k : SettingsInRange c) (s : Slots) (f : Fille
       (λ w. by-eq
       b
       g
-      (λ p e. rw e (six (some g)))
-      (λ p e. let z = long p in
+      (λ y e. rw e (six (some g)))
+      (λ y e. let z = long y in
       rw
       e
       (record {
@@ -131,44 +131,44 @@ module _ (t : ℕ) (c : Settings) (k : SettingsInRange c) (s : Slots) (f : Fille
         later = omega (arith, z .least);
       })))
 
-  stopped-staged : (b : ℕ) → b ≤ c .max → Staged t c (stopped c b s a)
+  stopped-staged : (b : ℕ) → b ≤ c .max → Staged p t c (stopped c b s a)
   unfolding stopped halted if_then_else_
   stopped-staged b m = go a h
     where
       raised-level : IsLevel (raised c b)
       raised-level = unfold raised in
-          (by-eq b 0 (λ p e. rw e level-zero)
-          (λ p e. rw e (record { least = omega (arith, k .min); most = omega (arith, k .order, k .max) })))
+          (by-eq b 0 (λ y e. rw e level-zero)
+          (λ y e. rw e (record { least = omega (arith, k .min); most = omega (arith, k .order, k .max) })))
 
-      go : (a : Activity) → Acts t c s a → Staged t c (stopped c b s a)
+      go : (a : Activity) → Acts p t c s a → Staged p t c (stopped c b s a)
       go Still h = record { slots = f; activity = h }
       go (Moving m) h =
           by-eq
           (m .owner)
           (c .slot)
-          (λ p e. rw e
+          (λ y e. rw e
           (record {
             slots = put-filled s (c .slot) (some (raised c b)) f (k .slot .inside) raised-level;
             activity = six (some (raised c b));
           }))
-          (λ p e. rw e (record { slots = f; activity = h }))
+          (λ y e. rw e (record { slots = f; activity = h }))
       go (Warned w) h = record { slots = f; activity = h }
 
-  relinquished-staged : Staged t c (relinquished c s a)
+  relinquished-staged : Staged p t c (relinquished c s a)
   unfolding relinquished
   relinquished-staged =
       record {
         slots = put-filled s (c .slot) none f (k .slot .inside) tt;
-        activity = endMovementOf-acts t c s (c .slot) a (k .slot) f h;
+        activity = endMovementOf-acts p t c s (c .slot) a (k .slot) f h;
       }
 
   target-level : (x : Float) → IsLevel (target c x)
   unfolding target
-  target-level x = clampLit-level c (levelUnits x) k
+  target-level x = clampLit-level p c (levelUnits x) k
 
   target-same : (x : Float) → clampLit c (target c x) ≡ target c x
   unfolding target
-  target-same x = clampLit-clampLit c (levelUnits x) k
+  target-same x = clampLit-clampLit p c (levelUnits x) k
 
   target-most : (x : Float) → target c x ≤ c .max
   unfolding target
@@ -176,38 +176,38 @@ module _ (t : ℕ) (c : Settings) (k : SettingsInRange c) (s : Slots) (f : Fille
 
   up-level : (b x : ℕ) → 0 < x → IsLevel (stepUpFrom c b x)
   unfolding stepUpFrom
-  up-level b x p = record { least = omega (arith, k .min, k .order); most = omega (arith, k .max) }
+  up-level b x y = record { least = omega (arith, k .min, k .order); most = omega (arith, k .max) }
 
   down-level : (b x : ℕ) → IsLevel (stepDownFrom c b x)
   unfolding stepDownFrom if_then_else_
   down-level b x =
-      by-eq b 0 (λ p e. rw e level-zero)
-      (λ p e. rw e (record { least = omega (arith, k .min, k .order); most = omega (arith, k .max) }))
+      by-eq b 0 (λ y e. rw e level-zero)
+      (λ y e. rw e (record { least = omega (arith, k .min, k .order); most = omega (arith, k .max) }))
 
-  faded-staged : (b l : ℕ) (x : Float) → b ≤ c .max → Meets (rowOf document01 FadeTime) l → Staged t c (fadedTo t c b s a x l)
+  faded-staged : (b l : ℕ) (x : Float) → b ≤ c .max → Meets (rowOf p FadeTime) l → Staged p t c (fadedTo t c b s a x l)
   unfolding fadedTo fadedOver
   faded-staged b l x m w =
-      moved-staged b (target c x) l Fade m (target-level x) (target-same x) (λ n. record { least = omega (arith, w .least); most = w .most })
+      moved-staged b (target c x) l Fade m (target-level x) (target-same x) (λ n. record { least = omega (arith, w .least); most = omega (arith, w .most) })
 
-  ramped-staged : (b : ℕ) (x r : Float) → b ≤ c .max → Staged t c (rampedTo t c b s a x r)
+  ramped-staged : (b : ℕ) (x r : Float) → b ≤ c .max → Staged p t c (rampedTo t c b s a x r)
   unfolding rampedTo rampedAt
   ramped-staged b x r m =
       moved-staged b (target c x) (rampLength (distance b (target c x)) (amountUnits r)) (Ramp (amountUnits r)) m (target-level x) (target-same x) span
     where
-      span : b ≢ target c x → Within 1 (document01 .longestMovement) (rampLength (distance b (target c x)) (amountUnits r))
+      span : b ≢ target c x → Within 1 (longestMovement p) (rampLength (distance b (target c x)) (amountUnits r))
       span n =
-          let z = ramp-span (distance b (target c x)) (amountUnits r) (omega arith) (omega (arith, target-most x, k .max)) (amount-range r .0) in
+          let z = ramp-span p (distance b (target c x)) (amountUnits r) (omega arith) (omega (arith, target-most x, k .max)) (amount-range r .0) in
           record { least = z .0; most = z .1 }
 
-  up-staged : (b : ℕ) (x : Float) → Staged t c (steppedUp c b s a x)
+  up-staged : (b : ℕ) (x : Float) → Staged p t c (steppedUp c b s a x)
   unfolding steppedUp
   up-staged b x = jumped-staged (stepUpFrom c b (amountUnits x)) (up-level b (amountUnits x) (omega (arith, amount-range x)))
 
-  down-staged : (b : ℕ) (x : Float) → Staged t c (steppedDown c b s a x)
+  down-staged : (b : ℕ) (x : Float) → Staged p t c (steppedDown c b s a x)
   unfolding steppedDown
   down-staged b x = jumped-staged (stepDownFrom c b (amountUnits x)) (down-level b (amountUnits x))
 
-  effect-staged : (b : ℕ) (o : Operation) → b ≤ c .max → OperationInRange o → Staged t c (effect t c b s a o)
+  effect-staged : (b : ℕ) (o : Operation) → b ≤ c .max → OperationInRange p o → Staged p t c (effect t c b s a o)
   unfolding effect wentTo
   effect-staged b Stop m g = stopped-staged b m
   effect-staged b (FadeTo x) m g = faded-staged b (c .fade) x m (k .fade)
@@ -222,18 +222,18 @@ module _ (t : ℕ) (c : Settings) (k : SettingsInRange c) (s : Slots) (f : Fille
   effect-staged b Relinquish m g = relinquished-staged
 
 -- THE DURATION
-timed-kept : (t p : ℕ) (m : Timer) (d : Duration) → Slot p → DurationInRange d → Timed t m → Timed t (timed t p m d)
+timed-kept : (p : Parameters) (t y : ℕ) (m : Timer) (d : Duration) → Slot y → DurationInRange p d → Timed t m → Timed t (timed t y m d)
 unfolding timed
-timed-kept t p m (Lasts d) k g h = (k, omega (arith, g .least))
-timed-kept t p m Cancels k g h = tt
-timed-kept t p m Omitted k g h = h
+timed-kept p t y m (Lasts d) k g h = (k, omega (arith, g .least))
+timed-kept p t y m Cancels k g h = tt
+timed-kept p t y m Omitted k g h = h
 
-pub commanded-sound : (t : ℕ) (o : Output) (k : Command) → OperationInRange (k .operation) → DurationInRange (k .duration) → Sound t o → Sound t (commanded t o k)
+pub commanded-sound : (p : Parameters) (t : ℕ) (o : Output) (k : Command) → OperationInRange p (k .operation) → DurationInRange p (k .duration) → Sound p t o → Sound p t (commanded t o k)
 unfolding commanded commandedFrom withCommand
-commanded-sound t o k g d h =
-    let u = withoutWarning-staged t (o .settings) (o .slots) (o .activity) (h .slots) (h .activity) in
+commanded-sound p t o k g d h =
+    let u = withoutWarning-staged p t (o .settings) (o .slots) (o .activity) (h .slots) (h .activity) in
     let r =
-    effect-staged
+    effect-staged p
     t
     (o .settings)
     (h .settings)
@@ -244,13 +244,13 @@ commanded-sound t o k g d h =
     (u .activity)
     (progressValue t o)
     (k .operation)
-    (progress-most t o (h .activity))
+    (progress-most p t o (h .activity))
     g in
     record {
       settings = h .settings;
       slots = r .slots;
       activity = r .activity;
-      timer = timed-kept t (o .settings .slot) (o .timer) (k .duration) (h .settings .slot) d (h .timer);
+      timer = timed-kept p t (o .settings .slot) (o .timer) (k .duration) (h .settings .slot) d (h .timer);
       burnt = h .burnt;
       relay = h .relay;
     }

@@ -6,6 +6,7 @@ use mathlib.Core.Option.{Option, none, some}
 use Prim.Native.Nat.{ℕ, _<_}
 use native.Mathlib.Omega.{arith}
 use lib.ListN.{length}
+use Rattle.lighting_outputs.specs.Paper.Parameters.{Parameters}
 use Rattle.lighting_levels.specs.Paper.Choice.{if_then_else_}
 use Rattle.lighting_outputs.specs.Paper.Slots.{slotCount, slot6, slot, isLive, put, emptied}
 use Rattle.lighting_outputs.specs.Paper.Record.{withEffect}
@@ -35,38 +36,38 @@ put-leaves o i x z k n =
     record {
       six = slot-other s q i slot6 x k n ∙ slot-same (o .slots) z slot6 none (omega arith);
       own = slot-same s q i x k;
-      rest = λ j p r. slot-other s q i j x k (λ e. r (sym e)) ∙ slot-other (o .slots) z slot6 j none (omega arith) (λ e. p (sym e));
+      rest = λ j y r. slot-other s q i j x k (λ e. r (sym e)) ∙ slot-other (o .slots) z slot6 j none (omega arith) (λ e. y (sym e));
       activity = refl;
     }
 
 -- 'During a warning'
-warned-by : (t : ℕ) (o : Output) (i v : ℕ) (a : Activity) → Acts t (o .settings) (o .slots) a → isLive (o .slots) slot6 ≡ true
+warned-by : (p : Parameters) (t : ℕ) (o : Output) (i v : ℕ) (a : Activity) → Acts p t (o .settings) (o .slots) a → isLive (o .slots) slot6 ≡ true
     → writtenBy t o i v a ≡ writtenWarned o i v
 unfolding writtenBy
-warned-by t o i v Still h e = absurd (false≢true (sym h ∙ e))
-warned-by t o i v (Moving m) h e = absurd (false≢true (sym (h .six) ∙ e))
-warned-by t o i v (Warned w) h e = refl
+warned-by p t o i v Still h e = absurd (false≢true (sym h ∙ e))
+warned-by p t o i v (Moving m) h e = absurd (false≢true (sym (h .six) ∙ e))
+warned-by p t o i v (Warned w) h e = refl
 
-module _ (t : ℕ) (o : Output) (h : Sound t o) (runs : isLive (o .slots) slot6 ≡ true) (i : ℕ) (k : Slot i) where
+module _ (p : Parameters) (t : ℕ) (o : Output) (h : Sound p t o) (runs : isLive (o .slots) slot6 ≡ true) (i : ℕ) (k : Slot i) where
   -- 'kind 02 of zero at P above 6 empties slots 6 and P'
   pub zero-above : slot6 < i → Leaves o (written t o i 0) i none none Still
   unfolding written writtenWarned endedEmpty if_then_else_
   zero-above l =
-      rw (warned-by t o i 0 (o .activity) (h .activity) runs, leb-yes {a = 6} {b = i} l)
+      rw (warned-by p t o i 0 (o .activity) (h .activity) runs, leb-yes {a = 6} {b = i} l)
       (put-leaves o i none (h .slots .size) (k .inside) (k .free))
 
   -- 'of zero at P below 6 it empties slot 6 and stores'
   pub zero-below : i < slot6 → Leaves o (written t o i 0) i none (some 0) Still
   unfolding written writtenWarned endedStored if_then_else_
   zero-below l =
-      rw (warned-by t o i 0 (o .activity) (h .activity) runs, leb-no {a = 6} {b = i} (omega arith))
+      rw (warned-by p t o i 0 (o .activity) (h .activity) runs, leb-no {a = 6} {b = i} (omega arith))
       (put-leaves o i (some 0) (h .slots .size) (k .inside) (k .free))
 
   -- 'of non-zero it empties slot 6 and stores'
   pub non-zero : (v : ℕ) → v ≢ 0 → Leaves o (written t o i v) i none (some v) Still
   unfolding written writtenWarned endedStored if_then_else_
   non-zero v n =
-      rw (warned-by t o i v (o .activity) (h .activity) runs, eqb-miss {a = v} {b = 0} n)
+      rw (warned-by p t o i v (o .activity) (h .activity) runs, eqb-miss {a = v} {b = 0} n)
       (put-leaves o i (some v) (h .slots .size) (k .inside) (k .free))
 
   -- 'kind 03 leaves it running'
@@ -76,11 +77,11 @@ module _ (t : ℕ) (o : Output) (h : Sound t o) (runs : isLive (o .slots) slot6 
       record {
         six = slot-other (o .slots) (h .slots .size) i slot6 none (k .inside) (k .free);
         own = slot-same (o .slots) (h .slots .size) i none (k .inside);
-        rest = λ j p r. slot-other (o .slots) (h .slots .size) i j none (k .inside) (λ e. r (sym e));
+        rest = λ j y r. slot-other (o .slots) (h .slots .size) i j none (k .inside) (λ e. r (sym e));
         activity = unchanged (o .activity) (h .activity);
       }
     where
-      unchanged : (a : Activity) → Acts t (o .settings) (o .slots) a → activityRelinquished (isLive (o .slots) i) i a ≡ a
+      unchanged : (a : Activity) → Acts p t (o .settings) (o .slots) a → activityRelinquished (isLive (o .slots) i) i a ≡ a
       unchanged Still q = absurd (false≢true (sym q ∙ runs))
       unchanged (Moving m) q = absurd (false≢true (sym (q .six) ∙ runs))
       unchanged (Warned w) q =

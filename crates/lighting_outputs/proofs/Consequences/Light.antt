@@ -4,6 +4,7 @@ use mathlib.Core.Path.{_≡_, refl, sym, ap, _∙_}
 use Prim.Native.Nat.{ℕ, zero, suc, _+_, _-_, _*_, _≤_, _<_, max}
 use native.Mathlib.Nat.{mul-comm, mul-le-mul-left, div-eq-of-lt-le, le-div-iff-mul-le}
 use native.Mathlib.Omega.{arith}
+use Rattle.lighting_outputs.specs.Paper.Parameters.{Parameters}
 use Rattle.lighting_levels.specs.Paper.Choice.{if_then_else_}
 use Rattle.lighting_outputs.specs.Paper.Value.{inProcess}
 use Rattle.lighting_outputs.specs.Paper.Record.{withBurning}
@@ -25,7 +26,7 @@ ceiling : (s w d : ℕ) → s * d < w → w ≤ s * suc d → lastShort 1 s w �
 unfolding lastShort
 ceiling s w d h c = div-eq-of-lt-le {k = d} s {m = 1 * w - 1} (omega (arith, mul-comm d s)) (omega (arith, mul-comm (d + 1) s))
 
-module _ (t : ℕ) (o : Output) (m : Movement) (moves : o .activity ≡ Moving m) (begun : m .over ≡ t + m .length) where
+module _ (p : Parameters) (t : ℕ) (o : Output) (m : Movement) (moves : o .activity ≡ Moving m) (begun : m .over ≡ t + m .length) where
   gained : (n : ℕ) → litMilliseconds t n o ≡ litMoving t n m
   unfolding litStretch litInMovement inProcess if_then_else_
   gained n = sym (counted t n o) ∙ rw moves
@@ -36,16 +37,16 @@ module _ (t : ℕ) (o : Output) (m : Movement) (moves : o .activity ≡ Moving m
   burned n zero h a e = let y : 0 ≡ n = gained 0 ∙ e in omega arith
   burned n (suc k) h a e =
       rw
-      (step-but-relay k t o (moving-after t o m moves begun k (omega arith) (timer-earlier (o .timer) (omega arith) a)))
+      (step-but-relay k t o (moving-after p t o m moves begun k (omega arith) (timer-earlier (o .timer) (omega arith) a)))
       (ap (λ (x : ℕ). o .burning + x) (gained (suc k) ∙ e))
 
   by-fade : (k : ℕ) → m .pace ≡ Fade → litMoving t k m ≡ litAt (max (m .start) (m .target)) (m .length) t k m
   unfolding litMoving litByPace
-  by-fade k p = ap (λ (pace : Pace). litByPace t k m pace) p
+  by-fade k q = ap (λ (pace : Pace). litByPace t k m pace) q
 
   by-ramp : (r k : ℕ) → m .pace ≡ Ramp r → litMoving t k m ≡ litAt r 1000 t k m
   unfolding litMoving litByPace
-  by-ramp r k p = ap (λ (pace : Pace). litByPace t k m pace) p
+  by-ramp r k q = ap (λ (pace : Pace). litByPace t k m pace) q
 
   -- A RISE FROM 0, by s units in w milliseconds: its way in its length, or its rate in a second
   rise-at : (s w d k : ℕ) → m .start ≡ 0 → 0 < m .target → k ≤ m .length → s * d < w → w ≤ s * suc d → litAt s w t k m ≡ k - suc d
@@ -60,13 +61,13 @@ module _ (t : ℕ) (o : Output) (m : Movement) (moves : o .activity ≡ Moving m
 
   pub fade-from-zero : (d k : ℕ) → m .pace ≡ Fade → m .start ≡ 0 → 0 < m .target → m .target * d < m .length → m .length ≤ m .target * suc d
       → k ≤ m .length → TimerAfter (t + k) (o .timer) → ticks k t o .burning ≡ o .burning + (k - suc d)
-  fade-from-zero d k p z g h c l a =
+  fade-from-zero d k q z g h c l a =
       let way : max (m .start) (m .target) ≡ m .target = omega arith in
-      burned (k - suc d) k l a (by-fade k p ∙ rw way (rise-at (m .target) (m .length) d k z g l h c))
+      burned (k - suc d) k l a (by-fade k q ∙ rw way (rise-at (m .target) (m .length) d k z g l h c))
 
   pub ramp-from-zero : (r d k : ℕ) → m .pace ≡ Ramp r → m .start ≡ 0 → 0 < m .target → r * d < 1000 → 1000 ≤ r * suc d
       → k ≤ m .length → TimerAfter (t + k) (o .timer) → ticks k t o .burning ≡ o .burning + (k - suc d)
-  ramp-from-zero r d k p z g h c l a = burned (k - suc d) k l a (by-ramp r k p ∙ rise-at r 1000 d k z g l h c)
+  ramp-from-zero r d k q z g h c l a = burned (k - suc d) k l a (by-ramp r k q ∙ rise-at r 1000 d k z g l h c)
 
   -- A FALL TO 0 to its last millisecond
   fall-at : (s w k : ℕ) → 0 < m .start → m .target ≡ 0 → k ≤ m .length → (0 < s → k ≤ suc (lastShort (m .start) s w)) → litAt s w t k m ≡ k
@@ -81,15 +82,15 @@ module _ (t : ℕ) (o : Output) (m : Movement) (moves : o .activity ≡ Moving m
 
   still-lit : (s w k : ℕ) → 0 < s → s * k < m .start * w + s → k ≤ suc (lastShort (m .start) s w)
   unfolding lastShort
-  still-lit s w zero p h = omega arith
-  still-lit s w (suc n) p h =
-      omega (arith, le-div-iff-mul-le {k = s} {x = n} {y = m .start * w - 1} p .1 (omega (arith, h, mul-comm n s)))
+  still-lit s w zero q h = omega arith
+  still-lit s w (suc n) q h =
+      omega (arith, le-div-iff-mul-le {k = s} {x = n} {y = m .start * w - 1} q .1 (omega (arith, h, mul-comm n s)))
 
   pub fade-to-zero : (k : ℕ) → m .pace ≡ Fade → 0 < m .start → m .target ≡ 0 → k ≤ m .length → TimerAfter (t + k) (o .timer)
       → ticks k t o .burning ≡ o .burning + k
-  fade-to-zero k p h z l a =
+  fade-to-zero k q h z l a =
       let way : max (m .start) (m .target) ≡ m .start = omega arith in
-      burned k k l a (by-fade k p ∙ rw way (fall-at (m .start) (m .length) k h z l (λ positive. still-lit (m .start) (m .length) k positive (less k l))))
+      burned k k l a (by-fade k q ∙ rw way (fall-at (m .start) (m .length) k h z l (λ positive. still-lit (m .start) (m .length) k positive (less k l))))
     where
       less : (n : ℕ) → n ≤ m .length → m .start * n < m .start * m .length + m .start
       less n y = omega (arith, mul-le-mul-left (m .start) y)
@@ -97,7 +98,7 @@ module _ (t : ℕ) (o : Output) (m : Movement) (moves : o .activity ≡ Moving m
   -- a ramp as long as its way is not gone, which its own length is not past: 'L = ceiling(1,000 × |g - s| / R)'
   pub ramp-to-zero : (r k : ℕ) → m .pace ≡ Ramp r → 0 < m .start → m .target ≡ 0 → r * k < m .start * 1000 + r → k ≤ m .length
       → TimerAfter (t + k) (o .timer) → ticks k t o .burning ≡ o .burning + k
-  ramp-to-zero r k p h z c l a = burned k k l a (by-ramp r k p ∙ fall-at r 1000 k h z l (λ positive. still-lit r 1000 k positive c))
+  ramp-to-zero r k q h z c l a = burned k k l a (by-ramp r k q ∙ fall-at r 1000 k h z l (λ positive. still-lit r 1000 k positive c))
 
   -- AND BETWEEN TWO LEVELS ABOVE 0 all the time
   lit-at : (s w k : ℕ) → 0 < m .start → 0 < m .target → litAt s w t k m ≡ k
@@ -108,5 +109,5 @@ module _ (t : ℕ) (o : Output) (m : Movement) (moves : o .activity ≡ Moving m
   between k h g l a = burned k k l a (go (m .pace) refl)
     where
       go : (pace : Pace) → m .pace ≡ pace → litMoving t k m ≡ k
-      go Fade p = by-fade k p ∙ lit-at (max (m .start) (m .target)) (m .length) k h g
-      go (Ramp r) p = by-ramp r k p ∙ lit-at r 1000 k h g
+      go Fade q = by-fade k q ∙ lit-at (max (m .start) (m .target)) (m .length) k h g
+      go (Ramp r) q = by-ramp r k q ∙ lit-at r 1000 k h g

@@ -8,6 +8,7 @@ use lib.Dec.{leb}
 use lib.Ieee.{Float}
 use lib.ListN.{length}
 use mathlib.Core.Option.{none}
+use Rattle.lighting_outputs.specs.Paper.Parameters.{Parameters}
 use Rattle.lighting_levels.specs.Paper.Choice.{if_then_else_}
 use Rattle.lighting_levels.specs.Paper.Level.{levelUnits, amountUnits, distance}
 use Rattle.lighting_outputs.specs.Paper.Slots.{slot6, slotCount, Slots, winner, filled}
@@ -113,15 +114,15 @@ unfolding withBurned withBurning progressValue progressBy inProcess
 resting t k o e a = rw (quiet-but-relay k t o (both-after (t + k) o a (rw e (unfold activityDue in tt))), e) (refl, refl)
 
 -- what the rules say of a movement
-pub rules : (t : ℕ) (o : Output) (m : Movement) → Sound t o → o .activity ≡ Moving m → Moves t (o .settings) (o .slots) m
-rules t o m sound moves = subst (λ (a : Activity). Acts t (o .settings) (o .slots) a) moves (sound .activity)
+pub rules : (p : Parameters) (t : ℕ) (o : Output) (m : Movement) → Sound p t o → o .activity ≡ Moving m → Moves p t (o .settings) (o .slots) m
+rules p t o m sound moves = subst (λ (a : Activity). Acts p t (o .settings) (o .slots) a) moves (sound .activity)
 
 -- an output at rest where its movement aimed, its duration as it was
 abbrev Over : Output → Movement → Output → Type 0
 Over o m o′ = (o′ .activity ≡ Still) × (presentValue (o′ .settings) (o′ .slots) ≡ m .target) × (o′ .timer ≡ o .timer)
 
 -- A MOVEMENT with so many milliseconds left, of a record that keeps the rules, if no frame comes: k milliseconds later Progress_Value is what the formula says
-module _ (t : ℕ) {left : ℕ} (o : Output) (m : Movement) (moves : o .activity ≡ Moving m) (ends : m .over ≡ t + left) where
+module _ (p : Parameters) (t : ℕ) {left : ℕ} (o : Output) (m : Movement) (moves : o .activity ≡ Moving m) (ends : m .over ≡ t + left) where
   pub moving-after : (k : ℕ) → k < left → TimerAfter (t + k) (o .timer) → After (t + k) o
   moving-after k h a = both-after (t + k) o a (rw moves (unfold activityDue in (omega arith)))
 
@@ -132,11 +133,11 @@ module _ (t : ℕ) {left : ℕ} (o : Output) (m : Movement) (moves : o .activity
   moving k h a = rw (quiet-but-relay k t o (moving-after k h a), moves) (along-reached m (elapsed (t + k) m), refl)
 
   -- and when they have passed it is over, on the target
-  over-then : 0 < left → TimerAfter (t + left) (o .timer) → Sound t o → Over o m (ticks left t o)
+  over-then : 0 < left → TimerAfter (t + left) (o .timer) → Sound p t o → Over o m (ticks left t o)
   over-then h a sound = go left refl
     where
       aims : m .target ≡ presentValue (o .settings) (o .slots)
-      aims = rules t o m sound moves .aims
+      aims = rules p t o m sound moves .aims
 
       go : (l : ℕ) → left ≡ l → Over o m (ticks l t o)
       go zero e = absurd (omega arith)
@@ -153,14 +154,14 @@ module _ (t : ℕ) {left : ℕ} (o : Output) (m : Movement) (moves : o .activity
             unfold fire afterEvents withBurned withBurning in (timer-quiet (suc (t + n)) (o .timer) c),
           )
 
-  pub arrived : 0 < left → TimerAfter (t + left) (o .timer) → Sound t o
+  pub arrived : 0 < left → TimerAfter (t + left) (o .timer) → Sound p t o
       → (progressValue (t + left) (ticks left t o) ≡ m .target) × (inProcess (ticks left t o .activity) ≡ 0)
   arrived h a sound =
       let f = over-then h a sound in
       (progress-still (t + left) (ticks left t o) (f .0) ∙ f .1, unfold inProcess in (rw (f .0)))
 
   -- and stays there
-  pub stays : (more : ℕ) → 0 < left → TimerAfter (t + (left + more)) (o .timer) → Sound t o
+  pub stays : (more : ℕ) → 0 < left → TimerAfter (t + (left + more)) (o .timer) → Sound p t o
       → (progressValue (t + (left + more)) (ticks (left + more) t o) ≡ m .target) × (inProcess (ticks (left + more) t o .activity) ≡ 0)
   stays more h a sound =
       let f = over-then h (timer-earlier (o .timer) (omega arith) a) sound in
@@ -188,8 +189,8 @@ timer-sound : (t : ℕ) (m : Timer) → Timed t m → TimerAfter t m
 timer-sound t Off h = tt
 timer-sound t (Running q d) h = h .1
 
-module _ (t : ℕ) (o o′ : Output) (p g l : ℕ) (w : Pace) (sound : Sound t o′)
-    (acts : o′ .activity ≡ movement t p (progressValue t o) g l w)
+module _ (p : Parameters) (t : ℕ) (o o′ : Output) (y g l : ℕ) (w : Pace) (sound : Sound p t o′)
+    (acts : o′ .activity ≡ movement t y (progressValue t o) g l w)
     (shows : presentValue (o′ .settings) (o′ .slots) ≡ g)
     (long : progressValue t o ≢ g → 0 < l)
     (last : along w (progressValue t o) g l l ≡ g) where
@@ -207,9 +208,9 @@ module _ (t : ℕ) (o o′ : Output) (p g l : ℕ) (w : Pace) (sound : Sound t o
   on-the-way : progressValue t o ≢ g → Course t o o′ g l w
   unfolding ticks
   on-the-way n =
-      let m : Movement = record { owner = p; start = progressValue t o; target = g; length = l; over = t + l; pace = w } in
+      let m : Movement = record { owner = y; start = progressValue t o; target = g; length = l; over = t + l; pace = w } in
       let q : o′ .activity ≡ Moving m = acts ∙ (unfold movement if_then_else_ in (rw (eqb-miss {a = progressValue t o} {b = g} n))) in
-      let first = moving t o′ m q refl 0 (long n) (rw (add-zero t) (timer-sound t (o′ .timer) (sound .timer))) .0 in
+      let first = moving p t o′ m q refl 0 (long n) (rw (add-zero t) (timer-sound t (o′ .timer) (sound .timer))) .0 in
       let begin : progressValue t o′ ≡ along w (progressValue t o) g l 0 = rw (add-zero t) at (first ∙ gone 0 (omega arith)) in
       record {
         begins = begin ∙ along-first w (progressValue t o) g l;
@@ -217,9 +218,9 @@ module _ (t : ℕ) (o o′ : Output) (p g l : ℕ) (w : Pace) (sound : Sound t o
         lasts = λ k h. rw q (unfold activityDue in (omega arith));
         between =
             λ k h a. by-eq k l
-            (λ e z. rw e (arrived t o′ m q refl (long n) (rw e at a) sound .0 ∙ sym last))
-            (λ e z. moving t o′ m q refl k (omega arith) a .0 ∙ gone k h);
-        ends = λ a. arrived t o′ m q refl (long n) a sound;
+            (λ e z. rw e (arrived p t o′ m q refl (long n) (rw e at a) sound .0 ∙ sym last))
+            (λ e z. moving p t o′ m q refl k (omega arith) a .0 ∙ gone k h);
+        ends = λ a. arrived p t o′ m q refl (long n) a sound;
       }
     where
       gone : (k : ℕ) → k ≤ l → along w (progressValue t o) g l (l - (t + l - (t + k))) ≡ along w (progressValue t o) g l k
@@ -235,7 +236,7 @@ withoutWarning-size s (Moving m) = refl
 withoutWarning-size s (Warned w) = put-size s slot6 none
 
 -- 'If p is then the winner it replaces the movement': the four commands that move, to the target x
-module _ (t : ℕ) (o : Output) (k : Command) (h : Sound t o) (good : OperationInRange (k .operation)) (lasts : DurationInRange (k .duration))
+module _ (p : Parameters) (t : ℕ) (o : Output) (k : Command) (h : Sound p t o) (good : OperationInRange p (k .operation)) (lasts : DurationInRange p (k .duration))
     (wins : winner (commanded t o k .slots) ≡ o .settings .slot) (x : Float) where
   abbrev before : Slots
   before = withoutWarning (o .slots) (o .activity)
@@ -249,7 +250,7 @@ module _ (t : ℕ) (o : Output) (k : Command) (h : Sound t o) (good : OperationI
       → (progressValue t o ≢ goal → 0 < l) → along w (progressValue t o) goal l l ≡ goal
       → Course t o (commanded t o k) goal l w
   moved l w e long last =
-      course t o (commanded t o k) (o .settings .slot) goal l w (commanded-sound t o k good lasts h) acts shows long last
+      course p t o (commanded t o k) (o .settings .slot) goal l w (commanded-sound p t o k good lasts h) acts shows long last
     where
       slots : commanded t o k .slots ≡ filled before (o .settings .slot) goal
       slots = unfold commanded commandedFrom withCommand placed in (ap (λ (r : Effect). r .slots) e)
@@ -268,23 +269,23 @@ module _ (t : ℕ) (o : Output) (k : Command) (h : Sound t o) (good : OperationI
       shows = rw (settings, slots)
           (unfold presentValue in
           (ap (clampLit (o .settings)) (winningLevel-filled before size (o .settings .default) (o .settings .slot) goal (h .settings .slot .inside) (ap winner (sym slots) ∙ wins))
-          ∙ (unfold target in (clampLit-clampLit (o .settings) (levelUnits x) (h .settings)))))
+          ∙ (unfold target in (clampLit-clampLit p (o .settings) (levelUnits x) (h .settings)))))
 
 -- FADE_TO and FADE_TO_OVER begin at Progress_Value and end on the target at the fade time
-pub fade-to : (t : ℕ) (o : Output) (x : Float) (d : Duration) → Sound t o → DurationInRange d
+pub fade-to : (p : Parameters) (t : ℕ) (o : Output) (x : Float) (d : Duration) → Sound p t o → DurationInRange p d
     → winner (commanded t o (record { operation = FadeTo x; duration = d }) .slots) ≡ o .settings .slot
     → Course t o (commanded t o (record { operation = FadeTo x; duration = d })) (target (o .settings) x) (o .settings .fade) Fade
-fade-to t o x d h g w =
-    moved t o (record { operation = FadeTo x; duration = d }) h tt g w x (o .settings .fade) Fade
+fade-to p t o x d h g w =
+    moved p t o (record { operation = FadeTo x; duration = d }) h tt g w x (o .settings .fade) Fade
     (unfold effect fadedTo fadedOver in refl)
     (λ n. omega (arith, h .settings .fade))
     (faded-last (progressValue t o) (target (o .settings) x) (o .settings .fade) (omega (arith, h .settings .fade)))
 
-pub fade-to-over : (t : ℕ) (o : Output) (x : Float) (l : ℕ) (d : Duration) → Sound t o → OperationInRange (FadeToOver x l) → DurationInRange d
+pub fade-to-over : (p : Parameters) (t : ℕ) (o : Output) (x : Float) (l : ℕ) (d : Duration) → Sound p t o → OperationInRange p (FadeToOver x l) → DurationInRange p d
     → winner (commanded t o (record { operation = FadeToOver x l; duration = d }) .slots) ≡ o .settings .slot
     → Course t o (commanded t o (record { operation = FadeToOver x l; duration = d })) (target (o .settings) x) l Fade
-fade-to-over t o x l d h r g w =
-    moved t o (record { operation = FadeToOver x l; duration = d }) h r g w x l Fade
+fade-to-over p t o x l d h r g w =
+    moved p t o (record { operation = FadeToOver x l; duration = d }) h r g w x l Fade
     (unfold effect fadedTo fadedOver in refl)
     (λ n. omega (arith, r .least))
     (faded-last (progressValue t o) (target (o .settings) x) l (omega (arith, r .least)))
@@ -297,23 +298,23 @@ ramp-long s g r n =
     let z : 1 ≤ (1000 * distance s g + (amountUnits r - 1)) / amountUnits r = le-div-iff-mul-le {k = amountUnits r} (omega arith) .1 (omega arith) in
     z
 
-pub ramp-to : (t : ℕ) (o : Output) (x : Float) (d : Duration) → Sound t o → DurationInRange d
+pub ramp-to : (p : Parameters) (t : ℕ) (o : Output) (x : Float) (d : Duration) → Sound p t o → DurationInRange p d
     → winner (commanded t o (record { operation = RampTo x; duration = d }) .slots) ≡ o .settings .slot
     → Course t o (commanded t o (record { operation = RampTo x; duration = d })) (target (o .settings) x)
     (rampLength (distance (progressValue t o) (target (o .settings) x)) (amountUnits (o .settings .ramp))) (Ramp (amountUnits (o .settings .ramp)))
-ramp-to t o x d h g w =
-    moved t o (record { operation = RampTo x; duration = d }) h tt g w x
+ramp-to p t o x d h g w =
+    moved p t o (record { operation = RampTo x; duration = d }) h tt g w x
     (rampLength (distance (progressValue t o) (target (o .settings) x)) (amountUnits (o .settings .ramp))) (Ramp (amountUnits (o .settings .ramp)))
     (unfold effect rampedTo rampedAt in refl)
     (ramp-long (progressValue t o) (target (o .settings) x) (o .settings .ramp))
     (ramped-last (progressValue t o) (target (o .settings) x) (amountUnits (o .settings .ramp)) (omega (arith, amount-range (o .settings .ramp))))
 
-pub ramp-to-at-rate : (t : ℕ) (o : Output) (x r : Float) (d : Duration) → Sound t o → DurationInRange d
+pub ramp-to-at-rate : (p : Parameters) (t : ℕ) (o : Output) (x r : Float) (d : Duration) → Sound p t o → DurationInRange p d
     → winner (commanded t o (record { operation = RampToAtRate x r; duration = d }) .slots) ≡ o .settings .slot
     → Course t o (commanded t o (record { operation = RampToAtRate x r; duration = d })) (target (o .settings) x)
     (rampLength (distance (progressValue t o) (target (o .settings) x)) (amountUnits r)) (Ramp (amountUnits r))
-ramp-to-at-rate t o x r d h g w =
-    moved t o (record { operation = RampToAtRate x r; duration = d }) h tt g w x
+ramp-to-at-rate p t o x r d h g w =
+    moved p t o (record { operation = RampToAtRate x r; duration = d }) h tt g w x
     (rampLength (distance (progressValue t o) (target (o .settings) x)) (amountUnits r)) (Ramp (amountUnits r))
     (unfold effect rampedTo rampedAt in refl)
     (ramp-long (progressValue t o) (target (o .settings) x) r)

@@ -16,7 +16,7 @@ use Rattle.lighting_outputs.specs.Paper.Relay.{relayState}
 use Rattle.lighting_outputs.specs.Paper.Acting.{unchanged, acted}
 use Rattle.lighting_outputs.specs.declared.Answer.{Answer}
 use Rattle.lighting_outputs.specs.declared.Answer.the-variants.{Done, Value, Absent, Refused}
-use Rattle.lighting_outputs.specs.declared.Request.the-variants.{Read}
+use Rattle.lighting_outputs.specs.declared.OutputRequest.the-variants.{Read}
 use Rattle.lighting_outputs.specs.declared.Output.{Output}
 use Rattle.lighting_levels.proofs.Split.{by-bool, leb-yes, leb-no}
 use Rattle.lighting_outputs.proofs.Priorities.Mask.{slot-is}

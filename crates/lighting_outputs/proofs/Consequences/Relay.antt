@@ -21,8 +21,8 @@ use Rattle.lighting_outputs.specs.declared.Property.{Property}
 use Rattle.lighting_outputs.specs.declared.Property.the-variants.{Polarity}
 use Rattle.lighting_outputs.specs.declared.Relay.{Relay}
 use Rattle.lighting_outputs.specs.declared.Command.{Command}
-use Rattle.lighting_outputs.specs.declared.Request.{Request}
-use Rattle.lighting_outputs.specs.declared.Request.the-variants.{Refuse, Write, Empty, Change, Read, Commands}
+use Rattle.lighting_outputs.specs.declared.OutputRequest.{OutputRequest}
+use Rattle.lighting_outputs.specs.declared.OutputRequest.the-variants.{Write, Empty, Change, Read, Commands}
 use Rattle.lighting_outputs.specs.declared.Output.{Output}
 use Rattle.lighting_outputs.specs.declared.Outcome.{Outcome}
 use Rattle.lighting_levels.proofs.Split.{by-bool, leb-yes, leb-no}
@@ -67,9 +67,8 @@ unfolding afterEvents
 judged-between o z e b =
     ap (λ (r : Relay). r .binary) (between (present z) (z .relay) (unfold switched in (b .low)) (unfold switched in (b .high))) ∙ e
 
-binary-kept : (t : ℕ) (o : Output) (q : Request) → Between (acted t o q .output) → acted t o q .output .relay .binary ≡ o .relay .binary
+binary-kept : (t : ℕ) (o : Output) (q : OutputRequest) → Between (acted t o q .output) → acted t o q .output .relay .binary ≡ o .relay .binary
 unfolding acted done unchanged
-binary-kept t o (Refuse number) b = refl
 binary-kept t o (Write i v) b = judged-between o (written t o i v) (ap (λ (r : Relay). r .binary) (written-rest t o i v .relay)) b
 binary-kept t o (Empty i) b = judged-between o (slotRelinquished o i) (unfold slotRelinquished withEffect in refl) b
 binary-kept t o (Change property v) b =
@@ -85,7 +84,7 @@ binary-kept t o (Change property v) b =
 binary-kept t o (Read property) b = refl
 binary-kept t o (Commands k) b = judged-between o (commanded t o k) (unfold commanded commandedFrom withCommand in refl) b
 
-pub between-acted : (t : ℕ) (o : Output) (q : Request) → acted t o q .output .relay .inactive < present (acted t o q .output)
+pub between-acted : (t : ℕ) (o : Output) (q : OutputRequest) → acted t o q .output .relay .inactive < present (acted t o q .output)
     → present (acted t o q .output) < acted t o q .output .relay .active → acted t o q .output .relay .binary ≡ o .relay .binary
 between-acted t o q h k = binary-kept t o q (record { low = h; high = k })
 
@@ -144,8 +143,7 @@ pub opposite-ticks : (n t : ℕ) (o : Output) → relayState (ticks n t (reverse
 opposite-ticks n t o = rw (ticks-reversed n t o) (opposite (ticks n t o))
 
 -- and what a frame asks
-abbrev pub NoPolarity : Request → Type 0
-NoPolarity (Refuse number) = Unit {0}
+abbrev pub NoPolarity : OutputRequest → Type 0
 NoPolarity (Write i v) = Unit {0}
 NoPolarity (Empty i) = Unit {0}
 NoPolarity (Change property v) = same Polarity property ≡ false
@@ -174,9 +172,8 @@ changed-reversed : (o : Output) (property : Property) (v : ℕ) → same Polarit
 unfolding changed withSettings relayWith reversed if_then_else_
 changed-reversed o property v e = rw e
 
-acted-reversed : (t : ℕ) (o : Output) (q : Request) → NoPolarity q → acted t (reversed o) q .output ≡ reversed (acted t o q .output)
+acted-reversed : (t : ℕ) (o : Output) (q : OutputRequest) → NoPolarity q → acted t (reversed o) q .output ≡ reversed (acted t o q .output)
 unfolding acted done unchanged
-acted-reversed t o (Refuse number) p = refl
 acted-reversed t o (Write i v) p = judged-reversed (written t o i v) (written t (reversed o) i v) (written-reversed t o i v)
 acted-reversed t o (Empty i) p =
     judged-reversed (slotRelinquished o i) (slotRelinquished (reversed o) i) (unfold slotRelinquished withEffect reversed in refl)
@@ -195,6 +192,6 @@ acted-reversed t o (Read property) p = refl
 acted-reversed t o (Commands k) p =
     judged-reversed (commanded t o k) (commanded t (reversed o) k) (unfold commanded commandedFrom withCommand progressValue reversed in refl)
 
-pub opposite-acted : (t : ℕ) (o : Output) (q : Request) → NoPolarity q
+pub opposite-acted : (t : ℕ) (o : Output) (q : OutputRequest) → NoPolarity q
     → relayState (acted t (reversed o) q .output .relay) ≡ not (relayState (acted t o q .output .relay))
 opposite-acted t o q p = rw (acted-reversed t o q p) (opposite (acted t o q .output))

@@ -5,6 +5,7 @@ use mathlib.Core.Bool.{true, false}
 use mathlib.Core.Option.{none, some}
 use Prim.Native.Nat.{ℕ, suc, _≤_, _<_}
 use native.Mathlib.Omega.{arith}
+use Rattle.lighting_outputs.specs.Paper.Parameters.{Parameters}
 use Rattle.lighting_levels.specs.Paper.Choice.{if_then_else_}
 use Rattle.lighting_outputs.specs.Paper.Slots.{slotCount, slot6, slot, isLive}
 use Rattle.lighting_outputs.specs.Paper.Value.{clampLit, presentValue}
@@ -23,7 +24,7 @@ use Rattle.lighting_outputs.proofs.Consequences.Present.{slot-same, slo
 use Rattle.lighting_outputs.proofs.Consequences.Warning.{Starts, warns-starts, calm-by}
 use Rattle.lighting_outputs.proofs.Consequences.Targets.{after, relinquish}
 
-module _ (t : ℕ) (o : Output) (h : Sound t o) (calm : isLive (o .slots) slot6 ≡ false) (i : ℕ) (k : Slot i) where
+module _ (p : Parameters) (t : ℕ) (o : Output) (h : Sound p t o) (calm : isLive (o .slots) slot6 ≡ false) (i : ℕ) (k : Slot i) where
   -- a write that starts no warning: of a level above 0, or where the paper's conditions are not met
   pub data Plainly (v : ℕ) : Type 0 where
     above-zero : v ≢ 0 → Plainly v
@@ -31,12 +32,12 @@ module _ (t : ℕ) (o : Output) (h : Sound t o) (calm : isLive (o .slots) slot6 
 
   store : (v : ℕ) → Plainly v → written t o i v ≡ stored o i v
   unfolding written writtenCalm writtenZero if_then_else_
-  store v (above-zero n) = rw (calm-by t o i v (o .activity) (h .activity) calm, eqb-miss {a = v} {b = 0} n)
+  store v (above-zero n) = rw (calm-by p t o i v (o .activity) (h .activity) calm, eqb-miss {a = v} {b = 0} n)
   store v (no-warning n) =
-      rw (calm-by t o i v (o .activity) (h .activity) calm)
+      rw (calm-by p t o i v (o .activity) (h .activity) calm)
       (by-eq v 0
-      (λ p e. rw e (by-bool (warns (o .settings) (o .slots) i) (λ w. absurd (n (warns-starts (o .settings) (o .slots) i (h .slots .size) (k .inside) w))) (λ w. rw (w, p))))
-      (λ p e. rw e))
+      (λ y e. rw e (by-bool (warns (o .settings) (o .slots) i) (λ w. absurd (n (warns-starts (o .settings) (o .slots) i (h .slots .size) (k .inside) w))) (λ w. rw (w, y))))
+      (λ y e. rw e))
 
   pub stores : (v : ℕ) → Plainly v → slot (written t o i v .slots) i ≡ some v
   unfolding stored withEffect
@@ -56,7 +57,7 @@ module _ (t : ℕ) (o : Output) (h : Sound t o) (calm : isLive (o .slots) slot6 
   breaks-off v n m e l = rw (store v n, e, leb-no {a = suc (m .owner)} {b = i} (omega arith))
 
 -- KIND 03
-module _ (t : ℕ) (o : Output) (h : Sound t o) (i : ℕ) (k : Slot i) where
+module _ (p : Parameters) (t : ℕ) (o : Output) (h : Sound p t o) (i : ℕ) (k : Slot i) where
   pub empties : slot (slotRelinquished o i .slots) i ≡ none
   unfolding slotRelinquished withEffect
   empties = slot-same (o .slots) (h .slots .size) i none (k .inside)
@@ -90,23 +91,23 @@ module _ (t : ℕ) (o : Output) (h : Sound t o) (i : ℕ) (k : Slot i) where
   emptied-shows-default b = none-live (o .slots) (h .slots .size) (o .settings) i (k .inside) b
 
 -- RELINQUISH, of slot p; slot 6 is empty after it in any case
-module _ (t : ℕ) (o : Output) (h : Sound t o) (d : Duration) (g : DurationInRange d) where
-  abbrev p : ℕ
-  p = o .settings .slot
+module _ (p : Parameters) (t : ℕ) (o : Output) (h : Sound p t o) (d : Duration) (g : DurationInRange p d) where
+  abbrev y : ℕ
+  y = o .settings .slot
 
-  pub relinquished-shows : (j v : ℕ) → j ≢ p → j ≢ slot6 → slot (o .slots) j ≡ some v → ((q : ℕ) → q < j → q ≢ p → q ≢ slot6 → slot (o .slots) q ≡ none)
+  pub relinquished-shows : (j v : ℕ) → j ≢ y → j ≢ slot6 → slot (o .slots) j ≡ some v → ((q : ℕ) → q < j → q ≢ y → q ≢ slot6 → slot (o .slots) q ≡ none)
       → presentValue (after t o Relinquish d .settings) (after t o Relinquish d .slots) ≡ clampLit (o .settings) v
   relinquished-shows j v n m s b =
-      rw (relinquish t o h d .settings)
-      (present-at (after t o Relinquish d .slots) (commanded-sound t o (record { operation = Relinquish; duration = d }) tt g h .slots .size) (o .settings) j v
-      (relinquish t o h d .rest j m n ∙ s)
-      (λ q l. by-eq q p (λ e z. rw e (relinquish t o h d .own))
-      (λ e z. by-eq q slot6 (λ e′ z′. rw e′ (relinquish t o h d .six)) (λ e′ z′. relinquish t o h d .rest q e′ e ∙ b q l e e′))))
+      rw (relinquish p t o h d .settings)
+      (present-at (after t o Relinquish d .slots) (commanded-sound p t o (record { operation = Relinquish; duration = d }) tt g h .slots .size) (o .settings) j v
+      (relinquish p t o h d .rest j m n ∙ s)
+      (λ q l. by-eq q y (λ e z. rw e (relinquish p t o h d .own))
+      (λ e z. by-eq q slot6 (λ e′ z′. rw e′ (relinquish p t o h d .six)) (λ e′ z′. relinquish p t o h d .rest q e′ e ∙ b q l e e′))))
 
-  pub relinquished-shows-default : ((q : ℕ) → q < slotCount → q ≢ p → q ≢ slot6 → slot (o .slots) q ≡ none)
+  pub relinquished-shows-default : ((q : ℕ) → q < slotCount → q ≢ y → q ≢ slot6 → slot (o .slots) q ≡ none)
       → presentValue (after t o Relinquish d .settings) (after t o Relinquish d .slots) ≡ clampLit (o .settings) (o .settings .default)
   relinquished-shows-default b =
-      rw (relinquish t o h d .settings)
-      (present-none (after t o Relinquish d .slots) (commanded-sound t o (record { operation = Relinquish; duration = d }) tt g h .slots .size) (o .settings)
-      (λ q l. by-eq q p (λ e z. rw e (relinquish t o h d .own))
-      (λ e z. by-eq q slot6 (λ e′ z′. rw e′ (relinquish t o h d .six)) (λ e′ z′. relinquish t o h d .rest q e′ e ∙ b q l e e′))))
+      rw (relinquish p t o h d .settings)
+      (present-none (after t o Relinquish d .slots) (commanded-sound p t o (record { operation = Relinquish; duration = d }) tt g h .slots .size) (o .settings)
+      (λ q l. by-eq q y (λ e z. rw e (relinquish p t o h d .own))
+      (λ e z. by-eq q slot6 (λ e′ z′. rw e′ (relinquish p t o h d .six)) (λ e′ z′. relinquish p t o h d .rest q e′ e ∙ b q l e e′))))

@@ -6,6 +6,7 @@ use Prim.Native.Nat.{ℕ, _+_, _-_, _<_, min, max}
 use native.Mathlib.Omega.{arith}
 use lib.Ieee.{Float}
 use lib.ListN.{length}
+use Rattle.lighting_outputs.specs.Paper.Parameters.{Parameters}
 use Rattle.lighting_levels.specs.Paper.Choice.{if_then_else_}
 use Rattle.lighting_levels.specs.Paper.Level.{levelUnits, amountUnits}
 use Rattle.lighting_outputs.specs.Paper.Slots.{slotCount, slot6, Slots, slot, winner, put, filled}
@@ -33,19 +34,19 @@ abbrev pub after : ℕ → Output → Operation → Duration → Output
 after t o k d = commanded t o (record { operation = k; duration = d })
 
 -- slot 6 is empty, slot p is x, every other slot as it was; what the command does not speak of stays
-pub record Sets (o o′ : Output) (p : ℕ) (x : Option ℕ) : Type 0 where
-  pub own : slot (o′ .slots) p ≡ x
+pub record Sets (o o′ : Output) (y : ℕ) (x : Option ℕ) : Type 0 where
+  pub own : slot (o′ .slots) y ≡ x
   pub six : slot (o′ .slots) slot6 ≡ none
-  pub rest : (j : ℕ) → j ≢ slot6 → j ≢ p → slot (o′ .slots) j ≡ slot (o .slots) j
+  pub rest : (j : ℕ) → j ≢ slot6 → j ≢ y → slot (o′ .slots) j ≡ slot (o .slots) j
   pub settings : o′ .settings ≡ o .settings
   pub burning : o′ .burning ≡ o .burning
 
 -- a warning's end
-withoutWarning-six : (t : ℕ) (c : Settings) (s : Slots) (a : Activity) → length (s .levels) ≡ slotCount → Acts t c s a → slot (withoutWarning s a) slot6 ≡ none
+withoutWarning-six : (p : Parameters) (t : ℕ) (c : Settings) (s : Slots) (a : Activity) → length (s .levels) ≡ slotCount → Acts p t c s a → slot (withoutWarning s a) slot6 ≡ none
 unfolding withoutWarning
-withoutWarning-six t c s Still z h = dead-slot s slot6 z (omega arith) h
-withoutWarning-six t c s (Moving m) z h = dead-slot s slot6 z (omega arith) (h .six)
-withoutWarning-six t c s (Warned w) z h = slot-same s z slot6 none (omega arith)
+withoutWarning-six p t c s Still z h = dead-slot s slot6 z (omega arith) h
+withoutWarning-six p t c s (Moving m) z h = dead-slot s slot6 z (omega arith) (h .six)
+withoutWarning-six p t c s (Warned w) z h = slot-same s z slot6 none (omega arith)
 
 withoutWarning-rest : (s : Slots) (a : Activity) (j : ℕ) → length (s .levels) ≡ slotCount → j ≢ slot6 → slot (withoutWarning s a) j ≡ slot s j
 unfolding withoutWarning
@@ -91,17 +92,17 @@ stop-none t c f s Still n = refl
 stop-none t c f s (Moving m) n = elim n [ ]
 stop-none t c f s (Warned w) n = refl
 
-endMovementOf-own : (p : ℕ) (a : Activity) (m : Movement) → a ≡ Moving m → m .owner ≡ p → endMovementOf p (activityWithoutWarning a) ≡ Still
+endMovementOf-own : (y : ℕ) (a : Activity) (m : Movement) → a ≡ Moving m → m .owner ≡ y → endMovementOf y (activityWithoutWarning a) ≡ Still
 unfolding endMovementOf activityWithoutWarning if_then_else_
-endMovementOf-own p a m e w = rw (e, eqb-hit {a = m .owner} {b = p} w)
+endMovementOf-own y a m e w = rw (e, eqb-hit {a = m .owner} {b = y} w)
 
-endMovementOf-other : (p : ℕ) (a : Activity) (m : Movement) → a ≡ Moving m → m .owner ≢ p → endMovementOf p (activityWithoutWarning a) ≡ Moving m
+endMovementOf-other : (y : ℕ) (a : Activity) (m : Movement) → a ≡ Moving m → m .owner ≢ y → endMovementOf y (activityWithoutWarning a) ≡ Moving m
 unfolding endMovementOf activityWithoutWarning if_then_else_
-endMovementOf-other p a m e w = rw (e, eqb-miss {a = m .owner} {b = p} w)
+endMovementOf-other y a m e w = rw (e, eqb-miss {a = m .owner} {b = y} w)
 
-module _ (t : ℕ) (o : Output) (h : Sound t o) (d : Duration) where
-  abbrev p : ℕ
-  p = o .settings .slot
+module _ (p : Parameters) (t : ℕ) (o : Output) (h : Sound p t o) (d : Duration) where
+  abbrev y : ℕ
+  y = o .settings .slot
 
   abbrev before : Slots
   before = withoutWarning (o .slots) (o .activity)
@@ -111,84 +112,84 @@ module _ (t : ℕ) (o : Output) (h : Sound t o) (d : Duration) where
 
   -- an operation that puts x into slot p
   puts : (k : Operation) (x : Option ℕ)
-      → effect t (o .settings) (progressValue t o) before (activityWithoutWarning (o .activity)) k .slots ≡ put before p x → Sets o (after t o k d) p x
+      → effect t (o .settings) (progressValue t o) before (activityWithoutWarning (o .activity)) k .slots ≡ put before y x → Sets o (after t o k d) y x
   unfolding commanded commandedFrom withCommand
   puts k x e =
       record {
-        own = rw e (slot-same before size p x (h .settings .slot .inside));
+        own = rw e (slot-same before size y x (h .settings .slot .inside));
         six =
             rw e
-            (slot-other before size p slot6 x (h .settings .slot .inside) (h .settings .slot .free)
-            ∙ withoutWarning-six t (o .settings) (o .slots) (o .activity) (h .slots .size) (h .activity));
+            (slot-other before size y slot6 x (h .settings .slot .inside) (h .settings .slot .free)
+            ∙ withoutWarning-six p t (o .settings) (o .slots) (o .activity) (h .slots .size) (h .activity));
         rest = λ j m n.
             rw e
-            (slot-other before size p j x (h .settings .slot .inside) (λ q. n (sym q)) ∙ withoutWarning-rest (o .slots) (o .activity) j (h .slots .size) m);
+            (slot-other before size y j x (h .settings .slot .inside) (λ q. n (sym q)) ∙ withoutWarning-rest (o .slots) (o .activity) j (h .slots .size) m);
         settings = refl;
         burning = refl;
       }
 
   -- 'A target is brought into Min..Max if above zero and put in slot p'
-  pub goto : (x : Float) → Sets o (after t o (Goto x) d) p (some (clampLit (o .settings) (levelUnits x)))
+  pub goto : (x : Float) → Sets o (after t o (Goto x) d) y (some (clampLit (o .settings) (levelUnits x)))
   goto x = puts (Goto x) (some _) (unfold effect wentTo jumped placed target in refl)
 
-  pub fade-to : (x : Float) → Sets o (after t o (FadeTo x) d) p (some (clampLit (o .settings) (levelUnits x)))
+  pub fade-to : (x : Float) → Sets o (after t o (FadeTo x) d) y (some (clampLit (o .settings) (levelUnits x)))
   fade-to x = puts (FadeTo x) (some _) (unfold effect fadedTo fadedOver placed target in refl)
 
-  pub fade-to-over : (x : Float) (l : ℕ) → Sets o (after t o (FadeToOver x l) d) p (some (clampLit (o .settings) (levelUnits x)))
+  pub fade-to-over : (x : Float) (l : ℕ) → Sets o (after t o (FadeToOver x l) d) y (some (clampLit (o .settings) (levelUnits x)))
   fade-to-over x l = puts (FadeToOver x l) (some _) (unfold effect fadedTo fadedOver placed target in refl)
 
-  pub ramp-to : (x : Float) → Sets o (after t o (RampTo x) d) p (some (clampLit (o .settings) (levelUnits x)))
+  pub ramp-to : (x : Float) → Sets o (after t o (RampTo x) d) y (some (clampLit (o .settings) (levelUnits x)))
   ramp-to x = puts (RampTo x) (some _) (unfold effect rampedTo rampedAt placed target in refl)
 
-  pub ramp-to-at-rate : (x r : Float) → Sets o (after t o (RampToAtRate x r) d) p (some (clampLit (o .settings) (levelUnits x)))
+  pub ramp-to-at-rate : (x r : Float) → Sets o (after t o (RampToAtRate x r) d) y (some (clampLit (o .settings) (levelUnits x)))
   ramp-to-at-rate x r = puts (RampToAtRate x r) (some _) (unfold effect rampedTo rampedAt placed target in refl)
 
   -- 'Step up: s plus step; step down: s minus step, not below 0; both brought into Min..Max. Step down from s = 0 stays 0'
-  pub step-up : Sets o (after t o StepUp d) p (some (min (o .settings .max) (max (o .settings .min) (progressValue t o + amountUnits (o .settings .step)))))
+  pub step-up : Sets o (after t o StepUp d) y (some (min (o .settings .max) (max (o .settings .min) (progressValue t o + amountUnits (o .settings .step)))))
   step-up = puts StepUp (some _) (unfold effect steppedUp jumped placed stepUpFrom in refl)
 
-  pub step-up-by : (x : Float) → Sets o (after t o (StepUpBy x) d) p (some (min (o .settings .max) (max (o .settings .min) (progressValue t o + amountUnits x))))
+  pub step-up-by : (x : Float) → Sets o (after t o (StepUpBy x) d) y (some (min (o .settings .max) (max (o .settings .min) (progressValue t o + amountUnits x))))
   step-up-by x = puts (StepUpBy x) (some _) (unfold effect steppedUp jumped placed stepUpFrom in refl)
 
   pub step-down : progressValue t o ≢ 0
-      → Sets o (after t o StepDown d) p (some (min (o .settings .max) (max (o .settings .min) (progressValue t o - amountUnits (o .settings .step)))))
+      → Sets o (after t o StepDown d) y (some (min (o .settings .max) (max (o .settings .min) (progressValue t o - amountUnits (o .settings .step)))))
   step-down n = puts StepDown (some _) (unfold effect steppedDown jumped placed stepDownFrom if_then_else_ in (rw (eqb-miss {a = progressValue t o} {b = 0} n)))
 
   pub step-down-by : (x : Float) → progressValue t o ≢ 0
-      → Sets o (after t o (StepDownBy x) d) p (some (min (o .settings .max) (max (o .settings .min) (progressValue t o - amountUnits x))))
+      → Sets o (after t o (StepDownBy x) d) y (some (min (o .settings .max) (max (o .settings .min) (progressValue t o - amountUnits x))))
   step-down-by x n =
       puts (StepDownBy x) (some _) (unfold effect steppedDown jumped placed stepDownFrom if_then_else_ in (rw (eqb-miss {a = progressValue t o} {b = 0} n)))
 
-  pub step-down-dark : progressValue t o ≡ 0 → Sets o (after t o StepDown d) p (some 0)
+  pub step-down-dark : progressValue t o ≡ 0 → Sets o (after t o StepDown d) y (some 0)
   step-down-dark e = puts StepDown (some _) (unfold effect steppedDown jumped placed stepDownFrom if_then_else_ in (rw (eqb-hit {a = progressValue t o} {b = 0} e)))
 
-  pub step-down-by-dark : (x : Float) → progressValue t o ≡ 0 → Sets o (after t o (StepDownBy x) d) p (some 0)
+  pub step-down-by-dark : (x : Float) → progressValue t o ≡ 0 → Sets o (after t o (StepDownBy x) d) y (some 0)
   step-down-by-dark x e =
       puts (StepDownBy x) (some _) (unfold effect steppedDown jumped placed stepDownFrom if_then_else_ in (rw (eqb-hit {a = progressValue t o} {b = 0} e)))
 
   -- 'RELINQUISH empties slot p'
-  pub relinquish : Sets o (after t o Relinquish d) p none
+  pub relinquish : Sets o (after t o Relinquish d) y none
   relinquish = puts Relinquish none (unfold effect relinquished in refl)
 
   -- 'STOP: if a movement belongs to p, it ends and slot p gets the reached level, raised to Min if above zero'
-  stop-by : (m : Movement) (v : ℕ) → o .activity ≡ Moving m → m .owner ≡ p → raised (o .settings) (progressValue t o) ≡ v
-      → Sets o (after t o Stop d) p (some v) × (after t o Stop d .activity ≡ Still)
+  stop-by : (m : Movement) (v : ℕ) → o .activity ≡ Moving m → m .owner ≡ y → raised (o .settings) (progressValue t o) ≡ v
+      → Sets o (after t o Stop d) y (some v) × (after t o Stop d .activity ≡ Still)
   stop-by m v e w r =
       let q = stop-own t (o .settings) (progressValue t o) before (o .activity) m e w in (
         puts Stop (some v) (ap (λ (k : Effect). k .slots) q ∙ (unfold halted in (rw r))),
         unfold commanded commandedFrom withCommand in (ap (λ (k : Effect). k .activity) q ∙ (unfold halted in refl)),
       )
 
-  pub stop-lit : (m : Movement) → o .activity ≡ Moving m → m .owner ≡ p → progressValue t o ≢ 0
-      → Sets o (after t o Stop d) p (some (max (o .settings .min) (progressValue t o))) × (after t o Stop d .activity ≡ Still)
+  pub stop-lit : (m : Movement) → o .activity ≡ Moving m → m .owner ≡ y → progressValue t o ≢ 0
+      → Sets o (after t o Stop d) y (some (max (o .settings .min) (progressValue t o))) × (after t o Stop d .activity ≡ Still)
   stop-lit m e w n = stop-by m _ e w (unfold raised if_then_else_ in (rw (eqb-miss {a = progressValue t o} {b = 0} n)))
 
-  pub stop-dark : (m : Movement) → o .activity ≡ Moving m → m .owner ≡ p → progressValue t o ≡ 0
-      → Sets o (after t o Stop d) p (some 0) × (after t o Stop d .activity ≡ Still)
+  pub stop-dark : (m : Movement) → o .activity ≡ Moving m → m .owner ≡ y → progressValue t o ≡ 0
+      → Sets o (after t o Stop d) y (some 0) × (after t o Stop d .activity ≡ Still)
   stop-dark m e w n = stop-by m _ e w (unfold raised if_then_else_ in (rw (eqb-hit {a = progressValue t o} {b = 0} n)))
 
   -- 'Else it changes no slot, a warning's end aside', and another slot's movement goes on
-  pub stop-other : (m : Movement) → o .activity ≡ Moving m → m .owner ≢ p → (after t o Stop d .slots ≡ before) × (after t o Stop d .activity ≡ Moving m)
+  pub stop-other : (m : Movement) → o .activity ≡ Moving m → m .owner ≢ y → (after t o Stop d .slots ≡ before) × (after t o Stop d .activity ≡ Moving m)
   unfolding commanded commandedFrom withCommand
   stop-other m e w =
       let q = stop-not-own t (o .settings) (progressValue t o) before (o .activity) m e w in
@@ -201,19 +202,19 @@ module _ (t : ℕ) (o : Output) (h : Sound t o) (d : Duration) where
       (ap (λ (k : Effect). k .slots) q, ap (λ (k : Effect). k .activity) q)
 
   -- a jump of the winner ends the movement; one that does not win leaves it
-  pub goto-wins : (x : Float) → winner (after t o (Goto x) d .slots) ≡ p → after t o (Goto x) d .activity ≡ Still
+  pub goto-wins : (x : Float) → winner (after t o (Goto x) d .slots) ≡ y → after t o (Goto x) d .activity ≡ Still
   unfolding commanded commandedFrom withCommand effect wentTo jumped placed replaced if_then_else_
-  goto-wins x w = rw (eqb-hit {a = winner (filled before p (target (o .settings) x))} {b = p} w)
+  goto-wins x w = rw (eqb-hit {a = winner (filled before y (target (o .settings) x))} {b = y} w)
 
-  pub goto-loses : (x : Float) → winner (after t o (Goto x) d .slots) ≢ p → after t o (Goto x) d .activity ≡ activityWithoutWarning (o .activity)
+  pub goto-loses : (x : Float) → winner (after t o (Goto x) d .slots) ≢ y → after t o (Goto x) d .activity ≡ activityWithoutWarning (o .activity)
   unfolding commanded commandedFrom withCommand effect wentTo jumped placed replaced if_then_else_
-  goto-loses x w = rw (eqb-miss {a = winner (filled before p (target (o .settings) x))} {b = p} w)
+  goto-loses x w = rw (eqb-miss {a = winner (filled before y (target (o .settings) x))} {b = y} w)
 
   -- 'if p owned the movement, it ends', and no other does
-  pub relinquish-own : (m : Movement) → o .activity ≡ Moving m → m .owner ≡ p → after t o Relinquish d .activity ≡ Still
+  pub relinquish-own : (m : Movement) → o .activity ≡ Moving m → m .owner ≡ y → after t o Relinquish d .activity ≡ Still
   unfolding commanded commandedFrom withCommand effect relinquished
-  relinquish-own m e w = endMovementOf-own p (o .activity) m e w
+  relinquish-own m e w = endMovementOf-own y (o .activity) m e w
 
-  pub relinquish-other : (m : Movement) → o .activity ≡ Moving m → m .owner ≢ p → after t o Relinquish d .activity ≡ Moving m
+  pub relinquish-other : (m : Movement) → o .activity ≡ Moving m → m .owner ≢ y → after t o Relinquish d .activity ≡ Moving m
   unfolding commanded commandedFrom withCommand effect relinquished
-  relinquish-other m e w = endMovementOf-other p (o .activity) m e w
+  relinquish-other m e w = endMovementOf-other y (o .activity) m e w

@@ -8,6 +8,7 @@ use mathlib.Core.Option.{Option, none, some}
 use Prim.Native.Nat.{ℕ, zero, suc, _+_, _-_, _≤_, _<_}
 use native.Mathlib.Omega.{arith}
 use lib.ListN.{getD, length}
+use Rattle.lighting_outputs.specs.Paper.Parameters.{Parameters}
 use Rattle.lighting_levels.specs.Paper.Choice.{if_then_else_}
 use Rattle.lighting_outputs.specs.Paper.Slots.{slotCount, slot6, Slots, slot, slotsOf, winningLevel, firstLive, winner, isLive, put, emptied, filled}
 use Rattle.lighting_outputs.specs.Paper.Value.{clampLit, presentValue}
@@ -67,7 +68,7 @@ put-six {z = z} {x = x} w n h =
       size = put-sized z (h .size) slot6 w;
       six = slot-same z (h .size) slot6 w (omega arith);
       own = slot-other z (h .size) slot6 x w (omega arith) (λ e. n (sym e)) ∙ h .own;
-      rest = λ i p q. slot-other z (h .size) slot6 i w (omega arith) (λ e. p (sym e)) ∙ h .rest i p q;
+      rest = λ i z′ q. slot-other z (h .size) slot6 i w (omega arith) (λ e. z′ (sym e)) ∙ h .rest i z′ q;
     }
 
 put-own : {s z : Slots} {x : ℕ} {a b : Option ℕ} (w : Option ℕ) → x < slotCount → x ≢ slot6 → State s x a b z → State s x a w (put z x w)
@@ -76,7 +77,7 @@ put-own {z = z} {x = x} w k n h =
       size = put-sized z (h .size) x w;
       six = slot-other z (h .size) x slot6 w k n ∙ h .six;
       own = slot-same z (h .size) x w k;
-      rest = λ i p q. slot-other z (h .size) x i w k (λ e. q (sym e)) ∙ h .rest i p q;
+      rest = λ i z′ q. slot-other z (h .size) x i w k (λ e. q (sym e)) ∙ h .rest i z′ q;
     }
 
 module _ (c : Settings) (s : Slots) (x : ℕ) (starts : Starts c s x) where
@@ -115,7 +116,7 @@ module _ {c : Settings} {s : Slots} {x v : ℕ} {a b : Option ℕ} (n t : ℕ) (
 
 -- a warning of slot x in the phase p, with the old level y, the turn u and the end v
 abbrev warningIn : Phase → ℕ → ℕ → ℕ → ℕ → Activity
-warningIn p x y u v = Warned (record { phase = p; owner = x; level = y; turn = u; over = v })
+warningIn z′ x y u v = Warned (record { phase = z′; owner = x; level = y; turn = u; over = v })
 
 -- the turn of a warning, and its end
 record Became (o o′ : Output) (z : Slots) (a : Activity) : Type 0 where
@@ -164,10 +165,10 @@ module _ (c : Settings) (s : Slots) (x y : ℕ) (starts : Starts c s x) (inside 
 
   -- what is seen of slots in a known state
   seen-lit : {w : ℕ} {b : Option ℕ} (v : ℕ) (o : Output) → clampLit c w ≡ v → o .settings ≡ c → State s x (some w) b (o .slots) → Seen c s x (some w) b v o
-  seen-lit v o e p h = record { settings = p; slots = h; present = rw p (present-six c s x starts (o .slots) h ∙ e) }
+  seen-lit v o e z′ h = record { settings = z′; slots = h; present = rw z′ (present-six c s x starts (o .slots) h ∙ e) }
 
   seen-over : {b : Option ℕ} (o : Output) → Unlit b → o .settings ≡ c → State s x none b (o .slots) → Seen c s x none b 0 o
-  seen-over o u p h = record { settings = p; slots = h; present = rw p (present-over c s x starts (o .slots) u h) }
+  seen-over o u z′ h = record { settings = z′; slots = h; present = rw z′ (present-over c s x starts (o .slots) u h) }
 
   later : {a b : Option ℕ} {v : ℕ} (n d t : ℕ) (o : Output) → d ≤ n → Seen c s x a b v (ticks (n - d) (t + d) (ticks d t o)) → Seen c s x a b v (ticks n t o)
   later {a} {b} {v} n d t o l h =
@@ -185,9 +186,9 @@ module _ (c : Settings) (s : Slots) (x y : ℕ) (starts : Starts c s x) (inside 
     ended : (n d u : ℕ) → 0 < d → o .activity ≡ warningIn Delay x y u (t + d) → Seen c s x (some y) (some 0) y o → TimerAfter (t + n) (o .timer) → d ≤ n
         → Seen c s x none none 0 (ticks n t o)
     unfolding withBurned withBurning
-    ended n d u p e h a l =
+    ended n d u z′ e h a l =
         let q : After (t + (d - 1)) o = both-after (t + (d - 1)) o (timer-earlier (o .timer) (omega arith) a) (rw e (unfold activityDue phaseEnd in (omega arith))) in
-        let r = at-last t d o (emptied (emptied (o .slots) slot6) x) Still p q
+        let r = at-last t d o (emptied (emptied (o .slots) slot6) x) Still z′ q
         (λ r. ends (t + d) x y u (withRelay (withBurned t d o) r) e (timer-earlier (o .timer) (omega arith) a)) in
         later n d t o l
         (waits (n - d) (t + d) (ticks d t o)
@@ -195,7 +196,7 @@ module _ (c : Settings) (s : Slots) (x y : ℕ) (starts : Starts c s x) (inside 
         (seen-over (ticks d t o) tt (r .settings ∙ h .settings) (rw (r .slots) (put-own none inside distance-six (put-six none distance-six (h .slots))))))
 
     -- the first: slot 6 holds 0 for B ms, then comes the second, or without D the end, at which slot x keeps its 0
-    module _ (b d : ℕ) (p : 0 < b) (e : o .activity ≡ warningIn Blink x y (t + b) (t + b + d)) (h : Seen c s x (some 0) (some 0) 0 o) where
+    module _ (b d : ℕ) (z′ : 0 < b) (e : o .activity ≡ warningIn Blink x y (t + b) (t + b + d)) (h : Seen c s x (some 0) (some 0) 0 o) where
       blinking : (n : ℕ) → TimerAfter (t + n) (o .timer) → n < b → Seen c s x (some 0) (some 0) 0 (ticks n t o)
       blinking n a l = waits n t o (both-after (t + n) o a (rw e (unfold activityDue phaseEnd in (omega arith)))) h
 
@@ -205,13 +206,13 @@ module _ (c : Settings) (s : Slots) (x y : ℕ) (starts : Starts c s x) (inside 
       turned : (n : ℕ) → TimerAfter (t + n) (o .timer) → b ≤ n → 0 < d → Became o (ticks b t o) (filled (o .slots) slot6 y) (warningIn Delay x y (t + b) (t + b + d))
       unfolding withBurned withBurning
       turned n a l q =
-          at-last t b o (filled (o .slots) slot6 y) (warningIn Delay x y (t + b) (t + b + d)) p (before-turn n a l)
+          at-last t b o (filled (o .slots) slot6 y) (warningIn Delay x y (t + b) (t + b + d)) z′ (before-turn n a l)
           (λ r. turns (t + b) x y (t + b + d) (withRelay (withBurned t b o) r) e (timer-earlier (o .timer) (omega arith) a) (omega arith))
 
       turned-off : (n : ℕ) → TimerAfter (t + n) (o .timer) → b ≤ n → d ≡ 0 → Became o (ticks b t o) (emptied (o .slots) slot6) Still
       unfolding withBurned withBurning
       turned-off n a l q =
-          at-last t b o (emptied (o .slots) slot6) Still p (before-turn n a l)
+          at-last t b o (emptied (o .slots) slot6) Still z′ (before-turn n a l)
           (λ r. turns-off (t + b) x y (t + b + d) (withRelay (withBurned t b o) r) e (timer-earlier (o .timer) (omega arith) a) (omega arith))
 
       put-out : (n : ℕ) → TimerAfter (t + n) (o .timer) → b ≤ n → d ≡ 0 → Seen c s x none (some 0) 0 (ticks n t o)
@@ -259,7 +260,7 @@ module _ (c : Settings) (s : Slots) (x : ℕ) (size : length (s .levels) ≡ slo
       (also-yes (leb-yes (first-from (slotsOf s) x (omega (arith, slots-size s)) (h .below)))
       (also-yes (leb-yes {a = 1} {b = presentValue c s} (h .lit))
       (also-yes (eqb-hit {a = c .default} {b = 0} (h .default))
-      (each-all (zeroOrEmpty s) (slotCount - (x + 1)) (x + 1) (λ j p q. zeroOrEmpty-slot s j size (omega arith) (h .above j (omega arith) (omega arith))))))))
+      (each-all (zeroOrEmpty s) (slotCount - (x + 1)) (x + 1) (λ j z′ q. zeroOrEmpty-slot s j size (omega arith) (h .above j (omega arith) (omega arith))))))))
 
   pub warns-starts : warns c s x ≡ true → Starts c s x
   unfolding warns warnsBy blinks zeroOrEmptyAbove zeroOrEmptyFrom
@@ -296,28 +297,28 @@ begun c s x z k n w =
       size = put-sized (filled s x 0) (put-sized s z x (some 0)) slot6 (some w);
       six = slot-same (filled s x 0) (put-sized s z x (some 0)) slot6 (some w) (omega arith);
       own = slot-other (filled s x 0) (put-sized s z x (some 0)) slot6 x (some w) (omega arith) (λ e. n (sym e)) ∙ slot-same s z x (some 0) k;
-      rest = λ i p q.
-          slot-other (filled s x 0) (put-sized s z x (some 0)) slot6 i (some w) (omega arith) (λ e. p (sym e)) ∙ slot-other s z x i (some 0) k (λ e. q (sym e));
+      rest = λ i z′ q.
+          slot-other (filled s x 0) (put-sized s z x (some 0)) slot6 i (some w) (omega arith) (λ e. z′ (sym e)) ∙ slot-other s z x i (some 0) k (λ e. q (sym e));
     }
 
 module _ (c : Settings) (s : Slots) (x y : ℕ) (starts : Starts c s x) (inside : x < slotCount) (same : clampLit c y ≡ y) (t : ℕ) (o : Output) where
   from-blink : 0 < c .blink → o .activity ≡ warningIn Blink x y (t + c .blink) (t + c .blink + c .delay) → Seen c s x (some 0) (some 0) 0 o → Course c s x y t o
-  from-blink p e h =
+  from-blink z′ e h =
       record {
-        dark = λ n a l. blinking c s x y starts inside same t o (c .blink) (c .delay) p e h n a l;
+        dark = λ n a l. blinking c s x y starts inside same t o (c .blink) (c .delay) z′ e h n a l;
         lit = λ n a l m. let q : 0 < c .delay = omega arith in
-            let r = turned c s x y starts inside same t o (c .blink) (c .delay) p e h n a l q in
+            let r = turned c s x y starts inside same t o (c .blink) (c .delay) z′ e h n a l q in
             later c s x y starts inside same n (c .blink) t o l
             (delaying c s x y starts inside same (t + c .blink) (ticks (c .blink) t o) (n - c .blink) (c .delay) (t + c .blink) (r .activity) (bright r)
             (timer-at c s x y starts inside same (t + c .blink + (n - c .blink)) (o .timer) (ticks (c .blink) t o .timer) (r .timer) (omega arith) a)
             (omega arith));
         over = λ n a l q. let b : c .blink ≤ n = omega arith in
-            let r = turned c s x y starts inside same t o (c .blink) (c .delay) p e h n a b q in
+            let r = turned c s x y starts inside same t o (c .blink) (c .delay) z′ e h n a b q in
             later c s x y starts inside same n (c .blink) t o b
             (ended c s x y starts inside same (t + c .blink) (ticks (c .blink) t o) (n - c .blink) (c .delay) (t + c .blink) q (r .activity) (bright r)
             (timer-at c s x y starts inside same (t + c .blink + (n - c .blink)) (o .timer) (ticks (c .blink) t o .timer) (r .timer) (omega arith) a)
             (omega arith));
-        over-without-delay = λ n a l q. put-out c s x y starts inside same t o (c .blink) (c .delay) p e h n a l q;
+        over-without-delay = λ n a l q. put-out c s x y starts inside same t o (c .blink) (c .delay) z′ e h n a l q;
       }
     where
       bright : Became o (ticks (c .blink) t o) (filled (o .slots) slot6 y) (warningIn Delay x y (t + c .blink) (t + c .blink + c .delay)) → Seen c s x (some y) (some 0) y (ticks (c .blink) t o)
@@ -328,40 +329,40 @@ module _ (c : Settings) (s : Slots) (x y : ℕ) (starts : Starts c s x) (inside 
   -- with B = 0 the second phase comes at once
   from-delay : c .blink ≡ 0 → o .activity ≡ warningIn Delay x y (t + c .blink) (t + c .blink + c .delay) → Seen c s x (some y) (some 0) y o → Course c s x y t o
   from-delay z e h =
-      let p : 0 < c .delay = omega (arith, starts .lasts) in
+      let z′ : 0 < c .delay = omega (arith, starts .lasts) in
       let f : o .activity ≡ warningIn Delay x y (t + c .blink) (t + c .delay) = e ∙ ap (λ (v : ℕ). warningIn Delay x y (t + c .blink) v) (omega arith) in
       record {
         dark = λ n a l. absurd (omega arith);
         lit = λ n a l m. delaying c s x y starts inside same t o n (c .delay) (t + c .blink) f h a (omega arith);
-        over = λ n a l q. ended c s x y starts inside same t o n (c .delay) (t + c .blink) p f h a (omega arith);
+        over = λ n a l q. ended c s x y starts inside same t o n (c .delay) (t + c .blink) z′ f h a (omega arith);
         over-without-delay = λ n a l q. absurd (omega arith);
       }
 
 -- KIND 02 without a warning running
-pub calm-by : (t : ℕ) (o : Output) (i v : ℕ) (a : Activity) → Acts t (o .settings) (o .slots) a → isLive (o .slots) slot6 ≡ false
+pub calm-by : (p : Parameters) (t : ℕ) (o : Output) (i v : ℕ) (a : Activity) → Acts p t (o .settings) (o .slots) a → isLive (o .slots) slot6 ≡ false
     → writtenBy t o i v a ≡ writtenCalm t o i v
 unfolding writtenBy
-calm-by t o i v Still h e = refl
-calm-by t o i v (Moving m) h e = refl
-calm-by t o i v (Warned w) h e = absurd (true≢false (sym (h .six) ∙ e))
+calm-by p t o i v Still h e = refl
+calm-by p t o i v (Moving m) h e = refl
+calm-by p t o i v (Warned w) h e = absurd (true≢false (sym (h .six) ∙ e))
 
 -- KIND 02 OF ZERO at slot x, the paper's conditions met: none is running, for slot 6 is among the slots below x
-pub warning : (t : ℕ) (o : Output) (x : ℕ) → Sound t o → x < slotCount → Starts (o .settings) (o .slots) x
+pub warning : (p : Parameters) (t : ℕ) (o : Output) (x : ℕ) → Sound p t o → x < slotCount → Starts (o .settings) (o .slots) x
     → Course (o .settings) (o .slots) x (presentValue (o .settings) (o .slots)) t (written t o x 0)
 unfolding written writtenCalm writtenZero warned warnedBy withEffect warningFrom firstLevel firstPhase if_then_else_
-warning t o x h inside starts =
+warning p t o x h inside starts =
     let c = o .settings in
     let s = o .slots in
     let y = presentValue c s in
     let z = h .slots .size in
     let n : x ≢ slot6 = λ e. omega (arith, starts .own) in
-    let same : clampLit c y ≡ y = unfold presentValue in (clampLit-clampLit c (winningLevel (c .default) s) (h .settings)) in
+    let same : clampLit c y ≡ y = unfold presentValue in (clampLit-clampLit p c (winningLevel (c .default) s) (h .settings)) in
     rw
-    (calm-by t o x 0 (o .activity) (h .activity) (isLive-slot s slot6 (omega arith) ∙ ap alive (starts .below slot6 (omega (arith, starts .own)))), starts-warns c s x z inside starts)
+    (calm-by p t o x 0 (o .activity) (h .activity) (isLive-slot s slot6 (omega arith) ∙ ap alive (starts .below slot6 (omega (arith, starts .own)))), starts-warns c s x z inside starts)
     (by-eq (c .blink) 0
-    (λ p e. rw e
-    (from-delay c s x y starts inside same t _ p refl (seen-lit c s x y starts inside same y _ same refl (begun c s x z inside n y))))
-    (λ p e. rw e
+    (λ z′ e. rw e
+    (from-delay c s x y starts inside same t _ z′ refl (seen-lit c s x y starts inside same y _ same refl (begun c s x z inside n y))))
+    (λ z′ e. rw e
     (from-blink c s x y starts inside same t _ (omega arith) refl (seen-lit c s x y starts inside same 0 _ zeroOrEmpty-zero refl (begun c s x z inside n 0)))))
   where
     zeroOrEmpty-zero : clampLit (o .settings) 0 ≡ 0

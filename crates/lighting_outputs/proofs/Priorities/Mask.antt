@@ -138,7 +138,7 @@ abbrev pub alive : Option ℕ → Bool
 alive none = false
 alive (some v) = true
 
-halved : (i m : ℕ) → m / 2 ^ suc i ≡ m / 2 / 2 ^ i
+pub halved : (i m : ℕ) → m / 2 ^ suc i ≡ m / 2 / 2 ^ i
 halved i m = sym (shr-shr m 1 i ∙ ap (λ (k : ℕ). m / 2 ^ k) (omega arith))
 
 slot-view : (m i : ℕ) (l : List ℕ) → i < length l → getD (view m l) i none ≡ (if eqb (m / 2 ^ i % 2) 1 then some (getD l i 0) else none)

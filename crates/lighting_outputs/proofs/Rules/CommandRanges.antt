@@ -6,7 +6,7 @@ use Prim.Native.Nat.{ℕ, _≤_}
 use native.Mathlib.Omega.{arith}
 use lib.Dec.{eqb}
 use Rattle.lighting_levels.specs.Paper.Choice.{if_then_else_}
-use Rattle.lighting_outputs.specs.Paper.Parameters.{Parameters, document01}
+use Rattle.lighting_outputs.specs.Paper.Parameters.{Parameters}
 use Rattle.lighting_outputs.specs.Paper.Answers.{levelRefusal}
 use Rattle.lighting_levels.specs.Paper.Level.{levelOf, amountOf}
 use Rattle.lighting_outputs.specs.Paper.Operations.{fieldsOf, durationField}
@@ -24,7 +24,8 @@ use Rattle.lighting_outputs.specs.declared.TimeField.the-variants.{Time,
 use Rattle.lighting_outputs.specs.declared.OperationFields.{OperationFields}
 use Rattle.lighting_outputs.specs.declared.Command.{Command}
 use Rattle.lighting_outputs.specs.declared.Property.the-variants.{FadeTime}
-use Rattle.lighting_outputs.specs.declared.Request.the-variants.{Refuse, Commands}
+use Rattle.lighting_outputs.specs.declared.Request.the-variants.{Refuse, ToOutput}
+use Rattle.lighting_outputs.specs.declared.OutputRequest.the-variants.{Commands}
 use Rattle.lighting_levels.proofs.Split.{by-bool, by-eq}
 use Rattle.lighting_outputs.proofs.Rules.Tied.{within-of, meets-of}
 use Rattle.lighting_outputs.proofs.Rules.RequestInRange.{OperationInRange, RequestInRange}
@@ -42,80 +43,80 @@ unfolding levelFieldRefusal amountFieldRefusal
 real-fit (Real x) = (level-fit (levelOf x), level-fit (amountOf x))
 real-fit NoReal = ((λ n. absurd (n refl)), (λ n. absurd (n refl)))
 
-time-fit : (x : TimeField) → Fit (timeFieldRefusal document01 x)
+time-fit : (p : Parameters) (x : TimeField) → Fit (timeFieldRefusal p x)
 unfolding timeFieldRefusal if_then_else_
-time-fit (Time l) =
-    by-bool (meets (rowOf document01 FadeTime) l) (λ e. rw e (λ n. absurd (n refl))) (λ e. rw e (λ n. omega arith))
-time-fit NoTime = λ n. absurd (n refl)
+time-fit p (Time l) =
+    by-bool (meets (rowOf p FadeTime) l) (λ e. rw e (λ n. absurd (n refl))) (λ e. rw e (λ n. omega arith))
+time-fit p NoTime = λ n. absurd (n refl)
 
 first-fit : (a b : ℕ) → Fit a → Fit b → Fit (firstRefusal a b)
 unfolding firstRefusal if_then_else_
-first-fit a b f g = by-eq a 0 (λ p e. rw e g) (λ p e. rw e f)
+first-fit a b f g = by-eq a 0 (λ y e. rw e g) (λ y e. rw e f)
 
-pub fields-fit : (f : OperationFields) → Fit (fieldsRefusal document01 f)
+pub fields-fit : (p : Parameters) (f : OperationFields) → Fit (fieldsRefusal p f)
 unfolding fieldsRefusal
-fields-fit f =
+fields-fit p f =
     first-fit _ _ (real-fit (f .level) .0)
-    (first-fit _ _ (real-fit (f .rate) .1) (first-fit _ _ (real-fit (f .step) .1) (time-fit (f .fade))))
+    (first-fit _ _ (real-fit (f .rate) .1) (first-fit _ _ (real-fit (f .step) .1) (time-fit p (f .fade))))
 
 -- with none met, no field met one
 first-none : (a b : ℕ) → firstRefusal a b ≡ 0 → (a ≡ 0) × (b ≡ 0)
 unfolding firstRefusal if_then_else_
-first-none a b = by-eq a 0 (λ p e. rw e (λ h. (p, h))) (λ p e. rw e (λ h. absurd (p h)))
+first-none a b = by-eq a 0 (λ y e. rw e (λ h. (y, h))) (λ y e. rw e (λ h. absurd (y h)))
 
-pub record NoneMet (f : OperationFields) : Type 0 where
+pub record NoneMet (p : Parameters) (f : OperationFields) : Type 0 where
   pub level : levelFieldRefusal (f .level) ≡ 0
   pub rate : amountFieldRefusal (f .rate) ≡ 0
   pub step : amountFieldRefusal (f .step) ≡ 0
-  pub fade : timeFieldRefusal document01 (f .fade) ≡ 0
+  pub fade : timeFieldRefusal p (f .fade) ≡ 0
 
-pub none-met : (f : OperationFields) → fieldsRefusal document01 f ≡ 0 → NoneMet f
+pub none-met : (p : Parameters) (f : OperationFields) → fieldsRefusal p f ≡ 0 → NoneMet p f
 unfolding fieldsRefusal
-none-met f h =
+none-met p f h =
     let level = first-none _ _ h in
     let rate = first-none _ _ (level .1) in
     let step = first-none _ _ (rate .1) in
     record { level = level .0; rate = rate .0; step = step .0; fade = step .1 }
 
-time-good : (l : ℕ) → timeFieldRefusal document01 (Time l) ≡ 0 → meets (rowOf document01 FadeTime) l ≡ true
+time-good : (p : Parameters) (l : ℕ) → timeFieldRefusal p (Time l) ≡ 0 → meets (rowOf p FadeTime) l ≡ true
 unfolding timeFieldRefusal if_then_else_
-time-good l =
-    by-bool (meets (rowOf document01 FadeTime) l) (λ e. rw e (λ h. refl)) (λ e. rw e (λ h. absurd (omega arith)))
+time-good p l =
+    by-bool (meets (rowOf p FadeTime) l) (λ e. rw e (λ h. refl)) (λ e. rw e (λ h. absurd (omega arith)))
 
-operation-good : (o : Operation) → fieldsRefusal document01 (fieldsOf o) ≡ 0 → OperationInRange o
+operation-good : (p : Parameters) (o : Operation) → fieldsRefusal p (fieldsOf o) ≡ 0 → OperationInRange p o
 unfolding fieldsOf
-operation-good Stop h = tt
-operation-good (FadeTo x) h = tt
-operation-good (FadeToOver x l) h =
-    meets-of (rowOf document01 FadeTime) l (time-good l (none-met _ h .fade))
-operation-good (RampTo x) h = tt
-operation-good (RampToAtRate x r) h = tt
-operation-good StepUp h = tt
-operation-good StepDown h = tt
-operation-good (StepUpBy x) h = tt
-operation-good (StepDownBy x) h = tt
-operation-good (Goto x) h = tt
-operation-good Relinquish h = tt
+operation-good p Stop h = tt
+operation-good p (FadeTo x) h = tt
+operation-good p (FadeToOver x l) h =
+    meets-of (rowOf p FadeTime) l (time-good p l (none-met p _ h .fade))
+operation-good p (RampTo x) h = tt
+operation-good p (RampToAtRate x r) h = tt
+operation-good p StepUp h = tt
+operation-good p StepDown h = tt
+operation-good p (StepUpBy x) h = tt
+operation-good p (StepDownBy x) h = tt
+operation-good p (Goto x) h = tt
+operation-good p Relinquish h = tt
 
-commandWithDuration-good : (o : Operation) (duration : TimeField) → OperationInRange o → RequestInRange (commandWithDuration document01 o duration)
+commandWithDuration-good : (p : Parameters) (o : Operation) (duration : TimeField) → OperationInRange p o → RequestInRange p (commandWithDuration p o duration)
 unfolding commandWithDuration commandLasting if_then_else_
-commandWithDuration-good o (Time d) g =
+commandWithDuration-good p o (Time d) g =
     by-bool (eqb d 0) (λ e. rw e ((g, tt))) (λ e. rw e
-    (by-bool (within 100 (document01 .longestDuration) d) (λ e. rw e ((g, within-of 100 (document01 .longestDuration) d e))) (λ e. rw e (omega arith))))
-commandWithDuration-good o NoTime g = (g, tt)
+    (by-bool (within 100 (p .duration) d) (λ e. rw e ((g, within-of 100 (p .duration) d e))) (λ e. rw e (omega arith))))
+commandWithDuration-good p o NoTime g = (g, tt)
 
-pub commandOf-good : (o : Operation) (duration : TimeField) → RequestInRange (commandOf document01 o duration)
+pub commandOf-good : (p : Parameters) (o : Operation) (duration : TimeField) → RequestInRange p (commandOf p o duration)
 unfolding commandOf commandRequestBy if_then_else_
-commandOf-good o duration =
+commandOf-good p o duration =
     by-eq
-    (fieldsRefusal document01 (fieldsOf o))
+    (fieldsRefusal p (fieldsOf o))
     0
-    (λ p e. rw e (commandWithDuration-good o duration (operation-good o p)))
-    (λ p e. rw e (fields-fit (fieldsOf o) p))
+    (λ y e. rw e (commandWithDuration-good p o duration (operation-good p o y)))
+    (λ y e. rw e (fields-fit p (fieldsOf o) y))
 
-pub commandRequest-good : (o : Operation) (d : ℕ) → RequestInRange (commandRequest document01 o d)
+pub commandRequest-good : (p : Parameters) (o : Operation) (d : ℕ) → RequestInRange p (commandRequest p o d)
 unfolding commandRequest
-commandRequest-good o d = commandOf-good o (plainDuration d)
+commandRequest-good p o d = commandOf-good p o (plainDuration d)
 
 -- A COMMAND THAT WAS TAKEN: its fields are in range, and it has the operation and the duration that were asked
 pub record Taken (p : Parameters) (o : Operation) (duration : TimeField) (k : Command) : Type 0 where
@@ -123,24 +124,24 @@ pub record Taken (p : Parameters) (o : Operation) (duration : TimeField) (k : Co
   pub operation : k .operation ≡ o
   pub lasting : durationField (k .duration) ≡ duration
 
-asked-for : {o : Operation} {d : Duration} (k : Command) → Commands (record { operation = o; duration = d }) ≡ Commands k → (k .operation ≡ o) × (durationField (k .duration) ≡ durationField d)
+asked-for : {o : Operation} {d : Duration} (k : Command) → ToOutput (Commands (record { operation = o; duration = d })) ≡ ToOutput (Commands k) → (k .operation ≡ o) × (durationField (k .duration) ≡ durationField d)
 asked-for {o} {d} k h = let same : record { operation = o; duration = d } ≡ k = cc in (sym (ap (λ (c : Command). c .operation) same), sym (ap (λ (c : Command). durationField (c .duration)) same))
 
-pub refused-never : {r : ℕ} (k : Command) → Refuse r ≡ Commands k → ⊥
+pub refused-never : {r : ℕ} (k : Command) → Refuse r ≡ ToOutput (Commands k) → ⊥
 refused-never k h = let z : _≡_ {A = ℕ} 0 1 = cc in omega arith
 
-durations : (p : Parameters) (o : Operation) (duration : TimeField) (k : Command) → commandWithDuration p o duration ≡ Commands k
+durations : (p : Parameters) (o : Operation) (duration : TimeField) (k : Command) → commandWithDuration p o duration ≡ ToOutput (Commands k)
     → (k .operation ≡ o) × (durationField (k .duration) ≡ duration)
 unfolding commandWithDuration commandLasting durationField if_then_else_
 durations p o (Time d) k =
     by-eq d 0
     (λ z e. rw e (λ h. let q = asked-for k h in (q .0, q .1 ∙ ap Time (sym z))))
-    (λ z e. rw e (by-bool (within 100 (p .longestDuration) d) (λ q. rw q (λ h. asked-for k h)) (λ q. rw q (λ h. absurd (refused-never k h)))))
+    (λ z e. rw e (by-bool (within 100 (p .duration) d) (λ q. rw q (λ h. asked-for k h)) (λ q. rw q (λ h. absurd (refused-never k h)))))
 durations p o NoTime k = λ h. asked-for k h
 
-pub taken : (p : Parameters) (o : Operation) (duration : TimeField) (k : Command) → commandOf p o duration ≡ Commands k → Taken p o duration k
+pub command-taken : (p : Parameters) (o : Operation) (duration : TimeField) (k : Command) → commandOf p o duration ≡ ToOutput (Commands k) → Taken p o duration k
 unfolding commandOf commandRequestBy if_then_else_
-taken p o duration k =
+command-taken p o duration k =
     by-eq (fieldsRefusal p (fieldsOf o)) 0
     (λ z e. rw e (λ h. let d = durations p o duration k h in record { ranges = z; operation = d .0; lasting = d .1 }))
     (λ z e. rw e (λ h. absurd (refused-never k h)))

@@ -5,7 +5,7 @@ use mathlib.Core.Bool.{true, false}
 use mathlib.Core.Option.{Option, none, some}
 use Prim.Native.Nat.{ℕ, _+_, _-_, _*_, _≤_, _<_, min}
 use lib.ListN.{length}
-use Rattle.lighting_outputs.specs.Paper.Parameters.{document01}
+use Rattle.lighting_outputs.specs.Paper.Parameters.{Parameters, longestMovement}
 use Rattle.lighting_outputs.specs.declared.Settings.{Settings}
 use Rattle.lighting_outputs.specs.declared.Relay.{Relay}
 use Rattle.lighting_outputs.specs.declared.Movement.{Movement}
@@ -47,17 +47,17 @@ Meets (Whole low high) v = Within low high v
 Meets Priority v = Slot v
 Meets ReadOnly v = ⊥
 
-pub record SettingsInRange (c : Settings) : Type 0 where
-  pub default : Meets (rowOf document01 RelinquishDefault) (c .default)
-  pub min : Meets (rowOf document01 MinValue) (c .min)
-  pub max : Meets (rowOf document01 MaxValue) (c .max)
+pub record SettingsInRange (p : Parameters) (c : Settings) : Type 0 where
+  pub default : Meets (rowOf p RelinquishDefault) (c .default)
+  pub min : Meets (rowOf p MinValue) (c .min)
+  pub max : Meets (rowOf p MaxValue) (c .max)
   pub order : c .min ≤ c .max
-  pub fade : Meets (rowOf document01 FadeTime) (c .fade)
-  pub blink : Meets (rowOf document01 BlinkTime) (c .blink)
-  pub delay : Meets (rowOf document01 BlinkWarnDelay) (c .delay)
-  pub ramp : meetsReal (rowOf document01 RampRate) (c .ramp) ≡ true
-  pub step : meetsReal (rowOf document01 StepIncrement) (c .step) ≡ true
-  pub slot : Meets (rowOf document01 CommandPriority) (c .slot)
+  pub fade : Meets (rowOf p FadeTime) (c .fade)
+  pub blink : Meets (rowOf p BlinkTime) (c .blink)
+  pub delay : Meets (rowOf p BlinkWarnDelay) (c .delay)
+  pub ramp : meetsReal (rowOf p RampRate) (c .ramp) ≡ true
+  pub step : meetsReal (rowOf p StepIncrement) (c .step) ≡ true
+  pub slot : Meets (rowOf p CommandPriority) (c .slot)
 
 abbrev pub SlotLevel : Option ℕ → Type 0
 SlotLevel none = Unit {0}
@@ -67,14 +67,14 @@ pub record Filled (s : Slots) : Type 0 where
   pub size : length (s .levels) ≡ slotCount
   pub level : (i : ℕ) → i < slotCount → SlotLevel (slot s i)
 
-pub record Moves (t : ℕ) (c : Settings) (s : Slots) (m : Movement) : Type 0 where
+pub record Moves (p : Parameters) (t : ℕ) (c : Settings) (s : Slots) (m : Movement) : Type 0 where
   pub six : isLive s slot6 ≡ false
   pub owner : m .owner < slotCount
   pub wins : m .owner ≡ winner s
   pub start : m .start ≤ c .max
   pub aims : m .target ≡ presentValue c s
   pub began : m .over - t ≤ m .length
-  pub long : Within 1 (document01 .longestMovement) (m .length)
+  pub long : Within 1 (longestMovement p) (m .length)
   pub later : t < m .over
 
 pub record Warns (t : ℕ) (s : Slots) (w : Warning) : Type 0 where
@@ -84,33 +84,33 @@ pub record Warns (t : ℕ) (s : Slots) (w : Warning) : Type 0 where
   pub later : t < phaseEnd w (w .phase)
   pub order : phaseEnd w (w .phase) ≤ w .over
 
-abbrev pub Acts : ℕ → Settings → Slots → Activity → Type 0
-Acts t c s Still = isLive s slot6 ≡ false
-Acts t c s (Moving m) = Moves t c s m
-Acts t c s (Warned w) = Warns t s w
+abbrev pub Acts : Parameters → ℕ → Settings → Slots → Activity → Type 0
+Acts p t c s Still = isLive s slot6 ≡ false
+Acts p t c s (Moving m) = Moves p t c s m
+Acts p t c s (Warned w) = Warns t s w
 
 abbrev pub Timed : ℕ → Timer → Type 0
 Timed t Off = Unit {0}
 Timed t (Running slot due) = Slot slot × (t < due)
 
-pub record RelayInRange (r : Relay) : Type 0 where
-  pub active : Meets (rowOf document01 BinaryActiveValue) (r .active)
-  pub inactive : Meets (rowOf document01 BinaryInactiveValue) (r .inactive)
+pub record RelayInRange (p : Parameters) (r : Relay) : Type 0 where
+  pub active : Meets (rowOf p BinaryActiveValue) (r .active)
+  pub inactive : Meets (rowOf p BinaryInactiveValue) (r .inactive)
   pub order : r .inactive < r .active
 
 -- all the rules but the last
-pub record Sound (t : ℕ) (o : Output) : Type 0 where
-  pub settings : SettingsInRange (o .settings)
+pub record Sound (p : Parameters) (t : ℕ) (o : Output) : Type 0 where
+  pub settings : SettingsInRange p (o .settings)
   pub slots : Filled (o .slots)
-  pub activity : Acts t (o .settings) (o .slots) (o .activity)
+  pub activity : Acts p t (o .settings) (o .slots) (o .activity)
   pub timer : Timed t (o .timer)
   pub burnt : o .burning ≤ t
-  pub relay : RelayInRange (o .relay)
+  pub relay : RelayInRange p (o .relay)
 
 -- the last: the relay is as judging leaves it (§3). Between an act and its judging the others hold without it
 pub record Judged (o : Output) : Type 0 where
   pub same : o .relay .binary ≡ binaryAt (presentValue (o .settings) (o .slots)) (o .relay)
 
-pub record Lawful (t : ℕ) (o : Output) : Type 0 where
-  pub sound : Sound t o
+pub record Lawful (p : Parameters) (t : ℕ) (o : Output) : Type 0 where
+  pub sound : Sound p t o
   pub judged : Judged o

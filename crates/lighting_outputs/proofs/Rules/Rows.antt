@@ -7,7 +7,7 @@ use native.Mathlib.Omega.{arith}
 use native.Mathlib.Nat.{add-sub-cancel-left}
 use lib.Dec.{leb}
 use Rattle.lighting_levels.specs.Paper.Choice.{if_then_else_}
-use Rattle.lighting_outputs.specs.Paper.Parameters.{document01}
+use Rattle.lighting_outputs.specs.Paper.Parameters.{Parameters}
 use Rattle.lighting_levels.specs.Paper.Level.{real, levelOf, limitOf}
 use Rattle.lighting_outputs.specs.Paper.Rows.{rowOf, within, isAmount, isPriority}
 use Rattle.lighting_outputs.specs.Paper.Properties.{numberOf, properties, numbered, propertyOf, same, changeTo, changeBy, changeOf}
@@ -17,7 +17,8 @@ use Rattle.lighting_outputs.specs.declared.Property.{Property}
 use Rattle.lighting_outputs.specs.declared.Property.the-variants.{RelinquishDefault, FadeTime, RampRate, StepIncrement, BlinkEnable, BlinkTime, BlinkWarnDelay, MinValue, MaxValue, CommandPriority, ElapsedActiveTime, PresentValue, ProgressValue, InProcess, LastOperation, LastLevel, LastRate, LastStep, LastFadeTime, LastDuration, BinaryActiveValue, BinaryInactiveValue, Polarity, BinaryPresentValue, RelayState, SlotValue, Unknown}
 use Rattle.lighting_outputs.specs.declared.Range.{Range}
 use Rattle.lighting_outputs.specs.declared.Range.the-variants.{Percent, Limit, Amount, Whole, Priority, ReadOnly}
-use Rattle.lighting_outputs.specs.declared.Request.the-variants.{Change}
+use Rattle.lighting_outputs.specs.declared.Request.the-variants.{ToOutput}
+use Rattle.lighting_outputs.specs.declared.OutputRequest.the-variants.{Change}
 use Rattle.lighting_levels.proofs.Split.{by-bool, by-eq, by-lt, leb-yes, eq-of, eqb-miss}
 use Rattle.lighting_levels.proofs.Ranges.{level-units, limit-units}
 use Rattle.lighting_outputs.proofs.Rules.Facts.{Slot, Meets}
@@ -28,25 +29,25 @@ use Rattle.lighting_outputs.specs.Paper.Slots.{slotCount}
 -- A WRITE's request is good, by the row
 pub priority-of : (n : ℕ) → isPriority n ≡ true → Slot (n - 1)
 unfolding isPriority if_then_else_
-priority-of n h = by-eq n 0 (λ p e. absurd (false≢true (rw e at h))) (λ p e. slot-of (n - 1) (rw e at h))
+priority-of n h = by-eq n 0 (λ z e. absurd (false≢true (rw e at h))) (λ z e. slot-of (n - 1) (rw e at h))
 
-to-good : (n : Property) (l : Level) → ((v : ℕ) → l ≡ Units v → RequestInRange (Change n v)) → RequestInRange (changeTo n l)
+to-good : (p : Parameters) (n : Property) (l : Level) → ((v : ℕ) → l ≡ Units v → RequestInRange p (ToOutput (Change n v))) → RequestInRange p (changeTo n l)
 unfolding changeTo
-to-good n (Units v) f = f v refl
-to-good n OutOfRange f = omega arith
+to-good p n (Units v) f = f v refl
+to-good p n OutOfRange f = omega arith
 
-row-good : (r : Range) (n : Property) (x : ℕ) → ((v : ℕ) → Meets r v → RequestInRange (Change n v)) → RequestInRange (changeBy r n x)
+row-good : (p : Parameters) (r : Range) (n : Property) (x : ℕ) → ((v : ℕ) → Meets r v → RequestInRange p (ToOutput (Change n v))) → RequestInRange p (changeBy r n x)
 unfolding changeBy if_then_else_
-row-good Percent n x f = to-good n (levelOf (real x)) (λ v e. let u = level-units (real x) v e in f v (record { least = u .0; most = u .1 }))
-row-good Limit n x f = to-good n (limitOf (real x)) (λ v e. let u = limit-units (real x) v e in f v (record { least = u .0; most = u .1 }))
-row-good Amount n x f = by-bool (isAmount (real x)) (λ e. rw e (f x e)) (λ e. rw e (omega arith))
-row-good (Whole low high) n x f = by-bool (within low high x) (λ e. rw e (f x (within-of low high x e))) (λ e. rw e (omega arith))
-row-good Priority n x f = by-bool (isPriority x) (λ e. rw e (f (x - 1) (priority-of x e))) (λ e. rw e (omega arith))
-row-good ReadOnly n x f = omega arith
+row-good p Percent n x f = to-good p n (levelOf (real x)) (λ v e. let u = level-units (real x) v e in f v (record { least = u .0; most = u .1 }))
+row-good p Limit n x f = to-good p n (limitOf (real x)) (λ v e. let u = limit-units (real x) v e in f v (record { least = u .0; most = u .1 }))
+row-good p Amount n x f = by-bool (isAmount (real x)) (λ e. rw e (f x e)) (λ e. rw e (omega arith))
+row-good p (Whole low high) n x f = by-bool (within low high x) (λ e. rw e (f x (within-of low high x e))) (λ e. rw e (omega arith))
+row-good p Priority n x f = by-bool (isPriority x) (λ e. rw e (f (x - 1) (priority-of x e))) (λ e. rw e (omega arith))
+row-good p ReadOnly n x f = omega arith
 
-pub change-good : (n : Property) (x : ℕ) → RequestInRange (changeOf document01 n x)
+pub change-good : (p : Parameters) (n : Property) (x : ℕ) → RequestInRange p (changeOf p n x)
 unfolding changeOf
-change-good n x = row-good (rowOf document01 n) n x (λ v m. m)
+change-good p n x = row-good p (rowOf p n) n x (λ v m. m)
 
 -- THE NUMBER AND THE TABLE of properties say the same: by its number a property is found again, unless it is a slot past the sixteenth
 by-number : {P : Type 0} (n : Property) → (propertyOf (numberOf n) ≡ n → P) → ((i : ℕ) → slotCount ≤ i → n ≡ SlotValue i → P) → P
@@ -102,19 +103,19 @@ pub unlisted : (n : ℕ) → 0x1b < n → numbered properties n ≡ Unknown
 unlisted n h = past-most properties n h
 
 -- THE SAME PROPERTY has the same row: the number says which it is
-row-number : (n : Property) → rowOf document01 (propertyOf (numberOf n)) ≡ rowOf document01 n
-row-number n = by-number n (λ e. ap (rowOf document01) e) (λ i l q. rw q (beyond i))
+row-number : (p : Parameters) (n : Property) → rowOf p (propertyOf (numberOf n)) ≡ rowOf p n
+row-number p n = by-number n (λ e. ap (rowOf p) e) (λ i l q. rw q (beyond i))
   where
-    beyond : (i : ℕ) → rowOf document01 (propertyOf (numberOf (SlotValue i))) ≡ ReadOnly
+    beyond : (i : ℕ) → rowOf p (propertyOf (numberOf (SlotValue i))) ≡ ReadOnly
     beyond i = unfold propertyOf numbered if_then_else_ in (rw (leb-yes {a = 0x21} {b = 0x21 + i} (omega arith)) (by-bool (leb (0x21 + i) 0x30) (λ e. rw e) (λ e. rw e)))
 
-pub same-row : (n m : Property) → same n m ≡ true → rowOf document01 n ≡ rowOf document01 m
+pub same-row : (p : Parameters) (n m : Property) → same n m ≡ true → rowOf p n ≡ rowOf p m
 unfolding same
-same-row n m h =
-    sym (row-number n) ∙ ap (λ (k : ℕ). rowOf document01 (propertyOf k)) (eq-of h) ∙ row-number m
+same-row p n m h =
+    sym (row-number p n) ∙ ap (λ (k : ℕ). rowOf p (propertyOf k)) (eq-of h) ∙ row-number p m
 
 -- A FIELD that takes the value of a write of its own property keeps its row
-pub kept-met : (field n : Property) (v old : ℕ) → Meets (rowOf document01 n) v → Meets (rowOf document01 field) old
-    → Meets (rowOf document01 field) (if same field n then v else old)
+pub kept-met : (p : Parameters) (field n : Property) (v old : ℕ) → Meets (rowOf p n) v → Meets (rowOf p field) old
+    → Meets (rowOf p field) (if same field n then v else old)
 unfolding if_then_else_
-kept-met field n v old g h = by-bool (same field n) (λ e. rw e (rw (same-row field n e) g)) (λ e. rw e h)
+kept-met p field n v old g h = by-bool (same field n) (λ e. rw e (rw (same-row p field n e) g)) (λ e. rw e h)

@@ -10,7 +10,7 @@ use Prim.Native.Nat.{ℕ, zero, suc, _+_, _-_, _≤_, _<_, min}
 use native.Mathlib.Nat.{zero-add, add-zero, suc-add, sub-self, add-assoc}
 use native.Mathlib.Omega.{arith}
 use lib.Dec.{eqb}
-use Rattle.lighting_levels.specs.Paper.Choice.{if_then_else_}
+use Rattle.lighting_levels.specs.Paper.Choice.{if_then_else_, Every}
 use Rattle.lighting_outputs.proofs.Time.Light.{counted}
 use Rattle.lighting_outputs.proofs.Rules.Facts.{Judged}
 use Rattle.lighting_outputs.proofs.Time.Judged.{judged-stays, withBurning-judged, fire-judged}
@@ -38,8 +38,7 @@ MomentAfter t Never = Unit {0}
 MomentAfter t (At d) = t < d
 
 abbrev AllAfter : ℕ → List Moment → Type 0
-AllAfter t [] = Unit {0}
-AllAfter t (d ∷ l) = MomentAfter t d × AllAfter t l
+AllAfter t l = Every (MomentAfter t) l
 
 pub record After (t : ℕ) (o : Output) : Type 0 where
   pub all : AllAfter t (dueMoments o)

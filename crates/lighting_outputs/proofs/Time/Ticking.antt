@@ -6,6 +6,7 @@ use mathlib.Core.Option.{none, some}
 use Prim.Native.Nat.{ℕ, zero, suc, _+_, _-_, _≤_}
 use native.Mathlib.Nat.{add-zero}
 use native.Mathlib.Omega.{arith}
+use Rattle.lighting_outputs.specs.Paper.Parameters.{Parameters}
 use Rattle.lighting_levels.specs.Paper.Choice.{if_then_else_}
 use Rattle.lighting_levels.proofs.Split.{by-eq, by-lt, by-bool}
 use Rattle.lighting_outputs.specs.declared.Settings.{Settings}
@@ -32,42 +33,42 @@ use Rattle.lighting_outputs.proofs.Rules.Tied.{sound-calm}
 use Rattle.lighting_outputs.proofs.Priorities.Levels.{put-filled}
 
 -- slots and activity together
-record Effect (t : ℕ) (c : Settings) (s : Slots) (a : Activity) : Type 0 where
+record Effect (p : Parameters) (t : ℕ) (c : Settings) (s : Slots) (a : Activity) : Type 0 where
   slots : Filled s
-  activity : Acts t c s a
+  activity : Acts p t c s a
 
 -- THE DURATION
-pub endMovementOf-acts : (t : ℕ) (c : Settings) (s : Slots) (q : ℕ) (a : Activity) → Slot q → Filled s → Acts t c s a
-    → Acts t c (emptied s q) (endMovementOf q a)
+pub endMovementOf-acts : (p : Parameters) (t : ℕ) (c : Settings) (s : Slots) (q : ℕ) (a : Activity) → Slot q → Filled s → Acts p t c s a
+    → Acts p t c (emptied s q) (endMovementOf q a)
 unfolding endMovementOf if_then_else_
-endMovementOf-acts t c s q Still g f h = six-kept s (f .size) q none (g .inside) (g .free) ∙ h
-endMovementOf-acts t c s q (Moving m) g f h =
+endMovementOf-acts p t c s q Still g f h = six-kept s (f .size) q none (g .inside) (g .free) ∙ h
+endMovementOf-acts p t c s q (Moving m) g f h =
     let k = six-kept s (f .size) q none (g .inside) (g .free) in
-    by-eq (m .owner) q (λ p e. rw e (k ∙ h .six)) (λ p e. rw e (goes-on p k))
+    by-eq (m .owner) q (λ z e. rw e (k ∙ h .six)) (λ z e. rw e (goes-on z k))
   where
-    goes-on : m .owner ≢ q → isLive (emptied s q) slot6 ≡ isLive s slot6 → Moves t c (emptied s q) m
+    goes-on : m .owner ≢ q → isLive (emptied s q) slot6 ≡ isLive s slot6 → Moves p t c (emptied s q) m
     goes-on n k =
         let w = winner-empty s (f .size) q (g .inside) (omega (arith, h .wins)) in
-        let p = winningLevel-empty s (f .size) (c .default) q (g .inside) (omega (arith, h .wins)) in
+        let z = winningLevel-empty s (f .size) (c .default) q (g .inside) (omega (arith, h .wins)) in
         unfold presentValue in search arith
-endMovementOf-acts t c s q (Warned w) g f h = let k = six-kept s (f .size) q none (g .inside) (g .free) in search
+endMovementOf-acts p t c s q (Warned w) g f h = let k = six-kept s (f .size) q none (g .inside) (g .free) in search
 
-expired-effect : (t d : ℕ) (c : Settings) (s : Slots) (m : Timer) (a : Activity) → Timed t m → Filled s → Acts t c s a
-    → Effect t c (expired d m s) (endMovementOnExpiry d m a)
+expired-effect : (p : Parameters) (t d : ℕ) (c : Settings) (s : Slots) (m : Timer) (a : Activity) → Timed t m → Filled s → Acts p t c s a
+    → Effect p t c (expired d m s) (endMovementOnExpiry d m a)
 unfolding expired endMovementOnExpiry if_then_else_
-expired-effect t d c s m a k f h =
+expired-effect p t d c s m a k f h =
     by-bool (isDue d (timerDue m)) (λ e. rw e (falls m k)) (λ e. rw e (record { slots = f; activity = h }))
   where
-    falls : (n : Timer) → Timed t n → Effect t c (emptiedBy n s) (endMovementBy n a)
+    falls : (n : Timer) → Timed t n → Effect p t c (emptiedBy n s) (endMovementBy n a)
     falls Off k = unfold emptiedBy endMovementBy in (record { slots = f; activity = h })
     falls (Running q e) k = unfold emptiedBy endMovementBy in
-        (record { slots = put-filled s q none f (k .0 .inside) tt; activity = endMovementOf-acts t c s q a (k .0) f h })
+        (record { slots = put-filled s q none f (k .0 .inside) tt; activity = endMovementOf-acts p t c s q a (k .0) f h })
 
 -- THE WARNING AND THE MOVEMENT
-phase-effect : (t : ℕ) (c : Settings) (s : Slots) (w : Warning) (p : Phase) → Filled s → isLive s slot6 ≡ true → Within 6 15 (w .owner)
-    → IsLevel (w .level) → phaseEnd w p ≡ t → Effect t c (phaseSlots w p s) (nextPhase w p)
+phase-effect : (p : Parameters) (t : ℕ) (c : Settings) (s : Slots) (w : Warning) (z : Phase) → Filled s → isLive s slot6 ≡ true → Within 6 15 (w .owner)
+    → IsLevel (w .level) → phaseEnd w z ≡ t → Effect p t c (phaseSlots w z s) (nextPhase w z)
 unfolding phaseSlots nextPhase delayed phaseEnd if_then_else_
-phase-effect t c s w Blink f l x y h =
+phase-effect p t c s w Blink f l x y h =
     by-lt
     (w .turn)
     (w .over)
@@ -75,75 +76,75 @@ phase-effect t c s w Blink f l x y h =
     (let k = six-set s (f .size) (some (w .level)) in
     record { slots = put-filled s slot6 (some (w .level)) f (omega arith) y; activity = search arith }))
     (λ q e. rw e (record { slots = put-filled s slot6 none f (omega arith) tt; activity = six-set s (f .size) none }))
-phase-effect t c s w Delay f l x y h =
+phase-effect p t c s w Delay f l x y h =
     let f₁ = put-filled s slot6 none f (omega arith) tt in
     record {
       slots = put-filled (emptied s slot6) (w .owner) none f₁ (omega (arith, x)) tt;
       activity = six-kept (emptied s slot6) (f₁ .size) (w .owner) none (omega (arith, x)) (omega (arith, x)) ∙ six-set s (f .size) none;
     }
 
-next-effect : (t : ℕ) (c : Settings) (s : Slots) (a : Activity) → Filled s → Acts t c s a
-    → Effect (suc t) c (slotsAt (suc t) a s) (activityAt (suc t) a)
+next-effect : (p : Parameters) (t : ℕ) (c : Settings) (s : Slots) (a : Activity) → Filled s → Acts p t c s a
+    → Effect p (suc t) c (slotsAt (suc t) a s) (activityAt (suc t) a)
 unfolding slotsAt activityAt nextSlots nextActivity activityDue isDue if_then_else_
-next-effect t c s Still f h = record { slots = f; activity = h }
-next-effect t c s (Moving m) f h =
+next-effect p t c s Still f h = record { slots = f; activity = h }
+next-effect p t c s (Moving m) f h =
     by-eq
     (m .over)
     (suc t)
-    (λ p e. rw e (record { slots = f; activity = h .six }))
-    (λ p e. rw e (record { slots = f; activity = search arith }))
-next-effect t c s (Warned w) f h =
+    (λ z e. rw e (record { slots = f; activity = h .six }))
+    (λ z e. rw e (record { slots = f; activity = search arith }))
+next-effect p t c s (Warned w) f h =
     by-eq
     (phaseEnd w (w .phase))
     (suc t)
-    (λ p e. rw e (phase-effect (suc t) c s w (w .phase) f (h .six) (h .owner) (h .level) p))
-    (λ p e. rw e (record { slots = f; activity = search arith }))
+    (λ z e. rw e (phase-effect p (suc t) c s w (w .phase) f (h .six) (h .owner) (h .level) z))
+    (λ z e. rw e (record { slots = f; activity = search arith }))
 
 next-timer : (t : ℕ) (m : Timer) → Timed t m → Timed (suc t) (timerAt (suc t) m)
 unfolding timerAt timerDue isDue if_then_else_
 next-timer t Off h = tt
-next-timer t (Running q d) h = by-eq d (suc t) (λ p e. rw e tt) (λ p e. rw e (h .0, omega (arith, h .1)))
+next-timer t (Running q d) h = by-eq d (suc t) (λ z e. rw e tt) (λ z e. rw e (h .0, omega (arith, h .1)))
 
 -- judging leaves what the relay is set to
-switched-range : (v : ℕ) (r : Relay) → RelayInRange r → RelayInRange (switched v r)
+switched-range : (p : Parameters) (v : ℕ) (r : Relay) → RelayInRange p r → RelayInRange p (switched v r)
 unfolding switched
-switched-range v r h = record { active = h .active; inactive = h .inactive; order = h .order }
+switched-range p v r h = record { active = h .active; inactive = h .inactive; order = h .order }
 
-pub afterEvents-sound : (t : ℕ) (o : Output) → Sound t o → Sound t (afterEvents o)
+pub afterEvents-sound : (p : Parameters) (t : ℕ) (o : Output) → Sound p t o → Sound p t (afterEvents o)
 unfolding afterEvents
-afterEvents-sound t o h =
+afterEvents-sound p t o h =
     record {
       settings = h .settings;
       slots = h .slots;
       activity = h .activity;
       timer = h .timer;
       burnt = h .burnt;
-      relay = switched-range (presentValue (o .settings) (o .slots)) (o .relay) (h .relay);
+      relay = switched-range p (presentValue (o .settings) (o .slots)) (o .relay) (h .relay);
     }
 
-pub tick-sound : (t : ℕ) (o : Output) → Sound t o → Sound (suc t) (tick t o)
+pub tick-sound : (p : Parameters) (t : ℕ) (o : Output) → Sound p t o → Sound p (suc t) (tick t o)
 unfolding tick fire afterEvents withBurned withBurning
-tick-sound t o h =
-    let x = expired-effect t (suc t) (o .settings) (o .slots) (o .timer) (o .activity) (h .timer) (h .slots) (h .activity) in
-    let n = next-effect t (o .settings) (expired (suc t) (o .timer) (o .slots)) (endMovementOnExpiry (suc t) (o .timer) (o .activity)) (x .slots) (x .activity) in
+tick-sound p t o h =
+    let x = expired-effect p t (suc t) (o .settings) (o .slots) (o .timer) (o .activity) (h .timer) (h .slots) (h .activity) in
+    let n = next-effect p t (o .settings) (expired (suc t) (o .timer) (o .slots)) (endMovementOnExpiry (suc t) (o .timer) (o .activity)) (x .slots) (x .activity) in
     record {
       settings = h .settings;
       slots = n .slots;
       activity = n .activity;
       timer = next-timer t (o .timer) (h .timer);
       burnt = omega (arith, litMilliseconds-le t 1 o, h .burnt);
-      relay = switched-range _ (o .relay) (h .relay);
+      relay = switched-range p _ (o .relay) (h .relay);
     }
 
-ticks-sound : (n t : ℕ) (o : Output) → Lawful t o → Lawful (t + n) (ticks n t o)
+ticks-sound : (p : Parameters) (n t : ℕ) (o : Output) → Lawful p t o → Lawful p (t + n) (ticks n t o)
 unfolding ticks
-ticks-sound zero t o h = rw (add-zero t) h
-ticks-sound (suc n) t o h =
+ticks-sound p zero t o h = rw (add-zero t) h
+ticks-sound p (suc n) t o h =
     let e : t + suc n ≡ suc t + n = omega arith in
-    rw e (ticks-sound n (suc t) (tick t o) (record { sound = tick-sound t o (h .sound); judged = tick-judged t o }))
+    rw e (ticks-sound p n (suc t) (tick t o) (record { sound = tick-sound p t o (h .sound); judged = tick-judged t o }))
 
 -- so the engine keeps them too
-pub advance-sound : (now to : ℕ) (o : Output) → now ≤ to → to ≤ greatestCount → Lawful now o → Lawful to (advance now to o)
-advance-sound now to o l m h =
+pub advance-sound : (p : Parameters) (now to : ℕ) (o : Output) → now ≤ to → to ≤ greatestCount → Lawful p now o → Lawful p to (advance now to o)
+advance-sound p now to o l m h =
     let e : now + (to - now) ≡ to = omega arith in
-    rw (advance-ticks now to o l m (sound-calm now o h)) (rw e at (ticks-sound (to - now) now o h))
+    rw (advance-ticks now to o l m (sound-calm p now o h)) (rw e at (ticks-sound p (to - now) now o h))

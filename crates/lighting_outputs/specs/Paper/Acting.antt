@@ -13,7 +13,9 @@ use Rattle.lighting_outputs.specs.Paper.Commands.{commanded}
 use Rattle.lighting_outputs.specs.Paper.Fresh.{freshOutput}
 use Rattle.lighting_outputs.specs.declared.Property.{Property}
 use Rattle.lighting_outputs.specs.declared.Request.{Request}
-use Rattle.lighting_outputs.specs.declared.Request.the-variants.{Refuse, Write, Empty, Change, Read, Commands}
+use Rattle.lighting_outputs.specs.declared.Request.the-variants.{Refuse, ToOutput}
+use Rattle.lighting_outputs.specs.declared.OutputRequest.{OutputRequest}
+use Rattle.lighting_outputs.specs.declared.OutputRequest.the-variants.{Write, Empty, Change, Read, Commands}
 use Rattle.lighting_outputs.specs.declared.Answer.{Answer}
 use Rattle.lighting_outputs.specs.declared.Answer.the-variants.{Done, Refused}
 use Rattle.lighting_outputs.specs.declared.Output.{Output}
@@ -32,9 +34,8 @@ unfoldable pub changedUnless : Bool → Bool → Output → Property → ℕ →
 changedUnless m unordered o property value =
     if m then unchanged o (Refused 13) else if unordered then unchanged o (Refused 16) else done (changed o property value)
 
--- 'does what its kind calls for, or refuses 9 to 13', and 14 to 16 of the change requests
-unfoldable pub acted : ℕ → Output → Request → Outcome
-acted t o (Refuse r) = unchanged o (Refused r)
+-- A REQUEST TO ONE OUTPUT: 'does what its kind calls for', or refuses 13 or 16; a read of an unknown property is 9
+unfoldable pub acted : ℕ → Output → OutputRequest → Outcome
 acted t o (Write slot level) = done (written t o slot level)
 acted t o (Empty slot) = done (slotRelinquished o slot)
 acted t o (Change n v) =
@@ -42,12 +43,14 @@ acted t o (Change n v) =
 acted t o (Read property) = unchanged o (readProperty t o property)
 acted t o (Commands k) = done (commanded t o k)
 
--- the same over the table: the outputs and the answer after a request to output i. Which station it comes from makes no difference
+-- A REQUEST, over the table: the outputs and the answer after a frame whose output is i. 'or refuses 9 to 13', and 14 to 16
+-- of the change requests, leaves every output. Which station it comes from makes no difference
 pub record Served : Type 0 where
   pub outputs : List Output
   pub answer : Answer
 
-unfoldable pub served : ℕ → List Output → ℕ → ℕ → Request → Served
-served t outputs station i request =
+unfoldable pub served : ℕ → List Output → ℕ → Request → Served
+served t outputs i (Refuse r) = record { outputs = outputs; answer = Refused r }
+served t outputs i (ToOutput request) =
     let done = acted t (getD outputs i freshOutput) request in
     record { outputs = set outputs i (done .output); answer = done .answer }

@@ -8,8 +8,6 @@ use Rattle.lighting_outputs.specs.declared.Answer.{Answer}
 use Rattle.lighting_outputs.specs.declared.Answer.the-variants.{Done, Value, Absent, Refused}
 use Rattle.lighting_levels.specs.declared.Level.{Level}
 use Rattle.lighting_levels.specs.declared.Level.the-variants.{Units, OutOfRange}
-use Rattle.lighting_levels.specs.declared.Operand.{Operand}
-use Rattle.lighting_levels.specs.declared.Operand.the-variants.{Taken, Unfit}
 
 -- THE NUMBER AND THE VALUES OF EVERY ANSWER, as the bytes by which a bus log writes it down: 80 Done; 81 Value, its 32 bits; 82 Absent; 83
 -- Refused, its number. No two answers have the same (proofs/AnswersApart.antt, `told-apart`)
@@ -26,14 +24,10 @@ valueOf (Value v) = some v
 valueOf Absent = none
 valueOf (Refused n) = none
 
--- a REAL turned into units, and one that is kept as it was written: 'REAL out of range' is 11
+-- a REAL turned into units: 'REAL out of range' is 11
 abbrev pub levelRefusal : Level → ℕ
 levelRefusal (Units v) = 0
 levelRefusal OutOfRange = 11
-
-abbrev pub operandRefusal : Operand → ℕ
-operandRefusal (Taken x) = 0
-operandRefusal Unfit = 11
 
 -- a level as a value, or its refusal
 unfoldable pub levelAnswered : Level → Answer

@@ -1,7 +1,8 @@
 -- 'An output's record': a fresh output and a fresh station.
 use mathlib.Core.Bool.{false}
-use Prim.Native.Nat.{_*_}
+use Prim.Native.Nat.{ℕ, _*_}
 use lib.ListN.{replicate}
+use Rattle.lighting_outputs.specs.Paper.Parameters.{Parameters, freshFade}
 use Rattle.lighting_levels.specs.Paper.Level.{leastLevel, greatestLevel, real}
 use Rattle.lighting_outputs.specs.Paper.Slots.{slotCount, slot16}
 use Rattle.lighting_outputs.specs.declared.Settings.{Settings}
@@ -12,12 +13,12 @@ use Rattle.lighting_outputs.specs.declared.Duration.the-variants.{Omitte
 use Rattle.lighting_outputs.specs.declared.Operation.the-variants.{Stop}
 use Rattle.lighting_outputs.specs.declared.Output.{Output}
 
--- 'Properties, with fresh values'
-unfoldable pub freshSettings : Settings
-freshSettings =
+-- 'Properties, with fresh values'; Fade_Time's follows from the set of parameters
+unfoldable pub freshSettings : ℕ → Settings
+freshSettings fade =
     record {
       default = 0;
-      fade = 1000;
+      fade = fade;
       ramp = real 0x4120_0000;
       step = real 0x40a0_0000;
       enable = false;
@@ -33,10 +34,10 @@ unfoldable pub freshRelay : Relay
 freshRelay = record { active = 50 * leastLevel; inactive = 45 * leastLevel; reverse = false; binary = false }
 
 -- 'A fresh record has no live slot, last operation STOP without duration, burning time 0'
-unfoldable pub freshOutput : Output
-freshOutput =
+unfoldable pub freshWith : ℕ → Output
+freshWith fade =
     record {
-      settings = freshSettings;
+      settings = freshSettings fade;
       slots = record { live = 0; levels = replicate slotCount 0 };
       activity = Still;
       timer = Off;
@@ -44,3 +45,10 @@ freshOutput =
       last = record { operation = Stop; duration = Omitted };
       relay = freshRelay;
     }
+
+-- a fresh output of a panel with the set p, and document 01's, which also stands for an output past the end of a table
+unfoldable pub freshFor : Parameters → Output
+freshFor p = freshWith (freshFade p)
+
+unfoldable pub freshOutput : Output
+freshOutput = freshWith 1000

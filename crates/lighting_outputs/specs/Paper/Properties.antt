@@ -6,7 +6,7 @@ use lib.Dec.{ltb, leb, eqb}
 use lib.Ieee.{Float}
 use Rattle.lighting_levels.specs.Paper.Choice.{if_then_else_}
 use Rattle.lighting_outputs.specs.Paper.Parameters.{Parameters}
-use Rattle.lighting_outputs.specs.Paper.Answers.{levelRefusal, operandRefusal}
+use Rattle.lighting_outputs.specs.Paper.Answers.{levelRefusal}
 use Rattle.lighting_levels.specs.Paper.Level.{real, bits, readOut, levelOf, limitOf}
 use Rattle.lighting_outputs.specs.Paper.Slots.{Slots, isLive, levelAt}
 use Rattle.lighting_outputs.specs.Paper.Value.{presentValue, progressValue, inProcess}
@@ -29,13 +29,13 @@ use Rattle.lighting_outputs.specs.declared.Answer.{Answer}
 use Rattle.lighting_outputs.specs.declared.Answer.the-variants.{Value, Absent, Refused}
 use Rattle.lighting_levels.specs.declared.Level.{Level}
 use Rattle.lighting_levels.specs.declared.Level.the-variants.{Units, OutOfRange}
-use Rattle.lighting_levels.specs.declared.Operand.the-variants.{Unfit}
 use Rattle.lighting_outputs.specs.declared.Property.{Property}
 use Rattle.lighting_outputs.specs.declared.Property.the-variants.{RelinquishDefault, FadeTime, RampRate, StepIncrement, BlinkEnable, BlinkTime, BlinkWarnDelay, MinValue, MaxValue, CommandPriority, ElapsedActiveTime, PresentValue, ProgressValue, InProcess, LastOperation, LastLevel, LastRate, LastStep, LastFadeTime, LastDuration, BinaryActiveValue, BinaryInactiveValue, Polarity, BinaryPresentValue, RelayState, SlotValue, Unknown}
 use Rattle.lighting_outputs.specs.declared.Range.{Range}
 use Rattle.lighting_outputs.specs.declared.Range.the-variants.{Percent, Limit, Amount, Whole, Priority, ReadOnly}
 use Rattle.lighting_outputs.specs.declared.Request.{Request}
-use Rattle.lighting_outputs.specs.declared.Request.the-variants.{Refuse, Change}
+use Rattle.lighting_outputs.specs.declared.Request.the-variants.{Refuse, ToOutput}
+use Rattle.lighting_outputs.specs.declared.OutputRequest.the-variants.{Change}
 
 -- THE TABLE: each property's number; 00 is none
 abbrev pub numberOf : Property → ℕ
@@ -112,15 +112,15 @@ same one other = eqb (numberOf one) (numberOf other)
 -- WRITES, kind 04: the value x, of 32 bits, as the property's row (Rows.antt) has it kept, or the refusal that it meets: 'property unknown, or
 -- not writable' is 9, a priority's is 10, a REAL's 11, a whole number's 12
 unfoldable pub changeTo : Property → Level → Request
-changeTo property (Units v) = Change property v
+changeTo property (Units v) = ToOutput (Change property v)
 changeTo property OutOfRange = Refuse (levelRefusal OutOfRange)
 
 unfoldable pub changeBy : Range → Property → ℕ → Request
 changeBy Percent property x = changeTo property (levelOf (real x))
 changeBy Limit property x = changeTo property (limitOf (real x))
-changeBy Amount property x = if isAmount (real x) then Change property x else Refuse (operandRefusal Unfit)
-changeBy (Whole low high) property x = if within low high x then Change property x else Refuse 12
-changeBy Priority property x = if isPriority x then Change property (x - 1) else Refuse 10
+changeBy Amount property x = if isAmount (real x) then ToOutput (Change property x) else Refuse (levelRefusal OutOfRange)
+changeBy (Whole low high) property x = if within low high x then ToOutput (Change property x) else Refuse 12
+changeBy Priority property x = if isPriority x then ToOutput (Change property (x - 1)) else Refuse 10
 changeBy ReadOnly property x = Refuse 9
 
 unfoldable pub changeOf : Parameters → Property → ℕ → Request

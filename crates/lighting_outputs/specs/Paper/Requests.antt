@@ -18,7 +18,8 @@ use Rattle.lighting_outputs.specs.declared.TimeField.{TimeField}
 use Rattle.lighting_outputs.specs.declared.TimeField.the-variants.{Time, NoTime}
 use Rattle.lighting_outputs.specs.declared.OperationFields.{OperationFields}
 use Rattle.lighting_outputs.specs.declared.Request.{Request}
-use Rattle.lighting_outputs.specs.declared.Request.the-variants.{Refuse, Write, Empty, Commands}
+use Rattle.lighting_outputs.specs.declared.Request.the-variants.{Refuse, ToOutput}
+use Rattle.lighting_outputs.specs.declared.OutputRequest.the-variants.{Write, Empty, Commands}
 
 -- COMMANDS. 'Checked in this order; fields left to right': the refusal that a field meets, 0 where it is in range or not there. 'REAL out of range' is
 -- 11, of a level and of a rate or step; 'Fade times: 100 to 86,400,000', which is Fade_Time's row, else 12
@@ -45,13 +46,13 @@ fieldsRefusal p f =
 -- 'Duration is milliseconds: 0 cancels, 100 to 86,400,000 sets'; any other is 12
 unfoldable pub commandLasting : Parameters → Operation → ℕ → Request
 commandLasting p operation d =
-    if eqb d 0 then Commands (record { operation = operation; duration = Cancels })
-    else if within 100 (p .longestDuration) d then Commands (record { operation = operation; duration = Lasts d })
+    if eqb d 0 then ToOutput (Commands (record { operation = operation; duration = Cancels }))
+    else if within 100 (p .duration) d then ToOutput (Commands (record { operation = operation; duration = Lasts d }))
     else Refuse 12
 
 unfoldable pub commandWithDuration : Parameters → Operation → TimeField → Request
 commandWithDuration p operation (Time d) = commandLasting p operation d
-commandWithDuration p operation NoTime = Commands (record { operation = operation; duration = Omitted })
+commandWithDuration p operation NoTime = ToOutput (Commands (record { operation = operation; duration = Omitted }))
 
 -- an operation with its duration, whose fields meet a refusal, or 0 for none
 unfoldable pub commandRequestBy : Parameters → ℕ → Operation → TimeField → Request
@@ -70,11 +71,11 @@ commandRequest p operation d = commandOf p operation (plainDuration d)
 
 -- KINDS 02 TO 05. Kind 02: priority, then REAL
 unfoldable pub writeLevel : ℕ → Level → Request
-writeLevel i (Units v) = Write i v
+writeLevel i (Units v) = ToOutput (Write i v)
 writeLevel i OutOfRange = Refuse (levelRefusal OutOfRange)
 
 unfoldable pub writeOf : ℕ → ℕ → Request
 writeOf n pattern = if isPriority n then writeLevel (n - 1) (levelOf (real pattern)) else Refuse 10
 
 unfoldable pub emptyOf : ℕ → Request
-emptyOf n = if isPriority n then Empty (n - 1) else Refuse 10
+emptyOf n = if isPriority n then ToOutput (Empty (n - 1)) else Refuse 10

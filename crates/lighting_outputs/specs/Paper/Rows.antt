@@ -5,7 +5,7 @@ use Prim.Native.Nat.{ℕ, _-_}
 use lib.Dec.{ltb, leb, eqb}
 use lib.Ieee.{Float}
 use Rattle.lighting_levels.specs.Paper.Choice.{if_then_else_, _also_}
-use Rattle.lighting_outputs.specs.Paper.Parameters.{Parameters}
+use Rattle.lighting_outputs.specs.Paper.Parameters.{Parameters, longestBlink}
 use Rattle.lighting_levels.specs.Paper.Level.{leastLevel, greatestLevel, real, inRange, amountOf}
 use Rattle.lighting_outputs.specs.Paper.Slots.{slotCount, slot6}
 use Rattle.lighting_outputs.specs.declared.Property.{Property}
@@ -13,16 +13,16 @@ use Rattle.lighting_outputs.specs.declared.Property.the-variants.{Relinq
 use Rattle.lighting_outputs.specs.declared.Range.{Range}
 use Rattle.lighting_outputs.specs.declared.Range.the-variants.{Percent, Limit, Amount, Whole, Priority, ReadOnly}
 
--- THE ROWS, with the paper's 'each up to 86,400,000' and 'Fade times: 100 to 86,400,000' as parameters; '0B Elapsed_Active_Time, written only
--- with 0'. Those of §3: 'both are in Relinquish_Default's range', 'Polarity (19, 0 normal, 1 reverse)'
+-- THE ROWS, with the end of the paper's 'Fade times: 100 to 86,400,000' as a parameter; blink times are 'each up to 86,400,000'; '0B
+-- Elapsed_Active_Time, written only with 0'. Those of §3: 'both are in Relinquish_Default's range', 'Polarity (19, 0 normal, 1 reverse)'
 abbrev pub rowOf : Parameters → Property → Range
 rowOf p RelinquishDefault = Percent
-rowOf p FadeTime = Whole 100 (p .longestFade)
+rowOf p FadeTime = Whole 100 (p .fade)
 rowOf p RampRate = Amount
 rowOf p StepIncrement = Amount
 rowOf p BlinkEnable = Whole 0 1
-rowOf p BlinkTime = Whole 0 (p .longestBlink)
-rowOf p BlinkWarnDelay = Whole 0 (p .longestBlink)
+rowOf p BlinkTime = Whole 0 longestBlink
+rowOf p BlinkWarnDelay = Whole 0 longestBlink
 rowOf p MinValue = Limit
 rowOf p MaxValue = Limit
 rowOf p CommandPriority = Priority

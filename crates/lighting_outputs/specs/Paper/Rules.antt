@@ -4,7 +4,7 @@ use Prim.Native.Nat.{ℕ, _+_, _-_}
 use lib.Dec.{ltb, leb, eqb}
 use lib.ListN.{getD}
 use Rattle.lighting_levels.specs.Paper.Choice.{if_then_else_, _also_, allFrom}
-use Rattle.lighting_outputs.specs.Paper.Parameters.{Parameters}
+use Rattle.lighting_outputs.specs.Paper.Parameters.{Parameters, longestMovement}
 use Rattle.lighting_outputs.specs.Paper.Slots.{Slots, slotCount, slot16, slot6, isLive, winner}
 use Rattle.lighting_outputs.specs.Paper.Value.{presentValue}
 use Rattle.lighting_outputs.specs.Paper.Relay.{binaryAt}
@@ -50,7 +50,7 @@ slotsSoundFrom s i = allFrom (slotSound s) (slotCount - i) i
 -- 'began no later than panel time' (what is left of it is not longer than it lasts), 'lasts 1 to 86,400,000 ms', 'every due moment is
 -- after panel time'
 unfoldable pub spanSound : Parameters → ℕ → Movement → Bool
-spanSound p t m = ltb t (m .over) also leb (m .over - t) (m .length) also within 1 (p .longestMovement) (m .length)
+spanSound p t m = ltb t (m .over) also leb (m .over - t) (m .length) also within 1 (longestMovement p) (m .length)
 
 -- 'a movement belongs to the winner' w, 'starts from 0 to Max, aims at Present_Value' v
 unfoldable pub movementSound : Parameters → ℕ → ℕ → ℕ → ℕ → Movement → Bool

@@ -20,12 +20,12 @@ use Rattle.lighting_outputs.specs.declared.Activity.the-variants.{Warned
 use Rattle.lighting_outputs.specs.declared.Timer.the-variants.{Running}
 use Rattle.lighting_outputs.specs.declared.Property.{Property}
 use Rattle.lighting_outputs.specs.declared.Property.the-variants.{RelinquishDefault, BlinkEnable, BlinkTime, BlinkWarnDelay, MinValue, MaxValue, BinaryActiveValue, BinaryInactiveValue, Polarity}
-use Rattle.lighting_outputs.specs.declared.Request.{Request}
-use Rattle.lighting_outputs.specs.declared.Request.the-variants.{Write, Empty, Change, Commands}
+use Rattle.lighting_outputs.specs.declared.OutputRequest.{OutputRequest}
+use Rattle.lighting_outputs.specs.declared.OutputRequest.the-variants.{Write, Empty, Change, Commands}
 use Rattle.lighting_outputs.specs.declared.Output.{Output}
 
 -- what is asked of an output at t: v written to slot 16, a property's kept value, a command
-abbrev asked : ℕ → Request → Output → Output
+abbrev asked : ℕ → OutputRequest → Output → Output
 asked t request o = acted t o request .output
 
 abbrev write : ℕ → ℕ → Output → Output

@@ -2,14 +2,14 @@
 use mathlib.Core.List.{map}
 use lib.ListN.{set}
 use Rattle.lighting_levels.specs.Paper.Choice.{if_then_else_}
-use Rattle.lighting_outputs.specs.Paper.Parameters.{Parameters}
+use Rattle.lighting_outputs.specs.declared.Parameters.{Parameters}
 use Rattle.lighting_frames.specs.Paper.Frames.{Bytes}
 use Rattle.lighting_outputs.specs.Engine.Advance.{advance}
 use Rattle.lighting_outputs.specs.Paper.Acting.{served}
 use Rattle.lighting_outputs.specs.declared.Answer.the-variants.{Done, Refused}
 use Rattle.lighting_frames.specs.declared.Verdict.{Verdict}
 use Rattle.lighting_frames.specs.declared.Verdict.the-variants.{TurnedDown, Copied, Clocked, Arrives}
-use Rattle.lighting_panel.specs.Paper.Panel.{Panel, Step, panelSound}
+use Rattle.lighting_panel.specs.Paper.Panel.{Panel, Step, withTime, panelSound}
 use Rattle.lighting_panel.specs.Engine.Judging.{padded, decide}
 
 -- CARRIED OUT: refusals 2 to 8 and copies leave everything; a clock brings every output to its time; a first arrival does so too, acts,
@@ -19,18 +19,18 @@ execute b e (TurnedDown r) = record { panel = e; answer = Refused r }
 execute b e (Copied a) = record { panel = e; answer = a }
 execute b e (Clocked t) =
     record {
-      panel = record { outputs = map (advance (e .time) t) (e .outputs); stations = e .stations; time = t };
+      panel = record { outputs = map (advance (e .kept .time) t) (e .outputs); stations = e .stations; kept = withTime (e .kept) t };
       answer = Done;
     }
 execute b e (Arrives call) =
     let t = call .time in
-    let done = served t (map (advance (e .time) t) (e .outputs)) (call .station) (call .output) (call .request) in
+    let done = served t (map (advance (e .kept .time) t) (e .outputs)) (call .output) (call .request) in
     record {
       panel =
           record {
             outputs = done .outputs;
             stations = set (e .stations) (call .station) (record { answer = done .answer; number = call .number; frame = padded b });
-            time = t;
+            kept = withTime (e .kept) t;
           };
       answer = done .answer;
     }

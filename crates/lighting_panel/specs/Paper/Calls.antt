@@ -3,7 +3,7 @@
 use mathlib.Core.Path.{_≡_}
 use mathlib.Core.List.{List, [], _∷_}
 use lib.ListN.{length}
-use Rattle.lighting_outputs.specs.Paper.Parameters.{Parameters}
+use Rattle.lighting_outputs.specs.declared.Parameters.{Parameters}
 use Rattle.lighting_frames.specs.Paper.Frames.{Bytes}
 use mathlib.Core.Bool.{true}
 use Rattle.lighting_panel.specs.Paper.Panel.{Panel, result, panelSound}
@@ -21,9 +21,9 @@ pub data Calls (p : Parameters) : Panel → List Bytes → List Answer → Panel
 -- what such a caller may conclude: the outputs, all of every record, are the plain panel's, at the same time, and every answer was its answer; the
 -- records keep the rules, and no answer was refusal 1. So the tables show what the plain panel shows (proofs/Calls.antt, `shows`)
 pub record Concluded (p : Parameters) (e : Panel) (l : List Bytes) (given : List Answer) (e′ : Panel) : Type 0 where
-  pub outputs : e′ .outputs ≡ plainAfter p (plainStart (length (e .outputs))) l .panel .outputs
-  pub time : e′ .time ≡ plainAfter p (plainStart (length (e .outputs))) l .panel .time
-  pub answered : given ≡ plainAnswers p (plainStart (length (e .outputs))) l
+  pub outputs : e′ .outputs ≡ plainAfter p (plainStart p (length (e .outputs))) l .panel .outputs
+  pub time : e′ .kept .time ≡ plainAfter p (plainStart p (length (e .outputs))) l .panel .time
+  pub answered : given ≡ plainAnswers p (plainStart p (length (e .outputs))) l
   pub sound : panelSound p e′ ≡ true
   pub never : NeverOne given
 

@@ -6,7 +6,8 @@ use mathlib.Core.List.{List, [], _∷_, map}
 use mathlib.Core.Option.{Option}
 use Prim.Native.Nat.{ℕ}
 use lib.ListN.{length}
-use Rattle.lighting_outputs.specs.Paper.Parameters.{Parameters}
+use Rattle.lighting_levels.specs.Paper.Choice.{Every}
+use Rattle.lighting_outputs.specs.declared.Parameters.{Parameters}
 use Rattle.lighting_frames.specs.Paper.Frames.{Bytes}
 use Rattle.lighting_outputs.specs.Paper.Slots.{slotsOf}
 use Rattle.lighting_outputs.specs.Paper.Value.{presentValue, progressValue, inProcess}
@@ -47,7 +48,7 @@ found t o =
     }
 
 abbrev pub foundIn : Panel → List Found
-foundIn e = map (found (e .time)) (e .outputs)
+foundIn e = map (found (e .kept .time)) (e .outputs)
 
 abbrev pub foundPlain : Plain → List Found
 foundPlain plain = map (found (plain .time)) (plain .outputs)
@@ -91,17 +92,16 @@ answersToOriginals (copy m r) (a ∷ z) = answersToOriginals r z
 
 -- 'Refusal 1 never comes'
 abbrev pub NeverOne : List Answer → Type 0
-NeverOne [] = Unit {0}
-NeverOne (a ∷ given) = (answerBytes a ≢ answerBytes (Refused 1)) × NeverOne given
+NeverOne given = Every (λ (a : Answer). answerBytes a ≢ answerBytes (Refused 1)) given
 
 -- THE DEMAND, for a lent table e, a list of frames l, and the list l′ in which frames of l come again
 pub record Demand (p : Parameters) (e : Panel) (l l′ : List Bytes) (r : Again [] l l′) : Type 0 where
   -- after every list the outputs, all of every record, are the plain panel's, at the same time: so all that is found is the same (proofs/Demand.antt,
   -- `finds`)
-  pub outputs : after p (startStep p e .panel) l .outputs ≡ plainAfter p (plainStart (length (e .outputs))) l .panel .outputs
-  pub time : after p (startStep p e .panel) l .time ≡ plainAfter p (plainStart (length (e .outputs))) l .panel .time
+  pub outputs : after p (startStep p e .panel) l .outputs ≡ plainAfter p (plainStart p (length (e .outputs))) l .panel .outputs
+  pub time : after p (startStep p e .panel) l .kept .time ≡ plainAfter p (plainStart p (length (e .outputs))) l .panel .time
   -- and every answer is its answer
-  pub answered : answers p (startStep p e .panel) l ≡ plainAnswers p (plainStart (length (e .outputs))) l
+  pub answered : answers p (startStep p e .panel) l ≡ plainAnswers p (plainStart p (length (e .outputs))) l
   -- 'Refusal 1 never comes in it': every record keeps the rules, and no answer is 1
   pub sound : panelSound p (after p (startStep p e .panel) l) ≡ true
   pub never : NeverOne (answers p (startStep p e .panel) l)

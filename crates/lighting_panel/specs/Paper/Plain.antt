@@ -5,10 +5,10 @@ use Prim.Native.Nat.{ℕ, zero, suc, _-_}
 use lib.Dec.{leb, ltb, eqb}
 use lib.ListN.{length, replicate}
 use Rattle.lighting_levels.specs.Paper.Choice.{if_then_else_, _also_}
-use Rattle.lighting_outputs.specs.Paper.Parameters.{Parameters}
+use Rattle.lighting_outputs.specs.declared.Parameters.{Parameters}
 use Rattle.lighting_frames.specs.Paper.Frames.{Bytes, parse}
 use Rattle.lighting_outputs.specs.Paper.Passing.{tick}
-use Rattle.lighting_outputs.specs.Paper.Fresh.{freshOutput}
+use Rattle.lighting_outputs.specs.Paper.Fresh.{freshFor}
 use Rattle.lighting_outputs.specs.Paper.Acting.{served}
 use Rattle.lighting_frames.specs.Paper.Copies.{sameBytes, retransmissionOrConflict}
 use Rattle.lighting_outputs.specs.declared.Output.{Output}
@@ -87,7 +87,7 @@ plainExecute b w (Clocked t) =
     record { state = record { past = clock t ∷ w .past; panel = runPlain (t - w .panel .time) (w .panel) }; answer = Done }
 plainExecute b w (Arrives call) =
     let come = runPlain (call .time - w .panel .time) (w .panel) in
-    let done = served (come .time) (come .outputs) (call .station) (call .output) (call .request) in
+    let done = served (come .time) (come .outputs) (call .output) (call .request) in
     record {
       state =
           record {
@@ -101,5 +101,5 @@ unfoldable pub plainFrameStep : Parameters → PlainState → Bytes → Reply
 plainFrameStep p w b = plainExecute b w (judged (w .past) b (parse p (length (w .panel .outputs)) b))
 
 -- 'starts at time 0 with as many fresh outputs as the table'
-unfoldable pub plainStart : ℕ → PlainState
-plainStart c = record { past = []; panel = record { outputs = replicate c freshOutput; time = 0 } }
+unfoldable pub plainStart : Parameters → ℕ → PlainState
+plainStart p c = record { past = []; panel = record { outputs = replicate c (freshFor p); time = 0 } }

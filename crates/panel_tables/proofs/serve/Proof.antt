@@ -1,51 +1,51 @@
 mod Lts
 mod Tie
+use mathlib.Core.Path.{sym, ap, _∙_}
 use Rattle.lighting_outputs.specs.Paper.Acting.{served}
+use Rattle.lighting_outputs.specs.declared.Request.{Request}
 use borrow.Author.Needs.{needs}
 use Rattle.panel_tables.proofs.serve.Statement.{statement}
 use Rattle.panel_tables.proofs.serve.Proof.Tie as tie
 use Rattle.panel_tables.proofs.Lent.serve.Reads as reads
 use Rattle.panel_tables.proofs.serve.Proof.Lts as lts
 
-mul-o : tie.Need-mul-o
-mul-o c = search needs
+enum-known-request : tie.Need-enum-known-request
+enum-known-request c = search needs
 
-slice-copy-out-o : tie.Need-slice-copy-out-o
-slice-copy-out-o c = search needs
+enum-known-request-2 : tie.Need-enum-known-request-2
+enum-known-request-2 c = search needs
 
-act-requires : tie.Need-act-requires
-act-requires c κs = search needs
-
-outcome-output-requires : tie.Need-outcome-output-requires
-outcome-output-requires c κs = search needs
-
-mul-n : tie.Need-mul-n
-mul-n c = search needs
-
-slice-set-from-n : tie.Need-slice-set-from-n
-slice-set-from-n c = search needs
-
-outcome-answer-requires : tie.Need-outcome-answer-requires
-outcome-answer-requires c κs = search needs
-
-same-length : tie.Need-same-length
-same-length c = search needs
+serve-output-requires : tie.Need-serve-output-requires
+serve-output-requires c κs = search needs
 
 returns : tie.Need-returns
 unfolding served
 returns c =
-    (simp (c .outcome-answer .ensures, c .before .before .act .ensures), simp (c .before .outcome-output .ensures, c .before .before .act .ensures))
+    let a = c .before .before .before .args in
+    let e = c .before .request .given .1 in (
+      sym (ap (λ (r : Request). served (a .time) (a .outputs .now) (a .at) r .answer) e),
+      sym (ap (λ (r : Request). served (a .time) (a .outputs .now) (a .at) r .outputs) e),
+    )
+
+same-length : tie.Need-same-length
+same-length c = search needs
+
+returns-2 : tie.Need-returns-2
+returns-2 c =
+    let a = c .before .before .before .before .before .before .args in
+    let e = c .before .before .before .before .request2 .given .1 in
+    let done = c .before .serve-output .ensures in (
+      done .0 ∙ sym (ap (λ (r : Request). served (a .time) (a .outputs .now) (a .at) r .answer) e),
+      done .1 ∙ sym (ap (λ (r : Request). served (a .time) (a .outputs .now) (a .at) r .outputs) e),
+    )
 
 pub serve-spec : {M : Type 1} → statement M
 serve-spec =
     tie.close
     (tie.spec
-    mul-o
-    slice-copy-out-o
-    act-requires
-    outcome-output-requires
-    mul-n
-    slice-set-from-n
-    outcome-answer-requires
+    enum-known-request
+    enum-known-request-2
+    serve-output-requires
+    returns
     same-length
-    returns)
+    returns-2)

@@ -53,8 +53,8 @@ enum-told-4 c = search needs
 is-priority-requires : tie.Need-is-priority-requires
 is-priority-requires c κs = search needs
 
-sub-t15 : tie.Need-sub-t15
-sub-t15 c =
+sub-t17 : tie.Need-sub-t17
+sub-t17 c =
     let h : isPriority (c .before .before .before .before .args .x) ≡ true = cc in
     priority-range _ h .0
 
@@ -113,7 +113,7 @@ change-by-spec =
     is-within-requires
     enum-told-4
     is-priority-requires
-    sub-t15
+    sub-t17
     enum-told-5
     returns
     returns-2

@@ -1,0 +1,25 @@
+-- What every theorem that needs it counts on: the numbers of a set that may be started (`startable`), as facts.
+use mathlib.Core.Path.{_≡_, refl}
+use mathlib.Core.Bool.{true}
+use Rattle.lighting_levels.specs.Paper.Choice.{if_then_else_}
+use Rattle.lighting_outputs.specs.Paper.Parameters.{Parameters, document01}
+use Rattle.lighting_outputs.specs.Paper.Rows.{within}
+use Rattle.lighting_outputs.specs.Paper.Startable.{startable}
+use Rattle.lighting_levels.proofs.Split.{parts}
+use Rattle.lighting_outputs.proofs.Rules.Facts.{Within}
+use Rattle.lighting_outputs.proofs.Rules.Tied.{within-of}
+
+pub record Startable (p : Parameters) : Type 0 where
+  pub stations : Within 1 32 (p .stations)
+  pub outputs : Within 1 64 (p .outputs)
+  pub fade : Within 100 86400000 (p .fade)
+  pub duration : Within 100 86400000 (p .duration)
+
+pub startable-of : (p : Parameters) → startable p ≡ true → Startable p
+unfolding startable
+startable-of p h = search (parts, within-of)
+
+-- document 01's set is one
+pub document01-startable : startable document01 ≡ true
+unfolding startable within if_then_else_
+document01-startable = refl

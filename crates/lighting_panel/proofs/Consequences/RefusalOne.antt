@@ -1,0 +1,54 @@
+-- REFUSAL 1: a wrong count, or one record that breaks a rule, wherever it stands in its table: every string
+-- of bytes is answered 1, and everything is left. Which records break a rule, specs/Paper/WorkedRules.antt
+-- has by number.
+use mathlib.Core.Path.{_≡_, refl}
+use mathlib.Core.Bool.{Bool, true, false}
+use mathlib.Core.List.{List, [], _∷_}
+use Prim.Native.Nat.{ℕ, zero, suc, _<_}
+use native.Mathlib.Omega.{arith}
+use lib.ListN.{length, getD}
+use Rattle.lighting_levels.specs.Paper.Choice.{if_then_else_, _also_, every}
+use Rattle.lighting_outputs.specs.declared.Parameters.{Parameters}
+use Rattle.lighting_frames.specs.Paper.Frames.{Bytes}
+use Rattle.lighting_outputs.specs.Paper.Fresh.{freshOutput}
+use Rattle.lighting_frames.specs.Paper.Stations.{freshStation, stationSound}
+use Rattle.lighting_outputs.specs.Paper.Rules.{sound}
+use Rattle.lighting_panel.specs.Paper.Panel.{Panel, result, countsSound, panelSound}
+use Rattle.lighting_panel.specs.Engine.Executing.{frameStep}
+use Rattle.lighting_outputs.specs.declared.Answer.the-variants.{Refused}
+
+also-no : (a b : Bool) → b ≡ false → (a also b) ≡ false
+unfolding if_then_else_
+also-no true b h = h
+also-no false b h = refl
+
+also-not : (a b : Bool) → a ≡ false → (a also b) ≡ false
+unfolding if_then_else_
+also-not a b h = rw h
+
+one-not : {A : Type 0} (test : A → Bool) (l : List A) (j : ℕ) (other : A) → j < length l → test (getD l j other) ≡ false → every test l ≡ false
+unfolding every
+one-not test [] j other h n = absurd (omega arith)
+one-not test (x ∷ l) zero other h n = also-not (test x) (every test l) n
+one-not test (x ∷ l) (suc j) other h n = also-no (test x) (every test l) (one-not test l j other (omega arith) n)
+
+module _ (p : Parameters) (e : Panel) (b : Bytes) where
+  abbrev One : Type 0
+  One = frameStep p e b ≡ result e (Refused 1)
+
+  unsound : panelSound p e ≡ false → One
+  unfolding frameStep if_then_else_
+  unsound h = rw h
+
+  pub bad-counts : countsSound p (length (e .outputs)) (length (e .stations)) ≡ false → One
+  bad-counts h = unsound (unfold panelSound in (also-not _ _ h))
+
+  pub bad-output : (j : ℕ) → j < length (e .outputs) → sound p (e .kept .time) (getD (e .outputs) j freshOutput) ≡ false → One
+  bad-output j inside h =
+      let broken = one-not (sound p (e .kept .time)) (e .outputs) j freshOutput inside h in
+      unsound (unfold panelSound in (also-no _ _ (also-not _ _ broken)))
+
+  pub bad-station : (j : ℕ) → j < length (e .stations) → stationSound (getD (e .stations) j freshStation) ≡ false → One
+  bad-station j inside h =
+      let broken = one-not stationSound (e .stations) j freshStation inside h in
+      unsound (unfold panelSound in (also-no _ _ (also-no _ _ broken)))
