@@ -11,9 +11,17 @@ use Rattle.lighting_levels.specs.Paper.Choice.{if_then_else_}
 use Rattle.lighting_levels.specs.Paper.Level.{bits, readOut}
 use Rattle.lighting_outputs.specs.Paper.Slots.{slotCount, slot, isLive, levelAt}
 use Rattle.lighting_outputs.specs.Paper.Value.{presentValue, progressValue, inProcess}
-use Rattle.lighting_outputs.specs.Paper.Properties.{numbered, propertyOf, levelAnswer, slotAnswer, flag, elapsedActive, realAnswer, readProperty}
+use Rattle.lighting_outputs.specs.Paper.Properties.{numbered, propertyOf, levelAnswer, slotAnswer, flag, elapsedActive, realAnswer, readProperty, realFieldAnswer, timeFieldAnswer, lastDuration}
 use Rattle.lighting_outputs.specs.Paper.Relay.{relayState}
 use Rattle.lighting_outputs.specs.Paper.Acting.{unchanged, acted}
+use lib.Ieee.{Float}
+use Rattle.lighting_outputs.specs.Paper.Operations.{operationNumber, fieldsOf}
+use Rattle.lighting_outputs.specs.Paper.Record.{withCommand}
+use Rattle.lighting_outputs.specs.declared.Operation.{Operation}
+use Rattle.lighting_outputs.specs.declared.Operation.the-variants.{Stop, FadeTo, FadeToOver, RampTo, RampToAtRate, StepUp, StepDown, StepUpBy, StepDownBy, Goto, Relinquish}
+use Rattle.lighting_outputs.specs.declared.Duration.the-variants.{Omitted}
+use Rattle.lighting_outputs.specs.declared.Effect.{Effect}
+use Rattle.lighting_outputs.specs.declared.Timer.{Timer}
 use Rattle.lighting_outputs.specs.declared.Answer.{Answer}
 use Rattle.lighting_outputs.specs.declared.Answer.the-variants.{Done, Value, Absent, Refused}
 use Rattle.lighting_outputs.specs.declared.OutputRequest.the-variants.{Read}
@@ -59,6 +67,27 @@ pub read-relay : (t : ℕ) (o : Output)
     ∷ []
 unfolding acted unchanged propertyOf numbered readProperty levelAnswer flag relayState if_then_else_
 read-relay t o = refl
+
+-- '0F last operation (kind minus 10), 10 its level, 11 rate, 12 step, 13 fade time, 14 duration (Absent where it had none)', after a
+-- command without a duration
+pub read-last : (t : ℕ) (o : Output) (r : Effect) (timer : Timer) (x y : Float) (f : ℕ)
+    → map
+    (λ (k : Operation). map (reads t (withCommand o r timer (record { operation = k; duration = Omitted }))) (0x0f ∷ 0x10 ∷ 0x11 ∷ 0x12 ∷ 0x13 ∷ 0x14 ∷ []))
+    (Stop ∷ FadeTo x ∷ FadeToOver x f ∷ RampTo x ∷ RampToAtRate x y ∷ StepUp ∷ StepDown ∷ StepUpBy x ∷ StepDownBy x ∷ Goto x ∷ Relinquish ∷ [])
+    ≡ (Value 0 ∷ Absent ∷ Absent ∷ Absent ∷ Absent ∷ Absent ∷ [])
+    ∷ (Value 1 ∷ Value (bits x) ∷ Absent ∷ Absent ∷ Absent ∷ Absent ∷ [])
+    ∷ (Value 2 ∷ Value (bits x) ∷ Absent ∷ Absent ∷ Value f ∷ Absent ∷ [])
+    ∷ (Value 3 ∷ Value (bits x) ∷ Absent ∷ Absent ∷ Absent ∷ Absent ∷ [])
+    ∷ (Value 4 ∷ Value (bits x) ∷ Value (bits y) ∷ Absent ∷ Absent ∷ Absent ∷ [])
+    ∷ (Value 5 ∷ Absent ∷ Absent ∷ Absent ∷ Absent ∷ Absent ∷ [])
+    ∷ (Value 6 ∷ Absent ∷ Absent ∷ Absent ∷ Absent ∷ Absent ∷ [])
+    ∷ (Value 7 ∷ Absent ∷ Absent ∷ Value (bits x) ∷ Absent ∷ Absent ∷ [])
+    ∷ (Value 8 ∷ Absent ∷ Absent ∷ Value (bits x) ∷ Absent ∷ Absent ∷ [])
+    ∷ (Value 9 ∷ Value (bits x) ∷ Absent ∷ Absent ∷ Absent ∷ Absent ∷ [])
+    ∷ (Value 10 ∷ Absent ∷ Absent ∷ Absent ∷ Absent ∷ Absent ∷ [])
+    ∷ []
+unfolding acted unchanged propertyOf numbered readProperty realAnswer realFieldAnswer timeFieldAnswer lastDuration operationNumber fieldsOf withCommand if_then_else_
+read-last t o r timer x y f = refl
 
 -- 'property unknown' is 9: 00, 15 and 16, 1C to 20 and 31 on
 pub read-between : (t : ℕ) (o : Output) → map (reads t o) (0x15 ∷ 0x16 ∷ []) ≡ Refused 9 ∷ Refused 9 ∷ []
