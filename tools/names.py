@@ -59,7 +59,7 @@ for page in PAGES:
             faults += ['%s:%d: %s' % (page, number, name) for name in re.findall(r'`([^`]+)`', line) if not there(name)]
 # quotations: blanks and ends of lines do not count, since long lines are broken on the page
 quoted = 0
-for said in re.finditer(r'`([\w./]+)`:\n\n((?:    .*\n)+)', read(QUOTES)):
+for said in re.finditer(r'`([\w./-]+)`:\n\n((?:    .*\n)+)', read(QUOTES)):
     quoted += 1
     text = ''.join(read(said[1]).split()) if os.path.exists(said[1]) else ''
     for part in re.split(r'(?m)^ *\.\.\n', said[2]):
