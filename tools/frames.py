@@ -1,9 +1,12 @@
 #!/usr/bin/env python3
-"""frames.py: what docs/FRAMES.md shows, run. The lines of its blocks that are frames with answers are one list over
-16 outputs: `replay` must give each answer. examples/frames.txt must be that list (--write makes it). Each row of
-'Properties' is read, and written with 0, on a fresh output: the columns 'fresh' and 'writable' must be true. Each
-kind and each refusal but 1 must be shown, and have its row. Exit status 1 where something is not so."""
+"""frames.py: what docs/FRAMES.md shows, run. The lines of its blocks that are frames with answers are one
+list over 16 outputs: `replay` must give each answer. examples/frames.txt must be that list (--write makes
+it). Each row of 'Properties' is read on a fresh output, written with 0, and written with the ends of its
+range and what lies next to them: the columns 'fresh', 'writable' and 'range' must be true. Each kind and
+each refusal but 1 must be shown, and have its row; a kind's bytes are those of its frames. Exit status 1
+where something is not so."""
 import re
+import struct
 import subprocess
 import sys
 
@@ -17,8 +20,8 @@ PROPERTIES = {*range(0x01, 0x15), *range(0x17, 0x1C), *range(0x21, 0x31)}
 faults = []
 shown = []  # (line of the page, frame, answer)
 text = 'outputs %d\n' % OUTPUTS
-rows = []  # (line of the page, first property, last, fresh, writable)
-kind_rows, refusal_rows = set(), set()
+rows = []  # (line of the page, first property, last, fresh, writable, value, range)
+kind_rows, refusal_rows = {}, set()
 with open(PAGE) as page:
     for line, words in enumerate(page, 1):
         block = re.match(r'^    +(\S.*?)\s*$', words)
@@ -33,9 +36,10 @@ with open(PAGE) as page:
             faults.append('%d: a frame without an answer' % line)
         elif len(cells) == 6 and re.match(r'^[0-9A-F]{2}( to [0-9A-F]{2})?$', cells[0]):
             ends = [int(number, 16) for number in cells[0].split(' to ')]
-            rows.append((line, ends[0], ends[-1], cells[4].split(' ')[0].strip('`'), cells[5]))
+            fresh = cells[4].split(' ')[0].strip('`')
+            rows.append((line, ends[0], ends[-1], fresh, cells[5], cells[2], cells[3]))
         elif len(cells) == 5 and re.match(r'^[0-9A-F]{2}$', cells[0]):
-            kind_rows.add(cells[0])
+            kind_rows[cells[0]] = int(cells[3])
         elif len(cells) == 3 and cells[0].isdigit() and cells[2] in ('yes', 'no'):
             refusal_rows.add(int(cells[0]))
             if (cells[2] == 'yes') != (int(cells[0]) >= 9):
@@ -57,14 +61,18 @@ with open(LIST) as file:
 given = answers(text)
 if len(given) != len(shown):
     faults.append('%d answers to %d frames' % (len(given), len(shown)))
-faults += ['%d: %s is answered %s' % (line, frame, answer) for (line, frame, said), answer in zip(shown, given) if said != answer]
+for (line, frame, said), answer in zip(shown, given):
+    if said != answer:
+        faults.append('%d: %s is answered %s' % (line, frame, answer))
+    if answer not in ('Refused 2', 'Refused 3') and kind_rows.get(frame[:2]) != len(frame.replace(' ', '')) // 2:
+        faults.append('%d: %s has not the bytes of its kind' % (line, frame))
 
 # each property of a fresh output, read, and then written with 0
-numbers = [number for _, first, last, _, _ in rows for number in range(first, last + 1)]
+numbers = [number for _, first, last, *_ in rows for number in range(first, last + 1)]
 asked = ''.join('05 00 %08X 000000000000 00 %02X\n' % (k, number) for k, number in enumerate(numbers, 1))
 asked += ''.join('04 01 %08X 000000000000 00 %02X 00000000\n' % (k, number) for k, number in enumerate(numbers, 1))
 given = answers('outputs 1\n' + asked)
-for line, first, last, fresh, writable in rows:
+for line, first, last, fresh, writable, _, _ in rows:
     for number in range(first, last + 1):
         place = numbers.index(number)
         read, written = given[place], given[len(numbers) + place]
@@ -73,9 +81,33 @@ for line, first, last, fresh, writable in rows:
         if writable not in ('yes', 'no') or (writable == 'no') != (written == 'Refused 9'):
             faults.append('%d: property %02X written with 0: %s' % (line, number, written))
 
+
+
+def edges(value, span):
+    """What is written, with the answers that the row allows: the ends of the range, and what is next to them."""
+    low, high = re.match(r'^([\d.]+)(?: (?:to|or) ([\d,.]*\d))?', span).groups()
+    high = (high or low).replace(',', '')
+    taken = {'Done'} | ({'Refused 16'} if 'above' in span or 'below' in span else set())
+    if value.startswith('REAL'):
+        low, high = (int.from_bytes(struct.pack('>f', float(end)), 'big') for end in (low, high))
+        outside, refused = [low - 1 if low else 0x80000001, high + 1], {'Refused 11'}
+    else:
+        low, high = int(low), int(high)
+        outside, refused = [high + 1] + ([low - 1] if low else []), {'Refused 12'}
+    if 'not 6' in span:
+        outside, refused = outside + [6], {'Refused 10'}
+    return [(bits, taken) for bits in (low, high)] + [(bits, refused) for bits in outside]
+
+
+for line, number, _, _, writable, value, span in rows:
+    for bits, allowed in edges(value, span) if writable == 'yes' else []:
+        answer = answers('outputs 1\n04 00 00000001 000000000000 00 %02X %08X\n' % (number, bits))[0]
+        if answer not in allowed:
+            faults.append('%d: property %02X written with %08X: %s' % (line, number, bits, answer))
+
 kinds = {frame[:2] for _, frame, _ in shown}
 refused = {int(answer.split()[1]) for _, _, answer in shown if answer.startswith('Refused')}
-for what, missing in (('example of kind', KINDS - kinds), ('row of kind', KINDS - kind_rows),
+for what, missing in (('example of kind', KINDS - kinds), ('row of kind', KINDS - set(kind_rows)),
                       ('example of refusal', REFUSALS - refused), ('row of refusal', {1, *REFUSALS} - refusal_rows),
                       ('row of property', {'%02X' % number for number in PROPERTIES - set(numbers)})):
     faults += ['no %s %s' % (what, name) for name in sorted(missing)]
