@@ -2,9 +2,9 @@
 """frames.py: what docs/FRAMES.md shows, run. The lines of its blocks that are frames with answers are one
 list over 16 outputs: `replay` must give each answer. examples/frames.txt must be that list (--write makes
 it). Each row of 'Properties' is read on a fresh output, written with 0, and written with the ends of its
-range and what lies next to them: the columns 'fresh', 'writable' and 'range' must be true. Each kind and
-each refusal but 1 must be shown, and have its row; a kind's bytes are those of its frames. Exit status 1
-where something is not so."""
+range and what lies next to them: the columns 'fresh', 'writable' and 'range' must be true. Every kind and
+every property that `replay` knows, and no other, has its row. Every kind and every refusal but 1 has an
+example; a kind's bytes are those of its frames. Exit status 1 where something is not so."""
 import re
 import struct
 import subprocess
@@ -13,9 +13,6 @@ import sys
 PAGE, LIST, PROGRAM, OUTPUTS = 'docs/FRAMES.md', 'examples/frames.txt', 'target/bin/replay', 16
 HEAD = '# The frames of docs/FRAMES.md in its order, without the answers: tools/frames.py --write makes this file.\n'
 ANSWER = r'Done|Absent|Value [0-9A-F]{8}|Refused \d+'
-KINDS = {'%02X' % k for k in [*range(0x01, 0x06), *range(0x10, 0x1C)]}
-REFUSALS = set(range(2, 17))
-PROPERTIES = {*range(0x01, 0x15), *range(0x17, 0x1C), *range(0x21, 0x31)}
 
 faults = []
 shown = []  # (line of the page, frame, answer)
@@ -105,11 +102,20 @@ for line, number, _, _, writable, value, span in rows:
         if answer not in allowed:
             faults.append('%d: property %02X written with %08X: %s' % (line, number, bits, answer))
 
-kinds = {frame[:2] for _, frame, _ in shown}
+# what replay knows: a kind, if a frame that is too long is refused for its length; a property, if it is read
+known_kinds = {'%02X' % k for k, answer in enumerate(answers(
+    'outputs 1\n' + ''.join('%02X' % k + '00' * 99 + '\n' for k in range(256)))) if answer == 'Refused 3'}
+known_properties = {k for k, answer in enumerate(answers(
+    'outputs 1\n' + ''.join('05 00 %08X 000000000000 00 %02X\n' % (k + 1, k) for k in range(256))))
+    if answer != 'Refused 9'}
+kinds = {frame[:2] for _, frame, answer in shown if answer not in ('Refused 2', 'Refused 3')}
 refused = {int(answer.split()[1]) for _, _, answer in shown if answer.startswith('Refused')}
-for what, missing in (('example of kind', KINDS - kinds), ('row of kind', KINDS - set(kind_rows)),
-                      ('example of refusal', REFUSALS - refused), ('row of refusal', {1, *REFUSALS} - refusal_rows),
-                      ('row of property', {'%02X' % number for number in PROPERTIES - set(numbers)})):
+refusals = set(range(2, max(refusal_rows) + 1))
+for what, missing in (('example of kind', known_kinds - kinds), ('row of kind', known_kinds - set(kind_rows)),
+                      ('kind in replay', set(kind_rows) - known_kinds),
+                      ('example of refusal', refusals - refused), ('row of refusal', ({1} | refusals | refused) - refusal_rows),
+                      ('row of property', {'%02X' % number for number in known_properties - set(numbers)}),
+                      ('property in replay', {'%02X' % number for number in set(numbers) - known_properties})):
     faults += ['no %s %s' % (what, name) for name in sorted(missing)]
 for fault in faults:
     print('frames.py: %s: %s' % (PAGE, fault))
