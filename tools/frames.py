@@ -1,37 +1,71 @@
 #!/usr/bin/env python3
-"""frames.py: what docs/FRAMES.md shows, run. The lines of its blocks that are frames with answers are one
-list over 16 outputs: `replay` must give each answer. examples/frames.txt must be that list (--write makes
-it). Each row of 'Properties' is read on a fresh output, written with 0, and written with the ends of its
-range and what lies next to them: the columns 'fresh', 'writable' and 'range' must be true. Every kind and
-every property that `replay` knows, and no other, has its row. Every kind and every refusal but 1 has an
-example; a kind's bytes are those of its frames. Exit status 1 where something is not so."""
+"""frames.py: what pages show of frames, run. The lines of the blocks of docs/FRAMES.md that are frames with
+answers are one list over 16 outputs, and so are those of docs/SUPPLY.md over one: `replay` must give each
+answer. examples/frames.txt must be the list of docs/FRAMES.md (--write makes it). Each row of its
+'Properties' is read on a fresh output, written with 0, and written with the ends of its range and what lies
+next to them: the columns 'fresh', 'writable' and 'range' must be true. Every kind and every property that
+`replay` knows, and no other, has its row. Every kind and every refusal but 1 has an example; a kind's bytes
+are those of its frames. Exit status 1 where something is not so."""
 import re
 import struct
 import subprocess
 import sys
 
-PAGE, LIST, PROGRAM, OUTPUTS = 'docs/FRAMES.md', 'examples/frames.txt', 'target/bin/replay', 16
+PAGE, LIST, PROGRAM = 'docs/FRAMES.md', 'examples/frames.txt', 'target/bin/replay'
 HEAD = '# The frames of docs/FRAMES.md in its order, without the answers: tools/frames.py --write makes this file.\n'
 ANSWER = r'Done|Absent|Value [0-9A-F]{8}|Refused \d+'
 
 faults = []
-shown = []  # (line of the page, frame, answer)
-text = 'outputs %d\n' % OUTPUTS
+
+
+def answers(text):
+    run = subprocess.run([PROGRAM], input=text, capture_output=True, text=True)
+    return run.stdout.split('\n--\n')[0].split('\n')
+
+
+def shown_on(page, outputs):
+    """The frames that a page shows, as (line, frame, answer), and the list that they are."""
+    shown, text = [], 'outputs %d\n' % outputs
+    with open(page) as lines:
+        for line, words in enumerate(lines, 1):
+            block = re.match(r'^    +(\S.*?)\s*$', words)
+            frame = block and re.match(r'^((?:[0-9A-F]{2})+(?: (?:[0-9A-F]{2})+)*|-) +(%s)$' % ANSWER, block[1])
+            if frame:
+                shown.append((line, frame[1], frame[2]))
+                text += frame[1] + '\n'
+            elif block and block[1].startswith('# '):
+                text += block[1] + '\n'
+            elif block and re.match(r'^([0-9A-F]{2}|-)( |$)', block[1]):
+                faults.append('%s:%d: a frame without an answer' % (page, line))
+    given = answers(text)
+    if len(given) != len(shown):
+        faults.append('%s: %d answers to %d frames' % (page, len(given), len(shown)))
+    for (line, frame, said), answer in zip(shown, given):
+        if said != answer:
+            faults.append('%s:%d: %s is answered %s' % (page, line, frame, answer))
+    return shown, text
+
+
+shown, text = shown_on(PAGE, 16)
+also_shown, _ = shown_on('docs/SUPPLY.md', 1)
+if len(also_shown) < 5:
+    faults.append('docs/SUPPLY.md: %d frames found' % len(also_shown))
+
+# the list of the page
+if '--write' in sys.argv[1:]:
+    with open(LIST, 'w') as file:
+        file.write(HEAD + text)
+with open(LIST) as file:
+    if file.read() != HEAD + text:
+        faults.append('%s is another list: tools/frames.py --write' % LIST)
+
+# its tables
 rows = []  # (line of the page, first property, last, fresh, writable, value, range)
 kind_rows, refusal_rows = {}, set()
 with open(PAGE) as page:
     for line, words in enumerate(page, 1):
-        block = re.match(r'^    +(\S.*?)\s*$', words)
-        frame = block and re.match(r'^((?:[0-9A-F]{2})+(?: (?:[0-9A-F]{2})+)*|-) +(%s)$' % ANSWER, block[1])
         cells = [cell.strip() for cell in words.strip().strip('|').split('|')]
-        if frame:
-            shown.append((line, frame[1], frame[2]))
-            text += frame[1] + '\n'
-        elif block and block[1].startswith('# '):
-            text += block[1] + '\n'
-        elif block and re.match(r'^([0-9A-F]{2}|-)( |$)', block[1]):
-            faults.append('%d: a frame without an answer' % line)
-        elif len(cells) == 6 and re.match(r'^[0-9A-F]{2}( to [0-9A-F]{2})?$', cells[0]):
+        if len(cells) == 6 and re.match(r'^[0-9A-F]{2}( to [0-9A-F]{2})?$', cells[0]):
             ends = [int(number, 16) for number in cells[0].split(' to ')]
             fresh = cells[4].split(' ')[0].strip('`')
             rows.append((line, ends[0], ends[-1], fresh, cells[5], cells[2], cells[3]))
@@ -40,29 +74,10 @@ with open(PAGE) as page:
         elif len(cells) == 3 and cells[0].isdigit() and cells[2] in ('yes', 'no'):
             refusal_rows.add(int(cells[0]))
             if (cells[2] == 'yes') != (int(cells[0]) >= 9):
-                faults.append('%d: whether refusal %s uses up the number' % (line, cells[0]))
-text = HEAD + text
-if '--write' in sys.argv[1:]:
-    with open(LIST, 'w') as file:
-        file.write(text)
-
-
-def answers(frames_text):
-    run = subprocess.run([PROGRAM], input=frames_text, capture_output=True, text=True)
-    return run.stdout.split('\n--\n')[0].split('\n')
-
-
-with open(LIST) as file:
-    if file.read() != text:
-        faults.append('%s is another list: tools/frames.py --write' % LIST)
-given = answers(text)
-if len(given) != len(shown):
-    faults.append('%d answers to %d frames' % (len(given), len(shown)))
-for (line, frame, said), answer in zip(shown, given):
-    if said != answer:
-        faults.append('%d: %s is answered %s' % (line, frame, answer))
+                faults.append('%s:%d: whether refusal %s uses up the number' % (PAGE, line, cells[0]))
+for line, frame, answer in shown:
     if answer not in ('Refused 2', 'Refused 3') and kind_rows.get(frame[:2]) != len(frame.replace(' ', '')) // 2:
-        faults.append('%d: %s has not the bytes of its kind' % (line, frame))
+        faults.append('%s:%d: %s has not the bytes of its kind' % (PAGE, line, frame))
 
 # each property of a fresh output, read, and then written with 0
 numbers = [number for _, first, last, *_ in rows for number in range(first, last + 1)]
@@ -74,9 +89,9 @@ for line, first, last, fresh, writable, _, _ in rows:
         place = numbers.index(number)
         read, written = given[place], given[len(numbers) + place]
         if read != ('Absent' if fresh == 'Absent' else 'Value ' + fresh):
-            faults.append('%d: property %02X of a fresh output reads %s' % (line, number, read))
+            faults.append('%s:%d: property %02X of a fresh output reads %s' % (PAGE, line, number, read))
         if writable not in ('yes', 'no') or (writable == 'no') != (written == 'Refused 9'):
-            faults.append('%d: property %02X written with 0: %s' % (line, number, written))
+            faults.append('%s:%d: property %02X written with 0: %s' % (PAGE, line, number, written))
 
 
 
@@ -100,7 +115,7 @@ for line, number, _, _, writable, value, span in rows:
     for bits, allowed in edges(value, span) if writable == 'yes' else []:
         answer = answers('outputs 1\n04 00 00000001 000000000000 00 %02X %08X\n' % (number, bits))[0]
         if answer not in allowed:
-            faults.append('%d: property %02X written with %08X: %s' % (line, number, bits, answer))
+            faults.append('%s:%d: property %02X written with %08X: %s' % (PAGE, line, number, bits, answer))
 
 # what replay knows: a kind, if a frame that is too long is refused for its length; a property, if it is read
 known_kinds = {'%02X' % k for k, answer in enumerate(answers(
@@ -116,8 +131,9 @@ for what, missing in (('example of kind', known_kinds - kinds), ('row of kind', 
                       ('example of refusal', refusals - refused), ('row of refusal', ({1} | refusals | refused) - refusal_rows),
                       ('row of property', {'%02X' % number for number in known_properties - set(numbers)}),
                       ('property in replay', {'%02X' % number for number in set(numbers) - known_properties})):
-    faults += ['no %s %s' % (what, name) for name in sorted(missing)]
+    faults += ['%s: no %s %s' % (PAGE, what, name) for name in sorted(missing)]
 for fault in faults:
-    print('frames.py: %s: %s' % (PAGE, fault))
-print('frames.py: %d frames, %d properties: as the page says' % (len(shown), len(numbers)) if not faults else 'frames.py: FAILED')
+    print('frames.py: ' + fault)
+count = (len(shown) + len(also_shown), len(numbers))
+print('frames.py: %d frames, %d properties: as the pages say' % count if not faults else 'frames.py: FAILED')
 sys.exit(1 if faults else 0)
