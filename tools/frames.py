@@ -97,8 +97,10 @@ for line, first, last, fresh, writable, _, _ in rows:
 
 def edges(value, span):
     """What is written, with the answers that the row allows: the ends of the range, and what is next to them."""
-    low, high = re.match(r'^([\d.]+)(?: (?:to|or) ([\d,.]*\d))?', span).groups()
-    high = (high or low).replace(',', '')
+    ends = re.match(r'^([\d.]+)(?: (?:to|or) ([\d,.]*\d))?', span)
+    if not ends:
+        return [(0, {'no range on the page'})]
+    low, high = ends[1], (ends[2] or ends[1]).replace(',', '')
     taken = {'Done'} | ({'Refused 16'} if 'above' in span or 'below' in span else set())
     if value.startswith('REAL'):
         low, high = (int.from_bytes(struct.pack('>f', float(end)), 'big') for end in (low, high))
