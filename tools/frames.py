@@ -13,7 +13,8 @@ import sys
 
 PAGE, LIST, PROGRAM = 'docs/FRAMES.md', 'examples/frames.txt', 'target/bin/replay'
 HEAD = '# The frames of docs/FRAMES.md in its order, without the answers: tools/frames.py --write makes this file.\n'
-ANSWER = r'Done|Absent|Value [0-9A-F]{8}|Refused \d+'
+# a frame in hex, its answer, and what the page says beside them
+FRAME = r'^((?:[0-9A-F]{2})+(?: (?:[0-9A-F]{2})+)*|-) +(Done|Absent|Value [0-9A-F]{8}|Refused \d+)(?:  +(.*))?$'
 
 faults = []
 
@@ -29,12 +30,10 @@ def shown_on(page, outputs):
     with open(page) as lines:
         for line, words in enumerate(lines, 1):
             block = re.match(r'^    +(\S.*?)\s*$', words)
-            frame = block and re.match(r'^((?:[0-9A-F]{2})+(?: (?:[0-9A-F]{2})+)*|-) +(%s)$' % ANSWER, block[1])
+            frame = block and re.match(FRAME, block[1])
             if frame:
                 shown.append((line, frame[1], frame[2]))
-                text += frame[1] + '\n'
-            elif block and block[1].startswith('# '):
-                text += block[1] + '\n'
+                text += ('# %s\n' % frame[3] if frame[3] else '') + frame[1] + '\n'
             elif block and re.match(r'^([0-9A-F]{2}|-)( |$)', block[1]):
                 faults.append('%s:%d: a frame without an answer' % (page, line))
     given = answers(text)
