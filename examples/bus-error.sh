@@ -1,5 +1,6 @@
 #!/bin/sh
-# A bus error, replayed by the proved panel and by the bought code: levels and burning times side by side.
+# A bus error, replayed by the proved panel and by a model of the fault (not by the bought code itself, see
+# docs/SUPPLY.md): levels and burning times side by side.
 # With names of files: each must hold the table that this prints.
 cd "$(dirname "$0")/.." || exit 2
 [ -x target/bin/replay ] || rt check replay >/dev/null || exit 2

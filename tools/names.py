@@ -1,13 +1,16 @@
 #!/usr/bin/env python3
-"""names.py: every name that docs/PROMISES.md, docs/CHANGING.md, docs/TRUST.md and README.md put between backquotes is there: a definition, theorem, type or
-field of antt, a function, a must-fail edit, a crate or a file. Exit status 1 where one is not."""
+"""names.py: every name that the pages put between backquotes is there: a definition, theorem, type or field of antt,
+a function, a must-fail edit, a crate or a file. And every block of docs/TOUR.md that comes after a line which ends in
+`FILE`: stands in FILE; a line `..` in it leaves something out. Exit status 1 where one is not."""
 import glob
 import os
 import re
 import sys
 
-PAGES = ['README.md', 'docs/PROMISES.md', 'docs/CHANGING.md', 'docs/TRUST.md', 'docs/DECISIONS.md']
-# words that are no names of the repository: of the language, of the toolchain, of the text of lists, of papers
+PAGES = ['README.md', 'docs/PROMISES.md', 'docs/CHANGING.md', 'docs/TRUST.md', 'docs/DECISIONS.md', 'docs/DESIGN.md',
+         'docs/TOUR.md', 'docs/SUPPLY.md', 'docs/FRAMES.md']
+QUOTES = 'docs/TOUR.md'
+# words that are no names of the repository: of the language, the toolchain, the text of lists, the papers
 OTHERS = set('''requires ensures unfolding abbrev unfoldable search needs simp cc rw omega let if match while loop for use mod pub fn struct enum const f32 u8 u16 u32 u64 bool usize
 libc read write os c rattle_arg rattle_set_errno pv inprocess stdin stdout also toBits refl tagged Relay frame_tags old: new: DEFINITION-on rt cargo valgrind python3 target main returns old new to start frame'''.split())
 
@@ -54,6 +57,16 @@ for page in PAGES:
     if os.path.exists(page):
         for number, line in enumerate(re.sub(r'(?m)^(?:    |```).*$', '', read(page)).split('\n'), 1):
             faults += ['%s:%d: %s' % (page, number, name) for name in re.findall(r'`([^`]+)`', line) if not there(name)]
+# quotations: blanks and ends of lines do not count, since long lines are broken on the page
+quoted = 0
+for said in re.finditer(r'`([\w./-]+)`:\n\n((?:    .*\n)+)', read(QUOTES)):
+    quoted += 1
+    text = ''.join(read(said[1]).split()) if os.path.exists(said[1]) else ''
+    for part in re.split(r'(?m)^ *\.\.\n', said[2]):
+        if not text or ''.join(part.split()) not in text:
+            faults.append('%s: quoted from %s: %s' % (QUOTES, said[1], part.strip().split('\n')[0]))
+if quoted < 10:
+    faults.append('%s: %d quotations found' % (QUOTES, quoted))
 for fault in faults:
     print('names.py: not there: ' + fault)
 print('names.py: every name of the pages is there' if not faults else 'names.py: FAILED')

@@ -74,7 +74,7 @@ pub fn stations_sound(stations: &[Station]) -> bool
 }
 
 // Brings one output to a moment, from due moment to due moment. A function of its own, so that the copies of a record that the compiler makes here stay out of
-// the way of most outputs (docs/DECISIONS.md, 'With and without a movement apart').
+// the way of most outputs (docs/DESIGN.md, 'With and without a movement apart').
 fn step_output(outputs: &mut [Output], i: usize, from: u64, to: u64)
     requires { ⌜ i < length (now outputs) ⌝ }
     ensures { λ _. ⌜ now (outputs .exit) ≡ set (now (outputs .entry)) i (advance from to (getD (now (outputs .entry)) i freshOutput)) ⌝ }

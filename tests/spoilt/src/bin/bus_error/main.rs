@@ -42,7 +42,7 @@ fn main() -> ExitCode {
 fn table(program: &Path, list: &Path) -> Result<String, String> {
     let text = std::fs::read_to_string(list).map_err(|error| error.to_string())?;
     let mut table = String::from(
-        "| at, s | message | proved: light | burning, s | bought: light | burning, s |\n\
+        "| at, s | message | proved: light | burning, s | model: light | burning, s |\n\
          |---:|---|---:|---:|---:|---:|\n",
     );
     for Moment {
