@@ -1,4 +1,4 @@
--- THE ENGINE's passing of time: from due moment to due moment. proofs/Passing.antt has that it comes to the plain panel's milliseconds (`ticks` of
+-- THE ENGINE's passing of time: from due moment to due moment. proofs/Time/Passing.antt has that it comes to the plain panel's milliseconds (`ticks` of
 -- Paper/Passing.antt), so that nobody need believe this file.
 use mathlib.Core.Bool.{Bool, true, false}
 use mathlib.Core.List.{List, [], _∷_}
@@ -25,7 +25,7 @@ unfoldable pub due : ℕ → Output → ℕ
 due to o = soonest to (dueMoments o)
 
 -- burning in a count that stays at its top: no frame brings a record that meets the rules there, since its time has 48 bits
--- (proofs/Passing.antt, `eventSteps-ticks`)
+-- (proofs/Time/Passing.antt, `eventSteps-ticks`)
 abbrev pub greatestCount : ℕ
 greatestCount = 18446744073709551615
 
@@ -36,7 +36,7 @@ unfoldable pub withBurnedSaturating : ℕ → ℕ → Output → Output
 withBurnedSaturating from n o = burnedBy (litStretch from n o) o
 
 -- whether one of these moments is d. The engine does something at due moments alone: elsewhere an output that was judged needs no judging again
--- (proofs/Judged.antt)
+-- (proofs/Time/Judged.antt)
 abbrev pub anyDue : ℕ → List Moment → Bool
 anyDue d [] = false
 anyDue d (first ∷ rest) = if isDue d first then true else anyDue d rest
@@ -55,6 +55,6 @@ eventSteps (suc k) now to o = eventSteps k (due to o) to (eventStep now (due to 
 unfoldable pub advance : ℕ → ℕ → Output → Output
 advance now to o = eventSteps 3 now to o
 
--- nothing falls due up to the moment `to`: then the way there is burning alone (proofs/Quiet.antt)
+-- nothing falls due up to the moment `to`: then the way there is burning alone (proofs/Time/Quiet.antt)
 unfoldable pub later : ℕ → Output → Bool
 later to o = ltb to (due greatestCount o)

@@ -1,4 +1,4 @@
--- THE ENGINE's count of the milliseconds at whose start a lamp gives light, whatever the stretch. proofs/Light.antt has that it comes to the
+-- THE ENGINE's count of the milliseconds at whose start a lamp gives light, whatever the stretch. proofs/Time/Light.antt has that it comes to the
 -- milliseconds one by one (`litMilliseconds` of Paper/Passing.antt), so that nobody need believe this file.
 use Prim.Native.Nat.{ℕ, _+_, _-_, _*_, _/_, min, max}
 use lib.Dec.{ltb, eqb}

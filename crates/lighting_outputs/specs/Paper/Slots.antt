@@ -47,7 +47,7 @@ unfoldable pub isLive : Slots → ℕ → Bool
 isLive s i = eqb (s .live / 2 ^ i % 2) 1
 
 -- bit i cleared and set; a level put in its place. There is no slot from 16 on: the guard stands for records that break
--- the rules (proofs/Mask.antt, `put-slots`)
+-- the rules (proofs/Priorities/Mask.antt, `put-slots`)
 unfoldable pub maskEmptied : ℕ → ℕ → ℕ
 maskEmptied m i = if ltb i slotCount then bitAnd m (65535 - 2 ^ i) else m
 
