@@ -1,4 +1,4 @@
--- `number_level::operand` meets its contract.
+-- Made by tools/draft.py from the answers.txt beside it: edit that file.
 use mathlib.Core.Path.{refl, ap}
 use Rattle.lighting_levels.proofs.Choosing.{if-flag, if-nflag}
 use Rattle.lighting_levels.specs.declared.Operand.the-variants.{Taken}

@@ -1,21 +1,14 @@
+-- Made by tools/draft.py from the answers.txt beside it: edit that file.
 use mathlib.Core.Path.{_≡_}
 use mathlib.Core.Bool.{true}
 use Rattle.lighting_outputs.specs.Paper.Rows.{isPriority}
 use Rattle.property_write.proofs.Priorities.{priority-range}
-use Rattle.lighting_levels.proofs.Choosing.{ifs}
 use Rattle.lighting_outputs.proofs.Laws.{changeBy-on}
 use Rattle.lighting_outputs.specs.Paper.Properties.{changeBy}
+use Rattle.lighting_levels.proofs.Choosing.{ifs}
 use borrow.Author.Needs.{needs}
 use Rattle.property_write.proofs.values.change_by.Statement.{statement}
 use Rattle.property_write.proofs.values.change_by.Tie as tie
-use Rattle.property_write.proofs.values.change_by.Reads as reads
-use Rattle.property_write.proofs.values.change_by.Lts as lts
-use Rattle.number_level.proofs.level_of.Reads as level-of-reads
-use Rattle.number_level.proofs.limit_of.Reads as limit-of-reads
-use Rattle.property_write.proofs.values.change_to.Reads as change-to-reads
-use Rattle.number_ranges.proofs.is_priority.Reads as is-priority-reads
-use Rattle.number_ranges.proofs.is_within.Reads as is-within-reads
-use Rattle.number_ranges.proofs.rows.is_amount_pattern.Reads as is-amount-pattern-reads
 
 enum-told : tie.Need-enum-told
 enum-told c = search needs
@@ -98,29 +91,4 @@ unfolding changeBy
 returns-9 c = search (needs, ifs, changeBy-on)
 
 pub change-by-spec : {M : Type 1} → statement M
-change-by-spec =
-    tie.close
-    (tie.spec
-    enum-told
-    level-of-requires
-    change-to-requires
-    enum-told-2
-    limit-of-requires
-    change-to-requires-2
-    enum-told-3
-    is-amount-pattern-requires
-    enum-known-row
-    is-within-requires
-    enum-told-4
-    is-priority-requires
-    sub-t15
-    enum-told-5
-    returns
-    returns-2
-    returns-3
-    returns-4
-    returns-5
-    returns-6
-    returns-7
-    returns-8
-    returns-9)
+change-by-spec = tie.close (tie.spec enum-told level-of-requires change-to-requires enum-told-2 limit-of-requires change-to-requires-2 enum-told-3 is-amount-pattern-requires enum-known-row is-within-requires enum-told-4 is-priority-requires sub-t15 enum-told-5 returns returns-2 returns-3 returns-4 returns-5 returns-6 returns-7 returns-8 returns-9)
