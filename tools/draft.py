@@ -1,32 +1,49 @@
 #!/usr/bin/env python3
-"""draft.py: the proof files of functions that need no thought.
+"""draft.py: the proof files of functions, from what people answer and a rule for the rest.
 
-Where a function meets an equation `r ≡ DEFINITION ..` by composing its callees, or by choosing as the definition does, its file
-proofs/F/Proof.antt follows from the code by a rule, and this tool writes it. Such a file says so in its first line; what has no such line was
-written by people. The prover checks both alike.
+To prove a function is to answer its needs, one for each call, index, sum, .. and return of its code. Rattle lists them; most answers are alike.
+This tool writes the list, proofs/F/Proof.antt, whole. What people have to say of F stands beside it, in proofs/F/answers.txt; where the rule
+answers every need there is no such file. The first line of a Proof.antt says which. The prover checks every line, whoever wrote it.
+(Only functions over lent tables have a Proof.antt that people write: tools/twin.py.)
 
-    draft.py NAME             runs `rt dev NAME` and drafts a file for each function that has none; what the rule cannot answer is left as a hole
-    draft.py NAME --replace   tries the rule in place of each file written by people, and keeps it where the prover takes it
-    draft.py --attributes     writes .gitattributes: drafts, derivations and what other tools make are marked as generated
-    draft.py --check          fails where a marked file is not what the rule gives for its needs and the source, where an unmarked one is, or where
-                              .gitattributes is stale
-    draft.py --count          how many files and lines are drafted, and how many people wrote
+    draft.py NAME ..          asks Rattle for the needs of each function (`rt dev`), and writes the proof files of a crate anew
+    draft.py --anew           writes all proof files anew from the needs that stand in them: after an edit of an answers.txt alone
+    draft.py NAME .. --take   makes answers.txt out of each Proof.antt that people wrote whole, and writes that anew
+    draft.py NAME .. --replace  tries the rule in place of each answers.txt, and keeps it where the prover takes it
+    draft.py --attributes     writes .gitattributes: what tools made is marked as generated
+    draft.py --check          fails where a proof file is not what its answers and the rule give for the needs that stand in it, where an answer
+                              is to no need, where a Proof.antt has no mark, or where .gitattributes is stale
+    draft.py --count          how many files and lines are made, and how many people wrote
 
 The rule. A need that is no return: `search needs`. A return: where the function returns once and calls others, it composes: `simp` with the
 callees' facts from the last call back; else it chooses: `search (needs, ifs)`, with the law of the definition where that goes by clauses
-(tools/laws.py). Where the contract is no such equation: `search needs`."""
+(tools/laws.py). Where the contract is no such equation: `search needs`.
+
+The answers. First `use` lines: those of `needs`, of the statement and of the needs' types are written by the tool. Then blocks with a blank line
+between them. A block that begins `NEED c =` or `NEED c κs =`, perhaps below comments and a line `unfolding ..`, is the answer to a need; its type is
+written by the tool. Any other is a law or a definition of people's, an invariant for instance, and is put in before the answer that follows it.
+
+    returns-3        the third of the needs called returns; the first is `returns`
+    returns-3..5     the third to the fifth, each by the same answer
+    returns-last     the last of them; `returns-last-1` is the one before it
+    returns*         each of them that has no answer of its own
+    @name            in an answer: the place of that name before the need, with its path: `@put-all .ensures` is `c .before .before .put-all .ensures`
+    ← earlier-calls  in a list of equations: what the calls before the last one ensure, from the last back, each from right to left"""
 import glob
 import os
 import re
 import subprocess
 import sys
+import tempfile
 
-MARK = '-- Drafted by tools/draft.py: nothing here was written by hand.'
-LAWS = sorted(glob.glob('crates/lighting_*/proofs/Laws.antt'))
-SPECS = ['crates/lighting_*/specs/*/*.antt', 'crates/*/specs/*.antt']
+sys.dont_write_bytecode = True
+
+DRAFTED = '-- Drafted by tools/draft.py: nothing here was written by hand.'
+MADE = '-- Made by tools/draft.py from the answers.txt beside it: edit that file.'
+ANSWERS = 'answers.txt'
 # what tools/twin.py, laws.py and figures.py make
-MADE = ['crates/*/proofs/Lent.antt', 'crates/*/proofs/Lent/**', 'crates/*/proofs/**/Proof/Lts.antt', 'crates/*/proofs/**/Proof/Tie.antt',
-        'crates/lighting_*/proofs/Laws.antt', 'crates/lighting_*/proofs/Figures.antt', 'docs/SPOILT.md', 'tests/EVENTS.txt']
+TOOLS = ['crates/*/proofs/Lent.antt', 'crates/*/proofs/Lent/**', 'crates/*/proofs/**/Proof/Lts.antt', 'crates/*/proofs/**/Proof/Tie.antt',
+         'crates/lighting_*/proofs/Laws.antt', 'crates/lighting_*/proofs/Figures.antt', 'docs/SPOILT.md', 'tests/EVENTS.txt']
 
 
 def read(path):
@@ -40,9 +57,19 @@ def write(path, text):
         f.write(text)
 
 
+def crates():
+    return sorted(os.listdir('crates'))
+
+
 # definitions that open by themselves, so that no proof says so
-OPEN = {name for pattern in SPECS for path in glob.glob(pattern) for name in re.findall(r'^abbrev pub (\w+) :', read(path), re.M)}
+OPEN = {name for path in glob.glob('crates/*/specs/**/*.antt', recursive=True) for name in re.findall(r'^abbrev pub (\w+) :', read(path), re.M)}
 DEPENDS = {m.group(1): m.group(2).split() for m in re.finditer(r'^(\w+):(.*)', read('crates.txt'), re.M)}
+
+
+def module(crate, path):
+    """The name by which a crate imports the module of a file."""
+    parts = path[:-len('.antt')].split('/')[1:]
+    return 'Rattle.%s.%s' % (parts[0] + ('·proofs' if parts[0] == crate else ''), '.'.join(parts[1:]))
 
 
 def heads(name):
@@ -60,87 +87,44 @@ class Crate:
     """What the rule reads of a crate's source: where each name of a contract stands, and the definition that each function equals."""
 
     def fact(self, place, call):
-        """What is known of a callee's result."""
+        """What is known of a callee's result: of one that ensures several things, the first."""
         function = re.sub(r'\d+$', '', call).replace('-', '_')
-        m = re.search(r'((?:\w+::)*)%s\s*\(' % function, self.bodies[place])
-        crate = m.group(1).split('::')[0] if m and m.group(1).split('::')[0] in DEPENDS else self.name
-        return '.%s .ensures%s' % (call, ' .0' if (crate, function) in self.several else '')
+        m = re.search(r'(\w+)::(?:\w+::)*%s\s*\(' % function, self.bodies.get(place, ''))
+        if m and m.group(1) in DEPENDS:
+            several = (m.group(1), function) in self.several
+        else:
+            several = any(name == function for crate, name in self.several if (self.name, function) not in self.functions or crate == self.name)
+        return '.%s .ensures%s' % (call, ' .0' if several else '')
 
     def __init__(self, name):
         self.name = name
         self.where, self.defined, self.laws = {}, {}, {}
         for path in glob.glob('crates/%s/src/*.rt' % name):
             source = re.sub(r'//.*', '', read(path))
-            module = os.path.basename(path)[:-3]
+            here = os.path.basename(path)[:-3]
             for used, names in re.findall(r'ghost use (\S+)\.\{([^}]*)\};', source):
                 for one in names.split(','):
-                    self.where.setdefault(module, {})[one.strip()] = used
+                    self.where.setdefault(here, {})[one.strip()] = used
         # the definition that a function equals; and, of a function that says several things, that its first is asked for
-        self.bodies, self.several = {}, set()
-        for module, function, clauses, body in heads(name):
+        self.bodies, self.several, self.functions = {}, set(), {(name, function) for _, function, _, _ in heads(name)}
+        for here, function, clauses, body in heads(name):
             equation = re.match(r'\w+ ≡ (\w+)', clauses[0]) if len(clauses) == 1 else None
-            self.defined[(module, function)] = equation.group(1) if equation else None
-            self.bodies[(module, function)] = body
-        for other in [name] + DEPENDS.get(name, []):
+            self.defined[(here, function)] = equation.group(1) if equation else None
+            self.bodies[(here, function)] = body
+        known = DEPENDS.get(name, []) + [name]
+        for other in known:
             self.several.update((other, function) for _, function, clauses, _ in heads(other) if len(clauses) > 1)
-        for path, library in [(law, 'Rattle.%s.proofs.Laws' % law.split('/')[1]) for law in LAWS] + [('crates/%s/proofs/Laws.antt' % name, 'Rattle.%s.proofs.Laws' % name)]:
-            for law in re.findall(r'^pub (\w+)-on :', read(path) if os.path.exists(path) else '', re.M):
-                self.laws[law] = library
+            for path in glob.glob('crates/%s/proofs/**/Laws.antt' % other, recursive=True):
+                for law in re.findall(r'^pub (\w+)-on :', read(path), re.M):
+                    self.laws[law] = module(name, path)
+        self.choosing = [module(name, path) for other in known
+                         for path in glob.glob('crates/%s/proofs/**/Choosing.antt' % other, recursive=True)]
 
 
 def place(path):
-    """The module and the function that a proof file is of."""
+    """The module and the function that a proof file is of, and both as a path."""
     parts = path.split('/')[3:-1]
     return (parts[-2] if len(parts) > 1 else 'lib', parts[-1], '.'.join(parts))
-
-
-def needs_of(text):
-    """The needs of a proof file, in order, each with its arguments."""
-    return re.findall(r'^(\S+) : tie\.Need-\S+\n(?:unfolding .*\n)?\1 (c(?: κs)?) =', text, re.M)
-
-
-def drafted(crate, path, text):
-    """The rule's text for the needs that stand in `text`; None where that is no file that the rule can write."""
-    needs = needs_of(text)
-    if 'mod Lts' in text or not needs or '-spec' not in text:
-        return None
-    module, function, dotted = place(path)
-    definition = crate.defined.get((module, function))
-    if definition not in crate.where.get(module, {}):
-        definition = None
-    returns = [n for n, _ in needs if re.match(r'returns(-\d+)?$', n)]
-    calls = [a + b for a, b in re.findall(r'^(\S+?)-requires(?:-(\d+))? : tie', text, re.M)]
-    composes = len(returns) == 1 and calls
-    law = definition in crate.laws
-    if definition and composes:
-        facts = ['c' + ' .before' * i + ' ' + crate.fact((module, function), call) for i, call in enumerate(reversed(calls))]
-        answer = 'simp (%s)' % ', '.join(facts)
-    elif definition:
-        answer = 'search (needs, ifs%s)' % (', %s-on' % definition if law else '')
-    else:
-        answer = 'search needs'
-    lines = [MARK]
-    if 'ifs' in answer:
-        lines.append('use Rattle.lighting_levels.proofs.Choosing.{ifs}')
-    if law and not composes:
-        lines.append('use %s.{%s-on}' % (crate.laws[definition], definition))
-    if definition and definition not in OPEN:
-        lines.append('use %s.{%s}' % (crate.where[module][definition], definition))
-    lines.append('use borrow.Author.Needs.{needs}')
-    lines.append('use Rattle.%s.proofs.%s.Statement.{statement}' % (crate.name, dotted))
-    lines.append('use Rattle.%s.proofs.%s.Tie as tie' % (crate.name, dotted))
-    for name, arguments in needs:
-        lines += ['', '%s : tie.Need-%s' % (name, name)]
-        if name in returns and definition and definition not in OPEN:
-            lines.append('unfolding ' + definition)
-        lines.append('%s %s = %s' % (name, arguments, answer if name in returns else 'search needs'))
-    spec = function.replace('_', '-') + '-spec'
-    lines += ['', 'pub %s : {M : Type 1} → statement M' % spec, '%s = tie.close (tie.spec %s)' % (spec, ' '.join(n for n, _ in needs)), '']
-    return '\n'.join(lines)
-
-
-def proof_files(name):
-    return sorted(p for p in glob.glob('crates/%s/proofs/**/Proof.antt' % name, recursive=True) if 'mod Lts' not in read(p))
 
 
 def same(a, b):
@@ -148,47 +132,336 @@ def same(a, b):
     return a.split() == b.split()
 
 
-def checked(name):
+def blocks_of(text):
+    """The blocks of a text: what stands between blank lines and begins at the margin."""
+    return [b.rstrip() for b in re.split(r'\n\n+(?=\S)', text.strip('\n')) if b.strip()]
+
+
+# ---- the needs of a function
+
+class Need:
+    """A need: its name; the invariants and measures that its type takes; its arguments; and the places before it, each with its path."""
+
+    def __init__(self, name, takes, places=None):
+        self.name, self.takes, self.places = name, takes, places or []
+        m = re.match(r'(.*?)(?:-(\d+))?$', name)
+        self.family, self.number = m.group(1), int(m.group(2) or 1)
+        self.arguments = 'c κs' if self.family.endswith('-requires') else 'c'
+        self.returns = self.family == 'returns'
+        self.earlier = []
+
+
+class Needs:
+    """All needs of a function: first the names of its invariants and measures, then the needs in order."""
+
+    def __init__(self, leading, needs):
+        self.leading, self.needs = leading, needs
+        self.count = {}
+        for need in needs:
+            self.count[need.family] = max(self.count.get(need.family, 0), need.number)
+
+
+def needs_made(folder, crate, dotted):
+    """The needs as Rattle has made them for a check."""
+    base = '%s/Rattle.%s.proofs/proofs/%s/' % (folder, crate, dotted.replace('.', '/'))
+    if not os.path.exists(base + 'Tie.antt'):
+        return None
+    m = re.search(r'pub spec :(.*?)Lts\.Closed', re.sub(r'\s+', ' ', read(base + 'Tie.antt')))
+    names, leading, needs = {}, [], []
+    for bound, kind in re.findall(r'\((\S+) : ([^()]*)\) →', m.group(1)):
+        words = kind.split()
+        if words[0].startswith('Need-'):
+            needs.append(Need(words[0][len('Need-'):], [names[w] for w in words[1:]]))
+        else:
+            names[bound] = re.sub(r'^MeasureT-', 'μ-', re.sub(r'^InvT-', 'Inv-', words[0]))
+            leading.append(names[bound])
+    # the places before each need
+    text = read(base + 'Lts.antt')
+    records = {}
+    for m in re.finditer(r'pub record (\S+) : Type 0 where\n((?:[ ]{8,}[^\n]*\n|\s*\n)*)', text):
+        indent = len(re.match(r' *', m.group(2)).group(0))
+        records[m.group(1)] = re.findall(r'(?m)^ {%d}pub (\S+) : (\S+)' % indent, m.group(2))
+    called = set(re.findall(r'abbrev pub (\S+?)·own : Type 0\n\s*\S+ =\s*Called', text))
+    starts = dict(re.findall(r'(?m)^ +abbrev pub Need-(\S+) : Type 0\n\s*\S+ =\s*\(c : (\S+?)\)', text))
+    for need in needs:
+        at, path = starts.get(need.name), 'c'
+        while at in records:
+            for field, kind in records[at]:
+                if field != 'before':
+                    need.places.append((field, path, at in called))
+            before = [kind for field, kind in records[at] if field == 'before']
+            at, path = before[0] if before else None, path + ' .before'
+    return Needs(leading, needs)
+
+
+def needs_said(text):
+    """The needs that stand in a proof file, with the places that its answers name."""
+    m = re.search(r'tie\.close\s*\(\s*tie\.spec\s+([^)]*)\)', text)
+    if not m:
+        return None
+    leading, needs = [], []
+    said = {}
+    for block in blocks_of(text):
+        b = re.match(r'(?:--.*\n)*(\S+) : tie\.Need-(\S+)((?: \S+)*)\n', block)
+        if b:
+            said[b.group(1)] = (b.group(3).split(), block)
+    for name in m.group(1).split():
+        if name not in said:
+            leading.append(name)
+            continue
+        takes, block = said[name]
+        block = re.sub(r'\s+', ' ', block)
+        places = [(field, 'c' + before, False) for before, field in re.findall(r'(?<![\w.·-])c((?: \.before)*) \.([^\s().,]+)', block) if field != 'before']
+        need = Need(name, takes, list(dict.fromkeys(places)))
+        need.earlier = re.findall(r'← (c(?: \.before)+ \.\S+ \.ensures(?: \.0)?)(?=[,)])', block)
+        needs.append(need)
+    return Needs(leading, needs)
+
+
+# ---- answers
+
+class Answer:
+    """An answer, or a law of people's: comments above it, what it unfolds, the name as written, the arguments, the text."""
+
+    def __init__(self, block):
+        m = re.match(r'((?:--.*\n)*)((?:unfolding (?:.|\n)*?\n)?)(\S+) (c(?: κs)?) =(\s+(?:.|\n)*)$', block)
+        self.block, self.used = block, False
+        self.comments, self.unfolding, self.name, self.arguments, self.text = m.groups() if m else ('', '', None, '', '')
+
+    def score(self, need, needs):
+        """How well an answer fits a need: 0 where it does not."""
+        if self.name is None:
+            return 0
+        if self.name == need.name:
+            return 3
+        m = re.match(r'(.*?)(?:-(\d+))?\.\.(\d+)$', self.name)
+        if m and m.group(1) == need.family and int(m.group(2) or 1) <= need.number <= int(m.group(3)):
+            return 2
+        m = re.match(r'(.*)-last(?:-(\d+))?$', self.name)
+        if m and m.group(1) == need.family and needs.count[need.family] - int(m.group(2) or 0) == need.number:
+            return 2
+        return 1 if self.name == need.family + '*' else 0
+
+
+def answers_of(text):
+    """The `use` lines of an answers.txt with the comments above them, and its blocks."""
+    blocks = blocks_of(text)
+    if blocks and re.match(r'(?:--.*\n)*(?:use |$)', blocks[0] + '\n'):
+        head = blocks.pop(0).split('\n')
+    else:
+        head = []
+    return [l for l in head if l.startswith('--')], [l for l in head if l.startswith('use ')], [Answer(b) for b in blocks]
+
+
+def earlier_calls(need, crate, where):
+    """What the calls before the last one ensure, as equations from right to left; nothing where there are none."""
+    facts = need.earlier or ['%s %s' % (path, crate.fact(where, field)) for field, path, called in need.places if called and path != 'c']
+    return ''.join(', ← ' + fact for fact in facts)
+
+
+def expanded(text, need, crate, where):
+    """An answer at a need: places with their paths."""
+    def at(m):
+        for field, path, _ in need.places:
+            if field == m.group(1):
+                return '%s .%s' % (path, field)
+        return m.group(0)
+    return re.sub(r'@([^\s().,]+)', at, text.replace(', ← earlier-calls', earlier_calls(need, crate, where)))
+
+
+class Faults(Exception):
+    pass
+
+
+def made(crate, path, needs, answers):
+    """The text of a proof file, from its needs and what people have answered."""
+    here, function, dotted = place(path)
+    where = (here, function)
+    definition = crate.defined.get(where)
+    if definition not in crate.where.get(here, {}):
+        definition = None
+    returns = [n for n in needs.needs if n.returns]
+    calls = [re.sub(r'-requires(?:-(\d+))?$', r'\1', n.name) for n in needs.needs if n.family.endswith('-requires')]
+    composes = len(returns) == 1 and calls
+    law = definition in crate.laws
+    if definition and composes:
+        facts = ['c' + ' .before' * i + ' ' + crate.fact(where, call) for i, call in enumerate(reversed(calls))]
+        rule = 'simp (%s)' % ', '.join(facts)
+    elif definition:
+        rule = 'search (needs, ifs%s)' % (', %s-on' % definition if law else '')
+    else:
+        rule = 'search needs'
+    comments, uses, blocks = answers_of(answers) if answers is not None else ([], [], [])
+    chosen, by_rule = {}, False
+    for need in needs.needs:
+        score, answer = max([(b.score(need, needs), i) for i, b in enumerate(blocks)], default=(0, 0))
+        if score:
+            chosen[need.name] = answer
+            blocks[answer].used = True
+        elif need.returns:
+            by_rule = True
+    idle = [b.name for b in blocks if b.name and not b.used]
+    if idle:
+        raise Faults('%s answers what is no need: %s' % (path[:-len('Proof.antt')] + ANSWERS, ', '.join(idle)))
+    # what is imported: each line once
+    lines = [MADE if answers is not None else DRAFTED] + comments + uses
+    brought = {name.strip() for use in uses for names in re.findall(r'\{(.*)\}', use) for name in names.split(',')}
+    if by_rule and 'ifs' in rule and 'ifs' not in brought:
+        lines.append('use %s.{ifs}' % crate.choosing[0])
+    if by_rule and law and not composes and definition + '-on' not in brought:
+        lines.append('use %s.{%s-on}' % (crate.laws[definition], definition))
+    if by_rule and definition and definition not in OPEN and definition not in brought:
+        lines.append('use %s.{%s}' % (crate.where[here][definition], definition))
+    if 'needs' not in brought:
+        lines.append('use borrow.Author.Needs.{needs}')
+    lines.append('use Rattle.%s.proofs.%s.Statement.{statement}' % (crate.name, dotted))
+    lines.append('use Rattle.%s.proofs.%s.Tie as tie' % (crate.name, dotted))
+    # laws of people's stand before the answer that follows them; an answer that names another need stands after that one's
+    text, laws, told = [], [i for i, b in enumerate(blocks) if b.name is None], set()
+
+    def tell_laws(below):
+        while laws and laws[0] < below:
+            text.append(blocks[laws.pop(0)].block)
+
+    def tell(need):
+        if need.name in told:
+            return
+        told.add(need.name)
+        type_ = '%s : tie.Need-%s' % (need.name, ' '.join([need.name] + need.takes))
+        if need.name in chosen:
+            answer = blocks[chosen[need.name]]
+            tell_laws(chosen[need.name])
+            body = expanded(answer.text, need, crate, where)
+            for other in needs.needs:
+                if other.name != need.name and re.search(r'(?<![\w.·-])%s(?![\w-])' % re.escape(other.name), re.sub(r'\.\S+', '', body)):
+                    tell(other)
+            text.append('%s%s\n%s%s %s =%s' % (answer.comments, type_, answer.unfolding, need.name, answer.arguments, body))
+            answer.comments = ''
+        elif need.returns:
+            opens = 'unfolding %s\n' % definition if definition and definition not in OPEN else ''
+            text.append('%s\n%s%s %s = %s' % (type_, opens, need.name, need.arguments, rule))
+        else:
+            text.append('%s\n%s %s = search needs' % (type_, need.name, need.arguments))
+
+    if needs.leading:
+        named = [i for i in laws if re.match(r'(?:--.*\n)*abbrev (%s) :' % '|'.join(map(re.escape, needs.leading)), blocks[i].block)]
+        missing = [n for n in needs.leading if not any(re.match(r'(?:--.*\n)*abbrev %s :' % re.escape(n), blocks[i].block) for i in laws)]
+        text += ['abbrev %s : tie.%s\n%s = ?' % (n, re.sub('^Inv-', 'InvT-', re.sub('^μ-', 'MeasureT-', n)), n) for n in missing]
+        tell_laws(max(named, default=-1) + 1)
+    for need in needs.needs:
+        tell(need)
+    tell_laws(len(blocks))
+    spec = function.replace('_', '-') + '-spec'
+    text.append('pub %s : {M : Type 1} → statement M\n%s = tie.close (tie.spec %s)' % (spec, spec, ' '.join(needs.leading + [n.name for n in needs.needs])))
+    return '\n\n'.join(['\n'.join(lines)] + text) + '\n'
+
+
+def proof_files(name):
+    """The proof files of a crate, but for those of functions over lent tables."""
+    return sorted(p for p in glob.glob('crates/%s/proofs/**/Proof.antt' % name, recursive=True) if not re.search(r'^(pub )?mod Lts', read(p), re.M))
+
+
+def answers_at(path):
+    """What people have answered to the needs of a proof file; None where there is nothing."""
+    beside = path[:-len('Proof.antt')] + ANSWERS
+    return read(beside) if os.path.exists(beside) else None
+
+
+def is_marked(text):
+    return text.startswith((DRAFTED, MADE))
+
+
+# ---- what people wrote whole
+
+def take(name, folder, _):
+    crate = Crate(name)
+    for path in proof_files(name):
+        old = read(path)
+        if is_marked(old):
+            continue
+        needs = needs_made(folder, name, place(path)[2]) or needs_said(old)
+        try:
+            answers = taken.answers(crate, path, old, needs)
+            new = made(crate, path, needs, answers)
+        except Faults as fault:
+            print('draft.py: %s' % fault)
+            continue
+        beside = path[:-len('Proof.antt')] + ANSWERS
+        if answers is not None:
+            write(beside, answers)
+        elif os.path.exists(beside):
+            os.remove(beside)
+        write(path, new)
+        print('%s %s%s' % ('taken' if answers else 'drafted', path, '' if taken.is_same(old, new) else ' (not the same text)'))
+
+
+# ---- runs of Rattle
+
+def checked(name, *words):
     """What `rt dev` prints, and the functions that it calls proved."""
-    out = subprocess.run(['rt', 'dev', name], capture_output=True, text=True)
+    out = subprocess.run(['rt', 'dev', name, *words], capture_output=True, text=True)
     text = out.stdout + out.stderr
     return text, set(re.findall(r'^fn (\S+): proved', text, re.M))
 
 
-def stubs(text):
-    """The proof files that a check prints for functions that have none."""
-    lines, found, i = text.split('\n'), {}, 0
-    while i < len(lines):
-        m = re.match(r'help: write (\S+) with these lines', lines[i])
-        i += 1
-        if m:
-            body = []
-            while i < len(lines) and (lines[i].startswith('    ') or not lines[i].strip()):
-                body.append(lines[i][4:])
-                i += 1
-            found[m.group(1)] = '\n'.join(body).rstrip() + '\n'
-    return found
+def lay_out():
+    subprocess.run(['rt', 'fmt'], check=True, stdout=subprocess.DEVNULL)
 
 
-def draft(name):
-    text, _ = checked(name)
-    for path, stub in stubs(text).items():
-        path = os.path.relpath(path)
-        if os.path.exists(path):
+def asked(name, work):
+    """Runs a check that says the needs of each function of a crate, and gives the folder where they stand to `work`."""
+    with tempfile.TemporaryDirectory() as folder:
+        text, _ = checked(name, '--generated', folder + '/made')
+        if not os.path.exists(folder + '/made'):
+            print('draft.py: %s: the check came to an end before it knew the needs:\n%s' % (name, text[-1500:]))
+        work(name, folder + '/made', text)
+
+
+def draft(name, folder, text):
+    crate = Crate(name)
+    missing = [os.path.relpath(p) for p in re.findall(r'help: write (\S+) with these lines', text)]
+    missing += [p[:-len(ANSWERS)] + 'Proof.antt' for p in glob.glob('crates/%s/proofs/**/%s' % (name, ANSWERS), recursive=True)]
+    for path in sorted(set(proof_files(name) + missing)):
+        old = read(path) if os.path.exists(path) else ''
+        needs = needs_made(folder, name, place(path)[2])
+        if needs is None or old and not is_marked(old):
             continue
-        made = drafted(Crate(name), path, stub)
-        write(path, made or stub)
-        print(('drafted ' if made else 'left with holes ') + path)
+        new = made(crate, path, needs, answers_at(path))
+        if not same(old, new):
+            write(path, new)
+            print('made ' + path)
 
 
-def replace(name):
-    crate, tried = Crate(name), {}
+def anew(name):
+    """The proof files of a crate from the needs that stand in them."""
+    crate, changed = Crate(name), False
     for path in proof_files(name):
         old = read(path)
-        new = drafted(crate, path, old)
-        if new and not old.startswith(MARK):
-            tried[path] = old
+        if not is_marked(old):
+            continue
+        answers = answers_at(path)
+        new = made(crate, path, needs_said(old), answers)
+        if same(old, new):
+            continue
+        # the ways to places that no answer has named before are Rattle's to say
+        if re.search(r'@[^\s().,]', new) or 'earlier-calls' in (answers or ''):
+            print('%s: the ways to places are to be asked for: tools/draft.py %s' % (path, name))
+        else:
             write(path, new)
+            print('made ' + path)
+            changed = True
+    return changed
+
+
+def replace(name, folder, _):
+    crate, tried = Crate(name), {}
+    for path in proof_files(name):
+        answers = answers_at(path)
+        needs = needs_made(folder, name, place(path)[2])
+        if answers is not None and not needs.leading:
+            tried[path] = (read(path), answers)
+            write(path, made(crate, path, needs, None))
+            os.remove(path[:-len('Proof.antt')] + ANSWERS)
     while tried:
         text, proved = checked(name)
         bad = [p for p in tried if '::'.join([name] + place(p)[2].split('.')) not in proved]
@@ -197,64 +470,99 @@ def replace(name):
         # what only follows from another function's error is tried again
         own = [p for p in bad if re.search(re.escape(p) + r':\d+:\d+: error: (?!.*was not admitted)', text)]
         for path in own or bad:
-            write(path, tried.pop(path))
+            proof, answers = tried.pop(path)
+            write(path, proof)
+            write(path[:-len('Proof.antt')] + ANSWERS, answers)
     for path in sorted(tried):
         print('drafted ' + path)
 
 
+# ---- what is where
+
 def attributes():
     """.gitattributes: what no person wrote, so that a reader's tools fold it away."""
     lines = ['# Made by tools/draft.py --attributes: what tools made, and no person wrote.']
-    lines += [pattern + ' linguist-generated' for pattern in MADE]
-    for name in sorted(os.listdir('crates')):
-        lines += [path + ' linguist-generated' for path in proof_files(name) if read(path).startswith(MARK)]
+    lines += [pattern + ' linguist-generated' for pattern in TOOLS + ['crates/*/proofs/**/Proof.antt']]
+    lines += ['# but these: of functions over lent tables']
+    for name in crates():
+        made_ = set(proof_files(name))
+        lines += [path + ' -linguist-generated' for path in sorted(glob.glob('crates/%s/proofs/**/Proof.antt' % name, recursive=True)) if path not in made_]
     return '\n'.join(lines) + '\n'
 
 
 def check():
-    faults, marked = [], 0
+    faults, drafts, shells = [], 0, 0
     if not os.path.exists('.gitattributes') or read('.gitattributes') != attributes():
         faults.append('.gitattributes is stale: run tools/draft.py --attributes')
-    for name in sorted(os.listdir('crates')):
+    for name in crates():
         crate = Crate(name)
-        for path in proof_files(name):
-            text = read(path)
-            made = drafted(crate, path, text)
-            if text.startswith(MARK):
-                marked += 1
-                if not made or not same(text, made):
-                    faults.append('%s is marked as drafted and is not what the rule gives' % path)
-            elif made and same(re.sub(r'^--.*\n', '', text), made[len(MARK) + 1:]):
-                faults.append('%s is what the rule gives and is not marked' % path)
+        files = proof_files(name)
+        for beside in glob.glob('crates/%s/proofs/**/%s' % (name, ANSWERS), recursive=True):
+            if beside[:-len(ANSWERS)] + 'Proof.antt' not in files:
+                faults.append('%s has no proof file beside it: run tools/draft.py %s' % (beside, name))
+        for path in files:
+            text, answers = read(path), answers_at(path)
+            needs = needs_said(text)
+            if not is_marked(text):
+                faults.append('%s has no mark: what people say stands in %s (tools/draft.py %s --take)' % (path, ANSWERS, name))
+                continue
+            drafts, shells = drafts + (answers is None), shells + (answers is not None)
+            try:
+                fresh = needs and same(text, made(crate, path, needs, answers))
+            except Faults as fault:
+                faults.append(str(fault))
+                continue
+            if not fresh:
+                faults.append('%s is not what %s: run tools/draft.py %s' % (path, 'its answers give' if answers else 'the rule gives', name))
     for fault in faults:
         print('draft.py: ' + fault)
-    print('draft.py: %d drafted files%s' % (marked, ', all fresh' if not faults else ': FAILED'))
+    print('draft.py: %d proof files by the rule, %d with answers%s' % (drafts, shells, ', all fresh' if not faults else ': FAILED'))
     return 1 if faults else 0
 
 
 def count():
     kinds = {}
-    for path in glob.glob('crates/*/proofs/**/*.antt', recursive=True):
-        first = read(path).split('\n')[0]
-        kind = 'drafted' if first == MARK else 'made by a tool' if re.match(r'-- (Made|made) by tools/', first) or 'twin.py' in first else 'written by people'
+    for path in glob.glob('crates/*/proofs/**/*', recursive=True):
+        if not path.endswith(('.antt', ANSWERS)):
+            continue
+        text = read(path)
+        first = text.split('\n')[0]
+        kind = 'drafted' if first == DRAFTED else 'made from answers' if first == MADE else \
+            'made by other tools' if re.match(r'-- (Made|made) by tools/', first) or 'twin.py' in first else \
+            'answers by people' if path.endswith(ANSWERS) else 'written by people'
         files, lines = kinds.get(kind, (0, 0))
-        kinds[kind] = (files + 1, lines + read(path).count('\n'))
+        kinds[kind] = (files + 1, lines + text.count('\n'))
     for kind, (files, lines) in sorted(kinds.items()):
-        print('%-18s %4d files %6d lines' % (kind, files, lines))
+        print('%-20s %4d files %6d lines' % (kind, files, lines))
 
 
 if __name__ == '__main__':
+    # what tools/taken.py reads is this file's, and not a second copy of it
+    sys.modules['draft'] = sys.modules['__main__']
+    import taken
     words = sys.argv[1:]
-    if words == ['--check']:
+    names = [w for w in words if not w.startswith('-')]
+    flags = [w for w in words if w.startswith('-')]
+    if flags == ['--check'] and not names:
         sys.exit(check())
-    elif words == ['--count']:
+    elif flags == ['--count'] and not names:
         count()
-    elif words == ['--attributes']:
-        with open('.gitattributes', 'w') as f:
-            f.write(attributes())
-    elif len(words) == 2 and words[1] == '--replace':
-        replace(words[0])
-    elif len(words) == 1 and not words[0].startswith('-'):
-        draft(words[0])
+    elif flags == ['--attributes'] and not names:
+        write('./.gitattributes', attributes())
+    elif flags == ['--anew']:
+        if any([anew(name) for name in names or crates()]):
+            lay_out()
+    elif names and flags == ['--take']:
+        for name in names:
+            asked(name, take)
+        lay_out()
+    elif names and flags == ['--replace']:
+        for name in names:
+            asked(name, replace)
+        lay_out()
+    elif names and not flags:
+        for name in names:
+            asked(name, draft)
+        lay_out()
     else:
         sys.exit(__doc__)

@@ -5,6 +5,8 @@ pub mod Split
 pub mod Choosing
 -- tools: a loop that tests one number after another
 pub mod Scan
+-- tools: a number that none of a match's keys is
+pub mod Keys
 -- every one of a list
 pub mod Every
 -- the product of two numbers of k bits

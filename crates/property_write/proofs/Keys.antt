@@ -2,7 +2,7 @@
 use mathlib.Core.Path.{_≡_, refl, _∙_}
 use mathlib.Core.Bool.{Bool, true, false, false≢true}
 use mathlib.Core.List.{List, [], _∷_}
-use Prim.Native.Nat.{ℕ, zero, suc, _≤_, _<_, _-_}
+use Prim.Native.Nat.{ℕ, _≤_, _<_, _-_}
 use native.Mathlib.Omega.{arith}
 use Rattle.lighting_levels.specs.Paper.Choice.{if_then_else_, _also_}
 use Rattle.lighting_outputs.specs.Paper.Properties.{properties, numberOf, numbered, propertyOf}
@@ -10,6 +10,7 @@ use Rattle.lighting_outputs.specs.declared.Property.{Property}
 use Rattle.lighting_outputs.specs.declared.Property.the-variants.{SlotValue, Unknown}
 use Rattle.lighting_levels.proofs.Choosing.{if-le, if-nle, if-ne}
 use Rattle.lighting_levels.proofs.Scan.{isIn}
+use Rattle.lighting_levels.proofs.Keys.{Missed}
 use Rattle.lighting_levels.proofs.Split.{also-both, by-eq}
 
 -- a key k
@@ -21,14 +22,13 @@ pub propertyOf-slot : (n : ℕ) → 33 ≤ n → n ≤ 48 → SlotValue (n - 33)
 unfolding propertyOf
 propertyOf-slot n low high = if-le _ _ _ _ _ low (if-le _ _ _ _ _ high refl)
 
--- none of a match's keys, the last first, in which an `omega` would meet a split for each; and the keys below k
-abbrev pub Missed : List ℕ → ℕ → Type 0
-Missed [] n = Unit {0}
-Missed (k ∷ ks) n = Missed ks n × (n ≡ k → ⊥)
+-- the keys of the match, the last first: 0, and the numbers of the table
+abbrev keysAfter : List ℕ → List Property → List ℕ
+keysAfter ks [] = ks
+keysAfter ks (x ∷ l) = keysAfter (numberOf x ∷ ks) l
 
-abbrev pub below : ℕ → List ℕ
-below zero = []
-below (suc k) = k ∷ below k
+abbrev pub keys : List ℕ
+keys = keysAfter (0 ∷ []) properties
 
 -- every number of a table is a key
 abbrev pub allIn : List Property → List ℕ → Bool
@@ -47,9 +47,9 @@ past (x ∷ l) n ks h o =
     if-ne _ _ _ _ _ (missed n (numberOf x) ks (also-both h .0) o) (past l n ks (also-both h .1) o)
 
 -- below the slots, and above
-pub propertyOf-none : (n : ℕ) (ks : List ℕ) → allIn properties ks ≡ true → Missed ks n → n < 33 → Unknown ≡ propertyOf n
-unfolding propertyOf
-propertyOf-none n ks h o high = if-nle _ _ _ _ _ high (past properties n ks h o)
+pub propertyOf-none : (n : ℕ) → Missed keys n → n < 33 → Unknown ≡ propertyOf n
+unfolding propertyOf if_then_else_
+propertyOf-none n o high = if-nle _ _ _ _ _ high (past properties n keys refl o)
 
 pub propertyOf-above : (n : ℕ) → 48 < n → Unknown ≡ propertyOf n
 unfolding propertyOf

@@ -2,7 +2,7 @@
 use mathlib.Core.Path.{_≡_, sym}
 use mathlib.Core.Bool.{Bool}
 use mathlib.Core.List.{List}
-use Prim.Native.Nat.{ℕ, zero, suc, _+_, _-_, _≤_}
+use Prim.Native.Nat.{ℕ, suc, _+_, _-_, _≤_}
 use native.Mathlib.Omega.{arith}
 use lib.Dec.{eqb}
 use lib.ListN.{getD, List·getD-eq-default}
@@ -40,12 +40,3 @@ module _ (f : TagFields) where
   pub unnumbered : {held : ℕ} → held ≡ heldBy (f .operation) → 11 ≤ held → Stop ≡ operationOf f
   unfolding operationOf
   unnumbered h k = rw (← h) (sym (List·getD-eq-default known Stop k))
-
--- none of a match's keys, 0 to k - 1, in which an `omega` would meet a split for each
-abbrev pub Missed : ℕ → ℕ → Type 0
-Missed zero n = Unit {0}
-Missed (suc k) n = Missed k n × (n ≡ k → ⊥)
-
-pub above : (k n : ℕ) → Missed k n → k ≤ n
-above zero n o = omega arith
-above (suc k) n o = omega (arith, above k n (o .0), o .1)

@@ -1,5 +1,5 @@
 -- What is found of an output after a list, as text: demand 3's values.
-use mathlib.Core.List.{[], _++_}
+use mathlib.Core.List.{List, [], _∷_, _++_}
 use mathlib.Core.Option.{Option, none, some}
 use Prim.Native.Nat.{ℕ, zero, suc, _+_}
 use Rattle.lighting_levels.specs.Paper.Choice.{if_then_else_}
@@ -78,16 +78,26 @@ propertiesLine word t o k n = word ++ (propertyFields t o k n ++ newline)
 unfoldable pub taggedLine : Command → Bytes
 taggedLine k = text "tagged " ++ (hexBytes (tagBytes (commandTags k)) ++ newline)
 
--- the settings of document 01 are properties 01 to 0A, the last command is properties 0F to 14, the relay is properties 17 to 1B (§3)
-unfoldable pub block : ℕ → ℕ → Output → Bytes
-block i t o =
+-- THE LINES of the output i at the time t. The settings of document 01 are properties 01 to 0A, the last command is
+-- properties 0F to 14, the relay is properties 17 to 1B (§3)
+unfoldable pub lines : ℕ → ℕ → Output → List Bytes
+lines i t o =
     numberLine (text "output ") i
-    ++ (slotsLine (o .slots)
-    ++ (presentLine o
-    ++ (progressLine t o
-    ++ (processLine o
-    ++ (propertiesLine (text "settings") t o 0x01 10
-    ++ (propertiesLine (text "last") t o 0x0f 6
-    ++ (numberLine (text "burning ") (o .burning)
-    ++ (taggedLine (o .last)
-    ++ propertiesLine (text "relay") t o 0x17 5))))))))
+    ∷ slotsLine (o .slots)
+    ∷ presentLine o
+    ∷ progressLine t o
+    ∷ processLine o
+    ∷ propertiesLine (text "settings") t o 0x01 10
+    ∷ propertiesLine (text "last") t o 0x0f 6
+    ∷ numberLine (text "burning ") (o .burning)
+    ∷ taggedLine (o .last)
+    ∷ propertiesLine (text "relay") t o 0x17 5
+    ∷ []
+
+-- one after the other
+unfoldable pub joined : List Bytes → Bytes
+joined [] = []
+joined (x ∷ l) = x ++ joined l
+
+unfoldable pub block : ℕ → ℕ → Output → Bytes
+block i t o = joined (lines i t o)

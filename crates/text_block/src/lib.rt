@@ -1,7 +1,9 @@
 // The lines of one output.
 ghost use Prim.Native.Nat.{_+_, _<_};
+ghost use mathlib.Core.List.{[]};
+ghost use lib.ListN.{getD};
 ghost use Rattle.text_printing.specs.Page.{Wrote};
-ghost use Rattle.text_block.specs.Block.{levelField, slotLevel, slotField, slotFields, hexField, answerField, propertyField, propertyFields, numberLine, slotsLine, presentLine, progressLine, processLine, propertiesLine, taggedLine, block};
+ghost use Rattle.text_block.specs.Block.{levelField, slotLevel, slotField, slotFields, hexField, answerField, propertyField, propertyFields, numberLine, slotsLine, presentLine, progressLine, processLine, propertiesLine, taggedLine, lines, block};
 ghost use Rattle.lighting_outputs.specs.Paper.Slots.{slotCount};
 use lighting_outputs::Answer;
 use lighting_outputs::Command;
@@ -166,20 +168,41 @@ fn put_tagged_line(page: &mut [u8], at: usize, k: Command) -> usize
     put(page, digits, b'\n')
 }
 
-pub fn put_block(page: &mut [u8], at: usize, i: u64, t: u64, o: Output) -> usize
-    ensures { λ r. ⌜ Wrote (now (page .entry)) at (block i t o) (now (page .exit)) r ⌝ }
+// ---- the block
+
+// How many lines a block has.
+const LINES: u8 = 10;
+
+// The line k, from 0 on.
+fn put_line(page: &mut [u8], at: usize, k: u8, i: u64, t: u64, o: Output) -> usize
+    ensures { λ r. ⌜ Wrote (now (page .entry)) at (getD (lines i t o) k []) (now (page .exit)) r ⌝ }
 {
     let s = o.slots;
     let burning = o.burning;
     let command = o.last;
-    let output = put_number_line(page, at, b"output ", i);
-    let slots = put_slots_line(page, output, s);
-    let present = put_present_line(page, slots, o);
-    let progress = put_progress_line(page, present, t, o);
-    let process = put_process_line(page, progress, o);
-    let settings = put_properties_line(page, process, b"settings", t, o, 0x01, 10);
-    let last = put_properties_line(page, settings, b"last", t, o, 0x0F, 6);
-    let lit = put_number_line(page, last, b"burning ", burning);
-    let tagged = put_tagged_line(page, lit, command);
-    put_properties_line(page, tagged, b"relay", t, o, 0x17, 5)
+    match k {
+        0 => put_number_line(page, at, b"output ", i),
+        1 => put_slots_line(page, at, s),
+        2 => put_present_line(page, at, o),
+        3 => put_progress_line(page, at, t, o),
+        4 => put_process_line(page, at, o),
+        5 => put_properties_line(page, at, b"settings", t, o, 0x01, 10),
+        6 => put_properties_line(page, at, b"last", t, o, 0x0F, 6),
+        7 => put_number_line(page, at, b"burning ", burning),
+        8 => put_tagged_line(page, at, command),
+        9 => put_properties_line(page, at, b"relay", t, o, 0x17, 5),
+        _ => at,
+    }
+}
+
+pub fn put_block(page: &mut [u8], at: usize, i: u64, t: u64, o: Output) -> usize
+    ensures { λ r. ⌜ Wrote (now (page .entry)) at (block i t o) (now (page .exit)) r ⌝ }
+{
+    let mut mark = at;
+    let mut k: u8 = 0;
+    while k < LINES {
+        mark = put_line(page, mark, k, i, t, o);
+        k += 1;
+    }
+    mark
 }

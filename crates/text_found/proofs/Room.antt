@@ -29,7 +29,7 @@ use Rattle.text_printing.specs.Writing.{answerLine}
 use Rattle.text_printing.specs.Page.{Wrote}
 use Rattle.text_printing.proofs.Lengths.{decimal-length, hex-length, answer-length}
 use Rattle.text_printing.proofs.Pages.{wrote-then, written}
-use Rattle.text_block.specs.Block.{levelField, slotLevel, slotField, slotFields, hexField, answerField, propertyField, propertyFields, numberLine, slotsLine, presentLine, progressLine, processLine, propertiesLine, block}
+use Rattle.text_block.specs.Block.{levelField, slotLevel, slotField, slotFields, hexField, answerField, propertyField, propertyFields, numberLine, slotsLine, presentLine, progressLine, processLine, propertiesLine, lines, joined, block}
 use Rattle.text_block.proofs.Tagged.{tagged-length}
 use Rattle.text_report.specs.Report.{twoDigits, threeDigits, lead, aligned, percent, minutes, moment, lasting, either, operationName, until, activityText, timerText, lightFields, levelFields, timeFields, relayField, wayFields, reportLine, reportHead}
 use Rattle.text_found.specs.Found.{foundHead, foundOutput, roomy, marked, Sheet, withText, withRoom, withOutput, withOutputs}
@@ -61,7 +61,7 @@ property-fields t o k zero = omega arith
 property-fields t o k (suc n) = simp length-append (omega (arith, property-fields t o k n, answer-field (readProperty t o (propertyOf (k + n)))))
 
 pub block-length : (i t : ℕ) (o : Output) → length (block i t o) ≤ 735
-unfolding block slotsLine presentLine progressLine processLine propertiesLine
+unfolding block lines joined slotsLine presentLine progressLine processLine propertiesLine
 block-length i t o =
     simp length-append (omega (
       arith,

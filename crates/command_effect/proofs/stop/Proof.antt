@@ -1,4 +1,4 @@
--- `command_effect::stop` meets its contract.
+-- Made by tools/draft.py from the answers.txt beside it: edit that file.
 use mathlib.Core.Path.{_≡_}
 use Rattle.lighting_outputs.specs.declared.Slots.{Slots}
 use Rattle.lighting_outputs.specs.declared.Activity.{Activity}
@@ -8,10 +8,6 @@ use Rattle.lighting_outputs.specs.Paper.Commands.{stopped, asItIs}
 use borrow.Author.Needs.{needs}
 use Rattle.command_effect.proofs.stop.Statement.{statement}
 use Rattle.command_effect.proofs.stop.Tie as tie
-
--- a effect of the activity that a match has found
-same-effect : (s : Slots) (a k : Activity) → a ≡ k → asItIs s a ≡ asItIs s k
-same-effect s a k e = rw e
 
 enum-told : tie.Need-enum-told
 enum-told c = search needs
@@ -24,6 +20,10 @@ halt-requires c κs = search needs
 
 enum-told-2 : tie.Need-enum-told-2
 enum-told-2 c = search needs
+
+-- a effect of the activity that a match has found
+same-effect : (s : Slots) (a k : Activity) → a ≡ k → asItIs s a ≡ asItIs s k
+same-effect s a k e = rw e
 
 returns : tie.Need-returns
 unfolding stopped
@@ -42,14 +42,4 @@ unfolding stopped
 returns-4 c = search (needs, ifs, stopped-on, same-effect)
 
 pub stop-spec : {M : Type 1} → statement M
-stop-spec =
-    tie.close
-    (tie.spec
-    enum-told
-    enum-known-a
-    halt-requires
-    enum-told-2
-    returns
-    returns-2
-    returns-3
-    returns-4)
+stop-spec = tie.close (tie.spec enum-told enum-known-a halt-requires enum-told-2 returns returns-2 returns-3 returns-4)

@@ -1,13 +1,10 @@
+-- Made by tools/draft.py from the answers.txt beside it: edit that file.
 use Rattle.lighting_levels.proofs.Choosing.{ifs}
 use Rattle.lighting_outputs.proofs.Laws.{amountFieldRefusal-on}
 use Rattle.lighting_outputs.specs.Paper.Requests.{amountFieldRefusal}
 use borrow.Author.Needs.{needs}
 use Rattle.command_parse.proofs.amount_field_refusal.Statement.{statement}
 use Rattle.command_parse.proofs.amount_field_refusal.Tie as tie
-use Rattle.command_parse.proofs.amount_field_refusal.Reads as reads
-use Rattle.command_parse.proofs.amount_field_refusal.Lts as lts
-use Rattle.number_level.proofs.amount_of_real.Reads as amount-of-real-reads
-use Rattle.command_parse.proofs.level_refusal.Reads as level-refusal-reads
 
 enum-known-x : tie.Need-enum-known-x
 enum-known-x c = search needs
@@ -30,12 +27,4 @@ unfolding amountFieldRefusal
 returns-2 c = search (needs, ifs, amountFieldRefusal-on)
 
 pub amount-field-refusal-spec : {M : Type 1} → statement M
-amount-field-refusal-spec =
-    tie.close
-    (tie.spec
-    enum-known-x
-    amount-of-real-requires
-    level-refusal-requires
-    enum-told
-    returns
-    returns-2)
+amount-field-refusal-spec = tie.close (tie.spec enum-known-x amount-of-real-requires level-refusal-requires enum-told returns returns-2)

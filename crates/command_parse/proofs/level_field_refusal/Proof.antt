@@ -1,13 +1,10 @@
+-- Made by tools/draft.py from the answers.txt beside it: edit that file.
 use Rattle.lighting_levels.proofs.Choosing.{ifs}
 use Rattle.lighting_outputs.proofs.Laws.{levelFieldRefusal-on}
 use Rattle.lighting_outputs.specs.Paper.Requests.{levelFieldRefusal}
 use borrow.Author.Needs.{needs}
 use Rattle.command_parse.proofs.level_field_refusal.Statement.{statement}
 use Rattle.command_parse.proofs.level_field_refusal.Tie as tie
-use Rattle.command_parse.proofs.level_field_refusal.Reads as reads
-use Rattle.command_parse.proofs.level_field_refusal.Lts as lts
-use Rattle.number_level.proofs.level_of_real.Reads as level-of-real-reads
-use Rattle.command_parse.proofs.level_refusal.Reads as level-refusal-reads
 
 enum-known-x : tie.Need-enum-known-x
 enum-known-x c = search needs
@@ -30,12 +27,4 @@ unfolding levelFieldRefusal
 returns-2 c = search (needs, ifs, levelFieldRefusal-on)
 
 pub level-field-refusal-spec : {M : Type 1} → statement M
-level-field-refusal-spec =
-    tie.close
-    (tie.spec
-    enum-known-x
-    level-of-real-requires
-    level-refusal-requires
-    enum-told
-    returns
-    returns-2)
+level-field-refusal-spec = tie.close (tie.spec enum-known-x level-of-real-requires level-refusal-requires enum-told returns returns-2)

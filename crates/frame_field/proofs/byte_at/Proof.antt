@@ -1,4 +1,4 @@
--- `frame_field::byte_at` meets its contract.
+-- Made by tools/draft.py from the answers.txt beside it: edit that file.
 use mathlib.Core.Path.{refl, sym}
 use lib.ListN.{List·getD-eq-default}
 use Rattle.lighting_levels.specs.Paper.Field.{byteAt}

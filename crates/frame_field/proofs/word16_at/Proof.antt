@@ -1,4 +1,4 @@
--- `frame_field::word16_at` meets its contract.
+-- Made by tools/draft.py from the answers.txt beside it: edit that file.
 use mathlib.Core.Path.{sym, _∙_}
 use native.Mathlib.Omega.{arith}
 use Rattle.lighting_levels.proofs.Fields.{single, joined-within}
@@ -39,14 +39,4 @@ returns c =
     )
 
 pub word16-at-spec : {M : Type 1} → statement M
-word16-at-spec =
-    tie.close
-    (tie.spec
-    later-requires
-    byte-at-requires
-    byte-wide-requires
-    mul-result
-    byte-at-requires-2
-    byte-wide-requires-2
-    add-result
-    returns)
+word16-at-spec = tie.close (tie.spec later-requires byte-at-requires byte-wide-requires mul-result byte-at-requires-2 byte-wide-requires-2 add-result returns)

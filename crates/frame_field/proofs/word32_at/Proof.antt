@@ -1,4 +1,4 @@
--- `frame_field::word32_at` meets its contract.
+-- Made by tools/draft.py from the answers.txt beside it: edit that file.
 use native.Mathlib.Omega.{arith}
 use Rattle.lighting_levels.proofs.Fields.{joined-within}
 use borrow.Author.Needs.{needs}
@@ -27,6 +27,4 @@ returns c =
     joined-within (a .s .now) 2 2 (a .at) (l .result) 18446744073709551615 (omega arith) (l .ensures) (c .before .word16-at .ensures .0) (c .word16-at2 .ensures .0)
 
 pub word32-at-spec : {M : Type 1} → statement M
-word32-at-spec =
-    tie.close
-    (tie.spec later-requires word16-at-requires mul-result word16-at-requires-2 add-result returns)
+word32-at-spec = tie.close (tie.spec later-requires word16-at-requires mul-result word16-at-requires-2 add-result returns)

@@ -1,4 +1,4 @@
--- `frame_field::word48_at` meets its contract.
+-- Made by tools/draft.py from the answers.txt beside it: edit that file.
 use mathlib.Core.Path.{_∙_}
 use native.Mathlib.Omega.{arith}
 use Rattle.lighting_levels.proofs.Fields.{joined-within}
@@ -38,14 +38,4 @@ returns c =
     )
 
 pub word48-at-spec : {M : Type 1} → statement M
-word48-at-spec =
-    tie.close
-    (tie.spec
-    later-requires
-    word16-at-requires
-    word-wide-requires
-    mul-result
-    word32-at-requires
-    word-wide-requires-2
-    add-result
-    returns)
+word48-at-spec = tie.close (tie.spec later-requires word16-at-requires word-wide-requires mul-result word32-at-requires word-wide-requires-2 add-result returns)

@@ -1,12 +1,10 @@
+-- Made by tools/draft.py from the answers.txt beside it: edit that file.
 use Rattle.lighting_levels.specs.Paper.Choice.{if_then_else_}
 use Rattle.frame_kinds.proofs.Table.{table}
 use Rattle.lighting_frames.specs.Paper.Kinds.{kindRow}
 use borrow.Author.Needs.{needs}
 use Rattle.frame_kinds.proofs.command_row.Statement.{statement}
 use Rattle.frame_kinds.proofs.command_row.Tie as tie
-use Rattle.frame_kinds.proofs.command_row.Reads as reads
-use Rattle.frame_kinds.proofs.command_row.Lts as lts
-use Rattle.frame_kinds.proofs.call_row.Reads as call-row-reads
 
 call-row-requires : tie.Need-call-row-requires
 call-row-requires c κs = search needs
@@ -97,31 +95,4 @@ unfolding kindRow if_then_else_
 returns-13 c = search (needs, table)
 
 pub command-row-spec : {M : Type 1} → statement M
-command-row-spec =
-    tie.close
-    (tie.spec
-    call-row-requires
-    call-row-requires-2
-    call-row-requires-3
-    call-row-requires-4
-    call-row-requires-5
-    call-row-requires-6
-    call-row-requires-7
-    call-row-requires-8
-    call-row-requires-9
-    call-row-requires-10
-    call-row-requires-11
-    call-row-requires-12
-    returns
-    returns-2
-    returns-3
-    returns-4
-    returns-5
-    returns-6
-    returns-7
-    returns-8
-    returns-9
-    returns-10
-    returns-11
-    returns-12
-    returns-13)
+command-row-spec = tie.close (tie.spec call-row-requires call-row-requires-2 call-row-requires-3 call-row-requires-4 call-row-requires-5 call-row-requires-6 call-row-requires-7 call-row-requires-8 call-row-requires-9 call-row-requires-10 call-row-requires-11 call-row-requires-12 returns returns-2 returns-3 returns-4 returns-5 returns-6 returns-7 returns-8 returns-9 returns-10 returns-11 returns-12 returns-13)

@@ -1,12 +1,10 @@
+-- Made by tools/draft.py from the answers.txt beside it: edit that file.
 use Rattle.lighting_levels.specs.Paper.Choice.{if_then_else_}
 use Rattle.frame_kinds.proofs.Table.{table}
 use Rattle.lighting_frames.specs.Paper.Kinds.{kindRow}
 use borrow.Author.Needs.{needs}
 use Rattle.frame_kinds.proofs.plain_row.Statement.{statement}
 use Rattle.frame_kinds.proofs.plain_row.Tie as tie
-use Rattle.frame_kinds.proofs.plain_row.Reads as reads
-use Rattle.frame_kinds.proofs.plain_row.Lts as lts
-use Rattle.frame_kinds.proofs.call_row.Reads as call-row-reads
 
 call-row-requires : tie.Need-call-row-requires
 call-row-requires c κs = search needs
@@ -45,16 +43,4 @@ unfolding kindRow if_then_else_
 returns-6 c = search (needs, table)
 
 pub plain-row-spec : {M : Type 1} → statement M
-plain-row-spec =
-    tie.close
-    (tie.spec
-    call-row-requires
-    call-row-requires-2
-    call-row-requires-3
-    call-row-requires-4
-    returns
-    returns-2
-    returns-3
-    returns-4
-    returns-5
-    returns-6)
+plain-row-spec = tie.close (tie.spec call-row-requires call-row-requires-2 call-row-requires-3 call-row-requires-4 returns returns-2 returns-3 returns-4 returns-5 returns-6)

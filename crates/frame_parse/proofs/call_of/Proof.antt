@@ -1,13 +1,8 @@
+-- Made by tools/draft.py from the answers.txt beside it: edit that file.
 use Rattle.lighting_frames.specs.Paper.Frames.{callOf}
 use borrow.Author.Needs.{needs}
 use Rattle.frame_parse.proofs.call_of.Statement.{statement}
 use Rattle.frame_parse.proofs.call_of.Tie as tie
-use Rattle.frame_parse.proofs.call_of.Reads as reads
-use Rattle.frame_parse.proofs.call_of.Lts as lts
-use Rattle.frame_field.proofs.byte_at.Reads as byte-at-reads
-use Rattle.frame_field.proofs.word32_at.Reads as word32-at-reads
-use Rattle.frame_field.proofs.word48_at.Reads as word48-at-reads
-use Rattle.frame_parse.proofs.request_of.Reads as request-of-reads
 
 byte-at-requires : tie.Need-byte-at-requires
 byte-at-requires c κs = search needs
@@ -29,12 +24,4 @@ unfolding callOf
 returns c = simp (c .request-of .ensures, c .before .byte-at2 .ensures, c .before .before .word48-at .ensures .0, c .before .before .before .word32-at .ensures, c .before .before .before .before .byte-at .ensures)
 
 pub call-of-spec : {M : Type 1} → statement M
-call-of-spec =
-    tie.close
-    (tie.spec
-    byte-at-requires
-    word32-at-requires
-    word48-at-requires
-    byte-at-requires-2
-    request-of-requires
-    returns)
+call-of-spec = tie.close (tie.spec byte-at-requires word32-at-requires word48-at-requires byte-at-requires-2 request-of-requires returns)

@@ -1,10 +1,8 @@
+-- Made by tools/draft.py from the answers.txt beside it: edit that file.
 use Rattle.lighting_frames.specs.Paper.Frames.{clockOf}
 use borrow.Author.Needs.{needs}
 use Rattle.frame_parse.proofs.clock_of.Statement.{statement}
 use Rattle.frame_parse.proofs.clock_of.Tie as tie
-use Rattle.frame_parse.proofs.clock_of.Reads as reads
-use Rattle.frame_parse.proofs.clock_of.Lts as lts
-use Rattle.frame_field.proofs.word48_at.Reads as word48-at-reads
 
 word48-at-requires : tie.Need-word48-at-requires
 word48-at-requires c κs = search needs

@@ -1,12 +1,9 @@
+-- Made by tools/draft.py from the answers.txt beside it: edit that file.
 use Rattle.lighting_levels.proofs.Choosing.{ifs}
 use Rattle.lighting_outputs.specs.Paper.Requests.{emptyOf}
 use borrow.Author.Needs.{needs}
 use Rattle.frame_parse.proofs.empty_of.Statement.{statement}
 use Rattle.frame_parse.proofs.empty_of.Tie as tie
-use Rattle.frame_parse.proofs.empty_of.Reads as reads
-use Rattle.frame_parse.proofs.empty_of.Lts as lts
-use Rattle.property_write.proofs.values.slot_of.Reads as slot-of-reads
-use Rattle.number_ranges.proofs.is_priority.Reads as is-priority-reads
 
 is-priority-requires : tie.Need-is-priority-requires
 is-priority-requires c κs = search needs

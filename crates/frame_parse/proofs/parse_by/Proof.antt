@@ -1,14 +1,10 @@
+-- Made by tools/draft.py from the answers.txt beside it: edit that file.
 use Rattle.lighting_levels.proofs.Choosing.{ifs}
 use Rattle.lighting_frames.proofs.Laws.{parseBy-on}
 use Rattle.lighting_frames.specs.Paper.Frames.{parseBy}
 use borrow.Author.Needs.{needs}
 use Rattle.frame_parse.proofs.parse_by.Statement.{statement}
 use Rattle.frame_parse.proofs.parse_by.Tie as tie
-use Rattle.frame_parse.proofs.parse_by.Reads as reads
-use Rattle.frame_parse.proofs.parse_by.Lts as lts
-use Rattle.frame_parse.proofs.call_of.Reads as call-of-reads
-use Rattle.frame_parse.proofs.called.Reads as called-reads
-use Rattle.frame_parse.proofs.clock_of.Reads as clock-of-reads
 
 enum-told : tie.Need-enum-told
 enum-told c = search needs
@@ -49,17 +45,4 @@ unfolding parseBy
 returns-5 c = search (needs, ifs, parseBy-on)
 
 pub parse-by-spec : {M : Type 1} → statement M
-parse-by-spec =
-    tie.close
-    (tie.spec
-    enum-told
-    enum-told-2
-    clock-of-requires
-    enum-known-kind
-    call-of-requires
-    called-requires
-    returns
-    returns-2
-    returns-3
-    returns-4
-    returns-5)
+parse-by-spec = tie.close (tie.spec enum-told enum-told-2 clock-of-requires enum-known-kind call-of-requires called-requires returns returns-2 returns-3 returns-4 returns-5)

@@ -1,18 +1,9 @@
+-- Made by tools/draft.py from the answers.txt beside it: edit that file.
 use Rattle.lighting_frames.proofs.Laws.{requestOf-on}
 use Rattle.lighting_frames.specs.Paper.Frames.{requestOf}
 use borrow.Author.Needs.{needs}
 use Rattle.frame_parse.proofs.request_of.Statement.{statement}
 use Rattle.frame_parse.proofs.request_of.Tie as tie
-use Rattle.frame_parse.proofs.request_of.Reads as reads
-use Rattle.frame_parse.proofs.request_of.Lts as lts
-use Rattle.frame_field.proofs.byte_at.Reads as byte-at-reads
-use Rattle.frame_field.proofs.word32_at.Reads as word32-at-reads
-use Rattle.frame_parse.proofs.change_of.Reads as change-of-reads
-use Rattle.frame_parse.proofs.empty_of.Reads as empty-of-reads
-use Rattle.frame_parse.proofs.real_at.Reads as real-at-reads
-use Rattle.frame_parse.proofs.write_of.Reads as write-of-reads
-use Rattle.command_parse.proofs.command_request.Reads as command-request-reads
-use Rattle.property_write.proofs.property_of.Reads as property-of-reads
 
 enum-told : tie.Need-enum-told
 enum-told c = search needs
@@ -259,82 +250,4 @@ unfolding requestOf
 returns-16 c = search (needs, requestOf-on, ← c .before .read-body .ensures, ← c .before .before .from-on .ensures)
 
 pub request-of-spec : {M : Type 1} → statement M
-request-of-spec =
-    tie.close
-    (tie.spec
-    enum-told
-    byte-at-requires
-    word32-at-requires
-    write-of-requires
-    enum-told-2
-    byte-at-requires-2
-    empty-of-requires
-    enum-told-3
-    byte-at-requires-3
-    word32-at-requires-2
-    change-of-requires
-    enum-told-4
-    byte-at-requires-4
-    property-of-requires
-    enum-told-5
-    word32-at-requires-3
-    command-request-requires
-    enum-told-6
-    real-at-requires
-    word32-at-requires-4
-    command-request-requires-2
-    enum-told-7
-    real-at-requires-2
-    word32-at-requires-5
-    word32-at-requires-6
-    command-request-requires-3
-    enum-told-8
-    real-at-requires-3
-    word32-at-requires-7
-    command-request-requires-4
-    enum-told-9
-    real-at-requires-4
-    real-at-requires-5
-    word32-at-requires-8
-    command-request-requires-5
-    enum-told-10
-    word32-at-requires-9
-    command-request-requires-6
-    enum-told-11
-    word32-at-requires-10
-    command-request-requires-7
-    enum-told-12
-    real-at-requires-6
-    word32-at-requires-11
-    command-request-requires-8
-    enum-told-13
-    real-at-requires-7
-    word32-at-requires-12
-    command-request-requires-9
-    enum-told-14
-    real-at-requires-8
-    word32-at-requires-13
-    command-request-requires-10
-    enum-told-15
-    word32-at-requires-14
-    command-request-requires-11
-    enum-told-16
-    from-on-requires
-    read-body-requires
-    tagged-request-requires
-    returns
-    returns-2
-    returns-3
-    returns-4
-    returns-5
-    returns-6
-    returns-7
-    returns-8
-    returns-9
-    returns-10
-    returns-11
-    returns-12
-    returns-13
-    returns-14
-    returns-15
-    returns-16)
+request-of-spec = tie.close (tie.spec enum-told byte-at-requires word32-at-requires write-of-requires enum-told-2 byte-at-requires-2 empty-of-requires enum-told-3 byte-at-requires-3 word32-at-requires-2 change-of-requires enum-told-4 byte-at-requires-4 property-of-requires enum-told-5 word32-at-requires-3 command-request-requires enum-told-6 real-at-requires word32-at-requires-4 command-request-requires-2 enum-told-7 real-at-requires-2 word32-at-requires-5 word32-at-requires-6 command-request-requires-3 enum-told-8 real-at-requires-3 word32-at-requires-7 command-request-requires-4 enum-told-9 real-at-requires-4 real-at-requires-5 word32-at-requires-8 command-request-requires-5 enum-told-10 word32-at-requires-9 command-request-requires-6 enum-told-11 word32-at-requires-10 command-request-requires-7 enum-told-12 real-at-requires-6 word32-at-requires-11 command-request-requires-8 enum-told-13 real-at-requires-7 word32-at-requires-12 command-request-requires-9 enum-told-14 real-at-requires-8 word32-at-requires-13 command-request-requires-10 enum-told-15 word32-at-requires-14 command-request-requires-11 enum-told-16 from-on-requires read-body-requires tagged-request-requires returns returns-2 returns-3 returns-4 returns-5 returns-6 returns-7 returns-8 returns-9 returns-10 returns-11 returns-12 returns-13 returns-14 returns-15 returns-16)

@@ -1,14 +1,9 @@
+-- Made by tools/draft.py from the answers.txt beside it: edit that file.
 use Rattle.lighting_levels.proofs.Choosing.{ifs}
 use Rattle.lighting_outputs.specs.Paper.Requests.{writeOf}
 use borrow.Author.Needs.{needs}
 use Rattle.frame_parse.proofs.write_of.Statement.{statement}
 use Rattle.frame_parse.proofs.write_of.Tie as tie
-use Rattle.frame_parse.proofs.write_of.Reads as reads
-use Rattle.frame_parse.proofs.write_of.Lts as lts
-use Rattle.frame_parse.proofs.write_level.Reads as write-level-reads
-use Rattle.number_level.proofs.level_of.Reads as level-of-reads
-use Rattle.property_write.proofs.values.slot_of.Reads as slot-of-reads
-use Rattle.number_ranges.proofs.is_priority.Reads as is-priority-reads
 
 is-priority-requires : tie.Need-is-priority-requires
 is-priority-requires c κs = search needs
@@ -31,12 +26,4 @@ unfolding writeOf
 returns-2 c = search (needs, ifs)
 
 pub write-of-spec : {M : Type 1} → statement M
-write-of-spec =
-    tie.close
-    (tie.spec
-    is-priority-requires
-    slot-of-requires
-    level-of-requires
-    write-level-requires
-    returns
-    returns-2)
+write-of-spec = tie.close (tie.spec is-priority-requires slot-of-requires level-of-requires write-level-requires returns returns-2)

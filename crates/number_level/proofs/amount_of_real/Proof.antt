@@ -1,3 +1,4 @@
+-- Made by tools/draft.py from the answers.txt beside it: edit that file.
 -- `number_level::amount_of_real` meets its contract. Within 0.125 to 100 the facts are those of `proofs/Scaled.antt`, and outside those of `proofs/Tested.antt`.
 use mathlib.Core.Path.{_≡_, sym, ap, _∙_, subst}
 use native.Mathlib.Omega.{arith}
@@ -8,6 +9,7 @@ use Rattle.lighting_levels.specs.declared.Level.the-variants.{Units}
 use Rattle.lighting_levels.specs.Paper.Level.{nearestTo}
 use Rattle.number_level.proofs.Scaled.{Scaled, scaled, few-units, cast}
 use Rattle.number_level.proofs.Tested.{too-low, too-high}
+use borrow.Author.Needs.{needs}
 use Rattle.number_level.proofs.amount_of_real.Statement.{statement}
 use Rattle.number_level.proofs.amount_of_real.Tie as tie
 

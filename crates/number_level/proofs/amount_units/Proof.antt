@@ -1,4 +1,4 @@
--- `number_level::amount_units` meets its contract.
+-- Made by tools/draft.py from the answers.txt beside it: edit that file.
 use Rattle.lighting_levels.specs.Paper.Level.{unitsOr, amountUnits}
 use mathlib.Core.Path.{_≡_, ap, _∙_}
 use native.Mathlib.Omega.{arith}

@@ -1,4 +1,4 @@
--- `number_level::bits_of` meets its contract.
+-- Made by tools/draft.py from the answers.txt beside it: edit that file.
 use lib.Ieee.{toBits}
 use Rattle.lighting_levels.specs.Paper.Level.{bits}
 use Rattle.number_level.proofs.Numbers.{found, failed}

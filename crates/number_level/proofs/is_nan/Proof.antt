@@ -1,5 +1,6 @@
--- `number_level::is_nan` meets its contract.
+-- Made by tools/draft.py from the answers.txt beside it: edit that file.
 use Rattle.number_level.proofs.Numbers.{differs}
+use borrow.Author.Needs.{needs}
 use Rattle.number_level.proofs.is_nan.Statement.{statement}
 use Rattle.number_level.proofs.is_nan.Tie as tie
 

@@ -1,8 +1,8 @@
--- `number_level::level_of_real` meets its contract.
-use borrow.Author.Needs.{needs}
+-- Made by tools/draft.py from the answers.txt beside it: edit that file.
 use mathlib.Core.Path.{sym, _∙_}
 use lib.Ieee.{ofBits}
 use Rattle.number_level.proofs.Tested.{at-zero, small, large, negative}
+use borrow.Author.Needs.{needs}
 use Rattle.number_level.proofs.level_of_real.Statement.{statement}
 use Rattle.number_level.proofs.level_of_real.Tie as tie
 

@@ -1,4 +1,4 @@
--- `number_level::level_units` meets its contract.
+-- Made by tools/draft.py from the answers.txt beside it: edit that file.
 use Rattle.lighting_levels.specs.Paper.Level.{unitsOr, levelUnits}
 use mathlib.Core.Path.{_≡_, ap, _∙_}
 use native.Mathlib.Omega.{arith}

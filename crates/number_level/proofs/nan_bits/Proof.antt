@@ -1,7 +1,8 @@
--- `number_level::nan_bits` meets its contract.
+-- Made by tools/draft.py from the answers.txt beside it: edit that file.
 use mathlib.Core.Path.{sym}
 use lib.Ieee.{binary32}
 use lib.Ieee.Bits.{nanBits-above}
+use borrow.Author.Needs.{needs}
 use Rattle.number_level.proofs.nan_bits.Statement.{statement}
 use Rattle.number_level.proofs.nan_bits.Tie as tie
 

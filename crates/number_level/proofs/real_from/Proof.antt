@@ -1,4 +1,4 @@
--- `number_level::real_from` meets its contract.
+-- Made by tools/draft.py from the answers.txt beside it: edit that file.
 use mathlib.Core.Path.{sym}
 use lib.Ieee.{ofBits, div}
 use Rattle.lighting_levels.specs.Paper.Level.{real}

@@ -1,3 +1,4 @@
+-- Made by tools/draft.py from the answers.txt beside it: edit that file.
 -- `number_level::real_of` meets its contract: the level as an f32 is the level, and what the division rounds is level / 65,536.
 use mathlib.Core.Path.{_≡_}
 use mathlib.Core.Bool.{false}
@@ -12,6 +13,7 @@ use lib.Ieee.Fits.{down-pos}
 use lib.Ieee.Back.{round-whole}
 use lib.Ieee.Scale.{round-same}
 use Rattle.lighting_levels.specs.Paper.Level.{realOf}
+use borrow.Author.Needs.{needs}
 use Rattle.number_level.proofs.real_of.Statement.{statement}
 use Rattle.number_level.proofs.real_of.Tie as tie
 

@@ -1,10 +1,11 @@
+-- Made by tools/draft.py from the answers.txt beside it: edit that file.
 -- `number_level::rounded` meets its contract: the rule's three cases at 1,024.
-use borrow.Author.Needs.{needs}
 use mathlib.Core.Path.{_≡_}
 use Prim.Native.Nat.{ℕ, _*_, _/_, _%_, _<_, Ordering·lt, Ordering·eq, Ordering·gt}
 use native.Mathlib.Omega.{arith}
 use Rattle.lighting_levels.specs.Paper.Level.{rule, nearestTo}
 use Rattle.lighting_levels.proofs.Rounding.{by-cases}
+use borrow.Author.Needs.{needs}
 use Rattle.number_level.proofs.rounded.Statement.{statement}
 use Rattle.number_level.proofs.rounded.Tie as tie
 

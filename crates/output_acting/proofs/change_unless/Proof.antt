@@ -1,13 +1,9 @@
+-- Made by tools/draft.py from the answers.txt beside it: edit that file.
 use Rattle.lighting_levels.proofs.Choosing.{ifs}
 use Rattle.lighting_outputs.specs.Paper.Acting.{changedUnless}
 use borrow.Author.Needs.{needs}
 use Rattle.output_acting.proofs.change_unless.Statement.{statement}
 use Rattle.output_acting.proofs.change_unless.Tie as tie
-use Rattle.output_acting.proofs.change_unless.Reads as reads
-use Rattle.output_acting.proofs.change_unless.Lts as lts
-use Rattle.output_acting.proofs.unchanged.Reads as unchanged-reads
-use Rattle.output_acting.proofs.done.Reads as done-reads
-use Rattle.property_write.proofs.settings.change.Reads as change-reads
 
 unchanged-requires : tie.Need-unchanged-requires
 unchanged-requires c κs = search needs
@@ -34,5 +30,4 @@ unfolding changedUnless
 returns-3 c = search (needs, ifs, ← c .before .change .ensures)
 
 pub change-unless-spec : {M : Type 1} → statement M
-change-unless-spec =
-    tie.close (tie.spec unchanged-requires unchanged-requires-2 change-requires done-requires returns returns-2 returns-3)
+change-unless-spec = tie.close (tie.spec unchanged-requires unchanged-requires-2 change-requires done-requires returns returns-2 returns-3)

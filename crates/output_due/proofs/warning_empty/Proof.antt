@@ -1,10 +1,8 @@
+-- Made by tools/draft.py from the answers.txt beside it: edit that file.
 use Rattle.lighting_outputs.specs.Paper.Slots.{put}
 use borrow.Author.Needs.{needs}
 use Rattle.output_due.proofs.warning_empty.Statement.{statement}
 use Rattle.output_due.proofs.warning_empty.Tie as tie
-use Rattle.output_due.proofs.warning_empty.Reads as reads
-use Rattle.output_due.proofs.warning_empty.Lts as lts
-use Rattle.output_slots.proofs.empty.Reads as empty-reads
 
 empty-requires : tie.Need-empty-requires
 empty-requires c κs = search needs

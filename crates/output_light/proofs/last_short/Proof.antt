@@ -1,3 +1,4 @@
+-- Made by tools/draft.py from the answers.txt beside it: edit that file.
 use Rattle.lighting_levels.proofs.Product.{below}
 use Rattle.lighting_outputs.specs.Engine.Light.{lastShort}
 use Rattle.output_light.proofs.Short.{short-all}

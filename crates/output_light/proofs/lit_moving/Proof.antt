@@ -1,3 +1,4 @@
+-- Made by tools/draft.py from the answers.txt beside it: edit that file.
 use Rattle.lighting_outputs.proofs.Laws.{litByPace-on}
 use Rattle.lighting_outputs.specs.Engine.Light.{litByPace, litMoving}
 use borrow.Author.Needs.{needs}

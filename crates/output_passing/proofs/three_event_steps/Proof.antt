@@ -1,3 +1,4 @@
+-- Made by tools/draft.py from the answers.txt beside it: edit that file.
 use Rattle.lighting_outputs.specs.Engine.Advance.{eventSteps, advance}
 use Rattle.lighting_levels.specs.Paper.Choice.{if_then_else_}
 use borrow.Author.Needs.{needs}

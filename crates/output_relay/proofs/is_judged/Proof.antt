@@ -1,3 +1,4 @@
+-- Made by tools/draft.py from the answers.txt beside it: edit that file.
 use Rattle.lighting_levels.proofs.Choosing.{ifs}
 use borrow.Author.Needs.{needs}
 use Rattle.output_relay.proofs.is_judged.Statement.{statement}

@@ -1,3 +1,4 @@
+-- Made by tools/draft.py from the answers.txt beside it: edit that file.
 use Rattle.lighting_levels.proofs.Choosing.{ifs}
 use Rattle.output_rules.proofs.Order.{in-order, settings-first}
 use borrow.Author.Needs.{needs}
@@ -41,18 +42,4 @@ returns-6 : tie.Need-returns-6
 returns-6 c = search (needs, settings-first)
 
 pub is-sound-spec : {M : Type 1} → statement M
-is-sound-spec =
-    tie.close
-    (tie.spec
-    settings-sound-requires
-    present-value-requires
-    relay-sound-requires
-    timer-sound-requires
-    activity-sound-requires
-    slots-sound-requires
-    returns
-    returns-2
-    returns-3
-    returns-4
-    returns-5
-    returns-6)
+is-sound-spec = tie.close (tie.spec settings-sound-requires present-value-requires relay-sound-requires timer-sound-requires activity-sound-requires slots-sound-requires returns returns-2 returns-3 returns-4 returns-5 returns-6)

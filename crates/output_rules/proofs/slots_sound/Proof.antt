@@ -1,11 +1,9 @@
+-- Made by tools/draft.py from the answers.txt beside it: edit that file.
 use mathlib.Core.Path.{sym}
 use Rattle.output_rules.proofs.LiveSlots.{none-live}
 use borrow.Author.Needs.{needs}
 use Rattle.output_rules.proofs.slots_sound.Statement.{statement}
 use Rattle.output_rules.proofs.slots_sound.Tie as tie
-use Rattle.output_rules.proofs.slots_sound.Reads as reads
-use Rattle.output_rules.proofs.slots_sound.Lts as lts
-use Rattle.output_rules.proofs.live_sound.Reads as live-sound-reads
 
 live-sound-requires : tie.Need-live-sound-requires
 live-sound-requires c κs = search needs

@@ -1,11 +1,8 @@
+-- Made by tools/draft.py from the answers.txt beside it: edit that file.
 use Rattle.lighting_outputs.specs.Paper.Slots.{put}
 use borrow.Author.Needs.{needs}
 use Rattle.output_slots.proofs.fill.Statement.{statement}
 use Rattle.output_slots.proofs.fill.Tie as tie
-use Rattle.output_slots.proofs.fill.Reads as reads
-use Rattle.output_slots.proofs.fill.Lts as lts
-use Rattle.output_slots.proofs.level_set.Reads as level-set-reads
-use Rattle.output_slots.proofs.mask_fill.Reads as mask-fill-reads
 
 mask-fill-requires : tie.Need-mask-fill-requires
 mask-fill-requires c κs = search needs

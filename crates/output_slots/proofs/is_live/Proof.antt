@@ -1,11 +1,10 @@
+-- Made by tools/draft.py from the answers.txt beside it: edit that file.
 use mathlib.Core.Path.{sym}
 use Rattle.lighting_outputs.proofs.Priorities.Mask.{dead-past, tested}
 use Rattle.lighting_outputs.specs.Paper.Slots.{isLive}
 use borrow.Author.Needs.{needs}
 use Rattle.output_slots.proofs.is_live.Statement.{statement}
 use Rattle.output_slots.proofs.is_live.Tie as tie
-use Rattle.output_slots.proofs.is_live.Reads as reads
-use Rattle.output_slots.proofs.is_live.Lts as lts
 
 shl-result : tie.Need-shl-result
 shl-result c = search needs

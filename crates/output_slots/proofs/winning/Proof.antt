@@ -1,9 +1,8 @@
-use borrow.Author.Needs.{needs}
+-- Made by tools/draft.py from the answers.txt beside it: edit that file.
 use Rattle.lighting_outputs.proofs.Priorities.Mask.{winner-zeros}
+use borrow.Author.Needs.{needs}
 use Rattle.output_slots.proofs.winning.Statement.{statement}
 use Rattle.output_slots.proofs.winning.Tie as tie
-use Rattle.output_slots.proofs.winning.Reads as reads
-use Rattle.output_slots.proofs.winning.Lts as lts
 
 returns : tie.Need-returns
 returns c = winner-zeros (c .before .args .s) (search needs)

@@ -1,3 +1,4 @@
+-- Made by tools/draft.py from the answers.txt beside it: edit that file.
 use mathlib.Core.Path.{sym}
 use Prim.Native.Nat.{_*_, _/_, _≤_}
 use native.Mathlib.Nat.{div-zero}
@@ -6,8 +7,6 @@ use Rattle.lighting_levels.proofs.Product.{below}
 use borrow.Author.Needs.{needs}
 use Rattle.output_value.proofs.fade_distance.Statement.{statement}
 use Rattle.output_value.proofs.fade_distance.Tie as tie
-use Rattle.output_value.proofs.fade_distance.Reads as reads
-use Rattle.output_value.proofs.fade_distance.Lts as lts
 
 mul-result : tie.Need-mul-result
 mul-result c = record { fits = below 32 (search needs) (search needs) }

@@ -1,3 +1,4 @@
+-- Made by tools/draft.py from the answers.txt beside it: edit that file.
 use Rattle.lighting_levels.proofs.Product.{below}
 use borrow.Author.Needs.{needs}
 use Rattle.output_value.proofs.ramp_distance.Statement.{statement}

@@ -1,3 +1,4 @@
+-- Made by tools/draft.py from the answers.txt beside it: edit that file.
 use Prim.Native.Nat.{_-_, _≤_}
 use Rattle.lighting_outputs.proofs.Time.Way.{distanceMoved-most}
 use Rattle.lighting_levels.proofs.Choosing.{ifs}
@@ -5,9 +6,6 @@ use Rattle.lighting_outputs.specs.Paper.Value.{reachedBy}
 use borrow.Author.Needs.{needs}
 use Rattle.output_value.proofs.reached_by.Statement.{statement}
 use Rattle.output_value.proofs.reached_by.Tie as tie
-use Rattle.output_value.proofs.reached_by.Reads as reads
-use Rattle.output_value.proofs.reached_by.Lts as lts
-use Rattle.output_value.proofs.distance_moved.Reads as distance-moved-reads
 
 distance-moved-requires : tie.Need-distance-moved-requires
 distance-moved-requires c κs = search needs
@@ -41,13 +39,4 @@ unfolding reachedBy
 returns-2 c = search (needs, ifs, ← c .before .distance-moved2 .ensures)
 
 pub reached-by-spec : {M : Type 1} → statement M
-reached-by-spec =
-    tie.close
-    (tie.spec
-    distance-moved-requires
-    add-result
-    sub-distance-moved
-    distance-moved-requires-2
-    sub-result
-    returns
-    returns-2)
+reached-by-spec = tie.close (tie.spec distance-moved-requires add-result sub-distance-moved distance-moved-requires-2 sub-result returns returns-2)

@@ -1,10 +1,8 @@
+-- Made by tools/draft.py from the answers.txt beside it: edit that file.
 use Rattle.lighting_outputs.specs.Paper.Writing.{warningFrom}
 use borrow.Author.Needs.{needs}
 use Rattle.output_warning.proofs.warning_from.Statement.{statement}
 use Rattle.output_warning.proofs.warning_from.Tie as tie
-use Rattle.output_warning.proofs.warning_from.Reads as reads
-use Rattle.output_warning.proofs.warning_from.Lts as lts
-use Rattle.output_warning.proofs.first_phase.Reads as first-phase-reads
 
 first-phase-requires : tie.Need-first-phase-requires
 first-phase-requires c κs = search needs
@@ -32,6 +30,4 @@ unfolding warningFrom
 returns c = simp (c .before .before .before .first-phase .ensures)
 
 pub warning-from-spec : {M : Type 1} → statement M
-warning-from-spec =
-    tie.close
-    (tie.spec first-phase-requires cast-t6 add-t7 cast-t8 add-t9 cast-t10 add-t11 returns)
+warning-from-spec = tie.close (tie.spec first-phase-requires cast-t6 add-t7 cast-t8 add-t9 cast-t10 add-t11 returns)

@@ -1,10 +1,11 @@
+-- Made by tools/draft.py from the answers.txt beside it: edit that file.
 -- `warning::zero_or_empty_from` meets its contract. The loop's invariant: what is asked of all slots from the first on is asked of those that are
 -- left; the measure is how many these are.
-use borrow.Author.Needs.{needs}
 use Prim.Native.Nat.{_-_}
 use mathlib.Core.Path.{_≡_, sym, _∙_}
 use Rattle.lighting_levels.proofs.Scan.{scan-on, scan-off, scan-done}
 use Rattle.lighting_outputs.specs.Paper.Writing.{zeroOrEmptyFrom, zeroOrEmpty}
+use borrow.Author.Needs.{needs}
 use Rattle.output_warning.proofs.zero_or_empty_from.Statement.{statement}
 use Rattle.output_warning.proofs.zero_or_empty_from.Tie as tie
 
@@ -44,15 +45,4 @@ returns-2 c =
     sym (c .before .loop .inv ∙ scan-done (zeroOrEmpty (c .before .before .args .s)) 16 (c .before .loop .i) (c .loop-test .left))
 
 pub zero-or-empty-from-spec : {M : Type 1} → statement M
-zero-or-empty-from-spec =
-    tie.close
-    (tie.spec
-    Inv-loop
-    μ-loop
-    loop-holds
-    is-zero-or-empty-requires
-    add-i
-    loop-less
-    loop-again
-    returns
-    returns-2)
+zero-or-empty-from-spec = tie.close (tie.spec Inv-loop μ-loop loop-holds is-zero-or-empty-requires add-i loop-less loop-again returns returns-2)

@@ -1,24 +1,9 @@
+-- Made by tools/draft.py from the answers.txt beside it: edit that file.
 use Rattle.lighting_outputs.proofs.Laws.{readProperty-on}
 use Rattle.lighting_outputs.specs.Paper.Properties.{readProperty}
 use borrow.Author.Needs.{needs}
 use Rattle.property_read.proofs.read_property.Statement.{statement}
 use Rattle.property_read.proofs.read_property.Tie as tie
-use Rattle.property_read.proofs.read_property.Reads as reads
-use Rattle.property_read.proofs.read_property.Lts as lts
-use Rattle.property_read.proofs.elapsed_active.Reads as elapsed-active-reads
-use Rattle.property_read.proofs.flag.Reads as flag-reads
-use Rattle.property_read.proofs.last_duration.Reads as last-duration-reads
-use Rattle.property_read.proofs.level_answer.Reads as level-answer-reads
-use Rattle.property_read.proofs.priority.Reads as priority-reads
-use Rattle.property_read.proofs.real_answer.Reads as real-answer-reads
-use Rattle.property_read.proofs.real_field_answer.Reads as real-field-answer-reads
-use Rattle.property_read.proofs.slot_answer.Reads as slot-answer-reads
-use Rattle.property_read.proofs.time_field_answer.Reads as time-field-answer-reads
-use Rattle.command_operations.proofs.fields_of.Reads as fields-of-reads
-use Rattle.command_operations.proofs.operation_number.Reads as operation-number-reads
-use Rattle.output_value.proofs.in_process.Reads as in-process-reads
-use Rattle.output_value.proofs.present_value.Reads as present-value-reads
-use Rattle.output_value.proofs.progress_value.Reads as progress-value-reads
 
 fields-of-requires : tie.Need-fields-of-requires
 fields-of-requires c κs = search needs
@@ -291,87 +276,4 @@ unfolding readProperty
 returns-27 c = search (needs, readProperty-on)
 
 pub read-property-spec : {M : Type 1} → statement M
-read-property-spec =
-    tie.close
-    (tie.spec
-    fields-of-requires
-    enum-told
-    level-answer-requires
-    enum-told-2
-    enum-told-3
-    real-answer-requires
-    enum-told-4
-    real-answer-requires-2
-    enum-told-5
-    flag-requires
-    enum-told-6
-    enum-told-7
-    enum-told-8
-    level-answer-requires-2
-    enum-told-9
-    level-answer-requires-3
-    enum-told-10
-    priority-requires
-    enum-told-11
-    elapsed-active-requires
-    enum-told-12
-    present-value-requires
-    level-answer-requires-4
-    enum-told-13
-    progress-value-requires
-    level-answer-requires-5
-    enum-told-14
-    in-process-requires
-    enum-told-15
-    operation-number-requires
-    enum-told-16
-    real-field-answer-requires
-    enum-told-17
-    real-field-answer-requires-2
-    enum-told-18
-    real-field-answer-requires-3
-    enum-told-19
-    time-field-answer-requires
-    enum-told-20
-    last-duration-requires
-    enum-told-21
-    level-answer-requires-6
-    enum-told-22
-    level-answer-requires-7
-    enum-told-23
-    flag-requires-2
-    enum-told-24
-    flag-requires-3
-    enum-told-25
-    relay-state-requires
-    flag-requires-4
-    enum-known-p
-    slot-answer-requires
-    enum-told-26
-    returns
-    returns-2
-    returns-3
-    returns-4
-    returns-5
-    returns-6
-    returns-7
-    returns-8
-    returns-9
-    returns-10
-    returns-11
-    returns-12
-    returns-13
-    returns-14
-    returns-15
-    returns-16
-    returns-17
-    returns-18
-    returns-19
-    returns-20
-    returns-21
-    returns-22
-    returns-23
-    returns-24
-    returns-25
-    returns-26
-    returns-27)
+read-property-spec = tie.close (tie.spec fields-of-requires enum-told level-answer-requires enum-told-2 enum-told-3 real-answer-requires enum-told-4 real-answer-requires-2 enum-told-5 flag-requires enum-told-6 enum-told-7 enum-told-8 level-answer-requires-2 enum-told-9 level-answer-requires-3 enum-told-10 priority-requires enum-told-11 elapsed-active-requires enum-told-12 present-value-requires level-answer-requires-4 enum-told-13 progress-value-requires level-answer-requires-5 enum-told-14 in-process-requires enum-told-15 operation-number-requires enum-told-16 real-field-answer-requires enum-told-17 real-field-answer-requires-2 enum-told-18 real-field-answer-requires-3 enum-told-19 time-field-answer-requires enum-told-20 last-duration-requires enum-told-21 level-answer-requires-6 enum-told-22 level-answer-requires-7 enum-told-23 flag-requires-2 enum-told-24 flag-requires-3 enum-told-25 relay-state-requires flag-requires-4 enum-known-p slot-answer-requires enum-told-26 returns returns-2 returns-3 returns-4 returns-5 returns-6 returns-7 returns-8 returns-9 returns-10 returns-11 returns-12 returns-13 returns-14 returns-15 returns-16 returns-17 returns-18 returns-19 returns-20 returns-21 returns-22 returns-23 returns-24 returns-25 returns-26 returns-27)

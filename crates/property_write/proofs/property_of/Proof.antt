@@ -1,14 +1,11 @@
-use mathlib.Core.Path.{refl}
-use mathlib.Core.List.{_∷_}
+-- Made by tools/draft.py from the answers.txt beside it: edit that file.
 use native.Mathlib.Omega.{arith}
 use Rattle.lighting_levels.specs.Paper.Choice.{if_then_else_}
-use Rattle.property_write.proofs.Keys.{below, propertyOf-on, propertyOf-slot, propertyOf-none, propertyOf-above}
-use borrow.Author.Needs.{needs}
+use Rattle.property_write.proofs.Keys.{propertyOf-on, propertyOf-slot, propertyOf-none, propertyOf-above}
 use Rattle.lighting_outputs.specs.Paper.Properties.{numbered, propertyOf}
+use borrow.Author.Needs.{needs}
 use Rattle.property_write.proofs.property_of.Statement.{statement}
 use Rattle.property_write.proofs.property_of.Tie as tie
-use Rattle.property_write.proofs.property_of.Reads as reads
-use Rattle.property_write.proofs.property_of.Lts as lts
 
 returns : tie.Need-returns
 unfolding propertyOf numbered if_then_else_
@@ -118,42 +115,10 @@ returns-27 : tie.Need-returns-27
 returns-27 c = propertyOf-slot _ (omega arith) (omega arith)
 
 returns-28 : tie.Need-returns-28
-unfolding if_then_else_
-returns-28 c = propertyOf-none _ (0x1b ∷ 0x1a ∷ 0x19 ∷ 0x18 ∷ 0x17 ∷ below 21) refl (search needs) (search needs)
+returns-28 c = propertyOf-none _ (search needs) (search needs)
 
 returns-29 : tie.Need-returns-29
 returns-29 c = propertyOf-above _ (omega arith)
 
 pub property-of-spec : {M : Type 1} → statement M
-property-of-spec =
-    tie.close
-    (tie.spec
-    returns
-    returns-2
-    returns-3
-    returns-4
-    returns-5
-    returns-6
-    returns-7
-    returns-8
-    returns-9
-    returns-10
-    returns-11
-    returns-12
-    returns-13
-    returns-14
-    returns-15
-    returns-16
-    returns-17
-    returns-18
-    returns-19
-    returns-20
-    returns-21
-    returns-22
-    returns-23
-    returns-24
-    returns-25
-    returns-26
-    returns-27
-    returns-28
-    returns-29)
+property-of-spec = tie.close (tie.spec returns returns-2 returns-3 returns-4 returns-5 returns-6 returns-7 returns-8 returns-9 returns-10 returns-11 returns-12 returns-13 returns-14 returns-15 returns-16 returns-17 returns-18 returns-19 returns-20 returns-21 returns-22 returns-23 returns-24 returns-25 returns-26 returns-27 returns-28 returns-29)

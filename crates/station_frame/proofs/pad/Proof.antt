@@ -1,15 +1,14 @@
+-- Made by tools/draft.py from the answers.txt beside it: edit that file.
 -- `station_frame::pad` meets its contract. Up to i the bytes are stored, and zeros follow.
 use mathlib.Core.Path.{_≡_}
 use Prim.Native.Nat.{_≤_, _-_}
 use native.Mathlib.Omega.{arith}
 use lib.ListN.{length, take}
-use borrow.Author.Needs.{needs}
 use Rattle.lighting_panel.specs.Engine.Judging.{padded}
 use Rattle.station_frame.proofs.Bytes.{padded-more, padded-all}
+use borrow.Author.Needs.{needs}
 use Rattle.station_frame.proofs.pad.Statement.{statement}
 use Rattle.station_frame.proofs.pad.Tie as tie
-use Rattle.station_frame.proofs.pad.Reads as reads
-use Rattle.station_frame.proofs.pad.Lts as lts
 
 abbrev Inv-loop : tie.InvT-loop
 Inv-loop b f₀ i₀ f i = (i ≤ length b) × (f ≡ padded (take i b))
@@ -40,15 +39,4 @@ returns : tie.Need-returns Inv-loop μ-loop
 returns c = padded-all (c .before .loop .i) _ _ (c .before .loop .inv .1) (c .loop-test .left)
 
 pub pad-spec : {M : Type 1} → statement M
-pad-spec =
-    tie.close
-    (tie.spec
-    Inv-loop
-    μ-loop
-    loop-holds
-    shared-slice-read-f
-    array-write-f
-    add-i
-    loop-less
-    loop-again
-    returns)
+pad-spec = tie.close (tie.spec Inv-loop μ-loop loop-holds shared-slice-read-f array-write-f add-i loop-less loop-again returns)

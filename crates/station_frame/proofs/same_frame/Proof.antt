@@ -1,21 +1,18 @@
+-- Made by tools/draft.py from the answers.txt beside it: edit that file.
 -- `station_frame::same_frame` meets its contract. The two strings are the same if they are from i on.
 use mathlib.Core.Path.{_≡_, refl, sym, _∙_}
 use Prim.Native.Nat.{_≤_, _-_}
 use native.Mathlib.Omega.{arith}
 use lib.ListN.{length, drop}
-use borrow.Author.Needs.{needs}
 use Rattle.lighting_levels.specs.Paper.Field.{byteAt}
 use Rattle.lighting_frames.specs.Paper.Kinds.{kindLength}
 use Rattle.lighting_frames.specs.Paper.Copies.{sameBytes}
 use Rattle.lighting_panel.specs.Engine.Judging.{restored}
 use Rattle.lighting_frames.proofs.KindTable.{length-most}
 use Rattle.station_frame.proofs.Bytes.{other-length, same-more, same-stop, same-end, restored-length, restored-at}
+use borrow.Author.Needs.{needs}
 use Rattle.station_frame.proofs.same_frame.Statement.{statement}
 use Rattle.station_frame.proofs.same_frame.Tie as tie
-use Rattle.station_frame.proofs.same_frame.Reads as reads
-use Rattle.station_frame.proofs.same_frame.Lts as lts
-use Rattle.frame_kinds.proofs.kind_length.Reads as kind-length-reads
-use Rattle.number_ranges.proofs.wide_index.Reads as wide-index-reads
 
 abbrev Inv-loop : tie.InvT-loop
 Inv-loop b f n i₀ i =
@@ -84,20 +81,4 @@ returns-3 c =
     same-end _ _ (c .before .loop .i) (v .4) (omega arith) (omega arith)
 
 pub same-frame-spec : {M : Type 1} → statement M
-same-frame-spec =
-    tie.close
-    (tie.spec
-    Inv-loop
-    μ-loop
-    array-read-kind-length
-    kind-length-requires
-    wide-index-requires
-    returns
-    loop-holds
-    shared-slice-read-if2
-    array-read-if2
-    returns-2
-    add-i
-    loop-less
-    loop-again
-    returns-3)
+same-frame-spec = tie.close (tie.spec Inv-loop μ-loop array-read-kind-length kind-length-requires wide-index-requires returns loop-holds shared-slice-read-if2 array-read-if2 returns-2 add-i loop-less loop-again returns-3)

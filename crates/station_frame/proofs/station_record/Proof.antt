@@ -1,9 +1,7 @@
+-- Made by tools/draft.py from the answers.txt beside it: edit that file.
 use borrow.Author.Needs.{needs}
 use Rattle.station_frame.proofs.station_record.Statement.{statement}
 use Rattle.station_frame.proofs.station_record.Tie as tie
-use Rattle.station_frame.proofs.station_record.Reads as reads
-use Rattle.station_frame.proofs.station_record.Lts as lts
-use Rattle.station_frame.proofs.pad.Reads as pad-reads
 
 pad-requires : tie.Need-pad-requires
 pad-requires c κs = search needs

@@ -1,12 +1,10 @@
+-- Made by tools/draft.py from the answers.txt beside it: edit that file.
 use Rattle.lighting_panel.proofs.Laws.{judgedByRecord-on}
 use Rattle.lighting_panel.specs.Engine.Judging.{judgedByRecord, judgedByStation}
 use Rattle.lighting_levels.proofs.Choosing.{ifs}
 use borrow.Author.Needs.{needs}
 use Rattle.station_judging.proofs.judge_by_station.Statement.{statement}
 use Rattle.station_judging.proofs.judge_by_station.Tie as tie
-use Rattle.station_judging.proofs.judge_by_station.Reads as reads
-use Rattle.station_judging.proofs.judge_by_station.Lts as lts
-use Rattle.station_judging.proofs.judge_by_number.Reads as judge-by-number-reads
 
 enum-known-f : tie.Need-enum-known-f
 enum-known-f c = search needs
@@ -37,14 +35,4 @@ unfolding judgedByStation judgedByRecord
 returns-4 c = search (needs, ifs, judgedByRecord-on)
 
 pub judge-by-station-spec : {M : Type 1} → statement M
-judge-by-station-spec =
-    tie.close
-    (tie.spec
-    enum-known-f
-    enum-known-f-2
-    enum-known-f-3
-    judge-by-number-requires
-    returns
-    returns-2
-    returns-3
-    returns-4)
+judge-by-station-spec = tie.close (tie.spec enum-known-f enum-known-f-2 enum-known-f-3 judge-by-number-requires returns returns-2 returns-3 returns-4)

@@ -1,12 +1,10 @@
+-- Made by tools/draft.py from the answers.txt beside it: edit that file.
 use Rattle.lighting_levels.specs.Paper.Field.{byteAt}
 use Rattle.lighting_levels.proofs.Choosing.{ifs}
 use Rattle.lighting_frames.specs.Paper.Stations.{stationSound}
 use borrow.Author.Needs.{needs}
 use Rattle.station_judging.proofs.station_sound.Statement.{statement}
 use Rattle.station_judging.proofs.station_sound.Tie as tie
-use Rattle.station_judging.proofs.station_sound.Reads as reads
-use Rattle.station_judging.proofs.station_sound.Lts as lts
-use Rattle.frame_kinds.proofs.is_call.Reads as is-call-reads
 
 returns : tie.Need-returns
 unfolding stationSound byteAt

@@ -1,4 +1,4 @@
--- `tag_fields::field_size` meets its contract.
+-- Made by tools/draft.py from the answers.txt beside it: edit that file.
 use native.Mathlib.Omega.{arith}
 use Rattle.lighting_frames.specs.Paper.Tags.{fieldSize}
 use Rattle.lighting_frames.proofs.Laws.{fieldSize-on}

@@ -1,4 +1,4 @@
--- `tag_reading::is_fewest` meets its contract.
+-- Made by tools/draft.py from the answers.txt beside it: edit that file.
 use Rattle.lighting_frames.proofs.Laws.{fewest-on}
 use Rattle.lighting_frames.specs.Paper.Tags.{fewest}
 use borrow.Author.Needs.{needs}

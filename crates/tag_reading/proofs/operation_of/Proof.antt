@@ -1,6 +1,8 @@
--- `tag_reading::operation_of` meets its contract.
+-- Made by tools/draft.py from the answers.txt beside it: edit that file.
 use mathlib.Core.Path.{refl}
-use Rattle.tag_reading.proofs.Judging.{numbered, unnumbered, above}
+use native.Mathlib.Omega.{arith}
+use Rattle.lighting_levels.proofs.Keys.{past-keys}
+use Rattle.tag_reading.proofs.Judging.{numbered, unnumbered}
 use borrow.Author.Needs.{needs}
 use Rattle.tag_reading.proofs.operation_of.Statement.{statement}
 use Rattle.tag_reading.proofs.operation_of.Tie as tie
@@ -69,7 +71,7 @@ returns-11 : tie.Need-returns-11
 returns-11 c = numbered _ 10 (c .before .held-by .ensures) (c .match .keys11) refl
 
 returns-12 : tie.Need-returns-12
-returns-12 c = unnumbered _ (c .before .held-by .ensures) (above 11 _ (c .match .rest))
+returns-12 c = unnumbered _ (c .before .held-by .ensures) (past-keys 0 11 _ (omega arith) (c .match .rest))
 
 pub operation-of-spec : {M : Type 1} → statement M
 operation-of-spec = tie.close (tie.spec held-by-requires real-in-requires real-in-requires-2 held-by-requires-2 real-in-requires-3 real-in-requires-4 real-in-requires-5 real-in-requires-6 real-in-requires-7 real-in-requires-8 returns returns-2 returns-3 returns-4 returns-5 returns-6 returns-7 returns-8 returns-9 returns-10 returns-11 returns-12)

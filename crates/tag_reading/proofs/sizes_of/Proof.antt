@@ -1,4 +1,4 @@
--- `tag_reading::sizes_of` meets its contract.
+-- Made by tools/draft.py from the answers.txt beside it: edit that file.
 use native.Mathlib.Omega.{arith}
 use Rattle.lighting_frames.specs.Paper.Tags.{sizes}
 use borrow.Author.Needs.{needs}

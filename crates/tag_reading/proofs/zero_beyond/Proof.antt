@@ -1,13 +1,14 @@
+-- Made by tools/draft.py from the answers.txt beside it: edit that file.
 -- `tag_reading::zero_beyond` meets its contract. The loop's invariant: what is asked of all bytes beyond the L is asked of those that are left; the
 -- measure is how many these are.
 use Prim.Native.Nat.{_-_}
 use mathlib.Core.Path.{_≡_, sym, _∙_}
 use native.Mathlib.Omega.{arith}
-use borrow.Author.Needs.{needs}
 use borrow.Author.Tests.{eq-eqb, ne-eqb}
 use Rattle.lighting_frames.specs.Paper.Tags.{zeroBeyond}
 use Rattle.lighting_levels.proofs.Scan.{scan-on, scan-off, scan-done}
 use Rattle.tag_reading.proofs.Judging.{isZero, zeroFrom, beyond}
+use borrow.Author.Needs.{needs}
 use Rattle.tag_reading.proofs.zero_beyond.Statement.{statement}
 use Rattle.tag_reading.proofs.zero_beyond.Tie as tie
 
@@ -55,18 +56,4 @@ unfolding zeroFrom
 returns-2 c = sym (c .before .loop .inv ∙ scan-done (isZero _) 18 (c .before .loop .i) (omega arith))
 
 pub zero-beyond-spec : {M : Type 1} → statement M
-zero-beyond-spec =
-    tie.close
-    (tie.spec
-    Inv-loop
-    μ-loop
-    byte-at-requires
-    index-requires
-    add-i
-    loop-holds
-    byte-at-requires-2
-    add-i-2
-    loop-less
-    loop-again
-    returns
-    returns-2)
+zero-beyond-spec = tie.close (tie.spec Inv-loop μ-loop byte-at-requires index-requires add-i loop-holds byte-at-requires-2 add-i-2 loop-less loop-again returns returns-2)

@@ -1,4 +1,4 @@
--- `tag_writing::four_octets` meets its contract.
+-- Made by tools/draft.py from the answers.txt beside it: edit that file.
 use Rattle.tag_writing.proofs.Bytes.{four}
 use borrow.Author.Needs.{needs}
 use Rattle.tag_writing.proofs.four_octets.Statement.{statement}

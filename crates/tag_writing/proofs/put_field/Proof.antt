@@ -1,4 +1,4 @@
--- `tag_writing::put_field` meets its contract.
+-- Made by tools/draft.py from the answers.txt beside it: edit that file.
 use Rattle.tag_writing.proofs.Bytes.{count-most, wrote-field, wrote-missing}
 use borrow.Author.Needs.{needs}
 use Rattle.tag_writing.proofs.put_field.Statement.{statement}

@@ -1,4 +1,4 @@
--- `tag_writing::put_octets` meets its contract.
+-- Made by tools/draft.py from the answers.txt beside it: edit that file.
 use native.Mathlib.Omega.{arith}
 use Rattle.text_printing.proofs.Pages.{wrote-as}
 use Rattle.tag_writing.proofs.Bytes.{last-octets}

@@ -1,4 +1,4 @@
--- `tag_writing::tagged_body` meets its contract.
+-- Made by tools/draft.py from the answers.txt beside it: edit that file.
 use Rattle.tag_writing.proofs.Room.{body-written}
 use borrow.Author.Needs.{needs}
 use Rattle.tag_writing.proofs.tagged_body.Statement.{statement}

@@ -1,12 +1,9 @@
+-- Made by tools/draft.py from the answers.txt beside it: edit that file.
 use Rattle.text_block.proofs.Turns.{answerField-on}
 use Rattle.text_block.specs.Block.{answerField}
 use borrow.Author.Needs.{needs}
 use Rattle.text_block.proofs.put_answer_field.Statement.{statement}
 use Rattle.text_block.proofs.put_answer_field.Tie as tie
-use Rattle.text_block.proofs.put_answer_field.Reads as reads
-use Rattle.text_block.proofs.put_answer_field.Lts as lts
-use Rattle.text_block.proofs.put_hex_field.Reads as put-hex-field-reads
-use Rattle.text_printing.proofs.put_all.Reads as put-all-reads
 
 enum-told : tie.Need-enum-told
 enum-told c = search needs
@@ -70,25 +67,4 @@ unfolding answerField
 returns-4 c = search (needs, answerField-on)
 
 pub put-answer-field-spec : {M : Type 1} → statement M
-put-answer-field-spec =
-    tie.close
-    (tie.spec
-    enum-told
-    slice-aggregate-put-all
-    put-all-requires
-    enum-known-a
-    put-hex-field-requires
-    enum-told-2
-    slice-aggregate-put-all-2
-    put-all-requires-2
-    enum-told-3
-    slice-aggregate-put-all-3
-    put-all-requires-3
-    same-length
-    returns
-    same-length-2
-    returns-2
-    same-length-3
-    returns-3
-    same-length-4
-    returns-4)
+put-answer-field-spec = tie.close (tie.spec enum-told slice-aggregate-put-all put-all-requires enum-known-a put-hex-field-requires enum-told-2 slice-aggregate-put-all-2 put-all-requires-2 enum-told-3 slice-aggregate-put-all-3 put-all-requires-3 same-length returns same-length-2 returns-2 same-length-3 returns-3 same-length-4 returns-4)

@@ -1,80 +1,47 @@
-use Rattle.text_printing.proofs.Pages.{wrote-then, wrote-length}
-use Rattle.text_block.specs.Block.{block}
+-- Made by tools/draft.py from the answers.txt beside it: edit that file.
+use Prim.Native.Nat.{_≤_, _-_}
+use mathlib.Core.Path.{_≡_, refl}
+use native.Mathlib.Omega.{arith}
+use lib.ListN.{length, take}
+use lib.Seq.{take-all}
+use Rattle.text_printing.specs.Page.{Wrote}
+use Rattle.text_printing.proofs.Pages.{wrote-none, wrote-as}
+use Rattle.text_block.specs.Block.{lines, joined, block}
+use Rattle.text_block.proofs.Lines.{lines-turn}
 use borrow.Author.Needs.{needs}
 use Rattle.text_block.proofs.put_block.Statement.{statement}
 use Rattle.text_block.proofs.put_block.Tie as tie
 
-slice-aggregate-put-number-line : tie.Need-slice-aggregate-put-number-line
-slice-aggregate-put-number-line c = search needs
+-- the first k lines are written
+abbrev Inv-loop : tie.InvT-loop
+Inv-loop page₀ at i t o mark₀ k₀ page mark k = (k ≤ length (lines i t o)) × (length page ≡ length page₀) × Wrote page₀ at (joined (take k (lines i t o))) page mark
 
-put-number-line-requires : tie.Need-put-number-line-requires
-put-number-line-requires c κs = search needs
+abbrev μ-loop : tie.MeasureT-loop
+μ-loop page₀ at i t o mark₀ k₀ page mark k = 256 - k
 
-put-slots-line-requires : tie.Need-put-slots-line-requires
-put-slots-line-requires c κs = search needs
+loop-holds : tie.Need-loop-holds Inv-loop μ-loop
+unfolding joined
+loop-holds c = (omega arith, refl, wrote-none _ _)
 
-put-present-line-requires : tie.Need-put-present-line-requires
-put-present-line-requires c κs = search needs
+put-line-requires : tie.Need-put-line-requires Inv-loop μ-loop
+put-line-requires c κs = search needs
 
-put-progress-line-requires : tie.Need-put-progress-line-requires
-put-progress-line-requires c κs = search needs
+add-k : tie.Need-add-k Inv-loop μ-loop
+add-k c = search needs
 
-put-process-line-requires : tie.Need-put-process-line-requires
-put-process-line-requires c κs = search needs
+loop-less : tie.Need-loop-less Inv-loop μ-loop
+loop-less c = search needs
 
-slice-aggregate-put-properties-line : tie.Need-slice-aggregate-put-properties-line
-slice-aggregate-put-properties-line c = search needs
+loop-again : tie.Need-loop-again Inv-loop μ-loop
+unfolding lines
+loop-again c = (omega arith, search needs, lines-turn (lines (c .before .before .before .before .before .before .before .args .i) (c .before .before .before .before .before .before .before .args .t) (c .before .before .before .before .before .before .before .args .o)) (c .before .before .before .before .before .loop .k) (omega arith) (c .before .before .before .before .before .loop .inv .2) (c .before .before .put-line .ensures))
 
-put-properties-line-requires : tie.Need-put-properties-line-requires
-put-properties-line-requires c κs = search needs
+same-length : tie.Need-same-length Inv-loop μ-loop
+same-length c = search needs
 
-slice-aggregate-put-properties-line-2 : tie.Need-slice-aggregate-put-properties-line-2
-slice-aggregate-put-properties-line-2 c = search needs
-
-put-properties-line-requires-2 : tie.Need-put-properties-line-requires-2
-put-properties-line-requires-2 c κs = search needs
-
-slice-aggregate-put-number-line-2 : tie.Need-slice-aggregate-put-number-line-2
-slice-aggregate-put-number-line-2 c = search needs
-
-put-number-line-requires-2 : tie.Need-put-number-line-requires-2
-put-number-line-requires-2 c κs = search needs
-
-put-tagged-line-requires : tie.Need-put-tagged-line-requires
-put-tagged-line-requires c κs = search needs
-
-slice-aggregate-put-properties-line-3 : tie.Need-slice-aggregate-put-properties-line-3
-slice-aggregate-put-properties-line-3 c = search needs
-
-put-properties-line-requires-3 : tie.Need-put-properties-line-requires-3
-put-properties-line-requires-3 c κs = search needs
-
-returns : tie.Need-returns
-unfolding block
-returns c = wrote-then (c .before .before .before .before .before .before .before .before .before .before .before .before .before .before .before .before .before .before .before .before .before .before .before .before .before .before .before .before .before .before .before .before .before .before .before .before .before .before .before .before .before .before .put-number-line .ensures) (wrote-then (c .before .before .before .before .before .before .before .before .before .before .before .before .before .before .before .before .before .before .before .before .before .before .before .before .before .before .before .before .before .before .before .before .before .before .before .before .before .before .put-slots-line .ensures) (wrote-then (c .before .before .before .before .before .before .before .before .before .before .before .before .before .before .before .before .before .before .before .before .before .before .before .before .before .before .before .before .before .before .before .before .before .before .put-present-line .ensures) (wrote-then (c .before .before .before .before .before .before .before .before .before .before .before .before .before .before .before .before .before .before .before .before .before .before .before .before .before .before .before .before .before .before .put-progress-line .ensures) (wrote-then (c .before .before .before .before .before .before .before .before .before .before .before .before .before .before .before .before .before .before .before .before .before .before .before .before .before .before .put-process-line .ensures) (wrote-then (c .before .before .before .before .before .before .before .before .before .before .before .before .before .before .before .before .before .before .before .before .before .put-properties-line .ensures) (wrote-then (c .before .before .before .before .before .before .before .before .before .before .before .before .before .before .before .before .put-properties-line2 .ensures) (wrote-then (c .before .before .before .before .before .before .before .before .before .before .before .put-number-line2 .ensures) (wrote-then (c .before .before .before .before .before .before .before .put-tagged-line .ensures) (c .before .before .put-properties-line3 .ensures)))))))))
-
--- a page that a text was written on is as long as it was; the calls are too many for the search
-same-length : tie.Need-same-length
-same-length c = wrote-length (returns c)
+returns : tie.Need-returns Inv-loop μ-loop
+unfolding block lines
+returns c = wrote-as (rw (take-all (c .before .loop .k) (lines (c .before .before .before .args .i) (c .before .before .before .args .t) (c .before .before .before .args .o)) (omega arith))) (c .before .loop .inv .2)
 
 pub put-block-spec : {M : Type 1} → statement M
-put-block-spec =
-    tie.close
-    (tie.spec
-    slice-aggregate-put-number-line
-    put-number-line-requires
-    put-slots-line-requires
-    put-present-line-requires
-    put-progress-line-requires
-    put-process-line-requires
-    slice-aggregate-put-properties-line
-    put-properties-line-requires
-    slice-aggregate-put-properties-line-2
-    put-properties-line-requires-2
-    slice-aggregate-put-number-line-2
-    put-number-line-requires-2
-    put-tagged-line-requires
-    slice-aggregate-put-properties-line-3
-    put-properties-line-requires-3
-    same-length
-    returns)
+put-block-spec = tie.close (tie.spec Inv-loop μ-loop loop-holds put-line-requires add-k loop-less loop-again same-length returns)

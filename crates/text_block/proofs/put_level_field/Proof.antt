@@ -1,12 +1,9 @@
+-- Made by tools/draft.py from the answers.txt beside it: edit that file.
 use Rattle.text_printing.proofs.Pages.{wrote-then}
 use Rattle.text_block.specs.Block.{levelField}
 use borrow.Author.Needs.{needs}
 use Rattle.text_block.proofs.put_level_field.Statement.{statement}
 use Rattle.text_block.proofs.put_level_field.Tie as tie
-use Rattle.text_block.proofs.put_level_field.Reads as reads
-use Rattle.text_block.proofs.put_level_field.Lts as lts
-use Rattle.text_printing.proofs.put.Reads as put-reads
-use Rattle.text_printing.proofs.put_decimal.Reads as put-decimal-reads
 
 put-requires : tie.Need-put-requires
 put-requires c κs = search needs

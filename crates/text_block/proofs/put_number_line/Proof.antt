@@ -1,13 +1,9 @@
+-- Made by tools/draft.py from the answers.txt beside it: edit that file.
 use Rattle.text_printing.proofs.Pages.{wrote-then}
 use Rattle.text_block.specs.Block.{numberLine}
 use borrow.Author.Needs.{needs}
 use Rattle.text_block.proofs.put_number_line.Statement.{statement}
 use Rattle.text_block.proofs.put_number_line.Tie as tie
-use Rattle.text_block.proofs.put_number_line.Reads as reads
-use Rattle.text_block.proofs.put_number_line.Lts as lts
-use Rattle.text_printing.proofs.put.Reads as put-reads
-use Rattle.text_printing.proofs.put_all.Reads as put-all-reads
-use Rattle.text_printing.proofs.put_decimal.Reads as put-decimal-reads
 
 put-all-requires : tie.Need-put-all-requires
 put-all-requires c κs = search needs
@@ -26,5 +22,4 @@ unfolding numberLine
 returns c = wrote-then (c .before .before .before .before .before .before .before .before .before .before .put-all .ensures) (wrote-then (c .before .before .before .before .before .before .put-decimal .ensures) (c .before .before .put .ensures))
 
 pub put-number-line-spec : {M : Type 1} → statement M
-put-number-line-spec =
-    tie.close (tie.spec put-all-requires put-decimal-requires put-requires same-length returns)
+put-number-line-spec = tie.close (tie.spec put-all-requires put-decimal-requires put-requires same-length returns)

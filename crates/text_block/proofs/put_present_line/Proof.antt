@@ -1,11 +1,8 @@
+-- Made by tools/draft.py from the answers.txt beside it: edit that file.
 use Rattle.text_block.specs.Block.{presentLine}
 use borrow.Author.Needs.{needs}
 use Rattle.text_block.proofs.put_present_line.Statement.{statement}
 use Rattle.text_block.proofs.put_present_line.Tie as tie
-use Rattle.text_block.proofs.put_present_line.Reads as reads
-use Rattle.text_block.proofs.put_present_line.Lts as lts
-use Rattle.text_block.proofs.put_number_line.Reads as put-number-line-reads
-use Rattle.output_value.proofs.present_value.Reads as present-value-reads
 
 slice-aggregate-put-number-line : tie.Need-slice-aggregate-put-number-line
 slice-aggregate-put-number-line c = search needs
@@ -27,12 +24,4 @@ unfolding presentLine
 returns c = rw (← c .before .before .before .present-value .ensures) (c .before .before .put-number-line .ensures)
 
 pub put-present-line-spec : {M : Type 1} → statement M
-put-present-line-spec =
-    tie.close
-    (tie.spec
-    slice-aggregate-put-number-line
-    present-value-requires
-    cast-put-number-line
-    put-number-line-requires
-    same-length
-    returns)
+put-present-line-spec = tie.close (tie.spec slice-aggregate-put-number-line present-value-requires cast-put-number-line put-number-line-requires same-length returns)

@@ -1,4 +1,4 @@
-use borrow.Author.Needs.{needs}
+-- Made by tools/draft.py from the answers.txt beside it: edit that file.
 use Prim.Native.Nat.{_≤_, _-_}
 use mathlib.Core.Path.{_≡_, refl, ap}
 use native.Mathlib.Omega.{arith}
@@ -7,11 +7,9 @@ use Rattle.text_printing.specs.Page.{Wrote}
 use Rattle.text_printing.proofs.Pages.{wrote-none, wrote-as}
 use Rattle.text_block.specs.Block.{propertyFields}
 use Rattle.text_block.proofs.Turns.{properties-turn}
+use borrow.Author.Needs.{needs}
 use Rattle.text_block.proofs.put_properties.Statement.{statement}
 use Rattle.text_block.proofs.put_properties.Tie as tie
-use Rattle.text_block.proofs.put_properties.Reads as reads
-use Rattle.text_block.proofs.put_properties.Lts as lts
-use Rattle.text_block.proofs.put_property.Reads as put-property-reads
 
 abbrev Inv-loop : tie.InvT-loop
 Inv-loop page₀ at t o k n mark₀ i₀ page mark i = (i ≤ n) × (length page ≡ length page₀) × Wrote page₀ at (propertyFields t o k i) page mark
@@ -51,16 +49,4 @@ returns c =
     wrote-as (ap (propertyFields (a .t) (a .o) (a .k)) e) (c .before .loop .inv .2)
 
 pub put-properties-spec : {M : Type 1} → statement M
-put-properties-spec =
-    tie.close
-    (tie.spec
-    Inv-loop
-    μ-loop
-    loop-holds
-    add-put-property
-    put-property-requires
-    add-i
-    loop-less
-    loop-again
-    same-length
-    returns)
+put-properties-spec = tie.close (tie.spec Inv-loop μ-loop loop-holds add-put-property put-property-requires add-i loop-less loop-again same-length returns)

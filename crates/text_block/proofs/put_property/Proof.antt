@@ -1,12 +1,8 @@
+-- Made by tools/draft.py from the answers.txt beside it: edit that file.
 use Rattle.text_block.specs.Block.{propertyField}
 use borrow.Author.Needs.{needs}
 use Rattle.text_block.proofs.put_property.Statement.{statement}
 use Rattle.text_block.proofs.put_property.Tie as tie
-use Rattle.text_block.proofs.put_property.Reads as reads
-use Rattle.text_block.proofs.put_property.Lts as lts
-use Rattle.text_block.proofs.put_answer_field.Reads as put-answer-field-reads
-use Rattle.property_write.proofs.property_of.Reads as property-of-reads
-use Rattle.property_read.proofs.read_property.Reads as read-property-reads
 
 property-of-requires : tie.Need-property-of-requires
 property-of-requires c κs = search needs
@@ -25,6 +21,4 @@ unfolding propertyField
 returns c = rw (← c .before .before .before .before .before .property-of .ensures, ← c .before .before .before .before .read-property .ensures) (c .before .before .put-answer-field .ensures)
 
 pub put-property-spec : {M : Type 1} → statement M
-put-property-spec =
-    tie.close
-    (tie.spec property-of-requires read-property-requires put-answer-field-requires same-length returns)
+put-property-spec = tie.close (tie.spec property-of-requires read-property-requires put-answer-field-requires same-length returns)

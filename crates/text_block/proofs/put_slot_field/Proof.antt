@@ -1,13 +1,9 @@
+-- Made by tools/draft.py from the answers.txt beside it: edit that file.
 use Rattle.text_printing.proofs.Choices.{choices}
 use Rattle.text_block.specs.Block.{slotField}
 use borrow.Author.Needs.{needs}
 use Rattle.text_block.proofs.put_slot_field.Statement.{statement}
 use Rattle.text_block.proofs.put_slot_field.Tie as tie
-use Rattle.text_block.proofs.put_slot_field.Reads as reads
-use Rattle.text_block.proofs.put_slot_field.Lts as lts
-use Rattle.text_block.proofs.put_slot_level.Reads as put-slot-level-reads
-use Rattle.output_slots.proofs.is_live.Reads as is-live-reads
-use Rattle.text_printing.proofs.put_all.Reads as put-all-reads
 
 is-live-requires : tie.Need-is-live-requires
 is-live-requires c κs = search needs
@@ -36,14 +32,4 @@ unfolding slotField
 returns-2 c = search (needs, choices)
 
 pub put-slot-field-spec : {M : Type 1} → statement M
-put-slot-field-spec =
-    tie.close
-    (tie.spec
-    is-live-requires
-    put-slot-level-requires
-    slice-aggregate-put-all
-    put-all-requires
-    same-length
-    returns
-    same-length-2
-    returns-2)
+put-slot-field-spec = tie.close (tie.spec is-live-requires put-slot-level-requires slice-aggregate-put-all put-all-requires same-length returns same-length-2 returns-2)

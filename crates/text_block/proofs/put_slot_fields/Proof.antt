@@ -1,4 +1,4 @@
-use borrow.Author.Needs.{needs}
+-- Made by tools/draft.py from the answers.txt beside it: edit that file.
 use Prim.Native.Nat.{_≤_, _-_}
 use mathlib.Core.Path.{_≡_, refl, ap}
 use native.Mathlib.Omega.{arith}
@@ -7,11 +7,9 @@ use Rattle.text_printing.specs.Page.{Wrote}
 use Rattle.text_printing.proofs.Pages.{wrote-none, wrote-as}
 use Rattle.text_block.specs.Block.{slotFields}
 use Rattle.text_block.proofs.Turns.{slots-turn}
+use borrow.Author.Needs.{needs}
 use Rattle.text_block.proofs.put_slot_fields.Statement.{statement}
 use Rattle.text_block.proofs.put_slot_fields.Tie as tie
-use Rattle.text_block.proofs.put_slot_fields.Reads as reads
-use Rattle.text_block.proofs.put_slot_fields.Lts as lts
-use Rattle.text_block.proofs.put_slot_field.Reads as put-slot-field-reads
 
 abbrev Inv-loop : tie.InvT-loop
 Inv-loop page₀ at s mark₀ i₀ page mark i = (i ≤ 16) × (length page ≡ length page₀) × Wrote page₀ at (slotFields s i) page mark
@@ -47,15 +45,4 @@ returns c =
     wrote-as (ap (slotFields (c .before .before .before .args .s)) e) (c .before .loop .inv .2)
 
 pub put-slot-fields-spec : {M : Type 1} → statement M
-put-slot-fields-spec =
-    tie.close
-    (tie.spec
-    Inv-loop
-    μ-loop
-    loop-holds
-    put-slot-field-requires
-    add-i
-    loop-less
-    loop-again
-    same-length
-    returns)
+put-slot-fields-spec = tie.close (tie.spec Inv-loop μ-loop loop-holds put-slot-field-requires add-i loop-less loop-again same-length returns)

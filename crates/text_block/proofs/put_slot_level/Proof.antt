@@ -1,11 +1,8 @@
+-- Made by tools/draft.py from the answers.txt beside it: edit that file.
 use Rattle.text_block.specs.Block.{slotLevel}
 use borrow.Author.Needs.{needs}
 use Rattle.text_block.proofs.put_slot_level.Statement.{statement}
 use Rattle.text_block.proofs.put_slot_level.Tie as tie
-use Rattle.text_block.proofs.put_slot_level.Reads as reads
-use Rattle.text_block.proofs.put_slot_level.Lts as lts
-use Rattle.text_block.proofs.put_level_field.Reads as put-level-field-reads
-use Rattle.output_slots.proofs.level_at.Reads as level-at-reads
 
 level-at-requires : tie.Need-level-at-requires
 level-at-requires c κs = search needs
@@ -21,5 +18,4 @@ unfolding slotLevel
 returns c = rw (← c .before .before .before .level-at .ensures) (c .before .before .put-level-field .ensures)
 
 pub put-slot-level-spec : {M : Type 1} → statement M
-put-slot-level-spec =
-    tie.close (tie.spec level-at-requires put-level-field-requires same-length returns)
+put-slot-level-spec = tie.close (tie.spec level-at-requires put-level-field-requires same-length returns)

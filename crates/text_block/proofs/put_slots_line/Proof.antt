@@ -1,13 +1,9 @@
+-- Made by tools/draft.py from the answers.txt beside it: edit that file.
 use Rattle.text_printing.proofs.Pages.{wrote-then}
 use Rattle.text_block.specs.Block.{slotsLine}
 use borrow.Author.Needs.{needs}
 use Rattle.text_block.proofs.put_slots_line.Statement.{statement}
 use Rattle.text_block.proofs.put_slots_line.Tie as tie
-use Rattle.text_block.proofs.put_slots_line.Reads as reads
-use Rattle.text_block.proofs.put_slots_line.Lts as lts
-use Rattle.text_block.proofs.put_slot_fields.Reads as put-slot-fields-reads
-use Rattle.text_printing.proofs.put.Reads as put-reads
-use Rattle.text_printing.proofs.put_all.Reads as put-all-reads
 
 slice-aggregate-put-all : tie.Need-slice-aggregate-put-all
 slice-aggregate-put-all c = search needs
@@ -29,12 +25,4 @@ unfolding slotsLine
 returns c = wrote-then (c .before .before .before .before .before .before .before .before .before .before .put-all .ensures) (wrote-then (c .before .before .before .before .before .before .put-slot-fields .ensures) (c .before .before .put .ensures))
 
 pub put-slots-line-spec : {M : Type 1} → statement M
-put-slots-line-spec =
-    tie.close
-    (tie.spec
-    slice-aggregate-put-all
-    put-all-requires
-    put-slot-fields-requires
-    put-requires
-    same-length
-    returns)
+put-slots-line-spec = tie.close (tie.spec slice-aggregate-put-all put-all-requires put-slot-fields-requires put-requires same-length returns)

@@ -1,3 +1,4 @@
+-- Made by tools/draft.py from the answers.txt beside it: edit that file.
 use mathlib.Core.Path.{ap}
 use native.Mathlib.Omega.{arith}
 use Rattle.text_printing.specs.Writing.{hexBytes}
@@ -7,12 +8,6 @@ use Rattle.text_block.proofs.Tagged.{own-end, own-bytes}
 use borrow.Author.Needs.{needs}
 use Rattle.text_block.proofs.put_tagged_line.Statement.{statement}
 use Rattle.text_block.proofs.put_tagged_line.Tie as tie
-use Rattle.text_block.proofs.put_tagged_line.Reads as reads
-use Rattle.text_block.proofs.put_tagged_line.Lts as lts
-use Rattle.tag_writing.proofs.tagged_body.Reads as tagged-body-reads
-use Rattle.text_printing.proofs.put.Reads as put-reads
-use Rattle.text_printing.proofs.put_all.Reads as put-all-reads
-use Rattle.text_printing.proofs.put_hex_bytes.Reads as put-hex-bytes-reads
 
 tagged-body-requires : tie.Need-tagged-body-requires
 tagged-body-requires c κs = search needs
@@ -57,17 +52,4 @@ returns c =
     wrote-then (word .put-all .ensures) (wrote-then (wrote-as (ap hexBytes own) (digits .put-hex-bytes .ensures)) (newline .put .ensures))
 
 pub put-tagged-line-spec : {M : Type 1} → statement M
-put-tagged-line-spec =
-    tie.close
-    (tie.spec
-    tagged-body-requires
-    cast-n
-    slice-aggregate-put-all
-    put-all-requires
-    sub-put-hex-bytes
-    part-put-hex-bytes-start
-    part-put-hex-bytes-end
-    put-hex-bytes-requires
-    put-requires
-    same-length
-    returns)
+put-tagged-line-spec = tie.close (tie.spec tagged-body-requires cast-n slice-aggregate-put-all put-all-requires sub-put-hex-bytes part-put-hex-bytes-start part-put-hex-bytes-end put-hex-bytes-requires put-requires same-length returns)

@@ -1,13 +1,9 @@
+-- Made by tools/draft.py from the answers.txt beside it: edit that file.
 use Rattle.text_printing.proofs.Pages.{wrote-then}
 use Rattle.text_faults.specs.Faults.{endedLine}
 use borrow.Author.Needs.{needs}
 use Rattle.text_faults.proofs.put_ended.Statement.{statement}
 use Rattle.text_faults.proofs.put_ended.Tie as tie
-use Rattle.text_faults.proofs.put_ended.Reads as reads
-use Rattle.text_faults.proofs.put_ended.Lts as lts
-use Rattle.text_faults.proofs.put_placed.Reads as put-placed-reads
-use Rattle.text_printing.proofs.put.Reads as put-reads
-use Rattle.text_printing.proofs.put_all.Reads as put-all-reads
 
 put-placed-requires : tie.Need-put-placed-requires
 put-placed-requires c κs = search needs
@@ -29,12 +25,4 @@ unfolding endedLine
 returns c = wrote-then (c .before .before .before .before .before .before .before .before .before .before .before .put-placed .ensures) (wrote-then (c .before .before .before .before .before .before .put-all .ensures) (c .before .before .put .ensures))
 
 pub put-ended-spec : {M : Type 1} → statement M
-put-ended-spec =
-    tie.close
-    (tie.spec
-    put-placed-requires
-    slice-aggregate-put-all
-    put-all-requires
-    put-requires
-    same-length
-    returns)
+put-ended-spec = tie.close (tie.spec put-placed-requires slice-aggregate-put-all put-all-requires put-requires same-length returns)

@@ -1,13 +1,9 @@
+-- Made by tools/draft.py from the answers.txt beside it: edit that file.
 use Rattle.text_printing.proofs.Pages.{wrote-then}
 use Rattle.text_faults.specs.Faults.{faultLine}
 use borrow.Author.Needs.{needs}
 use Rattle.text_faults.proofs.put_fault.Statement.{statement}
 use Rattle.text_faults.proofs.put_fault.Tie as tie
-use Rattle.text_faults.proofs.put_fault.Reads as reads
-use Rattle.text_faults.proofs.put_fault.Lts as lts
-use Rattle.text_faults.proofs.put_fault_words.Reads as put-fault-words-reads
-use Rattle.text_faults.proofs.put_placed.Reads as put-placed-reads
-use Rattle.text_printing.proofs.put.Reads as put-reads
 
 put-placed-requires : tie.Need-put-placed-requires
 put-placed-requires c κs = search needs
@@ -26,6 +22,4 @@ unfolding faultLine
 returns c = wrote-then (c .before .before .before .before .before .before .before .before .before .before .put-placed .ensures) (wrote-then (c .before .before .before .before .before .before .put-fault-words .ensures) (c .before .before .put .ensures))
 
 pub put-fault-spec : {M : Type 1} → statement M
-put-fault-spec =
-    tie.close
-    (tie.spec put-placed-requires put-fault-words-requires put-requires same-length returns)
+put-fault-spec = tie.close (tie.spec put-placed-requires put-fault-words-requires put-requires same-length returns)

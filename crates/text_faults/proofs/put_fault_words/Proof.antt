@@ -1,11 +1,9 @@
+-- Made by tools/draft.py from the answers.txt beside it: edit that file.
 use Rattle.text_faults.proofs.Laws.{faultWords-on}
 use Rattle.text_faults.specs.Faults.{faultWords}
 use borrow.Author.Needs.{needs}
 use Rattle.text_faults.proofs.put_fault_words.Statement.{statement}
 use Rattle.text_faults.proofs.put_fault_words.Tie as tie
-use Rattle.text_faults.proofs.put_fault_words.Reads as reads
-use Rattle.text_faults.proofs.put_fault_words.Lts as lts
-use Rattle.text_printing.proofs.put_all.Reads as put-all-reads
 
 enum-told : tie.Need-enum-told
 enum-told c = search needs
@@ -72,26 +70,4 @@ unfolding faultWords
 returns-4 c = search (needs, faultWords-on)
 
 pub put-fault-words-spec : {M : Type 1} → statement M
-put-fault-words-spec =
-    tie.close
-    (tie.spec
-    enum-told
-    slice-aggregate-put-all
-    put-all-requires
-    enum-told-2
-    slice-aggregate-put-all-2
-    put-all-requires-2
-    enum-told-3
-    slice-aggregate-put-all-3
-    put-all-requires-3
-    enum-told-4
-    slice-aggregate-put-all-4
-    put-all-requires-4
-    same-length
-    returns
-    same-length-2
-    returns-2
-    same-length-3
-    returns-3
-    same-length-4
-    returns-4)
+put-fault-words-spec = tie.close (tie.spec enum-told slice-aggregate-put-all put-all-requires enum-told-2 slice-aggregate-put-all-2 put-all-requires-2 enum-told-3 slice-aggregate-put-all-3 put-all-requires-3 enum-told-4 slice-aggregate-put-all-4 put-all-requires-4 same-length returns same-length-2 returns-2 same-length-3 returns-3 same-length-4 returns-4)

@@ -1,12 +1,9 @@
+-- Made by tools/draft.py from the answers.txt beside it: edit that file.
 use Rattle.text_printing.proofs.Pages.{wrote-then}
 use Rattle.text_faults.specs.Faults.{placed}
 use borrow.Author.Needs.{needs}
 use Rattle.text_faults.proofs.put_placed.Statement.{statement}
 use Rattle.text_faults.proofs.put_placed.Tie as tie
-use Rattle.text_faults.proofs.put_placed.Reads as reads
-use Rattle.text_faults.proofs.put_placed.Lts as lts
-use Rattle.text_printing.proofs.put_all.Reads as put-all-reads
-use Rattle.text_printing.proofs.put_decimal.Reads as put-decimal-reads
 
 slice-aggregate-put-all : tie.Need-slice-aggregate-put-all
 slice-aggregate-put-all c = search needs
@@ -31,13 +28,4 @@ unfolding placed
 returns c = wrote-then (c .before .before .before .before .before .before .before .before .before .before .before .put-all .ensures) (wrote-then (c .before .before .before .before .before .before .before .put-decimal .ensures) (c .before .before .put-all2 .ensures))
 
 pub put-placed-spec : {M : Type 1} → statement M
-put-placed-spec =
-    tie.close
-    (tie.spec
-    slice-aggregate-put-all
-    put-all-requires
-    put-decimal-requires
-    slice-aggregate-put-all-2
-    put-all-requires-2
-    same-length
-    returns)
+put-placed-spec = tie.close (tie.spec slice-aggregate-put-all put-all-requires put-decimal-requires slice-aggregate-put-all-2 put-all-requires-2 same-length returns)

@@ -1,14 +1,10 @@
--- `text_found::put_head` meets its contract.
+-- Made by tools/draft.py from the answers.txt beside it: edit that file.
 use Rattle.text_printing.proofs.Choices.{choices}
 use Rattle.text_printing.proofs.Pages.{wrote-then}
 use Rattle.text_found.specs.Found.{foundHead}
 use borrow.Author.Needs.{needs}
 use Rattle.text_found.proofs.put_head.Statement.{statement}
 use Rattle.text_found.proofs.put_head.Tie as tie
-use Rattle.text_found.proofs.put_head.Reads as reads
-use Rattle.text_found.proofs.put_head.Lts as lts
-use Rattle.text_printing.proofs.put_all.Reads as put-all-reads
-use Rattle.text_report.proofs.put_report_head.Reads as put-report-head-reads
 
 slice-aggregate-put-all : tie.Need-slice-aggregate-put-all
 slice-aggregate-put-all c = search needs
@@ -34,13 +30,4 @@ unfolding foundHead
 returns-2 c = search (needs, choices, wrote-then)
 
 pub put-head-spec : {M : Type 1} → statement M
-put-head-spec =
-    tie.close
-    (tie.spec
-    slice-aggregate-put-all
-    put-all-requires
-    put-report-head-requires
-    same-length
-    returns
-    same-length-2
-    returns-2)
+put-head-spec = tie.close (tie.spec slice-aggregate-put-all put-all-requires put-report-head-requires same-length returns same-length-2 returns-2)

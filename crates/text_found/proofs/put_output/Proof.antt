@@ -1,13 +1,9 @@
--- `text_found::put_output` meets its contract.
+-- Made by tools/draft.py from the answers.txt beside it: edit that file.
 use Rattle.text_printing.proofs.Choices.{choices}
 use Rattle.text_found.specs.Found.{foundOutput}
 use borrow.Author.Needs.{needs}
 use Rattle.text_found.proofs.put_output.Statement.{statement}
 use Rattle.text_found.proofs.put_output.Tie as tie
-use Rattle.text_found.proofs.put_output.Reads as reads
-use Rattle.text_found.proofs.put_output.Lts as lts
-use Rattle.text_block.proofs.put_block.Reads as put-block-reads
-use Rattle.text_report.proofs.put_report_line.Reads as put-report-line-reads
 
 put-report-line-requires : tie.Need-put-report-line-requires
 put-report-line-requires c κs = search needs
@@ -30,12 +26,4 @@ unfolding foundOutput
 returns-2 c = search (needs, choices)
 
 pub put-output-spec : {M : Type 1} → statement M
-put-output-spec =
-    tie.close
-    (tie.spec
-    put-report-line-requires
-    put-block-requires
-    same-length
-    returns
-    same-length-2
-    returns-2)
+put-output-spec = tie.close (tie.spec put-report-line-requires put-block-requires same-length returns same-length-2 returns-2)

@@ -1,4 +1,4 @@
-use borrow.Author.Needs.{needs}
+-- Made by tools/draft.py from the answers.txt beside it: edit that file.
 use Prim.Native.Nat.{_≤_, _+_}
 use mathlib.Core.Path.{_≡_, refl, sym, _∙_}
 use mathlib.Core.List.{_++_}
@@ -7,11 +7,9 @@ use native.Mathlib.Omega.{arith}
 use lib.ListN.{length, drop, length-set}
 use Rattle.text_printing.specs.Writing.{decimalBy, decimal}
 use Rattle.text_printing.proofs.Decimals.{digit-start, digit-turn, digit-last, digit-full}
+use borrow.Author.Needs.{needs}
 use Rattle.text_printing.proofs.decimal_digits.Statement.{statement}
 use Rattle.text_printing.proofs.decimal_digits.Tie as tie
-use Rattle.text_printing.proofs.decimal_digits.Reads as reads
-use Rattle.text_printing.proofs.decimal_digits.Lts as lts
-use Rattle.text_printing.proofs.last_digit.Reads as last-digit-reads
 
 abbrev Inv-loop : tie.InvT-loop
 Inv-loop n bytes₀ i₀ rest₀ bytes i rest = (i ≤ 19) × (length bytes ≡ 20) × (decimalBy i rest ++ drop (i + 1) bytes ≡ decimal n)
@@ -59,17 +57,4 @@ returns c =
     )
 
 pub decimal-digits-spec : {M : Type 1} → statement M
-decimal-digits-spec =
-    tie.close
-    (tie.spec
-    Inv-loop
-    μ-loop
-    loop-holds
-    last-digit-requires
-    array-write-bytes
-    sub-i
-    loop-less
-    loop-again
-    last-digit-requires-2
-    array-write-bytes-2
-    returns)
+decimal-digits-spec = tie.close (tie.spec Inv-loop μ-loop loop-holds last-digit-requires array-write-bytes sub-i loop-less loop-again last-digit-requires-2 array-write-bytes-2 returns)

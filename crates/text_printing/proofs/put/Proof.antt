@@ -1,9 +1,8 @@
+-- Made by tools/draft.py from the answers.txt beside it: edit that file.
 use Rattle.text_printing.proofs.Pages.{wrote-out}
 use borrow.Author.Needs.{needs}
 use Rattle.text_printing.proofs.put.Statement.{statement}
 use Rattle.text_printing.proofs.put.Tie as tie
-use Rattle.text_printing.proofs.put.Reads as reads
-use Rattle.text_printing.proofs.put.Lts as lts
 
 slice-write-page : tie.Need-slice-write-page
 slice-write-page c = search needs

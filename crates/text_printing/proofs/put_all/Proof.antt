@@ -1,3 +1,4 @@
+-- Made by tools/draft.py from the answers.txt beside it: edit that file.
 use Prim.Native.Nat.{_≤_, _-_}
 use mathlib.Core.Path.{_≡_, refl}
 use native.Mathlib.Omega.{arith}
@@ -8,9 +9,6 @@ use Rattle.text_printing.proofs.Pages.{wrote-none, wrote-turn, wrote-as
 use borrow.Author.Needs.{needs}
 use Rattle.text_printing.proofs.put_all.Statement.{statement}
 use Rattle.text_printing.proofs.put_all.Tie as tie
-use Rattle.text_printing.proofs.put_all.Reads as reads
-use Rattle.text_printing.proofs.put_all.Lts as lts
-use Rattle.text_printing.proofs.put.Reads as put-reads
 
 abbrev Inv-loop : tie.InvT-loop
 Inv-loop page₀ at s mark₀ i₀ page mark i = (i ≤ length s) × (length page ≡ length page₀) × Wrote page₀ at (take i s) page mark
@@ -46,16 +44,4 @@ returns : tie.Need-returns Inv-loop μ-loop
 returns c = wrote-as (take-all (c .before .loop .i) (c .before .before .before .before .args .s .now) (omega arith)) (c .before .loop .inv .2)
 
 pub put-all-spec : {M : Type 1} → statement M
-put-all-spec =
-    tie.close
-    (tie.spec
-    Inv-loop
-    μ-loop
-    loop-holds
-    shared-slice-read-put
-    put-requires
-    add-i
-    loop-less
-    loop-again
-    same-length
-    returns)
+put-all-spec = tie.close (tie.spec Inv-loop μ-loop loop-holds shared-slice-read-put put-requires add-i loop-less loop-again same-length returns)

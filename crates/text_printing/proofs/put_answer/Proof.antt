@@ -1,13 +1,9 @@
+-- Made by tools/draft.py from the answers.txt beside it: edit that file.
 use Rattle.text_printing.proofs.Laws.{answerLine-on}
 use Rattle.text_printing.specs.Writing.{answerLine}
 use borrow.Author.Needs.{needs}
 use Rattle.text_printing.proofs.put_answer.Statement.{statement}
 use Rattle.text_printing.proofs.put_answer.Tie as tie
-use Rattle.text_printing.proofs.put_answer.Reads as reads
-use Rattle.text_printing.proofs.put_answer.Lts as lts
-use Rattle.text_printing.proofs.put_all.Reads as put-all-reads
-use Rattle.text_printing.proofs.put_refused_line.Reads as put-refused-line-reads
-use Rattle.text_printing.proofs.put_value_line.Reads as put-value-line-reads
 
 enum-told : tie.Need-enum-told
 enum-told c = search needs
@@ -68,24 +64,4 @@ unfolding answerLine
 returns-4 c = search (needs, answerLine-on)
 
 pub put-answer-spec : {M : Type 1} → statement M
-put-answer-spec =
-    tie.close
-    (tie.spec
-    enum-told
-    slice-aggregate-put-all
-    put-all-requires
-    enum-known-a
-    put-value-line-requires
-    enum-told-2
-    slice-aggregate-put-all-2
-    put-all-requires-2
-    enum-known-a-2
-    put-refused-line-requires
-    same-length
-    returns
-    same-length-2
-    returns-2
-    same-length-3
-    returns-3
-    same-length-4
-    returns-4)
+put-answer-spec = tie.close (tie.spec enum-told slice-aggregate-put-all put-all-requires enum-known-a put-value-line-requires enum-told-2 slice-aggregate-put-all-2 put-all-requires-2 enum-known-a-2 put-refused-line-requires same-length returns same-length-2 returns-2 same-length-3 returns-3 same-length-4 returns-4)

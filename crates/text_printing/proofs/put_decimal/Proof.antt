@@ -1,3 +1,4 @@
+-- Made by tools/draft.py from the answers.txt beside it: edit that file.
 use mathlib.Core.Path.{_∙_}
 use Prim.Native.Nat.{_-_}
 use lib.ListN.{drop, length-drop}
@@ -7,10 +8,6 @@ use Rattle.text_printing.proofs.Pages.{wrote-as}
 use borrow.Author.Needs.{needs}
 use Rattle.text_printing.proofs.put_decimal.Statement.{statement}
 use Rattle.text_printing.proofs.put_decimal.Tie as tie
-use Rattle.text_printing.proofs.put_decimal.Reads as reads
-use Rattle.text_printing.proofs.put_decimal.Lts as lts
-use Rattle.text_printing.proofs.decimal_digits.Reads as decimal-digits-reads
-use Rattle.text_printing.proofs.put_all.Reads as put-all-reads
 
 decimal-digits-requires : tie.Need-decimal-digits-requires
 decimal-digits-requires c κs = search needs
@@ -39,13 +36,4 @@ returns c =
     (c .before .before .put-all .ensures)
 
 pub put-decimal-spec : {M : Type 1} → statement M
-put-decimal-spec =
-    tie.close
-    (tie.spec
-    decimal-digits-requires
-    sub-put-all
-    part-put-all-start
-    part-put-all-end
-    put-all-requires
-    same-length
-    returns)
+put-decimal-spec = tie.close (tie.spec decimal-digits-requires sub-put-all part-put-all-start part-put-all-end put-all-requires same-length returns)

@@ -1,12 +1,9 @@
+-- Made by tools/draft.py from the answers.txt beside it: edit that file.
 use Rattle.text_printing.proofs.Pages.{wrote-two}
 use Rattle.text_printing.specs.Writing.{hex2}
 use borrow.Author.Needs.{needs}
 use Rattle.text_printing.proofs.put_hex2.Statement.{statement}
 use Rattle.text_printing.proofs.put_hex2.Tie as tie
-use Rattle.text_printing.proofs.put_hex2.Reads as reads
-use Rattle.text_printing.proofs.put_hex2.Lts as lts
-use Rattle.text_printing.proofs.hex_digit.Reads as hex-digit-reads
-use Rattle.text_printing.proofs.put.Reads as put-reads
 
 hex-digit-requires : tie.Need-hex-digit-requires
 hex-digit-requires c κs = search needs
@@ -28,12 +25,4 @@ unfolding hex2
 returns c = search (needs, wrote-two)
 
 pub put-hex2-spec : {M : Type 1} → statement M
-put-hex2-spec =
-    tie.close
-    (tie.spec
-    hex-digit-requires
-    put-requires
-    hex-digit-requires-2
-    put-requires-2
-    same-length
-    returns)
+put-hex2-spec = tie.close (tie.spec hex-digit-requires put-requires hex-digit-requires-2 put-requires-2 same-length returns)

@@ -1,11 +1,9 @@
+-- Made by tools/draft.py from the answers.txt beside it: edit that file.
 use Rattle.text_printing.proofs.Pages.{wrote-then}
 use Rattle.text_printing.specs.Writing.{hex4}
 use borrow.Author.Needs.{needs}
 use Rattle.text_printing.proofs.put_hex4.Statement.{statement}
 use Rattle.text_printing.proofs.put_hex4.Tie as tie
-use Rattle.text_printing.proofs.put_hex4.Reads as reads
-use Rattle.text_printing.proofs.put_hex4.Lts as lts
-use Rattle.text_printing.proofs.put_hex2.Reads as put-hex2-reads
 
 cast-put-hex2 : tie.Need-cast-put-hex2
 cast-put-hex2 c = search needs
@@ -27,12 +25,4 @@ unfolding hex4
 returns c = search (needs, wrote-then)
 
 pub put-hex4-spec : {M : Type 1} → statement M
-put-hex4-spec =
-    tie.close
-    (tie.spec
-    cast-put-hex2
-    put-hex2-requires
-    cast-put-hex2-2
-    put-hex2-requires-2
-    same-length
-    returns)
+put-hex4-spec = tie.close (tie.spec cast-put-hex2 put-hex2-requires cast-put-hex2-2 put-hex2-requires-2 same-length returns)

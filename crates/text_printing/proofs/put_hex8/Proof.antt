@@ -1,11 +1,9 @@
+-- Made by tools/draft.py from the answers.txt beside it: edit that file.
 use Rattle.text_printing.proofs.Pages.{wrote-then}
 use Rattle.text_printing.specs.Writing.{hex8}
 use borrow.Author.Needs.{needs}
 use Rattle.text_printing.proofs.put_hex8.Statement.{statement}
 use Rattle.text_printing.proofs.put_hex8.Tie as tie
-use Rattle.text_printing.proofs.put_hex8.Reads as reads
-use Rattle.text_printing.proofs.put_hex8.Lts as lts
-use Rattle.text_printing.proofs.put_hex4.Reads as put-hex4-reads
 
 cast-put-hex4 : tie.Need-cast-put-hex4
 cast-put-hex4 c = search needs
@@ -27,12 +25,4 @@ unfolding hex8
 returns c = search (needs, wrote-then)
 
 pub put-hex8-spec : {M : Type 1} → statement M
-put-hex8-spec =
-    tie.close
-    (tie.spec
-    cast-put-hex4
-    put-hex4-requires
-    cast-put-hex4-2
-    put-hex4-requires-2
-    same-length
-    returns)
+put-hex8-spec = tie.close (tie.spec cast-put-hex4 put-hex4-requires cast-put-hex4-2 put-hex4-requires-2 same-length returns)

@@ -1,3 +1,4 @@
+-- Made by tools/draft.py from the answers.txt beside it: edit that file.
 use Prim.Native.Nat.{_≤_, _-_}
 use mathlib.Core.Path.{_≡_, refl, ap}
 use native.Mathlib.Omega.{arith}
@@ -9,9 +10,6 @@ use Rattle.text_printing.proofs.Pages.{wrote-none, wrote-hex-turn, wrot
 use borrow.Author.Needs.{needs}
 use Rattle.text_printing.proofs.put_hex_bytes.Statement.{statement}
 use Rattle.text_printing.proofs.put_hex_bytes.Tie as tie
-use Rattle.text_printing.proofs.put_hex_bytes.Reads as reads
-use Rattle.text_printing.proofs.put_hex_bytes.Lts as lts
-use Rattle.text_printing.proofs.put_hex2.Reads as put-hex2-reads
 
 abbrev Inv-loop : tie.InvT-loop
 Inv-loop page₀ at s mark₀ i₀ page mark i = (i ≤ length s) × (length page ≡ length page₀) × Wrote page₀ at (hexBytes (take i s)) page mark
@@ -48,16 +46,4 @@ returns : tie.Need-returns Inv-loop μ-loop
 returns c = wrote-as (ap hexBytes (take-all (c .before .loop .i) (c .before .before .before .before .args .s .now) (omega arith))) (c .before .loop .inv .2)
 
 pub put-hex-bytes-spec : {M : Type 1} → statement M
-put-hex-bytes-spec =
-    tie.close
-    (tie.spec
-    Inv-loop
-    μ-loop
-    loop-holds
-    shared-slice-read-put-hex2
-    put-hex2-requires
-    add-i
-    loop-less
-    loop-again
-    same-length
-    returns)
+put-hex-bytes-spec = tie.close (tie.spec Inv-loop μ-loop loop-holds shared-slice-read-put-hex2 put-hex2-requires add-i loop-less loop-again same-length returns)

@@ -1,4 +1,4 @@
-use borrow.Author.Needs.{needs}
+-- Made by tools/draft.py from the answers.txt beside it: edit that file.
 use borrow.Author.Tests.{not-false}
 use Prim.Native.Nat.{_≤_, _+_, _-_}
 use mathlib.Core.Path.{_≡_, refl, sym, _∙_}
@@ -8,14 +8,9 @@ use lib.ListN.{length, drop, length-set}
 use Rattle.text_reading.specs.Reading.{mayBegin, bytesKept, fedLine, lineLength}
 use Rattle.text_reading.proofs.Lines.{Comes}
 use Rattle.text_reading.proofs.Runs.{readerWith, begins-again, byte-turn, blank-turn}
+use borrow.Author.Needs.{needs}
 use Rattle.text_reading.proofs.feed_bytes.Statement.{statement}
 use Rattle.text_reading.proofs.feed_bytes.Tie as tie
-use Rattle.text_reading.proofs.feed_bytes.Reads as reads
-use Rattle.text_reading.proofs.feed_bytes.Lts as lts
-use Rattle.text_reading.proofs.byte_pair.Reads as byte-pair-reads
-use Rattle.text_reading.proofs.characters.hex_value.Reads as hex-value-reads
-use Rattle.text_reading.proofs.characters.is_blank.Reads as is-blank-reads
-use Rattle.text_reading.proofs.characters.may_begin.Reads as may-begin-reads
 
 abbrev Inv-loop : tie.InvT-loop
 Inv-loop s from outputs line held₀ bytes₀ count₀ i₀ held bytes count i =
@@ -143,32 +138,4 @@ returns-6 : tie.Need-returns-6 Inv-loop μ-loop
 returns-6 c = (refl, (refl, (omega arith, omega arith)))
 
 pub feed-bytes-spec : {M : Type 1} → statement M
-feed-bytes-spec =
-    tie.close
-    (tie.spec
-    Inv-loop
-    μ-loop
-    may-begin-requires
-    loop-holds
-    shared-slice-read-c
-    hex-value-requires
-    add-if4
-    add-hex-value
-    shared-slice-read-hex-value
-    hex-value-requires-2
-    byte-pair-requires
-    array-write-bytes
-    add-count
-    add-i
-    loop-less
-    loop-again
-    is-blank-requires
-    add-i-2
-    loop-less-2
-    loop-again-2
-    returns
-    returns-2
-    returns-3
-    returns-4
-    returns-5
-    returns-6)
+feed-bytes-spec = tie.close (tie.spec Inv-loop μ-loop may-begin-requires loop-holds shared-slice-read-c hex-value-requires add-if4 add-hex-value shared-slice-read-hex-value hex-value-requires-2 byte-pair-requires array-write-bytes add-count add-i loop-less loop-again is-blank-requires add-i-2 loop-less-2 loop-again-2 returns returns-2 returns-3 returns-4 returns-5 returns-6)

@@ -1,16 +1,13 @@
-use borrow.Author.Needs.{needs}
+-- Made by tools/draft.py from the answers.txt beside it: edit that file.
 use Prim.Native.Nat.{_≤_, _+_, _-_}
 use mathlib.Core.Path.{refl, _∙_}
 use native.Mathlib.Omega.{arith}
 use lib.ListN.{length, drop}
 use Rattle.text_reading.specs.Reading.{fedLine, lineLength}
 use Rattle.text_reading.proofs.Lines.{Comes, line-turn, line-newline, line-over}
+use borrow.Author.Needs.{needs}
 use Rattle.text_reading.proofs.feed_line.Statement.{statement}
 use Rattle.text_reading.proofs.feed_line.Tie as tie
-use Rattle.text_reading.proofs.feed_line.Reads as reads
-use Rattle.text_reading.proofs.feed_line.Lts as lts
-use Rattle.text_reading.proofs.feed.Reads as feed-reads
-use Rattle.text_reading.proofs.feed_bytes.Reads as feed-bytes-reads
 
 abbrev Inv-loop : tie.InvT-loop
 Inv-loop s from reader₀ i₀ reader i = (i ≤ length s) × Comes reader s i (fedLine reader₀ (drop from s)) (from + lineLength (drop from s))
@@ -64,19 +61,4 @@ returns-2 c =
     line-newline (n .result .reader) (c .before .before .before .before .before .before .before .before .args .s .now) (n .result .next) _ _ (c .before .before .if1 .taken) (c .if2 .taken) (n .ensures .0 ∙ l .inv .1 .0, n .ensures .1 .0 ∙ l .inv .1 .1)
 
 pub feed-line-spec : {M : Type 1} → statement M
-feed-line-spec =
-    tie.close
-    (tie.spec
-    Inv-loop
-    μ-loop
-    loop-holds
-    feed-bytes-requires
-    shared-slice-read-c
-    feed-requires
-    add-i
-    loop-less
-    loop-again
-    loop-less-2
-    loop-again-2
-    returns
-    returns-2)
+feed-line-spec = tie.close (tie.spec Inv-loop μ-loop loop-holds feed-bytes-requires shared-slice-read-c feed-requires add-i loop-less loop-again loop-less-2 loop-again-2 returns returns-2)

@@ -1,12 +1,10 @@
+-- Made by tools/draft.py from the answers.txt beside it: edit that file.
 use Rattle.text_report.proofs.Laws.{activityText-on}
 use Rattle.text_printing.proofs.Choices.{choices}
 use Rattle.text_report.specs.Report.{activityText}
 use borrow.Author.Needs.{needs}
 use Rattle.text_report.proofs.put_activity.Statement.{statement}
 use Rattle.text_report.proofs.put_activity.Tie as tie
-use Rattle.text_report.proofs.put_activity.Reads as reads
-use Rattle.text_report.proofs.put_activity.Lts as lts
-use Rattle.text_report.proofs.put_until.Reads as put-until-reads
 
 enum-told : tie.Need-enum-told
 enum-told c = search needs
@@ -48,18 +46,4 @@ unfolding activityText
 returns-3 c = search (needs, activityText-on, choices)
 
 pub put-activity-spec : {M : Type 1} → statement M
-put-activity-spec =
-    tie.close
-    (tie.spec
-    enum-told
-    enum-known-a
-    slice-aggregate-put-until
-    put-until-requires
-    enum-known-a-2
-    slice-aggregate-put-until-2
-    put-until-requires-2
-    returns
-    same-length
-    returns-2
-    same-length-2
-    returns-3)
+put-activity-spec = tie.close (tie.spec enum-told enum-known-a slice-aggregate-put-until put-until-requires enum-known-a-2 slice-aggregate-put-until-2 put-until-requires-2 returns same-length returns-2 same-length-2 returns-3)

@@ -1,12 +1,9 @@
+-- Made by tools/draft.py from the answers.txt beside it: edit that file.
 use Rattle.text_printing.proofs.Pages.{wrote-then}
 use Rattle.text_report.specs.Report.{aligned}
 use borrow.Author.Needs.{needs}
 use Rattle.text_report.proofs.put_aligned.Statement.{statement}
 use Rattle.text_report.proofs.put_aligned.Tie as tie
-use Rattle.text_report.proofs.put_aligned.Reads as reads
-use Rattle.text_report.proofs.put_aligned.Lts as lts
-use Rattle.text_report.proofs.put_lead.Reads as put-lead-reads
-use Rattle.text_printing.proofs.put_decimal.Reads as put-decimal-reads
 
 put-lead-requires : tie.Need-put-lead-requires
 put-lead-requires c κs = search needs

@@ -1,11 +1,8 @@
+-- Made by tools/draft.py from the answers.txt beside it: edit that file.
 use Rattle.text_report.specs.Report.{digit}
 use borrow.Author.Needs.{needs}
 use Rattle.text_report.proofs.put_digit.Statement.{statement}
 use Rattle.text_report.proofs.put_digit.Tie as tie
-use Rattle.text_report.proofs.put_digit.Reads as reads
-use Rattle.text_report.proofs.put_digit.Lts as lts
-use Rattle.text_printing.proofs.last_digit.Reads as last-digit-reads
-use Rattle.text_printing.proofs.put.Reads as put-reads
 
 last-digit-requires : tie.Need-last-digit-requires
 last-digit-requires c κs = search needs

@@ -1,3 +1,4 @@
+-- Made by tools/draft.py from the answers.txt beside it: edit that file.
 use Rattle.text_printing.proofs.Choices.{choices}
 use Rattle.text_report.specs.Report.{either}
 use borrow.Author.Needs.{needs}

@@ -1,12 +1,9 @@
+-- Made by tools/draft.py from the answers.txt beside it: edit that file.
 use Rattle.text_printing.proofs.Pages.{wrote-then}
 use Rattle.text_report.specs.Report.{lasting}
 use borrow.Author.Needs.{needs}
 use Rattle.text_report.proofs.put_lasting.Statement.{statement}
 use Rattle.text_report.proofs.put_lasting.Tie as tie
-use Rattle.text_report.proofs.put_lasting.Reads as reads
-use Rattle.text_report.proofs.put_lasting.Lts as lts
-use Rattle.text_report.proofs.put_aligned.Reads as put-aligned-reads
-use Rattle.text_report.proofs.put_minutes.Reads as put-minutes-reads
 
 put-aligned-requires : tie.Need-put-aligned-requires
 put-aligned-requires c κs = search needs
@@ -22,5 +19,4 @@ unfolding lasting
 returns c = wrote-then (c .before .before .before .before .before .before .put-aligned .ensures) (c .before .before .put-minutes .ensures)
 
 pub put-lasting-spec : {M : Type 1} → statement M
-put-lasting-spec =
-    tie.close (tie.spec put-aligned-requires put-minutes-requires same-length returns)
+put-lasting-spec = tie.close (tie.spec put-aligned-requires put-minutes-requires same-length returns)

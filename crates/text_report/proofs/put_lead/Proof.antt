@@ -1,12 +1,9 @@
+-- Made by tools/draft.py from the answers.txt beside it: edit that file.
 use Rattle.text_printing.proofs.Choices.{choices}
 use Rattle.text_report.specs.Report.{lead}
 use borrow.Author.Needs.{needs}
 use Rattle.text_report.proofs.put_lead.Statement.{statement}
 use Rattle.text_report.proofs.put_lead.Tie as tie
-use Rattle.text_report.proofs.put_lead.Reads as reads
-use Rattle.text_report.proofs.put_lead.Lts as lts
-use Rattle.text_printing.proofs.put.Reads as put-reads
-use Rattle.text_printing.proofs.put_all.Reads as put-all-reads
 
 slice-aggregate-put-all : tie.Need-slice-aggregate-put-all
 slice-aggregate-put-all c = search needs
@@ -36,14 +33,4 @@ unfolding lead
 returns-3 c = search (needs, choices)
 
 pub put-lead-spec : {M : Type 1} → statement M
-put-lead-spec =
-    tie.close
-    (tie.spec
-    slice-aggregate-put-all
-    put-all-requires
-    put-requires
-    same-length
-    returns
-    same-length-2
-    returns-2
-    returns-3)
+put-lead-spec = tie.close (tie.spec slice-aggregate-put-all put-all-requires put-requires same-length returns same-length-2 returns-2 returns-3)

@@ -1,14 +1,9 @@
+-- Made by tools/draft.py from the answers.txt beside it: edit that file.
 use Rattle.text_printing.proofs.Pages.{wrote-then}
 use Rattle.text_report.specs.Report.{levelFields}
 use borrow.Author.Needs.{needs}
 use Rattle.text_report.proofs.put_level_fields.Statement.{statement}
 use Rattle.text_report.proofs.put_level_fields.Tie as tie
-use Rattle.text_report.proofs.put_level_fields.Reads as reads
-use Rattle.text_report.proofs.put_level_fields.Lts as lts
-use Rattle.text_report.proofs.put_percent.Reads as put-percent-reads
-use Rattle.text_printing.proofs.put_all.Reads as put-all-reads
-use Rattle.output_value.proofs.present_value.Reads as present-value-reads
-use Rattle.output_value.proofs.progress_value.Reads as progress-value-reads
 
 present-value-requires : tie.Need-present-value-requires
 present-value-requires c κs = search needs
@@ -48,18 +43,4 @@ unfolding levelFields
 returns c = rw (← c .before .before .before .before .before .before .before .before .before .before .before .before .before .before .before .before .before .before .before .before .before .before .before .before .present-value .ensures, ← c .before .before .before .before .before .before .before .before .before .before .before .before .before .before .before .before .before .before .before .before .before .before .before .progress-value .ensures) (wrote-then (c .before .before .before .before .before .before .before .before .before .before .before .before .before .before .before .before .before .before .before .before .put-all .ensures) (wrote-then (c .before .before .before .before .before .before .before .before .before .before .before .before .before .before .before .before .put-percent .ensures) (wrote-then (c .before .before .before .before .before .before .before .before .before .before .before .put-all2 .ensures) (wrote-then (c .before .before .before .before .before .before .put-all3 .ensures) (c .before .before .put-percent2 .ensures)))))
 
 pub put-level-fields-spec : {M : Type 1} → statement M
-put-level-fields-spec =
-    tie.close
-    (tie.spec
-    present-value-requires
-    progress-value-requires
-    slice-aggregate-put-all
-    put-all-requires
-    put-percent-requires
-    slice-aggregate-put-all-2
-    put-all-requires-2
-    slice-aggregate-put-all-3
-    put-all-requires-3
-    put-percent-requires-2
-    same-length
-    returns)
+put-level-fields-spec = tie.close (tie.spec present-value-requires progress-value-requires slice-aggregate-put-all put-all-requires put-percent-requires slice-aggregate-put-all-2 put-all-requires-2 slice-aggregate-put-all-3 put-all-requires-3 put-percent-requires-2 same-length returns)

@@ -1,12 +1,9 @@
+-- Made by tools/draft.py from the answers.txt beside it: edit that file.
 use Rattle.text_printing.proofs.Pages.{wrote-then}
 use Rattle.text_report.specs.Report.{minutes}
 use borrow.Author.Needs.{needs}
 use Rattle.text_report.proofs.put_minutes.Statement.{statement}
 use Rattle.text_report.proofs.put_minutes.Tie as tie
-use Rattle.text_report.proofs.put_minutes.Reads as reads
-use Rattle.text_report.proofs.put_minutes.Lts as lts
-use Rattle.text_report.proofs.put_two.Reads as put-two-reads
-use Rattle.text_printing.proofs.put.Reads as put-reads
 
 put-requires : tie.Need-put-requires
 put-requires c κs = search needs
@@ -28,6 +25,4 @@ unfolding minutes
 returns c = wrote-then (c .before .before .before .before .before .before .before .before .before .before .before .before .before .before .put .ensures) (wrote-then (c .before .before .before .before .before .before .before .before .before .before .put-two .ensures) (wrote-then (c .before .before .before .before .before .before .put2 .ensures) (c .before .before .put-two2 .ensures)))
 
 pub put-minutes-spec : {M : Type 1} → statement M
-put-minutes-spec =
-    tie.close
-    (tie.spec put-requires put-two-requires put-requires-2 put-two-requires-2 same-length returns)
+put-minutes-spec = tie.close (tie.spec put-requires put-two-requires put-requires-2 put-two-requires-2 same-length returns)

@@ -1,14 +1,9 @@
+-- Made by tools/draft.py from the answers.txt beside it: edit that file.
 use Rattle.text_printing.proofs.Pages.{wrote-then}
 use Rattle.text_report.specs.Report.{moment}
 use borrow.Author.Needs.{needs}
 use Rattle.text_report.proofs.put_moment.Statement.{statement}
 use Rattle.text_report.proofs.put_moment.Tie as tie
-use Rattle.text_report.proofs.put_moment.Reads as reads
-use Rattle.text_report.proofs.put_moment.Lts as lts
-use Rattle.text_report.proofs.put_minutes.Reads as put-minutes-reads
-use Rattle.text_report.proofs.put_three.Reads as put-three-reads
-use Rattle.text_printing.proofs.put.Reads as put-reads
-use Rattle.text_printing.proofs.put_decimal.Reads as put-decimal-reads
 
 put-decimal-requires : tie.Need-put-decimal-requires
 put-decimal-requires c κs = search needs
@@ -30,12 +25,4 @@ unfolding moment
 returns c = wrote-then (c .before .before .before .before .before .before .before .before .before .before .before .before .before .before .put-decimal .ensures) (wrote-then (c .before .before .before .before .before .before .before .before .before .before .put-minutes .ensures) (wrote-then (c .before .before .before .before .before .before .put .ensures) (c .before .before .put-three .ensures)))
 
 pub put-moment-spec : {M : Type 1} → statement M
-put-moment-spec =
-    tie.close
-    (tie.spec
-    put-decimal-requires
-    put-minutes-requires
-    put-requires
-    put-three-requires
-    same-length
-    returns)
+put-moment-spec = tie.close (tie.spec put-decimal-requires put-minutes-requires put-requires put-three-requires same-length returns)

@@ -1,12 +1,10 @@
+-- Made by tools/draft.py from the answers.txt beside it: edit that file.
 use Rattle.text_report.proofs.Laws.{operationName-on}
 use Rattle.text_printing.proofs.Choices.{choices}
 use Rattle.text_report.specs.Report.{operationName}
 use borrow.Author.Needs.{needs}
 use Rattle.text_report.proofs.put_operation.Statement.{statement}
 use Rattle.text_report.proofs.put_operation.Tie as tie
-use Rattle.text_report.proofs.put_operation.Reads as reads
-use Rattle.text_report.proofs.put_operation.Lts as lts
-use Rattle.text_printing.proofs.put_all.Reads as put-all-reads
 
 enum-told : tie.Need-enum-told
 enum-told c = search needs
@@ -185,61 +183,4 @@ unfolding operationName
 returns-11 c = search (needs, operationName-on, choices)
 
 pub put-operation-spec : {M : Type 1} → statement M
-put-operation-spec =
-    tie.close
-    (tie.spec
-    enum-told
-    slice-aggregate-put-all
-    put-all-requires
-    enum-told-2
-    slice-aggregate-put-all-2
-    put-all-requires-2
-    enum-told-3
-    slice-aggregate-put-all-3
-    put-all-requires-3
-    enum-told-4
-    slice-aggregate-put-all-4
-    put-all-requires-4
-    enum-told-5
-    slice-aggregate-put-all-5
-    put-all-requires-5
-    enum-told-6
-    slice-aggregate-put-all-6
-    put-all-requires-6
-    enum-told-7
-    slice-aggregate-put-all-7
-    put-all-requires-7
-    enum-told-8
-    slice-aggregate-put-all-8
-    put-all-requires-8
-    enum-told-9
-    slice-aggregate-put-all-9
-    put-all-requires-9
-    enum-told-10
-    slice-aggregate-put-all-10
-    put-all-requires-10
-    enum-told-11
-    slice-aggregate-put-all-11
-    put-all-requires-11
-    same-length
-    returns
-    same-length-2
-    returns-2
-    same-length-3
-    returns-3
-    same-length-4
-    returns-4
-    same-length-5
-    returns-5
-    same-length-6
-    returns-6
-    same-length-7
-    returns-7
-    same-length-8
-    returns-8
-    same-length-9
-    returns-9
-    same-length-10
-    returns-10
-    same-length-11
-    returns-11)
+put-operation-spec = tie.close (tie.spec enum-told slice-aggregate-put-all put-all-requires enum-told-2 slice-aggregate-put-all-2 put-all-requires-2 enum-told-3 slice-aggregate-put-all-3 put-all-requires-3 enum-told-4 slice-aggregate-put-all-4 put-all-requires-4 enum-told-5 slice-aggregate-put-all-5 put-all-requires-5 enum-told-6 slice-aggregate-put-all-6 put-all-requires-6 enum-told-7 slice-aggregate-put-all-7 put-all-requires-7 enum-told-8 slice-aggregate-put-all-8 put-all-requires-8 enum-told-9 slice-aggregate-put-all-9 put-all-requires-9 enum-told-10 slice-aggregate-put-all-10 put-all-requires-10 enum-told-11 slice-aggregate-put-all-11 put-all-requires-11 same-length returns same-length-2 returns-2 same-length-3 returns-3 same-length-4 returns-4 same-length-5 returns-5 same-length-6 returns-6 same-length-7 returns-7 same-length-8 returns-8 same-length-9 returns-9 same-length-10 returns-10 same-length-11 returns-11)

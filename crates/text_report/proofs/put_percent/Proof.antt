@@ -1,14 +1,9 @@
+-- Made by tools/draft.py from the answers.txt beside it: edit that file.
 use Rattle.text_printing.proofs.Pages.{wrote-then}
 use Rattle.text_report.specs.Report.{percent}
 use borrow.Author.Needs.{needs}
 use Rattle.text_report.proofs.put_percent.Statement.{statement}
 use Rattle.text_report.proofs.put_percent.Tie as tie
-use Rattle.text_report.proofs.put_percent.Reads as reads
-use Rattle.text_report.proofs.put_percent.Lts as lts
-use Rattle.text_report.proofs.hundredths.Reads as hundredths-reads
-use Rattle.text_report.proofs.put_aligned.Reads as put-aligned-reads
-use Rattle.text_report.proofs.put_two.Reads as put-two-reads
-use Rattle.text_printing.proofs.put.Reads as put-reads
 
 put-aligned-requires : tie.Need-put-aligned-requires
 put-aligned-requires c κs = search needs
@@ -30,12 +25,4 @@ unfolding percent
 returns c = rw (← c .before .before .before .hundredths .ensures) (wrote-then (c .before .before .before .before .before .before .before .before .before .before .before .put-aligned .ensures) (wrote-then (c .before .before .before .before .before .before .before .put .ensures) (c .before .before .put-two .ensures)))
 
 pub put-percent-spec : {M : Type 1} → statement M
-put-percent-spec =
-    tie.close
-    (tie.spec
-    put-aligned-requires
-    put-requires
-    hundredths-requires
-    put-two-requires
-    same-length
-    returns)
+put-percent-spec = tie.close (tie.spec put-aligned-requires put-requires hundredths-requires put-two-requires same-length returns)

@@ -1,3 +1,4 @@
+-- Made by tools/draft.py from the answers.txt beside it: edit that file.
 use Rattle.text_report.specs.Report.{relayField}
 use borrow.Author.Needs.{needs}
 use Rattle.text_report.proofs.put_relay.Statement.{statement}

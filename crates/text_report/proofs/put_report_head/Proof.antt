@@ -1,13 +1,9 @@
+-- Made by tools/draft.py from the answers.txt beside it: edit that file.
 use Rattle.text_printing.proofs.Pages.{wrote-then}
 use Rattle.text_report.specs.Report.{reportHead}
 use borrow.Author.Needs.{needs}
 use Rattle.text_report.proofs.put_report_head.Statement.{statement}
 use Rattle.text_report.proofs.put_report_head.Tie as tie
-use Rattle.text_report.proofs.put_report_head.Reads as reads
-use Rattle.text_report.proofs.put_report_head.Lts as lts
-use Rattle.text_report.proofs.put_moment.Reads as put-moment-reads
-use Rattle.text_printing.proofs.put.Reads as put-reads
-use Rattle.text_printing.proofs.put_all.Reads as put-all-reads
 
 slice-aggregate-put-all : tie.Need-slice-aggregate-put-all
 slice-aggregate-put-all c = search needs
@@ -35,14 +31,4 @@ unfolding reportHead
 returns c = wrote-then (c .before .before .before .before .before .before .before .before .before .before .before .before .before .before .before .put-all .ensures) (wrote-then (c .before .before .before .before .before .before .before .before .before .before .before .put-moment .ensures) (wrote-then (c .before .before .before .before .before .before .before .put .ensures) (c .before .before .put-all2 .ensures)))
 
 pub put-report-head-spec : {M : Type 1} → statement M
-put-report-head-spec =
-    tie.close
-    (tie.spec
-    slice-aggregate-put-all
-    put-all-requires
-    put-moment-requires
-    put-requires
-    slice-aggregate-put-all-2
-    put-all-requires-2
-    same-length
-    returns)
+put-report-head-spec = tie.close (tie.spec slice-aggregate-put-all put-all-requires put-moment-requires put-requires slice-aggregate-put-all-2 put-all-requires-2 same-length returns)

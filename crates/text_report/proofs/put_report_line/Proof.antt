@@ -1,14 +1,9 @@
+-- Made by tools/draft.py from the answers.txt beside it: edit that file.
 use Rattle.text_printing.proofs.Pages.{wrote-then}
 use Rattle.text_report.specs.Report.{reportLine}
 use borrow.Author.Needs.{needs}
 use Rattle.text_report.proofs.put_report_line.Statement.{statement}
 use Rattle.text_report.proofs.put_report_line.Tie as tie
-use Rattle.text_report.proofs.put_report_line.Reads as reads
-use Rattle.text_report.proofs.put_report_line.Lts as lts
-use Rattle.text_report.proofs.put_level_fields.Reads as put-level-fields-reads
-use Rattle.text_report.proofs.put_light_fields.Reads as put-light-fields-reads
-use Rattle.text_report.proofs.put_time_fields.Reads as put-time-fields-reads
-use Rattle.text_report.proofs.put_way_fields.Reads as put-way-fields-reads
 
 put-light-fields-requires : tie.Need-put-light-fields-requires
 put-light-fields-requires c κs = search needs
@@ -30,12 +25,4 @@ unfolding reportLine
 returns c = wrote-then (c .before .before .before .before .before .before .before .before .before .before .before .before .before .before .put-light-fields .ensures) (wrote-then (c .before .before .before .before .before .before .before .before .before .before .put-level-fields .ensures) (wrote-then (c .before .before .before .before .before .before .put-time-fields .ensures) (c .before .before .put-way-fields .ensures)))
 
 pub put-report-line-spec : {M : Type 1} → statement M
-put-report-line-spec =
-    tie.close
-    (tie.spec
-    put-light-fields-requires
-    put-level-fields-requires
-    put-time-fields-requires
-    put-way-fields-requires
-    same-length
-    returns)
+put-report-line-spec = tie.close (tie.spec put-light-fields-requires put-level-fields-requires put-time-fields-requires put-way-fields-requires same-length returns)

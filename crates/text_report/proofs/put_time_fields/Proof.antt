@@ -1,13 +1,9 @@
+-- Made by tools/draft.py from the answers.txt beside it: edit that file.
 use Rattle.text_printing.proofs.Pages.{wrote-then}
 use Rattle.text_report.specs.Report.{timeFields}
 use borrow.Author.Needs.{needs}
 use Rattle.text_report.proofs.put_time_fields.Statement.{statement}
 use Rattle.text_report.proofs.put_time_fields.Tie as tie
-use Rattle.text_report.proofs.put_time_fields.Reads as reads
-use Rattle.text_report.proofs.put_time_fields.Lts as lts
-use Rattle.text_report.proofs.put_lasting.Reads as put-lasting-reads
-use Rattle.text_report.proofs.put_operation.Reads as put-operation-reads
-use Rattle.text_printing.proofs.put_all.Reads as put-all-reads
 
 slice-aggregate-put-all : tie.Need-slice-aggregate-put-all
 slice-aggregate-put-all c = search needs
@@ -29,12 +25,4 @@ unfolding timeFields
 returns c = wrote-then (c .before .before .before .before .before .before .before .before .before .before .put-all .ensures) (wrote-then (c .before .before .before .before .before .before .put-lasting .ensures) (c .before .before .put-operation .ensures))
 
 pub put-time-fields-spec : {M : Type 1} → statement M
-put-time-fields-spec =
-    tie.close
-    (tie.spec
-    slice-aggregate-put-all
-    put-all-requires
-    put-lasting-requires
-    put-operation-requires
-    same-length
-    returns)
+put-time-fields-spec = tie.close (tie.spec slice-aggregate-put-all put-all-requires put-lasting-requires put-operation-requires same-length returns)

@@ -1,12 +1,10 @@
+-- Made by tools/draft.py from the answers.txt beside it: edit that file.
 use Rattle.text_report.proofs.Laws.{timerText-on}
 use Rattle.text_printing.proofs.Choices.{choices}
 use Rattle.text_report.specs.Report.{timerText}
 use borrow.Author.Needs.{needs}
 use Rattle.text_report.proofs.put_timer.Statement.{statement}
 use Rattle.text_report.proofs.put_timer.Tie as tie
-use Rattle.text_report.proofs.put_timer.Reads as reads
-use Rattle.text_report.proofs.put_timer.Lts as lts
-use Rattle.text_report.proofs.put_until.Reads as put-until-reads
 
 enum-told : tie.Need-enum-told
 enum-told c = search needs
@@ -32,13 +30,4 @@ unfolding timerText
 returns-2 c = search (needs, timerText-on, choices)
 
 pub put-timer-spec : {M : Type 1} → statement M
-put-timer-spec =
-    tie.close
-    (tie.spec
-    enum-told
-    enum-known-t
-    slice-aggregate-put-until
-    put-until-requires
-    returns
-    same-length
-    returns-2)
+put-timer-spec = tie.close (tie.spec enum-told enum-known-t slice-aggregate-put-until put-until-requires returns same-length returns-2)

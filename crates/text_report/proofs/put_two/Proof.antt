@@ -1,11 +1,9 @@
+-- Made by tools/draft.py from the answers.txt beside it: edit that file.
 use Rattle.text_printing.proofs.Pages.{wrote-then}
 use Rattle.text_report.specs.Report.{twoDigits}
 use borrow.Author.Needs.{needs}
 use Rattle.text_report.proofs.put_two.Statement.{statement}
 use Rattle.text_report.proofs.put_two.Tie as tie
-use Rattle.text_report.proofs.put_two.Reads as reads
-use Rattle.text_report.proofs.put_two.Lts as lts
-use Rattle.text_report.proofs.put_digit.Reads as put-digit-reads
 
 put-digit-requires : tie.Need-put-digit-requires
 put-digit-requires c κs = search needs

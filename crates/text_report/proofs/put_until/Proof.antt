@@ -1,12 +1,9 @@
+-- Made by tools/draft.py from the answers.txt beside it: edit that file.
 use Rattle.text_printing.proofs.Pages.{wrote-then}
 use Rattle.text_report.specs.Report.{until}
 use borrow.Author.Needs.{needs}
 use Rattle.text_report.proofs.put_until.Statement.{statement}
 use Rattle.text_report.proofs.put_until.Tie as tie
-use Rattle.text_report.proofs.put_until.Reads as reads
-use Rattle.text_report.proofs.put_until.Lts as lts
-use Rattle.text_report.proofs.put_moment.Reads as put-moment-reads
-use Rattle.text_printing.proofs.put_all.Reads as put-all-reads
 
 put-all-requires : tie.Need-put-all-requires
 put-all-requires c κs = search needs

@@ -1,10 +1,9 @@
+-- Made by tools/draft.py from the answers.txt beside it: edit that file.
 use native.Mathlib.Omega.{arith}
 use Rattle.property_write.proofs.Priorities.{priority-range}
 use borrow.Author.Needs.{needs}
 use Rattle.property_write.proofs.values.slot_of.Statement.{statement}
 use Rattle.property_write.proofs.values.slot_of.Tie as tie
-use Rattle.property_write.proofs.values.slot_of.Reads as reads
-use Rattle.property_write.proofs.values.slot_of.Lts as lts
 
 sub-result : tie.Need-sub-result
 sub-result c = let p = priority-range _ (c .pre) in omega arith

@@ -1,4 +1,4 @@
--- `tag_reading::fields::content` meets its contract.
+-- Made by tools/draft.py from the answers.txt beside it: edit that file.
 use borrow.Author.Needs.{needs}
 use Rattle.tag_reading.proofs.fields.content.Statement.{statement}
 use Rattle.tag_reading.proofs.fields.content.Tie as tie

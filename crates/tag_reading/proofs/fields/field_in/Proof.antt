@@ -1,4 +1,4 @@
--- `tag_reading::fields::field_in` meets its contract.
+-- Made by tools/draft.py from the answers.txt beside it: edit that file.
 use mathlib.Core.Path.{refl}
 use native.Mathlib.Omega.{arith}
 use Rattle.tag_reading.proofs.Looking.{between, found, cut-short, elsewhere}

@@ -1,4 +1,4 @@
--- `tag_reading::fields::fields_in` meets its contract.
+-- Made by tools/draft.py from the answers.txt beside it: edit that file.
 use Rattle.lighting_frames.specs.Paper.Tags.{fieldsFrom}
 use borrow.Author.Needs.{needs}
 use Rattle.tag_reading.proofs.fields.fields_in.Statement.{statement}

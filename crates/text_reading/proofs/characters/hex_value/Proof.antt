@@ -1,10 +1,9 @@
+-- Made by tools/draft.py from the answers.txt beside it: edit that file.
 use Rattle.lighting_levels.proofs.Choosing.{ifs}
 use Rattle.text_reading.specs.Reading.{hexValue}
 use borrow.Author.Needs.{needs}
 use Rattle.text_reading.proofs.characters.hex_value.Statement.{statement}
 use Rattle.text_reading.proofs.characters.hex_value.Tie as tie
-use Rattle.text_reading.proofs.characters.hex_value.Reads as reads
-use Rattle.text_reading.proofs.characters.hex_value.Lts as lts
 
 sub-result : tie.Need-sub-result
 sub-result c = search needs
@@ -41,15 +40,4 @@ unfolding hexValue
 returns-7 c = search (needs, ifs) depth 12
 
 pub hex-value-spec : {M : Type 1} → statement M
-hex-value-spec =
-    tie.close
-    (tie.spec
-    sub-result
-    sub-result-2
-    returns
-    returns-2
-    returns-3
-    returns-4
-    returns-5
-    returns-6
-    returns-7)
+hex-value-spec = tie.close (tie.spec sub-result sub-result-2 returns returns-2 returns-3 returns-4 returns-5 returns-6 returns-7)
