@@ -6,7 +6,7 @@ use lib.Count.{trailing-le}
 use lib.ListN.{getD}
 use borrow.Author.Needs.{needs}
 use borrow.Author.Tests.{not-true, not-false}
-use Rattle.lighting_outputs.specs.Paper.Rules.{slotsSoundFrom}
+use Rattle.lighting_outputs.specs.Paper.Rules.{slotsSound}
 use Rattle.output_rules.proofs.LiveSlots.{slotsWith, low-within, low-done, low-broken, none-live}
 use Rattle.output_rules.proofs.live_sound.Statement.{statement}
 use Rattle.output_rules.proofs.live_sound.Tie as tie
@@ -17,7 +17,7 @@ use Rattle.number_ranges.proofs.wide_index.Reads as wide-index-reads
 
 abbrev Inv-loop : tie.InvT-loop
 Inv-loop levels left₀ left =
-    (left < 65536) × (slotsSoundFrom (slotsWith left₀ levels) 0 ≡ slotsSoundFrom (slotsWith left levels) 0)
+    (left < 65536) × (slotsSound (slotsWith left₀ levels) ≡ slotsSound (slotsWith left levels))
 
 abbrev μ-loop : tie.MeasureT-loop
 μ-loop levels left₀ left = left
