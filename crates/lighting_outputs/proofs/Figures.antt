@@ -15,8 +15,8 @@ use Rattle.lighting_outputs.specs.Paper.Writing.{endMovementUnlessAbove,
 use Rattle.lighting_outputs.specs.Paper.Operations.{operationNumber, fieldsOf, durationField}
 use Rattle.lighting_outputs.specs.Paper.Commands.{withoutWarning, activityWithoutWarning, replaced, placed, movement, rampLength, target, fadedOver, fadedTo, rampedAt, rampedTo, jumped, wentTo, stepUpFrom, stepDownFrom, steppedUp, steppedDown, raised, halted, stopped, relinquished, effect, timed, commandedFrom, commanded}
 use Rattle.lighting_outputs.specs.Paper.Answers.{answerBytes, levelAnswered}
-use Rattle.lighting_outputs.specs.Paper.Rows.{within, isLevel, isAmount, isSlot, isPriority, meets, meetsReal}
-use Rattle.lighting_outputs.specs.Paper.Properties.{numbered, propertyOf, same, changeTo, changeBy, changeOf, settingsWith, relayWith, endMovement, activityWith, burningWith, changed, minOverMax, levelAnswer, slotAnswer, flag, elapsedActive, realAnswer, realFieldAnswer, timeFieldAnswer, lastDuration, readProperty}
+use Rattle.lighting_outputs.specs.Paper.Rows.{within, isLevel, isAmount, isSlot, isPriority, meets}
+use Rattle.lighting_outputs.specs.Paper.Properties.{numbered, propertyOf, same, changeTo, changeBy, changeOf, settingsWith, relayWith, endMovement, activityWith, burningWith, changed, minOverMax, levelAnswer, levelOrAbsent, slotAnswer, flag, elapsedActive, realAnswer, realFieldAnswer, timeFieldAnswer, lastDuration, readProperty}
 use Rattle.lighting_outputs.specs.Paper.Fresh.{freshSettings, freshRelay, freshWith, freshFor, freshOutput}
 use Rattle.lighting_outputs.specs.Paper.Requests.{levelFieldRefusal, amountFieldRefusal, timeFieldRefusal, firstRefusal, fieldsRefusal, commandLasting, commandWithDuration, commandRequestBy, commandOf, plainDuration, commandRequest, writeLevel, writeOf, emptyOf}
 use Rattle.lighting_outputs.specs.Paper.Acting.{done, unchanged, changedUnless, acted, served}
@@ -29,40 +29,40 @@ use Rattle.lighting_outputs.specs.Paper.WorkedOutside.{outsideGiven, out
 
 -- bench figures 1 to 8
 pub figures : given ≡ said
-unfolding bitAnd bitOr ofBits if_then_else_ allFrom every real bits levelOf realOf readOut realFromTo amountOf limitOf inRange unitsOr amountUnits levelUnits view slotsOf firstLive winner isLive maskEmptied maskFilled levelSet put levelAt winningLevel clampLit presentValue distanceMoved reachedBy reached progressBy progressValue lit inProcess binaryAt switched relayState inactiveNotBelow withBurning withEffect withCommand withSettings litMilliseconds withBurned timerDue phaseEnd activityDue isDue timerAt emptiedBy expired endMovementOf endMovementBy endMovementOnExpiry delayed nextPhase nextActivity activityAt phaseSlots nextSlots slotsAt afterEvents fire tick ticks lastShort momentAfter goneAt countBefore countSince litFromZero litFromLight litAt litByPace litMoving litInMovement litResting litStretch sooner due burnedBy withBurnedSaturating fireDue eventStep eventSteps advance later endMovementUnlessAbove stored zeroOrEmpty zeroOrEmptyFrom blinks zeroOrEmptyAbove warnsBy warns firstLevel firstPhase warningFrom warnedBy warned endedEmpty endedStored writtenWarned writtenZero writtenCalm writtenBy written activityRelinquished slotRelinquished operationNumber fieldsOf durationField withoutWarning activityWithoutWarning replaced placed movement rampLength target fadedOver fadedTo rampedAt rampedTo jumped wentTo stepUpFrom stepDownFrom steppedUp steppedDown raised halted stopped relinquished effect timed commandedFrom commanded answerBytes levelAnswered within isLevel isAmount isSlot isPriority meets meetsReal numbered propertyOf same changeTo changeBy changeOf settingsWith relayWith endMovement activityWith burningWith changed minOverMax levelAnswer slotAnswer flag elapsedActive realAnswer realFieldAnswer timeFieldAnswer lastDuration readProperty freshSettings freshRelay freshWith freshFor freshOutput
+unfolding bitAnd bitOr ofBits if_then_else_ allFrom every real bits levelOf realOf readOut realFromTo amountOf limitOf inRange unitsOr amountUnits levelUnits view slotsOf firstLive winner isLive maskEmptied maskFilled levelSet put levelAt winningLevel clampLit presentValue distanceMoved reachedBy reached progressBy progressValue lit inProcess binaryAt switched relayState inactiveNotBelow withBurning withEffect withCommand withSettings litMilliseconds withBurned timerDue phaseEnd activityDue isDue timerAt emptiedBy expired endMovementOf endMovementBy endMovementOnExpiry delayed nextPhase nextActivity activityAt phaseSlots nextSlots slotsAt afterEvents fire tick ticks lastShort momentAfter goneAt countBefore countSince litFromZero litFromLight litAt litByPace litMoving litInMovement litResting litStretch sooner due burnedBy withBurnedSaturating fireDue eventStep eventSteps advance later endMovementUnlessAbove stored zeroOrEmpty zeroOrEmptyFrom blinks zeroOrEmptyAbove warnsBy warns firstLevel firstPhase warningFrom warnedBy warned endedEmpty endedStored writtenWarned writtenZero writtenCalm writtenBy written activityRelinquished slotRelinquished operationNumber fieldsOf durationField withoutWarning activityWithoutWarning replaced placed movement rampLength target fadedOver fadedTo rampedAt rampedTo jumped wentTo stepUpFrom stepDownFrom steppedUp steppedDown raised halted stopped relinquished effect timed commandedFrom commanded answerBytes levelAnswered within isLevel isAmount isSlot isPriority meets numbered propertyOf same changeTo changeBy changeOf settingsWith relayWith endMovement activityWith burningWith changed minOverMax levelAnswer levelOrAbsent slotAnswer flag elapsedActive realAnswer realFieldAnswer timeFieldAnswer lastDuration readProperty freshSettings freshRelay freshWith freshFor freshOutput
 figures = refl
 
 -- the traps that one output shows
 pub traps : trapsGiven ≡ trapsSaid
-unfolding bitAnd bitOr ofBits if_then_else_ allFrom every real bits levelOf realOf readOut realFromTo amountOf limitOf inRange unitsOr amountUnits levelUnits view slotsOf firstLive winner isLive maskEmptied maskFilled levelSet put levelAt winningLevel clampLit presentValue distanceMoved reachedBy reached progressBy progressValue lit inProcess binaryAt switched relayState inactiveNotBelow withBurning withEffect withCommand withSettings litMilliseconds withBurned timerDue phaseEnd activityDue isDue timerAt emptiedBy expired endMovementOf endMovementBy endMovementOnExpiry delayed nextPhase nextActivity activityAt phaseSlots nextSlots slotsAt afterEvents fire tick ticks lastShort momentAfter goneAt countBefore countSince litFromZero litFromLight litAt litByPace litMoving litInMovement litResting litStretch sooner due burnedBy withBurnedSaturating fireDue eventStep eventSteps advance later endMovementUnlessAbove stored zeroOrEmpty zeroOrEmptyFrom blinks zeroOrEmptyAbove warnsBy warns firstLevel firstPhase warningFrom warnedBy warned endedEmpty endedStored writtenWarned writtenZero writtenCalm writtenBy written activityRelinquished slotRelinquished operationNumber fieldsOf durationField withoutWarning activityWithoutWarning replaced placed movement rampLength target fadedOver fadedTo rampedAt rampedTo jumped wentTo stepUpFrom stepDownFrom steppedUp steppedDown raised halted stopped relinquished effect timed commandedFrom commanded answerBytes levelAnswered within isLevel isAmount isSlot isPriority meets meetsReal numbered propertyOf same changeTo changeBy changeOf settingsWith relayWith endMovement activityWith burningWith changed minOverMax levelAnswer slotAnswer flag elapsedActive realAnswer realFieldAnswer timeFieldAnswer lastDuration readProperty freshSettings freshRelay freshWith freshFor freshOutput
+unfolding bitAnd bitOr ofBits if_then_else_ allFrom every real bits levelOf realOf readOut realFromTo amountOf limitOf inRange unitsOr amountUnits levelUnits view slotsOf firstLive winner isLive maskEmptied maskFilled levelSet put levelAt winningLevel clampLit presentValue distanceMoved reachedBy reached progressBy progressValue lit inProcess binaryAt switched relayState inactiveNotBelow withBurning withEffect withCommand withSettings litMilliseconds withBurned timerDue phaseEnd activityDue isDue timerAt emptiedBy expired endMovementOf endMovementBy endMovementOnExpiry delayed nextPhase nextActivity activityAt phaseSlots nextSlots slotsAt afterEvents fire tick ticks lastShort momentAfter goneAt countBefore countSince litFromZero litFromLight litAt litByPace litMoving litInMovement litResting litStretch sooner due burnedBy withBurnedSaturating fireDue eventStep eventSteps advance later endMovementUnlessAbove stored zeroOrEmpty zeroOrEmptyFrom blinks zeroOrEmptyAbove warnsBy warns firstLevel firstPhase warningFrom warnedBy warned endedEmpty endedStored writtenWarned writtenZero writtenCalm writtenBy written activityRelinquished slotRelinquished operationNumber fieldsOf durationField withoutWarning activityWithoutWarning replaced placed movement rampLength target fadedOver fadedTo rampedAt rampedTo jumped wentTo stepUpFrom stepDownFrom steppedUp steppedDown raised halted stopped relinquished effect timed commandedFrom commanded answerBytes levelAnswered within isLevel isAmount isSlot isPriority meets numbered propertyOf same changeTo changeBy changeOf settingsWith relayWith endMovement activityWith burningWith changed minOverMax levelAnswer levelOrAbsent slotAnswer flag elapsedActive realAnswer realFieldAnswer timeFieldAnswer lastDuration readProperty freshSettings freshRelay freshWith freshFor freshOutput
 traps = refl
 
 -- §2: what outputs have burned
 pub burning-by-light : burningGiven ≡ burningSaid
-unfolding bitAnd bitOr ofBits if_then_else_ allFrom every real bits levelOf realOf readOut realFromTo amountOf limitOf inRange unitsOr amountUnits levelUnits view slotsOf firstLive winner isLive maskEmptied maskFilled levelSet put levelAt winningLevel clampLit presentValue distanceMoved reachedBy reached progressBy progressValue lit inProcess binaryAt switched relayState inactiveNotBelow withBurning withEffect withCommand withSettings litMilliseconds withBurned timerDue phaseEnd activityDue isDue timerAt emptiedBy expired endMovementOf endMovementBy endMovementOnExpiry delayed nextPhase nextActivity activityAt phaseSlots nextSlots slotsAt afterEvents fire tick ticks lastShort momentAfter goneAt countBefore countSince litFromZero litFromLight litAt litByPace litMoving litInMovement litResting litStretch sooner due burnedBy withBurnedSaturating fireDue eventStep eventSteps advance later endMovementUnlessAbove stored zeroOrEmpty zeroOrEmptyFrom blinks zeroOrEmptyAbove warnsBy warns firstLevel firstPhase warningFrom warnedBy warned endedEmpty endedStored writtenWarned writtenZero writtenCalm writtenBy written activityRelinquished slotRelinquished operationNumber fieldsOf durationField withoutWarning activityWithoutWarning replaced placed movement rampLength target fadedOver fadedTo rampedAt rampedTo jumped wentTo stepUpFrom stepDownFrom steppedUp steppedDown raised halted stopped relinquished effect timed commandedFrom commanded answerBytes levelAnswered within isLevel isAmount isSlot isPriority meets meetsReal numbered propertyOf same changeTo changeBy changeOf settingsWith relayWith endMovement activityWith burningWith changed minOverMax levelAnswer slotAnswer flag elapsedActive realAnswer realFieldAnswer timeFieldAnswer lastDuration readProperty freshSettings freshRelay freshWith freshFor freshOutput
+unfolding bitAnd bitOr ofBits if_then_else_ allFrom every real bits levelOf realOf readOut realFromTo amountOf limitOf inRange unitsOr amountUnits levelUnits view slotsOf firstLive winner isLive maskEmptied maskFilled levelSet put levelAt winningLevel clampLit presentValue distanceMoved reachedBy reached progressBy progressValue lit inProcess binaryAt switched relayState inactiveNotBelow withBurning withEffect withCommand withSettings litMilliseconds withBurned timerDue phaseEnd activityDue isDue timerAt emptiedBy expired endMovementOf endMovementBy endMovementOnExpiry delayed nextPhase nextActivity activityAt phaseSlots nextSlots slotsAt afterEvents fire tick ticks lastShort momentAfter goneAt countBefore countSince litFromZero litFromLight litAt litByPace litMoving litInMovement litResting litStretch sooner due burnedBy withBurnedSaturating fireDue eventStep eventSteps advance later endMovementUnlessAbove stored zeroOrEmpty zeroOrEmptyFrom blinks zeroOrEmptyAbove warnsBy warns firstLevel firstPhase warningFrom warnedBy warned endedEmpty endedStored writtenWarned writtenZero writtenCalm writtenBy written activityRelinquished slotRelinquished operationNumber fieldsOf durationField withoutWarning activityWithoutWarning replaced placed movement rampLength target fadedOver fadedTo rampedAt rampedTo jumped wentTo stepUpFrom stepDownFrom steppedUp steppedDown raised halted stopped relinquished effect timed commandedFrom commanded answerBytes levelAnswered within isLevel isAmount isSlot isPriority meets numbered propertyOf same changeTo changeBy changeOf settingsWith relayWith endMovement activityWith burningWith changed minOverMax levelAnswer levelOrAbsent slotAnswer flag elapsedActive realAnswer realFieldAnswer timeFieldAnswer lastDuration readProperty freshSettings freshRelay freshWith freshFor freshOutput
 burning-by-light = refl
 
 -- §3: Binary_Present_Value
 pub relay-by-hand : relayGiven ≡ relaySaid
-unfolding bitAnd bitOr ofBits if_then_else_ allFrom every real bits levelOf realOf readOut realFromTo amountOf limitOf inRange unitsOr amountUnits levelUnits view slotsOf firstLive winner isLive maskEmptied maskFilled levelSet put levelAt winningLevel clampLit presentValue distanceMoved reachedBy reached progressBy progressValue lit inProcess binaryAt switched relayState inactiveNotBelow withBurning withEffect withCommand withSettings litMilliseconds withBurned timerDue phaseEnd activityDue isDue timerAt emptiedBy expired endMovementOf endMovementBy endMovementOnExpiry delayed nextPhase nextActivity activityAt phaseSlots nextSlots slotsAt afterEvents fire tick ticks lastShort momentAfter goneAt countBefore countSince litFromZero litFromLight litAt litByPace litMoving litInMovement litResting litStretch sooner due burnedBy withBurnedSaturating fireDue eventStep eventSteps advance later endMovementUnlessAbove stored zeroOrEmpty zeroOrEmptyFrom blinks zeroOrEmptyAbove warnsBy warns firstLevel firstPhase warningFrom warnedBy warned endedEmpty endedStored writtenWarned writtenZero writtenCalm writtenBy written activityRelinquished slotRelinquished operationNumber fieldsOf durationField withoutWarning activityWithoutWarning replaced placed movement rampLength target fadedOver fadedTo rampedAt rampedTo jumped wentTo stepUpFrom stepDownFrom steppedUp steppedDown raised halted stopped relinquished effect timed commandedFrom commanded answerBytes levelAnswered within isLevel isAmount isSlot isPriority meets meetsReal numbered propertyOf same changeTo changeBy changeOf settingsWith relayWith endMovement activityWith burningWith changed minOverMax levelAnswer slotAnswer flag elapsedActive realAnswer realFieldAnswer timeFieldAnswer lastDuration readProperty freshSettings freshRelay freshWith freshFor freshOutput levelFieldRefusal amountFieldRefusal timeFieldRefusal firstRefusal fieldsRefusal commandLasting commandWithDuration commandRequestBy commandOf plainDuration commandRequest writeLevel writeOf emptyOf done unchanged changedUnless acted served
+unfolding bitAnd bitOr ofBits if_then_else_ allFrom every real bits levelOf realOf readOut realFromTo amountOf limitOf inRange unitsOr amountUnits levelUnits view slotsOf firstLive winner isLive maskEmptied maskFilled levelSet put levelAt winningLevel clampLit presentValue distanceMoved reachedBy reached progressBy progressValue lit inProcess binaryAt switched relayState inactiveNotBelow withBurning withEffect withCommand withSettings litMilliseconds withBurned timerDue phaseEnd activityDue isDue timerAt emptiedBy expired endMovementOf endMovementBy endMovementOnExpiry delayed nextPhase nextActivity activityAt phaseSlots nextSlots slotsAt afterEvents fire tick ticks lastShort momentAfter goneAt countBefore countSince litFromZero litFromLight litAt litByPace litMoving litInMovement litResting litStretch sooner due burnedBy withBurnedSaturating fireDue eventStep eventSteps advance later endMovementUnlessAbove stored zeroOrEmpty zeroOrEmptyFrom blinks zeroOrEmptyAbove warnsBy warns firstLevel firstPhase warningFrom warnedBy warned endedEmpty endedStored writtenWarned writtenZero writtenCalm writtenBy written activityRelinquished slotRelinquished operationNumber fieldsOf durationField withoutWarning activityWithoutWarning replaced placed movement rampLength target fadedOver fadedTo rampedAt rampedTo jumped wentTo stepUpFrom stepDownFrom steppedUp steppedDown raised halted stopped relinquished effect timed commandedFrom commanded answerBytes levelAnswered within isLevel isAmount isSlot isPriority meets numbered propertyOf same changeTo changeBy changeOf settingsWith relayWith endMovement activityWith burningWith changed minOverMax levelAnswer levelOrAbsent slotAnswer flag elapsedActive realAnswer realFieldAnswer timeFieldAnswer lastDuration readProperty freshSettings freshRelay freshWith freshFor freshOutput levelFieldRefusal amountFieldRefusal timeFieldRefusal firstRefusal fieldsRefusal commandLasting commandWithDuration commandRequestBy commandOf plainDuration commandRequest writeLevel writeOf emptyOf done unchanged changedUnless acted served
 relay-by-hand = refl
 
 -- §4: movements under way at far jumps
 pub jumps-by-hand : jumpsGiven ≡ jumpsSaid
-unfolding bitAnd bitOr ofBits if_then_else_ allFrom every real bits levelOf realOf readOut realFromTo amountOf limitOf inRange unitsOr amountUnits levelUnits view slotsOf firstLive winner isLive maskEmptied maskFilled levelSet put levelAt winningLevel clampLit presentValue distanceMoved reachedBy reached progressBy progressValue lit inProcess binaryAt switched relayState inactiveNotBelow withBurning withEffect withCommand withSettings litMilliseconds withBurned timerDue phaseEnd activityDue isDue timerAt emptiedBy expired endMovementOf endMovementBy endMovementOnExpiry delayed nextPhase nextActivity activityAt phaseSlots nextSlots slotsAt afterEvents fire tick ticks lastShort momentAfter goneAt countBefore countSince litFromZero litFromLight litAt litByPace litMoving litInMovement litResting litStretch sooner due burnedBy withBurnedSaturating fireDue eventStep eventSteps advance later endMovementUnlessAbove stored zeroOrEmpty zeroOrEmptyFrom blinks zeroOrEmptyAbove warnsBy warns firstLevel firstPhase warningFrom warnedBy warned endedEmpty endedStored writtenWarned writtenZero writtenCalm writtenBy written activityRelinquished slotRelinquished operationNumber fieldsOf durationField withoutWarning activityWithoutWarning replaced placed movement rampLength target fadedOver fadedTo rampedAt rampedTo jumped wentTo stepUpFrom stepDownFrom steppedUp steppedDown raised halted stopped relinquished effect timed commandedFrom commanded answerBytes levelAnswered within isLevel isAmount isSlot isPriority meets meetsReal numbered propertyOf same changeTo changeBy changeOf settingsWith relayWith endMovement activityWith burningWith changed minOverMax levelAnswer slotAnswer flag elapsedActive realAnswer realFieldAnswer timeFieldAnswer lastDuration readProperty freshSettings freshRelay freshWith freshFor freshOutput
+unfolding bitAnd bitOr ofBits if_then_else_ allFrom every real bits levelOf realOf readOut realFromTo amountOf limitOf inRange unitsOr amountUnits levelUnits view slotsOf firstLive winner isLive maskEmptied maskFilled levelSet put levelAt winningLevel clampLit presentValue distanceMoved reachedBy reached progressBy progressValue lit inProcess binaryAt switched relayState inactiveNotBelow withBurning withEffect withCommand withSettings litMilliseconds withBurned timerDue phaseEnd activityDue isDue timerAt emptiedBy expired endMovementOf endMovementBy endMovementOnExpiry delayed nextPhase nextActivity activityAt phaseSlots nextSlots slotsAt afterEvents fire tick ticks lastShort momentAfter goneAt countBefore countSince litFromZero litFromLight litAt litByPace litMoving litInMovement litResting litStretch sooner due burnedBy withBurnedSaturating fireDue eventStep eventSteps advance later endMovementUnlessAbove stored zeroOrEmpty zeroOrEmptyFrom blinks zeroOrEmptyAbove warnsBy warns firstLevel firstPhase warningFrom warnedBy warned endedEmpty endedStored writtenWarned writtenZero writtenCalm writtenBy written activityRelinquished slotRelinquished operationNumber fieldsOf durationField withoutWarning activityWithoutWarning replaced placed movement rampLength target fadedOver fadedTo rampedAt rampedTo jumped wentTo stepUpFrom stepDownFrom steppedUp steppedDown raised halted stopped relinquished effect timed commandedFrom commanded answerBytes levelAnswered within isLevel isAmount isSlot isPriority meets numbered propertyOf same changeTo changeBy changeOf settingsWith relayWith endMovement activityWith burningWith changed minOverMax levelAnswer levelOrAbsent slotAnswer flag elapsedActive realAnswer realFieldAnswer timeFieldAnswer lastDuration readProperty freshSettings freshRelay freshWith freshFor freshOutput
 jumps-by-hand = refl
 
 -- every property of a fresh output
 pub fresh-by-number : freshGiven ≡ freshSaid
-unfolding toBits round bitAnd bitOr ofBits if_then_else_ allFrom every real bits levelOf realOf readOut realFromTo amountOf limitOf inRange unitsOr amountUnits levelUnits view slotsOf firstLive winner isLive maskEmptied maskFilled levelSet put levelAt winningLevel clampLit presentValue distanceMoved reachedBy reached progressBy progressValue lit inProcess binaryAt switched relayState inactiveNotBelow withBurning withEffect withCommand withSettings litMilliseconds withBurned timerDue phaseEnd activityDue isDue timerAt emptiedBy expired endMovementOf endMovementBy endMovementOnExpiry delayed nextPhase nextActivity activityAt phaseSlots nextSlots slotsAt afterEvents fire tick ticks lastShort momentAfter goneAt countBefore countSince litFromZero litFromLight litAt litByPace litMoving litInMovement litResting litStretch sooner due burnedBy withBurnedSaturating fireDue eventStep eventSteps advance later endMovementUnlessAbove stored zeroOrEmpty zeroOrEmptyFrom blinks zeroOrEmptyAbove warnsBy warns firstLevel firstPhase warningFrom warnedBy warned endedEmpty endedStored writtenWarned writtenZero writtenCalm writtenBy written activityRelinquished slotRelinquished operationNumber fieldsOf durationField withoutWarning activityWithoutWarning replaced placed movement rampLength target fadedOver fadedTo rampedAt rampedTo jumped wentTo stepUpFrom stepDownFrom steppedUp steppedDown raised halted stopped relinquished effect timed commandedFrom commanded answerBytes levelAnswered within isLevel isAmount isSlot isPriority meets meetsReal numbered propertyOf same changeTo changeBy changeOf settingsWith relayWith endMovement activityWith burningWith changed minOverMax levelAnswer slotAnswer flag elapsedActive realAnswer realFieldAnswer timeFieldAnswer lastDuration readProperty freshSettings freshRelay freshWith freshFor freshOutput levelFieldRefusal amountFieldRefusal timeFieldRefusal firstRefusal fieldsRefusal commandLasting commandWithDuration commandRequestBy commandOf plainDuration commandRequest writeLevel writeOf emptyOf done unchanged changedUnless acted served
+unfolding toBits round bitAnd bitOr ofBits if_then_else_ allFrom every real bits levelOf realOf readOut realFromTo amountOf limitOf inRange unitsOr amountUnits levelUnits view slotsOf firstLive winner isLive maskEmptied maskFilled levelSet put levelAt winningLevel clampLit presentValue distanceMoved reachedBy reached progressBy progressValue lit inProcess binaryAt switched relayState inactiveNotBelow withBurning withEffect withCommand withSettings litMilliseconds withBurned timerDue phaseEnd activityDue isDue timerAt emptiedBy expired endMovementOf endMovementBy endMovementOnExpiry delayed nextPhase nextActivity activityAt phaseSlots nextSlots slotsAt afterEvents fire tick ticks lastShort momentAfter goneAt countBefore countSince litFromZero litFromLight litAt litByPace litMoving litInMovement litResting litStretch sooner due burnedBy withBurnedSaturating fireDue eventStep eventSteps advance later endMovementUnlessAbove stored zeroOrEmpty zeroOrEmptyFrom blinks zeroOrEmptyAbove warnsBy warns firstLevel firstPhase warningFrom warnedBy warned endedEmpty endedStored writtenWarned writtenZero writtenCalm writtenBy written activityRelinquished slotRelinquished operationNumber fieldsOf durationField withoutWarning activityWithoutWarning replaced placed movement rampLength target fadedOver fadedTo rampedAt rampedTo jumped wentTo stepUpFrom stepDownFrom steppedUp steppedDown raised halted stopped relinquished effect timed commandedFrom commanded answerBytes levelAnswered within isLevel isAmount isSlot isPriority meets numbered propertyOf same changeTo changeBy changeOf settingsWith relayWith endMovement activityWith burningWith changed minOverMax levelAnswer levelOrAbsent slotAnswer flag elapsedActive realAnswer realFieldAnswer timeFieldAnswer lastDuration readProperty freshSettings freshRelay freshWith freshFor freshOutput levelFieldRefusal amountFieldRefusal timeFieldRefusal firstRefusal fieldsRefusal commandLasting commandWithDuration commandRequestBy commandOf plainDuration commandRequest writeLevel writeOf emptyOf done unchanged changedUnless acted served
 fresh-by-number = refl
 
 -- REALs outside their ranges
 pub outside-by-number : outsideGiven ≡ outsideSaid
-unfolding bitAnd bitOr ofBits if_then_else_ allFrom every real bits levelOf realOf readOut realFromTo amountOf limitOf inRange unitsOr amountUnits levelUnits view slotsOf firstLive winner isLive maskEmptied maskFilled levelSet put levelAt winningLevel clampLit presentValue distanceMoved reachedBy reached progressBy progressValue lit inProcess binaryAt switched relayState inactiveNotBelow withBurning withEffect withCommand withSettings litMilliseconds withBurned timerDue phaseEnd activityDue isDue timerAt emptiedBy expired endMovementOf endMovementBy endMovementOnExpiry delayed nextPhase nextActivity activityAt phaseSlots nextSlots slotsAt afterEvents fire tick ticks lastShort momentAfter goneAt countBefore countSince litFromZero litFromLight litAt litByPace litMoving litInMovement litResting litStretch sooner due burnedBy withBurnedSaturating fireDue eventStep eventSteps advance later endMovementUnlessAbove stored zeroOrEmpty zeroOrEmptyFrom blinks zeroOrEmptyAbove warnsBy warns firstLevel firstPhase warningFrom warnedBy warned endedEmpty endedStored writtenWarned writtenZero writtenCalm writtenBy written activityRelinquished slotRelinquished operationNumber fieldsOf durationField withoutWarning activityWithoutWarning replaced placed movement rampLength target fadedOver fadedTo rampedAt rampedTo jumped wentTo stepUpFrom stepDownFrom steppedUp steppedDown raised halted stopped relinquished effect timed commandedFrom commanded answerBytes levelAnswered within isLevel isAmount isSlot isPriority meets meetsReal numbered propertyOf same changeTo changeBy changeOf settingsWith relayWith endMovement activityWith burningWith changed minOverMax levelAnswer slotAnswer flag elapsedActive realAnswer realFieldAnswer timeFieldAnswer lastDuration readProperty freshSettings freshRelay freshWith freshFor freshOutput levelFieldRefusal amountFieldRefusal timeFieldRefusal firstRefusal fieldsRefusal commandLasting commandWithDuration commandRequestBy commandOf plainDuration commandRequest writeLevel writeOf emptyOf done unchanged changedUnless acted served
+unfolding bitAnd bitOr ofBits if_then_else_ allFrom every real bits levelOf realOf readOut realFromTo amountOf limitOf inRange unitsOr amountUnits levelUnits view slotsOf firstLive winner isLive maskEmptied maskFilled levelSet put levelAt winningLevel clampLit presentValue distanceMoved reachedBy reached progressBy progressValue lit inProcess binaryAt switched relayState inactiveNotBelow withBurning withEffect withCommand withSettings litMilliseconds withBurned timerDue phaseEnd activityDue isDue timerAt emptiedBy expired endMovementOf endMovementBy endMovementOnExpiry delayed nextPhase nextActivity activityAt phaseSlots nextSlots slotsAt afterEvents fire tick ticks lastShort momentAfter goneAt countBefore countSince litFromZero litFromLight litAt litByPace litMoving litInMovement litResting litStretch sooner due burnedBy withBurnedSaturating fireDue eventStep eventSteps advance later endMovementUnlessAbove stored zeroOrEmpty zeroOrEmptyFrom blinks zeroOrEmptyAbove warnsBy warns firstLevel firstPhase warningFrom warnedBy warned endedEmpty endedStored writtenWarned writtenZero writtenCalm writtenBy written activityRelinquished slotRelinquished operationNumber fieldsOf durationField withoutWarning activityWithoutWarning replaced placed movement rampLength target fadedOver fadedTo rampedAt rampedTo jumped wentTo stepUpFrom stepDownFrom steppedUp steppedDown raised halted stopped relinquished effect timed commandedFrom commanded answerBytes levelAnswered within isLevel isAmount isSlot isPriority meets numbered propertyOf same changeTo changeBy changeOf settingsWith relayWith endMovement activityWith burningWith changed minOverMax levelAnswer levelOrAbsent slotAnswer flag elapsedActive realAnswer realFieldAnswer timeFieldAnswer lastDuration readProperty freshSettings freshRelay freshWith freshFor freshOutput levelFieldRefusal amountFieldRefusal timeFieldRefusal firstRefusal fieldsRefusal commandLasting commandWithDuration commandRequestBy commandOf plainDuration commandRequest writeLevel writeOf emptyOf done unchanged changedUnless acted served
 outside-by-number = refl
 
 -- REALs at the ends of their ranges
 pub ends-by-number : endsGiven ≡ endsSaid
-unfolding bitAnd bitOr ofBits if_then_else_ allFrom every real bits levelOf realOf readOut realFromTo amountOf limitOf inRange unitsOr amountUnits levelUnits view slotsOf firstLive winner isLive maskEmptied maskFilled levelSet put levelAt winningLevel clampLit presentValue distanceMoved reachedBy reached progressBy progressValue lit inProcess binaryAt switched relayState inactiveNotBelow withBurning withEffect withCommand withSettings litMilliseconds withBurned timerDue phaseEnd activityDue isDue timerAt emptiedBy expired endMovementOf endMovementBy endMovementOnExpiry delayed nextPhase nextActivity activityAt phaseSlots nextSlots slotsAt afterEvents fire tick ticks lastShort momentAfter goneAt countBefore countSince litFromZero litFromLight litAt litByPace litMoving litInMovement litResting litStretch sooner due burnedBy withBurnedSaturating fireDue eventStep eventSteps advance later endMovementUnlessAbove stored zeroOrEmpty zeroOrEmptyFrom blinks zeroOrEmptyAbove warnsBy warns firstLevel firstPhase warningFrom warnedBy warned endedEmpty endedStored writtenWarned writtenZero writtenCalm writtenBy written activityRelinquished slotRelinquished operationNumber fieldsOf durationField withoutWarning activityWithoutWarning replaced placed movement rampLength target fadedOver fadedTo rampedAt rampedTo jumped wentTo stepUpFrom stepDownFrom steppedUp steppedDown raised halted stopped relinquished effect timed commandedFrom commanded answerBytes levelAnswered within isLevel isAmount isSlot isPriority meets meetsReal numbered propertyOf same changeTo changeBy changeOf settingsWith relayWith endMovement activityWith burningWith changed minOverMax levelAnswer slotAnswer flag elapsedActive realAnswer realFieldAnswer timeFieldAnswer lastDuration readProperty freshSettings freshRelay freshWith freshFor freshOutput levelFieldRefusal amountFieldRefusal timeFieldRefusal firstRefusal fieldsRefusal commandLasting commandWithDuration commandRequestBy commandOf plainDuration commandRequest writeLevel writeOf emptyOf done unchanged changedUnless acted served
+unfolding bitAnd bitOr ofBits if_then_else_ allFrom every real bits levelOf realOf readOut realFromTo amountOf limitOf inRange unitsOr amountUnits levelUnits view slotsOf firstLive winner isLive maskEmptied maskFilled levelSet put levelAt winningLevel clampLit presentValue distanceMoved reachedBy reached progressBy progressValue lit inProcess binaryAt switched relayState inactiveNotBelow withBurning withEffect withCommand withSettings litMilliseconds withBurned timerDue phaseEnd activityDue isDue timerAt emptiedBy expired endMovementOf endMovementBy endMovementOnExpiry delayed nextPhase nextActivity activityAt phaseSlots nextSlots slotsAt afterEvents fire tick ticks lastShort momentAfter goneAt countBefore countSince litFromZero litFromLight litAt litByPace litMoving litInMovement litResting litStretch sooner due burnedBy withBurnedSaturating fireDue eventStep eventSteps advance later endMovementUnlessAbove stored zeroOrEmpty zeroOrEmptyFrom blinks zeroOrEmptyAbove warnsBy warns firstLevel firstPhase warningFrom warnedBy warned endedEmpty endedStored writtenWarned writtenZero writtenCalm writtenBy written activityRelinquished slotRelinquished operationNumber fieldsOf durationField withoutWarning activityWithoutWarning replaced placed movement rampLength target fadedOver fadedTo rampedAt rampedTo jumped wentTo stepUpFrom stepDownFrom steppedUp steppedDown raised halted stopped relinquished effect timed commandedFrom commanded answerBytes levelAnswered within isLevel isAmount isSlot isPriority meets numbered propertyOf same changeTo changeBy changeOf settingsWith relayWith endMovement activityWith burningWith changed minOverMax levelAnswer levelOrAbsent slotAnswer flag elapsedActive realAnswer realFieldAnswer timeFieldAnswer lastDuration readProperty freshSettings freshRelay freshWith freshFor freshOutput levelFieldRefusal amountFieldRefusal timeFieldRefusal firstRefusal fieldsRefusal commandLasting commandWithDuration commandRequestBy commandOf plainDuration commandRequest writeLevel writeOf emptyOf done unchanged changedUnless acted served
 ends-by-number = refl

@@ -12,7 +12,7 @@ use Rattle.lighting_outputs.specs.Paper.Parameters.{Parameters}
 use Rattle.lighting_outputs.specs.Paper.Passing.{timerDue, phaseEnd, activityDue, isDue, emptiedBy, endMovementOf, endMovementBy, nextPhase, nextActivity, phaseSlots, nextSlots}
 use Rattle.lighting_outputs.specs.Paper.Properties.{numberOf, changeTo, changeBy, endMovement, realFieldAnswer, timeFieldAnswer, lastDuration, readProperty}
 use Rattle.lighting_outputs.specs.Paper.Requests.{levelFieldRefusal, amountFieldRefusal, timeFieldRefusal, commandWithDuration, writeLevel}
-use Rattle.lighting_outputs.specs.Paper.Rows.{rowOf, meets, meetsReal}
+use Rattle.lighting_outputs.specs.Paper.Rows.{rowOf, meets}
 use Rattle.lighting_outputs.specs.Paper.Rules.{activityBy, timerSound}
 use Rattle.lighting_outputs.specs.Paper.Slots.{Slots}
 use Rattle.lighting_outputs.specs.Paper.Value.{distanceMoved, progressBy, inProcess}
@@ -38,7 +38,6 @@ use Rattle.lighting_outputs.specs.declared.Settings.{Settings}
 use Rattle.lighting_outputs.specs.declared.TimeField.{TimeField}
 use Rattle.lighting_outputs.specs.declared.Timer.{Timer}
 use Rattle.lighting_outputs.specs.declared.Warning.{Warning}
-use lib.Ieee.{Float}
 use mathlib.Core.Bool.{Bool}
 use mathlib.Core.List.{List}
 
@@ -170,9 +169,6 @@ rowOf-on x0 x1 k r e p = rw e p
 
 pub meets-on : (x0 : Range) (x1 : ℕ) (k : Range) (r : Bool) → x0 ≡ k → r ≡ meets k x1 → r ≡ meets x0 x1
 meets-on x0 x1 k r e p = rw e p
-
-pub meetsReal-on : (x0 : Range) (x1 : Float) (k : Range) (r : Bool) → x0 ≡ k → r ≡ meetsReal k x1 → r ≡ meetsReal x0 x1
-meetsReal-on x0 x1 k r e p = rw e p
 
 pub activityBy-on : (x0 : Parameters) (x1 : ℕ) (x2 : Bool) (x3 : ℕ) (x4 : ℕ) (x5 : ℕ) (x6 : Activity) (k : Activity) (r : Bool) → x6 ≡ k → r ≡ activityBy x0 x1 x2 x3 x4 x5 k → r ≡ activityBy x0 x1 x2 x3 x4 x5 x6
 activityBy-on x0 x1 x2 x3 x4 x5 x6 k r e p = rw e p

@@ -17,8 +17,8 @@ use Rattle.lighting_outputs.specs.Paper.Writing.{endMovementUnlessAbove, stored
 use Rattle.lighting_outputs.specs.Paper.Operations.{operationNumber, fieldsOf, durationField}
 use Rattle.lighting_outputs.specs.Paper.Commands.{withoutWarning, activityWithoutWarning, replaced, placed, movement, rampLength, target, fadedOver, fadedTo, rampedAt, rampedTo, jumped, wentTo, stepUpFrom, stepDownFrom, steppedUp, steppedDown, raised, halted, stopped, relinquished, effect, timed, commandedFrom, commanded}
 use Rattle.lighting_outputs.specs.Paper.Answers.{answerBytes, levelAnswered}
-use Rattle.lighting_outputs.specs.Paper.Rows.{within, isLevel, isAmount, isSlot, isPriority, meets, meetsReal}
-use Rattle.lighting_outputs.specs.Paper.Properties.{numbered, propertyOf, same, changeTo, changeBy, changeOf, settingsWith, relayWith, endMovement, activityWith, burningWith, changed, minOverMax, levelAnswer, slotAnswer, flag, elapsedActive, realAnswer, realFieldAnswer, timeFieldAnswer, lastDuration, readProperty}
+use Rattle.lighting_outputs.specs.Paper.Rows.{within, isLevel, isAmount, isSlot, isPriority, meets}
+use Rattle.lighting_outputs.specs.Paper.Properties.{numbered, propertyOf, same, changeTo, changeBy, changeOf, settingsWith, relayWith, endMovement, activityWith, burningWith, changed, minOverMax, levelAnswer, levelOrAbsent, slotAnswer, flag, elapsedActive, realAnswer, realFieldAnswer, timeFieldAnswer, lastDuration, readProperty}
 use Rattle.lighting_outputs.specs.Paper.Fresh.{freshSettings, freshRelay, freshWith, freshFor, freshOutput}
 use Rattle.lighting_outputs.specs.Paper.Requests.{levelFieldRefusal, amountFieldRefusal, timeFieldRefusal, firstRefusal, fieldsRefusal, commandLasting, commandWithDuration, commandRequestBy, commandOf, plainDuration, commandRequest, writeLevel, writeOf, emptyOf}
 use Rattle.lighting_outputs.specs.Paper.Acting.{done, unchanged, changedUnless, acted, served}
@@ -26,7 +26,7 @@ use Rattle.lighting_levels.specs.Paper.Field.{byteAt, bigEndian, octets}
 use Rattle.lighting_frames.specs.Paper.Kinds.{kindRow, kindLength, callsBy, isCall}
 use Rattle.lighting_frames.specs.Paper.Tags.{fewestOctets, fieldSize, sizes, fieldBytes, bytesFrom, tagBytes, realTag, wholeTag, tagsOf, commandTags, zeroFilled, taggedBody, bodyBytes, fieldIn, fieldsFrom, bodyFields, zeroBeyond, holdsAtMost, wellTagged, heldBy, operationOf, timeOf, bothOrNeither, fewest, ownTags, readFields, readBody}
 use Rattle.lighting_frames.specs.Paper.Frames.{taggedRequest, requestOf, callOf, called, clockOf, parseBy, parse}
-use Rattle.lighting_outputs.specs.Paper.Rules.{levelsSound, timesSound, realsSound, settingsSound, slotSound, slotsSoundFrom, spanSound, movementSound, warningBy, warningSound, activityBy, activitySound, timerSound, agrees, relaySound, sound}
+use Rattle.lighting_outputs.specs.Paper.Rules.{levelsSound, timesSound, realsSound, settingsSound, slotSound, slotsSound, spanSound, movementSound, warningBy, warningSound, activityBy, activitySound, timerSound, agrees, relaySound, sound}
 use Rattle.lighting_frames.specs.Paper.Stations.{freshStation, stationSound}
 use Rattle.lighting_frames.specs.Paper.Copies.{sameBytes, retransmissionOrConflict}
 use Rattle.lighting_panel.specs.Paper.Panel.{countsSound, panelSound, freshPanel, startStep}
@@ -41,30 +41,30 @@ use Rattle.lighting_panel.specs.Paper.WorkedRules.{rulesGiven, rulesSaid
 
 -- bench figures 9 and 10, and the traps of a list
 pub worked : answers document01 (freshPanel document01 2 8) frames ≡ expected
-unfolding answers toBits round bitAnd bitOr ofBits if_then_else_ allFrom every real bits levelOf realOf readOut realFromTo amountOf limitOf inRange unitsOr amountUnits levelUnits view slotsOf firstLive winner isLive maskEmptied maskFilled levelSet put levelAt winningLevel clampLit presentValue distanceMoved reachedBy reached progressBy progressValue lit inProcess binaryAt switched relayState inactiveNotBelow withBurning withEffect withCommand withSettings litMilliseconds withBurned timerDue phaseEnd activityDue isDue timerAt emptiedBy expired endMovementOf endMovementBy endMovementOnExpiry delayed nextPhase nextActivity activityAt phaseSlots nextSlots slotsAt afterEvents fire tick ticks lastShort momentAfter goneAt countBefore countSince litFromZero litFromLight litAt litByPace litMoving litInMovement litResting litStretch sooner due burnedBy withBurnedSaturating fireDue eventStep eventSteps advance later endMovementUnlessAbove stored zeroOrEmpty zeroOrEmptyFrom blinks zeroOrEmptyAbove warnsBy warns firstLevel firstPhase warningFrom warnedBy warned endedEmpty endedStored writtenWarned writtenZero writtenCalm writtenBy written activityRelinquished slotRelinquished operationNumber fieldsOf durationField withoutWarning activityWithoutWarning replaced placed movement rampLength target fadedOver fadedTo rampedAt rampedTo jumped wentTo stepUpFrom stepDownFrom steppedUp steppedDown raised halted stopped relinquished effect timed commandedFrom commanded answerBytes levelAnswered within isLevel isAmount isSlot isPriority meets meetsReal numbered propertyOf same changeTo changeBy changeOf settingsWith relayWith endMovement activityWith burningWith changed minOverMax levelAnswer slotAnswer flag elapsedActive realAnswer realFieldAnswer timeFieldAnswer lastDuration readProperty freshSettings freshRelay freshWith freshFor freshOutput levelFieldRefusal amountFieldRefusal timeFieldRefusal firstRefusal fieldsRefusal commandLasting commandWithDuration commandRequestBy commandOf plainDuration commandRequest writeLevel writeOf emptyOf done unchanged changedUnless acted served byteAt bigEndian octets kindRow kindLength callsBy isCall fewestOctets fieldSize sizes fieldBytes bytesFrom tagBytes realTag wholeTag tagsOf commandTags zeroFilled taggedBody bodyBytes fieldIn fieldsFrom bodyFields zeroBeyond holdsAtMost wellTagged heldBy operationOf timeOf bothOrNeither fewest ownTags readFields readBody taggedRequest requestOf callOf called clockOf parseBy parse levelsSound timesSound realsSound settingsSound slotSound slotsSoundFrom spanSound movementSound warningBy warningSound activityBy activitySound timerSound agrees relaySound sound freshStation stationSound sameBytes retransmissionOrConflict countsSound panelSound freshPanel startStep padded restored judgedByNumber judgedByRecord stationOf judgedByStation decide execute frameStep
+unfolding answers toBits round bitAnd bitOr ofBits if_then_else_ allFrom every real bits levelOf realOf readOut realFromTo amountOf limitOf inRange unitsOr amountUnits levelUnits view slotsOf firstLive winner isLive maskEmptied maskFilled levelSet put levelAt winningLevel clampLit presentValue distanceMoved reachedBy reached progressBy progressValue lit inProcess binaryAt switched relayState inactiveNotBelow withBurning withEffect withCommand withSettings litMilliseconds withBurned timerDue phaseEnd activityDue isDue timerAt emptiedBy expired endMovementOf endMovementBy endMovementOnExpiry delayed nextPhase nextActivity activityAt phaseSlots nextSlots slotsAt afterEvents fire tick ticks lastShort momentAfter goneAt countBefore countSince litFromZero litFromLight litAt litByPace litMoving litInMovement litResting litStretch sooner due burnedBy withBurnedSaturating fireDue eventStep eventSteps advance later endMovementUnlessAbove stored zeroOrEmpty zeroOrEmptyFrom blinks zeroOrEmptyAbove warnsBy warns firstLevel firstPhase warningFrom warnedBy warned endedEmpty endedStored writtenWarned writtenZero writtenCalm writtenBy written activityRelinquished slotRelinquished operationNumber fieldsOf durationField withoutWarning activityWithoutWarning replaced placed movement rampLength target fadedOver fadedTo rampedAt rampedTo jumped wentTo stepUpFrom stepDownFrom steppedUp steppedDown raised halted stopped relinquished effect timed commandedFrom commanded answerBytes levelAnswered within isLevel isAmount isSlot isPriority meets numbered propertyOf same changeTo changeBy changeOf settingsWith relayWith endMovement activityWith burningWith changed minOverMax levelAnswer levelOrAbsent slotAnswer flag elapsedActive realAnswer realFieldAnswer timeFieldAnswer lastDuration readProperty freshSettings freshRelay freshWith freshFor freshOutput levelFieldRefusal amountFieldRefusal timeFieldRefusal firstRefusal fieldsRefusal commandLasting commandWithDuration commandRequestBy commandOf plainDuration commandRequest writeLevel writeOf emptyOf done unchanged changedUnless acted served byteAt bigEndian octets kindRow kindLength callsBy isCall fewestOctets fieldSize sizes fieldBytes bytesFrom tagBytes realTag wholeTag tagsOf commandTags zeroFilled taggedBody bodyBytes fieldIn fieldsFrom bodyFields zeroBeyond holdsAtMost wellTagged heldBy operationOf timeOf bothOrNeither fewest ownTags readFields readBody taggedRequest requestOf callOf called clockOf parseBy parse levelsSound timesSound realsSound settingsSound slotSound slotsSound spanSound movementSound warningBy warningSound activityBy activitySound timerSound agrees relaySound sound freshStation stationSound sameBytes retransmissionOrConflict countsSound panelSound freshPanel startStep padded restored judgedByNumber judgedByRecord stationOf judgedByStation decide execute frameStep
 worked = refl
 
 -- §1 in a list
 pub worked-in-tags : answers document01 (freshPanel document01 2 8) framesInTags ≡ answersInTags
-unfolding answers toBits round bitAnd bitOr ofBits if_then_else_ allFrom every real bits levelOf realOf readOut realFromTo amountOf limitOf inRange unitsOr amountUnits levelUnits view slotsOf firstLive winner isLive maskEmptied maskFilled levelSet put levelAt winningLevel clampLit presentValue distanceMoved reachedBy reached progressBy progressValue lit inProcess binaryAt switched relayState inactiveNotBelow withBurning withEffect withCommand withSettings litMilliseconds withBurned timerDue phaseEnd activityDue isDue timerAt emptiedBy expired endMovementOf endMovementBy endMovementOnExpiry delayed nextPhase nextActivity activityAt phaseSlots nextSlots slotsAt afterEvents fire tick ticks lastShort momentAfter goneAt countBefore countSince litFromZero litFromLight litAt litByPace litMoving litInMovement litResting litStretch sooner due burnedBy withBurnedSaturating fireDue eventStep eventSteps advance later endMovementUnlessAbove stored zeroOrEmpty zeroOrEmptyFrom blinks zeroOrEmptyAbove warnsBy warns firstLevel firstPhase warningFrom warnedBy warned endedEmpty endedStored writtenWarned writtenZero writtenCalm writtenBy written activityRelinquished slotRelinquished operationNumber fieldsOf durationField withoutWarning activityWithoutWarning replaced placed movement rampLength target fadedOver fadedTo rampedAt rampedTo jumped wentTo stepUpFrom stepDownFrom steppedUp steppedDown raised halted stopped relinquished effect timed commandedFrom commanded answerBytes levelAnswered within isLevel isAmount isSlot isPriority meets meetsReal numbered propertyOf same changeTo changeBy changeOf settingsWith relayWith endMovement activityWith burningWith changed minOverMax levelAnswer slotAnswer flag elapsedActive realAnswer realFieldAnswer timeFieldAnswer lastDuration readProperty freshSettings freshRelay freshWith freshFor freshOutput levelFieldRefusal amountFieldRefusal timeFieldRefusal firstRefusal fieldsRefusal commandLasting commandWithDuration commandRequestBy commandOf plainDuration commandRequest writeLevel writeOf emptyOf done unchanged changedUnless acted served byteAt bigEndian octets kindRow kindLength callsBy isCall fewestOctets fieldSize sizes fieldBytes bytesFrom tagBytes realTag wholeTag tagsOf commandTags zeroFilled taggedBody bodyBytes fieldIn fieldsFrom bodyFields zeroBeyond holdsAtMost wellTagged heldBy operationOf timeOf bothOrNeither fewest ownTags readFields readBody taggedRequest requestOf callOf called clockOf parseBy parse levelsSound timesSound realsSound settingsSound slotSound slotsSoundFrom spanSound movementSound warningBy warningSound activityBy activitySound timerSound agrees relaySound sound freshStation stationSound sameBytes retransmissionOrConflict countsSound panelSound freshPanel startStep padded restored judgedByNumber judgedByRecord stationOf judgedByStation decide execute frameStep
+unfolding answers toBits round bitAnd bitOr ofBits if_then_else_ allFrom every real bits levelOf realOf readOut realFromTo amountOf limitOf inRange unitsOr amountUnits levelUnits view slotsOf firstLive winner isLive maskEmptied maskFilled levelSet put levelAt winningLevel clampLit presentValue distanceMoved reachedBy reached progressBy progressValue lit inProcess binaryAt switched relayState inactiveNotBelow withBurning withEffect withCommand withSettings litMilliseconds withBurned timerDue phaseEnd activityDue isDue timerAt emptiedBy expired endMovementOf endMovementBy endMovementOnExpiry delayed nextPhase nextActivity activityAt phaseSlots nextSlots slotsAt afterEvents fire tick ticks lastShort momentAfter goneAt countBefore countSince litFromZero litFromLight litAt litByPace litMoving litInMovement litResting litStretch sooner due burnedBy withBurnedSaturating fireDue eventStep eventSteps advance later endMovementUnlessAbove stored zeroOrEmpty zeroOrEmptyFrom blinks zeroOrEmptyAbove warnsBy warns firstLevel firstPhase warningFrom warnedBy warned endedEmpty endedStored writtenWarned writtenZero writtenCalm writtenBy written activityRelinquished slotRelinquished operationNumber fieldsOf durationField withoutWarning activityWithoutWarning replaced placed movement rampLength target fadedOver fadedTo rampedAt rampedTo jumped wentTo stepUpFrom stepDownFrom steppedUp steppedDown raised halted stopped relinquished effect timed commandedFrom commanded answerBytes levelAnswered within isLevel isAmount isSlot isPriority meets numbered propertyOf same changeTo changeBy changeOf settingsWith relayWith endMovement activityWith burningWith changed minOverMax levelAnswer levelOrAbsent slotAnswer flag elapsedActive realAnswer realFieldAnswer timeFieldAnswer lastDuration readProperty freshSettings freshRelay freshWith freshFor freshOutput levelFieldRefusal amountFieldRefusal timeFieldRefusal firstRefusal fieldsRefusal commandLasting commandWithDuration commandRequestBy commandOf plainDuration commandRequest writeLevel writeOf emptyOf done unchanged changedUnless acted served byteAt bigEndian octets kindRow kindLength callsBy isCall fewestOctets fieldSize sizes fieldBytes bytesFrom tagBytes realTag wholeTag tagsOf commandTags zeroFilled taggedBody bodyBytes fieldIn fieldsFrom bodyFields zeroBeyond holdsAtMost wellTagged heldBy operationOf timeOf bothOrNeither fewest ownTags readFields readBody taggedRequest requestOf callOf called clockOf parseBy parse levelsSound timesSound realsSound settingsSound slotSound slotsSound spanSound movementSound warningBy warningSound activityBy activitySound timerSound agrees relaySound sound freshStation stationSound sameBytes retransmissionOrConflict countsSound panelSound freshPanel startStep padded restored judgedByNumber judgedByRecord stationOf judgedByStation decide execute frameStep
 worked-in-tags = refl
 
 -- §4 in a list
 pub worked-jumps : answers document01 (freshPanel document01 2 8) framesOfJumps ≡ answersToJumps
-unfolding answers toBits round bitAnd bitOr ofBits if_then_else_ allFrom every real bits levelOf realOf readOut realFromTo amountOf limitOf inRange unitsOr amountUnits levelUnits view slotsOf firstLive winner isLive maskEmptied maskFilled levelSet put levelAt winningLevel clampLit presentValue distanceMoved reachedBy reached progressBy progressValue lit inProcess binaryAt switched relayState inactiveNotBelow withBurning withEffect withCommand withSettings litMilliseconds withBurned timerDue phaseEnd activityDue isDue timerAt emptiedBy expired endMovementOf endMovementBy endMovementOnExpiry delayed nextPhase nextActivity activityAt phaseSlots nextSlots slotsAt afterEvents fire tick ticks lastShort momentAfter goneAt countBefore countSince litFromZero litFromLight litAt litByPace litMoving litInMovement litResting litStretch sooner due burnedBy withBurnedSaturating fireDue eventStep eventSteps advance later endMovementUnlessAbove stored zeroOrEmpty zeroOrEmptyFrom blinks zeroOrEmptyAbove warnsBy warns firstLevel firstPhase warningFrom warnedBy warned endedEmpty endedStored writtenWarned writtenZero writtenCalm writtenBy written activityRelinquished slotRelinquished operationNumber fieldsOf durationField withoutWarning activityWithoutWarning replaced placed movement rampLength target fadedOver fadedTo rampedAt rampedTo jumped wentTo stepUpFrom stepDownFrom steppedUp steppedDown raised halted stopped relinquished effect timed commandedFrom commanded answerBytes levelAnswered within isLevel isAmount isSlot isPriority meets meetsReal numbered propertyOf same changeTo changeBy changeOf settingsWith relayWith endMovement activityWith burningWith changed minOverMax levelAnswer slotAnswer flag elapsedActive realAnswer realFieldAnswer timeFieldAnswer lastDuration readProperty freshSettings freshRelay freshWith freshFor freshOutput levelFieldRefusal amountFieldRefusal timeFieldRefusal firstRefusal fieldsRefusal commandLasting commandWithDuration commandRequestBy commandOf plainDuration commandRequest writeLevel writeOf emptyOf done unchanged changedUnless acted served byteAt bigEndian octets kindRow kindLength callsBy isCall fewestOctets fieldSize sizes fieldBytes bytesFrom tagBytes realTag wholeTag tagsOf commandTags zeroFilled taggedBody bodyBytes fieldIn fieldsFrom bodyFields zeroBeyond holdsAtMost wellTagged heldBy operationOf timeOf bothOrNeither fewest ownTags readFields readBody taggedRequest requestOf callOf called clockOf parseBy parse levelsSound timesSound realsSound settingsSound slotSound slotsSoundFrom spanSound movementSound warningBy warningSound activityBy activitySound timerSound agrees relaySound sound freshStation stationSound sameBytes retransmissionOrConflict countsSound panelSound freshPanel startStep padded restored judgedByNumber judgedByRecord stationOf judgedByStation decide execute frameStep
+unfolding answers toBits round bitAnd bitOr ofBits if_then_else_ allFrom every real bits levelOf realOf readOut realFromTo amountOf limitOf inRange unitsOr amountUnits levelUnits view slotsOf firstLive winner isLive maskEmptied maskFilled levelSet put levelAt winningLevel clampLit presentValue distanceMoved reachedBy reached progressBy progressValue lit inProcess binaryAt switched relayState inactiveNotBelow withBurning withEffect withCommand withSettings litMilliseconds withBurned timerDue phaseEnd activityDue isDue timerAt emptiedBy expired endMovementOf endMovementBy endMovementOnExpiry delayed nextPhase nextActivity activityAt phaseSlots nextSlots slotsAt afterEvents fire tick ticks lastShort momentAfter goneAt countBefore countSince litFromZero litFromLight litAt litByPace litMoving litInMovement litResting litStretch sooner due burnedBy withBurnedSaturating fireDue eventStep eventSteps advance later endMovementUnlessAbove stored zeroOrEmpty zeroOrEmptyFrom blinks zeroOrEmptyAbove warnsBy warns firstLevel firstPhase warningFrom warnedBy warned endedEmpty endedStored writtenWarned writtenZero writtenCalm writtenBy written activityRelinquished slotRelinquished operationNumber fieldsOf durationField withoutWarning activityWithoutWarning replaced placed movement rampLength target fadedOver fadedTo rampedAt rampedTo jumped wentTo stepUpFrom stepDownFrom steppedUp steppedDown raised halted stopped relinquished effect timed commandedFrom commanded answerBytes levelAnswered within isLevel isAmount isSlot isPriority meets numbered propertyOf same changeTo changeBy changeOf settingsWith relayWith endMovement activityWith burningWith changed minOverMax levelAnswer levelOrAbsent slotAnswer flag elapsedActive realAnswer realFieldAnswer timeFieldAnswer lastDuration readProperty freshSettings freshRelay freshWith freshFor freshOutput levelFieldRefusal amountFieldRefusal timeFieldRefusal firstRefusal fieldsRefusal commandLasting commandWithDuration commandRequestBy commandOf plainDuration commandRequest writeLevel writeOf emptyOf done unchanged changedUnless acted served byteAt bigEndian octets kindRow kindLength callsBy isCall fewestOctets fieldSize sizes fieldBytes bytesFrom tagBytes realTag wholeTag tagsOf commandTags zeroFilled taggedBody bodyBytes fieldIn fieldsFrom bodyFields zeroBeyond holdsAtMost wellTagged heldBy operationOf timeOf bothOrNeither fewest ownTags readFields readBody taggedRequest requestOf callOf called clockOf parseBy parse levelsSound timesSound realsSound settingsSound slotSound slotsSound spanSound movementSound warningBy warningSound activityBy activitySound timerSound agrees relaySound sound freshStation stationSound sameBytes retransmissionOrConflict countsSound panelSound freshPanel startStep padded restored judgedByNumber judgedByRecord stationOf judgedByStation decide execute frameStep
 worked-jumps = refl
 
 -- §5 in a list
 pub worked-halves : answers document01 (freshPanel document01 2 8) framesOfHalves ≡ answersToHalves
-unfolding answers toBits round bitAnd bitOr ofBits if_then_else_ allFrom every real bits levelOf realOf readOut realFromTo amountOf limitOf inRange unitsOr amountUnits levelUnits view slotsOf firstLive winner isLive maskEmptied maskFilled levelSet put levelAt winningLevel clampLit presentValue distanceMoved reachedBy reached progressBy progressValue lit inProcess binaryAt switched relayState inactiveNotBelow withBurning withEffect withCommand withSettings litMilliseconds withBurned timerDue phaseEnd activityDue isDue timerAt emptiedBy expired endMovementOf endMovementBy endMovementOnExpiry delayed nextPhase nextActivity activityAt phaseSlots nextSlots slotsAt afterEvents fire tick ticks lastShort momentAfter goneAt countBefore countSince litFromZero litFromLight litAt litByPace litMoving litInMovement litResting litStretch sooner due burnedBy withBurnedSaturating fireDue eventStep eventSteps advance later endMovementUnlessAbove stored zeroOrEmpty zeroOrEmptyFrom blinks zeroOrEmptyAbove warnsBy warns firstLevel firstPhase warningFrom warnedBy warned endedEmpty endedStored writtenWarned writtenZero writtenCalm writtenBy written activityRelinquished slotRelinquished operationNumber fieldsOf durationField withoutWarning activityWithoutWarning replaced placed movement rampLength target fadedOver fadedTo rampedAt rampedTo jumped wentTo stepUpFrom stepDownFrom steppedUp steppedDown raised halted stopped relinquished effect timed commandedFrom commanded answerBytes levelAnswered within isLevel isAmount isSlot isPriority meets meetsReal numbered propertyOf same changeTo changeBy changeOf settingsWith relayWith endMovement activityWith burningWith changed minOverMax levelAnswer slotAnswer flag elapsedActive realAnswer realFieldAnswer timeFieldAnswer lastDuration readProperty freshSettings freshRelay freshWith freshFor freshOutput levelFieldRefusal amountFieldRefusal timeFieldRefusal firstRefusal fieldsRefusal commandLasting commandWithDuration commandRequestBy commandOf plainDuration commandRequest writeLevel writeOf emptyOf done unchanged changedUnless acted served byteAt bigEndian octets kindRow kindLength callsBy isCall fewestOctets fieldSize sizes fieldBytes bytesFrom tagBytes realTag wholeTag tagsOf commandTags zeroFilled taggedBody bodyBytes fieldIn fieldsFrom bodyFields zeroBeyond holdsAtMost wellTagged heldBy operationOf timeOf bothOrNeither fewest ownTags readFields readBody taggedRequest requestOf callOf called clockOf parseBy parse levelsSound timesSound realsSound settingsSound slotSound slotsSoundFrom spanSound movementSound warningBy warningSound activityBy activitySound timerSound agrees relaySound sound freshStation stationSound sameBytes retransmissionOrConflict countsSound panelSound freshPanel startStep padded restored judgedByNumber judgedByRecord stationOf judgedByStation decide execute frameStep
+unfolding answers toBits round bitAnd bitOr ofBits if_then_else_ allFrom every real bits levelOf realOf readOut realFromTo amountOf limitOf inRange unitsOr amountUnits levelUnits view slotsOf firstLive winner isLive maskEmptied maskFilled levelSet put levelAt winningLevel clampLit presentValue distanceMoved reachedBy reached progressBy progressValue lit inProcess binaryAt switched relayState inactiveNotBelow withBurning withEffect withCommand withSettings litMilliseconds withBurned timerDue phaseEnd activityDue isDue timerAt emptiedBy expired endMovementOf endMovementBy endMovementOnExpiry delayed nextPhase nextActivity activityAt phaseSlots nextSlots slotsAt afterEvents fire tick ticks lastShort momentAfter goneAt countBefore countSince litFromZero litFromLight litAt litByPace litMoving litInMovement litResting litStretch sooner due burnedBy withBurnedSaturating fireDue eventStep eventSteps advance later endMovementUnlessAbove stored zeroOrEmpty zeroOrEmptyFrom blinks zeroOrEmptyAbove warnsBy warns firstLevel firstPhase warningFrom warnedBy warned endedEmpty endedStored writtenWarned writtenZero writtenCalm writtenBy written activityRelinquished slotRelinquished operationNumber fieldsOf durationField withoutWarning activityWithoutWarning replaced placed movement rampLength target fadedOver fadedTo rampedAt rampedTo jumped wentTo stepUpFrom stepDownFrom steppedUp steppedDown raised halted stopped relinquished effect timed commandedFrom commanded answerBytes levelAnswered within isLevel isAmount isSlot isPriority meets numbered propertyOf same changeTo changeBy changeOf settingsWith relayWith endMovement activityWith burningWith changed minOverMax levelAnswer levelOrAbsent slotAnswer flag elapsedActive realAnswer realFieldAnswer timeFieldAnswer lastDuration readProperty freshSettings freshRelay freshWith freshFor freshOutput levelFieldRefusal amountFieldRefusal timeFieldRefusal firstRefusal fieldsRefusal commandLasting commandWithDuration commandRequestBy commandOf plainDuration commandRequest writeLevel writeOf emptyOf done unchanged changedUnless acted served byteAt bigEndian octets kindRow kindLength callsBy isCall fewestOctets fieldSize sizes fieldBytes bytesFrom tagBytes realTag wholeTag tagsOf commandTags zeroFilled taggedBody bodyBytes fieldIn fieldsFrom bodyFields zeroBeyond holdsAtMost wellTagged heldBy operationOf timeOf bothOrNeither fewest ownTags readFields readBody taggedRequest requestOf callOf called clockOf parseBy parse levelsSound timesSound realsSound settingsSound slotSound slotsSound spanSound movementSound warningBy warningSound activityBy activitySound timerSound agrees relaySound sound freshStation stationSound sameBytes retransmissionOrConflict countsSound panelSound freshPanel startStep padded restored judgedByNumber judgedByRecord stationOf judgedByStation decide execute frameStep
 worked-halves = refl
 
 -- wrong in two places at once
 pub worked-order : answers document01 (freshPanel document01 1 8) framesOfOrder ≡ answersInOrder
-unfolding answers toBits round bitAnd bitOr ofBits if_then_else_ allFrom every real bits levelOf realOf readOut realFromTo amountOf limitOf inRange unitsOr amountUnits levelUnits view slotsOf firstLive winner isLive maskEmptied maskFilled levelSet put levelAt winningLevel clampLit presentValue distanceMoved reachedBy reached progressBy progressValue lit inProcess binaryAt switched relayState inactiveNotBelow withBurning withEffect withCommand withSettings litMilliseconds withBurned timerDue phaseEnd activityDue isDue timerAt emptiedBy expired endMovementOf endMovementBy endMovementOnExpiry delayed nextPhase nextActivity activityAt phaseSlots nextSlots slotsAt afterEvents fire tick ticks lastShort momentAfter goneAt countBefore countSince litFromZero litFromLight litAt litByPace litMoving litInMovement litResting litStretch sooner due burnedBy withBurnedSaturating fireDue eventStep eventSteps advance later endMovementUnlessAbove stored zeroOrEmpty zeroOrEmptyFrom blinks zeroOrEmptyAbove warnsBy warns firstLevel firstPhase warningFrom warnedBy warned endedEmpty endedStored writtenWarned writtenZero writtenCalm writtenBy written activityRelinquished slotRelinquished operationNumber fieldsOf durationField withoutWarning activityWithoutWarning replaced placed movement rampLength target fadedOver fadedTo rampedAt rampedTo jumped wentTo stepUpFrom stepDownFrom steppedUp steppedDown raised halted stopped relinquished effect timed commandedFrom commanded answerBytes levelAnswered within isLevel isAmount isSlot isPriority meets meetsReal numbered propertyOf same changeTo changeBy changeOf settingsWith relayWith endMovement activityWith burningWith changed minOverMax levelAnswer slotAnswer flag elapsedActive realAnswer realFieldAnswer timeFieldAnswer lastDuration readProperty freshSettings freshRelay freshWith freshFor freshOutput levelFieldRefusal amountFieldRefusal timeFieldRefusal firstRefusal fieldsRefusal commandLasting commandWithDuration commandRequestBy commandOf plainDuration commandRequest writeLevel writeOf emptyOf done unchanged changedUnless acted served byteAt bigEndian octets kindRow kindLength callsBy isCall fewestOctets fieldSize sizes fieldBytes bytesFrom tagBytes realTag wholeTag tagsOf commandTags zeroFilled taggedBody bodyBytes fieldIn fieldsFrom bodyFields zeroBeyond holdsAtMost wellTagged heldBy operationOf timeOf bothOrNeither fewest ownTags readFields readBody taggedRequest requestOf callOf called clockOf parseBy parse levelsSound timesSound realsSound settingsSound slotSound slotsSoundFrom spanSound movementSound warningBy warningSound activityBy activitySound timerSound agrees relaySound sound freshStation stationSound sameBytes retransmissionOrConflict countsSound panelSound freshPanel startStep padded restored judgedByNumber judgedByRecord stationOf judgedByStation decide execute frameStep
+unfolding answers toBits round bitAnd bitOr ofBits if_then_else_ allFrom every real bits levelOf realOf readOut realFromTo amountOf limitOf inRange unitsOr amountUnits levelUnits view slotsOf firstLive winner isLive maskEmptied maskFilled levelSet put levelAt winningLevel clampLit presentValue distanceMoved reachedBy reached progressBy progressValue lit inProcess binaryAt switched relayState inactiveNotBelow withBurning withEffect withCommand withSettings litMilliseconds withBurned timerDue phaseEnd activityDue isDue timerAt emptiedBy expired endMovementOf endMovementBy endMovementOnExpiry delayed nextPhase nextActivity activityAt phaseSlots nextSlots slotsAt afterEvents fire tick ticks lastShort momentAfter goneAt countBefore countSince litFromZero litFromLight litAt litByPace litMoving litInMovement litResting litStretch sooner due burnedBy withBurnedSaturating fireDue eventStep eventSteps advance later endMovementUnlessAbove stored zeroOrEmpty zeroOrEmptyFrom blinks zeroOrEmptyAbove warnsBy warns firstLevel firstPhase warningFrom warnedBy warned endedEmpty endedStored writtenWarned writtenZero writtenCalm writtenBy written activityRelinquished slotRelinquished operationNumber fieldsOf durationField withoutWarning activityWithoutWarning replaced placed movement rampLength target fadedOver fadedTo rampedAt rampedTo jumped wentTo stepUpFrom stepDownFrom steppedUp steppedDown raised halted stopped relinquished effect timed commandedFrom commanded answerBytes levelAnswered within isLevel isAmount isSlot isPriority meets numbered propertyOf same changeTo changeBy changeOf settingsWith relayWith endMovement activityWith burningWith changed minOverMax levelAnswer levelOrAbsent slotAnswer flag elapsedActive realAnswer realFieldAnswer timeFieldAnswer lastDuration readProperty freshSettings freshRelay freshWith freshFor freshOutput levelFieldRefusal amountFieldRefusal timeFieldRefusal firstRefusal fieldsRefusal commandLasting commandWithDuration commandRequestBy commandOf plainDuration commandRequest writeLevel writeOf emptyOf done unchanged changedUnless acted served byteAt bigEndian octets kindRow kindLength callsBy isCall fewestOctets fieldSize sizes fieldBytes bytesFrom tagBytes realTag wholeTag tagsOf commandTags zeroFilled taggedBody bodyBytes fieldIn fieldsFrom bodyFields zeroBeyond holdsAtMost wellTagged heldBy operationOf timeOf bothOrNeither fewest ownTags readFields readBody taggedRequest requestOf callOf called clockOf parseBy parse levelsSound timesSound realsSound settingsSound slotSound slotsSound spanSound movementSound warningBy warningSound activityBy activitySound timerSound agrees relaySound sound freshStation stationSound sameBytes retransmissionOrConflict countsSound panelSound freshPanel startStep padded restored judgedByNumber judgedByRecord stationOf judgedByStation decide execute frameStep
 worked-order = refl
 
 -- refusal 1: the record rules
 pub rules-by-number : rulesGiven ≡ rulesSaid
-unfolding toBits round bitAnd bitOr ofBits if_then_else_ allFrom every real bits levelOf realOf readOut realFromTo amountOf limitOf inRange unitsOr amountUnits levelUnits view slotsOf firstLive winner isLive maskEmptied maskFilled levelSet put levelAt winningLevel clampLit presentValue distanceMoved reachedBy reached progressBy progressValue lit inProcess binaryAt switched relayState inactiveNotBelow withBurning withEffect withCommand withSettings litMilliseconds withBurned timerDue phaseEnd activityDue isDue timerAt emptiedBy expired endMovementOf endMovementBy endMovementOnExpiry delayed nextPhase nextActivity activityAt phaseSlots nextSlots slotsAt afterEvents fire tick ticks lastShort momentAfter goneAt countBefore countSince litFromZero litFromLight litAt litByPace litMoving litInMovement litResting litStretch sooner due burnedBy withBurnedSaturating fireDue eventStep eventSteps advance later endMovementUnlessAbove stored zeroOrEmpty zeroOrEmptyFrom blinks zeroOrEmptyAbove warnsBy warns firstLevel firstPhase warningFrom warnedBy warned endedEmpty endedStored writtenWarned writtenZero writtenCalm writtenBy written activityRelinquished slotRelinquished operationNumber fieldsOf durationField withoutWarning activityWithoutWarning replaced placed movement rampLength target fadedOver fadedTo rampedAt rampedTo jumped wentTo stepUpFrom stepDownFrom steppedUp steppedDown raised halted stopped relinquished effect timed commandedFrom commanded answerBytes levelAnswered within isLevel isAmount isSlot isPriority meets meetsReal numbered propertyOf same changeTo changeBy changeOf settingsWith relayWith endMovement activityWith burningWith changed minOverMax levelAnswer slotAnswer flag elapsedActive realAnswer realFieldAnswer timeFieldAnswer lastDuration readProperty freshSettings freshRelay freshWith freshFor freshOutput levelFieldRefusal amountFieldRefusal timeFieldRefusal firstRefusal fieldsRefusal commandLasting commandWithDuration commandRequestBy commandOf plainDuration commandRequest writeLevel writeOf emptyOf done unchanged changedUnless acted served byteAt bigEndian octets kindRow kindLength callsBy isCall fewestOctets fieldSize sizes fieldBytes bytesFrom tagBytes realTag wholeTag tagsOf commandTags zeroFilled taggedBody bodyBytes fieldIn fieldsFrom bodyFields zeroBeyond holdsAtMost wellTagged heldBy operationOf timeOf bothOrNeither fewest ownTags readFields readBody taggedRequest requestOf callOf called clockOf parseBy parse levelsSound timesSound realsSound settingsSound slotSound slotsSoundFrom spanSound movementSound warningBy warningSound activityBy activitySound timerSound agrees relaySound sound freshStation stationSound sameBytes retransmissionOrConflict countsSound panelSound freshPanel startStep padded restored judgedByNumber judgedByRecord stationOf judgedByStation decide execute frameStep
+unfolding toBits round bitAnd bitOr ofBits if_then_else_ allFrom every real bits levelOf realOf readOut realFromTo amountOf limitOf inRange unitsOr amountUnits levelUnits view slotsOf firstLive winner isLive maskEmptied maskFilled levelSet put levelAt winningLevel clampLit presentValue distanceMoved reachedBy reached progressBy progressValue lit inProcess binaryAt switched relayState inactiveNotBelow withBurning withEffect withCommand withSettings litMilliseconds withBurned timerDue phaseEnd activityDue isDue timerAt emptiedBy expired endMovementOf endMovementBy endMovementOnExpiry delayed nextPhase nextActivity activityAt phaseSlots nextSlots slotsAt afterEvents fire tick ticks lastShort momentAfter goneAt countBefore countSince litFromZero litFromLight litAt litByPace litMoving litInMovement litResting litStretch sooner due burnedBy withBurnedSaturating fireDue eventStep eventSteps advance later endMovementUnlessAbove stored zeroOrEmpty zeroOrEmptyFrom blinks zeroOrEmptyAbove warnsBy warns firstLevel firstPhase warningFrom warnedBy warned endedEmpty endedStored writtenWarned writtenZero writtenCalm writtenBy written activityRelinquished slotRelinquished operationNumber fieldsOf durationField withoutWarning activityWithoutWarning replaced placed movement rampLength target fadedOver fadedTo rampedAt rampedTo jumped wentTo stepUpFrom stepDownFrom steppedUp steppedDown raised halted stopped relinquished effect timed commandedFrom commanded answerBytes levelAnswered within isLevel isAmount isSlot isPriority meets numbered propertyOf same changeTo changeBy changeOf settingsWith relayWith endMovement activityWith burningWith changed minOverMax levelAnswer levelOrAbsent slotAnswer flag elapsedActive realAnswer realFieldAnswer timeFieldAnswer lastDuration readProperty freshSettings freshRelay freshWith freshFor freshOutput levelFieldRefusal amountFieldRefusal timeFieldRefusal firstRefusal fieldsRefusal commandLasting commandWithDuration commandRequestBy commandOf plainDuration commandRequest writeLevel writeOf emptyOf done unchanged changedUnless acted served byteAt bigEndian octets kindRow kindLength callsBy isCall fewestOctets fieldSize sizes fieldBytes bytesFrom tagBytes realTag wholeTag tagsOf commandTags zeroFilled taggedBody bodyBytes fieldIn fieldsFrom bodyFields zeroBeyond holdsAtMost wellTagged heldBy operationOf timeOf bothOrNeither fewest ownTags readFields readBody taggedRequest requestOf callOf called clockOf parseBy parse levelsSound timesSound realsSound settingsSound slotSound slotsSound spanSound movementSound warningBy warningSound activityBy activitySound timerSound agrees relaySound sound freshStation stationSound sameBytes retransmissionOrConflict countsSound panelSound freshPanel startStep padded restored judgedByNumber judgedByRecord stationOf judgedByStation decide execute frameStep
 rules-by-number = refl

@@ -20,8 +20,8 @@ use Rattle.lighting_outputs.specs.Paper.Value.{clampLit, presentValue}
 use Rattle.lighting_outputs.specs.Paper.Relay.{binaryAt}
 use Rattle.lighting_outputs.specs.Engine.Advance.{greatestCount, advance}
 use Rattle.lighting_outputs.specs.Paper.Passing.{tick, ticks}
-use Rattle.lighting_outputs.specs.Paper.Rows.{within, isLevel, isAmount, isSlot, meets, meetsReal}
-use Rattle.lighting_outputs.specs.Paper.Rules.{levelsSound, timesSound, realsSound, settingsSound, slotSound, slotsSoundFrom, activityBy, activitySound, timerSound, agrees, relaySound, sound}
+use Rattle.lighting_outputs.specs.Paper.Rows.{within, isLevel, isAmount, isSlot, meets}
+use Rattle.lighting_outputs.specs.Paper.Rules.{levelsSound, timesSound, realsSound, settingsSound, slotSound, slotsSound, activityBy, activitySound, timerSound, agrees, relaySound, sound}
 use Rattle.lighting_outputs.specs.Paper.Fresh.{freshSettings, freshRelay, freshWith, freshFor, freshOutput}
 use Rattle.lighting_outputs.specs.Paper.Acting.{served, acted}
 use Rattle.lighting_panel.specs.Paper.Plain.{Plain, runPlain}
@@ -48,7 +48,7 @@ pub all-tested : (p : Parameters) (t : ℕ) (l : List Output) → AllSound p t l
 all-tested p t l a = every-tested (Lawful p t) (sound p t) l (facts-sound p t) a
 
 fresh-tested : (p : Parameters) → Startable p → sound p 0 (freshFor p) ≡ true
-unfolding if_then_else_ allFrom real ofBits amountOf inRange view slotsOf isLive firstLive winner levelAt winningLevel clampLit presentValue within isLevel isAmount isSlot meets meetsReal levelsSound timesSound realsSound settingsSound slotSound slotsSoundFrom activityBy activitySound timerSound agrees binaryAt relaySound sound freshSettings freshRelay freshWith freshFor
+unfolding if_then_else_ allFrom real ofBits amountOf inRange view slotsOf isLive firstLive winner levelAt winningLevel clampLit presentValue within isLevel isAmount isSlot meets levelsSound timesSound realsSound settingsSound slotSound slotsSound activityBy activitySound timerSound agrees binaryAt relaySound sound freshSettings freshRelay freshWith freshFor
 fresh-tested p allowed =
     let short : leb 100 (freshFade p) ≡ true = leb-yes {a = 100} {b = freshFade p} (omega (arith, allowed .fade)) in
     let long : leb (freshFade p) (p .fade) ≡ true = leb-yes {a = freshFade p} {b = p .fade} (omega arith) in

@@ -2,7 +2,7 @@
 ghost use mathlib.Core.Path.{_≡_};
 ghost use Rattle.lighting_outputs.specs.Paper.Parameters.{document01};
 ghost use Rattle.lighting_levels.specs.Paper.Level.{real};
-ghost use Rattle.lighting_outputs.specs.Paper.Rows.{rowOf, isAmount, meets, meetsReal};
+ghost use Rattle.lighting_outputs.specs.Paper.Rows.{rowOf, isAmount, meets};
 use lighting_levels::GREATEST_LEVEL;
 use lighting_levels::LEAST_LEVEL;
 use lighting_outputs::Property;
@@ -59,7 +59,7 @@ pub fn row_of(p: Property) -> Range
 // ---- what is kept
 
 // A rate or a step, 0.125 to 100; and by its pattern.
-fn is_amount(x: f32) -> bool
+pub fn is_amount(x: f32) -> bool
     ensures { λ r. ⌜ r ≡ isAmount x ⌝ }
 {
     number_level::in_range(number_level::amount_of_real(x))
@@ -84,28 +84,9 @@ fn is_met(row: Range, v: u32) -> bool
     }
 }
 
-fn is_met_real(row: Range, x: f32) -> bool
-    ensures { λ r. ⌜ r ≡ meetsReal row x ⌝ }
-{
-    match row {
-        Range::Percent => false,
-        Range::Limit => false,
-        Range::Amount => is_amount(x),
-        Range::Whole { low: _, high: _ } => false,
-        Range::Priority => false,
-        Range::ReadOnly => false,
-    }
-}
-
-// What is kept of a property, as a number and as a REAL.
+// What is kept of a property.
 pub fn fits(p: Property, v: u32) -> bool
     ensures { λ r. ⌜ r ≡ meets (rowOf document01 p) v ⌝ }
 {
     is_met(row_of(p), v)
-}
-
-pub fn fits_real(p: Property, x: f32) -> bool
-    ensures { λ r. ⌜ r ≡ meetsReal (rowOf document01 p) x ⌝ }
-{
-    is_met_real(row_of(p), x)
 }

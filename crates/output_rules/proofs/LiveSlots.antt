@@ -14,7 +14,7 @@ use Rattle.lighting_levels.specs.Paper.Choice.{if_then_else_, _also_, allFrom}
 use Rattle.lighting_outputs.specs.Paper.Slots.{isLive}
 use Rattle.lighting_outputs.specs.declared.Slots.{Slots}
 use Rattle.lighting_outputs.specs.Paper.Rows.{isLevel}
-use Rattle.lighting_outputs.specs.Paper.Rules.{slotSound, slotsSoundFrom}
+use Rattle.lighting_outputs.specs.Paper.Rules.{slotSound, slotsSound}
 use Rattle.lighting_outputs.proofs.Priorities.Mask.{halved}
 use Rattle.lighting_levels.proofs.Scan.{all-each, each-all}
 use Rattle.lighting_levels.proofs.Split.{by-bool, by-eq, eqb-hit}
@@ -99,8 +99,8 @@ all-same t u f (suc n) i = ap (λ (x : Bool). x also allFrom t n (i + 1)) (f i) 
 -- THE LOWEST LIVE SLOT i of the mask m, with the level v
 module _ (m : ℕ) (l : List ℕ) (h : trailingZeros 16 m < 16) (i v : ℕ) (e : i ≡ trailingZeros 16 m) (n : v ≡ getD l i 0) where
   -- a level: the slot is done with
-  pub low-done : isLevel v ≡ true → slotsSoundFrom (slotsWith m l) 0 ≡ slotsSoundFrom (slotsWith (bitAnd m (m - 1)) l) 0
-  unfolding slotsSoundFrom
+  pub low-done : isLevel v ≡ true → slotsSound (slotsWith m l) ≡ slotsSound (slotsWith (bitAnd m (m - 1)) l)
+  unfolding slotsSound
   low-done k = all-same (slotSound (slotsWith m l)) (slotSound (slotsWith (bitAnd m (m - 1)) l)) same 16 0
     where
       at : slotSound (slotsWith m l) i ≡ slotSound (slotsWith (bitAnd m (m - 1)) l) i
@@ -110,8 +110,8 @@ module _ (m : ℕ) (l : List ℕ) (h : trailingZeros 16 m < 16) (i v : ℕ) (e :
       same j = by-eq j i (λ p z. rw p at) (λ p z. unfold slotSound isLive in (rw (low-others 16 m j h (λ q. p (q ∙ sym e)))))
 
   -- none: the test fails
-  pub low-broken : isLevel v ≡ false → slotsSoundFrom (slotsWith m l) 0 ≡ false
-  unfolding slotsSoundFrom
+  pub low-broken : isLevel v ≡ false → slotsSound (slotsWith m l) ≡ false
+  unfolding slotsSound
   low-broken k =
       by-bool (allFrom (slotSound (slotsWith m l)) 16 0)
       (λ z. absurd (false≢true (sym broken ∙ all-each (slotSound (slotsWith m l)) 16 0 i z (omega arith) (omega (arith, e, h)))))
@@ -121,7 +121,7 @@ module _ (m : ℕ) (l : List ℕ) (h : trailingZeros 16 m < 16) (i v : ℕ) (e :
       broken = unfold slotSound isLive if_then_else_ in (rw (e, low-set 16 m h) (rw (n, e) at k))
 
 -- NO LIVE SLOT
-pub none-live : (s : Slots) → s .live ≡ 0 → slotsSoundFrom s 0 ≡ true
-unfolding slotsSoundFrom
+pub none-live : (s : Slots) → s .live ≡ 0 → slotsSound s ≡ true
+unfolding slotsSound
 none-live s e =
     each-all (slotSound s) 16 0 (λ j h k. unfold slotSound isLive if_then_else_ in (rw (e, zero-div (2 ^ j))))

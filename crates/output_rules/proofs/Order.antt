@@ -7,7 +7,7 @@ use Rattle.lighting_levels.specs.Paper.Choice.{if_then_else_, _also_}
 use Rattle.lighting_outputs.specs.Paper.Parameters.{document01}
 use Rattle.lighting_outputs.specs.Paper.Slots.{isLive, slot6, winner}
 use Rattle.lighting_outputs.specs.Paper.Value.{presentValue}
-use Rattle.lighting_outputs.specs.Paper.Rules.{settingsSound, slotsSoundFrom, activityBy, activitySound, timerSound, relaySound, sound}
+use Rattle.lighting_outputs.specs.Paper.Rules.{settingsSound, slotsSound, activityBy, activitySound, timerSound, relaySound, sound}
 use Rattle.lighting_outputs.specs.declared.Output.{Output}
 
 swapped : (a b : Bool) → (a also b) ≡ (b also a)
@@ -43,7 +43,7 @@ pub in-order :
     also leb (o .burning) t
     also timerSound t (o .timer)
     also activityBy document01 t (isLive (o .slots) slot6) (winner (o .slots)) (o .settings .max) v (o .activity)
-    also slotsSoundFrom (o .slots) 0) →
+    also slotsSound (o .slots)) →
     r ≡ sound document01 t o
 unfolding sound activitySound
 in-order t o v r p e =
@@ -52,7 +52,7 @@ in-order t o v r p e =
     (λ (x : Bool). settingsSound document01 (o .settings) also x)
     (rw p
     (reversed
-    (slotsSoundFrom (o .slots) 0)
+    (slotsSound (o .slots))
     (activityBy document01 t (isLive (o .slots) slot6) (winner (o .slots)) (o .settings .max) (presentValue (o .settings) (o .slots)) (o .activity))
     (timerSound t (o .timer))
     (leb (o .burning) t)

@@ -3,7 +3,7 @@
 ghost use mathlib.Core.Path.{_≡_};
 ghost use Rattle.lighting_outputs.specs.Paper.Parameters.{document01};
 ghost use Rattle.lighting_outputs.specs.Paper.Slots.{slot6, isLive, winner};
-ghost use Rattle.lighting_outputs.specs.Paper.Rules.{levelsSound, timesSound, realsSound, settingsSound, slotsSoundFrom, activityBy, sound};
+ghost use Rattle.lighting_outputs.specs.Paper.Rules.{levelsSound, timesSound, realsSound, settingsSound, slotsSound, activityBy, sound};
 use lighting_outputs::Activity;
 use lighting_outputs::Output;
 use lighting_outputs::Property;
@@ -11,7 +11,7 @@ use lighting_outputs::SLOT_6;
 use lighting_outputs::Settings;
 use lighting_outputs::Slots;
 use number_ranges::rows::fits;
-use number_ranges::rows::fits_real;
+use number_ranges::rows::is_amount;
 use number_ranges::wide_index;
 
 // ---- settings
@@ -50,10 +50,10 @@ fn times_sound(c: Settings) -> bool
 }
 
 fn reals_sound(c: Settings) -> bool
-    ensures { λ r. ⌜ r ≡ realsSound document01 c ⌝ }
+    ensures { λ r. ⌜ r ≡ realsSound c ⌝ }
 {
-    if fits_real(Property::RampRate, c.ramp) {
-        fits_real(Property::StepIncrement, c.step)
+    if is_amount(c.ramp) {
+        is_amount(c.step)
     } else {
         false
     }
@@ -81,7 +81,7 @@ fn settings_sound(c: Settings) -> bool
 
 // A live slot holds a level. The loop takes the lowest live slot away until none is left, over a copy of the levels alone.
 fn live_sound(s: Slots) -> bool
-    ensures { λ r. ⌜ r ≡ slotsSoundFrom s 0 ⌝ }
+    ensures { λ r. ⌜ r ≡ slotsSound s ⌝ }
 {
     let levels = s.levels;
     let mut left = s.live;
@@ -97,7 +97,7 @@ fn live_sound(s: Slots) -> bool
 
 // Where no slot is live, the levels are not looked at.
 fn slots_sound(s: Slots) -> bool
-    ensures { λ r. ⌜ r ≡ slotsSoundFrom s 0 ⌝ }
+    ensures { λ r. ⌜ r ≡ slotsSound s ⌝ }
 {
     if s.live == 0 { true } else { live_sound(s) }
 }

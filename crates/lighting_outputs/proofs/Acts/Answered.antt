@@ -1,13 +1,13 @@
 -- What a first arrival is answered: never refusal 1.
 use mathlib.Core.Path.{_≡_, refl}
 use mathlib.Core.Logic.{_≢_}
+use mathlib.Core.Option.{Option, none, some}
 use Prim.Native.Nat.{ℕ}
 use native.Mathlib.Omega.{arith}
-use Rattle.lighting_levels.specs.Paper.Choice.{if_then_else_}
-use Rattle.lighting_outputs.specs.Paper.Slots.{Slots, isLive}
+use Rattle.lighting_outputs.specs.Paper.Slots.{Slots, slot}
 use Rattle.lighting_outputs.proofs.AnswersApart.{refusalOf}
 use Rattle.lighting_outputs.specs.Paper.Operations.{fieldsOf}
-use Rattle.lighting_outputs.specs.Paper.Properties.{levelAnswer, slotAnswer, realAnswer, realFieldAnswer, timeFieldAnswer, lastDuration, readProperty}
+use Rattle.lighting_outputs.specs.Paper.Properties.{levelAnswer, levelOrAbsent, slotAnswer, realAnswer, realFieldAnswer, timeFieldAnswer, lastDuration, readProperty}
 use Rattle.lighting_outputs.specs.Paper.Acting.{done, unchanged, acted}
 use Rattle.lighting_outputs.specs.declared.Duration.{Duration}
 use Rattle.lighting_outputs.specs.declared.Duration.the-variants.{Lasts, Cancels, Omitted}
@@ -22,7 +22,6 @@ use Rattle.lighting_outputs.specs.declared.OutputRequest.{OutputRequest}
 use Rattle.lighting_outputs.specs.declared.OutputRequest.the-variants.{Write, Empty, Change, Read, Commands}
 use Rattle.lighting_outputs.specs.declared.Output.{Output}
 use Rattle.lighting_outputs.specs.declared.Outcome.{Outcome}
-use Rattle.lighting_levels.proofs.Split.{by-bool}
 use Rattle.lighting_outputs.proofs.Acts.Acted.{by-change}
 
 -- an answer that is not refusal 1
@@ -49,8 +48,12 @@ duration-none Cancels = refl
 duration-none Omitted = refl
 
 slot-none : (s : Slots) (i : ℕ) → refusalOf (slotAnswer s i) ≡ 0
-unfolding slotAnswer levelAnswer if_then_else_
-slot-none s i = by-bool (isLive s i) (λ e. rw e) (λ e. rw e)
+unfolding slotAnswer
+slot-none s i = by (slot s i)
+  where
+    by : (x : Option ℕ) → refusalOf (levelOrAbsent x) ≡ 0
+    by none = unfold levelOrAbsent in refl
+    by (some v) = unfold levelOrAbsent levelAnswer in refl
 
 readProperty-not-one : (t : ℕ) (o : Output) (n : Property) → NotOne (readProperty t o n)
 unfolding readProperty levelAnswer realAnswer

@@ -13,7 +13,7 @@ use Rattle.lighting_outputs.specs.Paper.Slots.{slotCount, Slots, winning
 use Rattle.lighting_outputs.specs.Paper.Value.{presentValue}
 use Rattle.lighting_outputs.specs.Paper.Relay.{inactiveNotBelow}
 use Rattle.lighting_outputs.specs.Paper.Record.{withSettings}
-use Rattle.lighting_outputs.specs.Paper.Rows.{rowOf, isAmount, meetsReal}
+use Rattle.lighting_outputs.specs.Paper.Rows.{rowOf, isAmount}
 use Rattle.lighting_outputs.specs.Paper.Properties.{same, settingsWith, relayWith, endMovement, activityWith, burningWith, changed, minOverMax}
 use Rattle.lighting_outputs.specs.declared.Settings.{Settings}
 use Rattle.lighting_outputs.specs.declared.Relay.{Relay}
@@ -54,7 +54,7 @@ relay-kept p r n v g z h =
 
 settings-kept : (p : Parameters) (c : Settings) (n : Property) (v : ℕ) → Meets (rowOf p n) v → minOverMax (settingsWith c n v) ≡ false → SettingsInRange p c
     → SettingsInRange p (settingsWith c n v)
-unfolding settingsWith minOverMax meetsReal
+unfolding settingsWith minOverMax
 settings-kept p c n v g z h =
     record {
       default = kept-met p RelinquishDefault n v (c .default) g (h .default);

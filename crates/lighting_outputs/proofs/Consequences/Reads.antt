@@ -3,15 +3,14 @@ use mathlib.Core.Path.{_≡_, refl}
 use mathlib.Core.Bool.{not}
 use mathlib.Core.List.{[], _∷_, map}
 use mathlib.Core.Option.{Option, none, some}
-use Prim.Native.Nat.{ℕ, suc, _+_, _<_}
+use Prim.Native.Nat.{ℕ, _+_, _<_}
 use native.Mathlib.Omega.{arith}
 use native.Mathlib.Nat.{add-sub-cancel-left}
-use lib.ListN.{length}
 use Rattle.lighting_levels.specs.Paper.Choice.{if_then_else_}
 use Rattle.lighting_levels.specs.Paper.Level.{bits, readOut}
-use Rattle.lighting_outputs.specs.Paper.Slots.{slotCount, slot, isLive, levelAt}
+use Rattle.lighting_outputs.specs.Paper.Slots.{slotCount, slot}
 use Rattle.lighting_outputs.specs.Paper.Value.{presentValue, progressValue, inProcess}
-use Rattle.lighting_outputs.specs.Paper.Properties.{numbered, propertyOf, levelAnswer, slotAnswer, flag, elapsedActive, realAnswer, readProperty, realFieldAnswer, timeFieldAnswer, lastDuration}
+use Rattle.lighting_outputs.specs.Paper.Properties.{numbered, propertyOf, levelAnswer, levelOrAbsent, slotAnswer, flag, elapsedActive, realAnswer, readProperty, realFieldAnswer, timeFieldAnswer, lastDuration}
 use Rattle.lighting_outputs.specs.Paper.Relay.{relayState}
 use Rattle.lighting_outputs.specs.Paper.Acting.{unchanged, acted}
 use lib.Ieee.{Float}
@@ -26,8 +25,7 @@ use Rattle.lighting_outputs.specs.declared.Answer.{Answer}
 use Rattle.lighting_outputs.specs.declared.Answer.the-variants.{Done, Value, Absent, Refused}
 use Rattle.lighting_outputs.specs.declared.OutputRequest.the-variants.{Read}
 use Rattle.lighting_outputs.specs.declared.Output.{Output}
-use Rattle.lighting_levels.proofs.Split.{by-bool, leb-yes, leb-no}
-use Rattle.lighting_outputs.proofs.Priorities.Mask.{slot-is}
+use Rattle.lighting_levels.proofs.Split.{leb-yes, leb-no}
 use Rattle.lighting_outputs.proofs.Rules.Rows.{unlisted}
 
 -- a read of property n of the output o at t: a frame of kind 05 whose byte 13 is n
@@ -111,11 +109,15 @@ abbrev slotAs : Option ℕ → Answer
 slotAs none = Absent
 slotAs (some v) = Value (readOut v)
 
-pub read-slots : (t : ℕ) (o : Output) (i : ℕ) → length (o .slots .levels) ≡ slotCount → i < slotCount → reads t o (0x21 + i) ≡ slotAs (slot (o .slots) i)
-unfolding acted unchanged propertyOf numbered readProperty slotAnswer levelAnswer levelAt if_then_else_
-read-slots t o i z h =
-    rw (leb-yes {a = 0x21} {b = 0x21 + i} (omega arith), leb-yes {a = 0x21 + i} {b = 0x30} (omega arith), add-sub-cancel-left 0x21 i, slot-is (o .slots) i (omega arith), leb-yes {a = suc i} {b = 16} h)
-    (by-bool (isLive (o .slots) i) (λ e. rw e) (λ e. rw e))
+pub read-slots : (t : ℕ) (o : Output) (i : ℕ) → i < slotCount → reads t o (0x21 + i) ≡ slotAs (slot (o .slots) i)
+unfolding acted unchanged propertyOf numbered readProperty slotAnswer if_then_else_
+read-slots t o i h =
+    rw (leb-yes {a = 0x21} {b = 0x21 + i} (omega arith), leb-yes {a = 0x21 + i} {b = 0x30} (omega arith), add-sub-cancel-left 0x21 i)
+    (by (slot (o .slots) i))
+  where
+    by : (x : Option ℕ) → levelOrAbsent x ≡ slotAs x
+    by none = unfold levelOrAbsent in refl
+    by (some v) = unfold levelOrAbsent levelAnswer in refl
 
 -- what is refused is not Done
 pub refused : {A : Type 0} {r : ℕ} → _≡_ {A = Answer} (Refused r) Done → A

@@ -1,6 +1,6 @@
 -- The mask's operations, as the code makes them, are those on the slots.
 use mathlib.Core.Path.{_≡_, refl, sym, ap, _∙_}
-use mathlib.Core.Bool.{Bool, true, false, not}
+use mathlib.Core.Bool.{Bool, true, false, not, false≢true}
 use mathlib.Core.List.{List, [], _∷_}
 use mathlib.Core.Option.{Option, none, some}
 use Prim.Native.Nat.{ℕ, zero, suc, _+_, _-_, _*_, _/_, _%_, _^_, _≤_, _<_}
@@ -11,10 +11,10 @@ use lib.Bits.{bitAnd, bitOr, and-step, or-step, or-zero-r, and-mask, and-high}
 use lib.Pow.{pow-add, pow-pos, pow-lt, mod-pow-add, shl-exact, shr-shr, pow-mono}
 use native.Mathlib.Numerals.{add-one}
 use lib.Count.{trailingZeros}
-use lib.ListN.{set, getD, length, length-set}
+use lib.ListN.{set, getD, length, length-set, List·getD-eq-default}
 use Rattle.lighting_levels.proofs.Split.{by-eq, by-lt, by-bool, eqb-miss, leb-yes}
 use Rattle.lighting_levels.specs.Paper.Choice.{if_then_else_}
-use Rattle.lighting_outputs.specs.Paper.Slots.{slotCount, Slots, view, slotsOf, slot, put, firstLive, winner, isLive, maskEmptied, maskFilled, levelSet}
+use Rattle.lighting_outputs.specs.Paper.Slots.{slotCount, Slots, view, slotsOf, slot, put, firstLive, winner, isLive, maskEmptied, maskFilled, levelSet, levelAt}
 
 length-view : (m : ℕ) (l : List ℕ) → length (view m l) ≡ length l
 unfolding view if_then_else_
@@ -176,3 +176,18 @@ tested m i h =
     1
     (λ p e. rw (p, one-mul (2 ^ i), eqb-miss {a = 2 ^ i} {b = 0} (omega (arith, pow-pos i))))
     (λ p e. let z : m / 2 ^ i % 2 ≡ 0 = omega arith in rw (z, zero-mul (2 ^ i))))
+
+-- a live slot is one of the sixteen and holds its level; one that is not live holds nothing
+pub slot-live : (d : ℕ) (s : Slots) (i : ℕ) → length (s .levels) ≡ slotCount → s .live < 65536 → isLive s i ≡ true → slot s i ≡ some (levelAt d s i)
+unfolding levelAt if_then_else_
+slot-live d s i size mask live =
+    by-lt i slotCount
+    (λ h e. rw (e, slot-is s i (omega arith), live))
+    (λ h e. absurd (false≢true (sym (dead-past (s .live) i mask h) ∙ (unfold isLive in live))))
+
+pub slot-dead : (s : Slots) (i : ℕ) → length (s .levels) ≡ slotCount → isLive s i ≡ false → slot s i ≡ none
+unfolding if_then_else_
+slot-dead s i size dead =
+    by-lt i slotCount
+    (λ h e. rw (slot-is s i (omega arith), dead))
+    (λ h e. List·getD-eq-default (slotsOf s) none (omega (arith, slots-size s)))

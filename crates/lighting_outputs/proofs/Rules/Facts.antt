@@ -20,10 +20,10 @@ use Rattle.lighting_outputs.specs.Paper.Value.{presentValue}
 use Rattle.lighting_outputs.specs.Paper.Relay.{binaryAt}
 use Rattle.lighting_outputs.specs.Paper.Passing.{phaseEnd}
 use Rattle.lighting_levels.specs.Paper.Level.{leastLevel, greatestLevel, real}
-use Rattle.lighting_outputs.specs.Paper.Rows.{rowOf, isAmount, meetsReal}
+use Rattle.lighting_outputs.specs.Paper.Rows.{rowOf, isAmount}
 use Rattle.lighting_outputs.specs.declared.Range.{Range}
 use Rattle.lighting_outputs.specs.declared.Range.the-variants.{Percent, Limit, Amount, Whole, Priority, ReadOnly}
-use Rattle.lighting_outputs.specs.declared.Property.the-variants.{RelinquishDefault, FadeTime, RampRate, StepIncrement, BlinkTime, BlinkWarnDelay, MinValue, MaxValue, CommandPriority, BinaryActiveValue, BinaryInactiveValue}
+use Rattle.lighting_outputs.specs.declared.Property.the-variants.{RelinquishDefault, FadeTime, BlinkTime, BlinkWarnDelay, MinValue, MaxValue, CommandPriority, BinaryActiveValue, BinaryInactiveValue}
 
 -- 0, or 1 to 100 percent: in a form that `omega` reads
 pub record IsLevel (v : ℕ) : Type 0 where
@@ -55,8 +55,8 @@ pub record SettingsInRange (p : Parameters) (c : Settings) : Type 0 where
   pub fade : Meets (rowOf p FadeTime) (c .fade)
   pub blink : Meets (rowOf p BlinkTime) (c .blink)
   pub delay : Meets (rowOf p BlinkWarnDelay) (c .delay)
-  pub ramp : meetsReal (rowOf p RampRate) (c .ramp) ≡ true
-  pub step : meetsReal (rowOf p StepIncrement) (c .step) ≡ true
+  pub ramp : isAmount (c .ramp) ≡ true
+  pub step : isAmount (c .step) ≡ true
   pub slot : Meets (rowOf p CommandPriority) (c .slot)
 
 abbrev pub SlotLevel : Option ℕ → Type 0

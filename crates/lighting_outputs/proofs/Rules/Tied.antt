@@ -26,7 +26,7 @@ use Rattle.lighting_outputs.specs.Paper.Passing.{timerDue, activityDue, 
 use Rattle.lighting_outputs.proofs.Time.Passing.{advance-ticks, Calm, MomentAfter}
 use Rattle.lighting_outputs.specs.Paper.Parameters.{Parameters}
 use Rattle.lighting_outputs.specs.Paper.Rows.{within, isSlot, meets, isLevel}
-use Rattle.lighting_outputs.specs.Paper.Rules.{levelsSound, timesSound, realsSound, settingsSound, slotSound, slotsSoundFrom, spanSound, movementSound, warningBy, warningSound, activityBy, activitySound, timerSound, agrees, relaySound, sound}
+use Rattle.lighting_outputs.specs.Paper.Rules.{levelsSound, timesSound, realsSound, settingsSound, slotSound, slotsSound, spanSound, movementSound, warningBy, warningSound, activityBy, activitySound, timerSound, agrees, relaySound, sound}
 use Rattle.lighting_outputs.specs.declared.Range.{Range}
 use Rattle.lighting_outputs.specs.declared.Range.the-variants.{Percent, Limit, Amount, Whole, Priority, ReadOnly}
 use Rattle.lighting_outputs.proofs.Rules.Facts.{IsLevel, Within, Slot, Meets, SettingsInRange, SlotLevel, Filled, Moves, Acts, Timed, RelayInRange, Sound, Judged, Lawful}
@@ -60,8 +60,8 @@ settings-of : (p : Parameters) (c : Settings) → settingsSound p c ≡ true →
 unfolding settingsSound levelsSound timesSound realsSound meets
 settings-of p c h = search (parts, within-of, level-of, slot-of)
 
-filled-of : (s : Slots) → length (s .levels) ≡ slotCount → slotsSoundFrom s 0 ≡ true → Filled s
-unfolding slotsSoundFrom
+filled-of : (s : Slots) → length (s .levels) ≡ slotCount → slotsSound s ≡ true → Filled s
+unfolding slotsSound
 filled-of s size h =
     record { size = size; level = λ i k. at i k (all-each (slotSound s) slotCount 0 i h (omega arith) (omega arith)) }
   where
@@ -127,8 +127,8 @@ settings-yes : (p : Parameters) (c : Settings) → SettingsInRange p c → setti
 unfolding settingsSound levelsSound timesSound realsSound meets
 settings-yes p c h = search (tests, within-yes, level-yes, slot-yes)
 
-filled-yes : (s : Slots) → Filled s → slotsSoundFrom s 0 ≡ true
-unfolding slotsSoundFrom
+filled-yes : (s : Slots) → Filled s → slotsSound s ≡ true
+unfolding slotsSound
 filled-yes s h = each-all (slotSound s) slotCount 0 (λ i z k. at i (omega arith) (h .level i (omega arith)))
   where
     at : (i : ℕ) → i < slotCount → SlotLevel (slot s i) → slotSound s i ≡ true

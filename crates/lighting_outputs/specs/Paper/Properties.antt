@@ -1,6 +1,7 @@
 -- 'An output's record': the table of properties, what a write of each asks and changes, and what each reads as.
 use mathlib.Core.Bool.{Bool}
 use mathlib.Core.List.{List, [], _∷_}
+use mathlib.Core.Option.{Option, none, some}
 use Prim.Native.Nat.{ℕ, _+_, _-_, _/_, _%_, min}
 use lib.Dec.{ltb, leb, eqb}
 use lib.Ieee.{Float}
@@ -8,7 +9,7 @@ use Rattle.lighting_levels.specs.Paper.Choice.{if_then_else_}
 use Rattle.lighting_outputs.specs.Paper.Parameters.{Parameters}
 use Rattle.lighting_outputs.specs.Paper.Answers.{levelRefusal}
 use Rattle.lighting_levels.specs.Paper.Level.{real, bits, readOut, levelOf, limitOf}
-use Rattle.lighting_outputs.specs.Paper.Slots.{Slots, isLive, levelAt}
+use Rattle.lighting_outputs.specs.Paper.Slots.{Slots, slot}
 use Rattle.lighting_outputs.specs.Paper.Value.{presentValue, progressValue, inProcess}
 use Rattle.lighting_outputs.specs.Paper.Relay.{relayState}
 use Rattle.lighting_outputs.specs.Paper.Record.{withSettings}
@@ -184,8 +185,12 @@ unfoldable pub levelAnswer : ℕ → Answer
 levelAnswer v = Value (readOut v)
 
 -- '21 to 30 slots 1 to 16 (Absent if not live)'
+unfoldable pub levelOrAbsent : Option ℕ → Answer
+levelOrAbsent none = Absent
+levelOrAbsent (some v) = levelAnswer v
+
 unfoldable pub slotAnswer : Slots → ℕ → Answer
-slotAnswer s i = if isLive s i then levelAnswer (levelAt 0 s i) else Absent
+slotAnswer s i = levelOrAbsent (slot s i)
 
 unfoldable pub flag : Bool → ℕ
 flag on = if on then 1 else 0

@@ -71,12 +71,3 @@ meets Amount v = isAmount (real v)
 meets (Whole low high) v = within low high v
 meets Priority v = isSlot v
 meets ReadOnly v = false
-
--- and the same of what is kept as a REAL
-unfoldable pub meetsReal : Range → Float → Bool
-meetsReal Percent x = false
-meetsReal Limit x = false
-meetsReal Amount x = isAmount x
-meetsReal (Whole low high) x = false
-meetsReal Priority x = false
-meetsReal ReadOnly x = false

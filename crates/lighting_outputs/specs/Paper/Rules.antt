@@ -9,8 +9,8 @@ use Rattle.lighting_outputs.specs.Paper.Slots.{Slots, slotCount, slot16,
 use Rattle.lighting_outputs.specs.Paper.Value.{presentValue}
 use Rattle.lighting_outputs.specs.Paper.Relay.{binaryAt}
 use Rattle.lighting_outputs.specs.Paper.Passing.{phaseEnd}
-use Rattle.lighting_outputs.specs.Paper.Rows.{isLevel, rowOf, within, isSlot, meets, meetsReal}
-use Rattle.lighting_outputs.specs.declared.Property.the-variants.{RelinquishDefault, FadeTime, RampRate, StepIncrement, BlinkTime, BlinkWarnDelay, MinValue, MaxValue, CommandPriority, BinaryActiveValue, BinaryInactiveValue}
+use Rattle.lighting_outputs.specs.Paper.Rows.{isLevel, rowOf, within, isAmount, isSlot, meets}
+use Rattle.lighting_outputs.specs.declared.Property.the-variants.{RelinquishDefault, FadeTime, BlinkTime, BlinkWarnDelay, MinValue, MaxValue, CommandPriority, BinaryActiveValue, BinaryInactiveValue}
 use Rattle.lighting_outputs.specs.declared.Settings.{Settings}
 use Rattle.lighting_outputs.specs.declared.Relay.{Relay}
 use Rattle.lighting_outputs.specs.declared.Movement.{Movement}
@@ -33,19 +33,20 @@ unfoldable pub timesSound : Parameters → Settings → Bool
 timesSound p c =
     meets (rowOf p FadeTime) (c .fade) also meets (rowOf p BlinkTime) (c .blink) also meets (rowOf p BlinkWarnDelay) (c .delay)
 
-unfoldable pub realsSound : Parameters → Settings → Bool
-realsSound p c = meetsReal (rowOf p RampRate) (c .ramp) also meetsReal (rowOf p StepIncrement) (c .step)
+-- Ramp_Rate and Step_Increment, which are kept as REALs: 'REAL 0.125 to 100', as their row has it
+unfoldable pub realsSound : Settings → Bool
+realsSound c = isAmount (c .ramp) also isAmount (c .step)
 
 unfoldable pub settingsSound : Parameters → Settings → Bool
 settingsSound p c =
-    levelsSound p c also timesSound p c also realsSound p c also meets (rowOf p CommandPriority) (c .slot)
+    levelsSound p c also timesSound p c also realsSound c also meets (rowOf p CommandPriority) (c .slot)
 
 -- a live slot holds a level
 unfoldable pub slotSound : Slots → ℕ → Bool
 slotSound s i = if isLive s i then isLevel (getD (s .levels) i 0) else true
 
-unfoldable pub slotsSoundFrom : Slots → ℕ → Bool
-slotsSoundFrom s i = allFrom (slotSound s) (slotCount - i) i
+unfoldable pub slotsSound : Slots → Bool
+slotsSound s = allFrom (slotSound s) slotCount 0
 
 -- 'began no later than panel time' (what is left of it is not longer than it lasts), 'lasts 1 to 86,400,000 ms', 'every due moment is
 -- after panel time'
@@ -95,7 +96,7 @@ relaySound p v r =
 unfoldable pub sound : Parameters → ℕ → Output → Bool
 sound p t o =
     settingsSound p (o .settings)
-    also slotsSoundFrom (o .slots) 0
+    also slotsSound (o .slots)
     also activitySound p t (o .settings) (o .slots) (o .activity)
     also timerSound t (o .timer)
     also leb (o .burning) t

@@ -1,20 +1,23 @@
--- Made by tools/draft.py from the answers.txt beside it: edit that file.
 use mathlib.Core.Path.{_≡_, refl, sym, _∙_}
 use Prim.Native.Nat.{_-_, _<_}
 use native.Mathlib.Omega.{arith}
 use lib.Bits.{and-le-l, and-le-r}
 use lib.Count.{trailing-le}
 use lib.ListN.{getD}
-use borrow.Author.Tests.{not-true, not-false}
-use Rattle.lighting_outputs.specs.Paper.Rules.{slotsSoundFrom}
-use Rattle.output_rules.proofs.LiveSlots.{slotsWith, low-within, low-done, low-broken, none-live}
 use borrow.Author.Needs.{needs}
+use borrow.Author.Tests.{not-true, not-false}
+use Rattle.lighting_outputs.specs.Paper.Rules.{slotsSound}
+use Rattle.output_rules.proofs.LiveSlots.{slotsWith, low-within, low-done, low-broken, none-live}
 use Rattle.output_rules.proofs.live_sound.Statement.{statement}
 use Rattle.output_rules.proofs.live_sound.Tie as tie
+use Rattle.output_rules.proofs.live_sound.Reads as reads
+use Rattle.output_rules.proofs.live_sound.Lts as lts
+use Rattle.number_ranges.proofs.is_level.Reads as is-level-reads
+use Rattle.number_ranges.proofs.wide_index.Reads as wide-index-reads
 
 abbrev Inv-loop : tie.InvT-loop
 Inv-loop levels left₀ left =
-    (left < 65536) × (slotsSoundFrom (slotsWith left₀ levels) 0 ≡ slotsSoundFrom (slotsWith left levels) 0)
+    (left < 65536) × (slotsSound (slotsWith left₀ levels) ≡ slotsSound (slotsWith left levels))
 
 abbrev μ-loop : tie.MeasureT-loop
 μ-loop levels left₀ left = left
@@ -69,4 +72,18 @@ returns-2 c =
     sym (l .inv .1 ∙ none-live (slotsWith (l .left) (c .before .before .before .args .s .levels)) (omega (arith, c .loop-test .left)))
 
 pub live-sound-spec : {M : Type 1} → statement M
-live-sound-spec = tie.close (tie.spec Inv-loop μ-loop loop-holds wide-index-requires mul-is-level array-read-is-level is-level-requires returns sub-left loop-less loop-again returns-2)
+live-sound-spec =
+    tie.close
+    (tie.spec
+    Inv-loop
+    μ-loop
+    loop-holds
+    wide-index-requires
+    mul-is-level
+    array-read-is-level
+    is-level-requires
+    returns
+    sub-left
+    loop-less
+    loop-again
+    returns-2)

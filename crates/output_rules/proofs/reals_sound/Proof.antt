@@ -5,11 +5,11 @@ use borrow.Author.Needs.{needs}
 use Rattle.output_rules.proofs.reals_sound.Statement.{statement}
 use Rattle.output_rules.proofs.reals_sound.Tie as tie
 
-fits-real-requires : tie.Need-fits-real-requires
-fits-real-requires c κs = search needs
+is-amount-requires : tie.Need-is-amount-requires
+is-amount-requires c κs = search needs
 
-fits-real-requires-2 : tie.Need-fits-real-requires-2
-fits-real-requires-2 c κs = search needs
+is-amount-requires-2 : tie.Need-is-amount-requires-2
+is-amount-requires-2 c κs = search needs
 
 returns : tie.Need-returns
 unfolding realsSound
@@ -20,4 +20,4 @@ unfolding realsSound
 returns-2 c = search (needs, ifs)
 
 pub reals-sound-spec : {M : Type 1} → statement M
-reals-sound-spec = tie.close (tie.spec fits-real-requires fits-real-requires-2 returns returns-2)
+reals-sound-spec = tie.close (tie.spec is-amount-requires is-amount-requires-2 returns returns-2)

@@ -88,7 +88,7 @@ abbrev pub r·1 : Kinds.RK 0
 r·1 = Num.rNum Syntax.w64
 
 abbrev pub ps·2 : List.List (Kinds.PK 1)
-ps·2 = List._∷_ (MutSlice.pMutS (OfOutput.row) 0 tt) (List._∷_ (Num.pNum Syntax.w64) (List._∷_ (Num.pNum Syntax.w8) (List._∷_ (Num.pNum Syntax.w64) (List._∷_ (Value.pVal record { ty = Declared.row Request.the-type; one = Path'.refl; val = Laws'3.val Request.the-type Laws''.the-laws; tells = Laws'3.tells Request.the-type Laws''.the-laws; still = Laws'3.still Request.the-type Laws''.the-copy Exit.yes; row = Rows'.whole (Declared.row Request.the-type); rd = λ x. x; mk = λ x. x } λ M 𝓤 H A W. record { copies = Laws'3.copy Request.the-type Laws''.the-copy 𝓤 H A W; lawful = Laws'3.lawful Request.the-type Laws''.the-laws 𝓤 H A W tt; makes = Laws'3.makes Request.the-type Laws''.the-plain 𝓤 H A; in-mem = Local.mem-whole 𝓤 H A W (Declared.row Request.the-type); of-mem = Local.whole-mem 𝓤 H A W (Declared.row Request.the-type) }) List.[]))))
+ps·2 = List._∷_ (MutSlice.pMutS (OfOutput.row) 0 tt) (List._∷_ (Num.pNum Syntax.w64) (List._∷_ (Num.pNum Syntax.w64) (List._∷_ (Value.pVal record { ty = Declared.row Request.the-type; one = Path'.refl; val = Laws'3.val Request.the-type Laws''.the-laws; tells = Laws'3.tells Request.the-type Laws''.the-laws; still = Laws'3.still Request.the-type Laws''.the-copy Exit.yes; row = Rows'.whole (Declared.row Request.the-type); rd = λ x. x; mk = λ x. x } λ M 𝓤 H A W. record { copies = Laws'3.copy Request.the-type Laws''.the-copy 𝓤 H A W; lawful = Laws'3.lawful Request.the-type Laws''.the-laws 𝓤 H A W tt; makes = Laws'3.makes Request.the-type Laws''.the-plain 𝓤 H A; in-mem = Local.mem-whole 𝓤 H A W (Declared.row Request.the-type); of-mem = Local.whole-mem 𝓤 H A W (Declared.row Request.the-type) }) List.[])))
 
 abbrev pub r·2 : Kinds.RK 1
 r·2 = Value.rVal record { ty = Declared.row Answer.the-type; one = Path'.refl; val = Laws'3.val Answer.the-type Laws.the-laws; tells = Laws'3.tells Answer.the-type Laws.the-laws; still = Laws'3.still Answer.the-type Laws.the-copy Exit.yes; row = Rows'.whole (Declared.row Answer.the-type); rd = λ x. x; mk = λ x. x } λ M 𝓤 H A W. record { copies = Laws'3.copy Answer.the-type Laws.the-copy 𝓤 H A W; lawful = Laws'3.lawful Answer.the-type Laws.the-laws 𝓤 H A W tt; makes = Laws'3.makes Answer.the-type Laws.the-plain 𝓤 H A; in-mem = Local.mem-whole 𝓤 H A W (Declared.row Answer.the-type); of-mem = Local.whole-mem 𝓤 H A W (Declared.row Answer.the-type) }
@@ -130,7 +130,7 @@ abbrev b8 : Syntax.Body
 b8 = Syntax.call "number_ranges::index" (List._∷_ (Syntax.copy (Syntax.place 5 (List._∷_ (Syntax.field 3) List.[]))) List.[]) (Syntax.place 17 List.[])
 
 abbrev b9 : Syntax.Body
-b9 = Syntax.call "panel_tables::serve" (List._∷_ (Syntax.copy (Syntax.place 16 List.[])) (List._∷_ (Syntax.copy (Syntax.place 7 List.[])) (List._∷_ (Syntax.copy (Syntax.place 5 (List._∷_ (Syntax.field 0) List.[]))) (List._∷_ (Syntax.copy (Syntax.place 17 List.[])) (List._∷_ (Syntax.copy (Syntax.place 8 List.[])) List.[]))))) (Syntax.place 9 List.[])
+b9 = Syntax.call "panel_tables::serve" (List._∷_ (Syntax.copy (Syntax.place 16 List.[])) (List._∷_ (Syntax.copy (Syntax.place 7 List.[])) (List._∷_ (Syntax.copy (Syntax.place 17 List.[])) (List._∷_ (Syntax.copy (Syntax.place 8 List.[])) List.[])))) (Syntax.place 9 List.[])
 
 abbrev b10 : Syntax.Body
 b10 = Syntax.call "station_frame::station_record" (List._∷_ (Syntax.copy (Syntax.place 9 List.[])) (List._∷_ (Syntax.copy (Syntax.place 5 (List._∷_ (Syntax.field 1) List.[]))) (List._∷_ (Syntax.copy (Syntax.place 4 List.[])) List.[]))) (Syntax.place 10 List.[])
@@ -449,7 +449,7 @@ module _ (claims· : Claims) where
   s16 = Call'.callB ps·1 r·1 (claims· .2) (claims· .3) T17 (Num.vFld 5 (List._∷_ (Syntax.field 3) List.[]) 16 λ x. Call.struct .as-values x .1 .1 .1 .0, tt) 17 List.[] (Syntax.tyInt Syntax.w64)
 
   abbrev s17 : Typed.Both T18 T19
-  s17 = Call'.callB ps·2 r·2 (claims· .4) (claims· .5) T18 (record { pos = 16; ty = Syntax.tyRef Syntax.erased Syntax.mut OfOutput.named; ref = λ x. x }, (Num.vAt 7 λ x. x, (Num.vFld 5 (List._∷_ (Syntax.field 0) List.[]) 0 λ x. Call.struct .as-values x .0, (Num.vAt 17 λ x. x, (record { pos = 8; st = List.[]; d = 0; at = λ x. x }, tt))))) 9 (List._∷_ 5 List.[]) (Laws.mir)
+  s17 = Call'.callB ps·2 r·2 (claims· .4) (claims· .5) T18 (record { pos = 16; ty = Syntax.tyRef Syntax.erased Syntax.mut OfOutput.named; ref = λ x. x }, (Num.vAt 7 λ x. x, (Num.vAt 17 λ x. x, (record { pos = 8; st = List.[]; d = 0; at = λ x. x }, tt)))) 9 (List._∷_ 5 List.[]) (Laws.mir)
 
   abbrev s18 : Typed.Mo T19 → Typed.Mo T20
   s18 = Scalar.n-room T19 8 (Laws''.mir)
@@ -855,7 +855,7 @@ module _ (claims· : Claims) where
           d20 = Typed.g-pre 𝓤 H A W 𝓣 E G19 G20 b24 Δ0 (Typed.pass T19 T20 s18) at19 (Scalar.g-room 𝓤 H A W E G19 8 (Laws''.mir) (Local.room-whole 𝓤 H A W (Declared.row Request.the-type) (Laws''.mir) Path'.refl)) d19
 
           d21 : Typed.Typed 𝓤 H A 𝓣 E G18 b25 Δ0 at21
-          d21 = Typed.s-seq 𝓤 H A W 𝓣 E G18 G19 b9 b24 Δ0 (Typed.both s17) at20 (Plain.t-call-plain 𝓤 H A W 𝓣 1 ps·2 r·2 (claims· .4) (claims· .5) "panel_tables::serve" (known .2) E (λ pos β. β) G18 (record { pos = 16; ty = Syntax.tyRef Syntax.erased Syntax.mut OfOutput.named; ref = λ x. x }, (Num.vAt 7 λ x. x, (Num.vFld 5 (List._∷_ (Syntax.field 0) List.[]) 0 λ x. Call.struct .as-values x .0, (Num.vAt 17 λ x. x, (record { pos = 8; st = List.[]; d = 0; at = λ x. x }, tt))))) 9 (List._∷_ 5 List.[]) (Call'.sub-id 𝓤 H A W (G18 .slots)) (Reads'.as-is 𝓤 H A (Mut.mslice (OfOutput.row) (Syntax.tyRef Syntax.erased Syntax.mut OfOutput.named) 5), Mut.reads-mslice 𝓤 H A W (OfOutput.row) (Syntax.tyRef Syntax.erased Syntax.mut OfOutput.named) 5, Path'.refl, ((Scalar.reads-sc 𝓤 H A W (Row.sInt Syntax.w64), Path'.refl), ((Reads.reads-field 𝓤 H A W Call.the-type Laws'.the-laws 0 (Syntax.tyInt Syntax.w8) 0 Path'.refl, Path'.refl), ((Scalar.reads-sc 𝓤 H A W (Row.sInt Syntax.w64), Path'.refl), ((Yields.yields-copy 𝓤 H A W (λ ρ. Unit) (Declared.row Request.the-type) Path'.refl (Copies.cEnum Request.the-type Laws''.the-laws Laws''.the-copy .copy 𝓤 H A W) (Rows'.whole (Declared.row Request.the-type)) (λ x. x) (λ x. x) (λ ρ told. Local.mem-whole 𝓤 H A W (Declared.row Request.the-type) ρ) λ ρ told. Local.whole-mem 𝓤 H A W (Declared.row Request.the-type) ρ, Path'.refl), tt))))) (Reads'.room-gone 𝓤 H A (Laws.mir)) (tt, tt) Path'.refl) d20
+          d21 = Typed.s-seq 𝓤 H A W 𝓣 E G18 G19 b9 b24 Δ0 (Typed.both s17) at20 (Plain.t-call-plain 𝓤 H A W 𝓣 1 ps·2 r·2 (claims· .4) (claims· .5) "panel_tables::serve" (known .2) E (λ pos β. β) G18 (record { pos = 16; ty = Syntax.tyRef Syntax.erased Syntax.mut OfOutput.named; ref = λ x. x }, (Num.vAt 7 λ x. x, (Num.vAt 17 λ x. x, (record { pos = 8; st = List.[]; d = 0; at = λ x. x }, tt)))) 9 (List._∷_ 5 List.[]) (Call'.sub-id 𝓤 H A W (G18 .slots)) (Reads'.as-is 𝓤 H A (Mut.mslice (OfOutput.row) (Syntax.tyRef Syntax.erased Syntax.mut OfOutput.named) 5), Mut.reads-mslice 𝓤 H A W (OfOutput.row) (Syntax.tyRef Syntax.erased Syntax.mut OfOutput.named) 5, Path'.refl, ((Scalar.reads-sc 𝓤 H A W (Row.sInt Syntax.w64), Path'.refl), ((Scalar.reads-sc 𝓤 H A W (Row.sInt Syntax.w64), Path'.refl), ((Yields.yields-copy 𝓤 H A W (λ ρ. Unit) (Declared.row Request.the-type) Path'.refl (Copies.cEnum Request.the-type Laws''.the-laws Laws''.the-copy .copy 𝓤 H A W) (Rows'.whole (Declared.row Request.the-type)) (λ x. x) (λ x. x) (λ ρ told. Local.mem-whole 𝓤 H A W (Declared.row Request.the-type) ρ) λ ρ told. Local.whole-mem 𝓤 H A W (Declared.row Request.the-type) ρ, Path'.refl), tt)))) (Reads'.room-gone 𝓤 H A (Laws.mir)) (tt, tt) Path'.refl) d20
 
           d22 : Typed.Typed 𝓤 H A 𝓣 E G17 b26 Δ0 at22
           d22 = Typed.s-seq 𝓤 H A W 𝓣 E G17 G18 b8 b25 Δ0 (Typed.both s16) at21 (Plain.t-call-plain 𝓤 H A W 𝓣 0 ps·1 r·1 (claims· .2) (claims· .3) "number_ranges::index" (known .1) E (λ pos β. β) G17 (Num.vFld 5 (List._∷_ (Syntax.field 3) List.[]) 16 λ x. Call.struct .as-values x .1 .1 .1 .0, tt) 17 List.[] (Call'.sub-id 𝓤 H A W (G17 .slots)) ((Reads.reads-field 𝓤 H A W Call.the-type Laws'.the-laws 3 (Syntax.tyInt Syntax.w8) 16 Path'.refl, Path'.refl), tt) (Reads'.room-gone 𝓤 H A (Syntax.tyInt Syntax.w64)) tt Path'.refl) d21
@@ -1121,7 +1121,7 @@ module _ (claims· : Claims) where
 
       module _ (before· : After-index) where
         abbrev pub After-serve·own : Type 0
-        After-serve·own = Called.Called ps·2 r·2 (claims· .5) T18 (record { pos = 16; ty = Syntax.tyRef Syntax.erased Syntax.mut OfOutput.named; ref = λ x. x }, (Num.vAt 7 λ x. x, (Num.vFld 5 (List._∷_ (Syntax.field 0) List.[]) 0 λ x. Call.struct .as-values x .0, (Num.vAt 17 λ x. x, (record { pos = 8; st = List.[]; d = 0; at = λ x. x }, tt))))) (m13 (before· .before) (After-index·gave before·))
+        After-serve·own = Called.Called ps·2 r·2 (claims· .5) T18 (record { pos = 16; ty = Syntax.tyRef Syntax.erased Syntax.mut OfOutput.named; ref = λ x. x }, (Num.vAt 7 λ x. x, (Num.vAt 17 λ x. x, (record { pos = 8; st = List.[]; d = 0; at = λ x. x }, tt)))) (m13 (before· .before) (After-index·gave before·))
 
       pub record After-serve : Type 0 where
         pub before : After-index
@@ -1129,7 +1129,7 @@ module _ (claims· : Claims) where
 
       abbrev pub After-serve·gave :
           (c : After-serve) → s17 .gives (m13 (c .before .before) (After-index·gave (c .before)))
-      After-serve·gave = λ c. Called.given ps·2 r·2 (claims· .5) T18 (record { pos = 16; ty = Syntax.tyRef Syntax.erased Syntax.mut OfOutput.named; ref = λ x. x }, (Num.vAt 7 λ x. x, (Num.vFld 5 (List._∷_ (Syntax.field 0) List.[]) 0 λ x. Call.struct .as-values x .0, (Num.vAt 17 λ x. x, (record { pos = 8; st = List.[]; d = 0; at = λ x. x }, tt))))) (m13 (c .before .before) (After-index·gave (c .before))) (c .serve)
+      After-serve·gave = λ c. Called.given ps·2 r·2 (claims· .5) T18 (record { pos = 16; ty = Syntax.tyRef Syntax.erased Syntax.mut OfOutput.named; ref = λ x. x }, (Num.vAt 7 λ x. x, (Num.vAt 17 λ x. x, (record { pos = 8; st = List.[]; d = 0; at = λ x. x }, tt)))) (m13 (c .before .before) (After-index·gave (c .before))) (c .serve)
 
       abbrev pub m15 :
           (before : After-index) →
@@ -1331,7 +1331,7 @@ module _ (claims· : Claims) where
             (c .before .before .before .before .before .before .before .κs)
             (c .before .before .before .before .before .before .before .args))
             (m13 (c .before) (After-index·gave c))
-        lay2 = λ c. (serve-requires record { before = c .before; index = c .index }, λ g. lay3 record { before = record { before = c .before; index = c .index }; serve = Called.called ps·2 r·2 (claims· .5) T18 (record { pos = 16; ty = Syntax.tyRef Syntax.erased Syntax.mut OfOutput.named; ref = λ x. x }, (Num.vAt 7 λ x. x, (Num.vFld 5 (List._∷_ (Syntax.field 0) List.[]) 0 λ x. Call.struct .as-values x .0, (Num.vAt 17 λ x. x, (record { pos = 8; st = List.[]; d = 0; at = λ x. x }, tt))))) (m13 (c .before) (After-index·gave c)) g })
+        lay2 = λ c. (serve-requires record { before = c .before; index = c .index }, λ g. lay3 record { before = record { before = c .before; index = c .index }; serve = Called.called ps·2 r·2 (claims· .5) T18 (record { pos = 16; ty = Syntax.tyRef Syntax.erased Syntax.mut OfOutput.named; ref = λ x. x }, (Num.vAt 7 λ x. x, (Num.vAt 17 λ x. x, (record { pos = 8; st = List.[]; d = 0; at = λ x. x }, tt)))) (m13 (c .before) (After-index·gave c)) g })
 
         lay1 :
             (c : After-advance-outputs) →
