@@ -1,6 +1,7 @@
 //! One list, without and with copies, against the plain panel.
 
-use generator::{pair, Pair};
+use events::Observer;
+use generator::{pair_seen_by, Pair};
 use panels::list_text::write_list;
 
 use crate::arguments::Arguments;
@@ -11,7 +12,10 @@ use crate::totals::Totals;
 
 /// The words of the first difference, with the seed and the written list.
 pub fn check_list(arguments: &Arguments, seed: u64, totals: &mut Totals) -> Result<(), String> {
-    let pair = pair(seed, arguments.list_length);
+    let mut observer = Observer::new();
+    let pair = pair_seen_by(seed, arguments.list_length, &mut |bytes, answer, panel| {
+        observer.saw(bytes, answer, panel)
+    });
     let Pair { list, with_copies } = &pair;
     let text = write_list(list.outputs, &list.frames);
     let text_with_copies = write_list(list.outputs, &with_copies.frames);
@@ -41,7 +45,7 @@ pub fn check_list(arguments: &Arguments, seed: u64, totals: &mut Totals) -> Resu
             .map_err(|difference| report(seed, "", &text, &difference))?;
     }
 
-    totals.add(list, with_copies.frames.len());
+    totals.add(list, with_copies.frames.len(), &observer);
     Ok(())
 }
 

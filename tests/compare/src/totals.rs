@@ -2,10 +2,8 @@
 
 use std::fmt::Debug;
 
-use generator::boundary::{self, Boundary};
+use events::{Edge, Event, Observer, Tally};
 use generator::List;
-use plain::event::Tally;
-use plain::{expected, Event};
 
 pub struct Totals {
     pub lists: u64,
@@ -15,7 +13,7 @@ pub struct Totals {
     /// Lists by their number of outputs, 1 to 64.
     lists_by_outputs: [u64; 64],
     events: Tally<Event>,
-    boundaries: Tally<Boundary>,
+    edges: Tally<Edge>,
 }
 
 impl Totals {
@@ -27,19 +25,19 @@ impl Totals {
             outputs: 0,
             lists_by_outputs: [0; 64],
             events: Tally::new(),
-            boundaries: Tally::new(),
+            edges: Tally::new(),
         }
     }
 
     /// Adds a list that showed no difference, without and with copies.
-    pub fn add(&mut self, list: &List, frames_with_copies: usize) {
+    pub fn add(&mut self, list: &List, frames_with_copies: usize, observer: &Observer) {
         self.lists += 1;
         self.frames += list.frames.len() as u64;
         self.frames_with_copies += frames_with_copies as u64;
         self.outputs += 2 * list.outputs as u64;
         self.lists_by_outputs[list.outputs - 1] += 1;
-        self.events.add(list.panel.tally());
-        self.boundaries.add(&list.boundaries);
+        self.events.add(observer.events());
+        self.edges.add(observer.edges());
     }
 
     fn sizes_not_reached(&self) -> Vec<usize> {
@@ -49,8 +47,8 @@ impl Totals {
     }
 
     pub fn everything_reached(&self) -> bool {
-        not_reached(&self.events, expected::expected()).is_empty()
-            && not_reached(&self.boundaries, boundary::expected()).is_empty()
+        not_reached(&self.events, expected_events()).is_empty()
+            && not_reached(&self.edges, expected_edges()).is_empty()
             && self.sizes_not_reached().is_empty()
     }
 
@@ -58,13 +56,13 @@ impl Totals {
         println!("events:");
         print_counts(&self.events);
         println!("edges of fields in first arrivals:");
-        print_counts(&self.boundaries);
+        print_counts(&self.edges);
         println!(
             "lists by number of outputs, 1 to 64: {:?}",
             self.lists_by_outputs
         );
-        print_missing("events", &self.events, expected::expected());
-        print_missing("edges", &self.boundaries, boundary::expected());
+        print_missing("events", &self.events, expected_events());
+        print_missing("edges", &self.edges, expected_edges());
         println!(
             "numbers of outputs not reached: {:?}",
             self.sizes_not_reached()
@@ -82,6 +80,23 @@ impl Totals {
         println!("outputs compared: {}", self.outputs);
         println!("no difference");
     }
+}
+
+fn expected_events() -> Vec<Event> {
+    let mut all = events::base::expected();
+    all.extend(events::tags::expected());
+    all.extend(events::light::expected());
+    all.extend(events::relay::expected());
+    all.extend(events::jump::expected());
+    all.extend(events::tie::expected());
+    all
+}
+
+fn expected_edges() -> Vec<Edge> {
+    let mut all = events::edges::of_base();
+    all.extend(events::edges::of_tags());
+    all.extend(events::edges::of_relays());
+    all
 }
 
 fn not_reached<Kind: Ord + Copy>(tally: &Tally<Kind>, expected: Vec<Kind>) -> Vec<Kind> {

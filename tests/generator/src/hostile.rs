@@ -1,11 +1,31 @@
 //! Copies, and frames that refusals 2 to 8 turn down.
 
-use plain::frame::{length_of_kind, ALL_KINDS};
+use plain::frame::*;
 
 use crate::body::{clock, Body};
 use crate::list::{Generator, Planned};
 use crate::tag_scenes::in_other_form;
 use crate::timing::When;
+
+const ALL_KINDS: [u8; 17] = [
+    CLOCK,
+    WRITE_PRESENT_VALUE,
+    EMPTY_A_SLOT,
+    WRITE_PROPERTY,
+    READ_PROPERTY,
+    STOP,
+    FADE_TO,
+    FADE_TO_OVER,
+    RAMP_TO,
+    RAMP_TO_AT_RATE,
+    STEP_UP,
+    STEP_DOWN,
+    STEP_UP_BY,
+    STEP_DOWN_BY,
+    GOTO,
+    RELINQUISH,
+    TAGGED_COMMAND,
+];
 
 const UNKNOWN_KINDS: [u8; 9] = [0x00, 0x06, 0x07, 0x0F, 0x1C, 0x20, 0x80, 0x91, 0xFF];
 
@@ -183,7 +203,7 @@ impl Generator {
             30..=49 => self.any_property_write(output),
             50..=64 => self.any_read(),
             _ => {
-                let kind = self.random.pick(&plain::frame::ALL_COMMANDS);
+                let kind = self.random.pick(&events::words::COMMANDS);
                 self.any_command(kind)
             }
         }

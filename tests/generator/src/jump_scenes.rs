@@ -1,8 +1,8 @@
 //! Scenes for §4: jumps of 2^32 ms and more out of a movement, and movements
 //! in which the low 32 bits of the panel's time begin anew.
 
+use events::jump::Far;
 use plain::frame::*;
-use plain::jump_event::Far;
 use plain::settings::*;
 
 use crate::body::Body;

@@ -1,7 +1,6 @@
 //! Lists for the panels: hostile ones from a seed, and streams to time.
 
 pub mod body;
-pub mod boundary;
 pub mod copies;
 pub mod draft;
 pub mod hostile;
@@ -17,7 +16,6 @@ pub mod scenes;
 pub mod scripts;
 pub mod sentences;
 pub mod stream;
-pub mod tag_boundary;
 pub mod tag_scenes;
 pub mod tie_scenes;
 pub mod tie_values;
@@ -25,5 +23,5 @@ pub mod timing;
 pub mod values;
 
 pub use list::{generate, List};
-pub use pair::{pair, Pair};
+pub use pair::{pair, pair_seen_by, Pair};
 pub use random::Random;

@@ -1,6 +1,7 @@
 //! Scenes for §2: movements whose light begins or ends, looked at, cut by
 //! clocks and interrupted around that moment.
 
+use events::words::COMMANDS;
 use plain::frame::*;
 use plain::real;
 use plain::settings::*;
@@ -226,7 +227,7 @@ impl Generator {
         let kind = match self.random.below(10) {
             0 | 1 => STOP,
             2..=4 => self.random.between(FADE_TO.into(), RAMP_TO_AT_RATE.into()) as u8,
-            _ => self.random.pick(&ALL_COMMANDS),
+            _ => self.random.pick(&COMMANDS),
         };
         let command = self.good_command(kind);
         self.plan(output, command, when);

@@ -2,11 +2,9 @@
 
 use std::collections::VecDeque;
 
-use plain::event::Tally;
 use plain::{Answer, Panel};
 
 use crate::body::{clock, Body, Head};
-use crate::boundary::{count_edges, Boundary};
 use crate::random::Random;
 use crate::timing::When;
 
@@ -16,7 +14,6 @@ pub struct List {
     pub frames: Vec<Vec<u8>>,
     pub answers: Vec<Answer>,
     pub panel: Panel,
-    pub boundaries: Tally<Boundary>,
 }
 
 /// A frame to come; head and time are made when its turn is there.
@@ -34,7 +31,6 @@ pub struct Generator {
     pub(crate) panel: Panel,
     pub(crate) frames: Vec<Vec<u8>>,
     answers: Vec<Answer>,
-    boundaries: Tally<Boundary>,
     /// Milliseconds that outputs may still have to live one by one.
     pub(crate) budget: u64,
     /// Outputs that most frames go to, so that something builds up there.
@@ -46,19 +42,25 @@ pub struct Generator {
 const USUAL_BUDGET: u64 = 2_000_000;
 const GREAT_BUDGET: u64 = 350_000_000;
 
+/// Looks on while a list is made: at each frame, with its answer and the panel
+/// after it.
+pub type Onlooker<'a> = &'a mut dyn FnMut(&[u8], Answer, &Panel);
+
 /// Makes the list of `length` frames that belongs to the seed.
-pub fn generate(seed: u64, length: usize) -> List {
+pub fn generate(seed: u64, length: usize, onlooker: Onlooker) -> List {
     let mut generator = Generator::new(seed);
     while generator.frames.len() < length {
         let bytes = generator.next_frame();
-        generator.send(bytes);
+        let answer = generator.panel.frame(&bytes);
+        onlooker(&bytes, answer, &generator.panel);
+        generator.answers.push(answer);
+        generator.frames.push(bytes);
     }
     List {
         outputs: generator.panel.outputs().len(),
         frames: generator.frames,
         answers: generator.answers,
         panel: generator.panel,
-        boundaries: generator.boundaries,
     }
 }
 
@@ -86,20 +88,10 @@ impl Generator {
             panel: Panel::start(outputs as usize),
             frames: Vec::new(),
             answers: Vec::new(),
-            boundaries: Tally::new(),
             budget: if great { GREAT_BUDGET } else { USUAL_BUDGET },
             favourites,
             plan: VecDeque::new(),
         }
-    }
-
-    fn send(&mut self, bytes: Vec<u8>) {
-        let arrivals = self.panel.first_arrivals().len();
-        self.answers.push(self.panel.frame(&bytes));
-        if self.panel.first_arrivals().len() > arrivals {
-            count_edges(&mut self.boundaries, &bytes);
-        }
-        self.frames.push(bytes);
     }
 
     fn next_frame(&mut self) -> Vec<u8> {

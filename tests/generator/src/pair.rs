@@ -3,7 +3,7 @@
 use plain::{Answer, Panel};
 
 use crate::copies::{with_copies, WithCopies};
-use crate::list::{generate, List};
+use crate::list::{generate, List, Onlooker};
 use crate::random::Random;
 
 pub struct Pair {
@@ -13,9 +13,14 @@ pub struct Pair {
 
 /// Without a length every list has its own.
 pub fn pair(seed: u64, length: Option<usize>) -> Pair {
+    pair_seen_by(seed, length, &mut |_, _, _| {})
+}
+
+/// The same; the onlooker sees the list without copies.
+pub fn pair_seen_by(seed: u64, length: Option<usize>, onlooker: Onlooker) -> Pair {
     let mut random = Random::from_seed(!seed);
     let own_length = own_length(&mut random);
-    let list = generate(seed, length.unwrap_or(own_length));
+    let list = generate(seed, length.unwrap_or(own_length), onlooker);
     let with_copies = with_copies(&mut random, &list.frames);
     Pair { list, with_copies }
 }

@@ -1,10 +1,9 @@
 //! Scenes for §3: Present_Value is brought to the two values of a relay and to
 //! the units beside them, in every way in which it moves.
 
+use events::relay::{Stand, STANDS};
 use plain::frame::*;
 use plain::real::{self, level_as_real};
-use plain::relay_event::Stand;
-use plain::relay_expected::STANDS;
 use plain::settings::*;
 
 use crate::body::Body;

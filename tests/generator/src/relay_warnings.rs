@@ -1,6 +1,7 @@
 //! Scenes for §3 in blink warnings, whose turn and end move Present_Value too,
 //! and which many things interrupt.
 
+use events::words::COMMANDS;
 use plain::frame::*;
 use plain::real;
 use plain::settings::*;
@@ -127,7 +128,7 @@ impl Generator {
             .pick(&[ONE_PERCENT, 40.0_f32.to_bits(), HUNDRED_PERCENT]);
         let kind = match self.random.chance(60) {
             true => self.random.pick(&[STOP, RELINQUISH]),
-            false => self.random.pick(&ALL_COMMANDS),
+            false => self.random.pick(&COMMANDS),
         };
         match self.random.below(12) {
             0..=2 => self.plan_write(output, priority, aim.real()),

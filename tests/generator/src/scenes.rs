@@ -1,13 +1,13 @@
 //! What is done next to an output, by what it is doing now.
 
-use plain::event::Situation;
+use events::edges::WIDE_PRIORITIES;
+use events::words::{Situation, COMMANDS};
 use plain::frame::*;
 use plain::real::level_as_real;
 use plain::settings::*;
 use plain::Output;
 
 use crate::body::Body;
-use crate::boundary::WIDE_PRIORITIES;
 use crate::list::Generator;
 use crate::timing::When;
 use crate::values::{self, BAD_PRIORITIES, PRIORITIES};
@@ -26,7 +26,7 @@ impl Generator {
         if self.random.chance(40) {
             self.plan_look(output);
         }
-        match self.output(output).situation() {
+        match Situation::of(self.output(output)) {
             Situation::WarningDark | Situation::WarningLit => self.plan_in_warning(output),
             Situation::Moving => self.plan_in_movement(output),
             Situation::Dark | Situation::Lit => self.plan_at_rest(output),
@@ -177,7 +177,7 @@ impl Generator {
     /// winner's.
     fn plan_command_of_rank(&mut self, output: u8, when: When) {
         let priority = self.priority_by_rank(output);
-        let kind = self.random.pick(&ALL_COMMANDS);
+        let kind = self.random.pick(&COMMANDS);
         let command = if self.random.chance(80) {
             self.good_command(kind)
         } else {

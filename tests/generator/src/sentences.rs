@@ -1,6 +1,7 @@
 //! Scenes made for one sentence of the paper each, which chance alone tries
 //! too seldom for the lists of the gate.
 
+use events::words::{COMMANDS, DARKENING};
 use plain::frame::*;
 use plain::real::{self, level_as_real};
 use plain::settings::*;
@@ -237,7 +238,7 @@ impl Generator {
         self.plan_command(output, GOTO, &[level, duration]);
         let kind = match self.random.chance(40) {
             true => RELINQUISH,
-            false => self.random.pick(&ALL_COMMANDS),
+            false => self.random.pick(&COMMANDS),
         };
         if let Body::Command { kind, mut fields } = self.good_command(kind) {
             *fields.last_mut().expect("a duration stands last") = ABSENT;

@@ -1,6 +1,7 @@
 //! Tagged commands (§1): any command in tags, and bodies for each sentence of
 //! refusals 14 and 15.
 
+use events::words::COMMANDS;
 use plain::frame::*;
 use plain::last_command::LastCommand;
 use plain::settings::{LAST_DURATION, LAST_OPERATION, LONGEST, SHORTEST};
@@ -118,7 +119,7 @@ impl Generator {
         let longest = self.random.one_in(4);
         let kind = match longest {
             true => self.random.pick(&[FADE_TO_OVER, RAMP_TO_AT_RATE]),
-            false => self.random.pick(&ALL_COMMANDS),
+            false => self.random.pick(&COMMANDS),
         };
         let least = if longest { 4 } else { 1 };
         let mut tags = self.good_fields(kind).tags();
@@ -154,7 +155,7 @@ impl Generator {
 
     /// A command of which each field may be out of its range.
     fn command_out_of_range(&mut self) -> Vec<Tag> {
-        let kind = self.random.pick(&ALL_COMMANDS);
+        let kind = self.random.pick(&COMMANDS);
         let bad_real = self.random.pick(&[0xBF80_0000, 0x42C8_0001, 0x7FC0_0000]);
         let bad_time = self
             .random
@@ -208,7 +209,7 @@ impl Generator {
         }
         let (kind, number) = match self.random.chance(50) {
             true => (FADE_TO_OVER, FADE_TIME),
-            false => (self.random.pick(&ALL_COMMANDS), DURATION),
+            false => (self.random.pick(&COMMANDS), DURATION),
         };
         let mut tags = self.good_fields(kind).tags();
         let edge = Tag::context(number, &octets);
@@ -225,7 +226,7 @@ impl Generator {
         let short = [STOP, STEP_UP, STEP_DOWN, RELINQUISH];
         let kind = match self.random.chance(50) {
             true => self.random.pick(&short),
-            false => self.random.pick(&ALL_COMMANDS),
+            false => self.random.pick(&COMMANDS),
         };
         let mut body = Draft::of(self.good_fields(kind).tags()).body();
         if let Body::Tagged { length, bytes } = &mut body {

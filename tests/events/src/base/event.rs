@@ -1,86 +1,11 @@
-//! What a list makes the plain panel meet.
-//!
-//! The events decide nothing. They are counted so that a run can say what it
-//! has reached, and `expected` names what it must reach.
+//! The events of document 01, and one variant for those of each change.
 
-use std::collections::BTreeMap;
-use std::fmt;
-
-use crate::answer::Answer;
-use crate::jump_event::JumpEvent;
-use crate::light_event::LightEvent;
-use crate::relay_event::RelayEvent;
-use crate::tag_event::TaggedEvent;
-use crate::tie_event::TieEvent;
-
-/// A byte that the paper writes in hexadecimal.
-#[derive(Clone, Copy, PartialEq, Eq, PartialOrd, Ord)]
-pub struct Hexadecimal(pub u8);
-
-impl From<u8> for Hexadecimal {
-    fn from(byte: u8) -> Hexadecimal {
-        Hexadecimal(byte)
-    }
-}
-
-impl fmt::Debug for Hexadecimal {
-    fn fmt(&self, formatter: &mut fmt::Formatter) -> fmt::Result {
-        write!(formatter, "{:02X}", self.0)
-    }
-}
-
-/// An answer without its value.
-#[derive(Clone, Copy, Debug, PartialEq, Eq, PartialOrd, Ord)]
-pub enum Answered {
-    Done,
-    Value,
-    Absent,
-    Refused(u8),
-}
-
-impl From<Answer> for Answered {
-    fn from(answer: Answer) -> Answered {
-        match answer {
-            Answer::Done => Answered::Done,
-            Answer::Value(_) => Answered::Value,
-            Answer::Absent => Answered::Absent,
-            Answer::Refused(number) => Answered::Refused(number),
-        }
-    }
-}
-
-/// What an output is doing when a frame acts on it.
-#[derive(Clone, Copy, Debug, PartialEq, Eq, PartialOrd, Ord)]
-pub enum Situation {
-    Dark,
-    Lit,
-    Moving,
-    WarningDark,
-    WarningLit,
-}
-
-impl Situation {
-    pub const ALL: [Situation; 5] = [
-        Situation::Dark,
-        Situation::Lit,
-        Situation::Moving,
-        Situation::WarningDark,
-        Situation::WarningLit,
-    ];
-
-    pub fn is_warning(self) -> bool {
-        matches!(self, Situation::WarningDark | Situation::WarningLit)
-    }
-}
-
-/// How the slot that a frame acts on stands to the winner before it.
-#[derive(Clone, Copy, Debug, PartialEq, Eq, PartialOrd, Ord)]
-pub enum Rank {
-    /// A lower number than the winner's, or there is no winner.
-    Stronger,
-    Winner,
-    Weaker,
-}
+use crate::jump::JumpEvent;
+use crate::light::LightEvent;
+use crate::relay::RelayEvent;
+use crate::tags::TaggedEvent;
+use crate::tie::TieEvent;
+use crate::words::{Answered, Hexadecimal, Rank, Situation};
 
 #[derive(Clone, Copy, Debug, PartialEq, Eq, PartialOrd, Ord)]
 pub enum Phase {
@@ -351,42 +276,4 @@ pub enum Event {
         own_slot: bool,
         was_live: bool,
     },
-}
-
-/// Counts by kind of event.
-#[derive(Clone, Debug)]
-pub struct Tally<Kind: Ord> {
-    counts: BTreeMap<Kind, u64>,
-}
-
-impl<Kind: Ord + Copy> Tally<Kind> {
-    pub fn new() -> Tally<Kind> {
-        Tally {
-            counts: BTreeMap::new(),
-        }
-    }
-
-    pub fn count(&mut self, kind: Kind) {
-        *self.counts.entry(kind).or_insert(0) += 1;
-    }
-
-    pub fn add(&mut self, other: &Tally<Kind>) {
-        for (kind, count) in &other.counts {
-            *self.counts.entry(*kind).or_insert(0) += count;
-        }
-    }
-
-    pub fn of(&self, kind: Kind) -> u64 {
-        self.counts.get(&kind).copied().unwrap_or(0)
-    }
-
-    pub fn iter(&self) -> impl Iterator<Item = (&Kind, &u64)> {
-        self.counts.iter()
-    }
-}
-
-impl<Kind: Ord + Copy> Default for Tally<Kind> {
-    fn default() -> Tally<Kind> {
-        Tally::new()
-    }
 }

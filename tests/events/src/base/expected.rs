@@ -1,18 +1,30 @@
-//! Every event that a thorough set of lists must reach.
+//! Every event that a thorough suite of document 01 must reach.
 
-use crate::event::*;
-use crate::frame::{
-    ALL_COMMANDS, ALL_KINDS, CLOCK, DARKENING, EMPTY_A_SLOT, FADE_TO, GOTO, READ_PROPERTY,
-    TAGGED_COMMAND, WRITE_PRESENT_VALUE, WRITE_PROPERTY,
-};
-use crate::jump_expected;
-use crate::light_expected;
-use crate::relay_expected;
-use crate::settings::*;
-use crate::tag_event;
-use crate::tie_expected;
+use plain::frame::*;
+use plain::settings::*;
 
-pub(crate) const BOTH: [bool; 2] = [false, true];
+use super::event::*;
+use crate::words::{Answered, Rank, Situation, BOTH, COMMANDS, DARKENING};
+
+/// The kinds of document 01.
+const KINDS: [u8; 16] = [
+    CLOCK,
+    WRITE_PRESENT_VALUE,
+    EMPTY_A_SLOT,
+    WRITE_PROPERTY,
+    READ_PROPERTY,
+    STOP,
+    FADE_TO,
+    FADE_TO_OVER,
+    RAMP_TO,
+    RAMP_TO_AT_RATE,
+    STEP_UP,
+    STEP_DOWN,
+    STEP_UP_BY,
+    STEP_DOWN_BY,
+    GOTO,
+    RELINQUISH,
+];
 
 pub fn expected() -> Vec<Event> {
     let mut events = Vec::new();
@@ -23,11 +35,6 @@ pub fn expected() -> Vec<Event> {
     movement_events(&mut events);
     duration_events(&mut events);
     warning_events(&mut events);
-    events.extend(tag_event::expected().into_iter().map(Event::Tagged));
-    events.extend(light_expected::expected().into_iter().map(Event::Light));
-    events.extend(relay_expected::expected().into_iter().map(Event::Relay));
-    events.extend(jump_expected::expected().into_iter().map(Event::Jumped));
-    events.extend(tie_expected::expected().into_iter().map(Event::Tie));
     events
 }
 
@@ -49,7 +56,7 @@ fn list_events(events: &mut Vec<Event>) {
         Event::LastMillisecond,
         Event::LastOutputOf64,
     ]);
-    for kind in ALL_KINDS {
+    for kind in KINDS {
         events.push(Event::TooShort { kind: kind.into() });
         events.push(Event::TooLong { kind: kind.into() });
     }
@@ -57,7 +64,7 @@ fn list_events(events: &mut Vec<Event>) {
         for answer in [Answered::Done, Answered::Value, Answered::Absent] {
             events.push(Event::Copy { late, answer });
         }
-        for number in (9..=13).chain([16]) {
+        for number in 9..=13 {
             let answer = Answered::Refused(number);
             events.push(Event::Copy { late, answer });
         }
@@ -66,7 +73,7 @@ fn list_events(events: &mut Vec<Event>) {
 }
 
 fn first_arrival_events(events: &mut Vec<Event>) {
-    for kind in ALL_KINDS {
+    for kind in KINDS {
         let answers: &[Answered] = match kind {
             CLOCK => &[],
             WRITE_PRESENT_VALUE => &[Answered::Done, Answered::Refused(10), Answered::Refused(11)],
@@ -78,16 +85,8 @@ fn first_arrival_events(events: &mut Vec<Event>) {
                 Answered::Refused(11),
                 Answered::Refused(12),
                 Answered::Refused(13),
-                Answered::Refused(16),
             ],
             READ_PROPERTY => &[Answered::Value, Answered::Absent, Answered::Refused(9)],
-            TAGGED_COMMAND => &[
-                Answered::Done,
-                Answered::Refused(11),
-                Answered::Refused(12),
-                Answered::Refused(14),
-                Answered::Refused(15),
-            ],
             0x10 | 0x15 | 0x16 | 0x1A => &[Answered::Done, Answered::Refused(12)],
             _ => &[Answered::Done, Answered::Refused(11), Answered::Refused(12)],
         };
@@ -115,13 +114,12 @@ fn property_events(events: &mut Vec<Event>) {
     for property in 0..=255_u8 {
         let readable = matches!(
             property,
-            RELINQUISH_DEFAULT..=LAST_DURATION
-                | BINARY_ACTIVE_VALUE..=RELAY_STATE
-                | FIRST_SLOT..=LAST_SLOT
+            RELINQUISH_DEFAULT..=LAST_DURATION | FIRST_SLOT..=LAST_SLOT
         );
         let sometimes_absent =
             matches!(property, LAST_LEVEL..=LAST_DURATION | FIRST_SLOT..=LAST_SLOT);
-        // Of the unknown numbers, those beside a known one and the ends.
+        // Of the unknown numbers, those beside a known one and the ends; 1C too,
+        // as long as it is unknown.
         let unknown_but_tried = matches!(property, 0x00 | 0x15 | 0x16 | 0x1C | 0x20 | 0x31 | 0xFF);
         if readable {
             events.push(read(property, Answered::Value));
@@ -136,13 +134,11 @@ fn property_events(events: &mut Vec<Event>) {
             RELINQUISH_DEFAULT | RAMP_RATE | STEP_INCREMENT => {
                 &[Answered::Done, Answered::Refused(11)]
             }
-            FADE_TIME | BLINK_ENABLE | BLINK_TIME | BLINK_WARN_DELAY | ELAPSED_ACTIVE_TIME
-            | POLARITY => &[Answered::Done, Answered::Refused(12)],
+            FADE_TIME | BLINK_ENABLE | BLINK_TIME | BLINK_WARN_DELAY | ELAPSED_ACTIVE_TIME => {
+                &[Answered::Done, Answered::Refused(12)]
+            }
             MINIMUM | MAXIMUM => &[Answered::Done, Answered::Refused(11), Answered::Refused(13)],
             LIGHTING_COMMAND_PRIORITY => &[Answered::Done, Answered::Refused(10)],
-            BINARY_ACTIVE_VALUE | BINARY_INACTIVE_VALUE => {
-                &[Answered::Done, Answered::Refused(11), Answered::Refused(16)]
-            }
             _ if readable || unknown_but_tried => &[Answered::Refused(9)],
             _ => &[],
         };
@@ -169,7 +165,7 @@ fn read(property: u8, answer: Answered) -> Event {
 }
 
 /// In a warning slot 6 wins, and no frame acts on slot 6.
-pub(crate) fn situations_and_ranks() -> Vec<(Situation, Rank)> {
+pub fn situations_and_ranks() -> Vec<(Situation, Rank)> {
     let mut pairs = Vec::new();
     for situation in Situation::ALL {
         for rank in [Rank::Stronger, Rank::Winner, Rank::Weaker] {
@@ -205,7 +201,7 @@ fn slot_and_command_events(events: &mut Vec<Event>) {
                 });
             }
         }
-        for kind in ALL_COMMANDS {
+        for kind in COMMANDS {
             events.push(Event::Command {
                 kind: kind.into(),
                 situation,
@@ -259,7 +255,7 @@ fn duration_events(events: &mut Vec<Event>) {
         }
         events.push(Event::DurationCancelled { other_slot });
     }
-    for kind in ALL_COMMANDS {
+    for kind in COMMANDS {
         for own_slot in BOTH {
             let kind = kind.into();
             events.push(Event::DurationLeftRunning { kind, own_slot });
@@ -348,7 +344,7 @@ fn warning_events(events: &mut Vec<Event>) {
         Breaker::LitAtAnotherSlotAboveSix,
         Breaker::LitBelowSix,
     ];
-    let commands = ALL_COMMANDS.map(|kind| Breaker::Command(kind.into()));
+    let commands = COMMANDS.map(|kind| Breaker::Command(kind.into()));
     for phase in [Phase::Dark, Phase::Lit] {
         for by in writes.into_iter().chain(commands) {
             events.push(Event::WarningBroken { by, phase });

@@ -1,11 +1,16 @@
-//! Which edges of which fields a list has tried.
+//! Which edges of which fields the first arrivals of a list have tried.
 
-use plain::event::Tally;
+mod expected;
+mod tags;
+
+pub use expected::{of_base, of_relays, of_tags};
+pub use tags::TagEdge;
+
 use plain::frame::*;
 use plain::last_command::LastCommand;
 use plain::settings::*;
 
-use crate::tag_boundary::{self, TagEdge};
+use crate::tally::Tally;
 
 #[derive(Clone, Copy, Debug, PartialEq, Eq, PartialOrd, Ord)]
 pub enum RealField {
@@ -64,7 +69,7 @@ pub enum WholeField {
 }
 
 #[derive(Clone, Copy, Debug, PartialEq, Eq, PartialOrd, Ord)]
-pub enum Boundary {
+pub enum Edge {
     Real { field: RealField, edge: RealEdge },
     Whole { field: WholeField, value: u32 },
     WritePriority(u8),
@@ -72,59 +77,6 @@ pub enum Boundary {
     CommandPriority(u32),
     Tagged(TagEdge),
 }
-
-const REAL_FIELDS: [RealField; 14] = [
-    RealField::WrittenLevel,
-    RealField::CommandLevel,
-    RealField::CommandRate,
-    RealField::CommandStep,
-    RealField::TaggedLevel,
-    RealField::TaggedRate,
-    RealField::TaggedStep,
-    RealField::RelinquishDefault,
-    RealField::RampRate,
-    RealField::StepIncrement,
-    RealField::Minimum,
-    RealField::Maximum,
-    RealField::BinaryActiveValue,
-    RealField::BinaryInactiveValue,
-];
-
-const REAL_EDGES: [RealEdge; 20] = [
-    RealEdge::Zero,
-    RealEdge::MinusZero,
-    RealEdge::Subnormal,
-    RealEdge::JustBelowEighth,
-    RealEdge::Eighth,
-    RealEdge::JustAboveEighth,
-    RealEdge::JustBelowOne,
-    RealEdge::One,
-    RealEdge::JustAboveOne,
-    RealEdge::JustBelowHalfUnit,
-    RealEdge::HalfUnit,
-    RealEdge::JustAboveHalfUnit,
-    RealEdge::JustBelowHundred,
-    RealEdge::Hundred,
-    RealEdge::JustAboveHundred,
-    RealEdge::Infinity,
-    RealEdge::MinusInfinity,
-    RealEdge::NotANumber,
-    RealEdge::NegativeSubnormal,
-    RealEdge::Negative,
-];
-
-const WHOLE_FIELDS: [WholeField; 10] = [
-    WholeField::Duration,
-    WholeField::CommandFadeTime,
-    WholeField::TaggedDuration,
-    WholeField::TaggedFadeTime,
-    WholeField::FadeTime,
-    WholeField::BlinkEnable,
-    WholeField::BlinkTime,
-    WholeField::BlinkWarnDelay,
-    WholeField::ElapsedActiveTime,
-    WholeField::Polarity,
-];
 
 /// Values of property 0A that only a look at all 32 bits tells apart.
 pub const WIDE_PRIORITIES: [u32; 6] = [
@@ -136,25 +88,22 @@ pub const WIDE_PRIORITIES: [u32; 6] = [
     0xFFFF_FFFF,
 ];
 
-/// Every edge that a thorough set of lists must try.
-pub fn expected() -> Vec<Boundary> {
-    let mut boundaries = Vec::new();
-    for field in REAL_FIELDS {
-        boundaries.extend(REAL_EDGES.map(|edge| Boundary::Real { field, edge }));
-    }
-    for field in WHOLE_FIELDS {
-        boundaries.extend(crate::values::EDGE_TIMES.map(|value| Boundary::Whole { field, value }));
-    }
-    for priority in (0..=17).chain([255]) {
-        boundaries.push(Boundary::WritePriority(priority));
-        boundaries.push(Boundary::EmptyPriority(priority));
-    }
-    for priority in (0..=16).chain(WIDE_PRIORITIES) {
-        boundaries.push(Boundary::CommandPriority(priority));
-    }
-    boundaries.extend(tag_boundary::expected().into_iter().map(Boundary::Tagged));
-    boundaries
-}
+/// Whole numbers at the edges of their ranges and of 32 bits.
+pub const EDGE_TIMES: [u32; 13] = [
+    0,
+    1,
+    2,
+    99,
+    100,
+    101,
+    86_399_999,
+    86_400_000,
+    86_400_001,
+    0x7FFF_FFFF,
+    0x8000_0000,
+    0xFFFF_FFFE,
+    0xFFFF_FFFF,
+];
 
 /// The edge that a REAL stands on, if any.
 fn real_edge(bits: u32) -> Option<RealEdge> {
@@ -187,24 +136,24 @@ fn real_edge(bits: u32) -> Option<RealEdge> {
 }
 
 /// Counts the edges in the fields of a first arrival.
-pub fn count_edges(tally: &mut Tally<Boundary>, bytes: &[u8]) {
-    let real = |tally: &mut Tally<Boundary>, field, bits| {
+pub fn of_frame(bytes: &[u8], tally: &mut Tally<Edge>) {
+    let real = |tally: &mut Tally<Edge>, field, bits| {
         if let Some(edge) = real_edge(bits) {
-            tally.count(Boundary::Real { field, edge });
+            tally.count(Edge::Real { field, edge });
         }
     };
-    let whole = |tally: &mut Tally<Boundary>, field, value| {
-        if crate::values::EDGE_TIMES.contains(&value) {
-            tally.count(Boundary::Whole { field, value });
+    let whole = |tally: &mut Tally<Edge>, field, value| {
+        if EDGE_TIMES.contains(&value) {
+            tally.count(Edge::Whole { field, value });
         }
     };
     let kind = bytes[0];
     match kind {
         WRITE_PRESENT_VALUE => {
-            tally.count(Boundary::WritePriority(byte_field(bytes)));
+            tally.count(Edge::WritePriority(byte_field(bytes)));
             real(tally, RealField::WrittenLevel, value_field(bytes));
         }
-        EMPTY_A_SLOT => tally.count(Boundary::EmptyPriority(byte_field(bytes))),
+        EMPTY_A_SLOT => tally.count(Edge::EmptyPriority(byte_field(bytes))),
         WRITE_PROPERTY => {
             let value = value_field(bytes);
             match byte_field(bytes) {
@@ -218,7 +167,7 @@ pub fn count_edges(tally: &mut Tally<Boundary>, bytes: &[u8]) {
                 MINIMUM => real(tally, RealField::Minimum, value),
                 MAXIMUM => real(tally, RealField::Maximum, value),
                 LIGHTING_COMMAND_PRIORITY if value <= 16 || WIDE_PRIORITIES.contains(&value) => {
-                    tally.count(Boundary::CommandPriority(value));
+                    tally.count(Edge::CommandPriority(value));
                 }
                 ELAPSED_ACTIVE_TIME => whole(tally, WholeField::ElapsedActiveTime, value),
                 BINARY_ACTIVE_VALUE => real(tally, RealField::BinaryActiveValue, value),
@@ -230,10 +179,10 @@ pub fn count_edges(tally: &mut Tally<Boundary>, bytes: &[u8]) {
         STOP..=TAGGED_COMMAND => {
             let tagged = kind == TAGGED_COMMAND;
             if tagged {
-                let edges = tag_boundary::edges(tagged_body(bytes));
+                let edges = tags::edges(tagged_body(bytes));
                 edges
                     .into_iter()
-                    .for_each(|edge| tally.count(Boundary::Tagged(edge)));
+                    .for_each(|edge| tally.count(Edge::Tagged(edge)));
             }
             let Some(command) = LastCommand::of_frame(bytes) else {
                 return;

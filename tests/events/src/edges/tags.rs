@@ -1,9 +1,23 @@
 //! Which edges of a tagged body (§1) a list has tried.
 
+use plain::settings::LONGEST;
 use plain::tag_writer::fewest_octets;
 use plain::tags::*;
 
-use crate::tag_scenes::EDGES_OF_OCTETS;
+/// Whole numbers at the edges of one, two, three and four octets, and of their
+/// range.
+pub const EDGES_OF_OCTETS: [u32; 10] = [
+    0,
+    255,
+    256,
+    65_535,
+    65_536,
+    16_777_215,
+    16_777_216,
+    LONGEST,
+    LONGEST + 1,
+    0xFFFF_FFFF,
+];
 
 #[derive(Clone, Copy, Debug, PartialEq, Eq, PartialOrd, Ord)]
 pub enum TagEdge {

@@ -1,10 +1,15 @@
-//! Every event of `jump_event` that a thorough set of lists must reach (§4).
+//! Every event that a thorough suite of far jumps must reach (§4).
 
-use crate::expected::BOTH;
-use crate::jump_event::{Arrival, Far, JumpEvent, Measure, Wrap, READ};
-use crate::light_event::{Course, Way};
+use super::{Arrival, Far, JumpEvent, Measure, Wrap, READ};
+use crate::base::Event;
+use crate::light::{Course, Way};
+use crate::words::BOTH;
 
-pub fn expected() -> Vec<JumpEvent> {
+pub fn expected() -> Vec<Event> {
+    jumps().into_iter().map(Event::Jumped).collect()
+}
+
+fn jumps() -> Vec<JumpEvent> {
     let mut events = Vec::new();
     for ramp in BOTH {
         for up in BOTH {

@@ -1,10 +1,11 @@
-//! Every event of `tie_event` that a thorough set of lists must reach (§5).
+//! Every event that a thorough suite of halves must reach (§5).
 
-use crate::event::Hexadecimal;
-use crate::expected::BOTH;
-use crate::frame::*;
-use crate::settings::*;
-use crate::tie_event::{Decider, Field, Small, Span, Tie, TieEvent};
+use plain::frame::*;
+use plain::settings::*;
+
+use super::{Decider, Field, Small, Span, Tie, TieEvent};
+use crate::base::Event;
+use crate::words::{Hexadecimal, BOTH};
 
 const WITH_LEVEL: [u8; 5] = [FADE_TO, FADE_TO_OVER, RAMP_TO, RAMP_TO_AT_RATE, GOTO];
 const RAISED: [u8; 3] = [
@@ -13,7 +14,11 @@ const RAISED: [u8; 3] = [
     BINARY_INACTIVE_VALUE,
 ];
 
-pub fn expected() -> Vec<TieEvent> {
+pub fn expected() -> Vec<Event> {
+    ties().into_iter().map(Event::Tie).collect()
+}
+
+fn ties() -> Vec<TieEvent> {
     let mut events = Vec::new();
     for field in levels().into_iter().chain([MINIMUM, MAXIMUM].map(property)) {
         rounded(

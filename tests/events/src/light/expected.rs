@@ -1,11 +1,16 @@
-//! Every event of `light_event` that a thorough set of lists must reach (§2).
+//! Every event that a thorough suite of movements' light must reach (§2).
 
-use crate::event::Rank;
-use crate::expected::BOTH;
-use crate::frame::{ALL_COMMANDS, FADE_TO, RAMP_TO_AT_RATE};
-use crate::light_event::{Act, Course, LightEvent, Place, Way, READ, WRITTEN};
+use plain::frame::{FADE_TO, RAMP_TO_AT_RATE};
 
-pub fn expected() -> Vec<LightEvent> {
+use super::{Act, Course, LightEvent, Place, Way, READ, WRITTEN};
+use crate::base::Event;
+use crate::words::{Rank, BOTH, COMMANDS};
+
+pub fn expected() -> Vec<Event> {
+    of_light().into_iter().map(Event::Light).collect()
+}
+
+fn of_light() -> Vec<LightEvent> {
     let mut events = Vec::new();
     for ramp in BOTH {
         stretches(&mut events, ramp);
@@ -90,7 +95,7 @@ fn edges(ramp: bool) -> Vec<(Way, Place)> {
 }
 
 fn acts() -> Vec<Act> {
-    let mut acts: Vec<Act> = ALL_COMMANDS.map(|kind| Act::Command(kind.into())).to_vec();
+    let mut acts: Vec<Act> = COMMANDS.map(|kind| Act::Command(kind.into())).to_vec();
     acts.extend(WRITTEN.map(|property| Act::Property(property.into())));
     acts.extend(READ.map(|property| Act::Read(property.into())));
     for rank in [Rank::Stronger, Rank::Winner, Rank::Weaker] {

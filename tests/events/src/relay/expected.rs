@@ -1,13 +1,11 @@
-//! Every event of `relay_event` that a thorough set of lists must reach (§3).
+//! Every event that a thorough suite of relays must reach (§3).
 
-use crate::event::{Hexadecimal, Situation};
-use crate::expected::BOTH;
-use crate::frame::{ALL_COMMANDS, STEP_DOWN, STEP_DOWN_BY, STEP_UP, STEP_UP_BY, STOP};
-use crate::relay_event::{Gap, Mover, RelayEvent, Stand};
-use crate::settings::{
-    BINARY_ACTIVE_VALUE, BINARY_INACTIVE_VALUE, MAXIMUM, MINIMUM, PRESENT_VALUE, RELAY_STATE,
-    RELINQUISH_DEFAULT,
-};
+use plain::frame::*;
+use plain::settings::*;
+
+use super::{Gap, Mover, RelayEvent, Stand};
+use crate::base::Event;
+use crate::words::{Answered, Hexadecimal, Situation, BOTH, COMMANDS};
 
 /// The edges of the two values, and what lies between them.
 pub const STANDS: [Stand; 7] = [
@@ -26,7 +24,46 @@ const WARNING_TURN_AND_ENDS: [Mover; 3] = [
     Mover::WarningEnd { lit: true },
 ];
 
-pub fn expected() -> Vec<RelayEvent> {
+/// Of the events of the list and of properties, those that §3 brings.
+pub fn expected() -> Vec<Event> {
+    let refused = Answered::Refused(16);
+    let mut events = vec![Event::FirstArrival {
+        kind: Hexadecimal(WRITE_PROPERTY),
+        answer: refused,
+    }];
+    events.extend(BOTH.map(|late| Event::Copy {
+        late,
+        answer: refused,
+    }));
+    for property in (BINARY_ACTIVE_VALUE..=RELAY_STATE).map(Hexadecimal) {
+        events.push(Event::PropertyRead {
+            property,
+            answer: Answered::Value,
+        });
+        let answers: &[u8] = match property.0 {
+            BINARY_ACTIVE_VALUE | BINARY_INACTIVE_VALUE => &[11, 16],
+            POLARITY => &[12],
+            _ => &[9],
+        };
+        let mut written: Vec<Answered> = answers.iter().copied().map(Answered::Refused).collect();
+        let mut situations = vec![Situation::Lit];
+        if property.0 <= POLARITY {
+            written.push(Answered::Done);
+            situations = Situation::ALL.to_vec();
+        }
+        for answer in written {
+            events.extend(situations.iter().map(|situation| Event::PropertyWritten {
+                property,
+                answer,
+                situation: *situation,
+            }));
+        }
+    }
+    events.extend(of_relays().into_iter().map(Event::Relay));
+    events
+}
+
+fn of_relays() -> Vec<RelayEvent> {
     let mut events = Vec::new();
     for by in movers() {
         judgings(&mut events, by);
@@ -71,7 +108,7 @@ fn movers() -> Vec<Mover> {
         Mover::WarningStart,
     ];
     movers.extend(WARNING_TURN_AND_ENDS);
-    movers.extend(ALL_COMMANDS.map(|kind| Mover::Command(kind.into())));
+    movers.extend(COMMANDS.map(|kind| Mover::Command(kind.into())));
     movers.extend(
         [
             RELINQUISH_DEFAULT,
