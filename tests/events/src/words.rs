@@ -8,6 +8,9 @@ use plain::{Answer, Output};
 
 pub const BOTH: [bool; 2] = [false, true];
 
+/// Document 01's longest fade time, duration and blink times, in milliseconds.
+pub const DAY: u64 = 86_400_000;
+
 /// The kinds of document 01's commands, in the order of their operations; §1
 /// brings the same ones.
 pub const COMMANDS: [u8; 11] = [

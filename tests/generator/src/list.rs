@@ -6,6 +6,7 @@ use plain::{Answer, Panel};
 
 use crate::body::{clock, Body, Head};
 use crate::random::Random;
+use crate::suite::Suite;
 use crate::timing::When;
 
 /// A list with what the plain panel answered and what it is left with.
@@ -27,6 +28,7 @@ pub struct Planned {
 }
 
 pub struct Generator {
+    pub(crate) suite: &'static Suite,
     pub(crate) random: Random,
     pub(crate) panel: Panel,
     pub(crate) frames: Vec<Vec<u8>>,
@@ -38,7 +40,7 @@ pub struct Generator {
     pub(crate) plan: VecDeque<Planned>,
 }
 
-/// Most lists are quick to live; one in a hundred may live whole days.
+/// Most lists are quick to live; some may live whole days.
 const USUAL_BUDGET: u64 = 2_000_000;
 const GREAT_BUDGET: u64 = 350_000_000;
 
@@ -46,9 +48,31 @@ const GREAT_BUDGET: u64 = 350_000_000;
 /// after it.
 pub type Onlooker<'a> = &'a mut dyn FnMut(&[u8], Answer, &Panel);
 
-/// Makes the list of `length` frames that belongs to the seed.
-pub fn generate(seed: u64, length: usize, onlooker: Onlooker) -> List {
-    let mut generator = Generator::new(seed);
+/// Which list.
+#[derive(Clone, Copy)]
+pub struct Which {
+    pub suite: &'static Suite,
+    /// The run's seed.
+    pub run: u64,
+    /// Its number in the suite, from 0.
+    pub number: u64,
+}
+
+impl Which {
+    pub fn seed(&self) -> u64 {
+        self.suite.seed(self.run, self.number)
+    }
+
+    /// Whether it may live whole days: one in the middle of so many lists.
+    pub fn is_great(&self) -> bool {
+        let great_lists = self.suite.tables.great_lists;
+        great_lists > 0 && self.number % great_lists == great_lists / 2
+    }
+}
+
+/// Makes that list, with `length` frames.
+pub fn generate(which: Which, length: usize, onlooker: Onlooker) -> List {
+    let mut generator = Generator::new(which);
     while generator.frames.len() < length {
         let bytes = generator.next_frame();
         let answer = generator.panel.frame(&bytes);
@@ -65,13 +89,13 @@ pub fn generate(seed: u64, length: usize, onlooker: Onlooker) -> List {
 }
 
 impl Generator {
-    fn new(seed: u64) -> Generator {
-        let mut random = Random::from_seed(seed);
-        let great = random.one_in(100);
+    fn new(which: Which) -> Generator {
+        let mut random = Random::from_seed(which.seed());
+        let great = which.is_great();
         let outputs = match random.below(10) {
             _ if great => random.between(1, 2),
-            // Every number of outputs has its turn in 256 seeds.
-            _ if seed.is_multiple_of(4) => seed / 4 % 64 + 1,
+            // Every number of outputs has its turn in 256 lists.
+            _ if which.number.is_multiple_of(4) => which.number / 4 * 21 % 64 + 1,
             0..=3 => 1,
             4..=8 => random.between(2, 8),
             _ => 64,
@@ -84,6 +108,7 @@ impl Generator {
             } as u8)
             .collect();
         Generator {
+            suite: which.suite,
             random,
             panel: Panel::start(outputs as usize),
             frames: Vec::new(),
@@ -142,16 +167,6 @@ impl Generator {
             time,
             output: planned.output,
         })
-    }
-
-    pub(crate) fn plan(&mut self, output: u8, body: Body, when: When) {
-        let body = Some(body);
-        self.plan.push_back(Planned { output, body, when });
-    }
-
-    pub(crate) fn plan_clock(&mut self, output: u8, when: When) {
-        let body = None;
-        self.plan.push_back(Planned { output, body, when });
     }
 
     /// A station that still has a number to give, and such a number.

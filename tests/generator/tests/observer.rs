@@ -2,14 +2,25 @@
 //! millisecond. Both come to the same, burning time apart.
 
 use events::passing::Passed;
-use generator::pair;
+use generator::{pair, suites, Which};
 use plain::{frame, Panel};
 
 #[test]
 fn it_comes_to_what_the_panel_lives() {
     let mut compared = 0;
-    for seed in 1..=30 {
-        let list = pair(seed, Some(200)).list;
+    for (suite, number) in suites::ALL
+        .into_iter()
+        .flat_map(|suite| [0, 1, 2].map(|i| (suite, i)))
+    {
+        let list = pair(
+            Which {
+                suite,
+                run: 1,
+                number,
+            },
+            Some(200),
+        )
+        .list;
         let mut panel = Panel::start(list.outputs);
         for bytes in &list.frames {
             let (before, time) = (panel.outputs().to_vec(), panel.time());

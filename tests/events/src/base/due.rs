@@ -1,19 +1,18 @@
 //! Durations that fire, movements that run out, and warnings that turn or run
 //! out, on the way to a frame's time.
 
-use plain::settings::LONGEST;
 use plain::warning::Warning;
 
 use super::{Coincidence, Event, FiredIn, Memory};
 use crate::passing::{Due, Passed};
 use crate::tally::Tally;
-use crate::words::{goes_up, is_ramp};
+use crate::words::{goes_up, is_ramp, DAY};
 
 pub fn passed(passed: &Passed, memory: Memory, events: &mut Tally<Event>) {
     for due in &passed.due {
         if let Some(slot) = due.emptied_slot() {
             fired(due, slot, events);
-            if memory.duration == u64::from(LONGEST) {
+            if memory.duration == DAY {
                 events.count(Event::WholeDayDurationFired);
             }
         }
@@ -72,7 +71,7 @@ fn warned(due: &Due, warning: &Warning, events: &mut Tally<Event>) {
             lit,
             own_slot_live: own_slot_live && due.emptied_slot() != Some(warning.slot),
         });
-        if gone == 2 * u64::from(LONGEST) {
+        if gone == 2 * DAY {
             events.count(Event::TwoDayWarningRanOut);
         }
         if lit != (settings.blink_warn_delay > 0) {
@@ -97,7 +96,7 @@ fn movement(due: &Due, events: &mut Tally<Event>) {
             ramp: is_ramp(movement),
             up: goes_up(movement),
         });
-        if movement.length == u64::from(LONGEST) {
+        if movement.length == DAY {
             events.count(Event::WholeDayMovementRanOut);
         }
     }

@@ -2,6 +2,7 @@
 
 use plain::frame::*;
 use plain::settings::*;
+use plain::{Answer, Output};
 
 use super::event::*;
 use crate::words::{Answered, Rank, Situation, BOTH, COMMANDS, DARKENING};
@@ -118,9 +119,11 @@ fn property_events(events: &mut Vec<Event>) {
         );
         let sometimes_absent =
             matches!(property, LAST_LEVEL..=LAST_DURATION | FIRST_SLOT..=LAST_SLOT);
-        // Of the unknown numbers, those beside a known one and the ends; 1C too,
-        // as long as it is unknown.
-        let unknown_but_tried = matches!(property, 0x00 | 0x15 | 0x16 | 0x1C | 0x20 | 0x31 | 0xFF);
+        // Of the unknown numbers, those beside a known one and the ends. A change
+        // may make one of them known; from then on it is not expected here.
+        let tried = matches!(property, 0x00 | 0x15 | 0x16 | 0x1C | 0x20 | 0x31 | 0xFF);
+        let unknown = Output::fresh().read_property(property) == Answer::Refused(9);
+        let unknown_but_tried = tried && unknown;
         if readable {
             events.push(read(property, Answered::Value));
         }

@@ -4,7 +4,7 @@ mod expected;
 mod tags;
 
 pub use expected::{of_base, of_relays, of_tags};
-pub use tags::TagEdge;
+pub use tags::{TagEdge, EDGES_OF_OCTETS};
 
 use plain::frame::*;
 use plain::last_command::LastCommand;

@@ -1,6 +1,5 @@
 //! Which edges of a tagged body (§1) a list has tried.
 
-use plain::settings::LONGEST;
 use plain::tag_writer::fewest_octets;
 use plain::tags::*;
 
@@ -14,8 +13,8 @@ pub const EDGES_OF_OCTETS: [u32; 10] = [
     65_536,
     16_777_215,
     16_777_216,
-    LONGEST,
-    LONGEST + 1,
+    86_400_000,
+    86_400_001,
     0xFFFF_FFFF,
 ];
 

@@ -13,16 +13,14 @@ use plain::frame::*;
 use plain::last_command::LastCommand;
 use plain::movement::Movement;
 use plain::real;
-use plain::settings::{
-    ELAPSED_ACTIVE_TIME, LONGEST, MAXIMUM, MINIMUM, PRESENT_VALUE, PROGRESS_VALUE,
-};
+use plain::settings::{ELAPSED_ACTIVE_TIME, MAXIMUM, MINIMUM, PRESENT_VALUE, PROGRESS_VALUE};
 use plain::Output;
 
 use crate::base::Event;
 use crate::passing::{Due, Passed};
 use crate::seen::Act as Acted;
 use crate::tally::Tally;
-use crate::words::{is_ramp, Hexadecimal, Rank};
+use crate::words::{is_ramp, Hexadecimal, Rank, DAY};
 
 /// Properties whose writing burning time or a movement feels.
 const WRITTEN: [u8; 3] = [ELAPSED_ACTIVE_TIME, MINIMUM, MAXIMUM];
@@ -103,7 +101,7 @@ fn stretch(passed: &Passed, way: Way, begins: Place, mut note: impl FnMut(LightE
         return;
     };
     let (to, length) = (u64::from(movement.to), movement.length);
-    if to == u64::from(real::ONE_PERCENT) && length == u64::from(LONGEST) {
+    if to == u64::from(real::ONE_PERCENT) && length == DAY {
         note(LightEvent::LongestDarkPart { place: ends });
     }
     if ends == Place::FirstLit && movement.gone > 1 {

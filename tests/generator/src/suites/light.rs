@@ -1,5 +1,5 @@
-//! Scenes for §2: movements whose light begins or ends, looked at, cut by
-//! clocks and interrupted around that moment.
+//! §2: burning time by the light itself. Movements whose light begins or ends,
+//! looked at, cut by clocks and interrupted around that moment.
 
 use events::words::COMMANDS;
 use plain::frame::*;
@@ -8,10 +8,39 @@ use plain::settings::*;
 
 use crate::body::Body;
 use crate::list::Generator;
-use crate::scripts::ABSENT;
-use crate::sentences::{HUNDRED_PERCENT, ONE_PERCENT};
+use crate::suite::{Suite, Tables};
+use crate::suites::base::scripts::ABSENT;
+use crate::suites::base::sentences::{HUNDRED_PERCENT, ONE_PERCENT};
+use crate::suites::{base, tags};
 use crate::timing::When;
-use crate::values;
+use crate::values::{self, LONGEST, SHORTEST};
+
+pub static SUITE: Suite = Suite {
+    name: "§2",
+    subject: "burning time by the light",
+    share: 10,
+    at_rest: &[
+        (800, Generator::plan_light),
+        (40, Generator::plan_movement),
+        (80, Generator::plan_command_at_rest),
+        (40, Generator::plan_slot_at_rest),
+        (40, Generator::plan_anything_at_rest),
+    ],
+    in_movement: &[(1, Generator::plan_in_movement)],
+    in_warning: &[(1, Generator::plan_in_warning)],
+    tables: &Tables {
+        kinds: &tags::KINDS,
+        unknown_kinds: &base::UNKNOWN_KINDS,
+        unknown_properties: &base::UNKNOWN_PROPERTIES,
+        more_properties: &[],
+        more_writes: None,
+        looks: &base::LOOKS,
+        tagged: 20,
+        great_lists: 0,
+    },
+    events: events::light::expected,
+    edges: Vec::new,
+};
 
 pub(crate) const STRONGEST: u8 = 1;
 pub(crate) const WEAKEST: u8 = 16;

@@ -8,9 +8,10 @@ use plain::settings::*;
 
 use crate::body::Body;
 use crate::list::Generator;
-use crate::scripts::ABSENT;
 use crate::timing::When;
-use crate::values;
+use crate::values::{self, EDGE_TIMES, LONGEST, SHORTEST};
+
+use super::scripts::ABSENT;
 
 pub(crate) const ONE_PERCENT: u32 = 0x3F80_0000;
 pub(crate) const HUNDRED_PERCENT: u32 = 0x42C8_0000;
@@ -312,8 +313,7 @@ impl Generator {
             (MINIMUM, &bounds),
             (MAXIMUM, &bounds),
             (RELINQUISH_DEFAULT, &bounds),
-            (BLINK_ENABLE, &values::EDGE_TIMES),
-            (POLARITY, &values::EDGE_TIMES),
+            (BLINK_ENABLE, &EDGE_TIMES),
             (
                 LIGHTING_COMMAND_PRIORITY,
                 &[0, 1, 5, 6, 7, 16, 17, 257, 272],

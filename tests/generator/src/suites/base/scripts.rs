@@ -7,7 +7,7 @@ use plain::Answer;
 use crate::body::Body;
 use crate::list::Generator;
 use crate::timing::When;
-use crate::values;
+use crate::values::{self, LONGEST};
 
 pub(crate) const ABSENT: u32 = 0xFFFF_FFFF;
 
@@ -303,11 +303,10 @@ impl Generator {
     }
 
     /// Brings every output to rest, then jumps by years or centuries.
-    pub(crate) fn plan_calm_and_great_jump(&mut self) {
-        let outputs = self.panel.outputs().len() as u8;
-        for output in 0..outputs {
-            if !self.output(output).nothing_pending() {
-                self.plan_calm(output);
+    pub(crate) fn plan_calm_and_great_jump(&mut self, output: u8) {
+        for other in 0..self.panel.outputs().len() as u8 {
+            if !self.output(other).nothing_pending() {
+                self.plan_calm(other);
             }
         }
         let jump = match self.random.below(4) {
@@ -316,7 +315,6 @@ impl Generator {
             2 if self.random.one_in(10) => LAST_TIME,
             _ => self.random.between(86_400_001, 1 << 42),
         };
-        let output = self.some_output();
         let body = if self.random.chance(50) {
             let property = ELAPSED_ACTIVE_TIME;
             Body::Read { property }

@@ -1,17 +1,50 @@
-//! Scenes for §4: jumps of 2^32 ms and more out of a movement, and movements
-//! in which the low 32 bits of the panel's time begin anew.
+//! §4: the elapsed part of a movement in 32 bits. Jumps of 2^32 ms and more out
+//! of a movement, and movements in which the low 32 bits of the panel's time
+//! begin anew.
 
 use events::jump::Far;
 use plain::frame::*;
 use plain::settings::*;
 
 use crate::body::Body;
-use crate::light_scenes::WEAKEST;
 use crate::list::Generator;
-use crate::scripts::ABSENT;
-use crate::sentences::{HUNDRED_PERCENT, ONE_PERCENT};
+use crate::suite::{Suite, Tables};
+use crate::suites::base::scripts::ABSENT;
+use crate::suites::base::sentences::{HUNDRED_PERCENT, ONE_PERCENT};
+use crate::suites::light::WEAKEST;
+use crate::suites::{base, tags};
 use crate::timing::{pending, When};
-use crate::values;
+use crate::values::{self, SHORTEST};
+
+pub static SUITE: Suite = Suite {
+    name: "§4",
+    subject: "elapsed milliseconds in 32 bits",
+    share: 6,
+    at_rest: &[
+        (800, Generator::plan_jump),
+        (80, Generator::plan_movement),
+        (40, Generator::plan_command_at_rest),
+        (40, Generator::plan_slot_at_rest),
+        (40, Generator::plan_anything_at_rest),
+    ],
+    in_movement: &[
+        (85, Generator::plan_in_movement),
+        (15, Generator::plan_jump_out_of_movement),
+    ],
+    in_warning: &[(1, Generator::plan_in_warning)],
+    tables: &Tables {
+        kinds: &tags::KINDS,
+        unknown_kinds: &base::UNKNOWN_KINDS,
+        unknown_properties: &base::UNKNOWN_PROPERTIES,
+        more_properties: &[],
+        more_writes: None,
+        looks: &base::LOOKS,
+        tagged: 20,
+        great_lists: 0,
+    },
+    events: events::jump::expected,
+    edges: Vec::new,
+};
 
 /// The movements of these scenes last longer, so after so many milliseconds
 /// they are under way.

@@ -1,4 +1,4 @@
-//! Scenes for §5: REALs exactly between two units, and beside them, in every
+//! Scenes: REALs exactly between two units, and beside them, in every
 //! field, so that the unit they become is read or shows in what follows.
 
 use plain::frame::*;
@@ -6,11 +6,12 @@ use plain::real::{self, level_as_real};
 use plain::settings::*;
 
 use crate::list::Generator;
-use crate::scripts::ABSENT;
-use crate::sentences::{HUNDRED_PERCENT, ONE_PERCENT};
-use crate::tie_values;
+use crate::suites::base::scripts::ABSENT;
+use crate::suites::base::sentences::{HUNDRED_PERCENT, ONE_PERCENT};
 use crate::timing::When;
-use crate::values;
+use crate::values::PRIORITIES;
+
+use super::values as ties;
 
 /// Two properties of which one may not be above the other, with the least and
 /// the greatest of their values.
@@ -63,9 +64,9 @@ impl Generator {
     }
 
     fn plan_tie_in_slot(&mut self, output: u8) {
-        let priority = self.random.pick(&values::PRIORITIES);
+        let priority = self.random.pick(&PRIORITIES);
         for _ in 0..self.random.between(1, 3) {
-            let bits = tie_values::rounded_or_raised(&mut self.random);
+            let bits = ties::rounded_or_raised(&mut self.random);
             self.plan_write(output, priority, bits);
             self.plan_read(output, FIRST_SLOT + priority - 1, When::Now);
         }
@@ -74,14 +75,14 @@ impl Generator {
     /// The level is in the slot at once, whatever the light does and whichever
     /// slot wins. What is kept of the command is what was written.
     fn plan_tie_of_command(&mut self, output: u8) {
-        let priority = self.random.pick(&values::PRIORITIES);
+        let priority = self.random.pick(&PRIORITIES);
         self.plan_apart(output, BOUNDS);
         self.plan_command_priority(output, priority, When::Now);
         for _ in 0..self.random.between(1, 4) {
             let kind = self
                 .random
                 .pick(&[FADE_TO, FADE_TO_OVER, RAMP_TO, RAMP_TO_AT_RATE, GOTO]);
-            let level = tie_values::rounded_or_raised(&mut self.random);
+            let level = ties::rounded_or_raised(&mut self.random);
             self.plan_command_to(output, kind, level);
             self.plan_read(output, FIRST_SLOT + priority - 1, When::Now);
         }
@@ -100,9 +101,9 @@ impl Generator {
             BINARY_INACTIVE_VALUE,
         ]);
         let value = match property {
-            RAMP_RATE | STEP_INCREMENT => tie_values::rate_or_step(&mut self.random),
-            MINIMUM | MAXIMUM => tie_values::level(&mut self.random),
-            _ => tie_values::rounded_or_raised(&mut self.random),
+            RAMP_RATE | STEP_INCREMENT => ties::rate_or_step(&mut self.random),
+            MINIMUM | MAXIMUM => ties::level(&mut self.random),
+            _ => ties::rounded_or_raised(&mut self.random),
         };
         let compared = match property {
             MINIMUM | MAXIMUM => Some(BOUNDS),
@@ -139,8 +140,8 @@ impl Generator {
     fn plan_tie_of_rate(&mut self, output: u8) {
         let slow = self.random.chance(30);
         let rate = match slow {
-            true => tie_values::slow_rate(&mut self.random),
-            false => tie_values::rate_or_step(&mut self.random),
+            true => ties::slow_rate(&mut self.random),
+            false => ties::rate_or_step(&mut self.random),
         };
         let units = real::rate_or_step(rate).expect("a rate");
         let way = match slow {
@@ -168,7 +169,7 @@ impl Generator {
 
     /// From even and odd levels, and never beyond Min or Max.
     fn plan_tie_of_step(&mut self, output: u8) {
-        let step = tie_values::rate_or_step(&mut self.random);
+        let step = ties::rate_or_step(&mut self.random);
         let units = real::rate_or_step(step).expect("a step");
         let room = (real::HUNDRED_PERCENT - units).saturating_sub(real::ONE_PERCENT);
         let beside = self.random.below(u64::from(room) + 1) as u32;
@@ -206,7 +207,7 @@ impl Generator {
             true => unit / 2 * 2,
             false => unit,
         };
-        let tie = tie_values::about_tie_above(&mut self.random, unit);
+        let tie = ties::about_tie_above(&mut self.random, unit);
         let exact = level_as_real(self.random.pick(&[unit, unit + 1]));
         let (lower, higher) = (compared.lower.0, compared.higher.0);
         let (first, second) = self.random.pick(&[(lower, higher), (higher, lower)]);

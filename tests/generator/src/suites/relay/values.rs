@@ -1,4 +1,4 @@
-//! Scenes for refusal 16 (§3): 17 and 18 are written at, beside and beyond one
+//! Scenes for refusal 16: 17 and 18 are written at, beside and beyond one
 //! another.
 
 use plain::frame::GOTO;
@@ -7,7 +7,7 @@ use plain::settings::*;
 
 use crate::body::Body;
 use crate::list::Generator;
-use crate::sentences::{HUNDRED_PERCENT, ONE_PERCENT};
+use crate::suites::base::sentences::{HUNDRED_PERCENT, ONE_PERCENT};
 use crate::timing::When;
 use crate::values;
 
@@ -71,8 +71,20 @@ impl Generator {
         }
     }
 
+    /// A write of 17, 18 or 19 with any value.
+    pub(crate) fn some_relay_write(&mut self, output: u8) -> (u8, u32) {
+        let property = self
+            .random
+            .pick(&[BINARY_ACTIVE_VALUE, BINARY_INACTIVE_VALUE, POLARITY]);
+        let value = match property {
+            POLARITY => self.any_bit(),
+            _ => self.any_relay_value(output),
+        };
+        (property, value)
+    }
+
     /// Often about the other one, or about what is shown.
-    pub(crate) fn any_relay_value(&mut self, output: u8) -> u32 {
+    fn any_relay_value(&mut self, output: u8) -> u32 {
         let output = self.output(output);
         let settings = &output.settings;
         let near = [

@@ -1,37 +1,22 @@
 //! Tagged commands (§1): any command in tags, and bodies for each sentence of
 //! refusals 14 and 15.
 
+use events::edges::EDGES_OF_OCTETS;
 use events::words::COMMANDS;
 use plain::frame::*;
 use plain::last_command::LastCommand;
-use plain::settings::{LAST_DURATION, LAST_OPERATION, LONGEST, SHORTEST};
+use plain::settings::{LAST_DURATION, LAST_OPERATION};
 use plain::tag_writer::fewest_octets;
 use plain::tags::{Tag, DURATION, FADE_TIME};
 
 use crate::body::Body;
-use crate::draft::{some_octets, Draft};
 use crate::list::Generator;
 use crate::timing::When;
-use crate::values;
+use crate::values::{self, LONGEST, SHORTEST};
 
-/// Whole numbers at the edges of one, two, three and four octets, and of their
-/// range.
-pub const EDGES_OF_OCTETS: [u32; 10] = [
-    0,
-    255,
-    256,
-    65_535,
-    65_536,
-    16_777_215,
-    16_777_216,
-    LONGEST,
-    LONGEST + 1,
-    0xFFFF_FFFF,
-];
+use super::draft::{some_octets, Draft};
 
-/// How many of a hundred commands come in tags.
-const TAGGED: u64 = 35;
-/// How many of a hundred of these are spoilt, whatever the output does.
+/// How many of a hundred commands in tags are spoilt, whatever the output does.
 const SPOILT: u64 = 4;
 
 /// The same command in its other form, under the same station and number.
@@ -50,7 +35,7 @@ impl Generator {
         let Some(command) = body.command() else {
             return body.clone();
         };
-        if !self.random.chance(TAGGED) {
+        if !self.random.chance(self.suite.tables.tagged) {
             return body.clone();
         }
         let mut draft = Draft::of(command.tags());
@@ -84,7 +69,8 @@ impl Generator {
     }
 
     /// It ends neither a warning nor a movement.
-    pub(crate) fn plan_refused_tags(&mut self, output: u8, when: When) {
+    pub(crate) fn plan_refused_tags(&mut self, output: u8) {
+        let when = self.sometime();
         let body = match self.random.chance(50) {
             true => self.wrong_tagging(),
             false => self.wrong_field(),

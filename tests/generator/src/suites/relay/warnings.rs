@@ -1,4 +1,4 @@
-//! Scenes for §3 in blink warnings, whose turn and end move Present_Value too,
+//! Scenes in blink warnings, whose turn and end move Present_Value too,
 //! and which many things interrupt.
 
 use events::words::COMMANDS;
@@ -7,12 +7,14 @@ use plain::real;
 use plain::settings::*;
 
 use crate::body::Body;
-use crate::light_scenes::{STRONGEST, WEAKEST};
 use crate::list::Generator;
-use crate::relay_scenes::Aim;
-use crate::scripts::ABSENT;
-use crate::sentences::{HUNDRED_PERCENT, ONE_PERCENT};
+use crate::suites::base::scripts::ABSENT;
+use crate::suites::base::sentences::{HUNDRED_PERCENT, ONE_PERCENT};
+use crate::suites::light::{STRONGEST, WEAKEST};
 use crate::timing::When;
+use crate::values::SHORTEST;
+
+use super::judging::Aim;
 
 /// A warning to come.
 struct Blink {

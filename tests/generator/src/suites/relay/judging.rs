@@ -1,4 +1,4 @@
-//! Scenes for §3: Present_Value is brought to the two values of a relay and to
+//! Scenes: Present_Value is brought to the two values of a relay and to
 //! the units beside them, in every way in which it moves.
 
 use events::relay::{Stand, STANDS};
@@ -7,12 +7,12 @@ use plain::real::{self, level_as_real};
 use plain::settings::*;
 
 use crate::body::Body;
-use crate::light_scenes::{MIDDLE_PRIORITIES, WEAKEST};
 use crate::list::Generator;
-use crate::scripts::ABSENT;
-use crate::sentences::{HUNDRED_PERCENT, ONE_PERCENT};
+use crate::suites::base::scripts::ABSENT;
+use crate::suites::base::sentences::{HUNDRED_PERCENT, ONE_PERCENT};
+use crate::suites::light::{MIDDLE_PRIORITIES, WEAKEST};
 use crate::timing::When;
-use crate::values;
+use crate::values::{self, EDGE_TIMES, SHORTEST};
 
 /// What a scene aims at.
 #[derive(Clone, Copy)]
@@ -55,7 +55,7 @@ impl Generator {
         }
         if self.random.chance(30) {
             let polarity = match self.random.chance(20) {
-                true => self.random.pick(&values::EDGE_TIMES),
+                true => self.random.pick(&EDGE_TIMES),
                 false => self.random.below(2) as u32,
             };
             self.plan_property(output, POLARITY, polarity);
