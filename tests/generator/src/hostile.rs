@@ -111,7 +111,7 @@ impl Generator {
         if self.random.chance(30) {
             *bytes = vec![self.some_kind()];
         }
-        let tables = self.suite.tables;
+        let tables = &self.suite.tables;
         let length = bytes
             .first()
             .and_then(|kind| tables.length_of_kind(*kind))

@@ -28,7 +28,7 @@ pub struct Suite {
     pub at_rest: Shares,
     pub in_movement: Shares,
     pub in_warning: Shares,
-    pub tables: &'static Tables,
+    pub tables: Tables,
     /// What its lists must reach.
     pub events: fn() -> Vec<Event>,
     pub edges: fn() -> Vec<Edge>,

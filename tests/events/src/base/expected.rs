@@ -8,24 +8,9 @@ use super::event::*;
 use crate::words::{Answered, Rank, Situation, BOTH, COMMANDS, DARKENING};
 
 /// The kinds of document 01.
-const KINDS: [u8; 16] = [
-    CLOCK,
-    WRITE_PRESENT_VALUE,
-    EMPTY_A_SLOT,
-    WRITE_PROPERTY,
-    READ_PROPERTY,
-    STOP,
-    FADE_TO,
-    FADE_TO_OVER,
-    RAMP_TO,
-    RAMP_TO_AT_RATE,
-    STEP_UP,
-    STEP_DOWN,
-    STEP_UP_BY,
-    STEP_DOWN_BY,
-    GOTO,
-    RELINQUISH,
-];
+fn kinds() -> impl Iterator<Item = u8> {
+    (CLOCK..=READ_PROPERTY).chain(COMMANDS)
+}
 
 pub fn expected() -> Vec<Event> {
     let mut events = Vec::new();
@@ -57,7 +42,7 @@ fn list_events(events: &mut Vec<Event>) {
         Event::LastMillisecond,
         Event::LastOutputOf64,
     ]);
-    for kind in KINDS {
+    for kind in kinds() {
         events.push(Event::TooShort { kind: kind.into() });
         events.push(Event::TooLong { kind: kind.into() });
     }
@@ -74,7 +59,7 @@ fn list_events(events: &mut Vec<Event>) {
 }
 
 fn first_arrival_events(events: &mut Vec<Event>) {
-    for kind in KINDS {
+    for kind in kinds() {
         let answers: &[Answered] = match kind {
             CLOCK => &[],
             WRITE_PRESENT_VALUE => &[Answered::Done, Answered::Refused(10), Answered::Refused(11)],

@@ -31,16 +31,11 @@ pub static SUITE: Suite = Suite {
         (85, Generator::plan_in_movement),
         (15, Generator::plan_jump_out_of_movement),
     ],
-    in_warning: &[(1, Generator::plan_in_warning)],
-    tables: &Tables {
+    in_warning: base::IN_WARNING,
+    tables: Tables {
         kinds: &tags::KINDS,
-        unknown_kinds: &base::UNKNOWN_KINDS,
-        unknown_properties: &base::UNKNOWN_PROPERTIES,
-        more_properties: &[],
-        more_writes: None,
-        looks: &base::LOOKS,
         tagged: 20,
-        great_lists: 0,
+        ..base::TABLES
     },
     events: events::jump::expected,
     edges: Vec::new,

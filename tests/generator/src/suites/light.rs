@@ -26,17 +26,12 @@ pub static SUITE: Suite = Suite {
         (40, Generator::plan_slot_at_rest),
         (40, Generator::plan_anything_at_rest),
     ],
-    in_movement: &[(1, Generator::plan_in_movement)],
-    in_warning: &[(1, Generator::plan_in_warning)],
-    tables: &Tables {
+    in_movement: base::IN_MOVEMENT,
+    in_warning: base::IN_WARNING,
+    tables: Tables {
         kinds: &tags::KINDS,
-        unknown_kinds: &base::UNKNOWN_KINDS,
-        unknown_properties: &base::UNKNOWN_PROPERTIES,
-        more_properties: &[],
-        more_writes: None,
-        looks: &base::LOOKS,
         tagged: 20,
-        great_lists: 0,
+        ..base::TABLES
     },
     events: events::light::expected,
     edges: Vec::new,

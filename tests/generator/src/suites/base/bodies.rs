@@ -8,7 +8,31 @@ use plain::settings::*;
 
 use crate::body::Body;
 use crate::list::Generator;
+use crate::random::Random;
 use crate::values::{self, BAD_PRIORITIES, EDGE_TIMES, PRIORITIES};
+
+/// Where the fields of a command come from.
+#[derive(Clone, Copy)]
+struct Draws {
+    level: fn(&mut Random) -> u32,
+    rate_or_step: fn(&mut Random) -> u32,
+    fade_time: fn(&mut Random) -> u32,
+    duration: fn(&mut Random) -> u32,
+}
+
+const ANY: Draws = Draws {
+    level: values::level,
+    rate_or_step: values::rate_or_step,
+    fade_time: values::fade_time,
+    duration: values::duration,
+};
+
+const GOOD: Draws = Draws {
+    level: values::good_level,
+    rate_or_step: values::usual_percentage,
+    fade_time: values::short_time,
+    duration: values::good_duration,
+};
 
 impl Generator {
     /// A body of any kind with any values.
@@ -123,39 +147,30 @@ impl Generator {
     }
 
     pub(crate) fn any_command(&mut self, kind: u8) -> Body {
-        let mut fields = Vec::new();
-        if matches!(
-            kind,
-            FADE_TO | FADE_TO_OVER | RAMP_TO | RAMP_TO_AT_RATE | GOTO
-        ) {
-            fields.push(values::level(&mut self.random));
-        }
-        if matches!(kind, RAMP_TO_AT_RATE | STEP_UP_BY | STEP_DOWN_BY) {
-            fields.push(values::rate_or_step(&mut self.random));
-        }
-        if kind == FADE_TO_OVER {
-            fields.push(values::fade_time(&mut self.random));
-        }
-        fields.push(values::duration(&mut self.random));
-        Body::Command { kind, fields }
+        self.command_of(kind, ANY)
     }
 
     /// A command that is not refused.
     pub(crate) fn good_command(&mut self, kind: u8) -> Body {
+        self.command_of(kind, GOOD)
+    }
+
+    fn command_of(&mut self, kind: u8, draws: Draws) -> Body {
+        let random = &mut self.random;
         let mut fields = Vec::new();
         if matches!(
             kind,
             FADE_TO | FADE_TO_OVER | RAMP_TO | RAMP_TO_AT_RATE | GOTO
         ) {
-            fields.push(values::good_level(&mut self.random));
+            fields.push((draws.level)(random));
         }
         if matches!(kind, RAMP_TO_AT_RATE | STEP_UP_BY | STEP_DOWN_BY) {
-            fields.push(values::usual_percentage(&mut self.random));
+            fields.push((draws.rate_or_step)(random));
         }
         if kind == FADE_TO_OVER {
-            fields.push(values::short_time(&mut self.random));
+            fields.push((draws.fade_time)(random));
         }
-        fields.push(values::good_duration(&mut self.random));
+        fields.push((draws.duration)(random));
         Body::Command { kind, fields }
     }
 }

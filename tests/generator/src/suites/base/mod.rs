@@ -9,7 +9,7 @@ use plain::frame::*;
 use plain::settings::*;
 
 use crate::list::Generator;
-use crate::suite::{Suite, Tables};
+use crate::suite::{Shares, Suite, Tables};
 
 pub static SUITE: Suite = Suite {
     name: "base",
@@ -24,20 +24,29 @@ pub static SUITE: Suite = Suite {
         (200, Generator::plan_sentence),
         (80, Generator::plan_anything_at_rest),
     ],
-    in_movement: &[(1, Generator::plan_in_movement)],
-    in_warning: &[(1, Generator::plan_in_warning)],
-    tables: &Tables {
-        kinds: &KINDS,
-        unknown_kinds: &UNKNOWN_KINDS,
-        unknown_properties: &UNKNOWN_PROPERTIES,
-        more_properties: &[],
-        more_writes: None,
-        looks: &LOOKS,
-        tagged: 0,
+    in_movement: IN_MOVEMENT,
+    in_warning: IN_WARNING,
+    tables: Tables {
         great_lists: 40,
+        ..TABLES
     },
     events: events::base::expected,
     edges: events::edges::of_base,
+};
+
+pub const IN_MOVEMENT: Shares = &[(1, Generator::plan_in_movement)];
+pub const IN_WARNING: Shares = &[(1, Generator::plan_in_warning)];
+
+/// A later suite names what is other than here.
+pub const TABLES: Tables = Tables {
+    kinds: &KINDS,
+    unknown_kinds: &UNKNOWN_KINDS,
+    unknown_properties: &UNKNOWN_PROPERTIES,
+    more_properties: &[],
+    more_writes: None,
+    looks: &LOOKS,
+    tagged: 0,
+    great_lists: 0,
 };
 
 pub const KINDS: [(u8, usize); 16] = [
@@ -59,11 +68,11 @@ pub const KINDS: [(u8, usize); 16] = [
     (RELINQUISH, 17),
 ];
 
-pub const UNKNOWN_KINDS: [u8; 9] = [0x00, 0x06, 0x07, 0x0F, 0x1C, 0x20, 0x80, 0x91, 0xFF];
-pub const UNKNOWN_PROPERTIES: [u8; 7] = [0x00, 0x15, 0x16, 0x1C, 0x20, 0x31, 0xFF];
+const UNKNOWN_KINDS: [u8; 9] = [0x00, 0x06, 0x07, 0x0F, 0x1C, 0x20, 0x80, 0x91, 0xFF];
+const UNKNOWN_PROPERTIES: [u8; 7] = [0x00, 0x15, 0x16, 0x1C, 0x20, 0x31, 0xFF];
 
 /// Progress_Value twice as often.
-pub const LOOKS: [u8; 6] = [
+const LOOKS: [u8; 6] = [
     PRESENT_VALUE,
     PROGRESS_VALUE,
     PROGRESS_VALUE,

@@ -23,17 +23,15 @@ pub static SUITE: Suite = Suite {
         (60, Generator::plan_sentence),
         (60, Generator::plan_anything_at_rest),
     ],
-    in_movement: &[(1, Generator::plan_in_movement)],
-    in_warning: &[(1, Generator::plan_in_warning)],
-    tables: &Tables {
+    in_movement: base::IN_MOVEMENT,
+    in_warning: base::IN_WARNING,
+    tables: Tables {
         kinds: &tags::KINDS,
-        unknown_kinds: &base::UNKNOWN_KINDS,
-        unknown_properties: &base::UNKNOWN_PROPERTIES,
         more_properties: &PROPERTIES,
         more_writes: Some(Generator::some_relay_write),
         looks: &LOOKS,
         tagged: 20,
-        great_lists: 0,
+        ..base::TABLES
     },
     events: events::relay::expected,
     edges: events::edges::of_relays,

@@ -32,15 +32,10 @@ pub static SUITE: Suite = Suite {
         (88, Generator::plan_in_warning),
         (12, Generator::plan_refused_tags),
     ],
-    tables: &Tables {
+    tables: Tables {
         kinds: &KINDS,
-        unknown_kinds: &base::UNKNOWN_KINDS,
-        unknown_properties: &base::UNKNOWN_PROPERTIES,
-        more_properties: &[],
-        more_writes: None,
-        looks: &base::LOOKS,
         tagged: 70,
-        great_lists: 0,
+        ..base::TABLES
     },
     events: events::tags::expected,
     edges: events::edges::of_tags,

@@ -19,17 +19,14 @@ pub static SUITE: Suite = Suite {
         (40, Generator::plan_sentence),
         (40, Generator::plan_anything_at_rest),
     ],
-    in_movement: &[(1, Generator::plan_in_movement)],
-    in_warning: &[(1, Generator::plan_in_warning)],
-    tables: &Tables {
+    in_movement: base::IN_MOVEMENT,
+    in_warning: base::IN_WARNING,
+    tables: Tables {
         kinds: &tags::KINDS,
-        unknown_kinds: &base::UNKNOWN_KINDS,
-        unknown_properties: &base::UNKNOWN_PROPERTIES,
         more_properties: &relay::PROPERTIES,
         more_writes: Some(Generator::some_relay_write),
-        looks: &base::LOOKS,
         tagged: 45,
-        great_lists: 0,
+        ..base::TABLES
     },
     events: events::tie::expected,
     edges: Vec::new,
