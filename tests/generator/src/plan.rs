@@ -2,7 +2,7 @@
 
 use events::words::Situation;
 use plain::settings::*;
-use plain::Output;
+use plain::{Answer, Output};
 
 use crate::body::Body;
 use crate::list::{Generator, Planned};
@@ -70,5 +70,30 @@ impl Generator {
     pub(crate) fn plan_clock(&mut self, output: u8, when: When) {
         let body = None;
         self.plan.push_back(Planned { output, body, when });
+    }
+
+    pub(crate) fn plan_read(&mut self, output: u8, property: u8, when: When) {
+        self.plan(output, Body::Read { property }, when);
+    }
+
+    pub(crate) fn plan_property(&mut self, output: u8, property: u8, value: u32) {
+        self.plan(output, Body::WriteProperty { property, value }, When::Now);
+    }
+
+    /// Mostly without the write if the property reads so already.
+    pub(crate) fn plan_setting(&mut self, output: u8, property: u8, value: u32) {
+        let already = self.output(output).read_property(property) == Answer::Value(value);
+        if !already || self.random.chance(5) {
+            self.plan_property(output, property, value);
+        }
+    }
+
+    pub(crate) fn plan_write(&mut self, output: u8, priority: u8, bits: u32) {
+        self.plan(output, Body::Write { priority, bits }, When::Now);
+    }
+
+    pub(crate) fn plan_command(&mut self, output: u8, kind: u8, fields: &[u32]) {
+        let fields = fields.to_vec();
+        self.plan(output, Body::Command { kind, fields }, When::Now);
     }
 }

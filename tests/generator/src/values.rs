@@ -9,6 +9,11 @@ pub use events::edges::EDGE_TIMES;
 /// The least and the greatest fade time and duration of document 01.
 pub const SHORTEST: u32 = 100;
 pub const LONGEST: u32 = 86_400_000;
+/// A duration that is not there.
+pub const ABSENT: u32 = 0xFFFF_FFFF;
+/// Levels as REALs; those of `plain::real` are in units.
+pub const REAL_ONE_PERCENT: u32 = 0x3F80_0000;
+pub const REAL_HUNDRED_PERCENT: u32 = 0x42C8_0000;
 /// The least rate and the least step, in units.
 pub const LEAST: u32 = ONE_PERCENT / 8;
 

@@ -9,12 +9,10 @@ use plain::settings::*;
 use crate::body::Body;
 use crate::list::Generator;
 use crate::suite::{Suite, Tables};
-use crate::suites::base::scripts::ABSENT;
-use crate::suites::base::sentences::{HUNDRED_PERCENT, ONE_PERCENT};
 use crate::suites::light::WEAKEST;
 use crate::suites::{base, tags};
 use crate::timing::{pending, When};
-use crate::values::{self, SHORTEST};
+use crate::values::{self, ABSENT, REAL_HUNDRED_PERCENT, REAL_ONE_PERCENT, SHORTEST};
 
 pub static SUITE: Suite = Suite {
     name: "§4",
@@ -162,8 +160,8 @@ impl Generator {
             _ => {
                 let (property, value) = self.random.pick(&[
                     (ELAPSED_ACTIVE_TIME, 0),
-                    (MINIMUM, ONE_PERCENT),
-                    (MAXIMUM, HUNDRED_PERCENT),
+                    (MINIMUM, REAL_ONE_PERCENT),
+                    (MAXIMUM, REAL_HUNDRED_PERCENT),
                     (FADE_TIME, SHORTEST),
                 ]);
                 self.plan(output, Body::WriteProperty { property, value }, when);

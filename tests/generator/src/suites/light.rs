@@ -9,11 +9,9 @@ use plain::settings::*;
 use crate::body::Body;
 use crate::list::Generator;
 use crate::suite::{Suite, Tables};
-use crate::suites::base::scripts::ABSENT;
-use crate::suites::base::sentences::{HUNDRED_PERCENT, ONE_PERCENT};
 use crate::suites::{base, tags};
 use crate::timing::When;
-use crate::values::{self, LONGEST, SHORTEST};
+use crate::values::{self, ABSENT, LONGEST, REAL_HUNDRED_PERCENT, REAL_ONE_PERCENT, SHORTEST};
 
 pub static SUITE: Suite = Suite {
     name: "§2",
@@ -62,8 +60,8 @@ impl Generator {
                 self.plan(output, Body::Empty { priority: stronger }, When::Now);
             }
         }
-        self.plan_setting(output, MINIMUM, ONE_PERCENT);
-        self.plan_setting(output, MAXIMUM, HUNDRED_PERCENT);
+        self.plan_setting(output, MINIMUM, REAL_ONE_PERCENT);
+        self.plan_setting(output, MAXIMUM, REAL_HUNDRED_PERCENT);
         own
     }
 
@@ -79,8 +77,8 @@ impl Generator {
             12..=14 => self.short_fade(level, 0),
             15..=17 => self.ramp(level, 0),
             // To Min, and lit all the time.
-            18 => self.ramp(level, ONE_PERCENT),
-            _ => self.short_fade(level, ONE_PERCENT),
+            18 => self.ramp(level, REAL_ONE_PERCENT),
+            _ => self.short_fade(level, REAL_ONE_PERCENT),
         };
         self.plan_start(output, own, &moving);
         if self.random.chance(85) {
@@ -97,7 +95,7 @@ impl Generator {
     /// for 1,319 ms.
     fn rising_fade(&mut self) -> Moving {
         let (level, length) = match self.random.below(10) {
-            0..=2 => (ONE_PERCENT, LONGEST),
+            0..=2 => (REAL_ONE_PERCENT, LONGEST),
             3 => (values::lit_level(&mut self.random), LONGEST),
             4 => (
                 values::lit_level(&mut self.random),
@@ -142,7 +140,7 @@ impl Generator {
     fn ramp(&mut self, from: u32, to: u32) -> Moving {
         let rate = match self.random.below(4) {
             0 => 0.125_f32.to_bits(),
-            1 => HUNDRED_PERCENT,
+            1 => REAL_HUNDRED_PERCENT,
             _ => values::usual_percentage(&mut self.random),
         };
         let level = |bits| real::level(bits).expect("a level");
@@ -218,8 +216,8 @@ impl Generator {
             13..=15 => {
                 let property = self.random.pick(&[ELAPSED_ACTIVE_TIME, MINIMUM, MAXIMUM]);
                 let value = match property {
-                    MINIMUM => ONE_PERCENT,
-                    MAXIMUM => HUNDRED_PERCENT,
+                    MINIMUM => REAL_ONE_PERCENT,
+                    MAXIMUM => REAL_HUNDRED_PERCENT,
                     _ => 0,
                 };
                 self.plan(output, Body::WriteProperty { property, value }, when);
@@ -270,7 +268,7 @@ impl Generator {
         let priority = STRONGEST;
         self.plan(output, Body::Empty { priority }, When::Now);
         // Else the output may be under way for a day.
-        self.plan_property(output, MAXIMUM, HUNDRED_PERCENT);
+        self.plan_property(output, MAXIMUM, REAL_HUNDRED_PERCENT);
         let level = values::lit_level(&mut self.random);
         self.plan_command_priority(output, own, When::Now);
         self.plan_command(output, GOTO, &[level, 0]);

@@ -1,9 +1,11 @@
 //! Document 01.
 
 mod bodies;
+mod edges;
+mod movements;
 mod scenes;
-pub(crate) mod scripts;
-pub(crate) mod sentences;
+mod sentences;
+mod warnings;
 
 use plain::frame::*;
 use plain::settings::*;

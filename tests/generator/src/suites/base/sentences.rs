@@ -9,17 +9,7 @@ use plain::settings::*;
 use crate::body::Body;
 use crate::list::Generator;
 use crate::timing::When;
-use crate::values::{self, EDGE_TIMES, LONGEST, SHORTEST};
-
-use super::scripts::ABSENT;
-
-pub(crate) const ONE_PERCENT: u32 = 0x3F80_0000;
-pub(crate) const HUNDRED_PERCENT: u32 = 0x42C8_0000;
-
-/// Two edges and what lies just below and above them, in units or in REALs.
-fn beside(edges: [u32; 2]) -> Vec<u32> {
-    edges.map(|edge| [edge - 1, edge, edge + 1]).concat()
-}
+use crate::values::{self, ABSENT, REAL_HUNDRED_PERCENT, REAL_ONE_PERCENT};
 
 impl Generator {
     pub(crate) fn plan_sentence(&mut self, output: u8) {
@@ -37,10 +27,6 @@ impl Generator {
             10 => self.plan_step_out_of_range(output),
             _ => self.plan_property_edge(output),
         }
-    }
-
-    pub(crate) fn plan_read(&mut self, output: u8, property: u8, when: When) {
-        self.plan(output, Body::Read { property }, when);
     }
 
     /// A level far from what is shown, so that the way is long.
@@ -89,7 +75,7 @@ impl Generator {
     fn plan_refused_bound_in_movement(&mut self, output: u8) {
         let level = self.far_level(output);
         let fade_time = values::short_time(&mut self.random);
-        self.plan_property(output, MAXIMUM, HUNDRED_PERCENT);
+        self.plan_property(output, MAXIMUM, REAL_HUNDRED_PERCENT);
         self.plan_property(output, MINIMUM, 20.0_f32.to_bits());
         self.plan_winning_priority(output, When::Now);
         self.plan_command(output, FADE_TO_OVER, &[level, fade_time, ABSENT]);
@@ -97,7 +83,7 @@ impl Generator {
         self.plan_property_after(output, MAXIMUM, refused, u64::from(fade_time / 2));
         self.plan_read(output, IN_PROCESS, When::Now);
         self.plan_read(output, PROGRESS_VALUE, When::After(1));
-        self.plan_property(output, MINIMUM, ONE_PERCENT);
+        self.plan_property(output, MINIMUM, REAL_ONE_PERCENT);
     }
 
     /// Min over Max is refused in a warning too, and nothing of it changes.
@@ -108,17 +94,17 @@ impl Generator {
         self.plan(output, Body::WriteProperty { property, value }, when);
         self.plan_property(output, refused.0, refused.1.to_bits());
         self.plan_read(output, PRESENT_VALUE, When::Now);
-        self.plan_property(output, MAXIMUM, HUNDRED_PERCENT);
-        self.plan_property(output, MINIMUM, ONE_PERCENT);
+        self.plan_property(output, MAXIMUM, REAL_HUNDRED_PERCENT);
+        self.plan_property(output, MINIMUM, REAL_ONE_PERCENT);
     }
 
     /// STOP raises what is reached to Min, but not zero.
     fn plan_stop_below_minimum(&mut self, output: u8) {
-        self.plan_property(output, MAXIMUM, HUNDRED_PERCENT);
+        self.plan_property(output, MAXIMUM, REAL_HUNDRED_PERCENT);
         self.plan_property(output, MINIMUM, 20.0_f32.to_bits());
         self.plan_winning_priority(output, When::Now);
         self.plan_command(output, GOTO, &[0, ABSENT]);
-        self.plan_command(output, FADE_TO_OVER, &[HUNDRED_PERCENT, 1_000, ABSENT]);
+        self.plan_command(output, FADE_TO_OVER, &[REAL_HUNDRED_PERCENT, 1_000, ABSENT]);
         // From the millisecond of the start, when zero is reached, to 18 percent.
         let fields = vec![ABSENT];
         let jump = self.random.pick(&[0, 0, 1, 50, 180]);
@@ -128,7 +114,7 @@ impl Generator {
             When::After(jump),
         );
         self.plan_read(output, PROGRESS_VALUE, When::Now);
-        self.plan_property(output, MINIMUM, ONE_PERCENT);
+        self.plan_property(output, MINIMUM, REAL_ONE_PERCENT);
         self.plan_read(output, PRESENT_VALUE, When::Now);
     }
 
@@ -147,8 +133,8 @@ impl Generator {
         self.plan_command(output, GOTO, &[level.to_bits(), ABSENT]);
         self.plan_command(output, kind, &[10.0_f32.to_bits(), ABSENT]);
         // What the slot holds shows once more is shown.
-        self.plan_property(output, MINIMUM, ONE_PERCENT);
-        self.plan_property(output, MAXIMUM, HUNDRED_PERCENT);
+        self.plan_property(output, MINIMUM, REAL_ONE_PERCENT);
+        self.plan_property(output, MAXIMUM, REAL_HUNDRED_PERCENT);
         self.plan_read(output, PRESENT_VALUE, When::Now);
     }
 
@@ -169,7 +155,9 @@ impl Generator {
     pub(crate) fn plan_command_to(&mut self, output: u8, kind: u8, level: u32) {
         match kind {
             FADE_TO_OVER => self.plan_command(output, kind, &[level, 200, ABSENT]),
-            RAMP_TO_AT_RATE => self.plan_command(output, kind, &[level, HUNDRED_PERCENT, ABSENT]),
+            RAMP_TO_AT_RATE => {
+                self.plan_command(output, kind, &[level, REAL_HUNDRED_PERCENT, ABSENT])
+            }
             RELINQUISH => self.plan_command(output, kind, &[ABSENT]),
             _ => self.plan_command(output, kind, &[level, ABSENT]),
         }
@@ -182,8 +170,8 @@ impl Generator {
         let own = self.random.between(7, 16) as u8;
         let (dark, lit) = (self.random.between(2, 300), self.random.between(3, 300));
         self.plan_warning_settings(output, own, dark as u32, lit as u32);
-        self.plan_property(output, MINIMUM, ONE_PERCENT);
-        self.plan_property(output, MAXIMUM, HUNDRED_PERCENT);
+        self.plan_property(output, MINIMUM, REAL_ONE_PERCENT);
+        self.plan_property(output, MAXIMUM, REAL_HUNDRED_PERCENT);
         self.plan_write(output, own, 50.0_f32.to_bits());
         let (property, bound) = self
             .random
@@ -195,8 +183,8 @@ impl Generator {
         self.plan_property_after(output, property, bound.to_bits(), dark / 2);
         self.plan_read(output, FIRST_SLOT + 5, When::After(dark - dark / 2));
         self.plan_read(output, PRESENT_VALUE, When::Now);
-        self.plan_property(output, MINIMUM, ONE_PERCENT);
-        self.plan_property(output, MAXIMUM, HUNDRED_PERCENT);
+        self.plan_property(output, MINIMUM, REAL_ONE_PERCENT);
+        self.plan_property(output, MAXIMUM, REAL_HUNDRED_PERCENT);
         self.plan_read(output, PRESENT_VALUE, When::After(1));
     }
 
@@ -253,85 +241,12 @@ impl Generator {
 
     /// Relinquish_Default stands as it was written, below Min too.
     fn plan_default_out_of_range(&mut self, output: u8) {
-        self.plan_property(output, MAXIMUM, HUNDRED_PERCENT);
+        self.plan_property(output, MAXIMUM, REAL_HUNDRED_PERCENT);
         self.plan_property(output, MINIMUM, 20.0_f32.to_bits());
         self.plan_property(output, RELINQUISH_DEFAULT, 5.0_f32.to_bits());
         self.plan_read(output, RELINQUISH_DEFAULT, When::Now);
         self.plan_read(output, PRESENT_VALUE, When::Now);
-        self.plan_property(output, MINIMUM, ONE_PERCENT);
+        self.plan_property(output, MINIMUM, REAL_ONE_PERCENT);
         self.plan_property(output, RELINQUISH_DEFAULT, 0);
-    }
-
-    /// A fade time, a duration, a rate or a step at the edges of its range and
-    /// beside them.
-    fn plan_command_edge(&mut self, output: u8) {
-        let edge = self.random.pick(&beside([SHORTEST, LONGEST]));
-        let real = self.random.pick(&values::edge_reals());
-        let level = values::good_level(&mut self.random);
-        let duration = self.random.pick(&[edge, edge, ABSENT - 1]);
-        match self.random.below(4) {
-            0 => self.plan_command(output, FADE_TO_OVER, &[level, edge, ABSENT]),
-            1 => self.plan_command(output, GOTO, &[level, duration]),
-            2 => self.plan_command(output, RAMP_TO_AT_RATE, &[level, real, ABSENT]),
-            _ => self.plan_command(output, STEP_UP_BY, &[real, ABSENT]),
-        }
-        // Else the output is under way for a day.
-        self.plan_command(output, GOTO, &[level, 0]);
-    }
-
-    /// Two fields out of range at once: the one on the left refuses.
-    fn plan_two_bad_fields(&mut self, output: u8) {
-        let bad_real = self.random.pick(&[0xBF80_0000, 0x42C8_0001, 0x7FC0_0000]);
-        let bad_time = self.random.pick(&[1, SHORTEST - 1, LONGEST + 1]);
-        let bad_priority = self.random.pick(&values::BAD_PRIORITIES);
-        match self.random.below(4) {
-            0 => self.plan_write(output, bad_priority, bad_real),
-            1 => self.plan_command(output, FADE_TO_OVER, &[bad_real, bad_time, ABSENT]),
-            2 => self.plan_command(output, GOTO, &[bad_real, bad_time]),
-            _ => self.plan_command(output, STEP_UP_BY, &[bad_real, bad_time]),
-        }
-    }
-
-    /// A setting at the edges of its range and beside them, and back again.
-    fn plan_property_edge(&mut self, output: u8) {
-        let times = beside([SHORTEST, LONGEST]);
-        // Of its range alone, or of all ranges and of the format.
-        let of_all = self.random.chance(40);
-        let reals = |edges| match of_all {
-            true => values::edge_reals(),
-            false => beside(edges),
-        };
-        let rates = reals([0.125_f32.to_bits(), HUNDRED_PERCENT]);
-        let mut bounds = reals([ONE_PERCENT, HUNDRED_PERCENT]);
-        bounds.push(0);
-        let (property, edges) = self.random.pick(&[
-            (FADE_TIME, &times[..]),
-            (BLINK_TIME, &times),
-            (BLINK_WARN_DELAY, &times),
-            (RAMP_RATE, &rates),
-            (STEP_INCREMENT, &rates),
-            (MINIMUM, &bounds),
-            (MAXIMUM, &bounds),
-            (RELINQUISH_DEFAULT, &bounds),
-            (BLINK_ENABLE, &EDGE_TIMES),
-            (
-                LIGHTING_COMMAND_PRIORITY,
-                &[0, 1, 5, 6, 7, 16, 17, 257, 272],
-            ),
-            (ELAPSED_ACTIVE_TIME, &[0, 1]),
-        ]);
-        let settings = &self.output(output).settings;
-        let before = match property {
-            FADE_TIME => Some(settings.fade_time),
-            MINIMUM => Some(level_as_real(settings.minimum)),
-            MAXIMUM => Some(level_as_real(settings.maximum)),
-            _ => None,
-        };
-        let edge = self.random.pick(edges);
-        self.plan_property(output, property, edge);
-        self.plan_read(output, property, When::Now);
-        if let Some(before) = before {
-            self.plan_property(output, property, before);
-        }
     }
 }

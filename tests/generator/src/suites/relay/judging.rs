@@ -8,11 +8,9 @@ use plain::settings::*;
 
 use crate::body::Body;
 use crate::list::Generator;
-use crate::suites::base::scripts::ABSENT;
-use crate::suites::base::sentences::{HUNDRED_PERCENT, ONE_PERCENT};
 use crate::suites::light::{MIDDLE_PRIORITIES, WEAKEST};
 use crate::timing::When;
-use crate::values::{self, EDGE_TIMES, SHORTEST};
+use crate::values::{self, ABSENT, EDGE_TIMES, REAL_HUNDRED_PERCENT, REAL_ONE_PERCENT, SHORTEST};
 
 /// What a scene aims at.
 #[derive(Clone, Copy)]
@@ -133,8 +131,8 @@ impl Generator {
                 self.plan(output, Body::Empty { priority: slot }, When::Now);
             }
         }
-        self.plan_setting(output, MINIMUM, ONE_PERCENT);
-        self.plan_setting(output, MAXIMUM, HUNDRED_PERCENT);
+        self.plan_setting(output, MINIMUM, REAL_ONE_PERCENT);
+        self.plan_setting(output, MAXIMUM, REAL_HUNDRED_PERCENT);
         self.plan_command_priority(output, own, When::Now);
     }
 
@@ -145,7 +143,9 @@ impl Generator {
             self.plan_command(output, GOTO, &[level, duration]);
             return;
         }
-        let from = self.random.pick(&[0, ONE_PERCENT, HUNDRED_PERCENT]);
+        let from = self
+            .random
+            .pick(&[0, REAL_ONE_PERCENT, REAL_HUNDRED_PERCENT]);
         self.plan_command(output, GOTO, &[from, 0]);
         let command = match self.random.chance(50) {
             true => (FADE_TO_OVER, 5_000),
@@ -186,7 +186,9 @@ impl Generator {
         let level = aim.real();
         match kind {
             FADE_TO_OVER => self.plan_command(output, kind, &[level, 2_000, ABSENT]),
-            RAMP_TO_AT_RATE => self.plan_command(output, kind, &[level, HUNDRED_PERCENT, ABSENT]),
+            RAMP_TO_AT_RATE => {
+                self.plan_command(output, kind, &[level, REAL_HUNDRED_PERCENT, ABSENT])
+            }
             _ => self.plan_command(output, kind, &[level, ABSENT]),
         }
     }
@@ -218,7 +220,7 @@ impl Generator {
     fn plan_bound_judged(&mut self, output: u8, aim: Aim) {
         let (bound, slot) = self
             .random
-            .pick(&[(MINIMUM, ONE_PERCENT), (MAXIMUM, HUNDRED_PERCENT)]);
+            .pick(&[(MINIMUM, REAL_ONE_PERCENT), (MAXIMUM, REAL_HUNDRED_PERCENT)]);
         self.plan_shown(output, slot, 0);
         let before = level_as_real(aim.before.max(real::ONE_PERCENT));
         if before != slot {

@@ -7,9 +7,8 @@ use plain::settings::*;
 
 use crate::body::Body;
 use crate::list::Generator;
-use crate::suites::base::sentences::{HUNDRED_PERCENT, ONE_PERCENT};
 use crate::timing::When;
-use crate::values;
+use crate::values::{self, REAL_HUNDRED_PERCENT, REAL_ONE_PERCENT};
 
 /// By how many units a REAL that is written lies away from the other value.
 const AWAY: [f64; 14] = [
@@ -34,18 +33,22 @@ impl Generator {
             _ => self.plan_relay_values(output, other, 0),
         }
         // Neither value has anything to do with Min and Max.
-        let maximum = self.random.pick(&[HUNDRED_PERCENT, 10.0_f32.to_bits()]);
+        let maximum = self
+            .random
+            .pick(&[REAL_HUNDRED_PERCENT, 10.0_f32.to_bits()]);
         self.plan_setting(output, MAXIMUM, maximum);
         // Mostly active then, so that a write which is refused and still turns
         // the relay is seen.
         if self.random.chance(40) {
-            self.plan_command(output, GOTO, &[HUNDRED_PERCENT, 0]);
+            self.plan_command(output, GOTO, &[REAL_HUNDRED_PERCENT, 0]);
         }
         for _ in 0..self.random.between(2, 4) {
             let away = self.random.pick(&AWAY);
             let beside = ((f64::from(other) + away) / 65_536.0) as f32;
             let value = match self.random.below(8) {
-                0 => self.random.pick(&[0, ONE_PERCENT, HUNDRED_PERCENT]),
+                0 => self
+                    .random
+                    .pick(&[0, REAL_ONE_PERCENT, REAL_HUNDRED_PERCENT]),
                 1 => self.random.between(1, 0x3F7F_FFFF) as u32,
                 2 => self.random.pick(&values::edge_reals()),
                 _ => beside.to_bits(),

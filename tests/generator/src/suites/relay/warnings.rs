@@ -8,11 +8,9 @@ use plain::settings::*;
 
 use crate::body::Body;
 use crate::list::Generator;
-use crate::suites::base::scripts::ABSENT;
-use crate::suites::base::sentences::{HUNDRED_PERCENT, ONE_PERCENT};
 use crate::suites::light::{STRONGEST, WEAKEST};
 use crate::timing::When;
-use crate::values::SHORTEST;
+use crate::values::{ABSENT, REAL_HUNDRED_PERCENT, REAL_ONE_PERCENT, SHORTEST};
 
 use super::judging::Aim;
 
@@ -108,8 +106,8 @@ impl Generator {
                 self.plan_interruption(output, &blink, aim);
                 self.plan_look_at_relay(output, When::Now);
                 self.plan_property(output, RELINQUISH_DEFAULT, 0);
-                self.plan_property(output, MINIMUM, ONE_PERCENT);
-                self.plan_property(output, MAXIMUM, HUNDRED_PERCENT);
+                self.plan_property(output, MINIMUM, REAL_ONE_PERCENT);
+                self.plan_property(output, MAXIMUM, REAL_HUNDRED_PERCENT);
             }
         }
     }
@@ -117,7 +115,9 @@ impl Generator {
     /// The level to come to is Relinquish_Default, with no slot above it once
     /// slot 6 is empty.
     fn plan_beneath(&mut self, output: u8, own: u8, aim: Aim) {
-        let level = self.random.pick(&[aim.real(), aim.real(), HUNDRED_PERCENT]);
+        let level = self
+            .random
+            .pick(&[aim.real(), aim.real(), REAL_HUNDRED_PERCENT]);
         self.plan_property(output, RELINQUISH_DEFAULT, level);
         self.plan(output, Body::Empty { priority: own }, When::Now);
     }
@@ -127,7 +127,7 @@ impl Generator {
         let priority = self.random.pick(&[STRONGEST, blink.own, WEAKEST]);
         let step = self
             .random
-            .pick(&[ONE_PERCENT, 40.0_f32.to_bits(), HUNDRED_PERCENT]);
+            .pick(&[REAL_ONE_PERCENT, 40.0_f32.to_bits(), REAL_HUNDRED_PERCENT]);
         let kind = match self.random.chance(60) {
             true => self.random.pick(&[STOP, RELINQUISH]),
             false => self.random.pick(&COMMANDS),
@@ -140,7 +140,7 @@ impl Generator {
             }
             4 | 5 => {
                 let property = self.random.pick(&[MINIMUM, MAXIMUM]);
-                let other = self.random.pick(&[ONE_PERCENT, HUNDRED_PERCENT]);
+                let other = self.random.pick(&[REAL_ONE_PERCENT, REAL_HUNDRED_PERCENT]);
                 self.plan_property(output, property, other);
                 self.plan_look_at_relay(output, When::Now);
                 self.plan_property(output, property, aim.real());
@@ -150,8 +150,8 @@ impl Generator {
                 // stays so, and becomes inactive by the last.
                 for (property, value) in [
                     (BINARY_INACTIVE_VALUE, 0),
-                    (BINARY_ACTIVE_VALUE, ONE_PERCENT),
-                    (BINARY_ACTIVE_VALUE, HUNDRED_PERCENT),
+                    (BINARY_ACTIVE_VALUE, REAL_ONE_PERCENT),
+                    (BINARY_ACTIVE_VALUE, REAL_HUNDRED_PERCENT),
                     (BINARY_INACTIVE_VALUE, 99.0_f32.to_bits()),
                 ] {
                     self.plan_property(output, property, value);
@@ -211,7 +211,7 @@ impl Generator {
         );
         let beneath = self
             .random
-            .pick(&[0, aim.real(), aim.real(), HUNDRED_PERCENT]);
+            .pick(&[0, aim.real(), aim.real(), REAL_HUNDRED_PERCENT]);
         self.plan_property(output, RELINQUISH_DEFAULT, beneath);
         if self.random.chance(30) {
             self.plan(output, Body::Empty { priority }, When::Now);

@@ -6,10 +6,8 @@ use plain::real::{self, level_as_real};
 use plain::settings::*;
 
 use crate::list::Generator;
-use crate::suites::base::scripts::ABSENT;
-use crate::suites::base::sentences::{HUNDRED_PERCENT, ONE_PERCENT};
 use crate::timing::When;
-use crate::values::PRIORITIES;
+use crate::values::{ABSENT, PRIORITIES, REAL_HUNDRED_PERCENT, REAL_ONE_PERCENT};
 
 use super::values as ties;
 
@@ -22,12 +20,12 @@ struct Compared {
 }
 
 const BOUNDS: Compared = Compared {
-    lower: (MINIMUM, ONE_PERCENT),
-    higher: (MAXIMUM, HUNDRED_PERCENT),
+    lower: (MINIMUM, REAL_ONE_PERCENT),
+    higher: (MAXIMUM, REAL_HUNDRED_PERCENT),
 };
 const RELAY_VALUES: Compared = Compared {
     lower: (BINARY_INACTIVE_VALUE, 0),
-    higher: (BINARY_ACTIVE_VALUE, HUNDRED_PERCENT),
+    higher: (BINARY_ACTIVE_VALUE, REAL_HUNDRED_PERCENT),
 };
 
 impl Generator {
