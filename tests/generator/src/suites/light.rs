@@ -16,9 +16,10 @@ use crate::values::{self, ABSENT, LONGEST, REAL_HUNDRED_PERCENT, REAL_ONE_PERCEN
 pub static SUITE: Suite = Suite {
     name: "§2",
     subject: "burning time by the light",
-    share: 10,
+    share: 11,
     at_rest: &[
-        (800, Generator::plan_light),
+        (785, Generator::plan_light),
+        (15, Generator::plan_calm_and_great_jump),
         (40, Generator::plan_movement),
         (80, Generator::plan_command_at_rest),
         (40, Generator::plan_slot_at_rest),
@@ -72,12 +73,12 @@ impl Generator {
         }
         let level = values::lit_level(&mut self.random);
         let moving = match self.random.below(20) {
-            0..=8 => self.rising_fade(),
-            9..=11 => self.ramp(0, level),
-            12..=14 => self.short_fade(level, 0),
-            15..=17 => self.ramp(level, 0),
+            0..=7 => self.rising_fade(),
+            8..=10 => self.ramp(0, level),
+            11..=13 => self.short_fade(level, 0),
+            14..=15 => self.ramp(level, 0),
             // To Min, and lit all the time.
-            18 => self.ramp(level, REAL_ONE_PERCENT),
+            16 | 17 => self.ramp(level, REAL_ONE_PERCENT),
             _ => self.short_fade(level, REAL_ONE_PERCENT),
         };
         self.plan_start(output, own, &moving);
@@ -136,10 +137,10 @@ impl Generator {
         }
     }
 
-    /// At the least rate too.
+    /// At the least rate too; downward that takes minutes, which few lists have.
     fn ramp(&mut self, from: u32, to: u32) -> Moving {
         let rate = match self.random.below(4) {
-            0 => 0.125_f32.to_bits(),
+            0 if from == 0 || self.random.chance(10) => 0.125_f32.to_bits(),
             1 => REAL_HUNDRED_PERCENT,
             _ => values::usual_percentage(&mut self.random),
         };

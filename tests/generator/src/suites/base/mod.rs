@@ -16,7 +16,7 @@ use crate::suite::{Shares, Suite, Tables};
 pub static SUITE: Suite = Suite {
     name: "base",
     subject: "document 01",
-    share: 40,
+    share: 38,
     at_rest: &[
         (200, Generator::plan_warning),
         (135, Generator::plan_movement),

@@ -13,7 +13,7 @@ use crate::suite::{Suite, Tables};
 pub static SUITE: Suite = Suite {
     name: "§3",
     subject: "relays",
-    share: 17,
+    share: 18,
     at_rest: &[
         (600, Generator::plan_relay),
         (60, Generator::plan_warning),
@@ -23,8 +23,14 @@ pub static SUITE: Suite = Suite {
         (60, Generator::plan_sentence),
         (60, Generator::plan_anything_at_rest),
     ],
-    in_movement: base::IN_MOVEMENT,
-    in_warning: base::IN_WARNING,
+    in_movement: &[
+        (95, Generator::plan_in_movement),
+        (5, Generator::plan_relay_write),
+    ],
+    in_warning: &[
+        (80, Generator::plan_in_warning),
+        (20, Generator::plan_relay_write),
+    ],
     tables: Tables {
         kinds: &tags::KINDS,
         more_properties: &PROPERTIES,

@@ -74,6 +74,14 @@ impl Generator {
         }
     }
 
+    /// In a warning or in a movement.
+    pub(crate) fn plan_relay_write(&mut self, output: u8) {
+        let (property, value) = self.some_relay_write(output);
+        let when = self.sometime();
+        self.plan(output, Body::WriteProperty { property, value }, when);
+        self.plan_look_at_relay(output, When::Now);
+    }
+
     /// A write of 17, 18 or 19 with any value.
     pub(crate) fn some_relay_write(&mut self, output: u8) -> (u8, u32) {
         let property = self
@@ -99,6 +107,7 @@ impl Generator {
             0..=3 => level_as_real(self.random.pick(&near)),
             4 => level_as_real(self.random.pick(&near) + 1),
             5 => level_as_real(self.random.pick(&near).saturating_sub(1)),
+            6 => self.random.pick(&values::edge_reals()),
             _ => values::level(&mut self.random),
         }
     }

@@ -12,7 +12,7 @@ use plain::tags::{Tag, DURATION, FADE_TIME};
 use crate::body::Body;
 use crate::list::Generator;
 use crate::timing::When;
-use crate::values::{self, LONGEST, SHORTEST};
+use crate::values::{self, EDGE_TIMES, LONGEST, SHORTEST};
 
 use super::draft::{some_octets, Draft};
 
@@ -86,7 +86,8 @@ impl Generator {
             39..=59 => self.wrong_twice(),
             60..=65 => self.wrong_and_out_of_range(),
             66..=67 => self.out_of_range(),
-            68..=70 => self.edge_of_reals(),
+            68..=69 => self.edge_of_reals(),
+            70 => self.edge_of_times(),
             71..=79 => self.edge_of_octets(),
             80..=94 => self.one_bit_wrong(),
             95..=97 => self.any_tags(),
@@ -182,6 +183,17 @@ impl Generator {
         let mut command = self.good_fields(kind);
         for real in [&mut command.rate, &mut command.step] {
             *real = real.map(|_| edge);
+        }
+        Draft::of(command.tags()).body()
+    }
+
+    /// A fade time or a duration at the edges of its range and of 32 bits.
+    fn edge_of_times(&mut self) -> Body {
+        let edge = self.random.pick(&EDGE_TIMES);
+        let mut command = self.good_fields(FADE_TO_OVER);
+        match self.random.chance(70) {
+            true => command.fade_time = Some(edge),
+            false => command.duration = Some(edge),
         }
         Draft::of(command.tags()).body()
     }
