@@ -1,6 +1,7 @@
 //! One list, without and with copies, against the plain panel.
 
-use generator::{pair, Pair};
+use events::Observer;
+use generator::{pair_seen_by, Pair, Which};
 use panels::list_text::write_list;
 
 use crate::arguments::Arguments;
@@ -9,9 +10,12 @@ use crate::lockstep::check_in_lockstep;
 use crate::subject::Subject;
 use crate::totals::Totals;
 
-/// The words of the first difference, with the seed and the written list.
-pub fn check_list(arguments: &Arguments, seed: u64, totals: &mut Totals) -> Result<(), String> {
-    let pair = pair(seed, arguments.list_length);
+/// The words of the first difference, with the list and the file it is written to.
+pub fn check_list(arguments: &Arguments, which: Which, totals: &mut Totals) -> Result<(), String> {
+    let mut observer = Observer::new();
+    let pair = pair_seen_by(which, arguments.list_length, &mut |bytes, answer, panel| {
+        observer.saw(bytes, answer, panel)
+    });
     let Pair { list, with_copies } = &pair;
     let text = write_list(list.outputs, &list.frames);
     let text_with_copies = write_list(list.outputs, &with_copies.frames);
@@ -24,7 +28,7 @@ pub fn check_list(arguments: &Arguments, seed: u64, totals: &mut Totals) -> Resu
             expectation.compare(&written, &list.frames)?;
             Ok(written)
         })
-        .map_err(|difference| report(seed, "", &text, &difference))?;
+        .map_err(|difference| report(which, "", &text, &difference))?;
 
     let run = arguments.subject.start(text_with_copies.clone())?;
     let (answers, panel) = pair.live_with_copies();
@@ -34,14 +38,14 @@ pub fn check_list(arguments: &Arguments, seed: u64, totals: &mut Totals) -> Resu
             expectation_with_copies.compare(&written_with_copies, &with_copies.frames)?;
             copies_change_nothing(&written, &written_with_copies, &pair)
         })
-        .map_err(|difference| report(seed, "-with-copies", &text_with_copies, &difference))?;
+        .map_err(|difference| report(which, "-with-copies", &text_with_copies, &difference))?;
 
     if let Subject::FastPanel = arguments.subject {
         check_in_lockstep(list.outputs, &list.frames)
-            .map_err(|difference| report(seed, "", &text, &difference))?;
+            .map_err(|difference| report(which, "", &text, &difference))?;
     }
 
-    totals.add(list, with_copies.frames.len());
+    totals.add(list, with_copies.frames.len(), &observer);
     Ok(())
 }
 
@@ -69,11 +73,15 @@ fn copies_change_nothing(
     Ok(())
 }
 
-fn report(seed: u64, ending: &str, list: &str, difference: &str) -> String {
-    let file = format!("difference-{seed}{ending}.list");
+fn report(which: Which, ending: &str, list: &str, difference: &str) -> String {
+    let (suite, number) = (which.suite.name, which.number);
+    let file = format!(
+        "difference-{}-{number}{ending}.list",
+        suite.trim_start_matches('§')
+    );
     let kept = match std::fs::write(&file, list) {
         Ok(()) => format!("the list is in {file}"),
         Err(error) => format!("{file} cannot be written: {error}"),
     };
-    format!("DIFFERENCE with seed {seed}; {kept}\n{difference}")
+    format!("DIFFERENCE in list {number} of suite {suite}; {kept}\n{difference}")
 }

@@ -1,90 +1,101 @@
-//! What was compared and reached, over all lists.
+//! What was compared and reached, suite by suite.
 
+use std::collections::BTreeSet;
 use std::fmt::Debug;
 
-use generator::boundary::{self, Boundary};
-use generator::List;
-use plain::event::Tally;
-use plain::{expected, Event};
+use events::{Edge, Event, Observer, Tally};
+use generator::{List, Suite};
 
 pub struct Totals {
+    suite: &'static Suite,
     pub lists: u64,
     pub frames: u64,
     frames_with_copies: u64,
     outputs: u64,
-    /// Lists by their number of outputs, 1 to 64.
-    lists_by_outputs: [u64; 64],
+    /// Numbers of outputs that lists had.
+    sizes: BTreeSet<usize>,
     events: Tally<Event>,
-    boundaries: Tally<Boundary>,
+    edges: Tally<Edge>,
 }
 
 impl Totals {
-    pub fn new() -> Totals {
+    pub fn of(suite: &'static Suite) -> Totals {
         Totals {
+            suite,
             lists: 0,
             frames: 0,
             frames_with_copies: 0,
             outputs: 0,
-            lists_by_outputs: [0; 64],
+            sizes: BTreeSet::new(),
             events: Tally::new(),
-            boundaries: Tally::new(),
+            edges: Tally::new(),
         }
     }
 
     /// Adds a list that showed no difference, without and with copies.
-    pub fn add(&mut self, list: &List, frames_with_copies: usize) {
+    pub fn add(&mut self, list: &List, frames_with_copies: usize, observer: &Observer) {
         self.lists += 1;
         self.frames += list.frames.len() as u64;
         self.frames_with_copies += frames_with_copies as u64;
         self.outputs += 2 * list.outputs as u64;
-        self.lists_by_outputs[list.outputs - 1] += 1;
-        self.events.add(list.panel.tally());
-        self.boundaries.add(&list.boundaries);
+        self.sizes.insert(list.outputs);
+        self.events.add(observer.events());
+        self.edges.add(observer.edges());
     }
 
-    fn sizes_not_reached(&self) -> Vec<usize> {
-        (1..=64)
-            .filter(|size| self.lists_by_outputs[size - 1] == 0)
-            .collect()
+    fn missing_events(&self) -> Vec<Event> {
+        missing(&self.events, (self.suite.events)())
     }
 
+    fn missing_edges(&self) -> Vec<Edge> {
+        missing(&self.edges, (self.suite.edges)())
+    }
+
+    /// All that is expected of the suite. Every suite has tables of all sizes;
+    /// that document 01's has had each of them is enough.
     pub fn everything_reached(&self) -> bool {
-        not_reached(&self.events, expected::expected()).is_empty()
-            && not_reached(&self.boundaries, boundary::expected()).is_empty()
-            && self.sizes_not_reached().is_empty()
+        let sizes = self.suite.name != "base" || self.sizes.len() == 64;
+        self.missing_events().is_empty() && self.missing_edges().is_empty() && sizes
     }
 
-    pub fn print(&self) {
-        println!("events:");
-        print_counts(&self.events);
-        println!("edges of fields in first arrivals:");
-        print_counts(&self.boundaries);
+    fn print(&self, counts: bool) {
         println!(
-            "lists by number of outputs, 1 to 64: {:?}",
-            self.lists_by_outputs
+            "suite {}, {}: {} lists and as many with copies, {} and {} frames",
+            self.suite.name, self.suite.subject, self.lists, self.frames, self.frames_with_copies
         );
-        print_missing("events", &self.events, expected::expected());
-        print_missing("edges", &self.boundaries, boundary::expected());
-        println!(
-            "numbers of outputs not reached: {:?}",
-            self.sizes_not_reached()
+        if counts {
+            print_counts(&self.events);
+            print_counts(&self.edges);
+        }
+        print_missing(
+            "events",
+            &self.missing_events(),
+            (self.suite.events)().len(),
         );
-        println!("lists: {} and as many with copies", self.lists);
-        println!("frames: {}", self.frames);
-        println!(
-            "frames in the lists with copies: {}",
-            self.frames_with_copies
-        );
-        println!(
-            "answers compared: {}",
-            self.frames + self.frames_with_copies
-        );
-        println!("outputs compared: {}", self.outputs);
-        println!("no difference");
+        print_missing("edges", &self.missing_edges(), (self.suite.edges)().len());
+        println!("    numbers of outputs: {} of 64", self.sizes.len());
     }
 }
 
-fn not_reached<Kind: Ord + Copy>(tally: &Tally<Kind>, expected: Vec<Kind>) -> Vec<Kind> {
+pub fn print(all: &[Totals], counts: bool) {
+    for totals in all {
+        totals.print(counts);
+    }
+    let sum = |of: fn(&Totals) -> u64| all.iter().map(of).sum::<u64>();
+    let frames = sum(|totals| totals.frames);
+    let frames_with_copies = sum(|totals| totals.frames_with_copies);
+    println!(
+        "lists: {} and as many with copies",
+        sum(|totals| totals.lists)
+    );
+    println!("frames: {frames}");
+    println!("frames in the lists with copies: {frames_with_copies}");
+    println!("answers compared: {}", frames + frames_with_copies);
+    println!("outputs compared: {}", sum(|totals| totals.outputs));
+    println!("no difference");
+}
+
+fn missing<Kind: Ord + Copy>(tally: &Tally<Kind>, expected: Vec<Kind>) -> Vec<Kind> {
     expected
         .into_iter()
         .filter(|kind| tally.of(*kind) == 0)
@@ -97,11 +108,12 @@ fn print_counts<Kind: Ord + Copy + Debug>(tally: &Tally<Kind>) {
     }
 }
 
-fn print_missing<Kind: Ord + Copy + Debug>(name: &str, tally: &Tally<Kind>, expected: Vec<Kind>) {
-    let all = expected.len();
-    let missing = not_reached(tally, expected);
-    println!("expected {name} reached: {} of {all}", all - missing.len());
+fn print_missing<Kind: Debug>(name: &str, missing: &[Kind], all: usize) {
+    println!(
+        "    expected {name} reached: {} of {all}",
+        all - missing.len()
+    );
     for kind in missing {
-        println!("    NOT REACHED  {kind:?}");
+        println!("        NOT REACHED  {kind:?}");
     }
 }

@@ -1,13 +1,19 @@
 //! Copies, and frames that refusals 2 to 8 turn down.
 
-use plain::frame::{length_of_kind, ALL_KINDS};
-
-use crate::body::{clock, Body};
+use crate::body::clock;
 use crate::list::{Generator, Planned};
-use crate::tag_scenes::in_other_form;
+use crate::suites::tags::in_other_form;
 use crate::timing::When;
 
-const UNKNOWN_KINDS: [u8; 9] = [0x00, 0x06, 0x07, 0x0F, 0x1C, 0x20, 0x80, 0x91, 0xFF];
+/// Kinds that document 02 makes known after the suites that send them as unknown
+/// ones were made, with their bytes: §9, §11 and §12.
+fn length_to_come(kind: u8) -> Option<usize> {
+    match kind {
+        0x06 | 0x07 => Some(13),
+        0x30..=0x3A => Some(30),
+        _ => None,
+    }
+}
 
 impl Generator {
     /// A copy of a station's latest first arrival, or of any earlier frame.
@@ -24,10 +30,10 @@ impl Generator {
         if let Some(arrival) = copied {
             let bytes = arrival.bytes.clone();
             // What means the same is no copy for that.
-            return match in_other_form(&bytes) {
-                Some(other) if self.random.chance(10) => other,
-                _ => bytes,
-            };
+            if self.suite.tables.tagged > 0 && self.random.chance(10) {
+                return in_other_form(&bytes).unwrap_or(bytes);
+            }
+            return bytes;
         }
         if self.frames.is_empty() {
             return Vec::new();
@@ -40,7 +46,8 @@ impl Generator {
     /// order of the refusals shows.
     pub(crate) fn hostile_frame(&mut self) -> Vec<u8> {
         let output = self.some_output();
-        let body = match self.random.chance(10) {
+        let tagged = self.suite.tables.tagged > 0;
+        let body = match tagged && self.random.chance(10) {
             true => self.body_for_a_sentence(),
             false => self.any_body(output),
         };
@@ -53,7 +60,18 @@ impl Generator {
         if self.random.chance(35) {
             self.spoil(&mut bytes);
         }
+        // Refused 2 as long as its kind is unknown, and 3 from then on: it never
+        // touches the panel, so that the list goes on as before.
+        let kind = bytes.first().copied().unwrap_or(0);
+        let unknown = self.suite.tables.length_of_kind(kind).is_none();
+        if unknown && length_to_come(kind) == Some(bytes.len()) {
+            bytes.push(0);
+        }
         bytes
+    }
+
+    fn some_kind(&mut self) -> u8 {
+        self.random.pick(self.suite.tables.kinds).0
     }
 
     fn spoil(&mut self, bytes: &mut Vec<u8>) {
@@ -78,9 +96,9 @@ impl Generator {
 
     fn spoil_kind(&mut self, bytes: &mut Vec<u8>) {
         let kind = match self.random.below(3) {
-            0 => self.random.pick(&UNKNOWN_KINDS),
+            0 => self.random.pick(self.suite.tables.unknown_kinds),
             1 => self.random.bits() as u8,
-            _ => self.random.pick(&ALL_KINDS),
+            _ => self.some_kind(),
         };
         match bytes.first_mut() {
             Some(first) => *first = kind,
@@ -91,11 +109,12 @@ impl Generator {
     /// Too short or too long, by one byte or by many.
     fn spoil_length(&mut self, bytes: &mut Vec<u8>) {
         if self.random.chance(30) {
-            *bytes = vec![self.random.pick(&ALL_KINDS)];
+            *bytes = vec![self.some_kind()];
         }
+        let tables = &self.suite.tables;
         let length = bytes
             .first()
-            .and_then(|kind| length_of_kind(*kind))
+            .and_then(|kind| tables.length_of_kind(*kind))
             .unwrap_or(7);
         let wrong = match self.random.below(8) {
             0 | 1 => length - 1,
@@ -122,9 +141,10 @@ impl Generator {
         } else if self.random.chance(20) {
             // All but the kind, in the length of the kind that was.
             *bytes = latest.bytes.clone();
-            let others: Vec<u8> = ALL_KINDS
-                .into_iter()
-                .filter(|kind| *kind != bytes[0] && length_of_kind(*kind) == Some(bytes.len()))
+            let kinds = self.suite.tables.kinds.iter();
+            let others: Vec<u8> = kinds
+                .filter(|(kind, length)| *kind != bytes[0] && *length == bytes.len())
+                .map(|(kind, _)| *kind)
                 .collect();
             // A tagged command has its length to itself.
             if !others.is_empty() {
@@ -173,19 +193,5 @@ impl Generator {
 
     fn late_clock(&mut self) -> Vec<u8> {
         clock(self.earlier_time())
-    }
-
-    /// A body of any kind with any values.
-    pub(crate) fn any_body(&mut self, output: u8) -> Body {
-        match self.random.below(100) {
-            0..=19 => self.any_write(),
-            20..=29 => self.any_emptying(),
-            30..=49 => self.any_property_write(output),
-            50..=64 => self.any_read(),
-            _ => {
-                let kind = self.random.pick(&plain::frame::ALL_COMMANDS);
-                self.any_command(kind)
-            }
-        }
     }
 }

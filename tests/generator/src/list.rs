@@ -2,12 +2,11 @@
 
 use std::collections::VecDeque;
 
-use plain::event::Tally;
 use plain::{Answer, Panel};
 
 use crate::body::{clock, Body, Head};
-use crate::boundary::{count_edges, Boundary};
 use crate::random::Random;
+use crate::suite::Suite;
 use crate::timing::When;
 
 /// A list with what the plain panel answered and what it is left with.
@@ -16,7 +15,6 @@ pub struct List {
     pub frames: Vec<Vec<u8>>,
     pub answers: Vec<Answer>,
     pub panel: Panel,
-    pub boundaries: Tally<Boundary>,
 }
 
 /// A frame to come; head and time are made when its turn is there.
@@ -30,11 +28,11 @@ pub struct Planned {
 }
 
 pub struct Generator {
+    pub(crate) suite: &'static Suite,
     pub(crate) random: Random,
     pub(crate) panel: Panel,
     pub(crate) frames: Vec<Vec<u8>>,
     answers: Vec<Answer>,
-    boundaries: Tally<Boundary>,
     /// Milliseconds that outputs may still have to live one by one.
     pub(crate) budget: u64,
     /// Outputs that most frames go to, so that something builds up there.
@@ -42,34 +40,62 @@ pub struct Generator {
     pub(crate) plan: VecDeque<Planned>,
 }
 
-/// Most lists are quick to live; one in a hundred may live whole days.
+/// Most lists are quick to live; some may live whole days.
 const USUAL_BUDGET: u64 = 2_000_000;
 const GREAT_BUDGET: u64 = 350_000_000;
 
-/// Makes the list of `length` frames that belongs to the seed.
-pub fn generate(seed: u64, length: usize) -> List {
-    let mut generator = Generator::new(seed);
+/// Looks on while a list is made: at each frame, with its answer and the panel
+/// after it.
+pub type Onlooker<'a> = &'a mut dyn FnMut(&[u8], Answer, &Panel);
+
+/// Which list.
+#[derive(Clone, Copy)]
+pub struct Which {
+    pub suite: &'static Suite,
+    /// The run's seed.
+    pub run: u64,
+    /// Its number in the suite, from 0.
+    pub number: u64,
+}
+
+impl Which {
+    pub fn seed(&self) -> u64 {
+        self.suite.seed(self.run, self.number)
+    }
+
+    /// Whether it may live whole days: one in the middle of so many lists.
+    pub fn is_great(&self) -> bool {
+        let great_lists = self.suite.tables.great_lists;
+        great_lists > 0 && self.number % great_lists == great_lists / 2
+    }
+}
+
+/// Makes that list, with `length` frames.
+pub fn generate(which: Which, length: usize, onlooker: Onlooker) -> List {
+    let mut generator = Generator::new(which);
     while generator.frames.len() < length {
         let bytes = generator.next_frame();
-        generator.send(bytes);
+        let answer = generator.panel.frame(&bytes);
+        onlooker(&bytes, answer, &generator.panel);
+        generator.answers.push(answer);
+        generator.frames.push(bytes);
     }
     List {
         outputs: generator.panel.outputs().len(),
         frames: generator.frames,
         answers: generator.answers,
         panel: generator.panel,
-        boundaries: generator.boundaries,
     }
 }
 
 impl Generator {
-    fn new(seed: u64) -> Generator {
-        let mut random = Random::from_seed(seed);
-        let great = random.one_in(100);
+    fn new(which: Which) -> Generator {
+        let mut random = Random::from_seed(which.seed());
+        let great = which.is_great();
         let outputs = match random.below(10) {
             _ if great => random.between(1, 2),
-            // Every number of outputs has its turn in 256 seeds.
-            _ if seed.is_multiple_of(4) => seed / 4 % 64 + 1,
+            // Every number of outputs has its turn in 256 lists.
+            _ if which.number.is_multiple_of(4) => which.number / 4 * 21 % 64 + 1,
             0..=3 => 1,
             4..=8 => random.between(2, 8),
             _ => 64,
@@ -82,24 +108,15 @@ impl Generator {
             } as u8)
             .collect();
         Generator {
+            suite: which.suite,
             random,
             panel: Panel::start(outputs as usize),
             frames: Vec::new(),
             answers: Vec::new(),
-            boundaries: Tally::new(),
             budget: if great { GREAT_BUDGET } else { USUAL_BUDGET },
             favourites,
             plan: VecDeque::new(),
         }
-    }
-
-    fn send(&mut self, bytes: Vec<u8>) {
-        let arrivals = self.panel.first_arrivals().len();
-        self.answers.push(self.panel.frame(&bytes));
-        if self.panel.first_arrivals().len() > arrivals {
-            count_edges(&mut self.boundaries, &bytes);
-        }
-        self.frames.push(bytes);
     }
 
     fn next_frame(&mut self) -> Vec<u8> {
@@ -150,16 +167,6 @@ impl Generator {
             time,
             output: planned.output,
         })
-    }
-
-    pub(crate) fn plan(&mut self, output: u8, body: Body, when: When) {
-        let body = Some(body);
-        self.plan.push_back(Planned { output, body, when });
-    }
-
-    pub(crate) fn plan_clock(&mut self, output: u8, when: When) {
-        let body = None;
-        self.plan.push_back(Planned { output, body, when });
     }
 
     /// A station that still has a number to give, and such a number.

@@ -1,9 +1,9 @@
-//! The lists that belong to a seed: one, and the same with copies put in.
+//! A list, and the same with copies put in.
 
 use plain::{Answer, Panel};
 
 use crate::copies::{with_copies, WithCopies};
-use crate::list::{generate, List};
+use crate::list::{generate, List, Onlooker, Which};
 use crate::random::Random;
 
 pub struct Pair {
@@ -12,18 +12,23 @@ pub struct Pair {
 }
 
 /// Without a length every list has its own.
-pub fn pair(seed: u64, length: Option<usize>) -> Pair {
-    let mut random = Random::from_seed(!seed);
-    let own_length = own_length(&mut random);
-    let list = generate(seed, length.unwrap_or(own_length));
+pub fn pair(which: Which, length: Option<usize>) -> Pair {
+    pair_seen_by(which, length, &mut |_, _, _| {})
+}
+
+/// The same; the onlooker sees the list without copies.
+pub fn pair_seen_by(which: Which, length: Option<usize>, onlooker: Onlooker) -> Pair {
+    let mut random = Random::from_seed(!which.seed());
+    let own_length = own_length(&mut random, which.is_great());
+    let list = generate(which, length.unwrap_or(own_length), onlooker);
     let with_copies = with_copies(&mut random, &list.frames);
     Pair { list, with_copies }
 }
 
 /// Many short lists show what is found in the middle of things; long ones
-/// build up more.
-fn own_length(random: &mut Random) -> usize {
-    let length = if random.chance(40) {
+/// build up more, and whole days want one.
+fn own_length(random: &mut Random, is_great: bool) -> usize {
+    let length = if !is_great && random.chance(40) {
         random.between(1, 120)
     } else {
         random.between(500, 3_000)

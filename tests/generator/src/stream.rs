@@ -1,5 +1,6 @@
 //! Streams to time a panel with: each is a list of good frames of one sort.
 
+use events::words::COMMANDS;
 use plain::frame::*;
 use plain::settings::*;
 
@@ -163,7 +164,7 @@ fn commands(outputs: usize, length: usize) -> Stream {
     while writer.count() < length {
         writer.time += 1;
         let index = writer.count();
-        let kind = ALL_COMMANDS[(index / outputs + index) % ALL_COMMANDS.len()];
+        let kind = COMMANDS[(index / outputs + index) % COMMANDS.len()];
         let duration = if index.is_multiple_of(4) {
             1_000
         } else {

@@ -1,8 +1,8 @@
 //! When the next frame comes: now, a little later, or aimed at a due moment or
 //! at the moment at which a movement's light begins or ends.
 
+use events::jump::Far;
 use plain::frame::LAST_TIME;
-use plain::jump_event::Far;
 use plain::movement::Movement;
 use plain::Output;
 
@@ -49,7 +49,7 @@ fn due_moments(output: &Output) -> Vec<u64> {
         moments.push(movement.length - movement.gone);
     }
     if let Some(warning) = &output.warning {
-        if warning.is_dark() {
+        if warning.gone < warning.dark_time {
             moments.push(warning.dark_time - warning.gone);
         }
         moments.push(warning.dark_time + warning.lit_time - warning.gone);

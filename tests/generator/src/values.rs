@@ -1,7 +1,44 @@
 //! REALs and whole numbers, good and bad, with a love for the edges.
 
+use plain::real::{HUNDRED_PERCENT, ONE_PERCENT};
+
 use crate::random::Random;
-use crate::tie_values::near_tie;
+
+pub use events::edges::EDGE_TIMES;
+
+/// The least and the greatest fade time and duration of document 01.
+pub const SHORTEST: u32 = 100;
+pub const LONGEST: u32 = 86_400_000;
+/// A duration that is not there.
+pub const ABSENT: u32 = 0xFFFF_FFFF;
+/// Levels as REALs; those of `plain::real` are in units.
+pub const REAL_ONE_PERCENT: u32 = 0x3F80_0000;
+pub const REAL_HUNDRED_PERCENT: u32 = 0x42C8_0000;
+/// The least rate and the least step, in units.
+pub const LEAST: u32 = ONE_PERCENT / 8;
+
+/// The middle of a unit and the next. Doubled it has 24 bits at most, so it is a
+/// REAL for every unit below 100 percent.
+pub fn tie_above(unit: u32) -> u32 {
+    let doubled = (2 * unit + 1) as f32;
+    (doubled / (2 * ONE_PERCENT) as f32).to_bits()
+}
+
+/// As often in the middle as beside it.
+pub fn about_tie_above(random: &mut Random, unit: u32) -> u32 {
+    let tie = tie_above(unit);
+    random.pick(&[tie, tie, tie - 1, tie + 1])
+}
+
+pub fn near_tie_in(random: &mut Random, least: u32, end: u32) -> u32 {
+    let unit = random.between(least.into(), u64::from(end) - 1) as u32;
+    about_tie_above(random, unit)
+}
+
+/// Anywhere that rates, steps or levels lie.
+pub fn near_tie(random: &mut Random) -> u32 {
+    near_tie_in(random, LEAST, HUNDRED_PERCENT)
+}
 
 /// The edges of the REAL ranges, of the format, and of the rounding.
 pub fn edge_reals() -> Vec<u32> {
@@ -95,22 +132,6 @@ pub fn bound(random: &mut Random) -> u32 {
         _ => random.bits() as u32,
     }
 }
-
-pub const EDGE_TIMES: [u32; 13] = [
-    0,
-    1,
-    2,
-    99,
-    100,
-    101,
-    86_399_999,
-    86_400_000,
-    86_400_001,
-    0x7FFF_FFFF,
-    0x8000_0000,
-    0xFFFF_FFFE,
-    0xFFFF_FFFF,
-];
 
 /// A fade time or a duration that is taken, short enough to be lived.
 pub fn short_time(random: &mut Random) -> u32 {

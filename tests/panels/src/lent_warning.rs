@@ -62,7 +62,6 @@ impl LentWarning {
         output.active = self.active;
         output.duration = Some(RunningDuration {
             slot: STRONGER_SLOT,
-            length: DUE,
             left: DUE,
         });
         output.warning = Some(Warning {

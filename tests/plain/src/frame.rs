@@ -19,51 +19,6 @@ pub const RELINQUISH: u8 = 0x1A;
 /// Any of these commands in context tags (§1).
 pub const TAGGED_COMMAND: u8 = 0x1B;
 
-pub const ALL_KINDS: [u8; 17] = [
-    CLOCK,
-    WRITE_PRESENT_VALUE,
-    EMPTY_A_SLOT,
-    WRITE_PROPERTY,
-    READ_PROPERTY,
-    STOP,
-    FADE_TO,
-    FADE_TO_OVER,
-    RAMP_TO,
-    RAMP_TO_AT_RATE,
-    STEP_UP,
-    STEP_DOWN,
-    STEP_UP_BY,
-    STEP_DOWN_BY,
-    GOTO,
-    RELINQUISH,
-    TAGGED_COMMAND,
-];
-
-/// The kinds of the operations, in their order; §1 brings the same ones.
-pub const ALL_COMMANDS: [u8; 11] = [
-    STOP,
-    FADE_TO,
-    FADE_TO_OVER,
-    RAMP_TO,
-    RAMP_TO_AT_RATE,
-    STEP_UP,
-    STEP_DOWN,
-    STEP_UP_BY,
-    STEP_DOWN_BY,
-    GOTO,
-    RELINQUISH,
-];
-
-/// Commands that can leave an output dark: a step down ends at Min.
-pub const DARKENING: [u8; 6] = [
-    FADE_TO,
-    FADE_TO_OVER,
-    RAMP_TO,
-    RAMP_TO_AT_RATE,
-    GOTO,
-    RELINQUISH,
-];
-
 /// The paper's table of kinds and bytes; nothing for an unknown kind.
 pub fn length_of_kind(kind: u8) -> Option<usize> {
     match kind {

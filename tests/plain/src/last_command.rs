@@ -6,7 +6,7 @@ use crate::tags;
 
 /// "The last command is kept with its REALs as they were written", and "Absent
 /// where it had none".
-#[derive(Clone, Debug, PartialEq, Eq)]
+#[derive(Clone, Copy, Debug, PartialEq, Eq)]
 pub struct LastCommand {
     /// "Kind minus 10", of the plain kind: 0 to 10.
     pub operation: u8,

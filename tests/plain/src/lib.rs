@@ -7,14 +7,8 @@
 
 pub mod answer;
 pub mod command;
-pub mod event;
-pub mod expected;
 pub mod frame;
-pub mod jump_event;
-pub mod jump_expected;
 pub mod last_command;
-pub mod light_event;
-pub mod light_expected;
 pub mod movement;
 pub mod output;
 pub mod panel;
@@ -22,18 +16,12 @@ pub mod passing;
 pub mod property;
 pub mod real;
 pub mod relay;
-pub mod relay_event;
-pub mod relay_expected;
 pub mod settings;
 pub mod slots;
-pub mod tag_event;
 pub mod tag_writer;
 pub mod tags;
-pub mod tie_event;
-pub mod tie_expected;
 pub mod warning;
 
 pub use answer::Answer;
-pub use event::Event;
 pub use output::Output;
 pub use panel::Panel;

@@ -1,16 +1,14 @@
 //! Fades and ramps.
 
-use crate::event::Event;
 use crate::output::Output;
-use crate::settings::LONGEST;
 
-#[derive(Clone, Copy, Debug)]
+#[derive(Clone, Copy, Debug, PartialEq, Eq)]
 pub enum Pace {
     Fade,
     Ramp { units_a_second: u32 },
 }
 
-#[derive(Clone, Debug)]
+#[derive(Clone, Copy, Debug, PartialEq, Eq)]
 pub struct Movement {
     /// "A movement belongs to the winner."
     pub owner: u8,
@@ -67,14 +65,6 @@ impl Movement {
             self.from - gone_way
         }
     }
-
-    pub fn is_ramp(&self) -> bool {
-        matches!(self.pace, Pace::Ramp { .. })
-    }
-
-    pub fn goes_up(&self) -> bool {
-        self.to > self.from
-    }
 }
 
 impl Output {
@@ -85,13 +75,6 @@ impl Output {
             movement.gone += 1;
             movement.reached = movement.level_after(movement.gone);
             if movement.gone == movement.length {
-                self.met.push(Event::MovementRanOut {
-                    ramp: movement.is_ramp(),
-                    up: movement.goes_up(),
-                });
-                if movement.length == u64::from(LONGEST) {
-                    self.met.push(Event::WholeDayMovementRanOut);
-                }
                 self.movement = None;
             }
         }

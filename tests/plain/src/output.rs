@@ -1,10 +1,8 @@
 //! "An output's record", without what a list never sees.
 
-use crate::event::{Event, Rank, Situation};
 use crate::last_command::LastCommand;
 use crate::movement::Movement;
 use crate::settings::Settings;
-use crate::tie_event::Field;
 use crate::warning::Warning;
 
 /// The slot that a warning takes while it lasts.
@@ -12,16 +10,14 @@ pub const WARNING_SLOT: u8 = 6;
 
 /// "Slot p empties d ms later. An output has at most one running, tied to its
 /// slot."
-#[derive(Clone, Debug)]
+#[derive(Clone, Copy, Debug, PartialEq, Eq)]
 pub struct RunningDuration {
     pub slot: u8,
-    /// The paper's d.
-    pub length: u64,
     /// Milliseconds still to be lived, at least 1.
     pub left: u64,
 }
 
-#[derive(Clone, Debug)]
+#[derive(Clone, Copy, Debug, PartialEq, Eq)]
 pub struct Output {
     /// Slot 1 stands first; nothing in a slot that is not live.
     slots: [Option<u32>; 16],
@@ -34,17 +30,6 @@ pub struct Output {
     pub burning: u64,
     /// Whether Binary_Present_Value is active (§3).
     pub active: bool,
-    /// How often the relay has turned on the way to the present millisecond,
-    /// for the count of events.
-    pub turns_on_the_way: u8,
-    /// Where the rate of the last ramp comes from, and its REAL, for the count
-    /// of events (§5).
-    pub ramp_by: Option<(Field, u32)>,
-    /// Properties that hold the even unit below the REAL that was written, for
-    /// the count of events (§5).
-    pub below_a_tie: Vec<u8>,
-    /// What was met since the panel last collected it. It decides nothing.
-    pub met: Vec<Event>,
 }
 
 impl Output {
@@ -60,10 +45,6 @@ impl Output {
             last: LastCommand::fresh(),
             burning: 0,
             active: false,
-            turns_on_the_way: 0,
-            ramp_by: None,
-            below_a_tie: Vec::new(),
-            met: Vec::new(),
         }
     }
 
@@ -107,31 +88,5 @@ impl Output {
         self.movement
             .as_ref()
             .is_some_and(|movement| movement.owner == priority)
-    }
-
-    /// What the output is doing, for the count of events.
-    pub fn situation(&self) -> Situation {
-        if self.movement.is_some() {
-            Situation::Moving
-        } else if let Some(warning) = &self.warning {
-            if warning.is_dark() {
-                Situation::WarningDark
-            } else {
-                Situation::WarningLit
-            }
-        } else if self.present_value() > 0 {
-            Situation::Lit
-        } else {
-            Situation::Dark
-        }
-    }
-
-    /// How a priority stands to the winner, for the count of events.
-    pub fn rank(&self, priority: u8) -> Rank {
-        match self.winner() {
-            Some(winner) if winner == priority => Rank::Winner,
-            Some(winner) if winner < priority => Rank::Weaker,
-            _ => Rank::Stronger,
-        }
     }
 }

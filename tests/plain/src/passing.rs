@@ -1,8 +1,6 @@
 //! "Passing from t to t + 1."
 
-use crate::event::{Coincidence, Event, FiredIn};
 use crate::output::Output;
-use crate::settings::LONGEST;
 
 impl Output {
     /// Lives `milliseconds` one after the other.
@@ -12,10 +10,6 @@ impl Output {
     /// burning time, and the rest is added in one go: a jump of 2^47 ms cannot
     /// be lived. Nothing else is cut short.
     pub fn pass(&mut self, milliseconds: u64) {
-        self.note_jump(milliseconds);
-        let begins = self.way_and_place();
-        let mut moving = 0;
-        self.turns_on_the_way = 0;
         for lived in 0..milliseconds {
             if self.nothing_pending() {
                 if self.progress_value() > 0 {
@@ -23,13 +17,8 @@ impl Output {
                 }
                 break;
             }
-            moving += u64::from(self.movement.is_some());
             self.pass_one_millisecond();
         }
-        if let Some(begins) = begins.filter(|_| milliseconds > 0) {
-            self.note_stretch(begins, moving == milliseconds);
-        }
-        self.note_turns_on_the_way();
     }
 
     pub fn nothing_pending(&self) -> bool {
@@ -42,7 +31,6 @@ impl Output {
     /// formula." §3: the relay "is judged after each millisecond's due moments",
     /// once for all of them.
     fn pass_one_millisecond(&mut self) {
-        let falling_due = self.about_to_fall_due();
         if self.progress_value() > 0 {
             self.burning += 1;
         }
@@ -52,9 +40,6 @@ impl Output {
         self.pass_warning();
         self.pass_movement();
         self.judge_relay();
-        if let Some(falling_due) = falling_due {
-            self.note_due_judging(falling_due);
-        }
     }
 
     /// "A due duration empties its slot (ending a movement that slot owned)."
@@ -67,57 +52,10 @@ impl Output {
             return;
         }
         let slot = duration.slot;
-        if duration.length == u64::from(LONGEST) {
-            self.met.push(Event::WholeDayDurationFired);
-        }
         self.duration = None;
-        self.note_firing(slot);
         self.empty(slot);
         if self.owns_movement(slot) {
             self.movement = None;
-        }
-    }
-
-    /// For the count of events: what the firing duration meets, before it
-    /// empties its slot. Warning and movement have not yet passed this
-    /// millisecond.
-    fn note_firing(&mut self, slot: u8) {
-        let own_movement = self.owns_movement(slot);
-        self.note_firing_in_light(own_movement);
-        let mut coincidence = None;
-        let fired_in = if let Some(movement) = &self.movement {
-            if movement.gone + 1 == movement.length {
-                coincidence = Some(Coincidence::MovementEnd { own_movement });
-            }
-            if own_movement {
-                FiredIn::ItsOwnMovement
-            } else {
-                FiredIn::AnotherMovement
-            }
-        } else if let Some(warning) = &self.warning {
-            let own_slot = warning.slot == slot;
-            if warning.gone + 1 == warning.dark_time + warning.lit_time {
-                coincidence = Some(Coincidence::WarningEnd {
-                    own_slot,
-                    lit: warning.lit_time > 0,
-                });
-            } else if warning.gone + 1 == warning.dark_time {
-                coincidence = Some(Coincidence::WarningTurn { own_slot });
-            }
-            if own_slot {
-                FiredIn::WarningAtItsOwnSlot
-            } else {
-                FiredIn::WarningElsewhere
-            }
-        } else {
-            FiredIn::Rest
-        };
-        self.met.push(Event::DurationFired {
-            fired_in,
-            slot_live: self.slot(slot).is_some(),
-        });
-        if let Some(coincidence) = coincidence {
-            self.met.push(Event::DurationFiredTogetherWith(coincidence));
         }
     }
 }

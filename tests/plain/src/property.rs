@@ -1,8 +1,6 @@
 //! Kinds 04 and 05: writing and reading a property.
 
 use crate::answer::{self, Answer};
-use crate::event::Event;
-use crate::movement::Pace;
 use crate::output::Output;
 use crate::real;
 use crate::settings::*;
@@ -15,49 +13,12 @@ const REFUSED_WHOLE_NUMBER: Answer = Answer::Refused(answer::WHOLE_NUMBER);
 impl Output {
     /// Kind 04.
     pub fn write_property(&mut self, property: u8, value: u32) -> Answer {
-        let situation = self.situation();
-        let shown_before = self.present_value();
         let answer = self.store_property(property, value);
-        self.note_relay_write(property, value, answer);
-        self.note_property_real(property, value, answer);
-        self.met.push(Event::PropertyWritten {
-            property: property.into(),
-            answer: answer.into(),
-            situation,
-        });
-        if answer == Answer::Done {
-            self.note_pace(property, value);
-        }
-        let is_bound = property == MINIMUM || property == MAXIMUM;
-        if is_bound && answer == Answer::Done {
-            if self.warning.is_some() && self.present_value() != shown_before {
-                self.met.push(Event::BoundMovesWarningLevel);
-            }
-            // "Writing 08 or 09 ends the movement."
+        // "Writing 08 or 09 ends the movement."
+        if matches!(property, MINIMUM | MAXIMUM) && answer == Answer::Done {
             self.movement = None;
         }
         answer
-    }
-
-    /// For the count of events: a pace that a movement under way does not take.
-    fn note_pace(&mut self, property: u8, value: u32) {
-        let Some(movement) = &self.movement else {
-            return;
-        };
-        let (own, other) = match (property, movement.pace) {
-            (FADE_TIME, Pace::Fade) => (movement.length, u64::from(value)),
-            (RAMP_RATE, Pace::Ramp { units_a_second }) => {
-                let rate = real::rate_or_step(value).unwrap_or(units_a_second);
-                (u64::from(rate), u64::from(units_a_second))
-            }
-            _ => return,
-        };
-        if own != other {
-            self.met.push(Event::PaceWrittenInMovement {
-                ramp: movement.is_ramp(),
-                slower: other > own,
-            });
-        }
     }
 
     /// "Property unknown, or not writable" is met before the value.
@@ -111,12 +72,7 @@ impl Output {
             LIGHTING_COMMAND_PRIORITY => self.settings.lighting_command_priority = value as u8,
             // "0B Elapsed_Active_Time, written only with 0."
             ELAPSED_ACTIVE_TIME if value != 0 => return REFUSED_WHOLE_NUMBER,
-            ELAPSED_ACTIVE_TIME => {
-                if !self.burning.is_multiple_of(1_000) {
-                    self.met.push(Event::PartOfSecondCleared);
-                }
-                self.burning = 0;
-            }
+            ELAPSED_ACTIVE_TIME => self.burning = 0,
             BINARY_ACTIVE_VALUE => {
                 return match real::level(value) {
                     Some(active) => {
@@ -187,26 +143,6 @@ impl Output {
             _ => return REFUSED_PROPERTY,
         };
         value.map_or(Answer::Absent, Answer::Value)
-    }
-
-    /// For the count of events.
-    pub fn note_reading(&mut self, property: u8, answer: Answer) {
-        self.met.push(Event::PropertyRead {
-            property: property.into(),
-            answer: answer.into(),
-        });
-        if property == ELAPSED_ACTIVE_TIME && answer == Answer::Value(u32::MAX) {
-            self.met.push(Event::ElapsedActiveTimeReadAtMost);
-        }
-        if property == ELAPSED_ACTIVE_TIME {
-            self.note_elapsed_reading();
-        }
-        self.note_relay_reading(property);
-        let below_one_percent = 1..real::ONE_PERCENT;
-        if property == PROGRESS_VALUE && below_one_percent.contains(&self.progress_value()) {
-            self.met.push(Event::ProgressReadBelowOnePercent);
-        }
-        self.note_ramp_reading(property);
     }
 
     /// "Elapsed_Active_Time reads floor(burning / 1,000), at most

@@ -38,7 +38,7 @@ pub const SHORTEST: u32 = 100;
 /// "FFFFFFFF means absent."
 pub const ABSENT_DURATION: u32 = 0xFFFF_FFFF;
 
-#[derive(Clone, Debug)]
+#[derive(Clone, Copy, Debug, PartialEq, Eq)]
 pub struct Settings {
     pub relinquish_default: u32,
     pub fade_time: u32,

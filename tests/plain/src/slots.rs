@@ -1,10 +1,8 @@
 //! Kinds 02 and 03: writing Present_Value and emptying a slot.
 
 use crate::answer::{self, Answer};
-use crate::event::{Breaker, Event};
 use crate::output::{Output, WARNING_SLOT};
 use crate::real;
-use crate::tie_event::Field;
 
 /// "Priority 0, 6 or over 16" is refused.
 pub fn is_priority(number: u32) -> bool {
@@ -20,21 +18,12 @@ impl Output {
         let Some(level) = real::level(bits) else {
             return Answer::Refused(answer::REAL);
         };
-        self.met.push(Event::SlotWritten {
-            lit: level > 0,
-            situation: self.situation(),
-            rank: self.rank(priority),
-        });
-        self.note_level(Field::Slot, bits);
         if self.warning.is_some() {
             self.write_in_warning(priority, level);
             return Answer::Done;
         }
-        if level == 0 {
-            self.start_warning_if_due(priority);
-            if self.warning.is_some() && bits != 0 {
-                self.met.push(Event::WarningStartedByMinusZero);
-            }
+        if level == 0 && self.starts_warning(priority) {
+            self.start_warning(priority);
         }
         self.store(priority, level);
         // "A movement goes on if P is above its owner's number; else it ends."
@@ -52,20 +41,8 @@ impl Output {
     /// of zero at P below 6 it empties slot 6 and stores; of non-zero it
     /// empties slot 6 and stores."
     fn write_in_warning(&mut self, priority: u8, level: u32) {
-        let own_slot = self
-            .warning
-            .as_ref()
-            .is_some_and(|warning| warning.slot == priority);
-        let above = priority > WARNING_SLOT;
-        self.break_warning(match (level > 0, above, own_slot) {
-            (false, true, true) => Breaker::ZeroAtItsOwnSlot,
-            (false, true, false) => Breaker::ZeroAtAnotherSlotAboveSix,
-            (false, false, _) => Breaker::ZeroBelowSix,
-            (true, true, true) => Breaker::LitAtItsOwnSlot,
-            (true, true, false) => Breaker::LitAtAnotherSlotAboveSix,
-            (true, false, _) => Breaker::LitBelowSix,
-        });
-        if level == 0 && above {
+        self.end_warning();
+        if level == 0 && priority > WARNING_SLOT {
             self.empty(priority);
         } else {
             self.store(priority, level);
@@ -78,17 +55,6 @@ impl Output {
             return Answer::Refused(answer::PRIORITY);
         }
         let was_live = self.slot(priority).is_some();
-        self.met.push(Event::SlotEmptied {
-            was_live,
-            situation: self.situation(),
-            rank: self.rank(priority),
-        });
-        if let Some(warning) = &self.warning {
-            self.met.push(Event::SlotEmptiedInWarning {
-                own_slot: warning.slot == priority,
-                was_live,
-            });
-        }
         self.empty(priority);
         // "A movement goes on if P is above its owner's number, or if kind 03
         // empties an empty slot; else it ends."

@@ -1,9 +1,8 @@
 //! §1: a command in context tags (clause 20.2), read as a list of tags that is
 //! then judged sentence by sentence.
 //!
-//! All that is wrong with a body is listed, not only what decides the answer:
-//! refusal 14 comes before 15 wherever in the body each stands, and the count
-//! of events tells what was wrong alone and what was wrong together.
+//! All that is wrong with a body is listed, since refusal 14 comes before 15
+//! wherever in the body each stands.
 
 use crate::answer;
 use crate::last_command::{own_fields, LastCommand};

@@ -64,11 +64,12 @@ fn table(spoilt: &[Spoilt]) -> String {
         wrong,
         paper,
         unseen,
+        suite,
         ..
     } in spoilt
     {
         text += &format!(
-            "Spoilt {{ subject: {subject:?}, wrong: {wrong:?}, paper: {paper:?}, unseen: {unseen:?} }},\n"
+            "Spoilt {{ subject: {subject:?}, wrong: {wrong:?}, paper: {paper:?}, unseen: {unseen:?}, suite: {suite:?} }},\n"
         );
     }
     text + "];\n"

@@ -8,6 +8,8 @@ pub struct Spoilt {
     pub paper: &'static str,
     /// Why no list can show it.
     pub unseen: Option<&'static str>,
+    /// The suite of lists that tells it apart; empty if none can.
+    pub suite: &'static str,
 }
 
 include!(concat!(env!("OUT_DIR"), "/table.rs"));

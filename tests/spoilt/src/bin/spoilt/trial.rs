@@ -3,7 +3,7 @@
 use std::fmt;
 use std::panic::catch_unwind;
 
-use generator::Pair;
+use generator::{Pair, Which};
 use panels::plain_panel::found_of_plain;
 use panels::{Answer, Found, Panel};
 use spoilt::{switch, SpoiltPanel};
@@ -11,7 +11,7 @@ use spoilt::{switch, SpoiltPanel};
 /// A list with what the plain panel answers and what is found after it: all
 /// that a replay program shows.
 pub struct Expected<'a> {
-    seed: u64,
+    which: Which,
     with_copies: bool,
     outputs: usize,
     frames: &'a [Vec<u8>],
@@ -27,7 +27,7 @@ enum Sign {
 }
 
 pub struct Difference {
-    seed: u64,
+    which: Which,
     with_copies: bool,
     /// From 0; the number of frames for what is found after the last.
     frame: usize,
@@ -36,12 +36,12 @@ pub struct Difference {
 
 impl<'a> Expected<'a> {
     /// The list without and with copies.
-    pub fn of_pair(seed: u64, pair: &'a Pair) -> [Expected<'a>; 2] {
+    pub fn of_pair(which: Which, pair: &'a Pair) -> [Expected<'a>; 2] {
         let (answers, panel) = pair.live_with_copies();
         let list = &pair.list;
         let expected =
             |with_copies, frames, answers: &[plain::Answer], panel: &plain::Panel| Expected {
-                seed,
+                which,
                 with_copies,
                 outputs: list.outputs,
                 frames,
@@ -59,7 +59,7 @@ impl<'a> Expected<'a> {
         let mut panel = SpoiltPanel::start(self.outputs);
         let difference = |frame, sign| {
             Some(Difference {
-                seed: self.seed,
+                which: self.which,
                 with_copies: self.with_copies,
                 frame,
                 sign,
@@ -90,9 +90,10 @@ impl<'a> Expected<'a> {
 
 impl fmt::Display for Difference {
     fn fmt(&self, formatter: &mut fmt::Formatter) -> fmt::Result {
-        let Difference { seed, frame, .. } = self;
+        let Difference { which, frame, .. } = self;
         let copies = if self.with_copies { " with copies" } else { "" };
-        write!(formatter, "list {seed}{copies}, ")?;
+        let (suite, list) = (which.suite.name, which.number);
+        write!(formatter, "{suite}, list {list}{copies}, ")?;
         match &self.sign {
             Sign::Answer { expected, got } => {
                 write!(formatter, "frame {frame}: {got}, not {expected}")

@@ -1,0 +1,97 @@
+//! The edges that a thorough suite must try, of document 01 and of the changes
+//! that bring fields.
+
+use super::{tags, Edge, RealEdge, RealField, WholeField, EDGE_TIMES, WIDE_PRIORITIES};
+
+const REAL_EDGES: [RealEdge; 20] = [
+    RealEdge::Zero,
+    RealEdge::MinusZero,
+    RealEdge::Subnormal,
+    RealEdge::JustBelowEighth,
+    RealEdge::Eighth,
+    RealEdge::JustAboveEighth,
+    RealEdge::JustBelowOne,
+    RealEdge::One,
+    RealEdge::JustAboveOne,
+    RealEdge::JustBelowHalfUnit,
+    RealEdge::HalfUnit,
+    RealEdge::JustAboveHalfUnit,
+    RealEdge::JustBelowHundred,
+    RealEdge::Hundred,
+    RealEdge::JustAboveHundred,
+    RealEdge::Infinity,
+    RealEdge::MinusInfinity,
+    RealEdge::NotANumber,
+    RealEdge::NegativeSubnormal,
+    RealEdge::Negative,
+];
+
+fn of_reals(fields: &[RealField]) -> Vec<Edge> {
+    let of_field = |field: &RealField| {
+        let field = *field;
+        REAL_EDGES.map(|edge| Edge::Real { field, edge })
+    };
+    fields.iter().flat_map(of_field).collect()
+}
+
+fn of_whole_numbers(fields: &[WholeField]) -> Vec<Edge> {
+    let of_field = |field: &WholeField| {
+        let field = *field;
+        EDGE_TIMES.map(|value| Edge::Whole { field, value })
+    };
+    fields.iter().flat_map(of_field).collect()
+}
+
+/// Document 01.
+pub fn of_base() -> Vec<Edge> {
+    let mut edges = of_reals(&[
+        RealField::WrittenLevel,
+        RealField::CommandLevel,
+        RealField::CommandRate,
+        RealField::CommandStep,
+        RealField::RelinquishDefault,
+        RealField::RampRate,
+        RealField::StepIncrement,
+        RealField::Minimum,
+        RealField::Maximum,
+    ]);
+    edges.extend(of_whole_numbers(&[
+        WholeField::Duration,
+        WholeField::CommandFadeTime,
+        WholeField::FadeTime,
+        WholeField::BlinkEnable,
+        WholeField::BlinkTime,
+        WholeField::BlinkWarnDelay,
+        WholeField::ElapsedActiveTime,
+    ]));
+    for priority in (0..=17).chain([255]) {
+        edges.push(Edge::WritePriority(priority));
+        edges.push(Edge::EmptyPriority(priority));
+    }
+    for priority in (0..=16).chain(WIDE_PRIORITIES) {
+        edges.push(Edge::CommandPriority(priority));
+    }
+    edges
+}
+
+/// §1.
+pub fn of_tags() -> Vec<Edge> {
+    let mut edges = of_reals(&[
+        RealField::TaggedLevel,
+        RealField::TaggedRate,
+        RealField::TaggedStep,
+    ]);
+    edges.extend(of_whole_numbers(&[
+        WholeField::TaggedDuration,
+        WholeField::TaggedFadeTime,
+    ]));
+    edges.extend(tags::expected().into_iter().map(Edge::Tagged));
+    edges
+}
+
+/// §3.
+pub fn of_relays() -> Vec<Edge> {
+    let mut edges = of_reals(&[RealField::BinaryActiveValue, RealField::BinaryInactiveValue]);
+    edges.extend(of_whole_numbers(&[WholeField::Polarity]));
+    edges
+}

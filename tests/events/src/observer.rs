@@ -1,0 +1,112 @@
+//! Sees a list frame by frame and counts what it meets. It decides nothing: the
+//! plain panel does not know of it.
+
+use plain::frame;
+use plain::{Answer, Output, Panel};
+
+use crate::base::Event;
+use crate::edges::{self, Edge};
+use crate::passing::Passed;
+use crate::seen::{Act, Seen};
+use crate::tally::Tally;
+use crate::{base, jump, light, relay, tags, tie};
+
+/// What the observer remembers of an output beside its record.
+#[derive(Clone, Copy, Default)]
+pub struct Memory {
+    pub base: base::Memory,
+    pub tie: tie::Memory,
+}
+
+pub struct Observer {
+    /// The panel before the frame to come.
+    outputs: Vec<Output>,
+    time: u64,
+    arrivals: usize,
+    clocks: usize,
+    memory: Vec<Memory>,
+    events: Tally<Event>,
+    edges: Tally<Edge>,
+}
+
+impl Observer {
+    /// Of a list that is to begin.
+    pub fn new() -> Observer {
+        Observer {
+            outputs: Vec::new(),
+            time: 0,
+            arrivals: 0,
+            clocks: 0,
+            memory: Vec::new(),
+            events: Tally::new(),
+            edges: Tally::new(),
+        }
+    }
+
+    pub fn events(&self) -> &Tally<Event> {
+        &self.events
+    }
+
+    pub fn edges(&self) -> &Tally<Edge> {
+        &self.edges
+    }
+
+    /// The panel has just answered this string of bytes.
+    pub fn saw(&mut self, bytes: &[u8], answer: Answer, after: &Panel) {
+        // There at the first frame of the list; none is added later.
+        let outputs = after.outputs().len();
+        self.outputs.resize_with(outputs, Output::fresh);
+        self.memory.resize_with(outputs, Memory::default);
+        let seen = Seen {
+            bytes,
+            answer,
+            before: &self.outputs,
+            time: self.time,
+            arrivals: &after.first_arrivals()[..self.arrivals],
+            clocks: &after.accepted_clocks()[..self.clocks],
+            after,
+        };
+        let events = &mut self.events;
+        let (arrives, steps) = (seen.is_first_arrival(), seen.is_accepted_clock());
+        base::list(&seen, events);
+        tags::list(&seen, events);
+        relay::list(&seen, events);
+        if arrives || steps {
+            jump::frame(&seen, events);
+            let acted_on = arrives.then(|| usize::from(frame::output(bytes)));
+            for (index, before) in self.outputs.iter().enumerate() {
+                let memory = &mut self.memory[index];
+                let passed = Passed::of(before, seen.jump());
+                base::passed(&passed, memory.base, events);
+                light::passed(&passed, events);
+                relay::passed(&passed, events);
+                jump::passed(&passed, after.time(), events);
+                if acted_on != Some(index) {
+                    continue;
+                }
+                let act = Act {
+                    bytes,
+                    answer,
+                    arrived: &passed.arrived,
+                    after: &after.outputs()[index],
+                };
+                base::act(&act, &passed, &mut memory.base, events);
+                tags::act(&act, events);
+                light::act(&act, events);
+                relay::act(&act, events);
+                tie::act(&act, &mut memory.tie, events);
+                edges::of_frame(bytes, &mut self.edges);
+            }
+        }
+        self.outputs.copy_from_slice(after.outputs());
+        self.time = after.time();
+        self.arrivals = after.first_arrivals().len();
+        self.clocks = after.accepted_clocks().len();
+    }
+}
+
+impl Default for Observer {
+    fn default() -> Observer {
+        Observer::new()
+    }
+}

@@ -1,0 +1,55 @@
+//! What holds of the suites together.
+
+use generator::{pair, suites, Which};
+
+/// FNV-1a over the first lists of each suite, with and without copies. A change
+/// that adds a suite adds a line here and moves none. Where the panel that the
+/// lists are aimed by moves otherwise, lines may move; its note says which.
+const LISTS: [(&str, u64); 6] = [
+    ("base", 0x4F04_307F_5916_9911),
+    ("§1", 0x39CF_320A_B6BF_C11F),
+    ("§2", 0x2448_8DB8_5558_9A71),
+    ("§3", 0x3E19_8C29_1C3F_123D),
+    ("§4", 0x328C_5F36_1DEE_9994),
+    ("§5", 0x914E_007A_0692_CF75),
+];
+
+fn digest(bytes: impl Iterator<Item = u8>) -> u64 {
+    bytes.fold(0xCBF2_9CE4_8422_2325, |digest, byte| {
+        (digest ^ u64::from(byte)).wrapping_mul(0x0000_0100_0000_01B3)
+    })
+}
+
+#[test]
+fn lists_stay_as_they_are() {
+    let digests = suites::ALL.map(|suite| {
+        let lists = (0..6).map(|number| {
+            pair(
+                Which {
+                    suite,
+                    run: 1,
+                    number,
+                },
+                Some(400),
+            )
+        });
+        let frames = lists.flat_map(|pair| [pair.list.frames, pair.with_copies.frames].concat());
+        let with_lengths = frames.flat_map(|frame| [vec![frame.len() as u8], frame].concat());
+        (suite.name, digest(with_lengths))
+    });
+    assert_eq!(digests, LISTS);
+}
+
+#[test]
+fn the_page_of_events_is_fresh() {
+    assert_eq!(suites::names(), include_str!("../../EVENTS.txt"));
+}
+
+#[test]
+fn shares_and_names() {
+    let old = suites::ALL.iter().take(6).map(|suite| suite.share);
+    assert_eq!(old.sum::<u64>(), 100);
+    for suite in suites::ALL {
+        assert!(std::ptr::eq(suites::named(suite.name).unwrap(), suite));
+    }
+}
