@@ -7,14 +7,16 @@ import os
 import re
 import sys
 
-LEVELS = 'Choice Level'.split()
-OUTPUTS = LEVELS + 'Slots Value Relay Record Passing Light Advance Writing Operations Commands Answers Rows Properties Fresh'.split()
+LEVELS = 'ofBits Choice Level'.split()
+OUTPUTS = 'bitAnd bitOr'.split() + LEVELS + 'Slots Value Relay Record Passing Light Advance Writing Operations Commands Answers Rows Properties Fresh'.split()
 ACTS = OUTPUTS + 'Requests Acting'.split()
-FRAMES = ACTS + 'Field Kinds Tags Frames'.split()
+READS = ['toBits', 'round'] + ACTS
+FRAMES = READS + 'Field Kinds Tags Frames'.split()
 PANELS = FRAMES + 'Rules Stations Copies Panel Judging Executing'.split()
-PANEL = 'answers document01 (freshPanel 2 8) '
+LISTS = ['answers'] + PANELS
+PANEL = 'answers document01 (freshPanel document01 %d 8) '
 
-# of each crate: the name of a theorem, what is given and said, their module, the modules whose definitions unfold, and a comment
+# of each crate: the name of a theorem, what is given and said, their module, what unfolds (modules with all their definitions, and names), and a comment
 FIGURES = {
     'lighting_levels': [
         ('halves-by-hand', 'halvesGiven', 'halvesSaid', 'WorkedHalves', LEVELS, '§5: REALs halfway between two units'),
@@ -25,20 +27,25 @@ FIGURES = {
         ('burning-by-light', 'burningGiven', 'burningSaid', 'WorkedLight', OUTPUTS, '§2: what outputs have burned'),
         ('relay-by-hand', 'relayGiven', 'relaySaid', 'WorkedRelay', ACTS, '§3: Binary_Present_Value'),
         ('jumps-by-hand', 'jumpsGiven', 'jumpsSaid', 'WorkedJumps', OUTPUTS, '§4: movements under way at far jumps'),
+        ('fresh-by-number', 'freshGiven', 'freshSaid', 'WorkedFresh', READS, 'every property of a fresh output'),
+        ('outside-by-number', 'outsideGiven', 'outsideSaid', 'WorkedOutside', ACTS, 'REALs outside their ranges'),
+        ('ends-by-number', 'endsGiven', 'endsSaid', 'WorkedOutside', ACTS, 'REALs at the ends of their ranges'),
     ],
     'lighting_frames': [
         ('tags-written', 'commandsWritten', 'theirOctets', 'WorkedTags', FRAMES, '§1: the octets of commands'),
         ('tags-refused', 'refused', 'refusals', 'WorkedTags', FRAMES, '§1: the refusals of bodies'),
     ],
     'lighting_panel': [
-        ('worked', PANEL + 'frames', 'expected', 'Worked', PANELS, 'bench figures 9 and 10, and the traps of a list'),
-        ('worked-in-tags', PANEL + 'framesInTags', 'answersInTags', 'WorkedTagLists', PANELS, '§1 in a list'),
-        ('worked-jumps', PANEL + 'framesOfJumps', 'answersToJumps', 'WorkedJumpLists', PANELS, '§4 in a list'),
-        ('worked-halves', PANEL + 'framesOfHalves', 'answersToHalves', 'WorkedHalfLists', PANELS, '§5 in a list'),
+        ('worked', PANEL % 2 + 'frames', 'expected', 'Worked', LISTS, 'bench figures 9 and 10, and the traps of a list'),
+        ('worked-in-tags', PANEL % 2 + 'framesInTags', 'answersInTags', 'WorkedTagLists', LISTS, '§1 in a list'),
+        ('worked-jumps', PANEL % 2 + 'framesOfJumps', 'answersToJumps', 'WorkedJumpLists', LISTS, '§4 in a list'),
+        ('worked-halves', PANEL % 2 + 'framesOfHalves', 'answersToHalves', 'WorkedHalfLists', LISTS, '§5 in a list'),
+        ('worked-order', PANEL % 1 + 'framesOfOrder', 'answersInOrder', 'WorkedOrder', LISTS, 'wrong in two places at once'),
+        ('rules-by-number', 'rulesGiven', 'rulesSaid', 'WorkedRules', PANELS, 'refusal 1: the record rules'),
     ],
 }
-# what unfolds beside the definitions
-ALSO = {'lighting_levels': 'ofBits', 'lighting_outputs': 'bitAnd bitOr ofBits', 'lighting_frames': 'bitAnd bitOr ofBits toBits round', 'lighting_panel': 'bitAnd bitOr ofBits toBits round answers'}
+# names that unfold, and their module: what is no definition of ours, and lists
+NAMES = {'bitAnd': 'lib.Bits', 'bitOr': 'lib.Bits', 'ofBits': 'lib.Ieee', 'toBits': 'lib.Ieee', 'round': 'lib.Ieee', 'answers': 'Demand'}
 
 
 def path_of(module):
@@ -56,25 +63,21 @@ def definitions(module):
 
 def figures_of(crate, figures):
     lines = ['-- Made by tools/figures.py: bench figures, traps and worked lists of this layer, each computed by the definitions.', 'use mathlib.Core.Path.{_≡_, refl}']
-    also = ALSO[crate].split()
-    bits = [name for name in also if name.startswith('bit')]
-    if bits:
-        lines.append('use lib.Bits.{%s}' % ', '.join(bits))
-    lines.append('use lib.Ieee.{%s}' % ', '.join(name for name in also if name in ('ofBits', 'toBits', 'round')))
-    if crate == 'lighting_panel':
+    unfolded = list(dict.fromkeys(one for figure in figures for one in figure[4]))
+    for module in dict.fromkeys(NAMES[one] for one in unfolded if one in NAMES):
+        names = ', '.join(one for one in unfolded if NAMES.get(one) == module)
+        lines.append('use %s.{%s}' % (module if '.' in module else library(module, crate), names))
+    if any('document01' in figure[1] for figure in figures):
         lines.append('use %s.{document01}' % library('Parameters', crate))
-        lines.append('use %s.{answers}' % library('Demand', crate))
-    modules = []
-    for figure in figures:
-        modules += [module for module in figure[4] if module not in modules]
-    for module in modules:
-        lines.append('use %s.{%s}' % (library(module, crate), ', '.join(definitions(module))))
+    for module in unfolded:
+        if module not in NAMES and definitions(module):
+            lines.append('use %s.{%s}' % (library(module, crate), ', '.join(definitions(module))))
     for worked in dict.fromkeys(figure[3] for figure in figures):
         names = [name.split()[-1] for figure in figures if figure[3] == worked for name in figure[1:3]]
         lines.append('use %s.{%s}' % (library(worked, crate), ', '.join(names)))
     for name, given, said, _, unfolds, comment in figures:
-        opened = ' '.join(definition for module in unfolds for definition in definitions(module))
-        lines += ['', '-- ' + comment, 'pub %s : %s ≡ %s' % (name, given, said), 'unfolding %s %s' % (ALSO[crate], opened), '%s = refl' % name]
+        opened = ' '.join(definition for one in unfolds for definition in ([one] if one in NAMES else definitions(one)))
+        lines += ['', '-- ' + comment, 'pub %s : %s ≡ %s' % (name, given, said), 'unfolding ' + opened, '%s = refl' % name]
     return '\n'.join(lines) + '\n'
 
 

@@ -1,3 +1,5 @@
+-- a request to a table of one output
+pub mod Alone
 -- Present_Value
 pub mod Present
 -- kind 05 by number

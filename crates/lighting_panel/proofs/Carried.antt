@@ -7,7 +7,7 @@ use Prim.Native.Nat.{ℕ, suc, _≤_, _<_}
 use native.Mathlib.Omega.{arith}
 use lib.Dec.{ltb, eqb}
 use lib.ListN.{length, getD}
-use Rattle.lighting_levels.specs.Paper.Choice.{if_then_else_}
+use Rattle.lighting_levels.specs.Paper.Choice.{if_then_else_, every}
 use Rattle.lighting_outputs.specs.Paper.Parameters.{document01}
 use Rattle.lighting_levels.specs.Paper.Field.{byteAt}
 use Rattle.lighting_frames.specs.Paper.Frames.{Bytes, Octets, parse}
@@ -16,7 +16,7 @@ use Rattle.lighting_outputs.specs.Paper.Rules.{sound}
 use Rattle.lighting_frames.specs.Paper.Stations.{freshStation}
 use Rattle.lighting_frames.specs.Paper.Copies.{sameBytes, retransmissionOrConflict}
 use Rattle.lighting_panel.specs.Engine.VerdictPrecondition.{VerdictPrecondition}
-use Rattle.lighting_panel.specs.Paper.Panel.{Panel, result, Station, every, countsSound, panelSound, freshPanel, startStep}
+use Rattle.lighting_panel.specs.Paper.Panel.{Panel, result, Station, countsSound, panelSound, freshPanel, startStep}
 use Rattle.lighting_panel.specs.Engine.Judging.{restored, judgedByNumber, judgedByRecord, stationOf, judgedByStation, decide}
 use Rattle.lighting_panel.specs.Engine.Executing.{execute, frameStep}
 use Rattle.lighting_outputs.specs.declared.Output.{Output}

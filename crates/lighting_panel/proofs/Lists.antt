@@ -9,7 +9,7 @@ use native.Mathlib.Omega.{arith}
 use lib.Dec.{leb, ltb, eqb}
 use lib.ListN.{set, getD, length, replicate, length-map, length-set, length-replicate, getD-replicate}
 use lib.Seq.{getD-set-same, getD-set-other}
-use Rattle.lighting_levels.specs.Paper.Choice.{if_then_else_, _also_}
+use Rattle.lighting_levels.specs.Paper.Choice.{if_then_else_, _also_, every}
 use Rattle.lighting_outputs.specs.Paper.Parameters.{document01}
 use Rattle.lighting_levels.specs.Paper.Field.{byteAt}
 use Rattle.lighting_frames.specs.Paper.Kinds.{kindRow, kindLength, isCall}
@@ -20,7 +20,7 @@ use Rattle.lighting_frames.specs.Paper.Stations.{stationSound, freshStation}
 use Rattle.lighting_outputs.specs.Paper.Fresh.{freshOutput}
 use Rattle.lighting_outputs.specs.Paper.Acting.{served}
 use Rattle.lighting_frames.specs.Paper.Copies.{sameBytes, retransmissionOrConflict}
-use Rattle.lighting_panel.specs.Paper.Panel.{Panel, Station, every, countsSound, panelSound}
+use Rattle.lighting_panel.specs.Paper.Panel.{Panel, Station, countsSound, panelSound}
 use Rattle.lighting_panel.specs.Engine.Judging.{padded, restored, judgedByNumber, judgedByRecord, stationOf, judgedByStation, decide}
 use Rattle.lighting_panel.specs.Engine.Executing.{execute, frameStep}
 use Rattle.lighting_panel.specs.Paper.Plain.{Event, clock, first, above, inTime, Latest, latest, judged, PlainState, plainExecute, plainFrameStep, plainStart}

@@ -8,7 +8,7 @@ use native.Mathlib.Nat.{sub-self}
 use native.Mathlib.Omega.{arith}
 use lib.Ieee.{ofBits}
 use lib.ListN.{set, getD, length, replicate, length-set}
-use Rattle.lighting_levels.specs.Paper.Choice.{if_then_else_, allFrom}
+use Rattle.lighting_levels.specs.Paper.Choice.{if_then_else_, allFrom, every}
 use Rattle.lighting_outputs.specs.Paper.Parameters.{document01}
 use Rattle.lighting_levels.specs.Paper.Level.{real, amountOf, inRange}
 use Rattle.lighting_outputs.specs.Paper.Slots.{view, slotsOf, isLive, firstLive, winner, levelAt, winningLevel}
@@ -20,7 +20,6 @@ use Rattle.lighting_outputs.specs.Paper.Rows.{within, isLevel, isAmount, isSlot
 use Rattle.lighting_outputs.specs.Paper.Rules.{levelsSound, timesSound, realsSound, settingsSound, slotSound, slotsSoundFrom, activityBy, activitySound, timerSound, agrees, relaySound, sound}
 use Rattle.lighting_outputs.specs.Paper.Fresh.{freshSettings, freshRelay, freshOutput}
 use Rattle.lighting_outputs.specs.Paper.Acting.{served, acted}
-use Rattle.lighting_panel.specs.Paper.Panel.{every}
 use Rattle.lighting_panel.specs.Paper.Plain.{Plain, runPlain}
 use Rattle.lighting_outputs.specs.declared.Request.{Request}
 use Rattle.lighting_outputs.specs.declared.Output.{Output}

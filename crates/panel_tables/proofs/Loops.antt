@@ -8,8 +8,7 @@ use native.Mathlib.Numerals.{add-one}
 use native.Mathlib.Omega.{arith}
 use lib.ListN.{length, getD, set, drop, replicate, drop-of-length-le}
 use lib.Seq.{drop-cons}
-use Rattle.lighting_levels.specs.Paper.Choice.{if_then_else_, _also_}
-use Rattle.lighting_panel.specs.Paper.Panel.{every}
+use Rattle.lighting_levels.specs.Paper.Choice.{if_then_else_, _also_, every}
 
 module _ {A : Type 0} where
   -- the first i records changed by f, and the others as they were

@@ -11,7 +11,8 @@ ghost use Rattle.lighting_frames.specs.Paper.Stations.{freshStation, stationSou
 ghost use Rattle.lighting_outputs.specs.Engine.Advance.{advance};
 ghost use Rattle.lighting_outputs.specs.Paper.Rules.{sound};
 ghost use Rattle.lighting_outputs.specs.Paper.Acting.{served};
-ghost use Rattle.lighting_panel.specs.Paper.Panel.{every, panelOf};
+ghost use Rattle.lighting_levels.specs.Paper.Choice.{every};
+ghost use Rattle.lighting_panel.specs.Paper.Panel.{panelOf};
 ghost use Rattle.lighting_panel.specs.Engine.Judging.{decide};
 use lighting_frames::Station;
 use lighting_frames::Verdict;

@@ -2,6 +2,7 @@
 -- the definitions opens `if_then_else_` and computes.
 use Prim.Native.Nat.{ℕ, zero, suc, _+_}
 use mathlib.Core.Bool.{Bool, true, false}
+use mathlib.Core.List.{List, [], _∷_}
 
 infix 5 if_then_else_
 unfoldable pub if_then_else_ : {A : Type 0} → Bool → A → A → A
@@ -17,3 +18,8 @@ a also b = if a then b else false
 unfoldable pub allFrom : (ℕ → Bool) → ℕ → ℕ → Bool
 allFrom t zero i = true
 allFrom t (suc n) i = t i also allFrom t n (i + 1)
+
+-- every one of a list
+unfoldable pub every : {A : Type 0} → (A → Bool) → List A → Bool
+every f [] = true
+every f (x ∷ l) = f x also every f l

@@ -8,7 +8,7 @@ use native.Mathlib.Omega.{arith}
 use lib.Dec.{ltb, eqb}
 use lib.ListN.{getD, length}
 use lib.Seq.{getD-set-other}
-use Rattle.lighting_levels.specs.Paper.Choice.{if_then_else_}
+use Rattle.lighting_levels.specs.Paper.Choice.{if_then_else_, every}
 use Rattle.lighting_outputs.specs.Paper.Parameters.{document01}
 use Rattle.lighting_levels.specs.Paper.Field.{byteAt}
 use Rattle.lighting_frames.specs.Paper.Kinds.{kindRow}
@@ -18,7 +18,7 @@ use Rattle.lighting_outputs.specs.Engine.Advance.{greatestCount, advance}
 use Rattle.lighting_outputs.specs.Paper.Fresh.{freshOutput}
 use Rattle.lighting_outputs.specs.Paper.Rules.{sound}
 use Rattle.lighting_outputs.specs.Paper.Acting.{served}
-use Rattle.lighting_panel.specs.Paper.Panel.{Panel, Station, every, panelSound}
+use Rattle.lighting_panel.specs.Paper.Panel.{Panel, Station, panelSound}
 use Rattle.lighting_panel.specs.Engine.Judging.{judgedByNumber, judgedByRecord, judgedByStation, decide}
 use Rattle.lighting_panel.specs.Engine.Executing.{execute, frameStep}
 use Rattle.lighting_outputs.specs.declared.Output.{Output}

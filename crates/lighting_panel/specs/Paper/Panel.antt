@@ -1,11 +1,11 @@
 -- The engine: the panel that judges a frame by its station's record and goes from due moment to due moment; and the start. What it judges over a
 -- list, Plain.antt judges from the list alone (`judged`).
-use mathlib.Core.Bool.{Bool, true}
-use mathlib.Core.List.{List, [], _∷_}
+use mathlib.Core.Bool.{Bool}
+use mathlib.Core.List.{List}
 use Prim.Native.Nat.{ℕ}
 use lib.Dec.{leb, eqb}
 use lib.ListN.{length, replicate}
-use Rattle.lighting_levels.specs.Paper.Choice.{if_then_else_, _also_}
+use Rattle.lighting_levels.specs.Paper.Choice.{if_then_else_, _also_, every}
 use Rattle.lighting_outputs.specs.Paper.Parameters.{Parameters}
 use Rattle.lighting_outputs.specs.Paper.Fresh.{freshOutput}
 use Rattle.lighting_frames.specs.Paper.Stations.{freshStation, stationSound}
@@ -31,11 +31,6 @@ pub record Step : Type 0 where
 
 abbrev pub result : Panel → Answer → Step
 result panel answer = record { panel = panel; answer = answer }
-
--- every one of a list
-unfoldable pub every : {A : Type 0} → (A → Bool) → List A → Bool
-every f [] = true
-every f (x ∷ l) = f x also every f l
 
 -- true unless '0 or over 64 outputs, station records not eight'
 unfoldable pub countsSound : Parameters → ℕ → ℕ → Bool

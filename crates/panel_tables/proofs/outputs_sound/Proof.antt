@@ -8,7 +8,7 @@ use borrow.Author.Tests.{not-true, not-false}
 use Rattle.lighting_outputs.specs.Paper.Parameters.{document01}
 use Rattle.lighting_outputs.specs.Paper.Fresh.{freshOutput}
 use Rattle.lighting_outputs.specs.Paper.Rules.{sound}
-use Rattle.lighting_panel.specs.Paper.Panel.{every}
+use Rattle.lighting_levels.specs.Paper.Choice.{every}
 use Rattle.panel_tables.proofs.Loops.{every-more, every-stop, every-all}
 use borrow.Author.Needs.{needs}
 use Rattle.panel_tables.proofs.outputs_sound.Statement.{statement}

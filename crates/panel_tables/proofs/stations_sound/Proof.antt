@@ -6,7 +6,7 @@ use native.Mathlib.Omega.{arith}
 use lib.ListN.{length, drop}
 use borrow.Author.Tests.{not-true, not-false}
 use Rattle.lighting_frames.specs.Paper.Stations.{freshStation, stationSound}
-use Rattle.lighting_panel.specs.Paper.Panel.{every}
+use Rattle.lighting_levels.specs.Paper.Choice.{every}
 use Rattle.panel_tables.proofs.Loops.{every-more, every-stop, every-all}
 use borrow.Author.Needs.{needs}
 use Rattle.panel_tables.proofs.stations_sound.Statement.{statement}

@@ -1,0 +1,1 @@
+-- What a request does to the one output of a table.
