@@ -17,7 +17,7 @@ part-taken n k l e =
     (λ h z. let q : k - 0 ≡ n = omega (arith, e, h) in ap (λ (i : ℕ). take i l) q)
     (λ h z. take-all (k - 0) l (omega (arith, e, h)) ∙ sym (take-all n l (omega (arith, h))))
 
-part-left : {A : Type 0} (n k : ℕ) (l : List A) → k ≡ min n (length l) → drop (k - 0) l ≡ drop n l
+pub part-left : {A : Type 0} (n k : ℕ) (l : List A) → k ≡ min n (length l) → drop (k - 0) l ≡ drop n l
 part-left n k l e =
     by-le n (length l)
     (λ h z. let q : k - 0 ≡ n = omega (arith, e, h) in ap (λ (i : ℕ). drop i l) q)

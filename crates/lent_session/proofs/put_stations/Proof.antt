@@ -1,0 +1,63 @@
+use Prim.Native.Nat.{_≤_, _-_}
+use mathlib.Core.Path.{_≡_}
+use lib.ListN.{length}
+mod Lts
+mod Tie
+use borrow.Author.Needs.{needs}
+use Rattle.lent_session.proofs.put_stations.Statement.{statement}
+use Rattle.lent_session.proofs.put_stations.Proof.Tie as tie
+use Rattle.lent_session.proofs.Lent.put_stations.Reads as reads
+use Rattle.lent_session.proofs.put_stations.Proof.Lts as lts
+
+abbrev Inv-loop : tie.InvT-loop
+Inv-loop stations k page₀ mark at₀ i₀ page at i = length page ≡ length page₀
+
+abbrev μ-loop : tie.MeasureT-loop
+μ-loop stations k page₀ mark at₀ i₀ page at i = length stations - i
+
+loop-holds : tie.Need-loop-holds Inv-loop μ-loop
+loop-holds c = search needs
+
+least-requires : tie.Need-least-requires Inv-loop μ-loop
+least-requires c κs = search needs
+
+mul-s : tie.Need-mul-s Inv-loop μ-loop
+mul-s c = search needs
+
+shared-slice-copy-out-s : tie.Need-shared-slice-copy-out-s Inv-loop μ-loop
+shared-slice-copy-out-s c = search needs
+
+put-station-requires : tie.Need-put-station-requires Inv-loop μ-loop
+put-station-requires c κs = search needs
+
+add-i : tie.Need-add-i Inv-loop μ-loop
+add-i c = search needs
+
+loop-less : tie.Need-loop-less Inv-loop μ-loop
+loop-less c = search needs
+
+loop-again : tie.Need-loop-again Inv-loop μ-loop
+loop-again c = search needs
+
+same-length : tie.Need-same-length Inv-loop μ-loop
+same-length c = search needs
+
+returns : tie.Need-returns Inv-loop μ-loop
+returns c = search needs
+
+pub put-stations-spec : {M : Type 1} → statement M
+put-stations-spec =
+    tie.close
+    (tie.spec
+    Inv-loop
+    μ-loop
+    loop-holds
+    least-requires
+    mul-s
+    shared-slice-copy-out-s
+    put-station-requires
+    add-i
+    loop-less
+    loop-again
+    same-length
+    returns)

@@ -1,0 +1,335 @@
+// Tables made by hand, lent to the panel: rows from standard input set up outputs, stations and the panel time, send frames, and ask for what is
+// left, which is written as rows of the same form. The crate `lent_rows` has the rows. A row's first character is its letter:
+//   t N K T    N outputs and K stations are lent from here on, every record fresh, at panel time T
+//   o I ..     the record of output I, 48 numbers
+//   s I ..     the record of station I, 34 numbers
+//   f ..       the bytes of a frame, which is sent: a line with its answer
+//   l          what is left: a row t, and a row for each lent record that is not fresh
+// Any other line is a comment.
+//
+// The contract of `send` gives the panel's part whole. What is read and written no contract can say: the stored text and the comparison of tests/lent
+// look at it, and the functions about it are proved safe and ending.
+ghost use mathlib.Core.Path.{_≡_};
+ghost use lib.ListN.{take};
+ghost use Rattle.lighting_panel.specs.Paper.Panel.{panelOf};
+ghost use Rattle.lent_session.specs.Lending.{sent};
+use lent_rows::NUMBERS;
+use lent_rows::Row;
+use lighting_frames::Station;
+use lighting_outputs::Answer;
+use lighting_outputs::Output;
+
+// After some of the rows: the row that is being read, how many outputs and stations are lent, the page's mark, and whether more may come.
+struct Turn {
+    row: Row,
+    outputs: usize,
+    stations: usize,
+    mark: usize,
+    more: bool,
+}
+
+// ---- a turn by value
+
+fn fresh_turn() -> Turn {
+    Turn {
+        row: lent_rows::fresh_row(),
+        outputs: 0,
+        stations: 0,
+        mark: 0,
+        more: true,
+    }
+}
+
+fn with_counts(t: Turn, outputs: usize, stations: usize) -> Turn {
+    let row = t.row;
+    Turn {
+        row: row,
+        outputs: outputs,
+        stations: stations,
+        mark: t.mark,
+        more: t.more,
+    }
+}
+
+fn with_mark(t: Turn, mark: usize) -> Turn {
+    let row = t.row;
+    Turn {
+        row: row,
+        outputs: t.outputs,
+        stations: t.stations,
+        mark: mark,
+        more: t.more,
+    }
+}
+
+fn with_row(t: Turn, row: Row) -> Turn {
+    Turn {
+        row: row,
+        outputs: t.outputs,
+        stations: t.stations,
+        mark: t.mark,
+        more: t.more,
+    }
+}
+
+fn with_character(t: Turn, c: u8) -> Turn {
+    let row = t.row;
+    with_row(t, lent_rows::feed(row, c))
+}
+
+fn with_next_row(t: Turn) -> Turn {
+    with_row(t, lent_rows::fresh_row())
+}
+
+fn ended(t: Turn) -> Turn {
+    let row = t.row;
+    Turn {
+        row: row,
+        outputs: t.outputs,
+        stations: t.stations,
+        mark: t.mark,
+        more: false,
+    }
+}
+
+// ---- the tables
+
+fn clear(outputs: &mut [Output], stations: &mut [Station], time: &mut u64, moment: u64) {
+    panel_tables::fresh_outputs(outputs);
+    panel_tables::fresh_stations(stations);
+    *time = moment;
+}
+
+fn lend_output(outputs: &mut [Output], at: usize, o: Output) {
+    if at < outputs.len() {
+        outputs[at] = o;
+    }
+}
+
+fn lend_station(stations: &mut [Station], at: usize, k: Station) {
+    if at < stations.len() {
+        stations[at] = k;
+    }
+}
+
+// The first n outputs and the first k stations are lent to the panel, with the first `count` bytes.
+fn send(
+    outputs: &mut [Output],
+    stations: &mut [Station],
+    time: &mut u64,
+    n: usize,
+    k: usize,
+    bytes: &[u8; NUMBERS],
+    count: usize,
+) -> Answer
+    ensures { λ a. ⌜ a ≡ sent n k (take count (now (bytes .entry))) (panelOf (now (outputs .entry)) (now (stations .entry)) (now (time .entry))) .answer ⌝ }
+    ensures { λ _. ⌜ panelOf (now (outputs .exit)) (now (stations .exit)) (now (time .exit)) ≡ sent n k (take count (now (bytes .entry))) (panelOf (now (outputs .entry)) (now (stations .entry)) (now (time .entry))) .panel ⌝ }
+{
+    let lent = number_ranges::least(n, outputs.len());
+    let beside = number_ranges::least(k, stations.len());
+    let kept = &bytes[..];
+    let held = number_ranges::least(count, kept.len());
+    panel::frame(
+        &mut outputs[0..lent],
+        &mut stations[0..beside],
+        time,
+        &kept[0..held],
+    )
+}
+
+// ---- what is left
+
+fn put_counts(page: &mut [u8], mark: usize, n: usize, k: usize, time: u64) -> usize {
+    let row = [n as u64, k as u64, time];
+    lent_rows::put_row(page, text_found::with_room(page, mark), b't', &row)
+}
+
+fn put_output(page: &mut [u8], mark: usize, at: usize, o: Output) -> usize {
+    if lent_rows::outputs::is_fresh_output(o) {
+        return mark;
+    }
+    let row = lent_rows::outputs::output_numbers(at, o);
+    lent_rows::put_row(page, text_found::with_room(page, mark), b'o', &row)
+}
+
+fn put_station(page: &mut [u8], mark: usize, at: usize, k: Station) -> usize {
+    if lent_rows::stations::is_fresh_station(k) {
+        return mark;
+    }
+    let row = lent_rows::stations::station_numbers(at, k);
+    lent_rows::put_row(
+        page,
+        text_found::with_room(page, mark),
+        b's',
+        &row[0..lent_rows::stations::STATION_NUMBERS],
+    )
+}
+
+fn put_outputs(outputs: &[Output], n: usize, page: &mut [u8], mark: usize) -> usize {
+    let mut at = mark;
+    let mut i: usize = 0;
+    while i < number_ranges::least(n, outputs.len()) {
+        let o = outputs[i];
+        at = put_output(page, at, i, o);
+        i += 1;
+    }
+    at
+}
+
+fn put_stations(stations: &[Station], k: usize, page: &mut [u8], mark: usize) -> usize {
+    let mut at = mark;
+    let mut i: usize = 0;
+    while i < number_ranges::least(k, stations.len()) {
+        let s = stations[i];
+        at = put_station(page, at, i, s);
+        i += 1;
+    }
+    at
+}
+
+// ---- rows
+
+// A row at its end.
+fn take_row(
+    outputs: &mut [Output],
+    stations: &mut [Station],
+    time: &mut u64,
+    page: &mut [u8],
+    t: Turn,
+) -> Turn {
+    let read = t.row;
+    let row = lent_rows::closed(read);
+    let numbers = row.numbers;
+    let letter = row.letter;
+    let next = with_next_row(t);
+    match letter {
+        b't' => {
+            clear(outputs, stations, time, numbers[2]);
+            with_counts(
+                next,
+                lent_rows::numbers::place(numbers[0]),
+                lent_rows::numbers::place(numbers[1]),
+            )
+        }
+        b'o' => {
+            let o = lent_rows::outputs::output_of(numbers);
+            lend_output(outputs, lent_rows::numbers::place(numbers[0]), o);
+            next
+        }
+        b's' => {
+            let s = lent_rows::stations::station_of(numbers);
+            lend_station(stations, lent_rows::numbers::place(numbers[0]), s);
+            next
+        }
+        b'f' => {
+            let bytes = lent_rows::bytes_of(numbers);
+            let a = send(
+                outputs,
+                stations,
+                time,
+                t.outputs,
+                t.stations,
+                &bytes,
+                row.count,
+            );
+            let room = text_found::with_room(page, t.mark);
+            with_mark(next, text_printing::put_answer(page, room, a))
+        }
+        b'l' => {
+            let head = put_counts(page, t.mark, t.outputs, t.stations, *time);
+            let middle = put_outputs(outputs, t.outputs, page, head);
+            with_mark(next, put_stations(stations, t.stations, page, middle))
+        }
+        _ => next,
+    }
+}
+
+// ---- the text
+
+fn take_chunk(
+    outputs: &mut [Output],
+    stations: &mut [Station],
+    time: &mut u64,
+    page: &mut [u8],
+    from: Turn,
+    s: &[u8],
+) -> Turn {
+    let mut t = from;
+    let mut i: usize = 0;
+    while i < s.len() {
+        let c = s[i];
+        i += 1;
+        if c == b'\n' {
+            t = take_row(outputs, stations, time, page, t);
+        } else {
+            t = with_character(t, c);
+        }
+    }
+    t
+}
+
+// Reads once, and takes what came; nothing comes at the end of the input.
+fn take_some(
+    outputs: &mut [Output],
+    stations: &mut [Station],
+    time: &mut u64,
+    page: &mut [u8],
+    chunk: &mut [u8],
+    t: Turn,
+) -> Turn {
+    let got = libc::read(0, chunk);
+    let n = io::count(got, chunk);
+    if n == 0 {
+        return ended(t);
+    }
+    take_chunk(outputs, stations, time, page, t, &chunk[0..n])
+}
+
+// All of it. A proved loop has to end, and nothing says that the input does: the turns are counted down from a number that no run uses up.
+fn take_all(
+    outputs: &mut [Output],
+    stations: &mut [Station],
+    time: &mut u64,
+    page: &mut [u8],
+    chunk: &mut [u8],
+) -> Turn {
+    let mut t = fresh_turn();
+    let mut turns: u64 = 18446744073709551615;
+    while 0 < turns {
+        turns -= 1;
+        t = take_some(outputs, stations, time, page, chunk, t);
+        if !t.more {
+            return t;
+        }
+    }
+    t
+}
+
+fn lend(
+    outputs: &mut [Output],
+    stations: &mut [Station],
+    time: &mut u64,
+    page: &mut [u8],
+    chunk: &mut [u8],
+) {
+    let t = take_all(outputs, stations, time, page, chunk);
+    text_found::flush(page, t.mark);
+}
+
+// Over tables of its own, with one record more than any panel has: 65 outputs and nine stations.
+pub fn run() {
+    let output = output_fresh::fresh_output();
+    let mut outputs = [output; 65];
+    let record = output_fresh::fresh_station();
+    let mut stations = [record; 9];
+    let mut time: u64 = 0;
+    let mut page = io::large_buffer();
+    let mut chunk = io::large_buffer();
+    lend(
+        &mut outputs,
+        &mut stations,
+        &mut time,
+        &mut page,
+        &mut chunk,
+    );
+}

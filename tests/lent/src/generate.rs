@@ -1,0 +1,262 @@
+//! Tables from a seed: records in any state, most of them kept to the rules or
+//! one field away from them, and a few frames.
+
+use generator::Random;
+use plain::frame::{length_of_kind, ALL_KINDS, CLOCK};
+
+use crate::record::{Activity, Record, Station, LONGEST_FRAME, NUMBERS};
+use crate::states::{states, NOW};
+use crate::text::{call, clock, Head, Text};
+
+const LEVELS: [u32; 12] = [
+    0,
+    1,
+    65_535,
+    65_536,
+    65_537,
+    45 * 65_536,
+    47 * 65_536,
+    50 * 65_536,
+    50 * 65_536 + 1,
+    6_553_599,
+    6_553_600,
+    6_553_601,
+];
+const TIMES: [u32; 11] = [
+    0,
+    1,
+    99,
+    100,
+    101,
+    700,
+    5_000,
+    86_399_999,
+    86_400_000,
+    86_400_001,
+    u32::MAX,
+];
+const REALS: [u32; 16] = [
+    0x0000_0000,
+    0x8000_0000,
+    0x0000_0001,
+    0x3DFF_FFFF,
+    0x3E00_0000,
+    0x3F00_0000,
+    0x3F7F_FFFF,
+    0x3F80_0000,
+    0x3F80_0040,
+    0x3F80_00C0,
+    0x4120_0000,
+    0x4248_0000,
+    0x42C8_0000,
+    0x42C8_0001,
+    0x7FC0_0000,
+    0xBF80_0000,
+];
+
+/// The rows of one table with its frames.
+pub fn table(random: &mut Random) -> String {
+    let mut text = Text(String::new());
+    let outputs = match random.below(40) {
+        0 => 0,
+        1 => 64,
+        2 => 65,
+        _ => random.between(1, 3) as usize,
+    };
+    let stations = match random.below(40) {
+        0 => 7,
+        1 => 9,
+        _ => 8,
+    };
+    let time = match random.below(30) {
+        0 => 0,
+        1 => (1 << 48) - 1,
+        2 => 1 << 48,
+        _ => NOW,
+    };
+    text.table(outputs, stations, time);
+    let mut pending = false;
+    for place in 0..outputs.min(3) {
+        let place = if place == 2 { outputs - 1 } else { place };
+        let mut row = record(random).row(place);
+        if random.one_in(4) {
+            change_one(random, &mut row, time);
+        }
+        let record = Record::of_row(&row);
+        pending |= record.activity != Activity::Still || record.timer.is_some();
+        text.output(place, &record);
+    }
+    for place in 0..stations {
+        if random.one_in(6) {
+            text.station(place, &station(random));
+        }
+    }
+    let mut now = time;
+    for _ in 0..random.between(1, 5) {
+        let later = match random.below(10) {
+            0..=3 => random.below(3),
+            4 | 5 => random.pick(&[299, 300, 301, 500, 599, 600, 601, 900]),
+            6 | 7 => random.below(2_000),
+            8 => random.below(20_000),
+            _ if pending => 0,
+            _ => random.below(1 << 40),
+        };
+        let moment = (now + later).min((1 << 48) - 1);
+        text.frame(&frame(random, moment, outputs));
+        now = now.max(moment);
+        if random.one_in(2) {
+            text.left();
+        }
+    }
+    text.left();
+    text.0
+}
+
+/// A state of the list, with some of its fields changed so that it keeps the
+/// rules, or mostly so.
+fn record(random: &mut Random) -> Record {
+    let states = states();
+    let (_, mut record) = states[random.below(states.len() as u64) as usize];
+    if random.one_in(3) {
+        record.enable = random.chance(70);
+        record.blink = random.pick(&[0, 1, 300, 86_400_000]);
+        record.delay = random.pick(&[0, 1, 600, 86_400_000]);
+    }
+    if random.one_in(3) {
+        record.slot = random.pick(&[0, 4, 6, 7, 8, 14, 15]);
+    }
+    if random.one_in(3) {
+        record.fade = random.pick(&[100, 101, 1_000, 86_400_000]);
+        record.ramp = random.pick(&REALS[4..13]);
+        record.step = random.pick(&REALS[4..13]);
+    }
+    if random.one_in(4) {
+        record.store(
+            random.pick(&[8, 14, 15]),
+            random.pick(&[0, 65_536, 6_553_600]),
+        );
+    }
+    if random.one_in(5) {
+        record.timer = Some((
+            random.pick(&[0, 2, 7, 8, 14, 15]),
+            NOW + random.pick(&[1, 2, 300, 301, 600, 900, 5_000]),
+        ));
+    }
+    if random.one_in(6) {
+        record.reverse = !record.reverse;
+    }
+    record.burning = random.pick(&[0, 999, 1_000, 9_999, 10_000]);
+    record
+}
+
+/// One number of the row: one more, one less, or another one that matters.
+fn change_one(random: &mut Random, row: &mut [u64; NUMBERS], time: u64) {
+    let place = random.between(1, 48) as usize;
+    row[place] = match random.below(6) {
+        0 => row[place].saturating_add(1),
+        1 => row[place].saturating_sub(1),
+        2 => random.pick(&LEVELS).into(),
+        3 => random.pick(&[0, 1, 2, 4, 5, 6, 7, 15, 16, 17, 32, 255, 256]),
+        4 => random.pick(&[
+            time.saturating_sub(1),
+            time,
+            time.saturating_add(1),
+            time / 2,
+        ]),
+        _ => random.pick(&REALS).into(),
+    };
+}
+
+fn station(random: &mut Random) -> Station {
+    let mut frame = [0; LONGEST_FRAME];
+    for byte in &mut frame {
+        *byte = random.below(256) as u8;
+    }
+    frame[0] = if random.chance(90) {
+        random.pick(&ALL_KINDS[1..])
+    } else {
+        random.pick(&[0x00, 0x01, 0x06, 0x0F, 0x1C, 0xFF])
+    };
+    Station {
+        answer: match random.below(4) {
+            0 => plain::Answer::Done,
+            1 => plain::Answer::Value(random.bits() as u32),
+            2 => plain::Answer::Absent,
+            _ => plain::Answer::Refused(random.below(256) as u8),
+        },
+        number: random.pick(&[0, 1, 2, 3, u32::MAX]),
+        frame,
+    }
+}
+
+fn frame(random: &mut Random, time: u64, outputs: usize) -> Vec<u8> {
+    let kind = random.pick(&ALL_KINDS);
+    if kind == CLOCK {
+        return clock(time);
+    }
+    let head = Head {
+        station: random.pick(&[0, 1, 2, 3, 4, 5, 6, 7, 0, 1, 2, 3, 4, 5, 6, 7, 8]),
+        number: random.pick(&[0, 1, 2, 2, 3, 3, 4, 4, 5, 5, 6, 7, 8, 9, u32::MAX]),
+        time,
+        output: match random.below(12) {
+            0 => outputs as u8,
+            1 => outputs.saturating_sub(1) as u8,
+            _ => random.below(outputs.clamp(1, 3) as u64) as u8,
+        },
+    };
+    let mut adds = Vec::new();
+    match kind {
+        0x02 => {
+            adds.push(priority(random));
+            adds.extend(random.pick(&REALS).to_be_bytes());
+        }
+        0x03 => adds.push(priority(random)),
+        0x04 => {
+            adds.push(random.between(0, 0x1C) as u8);
+            let value = match random.below(3) {
+                0 => random.pick(&REALS),
+                1 => random.pick(&TIMES),
+                _ => random.below(18) as u32,
+            };
+            adds.extend(value.to_be_bytes());
+        }
+        0x05 => adds.push(random.between(0, 0x31) as u8),
+        0x1B => adds.extend(tagged(random)),
+        _ => {
+            // Each field has four bytes; the last one is the duration.
+            let fields = (length_of_kind(kind).unwrap_or(13) - 13) / 4;
+            for field in 1..=fields {
+                let value = if field == fields || (kind == 0x12 && field == 2) {
+                    random.pick(&[0, 100, 300, 5_000, 99, 86_400_000, u32::MAX, u32::MAX])
+                } else {
+                    random.pick(&REALS)
+                };
+                adds.extend(value.to_be_bytes());
+            }
+        }
+    }
+    let mut bytes = call(kind, head, &adds);
+    if random.one_in(60) {
+        bytes.pop();
+    }
+    bytes
+}
+
+fn priority(random: &mut Random) -> u8 {
+    random.pick(&[1, 3, 5, 7, 8, 8, 8, 9, 15, 16, 16, 16, 6, 0, 17])
+}
+
+/// GOTO, STOP or RELINQUISH in tags, now and then with a byte changed.
+fn tagged(random: &mut Random) -> [u8; 18] {
+    let mut body = [0; 18];
+    let command: &[u8] = match random.below(3) {
+        0 => &[7, 0x09, 9, 0x1C, 0x42, 0x48, 0, 0],
+        1 => &[5, 0x09, 0, 0x5A, 0x01, 0x2C],
+        _ => &[2, 0x09, 10],
+    };
+    body[..command.len()].copy_from_slice(command);
+    if random.one_in(5) {
+        body[random.below(18) as usize] = random.below(256) as u8;
+    }
+    body
+}
