@@ -86,7 +86,6 @@ fn output_of(record: &Record, time: u64) -> Output {
     }
     output.duration = record.timer.map(|(slot, due)| RunningDuration {
         slot: priority(slot),
-        length: due - time,
         left: due - time,
     });
     output.last = last_command(&record.last);
@@ -175,7 +174,7 @@ fn put_back(record: &mut Record, output: &Output, time: u64) {
                 }
             };
             Activity::Warned {
-                delay: !warning.is_dark(),
+                delay: warning.gone >= warning.dark_time,
                 owner: warning.slot - 1,
                 level: warning.level,
                 turn,
@@ -219,7 +218,6 @@ pub fn pass(record: &mut Record, from: u64, to: u64) {
         }
         let (slot_6, active) = (output.slot(SLOT_6), output.active);
         output.pass(1);
-        output.met.clear();
         // Slot 6 is set at the turn and at the end.
         let goes_on = output
             .warning
