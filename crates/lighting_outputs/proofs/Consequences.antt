@@ -30,3 +30,5 @@ pub mod Burning
 pub mod Light
 -- the relay (§3)
 pub mod Relay
+pub mod Numbers
+pub mod RefusalEleven

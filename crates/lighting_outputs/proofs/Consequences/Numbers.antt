@@ -1,0 +1,24 @@
+-- DOCUMENT 01'S OWN NUMBERS. The theorems hold for any set of parameters; at document 01's these are the numbers that they speak of, and that
+-- an engineer reads in the paper.
+use mathlib.Core.Path.{_≡_, refl}
+use mathlib.Core.Bool.{true, false}
+use mathlib.Core.List.{[], _∷_}
+use Rattle.lighting_levels.specs.Paper.Choice.{if_then_else_}
+use Rattle.lighting_outputs.specs.Paper.Parameters.{longestMovement, longestBlink, freshFade, document01}
+use Rattle.lighting_outputs.specs.Paper.Fresh.{freshFor, freshOutput}
+use Rattle.lighting_panel.specs.Paper.Panel.{countsSound}
+
+-- stations, outputs, the longest fade time and the longest duration; then the longest movement, the longest blink time and a fresh Fade_Time
+pub numbers : document01 .stations ∷ document01 .outputs ∷ document01 .fade ∷ document01 .duration ∷ longestMovement document01 ∷ longestBlink ∷ freshFade document01 ∷ []
+    ≡ 8 ∷ 64 ∷ 86400000 ∷ 86400000 ∷ 86400000 ∷ 86400000 ∷ 1000 ∷ []
+numbers = refl
+
+-- '0 or over 64 outputs, station records not eight' is 1
+pub counts : countsSound document01 0 8 ∷ countsSound document01 1 8 ∷ countsSound document01 64 8 ∷ countsSound document01 65 8 ∷ countsSound document01 8 7 ∷ countsSound document01 8 9 ∷ []
+    ≡ false ∷ true ∷ true ∷ false ∷ false ∷ false ∷ []
+unfolding countsSound if_then_else_
+counts = refl
+
+pub fresh : freshFor document01 ≡ freshOutput
+unfolding freshFor freshOutput
+fresh = refl
