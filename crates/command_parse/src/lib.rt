@@ -1,6 +1,5 @@
 // A command, read: an operation with its fields and its duration as a request, or the refusal that the first field out of range meets.
 ghost use mathlib.Core.Path.{_≡_};
-ghost use Rattle.lighting_outputs.specs.Paper.Parameters.{document01};
 ghost use Rattle.lighting_outputs.specs.Paper.Answers.{levelRefusal};
 ghost use Rattle.lighting_outputs.specs.Paper.Requests.{levelFieldRefusal, amountFieldRefusal, timeFieldRefusal, firstRefusal, fieldsRefusal, commandLasting, commandWithDuration, commandRequestBy, commandOf, plainDuration, commandRequest};
 ghost use Rattle.lighting_frames.specs.Paper.Frames.{taggedRequest};
@@ -11,6 +10,7 @@ use lighting_outputs::Duration;
 use lighting_outputs::Operation;
 use lighting_outputs::OperationFields;
 use lighting_outputs::OutputRequest;
+use lighting_outputs::Parameters;
 use lighting_outputs::RealField;
 use lighting_outputs::Request;
 use lighting_outputs::TimeField;
@@ -45,11 +45,11 @@ fn amount_field_refusal(x: RealField) -> u8
     }
 }
 
-fn time_field_refusal(x: TimeField) -> u8
-    ensures { λ r. ⌜ r ≡ timeFieldRefusal document01 x ⌝ }
+fn time_field_refusal(parameters: Parameters, x: TimeField) -> u8
+    ensures { λ r. ⌜ r ≡ timeFieldRefusal parameters x ⌝ }
 {
     match x {
-        TimeField::Time(l) => if number_ranges::is_fade_time(l) {
+        TimeField::Time(l) => if number_ranges::is_fade_time(parameters, l) {
             0
         } else {
             12
@@ -65,8 +65,8 @@ fn first_refusal(earlier: u8, later: u8) -> u8
 }
 
 // Fields are judged from left to right.
-pub fn fields_refusal(f: OperationFields) -> u8
-    ensures { λ r. ⌜ r ≡ fieldsRefusal document01 f ⌝ }
+pub fn fields_refusal(parameters: Parameters, f: OperationFields) -> u8
+    ensures { λ r. ⌜ r ≡ fieldsRefusal parameters f ⌝ }
 {
     let level = f.level;
     let rate = f.rate;
@@ -76,23 +76,26 @@ pub fn fields_refusal(f: OperationFields) -> u8
         level_field_refusal(level),
         first_refusal(
             amount_field_refusal(rate),
-            first_refusal(amount_field_refusal(step), time_field_refusal(fade)),
+            first_refusal(
+                amount_field_refusal(step),
+                time_field_refusal(parameters, fade),
+            ),
         ),
     )
 }
 
 // ---- the request
 
-// An operation with a duration that is there: 0 cancels, 100 to 86,400,000 sets.
-fn command_lasting(operation: Operation, d: u32) -> Request
-    ensures { λ r. ⌜ r ≡ commandLasting document01 operation d ⌝ }
+// An operation with a duration that is there: 0 cancels, 100 to the longest sets.
+fn command_lasting(parameters: Parameters, operation: Operation, d: u32) -> Request
+    ensures { λ r. ⌜ r ≡ commandLasting parameters operation d ⌝ }
 {
     if d == 0 {
         Request::ToOutput(OutputRequest::Commands(Command {
             operation,
             duration: Duration::Cancels,
         }))
-    } else if number_ranges::is_duration(d) {
+    } else if number_ranges::is_duration(parameters, d) {
         Request::ToOutput(OutputRequest::Commands(Command {
             operation,
             duration: Duration::Lasts(d),
@@ -102,11 +105,15 @@ fn command_lasting(operation: Operation, d: u32) -> Request
     }
 }
 
-fn command_with_duration(operation: Operation, duration: TimeField) -> Request
-    ensures { λ r. ⌜ r ≡ commandWithDuration document01 operation duration ⌝ }
+fn command_with_duration(
+    parameters: Parameters,
+    operation: Operation,
+    duration: TimeField,
+) -> Request
+    ensures { λ r. ⌜ r ≡ commandWithDuration parameters operation duration ⌝ }
 {
     match duration {
-        TimeField::Time(d) => command_lasting(operation, d),
+        TimeField::Time(d) => command_lasting(parameters, operation, d),
         TimeField::NoTime => Request::ToOutput(OutputRequest::Commands(Command {
             operation,
             duration: Duration::Omitted,
@@ -114,22 +121,28 @@ fn command_with_duration(operation: Operation, duration: TimeField) -> Request
     }
 }
 
-fn command_request_by(refusal: u8, operation: Operation, duration: TimeField) -> Request
-    ensures { λ r. ⌜ r ≡ commandRequestBy document01 refusal operation duration ⌝ }
+fn command_request_by(
+    parameters: Parameters,
+    refusal: u8,
+    operation: Operation,
+    duration: TimeField,
+) -> Request
+    ensures { λ r. ⌜ r ≡ commandRequestBy parameters refusal operation duration ⌝ }
 {
     if refusal == 0 {
-        command_with_duration(operation, duration)
+        command_with_duration(parameters, operation, duration)
     } else {
         Request::Refuse(refusal)
     }
 }
 
 // In whatever form a command came, the duration comes after the operation's own fields.
-pub fn command_of(operation: Operation, duration: TimeField) -> Request
-    ensures { λ r. ⌜ r ≡ commandOf document01 operation duration ⌝ }
+pub fn command_of(parameters: Parameters, operation: Operation, duration: TimeField) -> Request
+    ensures { λ r. ⌜ r ≡ commandOf parameters operation duration ⌝ }
 {
     command_request_by(
-        fields_refusal(command_operations::fields_of(operation)),
+        parameters,
+        fields_refusal(parameters, command_operations::fields_of(operation)),
         operation,
         duration,
     )
@@ -146,21 +159,21 @@ fn plain_duration(d: u32) -> TimeField
     }
 }
 
-pub fn command_request(operation: Operation, d: u32) -> Request
-    ensures { λ r. ⌜ r ≡ commandRequest document01 operation d ⌝ }
+pub fn command_request(parameters: Parameters, operation: Operation, d: u32) -> Request
+    ensures { λ r. ⌜ r ≡ commandRequest parameters operation d ⌝ }
 {
-    command_of(operation, plain_duration(d))
+    command_of(parameters, operation, plain_duration(d))
 }
 
 // Kind 1B: an absent duration is a missing field, and FFFFFFFF is out of range.
-pub fn tagged_request(reading: TaggedReading) -> Request
-    ensures { λ r. ⌜ r ≡ taggedRequest document01 reading ⌝ }
+pub fn tagged_request(parameters: Parameters, reading: TaggedReading) -> Request
+    ensures { λ r. ⌜ r ≡ taggedRequest parameters reading ⌝ }
 {
     match reading {
         TaggedReading::Unreadable(refusal) => Request::Refuse(refusal),
         TaggedReading::Reads {
             operation,
             duration,
-        } => command_of(operation, duration),
+        } => command_of(parameters, operation, duration),
     }
 }

@@ -1,7 +1,6 @@
 // A string of bytes, read: refusals 2 to 5, a clock, or a call with its request. Nothing here looks at a panel but for its number of
 // outputs.
 ghost use mathlib.Core.Path.{_≡_};
-ghost use Rattle.lighting_outputs.specs.Paper.Parameters.{document01};
 ghost use Rattle.lighting_levels.specs.Paper.Level.{real};
 ghost use Rattle.lighting_levels.specs.Paper.Field.{bigEndian};
 ghost use Rattle.lighting_outputs.specs.Paper.Properties.{propertyOf, changeOf};
@@ -14,6 +13,7 @@ use lighting_frames::Kind;
 use lighting_levels::Level;
 use lighting_outputs::Operation;
 use lighting_outputs::OutputRequest;
+use lighting_outputs::Parameters;
 use lighting_outputs::Request;
 
 // ---- kinds 02 to 05
@@ -54,10 +54,10 @@ fn empty_of(p: u8) -> Request
 
 // ---- the request and the frame
 
-fn change_of(n: u8, x: u32) -> Request
-    ensures { λ r. ⌜ r ≡ changeOf document01 (propertyOf n) x ⌝ }
+fn change_of(parameters: Parameters, n: u8, x: u32) -> Request
+    ensures { λ r. ⌜ r ≡ changeOf parameters (propertyOf n) x ⌝ }
 {
-    property_write::change_of(property_write::property_of(n), x)
+    property_write::change_of(parameters, property_write::property_of(n), x)
 }
 
 fn real_at(b: &[u8], at: usize) -> f32
@@ -67,13 +67,14 @@ fn real_at(b: &[u8], at: usize) -> f32
 }
 
 // The kind gives the action, and each reads what it adds to the 13 common bytes.
-fn request_of(action: Action, b: &[u8]) -> Request
-    ensures { λ r. ⌜ r ≡ requestOf document01 action (now (b .entry)) ⌝ }
+fn request_of(parameters: Parameters, action: Action, b: &[u8]) -> Request
+    ensures { λ r. ⌜ r ≡ requestOf parameters action (now (b .entry)) ⌝ }
 {
     match action {
         Action::WritesLevel => write_of(frame_field::byte_at(b, 13), frame_field::word32_at(b, 14)),
         Action::EmptiesSlot => empty_of(frame_field::byte_at(b, 13)),
         Action::WritesProperty => change_of(
+            parameters,
             frame_field::byte_at(b, 13),
             frame_field::word32_at(b, 14),
         ),
@@ -83,81 +84,94 @@ fn request_of(action: Action, b: &[u8]) -> Request
                 13,
             )))),
         Action::Stops => command_parse::command_request(
+            parameters,
             Operation::Stop,
             frame_field::word32_at(b, 13),
         ),
         Action::FadesTo => {
             command_parse::command_request(
+                parameters,
                 Operation::FadeTo(real_at(b, 13)),
                 frame_field::word32_at(b, 17),
             )
         }
         Action::FadesToOver => command_parse::command_request(
+            parameters,
             Operation::FadeToOver(real_at(b, 13), frame_field::word32_at(b, 17)),
             frame_field::word32_at(b, 21),
         ),
         Action::RampsTo => {
             command_parse::command_request(
+                parameters,
                 Operation::RampTo(real_at(b, 13)),
                 frame_field::word32_at(b, 17),
             )
         }
         Action::RampsToAtRate => command_parse::command_request(
+            parameters,
             Operation::RampToAtRate(real_at(b, 13), real_at(b, 17)),
             frame_field::word32_at(b, 21),
         ),
         Action::StepsUp => command_parse::command_request(
+            parameters,
             Operation::StepUp,
             frame_field::word32_at(b, 13),
         ),
         Action::StepsDown => command_parse::command_request(
+            parameters,
             Operation::StepDown,
             frame_field::word32_at(b, 13),
         ),
         Action::StepsUpBy => {
             command_parse::command_request(
+                parameters,
                 Operation::StepUpBy(real_at(b, 13)),
                 frame_field::word32_at(b, 17),
             )
         }
         Action::StepsDownBy => {
             command_parse::command_request(
+                parameters,
                 Operation::StepDownBy(real_at(b, 13)),
                 frame_field::word32_at(b, 17),
             )
         }
         Action::GoesTo => {
             command_parse::command_request(
+                parameters,
                 Operation::Goto(real_at(b, 13)),
                 frame_field::word32_at(b, 17),
             )
         }
         Action::Relinquishes => command_parse::command_request(
+            parameters,
             Operation::Relinquish,
             frame_field::word32_at(b, 13),
         ),
-        Action::CommandsTagged =>
-            command_parse::tagged_request(tag_reading::read_body(frame_field::from_on(b, 13))),
+        Action::CommandsTagged => command_parse::tagged_request(
+            parameters,
+            tag_reading::read_body(frame_field::from_on(b, 13)),
+        ),
     }
 }
 
-fn call_of(action: Action, b: &[u8]) -> Call
-    ensures { λ r. ⌜ r ≡ callOf document01 action (now (b .entry)) ⌝ }
+fn call_of(parameters: Parameters, action: Action, b: &[u8]) -> Call
+    ensures { λ r. ⌜ r ≡ callOf parameters action (now (b .entry)) ⌝ }
 {
     Call {
         station: frame_field::byte_at(b, 1),
         number: frame_field::word32_at(b, 2),
         time: frame_field::word48_at(b, 6),
         output: frame_field::byte_at(b, 12),
-        request: request_of(action, b),
+        request: request_of(parameters, action, b),
     }
 }
 
-// Station over 7, or number 0, is refusal 4; an output that is not in the table of c is 5.
-fn called(c: usize, call: Call) -> Frame
-    ensures { λ r. ⌜ r ≡ called document01 c call ⌝ }
+// A station that the set has not, or number 0, is refusal 4; an output that is not in the table of c is 5.
+fn called(parameters: Parameters, c: usize, call: Call) -> Frame
+    ensures { λ r. ⌜ r ≡ called parameters c call ⌝ }
 {
-    if call.station < 8 {
+    if (call.station as u32) < parameters.stations {
         if call.number == 0 {
             Frame::Bad(4)
         } else if (call.output as usize) < c {
@@ -177,8 +191,8 @@ fn clock_of(b: &[u8]) -> Frame
 }
 
 // No byte, or an unknown kind, is refusal 2, and another length than l, which the kind fixes, is 3.
-fn parse_by(c: usize, l: u32, kind: Kind, b: &[u8]) -> Frame
-    ensures { λ r. ⌜ r ≡ parseBy document01 c l kind (now (b .entry)) ⌝ }
+fn parse_by(parameters: Parameters, c: usize, l: u32, kind: Kind, b: &[u8]) -> Frame
+    ensures { λ r. ⌜ r ≡ parseBy parameters c l kind (now (b .entry)) ⌝ }
 {
     match kind {
         Kind::NoKind => Frame::Bad(2),
@@ -188,17 +202,17 @@ fn parse_by(c: usize, l: u32, kind: Kind, b: &[u8]) -> Frame
             Frame::Bad(3)
         },
         Kind::CallKind(action) => if b.len() == l as usize {
-            called(c, call_of(action, b))
+            called(parameters, c, call_of(parameters, action, b))
         } else {
             Frame::Bad(3)
         },
     }
 }
 
-pub fn parse(c: usize, b: &[u8]) -> Frame
-    ensures { λ r. ⌜ r ≡ parse document01 c (now (b .entry)) ⌝ }
+pub fn parse(parameters: Parameters, c: usize, b: &[u8]) -> Frame
+    ensures { λ r. ⌜ r ≡ parse parameters c (now (b .entry)) ⌝ }
 {
     let row = frame_kinds::kind_row(frame_field::byte_at(b, 0));
     let kind = row.kind;
-    parse_by(c, row.length, kind, b)
+    parse_by(parameters, c, row.length, kind, b)
 }

@@ -35,28 +35,28 @@ ifCalls k row = if callsBy (row .kind) then isCallByte k else true
 
 each-call : (k : ℕ) → ifCalls k (kindRow k) ≡ true
 unfolding ifCalls isCallByte rowsFrom callsBy within if_then_else_
-each-call k = each-row ifCalls (λ n. refl) refl refl k
+each-call k = each-row ifCalls (λ unknown. refl) refl refl k
 
 pub call-byte : (k : ℕ) → isCall k ≡ true → CallByte k
 unfolding isCall ifCalls isCallByte if_then_else_
-call-byte k h =
-    let test : isCallByte k ≡ true = rw h at (each-call k) in
+call-byte k calls =
+    let either : isCallByte k ≡ true = rw calls at (each-call k) in
     by-bool (within 0x02 0x05 k)
-    (λ e. inl (within-of 0x02 0x05 k e))
-    (λ e. inr (within-of 0x10 0x1b k (rw e at test)))
+    (λ test. inl (within-of 0x02 0x05 k test))
+    (λ test. inr (within-of 0x10 0x1b k (rw test at either)))
 
 pub byte-call : (k : ℕ) → CallByte k → isCall k ≡ true
 unfolding allFrom isCall kindRow callsBy if_then_else_
-byte-call k (inl w) = all-each isCall 4 0x02 k refl (w .least) (omega arith)
-byte-call k (inr w) = all-each isCall 12 0x10 k refl (w .least) (omega arith)
+byte-call k (inl inside) = all-each isCall 4 0x02 k refl (inside .least) (omega arith)
+byte-call k (inr inside) = all-each isCall 12 0x10 k refl (inside .least) (omega arith)
 
 pub station-facts : (station : Station) → stationSound station ≡ true → StationKept station
 unfolding stationSound if_then_else_
 station-facts station =
     by-eq (station .number) 0
-    (λ z e. rw e (λ h. record { kind = λ n. absurd (n z) }))
-    (λ z e. rw e (λ h. record { kind = λ n. call-byte (byteAt (station .frame) 0) h }))
+    (λ none test. rw test (λ sound. record { kind = λ some. absurd (some none) }))
+    (λ some test. rw test (λ sound. record { kind = λ given. call-byte (byteAt (station .frame) 0) sound }))
 
 pub facts-station : (station : Station) → StationKept station → stationSound station ≡ true
 unfolding stationSound if_then_else_
-facts-station station kept = by-eq (station .number) 0 (λ z e. rw e) (λ z e. rw e (byte-call (byteAt (station .frame) 0) (kept .kind z)))
+facts-station station kept = by-eq (station .number) 0 (λ none test. rw test) (λ some test. rw test (byte-call (byteAt (station .frame) 0) (kept .kind some)))

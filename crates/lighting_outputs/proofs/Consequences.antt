@@ -30,3 +30,7 @@ pub mod Burning
 pub mod Light
 -- the relay (§3)
 pub mod Relay
+-- document 01's own numbers
+pub mod Numbers
+-- refusal 11 of a property's write
+pub mod RefusalEleven

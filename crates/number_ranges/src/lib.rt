@@ -3,12 +3,13 @@ pub mod rows;
 
 ghost use mathlib.Core.Path.{_≡_};
 ghost use Prim.Native.Nat.{min};
-ghost use Rattle.lighting_outputs.specs.Paper.Parameters.{document01};
+ghost use Rattle.lighting_outputs.specs.Paper.Parameters.{longestMovement};
 ghost use Rattle.lighting_outputs.specs.Paper.Rows.{rowOf, within, isLevel, isSlot, isPriority, meets};
 ghost use Rattle.lighting_outputs.specs.declared.Property.the-variants.{FadeTime};
 use lighting_levels::GREATEST_LEVEL;
 use lighting_levels::LEAST_LEVEL;
 use lighting_outputs::NO_SLOT;
+use lighting_outputs::Parameters;
 use lighting_outputs::Property;
 use lighting_outputs::SLOT_6;
 
@@ -30,30 +31,39 @@ pub fn is_level(v: u32) -> bool
     }
 }
 
-// ---- times, in milliseconds: `document01` of the definitions has the same greatest values
-
-const LONGEST_DURATION: u32 = 86400000;
-
-const LONGEST_MOVEMENT: u32 = 86400000;
+// ---- times, in milliseconds, as the set of parameters has them
 
 // A command's fade time: Fade_Time's row.
-pub fn is_fade_time(v: u32) -> bool
-    ensures { λ r. ⌜ r ≡ meets (rowOf document01 FadeTime) v ⌝ }
+pub fn is_fade_time(parameters: Parameters, v: u32) -> bool
+    ensures { λ r. ⌜ r ≡ meets (rowOf parameters FadeTime) v ⌝ }
 {
-    rows::fits(Property::FadeTime, v)
+    rows::fits(parameters, Property::FadeTime, v)
 }
 
-pub fn is_duration(v: u32) -> bool
-    ensures { λ r. ⌜ r ≡ within 100 (document01 .longestDuration) v ⌝ }
+pub fn is_duration(parameters: Parameters, v: u32) -> bool
+    ensures { λ r. ⌜ r ≡ within 100 (parameters .duration) v ⌝ }
 {
-    is_within(100, LONGEST_DURATION, v)
+    is_within(100, parameters.duration, v)
+}
+
+// A fade lasts at most the longest fade time, and no ramp longer than this.
+const LONGEST_RAMP: u32 = 800000;
+
+fn longest_movement(parameters: Parameters) -> u32
+    ensures { λ r. ⌜ r ≡ longestMovement parameters ⌝ }
+{
+    if LONGEST_RAMP < parameters.fade {
+        parameters.fade
+    } else {
+        LONGEST_RAMP
+    }
 }
 
 // What a movement lasts.
-pub fn is_length(v: u32) -> bool
-    ensures { λ r. ⌜ r ≡ within 1 (document01 .longestMovement) v ⌝ }
+pub fn is_length(parameters: Parameters, v: u32) -> bool
+    ensures { λ r. ⌜ r ≡ within 1 (longestMovement parameters) v ⌝ }
 {
-    is_within(1, LONGEST_MOVEMENT, v)
+    is_within(1, longest_movement(parameters), v)
 }
 
 // ---- slots

@@ -1,26 +1,24 @@
 // What a property's value must be: one row a property. What is kept of it meets the row: a write is judged by it, and so is a record.
 ghost use mathlib.Core.Path.{_≡_};
-ghost use Rattle.lighting_outputs.specs.Paper.Parameters.{document01};
 ghost use Rattle.lighting_levels.specs.Paper.Level.{real};
 ghost use Rattle.lighting_outputs.specs.Paper.Rows.{rowOf, isAmount, meets};
 use lighting_levels::GREATEST_LEVEL;
 use lighting_levels::LEAST_LEVEL;
+use lighting_outputs::Parameters;
 use lighting_outputs::Property;
 use lighting_outputs::Range;
 
-// In milliseconds: `document01` of the definitions has the same greatest values.
-const LONGEST_FADE: u32 = 86400000;
-
+// In milliseconds: `longestBlink` of the definitions is the same.
 const LONGEST_BLINK: u32 = 86400000;
 
-pub fn row_of(p: Property) -> Range
-    ensures { λ r. ⌜ r ≡ rowOf document01 p ⌝ }
+pub fn row_of(parameters: Parameters, p: Property) -> Range
+    ensures { λ r. ⌜ r ≡ rowOf parameters p ⌝ }
 {
     match p {
         Property::RelinquishDefault => Range::Percent,
         Property::FadeTime => Range::Whole {
             low: 100,
-            high: LONGEST_FADE,
+            high: parameters.fade,
         },
         Property::RampRate => Range::Amount,
         Property::StepIncrement => Range::Amount,
@@ -85,8 +83,8 @@ fn is_met(row: Range, v: u32) -> bool
 }
 
 // What is kept of a property.
-pub fn fits(p: Property, v: u32) -> bool
-    ensures { λ r. ⌜ r ≡ meets (rowOf document01 p) v ⌝ }
+pub fn fits(parameters: Parameters, p: Property, v: u32) -> bool
+    ensures { λ r. ⌜ r ≡ meets (rowOf parameters p) v ⌝ }
 {
-    is_met(row_of(p), v)
+    is_met(row_of(parameters, p), v)
 }

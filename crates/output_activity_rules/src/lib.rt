@@ -1,11 +1,11 @@
 // The record rules on what is under way: a movement, a warning, a duration. Slots are counted from 0: 7 to 16 are 6 to 15.
 ghost use mathlib.Core.Path.{_≡_};
 ghost use Prim.Native.Nat.{_<_};
-ghost use Rattle.lighting_outputs.specs.Paper.Parameters.{document01};
 ghost use Rattle.lighting_outputs.specs.Paper.Rules.{spanSound, movementSound, warningBy, warningSound, activityBy, timerSound};
 use lighting_outputs::Activity;
 use lighting_outputs::Movement;
 use lighting_outputs::NO_SLOT;
+use lighting_outputs::Parameters;
 use lighting_outputs::Timer;
 use lighting_outputs::Warning;
 use number_ranges::is_slot;
@@ -16,13 +16,13 @@ const SLOT_7: u32 = 6;
 
 const LAST_SLOT: u32 = 15;
 
-// Its end is after panel time t, what is left of it is no longer than it lasts, and it lasts 1 ms to a day.
-fn span_sound(t: u64, m: Movement) -> bool
-    ensures { λ r. ⌜ r ≡ spanSound document01 t m ⌝ }
+// Its end is after panel time t, what is left of it is no longer than it lasts, and it lasts 1 ms to the longest that a movement may last.
+fn span_sound(parameters: Parameters, t: u64, m: Movement) -> bool
+    ensures { λ r. ⌜ r ≡ spanSound parameters t m ⌝ }
 {
     if t < m.over {
         if m.over - t <= m.length as u64 {
-            number_ranges::is_length(m.length)
+            number_ranges::is_length(parameters, m.length)
         } else {
             false
         }
@@ -32,14 +32,14 @@ fn span_sound(t: u64, m: Movement) -> bool
 }
 
 // It belongs to the winner w, starts from 0 to Max, here high, and aims at Present_Value v.
-fn movement_sound(t: u64, w: u32, high: u32, v: u32, m: Movement) -> bool
-    ensures { λ r. ⌜ r ≡ movementSound document01 t w high v m ⌝ }
+fn movement_sound(parameters: Parameters, t: u64, w: u32, high: u32, v: u32, m: Movement) -> bool
+    ensures { λ r. ⌜ r ≡ movementSound parameters t w high v m ⌝ }
 {
     if m.owner < NO_SLOT {
         if m.owner as u32 == w {
             if m.start <= high {
                 if m.target == v {
-                    span_sound(t, m)
+                    span_sound(parameters, t, m)
                 } else {
                     false
                 }
@@ -77,15 +77,23 @@ fn warning_sound(t: u64, w: Warning) -> bool
 }
 
 // Slot 6 is live, here l, exactly during a warning.
-pub fn activity_by(t: u64, l: bool, w: u32, high: u32, v: u32, a: Activity) -> bool
-    ensures { λ r. ⌜ r ≡ activityBy document01 t l w high v a ⌝ }
+pub fn activity_by(
+    parameters: Parameters,
+    t: u64,
+    l: bool,
+    w: u32,
+    high: u32,
+    v: u32,
+    a: Activity,
+) -> bool
+    ensures { λ r. ⌜ r ≡ activityBy parameters t l w high v a ⌝ }
 {
     match a {
         Activity::Still => !l,
         Activity::Moving(m) => if l {
             false
         } else {
-            movement_sound(t, w, high, v, m)
+            movement_sound(parameters, t, w, high, v, m)
         },
         Activity::Warned(g) => if l { warning_sound(t, g) } else { false },
     }

@@ -1,6 +1,7 @@
 // Fresh records, by value.
 ghost use mathlib.Core.Path.{_≡_};
-ghost use Rattle.lighting_outputs.specs.Paper.Fresh.{freshSettings, freshRelay, freshOutput};
+ghost use Rattle.lighting_outputs.specs.Paper.Parameters.{freshFade};
+ghost use Rattle.lighting_outputs.specs.Paper.Fresh.{freshSettings, freshRelay, freshWith, freshFor};
 ghost use Rattle.lighting_frames.specs.Paper.Stations.{freshStation};
 use lighting_frames::LONGEST_FRAME;
 use lighting_frames::Station;
@@ -12,6 +13,7 @@ use lighting_outputs::Command;
 use lighting_outputs::Duration;
 use lighting_outputs::Operation;
 use lighting_outputs::Output;
+use lighting_outputs::Parameters;
 use lighting_outputs::Relay;
 use lighting_outputs::SLOT_16;
 use lighting_outputs::SLOTS;
@@ -19,12 +21,23 @@ use lighting_outputs::Settings;
 use lighting_outputs::Slots;
 use lighting_outputs::Timer;
 
-fn fresh_settings() -> Settings
-    ensures { λ r. ⌜ r ≡ freshSettings ⌝ }
+// 1,000 ms, or the longest fade time where that is less.
+fn fresh_fade(parameters: Parameters) -> u32
+    ensures { λ r. ⌜ r ≡ freshFade parameters ⌝ }
+{
+    if parameters.fade < 1000 {
+        parameters.fade
+    } else {
+        1000
+    }
+}
+
+fn fresh_settings(fade: u32) -> Settings
+    ensures { λ r. ⌜ r ≡ freshSettings fade ⌝ }
 {
     Settings {
         default: 0,
-        fade: 1000,
+        fade: fade,
         ramp: 10.0,
         step: 5.0,
         enable: false,
@@ -49,8 +62,8 @@ fn fresh_relay() -> Relay
 }
 
 // No live slot, last operation STOP without duration, burning time 0.
-pub fn fresh_output() -> Output
-    ensures { λ r. ⌜ r ≡ freshOutput ⌝ }
+fn fresh_with(fade: u32) -> Output
+    ensures { λ r. ⌜ r ≡ freshWith fade ⌝ }
 {
     let levels = [0; SLOTS];
     let slots = Slots {
@@ -61,7 +74,7 @@ pub fn fresh_output() -> Output
         operation: Operation::Stop,
         duration: Duration::Omitted,
     };
-    let settings = fresh_settings();
+    let settings = fresh_settings(fade);
     let relay = fresh_relay();
     Output {
         settings: settings,
@@ -72,6 +85,12 @@ pub fn fresh_output() -> Output
         last: last,
         relay: relay,
     }
+}
+
+pub fn fresh_output(parameters: Parameters) -> Output
+    ensures { λ r. ⌜ r ≡ freshFor parameters ⌝ }
+{
+    fresh_with(fresh_fade(parameters))
 }
 
 // Number 0: no first arrival yet.

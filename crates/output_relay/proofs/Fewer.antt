@@ -6,7 +6,7 @@ use Prim.Native.Nat.{ℕ, suc, _<_}
 use native.Mathlib.Omega.{arith}
 use lib.Dec.{ltb, leb, eqb}
 use Rattle.lighting_levels.specs.Paper.Choice.{if_then_else_, _also_}
-use Rattle.lighting_outputs.specs.Paper.Parameters.{document01}
+use Rattle.lighting_outputs.specs.declared.Parameters.{Parameters}
 use Rattle.lighting_levels.specs.Paper.Level.{leastLevel, greatestLevel}
 use Rattle.lighting_outputs.specs.Paper.Rows.{within, isLevel, meets}
 use Rattle.lighting_outputs.specs.Paper.Relay.{binaryAt}
@@ -57,9 +57,9 @@ module _ (v : ℕ) (r : Relay) where
   fails true false c = refl
   fails false b c = refl
 
-  all : (ltb (r .inactive) (r .active) also within leastLevel greatestLevel (r .active) also low also binary) ≡ relaySound document01 v r
+  all : (p : Parameters) → (ltb (r .inactive) (r .active) also within leastLevel greatestLevel (r .active) also low also binary) ≡ relaySound p v r
   unfolding relaySound meets if_then_else_
-  all =
+  all p =
       by-lt
       (r .inactive)
       (r .active)
@@ -67,6 +67,6 @@ module _ (v : ℕ) (r : Relay) where
       (by-bool (within leastLevel greatestLevel (r .active)) (λ f. rw (f, ← inactive h f, judged h)) (λ f. rw f)))
       (λ h e. rw e (sym (fails (isLevel (r .active)) (isLevel (r .inactive)) (agrees (r .binary) (binaryAt v r)))))
 
-  pub fewer : (z : Bool) → z ≡ (ltb (r .inactive) (r .active) also within leastLevel greatestLevel (r .active) also low also binary)
-      → z ≡ relaySound document01 v r
-  fewer z e = e ∙ all
+  pub fewer : (p : Parameters) (z : Bool) → z ≡ (ltb (r .inactive) (r .active) also within leastLevel greatestLevel (r .active) also low also binary)
+      → z ≡ relaySound p v r
+  fewer p z e = e ∙ all p

@@ -4,7 +4,7 @@ ghost use mathlib.Core.Bool.{true};
 ghost use lib.Dec.{ltb, leb, eqb};
 ghost use Rattle.lighting_levels.specs.Paper.Choice.{if_then_else_};
 ghost use Rattle.lighting_levels.specs.Paper.Level.{leastLevel};
-ghost use Rattle.lighting_outputs.specs.Paper.Parameters.{document01};
+ghost use Rattle.lighting_outputs.specs.declared.Parameters.{Parameters};
 ghost use Rattle.lighting_outputs.specs.Paper.Relay.{binaryAt, switched, relayState, inactiveNotBelow};
 ghost use Rattle.lighting_outputs.specs.Paper.Rules.{relaySound};
 use lighting_levels::GREATEST_LEVEL;
@@ -80,9 +80,10 @@ fn is_judged(v: u32, relay: Relay) -> bool
 }
 
 // Every lent record is tested at every frame, so the rules stand here in fewer comparisons than in the definition (proofs/Fewer.antt): where the inactive
-// value is below the active one, the active one is above 0, and the inactive one below 100 percent if the active one is at most that.
+// value is below the active one, the active one is above 0, and the inactive one below 100 percent if the active one is at most that. No number of the set of
+// parameters plays a part.
 pub fn relay_sound(v: u32, relay: Relay) -> bool
-    ensures { λ r. ⌜ r ≡ relaySound document01 v relay ⌝ }
+    ensures { λ r. ⌜ ((p : Parameters) → r ≡ relaySound p v relay) ⌝ }
 {
     if relay.inactive < relay.active {
         if is_within(LEAST_LEVEL, GREATEST_LEVEL, relay.active) {

@@ -4,11 +4,11 @@ use mathlib.Core.Bool.{Bool, true, false}
 use Prim.Native.Nat.{ℕ}
 use lib.Dec.{leb}
 use Rattle.lighting_levels.specs.Paper.Choice.{if_then_else_, _also_}
-use Rattle.lighting_outputs.specs.Paper.Parameters.{document01}
 use Rattle.lighting_outputs.specs.Paper.Slots.{isLive, slot6, winner}
 use Rattle.lighting_outputs.specs.Paper.Value.{presentValue}
 use Rattle.lighting_outputs.specs.Paper.Rules.{settingsSound, slotsSound, activityBy, activitySound, timerSound, relaySound, sound}
 use Rattle.lighting_outputs.specs.declared.Output.{Output}
+use Rattle.lighting_outputs.specs.declared.Parameters.{Parameters}
 
 swapped : (a b : Bool) → (a also b) ≡ (b also a)
 unfolding if_then_else_
@@ -35,31 +35,31 @@ reversed a b c d e =
 
 -- v is Present_Value
 pub in-order :
-    (t : ℕ) (o : Output) (v : ℕ) (r : Bool) →
+    (p : Parameters) (t : ℕ) (o : Output) (v : ℕ) (r : Bool) →
     v ≡ presentValue (o .settings) (o .slots) →
     r
-    ≡ (settingsSound document01 (o .settings)
-    also relaySound document01 v (o .relay)
+    ≡ (settingsSound p (o .settings)
+    also relaySound p v (o .relay)
     also leb (o .burning) t
     also timerSound t (o .timer)
-    also activityBy document01 t (isLive (o .slots) slot6) (winner (o .slots)) (o .settings .max) v (o .activity)
+    also activityBy p t (isLive (o .slots) slot6) (winner (o .slots)) (o .settings .max) v (o .activity)
     also slotsSound (o .slots)) →
-    r ≡ sound document01 t o
+    r ≡ sound p t o
 unfolding sound activitySound
-in-order t o v r p e =
+in-order p t o v r q e =
     e
     ∙ ap
-    (λ (x : Bool). settingsSound document01 (o .settings) also x)
-    (rw p
+    (λ (x : Bool). settingsSound p (o .settings) also x)
+    (rw q
     (reversed
     (slotsSound (o .slots))
-    (activityBy document01 t (isLive (o .slots) slot6) (winner (o .slots)) (o .settings .max) (presentValue (o .settings) (o .slots)) (o .activity))
+    (activityBy p t (isLive (o .slots) slot6) (winner (o .slots)) (o .settings .max) (presentValue (o .settings) (o .slots)) (o .activity))
     (timerSound t (o .timer))
     (leb (o .burning) t)
-    (relaySound document01 (presentValue (o .settings) (o .slots)) (o .relay))))
+    (relaySound p (presentValue (o .settings) (o .slots)) (o .relay))))
 
 -- where it has not been looked up: f is what the test of the settings said
 pub settings-first :
-    (t : ℕ) (o : Output) (f r : Bool) → f ≡ settingsSound document01 (o .settings) → f ≡ false → r ≡ false → r ≡ sound document01 t o
+    (p : Parameters) (t : ℕ) (o : Output) (f r : Bool) → f ≡ settingsSound p (o .settings) → f ≡ false → r ≡ false → r ≡ sound p t o
 unfolding sound if_then_else_
-settings-first t o f r p h e = e ∙ rw (sym p ∙ h)
+settings-first p t o f r q h e = e ∙ rw (sym q ∙ h)

@@ -1,11 +1,11 @@
 // The record rules, as the test that is made of every lent record; those on what is under way are the crate `output_activity_rules`, those on the relay `output_relay`. Slots are counted from
 // 0: slot 6 is 5.
 ghost use mathlib.Core.Path.{_≡_};
-ghost use Rattle.lighting_outputs.specs.Paper.Parameters.{document01};
 ghost use Rattle.lighting_outputs.specs.Paper.Slots.{slot6, isLive, winner};
 ghost use Rattle.lighting_outputs.specs.Paper.Rules.{levelsSound, timesSound, realsSound, settingsSound, slotsSound, activityBy, sound};
 use lighting_outputs::Activity;
 use lighting_outputs::Output;
+use lighting_outputs::Parameters;
 use lighting_outputs::Property;
 use lighting_outputs::SLOT_6;
 use lighting_outputs::Settings;
@@ -17,12 +17,12 @@ use number_ranges::wide_index;
 // ---- settings
 
 // Each meets the row of its property, and Min is at most Max.
-fn levels_sound(c: Settings) -> bool
-    ensures { λ r. ⌜ r ≡ levelsSound document01 c ⌝ }
+fn levels_sound(parameters: Parameters, c: Settings) -> bool
+    ensures { λ r. ⌜ r ≡ levelsSound parameters c ⌝ }
 {
-    if fits(Property::RelinquishDefault, c.default) {
-        if fits(Property::MinValue, c.min) {
-            if fits(Property::MaxValue, c.max) {
+    if fits(parameters, Property::RelinquishDefault, c.default) {
+        if fits(parameters, Property::MinValue, c.min) {
+            if fits(parameters, Property::MaxValue, c.max) {
                 c.min <= c.max
             } else {
                 false
@@ -35,12 +35,12 @@ fn levels_sound(c: Settings) -> bool
     }
 }
 
-fn times_sound(c: Settings) -> bool
-    ensures { λ r. ⌜ r ≡ timesSound document01 c ⌝ }
+fn times_sound(parameters: Parameters, c: Settings) -> bool
+    ensures { λ r. ⌜ r ≡ timesSound parameters c ⌝ }
 {
-    if fits(Property::FadeTime, c.fade) {
-        if fits(Property::BlinkTime, c.blink) {
-            fits(Property::BlinkWarnDelay, c.delay)
+    if fits(parameters, Property::FadeTime, c.fade) {
+        if fits(parameters, Property::BlinkTime, c.blink) {
+            fits(parameters, Property::BlinkWarnDelay, c.delay)
         } else {
             false
         }
@@ -59,13 +59,13 @@ fn reals_sound(c: Settings) -> bool
     }
 }
 
-fn settings_sound(c: Settings) -> bool
-    ensures { λ r. ⌜ r ≡ settingsSound document01 c ⌝ }
+fn settings_sound(parameters: Parameters, c: Settings) -> bool
+    ensures { λ r. ⌜ r ≡ settingsSound parameters c ⌝ }
 {
-    if levels_sound(c) {
-        if times_sound(c) {
+    if levels_sound(parameters, c) {
+        if times_sound(parameters, c) {
             if reals_sound(c) {
-                fits(Property::CommandPriority, c.slot as u32)
+                fits(parameters, Property::CommandPriority, c.slot as u32)
             } else {
                 false
             }
@@ -105,10 +105,11 @@ fn slots_sound(s: Slots) -> bool
 // ---- what is under way
 
 // v is Present_Value, which the relay's rule asks for too: it is looked up once.
-fn activity_sound(t: u64, high: u32, s: Slots, v: u32, a: Activity) -> bool
-    ensures { λ r. ⌜ r ≡ activityBy document01 t (isLive s slot6) (winner s) high v a ⌝ }
+fn activity_sound(parameters: Parameters, t: u64, high: u32, s: Slots, v: u32, a: Activity) -> bool
+    ensures { λ r. ⌜ r ≡ activityBy parameters t (isLive s slot6) (winner s) high v a ⌝ }
 {
     output_activity_rules::activity_by(
+        parameters,
         t,
         output_slots::is_live(s, SLOT_6),
         output_slots::winning(s),
@@ -121,20 +122,20 @@ fn activity_sound(t: u64, high: u32, s: Slots, v: u32, a: Activity) -> bool
 // ---- the record at panel time t
 
 // The rules on the slots come last: a test of levels copies them, and what was read before such a copy would be kept on the stack beside it.
-pub fn is_sound(t: u64, o: Output) -> bool
-    ensures { λ r. ⌜ r ≡ sound document01 t o ⌝ }
+pub fn is_sound(parameters: Parameters, t: u64, o: Output) -> bool
+    ensures { λ r. ⌜ r ≡ sound parameters t o ⌝ }
 {
     let c = o.settings;
     let s = o.slots;
     let a = o.activity;
     let m = o.timer;
     let relay = o.relay;
-    if settings_sound(c) {
+    if settings_sound(parameters, c) {
         let v = output_value::present_value(c, s);
         if output_relay::relay_sound(v, relay) {
             if o.burning <= t {
                 if output_activity_rules::timer_sound(t, m) {
-                    if activity_sound(t, c.max, s, v, a) {
+                    if activity_sound(parameters, t, c.max, s, v, a) {
                         slots_sound(s)
                     } else {
                         false

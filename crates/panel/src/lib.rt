@@ -1,12 +1,12 @@
-// The panel over the tables that a caller lends: outputs, station records and the panel time. The two public operations ask nothing of what is
-// lent. The contract of each is one equation: what it leaves of every table and its answer are what `startStep` and `frameStep` say.
-ghost use mathlib.Core.Bool.{true};
+// The panel over what a caller lends: two tables, outputs and station records, and beside them the panel's own record, which has the panel
+// time. The two public operations ask nothing of what is lent. The contract of each is one equation: what it leaves of every table and its answer are what `startStep` and `frameStep` say.
+ghost use mathlib.Core.List.{map};
 ghost use mathlib.Core.Path.{_≡_};
+ghost use Prim.Native.Nat.{_≤_};
 ghost use lib.ListN.{length};
 ghost use Rattle.lighting_outputs.specs.Paper.Parameters.{document01};
-ghost use Rattle.lighting_outputs.specs.Paper.Rules.{sound};
+ghost use Rattle.lighting_outputs.specs.Engine.Advance.{greatestCount, advance};
 ghost use Rattle.lighting_panel.specs.Engine.VerdictPrecondition.{Arrival, VerdictPrecondition};
-ghost use Rattle.lighting_levels.specs.Paper.Choice.{every};
 ghost use Rattle.lighting_panel.specs.Paper.Panel.{panelOf, result, panelSound, startStep};
 ghost use Rattle.lighting_panel.specs.Engine.Executing.{execute, frameStep};
 use lighting_frames::Call;
@@ -14,15 +14,22 @@ use lighting_frames::Station;
 use lighting_frames::Verdict;
 use lighting_outputs::Answer;
 use lighting_outputs::Output;
+use lighting_outputs::Parameters;
+use lighting_panel::PanelRecord;
 
 // Refusal 1: the counts, then each record.
-fn panel_sound(outputs: &[Output], stations: &[Station], time: u64) -> bool
-    ensures { λ r. ⌜ r ≡ panelSound document01 (panelOf (now (outputs .entry)) (now (stations .entry)) time) ⌝ }
+fn panel_sound(
+    outputs: &[Output],
+    stations: &[Station],
+    kept: PanelRecord,
+    parameters: Parameters,
+) -> bool
+    ensures { λ r. ⌜ r ≡ panelSound parameters (panelOf (now (outputs .entry)) (now (stations .entry)) kept) ⌝ }
 {
-    if !station_judging::counts_sound(outputs.len(), stations.len()) {
+    if !station_judging::counts_sound(parameters, outputs.len(), stations.len()) {
         return false;
     }
-    if !panel_tables::outputs_sound(outputs, time) {
+    if !panel_tables::outputs_sound(outputs, parameters, panel_record::time_of(kept)) {
         return false;
     }
     panel_tables::stations_sound(stations)
@@ -32,15 +39,16 @@ fn panel_sound(outputs: &[Output], stations: &[Station], time: u64) -> bool
 fn arrive(
     outputs: &mut [Output],
     stations: &mut [Station],
-    time: &mut u64,
+    kept: &mut PanelRecord,
     bytes: &[u8],
     call: Call,
 ) -> Answer
-    requires { ⌜ every (sound document01 (now time)) (now outputs) ≡ true ⌝ }
-    requires { ⌜ Arrival (now time) (length (now outputs)) (length (now stations)) (now bytes) call ⌝ }
-    ensures { λ a. ⌜ result (panelOf (now (outputs .exit)) (now (stations .exit)) (now (time .exit))) a ≡ execute (now (bytes .entry)) (panelOf (now (outputs .entry)) (now (stations .entry)) (now (time .entry))) (Verdict.Arrives call) ⌝ }
+    requires { ⌜ (now kept .time ≤ greatestCount → map (advance (now kept .time) (now kept .time)) (now outputs) ≡ now outputs) ⌝ }
+    requires { ⌜ Arrival (now kept .time) (length (now outputs)) (length (now stations)) (now bytes) call ⌝ }
+    ensures { λ a. ⌜ result (panelOf (now (outputs .exit)) (now (stations .exit)) (now (kept .exit))) a ≡ execute (now (bytes .entry)) (panelOf (now (outputs .entry)) (now (stations .entry)) (now (kept .entry))) (Verdict.Arrives call) ⌝ }
 {
-    let from = *time;
+    let before = *kept;
+    let from = panel_record::time_of(before);
     let moment = call.time;
     panel_tables::advance_outputs(outputs, from, moment);
     let request = call.request;
@@ -48,7 +56,8 @@ fn arrive(
     let record = station_frame::station_record(answer, call.number, bytes);
     let at = number_ranges::index(call.station);
     stations[at] = record;
-    *time = moment;
+    let after = panel_record::with_time(before, moment);
+    *kept = after;
     answer
 }
 
@@ -56,37 +65,41 @@ fn arrive(
 fn execute(
     outputs: &mut [Output],
     stations: &mut [Station],
-    time: &mut u64,
+    kept: &mut PanelRecord,
     bytes: &[u8],
     v: Verdict,
 ) -> Answer
-    requires { ⌜ every (sound document01 (now time)) (now outputs) ≡ true ⌝ }
-    requires { ⌜ VerdictPrecondition (now time) (length (now outputs)) (length (now stations)) (now bytes) v ⌝ }
-    ensures { λ a. ⌜ result (panelOf (now (outputs .exit)) (now (stations .exit)) (now (time .exit))) a ≡ execute (now (bytes .entry)) (panelOf (now (outputs .entry)) (now (stations .entry)) (now (time .entry))) v ⌝ }
+    requires { ⌜ (now kept .time ≤ greatestCount → map (advance (now kept .time) (now kept .time)) (now outputs) ≡ now outputs) ⌝ }
+    requires { ⌜ VerdictPrecondition (now kept .time) (length (now outputs)) (length (now stations)) (now bytes) v ⌝ }
+    ensures { λ a. ⌜ result (panelOf (now (outputs .exit)) (now (stations .exit)) (now (kept .exit))) a ≡ execute (now (bytes .entry)) (panelOf (now (outputs .entry)) (now (stations .entry)) (now (kept .entry))) v ⌝ }
 {
     match v {
         Verdict::TurnedDown(r) => Answer::Refused(r),
         Verdict::Copied(a) => a,
         Verdict::Clocked(t) => {
-            let from = *time;
+            let before = *kept;
+            let from = panel_record::time_of(before);
             panel_tables::advance_outputs(outputs, from, t);
-            *time = t;
+            let after = panel_record::with_time(before, t);
+            *kept = after;
             Answer::Done
         }
-        Verdict::Arrives(call) => arrive(outputs, stations, time, bytes, call),
+        Verdict::Arrives(call) => arrive(outputs, stations, kept, bytes, call),
     }
 }
 
 // Writes every lent record fresh and answers Done, or meets 1 by its counts alone.
-pub fn start(outputs: &mut [Output], stations: &mut [Station], time: &mut u64) -> Answer
-    ensures { λ a. ⌜ result (panelOf (now (outputs .exit)) (now (stations .exit)) (now (time .exit))) a ≡ startStep document01 (panelOf (now (outputs .entry)) (now (stations .entry)) (now (time .entry))) ⌝ }
+pub fn start(outputs: &mut [Output], stations: &mut [Station], kept: &mut PanelRecord) -> Answer
+    ensures { λ a. ⌜ result (panelOf (now (outputs .exit)) (now (stations .exit)) (now (kept .exit))) a ≡ startStep document01 (panelOf (now (outputs .entry)) (now (stations .entry)) (now (kept .entry))) ⌝ }
 {
-    if !station_judging::counts_sound(outputs.len(), stations.len()) {
+    let parameters = panel_record::document_01();
+    if !station_judging::counts_sound(parameters, outputs.len(), stations.len()) {
         return Answer::Refused(1);
     }
-    panel_tables::fresh_outputs(outputs);
+    panel_tables::fresh_outputs(outputs, parameters);
     panel_tables::fresh_stations(stations);
-    *time = 0;
+    let record = panel_record::fresh_record();
+    *kept = record;
     Answer::Done
 }
 
@@ -94,15 +107,16 @@ pub fn start(outputs: &mut [Output], stations: &mut [Station], time: &mut u64) -
 pub fn frame(
     outputs: &mut [Output],
     stations: &mut [Station],
-    time: &mut u64,
+    kept: &mut PanelRecord,
     bytes: &[u8],
 ) -> Answer
-    ensures { λ a. ⌜ result (panelOf (now (outputs .exit)) (now (stations .exit)) (now (time .exit))) a ≡ frameStep document01 (panelOf (now (outputs .entry)) (now (stations .entry)) (now (time .entry))) (now (bytes .entry)) ⌝ }
+    ensures { λ a. ⌜ result (panelOf (now (outputs .exit)) (now (stations .exit)) (now (kept .exit))) a ≡ frameStep document01 (panelOf (now (outputs .entry)) (now (stations .entry)) (now (kept .entry))) (now (bytes .entry)) ⌝ }
 {
-    let t = *time;
-    if !panel_sound(outputs, stations, t) {
+    let record = *kept;
+    let parameters = panel_record::document_01();
+    if !panel_sound(outputs, stations, record, parameters) {
         return Answer::Refused(1);
     }
-    let verdict = panel_tables::decide(outputs, stations, t, bytes);
-    execute(outputs, stations, time, bytes, verdict)
+    let verdict = panel_tables::decide(outputs, stations, record, parameters, bytes);
+    execute(outputs, stations, kept, bytes, verdict)
 }

@@ -5,10 +5,10 @@ ghost use mathlib.Core.List.{map};
 ghost use mathlib.Core.Path.{_≡_};
 ghost use Prim.Native.Nat.{_≤_, _<_, _^_};
 ghost use lib.ListN.{length, replicate, set, getD};
-ghost use Rattle.lighting_outputs.specs.Paper.Parameters.{document01};
-ghost use Rattle.lighting_outputs.specs.Paper.Fresh.{freshOutput};
+ghost use Rattle.lighting_outputs.specs.Paper.Startable.{startable};
+ghost use Rattle.lighting_outputs.specs.Paper.Fresh.{freshFor, freshOutput};
 ghost use Rattle.lighting_frames.specs.Paper.Stations.{freshStation, stationSound};
-ghost use Rattle.lighting_outputs.specs.Engine.Advance.{advance};
+ghost use Rattle.lighting_outputs.specs.Engine.Advance.{greatestCount, advance};
 ghost use Rattle.lighting_outputs.specs.Paper.Rules.{sound};
 ghost use Rattle.lighting_outputs.specs.Paper.Acting.{served};
 ghost use Rattle.lighting_levels.specs.Paper.Choice.{every};
@@ -19,14 +19,16 @@ use lighting_frames::Verdict;
 use lighting_outputs::Answer;
 use lighting_outputs::Output;
 use lighting_outputs::OutputRequest;
+use lighting_outputs::Parameters;
 use lighting_outputs::Request;
+use lighting_panel::PanelRecord;
 
 // ---- each record of a table
 
-pub fn fresh_outputs(outputs: &mut [Output])
-    ensures { λ _. ⌜ now (outputs .exit) ≡ replicate (length (now (outputs .entry))) freshOutput ⌝ }
+pub fn fresh_outputs(outputs: &mut [Output], parameters: Parameters)
+    ensures { λ _. ⌜ now (outputs .exit) ≡ replicate (length (now (outputs .entry))) (freshFor parameters) ⌝ }
 {
-    let fresh = output_fresh::fresh_output();
+    let fresh = output_fresh::fresh_output(parameters);
     let mut i: usize = 0;
     while i < outputs.len() {
         outputs[i] = fresh;
@@ -45,13 +47,13 @@ pub fn fresh_stations(stations: &mut [Station])
     }
 }
 
-pub fn outputs_sound(outputs: &[Output], t: u64) -> bool
-    ensures { λ r. ⌜ r ≡ every (sound document01 t) (now (outputs .entry)) ⌝ }
+pub fn outputs_sound(outputs: &[Output], parameters: Parameters, t: u64) -> bool
+    ensures { λ r. ⌜ r ≡ every (sound parameters t) (now (outputs .entry)) ⌝ }
 {
     let mut i: usize = 0;
     while i < outputs.len() {
         let o = outputs[i];
-        if !output_rules::is_sound(t, o) {
+        if !output_rules::is_sound(parameters, t, o) {
             return false;
         }
         i += 1;
@@ -109,7 +111,7 @@ fn advance_output(outputs: &mut [Output], i: usize, from: u64, to: u64)
 
 // Brings every output to a moment. While time stands nothing falls due, and no record is written.
 pub fn advance_outputs(outputs: &mut [Output], from: u64, to: u64)
-    requires { ⌜ every (sound document01 from) (now outputs) ≡ true ⌝ }
+    requires { ⌜ (from ≤ greatestCount → map (advance from from) (now outputs) ≡ now outputs) ⌝ }
     requires { ⌜ from ≤ to ⌝ }
     ensures { λ _. ⌜ now (outputs .exit) ≡ map (advance from to) (now (outputs .entry)) ⌝ }
 {
@@ -153,12 +155,19 @@ pub fn serve(outputs: &mut [Output], time: u64, at: usize, request: Request) -> 
 }
 
 // What is to be done with the bytes, by the record of the station that they name.
-pub fn decide(outputs: &[Output], stations: &[Station], time: u64, bytes: &[u8]) -> Verdict
-    requires { ⌜ length (now stations) ≡ document01 .stations ⌝ }
-    ensures { λ v. ⌜ v ≡ decide document01 (panelOf (now (outputs .entry)) (now (stations .entry)) time) (now (bytes .entry)) ⌝ }
+pub fn decide(
+    outputs: &[Output],
+    stations: &[Station],
+    kept: PanelRecord,
+    parameters: Parameters,
+    bytes: &[u8],
+) -> Verdict
+    requires { ⌜ startable parameters ≡ true ⌝ }
+    requires { ⌜ length (now stations) ≡ parameters .stations ⌝ }
+    ensures { λ v. ⌜ v ≡ decide parameters (panelOf (now (outputs .entry)) (now (stations .entry)) kept) (now (bytes .entry)) ⌝ }
 {
-    let f = frame_parse::parse(outputs.len(), bytes);
+    let f = frame_parse::parse(parameters, outputs.len(), bytes);
     let at = number_ranges::index(station_judging::station_of(f));
     let record = stations[at];
-    station_judging::judge_by_station(time, record, bytes, f)
+    station_judging::judge_by_station(panel_record::time_of(kept), record, bytes, f)
 }

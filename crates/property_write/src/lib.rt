@@ -4,8 +4,8 @@ pub mod settings;
 pub mod values;
 
 ghost use mathlib.Core.Path.{_≡_};
-ghost use Rattle.lighting_outputs.specs.Paper.Parameters.{document01};
 ghost use Rattle.lighting_outputs.specs.Paper.Properties.{propertyOf, numberOf, same, changeOf};
+use lighting_outputs::Parameters;
 use lighting_outputs::Property;
 use lighting_outputs::Request;
 use number_ranges::rows;
@@ -88,8 +88,8 @@ pub fn is_same(n: Property, m: Property) -> bool
 }
 
 // Kind 04, a write, by the property's row and the value's 32 bits.
-pub fn change_of(p: Property, x: u32) -> Request
-    ensures { λ r. ⌜ r ≡ changeOf document01 p x ⌝ }
+pub fn change_of(parameters: Parameters, p: Property, x: u32) -> Request
+    ensures { λ r. ⌜ r ≡ changeOf parameters p x ⌝ }
 {
-    values::change_by(rows::row_of(p), p, x)
+    values::change_by(rows::row_of(parameters, p), p, x)
 }

@@ -19,6 +19,7 @@ use Rattle.lighting_outputs.specs.declared.Answer.the-variants.{Done}
 use Rattle.lighting_outputs.specs.declared.Output.{Output}
 use Rattle.lighting_frames.specs.declared.Verdict.{Verdict}
 use Rattle.lighting_frames.specs.declared.Verdict.the-variants.{TurnedDown, Copied, Clocked, Arrives}
+use Rattle.lighting_outputs.proofs.Rules.Startable.{document01-startable}
 use Rattle.lighting_levels.proofs.Split.{by-bool, leb-yes}
 use Rattle.lighting_panel.proofs.Table.{served-length}
 use Rattle.lighting_panel.proofs.Calls.{once}
@@ -39,10 +40,10 @@ execute-count : (b : Bytes) (e : Panel) (v : Verdict) → length (execute b e v 
 unfolding execute
 execute-count b e (TurnedDown r) = refl
 execute-count b e (Copied a) = refl
-execute-count b e (Clocked t) = length-map (e .outputs) (advance (e .time) t)
+execute-count b e (Clocked t) = length-map (e .outputs) (advance (e .kept .time) t)
 execute-count b e (Arrives call) =
-    served-length (call .time) (map (advance (e .time) (call .time)) (e .outputs)) (call .output) (call .request)
-    ∙ length-map (e .outputs) (advance (e .time) (call .time))
+    served-length (call .time) (map (advance (e .kept .time) (call .time)) (e .outputs)) (call .output) (call .request)
+    ∙ length-map (e .outputs) (advance (e .kept .time) (call .time))
 
 frameStep-count : (e : Panel) (b : Bytes) → length (frameStep document01 e b .panel .outputs) ≡ length (e .outputs)
 unfolding frameStep if_then_else_
@@ -62,7 +63,7 @@ module _ (n : ℕ) (p : Panel) (h : n ≤ length (p .outputs)) where
 
   module _ (q : Panel) (k : length (q .outputs) ≡ length (first n p .outputs)) where
     first-joined : first n (rejoined n p q) ≡ q
-    first-joined = ap (λ (l : List Output). panelOf l (q .stations) (q .time)) (take-at (q .outputs) (drop n (p .outputs)) n (k ∙ first-count))
+    first-joined = ap (λ (l : List Output). panelOf l (q .stations) (q .kept)) (take-at (q .outputs) (drop n (p .outputs)) n (k ∙ first-count))
 
     joined-count : n ≤ length (rejoined n p q .outputs)
     joined-count = omega (arith, length-append (q .outputs) (drop n (p .outputs)), k, first-count)
@@ -152,15 +153,15 @@ unfolding startStep countsSound if_then_else_
 starts n p i k h e = rw (first-count n p h, leb-yes {a = 1} {b = n} i, leb-yes {a = n} {b = 64} k, e)
 
 pub found-by-text : (n : ℕ) (p : Panel) (l : List Bytes) (t : Bytes) → Listing n l t → n ≤ length (p .outputs) → length (p .stations) ≡ 8 →
-    foundIn (first n (finished p t)) ≡ foundPlain (plainAfter document01 (plainStart n) l .panel)
+    foundIn (first n (finished p t)) ≡ foundPlain (plainAfter document01 (plainStart document01 n) l .panel)
 unfolding finished
 found-by-text n p l t m h e =
     let c = listing-in-range m in
     ap foundIn (listed-whole p m start-fresh h)
-    ∙ finds (first n p) l l (once [] l) (demand-3 (first n p) l l (once [] l) (c .strings) (starts n p (c .least) (c .most) h e))
-    ∙ ap (λ (i : ℕ). foundPlain (plainAfter document01 (plainStart i) l .panel)) (first-count n p h)
+    ∙ finds document01 (first n p) l l (once [] l) (demand-3 document01 document01-startable (first n p) l l (once [] l) (c .strings) (starts n p (c .least) (c .most) h e))
+    ∙ ap (λ (i : ℕ). foundPlain (plainAfter document01 (plainStart document01 i) l .panel)) (first-count n p h)
 
 -- and so it is after the session, by its contract, where the text that came is such a one
 pub found-by-session : (n : ℕ) (p q : Panel) (l : List Bytes) (r : Replayed p q) → Listing n l (r .came) → n ≤ length (p .outputs) → length (p .stations) ≡ 8 →
-    foundIn (first n q) ≡ foundPlain (plainAfter document01 (plainStart n) l .panel)
+    foundIn (first n q) ≡ foundPlain (plainAfter document01 (plainStart document01 n) l .panel)
 found-by-session n p q l r m h e = rw (r .panel) (found-by-text n p l (r .came) m h e)

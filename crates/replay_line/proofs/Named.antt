@@ -8,6 +8,7 @@ use lib.Seq.{take-all}
 use Rattle.lighting_levels.proofs.Split.{by-le}
 use Rattle.lighting_panel.specs.Paper.Panel.{Panel, panelOf}
 use Rattle.lighting_outputs.specs.declared.Output.{Output}
+use Rattle.lighting_panel.specs.declared.PanelRecord.{PanelRecord}
 use Rattle.lighting_frames.specs.declared.Station.{Station}
 use Rattle.replay_line.specs.Taking.{first, rejoined}
 
@@ -25,7 +26,7 @@ part-left n k l e =
 
 -- an operation on that part is one on the panel of the first n outputs, and the rest stands by
 pub part-joined :
-    (op : Panel → Panel) (n k : ℕ) (o : List Output) (s : List Station) (t : ℕ) (q : Panel) → k ≡ min n (length o) →
+    (op : Panel → Panel) (n k : ℕ) (o : List Output) (s : List Station) (t : PanelRecord) (q : Panel) → k ≡ min n (length o) →
     q ≡ op (panelOf (take (k - 0) o) s t) →
-    panelOf (q .outputs ++ drop (k - 0) o) (q .stations) (q .time) ≡ rejoined n (panelOf o s t) (op (first n (panelOf o s t)))
+    panelOf (q .outputs ++ drop (k - 0) o) (q .stations) (q .kept) ≡ rejoined n (panelOf o s t) (op (first n (panelOf o s t)))
 part-joined op n k o s t q e p = rw (p, part-taken n k o e, part-left n k o e)

@@ -20,11 +20,11 @@ use Rattle.text_faults.specs.Faults.{faultLine}
 
 -- the panel of the first n outputs
 abbrev pub first : ℕ → Panel → Panel
-first n p = panelOf (take n (p .outputs)) (p .stations) (p .time)
+first n p = panelOf (take n (p .outputs)) (p .stations) (p .kept)
 
 -- that panel q after an operation, and the outputs that stand by
 abbrev pub rejoined : ℕ → Panel → Panel → Panel
-rejoined n p q = panelOf (q .outputs ++ drop n (p .outputs)) (q .stations) (q .time)
+rejoined n p q = panelOf (q .outputs ++ drop n (p .outputs)) (q .stations) (q .kept)
 
 -- `outputs N`: the panel of the first N outputs starts
 unfoldable pub begun : ℕ → Panel → Panel

@@ -10,6 +10,7 @@ ghost use Rattle.replay_line.specs.Taking.{begun, sent, taken};
 use lighting_frames::Station;
 use lighting_outputs::Answer;
 use lighting_outputs::Output;
+use lighting_panel::PanelRecord;
 use text_reading::BYTES_KEPT;
 use text_reading::Line;
 use text_reading::Reader;
@@ -22,59 +23,59 @@ pub struct Ended {
 }
 
 // `outputs N`: the panel of the first N outputs starts.
-fn start(outputs: &mut [Output], stations: &mut [Station], time: &mut u64, n: u8)
-    ensures { λ _. ⌜ panelOf (now (outputs .exit)) (now (stations .exit)) (now (time .exit)) ≡ begun n (panelOf (now (outputs .entry)) (now (stations .entry)) (now (time .entry))) ⌝ }
+fn start(outputs: &mut [Output], stations: &mut [Station], kept: &mut PanelRecord, n: u8)
+    ensures { λ _. ⌜ panelOf (now (outputs .exit)) (now (stations .exit)) (now (kept .exit)) ≡ begun n (panelOf (now (outputs .entry)) (now (stations .entry)) (now (kept .entry))) ⌝ }
 {
     let named = number_ranges::least(number_ranges::index(n), outputs.len());
-    panel::start(&mut outputs[0..named], stations, time);
+    panel::start(&mut outputs[0..named], stations, kept);
 }
 
 // The bytes go to that panel: the first `count` of those that the reader keeps.
 fn frame(
     outputs: &mut [Output],
     stations: &mut [Station],
-    time: &mut u64,
+    kept: &mut PanelRecord,
     bytes: &[u8; BYTES_KEPT],
     count: usize,
     n: u8,
 ) -> Answer
-    ensures { λ a. ⌜ a ≡ sent n (take count (now (bytes .entry))) (panelOf (now (outputs .entry)) (now (stations .entry)) (now (time .entry))) .answer ⌝ }
-    ensures { λ _. ⌜ panelOf (now (outputs .exit)) (now (stations .exit)) (now (time .exit)) ≡ sent n (take count (now (bytes .entry))) (panelOf (now (outputs .entry)) (now (stations .entry)) (now (time .entry))) .panel ⌝ }
+    ensures { λ a. ⌜ a ≡ sent n (take count (now (bytes .entry))) (panelOf (now (outputs .entry)) (now (stations .entry)) (now (kept .entry))) .answer ⌝ }
+    ensures { λ _. ⌜ panelOf (now (outputs .exit)) (now (stations .exit)) (now (kept .exit)) ≡ sent n (take count (now (bytes .entry))) (panelOf (now (outputs .entry)) (now (stations .entry)) (now (kept .entry))) .panel ⌝ }
 {
     let named = number_ranges::least(number_ranges::index(n), outputs.len());
-    let kept = &bytes[..];
-    let held = number_ranges::least(count, kept.len());
-    panel::frame(&mut outputs[0..named], stations, time, &kept[0..held])
+    let all = &bytes[..];
+    let held = number_ranges::least(count, all.len());
+    panel::frame(&mut outputs[0..named], stations, kept, &all[0..held])
 }
 
 fn answer(
     outputs: &mut [Output],
     stations: &mut [Station],
-    time: &mut u64,
+    kept: &mut PanelRecord,
     page: &mut [u8],
     mark: usize,
     r: Reader,
 ) -> usize
-    ensures { λ m. ⌜ Wrote (now (page .entry)) mark (answerLine (sent (r .outputs) (content r) (panelOf (now (outputs .entry)) (now (stations .entry)) (now (time .entry))) .answer)) (now (page .exit)) m ⌝ }
-    ensures { λ _. ⌜ panelOf (now (outputs .exit)) (now (stations .exit)) (now (time .exit)) ≡ sent (r .outputs) (content r) (panelOf (now (outputs .entry)) (now (stations .entry)) (now (time .entry))) .panel ⌝ }
+    ensures { λ m. ⌜ Wrote (now (page .entry)) mark (answerLine (sent (r .outputs) (content r) (panelOf (now (outputs .entry)) (now (stations .entry)) (now (kept .entry))) .answer)) (now (page .exit)) m ⌝ }
+    ensures { λ _. ⌜ panelOf (now (outputs .exit)) (now (stations .exit)) (now (kept .exit)) ≡ sent (r .outputs) (content r) (panelOf (now (outputs .entry)) (now (stations .entry)) (now (kept .entry))) .panel ⌝ }
 {
     let bytes = r.bytes;
-    let a = frame(outputs, stations, time, &bytes, r.count, r.outputs);
+    let a = frame(outputs, stations, kept, &bytes, r.count, r.outputs);
     text_printing::put_answer(page, mark, a)
 }
 
 pub fn take_line(
     outputs: &mut [Output],
     stations: &mut [Station],
-    time: &mut u64,
+    kept: &mut PanelRecord,
     page: &mut [u8],
     mark: usize,
     r: Reader,
 ) -> Ended
-    ensures { λ t. ⌜ t .reader ≡ taken (panelOf (now (outputs .entry)) (now (stations .entry)) (now (time .entry))) r .reader ⌝ }
-    ensures { λ t. ⌜ t .good ≡ taken (panelOf (now (outputs .entry)) (now (stations .entry)) (now (time .entry))) r .good ⌝ }
-    ensures { λ t. ⌜ Wrote (now (page .entry)) mark (taken (panelOf (now (outputs .entry)) (now (stations .entry)) (now (time .entry))) r .text) (now (page .exit)) (t .mark) ⌝ }
-    ensures { λ _. ⌜ panelOf (now (outputs .exit)) (now (stations .exit)) (now (time .exit)) ≡ taken (panelOf (now (outputs .entry)) (now (stations .entry)) (now (time .entry))) r .panel ⌝ }
+    ensures { λ t. ⌜ t .reader ≡ taken (panelOf (now (outputs .entry)) (now (stations .entry)) (now (kept .entry))) r .reader ⌝ }
+    ensures { λ t. ⌜ t .good ≡ taken (panelOf (now (outputs .entry)) (now (stations .entry)) (now (kept .entry))) r .good ⌝ }
+    ensures { λ t. ⌜ Wrote (now (page .entry)) mark (taken (panelOf (now (outputs .entry)) (now (stations .entry)) (now (kept .entry))) r .text) (now (page .exit)) (t .mark) ⌝ }
+    ensures { λ _. ⌜ panelOf (now (outputs .exit)) (now (stations .exit)) (now (kept .exit)) ≡ taken (panelOf (now (outputs .entry)) (now (stations .entry)) (now (kept .entry))) r .panel ⌝ }
 {
     let held = r.held;
     let number = r.line;
@@ -87,7 +88,7 @@ pub fn take_line(
             good: true,
         },
         Line::Outputs(n) => {
-            start(outputs, stations, time, n);
+            start(outputs, stations, kept, n);
             let named = text_reading::with_outputs(next, n);
             Ended {
                 reader: named,
@@ -96,7 +97,7 @@ pub fn take_line(
             }
         }
         Line::Frame => {
-            let m = answer(outputs, stations, time, page, mark, r);
+            let m = answer(outputs, stations, kept, page, mark, r);
             Ended {
                 reader: next,
                 mark: m,

@@ -9,6 +9,7 @@ ghost use Rattle.text_reading.specs.Reading.{freshReader};
 ghost use Rattle.replay_line.specs.Taking.{taken, through, Went, Replayed};
 use lighting_frames::Station;
 use lighting_outputs::Output;
+use lighting_panel::PanelRecord;
 use text_reading::Reader;
 
 // After some of the list: the reader, the page's mark, whether more of the list may come, and whether all lines were good.
@@ -25,15 +26,15 @@ struct Turn {
 fn take_chunk(
     outputs: &mut [Output],
     stations: &mut [Station],
-    time: &mut u64,
+    kept: &mut PanelRecord,
     page: &mut [u8],
     mark: usize,
     r: Reader,
     s: &[u8],
 ) -> Turn
-    ensures { λ t. ⌜ t .reader ≡ through (panelOf (now (outputs .entry)) (now (stations .entry)) (now (time .entry))) r (now (s .entry)) .reader ⌝ }
-    ensures { λ t. ⌜ t .good ≡ through (panelOf (now (outputs .entry)) (now (stations .entry)) (now (time .entry))) r (now (s .entry)) .good ⌝ }
-    ensures { λ _. ⌜ panelOf (now (outputs .exit)) (now (stations .exit)) (now (time .exit)) ≡ through (panelOf (now (outputs .entry)) (now (stations .entry)) (now (time .entry))) r (now (s .entry)) .panel ⌝ }
+    ensures { λ t. ⌜ t .reader ≡ through (panelOf (now (outputs .entry)) (now (stations .entry)) (now (kept .entry))) r (now (s .entry)) .reader ⌝ }
+    ensures { λ t. ⌜ t .good ≡ through (panelOf (now (outputs .entry)) (now (stations .entry)) (now (kept .entry))) r (now (s .entry)) .good ⌝ }
+    ensures { λ _. ⌜ panelOf (now (outputs .exit)) (now (stations .exit)) (now (kept .exit)) ≡ through (panelOf (now (outputs .entry)) (now (stations .entry)) (now (kept .entry))) r (now (s .entry)) .panel ⌝ }
 {
     let mut reader = r;
     let mut at = mark;
@@ -45,7 +46,7 @@ fn take_chunk(
         i = fed.next;
         if i < s.len() {
             i += 1;
-            let t = replay_line::take_line(outputs, stations, time, page, at, reader);
+            let t = replay_line::take_line(outputs, stations, kept, page, at, reader);
             let next = t.reader;
             reader = next;
             at = text_found::with_room(page, t.mark);
@@ -71,13 +72,13 @@ fn take_chunk(
 fn take_some(
     outputs: &mut [Output],
     stations: &mut [Station],
-    time: &mut u64,
+    kept: &mut PanelRecord,
     page: &mut [u8],
     chunk: &mut [u8],
     mark: usize,
     r: Reader,
 ) -> Turn
-    ensures { λ t. ⌜ Went (panelOf (now (outputs .entry)) (now (stations .entry)) (now (time .entry))) r (panelOf (now (outputs .exit)) (now (stations .exit)) (now (time .exit))) (t .reader) (t .good) ⌝ }
+    ensures { λ t. ⌜ Went (panelOf (now (outputs .entry)) (now (stations .entry)) (now (kept .entry))) r (panelOf (now (outputs .exit)) (now (stations .exit)) (now (kept .exit))) (t .reader) (t .good) ⌝ }
 {
     let got = libc::read(0, chunk);
     let n = io::count(got, chunk);
@@ -89,25 +90,25 @@ fn take_some(
             good: true,
         };
     }
-    take_chunk(outputs, stations, time, page, mark, r, &chunk[0..n])
+    take_chunk(outputs, stations, kept, page, mark, r, &chunk[0..n])
 }
 
 // All of it. A proved loop has to end, and nothing says that the input does: the turns are counted down from a number that no run uses up.
 fn take_all(
     outputs: &mut [Output],
     stations: &mut [Station],
-    time: &mut u64,
+    kept: &mut PanelRecord,
     page: &mut [u8],
     chunk: &mut [u8],
 ) -> Turn
-    ensures { λ t. ⌜ Went (panelOf (now (outputs .entry)) (now (stations .entry)) (now (time .entry))) freshReader (panelOf (now (outputs .exit)) (now (stations .exit)) (now (time .exit))) (t .reader) (t .good) ⌝ }
+    ensures { λ t. ⌜ Went (panelOf (now (outputs .entry)) (now (stations .entry)) (now (kept .entry))) freshReader (panelOf (now (outputs .exit)) (now (stations .exit)) (now (kept .exit))) (t .reader) (t .good) ⌝ }
 {
     let mut reader = text_reading::fresh_reader();
     let mut mark: usize = 0;
     let mut turns: u64 = 18446744073709551615;
     while 0 < turns {
         turns -= 1;
-        let t = take_some(outputs, stations, time, page, chunk, mark, reader);
+        let t = take_some(outputs, stations, kept, page, chunk, mark, reader);
         let next = t.reader;
         reader = next;
         mark = t.mark;
@@ -150,18 +151,27 @@ fn put_end(
 fn end_list(
     outputs: &mut [Output],
     stations: &mut [Station],
-    time: &mut u64,
+    kept: &mut PanelRecord,
     page: &mut [u8],
     mark: usize,
     r: Reader,
     report: bool,
 ) -> usize
-    ensures { λ _. ⌜ panelOf (now (outputs .exit)) (now (stations .exit)) (now (time .exit)) ≡ taken (panelOf (now (outputs .entry)) (now (stations .entry)) (now (time .entry))) r .panel ⌝ }
+    ensures { λ _. ⌜ panelOf (now (outputs .exit)) (now (stations .exit)) (now (kept .exit)) ≡ taken (panelOf (now (outputs .entry)) (now (stations .entry)) (now (kept .entry))) r .panel ⌝ }
 {
-    let t = replay_line::take_line(outputs, stations, time, page, mark, r);
+    let t = replay_line::take_line(outputs, stations, kept, page, mark, r);
     if t.good {
         let last = t.reader;
-        put_end(outputs, *time, page, t.mark, report, r.line, last)
+        let record = *kept;
+        put_end(
+            outputs,
+            panel_record::time_of(record),
+            page,
+            t.mark,
+            report,
+            r.line,
+            last,
+        )
     } else {
         t.mark
     }
@@ -170,17 +180,17 @@ fn end_list(
 fn replay(
     outputs: &mut [Output],
     stations: &mut [Station],
-    time: &mut u64,
+    kept: &mut PanelRecord,
     page: &mut [u8],
     chunk: &mut [u8],
     report: bool,
 )
-    ensures { λ _. ⌜ Replayed (panelOf (now (outputs .entry)) (now (stations .entry)) (now (time .entry))) (panelOf (now (outputs .exit)) (now (stations .exit)) (now (time .exit))) ⌝ }
+    ensures { λ _. ⌜ Replayed (panelOf (now (outputs .entry)) (now (stations .entry)) (now (kept .entry))) (panelOf (now (outputs .exit)) (now (stations .exit)) (now (kept .exit))) ⌝ }
 {
-    let t = take_all(outputs, stations, time, page, chunk);
+    let t = take_all(outputs, stations, kept, page, chunk);
     if t.good {
         let reader = t.reader;
-        let mark = end_list(outputs, stations, time, page, t.mark, reader, report);
+        let mark = end_list(outputs, stations, kept, page, t.mark, reader, report);
         text_found::flush(page, mark);
     } else {
         text_found::flush(page, t.mark);
@@ -189,17 +199,17 @@ fn replay(
 
 // Over tables of its own, which the panel is lent: 64 outputs, of which the list names how many there are, and eight stations.
 pub fn run(report: bool) {
-    let output = output_fresh::fresh_output();
+    let output = output_fresh::fresh_output(panel_record::document_01());
     let mut outputs = [output; 64];
     let record = output_fresh::fresh_station();
     let mut stations = [record; 8];
-    let mut time: u64 = 0;
+    let mut kept = panel_record::fresh_record();
     let mut page = io::large_buffer();
     let mut chunk = io::large_buffer();
     replay(
         &mut outputs,
         &mut stations,
-        &mut time,
+        &mut kept,
         &mut page,
         &mut chunk,
         report,

@@ -1,6 +1,5 @@
 // How a frame is judged by its station's record; the counts of a panel, and a station's record rule. One record at a time, by value.
 ghost use mathlib.Core.Path.{_≡_};
-ghost use Rattle.lighting_outputs.specs.Paper.Parameters.{document01};
 ghost use Rattle.lighting_frames.specs.Paper.Stations.{stationSound};
 ghost use Rattle.lighting_frames.specs.Paper.Copies.{sameBytes, retransmissionOrConflict};
 ghost use Rattle.lighting_panel.specs.Paper.Panel.{countsSound};
@@ -9,15 +8,20 @@ use lighting_frames::Call;
 use lighting_frames::Frame;
 use lighting_frames::Station;
 use lighting_frames::Verdict;
+use lighting_outputs::Parameters;
 
 // ---- the counts, and a station's record rule
 
-// 0 or over 64 outputs, or station records not eight, is refusal 1.
-pub fn counts_sound(outputs: usize, stations: usize) -> bool
-    ensures { λ r. ⌜ r ≡ countsSound document01 outputs stations ⌝ }
+// 0 outputs or more than the set has, or other station records than it has, is refusal 1.
+pub fn counts_sound(parameters: Parameters, outputs: usize, stations: usize) -> bool
+    ensures { λ r. ⌜ r ≡ countsSound parameters outputs stations ⌝ }
 {
     if 1 <= outputs {
-        if outputs <= 64 { stations == 8 } else { false }
+        if outputs <= parameters.outputs as usize {
+            stations == parameters.stations as usize
+        } else {
+            false
+        }
     } else {
         false
     }

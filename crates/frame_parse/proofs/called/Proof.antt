@@ -5,6 +5,9 @@ use borrow.Author.Needs.{needs}
 use Rattle.frame_parse.proofs.called.Statement.{statement}
 use Rattle.frame_parse.proofs.called.Tie as tie
 
+cast-if1 : tie.Need-cast-if1
+cast-if1 c = search needs
+
 cast-if3 : tie.Need-cast-if3
 cast-if3 c = search needs
 
@@ -25,4 +28,4 @@ unfolding called
 returns-4 c = search (needs, ifs)
 
 pub called-spec : {M : Type 1} → statement M
-called-spec = tie.close (tie.spec cast-if3 returns returns-2 returns-3 returns-4)
+called-spec = tie.close (tie.spec cast-if1 cast-if3 returns returns-2 returns-3 returns-4)

@@ -31,7 +31,7 @@ OutOf low high n = n < low ⊎ high < n
 out-of : (low high n : ℕ) → OutOf low high n → within low high n ≡ false
 unfolding within if_then_else_
 out-of low high n (inl less) = rw (leb-no {a = low} {b = n} less)
-out-of low high n (inr more) = rw (leb-no {a = n} {b = high} more) (by-bool (leb low n) (λ e. rw e) (λ e. rw e))
+out-of low high n (inr more) = rw (leb-no {a = n} {b = high} more) (by-bool (leb low n) (λ test. rw test) (λ test. rw test))
 
 module _ (p : Parameters) where
   -- BOTH WRONG AT ONCE: the fields and the duration are any, good or bad
@@ -61,4 +61,4 @@ module _ (p : Parameters) where
   pub duration-last : (operation : Operation) (d : ℕ) → fieldsRefusal p (fieldsOf operation) ≡ 0 → 0 < d → OutOf 100 (p .duration) d
       → commandOf p operation (Time d) ≡ Refuse 12
   unfolding commandOf commandRequestBy commandWithDuration commandLasting if_then_else_
-  duration-last operation d good above out = rw (good, eqb-miss {a = d} {b = 0} (λ z. omega arith), out-of 100 (p .duration) d out)
+  duration-last operation d good above out = rw (good, eqb-miss {a = d} {b = 0} (λ none. omega arith), out-of 100 (p .duration) d out)

@@ -23,36 +23,36 @@ pub record OutsideAll (x : Float) : Type 0 where
 
 -- a REAL of the value minus a / c, a above 0
 pub negative : (x : Float) (a c : ℕ) → 0 < a → HasValue x true a c → OutsideAll x
-negative nan a c h v = absurd v
-negative (inf s) a c h v = absurd v
-negative (fin false m e) a c h v = absurd (false≢true (v .0))
-negative (fin true m e) a c h v = record { percent = above; limit = tt; amount = tt }
+negative nan a c some value = absurd value
+negative (inf s) a c some value = absurd value
+negative (fin false m e) a c some value = absurd (false≢true (value .0))
+negative (fin true m e) a c some value = record { percent = above; limit = tt; amount = tt }
   where
     above : 0 < m * up e
     above =
         by-eq (m * up e) 0
-        (λ z q. let none : 0 * c ≡ a * down e = rw z at (v .1) in absurd (omega (arith, mul-pos h (down-pos e))))
-        (λ z q. omega arith)
+        (λ none test. let zero-value : 0 * c ≡ a * down e = rw none at (value .1) in absurd (omega (arith, mul-pos some (down-pos e))))
+        (λ above-zero test. omega arith)
 
 -- NaN and the infinities
 special : (minus : Bool) (digits : ℕ) → OutsideAll (cond (eqb digits 0) (inf minus) nan)
 special minus digits =
     by-bool (eqb digits 0)
-    (λ e. rw e (record { percent = tt; limit = tt; amount = tt }))
-    (λ e. rw e (record { percent = tt; limit = tt; amount = tt }))
+    (λ test. rw test (record { percent = tt; limit = tt; amount = tt }))
+    (λ test. rw test (record { percent = tt; limit = tt; amount = tt }))
 
 pub exponent-all-ones : (b : ℕ) → b % 0x8000_0000 / 0x80_0000 ≡ 255 → OutsideAll (real b)
 unfolding real ofBits ofFields
-exponent-all-ones b h = rw h (special _ (b % 0x80_0000))
+exponent-all-ones b ones = rw ones (special _ (b % 0x80_0000))
 
 -- a sign, an exponent and digits that are not all 0
 signed : (field digits : ℕ) → 0 < field + digits → OutsideAll (ofFields binary32 true field digits)
 unfolding ofFields
-signed zero digits h = negative (odd 24 true digits 0 149) (digits * 2 ^ 0) (2 ^ 149) (omega arith) (odd-sign 24 true digits 0 149)
-signed (suc field) digits h =
+signed zero digits some = negative (odd 24 true digits 0 149) (digits * 2 ^ 0) (2 ^ 149) (omega arith) (odd-sign 24 true digits 0 149)
+signed (suc field) digits some =
     by-bool (eqb (suc field) 255)
-    (λ e. rw e (special true digits))
-    (λ e. rw e
+    (λ test. rw test (special true digits))
+    (λ test. rw test
     (negative (odd 24 true (0x80_0000 + digits) field 149) ((0x80_0000 + digits) * 2 ^ field) (2 ^ 149)
     (mul-pos (omega arith) (pow-pos field))
     (odd-sign 24 true (0x80_0000 + digits) field 149)))

@@ -17,20 +17,20 @@ use Rattle.lighting_panel.specs.Paper.Panel.{Panel, result, countsSound,
 use Rattle.lighting_panel.specs.Engine.Executing.{frameStep}
 use Rattle.lighting_outputs.specs.declared.Answer.the-variants.{Refused}
 
-also-no : (a b : Bool) → b ≡ false → (a also b) ≡ false
+also-no : (one other : Bool) → other ≡ false → (one also other) ≡ false
 unfolding if_then_else_
-also-no true b h = h
-also-no false b h = refl
+also-no true other fails = fails
+also-no false other fails = refl
 
-also-not : (a b : Bool) → a ≡ false → (a also b) ≡ false
+also-not : (one other : Bool) → one ≡ false → (one also other) ≡ false
 unfolding if_then_else_
-also-not a b h = rw h
+also-not one other fails = rw fails
 
 one-not : {A : Type 0} (test : A → Bool) (l : List A) (j : ℕ) (other : A) → j < length l → test (getD l j other) ≡ false → every test l ≡ false
 unfolding every
-one-not test [] j other h n = absurd (omega arith)
-one-not test (x ∷ l) zero other h n = also-not (test x) (every test l) n
-one-not test (x ∷ l) (suc j) other h n = also-no (test x) (every test l) (one-not test l j other (omega arith) n)
+one-not test [] j other inside fails = absurd (omega arith)
+one-not test (x ∷ l) zero other inside fails = also-not (test x) (every test l) fails
+one-not test (x ∷ l) (suc j) other inside fails = also-no (test x) (every test l) (one-not test l j other (omega arith) fails)
 
 module _ (p : Parameters) (e : Panel) (b : Bytes) where
   abbrev One : Type 0
@@ -38,17 +38,15 @@ module _ (p : Parameters) (e : Panel) (b : Bytes) where
 
   unsound : panelSound p e ≡ false → One
   unfolding frameStep if_then_else_
-  unsound h = rw h
+  unsound broken = rw broken
 
   pub bad-counts : countsSound p (length (e .outputs)) (length (e .stations)) ≡ false → One
-  bad-counts h = unsound (unfold panelSound in (also-not _ _ h))
+  bad-counts broken = unsound (unfold panelSound in (also-not _ _ broken))
 
   pub bad-output : (j : ℕ) → j < length (e .outputs) → sound p (e .kept .time) (getD (e .outputs) j freshOutput) ≡ false → One
-  bad-output j inside h =
-      let broken = one-not (sound p (e .kept .time)) (e .outputs) j freshOutput inside h in
-      unsound (unfold panelSound in (also-no _ _ (also-not _ _ broken)))
+  bad-output j inside broken =
+      unsound (unfold panelSound in (also-no _ _ (also-not _ _ (one-not (sound p (e .kept .time)) (e .outputs) j freshOutput inside broken))))
 
   pub bad-station : (j : ℕ) → j < length (e .stations) → stationSound (getD (e .stations) j freshStation) ≡ false → One
-  bad-station j inside h =
-      let broken = one-not stationSound (e .stations) j freshStation inside h in
-      unsound (unfold panelSound in (also-no _ _ (also-no _ _ broken)))
+  bad-station j inside broken =
+      unsound (unfold panelSound in (also-no _ _ (also-no _ _ (one-not stationSound (e .stations) j freshStation inside broken))))

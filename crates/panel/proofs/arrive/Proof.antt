@@ -11,17 +11,23 @@ use Rattle.panel.proofs.arrive.Proof.Tie as tie
 use Rattle.panel.proofs.Lent.arrive.Reads as reads
 use Rattle.panel.proofs.arrive.Proof.Lts as lts
 
+time-of-requires : tie.Need-time-of-requires
+time-of-requires c κs = search needs
+
 advance-outputs-requires : tie.Need-advance-outputs-requires
-advance-outputs-requires c κs = (c .before .before .before .pre .0, c .before .before .before .pre .1 .moment .due)
+advance-outputs-requires c κs =
+    let b = c .before .before .before .before in rw (c .before .time-of .ensures) (b .pre .0, b .pre .1 .moment .due)
 
 index-requires : tie.Need-index-requires
 index-requires c κs = search needs
 
 serve-requires : tie.Need-serve-requires
 serve-requires c κs =
-    let p = c .before .before .before .before .before .before .before .pre .1 in
-    let a = c .before .before .before .before .before .before .before .args in
-    (p .moment .time, omega (arith, p .output, ap length (c .before .before .before .advance-outputs .ensures), length-map (a .outputs .now) (advance (a .time .now) (a .call .time))))
+    let b = c .before .before .before .before .before .before .before .before in
+    let p = b .pre .1 in
+    let a = b .args in
+    let from = c .before .before .before .before .before .time-of .result in
+    (p .moment .time, omega (arith, p .output, ap length (c .before .before .before .advance-outputs .ensures), length-map (a .outputs .now) (advance from (a .call .time))))
 
 station-record-requires : tie.Need-station-record-requires
 station-record-requires c κs = search needs
@@ -35,6 +41,9 @@ mul-record c = search needs
 slice-set-from-record : tie.Need-slice-set-from-record
 slice-set-from-record c = search needs
 
+with-time-requires : tie.Need-with-time-requires
+with-time-requires c κs = search needs
+
 same-length : tie.Need-same-length
 same-length c = search needs
 
@@ -45,18 +54,21 @@ returns : tie.Need-returns
 unfolding execute
 returns c =
     simp (
-      c .index2 .ensures,
-      c .before .station-record .ensures,
-      c .before .before .before .serve .ensures .0,
-      c .before .before .before .serve .ensures .1,
-      c .before .before .before .before .index .ensures,
-      c .before .before .before .before .before .before .before .advance-outputs .ensures,
+      c .with-time .ensures,
+      c .before .index2 .ensures,
+      c .before .before .station-record .ensures,
+      c .before .before .before .before .serve .ensures .0,
+      c .before .before .before .before .serve .ensures .1,
+      c .before .before .before .before .before .index .ensures,
+      c .before .before .before .before .before .before .before .before .advance-outputs .ensures,
+      c .before .before .before .before .before .before .before .before .before .before .time-of .ensures,
     )
 
 pub arrive-spec : {M : Type 1} → statement M
 arrive-spec =
     tie.close
     (tie.spec
+    time-of-requires
     advance-outputs-requires
     index-requires
     serve-requires
@@ -64,6 +76,7 @@ arrive-spec =
     index-requires-2
     mul-record
     slice-set-from-record
+    with-time-requires
     same-length
     same-length-2
     returns)

@@ -16,6 +16,9 @@ returns : tie.Need-returns
 unfolding panelSound
 returns c = search (needs, ifs, not-true, not-false)
 
+time-of-requires : tie.Need-time-of-requires
+time-of-requires c κs = search needs
+
 outputs-sound-requires : tie.Need-outputs-sound-requires
 outputs-sound-requires c κs = search needs
 
@@ -36,6 +39,7 @@ panel-sound-spec =
     (tie.spec
     counts-sound-requires
     returns
+    time-of-requires
     outputs-sound-requires
     returns-2
     stations-sound-requires

@@ -8,7 +8,6 @@ use native.Mathlib.Omega.{arith}
 use lib.ListN.{length, length-set}
 use Rattle.lighting_outputs.specs.Paper.Fresh.{freshOutput}
 use Rattle.lighting_outputs.specs.Engine.Advance.{advance}
-use Rattle.lighting_panel.proofs.Carried.{all-stay}
 use Rattle.panel_tables.proofs.Loops.{mapped, mapped-more, mapped-all}
 use borrow.Author.Needs.{needs}
 use Rattle.panel_tables.proofs.advance_outputs.Statement.{statement}
@@ -27,7 +26,7 @@ returns : tie.Need-returns Inv-loop μ-loop
 returns c =
     let a = c .before .args in
     let e : a .to ≡ a .from = omega arith in
-    sym (ap (λ (t : ℕ). map (advance (a .from) t) (a .outputs .now)) e ∙ all-stay (a .from) (a .outputs .now) (omega arith) (c .before .pre .0))
+    sym (ap (λ (t : ℕ). map (advance (a .from) t) (a .outputs .now)) e ∙ c .before .pre .0 (omega arith))
 
 loop-holds : tie.Need-loop-holds Inv-loop μ-loop
 loop-holds c = search needs

@@ -4,7 +4,6 @@ use mathlib.Core.Path.{_≡_, ap, _∙_}
 use Prim.Native.Nat.{ℕ, _<_}
 use native.Mathlib.Omega.{arith}
 use lib.ListN.{length}
-use Rattle.lighting_outputs.specs.Paper.Parameters.{document01}
 use Rattle.lighting_frames.specs.Paper.Frames.{parse}
 use Rattle.lighting_panel.specs.Engine.Judging.{stationOf, decide}
 use Rattle.lighting_panel.proofs.Carried.{octets, station-found}
@@ -28,13 +27,13 @@ within : (c : tie.After-index) → c .index .result < length (c .before .before 
 within c =
     let a = c .before .before .before .before .args in
     let b = a .bytes .now in
-    let e : c .index .result ≡ stationOf (parse document01 (length (a .outputs .now)) b) =
+    let e : c .index .result ≡ stationOf (parse (a .parameters) (length (a .outputs .now)) b) =
     c .index .ensures ∙ c .before .station-of .ensures ∙ ap stationOf (c .before .before .parse .ensures) in
     omega (
       arith,
       e,
-      c .before .before .before .before .pre,
-      station-found (length (a .outputs .now)) b (octets b (λ (i : ℕ). omega (arith, c .before .before .before .shared-slice-known .given i))),
+      c .before .before .before .before .pre .1,
+      station-found (a .parameters) (c .before .before .before .before .pre .0) (length (a .outputs .now)) b (octets b (λ (i : ℕ). omega (arith, c .before .before .before .shared-slice-known .given i))),
     )
 
 mul-record : tie.Need-mul-record
@@ -43,12 +42,22 @@ mul-record c = let h = within c in search needs
 shared-slice-copy-out-record : tie.Need-shared-slice-copy-out-record
 shared-slice-copy-out-record c = within c
 
+time-of-requires : tie.Need-time-of-requires
+time-of-requires c κs = search needs
+
 judge-by-station-requires : tie.Need-judge-by-station-requires
 judge-by-station-requires c κs = search needs
 
 returns : tie.Need-returns
 unfolding decide
-returns c = simp (c .judge-by-station .ensures, c .before .before .index .ensures, c .before .before .before .station-of .ensures, c .before .before .before .before .parse .ensures)
+returns c =
+    simp (
+      c .judge-by-station .ensures,
+      c .before .time-of .ensures,
+      c .before .before .before .index .ensures,
+      c .before .before .before .before .station-of .ensures,
+      c .before .before .before .before .before .parse .ensures,
+    )
 
 pub decide-spec : {M : Type 1} → statement M
 decide-spec =
@@ -59,5 +68,6 @@ decide-spec =
     index-requires
     mul-record
     shared-slice-copy-out-record
+    time-of-requires
     judge-by-station-requires
     returns)

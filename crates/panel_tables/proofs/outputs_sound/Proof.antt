@@ -5,7 +5,6 @@ use Prim.Native.Nat.{_≤_, _-_}
 use native.Mathlib.Omega.{arith}
 use lib.ListN.{length, drop}
 use borrow.Author.Tests.{not-true, not-false}
-use Rattle.lighting_outputs.specs.Paper.Parameters.{document01}
 use Rattle.lighting_outputs.specs.Paper.Fresh.{freshOutput}
 use Rattle.lighting_outputs.specs.Paper.Rules.{sound}
 use Rattle.lighting_levels.specs.Paper.Choice.{every}
@@ -17,11 +16,11 @@ use Rattle.panel_tables.proofs.Lent.outputs_sound.Reads as reads
 use Rattle.panel_tables.proofs.outputs_sound.Proof.Lts as lts
 
 abbrev Inv-loop : tie.InvT-loop
-Inv-loop outputs t i₀ i =
-    (i ≤ length outputs) × (every (sound document01 t) outputs ≡ every (sound document01 t) (drop i outputs))
+Inv-loop outputs parameters t i₀ i =
+    (i ≤ length outputs) × (every (sound parameters t) outputs ≡ every (sound parameters t) (drop i outputs))
 
 abbrev μ-loop : tie.MeasureT-loop
-μ-loop outputs t i₀ i = length outputs - i
+μ-loop outputs parameters t i₀ i = length outputs - i
 
 loop-holds : tie.Need-loop-holds Inv-loop μ-loop
 loop-holds c = search needs

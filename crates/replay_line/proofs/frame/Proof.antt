@@ -60,7 +60,7 @@ returns c =
     let e : k ≡ min (a .n) (length (a .outputs .now)) = rw (← c .before .before .before .before .before .before .before .before .before .before .index .ensures) (c .before .before .before .before .before .before .before .before .before .least .ensures) in
     let d : take (h - 0) (a .bytes .now) ≡ take (a .count) (a .bytes .now) = part-taken (a .count) h (a .bytes .now) (c .before .before .before .before .before .before .before .least2 .ensures) in (
       rw (← part-taken (a .n) k (a .outputs .now) e, ← d) (ap (λ (x : Step). x .answer) (f .ensures)),
-      rw (← d) (part-joined (λ (p : Panel). frameStep document01 p (take (h - 0) (a .bytes .now)) .panel) (a .n) k (a .outputs .now) (a .stations .now) (a .time .now) (panelOf (f .last .0) (f .last .1 .0) (f .last .1 .1 .0)) e (ap (λ (x : Step). x .panel) (f .ensures))),
+      rw (← d) (part-joined (λ (p : Panel). frameStep document01 p (take (h - 0) (a .bytes .now)) .panel) (a .n) k (a .outputs .now) (a .stations .now) (a .kept .now) (panelOf (f .last .0) (f .last .1 .0) (f .last .1 .1 .0)) e (ap (λ (x : Step). x .panel) (f .ensures))),
     )
 
 pub frame-spec : {M : Type 1} → statement M

@@ -44,7 +44,7 @@ returns c =
     let k = c .before .before .before .before .before .before .least .result in
     let s = c .before .before .start in
     let e : k ≡ min (a .n) (length (a .outputs .now)) = rw (← c .before .before .before .before .before .before .before .index .ensures) (c .before .before .before .before .before .before .least .ensures) in
-    part-joined (λ (p : Panel). startStep document01 p .panel) (a .n) k (a .outputs .now) (a .stations .now) (a .time .now) (panelOf (s .last .0) (s .last .1 .0) (s .last .1 .1 .0)) e (ap (λ (x : Step). x .panel) (s .ensures))
+    part-joined (λ (p : Panel). startStep document01 p .panel) (a .n) k (a .outputs .now) (a .stations .now) (a .kept .now) (panelOf (s .last .0) (s .last .1 .0) (s .last .1 .1 .0)) e (ap (λ (x : Step). x .panel) (s .ensures))
 
 pub start-spec : {M : Type 1} → statement M
 start-spec =

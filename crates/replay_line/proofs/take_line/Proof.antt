@@ -46,7 +46,7 @@ returns : tie.Need-returns
 unfolding takenBy
 returns c =
     let a = c .before .before .before .before .before .args in
-    let p = panelOf (a .outputs .now) (a .stations .now) (a .time .now) in
+    let p = panelOf (a .outputs .now) (a .stations .now) (a .kept .now) in
     ended p (a .r) _ (c .before .before .before .line-of .result) (a .page .now) (a .mark) (c .before .before .next-line .result) true (a .page .now) (a .mark) p (c .before .before .before .line-of .ensures) (c .enum-told .given .1) (c .before .before .next-line .ensures) refl (wrote-none (a .page .now) (a .mark)) refl
 
 same-length : tie.Need-same-length
@@ -59,7 +59,7 @@ returns-2 : tie.Need-returns-2
 unfolding takenBy
 returns-2 c =
     let a = c .before .before .before .before .before .before .before .before .before .before .before .before .before .args in
-    let p = panelOf (a .outputs .now) (a .stations .now) (a .time .now) in
+    let p = panelOf (a .outputs .now) (a .stations .now) (a .kept .now) in
     let s = c .before .before .before .start in
     ended p (a .r) _ (c .before .before .before .before .before .before .before .before .before .before .before .line-of .result) (a .page .now) (a .mark) (c .with-outputs .result) true (a .page .now) (a .mark) (panelOf (s .last .0) (s .last .1 .0) (s .last .1 .1 .0)) (c .before .before .before .before .before .before .before .before .before .before .before .line-of .ensures) (c .before .before .before .before .before .before .before .before .line .given .1) (rw (← c .before .before .before .before .before .before .before .before .before .before .next-line .ensures) (c .with-outputs .ensures)) refl (wrote-none (a .page .now) (a .mark)) (s .ensures)
 
@@ -76,7 +76,7 @@ returns-3 : tie.Need-returns-3
 unfolding takenBy
 returns-3 c =
     let a = c .before .before .before .before .before .before .before .before .before .before .before .before .before .before .args in
-    let p = panelOf (a .outputs .now) (a .stations .now) (a .time .now) in
+    let p = panelOf (a .outputs .now) (a .stations .now) (a .kept .now) in
     let s = c .before .before .before .before .answer in
     ended p (a .r) _ (c .before .before .before .before .before .before .before .before .before .before .before .before .line-of .result) (a .page .now) (a .mark) (c .before .before .before .before .before .before .before .before .before .before .before .next-line .result) true (s .last .1 .1 .1 .0) (s .result) (panelOf (s .last .0) (s .last .1 .0) (s .last .1 .1 .0)) (c .before .before .before .before .before .before .before .before .before .before .before .before .line-of .ensures) (c .before .before .before .before .before .before .before .before .before .enum-told2 .given .1) (c .before .before .before .before .before .before .before .before .before .before .before .next-line .ensures) refl (s .ensures .0) (s .ensures .1)
 
@@ -87,7 +87,7 @@ returns-4 : tie.Need-returns-4
 unfolding takenBy
 returns-4 c =
     let a = c .before .before .before .before .before .before .before .before .before .before .args in
-    let p = panelOf (a .outputs .now) (a .stations .now) (a .time .now) in
+    let p = panelOf (a .outputs .now) (a .stations .now) (a .kept .now) in
     let s = c .before .before .put-fault in
     ended p (a .r) _ (c .before .before .before .before .before .before .before .before .line-of .result) (a .page .now) (a .mark) (c .before .before .before .before .before .before .before .next-line .result) false (s .last .0) (s .result) p (c .before .before .before .before .before .before .before .before .line-of .ensures) (c .before .before .before .before .before .line2 .given .1) (c .before .before .before .before .before .before .before .next-line .ensures) refl (s .ensures) refl
 

@@ -15,12 +15,12 @@ use Rattle.replay_session.proofs.Lent.take_all.Reads as reads
 use Rattle.replay_session.proofs.take_all.Proof.Lts as lts
 
 abbrev Inv-loop : tie.InvT-loop
-Inv-loop outputs₀ stations₀ time₀ page₀ chunk₀ reader₀ mark₀ turns₀ outputs stations time page chunk reader mark turns =
+Inv-loop outputs₀ stations₀ kept₀ page₀ chunk₀ reader₀ mark₀ turns₀ outputs stations kept page chunk reader mark turns =
     ((length outputs ≡ length outputs₀) × (length stations ≡ length stations₀) × (length page ≡ length page₀) × (length chunk ≡ length chunk₀))
-    × Went (panelOf outputs₀ stations₀ time₀) freshReader (panelOf outputs stations time) reader true
+    × Went (panelOf outputs₀ stations₀ kept₀) freshReader (panelOf outputs stations kept) reader true
 
 abbrev μ-loop : tie.MeasureT-loop
-μ-loop outputs₀ stations₀ time₀ page₀ chunk₀ reader₀ mark₀ turns₀ outputs stations time page chunk reader mark turns = turns
+μ-loop outputs₀ stations₀ kept₀ page₀ chunk₀ reader₀ mark₀ turns₀ outputs stations kept page chunk reader mark turns = turns
 
 fresh-reader-requires : tie.Need-fresh-reader-requires Inv-loop μ-loop
 fresh-reader-requires c κs = search needs

@@ -14,14 +14,14 @@ use Rattle.replay_session.proofs.Lent.take_chunk.Reads as reads
 use Rattle.replay_session.proofs.take_chunk.Proof.Lts as lts
 
 abbrev Inv-loop : tie.InvT-loop
-Inv-loop outputs₀ stations₀ time₀ page₀ mark s r at₀ i₀ outputs stations time page reader at i =
+Inv-loop outputs₀ stations₀ kept₀ page₀ mark s r at₀ i₀ outputs stations kept page reader at i =
     (length outputs ≡ length outputs₀)
     × (length stations ≡ length stations₀)
     × (length page ≡ length page₀)
-    × (through (panelOf outputs stations time) reader (drop i s) ≡ through (panelOf outputs₀ stations₀ time₀) r s)
+    × (through (panelOf outputs stations kept) reader (drop i s) ≡ through (panelOf outputs₀ stations₀ kept₀) r s)
 
 abbrev μ-loop : tie.MeasureT-loop
-μ-loop outputs₀ stations₀ time₀ page₀ mark s r at₀ i₀ outputs stations time page reader at i = length s - i
+μ-loop outputs₀ stations₀ kept₀ page₀ mark s r at₀ i₀ outputs stations kept page reader at i = length s - i
 
 loop-holds : tie.Need-loop-holds Inv-loop μ-loop
 loop-holds c =
@@ -54,8 +54,8 @@ returns c =
     let g = c .before .before .before .before .before .before .before .before .before .before .before .before .before .before .before .before .before .before .loop in
     let d = c .before .before .before .before .before .before .before .before .before .before .before .before .before .before .before .before .feed-line in
     let k = c .before .before .before .before .before .before .before .before .before .take-line in
-    let z = through (panelOf (a .outputs .now) (a .stations .now) (a .time .now)) (a .r) (a .s .now) in
-    broke-off (panelOf (g .outputs) (g .stations) (g .time)) (g .reader) (a .s .now) (g .i) (d .result .next) (d .result .reader) (d .ensures .0) (d .ensures .1) (c .before .before .before .before .before .before .before .before .before .before .before .before .before .before .if1 .taken) (panelOf (k .last .0) (k .last .1 .0) (k .last .1 .1 .0)) (k .result .reader) (k .result .good) z (k .ensures .1 .1 .1) (k .ensures .0) (k .ensures .1 .0) (g .inv .3) (not-true (k .result .good) (c .if2 .taken))
+    let z = through (panelOf (a .outputs .now) (a .stations .now) (a .kept .now)) (a .r) (a .s .now) in
+    broke-off (panelOf (g .outputs) (g .stations) (g .kept)) (g .reader) (a .s .now) (g .i) (d .result .next) (d .result .reader) (d .ensures .0) (d .ensures .1) (c .before .before .before .before .before .before .before .before .before .before .before .before .before .before .if1 .taken) (panelOf (k .last .0) (k .last .1 .0) (k .last .1 .1 .0)) (k .result .reader) (k .result .good) z (k .ensures .1 .1 .1) (k .ensures .0) (k .ensures .1 .0) (g .inv .3) (not-true (k .result .good) (c .if2 .taken))
 
 loop-less : tie.Need-loop-less Inv-loop μ-loop
 loop-less c = search needs
@@ -66,8 +66,8 @@ loop-again c =
     let g = c .before .before .before .before .before .before .before .before .before .before .before .before .before .before .before .before .before .before .loop in
     let d = c .before .before .before .before .before .before .before .before .before .before .before .before .before .before .before .before .feed-line in
     let k = c .before .before .before .before .before .before .before .before .before .take-line in
-    let z = through (panelOf (a .outputs .now) (a .stations .now) (a .time .now)) (a .r) (a .s .now) in
-    (search needs, search needs, search needs, went-on (panelOf (g .outputs) (g .stations) (g .time)) (g .reader) (a .s .now) (g .i) (d .result .next) (d .result .reader) (d .ensures .0) (d .ensures .1) (c .before .before .before .before .before .before .before .before .before .before .before .before .before .before .if1 .taken) (panelOf (k .last .0) (k .last .1 .0) (k .last .1 .1 .0)) (k .result .reader) (k .result .good) z (k .ensures .1 .1 .1) (k .ensures .0) (k .ensures .1 .0) (g .inv .3) (not-false (k .result .good) (c .if2 .left)))
+    let z = through (panelOf (a .outputs .now) (a .stations .now) (a .kept .now)) (a .r) (a .s .now) in
+    (search needs, search needs, search needs, went-on (panelOf (g .outputs) (g .stations) (g .kept)) (g .reader) (a .s .now) (g .i) (d .result .next) (d .result .reader) (d .ensures .0) (d .ensures .1) (c .before .before .before .before .before .before .before .before .before .before .before .before .before .before .if1 .taken) (panelOf (k .last .0) (k .last .1 .0) (k .last .1 .1 .0)) (k .result .reader) (k .result .good) z (k .ensures .1 .1 .1) (k .ensures .0) (k .ensures .1 .0) (g .inv .3) (not-false (k .result .good) (c .if2 .left)))
 
 loop-less-2 : tie.Need-loop-less-2 Inv-loop μ-loop
 loop-less-2 c = search needs
@@ -77,7 +77,7 @@ loop-again-2 c =
     let a = c .before .before .before .before .before .before .before .args in
     let g = c .before .before .before .before .loop in
     let d = c .before .before .feed-line in
-    (g .inv .0, g .inv .1, g .inv .2, line-open (panelOf (g .outputs) (g .stations) (g .time)) (g .reader) (a .s .now) (g .i) (d .result .next) (d .result .reader) (d .ensures .0) (d .ensures .1) (through (panelOf (a .outputs .now) (a .stations .now) (a .time .now)) (a .r) (a .s .now)) (c .if1 .left) (g .inv .3))
+    (g .inv .0, g .inv .1, g .inv .2, line-open (panelOf (g .outputs) (g .stations) (g .kept)) (g .reader) (a .s .now) (g .i) (d .result .next) (d .result .reader) (d .ensures .0) (d .ensures .1) (through (panelOf (a .outputs .now) (a .stations .now) (a .kept .now)) (a .r) (a .s .now)) (c .if1 .left) (g .inv .3))
 
 same-length-4 : tie.Need-same-length-4 Inv-loop μ-loop
 same-length-4 c = search needs
@@ -92,7 +92,7 @@ returns-2 : tie.Need-returns-2 Inv-loop μ-loop
 returns-2 c =
     let a = c .before .before .before .before .args in
     let g = c .before .loop in
-    text-over (panelOf (g .outputs) (g .stations) (g .time)) (g .reader) (a .s .now) (g .i) (through (panelOf (a .outputs .now) (a .stations .now) (a .time .now)) (a .r) (a .s .now)) (c .loop-test .left) (g .inv .3)
+    text-over (panelOf (g .outputs) (g .stations) (g .kept)) (g .reader) (a .s .now) (g .i) (through (panelOf (a .outputs .now) (a .stations .now) (a .kept .now)) (a .r) (a .s .now)) (c .loop-test .left) (g .inv .3)
 
 pub take-chunk-spec : {M : Type 1} → statement M
 take-chunk-spec =

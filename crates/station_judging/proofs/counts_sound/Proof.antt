@@ -5,6 +5,12 @@ use borrow.Author.Needs.{needs}
 use Rattle.station_judging.proofs.counts_sound.Statement.{statement}
 use Rattle.station_judging.proofs.counts_sound.Tie as tie
 
+cast-if2 : tie.Need-cast-if2
+cast-if2 c = search needs
+
+cast-result : tie.Need-cast-result
+cast-result c = search needs
+
 returns : tie.Need-returns
 unfolding countsSound
 returns c = search (needs, ifs)
@@ -18,4 +24,4 @@ unfolding countsSound
 returns-3 c = search (needs, ifs)
 
 pub counts-sound-spec : {M : Type 1} → statement M
-counts-sound-spec = tie.close (tie.spec returns returns-2 returns-3)
+counts-sound-spec = tie.close (tie.spec cast-if2 cast-result returns returns-2 returns-3)

@@ -27,8 +27,8 @@ After-index = Lts.After-index (Reads.Asked, Reads.Learnt, Reads'.Asked, Reads'.L
 abbrev pub After-least : Type 0
 After-least = Lts.After-least (Reads.Asked, Reads.Learnt, Reads'.Asked, Reads'.Learnt, Reads''.Asked, Reads''.Learnt) Reads'3.Pre Reads'3.Post
 
-abbrev pub After-kept : Type 0
-After-kept = Lts.After-kept (Reads.Asked, Reads.Learnt, Reads'.Asked, Reads'.Learnt, Reads''.Asked, Reads''.Learnt) Reads'3.Pre Reads'3.Post
+abbrev pub After-all : Type 0
+After-all = Lts.After-all (Reads.Asked, Reads.Learnt, Reads'.Asked, Reads'.Learnt, Reads''.Asked, Reads''.Learnt) Reads'3.Pre Reads'3.Post
 
 abbrev pub After-least2 : Type 0
 After-least2 = Lts.After-least2 (Reads.Asked, Reads.Learnt, Reads'.Asked, Reads'.Learnt, Reads''.Asked, Reads''.Learnt) Reads'3.Pre Reads'3.Post
