@@ -1,5 +1,9 @@
 mod Lts
 mod Tie
+use mathlib.Core.Path.{ap, _∙_}
+use Prim.Native.Nat.{ℕ}
+use Rattle.lighting_outputs.specs.Paper.Rules.{sound}
+use Rattle.lighting_levels.specs.Paper.Choice.{every}
 use Rattle.lighting_panel.specs.Paper.Panel.{panelSound}
 use Rattle.lighting_levels.proofs.Choosing.{ifs}
 use borrow.Author.Tests.{not-true, not-false}
@@ -24,14 +28,22 @@ outputs-sound-requires c κs = search needs
 
 returns-2 : tie.Need-returns-2
 unfolding panelSound
-returns-2 c = search (needs, ifs, not-true, not-false)
+returns-2 c =
+    let tested =
+    c .before .outputs-sound .ensures
+    ∙ ap (λ (t : ℕ). every (sound (c .before .before .before .before .before .args .parameters) t) (c .before .before .before .before .before .args .outputs .now)) (c .before .before .time-of .ensures) in
+    search (needs, ifs, not-true, not-false)
 
 stations-sound-requires : tie.Need-stations-sound-requires
 stations-sound-requires c κs = search needs
 
 returns-3 : tie.Need-returns-3
 unfolding panelSound
-returns-3 c = search (needs, ifs, not-true, not-false)
+returns-3 c =
+    let tested =
+    c .before .before .outputs-sound .ensures
+    ∙ ap (λ (t : ℕ). every (sound (c .before .before .before .before .before .before .args .parameters) t) (c .before .before .before .before .before .before .args .outputs .now)) (c .before .before .before .time-of .ensures) in
+    search (needs, ifs, not-true, not-false)
 
 pub panel-sound-spec : {M : Type 1} → statement M
 panel-sound-spec =

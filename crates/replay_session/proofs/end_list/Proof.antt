@@ -9,6 +9,9 @@ use Rattle.replay_session.proofs.end_list.Proof.Lts as lts
 take-line-requires : tie.Need-take-line-requires
 take-line-requires c κs = search needs
 
+time-of-requires : tie.Need-time-of-requires
+time-of-requires c κs = search needs
+
 put-end-requires : tie.Need-put-end-requires
 put-end-requires c κs = search needs
 
@@ -41,6 +44,7 @@ end-list-spec =
     tie.close
     (tie.spec
     take-line-requires
+    time-of-requires
     put-end-requires
     same-length
     same-length-2

@@ -1,6 +1,7 @@
 -- Made by tools/twin.py.
 use Prim.Native.Nat
 use Rattle.lighting_outputs.proofs.Lent.OfOutput as OfOutput
+use Rattle.lighting_panel.proofs.Lent.OfPanelRecord as OfPanelRecord
 use Rattle.lighting_frames.proofs.Lent.OfStation as OfStation
 use Rattle.replay_session.proofs.Turn
 use Rattle.replay_session.proofs.Turn.Laws
@@ -68,13 +69,13 @@ use prog.Wp
 use types.Kit
 
 abbrev pub ps : List.List (Kinds.PK 5)
-ps = List._∷_ (MutSlice.pMutS (OfOutput.row) 0 tt) (List._∷_ (MutSlice.pMutS (OfStation.row) 1 tt) (List._∷_ (Kinds.pMutF (Referent.fInt Syntax.w64) 2 tt) (List._∷_ (MutSlice.pMutS (Referent.rtF (Referent.fInt Syntax.w8)) 3 tt) (List._∷_ (MutSlice.pMutS (Referent.rtF (Referent.fInt Syntax.w8)) 4 tt) List.[]))))
+ps = List._∷_ (MutSlice.pMutS (OfOutput.row) 0 tt) (List._∷_ (MutSlice.pMutS (OfStation.row) 1 tt) (List._∷_ (Kinds.pMut (OfPanelRecord.row) 2 tt) (List._∷_ (MutSlice.pMutS (Referent.rtF (Referent.fInt Syntax.w8)) 3 tt) (List._∷_ (MutSlice.pMutS (Referent.rtF (Referent.fInt Syntax.w8)) 4 tt) List.[]))))
 
 abbrev pub r : Kinds.RK 5
 r = Value.rVal record { ty = Declared.row Turn.the-type; one = Path'.refl; val = Laws'3.val Turn.the-type Laws.the-laws; tells = Laws'3.tells Turn.the-type Laws.the-laws; still = Laws'3.still Turn.the-type Laws.the-copy Exit.yes; row = Rows.whole (Declared.row Turn.the-type); rd = λ x. x; mk = λ x. x } λ M 𝓤 H A W. record { copies = Laws'3.copy Turn.the-type Laws.the-copy 𝓤 H A W; lawful = Laws'3.lawful Turn.the-type Laws.the-laws 𝓤 H A W; makes = Laws'3.makes Turn.the-type Laws.the-plain 𝓤 H A; in-mem = Local.mem-whole 𝓤 H A W (Declared.row Turn.the-type); of-mem = Local.whole-mem 𝓤 H A W (Declared.row Turn.the-type) }
 
 abbrev pub xs : List.List Syntax.Ty
-xs = List._∷_ (Syntax.tyStruct (List._∷_ 116 (List._∷_ 101 (List._∷_ 120 (List._∷_ 116 (List._∷_ 95 (List._∷_ 114 (List._∷_ 101 (List._∷_ 97 (List._∷_ 100 (List._∷_ 105 (List._∷_ 110 (List._∷_ 103 (List._∷_ 58 (List._∷_ 58 (List._∷_ 82 (List._∷_ 101 (List._∷_ 97 (List._∷_ 100 (List._∷_ 101 (List._∷_ 114 List.[])))))))))))))))))))) (Syntax.tcons (Syntax.tyInt Syntax.w8) (Syntax.tcons (Syntax.tyInt Syntax.w64) (Syntax.tcons (Syntax.tyEnum (List._∷_ 116 (List._∷_ 101 (List._∷_ 120 (List._∷_ 116 (List._∷_ 95 (List._∷_ 114 (List._∷_ 101 (List._∷_ 97 (List._∷_ 100 (List._∷_ 105 (List._∷_ 110 (List._∷_ 103 (List._∷_ 58 (List._∷_ 58 (List._∷_ 72 (List._∷_ 101 (List._∷_ 108 (List._∷_ 100 List.[])))))))))))))))))) (Syntax.ttcons Syntax.tnil (Syntax.ttcons Syntax.tnil (Syntax.ttcons (Syntax.tcons (Syntax.tyInt Syntax.w8) Syntax.tnil) (Syntax.ttcons Syntax.tnil (Syntax.ttcons (Syntax.tcons (Syntax.tyInt Syntax.w8) Syntax.tnil) (Syntax.ttcons (Syntax.tcons (Syntax.tyInt Syntax.w8) Syntax.tnil) (Syntax.ttcons Syntax.tnil (Syntax.ttcons (Syntax.tcons (Syntax.tyInt Syntax.w8) Syntax.tnil) (Syntax.ttcons Syntax.tnil (Syntax.ttcons (Syntax.tcons (Syntax.tyEnum (List._∷_ 116 (List._∷_ 101 (List._∷_ 120 (List._∷_ 116 (List._∷_ 95 (List._∷_ 114 (List._∷_ 101 (List._∷_ 97 (List._∷_ 100 (List._∷_ 105 (List._∷_ 110 (List._∷_ 103 (List._∷_ 58 (List._∷_ 58 (List._∷_ 70 (List._∷_ 97 (List._∷_ 117 (List._∷_ 108 (List._∷_ 116 List.[]))))))))))))))))))) (Syntax.ttcons Syntax.tnil (Syntax.ttcons Syntax.tnil (Syntax.ttcons Syntax.tnil (Syntax.ttcons Syntax.tnil Syntax.ttnil))))) Syntax.tnil) Syntax.ttnil))))))))))) (Syntax.tcons (Syntax.tyArray (Syntax.tyInt Syntax.w8) 32) (Syntax.tcons (Syntax.tyInt Syntax.w64) Syntax.tnil)))))) (List._∷_ (Syntax.tyInt Syntax.w64) (List._∷_ (Syntax.tyInt Syntax.w64) (List._∷_ (Laws.mir) (List._∷_ (Syntax.tyStruct (List._∷_ 116 (List._∷_ 101 (List._∷_ 120 (List._∷_ 116 (List._∷_ 95 (List._∷_ 114 (List._∷_ 101 (List._∷_ 97 (List._∷_ 100 (List._∷_ 105 (List._∷_ 110 (List._∷_ 103 (List._∷_ 58 (List._∷_ 58 (List._∷_ 82 (List._∷_ 101 (List._∷_ 97 (List._∷_ 100 (List._∷_ 101 (List._∷_ 114 List.[])))))))))))))))))))) (Syntax.tcons (Syntax.tyInt Syntax.w8) (Syntax.tcons (Syntax.tyInt Syntax.w64) (Syntax.tcons (Syntax.tyEnum (List._∷_ 116 (List._∷_ 101 (List._∷_ 120 (List._∷_ 116 (List._∷_ 95 (List._∷_ 114 (List._∷_ 101 (List._∷_ 97 (List._∷_ 100 (List._∷_ 105 (List._∷_ 110 (List._∷_ 103 (List._∷_ 58 (List._∷_ 58 (List._∷_ 72 (List._∷_ 101 (List._∷_ 108 (List._∷_ 100 List.[])))))))))))))))))) (Syntax.ttcons Syntax.tnil (Syntax.ttcons Syntax.tnil (Syntax.ttcons (Syntax.tcons (Syntax.tyInt Syntax.w8) Syntax.tnil) (Syntax.ttcons Syntax.tnil (Syntax.ttcons (Syntax.tcons (Syntax.tyInt Syntax.w8) Syntax.tnil) (Syntax.ttcons (Syntax.tcons (Syntax.tyInt Syntax.w8) Syntax.tnil) (Syntax.ttcons Syntax.tnil (Syntax.ttcons (Syntax.tcons (Syntax.tyInt Syntax.w8) Syntax.tnil) (Syntax.ttcons Syntax.tnil (Syntax.ttcons (Syntax.tcons (Syntax.tyEnum (List._∷_ 116 (List._∷_ 101 (List._∷_ 120 (List._∷_ 116 (List._∷_ 95 (List._∷_ 114 (List._∷_ 101 (List._∷_ 97 (List._∷_ 100 (List._∷_ 105 (List._∷_ 110 (List._∷_ 103 (List._∷_ 58 (List._∷_ 58 (List._∷_ 70 (List._∷_ 97 (List._∷_ 117 (List._∷_ 108 (List._∷_ 116 List.[]))))))))))))))))))) (Syntax.ttcons Syntax.tnil (Syntax.ttcons Syntax.tnil (Syntax.ttcons Syntax.tnil (Syntax.ttcons Syntax.tnil Syntax.ttnil))))) Syntax.tnil) Syntax.ttnil))))))))))) (Syntax.tcons (Syntax.tyArray (Syntax.tyInt Syntax.w8) 32) (Syntax.tcons (Syntax.tyInt Syntax.w64) Syntax.tnil)))))) (List._∷_ Syntax.tyBool (List._∷_ (Syntax.tyRef Syntax.erased Syntax.mut OfOutput.named) (List._∷_ (Syntax.tyStruct (List._∷_ 38 (List._∷_ 91 (List._∷_ 93 List.[]))) (Syntax.tcons (Syntax.tyRef Syntax.erased Syntax.mut OfOutput.named) (Syntax.tcons (Syntax.tyInt Syntax.w64) Syntax.tnil))) (List._∷_ (Syntax.tyRef Syntax.erased Syntax.mut OfStation.named) (List._∷_ (Syntax.tyStruct (List._∷_ 38 (List._∷_ 91 (List._∷_ 93 List.[]))) (Syntax.tcons (Syntax.tyRef Syntax.erased Syntax.mut OfStation.named) (Syntax.tcons (Syntax.tyInt Syntax.w64) Syntax.tnil))) (List._∷_ (Syntax.tyRef Syntax.erased Syntax.mut (Syntax.tyInt Syntax.w64)) (List._∷_ (Syntax.tyRef Syntax.erased Syntax.mut (Syntax.tyInt Syntax.w8)) (List._∷_ (Syntax.tyStruct (List._∷_ 38 (List._∷_ 91 (List._∷_ 93 List.[]))) (Syntax.tcons (Syntax.tyRef Syntax.erased Syntax.mut (Syntax.tyInt Syntax.w8)) (Syntax.tcons (Syntax.tyInt Syntax.w64) Syntax.tnil))) (List._∷_ (Syntax.tyRef Syntax.erased Syntax.mut (Syntax.tyInt Syntax.w8)) (List._∷_ (Syntax.tyStruct (List._∷_ 38 (List._∷_ 91 (List._∷_ 93 List.[]))) (Syntax.tcons (Syntax.tyRef Syntax.erased Syntax.mut (Syntax.tyInt Syntax.w8)) (Syntax.tcons (Syntax.tyInt Syntax.w64) Syntax.tnil))) List.[]))))))))))))))
+xs = List._∷_ (Syntax.tyStruct (List._∷_ 116 (List._∷_ 101 (List._∷_ 120 (List._∷_ 116 (List._∷_ 95 (List._∷_ 114 (List._∷_ 101 (List._∷_ 97 (List._∷_ 100 (List._∷_ 105 (List._∷_ 110 (List._∷_ 103 (List._∷_ 58 (List._∷_ 58 (List._∷_ 82 (List._∷_ 101 (List._∷_ 97 (List._∷_ 100 (List._∷_ 101 (List._∷_ 114 List.[])))))))))))))))))))) (Syntax.tcons (Syntax.tyInt Syntax.w8) (Syntax.tcons (Syntax.tyInt Syntax.w64) (Syntax.tcons (Syntax.tyEnum (List._∷_ 116 (List._∷_ 101 (List._∷_ 120 (List._∷_ 116 (List._∷_ 95 (List._∷_ 114 (List._∷_ 101 (List._∷_ 97 (List._∷_ 100 (List._∷_ 105 (List._∷_ 110 (List._∷_ 103 (List._∷_ 58 (List._∷_ 58 (List._∷_ 72 (List._∷_ 101 (List._∷_ 108 (List._∷_ 100 List.[])))))))))))))))))) (Syntax.ttcons Syntax.tnil (Syntax.ttcons Syntax.tnil (Syntax.ttcons (Syntax.tcons (Syntax.tyInt Syntax.w8) Syntax.tnil) (Syntax.ttcons Syntax.tnil (Syntax.ttcons (Syntax.tcons (Syntax.tyInt Syntax.w8) Syntax.tnil) (Syntax.ttcons (Syntax.tcons (Syntax.tyInt Syntax.w8) Syntax.tnil) (Syntax.ttcons Syntax.tnil (Syntax.ttcons (Syntax.tcons (Syntax.tyInt Syntax.w8) Syntax.tnil) (Syntax.ttcons Syntax.tnil (Syntax.ttcons (Syntax.tcons (Syntax.tyEnum (List._∷_ 116 (List._∷_ 101 (List._∷_ 120 (List._∷_ 116 (List._∷_ 95 (List._∷_ 114 (List._∷_ 101 (List._∷_ 97 (List._∷_ 100 (List._∷_ 105 (List._∷_ 110 (List._∷_ 103 (List._∷_ 58 (List._∷_ 58 (List._∷_ 70 (List._∷_ 97 (List._∷_ 117 (List._∷_ 108 (List._∷_ 116 List.[]))))))))))))))))))) (Syntax.ttcons Syntax.tnil (Syntax.ttcons Syntax.tnil (Syntax.ttcons Syntax.tnil (Syntax.ttcons Syntax.tnil Syntax.ttnil))))) Syntax.tnil) Syntax.ttnil))))))))))) (Syntax.tcons (Syntax.tyArray (Syntax.tyInt Syntax.w8) 32) (Syntax.tcons (Syntax.tyInt Syntax.w64) Syntax.tnil)))))) (List._∷_ (Syntax.tyInt Syntax.w64) (List._∷_ (Syntax.tyInt Syntax.w64) (List._∷_ (Laws.mir) (List._∷_ (Syntax.tyStruct (List._∷_ 116 (List._∷_ 101 (List._∷_ 120 (List._∷_ 116 (List._∷_ 95 (List._∷_ 114 (List._∷_ 101 (List._∷_ 97 (List._∷_ 100 (List._∷_ 105 (List._∷_ 110 (List._∷_ 103 (List._∷_ 58 (List._∷_ 58 (List._∷_ 82 (List._∷_ 101 (List._∷_ 97 (List._∷_ 100 (List._∷_ 101 (List._∷_ 114 List.[])))))))))))))))))))) (Syntax.tcons (Syntax.tyInt Syntax.w8) (Syntax.tcons (Syntax.tyInt Syntax.w64) (Syntax.tcons (Syntax.tyEnum (List._∷_ 116 (List._∷_ 101 (List._∷_ 120 (List._∷_ 116 (List._∷_ 95 (List._∷_ 114 (List._∷_ 101 (List._∷_ 97 (List._∷_ 100 (List._∷_ 105 (List._∷_ 110 (List._∷_ 103 (List._∷_ 58 (List._∷_ 58 (List._∷_ 72 (List._∷_ 101 (List._∷_ 108 (List._∷_ 100 List.[])))))))))))))))))) (Syntax.ttcons Syntax.tnil (Syntax.ttcons Syntax.tnil (Syntax.ttcons (Syntax.tcons (Syntax.tyInt Syntax.w8) Syntax.tnil) (Syntax.ttcons Syntax.tnil (Syntax.ttcons (Syntax.tcons (Syntax.tyInt Syntax.w8) Syntax.tnil) (Syntax.ttcons (Syntax.tcons (Syntax.tyInt Syntax.w8) Syntax.tnil) (Syntax.ttcons Syntax.tnil (Syntax.ttcons (Syntax.tcons (Syntax.tyInt Syntax.w8) Syntax.tnil) (Syntax.ttcons Syntax.tnil (Syntax.ttcons (Syntax.tcons (Syntax.tyEnum (List._∷_ 116 (List._∷_ 101 (List._∷_ 120 (List._∷_ 116 (List._∷_ 95 (List._∷_ 114 (List._∷_ 101 (List._∷_ 97 (List._∷_ 100 (List._∷_ 105 (List._∷_ 110 (List._∷_ 103 (List._∷_ 58 (List._∷_ 58 (List._∷_ 70 (List._∷_ 97 (List._∷_ 117 (List._∷_ 108 (List._∷_ 116 List.[]))))))))))))))))))) (Syntax.ttcons Syntax.tnil (Syntax.ttcons Syntax.tnil (Syntax.ttcons Syntax.tnil (Syntax.ttcons Syntax.tnil Syntax.ttnil))))) Syntax.tnil) Syntax.ttnil))))))))))) (Syntax.tcons (Syntax.tyArray (Syntax.tyInt Syntax.w8) 32) (Syntax.tcons (Syntax.tyInt Syntax.w64) Syntax.tnil)))))) (List._∷_ Syntax.tyBool (List._∷_ (Syntax.tyRef Syntax.erased Syntax.mut OfOutput.named) (List._∷_ (Syntax.tyStruct (List._∷_ 38 (List._∷_ 91 (List._∷_ 93 List.[]))) (Syntax.tcons (Syntax.tyRef Syntax.erased Syntax.mut OfOutput.named) (Syntax.tcons (Syntax.tyInt Syntax.w64) Syntax.tnil))) (List._∷_ (Syntax.tyRef Syntax.erased Syntax.mut OfStation.named) (List._∷_ (Syntax.tyStruct (List._∷_ 38 (List._∷_ 91 (List._∷_ 93 List.[]))) (Syntax.tcons (Syntax.tyRef Syntax.erased Syntax.mut OfStation.named) (Syntax.tcons (Syntax.tyInt Syntax.w64) Syntax.tnil))) (List._∷_ (Syntax.tyRef Syntax.erased Syntax.mut OfPanelRecord.named) (List._∷_ (Syntax.tyRef Syntax.erased Syntax.mut (Syntax.tyInt Syntax.w8)) (List._∷_ (Syntax.tyStruct (List._∷_ 38 (List._∷_ 91 (List._∷_ 93 List.[]))) (Syntax.tcons (Syntax.tyRef Syntax.erased Syntax.mut (Syntax.tyInt Syntax.w8)) (Syntax.tcons (Syntax.tyInt Syntax.w64) Syntax.tnil))) (List._∷_ (Syntax.tyRef Syntax.erased Syntax.mut (Syntax.tyInt Syntax.w8)) (List._∷_ (Syntax.tyStruct (List._∷_ 38 (List._∷_ 91 (List._∷_ 93 List.[]))) (Syntax.tcons (Syntax.tyRef Syntax.erased Syntax.mut (Syntax.tyInt Syntax.w8)) (Syntax.tcons (Syntax.tyInt Syntax.w64) Syntax.tnil))) List.[]))))))))))))))
 
 abbrev pub m : Nat.ℕ
 m = 5
@@ -86,7 +87,7 @@ abbrev pub r·0 : Kinds.RK 0
 r·0 = Value.rVal record { ty = Declared.row Reader.the-type; one = Path'.refl; val = Laws'3.val Reader.the-type Laws'.the-laws; tells = Laws'3.tells Reader.the-type Laws'.the-laws; still = Laws'3.still Reader.the-type Laws'.the-copy Exit.yes; row = Rows.whole (Declared.row Reader.the-type); rd = λ x. x; mk = λ x. x } λ M 𝓤 H A W. record { copies = Laws'3.copy Reader.the-type Laws'.the-copy 𝓤 H A W; lawful = Laws'3.lawful Reader.the-type Laws'.the-laws 𝓤 H A W; makes = Laws'3.makes Reader.the-type Laws'.the-plain 𝓤 H A; in-mem = Local.mem-whole 𝓤 H A W (Declared.row Reader.the-type); of-mem = Local.whole-mem 𝓤 H A W (Declared.row Reader.the-type) }
 
 abbrev pub ps·1 : List.List (Kinds.PK 5)
-ps·1 = List._∷_ (MutSlice.pMutS (OfOutput.row) 0 tt) (List._∷_ (MutSlice.pMutS (OfStation.row) 1 tt) (List._∷_ (Kinds.pMutF (Referent.fInt Syntax.w64) 2 tt) (List._∷_ (MutSlice.pMutS (Referent.rtF (Referent.fInt Syntax.w8)) 3 tt) (List._∷_ (MutSlice.pMutS (Referent.rtF (Referent.fInt Syntax.w8)) 4 tt) (List._∷_ (Num.pNum Syntax.w64) (List._∷_ (Value.pVal record { ty = Declared.row Reader.the-type; one = Path'.refl; val = Laws'3.val Reader.the-type Laws'.the-laws; tells = Laws'3.tells Reader.the-type Laws'.the-laws; still = Laws'3.still Reader.the-type Laws'.the-copy Exit.yes; row = Rows.whole (Declared.row Reader.the-type); rd = λ x. x; mk = λ x. x } λ M 𝓤 H A W. record { copies = Laws'3.copy Reader.the-type Laws'.the-copy 𝓤 H A W; lawful = Laws'3.lawful Reader.the-type Laws'.the-laws 𝓤 H A W; makes = Laws'3.makes Reader.the-type Laws'.the-plain 𝓤 H A; in-mem = Local.mem-whole 𝓤 H A W (Declared.row Reader.the-type); of-mem = Local.whole-mem 𝓤 H A W (Declared.row Reader.the-type) }) List.[]))))))
+ps·1 = List._∷_ (MutSlice.pMutS (OfOutput.row) 0 tt) (List._∷_ (MutSlice.pMutS (OfStation.row) 1 tt) (List._∷_ (Kinds.pMut (OfPanelRecord.row) 2 tt) (List._∷_ (MutSlice.pMutS (Referent.rtF (Referent.fInt Syntax.w8)) 3 tt) (List._∷_ (MutSlice.pMutS (Referent.rtF (Referent.fInt Syntax.w8)) 4 tt) (List._∷_ (Num.pNum Syntax.w64) (List._∷_ (Value.pVal record { ty = Declared.row Reader.the-type; one = Path'.refl; val = Laws'3.val Reader.the-type Laws'.the-laws; tells = Laws'3.tells Reader.the-type Laws'.the-laws; still = Laws'3.still Reader.the-type Laws'.the-copy Exit.yes; row = Rows.whole (Declared.row Reader.the-type); rd = λ x. x; mk = λ x. x } λ M 𝓤 H A W. record { copies = Laws'3.copy Reader.the-type Laws'.the-copy 𝓤 H A W; lawful = Laws'3.lawful Reader.the-type Laws'.the-laws 𝓤 H A W; makes = Laws'3.makes Reader.the-type Laws'.the-plain 𝓤 H A; in-mem = Local.mem-whole 𝓤 H A W (Declared.row Reader.the-type); of-mem = Local.whole-mem 𝓤 H A W (Declared.row Reader.the-type) }) List.[]))))))
 
 abbrev pub r·1 : Kinds.RK 5
 r·1 = Value.rVal record { ty = Declared.row Turn.the-type; one = Path'.refl; val = Laws'3.val Turn.the-type Laws.the-laws; tells = Laws'3.tells Turn.the-type Laws.the-laws; still = Laws'3.still Turn.the-type Laws.the-copy Exit.yes; row = Rows.whole (Declared.row Turn.the-type); rd = λ x. x; mk = λ x. x } λ M 𝓤 H A W. record { copies = Laws'3.copy Turn.the-type Laws.the-copy 𝓤 H A W; lawful = Laws'3.lawful Turn.the-type Laws.the-laws 𝓤 H A W; makes = Laws'3.makes Turn.the-type Laws.the-plain 𝓤 H A; in-mem = Local.mem-whole 𝓤 H A W (Declared.row Turn.the-type); of-mem = Local.whole-mem 𝓤 H A W (Declared.row Turn.the-type) }
@@ -131,7 +132,7 @@ abbrev b11 : Syntax.Body
 b11 = Syntax.assign (Syntax.place 15 List.[]) (Syntax.aggregate (List._∷_ (Syntax.copy (Syntax.place 14 List.[])) (List._∷_ (Syntax.copy (Syntax.place 2 (List._∷_ (Syntax.field 1) List.[]))) List.[])))
 
 abbrev b12 : Syntax.Body
-b12 = Syntax.assign (Syntax.place 16 List.[]) (Syntax.addrOf (Syntax.place 3 (List._∷_ (Syntax.deref (Syntax.tyInt Syntax.w64)) List.[])))
+b12 = Syntax.assign (Syntax.place 16 List.[]) (Syntax.addrOf (Syntax.place 3 (List._∷_ (Syntax.deref OfPanelRecord.spelt) List.[])))
 
 abbrev b13 : Syntax.Body
 b13 = Syntax.assign (Syntax.place 17 List.[]) (Syntax.addrOf (Syntax.place 4 (List._∷_ (Syntax.field 0) (List._∷_ (Syntax.deref (Syntax.tyInt Syntax.w8)) List.[]))))
@@ -284,136 +285,136 @@ abbrev pub Claims : Type 1
 Claims = Kinds.In 0 ps·0 × Kinds.Out 0 ps·0 r·0 × Kinds.In 5 ps·1 × Kinds.Out 5 ps·1 r·1
 
 abbrev pub t0 : List.List Row.Entry
-t0 = List._∷_ (0, Rows.any-gone (Laws.mir)) (List._∷_ (1, Mut.mslice (OfOutput.row) (Syntax.tyRef (Syntax.named 0) Syntax.mut OfOutput.named) 0) (List._∷_ (2, Mut.mslice (OfStation.row) (Syntax.tyRef (Syntax.named 1) Syntax.mut OfStation.named) 1) (List._∷_ (3, Rows.mref (Referent.rtF (Referent.fInt Syntax.w64)) (Syntax.tyRef (Syntax.named 2) Syntax.mut (Syntax.tyInt Syntax.w64)) 2) (List._∷_ (4, Mut.mslice (Referent.rtF (Referent.fInt Syntax.w8)) (Syntax.tyRef (Syntax.named 3) Syntax.mut (Syntax.tyInt Syntax.w8)) 3) (List._∷_ (5, Mut.mslice (Referent.rtF (Referent.fInt Syntax.w8)) (Syntax.tyRef (Syntax.named 4) Syntax.mut (Syntax.tyInt Syntax.w8)) 4) (List._∷_ (6, Rows.any-gone (Syntax.tyStruct (List._∷_ 116 (List._∷_ 101 (List._∷_ 120 (List._∷_ 116 (List._∷_ 95 (List._∷_ 114 (List._∷_ 101 (List._∷_ 97 (List._∷_ 100 (List._∷_ 105 (List._∷_ 110 (List._∷_ 103 (List._∷_ 58 (List._∷_ 58 (List._∷_ 82 (List._∷_ 101 (List._∷_ 97 (List._∷_ 100 (List._∷_ 101 (List._∷_ 114 List.[])))))))))))))))))))) (Syntax.tcons (Syntax.tyInt Syntax.w8) (Syntax.tcons (Syntax.tyInt Syntax.w64) (Syntax.tcons (Syntax.tyEnum (List._∷_ 116 (List._∷_ 101 (List._∷_ 120 (List._∷_ 116 (List._∷_ 95 (List._∷_ 114 (List._∷_ 101 (List._∷_ 97 (List._∷_ 100 (List._∷_ 105 (List._∷_ 110 (List._∷_ 103 (List._∷_ 58 (List._∷_ 58 (List._∷_ 72 (List._∷_ 101 (List._∷_ 108 (List._∷_ 100 List.[])))))))))))))))))) (Syntax.ttcons Syntax.tnil (Syntax.ttcons Syntax.tnil (Syntax.ttcons (Syntax.tcons (Syntax.tyInt Syntax.w8) Syntax.tnil) (Syntax.ttcons Syntax.tnil (Syntax.ttcons (Syntax.tcons (Syntax.tyInt Syntax.w8) Syntax.tnil) (Syntax.ttcons (Syntax.tcons (Syntax.tyInt Syntax.w8) Syntax.tnil) (Syntax.ttcons Syntax.tnil (Syntax.ttcons (Syntax.tcons (Syntax.tyInt Syntax.w8) Syntax.tnil) (Syntax.ttcons Syntax.tnil (Syntax.ttcons (Syntax.tcons (Syntax.tyEnum (List._∷_ 116 (List._∷_ 101 (List._∷_ 120 (List._∷_ 116 (List._∷_ 95 (List._∷_ 114 (List._∷_ 101 (List._∷_ 97 (List._∷_ 100 (List._∷_ 105 (List._∷_ 110 (List._∷_ 103 (List._∷_ 58 (List._∷_ 58 (List._∷_ 70 (List._∷_ 97 (List._∷_ 117 (List._∷_ 108 (List._∷_ 116 List.[]))))))))))))))))))) (Syntax.ttcons Syntax.tnil (Syntax.ttcons Syntax.tnil (Syntax.ttcons Syntax.tnil (Syntax.ttcons Syntax.tnil Syntax.ttnil))))) Syntax.tnil) Syntax.ttnil))))))))))) (Syntax.tcons (Syntax.tyArray (Syntax.tyInt Syntax.w8) 32) (Syntax.tcons (Syntax.tyInt Syntax.w64) Syntax.tnil))))))) (List._∷_ (7, Rows.any-gone (Syntax.tyInt Syntax.w64)) (List._∷_ (8, Rows.any-gone (Syntax.tyInt Syntax.w64)) (List._∷_ (9, Rows.any-gone (Laws.mir)) (List._∷_ (10, Rows.any-gone (Syntax.tyStruct (List._∷_ 116 (List._∷_ 101 (List._∷_ 120 (List._∷_ 116 (List._∷_ 95 (List._∷_ 114 (List._∷_ 101 (List._∷_ 97 (List._∷_ 100 (List._∷_ 105 (List._∷_ 110 (List._∷_ 103 (List._∷_ 58 (List._∷_ 58 (List._∷_ 82 (List._∷_ 101 (List._∷_ 97 (List._∷_ 100 (List._∷_ 101 (List._∷_ 114 List.[])))))))))))))))))))) (Syntax.tcons (Syntax.tyInt Syntax.w8) (Syntax.tcons (Syntax.tyInt Syntax.w64) (Syntax.tcons (Syntax.tyEnum (List._∷_ 116 (List._∷_ 101 (List._∷_ 120 (List._∷_ 116 (List._∷_ 95 (List._∷_ 114 (List._∷_ 101 (List._∷_ 97 (List._∷_ 100 (List._∷_ 105 (List._∷_ 110 (List._∷_ 103 (List._∷_ 58 (List._∷_ 58 (List._∷_ 72 (List._∷_ 101 (List._∷_ 108 (List._∷_ 100 List.[])))))))))))))))))) (Syntax.ttcons Syntax.tnil (Syntax.ttcons Syntax.tnil (Syntax.ttcons (Syntax.tcons (Syntax.tyInt Syntax.w8) Syntax.tnil) (Syntax.ttcons Syntax.tnil (Syntax.ttcons (Syntax.tcons (Syntax.tyInt Syntax.w8) Syntax.tnil) (Syntax.ttcons (Syntax.tcons (Syntax.tyInt Syntax.w8) Syntax.tnil) (Syntax.ttcons Syntax.tnil (Syntax.ttcons (Syntax.tcons (Syntax.tyInt Syntax.w8) Syntax.tnil) (Syntax.ttcons Syntax.tnil (Syntax.ttcons (Syntax.tcons (Syntax.tyEnum (List._∷_ 116 (List._∷_ 101 (List._∷_ 120 (List._∷_ 116 (List._∷_ 95 (List._∷_ 114 (List._∷_ 101 (List._∷_ 97 (List._∷_ 100 (List._∷_ 105 (List._∷_ 110 (List._∷_ 103 (List._∷_ 58 (List._∷_ 58 (List._∷_ 70 (List._∷_ 97 (List._∷_ 117 (List._∷_ 108 (List._∷_ 116 List.[]))))))))))))))))))) (Syntax.ttcons Syntax.tnil (Syntax.ttcons Syntax.tnil (Syntax.ttcons Syntax.tnil (Syntax.ttcons Syntax.tnil Syntax.ttnil))))) Syntax.tnil) Syntax.ttnil))))))))))) (Syntax.tcons (Syntax.tyArray (Syntax.tyInt Syntax.w8) 32) (Syntax.tcons (Syntax.tyInt Syntax.w64) Syntax.tnil))))))) (List._∷_ (11, Rows.any-gone Syntax.tyBool) (List._∷_ (12, Rows.any-gone (Syntax.tyRef Syntax.erased Syntax.mut OfOutput.named)) (List._∷_ (13, Rows.any-gone (Syntax.tyStruct (List._∷_ 38 (List._∷_ 91 (List._∷_ 93 List.[]))) (Syntax.tcons (Syntax.tyRef Syntax.erased Syntax.mut OfOutput.named) (Syntax.tcons (Syntax.tyInt Syntax.w64) Syntax.tnil)))) (List._∷_ (14, Rows.any-gone (Syntax.tyRef Syntax.erased Syntax.mut OfStation.named)) (List._∷_ (15, Rows.any-gone (Syntax.tyStruct (List._∷_ 38 (List._∷_ 91 (List._∷_ 93 List.[]))) (Syntax.tcons (Syntax.tyRef Syntax.erased Syntax.mut OfStation.named) (Syntax.tcons (Syntax.tyInt Syntax.w64) Syntax.tnil)))) List.[])))))))))))))))
+t0 = List._∷_ (0, Rows.any-gone (Laws.mir)) (List._∷_ (1, Mut.mslice (OfOutput.row) (Syntax.tyRef (Syntax.named 0) Syntax.mut OfOutput.named) 0) (List._∷_ (2, Mut.mslice (OfStation.row) (Syntax.tyRef (Syntax.named 1) Syntax.mut OfStation.named) 1) (List._∷_ (3, Rows.mref (OfPanelRecord.row) (Syntax.tyRef (Syntax.named 2) Syntax.mut OfPanelRecord.named) 2) (List._∷_ (4, Mut.mslice (Referent.rtF (Referent.fInt Syntax.w8)) (Syntax.tyRef (Syntax.named 3) Syntax.mut (Syntax.tyInt Syntax.w8)) 3) (List._∷_ (5, Mut.mslice (Referent.rtF (Referent.fInt Syntax.w8)) (Syntax.tyRef (Syntax.named 4) Syntax.mut (Syntax.tyInt Syntax.w8)) 4) (List._∷_ (6, Rows.any-gone (Syntax.tyStruct (List._∷_ 116 (List._∷_ 101 (List._∷_ 120 (List._∷_ 116 (List._∷_ 95 (List._∷_ 114 (List._∷_ 101 (List._∷_ 97 (List._∷_ 100 (List._∷_ 105 (List._∷_ 110 (List._∷_ 103 (List._∷_ 58 (List._∷_ 58 (List._∷_ 82 (List._∷_ 101 (List._∷_ 97 (List._∷_ 100 (List._∷_ 101 (List._∷_ 114 List.[])))))))))))))))))))) (Syntax.tcons (Syntax.tyInt Syntax.w8) (Syntax.tcons (Syntax.tyInt Syntax.w64) (Syntax.tcons (Syntax.tyEnum (List._∷_ 116 (List._∷_ 101 (List._∷_ 120 (List._∷_ 116 (List._∷_ 95 (List._∷_ 114 (List._∷_ 101 (List._∷_ 97 (List._∷_ 100 (List._∷_ 105 (List._∷_ 110 (List._∷_ 103 (List._∷_ 58 (List._∷_ 58 (List._∷_ 72 (List._∷_ 101 (List._∷_ 108 (List._∷_ 100 List.[])))))))))))))))))) (Syntax.ttcons Syntax.tnil (Syntax.ttcons Syntax.tnil (Syntax.ttcons (Syntax.tcons (Syntax.tyInt Syntax.w8) Syntax.tnil) (Syntax.ttcons Syntax.tnil (Syntax.ttcons (Syntax.tcons (Syntax.tyInt Syntax.w8) Syntax.tnil) (Syntax.ttcons (Syntax.tcons (Syntax.tyInt Syntax.w8) Syntax.tnil) (Syntax.ttcons Syntax.tnil (Syntax.ttcons (Syntax.tcons (Syntax.tyInt Syntax.w8) Syntax.tnil) (Syntax.ttcons Syntax.tnil (Syntax.ttcons (Syntax.tcons (Syntax.tyEnum (List._∷_ 116 (List._∷_ 101 (List._∷_ 120 (List._∷_ 116 (List._∷_ 95 (List._∷_ 114 (List._∷_ 101 (List._∷_ 97 (List._∷_ 100 (List._∷_ 105 (List._∷_ 110 (List._∷_ 103 (List._∷_ 58 (List._∷_ 58 (List._∷_ 70 (List._∷_ 97 (List._∷_ 117 (List._∷_ 108 (List._∷_ 116 List.[]))))))))))))))))))) (Syntax.ttcons Syntax.tnil (Syntax.ttcons Syntax.tnil (Syntax.ttcons Syntax.tnil (Syntax.ttcons Syntax.tnil Syntax.ttnil))))) Syntax.tnil) Syntax.ttnil))))))))))) (Syntax.tcons (Syntax.tyArray (Syntax.tyInt Syntax.w8) 32) (Syntax.tcons (Syntax.tyInt Syntax.w64) Syntax.tnil))))))) (List._∷_ (7, Rows.any-gone (Syntax.tyInt Syntax.w64)) (List._∷_ (8, Rows.any-gone (Syntax.tyInt Syntax.w64)) (List._∷_ (9, Rows.any-gone (Laws.mir)) (List._∷_ (10, Rows.any-gone (Syntax.tyStruct (List._∷_ 116 (List._∷_ 101 (List._∷_ 120 (List._∷_ 116 (List._∷_ 95 (List._∷_ 114 (List._∷_ 101 (List._∷_ 97 (List._∷_ 100 (List._∷_ 105 (List._∷_ 110 (List._∷_ 103 (List._∷_ 58 (List._∷_ 58 (List._∷_ 82 (List._∷_ 101 (List._∷_ 97 (List._∷_ 100 (List._∷_ 101 (List._∷_ 114 List.[])))))))))))))))))))) (Syntax.tcons (Syntax.tyInt Syntax.w8) (Syntax.tcons (Syntax.tyInt Syntax.w64) (Syntax.tcons (Syntax.tyEnum (List._∷_ 116 (List._∷_ 101 (List._∷_ 120 (List._∷_ 116 (List._∷_ 95 (List._∷_ 114 (List._∷_ 101 (List._∷_ 97 (List._∷_ 100 (List._∷_ 105 (List._∷_ 110 (List._∷_ 103 (List._∷_ 58 (List._∷_ 58 (List._∷_ 72 (List._∷_ 101 (List._∷_ 108 (List._∷_ 100 List.[])))))))))))))))))) (Syntax.ttcons Syntax.tnil (Syntax.ttcons Syntax.tnil (Syntax.ttcons (Syntax.tcons (Syntax.tyInt Syntax.w8) Syntax.tnil) (Syntax.ttcons Syntax.tnil (Syntax.ttcons (Syntax.tcons (Syntax.tyInt Syntax.w8) Syntax.tnil) (Syntax.ttcons (Syntax.tcons (Syntax.tyInt Syntax.w8) Syntax.tnil) (Syntax.ttcons Syntax.tnil (Syntax.ttcons (Syntax.tcons (Syntax.tyInt Syntax.w8) Syntax.tnil) (Syntax.ttcons Syntax.tnil (Syntax.ttcons (Syntax.tcons (Syntax.tyEnum (List._∷_ 116 (List._∷_ 101 (List._∷_ 120 (List._∷_ 116 (List._∷_ 95 (List._∷_ 114 (List._∷_ 101 (List._∷_ 97 (List._∷_ 100 (List._∷_ 105 (List._∷_ 110 (List._∷_ 103 (List._∷_ 58 (List._∷_ 58 (List._∷_ 70 (List._∷_ 97 (List._∷_ 117 (List._∷_ 108 (List._∷_ 116 List.[]))))))))))))))))))) (Syntax.ttcons Syntax.tnil (Syntax.ttcons Syntax.tnil (Syntax.ttcons Syntax.tnil (Syntax.ttcons Syntax.tnil Syntax.ttnil))))) Syntax.tnil) Syntax.ttnil))))))))))) (Syntax.tcons (Syntax.tyArray (Syntax.tyInt Syntax.w8) 32) (Syntax.tcons (Syntax.tyInt Syntax.w64) Syntax.tnil))))))) (List._∷_ (11, Rows.any-gone Syntax.tyBool) (List._∷_ (12, Rows.any-gone (Syntax.tyRef Syntax.erased Syntax.mut OfOutput.named)) (List._∷_ (13, Rows.any-gone (Syntax.tyStruct (List._∷_ 38 (List._∷_ 91 (List._∷_ 93 List.[]))) (Syntax.tcons (Syntax.tyRef Syntax.erased Syntax.mut OfOutput.named) (Syntax.tcons (Syntax.tyInt Syntax.w64) Syntax.tnil)))) (List._∷_ (14, Rows.any-gone (Syntax.tyRef Syntax.erased Syntax.mut OfStation.named)) (List._∷_ (15, Rows.any-gone (Syntax.tyStruct (List._∷_ 38 (List._∷_ 91 (List._∷_ 93 List.[]))) (Syntax.tcons (Syntax.tyRef Syntax.erased Syntax.mut OfStation.named) (Syntax.tcons (Syntax.tyInt Syntax.w64) Syntax.tnil)))) List.[])))))))))))))))
 
 abbrev pub t1 : List.List Row.Entry
-t1 = List._∷_ (16, Rows.any-gone (Syntax.tyRef Syntax.erased Syntax.mut (Syntax.tyInt Syntax.w64))) (List._∷_ (17, Rows.any-gone (Syntax.tyRef Syntax.erased Syntax.mut (Syntax.tyInt Syntax.w8))) (List._∷_ (18, Rows.any-gone (Syntax.tyStruct (List._∷_ 38 (List._∷_ 91 (List._∷_ 93 List.[]))) (Syntax.tcons (Syntax.tyRef Syntax.erased Syntax.mut (Syntax.tyInt Syntax.w8)) (Syntax.tcons (Syntax.tyInt Syntax.w64) Syntax.tnil)))) (List._∷_ (19, Rows.any-gone (Syntax.tyRef Syntax.erased Syntax.mut (Syntax.tyInt Syntax.w8))) (List._∷_ (20, Rows.any-gone (Syntax.tyStruct (List._∷_ 38 (List._∷_ 91 (List._∷_ 93 List.[]))) (Syntax.tcons (Syntax.tyRef Syntax.erased Syntax.mut (Syntax.tyInt Syntax.w8)) (Syntax.tcons (Syntax.tyInt Syntax.w64) Syntax.tnil)))) List.[]))))
+t1 = List._∷_ (16, Rows.any-gone (Syntax.tyRef Syntax.erased Syntax.mut OfPanelRecord.named)) (List._∷_ (17, Rows.any-gone (Syntax.tyRef Syntax.erased Syntax.mut (Syntax.tyInt Syntax.w8))) (List._∷_ (18, Rows.any-gone (Syntax.tyStruct (List._∷_ 38 (List._∷_ 91 (List._∷_ 93 List.[]))) (Syntax.tcons (Syntax.tyRef Syntax.erased Syntax.mut (Syntax.tyInt Syntax.w8)) (Syntax.tcons (Syntax.tyInt Syntax.w64) Syntax.tnil)))) (List._∷_ (19, Rows.any-gone (Syntax.tyRef Syntax.erased Syntax.mut (Syntax.tyInt Syntax.w8))) (List._∷_ (20, Rows.any-gone (Syntax.tyStruct (List._∷_ 38 (List._∷_ 91 (List._∷_ 93 List.[]))) (Syntax.tcons (Syntax.tyRef Syntax.erased Syntax.mut (Syntax.tyInt Syntax.w8)) (Syntax.tcons (Syntax.tyInt Syntax.w64) Syntax.tnil)))) List.[]))))
 
 abbrev pub t2 : List.List Row.Entry
-t2 = List._∷_ (0, Rows.whole (Declared.row Turn.the-type)) (List._∷_ (1, Mut.mslice (OfOutput.row) (Syntax.tyRef (Syntax.named 0) Syntax.mut OfOutput.named) 0) (List._∷_ (2, Mut.mslice (OfStation.row) (Syntax.tyRef (Syntax.named 1) Syntax.mut OfStation.named) 1) (List._∷_ (3, Rows.mref (Referent.rtF (Referent.fInt Syntax.w64)) (Syntax.tyRef (Syntax.named 2) Syntax.mut (Syntax.tyInt Syntax.w64)) 2) (List._∷_ (4, Mut.mslice (Referent.rtF (Referent.fInt Syntax.w8)) (Syntax.tyRef (Syntax.named 3) Syntax.mut (Syntax.tyInt Syntax.w8)) 3) (List._∷_ (5, Mut.mslice (Referent.rtF (Referent.fInt Syntax.w8)) (Syntax.tyRef (Syntax.named 4) Syntax.mut (Syntax.tyInt Syntax.w8)) 4) (List._∷_ (6, Rows.any-gone (Syntax.tyStruct (List._∷_ 116 (List._∷_ 101 (List._∷_ 120 (List._∷_ 116 (List._∷_ 95 (List._∷_ 114 (List._∷_ 101 (List._∷_ 97 (List._∷_ 100 (List._∷_ 105 (List._∷_ 110 (List._∷_ 103 (List._∷_ 58 (List._∷_ 58 (List._∷_ 82 (List._∷_ 101 (List._∷_ 97 (List._∷_ 100 (List._∷_ 101 (List._∷_ 114 List.[])))))))))))))))))))) (Syntax.tcons (Syntax.tyInt Syntax.w8) (Syntax.tcons (Syntax.tyInt Syntax.w64) (Syntax.tcons (Syntax.tyEnum (List._∷_ 116 (List._∷_ 101 (List._∷_ 120 (List._∷_ 116 (List._∷_ 95 (List._∷_ 114 (List._∷_ 101 (List._∷_ 97 (List._∷_ 100 (List._∷_ 105 (List._∷_ 110 (List._∷_ 103 (List._∷_ 58 (List._∷_ 58 (List._∷_ 72 (List._∷_ 101 (List._∷_ 108 (List._∷_ 100 List.[])))))))))))))))))) (Syntax.ttcons Syntax.tnil (Syntax.ttcons Syntax.tnil (Syntax.ttcons (Syntax.tcons (Syntax.tyInt Syntax.w8) Syntax.tnil) (Syntax.ttcons Syntax.tnil (Syntax.ttcons (Syntax.tcons (Syntax.tyInt Syntax.w8) Syntax.tnil) (Syntax.ttcons (Syntax.tcons (Syntax.tyInt Syntax.w8) Syntax.tnil) (Syntax.ttcons Syntax.tnil (Syntax.ttcons (Syntax.tcons (Syntax.tyInt Syntax.w8) Syntax.tnil) (Syntax.ttcons Syntax.tnil (Syntax.ttcons (Syntax.tcons (Syntax.tyEnum (List._∷_ 116 (List._∷_ 101 (List._∷_ 120 (List._∷_ 116 (List._∷_ 95 (List._∷_ 114 (List._∷_ 101 (List._∷_ 97 (List._∷_ 100 (List._∷_ 105 (List._∷_ 110 (List._∷_ 103 (List._∷_ 58 (List._∷_ 58 (List._∷_ 70 (List._∷_ 97 (List._∷_ 117 (List._∷_ 108 (List._∷_ 116 List.[]))))))))))))))))))) (Syntax.ttcons Syntax.tnil (Syntax.ttcons Syntax.tnil (Syntax.ttcons Syntax.tnil (Syntax.ttcons Syntax.tnil Syntax.ttnil))))) Syntax.tnil) Syntax.ttnil))))))))))) (Syntax.tcons (Syntax.tyArray (Syntax.tyInt Syntax.w8) 32) (Syntax.tcons (Syntax.tyInt Syntax.w64) Syntax.tnil))))))) (List._∷_ (7, Rows.any-gone (Syntax.tyInt Syntax.w64)) (List._∷_ (8, Rows.any-gone (Syntax.tyInt Syntax.w64)) (List._∷_ (9, Rows.any-gone (Laws.mir)) (List._∷_ (10, Rows.any-gone (Syntax.tyStruct (List._∷_ 116 (List._∷_ 101 (List._∷_ 120 (List._∷_ 116 (List._∷_ 95 (List._∷_ 114 (List._∷_ 101 (List._∷_ 97 (List._∷_ 100 (List._∷_ 105 (List._∷_ 110 (List._∷_ 103 (List._∷_ 58 (List._∷_ 58 (List._∷_ 82 (List._∷_ 101 (List._∷_ 97 (List._∷_ 100 (List._∷_ 101 (List._∷_ 114 List.[])))))))))))))))))))) (Syntax.tcons (Syntax.tyInt Syntax.w8) (Syntax.tcons (Syntax.tyInt Syntax.w64) (Syntax.tcons (Syntax.tyEnum (List._∷_ 116 (List._∷_ 101 (List._∷_ 120 (List._∷_ 116 (List._∷_ 95 (List._∷_ 114 (List._∷_ 101 (List._∷_ 97 (List._∷_ 100 (List._∷_ 105 (List._∷_ 110 (List._∷_ 103 (List._∷_ 58 (List._∷_ 58 (List._∷_ 72 (List._∷_ 101 (List._∷_ 108 (List._∷_ 100 List.[])))))))))))))))))) (Syntax.ttcons Syntax.tnil (Syntax.ttcons Syntax.tnil (Syntax.ttcons (Syntax.tcons (Syntax.tyInt Syntax.w8) Syntax.tnil) (Syntax.ttcons Syntax.tnil (Syntax.ttcons (Syntax.tcons (Syntax.tyInt Syntax.w8) Syntax.tnil) (Syntax.ttcons (Syntax.tcons (Syntax.tyInt Syntax.w8) Syntax.tnil) (Syntax.ttcons Syntax.tnil (Syntax.ttcons (Syntax.tcons (Syntax.tyInt Syntax.w8) Syntax.tnil) (Syntax.ttcons Syntax.tnil (Syntax.ttcons (Syntax.tcons (Syntax.tyEnum (List._∷_ 116 (List._∷_ 101 (List._∷_ 120 (List._∷_ 116 (List._∷_ 95 (List._∷_ 114 (List._∷_ 101 (List._∷_ 97 (List._∷_ 100 (List._∷_ 105 (List._∷_ 110 (List._∷_ 103 (List._∷_ 58 (List._∷_ 58 (List._∷_ 70 (List._∷_ 97 (List._∷_ 117 (List._∷_ 108 (List._∷_ 116 List.[]))))))))))))))))))) (Syntax.ttcons Syntax.tnil (Syntax.ttcons Syntax.tnil (Syntax.ttcons Syntax.tnil (Syntax.ttcons Syntax.tnil Syntax.ttnil))))) Syntax.tnil) Syntax.ttnil))))))))))) (Syntax.tcons (Syntax.tyArray (Syntax.tyInt Syntax.w8) 32) (Syntax.tcons (Syntax.tyInt Syntax.w64) Syntax.tnil))))))) (List._∷_ (11, Rows.any-gone Syntax.tyBool) (List._∷_ (12, Rows.any-gone (Syntax.tyRef Syntax.erased Syntax.mut OfOutput.named)) (List._∷_ (13, Rows.any-gone (Syntax.tyStruct (List._∷_ 38 (List._∷_ 91 (List._∷_ 93 List.[]))) (Syntax.tcons (Syntax.tyRef Syntax.erased Syntax.mut OfOutput.named) (Syntax.tcons (Syntax.tyInt Syntax.w64) Syntax.tnil)))) (List._∷_ (14, Rows.any-gone (Syntax.tyRef Syntax.erased Syntax.mut OfStation.named)) (List._∷_ (15, Rows.any-gone (Syntax.tyStruct (List._∷_ 38 (List._∷_ 91 (List._∷_ 93 List.[]))) (Syntax.tcons (Syntax.tyRef Syntax.erased Syntax.mut OfStation.named) (Syntax.tcons (Syntax.tyInt Syntax.w64) Syntax.tnil)))) List.[])))))))))))))))
+t2 = List._∷_ (0, Rows.whole (Declared.row Turn.the-type)) (List._∷_ (1, Mut.mslice (OfOutput.row) (Syntax.tyRef (Syntax.named 0) Syntax.mut OfOutput.named) 0) (List._∷_ (2, Mut.mslice (OfStation.row) (Syntax.tyRef (Syntax.named 1) Syntax.mut OfStation.named) 1) (List._∷_ (3, Rows.mref (OfPanelRecord.row) (Syntax.tyRef (Syntax.named 2) Syntax.mut OfPanelRecord.named) 2) (List._∷_ (4, Mut.mslice (Referent.rtF (Referent.fInt Syntax.w8)) (Syntax.tyRef (Syntax.named 3) Syntax.mut (Syntax.tyInt Syntax.w8)) 3) (List._∷_ (5, Mut.mslice (Referent.rtF (Referent.fInt Syntax.w8)) (Syntax.tyRef (Syntax.named 4) Syntax.mut (Syntax.tyInt Syntax.w8)) 4) (List._∷_ (6, Rows.any-gone (Syntax.tyStruct (List._∷_ 116 (List._∷_ 101 (List._∷_ 120 (List._∷_ 116 (List._∷_ 95 (List._∷_ 114 (List._∷_ 101 (List._∷_ 97 (List._∷_ 100 (List._∷_ 105 (List._∷_ 110 (List._∷_ 103 (List._∷_ 58 (List._∷_ 58 (List._∷_ 82 (List._∷_ 101 (List._∷_ 97 (List._∷_ 100 (List._∷_ 101 (List._∷_ 114 List.[])))))))))))))))))))) (Syntax.tcons (Syntax.tyInt Syntax.w8) (Syntax.tcons (Syntax.tyInt Syntax.w64) (Syntax.tcons (Syntax.tyEnum (List._∷_ 116 (List._∷_ 101 (List._∷_ 120 (List._∷_ 116 (List._∷_ 95 (List._∷_ 114 (List._∷_ 101 (List._∷_ 97 (List._∷_ 100 (List._∷_ 105 (List._∷_ 110 (List._∷_ 103 (List._∷_ 58 (List._∷_ 58 (List._∷_ 72 (List._∷_ 101 (List._∷_ 108 (List._∷_ 100 List.[])))))))))))))))))) (Syntax.ttcons Syntax.tnil (Syntax.ttcons Syntax.tnil (Syntax.ttcons (Syntax.tcons (Syntax.tyInt Syntax.w8) Syntax.tnil) (Syntax.ttcons Syntax.tnil (Syntax.ttcons (Syntax.tcons (Syntax.tyInt Syntax.w8) Syntax.tnil) (Syntax.ttcons (Syntax.tcons (Syntax.tyInt Syntax.w8) Syntax.tnil) (Syntax.ttcons Syntax.tnil (Syntax.ttcons (Syntax.tcons (Syntax.tyInt Syntax.w8) Syntax.tnil) (Syntax.ttcons Syntax.tnil (Syntax.ttcons (Syntax.tcons (Syntax.tyEnum (List._∷_ 116 (List._∷_ 101 (List._∷_ 120 (List._∷_ 116 (List._∷_ 95 (List._∷_ 114 (List._∷_ 101 (List._∷_ 97 (List._∷_ 100 (List._∷_ 105 (List._∷_ 110 (List._∷_ 103 (List._∷_ 58 (List._∷_ 58 (List._∷_ 70 (List._∷_ 97 (List._∷_ 117 (List._∷_ 108 (List._∷_ 116 List.[]))))))))))))))))))) (Syntax.ttcons Syntax.tnil (Syntax.ttcons Syntax.tnil (Syntax.ttcons Syntax.tnil (Syntax.ttcons Syntax.tnil Syntax.ttnil))))) Syntax.tnil) Syntax.ttnil))))))))))) (Syntax.tcons (Syntax.tyArray (Syntax.tyInt Syntax.w8) 32) (Syntax.tcons (Syntax.tyInt Syntax.w64) Syntax.tnil))))))) (List._∷_ (7, Rows.any-gone (Syntax.tyInt Syntax.w64)) (List._∷_ (8, Rows.any-gone (Syntax.tyInt Syntax.w64)) (List._∷_ (9, Rows.any-gone (Laws.mir)) (List._∷_ (10, Rows.any-gone (Syntax.tyStruct (List._∷_ 116 (List._∷_ 101 (List._∷_ 120 (List._∷_ 116 (List._∷_ 95 (List._∷_ 114 (List._∷_ 101 (List._∷_ 97 (List._∷_ 100 (List._∷_ 105 (List._∷_ 110 (List._∷_ 103 (List._∷_ 58 (List._∷_ 58 (List._∷_ 82 (List._∷_ 101 (List._∷_ 97 (List._∷_ 100 (List._∷_ 101 (List._∷_ 114 List.[])))))))))))))))))))) (Syntax.tcons (Syntax.tyInt Syntax.w8) (Syntax.tcons (Syntax.tyInt Syntax.w64) (Syntax.tcons (Syntax.tyEnum (List._∷_ 116 (List._∷_ 101 (List._∷_ 120 (List._∷_ 116 (List._∷_ 95 (List._∷_ 114 (List._∷_ 101 (List._∷_ 97 (List._∷_ 100 (List._∷_ 105 (List._∷_ 110 (List._∷_ 103 (List._∷_ 58 (List._∷_ 58 (List._∷_ 72 (List._∷_ 101 (List._∷_ 108 (List._∷_ 100 List.[])))))))))))))))))) (Syntax.ttcons Syntax.tnil (Syntax.ttcons Syntax.tnil (Syntax.ttcons (Syntax.tcons (Syntax.tyInt Syntax.w8) Syntax.tnil) (Syntax.ttcons Syntax.tnil (Syntax.ttcons (Syntax.tcons (Syntax.tyInt Syntax.w8) Syntax.tnil) (Syntax.ttcons (Syntax.tcons (Syntax.tyInt Syntax.w8) Syntax.tnil) (Syntax.ttcons Syntax.tnil (Syntax.ttcons (Syntax.tcons (Syntax.tyInt Syntax.w8) Syntax.tnil) (Syntax.ttcons Syntax.tnil (Syntax.ttcons (Syntax.tcons (Syntax.tyEnum (List._∷_ 116 (List._∷_ 101 (List._∷_ 120 (List._∷_ 116 (List._∷_ 95 (List._∷_ 114 (List._∷_ 101 (List._∷_ 97 (List._∷_ 100 (List._∷_ 105 (List._∷_ 110 (List._∷_ 103 (List._∷_ 58 (List._∷_ 58 (List._∷_ 70 (List._∷_ 97 (List._∷_ 117 (List._∷_ 108 (List._∷_ 116 List.[]))))))))))))))))))) (Syntax.ttcons Syntax.tnil (Syntax.ttcons Syntax.tnil (Syntax.ttcons Syntax.tnil (Syntax.ttcons Syntax.tnil Syntax.ttnil))))) Syntax.tnil) Syntax.ttnil))))))))))) (Syntax.tcons (Syntax.tyArray (Syntax.tyInt Syntax.w8) 32) (Syntax.tcons (Syntax.tyInt Syntax.w64) Syntax.tnil))))))) (List._∷_ (11, Rows.any-gone Syntax.tyBool) (List._∷_ (12, Rows.any-gone (Syntax.tyRef Syntax.erased Syntax.mut OfOutput.named)) (List._∷_ (13, Rows.any-gone (Syntax.tyStruct (List._∷_ 38 (List._∷_ 91 (List._∷_ 93 List.[]))) (Syntax.tcons (Syntax.tyRef Syntax.erased Syntax.mut OfOutput.named) (Syntax.tcons (Syntax.tyInt Syntax.w64) Syntax.tnil)))) (List._∷_ (14, Rows.any-gone (Syntax.tyRef Syntax.erased Syntax.mut OfStation.named)) (List._∷_ (15, Rows.any-gone (Syntax.tyStruct (List._∷_ 38 (List._∷_ 91 (List._∷_ 93 List.[]))) (Syntax.tcons (Syntax.tyRef Syntax.erased Syntax.mut OfStation.named) (Syntax.tcons (Syntax.tyInt Syntax.w64) Syntax.tnil)))) List.[])))))))))))))))
 
 abbrev pub t3 : List.List Row.Entry
-t3 = List._∷_ (0, Rows.any-gone (Laws.mir)) (List._∷_ (1, Mut.mslice (OfOutput.row) (Syntax.tyRef (Syntax.named 0) Syntax.mut OfOutput.named) 0) (List._∷_ (2, Mut.mslice (OfStation.row) (Syntax.tyRef (Syntax.named 1) Syntax.mut OfStation.named) 1) (List._∷_ (3, Rows.mref (Referent.rtF (Referent.fInt Syntax.w64)) (Syntax.tyRef (Syntax.named 2) Syntax.mut (Syntax.tyInt Syntax.w64)) 2) (List._∷_ (4, Mut.mslice (Referent.rtF (Referent.fInt Syntax.w8)) (Syntax.tyRef (Syntax.named 3) Syntax.mut (Syntax.tyInt Syntax.w8)) 3) (List._∷_ (5, Mut.mslice (Referent.rtF (Referent.fInt Syntax.w8)) (Syntax.tyRef (Syntax.named 4) Syntax.mut (Syntax.tyInt Syntax.w8)) 4) (List._∷_ (6, Rows.whole (Declared.row Reader.the-type)) (List._∷_ (7, Rows.any-gone (Syntax.tyInt Syntax.w64)) (List._∷_ (8, Rows.any-gone (Syntax.tyInt Syntax.w64)) (List._∷_ (9, Rows.any-gone (Laws.mir)) (List._∷_ (10, Rows.any-gone (Syntax.tyStruct (List._∷_ 116 (List._∷_ 101 (List._∷_ 120 (List._∷_ 116 (List._∷_ 95 (List._∷_ 114 (List._∷_ 101 (List._∷_ 97 (List._∷_ 100 (List._∷_ 105 (List._∷_ 110 (List._∷_ 103 (List._∷_ 58 (List._∷_ 58 (List._∷_ 82 (List._∷_ 101 (List._∷_ 97 (List._∷_ 100 (List._∷_ 101 (List._∷_ 114 List.[])))))))))))))))))))) (Syntax.tcons (Syntax.tyInt Syntax.w8) (Syntax.tcons (Syntax.tyInt Syntax.w64) (Syntax.tcons (Syntax.tyEnum (List._∷_ 116 (List._∷_ 101 (List._∷_ 120 (List._∷_ 116 (List._∷_ 95 (List._∷_ 114 (List._∷_ 101 (List._∷_ 97 (List._∷_ 100 (List._∷_ 105 (List._∷_ 110 (List._∷_ 103 (List._∷_ 58 (List._∷_ 58 (List._∷_ 72 (List._∷_ 101 (List._∷_ 108 (List._∷_ 100 List.[])))))))))))))))))) (Syntax.ttcons Syntax.tnil (Syntax.ttcons Syntax.tnil (Syntax.ttcons (Syntax.tcons (Syntax.tyInt Syntax.w8) Syntax.tnil) (Syntax.ttcons Syntax.tnil (Syntax.ttcons (Syntax.tcons (Syntax.tyInt Syntax.w8) Syntax.tnil) (Syntax.ttcons (Syntax.tcons (Syntax.tyInt Syntax.w8) Syntax.tnil) (Syntax.ttcons Syntax.tnil (Syntax.ttcons (Syntax.tcons (Syntax.tyInt Syntax.w8) Syntax.tnil) (Syntax.ttcons Syntax.tnil (Syntax.ttcons (Syntax.tcons (Syntax.tyEnum (List._∷_ 116 (List._∷_ 101 (List._∷_ 120 (List._∷_ 116 (List._∷_ 95 (List._∷_ 114 (List._∷_ 101 (List._∷_ 97 (List._∷_ 100 (List._∷_ 105 (List._∷_ 110 (List._∷_ 103 (List._∷_ 58 (List._∷_ 58 (List._∷_ 70 (List._∷_ 97 (List._∷_ 117 (List._∷_ 108 (List._∷_ 116 List.[]))))))))))))))))))) (Syntax.ttcons Syntax.tnil (Syntax.ttcons Syntax.tnil (Syntax.ttcons Syntax.tnil (Syntax.ttcons Syntax.tnil Syntax.ttnil))))) Syntax.tnil) Syntax.ttnil))))))))))) (Syntax.tcons (Syntax.tyArray (Syntax.tyInt Syntax.w8) 32) (Syntax.tcons (Syntax.tyInt Syntax.w64) Syntax.tnil))))))) (List._∷_ (11, Rows.any-gone Syntax.tyBool) (List._∷_ (12, Rows.any-gone (Syntax.tyRef Syntax.erased Syntax.mut OfOutput.named)) (List._∷_ (13, Rows.any-gone (Syntax.tyStruct (List._∷_ 38 (List._∷_ 91 (List._∷_ 93 List.[]))) (Syntax.tcons (Syntax.tyRef Syntax.erased Syntax.mut OfOutput.named) (Syntax.tcons (Syntax.tyInt Syntax.w64) Syntax.tnil)))) (List._∷_ (14, Rows.any-gone (Syntax.tyRef Syntax.erased Syntax.mut OfStation.named)) (List._∷_ (15, Rows.any-gone (Syntax.tyStruct (List._∷_ 38 (List._∷_ 91 (List._∷_ 93 List.[]))) (Syntax.tcons (Syntax.tyRef Syntax.erased Syntax.mut OfStation.named) (Syntax.tcons (Syntax.tyInt Syntax.w64) Syntax.tnil)))) List.[])))))))))))))))
+t3 = List._∷_ (0, Rows.any-gone (Laws.mir)) (List._∷_ (1, Mut.mslice (OfOutput.row) (Syntax.tyRef (Syntax.named 0) Syntax.mut OfOutput.named) 0) (List._∷_ (2, Mut.mslice (OfStation.row) (Syntax.tyRef (Syntax.named 1) Syntax.mut OfStation.named) 1) (List._∷_ (3, Rows.mref (OfPanelRecord.row) (Syntax.tyRef (Syntax.named 2) Syntax.mut OfPanelRecord.named) 2) (List._∷_ (4, Mut.mslice (Referent.rtF (Referent.fInt Syntax.w8)) (Syntax.tyRef (Syntax.named 3) Syntax.mut (Syntax.tyInt Syntax.w8)) 3) (List._∷_ (5, Mut.mslice (Referent.rtF (Referent.fInt Syntax.w8)) (Syntax.tyRef (Syntax.named 4) Syntax.mut (Syntax.tyInt Syntax.w8)) 4) (List._∷_ (6, Rows.whole (Declared.row Reader.the-type)) (List._∷_ (7, Rows.any-gone (Syntax.tyInt Syntax.w64)) (List._∷_ (8, Rows.any-gone (Syntax.tyInt Syntax.w64)) (List._∷_ (9, Rows.any-gone (Laws.mir)) (List._∷_ (10, Rows.any-gone (Syntax.tyStruct (List._∷_ 116 (List._∷_ 101 (List._∷_ 120 (List._∷_ 116 (List._∷_ 95 (List._∷_ 114 (List._∷_ 101 (List._∷_ 97 (List._∷_ 100 (List._∷_ 105 (List._∷_ 110 (List._∷_ 103 (List._∷_ 58 (List._∷_ 58 (List._∷_ 82 (List._∷_ 101 (List._∷_ 97 (List._∷_ 100 (List._∷_ 101 (List._∷_ 114 List.[])))))))))))))))))))) (Syntax.tcons (Syntax.tyInt Syntax.w8) (Syntax.tcons (Syntax.tyInt Syntax.w64) (Syntax.tcons (Syntax.tyEnum (List._∷_ 116 (List._∷_ 101 (List._∷_ 120 (List._∷_ 116 (List._∷_ 95 (List._∷_ 114 (List._∷_ 101 (List._∷_ 97 (List._∷_ 100 (List._∷_ 105 (List._∷_ 110 (List._∷_ 103 (List._∷_ 58 (List._∷_ 58 (List._∷_ 72 (List._∷_ 101 (List._∷_ 108 (List._∷_ 100 List.[])))))))))))))))))) (Syntax.ttcons Syntax.tnil (Syntax.ttcons Syntax.tnil (Syntax.ttcons (Syntax.tcons (Syntax.tyInt Syntax.w8) Syntax.tnil) (Syntax.ttcons Syntax.tnil (Syntax.ttcons (Syntax.tcons (Syntax.tyInt Syntax.w8) Syntax.tnil) (Syntax.ttcons (Syntax.tcons (Syntax.tyInt Syntax.w8) Syntax.tnil) (Syntax.ttcons Syntax.tnil (Syntax.ttcons (Syntax.tcons (Syntax.tyInt Syntax.w8) Syntax.tnil) (Syntax.ttcons Syntax.tnil (Syntax.ttcons (Syntax.tcons (Syntax.tyEnum (List._∷_ 116 (List._∷_ 101 (List._∷_ 120 (List._∷_ 116 (List._∷_ 95 (List._∷_ 114 (List._∷_ 101 (List._∷_ 97 (List._∷_ 100 (List._∷_ 105 (List._∷_ 110 (List._∷_ 103 (List._∷_ 58 (List._∷_ 58 (List._∷_ 70 (List._∷_ 97 (List._∷_ 117 (List._∷_ 108 (List._∷_ 116 List.[]))))))))))))))))))) (Syntax.ttcons Syntax.tnil (Syntax.ttcons Syntax.tnil (Syntax.ttcons Syntax.tnil (Syntax.ttcons Syntax.tnil Syntax.ttnil))))) Syntax.tnil) Syntax.ttnil))))))))))) (Syntax.tcons (Syntax.tyArray (Syntax.tyInt Syntax.w8) 32) (Syntax.tcons (Syntax.tyInt Syntax.w64) Syntax.tnil))))))) (List._∷_ (11, Rows.any-gone Syntax.tyBool) (List._∷_ (12, Rows.any-gone (Syntax.tyRef Syntax.erased Syntax.mut OfOutput.named)) (List._∷_ (13, Rows.any-gone (Syntax.tyStruct (List._∷_ 38 (List._∷_ 91 (List._∷_ 93 List.[]))) (Syntax.tcons (Syntax.tyRef Syntax.erased Syntax.mut OfOutput.named) (Syntax.tcons (Syntax.tyInt Syntax.w64) Syntax.tnil)))) (List._∷_ (14, Rows.any-gone (Syntax.tyRef Syntax.erased Syntax.mut OfStation.named)) (List._∷_ (15, Rows.any-gone (Syntax.tyStruct (List._∷_ 38 (List._∷_ 91 (List._∷_ 93 List.[]))) (Syntax.tcons (Syntax.tyRef Syntax.erased Syntax.mut OfStation.named) (Syntax.tcons (Syntax.tyInt Syntax.w64) Syntax.tnil)))) List.[])))))))))))))))
 
 abbrev pub t4 : List.List Row.Entry
-t4 = List._∷_ (0, Rows.any-gone (Laws.mir)) (List._∷_ (1, Mut.mslice (OfOutput.row) (Syntax.tyRef (Syntax.named 0) Syntax.mut OfOutput.named) 0) (List._∷_ (2, Mut.mslice (OfStation.row) (Syntax.tyRef (Syntax.named 1) Syntax.mut OfStation.named) 1) (List._∷_ (3, Rows.mref (Referent.rtF (Referent.fInt Syntax.w64)) (Syntax.tyRef (Syntax.named 2) Syntax.mut (Syntax.tyInt Syntax.w64)) 2) (List._∷_ (4, Mut.mslice (Referent.rtF (Referent.fInt Syntax.w8)) (Syntax.tyRef (Syntax.named 3) Syntax.mut (Syntax.tyInt Syntax.w8)) 3) (List._∷_ (5, Mut.mslice (Referent.rtF (Referent.fInt Syntax.w8)) (Syntax.tyRef (Syntax.named 4) Syntax.mut (Syntax.tyInt Syntax.w8)) 4) (List._∷_ (6, Rows.whole (Declared.row Reader.the-type)) (List._∷_ (7, Rows.sc-here (Row.sInt Syntax.w64)) (List._∷_ (8, Rows.any-gone (Syntax.tyInt Syntax.w64)) (List._∷_ (9, Rows.any-gone (Laws.mir)) (List._∷_ (10, Rows.any-gone (Syntax.tyStruct (List._∷_ 116 (List._∷_ 101 (List._∷_ 120 (List._∷_ 116 (List._∷_ 95 (List._∷_ 114 (List._∷_ 101 (List._∷_ 97 (List._∷_ 100 (List._∷_ 105 (List._∷_ 110 (List._∷_ 103 (List._∷_ 58 (List._∷_ 58 (List._∷_ 82 (List._∷_ 101 (List._∷_ 97 (List._∷_ 100 (List._∷_ 101 (List._∷_ 114 List.[])))))))))))))))))))) (Syntax.tcons (Syntax.tyInt Syntax.w8) (Syntax.tcons (Syntax.tyInt Syntax.w64) (Syntax.tcons (Syntax.tyEnum (List._∷_ 116 (List._∷_ 101 (List._∷_ 120 (List._∷_ 116 (List._∷_ 95 (List._∷_ 114 (List._∷_ 101 (List._∷_ 97 (List._∷_ 100 (List._∷_ 105 (List._∷_ 110 (List._∷_ 103 (List._∷_ 58 (List._∷_ 58 (List._∷_ 72 (List._∷_ 101 (List._∷_ 108 (List._∷_ 100 List.[])))))))))))))))))) (Syntax.ttcons Syntax.tnil (Syntax.ttcons Syntax.tnil (Syntax.ttcons (Syntax.tcons (Syntax.tyInt Syntax.w8) Syntax.tnil) (Syntax.ttcons Syntax.tnil (Syntax.ttcons (Syntax.tcons (Syntax.tyInt Syntax.w8) Syntax.tnil) (Syntax.ttcons (Syntax.tcons (Syntax.tyInt Syntax.w8) Syntax.tnil) (Syntax.ttcons Syntax.tnil (Syntax.ttcons (Syntax.tcons (Syntax.tyInt Syntax.w8) Syntax.tnil) (Syntax.ttcons Syntax.tnil (Syntax.ttcons (Syntax.tcons (Syntax.tyEnum (List._∷_ 116 (List._∷_ 101 (List._∷_ 120 (List._∷_ 116 (List._∷_ 95 (List._∷_ 114 (List._∷_ 101 (List._∷_ 97 (List._∷_ 100 (List._∷_ 105 (List._∷_ 110 (List._∷_ 103 (List._∷_ 58 (List._∷_ 58 (List._∷_ 70 (List._∷_ 97 (List._∷_ 117 (List._∷_ 108 (List._∷_ 116 List.[]))))))))))))))))))) (Syntax.ttcons Syntax.tnil (Syntax.ttcons Syntax.tnil (Syntax.ttcons Syntax.tnil (Syntax.ttcons Syntax.tnil Syntax.ttnil))))) Syntax.tnil) Syntax.ttnil))))))))))) (Syntax.tcons (Syntax.tyArray (Syntax.tyInt Syntax.w8) 32) (Syntax.tcons (Syntax.tyInt Syntax.w64) Syntax.tnil))))))) (List._∷_ (11, Rows.any-gone Syntax.tyBool) (List._∷_ (12, Rows.any-gone (Syntax.tyRef Syntax.erased Syntax.mut OfOutput.named)) (List._∷_ (13, Rows.any-gone (Syntax.tyStruct (List._∷_ 38 (List._∷_ 91 (List._∷_ 93 List.[]))) (Syntax.tcons (Syntax.tyRef Syntax.erased Syntax.mut OfOutput.named) (Syntax.tcons (Syntax.tyInt Syntax.w64) Syntax.tnil)))) (List._∷_ (14, Rows.any-gone (Syntax.tyRef Syntax.erased Syntax.mut OfStation.named)) (List._∷_ (15, Rows.any-gone (Syntax.tyStruct (List._∷_ 38 (List._∷_ 91 (List._∷_ 93 List.[]))) (Syntax.tcons (Syntax.tyRef Syntax.erased Syntax.mut OfStation.named) (Syntax.tcons (Syntax.tyInt Syntax.w64) Syntax.tnil)))) List.[])))))))))))))))
+t4 = List._∷_ (0, Rows.any-gone (Laws.mir)) (List._∷_ (1, Mut.mslice (OfOutput.row) (Syntax.tyRef (Syntax.named 0) Syntax.mut OfOutput.named) 0) (List._∷_ (2, Mut.mslice (OfStation.row) (Syntax.tyRef (Syntax.named 1) Syntax.mut OfStation.named) 1) (List._∷_ (3, Rows.mref (OfPanelRecord.row) (Syntax.tyRef (Syntax.named 2) Syntax.mut OfPanelRecord.named) 2) (List._∷_ (4, Mut.mslice (Referent.rtF (Referent.fInt Syntax.w8)) (Syntax.tyRef (Syntax.named 3) Syntax.mut (Syntax.tyInt Syntax.w8)) 3) (List._∷_ (5, Mut.mslice (Referent.rtF (Referent.fInt Syntax.w8)) (Syntax.tyRef (Syntax.named 4) Syntax.mut (Syntax.tyInt Syntax.w8)) 4) (List._∷_ (6, Rows.whole (Declared.row Reader.the-type)) (List._∷_ (7, Rows.sc-here (Row.sInt Syntax.w64)) (List._∷_ (8, Rows.any-gone (Syntax.tyInt Syntax.w64)) (List._∷_ (9, Rows.any-gone (Laws.mir)) (List._∷_ (10, Rows.any-gone (Syntax.tyStruct (List._∷_ 116 (List._∷_ 101 (List._∷_ 120 (List._∷_ 116 (List._∷_ 95 (List._∷_ 114 (List._∷_ 101 (List._∷_ 97 (List._∷_ 100 (List._∷_ 105 (List._∷_ 110 (List._∷_ 103 (List._∷_ 58 (List._∷_ 58 (List._∷_ 82 (List._∷_ 101 (List._∷_ 97 (List._∷_ 100 (List._∷_ 101 (List._∷_ 114 List.[])))))))))))))))))))) (Syntax.tcons (Syntax.tyInt Syntax.w8) (Syntax.tcons (Syntax.tyInt Syntax.w64) (Syntax.tcons (Syntax.tyEnum (List._∷_ 116 (List._∷_ 101 (List._∷_ 120 (List._∷_ 116 (List._∷_ 95 (List._∷_ 114 (List._∷_ 101 (List._∷_ 97 (List._∷_ 100 (List._∷_ 105 (List._∷_ 110 (List._∷_ 103 (List._∷_ 58 (List._∷_ 58 (List._∷_ 72 (List._∷_ 101 (List._∷_ 108 (List._∷_ 100 List.[])))))))))))))))))) (Syntax.ttcons Syntax.tnil (Syntax.ttcons Syntax.tnil (Syntax.ttcons (Syntax.tcons (Syntax.tyInt Syntax.w8) Syntax.tnil) (Syntax.ttcons Syntax.tnil (Syntax.ttcons (Syntax.tcons (Syntax.tyInt Syntax.w8) Syntax.tnil) (Syntax.ttcons (Syntax.tcons (Syntax.tyInt Syntax.w8) Syntax.tnil) (Syntax.ttcons Syntax.tnil (Syntax.ttcons (Syntax.tcons (Syntax.tyInt Syntax.w8) Syntax.tnil) (Syntax.ttcons Syntax.tnil (Syntax.ttcons (Syntax.tcons (Syntax.tyEnum (List._∷_ 116 (List._∷_ 101 (List._∷_ 120 (List._∷_ 116 (List._∷_ 95 (List._∷_ 114 (List._∷_ 101 (List._∷_ 97 (List._∷_ 100 (List._∷_ 105 (List._∷_ 110 (List._∷_ 103 (List._∷_ 58 (List._∷_ 58 (List._∷_ 70 (List._∷_ 97 (List._∷_ 117 (List._∷_ 108 (List._∷_ 116 List.[]))))))))))))))))))) (Syntax.ttcons Syntax.tnil (Syntax.ttcons Syntax.tnil (Syntax.ttcons Syntax.tnil (Syntax.ttcons Syntax.tnil Syntax.ttnil))))) Syntax.tnil) Syntax.ttnil))))))))))) (Syntax.tcons (Syntax.tyArray (Syntax.tyInt Syntax.w8) 32) (Syntax.tcons (Syntax.tyInt Syntax.w64) Syntax.tnil))))))) (List._∷_ (11, Rows.any-gone Syntax.tyBool) (List._∷_ (12, Rows.any-gone (Syntax.tyRef Syntax.erased Syntax.mut OfOutput.named)) (List._∷_ (13, Rows.any-gone (Syntax.tyStruct (List._∷_ 38 (List._∷_ 91 (List._∷_ 93 List.[]))) (Syntax.tcons (Syntax.tyRef Syntax.erased Syntax.mut OfOutput.named) (Syntax.tcons (Syntax.tyInt Syntax.w64) Syntax.tnil)))) (List._∷_ (14, Rows.any-gone (Syntax.tyRef Syntax.erased Syntax.mut OfStation.named)) (List._∷_ (15, Rows.any-gone (Syntax.tyStruct (List._∷_ 38 (List._∷_ 91 (List._∷_ 93 List.[]))) (Syntax.tcons (Syntax.tyRef Syntax.erased Syntax.mut OfStation.named) (Syntax.tcons (Syntax.tyInt Syntax.w64) Syntax.tnil)))) List.[])))))))))))))))
 
 abbrev pub t5 : List.List Row.Entry
-t5 = List._∷_ (0, Rows.any-gone (Laws.mir)) (List._∷_ (1, Mut.mslice (OfOutput.row) (Syntax.tyRef (Syntax.named 0) Syntax.mut OfOutput.named) 0) (List._∷_ (2, Mut.mslice (OfStation.row) (Syntax.tyRef (Syntax.named 1) Syntax.mut OfStation.named) 1) (List._∷_ (3, Rows.mref (Referent.rtF (Referent.fInt Syntax.w64)) (Syntax.tyRef (Syntax.named 2) Syntax.mut (Syntax.tyInt Syntax.w64)) 2) (List._∷_ (4, Mut.mslice (Referent.rtF (Referent.fInt Syntax.w8)) (Syntax.tyRef (Syntax.named 3) Syntax.mut (Syntax.tyInt Syntax.w8)) 3) (List._∷_ (5, Mut.mslice (Referent.rtF (Referent.fInt Syntax.w8)) (Syntax.tyRef (Syntax.named 4) Syntax.mut (Syntax.tyInt Syntax.w8)) 4) (List._∷_ (6, Rows.whole (Declared.row Reader.the-type)) (List._∷_ (7, Rows.sc-here (Row.sInt Syntax.w64)) (List._∷_ (8, Rows.sc-here (Row.sInt Syntax.w64)) (List._∷_ (9, Rows.any-gone (Laws.mir)) (List._∷_ (10, Rows.any-gone (Syntax.tyStruct (List._∷_ 116 (List._∷_ 101 (List._∷_ 120 (List._∷_ 116 (List._∷_ 95 (List._∷_ 114 (List._∷_ 101 (List._∷_ 97 (List._∷_ 100 (List._∷_ 105 (List._∷_ 110 (List._∷_ 103 (List._∷_ 58 (List._∷_ 58 (List._∷_ 82 (List._∷_ 101 (List._∷_ 97 (List._∷_ 100 (List._∷_ 101 (List._∷_ 114 List.[])))))))))))))))))))) (Syntax.tcons (Syntax.tyInt Syntax.w8) (Syntax.tcons (Syntax.tyInt Syntax.w64) (Syntax.tcons (Syntax.tyEnum (List._∷_ 116 (List._∷_ 101 (List._∷_ 120 (List._∷_ 116 (List._∷_ 95 (List._∷_ 114 (List._∷_ 101 (List._∷_ 97 (List._∷_ 100 (List._∷_ 105 (List._∷_ 110 (List._∷_ 103 (List._∷_ 58 (List._∷_ 58 (List._∷_ 72 (List._∷_ 101 (List._∷_ 108 (List._∷_ 100 List.[])))))))))))))))))) (Syntax.ttcons Syntax.tnil (Syntax.ttcons Syntax.tnil (Syntax.ttcons (Syntax.tcons (Syntax.tyInt Syntax.w8) Syntax.tnil) (Syntax.ttcons Syntax.tnil (Syntax.ttcons (Syntax.tcons (Syntax.tyInt Syntax.w8) Syntax.tnil) (Syntax.ttcons (Syntax.tcons (Syntax.tyInt Syntax.w8) Syntax.tnil) (Syntax.ttcons Syntax.tnil (Syntax.ttcons (Syntax.tcons (Syntax.tyInt Syntax.w8) Syntax.tnil) (Syntax.ttcons Syntax.tnil (Syntax.ttcons (Syntax.tcons (Syntax.tyEnum (List._∷_ 116 (List._∷_ 101 (List._∷_ 120 (List._∷_ 116 (List._∷_ 95 (List._∷_ 114 (List._∷_ 101 (List._∷_ 97 (List._∷_ 100 (List._∷_ 105 (List._∷_ 110 (List._∷_ 103 (List._∷_ 58 (List._∷_ 58 (List._∷_ 70 (List._∷_ 97 (List._∷_ 117 (List._∷_ 108 (List._∷_ 116 List.[]))))))))))))))))))) (Syntax.ttcons Syntax.tnil (Syntax.ttcons Syntax.tnil (Syntax.ttcons Syntax.tnil (Syntax.ttcons Syntax.tnil Syntax.ttnil))))) Syntax.tnil) Syntax.ttnil))))))))))) (Syntax.tcons (Syntax.tyArray (Syntax.tyInt Syntax.w8) 32) (Syntax.tcons (Syntax.tyInt Syntax.w64) Syntax.tnil))))))) (List._∷_ (11, Rows.any-gone Syntax.tyBool) (List._∷_ (12, Rows.any-gone (Syntax.tyRef Syntax.erased Syntax.mut OfOutput.named)) (List._∷_ (13, Rows.any-gone (Syntax.tyStruct (List._∷_ 38 (List._∷_ 91 (List._∷_ 93 List.[]))) (Syntax.tcons (Syntax.tyRef Syntax.erased Syntax.mut OfOutput.named) (Syntax.tcons (Syntax.tyInt Syntax.w64) Syntax.tnil)))) (List._∷_ (14, Rows.any-gone (Syntax.tyRef Syntax.erased Syntax.mut OfStation.named)) (List._∷_ (15, Rows.any-gone (Syntax.tyStruct (List._∷_ 38 (List._∷_ 91 (List._∷_ 93 List.[]))) (Syntax.tcons (Syntax.tyRef Syntax.erased Syntax.mut OfStation.named) (Syntax.tcons (Syntax.tyInt Syntax.w64) Syntax.tnil)))) List.[])))))))))))))))
+t5 = List._∷_ (0, Rows.any-gone (Laws.mir)) (List._∷_ (1, Mut.mslice (OfOutput.row) (Syntax.tyRef (Syntax.named 0) Syntax.mut OfOutput.named) 0) (List._∷_ (2, Mut.mslice (OfStation.row) (Syntax.tyRef (Syntax.named 1) Syntax.mut OfStation.named) 1) (List._∷_ (3, Rows.mref (OfPanelRecord.row) (Syntax.tyRef (Syntax.named 2) Syntax.mut OfPanelRecord.named) 2) (List._∷_ (4, Mut.mslice (Referent.rtF (Referent.fInt Syntax.w8)) (Syntax.tyRef (Syntax.named 3) Syntax.mut (Syntax.tyInt Syntax.w8)) 3) (List._∷_ (5, Mut.mslice (Referent.rtF (Referent.fInt Syntax.w8)) (Syntax.tyRef (Syntax.named 4) Syntax.mut (Syntax.tyInt Syntax.w8)) 4) (List._∷_ (6, Rows.whole (Declared.row Reader.the-type)) (List._∷_ (7, Rows.sc-here (Row.sInt Syntax.w64)) (List._∷_ (8, Rows.sc-here (Row.sInt Syntax.w64)) (List._∷_ (9, Rows.any-gone (Laws.mir)) (List._∷_ (10, Rows.any-gone (Syntax.tyStruct (List._∷_ 116 (List._∷_ 101 (List._∷_ 120 (List._∷_ 116 (List._∷_ 95 (List._∷_ 114 (List._∷_ 101 (List._∷_ 97 (List._∷_ 100 (List._∷_ 105 (List._∷_ 110 (List._∷_ 103 (List._∷_ 58 (List._∷_ 58 (List._∷_ 82 (List._∷_ 101 (List._∷_ 97 (List._∷_ 100 (List._∷_ 101 (List._∷_ 114 List.[])))))))))))))))))))) (Syntax.tcons (Syntax.tyInt Syntax.w8) (Syntax.tcons (Syntax.tyInt Syntax.w64) (Syntax.tcons (Syntax.tyEnum (List._∷_ 116 (List._∷_ 101 (List._∷_ 120 (List._∷_ 116 (List._∷_ 95 (List._∷_ 114 (List._∷_ 101 (List._∷_ 97 (List._∷_ 100 (List._∷_ 105 (List._∷_ 110 (List._∷_ 103 (List._∷_ 58 (List._∷_ 58 (List._∷_ 72 (List._∷_ 101 (List._∷_ 108 (List._∷_ 100 List.[])))))))))))))))))) (Syntax.ttcons Syntax.tnil (Syntax.ttcons Syntax.tnil (Syntax.ttcons (Syntax.tcons (Syntax.tyInt Syntax.w8) Syntax.tnil) (Syntax.ttcons Syntax.tnil (Syntax.ttcons (Syntax.tcons (Syntax.tyInt Syntax.w8) Syntax.tnil) (Syntax.ttcons (Syntax.tcons (Syntax.tyInt Syntax.w8) Syntax.tnil) (Syntax.ttcons Syntax.tnil (Syntax.ttcons (Syntax.tcons (Syntax.tyInt Syntax.w8) Syntax.tnil) (Syntax.ttcons Syntax.tnil (Syntax.ttcons (Syntax.tcons (Syntax.tyEnum (List._∷_ 116 (List._∷_ 101 (List._∷_ 120 (List._∷_ 116 (List._∷_ 95 (List._∷_ 114 (List._∷_ 101 (List._∷_ 97 (List._∷_ 100 (List._∷_ 105 (List._∷_ 110 (List._∷_ 103 (List._∷_ 58 (List._∷_ 58 (List._∷_ 70 (List._∷_ 97 (List._∷_ 117 (List._∷_ 108 (List._∷_ 116 List.[]))))))))))))))))))) (Syntax.ttcons Syntax.tnil (Syntax.ttcons Syntax.tnil (Syntax.ttcons Syntax.tnil (Syntax.ttcons Syntax.tnil Syntax.ttnil))))) Syntax.tnil) Syntax.ttnil))))))))))) (Syntax.tcons (Syntax.tyArray (Syntax.tyInt Syntax.w8) 32) (Syntax.tcons (Syntax.tyInt Syntax.w64) Syntax.tnil))))))) (List._∷_ (11, Rows.any-gone Syntax.tyBool) (List._∷_ (12, Rows.any-gone (Syntax.tyRef Syntax.erased Syntax.mut OfOutput.named)) (List._∷_ (13, Rows.any-gone (Syntax.tyStruct (List._∷_ 38 (List._∷_ 91 (List._∷_ 93 List.[]))) (Syntax.tcons (Syntax.tyRef Syntax.erased Syntax.mut OfOutput.named) (Syntax.tcons (Syntax.tyInt Syntax.w64) Syntax.tnil)))) (List._∷_ (14, Rows.any-gone (Syntax.tyRef Syntax.erased Syntax.mut OfStation.named)) (List._∷_ (15, Rows.any-gone (Syntax.tyStruct (List._∷_ 38 (List._∷_ 91 (List._∷_ 93 List.[]))) (Syntax.tcons (Syntax.tyRef Syntax.erased Syntax.mut OfStation.named) (Syntax.tcons (Syntax.tyInt Syntax.w64) Syntax.tnil)))) List.[])))))))))))))))
 
 abbrev pub t6 : List.List Row.Entry
-t6 = List._∷_ (0, Rows.any-gone (Laws.mir)) (List._∷_ (1, Mut.mslice (OfOutput.row) (Syntax.tyRef (Syntax.named 0) Syntax.mut OfOutput.named) 0) (List._∷_ (2, Mut.mslice (OfStation.row) (Syntax.tyRef (Syntax.named 1) Syntax.mut OfStation.named) 1) (List._∷_ (3, Rows.mref (Referent.rtF (Referent.fInt Syntax.w64)) (Syntax.tyRef (Syntax.named 2) Syntax.mut (Syntax.tyInt Syntax.w64)) 2) (List._∷_ (4, Mut.mslice (Referent.rtF (Referent.fInt Syntax.w8)) (Syntax.tyRef (Syntax.named 3) Syntax.mut (Syntax.tyInt Syntax.w8)) 3) (List._∷_ (5, Mut.mslice (Referent.rtF (Referent.fInt Syntax.w8)) (Syntax.tyRef (Syntax.named 4) Syntax.mut (Syntax.tyInt Syntax.w8)) 4) (List._∷_ (6, Rows.whole (Declared.row Reader.the-type)) (List._∷_ (7, Rows.sc-here (Row.sInt Syntax.w64)) (List._∷_ (8, Rows.sc-here (Row.sInt Syntax.w64)) (List._∷_ (9, Rows.any-gone (Laws.mir)) (List._∷_ (10, Rows.any-gone (Syntax.tyStruct (List._∷_ 116 (List._∷_ 101 (List._∷_ 120 (List._∷_ 116 (List._∷_ 95 (List._∷_ 114 (List._∷_ 101 (List._∷_ 97 (List._∷_ 100 (List._∷_ 105 (List._∷_ 110 (List._∷_ 103 (List._∷_ 58 (List._∷_ 58 (List._∷_ 82 (List._∷_ 101 (List._∷_ 97 (List._∷_ 100 (List._∷_ 101 (List._∷_ 114 List.[])))))))))))))))))))) (Syntax.tcons (Syntax.tyInt Syntax.w8) (Syntax.tcons (Syntax.tyInt Syntax.w64) (Syntax.tcons (Syntax.tyEnum (List._∷_ 116 (List._∷_ 101 (List._∷_ 120 (List._∷_ 116 (List._∷_ 95 (List._∷_ 114 (List._∷_ 101 (List._∷_ 97 (List._∷_ 100 (List._∷_ 105 (List._∷_ 110 (List._∷_ 103 (List._∷_ 58 (List._∷_ 58 (List._∷_ 72 (List._∷_ 101 (List._∷_ 108 (List._∷_ 100 List.[])))))))))))))))))) (Syntax.ttcons Syntax.tnil (Syntax.ttcons Syntax.tnil (Syntax.ttcons (Syntax.tcons (Syntax.tyInt Syntax.w8) Syntax.tnil) (Syntax.ttcons Syntax.tnil (Syntax.ttcons (Syntax.tcons (Syntax.tyInt Syntax.w8) Syntax.tnil) (Syntax.ttcons (Syntax.tcons (Syntax.tyInt Syntax.w8) Syntax.tnil) (Syntax.ttcons Syntax.tnil (Syntax.ttcons (Syntax.tcons (Syntax.tyInt Syntax.w8) Syntax.tnil) (Syntax.ttcons Syntax.tnil (Syntax.ttcons (Syntax.tcons (Syntax.tyEnum (List._∷_ 116 (List._∷_ 101 (List._∷_ 120 (List._∷_ 116 (List._∷_ 95 (List._∷_ 114 (List._∷_ 101 (List._∷_ 97 (List._∷_ 100 (List._∷_ 105 (List._∷_ 110 (List._∷_ 103 (List._∷_ 58 (List._∷_ 58 (List._∷_ 70 (List._∷_ 97 (List._∷_ 117 (List._∷_ 108 (List._∷_ 116 List.[]))))))))))))))))))) (Syntax.ttcons Syntax.tnil (Syntax.ttcons Syntax.tnil (Syntax.ttcons Syntax.tnil (Syntax.ttcons Syntax.tnil Syntax.ttnil))))) Syntax.tnil) Syntax.ttnil))))))))))) (Syntax.tcons (Syntax.tyArray (Syntax.tyInt Syntax.w8) 32) (Syntax.tcons (Syntax.tyInt Syntax.w64) Syntax.tnil))))))) (List._∷_ (11, Rows.sc-here Row.sBool) (List._∷_ (12, Rows.any-gone (Syntax.tyRef Syntax.erased Syntax.mut OfOutput.named)) (List._∷_ (13, Rows.any-gone (Syntax.tyStruct (List._∷_ 38 (List._∷_ 91 (List._∷_ 93 List.[]))) (Syntax.tcons (Syntax.tyRef Syntax.erased Syntax.mut OfOutput.named) (Syntax.tcons (Syntax.tyInt Syntax.w64) Syntax.tnil)))) (List._∷_ (14, Rows.any-gone (Syntax.tyRef Syntax.erased Syntax.mut OfStation.named)) (List._∷_ (15, Rows.any-gone (Syntax.tyStruct (List._∷_ 38 (List._∷_ 91 (List._∷_ 93 List.[]))) (Syntax.tcons (Syntax.tyRef Syntax.erased Syntax.mut OfStation.named) (Syntax.tcons (Syntax.tyInt Syntax.w64) Syntax.tnil)))) List.[])))))))))))))))
+t6 = List._∷_ (0, Rows.any-gone (Laws.mir)) (List._∷_ (1, Mut.mslice (OfOutput.row) (Syntax.tyRef (Syntax.named 0) Syntax.mut OfOutput.named) 0) (List._∷_ (2, Mut.mslice (OfStation.row) (Syntax.tyRef (Syntax.named 1) Syntax.mut OfStation.named) 1) (List._∷_ (3, Rows.mref (OfPanelRecord.row) (Syntax.tyRef (Syntax.named 2) Syntax.mut OfPanelRecord.named) 2) (List._∷_ (4, Mut.mslice (Referent.rtF (Referent.fInt Syntax.w8)) (Syntax.tyRef (Syntax.named 3) Syntax.mut (Syntax.tyInt Syntax.w8)) 3) (List._∷_ (5, Mut.mslice (Referent.rtF (Referent.fInt Syntax.w8)) (Syntax.tyRef (Syntax.named 4) Syntax.mut (Syntax.tyInt Syntax.w8)) 4) (List._∷_ (6, Rows.whole (Declared.row Reader.the-type)) (List._∷_ (7, Rows.sc-here (Row.sInt Syntax.w64)) (List._∷_ (8, Rows.sc-here (Row.sInt Syntax.w64)) (List._∷_ (9, Rows.any-gone (Laws.mir)) (List._∷_ (10, Rows.any-gone (Syntax.tyStruct (List._∷_ 116 (List._∷_ 101 (List._∷_ 120 (List._∷_ 116 (List._∷_ 95 (List._∷_ 114 (List._∷_ 101 (List._∷_ 97 (List._∷_ 100 (List._∷_ 105 (List._∷_ 110 (List._∷_ 103 (List._∷_ 58 (List._∷_ 58 (List._∷_ 82 (List._∷_ 101 (List._∷_ 97 (List._∷_ 100 (List._∷_ 101 (List._∷_ 114 List.[])))))))))))))))))))) (Syntax.tcons (Syntax.tyInt Syntax.w8) (Syntax.tcons (Syntax.tyInt Syntax.w64) (Syntax.tcons (Syntax.tyEnum (List._∷_ 116 (List._∷_ 101 (List._∷_ 120 (List._∷_ 116 (List._∷_ 95 (List._∷_ 114 (List._∷_ 101 (List._∷_ 97 (List._∷_ 100 (List._∷_ 105 (List._∷_ 110 (List._∷_ 103 (List._∷_ 58 (List._∷_ 58 (List._∷_ 72 (List._∷_ 101 (List._∷_ 108 (List._∷_ 100 List.[])))))))))))))))))) (Syntax.ttcons Syntax.tnil (Syntax.ttcons Syntax.tnil (Syntax.ttcons (Syntax.tcons (Syntax.tyInt Syntax.w8) Syntax.tnil) (Syntax.ttcons Syntax.tnil (Syntax.ttcons (Syntax.tcons (Syntax.tyInt Syntax.w8) Syntax.tnil) (Syntax.ttcons (Syntax.tcons (Syntax.tyInt Syntax.w8) Syntax.tnil) (Syntax.ttcons Syntax.tnil (Syntax.ttcons (Syntax.tcons (Syntax.tyInt Syntax.w8) Syntax.tnil) (Syntax.ttcons Syntax.tnil (Syntax.ttcons (Syntax.tcons (Syntax.tyEnum (List._∷_ 116 (List._∷_ 101 (List._∷_ 120 (List._∷_ 116 (List._∷_ 95 (List._∷_ 114 (List._∷_ 101 (List._∷_ 97 (List._∷_ 100 (List._∷_ 105 (List._∷_ 110 (List._∷_ 103 (List._∷_ 58 (List._∷_ 58 (List._∷_ 70 (List._∷_ 97 (List._∷_ 117 (List._∷_ 108 (List._∷_ 116 List.[]))))))))))))))))))) (Syntax.ttcons Syntax.tnil (Syntax.ttcons Syntax.tnil (Syntax.ttcons Syntax.tnil (Syntax.ttcons Syntax.tnil Syntax.ttnil))))) Syntax.tnil) Syntax.ttnil))))))))))) (Syntax.tcons (Syntax.tyArray (Syntax.tyInt Syntax.w8) 32) (Syntax.tcons (Syntax.tyInt Syntax.w64) Syntax.tnil))))))) (List._∷_ (11, Rows.sc-here Row.sBool) (List._∷_ (12, Rows.any-gone (Syntax.tyRef Syntax.erased Syntax.mut OfOutput.named)) (List._∷_ (13, Rows.any-gone (Syntax.tyStruct (List._∷_ 38 (List._∷_ 91 (List._∷_ 93 List.[]))) (Syntax.tcons (Syntax.tyRef Syntax.erased Syntax.mut OfOutput.named) (Syntax.tcons (Syntax.tyInt Syntax.w64) Syntax.tnil)))) (List._∷_ (14, Rows.any-gone (Syntax.tyRef Syntax.erased Syntax.mut OfStation.named)) (List._∷_ (15, Rows.any-gone (Syntax.tyStruct (List._∷_ 38 (List._∷_ 91 (List._∷_ 93 List.[]))) (Syntax.tcons (Syntax.tyRef Syntax.erased Syntax.mut OfStation.named) (Syntax.tcons (Syntax.tyInt Syntax.w64) Syntax.tnil)))) List.[])))))))))))))))
 
 abbrev pub t7 : List.List Row.Entry
-t7 = List._∷_ (0, Rows.any-gone (Laws.mir)) (List._∷_ (1, Relend.mslice-owed (OfOutput.row) (Syntax.tyRef (Syntax.named 0) Syntax.mut OfOutput.named) 0 5 Row.off) (List._∷_ (2, Mut.mslice (OfStation.row) (Syntax.tyRef (Syntax.named 1) Syntax.mut OfStation.named) 1) (List._∷_ (3, Rows.mref (Referent.rtF (Referent.fInt Syntax.w64)) (Syntax.tyRef (Syntax.named 2) Syntax.mut (Syntax.tyInt Syntax.w64)) 2) (List._∷_ (4, Mut.mslice (Referent.rtF (Referent.fInt Syntax.w8)) (Syntax.tyRef (Syntax.named 3) Syntax.mut (Syntax.tyInt Syntax.w8)) 3) (List._∷_ (5, Mut.mslice (Referent.rtF (Referent.fInt Syntax.w8)) (Syntax.tyRef (Syntax.named 4) Syntax.mut (Syntax.tyInt Syntax.w8)) 4) (List._∷_ (6, Rows.whole (Declared.row Reader.the-type)) (List._∷_ (7, Rows.sc-here (Row.sInt Syntax.w64)) (List._∷_ (8, Rows.sc-here (Row.sInt Syntax.w64)) (List._∷_ (9, Rows.any-gone (Laws.mir)) (List._∷_ (10, Rows.any-gone (Syntax.tyStruct (List._∷_ 116 (List._∷_ 101 (List._∷_ 120 (List._∷_ 116 (List._∷_ 95 (List._∷_ 114 (List._∷_ 101 (List._∷_ 97 (List._∷_ 100 (List._∷_ 105 (List._∷_ 110 (List._∷_ 103 (List._∷_ 58 (List._∷_ 58 (List._∷_ 82 (List._∷_ 101 (List._∷_ 97 (List._∷_ 100 (List._∷_ 101 (List._∷_ 114 List.[])))))))))))))))))))) (Syntax.tcons (Syntax.tyInt Syntax.w8) (Syntax.tcons (Syntax.tyInt Syntax.w64) (Syntax.tcons (Syntax.tyEnum (List._∷_ 116 (List._∷_ 101 (List._∷_ 120 (List._∷_ 116 (List._∷_ 95 (List._∷_ 114 (List._∷_ 101 (List._∷_ 97 (List._∷_ 100 (List._∷_ 105 (List._∷_ 110 (List._∷_ 103 (List._∷_ 58 (List._∷_ 58 (List._∷_ 72 (List._∷_ 101 (List._∷_ 108 (List._∷_ 100 List.[])))))))))))))))))) (Syntax.ttcons Syntax.tnil (Syntax.ttcons Syntax.tnil (Syntax.ttcons (Syntax.tcons (Syntax.tyInt Syntax.w8) Syntax.tnil) (Syntax.ttcons Syntax.tnil (Syntax.ttcons (Syntax.tcons (Syntax.tyInt Syntax.w8) Syntax.tnil) (Syntax.ttcons (Syntax.tcons (Syntax.tyInt Syntax.w8) Syntax.tnil) (Syntax.ttcons Syntax.tnil (Syntax.ttcons (Syntax.tcons (Syntax.tyInt Syntax.w8) Syntax.tnil) (Syntax.ttcons Syntax.tnil (Syntax.ttcons (Syntax.tcons (Syntax.tyEnum (List._∷_ 116 (List._∷_ 101 (List._∷_ 120 (List._∷_ 116 (List._∷_ 95 (List._∷_ 114 (List._∷_ 101 (List._∷_ 97 (List._∷_ 100 (List._∷_ 105 (List._∷_ 110 (List._∷_ 103 (List._∷_ 58 (List._∷_ 58 (List._∷_ 70 (List._∷_ 97 (List._∷_ 117 (List._∷_ 108 (List._∷_ 116 List.[]))))))))))))))))))) (Syntax.ttcons Syntax.tnil (Syntax.ttcons Syntax.tnil (Syntax.ttcons Syntax.tnil (Syntax.ttcons Syntax.tnil Syntax.ttnil))))) Syntax.tnil) Syntax.ttnil))))))))))) (Syntax.tcons (Syntax.tyArray (Syntax.tyInt Syntax.w8) 32) (Syntax.tcons (Syntax.tyInt Syntax.w64) Syntax.tnil))))))) (List._∷_ (11, Rows.any-gone Syntax.tyBool) (List._∷_ (12, Relend.msptr (OfOutput.row) (Syntax.tyRef Syntax.erased Syntax.mut OfOutput.named) 5) (List._∷_ (13, Rows.any-gone (Syntax.tyStruct (List._∷_ 38 (List._∷_ 91 (List._∷_ 93 List.[]))) (Syntax.tcons (Syntax.tyRef Syntax.erased Syntax.mut OfOutput.named) (Syntax.tcons (Syntax.tyInt Syntax.w64) Syntax.tnil)))) (List._∷_ (14, Rows.any-gone (Syntax.tyRef Syntax.erased Syntax.mut OfStation.named)) (List._∷_ (15, Rows.any-gone (Syntax.tyStruct (List._∷_ 38 (List._∷_ 91 (List._∷_ 93 List.[]))) (Syntax.tcons (Syntax.tyRef Syntax.erased Syntax.mut OfStation.named) (Syntax.tcons (Syntax.tyInt Syntax.w64) Syntax.tnil)))) List.[])))))))))))))))
+t7 = List._∷_ (0, Rows.any-gone (Laws.mir)) (List._∷_ (1, Relend.mslice-owed (OfOutput.row) (Syntax.tyRef (Syntax.named 0) Syntax.mut OfOutput.named) 0 5 Row.off) (List._∷_ (2, Mut.mslice (OfStation.row) (Syntax.tyRef (Syntax.named 1) Syntax.mut OfStation.named) 1) (List._∷_ (3, Rows.mref (OfPanelRecord.row) (Syntax.tyRef (Syntax.named 2) Syntax.mut OfPanelRecord.named) 2) (List._∷_ (4, Mut.mslice (Referent.rtF (Referent.fInt Syntax.w8)) (Syntax.tyRef (Syntax.named 3) Syntax.mut (Syntax.tyInt Syntax.w8)) 3) (List._∷_ (5, Mut.mslice (Referent.rtF (Referent.fInt Syntax.w8)) (Syntax.tyRef (Syntax.named 4) Syntax.mut (Syntax.tyInt Syntax.w8)) 4) (List._∷_ (6, Rows.whole (Declared.row Reader.the-type)) (List._∷_ (7, Rows.sc-here (Row.sInt Syntax.w64)) (List._∷_ (8, Rows.sc-here (Row.sInt Syntax.w64)) (List._∷_ (9, Rows.any-gone (Laws.mir)) (List._∷_ (10, Rows.any-gone (Syntax.tyStruct (List._∷_ 116 (List._∷_ 101 (List._∷_ 120 (List._∷_ 116 (List._∷_ 95 (List._∷_ 114 (List._∷_ 101 (List._∷_ 97 (List._∷_ 100 (List._∷_ 105 (List._∷_ 110 (List._∷_ 103 (List._∷_ 58 (List._∷_ 58 (List._∷_ 82 (List._∷_ 101 (List._∷_ 97 (List._∷_ 100 (List._∷_ 101 (List._∷_ 114 List.[])))))))))))))))))))) (Syntax.tcons (Syntax.tyInt Syntax.w8) (Syntax.tcons (Syntax.tyInt Syntax.w64) (Syntax.tcons (Syntax.tyEnum (List._∷_ 116 (List._∷_ 101 (List._∷_ 120 (List._∷_ 116 (List._∷_ 95 (List._∷_ 114 (List._∷_ 101 (List._∷_ 97 (List._∷_ 100 (List._∷_ 105 (List._∷_ 110 (List._∷_ 103 (List._∷_ 58 (List._∷_ 58 (List._∷_ 72 (List._∷_ 101 (List._∷_ 108 (List._∷_ 100 List.[])))))))))))))))))) (Syntax.ttcons Syntax.tnil (Syntax.ttcons Syntax.tnil (Syntax.ttcons (Syntax.tcons (Syntax.tyInt Syntax.w8) Syntax.tnil) (Syntax.ttcons Syntax.tnil (Syntax.ttcons (Syntax.tcons (Syntax.tyInt Syntax.w8) Syntax.tnil) (Syntax.ttcons (Syntax.tcons (Syntax.tyInt Syntax.w8) Syntax.tnil) (Syntax.ttcons Syntax.tnil (Syntax.ttcons (Syntax.tcons (Syntax.tyInt Syntax.w8) Syntax.tnil) (Syntax.ttcons Syntax.tnil (Syntax.ttcons (Syntax.tcons (Syntax.tyEnum (List._∷_ 116 (List._∷_ 101 (List._∷_ 120 (List._∷_ 116 (List._∷_ 95 (List._∷_ 114 (List._∷_ 101 (List._∷_ 97 (List._∷_ 100 (List._∷_ 105 (List._∷_ 110 (List._∷_ 103 (List._∷_ 58 (List._∷_ 58 (List._∷_ 70 (List._∷_ 97 (List._∷_ 117 (List._∷_ 108 (List._∷_ 116 List.[]))))))))))))))))))) (Syntax.ttcons Syntax.tnil (Syntax.ttcons Syntax.tnil (Syntax.ttcons Syntax.tnil (Syntax.ttcons Syntax.tnil Syntax.ttnil))))) Syntax.tnil) Syntax.ttnil))))))))))) (Syntax.tcons (Syntax.tyArray (Syntax.tyInt Syntax.w8) 32) (Syntax.tcons (Syntax.tyInt Syntax.w64) Syntax.tnil))))))) (List._∷_ (11, Rows.any-gone Syntax.tyBool) (List._∷_ (12, Relend.msptr (OfOutput.row) (Syntax.tyRef Syntax.erased Syntax.mut OfOutput.named) 5) (List._∷_ (13, Rows.any-gone (Syntax.tyStruct (List._∷_ 38 (List._∷_ 91 (List._∷_ 93 List.[]))) (Syntax.tcons (Syntax.tyRef Syntax.erased Syntax.mut OfOutput.named) (Syntax.tcons (Syntax.tyInt Syntax.w64) Syntax.tnil)))) (List._∷_ (14, Rows.any-gone (Syntax.tyRef Syntax.erased Syntax.mut OfStation.named)) (List._∷_ (15, Rows.any-gone (Syntax.tyStruct (List._∷_ 38 (List._∷_ 91 (List._∷_ 93 List.[]))) (Syntax.tcons (Syntax.tyRef Syntax.erased Syntax.mut OfStation.named) (Syntax.tcons (Syntax.tyInt Syntax.w64) Syntax.tnil)))) List.[])))))))))))))))
 
 abbrev pub t8 : List.List Row.Entry
-t8 = List._∷_ (0, Rows.any-gone (Laws.mir)) (List._∷_ (1, Relend.mslice-owed (OfOutput.row) (Syntax.tyRef (Syntax.named 0) Syntax.mut OfOutput.named) 0 5 Row.off) (List._∷_ (2, Mut.mslice (OfStation.row) (Syntax.tyRef (Syntax.named 1) Syntax.mut OfStation.named) 1) (List._∷_ (3, Rows.mref (Referent.rtF (Referent.fInt Syntax.w64)) (Syntax.tyRef (Syntax.named 2) Syntax.mut (Syntax.tyInt Syntax.w64)) 2) (List._∷_ (4, Mut.mslice (Referent.rtF (Referent.fInt Syntax.w8)) (Syntax.tyRef (Syntax.named 3) Syntax.mut (Syntax.tyInt Syntax.w8)) 3) (List._∷_ (5, Mut.mslice (Referent.rtF (Referent.fInt Syntax.w8)) (Syntax.tyRef (Syntax.named 4) Syntax.mut (Syntax.tyInt Syntax.w8)) 4) (List._∷_ (6, Rows.whole (Declared.row Reader.the-type)) (List._∷_ (7, Rows.sc-here (Row.sInt Syntax.w64)) (List._∷_ (8, Rows.sc-here (Row.sInt Syntax.w64)) (List._∷_ (9, Rows.any-gone (Laws.mir)) (List._∷_ (10, Rows.any-gone (Syntax.tyStruct (List._∷_ 116 (List._∷_ 101 (List._∷_ 120 (List._∷_ 116 (List._∷_ 95 (List._∷_ 114 (List._∷_ 101 (List._∷_ 97 (List._∷_ 100 (List._∷_ 105 (List._∷_ 110 (List._∷_ 103 (List._∷_ 58 (List._∷_ 58 (List._∷_ 82 (List._∷_ 101 (List._∷_ 97 (List._∷_ 100 (List._∷_ 101 (List._∷_ 114 List.[])))))))))))))))))))) (Syntax.tcons (Syntax.tyInt Syntax.w8) (Syntax.tcons (Syntax.tyInt Syntax.w64) (Syntax.tcons (Syntax.tyEnum (List._∷_ 116 (List._∷_ 101 (List._∷_ 120 (List._∷_ 116 (List._∷_ 95 (List._∷_ 114 (List._∷_ 101 (List._∷_ 97 (List._∷_ 100 (List._∷_ 105 (List._∷_ 110 (List._∷_ 103 (List._∷_ 58 (List._∷_ 58 (List._∷_ 72 (List._∷_ 101 (List._∷_ 108 (List._∷_ 100 List.[])))))))))))))))))) (Syntax.ttcons Syntax.tnil (Syntax.ttcons Syntax.tnil (Syntax.ttcons (Syntax.tcons (Syntax.tyInt Syntax.w8) Syntax.tnil) (Syntax.ttcons Syntax.tnil (Syntax.ttcons (Syntax.tcons (Syntax.tyInt Syntax.w8) Syntax.tnil) (Syntax.ttcons (Syntax.tcons (Syntax.tyInt Syntax.w8) Syntax.tnil) (Syntax.ttcons Syntax.tnil (Syntax.ttcons (Syntax.tcons (Syntax.tyInt Syntax.w8) Syntax.tnil) (Syntax.ttcons Syntax.tnil (Syntax.ttcons (Syntax.tcons (Syntax.tyEnum (List._∷_ 116 (List._∷_ 101 (List._∷_ 120 (List._∷_ 116 (List._∷_ 95 (List._∷_ 114 (List._∷_ 101 (List._∷_ 97 (List._∷_ 100 (List._∷_ 105 (List._∷_ 110 (List._∷_ 103 (List._∷_ 58 (List._∷_ 58 (List._∷_ 70 (List._∷_ 97 (List._∷_ 117 (List._∷_ 108 (List._∷_ 116 List.[]))))))))))))))))))) (Syntax.ttcons Syntax.tnil (Syntax.ttcons Syntax.tnil (Syntax.ttcons Syntax.tnil (Syntax.ttcons Syntax.tnil Syntax.ttnil))))) Syntax.tnil) Syntax.ttnil))))))))))) (Syntax.tcons (Syntax.tyArray (Syntax.tyInt Syntax.w8) 32) (Syntax.tcons (Syntax.tyInt Syntax.w64) Syntax.tnil))))))) (List._∷_ (11, Rows.any-gone Syntax.tyBool) (List._∷_ (12, Rows.any-gone (Syntax.tyRef Syntax.erased Syntax.mut OfOutput.named)) (List._∷_ (13, Mut.mslice (OfOutput.row) (Syntax.tyRef Syntax.erased Syntax.mut OfOutput.named) 5) (List._∷_ (14, Rows.any-gone (Syntax.tyRef Syntax.erased Syntax.mut OfStation.named)) (List._∷_ (15, Rows.any-gone (Syntax.tyStruct (List._∷_ 38 (List._∷_ 91 (List._∷_ 93 List.[]))) (Syntax.tcons (Syntax.tyRef Syntax.erased Syntax.mut OfStation.named) (Syntax.tcons (Syntax.tyInt Syntax.w64) Syntax.tnil)))) List.[])))))))))))))))
+t8 = List._∷_ (0, Rows.any-gone (Laws.mir)) (List._∷_ (1, Relend.mslice-owed (OfOutput.row) (Syntax.tyRef (Syntax.named 0) Syntax.mut OfOutput.named) 0 5 Row.off) (List._∷_ (2, Mut.mslice (OfStation.row) (Syntax.tyRef (Syntax.named 1) Syntax.mut OfStation.named) 1) (List._∷_ (3, Rows.mref (OfPanelRecord.row) (Syntax.tyRef (Syntax.named 2) Syntax.mut OfPanelRecord.named) 2) (List._∷_ (4, Mut.mslice (Referent.rtF (Referent.fInt Syntax.w8)) (Syntax.tyRef (Syntax.named 3) Syntax.mut (Syntax.tyInt Syntax.w8)) 3) (List._∷_ (5, Mut.mslice (Referent.rtF (Referent.fInt Syntax.w8)) (Syntax.tyRef (Syntax.named 4) Syntax.mut (Syntax.tyInt Syntax.w8)) 4) (List._∷_ (6, Rows.whole (Declared.row Reader.the-type)) (List._∷_ (7, Rows.sc-here (Row.sInt Syntax.w64)) (List._∷_ (8, Rows.sc-here (Row.sInt Syntax.w64)) (List._∷_ (9, Rows.any-gone (Laws.mir)) (List._∷_ (10, Rows.any-gone (Syntax.tyStruct (List._∷_ 116 (List._∷_ 101 (List._∷_ 120 (List._∷_ 116 (List._∷_ 95 (List._∷_ 114 (List._∷_ 101 (List._∷_ 97 (List._∷_ 100 (List._∷_ 105 (List._∷_ 110 (List._∷_ 103 (List._∷_ 58 (List._∷_ 58 (List._∷_ 82 (List._∷_ 101 (List._∷_ 97 (List._∷_ 100 (List._∷_ 101 (List._∷_ 114 List.[])))))))))))))))))))) (Syntax.tcons (Syntax.tyInt Syntax.w8) (Syntax.tcons (Syntax.tyInt Syntax.w64) (Syntax.tcons (Syntax.tyEnum (List._∷_ 116 (List._∷_ 101 (List._∷_ 120 (List._∷_ 116 (List._∷_ 95 (List._∷_ 114 (List._∷_ 101 (List._∷_ 97 (List._∷_ 100 (List._∷_ 105 (List._∷_ 110 (List._∷_ 103 (List._∷_ 58 (List._∷_ 58 (List._∷_ 72 (List._∷_ 101 (List._∷_ 108 (List._∷_ 100 List.[])))))))))))))))))) (Syntax.ttcons Syntax.tnil (Syntax.ttcons Syntax.tnil (Syntax.ttcons (Syntax.tcons (Syntax.tyInt Syntax.w8) Syntax.tnil) (Syntax.ttcons Syntax.tnil (Syntax.ttcons (Syntax.tcons (Syntax.tyInt Syntax.w8) Syntax.tnil) (Syntax.ttcons (Syntax.tcons (Syntax.tyInt Syntax.w8) Syntax.tnil) (Syntax.ttcons Syntax.tnil (Syntax.ttcons (Syntax.tcons (Syntax.tyInt Syntax.w8) Syntax.tnil) (Syntax.ttcons Syntax.tnil (Syntax.ttcons (Syntax.tcons (Syntax.tyEnum (List._∷_ 116 (List._∷_ 101 (List._∷_ 120 (List._∷_ 116 (List._∷_ 95 (List._∷_ 114 (List._∷_ 101 (List._∷_ 97 (List._∷_ 100 (List._∷_ 105 (List._∷_ 110 (List._∷_ 103 (List._∷_ 58 (List._∷_ 58 (List._∷_ 70 (List._∷_ 97 (List._∷_ 117 (List._∷_ 108 (List._∷_ 116 List.[]))))))))))))))))))) (Syntax.ttcons Syntax.tnil (Syntax.ttcons Syntax.tnil (Syntax.ttcons Syntax.tnil (Syntax.ttcons Syntax.tnil Syntax.ttnil))))) Syntax.tnil) Syntax.ttnil))))))))))) (Syntax.tcons (Syntax.tyArray (Syntax.tyInt Syntax.w8) 32) (Syntax.tcons (Syntax.tyInt Syntax.w64) Syntax.tnil))))))) (List._∷_ (11, Rows.any-gone Syntax.tyBool) (List._∷_ (12, Rows.any-gone (Syntax.tyRef Syntax.erased Syntax.mut OfOutput.named)) (List._∷_ (13, Mut.mslice (OfOutput.row) (Syntax.tyRef Syntax.erased Syntax.mut OfOutput.named) 5) (List._∷_ (14, Rows.any-gone (Syntax.tyRef Syntax.erased Syntax.mut OfStation.named)) (List._∷_ (15, Rows.any-gone (Syntax.tyStruct (List._∷_ 38 (List._∷_ 91 (List._∷_ 93 List.[]))) (Syntax.tcons (Syntax.tyRef Syntax.erased Syntax.mut OfStation.named) (Syntax.tcons (Syntax.tyInt Syntax.w64) Syntax.tnil)))) List.[])))))))))))))))
 
 abbrev pub t9 : List.List Row.Entry
-t9 = List._∷_ (0, Rows.any-gone (Laws.mir)) (List._∷_ (1, Relend.mslice-owed (OfOutput.row) (Syntax.tyRef (Syntax.named 0) Syntax.mut OfOutput.named) 0 5 Row.off) (List._∷_ (2, Relend.mslice-owed (OfStation.row) (Syntax.tyRef (Syntax.named 1) Syntax.mut OfStation.named) 1 6 Row.off) (List._∷_ (3, Rows.mref (Referent.rtF (Referent.fInt Syntax.w64)) (Syntax.tyRef (Syntax.named 2) Syntax.mut (Syntax.tyInt Syntax.w64)) 2) (List._∷_ (4, Mut.mslice (Referent.rtF (Referent.fInt Syntax.w8)) (Syntax.tyRef (Syntax.named 3) Syntax.mut (Syntax.tyInt Syntax.w8)) 3) (List._∷_ (5, Mut.mslice (Referent.rtF (Referent.fInt Syntax.w8)) (Syntax.tyRef (Syntax.named 4) Syntax.mut (Syntax.tyInt Syntax.w8)) 4) (List._∷_ (6, Rows.whole (Declared.row Reader.the-type)) (List._∷_ (7, Rows.sc-here (Row.sInt Syntax.w64)) (List._∷_ (8, Rows.sc-here (Row.sInt Syntax.w64)) (List._∷_ (9, Rows.any-gone (Laws.mir)) (List._∷_ (10, Rows.any-gone (Syntax.tyStruct (List._∷_ 116 (List._∷_ 101 (List._∷_ 120 (List._∷_ 116 (List._∷_ 95 (List._∷_ 114 (List._∷_ 101 (List._∷_ 97 (List._∷_ 100 (List._∷_ 105 (List._∷_ 110 (List._∷_ 103 (List._∷_ 58 (List._∷_ 58 (List._∷_ 82 (List._∷_ 101 (List._∷_ 97 (List._∷_ 100 (List._∷_ 101 (List._∷_ 114 List.[])))))))))))))))))))) (Syntax.tcons (Syntax.tyInt Syntax.w8) (Syntax.tcons (Syntax.tyInt Syntax.w64) (Syntax.tcons (Syntax.tyEnum (List._∷_ 116 (List._∷_ 101 (List._∷_ 120 (List._∷_ 116 (List._∷_ 95 (List._∷_ 114 (List._∷_ 101 (List._∷_ 97 (List._∷_ 100 (List._∷_ 105 (List._∷_ 110 (List._∷_ 103 (List._∷_ 58 (List._∷_ 58 (List._∷_ 72 (List._∷_ 101 (List._∷_ 108 (List._∷_ 100 List.[])))))))))))))))))) (Syntax.ttcons Syntax.tnil (Syntax.ttcons Syntax.tnil (Syntax.ttcons (Syntax.tcons (Syntax.tyInt Syntax.w8) Syntax.tnil) (Syntax.ttcons Syntax.tnil (Syntax.ttcons (Syntax.tcons (Syntax.tyInt Syntax.w8) Syntax.tnil) (Syntax.ttcons (Syntax.tcons (Syntax.tyInt Syntax.w8) Syntax.tnil) (Syntax.ttcons Syntax.tnil (Syntax.ttcons (Syntax.tcons (Syntax.tyInt Syntax.w8) Syntax.tnil) (Syntax.ttcons Syntax.tnil (Syntax.ttcons (Syntax.tcons (Syntax.tyEnum (List._∷_ 116 (List._∷_ 101 (List._∷_ 120 (List._∷_ 116 (List._∷_ 95 (List._∷_ 114 (List._∷_ 101 (List._∷_ 97 (List._∷_ 100 (List._∷_ 105 (List._∷_ 110 (List._∷_ 103 (List._∷_ 58 (List._∷_ 58 (List._∷_ 70 (List._∷_ 97 (List._∷_ 117 (List._∷_ 108 (List._∷_ 116 List.[]))))))))))))))))))) (Syntax.ttcons Syntax.tnil (Syntax.ttcons Syntax.tnil (Syntax.ttcons Syntax.tnil (Syntax.ttcons Syntax.tnil Syntax.ttnil))))) Syntax.tnil) Syntax.ttnil))))))))))) (Syntax.tcons (Syntax.tyArray (Syntax.tyInt Syntax.w8) 32) (Syntax.tcons (Syntax.tyInt Syntax.w64) Syntax.tnil))))))) (List._∷_ (11, Rows.any-gone Syntax.tyBool) (List._∷_ (12, Rows.any-gone (Syntax.tyRef Syntax.erased Syntax.mut OfOutput.named)) (List._∷_ (13, Mut.mslice (OfOutput.row) (Syntax.tyRef Syntax.erased Syntax.mut OfOutput.named) 5) (List._∷_ (14, Relend.msptr (OfStation.row) (Syntax.tyRef Syntax.erased Syntax.mut OfStation.named) 6) (List._∷_ (15, Rows.any-gone (Syntax.tyStruct (List._∷_ 38 (List._∷_ 91 (List._∷_ 93 List.[]))) (Syntax.tcons (Syntax.tyRef Syntax.erased Syntax.mut OfStation.named) (Syntax.tcons (Syntax.tyInt Syntax.w64) Syntax.tnil)))) List.[])))))))))))))))
+t9 = List._∷_ (0, Rows.any-gone (Laws.mir)) (List._∷_ (1, Relend.mslice-owed (OfOutput.row) (Syntax.tyRef (Syntax.named 0) Syntax.mut OfOutput.named) 0 5 Row.off) (List._∷_ (2, Relend.mslice-owed (OfStation.row) (Syntax.tyRef (Syntax.named 1) Syntax.mut OfStation.named) 1 6 Row.off) (List._∷_ (3, Rows.mref (OfPanelRecord.row) (Syntax.tyRef (Syntax.named 2) Syntax.mut OfPanelRecord.named) 2) (List._∷_ (4, Mut.mslice (Referent.rtF (Referent.fInt Syntax.w8)) (Syntax.tyRef (Syntax.named 3) Syntax.mut (Syntax.tyInt Syntax.w8)) 3) (List._∷_ (5, Mut.mslice (Referent.rtF (Referent.fInt Syntax.w8)) (Syntax.tyRef (Syntax.named 4) Syntax.mut (Syntax.tyInt Syntax.w8)) 4) (List._∷_ (6, Rows.whole (Declared.row Reader.the-type)) (List._∷_ (7, Rows.sc-here (Row.sInt Syntax.w64)) (List._∷_ (8, Rows.sc-here (Row.sInt Syntax.w64)) (List._∷_ (9, Rows.any-gone (Laws.mir)) (List._∷_ (10, Rows.any-gone (Syntax.tyStruct (List._∷_ 116 (List._∷_ 101 (List._∷_ 120 (List._∷_ 116 (List._∷_ 95 (List._∷_ 114 (List._∷_ 101 (List._∷_ 97 (List._∷_ 100 (List._∷_ 105 (List._∷_ 110 (List._∷_ 103 (List._∷_ 58 (List._∷_ 58 (List._∷_ 82 (List._∷_ 101 (List._∷_ 97 (List._∷_ 100 (List._∷_ 101 (List._∷_ 114 List.[])))))))))))))))))))) (Syntax.tcons (Syntax.tyInt Syntax.w8) (Syntax.tcons (Syntax.tyInt Syntax.w64) (Syntax.tcons (Syntax.tyEnum (List._∷_ 116 (List._∷_ 101 (List._∷_ 120 (List._∷_ 116 (List._∷_ 95 (List._∷_ 114 (List._∷_ 101 (List._∷_ 97 (List._∷_ 100 (List._∷_ 105 (List._∷_ 110 (List._∷_ 103 (List._∷_ 58 (List._∷_ 58 (List._∷_ 72 (List._∷_ 101 (List._∷_ 108 (List._∷_ 100 List.[])))))))))))))))))) (Syntax.ttcons Syntax.tnil (Syntax.ttcons Syntax.tnil (Syntax.ttcons (Syntax.tcons (Syntax.tyInt Syntax.w8) Syntax.tnil) (Syntax.ttcons Syntax.tnil (Syntax.ttcons (Syntax.tcons (Syntax.tyInt Syntax.w8) Syntax.tnil) (Syntax.ttcons (Syntax.tcons (Syntax.tyInt Syntax.w8) Syntax.tnil) (Syntax.ttcons Syntax.tnil (Syntax.ttcons (Syntax.tcons (Syntax.tyInt Syntax.w8) Syntax.tnil) (Syntax.ttcons Syntax.tnil (Syntax.ttcons (Syntax.tcons (Syntax.tyEnum (List._∷_ 116 (List._∷_ 101 (List._∷_ 120 (List._∷_ 116 (List._∷_ 95 (List._∷_ 114 (List._∷_ 101 (List._∷_ 97 (List._∷_ 100 (List._∷_ 105 (List._∷_ 110 (List._∷_ 103 (List._∷_ 58 (List._∷_ 58 (List._∷_ 70 (List._∷_ 97 (List._∷_ 117 (List._∷_ 108 (List._∷_ 116 List.[]))))))))))))))))))) (Syntax.ttcons Syntax.tnil (Syntax.ttcons Syntax.tnil (Syntax.ttcons Syntax.tnil (Syntax.ttcons Syntax.tnil Syntax.ttnil))))) Syntax.tnil) Syntax.ttnil))))))))))) (Syntax.tcons (Syntax.tyArray (Syntax.tyInt Syntax.w8) 32) (Syntax.tcons (Syntax.tyInt Syntax.w64) Syntax.tnil))))))) (List._∷_ (11, Rows.any-gone Syntax.tyBool) (List._∷_ (12, Rows.any-gone (Syntax.tyRef Syntax.erased Syntax.mut OfOutput.named)) (List._∷_ (13, Mut.mslice (OfOutput.row) (Syntax.tyRef Syntax.erased Syntax.mut OfOutput.named) 5) (List._∷_ (14, Relend.msptr (OfStation.row) (Syntax.tyRef Syntax.erased Syntax.mut OfStation.named) 6) (List._∷_ (15, Rows.any-gone (Syntax.tyStruct (List._∷_ 38 (List._∷_ 91 (List._∷_ 93 List.[]))) (Syntax.tcons (Syntax.tyRef Syntax.erased Syntax.mut OfStation.named) (Syntax.tcons (Syntax.tyInt Syntax.w64) Syntax.tnil)))) List.[])))))))))))))))
 
 abbrev pub t10 : List.List Row.Entry
-t10 = List._∷_ (0, Rows.any-gone (Laws.mir)) (List._∷_ (1, Relend.mslice-owed (OfOutput.row) (Syntax.tyRef (Syntax.named 0) Syntax.mut OfOutput.named) 0 5 Row.off) (List._∷_ (2, Relend.mslice-owed (OfStation.row) (Syntax.tyRef (Syntax.named 1) Syntax.mut OfStation.named) 1 6 Row.off) (List._∷_ (3, Rows.mref (Referent.rtF (Referent.fInt Syntax.w64)) (Syntax.tyRef (Syntax.named 2) Syntax.mut (Syntax.tyInt Syntax.w64)) 2) (List._∷_ (4, Mut.mslice (Referent.rtF (Referent.fInt Syntax.w8)) (Syntax.tyRef (Syntax.named 3) Syntax.mut (Syntax.tyInt Syntax.w8)) 3) (List._∷_ (5, Mut.mslice (Referent.rtF (Referent.fInt Syntax.w8)) (Syntax.tyRef (Syntax.named 4) Syntax.mut (Syntax.tyInt Syntax.w8)) 4) (List._∷_ (6, Rows.whole (Declared.row Reader.the-type)) (List._∷_ (7, Rows.sc-here (Row.sInt Syntax.w64)) (List._∷_ (8, Rows.sc-here (Row.sInt Syntax.w64)) (List._∷_ (9, Rows.any-gone (Laws.mir)) (List._∷_ (10, Rows.any-gone (Syntax.tyStruct (List._∷_ 116 (List._∷_ 101 (List._∷_ 120 (List._∷_ 116 (List._∷_ 95 (List._∷_ 114 (List._∷_ 101 (List._∷_ 97 (List._∷_ 100 (List._∷_ 105 (List._∷_ 110 (List._∷_ 103 (List._∷_ 58 (List._∷_ 58 (List._∷_ 82 (List._∷_ 101 (List._∷_ 97 (List._∷_ 100 (List._∷_ 101 (List._∷_ 114 List.[])))))))))))))))))))) (Syntax.tcons (Syntax.tyInt Syntax.w8) (Syntax.tcons (Syntax.tyInt Syntax.w64) (Syntax.tcons (Syntax.tyEnum (List._∷_ 116 (List._∷_ 101 (List._∷_ 120 (List._∷_ 116 (List._∷_ 95 (List._∷_ 114 (List._∷_ 101 (List._∷_ 97 (List._∷_ 100 (List._∷_ 105 (List._∷_ 110 (List._∷_ 103 (List._∷_ 58 (List._∷_ 58 (List._∷_ 72 (List._∷_ 101 (List._∷_ 108 (List._∷_ 100 List.[])))))))))))))))))) (Syntax.ttcons Syntax.tnil (Syntax.ttcons Syntax.tnil (Syntax.ttcons (Syntax.tcons (Syntax.tyInt Syntax.w8) Syntax.tnil) (Syntax.ttcons Syntax.tnil (Syntax.ttcons (Syntax.tcons (Syntax.tyInt Syntax.w8) Syntax.tnil) (Syntax.ttcons (Syntax.tcons (Syntax.tyInt Syntax.w8) Syntax.tnil) (Syntax.ttcons Syntax.tnil (Syntax.ttcons (Syntax.tcons (Syntax.tyInt Syntax.w8) Syntax.tnil) (Syntax.ttcons Syntax.tnil (Syntax.ttcons (Syntax.tcons (Syntax.tyEnum (List._∷_ 116 (List._∷_ 101 (List._∷_ 120 (List._∷_ 116 (List._∷_ 95 (List._∷_ 114 (List._∷_ 101 (List._∷_ 97 (List._∷_ 100 (List._∷_ 105 (List._∷_ 110 (List._∷_ 103 (List._∷_ 58 (List._∷_ 58 (List._∷_ 70 (List._∷_ 97 (List._∷_ 117 (List._∷_ 108 (List._∷_ 116 List.[]))))))))))))))))))) (Syntax.ttcons Syntax.tnil (Syntax.ttcons Syntax.tnil (Syntax.ttcons Syntax.tnil (Syntax.ttcons Syntax.tnil Syntax.ttnil))))) Syntax.tnil) Syntax.ttnil))))))))))) (Syntax.tcons (Syntax.tyArray (Syntax.tyInt Syntax.w8) 32) (Syntax.tcons (Syntax.tyInt Syntax.w64) Syntax.tnil))))))) (List._∷_ (11, Rows.any-gone Syntax.tyBool) (List._∷_ (12, Rows.any-gone (Syntax.tyRef Syntax.erased Syntax.mut OfOutput.named)) (List._∷_ (13, Mut.mslice (OfOutput.row) (Syntax.tyRef Syntax.erased Syntax.mut OfOutput.named) 5) (List._∷_ (14, Rows.any-gone (Syntax.tyRef Syntax.erased Syntax.mut OfStation.named)) (List._∷_ (15, Mut.mslice (OfStation.row) (Syntax.tyRef Syntax.erased Syntax.mut OfStation.named) 6) List.[])))))))))))))))
+t10 = List._∷_ (0, Rows.any-gone (Laws.mir)) (List._∷_ (1, Relend.mslice-owed (OfOutput.row) (Syntax.tyRef (Syntax.named 0) Syntax.mut OfOutput.named) 0 5 Row.off) (List._∷_ (2, Relend.mslice-owed (OfStation.row) (Syntax.tyRef (Syntax.named 1) Syntax.mut OfStation.named) 1 6 Row.off) (List._∷_ (3, Rows.mref (OfPanelRecord.row) (Syntax.tyRef (Syntax.named 2) Syntax.mut OfPanelRecord.named) 2) (List._∷_ (4, Mut.mslice (Referent.rtF (Referent.fInt Syntax.w8)) (Syntax.tyRef (Syntax.named 3) Syntax.mut (Syntax.tyInt Syntax.w8)) 3) (List._∷_ (5, Mut.mslice (Referent.rtF (Referent.fInt Syntax.w8)) (Syntax.tyRef (Syntax.named 4) Syntax.mut (Syntax.tyInt Syntax.w8)) 4) (List._∷_ (6, Rows.whole (Declared.row Reader.the-type)) (List._∷_ (7, Rows.sc-here (Row.sInt Syntax.w64)) (List._∷_ (8, Rows.sc-here (Row.sInt Syntax.w64)) (List._∷_ (9, Rows.any-gone (Laws.mir)) (List._∷_ (10, Rows.any-gone (Syntax.tyStruct (List._∷_ 116 (List._∷_ 101 (List._∷_ 120 (List._∷_ 116 (List._∷_ 95 (List._∷_ 114 (List._∷_ 101 (List._∷_ 97 (List._∷_ 100 (List._∷_ 105 (List._∷_ 110 (List._∷_ 103 (List._∷_ 58 (List._∷_ 58 (List._∷_ 82 (List._∷_ 101 (List._∷_ 97 (List._∷_ 100 (List._∷_ 101 (List._∷_ 114 List.[])))))))))))))))))))) (Syntax.tcons (Syntax.tyInt Syntax.w8) (Syntax.tcons (Syntax.tyInt Syntax.w64) (Syntax.tcons (Syntax.tyEnum (List._∷_ 116 (List._∷_ 101 (List._∷_ 120 (List._∷_ 116 (List._∷_ 95 (List._∷_ 114 (List._∷_ 101 (List._∷_ 97 (List._∷_ 100 (List._∷_ 105 (List._∷_ 110 (List._∷_ 103 (List._∷_ 58 (List._∷_ 58 (List._∷_ 72 (List._∷_ 101 (List._∷_ 108 (List._∷_ 100 List.[])))))))))))))))))) (Syntax.ttcons Syntax.tnil (Syntax.ttcons Syntax.tnil (Syntax.ttcons (Syntax.tcons (Syntax.tyInt Syntax.w8) Syntax.tnil) (Syntax.ttcons Syntax.tnil (Syntax.ttcons (Syntax.tcons (Syntax.tyInt Syntax.w8) Syntax.tnil) (Syntax.ttcons (Syntax.tcons (Syntax.tyInt Syntax.w8) Syntax.tnil) (Syntax.ttcons Syntax.tnil (Syntax.ttcons (Syntax.tcons (Syntax.tyInt Syntax.w8) Syntax.tnil) (Syntax.ttcons Syntax.tnil (Syntax.ttcons (Syntax.tcons (Syntax.tyEnum (List._∷_ 116 (List._∷_ 101 (List._∷_ 120 (List._∷_ 116 (List._∷_ 95 (List._∷_ 114 (List._∷_ 101 (List._∷_ 97 (List._∷_ 100 (List._∷_ 105 (List._∷_ 110 (List._∷_ 103 (List._∷_ 58 (List._∷_ 58 (List._∷_ 70 (List._∷_ 97 (List._∷_ 117 (List._∷_ 108 (List._∷_ 116 List.[]))))))))))))))))))) (Syntax.ttcons Syntax.tnil (Syntax.ttcons Syntax.tnil (Syntax.ttcons Syntax.tnil (Syntax.ttcons Syntax.tnil Syntax.ttnil))))) Syntax.tnil) Syntax.ttnil))))))))))) (Syntax.tcons (Syntax.tyArray (Syntax.tyInt Syntax.w8) 32) (Syntax.tcons (Syntax.tyInt Syntax.w64) Syntax.tnil))))))) (List._∷_ (11, Rows.any-gone Syntax.tyBool) (List._∷_ (12, Rows.any-gone (Syntax.tyRef Syntax.erased Syntax.mut OfOutput.named)) (List._∷_ (13, Mut.mslice (OfOutput.row) (Syntax.tyRef Syntax.erased Syntax.mut OfOutput.named) 5) (List._∷_ (14, Rows.any-gone (Syntax.tyRef Syntax.erased Syntax.mut OfStation.named)) (List._∷_ (15, Mut.mslice (OfStation.row) (Syntax.tyRef Syntax.erased Syntax.mut OfStation.named) 6) List.[])))))))))))))))
 
 abbrev pub t11 : List.List Row.Entry
-t11 = List._∷_ (0, Rows.any-gone (Laws.mir)) (List._∷_ (1, Relend.mslice-owed (OfOutput.row) (Syntax.tyRef (Syntax.named 0) Syntax.mut OfOutput.named) 0 5 Row.off) (List._∷_ (2, Relend.mslice-owed (OfStation.row) (Syntax.tyRef (Syntax.named 1) Syntax.mut OfStation.named) 1 6 Row.off) (List._∷_ (3, Rows.mref-owed (Referent.rtF (Referent.fInt Syntax.w64)) (Syntax.tyRef (Syntax.named 2) Syntax.mut (Syntax.tyInt Syntax.w64)) 2 7 Row.off) (List._∷_ (4, Mut.mslice (Referent.rtF (Referent.fInt Syntax.w8)) (Syntax.tyRef (Syntax.named 3) Syntax.mut (Syntax.tyInt Syntax.w8)) 3) (List._∷_ (5, Mut.mslice (Referent.rtF (Referent.fInt Syntax.w8)) (Syntax.tyRef (Syntax.named 4) Syntax.mut (Syntax.tyInt Syntax.w8)) 4) (List._∷_ (6, Rows.whole (Declared.row Reader.the-type)) (List._∷_ (7, Rows.sc-here (Row.sInt Syntax.w64)) (List._∷_ (8, Rows.sc-here (Row.sInt Syntax.w64)) (List._∷_ (9, Rows.any-gone (Laws.mir)) (List._∷_ (10, Rows.any-gone (Syntax.tyStruct (List._∷_ 116 (List._∷_ 101 (List._∷_ 120 (List._∷_ 116 (List._∷_ 95 (List._∷_ 114 (List._∷_ 101 (List._∷_ 97 (List._∷_ 100 (List._∷_ 105 (List._∷_ 110 (List._∷_ 103 (List._∷_ 58 (List._∷_ 58 (List._∷_ 82 (List._∷_ 101 (List._∷_ 97 (List._∷_ 100 (List._∷_ 101 (List._∷_ 114 List.[])))))))))))))))))))) (Syntax.tcons (Syntax.tyInt Syntax.w8) (Syntax.tcons (Syntax.tyInt Syntax.w64) (Syntax.tcons (Syntax.tyEnum (List._∷_ 116 (List._∷_ 101 (List._∷_ 120 (List._∷_ 116 (List._∷_ 95 (List._∷_ 114 (List._∷_ 101 (List._∷_ 97 (List._∷_ 100 (List._∷_ 105 (List._∷_ 110 (List._∷_ 103 (List._∷_ 58 (List._∷_ 58 (List._∷_ 72 (List._∷_ 101 (List._∷_ 108 (List._∷_ 100 List.[])))))))))))))))))) (Syntax.ttcons Syntax.tnil (Syntax.ttcons Syntax.tnil (Syntax.ttcons (Syntax.tcons (Syntax.tyInt Syntax.w8) Syntax.tnil) (Syntax.ttcons Syntax.tnil (Syntax.ttcons (Syntax.tcons (Syntax.tyInt Syntax.w8) Syntax.tnil) (Syntax.ttcons (Syntax.tcons (Syntax.tyInt Syntax.w8) Syntax.tnil) (Syntax.ttcons Syntax.tnil (Syntax.ttcons (Syntax.tcons (Syntax.tyInt Syntax.w8) Syntax.tnil) (Syntax.ttcons Syntax.tnil (Syntax.ttcons (Syntax.tcons (Syntax.tyEnum (List._∷_ 116 (List._∷_ 101 (List._∷_ 120 (List._∷_ 116 (List._∷_ 95 (List._∷_ 114 (List._∷_ 101 (List._∷_ 97 (List._∷_ 100 (List._∷_ 105 (List._∷_ 110 (List._∷_ 103 (List._∷_ 58 (List._∷_ 58 (List._∷_ 70 (List._∷_ 97 (List._∷_ 117 (List._∷_ 108 (List._∷_ 116 List.[]))))))))))))))))))) (Syntax.ttcons Syntax.tnil (Syntax.ttcons Syntax.tnil (Syntax.ttcons Syntax.tnil (Syntax.ttcons Syntax.tnil Syntax.ttnil))))) Syntax.tnil) Syntax.ttnil))))))))))) (Syntax.tcons (Syntax.tyArray (Syntax.tyInt Syntax.w8) 32) (Syntax.tcons (Syntax.tyInt Syntax.w64) Syntax.tnil))))))) (List._∷_ (11, Rows.any-gone Syntax.tyBool) (List._∷_ (12, Rows.any-gone (Syntax.tyRef Syntax.erased Syntax.mut OfOutput.named)) (List._∷_ (13, Mut.mslice (OfOutput.row) (Syntax.tyRef Syntax.erased Syntax.mut OfOutput.named) 5) (List._∷_ (14, Rows.any-gone (Syntax.tyRef Syntax.erased Syntax.mut OfStation.named)) (List._∷_ (15, Mut.mslice (OfStation.row) (Syntax.tyRef Syntax.erased Syntax.mut OfStation.named) 6) List.[])))))))))))))))
+t11 = List._∷_ (0, Rows.any-gone (Laws.mir)) (List._∷_ (1, Relend.mslice-owed (OfOutput.row) (Syntax.tyRef (Syntax.named 0) Syntax.mut OfOutput.named) 0 5 Row.off) (List._∷_ (2, Relend.mslice-owed (OfStation.row) (Syntax.tyRef (Syntax.named 1) Syntax.mut OfStation.named) 1 6 Row.off) (List._∷_ (3, Rows.mref-owed (OfPanelRecord.row) (Syntax.tyRef (Syntax.named 2) Syntax.mut OfPanelRecord.named) 2 7 Row.off) (List._∷_ (4, Mut.mslice (Referent.rtF (Referent.fInt Syntax.w8)) (Syntax.tyRef (Syntax.named 3) Syntax.mut (Syntax.tyInt Syntax.w8)) 3) (List._∷_ (5, Mut.mslice (Referent.rtF (Referent.fInt Syntax.w8)) (Syntax.tyRef (Syntax.named 4) Syntax.mut (Syntax.tyInt Syntax.w8)) 4) (List._∷_ (6, Rows.whole (Declared.row Reader.the-type)) (List._∷_ (7, Rows.sc-here (Row.sInt Syntax.w64)) (List._∷_ (8, Rows.sc-here (Row.sInt Syntax.w64)) (List._∷_ (9, Rows.any-gone (Laws.mir)) (List._∷_ (10, Rows.any-gone (Syntax.tyStruct (List._∷_ 116 (List._∷_ 101 (List._∷_ 120 (List._∷_ 116 (List._∷_ 95 (List._∷_ 114 (List._∷_ 101 (List._∷_ 97 (List._∷_ 100 (List._∷_ 105 (List._∷_ 110 (List._∷_ 103 (List._∷_ 58 (List._∷_ 58 (List._∷_ 82 (List._∷_ 101 (List._∷_ 97 (List._∷_ 100 (List._∷_ 101 (List._∷_ 114 List.[])))))))))))))))))))) (Syntax.tcons (Syntax.tyInt Syntax.w8) (Syntax.tcons (Syntax.tyInt Syntax.w64) (Syntax.tcons (Syntax.tyEnum (List._∷_ 116 (List._∷_ 101 (List._∷_ 120 (List._∷_ 116 (List._∷_ 95 (List._∷_ 114 (List._∷_ 101 (List._∷_ 97 (List._∷_ 100 (List._∷_ 105 (List._∷_ 110 (List._∷_ 103 (List._∷_ 58 (List._∷_ 58 (List._∷_ 72 (List._∷_ 101 (List._∷_ 108 (List._∷_ 100 List.[])))))))))))))))))) (Syntax.ttcons Syntax.tnil (Syntax.ttcons Syntax.tnil (Syntax.ttcons (Syntax.tcons (Syntax.tyInt Syntax.w8) Syntax.tnil) (Syntax.ttcons Syntax.tnil (Syntax.ttcons (Syntax.tcons (Syntax.tyInt Syntax.w8) Syntax.tnil) (Syntax.ttcons (Syntax.tcons (Syntax.tyInt Syntax.w8) Syntax.tnil) (Syntax.ttcons Syntax.tnil (Syntax.ttcons (Syntax.tcons (Syntax.tyInt Syntax.w8) Syntax.tnil) (Syntax.ttcons Syntax.tnil (Syntax.ttcons (Syntax.tcons (Syntax.tyEnum (List._∷_ 116 (List._∷_ 101 (List._∷_ 120 (List._∷_ 116 (List._∷_ 95 (List._∷_ 114 (List._∷_ 101 (List._∷_ 97 (List._∷_ 100 (List._∷_ 105 (List._∷_ 110 (List._∷_ 103 (List._∷_ 58 (List._∷_ 58 (List._∷_ 70 (List._∷_ 97 (List._∷_ 117 (List._∷_ 108 (List._∷_ 116 List.[]))))))))))))))))))) (Syntax.ttcons Syntax.tnil (Syntax.ttcons Syntax.tnil (Syntax.ttcons Syntax.tnil (Syntax.ttcons Syntax.tnil Syntax.ttnil))))) Syntax.tnil) Syntax.ttnil))))))))))) (Syntax.tcons (Syntax.tyArray (Syntax.tyInt Syntax.w8) 32) (Syntax.tcons (Syntax.tyInt Syntax.w64) Syntax.tnil))))))) (List._∷_ (11, Rows.any-gone Syntax.tyBool) (List._∷_ (12, Rows.any-gone (Syntax.tyRef Syntax.erased Syntax.mut OfOutput.named)) (List._∷_ (13, Mut.mslice (OfOutput.row) (Syntax.tyRef Syntax.erased Syntax.mut OfOutput.named) 5) (List._∷_ (14, Rows.any-gone (Syntax.tyRef Syntax.erased Syntax.mut OfStation.named)) (List._∷_ (15, Mut.mslice (OfStation.row) (Syntax.tyRef Syntax.erased Syntax.mut OfStation.named) 6) List.[])))))))))))))))
 
 abbrev pub t12 : List.List Row.Entry
-t12 = List._∷_ (16, Rows.mref (Referent.rtF (Referent.fInt Syntax.w64)) (Syntax.tyRef Syntax.erased Syntax.mut (Syntax.tyInt Syntax.w64)) 7) (List._∷_ (17, Rows.any-gone (Syntax.tyRef Syntax.erased Syntax.mut (Syntax.tyInt Syntax.w8))) (List._∷_ (18, Rows.any-gone (Syntax.tyStruct (List._∷_ 38 (List._∷_ 91 (List._∷_ 93 List.[]))) (Syntax.tcons (Syntax.tyRef Syntax.erased Syntax.mut (Syntax.tyInt Syntax.w8)) (Syntax.tcons (Syntax.tyInt Syntax.w64) Syntax.tnil)))) (List._∷_ (19, Rows.any-gone (Syntax.tyRef Syntax.erased Syntax.mut (Syntax.tyInt Syntax.w8))) (List._∷_ (20, Rows.any-gone (Syntax.tyStruct (List._∷_ 38 (List._∷_ 91 (List._∷_ 93 List.[]))) (Syntax.tcons (Syntax.tyRef Syntax.erased Syntax.mut (Syntax.tyInt Syntax.w8)) (Syntax.tcons (Syntax.tyInt Syntax.w64) Syntax.tnil)))) List.[]))))
+t12 = List._∷_ (16, Rows.mref (OfPanelRecord.row) (Syntax.tyRef Syntax.erased Syntax.mut OfPanelRecord.named) 7) (List._∷_ (17, Rows.any-gone (Syntax.tyRef Syntax.erased Syntax.mut (Syntax.tyInt Syntax.w8))) (List._∷_ (18, Rows.any-gone (Syntax.tyStruct (List._∷_ 38 (List._∷_ 91 (List._∷_ 93 List.[]))) (Syntax.tcons (Syntax.tyRef Syntax.erased Syntax.mut (Syntax.tyInt Syntax.w8)) (Syntax.tcons (Syntax.tyInt Syntax.w64) Syntax.tnil)))) (List._∷_ (19, Rows.any-gone (Syntax.tyRef Syntax.erased Syntax.mut (Syntax.tyInt Syntax.w8))) (List._∷_ (20, Rows.any-gone (Syntax.tyStruct (List._∷_ 38 (List._∷_ 91 (List._∷_ 93 List.[]))) (Syntax.tcons (Syntax.tyRef Syntax.erased Syntax.mut (Syntax.tyInt Syntax.w8)) (Syntax.tcons (Syntax.tyInt Syntax.w64) Syntax.tnil)))) List.[]))))
 
 abbrev pub t13 : List.List Row.Entry
-t13 = List._∷_ (0, Rows.any-gone (Laws.mir)) (List._∷_ (1, Relend.mslice-owed (OfOutput.row) (Syntax.tyRef (Syntax.named 0) Syntax.mut OfOutput.named) 0 5 Row.off) (List._∷_ (2, Relend.mslice-owed (OfStation.row) (Syntax.tyRef (Syntax.named 1) Syntax.mut OfStation.named) 1 6 Row.off) (List._∷_ (3, Rows.mref-owed (Referent.rtF (Referent.fInt Syntax.w64)) (Syntax.tyRef (Syntax.named 2) Syntax.mut (Syntax.tyInt Syntax.w64)) 2 7 Row.off) (List._∷_ (4, Relend.mslice-owed (Referent.rtF (Referent.fInt Syntax.w8)) (Syntax.tyRef (Syntax.named 3) Syntax.mut (Syntax.tyInt Syntax.w8)) 3 8 Row.off) (List._∷_ (5, Mut.mslice (Referent.rtF (Referent.fInt Syntax.w8)) (Syntax.tyRef (Syntax.named 4) Syntax.mut (Syntax.tyInt Syntax.w8)) 4) (List._∷_ (6, Rows.whole (Declared.row Reader.the-type)) (List._∷_ (7, Rows.sc-here (Row.sInt Syntax.w64)) (List._∷_ (8, Rows.sc-here (Row.sInt Syntax.w64)) (List._∷_ (9, Rows.any-gone (Laws.mir)) (List._∷_ (10, Rows.any-gone (Syntax.tyStruct (List._∷_ 116 (List._∷_ 101 (List._∷_ 120 (List._∷_ 116 (List._∷_ 95 (List._∷_ 114 (List._∷_ 101 (List._∷_ 97 (List._∷_ 100 (List._∷_ 105 (List._∷_ 110 (List._∷_ 103 (List._∷_ 58 (List._∷_ 58 (List._∷_ 82 (List._∷_ 101 (List._∷_ 97 (List._∷_ 100 (List._∷_ 101 (List._∷_ 114 List.[])))))))))))))))))))) (Syntax.tcons (Syntax.tyInt Syntax.w8) (Syntax.tcons (Syntax.tyInt Syntax.w64) (Syntax.tcons (Syntax.tyEnum (List._∷_ 116 (List._∷_ 101 (List._∷_ 120 (List._∷_ 116 (List._∷_ 95 (List._∷_ 114 (List._∷_ 101 (List._∷_ 97 (List._∷_ 100 (List._∷_ 105 (List._∷_ 110 (List._∷_ 103 (List._∷_ 58 (List._∷_ 58 (List._∷_ 72 (List._∷_ 101 (List._∷_ 108 (List._∷_ 100 List.[])))))))))))))))))) (Syntax.ttcons Syntax.tnil (Syntax.ttcons Syntax.tnil (Syntax.ttcons (Syntax.tcons (Syntax.tyInt Syntax.w8) Syntax.tnil) (Syntax.ttcons Syntax.tnil (Syntax.ttcons (Syntax.tcons (Syntax.tyInt Syntax.w8) Syntax.tnil) (Syntax.ttcons (Syntax.tcons (Syntax.tyInt Syntax.w8) Syntax.tnil) (Syntax.ttcons Syntax.tnil (Syntax.ttcons (Syntax.tcons (Syntax.tyInt Syntax.w8) Syntax.tnil) (Syntax.ttcons Syntax.tnil (Syntax.ttcons (Syntax.tcons (Syntax.tyEnum (List._∷_ 116 (List._∷_ 101 (List._∷_ 120 (List._∷_ 116 (List._∷_ 95 (List._∷_ 114 (List._∷_ 101 (List._∷_ 97 (List._∷_ 100 (List._∷_ 105 (List._∷_ 110 (List._∷_ 103 (List._∷_ 58 (List._∷_ 58 (List._∷_ 70 (List._∷_ 97 (List._∷_ 117 (List._∷_ 108 (List._∷_ 116 List.[]))))))))))))))))))) (Syntax.ttcons Syntax.tnil (Syntax.ttcons Syntax.tnil (Syntax.ttcons Syntax.tnil (Syntax.ttcons Syntax.tnil Syntax.ttnil))))) Syntax.tnil) Syntax.ttnil))))))))))) (Syntax.tcons (Syntax.tyArray (Syntax.tyInt Syntax.w8) 32) (Syntax.tcons (Syntax.tyInt Syntax.w64) Syntax.tnil))))))) (List._∷_ (11, Rows.any-gone Syntax.tyBool) (List._∷_ (12, Rows.any-gone (Syntax.tyRef Syntax.erased Syntax.mut OfOutput.named)) (List._∷_ (13, Mut.mslice (OfOutput.row) (Syntax.tyRef Syntax.erased Syntax.mut OfOutput.named) 5) (List._∷_ (14, Rows.any-gone (Syntax.tyRef Syntax.erased Syntax.mut OfStation.named)) (List._∷_ (15, Mut.mslice (OfStation.row) (Syntax.tyRef Syntax.erased Syntax.mut OfStation.named) 6) List.[])))))))))))))))
+t13 = List._∷_ (0, Rows.any-gone (Laws.mir)) (List._∷_ (1, Relend.mslice-owed (OfOutput.row) (Syntax.tyRef (Syntax.named 0) Syntax.mut OfOutput.named) 0 5 Row.off) (List._∷_ (2, Relend.mslice-owed (OfStation.row) (Syntax.tyRef (Syntax.named 1) Syntax.mut OfStation.named) 1 6 Row.off) (List._∷_ (3, Rows.mref-owed (OfPanelRecord.row) (Syntax.tyRef (Syntax.named 2) Syntax.mut OfPanelRecord.named) 2 7 Row.off) (List._∷_ (4, Relend.mslice-owed (Referent.rtF (Referent.fInt Syntax.w8)) (Syntax.tyRef (Syntax.named 3) Syntax.mut (Syntax.tyInt Syntax.w8)) 3 8 Row.off) (List._∷_ (5, Mut.mslice (Referent.rtF (Referent.fInt Syntax.w8)) (Syntax.tyRef (Syntax.named 4) Syntax.mut (Syntax.tyInt Syntax.w8)) 4) (List._∷_ (6, Rows.whole (Declared.row Reader.the-type)) (List._∷_ (7, Rows.sc-here (Row.sInt Syntax.w64)) (List._∷_ (8, Rows.sc-here (Row.sInt Syntax.w64)) (List._∷_ (9, Rows.any-gone (Laws.mir)) (List._∷_ (10, Rows.any-gone (Syntax.tyStruct (List._∷_ 116 (List._∷_ 101 (List._∷_ 120 (List._∷_ 116 (List._∷_ 95 (List._∷_ 114 (List._∷_ 101 (List._∷_ 97 (List._∷_ 100 (List._∷_ 105 (List._∷_ 110 (List._∷_ 103 (List._∷_ 58 (List._∷_ 58 (List._∷_ 82 (List._∷_ 101 (List._∷_ 97 (List._∷_ 100 (List._∷_ 101 (List._∷_ 114 List.[])))))))))))))))))))) (Syntax.tcons (Syntax.tyInt Syntax.w8) (Syntax.tcons (Syntax.tyInt Syntax.w64) (Syntax.tcons (Syntax.tyEnum (List._∷_ 116 (List._∷_ 101 (List._∷_ 120 (List._∷_ 116 (List._∷_ 95 (List._∷_ 114 (List._∷_ 101 (List._∷_ 97 (List._∷_ 100 (List._∷_ 105 (List._∷_ 110 (List._∷_ 103 (List._∷_ 58 (List._∷_ 58 (List._∷_ 72 (List._∷_ 101 (List._∷_ 108 (List._∷_ 100 List.[])))))))))))))))))) (Syntax.ttcons Syntax.tnil (Syntax.ttcons Syntax.tnil (Syntax.ttcons (Syntax.tcons (Syntax.tyInt Syntax.w8) Syntax.tnil) (Syntax.ttcons Syntax.tnil (Syntax.ttcons (Syntax.tcons (Syntax.tyInt Syntax.w8) Syntax.tnil) (Syntax.ttcons (Syntax.tcons (Syntax.tyInt Syntax.w8) Syntax.tnil) (Syntax.ttcons Syntax.tnil (Syntax.ttcons (Syntax.tcons (Syntax.tyInt Syntax.w8) Syntax.tnil) (Syntax.ttcons Syntax.tnil (Syntax.ttcons (Syntax.tcons (Syntax.tyEnum (List._∷_ 116 (List._∷_ 101 (List._∷_ 120 (List._∷_ 116 (List._∷_ 95 (List._∷_ 114 (List._∷_ 101 (List._∷_ 97 (List._∷_ 100 (List._∷_ 105 (List._∷_ 110 (List._∷_ 103 (List._∷_ 58 (List._∷_ 58 (List._∷_ 70 (List._∷_ 97 (List._∷_ 117 (List._∷_ 108 (List._∷_ 116 List.[]))))))))))))))))))) (Syntax.ttcons Syntax.tnil (Syntax.ttcons Syntax.tnil (Syntax.ttcons Syntax.tnil (Syntax.ttcons Syntax.tnil Syntax.ttnil))))) Syntax.tnil) Syntax.ttnil))))))))))) (Syntax.tcons (Syntax.tyArray (Syntax.tyInt Syntax.w8) 32) (Syntax.tcons (Syntax.tyInt Syntax.w64) Syntax.tnil))))))) (List._∷_ (11, Rows.any-gone Syntax.tyBool) (List._∷_ (12, Rows.any-gone (Syntax.tyRef Syntax.erased Syntax.mut OfOutput.named)) (List._∷_ (13, Mut.mslice (OfOutput.row) (Syntax.tyRef Syntax.erased Syntax.mut OfOutput.named) 5) (List._∷_ (14, Rows.any-gone (Syntax.tyRef Syntax.erased Syntax.mut OfStation.named)) (List._∷_ (15, Mut.mslice (OfStation.row) (Syntax.tyRef Syntax.erased Syntax.mut OfStation.named) 6) List.[])))))))))))))))
 
 abbrev pub t14 : List.List Row.Entry
-t14 = List._∷_ (16, Rows.mref (Referent.rtF (Referent.fInt Syntax.w64)) (Syntax.tyRef Syntax.erased Syntax.mut (Syntax.tyInt Syntax.w64)) 7) (List._∷_ (17, Relend.msptr (Referent.rtF (Referent.fInt Syntax.w8)) (Syntax.tyRef Syntax.erased Syntax.mut (Syntax.tyInt Syntax.w8)) 8) (List._∷_ (18, Rows.any-gone (Syntax.tyStruct (List._∷_ 38 (List._∷_ 91 (List._∷_ 93 List.[]))) (Syntax.tcons (Syntax.tyRef Syntax.erased Syntax.mut (Syntax.tyInt Syntax.w8)) (Syntax.tcons (Syntax.tyInt Syntax.w64) Syntax.tnil)))) (List._∷_ (19, Rows.any-gone (Syntax.tyRef Syntax.erased Syntax.mut (Syntax.tyInt Syntax.w8))) (List._∷_ (20, Rows.any-gone (Syntax.tyStruct (List._∷_ 38 (List._∷_ 91 (List._∷_ 93 List.[]))) (Syntax.tcons (Syntax.tyRef Syntax.erased Syntax.mut (Syntax.tyInt Syntax.w8)) (Syntax.tcons (Syntax.tyInt Syntax.w64) Syntax.tnil)))) List.[]))))
+t14 = List._∷_ (16, Rows.mref (OfPanelRecord.row) (Syntax.tyRef Syntax.erased Syntax.mut OfPanelRecord.named) 7) (List._∷_ (17, Relend.msptr (Referent.rtF (Referent.fInt Syntax.w8)) (Syntax.tyRef Syntax.erased Syntax.mut (Syntax.tyInt Syntax.w8)) 8) (List._∷_ (18, Rows.any-gone (Syntax.tyStruct (List._∷_ 38 (List._∷_ 91 (List._∷_ 93 List.[]))) (Syntax.tcons (Syntax.tyRef Syntax.erased Syntax.mut (Syntax.tyInt Syntax.w8)) (Syntax.tcons (Syntax.tyInt Syntax.w64) Syntax.tnil)))) (List._∷_ (19, Rows.any-gone (Syntax.tyRef Syntax.erased Syntax.mut (Syntax.tyInt Syntax.w8))) (List._∷_ (20, Rows.any-gone (Syntax.tyStruct (List._∷_ 38 (List._∷_ 91 (List._∷_ 93 List.[]))) (Syntax.tcons (Syntax.tyRef Syntax.erased Syntax.mut (Syntax.tyInt Syntax.w8)) (Syntax.tcons (Syntax.tyInt Syntax.w64) Syntax.tnil)))) List.[]))))
 
 abbrev pub t15 : List.List Row.Entry
-t15 = List._∷_ (16, Rows.mref (Referent.rtF (Referent.fInt Syntax.w64)) (Syntax.tyRef Syntax.erased Syntax.mut (Syntax.tyInt Syntax.w64)) 7) (List._∷_ (17, Rows.any-gone (Syntax.tyRef Syntax.erased Syntax.mut (Syntax.tyInt Syntax.w8))) (List._∷_ (18, Mut.mslice (Referent.rtF (Referent.fInt Syntax.w8)) (Syntax.tyRef Syntax.erased Syntax.mut (Syntax.tyInt Syntax.w8)) 8) (List._∷_ (19, Rows.any-gone (Syntax.tyRef Syntax.erased Syntax.mut (Syntax.tyInt Syntax.w8))) (List._∷_ (20, Rows.any-gone (Syntax.tyStruct (List._∷_ 38 (List._∷_ 91 (List._∷_ 93 List.[]))) (Syntax.tcons (Syntax.tyRef Syntax.erased Syntax.mut (Syntax.tyInt Syntax.w8)) (Syntax.tcons (Syntax.tyInt Syntax.w64) Syntax.tnil)))) List.[]))))
+t15 = List._∷_ (16, Rows.mref (OfPanelRecord.row) (Syntax.tyRef Syntax.erased Syntax.mut OfPanelRecord.named) 7) (List._∷_ (17, Rows.any-gone (Syntax.tyRef Syntax.erased Syntax.mut (Syntax.tyInt Syntax.w8))) (List._∷_ (18, Mut.mslice (Referent.rtF (Referent.fInt Syntax.w8)) (Syntax.tyRef Syntax.erased Syntax.mut (Syntax.tyInt Syntax.w8)) 8) (List._∷_ (19, Rows.any-gone (Syntax.tyRef Syntax.erased Syntax.mut (Syntax.tyInt Syntax.w8))) (List._∷_ (20, Rows.any-gone (Syntax.tyStruct (List._∷_ 38 (List._∷_ 91 (List._∷_ 93 List.[]))) (Syntax.tcons (Syntax.tyRef Syntax.erased Syntax.mut (Syntax.tyInt Syntax.w8)) (Syntax.tcons (Syntax.tyInt Syntax.w64) Syntax.tnil)))) List.[]))))
 
 abbrev pub t16 : List.List Row.Entry
-t16 = List._∷_ (0, Rows.any-gone (Laws.mir)) (List._∷_ (1, Relend.mslice-owed (OfOutput.row) (Syntax.tyRef (Syntax.named 0) Syntax.mut OfOutput.named) 0 5 Row.off) (List._∷_ (2, Relend.mslice-owed (OfStation.row) (Syntax.tyRef (Syntax.named 1) Syntax.mut OfStation.named) 1 6 Row.off) (List._∷_ (3, Rows.mref-owed (Referent.rtF (Referent.fInt Syntax.w64)) (Syntax.tyRef (Syntax.named 2) Syntax.mut (Syntax.tyInt Syntax.w64)) 2 7 Row.off) (List._∷_ (4, Relend.mslice-owed (Referent.rtF (Referent.fInt Syntax.w8)) (Syntax.tyRef (Syntax.named 3) Syntax.mut (Syntax.tyInt Syntax.w8)) 3 8 Row.off) (List._∷_ (5, Relend.mslice-owed (Referent.rtF (Referent.fInt Syntax.w8)) (Syntax.tyRef (Syntax.named 4) Syntax.mut (Syntax.tyInt Syntax.w8)) 4 9 Row.off) (List._∷_ (6, Rows.whole (Declared.row Reader.the-type)) (List._∷_ (7, Rows.sc-here (Row.sInt Syntax.w64)) (List._∷_ (8, Rows.sc-here (Row.sInt Syntax.w64)) (List._∷_ (9, Rows.any-gone (Laws.mir)) (List._∷_ (10, Rows.any-gone (Syntax.tyStruct (List._∷_ 116 (List._∷_ 101 (List._∷_ 120 (List._∷_ 116 (List._∷_ 95 (List._∷_ 114 (List._∷_ 101 (List._∷_ 97 (List._∷_ 100 (List._∷_ 105 (List._∷_ 110 (List._∷_ 103 (List._∷_ 58 (List._∷_ 58 (List._∷_ 82 (List._∷_ 101 (List._∷_ 97 (List._∷_ 100 (List._∷_ 101 (List._∷_ 114 List.[])))))))))))))))))))) (Syntax.tcons (Syntax.tyInt Syntax.w8) (Syntax.tcons (Syntax.tyInt Syntax.w64) (Syntax.tcons (Syntax.tyEnum (List._∷_ 116 (List._∷_ 101 (List._∷_ 120 (List._∷_ 116 (List._∷_ 95 (List._∷_ 114 (List._∷_ 101 (List._∷_ 97 (List._∷_ 100 (List._∷_ 105 (List._∷_ 110 (List._∷_ 103 (List._∷_ 58 (List._∷_ 58 (List._∷_ 72 (List._∷_ 101 (List._∷_ 108 (List._∷_ 100 List.[])))))))))))))))))) (Syntax.ttcons Syntax.tnil (Syntax.ttcons Syntax.tnil (Syntax.ttcons (Syntax.tcons (Syntax.tyInt Syntax.w8) Syntax.tnil) (Syntax.ttcons Syntax.tnil (Syntax.ttcons (Syntax.tcons (Syntax.tyInt Syntax.w8) Syntax.tnil) (Syntax.ttcons (Syntax.tcons (Syntax.tyInt Syntax.w8) Syntax.tnil) (Syntax.ttcons Syntax.tnil (Syntax.ttcons (Syntax.tcons (Syntax.tyInt Syntax.w8) Syntax.tnil) (Syntax.ttcons Syntax.tnil (Syntax.ttcons (Syntax.tcons (Syntax.tyEnum (List._∷_ 116 (List._∷_ 101 (List._∷_ 120 (List._∷_ 116 (List._∷_ 95 (List._∷_ 114 (List._∷_ 101 (List._∷_ 97 (List._∷_ 100 (List._∷_ 105 (List._∷_ 110 (List._∷_ 103 (List._∷_ 58 (List._∷_ 58 (List._∷_ 70 (List._∷_ 97 (List._∷_ 117 (List._∷_ 108 (List._∷_ 116 List.[]))))))))))))))))))) (Syntax.ttcons Syntax.tnil (Syntax.ttcons Syntax.tnil (Syntax.ttcons Syntax.tnil (Syntax.ttcons Syntax.tnil Syntax.ttnil))))) Syntax.tnil) Syntax.ttnil))))))))))) (Syntax.tcons (Syntax.tyArray (Syntax.tyInt Syntax.w8) 32) (Syntax.tcons (Syntax.tyInt Syntax.w64) Syntax.tnil))))))) (List._∷_ (11, Rows.any-gone Syntax.tyBool) (List._∷_ (12, Rows.any-gone (Syntax.tyRef Syntax.erased Syntax.mut OfOutput.named)) (List._∷_ (13, Mut.mslice (OfOutput.row) (Syntax.tyRef Syntax.erased Syntax.mut OfOutput.named) 5) (List._∷_ (14, Rows.any-gone (Syntax.tyRef Syntax.erased Syntax.mut OfStation.named)) (List._∷_ (15, Mut.mslice (OfStation.row) (Syntax.tyRef Syntax.erased Syntax.mut OfStation.named) 6) List.[])))))))))))))))
+t16 = List._∷_ (0, Rows.any-gone (Laws.mir)) (List._∷_ (1, Relend.mslice-owed (OfOutput.row) (Syntax.tyRef (Syntax.named 0) Syntax.mut OfOutput.named) 0 5 Row.off) (List._∷_ (2, Relend.mslice-owed (OfStation.row) (Syntax.tyRef (Syntax.named 1) Syntax.mut OfStation.named) 1 6 Row.off) (List._∷_ (3, Rows.mref-owed (OfPanelRecord.row) (Syntax.tyRef (Syntax.named 2) Syntax.mut OfPanelRecord.named) 2 7 Row.off) (List._∷_ (4, Relend.mslice-owed (Referent.rtF (Referent.fInt Syntax.w8)) (Syntax.tyRef (Syntax.named 3) Syntax.mut (Syntax.tyInt Syntax.w8)) 3 8 Row.off) (List._∷_ (5, Relend.mslice-owed (Referent.rtF (Referent.fInt Syntax.w8)) (Syntax.tyRef (Syntax.named 4) Syntax.mut (Syntax.tyInt Syntax.w8)) 4 9 Row.off) (List._∷_ (6, Rows.whole (Declared.row Reader.the-type)) (List._∷_ (7, Rows.sc-here (Row.sInt Syntax.w64)) (List._∷_ (8, Rows.sc-here (Row.sInt Syntax.w64)) (List._∷_ (9, Rows.any-gone (Laws.mir)) (List._∷_ (10, Rows.any-gone (Syntax.tyStruct (List._∷_ 116 (List._∷_ 101 (List._∷_ 120 (List._∷_ 116 (List._∷_ 95 (List._∷_ 114 (List._∷_ 101 (List._∷_ 97 (List._∷_ 100 (List._∷_ 105 (List._∷_ 110 (List._∷_ 103 (List._∷_ 58 (List._∷_ 58 (List._∷_ 82 (List._∷_ 101 (List._∷_ 97 (List._∷_ 100 (List._∷_ 101 (List._∷_ 114 List.[])))))))))))))))))))) (Syntax.tcons (Syntax.tyInt Syntax.w8) (Syntax.tcons (Syntax.tyInt Syntax.w64) (Syntax.tcons (Syntax.tyEnum (List._∷_ 116 (List._∷_ 101 (List._∷_ 120 (List._∷_ 116 (List._∷_ 95 (List._∷_ 114 (List._∷_ 101 (List._∷_ 97 (List._∷_ 100 (List._∷_ 105 (List._∷_ 110 (List._∷_ 103 (List._∷_ 58 (List._∷_ 58 (List._∷_ 72 (List._∷_ 101 (List._∷_ 108 (List._∷_ 100 List.[])))))))))))))))))) (Syntax.ttcons Syntax.tnil (Syntax.ttcons Syntax.tnil (Syntax.ttcons (Syntax.tcons (Syntax.tyInt Syntax.w8) Syntax.tnil) (Syntax.ttcons Syntax.tnil (Syntax.ttcons (Syntax.tcons (Syntax.tyInt Syntax.w8) Syntax.tnil) (Syntax.ttcons (Syntax.tcons (Syntax.tyInt Syntax.w8) Syntax.tnil) (Syntax.ttcons Syntax.tnil (Syntax.ttcons (Syntax.tcons (Syntax.tyInt Syntax.w8) Syntax.tnil) (Syntax.ttcons Syntax.tnil (Syntax.ttcons (Syntax.tcons (Syntax.tyEnum (List._∷_ 116 (List._∷_ 101 (List._∷_ 120 (List._∷_ 116 (List._∷_ 95 (List._∷_ 114 (List._∷_ 101 (List._∷_ 97 (List._∷_ 100 (List._∷_ 105 (List._∷_ 110 (List._∷_ 103 (List._∷_ 58 (List._∷_ 58 (List._∷_ 70 (List._∷_ 97 (List._∷_ 117 (List._∷_ 108 (List._∷_ 116 List.[]))))))))))))))))))) (Syntax.ttcons Syntax.tnil (Syntax.ttcons Syntax.tnil (Syntax.ttcons Syntax.tnil (Syntax.ttcons Syntax.tnil Syntax.ttnil))))) Syntax.tnil) Syntax.ttnil))))))))))) (Syntax.tcons (Syntax.tyArray (Syntax.tyInt Syntax.w8) 32) (Syntax.tcons (Syntax.tyInt Syntax.w64) Syntax.tnil))))))) (List._∷_ (11, Rows.any-gone Syntax.tyBool) (List._∷_ (12, Rows.any-gone (Syntax.tyRef Syntax.erased Syntax.mut OfOutput.named)) (List._∷_ (13, Mut.mslice (OfOutput.row) (Syntax.tyRef Syntax.erased Syntax.mut OfOutput.named) 5) (List._∷_ (14, Rows.any-gone (Syntax.tyRef Syntax.erased Syntax.mut OfStation.named)) (List._∷_ (15, Mut.mslice (OfStation.row) (Syntax.tyRef Syntax.erased Syntax.mut OfStation.named) 6) List.[])))))))))))))))
 
 abbrev pub t17 : List.List Row.Entry
-t17 = List._∷_ (16, Rows.mref (Referent.rtF (Referent.fInt Syntax.w64)) (Syntax.tyRef Syntax.erased Syntax.mut (Syntax.tyInt Syntax.w64)) 7) (List._∷_ (17, Rows.any-gone (Syntax.tyRef Syntax.erased Syntax.mut (Syntax.tyInt Syntax.w8))) (List._∷_ (18, Mut.mslice (Referent.rtF (Referent.fInt Syntax.w8)) (Syntax.tyRef Syntax.erased Syntax.mut (Syntax.tyInt Syntax.w8)) 8) (List._∷_ (19, Relend.msptr (Referent.rtF (Referent.fInt Syntax.w8)) (Syntax.tyRef Syntax.erased Syntax.mut (Syntax.tyInt Syntax.w8)) 9) (List._∷_ (20, Rows.any-gone (Syntax.tyStruct (List._∷_ 38 (List._∷_ 91 (List._∷_ 93 List.[]))) (Syntax.tcons (Syntax.tyRef Syntax.erased Syntax.mut (Syntax.tyInt Syntax.w8)) (Syntax.tcons (Syntax.tyInt Syntax.w64) Syntax.tnil)))) List.[]))))
+t17 = List._∷_ (16, Rows.mref (OfPanelRecord.row) (Syntax.tyRef Syntax.erased Syntax.mut OfPanelRecord.named) 7) (List._∷_ (17, Rows.any-gone (Syntax.tyRef Syntax.erased Syntax.mut (Syntax.tyInt Syntax.w8))) (List._∷_ (18, Mut.mslice (Referent.rtF (Referent.fInt Syntax.w8)) (Syntax.tyRef Syntax.erased Syntax.mut (Syntax.tyInt Syntax.w8)) 8) (List._∷_ (19, Relend.msptr (Referent.rtF (Referent.fInt Syntax.w8)) (Syntax.tyRef Syntax.erased Syntax.mut (Syntax.tyInt Syntax.w8)) 9) (List._∷_ (20, Rows.any-gone (Syntax.tyStruct (List._∷_ 38 (List._∷_ 91 (List._∷_ 93 List.[]))) (Syntax.tcons (Syntax.tyRef Syntax.erased Syntax.mut (Syntax.tyInt Syntax.w8)) (Syntax.tcons (Syntax.tyInt Syntax.w64) Syntax.tnil)))) List.[]))))
 
 abbrev pub t18 : List.List Row.Entry
-t18 = List._∷_ (16, Rows.mref (Referent.rtF (Referent.fInt Syntax.w64)) (Syntax.tyRef Syntax.erased Syntax.mut (Syntax.tyInt Syntax.w64)) 7) (List._∷_ (17, Rows.any-gone (Syntax.tyRef Syntax.erased Syntax.mut (Syntax.tyInt Syntax.w8))) (List._∷_ (18, Mut.mslice (Referent.rtF (Referent.fInt Syntax.w8)) (Syntax.tyRef Syntax.erased Syntax.mut (Syntax.tyInt Syntax.w8)) 8) (List._∷_ (19, Rows.any-gone (Syntax.tyRef Syntax.erased Syntax.mut (Syntax.tyInt Syntax.w8))) (List._∷_ (20, Mut.mslice (Referent.rtF (Referent.fInt Syntax.w8)) (Syntax.tyRef Syntax.erased Syntax.mut (Syntax.tyInt Syntax.w8)) 9) List.[]))))
+t18 = List._∷_ (16, Rows.mref (OfPanelRecord.row) (Syntax.tyRef Syntax.erased Syntax.mut OfPanelRecord.named) 7) (List._∷_ (17, Rows.any-gone (Syntax.tyRef Syntax.erased Syntax.mut (Syntax.tyInt Syntax.w8))) (List._∷_ (18, Mut.mslice (Referent.rtF (Referent.fInt Syntax.w8)) (Syntax.tyRef Syntax.erased Syntax.mut (Syntax.tyInt Syntax.w8)) 8) (List._∷_ (19, Rows.any-gone (Syntax.tyRef Syntax.erased Syntax.mut (Syntax.tyInt Syntax.w8))) (List._∷_ (20, Mut.mslice (Referent.rtF (Referent.fInt Syntax.w8)) (Syntax.tyRef Syntax.erased Syntax.mut (Syntax.tyInt Syntax.w8)) 9) List.[]))))
 
 abbrev pub t19 : List.List Row.Entry
-t19 = List._∷_ (0, Rows.any-gone (Laws.mir)) (List._∷_ (1, Relend.mslice-owed (OfOutput.row) (Syntax.tyRef (Syntax.named 0) Syntax.mut OfOutput.named) 0 5 Row.off) (List._∷_ (2, Relend.mslice-owed (OfStation.row) (Syntax.tyRef (Syntax.named 1) Syntax.mut OfStation.named) 1 6 Row.off) (List._∷_ (3, Rows.mref-owed (Referent.rtF (Referent.fInt Syntax.w64)) (Syntax.tyRef (Syntax.named 2) Syntax.mut (Syntax.tyInt Syntax.w64)) 2 7 Row.off) (List._∷_ (4, Relend.mslice-owed (Referent.rtF (Referent.fInt Syntax.w8)) (Syntax.tyRef (Syntax.named 3) Syntax.mut (Syntax.tyInt Syntax.w8)) 3 8 Row.off) (List._∷_ (5, Relend.mslice-owed (Referent.rtF (Referent.fInt Syntax.w8)) (Syntax.tyRef (Syntax.named 4) Syntax.mut (Syntax.tyInt Syntax.w8)) 4 9 Row.off) (List._∷_ (6, Rows.whole (Declared.row Reader.the-type)) (List._∷_ (7, Rows.sc-here (Row.sInt Syntax.w64)) (List._∷_ (8, Rows.sc-here (Row.sInt Syntax.w64)) (List._∷_ (9, Rows.whole (Declared.row Turn.the-type)) (List._∷_ (10, Rows.any-gone (Syntax.tyStruct (List._∷_ 116 (List._∷_ 101 (List._∷_ 120 (List._∷_ 116 (List._∷_ 95 (List._∷_ 114 (List._∷_ 101 (List._∷_ 97 (List._∷_ 100 (List._∷_ 105 (List._∷_ 110 (List._∷_ 103 (List._∷_ 58 (List._∷_ 58 (List._∷_ 82 (List._∷_ 101 (List._∷_ 97 (List._∷_ 100 (List._∷_ 101 (List._∷_ 114 List.[])))))))))))))))))))) (Syntax.tcons (Syntax.tyInt Syntax.w8) (Syntax.tcons (Syntax.tyInt Syntax.w64) (Syntax.tcons (Syntax.tyEnum (List._∷_ 116 (List._∷_ 101 (List._∷_ 120 (List._∷_ 116 (List._∷_ 95 (List._∷_ 114 (List._∷_ 101 (List._∷_ 97 (List._∷_ 100 (List._∷_ 105 (List._∷_ 110 (List._∷_ 103 (List._∷_ 58 (List._∷_ 58 (List._∷_ 72 (List._∷_ 101 (List._∷_ 108 (List._∷_ 100 List.[])))))))))))))))))) (Syntax.ttcons Syntax.tnil (Syntax.ttcons Syntax.tnil (Syntax.ttcons (Syntax.tcons (Syntax.tyInt Syntax.w8) Syntax.tnil) (Syntax.ttcons Syntax.tnil (Syntax.ttcons (Syntax.tcons (Syntax.tyInt Syntax.w8) Syntax.tnil) (Syntax.ttcons (Syntax.tcons (Syntax.tyInt Syntax.w8) Syntax.tnil) (Syntax.ttcons Syntax.tnil (Syntax.ttcons (Syntax.tcons (Syntax.tyInt Syntax.w8) Syntax.tnil) (Syntax.ttcons Syntax.tnil (Syntax.ttcons (Syntax.tcons (Syntax.tyEnum (List._∷_ 116 (List._∷_ 101 (List._∷_ 120 (List._∷_ 116 (List._∷_ 95 (List._∷_ 114 (List._∷_ 101 (List._∷_ 97 (List._∷_ 100 (List._∷_ 105 (List._∷_ 110 (List._∷_ 103 (List._∷_ 58 (List._∷_ 58 (List._∷_ 70 (List._∷_ 97 (List._∷_ 117 (List._∷_ 108 (List._∷_ 116 List.[]))))))))))))))))))) (Syntax.ttcons Syntax.tnil (Syntax.ttcons Syntax.tnil (Syntax.ttcons Syntax.tnil (Syntax.ttcons Syntax.tnil Syntax.ttnil))))) Syntax.tnil) Syntax.ttnil))))))))))) (Syntax.tcons (Syntax.tyArray (Syntax.tyInt Syntax.w8) 32) (Syntax.tcons (Syntax.tyInt Syntax.w64) Syntax.tnil))))))) (List._∷_ (11, Rows.any-gone Syntax.tyBool) (List._∷_ (12, Rows.any-gone (Syntax.tyRef Syntax.erased Syntax.mut OfOutput.named)) (List._∷_ (13, Mut.msleft (OfOutput.row) (Syntax.tyRef Syntax.erased Syntax.mut OfOutput.named)) (List._∷_ (14, Rows.any-gone (Syntax.tyRef Syntax.erased Syntax.mut OfStation.named)) (List._∷_ (15, Mut.msleft (OfStation.row) (Syntax.tyRef Syntax.erased Syntax.mut OfStation.named)) List.[])))))))))))))))
+t19 = List._∷_ (0, Rows.any-gone (Laws.mir)) (List._∷_ (1, Relend.mslice-owed (OfOutput.row) (Syntax.tyRef (Syntax.named 0) Syntax.mut OfOutput.named) 0 5 Row.off) (List._∷_ (2, Relend.mslice-owed (OfStation.row) (Syntax.tyRef (Syntax.named 1) Syntax.mut OfStation.named) 1 6 Row.off) (List._∷_ (3, Rows.mref-owed (OfPanelRecord.row) (Syntax.tyRef (Syntax.named 2) Syntax.mut OfPanelRecord.named) 2 7 Row.off) (List._∷_ (4, Relend.mslice-owed (Referent.rtF (Referent.fInt Syntax.w8)) (Syntax.tyRef (Syntax.named 3) Syntax.mut (Syntax.tyInt Syntax.w8)) 3 8 Row.off) (List._∷_ (5, Relend.mslice-owed (Referent.rtF (Referent.fInt Syntax.w8)) (Syntax.tyRef (Syntax.named 4) Syntax.mut (Syntax.tyInt Syntax.w8)) 4 9 Row.off) (List._∷_ (6, Rows.whole (Declared.row Reader.the-type)) (List._∷_ (7, Rows.sc-here (Row.sInt Syntax.w64)) (List._∷_ (8, Rows.sc-here (Row.sInt Syntax.w64)) (List._∷_ (9, Rows.whole (Declared.row Turn.the-type)) (List._∷_ (10, Rows.any-gone (Syntax.tyStruct (List._∷_ 116 (List._∷_ 101 (List._∷_ 120 (List._∷_ 116 (List._∷_ 95 (List._∷_ 114 (List._∷_ 101 (List._∷_ 97 (List._∷_ 100 (List._∷_ 105 (List._∷_ 110 (List._∷_ 103 (List._∷_ 58 (List._∷_ 58 (List._∷_ 82 (List._∷_ 101 (List._∷_ 97 (List._∷_ 100 (List._∷_ 101 (List._∷_ 114 List.[])))))))))))))))))))) (Syntax.tcons (Syntax.tyInt Syntax.w8) (Syntax.tcons (Syntax.tyInt Syntax.w64) (Syntax.tcons (Syntax.tyEnum (List._∷_ 116 (List._∷_ 101 (List._∷_ 120 (List._∷_ 116 (List._∷_ 95 (List._∷_ 114 (List._∷_ 101 (List._∷_ 97 (List._∷_ 100 (List._∷_ 105 (List._∷_ 110 (List._∷_ 103 (List._∷_ 58 (List._∷_ 58 (List._∷_ 72 (List._∷_ 101 (List._∷_ 108 (List._∷_ 100 List.[])))))))))))))))))) (Syntax.ttcons Syntax.tnil (Syntax.ttcons Syntax.tnil (Syntax.ttcons (Syntax.tcons (Syntax.tyInt Syntax.w8) Syntax.tnil) (Syntax.ttcons Syntax.tnil (Syntax.ttcons (Syntax.tcons (Syntax.tyInt Syntax.w8) Syntax.tnil) (Syntax.ttcons (Syntax.tcons (Syntax.tyInt Syntax.w8) Syntax.tnil) (Syntax.ttcons Syntax.tnil (Syntax.ttcons (Syntax.tcons (Syntax.tyInt Syntax.w8) Syntax.tnil) (Syntax.ttcons Syntax.tnil (Syntax.ttcons (Syntax.tcons (Syntax.tyEnum (List._∷_ 116 (List._∷_ 101 (List._∷_ 120 (List._∷_ 116 (List._∷_ 95 (List._∷_ 114 (List._∷_ 101 (List._∷_ 97 (List._∷_ 100 (List._∷_ 105 (List._∷_ 110 (List._∷_ 103 (List._∷_ 58 (List._∷_ 58 (List._∷_ 70 (List._∷_ 97 (List._∷_ 117 (List._∷_ 108 (List._∷_ 116 List.[]))))))))))))))))))) (Syntax.ttcons Syntax.tnil (Syntax.ttcons Syntax.tnil (Syntax.ttcons Syntax.tnil (Syntax.ttcons Syntax.tnil Syntax.ttnil))))) Syntax.tnil) Syntax.ttnil))))))))))) (Syntax.tcons (Syntax.tyArray (Syntax.tyInt Syntax.w8) 32) (Syntax.tcons (Syntax.tyInt Syntax.w64) Syntax.tnil))))))) (List._∷_ (11, Rows.any-gone Syntax.tyBool) (List._∷_ (12, Rows.any-gone (Syntax.tyRef Syntax.erased Syntax.mut OfOutput.named)) (List._∷_ (13, Mut.msleft (OfOutput.row) (Syntax.tyRef Syntax.erased Syntax.mut OfOutput.named)) (List._∷_ (14, Rows.any-gone (Syntax.tyRef Syntax.erased Syntax.mut OfStation.named)) (List._∷_ (15, Mut.msleft (OfStation.row) (Syntax.tyRef Syntax.erased Syntax.mut OfStation.named)) List.[])))))))))))))))
 
 abbrev pub t20 : List.List Row.Entry
-t20 = List._∷_ (16, Rows.mleft (Referent.rtF (Referent.fInt Syntax.w64)) (Syntax.tyRef Syntax.erased Syntax.mut (Syntax.tyInt Syntax.w64))) (List._∷_ (17, Rows.any-gone (Syntax.tyRef Syntax.erased Syntax.mut (Syntax.tyInt Syntax.w8))) (List._∷_ (18, Mut.msleft (Referent.rtF (Referent.fInt Syntax.w8)) (Syntax.tyRef Syntax.erased Syntax.mut (Syntax.tyInt Syntax.w8))) (List._∷_ (19, Rows.any-gone (Syntax.tyRef Syntax.erased Syntax.mut (Syntax.tyInt Syntax.w8))) (List._∷_ (20, Mut.msleft (Referent.rtF (Referent.fInt Syntax.w8)) (Syntax.tyRef Syntax.erased Syntax.mut (Syntax.tyInt Syntax.w8))) List.[]))))
+t20 = List._∷_ (16, Rows.mleft (OfPanelRecord.row) (Syntax.tyRef Syntax.erased Syntax.mut OfPanelRecord.named)) (List._∷_ (17, Rows.any-gone (Syntax.tyRef Syntax.erased Syntax.mut (Syntax.tyInt Syntax.w8))) (List._∷_ (18, Mut.msleft (Referent.rtF (Referent.fInt Syntax.w8)) (Syntax.tyRef Syntax.erased Syntax.mut (Syntax.tyInt Syntax.w8))) (List._∷_ (19, Rows.any-gone (Syntax.tyRef Syntax.erased Syntax.mut (Syntax.tyInt Syntax.w8))) (List._∷_ (20, Mut.msleft (Referent.rtF (Referent.fInt Syntax.w8)) (Syntax.tyRef Syntax.erased Syntax.mut (Syntax.tyInt Syntax.w8))) List.[]))))
 
 abbrev pub t21 : List.List Row.Entry
-t21 = List._∷_ (0, Rows.any-gone (Laws.mir)) (List._∷_ (1, Relend.mslice-owed (OfOutput.row) (Syntax.tyRef (Syntax.named 0) Syntax.mut OfOutput.named) 0 5 Row.off) (List._∷_ (2, Relend.mslice-owed (OfStation.row) (Syntax.tyRef (Syntax.named 1) Syntax.mut OfStation.named) 1 6 Row.off) (List._∷_ (3, Rows.mref-owed (Referent.rtF (Referent.fInt Syntax.w64)) (Syntax.tyRef (Syntax.named 2) Syntax.mut (Syntax.tyInt Syntax.w64)) 2 7 Row.off) (List._∷_ (4, Relend.mslice-owed (Referent.rtF (Referent.fInt Syntax.w8)) (Syntax.tyRef (Syntax.named 3) Syntax.mut (Syntax.tyInt Syntax.w8)) 3 8 Row.off) (List._∷_ (5, Relend.mslice-owed (Referent.rtF (Referent.fInt Syntax.w8)) (Syntax.tyRef (Syntax.named 4) Syntax.mut (Syntax.tyInt Syntax.w8)) 4 9 Row.off) (List._∷_ (6, Rows.any-gone (Syntax.tyStruct (List._∷_ 116 (List._∷_ 101 (List._∷_ 120 (List._∷_ 116 (List._∷_ 95 (List._∷_ 114 (List._∷_ 101 (List._∷_ 97 (List._∷_ 100 (List._∷_ 105 (List._∷_ 110 (List._∷_ 103 (List._∷_ 58 (List._∷_ 58 (List._∷_ 82 (List._∷_ 101 (List._∷_ 97 (List._∷_ 100 (List._∷_ 101 (List._∷_ 114 List.[])))))))))))))))))))) (Syntax.tcons (Syntax.tyInt Syntax.w8) (Syntax.tcons (Syntax.tyInt Syntax.w64) (Syntax.tcons (Syntax.tyEnum (List._∷_ 116 (List._∷_ 101 (List._∷_ 120 (List._∷_ 116 (List._∷_ 95 (List._∷_ 114 (List._∷_ 101 (List._∷_ 97 (List._∷_ 100 (List._∷_ 105 (List._∷_ 110 (List._∷_ 103 (List._∷_ 58 (List._∷_ 58 (List._∷_ 72 (List._∷_ 101 (List._∷_ 108 (List._∷_ 100 List.[])))))))))))))))))) (Syntax.ttcons Syntax.tnil (Syntax.ttcons Syntax.tnil (Syntax.ttcons (Syntax.tcons (Syntax.tyInt Syntax.w8) Syntax.tnil) (Syntax.ttcons Syntax.tnil (Syntax.ttcons (Syntax.tcons (Syntax.tyInt Syntax.w8) Syntax.tnil) (Syntax.ttcons (Syntax.tcons (Syntax.tyInt Syntax.w8) Syntax.tnil) (Syntax.ttcons Syntax.tnil (Syntax.ttcons (Syntax.tcons (Syntax.tyInt Syntax.w8) Syntax.tnil) (Syntax.ttcons Syntax.tnil (Syntax.ttcons (Syntax.tcons (Syntax.tyEnum (List._∷_ 116 (List._∷_ 101 (List._∷_ 120 (List._∷_ 116 (List._∷_ 95 (List._∷_ 114 (List._∷_ 101 (List._∷_ 97 (List._∷_ 100 (List._∷_ 105 (List._∷_ 110 (List._∷_ 103 (List._∷_ 58 (List._∷_ 58 (List._∷_ 70 (List._∷_ 97 (List._∷_ 117 (List._∷_ 108 (List._∷_ 116 List.[]))))))))))))))))))) (Syntax.ttcons Syntax.tnil (Syntax.ttcons Syntax.tnil (Syntax.ttcons Syntax.tnil (Syntax.ttcons Syntax.tnil Syntax.ttnil))))) Syntax.tnil) Syntax.ttnil))))))))))) (Syntax.tcons (Syntax.tyArray (Syntax.tyInt Syntax.w8) 32) (Syntax.tcons (Syntax.tyInt Syntax.w64) Syntax.tnil))))))) (List._∷_ (7, Rows.sc-here (Row.sInt Syntax.w64)) (List._∷_ (8, Rows.sc-here (Row.sInt Syntax.w64)) (List._∷_ (9, Rows.whole (Declared.row Turn.the-type)) (List._∷_ (10, Rows.any-gone (Syntax.tyStruct (List._∷_ 116 (List._∷_ 101 (List._∷_ 120 (List._∷_ 116 (List._∷_ 95 (List._∷_ 114 (List._∷_ 101 (List._∷_ 97 (List._∷_ 100 (List._∷_ 105 (List._∷_ 110 (List._∷_ 103 (List._∷_ 58 (List._∷_ 58 (List._∷_ 82 (List._∷_ 101 (List._∷_ 97 (List._∷_ 100 (List._∷_ 101 (List._∷_ 114 List.[])))))))))))))))))))) (Syntax.tcons (Syntax.tyInt Syntax.w8) (Syntax.tcons (Syntax.tyInt Syntax.w64) (Syntax.tcons (Syntax.tyEnum (List._∷_ 116 (List._∷_ 101 (List._∷_ 120 (List._∷_ 116 (List._∷_ 95 (List._∷_ 114 (List._∷_ 101 (List._∷_ 97 (List._∷_ 100 (List._∷_ 105 (List._∷_ 110 (List._∷_ 103 (List._∷_ 58 (List._∷_ 58 (List._∷_ 72 (List._∷_ 101 (List._∷_ 108 (List._∷_ 100 List.[])))))))))))))))))) (Syntax.ttcons Syntax.tnil (Syntax.ttcons Syntax.tnil (Syntax.ttcons (Syntax.tcons (Syntax.tyInt Syntax.w8) Syntax.tnil) (Syntax.ttcons Syntax.tnil (Syntax.ttcons (Syntax.tcons (Syntax.tyInt Syntax.w8) Syntax.tnil) (Syntax.ttcons (Syntax.tcons (Syntax.tyInt Syntax.w8) Syntax.tnil) (Syntax.ttcons Syntax.tnil (Syntax.ttcons (Syntax.tcons (Syntax.tyInt Syntax.w8) Syntax.tnil) (Syntax.ttcons Syntax.tnil (Syntax.ttcons (Syntax.tcons (Syntax.tyEnum (List._∷_ 116 (List._∷_ 101 (List._∷_ 120 (List._∷_ 116 (List._∷_ 95 (List._∷_ 114 (List._∷_ 101 (List._∷_ 97 (List._∷_ 100 (List._∷_ 105 (List._∷_ 110 (List._∷_ 103 (List._∷_ 58 (List._∷_ 58 (List._∷_ 70 (List._∷_ 97 (List._∷_ 117 (List._∷_ 108 (List._∷_ 116 List.[]))))))))))))))))))) (Syntax.ttcons Syntax.tnil (Syntax.ttcons Syntax.tnil (Syntax.ttcons Syntax.tnil (Syntax.ttcons Syntax.tnil Syntax.ttnil))))) Syntax.tnil) Syntax.ttnil))))))))))) (Syntax.tcons (Syntax.tyArray (Syntax.tyInt Syntax.w8) 32) (Syntax.tcons (Syntax.tyInt Syntax.w64) Syntax.tnil))))))) (List._∷_ (11, Rows.any-gone Syntax.tyBool) (List._∷_ (12, Rows.any-gone (Syntax.tyRef Syntax.erased Syntax.mut OfOutput.named)) (List._∷_ (13, Mut.msleft (OfOutput.row) (Syntax.tyRef Syntax.erased Syntax.mut OfOutput.named)) (List._∷_ (14, Rows.any-gone (Syntax.tyRef Syntax.erased Syntax.mut OfStation.named)) (List._∷_ (15, Mut.msleft (OfStation.row) (Syntax.tyRef Syntax.erased Syntax.mut OfStation.named)) List.[])))))))))))))))
+t21 = List._∷_ (0, Rows.any-gone (Laws.mir)) (List._∷_ (1, Relend.mslice-owed (OfOutput.row) (Syntax.tyRef (Syntax.named 0) Syntax.mut OfOutput.named) 0 5 Row.off) (List._∷_ (2, Relend.mslice-owed (OfStation.row) (Syntax.tyRef (Syntax.named 1) Syntax.mut OfStation.named) 1 6 Row.off) (List._∷_ (3, Rows.mref-owed (OfPanelRecord.row) (Syntax.tyRef (Syntax.named 2) Syntax.mut OfPanelRecord.named) 2 7 Row.off) (List._∷_ (4, Relend.mslice-owed (Referent.rtF (Referent.fInt Syntax.w8)) (Syntax.tyRef (Syntax.named 3) Syntax.mut (Syntax.tyInt Syntax.w8)) 3 8 Row.off) (List._∷_ (5, Relend.mslice-owed (Referent.rtF (Referent.fInt Syntax.w8)) (Syntax.tyRef (Syntax.named 4) Syntax.mut (Syntax.tyInt Syntax.w8)) 4 9 Row.off) (List._∷_ (6, Rows.any-gone (Syntax.tyStruct (List._∷_ 116 (List._∷_ 101 (List._∷_ 120 (List._∷_ 116 (List._∷_ 95 (List._∷_ 114 (List._∷_ 101 (List._∷_ 97 (List._∷_ 100 (List._∷_ 105 (List._∷_ 110 (List._∷_ 103 (List._∷_ 58 (List._∷_ 58 (List._∷_ 82 (List._∷_ 101 (List._∷_ 97 (List._∷_ 100 (List._∷_ 101 (List._∷_ 114 List.[])))))))))))))))))))) (Syntax.tcons (Syntax.tyInt Syntax.w8) (Syntax.tcons (Syntax.tyInt Syntax.w64) (Syntax.tcons (Syntax.tyEnum (List._∷_ 116 (List._∷_ 101 (List._∷_ 120 (List._∷_ 116 (List._∷_ 95 (List._∷_ 114 (List._∷_ 101 (List._∷_ 97 (List._∷_ 100 (List._∷_ 105 (List._∷_ 110 (List._∷_ 103 (List._∷_ 58 (List._∷_ 58 (List._∷_ 72 (List._∷_ 101 (List._∷_ 108 (List._∷_ 100 List.[])))))))))))))))))) (Syntax.ttcons Syntax.tnil (Syntax.ttcons Syntax.tnil (Syntax.ttcons (Syntax.tcons (Syntax.tyInt Syntax.w8) Syntax.tnil) (Syntax.ttcons Syntax.tnil (Syntax.ttcons (Syntax.tcons (Syntax.tyInt Syntax.w8) Syntax.tnil) (Syntax.ttcons (Syntax.tcons (Syntax.tyInt Syntax.w8) Syntax.tnil) (Syntax.ttcons Syntax.tnil (Syntax.ttcons (Syntax.tcons (Syntax.tyInt Syntax.w8) Syntax.tnil) (Syntax.ttcons Syntax.tnil (Syntax.ttcons (Syntax.tcons (Syntax.tyEnum (List._∷_ 116 (List._∷_ 101 (List._∷_ 120 (List._∷_ 116 (List._∷_ 95 (List._∷_ 114 (List._∷_ 101 (List._∷_ 97 (List._∷_ 100 (List._∷_ 105 (List._∷_ 110 (List._∷_ 103 (List._∷_ 58 (List._∷_ 58 (List._∷_ 70 (List._∷_ 97 (List._∷_ 117 (List._∷_ 108 (List._∷_ 116 List.[]))))))))))))))))))) (Syntax.ttcons Syntax.tnil (Syntax.ttcons Syntax.tnil (Syntax.ttcons Syntax.tnil (Syntax.ttcons Syntax.tnil Syntax.ttnil))))) Syntax.tnil) Syntax.ttnil))))))))))) (Syntax.tcons (Syntax.tyArray (Syntax.tyInt Syntax.w8) 32) (Syntax.tcons (Syntax.tyInt Syntax.w64) Syntax.tnil))))))) (List._∷_ (7, Rows.sc-here (Row.sInt Syntax.w64)) (List._∷_ (8, Rows.sc-here (Row.sInt Syntax.w64)) (List._∷_ (9, Rows.whole (Declared.row Turn.the-type)) (List._∷_ (10, Rows.any-gone (Syntax.tyStruct (List._∷_ 116 (List._∷_ 101 (List._∷_ 120 (List._∷_ 116 (List._∷_ 95 (List._∷_ 114 (List._∷_ 101 (List._∷_ 97 (List._∷_ 100 (List._∷_ 105 (List._∷_ 110 (List._∷_ 103 (List._∷_ 58 (List._∷_ 58 (List._∷_ 82 (List._∷_ 101 (List._∷_ 97 (List._∷_ 100 (List._∷_ 101 (List._∷_ 114 List.[])))))))))))))))))))) (Syntax.tcons (Syntax.tyInt Syntax.w8) (Syntax.tcons (Syntax.tyInt Syntax.w64) (Syntax.tcons (Syntax.tyEnum (List._∷_ 116 (List._∷_ 101 (List._∷_ 120 (List._∷_ 116 (List._∷_ 95 (List._∷_ 114 (List._∷_ 101 (List._∷_ 97 (List._∷_ 100 (List._∷_ 105 (List._∷_ 110 (List._∷_ 103 (List._∷_ 58 (List._∷_ 58 (List._∷_ 72 (List._∷_ 101 (List._∷_ 108 (List._∷_ 100 List.[])))))))))))))))))) (Syntax.ttcons Syntax.tnil (Syntax.ttcons Syntax.tnil (Syntax.ttcons (Syntax.tcons (Syntax.tyInt Syntax.w8) Syntax.tnil) (Syntax.ttcons Syntax.tnil (Syntax.ttcons (Syntax.tcons (Syntax.tyInt Syntax.w8) Syntax.tnil) (Syntax.ttcons (Syntax.tcons (Syntax.tyInt Syntax.w8) Syntax.tnil) (Syntax.ttcons Syntax.tnil (Syntax.ttcons (Syntax.tcons (Syntax.tyInt Syntax.w8) Syntax.tnil) (Syntax.ttcons Syntax.tnil (Syntax.ttcons (Syntax.tcons (Syntax.tyEnum (List._∷_ 116 (List._∷_ 101 (List._∷_ 120 (List._∷_ 116 (List._∷_ 95 (List._∷_ 114 (List._∷_ 101 (List._∷_ 97 (List._∷_ 100 (List._∷_ 105 (List._∷_ 110 (List._∷_ 103 (List._∷_ 58 (List._∷_ 58 (List._∷_ 70 (List._∷_ 97 (List._∷_ 117 (List._∷_ 108 (List._∷_ 116 List.[]))))))))))))))))))) (Syntax.ttcons Syntax.tnil (Syntax.ttcons Syntax.tnil (Syntax.ttcons Syntax.tnil (Syntax.ttcons Syntax.tnil Syntax.ttnil))))) Syntax.tnil) Syntax.ttnil))))))))))) (Syntax.tcons (Syntax.tyArray (Syntax.tyInt Syntax.w8) 32) (Syntax.tcons (Syntax.tyInt Syntax.w64) Syntax.tnil))))))) (List._∷_ (11, Rows.any-gone Syntax.tyBool) (List._∷_ (12, Rows.any-gone (Syntax.tyRef Syntax.erased Syntax.mut OfOutput.named)) (List._∷_ (13, Mut.msleft (OfOutput.row) (Syntax.tyRef Syntax.erased Syntax.mut OfOutput.named)) (List._∷_ (14, Rows.any-gone (Syntax.tyRef Syntax.erased Syntax.mut OfStation.named)) (List._∷_ (15, Mut.msleft (OfStation.row) (Syntax.tyRef Syntax.erased Syntax.mut OfStation.named)) List.[])))))))))))))))
 
 abbrev pub t22 : List.List Row.Entry
-t22 = List._∷_ (0, Rows.any-gone (Laws.mir)) (List._∷_ (1, Relend.mslice-owed (OfOutput.row) (Syntax.tyRef (Syntax.named 0) Syntax.mut OfOutput.named) 0 5 Row.off) (List._∷_ (2, Relend.mslice-owed (OfStation.row) (Syntax.tyRef (Syntax.named 1) Syntax.mut OfStation.named) 1 6 Row.off) (List._∷_ (3, Rows.mref-owed (Referent.rtF (Referent.fInt Syntax.w64)) (Syntax.tyRef (Syntax.named 2) Syntax.mut (Syntax.tyInt Syntax.w64)) 2 7 Row.off) (List._∷_ (4, Relend.mslice-owed (Referent.rtF (Referent.fInt Syntax.w8)) (Syntax.tyRef (Syntax.named 3) Syntax.mut (Syntax.tyInt Syntax.w8)) 3 8 Row.off) (List._∷_ (5, Relend.mslice-owed (Referent.rtF (Referent.fInt Syntax.w8)) (Syntax.tyRef (Syntax.named 4) Syntax.mut (Syntax.tyInt Syntax.w8)) 4 9 Row.off) (List._∷_ (6, Rows.any-gone (Syntax.tyStruct (List._∷_ 116 (List._∷_ 101 (List._∷_ 120 (List._∷_ 116 (List._∷_ 95 (List._∷_ 114 (List._∷_ 101 (List._∷_ 97 (List._∷_ 100 (List._∷_ 105 (List._∷_ 110 (List._∷_ 103 (List._∷_ 58 (List._∷_ 58 (List._∷_ 82 (List._∷_ 101 (List._∷_ 97 (List._∷_ 100 (List._∷_ 101 (List._∷_ 114 List.[])))))))))))))))))))) (Syntax.tcons (Syntax.tyInt Syntax.w8) (Syntax.tcons (Syntax.tyInt Syntax.w64) (Syntax.tcons (Syntax.tyEnum (List._∷_ 116 (List._∷_ 101 (List._∷_ 120 (List._∷_ 116 (List._∷_ 95 (List._∷_ 114 (List._∷_ 101 (List._∷_ 97 (List._∷_ 100 (List._∷_ 105 (List._∷_ 110 (List._∷_ 103 (List._∷_ 58 (List._∷_ 58 (List._∷_ 72 (List._∷_ 101 (List._∷_ 108 (List._∷_ 100 List.[])))))))))))))))))) (Syntax.ttcons Syntax.tnil (Syntax.ttcons Syntax.tnil (Syntax.ttcons (Syntax.tcons (Syntax.tyInt Syntax.w8) Syntax.tnil) (Syntax.ttcons Syntax.tnil (Syntax.ttcons (Syntax.tcons (Syntax.tyInt Syntax.w8) Syntax.tnil) (Syntax.ttcons (Syntax.tcons (Syntax.tyInt Syntax.w8) Syntax.tnil) (Syntax.ttcons Syntax.tnil (Syntax.ttcons (Syntax.tcons (Syntax.tyInt Syntax.w8) Syntax.tnil) (Syntax.ttcons Syntax.tnil (Syntax.ttcons (Syntax.tcons (Syntax.tyEnum (List._∷_ 116 (List._∷_ 101 (List._∷_ 120 (List._∷_ 116 (List._∷_ 95 (List._∷_ 114 (List._∷_ 101 (List._∷_ 97 (List._∷_ 100 (List._∷_ 105 (List._∷_ 110 (List._∷_ 103 (List._∷_ 58 (List._∷_ 58 (List._∷_ 70 (List._∷_ 97 (List._∷_ 117 (List._∷_ 108 (List._∷_ 116 List.[]))))))))))))))))))) (Syntax.ttcons Syntax.tnil (Syntax.ttcons Syntax.tnil (Syntax.ttcons Syntax.tnil (Syntax.ttcons Syntax.tnil Syntax.ttnil))))) Syntax.tnil) Syntax.ttnil))))))))))) (Syntax.tcons (Syntax.tyArray (Syntax.tyInt Syntax.w8) 32) (Syntax.tcons (Syntax.tyInt Syntax.w64) Syntax.tnil))))))) (List._∷_ (7, Rows.any-gone (Syntax.tyInt Syntax.w64)) (List._∷_ (8, Rows.sc-here (Row.sInt Syntax.w64)) (List._∷_ (9, Rows.whole (Declared.row Turn.the-type)) (List._∷_ (10, Rows.any-gone (Syntax.tyStruct (List._∷_ 116 (List._∷_ 101 (List._∷_ 120 (List._∷_ 116 (List._∷_ 95 (List._∷_ 114 (List._∷_ 101 (List._∷_ 97 (List._∷_ 100 (List._∷_ 105 (List._∷_ 110 (List._∷_ 103 (List._∷_ 58 (List._∷_ 58 (List._∷_ 82 (List._∷_ 101 (List._∷_ 97 (List._∷_ 100 (List._∷_ 101 (List._∷_ 114 List.[])))))))))))))))))))) (Syntax.tcons (Syntax.tyInt Syntax.w8) (Syntax.tcons (Syntax.tyInt Syntax.w64) (Syntax.tcons (Syntax.tyEnum (List._∷_ 116 (List._∷_ 101 (List._∷_ 120 (List._∷_ 116 (List._∷_ 95 (List._∷_ 114 (List._∷_ 101 (List._∷_ 97 (List._∷_ 100 (List._∷_ 105 (List._∷_ 110 (List._∷_ 103 (List._∷_ 58 (List._∷_ 58 (List._∷_ 72 (List._∷_ 101 (List._∷_ 108 (List._∷_ 100 List.[])))))))))))))))))) (Syntax.ttcons Syntax.tnil (Syntax.ttcons Syntax.tnil (Syntax.ttcons (Syntax.tcons (Syntax.tyInt Syntax.w8) Syntax.tnil) (Syntax.ttcons Syntax.tnil (Syntax.ttcons (Syntax.tcons (Syntax.tyInt Syntax.w8) Syntax.tnil) (Syntax.ttcons (Syntax.tcons (Syntax.tyInt Syntax.w8) Syntax.tnil) (Syntax.ttcons Syntax.tnil (Syntax.ttcons (Syntax.tcons (Syntax.tyInt Syntax.w8) Syntax.tnil) (Syntax.ttcons Syntax.tnil (Syntax.ttcons (Syntax.tcons (Syntax.tyEnum (List._∷_ 116 (List._∷_ 101 (List._∷_ 120 (List._∷_ 116 (List._∷_ 95 (List._∷_ 114 (List._∷_ 101 (List._∷_ 97 (List._∷_ 100 (List._∷_ 105 (List._∷_ 110 (List._∷_ 103 (List._∷_ 58 (List._∷_ 58 (List._∷_ 70 (List._∷_ 97 (List._∷_ 117 (List._∷_ 108 (List._∷_ 116 List.[]))))))))))))))))))) (Syntax.ttcons Syntax.tnil (Syntax.ttcons Syntax.tnil (Syntax.ttcons Syntax.tnil (Syntax.ttcons Syntax.tnil Syntax.ttnil))))) Syntax.tnil) Syntax.ttnil))))))))))) (Syntax.tcons (Syntax.tyArray (Syntax.tyInt Syntax.w8) 32) (Syntax.tcons (Syntax.tyInt Syntax.w64) Syntax.tnil))))))) (List._∷_ (11, Rows.any-gone Syntax.tyBool) (List._∷_ (12, Rows.any-gone (Syntax.tyRef Syntax.erased Syntax.mut OfOutput.named)) (List._∷_ (13, Mut.msleft (OfOutput.row) (Syntax.tyRef Syntax.erased Syntax.mut OfOutput.named)) (List._∷_ (14, Rows.any-gone (Syntax.tyRef Syntax.erased Syntax.mut OfStation.named)) (List._∷_ (15, Mut.msleft (OfStation.row) (Syntax.tyRef Syntax.erased Syntax.mut OfStation.named)) List.[])))))))))))))))
+t22 = List._∷_ (0, Rows.any-gone (Laws.mir)) (List._∷_ (1, Relend.mslice-owed (OfOutput.row) (Syntax.tyRef (Syntax.named 0) Syntax.mut OfOutput.named) 0 5 Row.off) (List._∷_ (2, Relend.mslice-owed (OfStation.row) (Syntax.tyRef (Syntax.named 1) Syntax.mut OfStation.named) 1 6 Row.off) (List._∷_ (3, Rows.mref-owed (OfPanelRecord.row) (Syntax.tyRef (Syntax.named 2) Syntax.mut OfPanelRecord.named) 2 7 Row.off) (List._∷_ (4, Relend.mslice-owed (Referent.rtF (Referent.fInt Syntax.w8)) (Syntax.tyRef (Syntax.named 3) Syntax.mut (Syntax.tyInt Syntax.w8)) 3 8 Row.off) (List._∷_ (5, Relend.mslice-owed (Referent.rtF (Referent.fInt Syntax.w8)) (Syntax.tyRef (Syntax.named 4) Syntax.mut (Syntax.tyInt Syntax.w8)) 4 9 Row.off) (List._∷_ (6, Rows.any-gone (Syntax.tyStruct (List._∷_ 116 (List._∷_ 101 (List._∷_ 120 (List._∷_ 116 (List._∷_ 95 (List._∷_ 114 (List._∷_ 101 (List._∷_ 97 (List._∷_ 100 (List._∷_ 105 (List._∷_ 110 (List._∷_ 103 (List._∷_ 58 (List._∷_ 58 (List._∷_ 82 (List._∷_ 101 (List._∷_ 97 (List._∷_ 100 (List._∷_ 101 (List._∷_ 114 List.[])))))))))))))))))))) (Syntax.tcons (Syntax.tyInt Syntax.w8) (Syntax.tcons (Syntax.tyInt Syntax.w64) (Syntax.tcons (Syntax.tyEnum (List._∷_ 116 (List._∷_ 101 (List._∷_ 120 (List._∷_ 116 (List._∷_ 95 (List._∷_ 114 (List._∷_ 101 (List._∷_ 97 (List._∷_ 100 (List._∷_ 105 (List._∷_ 110 (List._∷_ 103 (List._∷_ 58 (List._∷_ 58 (List._∷_ 72 (List._∷_ 101 (List._∷_ 108 (List._∷_ 100 List.[])))))))))))))))))) (Syntax.ttcons Syntax.tnil (Syntax.ttcons Syntax.tnil (Syntax.ttcons (Syntax.tcons (Syntax.tyInt Syntax.w8) Syntax.tnil) (Syntax.ttcons Syntax.tnil (Syntax.ttcons (Syntax.tcons (Syntax.tyInt Syntax.w8) Syntax.tnil) (Syntax.ttcons (Syntax.tcons (Syntax.tyInt Syntax.w8) Syntax.tnil) (Syntax.ttcons Syntax.tnil (Syntax.ttcons (Syntax.tcons (Syntax.tyInt Syntax.w8) Syntax.tnil) (Syntax.ttcons Syntax.tnil (Syntax.ttcons (Syntax.tcons (Syntax.tyEnum (List._∷_ 116 (List._∷_ 101 (List._∷_ 120 (List._∷_ 116 (List._∷_ 95 (List._∷_ 114 (List._∷_ 101 (List._∷_ 97 (List._∷_ 100 (List._∷_ 105 (List._∷_ 110 (List._∷_ 103 (List._∷_ 58 (List._∷_ 58 (List._∷_ 70 (List._∷_ 97 (List._∷_ 117 (List._∷_ 108 (List._∷_ 116 List.[]))))))))))))))))))) (Syntax.ttcons Syntax.tnil (Syntax.ttcons Syntax.tnil (Syntax.ttcons Syntax.tnil (Syntax.ttcons Syntax.tnil Syntax.ttnil))))) Syntax.tnil) Syntax.ttnil))))))))))) (Syntax.tcons (Syntax.tyArray (Syntax.tyInt Syntax.w8) 32) (Syntax.tcons (Syntax.tyInt Syntax.w64) Syntax.tnil))))))) (List._∷_ (7, Rows.any-gone (Syntax.tyInt Syntax.w64)) (List._∷_ (8, Rows.sc-here (Row.sInt Syntax.w64)) (List._∷_ (9, Rows.whole (Declared.row Turn.the-type)) (List._∷_ (10, Rows.any-gone (Syntax.tyStruct (List._∷_ 116 (List._∷_ 101 (List._∷_ 120 (List._∷_ 116 (List._∷_ 95 (List._∷_ 114 (List._∷_ 101 (List._∷_ 97 (List._∷_ 100 (List._∷_ 105 (List._∷_ 110 (List._∷_ 103 (List._∷_ 58 (List._∷_ 58 (List._∷_ 82 (List._∷_ 101 (List._∷_ 97 (List._∷_ 100 (List._∷_ 101 (List._∷_ 114 List.[])))))))))))))))))))) (Syntax.tcons (Syntax.tyInt Syntax.w8) (Syntax.tcons (Syntax.tyInt Syntax.w64) (Syntax.tcons (Syntax.tyEnum (List._∷_ 116 (List._∷_ 101 (List._∷_ 120 (List._∷_ 116 (List._∷_ 95 (List._∷_ 114 (List._∷_ 101 (List._∷_ 97 (List._∷_ 100 (List._∷_ 105 (List._∷_ 110 (List._∷_ 103 (List._∷_ 58 (List._∷_ 58 (List._∷_ 72 (List._∷_ 101 (List._∷_ 108 (List._∷_ 100 List.[])))))))))))))))))) (Syntax.ttcons Syntax.tnil (Syntax.ttcons Syntax.tnil (Syntax.ttcons (Syntax.tcons (Syntax.tyInt Syntax.w8) Syntax.tnil) (Syntax.ttcons Syntax.tnil (Syntax.ttcons (Syntax.tcons (Syntax.tyInt Syntax.w8) Syntax.tnil) (Syntax.ttcons (Syntax.tcons (Syntax.tyInt Syntax.w8) Syntax.tnil) (Syntax.ttcons Syntax.tnil (Syntax.ttcons (Syntax.tcons (Syntax.tyInt Syntax.w8) Syntax.tnil) (Syntax.ttcons Syntax.tnil (Syntax.ttcons (Syntax.tcons (Syntax.tyEnum (List._∷_ 116 (List._∷_ 101 (List._∷_ 120 (List._∷_ 116 (List._∷_ 95 (List._∷_ 114 (List._∷_ 101 (List._∷_ 97 (List._∷_ 100 (List._∷_ 105 (List._∷_ 110 (List._∷_ 103 (List._∷_ 58 (List._∷_ 58 (List._∷_ 70 (List._∷_ 97 (List._∷_ 117 (List._∷_ 108 (List._∷_ 116 List.[]))))))))))))))))))) (Syntax.ttcons Syntax.tnil (Syntax.ttcons Syntax.tnil (Syntax.ttcons Syntax.tnil (Syntax.ttcons Syntax.tnil Syntax.ttnil))))) Syntax.tnil) Syntax.ttnil))))))))))) (Syntax.tcons (Syntax.tyArray (Syntax.tyInt Syntax.w8) 32) (Syntax.tcons (Syntax.tyInt Syntax.w64) Syntax.tnil))))))) (List._∷_ (11, Rows.any-gone Syntax.tyBool) (List._∷_ (12, Rows.any-gone (Syntax.tyRef Syntax.erased Syntax.mut OfOutput.named)) (List._∷_ (13, Mut.msleft (OfOutput.row) (Syntax.tyRef Syntax.erased Syntax.mut OfOutput.named)) (List._∷_ (14, Rows.any-gone (Syntax.tyRef Syntax.erased Syntax.mut OfStation.named)) (List._∷_ (15, Mut.msleft (OfStation.row) (Syntax.tyRef Syntax.erased Syntax.mut OfStation.named)) List.[])))))))))))))))
 
 abbrev pub t23 : List.List Row.Entry
-t23 = List._∷_ (0, Rows.any-gone (Laws.mir)) (List._∷_ (1, Mut.mslice (OfOutput.row) (Syntax.tyRef (Syntax.named 0) Syntax.mut OfOutput.named) 0) (List._∷_ (2, Relend.mslice-owed (OfStation.row) (Syntax.tyRef (Syntax.named 1) Syntax.mut OfStation.named) 1 6 Row.off) (List._∷_ (3, Rows.mref-owed (Referent.rtF (Referent.fInt Syntax.w64)) (Syntax.tyRef (Syntax.named 2) Syntax.mut (Syntax.tyInt Syntax.w64)) 2 7 Row.off) (List._∷_ (4, Relend.mslice-owed (Referent.rtF (Referent.fInt Syntax.w8)) (Syntax.tyRef (Syntax.named 3) Syntax.mut (Syntax.tyInt Syntax.w8)) 3 8 Row.off) (List._∷_ (5, Relend.mslice-owed (Referent.rtF (Referent.fInt Syntax.w8)) (Syntax.tyRef (Syntax.named 4) Syntax.mut (Syntax.tyInt Syntax.w8)) 4 9 Row.off) (List._∷_ (6, Rows.any-gone (Syntax.tyStruct (List._∷_ 116 (List._∷_ 101 (List._∷_ 120 (List._∷_ 116 (List._∷_ 95 (List._∷_ 114 (List._∷_ 101 (List._∷_ 97 (List._∷_ 100 (List._∷_ 105 (List._∷_ 110 (List._∷_ 103 (List._∷_ 58 (List._∷_ 58 (List._∷_ 82 (List._∷_ 101 (List._∷_ 97 (List._∷_ 100 (List._∷_ 101 (List._∷_ 114 List.[])))))))))))))))))))) (Syntax.tcons (Syntax.tyInt Syntax.w8) (Syntax.tcons (Syntax.tyInt Syntax.w64) (Syntax.tcons (Syntax.tyEnum (List._∷_ 116 (List._∷_ 101 (List._∷_ 120 (List._∷_ 116 (List._∷_ 95 (List._∷_ 114 (List._∷_ 101 (List._∷_ 97 (List._∷_ 100 (List._∷_ 105 (List._∷_ 110 (List._∷_ 103 (List._∷_ 58 (List._∷_ 58 (List._∷_ 72 (List._∷_ 101 (List._∷_ 108 (List._∷_ 100 List.[])))))))))))))))))) (Syntax.ttcons Syntax.tnil (Syntax.ttcons Syntax.tnil (Syntax.ttcons (Syntax.tcons (Syntax.tyInt Syntax.w8) Syntax.tnil) (Syntax.ttcons Syntax.tnil (Syntax.ttcons (Syntax.tcons (Syntax.tyInt Syntax.w8) Syntax.tnil) (Syntax.ttcons (Syntax.tcons (Syntax.tyInt Syntax.w8) Syntax.tnil) (Syntax.ttcons Syntax.tnil (Syntax.ttcons (Syntax.tcons (Syntax.tyInt Syntax.w8) Syntax.tnil) (Syntax.ttcons Syntax.tnil (Syntax.ttcons (Syntax.tcons (Syntax.tyEnum (List._∷_ 116 (List._∷_ 101 (List._∷_ 120 (List._∷_ 116 (List._∷_ 95 (List._∷_ 114 (List._∷_ 101 (List._∷_ 97 (List._∷_ 100 (List._∷_ 105 (List._∷_ 110 (List._∷_ 103 (List._∷_ 58 (List._∷_ 58 (List._∷_ 70 (List._∷_ 97 (List._∷_ 117 (List._∷_ 108 (List._∷_ 116 List.[]))))))))))))))))))) (Syntax.ttcons Syntax.tnil (Syntax.ttcons Syntax.tnil (Syntax.ttcons Syntax.tnil (Syntax.ttcons Syntax.tnil Syntax.ttnil))))) Syntax.tnil) Syntax.ttnil))))))))))) (Syntax.tcons (Syntax.tyArray (Syntax.tyInt Syntax.w8) 32) (Syntax.tcons (Syntax.tyInt Syntax.w64) Syntax.tnil))))))) (List._∷_ (7, Rows.any-gone (Syntax.tyInt Syntax.w64)) (List._∷_ (8, Rows.sc-here (Row.sInt Syntax.w64)) (List._∷_ (9, Rows.whole (Declared.row Turn.the-type)) (List._∷_ (10, Rows.any-gone (Syntax.tyStruct (List._∷_ 116 (List._∷_ 101 (List._∷_ 120 (List._∷_ 116 (List._∷_ 95 (List._∷_ 114 (List._∷_ 101 (List._∷_ 97 (List._∷_ 100 (List._∷_ 105 (List._∷_ 110 (List._∷_ 103 (List._∷_ 58 (List._∷_ 58 (List._∷_ 82 (List._∷_ 101 (List._∷_ 97 (List._∷_ 100 (List._∷_ 101 (List._∷_ 114 List.[])))))))))))))))))))) (Syntax.tcons (Syntax.tyInt Syntax.w8) (Syntax.tcons (Syntax.tyInt Syntax.w64) (Syntax.tcons (Syntax.tyEnum (List._∷_ 116 (List._∷_ 101 (List._∷_ 120 (List._∷_ 116 (List._∷_ 95 (List._∷_ 114 (List._∷_ 101 (List._∷_ 97 (List._∷_ 100 (List._∷_ 105 (List._∷_ 110 (List._∷_ 103 (List._∷_ 58 (List._∷_ 58 (List._∷_ 72 (List._∷_ 101 (List._∷_ 108 (List._∷_ 100 List.[])))))))))))))))))) (Syntax.ttcons Syntax.tnil (Syntax.ttcons Syntax.tnil (Syntax.ttcons (Syntax.tcons (Syntax.tyInt Syntax.w8) Syntax.tnil) (Syntax.ttcons Syntax.tnil (Syntax.ttcons (Syntax.tcons (Syntax.tyInt Syntax.w8) Syntax.tnil) (Syntax.ttcons (Syntax.tcons (Syntax.tyInt Syntax.w8) Syntax.tnil) (Syntax.ttcons Syntax.tnil (Syntax.ttcons (Syntax.tcons (Syntax.tyInt Syntax.w8) Syntax.tnil) (Syntax.ttcons Syntax.tnil (Syntax.ttcons (Syntax.tcons (Syntax.tyEnum (List._∷_ 116 (List._∷_ 101 (List._∷_ 120 (List._∷_ 116 (List._∷_ 95 (List._∷_ 114 (List._∷_ 101 (List._∷_ 97 (List._∷_ 100 (List._∷_ 105 (List._∷_ 110 (List._∷_ 103 (List._∷_ 58 (List._∷_ 58 (List._∷_ 70 (List._∷_ 97 (List._∷_ 117 (List._∷_ 108 (List._∷_ 116 List.[]))))))))))))))))))) (Syntax.ttcons Syntax.tnil (Syntax.ttcons Syntax.tnil (Syntax.ttcons Syntax.tnil (Syntax.ttcons Syntax.tnil Syntax.ttnil))))) Syntax.tnil) Syntax.ttnil))))))))))) (Syntax.tcons (Syntax.tyArray (Syntax.tyInt Syntax.w8) 32) (Syntax.tcons (Syntax.tyInt Syntax.w64) Syntax.tnil))))))) (List._∷_ (11, Rows.any-gone Syntax.tyBool) (List._∷_ (12, Rows.any-gone (Syntax.tyRef Syntax.erased Syntax.mut OfOutput.named)) (List._∷_ (13, Rows.any-gone (Syntax.tyStruct (List._∷_ 38 (List._∷_ 91 (List._∷_ 93 List.[]))) (Syntax.tcons (Syntax.tyRef Syntax.erased Syntax.mut OfOutput.named) (Syntax.tcons (Syntax.tyInt Syntax.w64) Syntax.tnil)))) (List._∷_ (14, Rows.any-gone (Syntax.tyRef Syntax.erased Syntax.mut OfStation.named)) (List._∷_ (15, Mut.msleft (OfStation.row) (Syntax.tyRef Syntax.erased Syntax.mut OfStation.named)) List.[])))))))))))))))
+t23 = List._∷_ (0, Rows.any-gone (Laws.mir)) (List._∷_ (1, Mut.mslice (OfOutput.row) (Syntax.tyRef (Syntax.named 0) Syntax.mut OfOutput.named) 0) (List._∷_ (2, Relend.mslice-owed (OfStation.row) (Syntax.tyRef (Syntax.named 1) Syntax.mut OfStation.named) 1 6 Row.off) (List._∷_ (3, Rows.mref-owed (OfPanelRecord.row) (Syntax.tyRef (Syntax.named 2) Syntax.mut OfPanelRecord.named) 2 7 Row.off) (List._∷_ (4, Relend.mslice-owed (Referent.rtF (Referent.fInt Syntax.w8)) (Syntax.tyRef (Syntax.named 3) Syntax.mut (Syntax.tyInt Syntax.w8)) 3 8 Row.off) (List._∷_ (5, Relend.mslice-owed (Referent.rtF (Referent.fInt Syntax.w8)) (Syntax.tyRef (Syntax.named 4) Syntax.mut (Syntax.tyInt Syntax.w8)) 4 9 Row.off) (List._∷_ (6, Rows.any-gone (Syntax.tyStruct (List._∷_ 116 (List._∷_ 101 (List._∷_ 120 (List._∷_ 116 (List._∷_ 95 (List._∷_ 114 (List._∷_ 101 (List._∷_ 97 (List._∷_ 100 (List._∷_ 105 (List._∷_ 110 (List._∷_ 103 (List._∷_ 58 (List._∷_ 58 (List._∷_ 82 (List._∷_ 101 (List._∷_ 97 (List._∷_ 100 (List._∷_ 101 (List._∷_ 114 List.[])))))))))))))))))))) (Syntax.tcons (Syntax.tyInt Syntax.w8) (Syntax.tcons (Syntax.tyInt Syntax.w64) (Syntax.tcons (Syntax.tyEnum (List._∷_ 116 (List._∷_ 101 (List._∷_ 120 (List._∷_ 116 (List._∷_ 95 (List._∷_ 114 (List._∷_ 101 (List._∷_ 97 (List._∷_ 100 (List._∷_ 105 (List._∷_ 110 (List._∷_ 103 (List._∷_ 58 (List._∷_ 58 (List._∷_ 72 (List._∷_ 101 (List._∷_ 108 (List._∷_ 100 List.[])))))))))))))))))) (Syntax.ttcons Syntax.tnil (Syntax.ttcons Syntax.tnil (Syntax.ttcons (Syntax.tcons (Syntax.tyInt Syntax.w8) Syntax.tnil) (Syntax.ttcons Syntax.tnil (Syntax.ttcons (Syntax.tcons (Syntax.tyInt Syntax.w8) Syntax.tnil) (Syntax.ttcons (Syntax.tcons (Syntax.tyInt Syntax.w8) Syntax.tnil) (Syntax.ttcons Syntax.tnil (Syntax.ttcons (Syntax.tcons (Syntax.tyInt Syntax.w8) Syntax.tnil) (Syntax.ttcons Syntax.tnil (Syntax.ttcons (Syntax.tcons (Syntax.tyEnum (List._∷_ 116 (List._∷_ 101 (List._∷_ 120 (List._∷_ 116 (List._∷_ 95 (List._∷_ 114 (List._∷_ 101 (List._∷_ 97 (List._∷_ 100 (List._∷_ 105 (List._∷_ 110 (List._∷_ 103 (List._∷_ 58 (List._∷_ 58 (List._∷_ 70 (List._∷_ 97 (List._∷_ 117 (List._∷_ 108 (List._∷_ 116 List.[]))))))))))))))))))) (Syntax.ttcons Syntax.tnil (Syntax.ttcons Syntax.tnil (Syntax.ttcons Syntax.tnil (Syntax.ttcons Syntax.tnil Syntax.ttnil))))) Syntax.tnil) Syntax.ttnil))))))))))) (Syntax.tcons (Syntax.tyArray (Syntax.tyInt Syntax.w8) 32) (Syntax.tcons (Syntax.tyInt Syntax.w64) Syntax.tnil))))))) (List._∷_ (7, Rows.any-gone (Syntax.tyInt Syntax.w64)) (List._∷_ (8, Rows.sc-here (Row.sInt Syntax.w64)) (List._∷_ (9, Rows.whole (Declared.row Turn.the-type)) (List._∷_ (10, Rows.any-gone (Syntax.tyStruct (List._∷_ 116 (List._∷_ 101 (List._∷_ 120 (List._∷_ 116 (List._∷_ 95 (List._∷_ 114 (List._∷_ 101 (List._∷_ 97 (List._∷_ 100 (List._∷_ 105 (List._∷_ 110 (List._∷_ 103 (List._∷_ 58 (List._∷_ 58 (List._∷_ 82 (List._∷_ 101 (List._∷_ 97 (List._∷_ 100 (List._∷_ 101 (List._∷_ 114 List.[])))))))))))))))))))) (Syntax.tcons (Syntax.tyInt Syntax.w8) (Syntax.tcons (Syntax.tyInt Syntax.w64) (Syntax.tcons (Syntax.tyEnum (List._∷_ 116 (List._∷_ 101 (List._∷_ 120 (List._∷_ 116 (List._∷_ 95 (List._∷_ 114 (List._∷_ 101 (List._∷_ 97 (List._∷_ 100 (List._∷_ 105 (List._∷_ 110 (List._∷_ 103 (List._∷_ 58 (List._∷_ 58 (List._∷_ 72 (List._∷_ 101 (List._∷_ 108 (List._∷_ 100 List.[])))))))))))))))))) (Syntax.ttcons Syntax.tnil (Syntax.ttcons Syntax.tnil (Syntax.ttcons (Syntax.tcons (Syntax.tyInt Syntax.w8) Syntax.tnil) (Syntax.ttcons Syntax.tnil (Syntax.ttcons (Syntax.tcons (Syntax.tyInt Syntax.w8) Syntax.tnil) (Syntax.ttcons (Syntax.tcons (Syntax.tyInt Syntax.w8) Syntax.tnil) (Syntax.ttcons Syntax.tnil (Syntax.ttcons (Syntax.tcons (Syntax.tyInt Syntax.w8) Syntax.tnil) (Syntax.ttcons Syntax.tnil (Syntax.ttcons (Syntax.tcons (Syntax.tyEnum (List._∷_ 116 (List._∷_ 101 (List._∷_ 120 (List._∷_ 116 (List._∷_ 95 (List._∷_ 114 (List._∷_ 101 (List._∷_ 97 (List._∷_ 100 (List._∷_ 105 (List._∷_ 110 (List._∷_ 103 (List._∷_ 58 (List._∷_ 58 (List._∷_ 70 (List._∷_ 97 (List._∷_ 117 (List._∷_ 108 (List._∷_ 116 List.[]))))))))))))))))))) (Syntax.ttcons Syntax.tnil (Syntax.ttcons Syntax.tnil (Syntax.ttcons Syntax.tnil (Syntax.ttcons Syntax.tnil Syntax.ttnil))))) Syntax.tnil) Syntax.ttnil))))))))))) (Syntax.tcons (Syntax.tyArray (Syntax.tyInt Syntax.w8) 32) (Syntax.tcons (Syntax.tyInt Syntax.w64) Syntax.tnil))))))) (List._∷_ (11, Rows.any-gone Syntax.tyBool) (List._∷_ (12, Rows.any-gone (Syntax.tyRef Syntax.erased Syntax.mut OfOutput.named)) (List._∷_ (13, Rows.any-gone (Syntax.tyStruct (List._∷_ 38 (List._∷_ 91 (List._∷_ 93 List.[]))) (Syntax.tcons (Syntax.tyRef Syntax.erased Syntax.mut OfOutput.named) (Syntax.tcons (Syntax.tyInt Syntax.w64) Syntax.tnil)))) (List._∷_ (14, Rows.any-gone (Syntax.tyRef Syntax.erased Syntax.mut OfStation.named)) (List._∷_ (15, Mut.msleft (OfStation.row) (Syntax.tyRef Syntax.erased Syntax.mut OfStation.named)) List.[])))))))))))))))
 
 abbrev pub t24 : List.List Row.Entry
-t24 = List._∷_ (0, Rows.any-gone (Laws.mir)) (List._∷_ (1, Mut.mslice (OfOutput.row) (Syntax.tyRef (Syntax.named 0) Syntax.mut OfOutput.named) 0) (List._∷_ (2, Mut.mslice (OfStation.row) (Syntax.tyRef (Syntax.named 1) Syntax.mut OfStation.named) 1) (List._∷_ (3, Rows.mref-owed (Referent.rtF (Referent.fInt Syntax.w64)) (Syntax.tyRef (Syntax.named 2) Syntax.mut (Syntax.tyInt Syntax.w64)) 2 7 Row.off) (List._∷_ (4, Relend.mslice-owed (Referent.rtF (Referent.fInt Syntax.w8)) (Syntax.tyRef (Syntax.named 3) Syntax.mut (Syntax.tyInt Syntax.w8)) 3 8 Row.off) (List._∷_ (5, Relend.mslice-owed (Referent.rtF (Referent.fInt Syntax.w8)) (Syntax.tyRef (Syntax.named 4) Syntax.mut (Syntax.tyInt Syntax.w8)) 4 9 Row.off) (List._∷_ (6, Rows.any-gone (Syntax.tyStruct (List._∷_ 116 (List._∷_ 101 (List._∷_ 120 (List._∷_ 116 (List._∷_ 95 (List._∷_ 114 (List._∷_ 101 (List._∷_ 97 (List._∷_ 100 (List._∷_ 105 (List._∷_ 110 (List._∷_ 103 (List._∷_ 58 (List._∷_ 58 (List._∷_ 82 (List._∷_ 101 (List._∷_ 97 (List._∷_ 100 (List._∷_ 101 (List._∷_ 114 List.[])))))))))))))))))))) (Syntax.tcons (Syntax.tyInt Syntax.w8) (Syntax.tcons (Syntax.tyInt Syntax.w64) (Syntax.tcons (Syntax.tyEnum (List._∷_ 116 (List._∷_ 101 (List._∷_ 120 (List._∷_ 116 (List._∷_ 95 (List._∷_ 114 (List._∷_ 101 (List._∷_ 97 (List._∷_ 100 (List._∷_ 105 (List._∷_ 110 (List._∷_ 103 (List._∷_ 58 (List._∷_ 58 (List._∷_ 72 (List._∷_ 101 (List._∷_ 108 (List._∷_ 100 List.[])))))))))))))))))) (Syntax.ttcons Syntax.tnil (Syntax.ttcons Syntax.tnil (Syntax.ttcons (Syntax.tcons (Syntax.tyInt Syntax.w8) Syntax.tnil) (Syntax.ttcons Syntax.tnil (Syntax.ttcons (Syntax.tcons (Syntax.tyInt Syntax.w8) Syntax.tnil) (Syntax.ttcons (Syntax.tcons (Syntax.tyInt Syntax.w8) Syntax.tnil) (Syntax.ttcons Syntax.tnil (Syntax.ttcons (Syntax.tcons (Syntax.tyInt Syntax.w8) Syntax.tnil) (Syntax.ttcons Syntax.tnil (Syntax.ttcons (Syntax.tcons (Syntax.tyEnum (List._∷_ 116 (List._∷_ 101 (List._∷_ 120 (List._∷_ 116 (List._∷_ 95 (List._∷_ 114 (List._∷_ 101 (List._∷_ 97 (List._∷_ 100 (List._∷_ 105 (List._∷_ 110 (List._∷_ 103 (List._∷_ 58 (List._∷_ 58 (List._∷_ 70 (List._∷_ 97 (List._∷_ 117 (List._∷_ 108 (List._∷_ 116 List.[]))))))))))))))))))) (Syntax.ttcons Syntax.tnil (Syntax.ttcons Syntax.tnil (Syntax.ttcons Syntax.tnil (Syntax.ttcons Syntax.tnil Syntax.ttnil))))) Syntax.tnil) Syntax.ttnil))))))))))) (Syntax.tcons (Syntax.tyArray (Syntax.tyInt Syntax.w8) 32) (Syntax.tcons (Syntax.tyInt Syntax.w64) Syntax.tnil))))))) (List._∷_ (7, Rows.any-gone (Syntax.tyInt Syntax.w64)) (List._∷_ (8, Rows.sc-here (Row.sInt Syntax.w64)) (List._∷_ (9, Rows.whole (Declared.row Turn.the-type)) (List._∷_ (10, Rows.any-gone (Syntax.tyStruct (List._∷_ 116 (List._∷_ 101 (List._∷_ 120 (List._∷_ 116 (List._∷_ 95 (List._∷_ 114 (List._∷_ 101 (List._∷_ 97 (List._∷_ 100 (List._∷_ 105 (List._∷_ 110 (List._∷_ 103 (List._∷_ 58 (List._∷_ 58 (List._∷_ 82 (List._∷_ 101 (List._∷_ 97 (List._∷_ 100 (List._∷_ 101 (List._∷_ 114 List.[])))))))))))))))))))) (Syntax.tcons (Syntax.tyInt Syntax.w8) (Syntax.tcons (Syntax.tyInt Syntax.w64) (Syntax.tcons (Syntax.tyEnum (List._∷_ 116 (List._∷_ 101 (List._∷_ 120 (List._∷_ 116 (List._∷_ 95 (List._∷_ 114 (List._∷_ 101 (List._∷_ 97 (List._∷_ 100 (List._∷_ 105 (List._∷_ 110 (List._∷_ 103 (List._∷_ 58 (List._∷_ 58 (List._∷_ 72 (List._∷_ 101 (List._∷_ 108 (List._∷_ 100 List.[])))))))))))))))))) (Syntax.ttcons Syntax.tnil (Syntax.ttcons Syntax.tnil (Syntax.ttcons (Syntax.tcons (Syntax.tyInt Syntax.w8) Syntax.tnil) (Syntax.ttcons Syntax.tnil (Syntax.ttcons (Syntax.tcons (Syntax.tyInt Syntax.w8) Syntax.tnil) (Syntax.ttcons (Syntax.tcons (Syntax.tyInt Syntax.w8) Syntax.tnil) (Syntax.ttcons Syntax.tnil (Syntax.ttcons (Syntax.tcons (Syntax.tyInt Syntax.w8) Syntax.tnil) (Syntax.ttcons Syntax.tnil (Syntax.ttcons (Syntax.tcons (Syntax.tyEnum (List._∷_ 116 (List._∷_ 101 (List._∷_ 120 (List._∷_ 116 (List._∷_ 95 (List._∷_ 114 (List._∷_ 101 (List._∷_ 97 (List._∷_ 100 (List._∷_ 105 (List._∷_ 110 (List._∷_ 103 (List._∷_ 58 (List._∷_ 58 (List._∷_ 70 (List._∷_ 97 (List._∷_ 117 (List._∷_ 108 (List._∷_ 116 List.[]))))))))))))))))))) (Syntax.ttcons Syntax.tnil (Syntax.ttcons Syntax.tnil (Syntax.ttcons Syntax.tnil (Syntax.ttcons Syntax.tnil Syntax.ttnil))))) Syntax.tnil) Syntax.ttnil))))))))))) (Syntax.tcons (Syntax.tyArray (Syntax.tyInt Syntax.w8) 32) (Syntax.tcons (Syntax.tyInt Syntax.w64) Syntax.tnil))))))) (List._∷_ (11, Rows.any-gone Syntax.tyBool) (List._∷_ (12, Rows.any-gone (Syntax.tyRef Syntax.erased Syntax.mut OfOutput.named)) (List._∷_ (13, Rows.any-gone (Syntax.tyStruct (List._∷_ 38 (List._∷_ 91 (List._∷_ 93 List.[]))) (Syntax.tcons (Syntax.tyRef Syntax.erased Syntax.mut OfOutput.named) (Syntax.tcons (Syntax.tyInt Syntax.w64) Syntax.tnil)))) (List._∷_ (14, Rows.any-gone (Syntax.tyRef Syntax.erased Syntax.mut OfStation.named)) (List._∷_ (15, Rows.any-gone (Syntax.tyStruct (List._∷_ 38 (List._∷_ 91 (List._∷_ 93 List.[]))) (Syntax.tcons (Syntax.tyRef Syntax.erased Syntax.mut OfStation.named) (Syntax.tcons (Syntax.tyInt Syntax.w64) Syntax.tnil)))) List.[])))))))))))))))
+t24 = List._∷_ (0, Rows.any-gone (Laws.mir)) (List._∷_ (1, Mut.mslice (OfOutput.row) (Syntax.tyRef (Syntax.named 0) Syntax.mut OfOutput.named) 0) (List._∷_ (2, Mut.mslice (OfStation.row) (Syntax.tyRef (Syntax.named 1) Syntax.mut OfStation.named) 1) (List._∷_ (3, Rows.mref-owed (OfPanelRecord.row) (Syntax.tyRef (Syntax.named 2) Syntax.mut OfPanelRecord.named) 2 7 Row.off) (List._∷_ (4, Relend.mslice-owed (Referent.rtF (Referent.fInt Syntax.w8)) (Syntax.tyRef (Syntax.named 3) Syntax.mut (Syntax.tyInt Syntax.w8)) 3 8 Row.off) (List._∷_ (5, Relend.mslice-owed (Referent.rtF (Referent.fInt Syntax.w8)) (Syntax.tyRef (Syntax.named 4) Syntax.mut (Syntax.tyInt Syntax.w8)) 4 9 Row.off) (List._∷_ (6, Rows.any-gone (Syntax.tyStruct (List._∷_ 116 (List._∷_ 101 (List._∷_ 120 (List._∷_ 116 (List._∷_ 95 (List._∷_ 114 (List._∷_ 101 (List._∷_ 97 (List._∷_ 100 (List._∷_ 105 (List._∷_ 110 (List._∷_ 103 (List._∷_ 58 (List._∷_ 58 (List._∷_ 82 (List._∷_ 101 (List._∷_ 97 (List._∷_ 100 (List._∷_ 101 (List._∷_ 114 List.[])))))))))))))))))))) (Syntax.tcons (Syntax.tyInt Syntax.w8) (Syntax.tcons (Syntax.tyInt Syntax.w64) (Syntax.tcons (Syntax.tyEnum (List._∷_ 116 (List._∷_ 101 (List._∷_ 120 (List._∷_ 116 (List._∷_ 95 (List._∷_ 114 (List._∷_ 101 (List._∷_ 97 (List._∷_ 100 (List._∷_ 105 (List._∷_ 110 (List._∷_ 103 (List._∷_ 58 (List._∷_ 58 (List._∷_ 72 (List._∷_ 101 (List._∷_ 108 (List._∷_ 100 List.[])))))))))))))))))) (Syntax.ttcons Syntax.tnil (Syntax.ttcons Syntax.tnil (Syntax.ttcons (Syntax.tcons (Syntax.tyInt Syntax.w8) Syntax.tnil) (Syntax.ttcons Syntax.tnil (Syntax.ttcons (Syntax.tcons (Syntax.tyInt Syntax.w8) Syntax.tnil) (Syntax.ttcons (Syntax.tcons (Syntax.tyInt Syntax.w8) Syntax.tnil) (Syntax.ttcons Syntax.tnil (Syntax.ttcons (Syntax.tcons (Syntax.tyInt Syntax.w8) Syntax.tnil) (Syntax.ttcons Syntax.tnil (Syntax.ttcons (Syntax.tcons (Syntax.tyEnum (List._∷_ 116 (List._∷_ 101 (List._∷_ 120 (List._∷_ 116 (List._∷_ 95 (List._∷_ 114 (List._∷_ 101 (List._∷_ 97 (List._∷_ 100 (List._∷_ 105 (List._∷_ 110 (List._∷_ 103 (List._∷_ 58 (List._∷_ 58 (List._∷_ 70 (List._∷_ 97 (List._∷_ 117 (List._∷_ 108 (List._∷_ 116 List.[]))))))))))))))))))) (Syntax.ttcons Syntax.tnil (Syntax.ttcons Syntax.tnil (Syntax.ttcons Syntax.tnil (Syntax.ttcons Syntax.tnil Syntax.ttnil))))) Syntax.tnil) Syntax.ttnil))))))))))) (Syntax.tcons (Syntax.tyArray (Syntax.tyInt Syntax.w8) 32) (Syntax.tcons (Syntax.tyInt Syntax.w64) Syntax.tnil))))))) (List._∷_ (7, Rows.any-gone (Syntax.tyInt Syntax.w64)) (List._∷_ (8, Rows.sc-here (Row.sInt Syntax.w64)) (List._∷_ (9, Rows.whole (Declared.row Turn.the-type)) (List._∷_ (10, Rows.any-gone (Syntax.tyStruct (List._∷_ 116 (List._∷_ 101 (List._∷_ 120 (List._∷_ 116 (List._∷_ 95 (List._∷_ 114 (List._∷_ 101 (List._∷_ 97 (List._∷_ 100 (List._∷_ 105 (List._∷_ 110 (List._∷_ 103 (List._∷_ 58 (List._∷_ 58 (List._∷_ 82 (List._∷_ 101 (List._∷_ 97 (List._∷_ 100 (List._∷_ 101 (List._∷_ 114 List.[])))))))))))))))))))) (Syntax.tcons (Syntax.tyInt Syntax.w8) (Syntax.tcons (Syntax.tyInt Syntax.w64) (Syntax.tcons (Syntax.tyEnum (List._∷_ 116 (List._∷_ 101 (List._∷_ 120 (List._∷_ 116 (List._∷_ 95 (List._∷_ 114 (List._∷_ 101 (List._∷_ 97 (List._∷_ 100 (List._∷_ 105 (List._∷_ 110 (List._∷_ 103 (List._∷_ 58 (List._∷_ 58 (List._∷_ 72 (List._∷_ 101 (List._∷_ 108 (List._∷_ 100 List.[])))))))))))))))))) (Syntax.ttcons Syntax.tnil (Syntax.ttcons Syntax.tnil (Syntax.ttcons (Syntax.tcons (Syntax.tyInt Syntax.w8) Syntax.tnil) (Syntax.ttcons Syntax.tnil (Syntax.ttcons (Syntax.tcons (Syntax.tyInt Syntax.w8) Syntax.tnil) (Syntax.ttcons (Syntax.tcons (Syntax.tyInt Syntax.w8) Syntax.tnil) (Syntax.ttcons Syntax.tnil (Syntax.ttcons (Syntax.tcons (Syntax.tyInt Syntax.w8) Syntax.tnil) (Syntax.ttcons Syntax.tnil (Syntax.ttcons (Syntax.tcons (Syntax.tyEnum (List._∷_ 116 (List._∷_ 101 (List._∷_ 120 (List._∷_ 116 (List._∷_ 95 (List._∷_ 114 (List._∷_ 101 (List._∷_ 97 (List._∷_ 100 (List._∷_ 105 (List._∷_ 110 (List._∷_ 103 (List._∷_ 58 (List._∷_ 58 (List._∷_ 70 (List._∷_ 97 (List._∷_ 117 (List._∷_ 108 (List._∷_ 116 List.[]))))))))))))))))))) (Syntax.ttcons Syntax.tnil (Syntax.ttcons Syntax.tnil (Syntax.ttcons Syntax.tnil (Syntax.ttcons Syntax.tnil Syntax.ttnil))))) Syntax.tnil) Syntax.ttnil))))))))))) (Syntax.tcons (Syntax.tyArray (Syntax.tyInt Syntax.w8) 32) (Syntax.tcons (Syntax.tyInt Syntax.w64) Syntax.tnil))))))) (List._∷_ (11, Rows.any-gone Syntax.tyBool) (List._∷_ (12, Rows.any-gone (Syntax.tyRef Syntax.erased Syntax.mut OfOutput.named)) (List._∷_ (13, Rows.any-gone (Syntax.tyStruct (List._∷_ 38 (List._∷_ 91 (List._∷_ 93 List.[]))) (Syntax.tcons (Syntax.tyRef Syntax.erased Syntax.mut OfOutput.named) (Syntax.tcons (Syntax.tyInt Syntax.w64) Syntax.tnil)))) (List._∷_ (14, Rows.any-gone (Syntax.tyRef Syntax.erased Syntax.mut OfStation.named)) (List._∷_ (15, Rows.any-gone (Syntax.tyStruct (List._∷_ 38 (List._∷_ 91 (List._∷_ 93 List.[]))) (Syntax.tcons (Syntax.tyRef Syntax.erased Syntax.mut OfStation.named) (Syntax.tcons (Syntax.tyInt Syntax.w64) Syntax.tnil)))) List.[])))))))))))))))
 
 abbrev pub t25 : List.List Row.Entry
-t25 = List._∷_ (0, Rows.any-gone (Laws.mir)) (List._∷_ (1, Mut.mslice (OfOutput.row) (Syntax.tyRef (Syntax.named 0) Syntax.mut OfOutput.named) 0) (List._∷_ (2, Mut.mslice (OfStation.row) (Syntax.tyRef (Syntax.named 1) Syntax.mut OfStation.named) 1) (List._∷_ (3, Rows.mref (Referent.rtF (Referent.fInt Syntax.w64)) (Syntax.tyRef (Syntax.named 2) Syntax.mut (Syntax.tyInt Syntax.w64)) 2) (List._∷_ (4, Relend.mslice-owed (Referent.rtF (Referent.fInt Syntax.w8)) (Syntax.tyRef (Syntax.named 3) Syntax.mut (Syntax.tyInt Syntax.w8)) 3 8 Row.off) (List._∷_ (5, Relend.mslice-owed (Referent.rtF (Referent.fInt Syntax.w8)) (Syntax.tyRef (Syntax.named 4) Syntax.mut (Syntax.tyInt Syntax.w8)) 4 9 Row.off) (List._∷_ (6, Rows.any-gone (Syntax.tyStruct (List._∷_ 116 (List._∷_ 101 (List._∷_ 120 (List._∷_ 116 (List._∷_ 95 (List._∷_ 114 (List._∷_ 101 (List._∷_ 97 (List._∷_ 100 (List._∷_ 105 (List._∷_ 110 (List._∷_ 103 (List._∷_ 58 (List._∷_ 58 (List._∷_ 82 (List._∷_ 101 (List._∷_ 97 (List._∷_ 100 (List._∷_ 101 (List._∷_ 114 List.[])))))))))))))))))))) (Syntax.tcons (Syntax.tyInt Syntax.w8) (Syntax.tcons (Syntax.tyInt Syntax.w64) (Syntax.tcons (Syntax.tyEnum (List._∷_ 116 (List._∷_ 101 (List._∷_ 120 (List._∷_ 116 (List._∷_ 95 (List._∷_ 114 (List._∷_ 101 (List._∷_ 97 (List._∷_ 100 (List._∷_ 105 (List._∷_ 110 (List._∷_ 103 (List._∷_ 58 (List._∷_ 58 (List._∷_ 72 (List._∷_ 101 (List._∷_ 108 (List._∷_ 100 List.[])))))))))))))))))) (Syntax.ttcons Syntax.tnil (Syntax.ttcons Syntax.tnil (Syntax.ttcons (Syntax.tcons (Syntax.tyInt Syntax.w8) Syntax.tnil) (Syntax.ttcons Syntax.tnil (Syntax.ttcons (Syntax.tcons (Syntax.tyInt Syntax.w8) Syntax.tnil) (Syntax.ttcons (Syntax.tcons (Syntax.tyInt Syntax.w8) Syntax.tnil) (Syntax.ttcons Syntax.tnil (Syntax.ttcons (Syntax.tcons (Syntax.tyInt Syntax.w8) Syntax.tnil) (Syntax.ttcons Syntax.tnil (Syntax.ttcons (Syntax.tcons (Syntax.tyEnum (List._∷_ 116 (List._∷_ 101 (List._∷_ 120 (List._∷_ 116 (List._∷_ 95 (List._∷_ 114 (List._∷_ 101 (List._∷_ 97 (List._∷_ 100 (List._∷_ 105 (List._∷_ 110 (List._∷_ 103 (List._∷_ 58 (List._∷_ 58 (List._∷_ 70 (List._∷_ 97 (List._∷_ 117 (List._∷_ 108 (List._∷_ 116 List.[]))))))))))))))))))) (Syntax.ttcons Syntax.tnil (Syntax.ttcons Syntax.tnil (Syntax.ttcons Syntax.tnil (Syntax.ttcons Syntax.tnil Syntax.ttnil))))) Syntax.tnil) Syntax.ttnil))))))))))) (Syntax.tcons (Syntax.tyArray (Syntax.tyInt Syntax.w8) 32) (Syntax.tcons (Syntax.tyInt Syntax.w64) Syntax.tnil))))))) (List._∷_ (7, Rows.any-gone (Syntax.tyInt Syntax.w64)) (List._∷_ (8, Rows.sc-here (Row.sInt Syntax.w64)) (List._∷_ (9, Rows.whole (Declared.row Turn.the-type)) (List._∷_ (10, Rows.any-gone (Syntax.tyStruct (List._∷_ 116 (List._∷_ 101 (List._∷_ 120 (List._∷_ 116 (List._∷_ 95 (List._∷_ 114 (List._∷_ 101 (List._∷_ 97 (List._∷_ 100 (List._∷_ 105 (List._∷_ 110 (List._∷_ 103 (List._∷_ 58 (List._∷_ 58 (List._∷_ 82 (List._∷_ 101 (List._∷_ 97 (List._∷_ 100 (List._∷_ 101 (List._∷_ 114 List.[])))))))))))))))))))) (Syntax.tcons (Syntax.tyInt Syntax.w8) (Syntax.tcons (Syntax.tyInt Syntax.w64) (Syntax.tcons (Syntax.tyEnum (List._∷_ 116 (List._∷_ 101 (List._∷_ 120 (List._∷_ 116 (List._∷_ 95 (List._∷_ 114 (List._∷_ 101 (List._∷_ 97 (List._∷_ 100 (List._∷_ 105 (List._∷_ 110 (List._∷_ 103 (List._∷_ 58 (List._∷_ 58 (List._∷_ 72 (List._∷_ 101 (List._∷_ 108 (List._∷_ 100 List.[])))))))))))))))))) (Syntax.ttcons Syntax.tnil (Syntax.ttcons Syntax.tnil (Syntax.ttcons (Syntax.tcons (Syntax.tyInt Syntax.w8) Syntax.tnil) (Syntax.ttcons Syntax.tnil (Syntax.ttcons (Syntax.tcons (Syntax.tyInt Syntax.w8) Syntax.tnil) (Syntax.ttcons (Syntax.tcons (Syntax.tyInt Syntax.w8) Syntax.tnil) (Syntax.ttcons Syntax.tnil (Syntax.ttcons (Syntax.tcons (Syntax.tyInt Syntax.w8) Syntax.tnil) (Syntax.ttcons Syntax.tnil (Syntax.ttcons (Syntax.tcons (Syntax.tyEnum (List._∷_ 116 (List._∷_ 101 (List._∷_ 120 (List._∷_ 116 (List._∷_ 95 (List._∷_ 114 (List._∷_ 101 (List._∷_ 97 (List._∷_ 100 (List._∷_ 105 (List._∷_ 110 (List._∷_ 103 (List._∷_ 58 (List._∷_ 58 (List._∷_ 70 (List._∷_ 97 (List._∷_ 117 (List._∷_ 108 (List._∷_ 116 List.[]))))))))))))))))))) (Syntax.ttcons Syntax.tnil (Syntax.ttcons Syntax.tnil (Syntax.ttcons Syntax.tnil (Syntax.ttcons Syntax.tnil Syntax.ttnil))))) Syntax.tnil) Syntax.ttnil))))))))))) (Syntax.tcons (Syntax.tyArray (Syntax.tyInt Syntax.w8) 32) (Syntax.tcons (Syntax.tyInt Syntax.w64) Syntax.tnil))))))) (List._∷_ (11, Rows.any-gone Syntax.tyBool) (List._∷_ (12, Rows.any-gone (Syntax.tyRef Syntax.erased Syntax.mut OfOutput.named)) (List._∷_ (13, Rows.any-gone (Syntax.tyStruct (List._∷_ 38 (List._∷_ 91 (List._∷_ 93 List.[]))) (Syntax.tcons (Syntax.tyRef Syntax.erased Syntax.mut OfOutput.named) (Syntax.tcons (Syntax.tyInt Syntax.w64) Syntax.tnil)))) (List._∷_ (14, Rows.any-gone (Syntax.tyRef Syntax.erased Syntax.mut OfStation.named)) (List._∷_ (15, Rows.any-gone (Syntax.tyStruct (List._∷_ 38 (List._∷_ 91 (List._∷_ 93 List.[]))) (Syntax.tcons (Syntax.tyRef Syntax.erased Syntax.mut OfStation.named) (Syntax.tcons (Syntax.tyInt Syntax.w64) Syntax.tnil)))) List.[])))))))))))))))
+t25 = List._∷_ (0, Rows.any-gone (Laws.mir)) (List._∷_ (1, Mut.mslice (OfOutput.row) (Syntax.tyRef (Syntax.named 0) Syntax.mut OfOutput.named) 0) (List._∷_ (2, Mut.mslice (OfStation.row) (Syntax.tyRef (Syntax.named 1) Syntax.mut OfStation.named) 1) (List._∷_ (3, Rows.mref (OfPanelRecord.row) (Syntax.tyRef (Syntax.named 2) Syntax.mut OfPanelRecord.named) 2) (List._∷_ (4, Relend.mslice-owed (Referent.rtF (Referent.fInt Syntax.w8)) (Syntax.tyRef (Syntax.named 3) Syntax.mut (Syntax.tyInt Syntax.w8)) 3 8 Row.off) (List._∷_ (5, Relend.mslice-owed (Referent.rtF (Referent.fInt Syntax.w8)) (Syntax.tyRef (Syntax.named 4) Syntax.mut (Syntax.tyInt Syntax.w8)) 4 9 Row.off) (List._∷_ (6, Rows.any-gone (Syntax.tyStruct (List._∷_ 116 (List._∷_ 101 (List._∷_ 120 (List._∷_ 116 (List._∷_ 95 (List._∷_ 114 (List._∷_ 101 (List._∷_ 97 (List._∷_ 100 (List._∷_ 105 (List._∷_ 110 (List._∷_ 103 (List._∷_ 58 (List._∷_ 58 (List._∷_ 82 (List._∷_ 101 (List._∷_ 97 (List._∷_ 100 (List._∷_ 101 (List._∷_ 114 List.[])))))))))))))))))))) (Syntax.tcons (Syntax.tyInt Syntax.w8) (Syntax.tcons (Syntax.tyInt Syntax.w64) (Syntax.tcons (Syntax.tyEnum (List._∷_ 116 (List._∷_ 101 (List._∷_ 120 (List._∷_ 116 (List._∷_ 95 (List._∷_ 114 (List._∷_ 101 (List._∷_ 97 (List._∷_ 100 (List._∷_ 105 (List._∷_ 110 (List._∷_ 103 (List._∷_ 58 (List._∷_ 58 (List._∷_ 72 (List._∷_ 101 (List._∷_ 108 (List._∷_ 100 List.[])))))))))))))))))) (Syntax.ttcons Syntax.tnil (Syntax.ttcons Syntax.tnil (Syntax.ttcons (Syntax.tcons (Syntax.tyInt Syntax.w8) Syntax.tnil) (Syntax.ttcons Syntax.tnil (Syntax.ttcons (Syntax.tcons (Syntax.tyInt Syntax.w8) Syntax.tnil) (Syntax.ttcons (Syntax.tcons (Syntax.tyInt Syntax.w8) Syntax.tnil) (Syntax.ttcons Syntax.tnil (Syntax.ttcons (Syntax.tcons (Syntax.tyInt Syntax.w8) Syntax.tnil) (Syntax.ttcons Syntax.tnil (Syntax.ttcons (Syntax.tcons (Syntax.tyEnum (List._∷_ 116 (List._∷_ 101 (List._∷_ 120 (List._∷_ 116 (List._∷_ 95 (List._∷_ 114 (List._∷_ 101 (List._∷_ 97 (List._∷_ 100 (List._∷_ 105 (List._∷_ 110 (List._∷_ 103 (List._∷_ 58 (List._∷_ 58 (List._∷_ 70 (List._∷_ 97 (List._∷_ 117 (List._∷_ 108 (List._∷_ 116 List.[]))))))))))))))))))) (Syntax.ttcons Syntax.tnil (Syntax.ttcons Syntax.tnil (Syntax.ttcons Syntax.tnil (Syntax.ttcons Syntax.tnil Syntax.ttnil))))) Syntax.tnil) Syntax.ttnil))))))))))) (Syntax.tcons (Syntax.tyArray (Syntax.tyInt Syntax.w8) 32) (Syntax.tcons (Syntax.tyInt Syntax.w64) Syntax.tnil))))))) (List._∷_ (7, Rows.any-gone (Syntax.tyInt Syntax.w64)) (List._∷_ (8, Rows.sc-here (Row.sInt Syntax.w64)) (List._∷_ (9, Rows.whole (Declared.row Turn.the-type)) (List._∷_ (10, Rows.any-gone (Syntax.tyStruct (List._∷_ 116 (List._∷_ 101 (List._∷_ 120 (List._∷_ 116 (List._∷_ 95 (List._∷_ 114 (List._∷_ 101 (List._∷_ 97 (List._∷_ 100 (List._∷_ 105 (List._∷_ 110 (List._∷_ 103 (List._∷_ 58 (List._∷_ 58 (List._∷_ 82 (List._∷_ 101 (List._∷_ 97 (List._∷_ 100 (List._∷_ 101 (List._∷_ 114 List.[])))))))))))))))))))) (Syntax.tcons (Syntax.tyInt Syntax.w8) (Syntax.tcons (Syntax.tyInt Syntax.w64) (Syntax.tcons (Syntax.tyEnum (List._∷_ 116 (List._∷_ 101 (List._∷_ 120 (List._∷_ 116 (List._∷_ 95 (List._∷_ 114 (List._∷_ 101 (List._∷_ 97 (List._∷_ 100 (List._∷_ 105 (List._∷_ 110 (List._∷_ 103 (List._∷_ 58 (List._∷_ 58 (List._∷_ 72 (List._∷_ 101 (List._∷_ 108 (List._∷_ 100 List.[])))))))))))))))))) (Syntax.ttcons Syntax.tnil (Syntax.ttcons Syntax.tnil (Syntax.ttcons (Syntax.tcons (Syntax.tyInt Syntax.w8) Syntax.tnil) (Syntax.ttcons Syntax.tnil (Syntax.ttcons (Syntax.tcons (Syntax.tyInt Syntax.w8) Syntax.tnil) (Syntax.ttcons (Syntax.tcons (Syntax.tyInt Syntax.w8) Syntax.tnil) (Syntax.ttcons Syntax.tnil (Syntax.ttcons (Syntax.tcons (Syntax.tyInt Syntax.w8) Syntax.tnil) (Syntax.ttcons Syntax.tnil (Syntax.ttcons (Syntax.tcons (Syntax.tyEnum (List._∷_ 116 (List._∷_ 101 (List._∷_ 120 (List._∷_ 116 (List._∷_ 95 (List._∷_ 114 (List._∷_ 101 (List._∷_ 97 (List._∷_ 100 (List._∷_ 105 (List._∷_ 110 (List._∷_ 103 (List._∷_ 58 (List._∷_ 58 (List._∷_ 70 (List._∷_ 97 (List._∷_ 117 (List._∷_ 108 (List._∷_ 116 List.[]))))))))))))))))))) (Syntax.ttcons Syntax.tnil (Syntax.ttcons Syntax.tnil (Syntax.ttcons Syntax.tnil (Syntax.ttcons Syntax.tnil Syntax.ttnil))))) Syntax.tnil) Syntax.ttnil))))))))))) (Syntax.tcons (Syntax.tyArray (Syntax.tyInt Syntax.w8) 32) (Syntax.tcons (Syntax.tyInt Syntax.w64) Syntax.tnil))))))) (List._∷_ (11, Rows.any-gone Syntax.tyBool) (List._∷_ (12, Rows.any-gone (Syntax.tyRef Syntax.erased Syntax.mut OfOutput.named)) (List._∷_ (13, Rows.any-gone (Syntax.tyStruct (List._∷_ 38 (List._∷_ 91 (List._∷_ 93 List.[]))) (Syntax.tcons (Syntax.tyRef Syntax.erased Syntax.mut OfOutput.named) (Syntax.tcons (Syntax.tyInt Syntax.w64) Syntax.tnil)))) (List._∷_ (14, Rows.any-gone (Syntax.tyRef Syntax.erased Syntax.mut OfStation.named)) (List._∷_ (15, Rows.any-gone (Syntax.tyStruct (List._∷_ 38 (List._∷_ 91 (List._∷_ 93 List.[]))) (Syntax.tcons (Syntax.tyRef Syntax.erased Syntax.mut OfStation.named) (Syntax.tcons (Syntax.tyInt Syntax.w64) Syntax.tnil)))) List.[])))))))))))))))
 
 abbrev pub t26 : List.List Row.Entry
-t26 = List._∷_ (16, Rows.any-gone (Syntax.tyRef Syntax.erased Syntax.mut (Syntax.tyInt Syntax.w64))) (List._∷_ (17, Rows.any-gone (Syntax.tyRef Syntax.erased Syntax.mut (Syntax.tyInt Syntax.w8))) (List._∷_ (18, Mut.msleft (Referent.rtF (Referent.fInt Syntax.w8)) (Syntax.tyRef Syntax.erased Syntax.mut (Syntax.tyInt Syntax.w8))) (List._∷_ (19, Rows.any-gone (Syntax.tyRef Syntax.erased Syntax.mut (Syntax.tyInt Syntax.w8))) (List._∷_ (20, Mut.msleft (Referent.rtF (Referent.fInt Syntax.w8)) (Syntax.tyRef Syntax.erased Syntax.mut (Syntax.tyInt Syntax.w8))) List.[]))))
+t26 = List._∷_ (16, Rows.any-gone (Syntax.tyRef Syntax.erased Syntax.mut OfPanelRecord.named)) (List._∷_ (17, Rows.any-gone (Syntax.tyRef Syntax.erased Syntax.mut (Syntax.tyInt Syntax.w8))) (List._∷_ (18, Mut.msleft (Referent.rtF (Referent.fInt Syntax.w8)) (Syntax.tyRef Syntax.erased Syntax.mut (Syntax.tyInt Syntax.w8))) (List._∷_ (19, Rows.any-gone (Syntax.tyRef Syntax.erased Syntax.mut (Syntax.tyInt Syntax.w8))) (List._∷_ (20, Mut.msleft (Referent.rtF (Referent.fInt Syntax.w8)) (Syntax.tyRef Syntax.erased Syntax.mut (Syntax.tyInt Syntax.w8))) List.[]))))
 
 abbrev pub t27 : List.List Row.Entry
-t27 = List._∷_ (0, Rows.any-gone (Laws.mir)) (List._∷_ (1, Mut.mslice (OfOutput.row) (Syntax.tyRef (Syntax.named 0) Syntax.mut OfOutput.named) 0) (List._∷_ (2, Mut.mslice (OfStation.row) (Syntax.tyRef (Syntax.named 1) Syntax.mut OfStation.named) 1) (List._∷_ (3, Rows.mref (Referent.rtF (Referent.fInt Syntax.w64)) (Syntax.tyRef (Syntax.named 2) Syntax.mut (Syntax.tyInt Syntax.w64)) 2) (List._∷_ (4, Mut.mslice (Referent.rtF (Referent.fInt Syntax.w8)) (Syntax.tyRef (Syntax.named 3) Syntax.mut (Syntax.tyInt Syntax.w8)) 3) (List._∷_ (5, Relend.mslice-owed (Referent.rtF (Referent.fInt Syntax.w8)) (Syntax.tyRef (Syntax.named 4) Syntax.mut (Syntax.tyInt Syntax.w8)) 4 9 Row.off) (List._∷_ (6, Rows.any-gone (Syntax.tyStruct (List._∷_ 116 (List._∷_ 101 (List._∷_ 120 (List._∷_ 116 (List._∷_ 95 (List._∷_ 114 (List._∷_ 101 (List._∷_ 97 (List._∷_ 100 (List._∷_ 105 (List._∷_ 110 (List._∷_ 103 (List._∷_ 58 (List._∷_ 58 (List._∷_ 82 (List._∷_ 101 (List._∷_ 97 (List._∷_ 100 (List._∷_ 101 (List._∷_ 114 List.[])))))))))))))))))))) (Syntax.tcons (Syntax.tyInt Syntax.w8) (Syntax.tcons (Syntax.tyInt Syntax.w64) (Syntax.tcons (Syntax.tyEnum (List._∷_ 116 (List._∷_ 101 (List._∷_ 120 (List._∷_ 116 (List._∷_ 95 (List._∷_ 114 (List._∷_ 101 (List._∷_ 97 (List._∷_ 100 (List._∷_ 105 (List._∷_ 110 (List._∷_ 103 (List._∷_ 58 (List._∷_ 58 (List._∷_ 72 (List._∷_ 101 (List._∷_ 108 (List._∷_ 100 List.[])))))))))))))))))) (Syntax.ttcons Syntax.tnil (Syntax.ttcons Syntax.tnil (Syntax.ttcons (Syntax.tcons (Syntax.tyInt Syntax.w8) Syntax.tnil) (Syntax.ttcons Syntax.tnil (Syntax.ttcons (Syntax.tcons (Syntax.tyInt Syntax.w8) Syntax.tnil) (Syntax.ttcons (Syntax.tcons (Syntax.tyInt Syntax.w8) Syntax.tnil) (Syntax.ttcons Syntax.tnil (Syntax.ttcons (Syntax.tcons (Syntax.tyInt Syntax.w8) Syntax.tnil) (Syntax.ttcons Syntax.tnil (Syntax.ttcons (Syntax.tcons (Syntax.tyEnum (List._∷_ 116 (List._∷_ 101 (List._∷_ 120 (List._∷_ 116 (List._∷_ 95 (List._∷_ 114 (List._∷_ 101 (List._∷_ 97 (List._∷_ 100 (List._∷_ 105 (List._∷_ 110 (List._∷_ 103 (List._∷_ 58 (List._∷_ 58 (List._∷_ 70 (List._∷_ 97 (List._∷_ 117 (List._∷_ 108 (List._∷_ 116 List.[]))))))))))))))))))) (Syntax.ttcons Syntax.tnil (Syntax.ttcons Syntax.tnil (Syntax.ttcons Syntax.tnil (Syntax.ttcons Syntax.tnil Syntax.ttnil))))) Syntax.tnil) Syntax.ttnil))))))))))) (Syntax.tcons (Syntax.tyArray (Syntax.tyInt Syntax.w8) 32) (Syntax.tcons (Syntax.tyInt Syntax.w64) Syntax.tnil))))))) (List._∷_ (7, Rows.any-gone (Syntax.tyInt Syntax.w64)) (List._∷_ (8, Rows.sc-here (Row.sInt Syntax.w64)) (List._∷_ (9, Rows.whole (Declared.row Turn.the-type)) (List._∷_ (10, Rows.any-gone (Syntax.tyStruct (List._∷_ 116 (List._∷_ 101 (List._∷_ 120 (List._∷_ 116 (List._∷_ 95 (List._∷_ 114 (List._∷_ 101 (List._∷_ 97 (List._∷_ 100 (List._∷_ 105 (List._∷_ 110 (List._∷_ 103 (List._∷_ 58 (List._∷_ 58 (List._∷_ 82 (List._∷_ 101 (List._∷_ 97 (List._∷_ 100 (List._∷_ 101 (List._∷_ 114 List.[])))))))))))))))))))) (Syntax.tcons (Syntax.tyInt Syntax.w8) (Syntax.tcons (Syntax.tyInt Syntax.w64) (Syntax.tcons (Syntax.tyEnum (List._∷_ 116 (List._∷_ 101 (List._∷_ 120 (List._∷_ 116 (List._∷_ 95 (List._∷_ 114 (List._∷_ 101 (List._∷_ 97 (List._∷_ 100 (List._∷_ 105 (List._∷_ 110 (List._∷_ 103 (List._∷_ 58 (List._∷_ 58 (List._∷_ 72 (List._∷_ 101 (List._∷_ 108 (List._∷_ 100 List.[])))))))))))))))))) (Syntax.ttcons Syntax.tnil (Syntax.ttcons Syntax.tnil (Syntax.ttcons (Syntax.tcons (Syntax.tyInt Syntax.w8) Syntax.tnil) (Syntax.ttcons Syntax.tnil (Syntax.ttcons (Syntax.tcons (Syntax.tyInt Syntax.w8) Syntax.tnil) (Syntax.ttcons (Syntax.tcons (Syntax.tyInt Syntax.w8) Syntax.tnil) (Syntax.ttcons Syntax.tnil (Syntax.ttcons (Syntax.tcons (Syntax.tyInt Syntax.w8) Syntax.tnil) (Syntax.ttcons Syntax.tnil (Syntax.ttcons (Syntax.tcons (Syntax.tyEnum (List._∷_ 116 (List._∷_ 101 (List._∷_ 120 (List._∷_ 116 (List._∷_ 95 (List._∷_ 114 (List._∷_ 101 (List._∷_ 97 (List._∷_ 100 (List._∷_ 105 (List._∷_ 110 (List._∷_ 103 (List._∷_ 58 (List._∷_ 58 (List._∷_ 70 (List._∷_ 97 (List._∷_ 117 (List._∷_ 108 (List._∷_ 116 List.[]))))))))))))))))))) (Syntax.ttcons Syntax.tnil (Syntax.ttcons Syntax.tnil (Syntax.ttcons Syntax.tnil (Syntax.ttcons Syntax.tnil Syntax.ttnil))))) Syntax.tnil) Syntax.ttnil))))))))))) (Syntax.tcons (Syntax.tyArray (Syntax.tyInt Syntax.w8) 32) (Syntax.tcons (Syntax.tyInt Syntax.w64) Syntax.tnil))))))) (List._∷_ (11, Rows.any-gone Syntax.tyBool) (List._∷_ (12, Rows.any-gone (Syntax.tyRef Syntax.erased Syntax.mut OfOutput.named)) (List._∷_ (13, Rows.any-gone (Syntax.tyStruct (List._∷_ 38 (List._∷_ 91 (List._∷_ 93 List.[]))) (Syntax.tcons (Syntax.tyRef Syntax.erased Syntax.mut OfOutput.named) (Syntax.tcons (Syntax.tyInt Syntax.w64) Syntax.tnil)))) (List._∷_ (14, Rows.any-gone (Syntax.tyRef Syntax.erased Syntax.mut OfStation.named)) (List._∷_ (15, Rows.any-gone (Syntax.tyStruct (List._∷_ 38 (List._∷_ 91 (List._∷_ 93 List.[]))) (Syntax.tcons (Syntax.tyRef Syntax.erased Syntax.mut OfStation.named) (Syntax.tcons (Syntax.tyInt Syntax.w64) Syntax.tnil)))) List.[])))))))))))))))
+t27 = List._∷_ (0, Rows.any-gone (Laws.mir)) (List._∷_ (1, Mut.mslice (OfOutput.row) (Syntax.tyRef (Syntax.named 0) Syntax.mut OfOutput.named) 0) (List._∷_ (2, Mut.mslice (OfStation.row) (Syntax.tyRef (Syntax.named 1) Syntax.mut OfStation.named) 1) (List._∷_ (3, Rows.mref (OfPanelRecord.row) (Syntax.tyRef (Syntax.named 2) Syntax.mut OfPanelRecord.named) 2) (List._∷_ (4, Mut.mslice (Referent.rtF (Referent.fInt Syntax.w8)) (Syntax.tyRef (Syntax.named 3) Syntax.mut (Syntax.tyInt Syntax.w8)) 3) (List._∷_ (5, Relend.mslice-owed (Referent.rtF (Referent.fInt Syntax.w8)) (Syntax.tyRef (Syntax.named 4) Syntax.mut (Syntax.tyInt Syntax.w8)) 4 9 Row.off) (List._∷_ (6, Rows.any-gone (Syntax.tyStruct (List._∷_ 116 (List._∷_ 101 (List._∷_ 120 (List._∷_ 116 (List._∷_ 95 (List._∷_ 114 (List._∷_ 101 (List._∷_ 97 (List._∷_ 100 (List._∷_ 105 (List._∷_ 110 (List._∷_ 103 (List._∷_ 58 (List._∷_ 58 (List._∷_ 82 (List._∷_ 101 (List._∷_ 97 (List._∷_ 100 (List._∷_ 101 (List._∷_ 114 List.[])))))))))))))))))))) (Syntax.tcons (Syntax.tyInt Syntax.w8) (Syntax.tcons (Syntax.tyInt Syntax.w64) (Syntax.tcons (Syntax.tyEnum (List._∷_ 116 (List._∷_ 101 (List._∷_ 120 (List._∷_ 116 (List._∷_ 95 (List._∷_ 114 (List._∷_ 101 (List._∷_ 97 (List._∷_ 100 (List._∷_ 105 (List._∷_ 110 (List._∷_ 103 (List._∷_ 58 (List._∷_ 58 (List._∷_ 72 (List._∷_ 101 (List._∷_ 108 (List._∷_ 100 List.[])))))))))))))))))) (Syntax.ttcons Syntax.tnil (Syntax.ttcons Syntax.tnil (Syntax.ttcons (Syntax.tcons (Syntax.tyInt Syntax.w8) Syntax.tnil) (Syntax.ttcons Syntax.tnil (Syntax.ttcons (Syntax.tcons (Syntax.tyInt Syntax.w8) Syntax.tnil) (Syntax.ttcons (Syntax.tcons (Syntax.tyInt Syntax.w8) Syntax.tnil) (Syntax.ttcons Syntax.tnil (Syntax.ttcons (Syntax.tcons (Syntax.tyInt Syntax.w8) Syntax.tnil) (Syntax.ttcons Syntax.tnil (Syntax.ttcons (Syntax.tcons (Syntax.tyEnum (List._∷_ 116 (List._∷_ 101 (List._∷_ 120 (List._∷_ 116 (List._∷_ 95 (List._∷_ 114 (List._∷_ 101 (List._∷_ 97 (List._∷_ 100 (List._∷_ 105 (List._∷_ 110 (List._∷_ 103 (List._∷_ 58 (List._∷_ 58 (List._∷_ 70 (List._∷_ 97 (List._∷_ 117 (List._∷_ 108 (List._∷_ 116 List.[]))))))))))))))))))) (Syntax.ttcons Syntax.tnil (Syntax.ttcons Syntax.tnil (Syntax.ttcons Syntax.tnil (Syntax.ttcons Syntax.tnil Syntax.ttnil))))) Syntax.tnil) Syntax.ttnil))))))))))) (Syntax.tcons (Syntax.tyArray (Syntax.tyInt Syntax.w8) 32) (Syntax.tcons (Syntax.tyInt Syntax.w64) Syntax.tnil))))))) (List._∷_ (7, Rows.any-gone (Syntax.tyInt Syntax.w64)) (List._∷_ (8, Rows.sc-here (Row.sInt Syntax.w64)) (List._∷_ (9, Rows.whole (Declared.row Turn.the-type)) (List._∷_ (10, Rows.any-gone (Syntax.tyStruct (List._∷_ 116 (List._∷_ 101 (List._∷_ 120 (List._∷_ 116 (List._∷_ 95 (List._∷_ 114 (List._∷_ 101 (List._∷_ 97 (List._∷_ 100 (List._∷_ 105 (List._∷_ 110 (List._∷_ 103 (List._∷_ 58 (List._∷_ 58 (List._∷_ 82 (List._∷_ 101 (List._∷_ 97 (List._∷_ 100 (List._∷_ 101 (List._∷_ 114 List.[])))))))))))))))))))) (Syntax.tcons (Syntax.tyInt Syntax.w8) (Syntax.tcons (Syntax.tyInt Syntax.w64) (Syntax.tcons (Syntax.tyEnum (List._∷_ 116 (List._∷_ 101 (List._∷_ 120 (List._∷_ 116 (List._∷_ 95 (List._∷_ 114 (List._∷_ 101 (List._∷_ 97 (List._∷_ 100 (List._∷_ 105 (List._∷_ 110 (List._∷_ 103 (List._∷_ 58 (List._∷_ 58 (List._∷_ 72 (List._∷_ 101 (List._∷_ 108 (List._∷_ 100 List.[])))))))))))))))))) (Syntax.ttcons Syntax.tnil (Syntax.ttcons Syntax.tnil (Syntax.ttcons (Syntax.tcons (Syntax.tyInt Syntax.w8) Syntax.tnil) (Syntax.ttcons Syntax.tnil (Syntax.ttcons (Syntax.tcons (Syntax.tyInt Syntax.w8) Syntax.tnil) (Syntax.ttcons (Syntax.tcons (Syntax.tyInt Syntax.w8) Syntax.tnil) (Syntax.ttcons Syntax.tnil (Syntax.ttcons (Syntax.tcons (Syntax.tyInt Syntax.w8) Syntax.tnil) (Syntax.ttcons Syntax.tnil (Syntax.ttcons (Syntax.tcons (Syntax.tyEnum (List._∷_ 116 (List._∷_ 101 (List._∷_ 120 (List._∷_ 116 (List._∷_ 95 (List._∷_ 114 (List._∷_ 101 (List._∷_ 97 (List._∷_ 100 (List._∷_ 105 (List._∷_ 110 (List._∷_ 103 (List._∷_ 58 (List._∷_ 58 (List._∷_ 70 (List._∷_ 97 (List._∷_ 117 (List._∷_ 108 (List._∷_ 116 List.[]))))))))))))))))))) (Syntax.ttcons Syntax.tnil (Syntax.ttcons Syntax.tnil (Syntax.ttcons Syntax.tnil (Syntax.ttcons Syntax.tnil Syntax.ttnil))))) Syntax.tnil) Syntax.ttnil))))))))))) (Syntax.tcons (Syntax.tyArray (Syntax.tyInt Syntax.w8) 32) (Syntax.tcons (Syntax.tyInt Syntax.w64) Syntax.tnil))))))) (List._∷_ (11, Rows.any-gone Syntax.tyBool) (List._∷_ (12, Rows.any-gone (Syntax.tyRef Syntax.erased Syntax.mut OfOutput.named)) (List._∷_ (13, Rows.any-gone (Syntax.tyStruct (List._∷_ 38 (List._∷_ 91 (List._∷_ 93 List.[]))) (Syntax.tcons (Syntax.tyRef Syntax.erased Syntax.mut OfOutput.named) (Syntax.tcons (Syntax.tyInt Syntax.w64) Syntax.tnil)))) (List._∷_ (14, Rows.any-gone (Syntax.tyRef Syntax.erased Syntax.mut OfStation.named)) (List._∷_ (15, Rows.any-gone (Syntax.tyStruct (List._∷_ 38 (List._∷_ 91 (List._∷_ 93 List.[]))) (Syntax.tcons (Syntax.tyRef Syntax.erased Syntax.mut OfStation.named) (Syntax.tcons (Syntax.tyInt Syntax.w64) Syntax.tnil)))) List.[])))))))))))))))
 
 abbrev pub t28 : List.List Row.Entry
-t28 = List._∷_ (16, Rows.any-gone (Syntax.tyRef Syntax.erased Syntax.mut (Syntax.tyInt Syntax.w64))) (List._∷_ (17, Rows.any-gone (Syntax.tyRef Syntax.erased Syntax.mut (Syntax.tyInt Syntax.w8))) (List._∷_ (18, Rows.any-gone (Syntax.tyStruct (List._∷_ 38 (List._∷_ 91 (List._∷_ 93 List.[]))) (Syntax.tcons (Syntax.tyRef Syntax.erased Syntax.mut (Syntax.tyInt Syntax.w8)) (Syntax.tcons (Syntax.tyInt Syntax.w64) Syntax.tnil)))) (List._∷_ (19, Rows.any-gone (Syntax.tyRef Syntax.erased Syntax.mut (Syntax.tyInt Syntax.w8))) (List._∷_ (20, Mut.msleft (Referent.rtF (Referent.fInt Syntax.w8)) (Syntax.tyRef Syntax.erased Syntax.mut (Syntax.tyInt Syntax.w8))) List.[]))))
+t28 = List._∷_ (16, Rows.any-gone (Syntax.tyRef Syntax.erased Syntax.mut OfPanelRecord.named)) (List._∷_ (17, Rows.any-gone (Syntax.tyRef Syntax.erased Syntax.mut (Syntax.tyInt Syntax.w8))) (List._∷_ (18, Rows.any-gone (Syntax.tyStruct (List._∷_ 38 (List._∷_ 91 (List._∷_ 93 List.[]))) (Syntax.tcons (Syntax.tyRef Syntax.erased Syntax.mut (Syntax.tyInt Syntax.w8)) (Syntax.tcons (Syntax.tyInt Syntax.w64) Syntax.tnil)))) (List._∷_ (19, Rows.any-gone (Syntax.tyRef Syntax.erased Syntax.mut (Syntax.tyInt Syntax.w8))) (List._∷_ (20, Mut.msleft (Referent.rtF (Referent.fInt Syntax.w8)) (Syntax.tyRef Syntax.erased Syntax.mut (Syntax.tyInt Syntax.w8))) List.[]))))
 
 abbrev pub t29 : List.List Row.Entry
-t29 = List._∷_ (0, Rows.any-gone (Laws.mir)) (List._∷_ (1, Mut.mslice (OfOutput.row) (Syntax.tyRef (Syntax.named 0) Syntax.mut OfOutput.named) 0) (List._∷_ (2, Mut.mslice (OfStation.row) (Syntax.tyRef (Syntax.named 1) Syntax.mut OfStation.named) 1) (List._∷_ (3, Rows.mref (Referent.rtF (Referent.fInt Syntax.w64)) (Syntax.tyRef (Syntax.named 2) Syntax.mut (Syntax.tyInt Syntax.w64)) 2) (List._∷_ (4, Mut.mslice (Referent.rtF (Referent.fInt Syntax.w8)) (Syntax.tyRef (Syntax.named 3) Syntax.mut (Syntax.tyInt Syntax.w8)) 3) (List._∷_ (5, Mut.mslice (Referent.rtF (Referent.fInt Syntax.w8)) (Syntax.tyRef (Syntax.named 4) Syntax.mut (Syntax.tyInt Syntax.w8)) 4) (List._∷_ (6, Rows.any-gone (Syntax.tyStruct (List._∷_ 116 (List._∷_ 101 (List._∷_ 120 (List._∷_ 116 (List._∷_ 95 (List._∷_ 114 (List._∷_ 101 (List._∷_ 97 (List._∷_ 100 (List._∷_ 105 (List._∷_ 110 (List._∷_ 103 (List._∷_ 58 (List._∷_ 58 (List._∷_ 82 (List._∷_ 101 (List._∷_ 97 (List._∷_ 100 (List._∷_ 101 (List._∷_ 114 List.[])))))))))))))))))))) (Syntax.tcons (Syntax.tyInt Syntax.w8) (Syntax.tcons (Syntax.tyInt Syntax.w64) (Syntax.tcons (Syntax.tyEnum (List._∷_ 116 (List._∷_ 101 (List._∷_ 120 (List._∷_ 116 (List._∷_ 95 (List._∷_ 114 (List._∷_ 101 (List._∷_ 97 (List._∷_ 100 (List._∷_ 105 (List._∷_ 110 (List._∷_ 103 (List._∷_ 58 (List._∷_ 58 (List._∷_ 72 (List._∷_ 101 (List._∷_ 108 (List._∷_ 100 List.[])))))))))))))))))) (Syntax.ttcons Syntax.tnil (Syntax.ttcons Syntax.tnil (Syntax.ttcons (Syntax.tcons (Syntax.tyInt Syntax.w8) Syntax.tnil) (Syntax.ttcons Syntax.tnil (Syntax.ttcons (Syntax.tcons (Syntax.tyInt Syntax.w8) Syntax.tnil) (Syntax.ttcons (Syntax.tcons (Syntax.tyInt Syntax.w8) Syntax.tnil) (Syntax.ttcons Syntax.tnil (Syntax.ttcons (Syntax.tcons (Syntax.tyInt Syntax.w8) Syntax.tnil) (Syntax.ttcons Syntax.tnil (Syntax.ttcons (Syntax.tcons (Syntax.tyEnum (List._∷_ 116 (List._∷_ 101 (List._∷_ 120 (List._∷_ 116 (List._∷_ 95 (List._∷_ 114 (List._∷_ 101 (List._∷_ 97 (List._∷_ 100 (List._∷_ 105 (List._∷_ 110 (List._∷_ 103 (List._∷_ 58 (List._∷_ 58 (List._∷_ 70 (List._∷_ 97 (List._∷_ 117 (List._∷_ 108 (List._∷_ 116 List.[]))))))))))))))))))) (Syntax.ttcons Syntax.tnil (Syntax.ttcons Syntax.tnil (Syntax.ttcons Syntax.tnil (Syntax.ttcons Syntax.tnil Syntax.ttnil))))) Syntax.tnil) Syntax.ttnil))))))))))) (Syntax.tcons (Syntax.tyArray (Syntax.tyInt Syntax.w8) 32) (Syntax.tcons (Syntax.tyInt Syntax.w64) Syntax.tnil))))))) (List._∷_ (7, Rows.any-gone (Syntax.tyInt Syntax.w64)) (List._∷_ (8, Rows.sc-here (Row.sInt Syntax.w64)) (List._∷_ (9, Rows.whole (Declared.row Turn.the-type)) (List._∷_ (10, Rows.any-gone (Syntax.tyStruct (List._∷_ 116 (List._∷_ 101 (List._∷_ 120 (List._∷_ 116 (List._∷_ 95 (List._∷_ 114 (List._∷_ 101 (List._∷_ 97 (List._∷_ 100 (List._∷_ 105 (List._∷_ 110 (List._∷_ 103 (List._∷_ 58 (List._∷_ 58 (List._∷_ 82 (List._∷_ 101 (List._∷_ 97 (List._∷_ 100 (List._∷_ 101 (List._∷_ 114 List.[])))))))))))))))))))) (Syntax.tcons (Syntax.tyInt Syntax.w8) (Syntax.tcons (Syntax.tyInt Syntax.w64) (Syntax.tcons (Syntax.tyEnum (List._∷_ 116 (List._∷_ 101 (List._∷_ 120 (List._∷_ 116 (List._∷_ 95 (List._∷_ 114 (List._∷_ 101 (List._∷_ 97 (List._∷_ 100 (List._∷_ 105 (List._∷_ 110 (List._∷_ 103 (List._∷_ 58 (List._∷_ 58 (List._∷_ 72 (List._∷_ 101 (List._∷_ 108 (List._∷_ 100 List.[])))))))))))))))))) (Syntax.ttcons Syntax.tnil (Syntax.ttcons Syntax.tnil (Syntax.ttcons (Syntax.tcons (Syntax.tyInt Syntax.w8) Syntax.tnil) (Syntax.ttcons Syntax.tnil (Syntax.ttcons (Syntax.tcons (Syntax.tyInt Syntax.w8) Syntax.tnil) (Syntax.ttcons (Syntax.tcons (Syntax.tyInt Syntax.w8) Syntax.tnil) (Syntax.ttcons Syntax.tnil (Syntax.ttcons (Syntax.tcons (Syntax.tyInt Syntax.w8) Syntax.tnil) (Syntax.ttcons Syntax.tnil (Syntax.ttcons (Syntax.tcons (Syntax.tyEnum (List._∷_ 116 (List._∷_ 101 (List._∷_ 120 (List._∷_ 116 (List._∷_ 95 (List._∷_ 114 (List._∷_ 101 (List._∷_ 97 (List._∷_ 100 (List._∷_ 105 (List._∷_ 110 (List._∷_ 103 (List._∷_ 58 (List._∷_ 58 (List._∷_ 70 (List._∷_ 97 (List._∷_ 117 (List._∷_ 108 (List._∷_ 116 List.[]))))))))))))))))))) (Syntax.ttcons Syntax.tnil (Syntax.ttcons Syntax.tnil (Syntax.ttcons Syntax.tnil (Syntax.ttcons Syntax.tnil Syntax.ttnil))))) Syntax.tnil) Syntax.ttnil))))))))))) (Syntax.tcons (Syntax.tyArray (Syntax.tyInt Syntax.w8) 32) (Syntax.tcons (Syntax.tyInt Syntax.w64) Syntax.tnil))))))) (List._∷_ (11, Rows.any-gone Syntax.tyBool) (List._∷_ (12, Rows.any-gone (Syntax.tyRef Syntax.erased Syntax.mut OfOutput.named)) (List._∷_ (13, Rows.any-gone (Syntax.tyStruct (List._∷_ 38 (List._∷_ 91 (List._∷_ 93 List.[]))) (Syntax.tcons (Syntax.tyRef Syntax.erased Syntax.mut OfOutput.named) (Syntax.tcons (Syntax.tyInt Syntax.w64) Syntax.tnil)))) (List._∷_ (14, Rows.any-gone (Syntax.tyRef Syntax.erased Syntax.mut OfStation.named)) (List._∷_ (15, Rows.any-gone (Syntax.tyStruct (List._∷_ 38 (List._∷_ 91 (List._∷_ 93 List.[]))) (Syntax.tcons (Syntax.tyRef Syntax.erased Syntax.mut OfStation.named) (Syntax.tcons (Syntax.tyInt Syntax.w64) Syntax.tnil)))) List.[])))))))))))))))
+t29 = List._∷_ (0, Rows.any-gone (Laws.mir)) (List._∷_ (1, Mut.mslice (OfOutput.row) (Syntax.tyRef (Syntax.named 0) Syntax.mut OfOutput.named) 0) (List._∷_ (2, Mut.mslice (OfStation.row) (Syntax.tyRef (Syntax.named 1) Syntax.mut OfStation.named) 1) (List._∷_ (3, Rows.mref (OfPanelRecord.row) (Syntax.tyRef (Syntax.named 2) Syntax.mut OfPanelRecord.named) 2) (List._∷_ (4, Mut.mslice (Referent.rtF (Referent.fInt Syntax.w8)) (Syntax.tyRef (Syntax.named 3) Syntax.mut (Syntax.tyInt Syntax.w8)) 3) (List._∷_ (5, Mut.mslice (Referent.rtF (Referent.fInt Syntax.w8)) (Syntax.tyRef (Syntax.named 4) Syntax.mut (Syntax.tyInt Syntax.w8)) 4) (List._∷_ (6, Rows.any-gone (Syntax.tyStruct (List._∷_ 116 (List._∷_ 101 (List._∷_ 120 (List._∷_ 116 (List._∷_ 95 (List._∷_ 114 (List._∷_ 101 (List._∷_ 97 (List._∷_ 100 (List._∷_ 105 (List._∷_ 110 (List._∷_ 103 (List._∷_ 58 (List._∷_ 58 (List._∷_ 82 (List._∷_ 101 (List._∷_ 97 (List._∷_ 100 (List._∷_ 101 (List._∷_ 114 List.[])))))))))))))))))))) (Syntax.tcons (Syntax.tyInt Syntax.w8) (Syntax.tcons (Syntax.tyInt Syntax.w64) (Syntax.tcons (Syntax.tyEnum (List._∷_ 116 (List._∷_ 101 (List._∷_ 120 (List._∷_ 116 (List._∷_ 95 (List._∷_ 114 (List._∷_ 101 (List._∷_ 97 (List._∷_ 100 (List._∷_ 105 (List._∷_ 110 (List._∷_ 103 (List._∷_ 58 (List._∷_ 58 (List._∷_ 72 (List._∷_ 101 (List._∷_ 108 (List._∷_ 100 List.[])))))))))))))))))) (Syntax.ttcons Syntax.tnil (Syntax.ttcons Syntax.tnil (Syntax.ttcons (Syntax.tcons (Syntax.tyInt Syntax.w8) Syntax.tnil) (Syntax.ttcons Syntax.tnil (Syntax.ttcons (Syntax.tcons (Syntax.tyInt Syntax.w8) Syntax.tnil) (Syntax.ttcons (Syntax.tcons (Syntax.tyInt Syntax.w8) Syntax.tnil) (Syntax.ttcons Syntax.tnil (Syntax.ttcons (Syntax.tcons (Syntax.tyInt Syntax.w8) Syntax.tnil) (Syntax.ttcons Syntax.tnil (Syntax.ttcons (Syntax.tcons (Syntax.tyEnum (List._∷_ 116 (List._∷_ 101 (List._∷_ 120 (List._∷_ 116 (List._∷_ 95 (List._∷_ 114 (List._∷_ 101 (List._∷_ 97 (List._∷_ 100 (List._∷_ 105 (List._∷_ 110 (List._∷_ 103 (List._∷_ 58 (List._∷_ 58 (List._∷_ 70 (List._∷_ 97 (List._∷_ 117 (List._∷_ 108 (List._∷_ 116 List.[]))))))))))))))))))) (Syntax.ttcons Syntax.tnil (Syntax.ttcons Syntax.tnil (Syntax.ttcons Syntax.tnil (Syntax.ttcons Syntax.tnil Syntax.ttnil))))) Syntax.tnil) Syntax.ttnil))))))))))) (Syntax.tcons (Syntax.tyArray (Syntax.tyInt Syntax.w8) 32) (Syntax.tcons (Syntax.tyInt Syntax.w64) Syntax.tnil))))))) (List._∷_ (7, Rows.any-gone (Syntax.tyInt Syntax.w64)) (List._∷_ (8, Rows.sc-here (Row.sInt Syntax.w64)) (List._∷_ (9, Rows.whole (Declared.row Turn.the-type)) (List._∷_ (10, Rows.any-gone (Syntax.tyStruct (List._∷_ 116 (List._∷_ 101 (List._∷_ 120 (List._∷_ 116 (List._∷_ 95 (List._∷_ 114 (List._∷_ 101 (List._∷_ 97 (List._∷_ 100 (List._∷_ 105 (List._∷_ 110 (List._∷_ 103 (List._∷_ 58 (List._∷_ 58 (List._∷_ 82 (List._∷_ 101 (List._∷_ 97 (List._∷_ 100 (List._∷_ 101 (List._∷_ 114 List.[])))))))))))))))))))) (Syntax.tcons (Syntax.tyInt Syntax.w8) (Syntax.tcons (Syntax.tyInt Syntax.w64) (Syntax.tcons (Syntax.tyEnum (List._∷_ 116 (List._∷_ 101 (List._∷_ 120 (List._∷_ 116 (List._∷_ 95 (List._∷_ 114 (List._∷_ 101 (List._∷_ 97 (List._∷_ 100 (List._∷_ 105 (List._∷_ 110 (List._∷_ 103 (List._∷_ 58 (List._∷_ 58 (List._∷_ 72 (List._∷_ 101 (List._∷_ 108 (List._∷_ 100 List.[])))))))))))))))))) (Syntax.ttcons Syntax.tnil (Syntax.ttcons Syntax.tnil (Syntax.ttcons (Syntax.tcons (Syntax.tyInt Syntax.w8) Syntax.tnil) (Syntax.ttcons Syntax.tnil (Syntax.ttcons (Syntax.tcons (Syntax.tyInt Syntax.w8) Syntax.tnil) (Syntax.ttcons (Syntax.tcons (Syntax.tyInt Syntax.w8) Syntax.tnil) (Syntax.ttcons Syntax.tnil (Syntax.ttcons (Syntax.tcons (Syntax.tyInt Syntax.w8) Syntax.tnil) (Syntax.ttcons Syntax.tnil (Syntax.ttcons (Syntax.tcons (Syntax.tyEnum (List._∷_ 116 (List._∷_ 101 (List._∷_ 120 (List._∷_ 116 (List._∷_ 95 (List._∷_ 114 (List._∷_ 101 (List._∷_ 97 (List._∷_ 100 (List._∷_ 105 (List._∷_ 110 (List._∷_ 103 (List._∷_ 58 (List._∷_ 58 (List._∷_ 70 (List._∷_ 97 (List._∷_ 117 (List._∷_ 108 (List._∷_ 116 List.[]))))))))))))))))))) (Syntax.ttcons Syntax.tnil (Syntax.ttcons Syntax.tnil (Syntax.ttcons Syntax.tnil (Syntax.ttcons Syntax.tnil Syntax.ttnil))))) Syntax.tnil) Syntax.ttnil))))))))))) (Syntax.tcons (Syntax.tyArray (Syntax.tyInt Syntax.w8) 32) (Syntax.tcons (Syntax.tyInt Syntax.w64) Syntax.tnil))))))) (List._∷_ (11, Rows.any-gone Syntax.tyBool) (List._∷_ (12, Rows.any-gone (Syntax.tyRef Syntax.erased Syntax.mut OfOutput.named)) (List._∷_ (13, Rows.any-gone (Syntax.tyStruct (List._∷_ 38 (List._∷_ 91 (List._∷_ 93 List.[]))) (Syntax.tcons (Syntax.tyRef Syntax.erased Syntax.mut OfOutput.named) (Syntax.tcons (Syntax.tyInt Syntax.w64) Syntax.tnil)))) (List._∷_ (14, Rows.any-gone (Syntax.tyRef Syntax.erased Syntax.mut OfStation.named)) (List._∷_ (15, Rows.any-gone (Syntax.tyStruct (List._∷_ 38 (List._∷_ 91 (List._∷_ 93 List.[]))) (Syntax.tcons (Syntax.tyRef Syntax.erased Syntax.mut OfStation.named) (Syntax.tcons (Syntax.tyInt Syntax.w64) Syntax.tnil)))) List.[])))))))))))))))
 
 abbrev pub t30 : List.List Row.Entry
-t30 = List._∷_ (0, Rows.any-gone (Laws.mir)) (List._∷_ (1, Mut.mslice (OfOutput.row) (Syntax.tyRef (Syntax.named 0) Syntax.mut OfOutput.named) 0) (List._∷_ (2, Mut.mslice (OfStation.row) (Syntax.tyRef (Syntax.named 1) Syntax.mut OfStation.named) 1) (List._∷_ (3, Rows.mref (Referent.rtF (Referent.fInt Syntax.w64)) (Syntax.tyRef (Syntax.named 2) Syntax.mut (Syntax.tyInt Syntax.w64)) 2) (List._∷_ (4, Mut.mslice (Referent.rtF (Referent.fInt Syntax.w8)) (Syntax.tyRef (Syntax.named 3) Syntax.mut (Syntax.tyInt Syntax.w8)) 3) (List._∷_ (5, Mut.mslice (Referent.rtF (Referent.fInt Syntax.w8)) (Syntax.tyRef (Syntax.named 4) Syntax.mut (Syntax.tyInt Syntax.w8)) 4) (List._∷_ (6, Rows.any-gone (Syntax.tyStruct (List._∷_ 116 (List._∷_ 101 (List._∷_ 120 (List._∷_ 116 (List._∷_ 95 (List._∷_ 114 (List._∷_ 101 (List._∷_ 97 (List._∷_ 100 (List._∷_ 105 (List._∷_ 110 (List._∷_ 103 (List._∷_ 58 (List._∷_ 58 (List._∷_ 82 (List._∷_ 101 (List._∷_ 97 (List._∷_ 100 (List._∷_ 101 (List._∷_ 114 List.[])))))))))))))))))))) (Syntax.tcons (Syntax.tyInt Syntax.w8) (Syntax.tcons (Syntax.tyInt Syntax.w64) (Syntax.tcons (Syntax.tyEnum (List._∷_ 116 (List._∷_ 101 (List._∷_ 120 (List._∷_ 116 (List._∷_ 95 (List._∷_ 114 (List._∷_ 101 (List._∷_ 97 (List._∷_ 100 (List._∷_ 105 (List._∷_ 110 (List._∷_ 103 (List._∷_ 58 (List._∷_ 58 (List._∷_ 72 (List._∷_ 101 (List._∷_ 108 (List._∷_ 100 List.[])))))))))))))))))) (Syntax.ttcons Syntax.tnil (Syntax.ttcons Syntax.tnil (Syntax.ttcons (Syntax.tcons (Syntax.tyInt Syntax.w8) Syntax.tnil) (Syntax.ttcons Syntax.tnil (Syntax.ttcons (Syntax.tcons (Syntax.tyInt Syntax.w8) Syntax.tnil) (Syntax.ttcons (Syntax.tcons (Syntax.tyInt Syntax.w8) Syntax.tnil) (Syntax.ttcons Syntax.tnil (Syntax.ttcons (Syntax.tcons (Syntax.tyInt Syntax.w8) Syntax.tnil) (Syntax.ttcons Syntax.tnil (Syntax.ttcons (Syntax.tcons (Syntax.tyEnum (List._∷_ 116 (List._∷_ 101 (List._∷_ 120 (List._∷_ 116 (List._∷_ 95 (List._∷_ 114 (List._∷_ 101 (List._∷_ 97 (List._∷_ 100 (List._∷_ 105 (List._∷_ 110 (List._∷_ 103 (List._∷_ 58 (List._∷_ 58 (List._∷_ 70 (List._∷_ 97 (List._∷_ 117 (List._∷_ 108 (List._∷_ 116 List.[]))))))))))))))))))) (Syntax.ttcons Syntax.tnil (Syntax.ttcons Syntax.tnil (Syntax.ttcons Syntax.tnil (Syntax.ttcons Syntax.tnil Syntax.ttnil))))) Syntax.tnil) Syntax.ttnil))))))))))) (Syntax.tcons (Syntax.tyArray (Syntax.tyInt Syntax.w8) 32) (Syntax.tcons (Syntax.tyInt Syntax.w64) Syntax.tnil))))))) (List._∷_ (7, Rows.any-gone (Syntax.tyInt Syntax.w64)) (List._∷_ (8, Rows.sc-here (Row.sInt Syntax.w64)) (List._∷_ (9, Rows.whole (Declared.row Turn.the-type)) (List._∷_ (10, Rows.whole (Declared.row Reader.the-type)) (List._∷_ (11, Rows.any-gone Syntax.tyBool) (List._∷_ (12, Rows.any-gone (Syntax.tyRef Syntax.erased Syntax.mut OfOutput.named)) (List._∷_ (13, Rows.any-gone (Syntax.tyStruct (List._∷_ 38 (List._∷_ 91 (List._∷_ 93 List.[]))) (Syntax.tcons (Syntax.tyRef Syntax.erased Syntax.mut OfOutput.named) (Syntax.tcons (Syntax.tyInt Syntax.w64) Syntax.tnil)))) (List._∷_ (14, Rows.any-gone (Syntax.tyRef Syntax.erased Syntax.mut OfStation.named)) (List._∷_ (15, Rows.any-gone (Syntax.tyStruct (List._∷_ 38 (List._∷_ 91 (List._∷_ 93 List.[]))) (Syntax.tcons (Syntax.tyRef Syntax.erased Syntax.mut OfStation.named) (Syntax.tcons (Syntax.tyInt Syntax.w64) Syntax.tnil)))) List.[])))))))))))))))
+t30 = List._∷_ (0, Rows.any-gone (Laws.mir)) (List._∷_ (1, Mut.mslice (OfOutput.row) (Syntax.tyRef (Syntax.named 0) Syntax.mut OfOutput.named) 0) (List._∷_ (2, Mut.mslice (OfStation.row) (Syntax.tyRef (Syntax.named 1) Syntax.mut OfStation.named) 1) (List._∷_ (3, Rows.mref (OfPanelRecord.row) (Syntax.tyRef (Syntax.named 2) Syntax.mut OfPanelRecord.named) 2) (List._∷_ (4, Mut.mslice (Referent.rtF (Referent.fInt Syntax.w8)) (Syntax.tyRef (Syntax.named 3) Syntax.mut (Syntax.tyInt Syntax.w8)) 3) (List._∷_ (5, Mut.mslice (Referent.rtF (Referent.fInt Syntax.w8)) (Syntax.tyRef (Syntax.named 4) Syntax.mut (Syntax.tyInt Syntax.w8)) 4) (List._∷_ (6, Rows.any-gone (Syntax.tyStruct (List._∷_ 116 (List._∷_ 101 (List._∷_ 120 (List._∷_ 116 (List._∷_ 95 (List._∷_ 114 (List._∷_ 101 (List._∷_ 97 (List._∷_ 100 (List._∷_ 105 (List._∷_ 110 (List._∷_ 103 (List._∷_ 58 (List._∷_ 58 (List._∷_ 82 (List._∷_ 101 (List._∷_ 97 (List._∷_ 100 (List._∷_ 101 (List._∷_ 114 List.[])))))))))))))))))))) (Syntax.tcons (Syntax.tyInt Syntax.w8) (Syntax.tcons (Syntax.tyInt Syntax.w64) (Syntax.tcons (Syntax.tyEnum (List._∷_ 116 (List._∷_ 101 (List._∷_ 120 (List._∷_ 116 (List._∷_ 95 (List._∷_ 114 (List._∷_ 101 (List._∷_ 97 (List._∷_ 100 (List._∷_ 105 (List._∷_ 110 (List._∷_ 103 (List._∷_ 58 (List._∷_ 58 (List._∷_ 72 (List._∷_ 101 (List._∷_ 108 (List._∷_ 100 List.[])))))))))))))))))) (Syntax.ttcons Syntax.tnil (Syntax.ttcons Syntax.tnil (Syntax.ttcons (Syntax.tcons (Syntax.tyInt Syntax.w8) Syntax.tnil) (Syntax.ttcons Syntax.tnil (Syntax.ttcons (Syntax.tcons (Syntax.tyInt Syntax.w8) Syntax.tnil) (Syntax.ttcons (Syntax.tcons (Syntax.tyInt Syntax.w8) Syntax.tnil) (Syntax.ttcons Syntax.tnil (Syntax.ttcons (Syntax.tcons (Syntax.tyInt Syntax.w8) Syntax.tnil) (Syntax.ttcons Syntax.tnil (Syntax.ttcons (Syntax.tcons (Syntax.tyEnum (List._∷_ 116 (List._∷_ 101 (List._∷_ 120 (List._∷_ 116 (List._∷_ 95 (List._∷_ 114 (List._∷_ 101 (List._∷_ 97 (List._∷_ 100 (List._∷_ 105 (List._∷_ 110 (List._∷_ 103 (List._∷_ 58 (List._∷_ 58 (List._∷_ 70 (List._∷_ 97 (List._∷_ 117 (List._∷_ 108 (List._∷_ 116 List.[]))))))))))))))))))) (Syntax.ttcons Syntax.tnil (Syntax.ttcons Syntax.tnil (Syntax.ttcons Syntax.tnil (Syntax.ttcons Syntax.tnil Syntax.ttnil))))) Syntax.tnil) Syntax.ttnil))))))))))) (Syntax.tcons (Syntax.tyArray (Syntax.tyInt Syntax.w8) 32) (Syntax.tcons (Syntax.tyInt Syntax.w64) Syntax.tnil))))))) (List._∷_ (7, Rows.any-gone (Syntax.tyInt Syntax.w64)) (List._∷_ (8, Rows.sc-here (Row.sInt Syntax.w64)) (List._∷_ (9, Rows.whole (Declared.row Turn.the-type)) (List._∷_ (10, Rows.whole (Declared.row Reader.the-type)) (List._∷_ (11, Rows.any-gone Syntax.tyBool) (List._∷_ (12, Rows.any-gone (Syntax.tyRef Syntax.erased Syntax.mut OfOutput.named)) (List._∷_ (13, Rows.any-gone (Syntax.tyStruct (List._∷_ 38 (List._∷_ 91 (List._∷_ 93 List.[]))) (Syntax.tcons (Syntax.tyRef Syntax.erased Syntax.mut OfOutput.named) (Syntax.tcons (Syntax.tyInt Syntax.w64) Syntax.tnil)))) (List._∷_ (14, Rows.any-gone (Syntax.tyRef Syntax.erased Syntax.mut OfStation.named)) (List._∷_ (15, Rows.any-gone (Syntax.tyStruct (List._∷_ 38 (List._∷_ 91 (List._∷_ 93 List.[]))) (Syntax.tcons (Syntax.tyRef Syntax.erased Syntax.mut OfStation.named) (Syntax.tcons (Syntax.tyInt Syntax.w64) Syntax.tnil)))) List.[])))))))))))))))
 
 abbrev pub t31 : List.List Row.Entry
-t31 = List._∷_ (0, Rows.any-gone (Laws.mir)) (List._∷_ (1, Mut.mslice (OfOutput.row) (Syntax.tyRef (Syntax.named 0) Syntax.mut OfOutput.named) 0) (List._∷_ (2, Mut.mslice (OfStation.row) (Syntax.tyRef (Syntax.named 1) Syntax.mut OfStation.named) 1) (List._∷_ (3, Rows.mref (Referent.rtF (Referent.fInt Syntax.w64)) (Syntax.tyRef (Syntax.named 2) Syntax.mut (Syntax.tyInt Syntax.w64)) 2) (List._∷_ (4, Mut.mslice (Referent.rtF (Referent.fInt Syntax.w8)) (Syntax.tyRef (Syntax.named 3) Syntax.mut (Syntax.tyInt Syntax.w8)) 3) (List._∷_ (5, Mut.mslice (Referent.rtF (Referent.fInt Syntax.w8)) (Syntax.tyRef (Syntax.named 4) Syntax.mut (Syntax.tyInt Syntax.w8)) 4) (List._∷_ (6, Rows.whole (Declared.row Reader.the-type)) (List._∷_ (7, Rows.any-gone (Syntax.tyInt Syntax.w64)) (List._∷_ (8, Rows.sc-here (Row.sInt Syntax.w64)) (List._∷_ (9, Rows.whole (Declared.row Turn.the-type)) (List._∷_ (10, Rows.whole (Declared.row Reader.the-type)) (List._∷_ (11, Rows.any-gone Syntax.tyBool) (List._∷_ (12, Rows.any-gone (Syntax.tyRef Syntax.erased Syntax.mut OfOutput.named)) (List._∷_ (13, Rows.any-gone (Syntax.tyStruct (List._∷_ 38 (List._∷_ 91 (List._∷_ 93 List.[]))) (Syntax.tcons (Syntax.tyRef Syntax.erased Syntax.mut OfOutput.named) (Syntax.tcons (Syntax.tyInt Syntax.w64) Syntax.tnil)))) (List._∷_ (14, Rows.any-gone (Syntax.tyRef Syntax.erased Syntax.mut OfStation.named)) (List._∷_ (15, Rows.any-gone (Syntax.tyStruct (List._∷_ 38 (List._∷_ 91 (List._∷_ 93 List.[]))) (Syntax.tcons (Syntax.tyRef Syntax.erased Syntax.mut OfStation.named) (Syntax.tcons (Syntax.tyInt Syntax.w64) Syntax.tnil)))) List.[])))))))))))))))
+t31 = List._∷_ (0, Rows.any-gone (Laws.mir)) (List._∷_ (1, Mut.mslice (OfOutput.row) (Syntax.tyRef (Syntax.named 0) Syntax.mut OfOutput.named) 0) (List._∷_ (2, Mut.mslice (OfStation.row) (Syntax.tyRef (Syntax.named 1) Syntax.mut OfStation.named) 1) (List._∷_ (3, Rows.mref (OfPanelRecord.row) (Syntax.tyRef (Syntax.named 2) Syntax.mut OfPanelRecord.named) 2) (List._∷_ (4, Mut.mslice (Referent.rtF (Referent.fInt Syntax.w8)) (Syntax.tyRef (Syntax.named 3) Syntax.mut (Syntax.tyInt Syntax.w8)) 3) (List._∷_ (5, Mut.mslice (Referent.rtF (Referent.fInt Syntax.w8)) (Syntax.tyRef (Syntax.named 4) Syntax.mut (Syntax.tyInt Syntax.w8)) 4) (List._∷_ (6, Rows.whole (Declared.row Reader.the-type)) (List._∷_ (7, Rows.any-gone (Syntax.tyInt Syntax.w64)) (List._∷_ (8, Rows.sc-here (Row.sInt Syntax.w64)) (List._∷_ (9, Rows.whole (Declared.row Turn.the-type)) (List._∷_ (10, Rows.whole (Declared.row Reader.the-type)) (List._∷_ (11, Rows.any-gone Syntax.tyBool) (List._∷_ (12, Rows.any-gone (Syntax.tyRef Syntax.erased Syntax.mut OfOutput.named)) (List._∷_ (13, Rows.any-gone (Syntax.tyStruct (List._∷_ 38 (List._∷_ 91 (List._∷_ 93 List.[]))) (Syntax.tcons (Syntax.tyRef Syntax.erased Syntax.mut OfOutput.named) (Syntax.tcons (Syntax.tyInt Syntax.w64) Syntax.tnil)))) (List._∷_ (14, Rows.any-gone (Syntax.tyRef Syntax.erased Syntax.mut OfStation.named)) (List._∷_ (15, Rows.any-gone (Syntax.tyStruct (List._∷_ 38 (List._∷_ 91 (List._∷_ 93 List.[]))) (Syntax.tcons (Syntax.tyRef Syntax.erased Syntax.mut OfStation.named) (Syntax.tcons (Syntax.tyInt Syntax.w64) Syntax.tnil)))) List.[])))))))))))))))
 
 abbrev pub t32 : List.List Row.Entry
-t32 = List._∷_ (0, Rows.any-gone (Laws.mir)) (List._∷_ (1, Mut.mslice (OfOutput.row) (Syntax.tyRef (Syntax.named 0) Syntax.mut OfOutput.named) 0) (List._∷_ (2, Mut.mslice (OfStation.row) (Syntax.tyRef (Syntax.named 1) Syntax.mut OfStation.named) 1) (List._∷_ (3, Rows.mref (Referent.rtF (Referent.fInt Syntax.w64)) (Syntax.tyRef (Syntax.named 2) Syntax.mut (Syntax.tyInt Syntax.w64)) 2) (List._∷_ (4, Mut.mslice (Referent.rtF (Referent.fInt Syntax.w8)) (Syntax.tyRef (Syntax.named 3) Syntax.mut (Syntax.tyInt Syntax.w8)) 3) (List._∷_ (5, Mut.mslice (Referent.rtF (Referent.fInt Syntax.w8)) (Syntax.tyRef (Syntax.named 4) Syntax.mut (Syntax.tyInt Syntax.w8)) 4) (List._∷_ (6, Rows.whole (Declared.row Reader.the-type)) (List._∷_ (7, Rows.any-gone (Syntax.tyInt Syntax.w64)) (List._∷_ (8, Rows.sc-here (Row.sInt Syntax.w64)) (List._∷_ (9, Rows.whole (Declared.row Turn.the-type)) (List._∷_ (10, Rows.any-gone (Syntax.tyStruct (List._∷_ 116 (List._∷_ 101 (List._∷_ 120 (List._∷_ 116 (List._∷_ 95 (List._∷_ 114 (List._∷_ 101 (List._∷_ 97 (List._∷_ 100 (List._∷_ 105 (List._∷_ 110 (List._∷_ 103 (List._∷_ 58 (List._∷_ 58 (List._∷_ 82 (List._∷_ 101 (List._∷_ 97 (List._∷_ 100 (List._∷_ 101 (List._∷_ 114 List.[])))))))))))))))))))) (Syntax.tcons (Syntax.tyInt Syntax.w8) (Syntax.tcons (Syntax.tyInt Syntax.w64) (Syntax.tcons (Syntax.tyEnum (List._∷_ 116 (List._∷_ 101 (List._∷_ 120 (List._∷_ 116 (List._∷_ 95 (List._∷_ 114 (List._∷_ 101 (List._∷_ 97 (List._∷_ 100 (List._∷_ 105 (List._∷_ 110 (List._∷_ 103 (List._∷_ 58 (List._∷_ 58 (List._∷_ 72 (List._∷_ 101 (List._∷_ 108 (List._∷_ 100 List.[])))))))))))))))))) (Syntax.ttcons Syntax.tnil (Syntax.ttcons Syntax.tnil (Syntax.ttcons (Syntax.tcons (Syntax.tyInt Syntax.w8) Syntax.tnil) (Syntax.ttcons Syntax.tnil (Syntax.ttcons (Syntax.tcons (Syntax.tyInt Syntax.w8) Syntax.tnil) (Syntax.ttcons (Syntax.tcons (Syntax.tyInt Syntax.w8) Syntax.tnil) (Syntax.ttcons Syntax.tnil (Syntax.ttcons (Syntax.tcons (Syntax.tyInt Syntax.w8) Syntax.tnil) (Syntax.ttcons Syntax.tnil (Syntax.ttcons (Syntax.tcons (Syntax.tyEnum (List._∷_ 116 (List._∷_ 101 (List._∷_ 120 (List._∷_ 116 (List._∷_ 95 (List._∷_ 114 (List._∷_ 101 (List._∷_ 97 (List._∷_ 100 (List._∷_ 105 (List._∷_ 110 (List._∷_ 103 (List._∷_ 58 (List._∷_ 58 (List._∷_ 70 (List._∷_ 97 (List._∷_ 117 (List._∷_ 108 (List._∷_ 116 List.[]))))))))))))))))))) (Syntax.ttcons Syntax.tnil (Syntax.ttcons Syntax.tnil (Syntax.ttcons Syntax.tnil (Syntax.ttcons Syntax.tnil Syntax.ttnil))))) Syntax.tnil) Syntax.ttnil))))))))))) (Syntax.tcons (Syntax.tyArray (Syntax.tyInt Syntax.w8) 32) (Syntax.tcons (Syntax.tyInt Syntax.w64) Syntax.tnil))))))) (List._∷_ (11, Rows.any-gone Syntax.tyBool) (List._∷_ (12, Rows.any-gone (Syntax.tyRef Syntax.erased Syntax.mut OfOutput.named)) (List._∷_ (13, Rows.any-gone (Syntax.tyStruct (List._∷_ 38 (List._∷_ 91 (List._∷_ 93 List.[]))) (Syntax.tcons (Syntax.tyRef Syntax.erased Syntax.mut OfOutput.named) (Syntax.tcons (Syntax.tyInt Syntax.w64) Syntax.tnil)))) (List._∷_ (14, Rows.any-gone (Syntax.tyRef Syntax.erased Syntax.mut OfStation.named)) (List._∷_ (15, Rows.any-gone (Syntax.tyStruct (List._∷_ 38 (List._∷_ 91 (List._∷_ 93 List.[]))) (Syntax.tcons (Syntax.tyRef Syntax.erased Syntax.mut OfStation.named) (Syntax.tcons (Syntax.tyInt Syntax.w64) Syntax.tnil)))) List.[])))))))))))))))
+t32 = List._∷_ (0, Rows.any-gone (Laws.mir)) (List._∷_ (1, Mut.mslice (OfOutput.row) (Syntax.tyRef (Syntax.named 0) Syntax.mut OfOutput.named) 0) (List._∷_ (2, Mut.mslice (OfStation.row) (Syntax.tyRef (Syntax.named 1) Syntax.mut OfStation.named) 1) (List._∷_ (3, Rows.mref (OfPanelRecord.row) (Syntax.tyRef (Syntax.named 2) Syntax.mut OfPanelRecord.named) 2) (List._∷_ (4, Mut.mslice (Referent.rtF (Referent.fInt Syntax.w8)) (Syntax.tyRef (Syntax.named 3) Syntax.mut (Syntax.tyInt Syntax.w8)) 3) (List._∷_ (5, Mut.mslice (Referent.rtF (Referent.fInt Syntax.w8)) (Syntax.tyRef (Syntax.named 4) Syntax.mut (Syntax.tyInt Syntax.w8)) 4) (List._∷_ (6, Rows.whole (Declared.row Reader.the-type)) (List._∷_ (7, Rows.any-gone (Syntax.tyInt Syntax.w64)) (List._∷_ (8, Rows.sc-here (Row.sInt Syntax.w64)) (List._∷_ (9, Rows.whole (Declared.row Turn.the-type)) (List._∷_ (10, Rows.any-gone (Syntax.tyStruct (List._∷_ 116 (List._∷_ 101 (List._∷_ 120 (List._∷_ 116 (List._∷_ 95 (List._∷_ 114 (List._∷_ 101 (List._∷_ 97 (List._∷_ 100 (List._∷_ 105 (List._∷_ 110 (List._∷_ 103 (List._∷_ 58 (List._∷_ 58 (List._∷_ 82 (List._∷_ 101 (List._∷_ 97 (List._∷_ 100 (List._∷_ 101 (List._∷_ 114 List.[])))))))))))))))))))) (Syntax.tcons (Syntax.tyInt Syntax.w8) (Syntax.tcons (Syntax.tyInt Syntax.w64) (Syntax.tcons (Syntax.tyEnum (List._∷_ 116 (List._∷_ 101 (List._∷_ 120 (List._∷_ 116 (List._∷_ 95 (List._∷_ 114 (List._∷_ 101 (List._∷_ 97 (List._∷_ 100 (List._∷_ 105 (List._∷_ 110 (List._∷_ 103 (List._∷_ 58 (List._∷_ 58 (List._∷_ 72 (List._∷_ 101 (List._∷_ 108 (List._∷_ 100 List.[])))))))))))))))))) (Syntax.ttcons Syntax.tnil (Syntax.ttcons Syntax.tnil (Syntax.ttcons (Syntax.tcons (Syntax.tyInt Syntax.w8) Syntax.tnil) (Syntax.ttcons Syntax.tnil (Syntax.ttcons (Syntax.tcons (Syntax.tyInt Syntax.w8) Syntax.tnil) (Syntax.ttcons (Syntax.tcons (Syntax.tyInt Syntax.w8) Syntax.tnil) (Syntax.ttcons Syntax.tnil (Syntax.ttcons (Syntax.tcons (Syntax.tyInt Syntax.w8) Syntax.tnil) (Syntax.ttcons Syntax.tnil (Syntax.ttcons (Syntax.tcons (Syntax.tyEnum (List._∷_ 116 (List._∷_ 101 (List._∷_ 120 (List._∷_ 116 (List._∷_ 95 (List._∷_ 114 (List._∷_ 101 (List._∷_ 97 (List._∷_ 100 (List._∷_ 105 (List._∷_ 110 (List._∷_ 103 (List._∷_ 58 (List._∷_ 58 (List._∷_ 70 (List._∷_ 97 (List._∷_ 117 (List._∷_ 108 (List._∷_ 116 List.[]))))))))))))))))))) (Syntax.ttcons Syntax.tnil (Syntax.ttcons Syntax.tnil (Syntax.ttcons Syntax.tnil (Syntax.ttcons Syntax.tnil Syntax.ttnil))))) Syntax.tnil) Syntax.ttnil))))))))))) (Syntax.tcons (Syntax.tyArray (Syntax.tyInt Syntax.w8) 32) (Syntax.tcons (Syntax.tyInt Syntax.w64) Syntax.tnil))))))) (List._∷_ (11, Rows.any-gone Syntax.tyBool) (List._∷_ (12, Rows.any-gone (Syntax.tyRef Syntax.erased Syntax.mut OfOutput.named)) (List._∷_ (13, Rows.any-gone (Syntax.tyStruct (List._∷_ 38 (List._∷_ 91 (List._∷_ 93 List.[]))) (Syntax.tcons (Syntax.tyRef Syntax.erased Syntax.mut OfOutput.named) (Syntax.tcons (Syntax.tyInt Syntax.w64) Syntax.tnil)))) (List._∷_ (14, Rows.any-gone (Syntax.tyRef Syntax.erased Syntax.mut OfStation.named)) (List._∷_ (15, Rows.any-gone (Syntax.tyStruct (List._∷_ 38 (List._∷_ 91 (List._∷_ 93 List.[]))) (Syntax.tcons (Syntax.tyRef Syntax.erased Syntax.mut OfStation.named) (Syntax.tcons (Syntax.tyInt Syntax.w64) Syntax.tnil)))) List.[])))))))))))))))
 
 abbrev pub t33 : List.List Row.Entry
-t33 = List._∷_ (0, Rows.any-gone (Laws.mir)) (List._∷_ (1, Mut.mslice (OfOutput.row) (Syntax.tyRef (Syntax.named 0) Syntax.mut OfOutput.named) 0) (List._∷_ (2, Mut.mslice (OfStation.row) (Syntax.tyRef (Syntax.named 1) Syntax.mut OfStation.named) 1) (List._∷_ (3, Rows.mref (Referent.rtF (Referent.fInt Syntax.w64)) (Syntax.tyRef (Syntax.named 2) Syntax.mut (Syntax.tyInt Syntax.w64)) 2) (List._∷_ (4, Mut.mslice (Referent.rtF (Referent.fInt Syntax.w8)) (Syntax.tyRef (Syntax.named 3) Syntax.mut (Syntax.tyInt Syntax.w8)) 3) (List._∷_ (5, Mut.mslice (Referent.rtF (Referent.fInt Syntax.w8)) (Syntax.tyRef (Syntax.named 4) Syntax.mut (Syntax.tyInt Syntax.w8)) 4) (List._∷_ (6, Rows.whole (Declared.row Reader.the-type)) (List._∷_ (7, Rows.sc-here (Row.sInt Syntax.w64)) (List._∷_ (8, Rows.sc-here (Row.sInt Syntax.w64)) (List._∷_ (9, Rows.whole (Declared.row Turn.the-type)) (List._∷_ (10, Rows.any-gone (Syntax.tyStruct (List._∷_ 116 (List._∷_ 101 (List._∷_ 120 (List._∷_ 116 (List._∷_ 95 (List._∷_ 114 (List._∷_ 101 (List._∷_ 97 (List._∷_ 100 (List._∷_ 105 (List._∷_ 110 (List._∷_ 103 (List._∷_ 58 (List._∷_ 58 (List._∷_ 82 (List._∷_ 101 (List._∷_ 97 (List._∷_ 100 (List._∷_ 101 (List._∷_ 114 List.[])))))))))))))))))))) (Syntax.tcons (Syntax.tyInt Syntax.w8) (Syntax.tcons (Syntax.tyInt Syntax.w64) (Syntax.tcons (Syntax.tyEnum (List._∷_ 116 (List._∷_ 101 (List._∷_ 120 (List._∷_ 116 (List._∷_ 95 (List._∷_ 114 (List._∷_ 101 (List._∷_ 97 (List._∷_ 100 (List._∷_ 105 (List._∷_ 110 (List._∷_ 103 (List._∷_ 58 (List._∷_ 58 (List._∷_ 72 (List._∷_ 101 (List._∷_ 108 (List._∷_ 100 List.[])))))))))))))))))) (Syntax.ttcons Syntax.tnil (Syntax.ttcons Syntax.tnil (Syntax.ttcons (Syntax.tcons (Syntax.tyInt Syntax.w8) Syntax.tnil) (Syntax.ttcons Syntax.tnil (Syntax.ttcons (Syntax.tcons (Syntax.tyInt Syntax.w8) Syntax.tnil) (Syntax.ttcons (Syntax.tcons (Syntax.tyInt Syntax.w8) Syntax.tnil) (Syntax.ttcons Syntax.tnil (Syntax.ttcons (Syntax.tcons (Syntax.tyInt Syntax.w8) Syntax.tnil) (Syntax.ttcons Syntax.tnil (Syntax.ttcons (Syntax.tcons (Syntax.tyEnum (List._∷_ 116 (List._∷_ 101 (List._∷_ 120 (List._∷_ 116 (List._∷_ 95 (List._∷_ 114 (List._∷_ 101 (List._∷_ 97 (List._∷_ 100 (List._∷_ 105 (List._∷_ 110 (List._∷_ 103 (List._∷_ 58 (List._∷_ 58 (List._∷_ 70 (List._∷_ 97 (List._∷_ 117 (List._∷_ 108 (List._∷_ 116 List.[]))))))))))))))))))) (Syntax.ttcons Syntax.tnil (Syntax.ttcons Syntax.tnil (Syntax.ttcons Syntax.tnil (Syntax.ttcons Syntax.tnil Syntax.ttnil))))) Syntax.tnil) Syntax.ttnil))))))))))) (Syntax.tcons (Syntax.tyArray (Syntax.tyInt Syntax.w8) 32) (Syntax.tcons (Syntax.tyInt Syntax.w64) Syntax.tnil))))))) (List._∷_ (11, Rows.any-gone Syntax.tyBool) (List._∷_ (12, Rows.any-gone (Syntax.tyRef Syntax.erased Syntax.mut OfOutput.named)) (List._∷_ (13, Rows.any-gone (Syntax.tyStruct (List._∷_ 38 (List._∷_ 91 (List._∷_ 93 List.[]))) (Syntax.tcons (Syntax.tyRef Syntax.erased Syntax.mut OfOutput.named) (Syntax.tcons (Syntax.tyInt Syntax.w64) Syntax.tnil)))) (List._∷_ (14, Rows.any-gone (Syntax.tyRef Syntax.erased Syntax.mut OfStation.named)) (List._∷_ (15, Rows.any-gone (Syntax.tyStruct (List._∷_ 38 (List._∷_ 91 (List._∷_ 93 List.[]))) (Syntax.tcons (Syntax.tyRef Syntax.erased Syntax.mut OfStation.named) (Syntax.tcons (Syntax.tyInt Syntax.w64) Syntax.tnil)))) List.[])))))))))))))))
+t33 = List._∷_ (0, Rows.any-gone (Laws.mir)) (List._∷_ (1, Mut.mslice (OfOutput.row) (Syntax.tyRef (Syntax.named 0) Syntax.mut OfOutput.named) 0) (List._∷_ (2, Mut.mslice (OfStation.row) (Syntax.tyRef (Syntax.named 1) Syntax.mut OfStation.named) 1) (List._∷_ (3, Rows.mref (OfPanelRecord.row) (Syntax.tyRef (Syntax.named 2) Syntax.mut OfPanelRecord.named) 2) (List._∷_ (4, Mut.mslice (Referent.rtF (Referent.fInt Syntax.w8)) (Syntax.tyRef (Syntax.named 3) Syntax.mut (Syntax.tyInt Syntax.w8)) 3) (List._∷_ (5, Mut.mslice (Referent.rtF (Referent.fInt Syntax.w8)) (Syntax.tyRef (Syntax.named 4) Syntax.mut (Syntax.tyInt Syntax.w8)) 4) (List._∷_ (6, Rows.whole (Declared.row Reader.the-type)) (List._∷_ (7, Rows.sc-here (Row.sInt Syntax.w64)) (List._∷_ (8, Rows.sc-here (Row.sInt Syntax.w64)) (List._∷_ (9, Rows.whole (Declared.row Turn.the-type)) (List._∷_ (10, Rows.any-gone (Syntax.tyStruct (List._∷_ 116 (List._∷_ 101 (List._∷_ 120 (List._∷_ 116 (List._∷_ 95 (List._∷_ 114 (List._∷_ 101 (List._∷_ 97 (List._∷_ 100 (List._∷_ 105 (List._∷_ 110 (List._∷_ 103 (List._∷_ 58 (List._∷_ 58 (List._∷_ 82 (List._∷_ 101 (List._∷_ 97 (List._∷_ 100 (List._∷_ 101 (List._∷_ 114 List.[])))))))))))))))))))) (Syntax.tcons (Syntax.tyInt Syntax.w8) (Syntax.tcons (Syntax.tyInt Syntax.w64) (Syntax.tcons (Syntax.tyEnum (List._∷_ 116 (List._∷_ 101 (List._∷_ 120 (List._∷_ 116 (List._∷_ 95 (List._∷_ 114 (List._∷_ 101 (List._∷_ 97 (List._∷_ 100 (List._∷_ 105 (List._∷_ 110 (List._∷_ 103 (List._∷_ 58 (List._∷_ 58 (List._∷_ 72 (List._∷_ 101 (List._∷_ 108 (List._∷_ 100 List.[])))))))))))))))))) (Syntax.ttcons Syntax.tnil (Syntax.ttcons Syntax.tnil (Syntax.ttcons (Syntax.tcons (Syntax.tyInt Syntax.w8) Syntax.tnil) (Syntax.ttcons Syntax.tnil (Syntax.ttcons (Syntax.tcons (Syntax.tyInt Syntax.w8) Syntax.tnil) (Syntax.ttcons (Syntax.tcons (Syntax.tyInt Syntax.w8) Syntax.tnil) (Syntax.ttcons Syntax.tnil (Syntax.ttcons (Syntax.tcons (Syntax.tyInt Syntax.w8) Syntax.tnil) (Syntax.ttcons Syntax.tnil (Syntax.ttcons (Syntax.tcons (Syntax.tyEnum (List._∷_ 116 (List._∷_ 101 (List._∷_ 120 (List._∷_ 116 (List._∷_ 95 (List._∷_ 114 (List._∷_ 101 (List._∷_ 97 (List._∷_ 100 (List._∷_ 105 (List._∷_ 110 (List._∷_ 103 (List._∷_ 58 (List._∷_ 58 (List._∷_ 70 (List._∷_ 97 (List._∷_ 117 (List._∷_ 108 (List._∷_ 116 List.[]))))))))))))))))))) (Syntax.ttcons Syntax.tnil (Syntax.ttcons Syntax.tnil (Syntax.ttcons Syntax.tnil (Syntax.ttcons Syntax.tnil Syntax.ttnil))))) Syntax.tnil) Syntax.ttnil))))))))))) (Syntax.tcons (Syntax.tyArray (Syntax.tyInt Syntax.w8) 32) (Syntax.tcons (Syntax.tyInt Syntax.w64) Syntax.tnil))))))) (List._∷_ (11, Rows.any-gone Syntax.tyBool) (List._∷_ (12, Rows.any-gone (Syntax.tyRef Syntax.erased Syntax.mut OfOutput.named)) (List._∷_ (13, Rows.any-gone (Syntax.tyStruct (List._∷_ 38 (List._∷_ 91 (List._∷_ 93 List.[]))) (Syntax.tcons (Syntax.tyRef Syntax.erased Syntax.mut OfOutput.named) (Syntax.tcons (Syntax.tyInt Syntax.w64) Syntax.tnil)))) (List._∷_ (14, Rows.any-gone (Syntax.tyRef Syntax.erased Syntax.mut OfStation.named)) (List._∷_ (15, Rows.any-gone (Syntax.tyStruct (List._∷_ 38 (List._∷_ 91 (List._∷_ 93 List.[]))) (Syntax.tcons (Syntax.tyRef Syntax.erased Syntax.mut OfStation.named) (Syntax.tcons (Syntax.tyInt Syntax.w64) Syntax.tnil)))) List.[])))))))))))))))
 
 abbrev pub t34 : List.List Row.Entry
-t34 = List._∷_ (0, Rows.any-gone (Laws.mir)) (List._∷_ (1, Mut.mslice (OfOutput.row) (Syntax.tyRef (Syntax.named 0) Syntax.mut OfOutput.named) 0) (List._∷_ (2, Mut.mslice (OfStation.row) (Syntax.tyRef (Syntax.named 1) Syntax.mut OfStation.named) 1) (List._∷_ (3, Rows.mref (Referent.rtF (Referent.fInt Syntax.w64)) (Syntax.tyRef (Syntax.named 2) Syntax.mut (Syntax.tyInt Syntax.w64)) 2) (List._∷_ (4, Mut.mslice (Referent.rtF (Referent.fInt Syntax.w8)) (Syntax.tyRef (Syntax.named 3) Syntax.mut (Syntax.tyInt Syntax.w8)) 3) (List._∷_ (5, Mut.mslice (Referent.rtF (Referent.fInt Syntax.w8)) (Syntax.tyRef (Syntax.named 4) Syntax.mut (Syntax.tyInt Syntax.w8)) 4) (List._∷_ (6, Rows.whole (Declared.row Reader.the-type)) (List._∷_ (7, Rows.sc-here (Row.sInt Syntax.w64)) (List._∷_ (8, Rows.sc-here (Row.sInt Syntax.w64)) (List._∷_ (9, Rows.whole (Declared.row Turn.the-type)) (List._∷_ (10, Rows.any-gone (Syntax.tyStruct (List._∷_ 116 (List._∷_ 101 (List._∷_ 120 (List._∷_ 116 (List._∷_ 95 (List._∷_ 114 (List._∷_ 101 (List._∷_ 97 (List._∷_ 100 (List._∷_ 105 (List._∷_ 110 (List._∷_ 103 (List._∷_ 58 (List._∷_ 58 (List._∷_ 82 (List._∷_ 101 (List._∷_ 97 (List._∷_ 100 (List._∷_ 101 (List._∷_ 114 List.[])))))))))))))))))))) (Syntax.tcons (Syntax.tyInt Syntax.w8) (Syntax.tcons (Syntax.tyInt Syntax.w64) (Syntax.tcons (Syntax.tyEnum (List._∷_ 116 (List._∷_ 101 (List._∷_ 120 (List._∷_ 116 (List._∷_ 95 (List._∷_ 114 (List._∷_ 101 (List._∷_ 97 (List._∷_ 100 (List._∷_ 105 (List._∷_ 110 (List._∷_ 103 (List._∷_ 58 (List._∷_ 58 (List._∷_ 72 (List._∷_ 101 (List._∷_ 108 (List._∷_ 100 List.[])))))))))))))))))) (Syntax.ttcons Syntax.tnil (Syntax.ttcons Syntax.tnil (Syntax.ttcons (Syntax.tcons (Syntax.tyInt Syntax.w8) Syntax.tnil) (Syntax.ttcons Syntax.tnil (Syntax.ttcons (Syntax.tcons (Syntax.tyInt Syntax.w8) Syntax.tnil) (Syntax.ttcons (Syntax.tcons (Syntax.tyInt Syntax.w8) Syntax.tnil) (Syntax.ttcons Syntax.tnil (Syntax.ttcons (Syntax.tcons (Syntax.tyInt Syntax.w8) Syntax.tnil) (Syntax.ttcons Syntax.tnil (Syntax.ttcons (Syntax.tcons (Syntax.tyEnum (List._∷_ 116 (List._∷_ 101 (List._∷_ 120 (List._∷_ 116 (List._∷_ 95 (List._∷_ 114 (List._∷_ 101 (List._∷_ 97 (List._∷_ 100 (List._∷_ 105 (List._∷_ 110 (List._∷_ 103 (List._∷_ 58 (List._∷_ 58 (List._∷_ 70 (List._∷_ 97 (List._∷_ 117 (List._∷_ 108 (List._∷_ 116 List.[]))))))))))))))))))) (Syntax.ttcons Syntax.tnil (Syntax.ttcons Syntax.tnil (Syntax.ttcons Syntax.tnil (Syntax.ttcons Syntax.tnil Syntax.ttnil))))) Syntax.tnil) Syntax.ttnil))))))))))) (Syntax.tcons (Syntax.tyArray (Syntax.tyInt Syntax.w8) 32) (Syntax.tcons (Syntax.tyInt Syntax.w64) Syntax.tnil))))))) (List._∷_ (11, Rows.sc-here Row.sBool) (List._∷_ (12, Rows.any-gone (Syntax.tyRef Syntax.erased Syntax.mut OfOutput.named)) (List._∷_ (13, Rows.any-gone (Syntax.tyStruct (List._∷_ 38 (List._∷_ 91 (List._∷_ 93 List.[]))) (Syntax.tcons (Syntax.tyRef Syntax.erased Syntax.mut OfOutput.named) (Syntax.tcons (Syntax.tyInt Syntax.w64) Syntax.tnil)))) (List._∷_ (14, Rows.any-gone (Syntax.tyRef Syntax.erased Syntax.mut OfStation.named)) (List._∷_ (15, Rows.any-gone (Syntax.tyStruct (List._∷_ 38 (List._∷_ 91 (List._∷_ 93 List.[]))) (Syntax.tcons (Syntax.tyRef Syntax.erased Syntax.mut OfStation.named) (Syntax.tcons (Syntax.tyInt Syntax.w64) Syntax.tnil)))) List.[])))))))))))))))
+t34 = List._∷_ (0, Rows.any-gone (Laws.mir)) (List._∷_ (1, Mut.mslice (OfOutput.row) (Syntax.tyRef (Syntax.named 0) Syntax.mut OfOutput.named) 0) (List._∷_ (2, Mut.mslice (OfStation.row) (Syntax.tyRef (Syntax.named 1) Syntax.mut OfStation.named) 1) (List._∷_ (3, Rows.mref (OfPanelRecord.row) (Syntax.tyRef (Syntax.named 2) Syntax.mut OfPanelRecord.named) 2) (List._∷_ (4, Mut.mslice (Referent.rtF (Referent.fInt Syntax.w8)) (Syntax.tyRef (Syntax.named 3) Syntax.mut (Syntax.tyInt Syntax.w8)) 3) (List._∷_ (5, Mut.mslice (Referent.rtF (Referent.fInt Syntax.w8)) (Syntax.tyRef (Syntax.named 4) Syntax.mut (Syntax.tyInt Syntax.w8)) 4) (List._∷_ (6, Rows.whole (Declared.row Reader.the-type)) (List._∷_ (7, Rows.sc-here (Row.sInt Syntax.w64)) (List._∷_ (8, Rows.sc-here (Row.sInt Syntax.w64)) (List._∷_ (9, Rows.whole (Declared.row Turn.the-type)) (List._∷_ (10, Rows.any-gone (Syntax.tyStruct (List._∷_ 116 (List._∷_ 101 (List._∷_ 120 (List._∷_ 116 (List._∷_ 95 (List._∷_ 114 (List._∷_ 101 (List._∷_ 97 (List._∷_ 100 (List._∷_ 105 (List._∷_ 110 (List._∷_ 103 (List._∷_ 58 (List._∷_ 58 (List._∷_ 82 (List._∷_ 101 (List._∷_ 97 (List._∷_ 100 (List._∷_ 101 (List._∷_ 114 List.[])))))))))))))))))))) (Syntax.tcons (Syntax.tyInt Syntax.w8) (Syntax.tcons (Syntax.tyInt Syntax.w64) (Syntax.tcons (Syntax.tyEnum (List._∷_ 116 (List._∷_ 101 (List._∷_ 120 (List._∷_ 116 (List._∷_ 95 (List._∷_ 114 (List._∷_ 101 (List._∷_ 97 (List._∷_ 100 (List._∷_ 105 (List._∷_ 110 (List._∷_ 103 (List._∷_ 58 (List._∷_ 58 (List._∷_ 72 (List._∷_ 101 (List._∷_ 108 (List._∷_ 100 List.[])))))))))))))))))) (Syntax.ttcons Syntax.tnil (Syntax.ttcons Syntax.tnil (Syntax.ttcons (Syntax.tcons (Syntax.tyInt Syntax.w8) Syntax.tnil) (Syntax.ttcons Syntax.tnil (Syntax.ttcons (Syntax.tcons (Syntax.tyInt Syntax.w8) Syntax.tnil) (Syntax.ttcons (Syntax.tcons (Syntax.tyInt Syntax.w8) Syntax.tnil) (Syntax.ttcons Syntax.tnil (Syntax.ttcons (Syntax.tcons (Syntax.tyInt Syntax.w8) Syntax.tnil) (Syntax.ttcons Syntax.tnil (Syntax.ttcons (Syntax.tcons (Syntax.tyEnum (List._∷_ 116 (List._∷_ 101 (List._∷_ 120 (List._∷_ 116 (List._∷_ 95 (List._∷_ 114 (List._∷_ 101 (List._∷_ 97 (List._∷_ 100 (List._∷_ 105 (List._∷_ 110 (List._∷_ 103 (List._∷_ 58 (List._∷_ 58 (List._∷_ 70 (List._∷_ 97 (List._∷_ 117 (List._∷_ 108 (List._∷_ 116 List.[]))))))))))))))))))) (Syntax.ttcons Syntax.tnil (Syntax.ttcons Syntax.tnil (Syntax.ttcons Syntax.tnil (Syntax.ttcons Syntax.tnil Syntax.ttnil))))) Syntax.tnil) Syntax.ttnil))))))))))) (Syntax.tcons (Syntax.tyArray (Syntax.tyInt Syntax.w8) 32) (Syntax.tcons (Syntax.tyInt Syntax.w64) Syntax.tnil))))))) (List._∷_ (11, Rows.sc-here Row.sBool) (List._∷_ (12, Rows.any-gone (Syntax.tyRef Syntax.erased Syntax.mut OfOutput.named)) (List._∷_ (13, Rows.any-gone (Syntax.tyStruct (List._∷_ 38 (List._∷_ 91 (List._∷_ 93 List.[]))) (Syntax.tcons (Syntax.tyRef Syntax.erased Syntax.mut OfOutput.named) (Syntax.tcons (Syntax.tyInt Syntax.w64) Syntax.tnil)))) (List._∷_ (14, Rows.any-gone (Syntax.tyRef Syntax.erased Syntax.mut OfStation.named)) (List._∷_ (15, Rows.any-gone (Syntax.tyStruct (List._∷_ 38 (List._∷_ 91 (List._∷_ 93 List.[]))) (Syntax.tcons (Syntax.tyRef Syntax.erased Syntax.mut OfStation.named) (Syntax.tcons (Syntax.tyInt Syntax.w64) Syntax.tnil)))) List.[])))))))))))))))
 
 abbrev pub t35 : List.List Row.Entry
-t35 = List._∷_ (0, Rows.any-gone (Laws.mir)) (List._∷_ (1, Mut.mslice (OfOutput.row) (Syntax.tyRef (Syntax.named 0) Syntax.mut OfOutput.named) 0) (List._∷_ (2, Mut.mslice (OfStation.row) (Syntax.tyRef (Syntax.named 1) Syntax.mut OfStation.named) 1) (List._∷_ (3, Rows.mref (Referent.rtF (Referent.fInt Syntax.w64)) (Syntax.tyRef (Syntax.named 2) Syntax.mut (Syntax.tyInt Syntax.w64)) 2) (List._∷_ (4, Mut.mslice (Referent.rtF (Referent.fInt Syntax.w8)) (Syntax.tyRef (Syntax.named 3) Syntax.mut (Syntax.tyInt Syntax.w8)) 3) (List._∷_ (5, Mut.mslice (Referent.rtF (Referent.fInt Syntax.w8)) (Syntax.tyRef (Syntax.named 4) Syntax.mut (Syntax.tyInt Syntax.w8)) 4) (List._∷_ (6, Rows.any-gone (Syntax.tyStruct (List._∷_ 116 (List._∷_ 101 (List._∷_ 120 (List._∷_ 116 (List._∷_ 95 (List._∷_ 114 (List._∷_ 101 (List._∷_ 97 (List._∷_ 100 (List._∷_ 105 (List._∷_ 110 (List._∷_ 103 (List._∷_ 58 (List._∷_ 58 (List._∷_ 82 (List._∷_ 101 (List._∷_ 97 (List._∷_ 100 (List._∷_ 101 (List._∷_ 114 List.[])))))))))))))))))))) (Syntax.tcons (Syntax.tyInt Syntax.w8) (Syntax.tcons (Syntax.tyInt Syntax.w64) (Syntax.tcons (Syntax.tyEnum (List._∷_ 116 (List._∷_ 101 (List._∷_ 120 (List._∷_ 116 (List._∷_ 95 (List._∷_ 114 (List._∷_ 101 (List._∷_ 97 (List._∷_ 100 (List._∷_ 105 (List._∷_ 110 (List._∷_ 103 (List._∷_ 58 (List._∷_ 58 (List._∷_ 72 (List._∷_ 101 (List._∷_ 108 (List._∷_ 100 List.[])))))))))))))))))) (Syntax.ttcons Syntax.tnil (Syntax.ttcons Syntax.tnil (Syntax.ttcons (Syntax.tcons (Syntax.tyInt Syntax.w8) Syntax.tnil) (Syntax.ttcons Syntax.tnil (Syntax.ttcons (Syntax.tcons (Syntax.tyInt Syntax.w8) Syntax.tnil) (Syntax.ttcons (Syntax.tcons (Syntax.tyInt Syntax.w8) Syntax.tnil) (Syntax.ttcons Syntax.tnil (Syntax.ttcons (Syntax.tcons (Syntax.tyInt Syntax.w8) Syntax.tnil) (Syntax.ttcons Syntax.tnil (Syntax.ttcons (Syntax.tcons (Syntax.tyEnum (List._∷_ 116 (List._∷_ 101 (List._∷_ 120 (List._∷_ 116 (List._∷_ 95 (List._∷_ 114 (List._∷_ 101 (List._∷_ 97 (List._∷_ 100 (List._∷_ 105 (List._∷_ 110 (List._∷_ 103 (List._∷_ 58 (List._∷_ 58 (List._∷_ 70 (List._∷_ 97 (List._∷_ 117 (List._∷_ 108 (List._∷_ 116 List.[]))))))))))))))))))) (Syntax.ttcons Syntax.tnil (Syntax.ttcons Syntax.tnil (Syntax.ttcons Syntax.tnil (Syntax.ttcons Syntax.tnil Syntax.ttnil))))) Syntax.tnil) Syntax.ttnil))))))))))) (Syntax.tcons (Syntax.tyArray (Syntax.tyInt Syntax.w8) 32) (Syntax.tcons (Syntax.tyInt Syntax.w64) Syntax.tnil))))))) (List._∷_ (7, Rows.sc-here (Row.sInt Syntax.w64)) (List._∷_ (8, Rows.sc-here (Row.sInt Syntax.w64)) (List._∷_ (9, Rows.whole (Declared.row Turn.the-type)) (List._∷_ (10, Rows.any-gone (Syntax.tyStruct (List._∷_ 116 (List._∷_ 101 (List._∷_ 120 (List._∷_ 116 (List._∷_ 95 (List._∷_ 114 (List._∷_ 101 (List._∷_ 97 (List._∷_ 100 (List._∷_ 105 (List._∷_ 110 (List._∷_ 103 (List._∷_ 58 (List._∷_ 58 (List._∷_ 82 (List._∷_ 101 (List._∷_ 97 (List._∷_ 100 (List._∷_ 101 (List._∷_ 114 List.[])))))))))))))))))))) (Syntax.tcons (Syntax.tyInt Syntax.w8) (Syntax.tcons (Syntax.tyInt Syntax.w64) (Syntax.tcons (Syntax.tyEnum (List._∷_ 116 (List._∷_ 101 (List._∷_ 120 (List._∷_ 116 (List._∷_ 95 (List._∷_ 114 (List._∷_ 101 (List._∷_ 97 (List._∷_ 100 (List._∷_ 105 (List._∷_ 110 (List._∷_ 103 (List._∷_ 58 (List._∷_ 58 (List._∷_ 72 (List._∷_ 101 (List._∷_ 108 (List._∷_ 100 List.[])))))))))))))))))) (Syntax.ttcons Syntax.tnil (Syntax.ttcons Syntax.tnil (Syntax.ttcons (Syntax.tcons (Syntax.tyInt Syntax.w8) Syntax.tnil) (Syntax.ttcons Syntax.tnil (Syntax.ttcons (Syntax.tcons (Syntax.tyInt Syntax.w8) Syntax.tnil) (Syntax.ttcons (Syntax.tcons (Syntax.tyInt Syntax.w8) Syntax.tnil) (Syntax.ttcons Syntax.tnil (Syntax.ttcons (Syntax.tcons (Syntax.tyInt Syntax.w8) Syntax.tnil) (Syntax.ttcons Syntax.tnil (Syntax.ttcons (Syntax.tcons (Syntax.tyEnum (List._∷_ 116 (List._∷_ 101 (List._∷_ 120 (List._∷_ 116 (List._∷_ 95 (List._∷_ 114 (List._∷_ 101 (List._∷_ 97 (List._∷_ 100 (List._∷_ 105 (List._∷_ 110 (List._∷_ 103 (List._∷_ 58 (List._∷_ 58 (List._∷_ 70 (List._∷_ 97 (List._∷_ 117 (List._∷_ 108 (List._∷_ 116 List.[]))))))))))))))))))) (Syntax.ttcons Syntax.tnil (Syntax.ttcons Syntax.tnil (Syntax.ttcons Syntax.tnil (Syntax.ttcons Syntax.tnil Syntax.ttnil))))) Syntax.tnil) Syntax.ttnil))))))))))) (Syntax.tcons (Syntax.tyArray (Syntax.tyInt Syntax.w8) 32) (Syntax.tcons (Syntax.tyInt Syntax.w64) Syntax.tnil))))))) (List._∷_ (11, Rows.sc-here Row.sBool) (List._∷_ (12, Rows.any-gone (Syntax.tyRef Syntax.erased Syntax.mut OfOutput.named)) (List._∷_ (13, Rows.any-gone (Syntax.tyStruct (List._∷_ 38 (List._∷_ 91 (List._∷_ 93 List.[]))) (Syntax.tcons (Syntax.tyRef Syntax.erased Syntax.mut OfOutput.named) (Syntax.tcons (Syntax.tyInt Syntax.w64) Syntax.tnil)))) (List._∷_ (14, Rows.any-gone (Syntax.tyRef Syntax.erased Syntax.mut OfStation.named)) (List._∷_ (15, Rows.any-gone (Syntax.tyStruct (List._∷_ 38 (List._∷_ 91 (List._∷_ 93 List.[]))) (Syntax.tcons (Syntax.tyRef Syntax.erased Syntax.mut OfStation.named) (Syntax.tcons (Syntax.tyInt Syntax.w64) Syntax.tnil)))) List.[])))))))))))))))
+t35 = List._∷_ (0, Rows.any-gone (Laws.mir)) (List._∷_ (1, Mut.mslice (OfOutput.row) (Syntax.tyRef (Syntax.named 0) Syntax.mut OfOutput.named) 0) (List._∷_ (2, Mut.mslice (OfStation.row) (Syntax.tyRef (Syntax.named 1) Syntax.mut OfStation.named) 1) (List._∷_ (3, Rows.mref (OfPanelRecord.row) (Syntax.tyRef (Syntax.named 2) Syntax.mut OfPanelRecord.named) 2) (List._∷_ (4, Mut.mslice (Referent.rtF (Referent.fInt Syntax.w8)) (Syntax.tyRef (Syntax.named 3) Syntax.mut (Syntax.tyInt Syntax.w8)) 3) (List._∷_ (5, Mut.mslice (Referent.rtF (Referent.fInt Syntax.w8)) (Syntax.tyRef (Syntax.named 4) Syntax.mut (Syntax.tyInt Syntax.w8)) 4) (List._∷_ (6, Rows.any-gone (Syntax.tyStruct (List._∷_ 116 (List._∷_ 101 (List._∷_ 120 (List._∷_ 116 (List._∷_ 95 (List._∷_ 114 (List._∷_ 101 (List._∷_ 97 (List._∷_ 100 (List._∷_ 105 (List._∷_ 110 (List._∷_ 103 (List._∷_ 58 (List._∷_ 58 (List._∷_ 82 (List._∷_ 101 (List._∷_ 97 (List._∷_ 100 (List._∷_ 101 (List._∷_ 114 List.[])))))))))))))))))))) (Syntax.tcons (Syntax.tyInt Syntax.w8) (Syntax.tcons (Syntax.tyInt Syntax.w64) (Syntax.tcons (Syntax.tyEnum (List._∷_ 116 (List._∷_ 101 (List._∷_ 120 (List._∷_ 116 (List._∷_ 95 (List._∷_ 114 (List._∷_ 101 (List._∷_ 97 (List._∷_ 100 (List._∷_ 105 (List._∷_ 110 (List._∷_ 103 (List._∷_ 58 (List._∷_ 58 (List._∷_ 72 (List._∷_ 101 (List._∷_ 108 (List._∷_ 100 List.[])))))))))))))))))) (Syntax.ttcons Syntax.tnil (Syntax.ttcons Syntax.tnil (Syntax.ttcons (Syntax.tcons (Syntax.tyInt Syntax.w8) Syntax.tnil) (Syntax.ttcons Syntax.tnil (Syntax.ttcons (Syntax.tcons (Syntax.tyInt Syntax.w8) Syntax.tnil) (Syntax.ttcons (Syntax.tcons (Syntax.tyInt Syntax.w8) Syntax.tnil) (Syntax.ttcons Syntax.tnil (Syntax.ttcons (Syntax.tcons (Syntax.tyInt Syntax.w8) Syntax.tnil) (Syntax.ttcons Syntax.tnil (Syntax.ttcons (Syntax.tcons (Syntax.tyEnum (List._∷_ 116 (List._∷_ 101 (List._∷_ 120 (List._∷_ 116 (List._∷_ 95 (List._∷_ 114 (List._∷_ 101 (List._∷_ 97 (List._∷_ 100 (List._∷_ 105 (List._∷_ 110 (List._∷_ 103 (List._∷_ 58 (List._∷_ 58 (List._∷_ 70 (List._∷_ 97 (List._∷_ 117 (List._∷_ 108 (List._∷_ 116 List.[]))))))))))))))))))) (Syntax.ttcons Syntax.tnil (Syntax.ttcons Syntax.tnil (Syntax.ttcons Syntax.tnil (Syntax.ttcons Syntax.tnil Syntax.ttnil))))) Syntax.tnil) Syntax.ttnil))))))))))) (Syntax.tcons (Syntax.tyArray (Syntax.tyInt Syntax.w8) 32) (Syntax.tcons (Syntax.tyInt Syntax.w64) Syntax.tnil))))))) (List._∷_ (7, Rows.sc-here (Row.sInt Syntax.w64)) (List._∷_ (8, Rows.sc-here (Row.sInt Syntax.w64)) (List._∷_ (9, Rows.whole (Declared.row Turn.the-type)) (List._∷_ (10, Rows.any-gone (Syntax.tyStruct (List._∷_ 116 (List._∷_ 101 (List._∷_ 120 (List._∷_ 116 (List._∷_ 95 (List._∷_ 114 (List._∷_ 101 (List._∷_ 97 (List._∷_ 100 (List._∷_ 105 (List._∷_ 110 (List._∷_ 103 (List._∷_ 58 (List._∷_ 58 (List._∷_ 82 (List._∷_ 101 (List._∷_ 97 (List._∷_ 100 (List._∷_ 101 (List._∷_ 114 List.[])))))))))))))))))))) (Syntax.tcons (Syntax.tyInt Syntax.w8) (Syntax.tcons (Syntax.tyInt Syntax.w64) (Syntax.tcons (Syntax.tyEnum (List._∷_ 116 (List._∷_ 101 (List._∷_ 120 (List._∷_ 116 (List._∷_ 95 (List._∷_ 114 (List._∷_ 101 (List._∷_ 97 (List._∷_ 100 (List._∷_ 105 (List._∷_ 110 (List._∷_ 103 (List._∷_ 58 (List._∷_ 58 (List._∷_ 72 (List._∷_ 101 (List._∷_ 108 (List._∷_ 100 List.[])))))))))))))))))) (Syntax.ttcons Syntax.tnil (Syntax.ttcons Syntax.tnil (Syntax.ttcons (Syntax.tcons (Syntax.tyInt Syntax.w8) Syntax.tnil) (Syntax.ttcons Syntax.tnil (Syntax.ttcons (Syntax.tcons (Syntax.tyInt Syntax.w8) Syntax.tnil) (Syntax.ttcons (Syntax.tcons (Syntax.tyInt Syntax.w8) Syntax.tnil) (Syntax.ttcons Syntax.tnil (Syntax.ttcons (Syntax.tcons (Syntax.tyInt Syntax.w8) Syntax.tnil) (Syntax.ttcons Syntax.tnil (Syntax.ttcons (Syntax.tcons (Syntax.tyEnum (List._∷_ 116 (List._∷_ 101 (List._∷_ 120 (List._∷_ 116 (List._∷_ 95 (List._∷_ 114 (List._∷_ 101 (List._∷_ 97 (List._∷_ 100 (List._∷_ 105 (List._∷_ 110 (List._∷_ 103 (List._∷_ 58 (List._∷_ 58 (List._∷_ 70 (List._∷_ 97 (List._∷_ 117 (List._∷_ 108 (List._∷_ 116 List.[]))))))))))))))))))) (Syntax.ttcons Syntax.tnil (Syntax.ttcons Syntax.tnil (Syntax.ttcons Syntax.tnil (Syntax.ttcons Syntax.tnil Syntax.ttnil))))) Syntax.tnil) Syntax.ttnil))))))))))) (Syntax.tcons (Syntax.tyArray (Syntax.tyInt Syntax.w8) 32) (Syntax.tcons (Syntax.tyInt Syntax.w64) Syntax.tnil))))))) (List._∷_ (11, Rows.sc-here Row.sBool) (List._∷_ (12, Rows.any-gone (Syntax.tyRef Syntax.erased Syntax.mut OfOutput.named)) (List._∷_ (13, Rows.any-gone (Syntax.tyStruct (List._∷_ 38 (List._∷_ 91 (List._∷_ 93 List.[]))) (Syntax.tcons (Syntax.tyRef Syntax.erased Syntax.mut OfOutput.named) (Syntax.tcons (Syntax.tyInt Syntax.w64) Syntax.tnil)))) (List._∷_ (14, Rows.any-gone (Syntax.tyRef Syntax.erased Syntax.mut OfStation.named)) (List._∷_ (15, Rows.any-gone (Syntax.tyStruct (List._∷_ 38 (List._∷_ 91 (List._∷_ 93 List.[]))) (Syntax.tcons (Syntax.tyRef Syntax.erased Syntax.mut OfStation.named) (Syntax.tcons (Syntax.tyInt Syntax.w64) Syntax.tnil)))) List.[])))))))))))))))
 
 abbrev pub t36 : List.List Row.Entry
-t36 = List._∷_ (0, Rows.any-gone (Laws.mir)) (List._∷_ (1, Mut.mslice (OfOutput.row) (Syntax.tyRef (Syntax.named 0) Syntax.mut OfOutput.named) 0) (List._∷_ (2, Mut.mslice (OfStation.row) (Syntax.tyRef (Syntax.named 1) Syntax.mut OfStation.named) 1) (List._∷_ (3, Rows.mref (Referent.rtF (Referent.fInt Syntax.w64)) (Syntax.tyRef (Syntax.named 2) Syntax.mut (Syntax.tyInt Syntax.w64)) 2) (List._∷_ (4, Mut.mslice (Referent.rtF (Referent.fInt Syntax.w8)) (Syntax.tyRef (Syntax.named 3) Syntax.mut (Syntax.tyInt Syntax.w8)) 3) (List._∷_ (5, Mut.mslice (Referent.rtF (Referent.fInt Syntax.w8)) (Syntax.tyRef (Syntax.named 4) Syntax.mut (Syntax.tyInt Syntax.w8)) 4) (List._∷_ (6, Rows.any-gone (Syntax.tyStruct (List._∷_ 116 (List._∷_ 101 (List._∷_ 120 (List._∷_ 116 (List._∷_ 95 (List._∷_ 114 (List._∷_ 101 (List._∷_ 97 (List._∷_ 100 (List._∷_ 105 (List._∷_ 110 (List._∷_ 103 (List._∷_ 58 (List._∷_ 58 (List._∷_ 82 (List._∷_ 101 (List._∷_ 97 (List._∷_ 100 (List._∷_ 101 (List._∷_ 114 List.[])))))))))))))))))))) (Syntax.tcons (Syntax.tyInt Syntax.w8) (Syntax.tcons (Syntax.tyInt Syntax.w64) (Syntax.tcons (Syntax.tyEnum (List._∷_ 116 (List._∷_ 101 (List._∷_ 120 (List._∷_ 116 (List._∷_ 95 (List._∷_ 114 (List._∷_ 101 (List._∷_ 97 (List._∷_ 100 (List._∷_ 105 (List._∷_ 110 (List._∷_ 103 (List._∷_ 58 (List._∷_ 58 (List._∷_ 72 (List._∷_ 101 (List._∷_ 108 (List._∷_ 100 List.[])))))))))))))))))) (Syntax.ttcons Syntax.tnil (Syntax.ttcons Syntax.tnil (Syntax.ttcons (Syntax.tcons (Syntax.tyInt Syntax.w8) Syntax.tnil) (Syntax.ttcons Syntax.tnil (Syntax.ttcons (Syntax.tcons (Syntax.tyInt Syntax.w8) Syntax.tnil) (Syntax.ttcons (Syntax.tcons (Syntax.tyInt Syntax.w8) Syntax.tnil) (Syntax.ttcons Syntax.tnil (Syntax.ttcons (Syntax.tcons (Syntax.tyInt Syntax.w8) Syntax.tnil) (Syntax.ttcons Syntax.tnil (Syntax.ttcons (Syntax.tcons (Syntax.tyEnum (List._∷_ 116 (List._∷_ 101 (List._∷_ 120 (List._∷_ 116 (List._∷_ 95 (List._∷_ 114 (List._∷_ 101 (List._∷_ 97 (List._∷_ 100 (List._∷_ 105 (List._∷_ 110 (List._∷_ 103 (List._∷_ 58 (List._∷_ 58 (List._∷_ 70 (List._∷_ 97 (List._∷_ 117 (List._∷_ 108 (List._∷_ 116 List.[]))))))))))))))))))) (Syntax.ttcons Syntax.tnil (Syntax.ttcons Syntax.tnil (Syntax.ttcons Syntax.tnil (Syntax.ttcons Syntax.tnil Syntax.ttnil))))) Syntax.tnil) Syntax.ttnil))))))))))) (Syntax.tcons (Syntax.tyArray (Syntax.tyInt Syntax.w8) 32) (Syntax.tcons (Syntax.tyInt Syntax.w64) Syntax.tnil))))))) (List._∷_ (7, Rows.sc-here (Row.sInt Syntax.w64)) (List._∷_ (8, Rows.sc-here (Row.sInt Syntax.w64)) (List._∷_ (9, Rows.whole (Declared.row Turn.the-type)) (List._∷_ (10, Rows.any-gone (Syntax.tyStruct (List._∷_ 116 (List._∷_ 101 (List._∷_ 120 (List._∷_ 116 (List._∷_ 95 (List._∷_ 114 (List._∷_ 101 (List._∷_ 97 (List._∷_ 100 (List._∷_ 105 (List._∷_ 110 (List._∷_ 103 (List._∷_ 58 (List._∷_ 58 (List._∷_ 82 (List._∷_ 101 (List._∷_ 97 (List._∷_ 100 (List._∷_ 101 (List._∷_ 114 List.[])))))))))))))))))))) (Syntax.tcons (Syntax.tyInt Syntax.w8) (Syntax.tcons (Syntax.tyInt Syntax.w64) (Syntax.tcons (Syntax.tyEnum (List._∷_ 116 (List._∷_ 101 (List._∷_ 120 (List._∷_ 116 (List._∷_ 95 (List._∷_ 114 (List._∷_ 101 (List._∷_ 97 (List._∷_ 100 (List._∷_ 105 (List._∷_ 110 (List._∷_ 103 (List._∷_ 58 (List._∷_ 58 (List._∷_ 72 (List._∷_ 101 (List._∷_ 108 (List._∷_ 100 List.[])))))))))))))))))) (Syntax.ttcons Syntax.tnil (Syntax.ttcons Syntax.tnil (Syntax.ttcons (Syntax.tcons (Syntax.tyInt Syntax.w8) Syntax.tnil) (Syntax.ttcons Syntax.tnil (Syntax.ttcons (Syntax.tcons (Syntax.tyInt Syntax.w8) Syntax.tnil) (Syntax.ttcons (Syntax.tcons (Syntax.tyInt Syntax.w8) Syntax.tnil) (Syntax.ttcons Syntax.tnil (Syntax.ttcons (Syntax.tcons (Syntax.tyInt Syntax.w8) Syntax.tnil) (Syntax.ttcons Syntax.tnil (Syntax.ttcons (Syntax.tcons (Syntax.tyEnum (List._∷_ 116 (List._∷_ 101 (List._∷_ 120 (List._∷_ 116 (List._∷_ 95 (List._∷_ 114 (List._∷_ 101 (List._∷_ 97 (List._∷_ 100 (List._∷_ 105 (List._∷_ 110 (List._∷_ 103 (List._∷_ 58 (List._∷_ 58 (List._∷_ 70 (List._∷_ 97 (List._∷_ 117 (List._∷_ 108 (List._∷_ 116 List.[]))))))))))))))))))) (Syntax.ttcons Syntax.tnil (Syntax.ttcons Syntax.tnil (Syntax.ttcons Syntax.tnil (Syntax.ttcons Syntax.tnil Syntax.ttnil))))) Syntax.tnil) Syntax.ttnil))))))))))) (Syntax.tcons (Syntax.tyArray (Syntax.tyInt Syntax.w8) 32) (Syntax.tcons (Syntax.tyInt Syntax.w64) Syntax.tnil))))))) (List._∷_ (11, Rows.any-gone Syntax.tyBool) (List._∷_ (12, Rows.any-gone (Syntax.tyRef Syntax.erased Syntax.mut OfOutput.named)) (List._∷_ (13, Rows.any-gone (Syntax.tyStruct (List._∷_ 38 (List._∷_ 91 (List._∷_ 93 List.[]))) (Syntax.tcons (Syntax.tyRef Syntax.erased Syntax.mut OfOutput.named) (Syntax.tcons (Syntax.tyInt Syntax.w64) Syntax.tnil)))) (List._∷_ (14, Rows.any-gone (Syntax.tyRef Syntax.erased Syntax.mut OfStation.named)) (List._∷_ (15, Rows.any-gone (Syntax.tyStruct (List._∷_ 38 (List._∷_ 91 (List._∷_ 93 List.[]))) (Syntax.tcons (Syntax.tyRef Syntax.erased Syntax.mut OfStation.named) (Syntax.tcons (Syntax.tyInt Syntax.w64) Syntax.tnil)))) List.[])))))))))))))))
+t36 = List._∷_ (0, Rows.any-gone (Laws.mir)) (List._∷_ (1, Mut.mslice (OfOutput.row) (Syntax.tyRef (Syntax.named 0) Syntax.mut OfOutput.named) 0) (List._∷_ (2, Mut.mslice (OfStation.row) (Syntax.tyRef (Syntax.named 1) Syntax.mut OfStation.named) 1) (List._∷_ (3, Rows.mref (OfPanelRecord.row) (Syntax.tyRef (Syntax.named 2) Syntax.mut OfPanelRecord.named) 2) (List._∷_ (4, Mut.mslice (Referent.rtF (Referent.fInt Syntax.w8)) (Syntax.tyRef (Syntax.named 3) Syntax.mut (Syntax.tyInt Syntax.w8)) 3) (List._∷_ (5, Mut.mslice (Referent.rtF (Referent.fInt Syntax.w8)) (Syntax.tyRef (Syntax.named 4) Syntax.mut (Syntax.tyInt Syntax.w8)) 4) (List._∷_ (6, Rows.any-gone (Syntax.tyStruct (List._∷_ 116 (List._∷_ 101 (List._∷_ 120 (List._∷_ 116 (List._∷_ 95 (List._∷_ 114 (List._∷_ 101 (List._∷_ 97 (List._∷_ 100 (List._∷_ 105 (List._∷_ 110 (List._∷_ 103 (List._∷_ 58 (List._∷_ 58 (List._∷_ 82 (List._∷_ 101 (List._∷_ 97 (List._∷_ 100 (List._∷_ 101 (List._∷_ 114 List.[])))))))))))))))))))) (Syntax.tcons (Syntax.tyInt Syntax.w8) (Syntax.tcons (Syntax.tyInt Syntax.w64) (Syntax.tcons (Syntax.tyEnum (List._∷_ 116 (List._∷_ 101 (List._∷_ 120 (List._∷_ 116 (List._∷_ 95 (List._∷_ 114 (List._∷_ 101 (List._∷_ 97 (List._∷_ 100 (List._∷_ 105 (List._∷_ 110 (List._∷_ 103 (List._∷_ 58 (List._∷_ 58 (List._∷_ 72 (List._∷_ 101 (List._∷_ 108 (List._∷_ 100 List.[])))))))))))))))))) (Syntax.ttcons Syntax.tnil (Syntax.ttcons Syntax.tnil (Syntax.ttcons (Syntax.tcons (Syntax.tyInt Syntax.w8) Syntax.tnil) (Syntax.ttcons Syntax.tnil (Syntax.ttcons (Syntax.tcons (Syntax.tyInt Syntax.w8) Syntax.tnil) (Syntax.ttcons (Syntax.tcons (Syntax.tyInt Syntax.w8) Syntax.tnil) (Syntax.ttcons Syntax.tnil (Syntax.ttcons (Syntax.tcons (Syntax.tyInt Syntax.w8) Syntax.tnil) (Syntax.ttcons Syntax.tnil (Syntax.ttcons (Syntax.tcons (Syntax.tyEnum (List._∷_ 116 (List._∷_ 101 (List._∷_ 120 (List._∷_ 116 (List._∷_ 95 (List._∷_ 114 (List._∷_ 101 (List._∷_ 97 (List._∷_ 100 (List._∷_ 105 (List._∷_ 110 (List._∷_ 103 (List._∷_ 58 (List._∷_ 58 (List._∷_ 70 (List._∷_ 97 (List._∷_ 117 (List._∷_ 108 (List._∷_ 116 List.[]))))))))))))))))))) (Syntax.ttcons Syntax.tnil (Syntax.ttcons Syntax.tnil (Syntax.ttcons Syntax.tnil (Syntax.ttcons Syntax.tnil Syntax.ttnil))))) Syntax.tnil) Syntax.ttnil))))))))))) (Syntax.tcons (Syntax.tyArray (Syntax.tyInt Syntax.w8) 32) (Syntax.tcons (Syntax.tyInt Syntax.w64) Syntax.tnil))))))) (List._∷_ (7, Rows.sc-here (Row.sInt Syntax.w64)) (List._∷_ (8, Rows.sc-here (Row.sInt Syntax.w64)) (List._∷_ (9, Rows.whole (Declared.row Turn.the-type)) (List._∷_ (10, Rows.any-gone (Syntax.tyStruct (List._∷_ 116 (List._∷_ 101 (List._∷_ 120 (List._∷_ 116 (List._∷_ 95 (List._∷_ 114 (List._∷_ 101 (List._∷_ 97 (List._∷_ 100 (List._∷_ 105 (List._∷_ 110 (List._∷_ 103 (List._∷_ 58 (List._∷_ 58 (List._∷_ 82 (List._∷_ 101 (List._∷_ 97 (List._∷_ 100 (List._∷_ 101 (List._∷_ 114 List.[])))))))))))))))))))) (Syntax.tcons (Syntax.tyInt Syntax.w8) (Syntax.tcons (Syntax.tyInt Syntax.w64) (Syntax.tcons (Syntax.tyEnum (List._∷_ 116 (List._∷_ 101 (List._∷_ 120 (List._∷_ 116 (List._∷_ 95 (List._∷_ 114 (List._∷_ 101 (List._∷_ 97 (List._∷_ 100 (List._∷_ 105 (List._∷_ 110 (List._∷_ 103 (List._∷_ 58 (List._∷_ 58 (List._∷_ 72 (List._∷_ 101 (List._∷_ 108 (List._∷_ 100 List.[])))))))))))))))))) (Syntax.ttcons Syntax.tnil (Syntax.ttcons Syntax.tnil (Syntax.ttcons (Syntax.tcons (Syntax.tyInt Syntax.w8) Syntax.tnil) (Syntax.ttcons Syntax.tnil (Syntax.ttcons (Syntax.tcons (Syntax.tyInt Syntax.w8) Syntax.tnil) (Syntax.ttcons (Syntax.tcons (Syntax.tyInt Syntax.w8) Syntax.tnil) (Syntax.ttcons Syntax.tnil (Syntax.ttcons (Syntax.tcons (Syntax.tyInt Syntax.w8) Syntax.tnil) (Syntax.ttcons Syntax.tnil (Syntax.ttcons (Syntax.tcons (Syntax.tyEnum (List._∷_ 116 (List._∷_ 101 (List._∷_ 120 (List._∷_ 116 (List._∷_ 95 (List._∷_ 114 (List._∷_ 101 (List._∷_ 97 (List._∷_ 100 (List._∷_ 105 (List._∷_ 110 (List._∷_ 103 (List._∷_ 58 (List._∷_ 58 (List._∷_ 70 (List._∷_ 97 (List._∷_ 117 (List._∷_ 108 (List._∷_ 116 List.[]))))))))))))))))))) (Syntax.ttcons Syntax.tnil (Syntax.ttcons Syntax.tnil (Syntax.ttcons Syntax.tnil (Syntax.ttcons Syntax.tnil Syntax.ttnil))))) Syntax.tnil) Syntax.ttnil))))))))))) (Syntax.tcons (Syntax.tyArray (Syntax.tyInt Syntax.w8) 32) (Syntax.tcons (Syntax.tyInt Syntax.w64) Syntax.tnil))))))) (List._∷_ (11, Rows.any-gone Syntax.tyBool) (List._∷_ (12, Rows.any-gone (Syntax.tyRef Syntax.erased Syntax.mut OfOutput.named)) (List._∷_ (13, Rows.any-gone (Syntax.tyStruct (List._∷_ 38 (List._∷_ 91 (List._∷_ 93 List.[]))) (Syntax.tcons (Syntax.tyRef Syntax.erased Syntax.mut OfOutput.named) (Syntax.tcons (Syntax.tyInt Syntax.w64) Syntax.tnil)))) (List._∷_ (14, Rows.any-gone (Syntax.tyRef Syntax.erased Syntax.mut OfStation.named)) (List._∷_ (15, Rows.any-gone (Syntax.tyStruct (List._∷_ 38 (List._∷_ 91 (List._∷_ 93 List.[]))) (Syntax.tcons (Syntax.tyRef Syntax.erased Syntax.mut OfStation.named) (Syntax.tcons (Syntax.tyInt Syntax.w64) Syntax.tnil)))) List.[])))))))))))))))
 
 abbrev pub t37 : List.List Row.Entry
-t37 = List._∷_ (0, Rows.whole (Declared.row Turn.the-type)) (List._∷_ (1, Mut.mslice (OfOutput.row) (Syntax.tyRef (Syntax.named 0) Syntax.mut OfOutput.named) 0) (List._∷_ (2, Mut.mslice (OfStation.row) (Syntax.tyRef (Syntax.named 1) Syntax.mut OfStation.named) 1) (List._∷_ (3, Rows.mref (Referent.rtF (Referent.fInt Syntax.w64)) (Syntax.tyRef (Syntax.named 2) Syntax.mut (Syntax.tyInt Syntax.w64)) 2) (List._∷_ (4, Mut.mslice (Referent.rtF (Referent.fInt Syntax.w8)) (Syntax.tyRef (Syntax.named 3) Syntax.mut (Syntax.tyInt Syntax.w8)) 3) (List._∷_ (5, Mut.mslice (Referent.rtF (Referent.fInt Syntax.w8)) (Syntax.tyRef (Syntax.named 4) Syntax.mut (Syntax.tyInt Syntax.w8)) 4) (List._∷_ (6, Rows.any-gone (Syntax.tyStruct (List._∷_ 116 (List._∷_ 101 (List._∷_ 120 (List._∷_ 116 (List._∷_ 95 (List._∷_ 114 (List._∷_ 101 (List._∷_ 97 (List._∷_ 100 (List._∷_ 105 (List._∷_ 110 (List._∷_ 103 (List._∷_ 58 (List._∷_ 58 (List._∷_ 82 (List._∷_ 101 (List._∷_ 97 (List._∷_ 100 (List._∷_ 101 (List._∷_ 114 List.[])))))))))))))))))))) (Syntax.tcons (Syntax.tyInt Syntax.w8) (Syntax.tcons (Syntax.tyInt Syntax.w64) (Syntax.tcons (Syntax.tyEnum (List._∷_ 116 (List._∷_ 101 (List._∷_ 120 (List._∷_ 116 (List._∷_ 95 (List._∷_ 114 (List._∷_ 101 (List._∷_ 97 (List._∷_ 100 (List._∷_ 105 (List._∷_ 110 (List._∷_ 103 (List._∷_ 58 (List._∷_ 58 (List._∷_ 72 (List._∷_ 101 (List._∷_ 108 (List._∷_ 100 List.[])))))))))))))))))) (Syntax.ttcons Syntax.tnil (Syntax.ttcons Syntax.tnil (Syntax.ttcons (Syntax.tcons (Syntax.tyInt Syntax.w8) Syntax.tnil) (Syntax.ttcons Syntax.tnil (Syntax.ttcons (Syntax.tcons (Syntax.tyInt Syntax.w8) Syntax.tnil) (Syntax.ttcons (Syntax.tcons (Syntax.tyInt Syntax.w8) Syntax.tnil) (Syntax.ttcons Syntax.tnil (Syntax.ttcons (Syntax.tcons (Syntax.tyInt Syntax.w8) Syntax.tnil) (Syntax.ttcons Syntax.tnil (Syntax.ttcons (Syntax.tcons (Syntax.tyEnum (List._∷_ 116 (List._∷_ 101 (List._∷_ 120 (List._∷_ 116 (List._∷_ 95 (List._∷_ 114 (List._∷_ 101 (List._∷_ 97 (List._∷_ 100 (List._∷_ 105 (List._∷_ 110 (List._∷_ 103 (List._∷_ 58 (List._∷_ 58 (List._∷_ 70 (List._∷_ 97 (List._∷_ 117 (List._∷_ 108 (List._∷_ 116 List.[]))))))))))))))))))) (Syntax.ttcons Syntax.tnil (Syntax.ttcons Syntax.tnil (Syntax.ttcons Syntax.tnil (Syntax.ttcons Syntax.tnil Syntax.ttnil))))) Syntax.tnil) Syntax.ttnil))))))))))) (Syntax.tcons (Syntax.tyArray (Syntax.tyInt Syntax.w8) 32) (Syntax.tcons (Syntax.tyInt Syntax.w64) Syntax.tnil))))))) (List._∷_ (7, Rows.sc-here (Row.sInt Syntax.w64)) (List._∷_ (8, Rows.sc-here (Row.sInt Syntax.w64)) (List._∷_ (9, Rows.whole (Declared.row Turn.the-type)) (List._∷_ (10, Rows.any-gone (Syntax.tyStruct (List._∷_ 116 (List._∷_ 101 (List._∷_ 120 (List._∷_ 116 (List._∷_ 95 (List._∷_ 114 (List._∷_ 101 (List._∷_ 97 (List._∷_ 100 (List._∷_ 105 (List._∷_ 110 (List._∷_ 103 (List._∷_ 58 (List._∷_ 58 (List._∷_ 82 (List._∷_ 101 (List._∷_ 97 (List._∷_ 100 (List._∷_ 101 (List._∷_ 114 List.[])))))))))))))))))))) (Syntax.tcons (Syntax.tyInt Syntax.w8) (Syntax.tcons (Syntax.tyInt Syntax.w64) (Syntax.tcons (Syntax.tyEnum (List._∷_ 116 (List._∷_ 101 (List._∷_ 120 (List._∷_ 116 (List._∷_ 95 (List._∷_ 114 (List._∷_ 101 (List._∷_ 97 (List._∷_ 100 (List._∷_ 105 (List._∷_ 110 (List._∷_ 103 (List._∷_ 58 (List._∷_ 58 (List._∷_ 72 (List._∷_ 101 (List._∷_ 108 (List._∷_ 100 List.[])))))))))))))))))) (Syntax.ttcons Syntax.tnil (Syntax.ttcons Syntax.tnil (Syntax.ttcons (Syntax.tcons (Syntax.tyInt Syntax.w8) Syntax.tnil) (Syntax.ttcons Syntax.tnil (Syntax.ttcons (Syntax.tcons (Syntax.tyInt Syntax.w8) Syntax.tnil) (Syntax.ttcons (Syntax.tcons (Syntax.tyInt Syntax.w8) Syntax.tnil) (Syntax.ttcons Syntax.tnil (Syntax.ttcons (Syntax.tcons (Syntax.tyInt Syntax.w8) Syntax.tnil) (Syntax.ttcons Syntax.tnil (Syntax.ttcons (Syntax.tcons (Syntax.tyEnum (List._∷_ 116 (List._∷_ 101 (List._∷_ 120 (List._∷_ 116 (List._∷_ 95 (List._∷_ 114 (List._∷_ 101 (List._∷_ 97 (List._∷_ 100 (List._∷_ 105 (List._∷_ 110 (List._∷_ 103 (List._∷_ 58 (List._∷_ 58 (List._∷_ 70 (List._∷_ 97 (List._∷_ 117 (List._∷_ 108 (List._∷_ 116 List.[]))))))))))))))))))) (Syntax.ttcons Syntax.tnil (Syntax.ttcons Syntax.tnil (Syntax.ttcons Syntax.tnil (Syntax.ttcons Syntax.tnil Syntax.ttnil))))) Syntax.tnil) Syntax.ttnil))))))))))) (Syntax.tcons (Syntax.tyArray (Syntax.tyInt Syntax.w8) 32) (Syntax.tcons (Syntax.tyInt Syntax.w64) Syntax.tnil))))))) (List._∷_ (11, Rows.any-gone Syntax.tyBool) (List._∷_ (12, Rows.any-gone (Syntax.tyRef Syntax.erased Syntax.mut OfOutput.named)) (List._∷_ (13, Rows.any-gone (Syntax.tyStruct (List._∷_ 38 (List._∷_ 91 (List._∷_ 93 List.[]))) (Syntax.tcons (Syntax.tyRef Syntax.erased Syntax.mut OfOutput.named) (Syntax.tcons (Syntax.tyInt Syntax.w64) Syntax.tnil)))) (List._∷_ (14, Rows.any-gone (Syntax.tyRef Syntax.erased Syntax.mut OfStation.named)) (List._∷_ (15, Rows.any-gone (Syntax.tyStruct (List._∷_ 38 (List._∷_ 91 (List._∷_ 93 List.[]))) (Syntax.tcons (Syntax.tyRef Syntax.erased Syntax.mut OfStation.named) (Syntax.tcons (Syntax.tyInt Syntax.w64) Syntax.tnil)))) List.[])))))))))))))))
+t37 = List._∷_ (0, Rows.whole (Declared.row Turn.the-type)) (List._∷_ (1, Mut.mslice (OfOutput.row) (Syntax.tyRef (Syntax.named 0) Syntax.mut OfOutput.named) 0) (List._∷_ (2, Mut.mslice (OfStation.row) (Syntax.tyRef (Syntax.named 1) Syntax.mut OfStation.named) 1) (List._∷_ (3, Rows.mref (OfPanelRecord.row) (Syntax.tyRef (Syntax.named 2) Syntax.mut OfPanelRecord.named) 2) (List._∷_ (4, Mut.mslice (Referent.rtF (Referent.fInt Syntax.w8)) (Syntax.tyRef (Syntax.named 3) Syntax.mut (Syntax.tyInt Syntax.w8)) 3) (List._∷_ (5, Mut.mslice (Referent.rtF (Referent.fInt Syntax.w8)) (Syntax.tyRef (Syntax.named 4) Syntax.mut (Syntax.tyInt Syntax.w8)) 4) (List._∷_ (6, Rows.any-gone (Syntax.tyStruct (List._∷_ 116 (List._∷_ 101 (List._∷_ 120 (List._∷_ 116 (List._∷_ 95 (List._∷_ 114 (List._∷_ 101 (List._∷_ 97 (List._∷_ 100 (List._∷_ 105 (List._∷_ 110 (List._∷_ 103 (List._∷_ 58 (List._∷_ 58 (List._∷_ 82 (List._∷_ 101 (List._∷_ 97 (List._∷_ 100 (List._∷_ 101 (List._∷_ 114 List.[])))))))))))))))))))) (Syntax.tcons (Syntax.tyInt Syntax.w8) (Syntax.tcons (Syntax.tyInt Syntax.w64) (Syntax.tcons (Syntax.tyEnum (List._∷_ 116 (List._∷_ 101 (List._∷_ 120 (List._∷_ 116 (List._∷_ 95 (List._∷_ 114 (List._∷_ 101 (List._∷_ 97 (List._∷_ 100 (List._∷_ 105 (List._∷_ 110 (List._∷_ 103 (List._∷_ 58 (List._∷_ 58 (List._∷_ 72 (List._∷_ 101 (List._∷_ 108 (List._∷_ 100 List.[])))))))))))))))))) (Syntax.ttcons Syntax.tnil (Syntax.ttcons Syntax.tnil (Syntax.ttcons (Syntax.tcons (Syntax.tyInt Syntax.w8) Syntax.tnil) (Syntax.ttcons Syntax.tnil (Syntax.ttcons (Syntax.tcons (Syntax.tyInt Syntax.w8) Syntax.tnil) (Syntax.ttcons (Syntax.tcons (Syntax.tyInt Syntax.w8) Syntax.tnil) (Syntax.ttcons Syntax.tnil (Syntax.ttcons (Syntax.tcons (Syntax.tyInt Syntax.w8) Syntax.tnil) (Syntax.ttcons Syntax.tnil (Syntax.ttcons (Syntax.tcons (Syntax.tyEnum (List._∷_ 116 (List._∷_ 101 (List._∷_ 120 (List._∷_ 116 (List._∷_ 95 (List._∷_ 114 (List._∷_ 101 (List._∷_ 97 (List._∷_ 100 (List._∷_ 105 (List._∷_ 110 (List._∷_ 103 (List._∷_ 58 (List._∷_ 58 (List._∷_ 70 (List._∷_ 97 (List._∷_ 117 (List._∷_ 108 (List._∷_ 116 List.[]))))))))))))))))))) (Syntax.ttcons Syntax.tnil (Syntax.ttcons Syntax.tnil (Syntax.ttcons Syntax.tnil (Syntax.ttcons Syntax.tnil Syntax.ttnil))))) Syntax.tnil) Syntax.ttnil))))))))))) (Syntax.tcons (Syntax.tyArray (Syntax.tyInt Syntax.w8) 32) (Syntax.tcons (Syntax.tyInt Syntax.w64) Syntax.tnil))))))) (List._∷_ (7, Rows.sc-here (Row.sInt Syntax.w64)) (List._∷_ (8, Rows.sc-here (Row.sInt Syntax.w64)) (List._∷_ (9, Rows.whole (Declared.row Turn.the-type)) (List._∷_ (10, Rows.any-gone (Syntax.tyStruct (List._∷_ 116 (List._∷_ 101 (List._∷_ 120 (List._∷_ 116 (List._∷_ 95 (List._∷_ 114 (List._∷_ 101 (List._∷_ 97 (List._∷_ 100 (List._∷_ 105 (List._∷_ 110 (List._∷_ 103 (List._∷_ 58 (List._∷_ 58 (List._∷_ 82 (List._∷_ 101 (List._∷_ 97 (List._∷_ 100 (List._∷_ 101 (List._∷_ 114 List.[])))))))))))))))))))) (Syntax.tcons (Syntax.tyInt Syntax.w8) (Syntax.tcons (Syntax.tyInt Syntax.w64) (Syntax.tcons (Syntax.tyEnum (List._∷_ 116 (List._∷_ 101 (List._∷_ 120 (List._∷_ 116 (List._∷_ 95 (List._∷_ 114 (List._∷_ 101 (List._∷_ 97 (List._∷_ 100 (List._∷_ 105 (List._∷_ 110 (List._∷_ 103 (List._∷_ 58 (List._∷_ 58 (List._∷_ 72 (List._∷_ 101 (List._∷_ 108 (List._∷_ 100 List.[])))))))))))))))))) (Syntax.ttcons Syntax.tnil (Syntax.ttcons Syntax.tnil (Syntax.ttcons (Syntax.tcons (Syntax.tyInt Syntax.w8) Syntax.tnil) (Syntax.ttcons Syntax.tnil (Syntax.ttcons (Syntax.tcons (Syntax.tyInt Syntax.w8) Syntax.tnil) (Syntax.ttcons (Syntax.tcons (Syntax.tyInt Syntax.w8) Syntax.tnil) (Syntax.ttcons Syntax.tnil (Syntax.ttcons (Syntax.tcons (Syntax.tyInt Syntax.w8) Syntax.tnil) (Syntax.ttcons Syntax.tnil (Syntax.ttcons (Syntax.tcons (Syntax.tyEnum (List._∷_ 116 (List._∷_ 101 (List._∷_ 120 (List._∷_ 116 (List._∷_ 95 (List._∷_ 114 (List._∷_ 101 (List._∷_ 97 (List._∷_ 100 (List._∷_ 105 (List._∷_ 110 (List._∷_ 103 (List._∷_ 58 (List._∷_ 58 (List._∷_ 70 (List._∷_ 97 (List._∷_ 117 (List._∷_ 108 (List._∷_ 116 List.[]))))))))))))))))))) (Syntax.ttcons Syntax.tnil (Syntax.ttcons Syntax.tnil (Syntax.ttcons Syntax.tnil (Syntax.ttcons Syntax.tnil Syntax.ttnil))))) Syntax.tnil) Syntax.ttnil))))))))))) (Syntax.tcons (Syntax.tyArray (Syntax.tyInt Syntax.w8) 32) (Syntax.tcons (Syntax.tyInt Syntax.w64) Syntax.tnil))))))) (List._∷_ (11, Rows.any-gone Syntax.tyBool) (List._∷_ (12, Rows.any-gone (Syntax.tyRef Syntax.erased Syntax.mut OfOutput.named)) (List._∷_ (13, Rows.any-gone (Syntax.tyStruct (List._∷_ 38 (List._∷_ 91 (List._∷_ 93 List.[]))) (Syntax.tcons (Syntax.tyRef Syntax.erased Syntax.mut OfOutput.named) (Syntax.tcons (Syntax.tyInt Syntax.w64) Syntax.tnil)))) (List._∷_ (14, Rows.any-gone (Syntax.tyRef Syntax.erased Syntax.mut OfStation.named)) (List._∷_ (15, Rows.any-gone (Syntax.tyStruct (List._∷_ 38 (List._∷_ 91 (List._∷_ 93 List.[]))) (Syntax.tcons (Syntax.tyRef Syntax.erased Syntax.mut OfStation.named) (Syntax.tcons (Syntax.tyInt Syntax.w64) Syntax.tnil)))) List.[])))))))))))))))
 
 abbrev pub t38 : List.List Row.Entry
-t38 = List._∷_ (0, Rows.whole (Declared.row Turn.the-type)) (List._∷_ (1, Mut.mslice (OfOutput.row) (Syntax.tyRef (Syntax.named 0) Syntax.mut OfOutput.named) 0) (List._∷_ (2, Mut.mslice (OfStation.row) (Syntax.tyRef (Syntax.named 1) Syntax.mut OfStation.named) 1) (List._∷_ (3, Rows.mref (Referent.rtF (Referent.fInt Syntax.w64)) (Syntax.tyRef (Syntax.named 2) Syntax.mut (Syntax.tyInt Syntax.w64)) 2) (List._∷_ (4, Mut.mslice (Referent.rtF (Referent.fInt Syntax.w8)) (Syntax.tyRef (Syntax.named 3) Syntax.mut (Syntax.tyInt Syntax.w8)) 3) (List._∷_ (5, Mut.mslice (Referent.rtF (Referent.fInt Syntax.w8)) (Syntax.tyRef (Syntax.named 4) Syntax.mut (Syntax.tyInt Syntax.w8)) 4) (List._∷_ (6, Rows.any-gone (Syntax.tyStruct (List._∷_ 116 (List._∷_ 101 (List._∷_ 120 (List._∷_ 116 (List._∷_ 95 (List._∷_ 114 (List._∷_ 101 (List._∷_ 97 (List._∷_ 100 (List._∷_ 105 (List._∷_ 110 (List._∷_ 103 (List._∷_ 58 (List._∷_ 58 (List._∷_ 82 (List._∷_ 101 (List._∷_ 97 (List._∷_ 100 (List._∷_ 101 (List._∷_ 114 List.[])))))))))))))))))))) (Syntax.tcons (Syntax.tyInt Syntax.w8) (Syntax.tcons (Syntax.tyInt Syntax.w64) (Syntax.tcons (Syntax.tyEnum (List._∷_ 116 (List._∷_ 101 (List._∷_ 120 (List._∷_ 116 (List._∷_ 95 (List._∷_ 114 (List._∷_ 101 (List._∷_ 97 (List._∷_ 100 (List._∷_ 105 (List._∷_ 110 (List._∷_ 103 (List._∷_ 58 (List._∷_ 58 (List._∷_ 72 (List._∷_ 101 (List._∷_ 108 (List._∷_ 100 List.[])))))))))))))))))) (Syntax.ttcons Syntax.tnil (Syntax.ttcons Syntax.tnil (Syntax.ttcons (Syntax.tcons (Syntax.tyInt Syntax.w8) Syntax.tnil) (Syntax.ttcons Syntax.tnil (Syntax.ttcons (Syntax.tcons (Syntax.tyInt Syntax.w8) Syntax.tnil) (Syntax.ttcons (Syntax.tcons (Syntax.tyInt Syntax.w8) Syntax.tnil) (Syntax.ttcons Syntax.tnil (Syntax.ttcons (Syntax.tcons (Syntax.tyInt Syntax.w8) Syntax.tnil) (Syntax.ttcons Syntax.tnil (Syntax.ttcons (Syntax.tcons (Syntax.tyEnum (List._∷_ 116 (List._∷_ 101 (List._∷_ 120 (List._∷_ 116 (List._∷_ 95 (List._∷_ 114 (List._∷_ 101 (List._∷_ 97 (List._∷_ 100 (List._∷_ 105 (List._∷_ 110 (List._∷_ 103 (List._∷_ 58 (List._∷_ 58 (List._∷_ 70 (List._∷_ 97 (List._∷_ 117 (List._∷_ 108 (List._∷_ 116 List.[]))))))))))))))))))) (Syntax.ttcons Syntax.tnil (Syntax.ttcons Syntax.tnil (Syntax.ttcons Syntax.tnil (Syntax.ttcons Syntax.tnil Syntax.ttnil))))) Syntax.tnil) Syntax.ttnil))))))))))) (Syntax.tcons (Syntax.tyArray (Syntax.tyInt Syntax.w8) 32) (Syntax.tcons (Syntax.tyInt Syntax.w64) Syntax.tnil))))))) (List._∷_ (7, Rows.sc-here (Row.sInt Syntax.w64)) (List._∷_ (8, Rows.sc-here (Row.sInt Syntax.w64)) (List._∷_ (9, Rows.any-gone (Laws.mir)) (List._∷_ (10, Rows.any-gone (Syntax.tyStruct (List._∷_ 116 (List._∷_ 101 (List._∷_ 120 (List._∷_ 116 (List._∷_ 95 (List._∷_ 114 (List._∷_ 101 (List._∷_ 97 (List._∷_ 100 (List._∷_ 105 (List._∷_ 110 (List._∷_ 103 (List._∷_ 58 (List._∷_ 58 (List._∷_ 82 (List._∷_ 101 (List._∷_ 97 (List._∷_ 100 (List._∷_ 101 (List._∷_ 114 List.[])))))))))))))))))))) (Syntax.tcons (Syntax.tyInt Syntax.w8) (Syntax.tcons (Syntax.tyInt Syntax.w64) (Syntax.tcons (Syntax.tyEnum (List._∷_ 116 (List._∷_ 101 (List._∷_ 120 (List._∷_ 116 (List._∷_ 95 (List._∷_ 114 (List._∷_ 101 (List._∷_ 97 (List._∷_ 100 (List._∷_ 105 (List._∷_ 110 (List._∷_ 103 (List._∷_ 58 (List._∷_ 58 (List._∷_ 72 (List._∷_ 101 (List._∷_ 108 (List._∷_ 100 List.[])))))))))))))))))) (Syntax.ttcons Syntax.tnil (Syntax.ttcons Syntax.tnil (Syntax.ttcons (Syntax.tcons (Syntax.tyInt Syntax.w8) Syntax.tnil) (Syntax.ttcons Syntax.tnil (Syntax.ttcons (Syntax.tcons (Syntax.tyInt Syntax.w8) Syntax.tnil) (Syntax.ttcons (Syntax.tcons (Syntax.tyInt Syntax.w8) Syntax.tnil) (Syntax.ttcons Syntax.tnil (Syntax.ttcons (Syntax.tcons (Syntax.tyInt Syntax.w8) Syntax.tnil) (Syntax.ttcons Syntax.tnil (Syntax.ttcons (Syntax.tcons (Syntax.tyEnum (List._∷_ 116 (List._∷_ 101 (List._∷_ 120 (List._∷_ 116 (List._∷_ 95 (List._∷_ 114 (List._∷_ 101 (List._∷_ 97 (List._∷_ 100 (List._∷_ 105 (List._∷_ 110 (List._∷_ 103 (List._∷_ 58 (List._∷_ 58 (List._∷_ 70 (List._∷_ 97 (List._∷_ 117 (List._∷_ 108 (List._∷_ 116 List.[]))))))))))))))))))) (Syntax.ttcons Syntax.tnil (Syntax.ttcons Syntax.tnil (Syntax.ttcons Syntax.tnil (Syntax.ttcons Syntax.tnil Syntax.ttnil))))) Syntax.tnil) Syntax.ttnil))))))))))) (Syntax.tcons (Syntax.tyArray (Syntax.tyInt Syntax.w8) 32) (Syntax.tcons (Syntax.tyInt Syntax.w64) Syntax.tnil))))))) (List._∷_ (11, Rows.any-gone Syntax.tyBool) (List._∷_ (12, Rows.any-gone (Syntax.tyRef Syntax.erased Syntax.mut OfOutput.named)) (List._∷_ (13, Rows.any-gone (Syntax.tyStruct (List._∷_ 38 (List._∷_ 91 (List._∷_ 93 List.[]))) (Syntax.tcons (Syntax.tyRef Syntax.erased Syntax.mut OfOutput.named) (Syntax.tcons (Syntax.tyInt Syntax.w64) Syntax.tnil)))) (List._∷_ (14, Rows.any-gone (Syntax.tyRef Syntax.erased Syntax.mut OfStation.named)) (List._∷_ (15, Rows.any-gone (Syntax.tyStruct (List._∷_ 38 (List._∷_ 91 (List._∷_ 93 List.[]))) (Syntax.tcons (Syntax.tyRef Syntax.erased Syntax.mut OfStation.named) (Syntax.tcons (Syntax.tyInt Syntax.w64) Syntax.tnil)))) List.[])))))))))))))))
+t38 = List._∷_ (0, Rows.whole (Declared.row Turn.the-type)) (List._∷_ (1, Mut.mslice (OfOutput.row) (Syntax.tyRef (Syntax.named 0) Syntax.mut OfOutput.named) 0) (List._∷_ (2, Mut.mslice (OfStation.row) (Syntax.tyRef (Syntax.named 1) Syntax.mut OfStation.named) 1) (List._∷_ (3, Rows.mref (OfPanelRecord.row) (Syntax.tyRef (Syntax.named 2) Syntax.mut OfPanelRecord.named) 2) (List._∷_ (4, Mut.mslice (Referent.rtF (Referent.fInt Syntax.w8)) (Syntax.tyRef (Syntax.named 3) Syntax.mut (Syntax.tyInt Syntax.w8)) 3) (List._∷_ (5, Mut.mslice (Referent.rtF (Referent.fInt Syntax.w8)) (Syntax.tyRef (Syntax.named 4) Syntax.mut (Syntax.tyInt Syntax.w8)) 4) (List._∷_ (6, Rows.any-gone (Syntax.tyStruct (List._∷_ 116 (List._∷_ 101 (List._∷_ 120 (List._∷_ 116 (List._∷_ 95 (List._∷_ 114 (List._∷_ 101 (List._∷_ 97 (List._∷_ 100 (List._∷_ 105 (List._∷_ 110 (List._∷_ 103 (List._∷_ 58 (List._∷_ 58 (List._∷_ 82 (List._∷_ 101 (List._∷_ 97 (List._∷_ 100 (List._∷_ 101 (List._∷_ 114 List.[])))))))))))))))))))) (Syntax.tcons (Syntax.tyInt Syntax.w8) (Syntax.tcons (Syntax.tyInt Syntax.w64) (Syntax.tcons (Syntax.tyEnum (List._∷_ 116 (List._∷_ 101 (List._∷_ 120 (List._∷_ 116 (List._∷_ 95 (List._∷_ 114 (List._∷_ 101 (List._∷_ 97 (List._∷_ 100 (List._∷_ 105 (List._∷_ 110 (List._∷_ 103 (List._∷_ 58 (List._∷_ 58 (List._∷_ 72 (List._∷_ 101 (List._∷_ 108 (List._∷_ 100 List.[])))))))))))))))))) (Syntax.ttcons Syntax.tnil (Syntax.ttcons Syntax.tnil (Syntax.ttcons (Syntax.tcons (Syntax.tyInt Syntax.w8) Syntax.tnil) (Syntax.ttcons Syntax.tnil (Syntax.ttcons (Syntax.tcons (Syntax.tyInt Syntax.w8) Syntax.tnil) (Syntax.ttcons (Syntax.tcons (Syntax.tyInt Syntax.w8) Syntax.tnil) (Syntax.ttcons Syntax.tnil (Syntax.ttcons (Syntax.tcons (Syntax.tyInt Syntax.w8) Syntax.tnil) (Syntax.ttcons Syntax.tnil (Syntax.ttcons (Syntax.tcons (Syntax.tyEnum (List._∷_ 116 (List._∷_ 101 (List._∷_ 120 (List._∷_ 116 (List._∷_ 95 (List._∷_ 114 (List._∷_ 101 (List._∷_ 97 (List._∷_ 100 (List._∷_ 105 (List._∷_ 110 (List._∷_ 103 (List._∷_ 58 (List._∷_ 58 (List._∷_ 70 (List._∷_ 97 (List._∷_ 117 (List._∷_ 108 (List._∷_ 116 List.[]))))))))))))))))))) (Syntax.ttcons Syntax.tnil (Syntax.ttcons Syntax.tnil (Syntax.ttcons Syntax.tnil (Syntax.ttcons Syntax.tnil Syntax.ttnil))))) Syntax.tnil) Syntax.ttnil))))))))))) (Syntax.tcons (Syntax.tyArray (Syntax.tyInt Syntax.w8) 32) (Syntax.tcons (Syntax.tyInt Syntax.w64) Syntax.tnil))))))) (List._∷_ (7, Rows.sc-here (Row.sInt Syntax.w64)) (List._∷_ (8, Rows.sc-here (Row.sInt Syntax.w64)) (List._∷_ (9, Rows.any-gone (Laws.mir)) (List._∷_ (10, Rows.any-gone (Syntax.tyStruct (List._∷_ 116 (List._∷_ 101 (List._∷_ 120 (List._∷_ 116 (List._∷_ 95 (List._∷_ 114 (List._∷_ 101 (List._∷_ 97 (List._∷_ 100 (List._∷_ 105 (List._∷_ 110 (List._∷_ 103 (List._∷_ 58 (List._∷_ 58 (List._∷_ 82 (List._∷_ 101 (List._∷_ 97 (List._∷_ 100 (List._∷_ 101 (List._∷_ 114 List.[])))))))))))))))))))) (Syntax.tcons (Syntax.tyInt Syntax.w8) (Syntax.tcons (Syntax.tyInt Syntax.w64) (Syntax.tcons (Syntax.tyEnum (List._∷_ 116 (List._∷_ 101 (List._∷_ 120 (List._∷_ 116 (List._∷_ 95 (List._∷_ 114 (List._∷_ 101 (List._∷_ 97 (List._∷_ 100 (List._∷_ 105 (List._∷_ 110 (List._∷_ 103 (List._∷_ 58 (List._∷_ 58 (List._∷_ 72 (List._∷_ 101 (List._∷_ 108 (List._∷_ 100 List.[])))))))))))))))))) (Syntax.ttcons Syntax.tnil (Syntax.ttcons Syntax.tnil (Syntax.ttcons (Syntax.tcons (Syntax.tyInt Syntax.w8) Syntax.tnil) (Syntax.ttcons Syntax.tnil (Syntax.ttcons (Syntax.tcons (Syntax.tyInt Syntax.w8) Syntax.tnil) (Syntax.ttcons (Syntax.tcons (Syntax.tyInt Syntax.w8) Syntax.tnil) (Syntax.ttcons Syntax.tnil (Syntax.ttcons (Syntax.tcons (Syntax.tyInt Syntax.w8) Syntax.tnil) (Syntax.ttcons Syntax.tnil (Syntax.ttcons (Syntax.tcons (Syntax.tyEnum (List._∷_ 116 (List._∷_ 101 (List._∷_ 120 (List._∷_ 116 (List._∷_ 95 (List._∷_ 114 (List._∷_ 101 (List._∷_ 97 (List._∷_ 100 (List._∷_ 105 (List._∷_ 110 (List._∷_ 103 (List._∷_ 58 (List._∷_ 58 (List._∷_ 70 (List._∷_ 97 (List._∷_ 117 (List._∷_ 108 (List._∷_ 116 List.[]))))))))))))))))))) (Syntax.ttcons Syntax.tnil (Syntax.ttcons Syntax.tnil (Syntax.ttcons Syntax.tnil (Syntax.ttcons Syntax.tnil Syntax.ttnil))))) Syntax.tnil) Syntax.ttnil))))))))))) (Syntax.tcons (Syntax.tyArray (Syntax.tyInt Syntax.w8) 32) (Syntax.tcons (Syntax.tyInt Syntax.w64) Syntax.tnil))))))) (List._∷_ (11, Rows.any-gone Syntax.tyBool) (List._∷_ (12, Rows.any-gone (Syntax.tyRef Syntax.erased Syntax.mut OfOutput.named)) (List._∷_ (13, Rows.any-gone (Syntax.tyStruct (List._∷_ 38 (List._∷_ 91 (List._∷_ 93 List.[]))) (Syntax.tcons (Syntax.tyRef Syntax.erased Syntax.mut OfOutput.named) (Syntax.tcons (Syntax.tyInt Syntax.w64) Syntax.tnil)))) (List._∷_ (14, Rows.any-gone (Syntax.tyRef Syntax.erased Syntax.mut OfStation.named)) (List._∷_ (15, Rows.any-gone (Syntax.tyStruct (List._∷_ 38 (List._∷_ 91 (List._∷_ 93 List.[]))) (Syntax.tcons (Syntax.tyRef Syntax.erased Syntax.mut OfStation.named) (Syntax.tcons (Syntax.tyInt Syntax.w64) Syntax.tnil)))) List.[])))))))))))))))
 
 abbrev pub t39 : List.List Row.Entry
-t39 = List._∷_ (0, Rows.whole (Declared.row Turn.the-type)) (List._∷_ (1, Mut.mslice (OfOutput.row) (Syntax.tyRef (Syntax.named 0) Syntax.mut OfOutput.named) 0) (List._∷_ (2, Mut.mslice (OfStation.row) (Syntax.tyRef (Syntax.named 1) Syntax.mut OfStation.named) 1) (List._∷_ (3, Rows.mref (Referent.rtF (Referent.fInt Syntax.w64)) (Syntax.tyRef (Syntax.named 2) Syntax.mut (Syntax.tyInt Syntax.w64)) 2) (List._∷_ (4, Mut.mslice (Referent.rtF (Referent.fInt Syntax.w8)) (Syntax.tyRef (Syntax.named 3) Syntax.mut (Syntax.tyInt Syntax.w8)) 3) (List._∷_ (5, Mut.mslice (Referent.rtF (Referent.fInt Syntax.w8)) (Syntax.tyRef (Syntax.named 4) Syntax.mut (Syntax.tyInt Syntax.w8)) 4) (List._∷_ (6, Rows.any-gone (Syntax.tyStruct (List._∷_ 116 (List._∷_ 101 (List._∷_ 120 (List._∷_ 116 (List._∷_ 95 (List._∷_ 114 (List._∷_ 101 (List._∷_ 97 (List._∷_ 100 (List._∷_ 105 (List._∷_ 110 (List._∷_ 103 (List._∷_ 58 (List._∷_ 58 (List._∷_ 82 (List._∷_ 101 (List._∷_ 97 (List._∷_ 100 (List._∷_ 101 (List._∷_ 114 List.[])))))))))))))))))))) (Syntax.tcons (Syntax.tyInt Syntax.w8) (Syntax.tcons (Syntax.tyInt Syntax.w64) (Syntax.tcons (Syntax.tyEnum (List._∷_ 116 (List._∷_ 101 (List._∷_ 120 (List._∷_ 116 (List._∷_ 95 (List._∷_ 114 (List._∷_ 101 (List._∷_ 97 (List._∷_ 100 (List._∷_ 105 (List._∷_ 110 (List._∷_ 103 (List._∷_ 58 (List._∷_ 58 (List._∷_ 72 (List._∷_ 101 (List._∷_ 108 (List._∷_ 100 List.[])))))))))))))))))) (Syntax.ttcons Syntax.tnil (Syntax.ttcons Syntax.tnil (Syntax.ttcons (Syntax.tcons (Syntax.tyInt Syntax.w8) Syntax.tnil) (Syntax.ttcons Syntax.tnil (Syntax.ttcons (Syntax.tcons (Syntax.tyInt Syntax.w8) Syntax.tnil) (Syntax.ttcons (Syntax.tcons (Syntax.tyInt Syntax.w8) Syntax.tnil) (Syntax.ttcons Syntax.tnil (Syntax.ttcons (Syntax.tcons (Syntax.tyInt Syntax.w8) Syntax.tnil) (Syntax.ttcons Syntax.tnil (Syntax.ttcons (Syntax.tcons (Syntax.tyEnum (List._∷_ 116 (List._∷_ 101 (List._∷_ 120 (List._∷_ 116 (List._∷_ 95 (List._∷_ 114 (List._∷_ 101 (List._∷_ 97 (List._∷_ 100 (List._∷_ 105 (List._∷_ 110 (List._∷_ 103 (List._∷_ 58 (List._∷_ 58 (List._∷_ 70 (List._∷_ 97 (List._∷_ 117 (List._∷_ 108 (List._∷_ 116 List.[]))))))))))))))))))) (Syntax.ttcons Syntax.tnil (Syntax.ttcons Syntax.tnil (Syntax.ttcons Syntax.tnil (Syntax.ttcons Syntax.tnil Syntax.ttnil))))) Syntax.tnil) Syntax.ttnil))))))))))) (Syntax.tcons (Syntax.tyArray (Syntax.tyInt Syntax.w8) 32) (Syntax.tcons (Syntax.tyInt Syntax.w64) Syntax.tnil))))))) (List._∷_ (7, Rows.any-gone (Syntax.tyInt Syntax.w64)) (List._∷_ (8, Rows.sc-here (Row.sInt Syntax.w64)) (List._∷_ (9, Rows.any-gone (Laws.mir)) (List._∷_ (10, Rows.any-gone (Syntax.tyStruct (List._∷_ 116 (List._∷_ 101 (List._∷_ 120 (List._∷_ 116 (List._∷_ 95 (List._∷_ 114 (List._∷_ 101 (List._∷_ 97 (List._∷_ 100 (List._∷_ 105 (List._∷_ 110 (List._∷_ 103 (List._∷_ 58 (List._∷_ 58 (List._∷_ 82 (List._∷_ 101 (List._∷_ 97 (List._∷_ 100 (List._∷_ 101 (List._∷_ 114 List.[])))))))))))))))))))) (Syntax.tcons (Syntax.tyInt Syntax.w8) (Syntax.tcons (Syntax.tyInt Syntax.w64) (Syntax.tcons (Syntax.tyEnum (List._∷_ 116 (List._∷_ 101 (List._∷_ 120 (List._∷_ 116 (List._∷_ 95 (List._∷_ 114 (List._∷_ 101 (List._∷_ 97 (List._∷_ 100 (List._∷_ 105 (List._∷_ 110 (List._∷_ 103 (List._∷_ 58 (List._∷_ 58 (List._∷_ 72 (List._∷_ 101 (List._∷_ 108 (List._∷_ 100 List.[])))))))))))))))))) (Syntax.ttcons Syntax.tnil (Syntax.ttcons Syntax.tnil (Syntax.ttcons (Syntax.tcons (Syntax.tyInt Syntax.w8) Syntax.tnil) (Syntax.ttcons Syntax.tnil (Syntax.ttcons (Syntax.tcons (Syntax.tyInt Syntax.w8) Syntax.tnil) (Syntax.ttcons (Syntax.tcons (Syntax.tyInt Syntax.w8) Syntax.tnil) (Syntax.ttcons Syntax.tnil (Syntax.ttcons (Syntax.tcons (Syntax.tyInt Syntax.w8) Syntax.tnil) (Syntax.ttcons Syntax.tnil (Syntax.ttcons (Syntax.tcons (Syntax.tyEnum (List._∷_ 116 (List._∷_ 101 (List._∷_ 120 (List._∷_ 116 (List._∷_ 95 (List._∷_ 114 (List._∷_ 101 (List._∷_ 97 (List._∷_ 100 (List._∷_ 105 (List._∷_ 110 (List._∷_ 103 (List._∷_ 58 (List._∷_ 58 (List._∷_ 70 (List._∷_ 97 (List._∷_ 117 (List._∷_ 108 (List._∷_ 116 List.[]))))))))))))))))))) (Syntax.ttcons Syntax.tnil (Syntax.ttcons Syntax.tnil (Syntax.ttcons Syntax.tnil (Syntax.ttcons Syntax.tnil Syntax.ttnil))))) Syntax.tnil) Syntax.ttnil))))))))))) (Syntax.tcons (Syntax.tyArray (Syntax.tyInt Syntax.w8) 32) (Syntax.tcons (Syntax.tyInt Syntax.w64) Syntax.tnil))))))) (List._∷_ (11, Rows.any-gone Syntax.tyBool) (List._∷_ (12, Rows.any-gone (Syntax.tyRef Syntax.erased Syntax.mut OfOutput.named)) (List._∷_ (13, Rows.any-gone (Syntax.tyStruct (List._∷_ 38 (List._∷_ 91 (List._∷_ 93 List.[]))) (Syntax.tcons (Syntax.tyRef Syntax.erased Syntax.mut OfOutput.named) (Syntax.tcons (Syntax.tyInt Syntax.w64) Syntax.tnil)))) (List._∷_ (14, Rows.any-gone (Syntax.tyRef Syntax.erased Syntax.mut OfStation.named)) (List._∷_ (15, Rows.any-gone (Syntax.tyStruct (List._∷_ 38 (List._∷_ 91 (List._∷_ 93 List.[]))) (Syntax.tcons (Syntax.tyRef Syntax.erased Syntax.mut OfStation.named) (Syntax.tcons (Syntax.tyInt Syntax.w64) Syntax.tnil)))) List.[])))))))))))))))
+t39 = List._∷_ (0, Rows.whole (Declared.row Turn.the-type)) (List._∷_ (1, Mut.mslice (OfOutput.row) (Syntax.tyRef (Syntax.named 0) Syntax.mut OfOutput.named) 0) (List._∷_ (2, Mut.mslice (OfStation.row) (Syntax.tyRef (Syntax.named 1) Syntax.mut OfStation.named) 1) (List._∷_ (3, Rows.mref (OfPanelRecord.row) (Syntax.tyRef (Syntax.named 2) Syntax.mut OfPanelRecord.named) 2) (List._∷_ (4, Mut.mslice (Referent.rtF (Referent.fInt Syntax.w8)) (Syntax.tyRef (Syntax.named 3) Syntax.mut (Syntax.tyInt Syntax.w8)) 3) (List._∷_ (5, Mut.mslice (Referent.rtF (Referent.fInt Syntax.w8)) (Syntax.tyRef (Syntax.named 4) Syntax.mut (Syntax.tyInt Syntax.w8)) 4) (List._∷_ (6, Rows.any-gone (Syntax.tyStruct (List._∷_ 116 (List._∷_ 101 (List._∷_ 120 (List._∷_ 116 (List._∷_ 95 (List._∷_ 114 (List._∷_ 101 (List._∷_ 97 (List._∷_ 100 (List._∷_ 105 (List._∷_ 110 (List._∷_ 103 (List._∷_ 58 (List._∷_ 58 (List._∷_ 82 (List._∷_ 101 (List._∷_ 97 (List._∷_ 100 (List._∷_ 101 (List._∷_ 114 List.[])))))))))))))))))))) (Syntax.tcons (Syntax.tyInt Syntax.w8) (Syntax.tcons (Syntax.tyInt Syntax.w64) (Syntax.tcons (Syntax.tyEnum (List._∷_ 116 (List._∷_ 101 (List._∷_ 120 (List._∷_ 116 (List._∷_ 95 (List._∷_ 114 (List._∷_ 101 (List._∷_ 97 (List._∷_ 100 (List._∷_ 105 (List._∷_ 110 (List._∷_ 103 (List._∷_ 58 (List._∷_ 58 (List._∷_ 72 (List._∷_ 101 (List._∷_ 108 (List._∷_ 100 List.[])))))))))))))))))) (Syntax.ttcons Syntax.tnil (Syntax.ttcons Syntax.tnil (Syntax.ttcons (Syntax.tcons (Syntax.tyInt Syntax.w8) Syntax.tnil) (Syntax.ttcons Syntax.tnil (Syntax.ttcons (Syntax.tcons (Syntax.tyInt Syntax.w8) Syntax.tnil) (Syntax.ttcons (Syntax.tcons (Syntax.tyInt Syntax.w8) Syntax.tnil) (Syntax.ttcons Syntax.tnil (Syntax.ttcons (Syntax.tcons (Syntax.tyInt Syntax.w8) Syntax.tnil) (Syntax.ttcons Syntax.tnil (Syntax.ttcons (Syntax.tcons (Syntax.tyEnum (List._∷_ 116 (List._∷_ 101 (List._∷_ 120 (List._∷_ 116 (List._∷_ 95 (List._∷_ 114 (List._∷_ 101 (List._∷_ 97 (List._∷_ 100 (List._∷_ 105 (List._∷_ 110 (List._∷_ 103 (List._∷_ 58 (List._∷_ 58 (List._∷_ 70 (List._∷_ 97 (List._∷_ 117 (List._∷_ 108 (List._∷_ 116 List.[]))))))))))))))))))) (Syntax.ttcons Syntax.tnil (Syntax.ttcons Syntax.tnil (Syntax.ttcons Syntax.tnil (Syntax.ttcons Syntax.tnil Syntax.ttnil))))) Syntax.tnil) Syntax.ttnil))))))))))) (Syntax.tcons (Syntax.tyArray (Syntax.tyInt Syntax.w8) 32) (Syntax.tcons (Syntax.tyInt Syntax.w64) Syntax.tnil))))))) (List._∷_ (7, Rows.any-gone (Syntax.tyInt Syntax.w64)) (List._∷_ (8, Rows.sc-here (Row.sInt Syntax.w64)) (List._∷_ (9, Rows.any-gone (Laws.mir)) (List._∷_ (10, Rows.any-gone (Syntax.tyStruct (List._∷_ 116 (List._∷_ 101 (List._∷_ 120 (List._∷_ 116 (List._∷_ 95 (List._∷_ 114 (List._∷_ 101 (List._∷_ 97 (List._∷_ 100 (List._∷_ 105 (List._∷_ 110 (List._∷_ 103 (List._∷_ 58 (List._∷_ 58 (List._∷_ 82 (List._∷_ 101 (List._∷_ 97 (List._∷_ 100 (List._∷_ 101 (List._∷_ 114 List.[])))))))))))))))))))) (Syntax.tcons (Syntax.tyInt Syntax.w8) (Syntax.tcons (Syntax.tyInt Syntax.w64) (Syntax.tcons (Syntax.tyEnum (List._∷_ 116 (List._∷_ 101 (List._∷_ 120 (List._∷_ 116 (List._∷_ 95 (List._∷_ 114 (List._∷_ 101 (List._∷_ 97 (List._∷_ 100 (List._∷_ 105 (List._∷_ 110 (List._∷_ 103 (List._∷_ 58 (List._∷_ 58 (List._∷_ 72 (List._∷_ 101 (List._∷_ 108 (List._∷_ 100 List.[])))))))))))))))))) (Syntax.ttcons Syntax.tnil (Syntax.ttcons Syntax.tnil (Syntax.ttcons (Syntax.tcons (Syntax.tyInt Syntax.w8) Syntax.tnil) (Syntax.ttcons Syntax.tnil (Syntax.ttcons (Syntax.tcons (Syntax.tyInt Syntax.w8) Syntax.tnil) (Syntax.ttcons (Syntax.tcons (Syntax.tyInt Syntax.w8) Syntax.tnil) (Syntax.ttcons Syntax.tnil (Syntax.ttcons (Syntax.tcons (Syntax.tyInt Syntax.w8) Syntax.tnil) (Syntax.ttcons Syntax.tnil (Syntax.ttcons (Syntax.tcons (Syntax.tyEnum (List._∷_ 116 (List._∷_ 101 (List._∷_ 120 (List._∷_ 116 (List._∷_ 95 (List._∷_ 114 (List._∷_ 101 (List._∷_ 97 (List._∷_ 100 (List._∷_ 105 (List._∷_ 110 (List._∷_ 103 (List._∷_ 58 (List._∷_ 58 (List._∷_ 70 (List._∷_ 97 (List._∷_ 117 (List._∷_ 108 (List._∷_ 116 List.[]))))))))))))))))))) (Syntax.ttcons Syntax.tnil (Syntax.ttcons Syntax.tnil (Syntax.ttcons Syntax.tnil (Syntax.ttcons Syntax.tnil Syntax.ttnil))))) Syntax.tnil) Syntax.ttnil))))))))))) (Syntax.tcons (Syntax.tyArray (Syntax.tyInt Syntax.w8) 32) (Syntax.tcons (Syntax.tyInt Syntax.w64) Syntax.tnil))))))) (List._∷_ (11, Rows.any-gone Syntax.tyBool) (List._∷_ (12, Rows.any-gone (Syntax.tyRef Syntax.erased Syntax.mut OfOutput.named)) (List._∷_ (13, Rows.any-gone (Syntax.tyStruct (List._∷_ 38 (List._∷_ 91 (List._∷_ 93 List.[]))) (Syntax.tcons (Syntax.tyRef Syntax.erased Syntax.mut OfOutput.named) (Syntax.tcons (Syntax.tyInt Syntax.w64) Syntax.tnil)))) (List._∷_ (14, Rows.any-gone (Syntax.tyRef Syntax.erased Syntax.mut OfStation.named)) (List._∷_ (15, Rows.any-gone (Syntax.tyStruct (List._∷_ 38 (List._∷_ 91 (List._∷_ 93 List.[]))) (Syntax.tcons (Syntax.tyRef Syntax.erased Syntax.mut OfStation.named) (Syntax.tcons (Syntax.tyInt Syntax.w64) Syntax.tnil)))) List.[])))))))))))))))
 
 abbrev pub t40 : List.List Row.Entry
-t40 = List._∷_ (0, Rows.whole (Declared.row (Apart.apartT Turn.the-type))) (List._∷_ (1, Mut.mslice (OfOutput.row) (Syntax.tyRef (Syntax.named 0) Syntax.mut OfOutput.named) 0) (List._∷_ (2, Mut.mslice (OfStation.row) (Syntax.tyRef (Syntax.named 1) Syntax.mut OfStation.named) 1) (List._∷_ (3, Rows.mref (Referent.rtF (Referent.fInt Syntax.w64)) (Syntax.tyRef (Syntax.named 2) Syntax.mut (Syntax.tyInt Syntax.w64)) 2) (List._∷_ (4, Mut.mslice (Referent.rtF (Referent.fInt Syntax.w8)) (Syntax.tyRef (Syntax.named 3) Syntax.mut (Syntax.tyInt Syntax.w8)) 3) (List._∷_ (5, Mut.mslice (Referent.rtF (Referent.fInt Syntax.w8)) (Syntax.tyRef (Syntax.named 4) Syntax.mut (Syntax.tyInt Syntax.w8)) 4) (List._∷_ (6, Rows.whole (Declared.row Reader.the-type)) (List._∷_ (7, Rows.sc-here (Row.sInt Syntax.w64)) (List._∷_ (8, Rows.sc-here (Row.sInt Syntax.w64)) (List._∷_ (9, Rows.any-gone (Laws.mir)) (List._∷_ (10, Rows.any-gone (Syntax.tyStruct (List._∷_ 116 (List._∷_ 101 (List._∷_ 120 (List._∷_ 116 (List._∷_ 95 (List._∷_ 114 (List._∷_ 101 (List._∷_ 97 (List._∷_ 100 (List._∷_ 105 (List._∷_ 110 (List._∷_ 103 (List._∷_ 58 (List._∷_ 58 (List._∷_ 82 (List._∷_ 101 (List._∷_ 97 (List._∷_ 100 (List._∷_ 101 (List._∷_ 114 List.[])))))))))))))))))))) (Syntax.tcons (Syntax.tyInt Syntax.w8) (Syntax.tcons (Syntax.tyInt Syntax.w64) (Syntax.tcons (Syntax.tyEnum (List._∷_ 116 (List._∷_ 101 (List._∷_ 120 (List._∷_ 116 (List._∷_ 95 (List._∷_ 114 (List._∷_ 101 (List._∷_ 97 (List._∷_ 100 (List._∷_ 105 (List._∷_ 110 (List._∷_ 103 (List._∷_ 58 (List._∷_ 58 (List._∷_ 72 (List._∷_ 101 (List._∷_ 108 (List._∷_ 100 List.[])))))))))))))))))) (Syntax.ttcons Syntax.tnil (Syntax.ttcons Syntax.tnil (Syntax.ttcons (Syntax.tcons (Syntax.tyInt Syntax.w8) Syntax.tnil) (Syntax.ttcons Syntax.tnil (Syntax.ttcons (Syntax.tcons (Syntax.tyInt Syntax.w8) Syntax.tnil) (Syntax.ttcons (Syntax.tcons (Syntax.tyInt Syntax.w8) Syntax.tnil) (Syntax.ttcons Syntax.tnil (Syntax.ttcons (Syntax.tcons (Syntax.tyInt Syntax.w8) Syntax.tnil) (Syntax.ttcons Syntax.tnil (Syntax.ttcons (Syntax.tcons (Syntax.tyEnum (List._∷_ 116 (List._∷_ 101 (List._∷_ 120 (List._∷_ 116 (List._∷_ 95 (List._∷_ 114 (List._∷_ 101 (List._∷_ 97 (List._∷_ 100 (List._∷_ 105 (List._∷_ 110 (List._∷_ 103 (List._∷_ 58 (List._∷_ 58 (List._∷_ 70 (List._∷_ 97 (List._∷_ 117 (List._∷_ 108 (List._∷_ 116 List.[]))))))))))))))))))) (Syntax.ttcons Syntax.tnil (Syntax.ttcons Syntax.tnil (Syntax.ttcons Syntax.tnil (Syntax.ttcons Syntax.tnil Syntax.ttnil))))) Syntax.tnil) Syntax.ttnil))))))))))) (Syntax.tcons (Syntax.tyArray (Syntax.tyInt Syntax.w8) 32) (Syntax.tcons (Syntax.tyInt Syntax.w64) Syntax.tnil))))))) (List._∷_ (11, Rows.any-gone Syntax.tyBool) (List._∷_ (12, Rows.any-gone (Syntax.tyRef Syntax.erased Syntax.mut OfOutput.named)) (List._∷_ (13, Rows.any-gone (Syntax.tyStruct (List._∷_ 38 (List._∷_ 91 (List._∷_ 93 List.[]))) (Syntax.tcons (Syntax.tyRef Syntax.erased Syntax.mut OfOutput.named) (Syntax.tcons (Syntax.tyInt Syntax.w64) Syntax.tnil)))) (List._∷_ (14, Rows.any-gone (Syntax.tyRef Syntax.erased Syntax.mut OfStation.named)) (List._∷_ (15, Rows.any-gone (Syntax.tyStruct (List._∷_ 38 (List._∷_ 91 (List._∷_ 93 List.[]))) (Syntax.tcons (Syntax.tyRef Syntax.erased Syntax.mut OfStation.named) (Syntax.tcons (Syntax.tyInt Syntax.w64) Syntax.tnil)))) List.[])))))))))))))))
+t40 = List._∷_ (0, Rows.whole (Declared.row (Apart.apartT Turn.the-type))) (List._∷_ (1, Mut.mslice (OfOutput.row) (Syntax.tyRef (Syntax.named 0) Syntax.mut OfOutput.named) 0) (List._∷_ (2, Mut.mslice (OfStation.row) (Syntax.tyRef (Syntax.named 1) Syntax.mut OfStation.named) 1) (List._∷_ (3, Rows.mref (OfPanelRecord.row) (Syntax.tyRef (Syntax.named 2) Syntax.mut OfPanelRecord.named) 2) (List._∷_ (4, Mut.mslice (Referent.rtF (Referent.fInt Syntax.w8)) (Syntax.tyRef (Syntax.named 3) Syntax.mut (Syntax.tyInt Syntax.w8)) 3) (List._∷_ (5, Mut.mslice (Referent.rtF (Referent.fInt Syntax.w8)) (Syntax.tyRef (Syntax.named 4) Syntax.mut (Syntax.tyInt Syntax.w8)) 4) (List._∷_ (6, Rows.whole (Declared.row Reader.the-type)) (List._∷_ (7, Rows.sc-here (Row.sInt Syntax.w64)) (List._∷_ (8, Rows.sc-here (Row.sInt Syntax.w64)) (List._∷_ (9, Rows.any-gone (Laws.mir)) (List._∷_ (10, Rows.any-gone (Syntax.tyStruct (List._∷_ 116 (List._∷_ 101 (List._∷_ 120 (List._∷_ 116 (List._∷_ 95 (List._∷_ 114 (List._∷_ 101 (List._∷_ 97 (List._∷_ 100 (List._∷_ 105 (List._∷_ 110 (List._∷_ 103 (List._∷_ 58 (List._∷_ 58 (List._∷_ 82 (List._∷_ 101 (List._∷_ 97 (List._∷_ 100 (List._∷_ 101 (List._∷_ 114 List.[])))))))))))))))))))) (Syntax.tcons (Syntax.tyInt Syntax.w8) (Syntax.tcons (Syntax.tyInt Syntax.w64) (Syntax.tcons (Syntax.tyEnum (List._∷_ 116 (List._∷_ 101 (List._∷_ 120 (List._∷_ 116 (List._∷_ 95 (List._∷_ 114 (List._∷_ 101 (List._∷_ 97 (List._∷_ 100 (List._∷_ 105 (List._∷_ 110 (List._∷_ 103 (List._∷_ 58 (List._∷_ 58 (List._∷_ 72 (List._∷_ 101 (List._∷_ 108 (List._∷_ 100 List.[])))))))))))))))))) (Syntax.ttcons Syntax.tnil (Syntax.ttcons Syntax.tnil (Syntax.ttcons (Syntax.tcons (Syntax.tyInt Syntax.w8) Syntax.tnil) (Syntax.ttcons Syntax.tnil (Syntax.ttcons (Syntax.tcons (Syntax.tyInt Syntax.w8) Syntax.tnil) (Syntax.ttcons (Syntax.tcons (Syntax.tyInt Syntax.w8) Syntax.tnil) (Syntax.ttcons Syntax.tnil (Syntax.ttcons (Syntax.tcons (Syntax.tyInt Syntax.w8) Syntax.tnil) (Syntax.ttcons Syntax.tnil (Syntax.ttcons (Syntax.tcons (Syntax.tyEnum (List._∷_ 116 (List._∷_ 101 (List._∷_ 120 (List._∷_ 116 (List._∷_ 95 (List._∷_ 114 (List._∷_ 101 (List._∷_ 97 (List._∷_ 100 (List._∷_ 105 (List._∷_ 110 (List._∷_ 103 (List._∷_ 58 (List._∷_ 58 (List._∷_ 70 (List._∷_ 97 (List._∷_ 117 (List._∷_ 108 (List._∷_ 116 List.[]))))))))))))))))))) (Syntax.ttcons Syntax.tnil (Syntax.ttcons Syntax.tnil (Syntax.ttcons Syntax.tnil (Syntax.ttcons Syntax.tnil Syntax.ttnil))))) Syntax.tnil) Syntax.ttnil))))))))))) (Syntax.tcons (Syntax.tyArray (Syntax.tyInt Syntax.w8) 32) (Syntax.tcons (Syntax.tyInt Syntax.w64) Syntax.tnil))))))) (List._∷_ (11, Rows.any-gone Syntax.tyBool) (List._∷_ (12, Rows.any-gone (Syntax.tyRef Syntax.erased Syntax.mut OfOutput.named)) (List._∷_ (13, Rows.any-gone (Syntax.tyStruct (List._∷_ 38 (List._∷_ 91 (List._∷_ 93 List.[]))) (Syntax.tcons (Syntax.tyRef Syntax.erased Syntax.mut OfOutput.named) (Syntax.tcons (Syntax.tyInt Syntax.w64) Syntax.tnil)))) (List._∷_ (14, Rows.any-gone (Syntax.tyRef Syntax.erased Syntax.mut OfStation.named)) (List._∷_ (15, Rows.any-gone (Syntax.tyStruct (List._∷_ 38 (List._∷_ 91 (List._∷_ 93 List.[]))) (Syntax.tcons (Syntax.tyRef Syntax.erased Syntax.mut OfStation.named) (Syntax.tcons (Syntax.tyInt Syntax.w64) Syntax.tnil)))) List.[])))))))))))))))
 
 abbrev pub t41 : List.List Row.Entry
-t41 = List._∷_ (0, Rows.whole (Declared.row (Apart.apartT Turn.the-type))) (List._∷_ (1, Mut.mslice (OfOutput.row) (Syntax.tyRef (Syntax.named 0) Syntax.mut OfOutput.named) 0) (List._∷_ (2, Mut.mslice (OfStation.row) (Syntax.tyRef (Syntax.named 1) Syntax.mut OfStation.named) 1) (List._∷_ (3, Rows.mref (Referent.rtF (Referent.fInt Syntax.w64)) (Syntax.tyRef (Syntax.named 2) Syntax.mut (Syntax.tyInt Syntax.w64)) 2) (List._∷_ (4, Mut.mslice (Referent.rtF (Referent.fInt Syntax.w8)) (Syntax.tyRef (Syntax.named 3) Syntax.mut (Syntax.tyInt Syntax.w8)) 3) (List._∷_ (5, Mut.mslice (Referent.rtF (Referent.fInt Syntax.w8)) (Syntax.tyRef (Syntax.named 4) Syntax.mut (Syntax.tyInt Syntax.w8)) 4) (List._∷_ (6, Rows.any-gone (Syntax.tyStruct (List._∷_ 116 (List._∷_ 101 (List._∷_ 120 (List._∷_ 116 (List._∷_ 95 (List._∷_ 114 (List._∷_ 101 (List._∷_ 97 (List._∷_ 100 (List._∷_ 105 (List._∷_ 110 (List._∷_ 103 (List._∷_ 58 (List._∷_ 58 (List._∷_ 82 (List._∷_ 101 (List._∷_ 97 (List._∷_ 100 (List._∷_ 101 (List._∷_ 114 List.[])))))))))))))))))))) (Syntax.tcons (Syntax.tyInt Syntax.w8) (Syntax.tcons (Syntax.tyInt Syntax.w64) (Syntax.tcons (Syntax.tyEnum (List._∷_ 116 (List._∷_ 101 (List._∷_ 120 (List._∷_ 116 (List._∷_ 95 (List._∷_ 114 (List._∷_ 101 (List._∷_ 97 (List._∷_ 100 (List._∷_ 105 (List._∷_ 110 (List._∷_ 103 (List._∷_ 58 (List._∷_ 58 (List._∷_ 72 (List._∷_ 101 (List._∷_ 108 (List._∷_ 100 List.[])))))))))))))))))) (Syntax.ttcons Syntax.tnil (Syntax.ttcons Syntax.tnil (Syntax.ttcons (Syntax.tcons (Syntax.tyInt Syntax.w8) Syntax.tnil) (Syntax.ttcons Syntax.tnil (Syntax.ttcons (Syntax.tcons (Syntax.tyInt Syntax.w8) Syntax.tnil) (Syntax.ttcons (Syntax.tcons (Syntax.tyInt Syntax.w8) Syntax.tnil) (Syntax.ttcons Syntax.tnil (Syntax.ttcons (Syntax.tcons (Syntax.tyInt Syntax.w8) Syntax.tnil) (Syntax.ttcons Syntax.tnil (Syntax.ttcons (Syntax.tcons (Syntax.tyEnum (List._∷_ 116 (List._∷_ 101 (List._∷_ 120 (List._∷_ 116 (List._∷_ 95 (List._∷_ 114 (List._∷_ 101 (List._∷_ 97 (List._∷_ 100 (List._∷_ 105 (List._∷_ 110 (List._∷_ 103 (List._∷_ 58 (List._∷_ 58 (List._∷_ 70 (List._∷_ 97 (List._∷_ 117 (List._∷_ 108 (List._∷_ 116 List.[]))))))))))))))))))) (Syntax.ttcons Syntax.tnil (Syntax.ttcons Syntax.tnil (Syntax.ttcons Syntax.tnil (Syntax.ttcons Syntax.tnil Syntax.ttnil))))) Syntax.tnil) Syntax.ttnil))))))))))) (Syntax.tcons (Syntax.tyArray (Syntax.tyInt Syntax.w8) 32) (Syntax.tcons (Syntax.tyInt Syntax.w64) Syntax.tnil))))))) (List._∷_ (7, Rows.sc-here (Row.sInt Syntax.w64)) (List._∷_ (8, Rows.sc-here (Row.sInt Syntax.w64)) (List._∷_ (9, Rows.any-gone (Laws.mir)) (List._∷_ (10, Rows.any-gone (Syntax.tyStruct (List._∷_ 116 (List._∷_ 101 (List._∷_ 120 (List._∷_ 116 (List._∷_ 95 (List._∷_ 114 (List._∷_ 101 (List._∷_ 97 (List._∷_ 100 (List._∷_ 105 (List._∷_ 110 (List._∷_ 103 (List._∷_ 58 (List._∷_ 58 (List._∷_ 82 (List._∷_ 101 (List._∷_ 97 (List._∷_ 100 (List._∷_ 101 (List._∷_ 114 List.[])))))))))))))))))))) (Syntax.tcons (Syntax.tyInt Syntax.w8) (Syntax.tcons (Syntax.tyInt Syntax.w64) (Syntax.tcons (Syntax.tyEnum (List._∷_ 116 (List._∷_ 101 (List._∷_ 120 (List._∷_ 116 (List._∷_ 95 (List._∷_ 114 (List._∷_ 101 (List._∷_ 97 (List._∷_ 100 (List._∷_ 105 (List._∷_ 110 (List._∷_ 103 (List._∷_ 58 (List._∷_ 58 (List._∷_ 72 (List._∷_ 101 (List._∷_ 108 (List._∷_ 100 List.[])))))))))))))))))) (Syntax.ttcons Syntax.tnil (Syntax.ttcons Syntax.tnil (Syntax.ttcons (Syntax.tcons (Syntax.tyInt Syntax.w8) Syntax.tnil) (Syntax.ttcons Syntax.tnil (Syntax.ttcons (Syntax.tcons (Syntax.tyInt Syntax.w8) Syntax.tnil) (Syntax.ttcons (Syntax.tcons (Syntax.tyInt Syntax.w8) Syntax.tnil) (Syntax.ttcons Syntax.tnil (Syntax.ttcons (Syntax.tcons (Syntax.tyInt Syntax.w8) Syntax.tnil) (Syntax.ttcons Syntax.tnil (Syntax.ttcons (Syntax.tcons (Syntax.tyEnum (List._∷_ 116 (List._∷_ 101 (List._∷_ 120 (List._∷_ 116 (List._∷_ 95 (List._∷_ 114 (List._∷_ 101 (List._∷_ 97 (List._∷_ 100 (List._∷_ 105 (List._∷_ 110 (List._∷_ 103 (List._∷_ 58 (List._∷_ 58 (List._∷_ 70 (List._∷_ 97 (List._∷_ 117 (List._∷_ 108 (List._∷_ 116 List.[]))))))))))))))))))) (Syntax.ttcons Syntax.tnil (Syntax.ttcons Syntax.tnil (Syntax.ttcons Syntax.tnil (Syntax.ttcons Syntax.tnil Syntax.ttnil))))) Syntax.tnil) Syntax.ttnil))))))))))) (Syntax.tcons (Syntax.tyArray (Syntax.tyInt Syntax.w8) 32) (Syntax.tcons (Syntax.tyInt Syntax.w64) Syntax.tnil))))))) (List._∷_ (11, Rows.any-gone Syntax.tyBool) (List._∷_ (12, Rows.any-gone (Syntax.tyRef Syntax.erased Syntax.mut OfOutput.named)) (List._∷_ (13, Rows.any-gone (Syntax.tyStruct (List._∷_ 38 (List._∷_ 91 (List._∷_ 93 List.[]))) (Syntax.tcons (Syntax.tyRef Syntax.erased Syntax.mut OfOutput.named) (Syntax.tcons (Syntax.tyInt Syntax.w64) Syntax.tnil)))) (List._∷_ (14, Rows.any-gone (Syntax.tyRef Syntax.erased Syntax.mut OfStation.named)) (List._∷_ (15, Rows.any-gone (Syntax.tyStruct (List._∷_ 38 (List._∷_ 91 (List._∷_ 93 List.[]))) (Syntax.tcons (Syntax.tyRef Syntax.erased Syntax.mut OfStation.named) (Syntax.tcons (Syntax.tyInt Syntax.w64) Syntax.tnil)))) List.[])))))))))))))))
+t41 = List._∷_ (0, Rows.whole (Declared.row (Apart.apartT Turn.the-type))) (List._∷_ (1, Mut.mslice (OfOutput.row) (Syntax.tyRef (Syntax.named 0) Syntax.mut OfOutput.named) 0) (List._∷_ (2, Mut.mslice (OfStation.row) (Syntax.tyRef (Syntax.named 1) Syntax.mut OfStation.named) 1) (List._∷_ (3, Rows.mref (OfPanelRecord.row) (Syntax.tyRef (Syntax.named 2) Syntax.mut OfPanelRecord.named) 2) (List._∷_ (4, Mut.mslice (Referent.rtF (Referent.fInt Syntax.w8)) (Syntax.tyRef (Syntax.named 3) Syntax.mut (Syntax.tyInt Syntax.w8)) 3) (List._∷_ (5, Mut.mslice (Referent.rtF (Referent.fInt Syntax.w8)) (Syntax.tyRef (Syntax.named 4) Syntax.mut (Syntax.tyInt Syntax.w8)) 4) (List._∷_ (6, Rows.any-gone (Syntax.tyStruct (List._∷_ 116 (List._∷_ 101 (List._∷_ 120 (List._∷_ 116 (List._∷_ 95 (List._∷_ 114 (List._∷_ 101 (List._∷_ 97 (List._∷_ 100 (List._∷_ 105 (List._∷_ 110 (List._∷_ 103 (List._∷_ 58 (List._∷_ 58 (List._∷_ 82 (List._∷_ 101 (List._∷_ 97 (List._∷_ 100 (List._∷_ 101 (List._∷_ 114 List.[])))))))))))))))))))) (Syntax.tcons (Syntax.tyInt Syntax.w8) (Syntax.tcons (Syntax.tyInt Syntax.w64) (Syntax.tcons (Syntax.tyEnum (List._∷_ 116 (List._∷_ 101 (List._∷_ 120 (List._∷_ 116 (List._∷_ 95 (List._∷_ 114 (List._∷_ 101 (List._∷_ 97 (List._∷_ 100 (List._∷_ 105 (List._∷_ 110 (List._∷_ 103 (List._∷_ 58 (List._∷_ 58 (List._∷_ 72 (List._∷_ 101 (List._∷_ 108 (List._∷_ 100 List.[])))))))))))))))))) (Syntax.ttcons Syntax.tnil (Syntax.ttcons Syntax.tnil (Syntax.ttcons (Syntax.tcons (Syntax.tyInt Syntax.w8) Syntax.tnil) (Syntax.ttcons Syntax.tnil (Syntax.ttcons (Syntax.tcons (Syntax.tyInt Syntax.w8) Syntax.tnil) (Syntax.ttcons (Syntax.tcons (Syntax.tyInt Syntax.w8) Syntax.tnil) (Syntax.ttcons Syntax.tnil (Syntax.ttcons (Syntax.tcons (Syntax.tyInt Syntax.w8) Syntax.tnil) (Syntax.ttcons Syntax.tnil (Syntax.ttcons (Syntax.tcons (Syntax.tyEnum (List._∷_ 116 (List._∷_ 101 (List._∷_ 120 (List._∷_ 116 (List._∷_ 95 (List._∷_ 114 (List._∷_ 101 (List._∷_ 97 (List._∷_ 100 (List._∷_ 105 (List._∷_ 110 (List._∷_ 103 (List._∷_ 58 (List._∷_ 58 (List._∷_ 70 (List._∷_ 97 (List._∷_ 117 (List._∷_ 108 (List._∷_ 116 List.[]))))))))))))))))))) (Syntax.ttcons Syntax.tnil (Syntax.ttcons Syntax.tnil (Syntax.ttcons Syntax.tnil (Syntax.ttcons Syntax.tnil Syntax.ttnil))))) Syntax.tnil) Syntax.ttnil))))))))))) (Syntax.tcons (Syntax.tyArray (Syntax.tyInt Syntax.w8) 32) (Syntax.tcons (Syntax.tyInt Syntax.w64) Syntax.tnil))))))) (List._∷_ (7, Rows.sc-here (Row.sInt Syntax.w64)) (List._∷_ (8, Rows.sc-here (Row.sInt Syntax.w64)) (List._∷_ (9, Rows.any-gone (Laws.mir)) (List._∷_ (10, Rows.any-gone (Syntax.tyStruct (List._∷_ 116 (List._∷_ 101 (List._∷_ 120 (List._∷_ 116 (List._∷_ 95 (List._∷_ 114 (List._∷_ 101 (List._∷_ 97 (List._∷_ 100 (List._∷_ 105 (List._∷_ 110 (List._∷_ 103 (List._∷_ 58 (List._∷_ 58 (List._∷_ 82 (List._∷_ 101 (List._∷_ 97 (List._∷_ 100 (List._∷_ 101 (List._∷_ 114 List.[])))))))))))))))))))) (Syntax.tcons (Syntax.tyInt Syntax.w8) (Syntax.tcons (Syntax.tyInt Syntax.w64) (Syntax.tcons (Syntax.tyEnum (List._∷_ 116 (List._∷_ 101 (List._∷_ 120 (List._∷_ 116 (List._∷_ 95 (List._∷_ 114 (List._∷_ 101 (List._∷_ 97 (List._∷_ 100 (List._∷_ 105 (List._∷_ 110 (List._∷_ 103 (List._∷_ 58 (List._∷_ 58 (List._∷_ 72 (List._∷_ 101 (List._∷_ 108 (List._∷_ 100 List.[])))))))))))))))))) (Syntax.ttcons Syntax.tnil (Syntax.ttcons Syntax.tnil (Syntax.ttcons (Syntax.tcons (Syntax.tyInt Syntax.w8) Syntax.tnil) (Syntax.ttcons Syntax.tnil (Syntax.ttcons (Syntax.tcons (Syntax.tyInt Syntax.w8) Syntax.tnil) (Syntax.ttcons (Syntax.tcons (Syntax.tyInt Syntax.w8) Syntax.tnil) (Syntax.ttcons Syntax.tnil (Syntax.ttcons (Syntax.tcons (Syntax.tyInt Syntax.w8) Syntax.tnil) (Syntax.ttcons Syntax.tnil (Syntax.ttcons (Syntax.tcons (Syntax.tyEnum (List._∷_ 116 (List._∷_ 101 (List._∷_ 120 (List._∷_ 116 (List._∷_ 95 (List._∷_ 114 (List._∷_ 101 (List._∷_ 97 (List._∷_ 100 (List._∷_ 105 (List._∷_ 110 (List._∷_ 103 (List._∷_ 58 (List._∷_ 58 (List._∷_ 70 (List._∷_ 97 (List._∷_ 117 (List._∷_ 108 (List._∷_ 116 List.[]))))))))))))))))))) (Syntax.ttcons Syntax.tnil (Syntax.ttcons Syntax.tnil (Syntax.ttcons Syntax.tnil (Syntax.ttcons Syntax.tnil Syntax.ttnil))))) Syntax.tnil) Syntax.ttnil))))))))))) (Syntax.tcons (Syntax.tyArray (Syntax.tyInt Syntax.w8) 32) (Syntax.tcons (Syntax.tyInt Syntax.w64) Syntax.tnil))))))) (List._∷_ (11, Rows.any-gone Syntax.tyBool) (List._∷_ (12, Rows.any-gone (Syntax.tyRef Syntax.erased Syntax.mut OfOutput.named)) (List._∷_ (13, Rows.any-gone (Syntax.tyStruct (List._∷_ 38 (List._∷_ 91 (List._∷_ 93 List.[]))) (Syntax.tcons (Syntax.tyRef Syntax.erased Syntax.mut OfOutput.named) (Syntax.tcons (Syntax.tyInt Syntax.w64) Syntax.tnil)))) (List._∷_ (14, Rows.any-gone (Syntax.tyRef Syntax.erased Syntax.mut OfStation.named)) (List._∷_ (15, Rows.any-gone (Syntax.tyStruct (List._∷_ 38 (List._∷_ 91 (List._∷_ 93 List.[]))) (Syntax.tcons (Syntax.tyRef Syntax.erased Syntax.mut OfStation.named) (Syntax.tcons (Syntax.tyInt Syntax.w64) Syntax.tnil)))) List.[])))))))))))))))
 
 abbrev pub t42 : List.List Row.Entry
-t42 = List._∷_ (0, Rows.whole (Declared.row (Apart.apartT Turn.the-type))) (List._∷_ (1, Mut.mslice (OfOutput.row) (Syntax.tyRef (Syntax.named 0) Syntax.mut OfOutput.named) 0) (List._∷_ (2, Mut.mslice (OfStation.row) (Syntax.tyRef (Syntax.named 1) Syntax.mut OfStation.named) 1) (List._∷_ (3, Rows.mref (Referent.rtF (Referent.fInt Syntax.w64)) (Syntax.tyRef (Syntax.named 2) Syntax.mut (Syntax.tyInt Syntax.w64)) 2) (List._∷_ (4, Mut.mslice (Referent.rtF (Referent.fInt Syntax.w8)) (Syntax.tyRef (Syntax.named 3) Syntax.mut (Syntax.tyInt Syntax.w8)) 3) (List._∷_ (5, Mut.mslice (Referent.rtF (Referent.fInt Syntax.w8)) (Syntax.tyRef (Syntax.named 4) Syntax.mut (Syntax.tyInt Syntax.w8)) 4) (List._∷_ (6, Rows.any-gone (Syntax.tyStruct (List._∷_ 116 (List._∷_ 101 (List._∷_ 120 (List._∷_ 116 (List._∷_ 95 (List._∷_ 114 (List._∷_ 101 (List._∷_ 97 (List._∷_ 100 (List._∷_ 105 (List._∷_ 110 (List._∷_ 103 (List._∷_ 58 (List._∷_ 58 (List._∷_ 82 (List._∷_ 101 (List._∷_ 97 (List._∷_ 100 (List._∷_ 101 (List._∷_ 114 List.[])))))))))))))))))))) (Syntax.tcons (Syntax.tyInt Syntax.w8) (Syntax.tcons (Syntax.tyInt Syntax.w64) (Syntax.tcons (Syntax.tyEnum (List._∷_ 116 (List._∷_ 101 (List._∷_ 120 (List._∷_ 116 (List._∷_ 95 (List._∷_ 114 (List._∷_ 101 (List._∷_ 97 (List._∷_ 100 (List._∷_ 105 (List._∷_ 110 (List._∷_ 103 (List._∷_ 58 (List._∷_ 58 (List._∷_ 72 (List._∷_ 101 (List._∷_ 108 (List._∷_ 100 List.[])))))))))))))))))) (Syntax.ttcons Syntax.tnil (Syntax.ttcons Syntax.tnil (Syntax.ttcons (Syntax.tcons (Syntax.tyInt Syntax.w8) Syntax.tnil) (Syntax.ttcons Syntax.tnil (Syntax.ttcons (Syntax.tcons (Syntax.tyInt Syntax.w8) Syntax.tnil) (Syntax.ttcons (Syntax.tcons (Syntax.tyInt Syntax.w8) Syntax.tnil) (Syntax.ttcons Syntax.tnil (Syntax.ttcons (Syntax.tcons (Syntax.tyInt Syntax.w8) Syntax.tnil) (Syntax.ttcons Syntax.tnil (Syntax.ttcons (Syntax.tcons (Syntax.tyEnum (List._∷_ 116 (List._∷_ 101 (List._∷_ 120 (List._∷_ 116 (List._∷_ 95 (List._∷_ 114 (List._∷_ 101 (List._∷_ 97 (List._∷_ 100 (List._∷_ 105 (List._∷_ 110 (List._∷_ 103 (List._∷_ 58 (List._∷_ 58 (List._∷_ 70 (List._∷_ 97 (List._∷_ 117 (List._∷_ 108 (List._∷_ 116 List.[]))))))))))))))))))) (Syntax.ttcons Syntax.tnil (Syntax.ttcons Syntax.tnil (Syntax.ttcons Syntax.tnil (Syntax.ttcons Syntax.tnil Syntax.ttnil))))) Syntax.tnil) Syntax.ttnil))))))))))) (Syntax.tcons (Syntax.tyArray (Syntax.tyInt Syntax.w8) 32) (Syntax.tcons (Syntax.tyInt Syntax.w64) Syntax.tnil))))))) (List._∷_ (7, Rows.any-gone (Syntax.tyInt Syntax.w64)) (List._∷_ (8, Rows.sc-here (Row.sInt Syntax.w64)) (List._∷_ (9, Rows.any-gone (Laws.mir)) (List._∷_ (10, Rows.any-gone (Syntax.tyStruct (List._∷_ 116 (List._∷_ 101 (List._∷_ 120 (List._∷_ 116 (List._∷_ 95 (List._∷_ 114 (List._∷_ 101 (List._∷_ 97 (List._∷_ 100 (List._∷_ 105 (List._∷_ 110 (List._∷_ 103 (List._∷_ 58 (List._∷_ 58 (List._∷_ 82 (List._∷_ 101 (List._∷_ 97 (List._∷_ 100 (List._∷_ 101 (List._∷_ 114 List.[])))))))))))))))))))) (Syntax.tcons (Syntax.tyInt Syntax.w8) (Syntax.tcons (Syntax.tyInt Syntax.w64) (Syntax.tcons (Syntax.tyEnum (List._∷_ 116 (List._∷_ 101 (List._∷_ 120 (List._∷_ 116 (List._∷_ 95 (List._∷_ 114 (List._∷_ 101 (List._∷_ 97 (List._∷_ 100 (List._∷_ 105 (List._∷_ 110 (List._∷_ 103 (List._∷_ 58 (List._∷_ 58 (List._∷_ 72 (List._∷_ 101 (List._∷_ 108 (List._∷_ 100 List.[])))))))))))))))))) (Syntax.ttcons Syntax.tnil (Syntax.ttcons Syntax.tnil (Syntax.ttcons (Syntax.tcons (Syntax.tyInt Syntax.w8) Syntax.tnil) (Syntax.ttcons Syntax.tnil (Syntax.ttcons (Syntax.tcons (Syntax.tyInt Syntax.w8) Syntax.tnil) (Syntax.ttcons (Syntax.tcons (Syntax.tyInt Syntax.w8) Syntax.tnil) (Syntax.ttcons Syntax.tnil (Syntax.ttcons (Syntax.tcons (Syntax.tyInt Syntax.w8) Syntax.tnil) (Syntax.ttcons Syntax.tnil (Syntax.ttcons (Syntax.tcons (Syntax.tyEnum (List._∷_ 116 (List._∷_ 101 (List._∷_ 120 (List._∷_ 116 (List._∷_ 95 (List._∷_ 114 (List._∷_ 101 (List._∷_ 97 (List._∷_ 100 (List._∷_ 105 (List._∷_ 110 (List._∷_ 103 (List._∷_ 58 (List._∷_ 58 (List._∷_ 70 (List._∷_ 97 (List._∷_ 117 (List._∷_ 108 (List._∷_ 116 List.[]))))))))))))))))))) (Syntax.ttcons Syntax.tnil (Syntax.ttcons Syntax.tnil (Syntax.ttcons Syntax.tnil (Syntax.ttcons Syntax.tnil Syntax.ttnil))))) Syntax.tnil) Syntax.ttnil))))))))))) (Syntax.tcons (Syntax.tyArray (Syntax.tyInt Syntax.w8) 32) (Syntax.tcons (Syntax.tyInt Syntax.w64) Syntax.tnil))))))) (List._∷_ (11, Rows.any-gone Syntax.tyBool) (List._∷_ (12, Rows.any-gone (Syntax.tyRef Syntax.erased Syntax.mut OfOutput.named)) (List._∷_ (13, Rows.any-gone (Syntax.tyStruct (List._∷_ 38 (List._∷_ 91 (List._∷_ 93 List.[]))) (Syntax.tcons (Syntax.tyRef Syntax.erased Syntax.mut OfOutput.named) (Syntax.tcons (Syntax.tyInt Syntax.w64) Syntax.tnil)))) (List._∷_ (14, Rows.any-gone (Syntax.tyRef Syntax.erased Syntax.mut OfStation.named)) (List._∷_ (15, Rows.any-gone (Syntax.tyStruct (List._∷_ 38 (List._∷_ 91 (List._∷_ 93 List.[]))) (Syntax.tcons (Syntax.tyRef Syntax.erased Syntax.mut OfStation.named) (Syntax.tcons (Syntax.tyInt Syntax.w64) Syntax.tnil)))) List.[])))))))))))))))
+t42 = List._∷_ (0, Rows.whole (Declared.row (Apart.apartT Turn.the-type))) (List._∷_ (1, Mut.mslice (OfOutput.row) (Syntax.tyRef (Syntax.named 0) Syntax.mut OfOutput.named) 0) (List._∷_ (2, Mut.mslice (OfStation.row) (Syntax.tyRef (Syntax.named 1) Syntax.mut OfStation.named) 1) (List._∷_ (3, Rows.mref (OfPanelRecord.row) (Syntax.tyRef (Syntax.named 2) Syntax.mut OfPanelRecord.named) 2) (List._∷_ (4, Mut.mslice (Referent.rtF (Referent.fInt Syntax.w8)) (Syntax.tyRef (Syntax.named 3) Syntax.mut (Syntax.tyInt Syntax.w8)) 3) (List._∷_ (5, Mut.mslice (Referent.rtF (Referent.fInt Syntax.w8)) (Syntax.tyRef (Syntax.named 4) Syntax.mut (Syntax.tyInt Syntax.w8)) 4) (List._∷_ (6, Rows.any-gone (Syntax.tyStruct (List._∷_ 116 (List._∷_ 101 (List._∷_ 120 (List._∷_ 116 (List._∷_ 95 (List._∷_ 114 (List._∷_ 101 (List._∷_ 97 (List._∷_ 100 (List._∷_ 105 (List._∷_ 110 (List._∷_ 103 (List._∷_ 58 (List._∷_ 58 (List._∷_ 82 (List._∷_ 101 (List._∷_ 97 (List._∷_ 100 (List._∷_ 101 (List._∷_ 114 List.[])))))))))))))))))))) (Syntax.tcons (Syntax.tyInt Syntax.w8) (Syntax.tcons (Syntax.tyInt Syntax.w64) (Syntax.tcons (Syntax.tyEnum (List._∷_ 116 (List._∷_ 101 (List._∷_ 120 (List._∷_ 116 (List._∷_ 95 (List._∷_ 114 (List._∷_ 101 (List._∷_ 97 (List._∷_ 100 (List._∷_ 105 (List._∷_ 110 (List._∷_ 103 (List._∷_ 58 (List._∷_ 58 (List._∷_ 72 (List._∷_ 101 (List._∷_ 108 (List._∷_ 100 List.[])))))))))))))))))) (Syntax.ttcons Syntax.tnil (Syntax.ttcons Syntax.tnil (Syntax.ttcons (Syntax.tcons (Syntax.tyInt Syntax.w8) Syntax.tnil) (Syntax.ttcons Syntax.tnil (Syntax.ttcons (Syntax.tcons (Syntax.tyInt Syntax.w8) Syntax.tnil) (Syntax.ttcons (Syntax.tcons (Syntax.tyInt Syntax.w8) Syntax.tnil) (Syntax.ttcons Syntax.tnil (Syntax.ttcons (Syntax.tcons (Syntax.tyInt Syntax.w8) Syntax.tnil) (Syntax.ttcons Syntax.tnil (Syntax.ttcons (Syntax.tcons (Syntax.tyEnum (List._∷_ 116 (List._∷_ 101 (List._∷_ 120 (List._∷_ 116 (List._∷_ 95 (List._∷_ 114 (List._∷_ 101 (List._∷_ 97 (List._∷_ 100 (List._∷_ 105 (List._∷_ 110 (List._∷_ 103 (List._∷_ 58 (List._∷_ 58 (List._∷_ 70 (List._∷_ 97 (List._∷_ 117 (List._∷_ 108 (List._∷_ 116 List.[]))))))))))))))))))) (Syntax.ttcons Syntax.tnil (Syntax.ttcons Syntax.tnil (Syntax.ttcons Syntax.tnil (Syntax.ttcons Syntax.tnil Syntax.ttnil))))) Syntax.tnil) Syntax.ttnil))))))))))) (Syntax.tcons (Syntax.tyArray (Syntax.tyInt Syntax.w8) 32) (Syntax.tcons (Syntax.tyInt Syntax.w64) Syntax.tnil))))))) (List._∷_ (7, Rows.any-gone (Syntax.tyInt Syntax.w64)) (List._∷_ (8, Rows.sc-here (Row.sInt Syntax.w64)) (List._∷_ (9, Rows.any-gone (Laws.mir)) (List._∷_ (10, Rows.any-gone (Syntax.tyStruct (List._∷_ 116 (List._∷_ 101 (List._∷_ 120 (List._∷_ 116 (List._∷_ 95 (List._∷_ 114 (List._∷_ 101 (List._∷_ 97 (List._∷_ 100 (List._∷_ 105 (List._∷_ 110 (List._∷_ 103 (List._∷_ 58 (List._∷_ 58 (List._∷_ 82 (List._∷_ 101 (List._∷_ 97 (List._∷_ 100 (List._∷_ 101 (List._∷_ 114 List.[])))))))))))))))))))) (Syntax.tcons (Syntax.tyInt Syntax.w8) (Syntax.tcons (Syntax.tyInt Syntax.w64) (Syntax.tcons (Syntax.tyEnum (List._∷_ 116 (List._∷_ 101 (List._∷_ 120 (List._∷_ 116 (List._∷_ 95 (List._∷_ 114 (List._∷_ 101 (List._∷_ 97 (List._∷_ 100 (List._∷_ 105 (List._∷_ 110 (List._∷_ 103 (List._∷_ 58 (List._∷_ 58 (List._∷_ 72 (List._∷_ 101 (List._∷_ 108 (List._∷_ 100 List.[])))))))))))))))))) (Syntax.ttcons Syntax.tnil (Syntax.ttcons Syntax.tnil (Syntax.ttcons (Syntax.tcons (Syntax.tyInt Syntax.w8) Syntax.tnil) (Syntax.ttcons Syntax.tnil (Syntax.ttcons (Syntax.tcons (Syntax.tyInt Syntax.w8) Syntax.tnil) (Syntax.ttcons (Syntax.tcons (Syntax.tyInt Syntax.w8) Syntax.tnil) (Syntax.ttcons Syntax.tnil (Syntax.ttcons (Syntax.tcons (Syntax.tyInt Syntax.w8) Syntax.tnil) (Syntax.ttcons Syntax.tnil (Syntax.ttcons (Syntax.tcons (Syntax.tyEnum (List._∷_ 116 (List._∷_ 101 (List._∷_ 120 (List._∷_ 116 (List._∷_ 95 (List._∷_ 114 (List._∷_ 101 (List._∷_ 97 (List._∷_ 100 (List._∷_ 105 (List._∷_ 110 (List._∷_ 103 (List._∷_ 58 (List._∷_ 58 (List._∷_ 70 (List._∷_ 97 (List._∷_ 117 (List._∷_ 108 (List._∷_ 116 List.[]))))))))))))))))))) (Syntax.ttcons Syntax.tnil (Syntax.ttcons Syntax.tnil (Syntax.ttcons Syntax.tnil (Syntax.ttcons Syntax.tnil Syntax.ttnil))))) Syntax.tnil) Syntax.ttnil))))))))))) (Syntax.tcons (Syntax.tyArray (Syntax.tyInt Syntax.w8) 32) (Syntax.tcons (Syntax.tyInt Syntax.w64) Syntax.tnil))))))) (List._∷_ (11, Rows.any-gone Syntax.tyBool) (List._∷_ (12, Rows.any-gone (Syntax.tyRef Syntax.erased Syntax.mut OfOutput.named)) (List._∷_ (13, Rows.any-gone (Syntax.tyStruct (List._∷_ 38 (List._∷_ 91 (List._∷_ 93 List.[]))) (Syntax.tcons (Syntax.tyRef Syntax.erased Syntax.mut OfOutput.named) (Syntax.tcons (Syntax.tyInt Syntax.w64) Syntax.tnil)))) (List._∷_ (14, Rows.any-gone (Syntax.tyRef Syntax.erased Syntax.mut OfStation.named)) (List._∷_ (15, Rows.any-gone (Syntax.tyStruct (List._∷_ 38 (List._∷_ 91 (List._∷_ 93 List.[]))) (Syntax.tcons (Syntax.tyRef Syntax.erased Syntax.mut OfStation.named) (Syntax.tcons (Syntax.tyInt Syntax.w64) Syntax.tnil)))) List.[])))))))))))))))
 
 abbrev pub t43 : List.List Row.Entry
-t43 = List._∷_ (0, Rows.whole (Declared.row (Apart.apartT Turn.the-type))) (List._∷_ (1, Mut.mslice (OfOutput.row) (Syntax.tyRef (Syntax.named 0) Syntax.mut OfOutput.named) 0) (List._∷_ (2, Mut.mslice (OfStation.row) (Syntax.tyRef (Syntax.named 1) Syntax.mut OfStation.named) 1) (List._∷_ (3, Rows.mref (Referent.rtF (Referent.fInt Syntax.w64)) (Syntax.tyRef (Syntax.named 2) Syntax.mut (Syntax.tyInt Syntax.w64)) 2) (List._∷_ (4, Mut.mslice (Referent.rtF (Referent.fInt Syntax.w8)) (Syntax.tyRef (Syntax.named 3) Syntax.mut (Syntax.tyInt Syntax.w8)) 3) (List._∷_ (5, Mut.mslice (Referent.rtF (Referent.fInt Syntax.w8)) (Syntax.tyRef (Syntax.named 4) Syntax.mut (Syntax.tyInt Syntax.w8)) 4) (List._∷_ (6, Rows.any-gone (Syntax.tyStruct (List._∷_ 116 (List._∷_ 101 (List._∷_ 120 (List._∷_ 116 (List._∷_ 95 (List._∷_ 114 (List._∷_ 101 (List._∷_ 97 (List._∷_ 100 (List._∷_ 105 (List._∷_ 110 (List._∷_ 103 (List._∷_ 58 (List._∷_ 58 (List._∷_ 82 (List._∷_ 101 (List._∷_ 97 (List._∷_ 100 (List._∷_ 101 (List._∷_ 114 List.[])))))))))))))))))))) (Syntax.tcons (Syntax.tyInt Syntax.w8) (Syntax.tcons (Syntax.tyInt Syntax.w64) (Syntax.tcons (Syntax.tyEnum (List._∷_ 116 (List._∷_ 101 (List._∷_ 120 (List._∷_ 116 (List._∷_ 95 (List._∷_ 114 (List._∷_ 101 (List._∷_ 97 (List._∷_ 100 (List._∷_ 105 (List._∷_ 110 (List._∷_ 103 (List._∷_ 58 (List._∷_ 58 (List._∷_ 72 (List._∷_ 101 (List._∷_ 108 (List._∷_ 100 List.[])))))))))))))))))) (Syntax.ttcons Syntax.tnil (Syntax.ttcons Syntax.tnil (Syntax.ttcons (Syntax.tcons (Syntax.tyInt Syntax.w8) Syntax.tnil) (Syntax.ttcons Syntax.tnil (Syntax.ttcons (Syntax.tcons (Syntax.tyInt Syntax.w8) Syntax.tnil) (Syntax.ttcons (Syntax.tcons (Syntax.tyInt Syntax.w8) Syntax.tnil) (Syntax.ttcons Syntax.tnil (Syntax.ttcons (Syntax.tcons (Syntax.tyInt Syntax.w8) Syntax.tnil) (Syntax.ttcons Syntax.tnil (Syntax.ttcons (Syntax.tcons (Syntax.tyEnum (List._∷_ 116 (List._∷_ 101 (List._∷_ 120 (List._∷_ 116 (List._∷_ 95 (List._∷_ 114 (List._∷_ 101 (List._∷_ 97 (List._∷_ 100 (List._∷_ 105 (List._∷_ 110 (List._∷_ 103 (List._∷_ 58 (List._∷_ 58 (List._∷_ 70 (List._∷_ 97 (List._∷_ 117 (List._∷_ 108 (List._∷_ 116 List.[]))))))))))))))))))) (Syntax.ttcons Syntax.tnil (Syntax.ttcons Syntax.tnil (Syntax.ttcons Syntax.tnil (Syntax.ttcons Syntax.tnil Syntax.ttnil))))) Syntax.tnil) Syntax.ttnil))))))))))) (Syntax.tcons (Syntax.tyArray (Syntax.tyInt Syntax.w8) 32) (Syntax.tcons (Syntax.tyInt Syntax.w64) Syntax.tnil))))))) (List._∷_ (7, Rows.any-gone (Syntax.tyInt Syntax.w64)) (List._∷_ (8, Rows.any-gone (Syntax.tyInt Syntax.w64)) (List._∷_ (9, Rows.any-gone (Laws.mir)) (List._∷_ (10, Rows.any-gone (Syntax.tyStruct (List._∷_ 116 (List._∷_ 101 (List._∷_ 120 (List._∷_ 116 (List._∷_ 95 (List._∷_ 114 (List._∷_ 101 (List._∷_ 97 (List._∷_ 100 (List._∷_ 105 (List._∷_ 110 (List._∷_ 103 (List._∷_ 58 (List._∷_ 58 (List._∷_ 82 (List._∷_ 101 (List._∷_ 97 (List._∷_ 100 (List._∷_ 101 (List._∷_ 114 List.[])))))))))))))))))))) (Syntax.tcons (Syntax.tyInt Syntax.w8) (Syntax.tcons (Syntax.tyInt Syntax.w64) (Syntax.tcons (Syntax.tyEnum (List._∷_ 116 (List._∷_ 101 (List._∷_ 120 (List._∷_ 116 (List._∷_ 95 (List._∷_ 114 (List._∷_ 101 (List._∷_ 97 (List._∷_ 100 (List._∷_ 105 (List._∷_ 110 (List._∷_ 103 (List._∷_ 58 (List._∷_ 58 (List._∷_ 72 (List._∷_ 101 (List._∷_ 108 (List._∷_ 100 List.[])))))))))))))))))) (Syntax.ttcons Syntax.tnil (Syntax.ttcons Syntax.tnil (Syntax.ttcons (Syntax.tcons (Syntax.tyInt Syntax.w8) Syntax.tnil) (Syntax.ttcons Syntax.tnil (Syntax.ttcons (Syntax.tcons (Syntax.tyInt Syntax.w8) Syntax.tnil) (Syntax.ttcons (Syntax.tcons (Syntax.tyInt Syntax.w8) Syntax.tnil) (Syntax.ttcons Syntax.tnil (Syntax.ttcons (Syntax.tcons (Syntax.tyInt Syntax.w8) Syntax.tnil) (Syntax.ttcons Syntax.tnil (Syntax.ttcons (Syntax.tcons (Syntax.tyEnum (List._∷_ 116 (List._∷_ 101 (List._∷_ 120 (List._∷_ 116 (List._∷_ 95 (List._∷_ 114 (List._∷_ 101 (List._∷_ 97 (List._∷_ 100 (List._∷_ 105 (List._∷_ 110 (List._∷_ 103 (List._∷_ 58 (List._∷_ 58 (List._∷_ 70 (List._∷_ 97 (List._∷_ 117 (List._∷_ 108 (List._∷_ 116 List.[]))))))))))))))))))) (Syntax.ttcons Syntax.tnil (Syntax.ttcons Syntax.tnil (Syntax.ttcons Syntax.tnil (Syntax.ttcons Syntax.tnil Syntax.ttnil))))) Syntax.tnil) Syntax.ttnil))))))))))) (Syntax.tcons (Syntax.tyArray (Syntax.tyInt Syntax.w8) 32) (Syntax.tcons (Syntax.tyInt Syntax.w64) Syntax.tnil))))))) (List._∷_ (11, Rows.any-gone Syntax.tyBool) (List._∷_ (12, Rows.any-gone (Syntax.tyRef Syntax.erased Syntax.mut OfOutput.named)) (List._∷_ (13, Rows.any-gone (Syntax.tyStruct (List._∷_ 38 (List._∷_ 91 (List._∷_ 93 List.[]))) (Syntax.tcons (Syntax.tyRef Syntax.erased Syntax.mut OfOutput.named) (Syntax.tcons (Syntax.tyInt Syntax.w64) Syntax.tnil)))) (List._∷_ (14, Rows.any-gone (Syntax.tyRef Syntax.erased Syntax.mut OfStation.named)) (List._∷_ (15, Rows.any-gone (Syntax.tyStruct (List._∷_ 38 (List._∷_ 91 (List._∷_ 93 List.[]))) (Syntax.tcons (Syntax.tyRef Syntax.erased Syntax.mut OfStation.named) (Syntax.tcons (Syntax.tyInt Syntax.w64) Syntax.tnil)))) List.[])))))))))))))))
+t43 = List._∷_ (0, Rows.whole (Declared.row (Apart.apartT Turn.the-type))) (List._∷_ (1, Mut.mslice (OfOutput.row) (Syntax.tyRef (Syntax.named 0) Syntax.mut OfOutput.named) 0) (List._∷_ (2, Mut.mslice (OfStation.row) (Syntax.tyRef (Syntax.named 1) Syntax.mut OfStation.named) 1) (List._∷_ (3, Rows.mref (OfPanelRecord.row) (Syntax.tyRef (Syntax.named 2) Syntax.mut OfPanelRecord.named) 2) (List._∷_ (4, Mut.mslice (Referent.rtF (Referent.fInt Syntax.w8)) (Syntax.tyRef (Syntax.named 3) Syntax.mut (Syntax.tyInt Syntax.w8)) 3) (List._∷_ (5, Mut.mslice (Referent.rtF (Referent.fInt Syntax.w8)) (Syntax.tyRef (Syntax.named 4) Syntax.mut (Syntax.tyInt Syntax.w8)) 4) (List._∷_ (6, Rows.any-gone (Syntax.tyStruct (List._∷_ 116 (List._∷_ 101 (List._∷_ 120 (List._∷_ 116 (List._∷_ 95 (List._∷_ 114 (List._∷_ 101 (List._∷_ 97 (List._∷_ 100 (List._∷_ 105 (List._∷_ 110 (List._∷_ 103 (List._∷_ 58 (List._∷_ 58 (List._∷_ 82 (List._∷_ 101 (List._∷_ 97 (List._∷_ 100 (List._∷_ 101 (List._∷_ 114 List.[])))))))))))))))))))) (Syntax.tcons (Syntax.tyInt Syntax.w8) (Syntax.tcons (Syntax.tyInt Syntax.w64) (Syntax.tcons (Syntax.tyEnum (List._∷_ 116 (List._∷_ 101 (List._∷_ 120 (List._∷_ 116 (List._∷_ 95 (List._∷_ 114 (List._∷_ 101 (List._∷_ 97 (List._∷_ 100 (List._∷_ 105 (List._∷_ 110 (List._∷_ 103 (List._∷_ 58 (List._∷_ 58 (List._∷_ 72 (List._∷_ 101 (List._∷_ 108 (List._∷_ 100 List.[])))))))))))))))))) (Syntax.ttcons Syntax.tnil (Syntax.ttcons Syntax.tnil (Syntax.ttcons (Syntax.tcons (Syntax.tyInt Syntax.w8) Syntax.tnil) (Syntax.ttcons Syntax.tnil (Syntax.ttcons (Syntax.tcons (Syntax.tyInt Syntax.w8) Syntax.tnil) (Syntax.ttcons (Syntax.tcons (Syntax.tyInt Syntax.w8) Syntax.tnil) (Syntax.ttcons Syntax.tnil (Syntax.ttcons (Syntax.tcons (Syntax.tyInt Syntax.w8) Syntax.tnil) (Syntax.ttcons Syntax.tnil (Syntax.ttcons (Syntax.tcons (Syntax.tyEnum (List._∷_ 116 (List._∷_ 101 (List._∷_ 120 (List._∷_ 116 (List._∷_ 95 (List._∷_ 114 (List._∷_ 101 (List._∷_ 97 (List._∷_ 100 (List._∷_ 105 (List._∷_ 110 (List._∷_ 103 (List._∷_ 58 (List._∷_ 58 (List._∷_ 70 (List._∷_ 97 (List._∷_ 117 (List._∷_ 108 (List._∷_ 116 List.[]))))))))))))))))))) (Syntax.ttcons Syntax.tnil (Syntax.ttcons Syntax.tnil (Syntax.ttcons Syntax.tnil (Syntax.ttcons Syntax.tnil Syntax.ttnil))))) Syntax.tnil) Syntax.ttnil))))))))))) (Syntax.tcons (Syntax.tyArray (Syntax.tyInt Syntax.w8) 32) (Syntax.tcons (Syntax.tyInt Syntax.w64) Syntax.tnil))))))) (List._∷_ (7, Rows.any-gone (Syntax.tyInt Syntax.w64)) (List._∷_ (8, Rows.any-gone (Syntax.tyInt Syntax.w64)) (List._∷_ (9, Rows.any-gone (Laws.mir)) (List._∷_ (10, Rows.any-gone (Syntax.tyStruct (List._∷_ 116 (List._∷_ 101 (List._∷_ 120 (List._∷_ 116 (List._∷_ 95 (List._∷_ 114 (List._∷_ 101 (List._∷_ 97 (List._∷_ 100 (List._∷_ 105 (List._∷_ 110 (List._∷_ 103 (List._∷_ 58 (List._∷_ 58 (List._∷_ 82 (List._∷_ 101 (List._∷_ 97 (List._∷_ 100 (List._∷_ 101 (List._∷_ 114 List.[])))))))))))))))))))) (Syntax.tcons (Syntax.tyInt Syntax.w8) (Syntax.tcons (Syntax.tyInt Syntax.w64) (Syntax.tcons (Syntax.tyEnum (List._∷_ 116 (List._∷_ 101 (List._∷_ 120 (List._∷_ 116 (List._∷_ 95 (List._∷_ 114 (List._∷_ 101 (List._∷_ 97 (List._∷_ 100 (List._∷_ 105 (List._∷_ 110 (List._∷_ 103 (List._∷_ 58 (List._∷_ 58 (List._∷_ 72 (List._∷_ 101 (List._∷_ 108 (List._∷_ 100 List.[])))))))))))))))))) (Syntax.ttcons Syntax.tnil (Syntax.ttcons Syntax.tnil (Syntax.ttcons (Syntax.tcons (Syntax.tyInt Syntax.w8) Syntax.tnil) (Syntax.ttcons Syntax.tnil (Syntax.ttcons (Syntax.tcons (Syntax.tyInt Syntax.w8) Syntax.tnil) (Syntax.ttcons (Syntax.tcons (Syntax.tyInt Syntax.w8) Syntax.tnil) (Syntax.ttcons Syntax.tnil (Syntax.ttcons (Syntax.tcons (Syntax.tyInt Syntax.w8) Syntax.tnil) (Syntax.ttcons Syntax.tnil (Syntax.ttcons (Syntax.tcons (Syntax.tyEnum (List._∷_ 116 (List._∷_ 101 (List._∷_ 120 (List._∷_ 116 (List._∷_ 95 (List._∷_ 114 (List._∷_ 101 (List._∷_ 97 (List._∷_ 100 (List._∷_ 105 (List._∷_ 110 (List._∷_ 103 (List._∷_ 58 (List._∷_ 58 (List._∷_ 70 (List._∷_ 97 (List._∷_ 117 (List._∷_ 108 (List._∷_ 116 List.[]))))))))))))))))))) (Syntax.ttcons Syntax.tnil (Syntax.ttcons Syntax.tnil (Syntax.ttcons Syntax.tnil (Syntax.ttcons Syntax.tnil Syntax.ttnil))))) Syntax.tnil) Syntax.ttnil))))))))))) (Syntax.tcons (Syntax.tyArray (Syntax.tyInt Syntax.w8) 32) (Syntax.tcons (Syntax.tyInt Syntax.w64) Syntax.tnil))))))) (List._∷_ (11, Rows.any-gone Syntax.tyBool) (List._∷_ (12, Rows.any-gone (Syntax.tyRef Syntax.erased Syntax.mut OfOutput.named)) (List._∷_ (13, Rows.any-gone (Syntax.tyStruct (List._∷_ 38 (List._∷_ 91 (List._∷_ 93 List.[]))) (Syntax.tcons (Syntax.tyRef Syntax.erased Syntax.mut OfOutput.named) (Syntax.tcons (Syntax.tyInt Syntax.w64) Syntax.tnil)))) (List._∷_ (14, Rows.any-gone (Syntax.tyRef Syntax.erased Syntax.mut OfStation.named)) (List._∷_ (15, Rows.any-gone (Syntax.tyStruct (List._∷_ 38 (List._∷_ 91 (List._∷_ 93 List.[]))) (Syntax.tcons (Syntax.tyRef Syntax.erased Syntax.mut OfStation.named) (Syntax.tcons (Syntax.tyInt Syntax.w64) Syntax.tnil)))) List.[])))))))))))))))
 
 abbrev pub T0 : Row.Cx
 T0 = record { locals = List._++_ t0 t1; slots = List.[] }
@@ -617,10 +618,10 @@ abbrev pub O5 : Typed.Outs
 O5 = Typed.withNext (Option.some T53) O3
 
 abbrev pub InvT-loop : Type 1
-InvT-loop = List.List (OfOutput.row .Denot) → List.List (OfStation.row .Denot) → Referent.rtF (Referent.fInt Syntax.w64) .Denot → List.List (Referent.rtF (Referent.fInt Syntax.w8) .Denot) → List.List (Referent.rtF (Referent.fInt Syntax.w8) .Denot) → Rows.whole (Declared.row Reader.the-type) .Mod → Rows.sc-here (Row.sInt Syntax.w64) .Mod → Rows.sc-here (Row.sInt Syntax.w64) .Mod → List.List (OfOutput.row .Denot) → List.List (OfStation.row .Denot) → Referent.rtF (Referent.fInt Syntax.w64) .Denot → List.List (Referent.rtF (Referent.fInt Syntax.w8) .Denot) → List.List (Referent.rtF (Referent.fInt Syntax.w8) .Denot) → Rows.whole (Declared.row Reader.the-type) .Mod → Rows.sc-here (Row.sInt Syntax.w64) .Mod → Rows.sc-here (Row.sInt Syntax.w64) .Mod → Type 0
+InvT-loop = List.List (OfOutput.row .Denot) → List.List (OfStation.row .Denot) → OfPanelRecord.row .Denot → List.List (Referent.rtF (Referent.fInt Syntax.w8) .Denot) → List.List (Referent.rtF (Referent.fInt Syntax.w8) .Denot) → Rows.whole (Declared.row Reader.the-type) .Mod → Rows.sc-here (Row.sInt Syntax.w64) .Mod → Rows.sc-here (Row.sInt Syntax.w64) .Mod → List.List (OfOutput.row .Denot) → List.List (OfStation.row .Denot) → OfPanelRecord.row .Denot → List.List (Referent.rtF (Referent.fInt Syntax.w8) .Denot) → List.List (Referent.rtF (Referent.fInt Syntax.w8) .Denot) → Rows.whole (Declared.row Reader.the-type) .Mod → Rows.sc-here (Row.sInt Syntax.w64) .Mod → Rows.sc-here (Row.sInt Syntax.w64) .Mod → Type 0
 
 abbrev pub MeasureT-loop : Type 0
-MeasureT-loop = List.List (OfOutput.row .Denot) → List.List (OfStation.row .Denot) → Referent.rtF (Referent.fInt Syntax.w64) .Denot → List.List (Referent.rtF (Referent.fInt Syntax.w8) .Denot) → List.List (Referent.rtF (Referent.fInt Syntax.w8) .Denot) → Rows.whole (Declared.row Reader.the-type) .Mod → Rows.sc-here (Row.sInt Syntax.w64) .Mod → Rows.sc-here (Row.sInt Syntax.w64) .Mod → List.List (OfOutput.row .Denot) → List.List (OfStation.row .Denot) → Referent.rtF (Referent.fInt Syntax.w64) .Denot → List.List (Referent.rtF (Referent.fInt Syntax.w8) .Denot) → List.List (Referent.rtF (Referent.fInt Syntax.w8) .Denot) → Rows.whole (Declared.row Reader.the-type) .Mod → Rows.sc-here (Row.sInt Syntax.w64) .Mod → Rows.sc-here (Row.sInt Syntax.w64) .Mod → Nat.ℕ
+MeasureT-loop = List.List (OfOutput.row .Denot) → List.List (OfStation.row .Denot) → OfPanelRecord.row .Denot → List.List (Referent.rtF (Referent.fInt Syntax.w8) .Denot) → List.List (Referent.rtF (Referent.fInt Syntax.w8) .Denot) → Rows.whole (Declared.row Reader.the-type) .Mod → Rows.sc-here (Row.sInt Syntax.w64) .Mod → Rows.sc-here (Row.sInt Syntax.w64) .Mod → List.List (OfOutput.row .Denot) → List.List (OfStation.row .Denot) → OfPanelRecord.row .Denot → List.List (Referent.rtF (Referent.fInt Syntax.w8) .Denot) → List.List (Referent.rtF (Referent.fInt Syntax.w8) .Denot) → Rows.whole (Declared.row Reader.the-type) .Mod → Rows.sc-here (Row.sInt Syntax.w64) .Mod → Rows.sc-here (Row.sInt Syntax.w64) .Mod → Nat.ℕ
 
 module _ (claims· : Claims) where
   abbrev s0 : (bs : List.List Nat.ℕ) → Typed.Gives T0 T2
@@ -663,7 +664,7 @@ module _ (claims· : Claims) where
   s14 = λ bs. Relend.k-sl-aggregate (OfStation.row) (Relend.asMut (OfStation.row)) T17 14 15 6 (Syntax.tyRef Syntax.erased Syntax.mut OfStation.named) (Syntax.tyRef Syntax.erased Syntax.mut OfStation.named) (λ x. x) (Scalar.oFld 2 (List._∷_ (Syntax.field 1) List.[]) (Syntax.tyInt Syntax.w64) 8 λ v. Shared.lenV (v .0))
 
   abbrev s16 : (bs : List.List Nat.ℕ) → Typed.Gives T18 T20
-  s16 = λ bs. Reborrow.k-mref-relend T18 3 16 2 7 (Referent.rtF (Referent.fInt Syntax.w64)) (Syntax.tyRef (Syntax.named 2) Syntax.mut (Syntax.tyInt Syntax.w64)) (Syntax.tyRef Syntax.erased Syntax.mut (Syntax.tyInt Syntax.w64)) Row.off List.[] λ x. x
+  s16 = λ bs. Reborrow.k-mref-relend T18 3 16 2 7 (OfPanelRecord.row) (Syntax.tyRef (Syntax.named 2) Syntax.mut OfPanelRecord.named) (Syntax.tyRef Syntax.erased Syntax.mut OfPanelRecord.named) Row.off List.[] λ x. x
 
   abbrev s18 : (bs : List.List Nat.ℕ) → Typed.Gives T20 T22
   s18 = λ bs. Relend.k-sl-relend (Referent.rtF (Referent.fInt Syntax.w8)) T20 4 17 3 8 (Syntax.tyRef (Syntax.named 3) Syntax.mut (Syntax.tyInt Syntax.w8)) (Syntax.tyRef Syntax.erased Syntax.mut (Syntax.tyInt Syntax.w8)) Row.off λ x. x
@@ -678,7 +679,7 @@ module _ (claims· : Claims) where
   s22 = λ bs. Relend.k-sl-aggregate (Referent.rtF (Referent.fInt Syntax.w8)) (Relend.asMut (Referent.rtF (Referent.fInt Syntax.w8))) T25 19 20 9 (Syntax.tyRef Syntax.erased Syntax.mut (Syntax.tyInt Syntax.w8)) (Syntax.tyRef Syntax.erased Syntax.mut (Syntax.tyInt Syntax.w8)) (λ x. x) (Scalar.oFld 5 (List._∷_ (Syntax.field 1) List.[]) (Syntax.tyInt Syntax.w64) 8 λ v. Shared.lenV (v .0))
 
   abbrev s23 : (bs : List.List Nat.ℕ) → Typed.Both T26 T27
-  s23 = λ bs. Call.callB ps·1 r·1 (claims· .2) (claims· .3) T26 (record { pos = 13; ty = Syntax.tyRef Syntax.erased Syntax.mut OfOutput.named; ref = λ x. x }, (record { pos = 15; ty = Syntax.tyRef Syntax.erased Syntax.mut OfStation.named; ref = λ x. x }, (record { pos = 16; ty = Syntax.tyRef Syntax.erased Syntax.mut (Syntax.tyInt Syntax.w64); ref = λ x. x }, (record { pos = 18; ty = Syntax.tyRef Syntax.erased Syntax.mut (Syntax.tyInt Syntax.w8); ref = λ x. x }, (record { pos = 20; ty = Syntax.tyRef Syntax.erased Syntax.mut (Syntax.tyInt Syntax.w8); ref = λ x. x }, (Num.vAt 7 λ x. x, (record { pos = 6; st = List.[]; d = 0; at = λ x. x }, tt))))))) 9 (List._∷_ 5 (List._∷_ 6 (List._∷_ 7 (List._∷_ 8 (List._∷_ 9 List.[]))))) (Laws.mir)
+  s23 = λ bs. Call.callB ps·1 r·1 (claims· .2) (claims· .3) T26 (record { pos = 13; ty = Syntax.tyRef Syntax.erased Syntax.mut OfOutput.named; ref = λ x. x }, (record { pos = 15; ty = Syntax.tyRef Syntax.erased Syntax.mut OfStation.named; ref = λ x. x }, (record { pos = 16; ty = Syntax.tyRef Syntax.erased Syntax.mut OfPanelRecord.named; ref = λ x. x }, (record { pos = 18; ty = Syntax.tyRef Syntax.erased Syntax.mut (Syntax.tyInt Syntax.w8); ref = λ x. x }, (record { pos = 20; ty = Syntax.tyRef Syntax.erased Syntax.mut (Syntax.tyInt Syntax.w8); ref = λ x. x }, (Num.vAt 7 λ x. x, (record { pos = 6; st = List.[]; d = 0; at = λ x. x }, tt))))))) 9 (List._∷_ 5 (List._∷_ 6 (List._∷_ 7 (List._∷_ 8 (List._∷_ 9 List.[]))))) (Laws.mir)
 
   abbrev s24 : (bs : List.List Nat.ℕ) → Typed.Mo T27 → Typed.Mo T28
   s24 = λ bs. Scalar.n-room T27 6 (Syntax.tyStruct (List._∷_ 116 (List._∷_ 101 (List._∷_ 120 (List._∷_ 116 (List._∷_ 95 (List._∷_ 114 (List._∷_ 101 (List._∷_ 97 (List._∷_ 100 (List._∷_ 105 (List._∷_ 110 (List._∷_ 103 (List._∷_ 58 (List._∷_ 58 (List._∷_ 82 (List._∷_ 101 (List._∷_ 97 (List._∷_ 100 (List._∷_ 101 (List._∷_ 114 List.[])))))))))))))))))))) (Syntax.tcons (Syntax.tyInt Syntax.w8) (Syntax.tcons (Syntax.tyInt Syntax.w64) (Syntax.tcons (Syntax.tyEnum (List._∷_ 116 (List._∷_ 101 (List._∷_ 120 (List._∷_ 116 (List._∷_ 95 (List._∷_ 114 (List._∷_ 101 (List._∷_ 97 (List._∷_ 100 (List._∷_ 105 (List._∷_ 110 (List._∷_ 103 (List._∷_ 58 (List._∷_ 58 (List._∷_ 72 (List._∷_ 101 (List._∷_ 108 (List._∷_ 100 List.[])))))))))))))))))) (Syntax.ttcons Syntax.tnil (Syntax.ttcons Syntax.tnil (Syntax.ttcons (Syntax.tcons (Syntax.tyInt Syntax.w8) Syntax.tnil) (Syntax.ttcons Syntax.tnil (Syntax.ttcons (Syntax.tcons (Syntax.tyInt Syntax.w8) Syntax.tnil) (Syntax.ttcons (Syntax.tcons (Syntax.tyInt Syntax.w8) Syntax.tnil) (Syntax.ttcons Syntax.tnil (Syntax.ttcons (Syntax.tcons (Syntax.tyInt Syntax.w8) Syntax.tnil) (Syntax.ttcons Syntax.tnil (Syntax.ttcons (Syntax.tcons (Syntax.tyEnum (List._∷_ 116 (List._∷_ 101 (List._∷_ 120 (List._∷_ 116 (List._∷_ 95 (List._∷_ 114 (List._∷_ 101 (List._∷_ 97 (List._∷_ 100 (List._∷_ 105 (List._∷_ 110 (List._∷_ 103 (List._∷_ 58 (List._∷_ 58 (List._∷_ 70 (List._∷_ 97 (List._∷_ 117 (List._∷_ 108 (List._∷_ 116 List.[]))))))))))))))))))) (Syntax.ttcons Syntax.tnil (Syntax.ttcons Syntax.tnil (Syntax.ttcons Syntax.tnil (Syntax.ttcons Syntax.tnil Syntax.ttnil))))) Syntax.tnil) Syntax.ttnil))))))))))) (Syntax.tcons (Syntax.tyArray (Syntax.tyInt Syntax.w8) 32) (Syntax.tcons (Syntax.tyInt Syntax.w64) Syntax.tnil))))))
@@ -693,7 +694,7 @@ module _ (claims· : Claims) where
   s30 = λ bs. Relend.k-back-sl (OfStation.row) T31 15 2 1 6 (Syntax.tyRef (Syntax.named 1) Syntax.mut OfStation.named) (Syntax.tyRef Syntax.erased Syntax.mut OfStation.named) Row.off (λ x. x) λ x. x
 
   abbrev s33 : (bs : List.List Nat.ℕ) → Typed.Asks T34 T37
-  s33 = λ bs. Reborrow.k-back-mref T34 16 3 2 (Referent.rtF (Referent.fInt Syntax.w64)) (Syntax.tyRef (Syntax.named 2) Syntax.mut (Syntax.tyInt Syntax.w64)) (Syntax.tyRef Syntax.erased Syntax.mut (Syntax.tyInt Syntax.w64)) List.[] (λ x. x) λ x. x
+  s33 = λ bs. Reborrow.k-back-mref T34 16 3 2 (OfPanelRecord.row) (Syntax.tyRef (Syntax.named 2) Syntax.mut OfPanelRecord.named) (Syntax.tyRef Syntax.erased Syntax.mut OfPanelRecord.named) List.[] (λ x. x) λ x. x
 
   abbrev s36 : (bs : List.List Nat.ℕ) → Typed.Both T37 T40
   s36 = λ bs. Relend.k-back-sl (Referent.rtF (Referent.fInt Syntax.w8)) T37 18 4 3 8 (Syntax.tyRef (Syntax.named 3) Syntax.mut (Syntax.tyInt Syntax.w8)) (Syntax.tyRef Syntax.erased Syntax.mut (Syntax.tyInt Syntax.w8)) Row.off (λ x. x) λ x. x
@@ -794,7 +795,7 @@ module _ (claims· : Claims) where
   abbrev put0 :
       List.List (OfOutput.row .Denot) ×
       List.List (OfStation.row .Denot) ×
-      Referent.rtF (Referent.fInt Syntax.w64) .Denot ×
+      OfPanelRecord.row .Denot ×
       List.List (Referent.rtF (Referent.fInt Syntax.w8) .Denot) ×
       List.List (Referent.rtF (Referent.fInt Syntax.w8) .Denot) ×
       Rows.whole (Declared.row Reader.the-type) .Mod ×
@@ -802,7 +803,7 @@ module _ (claims· : Claims) where
       Rows.sc-here (Row.sInt Syntax.w64) .Mod →
       Typed.Mo T6 →
       Typed.Mo T6
-  put0 = λ vs u. Row.set 8 (8, Rows.sc-here (Row.sInt Syntax.w64)) (vs .7) (T6 .locals) (Row.set 7 (7, Rows.sc-here (Row.sInt Syntax.w64)) (vs .6) (T6 .locals) (Row.set 6 (6, Rows.whole (Declared.row Reader.the-type)) (vs .5) (T6 .locals) (Row.set 5 (5, Mut.mslice (Referent.rtF (Referent.fInt Syntax.w8)) (Syntax.tyRef (Syntax.named 4) Syntax.mut (Syntax.tyInt Syntax.w8)) 4) record { ptr = Row.get 5 (T6 .locals) u .ptr; name = Row.get 5 (T6 .locals) u .name; now = vs .4 } (T6 .locals) (Row.set 4 (4, Mut.mslice (Referent.rtF (Referent.fInt Syntax.w8)) (Syntax.tyRef (Syntax.named 3) Syntax.mut (Syntax.tyInt Syntax.w8)) 3) record { ptr = Row.get 4 (T6 .locals) u .ptr; name = Row.get 4 (T6 .locals) u .name; now = vs .3 } (T6 .locals) (Row.set 3 (3, Rows.mref (Referent.rtF (Referent.fInt Syntax.w64)) (Syntax.tyRef (Syntax.named 2) Syntax.mut (Syntax.tyInt Syntax.w64)) 2) record { ptr = Row.get 3 (T6 .locals) u .ptr; name = Row.get 3 (T6 .locals) u .name; now = vs .2 } (T6 .locals) (Row.set 2 (2, Mut.mslice (OfStation.row) (Syntax.tyRef (Syntax.named 1) Syntax.mut OfStation.named) 1) record { ptr = Row.get 2 (T6 .locals) u .ptr; name = Row.get 2 (T6 .locals) u .name; now = vs .1 } (T6 .locals) (Row.set 1 (1, Mut.mslice (OfOutput.row) (Syntax.tyRef (Syntax.named 0) Syntax.mut OfOutput.named) 0) record { ptr = Row.get 1 (T6 .locals) u .ptr; name = Row.get 1 (T6 .locals) u .name; now = vs .0 } (T6 .locals) u)))))))
+  put0 = λ vs u. Row.set 8 (8, Rows.sc-here (Row.sInt Syntax.w64)) (vs .7) (T6 .locals) (Row.set 7 (7, Rows.sc-here (Row.sInt Syntax.w64)) (vs .6) (T6 .locals) (Row.set 6 (6, Rows.whole (Declared.row Reader.the-type)) (vs .5) (T6 .locals) (Row.set 5 (5, Mut.mslice (Referent.rtF (Referent.fInt Syntax.w8)) (Syntax.tyRef (Syntax.named 4) Syntax.mut (Syntax.tyInt Syntax.w8)) 4) record { ptr = Row.get 5 (T6 .locals) u .ptr; name = Row.get 5 (T6 .locals) u .name; now = vs .4 } (T6 .locals) (Row.set 4 (4, Mut.mslice (Referent.rtF (Referent.fInt Syntax.w8)) (Syntax.tyRef (Syntax.named 3) Syntax.mut (Syntax.tyInt Syntax.w8)) 3) record { ptr = Row.get 4 (T6 .locals) u .ptr; name = Row.get 4 (T6 .locals) u .name; now = vs .3 } (T6 .locals) (Row.set 3 (3, Rows.mref (OfPanelRecord.row) (Syntax.tyRef (Syntax.named 2) Syntax.mut OfPanelRecord.named) 2) record { ptr = Row.get 3 (T6 .locals) u .ptr; name = Row.get 3 (T6 .locals) u .name; now = vs .2 } (T6 .locals) (Row.set 2 (2, Mut.mslice (OfStation.row) (Syntax.tyRef (Syntax.named 1) Syntax.mut OfStation.named) 1) record { ptr = Row.get 2 (T6 .locals) u .ptr; name = Row.get 2 (T6 .locals) u .name; now = vs .1 } (T6 .locals) (Row.set 1 (1, Mut.mslice (OfOutput.row) (Syntax.tyRef (Syntax.named 0) Syntax.mut OfOutput.named) 0) record { ptr = Row.get 1 (T6 .locals) u .ptr; name = Row.get 1 (T6 .locals) u .name; now = vs .0 } (T6 .locals) u)))))))
 
   module _ (Pre· : (κs : Lifetimes.Lfts 5) → Kinds.Dens κs ps → Type 0)
       (Post· : (κs : Lifetimes.Lfts 5) → (a : Kinds.Dens κs ps) → Kinds.Plain 5 ps r κs) where
@@ -1079,46 +1080,46 @@ module _ (claims· : Claims) where
 
       module _ (κs : Lifetimes.Lfts 5) (qs : Lifetimes.Shares 5) where
         abbrev g7 : List.List Row.Entry
-        g7 = List._∷_ (0, Rows.any-gone (Laws.mir)) (List._∷_ (1, Relend.mslice-owed (OfOutput.row) (Syntax.tyRef (Syntax.named 0) Syntax.mut OfOutput.named) 0 5 (Row.lease (κs .0) (qs .0))) (List._∷_ (2, Mut.mslice (OfStation.row) (Syntax.tyRef (Syntax.named 1) Syntax.mut OfStation.named) 1) (List._∷_ (3, Rows.mref (Referent.rtF (Referent.fInt Syntax.w64)) (Syntax.tyRef (Syntax.named 2) Syntax.mut (Syntax.tyInt Syntax.w64)) 2) (List._∷_ (4, Mut.mslice (Referent.rtF (Referent.fInt Syntax.w8)) (Syntax.tyRef (Syntax.named 3) Syntax.mut (Syntax.tyInt Syntax.w8)) 3) (List._∷_ (5, Mut.mslice (Referent.rtF (Referent.fInt Syntax.w8)) (Syntax.tyRef (Syntax.named 4) Syntax.mut (Syntax.tyInt Syntax.w8)) 4) (List._∷_ (6, Rows.whole (Declared.row Reader.the-type)) (List._∷_ (7, Rows.sc-here (Row.sInt Syntax.w64)) (List._∷_ (8, Rows.sc-here (Row.sInt Syntax.w64)) (List._∷_ (9, Rows.any-gone (Laws.mir)) (List._∷_ (10, Rows.any-gone (Syntax.tyStruct (List._∷_ 116 (List._∷_ 101 (List._∷_ 120 (List._∷_ 116 (List._∷_ 95 (List._∷_ 114 (List._∷_ 101 (List._∷_ 97 (List._∷_ 100 (List._∷_ 105 (List._∷_ 110 (List._∷_ 103 (List._∷_ 58 (List._∷_ 58 (List._∷_ 82 (List._∷_ 101 (List._∷_ 97 (List._∷_ 100 (List._∷_ 101 (List._∷_ 114 List.[])))))))))))))))))))) (Syntax.tcons (Syntax.tyInt Syntax.w8) (Syntax.tcons (Syntax.tyInt Syntax.w64) (Syntax.tcons (Syntax.tyEnum (List._∷_ 116 (List._∷_ 101 (List._∷_ 120 (List._∷_ 116 (List._∷_ 95 (List._∷_ 114 (List._∷_ 101 (List._∷_ 97 (List._∷_ 100 (List._∷_ 105 (List._∷_ 110 (List._∷_ 103 (List._∷_ 58 (List._∷_ 58 (List._∷_ 72 (List._∷_ 101 (List._∷_ 108 (List._∷_ 100 List.[])))))))))))))))))) (Syntax.ttcons Syntax.tnil (Syntax.ttcons Syntax.tnil (Syntax.ttcons (Syntax.tcons (Syntax.tyInt Syntax.w8) Syntax.tnil) (Syntax.ttcons Syntax.tnil (Syntax.ttcons (Syntax.tcons (Syntax.tyInt Syntax.w8) Syntax.tnil) (Syntax.ttcons (Syntax.tcons (Syntax.tyInt Syntax.w8) Syntax.tnil) (Syntax.ttcons Syntax.tnil (Syntax.ttcons (Syntax.tcons (Syntax.tyInt Syntax.w8) Syntax.tnil) (Syntax.ttcons Syntax.tnil (Syntax.ttcons (Syntax.tcons (Syntax.tyEnum (List._∷_ 116 (List._∷_ 101 (List._∷_ 120 (List._∷_ 116 (List._∷_ 95 (List._∷_ 114 (List._∷_ 101 (List._∷_ 97 (List._∷_ 100 (List._∷_ 105 (List._∷_ 110 (List._∷_ 103 (List._∷_ 58 (List._∷_ 58 (List._∷_ 70 (List._∷_ 97 (List._∷_ 117 (List._∷_ 108 (List._∷_ 116 List.[]))))))))))))))))))) (Syntax.ttcons Syntax.tnil (Syntax.ttcons Syntax.tnil (Syntax.ttcons Syntax.tnil (Syntax.ttcons Syntax.tnil Syntax.ttnil))))) Syntax.tnil) Syntax.ttnil))))))))))) (Syntax.tcons (Syntax.tyArray (Syntax.tyInt Syntax.w8) 32) (Syntax.tcons (Syntax.tyInt Syntax.w64) Syntax.tnil))))))) (List._∷_ (11, Rows.any-gone Syntax.tyBool) (List._∷_ (12, Relend.msptr (OfOutput.row) (Syntax.tyRef Syntax.erased Syntax.mut OfOutput.named) 5) (List._∷_ (13, Rows.any-gone (Syntax.tyStruct (List._∷_ 38 (List._∷_ 91 (List._∷_ 93 List.[]))) (Syntax.tcons (Syntax.tyRef Syntax.erased Syntax.mut OfOutput.named) (Syntax.tcons (Syntax.tyInt Syntax.w64) Syntax.tnil)))) (List._∷_ (14, Rows.any-gone (Syntax.tyRef Syntax.erased Syntax.mut OfStation.named)) (List._∷_ (15, Rows.any-gone (Syntax.tyStruct (List._∷_ 38 (List._∷_ 91 (List._∷_ 93 List.[]))) (Syntax.tcons (Syntax.tyRef Syntax.erased Syntax.mut OfStation.named) (Syntax.tcons (Syntax.tyInt Syntax.w64) Syntax.tnil)))) List.[])))))))))))))))
+        g7 = List._∷_ (0, Rows.any-gone (Laws.mir)) (List._∷_ (1, Relend.mslice-owed (OfOutput.row) (Syntax.tyRef (Syntax.named 0) Syntax.mut OfOutput.named) 0 5 (Row.lease (κs .0) (qs .0))) (List._∷_ (2, Mut.mslice (OfStation.row) (Syntax.tyRef (Syntax.named 1) Syntax.mut OfStation.named) 1) (List._∷_ (3, Rows.mref (OfPanelRecord.row) (Syntax.tyRef (Syntax.named 2) Syntax.mut OfPanelRecord.named) 2) (List._∷_ (4, Mut.mslice (Referent.rtF (Referent.fInt Syntax.w8)) (Syntax.tyRef (Syntax.named 3) Syntax.mut (Syntax.tyInt Syntax.w8)) 3) (List._∷_ (5, Mut.mslice (Referent.rtF (Referent.fInt Syntax.w8)) (Syntax.tyRef (Syntax.named 4) Syntax.mut (Syntax.tyInt Syntax.w8)) 4) (List._∷_ (6, Rows.whole (Declared.row Reader.the-type)) (List._∷_ (7, Rows.sc-here (Row.sInt Syntax.w64)) (List._∷_ (8, Rows.sc-here (Row.sInt Syntax.w64)) (List._∷_ (9, Rows.any-gone (Laws.mir)) (List._∷_ (10, Rows.any-gone (Syntax.tyStruct (List._∷_ 116 (List._∷_ 101 (List._∷_ 120 (List._∷_ 116 (List._∷_ 95 (List._∷_ 114 (List._∷_ 101 (List._∷_ 97 (List._∷_ 100 (List._∷_ 105 (List._∷_ 110 (List._∷_ 103 (List._∷_ 58 (List._∷_ 58 (List._∷_ 82 (List._∷_ 101 (List._∷_ 97 (List._∷_ 100 (List._∷_ 101 (List._∷_ 114 List.[])))))))))))))))))))) (Syntax.tcons (Syntax.tyInt Syntax.w8) (Syntax.tcons (Syntax.tyInt Syntax.w64) (Syntax.tcons (Syntax.tyEnum (List._∷_ 116 (List._∷_ 101 (List._∷_ 120 (List._∷_ 116 (List._∷_ 95 (List._∷_ 114 (List._∷_ 101 (List._∷_ 97 (List._∷_ 100 (List._∷_ 105 (List._∷_ 110 (List._∷_ 103 (List._∷_ 58 (List._∷_ 58 (List._∷_ 72 (List._∷_ 101 (List._∷_ 108 (List._∷_ 100 List.[])))))))))))))))))) (Syntax.ttcons Syntax.tnil (Syntax.ttcons Syntax.tnil (Syntax.ttcons (Syntax.tcons (Syntax.tyInt Syntax.w8) Syntax.tnil) (Syntax.ttcons Syntax.tnil (Syntax.ttcons (Syntax.tcons (Syntax.tyInt Syntax.w8) Syntax.tnil) (Syntax.ttcons (Syntax.tcons (Syntax.tyInt Syntax.w8) Syntax.tnil) (Syntax.ttcons Syntax.tnil (Syntax.ttcons (Syntax.tcons (Syntax.tyInt Syntax.w8) Syntax.tnil) (Syntax.ttcons Syntax.tnil (Syntax.ttcons (Syntax.tcons (Syntax.tyEnum (List._∷_ 116 (List._∷_ 101 (List._∷_ 120 (List._∷_ 116 (List._∷_ 95 (List._∷_ 114 (List._∷_ 101 (List._∷_ 97 (List._∷_ 100 (List._∷_ 105 (List._∷_ 110 (List._∷_ 103 (List._∷_ 58 (List._∷_ 58 (List._∷_ 70 (List._∷_ 97 (List._∷_ 117 (List._∷_ 108 (List._∷_ 116 List.[]))))))))))))))))))) (Syntax.ttcons Syntax.tnil (Syntax.ttcons Syntax.tnil (Syntax.ttcons Syntax.tnil (Syntax.ttcons Syntax.tnil Syntax.ttnil))))) Syntax.tnil) Syntax.ttnil))))))))))) (Syntax.tcons (Syntax.tyArray (Syntax.tyInt Syntax.w8) 32) (Syntax.tcons (Syntax.tyInt Syntax.w64) Syntax.tnil))))))) (List._∷_ (11, Rows.any-gone Syntax.tyBool) (List._∷_ (12, Relend.msptr (OfOutput.row) (Syntax.tyRef Syntax.erased Syntax.mut OfOutput.named) 5) (List._∷_ (13, Rows.any-gone (Syntax.tyStruct (List._∷_ 38 (List._∷_ 91 (List._∷_ 93 List.[]))) (Syntax.tcons (Syntax.tyRef Syntax.erased Syntax.mut OfOutput.named) (Syntax.tcons (Syntax.tyInt Syntax.w64) Syntax.tnil)))) (List._∷_ (14, Rows.any-gone (Syntax.tyRef Syntax.erased Syntax.mut OfStation.named)) (List._∷_ (15, Rows.any-gone (Syntax.tyStruct (List._∷_ 38 (List._∷_ 91 (List._∷_ 93 List.[]))) (Syntax.tcons (Syntax.tyRef Syntax.erased Syntax.mut OfStation.named) (Syntax.tcons (Syntax.tyInt Syntax.w64) Syntax.tnil)))) List.[])))))))))))))))
 
         abbrev g8 : List.List Row.Entry
-        g8 = List._∷_ (0, Rows.any-gone (Laws.mir)) (List._∷_ (1, Relend.mslice-owed (OfOutput.row) (Syntax.tyRef (Syntax.named 0) Syntax.mut OfOutput.named) 0 5 (Row.lease (κs .0) (qs .0))) (List._∷_ (2, Mut.mslice (OfStation.row) (Syntax.tyRef (Syntax.named 1) Syntax.mut OfStation.named) 1) (List._∷_ (3, Rows.mref (Referent.rtF (Referent.fInt Syntax.w64)) (Syntax.tyRef (Syntax.named 2) Syntax.mut (Syntax.tyInt Syntax.w64)) 2) (List._∷_ (4, Mut.mslice (Referent.rtF (Referent.fInt Syntax.w8)) (Syntax.tyRef (Syntax.named 3) Syntax.mut (Syntax.tyInt Syntax.w8)) 3) (List._∷_ (5, Mut.mslice (Referent.rtF (Referent.fInt Syntax.w8)) (Syntax.tyRef (Syntax.named 4) Syntax.mut (Syntax.tyInt Syntax.w8)) 4) (List._∷_ (6, Rows.whole (Declared.row Reader.the-type)) (List._∷_ (7, Rows.sc-here (Row.sInt Syntax.w64)) (List._∷_ (8, Rows.sc-here (Row.sInt Syntax.w64)) (List._∷_ (9, Rows.any-gone (Laws.mir)) (List._∷_ (10, Rows.any-gone (Syntax.tyStruct (List._∷_ 116 (List._∷_ 101 (List._∷_ 120 (List._∷_ 116 (List._∷_ 95 (List._∷_ 114 (List._∷_ 101 (List._∷_ 97 (List._∷_ 100 (List._∷_ 105 (List._∷_ 110 (List._∷_ 103 (List._∷_ 58 (List._∷_ 58 (List._∷_ 82 (List._∷_ 101 (List._∷_ 97 (List._∷_ 100 (List._∷_ 101 (List._∷_ 114 List.[])))))))))))))))))))) (Syntax.tcons (Syntax.tyInt Syntax.w8) (Syntax.tcons (Syntax.tyInt Syntax.w64) (Syntax.tcons (Syntax.tyEnum (List._∷_ 116 (List._∷_ 101 (List._∷_ 120 (List._∷_ 116 (List._∷_ 95 (List._∷_ 114 (List._∷_ 101 (List._∷_ 97 (List._∷_ 100 (List._∷_ 105 (List._∷_ 110 (List._∷_ 103 (List._∷_ 58 (List._∷_ 58 (List._∷_ 72 (List._∷_ 101 (List._∷_ 108 (List._∷_ 100 List.[])))))))))))))))))) (Syntax.ttcons Syntax.tnil (Syntax.ttcons Syntax.tnil (Syntax.ttcons (Syntax.tcons (Syntax.tyInt Syntax.w8) Syntax.tnil) (Syntax.ttcons Syntax.tnil (Syntax.ttcons (Syntax.tcons (Syntax.tyInt Syntax.w8) Syntax.tnil) (Syntax.ttcons (Syntax.tcons (Syntax.tyInt Syntax.w8) Syntax.tnil) (Syntax.ttcons Syntax.tnil (Syntax.ttcons (Syntax.tcons (Syntax.tyInt Syntax.w8) Syntax.tnil) (Syntax.ttcons Syntax.tnil (Syntax.ttcons (Syntax.tcons (Syntax.tyEnum (List._∷_ 116 (List._∷_ 101 (List._∷_ 120 (List._∷_ 116 (List._∷_ 95 (List._∷_ 114 (List._∷_ 101 (List._∷_ 97 (List._∷_ 100 (List._∷_ 105 (List._∷_ 110 (List._∷_ 103 (List._∷_ 58 (List._∷_ 58 (List._∷_ 70 (List._∷_ 97 (List._∷_ 117 (List._∷_ 108 (List._∷_ 116 List.[]))))))))))))))))))) (Syntax.ttcons Syntax.tnil (Syntax.ttcons Syntax.tnil (Syntax.ttcons Syntax.tnil (Syntax.ttcons Syntax.tnil Syntax.ttnil))))) Syntax.tnil) Syntax.ttnil))))))))))) (Syntax.tcons (Syntax.tyArray (Syntax.tyInt Syntax.w8) 32) (Syntax.tcons (Syntax.tyInt Syntax.w64) Syntax.tnil))))))) (List._∷_ (11, Rows.any-gone Syntax.tyBool) (List._∷_ (12, Rows.any-gone (Syntax.tyRef Syntax.erased Syntax.mut OfOutput.named)) (List._∷_ (13, Mut.mslice (OfOutput.row) (Syntax.tyRef Syntax.erased Syntax.mut OfOutput.named) 5) (List._∷_ (14, Rows.any-gone (Syntax.tyRef Syntax.erased Syntax.mut OfStation.named)) (List._∷_ (15, Rows.any-gone (Syntax.tyStruct (List._∷_ 38 (List._∷_ 91 (List._∷_ 93 List.[]))) (Syntax.tcons (Syntax.tyRef Syntax.erased Syntax.mut OfStation.named) (Syntax.tcons (Syntax.tyInt Syntax.w64) Syntax.tnil)))) List.[])))))))))))))))
+        g8 = List._∷_ (0, Rows.any-gone (Laws.mir)) (List._∷_ (1, Relend.mslice-owed (OfOutput.row) (Syntax.tyRef (Syntax.named 0) Syntax.mut OfOutput.named) 0 5 (Row.lease (κs .0) (qs .0))) (List._∷_ (2, Mut.mslice (OfStation.row) (Syntax.tyRef (Syntax.named 1) Syntax.mut OfStation.named) 1) (List._∷_ (3, Rows.mref (OfPanelRecord.row) (Syntax.tyRef (Syntax.named 2) Syntax.mut OfPanelRecord.named) 2) (List._∷_ (4, Mut.mslice (Referent.rtF (Referent.fInt Syntax.w8)) (Syntax.tyRef (Syntax.named 3) Syntax.mut (Syntax.tyInt Syntax.w8)) 3) (List._∷_ (5, Mut.mslice (Referent.rtF (Referent.fInt Syntax.w8)) (Syntax.tyRef (Syntax.named 4) Syntax.mut (Syntax.tyInt Syntax.w8)) 4) (List._∷_ (6, Rows.whole (Declared.row Reader.the-type)) (List._∷_ (7, Rows.sc-here (Row.sInt Syntax.w64)) (List._∷_ (8, Rows.sc-here (Row.sInt Syntax.w64)) (List._∷_ (9, Rows.any-gone (Laws.mir)) (List._∷_ (10, Rows.any-gone (Syntax.tyStruct (List._∷_ 116 (List._∷_ 101 (List._∷_ 120 (List._∷_ 116 (List._∷_ 95 (List._∷_ 114 (List._∷_ 101 (List._∷_ 97 (List._∷_ 100 (List._∷_ 105 (List._∷_ 110 (List._∷_ 103 (List._∷_ 58 (List._∷_ 58 (List._∷_ 82 (List._∷_ 101 (List._∷_ 97 (List._∷_ 100 (List._∷_ 101 (List._∷_ 114 List.[])))))))))))))))))))) (Syntax.tcons (Syntax.tyInt Syntax.w8) (Syntax.tcons (Syntax.tyInt Syntax.w64) (Syntax.tcons (Syntax.tyEnum (List._∷_ 116 (List._∷_ 101 (List._∷_ 120 (List._∷_ 116 (List._∷_ 95 (List._∷_ 114 (List._∷_ 101 (List._∷_ 97 (List._∷_ 100 (List._∷_ 105 (List._∷_ 110 (List._∷_ 103 (List._∷_ 58 (List._∷_ 58 (List._∷_ 72 (List._∷_ 101 (List._∷_ 108 (List._∷_ 100 List.[])))))))))))))))))) (Syntax.ttcons Syntax.tnil (Syntax.ttcons Syntax.tnil (Syntax.ttcons (Syntax.tcons (Syntax.tyInt Syntax.w8) Syntax.tnil) (Syntax.ttcons Syntax.tnil (Syntax.ttcons (Syntax.tcons (Syntax.tyInt Syntax.w8) Syntax.tnil) (Syntax.ttcons (Syntax.tcons (Syntax.tyInt Syntax.w8) Syntax.tnil) (Syntax.ttcons Syntax.tnil (Syntax.ttcons (Syntax.tcons (Syntax.tyInt Syntax.w8) Syntax.tnil) (Syntax.ttcons Syntax.tnil (Syntax.ttcons (Syntax.tcons (Syntax.tyEnum (List._∷_ 116 (List._∷_ 101 (List._∷_ 120 (List._∷_ 116 (List._∷_ 95 (List._∷_ 114 (List._∷_ 101 (List._∷_ 97 (List._∷_ 100 (List._∷_ 105 (List._∷_ 110 (List._∷_ 103 (List._∷_ 58 (List._∷_ 58 (List._∷_ 70 (List._∷_ 97 (List._∷_ 117 (List._∷_ 108 (List._∷_ 116 List.[]))))))))))))))))))) (Syntax.ttcons Syntax.tnil (Syntax.ttcons Syntax.tnil (Syntax.ttcons Syntax.tnil (Syntax.ttcons Syntax.tnil Syntax.ttnil))))) Syntax.tnil) Syntax.ttnil))))))))))) (Syntax.tcons (Syntax.tyArray (Syntax.tyInt Syntax.w8) 32) (Syntax.tcons (Syntax.tyInt Syntax.w64) Syntax.tnil))))))) (List._∷_ (11, Rows.any-gone Syntax.tyBool) (List._∷_ (12, Rows.any-gone (Syntax.tyRef Syntax.erased Syntax.mut OfOutput.named)) (List._∷_ (13, Mut.mslice (OfOutput.row) (Syntax.tyRef Syntax.erased Syntax.mut OfOutput.named) 5) (List._∷_ (14, Rows.any-gone (Syntax.tyRef Syntax.erased Syntax.mut OfStation.named)) (List._∷_ (15, Rows.any-gone (Syntax.tyStruct (List._∷_ 38 (List._∷_ 91 (List._∷_ 93 List.[]))) (Syntax.tcons (Syntax.tyRef Syntax.erased Syntax.mut OfStation.named) (Syntax.tcons (Syntax.tyInt Syntax.w64) Syntax.tnil)))) List.[])))))))))))))))
 
         abbrev g9 : List.List Row.Entry
-        g9 = List._∷_ (0, Rows.any-gone (Laws.mir)) (List._∷_ (1, Relend.mslice-owed (OfOutput.row) (Syntax.tyRef (Syntax.named 0) Syntax.mut OfOutput.named) 0 5 (Row.lease (κs .0) (qs .0))) (List._∷_ (2, Relend.mslice-owed (OfStation.row) (Syntax.tyRef (Syntax.named 1) Syntax.mut OfStation.named) 1 6 (Row.lease (κs .1 .0) (qs .1 .0))) (List._∷_ (3, Rows.mref (Referent.rtF (Referent.fInt Syntax.w64)) (Syntax.tyRef (Syntax.named 2) Syntax.mut (Syntax.tyInt Syntax.w64)) 2) (List._∷_ (4, Mut.mslice (Referent.rtF (Referent.fInt Syntax.w8)) (Syntax.tyRef (Syntax.named 3) Syntax.mut (Syntax.tyInt Syntax.w8)) 3) (List._∷_ (5, Mut.mslice (Referent.rtF (Referent.fInt Syntax.w8)) (Syntax.tyRef (Syntax.named 4) Syntax.mut (Syntax.tyInt Syntax.w8)) 4) (List._∷_ (6, Rows.whole (Declared.row Reader.the-type)) (List._∷_ (7, Rows.sc-here (Row.sInt Syntax.w64)) (List._∷_ (8, Rows.sc-here (Row.sInt Syntax.w64)) (List._∷_ (9, Rows.any-gone (Laws.mir)) (List._∷_ (10, Rows.any-gone (Syntax.tyStruct (List._∷_ 116 (List._∷_ 101 (List._∷_ 120 (List._∷_ 116 (List._∷_ 95 (List._∷_ 114 (List._∷_ 101 (List._∷_ 97 (List._∷_ 100 (List._∷_ 105 (List._∷_ 110 (List._∷_ 103 (List._∷_ 58 (List._∷_ 58 (List._∷_ 82 (List._∷_ 101 (List._∷_ 97 (List._∷_ 100 (List._∷_ 101 (List._∷_ 114 List.[])))))))))))))))))))) (Syntax.tcons (Syntax.tyInt Syntax.w8) (Syntax.tcons (Syntax.tyInt Syntax.w64) (Syntax.tcons (Syntax.tyEnum (List._∷_ 116 (List._∷_ 101 (List._∷_ 120 (List._∷_ 116 (List._∷_ 95 (List._∷_ 114 (List._∷_ 101 (List._∷_ 97 (List._∷_ 100 (List._∷_ 105 (List._∷_ 110 (List._∷_ 103 (List._∷_ 58 (List._∷_ 58 (List._∷_ 72 (List._∷_ 101 (List._∷_ 108 (List._∷_ 100 List.[])))))))))))))))))) (Syntax.ttcons Syntax.tnil (Syntax.ttcons Syntax.tnil (Syntax.ttcons (Syntax.tcons (Syntax.tyInt Syntax.w8) Syntax.tnil) (Syntax.ttcons Syntax.tnil (Syntax.ttcons (Syntax.tcons (Syntax.tyInt Syntax.w8) Syntax.tnil) (Syntax.ttcons (Syntax.tcons (Syntax.tyInt Syntax.w8) Syntax.tnil) (Syntax.ttcons Syntax.tnil (Syntax.ttcons (Syntax.tcons (Syntax.tyInt Syntax.w8) Syntax.tnil) (Syntax.ttcons Syntax.tnil (Syntax.ttcons (Syntax.tcons (Syntax.tyEnum (List._∷_ 116 (List._∷_ 101 (List._∷_ 120 (List._∷_ 116 (List._∷_ 95 (List._∷_ 114 (List._∷_ 101 (List._∷_ 97 (List._∷_ 100 (List._∷_ 105 (List._∷_ 110 (List._∷_ 103 (List._∷_ 58 (List._∷_ 58 (List._∷_ 70 (List._∷_ 97 (List._∷_ 117 (List._∷_ 108 (List._∷_ 116 List.[]))))))))))))))))))) (Syntax.ttcons Syntax.tnil (Syntax.ttcons Syntax.tnil (Syntax.ttcons Syntax.tnil (Syntax.ttcons Syntax.tnil Syntax.ttnil))))) Syntax.tnil) Syntax.ttnil))))))))))) (Syntax.tcons (Syntax.tyArray (Syntax.tyInt Syntax.w8) 32) (Syntax.tcons (Syntax.tyInt Syntax.w64) Syntax.tnil))))))) (List._∷_ (11, Rows.any-gone Syntax.tyBool) (List._∷_ (12, Rows.any-gone (Syntax.tyRef Syntax.erased Syntax.mut OfOutput.named)) (List._∷_ (13, Mut.mslice (OfOutput.row) (Syntax.tyRef Syntax.erased Syntax.mut OfOutput.named) 5) (List._∷_ (14, Relend.msptr (OfStation.row) (Syntax.tyRef Syntax.erased Syntax.mut OfStation.named) 6) (List._∷_ (15, Rows.any-gone (Syntax.tyStruct (List._∷_ 38 (List._∷_ 91 (List._∷_ 93 List.[]))) (Syntax.tcons (Syntax.tyRef Syntax.erased Syntax.mut OfStation.named) (Syntax.tcons (Syntax.tyInt Syntax.w64) Syntax.tnil)))) List.[])))))))))))))))
+        g9 = List._∷_ (0, Rows.any-gone (Laws.mir)) (List._∷_ (1, Relend.mslice-owed (OfOutput.row) (Syntax.tyRef (Syntax.named 0) Syntax.mut OfOutput.named) 0 5 (Row.lease (κs .0) (qs .0))) (List._∷_ (2, Relend.mslice-owed (OfStation.row) (Syntax.tyRef (Syntax.named 1) Syntax.mut OfStation.named) 1 6 (Row.lease (κs .1 .0) (qs .1 .0))) (List._∷_ (3, Rows.mref (OfPanelRecord.row) (Syntax.tyRef (Syntax.named 2) Syntax.mut OfPanelRecord.named) 2) (List._∷_ (4, Mut.mslice (Referent.rtF (Referent.fInt Syntax.w8)) (Syntax.tyRef (Syntax.named 3) Syntax.mut (Syntax.tyInt Syntax.w8)) 3) (List._∷_ (5, Mut.mslice (Referent.rtF (Referent.fInt Syntax.w8)) (Syntax.tyRef (Syntax.named 4) Syntax.mut (Syntax.tyInt Syntax.w8)) 4) (List._∷_ (6, Rows.whole (Declared.row Reader.the-type)) (List._∷_ (7, Rows.sc-here (Row.sInt Syntax.w64)) (List._∷_ (8, Rows.sc-here (Row.sInt Syntax.w64)) (List._∷_ (9, Rows.any-gone (Laws.mir)) (List._∷_ (10, Rows.any-gone (Syntax.tyStruct (List._∷_ 116 (List._∷_ 101 (List._∷_ 120 (List._∷_ 116 (List._∷_ 95 (List._∷_ 114 (List._∷_ 101 (List._∷_ 97 (List._∷_ 100 (List._∷_ 105 (List._∷_ 110 (List._∷_ 103 (List._∷_ 58 (List._∷_ 58 (List._∷_ 82 (List._∷_ 101 (List._∷_ 97 (List._∷_ 100 (List._∷_ 101 (List._∷_ 114 List.[])))))))))))))))))))) (Syntax.tcons (Syntax.tyInt Syntax.w8) (Syntax.tcons (Syntax.tyInt Syntax.w64) (Syntax.tcons (Syntax.tyEnum (List._∷_ 116 (List._∷_ 101 (List._∷_ 120 (List._∷_ 116 (List._∷_ 95 (List._∷_ 114 (List._∷_ 101 (List._∷_ 97 (List._∷_ 100 (List._∷_ 105 (List._∷_ 110 (List._∷_ 103 (List._∷_ 58 (List._∷_ 58 (List._∷_ 72 (List._∷_ 101 (List._∷_ 108 (List._∷_ 100 List.[])))))))))))))))))) (Syntax.ttcons Syntax.tnil (Syntax.ttcons Syntax.tnil (Syntax.ttcons (Syntax.tcons (Syntax.tyInt Syntax.w8) Syntax.tnil) (Syntax.ttcons Syntax.tnil (Syntax.ttcons (Syntax.tcons (Syntax.tyInt Syntax.w8) Syntax.tnil) (Syntax.ttcons (Syntax.tcons (Syntax.tyInt Syntax.w8) Syntax.tnil) (Syntax.ttcons Syntax.tnil (Syntax.ttcons (Syntax.tcons (Syntax.tyInt Syntax.w8) Syntax.tnil) (Syntax.ttcons Syntax.tnil (Syntax.ttcons (Syntax.tcons (Syntax.tyEnum (List._∷_ 116 (List._∷_ 101 (List._∷_ 120 (List._∷_ 116 (List._∷_ 95 (List._∷_ 114 (List._∷_ 101 (List._∷_ 97 (List._∷_ 100 (List._∷_ 105 (List._∷_ 110 (List._∷_ 103 (List._∷_ 58 (List._∷_ 58 (List._∷_ 70 (List._∷_ 97 (List._∷_ 117 (List._∷_ 108 (List._∷_ 116 List.[]))))))))))))))))))) (Syntax.ttcons Syntax.tnil (Syntax.ttcons Syntax.tnil (Syntax.ttcons Syntax.tnil (Syntax.ttcons Syntax.tnil Syntax.ttnil))))) Syntax.tnil) Syntax.ttnil))))))))))) (Syntax.tcons (Syntax.tyArray (Syntax.tyInt Syntax.w8) 32) (Syntax.tcons (Syntax.tyInt Syntax.w64) Syntax.tnil))))))) (List._∷_ (11, Rows.any-gone Syntax.tyBool) (List._∷_ (12, Rows.any-gone (Syntax.tyRef Syntax.erased Syntax.mut OfOutput.named)) (List._∷_ (13, Mut.mslice (OfOutput.row) (Syntax.tyRef Syntax.erased Syntax.mut OfOutput.named) 5) (List._∷_ (14, Relend.msptr (OfStation.row) (Syntax.tyRef Syntax.erased Syntax.mut OfStation.named) 6) (List._∷_ (15, Rows.any-gone (Syntax.tyStruct (List._∷_ 38 (List._∷_ 91 (List._∷_ 93 List.[]))) (Syntax.tcons (Syntax.tyRef Syntax.erased Syntax.mut OfStation.named) (Syntax.tcons (Syntax.tyInt Syntax.w64) Syntax.tnil)))) List.[])))))))))))))))
 
         abbrev g10 : List.List Row.Entry
-        g10 = List._∷_ (0, Rows.any-gone (Laws.mir)) (List._∷_ (1, Relend.mslice-owed (OfOutput.row) (Syntax.tyRef (Syntax.named 0) Syntax.mut OfOutput.named) 0 5 (Row.lease (κs .0) (qs .0))) (List._∷_ (2, Relend.mslice-owed (OfStation.row) (Syntax.tyRef (Syntax.named 1) Syntax.mut OfStation.named) 1 6 (Row.lease (κs .1 .0) (qs .1 .0))) (List._∷_ (3, Rows.mref (Referent.rtF (Referent.fInt Syntax.w64)) (Syntax.tyRef (Syntax.named 2) Syntax.mut (Syntax.tyInt Syntax.w64)) 2) (List._∷_ (4, Mut.mslice (Referent.rtF (Referent.fInt Syntax.w8)) (Syntax.tyRef (Syntax.named 3) Syntax.mut (Syntax.tyInt Syntax.w8)) 3) (List._∷_ (5, Mut.mslice (Referent.rtF (Referent.fInt Syntax.w8)) (Syntax.tyRef (Syntax.named 4) Syntax.mut (Syntax.tyInt Syntax.w8)) 4) (List._∷_ (6, Rows.whole (Declared.row Reader.the-type)) (List._∷_ (7, Rows.sc-here (Row.sInt Syntax.w64)) (List._∷_ (8, Rows.sc-here (Row.sInt Syntax.w64)) (List._∷_ (9, Rows.any-gone (Laws.mir)) (List._∷_ (10, Rows.any-gone (Syntax.tyStruct (List._∷_ 116 (List._∷_ 101 (List._∷_ 120 (List._∷_ 116 (List._∷_ 95 (List._∷_ 114 (List._∷_ 101 (List._∷_ 97 (List._∷_ 100 (List._∷_ 105 (List._∷_ 110 (List._∷_ 103 (List._∷_ 58 (List._∷_ 58 (List._∷_ 82 (List._∷_ 101 (List._∷_ 97 (List._∷_ 100 (List._∷_ 101 (List._∷_ 114 List.[])))))))))))))))))))) (Syntax.tcons (Syntax.tyInt Syntax.w8) (Syntax.tcons (Syntax.tyInt Syntax.w64) (Syntax.tcons (Syntax.tyEnum (List._∷_ 116 (List._∷_ 101 (List._∷_ 120 (List._∷_ 116 (List._∷_ 95 (List._∷_ 114 (List._∷_ 101 (List._∷_ 97 (List._∷_ 100 (List._∷_ 105 (List._∷_ 110 (List._∷_ 103 (List._∷_ 58 (List._∷_ 58 (List._∷_ 72 (List._∷_ 101 (List._∷_ 108 (List._∷_ 100 List.[])))))))))))))))))) (Syntax.ttcons Syntax.tnil (Syntax.ttcons Syntax.tnil (Syntax.ttcons (Syntax.tcons (Syntax.tyInt Syntax.w8) Syntax.tnil) (Syntax.ttcons Syntax.tnil (Syntax.ttcons (Syntax.tcons (Syntax.tyInt Syntax.w8) Syntax.tnil) (Syntax.ttcons (Syntax.tcons (Syntax.tyInt Syntax.w8) Syntax.tnil) (Syntax.ttcons Syntax.tnil (Syntax.ttcons (Syntax.tcons (Syntax.tyInt Syntax.w8) Syntax.tnil) (Syntax.ttcons Syntax.tnil (Syntax.ttcons (Syntax.tcons (Syntax.tyEnum (List._∷_ 116 (List._∷_ 101 (List._∷_ 120 (List._∷_ 116 (List._∷_ 95 (List._∷_ 114 (List._∷_ 101 (List._∷_ 97 (List._∷_ 100 (List._∷_ 105 (List._∷_ 110 (List._∷_ 103 (List._∷_ 58 (List._∷_ 58 (List._∷_ 70 (List._∷_ 97 (List._∷_ 117 (List._∷_ 108 (List._∷_ 116 List.[]))))))))))))))))))) (Syntax.ttcons Syntax.tnil (Syntax.ttcons Syntax.tnil (Syntax.ttcons Syntax.tnil (Syntax.ttcons Syntax.tnil Syntax.ttnil))))) Syntax.tnil) Syntax.ttnil))))))))))) (Syntax.tcons (Syntax.tyArray (Syntax.tyInt Syntax.w8) 32) (Syntax.tcons (Syntax.tyInt Syntax.w64) Syntax.tnil))))))) (List._∷_ (11, Rows.any-gone Syntax.tyBool) (List._∷_ (12, Rows.any-gone (Syntax.tyRef Syntax.erased Syntax.mut OfOutput.named)) (List._∷_ (13, Mut.mslice (OfOutput.row) (Syntax.tyRef Syntax.erased Syntax.mut OfOutput.named) 5) (List._∷_ (14, Rows.any-gone (Syntax.tyRef Syntax.erased Syntax.mut OfStation.named)) (List._∷_ (15, Mut.mslice (OfStation.row) (Syntax.tyRef Syntax.erased Syntax.mut OfStation.named) 6) List.[])))))))))))))))
+        g10 = List._∷_ (0, Rows.any-gone (Laws.mir)) (List._∷_ (1, Relend.mslice-owed (OfOutput.row) (Syntax.tyRef (Syntax.named 0) Syntax.mut OfOutput.named) 0 5 (Row.lease (κs .0) (qs .0))) (List._∷_ (2, Relend.mslice-owed (OfStation.row) (Syntax.tyRef (Syntax.named 1) Syntax.mut OfStation.named) 1 6 (Row.lease (κs .1 .0) (qs .1 .0))) (List._∷_ (3, Rows.mref (OfPanelRecord.row) (Syntax.tyRef (Syntax.named 2) Syntax.mut OfPanelRecord.named) 2) (List._∷_ (4, Mut.mslice (Referent.rtF (Referent.fInt Syntax.w8)) (Syntax.tyRef (Syntax.named 3) Syntax.mut (Syntax.tyInt Syntax.w8)) 3) (List._∷_ (5, Mut.mslice (Referent.rtF (Referent.fInt Syntax.w8)) (Syntax.tyRef (Syntax.named 4) Syntax.mut (Syntax.tyInt Syntax.w8)) 4) (List._∷_ (6, Rows.whole (Declared.row Reader.the-type)) (List._∷_ (7, Rows.sc-here (Row.sInt Syntax.w64)) (List._∷_ (8, Rows.sc-here (Row.sInt Syntax.w64)) (List._∷_ (9, Rows.any-gone (Laws.mir)) (List._∷_ (10, Rows.any-gone (Syntax.tyStruct (List._∷_ 116 (List._∷_ 101 (List._∷_ 120 (List._∷_ 116 (List._∷_ 95 (List._∷_ 114 (List._∷_ 101 (List._∷_ 97 (List._∷_ 100 (List._∷_ 105 (List._∷_ 110 (List._∷_ 103 (List._∷_ 58 (List._∷_ 58 (List._∷_ 82 (List._∷_ 101 (List._∷_ 97 (List._∷_ 100 (List._∷_ 101 (List._∷_ 114 List.[])))))))))))))))))))) (Syntax.tcons (Syntax.tyInt Syntax.w8) (Syntax.tcons (Syntax.tyInt Syntax.w64) (Syntax.tcons (Syntax.tyEnum (List._∷_ 116 (List._∷_ 101 (List._∷_ 120 (List._∷_ 116 (List._∷_ 95 (List._∷_ 114 (List._∷_ 101 (List._∷_ 97 (List._∷_ 100 (List._∷_ 105 (List._∷_ 110 (List._∷_ 103 (List._∷_ 58 (List._∷_ 58 (List._∷_ 72 (List._∷_ 101 (List._∷_ 108 (List._∷_ 100 List.[])))))))))))))))))) (Syntax.ttcons Syntax.tnil (Syntax.ttcons Syntax.tnil (Syntax.ttcons (Syntax.tcons (Syntax.tyInt Syntax.w8) Syntax.tnil) (Syntax.ttcons Syntax.tnil (Syntax.ttcons (Syntax.tcons (Syntax.tyInt Syntax.w8) Syntax.tnil) (Syntax.ttcons (Syntax.tcons (Syntax.tyInt Syntax.w8) Syntax.tnil) (Syntax.ttcons Syntax.tnil (Syntax.ttcons (Syntax.tcons (Syntax.tyInt Syntax.w8) Syntax.tnil) (Syntax.ttcons Syntax.tnil (Syntax.ttcons (Syntax.tcons (Syntax.tyEnum (List._∷_ 116 (List._∷_ 101 (List._∷_ 120 (List._∷_ 116 (List._∷_ 95 (List._∷_ 114 (List._∷_ 101 (List._∷_ 97 (List._∷_ 100 (List._∷_ 105 (List._∷_ 110 (List._∷_ 103 (List._∷_ 58 (List._∷_ 58 (List._∷_ 70 (List._∷_ 97 (List._∷_ 117 (List._∷_ 108 (List._∷_ 116 List.[]))))))))))))))))))) (Syntax.ttcons Syntax.tnil (Syntax.ttcons Syntax.tnil (Syntax.ttcons Syntax.tnil (Syntax.ttcons Syntax.tnil Syntax.ttnil))))) Syntax.tnil) Syntax.ttnil))))))))))) (Syntax.tcons (Syntax.tyArray (Syntax.tyInt Syntax.w8) 32) (Syntax.tcons (Syntax.tyInt Syntax.w64) Syntax.tnil))))))) (List._∷_ (11, Rows.any-gone Syntax.tyBool) (List._∷_ (12, Rows.any-gone (Syntax.tyRef Syntax.erased Syntax.mut OfOutput.named)) (List._∷_ (13, Mut.mslice (OfOutput.row) (Syntax.tyRef Syntax.erased Syntax.mut OfOutput.named) 5) (List._∷_ (14, Rows.any-gone (Syntax.tyRef Syntax.erased Syntax.mut OfStation.named)) (List._∷_ (15, Mut.mslice (OfStation.row) (Syntax.tyRef Syntax.erased Syntax.mut OfStation.named) 6) List.[])))))))))))))))
 
         abbrev g11 : List.List Row.Entry
-        g11 = List._∷_ (0, Rows.any-gone (Laws.mir)) (List._∷_ (1, Relend.mslice-owed (OfOutput.row) (Syntax.tyRef (Syntax.named 0) Syntax.mut OfOutput.named) 0 5 (Row.lease (κs .0) (qs .0))) (List._∷_ (2, Relend.mslice-owed (OfStation.row) (Syntax.tyRef (Syntax.named 1) Syntax.mut OfStation.named) 1 6 (Row.lease (κs .1 .0) (qs .1 .0))) (List._∷_ (3, Rows.mref-owed (Referent.rtF (Referent.fInt Syntax.w64)) (Syntax.tyRef (Syntax.named 2) Syntax.mut (Syntax.tyInt Syntax.w64)) 2 7 (Row.lease (κs .1 .1 .0) (qs .1 .1 .0))) (List._∷_ (4, Mut.mslice (Referent.rtF (Referent.fInt Syntax.w8)) (Syntax.tyRef (Syntax.named 3) Syntax.mut (Syntax.tyInt Syntax.w8)) 3) (List._∷_ (5, Mut.mslice (Referent.rtF (Referent.fInt Syntax.w8)) (Syntax.tyRef (Syntax.named 4) Syntax.mut (Syntax.tyInt Syntax.w8)) 4) (List._∷_ (6, Rows.whole (Declared.row Reader.the-type)) (List._∷_ (7, Rows.sc-here (Row.sInt Syntax.w64)) (List._∷_ (8, Rows.sc-here (Row.sInt Syntax.w64)) (List._∷_ (9, Rows.any-gone (Laws.mir)) (List._∷_ (10, Rows.any-gone (Syntax.tyStruct (List._∷_ 116 (List._∷_ 101 (List._∷_ 120 (List._∷_ 116 (List._∷_ 95 (List._∷_ 114 (List._∷_ 101 (List._∷_ 97 (List._∷_ 100 (List._∷_ 105 (List._∷_ 110 (List._∷_ 103 (List._∷_ 58 (List._∷_ 58 (List._∷_ 82 (List._∷_ 101 (List._∷_ 97 (List._∷_ 100 (List._∷_ 101 (List._∷_ 114 List.[])))))))))))))))))))) (Syntax.tcons (Syntax.tyInt Syntax.w8) (Syntax.tcons (Syntax.tyInt Syntax.w64) (Syntax.tcons (Syntax.tyEnum (List._∷_ 116 (List._∷_ 101 (List._∷_ 120 (List._∷_ 116 (List._∷_ 95 (List._∷_ 114 (List._∷_ 101 (List._∷_ 97 (List._∷_ 100 (List._∷_ 105 (List._∷_ 110 (List._∷_ 103 (List._∷_ 58 (List._∷_ 58 (List._∷_ 72 (List._∷_ 101 (List._∷_ 108 (List._∷_ 100 List.[])))))))))))))))))) (Syntax.ttcons Syntax.tnil (Syntax.ttcons Syntax.tnil (Syntax.ttcons (Syntax.tcons (Syntax.tyInt Syntax.w8) Syntax.tnil) (Syntax.ttcons Syntax.tnil (Syntax.ttcons (Syntax.tcons (Syntax.tyInt Syntax.w8) Syntax.tnil) (Syntax.ttcons (Syntax.tcons (Syntax.tyInt Syntax.w8) Syntax.tnil) (Syntax.ttcons Syntax.tnil (Syntax.ttcons (Syntax.tcons (Syntax.tyInt Syntax.w8) Syntax.tnil) (Syntax.ttcons Syntax.tnil (Syntax.ttcons (Syntax.tcons (Syntax.tyEnum (List._∷_ 116 (List._∷_ 101 (List._∷_ 120 (List._∷_ 116 (List._∷_ 95 (List._∷_ 114 (List._∷_ 101 (List._∷_ 97 (List._∷_ 100 (List._∷_ 105 (List._∷_ 110 (List._∷_ 103 (List._∷_ 58 (List._∷_ 58 (List._∷_ 70 (List._∷_ 97 (List._∷_ 117 (List._∷_ 108 (List._∷_ 116 List.[]))))))))))))))))))) (Syntax.ttcons Syntax.tnil (Syntax.ttcons Syntax.tnil (Syntax.ttcons Syntax.tnil (Syntax.ttcons Syntax.tnil Syntax.ttnil))))) Syntax.tnil) Syntax.ttnil))))))))))) (Syntax.tcons (Syntax.tyArray (Syntax.tyInt Syntax.w8) 32) (Syntax.tcons (Syntax.tyInt Syntax.w64) Syntax.tnil))))))) (List._∷_ (11, Rows.any-gone Syntax.tyBool) (List._∷_ (12, Rows.any-gone (Syntax.tyRef Syntax.erased Syntax.mut OfOutput.named)) (List._∷_ (13, Mut.mslice (OfOutput.row) (Syntax.tyRef Syntax.erased Syntax.mut OfOutput.named) 5) (List._∷_ (14, Rows.any-gone (Syntax.tyRef Syntax.erased Syntax.mut OfStation.named)) (List._∷_ (15, Mut.mslice (OfStation.row) (Syntax.tyRef Syntax.erased Syntax.mut OfStation.named) 6) List.[])))))))))))))))
+        g11 = List._∷_ (0, Rows.any-gone (Laws.mir)) (List._∷_ (1, Relend.mslice-owed (OfOutput.row) (Syntax.tyRef (Syntax.named 0) Syntax.mut OfOutput.named) 0 5 (Row.lease (κs .0) (qs .0))) (List._∷_ (2, Relend.mslice-owed (OfStation.row) (Syntax.tyRef (Syntax.named 1) Syntax.mut OfStation.named) 1 6 (Row.lease (κs .1 .0) (qs .1 .0))) (List._∷_ (3, Rows.mref-owed (OfPanelRecord.row) (Syntax.tyRef (Syntax.named 2) Syntax.mut OfPanelRecord.named) 2 7 (Row.lease (κs .1 .1 .0) (qs .1 .1 .0))) (List._∷_ (4, Mut.mslice (Referent.rtF (Referent.fInt Syntax.w8)) (Syntax.tyRef (Syntax.named 3) Syntax.mut (Syntax.tyInt Syntax.w8)) 3) (List._∷_ (5, Mut.mslice (Referent.rtF (Referent.fInt Syntax.w8)) (Syntax.tyRef (Syntax.named 4) Syntax.mut (Syntax.tyInt Syntax.w8)) 4) (List._∷_ (6, Rows.whole (Declared.row Reader.the-type)) (List._∷_ (7, Rows.sc-here (Row.sInt Syntax.w64)) (List._∷_ (8, Rows.sc-here (Row.sInt Syntax.w64)) (List._∷_ (9, Rows.any-gone (Laws.mir)) (List._∷_ (10, Rows.any-gone (Syntax.tyStruct (List._∷_ 116 (List._∷_ 101 (List._∷_ 120 (List._∷_ 116 (List._∷_ 95 (List._∷_ 114 (List._∷_ 101 (List._∷_ 97 (List._∷_ 100 (List._∷_ 105 (List._∷_ 110 (List._∷_ 103 (List._∷_ 58 (List._∷_ 58 (List._∷_ 82 (List._∷_ 101 (List._∷_ 97 (List._∷_ 100 (List._∷_ 101 (List._∷_ 114 List.[])))))))))))))))))))) (Syntax.tcons (Syntax.tyInt Syntax.w8) (Syntax.tcons (Syntax.tyInt Syntax.w64) (Syntax.tcons (Syntax.tyEnum (List._∷_ 116 (List._∷_ 101 (List._∷_ 120 (List._∷_ 116 (List._∷_ 95 (List._∷_ 114 (List._∷_ 101 (List._∷_ 97 (List._∷_ 100 (List._∷_ 105 (List._∷_ 110 (List._∷_ 103 (List._∷_ 58 (List._∷_ 58 (List._∷_ 72 (List._∷_ 101 (List._∷_ 108 (List._∷_ 100 List.[])))))))))))))))))) (Syntax.ttcons Syntax.tnil (Syntax.ttcons Syntax.tnil (Syntax.ttcons (Syntax.tcons (Syntax.tyInt Syntax.w8) Syntax.tnil) (Syntax.ttcons Syntax.tnil (Syntax.ttcons (Syntax.tcons (Syntax.tyInt Syntax.w8) Syntax.tnil) (Syntax.ttcons (Syntax.tcons (Syntax.tyInt Syntax.w8) Syntax.tnil) (Syntax.ttcons Syntax.tnil (Syntax.ttcons (Syntax.tcons (Syntax.tyInt Syntax.w8) Syntax.tnil) (Syntax.ttcons Syntax.tnil (Syntax.ttcons (Syntax.tcons (Syntax.tyEnum (List._∷_ 116 (List._∷_ 101 (List._∷_ 120 (List._∷_ 116 (List._∷_ 95 (List._∷_ 114 (List._∷_ 101 (List._∷_ 97 (List._∷_ 100 (List._∷_ 105 (List._∷_ 110 (List._∷_ 103 (List._∷_ 58 (List._∷_ 58 (List._∷_ 70 (List._∷_ 97 (List._∷_ 117 (List._∷_ 108 (List._∷_ 116 List.[]))))))))))))))))))) (Syntax.ttcons Syntax.tnil (Syntax.ttcons Syntax.tnil (Syntax.ttcons Syntax.tnil (Syntax.ttcons Syntax.tnil Syntax.ttnil))))) Syntax.tnil) Syntax.ttnil))))))))))) (Syntax.tcons (Syntax.tyArray (Syntax.tyInt Syntax.w8) 32) (Syntax.tcons (Syntax.tyInt Syntax.w64) Syntax.tnil))))))) (List._∷_ (11, Rows.any-gone Syntax.tyBool) (List._∷_ (12, Rows.any-gone (Syntax.tyRef Syntax.erased Syntax.mut OfOutput.named)) (List._∷_ (13, Mut.mslice (OfOutput.row) (Syntax.tyRef Syntax.erased Syntax.mut OfOutput.named) 5) (List._∷_ (14, Rows.any-gone (Syntax.tyRef Syntax.erased Syntax.mut OfStation.named)) (List._∷_ (15, Mut.mslice (OfStation.row) (Syntax.tyRef Syntax.erased Syntax.mut OfStation.named) 6) List.[])))))))))))))))
 
         abbrev g13 : List.List Row.Entry
-        g13 = List._∷_ (0, Rows.any-gone (Laws.mir)) (List._∷_ (1, Relend.mslice-owed (OfOutput.row) (Syntax.tyRef (Syntax.named 0) Syntax.mut OfOutput.named) 0 5 (Row.lease (κs .0) (qs .0))) (List._∷_ (2, Relend.mslice-owed (OfStation.row) (Syntax.tyRef (Syntax.named 1) Syntax.mut OfStation.named) 1 6 (Row.lease (κs .1 .0) (qs .1 .0))) (List._∷_ (3, Rows.mref-owed (Referent.rtF (Referent.fInt Syntax.w64)) (Syntax.tyRef (Syntax.named 2) Syntax.mut (Syntax.tyInt Syntax.w64)) 2 7 (Row.lease (κs .1 .1 .0) (qs .1 .1 .0))) (List._∷_ (4, Relend.mslice-owed (Referent.rtF (Referent.fInt Syntax.w8)) (Syntax.tyRef (Syntax.named 3) Syntax.mut (Syntax.tyInt Syntax.w8)) 3 8 (Row.lease (κs .1 .1 .1 .0) (qs .1 .1 .1 .0))) (List._∷_ (5, Mut.mslice (Referent.rtF (Referent.fInt Syntax.w8)) (Syntax.tyRef (Syntax.named 4) Syntax.mut (Syntax.tyInt Syntax.w8)) 4) (List._∷_ (6, Rows.whole (Declared.row Reader.the-type)) (List._∷_ (7, Rows.sc-here (Row.sInt Syntax.w64)) (List._∷_ (8, Rows.sc-here (Row.sInt Syntax.w64)) (List._∷_ (9, Rows.any-gone (Laws.mir)) (List._∷_ (10, Rows.any-gone (Syntax.tyStruct (List._∷_ 116 (List._∷_ 101 (List._∷_ 120 (List._∷_ 116 (List._∷_ 95 (List._∷_ 114 (List._∷_ 101 (List._∷_ 97 (List._∷_ 100 (List._∷_ 105 (List._∷_ 110 (List._∷_ 103 (List._∷_ 58 (List._∷_ 58 (List._∷_ 82 (List._∷_ 101 (List._∷_ 97 (List._∷_ 100 (List._∷_ 101 (List._∷_ 114 List.[])))))))))))))))))))) (Syntax.tcons (Syntax.tyInt Syntax.w8) (Syntax.tcons (Syntax.tyInt Syntax.w64) (Syntax.tcons (Syntax.tyEnum (List._∷_ 116 (List._∷_ 101 (List._∷_ 120 (List._∷_ 116 (List._∷_ 95 (List._∷_ 114 (List._∷_ 101 (List._∷_ 97 (List._∷_ 100 (List._∷_ 105 (List._∷_ 110 (List._∷_ 103 (List._∷_ 58 (List._∷_ 58 (List._∷_ 72 (List._∷_ 101 (List._∷_ 108 (List._∷_ 100 List.[])))))))))))))))))) (Syntax.ttcons Syntax.tnil (Syntax.ttcons Syntax.tnil (Syntax.ttcons (Syntax.tcons (Syntax.tyInt Syntax.w8) Syntax.tnil) (Syntax.ttcons Syntax.tnil (Syntax.ttcons (Syntax.tcons (Syntax.tyInt Syntax.w8) Syntax.tnil) (Syntax.ttcons (Syntax.tcons (Syntax.tyInt Syntax.w8) Syntax.tnil) (Syntax.ttcons Syntax.tnil (Syntax.ttcons (Syntax.tcons (Syntax.tyInt Syntax.w8) Syntax.tnil) (Syntax.ttcons Syntax.tnil (Syntax.ttcons (Syntax.tcons (Syntax.tyEnum (List._∷_ 116 (List._∷_ 101 (List._∷_ 120 (List._∷_ 116 (List._∷_ 95 (List._∷_ 114 (List._∷_ 101 (List._∷_ 97 (List._∷_ 100 (List._∷_ 105 (List._∷_ 110 (List._∷_ 103 (List._∷_ 58 (List._∷_ 58 (List._∷_ 70 (List._∷_ 97 (List._∷_ 117 (List._∷_ 108 (List._∷_ 116 List.[]))))))))))))))))))) (Syntax.ttcons Syntax.tnil (Syntax.ttcons Syntax.tnil (Syntax.ttcons Syntax.tnil (Syntax.ttcons Syntax.tnil Syntax.ttnil))))) Syntax.tnil) Syntax.ttnil))))))))))) (Syntax.tcons (Syntax.tyArray (Syntax.tyInt Syntax.w8) 32) (Syntax.tcons (Syntax.tyInt Syntax.w64) Syntax.tnil))))))) (List._∷_ (11, Rows.any-gone Syntax.tyBool) (List._∷_ (12, Rows.any-gone (Syntax.tyRef Syntax.erased Syntax.mut OfOutput.named)) (List._∷_ (13, Mut.mslice (OfOutput.row) (Syntax.tyRef Syntax.erased Syntax.mut OfOutput.named) 5) (List._∷_ (14, Rows.any-gone (Syntax.tyRef Syntax.erased Syntax.mut OfStation.named)) (List._∷_ (15, Mut.mslice (OfStation.row) (Syntax.tyRef Syntax.erased Syntax.mut OfStation.named) 6) List.[])))))))))))))))
+        g13 = List._∷_ (0, Rows.any-gone (Laws.mir)) (List._∷_ (1, Relend.mslice-owed (OfOutput.row) (Syntax.tyRef (Syntax.named 0) Syntax.mut OfOutput.named) 0 5 (Row.lease (κs .0) (qs .0))) (List._∷_ (2, Relend.mslice-owed (OfStation.row) (Syntax.tyRef (Syntax.named 1) Syntax.mut OfStation.named) 1 6 (Row.lease (κs .1 .0) (qs .1 .0))) (List._∷_ (3, Rows.mref-owed (OfPanelRecord.row) (Syntax.tyRef (Syntax.named 2) Syntax.mut OfPanelRecord.named) 2 7 (Row.lease (κs .1 .1 .0) (qs .1 .1 .0))) (List._∷_ (4, Relend.mslice-owed (Referent.rtF (Referent.fInt Syntax.w8)) (Syntax.tyRef (Syntax.named 3) Syntax.mut (Syntax.tyInt Syntax.w8)) 3 8 (Row.lease (κs .1 .1 .1 .0) (qs .1 .1 .1 .0))) (List._∷_ (5, Mut.mslice (Referent.rtF (Referent.fInt Syntax.w8)) (Syntax.tyRef (Syntax.named 4) Syntax.mut (Syntax.tyInt Syntax.w8)) 4) (List._∷_ (6, Rows.whole (Declared.row Reader.the-type)) (List._∷_ (7, Rows.sc-here (Row.sInt Syntax.w64)) (List._∷_ (8, Rows.sc-here (Row.sInt Syntax.w64)) (List._∷_ (9, Rows.any-gone (Laws.mir)) (List._∷_ (10, Rows.any-gone (Syntax.tyStruct (List._∷_ 116 (List._∷_ 101 (List._∷_ 120 (List._∷_ 116 (List._∷_ 95 (List._∷_ 114 (List._∷_ 101 (List._∷_ 97 (List._∷_ 100 (List._∷_ 105 (List._∷_ 110 (List._∷_ 103 (List._∷_ 58 (List._∷_ 58 (List._∷_ 82 (List._∷_ 101 (List._∷_ 97 (List._∷_ 100 (List._∷_ 101 (List._∷_ 114 List.[])))))))))))))))))))) (Syntax.tcons (Syntax.tyInt Syntax.w8) (Syntax.tcons (Syntax.tyInt Syntax.w64) (Syntax.tcons (Syntax.tyEnum (List._∷_ 116 (List._∷_ 101 (List._∷_ 120 (List._∷_ 116 (List._∷_ 95 (List._∷_ 114 (List._∷_ 101 (List._∷_ 97 (List._∷_ 100 (List._∷_ 105 (List._∷_ 110 (List._∷_ 103 (List._∷_ 58 (List._∷_ 58 (List._∷_ 72 (List._∷_ 101 (List._∷_ 108 (List._∷_ 100 List.[])))))))))))))))))) (Syntax.ttcons Syntax.tnil (Syntax.ttcons Syntax.tnil (Syntax.ttcons (Syntax.tcons (Syntax.tyInt Syntax.w8) Syntax.tnil) (Syntax.ttcons Syntax.tnil (Syntax.ttcons (Syntax.tcons (Syntax.tyInt Syntax.w8) Syntax.tnil) (Syntax.ttcons (Syntax.tcons (Syntax.tyInt Syntax.w8) Syntax.tnil) (Syntax.ttcons Syntax.tnil (Syntax.ttcons (Syntax.tcons (Syntax.tyInt Syntax.w8) Syntax.tnil) (Syntax.ttcons Syntax.tnil (Syntax.ttcons (Syntax.tcons (Syntax.tyEnum (List._∷_ 116 (List._∷_ 101 (List._∷_ 120 (List._∷_ 116 (List._∷_ 95 (List._∷_ 114 (List._∷_ 101 (List._∷_ 97 (List._∷_ 100 (List._∷_ 105 (List._∷_ 110 (List._∷_ 103 (List._∷_ 58 (List._∷_ 58 (List._∷_ 70 (List._∷_ 97 (List._∷_ 117 (List._∷_ 108 (List._∷_ 116 List.[]))))))))))))))))))) (Syntax.ttcons Syntax.tnil (Syntax.ttcons Syntax.tnil (Syntax.ttcons Syntax.tnil (Syntax.ttcons Syntax.tnil Syntax.ttnil))))) Syntax.tnil) Syntax.ttnil))))))))))) (Syntax.tcons (Syntax.tyArray (Syntax.tyInt Syntax.w8) 32) (Syntax.tcons (Syntax.tyInt Syntax.w64) Syntax.tnil))))))) (List._∷_ (11, Rows.any-gone Syntax.tyBool) (List._∷_ (12, Rows.any-gone (Syntax.tyRef Syntax.erased Syntax.mut OfOutput.named)) (List._∷_ (13, Mut.mslice (OfOutput.row) (Syntax.tyRef Syntax.erased Syntax.mut OfOutput.named) 5) (List._∷_ (14, Rows.any-gone (Syntax.tyRef Syntax.erased Syntax.mut OfStation.named)) (List._∷_ (15, Mut.mslice (OfStation.row) (Syntax.tyRef Syntax.erased Syntax.mut OfStation.named) 6) List.[])))))))))))))))
 
         abbrev g16 : List.List Row.Entry
-        g16 = List._∷_ (0, Rows.any-gone (Laws.mir)) (List._∷_ (1, Relend.mslice-owed (OfOutput.row) (Syntax.tyRef (Syntax.named 0) Syntax.mut OfOutput.named) 0 5 (Row.lease (κs .0) (qs .0))) (List._∷_ (2, Relend.mslice-owed (OfStation.row) (Syntax.tyRef (Syntax.named 1) Syntax.mut OfStation.named) 1 6 (Row.lease (κs .1 .0) (qs .1 .0))) (List._∷_ (3, Rows.mref-owed (Referent.rtF (Referent.fInt Syntax.w64)) (Syntax.tyRef (Syntax.named 2) Syntax.mut (Syntax.tyInt Syntax.w64)) 2 7 (Row.lease (κs .1 .1 .0) (qs .1 .1 .0))) (List._∷_ (4, Relend.mslice-owed (Referent.rtF (Referent.fInt Syntax.w8)) (Syntax.tyRef (Syntax.named 3) Syntax.mut (Syntax.tyInt Syntax.w8)) 3 8 (Row.lease (κs .1 .1 .1 .0) (qs .1 .1 .1 .0))) (List._∷_ (5, Relend.mslice-owed (Referent.rtF (Referent.fInt Syntax.w8)) (Syntax.tyRef (Syntax.named 4) Syntax.mut (Syntax.tyInt Syntax.w8)) 4 9 (Row.lease (κs .1 .1 .1 .1 .0) (qs .1 .1 .1 .1 .0))) (List._∷_ (6, Rows.whole (Declared.row Reader.the-type)) (List._∷_ (7, Rows.sc-here (Row.sInt Syntax.w64)) (List._∷_ (8, Rows.sc-here (Row.sInt Syntax.w64)) (List._∷_ (9, Rows.any-gone (Laws.mir)) (List._∷_ (10, Rows.any-gone (Syntax.tyStruct (List._∷_ 116 (List._∷_ 101 (List._∷_ 120 (List._∷_ 116 (List._∷_ 95 (List._∷_ 114 (List._∷_ 101 (List._∷_ 97 (List._∷_ 100 (List._∷_ 105 (List._∷_ 110 (List._∷_ 103 (List._∷_ 58 (List._∷_ 58 (List._∷_ 82 (List._∷_ 101 (List._∷_ 97 (List._∷_ 100 (List._∷_ 101 (List._∷_ 114 List.[])))))))))))))))))))) (Syntax.tcons (Syntax.tyInt Syntax.w8) (Syntax.tcons (Syntax.tyInt Syntax.w64) (Syntax.tcons (Syntax.tyEnum (List._∷_ 116 (List._∷_ 101 (List._∷_ 120 (List._∷_ 116 (List._∷_ 95 (List._∷_ 114 (List._∷_ 101 (List._∷_ 97 (List._∷_ 100 (List._∷_ 105 (List._∷_ 110 (List._∷_ 103 (List._∷_ 58 (List._∷_ 58 (List._∷_ 72 (List._∷_ 101 (List._∷_ 108 (List._∷_ 100 List.[])))))))))))))))))) (Syntax.ttcons Syntax.tnil (Syntax.ttcons Syntax.tnil (Syntax.ttcons (Syntax.tcons (Syntax.tyInt Syntax.w8) Syntax.tnil) (Syntax.ttcons Syntax.tnil (Syntax.ttcons (Syntax.tcons (Syntax.tyInt Syntax.w8) Syntax.tnil) (Syntax.ttcons (Syntax.tcons (Syntax.tyInt Syntax.w8) Syntax.tnil) (Syntax.ttcons Syntax.tnil (Syntax.ttcons (Syntax.tcons (Syntax.tyInt Syntax.w8) Syntax.tnil) (Syntax.ttcons Syntax.tnil (Syntax.ttcons (Syntax.tcons (Syntax.tyEnum (List._∷_ 116 (List._∷_ 101 (List._∷_ 120 (List._∷_ 116 (List._∷_ 95 (List._∷_ 114 (List._∷_ 101 (List._∷_ 97 (List._∷_ 100 (List._∷_ 105 (List._∷_ 110 (List._∷_ 103 (List._∷_ 58 (List._∷_ 58 (List._∷_ 70 (List._∷_ 97 (List._∷_ 117 (List._∷_ 108 (List._∷_ 116 List.[]))))))))))))))))))) (Syntax.ttcons Syntax.tnil (Syntax.ttcons Syntax.tnil (Syntax.ttcons Syntax.tnil (Syntax.ttcons Syntax.tnil Syntax.ttnil))))) Syntax.tnil) Syntax.ttnil))))))))))) (Syntax.tcons (Syntax.tyArray (Syntax.tyInt Syntax.w8) 32) (Syntax.tcons (Syntax.tyInt Syntax.w64) Syntax.tnil))))))) (List._∷_ (11, Rows.any-gone Syntax.tyBool) (List._∷_ (12, Rows.any-gone (Syntax.tyRef Syntax.erased Syntax.mut OfOutput.named)) (List._∷_ (13, Mut.mslice (OfOutput.row) (Syntax.tyRef Syntax.erased Syntax.mut OfOutput.named) 5) (List._∷_ (14, Rows.any-gone (Syntax.tyRef Syntax.erased Syntax.mut OfStation.named)) (List._∷_ (15, Mut.mslice (OfStation.row) (Syntax.tyRef Syntax.erased Syntax.mut OfStation.named) 6) List.[])))))))))))))))
+        g16 = List._∷_ (0, Rows.any-gone (Laws.mir)) (List._∷_ (1, Relend.mslice-owed (OfOutput.row) (Syntax.tyRef (Syntax.named 0) Syntax.mut OfOutput.named) 0 5 (Row.lease (κs .0) (qs .0))) (List._∷_ (2, Relend.mslice-owed (OfStation.row) (Syntax.tyRef (Syntax.named 1) Syntax.mut OfStation.named) 1 6 (Row.lease (κs .1 .0) (qs .1 .0))) (List._∷_ (3, Rows.mref-owed (OfPanelRecord.row) (Syntax.tyRef (Syntax.named 2) Syntax.mut OfPanelRecord.named) 2 7 (Row.lease (κs .1 .1 .0) (qs .1 .1 .0))) (List._∷_ (4, Relend.mslice-owed (Referent.rtF (Referent.fInt Syntax.w8)) (Syntax.tyRef (Syntax.named 3) Syntax.mut (Syntax.tyInt Syntax.w8)) 3 8 (Row.lease (κs .1 .1 .1 .0) (qs .1 .1 .1 .0))) (List._∷_ (5, Relend.mslice-owed (Referent.rtF (Referent.fInt Syntax.w8)) (Syntax.tyRef (Syntax.named 4) Syntax.mut (Syntax.tyInt Syntax.w8)) 4 9 (Row.lease (κs .1 .1 .1 .1 .0) (qs .1 .1 .1 .1 .0))) (List._∷_ (6, Rows.whole (Declared.row Reader.the-type)) (List._∷_ (7, Rows.sc-here (Row.sInt Syntax.w64)) (List._∷_ (8, Rows.sc-here (Row.sInt Syntax.w64)) (List._∷_ (9, Rows.any-gone (Laws.mir)) (List._∷_ (10, Rows.any-gone (Syntax.tyStruct (List._∷_ 116 (List._∷_ 101 (List._∷_ 120 (List._∷_ 116 (List._∷_ 95 (List._∷_ 114 (List._∷_ 101 (List._∷_ 97 (List._∷_ 100 (List._∷_ 105 (List._∷_ 110 (List._∷_ 103 (List._∷_ 58 (List._∷_ 58 (List._∷_ 82 (List._∷_ 101 (List._∷_ 97 (List._∷_ 100 (List._∷_ 101 (List._∷_ 114 List.[])))))))))))))))))))) (Syntax.tcons (Syntax.tyInt Syntax.w8) (Syntax.tcons (Syntax.tyInt Syntax.w64) (Syntax.tcons (Syntax.tyEnum (List._∷_ 116 (List._∷_ 101 (List._∷_ 120 (List._∷_ 116 (List._∷_ 95 (List._∷_ 114 (List._∷_ 101 (List._∷_ 97 (List._∷_ 100 (List._∷_ 105 (List._∷_ 110 (List._∷_ 103 (List._∷_ 58 (List._∷_ 58 (List._∷_ 72 (List._∷_ 101 (List._∷_ 108 (List._∷_ 100 List.[])))))))))))))))))) (Syntax.ttcons Syntax.tnil (Syntax.ttcons Syntax.tnil (Syntax.ttcons (Syntax.tcons (Syntax.tyInt Syntax.w8) Syntax.tnil) (Syntax.ttcons Syntax.tnil (Syntax.ttcons (Syntax.tcons (Syntax.tyInt Syntax.w8) Syntax.tnil) (Syntax.ttcons (Syntax.tcons (Syntax.tyInt Syntax.w8) Syntax.tnil) (Syntax.ttcons Syntax.tnil (Syntax.ttcons (Syntax.tcons (Syntax.tyInt Syntax.w8) Syntax.tnil) (Syntax.ttcons Syntax.tnil (Syntax.ttcons (Syntax.tcons (Syntax.tyEnum (List._∷_ 116 (List._∷_ 101 (List._∷_ 120 (List._∷_ 116 (List._∷_ 95 (List._∷_ 114 (List._∷_ 101 (List._∷_ 97 (List._∷_ 100 (List._∷_ 105 (List._∷_ 110 (List._∷_ 103 (List._∷_ 58 (List._∷_ 58 (List._∷_ 70 (List._∷_ 97 (List._∷_ 117 (List._∷_ 108 (List._∷_ 116 List.[]))))))))))))))))))) (Syntax.ttcons Syntax.tnil (Syntax.ttcons Syntax.tnil (Syntax.ttcons Syntax.tnil (Syntax.ttcons Syntax.tnil Syntax.ttnil))))) Syntax.tnil) Syntax.ttnil))))))))))) (Syntax.tcons (Syntax.tyArray (Syntax.tyInt Syntax.w8) 32) (Syntax.tcons (Syntax.tyInt Syntax.w64) Syntax.tnil))))))) (List._∷_ (11, Rows.any-gone Syntax.tyBool) (List._∷_ (12, Rows.any-gone (Syntax.tyRef Syntax.erased Syntax.mut OfOutput.named)) (List._∷_ (13, Mut.mslice (OfOutput.row) (Syntax.tyRef Syntax.erased Syntax.mut OfOutput.named) 5) (List._∷_ (14, Rows.any-gone (Syntax.tyRef Syntax.erased Syntax.mut OfStation.named)) (List._∷_ (15, Mut.mslice (OfStation.row) (Syntax.tyRef Syntax.erased Syntax.mut OfStation.named) 6) List.[])))))))))))))))
 
         abbrev g19 : List.List Row.Entry
-        g19 = List._∷_ (0, Rows.any-gone (Laws.mir)) (List._∷_ (1, Relend.mslice-owed (OfOutput.row) (Syntax.tyRef (Syntax.named 0) Syntax.mut OfOutput.named) 0 5 (Row.lease (κs .0) (qs .0))) (List._∷_ (2, Relend.mslice-owed (OfStation.row) (Syntax.tyRef (Syntax.named 1) Syntax.mut OfStation.named) 1 6 (Row.lease (κs .1 .0) (qs .1 .0))) (List._∷_ (3, Rows.mref-owed (Referent.rtF (Referent.fInt Syntax.w64)) (Syntax.tyRef (Syntax.named 2) Syntax.mut (Syntax.tyInt Syntax.w64)) 2 7 (Row.lease (κs .1 .1 .0) (qs .1 .1 .0))) (List._∷_ (4, Relend.mslice-owed (Referent.rtF (Referent.fInt Syntax.w8)) (Syntax.tyRef (Syntax.named 3) Syntax.mut (Syntax.tyInt Syntax.w8)) 3 8 (Row.lease (κs .1 .1 .1 .0) (qs .1 .1 .1 .0))) (List._∷_ (5, Relend.mslice-owed (Referent.rtF (Referent.fInt Syntax.w8)) (Syntax.tyRef (Syntax.named 4) Syntax.mut (Syntax.tyInt Syntax.w8)) 4 9 (Row.lease (κs .1 .1 .1 .1 .0) (qs .1 .1 .1 .1 .0))) (List._∷_ (6, Rows.whole (Declared.row Reader.the-type)) (List._∷_ (7, Rows.sc-here (Row.sInt Syntax.w64)) (List._∷_ (8, Rows.sc-here (Row.sInt Syntax.w64)) (List._∷_ (9, Rows.whole (Declared.row Turn.the-type)) (List._∷_ (10, Rows.any-gone (Syntax.tyStruct (List._∷_ 116 (List._∷_ 101 (List._∷_ 120 (List._∷_ 116 (List._∷_ 95 (List._∷_ 114 (List._∷_ 101 (List._∷_ 97 (List._∷_ 100 (List._∷_ 105 (List._∷_ 110 (List._∷_ 103 (List._∷_ 58 (List._∷_ 58 (List._∷_ 82 (List._∷_ 101 (List._∷_ 97 (List._∷_ 100 (List._∷_ 101 (List._∷_ 114 List.[])))))))))))))))))))) (Syntax.tcons (Syntax.tyInt Syntax.w8) (Syntax.tcons (Syntax.tyInt Syntax.w64) (Syntax.tcons (Syntax.tyEnum (List._∷_ 116 (List._∷_ 101 (List._∷_ 120 (List._∷_ 116 (List._∷_ 95 (List._∷_ 114 (List._∷_ 101 (List._∷_ 97 (List._∷_ 100 (List._∷_ 105 (List._∷_ 110 (List._∷_ 103 (List._∷_ 58 (List._∷_ 58 (List._∷_ 72 (List._∷_ 101 (List._∷_ 108 (List._∷_ 100 List.[])))))))))))))))))) (Syntax.ttcons Syntax.tnil (Syntax.ttcons Syntax.tnil (Syntax.ttcons (Syntax.tcons (Syntax.tyInt Syntax.w8) Syntax.tnil) (Syntax.ttcons Syntax.tnil (Syntax.ttcons (Syntax.tcons (Syntax.tyInt Syntax.w8) Syntax.tnil) (Syntax.ttcons (Syntax.tcons (Syntax.tyInt Syntax.w8) Syntax.tnil) (Syntax.ttcons Syntax.tnil (Syntax.ttcons (Syntax.tcons (Syntax.tyInt Syntax.w8) Syntax.tnil) (Syntax.ttcons Syntax.tnil (Syntax.ttcons (Syntax.tcons (Syntax.tyEnum (List._∷_ 116 (List._∷_ 101 (List._∷_ 120 (List._∷_ 116 (List._∷_ 95 (List._∷_ 114 (List._∷_ 101 (List._∷_ 97 (List._∷_ 100 (List._∷_ 105 (List._∷_ 110 (List._∷_ 103 (List._∷_ 58 (List._∷_ 58 (List._∷_ 70 (List._∷_ 97 (List._∷_ 117 (List._∷_ 108 (List._∷_ 116 List.[]))))))))))))))))))) (Syntax.ttcons Syntax.tnil (Syntax.ttcons Syntax.tnil (Syntax.ttcons Syntax.tnil (Syntax.ttcons Syntax.tnil Syntax.ttnil))))) Syntax.tnil) Syntax.ttnil))))))))))) (Syntax.tcons (Syntax.tyArray (Syntax.tyInt Syntax.w8) 32) (Syntax.tcons (Syntax.tyInt Syntax.w64) Syntax.tnil))))))) (List._∷_ (11, Rows.any-gone Syntax.tyBool) (List._∷_ (12, Rows.any-gone (Syntax.tyRef Syntax.erased Syntax.mut OfOutput.named)) (List._∷_ (13, Mut.msleft (OfOutput.row) (Syntax.tyRef Syntax.erased Syntax.mut OfOutput.named)) (List._∷_ (14, Rows.any-gone (Syntax.tyRef Syntax.erased Syntax.mut OfStation.named)) (List._∷_ (15, Mut.msleft (OfStation.row) (Syntax.tyRef Syntax.erased Syntax.mut OfStation.named)) List.[])))))))))))))))
+        g19 = List._∷_ (0, Rows.any-gone (Laws.mir)) (List._∷_ (1, Relend.mslice-owed (OfOutput.row) (Syntax.tyRef (Syntax.named 0) Syntax.mut OfOutput.named) 0 5 (Row.lease (κs .0) (qs .0))) (List._∷_ (2, Relend.mslice-owed (OfStation.row) (Syntax.tyRef (Syntax.named 1) Syntax.mut OfStation.named) 1 6 (Row.lease (κs .1 .0) (qs .1 .0))) (List._∷_ (3, Rows.mref-owed (OfPanelRecord.row) (Syntax.tyRef (Syntax.named 2) Syntax.mut OfPanelRecord.named) 2 7 (Row.lease (κs .1 .1 .0) (qs .1 .1 .0))) (List._∷_ (4, Relend.mslice-owed (Referent.rtF (Referent.fInt Syntax.w8)) (Syntax.tyRef (Syntax.named 3) Syntax.mut (Syntax.tyInt Syntax.w8)) 3 8 (Row.lease (κs .1 .1 .1 .0) (qs .1 .1 .1 .0))) (List._∷_ (5, Relend.mslice-owed (Referent.rtF (Referent.fInt Syntax.w8)) (Syntax.tyRef (Syntax.named 4) Syntax.mut (Syntax.tyInt Syntax.w8)) 4 9 (Row.lease (κs .1 .1 .1 .1 .0) (qs .1 .1 .1 .1 .0))) (List._∷_ (6, Rows.whole (Declared.row Reader.the-type)) (List._∷_ (7, Rows.sc-here (Row.sInt Syntax.w64)) (List._∷_ (8, Rows.sc-here (Row.sInt Syntax.w64)) (List._∷_ (9, Rows.whole (Declared.row Turn.the-type)) (List._∷_ (10, Rows.any-gone (Syntax.tyStruct (List._∷_ 116 (List._∷_ 101 (List._∷_ 120 (List._∷_ 116 (List._∷_ 95 (List._∷_ 114 (List._∷_ 101 (List._∷_ 97 (List._∷_ 100 (List._∷_ 105 (List._∷_ 110 (List._∷_ 103 (List._∷_ 58 (List._∷_ 58 (List._∷_ 82 (List._∷_ 101 (List._∷_ 97 (List._∷_ 100 (List._∷_ 101 (List._∷_ 114 List.[])))))))))))))))))))) (Syntax.tcons (Syntax.tyInt Syntax.w8) (Syntax.tcons (Syntax.tyInt Syntax.w64) (Syntax.tcons (Syntax.tyEnum (List._∷_ 116 (List._∷_ 101 (List._∷_ 120 (List._∷_ 116 (List._∷_ 95 (List._∷_ 114 (List._∷_ 101 (List._∷_ 97 (List._∷_ 100 (List._∷_ 105 (List._∷_ 110 (List._∷_ 103 (List._∷_ 58 (List._∷_ 58 (List._∷_ 72 (List._∷_ 101 (List._∷_ 108 (List._∷_ 100 List.[])))))))))))))))))) (Syntax.ttcons Syntax.tnil (Syntax.ttcons Syntax.tnil (Syntax.ttcons (Syntax.tcons (Syntax.tyInt Syntax.w8) Syntax.tnil) (Syntax.ttcons Syntax.tnil (Syntax.ttcons (Syntax.tcons (Syntax.tyInt Syntax.w8) Syntax.tnil) (Syntax.ttcons (Syntax.tcons (Syntax.tyInt Syntax.w8) Syntax.tnil) (Syntax.ttcons Syntax.tnil (Syntax.ttcons (Syntax.tcons (Syntax.tyInt Syntax.w8) Syntax.tnil) (Syntax.ttcons Syntax.tnil (Syntax.ttcons (Syntax.tcons (Syntax.tyEnum (List._∷_ 116 (List._∷_ 101 (List._∷_ 120 (List._∷_ 116 (List._∷_ 95 (List._∷_ 114 (List._∷_ 101 (List._∷_ 97 (List._∷_ 100 (List._∷_ 105 (List._∷_ 110 (List._∷_ 103 (List._∷_ 58 (List._∷_ 58 (List._∷_ 70 (List._∷_ 97 (List._∷_ 117 (List._∷_ 108 (List._∷_ 116 List.[]))))))))))))))))))) (Syntax.ttcons Syntax.tnil (Syntax.ttcons Syntax.tnil (Syntax.ttcons Syntax.tnil (Syntax.ttcons Syntax.tnil Syntax.ttnil))))) Syntax.tnil) Syntax.ttnil))))))))))) (Syntax.tcons (Syntax.tyArray (Syntax.tyInt Syntax.w8) 32) (Syntax.tcons (Syntax.tyInt Syntax.w64) Syntax.tnil))))))) (List._∷_ (11, Rows.any-gone Syntax.tyBool) (List._∷_ (12, Rows.any-gone (Syntax.tyRef Syntax.erased Syntax.mut OfOutput.named)) (List._∷_ (13, Mut.msleft (OfOutput.row) (Syntax.tyRef Syntax.erased Syntax.mut OfOutput.named)) (List._∷_ (14, Rows.any-gone (Syntax.tyRef Syntax.erased Syntax.mut OfStation.named)) (List._∷_ (15, Mut.msleft (OfStation.row) (Syntax.tyRef Syntax.erased Syntax.mut OfStation.named)) List.[])))))))))))))))
 
         abbrev g21 : List.List Row.Entry
-        g21 = List._∷_ (0, Rows.any-gone (Laws.mir)) (List._∷_ (1, Relend.mslice-owed (OfOutput.row) (Syntax.tyRef (Syntax.named 0) Syntax.mut OfOutput.named) 0 5 (Row.lease (κs .0) (qs .0))) (List._∷_ (2, Relend.mslice-owed (OfStation.row) (Syntax.tyRef (Syntax.named 1) Syntax.mut OfStation.named) 1 6 (Row.lease (κs .1 .0) (qs .1 .0))) (List._∷_ (3, Rows.mref-owed (Referent.rtF (Referent.fInt Syntax.w64)) (Syntax.tyRef (Syntax.named 2) Syntax.mut (Syntax.tyInt Syntax.w64)) 2 7 (Row.lease (κs .1 .1 .0) (qs .1 .1 .0))) (List._∷_ (4, Relend.mslice-owed (Referent.rtF (Referent.fInt Syntax.w8)) (Syntax.tyRef (Syntax.named 3) Syntax.mut (Syntax.tyInt Syntax.w8)) 3 8 (Row.lease (κs .1 .1 .1 .0) (qs .1 .1 .1 .0))) (List._∷_ (5, Relend.mslice-owed (Referent.rtF (Referent.fInt Syntax.w8)) (Syntax.tyRef (Syntax.named 4) Syntax.mut (Syntax.tyInt Syntax.w8)) 4 9 (Row.lease (κs .1 .1 .1 .1 .0) (qs .1 .1 .1 .1 .0))) (List._∷_ (6, Rows.any-gone (Syntax.tyStruct (List._∷_ 116 (List._∷_ 101 (List._∷_ 120 (List._∷_ 116 (List._∷_ 95 (List._∷_ 114 (List._∷_ 101 (List._∷_ 97 (List._∷_ 100 (List._∷_ 105 (List._∷_ 110 (List._∷_ 103 (List._∷_ 58 (List._∷_ 58 (List._∷_ 82 (List._∷_ 101 (List._∷_ 97 (List._∷_ 100 (List._∷_ 101 (List._∷_ 114 List.[])))))))))))))))))))) (Syntax.tcons (Syntax.tyInt Syntax.w8) (Syntax.tcons (Syntax.tyInt Syntax.w64) (Syntax.tcons (Syntax.tyEnum (List._∷_ 116 (List._∷_ 101 (List._∷_ 120 (List._∷_ 116 (List._∷_ 95 (List._∷_ 114 (List._∷_ 101 (List._∷_ 97 (List._∷_ 100 (List._∷_ 105 (List._∷_ 110 (List._∷_ 103 (List._∷_ 58 (List._∷_ 58 (List._∷_ 72 (List._∷_ 101 (List._∷_ 108 (List._∷_ 100 List.[])))))))))))))))))) (Syntax.ttcons Syntax.tnil (Syntax.ttcons Syntax.tnil (Syntax.ttcons (Syntax.tcons (Syntax.tyInt Syntax.w8) Syntax.tnil) (Syntax.ttcons Syntax.tnil (Syntax.ttcons (Syntax.tcons (Syntax.tyInt Syntax.w8) Syntax.tnil) (Syntax.ttcons (Syntax.tcons (Syntax.tyInt Syntax.w8) Syntax.tnil) (Syntax.ttcons Syntax.tnil (Syntax.ttcons (Syntax.tcons (Syntax.tyInt Syntax.w8) Syntax.tnil) (Syntax.ttcons Syntax.tnil (Syntax.ttcons (Syntax.tcons (Syntax.tyEnum (List._∷_ 116 (List._∷_ 101 (List._∷_ 120 (List._∷_ 116 (List._∷_ 95 (List._∷_ 114 (List._∷_ 101 (List._∷_ 97 (List._∷_ 100 (List._∷_ 105 (List._∷_ 110 (List._∷_ 103 (List._∷_ 58 (List._∷_ 58 (List._∷_ 70 (List._∷_ 97 (List._∷_ 117 (List._∷_ 108 (List._∷_ 116 List.[]))))))))))))))))))) (Syntax.ttcons Syntax.tnil (Syntax.ttcons Syntax.tnil (Syntax.ttcons Syntax.tnil (Syntax.ttcons Syntax.tnil Syntax.ttnil))))) Syntax.tnil) Syntax.ttnil))))))))))) (Syntax.tcons (Syntax.tyArray (Syntax.tyInt Syntax.w8) 32) (Syntax.tcons (Syntax.tyInt Syntax.w64) Syntax.tnil))))))) (List._∷_ (7, Rows.sc-here (Row.sInt Syntax.w64)) (List._∷_ (8, Rows.sc-here (Row.sInt Syntax.w64)) (List._∷_ (9, Rows.whole (Declared.row Turn.the-type)) (List._∷_ (10, Rows.any-gone (Syntax.tyStruct (List._∷_ 116 (List._∷_ 101 (List._∷_ 120 (List._∷_ 116 (List._∷_ 95 (List._∷_ 114 (List._∷_ 101 (List._∷_ 97 (List._∷_ 100 (List._∷_ 105 (List._∷_ 110 (List._∷_ 103 (List._∷_ 58 (List._∷_ 58 (List._∷_ 82 (List._∷_ 101 (List._∷_ 97 (List._∷_ 100 (List._∷_ 101 (List._∷_ 114 List.[])))))))))))))))))))) (Syntax.tcons (Syntax.tyInt Syntax.w8) (Syntax.tcons (Syntax.tyInt Syntax.w64) (Syntax.tcons (Syntax.tyEnum (List._∷_ 116 (List._∷_ 101 (List._∷_ 120 (List._∷_ 116 (List._∷_ 95 (List._∷_ 114 (List._∷_ 101 (List._∷_ 97 (List._∷_ 100 (List._∷_ 105 (List._∷_ 110 (List._∷_ 103 (List._∷_ 58 (List._∷_ 58 (List._∷_ 72 (List._∷_ 101 (List._∷_ 108 (List._∷_ 100 List.[])))))))))))))))))) (Syntax.ttcons Syntax.tnil (Syntax.ttcons Syntax.tnil (Syntax.ttcons (Syntax.tcons (Syntax.tyInt Syntax.w8) Syntax.tnil) (Syntax.ttcons Syntax.tnil (Syntax.ttcons (Syntax.tcons (Syntax.tyInt Syntax.w8) Syntax.tnil) (Syntax.ttcons (Syntax.tcons (Syntax.tyInt Syntax.w8) Syntax.tnil) (Syntax.ttcons Syntax.tnil (Syntax.ttcons (Syntax.tcons (Syntax.tyInt Syntax.w8) Syntax.tnil) (Syntax.ttcons Syntax.tnil (Syntax.ttcons (Syntax.tcons (Syntax.tyEnum (List._∷_ 116 (List._∷_ 101 (List._∷_ 120 (List._∷_ 116 (List._∷_ 95 (List._∷_ 114 (List._∷_ 101 (List._∷_ 97 (List._∷_ 100 (List._∷_ 105 (List._∷_ 110 (List._∷_ 103 (List._∷_ 58 (List._∷_ 58 (List._∷_ 70 (List._∷_ 97 (List._∷_ 117 (List._∷_ 108 (List._∷_ 116 List.[]))))))))))))))))))) (Syntax.ttcons Syntax.tnil (Syntax.ttcons Syntax.tnil (Syntax.ttcons Syntax.tnil (Syntax.ttcons Syntax.tnil Syntax.ttnil))))) Syntax.tnil) Syntax.ttnil))))))))))) (Syntax.tcons (Syntax.tyArray (Syntax.tyInt Syntax.w8) 32) (Syntax.tcons (Syntax.tyInt Syntax.w64) Syntax.tnil))))))) (List._∷_ (11, Rows.any-gone Syntax.tyBool) (List._∷_ (12, Rows.any-gone (Syntax.tyRef Syntax.erased Syntax.mut OfOutput.named)) (List._∷_ (13, Mut.msleft (OfOutput.row) (Syntax.tyRef Syntax.erased Syntax.mut OfOutput.named)) (List._∷_ (14, Rows.any-gone (Syntax.tyRef Syntax.erased Syntax.mut OfStation.named)) (List._∷_ (15, Mut.msleft (OfStation.row) (Syntax.tyRef Syntax.erased Syntax.mut OfStation.named)) List.[])))))))))))))))
+        g21 = List._∷_ (0, Rows.any-gone (Laws.mir)) (List._∷_ (1, Relend.mslice-owed (OfOutput.row) (Syntax.tyRef (Syntax.named 0) Syntax.mut OfOutput.named) 0 5 (Row.lease (κs .0) (qs .0))) (List._∷_ (2, Relend.mslice-owed (OfStation.row) (Syntax.tyRef (Syntax.named 1) Syntax.mut OfStation.named) 1 6 (Row.lease (κs .1 .0) (qs .1 .0))) (List._∷_ (3, Rows.mref-owed (OfPanelRecord.row) (Syntax.tyRef (Syntax.named 2) Syntax.mut OfPanelRecord.named) 2 7 (Row.lease (κs .1 .1 .0) (qs .1 .1 .0))) (List._∷_ (4, Relend.mslice-owed (Referent.rtF (Referent.fInt Syntax.w8)) (Syntax.tyRef (Syntax.named 3) Syntax.mut (Syntax.tyInt Syntax.w8)) 3 8 (Row.lease (κs .1 .1 .1 .0) (qs .1 .1 .1 .0))) (List._∷_ (5, Relend.mslice-owed (Referent.rtF (Referent.fInt Syntax.w8)) (Syntax.tyRef (Syntax.named 4) Syntax.mut (Syntax.tyInt Syntax.w8)) 4 9 (Row.lease (κs .1 .1 .1 .1 .0) (qs .1 .1 .1 .1 .0))) (List._∷_ (6, Rows.any-gone (Syntax.tyStruct (List._∷_ 116 (List._∷_ 101 (List._∷_ 120 (List._∷_ 116 (List._∷_ 95 (List._∷_ 114 (List._∷_ 101 (List._∷_ 97 (List._∷_ 100 (List._∷_ 105 (List._∷_ 110 (List._∷_ 103 (List._∷_ 58 (List._∷_ 58 (List._∷_ 82 (List._∷_ 101 (List._∷_ 97 (List._∷_ 100 (List._∷_ 101 (List._∷_ 114 List.[])))))))))))))))))))) (Syntax.tcons (Syntax.tyInt Syntax.w8) (Syntax.tcons (Syntax.tyInt Syntax.w64) (Syntax.tcons (Syntax.tyEnum (List._∷_ 116 (List._∷_ 101 (List._∷_ 120 (List._∷_ 116 (List._∷_ 95 (List._∷_ 114 (List._∷_ 101 (List._∷_ 97 (List._∷_ 100 (List._∷_ 105 (List._∷_ 110 (List._∷_ 103 (List._∷_ 58 (List._∷_ 58 (List._∷_ 72 (List._∷_ 101 (List._∷_ 108 (List._∷_ 100 List.[])))))))))))))))))) (Syntax.ttcons Syntax.tnil (Syntax.ttcons Syntax.tnil (Syntax.ttcons (Syntax.tcons (Syntax.tyInt Syntax.w8) Syntax.tnil) (Syntax.ttcons Syntax.tnil (Syntax.ttcons (Syntax.tcons (Syntax.tyInt Syntax.w8) Syntax.tnil) (Syntax.ttcons (Syntax.tcons (Syntax.tyInt Syntax.w8) Syntax.tnil) (Syntax.ttcons Syntax.tnil (Syntax.ttcons (Syntax.tcons (Syntax.tyInt Syntax.w8) Syntax.tnil) (Syntax.ttcons Syntax.tnil (Syntax.ttcons (Syntax.tcons (Syntax.tyEnum (List._∷_ 116 (List._∷_ 101 (List._∷_ 120 (List._∷_ 116 (List._∷_ 95 (List._∷_ 114 (List._∷_ 101 (List._∷_ 97 (List._∷_ 100 (List._∷_ 105 (List._∷_ 110 (List._∷_ 103 (List._∷_ 58 (List._∷_ 58 (List._∷_ 70 (List._∷_ 97 (List._∷_ 117 (List._∷_ 108 (List._∷_ 116 List.[]))))))))))))))))))) (Syntax.ttcons Syntax.tnil (Syntax.ttcons Syntax.tnil (Syntax.ttcons Syntax.tnil (Syntax.ttcons Syntax.tnil Syntax.ttnil))))) Syntax.tnil) Syntax.ttnil))))))))))) (Syntax.tcons (Syntax.tyArray (Syntax.tyInt Syntax.w8) 32) (Syntax.tcons (Syntax.tyInt Syntax.w64) Syntax.tnil))))))) (List._∷_ (7, Rows.sc-here (Row.sInt Syntax.w64)) (List._∷_ (8, Rows.sc-here (Row.sInt Syntax.w64)) (List._∷_ (9, Rows.whole (Declared.row Turn.the-type)) (List._∷_ (10, Rows.any-gone (Syntax.tyStruct (List._∷_ 116 (List._∷_ 101 (List._∷_ 120 (List._∷_ 116 (List._∷_ 95 (List._∷_ 114 (List._∷_ 101 (List._∷_ 97 (List._∷_ 100 (List._∷_ 105 (List._∷_ 110 (List._∷_ 103 (List._∷_ 58 (List._∷_ 58 (List._∷_ 82 (List._∷_ 101 (List._∷_ 97 (List._∷_ 100 (List._∷_ 101 (List._∷_ 114 List.[])))))))))))))))))))) (Syntax.tcons (Syntax.tyInt Syntax.w8) (Syntax.tcons (Syntax.tyInt Syntax.w64) (Syntax.tcons (Syntax.tyEnum (List._∷_ 116 (List._∷_ 101 (List._∷_ 120 (List._∷_ 116 (List._∷_ 95 (List._∷_ 114 (List._∷_ 101 (List._∷_ 97 (List._∷_ 100 (List._∷_ 105 (List._∷_ 110 (List._∷_ 103 (List._∷_ 58 (List._∷_ 58 (List._∷_ 72 (List._∷_ 101 (List._∷_ 108 (List._∷_ 100 List.[])))))))))))))))))) (Syntax.ttcons Syntax.tnil (Syntax.ttcons Syntax.tnil (Syntax.ttcons (Syntax.tcons (Syntax.tyInt Syntax.w8) Syntax.tnil) (Syntax.ttcons Syntax.tnil (Syntax.ttcons (Syntax.tcons (Syntax.tyInt Syntax.w8) Syntax.tnil) (Syntax.ttcons (Syntax.tcons (Syntax.tyInt Syntax.w8) Syntax.tnil) (Syntax.ttcons Syntax.tnil (Syntax.ttcons (Syntax.tcons (Syntax.tyInt Syntax.w8) Syntax.tnil) (Syntax.ttcons Syntax.tnil (Syntax.ttcons (Syntax.tcons (Syntax.tyEnum (List._∷_ 116 (List._∷_ 101 (List._∷_ 120 (List._∷_ 116 (List._∷_ 95 (List._∷_ 114 (List._∷_ 101 (List._∷_ 97 (List._∷_ 100 (List._∷_ 105 (List._∷_ 110 (List._∷_ 103 (List._∷_ 58 (List._∷_ 58 (List._∷_ 70 (List._∷_ 97 (List._∷_ 117 (List._∷_ 108 (List._∷_ 116 List.[]))))))))))))))))))) (Syntax.ttcons Syntax.tnil (Syntax.ttcons Syntax.tnil (Syntax.ttcons Syntax.tnil (Syntax.ttcons Syntax.tnil Syntax.ttnil))))) Syntax.tnil) Syntax.ttnil))))))))))) (Syntax.tcons (Syntax.tyArray (Syntax.tyInt Syntax.w8) 32) (Syntax.tcons (Syntax.tyInt Syntax.w64) Syntax.tnil))))))) (List._∷_ (11, Rows.any-gone Syntax.tyBool) (List._∷_ (12, Rows.any-gone (Syntax.tyRef Syntax.erased Syntax.mut OfOutput.named)) (List._∷_ (13, Mut.msleft (OfOutput.row) (Syntax.tyRef Syntax.erased Syntax.mut OfOutput.named)) (List._∷_ (14, Rows.any-gone (Syntax.tyRef Syntax.erased Syntax.mut OfStation.named)) (List._∷_ (15, Mut.msleft (OfStation.row) (Syntax.tyRef Syntax.erased Syntax.mut OfStation.named)) List.[])))))))))))))))
 
         abbrev g22 : List.List Row.Entry
-        g22 = List._∷_ (0, Rows.any-gone (Laws.mir)) (List._∷_ (1, Relend.mslice-owed (OfOutput.row) (Syntax.tyRef (Syntax.named 0) Syntax.mut OfOutput.named) 0 5 (Row.lease (κs .0) (qs .0))) (List._∷_ (2, Relend.mslice-owed (OfStation.row) (Syntax.tyRef (Syntax.named 1) Syntax.mut OfStation.named) 1 6 (Row.lease (κs .1 .0) (qs .1 .0))) (List._∷_ (3, Rows.mref-owed (Referent.rtF (Referent.fInt Syntax.w64)) (Syntax.tyRef (Syntax.named 2) Syntax.mut (Syntax.tyInt Syntax.w64)) 2 7 (Row.lease (κs .1 .1 .0) (qs .1 .1 .0))) (List._∷_ (4, Relend.mslice-owed (Referent.rtF (Referent.fInt Syntax.w8)) (Syntax.tyRef (Syntax.named 3) Syntax.mut (Syntax.tyInt Syntax.w8)) 3 8 (Row.lease (κs .1 .1 .1 .0) (qs .1 .1 .1 .0))) (List._∷_ (5, Relend.mslice-owed (Referent.rtF (Referent.fInt Syntax.w8)) (Syntax.tyRef (Syntax.named 4) Syntax.mut (Syntax.tyInt Syntax.w8)) 4 9 (Row.lease (κs .1 .1 .1 .1 .0) (qs .1 .1 .1 .1 .0))) (List._∷_ (6, Rows.any-gone (Syntax.tyStruct (List._∷_ 116 (List._∷_ 101 (List._∷_ 120 (List._∷_ 116 (List._∷_ 95 (List._∷_ 114 (List._∷_ 101 (List._∷_ 97 (List._∷_ 100 (List._∷_ 105 (List._∷_ 110 (List._∷_ 103 (List._∷_ 58 (List._∷_ 58 (List._∷_ 82 (List._∷_ 101 (List._∷_ 97 (List._∷_ 100 (List._∷_ 101 (List._∷_ 114 List.[])))))))))))))))))))) (Syntax.tcons (Syntax.tyInt Syntax.w8) (Syntax.tcons (Syntax.tyInt Syntax.w64) (Syntax.tcons (Syntax.tyEnum (List._∷_ 116 (List._∷_ 101 (List._∷_ 120 (List._∷_ 116 (List._∷_ 95 (List._∷_ 114 (List._∷_ 101 (List._∷_ 97 (List._∷_ 100 (List._∷_ 105 (List._∷_ 110 (List._∷_ 103 (List._∷_ 58 (List._∷_ 58 (List._∷_ 72 (List._∷_ 101 (List._∷_ 108 (List._∷_ 100 List.[])))))))))))))))))) (Syntax.ttcons Syntax.tnil (Syntax.ttcons Syntax.tnil (Syntax.ttcons (Syntax.tcons (Syntax.tyInt Syntax.w8) Syntax.tnil) (Syntax.ttcons Syntax.tnil (Syntax.ttcons (Syntax.tcons (Syntax.tyInt Syntax.w8) Syntax.tnil) (Syntax.ttcons (Syntax.tcons (Syntax.tyInt Syntax.w8) Syntax.tnil) (Syntax.ttcons Syntax.tnil (Syntax.ttcons (Syntax.tcons (Syntax.tyInt Syntax.w8) Syntax.tnil) (Syntax.ttcons Syntax.tnil (Syntax.ttcons (Syntax.tcons (Syntax.tyEnum (List._∷_ 116 (List._∷_ 101 (List._∷_ 120 (List._∷_ 116 (List._∷_ 95 (List._∷_ 114 (List._∷_ 101 (List._∷_ 97 (List._∷_ 100 (List._∷_ 105 (List._∷_ 110 (List._∷_ 103 (List._∷_ 58 (List._∷_ 58 (List._∷_ 70 (List._∷_ 97 (List._∷_ 117 (List._∷_ 108 (List._∷_ 116 List.[]))))))))))))))))))) (Syntax.ttcons Syntax.tnil (Syntax.ttcons Syntax.tnil (Syntax.ttcons Syntax.tnil (Syntax.ttcons Syntax.tnil Syntax.ttnil))))) Syntax.tnil) Syntax.ttnil))))))))))) (Syntax.tcons (Syntax.tyArray (Syntax.tyInt Syntax.w8) 32) (Syntax.tcons (Syntax.tyInt Syntax.w64) Syntax.tnil))))))) (List._∷_ (7, Rows.any-gone (Syntax.tyInt Syntax.w64)) (List._∷_ (8, Rows.sc-here (Row.sInt Syntax.w64)) (List._∷_ (9, Rows.whole (Declared.row Turn.the-type)) (List._∷_ (10, Rows.any-gone (Syntax.tyStruct (List._∷_ 116 (List._∷_ 101 (List._∷_ 120 (List._∷_ 116 (List._∷_ 95 (List._∷_ 114 (List._∷_ 101 (List._∷_ 97 (List._∷_ 100 (List._∷_ 105 (List._∷_ 110 (List._∷_ 103 (List._∷_ 58 (List._∷_ 58 (List._∷_ 82 (List._∷_ 101 (List._∷_ 97 (List._∷_ 100 (List._∷_ 101 (List._∷_ 114 List.[])))))))))))))))))))) (Syntax.tcons (Syntax.tyInt Syntax.w8) (Syntax.tcons (Syntax.tyInt Syntax.w64) (Syntax.tcons (Syntax.tyEnum (List._∷_ 116 (List._∷_ 101 (List._∷_ 120 (List._∷_ 116 (List._∷_ 95 (List._∷_ 114 (List._∷_ 101 (List._∷_ 97 (List._∷_ 100 (List._∷_ 105 (List._∷_ 110 (List._∷_ 103 (List._∷_ 58 (List._∷_ 58 (List._∷_ 72 (List._∷_ 101 (List._∷_ 108 (List._∷_ 100 List.[])))))))))))))))))) (Syntax.ttcons Syntax.tnil (Syntax.ttcons Syntax.tnil (Syntax.ttcons (Syntax.tcons (Syntax.tyInt Syntax.w8) Syntax.tnil) (Syntax.ttcons Syntax.tnil (Syntax.ttcons (Syntax.tcons (Syntax.tyInt Syntax.w8) Syntax.tnil) (Syntax.ttcons (Syntax.tcons (Syntax.tyInt Syntax.w8) Syntax.tnil) (Syntax.ttcons Syntax.tnil (Syntax.ttcons (Syntax.tcons (Syntax.tyInt Syntax.w8) Syntax.tnil) (Syntax.ttcons Syntax.tnil (Syntax.ttcons (Syntax.tcons (Syntax.tyEnum (List._∷_ 116 (List._∷_ 101 (List._∷_ 120 (List._∷_ 116 (List._∷_ 95 (List._∷_ 114 (List._∷_ 101 (List._∷_ 97 (List._∷_ 100 (List._∷_ 105 (List._∷_ 110 (List._∷_ 103 (List._∷_ 58 (List._∷_ 58 (List._∷_ 70 (List._∷_ 97 (List._∷_ 117 (List._∷_ 108 (List._∷_ 116 List.[]))))))))))))))))))) (Syntax.ttcons Syntax.tnil (Syntax.ttcons Syntax.tnil (Syntax.ttcons Syntax.tnil (Syntax.ttcons Syntax.tnil Syntax.ttnil))))) Syntax.tnil) Syntax.ttnil))))))))))) (Syntax.tcons (Syntax.tyArray (Syntax.tyInt Syntax.w8) 32) (Syntax.tcons (Syntax.tyInt Syntax.w64) Syntax.tnil))))))) (List._∷_ (11, Rows.any-gone Syntax.tyBool) (List._∷_ (12, Rows.any-gone (Syntax.tyRef Syntax.erased Syntax.mut OfOutput.named)) (List._∷_ (13, Mut.msleft (OfOutput.row) (Syntax.tyRef Syntax.erased Syntax.mut OfOutput.named)) (List._∷_ (14, Rows.any-gone (Syntax.tyRef Syntax.erased Syntax.mut OfStation.named)) (List._∷_ (15, Mut.msleft (OfStation.row) (Syntax.tyRef Syntax.erased Syntax.mut OfStation.named)) List.[])))))))))))))))
+        g22 = List._∷_ (0, Rows.any-gone (Laws.mir)) (List._∷_ (1, Relend.mslice-owed (OfOutput.row) (Syntax.tyRef (Syntax.named 0) Syntax.mut OfOutput.named) 0 5 (Row.lease (κs .0) (qs .0))) (List._∷_ (2, Relend.mslice-owed (OfStation.row) (Syntax.tyRef (Syntax.named 1) Syntax.mut OfStation.named) 1 6 (Row.lease (κs .1 .0) (qs .1 .0))) (List._∷_ (3, Rows.mref-owed (OfPanelRecord.row) (Syntax.tyRef (Syntax.named 2) Syntax.mut OfPanelRecord.named) 2 7 (Row.lease (κs .1 .1 .0) (qs .1 .1 .0))) (List._∷_ (4, Relend.mslice-owed (Referent.rtF (Referent.fInt Syntax.w8)) (Syntax.tyRef (Syntax.named 3) Syntax.mut (Syntax.tyInt Syntax.w8)) 3 8 (Row.lease (κs .1 .1 .1 .0) (qs .1 .1 .1 .0))) (List._∷_ (5, Relend.mslice-owed (Referent.rtF (Referent.fInt Syntax.w8)) (Syntax.tyRef (Syntax.named 4) Syntax.mut (Syntax.tyInt Syntax.w8)) 4 9 (Row.lease (κs .1 .1 .1 .1 .0) (qs .1 .1 .1 .1 .0))) (List._∷_ (6, Rows.any-gone (Syntax.tyStruct (List._∷_ 116 (List._∷_ 101 (List._∷_ 120 (List._∷_ 116 (List._∷_ 95 (List._∷_ 114 (List._∷_ 101 (List._∷_ 97 (List._∷_ 100 (List._∷_ 105 (List._∷_ 110 (List._∷_ 103 (List._∷_ 58 (List._∷_ 58 (List._∷_ 82 (List._∷_ 101 (List._∷_ 97 (List._∷_ 100 (List._∷_ 101 (List._∷_ 114 List.[])))))))))))))))))))) (Syntax.tcons (Syntax.tyInt Syntax.w8) (Syntax.tcons (Syntax.tyInt Syntax.w64) (Syntax.tcons (Syntax.tyEnum (List._∷_ 116 (List._∷_ 101 (List._∷_ 120 (List._∷_ 116 (List._∷_ 95 (List._∷_ 114 (List._∷_ 101 (List._∷_ 97 (List._∷_ 100 (List._∷_ 105 (List._∷_ 110 (List._∷_ 103 (List._∷_ 58 (List._∷_ 58 (List._∷_ 72 (List._∷_ 101 (List._∷_ 108 (List._∷_ 100 List.[])))))))))))))))))) (Syntax.ttcons Syntax.tnil (Syntax.ttcons Syntax.tnil (Syntax.ttcons (Syntax.tcons (Syntax.tyInt Syntax.w8) Syntax.tnil) (Syntax.ttcons Syntax.tnil (Syntax.ttcons (Syntax.tcons (Syntax.tyInt Syntax.w8) Syntax.tnil) (Syntax.ttcons (Syntax.tcons (Syntax.tyInt Syntax.w8) Syntax.tnil) (Syntax.ttcons Syntax.tnil (Syntax.ttcons (Syntax.tcons (Syntax.tyInt Syntax.w8) Syntax.tnil) (Syntax.ttcons Syntax.tnil (Syntax.ttcons (Syntax.tcons (Syntax.tyEnum (List._∷_ 116 (List._∷_ 101 (List._∷_ 120 (List._∷_ 116 (List._∷_ 95 (List._∷_ 114 (List._∷_ 101 (List._∷_ 97 (List._∷_ 100 (List._∷_ 105 (List._∷_ 110 (List._∷_ 103 (List._∷_ 58 (List._∷_ 58 (List._∷_ 70 (List._∷_ 97 (List._∷_ 117 (List._∷_ 108 (List._∷_ 116 List.[]))))))))))))))))))) (Syntax.ttcons Syntax.tnil (Syntax.ttcons Syntax.tnil (Syntax.ttcons Syntax.tnil (Syntax.ttcons Syntax.tnil Syntax.ttnil))))) Syntax.tnil) Syntax.ttnil))))))))))) (Syntax.tcons (Syntax.tyArray (Syntax.tyInt Syntax.w8) 32) (Syntax.tcons (Syntax.tyInt Syntax.w64) Syntax.tnil))))))) (List._∷_ (7, Rows.any-gone (Syntax.tyInt Syntax.w64)) (List._∷_ (8, Rows.sc-here (Row.sInt Syntax.w64)) (List._∷_ (9, Rows.whole (Declared.row Turn.the-type)) (List._∷_ (10, Rows.any-gone (Syntax.tyStruct (List._∷_ 116 (List._∷_ 101 (List._∷_ 120 (List._∷_ 116 (List._∷_ 95 (List._∷_ 114 (List._∷_ 101 (List._∷_ 97 (List._∷_ 100 (List._∷_ 105 (List._∷_ 110 (List._∷_ 103 (List._∷_ 58 (List._∷_ 58 (List._∷_ 82 (List._∷_ 101 (List._∷_ 97 (List._∷_ 100 (List._∷_ 101 (List._∷_ 114 List.[])))))))))))))))))))) (Syntax.tcons (Syntax.tyInt Syntax.w8) (Syntax.tcons (Syntax.tyInt Syntax.w64) (Syntax.tcons (Syntax.tyEnum (List._∷_ 116 (List._∷_ 101 (List._∷_ 120 (List._∷_ 116 (List._∷_ 95 (List._∷_ 114 (List._∷_ 101 (List._∷_ 97 (List._∷_ 100 (List._∷_ 105 (List._∷_ 110 (List._∷_ 103 (List._∷_ 58 (List._∷_ 58 (List._∷_ 72 (List._∷_ 101 (List._∷_ 108 (List._∷_ 100 List.[])))))))))))))))))) (Syntax.ttcons Syntax.tnil (Syntax.ttcons Syntax.tnil (Syntax.ttcons (Syntax.tcons (Syntax.tyInt Syntax.w8) Syntax.tnil) (Syntax.ttcons Syntax.tnil (Syntax.ttcons (Syntax.tcons (Syntax.tyInt Syntax.w8) Syntax.tnil) (Syntax.ttcons (Syntax.tcons (Syntax.tyInt Syntax.w8) Syntax.tnil) (Syntax.ttcons Syntax.tnil (Syntax.ttcons (Syntax.tcons (Syntax.tyInt Syntax.w8) Syntax.tnil) (Syntax.ttcons Syntax.tnil (Syntax.ttcons (Syntax.tcons (Syntax.tyEnum (List._∷_ 116 (List._∷_ 101 (List._∷_ 120 (List._∷_ 116 (List._∷_ 95 (List._∷_ 114 (List._∷_ 101 (List._∷_ 97 (List._∷_ 100 (List._∷_ 105 (List._∷_ 110 (List._∷_ 103 (List._∷_ 58 (List._∷_ 58 (List._∷_ 70 (List._∷_ 97 (List._∷_ 117 (List._∷_ 108 (List._∷_ 116 List.[]))))))))))))))))))) (Syntax.ttcons Syntax.tnil (Syntax.ttcons Syntax.tnil (Syntax.ttcons Syntax.tnil (Syntax.ttcons Syntax.tnil Syntax.ttnil))))) Syntax.tnil) Syntax.ttnil))))))))))) (Syntax.tcons (Syntax.tyArray (Syntax.tyInt Syntax.w8) 32) (Syntax.tcons (Syntax.tyInt Syntax.w64) Syntax.tnil))))))) (List._∷_ (11, Rows.any-gone Syntax.tyBool) (List._∷_ (12, Rows.any-gone (Syntax.tyRef Syntax.erased Syntax.mut OfOutput.named)) (List._∷_ (13, Mut.msleft (OfOutput.row) (Syntax.tyRef Syntax.erased Syntax.mut OfOutput.named)) (List._∷_ (14, Rows.any-gone (Syntax.tyRef Syntax.erased Syntax.mut OfStation.named)) (List._∷_ (15, Mut.msleft (OfStation.row) (Syntax.tyRef Syntax.erased Syntax.mut OfStation.named)) List.[])))))))))))))))
 
         abbrev g23 : List.List Row.Entry
-        g23 = List._∷_ (0, Rows.any-gone (Laws.mir)) (List._∷_ (1, Mut.mslice (OfOutput.row) (Syntax.tyRef (Syntax.named 0) Syntax.mut OfOutput.named) 0) (List._∷_ (2, Relend.mslice-owed (OfStation.row) (Syntax.tyRef (Syntax.named 1) Syntax.mut OfStation.named) 1 6 (Row.lease (κs .1 .0) (qs .1 .0))) (List._∷_ (3, Rows.mref-owed (Referent.rtF (Referent.fInt Syntax.w64)) (Syntax.tyRef (Syntax.named 2) Syntax.mut (Syntax.tyInt Syntax.w64)) 2 7 (Row.lease (κs .1 .1 .0) (qs .1 .1 .0))) (List._∷_ (4, Relend.mslice-owed (Referent.rtF (Referent.fInt Syntax.w8)) (Syntax.tyRef (Syntax.named 3) Syntax.mut (Syntax.tyInt Syntax.w8)) 3 8 (Row.lease (κs .1 .1 .1 .0) (qs .1 .1 .1 .0))) (List._∷_ (5, Relend.mslice-owed (Referent.rtF (Referent.fInt Syntax.w8)) (Syntax.tyRef (Syntax.named 4) Syntax.mut (Syntax.tyInt Syntax.w8)) 4 9 (Row.lease (κs .1 .1 .1 .1 .0) (qs .1 .1 .1 .1 .0))) (List._∷_ (6, Rows.any-gone (Syntax.tyStruct (List._∷_ 116 (List._∷_ 101 (List._∷_ 120 (List._∷_ 116 (List._∷_ 95 (List._∷_ 114 (List._∷_ 101 (List._∷_ 97 (List._∷_ 100 (List._∷_ 105 (List._∷_ 110 (List._∷_ 103 (List._∷_ 58 (List._∷_ 58 (List._∷_ 82 (List._∷_ 101 (List._∷_ 97 (List._∷_ 100 (List._∷_ 101 (List._∷_ 114 List.[])))))))))))))))))))) (Syntax.tcons (Syntax.tyInt Syntax.w8) (Syntax.tcons (Syntax.tyInt Syntax.w64) (Syntax.tcons (Syntax.tyEnum (List._∷_ 116 (List._∷_ 101 (List._∷_ 120 (List._∷_ 116 (List._∷_ 95 (List._∷_ 114 (List._∷_ 101 (List._∷_ 97 (List._∷_ 100 (List._∷_ 105 (List._∷_ 110 (List._∷_ 103 (List._∷_ 58 (List._∷_ 58 (List._∷_ 72 (List._∷_ 101 (List._∷_ 108 (List._∷_ 100 List.[])))))))))))))))))) (Syntax.ttcons Syntax.tnil (Syntax.ttcons Syntax.tnil (Syntax.ttcons (Syntax.tcons (Syntax.tyInt Syntax.w8) Syntax.tnil) (Syntax.ttcons Syntax.tnil (Syntax.ttcons (Syntax.tcons (Syntax.tyInt Syntax.w8) Syntax.tnil) (Syntax.ttcons (Syntax.tcons (Syntax.tyInt Syntax.w8) Syntax.tnil) (Syntax.ttcons Syntax.tnil (Syntax.ttcons (Syntax.tcons (Syntax.tyInt Syntax.w8) Syntax.tnil) (Syntax.ttcons Syntax.tnil (Syntax.ttcons (Syntax.tcons (Syntax.tyEnum (List._∷_ 116 (List._∷_ 101 (List._∷_ 120 (List._∷_ 116 (List._∷_ 95 (List._∷_ 114 (List._∷_ 101 (List._∷_ 97 (List._∷_ 100 (List._∷_ 105 (List._∷_ 110 (List._∷_ 103 (List._∷_ 58 (List._∷_ 58 (List._∷_ 70 (List._∷_ 97 (List._∷_ 117 (List._∷_ 108 (List._∷_ 116 List.[]))))))))))))))))))) (Syntax.ttcons Syntax.tnil (Syntax.ttcons Syntax.tnil (Syntax.ttcons Syntax.tnil (Syntax.ttcons Syntax.tnil Syntax.ttnil))))) Syntax.tnil) Syntax.ttnil))))))))))) (Syntax.tcons (Syntax.tyArray (Syntax.tyInt Syntax.w8) 32) (Syntax.tcons (Syntax.tyInt Syntax.w64) Syntax.tnil))))))) (List._∷_ (7, Rows.any-gone (Syntax.tyInt Syntax.w64)) (List._∷_ (8, Rows.sc-here (Row.sInt Syntax.w64)) (List._∷_ (9, Rows.whole (Declared.row Turn.the-type)) (List._∷_ (10, Rows.any-gone (Syntax.tyStruct (List._∷_ 116 (List._∷_ 101 (List._∷_ 120 (List._∷_ 116 (List._∷_ 95 (List._∷_ 114 (List._∷_ 101 (List._∷_ 97 (List._∷_ 100 (List._∷_ 105 (List._∷_ 110 (List._∷_ 103 (List._∷_ 58 (List._∷_ 58 (List._∷_ 82 (List._∷_ 101 (List._∷_ 97 (List._∷_ 100 (List._∷_ 101 (List._∷_ 114 List.[])))))))))))))))))))) (Syntax.tcons (Syntax.tyInt Syntax.w8) (Syntax.tcons (Syntax.tyInt Syntax.w64) (Syntax.tcons (Syntax.tyEnum (List._∷_ 116 (List._∷_ 101 (List._∷_ 120 (List._∷_ 116 (List._∷_ 95 (List._∷_ 114 (List._∷_ 101 (List._∷_ 97 (List._∷_ 100 (List._∷_ 105 (List._∷_ 110 (List._∷_ 103 (List._∷_ 58 (List._∷_ 58 (List._∷_ 72 (List._∷_ 101 (List._∷_ 108 (List._∷_ 100 List.[])))))))))))))))))) (Syntax.ttcons Syntax.tnil (Syntax.ttcons Syntax.tnil (Syntax.ttcons (Syntax.tcons (Syntax.tyInt Syntax.w8) Syntax.tnil) (Syntax.ttcons Syntax.tnil (Syntax.ttcons (Syntax.tcons (Syntax.tyInt Syntax.w8) Syntax.tnil) (Syntax.ttcons (Syntax.tcons (Syntax.tyInt Syntax.w8) Syntax.tnil) (Syntax.ttcons Syntax.tnil (Syntax.ttcons (Syntax.tcons (Syntax.tyInt Syntax.w8) Syntax.tnil) (Syntax.ttcons Syntax.tnil (Syntax.ttcons (Syntax.tcons (Syntax.tyEnum (List._∷_ 116 (List._∷_ 101 (List._∷_ 120 (List._∷_ 116 (List._∷_ 95 (List._∷_ 114 (List._∷_ 101 (List._∷_ 97 (List._∷_ 100 (List._∷_ 105 (List._∷_ 110 (List._∷_ 103 (List._∷_ 58 (List._∷_ 58 (List._∷_ 70 (List._∷_ 97 (List._∷_ 117 (List._∷_ 108 (List._∷_ 116 List.[]))))))))))))))))))) (Syntax.ttcons Syntax.tnil (Syntax.ttcons Syntax.tnil (Syntax.ttcons Syntax.tnil (Syntax.ttcons Syntax.tnil Syntax.ttnil))))) Syntax.tnil) Syntax.ttnil))))))))))) (Syntax.tcons (Syntax.tyArray (Syntax.tyInt Syntax.w8) 32) (Syntax.tcons (Syntax.tyInt Syntax.w64) Syntax.tnil))))))) (List._∷_ (11, Rows.any-gone Syntax.tyBool) (List._∷_ (12, Rows.any-gone (Syntax.tyRef Syntax.erased Syntax.mut OfOutput.named)) (List._∷_ (13, Rows.any-gone (Syntax.tyStruct (List._∷_ 38 (List._∷_ 91 (List._∷_ 93 List.[]))) (Syntax.tcons (Syntax.tyRef Syntax.erased Syntax.mut OfOutput.named) (Syntax.tcons (Syntax.tyInt Syntax.w64) Syntax.tnil)))) (List._∷_ (14, Rows.any-gone (Syntax.tyRef Syntax.erased Syntax.mut OfStation.named)) (List._∷_ (15, Mut.msleft (OfStation.row) (Syntax.tyRef Syntax.erased Syntax.mut OfStation.named)) List.[])))))))))))))))
+        g23 = List._∷_ (0, Rows.any-gone (Laws.mir)) (List._∷_ (1, Mut.mslice (OfOutput.row) (Syntax.tyRef (Syntax.named 0) Syntax.mut OfOutput.named) 0) (List._∷_ (2, Relend.mslice-owed (OfStation.row) (Syntax.tyRef (Syntax.named 1) Syntax.mut OfStation.named) 1 6 (Row.lease (κs .1 .0) (qs .1 .0))) (List._∷_ (3, Rows.mref-owed (OfPanelRecord.row) (Syntax.tyRef (Syntax.named 2) Syntax.mut OfPanelRecord.named) 2 7 (Row.lease (κs .1 .1 .0) (qs .1 .1 .0))) (List._∷_ (4, Relend.mslice-owed (Referent.rtF (Referent.fInt Syntax.w8)) (Syntax.tyRef (Syntax.named 3) Syntax.mut (Syntax.tyInt Syntax.w8)) 3 8 (Row.lease (κs .1 .1 .1 .0) (qs .1 .1 .1 .0))) (List._∷_ (5, Relend.mslice-owed (Referent.rtF (Referent.fInt Syntax.w8)) (Syntax.tyRef (Syntax.named 4) Syntax.mut (Syntax.tyInt Syntax.w8)) 4 9 (Row.lease (κs .1 .1 .1 .1 .0) (qs .1 .1 .1 .1 .0))) (List._∷_ (6, Rows.any-gone (Syntax.tyStruct (List._∷_ 116 (List._∷_ 101 (List._∷_ 120 (List._∷_ 116 (List._∷_ 95 (List._∷_ 114 (List._∷_ 101 (List._∷_ 97 (List._∷_ 100 (List._∷_ 105 (List._∷_ 110 (List._∷_ 103 (List._∷_ 58 (List._∷_ 58 (List._∷_ 82 (List._∷_ 101 (List._∷_ 97 (List._∷_ 100 (List._∷_ 101 (List._∷_ 114 List.[])))))))))))))))))))) (Syntax.tcons (Syntax.tyInt Syntax.w8) (Syntax.tcons (Syntax.tyInt Syntax.w64) (Syntax.tcons (Syntax.tyEnum (List._∷_ 116 (List._∷_ 101 (List._∷_ 120 (List._∷_ 116 (List._∷_ 95 (List._∷_ 114 (List._∷_ 101 (List._∷_ 97 (List._∷_ 100 (List._∷_ 105 (List._∷_ 110 (List._∷_ 103 (List._∷_ 58 (List._∷_ 58 (List._∷_ 72 (List._∷_ 101 (List._∷_ 108 (List._∷_ 100 List.[])))))))))))))))))) (Syntax.ttcons Syntax.tnil (Syntax.ttcons Syntax.tnil (Syntax.ttcons (Syntax.tcons (Syntax.tyInt Syntax.w8) Syntax.tnil) (Syntax.ttcons Syntax.tnil (Syntax.ttcons (Syntax.tcons (Syntax.tyInt Syntax.w8) Syntax.tnil) (Syntax.ttcons (Syntax.tcons (Syntax.tyInt Syntax.w8) Syntax.tnil) (Syntax.ttcons Syntax.tnil (Syntax.ttcons (Syntax.tcons (Syntax.tyInt Syntax.w8) Syntax.tnil) (Syntax.ttcons Syntax.tnil (Syntax.ttcons (Syntax.tcons (Syntax.tyEnum (List._∷_ 116 (List._∷_ 101 (List._∷_ 120 (List._∷_ 116 (List._∷_ 95 (List._∷_ 114 (List._∷_ 101 (List._∷_ 97 (List._∷_ 100 (List._∷_ 105 (List._∷_ 110 (List._∷_ 103 (List._∷_ 58 (List._∷_ 58 (List._∷_ 70 (List._∷_ 97 (List._∷_ 117 (List._∷_ 108 (List._∷_ 116 List.[]))))))))))))))))))) (Syntax.ttcons Syntax.tnil (Syntax.ttcons Syntax.tnil (Syntax.ttcons Syntax.tnil (Syntax.ttcons Syntax.tnil Syntax.ttnil))))) Syntax.tnil) Syntax.ttnil))))))))))) (Syntax.tcons (Syntax.tyArray (Syntax.tyInt Syntax.w8) 32) (Syntax.tcons (Syntax.tyInt Syntax.w64) Syntax.tnil))))))) (List._∷_ (7, Rows.any-gone (Syntax.tyInt Syntax.w64)) (List._∷_ (8, Rows.sc-here (Row.sInt Syntax.w64)) (List._∷_ (9, Rows.whole (Declared.row Turn.the-type)) (List._∷_ (10, Rows.any-gone (Syntax.tyStruct (List._∷_ 116 (List._∷_ 101 (List._∷_ 120 (List._∷_ 116 (List._∷_ 95 (List._∷_ 114 (List._∷_ 101 (List._∷_ 97 (List._∷_ 100 (List._∷_ 105 (List._∷_ 110 (List._∷_ 103 (List._∷_ 58 (List._∷_ 58 (List._∷_ 82 (List._∷_ 101 (List._∷_ 97 (List._∷_ 100 (List._∷_ 101 (List._∷_ 114 List.[])))))))))))))))))))) (Syntax.tcons (Syntax.tyInt Syntax.w8) (Syntax.tcons (Syntax.tyInt Syntax.w64) (Syntax.tcons (Syntax.tyEnum (List._∷_ 116 (List._∷_ 101 (List._∷_ 120 (List._∷_ 116 (List._∷_ 95 (List._∷_ 114 (List._∷_ 101 (List._∷_ 97 (List._∷_ 100 (List._∷_ 105 (List._∷_ 110 (List._∷_ 103 (List._∷_ 58 (List._∷_ 58 (List._∷_ 72 (List._∷_ 101 (List._∷_ 108 (List._∷_ 100 List.[])))))))))))))))))) (Syntax.ttcons Syntax.tnil (Syntax.ttcons Syntax.tnil (Syntax.ttcons (Syntax.tcons (Syntax.tyInt Syntax.w8) Syntax.tnil) (Syntax.ttcons Syntax.tnil (Syntax.ttcons (Syntax.tcons (Syntax.tyInt Syntax.w8) Syntax.tnil) (Syntax.ttcons (Syntax.tcons (Syntax.tyInt Syntax.w8) Syntax.tnil) (Syntax.ttcons Syntax.tnil (Syntax.ttcons (Syntax.tcons (Syntax.tyInt Syntax.w8) Syntax.tnil) (Syntax.ttcons Syntax.tnil (Syntax.ttcons (Syntax.tcons (Syntax.tyEnum (List._∷_ 116 (List._∷_ 101 (List._∷_ 120 (List._∷_ 116 (List._∷_ 95 (List._∷_ 114 (List._∷_ 101 (List._∷_ 97 (List._∷_ 100 (List._∷_ 105 (List._∷_ 110 (List._∷_ 103 (List._∷_ 58 (List._∷_ 58 (List._∷_ 70 (List._∷_ 97 (List._∷_ 117 (List._∷_ 108 (List._∷_ 116 List.[]))))))))))))))))))) (Syntax.ttcons Syntax.tnil (Syntax.ttcons Syntax.tnil (Syntax.ttcons Syntax.tnil (Syntax.ttcons Syntax.tnil Syntax.ttnil))))) Syntax.tnil) Syntax.ttnil))))))))))) (Syntax.tcons (Syntax.tyArray (Syntax.tyInt Syntax.w8) 32) (Syntax.tcons (Syntax.tyInt Syntax.w64) Syntax.tnil))))))) (List._∷_ (11, Rows.any-gone Syntax.tyBool) (List._∷_ (12, Rows.any-gone (Syntax.tyRef Syntax.erased Syntax.mut OfOutput.named)) (List._∷_ (13, Rows.any-gone (Syntax.tyStruct (List._∷_ 38 (List._∷_ 91 (List._∷_ 93 List.[]))) (Syntax.tcons (Syntax.tyRef Syntax.erased Syntax.mut OfOutput.named) (Syntax.tcons (Syntax.tyInt Syntax.w64) Syntax.tnil)))) (List._∷_ (14, Rows.any-gone (Syntax.tyRef Syntax.erased Syntax.mut OfStation.named)) (List._∷_ (15, Mut.msleft (OfStation.row) (Syntax.tyRef Syntax.erased Syntax.mut OfStation.named)) List.[])))))))))))))))
 
         abbrev g24 : List.List Row.Entry
-        g24 = List._∷_ (0, Rows.any-gone (Laws.mir)) (List._∷_ (1, Mut.mslice (OfOutput.row) (Syntax.tyRef (Syntax.named 0) Syntax.mut OfOutput.named) 0) (List._∷_ (2, Mut.mslice (OfStation.row) (Syntax.tyRef (Syntax.named 1) Syntax.mut OfStation.named) 1) (List._∷_ (3, Rows.mref-owed (Referent.rtF (Referent.fInt Syntax.w64)) (Syntax.tyRef (Syntax.named 2) Syntax.mut (Syntax.tyInt Syntax.w64)) 2 7 (Row.lease (κs .1 .1 .0) (qs .1 .1 .0))) (List._∷_ (4, Relend.mslice-owed (Referent.rtF (Referent.fInt Syntax.w8)) (Syntax.tyRef (Syntax.named 3) Syntax.mut (Syntax.tyInt Syntax.w8)) 3 8 (Row.lease (κs .1 .1 .1 .0) (qs .1 .1 .1 .0))) (List._∷_ (5, Relend.mslice-owed (Referent.rtF (Referent.fInt Syntax.w8)) (Syntax.tyRef (Syntax.named 4) Syntax.mut (Syntax.tyInt Syntax.w8)) 4 9 (Row.lease (κs .1 .1 .1 .1 .0) (qs .1 .1 .1 .1 .0))) (List._∷_ (6, Rows.any-gone (Syntax.tyStruct (List._∷_ 116 (List._∷_ 101 (List._∷_ 120 (List._∷_ 116 (List._∷_ 95 (List._∷_ 114 (List._∷_ 101 (List._∷_ 97 (List._∷_ 100 (List._∷_ 105 (List._∷_ 110 (List._∷_ 103 (List._∷_ 58 (List._∷_ 58 (List._∷_ 82 (List._∷_ 101 (List._∷_ 97 (List._∷_ 100 (List._∷_ 101 (List._∷_ 114 List.[])))))))))))))))))))) (Syntax.tcons (Syntax.tyInt Syntax.w8) (Syntax.tcons (Syntax.tyInt Syntax.w64) (Syntax.tcons (Syntax.tyEnum (List._∷_ 116 (List._∷_ 101 (List._∷_ 120 (List._∷_ 116 (List._∷_ 95 (List._∷_ 114 (List._∷_ 101 (List._∷_ 97 (List._∷_ 100 (List._∷_ 105 (List._∷_ 110 (List._∷_ 103 (List._∷_ 58 (List._∷_ 58 (List._∷_ 72 (List._∷_ 101 (List._∷_ 108 (List._∷_ 100 List.[])))))))))))))))))) (Syntax.ttcons Syntax.tnil (Syntax.ttcons Syntax.tnil (Syntax.ttcons (Syntax.tcons (Syntax.tyInt Syntax.w8) Syntax.tnil) (Syntax.ttcons Syntax.tnil (Syntax.ttcons (Syntax.tcons (Syntax.tyInt Syntax.w8) Syntax.tnil) (Syntax.ttcons (Syntax.tcons (Syntax.tyInt Syntax.w8) Syntax.tnil) (Syntax.ttcons Syntax.tnil (Syntax.ttcons (Syntax.tcons (Syntax.tyInt Syntax.w8) Syntax.tnil) (Syntax.ttcons Syntax.tnil (Syntax.ttcons (Syntax.tcons (Syntax.tyEnum (List._∷_ 116 (List._∷_ 101 (List._∷_ 120 (List._∷_ 116 (List._∷_ 95 (List._∷_ 114 (List._∷_ 101 (List._∷_ 97 (List._∷_ 100 (List._∷_ 105 (List._∷_ 110 (List._∷_ 103 (List._∷_ 58 (List._∷_ 58 (List._∷_ 70 (List._∷_ 97 (List._∷_ 117 (List._∷_ 108 (List._∷_ 116 List.[]))))))))))))))))))) (Syntax.ttcons Syntax.tnil (Syntax.ttcons Syntax.tnil (Syntax.ttcons Syntax.tnil (Syntax.ttcons Syntax.tnil Syntax.ttnil))))) Syntax.tnil) Syntax.ttnil))))))))))) (Syntax.tcons (Syntax.tyArray (Syntax.tyInt Syntax.w8) 32) (Syntax.tcons (Syntax.tyInt Syntax.w64) Syntax.tnil))))))) (List._∷_ (7, Rows.any-gone (Syntax.tyInt Syntax.w64)) (List._∷_ (8, Rows.sc-here (Row.sInt Syntax.w64)) (List._∷_ (9, Rows.whole (Declared.row Turn.the-type)) (List._∷_ (10, Rows.any-gone (Syntax.tyStruct (List._∷_ 116 (List._∷_ 101 (List._∷_ 120 (List._∷_ 116 (List._∷_ 95 (List._∷_ 114 (List._∷_ 101 (List._∷_ 97 (List._∷_ 100 (List._∷_ 105 (List._∷_ 110 (List._∷_ 103 (List._∷_ 58 (List._∷_ 58 (List._∷_ 82 (List._∷_ 101 (List._∷_ 97 (List._∷_ 100 (List._∷_ 101 (List._∷_ 114 List.[])))))))))))))))))))) (Syntax.tcons (Syntax.tyInt Syntax.w8) (Syntax.tcons (Syntax.tyInt Syntax.w64) (Syntax.tcons (Syntax.tyEnum (List._∷_ 116 (List._∷_ 101 (List._∷_ 120 (List._∷_ 116 (List._∷_ 95 (List._∷_ 114 (List._∷_ 101 (List._∷_ 97 (List._∷_ 100 (List._∷_ 105 (List._∷_ 110 (List._∷_ 103 (List._∷_ 58 (List._∷_ 58 (List._∷_ 72 (List._∷_ 101 (List._∷_ 108 (List._∷_ 100 List.[])))))))))))))))))) (Syntax.ttcons Syntax.tnil (Syntax.ttcons Syntax.tnil (Syntax.ttcons (Syntax.tcons (Syntax.tyInt Syntax.w8) Syntax.tnil) (Syntax.ttcons Syntax.tnil (Syntax.ttcons (Syntax.tcons (Syntax.tyInt Syntax.w8) Syntax.tnil) (Syntax.ttcons (Syntax.tcons (Syntax.tyInt Syntax.w8) Syntax.tnil) (Syntax.ttcons Syntax.tnil (Syntax.ttcons (Syntax.tcons (Syntax.tyInt Syntax.w8) Syntax.tnil) (Syntax.ttcons Syntax.tnil (Syntax.ttcons (Syntax.tcons (Syntax.tyEnum (List._∷_ 116 (List._∷_ 101 (List._∷_ 120 (List._∷_ 116 (List._∷_ 95 (List._∷_ 114 (List._∷_ 101 (List._∷_ 97 (List._∷_ 100 (List._∷_ 105 (List._∷_ 110 (List._∷_ 103 (List._∷_ 58 (List._∷_ 58 (List._∷_ 70 (List._∷_ 97 (List._∷_ 117 (List._∷_ 108 (List._∷_ 116 List.[]))))))))))))))))))) (Syntax.ttcons Syntax.tnil (Syntax.ttcons Syntax.tnil (Syntax.ttcons Syntax.tnil (Syntax.ttcons Syntax.tnil Syntax.ttnil))))) Syntax.tnil) Syntax.ttnil))))))))))) (Syntax.tcons (Syntax.tyArray (Syntax.tyInt Syntax.w8) 32) (Syntax.tcons (Syntax.tyInt Syntax.w64) Syntax.tnil))))))) (List._∷_ (11, Rows.any-gone Syntax.tyBool) (List._∷_ (12, Rows.any-gone (Syntax.tyRef Syntax.erased Syntax.mut OfOutput.named)) (List._∷_ (13, Rows.any-gone (Syntax.tyStruct (List._∷_ 38 (List._∷_ 91 (List._∷_ 93 List.[]))) (Syntax.tcons (Syntax.tyRef Syntax.erased Syntax.mut OfOutput.named) (Syntax.tcons (Syntax.tyInt Syntax.w64) Syntax.tnil)))) (List._∷_ (14, Rows.any-gone (Syntax.tyRef Syntax.erased Syntax.mut OfStation.named)) (List._∷_ (15, Rows.any-gone (Syntax.tyStruct (List._∷_ 38 (List._∷_ 91 (List._∷_ 93 List.[]))) (Syntax.tcons (Syntax.tyRef Syntax.erased Syntax.mut OfStation.named) (Syntax.tcons (Syntax.tyInt Syntax.w64) Syntax.tnil)))) List.[])))))))))))))))
+        g24 = List._∷_ (0, Rows.any-gone (Laws.mir)) (List._∷_ (1, Mut.mslice (OfOutput.row) (Syntax.tyRef (Syntax.named 0) Syntax.mut OfOutput.named) 0) (List._∷_ (2, Mut.mslice (OfStation.row) (Syntax.tyRef (Syntax.named 1) Syntax.mut OfStation.named) 1) (List._∷_ (3, Rows.mref-owed (OfPanelRecord.row) (Syntax.tyRef (Syntax.named 2) Syntax.mut OfPanelRecord.named) 2 7 (Row.lease (κs .1 .1 .0) (qs .1 .1 .0))) (List._∷_ (4, Relend.mslice-owed (Referent.rtF (Referent.fInt Syntax.w8)) (Syntax.tyRef (Syntax.named 3) Syntax.mut (Syntax.tyInt Syntax.w8)) 3 8 (Row.lease (κs .1 .1 .1 .0) (qs .1 .1 .1 .0))) (List._∷_ (5, Relend.mslice-owed (Referent.rtF (Referent.fInt Syntax.w8)) (Syntax.tyRef (Syntax.named 4) Syntax.mut (Syntax.tyInt Syntax.w8)) 4 9 (Row.lease (κs .1 .1 .1 .1 .0) (qs .1 .1 .1 .1 .0))) (List._∷_ (6, Rows.any-gone (Syntax.tyStruct (List._∷_ 116 (List._∷_ 101 (List._∷_ 120 (List._∷_ 116 (List._∷_ 95 (List._∷_ 114 (List._∷_ 101 (List._∷_ 97 (List._∷_ 100 (List._∷_ 105 (List._∷_ 110 (List._∷_ 103 (List._∷_ 58 (List._∷_ 58 (List._∷_ 82 (List._∷_ 101 (List._∷_ 97 (List._∷_ 100 (List._∷_ 101 (List._∷_ 114 List.[])))))))))))))))))))) (Syntax.tcons (Syntax.tyInt Syntax.w8) (Syntax.tcons (Syntax.tyInt Syntax.w64) (Syntax.tcons (Syntax.tyEnum (List._∷_ 116 (List._∷_ 101 (List._∷_ 120 (List._∷_ 116 (List._∷_ 95 (List._∷_ 114 (List._∷_ 101 (List._∷_ 97 (List._∷_ 100 (List._∷_ 105 (List._∷_ 110 (List._∷_ 103 (List._∷_ 58 (List._∷_ 58 (List._∷_ 72 (List._∷_ 101 (List._∷_ 108 (List._∷_ 100 List.[])))))))))))))))))) (Syntax.ttcons Syntax.tnil (Syntax.ttcons Syntax.tnil (Syntax.ttcons (Syntax.tcons (Syntax.tyInt Syntax.w8) Syntax.tnil) (Syntax.ttcons Syntax.tnil (Syntax.ttcons (Syntax.tcons (Syntax.tyInt Syntax.w8) Syntax.tnil) (Syntax.ttcons (Syntax.tcons (Syntax.tyInt Syntax.w8) Syntax.tnil) (Syntax.ttcons Syntax.tnil (Syntax.ttcons (Syntax.tcons (Syntax.tyInt Syntax.w8) Syntax.tnil) (Syntax.ttcons Syntax.tnil (Syntax.ttcons (Syntax.tcons (Syntax.tyEnum (List._∷_ 116 (List._∷_ 101 (List._∷_ 120 (List._∷_ 116 (List._∷_ 95 (List._∷_ 114 (List._∷_ 101 (List._∷_ 97 (List._∷_ 100 (List._∷_ 105 (List._∷_ 110 (List._∷_ 103 (List._∷_ 58 (List._∷_ 58 (List._∷_ 70 (List._∷_ 97 (List._∷_ 117 (List._∷_ 108 (List._∷_ 116 List.[]))))))))))))))))))) (Syntax.ttcons Syntax.tnil (Syntax.ttcons Syntax.tnil (Syntax.ttcons Syntax.tnil (Syntax.ttcons Syntax.tnil Syntax.ttnil))))) Syntax.tnil) Syntax.ttnil))))))))))) (Syntax.tcons (Syntax.tyArray (Syntax.tyInt Syntax.w8) 32) (Syntax.tcons (Syntax.tyInt Syntax.w64) Syntax.tnil))))))) (List._∷_ (7, Rows.any-gone (Syntax.tyInt Syntax.w64)) (List._∷_ (8, Rows.sc-here (Row.sInt Syntax.w64)) (List._∷_ (9, Rows.whole (Declared.row Turn.the-type)) (List._∷_ (10, Rows.any-gone (Syntax.tyStruct (List._∷_ 116 (List._∷_ 101 (List._∷_ 120 (List._∷_ 116 (List._∷_ 95 (List._∷_ 114 (List._∷_ 101 (List._∷_ 97 (List._∷_ 100 (List._∷_ 105 (List._∷_ 110 (List._∷_ 103 (List._∷_ 58 (List._∷_ 58 (List._∷_ 82 (List._∷_ 101 (List._∷_ 97 (List._∷_ 100 (List._∷_ 101 (List._∷_ 114 List.[])))))))))))))))))))) (Syntax.tcons (Syntax.tyInt Syntax.w8) (Syntax.tcons (Syntax.tyInt Syntax.w64) (Syntax.tcons (Syntax.tyEnum (List._∷_ 116 (List._∷_ 101 (List._∷_ 120 (List._∷_ 116 (List._∷_ 95 (List._∷_ 114 (List._∷_ 101 (List._∷_ 97 (List._∷_ 100 (List._∷_ 105 (List._∷_ 110 (List._∷_ 103 (List._∷_ 58 (List._∷_ 58 (List._∷_ 72 (List._∷_ 101 (List._∷_ 108 (List._∷_ 100 List.[])))))))))))))))))) (Syntax.ttcons Syntax.tnil (Syntax.ttcons Syntax.tnil (Syntax.ttcons (Syntax.tcons (Syntax.tyInt Syntax.w8) Syntax.tnil) (Syntax.ttcons Syntax.tnil (Syntax.ttcons (Syntax.tcons (Syntax.tyInt Syntax.w8) Syntax.tnil) (Syntax.ttcons (Syntax.tcons (Syntax.tyInt Syntax.w8) Syntax.tnil) (Syntax.ttcons Syntax.tnil (Syntax.ttcons (Syntax.tcons (Syntax.tyInt Syntax.w8) Syntax.tnil) (Syntax.ttcons Syntax.tnil (Syntax.ttcons (Syntax.tcons (Syntax.tyEnum (List._∷_ 116 (List._∷_ 101 (List._∷_ 120 (List._∷_ 116 (List._∷_ 95 (List._∷_ 114 (List._∷_ 101 (List._∷_ 97 (List._∷_ 100 (List._∷_ 105 (List._∷_ 110 (List._∷_ 103 (List._∷_ 58 (List._∷_ 58 (List._∷_ 70 (List._∷_ 97 (List._∷_ 117 (List._∷_ 108 (List._∷_ 116 List.[]))))))))))))))))))) (Syntax.ttcons Syntax.tnil (Syntax.ttcons Syntax.tnil (Syntax.ttcons Syntax.tnil (Syntax.ttcons Syntax.tnil Syntax.ttnil))))) Syntax.tnil) Syntax.ttnil))))))))))) (Syntax.tcons (Syntax.tyArray (Syntax.tyInt Syntax.w8) 32) (Syntax.tcons (Syntax.tyInt Syntax.w64) Syntax.tnil))))))) (List._∷_ (11, Rows.any-gone Syntax.tyBool) (List._∷_ (12, Rows.any-gone (Syntax.tyRef Syntax.erased Syntax.mut OfOutput.named)) (List._∷_ (13, Rows.any-gone (Syntax.tyStruct (List._∷_ 38 (List._∷_ 91 (List._∷_ 93 List.[]))) (Syntax.tcons (Syntax.tyRef Syntax.erased Syntax.mut OfOutput.named) (Syntax.tcons (Syntax.tyInt Syntax.w64) Syntax.tnil)))) (List._∷_ (14, Rows.any-gone (Syntax.tyRef Syntax.erased Syntax.mut OfStation.named)) (List._∷_ (15, Rows.any-gone (Syntax.tyStruct (List._∷_ 38 (List._∷_ 91 (List._∷_ 93 List.[]))) (Syntax.tcons (Syntax.tyRef Syntax.erased Syntax.mut OfStation.named) (Syntax.tcons (Syntax.tyInt Syntax.w64) Syntax.tnil)))) List.[])))))))))))))))
 
         abbrev g25 : List.List Row.Entry
-        g25 = List._∷_ (0, Rows.any-gone (Laws.mir)) (List._∷_ (1, Mut.mslice (OfOutput.row) (Syntax.tyRef (Syntax.named 0) Syntax.mut OfOutput.named) 0) (List._∷_ (2, Mut.mslice (OfStation.row) (Syntax.tyRef (Syntax.named 1) Syntax.mut OfStation.named) 1) (List._∷_ (3, Rows.mref (Referent.rtF (Referent.fInt Syntax.w64)) (Syntax.tyRef (Syntax.named 2) Syntax.mut (Syntax.tyInt Syntax.w64)) 2) (List._∷_ (4, Relend.mslice-owed (Referent.rtF (Referent.fInt Syntax.w8)) (Syntax.tyRef (Syntax.named 3) Syntax.mut (Syntax.tyInt Syntax.w8)) 3 8 (Row.lease (κs .1 .1 .1 .0) (qs .1 .1 .1 .0))) (List._∷_ (5, Relend.mslice-owed (Referent.rtF (Referent.fInt Syntax.w8)) (Syntax.tyRef (Syntax.named 4) Syntax.mut (Syntax.tyInt Syntax.w8)) 4 9 (Row.lease (κs .1 .1 .1 .1 .0) (qs .1 .1 .1 .1 .0))) (List._∷_ (6, Rows.any-gone (Syntax.tyStruct (List._∷_ 116 (List._∷_ 101 (List._∷_ 120 (List._∷_ 116 (List._∷_ 95 (List._∷_ 114 (List._∷_ 101 (List._∷_ 97 (List._∷_ 100 (List._∷_ 105 (List._∷_ 110 (List._∷_ 103 (List._∷_ 58 (List._∷_ 58 (List._∷_ 82 (List._∷_ 101 (List._∷_ 97 (List._∷_ 100 (List._∷_ 101 (List._∷_ 114 List.[])))))))))))))))))))) (Syntax.tcons (Syntax.tyInt Syntax.w8) (Syntax.tcons (Syntax.tyInt Syntax.w64) (Syntax.tcons (Syntax.tyEnum (List._∷_ 116 (List._∷_ 101 (List._∷_ 120 (List._∷_ 116 (List._∷_ 95 (List._∷_ 114 (List._∷_ 101 (List._∷_ 97 (List._∷_ 100 (List._∷_ 105 (List._∷_ 110 (List._∷_ 103 (List._∷_ 58 (List._∷_ 58 (List._∷_ 72 (List._∷_ 101 (List._∷_ 108 (List._∷_ 100 List.[])))))))))))))))))) (Syntax.ttcons Syntax.tnil (Syntax.ttcons Syntax.tnil (Syntax.ttcons (Syntax.tcons (Syntax.tyInt Syntax.w8) Syntax.tnil) (Syntax.ttcons Syntax.tnil (Syntax.ttcons (Syntax.tcons (Syntax.tyInt Syntax.w8) Syntax.tnil) (Syntax.ttcons (Syntax.tcons (Syntax.tyInt Syntax.w8) Syntax.tnil) (Syntax.ttcons Syntax.tnil (Syntax.ttcons (Syntax.tcons (Syntax.tyInt Syntax.w8) Syntax.tnil) (Syntax.ttcons Syntax.tnil (Syntax.ttcons (Syntax.tcons (Syntax.tyEnum (List._∷_ 116 (List._∷_ 101 (List._∷_ 120 (List._∷_ 116 (List._∷_ 95 (List._∷_ 114 (List._∷_ 101 (List._∷_ 97 (List._∷_ 100 (List._∷_ 105 (List._∷_ 110 (List._∷_ 103 (List._∷_ 58 (List._∷_ 58 (List._∷_ 70 (List._∷_ 97 (List._∷_ 117 (List._∷_ 108 (List._∷_ 116 List.[]))))))))))))))))))) (Syntax.ttcons Syntax.tnil (Syntax.ttcons Syntax.tnil (Syntax.ttcons Syntax.tnil (Syntax.ttcons Syntax.tnil Syntax.ttnil))))) Syntax.tnil) Syntax.ttnil))))))))))) (Syntax.tcons (Syntax.tyArray (Syntax.tyInt Syntax.w8) 32) (Syntax.tcons (Syntax.tyInt Syntax.w64) Syntax.tnil))))))) (List._∷_ (7, Rows.any-gone (Syntax.tyInt Syntax.w64)) (List._∷_ (8, Rows.sc-here (Row.sInt Syntax.w64)) (List._∷_ (9, Rows.whole (Declared.row Turn.the-type)) (List._∷_ (10, Rows.any-gone (Syntax.tyStruct (List._∷_ 116 (List._∷_ 101 (List._∷_ 120 (List._∷_ 116 (List._∷_ 95 (List._∷_ 114 (List._∷_ 101 (List._∷_ 97 (List._∷_ 100 (List._∷_ 105 (List._∷_ 110 (List._∷_ 103 (List._∷_ 58 (List._∷_ 58 (List._∷_ 82 (List._∷_ 101 (List._∷_ 97 (List._∷_ 100 (List._∷_ 101 (List._∷_ 114 List.[])))))))))))))))))))) (Syntax.tcons (Syntax.tyInt Syntax.w8) (Syntax.tcons (Syntax.tyInt Syntax.w64) (Syntax.tcons (Syntax.tyEnum (List._∷_ 116 (List._∷_ 101 (List._∷_ 120 (List._∷_ 116 (List._∷_ 95 (List._∷_ 114 (List._∷_ 101 (List._∷_ 97 (List._∷_ 100 (List._∷_ 105 (List._∷_ 110 (List._∷_ 103 (List._∷_ 58 (List._∷_ 58 (List._∷_ 72 (List._∷_ 101 (List._∷_ 108 (List._∷_ 100 List.[])))))))))))))))))) (Syntax.ttcons Syntax.tnil (Syntax.ttcons Syntax.tnil (Syntax.ttcons (Syntax.tcons (Syntax.tyInt Syntax.w8) Syntax.tnil) (Syntax.ttcons Syntax.tnil (Syntax.ttcons (Syntax.tcons (Syntax.tyInt Syntax.w8) Syntax.tnil) (Syntax.ttcons (Syntax.tcons (Syntax.tyInt Syntax.w8) Syntax.tnil) (Syntax.ttcons Syntax.tnil (Syntax.ttcons (Syntax.tcons (Syntax.tyInt Syntax.w8) Syntax.tnil) (Syntax.ttcons Syntax.tnil (Syntax.ttcons (Syntax.tcons (Syntax.tyEnum (List._∷_ 116 (List._∷_ 101 (List._∷_ 120 (List._∷_ 116 (List._∷_ 95 (List._∷_ 114 (List._∷_ 101 (List._∷_ 97 (List._∷_ 100 (List._∷_ 105 (List._∷_ 110 (List._∷_ 103 (List._∷_ 58 (List._∷_ 58 (List._∷_ 70 (List._∷_ 97 (List._∷_ 117 (List._∷_ 108 (List._∷_ 116 List.[]))))))))))))))))))) (Syntax.ttcons Syntax.tnil (Syntax.ttcons Syntax.tnil (Syntax.ttcons Syntax.tnil (Syntax.ttcons Syntax.tnil Syntax.ttnil))))) Syntax.tnil) Syntax.ttnil))))))))))) (Syntax.tcons (Syntax.tyArray (Syntax.tyInt Syntax.w8) 32) (Syntax.tcons (Syntax.tyInt Syntax.w64) Syntax.tnil))))))) (List._∷_ (11, Rows.any-gone Syntax.tyBool) (List._∷_ (12, Rows.any-gone (Syntax.tyRef Syntax.erased Syntax.mut OfOutput.named)) (List._∷_ (13, Rows.any-gone (Syntax.tyStruct (List._∷_ 38 (List._∷_ 91 (List._∷_ 93 List.[]))) (Syntax.tcons (Syntax.tyRef Syntax.erased Syntax.mut OfOutput.named) (Syntax.tcons (Syntax.tyInt Syntax.w64) Syntax.tnil)))) (List._∷_ (14, Rows.any-gone (Syntax.tyRef Syntax.erased Syntax.mut OfStation.named)) (List._∷_ (15, Rows.any-gone (Syntax.tyStruct (List._∷_ 38 (List._∷_ 91 (List._∷_ 93 List.[]))) (Syntax.tcons (Syntax.tyRef Syntax.erased Syntax.mut OfStation.named) (Syntax.tcons (Syntax.tyInt Syntax.w64) Syntax.tnil)))) List.[])))))))))))))))
+        g25 = List._∷_ (0, Rows.any-gone (Laws.mir)) (List._∷_ (1, Mut.mslice (OfOutput.row) (Syntax.tyRef (Syntax.named 0) Syntax.mut OfOutput.named) 0) (List._∷_ (2, Mut.mslice (OfStation.row) (Syntax.tyRef (Syntax.named 1) Syntax.mut OfStation.named) 1) (List._∷_ (3, Rows.mref (OfPanelRecord.row) (Syntax.tyRef (Syntax.named 2) Syntax.mut OfPanelRecord.named) 2) (List._∷_ (4, Relend.mslice-owed (Referent.rtF (Referent.fInt Syntax.w8)) (Syntax.tyRef (Syntax.named 3) Syntax.mut (Syntax.tyInt Syntax.w8)) 3 8 (Row.lease (κs .1 .1 .1 .0) (qs .1 .1 .1 .0))) (List._∷_ (5, Relend.mslice-owed (Referent.rtF (Referent.fInt Syntax.w8)) (Syntax.tyRef (Syntax.named 4) Syntax.mut (Syntax.tyInt Syntax.w8)) 4 9 (Row.lease (κs .1 .1 .1 .1 .0) (qs .1 .1 .1 .1 .0))) (List._∷_ (6, Rows.any-gone (Syntax.tyStruct (List._∷_ 116 (List._∷_ 101 (List._∷_ 120 (List._∷_ 116 (List._∷_ 95 (List._∷_ 114 (List._∷_ 101 (List._∷_ 97 (List._∷_ 100 (List._∷_ 105 (List._∷_ 110 (List._∷_ 103 (List._∷_ 58 (List._∷_ 58 (List._∷_ 82 (List._∷_ 101 (List._∷_ 97 (List._∷_ 100 (List._∷_ 101 (List._∷_ 114 List.[])))))))))))))))))))) (Syntax.tcons (Syntax.tyInt Syntax.w8) (Syntax.tcons (Syntax.tyInt Syntax.w64) (Syntax.tcons (Syntax.tyEnum (List._∷_ 116 (List._∷_ 101 (List._∷_ 120 (List._∷_ 116 (List._∷_ 95 (List._∷_ 114 (List._∷_ 101 (List._∷_ 97 (List._∷_ 100 (List._∷_ 105 (List._∷_ 110 (List._∷_ 103 (List._∷_ 58 (List._∷_ 58 (List._∷_ 72 (List._∷_ 101 (List._∷_ 108 (List._∷_ 100 List.[])))))))))))))))))) (Syntax.ttcons Syntax.tnil (Syntax.ttcons Syntax.tnil (Syntax.ttcons (Syntax.tcons (Syntax.tyInt Syntax.w8) Syntax.tnil) (Syntax.ttcons Syntax.tnil (Syntax.ttcons (Syntax.tcons (Syntax.tyInt Syntax.w8) Syntax.tnil) (Syntax.ttcons (Syntax.tcons (Syntax.tyInt Syntax.w8) Syntax.tnil) (Syntax.ttcons Syntax.tnil (Syntax.ttcons (Syntax.tcons (Syntax.tyInt Syntax.w8) Syntax.tnil) (Syntax.ttcons Syntax.tnil (Syntax.ttcons (Syntax.tcons (Syntax.tyEnum (List._∷_ 116 (List._∷_ 101 (List._∷_ 120 (List._∷_ 116 (List._∷_ 95 (List._∷_ 114 (List._∷_ 101 (List._∷_ 97 (List._∷_ 100 (List._∷_ 105 (List._∷_ 110 (List._∷_ 103 (List._∷_ 58 (List._∷_ 58 (List._∷_ 70 (List._∷_ 97 (List._∷_ 117 (List._∷_ 108 (List._∷_ 116 List.[]))))))))))))))))))) (Syntax.ttcons Syntax.tnil (Syntax.ttcons Syntax.tnil (Syntax.ttcons Syntax.tnil (Syntax.ttcons Syntax.tnil Syntax.ttnil))))) Syntax.tnil) Syntax.ttnil))))))))))) (Syntax.tcons (Syntax.tyArray (Syntax.tyInt Syntax.w8) 32) (Syntax.tcons (Syntax.tyInt Syntax.w64) Syntax.tnil))))))) (List._∷_ (7, Rows.any-gone (Syntax.tyInt Syntax.w64)) (List._∷_ (8, Rows.sc-here (Row.sInt Syntax.w64)) (List._∷_ (9, Rows.whole (Declared.row Turn.the-type)) (List._∷_ (10, Rows.any-gone (Syntax.tyStruct (List._∷_ 116 (List._∷_ 101 (List._∷_ 120 (List._∷_ 116 (List._∷_ 95 (List._∷_ 114 (List._∷_ 101 (List._∷_ 97 (List._∷_ 100 (List._∷_ 105 (List._∷_ 110 (List._∷_ 103 (List._∷_ 58 (List._∷_ 58 (List._∷_ 82 (List._∷_ 101 (List._∷_ 97 (List._∷_ 100 (List._∷_ 101 (List._∷_ 114 List.[])))))))))))))))))))) (Syntax.tcons (Syntax.tyInt Syntax.w8) (Syntax.tcons (Syntax.tyInt Syntax.w64) (Syntax.tcons (Syntax.tyEnum (List._∷_ 116 (List._∷_ 101 (List._∷_ 120 (List._∷_ 116 (List._∷_ 95 (List._∷_ 114 (List._∷_ 101 (List._∷_ 97 (List._∷_ 100 (List._∷_ 105 (List._∷_ 110 (List._∷_ 103 (List._∷_ 58 (List._∷_ 58 (List._∷_ 72 (List._∷_ 101 (List._∷_ 108 (List._∷_ 100 List.[])))))))))))))))))) (Syntax.ttcons Syntax.tnil (Syntax.ttcons Syntax.tnil (Syntax.ttcons (Syntax.tcons (Syntax.tyInt Syntax.w8) Syntax.tnil) (Syntax.ttcons Syntax.tnil (Syntax.ttcons (Syntax.tcons (Syntax.tyInt Syntax.w8) Syntax.tnil) (Syntax.ttcons (Syntax.tcons (Syntax.tyInt Syntax.w8) Syntax.tnil) (Syntax.ttcons Syntax.tnil (Syntax.ttcons (Syntax.tcons (Syntax.tyInt Syntax.w8) Syntax.tnil) (Syntax.ttcons Syntax.tnil (Syntax.ttcons (Syntax.tcons (Syntax.tyEnum (List._∷_ 116 (List._∷_ 101 (List._∷_ 120 (List._∷_ 116 (List._∷_ 95 (List._∷_ 114 (List._∷_ 101 (List._∷_ 97 (List._∷_ 100 (List._∷_ 105 (List._∷_ 110 (List._∷_ 103 (List._∷_ 58 (List._∷_ 58 (List._∷_ 70 (List._∷_ 97 (List._∷_ 117 (List._∷_ 108 (List._∷_ 116 List.[]))))))))))))))))))) (Syntax.ttcons Syntax.tnil (Syntax.ttcons Syntax.tnil (Syntax.ttcons Syntax.tnil (Syntax.ttcons Syntax.tnil Syntax.ttnil))))) Syntax.tnil) Syntax.ttnil))))))))))) (Syntax.tcons (Syntax.tyArray (Syntax.tyInt Syntax.w8) 32) (Syntax.tcons (Syntax.tyInt Syntax.w64) Syntax.tnil))))))) (List._∷_ (11, Rows.any-gone Syntax.tyBool) (List._∷_ (12, Rows.any-gone (Syntax.tyRef Syntax.erased Syntax.mut OfOutput.named)) (List._∷_ (13, Rows.any-gone (Syntax.tyStruct (List._∷_ 38 (List._∷_ 91 (List._∷_ 93 List.[]))) (Syntax.tcons (Syntax.tyRef Syntax.erased Syntax.mut OfOutput.named) (Syntax.tcons (Syntax.tyInt Syntax.w64) Syntax.tnil)))) (List._∷_ (14, Rows.any-gone (Syntax.tyRef Syntax.erased Syntax.mut OfStation.named)) (List._∷_ (15, Rows.any-gone (Syntax.tyStruct (List._∷_ 38 (List._∷_ 91 (List._∷_ 93 List.[]))) (Syntax.tcons (Syntax.tyRef Syntax.erased Syntax.mut OfStation.named) (Syntax.tcons (Syntax.tyInt Syntax.w64) Syntax.tnil)))) List.[])))))))))))))))
 
         abbrev g27 : List.List Row.Entry
-        g27 = List._∷_ (0, Rows.any-gone (Laws.mir)) (List._∷_ (1, Mut.mslice (OfOutput.row) (Syntax.tyRef (Syntax.named 0) Syntax.mut OfOutput.named) 0) (List._∷_ (2, Mut.mslice (OfStation.row) (Syntax.tyRef (Syntax.named 1) Syntax.mut OfStation.named) 1) (List._∷_ (3, Rows.mref (Referent.rtF (Referent.fInt Syntax.w64)) (Syntax.tyRef (Syntax.named 2) Syntax.mut (Syntax.tyInt Syntax.w64)) 2) (List._∷_ (4, Mut.mslice (Referent.rtF (Referent.fInt Syntax.w8)) (Syntax.tyRef (Syntax.named 3) Syntax.mut (Syntax.tyInt Syntax.w8)) 3) (List._∷_ (5, Relend.mslice-owed (Referent.rtF (Referent.fInt Syntax.w8)) (Syntax.tyRef (Syntax.named 4) Syntax.mut (Syntax.tyInt Syntax.w8)) 4 9 (Row.lease (κs .1 .1 .1 .1 .0) (qs .1 .1 .1 .1 .0))) (List._∷_ (6, Rows.any-gone (Syntax.tyStruct (List._∷_ 116 (List._∷_ 101 (List._∷_ 120 (List._∷_ 116 (List._∷_ 95 (List._∷_ 114 (List._∷_ 101 (List._∷_ 97 (List._∷_ 100 (List._∷_ 105 (List._∷_ 110 (List._∷_ 103 (List._∷_ 58 (List._∷_ 58 (List._∷_ 82 (List._∷_ 101 (List._∷_ 97 (List._∷_ 100 (List._∷_ 101 (List._∷_ 114 List.[])))))))))))))))))))) (Syntax.tcons (Syntax.tyInt Syntax.w8) (Syntax.tcons (Syntax.tyInt Syntax.w64) (Syntax.tcons (Syntax.tyEnum (List._∷_ 116 (List._∷_ 101 (List._∷_ 120 (List._∷_ 116 (List._∷_ 95 (List._∷_ 114 (List._∷_ 101 (List._∷_ 97 (List._∷_ 100 (List._∷_ 105 (List._∷_ 110 (List._∷_ 103 (List._∷_ 58 (List._∷_ 58 (List._∷_ 72 (List._∷_ 101 (List._∷_ 108 (List._∷_ 100 List.[])))))))))))))))))) (Syntax.ttcons Syntax.tnil (Syntax.ttcons Syntax.tnil (Syntax.ttcons (Syntax.tcons (Syntax.tyInt Syntax.w8) Syntax.tnil) (Syntax.ttcons Syntax.tnil (Syntax.ttcons (Syntax.tcons (Syntax.tyInt Syntax.w8) Syntax.tnil) (Syntax.ttcons (Syntax.tcons (Syntax.tyInt Syntax.w8) Syntax.tnil) (Syntax.ttcons Syntax.tnil (Syntax.ttcons (Syntax.tcons (Syntax.tyInt Syntax.w8) Syntax.tnil) (Syntax.ttcons Syntax.tnil (Syntax.ttcons (Syntax.tcons (Syntax.tyEnum (List._∷_ 116 (List._∷_ 101 (List._∷_ 120 (List._∷_ 116 (List._∷_ 95 (List._∷_ 114 (List._∷_ 101 (List._∷_ 97 (List._∷_ 100 (List._∷_ 105 (List._∷_ 110 (List._∷_ 103 (List._∷_ 58 (List._∷_ 58 (List._∷_ 70 (List._∷_ 97 (List._∷_ 117 (List._∷_ 108 (List._∷_ 116 List.[]))))))))))))))))))) (Syntax.ttcons Syntax.tnil (Syntax.ttcons Syntax.tnil (Syntax.ttcons Syntax.tnil (Syntax.ttcons Syntax.tnil Syntax.ttnil))))) Syntax.tnil) Syntax.ttnil))))))))))) (Syntax.tcons (Syntax.tyArray (Syntax.tyInt Syntax.w8) 32) (Syntax.tcons (Syntax.tyInt Syntax.w64) Syntax.tnil))))))) (List._∷_ (7, Rows.any-gone (Syntax.tyInt Syntax.w64)) (List._∷_ (8, Rows.sc-here (Row.sInt Syntax.w64)) (List._∷_ (9, Rows.whole (Declared.row Turn.the-type)) (List._∷_ (10, Rows.any-gone (Syntax.tyStruct (List._∷_ 116 (List._∷_ 101 (List._∷_ 120 (List._∷_ 116 (List._∷_ 95 (List._∷_ 114 (List._∷_ 101 (List._∷_ 97 (List._∷_ 100 (List._∷_ 105 (List._∷_ 110 (List._∷_ 103 (List._∷_ 58 (List._∷_ 58 (List._∷_ 82 (List._∷_ 101 (List._∷_ 97 (List._∷_ 100 (List._∷_ 101 (List._∷_ 114 List.[])))))))))))))))))))) (Syntax.tcons (Syntax.tyInt Syntax.w8) (Syntax.tcons (Syntax.tyInt Syntax.w64) (Syntax.tcons (Syntax.tyEnum (List._∷_ 116 (List._∷_ 101 (List._∷_ 120 (List._∷_ 116 (List._∷_ 95 (List._∷_ 114 (List._∷_ 101 (List._∷_ 97 (List._∷_ 100 (List._∷_ 105 (List._∷_ 110 (List._∷_ 103 (List._∷_ 58 (List._∷_ 58 (List._∷_ 72 (List._∷_ 101 (List._∷_ 108 (List._∷_ 100 List.[])))))))))))))))))) (Syntax.ttcons Syntax.tnil (Syntax.ttcons Syntax.tnil (Syntax.ttcons (Syntax.tcons (Syntax.tyInt Syntax.w8) Syntax.tnil) (Syntax.ttcons Syntax.tnil (Syntax.ttcons (Syntax.tcons (Syntax.tyInt Syntax.w8) Syntax.tnil) (Syntax.ttcons (Syntax.tcons (Syntax.tyInt Syntax.w8) Syntax.tnil) (Syntax.ttcons Syntax.tnil (Syntax.ttcons (Syntax.tcons (Syntax.tyInt Syntax.w8) Syntax.tnil) (Syntax.ttcons Syntax.tnil (Syntax.ttcons (Syntax.tcons (Syntax.tyEnum (List._∷_ 116 (List._∷_ 101 (List._∷_ 120 (List._∷_ 116 (List._∷_ 95 (List._∷_ 114 (List._∷_ 101 (List._∷_ 97 (List._∷_ 100 (List._∷_ 105 (List._∷_ 110 (List._∷_ 103 (List._∷_ 58 (List._∷_ 58 (List._∷_ 70 (List._∷_ 97 (List._∷_ 117 (List._∷_ 108 (List._∷_ 116 List.[]))))))))))))))))))) (Syntax.ttcons Syntax.tnil (Syntax.ttcons Syntax.tnil (Syntax.ttcons Syntax.tnil (Syntax.ttcons Syntax.tnil Syntax.ttnil))))) Syntax.tnil) Syntax.ttnil))))))))))) (Syntax.tcons (Syntax.tyArray (Syntax.tyInt Syntax.w8) 32) (Syntax.tcons (Syntax.tyInt Syntax.w64) Syntax.tnil))))))) (List._∷_ (11, Rows.any-gone Syntax.tyBool) (List._∷_ (12, Rows.any-gone (Syntax.tyRef Syntax.erased Syntax.mut OfOutput.named)) (List._∷_ (13, Rows.any-gone (Syntax.tyStruct (List._∷_ 38 (List._∷_ 91 (List._∷_ 93 List.[]))) (Syntax.tcons (Syntax.tyRef Syntax.erased Syntax.mut OfOutput.named) (Syntax.tcons (Syntax.tyInt Syntax.w64) Syntax.tnil)))) (List._∷_ (14, Rows.any-gone (Syntax.tyRef Syntax.erased Syntax.mut OfStation.named)) (List._∷_ (15, Rows.any-gone (Syntax.tyStruct (List._∷_ 38 (List._∷_ 91 (List._∷_ 93 List.[]))) (Syntax.tcons (Syntax.tyRef Syntax.erased Syntax.mut OfStation.named) (Syntax.tcons (Syntax.tyInt Syntax.w64) Syntax.tnil)))) List.[])))))))))))))))
+        g27 = List._∷_ (0, Rows.any-gone (Laws.mir)) (List._∷_ (1, Mut.mslice (OfOutput.row) (Syntax.tyRef (Syntax.named 0) Syntax.mut OfOutput.named) 0) (List._∷_ (2, Mut.mslice (OfStation.row) (Syntax.tyRef (Syntax.named 1) Syntax.mut OfStation.named) 1) (List._∷_ (3, Rows.mref (OfPanelRecord.row) (Syntax.tyRef (Syntax.named 2) Syntax.mut OfPanelRecord.named) 2) (List._∷_ (4, Mut.mslice (Referent.rtF (Referent.fInt Syntax.w8)) (Syntax.tyRef (Syntax.named 3) Syntax.mut (Syntax.tyInt Syntax.w8)) 3) (List._∷_ (5, Relend.mslice-owed (Referent.rtF (Referent.fInt Syntax.w8)) (Syntax.tyRef (Syntax.named 4) Syntax.mut (Syntax.tyInt Syntax.w8)) 4 9 (Row.lease (κs .1 .1 .1 .1 .0) (qs .1 .1 .1 .1 .0))) (List._∷_ (6, Rows.any-gone (Syntax.tyStruct (List._∷_ 116 (List._∷_ 101 (List._∷_ 120 (List._∷_ 116 (List._∷_ 95 (List._∷_ 114 (List._∷_ 101 (List._∷_ 97 (List._∷_ 100 (List._∷_ 105 (List._∷_ 110 (List._∷_ 103 (List._∷_ 58 (List._∷_ 58 (List._∷_ 82 (List._∷_ 101 (List._∷_ 97 (List._∷_ 100 (List._∷_ 101 (List._∷_ 114 List.[])))))))))))))))))))) (Syntax.tcons (Syntax.tyInt Syntax.w8) (Syntax.tcons (Syntax.tyInt Syntax.w64) (Syntax.tcons (Syntax.tyEnum (List._∷_ 116 (List._∷_ 101 (List._∷_ 120 (List._∷_ 116 (List._∷_ 95 (List._∷_ 114 (List._∷_ 101 (List._∷_ 97 (List._∷_ 100 (List._∷_ 105 (List._∷_ 110 (List._∷_ 103 (List._∷_ 58 (List._∷_ 58 (List._∷_ 72 (List._∷_ 101 (List._∷_ 108 (List._∷_ 100 List.[])))))))))))))))))) (Syntax.ttcons Syntax.tnil (Syntax.ttcons Syntax.tnil (Syntax.ttcons (Syntax.tcons (Syntax.tyInt Syntax.w8) Syntax.tnil) (Syntax.ttcons Syntax.tnil (Syntax.ttcons (Syntax.tcons (Syntax.tyInt Syntax.w8) Syntax.tnil) (Syntax.ttcons (Syntax.tcons (Syntax.tyInt Syntax.w8) Syntax.tnil) (Syntax.ttcons Syntax.tnil (Syntax.ttcons (Syntax.tcons (Syntax.tyInt Syntax.w8) Syntax.tnil) (Syntax.ttcons Syntax.tnil (Syntax.ttcons (Syntax.tcons (Syntax.tyEnum (List._∷_ 116 (List._∷_ 101 (List._∷_ 120 (List._∷_ 116 (List._∷_ 95 (List._∷_ 114 (List._∷_ 101 (List._∷_ 97 (List._∷_ 100 (List._∷_ 105 (List._∷_ 110 (List._∷_ 103 (List._∷_ 58 (List._∷_ 58 (List._∷_ 70 (List._∷_ 97 (List._∷_ 117 (List._∷_ 108 (List._∷_ 116 List.[]))))))))))))))))))) (Syntax.ttcons Syntax.tnil (Syntax.ttcons Syntax.tnil (Syntax.ttcons Syntax.tnil (Syntax.ttcons Syntax.tnil Syntax.ttnil))))) Syntax.tnil) Syntax.ttnil))))))))))) (Syntax.tcons (Syntax.tyArray (Syntax.tyInt Syntax.w8) 32) (Syntax.tcons (Syntax.tyInt Syntax.w64) Syntax.tnil))))))) (List._∷_ (7, Rows.any-gone (Syntax.tyInt Syntax.w64)) (List._∷_ (8, Rows.sc-here (Row.sInt Syntax.w64)) (List._∷_ (9, Rows.whole (Declared.row Turn.the-type)) (List._∷_ (10, Rows.any-gone (Syntax.tyStruct (List._∷_ 116 (List._∷_ 101 (List._∷_ 120 (List._∷_ 116 (List._∷_ 95 (List._∷_ 114 (List._∷_ 101 (List._∷_ 97 (List._∷_ 100 (List._∷_ 105 (List._∷_ 110 (List._∷_ 103 (List._∷_ 58 (List._∷_ 58 (List._∷_ 82 (List._∷_ 101 (List._∷_ 97 (List._∷_ 100 (List._∷_ 101 (List._∷_ 114 List.[])))))))))))))))))))) (Syntax.tcons (Syntax.tyInt Syntax.w8) (Syntax.tcons (Syntax.tyInt Syntax.w64) (Syntax.tcons (Syntax.tyEnum (List._∷_ 116 (List._∷_ 101 (List._∷_ 120 (List._∷_ 116 (List._∷_ 95 (List._∷_ 114 (List._∷_ 101 (List._∷_ 97 (List._∷_ 100 (List._∷_ 105 (List._∷_ 110 (List._∷_ 103 (List._∷_ 58 (List._∷_ 58 (List._∷_ 72 (List._∷_ 101 (List._∷_ 108 (List._∷_ 100 List.[])))))))))))))))))) (Syntax.ttcons Syntax.tnil (Syntax.ttcons Syntax.tnil (Syntax.ttcons (Syntax.tcons (Syntax.tyInt Syntax.w8) Syntax.tnil) (Syntax.ttcons Syntax.tnil (Syntax.ttcons (Syntax.tcons (Syntax.tyInt Syntax.w8) Syntax.tnil) (Syntax.ttcons (Syntax.tcons (Syntax.tyInt Syntax.w8) Syntax.tnil) (Syntax.ttcons Syntax.tnil (Syntax.ttcons (Syntax.tcons (Syntax.tyInt Syntax.w8) Syntax.tnil) (Syntax.ttcons Syntax.tnil (Syntax.ttcons (Syntax.tcons (Syntax.tyEnum (List._∷_ 116 (List._∷_ 101 (List._∷_ 120 (List._∷_ 116 (List._∷_ 95 (List._∷_ 114 (List._∷_ 101 (List._∷_ 97 (List._∷_ 100 (List._∷_ 105 (List._∷_ 110 (List._∷_ 103 (List._∷_ 58 (List._∷_ 58 (List._∷_ 70 (List._∷_ 97 (List._∷_ 117 (List._∷_ 108 (List._∷_ 116 List.[]))))))))))))))))))) (Syntax.ttcons Syntax.tnil (Syntax.ttcons Syntax.tnil (Syntax.ttcons Syntax.tnil (Syntax.ttcons Syntax.tnil Syntax.ttnil))))) Syntax.tnil) Syntax.ttnil))))))))))) (Syntax.tcons (Syntax.tyArray (Syntax.tyInt Syntax.w8) 32) (Syntax.tcons (Syntax.tyInt Syntax.w64) Syntax.tnil))))))) (List._∷_ (11, Rows.any-gone Syntax.tyBool) (List._∷_ (12, Rows.any-gone (Syntax.tyRef Syntax.erased Syntax.mut OfOutput.named)) (List._∷_ (13, Rows.any-gone (Syntax.tyStruct (List._∷_ 38 (List._∷_ 91 (List._∷_ 93 List.[]))) (Syntax.tcons (Syntax.tyRef Syntax.erased Syntax.mut OfOutput.named) (Syntax.tcons (Syntax.tyInt Syntax.w64) Syntax.tnil)))) (List._∷_ (14, Rows.any-gone (Syntax.tyRef Syntax.erased Syntax.mut OfStation.named)) (List._∷_ (15, Rows.any-gone (Syntax.tyStruct (List._∷_ 38 (List._∷_ 91 (List._∷_ 93 List.[]))) (Syntax.tcons (Syntax.tyRef Syntax.erased Syntax.mut OfStation.named) (Syntax.tcons (Syntax.tyInt Syntax.w64) Syntax.tnil)))) List.[])))))))))))))))
 
         abbrev G0 : Row.Cx
         G0 = record { locals = List._++_ t0 t1; slots = List._∷_ (Row.lease (κs .0) (qs .0)) (List._∷_ (Row.lease (κs .1 .0) (qs .1 .0)) (List._∷_ (Row.lease (κs .1 .1 .0) (qs .1 .1 .0)) (List._∷_ (Row.lease (κs .1 .1 .1 .0) (qs .1 .1 .1 .0)) (List._∷_ (Row.lease (κs .1 .1 .1 .1 .0) (qs .1 .1 .1 .1 .0)) (List._∷_ Row.off (List._∷_ Row.off (List._∷_ Row.off (List._∷_ Row.off (List._∷_ Row.off List.[]))))))))) }
@@ -1505,7 +1506,7 @@ module _ (claims· : Claims) where
           d43 = Typed.g-pre 𝓤 H A W 𝓣 E G37 G38 b38 Δ3 (λ Ψ. Ψ) (at42 bs) (Lifetime.g-forget 𝓤 H A W E G37 7 Row.dead Path'.refl) d42
 
           d44 : Typed.Typed 𝓤 H A 𝓣 E G36 b38 Δ3 (at44 bs)
-          d44 = Typed.g-pre 𝓤 H A W 𝓣 E G36 G37 b38 Δ3 (Typed.ask (s33 bs)) (at43 bs) (Reborrow.g-back-mref 𝓤 H A W E G36 16 3 2 7 (Referent.rtF (Referent.fInt Syntax.w64)) (Syntax.tyRef (Syntax.named 2) Syntax.mut (Syntax.tyInt Syntax.w64)) (Syntax.tyRef Syntax.erased Syntax.mut (Syntax.tyInt Syntax.w64)) (Row.lease (κs .1 .1 .0) (qs .1 .1 .0)) (λ x. x) (λ x. x) (Reads'.as-is 𝓤 H A (Rows.mleft (Referent.rtF (Referent.fInt Syntax.w64)) (Syntax.tyRef Syntax.erased Syntax.mut (Syntax.tyInt Syntax.w64)))) (Reads'.as-is 𝓤 H A (Rows.mref-owed (Referent.rtF (Referent.fInt Syntax.w64)) (Syntax.tyRef (Syntax.named 2) Syntax.mut (Syntax.tyInt Syntax.w64)) 2 7 (Row.lease (κs .1 .1 .0) (qs .1 .1 .0)))) Path'.refl Path'.refl) d43
+          d44 = Typed.g-pre 𝓤 H A W 𝓣 E G36 G37 b38 Δ3 (Typed.ask (s33 bs)) (at43 bs) (Reborrow.g-back-mref 𝓤 H A W E G36 16 3 2 7 (OfPanelRecord.row) (Syntax.tyRef (Syntax.named 2) Syntax.mut OfPanelRecord.named) (Syntax.tyRef Syntax.erased Syntax.mut OfPanelRecord.named) (Row.lease (κs .1 .1 .0) (qs .1 .1 .0)) (λ x. x) (λ x. x) (Reads'.as-is 𝓤 H A (Rows.mleft (OfPanelRecord.row) (Syntax.tyRef Syntax.erased Syntax.mut OfPanelRecord.named))) (Reads'.as-is 𝓤 H A (Rows.mref-owed (OfPanelRecord.row) (Syntax.tyRef (Syntax.named 2) Syntax.mut OfPanelRecord.named) 2 7 (Row.lease (κs .1 .1 .0) (qs .1 .1 .0)))) Path'.refl Path'.refl) d43
 
           d45 : Typed.Typed 𝓤 H A 𝓣 E G35 b38 Δ3 (at45 bs)
           d45 = Typed.g-pre 𝓤 H A W 𝓣 E G35 G36 b38 Δ3 (λ Ψ. Ψ) (at44 bs) (Lifetime.g-end 𝓤 H A W E G35 7 Path'.refl) d44
@@ -1535,7 +1536,7 @@ module _ (claims· : Claims) where
           d53 = Typed.g-pre 𝓤 H A W 𝓣 E G27 G28 b38 Δ3 (Typed.pass T27 T28 (s24 bs)) (at52 bs) (Scalar.g-room 𝓤 H A W E G27 6 (Syntax.tyStruct (List._∷_ 116 (List._∷_ 101 (List._∷_ 120 (List._∷_ 116 (List._∷_ 95 (List._∷_ 114 (List._∷_ 101 (List._∷_ 97 (List._∷_ 100 (List._∷_ 105 (List._∷_ 110 (List._∷_ 103 (List._∷_ 58 (List._∷_ 58 (List._∷_ 82 (List._∷_ 101 (List._∷_ 97 (List._∷_ 100 (List._∷_ 101 (List._∷_ 114 List.[])))))))))))))))))))) (Syntax.tcons (Syntax.tyInt Syntax.w8) (Syntax.tcons (Syntax.tyInt Syntax.w64) (Syntax.tcons (Syntax.tyEnum (List._∷_ 116 (List._∷_ 101 (List._∷_ 120 (List._∷_ 116 (List._∷_ 95 (List._∷_ 114 (List._∷_ 101 (List._∷_ 97 (List._∷_ 100 (List._∷_ 105 (List._∷_ 110 (List._∷_ 103 (List._∷_ 58 (List._∷_ 58 (List._∷_ 72 (List._∷_ 101 (List._∷_ 108 (List._∷_ 100 List.[])))))))))))))))))) (Syntax.ttcons Syntax.tnil (Syntax.ttcons Syntax.tnil (Syntax.ttcons (Syntax.tcons (Syntax.tyInt Syntax.w8) Syntax.tnil) (Syntax.ttcons Syntax.tnil (Syntax.ttcons (Syntax.tcons (Syntax.tyInt Syntax.w8) Syntax.tnil) (Syntax.ttcons (Syntax.tcons (Syntax.tyInt Syntax.w8) Syntax.tnil) (Syntax.ttcons Syntax.tnil (Syntax.ttcons (Syntax.tcons (Syntax.tyInt Syntax.w8) Syntax.tnil) (Syntax.ttcons Syntax.tnil (Syntax.ttcons (Syntax.tcons (Syntax.tyEnum (List._∷_ 116 (List._∷_ 101 (List._∷_ 120 (List._∷_ 116 (List._∷_ 95 (List._∷_ 114 (List._∷_ 101 (List._∷_ 97 (List._∷_ 100 (List._∷_ 105 (List._∷_ 110 (List._∷_ 103 (List._∷_ 58 (List._∷_ 58 (List._∷_ 70 (List._∷_ 97 (List._∷_ 117 (List._∷_ 108 (List._∷_ 116 List.[]))))))))))))))))))) (Syntax.ttcons Syntax.tnil (Syntax.ttcons Syntax.tnil (Syntax.ttcons Syntax.tnil (Syntax.ttcons Syntax.tnil Syntax.ttnil))))) Syntax.tnil) Syntax.ttnil))))))))))) (Syntax.tcons (Syntax.tyArray (Syntax.tyInt Syntax.w8) 32) (Syntax.tcons (Syntax.tyInt Syntax.w64) Syntax.tnil)))))) (Local.room-whole 𝓤 H A W (Declared.row Reader.the-type) (Syntax.tyStruct (List._∷_ 116 (List._∷_ 101 (List._∷_ 120 (List._∷_ 116 (List._∷_ 95 (List._∷_ 114 (List._∷_ 101 (List._∷_ 97 (List._∷_ 100 (List._∷_ 105 (List._∷_ 110 (List._∷_ 103 (List._∷_ 58 (List._∷_ 58 (List._∷_ 82 (List._∷_ 101 (List._∷_ 97 (List._∷_ 100 (List._∷_ 101 (List._∷_ 114 List.[])))))))))))))))))))) (Syntax.tcons (Syntax.tyInt Syntax.w8) (Syntax.tcons (Syntax.tyInt Syntax.w64) (Syntax.tcons (Syntax.tyEnum (List._∷_ 116 (List._∷_ 101 (List._∷_ 120 (List._∷_ 116 (List._∷_ 95 (List._∷_ 114 (List._∷_ 101 (List._∷_ 97 (List._∷_ 100 (List._∷_ 105 (List._∷_ 110 (List._∷_ 103 (List._∷_ 58 (List._∷_ 58 (List._∷_ 72 (List._∷_ 101 (List._∷_ 108 (List._∷_ 100 List.[])))))))))))))))))) (Syntax.ttcons Syntax.tnil (Syntax.ttcons Syntax.tnil (Syntax.ttcons (Syntax.tcons (Syntax.tyInt Syntax.w8) Syntax.tnil) (Syntax.ttcons Syntax.tnil (Syntax.ttcons (Syntax.tcons (Syntax.tyInt Syntax.w8) Syntax.tnil) (Syntax.ttcons (Syntax.tcons (Syntax.tyInt Syntax.w8) Syntax.tnil) (Syntax.ttcons Syntax.tnil (Syntax.ttcons (Syntax.tcons (Syntax.tyInt Syntax.w8) Syntax.tnil) (Syntax.ttcons Syntax.tnil (Syntax.ttcons (Syntax.tcons (Syntax.tyEnum (List._∷_ 116 (List._∷_ 101 (List._∷_ 120 (List._∷_ 116 (List._∷_ 95 (List._∷_ 114 (List._∷_ 101 (List._∷_ 97 (List._∷_ 100 (List._∷_ 105 (List._∷_ 110 (List._∷_ 103 (List._∷_ 58 (List._∷_ 58 (List._∷_ 70 (List._∷_ 97 (List._∷_ 117 (List._∷_ 108 (List._∷_ 116 List.[]))))))))))))))))))) (Syntax.ttcons Syntax.tnil (Syntax.ttcons Syntax.tnil (Syntax.ttcons Syntax.tnil (Syntax.ttcons Syntax.tnil Syntax.ttnil))))) Syntax.tnil) Syntax.ttnil))))))))))) (Syntax.tcons (Syntax.tyArray (Syntax.tyInt Syntax.w8) 32) (Syntax.tcons (Syntax.tyInt Syntax.w64) Syntax.tnil)))))) Path'.refl)) d52
 
           d54 : Typed.Typed 𝓤 H A 𝓣 E G26 b39 Δ3 (at54 bs)
-          d54 = Typed.s-seq 𝓤 H A W 𝓣 E G26 G27 b17 b38 Δ3 (Typed.both (s23 bs)) (at53 bs) (Plain.t-call-plain 𝓤 H A W 𝓣 5 ps·1 r·1 (claims· .2) (claims· .3) "replay_session::take_some" (known .1) E (λ pos β. β) G26 (record { pos = 13; ty = Syntax.tyRef Syntax.erased Syntax.mut OfOutput.named; ref = λ x. x }, (record { pos = 15; ty = Syntax.tyRef Syntax.erased Syntax.mut OfStation.named; ref = λ x. x }, (record { pos = 16; ty = Syntax.tyRef Syntax.erased Syntax.mut (Syntax.tyInt Syntax.w64); ref = λ x. x }, (record { pos = 18; ty = Syntax.tyRef Syntax.erased Syntax.mut (Syntax.tyInt Syntax.w8); ref = λ x. x }, (record { pos = 20; ty = Syntax.tyRef Syntax.erased Syntax.mut (Syntax.tyInt Syntax.w8); ref = λ x. x }, (Num.vAt 7 λ x. x, (record { pos = 6; st = List.[]; d = 0; at = λ x. x }, tt))))))) 9 (List._∷_ 5 (List._∷_ 6 (List._∷_ 7 (List._∷_ 8 (List._∷_ 9 List.[]))))) (Call.sub-id 𝓤 H A W (G26 .slots)) (Reads'.as-is 𝓤 H A (Mut.mslice (OfOutput.row) (Syntax.tyRef Syntax.erased Syntax.mut OfOutput.named) 5), Mut.reads-mslice 𝓤 H A W (OfOutput.row) (Syntax.tyRef Syntax.erased Syntax.mut OfOutput.named) 5, Path'.refl, (Reads'.as-is 𝓤 H A (Mut.mslice (OfStation.row) (Syntax.tyRef Syntax.erased Syntax.mut OfStation.named) 6), Mut.reads-mslice 𝓤 H A W (OfStation.row) (Syntax.tyRef Syntax.erased Syntax.mut OfStation.named) 6, Path'.refl, (Reads'.as-is 𝓤 H A (Rows.mref (Referent.rtF (Referent.fInt Syntax.w64)) (Syntax.tyRef Syntax.erased Syntax.mut (Syntax.tyInt Syntax.w64)) 7), Reads'.reads-mref 𝓤 H A W (Referent.rtF (Referent.fInt Syntax.w64)) (Syntax.tyRef Syntax.erased Syntax.mut (Syntax.tyInt Syntax.w64)) 7, Path'.refl, (Reads'.as-is 𝓤 H A (Mut.mslice (Referent.rtF (Referent.fInt Syntax.w8)) (Syntax.tyRef Syntax.erased Syntax.mut (Syntax.tyInt Syntax.w8)) 8), Mut.reads-mslice 𝓤 H A W (Referent.rtF (Referent.fInt Syntax.w8)) (Syntax.tyRef Syntax.erased Syntax.mut (Syntax.tyInt Syntax.w8)) 8, Path'.refl, (Reads'.as-is 𝓤 H A (Mut.mslice (Referent.rtF (Referent.fInt Syntax.w8)) (Syntax.tyRef Syntax.erased Syntax.mut (Syntax.tyInt Syntax.w8)) 9), Mut.reads-mslice 𝓤 H A W (Referent.rtF (Referent.fInt Syntax.w8)) (Syntax.tyRef Syntax.erased Syntax.mut (Syntax.tyInt Syntax.w8)) 9, Path'.refl, ((Scalar.reads-sc 𝓤 H A W (Row.sInt Syntax.w64), Path'.refl), ((Yields.yields-copy 𝓤 H A W (λ ρ. Unit) (Declared.row Reader.the-type) Path'.refl (Copies.cStruct Reader.the-type Laws'.the-laws Laws'.the-copy .copy 𝓤 H A W) (Rows.whole (Declared.row Reader.the-type)) (λ x. x) (λ x. x) (λ ρ told. Local.mem-whole 𝓤 H A W (Declared.row Reader.the-type) ρ) λ ρ told. Local.whole-mem 𝓤 H A W (Declared.row Reader.the-type) ρ, Path'.refl), tt))))))) (Reads'.room-gone 𝓤 H A (Laws.mir)) (tt, (tt, (tt, (tt, (tt, tt))))) Path'.refl) d53
+          d54 = Typed.s-seq 𝓤 H A W 𝓣 E G26 G27 b17 b38 Δ3 (Typed.both (s23 bs)) (at53 bs) (Plain.t-call-plain 𝓤 H A W 𝓣 5 ps·1 r·1 (claims· .2) (claims· .3) "replay_session::take_some" (known .1) E (λ pos β. β) G26 (record { pos = 13; ty = Syntax.tyRef Syntax.erased Syntax.mut OfOutput.named; ref = λ x. x }, (record { pos = 15; ty = Syntax.tyRef Syntax.erased Syntax.mut OfStation.named; ref = λ x. x }, (record { pos = 16; ty = Syntax.tyRef Syntax.erased Syntax.mut OfPanelRecord.named; ref = λ x. x }, (record { pos = 18; ty = Syntax.tyRef Syntax.erased Syntax.mut (Syntax.tyInt Syntax.w8); ref = λ x. x }, (record { pos = 20; ty = Syntax.tyRef Syntax.erased Syntax.mut (Syntax.tyInt Syntax.w8); ref = λ x. x }, (Num.vAt 7 λ x. x, (record { pos = 6; st = List.[]; d = 0; at = λ x. x }, tt))))))) 9 (List._∷_ 5 (List._∷_ 6 (List._∷_ 7 (List._∷_ 8 (List._∷_ 9 List.[]))))) (Call.sub-id 𝓤 H A W (G26 .slots)) (Reads'.as-is 𝓤 H A (Mut.mslice (OfOutput.row) (Syntax.tyRef Syntax.erased Syntax.mut OfOutput.named) 5), Mut.reads-mslice 𝓤 H A W (OfOutput.row) (Syntax.tyRef Syntax.erased Syntax.mut OfOutput.named) 5, Path'.refl, (Reads'.as-is 𝓤 H A (Mut.mslice (OfStation.row) (Syntax.tyRef Syntax.erased Syntax.mut OfStation.named) 6), Mut.reads-mslice 𝓤 H A W (OfStation.row) (Syntax.tyRef Syntax.erased Syntax.mut OfStation.named) 6, Path'.refl, (Reads'.as-is 𝓤 H A (Rows.mref (OfPanelRecord.row) (Syntax.tyRef Syntax.erased Syntax.mut OfPanelRecord.named) 7), Reads'.reads-mref 𝓤 H A W (OfPanelRecord.row) (Syntax.tyRef Syntax.erased Syntax.mut OfPanelRecord.named) 7, Path'.refl, (Reads'.as-is 𝓤 H A (Mut.mslice (Referent.rtF (Referent.fInt Syntax.w8)) (Syntax.tyRef Syntax.erased Syntax.mut (Syntax.tyInt Syntax.w8)) 8), Mut.reads-mslice 𝓤 H A W (Referent.rtF (Referent.fInt Syntax.w8)) (Syntax.tyRef Syntax.erased Syntax.mut (Syntax.tyInt Syntax.w8)) 8, Path'.refl, (Reads'.as-is 𝓤 H A (Mut.mslice (Referent.rtF (Referent.fInt Syntax.w8)) (Syntax.tyRef Syntax.erased Syntax.mut (Syntax.tyInt Syntax.w8)) 9), Mut.reads-mslice 𝓤 H A W (Referent.rtF (Referent.fInt Syntax.w8)) (Syntax.tyRef Syntax.erased Syntax.mut (Syntax.tyInt Syntax.w8)) 9, Path'.refl, ((Scalar.reads-sc 𝓤 H A W (Row.sInt Syntax.w64), Path'.refl), ((Yields.yields-copy 𝓤 H A W (λ ρ. Unit) (Declared.row Reader.the-type) Path'.refl (Copies.cStruct Reader.the-type Laws'.the-laws Laws'.the-copy .copy 𝓤 H A W) (Rows.whole (Declared.row Reader.the-type)) (λ x. x) (λ x. x) (λ ρ told. Local.mem-whole 𝓤 H A W (Declared.row Reader.the-type) ρ) λ ρ told. Local.whole-mem 𝓤 H A W (Declared.row Reader.the-type) ρ, Path'.refl), tt))))))) (Reads'.room-gone 𝓤 H A (Laws.mir)) (tt, (tt, (tt, (tt, (tt, tt))))) Path'.refl) d53
 
           d55 : Typed.Typed 𝓤 H A 𝓣 E G25 b40 Δ3 (at55 bs)
           d55 = Typed.s-seq 𝓤 H A W 𝓣 E G25 G26 b16 b39 Δ3 (Typed.ask (s22 bs)) (at54 bs) (Relend.t-sl-aggregate 𝓤 H A W E (Referent.rtF (Referent.fInt Syntax.w8)) 𝓣 (Relend.asMut (Referent.rtF (Referent.fInt Syntax.w8))) G25 19 20 9 (Syntax.tyRef Syntax.erased Syntax.mut (Syntax.tyInt Syntax.w8)) (Syntax.tyRef Syntax.erased Syntax.mut (Syntax.tyInt Syntax.w8)) (λ x. x) (Scalar.oFld 5 (List._∷_ (Syntax.field 1) List.[]) (Syntax.tyInt Syntax.w64) 8 λ v. Shared.lenV (v .0)) (Reads'.as-is 𝓤 H A (Relend.msptr (Referent.rtF (Referent.fInt Syntax.w8)) (Syntax.tyRef Syntax.erased Syntax.mut (Syntax.tyInt Syntax.w8)) 9)) (Reads'.room-gone 𝓤 H A (Syntax.tyStruct (List._∷_ 38 (List._∷_ 91 (List._∷_ 93 List.[]))) (Syntax.tcons (Syntax.tyRef Syntax.erased Syntax.mut (Syntax.tyInt Syntax.w8)) (Syntax.tcons (Syntax.tyInt Syntax.w64) Syntax.tnil)))) (Relend.reads-owed-len 𝓤 H A W (Referent.rtF (Referent.fInt Syntax.w8)) (Syntax.tyRef (Syntax.named 4) Syntax.mut (Syntax.tyInt Syntax.w8)) 4 9 (Row.lease (κs .1 .1 .1 .1 .0) (qs .1 .1 .1 .1 .0)) 8 Path'.refl, Path'.refl) Path'.refl Path'.refl λ b o k. tt) d54
@@ -1556,7 +1557,7 @@ module _ (claims· : Claims) where
           d60 = Typed.g-pre 𝓤 H A W 𝓣 E G20 G21 b43 Δ3 (λ Ψ. Ψ) (at59 bs) (Lifetime.g-begin 𝓤 H A W E G20 8 (tt, ((tt, tt), ((tt, tt), ((tt, tt), (tt, (tt, (tt, (tt, (tt, (tt, (tt, (tt, (tt, (tt, (tt, (tt, (tt, (tt, (tt, (tt, (tt, tt)))))))))))))))))))))) d59
 
           d61 : Typed.Typed 𝓤 H A 𝓣 E G19 b44 Δ3 (at61 bs)
-          d61 = Typed.s-seq 𝓤 H A W 𝓣 E G19 G20 b12 b43 Δ3 (Typed.give (s16 bs)) (at60 bs) (Reborrow.t-mref-relend 𝓤 H A W E 𝓣 G19 3 16 2 7 (Referent.rtF (Referent.fInt Syntax.w64)) (Syntax.tyInt Syntax.w64) (Syntax.tyRef (Syntax.named 2) Syntax.mut (Syntax.tyInt Syntax.w64)) (Syntax.tyRef Syntax.erased Syntax.mut (Syntax.tyInt Syntax.w64)) (Row.lease (κs .1 .1 .0) (qs .1 .1 .0)) (λ x. x) (Reads'.as-is 𝓤 H A (Rows.mref (Referent.rtF (Referent.fInt Syntax.w64)) (Syntax.tyRef (Syntax.named 2) Syntax.mut (Syntax.tyInt Syntax.w64)) 2)) (Reads'.room-gone 𝓤 H A (Syntax.tyRef Syntax.erased Syntax.mut (Syntax.tyInt Syntax.w64))) Path'.refl tt Path'.refl Path'.refl λ b o. tt) d60
+          d61 = Typed.s-seq 𝓤 H A W 𝓣 E G19 G20 b12 b43 Δ3 (Typed.give (s16 bs)) (at60 bs) (Reborrow.t-mref-relend 𝓤 H A W E 𝓣 G19 3 16 2 7 (OfPanelRecord.row) OfPanelRecord.spelt (Syntax.tyRef (Syntax.named 2) Syntax.mut OfPanelRecord.named) (Syntax.tyRef Syntax.erased Syntax.mut OfPanelRecord.named) (Row.lease (κs .1 .1 .0) (qs .1 .1 .0)) (λ x. x) (Reads'.as-is 𝓤 H A (Rows.mref (OfPanelRecord.row) (Syntax.tyRef (Syntax.named 2) Syntax.mut OfPanelRecord.named) 2)) (Reads'.room-gone 𝓤 H A (Syntax.tyRef Syntax.erased Syntax.mut OfPanelRecord.named)) Path'.refl tt Path'.refl Path'.refl λ b o. tt) d60
 
           d62 : Typed.Typed 𝓤 H A 𝓣 E G18 b44 Δ3 (at62 bs)
           d62 = Typed.g-pre 𝓤 H A W 𝓣 E G18 G19 b44 Δ3 (λ Ψ. Ψ) (at61 bs) (Lifetime.g-begin 𝓤 H A W E G18 7 (tt, ((tt, tt), ((tt, tt), (tt, (tt, (tt, (tt, (tt, (tt, (tt, (tt, (tt, (tt, (tt, (tt, (tt, (tt, (tt, (tt, (tt, (tt, tt)))))))))))))))))))))) d61
@@ -1651,7 +1652,9 @@ module _ (claims· : Claims) where
           pub stations : Kinds.Den {n = 5}
               κs
               (MutSlice.pMutS (OfStation.row) 1 tt)
-          pub time : Kinds.Den {n = 5} κs (Kinds.pMutF (Referent.fInt Syntax.w64) 2 tt)
+          pub kept : Kinds.Den {n = 5}
+              κs
+              (Kinds.pMut (OfPanelRecord.row) 2 tt)
           pub page : Kinds.Den {n = 5}
               κs
               (MutSlice.pMutS (Referent.rtF (Referent.fInt Syntax.w8)) 3 tt)
@@ -1660,7 +1663,7 @@ module _ (claims· : Claims) where
               (MutSlice.pMutS (Referent.rtF (Referent.fInt Syntax.w8)) 4 tt)
 
         abbrev pub dens : (a : Args) → Kinds.Dens κs ps
-        dens = λ a. (a .outputs, (a .stations, (a .time, (a .page, (a .chunk, tt)))))
+        dens = λ a. (a .outputs, (a .stations, (a .kept, (a .page, (a .chunk, tt)))))
 
       abbrev pub m0 :
           (κs : Lifetimes.Lfts 5) → (args : Args κs) → (blocks : List.List Nat.ℕ) → Typed.Mo T0
@@ -1777,63 +1780,63 @@ module _ (claims· : Claims) where
           (outputs : List.List (OfOutput.row .Denot)) →
           (stations : List.List
           (OfStation.row .Denot)) →
-          (time : Referent.rtF (Referent.fInt Syntax.w64) .Denot) →
+          (kept : OfPanelRecord.row .Denot) →
           (page : List.List (Referent.rtF (Referent.fInt Syntax.w8) .Denot)) →
           (chunk : List.List (Referent.rtF (Referent.fInt Syntax.w8) .Denot)) →
           (reader : Rows.whole (Declared.row Reader.the-type) .Mod) →
           (mark : Rows.sc-here (Row.sInt Syntax.w64) .Mod) →
           (turns : Rows.sc-here (Row.sInt Syntax.w64) .Mod) →
           Typed.Mo T6
-      m6 = λ before outputs stations time page chunk reader mark turns. Row.set 8 (8, Rows.sc-here (Row.sInt Syntax.w64)) turns (Row.setRow 7 (7, Rows.sc-here (Row.sInt Syntax.w64)) (Row.setRow 6 (6, Rows.whole (Declared.row Reader.the-type)) (Row.setRow 5 (5, Mut.mslice (Referent.rtF (Referent.fInt Syntax.w8)) (Syntax.tyRef (Syntax.named 4) Syntax.mut (Syntax.tyInt Syntax.w8)) 4) (Row.setRow 4 (4, Mut.mslice (Referent.rtF (Referent.fInt Syntax.w8)) (Syntax.tyRef (Syntax.named 3) Syntax.mut (Syntax.tyInt Syntax.w8)) 3) (Row.setRow 3 (3, Rows.mref (Referent.rtF (Referent.fInt Syntax.w64)) (Syntax.tyRef (Syntax.named 2) Syntax.mut (Syntax.tyInt Syntax.w64)) 2) (Row.setRow 2 (2, Mut.mslice (OfStation.row) (Syntax.tyRef (Syntax.named 1) Syntax.mut OfStation.named) 1) (Row.setRow 1 (1, Mut.mslice (OfOutput.row) (Syntax.tyRef (Syntax.named 0) Syntax.mut OfOutput.named) 0) (T6 .locals)))))))) (Row.set 7 (7, Rows.sc-here (Row.sInt Syntax.w64)) mark (Row.setRow 6 (6, Rows.whole (Declared.row Reader.the-type)) (Row.setRow 5 (5, Mut.mslice (Referent.rtF (Referent.fInt Syntax.w8)) (Syntax.tyRef (Syntax.named 4) Syntax.mut (Syntax.tyInt Syntax.w8)) 4) (Row.setRow 4 (4, Mut.mslice (Referent.rtF (Referent.fInt Syntax.w8)) (Syntax.tyRef (Syntax.named 3) Syntax.mut (Syntax.tyInt Syntax.w8)) 3) (Row.setRow 3 (3, Rows.mref (Referent.rtF (Referent.fInt Syntax.w64)) (Syntax.tyRef (Syntax.named 2) Syntax.mut (Syntax.tyInt Syntax.w64)) 2) (Row.setRow 2 (2, Mut.mslice (OfStation.row) (Syntax.tyRef (Syntax.named 1) Syntax.mut OfStation.named) 1) (Row.setRow 1 (1, Mut.mslice (OfOutput.row) (Syntax.tyRef (Syntax.named 0) Syntax.mut OfOutput.named) 0) (T6 .locals))))))) (Row.set 6 (6, Rows.whole (Declared.row Reader.the-type)) reader (Row.setRow 5 (5, Mut.mslice (Referent.rtF (Referent.fInt Syntax.w8)) (Syntax.tyRef (Syntax.named 4) Syntax.mut (Syntax.tyInt Syntax.w8)) 4) (Row.setRow 4 (4, Mut.mslice (Referent.rtF (Referent.fInt Syntax.w8)) (Syntax.tyRef (Syntax.named 3) Syntax.mut (Syntax.tyInt Syntax.w8)) 3) (Row.setRow 3 (3, Rows.mref (Referent.rtF (Referent.fInt Syntax.w64)) (Syntax.tyRef (Syntax.named 2) Syntax.mut (Syntax.tyInt Syntax.w64)) 2) (Row.setRow 2 (2, Mut.mslice (OfStation.row) (Syntax.tyRef (Syntax.named 1) Syntax.mut OfStation.named) 1) (Row.setRow 1 (1, Mut.mslice (OfOutput.row) (Syntax.tyRef (Syntax.named 0) Syntax.mut OfOutput.named) 0) (T6 .locals)))))) (Row.set 5 (5, Mut.mslice (Referent.rtF (Referent.fInt Syntax.w8)) (Syntax.tyRef (Syntax.named 4) Syntax.mut (Syntax.tyInt Syntax.w8)) 4) record { ptr = Row.get 5 (T6 .locals) (m5 (before .before) (After-fresh-reader·gave before)) .ptr; name = Row.get 5 (T6 .locals) (m5 (before .before) (After-fresh-reader·gave before)) .name; now = chunk } (Row.setRow 4 (4, Mut.mslice (Referent.rtF (Referent.fInt Syntax.w8)) (Syntax.tyRef (Syntax.named 3) Syntax.mut (Syntax.tyInt Syntax.w8)) 3) (Row.setRow 3 (3, Rows.mref (Referent.rtF (Referent.fInt Syntax.w64)) (Syntax.tyRef (Syntax.named 2) Syntax.mut (Syntax.tyInt Syntax.w64)) 2) (Row.setRow 2 (2, Mut.mslice (OfStation.row) (Syntax.tyRef (Syntax.named 1) Syntax.mut OfStation.named) 1) (Row.setRow 1 (1, Mut.mslice (OfOutput.row) (Syntax.tyRef (Syntax.named 0) Syntax.mut OfOutput.named) 0) (T6 .locals))))) (Row.set 4 (4, Mut.mslice (Referent.rtF (Referent.fInt Syntax.w8)) (Syntax.tyRef (Syntax.named 3) Syntax.mut (Syntax.tyInt Syntax.w8)) 3) record { ptr = Row.get 4 (T6 .locals) (m5 (before .before) (After-fresh-reader·gave before)) .ptr; name = Row.get 4 (T6 .locals) (m5 (before .before) (After-fresh-reader·gave before)) .name; now = page } (Row.setRow 3 (3, Rows.mref (Referent.rtF (Referent.fInt Syntax.w64)) (Syntax.tyRef (Syntax.named 2) Syntax.mut (Syntax.tyInt Syntax.w64)) 2) (Row.setRow 2 (2, Mut.mslice (OfStation.row) (Syntax.tyRef (Syntax.named 1) Syntax.mut OfStation.named) 1) (Row.setRow 1 (1, Mut.mslice (OfOutput.row) (Syntax.tyRef (Syntax.named 0) Syntax.mut OfOutput.named) 0) (T6 .locals)))) (Row.set 3 (3, Rows.mref (Referent.rtF (Referent.fInt Syntax.w64)) (Syntax.tyRef (Syntax.named 2) Syntax.mut (Syntax.tyInt Syntax.w64)) 2) record { ptr = Row.get 3 (T6 .locals) (m5 (before .before) (After-fresh-reader·gave before)) .ptr; name = Row.get 3 (T6 .locals) (m5 (before .before) (After-fresh-reader·gave before)) .name; now = time } (Row.setRow 2 (2, Mut.mslice (OfStation.row) (Syntax.tyRef (Syntax.named 1) Syntax.mut OfStation.named) 1) (Row.setRow 1 (1, Mut.mslice (OfOutput.row) (Syntax.tyRef (Syntax.named 0) Syntax.mut OfOutput.named) 0) (T6 .locals))) (Row.set 2 (2, Mut.mslice (OfStation.row) (Syntax.tyRef (Syntax.named 1) Syntax.mut OfStation.named) 1) record { ptr = Row.get 2 (T6 .locals) (m5 (before .before) (After-fresh-reader·gave before)) .ptr; name = Row.get 2 (T6 .locals) (m5 (before .before) (After-fresh-reader·gave before)) .name; now = stations } (Row.setRow 1 (1, Mut.mslice (OfOutput.row) (Syntax.tyRef (Syntax.named 0) Syntax.mut OfOutput.named) 0) (T6 .locals)) (Row.set 1 (1, Mut.mslice (OfOutput.row) (Syntax.tyRef (Syntax.named 0) Syntax.mut OfOutput.named) 0) record { ptr = Row.get 1 (T6 .locals) (m5 (before .before) (After-fresh-reader·gave before)) .ptr; name = Row.get 1 (T6 .locals) (m5 (before .before) (After-fresh-reader·gave before)) .name; now = outputs } (T6 .locals) (m5 (before .before) (After-fresh-reader·gave before)))))))))
+      m6 = λ before outputs stations kept page chunk reader mark turns. Row.set 8 (8, Rows.sc-here (Row.sInt Syntax.w64)) turns (Row.setRow 7 (7, Rows.sc-here (Row.sInt Syntax.w64)) (Row.setRow 6 (6, Rows.whole (Declared.row Reader.the-type)) (Row.setRow 5 (5, Mut.mslice (Referent.rtF (Referent.fInt Syntax.w8)) (Syntax.tyRef (Syntax.named 4) Syntax.mut (Syntax.tyInt Syntax.w8)) 4) (Row.setRow 4 (4, Mut.mslice (Referent.rtF (Referent.fInt Syntax.w8)) (Syntax.tyRef (Syntax.named 3) Syntax.mut (Syntax.tyInt Syntax.w8)) 3) (Row.setRow 3 (3, Rows.mref (OfPanelRecord.row) (Syntax.tyRef (Syntax.named 2) Syntax.mut OfPanelRecord.named) 2) (Row.setRow 2 (2, Mut.mslice (OfStation.row) (Syntax.tyRef (Syntax.named 1) Syntax.mut OfStation.named) 1) (Row.setRow 1 (1, Mut.mslice (OfOutput.row) (Syntax.tyRef (Syntax.named 0) Syntax.mut OfOutput.named) 0) (T6 .locals)))))))) (Row.set 7 (7, Rows.sc-here (Row.sInt Syntax.w64)) mark (Row.setRow 6 (6, Rows.whole (Declared.row Reader.the-type)) (Row.setRow 5 (5, Mut.mslice (Referent.rtF (Referent.fInt Syntax.w8)) (Syntax.tyRef (Syntax.named 4) Syntax.mut (Syntax.tyInt Syntax.w8)) 4) (Row.setRow 4 (4, Mut.mslice (Referent.rtF (Referent.fInt Syntax.w8)) (Syntax.tyRef (Syntax.named 3) Syntax.mut (Syntax.tyInt Syntax.w8)) 3) (Row.setRow 3 (3, Rows.mref (OfPanelRecord.row) (Syntax.tyRef (Syntax.named 2) Syntax.mut OfPanelRecord.named) 2) (Row.setRow 2 (2, Mut.mslice (OfStation.row) (Syntax.tyRef (Syntax.named 1) Syntax.mut OfStation.named) 1) (Row.setRow 1 (1, Mut.mslice (OfOutput.row) (Syntax.tyRef (Syntax.named 0) Syntax.mut OfOutput.named) 0) (T6 .locals))))))) (Row.set 6 (6, Rows.whole (Declared.row Reader.the-type)) reader (Row.setRow 5 (5, Mut.mslice (Referent.rtF (Referent.fInt Syntax.w8)) (Syntax.tyRef (Syntax.named 4) Syntax.mut (Syntax.tyInt Syntax.w8)) 4) (Row.setRow 4 (4, Mut.mslice (Referent.rtF (Referent.fInt Syntax.w8)) (Syntax.tyRef (Syntax.named 3) Syntax.mut (Syntax.tyInt Syntax.w8)) 3) (Row.setRow 3 (3, Rows.mref (OfPanelRecord.row) (Syntax.tyRef (Syntax.named 2) Syntax.mut OfPanelRecord.named) 2) (Row.setRow 2 (2, Mut.mslice (OfStation.row) (Syntax.tyRef (Syntax.named 1) Syntax.mut OfStation.named) 1) (Row.setRow 1 (1, Mut.mslice (OfOutput.row) (Syntax.tyRef (Syntax.named 0) Syntax.mut OfOutput.named) 0) (T6 .locals)))))) (Row.set 5 (5, Mut.mslice (Referent.rtF (Referent.fInt Syntax.w8)) (Syntax.tyRef (Syntax.named 4) Syntax.mut (Syntax.tyInt Syntax.w8)) 4) record { ptr = Row.get 5 (T6 .locals) (m5 (before .before) (After-fresh-reader·gave before)) .ptr; name = Row.get 5 (T6 .locals) (m5 (before .before) (After-fresh-reader·gave before)) .name; now = chunk } (Row.setRow 4 (4, Mut.mslice (Referent.rtF (Referent.fInt Syntax.w8)) (Syntax.tyRef (Syntax.named 3) Syntax.mut (Syntax.tyInt Syntax.w8)) 3) (Row.setRow 3 (3, Rows.mref (OfPanelRecord.row) (Syntax.tyRef (Syntax.named 2) Syntax.mut OfPanelRecord.named) 2) (Row.setRow 2 (2, Mut.mslice (OfStation.row) (Syntax.tyRef (Syntax.named 1) Syntax.mut OfStation.named) 1) (Row.setRow 1 (1, Mut.mslice (OfOutput.row) (Syntax.tyRef (Syntax.named 0) Syntax.mut OfOutput.named) 0) (T6 .locals))))) (Row.set 4 (4, Mut.mslice (Referent.rtF (Referent.fInt Syntax.w8)) (Syntax.tyRef (Syntax.named 3) Syntax.mut (Syntax.tyInt Syntax.w8)) 3) record { ptr = Row.get 4 (T6 .locals) (m5 (before .before) (After-fresh-reader·gave before)) .ptr; name = Row.get 4 (T6 .locals) (m5 (before .before) (After-fresh-reader·gave before)) .name; now = page } (Row.setRow 3 (3, Rows.mref (OfPanelRecord.row) (Syntax.tyRef (Syntax.named 2) Syntax.mut OfPanelRecord.named) 2) (Row.setRow 2 (2, Mut.mslice (OfStation.row) (Syntax.tyRef (Syntax.named 1) Syntax.mut OfStation.named) 1) (Row.setRow 1 (1, Mut.mslice (OfOutput.row) (Syntax.tyRef (Syntax.named 0) Syntax.mut OfOutput.named) 0) (T6 .locals)))) (Row.set 3 (3, Rows.mref (OfPanelRecord.row) (Syntax.tyRef (Syntax.named 2) Syntax.mut OfPanelRecord.named) 2) record { ptr = Row.get 3 (T6 .locals) (m5 (before .before) (After-fresh-reader·gave before)) .ptr; name = Row.get 3 (T6 .locals) (m5 (before .before) (After-fresh-reader·gave before)) .name; now = kept } (Row.setRow 2 (2, Mut.mslice (OfStation.row) (Syntax.tyRef (Syntax.named 1) Syntax.mut OfStation.named) 1) (Row.setRow 1 (1, Mut.mslice (OfOutput.row) (Syntax.tyRef (Syntax.named 0) Syntax.mut OfOutput.named) 0) (T6 .locals))) (Row.set 2 (2, Mut.mslice (OfStation.row) (Syntax.tyRef (Syntax.named 1) Syntax.mut OfStation.named) 1) record { ptr = Row.get 2 (T6 .locals) (m5 (before .before) (After-fresh-reader·gave before)) .ptr; name = Row.get 2 (T6 .locals) (m5 (before .before) (After-fresh-reader·gave before)) .name; now = stations } (Row.setRow 1 (1, Mut.mslice (OfOutput.row) (Syntax.tyRef (Syntax.named 0) Syntax.mut OfOutput.named) 0) (T6 .locals)) (Row.set 1 (1, Mut.mslice (OfOutput.row) (Syntax.tyRef (Syntax.named 0) Syntax.mut OfOutput.named) 0) record { ptr = Row.get 1 (T6 .locals) (m5 (before .before) (After-fresh-reader·gave before)) .ptr; name = Row.get 1 (T6 .locals) (m5 (before .before) (After-fresh-reader·gave before)) .name; now = outputs } (T6 .locals) (m5 (before .before) (After-fresh-reader·gave before)))))))))
 
       abbrev W3 :
           (before : After-fresh-reader) →
           (outputs : List.List (OfOutput.row .Denot)) →
           (stations : List.List
           (OfStation.row .Denot)) →
-          (time : Referent.rtF (Referent.fInt Syntax.w64) .Denot) →
+          (kept : OfPanelRecord.row .Denot) →
           (page : List.List (Referent.rtF (Referent.fInt Syntax.w8) .Denot)) →
           (chunk : List.List (Referent.rtF (Referent.fInt Syntax.w8) .Denot)) →
           (reader : Rows.whole (Declared.row Reader.the-type) .Mod) →
           (mark : Rows.sc-here (Row.sInt Syntax.w64) .Mod) →
           (turns : Rows.sc-here (Row.sInt Syntax.w64) .Mod) →
           Typed.Want O3
-      W3 = λ before outputs stations time page chunk reader mark turns. Typed.inLoop T6 O2 (Typed.Round T6 O2 put0 (λ u vs. Inv·0 (Row.get 1 (T6 .locals) u .now) (Row.get 2 (T6 .locals) u .now) (Row.get 3 (T6 .locals) u .now) (Row.get 4 (T6 .locals) u .now) (Row.get 5 (T6 .locals) u .now) (Row.get 6 (T6 .locals) u) (Row.get 7 (T6 .locals) u) (Row.get 8 (T6 .locals) u) (vs .0) (vs .1) (vs .2) (vs .3) (vs .4) (vs .5) (vs .6) (vs .7)) (λ u vs. μ·0 (Row.get 1 (T6 .locals) u .now) (Row.get 2 (T6 .locals) u .now) (Row.get 3 (T6 .locals) u .now) (Row.get 4 (T6 .locals) u .now) (Row.get 5 (T6 .locals) u .now) (Row.get 6 (T6 .locals) u) (Row.get 7 (T6 .locals) u) (Row.get 8 (T6 .locals) u) (vs .0) (vs .1) (vs .2) (vs .3) (vs .4) (vs .5) (vs .6) (vs .7)) (at71 (before .before .before .before .blocks)) (m5 (before .before) (After-fresh-reader·gave before)) (outputs, stations, time, page, chunk, reader, mark, turns)) (W2 (before .before) (After-fresh-reader·gave before))
+      W3 = λ before outputs stations kept page chunk reader mark turns. Typed.inLoop T6 O2 (Typed.Round T6 O2 put0 (λ u vs. Inv·0 (Row.get 1 (T6 .locals) u .now) (Row.get 2 (T6 .locals) u .now) (Row.get 3 (T6 .locals) u .now) (Row.get 4 (T6 .locals) u .now) (Row.get 5 (T6 .locals) u .now) (Row.get 6 (T6 .locals) u) (Row.get 7 (T6 .locals) u) (Row.get 8 (T6 .locals) u) (vs .0) (vs .1) (vs .2) (vs .3) (vs .4) (vs .5) (vs .6) (vs .7)) (λ u vs. μ·0 (Row.get 1 (T6 .locals) u .now) (Row.get 2 (T6 .locals) u .now) (Row.get 3 (T6 .locals) u .now) (Row.get 4 (T6 .locals) u .now) (Row.get 5 (T6 .locals) u .now) (Row.get 6 (T6 .locals) u) (Row.get 7 (T6 .locals) u) (Row.get 8 (T6 .locals) u) (vs .0) (vs .1) (vs .2) (vs .3) (vs .4) (vs .5) (vs .6) (vs .7)) (at71 (before .before .before .before .blocks)) (m5 (before .before) (After-fresh-reader·gave before)) (outputs, stations, kept, page, chunk, reader, mark, turns)) (W2 (before .before) (After-fresh-reader·gave before))
 
       abbrev pub m7 :
           (before : After-fresh-reader) →
           (outputs : List.List (OfOutput.row .Denot)) →
           (stations : List.List
           (OfStation.row .Denot)) →
-          (time : Referent.rtF (Referent.fInt Syntax.w64) .Denot) →
+          (kept : OfPanelRecord.row .Denot) →
           (page : List.List (Referent.rtF (Referent.fInt Syntax.w8) .Denot)) →
           (chunk : List.List (Referent.rtF (Referent.fInt Syntax.w8) .Denot)) →
           (reader : Rows.whole (Declared.row Reader.the-type) .Mod) →
           (mark : Rows.sc-here (Row.sInt Syntax.w64) .Mod) →
           (turns : Rows.sc-here (Row.sInt Syntax.w64) .Mod) →
           Typed.Mo T8
-      m7 = λ before outputs stations time page chunk reader mark turns. s5 (before .before .before .before .blocks) .next (m6 before outputs stations time page chunk reader mark turns)
+      m7 = λ before outputs stations kept page chunk reader mark turns. s5 (before .before .before .before .blocks) .next (m6 before outputs stations kept page chunk reader mark turns)
 
       abbrev W4 :
           (before : After-fresh-reader) →
           (outputs : List.List (OfOutput.row .Denot)) →
           (stations : List.List
           (OfStation.row .Denot)) →
-          (time : Referent.rtF (Referent.fInt Syntax.w64) .Denot) →
+          (kept : OfPanelRecord.row .Denot) →
           (page : List.List (Referent.rtF (Referent.fInt Syntax.w8) .Denot)) →
           (chunk : List.List (Referent.rtF (Referent.fInt Syntax.w8) .Denot)) →
           (reader : Rows.whole (Declared.row Reader.the-type) .Mod) →
           (mark : Rows.sc-here (Row.sInt Syntax.w64) .Mod) →
           (turns : Rows.sc-here (Row.sInt Syntax.w64) .Mod) →
           Typed.Want O4
-      W4 = λ before outputs stations time page chunk reader mark turns. Typed.wantNext T9 O3 (at69 (before .before .before .before .blocks) (W3 before outputs stations time page chunk reader mark turns)) (W3 before outputs stations time page chunk reader mark turns)
+      W4 = λ before outputs stations kept page chunk reader mark turns. Typed.wantNext T9 O3 (at69 (before .before .before .before .blocks) (W3 before outputs stations kept page chunk reader mark turns)) (W3 before outputs stations kept page chunk reader mark turns)
 
       module _ (before· : After-fresh-reader) where
         pub record At-loop·own : Type 0 where
           pub outputs : List.List (OfOutput.row .Denot)
           pub stations : List.List
               (OfStation.row .Denot)
-          pub time : Referent.rtF (Referent.fInt Syntax.w64) .Denot
+          pub kept : OfPanelRecord.row .Denot
           pub page : List.List (Referent.rtF (Referent.fInt Syntax.w8) .Denot)
           pub chunk : List.List (Referent.rtF (Referent.fInt Syntax.w8) .Denot)
           pub reader : Rows.whole (Declared.row Reader.the-type) .Mod
@@ -1865,7 +1868,7 @@ module _ (claims· : Claims) where
               (Row.get 8 (T6 .locals) (m5 (before· .before) (After-fresh-reader·gave before·)))
               outputs
               stations
-              time
+              kept
               page
               chunk
               reader
@@ -1887,7 +1890,7 @@ module _ (claims· : Claims) where
               (before· .before)
               (before· .loop .outputs)
               (before· .loop .stations)
-              (before· .loop .time)
+              (before· .loop .kept)
               (before· .loop .page)
               (before· .loop .chunk)
               (before· .loop .reader)
@@ -1899,7 +1902,7 @@ module _ (claims· : Claims) where
         pub loop-test : In-loop·own before
 
       abbrev pub m8 : (before : At-loop) → Typed.Mo T10
-      m8 = λ before. s6 (before .before .before .before .before .blocks) (m7 (before .before) (before .loop .outputs) (before .loop .stations) (before .loop .time) (before .loop .page) (before .loop .chunk) (before .loop .reader) (before .loop .mark) (before .loop .turns))
+      m8 = λ before. s6 (before .before .before .before .before .blocks) (m7 (before .before) (before .loop .outputs) (before .loop .stations) (before .loop .kept) (before .loop .page) (before .loop .chunk) (before .loop .reader) (before .loop .mark) (before .loop .turns))
 
       module _ (before· : At-loop) where
         pub record After-loop·own : Type 0 where
@@ -1911,7 +1914,7 @@ module _ (claims· : Claims) where
               (before· .before)
               (before· .loop .outputs)
               (before· .loop .stations)
-              (before· .loop .time)
+              (before· .loop .kept)
               (before· .loop .page)
               (before· .loop .chunk)
               (before· .loop .reader)
@@ -1924,7 +1927,7 @@ module _ (claims· : Claims) where
         pub loop-test : After-loop·own before
 
       abbrev pub m9 : (before : At-loop) → Typed.Mo T11
-      m9 = λ before. s7 (before .before .before .before .before .blocks) (m7 (before .before) (before .loop .outputs) (before .loop .stations) (before .loop .time) (before .loop .page) (before .loop .chunk) (before .loop .reader) (before .loop .mark) (before .loop .turns))
+      m9 = λ before. s7 (before .before .before .before .before .blocks) (m7 (before .before) (before .loop .outputs) (before .loop .stations) (before .loop .kept) (before .loop .page) (before .loop .chunk) (before .loop .reader) (before .loop .mark) (before .loop .turns))
 
       abbrev pub Need-sub-turns : Type 0
       Need-sub-turns = (c : In-loop) → s8 (c .before .before .before .before .before .blocks) .asks (m8 (c .before))
@@ -2063,7 +2066,7 @@ module _ (claims· : Claims) where
 
       module _ (before· : After-take-some-arg5) where
         abbrev pub After-take-some·own : Type 0
-        After-take-some·own = Called.Called ps·1 r·1 (claims· .3) T26 (record { pos = 13; ty = Syntax.tyRef Syntax.erased Syntax.mut OfOutput.named; ref = λ x. x }, (record { pos = 15; ty = Syntax.tyRef Syntax.erased Syntax.mut OfStation.named; ref = λ x. x }, (record { pos = 16; ty = Syntax.tyRef Syntax.erased Syntax.mut (Syntax.tyInt Syntax.w64); ref = λ x. x }, (record { pos = 18; ty = Syntax.tyRef Syntax.erased Syntax.mut (Syntax.tyInt Syntax.w8); ref = λ x. x }, (record { pos = 20; ty = Syntax.tyRef Syntax.erased Syntax.mut (Syntax.tyInt Syntax.w8); ref = λ x. x }, (Num.vAt 7 λ x. x, (record { pos = 6; st = List.[]; d = 0; at = λ x. x }, tt))))))) (m19 (before· .before) (before· .take-some-arg5 .given))
+        After-take-some·own = Called.Called ps·1 r·1 (claims· .3) T26 (record { pos = 13; ty = Syntax.tyRef Syntax.erased Syntax.mut OfOutput.named; ref = λ x. x }, (record { pos = 15; ty = Syntax.tyRef Syntax.erased Syntax.mut OfStation.named; ref = λ x. x }, (record { pos = 16; ty = Syntax.tyRef Syntax.erased Syntax.mut OfPanelRecord.named; ref = λ x. x }, (record { pos = 18; ty = Syntax.tyRef Syntax.erased Syntax.mut (Syntax.tyInt Syntax.w8); ref = λ x. x }, (record { pos = 20; ty = Syntax.tyRef Syntax.erased Syntax.mut (Syntax.tyInt Syntax.w8); ref = λ x. x }, (Num.vAt 7 λ x. x, (record { pos = 6; st = List.[]; d = 0; at = λ x. x }, tt))))))) (m19 (before· .before) (before· .take-some-arg5 .given))
 
       pub record After-take-some : Type 0 where
         pub before : After-take-some-arg5
@@ -2073,7 +2076,7 @@ module _ (claims· : Claims) where
           (c : After-take-some) → s23
           (c .before .before .before .before .before .before .before .before .before .before
           .before .blocks) .gives (m19 (c .before .before) (c .before .take-some-arg5 .given))
-      After-take-some·gave = λ c. Called.given ps·1 r·1 (claims· .3) T26 (record { pos = 13; ty = Syntax.tyRef Syntax.erased Syntax.mut OfOutput.named; ref = λ x. x }, (record { pos = 15; ty = Syntax.tyRef Syntax.erased Syntax.mut OfStation.named; ref = λ x. x }, (record { pos = 16; ty = Syntax.tyRef Syntax.erased Syntax.mut (Syntax.tyInt Syntax.w64); ref = λ x. x }, (record { pos = 18; ty = Syntax.tyRef Syntax.erased Syntax.mut (Syntax.tyInt Syntax.w8); ref = λ x. x }, (record { pos = 20; ty = Syntax.tyRef Syntax.erased Syntax.mut (Syntax.tyInt Syntax.w8); ref = λ x. x }, (Num.vAt 7 λ x. x, (record { pos = 6; st = List.[]; d = 0; at = λ x. x }, tt))))))) (m19 (c .before .before) (c .before .take-some-arg5 .given)) (c .take-some)
+      After-take-some·gave = λ c. Called.given ps·1 r·1 (claims· .3) T26 (record { pos = 13; ty = Syntax.tyRef Syntax.erased Syntax.mut OfOutput.named; ref = λ x. x }, (record { pos = 15; ty = Syntax.tyRef Syntax.erased Syntax.mut OfStation.named; ref = λ x. x }, (record { pos = 16; ty = Syntax.tyRef Syntax.erased Syntax.mut OfPanelRecord.named; ref = λ x. x }, (record { pos = 18; ty = Syntax.tyRef Syntax.erased Syntax.mut (Syntax.tyInt Syntax.w8); ref = λ x. x }, (record { pos = 20; ty = Syntax.tyRef Syntax.erased Syntax.mut (Syntax.tyInt Syntax.w8); ref = λ x. x }, (Num.vAt 7 λ x. x, (record { pos = 6; st = List.[]; d = 0; at = λ x. x }, tt))))))) (m19 (c .before .before) (c .before .take-some-arg5 .given)) (c .take-some)
 
       abbrev pub m21 :
           (before : After-take-some-arg5) → (given : s23
@@ -2260,7 +2263,7 @@ module _ (claims· : Claims) where
           (before .before .before .before .before .before .before .before .before .before .before
           .before .before .before .before .before .before .before .before .blocks) .gives (m33
           (before .before) (before .next .given))) → Typed.Want O5
-      W5 = λ before given. Typed.wantNext T53 O3 (at27 (before .before .before .before .before .before .before .before .before .before .before .before .before .before .before .before .before .before .before .blocks) (W3 (before .before .before .before .before .before .before .before .before .before .before .before .before .before .before .before) (before .before .before .before .before .before .before .before .before .before .before .before .before .before .before .loop .outputs) (before .before .before .before .before .before .before .before .before .before .before .before .before .before .before .loop .stations) (before .before .before .before .before .before .before .before .before .before .before .before .before .before .before .loop .time) (before .before .before .before .before .before .before .before .before .before .before .before .before .before .before .loop .page) (before .before .before .before .before .before .before .before .before .before .before .before .before .before .before .loop .chunk) (before .before .before .before .before .before .before .before .before .before .before .before .before .before .before .loop .reader) (before .before .before .before .before .before .before .before .before .before .before .before .before .before .before .loop .mark) (before .before .before .before .before .before .before .before .before .before .before .before .before .before .before .loop .turns))) (W3 (before .before .before .before .before .before .before .before .before .before .before .before .before .before .before .before) (before .before .before .before .before .before .before .before .before .before .before .before .before .before .before .loop .outputs) (before .before .before .before .before .before .before .before .before .before .before .before .before .before .before .loop .stations) (before .before .before .before .before .before .before .before .before .before .before .before .before .before .before .loop .time) (before .before .before .before .before .before .before .before .before .before .before .before .before .before .before .loop .page) (before .before .before .before .before .before .before .before .before .before .before .before .before .before .before .loop .chunk) (before .before .before .before .before .before .before .before .before .before .before .before .before .before .before .loop .reader) (before .before .before .before .before .before .before .before .before .before .before .before .before .before .before .loop .mark) (before .before .before .before .before .before .before .before .before .before .before .before .before .before .before .loop .turns))
+      W5 = λ before given. Typed.wantNext T53 O3 (at27 (before .before .before .before .before .before .before .before .before .before .before .before .before .before .before .before .before .before .before .blocks) (W3 (before .before .before .before .before .before .before .before .before .before .before .before .before .before .before .before) (before .before .before .before .before .before .before .before .before .before .before .before .before .before .before .loop .outputs) (before .before .before .before .before .before .before .before .before .before .before .before .before .before .before .loop .stations) (before .before .before .before .before .before .before .before .before .before .before .before .before .before .before .loop .kept) (before .before .before .before .before .before .before .before .before .before .before .before .before .before .before .loop .page) (before .before .before .before .before .before .before .before .before .before .before .before .before .before .before .loop .chunk) (before .before .before .before .before .before .before .before .before .before .before .before .before .before .before .loop .reader) (before .before .before .before .before .before .before .before .before .before .before .before .before .before .before .loop .mark) (before .before .before .before .before .before .before .before .before .before .before .before .before .before .before .loop .turns))) (W3 (before .before .before .before .before .before .before .before .before .before .before .before .before .before .before .before) (before .before .before .before .before .before .before .before .before .before .before .before .before .before .before .loop .outputs) (before .before .before .before .before .before .before .before .before .before .before .before .before .before .before .loop .stations) (before .before .before .before .before .before .before .before .before .before .before .before .before .before .before .loop .kept) (before .before .before .before .before .before .before .before .before .before .before .before .before .before .before .loop .page) (before .before .before .before .before .before .before .before .before .before .before .before .before .before .before .loop .chunk) (before .before .before .before .before .before .before .before .before .before .before .before .before .before .before .loop .reader) (before .before .before .before .before .before .before .before .before .before .before .before .before .before .before .loop .mark) (before .before .before .before .before .before .before .before .before .before .before .before .before .before .before .loop .turns))
 
       module _ (before· : After-next) where
         pub record After-struct-known·own : Type 0 where
@@ -2416,7 +2419,7 @@ module _ (claims· : Claims) where
         pub if2 : Else2·own before
 
       abbrev pub Need-loop-less : Type 0
-      Need-loop-less = (c : Else2) → Nat._<_ (μ·0 (Row.get 1 (T6 .locals) (m5 (c .before .before .before .before .before .before .before .before .before .before .before .before .before .before .before .before .before .before .before .before) (After-fresh-reader·gave (c .before .before .before .before .before .before .before .before .before .before .before .before .before .before .before .before .before .before .before))) .now) (Row.get 2 (T6 .locals) (m5 (c .before .before .before .before .before .before .before .before .before .before .before .before .before .before .before .before .before .before .before .before) (After-fresh-reader·gave (c .before .before .before .before .before .before .before .before .before .before .before .before .before .before .before .before .before .before .before))) .now) (Row.get 3 (T6 .locals) (m5 (c .before .before .before .before .before .before .before .before .before .before .before .before .before .before .before .before .before .before .before .before) (After-fresh-reader·gave (c .before .before .before .before .before .before .before .before .before .before .before .before .before .before .before .before .before .before .before))) .now) (Row.get 4 (T6 .locals) (m5 (c .before .before .before .before .before .before .before .before .before .before .before .before .before .before .before .before .before .before .before .before) (After-fresh-reader·gave (c .before .before .before .before .before .before .before .before .before .before .before .before .before .before .before .before .before .before .before))) .now) (Row.get 5 (T6 .locals) (m5 (c .before .before .before .before .before .before .before .before .before .before .before .before .before .before .before .before .before .before .before .before) (After-fresh-reader·gave (c .before .before .before .before .before .before .before .before .before .before .before .before .before .before .before .before .before .before .before))) .now) (Row.get 6 (T6 .locals) (m5 (c .before .before .before .before .before .before .before .before .before .before .before .before .before .before .before .before .before .before .before .before) (After-fresh-reader·gave (c .before .before .before .before .before .before .before .before .before .before .before .before .before .before .before .before .before .before .before)))) (Row.get 7 (T6 .locals) (m5 (c .before .before .before .before .before .before .before .before .before .before .before .before .before .before .before .before .before .before .before .before) (After-fresh-reader·gave (c .before .before .before .before .before .before .before .before .before .before .before .before .before .before .before .before .before .before .before)))) (Row.get 8 (T6 .locals) (m5 (c .before .before .before .before .before .before .before .before .before .before .before .before .before .before .before .before .before .before .before .before) (After-fresh-reader·gave (c .before .before .before .before .before .before .before .before .before .before .before .before .before .before .before .before .before .before .before)))) (Row.get 1 (T6 .locals) (m52 (c .before)) .now) (Row.get 2 (T6 .locals) (m52 (c .before)) .now) (Row.get 3 (T6 .locals) (m52 (c .before)) .now) (Row.get 4 (T6 .locals) (m52 (c .before)) .now) (Row.get 5 (T6 .locals) (m52 (c .before)) .now) (Row.get 6 (T6 .locals) (m52 (c .before))) (Row.get 7 (T6 .locals) (m52 (c .before))) (Row.get 8 (T6 .locals) (m52 (c .before)))) (μ·0 (Row.get 1 (T6 .locals) (m5 (c .before .before .before .before .before .before .before .before .before .before .before .before .before .before .before .before .before .before .before .before) (After-fresh-reader·gave (c .before .before .before .before .before .before .before .before .before .before .before .before .before .before .before .before .before .before .before))) .now) (Row.get 2 (T6 .locals) (m5 (c .before .before .before .before .before .before .before .before .before .before .before .before .before .before .before .before .before .before .before .before) (After-fresh-reader·gave (c .before .before .before .before .before .before .before .before .before .before .before .before .before .before .before .before .before .before .before))) .now) (Row.get 3 (T6 .locals) (m5 (c .before .before .before .before .before .before .before .before .before .before .before .before .before .before .before .before .before .before .before .before) (After-fresh-reader·gave (c .before .before .before .before .before .before .before .before .before .before .before .before .before .before .before .before .before .before .before))) .now) (Row.get 4 (T6 .locals) (m5 (c .before .before .before .before .before .before .before .before .before .before .before .before .before .before .before .before .before .before .before .before) (After-fresh-reader·gave (c .before .before .before .before .before .before .before .before .before .before .before .before .before .before .before .before .before .before .before))) .now) (Row.get 5 (T6 .locals) (m5 (c .before .before .before .before .before .before .before .before .before .before .before .before .before .before .before .before .before .before .before .before) (After-fresh-reader·gave (c .before .before .before .before .before .before .before .before .before .before .before .before .before .before .before .before .before .before .before))) .now) (Row.get 6 (T6 .locals) (m5 (c .before .before .before .before .before .before .before .before .before .before .before .before .before .before .before .before .before .before .before .before) (After-fresh-reader·gave (c .before .before .before .before .before .before .before .before .before .before .before .before .before .before .before .before .before .before .before)))) (Row.get 7 (T6 .locals) (m5 (c .before .before .before .before .before .before .before .before .before .before .before .before .before .before .before .before .before .before .before .before) (After-fresh-reader·gave (c .before .before .before .before .before .before .before .before .before .before .before .before .before .before .before .before .before .before .before)))) (Row.get 8 (T6 .locals) (m5 (c .before .before .before .before .before .before .before .before .before .before .before .before .before .before .before .before .before .before .before .before) (After-fresh-reader·gave (c .before .before .before .before .before .before .before .before .before .before .before .before .before .before .before .before .before .before .before)))) (c .before .before .before .before .before .before .before .before .before .before .before .before .before .before .before .before .before .before .loop .outputs) (c .before .before .before .before .before .before .before .before .before .before .before .before .before .before .before .before .before .before .loop .stations) (c .before .before .before .before .before .before .before .before .before .before .before .before .before .before .before .before .before .before .loop .time) (c .before .before .before .before .before .before .before .before .before .before .before .before .before .before .before .before .before .before .loop .page) (c .before .before .before .before .before .before .before .before .before .before .before .before .before .before .before .before .before .before .loop .chunk) (c .before .before .before .before .before .before .before .before .before .before .before .before .before .before .before .before .before .before .loop .reader) (c .before .before .before .before .before .before .before .before .before .before .before .before .before .before .before .before .before .before .loop .mark) (c .before .before .before .before .before .before .before .before .before .before .before .before .before .before .before .before .before .before .loop .turns))
+      Need-loop-less = (c : Else2) → Nat._<_ (μ·0 (Row.get 1 (T6 .locals) (m5 (c .before .before .before .before .before .before .before .before .before .before .before .before .before .before .before .before .before .before .before .before) (After-fresh-reader·gave (c .before .before .before .before .before .before .before .before .before .before .before .before .before .before .before .before .before .before .before))) .now) (Row.get 2 (T6 .locals) (m5 (c .before .before .before .before .before .before .before .before .before .before .before .before .before .before .before .before .before .before .before .before) (After-fresh-reader·gave (c .before .before .before .before .before .before .before .before .before .before .before .before .before .before .before .before .before .before .before))) .now) (Row.get 3 (T6 .locals) (m5 (c .before .before .before .before .before .before .before .before .before .before .before .before .before .before .before .before .before .before .before .before) (After-fresh-reader·gave (c .before .before .before .before .before .before .before .before .before .before .before .before .before .before .before .before .before .before .before))) .now) (Row.get 4 (T6 .locals) (m5 (c .before .before .before .before .before .before .before .before .before .before .before .before .before .before .before .before .before .before .before .before) (After-fresh-reader·gave (c .before .before .before .before .before .before .before .before .before .before .before .before .before .before .before .before .before .before .before))) .now) (Row.get 5 (T6 .locals) (m5 (c .before .before .before .before .before .before .before .before .before .before .before .before .before .before .before .before .before .before .before .before) (After-fresh-reader·gave (c .before .before .before .before .before .before .before .before .before .before .before .before .before .before .before .before .before .before .before))) .now) (Row.get 6 (T6 .locals) (m5 (c .before .before .before .before .before .before .before .before .before .before .before .before .before .before .before .before .before .before .before .before) (After-fresh-reader·gave (c .before .before .before .before .before .before .before .before .before .before .before .before .before .before .before .before .before .before .before)))) (Row.get 7 (T6 .locals) (m5 (c .before .before .before .before .before .before .before .before .before .before .before .before .before .before .before .before .before .before .before .before) (After-fresh-reader·gave (c .before .before .before .before .before .before .before .before .before .before .before .before .before .before .before .before .before .before .before)))) (Row.get 8 (T6 .locals) (m5 (c .before .before .before .before .before .before .before .before .before .before .before .before .before .before .before .before .before .before .before .before) (After-fresh-reader·gave (c .before .before .before .before .before .before .before .before .before .before .before .before .before .before .before .before .before .before .before)))) (Row.get 1 (T6 .locals) (m52 (c .before)) .now) (Row.get 2 (T6 .locals) (m52 (c .before)) .now) (Row.get 3 (T6 .locals) (m52 (c .before)) .now) (Row.get 4 (T6 .locals) (m52 (c .before)) .now) (Row.get 5 (T6 .locals) (m52 (c .before)) .now) (Row.get 6 (T6 .locals) (m52 (c .before))) (Row.get 7 (T6 .locals) (m52 (c .before))) (Row.get 8 (T6 .locals) (m52 (c .before)))) (μ·0 (Row.get 1 (T6 .locals) (m5 (c .before .before .before .before .before .before .before .before .before .before .before .before .before .before .before .before .before .before .before .before) (After-fresh-reader·gave (c .before .before .before .before .before .before .before .before .before .before .before .before .before .before .before .before .before .before .before))) .now) (Row.get 2 (T6 .locals) (m5 (c .before .before .before .before .before .before .before .before .before .before .before .before .before .before .before .before .before .before .before .before) (After-fresh-reader·gave (c .before .before .before .before .before .before .before .before .before .before .before .before .before .before .before .before .before .before .before))) .now) (Row.get 3 (T6 .locals) (m5 (c .before .before .before .before .before .before .before .before .before .before .before .before .before .before .before .before .before .before .before .before) (After-fresh-reader·gave (c .before .before .before .before .before .before .before .before .before .before .before .before .before .before .before .before .before .before .before))) .now) (Row.get 4 (T6 .locals) (m5 (c .before .before .before .before .before .before .before .before .before .before .before .before .before .before .before .before .before .before .before .before) (After-fresh-reader·gave (c .before .before .before .before .before .before .before .before .before .before .before .before .before .before .before .before .before .before .before))) .now) (Row.get 5 (T6 .locals) (m5 (c .before .before .before .before .before .before .before .before .before .before .before .before .before .before .before .before .before .before .before .before) (After-fresh-reader·gave (c .before .before .before .before .before .before .before .before .before .before .before .before .before .before .before .before .before .before .before))) .now) (Row.get 6 (T6 .locals) (m5 (c .before .before .before .before .before .before .before .before .before .before .before .before .before .before .before .before .before .before .before .before) (After-fresh-reader·gave (c .before .before .before .before .before .before .before .before .before .before .before .before .before .before .before .before .before .before .before)))) (Row.get 7 (T6 .locals) (m5 (c .before .before .before .before .before .before .before .before .before .before .before .before .before .before .before .before .before .before .before .before) (After-fresh-reader·gave (c .before .before .before .before .before .before .before .before .before .before .before .before .before .before .before .before .before .before .before)))) (Row.get 8 (T6 .locals) (m5 (c .before .before .before .before .before .before .before .before .before .before .before .before .before .before .before .before .before .before .before .before) (After-fresh-reader·gave (c .before .before .before .before .before .before .before .before .before .before .before .before .before .before .before .before .before .before .before)))) (c .before .before .before .before .before .before .before .before .before .before .before .before .before .before .before .before .before .before .loop .outputs) (c .before .before .before .before .before .before .before .before .before .before .before .before .before .before .before .before .before .before .loop .stations) (c .before .before .before .before .before .before .before .before .before .before .before .before .before .before .before .before .before .before .loop .kept) (c .before .before .before .before .before .before .before .before .before .before .before .before .before .before .before .before .before .before .loop .page) (c .before .before .before .before .before .before .before .before .before .before .before .before .before .before .before .before .before .before .loop .chunk) (c .before .before .before .before .before .before .before .before .before .before .before .before .before .before .before .before .before .before .loop .reader) (c .before .before .before .before .before .before .before .before .before .before .before .before .before .before .before .before .before .before .loop .mark) (c .before .before .before .before .before .before .before .before .before .before .before .before .before .before .before .before .before .before .loop .turns))
 
       abbrev pub Need-loop-again : Type 0
       Need-loop-again = (c : Else2) → Inv·0 (Row.get 1 (T6 .locals) (m5 (c .before .before .before .before .before .before .before .before .before .before .before .before .before .before .before .before .before .before .before .before) (After-fresh-reader·gave (c .before .before .before .before .before .before .before .before .before .before .before .before .before .before .before .before .before .before .before))) .now) (Row.get 2 (T6 .locals) (m5 (c .before .before .before .before .before .before .before .before .before .before .before .before .before .before .before .before .before .before .before .before) (After-fresh-reader·gave (c .before .before .before .before .before .before .before .before .before .before .before .before .before .before .before .before .before .before .before))) .now) (Row.get 3 (T6 .locals) (m5 (c .before .before .before .before .before .before .before .before .before .before .before .before .before .before .before .before .before .before .before .before) (After-fresh-reader·gave (c .before .before .before .before .before .before .before .before .before .before .before .before .before .before .before .before .before .before .before))) .now) (Row.get 4 (T6 .locals) (m5 (c .before .before .before .before .before .before .before .before .before .before .before .before .before .before .before .before .before .before .before .before) (After-fresh-reader·gave (c .before .before .before .before .before .before .before .before .before .before .before .before .before .before .before .before .before .before .before))) .now) (Row.get 5 (T6 .locals) (m5 (c .before .before .before .before .before .before .before .before .before .before .before .before .before .before .before .before .before .before .before .before) (After-fresh-reader·gave (c .before .before .before .before .before .before .before .before .before .before .before .before .before .before .before .before .before .before .before))) .now) (Row.get 6 (T6 .locals) (m5 (c .before .before .before .before .before .before .before .before .before .before .before .before .before .before .before .before .before .before .before .before) (After-fresh-reader·gave (c .before .before .before .before .before .before .before .before .before .before .before .before .before .before .before .before .before .before .before)))) (Row.get 7 (T6 .locals) (m5 (c .before .before .before .before .before .before .before .before .before .before .before .before .before .before .before .before .before .before .before .before) (After-fresh-reader·gave (c .before .before .before .before .before .before .before .before .before .before .before .before .before .before .before .before .before .before .before)))) (Row.get 8 (T6 .locals) (m5 (c .before .before .before .before .before .before .before .before .before .before .before .before .before .before .before .before .before .before .before .before) (After-fresh-reader·gave (c .before .before .before .before .before .before .before .before .before .before .before .before .before .before .before .before .before .before .before)))) (Row.get 1 (T6 .locals) (m52 (c .before)) .now) (Row.get 2 (T6 .locals) (m52 (c .before)) .now) (Row.get 3 (T6 .locals) (m52 (c .before)) .now) (Row.get 4 (T6 .locals) (m52 (c .before)) .now) (Row.get 5 (T6 .locals) (m52 (c .before)) .now) (Row.get 6 (T6 .locals) (m52 (c .before))) (Row.get 7 (T6 .locals) (m52 (c .before))) (Row.get 8 (T6 .locals) (m52 (c .before)))
@@ -2485,7 +2488,7 @@ module _ (claims· : Claims) where
             (c .before .before .before .before .before .before .before .before .before .before
             .before .before .before .before .before .before .loop .stations)
             (c .before .before .before .before .before .before .before .before .before .before
-            .before .before .before .before .before .before .loop .time)
+            .before .before .before .before .before .before .loop .kept)
             (c .before .before .before .before .before .before .before .before .before .before
             .before .before .before .before .before .before .loop .page)
             (c .before .before .before .before .before .before .before .before .before .before
@@ -2505,7 +2508,7 @@ module _ (claims· : Claims) where
             (c .before .before .before .before .before .before .before .before)
             (c .before .before .before .before .before .before .before .loop .outputs)
             (c .before .before .before .before .before .before .before .loop .stations)
-            (c .before .before .before .before .before .before .before .loop .time)
+            (c .before .before .before .before .before .before .before .loop .kept)
             (c .before .before .before .before .before .before .before .loop .page)
             (c .before .before .before .before .before .before .before .loop .chunk)
             (c .before .before .before .before .before .before .before .loop .reader)
@@ -2522,14 +2525,14 @@ module _ (claims· : Claims) where
             (c .before .before)
             (c .before .loop .outputs)
             (c .before .loop .stations)
-            (c .before .loop .time)
+            (c .before .loop .kept)
             (c .before .loop .page)
             (c .before .loop .chunk)
             (c .before .loop .reader)
             (c .before .loop .mark)
             (c .before .loop .turns))
             (m8 (c .before))
-        lay4 = λ c. (sub-turns record { before = c .before; loop-test = c .loop-test }, λ g. (Path'.refl, λ g'. (Path'.refl, λ g''. λ g'3. (Path'.refl, λ g'4. (Path'.refl, (take-some-requires record { before = record { before = record { before = record { before = record { before = record { before = c .before; loop-test = c .loop-test }; take-some-arg = record { given = g } }; take-some-arg2 = record { given = g' } }; take-some-arg3 = record { given = g'' } }; take-some-arg4 = record { given = g'3 } }; take-some-arg5 = record { given = g'4 } }, λ g'5. lay5 record { before = record { before = record { before = record { before = record { before = record { before = record { before = c .before; loop-test = c .loop-test }; take-some-arg = record { given = g } }; take-some-arg2 = record { given = g' } }; take-some-arg3 = record { given = g'' } }; take-some-arg4 = record { given = g'3 } }; take-some-arg5 = record { given = g'4 } }; take-some = Called.called ps·1 r·1 (claims· .3) T26 (record { pos = 13; ty = Syntax.tyRef Syntax.erased Syntax.mut OfOutput.named; ref = λ x. x }, (record { pos = 15; ty = Syntax.tyRef Syntax.erased Syntax.mut OfStation.named; ref = λ x. x }, (record { pos = 16; ty = Syntax.tyRef Syntax.erased Syntax.mut (Syntax.tyInt Syntax.w64); ref = λ x. x }, (record { pos = 18; ty = Syntax.tyRef Syntax.erased Syntax.mut (Syntax.tyInt Syntax.w8); ref = λ x. x }, (record { pos = 20; ty = Syntax.tyRef Syntax.erased Syntax.mut (Syntax.tyInt Syntax.w8); ref = λ x. x }, (Num.vAt 7 λ x. x, (record { pos = 6; st = List.[]; d = 0; at = λ x. x }, tt))))))) (m19 record { before = record { before = record { before = record { before = record { before = c .before; loop-test = c .loop-test }; take-some-arg = record { given = g } }; take-some-arg2 = record { given = g' } }; take-some-arg3 = record { given = g'' } }; take-some-arg4 = record { given = g'3 } } g'4) g'5 }))))))
+        lay4 = λ c. (sub-turns record { before = c .before; loop-test = c .loop-test }, λ g. (Path'.refl, λ g'. (Path'.refl, λ g''. λ g'3. (Path'.refl, λ g'4. (Path'.refl, (take-some-requires record { before = record { before = record { before = record { before = record { before = record { before = c .before; loop-test = c .loop-test }; take-some-arg = record { given = g } }; take-some-arg2 = record { given = g' } }; take-some-arg3 = record { given = g'' } }; take-some-arg4 = record { given = g'3 } }; take-some-arg5 = record { given = g'4 } }, λ g'5. lay5 record { before = record { before = record { before = record { before = record { before = record { before = record { before = c .before; loop-test = c .loop-test }; take-some-arg = record { given = g } }; take-some-arg2 = record { given = g' } }; take-some-arg3 = record { given = g'' } }; take-some-arg4 = record { given = g'3 } }; take-some-arg5 = record { given = g'4 } }; take-some = Called.called ps·1 r·1 (claims· .3) T26 (record { pos = 13; ty = Syntax.tyRef Syntax.erased Syntax.mut OfOutput.named; ref = λ x. x }, (record { pos = 15; ty = Syntax.tyRef Syntax.erased Syntax.mut OfStation.named; ref = λ x. x }, (record { pos = 16; ty = Syntax.tyRef Syntax.erased Syntax.mut OfPanelRecord.named; ref = λ x. x }, (record { pos = 18; ty = Syntax.tyRef Syntax.erased Syntax.mut (Syntax.tyInt Syntax.w8); ref = λ x. x }, (record { pos = 20; ty = Syntax.tyRef Syntax.erased Syntax.mut (Syntax.tyInt Syntax.w8); ref = λ x. x }, (Num.vAt 7 λ x. x, (record { pos = 6; st = List.[]; d = 0; at = λ x. x }, tt))))))) (m19 record { before = record { before = record { before = record { before = record { before = c .before; loop-test = c .loop-test }; take-some-arg = record { given = g } }; take-some-arg2 = record { given = g' } }; take-some-arg3 = record { given = g'' } }; take-some-arg4 = record { given = g'3 } } g'4) g'5 }))))))
 
         lay3 :
             (c : After-loop) →
@@ -2539,7 +2542,7 @@ module _ (claims· : Claims) where
             (c .before .before)
             (c .before .loop .outputs)
             (c .before .loop .stations)
-            (c .before .loop .time)
+            (c .before .loop .kept)
             (c .before .loop .page)
             (c .before .loop .chunk)
             (c .before .loop .reader)
@@ -2549,7 +2552,7 @@ module _ (claims· : Claims) where
             (c .before .before)
             (c .before .loop .outputs)
             (c .before .loop .stations)
-            (c .before .loop .time)
+            (c .before .loop .kept)
             (c .before .loop .page)
             (c .before .loop .chunk)
             (c .before .loop .reader)
@@ -2565,7 +2568,7 @@ module _ (claims· : Claims) where
             (c .before .before)
             (c .before .loop .outputs)
             (c .before .loop .stations)
-            (c .before .loop .time)
+            (c .before .loop .kept)
             (c .before .loop .page)
             (c .before .loop .chunk)
             (c .before .loop .reader)
@@ -2575,7 +2578,7 @@ module _ (claims· : Claims) where
             (c .before .before)
             (c .before .loop .outputs)
             (c .before .loop .stations)
-            (c .before .loop .time)
+            (c .before .loop .kept)
             (c .before .loop .page)
             (c .before .loop .chunk)
             (c .before .loop .reader)
@@ -2592,7 +2595,7 @@ module _ (claims· : Claims) where
             (c .before .before .before .args)
             (c .before .before .before .blocks))
             (m3 (c .before) (After-fresh-reader·gave c))
-        lay1 = λ c. (((Row.get 1 (T6 .locals) (m5 (c .before) (After-fresh-reader·gave c)) .now, Row.get 2 (T6 .locals) (m5 (c .before) (After-fresh-reader·gave c)) .now, Row.get 3 (T6 .locals) (m5 (c .before) (After-fresh-reader·gave c)) .now, Row.get 4 (T6 .locals) (m5 (c .before) (After-fresh-reader·gave c)) .now, Row.get 5 (T6 .locals) (m5 (c .before) (After-fresh-reader·gave c)) .now, Row.get 6 (T6 .locals) (m5 (c .before) (After-fresh-reader·gave c)), Row.get 7 (T6 .locals) (m5 (c .before) (After-fresh-reader·gave c)), Row.get 8 (T6 .locals) (m5 (c .before) (After-fresh-reader·gave c))), Path'.refl {a = m5 (c .before) (After-fresh-reader·gave c)}, loop-holds record { before = c .before; fresh-reader = c .fresh-reader }), λ vs inv. (tt, (λ taken. lay2 record { before = record { before = record { before = c .before; fresh-reader = c .fresh-reader }; loop = record { outputs = vs .0; stations = vs .1; time = vs .2; page = vs .3; chunk = vs .4; reader = vs .5; mark = vs .6; turns = vs .7; inv = inv } }; loop-test = record { taken = Tests.ltb-true 0 (Row.get 8 (T6 .locals) (m6 record { before = c .before; fresh-reader = c .fresh-reader } (vs .0) (vs .1) (vs .2) (vs .3) (vs .4) (vs .5) (vs .6) (vs .7))) taken } }, λ left. lay3 record { before = record { before = record { before = c .before; fresh-reader = c .fresh-reader }; loop = record { outputs = vs .0; stations = vs .1; time = vs .2; page = vs .3; chunk = vs .4; reader = vs .5; mark = vs .6; turns = vs .7; inv = inv } }; loop-test = record { left = Tests.ltb-false 0 (Row.get 8 (T6 .locals) (m6 record { before = c .before; fresh-reader = c .fresh-reader } (vs .0) (vs .1) (vs .2) (vs .3) (vs .4) (vs .5) (vs .6) (vs .7))) left } })))
+        lay1 = λ c. (((Row.get 1 (T6 .locals) (m5 (c .before) (After-fresh-reader·gave c)) .now, Row.get 2 (T6 .locals) (m5 (c .before) (After-fresh-reader·gave c)) .now, Row.get 3 (T6 .locals) (m5 (c .before) (After-fresh-reader·gave c)) .now, Row.get 4 (T6 .locals) (m5 (c .before) (After-fresh-reader·gave c)) .now, Row.get 5 (T6 .locals) (m5 (c .before) (After-fresh-reader·gave c)) .now, Row.get 6 (T6 .locals) (m5 (c .before) (After-fresh-reader·gave c)), Row.get 7 (T6 .locals) (m5 (c .before) (After-fresh-reader·gave c)), Row.get 8 (T6 .locals) (m5 (c .before) (After-fresh-reader·gave c))), Path'.refl {a = m5 (c .before) (After-fresh-reader·gave c)}, loop-holds record { before = c .before; fresh-reader = c .fresh-reader }), λ vs inv. (tt, (λ taken. lay2 record { before = record { before = record { before = c .before; fresh-reader = c .fresh-reader }; loop = record { outputs = vs .0; stations = vs .1; kept = vs .2; page = vs .3; chunk = vs .4; reader = vs .5; mark = vs .6; turns = vs .7; inv = inv } }; loop-test = record { taken = Tests.ltb-true 0 (Row.get 8 (T6 .locals) (m6 record { before = c .before; fresh-reader = c .fresh-reader } (vs .0) (vs .1) (vs .2) (vs .3) (vs .4) (vs .5) (vs .6) (vs .7))) taken } }, λ left. lay3 record { before = record { before = record { before = c .before; fresh-reader = c .fresh-reader }; loop = record { outputs = vs .0; stations = vs .1; kept = vs .2; page = vs .3; chunk = vs .4; reader = vs .5; mark = vs .6; turns = vs .7; inv = inv } }; loop-test = record { left = Tests.ltb-false 0 (Row.get 8 (T6 .locals) (m6 record { before = c .before; fresh-reader = c .fresh-reader } (vs .0) (vs .1) (vs .2) (vs .3) (vs .4) (vs .5) (vs .6) (vs .7))) left } })))
 
         pub laid :
             (c : Start) →
@@ -2606,7 +2609,7 @@ module _ (claims· : Claims) where
               (pre : Pre· κs a) →
               (bs : List.List Nat.ℕ) →
               Φ bs (Any.wantQ 5 ps r xs m κs qs a (Post· κs a)) (Function.init 5 ps r xs m κs qs a)
-          asked = λ a good pre bs. laid record { κs = κs; args = record { outputs = a .0; stations = a .1 .0; time = a .1 .1 .0; page = a .1 .1 .1 .0; chunk = a .1 .1 .1 .1 .0 }; blocks = bs; good = good; pre = pre }
+          asked = λ a good pre bs. laid record { κs = κs; args = record { outputs = a .0; stations = a .1 .0; kept = a .1 .1 .0; page = a .1 .1 .1 .0; chunk = a .1 .1 .1 .1 .0 }; blocks = bs; good = good; pre = pre }
 
         module _ {M : Type 1} (𝓤 : URA.URA M) (H : Wp.Heap 𝓤) (A : Atoms.Atoms 𝓤)
             (W : Kit.Given 𝓤 H A) (𝓣 : Wp.Tables 𝓤 H)
