@@ -9,11 +9,11 @@ use Rattle.lighting_panel.specs.Engine.Executing.{frameStep}
 
 -- the panel of the first n outputs and the first k stations
 abbrev pub lent : ℕ → ℕ → Panel → Panel
-lent n k p = panelOf (take n (p .outputs)) (take k (p .stations)) (p .time)
+lent n k p = panelOf (take n (p .outputs)) (take k (p .stations)) (p .kept)
 
 -- that panel q after a frame, and the records that stand by
 abbrev pub returned : ℕ → ℕ → Panel → Panel → Panel
-returned n k p q = panelOf (q .outputs ++ drop n (p .outputs)) (q .stations ++ drop k (p .stations)) (q .time)
+returned n k p q = panelOf (q .outputs ++ drop n (p .outputs)) (q .stations ++ drop k (p .stations)) (q .kept)
 
 -- a string of bytes goes to that panel
 unfoldable pub sent : ℕ → ℕ → Bytes → Panel → Step

@@ -18,6 +18,7 @@ use lent_rows::Row;
 use lighting_frames::Station;
 use lighting_outputs::Answer;
 use lighting_outputs::Output;
+use lighting_panel::PanelRecord;
 
 // After some of the rows: the row that is being read, how many outputs and stations are lent, the page's mark, and whether more may come.
 struct Turn {
@@ -94,10 +95,10 @@ fn ended(t: Turn) -> Turn {
 
 // ---- the tables
 
-fn clear(outputs: &mut [Output], stations: &mut [Station], time: &mut u64, moment: u64) {
-    panel_tables::fresh_outputs(outputs);
+fn clear(outputs: &mut [Output], stations: &mut [Station], kept: &mut PanelRecord, moment: u64) {
+    panel_tables::fresh_outputs(outputs, panel_record::document_01());
     panel_tables::fresh_stations(stations);
-    *time = moment;
+    *kept = panel_record::with_time(panel_record::fresh_record(), moment);
 }
 
 fn lend_output(outputs: &mut [Output], at: usize, o: Output) {
@@ -116,24 +117,24 @@ fn lend_station(stations: &mut [Station], at: usize, k: Station) {
 fn send(
     outputs: &mut [Output],
     stations: &mut [Station],
-    time: &mut u64,
+    kept: &mut PanelRecord,
     n: usize,
     k: usize,
     bytes: &[u8; NUMBERS],
     count: usize,
 ) -> Answer
-    ensures { λ a. ⌜ a ≡ sent n k (take count (now (bytes .entry))) (panelOf (now (outputs .entry)) (now (stations .entry)) (now (time .entry))) .answer ⌝ }
-    ensures { λ _. ⌜ panelOf (now (outputs .exit)) (now (stations .exit)) (now (time .exit)) ≡ sent n k (take count (now (bytes .entry))) (panelOf (now (outputs .entry)) (now (stations .entry)) (now (time .entry))) .panel ⌝ }
+    ensures { λ a. ⌜ a ≡ sent n k (take count (now (bytes .entry))) (panelOf (now (outputs .entry)) (now (stations .entry)) (now (kept .entry))) .answer ⌝ }
+    ensures { λ _. ⌜ panelOf (now (outputs .exit)) (now (stations .exit)) (now (kept .exit)) ≡ sent n k (take count (now (bytes .entry))) (panelOf (now (outputs .entry)) (now (stations .entry)) (now (kept .entry))) .panel ⌝ }
 {
     let lent = number_ranges::least(n, outputs.len());
     let beside = number_ranges::least(k, stations.len());
-    let kept = &bytes[..];
-    let held = number_ranges::least(count, kept.len());
+    let all = &bytes[..];
+    let held = number_ranges::least(count, all.len());
     panel::frame(
         &mut outputs[0..lent],
         &mut stations[0..beside],
-        time,
-        &kept[0..held],
+        kept,
+        &all[0..held],
     )
 }
 
@@ -193,7 +194,7 @@ fn put_stations(stations: &[Station], k: usize, page: &mut [u8], mark: usize) ->
 fn take_row(
     outputs: &mut [Output],
     stations: &mut [Station],
-    time: &mut u64,
+    kept: &mut PanelRecord,
     page: &mut [u8],
     t: Turn,
 ) -> Turn {
@@ -204,7 +205,7 @@ fn take_row(
     let next = with_next_row(t);
     match letter {
         b't' => {
-            clear(outputs, stations, time, numbers[2]);
+            clear(outputs, stations, kept, numbers[2]);
             with_counts(
                 next,
                 lent_rows::numbers::place(numbers[0]),
@@ -226,7 +227,7 @@ fn take_row(
             let a = send(
                 outputs,
                 stations,
-                time,
+                kept,
                 t.outputs,
                 t.stations,
                 &bytes,
@@ -236,7 +237,9 @@ fn take_row(
             with_mark(next, text_printing::put_answer(page, room, a))
         }
         b'l' => {
-            let head = put_counts(page, t.mark, t.outputs, t.stations, *time);
+            let record = *kept;
+            let time = panel_record::time_of(record);
+            let head = put_counts(page, t.mark, t.outputs, t.stations, time);
             let middle = put_outputs(outputs, t.outputs, page, head);
             with_mark(next, put_stations(stations, t.stations, page, middle))
         }
@@ -249,7 +252,7 @@ fn take_row(
 fn take_chunk(
     outputs: &mut [Output],
     stations: &mut [Station],
-    time: &mut u64,
+    kept: &mut PanelRecord,
     page: &mut [u8],
     from: Turn,
     s: &[u8],
@@ -260,7 +263,7 @@ fn take_chunk(
         let c = s[i];
         i += 1;
         if c == b'\n' {
-            t = take_row(outputs, stations, time, page, t);
+            t = take_row(outputs, stations, kept, page, t);
         } else {
             t = with_character(t, c);
         }
@@ -272,7 +275,7 @@ fn take_chunk(
 fn take_some(
     outputs: &mut [Output],
     stations: &mut [Station],
-    time: &mut u64,
+    kept: &mut PanelRecord,
     page: &mut [u8],
     chunk: &mut [u8],
     t: Turn,
@@ -282,14 +285,14 @@ fn take_some(
     if n == 0 {
         return ended(t);
     }
-    take_chunk(outputs, stations, time, page, t, &chunk[0..n])
+    take_chunk(outputs, stations, kept, page, t, &chunk[0..n])
 }
 
 // All of it. A proved loop has to end, and nothing says that the input does: the turns are counted down from a number that no run uses up.
 fn take_all(
     outputs: &mut [Output],
     stations: &mut [Station],
-    time: &mut u64,
+    kept: &mut PanelRecord,
     page: &mut [u8],
     chunk: &mut [u8],
 ) -> Turn {
@@ -297,7 +300,7 @@ fn take_all(
     let mut turns: u64 = 18446744073709551615;
     while 0 < turns {
         turns -= 1;
-        t = take_some(outputs, stations, time, page, chunk, t);
+        t = take_some(outputs, stations, kept, page, chunk, t);
         if !t.more {
             return t;
         }
@@ -308,27 +311,27 @@ fn take_all(
 fn lend(
     outputs: &mut [Output],
     stations: &mut [Station],
-    time: &mut u64,
+    kept: &mut PanelRecord,
     page: &mut [u8],
     chunk: &mut [u8],
 ) {
-    let t = take_all(outputs, stations, time, page, chunk);
+    let t = take_all(outputs, stations, kept, page, chunk);
     text_found::flush(page, t.mark);
 }
 
 // Over tables of its own, with one record more than any panel has: 65 outputs and nine stations.
 pub fn run() {
-    let output = output_fresh::fresh_output();
+    let output = output_fresh::fresh_output(panel_record::document_01());
     let mut outputs = [output; 65];
     let record = output_fresh::fresh_station();
     let mut stations = [record; 9];
-    let mut time: u64 = 0;
+    let mut kept = panel_record::fresh_record();
     let mut page = io::large_buffer();
     let mut chunk = io::large_buffer();
     lend(
         &mut outputs,
         &mut stations,
-        &mut time,
+        &mut kept,
         &mut page,
         &mut chunk,
     );

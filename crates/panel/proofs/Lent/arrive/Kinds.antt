@@ -1,11 +1,11 @@
 -- Made by tools/twin.py.
-use Rattle.lighting_outputs.proofs.Answer
-use Rattle.lighting_outputs.proofs.Answer.Laws
 use Rattle.lighting_frames.proofs.Call
-use Rattle.lighting_frames.proofs.Call.Laws as Laws'
+use Rattle.lighting_frames.proofs.Call.Laws
+use Rattle.lighting_frames.proofs.Lent.OfStation as OfStation
+use Rattle.lighting_outputs.proofs.Answer
+use Rattle.lighting_outputs.proofs.Answer.Laws as Laws'
 use Rattle.lighting_outputs.proofs.Lent.OfOutput as OfOutput
 use Rattle.lighting_panel.proofs.Lent.OfPanelRecord as OfPanelRecord
-use Rattle.lighting_frames.proofs.Lent.OfStation as OfStation
 use borrow.Fn.Kinds
 use borrow.Kind.MutSlice
 use borrow.Kind.ShrSlice
@@ -23,7 +23,7 @@ use mathlib.Core.Path as Path'
 use mir.Syntax
 
 abbrev pub ps : List.List (Kinds.PK 4)
-ps = List._∷_ (MutSlice.pMutS (OfOutput.row) 0 tt) (List._∷_ (MutSlice.pMutS (OfStation.row) 1 tt) (List._∷_ (Kinds.pMut (OfPanelRecord.row) 2 tt) (List._∷_ (ShrSlice.pShrS (Referent.rtF (Referent.fInt Syntax.w8)) 3 tt) (List._∷_ (Value.pVal record { ty = Declared'.row Call.the-type; one = Path'.refl; val = Laws'3.val Call.the-type Laws'.the-laws; tells = Laws'3.tells Call.the-type Laws'.the-laws; still = Laws'3.still Call.the-type Laws'.the-copy Exit.yes; row = Rows.whole (Declared'.row Call.the-type); rd = λ x. x; mk = λ x. x } λ M 𝓤 H A W. record { copies = Laws'3.copy Call.the-type Laws'.the-copy 𝓤 H A W; lawful = Laws'3.lawful Call.the-type Laws'.the-laws 𝓤 H A W; makes = Laws'3.makes Call.the-type Laws'.the-plain 𝓤 H A; in-mem = Local.mem-whole 𝓤 H A W (Declared'.row Call.the-type); of-mem = Local.whole-mem 𝓤 H A W (Declared'.row Call.the-type) }) List.[]))))
+ps = List._∷_ (MutSlice.pMutS (OfOutput.row) 0 tt) (List._∷_ (MutSlice.pMutS (OfStation.row) 1 tt) (List._∷_ (Kinds.pMut (OfPanelRecord.row) 2 tt) (List._∷_ (ShrSlice.pShrS (Referent.rtF (Referent.fInt Syntax.w8)) 3 tt) (List._∷_ (Value.pVal record { ty = Declared'.row Call.the-type; one = Path'.refl; val = Laws'3.val Call.the-type Laws.the-laws; tells = Laws'3.tells Call.the-type Laws.the-laws; still = Laws'3.still Call.the-type Laws.the-copy Exit.yes; row = Rows.whole (Declared'.row Call.the-type); rd = λ x. x; mk = λ x. x } λ M 𝓤 H A W. record { copies = Laws'3.copy Call.the-type Laws.the-copy 𝓤 H A W; lawful = Laws'3.lawful Call.the-type Laws.the-laws 𝓤 H A W; makes = Laws'3.makes Call.the-type Laws.the-plain 𝓤 H A; in-mem = Local.mem-whole 𝓤 H A W (Declared'.row Call.the-type); of-mem = Local.whole-mem 𝓤 H A W (Declared'.row Call.the-type) }) List.[]))))
 
 abbrev pub r : Kinds.RK 4
-r = Value.rVal record { ty = Declared.row Answer.the-type; one = Path'.refl; val = Laws''.val Answer.the-type Laws.the-laws; tells = Laws''.tells Answer.the-type Laws.the-laws; still = Laws''.still Answer.the-type Laws.the-copy Exit.yes; row = Rows.whole (Declared.row Answer.the-type); rd = λ x. x; mk = λ x. x } λ M 𝓤 H A W. record { copies = Laws''.copy Answer.the-type Laws.the-copy 𝓤 H A W; lawful = Laws''.lawful Answer.the-type Laws.the-laws 𝓤 H A W tt; makes = Laws''.makes Answer.the-type Laws.the-plain 𝓤 H A; in-mem = Local.mem-whole 𝓤 H A W (Declared.row Answer.the-type); of-mem = Local.whole-mem 𝓤 H A W (Declared.row Answer.the-type) }
+r = Value.rVal record { ty = Declared.row Answer.the-type; one = Path'.refl; val = Laws''.val Answer.the-type Laws'.the-laws; tells = Laws''.tells Answer.the-type Laws'.the-laws; still = Laws''.still Answer.the-type Laws'.the-copy Exit.yes; row = Rows.whole (Declared.row Answer.the-type); rd = λ x. x; mk = λ x. x } λ M 𝓤 H A W. record { copies = Laws''.copy Answer.the-type Laws'.the-copy 𝓤 H A W; lawful = Laws''.lawful Answer.the-type Laws'.the-laws 𝓤 H A W tt; makes = Laws''.makes Answer.the-type Laws'.the-plain 𝓤 H A; in-mem = Local.mem-whole 𝓤 H A W (Declared.row Answer.the-type); of-mem = Local.whole-mem 𝓤 H A W (Declared.row Answer.the-type) }

@@ -1,9 +1,9 @@
 -- Made by tools/twin.py.
-use Rattle.lighting_outputs.proofs.Lent.OfOutput as OfOutput
-use Rattle.lighting_panel.proofs.Lent.OfPanelRecord as OfPanelRecord
 use Rattle.lighting_frames.proofs.Lent.OfStation as OfStation
+use Rattle.lighting_outputs.proofs.Lent.OfOutput as OfOutput
 use Rattle.lighting_outputs.proofs.Parameters
 use Rattle.lighting_outputs.proofs.Parameters.Laws
+use Rattle.lighting_panel.proofs.Lent.OfPanelRecord as OfPanelRecord
 use borrow.Fn.Kinds
 use borrow.Kind.ShrSlice
 use borrow.Kind.Value

@@ -1,14 +1,14 @@
 -- Made by tools/twin.py.
 use Prim.Native.Nat
-use Rattle.lighting_outputs.proofs.Answer
-use Rattle.lighting_outputs.proofs.Answer.Laws
 use Rattle.lighting_frames.proofs.Call
-use Rattle.lighting_frames.proofs.Call.Laws as Laws'
-use Rattle.lighting_outputs.proofs.Lent.OfOutput as OfOutput
-use Rattle.lighting_panel.proofs.Lent.OfPanelRecord as OfPanelRecord
+use Rattle.lighting_frames.proofs.Call.Laws
 use Rattle.lighting_frames.proofs.Lent.OfStation as OfStation
+use Rattle.lighting_outputs.proofs.Answer
+use Rattle.lighting_outputs.proofs.Answer.Laws as Laws'
+use Rattle.lighting_outputs.proofs.Lent.OfOutput as OfOutput
 use Rattle.lighting_outputs.proofs.Request
 use Rattle.lighting_outputs.proofs.Request.Laws as Laws''
+use Rattle.lighting_panel.proofs.Lent.OfPanelRecord as OfPanelRecord
 use borrow.Author.Called
 use borrow.Fn.Any
 use borrow.Fn.Call as Call'
@@ -64,13 +64,13 @@ use prog.Wp
 use types.Kit
 
 abbrev pub ps : List.List (Kinds.PK 4)
-ps = List._∷_ (MutSlice.pMutS (OfOutput.row) 0 tt) (List._∷_ (MutSlice.pMutS (OfStation.row) 1 tt) (List._∷_ (Kinds.pMut (OfPanelRecord.row) 2 tt) (List._∷_ (ShrSlice.pShrS (Referent.rtF (Referent.fInt Syntax.w8)) 3 tt) (List._∷_ (Value.pVal record { ty = Declared'.row Call.the-type; one = Path'.refl; val = Laws'5.val Call.the-type Laws'.the-laws; tells = Laws'5.tells Call.the-type Laws'.the-laws; still = Laws'5.still Call.the-type Laws'.the-copy Exit.yes; row = Rows'.whole (Declared'.row Call.the-type); rd = λ x. x; mk = λ x. x } λ M 𝓤 H A W. record { copies = Laws'5.copy Call.the-type Laws'.the-copy 𝓤 H A W; lawful = Laws'5.lawful Call.the-type Laws'.the-laws 𝓤 H A W; makes = Laws'5.makes Call.the-type Laws'.the-plain 𝓤 H A; in-mem = Local.mem-whole 𝓤 H A W (Declared'.row Call.the-type); of-mem = Local.whole-mem 𝓤 H A W (Declared'.row Call.the-type) }) List.[]))))
+ps = List._∷_ (MutSlice.pMutS (OfOutput.row) 0 tt) (List._∷_ (MutSlice.pMutS (OfStation.row) 1 tt) (List._∷_ (Kinds.pMut (OfPanelRecord.row) 2 tt) (List._∷_ (ShrSlice.pShrS (Referent.rtF (Referent.fInt Syntax.w8)) 3 tt) (List._∷_ (Value.pVal record { ty = Declared'.row Call.the-type; one = Path'.refl; val = Laws'5.val Call.the-type Laws.the-laws; tells = Laws'5.tells Call.the-type Laws.the-laws; still = Laws'5.still Call.the-type Laws.the-copy Exit.yes; row = Rows'.whole (Declared'.row Call.the-type); rd = λ x. x; mk = λ x. x } λ M 𝓤 H A W. record { copies = Laws'5.copy Call.the-type Laws.the-copy 𝓤 H A W; lawful = Laws'5.lawful Call.the-type Laws.the-laws 𝓤 H A W; makes = Laws'5.makes Call.the-type Laws.the-plain 𝓤 H A; in-mem = Local.mem-whole 𝓤 H A W (Declared'.row Call.the-type); of-mem = Local.whole-mem 𝓤 H A W (Declared'.row Call.the-type) }) List.[]))))
 
 abbrev pub r : Kinds.RK 4
-r = Value.rVal record { ty = Declared.row Answer.the-type; one = Path'.refl; val = Laws'3.val Answer.the-type Laws.the-laws; tells = Laws'3.tells Answer.the-type Laws.the-laws; still = Laws'3.still Answer.the-type Laws.the-copy Exit.yes; row = Rows'.whole (Declared.row Answer.the-type); rd = λ x. x; mk = λ x. x } λ M 𝓤 H A W. record { copies = Laws'3.copy Answer.the-type Laws.the-copy 𝓤 H A W; lawful = Laws'3.lawful Answer.the-type Laws.the-laws 𝓤 H A W tt; makes = Laws'3.makes Answer.the-type Laws.the-plain 𝓤 H A; in-mem = Local.mem-whole 𝓤 H A W (Declared.row Answer.the-type); of-mem = Local.whole-mem 𝓤 H A W (Declared.row Answer.the-type) }
+r = Value.rVal record { ty = Declared.row Answer.the-type; one = Path'.refl; val = Laws'3.val Answer.the-type Laws'.the-laws; tells = Laws'3.tells Answer.the-type Laws'.the-laws; still = Laws'3.still Answer.the-type Laws'.the-copy Exit.yes; row = Rows'.whole (Declared.row Answer.the-type); rd = λ x. x; mk = λ x. x } λ M 𝓤 H A W. record { copies = Laws'3.copy Answer.the-type Laws'.the-copy 𝓤 H A W; lawful = Laws'3.lawful Answer.the-type Laws'.the-laws 𝓤 H A W tt; makes = Laws'3.makes Answer.the-type Laws'.the-plain 𝓤 H A; in-mem = Local.mem-whole 𝓤 H A W (Declared.row Answer.the-type); of-mem = Local.whole-mem 𝓤 H A W (Declared.row Answer.the-type) }
 
 abbrev pub xs : List.List Syntax.Ty
-xs = List._∷_ OfPanelRecord.spelt (List._∷_ (Syntax.tyInt Syntax.w64) (List._∷_ (Syntax.tyInt Syntax.w64) (List._∷_ (Laws''.mir) (List._∷_ (Laws.mir) (List._∷_ OfStation.spelt (List._∷_ (Syntax.tyInt Syntax.w64) (List._∷_ OfPanelRecord.spelt (List._∷_ Syntax.tyUnit (List._∷_ (Syntax.tyRef Syntax.erased Syntax.mut OfOutput.named) (List._∷_ (Syntax.tyStruct (List._∷_ 38 (List._∷_ 91 (List._∷_ 93 List.[]))) (Syntax.tcons (Syntax.tyRef Syntax.erased Syntax.mut OfOutput.named) (Syntax.tcons (Syntax.tyInt Syntax.w64) Syntax.tnil))) (List._∷_ (Syntax.tyRef Syntax.erased Syntax.mut OfOutput.named) (List._∷_ (Syntax.tyStruct (List._∷_ 38 (List._∷_ 91 (List._∷_ 93 List.[]))) (Syntax.tcons (Syntax.tyRef Syntax.erased Syntax.mut OfOutput.named) (Syntax.tcons (Syntax.tyInt Syntax.w64) Syntax.tnil))) (List._∷_ (Syntax.tyInt Syntax.w64) (List._∷_ Syntax.tyPtr List.[]))))))))))))))
+xs = List._∷_ OfPanelRecord.spelt (List._∷_ (Syntax.tyInt Syntax.w64) (List._∷_ (Syntax.tyInt Syntax.w64) (List._∷_ (Laws''.mir) (List._∷_ (Laws'.mir) (List._∷_ OfStation.spelt (List._∷_ (Syntax.tyInt Syntax.w64) (List._∷_ OfPanelRecord.spelt (List._∷_ Syntax.tyUnit (List._∷_ (Syntax.tyRef Syntax.erased Syntax.mut OfOutput.named) (List._∷_ (Syntax.tyStruct (List._∷_ 38 (List._∷_ 91 (List._∷_ 93 List.[]))) (Syntax.tcons (Syntax.tyRef Syntax.erased Syntax.mut OfOutput.named) (Syntax.tcons (Syntax.tyInt Syntax.w64) Syntax.tnil))) (List._∷_ (Syntax.tyRef Syntax.erased Syntax.mut OfOutput.named) (List._∷_ (Syntax.tyStruct (List._∷_ 38 (List._∷_ 91 (List._∷_ 93 List.[]))) (Syntax.tcons (Syntax.tyRef Syntax.erased Syntax.mut OfOutput.named) (Syntax.tcons (Syntax.tyInt Syntax.w64) Syntax.tnil))) (List._∷_ (Syntax.tyInt Syntax.w64) (List._∷_ Syntax.tyPtr List.[]))))))))))))))
 
 abbrev pub m : Nat.ℕ
 m = 2
@@ -94,13 +94,13 @@ abbrev pub r·2 : Kinds.RK 0
 r·2 = Num.rNum Syntax.w64
 
 abbrev pub ps·3 : List.List (Kinds.PK 1)
-ps·3 = List._∷_ (MutSlice.pMutS (OfOutput.row) 0 tt) (List._∷_ (Num.pNum Syntax.w64) (List._∷_ (Num.pNum Syntax.w8) (List._∷_ (Num.pNum Syntax.w64) (List._∷_ (Value.pVal record { ty = Declared.row Request.the-type; one = Path'.refl; val = Laws'3.val Request.the-type Laws''.the-laws; tells = Laws'3.tells Request.the-type Laws''.the-laws; still = Laws'3.still Request.the-type Laws''.the-copy Exit.yes; row = Rows'.whole (Declared.row Request.the-type); rd = λ x. x; mk = λ x. x } λ M 𝓤 H A W. record { copies = Laws'3.copy Request.the-type Laws''.the-copy 𝓤 H A W; lawful = Laws'3.lawful Request.the-type Laws''.the-laws 𝓤 H A W tt; makes = Laws'3.makes Request.the-type Laws''.the-plain 𝓤 H A; in-mem = Local.mem-whole 𝓤 H A W (Declared.row Request.the-type); of-mem = Local.whole-mem 𝓤 H A W (Declared.row Request.the-type) }) List.[]))))
+ps·3 = List._∷_ (MutSlice.pMutS (OfOutput.row) 0 tt) (List._∷_ (Num.pNum Syntax.w64) (List._∷_ (Num.pNum Syntax.w64) (List._∷_ (Value.pVal record { ty = Declared.row Request.the-type; one = Path'.refl; val = Laws'3.val Request.the-type Laws''.the-laws; tells = Laws'3.tells Request.the-type Laws''.the-laws; still = Laws'3.still Request.the-type Laws''.the-copy Exit.yes; row = Rows'.whole (Declared.row Request.the-type); rd = λ x. x; mk = λ x. x } λ M 𝓤 H A W. record { copies = Laws'3.copy Request.the-type Laws''.the-copy 𝓤 H A W; lawful = Laws'3.lawful Request.the-type Laws''.the-laws 𝓤 H A W tt; makes = Laws'3.makes Request.the-type Laws''.the-plain 𝓤 H A; in-mem = Local.mem-whole 𝓤 H A W (Declared.row Request.the-type); of-mem = Local.whole-mem 𝓤 H A W (Declared.row Request.the-type) }) List.[])))
 
 abbrev pub r·3 : Kinds.RK 1
-r·3 = Value.rVal record { ty = Declared.row Answer.the-type; one = Path'.refl; val = Laws'3.val Answer.the-type Laws.the-laws; tells = Laws'3.tells Answer.the-type Laws.the-laws; still = Laws'3.still Answer.the-type Laws.the-copy Exit.yes; row = Rows'.whole (Declared.row Answer.the-type); rd = λ x. x; mk = λ x. x } λ M 𝓤 H A W. record { copies = Laws'3.copy Answer.the-type Laws.the-copy 𝓤 H A W; lawful = Laws'3.lawful Answer.the-type Laws.the-laws 𝓤 H A W tt; makes = Laws'3.makes Answer.the-type Laws.the-plain 𝓤 H A; in-mem = Local.mem-whole 𝓤 H A W (Declared.row Answer.the-type); of-mem = Local.whole-mem 𝓤 H A W (Declared.row Answer.the-type) }
+r·3 = Value.rVal record { ty = Declared.row Answer.the-type; one = Path'.refl; val = Laws'3.val Answer.the-type Laws'.the-laws; tells = Laws'3.tells Answer.the-type Laws'.the-laws; still = Laws'3.still Answer.the-type Laws'.the-copy Exit.yes; row = Rows'.whole (Declared.row Answer.the-type); rd = λ x. x; mk = λ x. x } λ M 𝓤 H A W. record { copies = Laws'3.copy Answer.the-type Laws'.the-copy 𝓤 H A W; lawful = Laws'3.lawful Answer.the-type Laws'.the-laws 𝓤 H A W tt; makes = Laws'3.makes Answer.the-type Laws'.the-plain 𝓤 H A; in-mem = Local.mem-whole 𝓤 H A W (Declared.row Answer.the-type); of-mem = Local.whole-mem 𝓤 H A W (Declared.row Answer.the-type) }
 
 abbrev pub ps·4 : List.List (Kinds.PK 1)
-ps·4 = List._∷_ (Value.pVal record { ty = Declared.row Answer.the-type; one = Path'.refl; val = Laws'3.val Answer.the-type Laws.the-laws; tells = Laws'3.tells Answer.the-type Laws.the-laws; still = Laws'3.still Answer.the-type Laws.the-copy Exit.yes; row = Rows'.whole (Declared.row Answer.the-type); rd = λ x. x; mk = λ x. x } λ M 𝓤 H A W. record { copies = Laws'3.copy Answer.the-type Laws.the-copy 𝓤 H A W; lawful = Laws'3.lawful Answer.the-type Laws.the-laws 𝓤 H A W tt; makes = Laws'3.makes Answer.the-type Laws.the-plain 𝓤 H A; in-mem = Local.mem-whole 𝓤 H A W (Declared.row Answer.the-type); of-mem = Local.whole-mem 𝓤 H A W (Declared.row Answer.the-type) }) (List._∷_ (Num.pNum Syntax.w32) (List._∷_ (ShrSlice.pShrS (Referent.rtF (Referent.fInt Syntax.w8)) 0 tt) List.[]))
+ps·4 = List._∷_ (Value.pVal record { ty = Declared.row Answer.the-type; one = Path'.refl; val = Laws'3.val Answer.the-type Laws'.the-laws; tells = Laws'3.tells Answer.the-type Laws'.the-laws; still = Laws'3.still Answer.the-type Laws'.the-copy Exit.yes; row = Rows'.whole (Declared.row Answer.the-type); rd = λ x. x; mk = λ x. x } λ M 𝓤 H A W. record { copies = Laws'3.copy Answer.the-type Laws'.the-copy 𝓤 H A W; lawful = Laws'3.lawful Answer.the-type Laws'.the-laws 𝓤 H A W tt; makes = Laws'3.makes Answer.the-type Laws'.the-plain 𝓤 H A; in-mem = Local.mem-whole 𝓤 H A W (Declared.row Answer.the-type); of-mem = Local.whole-mem 𝓤 H A W (Declared.row Answer.the-type) }) (List._∷_ (Num.pNum Syntax.w32) (List._∷_ (ShrSlice.pShrS (Referent.rtF (Referent.fInt Syntax.w8)) 0 tt) List.[]))
 
 abbrev pub r·4 : Kinds.RK 1
 r·4 = OfStation.result
@@ -145,7 +145,7 @@ abbrev b9 : Syntax.Body
 b9 = Syntax.call "number_ranges::index" (List._∷_ (Syntax.copy (Syntax.place 5 (List._∷_ (Syntax.field 3) List.[]))) List.[]) (Syntax.place 19 List.[])
 
 abbrev b10 : Syntax.Body
-b10 = Syntax.call "panel_tables::serve" (List._∷_ (Syntax.copy (Syntax.place 18 List.[])) (List._∷_ (Syntax.copy (Syntax.place 8 List.[])) (List._∷_ (Syntax.copy (Syntax.place 5 (List._∷_ (Syntax.field 0) List.[]))) (List._∷_ (Syntax.copy (Syntax.place 19 List.[])) (List._∷_ (Syntax.copy (Syntax.place 9 List.[])) List.[]))))) (Syntax.place 10 List.[])
+b10 = Syntax.call "panel_tables::serve" (List._∷_ (Syntax.copy (Syntax.place 18 List.[])) (List._∷_ (Syntax.copy (Syntax.place 8 List.[])) (List._∷_ (Syntax.copy (Syntax.place 19 List.[])) (List._∷_ (Syntax.copy (Syntax.place 9 List.[])) List.[])))) (Syntax.place 10 List.[])
 
 abbrev b11 : Syntax.Body
 b11 = Syntax.call "station_frame::station_record" (List._∷_ (Syntax.copy (Syntax.place 10 List.[])) (List._∷_ (Syntax.copy (Syntax.place 5 (List._∷_ (Syntax.field 1) List.[]))) (List._∷_ (Syntax.copy (Syntax.place 4 List.[])) List.[]))) (Syntax.place 11 List.[])
@@ -238,43 +238,43 @@ abbrev pub Claims : Type 1
 Claims = Kinds.In 0 ps·0 × Kinds.Out 0 ps·0 r·0 × Kinds.In 1 ps·1 × Kinds.Out 1 ps·1 r·1 × Kinds.In 0 ps·2 × Kinds.Out 0 ps·2 r·2 × Kinds.In 1 ps·3 × Kinds.Out 1 ps·3 r·3 × Kinds.In 1 ps·4 × Kinds.Out 1 ps·4 r·4 × Kinds.In 0 ps·5 × Kinds.Out 0 ps·5 r·5
 
 abbrev pub t0 : List.List Row.Entry
-t0 = List._∷_ (0, Rows'.any-gone (Laws.mir)) (List._∷_ (1, Mut.mslice (OfOutput.row) (Syntax.tyRef (Syntax.named 0) Syntax.mut OfOutput.named) 0) (List._∷_ (2, Mut.mslice (OfStation.row) (Syntax.tyRef (Syntax.named 1) Syntax.mut OfStation.named) 1) (List._∷_ (3, Rows'.mref (OfPanelRecord.row) (Syntax.tyRef (Syntax.named 2) Syntax.mut OfPanelRecord.named) 2) (List._∷_ (4, Rows'.sslice (Referent.rtF (Referent.fInt Syntax.w8)) (Syntax.tyRef (Syntax.named 3) Syntax.imm (Syntax.tyInt Syntax.w8)) 3) (List._∷_ (5, Rows'.whole (Declared'.row Call.the-type)) (List._∷_ (6, Rows'.any-gone OfPanelRecord.spelt) (List._∷_ (7, Rows'.any-gone (Syntax.tyInt Syntax.w64)) (List._∷_ (8, Rows'.any-gone (Syntax.tyInt Syntax.w64)) (List._∷_ (9, Rows'.any-gone (Laws''.mir)) (List._∷_ (10, Rows'.any-gone (Laws.mir)) (List._∷_ (11, Rows'.any-gone OfStation.spelt) (List._∷_ (12, Rows'.any-gone (Syntax.tyInt Syntax.w64)) (List._∷_ (13, Rows'.any-gone OfPanelRecord.spelt) (List._∷_ (14, Rows'.any-gone Syntax.tyUnit) (List._∷_ (15, Rows'.any-gone (Syntax.tyRef Syntax.erased Syntax.mut OfOutput.named)) List.[])))))))))))))))
+t0 = List._∷_ (0, Rows'.any-gone (Laws'.mir)) (List._∷_ (1, Mut.mslice (OfOutput.row) (Syntax.tyRef (Syntax.named 0) Syntax.mut OfOutput.named) 0) (List._∷_ (2, Mut.mslice (OfStation.row) (Syntax.tyRef (Syntax.named 1) Syntax.mut OfStation.named) 1) (List._∷_ (3, Rows'.mref (OfPanelRecord.row) (Syntax.tyRef (Syntax.named 2) Syntax.mut OfPanelRecord.named) 2) (List._∷_ (4, Rows'.sslice (Referent.rtF (Referent.fInt Syntax.w8)) (Syntax.tyRef (Syntax.named 3) Syntax.imm (Syntax.tyInt Syntax.w8)) 3) (List._∷_ (5, Rows'.whole (Declared'.row Call.the-type)) (List._∷_ (6, Rows'.any-gone OfPanelRecord.spelt) (List._∷_ (7, Rows'.any-gone (Syntax.tyInt Syntax.w64)) (List._∷_ (8, Rows'.any-gone (Syntax.tyInt Syntax.w64)) (List._∷_ (9, Rows'.any-gone (Laws''.mir)) (List._∷_ (10, Rows'.any-gone (Laws'.mir)) (List._∷_ (11, Rows'.any-gone OfStation.spelt) (List._∷_ (12, Rows'.any-gone (Syntax.tyInt Syntax.w64)) (List._∷_ (13, Rows'.any-gone OfPanelRecord.spelt) (List._∷_ (14, Rows'.any-gone Syntax.tyUnit) (List._∷_ (15, Rows'.any-gone (Syntax.tyRef Syntax.erased Syntax.mut OfOutput.named)) List.[])))))))))))))))
 
 abbrev pub t1 : List.List Row.Entry
 t1 = List._∷_ (16, Rows'.any-gone (Syntax.tyStruct (List._∷_ 38 (List._∷_ 91 (List._∷_ 93 List.[]))) (Syntax.tcons (Syntax.tyRef Syntax.erased Syntax.mut OfOutput.named) (Syntax.tcons (Syntax.tyInt Syntax.w64) Syntax.tnil)))) (List._∷_ (17, Rows'.any-gone (Syntax.tyRef Syntax.erased Syntax.mut OfOutput.named)) (List._∷_ (18, Rows'.any-gone (Syntax.tyStruct (List._∷_ 38 (List._∷_ 91 (List._∷_ 93 List.[]))) (Syntax.tcons (Syntax.tyRef Syntax.erased Syntax.mut OfOutput.named) (Syntax.tcons (Syntax.tyInt Syntax.w64) Syntax.tnil)))) (List._∷_ (19, Rows'.any-gone (Syntax.tyInt Syntax.w64)) (List._∷_ (20, Rows'.any-gone Syntax.tyPtr) List.[]))))
 
 abbrev pub t2 : List.List Row.Entry
-t2 = List._∷_ (0, Rows'.whole (Declared.row Answer.the-type)) (List._∷_ (1, Mut.mslice (OfOutput.row) (Syntax.tyRef (Syntax.named 0) Syntax.mut OfOutput.named) 0) (List._∷_ (2, Mut.mslice (OfStation.row) (Syntax.tyRef (Syntax.named 1) Syntax.mut OfStation.named) 1) (List._∷_ (3, Rows'.mref (OfPanelRecord.row) (Syntax.tyRef (Syntax.named 2) Syntax.mut OfPanelRecord.named) 2) (List._∷_ (4, Rows'.sslice (Referent.rtF (Referent.fInt Syntax.w8)) (Syntax.tyRef (Syntax.named 3) Syntax.imm (Syntax.tyInt Syntax.w8)) 3) (List._∷_ (5, Rows'.any-gone (Laws'.mir)) (List._∷_ (6, Rows'.any-gone OfPanelRecord.spelt) (List._∷_ (7, Rows'.any-gone (Syntax.tyInt Syntax.w64)) (List._∷_ (8, Rows'.any-gone (Syntax.tyInt Syntax.w64)) (List._∷_ (9, Rows'.any-gone (Laws''.mir)) (List._∷_ (10, Rows'.any-gone (Laws.mir)) (List._∷_ (11, Rows'.any-gone OfStation.spelt) (List._∷_ (12, Rows'.any-gone (Syntax.tyInt Syntax.w64)) (List._∷_ (13, Rows'.any-gone OfPanelRecord.spelt) (List._∷_ (14, Rows'.any-gone Syntax.tyUnit) (List._∷_ (15, Rows'.any-gone (Syntax.tyRef Syntax.erased Syntax.mut OfOutput.named)) List.[])))))))))))))))
+t2 = List._∷_ (0, Rows'.whole (Declared.row Answer.the-type)) (List._∷_ (1, Mut.mslice (OfOutput.row) (Syntax.tyRef (Syntax.named 0) Syntax.mut OfOutput.named) 0) (List._∷_ (2, Mut.mslice (OfStation.row) (Syntax.tyRef (Syntax.named 1) Syntax.mut OfStation.named) 1) (List._∷_ (3, Rows'.mref (OfPanelRecord.row) (Syntax.tyRef (Syntax.named 2) Syntax.mut OfPanelRecord.named) 2) (List._∷_ (4, Rows'.sslice (Referent.rtF (Referent.fInt Syntax.w8)) (Syntax.tyRef (Syntax.named 3) Syntax.imm (Syntax.tyInt Syntax.w8)) 3) (List._∷_ (5, Rows'.any-gone (Laws.mir)) (List._∷_ (6, Rows'.any-gone OfPanelRecord.spelt) (List._∷_ (7, Rows'.any-gone (Syntax.tyInt Syntax.w64)) (List._∷_ (8, Rows'.any-gone (Syntax.tyInt Syntax.w64)) (List._∷_ (9, Rows'.any-gone (Laws''.mir)) (List._∷_ (10, Rows'.any-gone (Laws'.mir)) (List._∷_ (11, Rows'.any-gone OfStation.spelt) (List._∷_ (12, Rows'.any-gone (Syntax.tyInt Syntax.w64)) (List._∷_ (13, Rows'.any-gone OfPanelRecord.spelt) (List._∷_ (14, Rows'.any-gone Syntax.tyUnit) (List._∷_ (15, Rows'.any-gone (Syntax.tyRef Syntax.erased Syntax.mut OfOutput.named)) List.[])))))))))))))))
 
 abbrev pub t3 : List.List Row.Entry
-t3 = List._∷_ (0, Rows'.any-gone (Laws.mir)) (List._∷_ (1, Mut.mslice (OfOutput.row) (Syntax.tyRef (Syntax.named 0) Syntax.mut OfOutput.named) 0) (List._∷_ (2, Mut.mslice (OfStation.row) (Syntax.tyRef (Syntax.named 1) Syntax.mut OfStation.named) 1) (List._∷_ (3, Rows'.mref (OfPanelRecord.row) (Syntax.tyRef (Syntax.named 2) Syntax.mut OfPanelRecord.named) 2) (List._∷_ (4, Rows'.sslice (Referent.rtF (Referent.fInt Syntax.w8)) (Syntax.tyRef (Syntax.named 3) Syntax.imm (Syntax.tyInt Syntax.w8)) 3) (List._∷_ (5, Rows'.whole (Declared'.row Call.the-type)) (List._∷_ (6, OfPanelRecord.held) (List._∷_ (7, Rows'.any-gone (Syntax.tyInt Syntax.w64)) (List._∷_ (8, Rows'.any-gone (Syntax.tyInt Syntax.w64)) (List._∷_ (9, Rows'.any-gone (Laws''.mir)) (List._∷_ (10, Rows'.any-gone (Laws.mir)) (List._∷_ (11, Rows'.any-gone OfStation.spelt) (List._∷_ (12, Rows'.any-gone (Syntax.tyInt Syntax.w64)) (List._∷_ (13, Rows'.any-gone OfPanelRecord.spelt) (List._∷_ (14, Rows'.any-gone Syntax.tyUnit) (List._∷_ (15, Rows'.any-gone (Syntax.tyRef Syntax.erased Syntax.mut OfOutput.named)) List.[])))))))))))))))
+t3 = List._∷_ (0, Rows'.any-gone (Laws'.mir)) (List._∷_ (1, Mut.mslice (OfOutput.row) (Syntax.tyRef (Syntax.named 0) Syntax.mut OfOutput.named) 0) (List._∷_ (2, Mut.mslice (OfStation.row) (Syntax.tyRef (Syntax.named 1) Syntax.mut OfStation.named) 1) (List._∷_ (3, Rows'.mref (OfPanelRecord.row) (Syntax.tyRef (Syntax.named 2) Syntax.mut OfPanelRecord.named) 2) (List._∷_ (4, Rows'.sslice (Referent.rtF (Referent.fInt Syntax.w8)) (Syntax.tyRef (Syntax.named 3) Syntax.imm (Syntax.tyInt Syntax.w8)) 3) (List._∷_ (5, Rows'.whole (Declared'.row Call.the-type)) (List._∷_ (6, OfPanelRecord.held) (List._∷_ (7, Rows'.any-gone (Syntax.tyInt Syntax.w64)) (List._∷_ (8, Rows'.any-gone (Syntax.tyInt Syntax.w64)) (List._∷_ (9, Rows'.any-gone (Laws''.mir)) (List._∷_ (10, Rows'.any-gone (Laws'.mir)) (List._∷_ (11, Rows'.any-gone OfStation.spelt) (List._∷_ (12, Rows'.any-gone (Syntax.tyInt Syntax.w64)) (List._∷_ (13, Rows'.any-gone OfPanelRecord.spelt) (List._∷_ (14, Rows'.any-gone Syntax.tyUnit) (List._∷_ (15, Rows'.any-gone (Syntax.tyRef Syntax.erased Syntax.mut OfOutput.named)) List.[])))))))))))))))
 
 abbrev pub t4 : List.List Row.Entry
-t4 = List._∷_ (0, Rows'.any-gone (Laws.mir)) (List._∷_ (1, Mut.mslice (OfOutput.row) (Syntax.tyRef (Syntax.named 0) Syntax.mut OfOutput.named) 0) (List._∷_ (2, Mut.mslice (OfStation.row) (Syntax.tyRef (Syntax.named 1) Syntax.mut OfStation.named) 1) (List._∷_ (3, Rows'.mref (OfPanelRecord.row) (Syntax.tyRef (Syntax.named 2) Syntax.mut OfPanelRecord.named) 2) (List._∷_ (4, Rows'.sslice (Referent.rtF (Referent.fInt Syntax.w8)) (Syntax.tyRef (Syntax.named 3) Syntax.imm (Syntax.tyInt Syntax.w8)) 3) (List._∷_ (5, Rows'.whole (Declared'.row Call.the-type)) (List._∷_ (6, OfPanelRecord.held) (List._∷_ (7, Rows'.sc-here (Row.sInt Syntax.w64)) (List._∷_ (8, Rows'.any-gone (Syntax.tyInt Syntax.w64)) (List._∷_ (9, Rows'.any-gone (Laws''.mir)) (List._∷_ (10, Rows'.any-gone (Laws.mir)) (List._∷_ (11, Rows'.any-gone OfStation.spelt) (List._∷_ (12, Rows'.any-gone (Syntax.tyInt Syntax.w64)) (List._∷_ (13, Rows'.any-gone OfPanelRecord.spelt) (List._∷_ (14, Rows'.any-gone Syntax.tyUnit) (List._∷_ (15, Rows'.any-gone (Syntax.tyRef Syntax.erased Syntax.mut OfOutput.named)) List.[])))))))))))))))
+t4 = List._∷_ (0, Rows'.any-gone (Laws'.mir)) (List._∷_ (1, Mut.mslice (OfOutput.row) (Syntax.tyRef (Syntax.named 0) Syntax.mut OfOutput.named) 0) (List._∷_ (2, Mut.mslice (OfStation.row) (Syntax.tyRef (Syntax.named 1) Syntax.mut OfStation.named) 1) (List._∷_ (3, Rows'.mref (OfPanelRecord.row) (Syntax.tyRef (Syntax.named 2) Syntax.mut OfPanelRecord.named) 2) (List._∷_ (4, Rows'.sslice (Referent.rtF (Referent.fInt Syntax.w8)) (Syntax.tyRef (Syntax.named 3) Syntax.imm (Syntax.tyInt Syntax.w8)) 3) (List._∷_ (5, Rows'.whole (Declared'.row Call.the-type)) (List._∷_ (6, OfPanelRecord.held) (List._∷_ (7, Rows'.sc-here (Row.sInt Syntax.w64)) (List._∷_ (8, Rows'.any-gone (Syntax.tyInt Syntax.w64)) (List._∷_ (9, Rows'.any-gone (Laws''.mir)) (List._∷_ (10, Rows'.any-gone (Laws'.mir)) (List._∷_ (11, Rows'.any-gone OfStation.spelt) (List._∷_ (12, Rows'.any-gone (Syntax.tyInt Syntax.w64)) (List._∷_ (13, Rows'.any-gone OfPanelRecord.spelt) (List._∷_ (14, Rows'.any-gone Syntax.tyUnit) (List._∷_ (15, Rows'.any-gone (Syntax.tyRef Syntax.erased Syntax.mut OfOutput.named)) List.[])))))))))))))))
 
 abbrev pub t5 : List.List Row.Entry
-t5 = List._∷_ (0, Rows'.any-gone (Laws.mir)) (List._∷_ (1, Mut.mslice (OfOutput.row) (Syntax.tyRef (Syntax.named 0) Syntax.mut OfOutput.named) 0) (List._∷_ (2, Mut.mslice (OfStation.row) (Syntax.tyRef (Syntax.named 1) Syntax.mut OfStation.named) 1) (List._∷_ (3, Rows'.mref (OfPanelRecord.row) (Syntax.tyRef (Syntax.named 2) Syntax.mut OfPanelRecord.named) 2) (List._∷_ (4, Rows'.sslice (Referent.rtF (Referent.fInt Syntax.w8)) (Syntax.tyRef (Syntax.named 3) Syntax.imm (Syntax.tyInt Syntax.w8)) 3) (List._∷_ (5, Rows'.whole (Declared'.row Call.the-type)) (List._∷_ (6, OfPanelRecord.held) (List._∷_ (7, Rows'.sc-here (Row.sInt Syntax.w64)) (List._∷_ (8, Rows'.sc-here (Row.sInt Syntax.w64)) (List._∷_ (9, Rows'.any-gone (Laws''.mir)) (List._∷_ (10, Rows'.any-gone (Laws.mir)) (List._∷_ (11, Rows'.any-gone OfStation.spelt) (List._∷_ (12, Rows'.any-gone (Syntax.tyInt Syntax.w64)) (List._∷_ (13, Rows'.any-gone OfPanelRecord.spelt) (List._∷_ (14, Rows'.any-gone Syntax.tyUnit) (List._∷_ (15, Rows'.any-gone (Syntax.tyRef Syntax.erased Syntax.mut OfOutput.named)) List.[])))))))))))))))
+t5 = List._∷_ (0, Rows'.any-gone (Laws'.mir)) (List._∷_ (1, Mut.mslice (OfOutput.row) (Syntax.tyRef (Syntax.named 0) Syntax.mut OfOutput.named) 0) (List._∷_ (2, Mut.mslice (OfStation.row) (Syntax.tyRef (Syntax.named 1) Syntax.mut OfStation.named) 1) (List._∷_ (3, Rows'.mref (OfPanelRecord.row) (Syntax.tyRef (Syntax.named 2) Syntax.mut OfPanelRecord.named) 2) (List._∷_ (4, Rows'.sslice (Referent.rtF (Referent.fInt Syntax.w8)) (Syntax.tyRef (Syntax.named 3) Syntax.imm (Syntax.tyInt Syntax.w8)) 3) (List._∷_ (5, Rows'.whole (Declared'.row Call.the-type)) (List._∷_ (6, OfPanelRecord.held) (List._∷_ (7, Rows'.sc-here (Row.sInt Syntax.w64)) (List._∷_ (8, Rows'.sc-here (Row.sInt Syntax.w64)) (List._∷_ (9, Rows'.any-gone (Laws''.mir)) (List._∷_ (10, Rows'.any-gone (Laws'.mir)) (List._∷_ (11, Rows'.any-gone OfStation.spelt) (List._∷_ (12, Rows'.any-gone (Syntax.tyInt Syntax.w64)) (List._∷_ (13, Rows'.any-gone OfPanelRecord.spelt) (List._∷_ (14, Rows'.any-gone Syntax.tyUnit) (List._∷_ (15, Rows'.any-gone (Syntax.tyRef Syntax.erased Syntax.mut OfOutput.named)) List.[])))))))))))))))
 
 abbrev pub t6 : List.List Row.Entry
-t6 = List._∷_ (0, Rows'.any-gone (Laws.mir)) (List._∷_ (1, Relend.mslice-owed (OfOutput.row) (Syntax.tyRef (Syntax.named 0) Syntax.mut OfOutput.named) 0 4 Row.off) (List._∷_ (2, Mut.mslice (OfStation.row) (Syntax.tyRef (Syntax.named 1) Syntax.mut OfStation.named) 1) (List._∷_ (3, Rows'.mref (OfPanelRecord.row) (Syntax.tyRef (Syntax.named 2) Syntax.mut OfPanelRecord.named) 2) (List._∷_ (4, Rows'.sslice (Referent.rtF (Referent.fInt Syntax.w8)) (Syntax.tyRef (Syntax.named 3) Syntax.imm (Syntax.tyInt Syntax.w8)) 3) (List._∷_ (5, Rows'.whole (Declared'.row Call.the-type)) (List._∷_ (6, OfPanelRecord.held) (List._∷_ (7, Rows'.sc-here (Row.sInt Syntax.w64)) (List._∷_ (8, Rows'.sc-here (Row.sInt Syntax.w64)) (List._∷_ (9, Rows'.any-gone (Laws''.mir)) (List._∷_ (10, Rows'.any-gone (Laws.mir)) (List._∷_ (11, Rows'.any-gone OfStation.spelt) (List._∷_ (12, Rows'.any-gone (Syntax.tyInt Syntax.w64)) (List._∷_ (13, Rows'.any-gone OfPanelRecord.spelt) (List._∷_ (14, Rows'.any-gone Syntax.tyUnit) (List._∷_ (15, Relend.msptr (OfOutput.row) (Syntax.tyRef Syntax.erased Syntax.mut OfOutput.named) 4) List.[])))))))))))))))
+t6 = List._∷_ (0, Rows'.any-gone (Laws'.mir)) (List._∷_ (1, Relend.mslice-owed (OfOutput.row) (Syntax.tyRef (Syntax.named 0) Syntax.mut OfOutput.named) 0 4 Row.off) (List._∷_ (2, Mut.mslice (OfStation.row) (Syntax.tyRef (Syntax.named 1) Syntax.mut OfStation.named) 1) (List._∷_ (3, Rows'.mref (OfPanelRecord.row) (Syntax.tyRef (Syntax.named 2) Syntax.mut OfPanelRecord.named) 2) (List._∷_ (4, Rows'.sslice (Referent.rtF (Referent.fInt Syntax.w8)) (Syntax.tyRef (Syntax.named 3) Syntax.imm (Syntax.tyInt Syntax.w8)) 3) (List._∷_ (5, Rows'.whole (Declared'.row Call.the-type)) (List._∷_ (6, OfPanelRecord.held) (List._∷_ (7, Rows'.sc-here (Row.sInt Syntax.w64)) (List._∷_ (8, Rows'.sc-here (Row.sInt Syntax.w64)) (List._∷_ (9, Rows'.any-gone (Laws''.mir)) (List._∷_ (10, Rows'.any-gone (Laws'.mir)) (List._∷_ (11, Rows'.any-gone OfStation.spelt) (List._∷_ (12, Rows'.any-gone (Syntax.tyInt Syntax.w64)) (List._∷_ (13, Rows'.any-gone OfPanelRecord.spelt) (List._∷_ (14, Rows'.any-gone Syntax.tyUnit) (List._∷_ (15, Relend.msptr (OfOutput.row) (Syntax.tyRef Syntax.erased Syntax.mut OfOutput.named) 4) List.[])))))))))))))))
 
 abbrev pub t7 : List.List Row.Entry
-t7 = List._∷_ (0, Rows'.any-gone (Laws.mir)) (List._∷_ (1, Relend.mslice-owed (OfOutput.row) (Syntax.tyRef (Syntax.named 0) Syntax.mut OfOutput.named) 0 4 Row.off) (List._∷_ (2, Mut.mslice (OfStation.row) (Syntax.tyRef (Syntax.named 1) Syntax.mut OfStation.named) 1) (List._∷_ (3, Rows'.mref (OfPanelRecord.row) (Syntax.tyRef (Syntax.named 2) Syntax.mut OfPanelRecord.named) 2) (List._∷_ (4, Rows'.sslice (Referent.rtF (Referent.fInt Syntax.w8)) (Syntax.tyRef (Syntax.named 3) Syntax.imm (Syntax.tyInt Syntax.w8)) 3) (List._∷_ (5, Rows'.whole (Declared'.row Call.the-type)) (List._∷_ (6, OfPanelRecord.held) (List._∷_ (7, Rows'.sc-here (Row.sInt Syntax.w64)) (List._∷_ (8, Rows'.sc-here (Row.sInt Syntax.w64)) (List._∷_ (9, Rows'.any-gone (Laws''.mir)) (List._∷_ (10, Rows'.any-gone (Laws.mir)) (List._∷_ (11, Rows'.any-gone OfStation.spelt) (List._∷_ (12, Rows'.any-gone (Syntax.tyInt Syntax.w64)) (List._∷_ (13, Rows'.any-gone OfPanelRecord.spelt) (List._∷_ (14, Rows'.any-gone Syntax.tyUnit) (List._∷_ (15, Rows'.any-gone (Syntax.tyRef Syntax.erased Syntax.mut OfOutput.named)) List.[])))))))))))))))
+t7 = List._∷_ (0, Rows'.any-gone (Laws'.mir)) (List._∷_ (1, Relend.mslice-owed (OfOutput.row) (Syntax.tyRef (Syntax.named 0) Syntax.mut OfOutput.named) 0 4 Row.off) (List._∷_ (2, Mut.mslice (OfStation.row) (Syntax.tyRef (Syntax.named 1) Syntax.mut OfStation.named) 1) (List._∷_ (3, Rows'.mref (OfPanelRecord.row) (Syntax.tyRef (Syntax.named 2) Syntax.mut OfPanelRecord.named) 2) (List._∷_ (4, Rows'.sslice (Referent.rtF (Referent.fInt Syntax.w8)) (Syntax.tyRef (Syntax.named 3) Syntax.imm (Syntax.tyInt Syntax.w8)) 3) (List._∷_ (5, Rows'.whole (Declared'.row Call.the-type)) (List._∷_ (6, OfPanelRecord.held) (List._∷_ (7, Rows'.sc-here (Row.sInt Syntax.w64)) (List._∷_ (8, Rows'.sc-here (Row.sInt Syntax.w64)) (List._∷_ (9, Rows'.any-gone (Laws''.mir)) (List._∷_ (10, Rows'.any-gone (Laws'.mir)) (List._∷_ (11, Rows'.any-gone OfStation.spelt) (List._∷_ (12, Rows'.any-gone (Syntax.tyInt Syntax.w64)) (List._∷_ (13, Rows'.any-gone OfPanelRecord.spelt) (List._∷_ (14, Rows'.any-gone Syntax.tyUnit) (List._∷_ (15, Rows'.any-gone (Syntax.tyRef Syntax.erased Syntax.mut OfOutput.named)) List.[])))))))))))))))
 
 abbrev pub t8 : List.List Row.Entry
 t8 = List._∷_ (16, Mut.mslice (OfOutput.row) (Syntax.tyRef Syntax.erased Syntax.mut OfOutput.named) 4) (List._∷_ (17, Rows'.any-gone (Syntax.tyRef Syntax.erased Syntax.mut OfOutput.named)) (List._∷_ (18, Rows'.any-gone (Syntax.tyStruct (List._∷_ 38 (List._∷_ 91 (List._∷_ 93 List.[]))) (Syntax.tcons (Syntax.tyRef Syntax.erased Syntax.mut OfOutput.named) (Syntax.tcons (Syntax.tyInt Syntax.w64) Syntax.tnil)))) (List._∷_ (19, Rows'.any-gone (Syntax.tyInt Syntax.w64)) (List._∷_ (20, Rows'.any-gone Syntax.tyPtr) List.[]))))
 
 abbrev pub t9 : List.List Row.Entry
-t9 = List._∷_ (0, Rows'.any-gone (Laws.mir)) (List._∷_ (1, Relend.mslice-owed (OfOutput.row) (Syntax.tyRef (Syntax.named 0) Syntax.mut OfOutput.named) 0 4 Row.off) (List._∷_ (2, Mut.mslice (OfStation.row) (Syntax.tyRef (Syntax.named 1) Syntax.mut OfStation.named) 1) (List._∷_ (3, Rows'.mref (OfPanelRecord.row) (Syntax.tyRef (Syntax.named 2) Syntax.mut OfPanelRecord.named) 2) (List._∷_ (4, Rows'.sslice (Referent.rtF (Referent.fInt Syntax.w8)) (Syntax.tyRef (Syntax.named 3) Syntax.imm (Syntax.tyInt Syntax.w8)) 3) (List._∷_ (5, Rows'.whole (Declared'.row Call.the-type)) (List._∷_ (6, OfPanelRecord.held) (List._∷_ (7, Rows'.sc-here (Row.sInt Syntax.w64)) (List._∷_ (8, Rows'.sc-here (Row.sInt Syntax.w64)) (List._∷_ (9, Rows'.any-gone (Laws''.mir)) (List._∷_ (10, Rows'.any-gone (Laws.mir)) (List._∷_ (11, Rows'.any-gone OfStation.spelt) (List._∷_ (12, Rows'.any-gone (Syntax.tyInt Syntax.w64)) (List._∷_ (13, Rows'.any-gone OfPanelRecord.spelt) (List._∷_ (14, Rows'.sc-here Row.sUnit) (List._∷_ (15, Rows'.any-gone (Syntax.tyRef Syntax.erased Syntax.mut OfOutput.named)) List.[])))))))))))))))
+t9 = List._∷_ (0, Rows'.any-gone (Laws'.mir)) (List._∷_ (1, Relend.mslice-owed (OfOutput.row) (Syntax.tyRef (Syntax.named 0) Syntax.mut OfOutput.named) 0 4 Row.off) (List._∷_ (2, Mut.mslice (OfStation.row) (Syntax.tyRef (Syntax.named 1) Syntax.mut OfStation.named) 1) (List._∷_ (3, Rows'.mref (OfPanelRecord.row) (Syntax.tyRef (Syntax.named 2) Syntax.mut OfPanelRecord.named) 2) (List._∷_ (4, Rows'.sslice (Referent.rtF (Referent.fInt Syntax.w8)) (Syntax.tyRef (Syntax.named 3) Syntax.imm (Syntax.tyInt Syntax.w8)) 3) (List._∷_ (5, Rows'.whole (Declared'.row Call.the-type)) (List._∷_ (6, OfPanelRecord.held) (List._∷_ (7, Rows'.sc-here (Row.sInt Syntax.w64)) (List._∷_ (8, Rows'.sc-here (Row.sInt Syntax.w64)) (List._∷_ (9, Rows'.any-gone (Laws''.mir)) (List._∷_ (10, Rows'.any-gone (Laws'.mir)) (List._∷_ (11, Rows'.any-gone OfStation.spelt) (List._∷_ (12, Rows'.any-gone (Syntax.tyInt Syntax.w64)) (List._∷_ (13, Rows'.any-gone OfPanelRecord.spelt) (List._∷_ (14, Rows'.sc-here Row.sUnit) (List._∷_ (15, Rows'.any-gone (Syntax.tyRef Syntax.erased Syntax.mut OfOutput.named)) List.[])))))))))))))))
 
 abbrev pub t10 : List.List Row.Entry
 t10 = List._∷_ (16, Mut.msleft (OfOutput.row) (Syntax.tyRef Syntax.erased Syntax.mut OfOutput.named)) (List._∷_ (17, Rows'.any-gone (Syntax.tyRef Syntax.erased Syntax.mut OfOutput.named)) (List._∷_ (18, Rows'.any-gone (Syntax.tyStruct (List._∷_ 38 (List._∷_ 91 (List._∷_ 93 List.[]))) (Syntax.tcons (Syntax.tyRef Syntax.erased Syntax.mut OfOutput.named) (Syntax.tcons (Syntax.tyInt Syntax.w64) Syntax.tnil)))) (List._∷_ (19, Rows'.any-gone (Syntax.tyInt Syntax.w64)) (List._∷_ (20, Rows'.any-gone Syntax.tyPtr) List.[]))))
 
 abbrev pub t11 : List.List Row.Entry
-t11 = List._∷_ (0, Rows'.any-gone (Laws.mir)) (List._∷_ (1, Mut.mslice (OfOutput.row) (Syntax.tyRef (Syntax.named 0) Syntax.mut OfOutput.named) 0) (List._∷_ (2, Mut.mslice (OfStation.row) (Syntax.tyRef (Syntax.named 1) Syntax.mut OfStation.named) 1) (List._∷_ (3, Rows'.mref (OfPanelRecord.row) (Syntax.tyRef (Syntax.named 2) Syntax.mut OfPanelRecord.named) 2) (List._∷_ (4, Rows'.sslice (Referent.rtF (Referent.fInt Syntax.w8)) (Syntax.tyRef (Syntax.named 3) Syntax.imm (Syntax.tyInt Syntax.w8)) 3) (List._∷_ (5, Rows'.whole (Declared'.row Call.the-type)) (List._∷_ (6, OfPanelRecord.held) (List._∷_ (7, Rows'.sc-here (Row.sInt Syntax.w64)) (List._∷_ (8, Rows'.sc-here (Row.sInt Syntax.w64)) (List._∷_ (9, Rows'.whole (Declared.row Request.the-type)) (List._∷_ (10, Rows'.any-gone (Laws.mir)) (List._∷_ (11, Rows'.any-gone OfStation.spelt) (List._∷_ (12, Rows'.any-gone (Syntax.tyInt Syntax.w64)) (List._∷_ (13, Rows'.any-gone OfPanelRecord.spelt) (List._∷_ (14, Rows'.any-gone Syntax.tyUnit) (List._∷_ (15, Rows'.any-gone (Syntax.tyRef Syntax.erased Syntax.mut OfOutput.named)) List.[])))))))))))))))
+t11 = List._∷_ (0, Rows'.any-gone (Laws'.mir)) (List._∷_ (1, Mut.mslice (OfOutput.row) (Syntax.tyRef (Syntax.named 0) Syntax.mut OfOutput.named) 0) (List._∷_ (2, Mut.mslice (OfStation.row) (Syntax.tyRef (Syntax.named 1) Syntax.mut OfStation.named) 1) (List._∷_ (3, Rows'.mref (OfPanelRecord.row) (Syntax.tyRef (Syntax.named 2) Syntax.mut OfPanelRecord.named) 2) (List._∷_ (4, Rows'.sslice (Referent.rtF (Referent.fInt Syntax.w8)) (Syntax.tyRef (Syntax.named 3) Syntax.imm (Syntax.tyInt Syntax.w8)) 3) (List._∷_ (5, Rows'.whole (Declared'.row Call.the-type)) (List._∷_ (6, OfPanelRecord.held) (List._∷_ (7, Rows'.sc-here (Row.sInt Syntax.w64)) (List._∷_ (8, Rows'.sc-here (Row.sInt Syntax.w64)) (List._∷_ (9, Rows'.whole (Declared.row Request.the-type)) (List._∷_ (10, Rows'.any-gone (Laws'.mir)) (List._∷_ (11, Rows'.any-gone OfStation.spelt) (List._∷_ (12, Rows'.any-gone (Syntax.tyInt Syntax.w64)) (List._∷_ (13, Rows'.any-gone OfPanelRecord.spelt) (List._∷_ (14, Rows'.any-gone Syntax.tyUnit) (List._∷_ (15, Rows'.any-gone (Syntax.tyRef Syntax.erased Syntax.mut OfOutput.named)) List.[])))))))))))))))
 
 abbrev pub t12 : List.List Row.Entry
-t12 = List._∷_ (0, Rows'.any-gone (Laws.mir)) (List._∷_ (1, Relend.mslice-owed (OfOutput.row) (Syntax.tyRef (Syntax.named 0) Syntax.mut OfOutput.named) 0 5 Row.off) (List._∷_ (2, Mut.mslice (OfStation.row) (Syntax.tyRef (Syntax.named 1) Syntax.mut OfStation.named) 1) (List._∷_ (3, Rows'.mref (OfPanelRecord.row) (Syntax.tyRef (Syntax.named 2) Syntax.mut OfPanelRecord.named) 2) (List._∷_ (4, Rows'.sslice (Referent.rtF (Referent.fInt Syntax.w8)) (Syntax.tyRef (Syntax.named 3) Syntax.imm (Syntax.tyInt Syntax.w8)) 3) (List._∷_ (5, Rows'.whole (Declared'.row Call.the-type)) (List._∷_ (6, OfPanelRecord.held) (List._∷_ (7, Rows'.sc-here (Row.sInt Syntax.w64)) (List._∷_ (8, Rows'.sc-here (Row.sInt Syntax.w64)) (List._∷_ (9, Rows'.whole (Declared.row Request.the-type)) (List._∷_ (10, Rows'.any-gone (Laws.mir)) (List._∷_ (11, Rows'.any-gone OfStation.spelt) (List._∷_ (12, Rows'.any-gone (Syntax.tyInt Syntax.w64)) (List._∷_ (13, Rows'.any-gone OfPanelRecord.spelt) (List._∷_ (14, Rows'.any-gone Syntax.tyUnit) (List._∷_ (15, Rows'.any-gone (Syntax.tyRef Syntax.erased Syntax.mut OfOutput.named)) List.[])))))))))))))))
+t12 = List._∷_ (0, Rows'.any-gone (Laws'.mir)) (List._∷_ (1, Relend.mslice-owed (OfOutput.row) (Syntax.tyRef (Syntax.named 0) Syntax.mut OfOutput.named) 0 5 Row.off) (List._∷_ (2, Mut.mslice (OfStation.row) (Syntax.tyRef (Syntax.named 1) Syntax.mut OfStation.named) 1) (List._∷_ (3, Rows'.mref (OfPanelRecord.row) (Syntax.tyRef (Syntax.named 2) Syntax.mut OfPanelRecord.named) 2) (List._∷_ (4, Rows'.sslice (Referent.rtF (Referent.fInt Syntax.w8)) (Syntax.tyRef (Syntax.named 3) Syntax.imm (Syntax.tyInt Syntax.w8)) 3) (List._∷_ (5, Rows'.whole (Declared'.row Call.the-type)) (List._∷_ (6, OfPanelRecord.held) (List._∷_ (7, Rows'.sc-here (Row.sInt Syntax.w64)) (List._∷_ (8, Rows'.sc-here (Row.sInt Syntax.w64)) (List._∷_ (9, Rows'.whole (Declared.row Request.the-type)) (List._∷_ (10, Rows'.any-gone (Laws'.mir)) (List._∷_ (11, Rows'.any-gone OfStation.spelt) (List._∷_ (12, Rows'.any-gone (Syntax.tyInt Syntax.w64)) (List._∷_ (13, Rows'.any-gone OfPanelRecord.spelt) (List._∷_ (14, Rows'.any-gone Syntax.tyUnit) (List._∷_ (15, Rows'.any-gone (Syntax.tyRef Syntax.erased Syntax.mut OfOutput.named)) List.[])))))))))))))))
 
 abbrev pub t13 : List.List Row.Entry
 t13 = List._∷_ (16, Rows'.any-gone (Syntax.tyStruct (List._∷_ 38 (List._∷_ 91 (List._∷_ 93 List.[]))) (Syntax.tcons (Syntax.tyRef Syntax.erased Syntax.mut OfOutput.named) (Syntax.tcons (Syntax.tyInt Syntax.w64) Syntax.tnil)))) (List._∷_ (17, Relend.msptr (OfOutput.row) (Syntax.tyRef Syntax.erased Syntax.mut OfOutput.named) 5) (List._∷_ (18, Rows'.any-gone (Syntax.tyStruct (List._∷_ 38 (List._∷_ 91 (List._∷_ 93 List.[]))) (Syntax.tcons (Syntax.tyRef Syntax.erased Syntax.mut OfOutput.named) (Syntax.tcons (Syntax.tyInt Syntax.w64) Syntax.tnil)))) (List._∷_ (19, Rows'.any-gone (Syntax.tyInt Syntax.w64)) (List._∷_ (20, Rows'.any-gone Syntax.tyPtr) List.[]))))
@@ -286,28 +286,28 @@ abbrev pub t15 : List.List Row.Entry
 t15 = List._∷_ (16, Rows'.any-gone (Syntax.tyStruct (List._∷_ 38 (List._∷_ 91 (List._∷_ 93 List.[]))) (Syntax.tcons (Syntax.tyRef Syntax.erased Syntax.mut OfOutput.named) (Syntax.tcons (Syntax.tyInt Syntax.w64) Syntax.tnil)))) (List._∷_ (17, Rows'.any-gone (Syntax.tyRef Syntax.erased Syntax.mut OfOutput.named)) (List._∷_ (18, Mut.mslice (OfOutput.row) (Syntax.tyRef Syntax.erased Syntax.mut OfOutput.named) 5) (List._∷_ (19, Rows'.sc-here (Row.sInt Syntax.w64)) (List._∷_ (20, Rows'.any-gone Syntax.tyPtr) List.[]))))
 
 abbrev pub t16 : List.List Row.Entry
-t16 = List._∷_ (0, Rows'.any-gone (Laws.mir)) (List._∷_ (1, Relend.mslice-owed (OfOutput.row) (Syntax.tyRef (Syntax.named 0) Syntax.mut OfOutput.named) 0 5 Row.off) (List._∷_ (2, Mut.mslice (OfStation.row) (Syntax.tyRef (Syntax.named 1) Syntax.mut OfStation.named) 1) (List._∷_ (3, Rows'.mref (OfPanelRecord.row) (Syntax.tyRef (Syntax.named 2) Syntax.mut OfPanelRecord.named) 2) (List._∷_ (4, Rows'.sslice (Referent.rtF (Referent.fInt Syntax.w8)) (Syntax.tyRef (Syntax.named 3) Syntax.imm (Syntax.tyInt Syntax.w8)) 3) (List._∷_ (5, Rows'.whole (Declared'.row Call.the-type)) (List._∷_ (6, OfPanelRecord.held) (List._∷_ (7, Rows'.sc-here (Row.sInt Syntax.w64)) (List._∷_ (8, Rows'.sc-here (Row.sInt Syntax.w64)) (List._∷_ (9, Rows'.whole (Declared.row Request.the-type)) (List._∷_ (10, Rows'.whole (Declared.row Answer.the-type)) (List._∷_ (11, Rows'.any-gone OfStation.spelt) (List._∷_ (12, Rows'.any-gone (Syntax.tyInt Syntax.w64)) (List._∷_ (13, Rows'.any-gone OfPanelRecord.spelt) (List._∷_ (14, Rows'.any-gone Syntax.tyUnit) (List._∷_ (15, Rows'.any-gone (Syntax.tyRef Syntax.erased Syntax.mut OfOutput.named)) List.[])))))))))))))))
+t16 = List._∷_ (0, Rows'.any-gone (Laws'.mir)) (List._∷_ (1, Relend.mslice-owed (OfOutput.row) (Syntax.tyRef (Syntax.named 0) Syntax.mut OfOutput.named) 0 5 Row.off) (List._∷_ (2, Mut.mslice (OfStation.row) (Syntax.tyRef (Syntax.named 1) Syntax.mut OfStation.named) 1) (List._∷_ (3, Rows'.mref (OfPanelRecord.row) (Syntax.tyRef (Syntax.named 2) Syntax.mut OfPanelRecord.named) 2) (List._∷_ (4, Rows'.sslice (Referent.rtF (Referent.fInt Syntax.w8)) (Syntax.tyRef (Syntax.named 3) Syntax.imm (Syntax.tyInt Syntax.w8)) 3) (List._∷_ (5, Rows'.whole (Declared'.row Call.the-type)) (List._∷_ (6, OfPanelRecord.held) (List._∷_ (7, Rows'.sc-here (Row.sInt Syntax.w64)) (List._∷_ (8, Rows'.sc-here (Row.sInt Syntax.w64)) (List._∷_ (9, Rows'.whole (Declared.row Request.the-type)) (List._∷_ (10, Rows'.whole (Declared.row Answer.the-type)) (List._∷_ (11, Rows'.any-gone OfStation.spelt) (List._∷_ (12, Rows'.any-gone (Syntax.tyInt Syntax.w64)) (List._∷_ (13, Rows'.any-gone OfPanelRecord.spelt) (List._∷_ (14, Rows'.any-gone Syntax.tyUnit) (List._∷_ (15, Rows'.any-gone (Syntax.tyRef Syntax.erased Syntax.mut OfOutput.named)) List.[])))))))))))))))
 
 abbrev pub t17 : List.List Row.Entry
 t17 = List._∷_ (16, Rows'.any-gone (Syntax.tyStruct (List._∷_ 38 (List._∷_ 91 (List._∷_ 93 List.[]))) (Syntax.tcons (Syntax.tyRef Syntax.erased Syntax.mut OfOutput.named) (Syntax.tcons (Syntax.tyInt Syntax.w64) Syntax.tnil)))) (List._∷_ (17, Rows'.any-gone (Syntax.tyRef Syntax.erased Syntax.mut OfOutput.named)) (List._∷_ (18, Mut.msleft (OfOutput.row) (Syntax.tyRef Syntax.erased Syntax.mut OfOutput.named)) (List._∷_ (19, Rows'.sc-here (Row.sInt Syntax.w64)) (List._∷_ (20, Rows'.any-gone Syntax.tyPtr) List.[]))))
 
 abbrev pub t18 : List.List Row.Entry
-t18 = List._∷_ (0, Rows'.any-gone (Laws.mir)) (List._∷_ (1, Relend.mslice-owed (OfOutput.row) (Syntax.tyRef (Syntax.named 0) Syntax.mut OfOutput.named) 0 5 Row.off) (List._∷_ (2, Mut.mslice (OfStation.row) (Syntax.tyRef (Syntax.named 1) Syntax.mut OfStation.named) 1) (List._∷_ (3, Rows'.mref (OfPanelRecord.row) (Syntax.tyRef (Syntax.named 2) Syntax.mut OfPanelRecord.named) 2) (List._∷_ (4, Rows'.sslice (Referent.rtF (Referent.fInt Syntax.w8)) (Syntax.tyRef (Syntax.named 3) Syntax.imm (Syntax.tyInt Syntax.w8)) 3) (List._∷_ (5, Rows'.whole (Declared'.row Call.the-type)) (List._∷_ (6, OfPanelRecord.held) (List._∷_ (7, Rows'.sc-here (Row.sInt Syntax.w64)) (List._∷_ (8, Rows'.sc-here (Row.sInt Syntax.w64)) (List._∷_ (9, Rows'.any-gone (Laws''.mir)) (List._∷_ (10, Rows'.whole (Declared.row Answer.the-type)) (List._∷_ (11, Rows'.any-gone OfStation.spelt) (List._∷_ (12, Rows'.any-gone (Syntax.tyInt Syntax.w64)) (List._∷_ (13, Rows'.any-gone OfPanelRecord.spelt) (List._∷_ (14, Rows'.any-gone Syntax.tyUnit) (List._∷_ (15, Rows'.any-gone (Syntax.tyRef Syntax.erased Syntax.mut OfOutput.named)) List.[])))))))))))))))
+t18 = List._∷_ (0, Rows'.any-gone (Laws'.mir)) (List._∷_ (1, Relend.mslice-owed (OfOutput.row) (Syntax.tyRef (Syntax.named 0) Syntax.mut OfOutput.named) 0 5 Row.off) (List._∷_ (2, Mut.mslice (OfStation.row) (Syntax.tyRef (Syntax.named 1) Syntax.mut OfStation.named) 1) (List._∷_ (3, Rows'.mref (OfPanelRecord.row) (Syntax.tyRef (Syntax.named 2) Syntax.mut OfPanelRecord.named) 2) (List._∷_ (4, Rows'.sslice (Referent.rtF (Referent.fInt Syntax.w8)) (Syntax.tyRef (Syntax.named 3) Syntax.imm (Syntax.tyInt Syntax.w8)) 3) (List._∷_ (5, Rows'.whole (Declared'.row Call.the-type)) (List._∷_ (6, OfPanelRecord.held) (List._∷_ (7, Rows'.sc-here (Row.sInt Syntax.w64)) (List._∷_ (8, Rows'.sc-here (Row.sInt Syntax.w64)) (List._∷_ (9, Rows'.any-gone (Laws''.mir)) (List._∷_ (10, Rows'.whole (Declared.row Answer.the-type)) (List._∷_ (11, Rows'.any-gone OfStation.spelt) (List._∷_ (12, Rows'.any-gone (Syntax.tyInt Syntax.w64)) (List._∷_ (13, Rows'.any-gone OfPanelRecord.spelt) (List._∷_ (14, Rows'.any-gone Syntax.tyUnit) (List._∷_ (15, Rows'.any-gone (Syntax.tyRef Syntax.erased Syntax.mut OfOutput.named)) List.[])))))))))))))))
 
 abbrev pub t19 : List.List Row.Entry
 t19 = List._∷_ (16, Rows'.any-gone (Syntax.tyStruct (List._∷_ 38 (List._∷_ 91 (List._∷_ 93 List.[]))) (Syntax.tcons (Syntax.tyRef Syntax.erased Syntax.mut OfOutput.named) (Syntax.tcons (Syntax.tyInt Syntax.w64) Syntax.tnil)))) (List._∷_ (17, Rows'.any-gone (Syntax.tyRef Syntax.erased Syntax.mut OfOutput.named)) (List._∷_ (18, Mut.msleft (OfOutput.row) (Syntax.tyRef Syntax.erased Syntax.mut OfOutput.named)) (List._∷_ (19, Rows'.any-gone (Syntax.tyInt Syntax.w64)) (List._∷_ (20, Rows'.any-gone Syntax.tyPtr) List.[]))))
 
 abbrev pub t20 : List.List Row.Entry
-t20 = List._∷_ (0, Rows'.any-gone (Laws.mir)) (List._∷_ (1, Mut.mslice (OfOutput.row) (Syntax.tyRef (Syntax.named 0) Syntax.mut OfOutput.named) 0) (List._∷_ (2, Mut.mslice (OfStation.row) (Syntax.tyRef (Syntax.named 1) Syntax.mut OfStation.named) 1) (List._∷_ (3, Rows'.mref (OfPanelRecord.row) (Syntax.tyRef (Syntax.named 2) Syntax.mut OfPanelRecord.named) 2) (List._∷_ (4, Rows'.sslice (Referent.rtF (Referent.fInt Syntax.w8)) (Syntax.tyRef (Syntax.named 3) Syntax.imm (Syntax.tyInt Syntax.w8)) 3) (List._∷_ (5, Rows'.whole (Declared'.row Call.the-type)) (List._∷_ (6, OfPanelRecord.held) (List._∷_ (7, Rows'.sc-here (Row.sInt Syntax.w64)) (List._∷_ (8, Rows'.sc-here (Row.sInt Syntax.w64)) (List._∷_ (9, Rows'.any-gone (Laws''.mir)) (List._∷_ (10, Rows'.whole (Declared.row Answer.the-type)) (List._∷_ (11, Rows'.any-gone OfStation.spelt) (List._∷_ (12, Rows'.any-gone (Syntax.tyInt Syntax.w64)) (List._∷_ (13, Rows'.any-gone OfPanelRecord.spelt) (List._∷_ (14, Rows'.any-gone Syntax.tyUnit) (List._∷_ (15, Rows'.any-gone (Syntax.tyRef Syntax.erased Syntax.mut OfOutput.named)) List.[])))))))))))))))
+t20 = List._∷_ (0, Rows'.any-gone (Laws'.mir)) (List._∷_ (1, Mut.mslice (OfOutput.row) (Syntax.tyRef (Syntax.named 0) Syntax.mut OfOutput.named) 0) (List._∷_ (2, Mut.mslice (OfStation.row) (Syntax.tyRef (Syntax.named 1) Syntax.mut OfStation.named) 1) (List._∷_ (3, Rows'.mref (OfPanelRecord.row) (Syntax.tyRef (Syntax.named 2) Syntax.mut OfPanelRecord.named) 2) (List._∷_ (4, Rows'.sslice (Referent.rtF (Referent.fInt Syntax.w8)) (Syntax.tyRef (Syntax.named 3) Syntax.imm (Syntax.tyInt Syntax.w8)) 3) (List._∷_ (5, Rows'.whole (Declared'.row Call.the-type)) (List._∷_ (6, OfPanelRecord.held) (List._∷_ (7, Rows'.sc-here (Row.sInt Syntax.w64)) (List._∷_ (8, Rows'.sc-here (Row.sInt Syntax.w64)) (List._∷_ (9, Rows'.any-gone (Laws''.mir)) (List._∷_ (10, Rows'.whole (Declared.row Answer.the-type)) (List._∷_ (11, Rows'.any-gone OfStation.spelt) (List._∷_ (12, Rows'.any-gone (Syntax.tyInt Syntax.w64)) (List._∷_ (13, Rows'.any-gone OfPanelRecord.spelt) (List._∷_ (14, Rows'.any-gone Syntax.tyUnit) (List._∷_ (15, Rows'.any-gone (Syntax.tyRef Syntax.erased Syntax.mut OfOutput.named)) List.[])))))))))))))))
 
 abbrev pub t21 : List.List Row.Entry
-t21 = List._∷_ (0, Rows'.any-gone (Laws.mir)) (List._∷_ (1, Mut.mslice (OfOutput.row) (Syntax.tyRef (Syntax.named 0) Syntax.mut OfOutput.named) 0) (List._∷_ (2, Mut.mslice (OfStation.row) (Syntax.tyRef (Syntax.named 1) Syntax.mut OfStation.named) 1) (List._∷_ (3, Rows'.mref (OfPanelRecord.row) (Syntax.tyRef (Syntax.named 2) Syntax.mut OfPanelRecord.named) 2) (List._∷_ (4, Rows'.sslice (Referent.rtF (Referent.fInt Syntax.w8)) (Syntax.tyRef (Syntax.named 3) Syntax.imm (Syntax.tyInt Syntax.w8)) 3) (List._∷_ (5, Rows'.whole (Declared'.row Call.the-type)) (List._∷_ (6, OfPanelRecord.held) (List._∷_ (7, Rows'.sc-here (Row.sInt Syntax.w64)) (List._∷_ (8, Rows'.sc-here (Row.sInt Syntax.w64)) (List._∷_ (9, Rows'.any-gone (Laws''.mir)) (List._∷_ (10, Rows'.whole (Declared.row Answer.the-type)) (List._∷_ (11, OfStation.held) (List._∷_ (12, Rows'.any-gone (Syntax.tyInt Syntax.w64)) (List._∷_ (13, Rows'.any-gone OfPanelRecord.spelt) (List._∷_ (14, Rows'.any-gone Syntax.tyUnit) (List._∷_ (15, Rows'.any-gone (Syntax.tyRef Syntax.erased Syntax.mut OfOutput.named)) List.[])))))))))))))))
+t21 = List._∷_ (0, Rows'.any-gone (Laws'.mir)) (List._∷_ (1, Mut.mslice (OfOutput.row) (Syntax.tyRef (Syntax.named 0) Syntax.mut OfOutput.named) 0) (List._∷_ (2, Mut.mslice (OfStation.row) (Syntax.tyRef (Syntax.named 1) Syntax.mut OfStation.named) 1) (List._∷_ (3, Rows'.mref (OfPanelRecord.row) (Syntax.tyRef (Syntax.named 2) Syntax.mut OfPanelRecord.named) 2) (List._∷_ (4, Rows'.sslice (Referent.rtF (Referent.fInt Syntax.w8)) (Syntax.tyRef (Syntax.named 3) Syntax.imm (Syntax.tyInt Syntax.w8)) 3) (List._∷_ (5, Rows'.whole (Declared'.row Call.the-type)) (List._∷_ (6, OfPanelRecord.held) (List._∷_ (7, Rows'.sc-here (Row.sInt Syntax.w64)) (List._∷_ (8, Rows'.sc-here (Row.sInt Syntax.w64)) (List._∷_ (9, Rows'.any-gone (Laws''.mir)) (List._∷_ (10, Rows'.whole (Declared.row Answer.the-type)) (List._∷_ (11, OfStation.held) (List._∷_ (12, Rows'.any-gone (Syntax.tyInt Syntax.w64)) (List._∷_ (13, Rows'.any-gone OfPanelRecord.spelt) (List._∷_ (14, Rows'.any-gone Syntax.tyUnit) (List._∷_ (15, Rows'.any-gone (Syntax.tyRef Syntax.erased Syntax.mut OfOutput.named)) List.[])))))))))))))))
 
 abbrev pub t22 : List.List Row.Entry
-t22 = List._∷_ (0, Rows'.any-gone (Laws.mir)) (List._∷_ (1, Mut.mslice (OfOutput.row) (Syntax.tyRef (Syntax.named 0) Syntax.mut OfOutput.named) 0) (List._∷_ (2, Mut.mslice (OfStation.row) (Syntax.tyRef (Syntax.named 1) Syntax.mut OfStation.named) 1) (List._∷_ (3, Rows'.mref (OfPanelRecord.row) (Syntax.tyRef (Syntax.named 2) Syntax.mut OfPanelRecord.named) 2) (List._∷_ (4, Rows'.sslice (Referent.rtF (Referent.fInt Syntax.w8)) (Syntax.tyRef (Syntax.named 3) Syntax.imm (Syntax.tyInt Syntax.w8)) 3) (List._∷_ (5, Rows'.whole (Declared'.row Call.the-type)) (List._∷_ (6, OfPanelRecord.held) (List._∷_ (7, Rows'.sc-here (Row.sInt Syntax.w64)) (List._∷_ (8, Rows'.sc-here (Row.sInt Syntax.w64)) (List._∷_ (9, Rows'.any-gone (Laws''.mir)) (List._∷_ (10, Rows'.whole (Declared.row Answer.the-type)) (List._∷_ (11, OfStation.held) (List._∷_ (12, Rows'.sc-here (Row.sInt Syntax.w64)) (List._∷_ (13, Rows'.any-gone OfPanelRecord.spelt) (List._∷_ (14, Rows'.any-gone Syntax.tyUnit) (List._∷_ (15, Rows'.any-gone (Syntax.tyRef Syntax.erased Syntax.mut OfOutput.named)) List.[])))))))))))))))
+t22 = List._∷_ (0, Rows'.any-gone (Laws'.mir)) (List._∷_ (1, Mut.mslice (OfOutput.row) (Syntax.tyRef (Syntax.named 0) Syntax.mut OfOutput.named) 0) (List._∷_ (2, Mut.mslice (OfStation.row) (Syntax.tyRef (Syntax.named 1) Syntax.mut OfStation.named) 1) (List._∷_ (3, Rows'.mref (OfPanelRecord.row) (Syntax.tyRef (Syntax.named 2) Syntax.mut OfPanelRecord.named) 2) (List._∷_ (4, Rows'.sslice (Referent.rtF (Referent.fInt Syntax.w8)) (Syntax.tyRef (Syntax.named 3) Syntax.imm (Syntax.tyInt Syntax.w8)) 3) (List._∷_ (5, Rows'.whole (Declared'.row Call.the-type)) (List._∷_ (6, OfPanelRecord.held) (List._∷_ (7, Rows'.sc-here (Row.sInt Syntax.w64)) (List._∷_ (8, Rows'.sc-here (Row.sInt Syntax.w64)) (List._∷_ (9, Rows'.any-gone (Laws''.mir)) (List._∷_ (10, Rows'.whole (Declared.row Answer.the-type)) (List._∷_ (11, OfStation.held) (List._∷_ (12, Rows'.sc-here (Row.sInt Syntax.w64)) (List._∷_ (13, Rows'.any-gone OfPanelRecord.spelt) (List._∷_ (14, Rows'.any-gone Syntax.tyUnit) (List._∷_ (15, Rows'.any-gone (Syntax.tyRef Syntax.erased Syntax.mut OfOutput.named)) List.[])))))))))))))))
 
 abbrev pub t23 : List.List Row.Entry
-t23 = List._∷_ (0, Rows'.any-gone (Laws.mir)) (List._∷_ (1, Mut.mslice (OfOutput.row) (Syntax.tyRef (Syntax.named 0) Syntax.mut OfOutput.named) 0) (List._∷_ (2, Mut.mslice (OfStation.row) (Syntax.tyRef (Syntax.named 1) Syntax.mut OfStation.named) 1) (List._∷_ (3, Rows'.mref (OfPanelRecord.row) (Syntax.tyRef (Syntax.named 2) Syntax.mut OfPanelRecord.named) 2) (List._∷_ (4, Rows'.sslice (Referent.rtF (Referent.fInt Syntax.w8)) (Syntax.tyRef (Syntax.named 3) Syntax.imm (Syntax.tyInt Syntax.w8)) 3) (List._∷_ (5, Rows'.any-gone (Laws'.mir)) (List._∷_ (6, OfPanelRecord.held) (List._∷_ (7, Rows'.sc-here (Row.sInt Syntax.w64)) (List._∷_ (8, Rows'.sc-here (Row.sInt Syntax.w64)) (List._∷_ (9, Rows'.any-gone (Laws''.mir)) (List._∷_ (10, Rows'.whole (Declared.row Answer.the-type)) (List._∷_ (11, OfStation.held) (List._∷_ (12, Rows'.sc-here (Row.sInt Syntax.w64)) (List._∷_ (13, Rows'.any-gone OfPanelRecord.spelt) (List._∷_ (14, Rows'.any-gone Syntax.tyUnit) (List._∷_ (15, Rows'.any-gone (Syntax.tyRef Syntax.erased Syntax.mut OfOutput.named)) List.[])))))))))))))))
+t23 = List._∷_ (0, Rows'.any-gone (Laws'.mir)) (List._∷_ (1, Mut.mslice (OfOutput.row) (Syntax.tyRef (Syntax.named 0) Syntax.mut OfOutput.named) 0) (List._∷_ (2, Mut.mslice (OfStation.row) (Syntax.tyRef (Syntax.named 1) Syntax.mut OfStation.named) 1) (List._∷_ (3, Rows'.mref (OfPanelRecord.row) (Syntax.tyRef (Syntax.named 2) Syntax.mut OfPanelRecord.named) 2) (List._∷_ (4, Rows'.sslice (Referent.rtF (Referent.fInt Syntax.w8)) (Syntax.tyRef (Syntax.named 3) Syntax.imm (Syntax.tyInt Syntax.w8)) 3) (List._∷_ (5, Rows'.any-gone (Laws.mir)) (List._∷_ (6, OfPanelRecord.held) (List._∷_ (7, Rows'.sc-here (Row.sInt Syntax.w64)) (List._∷_ (8, Rows'.sc-here (Row.sInt Syntax.w64)) (List._∷_ (9, Rows'.any-gone (Laws''.mir)) (List._∷_ (10, Rows'.whole (Declared.row Answer.the-type)) (List._∷_ (11, OfStation.held) (List._∷_ (12, Rows'.sc-here (Row.sInt Syntax.w64)) (List._∷_ (13, Rows'.any-gone OfPanelRecord.spelt) (List._∷_ (14, Rows'.any-gone Syntax.tyUnit) (List._∷_ (15, Rows'.any-gone (Syntax.tyRef Syntax.erased Syntax.mut OfOutput.named)) List.[])))))))))))))))
 
 abbrev pub t24 : List.List Row.Entry
 t24 = List._∷_ (16, Rows'.any-gone (Syntax.tyStruct (List._∷_ 38 (List._∷_ 91 (List._∷_ 93 List.[]))) (Syntax.tcons (Syntax.tyRef Syntax.erased Syntax.mut OfOutput.named) (Syntax.tcons (Syntax.tyInt Syntax.w64) Syntax.tnil)))) (List._∷_ (17, Rows'.any-gone (Syntax.tyRef Syntax.erased Syntax.mut OfOutput.named)) (List._∷_ (18, Rows'.any-gone (Syntax.tyStruct (List._∷_ 38 (List._∷_ 91 (List._∷_ 93 List.[]))) (Syntax.tcons (Syntax.tyRef Syntax.erased Syntax.mut OfOutput.named) (Syntax.tcons (Syntax.tyInt Syntax.w64) Syntax.tnil)))) (List._∷_ (19, Rows'.sc-here (Row.sInt Syntax.w64)) (List._∷_ (20, Rows'.any-gone Syntax.tyPtr) List.[]))))
@@ -316,31 +316,31 @@ abbrev pub t25 : List.List Row.Entry
 t25 = List._∷_ (16, Rows'.any-gone (Syntax.tyStruct (List._∷_ 38 (List._∷_ 91 (List._∷_ 93 List.[]))) (Syntax.tcons (Syntax.tyRef Syntax.erased Syntax.mut OfOutput.named) (Syntax.tcons (Syntax.tyInt Syntax.w64) Syntax.tnil)))) (List._∷_ (17, Rows'.any-gone (Syntax.tyRef Syntax.erased Syntax.mut OfOutput.named)) (List._∷_ (18, Rows'.any-gone (Syntax.tyStruct (List._∷_ 38 (List._∷_ 91 (List._∷_ 93 List.[]))) (Syntax.tcons (Syntax.tyRef Syntax.erased Syntax.mut OfOutput.named) (Syntax.tcons (Syntax.tyInt Syntax.w64) Syntax.tnil)))) (List._∷_ (19, Rows'.sc-here (Row.sInt Syntax.w64)) (List._∷_ (20, Rows'.sc-here Row.sPtr) List.[]))))
 
 abbrev pub t26 : List.List Row.Entry
-t26 = List._∷_ (0, Rows'.any-gone (Laws.mir)) (List._∷_ (1, Mut.mslice (OfOutput.row) (Syntax.tyRef (Syntax.named 0) Syntax.mut OfOutput.named) 0) (List._∷_ (2, Mut.mslice (OfStation.row) (Syntax.tyRef (Syntax.named 1) Syntax.mut OfStation.named) 1) (List._∷_ (3, Rows'.mref (OfPanelRecord.row) (Syntax.tyRef (Syntax.named 2) Syntax.mut OfPanelRecord.named) 2) (List._∷_ (4, Rows'.sslice (Referent.rtF (Referent.fInt Syntax.w8)) (Syntax.tyRef (Syntax.named 3) Syntax.imm (Syntax.tyInt Syntax.w8)) 3) (List._∷_ (5, Rows'.any-gone (Laws'.mir)) (List._∷_ (6, OfPanelRecord.held) (List._∷_ (7, Rows'.sc-here (Row.sInt Syntax.w64)) (List._∷_ (8, Rows'.sc-here (Row.sInt Syntax.w64)) (List._∷_ (9, Rows'.any-gone (Laws''.mir)) (List._∷_ (10, Rows'.whole (Declared.row Answer.the-type)) (List._∷_ (11, Rows'.any-gone OfStation.spelt) (List._∷_ (12, Rows'.sc-here (Row.sInt Syntax.w64)) (List._∷_ (13, Rows'.any-gone OfPanelRecord.spelt) (List._∷_ (14, Rows'.any-gone Syntax.tyUnit) (List._∷_ (15, Rows'.any-gone (Syntax.tyRef Syntax.erased Syntax.mut OfOutput.named)) List.[])))))))))))))))
+t26 = List._∷_ (0, Rows'.any-gone (Laws'.mir)) (List._∷_ (1, Mut.mslice (OfOutput.row) (Syntax.tyRef (Syntax.named 0) Syntax.mut OfOutput.named) 0) (List._∷_ (2, Mut.mslice (OfStation.row) (Syntax.tyRef (Syntax.named 1) Syntax.mut OfStation.named) 1) (List._∷_ (3, Rows'.mref (OfPanelRecord.row) (Syntax.tyRef (Syntax.named 2) Syntax.mut OfPanelRecord.named) 2) (List._∷_ (4, Rows'.sslice (Referent.rtF (Referent.fInt Syntax.w8)) (Syntax.tyRef (Syntax.named 3) Syntax.imm (Syntax.tyInt Syntax.w8)) 3) (List._∷_ (5, Rows'.any-gone (Laws.mir)) (List._∷_ (6, OfPanelRecord.held) (List._∷_ (7, Rows'.sc-here (Row.sInt Syntax.w64)) (List._∷_ (8, Rows'.sc-here (Row.sInt Syntax.w64)) (List._∷_ (9, Rows'.any-gone (Laws''.mir)) (List._∷_ (10, Rows'.whole (Declared.row Answer.the-type)) (List._∷_ (11, Rows'.any-gone OfStation.spelt) (List._∷_ (12, Rows'.sc-here (Row.sInt Syntax.w64)) (List._∷_ (13, Rows'.any-gone OfPanelRecord.spelt) (List._∷_ (14, Rows'.any-gone Syntax.tyUnit) (List._∷_ (15, Rows'.any-gone (Syntax.tyRef Syntax.erased Syntax.mut OfOutput.named)) List.[])))))))))))))))
 
 abbrev pub t27 : List.List Row.Entry
 t27 = List._∷_ (16, Rows'.any-gone (Syntax.tyStruct (List._∷_ 38 (List._∷_ 91 (List._∷_ 93 List.[]))) (Syntax.tcons (Syntax.tyRef Syntax.erased Syntax.mut OfOutput.named) (Syntax.tcons (Syntax.tyInt Syntax.w64) Syntax.tnil)))) (List._∷_ (17, Rows'.any-gone (Syntax.tyRef Syntax.erased Syntax.mut OfOutput.named)) (List._∷_ (18, Rows'.any-gone (Syntax.tyStruct (List._∷_ 38 (List._∷_ 91 (List._∷_ 93 List.[]))) (Syntax.tcons (Syntax.tyRef Syntax.erased Syntax.mut OfOutput.named) (Syntax.tcons (Syntax.tyInt Syntax.w64) Syntax.tnil)))) (List._∷_ (19, Rows'.any-gone (Syntax.tyInt Syntax.w64)) (List._∷_ (20, Rows'.sc-here Row.sPtr) List.[]))))
 
 abbrev pub t28 : List.List Row.Entry
-t28 = List._∷_ (0, Rows'.any-gone (Laws.mir)) (List._∷_ (1, Mut.mslice (OfOutput.row) (Syntax.tyRef (Syntax.named 0) Syntax.mut OfOutput.named) 0) (List._∷_ (2, Mut.mslice (OfStation.row) (Syntax.tyRef (Syntax.named 1) Syntax.mut OfStation.named) 1) (List._∷_ (3, Rows'.mref (OfPanelRecord.row) (Syntax.tyRef (Syntax.named 2) Syntax.mut OfPanelRecord.named) 2) (List._∷_ (4, Rows'.sslice (Referent.rtF (Referent.fInt Syntax.w8)) (Syntax.tyRef (Syntax.named 3) Syntax.imm (Syntax.tyInt Syntax.w8)) 3) (List._∷_ (5, Rows'.any-gone (Laws'.mir)) (List._∷_ (6, OfPanelRecord.held) (List._∷_ (7, Rows'.sc-here (Row.sInt Syntax.w64)) (List._∷_ (8, Rows'.sc-here (Row.sInt Syntax.w64)) (List._∷_ (9, Rows'.any-gone (Laws''.mir)) (List._∷_ (10, Rows'.whole (Declared.row Answer.the-type)) (List._∷_ (11, Rows'.any-gone OfStation.spelt) (List._∷_ (12, Rows'.sc-here (Row.sInt Syntax.w64)) (List._∷_ (13, OfPanelRecord.held) (List._∷_ (14, Rows'.any-gone Syntax.tyUnit) (List._∷_ (15, Rows'.any-gone (Syntax.tyRef Syntax.erased Syntax.mut OfOutput.named)) List.[])))))))))))))))
+t28 = List._∷_ (0, Rows'.any-gone (Laws'.mir)) (List._∷_ (1, Mut.mslice (OfOutput.row) (Syntax.tyRef (Syntax.named 0) Syntax.mut OfOutput.named) 0) (List._∷_ (2, Mut.mslice (OfStation.row) (Syntax.tyRef (Syntax.named 1) Syntax.mut OfStation.named) 1) (List._∷_ (3, Rows'.mref (OfPanelRecord.row) (Syntax.tyRef (Syntax.named 2) Syntax.mut OfPanelRecord.named) 2) (List._∷_ (4, Rows'.sslice (Referent.rtF (Referent.fInt Syntax.w8)) (Syntax.tyRef (Syntax.named 3) Syntax.imm (Syntax.tyInt Syntax.w8)) 3) (List._∷_ (5, Rows'.any-gone (Laws.mir)) (List._∷_ (6, OfPanelRecord.held) (List._∷_ (7, Rows'.sc-here (Row.sInt Syntax.w64)) (List._∷_ (8, Rows'.sc-here (Row.sInt Syntax.w64)) (List._∷_ (9, Rows'.any-gone (Laws''.mir)) (List._∷_ (10, Rows'.whole (Declared.row Answer.the-type)) (List._∷_ (11, Rows'.any-gone OfStation.spelt) (List._∷_ (12, Rows'.sc-here (Row.sInt Syntax.w64)) (List._∷_ (13, OfPanelRecord.held) (List._∷_ (14, Rows'.any-gone Syntax.tyUnit) (List._∷_ (15, Rows'.any-gone (Syntax.tyRef Syntax.erased Syntax.mut OfOutput.named)) List.[])))))))))))))))
 
 abbrev pub t29 : List.List Row.Entry
-t29 = List._∷_ (0, Rows'.any-gone (Laws.mir)) (List._∷_ (1, Mut.mslice (OfOutput.row) (Syntax.tyRef (Syntax.named 0) Syntax.mut OfOutput.named) 0) (List._∷_ (2, Mut.mslice (OfStation.row) (Syntax.tyRef (Syntax.named 1) Syntax.mut OfStation.named) 1) (List._∷_ (3, Rows'.mref (OfPanelRecord.row) (Syntax.tyRef (Syntax.named 2) Syntax.mut OfPanelRecord.named) 2) (List._∷_ (4, Rows'.sslice (Referent.rtF (Referent.fInt Syntax.w8)) (Syntax.tyRef (Syntax.named 3) Syntax.imm (Syntax.tyInt Syntax.w8)) 3) (List._∷_ (5, Rows'.any-gone (Laws'.mir)) (List._∷_ (6, Rows'.any-gone OfPanelRecord.spelt) (List._∷_ (7, Rows'.sc-here (Row.sInt Syntax.w64)) (List._∷_ (8, Rows'.sc-here (Row.sInt Syntax.w64)) (List._∷_ (9, Rows'.any-gone (Laws''.mir)) (List._∷_ (10, Rows'.whole (Declared.row Answer.the-type)) (List._∷_ (11, Rows'.any-gone OfStation.spelt) (List._∷_ (12, Rows'.sc-here (Row.sInt Syntax.w64)) (List._∷_ (13, OfPanelRecord.held) (List._∷_ (14, Rows'.any-gone Syntax.tyUnit) (List._∷_ (15, Rows'.any-gone (Syntax.tyRef Syntax.erased Syntax.mut OfOutput.named)) List.[])))))))))))))))
+t29 = List._∷_ (0, Rows'.any-gone (Laws'.mir)) (List._∷_ (1, Mut.mslice (OfOutput.row) (Syntax.tyRef (Syntax.named 0) Syntax.mut OfOutput.named) 0) (List._∷_ (2, Mut.mslice (OfStation.row) (Syntax.tyRef (Syntax.named 1) Syntax.mut OfStation.named) 1) (List._∷_ (3, Rows'.mref (OfPanelRecord.row) (Syntax.tyRef (Syntax.named 2) Syntax.mut OfPanelRecord.named) 2) (List._∷_ (4, Rows'.sslice (Referent.rtF (Referent.fInt Syntax.w8)) (Syntax.tyRef (Syntax.named 3) Syntax.imm (Syntax.tyInt Syntax.w8)) 3) (List._∷_ (5, Rows'.any-gone (Laws.mir)) (List._∷_ (6, Rows'.any-gone OfPanelRecord.spelt) (List._∷_ (7, Rows'.sc-here (Row.sInt Syntax.w64)) (List._∷_ (8, Rows'.sc-here (Row.sInt Syntax.w64)) (List._∷_ (9, Rows'.any-gone (Laws''.mir)) (List._∷_ (10, Rows'.whole (Declared.row Answer.the-type)) (List._∷_ (11, Rows'.any-gone OfStation.spelt) (List._∷_ (12, Rows'.sc-here (Row.sInt Syntax.w64)) (List._∷_ (13, OfPanelRecord.held) (List._∷_ (14, Rows'.any-gone Syntax.tyUnit) (List._∷_ (15, Rows'.any-gone (Syntax.tyRef Syntax.erased Syntax.mut OfOutput.named)) List.[])))))))))))))))
 
 abbrev pub t30 : List.List Row.Entry
-t30 = List._∷_ (0, Rows'.any-gone (Laws.mir)) (List._∷_ (1, Mut.mslice (OfOutput.row) (Syntax.tyRef (Syntax.named 0) Syntax.mut OfOutput.named) 0) (List._∷_ (2, Mut.mslice (OfStation.row) (Syntax.tyRef (Syntax.named 1) Syntax.mut OfStation.named) 1) (List._∷_ (3, Rows'.mref (OfPanelRecord.row) (Syntax.tyRef (Syntax.named 2) Syntax.mut OfPanelRecord.named) 2) (List._∷_ (4, Rows'.sslice (Referent.rtF (Referent.fInt Syntax.w8)) (Syntax.tyRef (Syntax.named 3) Syntax.imm (Syntax.tyInt Syntax.w8)) 3) (List._∷_ (5, Rows'.any-gone (Laws'.mir)) (List._∷_ (6, Rows'.any-gone OfPanelRecord.spelt) (List._∷_ (7, Rows'.sc-here (Row.sInt Syntax.w64)) (List._∷_ (8, Rows'.sc-here (Row.sInt Syntax.w64)) (List._∷_ (9, Rows'.any-gone (Laws''.mir)) (List._∷_ (10, Rows'.whole (Declared.row Answer.the-type)) (List._∷_ (11, Rows'.any-gone OfStation.spelt) (List._∷_ (12, Rows'.sc-here (Row.sInt Syntax.w64)) (List._∷_ (13, Rows'.any-gone OfPanelRecord.spelt) (List._∷_ (14, Rows'.any-gone Syntax.tyUnit) (List._∷_ (15, Rows'.any-gone (Syntax.tyRef Syntax.erased Syntax.mut OfOutput.named)) List.[])))))))))))))))
+t30 = List._∷_ (0, Rows'.any-gone (Laws'.mir)) (List._∷_ (1, Mut.mslice (OfOutput.row) (Syntax.tyRef (Syntax.named 0) Syntax.mut OfOutput.named) 0) (List._∷_ (2, Mut.mslice (OfStation.row) (Syntax.tyRef (Syntax.named 1) Syntax.mut OfStation.named) 1) (List._∷_ (3, Rows'.mref (OfPanelRecord.row) (Syntax.tyRef (Syntax.named 2) Syntax.mut OfPanelRecord.named) 2) (List._∷_ (4, Rows'.sslice (Referent.rtF (Referent.fInt Syntax.w8)) (Syntax.tyRef (Syntax.named 3) Syntax.imm (Syntax.tyInt Syntax.w8)) 3) (List._∷_ (5, Rows'.any-gone (Laws.mir)) (List._∷_ (6, Rows'.any-gone OfPanelRecord.spelt) (List._∷_ (7, Rows'.sc-here (Row.sInt Syntax.w64)) (List._∷_ (8, Rows'.sc-here (Row.sInt Syntax.w64)) (List._∷_ (9, Rows'.any-gone (Laws''.mir)) (List._∷_ (10, Rows'.whole (Declared.row Answer.the-type)) (List._∷_ (11, Rows'.any-gone OfStation.spelt) (List._∷_ (12, Rows'.sc-here (Row.sInt Syntax.w64)) (List._∷_ (13, Rows'.any-gone OfPanelRecord.spelt) (List._∷_ (14, Rows'.any-gone Syntax.tyUnit) (List._∷_ (15, Rows'.any-gone (Syntax.tyRef Syntax.erased Syntax.mut OfOutput.named)) List.[])))))))))))))))
 
 abbrev pub t31 : List.List Row.Entry
-t31 = List._∷_ (0, Rows'.whole (Declared.row Answer.the-type)) (List._∷_ (1, Mut.mslice (OfOutput.row) (Syntax.tyRef (Syntax.named 0) Syntax.mut OfOutput.named) 0) (List._∷_ (2, Mut.mslice (OfStation.row) (Syntax.tyRef (Syntax.named 1) Syntax.mut OfStation.named) 1) (List._∷_ (3, Rows'.mref (OfPanelRecord.row) (Syntax.tyRef (Syntax.named 2) Syntax.mut OfPanelRecord.named) 2) (List._∷_ (4, Rows'.sslice (Referent.rtF (Referent.fInt Syntax.w8)) (Syntax.tyRef (Syntax.named 3) Syntax.imm (Syntax.tyInt Syntax.w8)) 3) (List._∷_ (5, Rows'.any-gone (Laws'.mir)) (List._∷_ (6, Rows'.any-gone OfPanelRecord.spelt) (List._∷_ (7, Rows'.sc-here (Row.sInt Syntax.w64)) (List._∷_ (8, Rows'.sc-here (Row.sInt Syntax.w64)) (List._∷_ (9, Rows'.any-gone (Laws''.mir)) (List._∷_ (10, Rows'.whole (Declared.row Answer.the-type)) (List._∷_ (11, Rows'.any-gone OfStation.spelt) (List._∷_ (12, Rows'.sc-here (Row.sInt Syntax.w64)) (List._∷_ (13, Rows'.any-gone OfPanelRecord.spelt) (List._∷_ (14, Rows'.any-gone Syntax.tyUnit) (List._∷_ (15, Rows'.any-gone (Syntax.tyRef Syntax.erased Syntax.mut OfOutput.named)) List.[])))))))))))))))
+t31 = List._∷_ (0, Rows'.whole (Declared.row Answer.the-type)) (List._∷_ (1, Mut.mslice (OfOutput.row) (Syntax.tyRef (Syntax.named 0) Syntax.mut OfOutput.named) 0) (List._∷_ (2, Mut.mslice (OfStation.row) (Syntax.tyRef (Syntax.named 1) Syntax.mut OfStation.named) 1) (List._∷_ (3, Rows'.mref (OfPanelRecord.row) (Syntax.tyRef (Syntax.named 2) Syntax.mut OfPanelRecord.named) 2) (List._∷_ (4, Rows'.sslice (Referent.rtF (Referent.fInt Syntax.w8)) (Syntax.tyRef (Syntax.named 3) Syntax.imm (Syntax.tyInt Syntax.w8)) 3) (List._∷_ (5, Rows'.any-gone (Laws.mir)) (List._∷_ (6, Rows'.any-gone OfPanelRecord.spelt) (List._∷_ (7, Rows'.sc-here (Row.sInt Syntax.w64)) (List._∷_ (8, Rows'.sc-here (Row.sInt Syntax.w64)) (List._∷_ (9, Rows'.any-gone (Laws''.mir)) (List._∷_ (10, Rows'.whole (Declared.row Answer.the-type)) (List._∷_ (11, Rows'.any-gone OfStation.spelt) (List._∷_ (12, Rows'.sc-here (Row.sInt Syntax.w64)) (List._∷_ (13, Rows'.any-gone OfPanelRecord.spelt) (List._∷_ (14, Rows'.any-gone Syntax.tyUnit) (List._∷_ (15, Rows'.any-gone (Syntax.tyRef Syntax.erased Syntax.mut OfOutput.named)) List.[])))))))))))))))
 
 abbrev pub t32 : List.List Row.Entry
-t32 = List._∷_ (0, Rows'.whole (Declared.row Answer.the-type)) (List._∷_ (1, Mut.mslice (OfOutput.row) (Syntax.tyRef (Syntax.named 0) Syntax.mut OfOutput.named) 0) (List._∷_ (2, Mut.mslice (OfStation.row) (Syntax.tyRef (Syntax.named 1) Syntax.mut OfStation.named) 1) (List._∷_ (3, Rows'.mref (OfPanelRecord.row) (Syntax.tyRef (Syntax.named 2) Syntax.mut OfPanelRecord.named) 2) (List._∷_ (4, Rows'.sslice (Referent.rtF (Referent.fInt Syntax.w8)) (Syntax.tyRef (Syntax.named 3) Syntax.imm (Syntax.tyInt Syntax.w8)) 3) (List._∷_ (5, Rows'.any-gone (Laws'.mir)) (List._∷_ (6, Rows'.any-gone OfPanelRecord.spelt) (List._∷_ (7, Rows'.any-gone (Syntax.tyInt Syntax.w64)) (List._∷_ (8, Rows'.sc-here (Row.sInt Syntax.w64)) (List._∷_ (9, Rows'.any-gone (Laws''.mir)) (List._∷_ (10, Rows'.whole (Declared.row Answer.the-type)) (List._∷_ (11, Rows'.any-gone OfStation.spelt) (List._∷_ (12, Rows'.sc-here (Row.sInt Syntax.w64)) (List._∷_ (13, Rows'.any-gone OfPanelRecord.spelt) (List._∷_ (14, Rows'.any-gone Syntax.tyUnit) (List._∷_ (15, Rows'.any-gone (Syntax.tyRef Syntax.erased Syntax.mut OfOutput.named)) List.[])))))))))))))))
+t32 = List._∷_ (0, Rows'.whole (Declared.row Answer.the-type)) (List._∷_ (1, Mut.mslice (OfOutput.row) (Syntax.tyRef (Syntax.named 0) Syntax.mut OfOutput.named) 0) (List._∷_ (2, Mut.mslice (OfStation.row) (Syntax.tyRef (Syntax.named 1) Syntax.mut OfStation.named) 1) (List._∷_ (3, Rows'.mref (OfPanelRecord.row) (Syntax.tyRef (Syntax.named 2) Syntax.mut OfPanelRecord.named) 2) (List._∷_ (4, Rows'.sslice (Referent.rtF (Referent.fInt Syntax.w8)) (Syntax.tyRef (Syntax.named 3) Syntax.imm (Syntax.tyInt Syntax.w8)) 3) (List._∷_ (5, Rows'.any-gone (Laws.mir)) (List._∷_ (6, Rows'.any-gone OfPanelRecord.spelt) (List._∷_ (7, Rows'.any-gone (Syntax.tyInt Syntax.w64)) (List._∷_ (8, Rows'.sc-here (Row.sInt Syntax.w64)) (List._∷_ (9, Rows'.any-gone (Laws''.mir)) (List._∷_ (10, Rows'.whole (Declared.row Answer.the-type)) (List._∷_ (11, Rows'.any-gone OfStation.spelt) (List._∷_ (12, Rows'.sc-here (Row.sInt Syntax.w64)) (List._∷_ (13, Rows'.any-gone OfPanelRecord.spelt) (List._∷_ (14, Rows'.any-gone Syntax.tyUnit) (List._∷_ (15, Rows'.any-gone (Syntax.tyRef Syntax.erased Syntax.mut OfOutput.named)) List.[])))))))))))))))
 
 abbrev pub t33 : List.List Row.Entry
-t33 = List._∷_ (0, Rows'.whole (Declared.row Answer.the-type)) (List._∷_ (1, Mut.mslice (OfOutput.row) (Syntax.tyRef (Syntax.named 0) Syntax.mut OfOutput.named) 0) (List._∷_ (2, Mut.mslice (OfStation.row) (Syntax.tyRef (Syntax.named 1) Syntax.mut OfStation.named) 1) (List._∷_ (3, Rows'.mref (OfPanelRecord.row) (Syntax.tyRef (Syntax.named 2) Syntax.mut OfPanelRecord.named) 2) (List._∷_ (4, Rows'.sslice (Referent.rtF (Referent.fInt Syntax.w8)) (Syntax.tyRef (Syntax.named 3) Syntax.imm (Syntax.tyInt Syntax.w8)) 3) (List._∷_ (5, Rows'.any-gone (Laws'.mir)) (List._∷_ (6, Rows'.any-gone OfPanelRecord.spelt) (List._∷_ (7, Rows'.any-gone (Syntax.tyInt Syntax.w64)) (List._∷_ (8, Rows'.any-gone (Syntax.tyInt Syntax.w64)) (List._∷_ (9, Rows'.any-gone (Laws''.mir)) (List._∷_ (10, Rows'.whole (Declared.row Answer.the-type)) (List._∷_ (11, Rows'.any-gone OfStation.spelt) (List._∷_ (12, Rows'.sc-here (Row.sInt Syntax.w64)) (List._∷_ (13, Rows'.any-gone OfPanelRecord.spelt) (List._∷_ (14, Rows'.any-gone Syntax.tyUnit) (List._∷_ (15, Rows'.any-gone (Syntax.tyRef Syntax.erased Syntax.mut OfOutput.named)) List.[])))))))))))))))
+t33 = List._∷_ (0, Rows'.whole (Declared.row Answer.the-type)) (List._∷_ (1, Mut.mslice (OfOutput.row) (Syntax.tyRef (Syntax.named 0) Syntax.mut OfOutput.named) 0) (List._∷_ (2, Mut.mslice (OfStation.row) (Syntax.tyRef (Syntax.named 1) Syntax.mut OfStation.named) 1) (List._∷_ (3, Rows'.mref (OfPanelRecord.row) (Syntax.tyRef (Syntax.named 2) Syntax.mut OfPanelRecord.named) 2) (List._∷_ (4, Rows'.sslice (Referent.rtF (Referent.fInt Syntax.w8)) (Syntax.tyRef (Syntax.named 3) Syntax.imm (Syntax.tyInt Syntax.w8)) 3) (List._∷_ (5, Rows'.any-gone (Laws.mir)) (List._∷_ (6, Rows'.any-gone OfPanelRecord.spelt) (List._∷_ (7, Rows'.any-gone (Syntax.tyInt Syntax.w64)) (List._∷_ (8, Rows'.any-gone (Syntax.tyInt Syntax.w64)) (List._∷_ (9, Rows'.any-gone (Laws''.mir)) (List._∷_ (10, Rows'.whole (Declared.row Answer.the-type)) (List._∷_ (11, Rows'.any-gone OfStation.spelt) (List._∷_ (12, Rows'.sc-here (Row.sInt Syntax.w64)) (List._∷_ (13, Rows'.any-gone OfPanelRecord.spelt) (List._∷_ (14, Rows'.any-gone Syntax.tyUnit) (List._∷_ (15, Rows'.any-gone (Syntax.tyRef Syntax.erased Syntax.mut OfOutput.named)) List.[])))))))))))))))
 
 abbrev pub t34 : List.List Row.Entry
-t34 = List._∷_ (0, Rows'.whole (Declared.row Answer.the-type)) (List._∷_ (1, Mut.mslice (OfOutput.row) (Syntax.tyRef (Syntax.named 0) Syntax.mut OfOutput.named) 0) (List._∷_ (2, Mut.mslice (OfStation.row) (Syntax.tyRef (Syntax.named 1) Syntax.mut OfStation.named) 1) (List._∷_ (3, Rows'.mref (OfPanelRecord.row) (Syntax.tyRef (Syntax.named 2) Syntax.mut OfPanelRecord.named) 2) (List._∷_ (4, Rows'.sslice (Referent.rtF (Referent.fInt Syntax.w8)) (Syntax.tyRef (Syntax.named 3) Syntax.imm (Syntax.tyInt Syntax.w8)) 3) (List._∷_ (5, Rows'.any-gone (Laws'.mir)) (List._∷_ (6, Rows'.any-gone OfPanelRecord.spelt) (List._∷_ (7, Rows'.any-gone (Syntax.tyInt Syntax.w64)) (List._∷_ (8, Rows'.any-gone (Syntax.tyInt Syntax.w64)) (List._∷_ (9, Rows'.any-gone (Laws''.mir)) (List._∷_ (10, Rows'.any-gone (Laws.mir)) (List._∷_ (11, Rows'.any-gone OfStation.spelt) (List._∷_ (12, Rows'.sc-here (Row.sInt Syntax.w64)) (List._∷_ (13, Rows'.any-gone OfPanelRecord.spelt) (List._∷_ (14, Rows'.any-gone Syntax.tyUnit) (List._∷_ (15, Rows'.any-gone (Syntax.tyRef Syntax.erased Syntax.mut OfOutput.named)) List.[])))))))))))))))
+t34 = List._∷_ (0, Rows'.whole (Declared.row Answer.the-type)) (List._∷_ (1, Mut.mslice (OfOutput.row) (Syntax.tyRef (Syntax.named 0) Syntax.mut OfOutput.named) 0) (List._∷_ (2, Mut.mslice (OfStation.row) (Syntax.tyRef (Syntax.named 1) Syntax.mut OfStation.named) 1) (List._∷_ (3, Rows'.mref (OfPanelRecord.row) (Syntax.tyRef (Syntax.named 2) Syntax.mut OfPanelRecord.named) 2) (List._∷_ (4, Rows'.sslice (Referent.rtF (Referent.fInt Syntax.w8)) (Syntax.tyRef (Syntax.named 3) Syntax.imm (Syntax.tyInt Syntax.w8)) 3) (List._∷_ (5, Rows'.any-gone (Laws.mir)) (List._∷_ (6, Rows'.any-gone OfPanelRecord.spelt) (List._∷_ (7, Rows'.any-gone (Syntax.tyInt Syntax.w64)) (List._∷_ (8, Rows'.any-gone (Syntax.tyInt Syntax.w64)) (List._∷_ (9, Rows'.any-gone (Laws''.mir)) (List._∷_ (10, Rows'.any-gone (Laws'.mir)) (List._∷_ (11, Rows'.any-gone OfStation.spelt) (List._∷_ (12, Rows'.sc-here (Row.sInt Syntax.w64)) (List._∷_ (13, Rows'.any-gone OfPanelRecord.spelt) (List._∷_ (14, Rows'.any-gone Syntax.tyUnit) (List._∷_ (15, Rows'.any-gone (Syntax.tyRef Syntax.erased Syntax.mut OfOutput.named)) List.[])))))))))))))))
 
 abbrev pub T0 : Row.Cx
 T0 = record { locals = List._++_ t0 t1; slots = List.[] }
@@ -467,7 +467,7 @@ module _ (claims· : Claims) where
   s2 = Call'.callB ps·0 r·0 (claims· .0) (claims· .1) T3 (record { pos = 6; st = List.[]; d = 0; at = λ x. x }, tt) 7 List.[] (Syntax.tyInt Syntax.w64)
 
   abbrev s3 : Typed.Mo T4 → Typed.Mo T5
-  s3 = Scalar.n-use T4 (Scalar.oFld 5 (List._∷_ (Syntax.field 2) List.[]) (Syntax.tyInt Syntax.w64) 8 (Reads.fieldV Call.the-type Laws'.the-laws 2)) 8 (Rows'.sc-here (Row.sInt Syntax.w64)) (Row.sInt Syntax.w64 .of)
+  s3 = Scalar.n-use T4 (Scalar.oFld 5 (List._∷_ (Syntax.field 2) List.[]) (Syntax.tyInt Syntax.w64) 8 (Reads.fieldV Call.the-type Laws.the-laws 2)) 8 (Rows'.sc-here (Row.sInt Syntax.w64)) (Row.sInt Syntax.w64 .of)
 
   abbrev s5 : Typed.Gives T5 T7
   s5 = Relend.k-sl-relend (OfOutput.row) T5 1 15 0 4 (Syntax.tyRef (Syntax.named 0) Syntax.mut OfOutput.named) (Syntax.tyRef Syntax.erased Syntax.mut OfOutput.named) Row.off λ x. x
@@ -497,7 +497,7 @@ module _ (claims· : Claims) where
   s16 = Call'.callB ps·2 r·2 (claims· .4) (claims· .5) T17 (Num.vFld 5 (List._∷_ (Syntax.field 3) List.[]) 16 λ x. Call.struct .as-values x .1 .1 .1 .0, tt) 19 List.[] (Syntax.tyInt Syntax.w64)
 
   abbrev s17 : Typed.Both T18 T19
-  s17 = Call'.callB ps·3 r·3 (claims· .6) (claims· .7) T18 (record { pos = 18; ty = Syntax.tyRef Syntax.erased Syntax.mut OfOutput.named; ref = λ x. x }, (Num.vAt 8 λ x. x, (Num.vFld 5 (List._∷_ (Syntax.field 0) List.[]) 0 λ x. Call.struct .as-values x .0, (Num.vAt 19 λ x. x, (record { pos = 9; st = List.[]; d = 0; at = λ x. x }, tt))))) 10 (List._∷_ 5 List.[]) (Laws.mir)
+  s17 = Call'.callB ps·3 r·3 (claims· .6) (claims· .7) T18 (record { pos = 18; ty = Syntax.tyRef Syntax.erased Syntax.mut OfOutput.named; ref = λ x. x }, (Num.vAt 8 λ x. x, (Num.vAt 19 λ x. x, (record { pos = 9; st = List.[]; d = 0; at = λ x. x }, tt)))) 10 (List._∷_ 5 List.[]) (Laws'.mir)
 
   abbrev s18 : Typed.Mo T19 → Typed.Mo T20
   s18 = Scalar.n-room T19 9 (Laws''.mir)
@@ -515,7 +515,7 @@ module _ (claims· : Claims) where
   s24 = Call'.callB ps·2 r·2 (claims· .4) (claims· .5) T25 (Num.vFld 5 (List._∷_ (Syntax.field 0) List.[]) 0 λ x. Call.struct .as-values x .0, tt) 12 List.[] (Syntax.tyInt Syntax.w64)
 
   abbrev s25 : Typed.Mo T26 → Typed.Mo T27
-  s25 = Scalar.n-room T26 5 (Laws'.mir)
+  s25 = Scalar.n-room T26 5 (Laws.mir)
 
   abbrev s26 : Typed.Asks T27 T28
   s26 = Scalar.k-op2 T27 (Syntax.mul Syntax.unsigned) (Scalar.oAt 12 (Syntax.tyInt Syntax.w64) (Row.valS (Row.sInt Syntax.w64))) (Scalar.oInt Syntax.w64 44) 19 (Rows'.sc-here (Row.sInt Syntax.w64)) (Row.sInt Syntax.w64 .of)
@@ -557,7 +557,7 @@ module _ (claims· : Claims) where
   s38 = Scalar.n-room T39 8 (Syntax.tyInt Syntax.w64)
 
   abbrev s39 : Typed.Mo T40 → Typed.Mo T41
-  s39 = Scalar.n-room T40 10 (Laws.mir)
+  s39 = Scalar.n-room T40 10 (Laws'.mir)
 
   abbrev s40 : Typed.Mo T41 → Typed.Mo T42
   s40 = Scalar.n-room T41 12 (Syntax.tyInt Syntax.w64)
@@ -705,22 +705,22 @@ module _ (claims· : Claims) where
 
       module _ (κs : Lifetimes.Lfts 4) (qs : Lifetimes.Shares 4) where
         abbrev g6 : List.List Row.Entry
-        g6 = List._∷_ (0, Rows'.any-gone (Laws.mir)) (List._∷_ (1, Relend.mslice-owed (OfOutput.row) (Syntax.tyRef (Syntax.named 0) Syntax.mut OfOutput.named) 0 4 (Row.lease (κs .0) (qs .0))) (List._∷_ (2, Mut.mslice (OfStation.row) (Syntax.tyRef (Syntax.named 1) Syntax.mut OfStation.named) 1) (List._∷_ (3, Rows'.mref (OfPanelRecord.row) (Syntax.tyRef (Syntax.named 2) Syntax.mut OfPanelRecord.named) 2) (List._∷_ (4, Rows'.sslice (Referent.rtF (Referent.fInt Syntax.w8)) (Syntax.tyRef (Syntax.named 3) Syntax.imm (Syntax.tyInt Syntax.w8)) 3) (List._∷_ (5, Rows'.whole (Declared'.row Call.the-type)) (List._∷_ (6, OfPanelRecord.held) (List._∷_ (7, Rows'.sc-here (Row.sInt Syntax.w64)) (List._∷_ (8, Rows'.sc-here (Row.sInt Syntax.w64)) (List._∷_ (9, Rows'.any-gone (Laws''.mir)) (List._∷_ (10, Rows'.any-gone (Laws.mir)) (List._∷_ (11, Rows'.any-gone OfStation.spelt) (List._∷_ (12, Rows'.any-gone (Syntax.tyInt Syntax.w64)) (List._∷_ (13, Rows'.any-gone OfPanelRecord.spelt) (List._∷_ (14, Rows'.any-gone Syntax.tyUnit) (List._∷_ (15, Relend.msptr (OfOutput.row) (Syntax.tyRef Syntax.erased Syntax.mut OfOutput.named) 4) List.[])))))))))))))))
+        g6 = List._∷_ (0, Rows'.any-gone (Laws'.mir)) (List._∷_ (1, Relend.mslice-owed (OfOutput.row) (Syntax.tyRef (Syntax.named 0) Syntax.mut OfOutput.named) 0 4 (Row.lease (κs .0) (qs .0))) (List._∷_ (2, Mut.mslice (OfStation.row) (Syntax.tyRef (Syntax.named 1) Syntax.mut OfStation.named) 1) (List._∷_ (3, Rows'.mref (OfPanelRecord.row) (Syntax.tyRef (Syntax.named 2) Syntax.mut OfPanelRecord.named) 2) (List._∷_ (4, Rows'.sslice (Referent.rtF (Referent.fInt Syntax.w8)) (Syntax.tyRef (Syntax.named 3) Syntax.imm (Syntax.tyInt Syntax.w8)) 3) (List._∷_ (5, Rows'.whole (Declared'.row Call.the-type)) (List._∷_ (6, OfPanelRecord.held) (List._∷_ (7, Rows'.sc-here (Row.sInt Syntax.w64)) (List._∷_ (8, Rows'.sc-here (Row.sInt Syntax.w64)) (List._∷_ (9, Rows'.any-gone (Laws''.mir)) (List._∷_ (10, Rows'.any-gone (Laws'.mir)) (List._∷_ (11, Rows'.any-gone OfStation.spelt) (List._∷_ (12, Rows'.any-gone (Syntax.tyInt Syntax.w64)) (List._∷_ (13, Rows'.any-gone OfPanelRecord.spelt) (List._∷_ (14, Rows'.any-gone Syntax.tyUnit) (List._∷_ (15, Relend.msptr (OfOutput.row) (Syntax.tyRef Syntax.erased Syntax.mut OfOutput.named) 4) List.[])))))))))))))))
 
         abbrev g7 : List.List Row.Entry
-        g7 = List._∷_ (0, Rows'.any-gone (Laws.mir)) (List._∷_ (1, Relend.mslice-owed (OfOutput.row) (Syntax.tyRef (Syntax.named 0) Syntax.mut OfOutput.named) 0 4 (Row.lease (κs .0) (qs .0))) (List._∷_ (2, Mut.mslice (OfStation.row) (Syntax.tyRef (Syntax.named 1) Syntax.mut OfStation.named) 1) (List._∷_ (3, Rows'.mref (OfPanelRecord.row) (Syntax.tyRef (Syntax.named 2) Syntax.mut OfPanelRecord.named) 2) (List._∷_ (4, Rows'.sslice (Referent.rtF (Referent.fInt Syntax.w8)) (Syntax.tyRef (Syntax.named 3) Syntax.imm (Syntax.tyInt Syntax.w8)) 3) (List._∷_ (5, Rows'.whole (Declared'.row Call.the-type)) (List._∷_ (6, OfPanelRecord.held) (List._∷_ (7, Rows'.sc-here (Row.sInt Syntax.w64)) (List._∷_ (8, Rows'.sc-here (Row.sInt Syntax.w64)) (List._∷_ (9, Rows'.any-gone (Laws''.mir)) (List._∷_ (10, Rows'.any-gone (Laws.mir)) (List._∷_ (11, Rows'.any-gone OfStation.spelt) (List._∷_ (12, Rows'.any-gone (Syntax.tyInt Syntax.w64)) (List._∷_ (13, Rows'.any-gone OfPanelRecord.spelt) (List._∷_ (14, Rows'.any-gone Syntax.tyUnit) (List._∷_ (15, Rows'.any-gone (Syntax.tyRef Syntax.erased Syntax.mut OfOutput.named)) List.[])))))))))))))))
+        g7 = List._∷_ (0, Rows'.any-gone (Laws'.mir)) (List._∷_ (1, Relend.mslice-owed (OfOutput.row) (Syntax.tyRef (Syntax.named 0) Syntax.mut OfOutput.named) 0 4 (Row.lease (κs .0) (qs .0))) (List._∷_ (2, Mut.mslice (OfStation.row) (Syntax.tyRef (Syntax.named 1) Syntax.mut OfStation.named) 1) (List._∷_ (3, Rows'.mref (OfPanelRecord.row) (Syntax.tyRef (Syntax.named 2) Syntax.mut OfPanelRecord.named) 2) (List._∷_ (4, Rows'.sslice (Referent.rtF (Referent.fInt Syntax.w8)) (Syntax.tyRef (Syntax.named 3) Syntax.imm (Syntax.tyInt Syntax.w8)) 3) (List._∷_ (5, Rows'.whole (Declared'.row Call.the-type)) (List._∷_ (6, OfPanelRecord.held) (List._∷_ (7, Rows'.sc-here (Row.sInt Syntax.w64)) (List._∷_ (8, Rows'.sc-here (Row.sInt Syntax.w64)) (List._∷_ (9, Rows'.any-gone (Laws''.mir)) (List._∷_ (10, Rows'.any-gone (Laws'.mir)) (List._∷_ (11, Rows'.any-gone OfStation.spelt) (List._∷_ (12, Rows'.any-gone (Syntax.tyInt Syntax.w64)) (List._∷_ (13, Rows'.any-gone OfPanelRecord.spelt) (List._∷_ (14, Rows'.any-gone Syntax.tyUnit) (List._∷_ (15, Rows'.any-gone (Syntax.tyRef Syntax.erased Syntax.mut OfOutput.named)) List.[])))))))))))))))
 
         abbrev g9 : List.List Row.Entry
-        g9 = List._∷_ (0, Rows'.any-gone (Laws.mir)) (List._∷_ (1, Relend.mslice-owed (OfOutput.row) (Syntax.tyRef (Syntax.named 0) Syntax.mut OfOutput.named) 0 4 (Row.lease (κs .0) (qs .0))) (List._∷_ (2, Mut.mslice (OfStation.row) (Syntax.tyRef (Syntax.named 1) Syntax.mut OfStation.named) 1) (List._∷_ (3, Rows'.mref (OfPanelRecord.row) (Syntax.tyRef (Syntax.named 2) Syntax.mut OfPanelRecord.named) 2) (List._∷_ (4, Rows'.sslice (Referent.rtF (Referent.fInt Syntax.w8)) (Syntax.tyRef (Syntax.named 3) Syntax.imm (Syntax.tyInt Syntax.w8)) 3) (List._∷_ (5, Rows'.whole (Declared'.row Call.the-type)) (List._∷_ (6, OfPanelRecord.held) (List._∷_ (7, Rows'.sc-here (Row.sInt Syntax.w64)) (List._∷_ (8, Rows'.sc-here (Row.sInt Syntax.w64)) (List._∷_ (9, Rows'.any-gone (Laws''.mir)) (List._∷_ (10, Rows'.any-gone (Laws.mir)) (List._∷_ (11, Rows'.any-gone OfStation.spelt) (List._∷_ (12, Rows'.any-gone (Syntax.tyInt Syntax.w64)) (List._∷_ (13, Rows'.any-gone OfPanelRecord.spelt) (List._∷_ (14, Rows'.sc-here Row.sUnit) (List._∷_ (15, Rows'.any-gone (Syntax.tyRef Syntax.erased Syntax.mut OfOutput.named)) List.[])))))))))))))))
+        g9 = List._∷_ (0, Rows'.any-gone (Laws'.mir)) (List._∷_ (1, Relend.mslice-owed (OfOutput.row) (Syntax.tyRef (Syntax.named 0) Syntax.mut OfOutput.named) 0 4 (Row.lease (κs .0) (qs .0))) (List._∷_ (2, Mut.mslice (OfStation.row) (Syntax.tyRef (Syntax.named 1) Syntax.mut OfStation.named) 1) (List._∷_ (3, Rows'.mref (OfPanelRecord.row) (Syntax.tyRef (Syntax.named 2) Syntax.mut OfPanelRecord.named) 2) (List._∷_ (4, Rows'.sslice (Referent.rtF (Referent.fInt Syntax.w8)) (Syntax.tyRef (Syntax.named 3) Syntax.imm (Syntax.tyInt Syntax.w8)) 3) (List._∷_ (5, Rows'.whole (Declared'.row Call.the-type)) (List._∷_ (6, OfPanelRecord.held) (List._∷_ (7, Rows'.sc-here (Row.sInt Syntax.w64)) (List._∷_ (8, Rows'.sc-here (Row.sInt Syntax.w64)) (List._∷_ (9, Rows'.any-gone (Laws''.mir)) (List._∷_ (10, Rows'.any-gone (Laws'.mir)) (List._∷_ (11, Rows'.any-gone OfStation.spelt) (List._∷_ (12, Rows'.any-gone (Syntax.tyInt Syntax.w64)) (List._∷_ (13, Rows'.any-gone OfPanelRecord.spelt) (List._∷_ (14, Rows'.sc-here Row.sUnit) (List._∷_ (15, Rows'.any-gone (Syntax.tyRef Syntax.erased Syntax.mut OfOutput.named)) List.[])))))))))))))))
 
         abbrev g12 : List.List Row.Entry
-        g12 = List._∷_ (0, Rows'.any-gone (Laws.mir)) (List._∷_ (1, Relend.mslice-owed (OfOutput.row) (Syntax.tyRef (Syntax.named 0) Syntax.mut OfOutput.named) 0 5 (Row.lease (κs .0) (qs .0))) (List._∷_ (2, Mut.mslice (OfStation.row) (Syntax.tyRef (Syntax.named 1) Syntax.mut OfStation.named) 1) (List._∷_ (3, Rows'.mref (OfPanelRecord.row) (Syntax.tyRef (Syntax.named 2) Syntax.mut OfPanelRecord.named) 2) (List._∷_ (4, Rows'.sslice (Referent.rtF (Referent.fInt Syntax.w8)) (Syntax.tyRef (Syntax.named 3) Syntax.imm (Syntax.tyInt Syntax.w8)) 3) (List._∷_ (5, Rows'.whole (Declared'.row Call.the-type)) (List._∷_ (6, OfPanelRecord.held) (List._∷_ (7, Rows'.sc-here (Row.sInt Syntax.w64)) (List._∷_ (8, Rows'.sc-here (Row.sInt Syntax.w64)) (List._∷_ (9, Rows'.whole (Declared.row Request.the-type)) (List._∷_ (10, Rows'.any-gone (Laws.mir)) (List._∷_ (11, Rows'.any-gone OfStation.spelt) (List._∷_ (12, Rows'.any-gone (Syntax.tyInt Syntax.w64)) (List._∷_ (13, Rows'.any-gone OfPanelRecord.spelt) (List._∷_ (14, Rows'.any-gone Syntax.tyUnit) (List._∷_ (15, Rows'.any-gone (Syntax.tyRef Syntax.erased Syntax.mut OfOutput.named)) List.[])))))))))))))))
+        g12 = List._∷_ (0, Rows'.any-gone (Laws'.mir)) (List._∷_ (1, Relend.mslice-owed (OfOutput.row) (Syntax.tyRef (Syntax.named 0) Syntax.mut OfOutput.named) 0 5 (Row.lease (κs .0) (qs .0))) (List._∷_ (2, Mut.mslice (OfStation.row) (Syntax.tyRef (Syntax.named 1) Syntax.mut OfStation.named) 1) (List._∷_ (3, Rows'.mref (OfPanelRecord.row) (Syntax.tyRef (Syntax.named 2) Syntax.mut OfPanelRecord.named) 2) (List._∷_ (4, Rows'.sslice (Referent.rtF (Referent.fInt Syntax.w8)) (Syntax.tyRef (Syntax.named 3) Syntax.imm (Syntax.tyInt Syntax.w8)) 3) (List._∷_ (5, Rows'.whole (Declared'.row Call.the-type)) (List._∷_ (6, OfPanelRecord.held) (List._∷_ (7, Rows'.sc-here (Row.sInt Syntax.w64)) (List._∷_ (8, Rows'.sc-here (Row.sInt Syntax.w64)) (List._∷_ (9, Rows'.whole (Declared.row Request.the-type)) (List._∷_ (10, Rows'.any-gone (Laws'.mir)) (List._∷_ (11, Rows'.any-gone OfStation.spelt) (List._∷_ (12, Rows'.any-gone (Syntax.tyInt Syntax.w64)) (List._∷_ (13, Rows'.any-gone OfPanelRecord.spelt) (List._∷_ (14, Rows'.any-gone Syntax.tyUnit) (List._∷_ (15, Rows'.any-gone (Syntax.tyRef Syntax.erased Syntax.mut OfOutput.named)) List.[])))))))))))))))
 
         abbrev g16 : List.List Row.Entry
-        g16 = List._∷_ (0, Rows'.any-gone (Laws.mir)) (List._∷_ (1, Relend.mslice-owed (OfOutput.row) (Syntax.tyRef (Syntax.named 0) Syntax.mut OfOutput.named) 0 5 (Row.lease (κs .0) (qs .0))) (List._∷_ (2, Mut.mslice (OfStation.row) (Syntax.tyRef (Syntax.named 1) Syntax.mut OfStation.named) 1) (List._∷_ (3, Rows'.mref (OfPanelRecord.row) (Syntax.tyRef (Syntax.named 2) Syntax.mut OfPanelRecord.named) 2) (List._∷_ (4, Rows'.sslice (Referent.rtF (Referent.fInt Syntax.w8)) (Syntax.tyRef (Syntax.named 3) Syntax.imm (Syntax.tyInt Syntax.w8)) 3) (List._∷_ (5, Rows'.whole (Declared'.row Call.the-type)) (List._∷_ (6, OfPanelRecord.held) (List._∷_ (7, Rows'.sc-here (Row.sInt Syntax.w64)) (List._∷_ (8, Rows'.sc-here (Row.sInt Syntax.w64)) (List._∷_ (9, Rows'.whole (Declared.row Request.the-type)) (List._∷_ (10, Rows'.whole (Declared.row Answer.the-type)) (List._∷_ (11, Rows'.any-gone OfStation.spelt) (List._∷_ (12, Rows'.any-gone (Syntax.tyInt Syntax.w64)) (List._∷_ (13, Rows'.any-gone OfPanelRecord.spelt) (List._∷_ (14, Rows'.any-gone Syntax.tyUnit) (List._∷_ (15, Rows'.any-gone (Syntax.tyRef Syntax.erased Syntax.mut OfOutput.named)) List.[])))))))))))))))
+        g16 = List._∷_ (0, Rows'.any-gone (Laws'.mir)) (List._∷_ (1, Relend.mslice-owed (OfOutput.row) (Syntax.tyRef (Syntax.named 0) Syntax.mut OfOutput.named) 0 5 (Row.lease (κs .0) (qs .0))) (List._∷_ (2, Mut.mslice (OfStation.row) (Syntax.tyRef (Syntax.named 1) Syntax.mut OfStation.named) 1) (List._∷_ (3, Rows'.mref (OfPanelRecord.row) (Syntax.tyRef (Syntax.named 2) Syntax.mut OfPanelRecord.named) 2) (List._∷_ (4, Rows'.sslice (Referent.rtF (Referent.fInt Syntax.w8)) (Syntax.tyRef (Syntax.named 3) Syntax.imm (Syntax.tyInt Syntax.w8)) 3) (List._∷_ (5, Rows'.whole (Declared'.row Call.the-type)) (List._∷_ (6, OfPanelRecord.held) (List._∷_ (7, Rows'.sc-here (Row.sInt Syntax.w64)) (List._∷_ (8, Rows'.sc-here (Row.sInt Syntax.w64)) (List._∷_ (9, Rows'.whole (Declared.row Request.the-type)) (List._∷_ (10, Rows'.whole (Declared.row Answer.the-type)) (List._∷_ (11, Rows'.any-gone OfStation.spelt) (List._∷_ (12, Rows'.any-gone (Syntax.tyInt Syntax.w64)) (List._∷_ (13, Rows'.any-gone OfPanelRecord.spelt) (List._∷_ (14, Rows'.any-gone Syntax.tyUnit) (List._∷_ (15, Rows'.any-gone (Syntax.tyRef Syntax.erased Syntax.mut OfOutput.named)) List.[])))))))))))))))
 
         abbrev g18 : List.List Row.Entry
-        g18 = List._∷_ (0, Rows'.any-gone (Laws.mir)) (List._∷_ (1, Relend.mslice-owed (OfOutput.row) (Syntax.tyRef (Syntax.named 0) Syntax.mut OfOutput.named) 0 5 (Row.lease (κs .0) (qs .0))) (List._∷_ (2, Mut.mslice (OfStation.row) (Syntax.tyRef (Syntax.named 1) Syntax.mut OfStation.named) 1) (List._∷_ (3, Rows'.mref (OfPanelRecord.row) (Syntax.tyRef (Syntax.named 2) Syntax.mut OfPanelRecord.named) 2) (List._∷_ (4, Rows'.sslice (Referent.rtF (Referent.fInt Syntax.w8)) (Syntax.tyRef (Syntax.named 3) Syntax.imm (Syntax.tyInt Syntax.w8)) 3) (List._∷_ (5, Rows'.whole (Declared'.row Call.the-type)) (List._∷_ (6, OfPanelRecord.held) (List._∷_ (7, Rows'.sc-here (Row.sInt Syntax.w64)) (List._∷_ (8, Rows'.sc-here (Row.sInt Syntax.w64)) (List._∷_ (9, Rows'.any-gone (Laws''.mir)) (List._∷_ (10, Rows'.whole (Declared.row Answer.the-type)) (List._∷_ (11, Rows'.any-gone OfStation.spelt) (List._∷_ (12, Rows'.any-gone (Syntax.tyInt Syntax.w64)) (List._∷_ (13, Rows'.any-gone OfPanelRecord.spelt) (List._∷_ (14, Rows'.any-gone Syntax.tyUnit) (List._∷_ (15, Rows'.any-gone (Syntax.tyRef Syntax.erased Syntax.mut OfOutput.named)) List.[])))))))))))))))
+        g18 = List._∷_ (0, Rows'.any-gone (Laws'.mir)) (List._∷_ (1, Relend.mslice-owed (OfOutput.row) (Syntax.tyRef (Syntax.named 0) Syntax.mut OfOutput.named) 0 5 (Row.lease (κs .0) (qs .0))) (List._∷_ (2, Mut.mslice (OfStation.row) (Syntax.tyRef (Syntax.named 1) Syntax.mut OfStation.named) 1) (List._∷_ (3, Rows'.mref (OfPanelRecord.row) (Syntax.tyRef (Syntax.named 2) Syntax.mut OfPanelRecord.named) 2) (List._∷_ (4, Rows'.sslice (Referent.rtF (Referent.fInt Syntax.w8)) (Syntax.tyRef (Syntax.named 3) Syntax.imm (Syntax.tyInt Syntax.w8)) 3) (List._∷_ (5, Rows'.whole (Declared'.row Call.the-type)) (List._∷_ (6, OfPanelRecord.held) (List._∷_ (7, Rows'.sc-here (Row.sInt Syntax.w64)) (List._∷_ (8, Rows'.sc-here (Row.sInt Syntax.w64)) (List._∷_ (9, Rows'.any-gone (Laws''.mir)) (List._∷_ (10, Rows'.whole (Declared.row Answer.the-type)) (List._∷_ (11, Rows'.any-gone OfStation.spelt) (List._∷_ (12, Rows'.any-gone (Syntax.tyInt Syntax.w64)) (List._∷_ (13, Rows'.any-gone OfPanelRecord.spelt) (List._∷_ (14, Rows'.any-gone Syntax.tyUnit) (List._∷_ (15, Rows'.any-gone (Syntax.tyRef Syntax.erased Syntax.mut OfOutput.named)) List.[])))))))))))))))
 
         abbrev G0 : Row.Cx
         G0 = record { locals = List._++_ t0 t1; slots = List._∷_ (Row.lease (κs .0) (qs .0)) (List._∷_ (Row.lease (κs .1 .0) (qs .1 .0)) (List._∷_ (Row.lease (κs .1 .1 .0) (qs .1 .1 .0)) (List._∷_ (Row.lease (κs .1 .1 .1 .0) (qs .1 .1 .1 .0)) (List._∷_ Row.off (List._∷_ Row.off List.[]))))) }
@@ -867,7 +867,7 @@ module _ (claims· : Claims) where
           d1 = Typed.g-pre 𝓤 H A W 𝓣 E G41 G42 b19 Δ0 (Typed.pass T41 T42 s40) at0 (Scalar.g-room 𝓤 H A W E G41 12 (Syntax.tyInt Syntax.w64) (Scalar.room-sc 𝓤 H A W (Row.sInt Syntax.w64))) d0
 
           d2 : Typed.Typed 𝓤 H A 𝓣 E G40 b19 Δ0 at2
-          d2 = Typed.g-pre 𝓤 H A W 𝓣 E G40 G41 b19 Δ0 (Typed.pass T40 T41 s39) at1 (Scalar.g-room 𝓤 H A W E G40 10 (Laws.mir) (Local.room-whole 𝓤 H A W (Declared.row Answer.the-type) (Laws.mir) Path'.refl)) d1
+          d2 = Typed.g-pre 𝓤 H A W 𝓣 E G40 G41 b19 Δ0 (Typed.pass T40 T41 s39) at1 (Scalar.g-room 𝓤 H A W E G40 10 (Laws'.mir) (Local.room-whole 𝓤 H A W (Declared.row Answer.the-type) (Laws'.mir) Path'.refl)) d1
 
           d3 : Typed.Typed 𝓤 H A 𝓣 E G39 b19 Δ0 at3
           d3 = Typed.g-pre 𝓤 H A W 𝓣 E G39 G40 b19 Δ0 (Typed.pass T39 T40 s38) at2 (Scalar.g-room 𝓤 H A W E G39 8 (Syntax.tyInt Syntax.w64) (Scalar.room-sc 𝓤 H A W (Row.sInt Syntax.w64))) d2
@@ -876,7 +876,7 @@ module _ (claims· : Claims) where
           d4 = Typed.g-pre 𝓤 H A W 𝓣 E G38 G39 b19 Δ0 (Typed.pass T38 T39 s37) at3 (Scalar.g-room 𝓤 H A W E G38 7 (Syntax.tyInt Syntax.w64) (Scalar.room-sc 𝓤 H A W (Row.sInt Syntax.w64))) d3
 
           d5 : Typed.Typed 𝓤 H A 𝓣 E G37 b20 Δ0 at5
-          d5 = Typed.s-seq 𝓤 H A W 𝓣 E G37 G38 b18 b19 Δ0 (Typed.pass T37 T38 s36) at4 (LocalCopy.t-val-copy 𝓤 H A W E 𝓣 (λ ρ. Unit) G37 10 0 (Declared.row Answer.the-type) (Laws.mir) (Laws.mir) (Rows'.whole (Declared.row Answer.the-type)) (Rows'.whole (Declared.row Answer.the-type)) (λ x. x) (λ x. x) (λ x. x) Path'.refl (Own.told-none 𝓤 H A (G37 .slots)) (Yields.yields-copy 𝓤 H A W (λ ρ. Unit) (Declared.row Answer.the-type) Path'.refl (Copies.cEnum Answer.the-type Laws.the-laws Laws.the-copy .copy 𝓤 H A W) (Rows'.whole (Declared.row Answer.the-type)) (λ x. x) (λ x. x) (λ ρ told. Local.mem-whole 𝓤 H A W (Declared.row Answer.the-type) ρ) λ ρ told. Local.whole-mem 𝓤 H A W (Declared.row Answer.the-type) ρ) (Reads'.room-gone 𝓤 H A (Laws.mir)) (Yields.makes-mem 𝓤 H A W (λ ρ. Unit) (Declared.row Answer.the-type) Path'.refl (Rows'.whole (Declared.row Answer.the-type)) (λ x. x) λ ρ told. Local.whole-mem 𝓤 H A W (Declared.row Answer.the-type) ρ) Path'.refl Path'.refl) d4
+          d5 = Typed.s-seq 𝓤 H A W 𝓣 E G37 G38 b18 b19 Δ0 (Typed.pass T37 T38 s36) at4 (LocalCopy.t-val-copy 𝓤 H A W E 𝓣 (λ ρ. Unit) G37 10 0 (Declared.row Answer.the-type) (Laws'.mir) (Laws'.mir) (Rows'.whole (Declared.row Answer.the-type)) (Rows'.whole (Declared.row Answer.the-type)) (λ x. x) (λ x. x) (λ x. x) Path'.refl (Own.told-none 𝓤 H A (G37 .slots)) (Yields.yields-copy 𝓤 H A W (λ ρ. Unit) (Declared.row Answer.the-type) Path'.refl (Copies.cEnum Answer.the-type Laws'.the-laws Laws'.the-copy .copy 𝓤 H A W) (Rows'.whole (Declared.row Answer.the-type)) (λ x. x) (λ x. x) (λ ρ told. Local.mem-whole 𝓤 H A W (Declared.row Answer.the-type) ρ) λ ρ told. Local.whole-mem 𝓤 H A W (Declared.row Answer.the-type) ρ) (Reads'.room-gone 𝓤 H A (Laws'.mir)) (Yields.makes-mem 𝓤 H A W (λ ρ. Unit) (Declared.row Answer.the-type) Path'.refl (Rows'.whole (Declared.row Answer.the-type)) (λ x. x) λ ρ told. Local.whole-mem 𝓤 H A W (Declared.row Answer.the-type) ρ) Path'.refl Path'.refl) d4
 
           d6 : Typed.Typed 𝓤 H A 𝓣 E G36 b20 Δ0 at6
           d6 = Typed.g-pre 𝓤 H A W 𝓣 E G36 G37 b20 Δ0 (Typed.pass T36 T37 s35) at5 (Scalar.g-room 𝓤 H A W E G36 13 OfPanelRecord.spelt (OfPanelRecord.room 𝓤 H A W)) d5
@@ -909,13 +909,13 @@ module _ (claims· : Claims) where
           d15 = Typed.s-seq 𝓤 H A W 𝓣 E G27 G28 b13 b24 Δ0 (Typed.ask s26) at14 (Scalar.t-op2 𝓤 H A W E 𝓣 G27 (Syntax.mul Syntax.unsigned) (Scalar.oAt 12 (Syntax.tyInt Syntax.w64) (Row.valS (Row.sInt Syntax.w64))) (Scalar.oInt Syntax.w64 44) 19 (Rows'.sc-here (Row.sInt Syntax.w64)) (Syntax.tyInt Syntax.w64) (Row.valS (Row.sInt Syntax.w64)) (Row.sInt Syntax.w64 .of) (Scalar.reads-sc 𝓤 H A W (Row.sInt Syntax.w64), Path'.refl) tt (Reads'.room-gone 𝓤 H A (Syntax.tyInt Syntax.w64)) (Scalar.holds-sc 𝓤 H A W (Row.sInt Syntax.w64)) Path'.refl (λ u. Path'.refl) λ u. tt) d14
 
           d16 : Typed.Typed 𝓤 H A 𝓣 E G26 b25 Δ0 at16
-          d16 = Typed.g-pre 𝓤 H A W 𝓣 E G26 G27 b25 Δ0 (Typed.pass T26 T27 s25) at15 (Scalar.g-room 𝓤 H A W E G26 5 (Laws'.mir) (Local.room-whole 𝓤 H A W (Declared'.row Call.the-type) (Laws'.mir) Path'.refl)) d15
+          d16 = Typed.g-pre 𝓤 H A W 𝓣 E G26 G27 b25 Δ0 (Typed.pass T26 T27 s25) at15 (Scalar.g-room 𝓤 H A W E G26 5 (Laws.mir) (Local.room-whole 𝓤 H A W (Declared'.row Call.the-type) (Laws.mir) Path'.refl)) d15
 
           d17 : Typed.Typed 𝓤 H A 𝓣 E G25 b26 Δ0 at17
-          d17 = Typed.s-seq 𝓤 H A W 𝓣 E G25 G26 b12 b25 Δ0 (Typed.both s24) at16 (Plain.t-call-plain 𝓤 H A W 𝓣 0 ps·2 r·2 (claims· .4) (claims· .5) "number_ranges::index" (known .2) E (λ pos β. β) G25 (Num.vFld 5 (List._∷_ (Syntax.field 0) List.[]) 0 λ x. Call.struct .as-values x .0, tt) 12 List.[] (Call'.sub-id 𝓤 H A W (G25 .slots)) ((Reads.reads-field 𝓤 H A W Call.the-type Laws'.the-laws 0 (Syntax.tyInt Syntax.w8) 0 Path'.refl, Path'.refl), tt) (Reads'.room-gone 𝓤 H A (Syntax.tyInt Syntax.w64)) tt Path'.refl) d16
+          d17 = Typed.s-seq 𝓤 H A W 𝓣 E G25 G26 b12 b25 Δ0 (Typed.both s24) at16 (Plain.t-call-plain 𝓤 H A W 𝓣 0 ps·2 r·2 (claims· .4) (claims· .5) "number_ranges::index" (known .2) E (λ pos β. β) G25 (Num.vFld 5 (List._∷_ (Syntax.field 0) List.[]) 0 λ x. Call.struct .as-values x .0, tt) 12 List.[] (Call'.sub-id 𝓤 H A W (G25 .slots)) ((Reads.reads-field 𝓤 H A W Call.the-type Laws.the-laws 0 (Syntax.tyInt Syntax.w8) 0 Path'.refl, Path'.refl), tt) (Reads'.room-gone 𝓤 H A (Syntax.tyInt Syntax.w64)) tt Path'.refl) d16
 
           d18 : Typed.Typed 𝓤 H A 𝓣 E G24 b27 Δ0 at18
-          d18 = Typed.s-seq 𝓤 H A W 𝓣 E G24 G25 b11 b26 Δ0 (Typed.both s23) at17 (Plain.t-call-plain 𝓤 H A W 𝓣 1 ps·4 r·4 (claims· .8) (claims· .9) "station_frame::station_record" (known .4) E (λ pos β. β) G24 (record { pos = 10; st = List.[]; d = 0; at = λ x. x }, (Num.vFld 5 (List._∷_ (Syntax.field 1) List.[]) 4 λ x. Call.struct .as-values x .1 .0, (record { pos = 4; ty = Syntax.tyRef (Syntax.named 3) Syntax.imm (Syntax.tyInt Syntax.w8); ref = λ x. x }, tt))) 11 (List._∷_ 3 List.[]) (Call'.sub-id 𝓤 H A W (G24 .slots)) ((Yields.yields-copy 𝓤 H A W (λ ρ. Unit) (Declared.row Answer.the-type) Path'.refl (Copies.cEnum Answer.the-type Laws.the-laws Laws.the-copy .copy 𝓤 H A W) (Rows'.whole (Declared.row Answer.the-type)) (λ x. x) (λ x. x) (λ ρ told. Local.mem-whole 𝓤 H A W (Declared.row Answer.the-type) ρ) λ ρ told. Local.whole-mem 𝓤 H A W (Declared.row Answer.the-type) ρ, Path'.refl), ((Reads.reads-field 𝓤 H A W Call.the-type Laws'.the-laws 1 (Syntax.tyInt Syntax.w32) 4 Path'.refl, Path'.refl), (ShrSlice.spares-sslice 𝓤 H A W (Referent.rtF (Referent.fInt Syntax.w8)) (Syntax.tyRef (Syntax.named 3) Syntax.imm (Syntax.tyInt Syntax.w8)) 3, Shared.reads-sslice 𝓤 H A W (Referent.rtF (Referent.fInt Syntax.w8)) (Syntax.tyRef (Syntax.named 3) Syntax.imm (Syntax.tyInt Syntax.w8)) 3, Path'.refl, tt))) (Reads'.room-gone 𝓤 H A OfStation.spelt) (tt, tt) Path'.refl) d17
+          d18 = Typed.s-seq 𝓤 H A W 𝓣 E G24 G25 b11 b26 Δ0 (Typed.both s23) at17 (Plain.t-call-plain 𝓤 H A W 𝓣 1 ps·4 r·4 (claims· .8) (claims· .9) "station_frame::station_record" (known .4) E (λ pos β. β) G24 (record { pos = 10; st = List.[]; d = 0; at = λ x. x }, (Num.vFld 5 (List._∷_ (Syntax.field 1) List.[]) 4 λ x. Call.struct .as-values x .1 .0, (record { pos = 4; ty = Syntax.tyRef (Syntax.named 3) Syntax.imm (Syntax.tyInt Syntax.w8); ref = λ x. x }, tt))) 11 (List._∷_ 3 List.[]) (Call'.sub-id 𝓤 H A W (G24 .slots)) ((Yields.yields-copy 𝓤 H A W (λ ρ. Unit) (Declared.row Answer.the-type) Path'.refl (Copies.cEnum Answer.the-type Laws'.the-laws Laws'.the-copy .copy 𝓤 H A W) (Rows'.whole (Declared.row Answer.the-type)) (λ x. x) (λ x. x) (λ ρ told. Local.mem-whole 𝓤 H A W (Declared.row Answer.the-type) ρ) λ ρ told. Local.whole-mem 𝓤 H A W (Declared.row Answer.the-type) ρ, Path'.refl), ((Reads.reads-field 𝓤 H A W Call.the-type Laws.the-laws 1 (Syntax.tyInt Syntax.w32) 4 Path'.refl, Path'.refl), (ShrSlice.spares-sslice 𝓤 H A W (Referent.rtF (Referent.fInt Syntax.w8)) (Syntax.tyRef (Syntax.named 3) Syntax.imm (Syntax.tyInt Syntax.w8)) 3, Shared.reads-sslice 𝓤 H A W (Referent.rtF (Referent.fInt Syntax.w8)) (Syntax.tyRef (Syntax.named 3) Syntax.imm (Syntax.tyInt Syntax.w8)) 3, Path'.refl, tt))) (Reads'.room-gone 𝓤 H A OfStation.spelt) (tt, tt) Path'.refl) d17
 
           d19 : Typed.Typed 𝓤 H A 𝓣 E G23 b27 Δ0 at19
           d19 = Typed.g-pre 𝓤 H A W 𝓣 E G23 G24 b27 Δ0 (λ Ψ. Ψ) at18 (Lifetime.g-forget 𝓤 H A W E G23 5 Row.dead Path'.refl) d18
@@ -933,10 +933,10 @@ module _ (claims· : Claims) where
           d23 = Typed.g-pre 𝓤 H A W 𝓣 E G19 G20 b27 Δ0 (Typed.pass T19 T20 s18) at22 (Scalar.g-room 𝓤 H A W E G19 9 (Laws''.mir) (Local.room-whole 𝓤 H A W (Declared.row Request.the-type) (Laws''.mir) Path'.refl)) d22
 
           d24 : Typed.Typed 𝓤 H A 𝓣 E G18 b28 Δ0 at24
-          d24 = Typed.s-seq 𝓤 H A W 𝓣 E G18 G19 b10 b27 Δ0 (Typed.both s17) at23 (Plain.t-call-plain 𝓤 H A W 𝓣 1 ps·3 r·3 (claims· .6) (claims· .7) "panel_tables::serve" (known .3) E (λ pos β. β) G18 (record { pos = 18; ty = Syntax.tyRef Syntax.erased Syntax.mut OfOutput.named; ref = λ x. x }, (Num.vAt 8 λ x. x, (Num.vFld 5 (List._∷_ (Syntax.field 0) List.[]) 0 λ x. Call.struct .as-values x .0, (Num.vAt 19 λ x. x, (record { pos = 9; st = List.[]; d = 0; at = λ x. x }, tt))))) 10 (List._∷_ 5 List.[]) (Call'.sub-id 𝓤 H A W (G18 .slots)) (Reads'.as-is 𝓤 H A (Mut.mslice (OfOutput.row) (Syntax.tyRef Syntax.erased Syntax.mut OfOutput.named) 5), Mut.reads-mslice 𝓤 H A W (OfOutput.row) (Syntax.tyRef Syntax.erased Syntax.mut OfOutput.named) 5, Path'.refl, ((Scalar.reads-sc 𝓤 H A W (Row.sInt Syntax.w64), Path'.refl), ((Reads.reads-field 𝓤 H A W Call.the-type Laws'.the-laws 0 (Syntax.tyInt Syntax.w8) 0 Path'.refl, Path'.refl), ((Scalar.reads-sc 𝓤 H A W (Row.sInt Syntax.w64), Path'.refl), ((Yields.yields-copy 𝓤 H A W (λ ρ. Unit) (Declared.row Request.the-type) Path'.refl (Copies.cEnum Request.the-type Laws''.the-laws Laws''.the-copy .copy 𝓤 H A W) (Rows'.whole (Declared.row Request.the-type)) (λ x. x) (λ x. x) (λ ρ told. Local.mem-whole 𝓤 H A W (Declared.row Request.the-type) ρ) λ ρ told. Local.whole-mem 𝓤 H A W (Declared.row Request.the-type) ρ, Path'.refl), tt))))) (Reads'.room-gone 𝓤 H A (Laws.mir)) (tt, tt) Path'.refl) d23
+          d24 = Typed.s-seq 𝓤 H A W 𝓣 E G18 G19 b10 b27 Δ0 (Typed.both s17) at23 (Plain.t-call-plain 𝓤 H A W 𝓣 1 ps·3 r·3 (claims· .6) (claims· .7) "panel_tables::serve" (known .3) E (λ pos β. β) G18 (record { pos = 18; ty = Syntax.tyRef Syntax.erased Syntax.mut OfOutput.named; ref = λ x. x }, (Num.vAt 8 λ x. x, (Num.vAt 19 λ x. x, (record { pos = 9; st = List.[]; d = 0; at = λ x. x }, tt)))) 10 (List._∷_ 5 List.[]) (Call'.sub-id 𝓤 H A W (G18 .slots)) (Reads'.as-is 𝓤 H A (Mut.mslice (OfOutput.row) (Syntax.tyRef Syntax.erased Syntax.mut OfOutput.named) 5), Mut.reads-mslice 𝓤 H A W (OfOutput.row) (Syntax.tyRef Syntax.erased Syntax.mut OfOutput.named) 5, Path'.refl, ((Scalar.reads-sc 𝓤 H A W (Row.sInt Syntax.w64), Path'.refl), ((Scalar.reads-sc 𝓤 H A W (Row.sInt Syntax.w64), Path'.refl), ((Yields.yields-copy 𝓤 H A W (λ ρ. Unit) (Declared.row Request.the-type) Path'.refl (Copies.cEnum Request.the-type Laws''.the-laws Laws''.the-copy .copy 𝓤 H A W) (Rows'.whole (Declared.row Request.the-type)) (λ x. x) (λ x. x) (λ ρ told. Local.mem-whole 𝓤 H A W (Declared.row Request.the-type) ρ) λ ρ told. Local.whole-mem 𝓤 H A W (Declared.row Request.the-type) ρ, Path'.refl), tt)))) (Reads'.room-gone 𝓤 H A (Laws'.mir)) (tt, tt) Path'.refl) d23
 
           d25 : Typed.Typed 𝓤 H A 𝓣 E G17 b29 Δ0 at25
-          d25 = Typed.s-seq 𝓤 H A W 𝓣 E G17 G18 b9 b28 Δ0 (Typed.both s16) at24 (Plain.t-call-plain 𝓤 H A W 𝓣 0 ps·2 r·2 (claims· .4) (claims· .5) "number_ranges::index" (known .2) E (λ pos β. β) G17 (Num.vFld 5 (List._∷_ (Syntax.field 3) List.[]) 16 λ x. Call.struct .as-values x .1 .1 .1 .0, tt) 19 List.[] (Call'.sub-id 𝓤 H A W (G17 .slots)) ((Reads.reads-field 𝓤 H A W Call.the-type Laws'.the-laws 3 (Syntax.tyInt Syntax.w8) 16 Path'.refl, Path'.refl), tt) (Reads'.room-gone 𝓤 H A (Syntax.tyInt Syntax.w64)) tt Path'.refl) d24
+          d25 = Typed.s-seq 𝓤 H A W 𝓣 E G17 G18 b9 b28 Δ0 (Typed.both s16) at24 (Plain.t-call-plain 𝓤 H A W 𝓣 0 ps·2 r·2 (claims· .4) (claims· .5) "number_ranges::index" (known .2) E (λ pos β. β) G17 (Num.vFld 5 (List._∷_ (Syntax.field 3) List.[]) 16 λ x. Call.struct .as-values x .1 .1 .1 .0, tt) 19 List.[] (Call'.sub-id 𝓤 H A W (G17 .slots)) ((Reads.reads-field 𝓤 H A W Call.the-type Laws.the-laws 3 (Syntax.tyInt Syntax.w8) 16 Path'.refl, Path'.refl), tt) (Reads'.room-gone 𝓤 H A (Syntax.tyInt Syntax.w64)) tt Path'.refl) d24
 
           d26 : Typed.Typed 𝓤 H A 𝓣 E G16 b30 Δ0 at26
           d26 = Typed.s-seq 𝓤 H A W 𝓣 E G16 G17 b8 b29 Δ0 (Typed.ask s15) at25 (Relend.t-sl-aggregate 𝓤 H A W E (OfOutput.row) 𝓣 (Relend.asMut (OfOutput.row)) G16 17 18 5 (Syntax.tyRef Syntax.erased Syntax.mut OfOutput.named) (Syntax.tyRef Syntax.erased Syntax.mut OfOutput.named) (λ x. x) (Scalar.oFld 1 (List._∷_ (Syntax.field 1) List.[]) (Syntax.tyInt Syntax.w64) 8 λ v. Shared.lenV (v .0)) (Reads'.as-is 𝓤 H A (Relend.msptr (OfOutput.row) (Syntax.tyRef Syntax.erased Syntax.mut OfOutput.named) 5)) (Reads'.room-gone 𝓤 H A (Syntax.tyStruct (List._∷_ 38 (List._∷_ 91 (List._∷_ 93 List.[]))) (Syntax.tcons (Syntax.tyRef Syntax.erased Syntax.mut OfOutput.named) (Syntax.tcons (Syntax.tyInt Syntax.w64) Syntax.tnil)))) (Relend.reads-owed-len 𝓤 H A W (OfOutput.row) (Syntax.tyRef (Syntax.named 0) Syntax.mut OfOutput.named) 0 5 (Row.lease (κs .0) (qs .0)) 8 Path'.refl, Path'.refl) Path'.refl Path'.refl λ b o k. tt) d25
@@ -948,7 +948,7 @@ module _ (claims· : Claims) where
           d28 = Typed.g-pre 𝓤 H A W 𝓣 E G14 G15 b31 Δ0 (λ Ψ. Ψ) at27 (Lifetime.g-begin 𝓤 H A W E G14 5 (tt, (tt, (tt, (tt, (tt, (tt, (tt, (tt, (tt, (tt, (tt, (tt, (tt, (tt, (tt, (tt, (tt, (tt, (tt, (tt, (tt, tt)))))))))))))))))))))) d27
 
           d29 : Typed.Typed 𝓤 H A 𝓣 E G13 b32 Δ0 at29
-          d29 = Typed.s-seq 𝓤 H A W 𝓣 E G13 G14 b6 b31 Δ0 (Typed.pass T12 T14 s12) at28 (CopyOut.t-copy-told 𝓤 H A W E 𝓣 (Declared.row Request.the-type) Path'.refl (Laws'3.val Request.the-type Laws''.the-laws) (Laws'3.lawful Request.the-type Laws''.the-laws 𝓤 H A W tt) (Laws'3.makes Request.the-type Laws''.the-plain 𝓤 H A) G13 9 (Scalar.oFld 5 (List._∷_ (Syntax.field 4) List.[]) (Laws''.mir) 20 λ x. Laws'3.val Request.the-type Laws''.the-laws (Call.struct .as-values x .1 .1 .1 .1 .0)) (λ m. Call.struct .as-values (m .1 .1 .1 .1 .1 .0) .1 .1 .1 .1 .0) (λ m. Laws'4.Is (Declared'.row Call.the-type) (m .1 .1 .1 .1 .1 .0) (Laws'5.vals Call.the-type Laws'.the-laws (m .1 .1 .1 .1 .1 .0))) (Reads'.room-gone 𝓤 H A (Laws''.mir)) (Reads.reads-field 𝓤 H A W Call.the-type Laws'.the-laws 4 (Laws''.mir) 20 Path'.refl, Path'.refl) Path'.refl (λ ρ m. Make.tells-row 𝓤 H A W E ρ (Row.out 9 (G13 .locals)) m 5 (Laws'4.Is (Declared'.row Call.the-type) (m .1 .1 .1 .1 .1 .0) (Laws'5.vals Call.the-type Laws'.the-laws (m .1 .1 .1 .1 .1 .0))) (Make.whole-is 𝓤 H A W E (Declared'.row Call.the-type) Path'.refl (Laws'5.val Call.the-type Laws'.the-laws) (Laws'5.tells Call.the-type Laws'.the-laws) ρ 5 (m .1 .1 .1 .1 .1 .0))) (λ m k wa. Path'.refl) λ m k wa. Laws'5.owed Call.the-type Laws'.the-laws (m .1 .1 .1 .1 .1 .0) (Laws'5.vals Call.the-type Laws'.the-laws (m .1 .1 .1 .1 .1 .0)) k .1 .1 .1 .1 .0) d28
+          d29 = Typed.s-seq 𝓤 H A W 𝓣 E G13 G14 b6 b31 Δ0 (Typed.pass T12 T14 s12) at28 (CopyOut.t-copy-told 𝓤 H A W E 𝓣 (Declared.row Request.the-type) Path'.refl (Laws'3.val Request.the-type Laws''.the-laws) (Laws'3.lawful Request.the-type Laws''.the-laws 𝓤 H A W tt) (Laws'3.makes Request.the-type Laws''.the-plain 𝓤 H A) G13 9 (Scalar.oFld 5 (List._∷_ (Syntax.field 4) List.[]) (Laws''.mir) 20 λ x. Laws'3.val Request.the-type Laws''.the-laws (Call.struct .as-values x .1 .1 .1 .1 .0)) (λ m. Call.struct .as-values (m .1 .1 .1 .1 .1 .0) .1 .1 .1 .1 .0) (λ m. Laws'4.Is (Declared'.row Call.the-type) (m .1 .1 .1 .1 .1 .0) (Laws'5.vals Call.the-type Laws.the-laws (m .1 .1 .1 .1 .1 .0))) (Reads'.room-gone 𝓤 H A (Laws''.mir)) (Reads.reads-field 𝓤 H A W Call.the-type Laws.the-laws 4 (Laws''.mir) 20 Path'.refl, Path'.refl) Path'.refl (λ ρ m. Make.tells-row 𝓤 H A W E ρ (Row.out 9 (G13 .locals)) m 5 (Laws'4.Is (Declared'.row Call.the-type) (m .1 .1 .1 .1 .1 .0) (Laws'5.vals Call.the-type Laws.the-laws (m .1 .1 .1 .1 .1 .0))) (Make.whole-is 𝓤 H A W E (Declared'.row Call.the-type) Path'.refl (Laws'5.val Call.the-type Laws.the-laws) (Laws'5.tells Call.the-type Laws.the-laws) ρ 5 (m .1 .1 .1 .1 .1 .0))) (λ m k wa. Path'.refl) λ m k wa. Laws'5.owed Call.the-type Laws.the-laws (m .1 .1 .1 .1 .1 .0) (Laws'5.vals Call.the-type Laws.the-laws (m .1 .1 .1 .1 .1 .0)) k .1 .1 .1 .1 .0) d28
 
           d30 : Typed.Typed 𝓤 H A 𝓣 E G12 b32 Δ0 at30
           d30 = Typed.g-pre 𝓤 H A W 𝓣 E G12 G13 b32 Δ0 (λ Ψ. Ψ) at29 (Lifetime.g-forget 𝓤 H A W E G12 4 Row.dead Path'.refl) d29
@@ -975,7 +975,7 @@ module _ (claims· : Claims) where
           d37 = Typed.g-pre 𝓤 H A W 𝓣 E G5 G6 b35 Δ0 (λ Ψ. Ψ) at36 (Lifetime.g-begin 𝓤 H A W E G5 4 (tt, (tt, (tt, (tt, (tt, (tt, (tt, (tt, (tt, (tt, (tt, (tt, (tt, (tt, (tt, (tt, (tt, (tt, (tt, (tt, (tt, tt)))))))))))))))))))))) d36
 
           d38 : Typed.Typed 𝓤 H A 𝓣 E G4 b36 Δ0 at38
-          d38 = Typed.s-seq 𝓤 H A W 𝓣 E G4 G5 b2 b35 Δ0 (Typed.pass T4 T5 s3) at37 (Scalar.t-use 𝓤 H A W E 𝓣 G4 (Scalar.oFld 5 (List._∷_ (Syntax.field 2) List.[]) (Syntax.tyInt Syntax.w64) 8 (Reads.fieldV Call.the-type Laws'.the-laws 2)) 8 (Rows'.sc-here (Row.sInt Syntax.w64)) (Syntax.tyInt Syntax.w64) (Row.valS (Row.sInt Syntax.w64)) (Row.sInt Syntax.w64 .of) (Reads.reads-field 𝓤 H A W Call.the-type Laws'.the-laws 2 (Syntax.tyInt Syntax.w64) 8 Path'.refl, Path'.refl) (Reads'.room-gone 𝓤 H A (Syntax.tyInt Syntax.w64)) (Scalar.holds-sc 𝓤 H A W (Row.sInt Syntax.w64)) Path'.refl (λ u. Path'.refl) λ u. tt) d37
+          d38 = Typed.s-seq 𝓤 H A W 𝓣 E G4 G5 b2 b35 Δ0 (Typed.pass T4 T5 s3) at37 (Scalar.t-use 𝓤 H A W E 𝓣 G4 (Scalar.oFld 5 (List._∷_ (Syntax.field 2) List.[]) (Syntax.tyInt Syntax.w64) 8 (Reads.fieldV Call.the-type Laws.the-laws 2)) 8 (Rows'.sc-here (Row.sInt Syntax.w64)) (Syntax.tyInt Syntax.w64) (Row.valS (Row.sInt Syntax.w64)) (Row.sInt Syntax.w64 .of) (Reads.reads-field 𝓤 H A W Call.the-type Laws.the-laws 2 (Syntax.tyInt Syntax.w64) 8 Path'.refl, Path'.refl) (Reads'.room-gone 𝓤 H A (Syntax.tyInt Syntax.w64)) (Scalar.holds-sc 𝓤 H A W (Row.sInt Syntax.w64)) Path'.refl (λ u. Path'.refl) λ u. tt) d37
 
           d39 : Typed.Typed 𝓤 H A 𝓣 E G3 b37 Δ0 at39
           d39 = Typed.s-seq 𝓤 H A W 𝓣 E G3 G4 b1 b36 Δ0 (Typed.both s2) at38 (Plain.t-call-plain 𝓤 H A W 𝓣 0 ps·0 r·0 (claims· .0) (claims· .1) "panel_record::time_of" (known .0) E (λ pos β. β) G3 (record { pos = 6; st = List.[]; d = 0; at = λ x. x }, tt) 7 List.[] (Call'.sub-id 𝓤 H A W (G3 .slots)) ((OfPanelRecord.yields 𝓤 H A W, Path'.refl), tt) (Reads'.room-gone 𝓤 H A (Syntax.tyInt Syntax.w64)) tt Path'.refl) d38
@@ -1016,16 +1016,16 @@ module _ (claims· : Claims) where
           pub call : Kinds.Den {n = 4} κs (Value.pVal record {
             ty = Declared'.row Call.the-type;
             one = Path'.refl;
-            val = Laws'5.val Call.the-type Laws'.the-laws;
-            tells = Laws'5.tells Call.the-type Laws'.the-laws;
-            still = Laws'5.still Call.the-type Laws'.the-copy Exit.yes;
+            val = Laws'5.val Call.the-type Laws.the-laws;
+            tells = Laws'5.tells Call.the-type Laws.the-laws;
+            still = Laws'5.still Call.the-type Laws.the-copy Exit.yes;
             row = Rows'.whole (Declared'.row Call.the-type);
             rd = λ x. x;
             mk = λ x. x;
           } λ M 𝓤 H A W. record {
-            copies = Laws'5.copy Call.the-type Laws'.the-copy 𝓤 H A W;
-            lawful = Laws'5.lawful Call.the-type Laws'.the-laws 𝓤 H A W;
-            makes = Laws'5.makes Call.the-type Laws'.the-plain 𝓤 H A;
+            copies = Laws'5.copy Call.the-type Laws.the-copy 𝓤 H A W;
+            lawful = Laws'5.lawful Call.the-type Laws.the-laws 𝓤 H A W;
+            makes = Laws'5.makes Call.the-type Laws.the-plain 𝓤 H A;
             in-mem = Local.mem-whole 𝓤 H A W (Declared'.row Call.the-type);
             of-mem = Local.whole-mem 𝓤 H A W (Declared'.row Call.the-type);
           })
@@ -1218,7 +1218,7 @@ module _ (claims· : Claims) where
 
       module _ (before· : After-index) where
         abbrev pub After-serve·own : Type 0
-        After-serve·own = Called.Called ps·3 r·3 (claims· .7) T18 (record { pos = 18; ty = Syntax.tyRef Syntax.erased Syntax.mut OfOutput.named; ref = λ x. x }, (Num.vAt 8 λ x. x, (Num.vFld 5 (List._∷_ (Syntax.field 0) List.[]) 0 λ x. Call.struct .as-values x .0, (Num.vAt 19 λ x. x, (record { pos = 9; st = List.[]; d = 0; at = λ x. x }, tt))))) (m13 (before· .before) (After-index·gave before·))
+        After-serve·own = Called.Called ps·3 r·3 (claims· .7) T18 (record { pos = 18; ty = Syntax.tyRef Syntax.erased Syntax.mut OfOutput.named; ref = λ x. x }, (Num.vAt 8 λ x. x, (Num.vAt 19 λ x. x, (record { pos = 9; st = List.[]; d = 0; at = λ x. x }, tt)))) (m13 (before· .before) (After-index·gave before·))
 
       pub record After-serve : Type 0 where
         pub before : After-index
@@ -1226,7 +1226,7 @@ module _ (claims· : Claims) where
 
       abbrev pub After-serve·gave :
           (c : After-serve) → s17 .gives (m13 (c .before .before) (After-index·gave (c .before)))
-      After-serve·gave = λ c. Called.given ps·3 r·3 (claims· .7) T18 (record { pos = 18; ty = Syntax.tyRef Syntax.erased Syntax.mut OfOutput.named; ref = λ x. x }, (Num.vAt 8 λ x. x, (Num.vFld 5 (List._∷_ (Syntax.field 0) List.[]) 0 λ x. Call.struct .as-values x .0, (Num.vAt 19 λ x. x, (record { pos = 9; st = List.[]; d = 0; at = λ x. x }, tt))))) (m13 (c .before .before) (After-index·gave (c .before))) (c .serve)
+      After-serve·gave = λ c. Called.given ps·3 r·3 (claims· .7) T18 (record { pos = 18; ty = Syntax.tyRef Syntax.erased Syntax.mut OfOutput.named; ref = λ x. x }, (Num.vAt 8 λ x. x, (Num.vAt 19 λ x. x, (record { pos = 9; st = List.[]; d = 0; at = λ x. x }, tt)))) (m13 (c .before .before) (After-index·gave (c .before))) (c .serve)
 
       abbrev pub m15 :
           (before : After-index) →
@@ -1473,7 +1473,7 @@ module _ (claims· : Claims) where
             (c .before .before .before .before .before .before .before .before .κs)
             (c .before .before .before .before .before .before .before .before .args))
             (m13 (c .before) (After-index·gave c))
-        lay3 = λ c. (serve-requires record { before = c .before; index = c .index }, λ g. lay4 record { before = record { before = c .before; index = c .index }; serve = Called.called ps·3 r·3 (claims· .7) T18 (record { pos = 18; ty = Syntax.tyRef Syntax.erased Syntax.mut OfOutput.named; ref = λ x. x }, (Num.vAt 8 λ x. x, (Num.vFld 5 (List._∷_ (Syntax.field 0) List.[]) 0 λ x. Call.struct .as-values x .0, (Num.vAt 19 λ x. x, (record { pos = 9; st = List.[]; d = 0; at = λ x. x }, tt))))) (m13 (c .before) (After-index·gave c)) g })
+        lay3 = λ c. (serve-requires record { before = c .before; index = c .index }, λ g. lay4 record { before = record { before = c .before; index = c .index }; serve = Called.called ps·3 r·3 (claims· .7) T18 (record { pos = 18; ty = Syntax.tyRef Syntax.erased Syntax.mut OfOutput.named; ref = λ x. x }, (Num.vAt 8 λ x. x, (Num.vAt 19 λ x. x, (record { pos = 9; st = List.[]; d = 0; at = λ x. x }, tt)))) (m13 (c .before) (After-index·gave c)) g })
 
         lay2 :
             (c : After-advance-outputs) →

@@ -1,14 +1,14 @@
 -- Made by tools/twin.py.
 use Prim.Native.Nat
-use Rattle.lighting_outputs.proofs.Answer
-use Rattle.lighting_outputs.proofs.Answer.Laws
 use Rattle.lighting_frames.proofs.Call
-use Rattle.lighting_frames.proofs.Call.Laws as Laws'
-use Rattle.lighting_outputs.proofs.Lent.OfOutput as OfOutput
-use Rattle.lighting_panel.proofs.Lent.OfPanelRecord as OfPanelRecord
+use Rattle.lighting_frames.proofs.Call.Laws
 use Rattle.lighting_frames.proofs.Lent.OfStation as OfStation
 use Rattle.lighting_frames.proofs.Verdict
-use Rattle.lighting_frames.proofs.Verdict.Laws as Laws''
+use Rattle.lighting_frames.proofs.Verdict.Laws as Laws'
+use Rattle.lighting_outputs.proofs.Answer
+use Rattle.lighting_outputs.proofs.Answer.Laws as Laws''
+use Rattle.lighting_outputs.proofs.Lent.OfOutput as OfOutput
+use Rattle.lighting_panel.proofs.Lent.OfPanelRecord as OfPanelRecord
 use borrow.Author.Called
 use borrow.Enum.Known
 use borrow.Enum.Make
@@ -71,13 +71,13 @@ use types.Kit
 use types.Run
 
 abbrev pub ps : List.List (Kinds.PK 4)
-ps = List._∷_ (MutSlice.pMutS (OfOutput.row) 0 tt) (List._∷_ (MutSlice.pMutS (OfStation.row) 1 tt) (List._∷_ (Kinds.pMut (OfPanelRecord.row) 2 tt) (List._∷_ (ShrSlice.pShrS (Referent.rtF (Referent.fInt Syntax.w8)) 3 tt) (List._∷_ (Value.pVal record { ty = Declared.row Verdict.the-type; one = Path'.refl; val = Laws'3.val Verdict.the-type Laws''.the-laws; tells = Laws'3.tells Verdict.the-type Laws''.the-laws; still = Laws'3.still Verdict.the-type Laws''.the-copy Exit.yes; row = Rows'.whole (Declared.row Verdict.the-type); rd = λ x. x; mk = λ x. x } λ M 𝓤 H A W. record { copies = Laws'3.copy Verdict.the-type Laws''.the-copy 𝓤 H A W; lawful = Laws'3.lawful Verdict.the-type Laws''.the-laws 𝓤 H A W tt; makes = Laws'3.makes Verdict.the-type Laws''.the-plain 𝓤 H A; in-mem = Local.mem-whole 𝓤 H A W (Declared.row Verdict.the-type); of-mem = Local.whole-mem 𝓤 H A W (Declared.row Verdict.the-type) }) List.[]))))
+ps = List._∷_ (MutSlice.pMutS (OfOutput.row) 0 tt) (List._∷_ (MutSlice.pMutS (OfStation.row) 1 tt) (List._∷_ (Kinds.pMut (OfPanelRecord.row) 2 tt) (List._∷_ (ShrSlice.pShrS (Referent.rtF (Referent.fInt Syntax.w8)) 3 tt) (List._∷_ (Value.pVal record { ty = Declared.row Verdict.the-type; one = Path'.refl; val = Laws'3.val Verdict.the-type Laws'.the-laws; tells = Laws'3.tells Verdict.the-type Laws'.the-laws; still = Laws'3.still Verdict.the-type Laws'.the-copy Exit.yes; row = Rows'.whole (Declared.row Verdict.the-type); rd = λ x. x; mk = λ x. x } λ M 𝓤 H A W. record { copies = Laws'3.copy Verdict.the-type Laws'.the-copy 𝓤 H A W; lawful = Laws'3.lawful Verdict.the-type Laws'.the-laws 𝓤 H A W tt; makes = Laws'3.makes Verdict.the-type Laws'.the-plain 𝓤 H A; in-mem = Local.mem-whole 𝓤 H A W (Declared.row Verdict.the-type); of-mem = Local.whole-mem 𝓤 H A W (Declared.row Verdict.the-type) }) List.[]))))
 
 abbrev pub r : Kinds.RK 4
-r = Value.rVal record { ty = Declared.row Answer.the-type; one = Path'.refl; val = Laws'3.val Answer.the-type Laws.the-laws; tells = Laws'3.tells Answer.the-type Laws.the-laws; still = Laws'3.still Answer.the-type Laws.the-copy Exit.yes; row = Rows'.whole (Declared.row Answer.the-type); rd = λ x. x; mk = λ x. x } λ M 𝓤 H A W. record { copies = Laws'3.copy Answer.the-type Laws.the-copy 𝓤 H A W; lawful = Laws'3.lawful Answer.the-type Laws.the-laws 𝓤 H A W tt; makes = Laws'3.makes Answer.the-type Laws.the-plain 𝓤 H A; in-mem = Local.mem-whole 𝓤 H A W (Declared.row Answer.the-type); of-mem = Local.whole-mem 𝓤 H A W (Declared.row Answer.the-type) }
+r = Value.rVal record { ty = Declared.row Answer.the-type; one = Path'.refl; val = Laws'3.val Answer.the-type Laws''.the-laws; tells = Laws'3.tells Answer.the-type Laws''.the-laws; still = Laws'3.still Answer.the-type Laws''.the-copy Exit.yes; row = Rows'.whole (Declared.row Answer.the-type); rd = λ x. x; mk = λ x. x } λ M 𝓤 H A W. record { copies = Laws'3.copy Answer.the-type Laws''.the-copy 𝓤 H A W; lawful = Laws'3.lawful Answer.the-type Laws''.the-laws 𝓤 H A W tt; makes = Laws'3.makes Answer.the-type Laws''.the-plain 𝓤 H A; in-mem = Local.mem-whole 𝓤 H A W (Declared.row Answer.the-type); of-mem = Local.whole-mem 𝓤 H A W (Declared.row Answer.the-type) }
 
 abbrev pub xs : List.List Syntax.Ty
-xs = List._∷_ (Syntax.tyInt Syntax.w8) (List._∷_ (Laws.mir) (List._∷_ (Syntax.tyInt Syntax.w64) (List._∷_ OfPanelRecord.spelt (List._∷_ (Syntax.tyInt Syntax.w64) (List._∷_ OfPanelRecord.spelt (List._∷_ (Laws'.mir) (List._∷_ (Laws.mir) (List._∷_ Syntax.tyUnit (List._∷_ (Syntax.tyRef Syntax.erased Syntax.mut OfOutput.named) (List._∷_ (Syntax.tyStruct (List._∷_ 38 (List._∷_ 91 (List._∷_ 93 List.[]))) (Syntax.tcons (Syntax.tyRef Syntax.erased Syntax.mut OfOutput.named) (Syntax.tcons (Syntax.tyInt Syntax.w64) Syntax.tnil))) (List._∷_ (Syntax.tyRef Syntax.erased Syntax.mut OfOutput.named) (List._∷_ (Syntax.tyStruct (List._∷_ 38 (List._∷_ 91 (List._∷_ 93 List.[]))) (Syntax.tcons (Syntax.tyRef Syntax.erased Syntax.mut OfOutput.named) (Syntax.tcons (Syntax.tyInt Syntax.w64) Syntax.tnil))) (List._∷_ (Syntax.tyRef Syntax.erased Syntax.mut OfStation.named) (List._∷_ (Syntax.tyStruct (List._∷_ 38 (List._∷_ 91 (List._∷_ 93 List.[]))) (Syntax.tcons (Syntax.tyRef Syntax.erased Syntax.mut OfStation.named) (Syntax.tcons (Syntax.tyInt Syntax.w64) Syntax.tnil))) (List._∷_ (Syntax.tyRef Syntax.erased Syntax.mut OfPanelRecord.named) List.[])))))))))))))))
+xs = List._∷_ (Syntax.tyInt Syntax.w8) (List._∷_ (Laws''.mir) (List._∷_ (Syntax.tyInt Syntax.w64) (List._∷_ OfPanelRecord.spelt (List._∷_ (Syntax.tyInt Syntax.w64) (List._∷_ OfPanelRecord.spelt (List._∷_ (Laws.mir) (List._∷_ (Laws''.mir) (List._∷_ Syntax.tyUnit (List._∷_ (Syntax.tyRef Syntax.erased Syntax.mut OfOutput.named) (List._∷_ (Syntax.tyStruct (List._∷_ 38 (List._∷_ 91 (List._∷_ 93 List.[]))) (Syntax.tcons (Syntax.tyRef Syntax.erased Syntax.mut OfOutput.named) (Syntax.tcons (Syntax.tyInt Syntax.w64) Syntax.tnil))) (List._∷_ (Syntax.tyRef Syntax.erased Syntax.mut OfOutput.named) (List._∷_ (Syntax.tyStruct (List._∷_ 38 (List._∷_ 91 (List._∷_ 93 List.[]))) (Syntax.tcons (Syntax.tyRef Syntax.erased Syntax.mut OfOutput.named) (Syntax.tcons (Syntax.tyInt Syntax.w64) Syntax.tnil))) (List._∷_ (Syntax.tyRef Syntax.erased Syntax.mut OfStation.named) (List._∷_ (Syntax.tyStruct (List._∷_ 38 (List._∷_ 91 (List._∷_ 93 List.[]))) (Syntax.tcons (Syntax.tyRef Syntax.erased Syntax.mut OfStation.named) (Syntax.tcons (Syntax.tyInt Syntax.w64) Syntax.tnil))) (List._∷_ (Syntax.tyRef Syntax.erased Syntax.mut OfPanelRecord.named) List.[])))))))))))))))
 
 abbrev pub m : Nat.ℕ
 m = 4
@@ -101,10 +101,10 @@ abbrev pub r·2 : Kinds.RK 0
 r·2 = OfPanelRecord.result
 
 abbrev pub ps·3 : List.List (Kinds.PK 4)
-ps·3 = List._∷_ (MutSlice.pMutS (OfOutput.row) 0 tt) (List._∷_ (MutSlice.pMutS (OfStation.row) 1 tt) (List._∷_ (Kinds.pMut (OfPanelRecord.row) 2 tt) (List._∷_ (ShrSlice.pShrS (Referent.rtF (Referent.fInt Syntax.w8)) 3 tt) (List._∷_ (Value.pVal record { ty = Declared'.row Call.the-type; one = Path'.refl; val = Laws'4.val Call.the-type Laws'.the-laws; tells = Laws'4.tells Call.the-type Laws'.the-laws; still = Laws'4.still Call.the-type Laws'.the-copy Exit.yes; row = Rows'.whole (Declared'.row Call.the-type); rd = λ x. x; mk = λ x. x } λ M 𝓤 H A W. record { copies = Laws'4.copy Call.the-type Laws'.the-copy 𝓤 H A W; lawful = Laws'4.lawful Call.the-type Laws'.the-laws 𝓤 H A W; makes = Laws'4.makes Call.the-type Laws'.the-plain 𝓤 H A; in-mem = Local.mem-whole 𝓤 H A W (Declared'.row Call.the-type); of-mem = Local.whole-mem 𝓤 H A W (Declared'.row Call.the-type) }) List.[]))))
+ps·3 = List._∷_ (MutSlice.pMutS (OfOutput.row) 0 tt) (List._∷_ (MutSlice.pMutS (OfStation.row) 1 tt) (List._∷_ (Kinds.pMut (OfPanelRecord.row) 2 tt) (List._∷_ (ShrSlice.pShrS (Referent.rtF (Referent.fInt Syntax.w8)) 3 tt) (List._∷_ (Value.pVal record { ty = Declared'.row Call.the-type; one = Path'.refl; val = Laws'4.val Call.the-type Laws.the-laws; tells = Laws'4.tells Call.the-type Laws.the-laws; still = Laws'4.still Call.the-type Laws.the-copy Exit.yes; row = Rows'.whole (Declared'.row Call.the-type); rd = λ x. x; mk = λ x. x } λ M 𝓤 H A W. record { copies = Laws'4.copy Call.the-type Laws.the-copy 𝓤 H A W; lawful = Laws'4.lawful Call.the-type Laws.the-laws 𝓤 H A W; makes = Laws'4.makes Call.the-type Laws.the-plain 𝓤 H A; in-mem = Local.mem-whole 𝓤 H A W (Declared'.row Call.the-type); of-mem = Local.whole-mem 𝓤 H A W (Declared'.row Call.the-type) }) List.[]))))
 
 abbrev pub r·3 : Kinds.RK 4
-r·3 = Value.rVal record { ty = Declared.row Answer.the-type; one = Path'.refl; val = Laws'3.val Answer.the-type Laws.the-laws; tells = Laws'3.tells Answer.the-type Laws.the-laws; still = Laws'3.still Answer.the-type Laws.the-copy Exit.yes; row = Rows'.whole (Declared.row Answer.the-type); rd = λ x. x; mk = λ x. x } λ M 𝓤 H A W. record { copies = Laws'3.copy Answer.the-type Laws.the-copy 𝓤 H A W; lawful = Laws'3.lawful Answer.the-type Laws.the-laws 𝓤 H A W tt; makes = Laws'3.makes Answer.the-type Laws.the-plain 𝓤 H A; in-mem = Local.mem-whole 𝓤 H A W (Declared.row Answer.the-type); of-mem = Local.whole-mem 𝓤 H A W (Declared.row Answer.the-type) }
+r·3 = Value.rVal record { ty = Declared.row Answer.the-type; one = Path'.refl; val = Laws'3.val Answer.the-type Laws''.the-laws; tells = Laws'3.tells Answer.the-type Laws''.the-laws; still = Laws'3.still Answer.the-type Laws''.the-copy Exit.yes; row = Rows'.whole (Declared.row Answer.the-type); rd = λ x. x; mk = λ x. x } λ M 𝓤 H A W. record { copies = Laws'3.copy Answer.the-type Laws''.the-copy 𝓤 H A W; lawful = Laws'3.lawful Answer.the-type Laws''.the-laws 𝓤 H A W tt; makes = Laws'3.makes Answer.the-type Laws''.the-plain 𝓤 H A; in-mem = Local.mem-whole 𝓤 H A W (Declared.row Answer.the-type); of-mem = Local.whole-mem 𝓤 H A W (Declared.row Answer.the-type) }
 
 abbrev pub hs : List.List Syntax.Home
 hs = List._∷_ Syntax.valueLocal (List._∷_ Syntax.valueLocal (List._∷_ Syntax.valueLocal (List._∷_ Syntax.valueLocal (List._∷_ Syntax.valueLocal (List._∷_ Syntax.valueLocal (List._∷_ Syntax.valueLocal (List._∷_ Syntax.valueLocal (List._∷_ Syntax.valueLocal (List._∷_ Syntax.valueLocal (List._∷_ Syntax.valueLocal (List._∷_ Syntax.valueLocal (List._∷_ Syntax.valueLocal (List._∷_ Syntax.valueLocal (List._∷_ Syntax.valueLocal (List._∷_ Syntax.valueLocal (List._∷_ Syntax.valueLocal (List._∷_ Syntax.valueLocal (List._∷_ Syntax.valueLocal (List._∷_ Syntax.valueLocal (List._∷_ Syntax.valueLocal (List._∷_ Syntax.valueLocal List.[])))))))))))))))))))))
@@ -239,97 +239,97 @@ abbrev pub Claims : Type 1
 Claims = Kinds.In 0 ps·0 × Kinds.Out 0 ps·0 r·0 × Kinds.In 1 ps·1 × Kinds.Out 1 ps·1 r·1 × Kinds.In 0 ps·2 × Kinds.Out 0 ps·2 r·2 × Kinds.In 4 ps·3 × Kinds.Out 4 ps·3 r·3
 
 abbrev pub t0 : List.List Row.Entry
-t0 = List._∷_ (0, Rows'.any-gone (Laws.mir)) (List._∷_ (1, Mut.mslice (OfOutput.row) (Syntax.tyRef (Syntax.named 0) Syntax.mut OfOutput.named) 0) (List._∷_ (2, Mut.mslice (OfStation.row) (Syntax.tyRef (Syntax.named 1) Syntax.mut OfStation.named) 1) (List._∷_ (3, Rows'.mref (OfPanelRecord.row) (Syntax.tyRef (Syntax.named 2) Syntax.mut OfPanelRecord.named) 2) (List._∷_ (4, Rows'.sslice (Referent.rtF (Referent.fInt Syntax.w8)) (Syntax.tyRef (Syntax.named 3) Syntax.imm (Syntax.tyInt Syntax.w8)) 3) (List._∷_ (5, Rows'.whole (Declared.row Verdict.the-type)) (List._∷_ (6, Rows'.any-gone (Syntax.tyInt Syntax.w8)) (List._∷_ (7, Rows'.any-gone (Laws.mir)) (List._∷_ (8, Rows'.any-gone (Syntax.tyInt Syntax.w64)) (List._∷_ (9, Rows'.any-gone OfPanelRecord.spelt) (List._∷_ (10, Rows'.any-gone (Syntax.tyInt Syntax.w64)) (List._∷_ (11, Rows'.any-gone OfPanelRecord.spelt) (List._∷_ (12, Rows'.any-gone (Laws'.mir)) (List._∷_ (13, Rows'.any-gone (Laws.mir)) (List._∷_ (14, Rows'.any-gone Syntax.tyUnit) (List._∷_ (15, Rows'.any-gone (Syntax.tyRef Syntax.erased Syntax.mut OfOutput.named)) List.[])))))))))))))))
+t0 = List._∷_ (0, Rows'.any-gone (Laws''.mir)) (List._∷_ (1, Mut.mslice (OfOutput.row) (Syntax.tyRef (Syntax.named 0) Syntax.mut OfOutput.named) 0) (List._∷_ (2, Mut.mslice (OfStation.row) (Syntax.tyRef (Syntax.named 1) Syntax.mut OfStation.named) 1) (List._∷_ (3, Rows'.mref (OfPanelRecord.row) (Syntax.tyRef (Syntax.named 2) Syntax.mut OfPanelRecord.named) 2) (List._∷_ (4, Rows'.sslice (Referent.rtF (Referent.fInt Syntax.w8)) (Syntax.tyRef (Syntax.named 3) Syntax.imm (Syntax.tyInt Syntax.w8)) 3) (List._∷_ (5, Rows'.whole (Declared.row Verdict.the-type)) (List._∷_ (6, Rows'.any-gone (Syntax.tyInt Syntax.w8)) (List._∷_ (7, Rows'.any-gone (Laws''.mir)) (List._∷_ (8, Rows'.any-gone (Syntax.tyInt Syntax.w64)) (List._∷_ (9, Rows'.any-gone OfPanelRecord.spelt) (List._∷_ (10, Rows'.any-gone (Syntax.tyInt Syntax.w64)) (List._∷_ (11, Rows'.any-gone OfPanelRecord.spelt) (List._∷_ (12, Rows'.any-gone (Laws.mir)) (List._∷_ (13, Rows'.any-gone (Laws''.mir)) (List._∷_ (14, Rows'.any-gone Syntax.tyUnit) (List._∷_ (15, Rows'.any-gone (Syntax.tyRef Syntax.erased Syntax.mut OfOutput.named)) List.[])))))))))))))))
 
 abbrev pub t1 : List.List Row.Entry
 t1 = List._∷_ (16, Rows'.any-gone (Syntax.tyStruct (List._∷_ 38 (List._∷_ 91 (List._∷_ 93 List.[]))) (Syntax.tcons (Syntax.tyRef Syntax.erased Syntax.mut OfOutput.named) (Syntax.tcons (Syntax.tyInt Syntax.w64) Syntax.tnil)))) (List._∷_ (17, Rows'.any-gone (Syntax.tyRef Syntax.erased Syntax.mut OfOutput.named)) (List._∷_ (18, Rows'.any-gone (Syntax.tyStruct (List._∷_ 38 (List._∷_ 91 (List._∷_ 93 List.[]))) (Syntax.tcons (Syntax.tyRef Syntax.erased Syntax.mut OfOutput.named) (Syntax.tcons (Syntax.tyInt Syntax.w64) Syntax.tnil)))) (List._∷_ (19, Rows'.any-gone (Syntax.tyRef Syntax.erased Syntax.mut OfStation.named)) (List._∷_ (20, Rows'.any-gone (Syntax.tyStruct (List._∷_ 38 (List._∷_ 91 (List._∷_ 93 List.[]))) (Syntax.tcons (Syntax.tyRef Syntax.erased Syntax.mut OfStation.named) (Syntax.tcons (Syntax.tyInt Syntax.w64) Syntax.tnil)))) (List._∷_ (21, Rows'.any-gone (Syntax.tyRef Syntax.erased Syntax.mut OfPanelRecord.named)) List.[])))))
 
 abbrev pub t2 : List.List Row.Entry
-t2 = List._∷_ (0, Rows'.whole (Declared.row Answer.the-type)) (List._∷_ (1, Mut.mslice (OfOutput.row) (Syntax.tyRef (Syntax.named 0) Syntax.mut OfOutput.named) 0) (List._∷_ (2, Mut.mslice (OfStation.row) (Syntax.tyRef (Syntax.named 1) Syntax.mut OfStation.named) 1) (List._∷_ (3, Rows'.mref (OfPanelRecord.row) (Syntax.tyRef (Syntax.named 2) Syntax.mut OfPanelRecord.named) 2) (List._∷_ (4, Rows'.sslice (Referent.rtF (Referent.fInt Syntax.w8)) (Syntax.tyRef (Syntax.named 3) Syntax.imm (Syntax.tyInt Syntax.w8)) 3) (List._∷_ (5, Rows'.any-gone (Laws''.mir)) (List._∷_ (6, Rows'.any-gone (Syntax.tyInt Syntax.w8)) (List._∷_ (7, Rows'.any-gone (Laws.mir)) (List._∷_ (8, Rows'.any-gone (Syntax.tyInt Syntax.w64)) (List._∷_ (9, Rows'.any-gone OfPanelRecord.spelt) (List._∷_ (10, Rows'.any-gone (Syntax.tyInt Syntax.w64)) (List._∷_ (11, Rows'.any-gone OfPanelRecord.spelt) (List._∷_ (12, Rows'.any-gone (Laws'.mir)) (List._∷_ (13, Rows'.any-gone (Laws.mir)) (List._∷_ (14, Rows'.any-gone Syntax.tyUnit) (List._∷_ (15, Rows'.any-gone (Syntax.tyRef Syntax.erased Syntax.mut OfOutput.named)) List.[])))))))))))))))
+t2 = List._∷_ (0, Rows'.whole (Declared.row Answer.the-type)) (List._∷_ (1, Mut.mslice (OfOutput.row) (Syntax.tyRef (Syntax.named 0) Syntax.mut OfOutput.named) 0) (List._∷_ (2, Mut.mslice (OfStation.row) (Syntax.tyRef (Syntax.named 1) Syntax.mut OfStation.named) 1) (List._∷_ (3, Rows'.mref (OfPanelRecord.row) (Syntax.tyRef (Syntax.named 2) Syntax.mut OfPanelRecord.named) 2) (List._∷_ (4, Rows'.sslice (Referent.rtF (Referent.fInt Syntax.w8)) (Syntax.tyRef (Syntax.named 3) Syntax.imm (Syntax.tyInt Syntax.w8)) 3) (List._∷_ (5, Rows'.any-gone (Laws'.mir)) (List._∷_ (6, Rows'.any-gone (Syntax.tyInt Syntax.w8)) (List._∷_ (7, Rows'.any-gone (Laws''.mir)) (List._∷_ (8, Rows'.any-gone (Syntax.tyInt Syntax.w64)) (List._∷_ (9, Rows'.any-gone OfPanelRecord.spelt) (List._∷_ (10, Rows'.any-gone (Syntax.tyInt Syntax.w64)) (List._∷_ (11, Rows'.any-gone OfPanelRecord.spelt) (List._∷_ (12, Rows'.any-gone (Laws.mir)) (List._∷_ (13, Rows'.any-gone (Laws''.mir)) (List._∷_ (14, Rows'.any-gone Syntax.tyUnit) (List._∷_ (15, Rows'.any-gone (Syntax.tyRef Syntax.erased Syntax.mut OfOutput.named)) List.[])))))))))))))))
 
 abbrev pub t3 : List.List Row.Entry
-t3 = List._∷_ (0, Rows'.any-gone (Laws.mir)) (List._∷_ (1, Mut.mslice (OfOutput.row) (Syntax.tyRef (Syntax.named 0) Syntax.mut OfOutput.named) 0) (List._∷_ (2, Mut.mslice (OfStation.row) (Syntax.tyRef (Syntax.named 1) Syntax.mut OfStation.named) 1) (List._∷_ (3, Rows'.mref (OfPanelRecord.row) (Syntax.tyRef (Syntax.named 2) Syntax.mut OfPanelRecord.named) 2) (List._∷_ (4, Rows'.sslice (Referent.rtF (Referent.fInt Syntax.w8)) (Syntax.tyRef (Syntax.named 3) Syntax.imm (Syntax.tyInt Syntax.w8)) 3) (List._∷_ (5, Rows'.any-gone (Laws''.mir)) (List._∷_ (6, Rows'.any-gone (Syntax.tyInt Syntax.w8)) (List._∷_ (7, Rows'.any-gone (Laws.mir)) (List._∷_ (8, Rows'.any-gone (Syntax.tyInt Syntax.w64)) (List._∷_ (9, Rows'.any-gone OfPanelRecord.spelt) (List._∷_ (10, Rows'.any-gone (Syntax.tyInt Syntax.w64)) (List._∷_ (11, Rows'.any-gone OfPanelRecord.spelt) (List._∷_ (12, Rows'.any-gone (Laws'.mir)) (List._∷_ (13, Rows'.whole (Declared.row Answer.the-type)) (List._∷_ (14, Rows'.any-gone Syntax.tyUnit) (List._∷_ (15, Rows'.any-gone (Syntax.tyRef Syntax.erased Syntax.mut OfOutput.named)) List.[])))))))))))))))
+t3 = List._∷_ (0, Rows'.any-gone (Laws''.mir)) (List._∷_ (1, Mut.mslice (OfOutput.row) (Syntax.tyRef (Syntax.named 0) Syntax.mut OfOutput.named) 0) (List._∷_ (2, Mut.mslice (OfStation.row) (Syntax.tyRef (Syntax.named 1) Syntax.mut OfStation.named) 1) (List._∷_ (3, Rows'.mref (OfPanelRecord.row) (Syntax.tyRef (Syntax.named 2) Syntax.mut OfPanelRecord.named) 2) (List._∷_ (4, Rows'.sslice (Referent.rtF (Referent.fInt Syntax.w8)) (Syntax.tyRef (Syntax.named 3) Syntax.imm (Syntax.tyInt Syntax.w8)) 3) (List._∷_ (5, Rows'.any-gone (Laws'.mir)) (List._∷_ (6, Rows'.any-gone (Syntax.tyInt Syntax.w8)) (List._∷_ (7, Rows'.any-gone (Laws''.mir)) (List._∷_ (8, Rows'.any-gone (Syntax.tyInt Syntax.w64)) (List._∷_ (9, Rows'.any-gone OfPanelRecord.spelt) (List._∷_ (10, Rows'.any-gone (Syntax.tyInt Syntax.w64)) (List._∷_ (11, Rows'.any-gone OfPanelRecord.spelt) (List._∷_ (12, Rows'.any-gone (Laws.mir)) (List._∷_ (13, Rows'.whole (Declared.row Answer.the-type)) (List._∷_ (14, Rows'.any-gone Syntax.tyUnit) (List._∷_ (15, Rows'.any-gone (Syntax.tyRef Syntax.erased Syntax.mut OfOutput.named)) List.[])))))))))))))))
 
 abbrev pub t4 : List.List Row.Entry
-t4 = List._∷_ (0, Rows'.any-gone (Laws.mir)) (List._∷_ (1, Mut.mslice (OfOutput.row) (Syntax.tyRef (Syntax.named 0) Syntax.mut OfOutput.named) 0) (List._∷_ (2, Mut.mslice (OfStation.row) (Syntax.tyRef (Syntax.named 1) Syntax.mut OfStation.named) 1) (List._∷_ (3, Rows'.mref (OfPanelRecord.row) (Syntax.tyRef (Syntax.named 2) Syntax.mut OfPanelRecord.named) 2) (List._∷_ (4, Rows'.sslice (Referent.rtF (Referent.fInt Syntax.w8)) (Syntax.tyRef (Syntax.named 3) Syntax.imm (Syntax.tyInt Syntax.w8)) 3) (List._∷_ (5, Rows'.whole (Known.Known Verdict.enum 0)) (List._∷_ (6, Rows'.any-gone (Syntax.tyInt Syntax.w8)) (List._∷_ (7, Rows'.any-gone (Laws.mir)) (List._∷_ (8, Rows'.any-gone (Syntax.tyInt Syntax.w64)) (List._∷_ (9, Rows'.any-gone OfPanelRecord.spelt) (List._∷_ (10, Rows'.any-gone (Syntax.tyInt Syntax.w64)) (List._∷_ (11, Rows'.any-gone OfPanelRecord.spelt) (List._∷_ (12, Rows'.any-gone (Laws'.mir)) (List._∷_ (13, Rows'.any-gone (Laws.mir)) (List._∷_ (14, Rows'.any-gone Syntax.tyUnit) (List._∷_ (15, Rows'.any-gone (Syntax.tyRef Syntax.erased Syntax.mut OfOutput.named)) List.[])))))))))))))))
+t4 = List._∷_ (0, Rows'.any-gone (Laws''.mir)) (List._∷_ (1, Mut.mslice (OfOutput.row) (Syntax.tyRef (Syntax.named 0) Syntax.mut OfOutput.named) 0) (List._∷_ (2, Mut.mslice (OfStation.row) (Syntax.tyRef (Syntax.named 1) Syntax.mut OfStation.named) 1) (List._∷_ (3, Rows'.mref (OfPanelRecord.row) (Syntax.tyRef (Syntax.named 2) Syntax.mut OfPanelRecord.named) 2) (List._∷_ (4, Rows'.sslice (Referent.rtF (Referent.fInt Syntax.w8)) (Syntax.tyRef (Syntax.named 3) Syntax.imm (Syntax.tyInt Syntax.w8)) 3) (List._∷_ (5, Rows'.whole (Known.Known Verdict.enum 0)) (List._∷_ (6, Rows'.any-gone (Syntax.tyInt Syntax.w8)) (List._∷_ (7, Rows'.any-gone (Laws''.mir)) (List._∷_ (8, Rows'.any-gone (Syntax.tyInt Syntax.w64)) (List._∷_ (9, Rows'.any-gone OfPanelRecord.spelt) (List._∷_ (10, Rows'.any-gone (Syntax.tyInt Syntax.w64)) (List._∷_ (11, Rows'.any-gone OfPanelRecord.spelt) (List._∷_ (12, Rows'.any-gone (Laws.mir)) (List._∷_ (13, Rows'.any-gone (Laws''.mir)) (List._∷_ (14, Rows'.any-gone Syntax.tyUnit) (List._∷_ (15, Rows'.any-gone (Syntax.tyRef Syntax.erased Syntax.mut OfOutput.named)) List.[])))))))))))))))
 
 abbrev pub t5 : List.List Row.Entry
-t5 = List._∷_ (0, Rows'.any-gone (Laws.mir)) (List._∷_ (1, Mut.mslice (OfOutput.row) (Syntax.tyRef (Syntax.named 0) Syntax.mut OfOutput.named) 0) (List._∷_ (2, Mut.mslice (OfStation.row) (Syntax.tyRef (Syntax.named 1) Syntax.mut OfStation.named) 1) (List._∷_ (3, Rows'.mref (OfPanelRecord.row) (Syntax.tyRef (Syntax.named 2) Syntax.mut OfPanelRecord.named) 2) (List._∷_ (4, Rows'.sslice (Referent.rtF (Referent.fInt Syntax.w8)) (Syntax.tyRef (Syntax.named 3) Syntax.imm (Syntax.tyInt Syntax.w8)) 3) (List._∷_ (5, Rows'.whole (Known.Known Verdict.enum 0)) (List._∷_ (6, Rows'.sc-here (Row.sInt Syntax.w8)) (List._∷_ (7, Rows'.any-gone (Laws.mir)) (List._∷_ (8, Rows'.any-gone (Syntax.tyInt Syntax.w64)) (List._∷_ (9, Rows'.any-gone OfPanelRecord.spelt) (List._∷_ (10, Rows'.any-gone (Syntax.tyInt Syntax.w64)) (List._∷_ (11, Rows'.any-gone OfPanelRecord.spelt) (List._∷_ (12, Rows'.any-gone (Laws'.mir)) (List._∷_ (13, Rows'.any-gone (Laws.mir)) (List._∷_ (14, Rows'.any-gone Syntax.tyUnit) (List._∷_ (15, Rows'.any-gone (Syntax.tyRef Syntax.erased Syntax.mut OfOutput.named)) List.[])))))))))))))))
+t5 = List._∷_ (0, Rows'.any-gone (Laws''.mir)) (List._∷_ (1, Mut.mslice (OfOutput.row) (Syntax.tyRef (Syntax.named 0) Syntax.mut OfOutput.named) 0) (List._∷_ (2, Mut.mslice (OfStation.row) (Syntax.tyRef (Syntax.named 1) Syntax.mut OfStation.named) 1) (List._∷_ (3, Rows'.mref (OfPanelRecord.row) (Syntax.tyRef (Syntax.named 2) Syntax.mut OfPanelRecord.named) 2) (List._∷_ (4, Rows'.sslice (Referent.rtF (Referent.fInt Syntax.w8)) (Syntax.tyRef (Syntax.named 3) Syntax.imm (Syntax.tyInt Syntax.w8)) 3) (List._∷_ (5, Rows'.whole (Known.Known Verdict.enum 0)) (List._∷_ (6, Rows'.sc-here (Row.sInt Syntax.w8)) (List._∷_ (7, Rows'.any-gone (Laws''.mir)) (List._∷_ (8, Rows'.any-gone (Syntax.tyInt Syntax.w64)) (List._∷_ (9, Rows'.any-gone OfPanelRecord.spelt) (List._∷_ (10, Rows'.any-gone (Syntax.tyInt Syntax.w64)) (List._∷_ (11, Rows'.any-gone OfPanelRecord.spelt) (List._∷_ (12, Rows'.any-gone (Laws.mir)) (List._∷_ (13, Rows'.any-gone (Laws''.mir)) (List._∷_ (14, Rows'.any-gone Syntax.tyUnit) (List._∷_ (15, Rows'.any-gone (Syntax.tyRef Syntax.erased Syntax.mut OfOutput.named)) List.[])))))))))))))))
 
 abbrev pub t6 : List.List Row.Entry
-t6 = List._∷_ (0, Rows'.any-gone (Laws.mir)) (List._∷_ (1, Mut.mslice (OfOutput.row) (Syntax.tyRef (Syntax.named 0) Syntax.mut OfOutput.named) 0) (List._∷_ (2, Mut.mslice (OfStation.row) (Syntax.tyRef (Syntax.named 1) Syntax.mut OfStation.named) 1) (List._∷_ (3, Rows'.mref (OfPanelRecord.row) (Syntax.tyRef (Syntax.named 2) Syntax.mut OfPanelRecord.named) 2) (List._∷_ (4, Rows'.sslice (Referent.rtF (Referent.fInt Syntax.w8)) (Syntax.tyRef (Syntax.named 3) Syntax.imm (Syntax.tyInt Syntax.w8)) 3) (List._∷_ (5, Rows'.any-gone (Laws''.mir)) (List._∷_ (6, Rows'.sc-here (Row.sInt Syntax.w8)) (List._∷_ (7, Rows'.any-gone (Laws.mir)) (List._∷_ (8, Rows'.any-gone (Syntax.tyInt Syntax.w64)) (List._∷_ (9, Rows'.any-gone OfPanelRecord.spelt) (List._∷_ (10, Rows'.any-gone (Syntax.tyInt Syntax.w64)) (List._∷_ (11, Rows'.any-gone OfPanelRecord.spelt) (List._∷_ (12, Rows'.any-gone (Laws'.mir)) (List._∷_ (13, Rows'.any-gone (Laws.mir)) (List._∷_ (14, Rows'.any-gone Syntax.tyUnit) (List._∷_ (15, Rows'.any-gone (Syntax.tyRef Syntax.erased Syntax.mut OfOutput.named)) List.[])))))))))))))))
+t6 = List._∷_ (0, Rows'.any-gone (Laws''.mir)) (List._∷_ (1, Mut.mslice (OfOutput.row) (Syntax.tyRef (Syntax.named 0) Syntax.mut OfOutput.named) 0) (List._∷_ (2, Mut.mslice (OfStation.row) (Syntax.tyRef (Syntax.named 1) Syntax.mut OfStation.named) 1) (List._∷_ (3, Rows'.mref (OfPanelRecord.row) (Syntax.tyRef (Syntax.named 2) Syntax.mut OfPanelRecord.named) 2) (List._∷_ (4, Rows'.sslice (Referent.rtF (Referent.fInt Syntax.w8)) (Syntax.tyRef (Syntax.named 3) Syntax.imm (Syntax.tyInt Syntax.w8)) 3) (List._∷_ (5, Rows'.any-gone (Laws'.mir)) (List._∷_ (6, Rows'.sc-here (Row.sInt Syntax.w8)) (List._∷_ (7, Rows'.any-gone (Laws''.mir)) (List._∷_ (8, Rows'.any-gone (Syntax.tyInt Syntax.w64)) (List._∷_ (9, Rows'.any-gone OfPanelRecord.spelt) (List._∷_ (10, Rows'.any-gone (Syntax.tyInt Syntax.w64)) (List._∷_ (11, Rows'.any-gone OfPanelRecord.spelt) (List._∷_ (12, Rows'.any-gone (Laws.mir)) (List._∷_ (13, Rows'.any-gone (Laws''.mir)) (List._∷_ (14, Rows'.any-gone Syntax.tyUnit) (List._∷_ (15, Rows'.any-gone (Syntax.tyRef Syntax.erased Syntax.mut OfOutput.named)) List.[])))))))))))))))
 
 abbrev pub t7 : List.List Row.Entry
-t7 = List._∷_ (0, Rows'.any-gone (Laws.mir)) (List._∷_ (1, Mut.mslice (OfOutput.row) (Syntax.tyRef (Syntax.named 0) Syntax.mut OfOutput.named) 0) (List._∷_ (2, Mut.mslice (OfStation.row) (Syntax.tyRef (Syntax.named 1) Syntax.mut OfStation.named) 1) (List._∷_ (3, Rows'.mref (OfPanelRecord.row) (Syntax.tyRef (Syntax.named 2) Syntax.mut OfPanelRecord.named) 2) (List._∷_ (4, Rows'.sslice (Referent.rtF (Referent.fInt Syntax.w8)) (Syntax.tyRef (Syntax.named 3) Syntax.imm (Syntax.tyInt Syntax.w8)) 3) (List._∷_ (5, Rows'.any-gone (Laws''.mir)) (List._∷_ (6, Rows'.sc-here (Row.sInt Syntax.w8)) (List._∷_ (7, Rows'.any-gone (Laws.mir)) (List._∷_ (8, Rows'.any-gone (Syntax.tyInt Syntax.w64)) (List._∷_ (9, Rows'.any-gone OfPanelRecord.spelt) (List._∷_ (10, Rows'.any-gone (Syntax.tyInt Syntax.w64)) (List._∷_ (11, Rows'.any-gone OfPanelRecord.spelt) (List._∷_ (12, Rows'.any-gone (Laws'.mir)) (List._∷_ (13, Rows'.whole (Declared.row Answer.the-type)) (List._∷_ (14, Rows'.any-gone Syntax.tyUnit) (List._∷_ (15, Rows'.any-gone (Syntax.tyRef Syntax.erased Syntax.mut OfOutput.named)) List.[])))))))))))))))
+t7 = List._∷_ (0, Rows'.any-gone (Laws''.mir)) (List._∷_ (1, Mut.mslice (OfOutput.row) (Syntax.tyRef (Syntax.named 0) Syntax.mut OfOutput.named) 0) (List._∷_ (2, Mut.mslice (OfStation.row) (Syntax.tyRef (Syntax.named 1) Syntax.mut OfStation.named) 1) (List._∷_ (3, Rows'.mref (OfPanelRecord.row) (Syntax.tyRef (Syntax.named 2) Syntax.mut OfPanelRecord.named) 2) (List._∷_ (4, Rows'.sslice (Referent.rtF (Referent.fInt Syntax.w8)) (Syntax.tyRef (Syntax.named 3) Syntax.imm (Syntax.tyInt Syntax.w8)) 3) (List._∷_ (5, Rows'.any-gone (Laws'.mir)) (List._∷_ (6, Rows'.sc-here (Row.sInt Syntax.w8)) (List._∷_ (7, Rows'.any-gone (Laws''.mir)) (List._∷_ (8, Rows'.any-gone (Syntax.tyInt Syntax.w64)) (List._∷_ (9, Rows'.any-gone OfPanelRecord.spelt) (List._∷_ (10, Rows'.any-gone (Syntax.tyInt Syntax.w64)) (List._∷_ (11, Rows'.any-gone OfPanelRecord.spelt) (List._∷_ (12, Rows'.any-gone (Laws.mir)) (List._∷_ (13, Rows'.whole (Declared.row Answer.the-type)) (List._∷_ (14, Rows'.any-gone Syntax.tyUnit) (List._∷_ (15, Rows'.any-gone (Syntax.tyRef Syntax.erased Syntax.mut OfOutput.named)) List.[])))))))))))))))
 
 abbrev pub t8 : List.List Row.Entry
-t8 = List._∷_ (0, Rows'.any-gone (Laws.mir)) (List._∷_ (1, Mut.mslice (OfOutput.row) (Syntax.tyRef (Syntax.named 0) Syntax.mut OfOutput.named) 0) (List._∷_ (2, Mut.mslice (OfStation.row) (Syntax.tyRef (Syntax.named 1) Syntax.mut OfStation.named) 1) (List._∷_ (3, Rows'.mref (OfPanelRecord.row) (Syntax.tyRef (Syntax.named 2) Syntax.mut OfPanelRecord.named) 2) (List._∷_ (4, Rows'.sslice (Referent.rtF (Referent.fInt Syntax.w8)) (Syntax.tyRef (Syntax.named 3) Syntax.imm (Syntax.tyInt Syntax.w8)) 3) (List._∷_ (5, Rows'.whole (Known.Known Verdict.enum 1)) (List._∷_ (6, Rows'.any-gone (Syntax.tyInt Syntax.w8)) (List._∷_ (7, Rows'.any-gone (Laws.mir)) (List._∷_ (8, Rows'.any-gone (Syntax.tyInt Syntax.w64)) (List._∷_ (9, Rows'.any-gone OfPanelRecord.spelt) (List._∷_ (10, Rows'.any-gone (Syntax.tyInt Syntax.w64)) (List._∷_ (11, Rows'.any-gone OfPanelRecord.spelt) (List._∷_ (12, Rows'.any-gone (Laws'.mir)) (List._∷_ (13, Rows'.any-gone (Laws.mir)) (List._∷_ (14, Rows'.any-gone Syntax.tyUnit) (List._∷_ (15, Rows'.any-gone (Syntax.tyRef Syntax.erased Syntax.mut OfOutput.named)) List.[])))))))))))))))
+t8 = List._∷_ (0, Rows'.any-gone (Laws''.mir)) (List._∷_ (1, Mut.mslice (OfOutput.row) (Syntax.tyRef (Syntax.named 0) Syntax.mut OfOutput.named) 0) (List._∷_ (2, Mut.mslice (OfStation.row) (Syntax.tyRef (Syntax.named 1) Syntax.mut OfStation.named) 1) (List._∷_ (3, Rows'.mref (OfPanelRecord.row) (Syntax.tyRef (Syntax.named 2) Syntax.mut OfPanelRecord.named) 2) (List._∷_ (4, Rows'.sslice (Referent.rtF (Referent.fInt Syntax.w8)) (Syntax.tyRef (Syntax.named 3) Syntax.imm (Syntax.tyInt Syntax.w8)) 3) (List._∷_ (5, Rows'.whole (Known.Known Verdict.enum 1)) (List._∷_ (6, Rows'.any-gone (Syntax.tyInt Syntax.w8)) (List._∷_ (7, Rows'.any-gone (Laws''.mir)) (List._∷_ (8, Rows'.any-gone (Syntax.tyInt Syntax.w64)) (List._∷_ (9, Rows'.any-gone OfPanelRecord.spelt) (List._∷_ (10, Rows'.any-gone (Syntax.tyInt Syntax.w64)) (List._∷_ (11, Rows'.any-gone OfPanelRecord.spelt) (List._∷_ (12, Rows'.any-gone (Laws.mir)) (List._∷_ (13, Rows'.any-gone (Laws''.mir)) (List._∷_ (14, Rows'.any-gone Syntax.tyUnit) (List._∷_ (15, Rows'.any-gone (Syntax.tyRef Syntax.erased Syntax.mut OfOutput.named)) List.[])))))))))))))))
 
 abbrev pub t9 : List.List Row.Entry
-t9 = List._∷_ (0, Rows'.any-gone (Laws.mir)) (List._∷_ (1, Mut.mslice (OfOutput.row) (Syntax.tyRef (Syntax.named 0) Syntax.mut OfOutput.named) 0) (List._∷_ (2, Mut.mslice (OfStation.row) (Syntax.tyRef (Syntax.named 1) Syntax.mut OfStation.named) 1) (List._∷_ (3, Rows'.mref (OfPanelRecord.row) (Syntax.tyRef (Syntax.named 2) Syntax.mut OfPanelRecord.named) 2) (List._∷_ (4, Rows'.sslice (Referent.rtF (Referent.fInt Syntax.w8)) (Syntax.tyRef (Syntax.named 3) Syntax.imm (Syntax.tyInt Syntax.w8)) 3) (List._∷_ (5, Rows'.whole (Known.Known Verdict.enum 1)) (List._∷_ (6, Rows'.any-gone (Syntax.tyInt Syntax.w8)) (List._∷_ (7, Rows'.whole (Declared.row Answer.the-type)) (List._∷_ (8, Rows'.any-gone (Syntax.tyInt Syntax.w64)) (List._∷_ (9, Rows'.any-gone OfPanelRecord.spelt) (List._∷_ (10, Rows'.any-gone (Syntax.tyInt Syntax.w64)) (List._∷_ (11, Rows'.any-gone OfPanelRecord.spelt) (List._∷_ (12, Rows'.any-gone (Laws'.mir)) (List._∷_ (13, Rows'.any-gone (Laws.mir)) (List._∷_ (14, Rows'.any-gone Syntax.tyUnit) (List._∷_ (15, Rows'.any-gone (Syntax.tyRef Syntax.erased Syntax.mut OfOutput.named)) List.[])))))))))))))))
+t9 = List._∷_ (0, Rows'.any-gone (Laws''.mir)) (List._∷_ (1, Mut.mslice (OfOutput.row) (Syntax.tyRef (Syntax.named 0) Syntax.mut OfOutput.named) 0) (List._∷_ (2, Mut.mslice (OfStation.row) (Syntax.tyRef (Syntax.named 1) Syntax.mut OfStation.named) 1) (List._∷_ (3, Rows'.mref (OfPanelRecord.row) (Syntax.tyRef (Syntax.named 2) Syntax.mut OfPanelRecord.named) 2) (List._∷_ (4, Rows'.sslice (Referent.rtF (Referent.fInt Syntax.w8)) (Syntax.tyRef (Syntax.named 3) Syntax.imm (Syntax.tyInt Syntax.w8)) 3) (List._∷_ (5, Rows'.whole (Known.Known Verdict.enum 1)) (List._∷_ (6, Rows'.any-gone (Syntax.tyInt Syntax.w8)) (List._∷_ (7, Rows'.whole (Declared.row Answer.the-type)) (List._∷_ (8, Rows'.any-gone (Syntax.tyInt Syntax.w64)) (List._∷_ (9, Rows'.any-gone OfPanelRecord.spelt) (List._∷_ (10, Rows'.any-gone (Syntax.tyInt Syntax.w64)) (List._∷_ (11, Rows'.any-gone OfPanelRecord.spelt) (List._∷_ (12, Rows'.any-gone (Laws.mir)) (List._∷_ (13, Rows'.any-gone (Laws''.mir)) (List._∷_ (14, Rows'.any-gone Syntax.tyUnit) (List._∷_ (15, Rows'.any-gone (Syntax.tyRef Syntax.erased Syntax.mut OfOutput.named)) List.[])))))))))))))))
 
 abbrev pub t10 : List.List Row.Entry
-t10 = List._∷_ (0, Rows'.any-gone (Laws.mir)) (List._∷_ (1, Mut.mslice (OfOutput.row) (Syntax.tyRef (Syntax.named 0) Syntax.mut OfOutput.named) 0) (List._∷_ (2, Mut.mslice (OfStation.row) (Syntax.tyRef (Syntax.named 1) Syntax.mut OfStation.named) 1) (List._∷_ (3, Rows'.mref (OfPanelRecord.row) (Syntax.tyRef (Syntax.named 2) Syntax.mut OfPanelRecord.named) 2) (List._∷_ (4, Rows'.sslice (Referent.rtF (Referent.fInt Syntax.w8)) (Syntax.tyRef (Syntax.named 3) Syntax.imm (Syntax.tyInt Syntax.w8)) 3) (List._∷_ (5, Rows'.any-gone (Laws''.mir)) (List._∷_ (6, Rows'.any-gone (Syntax.tyInt Syntax.w8)) (List._∷_ (7, Rows'.whole (Declared.row Answer.the-type)) (List._∷_ (8, Rows'.any-gone (Syntax.tyInt Syntax.w64)) (List._∷_ (9, Rows'.any-gone OfPanelRecord.spelt) (List._∷_ (10, Rows'.any-gone (Syntax.tyInt Syntax.w64)) (List._∷_ (11, Rows'.any-gone OfPanelRecord.spelt) (List._∷_ (12, Rows'.any-gone (Laws'.mir)) (List._∷_ (13, Rows'.any-gone (Laws.mir)) (List._∷_ (14, Rows'.any-gone Syntax.tyUnit) (List._∷_ (15, Rows'.any-gone (Syntax.tyRef Syntax.erased Syntax.mut OfOutput.named)) List.[])))))))))))))))
+t10 = List._∷_ (0, Rows'.any-gone (Laws''.mir)) (List._∷_ (1, Mut.mslice (OfOutput.row) (Syntax.tyRef (Syntax.named 0) Syntax.mut OfOutput.named) 0) (List._∷_ (2, Mut.mslice (OfStation.row) (Syntax.tyRef (Syntax.named 1) Syntax.mut OfStation.named) 1) (List._∷_ (3, Rows'.mref (OfPanelRecord.row) (Syntax.tyRef (Syntax.named 2) Syntax.mut OfPanelRecord.named) 2) (List._∷_ (4, Rows'.sslice (Referent.rtF (Referent.fInt Syntax.w8)) (Syntax.tyRef (Syntax.named 3) Syntax.imm (Syntax.tyInt Syntax.w8)) 3) (List._∷_ (5, Rows'.any-gone (Laws'.mir)) (List._∷_ (6, Rows'.any-gone (Syntax.tyInt Syntax.w8)) (List._∷_ (7, Rows'.whole (Declared.row Answer.the-type)) (List._∷_ (8, Rows'.any-gone (Syntax.tyInt Syntax.w64)) (List._∷_ (9, Rows'.any-gone OfPanelRecord.spelt) (List._∷_ (10, Rows'.any-gone (Syntax.tyInt Syntax.w64)) (List._∷_ (11, Rows'.any-gone OfPanelRecord.spelt) (List._∷_ (12, Rows'.any-gone (Laws.mir)) (List._∷_ (13, Rows'.any-gone (Laws''.mir)) (List._∷_ (14, Rows'.any-gone Syntax.tyUnit) (List._∷_ (15, Rows'.any-gone (Syntax.tyRef Syntax.erased Syntax.mut OfOutput.named)) List.[])))))))))))))))
 
 abbrev pub t11 : List.List Row.Entry
-t11 = List._∷_ (0, Rows'.any-gone (Laws.mir)) (List._∷_ (1, Mut.mslice (OfOutput.row) (Syntax.tyRef (Syntax.named 0) Syntax.mut OfOutput.named) 0) (List._∷_ (2, Mut.mslice (OfStation.row) (Syntax.tyRef (Syntax.named 1) Syntax.mut OfStation.named) 1) (List._∷_ (3, Rows'.mref (OfPanelRecord.row) (Syntax.tyRef (Syntax.named 2) Syntax.mut OfPanelRecord.named) 2) (List._∷_ (4, Rows'.sslice (Referent.rtF (Referent.fInt Syntax.w8)) (Syntax.tyRef (Syntax.named 3) Syntax.imm (Syntax.tyInt Syntax.w8)) 3) (List._∷_ (5, Rows'.any-gone (Laws''.mir)) (List._∷_ (6, Rows'.any-gone (Syntax.tyInt Syntax.w8)) (List._∷_ (7, Rows'.whole (Declared.row Answer.the-type)) (List._∷_ (8, Rows'.any-gone (Syntax.tyInt Syntax.w64)) (List._∷_ (9, Rows'.any-gone OfPanelRecord.spelt) (List._∷_ (10, Rows'.any-gone (Syntax.tyInt Syntax.w64)) (List._∷_ (11, Rows'.any-gone OfPanelRecord.spelt) (List._∷_ (12, Rows'.any-gone (Laws'.mir)) (List._∷_ (13, Rows'.whole (Declared.row Answer.the-type)) (List._∷_ (14, Rows'.any-gone Syntax.tyUnit) (List._∷_ (15, Rows'.any-gone (Syntax.tyRef Syntax.erased Syntax.mut OfOutput.named)) List.[])))))))))))))))
+t11 = List._∷_ (0, Rows'.any-gone (Laws''.mir)) (List._∷_ (1, Mut.mslice (OfOutput.row) (Syntax.tyRef (Syntax.named 0) Syntax.mut OfOutput.named) 0) (List._∷_ (2, Mut.mslice (OfStation.row) (Syntax.tyRef (Syntax.named 1) Syntax.mut OfStation.named) 1) (List._∷_ (3, Rows'.mref (OfPanelRecord.row) (Syntax.tyRef (Syntax.named 2) Syntax.mut OfPanelRecord.named) 2) (List._∷_ (4, Rows'.sslice (Referent.rtF (Referent.fInt Syntax.w8)) (Syntax.tyRef (Syntax.named 3) Syntax.imm (Syntax.tyInt Syntax.w8)) 3) (List._∷_ (5, Rows'.any-gone (Laws'.mir)) (List._∷_ (6, Rows'.any-gone (Syntax.tyInt Syntax.w8)) (List._∷_ (7, Rows'.whole (Declared.row Answer.the-type)) (List._∷_ (8, Rows'.any-gone (Syntax.tyInt Syntax.w64)) (List._∷_ (9, Rows'.any-gone OfPanelRecord.spelt) (List._∷_ (10, Rows'.any-gone (Syntax.tyInt Syntax.w64)) (List._∷_ (11, Rows'.any-gone OfPanelRecord.spelt) (List._∷_ (12, Rows'.any-gone (Laws.mir)) (List._∷_ (13, Rows'.whole (Declared.row Answer.the-type)) (List._∷_ (14, Rows'.any-gone Syntax.tyUnit) (List._∷_ (15, Rows'.any-gone (Syntax.tyRef Syntax.erased Syntax.mut OfOutput.named)) List.[])))))))))))))))
 
 abbrev pub t12 : List.List Row.Entry
-t12 = List._∷_ (0, Rows'.any-gone (Laws.mir)) (List._∷_ (1, Mut.mslice (OfOutput.row) (Syntax.tyRef (Syntax.named 0) Syntax.mut OfOutput.named) 0) (List._∷_ (2, Mut.mslice (OfStation.row) (Syntax.tyRef (Syntax.named 1) Syntax.mut OfStation.named) 1) (List._∷_ (3, Rows'.mref (OfPanelRecord.row) (Syntax.tyRef (Syntax.named 2) Syntax.mut OfPanelRecord.named) 2) (List._∷_ (4, Rows'.sslice (Referent.rtF (Referent.fInt Syntax.w8)) (Syntax.tyRef (Syntax.named 3) Syntax.imm (Syntax.tyInt Syntax.w8)) 3) (List._∷_ (5, Rows'.whole (Known.Known Verdict.enum 2)) (List._∷_ (6, Rows'.any-gone (Syntax.tyInt Syntax.w8)) (List._∷_ (7, Rows'.any-gone (Laws.mir)) (List._∷_ (8, Rows'.any-gone (Syntax.tyInt Syntax.w64)) (List._∷_ (9, Rows'.any-gone OfPanelRecord.spelt) (List._∷_ (10, Rows'.any-gone (Syntax.tyInt Syntax.w64)) (List._∷_ (11, Rows'.any-gone OfPanelRecord.spelt) (List._∷_ (12, Rows'.any-gone (Laws'.mir)) (List._∷_ (13, Rows'.any-gone (Laws.mir)) (List._∷_ (14, Rows'.any-gone Syntax.tyUnit) (List._∷_ (15, Rows'.any-gone (Syntax.tyRef Syntax.erased Syntax.mut OfOutput.named)) List.[])))))))))))))))
+t12 = List._∷_ (0, Rows'.any-gone (Laws''.mir)) (List._∷_ (1, Mut.mslice (OfOutput.row) (Syntax.tyRef (Syntax.named 0) Syntax.mut OfOutput.named) 0) (List._∷_ (2, Mut.mslice (OfStation.row) (Syntax.tyRef (Syntax.named 1) Syntax.mut OfStation.named) 1) (List._∷_ (3, Rows'.mref (OfPanelRecord.row) (Syntax.tyRef (Syntax.named 2) Syntax.mut OfPanelRecord.named) 2) (List._∷_ (4, Rows'.sslice (Referent.rtF (Referent.fInt Syntax.w8)) (Syntax.tyRef (Syntax.named 3) Syntax.imm (Syntax.tyInt Syntax.w8)) 3) (List._∷_ (5, Rows'.whole (Known.Known Verdict.enum 2)) (List._∷_ (6, Rows'.any-gone (Syntax.tyInt Syntax.w8)) (List._∷_ (7, Rows'.any-gone (Laws''.mir)) (List._∷_ (8, Rows'.any-gone (Syntax.tyInt Syntax.w64)) (List._∷_ (9, Rows'.any-gone OfPanelRecord.spelt) (List._∷_ (10, Rows'.any-gone (Syntax.tyInt Syntax.w64)) (List._∷_ (11, Rows'.any-gone OfPanelRecord.spelt) (List._∷_ (12, Rows'.any-gone (Laws.mir)) (List._∷_ (13, Rows'.any-gone (Laws''.mir)) (List._∷_ (14, Rows'.any-gone Syntax.tyUnit) (List._∷_ (15, Rows'.any-gone (Syntax.tyRef Syntax.erased Syntax.mut OfOutput.named)) List.[])))))))))))))))
 
 abbrev pub t13 : List.List Row.Entry
-t13 = List._∷_ (0, Rows'.any-gone (Laws.mir)) (List._∷_ (1, Mut.mslice (OfOutput.row) (Syntax.tyRef (Syntax.named 0) Syntax.mut OfOutput.named) 0) (List._∷_ (2, Mut.mslice (OfStation.row) (Syntax.tyRef (Syntax.named 1) Syntax.mut OfStation.named) 1) (List._∷_ (3, Rows'.mref (OfPanelRecord.row) (Syntax.tyRef (Syntax.named 2) Syntax.mut OfPanelRecord.named) 2) (List._∷_ (4, Rows'.sslice (Referent.rtF (Referent.fInt Syntax.w8)) (Syntax.tyRef (Syntax.named 3) Syntax.imm (Syntax.tyInt Syntax.w8)) 3) (List._∷_ (5, Rows'.whole (Known.Known Verdict.enum 2)) (List._∷_ (6, Rows'.any-gone (Syntax.tyInt Syntax.w8)) (List._∷_ (7, Rows'.any-gone (Laws.mir)) (List._∷_ (8, Rows'.sc-here (Row.sInt Syntax.w64)) (List._∷_ (9, Rows'.any-gone OfPanelRecord.spelt) (List._∷_ (10, Rows'.any-gone (Syntax.tyInt Syntax.w64)) (List._∷_ (11, Rows'.any-gone OfPanelRecord.spelt) (List._∷_ (12, Rows'.any-gone (Laws'.mir)) (List._∷_ (13, Rows'.any-gone (Laws.mir)) (List._∷_ (14, Rows'.any-gone Syntax.tyUnit) (List._∷_ (15, Rows'.any-gone (Syntax.tyRef Syntax.erased Syntax.mut OfOutput.named)) List.[])))))))))))))))
+t13 = List._∷_ (0, Rows'.any-gone (Laws''.mir)) (List._∷_ (1, Mut.mslice (OfOutput.row) (Syntax.tyRef (Syntax.named 0) Syntax.mut OfOutput.named) 0) (List._∷_ (2, Mut.mslice (OfStation.row) (Syntax.tyRef (Syntax.named 1) Syntax.mut OfStation.named) 1) (List._∷_ (3, Rows'.mref (OfPanelRecord.row) (Syntax.tyRef (Syntax.named 2) Syntax.mut OfPanelRecord.named) 2) (List._∷_ (4, Rows'.sslice (Referent.rtF (Referent.fInt Syntax.w8)) (Syntax.tyRef (Syntax.named 3) Syntax.imm (Syntax.tyInt Syntax.w8)) 3) (List._∷_ (5, Rows'.whole (Known.Known Verdict.enum 2)) (List._∷_ (6, Rows'.any-gone (Syntax.tyInt Syntax.w8)) (List._∷_ (7, Rows'.any-gone (Laws''.mir)) (List._∷_ (8, Rows'.sc-here (Row.sInt Syntax.w64)) (List._∷_ (9, Rows'.any-gone OfPanelRecord.spelt) (List._∷_ (10, Rows'.any-gone (Syntax.tyInt Syntax.w64)) (List._∷_ (11, Rows'.any-gone OfPanelRecord.spelt) (List._∷_ (12, Rows'.any-gone (Laws.mir)) (List._∷_ (13, Rows'.any-gone (Laws''.mir)) (List._∷_ (14, Rows'.any-gone Syntax.tyUnit) (List._∷_ (15, Rows'.any-gone (Syntax.tyRef Syntax.erased Syntax.mut OfOutput.named)) List.[])))))))))))))))
 
 abbrev pub t14 : List.List Row.Entry
-t14 = List._∷_ (0, Rows'.any-gone (Laws.mir)) (List._∷_ (1, Mut.mslice (OfOutput.row) (Syntax.tyRef (Syntax.named 0) Syntax.mut OfOutput.named) 0) (List._∷_ (2, Mut.mslice (OfStation.row) (Syntax.tyRef (Syntax.named 1) Syntax.mut OfStation.named) 1) (List._∷_ (3, Rows'.mref (OfPanelRecord.row) (Syntax.tyRef (Syntax.named 2) Syntax.mut OfPanelRecord.named) 2) (List._∷_ (4, Rows'.sslice (Referent.rtF (Referent.fInt Syntax.w8)) (Syntax.tyRef (Syntax.named 3) Syntax.imm (Syntax.tyInt Syntax.w8)) 3) (List._∷_ (5, Rows'.any-gone (Laws''.mir)) (List._∷_ (6, Rows'.any-gone (Syntax.tyInt Syntax.w8)) (List._∷_ (7, Rows'.any-gone (Laws.mir)) (List._∷_ (8, Rows'.sc-here (Row.sInt Syntax.w64)) (List._∷_ (9, Rows'.any-gone OfPanelRecord.spelt) (List._∷_ (10, Rows'.any-gone (Syntax.tyInt Syntax.w64)) (List._∷_ (11, Rows'.any-gone OfPanelRecord.spelt) (List._∷_ (12, Rows'.any-gone (Laws'.mir)) (List._∷_ (13, Rows'.any-gone (Laws.mir)) (List._∷_ (14, Rows'.any-gone Syntax.tyUnit) (List._∷_ (15, Rows'.any-gone (Syntax.tyRef Syntax.erased Syntax.mut OfOutput.named)) List.[])))))))))))))))
+t14 = List._∷_ (0, Rows'.any-gone (Laws''.mir)) (List._∷_ (1, Mut.mslice (OfOutput.row) (Syntax.tyRef (Syntax.named 0) Syntax.mut OfOutput.named) 0) (List._∷_ (2, Mut.mslice (OfStation.row) (Syntax.tyRef (Syntax.named 1) Syntax.mut OfStation.named) 1) (List._∷_ (3, Rows'.mref (OfPanelRecord.row) (Syntax.tyRef (Syntax.named 2) Syntax.mut OfPanelRecord.named) 2) (List._∷_ (4, Rows'.sslice (Referent.rtF (Referent.fInt Syntax.w8)) (Syntax.tyRef (Syntax.named 3) Syntax.imm (Syntax.tyInt Syntax.w8)) 3) (List._∷_ (5, Rows'.any-gone (Laws'.mir)) (List._∷_ (6, Rows'.any-gone (Syntax.tyInt Syntax.w8)) (List._∷_ (7, Rows'.any-gone (Laws''.mir)) (List._∷_ (8, Rows'.sc-here (Row.sInt Syntax.w64)) (List._∷_ (9, Rows'.any-gone OfPanelRecord.spelt) (List._∷_ (10, Rows'.any-gone (Syntax.tyInt Syntax.w64)) (List._∷_ (11, Rows'.any-gone OfPanelRecord.spelt) (List._∷_ (12, Rows'.any-gone (Laws.mir)) (List._∷_ (13, Rows'.any-gone (Laws''.mir)) (List._∷_ (14, Rows'.any-gone Syntax.tyUnit) (List._∷_ (15, Rows'.any-gone (Syntax.tyRef Syntax.erased Syntax.mut OfOutput.named)) List.[])))))))))))))))
 
 abbrev pub t15 : List.List Row.Entry
-t15 = List._∷_ (0, Rows'.any-gone (Laws.mir)) (List._∷_ (1, Mut.mslice (OfOutput.row) (Syntax.tyRef (Syntax.named 0) Syntax.mut OfOutput.named) 0) (List._∷_ (2, Mut.mslice (OfStation.row) (Syntax.tyRef (Syntax.named 1) Syntax.mut OfStation.named) 1) (List._∷_ (3, Rows'.mref (OfPanelRecord.row) (Syntax.tyRef (Syntax.named 2) Syntax.mut OfPanelRecord.named) 2) (List._∷_ (4, Rows'.sslice (Referent.rtF (Referent.fInt Syntax.w8)) (Syntax.tyRef (Syntax.named 3) Syntax.imm (Syntax.tyInt Syntax.w8)) 3) (List._∷_ (5, Rows'.any-gone (Laws''.mir)) (List._∷_ (6, Rows'.any-gone (Syntax.tyInt Syntax.w8)) (List._∷_ (7, Rows'.any-gone (Laws.mir)) (List._∷_ (8, Rows'.sc-here (Row.sInt Syntax.w64)) (List._∷_ (9, OfPanelRecord.held) (List._∷_ (10, Rows'.any-gone (Syntax.tyInt Syntax.w64)) (List._∷_ (11, Rows'.any-gone OfPanelRecord.spelt) (List._∷_ (12, Rows'.any-gone (Laws'.mir)) (List._∷_ (13, Rows'.any-gone (Laws.mir)) (List._∷_ (14, Rows'.any-gone Syntax.tyUnit) (List._∷_ (15, Rows'.any-gone (Syntax.tyRef Syntax.erased Syntax.mut OfOutput.named)) List.[])))))))))))))))
+t15 = List._∷_ (0, Rows'.any-gone (Laws''.mir)) (List._∷_ (1, Mut.mslice (OfOutput.row) (Syntax.tyRef (Syntax.named 0) Syntax.mut OfOutput.named) 0) (List._∷_ (2, Mut.mslice (OfStation.row) (Syntax.tyRef (Syntax.named 1) Syntax.mut OfStation.named) 1) (List._∷_ (3, Rows'.mref (OfPanelRecord.row) (Syntax.tyRef (Syntax.named 2) Syntax.mut OfPanelRecord.named) 2) (List._∷_ (4, Rows'.sslice (Referent.rtF (Referent.fInt Syntax.w8)) (Syntax.tyRef (Syntax.named 3) Syntax.imm (Syntax.tyInt Syntax.w8)) 3) (List._∷_ (5, Rows'.any-gone (Laws'.mir)) (List._∷_ (6, Rows'.any-gone (Syntax.tyInt Syntax.w8)) (List._∷_ (7, Rows'.any-gone (Laws''.mir)) (List._∷_ (8, Rows'.sc-here (Row.sInt Syntax.w64)) (List._∷_ (9, OfPanelRecord.held) (List._∷_ (10, Rows'.any-gone (Syntax.tyInt Syntax.w64)) (List._∷_ (11, Rows'.any-gone OfPanelRecord.spelt) (List._∷_ (12, Rows'.any-gone (Laws.mir)) (List._∷_ (13, Rows'.any-gone (Laws''.mir)) (List._∷_ (14, Rows'.any-gone Syntax.tyUnit) (List._∷_ (15, Rows'.any-gone (Syntax.tyRef Syntax.erased Syntax.mut OfOutput.named)) List.[])))))))))))))))
 
 abbrev pub t16 : List.List Row.Entry
-t16 = List._∷_ (0, Rows'.any-gone (Laws.mir)) (List._∷_ (1, Mut.mslice (OfOutput.row) (Syntax.tyRef (Syntax.named 0) Syntax.mut OfOutput.named) 0) (List._∷_ (2, Mut.mslice (OfStation.row) (Syntax.tyRef (Syntax.named 1) Syntax.mut OfStation.named) 1) (List._∷_ (3, Rows'.mref (OfPanelRecord.row) (Syntax.tyRef (Syntax.named 2) Syntax.mut OfPanelRecord.named) 2) (List._∷_ (4, Rows'.sslice (Referent.rtF (Referent.fInt Syntax.w8)) (Syntax.tyRef (Syntax.named 3) Syntax.imm (Syntax.tyInt Syntax.w8)) 3) (List._∷_ (5, Rows'.any-gone (Laws''.mir)) (List._∷_ (6, Rows'.any-gone (Syntax.tyInt Syntax.w8)) (List._∷_ (7, Rows'.any-gone (Laws.mir)) (List._∷_ (8, Rows'.sc-here (Row.sInt Syntax.w64)) (List._∷_ (9, OfPanelRecord.held) (List._∷_ (10, Rows'.sc-here (Row.sInt Syntax.w64)) (List._∷_ (11, Rows'.any-gone OfPanelRecord.spelt) (List._∷_ (12, Rows'.any-gone (Laws'.mir)) (List._∷_ (13, Rows'.any-gone (Laws.mir)) (List._∷_ (14, Rows'.any-gone Syntax.tyUnit) (List._∷_ (15, Rows'.any-gone (Syntax.tyRef Syntax.erased Syntax.mut OfOutput.named)) List.[])))))))))))))))
+t16 = List._∷_ (0, Rows'.any-gone (Laws''.mir)) (List._∷_ (1, Mut.mslice (OfOutput.row) (Syntax.tyRef (Syntax.named 0) Syntax.mut OfOutput.named) 0) (List._∷_ (2, Mut.mslice (OfStation.row) (Syntax.tyRef (Syntax.named 1) Syntax.mut OfStation.named) 1) (List._∷_ (3, Rows'.mref (OfPanelRecord.row) (Syntax.tyRef (Syntax.named 2) Syntax.mut OfPanelRecord.named) 2) (List._∷_ (4, Rows'.sslice (Referent.rtF (Referent.fInt Syntax.w8)) (Syntax.tyRef (Syntax.named 3) Syntax.imm (Syntax.tyInt Syntax.w8)) 3) (List._∷_ (5, Rows'.any-gone (Laws'.mir)) (List._∷_ (6, Rows'.any-gone (Syntax.tyInt Syntax.w8)) (List._∷_ (7, Rows'.any-gone (Laws''.mir)) (List._∷_ (8, Rows'.sc-here (Row.sInt Syntax.w64)) (List._∷_ (9, OfPanelRecord.held) (List._∷_ (10, Rows'.sc-here (Row.sInt Syntax.w64)) (List._∷_ (11, Rows'.any-gone OfPanelRecord.spelt) (List._∷_ (12, Rows'.any-gone (Laws.mir)) (List._∷_ (13, Rows'.any-gone (Laws''.mir)) (List._∷_ (14, Rows'.any-gone Syntax.tyUnit) (List._∷_ (15, Rows'.any-gone (Syntax.tyRef Syntax.erased Syntax.mut OfOutput.named)) List.[])))))))))))))))
 
 abbrev pub t17 : List.List Row.Entry
-t17 = List._∷_ (0, Rows'.any-gone (Laws.mir)) (List._∷_ (1, Relend.mslice-owed (OfOutput.row) (Syntax.tyRef (Syntax.named 0) Syntax.mut OfOutput.named) 0 4 Row.off) (List._∷_ (2, Mut.mslice (OfStation.row) (Syntax.tyRef (Syntax.named 1) Syntax.mut OfStation.named) 1) (List._∷_ (3, Rows'.mref (OfPanelRecord.row) (Syntax.tyRef (Syntax.named 2) Syntax.mut OfPanelRecord.named) 2) (List._∷_ (4, Rows'.sslice (Referent.rtF (Referent.fInt Syntax.w8)) (Syntax.tyRef (Syntax.named 3) Syntax.imm (Syntax.tyInt Syntax.w8)) 3) (List._∷_ (5, Rows'.any-gone (Laws''.mir)) (List._∷_ (6, Rows'.any-gone (Syntax.tyInt Syntax.w8)) (List._∷_ (7, Rows'.any-gone (Laws.mir)) (List._∷_ (8, Rows'.sc-here (Row.sInt Syntax.w64)) (List._∷_ (9, OfPanelRecord.held) (List._∷_ (10, Rows'.sc-here (Row.sInt Syntax.w64)) (List._∷_ (11, Rows'.any-gone OfPanelRecord.spelt) (List._∷_ (12, Rows'.any-gone (Laws'.mir)) (List._∷_ (13, Rows'.any-gone (Laws.mir)) (List._∷_ (14, Rows'.any-gone Syntax.tyUnit) (List._∷_ (15, Relend.msptr (OfOutput.row) (Syntax.tyRef Syntax.erased Syntax.mut OfOutput.named) 4) List.[])))))))))))))))
+t17 = List._∷_ (0, Rows'.any-gone (Laws''.mir)) (List._∷_ (1, Relend.mslice-owed (OfOutput.row) (Syntax.tyRef (Syntax.named 0) Syntax.mut OfOutput.named) 0 4 Row.off) (List._∷_ (2, Mut.mslice (OfStation.row) (Syntax.tyRef (Syntax.named 1) Syntax.mut OfStation.named) 1) (List._∷_ (3, Rows'.mref (OfPanelRecord.row) (Syntax.tyRef (Syntax.named 2) Syntax.mut OfPanelRecord.named) 2) (List._∷_ (4, Rows'.sslice (Referent.rtF (Referent.fInt Syntax.w8)) (Syntax.tyRef (Syntax.named 3) Syntax.imm (Syntax.tyInt Syntax.w8)) 3) (List._∷_ (5, Rows'.any-gone (Laws'.mir)) (List._∷_ (6, Rows'.any-gone (Syntax.tyInt Syntax.w8)) (List._∷_ (7, Rows'.any-gone (Laws''.mir)) (List._∷_ (8, Rows'.sc-here (Row.sInt Syntax.w64)) (List._∷_ (9, OfPanelRecord.held) (List._∷_ (10, Rows'.sc-here (Row.sInt Syntax.w64)) (List._∷_ (11, Rows'.any-gone OfPanelRecord.spelt) (List._∷_ (12, Rows'.any-gone (Laws.mir)) (List._∷_ (13, Rows'.any-gone (Laws''.mir)) (List._∷_ (14, Rows'.any-gone Syntax.tyUnit) (List._∷_ (15, Relend.msptr (OfOutput.row) (Syntax.tyRef Syntax.erased Syntax.mut OfOutput.named) 4) List.[])))))))))))))))
 
 abbrev pub t18 : List.List Row.Entry
-t18 = List._∷_ (0, Rows'.any-gone (Laws.mir)) (List._∷_ (1, Relend.mslice-owed (OfOutput.row) (Syntax.tyRef (Syntax.named 0) Syntax.mut OfOutput.named) 0 4 Row.off) (List._∷_ (2, Mut.mslice (OfStation.row) (Syntax.tyRef (Syntax.named 1) Syntax.mut OfStation.named) 1) (List._∷_ (3, Rows'.mref (OfPanelRecord.row) (Syntax.tyRef (Syntax.named 2) Syntax.mut OfPanelRecord.named) 2) (List._∷_ (4, Rows'.sslice (Referent.rtF (Referent.fInt Syntax.w8)) (Syntax.tyRef (Syntax.named 3) Syntax.imm (Syntax.tyInt Syntax.w8)) 3) (List._∷_ (5, Rows'.any-gone (Laws''.mir)) (List._∷_ (6, Rows'.any-gone (Syntax.tyInt Syntax.w8)) (List._∷_ (7, Rows'.any-gone (Laws.mir)) (List._∷_ (8, Rows'.sc-here (Row.sInt Syntax.w64)) (List._∷_ (9, OfPanelRecord.held) (List._∷_ (10, Rows'.sc-here (Row.sInt Syntax.w64)) (List._∷_ (11, Rows'.any-gone OfPanelRecord.spelt) (List._∷_ (12, Rows'.any-gone (Laws'.mir)) (List._∷_ (13, Rows'.any-gone (Laws.mir)) (List._∷_ (14, Rows'.any-gone Syntax.tyUnit) (List._∷_ (15, Rows'.any-gone (Syntax.tyRef Syntax.erased Syntax.mut OfOutput.named)) List.[])))))))))))))))
+t18 = List._∷_ (0, Rows'.any-gone (Laws''.mir)) (List._∷_ (1, Relend.mslice-owed (OfOutput.row) (Syntax.tyRef (Syntax.named 0) Syntax.mut OfOutput.named) 0 4 Row.off) (List._∷_ (2, Mut.mslice (OfStation.row) (Syntax.tyRef (Syntax.named 1) Syntax.mut OfStation.named) 1) (List._∷_ (3, Rows'.mref (OfPanelRecord.row) (Syntax.tyRef (Syntax.named 2) Syntax.mut OfPanelRecord.named) 2) (List._∷_ (4, Rows'.sslice (Referent.rtF (Referent.fInt Syntax.w8)) (Syntax.tyRef (Syntax.named 3) Syntax.imm (Syntax.tyInt Syntax.w8)) 3) (List._∷_ (5, Rows'.any-gone (Laws'.mir)) (List._∷_ (6, Rows'.any-gone (Syntax.tyInt Syntax.w8)) (List._∷_ (7, Rows'.any-gone (Laws''.mir)) (List._∷_ (8, Rows'.sc-here (Row.sInt Syntax.w64)) (List._∷_ (9, OfPanelRecord.held) (List._∷_ (10, Rows'.sc-here (Row.sInt Syntax.w64)) (List._∷_ (11, Rows'.any-gone OfPanelRecord.spelt) (List._∷_ (12, Rows'.any-gone (Laws.mir)) (List._∷_ (13, Rows'.any-gone (Laws''.mir)) (List._∷_ (14, Rows'.any-gone Syntax.tyUnit) (List._∷_ (15, Rows'.any-gone (Syntax.tyRef Syntax.erased Syntax.mut OfOutput.named)) List.[])))))))))))))))
 
 abbrev pub t19 : List.List Row.Entry
 t19 = List._∷_ (16, Mut.mslice (OfOutput.row) (Syntax.tyRef Syntax.erased Syntax.mut OfOutput.named) 4) (List._∷_ (17, Rows'.any-gone (Syntax.tyRef Syntax.erased Syntax.mut OfOutput.named)) (List._∷_ (18, Rows'.any-gone (Syntax.tyStruct (List._∷_ 38 (List._∷_ 91 (List._∷_ 93 List.[]))) (Syntax.tcons (Syntax.tyRef Syntax.erased Syntax.mut OfOutput.named) (Syntax.tcons (Syntax.tyInt Syntax.w64) Syntax.tnil)))) (List._∷_ (19, Rows'.any-gone (Syntax.tyRef Syntax.erased Syntax.mut OfStation.named)) (List._∷_ (20, Rows'.any-gone (Syntax.tyStruct (List._∷_ 38 (List._∷_ 91 (List._∷_ 93 List.[]))) (Syntax.tcons (Syntax.tyRef Syntax.erased Syntax.mut OfStation.named) (Syntax.tcons (Syntax.tyInt Syntax.w64) Syntax.tnil)))) (List._∷_ (21, Rows'.any-gone (Syntax.tyRef Syntax.erased Syntax.mut OfPanelRecord.named)) List.[])))))
 
 abbrev pub t20 : List.List Row.Entry
-t20 = List._∷_ (0, Rows'.any-gone (Laws.mir)) (List._∷_ (1, Relend.mslice-owed (OfOutput.row) (Syntax.tyRef (Syntax.named 0) Syntax.mut OfOutput.named) 0 4 Row.off) (List._∷_ (2, Mut.mslice (OfStation.row) (Syntax.tyRef (Syntax.named 1) Syntax.mut OfStation.named) 1) (List._∷_ (3, Rows'.mref (OfPanelRecord.row) (Syntax.tyRef (Syntax.named 2) Syntax.mut OfPanelRecord.named) 2) (List._∷_ (4, Rows'.sslice (Referent.rtF (Referent.fInt Syntax.w8)) (Syntax.tyRef (Syntax.named 3) Syntax.imm (Syntax.tyInt Syntax.w8)) 3) (List._∷_ (5, Rows'.any-gone (Laws''.mir)) (List._∷_ (6, Rows'.any-gone (Syntax.tyInt Syntax.w8)) (List._∷_ (7, Rows'.any-gone (Laws.mir)) (List._∷_ (8, Rows'.sc-here (Row.sInt Syntax.w64)) (List._∷_ (9, OfPanelRecord.held) (List._∷_ (10, Rows'.sc-here (Row.sInt Syntax.w64)) (List._∷_ (11, Rows'.any-gone OfPanelRecord.spelt) (List._∷_ (12, Rows'.any-gone (Laws'.mir)) (List._∷_ (13, Rows'.any-gone (Laws.mir)) (List._∷_ (14, Rows'.sc-here Row.sUnit) (List._∷_ (15, Rows'.any-gone (Syntax.tyRef Syntax.erased Syntax.mut OfOutput.named)) List.[])))))))))))))))
+t20 = List._∷_ (0, Rows'.any-gone (Laws''.mir)) (List._∷_ (1, Relend.mslice-owed (OfOutput.row) (Syntax.tyRef (Syntax.named 0) Syntax.mut OfOutput.named) 0 4 Row.off) (List._∷_ (2, Mut.mslice (OfStation.row) (Syntax.tyRef (Syntax.named 1) Syntax.mut OfStation.named) 1) (List._∷_ (3, Rows'.mref (OfPanelRecord.row) (Syntax.tyRef (Syntax.named 2) Syntax.mut OfPanelRecord.named) 2) (List._∷_ (4, Rows'.sslice (Referent.rtF (Referent.fInt Syntax.w8)) (Syntax.tyRef (Syntax.named 3) Syntax.imm (Syntax.tyInt Syntax.w8)) 3) (List._∷_ (5, Rows'.any-gone (Laws'.mir)) (List._∷_ (6, Rows'.any-gone (Syntax.tyInt Syntax.w8)) (List._∷_ (7, Rows'.any-gone (Laws''.mir)) (List._∷_ (8, Rows'.sc-here (Row.sInt Syntax.w64)) (List._∷_ (9, OfPanelRecord.held) (List._∷_ (10, Rows'.sc-here (Row.sInt Syntax.w64)) (List._∷_ (11, Rows'.any-gone OfPanelRecord.spelt) (List._∷_ (12, Rows'.any-gone (Laws.mir)) (List._∷_ (13, Rows'.any-gone (Laws''.mir)) (List._∷_ (14, Rows'.sc-here Row.sUnit) (List._∷_ (15, Rows'.any-gone (Syntax.tyRef Syntax.erased Syntax.mut OfOutput.named)) List.[])))))))))))))))
 
 abbrev pub t21 : List.List Row.Entry
 t21 = List._∷_ (16, Mut.msleft (OfOutput.row) (Syntax.tyRef Syntax.erased Syntax.mut OfOutput.named)) (List._∷_ (17, Rows'.any-gone (Syntax.tyRef Syntax.erased Syntax.mut OfOutput.named)) (List._∷_ (18, Rows'.any-gone (Syntax.tyStruct (List._∷_ 38 (List._∷_ 91 (List._∷_ 93 List.[]))) (Syntax.tcons (Syntax.tyRef Syntax.erased Syntax.mut OfOutput.named) (Syntax.tcons (Syntax.tyInt Syntax.w64) Syntax.tnil)))) (List._∷_ (19, Rows'.any-gone (Syntax.tyRef Syntax.erased Syntax.mut OfStation.named)) (List._∷_ (20, Rows'.any-gone (Syntax.tyStruct (List._∷_ 38 (List._∷_ 91 (List._∷_ 93 List.[]))) (Syntax.tcons (Syntax.tyRef Syntax.erased Syntax.mut OfStation.named) (Syntax.tcons (Syntax.tyInt Syntax.w64) Syntax.tnil)))) (List._∷_ (21, Rows'.any-gone (Syntax.tyRef Syntax.erased Syntax.mut OfPanelRecord.named)) List.[])))))
 
 abbrev pub t22 : List.List Row.Entry
-t22 = List._∷_ (0, Rows'.any-gone (Laws.mir)) (List._∷_ (1, Mut.mslice (OfOutput.row) (Syntax.tyRef (Syntax.named 0) Syntax.mut OfOutput.named) 0) (List._∷_ (2, Mut.mslice (OfStation.row) (Syntax.tyRef (Syntax.named 1) Syntax.mut OfStation.named) 1) (List._∷_ (3, Rows'.mref (OfPanelRecord.row) (Syntax.tyRef (Syntax.named 2) Syntax.mut OfPanelRecord.named) 2) (List._∷_ (4, Rows'.sslice (Referent.rtF (Referent.fInt Syntax.w8)) (Syntax.tyRef (Syntax.named 3) Syntax.imm (Syntax.tyInt Syntax.w8)) 3) (List._∷_ (5, Rows'.any-gone (Laws''.mir)) (List._∷_ (6, Rows'.any-gone (Syntax.tyInt Syntax.w8)) (List._∷_ (7, Rows'.any-gone (Laws.mir)) (List._∷_ (8, Rows'.sc-here (Row.sInt Syntax.w64)) (List._∷_ (9, OfPanelRecord.held) (List._∷_ (10, Rows'.sc-here (Row.sInt Syntax.w64)) (List._∷_ (11, OfPanelRecord.held) (List._∷_ (12, Rows'.any-gone (Laws'.mir)) (List._∷_ (13, Rows'.any-gone (Laws.mir)) (List._∷_ (14, Rows'.any-gone Syntax.tyUnit) (List._∷_ (15, Rows'.any-gone (Syntax.tyRef Syntax.erased Syntax.mut OfOutput.named)) List.[])))))))))))))))
+t22 = List._∷_ (0, Rows'.any-gone (Laws''.mir)) (List._∷_ (1, Mut.mslice (OfOutput.row) (Syntax.tyRef (Syntax.named 0) Syntax.mut OfOutput.named) 0) (List._∷_ (2, Mut.mslice (OfStation.row) (Syntax.tyRef (Syntax.named 1) Syntax.mut OfStation.named) 1) (List._∷_ (3, Rows'.mref (OfPanelRecord.row) (Syntax.tyRef (Syntax.named 2) Syntax.mut OfPanelRecord.named) 2) (List._∷_ (4, Rows'.sslice (Referent.rtF (Referent.fInt Syntax.w8)) (Syntax.tyRef (Syntax.named 3) Syntax.imm (Syntax.tyInt Syntax.w8)) 3) (List._∷_ (5, Rows'.any-gone (Laws'.mir)) (List._∷_ (6, Rows'.any-gone (Syntax.tyInt Syntax.w8)) (List._∷_ (7, Rows'.any-gone (Laws''.mir)) (List._∷_ (8, Rows'.sc-here (Row.sInt Syntax.w64)) (List._∷_ (9, OfPanelRecord.held) (List._∷_ (10, Rows'.sc-here (Row.sInt Syntax.w64)) (List._∷_ (11, OfPanelRecord.held) (List._∷_ (12, Rows'.any-gone (Laws.mir)) (List._∷_ (13, Rows'.any-gone (Laws''.mir)) (List._∷_ (14, Rows'.any-gone Syntax.tyUnit) (List._∷_ (15, Rows'.any-gone (Syntax.tyRef Syntax.erased Syntax.mut OfOutput.named)) List.[])))))))))))))))
 
 abbrev pub t23 : List.List Row.Entry
-t23 = List._∷_ (0, Rows'.any-gone (Laws.mir)) (List._∷_ (1, Mut.mslice (OfOutput.row) (Syntax.tyRef (Syntax.named 0) Syntax.mut OfOutput.named) 0) (List._∷_ (2, Mut.mslice (OfStation.row) (Syntax.tyRef (Syntax.named 1) Syntax.mut OfStation.named) 1) (List._∷_ (3, Rows'.mref (OfPanelRecord.row) (Syntax.tyRef (Syntax.named 2) Syntax.mut OfPanelRecord.named) 2) (List._∷_ (4, Rows'.sslice (Referent.rtF (Referent.fInt Syntax.w8)) (Syntax.tyRef (Syntax.named 3) Syntax.imm (Syntax.tyInt Syntax.w8)) 3) (List._∷_ (5, Rows'.any-gone (Laws''.mir)) (List._∷_ (6, Rows'.any-gone (Syntax.tyInt Syntax.w8)) (List._∷_ (7, Rows'.any-gone (Laws.mir)) (List._∷_ (8, Rows'.sc-here (Row.sInt Syntax.w64)) (List._∷_ (9, Rows'.any-gone OfPanelRecord.spelt) (List._∷_ (10, Rows'.sc-here (Row.sInt Syntax.w64)) (List._∷_ (11, OfPanelRecord.held) (List._∷_ (12, Rows'.any-gone (Laws'.mir)) (List._∷_ (13, Rows'.any-gone (Laws.mir)) (List._∷_ (14, Rows'.any-gone Syntax.tyUnit) (List._∷_ (15, Rows'.any-gone (Syntax.tyRef Syntax.erased Syntax.mut OfOutput.named)) List.[])))))))))))))))
+t23 = List._∷_ (0, Rows'.any-gone (Laws''.mir)) (List._∷_ (1, Mut.mslice (OfOutput.row) (Syntax.tyRef (Syntax.named 0) Syntax.mut OfOutput.named) 0) (List._∷_ (2, Mut.mslice (OfStation.row) (Syntax.tyRef (Syntax.named 1) Syntax.mut OfStation.named) 1) (List._∷_ (3, Rows'.mref (OfPanelRecord.row) (Syntax.tyRef (Syntax.named 2) Syntax.mut OfPanelRecord.named) 2) (List._∷_ (4, Rows'.sslice (Referent.rtF (Referent.fInt Syntax.w8)) (Syntax.tyRef (Syntax.named 3) Syntax.imm (Syntax.tyInt Syntax.w8)) 3) (List._∷_ (5, Rows'.any-gone (Laws'.mir)) (List._∷_ (6, Rows'.any-gone (Syntax.tyInt Syntax.w8)) (List._∷_ (7, Rows'.any-gone (Laws''.mir)) (List._∷_ (8, Rows'.sc-here (Row.sInt Syntax.w64)) (List._∷_ (9, Rows'.any-gone OfPanelRecord.spelt) (List._∷_ (10, Rows'.sc-here (Row.sInt Syntax.w64)) (List._∷_ (11, OfPanelRecord.held) (List._∷_ (12, Rows'.any-gone (Laws.mir)) (List._∷_ (13, Rows'.any-gone (Laws''.mir)) (List._∷_ (14, Rows'.any-gone Syntax.tyUnit) (List._∷_ (15, Rows'.any-gone (Syntax.tyRef Syntax.erased Syntax.mut OfOutput.named)) List.[])))))))))))))))
 
 abbrev pub t24 : List.List Row.Entry
-t24 = List._∷_ (0, Rows'.any-gone (Laws.mir)) (List._∷_ (1, Mut.mslice (OfOutput.row) (Syntax.tyRef (Syntax.named 0) Syntax.mut OfOutput.named) 0) (List._∷_ (2, Mut.mslice (OfStation.row) (Syntax.tyRef (Syntax.named 1) Syntax.mut OfStation.named) 1) (List._∷_ (3, Rows'.mref (OfPanelRecord.row) (Syntax.tyRef (Syntax.named 2) Syntax.mut OfPanelRecord.named) 2) (List._∷_ (4, Rows'.sslice (Referent.rtF (Referent.fInt Syntax.w8)) (Syntax.tyRef (Syntax.named 3) Syntax.imm (Syntax.tyInt Syntax.w8)) 3) (List._∷_ (5, Rows'.any-gone (Laws''.mir)) (List._∷_ (6, Rows'.any-gone (Syntax.tyInt Syntax.w8)) (List._∷_ (7, Rows'.any-gone (Laws.mir)) (List._∷_ (8, Rows'.sc-here (Row.sInt Syntax.w64)) (List._∷_ (9, Rows'.any-gone OfPanelRecord.spelt) (List._∷_ (10, Rows'.sc-here (Row.sInt Syntax.w64)) (List._∷_ (11, Rows'.any-gone OfPanelRecord.spelt) (List._∷_ (12, Rows'.any-gone (Laws'.mir)) (List._∷_ (13, Rows'.any-gone (Laws.mir)) (List._∷_ (14, Rows'.any-gone Syntax.tyUnit) (List._∷_ (15, Rows'.any-gone (Syntax.tyRef Syntax.erased Syntax.mut OfOutput.named)) List.[])))))))))))))))
+t24 = List._∷_ (0, Rows'.any-gone (Laws''.mir)) (List._∷_ (1, Mut.mslice (OfOutput.row) (Syntax.tyRef (Syntax.named 0) Syntax.mut OfOutput.named) 0) (List._∷_ (2, Mut.mslice (OfStation.row) (Syntax.tyRef (Syntax.named 1) Syntax.mut OfStation.named) 1) (List._∷_ (3, Rows'.mref (OfPanelRecord.row) (Syntax.tyRef (Syntax.named 2) Syntax.mut OfPanelRecord.named) 2) (List._∷_ (4, Rows'.sslice (Referent.rtF (Referent.fInt Syntax.w8)) (Syntax.tyRef (Syntax.named 3) Syntax.imm (Syntax.tyInt Syntax.w8)) 3) (List._∷_ (5, Rows'.any-gone (Laws'.mir)) (List._∷_ (6, Rows'.any-gone (Syntax.tyInt Syntax.w8)) (List._∷_ (7, Rows'.any-gone (Laws''.mir)) (List._∷_ (8, Rows'.sc-here (Row.sInt Syntax.w64)) (List._∷_ (9, Rows'.any-gone OfPanelRecord.spelt) (List._∷_ (10, Rows'.sc-here (Row.sInt Syntax.w64)) (List._∷_ (11, Rows'.any-gone OfPanelRecord.spelt) (List._∷_ (12, Rows'.any-gone (Laws.mir)) (List._∷_ (13, Rows'.any-gone (Laws''.mir)) (List._∷_ (14, Rows'.any-gone Syntax.tyUnit) (List._∷_ (15, Rows'.any-gone (Syntax.tyRef Syntax.erased Syntax.mut OfOutput.named)) List.[])))))))))))))))
 
 abbrev pub t25 : List.List Row.Entry
-t25 = List._∷_ (0, Rows'.any-gone (Laws.mir)) (List._∷_ (1, Mut.mslice (OfOutput.row) (Syntax.tyRef (Syntax.named 0) Syntax.mut OfOutput.named) 0) (List._∷_ (2, Mut.mslice (OfStation.row) (Syntax.tyRef (Syntax.named 1) Syntax.mut OfStation.named) 1) (List._∷_ (3, Rows'.mref (OfPanelRecord.row) (Syntax.tyRef (Syntax.named 2) Syntax.mut OfPanelRecord.named) 2) (List._∷_ (4, Rows'.sslice (Referent.rtF (Referent.fInt Syntax.w8)) (Syntax.tyRef (Syntax.named 3) Syntax.imm (Syntax.tyInt Syntax.w8)) 3) (List._∷_ (5, Rows'.any-gone (Laws''.mir)) (List._∷_ (6, Rows'.any-gone (Syntax.tyInt Syntax.w8)) (List._∷_ (7, Rows'.any-gone (Laws.mir)) (List._∷_ (8, Rows'.sc-here (Row.sInt Syntax.w64)) (List._∷_ (9, Rows'.any-gone OfPanelRecord.spelt) (List._∷_ (10, Rows'.sc-here (Row.sInt Syntax.w64)) (List._∷_ (11, Rows'.any-gone OfPanelRecord.spelt) (List._∷_ (12, Rows'.any-gone (Laws'.mir)) (List._∷_ (13, Rows'.whole (Declared.row Answer.the-type)) (List._∷_ (14, Rows'.any-gone Syntax.tyUnit) (List._∷_ (15, Rows'.any-gone (Syntax.tyRef Syntax.erased Syntax.mut OfOutput.named)) List.[])))))))))))))))
+t25 = List._∷_ (0, Rows'.any-gone (Laws''.mir)) (List._∷_ (1, Mut.mslice (OfOutput.row) (Syntax.tyRef (Syntax.named 0) Syntax.mut OfOutput.named) 0) (List._∷_ (2, Mut.mslice (OfStation.row) (Syntax.tyRef (Syntax.named 1) Syntax.mut OfStation.named) 1) (List._∷_ (3, Rows'.mref (OfPanelRecord.row) (Syntax.tyRef (Syntax.named 2) Syntax.mut OfPanelRecord.named) 2) (List._∷_ (4, Rows'.sslice (Referent.rtF (Referent.fInt Syntax.w8)) (Syntax.tyRef (Syntax.named 3) Syntax.imm (Syntax.tyInt Syntax.w8)) 3) (List._∷_ (5, Rows'.any-gone (Laws'.mir)) (List._∷_ (6, Rows'.any-gone (Syntax.tyInt Syntax.w8)) (List._∷_ (7, Rows'.any-gone (Laws''.mir)) (List._∷_ (8, Rows'.sc-here (Row.sInt Syntax.w64)) (List._∷_ (9, Rows'.any-gone OfPanelRecord.spelt) (List._∷_ (10, Rows'.sc-here (Row.sInt Syntax.w64)) (List._∷_ (11, Rows'.any-gone OfPanelRecord.spelt) (List._∷_ (12, Rows'.any-gone (Laws.mir)) (List._∷_ (13, Rows'.whole (Declared.row Answer.the-type)) (List._∷_ (14, Rows'.any-gone Syntax.tyUnit) (List._∷_ (15, Rows'.any-gone (Syntax.tyRef Syntax.erased Syntax.mut OfOutput.named)) List.[])))))))))))))))
 
 abbrev pub t26 : List.List Row.Entry
-t26 = List._∷_ (0, Rows'.any-gone (Laws.mir)) (List._∷_ (1, Mut.mslice (OfOutput.row) (Syntax.tyRef (Syntax.named 0) Syntax.mut OfOutput.named) 0) (List._∷_ (2, Mut.mslice (OfStation.row) (Syntax.tyRef (Syntax.named 1) Syntax.mut OfStation.named) 1) (List._∷_ (3, Rows'.mref (OfPanelRecord.row) (Syntax.tyRef (Syntax.named 2) Syntax.mut OfPanelRecord.named) 2) (List._∷_ (4, Rows'.sslice (Referent.rtF (Referent.fInt Syntax.w8)) (Syntax.tyRef (Syntax.named 3) Syntax.imm (Syntax.tyInt Syntax.w8)) 3) (List._∷_ (5, Rows'.any-gone (Laws''.mir)) (List._∷_ (6, Rows'.any-gone (Syntax.tyInt Syntax.w8)) (List._∷_ (7, Rows'.any-gone (Laws.mir)) (List._∷_ (8, Rows'.any-gone (Syntax.tyInt Syntax.w64)) (List._∷_ (9, Rows'.any-gone OfPanelRecord.spelt) (List._∷_ (10, Rows'.sc-here (Row.sInt Syntax.w64)) (List._∷_ (11, Rows'.any-gone OfPanelRecord.spelt) (List._∷_ (12, Rows'.any-gone (Laws'.mir)) (List._∷_ (13, Rows'.whole (Declared.row Answer.the-type)) (List._∷_ (14, Rows'.any-gone Syntax.tyUnit) (List._∷_ (15, Rows'.any-gone (Syntax.tyRef Syntax.erased Syntax.mut OfOutput.named)) List.[])))))))))))))))
+t26 = List._∷_ (0, Rows'.any-gone (Laws''.mir)) (List._∷_ (1, Mut.mslice (OfOutput.row) (Syntax.tyRef (Syntax.named 0) Syntax.mut OfOutput.named) 0) (List._∷_ (2, Mut.mslice (OfStation.row) (Syntax.tyRef (Syntax.named 1) Syntax.mut OfStation.named) 1) (List._∷_ (3, Rows'.mref (OfPanelRecord.row) (Syntax.tyRef (Syntax.named 2) Syntax.mut OfPanelRecord.named) 2) (List._∷_ (4, Rows'.sslice (Referent.rtF (Referent.fInt Syntax.w8)) (Syntax.tyRef (Syntax.named 3) Syntax.imm (Syntax.tyInt Syntax.w8)) 3) (List._∷_ (5, Rows'.any-gone (Laws'.mir)) (List._∷_ (6, Rows'.any-gone (Syntax.tyInt Syntax.w8)) (List._∷_ (7, Rows'.any-gone (Laws''.mir)) (List._∷_ (8, Rows'.any-gone (Syntax.tyInt Syntax.w64)) (List._∷_ (9, Rows'.any-gone OfPanelRecord.spelt) (List._∷_ (10, Rows'.sc-here (Row.sInt Syntax.w64)) (List._∷_ (11, Rows'.any-gone OfPanelRecord.spelt) (List._∷_ (12, Rows'.any-gone (Laws.mir)) (List._∷_ (13, Rows'.whole (Declared.row Answer.the-type)) (List._∷_ (14, Rows'.any-gone Syntax.tyUnit) (List._∷_ (15, Rows'.any-gone (Syntax.tyRef Syntax.erased Syntax.mut OfOutput.named)) List.[])))))))))))))))
 
 abbrev pub t27 : List.List Row.Entry
-t27 = List._∷_ (0, Rows'.any-gone (Laws.mir)) (List._∷_ (1, Mut.mslice (OfOutput.row) (Syntax.tyRef (Syntax.named 0) Syntax.mut OfOutput.named) 0) (List._∷_ (2, Mut.mslice (OfStation.row) (Syntax.tyRef (Syntax.named 1) Syntax.mut OfStation.named) 1) (List._∷_ (3, Rows'.mref (OfPanelRecord.row) (Syntax.tyRef (Syntax.named 2) Syntax.mut OfPanelRecord.named) 2) (List._∷_ (4, Rows'.sslice (Referent.rtF (Referent.fInt Syntax.w8)) (Syntax.tyRef (Syntax.named 3) Syntax.imm (Syntax.tyInt Syntax.w8)) 3) (List._∷_ (5, Rows'.whole (Known.Known Verdict.enum 3)) (List._∷_ (6, Rows'.any-gone (Syntax.tyInt Syntax.w8)) (List._∷_ (7, Rows'.any-gone (Laws.mir)) (List._∷_ (8, Rows'.any-gone (Syntax.tyInt Syntax.w64)) (List._∷_ (9, Rows'.any-gone OfPanelRecord.spelt) (List._∷_ (10, Rows'.any-gone (Syntax.tyInt Syntax.w64)) (List._∷_ (11, Rows'.any-gone OfPanelRecord.spelt) (List._∷_ (12, Rows'.any-gone (Laws'.mir)) (List._∷_ (13, Rows'.any-gone (Laws.mir)) (List._∷_ (14, Rows'.any-gone Syntax.tyUnit) (List._∷_ (15, Rows'.any-gone (Syntax.tyRef Syntax.erased Syntax.mut OfOutput.named)) List.[])))))))))))))))
+t27 = List._∷_ (0, Rows'.any-gone (Laws''.mir)) (List._∷_ (1, Mut.mslice (OfOutput.row) (Syntax.tyRef (Syntax.named 0) Syntax.mut OfOutput.named) 0) (List._∷_ (2, Mut.mslice (OfStation.row) (Syntax.tyRef (Syntax.named 1) Syntax.mut OfStation.named) 1) (List._∷_ (3, Rows'.mref (OfPanelRecord.row) (Syntax.tyRef (Syntax.named 2) Syntax.mut OfPanelRecord.named) 2) (List._∷_ (4, Rows'.sslice (Referent.rtF (Referent.fInt Syntax.w8)) (Syntax.tyRef (Syntax.named 3) Syntax.imm (Syntax.tyInt Syntax.w8)) 3) (List._∷_ (5, Rows'.whole (Known.Known Verdict.enum 3)) (List._∷_ (6, Rows'.any-gone (Syntax.tyInt Syntax.w8)) (List._∷_ (7, Rows'.any-gone (Laws''.mir)) (List._∷_ (8, Rows'.any-gone (Syntax.tyInt Syntax.w64)) (List._∷_ (9, Rows'.any-gone OfPanelRecord.spelt) (List._∷_ (10, Rows'.any-gone (Syntax.tyInt Syntax.w64)) (List._∷_ (11, Rows'.any-gone OfPanelRecord.spelt) (List._∷_ (12, Rows'.any-gone (Laws.mir)) (List._∷_ (13, Rows'.any-gone (Laws''.mir)) (List._∷_ (14, Rows'.any-gone Syntax.tyUnit) (List._∷_ (15, Rows'.any-gone (Syntax.tyRef Syntax.erased Syntax.mut OfOutput.named)) List.[])))))))))))))))
 
 abbrev pub t28 : List.List Row.Entry
-t28 = List._∷_ (0, Rows'.any-gone (Laws.mir)) (List._∷_ (1, Mut.mslice (OfOutput.row) (Syntax.tyRef (Syntax.named 0) Syntax.mut OfOutput.named) 0) (List._∷_ (2, Mut.mslice (OfStation.row) (Syntax.tyRef (Syntax.named 1) Syntax.mut OfStation.named) 1) (List._∷_ (3, Rows'.mref (OfPanelRecord.row) (Syntax.tyRef (Syntax.named 2) Syntax.mut OfPanelRecord.named) 2) (List._∷_ (4, Rows'.sslice (Referent.rtF (Referent.fInt Syntax.w8)) (Syntax.tyRef (Syntax.named 3) Syntax.imm (Syntax.tyInt Syntax.w8)) 3) (List._∷_ (5, Rows'.whole (Known.Known Verdict.enum 3)) (List._∷_ (6, Rows'.any-gone (Syntax.tyInt Syntax.w8)) (List._∷_ (7, Rows'.any-gone (Laws.mir)) (List._∷_ (8, Rows'.any-gone (Syntax.tyInt Syntax.w64)) (List._∷_ (9, Rows'.any-gone OfPanelRecord.spelt) (List._∷_ (10, Rows'.any-gone (Syntax.tyInt Syntax.w64)) (List._∷_ (11, Rows'.any-gone OfPanelRecord.spelt) (List._∷_ (12, Rows'.whole (Declared'.row Call.the-type)) (List._∷_ (13, Rows'.any-gone (Laws.mir)) (List._∷_ (14, Rows'.any-gone Syntax.tyUnit) (List._∷_ (15, Rows'.any-gone (Syntax.tyRef Syntax.erased Syntax.mut OfOutput.named)) List.[])))))))))))))))
+t28 = List._∷_ (0, Rows'.any-gone (Laws''.mir)) (List._∷_ (1, Mut.mslice (OfOutput.row) (Syntax.tyRef (Syntax.named 0) Syntax.mut OfOutput.named) 0) (List._∷_ (2, Mut.mslice (OfStation.row) (Syntax.tyRef (Syntax.named 1) Syntax.mut OfStation.named) 1) (List._∷_ (3, Rows'.mref (OfPanelRecord.row) (Syntax.tyRef (Syntax.named 2) Syntax.mut OfPanelRecord.named) 2) (List._∷_ (4, Rows'.sslice (Referent.rtF (Referent.fInt Syntax.w8)) (Syntax.tyRef (Syntax.named 3) Syntax.imm (Syntax.tyInt Syntax.w8)) 3) (List._∷_ (5, Rows'.whole (Known.Known Verdict.enum 3)) (List._∷_ (6, Rows'.any-gone (Syntax.tyInt Syntax.w8)) (List._∷_ (7, Rows'.any-gone (Laws''.mir)) (List._∷_ (8, Rows'.any-gone (Syntax.tyInt Syntax.w64)) (List._∷_ (9, Rows'.any-gone OfPanelRecord.spelt) (List._∷_ (10, Rows'.any-gone (Syntax.tyInt Syntax.w64)) (List._∷_ (11, Rows'.any-gone OfPanelRecord.spelt) (List._∷_ (12, Rows'.whole (Declared'.row Call.the-type)) (List._∷_ (13, Rows'.any-gone (Laws''.mir)) (List._∷_ (14, Rows'.any-gone Syntax.tyUnit) (List._∷_ (15, Rows'.any-gone (Syntax.tyRef Syntax.erased Syntax.mut OfOutput.named)) List.[])))))))))))))))
 
 abbrev pub t29 : List.List Row.Entry
-t29 = List._∷_ (0, Rows'.any-gone (Laws.mir)) (List._∷_ (1, Mut.mslice (OfOutput.row) (Syntax.tyRef (Syntax.named 0) Syntax.mut OfOutput.named) 0) (List._∷_ (2, Mut.mslice (OfStation.row) (Syntax.tyRef (Syntax.named 1) Syntax.mut OfStation.named) 1) (List._∷_ (3, Rows'.mref (OfPanelRecord.row) (Syntax.tyRef (Syntax.named 2) Syntax.mut OfPanelRecord.named) 2) (List._∷_ (4, Rows'.sslice (Referent.rtF (Referent.fInt Syntax.w8)) (Syntax.tyRef (Syntax.named 3) Syntax.imm (Syntax.tyInt Syntax.w8)) 3) (List._∷_ (5, Rows'.any-gone (Laws''.mir)) (List._∷_ (6, Rows'.any-gone (Syntax.tyInt Syntax.w8)) (List._∷_ (7, Rows'.any-gone (Laws.mir)) (List._∷_ (8, Rows'.any-gone (Syntax.tyInt Syntax.w64)) (List._∷_ (9, Rows'.any-gone OfPanelRecord.spelt) (List._∷_ (10, Rows'.any-gone (Syntax.tyInt Syntax.w64)) (List._∷_ (11, Rows'.any-gone OfPanelRecord.spelt) (List._∷_ (12, Rows'.whole (Declared'.row Call.the-type)) (List._∷_ (13, Rows'.any-gone (Laws.mir)) (List._∷_ (14, Rows'.any-gone Syntax.tyUnit) (List._∷_ (15, Rows'.any-gone (Syntax.tyRef Syntax.erased Syntax.mut OfOutput.named)) List.[])))))))))))))))
+t29 = List._∷_ (0, Rows'.any-gone (Laws''.mir)) (List._∷_ (1, Mut.mslice (OfOutput.row) (Syntax.tyRef (Syntax.named 0) Syntax.mut OfOutput.named) 0) (List._∷_ (2, Mut.mslice (OfStation.row) (Syntax.tyRef (Syntax.named 1) Syntax.mut OfStation.named) 1) (List._∷_ (3, Rows'.mref (OfPanelRecord.row) (Syntax.tyRef (Syntax.named 2) Syntax.mut OfPanelRecord.named) 2) (List._∷_ (4, Rows'.sslice (Referent.rtF (Referent.fInt Syntax.w8)) (Syntax.tyRef (Syntax.named 3) Syntax.imm (Syntax.tyInt Syntax.w8)) 3) (List._∷_ (5, Rows'.any-gone (Laws'.mir)) (List._∷_ (6, Rows'.any-gone (Syntax.tyInt Syntax.w8)) (List._∷_ (7, Rows'.any-gone (Laws''.mir)) (List._∷_ (8, Rows'.any-gone (Syntax.tyInt Syntax.w64)) (List._∷_ (9, Rows'.any-gone OfPanelRecord.spelt) (List._∷_ (10, Rows'.any-gone (Syntax.tyInt Syntax.w64)) (List._∷_ (11, Rows'.any-gone OfPanelRecord.spelt) (List._∷_ (12, Rows'.whole (Declared'.row Call.the-type)) (List._∷_ (13, Rows'.any-gone (Laws''.mir)) (List._∷_ (14, Rows'.any-gone Syntax.tyUnit) (List._∷_ (15, Rows'.any-gone (Syntax.tyRef Syntax.erased Syntax.mut OfOutput.named)) List.[])))))))))))))))
 
 abbrev pub t30 : List.List Row.Entry
-t30 = List._∷_ (0, Rows'.any-gone (Laws.mir)) (List._∷_ (1, Relend.mslice-owed (OfOutput.row) (Syntax.tyRef (Syntax.named 0) Syntax.mut OfOutput.named) 0 5 Row.off) (List._∷_ (2, Mut.mslice (OfStation.row) (Syntax.tyRef (Syntax.named 1) Syntax.mut OfStation.named) 1) (List._∷_ (3, Rows'.mref (OfPanelRecord.row) (Syntax.tyRef (Syntax.named 2) Syntax.mut OfPanelRecord.named) 2) (List._∷_ (4, Rows'.sslice (Referent.rtF (Referent.fInt Syntax.w8)) (Syntax.tyRef (Syntax.named 3) Syntax.imm (Syntax.tyInt Syntax.w8)) 3) (List._∷_ (5, Rows'.any-gone (Laws''.mir)) (List._∷_ (6, Rows'.any-gone (Syntax.tyInt Syntax.w8)) (List._∷_ (7, Rows'.any-gone (Laws.mir)) (List._∷_ (8, Rows'.any-gone (Syntax.tyInt Syntax.w64)) (List._∷_ (9, Rows'.any-gone OfPanelRecord.spelt) (List._∷_ (10, Rows'.any-gone (Syntax.tyInt Syntax.w64)) (List._∷_ (11, Rows'.any-gone OfPanelRecord.spelt) (List._∷_ (12, Rows'.whole (Declared'.row Call.the-type)) (List._∷_ (13, Rows'.any-gone (Laws.mir)) (List._∷_ (14, Rows'.any-gone Syntax.tyUnit) (List._∷_ (15, Rows'.any-gone (Syntax.tyRef Syntax.erased Syntax.mut OfOutput.named)) List.[])))))))))))))))
+t30 = List._∷_ (0, Rows'.any-gone (Laws''.mir)) (List._∷_ (1, Relend.mslice-owed (OfOutput.row) (Syntax.tyRef (Syntax.named 0) Syntax.mut OfOutput.named) 0 5 Row.off) (List._∷_ (2, Mut.mslice (OfStation.row) (Syntax.tyRef (Syntax.named 1) Syntax.mut OfStation.named) 1) (List._∷_ (3, Rows'.mref (OfPanelRecord.row) (Syntax.tyRef (Syntax.named 2) Syntax.mut OfPanelRecord.named) 2) (List._∷_ (4, Rows'.sslice (Referent.rtF (Referent.fInt Syntax.w8)) (Syntax.tyRef (Syntax.named 3) Syntax.imm (Syntax.tyInt Syntax.w8)) 3) (List._∷_ (5, Rows'.any-gone (Laws'.mir)) (List._∷_ (6, Rows'.any-gone (Syntax.tyInt Syntax.w8)) (List._∷_ (7, Rows'.any-gone (Laws''.mir)) (List._∷_ (8, Rows'.any-gone (Syntax.tyInt Syntax.w64)) (List._∷_ (9, Rows'.any-gone OfPanelRecord.spelt) (List._∷_ (10, Rows'.any-gone (Syntax.tyInt Syntax.w64)) (List._∷_ (11, Rows'.any-gone OfPanelRecord.spelt) (List._∷_ (12, Rows'.whole (Declared'.row Call.the-type)) (List._∷_ (13, Rows'.any-gone (Laws''.mir)) (List._∷_ (14, Rows'.any-gone Syntax.tyUnit) (List._∷_ (15, Rows'.any-gone (Syntax.tyRef Syntax.erased Syntax.mut OfOutput.named)) List.[])))))))))))))))
 
 abbrev pub t31 : List.List Row.Entry
 t31 = List._∷_ (16, Rows'.any-gone (Syntax.tyStruct (List._∷_ 38 (List._∷_ 91 (List._∷_ 93 List.[]))) (Syntax.tcons (Syntax.tyRef Syntax.erased Syntax.mut OfOutput.named) (Syntax.tcons (Syntax.tyInt Syntax.w64) Syntax.tnil)))) (List._∷_ (17, Relend.msptr (OfOutput.row) (Syntax.tyRef Syntax.erased Syntax.mut OfOutput.named) 5) (List._∷_ (18, Rows'.any-gone (Syntax.tyStruct (List._∷_ 38 (List._∷_ 91 (List._∷_ 93 List.[]))) (Syntax.tcons (Syntax.tyRef Syntax.erased Syntax.mut OfOutput.named) (Syntax.tcons (Syntax.tyInt Syntax.w64) Syntax.tnil)))) (List._∷_ (19, Rows'.any-gone (Syntax.tyRef Syntax.erased Syntax.mut OfStation.named)) (List._∷_ (20, Rows'.any-gone (Syntax.tyStruct (List._∷_ 38 (List._∷_ 91 (List._∷_ 93 List.[]))) (Syntax.tcons (Syntax.tyRef Syntax.erased Syntax.mut OfStation.named) (Syntax.tcons (Syntax.tyInt Syntax.w64) Syntax.tnil)))) (List._∷_ (21, Rows'.any-gone (Syntax.tyRef Syntax.erased Syntax.mut OfPanelRecord.named)) List.[])))))
@@ -338,7 +338,7 @@ abbrev pub t32 : List.List Row.Entry
 t32 = List._∷_ (16, Rows'.any-gone (Syntax.tyStruct (List._∷_ 38 (List._∷_ 91 (List._∷_ 93 List.[]))) (Syntax.tcons (Syntax.tyRef Syntax.erased Syntax.mut OfOutput.named) (Syntax.tcons (Syntax.tyInt Syntax.w64) Syntax.tnil)))) (List._∷_ (17, Rows'.any-gone (Syntax.tyRef Syntax.erased Syntax.mut OfOutput.named)) (List._∷_ (18, Mut.mslice (OfOutput.row) (Syntax.tyRef Syntax.erased Syntax.mut OfOutput.named) 5) (List._∷_ (19, Rows'.any-gone (Syntax.tyRef Syntax.erased Syntax.mut OfStation.named)) (List._∷_ (20, Rows'.any-gone (Syntax.tyStruct (List._∷_ 38 (List._∷_ 91 (List._∷_ 93 List.[]))) (Syntax.tcons (Syntax.tyRef Syntax.erased Syntax.mut OfStation.named) (Syntax.tcons (Syntax.tyInt Syntax.w64) Syntax.tnil)))) (List._∷_ (21, Rows'.any-gone (Syntax.tyRef Syntax.erased Syntax.mut OfPanelRecord.named)) List.[])))))
 
 abbrev pub t33 : List.List Row.Entry
-t33 = List._∷_ (0, Rows'.any-gone (Laws.mir)) (List._∷_ (1, Relend.mslice-owed (OfOutput.row) (Syntax.tyRef (Syntax.named 0) Syntax.mut OfOutput.named) 0 5 Row.off) (List._∷_ (2, Relend.mslice-owed (OfStation.row) (Syntax.tyRef (Syntax.named 1) Syntax.mut OfStation.named) 1 6 Row.off) (List._∷_ (3, Rows'.mref (OfPanelRecord.row) (Syntax.tyRef (Syntax.named 2) Syntax.mut OfPanelRecord.named) 2) (List._∷_ (4, Rows'.sslice (Referent.rtF (Referent.fInt Syntax.w8)) (Syntax.tyRef (Syntax.named 3) Syntax.imm (Syntax.tyInt Syntax.w8)) 3) (List._∷_ (5, Rows'.any-gone (Laws''.mir)) (List._∷_ (6, Rows'.any-gone (Syntax.tyInt Syntax.w8)) (List._∷_ (7, Rows'.any-gone (Laws.mir)) (List._∷_ (8, Rows'.any-gone (Syntax.tyInt Syntax.w64)) (List._∷_ (9, Rows'.any-gone OfPanelRecord.spelt) (List._∷_ (10, Rows'.any-gone (Syntax.tyInt Syntax.w64)) (List._∷_ (11, Rows'.any-gone OfPanelRecord.spelt) (List._∷_ (12, Rows'.whole (Declared'.row Call.the-type)) (List._∷_ (13, Rows'.any-gone (Laws.mir)) (List._∷_ (14, Rows'.any-gone Syntax.tyUnit) (List._∷_ (15, Rows'.any-gone (Syntax.tyRef Syntax.erased Syntax.mut OfOutput.named)) List.[])))))))))))))))
+t33 = List._∷_ (0, Rows'.any-gone (Laws''.mir)) (List._∷_ (1, Relend.mslice-owed (OfOutput.row) (Syntax.tyRef (Syntax.named 0) Syntax.mut OfOutput.named) 0 5 Row.off) (List._∷_ (2, Relend.mslice-owed (OfStation.row) (Syntax.tyRef (Syntax.named 1) Syntax.mut OfStation.named) 1 6 Row.off) (List._∷_ (3, Rows'.mref (OfPanelRecord.row) (Syntax.tyRef (Syntax.named 2) Syntax.mut OfPanelRecord.named) 2) (List._∷_ (4, Rows'.sslice (Referent.rtF (Referent.fInt Syntax.w8)) (Syntax.tyRef (Syntax.named 3) Syntax.imm (Syntax.tyInt Syntax.w8)) 3) (List._∷_ (5, Rows'.any-gone (Laws'.mir)) (List._∷_ (6, Rows'.any-gone (Syntax.tyInt Syntax.w8)) (List._∷_ (7, Rows'.any-gone (Laws''.mir)) (List._∷_ (8, Rows'.any-gone (Syntax.tyInt Syntax.w64)) (List._∷_ (9, Rows'.any-gone OfPanelRecord.spelt) (List._∷_ (10, Rows'.any-gone (Syntax.tyInt Syntax.w64)) (List._∷_ (11, Rows'.any-gone OfPanelRecord.spelt) (List._∷_ (12, Rows'.whole (Declared'.row Call.the-type)) (List._∷_ (13, Rows'.any-gone (Laws''.mir)) (List._∷_ (14, Rows'.any-gone Syntax.tyUnit) (List._∷_ (15, Rows'.any-gone (Syntax.tyRef Syntax.erased Syntax.mut OfOutput.named)) List.[])))))))))))))))
 
 abbrev pub t34 : List.List Row.Entry
 t34 = List._∷_ (16, Rows'.any-gone (Syntax.tyStruct (List._∷_ 38 (List._∷_ 91 (List._∷_ 93 List.[]))) (Syntax.tcons (Syntax.tyRef Syntax.erased Syntax.mut OfOutput.named) (Syntax.tcons (Syntax.tyInt Syntax.w64) Syntax.tnil)))) (List._∷_ (17, Rows'.any-gone (Syntax.tyRef Syntax.erased Syntax.mut OfOutput.named)) (List._∷_ (18, Mut.mslice (OfOutput.row) (Syntax.tyRef Syntax.erased Syntax.mut OfOutput.named) 5) (List._∷_ (19, Relend.msptr (OfStation.row) (Syntax.tyRef Syntax.erased Syntax.mut OfStation.named) 6) (List._∷_ (20, Rows'.any-gone (Syntax.tyStruct (List._∷_ 38 (List._∷_ 91 (List._∷_ 93 List.[]))) (Syntax.tcons (Syntax.tyRef Syntax.erased Syntax.mut OfStation.named) (Syntax.tcons (Syntax.tyInt Syntax.w64) Syntax.tnil)))) (List._∷_ (21, Rows'.any-gone (Syntax.tyRef Syntax.erased Syntax.mut OfPanelRecord.named)) List.[])))))
@@ -347,34 +347,34 @@ abbrev pub t35 : List.List Row.Entry
 t35 = List._∷_ (16, Rows'.any-gone (Syntax.tyStruct (List._∷_ 38 (List._∷_ 91 (List._∷_ 93 List.[]))) (Syntax.tcons (Syntax.tyRef Syntax.erased Syntax.mut OfOutput.named) (Syntax.tcons (Syntax.tyInt Syntax.w64) Syntax.tnil)))) (List._∷_ (17, Rows'.any-gone (Syntax.tyRef Syntax.erased Syntax.mut OfOutput.named)) (List._∷_ (18, Mut.mslice (OfOutput.row) (Syntax.tyRef Syntax.erased Syntax.mut OfOutput.named) 5) (List._∷_ (19, Rows'.any-gone (Syntax.tyRef Syntax.erased Syntax.mut OfStation.named)) (List._∷_ (20, Mut.mslice (OfStation.row) (Syntax.tyRef Syntax.erased Syntax.mut OfStation.named) 6) (List._∷_ (21, Rows'.any-gone (Syntax.tyRef Syntax.erased Syntax.mut OfPanelRecord.named)) List.[])))))
 
 abbrev pub t36 : List.List Row.Entry
-t36 = List._∷_ (0, Rows'.any-gone (Laws.mir)) (List._∷_ (1, Relend.mslice-owed (OfOutput.row) (Syntax.tyRef (Syntax.named 0) Syntax.mut OfOutput.named) 0 5 Row.off) (List._∷_ (2, Relend.mslice-owed (OfStation.row) (Syntax.tyRef (Syntax.named 1) Syntax.mut OfStation.named) 1 6 Row.off) (List._∷_ (3, Rows'.mref-owed (OfPanelRecord.row) (Syntax.tyRef (Syntax.named 2) Syntax.mut OfPanelRecord.named) 2 7 Row.off) (List._∷_ (4, Rows'.sslice (Referent.rtF (Referent.fInt Syntax.w8)) (Syntax.tyRef (Syntax.named 3) Syntax.imm (Syntax.tyInt Syntax.w8)) 3) (List._∷_ (5, Rows'.any-gone (Laws''.mir)) (List._∷_ (6, Rows'.any-gone (Syntax.tyInt Syntax.w8)) (List._∷_ (7, Rows'.any-gone (Laws.mir)) (List._∷_ (8, Rows'.any-gone (Syntax.tyInt Syntax.w64)) (List._∷_ (9, Rows'.any-gone OfPanelRecord.spelt) (List._∷_ (10, Rows'.any-gone (Syntax.tyInt Syntax.w64)) (List._∷_ (11, Rows'.any-gone OfPanelRecord.spelt) (List._∷_ (12, Rows'.whole (Declared'.row Call.the-type)) (List._∷_ (13, Rows'.any-gone (Laws.mir)) (List._∷_ (14, Rows'.any-gone Syntax.tyUnit) (List._∷_ (15, Rows'.any-gone (Syntax.tyRef Syntax.erased Syntax.mut OfOutput.named)) List.[])))))))))))))))
+t36 = List._∷_ (0, Rows'.any-gone (Laws''.mir)) (List._∷_ (1, Relend.mslice-owed (OfOutput.row) (Syntax.tyRef (Syntax.named 0) Syntax.mut OfOutput.named) 0 5 Row.off) (List._∷_ (2, Relend.mslice-owed (OfStation.row) (Syntax.tyRef (Syntax.named 1) Syntax.mut OfStation.named) 1 6 Row.off) (List._∷_ (3, Rows'.mref-owed (OfPanelRecord.row) (Syntax.tyRef (Syntax.named 2) Syntax.mut OfPanelRecord.named) 2 7 Row.off) (List._∷_ (4, Rows'.sslice (Referent.rtF (Referent.fInt Syntax.w8)) (Syntax.tyRef (Syntax.named 3) Syntax.imm (Syntax.tyInt Syntax.w8)) 3) (List._∷_ (5, Rows'.any-gone (Laws'.mir)) (List._∷_ (6, Rows'.any-gone (Syntax.tyInt Syntax.w8)) (List._∷_ (7, Rows'.any-gone (Laws''.mir)) (List._∷_ (8, Rows'.any-gone (Syntax.tyInt Syntax.w64)) (List._∷_ (9, Rows'.any-gone OfPanelRecord.spelt) (List._∷_ (10, Rows'.any-gone (Syntax.tyInt Syntax.w64)) (List._∷_ (11, Rows'.any-gone OfPanelRecord.spelt) (List._∷_ (12, Rows'.whole (Declared'.row Call.the-type)) (List._∷_ (13, Rows'.any-gone (Laws''.mir)) (List._∷_ (14, Rows'.any-gone Syntax.tyUnit) (List._∷_ (15, Rows'.any-gone (Syntax.tyRef Syntax.erased Syntax.mut OfOutput.named)) List.[])))))))))))))))
 
 abbrev pub t37 : List.List Row.Entry
 t37 = List._∷_ (16, Rows'.any-gone (Syntax.tyStruct (List._∷_ 38 (List._∷_ 91 (List._∷_ 93 List.[]))) (Syntax.tcons (Syntax.tyRef Syntax.erased Syntax.mut OfOutput.named) (Syntax.tcons (Syntax.tyInt Syntax.w64) Syntax.tnil)))) (List._∷_ (17, Rows'.any-gone (Syntax.tyRef Syntax.erased Syntax.mut OfOutput.named)) (List._∷_ (18, Mut.mslice (OfOutput.row) (Syntax.tyRef Syntax.erased Syntax.mut OfOutput.named) 5) (List._∷_ (19, Rows'.any-gone (Syntax.tyRef Syntax.erased Syntax.mut OfStation.named)) (List._∷_ (20, Mut.mslice (OfStation.row) (Syntax.tyRef Syntax.erased Syntax.mut OfStation.named) 6) (List._∷_ (21, Rows'.mref (OfPanelRecord.row) (Syntax.tyRef Syntax.erased Syntax.mut OfPanelRecord.named) 7) List.[])))))
 
 abbrev pub t38 : List.List Row.Entry
-t38 = List._∷_ (0, Rows'.any-gone (Laws.mir)) (List._∷_ (1, Relend.mslice-owed (OfOutput.row) (Syntax.tyRef (Syntax.named 0) Syntax.mut OfOutput.named) 0 5 Row.off) (List._∷_ (2, Relend.mslice-owed (OfStation.row) (Syntax.tyRef (Syntax.named 1) Syntax.mut OfStation.named) 1 6 Row.off) (List._∷_ (3, Rows'.mref-owed (OfPanelRecord.row) (Syntax.tyRef (Syntax.named 2) Syntax.mut OfPanelRecord.named) 2 7 Row.off) (List._∷_ (4, Rows'.sslice (Referent.rtF (Referent.fInt Syntax.w8)) (Syntax.tyRef (Syntax.named 3) Syntax.imm (Syntax.tyInt Syntax.w8)) 3) (List._∷_ (5, Rows'.any-gone (Laws''.mir)) (List._∷_ (6, Rows'.any-gone (Syntax.tyInt Syntax.w8)) (List._∷_ (7, Rows'.any-gone (Laws.mir)) (List._∷_ (8, Rows'.any-gone (Syntax.tyInt Syntax.w64)) (List._∷_ (9, Rows'.any-gone OfPanelRecord.spelt) (List._∷_ (10, Rows'.any-gone (Syntax.tyInt Syntax.w64)) (List._∷_ (11, Rows'.any-gone OfPanelRecord.spelt) (List._∷_ (12, Rows'.whole (Declared'.row Call.the-type)) (List._∷_ (13, Rows'.whole (Declared.row Answer.the-type)) (List._∷_ (14, Rows'.any-gone Syntax.tyUnit) (List._∷_ (15, Rows'.any-gone (Syntax.tyRef Syntax.erased Syntax.mut OfOutput.named)) List.[])))))))))))))))
+t38 = List._∷_ (0, Rows'.any-gone (Laws''.mir)) (List._∷_ (1, Relend.mslice-owed (OfOutput.row) (Syntax.tyRef (Syntax.named 0) Syntax.mut OfOutput.named) 0 5 Row.off) (List._∷_ (2, Relend.mslice-owed (OfStation.row) (Syntax.tyRef (Syntax.named 1) Syntax.mut OfStation.named) 1 6 Row.off) (List._∷_ (3, Rows'.mref-owed (OfPanelRecord.row) (Syntax.tyRef (Syntax.named 2) Syntax.mut OfPanelRecord.named) 2 7 Row.off) (List._∷_ (4, Rows'.sslice (Referent.rtF (Referent.fInt Syntax.w8)) (Syntax.tyRef (Syntax.named 3) Syntax.imm (Syntax.tyInt Syntax.w8)) 3) (List._∷_ (5, Rows'.any-gone (Laws'.mir)) (List._∷_ (6, Rows'.any-gone (Syntax.tyInt Syntax.w8)) (List._∷_ (7, Rows'.any-gone (Laws''.mir)) (List._∷_ (8, Rows'.any-gone (Syntax.tyInt Syntax.w64)) (List._∷_ (9, Rows'.any-gone OfPanelRecord.spelt) (List._∷_ (10, Rows'.any-gone (Syntax.tyInt Syntax.w64)) (List._∷_ (11, Rows'.any-gone OfPanelRecord.spelt) (List._∷_ (12, Rows'.whole (Declared'.row Call.the-type)) (List._∷_ (13, Rows'.whole (Declared.row Answer.the-type)) (List._∷_ (14, Rows'.any-gone Syntax.tyUnit) (List._∷_ (15, Rows'.any-gone (Syntax.tyRef Syntax.erased Syntax.mut OfOutput.named)) List.[])))))))))))))))
 
 abbrev pub t39 : List.List Row.Entry
 t39 = List._∷_ (16, Rows'.any-gone (Syntax.tyStruct (List._∷_ 38 (List._∷_ 91 (List._∷_ 93 List.[]))) (Syntax.tcons (Syntax.tyRef Syntax.erased Syntax.mut OfOutput.named) (Syntax.tcons (Syntax.tyInt Syntax.w64) Syntax.tnil)))) (List._∷_ (17, Rows'.any-gone (Syntax.tyRef Syntax.erased Syntax.mut OfOutput.named)) (List._∷_ (18, Mut.msleft (OfOutput.row) (Syntax.tyRef Syntax.erased Syntax.mut OfOutput.named)) (List._∷_ (19, Rows'.any-gone (Syntax.tyRef Syntax.erased Syntax.mut OfStation.named)) (List._∷_ (20, Mut.msleft (OfStation.row) (Syntax.tyRef Syntax.erased Syntax.mut OfStation.named)) (List._∷_ (21, Rows'.mleft (OfPanelRecord.row) (Syntax.tyRef Syntax.erased Syntax.mut OfPanelRecord.named)) List.[])))))
 
 abbrev pub t40 : List.List Row.Entry
-t40 = List._∷_ (0, Rows'.any-gone (Laws.mir)) (List._∷_ (1, Relend.mslice-owed (OfOutput.row) (Syntax.tyRef (Syntax.named 0) Syntax.mut OfOutput.named) 0 5 Row.off) (List._∷_ (2, Relend.mslice-owed (OfStation.row) (Syntax.tyRef (Syntax.named 1) Syntax.mut OfStation.named) 1 6 Row.off) (List._∷_ (3, Rows'.mref-owed (OfPanelRecord.row) (Syntax.tyRef (Syntax.named 2) Syntax.mut OfPanelRecord.named) 2 7 Row.off) (List._∷_ (4, Rows'.sslice (Referent.rtF (Referent.fInt Syntax.w8)) (Syntax.tyRef (Syntax.named 3) Syntax.imm (Syntax.tyInt Syntax.w8)) 3) (List._∷_ (5, Rows'.any-gone (Laws''.mir)) (List._∷_ (6, Rows'.any-gone (Syntax.tyInt Syntax.w8)) (List._∷_ (7, Rows'.any-gone (Laws.mir)) (List._∷_ (8, Rows'.any-gone (Syntax.tyInt Syntax.w64)) (List._∷_ (9, Rows'.any-gone OfPanelRecord.spelt) (List._∷_ (10, Rows'.any-gone (Syntax.tyInt Syntax.w64)) (List._∷_ (11, Rows'.any-gone OfPanelRecord.spelt) (List._∷_ (12, Rows'.any-gone (Laws'.mir)) (List._∷_ (13, Rows'.whole (Declared.row Answer.the-type)) (List._∷_ (14, Rows'.any-gone Syntax.tyUnit) (List._∷_ (15, Rows'.any-gone (Syntax.tyRef Syntax.erased Syntax.mut OfOutput.named)) List.[])))))))))))))))
+t40 = List._∷_ (0, Rows'.any-gone (Laws''.mir)) (List._∷_ (1, Relend.mslice-owed (OfOutput.row) (Syntax.tyRef (Syntax.named 0) Syntax.mut OfOutput.named) 0 5 Row.off) (List._∷_ (2, Relend.mslice-owed (OfStation.row) (Syntax.tyRef (Syntax.named 1) Syntax.mut OfStation.named) 1 6 Row.off) (List._∷_ (3, Rows'.mref-owed (OfPanelRecord.row) (Syntax.tyRef (Syntax.named 2) Syntax.mut OfPanelRecord.named) 2 7 Row.off) (List._∷_ (4, Rows'.sslice (Referent.rtF (Referent.fInt Syntax.w8)) (Syntax.tyRef (Syntax.named 3) Syntax.imm (Syntax.tyInt Syntax.w8)) 3) (List._∷_ (5, Rows'.any-gone (Laws'.mir)) (List._∷_ (6, Rows'.any-gone (Syntax.tyInt Syntax.w8)) (List._∷_ (7, Rows'.any-gone (Laws''.mir)) (List._∷_ (8, Rows'.any-gone (Syntax.tyInt Syntax.w64)) (List._∷_ (9, Rows'.any-gone OfPanelRecord.spelt) (List._∷_ (10, Rows'.any-gone (Syntax.tyInt Syntax.w64)) (List._∷_ (11, Rows'.any-gone OfPanelRecord.spelt) (List._∷_ (12, Rows'.any-gone (Laws.mir)) (List._∷_ (13, Rows'.whole (Declared.row Answer.the-type)) (List._∷_ (14, Rows'.any-gone Syntax.tyUnit) (List._∷_ (15, Rows'.any-gone (Syntax.tyRef Syntax.erased Syntax.mut OfOutput.named)) List.[])))))))))))))))
 
 abbrev pub t41 : List.List Row.Entry
-t41 = List._∷_ (0, Rows'.any-gone (Laws.mir)) (List._∷_ (1, Mut.mslice (OfOutput.row) (Syntax.tyRef (Syntax.named 0) Syntax.mut OfOutput.named) 0) (List._∷_ (2, Relend.mslice-owed (OfStation.row) (Syntax.tyRef (Syntax.named 1) Syntax.mut OfStation.named) 1 6 Row.off) (List._∷_ (3, Rows'.mref-owed (OfPanelRecord.row) (Syntax.tyRef (Syntax.named 2) Syntax.mut OfPanelRecord.named) 2 7 Row.off) (List._∷_ (4, Rows'.sslice (Referent.rtF (Referent.fInt Syntax.w8)) (Syntax.tyRef (Syntax.named 3) Syntax.imm (Syntax.tyInt Syntax.w8)) 3) (List._∷_ (5, Rows'.any-gone (Laws''.mir)) (List._∷_ (6, Rows'.any-gone (Syntax.tyInt Syntax.w8)) (List._∷_ (7, Rows'.any-gone (Laws.mir)) (List._∷_ (8, Rows'.any-gone (Syntax.tyInt Syntax.w64)) (List._∷_ (9, Rows'.any-gone OfPanelRecord.spelt) (List._∷_ (10, Rows'.any-gone (Syntax.tyInt Syntax.w64)) (List._∷_ (11, Rows'.any-gone OfPanelRecord.spelt) (List._∷_ (12, Rows'.any-gone (Laws'.mir)) (List._∷_ (13, Rows'.whole (Declared.row Answer.the-type)) (List._∷_ (14, Rows'.any-gone Syntax.tyUnit) (List._∷_ (15, Rows'.any-gone (Syntax.tyRef Syntax.erased Syntax.mut OfOutput.named)) List.[])))))))))))))))
+t41 = List._∷_ (0, Rows'.any-gone (Laws''.mir)) (List._∷_ (1, Mut.mslice (OfOutput.row) (Syntax.tyRef (Syntax.named 0) Syntax.mut OfOutput.named) 0) (List._∷_ (2, Relend.mslice-owed (OfStation.row) (Syntax.tyRef (Syntax.named 1) Syntax.mut OfStation.named) 1 6 Row.off) (List._∷_ (3, Rows'.mref-owed (OfPanelRecord.row) (Syntax.tyRef (Syntax.named 2) Syntax.mut OfPanelRecord.named) 2 7 Row.off) (List._∷_ (4, Rows'.sslice (Referent.rtF (Referent.fInt Syntax.w8)) (Syntax.tyRef (Syntax.named 3) Syntax.imm (Syntax.tyInt Syntax.w8)) 3) (List._∷_ (5, Rows'.any-gone (Laws'.mir)) (List._∷_ (6, Rows'.any-gone (Syntax.tyInt Syntax.w8)) (List._∷_ (7, Rows'.any-gone (Laws''.mir)) (List._∷_ (8, Rows'.any-gone (Syntax.tyInt Syntax.w64)) (List._∷_ (9, Rows'.any-gone OfPanelRecord.spelt) (List._∷_ (10, Rows'.any-gone (Syntax.tyInt Syntax.w64)) (List._∷_ (11, Rows'.any-gone OfPanelRecord.spelt) (List._∷_ (12, Rows'.any-gone (Laws.mir)) (List._∷_ (13, Rows'.whole (Declared.row Answer.the-type)) (List._∷_ (14, Rows'.any-gone Syntax.tyUnit) (List._∷_ (15, Rows'.any-gone (Syntax.tyRef Syntax.erased Syntax.mut OfOutput.named)) List.[])))))))))))))))
 
 abbrev pub t42 : List.List Row.Entry
 t42 = List._∷_ (16, Rows'.any-gone (Syntax.tyStruct (List._∷_ 38 (List._∷_ 91 (List._∷_ 93 List.[]))) (Syntax.tcons (Syntax.tyRef Syntax.erased Syntax.mut OfOutput.named) (Syntax.tcons (Syntax.tyInt Syntax.w64) Syntax.tnil)))) (List._∷_ (17, Rows'.any-gone (Syntax.tyRef Syntax.erased Syntax.mut OfOutput.named)) (List._∷_ (18, Rows'.any-gone (Syntax.tyStruct (List._∷_ 38 (List._∷_ 91 (List._∷_ 93 List.[]))) (Syntax.tcons (Syntax.tyRef Syntax.erased Syntax.mut OfOutput.named) (Syntax.tcons (Syntax.tyInt Syntax.w64) Syntax.tnil)))) (List._∷_ (19, Rows'.any-gone (Syntax.tyRef Syntax.erased Syntax.mut OfStation.named)) (List._∷_ (20, Mut.msleft (OfStation.row) (Syntax.tyRef Syntax.erased Syntax.mut OfStation.named)) (List._∷_ (21, Rows'.mleft (OfPanelRecord.row) (Syntax.tyRef Syntax.erased Syntax.mut OfPanelRecord.named)) List.[])))))
 
 abbrev pub t43 : List.List Row.Entry
-t43 = List._∷_ (0, Rows'.any-gone (Laws.mir)) (List._∷_ (1, Mut.mslice (OfOutput.row) (Syntax.tyRef (Syntax.named 0) Syntax.mut OfOutput.named) 0) (List._∷_ (2, Mut.mslice (OfStation.row) (Syntax.tyRef (Syntax.named 1) Syntax.mut OfStation.named) 1) (List._∷_ (3, Rows'.mref-owed (OfPanelRecord.row) (Syntax.tyRef (Syntax.named 2) Syntax.mut OfPanelRecord.named) 2 7 Row.off) (List._∷_ (4, Rows'.sslice (Referent.rtF (Referent.fInt Syntax.w8)) (Syntax.tyRef (Syntax.named 3) Syntax.imm (Syntax.tyInt Syntax.w8)) 3) (List._∷_ (5, Rows'.any-gone (Laws''.mir)) (List._∷_ (6, Rows'.any-gone (Syntax.tyInt Syntax.w8)) (List._∷_ (7, Rows'.any-gone (Laws.mir)) (List._∷_ (8, Rows'.any-gone (Syntax.tyInt Syntax.w64)) (List._∷_ (9, Rows'.any-gone OfPanelRecord.spelt) (List._∷_ (10, Rows'.any-gone (Syntax.tyInt Syntax.w64)) (List._∷_ (11, Rows'.any-gone OfPanelRecord.spelt) (List._∷_ (12, Rows'.any-gone (Laws'.mir)) (List._∷_ (13, Rows'.whole (Declared.row Answer.the-type)) (List._∷_ (14, Rows'.any-gone Syntax.tyUnit) (List._∷_ (15, Rows'.any-gone (Syntax.tyRef Syntax.erased Syntax.mut OfOutput.named)) List.[])))))))))))))))
+t43 = List._∷_ (0, Rows'.any-gone (Laws''.mir)) (List._∷_ (1, Mut.mslice (OfOutput.row) (Syntax.tyRef (Syntax.named 0) Syntax.mut OfOutput.named) 0) (List._∷_ (2, Mut.mslice (OfStation.row) (Syntax.tyRef (Syntax.named 1) Syntax.mut OfStation.named) 1) (List._∷_ (3, Rows'.mref-owed (OfPanelRecord.row) (Syntax.tyRef (Syntax.named 2) Syntax.mut OfPanelRecord.named) 2 7 Row.off) (List._∷_ (4, Rows'.sslice (Referent.rtF (Referent.fInt Syntax.w8)) (Syntax.tyRef (Syntax.named 3) Syntax.imm (Syntax.tyInt Syntax.w8)) 3) (List._∷_ (5, Rows'.any-gone (Laws'.mir)) (List._∷_ (6, Rows'.any-gone (Syntax.tyInt Syntax.w8)) (List._∷_ (7, Rows'.any-gone (Laws''.mir)) (List._∷_ (8, Rows'.any-gone (Syntax.tyInt Syntax.w64)) (List._∷_ (9, Rows'.any-gone OfPanelRecord.spelt) (List._∷_ (10, Rows'.any-gone (Syntax.tyInt Syntax.w64)) (List._∷_ (11, Rows'.any-gone OfPanelRecord.spelt) (List._∷_ (12, Rows'.any-gone (Laws.mir)) (List._∷_ (13, Rows'.whole (Declared.row Answer.the-type)) (List._∷_ (14, Rows'.any-gone Syntax.tyUnit) (List._∷_ (15, Rows'.any-gone (Syntax.tyRef Syntax.erased Syntax.mut OfOutput.named)) List.[])))))))))))))))
 
 abbrev pub t44 : List.List Row.Entry
 t44 = List._∷_ (16, Rows'.any-gone (Syntax.tyStruct (List._∷_ 38 (List._∷_ 91 (List._∷_ 93 List.[]))) (Syntax.tcons (Syntax.tyRef Syntax.erased Syntax.mut OfOutput.named) (Syntax.tcons (Syntax.tyInt Syntax.w64) Syntax.tnil)))) (List._∷_ (17, Rows'.any-gone (Syntax.tyRef Syntax.erased Syntax.mut OfOutput.named)) (List._∷_ (18, Rows'.any-gone (Syntax.tyStruct (List._∷_ 38 (List._∷_ 91 (List._∷_ 93 List.[]))) (Syntax.tcons (Syntax.tyRef Syntax.erased Syntax.mut OfOutput.named) (Syntax.tcons (Syntax.tyInt Syntax.w64) Syntax.tnil)))) (List._∷_ (19, Rows'.any-gone (Syntax.tyRef Syntax.erased Syntax.mut OfStation.named)) (List._∷_ (20, Rows'.any-gone (Syntax.tyStruct (List._∷_ 38 (List._∷_ 91 (List._∷_ 93 List.[]))) (Syntax.tcons (Syntax.tyRef Syntax.erased Syntax.mut OfStation.named) (Syntax.tcons (Syntax.tyInt Syntax.w64) Syntax.tnil)))) (List._∷_ (21, Rows'.mleft (OfPanelRecord.row) (Syntax.tyRef Syntax.erased Syntax.mut OfPanelRecord.named)) List.[])))))
 
 abbrev pub t45 : List.List Row.Entry
-t45 = List._∷_ (0, Rows'.whole (Declared.row Answer.the-type)) (List._∷_ (1, Mut.mslice (OfOutput.row) (Syntax.tyRef (Syntax.named 0) Syntax.mut OfOutput.named) 0) (List._∷_ (2, Mut.mslice (OfStation.row) (Syntax.tyRef (Syntax.named 1) Syntax.mut OfStation.named) 1) (List._∷_ (3, Rows'.mref (OfPanelRecord.row) (Syntax.tyRef (Syntax.named 2) Syntax.mut OfPanelRecord.named) 2) (List._∷_ (4, Rows'.sslice (Referent.rtF (Referent.fInt Syntax.w8)) (Syntax.tyRef (Syntax.named 3) Syntax.imm (Syntax.tyInt Syntax.w8)) 3) (List._∷_ (5, Rows'.any-gone (Laws''.mir)) (List._∷_ (6, Rows'.any-gone (Syntax.tyInt Syntax.w8)) (List._∷_ (7, Rows'.any-gone (Laws.mir)) (List._∷_ (8, Rows'.any-gone (Syntax.tyInt Syntax.w64)) (List._∷_ (9, Rows'.any-gone OfPanelRecord.spelt) (List._∷_ (10, Rows'.any-gone (Syntax.tyInt Syntax.w64)) (List._∷_ (11, Rows'.any-gone OfPanelRecord.spelt) (List._∷_ (12, Rows'.any-gone (Laws'.mir)) (List._∷_ (13, Rows'.whole (Declared.row Answer.the-type)) (List._∷_ (14, Rows'.any-gone Syntax.tyUnit) (List._∷_ (15, Rows'.any-gone (Syntax.tyRef Syntax.erased Syntax.mut OfOutput.named)) List.[])))))))))))))))
+t45 = List._∷_ (0, Rows'.whole (Declared.row Answer.the-type)) (List._∷_ (1, Mut.mslice (OfOutput.row) (Syntax.tyRef (Syntax.named 0) Syntax.mut OfOutput.named) 0) (List._∷_ (2, Mut.mslice (OfStation.row) (Syntax.tyRef (Syntax.named 1) Syntax.mut OfStation.named) 1) (List._∷_ (3, Rows'.mref (OfPanelRecord.row) (Syntax.tyRef (Syntax.named 2) Syntax.mut OfPanelRecord.named) 2) (List._∷_ (4, Rows'.sslice (Referent.rtF (Referent.fInt Syntax.w8)) (Syntax.tyRef (Syntax.named 3) Syntax.imm (Syntax.tyInt Syntax.w8)) 3) (List._∷_ (5, Rows'.any-gone (Laws'.mir)) (List._∷_ (6, Rows'.any-gone (Syntax.tyInt Syntax.w8)) (List._∷_ (7, Rows'.any-gone (Laws''.mir)) (List._∷_ (8, Rows'.any-gone (Syntax.tyInt Syntax.w64)) (List._∷_ (9, Rows'.any-gone OfPanelRecord.spelt) (List._∷_ (10, Rows'.any-gone (Syntax.tyInt Syntax.w64)) (List._∷_ (11, Rows'.any-gone OfPanelRecord.spelt) (List._∷_ (12, Rows'.any-gone (Laws.mir)) (List._∷_ (13, Rows'.whole (Declared.row Answer.the-type)) (List._∷_ (14, Rows'.any-gone Syntax.tyUnit) (List._∷_ (15, Rows'.any-gone (Syntax.tyRef Syntax.erased Syntax.mut OfOutput.named)) List.[])))))))))))))))
 
 abbrev pub T0 : Row.Cx
 T0 = record { locals = List._++_ t0 t1; slots = List.[] }
@@ -540,13 +540,13 @@ module _ (claims· : Claims) where
   s1 = Known.k-enum-known Verdict.enum 0 T3 5 λ x. x
 
   abbrev s2 : Typed.Gives T4 T5
-  s2 = Known.k-known-told Verdict.enum Laws''.the-laws 0 T4 5 λ x. x
+  s2 = Known.k-known-told Verdict.enum Laws'.the-laws 0 T4 5 λ x. x
 
   abbrev s3 : Typed.Mo T5 → Typed.Mo T6
-  s3 = Scalar.n-use T5 (Scalar.oFld 5 (List._∷_ (Syntax.variant 0) (List._∷_ (Syntax.field 1) List.[])) (Syntax.tyInt Syntax.w8) 1 λ v. Laws''.the-laws .0 .0 .val (v .0)) 6 (Rows'.sc-here (Row.sInt Syntax.w8)) (Row.sInt Syntax.w8 .of)
+  s3 = Scalar.n-use T5 (Scalar.oFld 5 (List._∷_ (Syntax.variant 0) (List._∷_ (Syntax.field 1) List.[])) (Syntax.tyInt Syntax.w8) 1 λ v. Laws'.the-laws .0 .0 .val (v .0)) 6 (Rows'.sc-here (Row.sInt Syntax.w8)) (Row.sInt Syntax.w8 .of)
 
   abbrev s4 : Typed.Mo T6 → Typed.Mo T7
-  s4 = Scalar.n-room T6 5 (Laws''.mir)
+  s4 = Scalar.n-room T6 5 (Laws'.mir)
 
   abbrev s5 : Typed.Mo T7 → Typed.Mo T8
   s5 = Make.n-enum-make Answer.the-type T7 13 λ m. Answer.enum .make (Logic.inr (Logic.inr (Logic.inr (Logic.inl (m .1 .1 .1 .1 .1 .1 .0, tt)))))
@@ -558,31 +558,31 @@ module _ (claims· : Claims) where
   s7 = Known.k-enum-known Verdict.enum 1 T3 5 λ x. x
 
   abbrev s8 : Typed.Gives T10 T11
-  s8 = Known.k-known-told Verdict.enum Laws''.the-laws 1 T10 5 λ x. x
+  s8 = Known.k-known-told Verdict.enum Laws'.the-laws 1 T10 5 λ x. x
 
   abbrev s9 : Typed.Mo T11 → Typed.Mo T12
   s9 = Make'.n-make (Declared.row Answer.the-type) T11 7 λ m. m .1 .1 .1 .1 .1 .0 .0
 
   abbrev s10 : Typed.Mo T12 → Typed.Mo T13
-  s10 = Scalar.n-room T12 5 (Laws''.mir)
+  s10 = Scalar.n-room T12 5 (Laws'.mir)
 
   abbrev s11 : Typed.Mo T13 → Typed.Mo T14
   s11 = LocalCopy.n-val-copy T13 7 13 (Declared.row Answer.the-type) (Rows'.whole (Declared.row Answer.the-type)) (Rows'.whole (Declared.row Answer.the-type)) (λ x. x) (λ x. x) λ x. x
 
   abbrev s12 : Typed.Mo T14 → Typed.Mo T15
-  s12 = Scalar.n-room T14 7 (Laws.mir)
+  s12 = Scalar.n-room T14 7 (Laws''.mir)
 
   abbrev s13 : Typed.Both T3 T16
   s13 = Known.k-enum-known Verdict.enum 2 T3 5 λ x. x
 
   abbrev s14 : Typed.Gives T16 T17
-  s14 = Known.k-known-told Verdict.enum Laws''.the-laws 2 T16 5 λ x. x
+  s14 = Known.k-known-told Verdict.enum Laws'.the-laws 2 T16 5 λ x. x
 
   abbrev s15 : Typed.Mo T17 → Typed.Mo T18
-  s15 = Scalar.n-use T17 (Scalar.oFld 5 (List._∷_ (Syntax.variant 2) (List._∷_ (Syntax.field 1) List.[])) (Syntax.tyInt Syntax.w64) 8 λ v. Laws''.the-laws .1 .1 .0 .0 .val (v .0)) 8 (Rows'.sc-here (Row.sInt Syntax.w64)) (Row.sInt Syntax.w64 .of)
+  s15 = Scalar.n-use T17 (Scalar.oFld 5 (List._∷_ (Syntax.variant 2) (List._∷_ (Syntax.field 1) List.[])) (Syntax.tyInt Syntax.w64) 8 λ v. Laws'.the-laws .1 .1 .0 .0 .val (v .0)) 8 (Rows'.sc-here (Row.sInt Syntax.w64)) (Row.sInt Syntax.w64 .of)
 
   abbrev s16 : Typed.Mo T18 → Typed.Mo T19
-  s16 = Scalar.n-room T18 5 (Laws''.mir)
+  s16 = Scalar.n-room T18 5 (Laws'.mir)
 
   abbrev s17 : Typed.Gives T19 T20
   s17 = DerefMove.k-ref-read-copy T19 3 9 2 (OfPanelRecord.row) (Rows'.mref (OfPanelRecord.row) (Syntax.tyRef (Syntax.named 2) Syntax.mut OfPanelRecord.named) 2) Row.off (OfPanelRecord.held) (λ x. x) (λ x. x) (λ x. x) λ x. Unit
@@ -630,13 +630,13 @@ module _ (claims· : Claims) where
   s34 = Known.k-enum-known Verdict.enum 3 T3 5 λ x. x
 
   abbrev s35 : Typed.Gives T37 T38
-  s35 = Known.k-known-told Verdict.enum Laws''.the-laws 3 T37 5 λ x. x
+  s35 = Known.k-known-told Verdict.enum Laws'.the-laws 3 T37 5 λ x. x
 
   abbrev s36 : Typed.Mo T38 → Typed.Mo T39
   s36 = Make'.n-make (Declared'.row Call.the-type) T38 12 λ m. m .1 .1 .1 .1 .1 .0 .0
 
   abbrev s37 : Typed.Mo T39 → Typed.Mo T40
-  s37 = Scalar.n-room T39 5 (Laws''.mir)
+  s37 = Scalar.n-room T39 5 (Laws'.mir)
 
   abbrev s39 : Typed.Gives T40 T42
   s39 = Relend.k-sl-relend (OfOutput.row) T40 1 17 0 5 (Syntax.tyRef (Syntax.named 0) Syntax.mut OfOutput.named) (Syntax.tyRef Syntax.erased Syntax.mut OfOutput.named) Row.off λ x. x
@@ -654,10 +654,10 @@ module _ (claims· : Claims) where
   s45 = Reborrow.k-mref-relend T46 3 21 2 7 (OfPanelRecord.row) (Syntax.tyRef (Syntax.named 2) Syntax.mut OfPanelRecord.named) (Syntax.tyRef Syntax.erased Syntax.mut OfPanelRecord.named) Row.off List.[] λ x. x
 
   abbrev s46 : Typed.Both T48 T49
-  s46 = Call'.callB ps·3 r·3 (claims· .6) (claims· .7) T48 (record { pos = 18; ty = Syntax.tyRef Syntax.erased Syntax.mut OfOutput.named; ref = λ x. x }, (record { pos = 20; ty = Syntax.tyRef Syntax.erased Syntax.mut OfStation.named; ref = λ x. x }, (record { pos = 21; ty = Syntax.tyRef Syntax.erased Syntax.mut OfPanelRecord.named; ref = λ x. x }, (record { pos = 4; ty = Syntax.tyRef (Syntax.named 3) Syntax.imm (Syntax.tyInt Syntax.w8); ref = λ x. x }, (record { pos = 12; st = List.[]; d = 0; at = λ x. x }, tt))))) 13 (List._∷_ 5 (List._∷_ 6 (List._∷_ 7 (List._∷_ 3 List.[])))) (Laws.mir)
+  s46 = Call'.callB ps·3 r·3 (claims· .6) (claims· .7) T48 (record { pos = 18; ty = Syntax.tyRef Syntax.erased Syntax.mut OfOutput.named; ref = λ x. x }, (record { pos = 20; ty = Syntax.tyRef Syntax.erased Syntax.mut OfStation.named; ref = λ x. x }, (record { pos = 21; ty = Syntax.tyRef Syntax.erased Syntax.mut OfPanelRecord.named; ref = λ x. x }, (record { pos = 4; ty = Syntax.tyRef (Syntax.named 3) Syntax.imm (Syntax.tyInt Syntax.w8); ref = λ x. x }, (record { pos = 12; st = List.[]; d = 0; at = λ x. x }, tt))))) 13 (List._∷_ 5 (List._∷_ 6 (List._∷_ 7 (List._∷_ 3 List.[])))) (Laws''.mir)
 
   abbrev s47 : Typed.Mo T49 → Typed.Mo T50
-  s47 = Scalar.n-room T49 12 (Laws'.mir)
+  s47 = Scalar.n-room T49 12 (Laws.mir)
 
   abbrev s49 : Typed.Both T50 T52
   s49 = Relend.k-back-sl (OfOutput.row) T50 18 1 0 5 (Syntax.tyRef (Syntax.named 0) Syntax.mut OfOutput.named) (Syntax.tyRef Syntax.erased Syntax.mut OfOutput.named) Row.off (λ x. x) λ x. x
@@ -672,7 +672,7 @@ module _ (claims· : Claims) where
   s57 = LocalCopy.n-val-copy T2 13 0 (Declared.row Answer.the-type) (Rows'.whole (Declared.row Answer.the-type)) (Rows'.whole (Declared.row Answer.the-type)) (λ x. x) (λ x. x) λ x. x
 
   abbrev s58 : Typed.Mo T60 → Typed.Mo T61
-  s58 = Scalar.n-room T60 13 (Laws.mir)
+  s58 = Scalar.n-room T60 13 (Laws''.mir)
 
   module _ (Pre· : (κs : Lifetimes.Lfts 4) → Kinds.Dens κs ps → Type 0)
       (Post· : (κs : Lifetimes.Lfts 4) → (a : Kinds.Dens κs ps) → Kinds.Plain 4 ps r κs) where
@@ -835,34 +835,34 @@ module _ (claims· : Claims) where
 
       module _ (κs : Lifetimes.Lfts 4) (qs : Lifetimes.Shares 4) where
         abbrev g17 : List.List Row.Entry
-        g17 = List._∷_ (0, Rows'.any-gone (Laws.mir)) (List._∷_ (1, Relend.mslice-owed (OfOutput.row) (Syntax.tyRef (Syntax.named 0) Syntax.mut OfOutput.named) 0 4 (Row.lease (κs .0) (qs .0))) (List._∷_ (2, Mut.mslice (OfStation.row) (Syntax.tyRef (Syntax.named 1) Syntax.mut OfStation.named) 1) (List._∷_ (3, Rows'.mref (OfPanelRecord.row) (Syntax.tyRef (Syntax.named 2) Syntax.mut OfPanelRecord.named) 2) (List._∷_ (4, Rows'.sslice (Referent.rtF (Referent.fInt Syntax.w8)) (Syntax.tyRef (Syntax.named 3) Syntax.imm (Syntax.tyInt Syntax.w8)) 3) (List._∷_ (5, Rows'.any-gone (Laws''.mir)) (List._∷_ (6, Rows'.any-gone (Syntax.tyInt Syntax.w8)) (List._∷_ (7, Rows'.any-gone (Laws.mir)) (List._∷_ (8, Rows'.sc-here (Row.sInt Syntax.w64)) (List._∷_ (9, OfPanelRecord.held) (List._∷_ (10, Rows'.sc-here (Row.sInt Syntax.w64)) (List._∷_ (11, Rows'.any-gone OfPanelRecord.spelt) (List._∷_ (12, Rows'.any-gone (Laws'.mir)) (List._∷_ (13, Rows'.any-gone (Laws.mir)) (List._∷_ (14, Rows'.any-gone Syntax.tyUnit) (List._∷_ (15, Relend.msptr (OfOutput.row) (Syntax.tyRef Syntax.erased Syntax.mut OfOutput.named) 4) List.[])))))))))))))))
+        g17 = List._∷_ (0, Rows'.any-gone (Laws''.mir)) (List._∷_ (1, Relend.mslice-owed (OfOutput.row) (Syntax.tyRef (Syntax.named 0) Syntax.mut OfOutput.named) 0 4 (Row.lease (κs .0) (qs .0))) (List._∷_ (2, Mut.mslice (OfStation.row) (Syntax.tyRef (Syntax.named 1) Syntax.mut OfStation.named) 1) (List._∷_ (3, Rows'.mref (OfPanelRecord.row) (Syntax.tyRef (Syntax.named 2) Syntax.mut OfPanelRecord.named) 2) (List._∷_ (4, Rows'.sslice (Referent.rtF (Referent.fInt Syntax.w8)) (Syntax.tyRef (Syntax.named 3) Syntax.imm (Syntax.tyInt Syntax.w8)) 3) (List._∷_ (5, Rows'.any-gone (Laws'.mir)) (List._∷_ (6, Rows'.any-gone (Syntax.tyInt Syntax.w8)) (List._∷_ (7, Rows'.any-gone (Laws''.mir)) (List._∷_ (8, Rows'.sc-here (Row.sInt Syntax.w64)) (List._∷_ (9, OfPanelRecord.held) (List._∷_ (10, Rows'.sc-here (Row.sInt Syntax.w64)) (List._∷_ (11, Rows'.any-gone OfPanelRecord.spelt) (List._∷_ (12, Rows'.any-gone (Laws.mir)) (List._∷_ (13, Rows'.any-gone (Laws''.mir)) (List._∷_ (14, Rows'.any-gone Syntax.tyUnit) (List._∷_ (15, Relend.msptr (OfOutput.row) (Syntax.tyRef Syntax.erased Syntax.mut OfOutput.named) 4) List.[])))))))))))))))
 
         abbrev g18 : List.List Row.Entry
-        g18 = List._∷_ (0, Rows'.any-gone (Laws.mir)) (List._∷_ (1, Relend.mslice-owed (OfOutput.row) (Syntax.tyRef (Syntax.named 0) Syntax.mut OfOutput.named) 0 4 (Row.lease (κs .0) (qs .0))) (List._∷_ (2, Mut.mslice (OfStation.row) (Syntax.tyRef (Syntax.named 1) Syntax.mut OfStation.named) 1) (List._∷_ (3, Rows'.mref (OfPanelRecord.row) (Syntax.tyRef (Syntax.named 2) Syntax.mut OfPanelRecord.named) 2) (List._∷_ (4, Rows'.sslice (Referent.rtF (Referent.fInt Syntax.w8)) (Syntax.tyRef (Syntax.named 3) Syntax.imm (Syntax.tyInt Syntax.w8)) 3) (List._∷_ (5, Rows'.any-gone (Laws''.mir)) (List._∷_ (6, Rows'.any-gone (Syntax.tyInt Syntax.w8)) (List._∷_ (7, Rows'.any-gone (Laws.mir)) (List._∷_ (8, Rows'.sc-here (Row.sInt Syntax.w64)) (List._∷_ (9, OfPanelRecord.held) (List._∷_ (10, Rows'.sc-here (Row.sInt Syntax.w64)) (List._∷_ (11, Rows'.any-gone OfPanelRecord.spelt) (List._∷_ (12, Rows'.any-gone (Laws'.mir)) (List._∷_ (13, Rows'.any-gone (Laws.mir)) (List._∷_ (14, Rows'.any-gone Syntax.tyUnit) (List._∷_ (15, Rows'.any-gone (Syntax.tyRef Syntax.erased Syntax.mut OfOutput.named)) List.[])))))))))))))))
+        g18 = List._∷_ (0, Rows'.any-gone (Laws''.mir)) (List._∷_ (1, Relend.mslice-owed (OfOutput.row) (Syntax.tyRef (Syntax.named 0) Syntax.mut OfOutput.named) 0 4 (Row.lease (κs .0) (qs .0))) (List._∷_ (2, Mut.mslice (OfStation.row) (Syntax.tyRef (Syntax.named 1) Syntax.mut OfStation.named) 1) (List._∷_ (3, Rows'.mref (OfPanelRecord.row) (Syntax.tyRef (Syntax.named 2) Syntax.mut OfPanelRecord.named) 2) (List._∷_ (4, Rows'.sslice (Referent.rtF (Referent.fInt Syntax.w8)) (Syntax.tyRef (Syntax.named 3) Syntax.imm (Syntax.tyInt Syntax.w8)) 3) (List._∷_ (5, Rows'.any-gone (Laws'.mir)) (List._∷_ (6, Rows'.any-gone (Syntax.tyInt Syntax.w8)) (List._∷_ (7, Rows'.any-gone (Laws''.mir)) (List._∷_ (8, Rows'.sc-here (Row.sInt Syntax.w64)) (List._∷_ (9, OfPanelRecord.held) (List._∷_ (10, Rows'.sc-here (Row.sInt Syntax.w64)) (List._∷_ (11, Rows'.any-gone OfPanelRecord.spelt) (List._∷_ (12, Rows'.any-gone (Laws.mir)) (List._∷_ (13, Rows'.any-gone (Laws''.mir)) (List._∷_ (14, Rows'.any-gone Syntax.tyUnit) (List._∷_ (15, Rows'.any-gone (Syntax.tyRef Syntax.erased Syntax.mut OfOutput.named)) List.[])))))))))))))))
 
         abbrev g20 : List.List Row.Entry
-        g20 = List._∷_ (0, Rows'.any-gone (Laws.mir)) (List._∷_ (1, Relend.mslice-owed (OfOutput.row) (Syntax.tyRef (Syntax.named 0) Syntax.mut OfOutput.named) 0 4 (Row.lease (κs .0) (qs .0))) (List._∷_ (2, Mut.mslice (OfStation.row) (Syntax.tyRef (Syntax.named 1) Syntax.mut OfStation.named) 1) (List._∷_ (3, Rows'.mref (OfPanelRecord.row) (Syntax.tyRef (Syntax.named 2) Syntax.mut OfPanelRecord.named) 2) (List._∷_ (4, Rows'.sslice (Referent.rtF (Referent.fInt Syntax.w8)) (Syntax.tyRef (Syntax.named 3) Syntax.imm (Syntax.tyInt Syntax.w8)) 3) (List._∷_ (5, Rows'.any-gone (Laws''.mir)) (List._∷_ (6, Rows'.any-gone (Syntax.tyInt Syntax.w8)) (List._∷_ (7, Rows'.any-gone (Laws.mir)) (List._∷_ (8, Rows'.sc-here (Row.sInt Syntax.w64)) (List._∷_ (9, OfPanelRecord.held) (List._∷_ (10, Rows'.sc-here (Row.sInt Syntax.w64)) (List._∷_ (11, Rows'.any-gone OfPanelRecord.spelt) (List._∷_ (12, Rows'.any-gone (Laws'.mir)) (List._∷_ (13, Rows'.any-gone (Laws.mir)) (List._∷_ (14, Rows'.sc-here Row.sUnit) (List._∷_ (15, Rows'.any-gone (Syntax.tyRef Syntax.erased Syntax.mut OfOutput.named)) List.[])))))))))))))))
+        g20 = List._∷_ (0, Rows'.any-gone (Laws''.mir)) (List._∷_ (1, Relend.mslice-owed (OfOutput.row) (Syntax.tyRef (Syntax.named 0) Syntax.mut OfOutput.named) 0 4 (Row.lease (κs .0) (qs .0))) (List._∷_ (2, Mut.mslice (OfStation.row) (Syntax.tyRef (Syntax.named 1) Syntax.mut OfStation.named) 1) (List._∷_ (3, Rows'.mref (OfPanelRecord.row) (Syntax.tyRef (Syntax.named 2) Syntax.mut OfPanelRecord.named) 2) (List._∷_ (4, Rows'.sslice (Referent.rtF (Referent.fInt Syntax.w8)) (Syntax.tyRef (Syntax.named 3) Syntax.imm (Syntax.tyInt Syntax.w8)) 3) (List._∷_ (5, Rows'.any-gone (Laws'.mir)) (List._∷_ (6, Rows'.any-gone (Syntax.tyInt Syntax.w8)) (List._∷_ (7, Rows'.any-gone (Laws''.mir)) (List._∷_ (8, Rows'.sc-here (Row.sInt Syntax.w64)) (List._∷_ (9, OfPanelRecord.held) (List._∷_ (10, Rows'.sc-here (Row.sInt Syntax.w64)) (List._∷_ (11, Rows'.any-gone OfPanelRecord.spelt) (List._∷_ (12, Rows'.any-gone (Laws.mir)) (List._∷_ (13, Rows'.any-gone (Laws''.mir)) (List._∷_ (14, Rows'.sc-here Row.sUnit) (List._∷_ (15, Rows'.any-gone (Syntax.tyRef Syntax.erased Syntax.mut OfOutput.named)) List.[])))))))))))))))
 
         abbrev g30 : List.List Row.Entry
-        g30 = List._∷_ (0, Rows'.any-gone (Laws.mir)) (List._∷_ (1, Relend.mslice-owed (OfOutput.row) (Syntax.tyRef (Syntax.named 0) Syntax.mut OfOutput.named) 0 5 (Row.lease (κs .0) (qs .0))) (List._∷_ (2, Mut.mslice (OfStation.row) (Syntax.tyRef (Syntax.named 1) Syntax.mut OfStation.named) 1) (List._∷_ (3, Rows'.mref (OfPanelRecord.row) (Syntax.tyRef (Syntax.named 2) Syntax.mut OfPanelRecord.named) 2) (List._∷_ (4, Rows'.sslice (Referent.rtF (Referent.fInt Syntax.w8)) (Syntax.tyRef (Syntax.named 3) Syntax.imm (Syntax.tyInt Syntax.w8)) 3) (List._∷_ (5, Rows'.any-gone (Laws''.mir)) (List._∷_ (6, Rows'.any-gone (Syntax.tyInt Syntax.w8)) (List._∷_ (7, Rows'.any-gone (Laws.mir)) (List._∷_ (8, Rows'.any-gone (Syntax.tyInt Syntax.w64)) (List._∷_ (9, Rows'.any-gone OfPanelRecord.spelt) (List._∷_ (10, Rows'.any-gone (Syntax.tyInt Syntax.w64)) (List._∷_ (11, Rows'.any-gone OfPanelRecord.spelt) (List._∷_ (12, Rows'.whole (Declared'.row Call.the-type)) (List._∷_ (13, Rows'.any-gone (Laws.mir)) (List._∷_ (14, Rows'.any-gone Syntax.tyUnit) (List._∷_ (15, Rows'.any-gone (Syntax.tyRef Syntax.erased Syntax.mut OfOutput.named)) List.[])))))))))))))))
+        g30 = List._∷_ (0, Rows'.any-gone (Laws''.mir)) (List._∷_ (1, Relend.mslice-owed (OfOutput.row) (Syntax.tyRef (Syntax.named 0) Syntax.mut OfOutput.named) 0 5 (Row.lease (κs .0) (qs .0))) (List._∷_ (2, Mut.mslice (OfStation.row) (Syntax.tyRef (Syntax.named 1) Syntax.mut OfStation.named) 1) (List._∷_ (3, Rows'.mref (OfPanelRecord.row) (Syntax.tyRef (Syntax.named 2) Syntax.mut OfPanelRecord.named) 2) (List._∷_ (4, Rows'.sslice (Referent.rtF (Referent.fInt Syntax.w8)) (Syntax.tyRef (Syntax.named 3) Syntax.imm (Syntax.tyInt Syntax.w8)) 3) (List._∷_ (5, Rows'.any-gone (Laws'.mir)) (List._∷_ (6, Rows'.any-gone (Syntax.tyInt Syntax.w8)) (List._∷_ (7, Rows'.any-gone (Laws''.mir)) (List._∷_ (8, Rows'.any-gone (Syntax.tyInt Syntax.w64)) (List._∷_ (9, Rows'.any-gone OfPanelRecord.spelt) (List._∷_ (10, Rows'.any-gone (Syntax.tyInt Syntax.w64)) (List._∷_ (11, Rows'.any-gone OfPanelRecord.spelt) (List._∷_ (12, Rows'.whole (Declared'.row Call.the-type)) (List._∷_ (13, Rows'.any-gone (Laws''.mir)) (List._∷_ (14, Rows'.any-gone Syntax.tyUnit) (List._∷_ (15, Rows'.any-gone (Syntax.tyRef Syntax.erased Syntax.mut OfOutput.named)) List.[])))))))))))))))
 
         abbrev g33 : List.List Row.Entry
-        g33 = List._∷_ (0, Rows'.any-gone (Laws.mir)) (List._∷_ (1, Relend.mslice-owed (OfOutput.row) (Syntax.tyRef (Syntax.named 0) Syntax.mut OfOutput.named) 0 5 (Row.lease (κs .0) (qs .0))) (List._∷_ (2, Relend.mslice-owed (OfStation.row) (Syntax.tyRef (Syntax.named 1) Syntax.mut OfStation.named) 1 6 (Row.lease (κs .1 .0) (qs .1 .0))) (List._∷_ (3, Rows'.mref (OfPanelRecord.row) (Syntax.tyRef (Syntax.named 2) Syntax.mut OfPanelRecord.named) 2) (List._∷_ (4, Rows'.sslice (Referent.rtF (Referent.fInt Syntax.w8)) (Syntax.tyRef (Syntax.named 3) Syntax.imm (Syntax.tyInt Syntax.w8)) 3) (List._∷_ (5, Rows'.any-gone (Laws''.mir)) (List._∷_ (6, Rows'.any-gone (Syntax.tyInt Syntax.w8)) (List._∷_ (7, Rows'.any-gone (Laws.mir)) (List._∷_ (8, Rows'.any-gone (Syntax.tyInt Syntax.w64)) (List._∷_ (9, Rows'.any-gone OfPanelRecord.spelt) (List._∷_ (10, Rows'.any-gone (Syntax.tyInt Syntax.w64)) (List._∷_ (11, Rows'.any-gone OfPanelRecord.spelt) (List._∷_ (12, Rows'.whole (Declared'.row Call.the-type)) (List._∷_ (13, Rows'.any-gone (Laws.mir)) (List._∷_ (14, Rows'.any-gone Syntax.tyUnit) (List._∷_ (15, Rows'.any-gone (Syntax.tyRef Syntax.erased Syntax.mut OfOutput.named)) List.[])))))))))))))))
+        g33 = List._∷_ (0, Rows'.any-gone (Laws''.mir)) (List._∷_ (1, Relend.mslice-owed (OfOutput.row) (Syntax.tyRef (Syntax.named 0) Syntax.mut OfOutput.named) 0 5 (Row.lease (κs .0) (qs .0))) (List._∷_ (2, Relend.mslice-owed (OfStation.row) (Syntax.tyRef (Syntax.named 1) Syntax.mut OfStation.named) 1 6 (Row.lease (κs .1 .0) (qs .1 .0))) (List._∷_ (3, Rows'.mref (OfPanelRecord.row) (Syntax.tyRef (Syntax.named 2) Syntax.mut OfPanelRecord.named) 2) (List._∷_ (4, Rows'.sslice (Referent.rtF (Referent.fInt Syntax.w8)) (Syntax.tyRef (Syntax.named 3) Syntax.imm (Syntax.tyInt Syntax.w8)) 3) (List._∷_ (5, Rows'.any-gone (Laws'.mir)) (List._∷_ (6, Rows'.any-gone (Syntax.tyInt Syntax.w8)) (List._∷_ (7, Rows'.any-gone (Laws''.mir)) (List._∷_ (8, Rows'.any-gone (Syntax.tyInt Syntax.w64)) (List._∷_ (9, Rows'.any-gone OfPanelRecord.spelt) (List._∷_ (10, Rows'.any-gone (Syntax.tyInt Syntax.w64)) (List._∷_ (11, Rows'.any-gone OfPanelRecord.spelt) (List._∷_ (12, Rows'.whole (Declared'.row Call.the-type)) (List._∷_ (13, Rows'.any-gone (Laws''.mir)) (List._∷_ (14, Rows'.any-gone Syntax.tyUnit) (List._∷_ (15, Rows'.any-gone (Syntax.tyRef Syntax.erased Syntax.mut OfOutput.named)) List.[])))))))))))))))
 
         abbrev g36 : List.List Row.Entry
-        g36 = List._∷_ (0, Rows'.any-gone (Laws.mir)) (List._∷_ (1, Relend.mslice-owed (OfOutput.row) (Syntax.tyRef (Syntax.named 0) Syntax.mut OfOutput.named) 0 5 (Row.lease (κs .0) (qs .0))) (List._∷_ (2, Relend.mslice-owed (OfStation.row) (Syntax.tyRef (Syntax.named 1) Syntax.mut OfStation.named) 1 6 (Row.lease (κs .1 .0) (qs .1 .0))) (List._∷_ (3, Rows'.mref-owed (OfPanelRecord.row) (Syntax.tyRef (Syntax.named 2) Syntax.mut OfPanelRecord.named) 2 7 (Row.lease (κs .1 .1 .0) (qs .1 .1 .0))) (List._∷_ (4, Rows'.sslice (Referent.rtF (Referent.fInt Syntax.w8)) (Syntax.tyRef (Syntax.named 3) Syntax.imm (Syntax.tyInt Syntax.w8)) 3) (List._∷_ (5, Rows'.any-gone (Laws''.mir)) (List._∷_ (6, Rows'.any-gone (Syntax.tyInt Syntax.w8)) (List._∷_ (7, Rows'.any-gone (Laws.mir)) (List._∷_ (8, Rows'.any-gone (Syntax.tyInt Syntax.w64)) (List._∷_ (9, Rows'.any-gone OfPanelRecord.spelt) (List._∷_ (10, Rows'.any-gone (Syntax.tyInt Syntax.w64)) (List._∷_ (11, Rows'.any-gone OfPanelRecord.spelt) (List._∷_ (12, Rows'.whole (Declared'.row Call.the-type)) (List._∷_ (13, Rows'.any-gone (Laws.mir)) (List._∷_ (14, Rows'.any-gone Syntax.tyUnit) (List._∷_ (15, Rows'.any-gone (Syntax.tyRef Syntax.erased Syntax.mut OfOutput.named)) List.[])))))))))))))))
+        g36 = List._∷_ (0, Rows'.any-gone (Laws''.mir)) (List._∷_ (1, Relend.mslice-owed (OfOutput.row) (Syntax.tyRef (Syntax.named 0) Syntax.mut OfOutput.named) 0 5 (Row.lease (κs .0) (qs .0))) (List._∷_ (2, Relend.mslice-owed (OfStation.row) (Syntax.tyRef (Syntax.named 1) Syntax.mut OfStation.named) 1 6 (Row.lease (κs .1 .0) (qs .1 .0))) (List._∷_ (3, Rows'.mref-owed (OfPanelRecord.row) (Syntax.tyRef (Syntax.named 2) Syntax.mut OfPanelRecord.named) 2 7 (Row.lease (κs .1 .1 .0) (qs .1 .1 .0))) (List._∷_ (4, Rows'.sslice (Referent.rtF (Referent.fInt Syntax.w8)) (Syntax.tyRef (Syntax.named 3) Syntax.imm (Syntax.tyInt Syntax.w8)) 3) (List._∷_ (5, Rows'.any-gone (Laws'.mir)) (List._∷_ (6, Rows'.any-gone (Syntax.tyInt Syntax.w8)) (List._∷_ (7, Rows'.any-gone (Laws''.mir)) (List._∷_ (8, Rows'.any-gone (Syntax.tyInt Syntax.w64)) (List._∷_ (9, Rows'.any-gone OfPanelRecord.spelt) (List._∷_ (10, Rows'.any-gone (Syntax.tyInt Syntax.w64)) (List._∷_ (11, Rows'.any-gone OfPanelRecord.spelt) (List._∷_ (12, Rows'.whole (Declared'.row Call.the-type)) (List._∷_ (13, Rows'.any-gone (Laws''.mir)) (List._∷_ (14, Rows'.any-gone Syntax.tyUnit) (List._∷_ (15, Rows'.any-gone (Syntax.tyRef Syntax.erased Syntax.mut OfOutput.named)) List.[])))))))))))))))
 
         abbrev g38 : List.List Row.Entry
-        g38 = List._∷_ (0, Rows'.any-gone (Laws.mir)) (List._∷_ (1, Relend.mslice-owed (OfOutput.row) (Syntax.tyRef (Syntax.named 0) Syntax.mut OfOutput.named) 0 5 (Row.lease (κs .0) (qs .0))) (List._∷_ (2, Relend.mslice-owed (OfStation.row) (Syntax.tyRef (Syntax.named 1) Syntax.mut OfStation.named) 1 6 (Row.lease (κs .1 .0) (qs .1 .0))) (List._∷_ (3, Rows'.mref-owed (OfPanelRecord.row) (Syntax.tyRef (Syntax.named 2) Syntax.mut OfPanelRecord.named) 2 7 (Row.lease (κs .1 .1 .0) (qs .1 .1 .0))) (List._∷_ (4, Rows'.sslice (Referent.rtF (Referent.fInt Syntax.w8)) (Syntax.tyRef (Syntax.named 3) Syntax.imm (Syntax.tyInt Syntax.w8)) 3) (List._∷_ (5, Rows'.any-gone (Laws''.mir)) (List._∷_ (6, Rows'.any-gone (Syntax.tyInt Syntax.w8)) (List._∷_ (7, Rows'.any-gone (Laws.mir)) (List._∷_ (8, Rows'.any-gone (Syntax.tyInt Syntax.w64)) (List._∷_ (9, Rows'.any-gone OfPanelRecord.spelt) (List._∷_ (10, Rows'.any-gone (Syntax.tyInt Syntax.w64)) (List._∷_ (11, Rows'.any-gone OfPanelRecord.spelt) (List._∷_ (12, Rows'.whole (Declared'.row Call.the-type)) (List._∷_ (13, Rows'.whole (Declared.row Answer.the-type)) (List._∷_ (14, Rows'.any-gone Syntax.tyUnit) (List._∷_ (15, Rows'.any-gone (Syntax.tyRef Syntax.erased Syntax.mut OfOutput.named)) List.[])))))))))))))))
+        g38 = List._∷_ (0, Rows'.any-gone (Laws''.mir)) (List._∷_ (1, Relend.mslice-owed (OfOutput.row) (Syntax.tyRef (Syntax.named 0) Syntax.mut OfOutput.named) 0 5 (Row.lease (κs .0) (qs .0))) (List._∷_ (2, Relend.mslice-owed (OfStation.row) (Syntax.tyRef (Syntax.named 1) Syntax.mut OfStation.named) 1 6 (Row.lease (κs .1 .0) (qs .1 .0))) (List._∷_ (3, Rows'.mref-owed (OfPanelRecord.row) (Syntax.tyRef (Syntax.named 2) Syntax.mut OfPanelRecord.named) 2 7 (Row.lease (κs .1 .1 .0) (qs .1 .1 .0))) (List._∷_ (4, Rows'.sslice (Referent.rtF (Referent.fInt Syntax.w8)) (Syntax.tyRef (Syntax.named 3) Syntax.imm (Syntax.tyInt Syntax.w8)) 3) (List._∷_ (5, Rows'.any-gone (Laws'.mir)) (List._∷_ (6, Rows'.any-gone (Syntax.tyInt Syntax.w8)) (List._∷_ (7, Rows'.any-gone (Laws''.mir)) (List._∷_ (8, Rows'.any-gone (Syntax.tyInt Syntax.w64)) (List._∷_ (9, Rows'.any-gone OfPanelRecord.spelt) (List._∷_ (10, Rows'.any-gone (Syntax.tyInt Syntax.w64)) (List._∷_ (11, Rows'.any-gone OfPanelRecord.spelt) (List._∷_ (12, Rows'.whole (Declared'.row Call.the-type)) (List._∷_ (13, Rows'.whole (Declared.row Answer.the-type)) (List._∷_ (14, Rows'.any-gone Syntax.tyUnit) (List._∷_ (15, Rows'.any-gone (Syntax.tyRef Syntax.erased Syntax.mut OfOutput.named)) List.[])))))))))))))))
 
         abbrev g40 : List.List Row.Entry
-        g40 = List._∷_ (0, Rows'.any-gone (Laws.mir)) (List._∷_ (1, Relend.mslice-owed (OfOutput.row) (Syntax.tyRef (Syntax.named 0) Syntax.mut OfOutput.named) 0 5 (Row.lease (κs .0) (qs .0))) (List._∷_ (2, Relend.mslice-owed (OfStation.row) (Syntax.tyRef (Syntax.named 1) Syntax.mut OfStation.named) 1 6 (Row.lease (κs .1 .0) (qs .1 .0))) (List._∷_ (3, Rows'.mref-owed (OfPanelRecord.row) (Syntax.tyRef (Syntax.named 2) Syntax.mut OfPanelRecord.named) 2 7 (Row.lease (κs .1 .1 .0) (qs .1 .1 .0))) (List._∷_ (4, Rows'.sslice (Referent.rtF (Referent.fInt Syntax.w8)) (Syntax.tyRef (Syntax.named 3) Syntax.imm (Syntax.tyInt Syntax.w8)) 3) (List._∷_ (5, Rows'.any-gone (Laws''.mir)) (List._∷_ (6, Rows'.any-gone (Syntax.tyInt Syntax.w8)) (List._∷_ (7, Rows'.any-gone (Laws.mir)) (List._∷_ (8, Rows'.any-gone (Syntax.tyInt Syntax.w64)) (List._∷_ (9, Rows'.any-gone OfPanelRecord.spelt) (List._∷_ (10, Rows'.any-gone (Syntax.tyInt Syntax.w64)) (List._∷_ (11, Rows'.any-gone OfPanelRecord.spelt) (List._∷_ (12, Rows'.any-gone (Laws'.mir)) (List._∷_ (13, Rows'.whole (Declared.row Answer.the-type)) (List._∷_ (14, Rows'.any-gone Syntax.tyUnit) (List._∷_ (15, Rows'.any-gone (Syntax.tyRef Syntax.erased Syntax.mut OfOutput.named)) List.[])))))))))))))))
+        g40 = List._∷_ (0, Rows'.any-gone (Laws''.mir)) (List._∷_ (1, Relend.mslice-owed (OfOutput.row) (Syntax.tyRef (Syntax.named 0) Syntax.mut OfOutput.named) 0 5 (Row.lease (κs .0) (qs .0))) (List._∷_ (2, Relend.mslice-owed (OfStation.row) (Syntax.tyRef (Syntax.named 1) Syntax.mut OfStation.named) 1 6 (Row.lease (κs .1 .0) (qs .1 .0))) (List._∷_ (3, Rows'.mref-owed (OfPanelRecord.row) (Syntax.tyRef (Syntax.named 2) Syntax.mut OfPanelRecord.named) 2 7 (Row.lease (κs .1 .1 .0) (qs .1 .1 .0))) (List._∷_ (4, Rows'.sslice (Referent.rtF (Referent.fInt Syntax.w8)) (Syntax.tyRef (Syntax.named 3) Syntax.imm (Syntax.tyInt Syntax.w8)) 3) (List._∷_ (5, Rows'.any-gone (Laws'.mir)) (List._∷_ (6, Rows'.any-gone (Syntax.tyInt Syntax.w8)) (List._∷_ (7, Rows'.any-gone (Laws''.mir)) (List._∷_ (8, Rows'.any-gone (Syntax.tyInt Syntax.w64)) (List._∷_ (9, Rows'.any-gone OfPanelRecord.spelt) (List._∷_ (10, Rows'.any-gone (Syntax.tyInt Syntax.w64)) (List._∷_ (11, Rows'.any-gone OfPanelRecord.spelt) (List._∷_ (12, Rows'.any-gone (Laws.mir)) (List._∷_ (13, Rows'.whole (Declared.row Answer.the-type)) (List._∷_ (14, Rows'.any-gone Syntax.tyUnit) (List._∷_ (15, Rows'.any-gone (Syntax.tyRef Syntax.erased Syntax.mut OfOutput.named)) List.[])))))))))))))))
 
         abbrev g41 : List.List Row.Entry
-        g41 = List._∷_ (0, Rows'.any-gone (Laws.mir)) (List._∷_ (1, Mut.mslice (OfOutput.row) (Syntax.tyRef (Syntax.named 0) Syntax.mut OfOutput.named) 0) (List._∷_ (2, Relend.mslice-owed (OfStation.row) (Syntax.tyRef (Syntax.named 1) Syntax.mut OfStation.named) 1 6 (Row.lease (κs .1 .0) (qs .1 .0))) (List._∷_ (3, Rows'.mref-owed (OfPanelRecord.row) (Syntax.tyRef (Syntax.named 2) Syntax.mut OfPanelRecord.named) 2 7 (Row.lease (κs .1 .1 .0) (qs .1 .1 .0))) (List._∷_ (4, Rows'.sslice (Referent.rtF (Referent.fInt Syntax.w8)) (Syntax.tyRef (Syntax.named 3) Syntax.imm (Syntax.tyInt Syntax.w8)) 3) (List._∷_ (5, Rows'.any-gone (Laws''.mir)) (List._∷_ (6, Rows'.any-gone (Syntax.tyInt Syntax.w8)) (List._∷_ (7, Rows'.any-gone (Laws.mir)) (List._∷_ (8, Rows'.any-gone (Syntax.tyInt Syntax.w64)) (List._∷_ (9, Rows'.any-gone OfPanelRecord.spelt) (List._∷_ (10, Rows'.any-gone (Syntax.tyInt Syntax.w64)) (List._∷_ (11, Rows'.any-gone OfPanelRecord.spelt) (List._∷_ (12, Rows'.any-gone (Laws'.mir)) (List._∷_ (13, Rows'.whole (Declared.row Answer.the-type)) (List._∷_ (14, Rows'.any-gone Syntax.tyUnit) (List._∷_ (15, Rows'.any-gone (Syntax.tyRef Syntax.erased Syntax.mut OfOutput.named)) List.[])))))))))))))))
+        g41 = List._∷_ (0, Rows'.any-gone (Laws''.mir)) (List._∷_ (1, Mut.mslice (OfOutput.row) (Syntax.tyRef (Syntax.named 0) Syntax.mut OfOutput.named) 0) (List._∷_ (2, Relend.mslice-owed (OfStation.row) (Syntax.tyRef (Syntax.named 1) Syntax.mut OfStation.named) 1 6 (Row.lease (κs .1 .0) (qs .1 .0))) (List._∷_ (3, Rows'.mref-owed (OfPanelRecord.row) (Syntax.tyRef (Syntax.named 2) Syntax.mut OfPanelRecord.named) 2 7 (Row.lease (κs .1 .1 .0) (qs .1 .1 .0))) (List._∷_ (4, Rows'.sslice (Referent.rtF (Referent.fInt Syntax.w8)) (Syntax.tyRef (Syntax.named 3) Syntax.imm (Syntax.tyInt Syntax.w8)) 3) (List._∷_ (5, Rows'.any-gone (Laws'.mir)) (List._∷_ (6, Rows'.any-gone (Syntax.tyInt Syntax.w8)) (List._∷_ (7, Rows'.any-gone (Laws''.mir)) (List._∷_ (8, Rows'.any-gone (Syntax.tyInt Syntax.w64)) (List._∷_ (9, Rows'.any-gone OfPanelRecord.spelt) (List._∷_ (10, Rows'.any-gone (Syntax.tyInt Syntax.w64)) (List._∷_ (11, Rows'.any-gone OfPanelRecord.spelt) (List._∷_ (12, Rows'.any-gone (Laws.mir)) (List._∷_ (13, Rows'.whole (Declared.row Answer.the-type)) (List._∷_ (14, Rows'.any-gone Syntax.tyUnit) (List._∷_ (15, Rows'.any-gone (Syntax.tyRef Syntax.erased Syntax.mut OfOutput.named)) List.[])))))))))))))))
 
         abbrev g43 : List.List Row.Entry
-        g43 = List._∷_ (0, Rows'.any-gone (Laws.mir)) (List._∷_ (1, Mut.mslice (OfOutput.row) (Syntax.tyRef (Syntax.named 0) Syntax.mut OfOutput.named) 0) (List._∷_ (2, Mut.mslice (OfStation.row) (Syntax.tyRef (Syntax.named 1) Syntax.mut OfStation.named) 1) (List._∷_ (3, Rows'.mref-owed (OfPanelRecord.row) (Syntax.tyRef (Syntax.named 2) Syntax.mut OfPanelRecord.named) 2 7 (Row.lease (κs .1 .1 .0) (qs .1 .1 .0))) (List._∷_ (4, Rows'.sslice (Referent.rtF (Referent.fInt Syntax.w8)) (Syntax.tyRef (Syntax.named 3) Syntax.imm (Syntax.tyInt Syntax.w8)) 3) (List._∷_ (5, Rows'.any-gone (Laws''.mir)) (List._∷_ (6, Rows'.any-gone (Syntax.tyInt Syntax.w8)) (List._∷_ (7, Rows'.any-gone (Laws.mir)) (List._∷_ (8, Rows'.any-gone (Syntax.tyInt Syntax.w64)) (List._∷_ (9, Rows'.any-gone OfPanelRecord.spelt) (List._∷_ (10, Rows'.any-gone (Syntax.tyInt Syntax.w64)) (List._∷_ (11, Rows'.any-gone OfPanelRecord.spelt) (List._∷_ (12, Rows'.any-gone (Laws'.mir)) (List._∷_ (13, Rows'.whole (Declared.row Answer.the-type)) (List._∷_ (14, Rows'.any-gone Syntax.tyUnit) (List._∷_ (15, Rows'.any-gone (Syntax.tyRef Syntax.erased Syntax.mut OfOutput.named)) List.[])))))))))))))))
+        g43 = List._∷_ (0, Rows'.any-gone (Laws''.mir)) (List._∷_ (1, Mut.mslice (OfOutput.row) (Syntax.tyRef (Syntax.named 0) Syntax.mut OfOutput.named) 0) (List._∷_ (2, Mut.mslice (OfStation.row) (Syntax.tyRef (Syntax.named 1) Syntax.mut OfStation.named) 1) (List._∷_ (3, Rows'.mref-owed (OfPanelRecord.row) (Syntax.tyRef (Syntax.named 2) Syntax.mut OfPanelRecord.named) 2 7 (Row.lease (κs .1 .1 .0) (qs .1 .1 .0))) (List._∷_ (4, Rows'.sslice (Referent.rtF (Referent.fInt Syntax.w8)) (Syntax.tyRef (Syntax.named 3) Syntax.imm (Syntax.tyInt Syntax.w8)) 3) (List._∷_ (5, Rows'.any-gone (Laws'.mir)) (List._∷_ (6, Rows'.any-gone (Syntax.tyInt Syntax.w8)) (List._∷_ (7, Rows'.any-gone (Laws''.mir)) (List._∷_ (8, Rows'.any-gone (Syntax.tyInt Syntax.w64)) (List._∷_ (9, Rows'.any-gone OfPanelRecord.spelt) (List._∷_ (10, Rows'.any-gone (Syntax.tyInt Syntax.w64)) (List._∷_ (11, Rows'.any-gone OfPanelRecord.spelt) (List._∷_ (12, Rows'.any-gone (Laws.mir)) (List._∷_ (13, Rows'.whole (Declared.row Answer.the-type)) (List._∷_ (14, Rows'.any-gone Syntax.tyUnit) (List._∷_ (15, Rows'.any-gone (Syntax.tyRef Syntax.erased Syntax.mut OfOutput.named)) List.[])))))))))))))))
 
         abbrev G0 : Row.Cx
         G0 = record { locals = List._++_ t0 t1; slots = List._∷_ (Row.lease (κs .0) (qs .0)) (List._∷_ (Row.lease (κs .1 .0) (qs .1 .0)) (List._∷_ (Row.lease (κs .1 .1 .0) (qs .1 .1 .0)) (List._∷_ (Row.lease (κs .1 .1 .1 .0) (qs .1 .1 .1 .0)) (List._∷_ Row.off (List._∷_ Row.off (List._∷_ Row.off (List._∷_ Row.off List.[]))))))) }
@@ -1063,37 +1063,37 @@ module _ (claims· : Claims) where
           E = Frame.EnvOf 𝓤 H (List._∷_ (Kinds.tyR r) (Enter.tysP ps xs)) bs
 
           d0 : Typed.Typed 𝓤 H A 𝓣 E G7 b1 Δ1 at0
-          d0 = Typed.s-typed 𝓤 H A W 𝓣 E G7 b1 Δ1 (λ Ψ. Typed.pass T7 T8 s5 (Typed.pass T8 T9 s6 Ψ)) tt (Typed.g-post 𝓤 H A W 𝓣 E G7 G8 G9 b1 (Typed.pass T7 T8 s5) (Typed.pass T8 T9 s6) (Make.t-enum-make-wt 𝓤 H A W E 𝓣 Answer.the-type Laws.the-laws Laws.the-plain tt G7 13 (List._∷_ (Scalar.oInt Syntax.w8 3) (List._∷_ (Scalar.oAt 6 (Syntax.tyInt Syntax.w8) (Row.valS (Row.sInt Syntax.w8))) List.[])) (λ m. Answer.enum .make (Logic.inr (Logic.inr (Logic.inr (Logic.inl (m .1 .1 .1 .1 .1 .1 .0, tt)))))) (Reads.room-gone 𝓤 H A (Laws.mir)) (tt, ((Scalar.reads-sc 𝓤 H A W (Row.sInt Syntax.w8), Path'.refl), tt)) Path'.refl (λ m wa. Make.made-val Answer.the-type Laws.the-laws (List._∷_ (Laws.the-laws .1 .1 .1 .0 .0 .val (m .1 .1 .1 .1 .1 .1 .0)) List.[]) (Answer.enum .make (Logic.inr (Logic.inr (Logic.inr (Logic.inl (m .1 .1 .1 .1 .1 .1 .0, tt)))))) (Signed.made-wt Field.u8-field (Laws.the-laws .1 .1 .1 .0 .0) Make'.u8-wt (m .1 .1 .1 .1 .1 .1 .0), tt) (wa .1)) λ m wa. Make.made-is Answer.the-type Laws.the-laws (List._∷_ (Laws.the-laws .1 .1 .1 .0 .0 .val (m .1 .1 .1 .1 .1 .1 .0)) List.[]) (Answer.enum .make (Logic.inr (Logic.inr (Logic.inr (Logic.inl (m .1 .1 .1 .1 .1 .1 .0, tt)))))) (Signed.made-wt Field.u8-field (Laws.the-laws .1 .1 .1 .0 .0) Make'.u8-wt (m .1 .1 .1 .1 .1 .1 .0), tt) (wa .1)) (Scalar.g-room 𝓤 H A W E G8 6 (Syntax.tyInt Syntax.w8) (Scalar.room-sc 𝓤 H A W (Row.sInt Syntax.w8))))
+          d0 = Typed.s-typed 𝓤 H A W 𝓣 E G7 b1 Δ1 (λ Ψ. Typed.pass T7 T8 s5 (Typed.pass T8 T9 s6 Ψ)) tt (Typed.g-post 𝓤 H A W 𝓣 E G7 G8 G9 b1 (Typed.pass T7 T8 s5) (Typed.pass T8 T9 s6) (Make.t-enum-make-wt 𝓤 H A W E 𝓣 Answer.the-type Laws''.the-laws Laws''.the-plain tt G7 13 (List._∷_ (Scalar.oInt Syntax.w8 3) (List._∷_ (Scalar.oAt 6 (Syntax.tyInt Syntax.w8) (Row.valS (Row.sInt Syntax.w8))) List.[])) (λ m. Answer.enum .make (Logic.inr (Logic.inr (Logic.inr (Logic.inl (m .1 .1 .1 .1 .1 .1 .0, tt)))))) (Reads.room-gone 𝓤 H A (Laws''.mir)) (tt, ((Scalar.reads-sc 𝓤 H A W (Row.sInt Syntax.w8), Path'.refl), tt)) Path'.refl (λ m wa. Make.made-val Answer.the-type Laws''.the-laws (List._∷_ (Laws''.the-laws .1 .1 .1 .0 .0 .val (m .1 .1 .1 .1 .1 .1 .0)) List.[]) (Answer.enum .make (Logic.inr (Logic.inr (Logic.inr (Logic.inl (m .1 .1 .1 .1 .1 .1 .0, tt)))))) (Signed.made-wt Field.u8-field (Laws''.the-laws .1 .1 .1 .0 .0) Make'.u8-wt (m .1 .1 .1 .1 .1 .1 .0), tt) (wa .1)) λ m wa. Make.made-is Answer.the-type Laws''.the-laws (List._∷_ (Laws''.the-laws .1 .1 .1 .0 .0 .val (m .1 .1 .1 .1 .1 .1 .0)) List.[]) (Answer.enum .make (Logic.inr (Logic.inr (Logic.inr (Logic.inl (m .1 .1 .1 .1 .1 .1 .0, tt)))))) (Signed.made-wt Field.u8-field (Laws''.the-laws .1 .1 .1 .0 .0) Make'.u8-wt (m .1 .1 .1 .1 .1 .1 .0), tt) (wa .1)) (Scalar.g-room 𝓤 H A W E G8 6 (Syntax.tyInt Syntax.w8) (Scalar.room-sc 𝓤 H A W (Row.sInt Syntax.w8))))
 
           d1 : Typed.Typed 𝓤 H A 𝓣 E G6 b1 Δ1 at1
-          d1 = Typed.g-pre 𝓤 H A W 𝓣 E G6 G7 b1 Δ1 (Typed.pass T6 T7 s4) at0 (Scalar.g-room 𝓤 H A W E G6 5 (Laws''.mir) (Local.room-whole 𝓤 H A W (Known.Known Verdict.enum 0) (Laws''.mir) Path'.refl)) d0
+          d1 = Typed.g-pre 𝓤 H A W 𝓣 E G6 G7 b1 Δ1 (Typed.pass T6 T7 s4) at0 (Scalar.g-room 𝓤 H A W E G6 5 (Laws'.mir) (Local.room-whole 𝓤 H A W (Known.Known Verdict.enum 0) (Laws'.mir) Path'.refl)) d0
 
           d2 : Typed.Typed 𝓤 H A 𝓣 E G5 b2 Δ1 at2
-          d2 = Typed.s-seq 𝓤 H A W 𝓣 E G5 G6 b0 b1 Δ1 (Typed.pass T5 T6 s3) at1 (Scalar.t-use 𝓤 H A W E 𝓣 G5 (Scalar.oFld 5 (List._∷_ (Syntax.variant 0) (List._∷_ (Syntax.field 1) List.[])) (Syntax.tyInt Syntax.w8) 1 λ v. Laws''.the-laws .0 .0 .val (v .0)) 6 (Rows'.sc-here (Row.sInt Syntax.w8)) (Syntax.tyInt Syntax.w8) (Row.valS (Row.sInt Syntax.w8)) (Row.sInt Syntax.w8 .of) (Match.reads-payload 𝓤 H A W Verdict.enum Laws''.the-laws 0 Path'.refl Path'.refl (λ v. Val.vcons (Laws''.the-laws .0 .0 .val (v .0)) Val.vnil) (λ v. Path'.refl) 0 (Syntax.tyInt Syntax.w8) 1 Path'.refl, Path'.refl) (Reads.room-gone 𝓤 H A (Syntax.tyInt Syntax.w8)) (Scalar.holds-sc 𝓤 H A W (Row.sInt Syntax.w8)) Path'.refl (λ u. Path'.refl) λ u. tt) d1
+          d2 = Typed.s-seq 𝓤 H A W 𝓣 E G5 G6 b0 b1 Δ1 (Typed.pass T5 T6 s3) at1 (Scalar.t-use 𝓤 H A W E 𝓣 G5 (Scalar.oFld 5 (List._∷_ (Syntax.variant 0) (List._∷_ (Syntax.field 1) List.[])) (Syntax.tyInt Syntax.w8) 1 λ v. Laws'.the-laws .0 .0 .val (v .0)) 6 (Rows'.sc-here (Row.sInt Syntax.w8)) (Syntax.tyInt Syntax.w8) (Row.valS (Row.sInt Syntax.w8)) (Row.sInt Syntax.w8 .of) (Match.reads-payload 𝓤 H A W Verdict.enum Laws'.the-laws 0 Path'.refl Path'.refl (λ v. Val.vcons (Laws'.the-laws .0 .0 .val (v .0)) Val.vnil) (λ v. Path'.refl) 0 (Syntax.tyInt Syntax.w8) 1 Path'.refl, Path'.refl) (Reads.room-gone 𝓤 H A (Syntax.tyInt Syntax.w8)) (Scalar.holds-sc 𝓤 H A W (Row.sInt Syntax.w8)) Path'.refl (λ u. Path'.refl) λ u. tt) d1
 
           d3 : Typed.Typed 𝓤 H A 𝓣 E G4 b2 Δ1 at3
-          d3 = Typed.g-pre 𝓤 H A W 𝓣 E G4 G5 b2 Δ1 (Typed.give s2) at2 (Known.g-known-told 𝓤 H A W E Verdict.enum 0 G4 5 Laws''.the-laws (λ x. x) (Reads.as-is 𝓤 H A (Rows'.whole (Known.Known Verdict.enum 0)))) d2
+          d3 = Typed.g-pre 𝓤 H A W 𝓣 E G4 G5 b2 Δ1 (Typed.give s2) at2 (Known.g-known-told 𝓤 H A W E Verdict.enum 0 G4 5 Laws'.the-laws (λ x. x) (Reads.as-is 𝓤 H A (Rows'.whole (Known.Known Verdict.enum 0)))) d2
 
           d4 : Typed.Typed 𝓤 H A 𝓣 E G3 b2 Δ1 at4
           d4 = Typed.g-pre 𝓤 H A W 𝓣 E G3 G4 b2 Δ1 (Typed.both s1) at3 (Known.g-enum-known 𝓤 H A W E Verdict.enum 0 G3 5 (λ x. x) (Reads.as-is 𝓤 H A (Rows'.whole (Declared.row Verdict.the-type)))) d3
 
           d5 : Typed.Typed 𝓤 H A 𝓣 E G13 b4 Δ1 at5
-          d5 = Typed.s-typed 𝓤 H A W 𝓣 E G13 b4 Δ1 (λ Ψ. Typed.pass T13 T14 s11 (Typed.pass T14 T15 s12 Ψ)) tt (Typed.g-post 𝓤 H A W 𝓣 E G13 G14 G15 b4 (Typed.pass T13 T14 s11) (Typed.pass T14 T15 s12) (LocalCopy.t-val-copy 𝓤 H A W E 𝓣 (λ ρ. Unit) G13 7 13 (Declared.row Answer.the-type) (Laws.mir) (Laws.mir) (Rows'.whole (Declared.row Answer.the-type)) (Rows'.whole (Declared.row Answer.the-type)) (λ x. x) (λ x. x) (λ x. x) Path'.refl (Own.told-none 𝓤 H A (G13 .slots)) (Yields.yields-copy 𝓤 H A W (λ ρ. Unit) (Declared.row Answer.the-type) Path'.refl (Copies.cEnum Answer.the-type Laws.the-laws Laws.the-copy .copy 𝓤 H A W) (Rows'.whole (Declared.row Answer.the-type)) (λ x. x) (λ x. x) (λ ρ told. Local.mem-whole 𝓤 H A W (Declared.row Answer.the-type) ρ) λ ρ told. Local.whole-mem 𝓤 H A W (Declared.row Answer.the-type) ρ) (Reads.room-gone 𝓤 H A (Laws.mir)) (Yields.makes-mem 𝓤 H A W (λ ρ. Unit) (Declared.row Answer.the-type) Path'.refl (Rows'.whole (Declared.row Answer.the-type)) (λ x. x) λ ρ told. Local.whole-mem 𝓤 H A W (Declared.row Answer.the-type) ρ) Path'.refl Path'.refl) (Scalar.g-room 𝓤 H A W E G14 7 (Laws.mir) (Local.room-whole 𝓤 H A W (Declared.row Answer.the-type) (Laws.mir) Path'.refl)))
+          d5 = Typed.s-typed 𝓤 H A W 𝓣 E G13 b4 Δ1 (λ Ψ. Typed.pass T13 T14 s11 (Typed.pass T14 T15 s12 Ψ)) tt (Typed.g-post 𝓤 H A W 𝓣 E G13 G14 G15 b4 (Typed.pass T13 T14 s11) (Typed.pass T14 T15 s12) (LocalCopy.t-val-copy 𝓤 H A W E 𝓣 (λ ρ. Unit) G13 7 13 (Declared.row Answer.the-type) (Laws''.mir) (Laws''.mir) (Rows'.whole (Declared.row Answer.the-type)) (Rows'.whole (Declared.row Answer.the-type)) (λ x. x) (λ x. x) (λ x. x) Path'.refl (Own.told-none 𝓤 H A (G13 .slots)) (Yields.yields-copy 𝓤 H A W (λ ρ. Unit) (Declared.row Answer.the-type) Path'.refl (Copies.cEnum Answer.the-type Laws''.the-laws Laws''.the-copy .copy 𝓤 H A W) (Rows'.whole (Declared.row Answer.the-type)) (λ x. x) (λ x. x) (λ ρ told. Local.mem-whole 𝓤 H A W (Declared.row Answer.the-type) ρ) λ ρ told. Local.whole-mem 𝓤 H A W (Declared.row Answer.the-type) ρ) (Reads.room-gone 𝓤 H A (Laws''.mir)) (Yields.makes-mem 𝓤 H A W (λ ρ. Unit) (Declared.row Answer.the-type) Path'.refl (Rows'.whole (Declared.row Answer.the-type)) (λ x. x) λ ρ told. Local.whole-mem 𝓤 H A W (Declared.row Answer.the-type) ρ) Path'.refl Path'.refl) (Scalar.g-room 𝓤 H A W E G14 7 (Laws''.mir) (Local.room-whole 𝓤 H A W (Declared.row Answer.the-type) (Laws''.mir) Path'.refl)))
 
           d6 : Typed.Typed 𝓤 H A 𝓣 E G12 b4 Δ1 at6
-          d6 = Typed.g-pre 𝓤 H A W 𝓣 E G12 G13 b4 Δ1 (Typed.pass T12 T13 s10) at5 (Scalar.g-room 𝓤 H A W E G12 5 (Laws''.mir) (Local.room-whole 𝓤 H A W (Known.Known Verdict.enum 1) (Laws''.mir) Path'.refl)) d5
+          d6 = Typed.g-pre 𝓤 H A W 𝓣 E G12 G13 b4 Δ1 (Typed.pass T12 T13 s10) at5 (Scalar.g-room 𝓤 H A W E G12 5 (Laws'.mir) (Local.room-whole 𝓤 H A W (Known.Known Verdict.enum 1) (Laws'.mir) Path'.refl)) d5
 
           d7 : Typed.Typed 𝓤 H A 𝓣 E G11 b5 Δ1 at7
-          d7 = Typed.s-seq 𝓤 H A W 𝓣 E G11 G12 b3 b4 Δ1 (Typed.pass T11 T12 s9) at6 (CopyOut.t-copy-told 𝓤 H A W E 𝓣 (Declared.row Answer.the-type) Path'.refl (Laws'3.val Answer.the-type Laws.the-laws) (Laws'3.lawful Answer.the-type Laws.the-laws 𝓤 H A W tt) (Laws'3.makes Answer.the-type Laws.the-plain 𝓤 H A) G11 7 (Scalar.oFld 5 (List._∷_ (Syntax.variant 1) (List._∷_ (Syntax.field 1) List.[])) (Laws.mir) 4 λ v. Laws'3.val Answer.the-type Laws.the-laws (v .0)) (λ m. m .1 .1 .1 .1 .1 .0 .0) (λ m. Laws'3.Fields (Declared.variants Verdict.the-type) (Laws'3.spellss (Verdict.enum .parts) Laws''.the-laws) (Verdict.the-type .to (Known.at Verdict.enum 1 (m .1 .1 .1 .1 .1 .0)))) (Reads.room-gone 𝓤 H A (Laws.mir)) (Match.reads-payload 𝓤 H A W Verdict.enum Laws''.the-laws 1 Path'.refl Path'.refl (λ v. Val.vcons (Laws'3.val Answer.the-type Laws.the-laws (v .0)) Val.vnil) (λ v. Path'.refl) 0 (Laws.mir) 4 Path'.refl, Path'.refl) Path'.refl (λ ρ m. Make'.tells-row 𝓤 H A W E ρ (Row.out 7 (G11 .locals)) m 5 (Laws'3.Fields (Declared.variants Verdict.the-type) (Laws'3.spellss (Verdict.enum .parts) Laws''.the-laws) (Verdict.the-type .to (Known.at Verdict.enum 1 (m .1 .1 .1 .1 .1 .0)))) (Known.known-is 𝓤 H A W E Verdict.enum 1 Laws''.the-laws ρ 5 (m .1 .1 .1 .1 .1 .0))) (λ m k wa. Path'.refl) λ m k wa. k .0) d6
+          d7 = Typed.s-seq 𝓤 H A W 𝓣 E G11 G12 b3 b4 Δ1 (Typed.pass T11 T12 s9) at6 (CopyOut.t-copy-told 𝓤 H A W E 𝓣 (Declared.row Answer.the-type) Path'.refl (Laws'3.val Answer.the-type Laws''.the-laws) (Laws'3.lawful Answer.the-type Laws''.the-laws 𝓤 H A W tt) (Laws'3.makes Answer.the-type Laws''.the-plain 𝓤 H A) G11 7 (Scalar.oFld 5 (List._∷_ (Syntax.variant 1) (List._∷_ (Syntax.field 1) List.[])) (Laws''.mir) 4 λ v. Laws'3.val Answer.the-type Laws''.the-laws (v .0)) (λ m. m .1 .1 .1 .1 .1 .0 .0) (λ m. Laws'3.Fields (Declared.variants Verdict.the-type) (Laws'3.spellss (Verdict.enum .parts) Laws'.the-laws) (Verdict.the-type .to (Known.at Verdict.enum 1 (m .1 .1 .1 .1 .1 .0)))) (Reads.room-gone 𝓤 H A (Laws''.mir)) (Match.reads-payload 𝓤 H A W Verdict.enum Laws'.the-laws 1 Path'.refl Path'.refl (λ v. Val.vcons (Laws'3.val Answer.the-type Laws''.the-laws (v .0)) Val.vnil) (λ v. Path'.refl) 0 (Laws''.mir) 4 Path'.refl, Path'.refl) Path'.refl (λ ρ m. Make'.tells-row 𝓤 H A W E ρ (Row.out 7 (G11 .locals)) m 5 (Laws'3.Fields (Declared.variants Verdict.the-type) (Laws'3.spellss (Verdict.enum .parts) Laws'.the-laws) (Verdict.the-type .to (Known.at Verdict.enum 1 (m .1 .1 .1 .1 .1 .0)))) (Known.known-is 𝓤 H A W E Verdict.enum 1 Laws'.the-laws ρ 5 (m .1 .1 .1 .1 .1 .0))) (λ m k wa. Path'.refl) λ m k wa. k .0) d6
 
           d8 : Typed.Typed 𝓤 H A 𝓣 E G10 b5 Δ1 at8
-          d8 = Typed.g-pre 𝓤 H A W 𝓣 E G10 G11 b5 Δ1 (Typed.give s8) at7 (Known.g-known-told 𝓤 H A W E Verdict.enum 1 G10 5 Laws''.the-laws (λ x. x) (Reads.as-is 𝓤 H A (Rows'.whole (Known.Known Verdict.enum 1)))) d7
+          d8 = Typed.g-pre 𝓤 H A W 𝓣 E G10 G11 b5 Δ1 (Typed.give s8) at7 (Known.g-known-told 𝓤 H A W E Verdict.enum 1 G10 5 Laws'.the-laws (λ x. x) (Reads.as-is 𝓤 H A (Rows'.whole (Known.Known Verdict.enum 1)))) d7
 
           d9 : Typed.Typed 𝓤 H A 𝓣 E G3 b5 Δ1 at9
           d9 = Typed.g-pre 𝓤 H A W 𝓣 E G3 G10 b5 Δ1 (Typed.both s7) at8 (Known.g-enum-known 𝓤 H A W E Verdict.enum 1 G3 5 (λ x. x) (Reads.as-is 𝓤 H A (Rows'.whole (Declared.row Verdict.the-type)))) d8
 
           d10 : Typed.Typed 𝓤 H A 𝓣 E G33 b14 Δ1 at10
-          d10 = Typed.s-typed 𝓤 H A W 𝓣 E G33 b14 Δ1 (λ Ψ. Typed.pass T33 T34 s31 (Typed.pass T34 T35 s32 (Typed.pass T35 T36 s33 Ψ))) tt (Typed.g-post 𝓤 H A W 𝓣 E G33 G35 G36 b14 (λ Ψ. Typed.pass T33 T34 s31 (Typed.pass T34 T35 s32 Ψ)) (Typed.pass T35 T36 s33) (Typed.g-post 𝓤 H A W 𝓣 E G33 G34 G35 b14 (Typed.pass T33 T34 s31) (Typed.pass T34 T35 s32) (Make.t-enum-make-wt 𝓤 H A W E 𝓣 Answer.the-type Laws.the-laws Laws.the-plain tt G33 13 (List._∷_ (Scalar.oInt Syntax.w8 0) List.[]) (λ m. Answer.enum .make (Logic.inl tt)) (Reads.room-gone 𝓤 H A (Laws.mir)) (tt, tt) Path'.refl (λ m wa. Make.made-val Answer.the-type Laws.the-laws List.[] (Answer.enum .make (Logic.inl tt)) tt (wa .1)) λ m wa. Make.made-is Answer.the-type Laws.the-laws List.[] (Answer.enum .make (Logic.inl tt)) tt (wa .1)) (Scalar.g-room 𝓤 H A W E G34 8 (Syntax.tyInt Syntax.w64) (Scalar.room-sc 𝓤 H A W (Row.sInt Syntax.w64)))) (Scalar.g-room 𝓤 H A W E G35 10 (Syntax.tyInt Syntax.w64) (Scalar.room-sc 𝓤 H A W (Row.sInt Syntax.w64))))
+          d10 = Typed.s-typed 𝓤 H A W 𝓣 E G33 b14 Δ1 (λ Ψ. Typed.pass T33 T34 s31 (Typed.pass T34 T35 s32 (Typed.pass T35 T36 s33 Ψ))) tt (Typed.g-post 𝓤 H A W 𝓣 E G33 G35 G36 b14 (λ Ψ. Typed.pass T33 T34 s31 (Typed.pass T34 T35 s32 Ψ)) (Typed.pass T35 T36 s33) (Typed.g-post 𝓤 H A W 𝓣 E G33 G34 G35 b14 (Typed.pass T33 T34 s31) (Typed.pass T34 T35 s32) (Make.t-enum-make-wt 𝓤 H A W E 𝓣 Answer.the-type Laws''.the-laws Laws''.the-plain tt G33 13 (List._∷_ (Scalar.oInt Syntax.w8 0) List.[]) (λ m. Answer.enum .make (Logic.inl tt)) (Reads.room-gone 𝓤 H A (Laws''.mir)) (tt, tt) Path'.refl (λ m wa. Make.made-val Answer.the-type Laws''.the-laws List.[] (Answer.enum .make (Logic.inl tt)) tt (wa .1)) λ m wa. Make.made-is Answer.the-type Laws''.the-laws List.[] (Answer.enum .make (Logic.inl tt)) tt (wa .1)) (Scalar.g-room 𝓤 H A W E G34 8 (Syntax.tyInt Syntax.w64) (Scalar.room-sc 𝓤 H A W (Row.sInt Syntax.w64)))) (Scalar.g-room 𝓤 H A W E G35 10 (Syntax.tyInt Syntax.w64) (Scalar.room-sc 𝓤 H A W (Row.sInt Syntax.w64))))
 
           d11 : Typed.Typed 𝓤 H A 𝓣 E G32 b14 Δ1 at11
           d11 = Typed.g-pre 𝓤 H A W 𝓣 E G32 G33 b14 Δ1 (Typed.pass T32 T33 s30) at10 (Scalar.g-room 𝓤 H A W E G32 11 OfPanelRecord.spelt (OfPanelRecord.room 𝓤 H A W)) d10
@@ -1138,19 +1138,19 @@ module _ (claims· : Claims) where
           d24 = Typed.s-seq 𝓤 H A W 𝓣 E G19 G20 b7 b20 Δ1 (Typed.give s17) at23 (DerefMove.t-ref-read-copy 𝓤 H A W E 𝓣 (λ ρ. Unit) G19 3 9 2 (OfPanelRecord.row) (Syntax.tyRef (Syntax.named 2) Syntax.mut OfPanelRecord.named) OfPanelRecord.spelt OfPanelRecord.spelt (Row.lease (κs .1 .1 .0) (qs .1 .1 .0)) (λ x. x) (OfPanelRecord.held) (λ x. x) (λ x. Unit) Path'.refl Path'.refl Path'.refl (OfPanelRecord.copies .copy 𝓤 H A W) (DerefMove.learns-nothing 𝓤 H A (OfPanelRecord.row)) (Own.told-none 𝓤 H A (G19 .slots)) (Reads.as-is 𝓤 H A (Rows'.mref (OfPanelRecord.row) (Syntax.tyRef (Syntax.named 2) Syntax.mut OfPanelRecord.named) 2)) (Reads.room-gone 𝓤 H A OfPanelRecord.spelt) (Yields.makes-mem 𝓤 H A W (λ ρ. Unit) (OfPanelRecord.row) Path'.refl (OfPanelRecord.held) (λ x. x) λ ρ told. OfPanelRecord.of-mem 𝓤 H A W ρ) Path'.refl tt Path'.refl Path'.refl) d23
 
           d25 : Typed.Typed 𝓤 H A 𝓣 E G18 b21 Δ1 at25
-          d25 = Typed.g-pre 𝓤 H A W 𝓣 E G18 G19 b21 Δ1 (Typed.pass T18 T19 s16) at24 (Scalar.g-room 𝓤 H A W E G18 5 (Laws''.mir) (Local.room-whole 𝓤 H A W (Known.Known Verdict.enum 2) (Laws''.mir) Path'.refl)) d24
+          d25 = Typed.g-pre 𝓤 H A W 𝓣 E G18 G19 b21 Δ1 (Typed.pass T18 T19 s16) at24 (Scalar.g-room 𝓤 H A W E G18 5 (Laws'.mir) (Local.room-whole 𝓤 H A W (Known.Known Verdict.enum 2) (Laws'.mir) Path'.refl)) d24
 
           d26 : Typed.Typed 𝓤 H A 𝓣 E G17 b22 Δ1 at26
-          d26 = Typed.s-seq 𝓤 H A W 𝓣 E G17 G18 b6 b21 Δ1 (Typed.pass T17 T18 s15) at25 (Scalar.t-use 𝓤 H A W E 𝓣 G17 (Scalar.oFld 5 (List._∷_ (Syntax.variant 2) (List._∷_ (Syntax.field 1) List.[])) (Syntax.tyInt Syntax.w64) 8 λ v. Laws''.the-laws .1 .1 .0 .0 .val (v .0)) 8 (Rows'.sc-here (Row.sInt Syntax.w64)) (Syntax.tyInt Syntax.w64) (Row.valS (Row.sInt Syntax.w64)) (Row.sInt Syntax.w64 .of) (Match.reads-payload 𝓤 H A W Verdict.enum Laws''.the-laws 2 Path'.refl Path'.refl (λ v. Val.vcons (Laws''.the-laws .1 .1 .0 .0 .val (v .0)) Val.vnil) (λ v. Path'.refl) 0 (Syntax.tyInt Syntax.w64) 8 Path'.refl, Path'.refl) (Reads.room-gone 𝓤 H A (Syntax.tyInt Syntax.w64)) (Scalar.holds-sc 𝓤 H A W (Row.sInt Syntax.w64)) Path'.refl (λ u. Path'.refl) λ u. tt) d25
+          d26 = Typed.s-seq 𝓤 H A W 𝓣 E G17 G18 b6 b21 Δ1 (Typed.pass T17 T18 s15) at25 (Scalar.t-use 𝓤 H A W E 𝓣 G17 (Scalar.oFld 5 (List._∷_ (Syntax.variant 2) (List._∷_ (Syntax.field 1) List.[])) (Syntax.tyInt Syntax.w64) 8 λ v. Laws'.the-laws .1 .1 .0 .0 .val (v .0)) 8 (Rows'.sc-here (Row.sInt Syntax.w64)) (Syntax.tyInt Syntax.w64) (Row.valS (Row.sInt Syntax.w64)) (Row.sInt Syntax.w64 .of) (Match.reads-payload 𝓤 H A W Verdict.enum Laws'.the-laws 2 Path'.refl Path'.refl (λ v. Val.vcons (Laws'.the-laws .1 .1 .0 .0 .val (v .0)) Val.vnil) (λ v. Path'.refl) 0 (Syntax.tyInt Syntax.w64) 8 Path'.refl, Path'.refl) (Reads.room-gone 𝓤 H A (Syntax.tyInt Syntax.w64)) (Scalar.holds-sc 𝓤 H A W (Row.sInt Syntax.w64)) Path'.refl (λ u. Path'.refl) λ u. tt) d25
 
           d27 : Typed.Typed 𝓤 H A 𝓣 E G16 b22 Δ1 at27
-          d27 = Typed.g-pre 𝓤 H A W 𝓣 E G16 G17 b22 Δ1 (Typed.give s14) at26 (Known.g-known-told 𝓤 H A W E Verdict.enum 2 G16 5 Laws''.the-laws (λ x. x) (Reads.as-is 𝓤 H A (Rows'.whole (Known.Known Verdict.enum 2)))) d26
+          d27 = Typed.g-pre 𝓤 H A W 𝓣 E G16 G17 b22 Δ1 (Typed.give s14) at26 (Known.g-known-told 𝓤 H A W E Verdict.enum 2 G16 5 Laws'.the-laws (λ x. x) (Reads.as-is 𝓤 H A (Rows'.whole (Known.Known Verdict.enum 2)))) d26
 
           d28 : Typed.Typed 𝓤 H A 𝓣 E G3 b22 Δ1 at28
           d28 = Typed.g-pre 𝓤 H A W 𝓣 E G3 G16 b22 Δ1 (Typed.both s13) at27 (Known.g-enum-known 𝓤 H A W E Verdict.enum 2 G3 5 (λ x. x) (Reads.as-is 𝓤 H A (Rows'.whole (Declared.row Verdict.the-type)))) d27
 
           d29 : Typed.Typed 𝓤 H A 𝓣 E G48 b29 Δ1 at29
-          d29 = Typed.s-typed 𝓤 H A W 𝓣 E G48 b29 Δ1 (λ Ψ. Typed.both s46 (Typed.pass T49 T50 s47 (Typed.both s49 (Typed.both s52 (Typed.ask s55 Ψ))))) tt (Typed.g-post 𝓤 H A W 𝓣 E G48 G58 G59 b29 (λ Ψ. Typed.both s46 (Typed.pass T49 T50 s47 (Typed.both s49 (Typed.both s52 (Typed.ask s55 Ψ))))) (λ Ψ. Ψ) (Typed.g-post 𝓤 H A W 𝓣 E G48 G57 G58 b29 (λ Ψ. Typed.both s46 (Typed.pass T49 T50 s47 (Typed.both s49 (Typed.both s52 Ψ)))) (Typed.ask s55) (Typed.g-post 𝓤 H A W 𝓣 E G48 G56 G57 b29 (λ Ψ. Typed.both s46 (Typed.pass T49 T50 s47 (Typed.both s49 (Typed.both s52 Ψ)))) (λ Ψ. Ψ) (Typed.g-post 𝓤 H A W 𝓣 E G48 G55 G56 b29 (λ Ψ. Typed.both s46 (Typed.pass T49 T50 s47 (Typed.both s49 (Typed.both s52 Ψ)))) (λ Ψ. Ψ) (Typed.g-post 𝓤 H A W 𝓣 E G48 G54 G55 b29 (λ Ψ. Typed.both s46 (Typed.pass T49 T50 s47 (Typed.both s49 Ψ))) (Typed.both s52) (Typed.g-post 𝓤 H A W 𝓣 E G48 G53 G54 b29 (λ Ψ. Typed.both s46 (Typed.pass T49 T50 s47 (Typed.both s49 Ψ))) (λ Ψ. Ψ) (Typed.g-post 𝓤 H A W 𝓣 E G48 G52 G53 b29 (λ Ψ. Typed.both s46 (Typed.pass T49 T50 s47 (Typed.both s49 Ψ))) (λ Ψ. Ψ) (Typed.g-post 𝓤 H A W 𝓣 E G48 G51 G52 b29 (λ Ψ. Typed.both s46 (Typed.pass T49 T50 s47 Ψ)) (Typed.both s49) (Typed.g-post 𝓤 H A W 𝓣 E G48 G50 G51 b29 (λ Ψ. Typed.both s46 (Typed.pass T49 T50 s47 Ψ)) (λ Ψ. Ψ) (Typed.g-post 𝓤 H A W 𝓣 E G48 G49 G50 b29 (Typed.both s46) (Typed.pass T49 T50 s47) (Plain.t-call-plain 𝓤 H A W 𝓣 4 ps·3 r·3 (claims· .6) (claims· .7) "panel::arrive" (known .3) E (λ pos β. β) G48 (record { pos = 18; ty = Syntax.tyRef Syntax.erased Syntax.mut OfOutput.named; ref = λ x. x }, (record { pos = 20; ty = Syntax.tyRef Syntax.erased Syntax.mut OfStation.named; ref = λ x. x }, (record { pos = 21; ty = Syntax.tyRef Syntax.erased Syntax.mut OfPanelRecord.named; ref = λ x. x }, (record { pos = 4; ty = Syntax.tyRef (Syntax.named 3) Syntax.imm (Syntax.tyInt Syntax.w8); ref = λ x. x }, (record { pos = 12; st = List.[]; d = 0; at = λ x. x }, tt))))) 13 (List._∷_ 5 (List._∷_ 6 (List._∷_ 7 (List._∷_ 3 List.[])))) (Call'.sub-id 𝓤 H A W (G48 .slots)) (Reads.as-is 𝓤 H A (Mut.mslice (OfOutput.row) (Syntax.tyRef Syntax.erased Syntax.mut OfOutput.named) 5), Mut.reads-mslice 𝓤 H A W (OfOutput.row) (Syntax.tyRef Syntax.erased Syntax.mut OfOutput.named) 5, Path'.refl, (Reads.as-is 𝓤 H A (Mut.mslice (OfStation.row) (Syntax.tyRef Syntax.erased Syntax.mut OfStation.named) 6), Mut.reads-mslice 𝓤 H A W (OfStation.row) (Syntax.tyRef Syntax.erased Syntax.mut OfStation.named) 6, Path'.refl, (Reads.as-is 𝓤 H A (Rows'.mref (OfPanelRecord.row) (Syntax.tyRef Syntax.erased Syntax.mut OfPanelRecord.named) 7), Reads.reads-mref 𝓤 H A W (OfPanelRecord.row) (Syntax.tyRef Syntax.erased Syntax.mut OfPanelRecord.named) 7, Path'.refl, (ShrSlice.spares-sslice 𝓤 H A W (Referent.rtF (Referent.fInt Syntax.w8)) (Syntax.tyRef (Syntax.named 3) Syntax.imm (Syntax.tyInt Syntax.w8)) 3, Shared.reads-sslice 𝓤 H A W (Referent.rtF (Referent.fInt Syntax.w8)) (Syntax.tyRef (Syntax.named 3) Syntax.imm (Syntax.tyInt Syntax.w8)) 3, Path'.refl, ((Yields.yields-copy 𝓤 H A W (λ ρ. Unit) (Declared'.row Call.the-type) Path'.refl (Copies.cStruct Call.the-type Laws'.the-laws Laws'.the-copy .copy 𝓤 H A W) (Rows'.whole (Declared'.row Call.the-type)) (λ x. x) (λ x. x) (λ ρ told. Local.mem-whole 𝓤 H A W (Declared'.row Call.the-type) ρ) λ ρ told. Local.whole-mem 𝓤 H A W (Declared'.row Call.the-type) ρ, Path'.refl), tt))))) (Reads.room-gone 𝓤 H A (Laws.mir)) (tt, (tt, (tt, (tt, tt)))) Path'.refl) (Scalar.g-room 𝓤 H A W E G49 12 (Laws'.mir) (Local.room-whole 𝓤 H A W (Declared'.row Call.the-type) (Laws'.mir) Path'.refl))) (Lifetime.g-end 𝓤 H A W E G50 5 Path'.refl)) (Relend.g-back-sl 𝓤 H A W E (OfOutput.row) G51 18 1 0 5 (Syntax.tyRef (Syntax.named 0) Syntax.mut OfOutput.named) (Syntax.tyRef Syntax.erased Syntax.mut OfOutput.named) (Row.lease (κs .0) (qs .0)) (λ x. x) (λ x. x) (Reads.as-is 𝓤 H A (Mut.msleft (OfOutput.row) (Syntax.tyRef Syntax.erased Syntax.mut OfOutput.named))) (Reads.as-is 𝓤 H A (Relend.mslice-owed (OfOutput.row) (Syntax.tyRef (Syntax.named 0) Syntax.mut OfOutput.named) 0 5 (Row.lease (κs .0) (qs .0)))) Path'.refl Path'.refl)) (Lifetime.g-forget 𝓤 H A W E G52 5 Row.dead Path'.refl)) (Lifetime.g-end 𝓤 H A W E G53 6 Path'.refl)) (Relend.g-back-sl 𝓤 H A W E (OfStation.row) G54 20 2 1 6 (Syntax.tyRef (Syntax.named 1) Syntax.mut OfStation.named) (Syntax.tyRef Syntax.erased Syntax.mut OfStation.named) (Row.lease (κs .1 .0) (qs .1 .0)) (λ x. x) (λ x. x) (Reads.as-is 𝓤 H A (Mut.msleft (OfStation.row) (Syntax.tyRef Syntax.erased Syntax.mut OfStation.named))) (Reads.as-is 𝓤 H A (Relend.mslice-owed (OfStation.row) (Syntax.tyRef (Syntax.named 1) Syntax.mut OfStation.named) 1 6 (Row.lease (κs .1 .0) (qs .1 .0)))) Path'.refl Path'.refl)) (Lifetime.g-forget 𝓤 H A W E G55 6 Row.dead Path'.refl)) (Lifetime.g-end 𝓤 H A W E G56 7 Path'.refl)) (Reborrow.g-back-mref 𝓤 H A W E G57 21 3 2 7 (OfPanelRecord.row) (Syntax.tyRef (Syntax.named 2) Syntax.mut OfPanelRecord.named) (Syntax.tyRef Syntax.erased Syntax.mut OfPanelRecord.named) (Row.lease (κs .1 .1 .0) (qs .1 .1 .0)) (λ x. x) (λ x. x) (Reads.as-is 𝓤 H A (Rows'.mleft (OfPanelRecord.row) (Syntax.tyRef Syntax.erased Syntax.mut OfPanelRecord.named))) (Reads.as-is 𝓤 H A (Rows'.mref-owed (OfPanelRecord.row) (Syntax.tyRef (Syntax.named 2) Syntax.mut OfPanelRecord.named) 2 7 (Row.lease (κs .1 .1 .0) (qs .1 .1 .0)))) Path'.refl Path'.refl)) (Lifetime.g-forget 𝓤 H A W E G58 7 Row.dead Path'.refl))
+          d29 = Typed.s-typed 𝓤 H A W 𝓣 E G48 b29 Δ1 (λ Ψ. Typed.both s46 (Typed.pass T49 T50 s47 (Typed.both s49 (Typed.both s52 (Typed.ask s55 Ψ))))) tt (Typed.g-post 𝓤 H A W 𝓣 E G48 G58 G59 b29 (λ Ψ. Typed.both s46 (Typed.pass T49 T50 s47 (Typed.both s49 (Typed.both s52 (Typed.ask s55 Ψ))))) (λ Ψ. Ψ) (Typed.g-post 𝓤 H A W 𝓣 E G48 G57 G58 b29 (λ Ψ. Typed.both s46 (Typed.pass T49 T50 s47 (Typed.both s49 (Typed.both s52 Ψ)))) (Typed.ask s55) (Typed.g-post 𝓤 H A W 𝓣 E G48 G56 G57 b29 (λ Ψ. Typed.both s46 (Typed.pass T49 T50 s47 (Typed.both s49 (Typed.both s52 Ψ)))) (λ Ψ. Ψ) (Typed.g-post 𝓤 H A W 𝓣 E G48 G55 G56 b29 (λ Ψ. Typed.both s46 (Typed.pass T49 T50 s47 (Typed.both s49 (Typed.both s52 Ψ)))) (λ Ψ. Ψ) (Typed.g-post 𝓤 H A W 𝓣 E G48 G54 G55 b29 (λ Ψ. Typed.both s46 (Typed.pass T49 T50 s47 (Typed.both s49 Ψ))) (Typed.both s52) (Typed.g-post 𝓤 H A W 𝓣 E G48 G53 G54 b29 (λ Ψ. Typed.both s46 (Typed.pass T49 T50 s47 (Typed.both s49 Ψ))) (λ Ψ. Ψ) (Typed.g-post 𝓤 H A W 𝓣 E G48 G52 G53 b29 (λ Ψ. Typed.both s46 (Typed.pass T49 T50 s47 (Typed.both s49 Ψ))) (λ Ψ. Ψ) (Typed.g-post 𝓤 H A W 𝓣 E G48 G51 G52 b29 (λ Ψ. Typed.both s46 (Typed.pass T49 T50 s47 Ψ)) (Typed.both s49) (Typed.g-post 𝓤 H A W 𝓣 E G48 G50 G51 b29 (λ Ψ. Typed.both s46 (Typed.pass T49 T50 s47 Ψ)) (λ Ψ. Ψ) (Typed.g-post 𝓤 H A W 𝓣 E G48 G49 G50 b29 (Typed.both s46) (Typed.pass T49 T50 s47) (Plain.t-call-plain 𝓤 H A W 𝓣 4 ps·3 r·3 (claims· .6) (claims· .7) "panel::arrive" (known .3) E (λ pos β. β) G48 (record { pos = 18; ty = Syntax.tyRef Syntax.erased Syntax.mut OfOutput.named; ref = λ x. x }, (record { pos = 20; ty = Syntax.tyRef Syntax.erased Syntax.mut OfStation.named; ref = λ x. x }, (record { pos = 21; ty = Syntax.tyRef Syntax.erased Syntax.mut OfPanelRecord.named; ref = λ x. x }, (record { pos = 4; ty = Syntax.tyRef (Syntax.named 3) Syntax.imm (Syntax.tyInt Syntax.w8); ref = λ x. x }, (record { pos = 12; st = List.[]; d = 0; at = λ x. x }, tt))))) 13 (List._∷_ 5 (List._∷_ 6 (List._∷_ 7 (List._∷_ 3 List.[])))) (Call'.sub-id 𝓤 H A W (G48 .slots)) (Reads.as-is 𝓤 H A (Mut.mslice (OfOutput.row) (Syntax.tyRef Syntax.erased Syntax.mut OfOutput.named) 5), Mut.reads-mslice 𝓤 H A W (OfOutput.row) (Syntax.tyRef Syntax.erased Syntax.mut OfOutput.named) 5, Path'.refl, (Reads.as-is 𝓤 H A (Mut.mslice (OfStation.row) (Syntax.tyRef Syntax.erased Syntax.mut OfStation.named) 6), Mut.reads-mslice 𝓤 H A W (OfStation.row) (Syntax.tyRef Syntax.erased Syntax.mut OfStation.named) 6, Path'.refl, (Reads.as-is 𝓤 H A (Rows'.mref (OfPanelRecord.row) (Syntax.tyRef Syntax.erased Syntax.mut OfPanelRecord.named) 7), Reads.reads-mref 𝓤 H A W (OfPanelRecord.row) (Syntax.tyRef Syntax.erased Syntax.mut OfPanelRecord.named) 7, Path'.refl, (ShrSlice.spares-sslice 𝓤 H A W (Referent.rtF (Referent.fInt Syntax.w8)) (Syntax.tyRef (Syntax.named 3) Syntax.imm (Syntax.tyInt Syntax.w8)) 3, Shared.reads-sslice 𝓤 H A W (Referent.rtF (Referent.fInt Syntax.w8)) (Syntax.tyRef (Syntax.named 3) Syntax.imm (Syntax.tyInt Syntax.w8)) 3, Path'.refl, ((Yields.yields-copy 𝓤 H A W (λ ρ. Unit) (Declared'.row Call.the-type) Path'.refl (Copies.cStruct Call.the-type Laws.the-laws Laws.the-copy .copy 𝓤 H A W) (Rows'.whole (Declared'.row Call.the-type)) (λ x. x) (λ x. x) (λ ρ told. Local.mem-whole 𝓤 H A W (Declared'.row Call.the-type) ρ) λ ρ told. Local.whole-mem 𝓤 H A W (Declared'.row Call.the-type) ρ, Path'.refl), tt))))) (Reads.room-gone 𝓤 H A (Laws''.mir)) (tt, (tt, (tt, (tt, tt)))) Path'.refl) (Scalar.g-room 𝓤 H A W E G49 12 (Laws.mir) (Local.room-whole 𝓤 H A W (Declared'.row Call.the-type) (Laws.mir) Path'.refl))) (Lifetime.g-end 𝓤 H A W E G50 5 Path'.refl)) (Relend.g-back-sl 𝓤 H A W E (OfOutput.row) G51 18 1 0 5 (Syntax.tyRef (Syntax.named 0) Syntax.mut OfOutput.named) (Syntax.tyRef Syntax.erased Syntax.mut OfOutput.named) (Row.lease (κs .0) (qs .0)) (λ x. x) (λ x. x) (Reads.as-is 𝓤 H A (Mut.msleft (OfOutput.row) (Syntax.tyRef Syntax.erased Syntax.mut OfOutput.named))) (Reads.as-is 𝓤 H A (Relend.mslice-owed (OfOutput.row) (Syntax.tyRef (Syntax.named 0) Syntax.mut OfOutput.named) 0 5 (Row.lease (κs .0) (qs .0)))) Path'.refl Path'.refl)) (Lifetime.g-forget 𝓤 H A W E G52 5 Row.dead Path'.refl)) (Lifetime.g-end 𝓤 H A W E G53 6 Path'.refl)) (Relend.g-back-sl 𝓤 H A W E (OfStation.row) G54 20 2 1 6 (Syntax.tyRef (Syntax.named 1) Syntax.mut OfStation.named) (Syntax.tyRef Syntax.erased Syntax.mut OfStation.named) (Row.lease (κs .1 .0) (qs .1 .0)) (λ x. x) (λ x. x) (Reads.as-is 𝓤 H A (Mut.msleft (OfStation.row) (Syntax.tyRef Syntax.erased Syntax.mut OfStation.named))) (Reads.as-is 𝓤 H A (Relend.mslice-owed (OfStation.row) (Syntax.tyRef (Syntax.named 1) Syntax.mut OfStation.named) 1 6 (Row.lease (κs .1 .0) (qs .1 .0)))) Path'.refl Path'.refl)) (Lifetime.g-forget 𝓤 H A W E G55 6 Row.dead Path'.refl)) (Lifetime.g-end 𝓤 H A W E G56 7 Path'.refl)) (Reborrow.g-back-mref 𝓤 H A W E G57 21 3 2 7 (OfPanelRecord.row) (Syntax.tyRef (Syntax.named 2) Syntax.mut OfPanelRecord.named) (Syntax.tyRef Syntax.erased Syntax.mut OfPanelRecord.named) (Row.lease (κs .1 .1 .0) (qs .1 .1 .0)) (λ x. x) (λ x. x) (Reads.as-is 𝓤 H A (Rows'.mleft (OfPanelRecord.row) (Syntax.tyRef Syntax.erased Syntax.mut OfPanelRecord.named))) (Reads.as-is 𝓤 H A (Rows'.mref-owed (OfPanelRecord.row) (Syntax.tyRef (Syntax.named 2) Syntax.mut OfPanelRecord.named) 2 7 (Row.lease (κs .1 .1 .0) (qs .1 .1 .0)))) Path'.refl Path'.refl)) (Lifetime.g-forget 𝓤 H A W E G58 7 Row.dead Path'.refl))
 
           d30 : Typed.Typed 𝓤 H A 𝓣 E G47 b30 Δ1 at30
           d30 = Typed.s-seq 𝓤 H A W 𝓣 E G47 G48 b28 b29 Δ1 (Typed.give s45) at29 (Reborrow.t-mref-relend 𝓤 H A W E 𝓣 G47 3 21 2 7 (OfPanelRecord.row) OfPanelRecord.spelt (Syntax.tyRef (Syntax.named 2) Syntax.mut OfPanelRecord.named) (Syntax.tyRef Syntax.erased Syntax.mut OfPanelRecord.named) (Row.lease (κs .1 .1 .0) (qs .1 .1 .0)) (λ x. x) (Reads.as-is 𝓤 H A (Rows'.mref (OfPanelRecord.row) (Syntax.tyRef (Syntax.named 2) Syntax.mut OfPanelRecord.named) 2)) (Reads.room-gone 𝓤 H A (Syntax.tyRef Syntax.erased Syntax.mut OfPanelRecord.named)) Path'.refl tt Path'.refl Path'.refl λ b o. tt) d29
@@ -1177,19 +1177,19 @@ module _ (claims· : Claims) where
           d37 = Typed.g-pre 𝓤 H A W 𝓣 E G40 G41 b34 Δ1 (λ Ψ. Ψ) at36 (Lifetime.g-begin 𝓤 H A W E G40 5 (tt, (tt, (tt, (tt, (tt, (tt, (tt, (tt, (tt, (tt, (tt, (tt, (tt, (tt, (tt, (tt, (tt, (tt, (tt, (tt, (tt, (tt, tt))))))))))))))))))))))) d36
 
           d38 : Typed.Typed 𝓤 H A 𝓣 E G39 b34 Δ1 at38
-          d38 = Typed.g-pre 𝓤 H A W 𝓣 E G39 G40 b34 Δ1 (Typed.pass T39 T40 s37) at37 (Scalar.g-room 𝓤 H A W E G39 5 (Laws''.mir) (Local.room-whole 𝓤 H A W (Known.Known Verdict.enum 3) (Laws''.mir) Path'.refl)) d37
+          d38 = Typed.g-pre 𝓤 H A W 𝓣 E G39 G40 b34 Δ1 (Typed.pass T39 T40 s37) at37 (Scalar.g-room 𝓤 H A W E G39 5 (Laws'.mir) (Local.room-whole 𝓤 H A W (Known.Known Verdict.enum 3) (Laws'.mir) Path'.refl)) d37
 
           d39 : Typed.Typed 𝓤 H A 𝓣 E G38 b35 Δ1 at39
-          d39 = Typed.s-seq 𝓤 H A W 𝓣 E G38 G39 b23 b34 Δ1 (Typed.pass T38 T39 s36) at38 (CopyOut.t-copy-told 𝓤 H A W E 𝓣 (Declared'.row Call.the-type) Path'.refl (Laws'4.val Call.the-type Laws'.the-laws) (Laws'4.lawful Call.the-type Laws'.the-laws 𝓤 H A W) (Laws'4.makes Call.the-type Laws'.the-plain 𝓤 H A) G38 12 (Scalar.oFld 5 (List._∷_ (Syntax.variant 3) (List._∷_ (Syntax.field 1) List.[])) (Laws'.mir) 8 λ v. Laws'4.val Call.the-type Laws'.the-laws (v .0)) (λ m. m .1 .1 .1 .1 .1 .0 .0) (λ m. Laws'3.Fields (Declared.variants Verdict.the-type) (Laws'3.spellss (Verdict.enum .parts) Laws''.the-laws) (Verdict.the-type .to (Known.at Verdict.enum 3 (m .1 .1 .1 .1 .1 .0)))) (Reads.room-gone 𝓤 H A (Laws'.mir)) (Match.reads-payload 𝓤 H A W Verdict.enum Laws''.the-laws 3 Path'.refl Path'.refl (λ v. Val.vcons (Laws'4.val Call.the-type Laws'.the-laws (v .0)) Val.vnil) (λ v. Path'.refl) 0 (Laws'.mir) 8 Path'.refl, Path'.refl) Path'.refl (λ ρ m. Make'.tells-row 𝓤 H A W E ρ (Row.out 12 (G38 .locals)) m 5 (Laws'3.Fields (Declared.variants Verdict.the-type) (Laws'3.spellss (Verdict.enum .parts) Laws''.the-laws) (Verdict.the-type .to (Known.at Verdict.enum 3 (m .1 .1 .1 .1 .1 .0)))) (Known.known-is 𝓤 H A W E Verdict.enum 3 Laws''.the-laws ρ 5 (m .1 .1 .1 .1 .1 .0))) (λ m k wa. Path'.refl) λ m k wa. k .0) d38
+          d39 = Typed.s-seq 𝓤 H A W 𝓣 E G38 G39 b23 b34 Δ1 (Typed.pass T38 T39 s36) at38 (CopyOut.t-copy-told 𝓤 H A W E 𝓣 (Declared'.row Call.the-type) Path'.refl (Laws'4.val Call.the-type Laws.the-laws) (Laws'4.lawful Call.the-type Laws.the-laws 𝓤 H A W) (Laws'4.makes Call.the-type Laws.the-plain 𝓤 H A) G38 12 (Scalar.oFld 5 (List._∷_ (Syntax.variant 3) (List._∷_ (Syntax.field 1) List.[])) (Laws.mir) 8 λ v. Laws'4.val Call.the-type Laws.the-laws (v .0)) (λ m. m .1 .1 .1 .1 .1 .0 .0) (λ m. Laws'3.Fields (Declared.variants Verdict.the-type) (Laws'3.spellss (Verdict.enum .parts) Laws'.the-laws) (Verdict.the-type .to (Known.at Verdict.enum 3 (m .1 .1 .1 .1 .1 .0)))) (Reads.room-gone 𝓤 H A (Laws.mir)) (Match.reads-payload 𝓤 H A W Verdict.enum Laws'.the-laws 3 Path'.refl Path'.refl (λ v. Val.vcons (Laws'4.val Call.the-type Laws.the-laws (v .0)) Val.vnil) (λ v. Path'.refl) 0 (Laws.mir) 8 Path'.refl, Path'.refl) Path'.refl (λ ρ m. Make'.tells-row 𝓤 H A W E ρ (Row.out 12 (G38 .locals)) m 5 (Laws'3.Fields (Declared.variants Verdict.the-type) (Laws'3.spellss (Verdict.enum .parts) Laws'.the-laws) (Verdict.the-type .to (Known.at Verdict.enum 3 (m .1 .1 .1 .1 .1 .0)))) (Known.known-is 𝓤 H A W E Verdict.enum 3 Laws'.the-laws ρ 5 (m .1 .1 .1 .1 .1 .0))) (λ m k wa. Path'.refl) λ m k wa. k .0) d38
 
           d40 : Typed.Typed 𝓤 H A 𝓣 E G37 b35 Δ1 at40
-          d40 = Typed.g-pre 𝓤 H A W 𝓣 E G37 G38 b35 Δ1 (Typed.give s35) at39 (Known.g-known-told 𝓤 H A W E Verdict.enum 3 G37 5 Laws''.the-laws (λ x. x) (Reads.as-is 𝓤 H A (Rows'.whole (Known.Known Verdict.enum 3)))) d39
+          d40 = Typed.g-pre 𝓤 H A W 𝓣 E G37 G38 b35 Δ1 (Typed.give s35) at39 (Known.g-known-told 𝓤 H A W E Verdict.enum 3 G37 5 Laws'.the-laws (λ x. x) (Reads.as-is 𝓤 H A (Rows'.whole (Known.Known Verdict.enum 3)))) d39
 
           d41 : Typed.Typed 𝓤 H A 𝓣 E G3 b35 Δ1 at41
           d41 = Typed.g-pre 𝓤 H A W 𝓣 E G3 G37 b35 Δ1 (Typed.both s34) at40 (Known.g-enum-known 𝓤 H A W E Verdict.enum 3 G3 5 (λ x. x) (Reads.as-is 𝓤 H A (Rows'.whole (Declared.row Verdict.the-type)))) d40
 
           d42 : Typed.Typed 𝓤 H A 𝓣 E G3 b36 Δ1 at42
-          d42 = Switch.t-switch-on 𝓤 H A W E 𝓣 G3 (Scalar.oFld 5 (List._∷_ (Syntax.variant 0) (List._∷_ (Syntax.field 0) List.[])) (Syntax.tyInt Syntax.w8) 0 λ x. Val.vint Syntax.w8 (Declared.tagOf Verdict.the-type x)) Syntax.w8 (λ u. Declared.tagOf Verdict.the-type (u .1 .1 .1 .1 .1 .0)) (Syntax.arm (List._∷_ 0 List.[]) b2 (Syntax.arm (List._∷_ 1 List.[]) b5 (Syntax.arm (List._∷_ 2 List.[]) b22 (Syntax.arm (List._∷_ 3 List.[]) b35 Syntax.noDefault)))) Δ1 (at4, (at9, (at28, (at41, tt)))) (Match.reads-tag 𝓤 H A W Verdict.the-type Laws''.the-laws (Rows'.whole (Declared.row Verdict.the-type)) 0 (λ x. x) (Whole.reads-enum 𝓤 H A W Verdict.the-type Laws''.the-laws), Path'.refl) (λ u. Path'.refl) (d4, (d9, (d28, (d41, tt))))
+          d42 = Switch.t-switch-on 𝓤 H A W E 𝓣 G3 (Scalar.oFld 5 (List._∷_ (Syntax.variant 0) (List._∷_ (Syntax.field 0) List.[])) (Syntax.tyInt Syntax.w8) 0 λ x. Val.vint Syntax.w8 (Declared.tagOf Verdict.the-type x)) Syntax.w8 (λ u. Declared.tagOf Verdict.the-type (u .1 .1 .1 .1 .1 .0)) (Syntax.arm (List._∷_ 0 List.[]) b2 (Syntax.arm (List._∷_ 1 List.[]) b5 (Syntax.arm (List._∷_ 2 List.[]) b22 (Syntax.arm (List._∷_ 3 List.[]) b35 Syntax.noDefault)))) Δ1 (at4, (at9, (at28, (at41, tt)))) (Match.reads-tag 𝓤 H A W Verdict.the-type Laws'.the-laws (Rows'.whole (Declared.row Verdict.the-type)) 0 (λ x. x) (Whole.reads-enum 𝓤 H A W Verdict.the-type Laws'.the-laws), Path'.refl) (λ u. Path'.refl) (d4, (d9, (d28, (d41, tt))))
 
           d43 : Typed.Typed 𝓤 H A 𝓣 E G0 b36 Δ1 at43
           d43 = Typed.g-pre 𝓤 H A W 𝓣 E G0 G3 b36 Δ1 (Typed.give s0) at42 (Know.g-shs-known 𝓤 H A W (Referent.fInt Syntax.w8) E G0 4 3 (Syntax.tyRef (Syntax.named 3) Syntax.imm (Syntax.tyInt Syntax.w8)) (Row.lease (κs .1 .1 .1 .0) (qs .1 .1 .1 .0)) 0 (λ x. x) record { fits = Dec'.lit< tt } (Reads.as-is 𝓤 H A (Rows'.sslice (Referent.rtF (Referent.fInt Syntax.w8)) (Syntax.tyRef (Syntax.named 3) Syntax.imm (Syntax.tyInt Syntax.w8)) 3)) Path'.refl tt) d42
@@ -1198,10 +1198,10 @@ module _ (claims· : Claims) where
           d44 = Typed.t-return 𝓤 H A W 𝓣 E Δ0 tt
 
           d45 : Typed.Typed 𝓤 H A 𝓣 E G60 b38 Δ0 at45
-          d45 = Typed.g-pre 𝓤 H A W 𝓣 E G60 G61 b38 Δ0 (Typed.pass T60 T61 s58) at44 (Scalar.g-room 𝓤 H A W E G60 13 (Laws.mir) (Local.room-whole 𝓤 H A W (Declared.row Answer.the-type) (Laws.mir) Path'.refl)) d44
+          d45 = Typed.g-pre 𝓤 H A W 𝓣 E G60 G61 b38 Δ0 (Typed.pass T60 T61 s58) at44 (Scalar.g-room 𝓤 H A W E G60 13 (Laws''.mir) (Local.room-whole 𝓤 H A W (Declared.row Answer.the-type) (Laws''.mir) Path'.refl)) d44
 
           d46 : Typed.Typed 𝓤 H A 𝓣 E G2 b39 Δ0 at46
-          d46 = Typed.s-seq 𝓤 H A W 𝓣 E G2 G60 b37 b38 Δ0 (Typed.pass T2 T60 s57) at45 (LocalCopy.t-val-copy 𝓤 H A W E 𝓣 (λ ρ. Unit) G2 13 0 (Declared.row Answer.the-type) (Laws.mir) (Laws.mir) (Rows'.whole (Declared.row Answer.the-type)) (Rows'.whole (Declared.row Answer.the-type)) (λ x. x) (λ x. x) (λ x. x) Path'.refl (Own.told-none 𝓤 H A (G2 .slots)) (Yields.yields-copy 𝓤 H A W (λ ρ. Unit) (Declared.row Answer.the-type) Path'.refl (Copies.cEnum Answer.the-type Laws.the-laws Laws.the-copy .copy 𝓤 H A W) (Rows'.whole (Declared.row Answer.the-type)) (λ x. x) (λ x. x) (λ ρ told. Local.mem-whole 𝓤 H A W (Declared.row Answer.the-type) ρ) λ ρ told. Local.whole-mem 𝓤 H A W (Declared.row Answer.the-type) ρ) (Reads.room-gone 𝓤 H A (Laws.mir)) (Yields.makes-mem 𝓤 H A W (λ ρ. Unit) (Declared.row Answer.the-type) Path'.refl (Rows'.whole (Declared.row Answer.the-type)) (λ x. x) λ ρ told. Local.whole-mem 𝓤 H A W (Declared.row Answer.the-type) ρ) Path'.refl Path'.refl) d45
+          d46 = Typed.s-seq 𝓤 H A W 𝓣 E G2 G60 b37 b38 Δ0 (Typed.pass T2 T60 s57) at45 (LocalCopy.t-val-copy 𝓤 H A W E 𝓣 (λ ρ. Unit) G2 13 0 (Declared.row Answer.the-type) (Laws''.mir) (Laws''.mir) (Rows'.whole (Declared.row Answer.the-type)) (Rows'.whole (Declared.row Answer.the-type)) (λ x. x) (λ x. x) (λ x. x) Path'.refl (Own.told-none 𝓤 H A (G2 .slots)) (Yields.yields-copy 𝓤 H A W (λ ρ. Unit) (Declared.row Answer.the-type) Path'.refl (Copies.cEnum Answer.the-type Laws''.the-laws Laws''.the-copy .copy 𝓤 H A W) (Rows'.whole (Declared.row Answer.the-type)) (λ x. x) (λ x. x) (λ ρ told. Local.mem-whole 𝓤 H A W (Declared.row Answer.the-type) ρ) λ ρ told. Local.whole-mem 𝓤 H A W (Declared.row Answer.the-type) ρ) (Reads.room-gone 𝓤 H A (Laws''.mir)) (Yields.makes-mem 𝓤 H A W (λ ρ. Unit) (Declared.row Answer.the-type) Path'.refl (Rows'.whole (Declared.row Answer.the-type)) (λ x. x) λ ρ told. Local.whole-mem 𝓤 H A W (Declared.row Answer.the-type) ρ) Path'.refl Path'.refl) d45
 
           d47 : Typed.Typed 𝓤 H A 𝓣 E G0 b40 Δ0 at47
           d47 = Typed.t-seq 𝓤 H A W 𝓣 E G0 G2 b36 b39 Δ0 at43 at46 d43 d46
@@ -1236,16 +1236,16 @@ module _ (claims· : Claims) where
           pub v : Kinds.Den {n = 4} κs (Value.pVal record {
             ty = Declared.row Verdict.the-type;
             one = Path'.refl;
-            val = Laws'3.val Verdict.the-type Laws''.the-laws;
-            tells = Laws'3.tells Verdict.the-type Laws''.the-laws;
-            still = Laws'3.still Verdict.the-type Laws''.the-copy Exit.yes;
+            val = Laws'3.val Verdict.the-type Laws'.the-laws;
+            tells = Laws'3.tells Verdict.the-type Laws'.the-laws;
+            still = Laws'3.still Verdict.the-type Laws'.the-copy Exit.yes;
             row = Rows'.whole (Declared.row Verdict.the-type);
             rd = λ x. x;
             mk = λ x. x;
           } λ M 𝓤 H A W. record {
-            copies = Laws'3.copy Verdict.the-type Laws''.the-copy 𝓤 H A W;
-            lawful = Laws'3.lawful Verdict.the-type Laws''.the-laws 𝓤 H A W tt;
-            makes = Laws'3.makes Verdict.the-type Laws''.the-plain 𝓤 H A;
+            copies = Laws'3.copy Verdict.the-type Laws'.the-copy 𝓤 H A W;
+            lawful = Laws'3.lawful Verdict.the-type Laws'.the-laws 𝓤 H A W tt;
+            makes = Laws'3.makes Verdict.the-type Laws'.the-plain 𝓤 H A;
             in-mem = Local.mem-whole 𝓤 H A W (Declared.row Verdict.the-type);
             of-mem = Local.whole-mem 𝓤 H A W (Declared.row Verdict.the-type);
           })

@@ -1,14 +1,14 @@
 -- Made by tools/twin.py.
 use Prim.Native.Nat
-use Rattle.lighting_outputs.proofs.Answer
-use Rattle.lighting_outputs.proofs.Answer.Laws
-use Rattle.lighting_outputs.proofs.Lent.OfOutput as OfOutput
-use Rattle.lighting_panel.proofs.Lent.OfPanelRecord as OfPanelRecord
 use Rattle.lighting_frames.proofs.Lent.OfStation as OfStation
-use Rattle.lighting_outputs.proofs.Parameters
-use Rattle.lighting_outputs.proofs.Parameters.Laws as Laws'
 use Rattle.lighting_frames.proofs.Verdict
-use Rattle.lighting_frames.proofs.Verdict.Laws as Laws''
+use Rattle.lighting_frames.proofs.Verdict.Laws
+use Rattle.lighting_outputs.proofs.Answer
+use Rattle.lighting_outputs.proofs.Answer.Laws as Laws'
+use Rattle.lighting_outputs.proofs.Lent.OfOutput as OfOutput
+use Rattle.lighting_outputs.proofs.Parameters
+use Rattle.lighting_outputs.proofs.Parameters.Laws as Laws''
+use Rattle.lighting_panel.proofs.Lent.OfPanelRecord as OfPanelRecord
 use borrow.Author.Called
 use borrow.Enum.Make
 use borrow.Fn.Any
@@ -67,10 +67,10 @@ abbrev pub ps : List.List (Kinds.PK 4)
 ps = List._∷_ (MutSlice.pMutS (OfOutput.row) 0 tt) (List._∷_ (MutSlice.pMutS (OfStation.row) 1 tt) (List._∷_ (Kinds.pMut (OfPanelRecord.row) 2 tt) (List._∷_ (ShrSlice.pShrS (Referent.rtF (Referent.fInt Syntax.w8)) 3 tt) List.[])))
 
 abbrev pub r : Kinds.RK 4
-r = Value.rVal record { ty = Declared.row Answer.the-type; one = Path'.refl; val = Laws'3.val Answer.the-type Laws.the-laws; tells = Laws'3.tells Answer.the-type Laws.the-laws; still = Laws'3.still Answer.the-type Laws.the-copy Exit.yes; row = Rows'.whole (Declared.row Answer.the-type); rd = λ x. x; mk = λ x. x } λ M 𝓤 H A W. record { copies = Laws'3.copy Answer.the-type Laws.the-copy 𝓤 H A W; lawful = Laws'3.lawful Answer.the-type Laws.the-laws 𝓤 H A W tt; makes = Laws'3.makes Answer.the-type Laws.the-plain 𝓤 H A; in-mem = Local.mem-whole 𝓤 H A W (Declared.row Answer.the-type); of-mem = Local.whole-mem 𝓤 H A W (Declared.row Answer.the-type) }
+r = Value.rVal record { ty = Declared.row Answer.the-type; one = Path'.refl; val = Laws'3.val Answer.the-type Laws'.the-laws; tells = Laws'3.tells Answer.the-type Laws'.the-laws; still = Laws'3.still Answer.the-type Laws'.the-copy Exit.yes; row = Rows'.whole (Declared.row Answer.the-type); rd = λ x. x; mk = λ x. x } λ M 𝓤 H A W. record { copies = Laws'3.copy Answer.the-type Laws'.the-copy 𝓤 H A W; lawful = Laws'3.lawful Answer.the-type Laws'.the-laws 𝓤 H A W tt; makes = Laws'3.makes Answer.the-type Laws'.the-plain 𝓤 H A; in-mem = Local.mem-whole 𝓤 H A W (Declared.row Answer.the-type); of-mem = Local.whole-mem 𝓤 H A W (Declared.row Answer.the-type) }
 
 abbrev pub xs : List.List Syntax.Ty
-xs = List._∷_ OfPanelRecord.spelt (List._∷_ (Laws'.mir) (List._∷_ (Laws''.mir) (List._∷_ Syntax.tyBool (List._∷_ (Syntax.tyRef Syntax.erased Syntax.imm OfOutput.named) (List._∷_ (Syntax.tyStruct (List._∷_ 38 (List._∷_ 91 (List._∷_ 93 List.[]))) (Syntax.tcons (Syntax.tyRef Syntax.erased Syntax.imm OfOutput.named) (Syntax.tcons (Syntax.tyInt Syntax.w64) Syntax.tnil))) (List._∷_ (Syntax.tyRef Syntax.erased Syntax.imm OfStation.named) (List._∷_ (Syntax.tyStruct (List._∷_ 38 (List._∷_ 91 (List._∷_ 93 List.[]))) (Syntax.tcons (Syntax.tyRef Syntax.erased Syntax.imm OfStation.named) (Syntax.tcons (Syntax.tyInt Syntax.w64) Syntax.tnil))) (List._∷_ Syntax.tyBool (List._∷_ (Syntax.tyRef Syntax.erased Syntax.imm OfOutput.named) (List._∷_ (Syntax.tyStruct (List._∷_ 38 (List._∷_ 91 (List._∷_ 93 List.[]))) (Syntax.tcons (Syntax.tyRef Syntax.erased Syntax.imm OfOutput.named) (Syntax.tcons (Syntax.tyInt Syntax.w64) Syntax.tnil))) (List._∷_ (Syntax.tyRef Syntax.erased Syntax.imm OfStation.named) (List._∷_ (Syntax.tyStruct (List._∷_ 38 (List._∷_ 91 (List._∷_ 93 List.[]))) (Syntax.tcons (Syntax.tyRef Syntax.erased Syntax.imm OfStation.named) (Syntax.tcons (Syntax.tyInt Syntax.w64) Syntax.tnil))) (List._∷_ (Syntax.tyRef Syntax.erased Syntax.mut OfOutput.named) (List._∷_ (Syntax.tyStruct (List._∷_ 38 (List._∷_ 91 (List._∷_ 93 List.[]))) (Syntax.tcons (Syntax.tyRef Syntax.erased Syntax.mut OfOutput.named) (Syntax.tcons (Syntax.tyInt Syntax.w64) Syntax.tnil))) (List._∷_ (Syntax.tyRef Syntax.erased Syntax.mut OfStation.named) (List._∷_ (Syntax.tyStruct (List._∷_ 38 (List._∷_ 91 (List._∷_ 93 List.[]))) (Syntax.tcons (Syntax.tyRef Syntax.erased Syntax.mut OfStation.named) (Syntax.tcons (Syntax.tyInt Syntax.w64) Syntax.tnil))) (List._∷_ (Syntax.tyRef Syntax.erased Syntax.mut OfPanelRecord.named) List.[])))))))))))))))))
+xs = List._∷_ OfPanelRecord.spelt (List._∷_ (Laws''.mir) (List._∷_ (Laws.mir) (List._∷_ Syntax.tyBool (List._∷_ (Syntax.tyRef Syntax.erased Syntax.imm OfOutput.named) (List._∷_ (Syntax.tyStruct (List._∷_ 38 (List._∷_ 91 (List._∷_ 93 List.[]))) (Syntax.tcons (Syntax.tyRef Syntax.erased Syntax.imm OfOutput.named) (Syntax.tcons (Syntax.tyInt Syntax.w64) Syntax.tnil))) (List._∷_ (Syntax.tyRef Syntax.erased Syntax.imm OfStation.named) (List._∷_ (Syntax.tyStruct (List._∷_ 38 (List._∷_ 91 (List._∷_ 93 List.[]))) (Syntax.tcons (Syntax.tyRef Syntax.erased Syntax.imm OfStation.named) (Syntax.tcons (Syntax.tyInt Syntax.w64) Syntax.tnil))) (List._∷_ Syntax.tyBool (List._∷_ (Syntax.tyRef Syntax.erased Syntax.imm OfOutput.named) (List._∷_ (Syntax.tyStruct (List._∷_ 38 (List._∷_ 91 (List._∷_ 93 List.[]))) (Syntax.tcons (Syntax.tyRef Syntax.erased Syntax.imm OfOutput.named) (Syntax.tcons (Syntax.tyInt Syntax.w64) Syntax.tnil))) (List._∷_ (Syntax.tyRef Syntax.erased Syntax.imm OfStation.named) (List._∷_ (Syntax.tyStruct (List._∷_ 38 (List._∷_ 91 (List._∷_ 93 List.[]))) (Syntax.tcons (Syntax.tyRef Syntax.erased Syntax.imm OfStation.named) (Syntax.tcons (Syntax.tyInt Syntax.w64) Syntax.tnil))) (List._∷_ (Syntax.tyRef Syntax.erased Syntax.mut OfOutput.named) (List._∷_ (Syntax.tyStruct (List._∷_ 38 (List._∷_ 91 (List._∷_ 93 List.[]))) (Syntax.tcons (Syntax.tyRef Syntax.erased Syntax.mut OfOutput.named) (Syntax.tcons (Syntax.tyInt Syntax.w64) Syntax.tnil))) (List._∷_ (Syntax.tyRef Syntax.erased Syntax.mut OfStation.named) (List._∷_ (Syntax.tyStruct (List._∷_ 38 (List._∷_ 91 (List._∷_ 93 List.[]))) (Syntax.tcons (Syntax.tyRef Syntax.erased Syntax.mut OfStation.named) (Syntax.tcons (Syntax.tyInt Syntax.w64) Syntax.tnil))) (List._∷_ (Syntax.tyRef Syntax.erased Syntax.mut OfPanelRecord.named) List.[])))))))))))))))))
 
 abbrev pub m : Nat.ℕ
 m = 7
@@ -79,25 +79,25 @@ abbrev pub ps·0 : List.List (Kinds.PK 0)
 ps·0 = List.[]
 
 abbrev pub r·0 : Kinds.RK 0
-r·0 = Value.rVal record { ty = Declared'.row Parameters.the-type; one = Path'.refl; val = Laws'4.val Parameters.the-type Laws'.the-laws; tells = Laws'4.tells Parameters.the-type Laws'.the-laws; still = Laws'4.still Parameters.the-type Laws'.the-copy Exit.yes; row = Rows'.whole (Declared'.row Parameters.the-type); rd = λ x. x; mk = λ x. x } λ M 𝓤 H A W. record { copies = Laws'4.copy Parameters.the-type Laws'.the-copy 𝓤 H A W; lawful = Laws'4.lawful Parameters.the-type Laws'.the-laws 𝓤 H A W; makes = Laws'4.makes Parameters.the-type Laws'.the-plain 𝓤 H A; in-mem = Local.mem-whole 𝓤 H A W (Declared'.row Parameters.the-type); of-mem = Local.whole-mem 𝓤 H A W (Declared'.row Parameters.the-type) }
+r·0 = Value.rVal record { ty = Declared'.row Parameters.the-type; one = Path'.refl; val = Laws'4.val Parameters.the-type Laws''.the-laws; tells = Laws'4.tells Parameters.the-type Laws''.the-laws; still = Laws'4.still Parameters.the-type Laws''.the-copy Exit.yes; row = Rows'.whole (Declared'.row Parameters.the-type); rd = λ x. x; mk = λ x. x } λ M 𝓤 H A W. record { copies = Laws'4.copy Parameters.the-type Laws''.the-copy 𝓤 H A W; lawful = Laws'4.lawful Parameters.the-type Laws''.the-laws 𝓤 H A W; makes = Laws'4.makes Parameters.the-type Laws''.the-plain 𝓤 H A; in-mem = Local.mem-whole 𝓤 H A W (Declared'.row Parameters.the-type); of-mem = Local.whole-mem 𝓤 H A W (Declared'.row Parameters.the-type) }
 
 abbrev pub ps·1 : List.List (Kinds.PK 2)
-ps·1 = List._∷_ (ShrSlice.pShrS (OfOutput.row) 0 tt) (List._∷_ (ShrSlice.pShrS (OfStation.row) 1 tt) (List._∷_ (OfPanelRecord.kind) (List._∷_ (Value.pVal record { ty = Declared'.row Parameters.the-type; one = Path'.refl; val = Laws'4.val Parameters.the-type Laws'.the-laws; tells = Laws'4.tells Parameters.the-type Laws'.the-laws; still = Laws'4.still Parameters.the-type Laws'.the-copy Exit.yes; row = Rows'.whole (Declared'.row Parameters.the-type); rd = λ x. x; mk = λ x. x } λ M 𝓤 H A W. record { copies = Laws'4.copy Parameters.the-type Laws'.the-copy 𝓤 H A W; lawful = Laws'4.lawful Parameters.the-type Laws'.the-laws 𝓤 H A W; makes = Laws'4.makes Parameters.the-type Laws'.the-plain 𝓤 H A; in-mem = Local.mem-whole 𝓤 H A W (Declared'.row Parameters.the-type); of-mem = Local.whole-mem 𝓤 H A W (Declared'.row Parameters.the-type) }) List.[])))
+ps·1 = List._∷_ (ShrSlice.pShrS (OfOutput.row) 0 tt) (List._∷_ (ShrSlice.pShrS (OfStation.row) 1 tt) (List._∷_ (OfPanelRecord.kind) (List._∷_ (Value.pVal record { ty = Declared'.row Parameters.the-type; one = Path'.refl; val = Laws'4.val Parameters.the-type Laws''.the-laws; tells = Laws'4.tells Parameters.the-type Laws''.the-laws; still = Laws'4.still Parameters.the-type Laws''.the-copy Exit.yes; row = Rows'.whole (Declared'.row Parameters.the-type); rd = λ x. x; mk = λ x. x } λ M 𝓤 H A W. record { copies = Laws'4.copy Parameters.the-type Laws''.the-copy 𝓤 H A W; lawful = Laws'4.lawful Parameters.the-type Laws''.the-laws 𝓤 H A W; makes = Laws'4.makes Parameters.the-type Laws''.the-plain 𝓤 H A; in-mem = Local.mem-whole 𝓤 H A W (Declared'.row Parameters.the-type); of-mem = Local.whole-mem 𝓤 H A W (Declared'.row Parameters.the-type) }) List.[])))
 
 abbrev pub r·1 : Kinds.RK 2
 r·1 = Bool.rBool
 
 abbrev pub ps·2 : List.List (Kinds.PK 3)
-ps·2 = List._∷_ (ShrSlice.pShrS (OfOutput.row) 0 tt) (List._∷_ (ShrSlice.pShrS (OfStation.row) 1 tt) (List._∷_ (OfPanelRecord.kind) (List._∷_ (Value.pVal record { ty = Declared'.row Parameters.the-type; one = Path'.refl; val = Laws'4.val Parameters.the-type Laws'.the-laws; tells = Laws'4.tells Parameters.the-type Laws'.the-laws; still = Laws'4.still Parameters.the-type Laws'.the-copy Exit.yes; row = Rows'.whole (Declared'.row Parameters.the-type); rd = λ x. x; mk = λ x. x } λ M 𝓤 H A W. record { copies = Laws'4.copy Parameters.the-type Laws'.the-copy 𝓤 H A W; lawful = Laws'4.lawful Parameters.the-type Laws'.the-laws 𝓤 H A W; makes = Laws'4.makes Parameters.the-type Laws'.the-plain 𝓤 H A; in-mem = Local.mem-whole 𝓤 H A W (Declared'.row Parameters.the-type); of-mem = Local.whole-mem 𝓤 H A W (Declared'.row Parameters.the-type) }) (List._∷_ (ShrSlice.pShrS (Referent.rtF (Referent.fInt Syntax.w8)) 2 tt) List.[]))))
+ps·2 = List._∷_ (ShrSlice.pShrS (OfOutput.row) 0 tt) (List._∷_ (ShrSlice.pShrS (OfStation.row) 1 tt) (List._∷_ (OfPanelRecord.kind) (List._∷_ (Value.pVal record { ty = Declared'.row Parameters.the-type; one = Path'.refl; val = Laws'4.val Parameters.the-type Laws''.the-laws; tells = Laws'4.tells Parameters.the-type Laws''.the-laws; still = Laws'4.still Parameters.the-type Laws''.the-copy Exit.yes; row = Rows'.whole (Declared'.row Parameters.the-type); rd = λ x. x; mk = λ x. x } λ M 𝓤 H A W. record { copies = Laws'4.copy Parameters.the-type Laws''.the-copy 𝓤 H A W; lawful = Laws'4.lawful Parameters.the-type Laws''.the-laws 𝓤 H A W; makes = Laws'4.makes Parameters.the-type Laws''.the-plain 𝓤 H A; in-mem = Local.mem-whole 𝓤 H A W (Declared'.row Parameters.the-type); of-mem = Local.whole-mem 𝓤 H A W (Declared'.row Parameters.the-type) }) (List._∷_ (ShrSlice.pShrS (Referent.rtF (Referent.fInt Syntax.w8)) 2 tt) List.[]))))
 
 abbrev pub r·2 : Kinds.RK 3
-r·2 = Value.rVal record { ty = Declared.row Verdict.the-type; one = Path'.refl; val = Laws'3.val Verdict.the-type Laws''.the-laws; tells = Laws'3.tells Verdict.the-type Laws''.the-laws; still = Laws'3.still Verdict.the-type Laws''.the-copy Exit.yes; row = Rows'.whole (Declared.row Verdict.the-type); rd = λ x. x; mk = λ x. x } λ M 𝓤 H A W. record { copies = Laws'3.copy Verdict.the-type Laws''.the-copy 𝓤 H A W; lawful = Laws'3.lawful Verdict.the-type Laws''.the-laws 𝓤 H A W tt; makes = Laws'3.makes Verdict.the-type Laws''.the-plain 𝓤 H A; in-mem = Local.mem-whole 𝓤 H A W (Declared.row Verdict.the-type); of-mem = Local.whole-mem 𝓤 H A W (Declared.row Verdict.the-type) }
+r·2 = Value.rVal record { ty = Declared.row Verdict.the-type; one = Path'.refl; val = Laws'3.val Verdict.the-type Laws.the-laws; tells = Laws'3.tells Verdict.the-type Laws.the-laws; still = Laws'3.still Verdict.the-type Laws.the-copy Exit.yes; row = Rows'.whole (Declared.row Verdict.the-type); rd = λ x. x; mk = λ x. x } λ M 𝓤 H A W. record { copies = Laws'3.copy Verdict.the-type Laws.the-copy 𝓤 H A W; lawful = Laws'3.lawful Verdict.the-type Laws.the-laws 𝓤 H A W tt; makes = Laws'3.makes Verdict.the-type Laws.the-plain 𝓤 H A; in-mem = Local.mem-whole 𝓤 H A W (Declared.row Verdict.the-type); of-mem = Local.whole-mem 𝓤 H A W (Declared.row Verdict.the-type) }
 
 abbrev pub ps·3 : List.List (Kinds.PK 4)
-ps·3 = List._∷_ (MutSlice.pMutS (OfOutput.row) 0 tt) (List._∷_ (MutSlice.pMutS (OfStation.row) 1 tt) (List._∷_ (Kinds.pMut (OfPanelRecord.row) 2 tt) (List._∷_ (ShrSlice.pShrS (Referent.rtF (Referent.fInt Syntax.w8)) 3 tt) (List._∷_ (Value.pVal record { ty = Declared.row Verdict.the-type; one = Path'.refl; val = Laws'3.val Verdict.the-type Laws''.the-laws; tells = Laws'3.tells Verdict.the-type Laws''.the-laws; still = Laws'3.still Verdict.the-type Laws''.the-copy Exit.yes; row = Rows'.whole (Declared.row Verdict.the-type); rd = λ x. x; mk = λ x. x } λ M 𝓤 H A W. record { copies = Laws'3.copy Verdict.the-type Laws''.the-copy 𝓤 H A W; lawful = Laws'3.lawful Verdict.the-type Laws''.the-laws 𝓤 H A W tt; makes = Laws'3.makes Verdict.the-type Laws''.the-plain 𝓤 H A; in-mem = Local.mem-whole 𝓤 H A W (Declared.row Verdict.the-type); of-mem = Local.whole-mem 𝓤 H A W (Declared.row Verdict.the-type) }) List.[]))))
+ps·3 = List._∷_ (MutSlice.pMutS (OfOutput.row) 0 tt) (List._∷_ (MutSlice.pMutS (OfStation.row) 1 tt) (List._∷_ (Kinds.pMut (OfPanelRecord.row) 2 tt) (List._∷_ (ShrSlice.pShrS (Referent.rtF (Referent.fInt Syntax.w8)) 3 tt) (List._∷_ (Value.pVal record { ty = Declared.row Verdict.the-type; one = Path'.refl; val = Laws'3.val Verdict.the-type Laws.the-laws; tells = Laws'3.tells Verdict.the-type Laws.the-laws; still = Laws'3.still Verdict.the-type Laws.the-copy Exit.yes; row = Rows'.whole (Declared.row Verdict.the-type); rd = λ x. x; mk = λ x. x } λ M 𝓤 H A W. record { copies = Laws'3.copy Verdict.the-type Laws.the-copy 𝓤 H A W; lawful = Laws'3.lawful Verdict.the-type Laws.the-laws 𝓤 H A W tt; makes = Laws'3.makes Verdict.the-type Laws.the-plain 𝓤 H A; in-mem = Local.mem-whole 𝓤 H A W (Declared.row Verdict.the-type); of-mem = Local.whole-mem 𝓤 H A W (Declared.row Verdict.the-type) }) List.[]))))
 
 abbrev pub r·3 : Kinds.RK 4
-r·3 = Value.rVal record { ty = Declared.row Answer.the-type; one = Path'.refl; val = Laws'3.val Answer.the-type Laws.the-laws; tells = Laws'3.tells Answer.the-type Laws.the-laws; still = Laws'3.still Answer.the-type Laws.the-copy Exit.yes; row = Rows'.whole (Declared.row Answer.the-type); rd = λ x. x; mk = λ x. x } λ M 𝓤 H A W. record { copies = Laws'3.copy Answer.the-type Laws.the-copy 𝓤 H A W; lawful = Laws'3.lawful Answer.the-type Laws.the-laws 𝓤 H A W tt; makes = Laws'3.makes Answer.the-type Laws.the-plain 𝓤 H A; in-mem = Local.mem-whole 𝓤 H A W (Declared.row Answer.the-type); of-mem = Local.whole-mem 𝓤 H A W (Declared.row Answer.the-type) }
+r·3 = Value.rVal record { ty = Declared.row Answer.the-type; one = Path'.refl; val = Laws'3.val Answer.the-type Laws'.the-laws; tells = Laws'3.tells Answer.the-type Laws'.the-laws; still = Laws'3.still Answer.the-type Laws'.the-copy Exit.yes; row = Rows'.whole (Declared.row Answer.the-type); rd = λ x. x; mk = λ x. x } λ M 𝓤 H A W. record { copies = Laws'3.copy Answer.the-type Laws'.the-copy 𝓤 H A W; lawful = Laws'3.lawful Answer.the-type Laws'.the-laws 𝓤 H A W tt; makes = Laws'3.makes Answer.the-type Laws'.the-plain 𝓤 H A; in-mem = Local.mem-whole 𝓤 H A W (Declared.row Answer.the-type); of-mem = Local.whole-mem 𝓤 H A W (Declared.row Answer.the-type) }
 
 abbrev pub hs : List.List Syntax.Home
 hs = List._∷_ Syntax.valueLocal (List._∷_ Syntax.valueLocal (List._∷_ Syntax.valueLocal (List._∷_ Syntax.valueLocal (List._∷_ Syntax.valueLocal (List._∷_ Syntax.valueLocal (List._∷_ Syntax.valueLocal (List._∷_ Syntax.valueLocal (List._∷_ Syntax.valueLocal (List._∷_ Syntax.valueLocal (List._∷_ Syntax.valueLocal (List._∷_ Syntax.valueLocal (List._∷_ Syntax.valueLocal (List._∷_ Syntax.valueLocal (List._∷_ Syntax.valueLocal (List._∷_ Syntax.valueLocal (List._∷_ Syntax.valueLocal (List._∷_ Syntax.valueLocal (List._∷_ Syntax.valueLocal (List._∷_ Syntax.valueLocal (List._∷_ Syntax.valueLocal (List._∷_ Syntax.valueLocal (List._∷_ Syntax.valueLocal List.[]))))))))))))))))))))))
@@ -244,67 +244,67 @@ abbrev pub Claims : Type 1
 Claims = Kinds.In 0 ps·0 × Kinds.Out 0 ps·0 r·0 × Kinds.In 2 ps·1 × Kinds.Out 2 ps·1 r·1 × Kinds.In 3 ps·2 × Kinds.Out 3 ps·2 r·2 × Kinds.In 4 ps·3 × Kinds.Out 4 ps·3 r·3
 
 abbrev pub t0 : List.List Row.Entry
-t0 = List._∷_ (0, Rows'.any-gone (Laws.mir)) (List._∷_ (1, Mut.mslice (OfOutput.row) (Syntax.tyRef (Syntax.named 0) Syntax.mut OfOutput.named) 0) (List._∷_ (2, Mut.mslice (OfStation.row) (Syntax.tyRef (Syntax.named 1) Syntax.mut OfStation.named) 1) (List._∷_ (3, Rows'.mref (OfPanelRecord.row) (Syntax.tyRef (Syntax.named 2) Syntax.mut OfPanelRecord.named) 2) (List._∷_ (4, Rows'.sslice (Referent.rtF (Referent.fInt Syntax.w8)) (Syntax.tyRef (Syntax.named 3) Syntax.imm (Syntax.tyInt Syntax.w8)) 3) (List._∷_ (5, Rows'.any-gone OfPanelRecord.spelt) (List._∷_ (6, Rows'.any-gone (Laws'.mir)) (List._∷_ (7, Rows'.any-gone (Laws''.mir)) (List._∷_ (8, Rows'.any-gone Syntax.tyBool) (List._∷_ (9, Rows'.any-gone (Syntax.tyRef Syntax.erased Syntax.imm OfOutput.named)) (List._∷_ (10, Rows'.any-gone (Syntax.tyStruct (List._∷_ 38 (List._∷_ 91 (List._∷_ 93 List.[]))) (Syntax.tcons (Syntax.tyRef Syntax.erased Syntax.imm OfOutput.named) (Syntax.tcons (Syntax.tyInt Syntax.w64) Syntax.tnil)))) (List._∷_ (11, Rows'.any-gone (Syntax.tyRef Syntax.erased Syntax.imm OfStation.named)) (List._∷_ (12, Rows'.any-gone (Syntax.tyStruct (List._∷_ 38 (List._∷_ 91 (List._∷_ 93 List.[]))) (Syntax.tcons (Syntax.tyRef Syntax.erased Syntax.imm OfStation.named) (Syntax.tcons (Syntax.tyInt Syntax.w64) Syntax.tnil)))) (List._∷_ (13, Rows'.any-gone Syntax.tyBool) (List._∷_ (14, Rows'.any-gone (Syntax.tyRef Syntax.erased Syntax.imm OfOutput.named)) (List._∷_ (15, Rows'.any-gone (Syntax.tyStruct (List._∷_ 38 (List._∷_ 91 (List._∷_ 93 List.[]))) (Syntax.tcons (Syntax.tyRef Syntax.erased Syntax.imm OfOutput.named) (Syntax.tcons (Syntax.tyInt Syntax.w64) Syntax.tnil)))) List.[])))))))))))))))
+t0 = List._∷_ (0, Rows'.any-gone (Laws'.mir)) (List._∷_ (1, Mut.mslice (OfOutput.row) (Syntax.tyRef (Syntax.named 0) Syntax.mut OfOutput.named) 0) (List._∷_ (2, Mut.mslice (OfStation.row) (Syntax.tyRef (Syntax.named 1) Syntax.mut OfStation.named) 1) (List._∷_ (3, Rows'.mref (OfPanelRecord.row) (Syntax.tyRef (Syntax.named 2) Syntax.mut OfPanelRecord.named) 2) (List._∷_ (4, Rows'.sslice (Referent.rtF (Referent.fInt Syntax.w8)) (Syntax.tyRef (Syntax.named 3) Syntax.imm (Syntax.tyInt Syntax.w8)) 3) (List._∷_ (5, Rows'.any-gone OfPanelRecord.spelt) (List._∷_ (6, Rows'.any-gone (Laws''.mir)) (List._∷_ (7, Rows'.any-gone (Laws.mir)) (List._∷_ (8, Rows'.any-gone Syntax.tyBool) (List._∷_ (9, Rows'.any-gone (Syntax.tyRef Syntax.erased Syntax.imm OfOutput.named)) (List._∷_ (10, Rows'.any-gone (Syntax.tyStruct (List._∷_ 38 (List._∷_ 91 (List._∷_ 93 List.[]))) (Syntax.tcons (Syntax.tyRef Syntax.erased Syntax.imm OfOutput.named) (Syntax.tcons (Syntax.tyInt Syntax.w64) Syntax.tnil)))) (List._∷_ (11, Rows'.any-gone (Syntax.tyRef Syntax.erased Syntax.imm OfStation.named)) (List._∷_ (12, Rows'.any-gone (Syntax.tyStruct (List._∷_ 38 (List._∷_ 91 (List._∷_ 93 List.[]))) (Syntax.tcons (Syntax.tyRef Syntax.erased Syntax.imm OfStation.named) (Syntax.tcons (Syntax.tyInt Syntax.w64) Syntax.tnil)))) (List._∷_ (13, Rows'.any-gone Syntax.tyBool) (List._∷_ (14, Rows'.any-gone (Syntax.tyRef Syntax.erased Syntax.imm OfOutput.named)) (List._∷_ (15, Rows'.any-gone (Syntax.tyStruct (List._∷_ 38 (List._∷_ 91 (List._∷_ 93 List.[]))) (Syntax.tcons (Syntax.tyRef Syntax.erased Syntax.imm OfOutput.named) (Syntax.tcons (Syntax.tyInt Syntax.w64) Syntax.tnil)))) List.[])))))))))))))))
 
 abbrev pub t1 : List.List Row.Entry
 t1 = List._∷_ (16, Rows'.any-gone (Syntax.tyRef Syntax.erased Syntax.imm OfStation.named)) (List._∷_ (17, Rows'.any-gone (Syntax.tyStruct (List._∷_ 38 (List._∷_ 91 (List._∷_ 93 List.[]))) (Syntax.tcons (Syntax.tyRef Syntax.erased Syntax.imm OfStation.named) (Syntax.tcons (Syntax.tyInt Syntax.w64) Syntax.tnil)))) (List._∷_ (18, Rows'.any-gone (Syntax.tyRef Syntax.erased Syntax.mut OfOutput.named)) (List._∷_ (19, Rows'.any-gone (Syntax.tyStruct (List._∷_ 38 (List._∷_ 91 (List._∷_ 93 List.[]))) (Syntax.tcons (Syntax.tyRef Syntax.erased Syntax.mut OfOutput.named) (Syntax.tcons (Syntax.tyInt Syntax.w64) Syntax.tnil)))) (List._∷_ (20, Rows'.any-gone (Syntax.tyRef Syntax.erased Syntax.mut OfStation.named)) (List._∷_ (21, Rows'.any-gone (Syntax.tyStruct (List._∷_ 38 (List._∷_ 91 (List._∷_ 93 List.[]))) (Syntax.tcons (Syntax.tyRef Syntax.erased Syntax.mut OfStation.named) (Syntax.tcons (Syntax.tyInt Syntax.w64) Syntax.tnil)))) (List._∷_ (22, Rows'.any-gone (Syntax.tyRef Syntax.erased Syntax.mut OfPanelRecord.named)) List.[]))))))
 
 abbrev pub t2 : List.List Row.Entry
-t2 = List._∷_ (0, Rows'.whole (Declared.row Answer.the-type)) (List._∷_ (1, Mut.mslice (OfOutput.row) (Syntax.tyRef (Syntax.named 0) Syntax.mut OfOutput.named) 0) (List._∷_ (2, Mut.mslice (OfStation.row) (Syntax.tyRef (Syntax.named 1) Syntax.mut OfStation.named) 1) (List._∷_ (3, Rows'.mref (OfPanelRecord.row) (Syntax.tyRef (Syntax.named 2) Syntax.mut OfPanelRecord.named) 2) (List._∷_ (4, Rows'.sslice (Referent.rtF (Referent.fInt Syntax.w8)) (Syntax.tyRef (Syntax.named 3) Syntax.imm (Syntax.tyInt Syntax.w8)) 3) (List._∷_ (5, Rows'.any-gone OfPanelRecord.spelt) (List._∷_ (6, Rows'.any-gone (Laws'.mir)) (List._∷_ (7, Rows'.any-gone (Laws''.mir)) (List._∷_ (8, Rows'.any-gone Syntax.tyBool) (List._∷_ (9, Rows'.any-gone (Syntax.tyRef Syntax.erased Syntax.imm OfOutput.named)) (List._∷_ (10, Rows'.any-gone (Syntax.tyStruct (List._∷_ 38 (List._∷_ 91 (List._∷_ 93 List.[]))) (Syntax.tcons (Syntax.tyRef Syntax.erased Syntax.imm OfOutput.named) (Syntax.tcons (Syntax.tyInt Syntax.w64) Syntax.tnil)))) (List._∷_ (11, Rows'.any-gone (Syntax.tyRef Syntax.erased Syntax.imm OfStation.named)) (List._∷_ (12, Rows'.any-gone (Syntax.tyStruct (List._∷_ 38 (List._∷_ 91 (List._∷_ 93 List.[]))) (Syntax.tcons (Syntax.tyRef Syntax.erased Syntax.imm OfStation.named) (Syntax.tcons (Syntax.tyInt Syntax.w64) Syntax.tnil)))) (List._∷_ (13, Rows'.any-gone Syntax.tyBool) (List._∷_ (14, Rows'.any-gone (Syntax.tyRef Syntax.erased Syntax.imm OfOutput.named)) (List._∷_ (15, Rows'.any-gone (Syntax.tyStruct (List._∷_ 38 (List._∷_ 91 (List._∷_ 93 List.[]))) (Syntax.tcons (Syntax.tyRef Syntax.erased Syntax.imm OfOutput.named) (Syntax.tcons (Syntax.tyInt Syntax.w64) Syntax.tnil)))) List.[])))))))))))))))
+t2 = List._∷_ (0, Rows'.whole (Declared.row Answer.the-type)) (List._∷_ (1, Mut.mslice (OfOutput.row) (Syntax.tyRef (Syntax.named 0) Syntax.mut OfOutput.named) 0) (List._∷_ (2, Mut.mslice (OfStation.row) (Syntax.tyRef (Syntax.named 1) Syntax.mut OfStation.named) 1) (List._∷_ (3, Rows'.mref (OfPanelRecord.row) (Syntax.tyRef (Syntax.named 2) Syntax.mut OfPanelRecord.named) 2) (List._∷_ (4, Rows'.sslice (Referent.rtF (Referent.fInt Syntax.w8)) (Syntax.tyRef (Syntax.named 3) Syntax.imm (Syntax.tyInt Syntax.w8)) 3) (List._∷_ (5, Rows'.any-gone OfPanelRecord.spelt) (List._∷_ (6, Rows'.any-gone (Laws''.mir)) (List._∷_ (7, Rows'.any-gone (Laws.mir)) (List._∷_ (8, Rows'.any-gone Syntax.tyBool) (List._∷_ (9, Rows'.any-gone (Syntax.tyRef Syntax.erased Syntax.imm OfOutput.named)) (List._∷_ (10, Rows'.any-gone (Syntax.tyStruct (List._∷_ 38 (List._∷_ 91 (List._∷_ 93 List.[]))) (Syntax.tcons (Syntax.tyRef Syntax.erased Syntax.imm OfOutput.named) (Syntax.tcons (Syntax.tyInt Syntax.w64) Syntax.tnil)))) (List._∷_ (11, Rows'.any-gone (Syntax.tyRef Syntax.erased Syntax.imm OfStation.named)) (List._∷_ (12, Rows'.any-gone (Syntax.tyStruct (List._∷_ 38 (List._∷_ 91 (List._∷_ 93 List.[]))) (Syntax.tcons (Syntax.tyRef Syntax.erased Syntax.imm OfStation.named) (Syntax.tcons (Syntax.tyInt Syntax.w64) Syntax.tnil)))) (List._∷_ (13, Rows'.any-gone Syntax.tyBool) (List._∷_ (14, Rows'.any-gone (Syntax.tyRef Syntax.erased Syntax.imm OfOutput.named)) (List._∷_ (15, Rows'.any-gone (Syntax.tyStruct (List._∷_ 38 (List._∷_ 91 (List._∷_ 93 List.[]))) (Syntax.tcons (Syntax.tyRef Syntax.erased Syntax.imm OfOutput.named) (Syntax.tcons (Syntax.tyInt Syntax.w64) Syntax.tnil)))) List.[])))))))))))))))
 
 abbrev pub t3 : List.List Row.Entry
-t3 = List._∷_ (0, Rows'.any-gone (Laws.mir)) (List._∷_ (1, Mut.mslice (OfOutput.row) (Syntax.tyRef (Syntax.named 0) Syntax.mut OfOutput.named) 0) (List._∷_ (2, Mut.mslice (OfStation.row) (Syntax.tyRef (Syntax.named 1) Syntax.mut OfStation.named) 1) (List._∷_ (3, Rows'.mref (OfPanelRecord.row) (Syntax.tyRef (Syntax.named 2) Syntax.mut OfPanelRecord.named) 2) (List._∷_ (4, Rows'.sslice (Referent.rtF (Referent.fInt Syntax.w8)) (Syntax.tyRef (Syntax.named 3) Syntax.imm (Syntax.tyInt Syntax.w8)) 3) (List._∷_ (5, OfPanelRecord.held) (List._∷_ (6, Rows'.any-gone (Laws'.mir)) (List._∷_ (7, Rows'.any-gone (Laws''.mir)) (List._∷_ (8, Rows'.any-gone Syntax.tyBool) (List._∷_ (9, Rows'.any-gone (Syntax.tyRef Syntax.erased Syntax.imm OfOutput.named)) (List._∷_ (10, Rows'.any-gone (Syntax.tyStruct (List._∷_ 38 (List._∷_ 91 (List._∷_ 93 List.[]))) (Syntax.tcons (Syntax.tyRef Syntax.erased Syntax.imm OfOutput.named) (Syntax.tcons (Syntax.tyInt Syntax.w64) Syntax.tnil)))) (List._∷_ (11, Rows'.any-gone (Syntax.tyRef Syntax.erased Syntax.imm OfStation.named)) (List._∷_ (12, Rows'.any-gone (Syntax.tyStruct (List._∷_ 38 (List._∷_ 91 (List._∷_ 93 List.[]))) (Syntax.tcons (Syntax.tyRef Syntax.erased Syntax.imm OfStation.named) (Syntax.tcons (Syntax.tyInt Syntax.w64) Syntax.tnil)))) (List._∷_ (13, Rows'.any-gone Syntax.tyBool) (List._∷_ (14, Rows'.any-gone (Syntax.tyRef Syntax.erased Syntax.imm OfOutput.named)) (List._∷_ (15, Rows'.any-gone (Syntax.tyStruct (List._∷_ 38 (List._∷_ 91 (List._∷_ 93 List.[]))) (Syntax.tcons (Syntax.tyRef Syntax.erased Syntax.imm OfOutput.named) (Syntax.tcons (Syntax.tyInt Syntax.w64) Syntax.tnil)))) List.[])))))))))))))))
+t3 = List._∷_ (0, Rows'.any-gone (Laws'.mir)) (List._∷_ (1, Mut.mslice (OfOutput.row) (Syntax.tyRef (Syntax.named 0) Syntax.mut OfOutput.named) 0) (List._∷_ (2, Mut.mslice (OfStation.row) (Syntax.tyRef (Syntax.named 1) Syntax.mut OfStation.named) 1) (List._∷_ (3, Rows'.mref (OfPanelRecord.row) (Syntax.tyRef (Syntax.named 2) Syntax.mut OfPanelRecord.named) 2) (List._∷_ (4, Rows'.sslice (Referent.rtF (Referent.fInt Syntax.w8)) (Syntax.tyRef (Syntax.named 3) Syntax.imm (Syntax.tyInt Syntax.w8)) 3) (List._∷_ (5, OfPanelRecord.held) (List._∷_ (6, Rows'.any-gone (Laws''.mir)) (List._∷_ (7, Rows'.any-gone (Laws.mir)) (List._∷_ (8, Rows'.any-gone Syntax.tyBool) (List._∷_ (9, Rows'.any-gone (Syntax.tyRef Syntax.erased Syntax.imm OfOutput.named)) (List._∷_ (10, Rows'.any-gone (Syntax.tyStruct (List._∷_ 38 (List._∷_ 91 (List._∷_ 93 List.[]))) (Syntax.tcons (Syntax.tyRef Syntax.erased Syntax.imm OfOutput.named) (Syntax.tcons (Syntax.tyInt Syntax.w64) Syntax.tnil)))) (List._∷_ (11, Rows'.any-gone (Syntax.tyRef Syntax.erased Syntax.imm OfStation.named)) (List._∷_ (12, Rows'.any-gone (Syntax.tyStruct (List._∷_ 38 (List._∷_ 91 (List._∷_ 93 List.[]))) (Syntax.tcons (Syntax.tyRef Syntax.erased Syntax.imm OfStation.named) (Syntax.tcons (Syntax.tyInt Syntax.w64) Syntax.tnil)))) (List._∷_ (13, Rows'.any-gone Syntax.tyBool) (List._∷_ (14, Rows'.any-gone (Syntax.tyRef Syntax.erased Syntax.imm OfOutput.named)) (List._∷_ (15, Rows'.any-gone (Syntax.tyStruct (List._∷_ 38 (List._∷_ 91 (List._∷_ 93 List.[]))) (Syntax.tcons (Syntax.tyRef Syntax.erased Syntax.imm OfOutput.named) (Syntax.tcons (Syntax.tyInt Syntax.w64) Syntax.tnil)))) List.[])))))))))))))))
 
 abbrev pub t4 : List.List Row.Entry
-t4 = List._∷_ (0, Rows'.any-gone (Laws.mir)) (List._∷_ (1, Mut.mslice (OfOutput.row) (Syntax.tyRef (Syntax.named 0) Syntax.mut OfOutput.named) 0) (List._∷_ (2, Mut.mslice (OfStation.row) (Syntax.tyRef (Syntax.named 1) Syntax.mut OfStation.named) 1) (List._∷_ (3, Rows'.mref (OfPanelRecord.row) (Syntax.tyRef (Syntax.named 2) Syntax.mut OfPanelRecord.named) 2) (List._∷_ (4, Rows'.sslice (Referent.rtF (Referent.fInt Syntax.w8)) (Syntax.tyRef (Syntax.named 3) Syntax.imm (Syntax.tyInt Syntax.w8)) 3) (List._∷_ (5, OfPanelRecord.held) (List._∷_ (6, Rows'.whole (Declared'.row Parameters.the-type)) (List._∷_ (7, Rows'.any-gone (Laws''.mir)) (List._∷_ (8, Rows'.any-gone Syntax.tyBool) (List._∷_ (9, Rows'.any-gone (Syntax.tyRef Syntax.erased Syntax.imm OfOutput.named)) (List._∷_ (10, Rows'.any-gone (Syntax.tyStruct (List._∷_ 38 (List._∷_ 91 (List._∷_ 93 List.[]))) (Syntax.tcons (Syntax.tyRef Syntax.erased Syntax.imm OfOutput.named) (Syntax.tcons (Syntax.tyInt Syntax.w64) Syntax.tnil)))) (List._∷_ (11, Rows'.any-gone (Syntax.tyRef Syntax.erased Syntax.imm OfStation.named)) (List._∷_ (12, Rows'.any-gone (Syntax.tyStruct (List._∷_ 38 (List._∷_ 91 (List._∷_ 93 List.[]))) (Syntax.tcons (Syntax.tyRef Syntax.erased Syntax.imm OfStation.named) (Syntax.tcons (Syntax.tyInt Syntax.w64) Syntax.tnil)))) (List._∷_ (13, Rows'.any-gone Syntax.tyBool) (List._∷_ (14, Rows'.any-gone (Syntax.tyRef Syntax.erased Syntax.imm OfOutput.named)) (List._∷_ (15, Rows'.any-gone (Syntax.tyStruct (List._∷_ 38 (List._∷_ 91 (List._∷_ 93 List.[]))) (Syntax.tcons (Syntax.tyRef Syntax.erased Syntax.imm OfOutput.named) (Syntax.tcons (Syntax.tyInt Syntax.w64) Syntax.tnil)))) List.[])))))))))))))))
+t4 = List._∷_ (0, Rows'.any-gone (Laws'.mir)) (List._∷_ (1, Mut.mslice (OfOutput.row) (Syntax.tyRef (Syntax.named 0) Syntax.mut OfOutput.named) 0) (List._∷_ (2, Mut.mslice (OfStation.row) (Syntax.tyRef (Syntax.named 1) Syntax.mut OfStation.named) 1) (List._∷_ (3, Rows'.mref (OfPanelRecord.row) (Syntax.tyRef (Syntax.named 2) Syntax.mut OfPanelRecord.named) 2) (List._∷_ (4, Rows'.sslice (Referent.rtF (Referent.fInt Syntax.w8)) (Syntax.tyRef (Syntax.named 3) Syntax.imm (Syntax.tyInt Syntax.w8)) 3) (List._∷_ (5, OfPanelRecord.held) (List._∷_ (6, Rows'.whole (Declared'.row Parameters.the-type)) (List._∷_ (7, Rows'.any-gone (Laws.mir)) (List._∷_ (8, Rows'.any-gone Syntax.tyBool) (List._∷_ (9, Rows'.any-gone (Syntax.tyRef Syntax.erased Syntax.imm OfOutput.named)) (List._∷_ (10, Rows'.any-gone (Syntax.tyStruct (List._∷_ 38 (List._∷_ 91 (List._∷_ 93 List.[]))) (Syntax.tcons (Syntax.tyRef Syntax.erased Syntax.imm OfOutput.named) (Syntax.tcons (Syntax.tyInt Syntax.w64) Syntax.tnil)))) (List._∷_ (11, Rows'.any-gone (Syntax.tyRef Syntax.erased Syntax.imm OfStation.named)) (List._∷_ (12, Rows'.any-gone (Syntax.tyStruct (List._∷_ 38 (List._∷_ 91 (List._∷_ 93 List.[]))) (Syntax.tcons (Syntax.tyRef Syntax.erased Syntax.imm OfStation.named) (Syntax.tcons (Syntax.tyInt Syntax.w64) Syntax.tnil)))) (List._∷_ (13, Rows'.any-gone Syntax.tyBool) (List._∷_ (14, Rows'.any-gone (Syntax.tyRef Syntax.erased Syntax.imm OfOutput.named)) (List._∷_ (15, Rows'.any-gone (Syntax.tyStruct (List._∷_ 38 (List._∷_ 91 (List._∷_ 93 List.[]))) (Syntax.tcons (Syntax.tyRef Syntax.erased Syntax.imm OfOutput.named) (Syntax.tcons (Syntax.tyInt Syntax.w64) Syntax.tnil)))) List.[])))))))))))))))
 
 abbrev pub t5 : List.List Row.Entry
-t5 = List._∷_ (0, Rows'.any-gone (Laws.mir)) (List._∷_ (1, Reshare.mslice-owedS (OfOutput.row) (Syntax.tyRef (Syntax.named 0) Syntax.mut OfOutput.named) 0 4 Row.off) (List._∷_ (2, Mut.mslice (OfStation.row) (Syntax.tyRef (Syntax.named 1) Syntax.mut OfStation.named) 1) (List._∷_ (3, Rows'.mref (OfPanelRecord.row) (Syntax.tyRef (Syntax.named 2) Syntax.mut OfPanelRecord.named) 2) (List._∷_ (4, Rows'.sslice (Referent.rtF (Referent.fInt Syntax.w8)) (Syntax.tyRef (Syntax.named 3) Syntax.imm (Syntax.tyInt Syntax.w8)) 3) (List._∷_ (5, OfPanelRecord.held) (List._∷_ (6, Rows'.whole (Declared'.row Parameters.the-type)) (List._∷_ (7, Rows'.any-gone (Laws''.mir)) (List._∷_ (8, Rows'.any-gone Syntax.tyBool) (List._∷_ (9, Relend.ssptr (OfOutput.row) (Syntax.tyRef Syntax.erased Syntax.imm OfOutput.named) 4) (List._∷_ (10, Rows'.any-gone (Syntax.tyStruct (List._∷_ 38 (List._∷_ 91 (List._∷_ 93 List.[]))) (Syntax.tcons (Syntax.tyRef Syntax.erased Syntax.imm OfOutput.named) (Syntax.tcons (Syntax.tyInt Syntax.w64) Syntax.tnil)))) (List._∷_ (11, Rows'.any-gone (Syntax.tyRef Syntax.erased Syntax.imm OfStation.named)) (List._∷_ (12, Rows'.any-gone (Syntax.tyStruct (List._∷_ 38 (List._∷_ 91 (List._∷_ 93 List.[]))) (Syntax.tcons (Syntax.tyRef Syntax.erased Syntax.imm OfStation.named) (Syntax.tcons (Syntax.tyInt Syntax.w64) Syntax.tnil)))) (List._∷_ (13, Rows'.any-gone Syntax.tyBool) (List._∷_ (14, Rows'.any-gone (Syntax.tyRef Syntax.erased Syntax.imm OfOutput.named)) (List._∷_ (15, Rows'.any-gone (Syntax.tyStruct (List._∷_ 38 (List._∷_ 91 (List._∷_ 93 List.[]))) (Syntax.tcons (Syntax.tyRef Syntax.erased Syntax.imm OfOutput.named) (Syntax.tcons (Syntax.tyInt Syntax.w64) Syntax.tnil)))) List.[])))))))))))))))
+t5 = List._∷_ (0, Rows'.any-gone (Laws'.mir)) (List._∷_ (1, Reshare.mslice-owedS (OfOutput.row) (Syntax.tyRef (Syntax.named 0) Syntax.mut OfOutput.named) 0 4 Row.off) (List._∷_ (2, Mut.mslice (OfStation.row) (Syntax.tyRef (Syntax.named 1) Syntax.mut OfStation.named) 1) (List._∷_ (3, Rows'.mref (OfPanelRecord.row) (Syntax.tyRef (Syntax.named 2) Syntax.mut OfPanelRecord.named) 2) (List._∷_ (4, Rows'.sslice (Referent.rtF (Referent.fInt Syntax.w8)) (Syntax.tyRef (Syntax.named 3) Syntax.imm (Syntax.tyInt Syntax.w8)) 3) (List._∷_ (5, OfPanelRecord.held) (List._∷_ (6, Rows'.whole (Declared'.row Parameters.the-type)) (List._∷_ (7, Rows'.any-gone (Laws.mir)) (List._∷_ (8, Rows'.any-gone Syntax.tyBool) (List._∷_ (9, Relend.ssptr (OfOutput.row) (Syntax.tyRef Syntax.erased Syntax.imm OfOutput.named) 4) (List._∷_ (10, Rows'.any-gone (Syntax.tyStruct (List._∷_ 38 (List._∷_ 91 (List._∷_ 93 List.[]))) (Syntax.tcons (Syntax.tyRef Syntax.erased Syntax.imm OfOutput.named) (Syntax.tcons (Syntax.tyInt Syntax.w64) Syntax.tnil)))) (List._∷_ (11, Rows'.any-gone (Syntax.tyRef Syntax.erased Syntax.imm OfStation.named)) (List._∷_ (12, Rows'.any-gone (Syntax.tyStruct (List._∷_ 38 (List._∷_ 91 (List._∷_ 93 List.[]))) (Syntax.tcons (Syntax.tyRef Syntax.erased Syntax.imm OfStation.named) (Syntax.tcons (Syntax.tyInt Syntax.w64) Syntax.tnil)))) (List._∷_ (13, Rows'.any-gone Syntax.tyBool) (List._∷_ (14, Rows'.any-gone (Syntax.tyRef Syntax.erased Syntax.imm OfOutput.named)) (List._∷_ (15, Rows'.any-gone (Syntax.tyStruct (List._∷_ 38 (List._∷_ 91 (List._∷_ 93 List.[]))) (Syntax.tcons (Syntax.tyRef Syntax.erased Syntax.imm OfOutput.named) (Syntax.tcons (Syntax.tyInt Syntax.w64) Syntax.tnil)))) List.[])))))))))))))))
 
 abbrev pub t6 : List.List Row.Entry
-t6 = List._∷_ (0, Rows'.any-gone (Laws.mir)) (List._∷_ (1, Reshare.mslice-owedS (OfOutput.row) (Syntax.tyRef (Syntax.named 0) Syntax.mut OfOutput.named) 0 4 Row.off) (List._∷_ (2, Mut.mslice (OfStation.row) (Syntax.tyRef (Syntax.named 1) Syntax.mut OfStation.named) 1) (List._∷_ (3, Rows'.mref (OfPanelRecord.row) (Syntax.tyRef (Syntax.named 2) Syntax.mut OfPanelRecord.named) 2) (List._∷_ (4, Rows'.sslice (Referent.rtF (Referent.fInt Syntax.w8)) (Syntax.tyRef (Syntax.named 3) Syntax.imm (Syntax.tyInt Syntax.w8)) 3) (List._∷_ (5, OfPanelRecord.held) (List._∷_ (6, Rows'.whole (Declared'.row Parameters.the-type)) (List._∷_ (7, Rows'.any-gone (Laws''.mir)) (List._∷_ (8, Rows'.any-gone Syntax.tyBool) (List._∷_ (9, Rows'.any-gone (Syntax.tyRef Syntax.erased Syntax.imm OfOutput.named)) (List._∷_ (10, Rows'.sslice (OfOutput.row) (Syntax.tyRef Syntax.erased Syntax.imm OfOutput.named) 4) (List._∷_ (11, Rows'.any-gone (Syntax.tyRef Syntax.erased Syntax.imm OfStation.named)) (List._∷_ (12, Rows'.any-gone (Syntax.tyStruct (List._∷_ 38 (List._∷_ 91 (List._∷_ 93 List.[]))) (Syntax.tcons (Syntax.tyRef Syntax.erased Syntax.imm OfStation.named) (Syntax.tcons (Syntax.tyInt Syntax.w64) Syntax.tnil)))) (List._∷_ (13, Rows'.any-gone Syntax.tyBool) (List._∷_ (14, Rows'.any-gone (Syntax.tyRef Syntax.erased Syntax.imm OfOutput.named)) (List._∷_ (15, Rows'.any-gone (Syntax.tyStruct (List._∷_ 38 (List._∷_ 91 (List._∷_ 93 List.[]))) (Syntax.tcons (Syntax.tyRef Syntax.erased Syntax.imm OfOutput.named) (Syntax.tcons (Syntax.tyInt Syntax.w64) Syntax.tnil)))) List.[])))))))))))))))
+t6 = List._∷_ (0, Rows'.any-gone (Laws'.mir)) (List._∷_ (1, Reshare.mslice-owedS (OfOutput.row) (Syntax.tyRef (Syntax.named 0) Syntax.mut OfOutput.named) 0 4 Row.off) (List._∷_ (2, Mut.mslice (OfStation.row) (Syntax.tyRef (Syntax.named 1) Syntax.mut OfStation.named) 1) (List._∷_ (3, Rows'.mref (OfPanelRecord.row) (Syntax.tyRef (Syntax.named 2) Syntax.mut OfPanelRecord.named) 2) (List._∷_ (4, Rows'.sslice (Referent.rtF (Referent.fInt Syntax.w8)) (Syntax.tyRef (Syntax.named 3) Syntax.imm (Syntax.tyInt Syntax.w8)) 3) (List._∷_ (5, OfPanelRecord.held) (List._∷_ (6, Rows'.whole (Declared'.row Parameters.the-type)) (List._∷_ (7, Rows'.any-gone (Laws.mir)) (List._∷_ (8, Rows'.any-gone Syntax.tyBool) (List._∷_ (9, Rows'.any-gone (Syntax.tyRef Syntax.erased Syntax.imm OfOutput.named)) (List._∷_ (10, Rows'.sslice (OfOutput.row) (Syntax.tyRef Syntax.erased Syntax.imm OfOutput.named) 4) (List._∷_ (11, Rows'.any-gone (Syntax.tyRef Syntax.erased Syntax.imm OfStation.named)) (List._∷_ (12, Rows'.any-gone (Syntax.tyStruct (List._∷_ 38 (List._∷_ 91 (List._∷_ 93 List.[]))) (Syntax.tcons (Syntax.tyRef Syntax.erased Syntax.imm OfStation.named) (Syntax.tcons (Syntax.tyInt Syntax.w64) Syntax.tnil)))) (List._∷_ (13, Rows'.any-gone Syntax.tyBool) (List._∷_ (14, Rows'.any-gone (Syntax.tyRef Syntax.erased Syntax.imm OfOutput.named)) (List._∷_ (15, Rows'.any-gone (Syntax.tyStruct (List._∷_ 38 (List._∷_ 91 (List._∷_ 93 List.[]))) (Syntax.tcons (Syntax.tyRef Syntax.erased Syntax.imm OfOutput.named) (Syntax.tcons (Syntax.tyInt Syntax.w64) Syntax.tnil)))) List.[])))))))))))))))
 
 abbrev pub t7 : List.List Row.Entry
-t7 = List._∷_ (0, Rows'.any-gone (Laws.mir)) (List._∷_ (1, Reshare.mslice-owedS (OfOutput.row) (Syntax.tyRef (Syntax.named 0) Syntax.mut OfOutput.named) 0 4 Row.off) (List._∷_ (2, Reshare.mslice-owedS (OfStation.row) (Syntax.tyRef (Syntax.named 1) Syntax.mut OfStation.named) 1 5 Row.off) (List._∷_ (3, Rows'.mref (OfPanelRecord.row) (Syntax.tyRef (Syntax.named 2) Syntax.mut OfPanelRecord.named) 2) (List._∷_ (4, Rows'.sslice (Referent.rtF (Referent.fInt Syntax.w8)) (Syntax.tyRef (Syntax.named 3) Syntax.imm (Syntax.tyInt Syntax.w8)) 3) (List._∷_ (5, OfPanelRecord.held) (List._∷_ (6, Rows'.whole (Declared'.row Parameters.the-type)) (List._∷_ (7, Rows'.any-gone (Laws''.mir)) (List._∷_ (8, Rows'.any-gone Syntax.tyBool) (List._∷_ (9, Rows'.any-gone (Syntax.tyRef Syntax.erased Syntax.imm OfOutput.named)) (List._∷_ (10, Rows'.sslice (OfOutput.row) (Syntax.tyRef Syntax.erased Syntax.imm OfOutput.named) 4) (List._∷_ (11, Relend.ssptr (OfStation.row) (Syntax.tyRef Syntax.erased Syntax.imm OfStation.named) 5) (List._∷_ (12, Rows'.any-gone (Syntax.tyStruct (List._∷_ 38 (List._∷_ 91 (List._∷_ 93 List.[]))) (Syntax.tcons (Syntax.tyRef Syntax.erased Syntax.imm OfStation.named) (Syntax.tcons (Syntax.tyInt Syntax.w64) Syntax.tnil)))) (List._∷_ (13, Rows'.any-gone Syntax.tyBool) (List._∷_ (14, Rows'.any-gone (Syntax.tyRef Syntax.erased Syntax.imm OfOutput.named)) (List._∷_ (15, Rows'.any-gone (Syntax.tyStruct (List._∷_ 38 (List._∷_ 91 (List._∷_ 93 List.[]))) (Syntax.tcons (Syntax.tyRef Syntax.erased Syntax.imm OfOutput.named) (Syntax.tcons (Syntax.tyInt Syntax.w64) Syntax.tnil)))) List.[])))))))))))))))
+t7 = List._∷_ (0, Rows'.any-gone (Laws'.mir)) (List._∷_ (1, Reshare.mslice-owedS (OfOutput.row) (Syntax.tyRef (Syntax.named 0) Syntax.mut OfOutput.named) 0 4 Row.off) (List._∷_ (2, Reshare.mslice-owedS (OfStation.row) (Syntax.tyRef (Syntax.named 1) Syntax.mut OfStation.named) 1 5 Row.off) (List._∷_ (3, Rows'.mref (OfPanelRecord.row) (Syntax.tyRef (Syntax.named 2) Syntax.mut OfPanelRecord.named) 2) (List._∷_ (4, Rows'.sslice (Referent.rtF (Referent.fInt Syntax.w8)) (Syntax.tyRef (Syntax.named 3) Syntax.imm (Syntax.tyInt Syntax.w8)) 3) (List._∷_ (5, OfPanelRecord.held) (List._∷_ (6, Rows'.whole (Declared'.row Parameters.the-type)) (List._∷_ (7, Rows'.any-gone (Laws.mir)) (List._∷_ (8, Rows'.any-gone Syntax.tyBool) (List._∷_ (9, Rows'.any-gone (Syntax.tyRef Syntax.erased Syntax.imm OfOutput.named)) (List._∷_ (10, Rows'.sslice (OfOutput.row) (Syntax.tyRef Syntax.erased Syntax.imm OfOutput.named) 4) (List._∷_ (11, Relend.ssptr (OfStation.row) (Syntax.tyRef Syntax.erased Syntax.imm OfStation.named) 5) (List._∷_ (12, Rows'.any-gone (Syntax.tyStruct (List._∷_ 38 (List._∷_ 91 (List._∷_ 93 List.[]))) (Syntax.tcons (Syntax.tyRef Syntax.erased Syntax.imm OfStation.named) (Syntax.tcons (Syntax.tyInt Syntax.w64) Syntax.tnil)))) (List._∷_ (13, Rows'.any-gone Syntax.tyBool) (List._∷_ (14, Rows'.any-gone (Syntax.tyRef Syntax.erased Syntax.imm OfOutput.named)) (List._∷_ (15, Rows'.any-gone (Syntax.tyStruct (List._∷_ 38 (List._∷_ 91 (List._∷_ 93 List.[]))) (Syntax.tcons (Syntax.tyRef Syntax.erased Syntax.imm OfOutput.named) (Syntax.tcons (Syntax.tyInt Syntax.w64) Syntax.tnil)))) List.[])))))))))))))))
 
 abbrev pub t8 : List.List Row.Entry
-t8 = List._∷_ (0, Rows'.any-gone (Laws.mir)) (List._∷_ (1, Reshare.mslice-owedS (OfOutput.row) (Syntax.tyRef (Syntax.named 0) Syntax.mut OfOutput.named) 0 4 Row.off) (List._∷_ (2, Reshare.mslice-owedS (OfStation.row) (Syntax.tyRef (Syntax.named 1) Syntax.mut OfStation.named) 1 5 Row.off) (List._∷_ (3, Rows'.mref (OfPanelRecord.row) (Syntax.tyRef (Syntax.named 2) Syntax.mut OfPanelRecord.named) 2) (List._∷_ (4, Rows'.sslice (Referent.rtF (Referent.fInt Syntax.w8)) (Syntax.tyRef (Syntax.named 3) Syntax.imm (Syntax.tyInt Syntax.w8)) 3) (List._∷_ (5, OfPanelRecord.held) (List._∷_ (6, Rows'.whole (Declared'.row Parameters.the-type)) (List._∷_ (7, Rows'.any-gone (Laws''.mir)) (List._∷_ (8, Rows'.any-gone Syntax.tyBool) (List._∷_ (9, Rows'.any-gone (Syntax.tyRef Syntax.erased Syntax.imm OfOutput.named)) (List._∷_ (10, Rows'.sslice (OfOutput.row) (Syntax.tyRef Syntax.erased Syntax.imm OfOutput.named) 4) (List._∷_ (11, Rows'.any-gone (Syntax.tyRef Syntax.erased Syntax.imm OfStation.named)) (List._∷_ (12, Rows'.sslice (OfStation.row) (Syntax.tyRef Syntax.erased Syntax.imm OfStation.named) 5) (List._∷_ (13, Rows'.any-gone Syntax.tyBool) (List._∷_ (14, Rows'.any-gone (Syntax.tyRef Syntax.erased Syntax.imm OfOutput.named)) (List._∷_ (15, Rows'.any-gone (Syntax.tyStruct (List._∷_ 38 (List._∷_ 91 (List._∷_ 93 List.[]))) (Syntax.tcons (Syntax.tyRef Syntax.erased Syntax.imm OfOutput.named) (Syntax.tcons (Syntax.tyInt Syntax.w64) Syntax.tnil)))) List.[])))))))))))))))
+t8 = List._∷_ (0, Rows'.any-gone (Laws'.mir)) (List._∷_ (1, Reshare.mslice-owedS (OfOutput.row) (Syntax.tyRef (Syntax.named 0) Syntax.mut OfOutput.named) 0 4 Row.off) (List._∷_ (2, Reshare.mslice-owedS (OfStation.row) (Syntax.tyRef (Syntax.named 1) Syntax.mut OfStation.named) 1 5 Row.off) (List._∷_ (3, Rows'.mref (OfPanelRecord.row) (Syntax.tyRef (Syntax.named 2) Syntax.mut OfPanelRecord.named) 2) (List._∷_ (4, Rows'.sslice (Referent.rtF (Referent.fInt Syntax.w8)) (Syntax.tyRef (Syntax.named 3) Syntax.imm (Syntax.tyInt Syntax.w8)) 3) (List._∷_ (5, OfPanelRecord.held) (List._∷_ (6, Rows'.whole (Declared'.row Parameters.the-type)) (List._∷_ (7, Rows'.any-gone (Laws.mir)) (List._∷_ (8, Rows'.any-gone Syntax.tyBool) (List._∷_ (9, Rows'.any-gone (Syntax.tyRef Syntax.erased Syntax.imm OfOutput.named)) (List._∷_ (10, Rows'.sslice (OfOutput.row) (Syntax.tyRef Syntax.erased Syntax.imm OfOutput.named) 4) (List._∷_ (11, Rows'.any-gone (Syntax.tyRef Syntax.erased Syntax.imm OfStation.named)) (List._∷_ (12, Rows'.sslice (OfStation.row) (Syntax.tyRef Syntax.erased Syntax.imm OfStation.named) 5) (List._∷_ (13, Rows'.any-gone Syntax.tyBool) (List._∷_ (14, Rows'.any-gone (Syntax.tyRef Syntax.erased Syntax.imm OfOutput.named)) (List._∷_ (15, Rows'.any-gone (Syntax.tyStruct (List._∷_ 38 (List._∷_ 91 (List._∷_ 93 List.[]))) (Syntax.tcons (Syntax.tyRef Syntax.erased Syntax.imm OfOutput.named) (Syntax.tcons (Syntax.tyInt Syntax.w64) Syntax.tnil)))) List.[])))))))))))))))
 
 abbrev pub t9 : List.List Row.Entry
-t9 = List._∷_ (0, Rows'.any-gone (Laws.mir)) (List._∷_ (1, Reshare.mslice-owedS (OfOutput.row) (Syntax.tyRef (Syntax.named 0) Syntax.mut OfOutput.named) 0 4 Row.off) (List._∷_ (2, Reshare.mslice-owedS (OfStation.row) (Syntax.tyRef (Syntax.named 1) Syntax.mut OfStation.named) 1 5 Row.off) (List._∷_ (3, Rows'.mref (OfPanelRecord.row) (Syntax.tyRef (Syntax.named 2) Syntax.mut OfPanelRecord.named) 2) (List._∷_ (4, Rows'.sslice (Referent.rtF (Referent.fInt Syntax.w8)) (Syntax.tyRef (Syntax.named 3) Syntax.imm (Syntax.tyInt Syntax.w8)) 3) (List._∷_ (5, OfPanelRecord.held) (List._∷_ (6, Rows'.whole (Declared'.row Parameters.the-type)) (List._∷_ (7, Rows'.any-gone (Laws''.mir)) (List._∷_ (8, Rows'.sc-here Row.sBool) (List._∷_ (9, Rows'.any-gone (Syntax.tyRef Syntax.erased Syntax.imm OfOutput.named)) (List._∷_ (10, Rows'.sslice (OfOutput.row) (Syntax.tyRef Syntax.erased Syntax.imm OfOutput.named) 4) (List._∷_ (11, Rows'.any-gone (Syntax.tyRef Syntax.erased Syntax.imm OfStation.named)) (List._∷_ (12, Rows'.sslice (OfStation.row) (Syntax.tyRef Syntax.erased Syntax.imm OfStation.named) 5) (List._∷_ (13, Rows'.any-gone Syntax.tyBool) (List._∷_ (14, Rows'.any-gone (Syntax.tyRef Syntax.erased Syntax.imm OfOutput.named)) (List._∷_ (15, Rows'.any-gone (Syntax.tyStruct (List._∷_ 38 (List._∷_ 91 (List._∷_ 93 List.[]))) (Syntax.tcons (Syntax.tyRef Syntax.erased Syntax.imm OfOutput.named) (Syntax.tcons (Syntax.tyInt Syntax.w64) Syntax.tnil)))) List.[])))))))))))))))
+t9 = List._∷_ (0, Rows'.any-gone (Laws'.mir)) (List._∷_ (1, Reshare.mslice-owedS (OfOutput.row) (Syntax.tyRef (Syntax.named 0) Syntax.mut OfOutput.named) 0 4 Row.off) (List._∷_ (2, Reshare.mslice-owedS (OfStation.row) (Syntax.tyRef (Syntax.named 1) Syntax.mut OfStation.named) 1 5 Row.off) (List._∷_ (3, Rows'.mref (OfPanelRecord.row) (Syntax.tyRef (Syntax.named 2) Syntax.mut OfPanelRecord.named) 2) (List._∷_ (4, Rows'.sslice (Referent.rtF (Referent.fInt Syntax.w8)) (Syntax.tyRef (Syntax.named 3) Syntax.imm (Syntax.tyInt Syntax.w8)) 3) (List._∷_ (5, OfPanelRecord.held) (List._∷_ (6, Rows'.whole (Declared'.row Parameters.the-type)) (List._∷_ (7, Rows'.any-gone (Laws.mir)) (List._∷_ (8, Rows'.sc-here Row.sBool) (List._∷_ (9, Rows'.any-gone (Syntax.tyRef Syntax.erased Syntax.imm OfOutput.named)) (List._∷_ (10, Rows'.sslice (OfOutput.row) (Syntax.tyRef Syntax.erased Syntax.imm OfOutput.named) 4) (List._∷_ (11, Rows'.any-gone (Syntax.tyRef Syntax.erased Syntax.imm OfStation.named)) (List._∷_ (12, Rows'.sslice (OfStation.row) (Syntax.tyRef Syntax.erased Syntax.imm OfStation.named) 5) (List._∷_ (13, Rows'.any-gone Syntax.tyBool) (List._∷_ (14, Rows'.any-gone (Syntax.tyRef Syntax.erased Syntax.imm OfOutput.named)) (List._∷_ (15, Rows'.any-gone (Syntax.tyStruct (List._∷_ 38 (List._∷_ 91 (List._∷_ 93 List.[]))) (Syntax.tcons (Syntax.tyRef Syntax.erased Syntax.imm OfOutput.named) (Syntax.tcons (Syntax.tyInt Syntax.w64) Syntax.tnil)))) List.[])))))))))))))))
 
 abbrev pub t10 : List.List Row.Entry
-t10 = List._∷_ (0, Rows'.any-gone (Laws.mir)) (List._∷_ (1, Reshare.mslice-owedS (OfOutput.row) (Syntax.tyRef (Syntax.named 0) Syntax.mut OfOutput.named) 0 4 Row.off) (List._∷_ (2, Reshare.mslice-owedS (OfStation.row) (Syntax.tyRef (Syntax.named 1) Syntax.mut OfStation.named) 1 5 Row.off) (List._∷_ (3, Rows'.mref (OfPanelRecord.row) (Syntax.tyRef (Syntax.named 2) Syntax.mut OfPanelRecord.named) 2) (List._∷_ (4, Rows'.sslice (Referent.rtF (Referent.fInt Syntax.w8)) (Syntax.tyRef (Syntax.named 3) Syntax.imm (Syntax.tyInt Syntax.w8)) 3) (List._∷_ (5, OfPanelRecord.held) (List._∷_ (6, Rows'.whole (Declared'.row Parameters.the-type)) (List._∷_ (7, Rows'.any-gone (Laws''.mir)) (List._∷_ (8, Rows'.sc-here Row.sBool) (List._∷_ (9, Rows'.any-gone (Syntax.tyRef Syntax.erased Syntax.imm OfOutput.named)) (List._∷_ (10, Rows'.any-gone (Syntax.tyStruct (List._∷_ 38 (List._∷_ 91 (List._∷_ 93 List.[]))) (Syntax.tcons (Syntax.tyRef Syntax.erased Syntax.imm OfOutput.named) (Syntax.tcons (Syntax.tyInt Syntax.w64) Syntax.tnil)))) (List._∷_ (11, Rows'.any-gone (Syntax.tyRef Syntax.erased Syntax.imm OfStation.named)) (List._∷_ (12, Rows'.sslice (OfStation.row) (Syntax.tyRef Syntax.erased Syntax.imm OfStation.named) 5) (List._∷_ (13, Rows'.any-gone Syntax.tyBool) (List._∷_ (14, Rows'.any-gone (Syntax.tyRef Syntax.erased Syntax.imm OfOutput.named)) (List._∷_ (15, Rows'.any-gone (Syntax.tyStruct (List._∷_ 38 (List._∷_ 91 (List._∷_ 93 List.[]))) (Syntax.tcons (Syntax.tyRef Syntax.erased Syntax.imm OfOutput.named) (Syntax.tcons (Syntax.tyInt Syntax.w64) Syntax.tnil)))) List.[])))))))))))))))
+t10 = List._∷_ (0, Rows'.any-gone (Laws'.mir)) (List._∷_ (1, Reshare.mslice-owedS (OfOutput.row) (Syntax.tyRef (Syntax.named 0) Syntax.mut OfOutput.named) 0 4 Row.off) (List._∷_ (2, Reshare.mslice-owedS (OfStation.row) (Syntax.tyRef (Syntax.named 1) Syntax.mut OfStation.named) 1 5 Row.off) (List._∷_ (3, Rows'.mref (OfPanelRecord.row) (Syntax.tyRef (Syntax.named 2) Syntax.mut OfPanelRecord.named) 2) (List._∷_ (4, Rows'.sslice (Referent.rtF (Referent.fInt Syntax.w8)) (Syntax.tyRef (Syntax.named 3) Syntax.imm (Syntax.tyInt Syntax.w8)) 3) (List._∷_ (5, OfPanelRecord.held) (List._∷_ (6, Rows'.whole (Declared'.row Parameters.the-type)) (List._∷_ (7, Rows'.any-gone (Laws.mir)) (List._∷_ (8, Rows'.sc-here Row.sBool) (List._∷_ (9, Rows'.any-gone (Syntax.tyRef Syntax.erased Syntax.imm OfOutput.named)) (List._∷_ (10, Rows'.any-gone (Syntax.tyStruct (List._∷_ 38 (List._∷_ 91 (List._∷_ 93 List.[]))) (Syntax.tcons (Syntax.tyRef Syntax.erased Syntax.imm OfOutput.named) (Syntax.tcons (Syntax.tyInt Syntax.w64) Syntax.tnil)))) (List._∷_ (11, Rows'.any-gone (Syntax.tyRef Syntax.erased Syntax.imm OfStation.named)) (List._∷_ (12, Rows'.sslice (OfStation.row) (Syntax.tyRef Syntax.erased Syntax.imm OfStation.named) 5) (List._∷_ (13, Rows'.any-gone Syntax.tyBool) (List._∷_ (14, Rows'.any-gone (Syntax.tyRef Syntax.erased Syntax.imm OfOutput.named)) (List._∷_ (15, Rows'.any-gone (Syntax.tyStruct (List._∷_ 38 (List._∷_ 91 (List._∷_ 93 List.[]))) (Syntax.tcons (Syntax.tyRef Syntax.erased Syntax.imm OfOutput.named) (Syntax.tcons (Syntax.tyInt Syntax.w64) Syntax.tnil)))) List.[])))))))))))))))
 
 abbrev pub t11 : List.List Row.Entry
-t11 = List._∷_ (0, Rows'.any-gone (Laws.mir)) (List._∷_ (1, Reshare.mslice-owedS (OfOutput.row) (Syntax.tyRef (Syntax.named 0) Syntax.mut OfOutput.named) 0 4 Row.off) (List._∷_ (2, Reshare.mslice-owedS (OfStation.row) (Syntax.tyRef (Syntax.named 1) Syntax.mut OfStation.named) 1 5 Row.off) (List._∷_ (3, Rows'.mref (OfPanelRecord.row) (Syntax.tyRef (Syntax.named 2) Syntax.mut OfPanelRecord.named) 2) (List._∷_ (4, Rows'.sslice (Referent.rtF (Referent.fInt Syntax.w8)) (Syntax.tyRef (Syntax.named 3) Syntax.imm (Syntax.tyInt Syntax.w8)) 3) (List._∷_ (5, OfPanelRecord.held) (List._∷_ (6, Rows'.whole (Declared'.row Parameters.the-type)) (List._∷_ (7, Rows'.any-gone (Laws''.mir)) (List._∷_ (8, Rows'.sc-here Row.sBool) (List._∷_ (9, Rows'.any-gone (Syntax.tyRef Syntax.erased Syntax.imm OfOutput.named)) (List._∷_ (10, Rows'.any-gone (Syntax.tyStruct (List._∷_ 38 (List._∷_ 91 (List._∷_ 93 List.[]))) (Syntax.tcons (Syntax.tyRef Syntax.erased Syntax.imm OfOutput.named) (Syntax.tcons (Syntax.tyInt Syntax.w64) Syntax.tnil)))) (List._∷_ (11, Rows'.any-gone (Syntax.tyRef Syntax.erased Syntax.imm OfStation.named)) (List._∷_ (12, Rows'.any-gone (Syntax.tyStruct (List._∷_ 38 (List._∷_ 91 (List._∷_ 93 List.[]))) (Syntax.tcons (Syntax.tyRef Syntax.erased Syntax.imm OfStation.named) (Syntax.tcons (Syntax.tyInt Syntax.w64) Syntax.tnil)))) (List._∷_ (13, Rows'.any-gone Syntax.tyBool) (List._∷_ (14, Rows'.any-gone (Syntax.tyRef Syntax.erased Syntax.imm OfOutput.named)) (List._∷_ (15, Rows'.any-gone (Syntax.tyStruct (List._∷_ 38 (List._∷_ 91 (List._∷_ 93 List.[]))) (Syntax.tcons (Syntax.tyRef Syntax.erased Syntax.imm OfOutput.named) (Syntax.tcons (Syntax.tyInt Syntax.w64) Syntax.tnil)))) List.[])))))))))))))))
+t11 = List._∷_ (0, Rows'.any-gone (Laws'.mir)) (List._∷_ (1, Reshare.mslice-owedS (OfOutput.row) (Syntax.tyRef (Syntax.named 0) Syntax.mut OfOutput.named) 0 4 Row.off) (List._∷_ (2, Reshare.mslice-owedS (OfStation.row) (Syntax.tyRef (Syntax.named 1) Syntax.mut OfStation.named) 1 5 Row.off) (List._∷_ (3, Rows'.mref (OfPanelRecord.row) (Syntax.tyRef (Syntax.named 2) Syntax.mut OfPanelRecord.named) 2) (List._∷_ (4, Rows'.sslice (Referent.rtF (Referent.fInt Syntax.w8)) (Syntax.tyRef (Syntax.named 3) Syntax.imm (Syntax.tyInt Syntax.w8)) 3) (List._∷_ (5, OfPanelRecord.held) (List._∷_ (6, Rows'.whole (Declared'.row Parameters.the-type)) (List._∷_ (7, Rows'.any-gone (Laws.mir)) (List._∷_ (8, Rows'.sc-here Row.sBool) (List._∷_ (9, Rows'.any-gone (Syntax.tyRef Syntax.erased Syntax.imm OfOutput.named)) (List._∷_ (10, Rows'.any-gone (Syntax.tyStruct (List._∷_ 38 (List._∷_ 91 (List._∷_ 93 List.[]))) (Syntax.tcons (Syntax.tyRef Syntax.erased Syntax.imm OfOutput.named) (Syntax.tcons (Syntax.tyInt Syntax.w64) Syntax.tnil)))) (List._∷_ (11, Rows'.any-gone (Syntax.tyRef Syntax.erased Syntax.imm OfStation.named)) (List._∷_ (12, Rows'.any-gone (Syntax.tyStruct (List._∷_ 38 (List._∷_ 91 (List._∷_ 93 List.[]))) (Syntax.tcons (Syntax.tyRef Syntax.erased Syntax.imm OfStation.named) (Syntax.tcons (Syntax.tyInt Syntax.w64) Syntax.tnil)))) (List._∷_ (13, Rows'.any-gone Syntax.tyBool) (List._∷_ (14, Rows'.any-gone (Syntax.tyRef Syntax.erased Syntax.imm OfOutput.named)) (List._∷_ (15, Rows'.any-gone (Syntax.tyStruct (List._∷_ 38 (List._∷_ 91 (List._∷_ 93 List.[]))) (Syntax.tcons (Syntax.tyRef Syntax.erased Syntax.imm OfOutput.named) (Syntax.tcons (Syntax.tyInt Syntax.w64) Syntax.tnil)))) List.[])))))))))))))))
 
 abbrev pub t12 : List.List Row.Entry
-t12 = List._∷_ (0, Rows'.any-gone (Laws.mir)) (List._∷_ (1, Mut.mslice (OfOutput.row) (Syntax.tyRef (Syntax.named 0) Syntax.mut OfOutput.named) 0) (List._∷_ (2, Reshare.mslice-owedS (OfStation.row) (Syntax.tyRef (Syntax.named 1) Syntax.mut OfStation.named) 1 5 Row.off) (List._∷_ (3, Rows'.mref (OfPanelRecord.row) (Syntax.tyRef (Syntax.named 2) Syntax.mut OfPanelRecord.named) 2) (List._∷_ (4, Rows'.sslice (Referent.rtF (Referent.fInt Syntax.w8)) (Syntax.tyRef (Syntax.named 3) Syntax.imm (Syntax.tyInt Syntax.w8)) 3) (List._∷_ (5, OfPanelRecord.held) (List._∷_ (6, Rows'.whole (Declared'.row Parameters.the-type)) (List._∷_ (7, Rows'.any-gone (Laws''.mir)) (List._∷_ (8, Rows'.sc-here Row.sBool) (List._∷_ (9, Rows'.any-gone (Syntax.tyRef Syntax.erased Syntax.imm OfOutput.named)) (List._∷_ (10, Rows'.any-gone (Syntax.tyStruct (List._∷_ 38 (List._∷_ 91 (List._∷_ 93 List.[]))) (Syntax.tcons (Syntax.tyRef Syntax.erased Syntax.imm OfOutput.named) (Syntax.tcons (Syntax.tyInt Syntax.w64) Syntax.tnil)))) (List._∷_ (11, Rows'.any-gone (Syntax.tyRef Syntax.erased Syntax.imm OfStation.named)) (List._∷_ (12, Rows'.any-gone (Syntax.tyStruct (List._∷_ 38 (List._∷_ 91 (List._∷_ 93 List.[]))) (Syntax.tcons (Syntax.tyRef Syntax.erased Syntax.imm OfStation.named) (Syntax.tcons (Syntax.tyInt Syntax.w64) Syntax.tnil)))) (List._∷_ (13, Rows'.any-gone Syntax.tyBool) (List._∷_ (14, Rows'.any-gone (Syntax.tyRef Syntax.erased Syntax.imm OfOutput.named)) (List._∷_ (15, Rows'.any-gone (Syntax.tyStruct (List._∷_ 38 (List._∷_ 91 (List._∷_ 93 List.[]))) (Syntax.tcons (Syntax.tyRef Syntax.erased Syntax.imm OfOutput.named) (Syntax.tcons (Syntax.tyInt Syntax.w64) Syntax.tnil)))) List.[])))))))))))))))
+t12 = List._∷_ (0, Rows'.any-gone (Laws'.mir)) (List._∷_ (1, Mut.mslice (OfOutput.row) (Syntax.tyRef (Syntax.named 0) Syntax.mut OfOutput.named) 0) (List._∷_ (2, Reshare.mslice-owedS (OfStation.row) (Syntax.tyRef (Syntax.named 1) Syntax.mut OfStation.named) 1 5 Row.off) (List._∷_ (3, Rows'.mref (OfPanelRecord.row) (Syntax.tyRef (Syntax.named 2) Syntax.mut OfPanelRecord.named) 2) (List._∷_ (4, Rows'.sslice (Referent.rtF (Referent.fInt Syntax.w8)) (Syntax.tyRef (Syntax.named 3) Syntax.imm (Syntax.tyInt Syntax.w8)) 3) (List._∷_ (5, OfPanelRecord.held) (List._∷_ (6, Rows'.whole (Declared'.row Parameters.the-type)) (List._∷_ (7, Rows'.any-gone (Laws.mir)) (List._∷_ (8, Rows'.sc-here Row.sBool) (List._∷_ (9, Rows'.any-gone (Syntax.tyRef Syntax.erased Syntax.imm OfOutput.named)) (List._∷_ (10, Rows'.any-gone (Syntax.tyStruct (List._∷_ 38 (List._∷_ 91 (List._∷_ 93 List.[]))) (Syntax.tcons (Syntax.tyRef Syntax.erased Syntax.imm OfOutput.named) (Syntax.tcons (Syntax.tyInt Syntax.w64) Syntax.tnil)))) (List._∷_ (11, Rows'.any-gone (Syntax.tyRef Syntax.erased Syntax.imm OfStation.named)) (List._∷_ (12, Rows'.any-gone (Syntax.tyStruct (List._∷_ 38 (List._∷_ 91 (List._∷_ 93 List.[]))) (Syntax.tcons (Syntax.tyRef Syntax.erased Syntax.imm OfStation.named) (Syntax.tcons (Syntax.tyInt Syntax.w64) Syntax.tnil)))) (List._∷_ (13, Rows'.any-gone Syntax.tyBool) (List._∷_ (14, Rows'.any-gone (Syntax.tyRef Syntax.erased Syntax.imm OfOutput.named)) (List._∷_ (15, Rows'.any-gone (Syntax.tyStruct (List._∷_ 38 (List._∷_ 91 (List._∷_ 93 List.[]))) (Syntax.tcons (Syntax.tyRef Syntax.erased Syntax.imm OfOutput.named) (Syntax.tcons (Syntax.tyInt Syntax.w64) Syntax.tnil)))) List.[])))))))))))))))
 
 abbrev pub t13 : List.List Row.Entry
-t13 = List._∷_ (0, Rows'.any-gone (Laws.mir)) (List._∷_ (1, Mut.mslice (OfOutput.row) (Syntax.tyRef (Syntax.named 0) Syntax.mut OfOutput.named) 0) (List._∷_ (2, Mut.mslice (OfStation.row) (Syntax.tyRef (Syntax.named 1) Syntax.mut OfStation.named) 1) (List._∷_ (3, Rows'.mref (OfPanelRecord.row) (Syntax.tyRef (Syntax.named 2) Syntax.mut OfPanelRecord.named) 2) (List._∷_ (4, Rows'.sslice (Referent.rtF (Referent.fInt Syntax.w8)) (Syntax.tyRef (Syntax.named 3) Syntax.imm (Syntax.tyInt Syntax.w8)) 3) (List._∷_ (5, OfPanelRecord.held) (List._∷_ (6, Rows'.whole (Declared'.row Parameters.the-type)) (List._∷_ (7, Rows'.any-gone (Laws''.mir)) (List._∷_ (8, Rows'.sc-here Row.sBool) (List._∷_ (9, Rows'.any-gone (Syntax.tyRef Syntax.erased Syntax.imm OfOutput.named)) (List._∷_ (10, Rows'.any-gone (Syntax.tyStruct (List._∷_ 38 (List._∷_ 91 (List._∷_ 93 List.[]))) (Syntax.tcons (Syntax.tyRef Syntax.erased Syntax.imm OfOutput.named) (Syntax.tcons (Syntax.tyInt Syntax.w64) Syntax.tnil)))) (List._∷_ (11, Rows'.any-gone (Syntax.tyRef Syntax.erased Syntax.imm OfStation.named)) (List._∷_ (12, Rows'.any-gone (Syntax.tyStruct (List._∷_ 38 (List._∷_ 91 (List._∷_ 93 List.[]))) (Syntax.tcons (Syntax.tyRef Syntax.erased Syntax.imm OfStation.named) (Syntax.tcons (Syntax.tyInt Syntax.w64) Syntax.tnil)))) (List._∷_ (13, Rows'.any-gone Syntax.tyBool) (List._∷_ (14, Rows'.any-gone (Syntax.tyRef Syntax.erased Syntax.imm OfOutput.named)) (List._∷_ (15, Rows'.any-gone (Syntax.tyStruct (List._∷_ 38 (List._∷_ 91 (List._∷_ 93 List.[]))) (Syntax.tcons (Syntax.tyRef Syntax.erased Syntax.imm OfOutput.named) (Syntax.tcons (Syntax.tyInt Syntax.w64) Syntax.tnil)))) List.[])))))))))))))))
+t13 = List._∷_ (0, Rows'.any-gone (Laws'.mir)) (List._∷_ (1, Mut.mslice (OfOutput.row) (Syntax.tyRef (Syntax.named 0) Syntax.mut OfOutput.named) 0) (List._∷_ (2, Mut.mslice (OfStation.row) (Syntax.tyRef (Syntax.named 1) Syntax.mut OfStation.named) 1) (List._∷_ (3, Rows'.mref (OfPanelRecord.row) (Syntax.tyRef (Syntax.named 2) Syntax.mut OfPanelRecord.named) 2) (List._∷_ (4, Rows'.sslice (Referent.rtF (Referent.fInt Syntax.w8)) (Syntax.tyRef (Syntax.named 3) Syntax.imm (Syntax.tyInt Syntax.w8)) 3) (List._∷_ (5, OfPanelRecord.held) (List._∷_ (6, Rows'.whole (Declared'.row Parameters.the-type)) (List._∷_ (7, Rows'.any-gone (Laws.mir)) (List._∷_ (8, Rows'.sc-here Row.sBool) (List._∷_ (9, Rows'.any-gone (Syntax.tyRef Syntax.erased Syntax.imm OfOutput.named)) (List._∷_ (10, Rows'.any-gone (Syntax.tyStruct (List._∷_ 38 (List._∷_ 91 (List._∷_ 93 List.[]))) (Syntax.tcons (Syntax.tyRef Syntax.erased Syntax.imm OfOutput.named) (Syntax.tcons (Syntax.tyInt Syntax.w64) Syntax.tnil)))) (List._∷_ (11, Rows'.any-gone (Syntax.tyRef Syntax.erased Syntax.imm OfStation.named)) (List._∷_ (12, Rows'.any-gone (Syntax.tyStruct (List._∷_ 38 (List._∷_ 91 (List._∷_ 93 List.[]))) (Syntax.tcons (Syntax.tyRef Syntax.erased Syntax.imm OfStation.named) (Syntax.tcons (Syntax.tyInt Syntax.w64) Syntax.tnil)))) (List._∷_ (13, Rows'.any-gone Syntax.tyBool) (List._∷_ (14, Rows'.any-gone (Syntax.tyRef Syntax.erased Syntax.imm OfOutput.named)) (List._∷_ (15, Rows'.any-gone (Syntax.tyStruct (List._∷_ 38 (List._∷_ 91 (List._∷_ 93 List.[]))) (Syntax.tcons (Syntax.tyRef Syntax.erased Syntax.imm OfOutput.named) (Syntax.tcons (Syntax.tyInt Syntax.w64) Syntax.tnil)))) List.[])))))))))))))))
 
 abbrev pub t14 : List.List Row.Entry
-t14 = List._∷_ (0, Rows'.any-gone (Laws.mir)) (List._∷_ (1, Mut.mslice (OfOutput.row) (Syntax.tyRef (Syntax.named 0) Syntax.mut OfOutput.named) 0) (List._∷_ (2, Mut.mslice (OfStation.row) (Syntax.tyRef (Syntax.named 1) Syntax.mut OfStation.named) 1) (List._∷_ (3, Rows'.mref (OfPanelRecord.row) (Syntax.tyRef (Syntax.named 2) Syntax.mut OfPanelRecord.named) 2) (List._∷_ (4, Rows'.sslice (Referent.rtF (Referent.fInt Syntax.w8)) (Syntax.tyRef (Syntax.named 3) Syntax.imm (Syntax.tyInt Syntax.w8)) 3) (List._∷_ (5, OfPanelRecord.held) (List._∷_ (6, Rows'.whole (Declared'.row Parameters.the-type)) (List._∷_ (7, Rows'.any-gone (Laws''.mir)) (List._∷_ (8, Rows'.sc-here Row.sBool) (List._∷_ (9, Rows'.any-gone (Syntax.tyRef Syntax.erased Syntax.imm OfOutput.named)) (List._∷_ (10, Rows'.any-gone (Syntax.tyStruct (List._∷_ 38 (List._∷_ 91 (List._∷_ 93 List.[]))) (Syntax.tcons (Syntax.tyRef Syntax.erased Syntax.imm OfOutput.named) (Syntax.tcons (Syntax.tyInt Syntax.w64) Syntax.tnil)))) (List._∷_ (11, Rows'.any-gone (Syntax.tyRef Syntax.erased Syntax.imm OfStation.named)) (List._∷_ (12, Rows'.any-gone (Syntax.tyStruct (List._∷_ 38 (List._∷_ 91 (List._∷_ 93 List.[]))) (Syntax.tcons (Syntax.tyRef Syntax.erased Syntax.imm OfStation.named) (Syntax.tcons (Syntax.tyInt Syntax.w64) Syntax.tnil)))) (List._∷_ (13, Rows'.sc-here Row.sBool) (List._∷_ (14, Rows'.any-gone (Syntax.tyRef Syntax.erased Syntax.imm OfOutput.named)) (List._∷_ (15, Rows'.any-gone (Syntax.tyStruct (List._∷_ 38 (List._∷_ 91 (List._∷_ 93 List.[]))) (Syntax.tcons (Syntax.tyRef Syntax.erased Syntax.imm OfOutput.named) (Syntax.tcons (Syntax.tyInt Syntax.w64) Syntax.tnil)))) List.[])))))))))))))))
+t14 = List._∷_ (0, Rows'.any-gone (Laws'.mir)) (List._∷_ (1, Mut.mslice (OfOutput.row) (Syntax.tyRef (Syntax.named 0) Syntax.mut OfOutput.named) 0) (List._∷_ (2, Mut.mslice (OfStation.row) (Syntax.tyRef (Syntax.named 1) Syntax.mut OfStation.named) 1) (List._∷_ (3, Rows'.mref (OfPanelRecord.row) (Syntax.tyRef (Syntax.named 2) Syntax.mut OfPanelRecord.named) 2) (List._∷_ (4, Rows'.sslice (Referent.rtF (Referent.fInt Syntax.w8)) (Syntax.tyRef (Syntax.named 3) Syntax.imm (Syntax.tyInt Syntax.w8)) 3) (List._∷_ (5, OfPanelRecord.held) (List._∷_ (6, Rows'.whole (Declared'.row Parameters.the-type)) (List._∷_ (7, Rows'.any-gone (Laws.mir)) (List._∷_ (8, Rows'.sc-here Row.sBool) (List._∷_ (9, Rows'.any-gone (Syntax.tyRef Syntax.erased Syntax.imm OfOutput.named)) (List._∷_ (10, Rows'.any-gone (Syntax.tyStruct (List._∷_ 38 (List._∷_ 91 (List._∷_ 93 List.[]))) (Syntax.tcons (Syntax.tyRef Syntax.erased Syntax.imm OfOutput.named) (Syntax.tcons (Syntax.tyInt Syntax.w64) Syntax.tnil)))) (List._∷_ (11, Rows'.any-gone (Syntax.tyRef Syntax.erased Syntax.imm OfStation.named)) (List._∷_ (12, Rows'.any-gone (Syntax.tyStruct (List._∷_ 38 (List._∷_ 91 (List._∷_ 93 List.[]))) (Syntax.tcons (Syntax.tyRef Syntax.erased Syntax.imm OfStation.named) (Syntax.tcons (Syntax.tyInt Syntax.w64) Syntax.tnil)))) (List._∷_ (13, Rows'.sc-here Row.sBool) (List._∷_ (14, Rows'.any-gone (Syntax.tyRef Syntax.erased Syntax.imm OfOutput.named)) (List._∷_ (15, Rows'.any-gone (Syntax.tyStruct (List._∷_ 38 (List._∷_ 91 (List._∷_ 93 List.[]))) (Syntax.tcons (Syntax.tyRef Syntax.erased Syntax.imm OfOutput.named) (Syntax.tcons (Syntax.tyInt Syntax.w64) Syntax.tnil)))) List.[])))))))))))))))
 
 abbrev pub t15 : List.List Row.Entry
-t15 = List._∷_ (0, Rows'.any-gone (Laws.mir)) (List._∷_ (1, Mut.mslice (OfOutput.row) (Syntax.tyRef (Syntax.named 0) Syntax.mut OfOutput.named) 0) (List._∷_ (2, Mut.mslice (OfStation.row) (Syntax.tyRef (Syntax.named 1) Syntax.mut OfStation.named) 1) (List._∷_ (3, Rows'.mref (OfPanelRecord.row) (Syntax.tyRef (Syntax.named 2) Syntax.mut OfPanelRecord.named) 2) (List._∷_ (4, Rows'.sslice (Referent.rtF (Referent.fInt Syntax.w8)) (Syntax.tyRef (Syntax.named 3) Syntax.imm (Syntax.tyInt Syntax.w8)) 3) (List._∷_ (5, OfPanelRecord.held) (List._∷_ (6, Rows'.whole (Declared'.row Parameters.the-type)) (List._∷_ (7, Rows'.any-gone (Laws''.mir)) (List._∷_ (8, Rows'.any-gone Syntax.tyBool) (List._∷_ (9, Rows'.any-gone (Syntax.tyRef Syntax.erased Syntax.imm OfOutput.named)) (List._∷_ (10, Rows'.any-gone (Syntax.tyStruct (List._∷_ 38 (List._∷_ 91 (List._∷_ 93 List.[]))) (Syntax.tcons (Syntax.tyRef Syntax.erased Syntax.imm OfOutput.named) (Syntax.tcons (Syntax.tyInt Syntax.w64) Syntax.tnil)))) (List._∷_ (11, Rows'.any-gone (Syntax.tyRef Syntax.erased Syntax.imm OfStation.named)) (List._∷_ (12, Rows'.any-gone (Syntax.tyStruct (List._∷_ 38 (List._∷_ 91 (List._∷_ 93 List.[]))) (Syntax.tcons (Syntax.tyRef Syntax.erased Syntax.imm OfStation.named) (Syntax.tcons (Syntax.tyInt Syntax.w64) Syntax.tnil)))) (List._∷_ (13, Rows'.sc-here Row.sBool) (List._∷_ (14, Rows'.any-gone (Syntax.tyRef Syntax.erased Syntax.imm OfOutput.named)) (List._∷_ (15, Rows'.any-gone (Syntax.tyStruct (List._∷_ 38 (List._∷_ 91 (List._∷_ 93 List.[]))) (Syntax.tcons (Syntax.tyRef Syntax.erased Syntax.imm OfOutput.named) (Syntax.tcons (Syntax.tyInt Syntax.w64) Syntax.tnil)))) List.[])))))))))))))))
+t15 = List._∷_ (0, Rows'.any-gone (Laws'.mir)) (List._∷_ (1, Mut.mslice (OfOutput.row) (Syntax.tyRef (Syntax.named 0) Syntax.mut OfOutput.named) 0) (List._∷_ (2, Mut.mslice (OfStation.row) (Syntax.tyRef (Syntax.named 1) Syntax.mut OfStation.named) 1) (List._∷_ (3, Rows'.mref (OfPanelRecord.row) (Syntax.tyRef (Syntax.named 2) Syntax.mut OfPanelRecord.named) 2) (List._∷_ (4, Rows'.sslice (Referent.rtF (Referent.fInt Syntax.w8)) (Syntax.tyRef (Syntax.named 3) Syntax.imm (Syntax.tyInt Syntax.w8)) 3) (List._∷_ (5, OfPanelRecord.held) (List._∷_ (6, Rows'.whole (Declared'.row Parameters.the-type)) (List._∷_ (7, Rows'.any-gone (Laws.mir)) (List._∷_ (8, Rows'.any-gone Syntax.tyBool) (List._∷_ (9, Rows'.any-gone (Syntax.tyRef Syntax.erased Syntax.imm OfOutput.named)) (List._∷_ (10, Rows'.any-gone (Syntax.tyStruct (List._∷_ 38 (List._∷_ 91 (List._∷_ 93 List.[]))) (Syntax.tcons (Syntax.tyRef Syntax.erased Syntax.imm OfOutput.named) (Syntax.tcons (Syntax.tyInt Syntax.w64) Syntax.tnil)))) (List._∷_ (11, Rows'.any-gone (Syntax.tyRef Syntax.erased Syntax.imm OfStation.named)) (List._∷_ (12, Rows'.any-gone (Syntax.tyStruct (List._∷_ 38 (List._∷_ 91 (List._∷_ 93 List.[]))) (Syntax.tcons (Syntax.tyRef Syntax.erased Syntax.imm OfStation.named) (Syntax.tcons (Syntax.tyInt Syntax.w64) Syntax.tnil)))) (List._∷_ (13, Rows'.sc-here Row.sBool) (List._∷_ (14, Rows'.any-gone (Syntax.tyRef Syntax.erased Syntax.imm OfOutput.named)) (List._∷_ (15, Rows'.any-gone (Syntax.tyStruct (List._∷_ 38 (List._∷_ 91 (List._∷_ 93 List.[]))) (Syntax.tcons (Syntax.tyRef Syntax.erased Syntax.imm OfOutput.named) (Syntax.tcons (Syntax.tyInt Syntax.w64) Syntax.tnil)))) List.[])))))))))))))))
 
 abbrev pub t16 : List.List Row.Entry
-t16 = List._∷_ (0, Rows'.any-gone (Laws.mir)) (List._∷_ (1, Mut.mslice (OfOutput.row) (Syntax.tyRef (Syntax.named 0) Syntax.mut OfOutput.named) 0) (List._∷_ (2, Mut.mslice (OfStation.row) (Syntax.tyRef (Syntax.named 1) Syntax.mut OfStation.named) 1) (List._∷_ (3, Rows'.mref (OfPanelRecord.row) (Syntax.tyRef (Syntax.named 2) Syntax.mut OfPanelRecord.named) 2) (List._∷_ (4, Rows'.sslice (Referent.rtF (Referent.fInt Syntax.w8)) (Syntax.tyRef (Syntax.named 3) Syntax.imm (Syntax.tyInt Syntax.w8)) 3) (List._∷_ (5, Rows'.any-gone OfPanelRecord.spelt) (List._∷_ (6, Rows'.whole (Declared'.row Parameters.the-type)) (List._∷_ (7, Rows'.any-gone (Laws''.mir)) (List._∷_ (8, Rows'.any-gone Syntax.tyBool) (List._∷_ (9, Rows'.any-gone (Syntax.tyRef Syntax.erased Syntax.imm OfOutput.named)) (List._∷_ (10, Rows'.any-gone (Syntax.tyStruct (List._∷_ 38 (List._∷_ 91 (List._∷_ 93 List.[]))) (Syntax.tcons (Syntax.tyRef Syntax.erased Syntax.imm OfOutput.named) (Syntax.tcons (Syntax.tyInt Syntax.w64) Syntax.tnil)))) (List._∷_ (11, Rows'.any-gone (Syntax.tyRef Syntax.erased Syntax.imm OfStation.named)) (List._∷_ (12, Rows'.any-gone (Syntax.tyStruct (List._∷_ 38 (List._∷_ 91 (List._∷_ 93 List.[]))) (Syntax.tcons (Syntax.tyRef Syntax.erased Syntax.imm OfStation.named) (Syntax.tcons (Syntax.tyInt Syntax.w64) Syntax.tnil)))) (List._∷_ (13, Rows'.sc-here Row.sBool) (List._∷_ (14, Rows'.any-gone (Syntax.tyRef Syntax.erased Syntax.imm OfOutput.named)) (List._∷_ (15, Rows'.any-gone (Syntax.tyStruct (List._∷_ 38 (List._∷_ 91 (List._∷_ 93 List.[]))) (Syntax.tcons (Syntax.tyRef Syntax.erased Syntax.imm OfOutput.named) (Syntax.tcons (Syntax.tyInt Syntax.w64) Syntax.tnil)))) List.[])))))))))))))))
+t16 = List._∷_ (0, Rows'.any-gone (Laws'.mir)) (List._∷_ (1, Mut.mslice (OfOutput.row) (Syntax.tyRef (Syntax.named 0) Syntax.mut OfOutput.named) 0) (List._∷_ (2, Mut.mslice (OfStation.row) (Syntax.tyRef (Syntax.named 1) Syntax.mut OfStation.named) 1) (List._∷_ (3, Rows'.mref (OfPanelRecord.row) (Syntax.tyRef (Syntax.named 2) Syntax.mut OfPanelRecord.named) 2) (List._∷_ (4, Rows'.sslice (Referent.rtF (Referent.fInt Syntax.w8)) (Syntax.tyRef (Syntax.named 3) Syntax.imm (Syntax.tyInt Syntax.w8)) 3) (List._∷_ (5, Rows'.any-gone OfPanelRecord.spelt) (List._∷_ (6, Rows'.whole (Declared'.row Parameters.the-type)) (List._∷_ (7, Rows'.any-gone (Laws.mir)) (List._∷_ (8, Rows'.any-gone Syntax.tyBool) (List._∷_ (9, Rows'.any-gone (Syntax.tyRef Syntax.erased Syntax.imm OfOutput.named)) (List._∷_ (10, Rows'.any-gone (Syntax.tyStruct (List._∷_ 38 (List._∷_ 91 (List._∷_ 93 List.[]))) (Syntax.tcons (Syntax.tyRef Syntax.erased Syntax.imm OfOutput.named) (Syntax.tcons (Syntax.tyInt Syntax.w64) Syntax.tnil)))) (List._∷_ (11, Rows'.any-gone (Syntax.tyRef Syntax.erased Syntax.imm OfStation.named)) (List._∷_ (12, Rows'.any-gone (Syntax.tyStruct (List._∷_ 38 (List._∷_ 91 (List._∷_ 93 List.[]))) (Syntax.tcons (Syntax.tyRef Syntax.erased Syntax.imm OfStation.named) (Syntax.tcons (Syntax.tyInt Syntax.w64) Syntax.tnil)))) (List._∷_ (13, Rows'.sc-here Row.sBool) (List._∷_ (14, Rows'.any-gone (Syntax.tyRef Syntax.erased Syntax.imm OfOutput.named)) (List._∷_ (15, Rows'.any-gone (Syntax.tyStruct (List._∷_ 38 (List._∷_ 91 (List._∷_ 93 List.[]))) (Syntax.tcons (Syntax.tyRef Syntax.erased Syntax.imm OfOutput.named) (Syntax.tcons (Syntax.tyInt Syntax.w64) Syntax.tnil)))) List.[])))))))))))))))
 
 abbrev pub t17 : List.List Row.Entry
-t17 = List._∷_ (0, Rows'.any-gone (Laws.mir)) (List._∷_ (1, Mut.mslice (OfOutput.row) (Syntax.tyRef (Syntax.named 0) Syntax.mut OfOutput.named) 0) (List._∷_ (2, Mut.mslice (OfStation.row) (Syntax.tyRef (Syntax.named 1) Syntax.mut OfStation.named) 1) (List._∷_ (3, Rows'.mref (OfPanelRecord.row) (Syntax.tyRef (Syntax.named 2) Syntax.mut OfPanelRecord.named) 2) (List._∷_ (4, Rows'.sslice (Referent.rtF (Referent.fInt Syntax.w8)) (Syntax.tyRef (Syntax.named 3) Syntax.imm (Syntax.tyInt Syntax.w8)) 3) (List._∷_ (5, Rows'.any-gone OfPanelRecord.spelt) (List._∷_ (6, Rows'.any-gone (Laws'.mir)) (List._∷_ (7, Rows'.any-gone (Laws''.mir)) (List._∷_ (8, Rows'.any-gone Syntax.tyBool) (List._∷_ (9, Rows'.any-gone (Syntax.tyRef Syntax.erased Syntax.imm OfOutput.named)) (List._∷_ (10, Rows'.any-gone (Syntax.tyStruct (List._∷_ 38 (List._∷_ 91 (List._∷_ 93 List.[]))) (Syntax.tcons (Syntax.tyRef Syntax.erased Syntax.imm OfOutput.named) (Syntax.tcons (Syntax.tyInt Syntax.w64) Syntax.tnil)))) (List._∷_ (11, Rows'.any-gone (Syntax.tyRef Syntax.erased Syntax.imm OfStation.named)) (List._∷_ (12, Rows'.any-gone (Syntax.tyStruct (List._∷_ 38 (List._∷_ 91 (List._∷_ 93 List.[]))) (Syntax.tcons (Syntax.tyRef Syntax.erased Syntax.imm OfStation.named) (Syntax.tcons (Syntax.tyInt Syntax.w64) Syntax.tnil)))) (List._∷_ (13, Rows'.sc-here Row.sBool) (List._∷_ (14, Rows'.any-gone (Syntax.tyRef Syntax.erased Syntax.imm OfOutput.named)) (List._∷_ (15, Rows'.any-gone (Syntax.tyStruct (List._∷_ 38 (List._∷_ 91 (List._∷_ 93 List.[]))) (Syntax.tcons (Syntax.tyRef Syntax.erased Syntax.imm OfOutput.named) (Syntax.tcons (Syntax.tyInt Syntax.w64) Syntax.tnil)))) List.[])))))))))))))))
+t17 = List._∷_ (0, Rows'.any-gone (Laws'.mir)) (List._∷_ (1, Mut.mslice (OfOutput.row) (Syntax.tyRef (Syntax.named 0) Syntax.mut OfOutput.named) 0) (List._∷_ (2, Mut.mslice (OfStation.row) (Syntax.tyRef (Syntax.named 1) Syntax.mut OfStation.named) 1) (List._∷_ (3, Rows'.mref (OfPanelRecord.row) (Syntax.tyRef (Syntax.named 2) Syntax.mut OfPanelRecord.named) 2) (List._∷_ (4, Rows'.sslice (Referent.rtF (Referent.fInt Syntax.w8)) (Syntax.tyRef (Syntax.named 3) Syntax.imm (Syntax.tyInt Syntax.w8)) 3) (List._∷_ (5, Rows'.any-gone OfPanelRecord.spelt) (List._∷_ (6, Rows'.any-gone (Laws''.mir)) (List._∷_ (7, Rows'.any-gone (Laws.mir)) (List._∷_ (8, Rows'.any-gone Syntax.tyBool) (List._∷_ (9, Rows'.any-gone (Syntax.tyRef Syntax.erased Syntax.imm OfOutput.named)) (List._∷_ (10, Rows'.any-gone (Syntax.tyStruct (List._∷_ 38 (List._∷_ 91 (List._∷_ 93 List.[]))) (Syntax.tcons (Syntax.tyRef Syntax.erased Syntax.imm OfOutput.named) (Syntax.tcons (Syntax.tyInt Syntax.w64) Syntax.tnil)))) (List._∷_ (11, Rows'.any-gone (Syntax.tyRef Syntax.erased Syntax.imm OfStation.named)) (List._∷_ (12, Rows'.any-gone (Syntax.tyStruct (List._∷_ 38 (List._∷_ 91 (List._∷_ 93 List.[]))) (Syntax.tcons (Syntax.tyRef Syntax.erased Syntax.imm OfStation.named) (Syntax.tcons (Syntax.tyInt Syntax.w64) Syntax.tnil)))) (List._∷_ (13, Rows'.sc-here Row.sBool) (List._∷_ (14, Rows'.any-gone (Syntax.tyRef Syntax.erased Syntax.imm OfOutput.named)) (List._∷_ (15, Rows'.any-gone (Syntax.tyStruct (List._∷_ 38 (List._∷_ 91 (List._∷_ 93 List.[]))) (Syntax.tcons (Syntax.tyRef Syntax.erased Syntax.imm OfOutput.named) (Syntax.tcons (Syntax.tyInt Syntax.w64) Syntax.tnil)))) List.[])))))))))))))))
 
 abbrev pub t18 : List.List Row.Entry
-t18 = List._∷_ (0, Rows'.any-gone (Laws.mir)) (List._∷_ (1, Reshare.mslice-owedS (OfOutput.row) (Syntax.tyRef (Syntax.named 0) Syntax.mut OfOutput.named) 0 6 Row.off) (List._∷_ (2, Mut.mslice (OfStation.row) (Syntax.tyRef (Syntax.named 1) Syntax.mut OfStation.named) 1) (List._∷_ (3, Rows'.mref (OfPanelRecord.row) (Syntax.tyRef (Syntax.named 2) Syntax.mut OfPanelRecord.named) 2) (List._∷_ (4, Rows'.sslice (Referent.rtF (Referent.fInt Syntax.w8)) (Syntax.tyRef (Syntax.named 3) Syntax.imm (Syntax.tyInt Syntax.w8)) 3) (List._∷_ (5, OfPanelRecord.held) (List._∷_ (6, Rows'.whole (Declared'.row Parameters.the-type)) (List._∷_ (7, Rows'.any-gone (Laws''.mir)) (List._∷_ (8, Rows'.any-gone Syntax.tyBool) (List._∷_ (9, Rows'.any-gone (Syntax.tyRef Syntax.erased Syntax.imm OfOutput.named)) (List._∷_ (10, Rows'.any-gone (Syntax.tyStruct (List._∷_ 38 (List._∷_ 91 (List._∷_ 93 List.[]))) (Syntax.tcons (Syntax.tyRef Syntax.erased Syntax.imm OfOutput.named) (Syntax.tcons (Syntax.tyInt Syntax.w64) Syntax.tnil)))) (List._∷_ (11, Rows'.any-gone (Syntax.tyRef Syntax.erased Syntax.imm OfStation.named)) (List._∷_ (12, Rows'.any-gone (Syntax.tyStruct (List._∷_ 38 (List._∷_ 91 (List._∷_ 93 List.[]))) (Syntax.tcons (Syntax.tyRef Syntax.erased Syntax.imm OfStation.named) (Syntax.tcons (Syntax.tyInt Syntax.w64) Syntax.tnil)))) (List._∷_ (13, Rows'.any-gone Syntax.tyBool) (List._∷_ (14, Relend.ssptr (OfOutput.row) (Syntax.tyRef Syntax.erased Syntax.imm OfOutput.named) 6) (List._∷_ (15, Rows'.any-gone (Syntax.tyStruct (List._∷_ 38 (List._∷_ 91 (List._∷_ 93 List.[]))) (Syntax.tcons (Syntax.tyRef Syntax.erased Syntax.imm OfOutput.named) (Syntax.tcons (Syntax.tyInt Syntax.w64) Syntax.tnil)))) List.[])))))))))))))))
+t18 = List._∷_ (0, Rows'.any-gone (Laws'.mir)) (List._∷_ (1, Reshare.mslice-owedS (OfOutput.row) (Syntax.tyRef (Syntax.named 0) Syntax.mut OfOutput.named) 0 6 Row.off) (List._∷_ (2, Mut.mslice (OfStation.row) (Syntax.tyRef (Syntax.named 1) Syntax.mut OfStation.named) 1) (List._∷_ (3, Rows'.mref (OfPanelRecord.row) (Syntax.tyRef (Syntax.named 2) Syntax.mut OfPanelRecord.named) 2) (List._∷_ (4, Rows'.sslice (Referent.rtF (Referent.fInt Syntax.w8)) (Syntax.tyRef (Syntax.named 3) Syntax.imm (Syntax.tyInt Syntax.w8)) 3) (List._∷_ (5, OfPanelRecord.held) (List._∷_ (6, Rows'.whole (Declared'.row Parameters.the-type)) (List._∷_ (7, Rows'.any-gone (Laws.mir)) (List._∷_ (8, Rows'.any-gone Syntax.tyBool) (List._∷_ (9, Rows'.any-gone (Syntax.tyRef Syntax.erased Syntax.imm OfOutput.named)) (List._∷_ (10, Rows'.any-gone (Syntax.tyStruct (List._∷_ 38 (List._∷_ 91 (List._∷_ 93 List.[]))) (Syntax.tcons (Syntax.tyRef Syntax.erased Syntax.imm OfOutput.named) (Syntax.tcons (Syntax.tyInt Syntax.w64) Syntax.tnil)))) (List._∷_ (11, Rows'.any-gone (Syntax.tyRef Syntax.erased Syntax.imm OfStation.named)) (List._∷_ (12, Rows'.any-gone (Syntax.tyStruct (List._∷_ 38 (List._∷_ 91 (List._∷_ 93 List.[]))) (Syntax.tcons (Syntax.tyRef Syntax.erased Syntax.imm OfStation.named) (Syntax.tcons (Syntax.tyInt Syntax.w64) Syntax.tnil)))) (List._∷_ (13, Rows'.any-gone Syntax.tyBool) (List._∷_ (14, Relend.ssptr (OfOutput.row) (Syntax.tyRef Syntax.erased Syntax.imm OfOutput.named) 6) (List._∷_ (15, Rows'.any-gone (Syntax.tyStruct (List._∷_ 38 (List._∷_ 91 (List._∷_ 93 List.[]))) (Syntax.tcons (Syntax.tyRef Syntax.erased Syntax.imm OfOutput.named) (Syntax.tcons (Syntax.tyInt Syntax.w64) Syntax.tnil)))) List.[])))))))))))))))
 
 abbrev pub t19 : List.List Row.Entry
-t19 = List._∷_ (0, Rows'.any-gone (Laws.mir)) (List._∷_ (1, Reshare.mslice-owedS (OfOutput.row) (Syntax.tyRef (Syntax.named 0) Syntax.mut OfOutput.named) 0 6 Row.off) (List._∷_ (2, Mut.mslice (OfStation.row) (Syntax.tyRef (Syntax.named 1) Syntax.mut OfStation.named) 1) (List._∷_ (3, Rows'.mref (OfPanelRecord.row) (Syntax.tyRef (Syntax.named 2) Syntax.mut OfPanelRecord.named) 2) (List._∷_ (4, Rows'.sslice (Referent.rtF (Referent.fInt Syntax.w8)) (Syntax.tyRef (Syntax.named 3) Syntax.imm (Syntax.tyInt Syntax.w8)) 3) (List._∷_ (5, OfPanelRecord.held) (List._∷_ (6, Rows'.whole (Declared'.row Parameters.the-type)) (List._∷_ (7, Rows'.any-gone (Laws''.mir)) (List._∷_ (8, Rows'.any-gone Syntax.tyBool) (List._∷_ (9, Rows'.any-gone (Syntax.tyRef Syntax.erased Syntax.imm OfOutput.named)) (List._∷_ (10, Rows'.any-gone (Syntax.tyStruct (List._∷_ 38 (List._∷_ 91 (List._∷_ 93 List.[]))) (Syntax.tcons (Syntax.tyRef Syntax.erased Syntax.imm OfOutput.named) (Syntax.tcons (Syntax.tyInt Syntax.w64) Syntax.tnil)))) (List._∷_ (11, Rows'.any-gone (Syntax.tyRef Syntax.erased Syntax.imm OfStation.named)) (List._∷_ (12, Rows'.any-gone (Syntax.tyStruct (List._∷_ 38 (List._∷_ 91 (List._∷_ 93 List.[]))) (Syntax.tcons (Syntax.tyRef Syntax.erased Syntax.imm OfStation.named) (Syntax.tcons (Syntax.tyInt Syntax.w64) Syntax.tnil)))) (List._∷_ (13, Rows'.any-gone Syntax.tyBool) (List._∷_ (14, Rows'.any-gone (Syntax.tyRef Syntax.erased Syntax.imm OfOutput.named)) (List._∷_ (15, Rows'.sslice (OfOutput.row) (Syntax.tyRef Syntax.erased Syntax.imm OfOutput.named) 6) List.[])))))))))))))))
+t19 = List._∷_ (0, Rows'.any-gone (Laws'.mir)) (List._∷_ (1, Reshare.mslice-owedS (OfOutput.row) (Syntax.tyRef (Syntax.named 0) Syntax.mut OfOutput.named) 0 6 Row.off) (List._∷_ (2, Mut.mslice (OfStation.row) (Syntax.tyRef (Syntax.named 1) Syntax.mut OfStation.named) 1) (List._∷_ (3, Rows'.mref (OfPanelRecord.row) (Syntax.tyRef (Syntax.named 2) Syntax.mut OfPanelRecord.named) 2) (List._∷_ (4, Rows'.sslice (Referent.rtF (Referent.fInt Syntax.w8)) (Syntax.tyRef (Syntax.named 3) Syntax.imm (Syntax.tyInt Syntax.w8)) 3) (List._∷_ (5, OfPanelRecord.held) (List._∷_ (6, Rows'.whole (Declared'.row Parameters.the-type)) (List._∷_ (7, Rows'.any-gone (Laws.mir)) (List._∷_ (8, Rows'.any-gone Syntax.tyBool) (List._∷_ (9, Rows'.any-gone (Syntax.tyRef Syntax.erased Syntax.imm OfOutput.named)) (List._∷_ (10, Rows'.any-gone (Syntax.tyStruct (List._∷_ 38 (List._∷_ 91 (List._∷_ 93 List.[]))) (Syntax.tcons (Syntax.tyRef Syntax.erased Syntax.imm OfOutput.named) (Syntax.tcons (Syntax.tyInt Syntax.w64) Syntax.tnil)))) (List._∷_ (11, Rows'.any-gone (Syntax.tyRef Syntax.erased Syntax.imm OfStation.named)) (List._∷_ (12, Rows'.any-gone (Syntax.tyStruct (List._∷_ 38 (List._∷_ 91 (List._∷_ 93 List.[]))) (Syntax.tcons (Syntax.tyRef Syntax.erased Syntax.imm OfStation.named) (Syntax.tcons (Syntax.tyInt Syntax.w64) Syntax.tnil)))) (List._∷_ (13, Rows'.any-gone Syntax.tyBool) (List._∷_ (14, Rows'.any-gone (Syntax.tyRef Syntax.erased Syntax.imm OfOutput.named)) (List._∷_ (15, Rows'.sslice (OfOutput.row) (Syntax.tyRef Syntax.erased Syntax.imm OfOutput.named) 6) List.[])))))))))))))))
 
 abbrev pub t20 : List.List Row.Entry
-t20 = List._∷_ (0, Rows'.any-gone (Laws.mir)) (List._∷_ (1, Reshare.mslice-owedS (OfOutput.row) (Syntax.tyRef (Syntax.named 0) Syntax.mut OfOutput.named) 0 6 Row.off) (List._∷_ (2, Reshare.mslice-owedS (OfStation.row) (Syntax.tyRef (Syntax.named 1) Syntax.mut OfStation.named) 1 7 Row.off) (List._∷_ (3, Rows'.mref (OfPanelRecord.row) (Syntax.tyRef (Syntax.named 2) Syntax.mut OfPanelRecord.named) 2) (List._∷_ (4, Rows'.sslice (Referent.rtF (Referent.fInt Syntax.w8)) (Syntax.tyRef (Syntax.named 3) Syntax.imm (Syntax.tyInt Syntax.w8)) 3) (List._∷_ (5, OfPanelRecord.held) (List._∷_ (6, Rows'.whole (Declared'.row Parameters.the-type)) (List._∷_ (7, Rows'.any-gone (Laws''.mir)) (List._∷_ (8, Rows'.any-gone Syntax.tyBool) (List._∷_ (9, Rows'.any-gone (Syntax.tyRef Syntax.erased Syntax.imm OfOutput.named)) (List._∷_ (10, Rows'.any-gone (Syntax.tyStruct (List._∷_ 38 (List._∷_ 91 (List._∷_ 93 List.[]))) (Syntax.tcons (Syntax.tyRef Syntax.erased Syntax.imm OfOutput.named) (Syntax.tcons (Syntax.tyInt Syntax.w64) Syntax.tnil)))) (List._∷_ (11, Rows'.any-gone (Syntax.tyRef Syntax.erased Syntax.imm OfStation.named)) (List._∷_ (12, Rows'.any-gone (Syntax.tyStruct (List._∷_ 38 (List._∷_ 91 (List._∷_ 93 List.[]))) (Syntax.tcons (Syntax.tyRef Syntax.erased Syntax.imm OfStation.named) (Syntax.tcons (Syntax.tyInt Syntax.w64) Syntax.tnil)))) (List._∷_ (13, Rows'.any-gone Syntax.tyBool) (List._∷_ (14, Rows'.any-gone (Syntax.tyRef Syntax.erased Syntax.imm OfOutput.named)) (List._∷_ (15, Rows'.sslice (OfOutput.row) (Syntax.tyRef Syntax.erased Syntax.imm OfOutput.named) 6) List.[])))))))))))))))
+t20 = List._∷_ (0, Rows'.any-gone (Laws'.mir)) (List._∷_ (1, Reshare.mslice-owedS (OfOutput.row) (Syntax.tyRef (Syntax.named 0) Syntax.mut OfOutput.named) 0 6 Row.off) (List._∷_ (2, Reshare.mslice-owedS (OfStation.row) (Syntax.tyRef (Syntax.named 1) Syntax.mut OfStation.named) 1 7 Row.off) (List._∷_ (3, Rows'.mref (OfPanelRecord.row) (Syntax.tyRef (Syntax.named 2) Syntax.mut OfPanelRecord.named) 2) (List._∷_ (4, Rows'.sslice (Referent.rtF (Referent.fInt Syntax.w8)) (Syntax.tyRef (Syntax.named 3) Syntax.imm (Syntax.tyInt Syntax.w8)) 3) (List._∷_ (5, OfPanelRecord.held) (List._∷_ (6, Rows'.whole (Declared'.row Parameters.the-type)) (List._∷_ (7, Rows'.any-gone (Laws.mir)) (List._∷_ (8, Rows'.any-gone Syntax.tyBool) (List._∷_ (9, Rows'.any-gone (Syntax.tyRef Syntax.erased Syntax.imm OfOutput.named)) (List._∷_ (10, Rows'.any-gone (Syntax.tyStruct (List._∷_ 38 (List._∷_ 91 (List._∷_ 93 List.[]))) (Syntax.tcons (Syntax.tyRef Syntax.erased Syntax.imm OfOutput.named) (Syntax.tcons (Syntax.tyInt Syntax.w64) Syntax.tnil)))) (List._∷_ (11, Rows'.any-gone (Syntax.tyRef Syntax.erased Syntax.imm OfStation.named)) (List._∷_ (12, Rows'.any-gone (Syntax.tyStruct (List._∷_ 38 (List._∷_ 91 (List._∷_ 93 List.[]))) (Syntax.tcons (Syntax.tyRef Syntax.erased Syntax.imm OfStation.named) (Syntax.tcons (Syntax.tyInt Syntax.w64) Syntax.tnil)))) (List._∷_ (13, Rows'.any-gone Syntax.tyBool) (List._∷_ (14, Rows'.any-gone (Syntax.tyRef Syntax.erased Syntax.imm OfOutput.named)) (List._∷_ (15, Rows'.sslice (OfOutput.row) (Syntax.tyRef Syntax.erased Syntax.imm OfOutput.named) 6) List.[])))))))))))))))
 
 abbrev pub t21 : List.List Row.Entry
 t21 = List._∷_ (16, Relend.ssptr (OfStation.row) (Syntax.tyRef Syntax.erased Syntax.imm OfStation.named) 7) (List._∷_ (17, Rows'.any-gone (Syntax.tyStruct (List._∷_ 38 (List._∷_ 91 (List._∷_ 93 List.[]))) (Syntax.tcons (Syntax.tyRef Syntax.erased Syntax.imm OfStation.named) (Syntax.tcons (Syntax.tyInt Syntax.w64) Syntax.tnil)))) (List._∷_ (18, Rows'.any-gone (Syntax.tyRef Syntax.erased Syntax.mut OfOutput.named)) (List._∷_ (19, Rows'.any-gone (Syntax.tyStruct (List._∷_ 38 (List._∷_ 91 (List._∷_ 93 List.[]))) (Syntax.tcons (Syntax.tyRef Syntax.erased Syntax.mut OfOutput.named) (Syntax.tcons (Syntax.tyInt Syntax.w64) Syntax.tnil)))) (List._∷_ (20, Rows'.any-gone (Syntax.tyRef Syntax.erased Syntax.mut OfStation.named)) (List._∷_ (21, Rows'.any-gone (Syntax.tyStruct (List._∷_ 38 (List._∷_ 91 (List._∷_ 93 List.[]))) (Syntax.tcons (Syntax.tyRef Syntax.erased Syntax.mut OfStation.named) (Syntax.tcons (Syntax.tyInt Syntax.w64) Syntax.tnil)))) (List._∷_ (22, Rows'.any-gone (Syntax.tyRef Syntax.erased Syntax.mut OfPanelRecord.named)) List.[]))))))
@@ -313,25 +313,25 @@ abbrev pub t22 : List.List Row.Entry
 t22 = List._∷_ (16, Rows'.any-gone (Syntax.tyRef Syntax.erased Syntax.imm OfStation.named)) (List._∷_ (17, Rows'.sslice (OfStation.row) (Syntax.tyRef Syntax.erased Syntax.imm OfStation.named) 7) (List._∷_ (18, Rows'.any-gone (Syntax.tyRef Syntax.erased Syntax.mut OfOutput.named)) (List._∷_ (19, Rows'.any-gone (Syntax.tyStruct (List._∷_ 38 (List._∷_ 91 (List._∷_ 93 List.[]))) (Syntax.tcons (Syntax.tyRef Syntax.erased Syntax.mut OfOutput.named) (Syntax.tcons (Syntax.tyInt Syntax.w64) Syntax.tnil)))) (List._∷_ (20, Rows'.any-gone (Syntax.tyRef Syntax.erased Syntax.mut OfStation.named)) (List._∷_ (21, Rows'.any-gone (Syntax.tyStruct (List._∷_ 38 (List._∷_ 91 (List._∷_ 93 List.[]))) (Syntax.tcons (Syntax.tyRef Syntax.erased Syntax.mut OfStation.named) (Syntax.tcons (Syntax.tyInt Syntax.w64) Syntax.tnil)))) (List._∷_ (22, Rows'.any-gone (Syntax.tyRef Syntax.erased Syntax.mut OfPanelRecord.named)) List.[]))))))
 
 abbrev pub t23 : List.List Row.Entry
-t23 = List._∷_ (0, Rows'.any-gone (Laws.mir)) (List._∷_ (1, Reshare.mslice-owedS (OfOutput.row) (Syntax.tyRef (Syntax.named 0) Syntax.mut OfOutput.named) 0 6 Row.off) (List._∷_ (2, Reshare.mslice-owedS (OfStation.row) (Syntax.tyRef (Syntax.named 1) Syntax.mut OfStation.named) 1 7 Row.off) (List._∷_ (3, Rows'.mref (OfPanelRecord.row) (Syntax.tyRef (Syntax.named 2) Syntax.mut OfPanelRecord.named) 2) (List._∷_ (4, Rows'.sslice (Referent.rtF (Referent.fInt Syntax.w8)) (Syntax.tyRef (Syntax.named 3) Syntax.imm (Syntax.tyInt Syntax.w8)) 3) (List._∷_ (5, OfPanelRecord.held) (List._∷_ (6, Rows'.whole (Declared'.row Parameters.the-type)) (List._∷_ (7, Rows'.whole (Declared.row Verdict.the-type)) (List._∷_ (8, Rows'.any-gone Syntax.tyBool) (List._∷_ (9, Rows'.any-gone (Syntax.tyRef Syntax.erased Syntax.imm OfOutput.named)) (List._∷_ (10, Rows'.any-gone (Syntax.tyStruct (List._∷_ 38 (List._∷_ 91 (List._∷_ 93 List.[]))) (Syntax.tcons (Syntax.tyRef Syntax.erased Syntax.imm OfOutput.named) (Syntax.tcons (Syntax.tyInt Syntax.w64) Syntax.tnil)))) (List._∷_ (11, Rows'.any-gone (Syntax.tyRef Syntax.erased Syntax.imm OfStation.named)) (List._∷_ (12, Rows'.any-gone (Syntax.tyStruct (List._∷_ 38 (List._∷_ 91 (List._∷_ 93 List.[]))) (Syntax.tcons (Syntax.tyRef Syntax.erased Syntax.imm OfStation.named) (Syntax.tcons (Syntax.tyInt Syntax.w64) Syntax.tnil)))) (List._∷_ (13, Rows'.any-gone Syntax.tyBool) (List._∷_ (14, Rows'.any-gone (Syntax.tyRef Syntax.erased Syntax.imm OfOutput.named)) (List._∷_ (15, Rows'.sslice (OfOutput.row) (Syntax.tyRef Syntax.erased Syntax.imm OfOutput.named) 6) List.[])))))))))))))))
+t23 = List._∷_ (0, Rows'.any-gone (Laws'.mir)) (List._∷_ (1, Reshare.mslice-owedS (OfOutput.row) (Syntax.tyRef (Syntax.named 0) Syntax.mut OfOutput.named) 0 6 Row.off) (List._∷_ (2, Reshare.mslice-owedS (OfStation.row) (Syntax.tyRef (Syntax.named 1) Syntax.mut OfStation.named) 1 7 Row.off) (List._∷_ (3, Rows'.mref (OfPanelRecord.row) (Syntax.tyRef (Syntax.named 2) Syntax.mut OfPanelRecord.named) 2) (List._∷_ (4, Rows'.sslice (Referent.rtF (Referent.fInt Syntax.w8)) (Syntax.tyRef (Syntax.named 3) Syntax.imm (Syntax.tyInt Syntax.w8)) 3) (List._∷_ (5, OfPanelRecord.held) (List._∷_ (6, Rows'.whole (Declared'.row Parameters.the-type)) (List._∷_ (7, Rows'.whole (Declared.row Verdict.the-type)) (List._∷_ (8, Rows'.any-gone Syntax.tyBool) (List._∷_ (9, Rows'.any-gone (Syntax.tyRef Syntax.erased Syntax.imm OfOutput.named)) (List._∷_ (10, Rows'.any-gone (Syntax.tyStruct (List._∷_ 38 (List._∷_ 91 (List._∷_ 93 List.[]))) (Syntax.tcons (Syntax.tyRef Syntax.erased Syntax.imm OfOutput.named) (Syntax.tcons (Syntax.tyInt Syntax.w64) Syntax.tnil)))) (List._∷_ (11, Rows'.any-gone (Syntax.tyRef Syntax.erased Syntax.imm OfStation.named)) (List._∷_ (12, Rows'.any-gone (Syntax.tyStruct (List._∷_ 38 (List._∷_ 91 (List._∷_ 93 List.[]))) (Syntax.tcons (Syntax.tyRef Syntax.erased Syntax.imm OfStation.named) (Syntax.tcons (Syntax.tyInt Syntax.w64) Syntax.tnil)))) (List._∷_ (13, Rows'.any-gone Syntax.tyBool) (List._∷_ (14, Rows'.any-gone (Syntax.tyRef Syntax.erased Syntax.imm OfOutput.named)) (List._∷_ (15, Rows'.sslice (OfOutput.row) (Syntax.tyRef Syntax.erased Syntax.imm OfOutput.named) 6) List.[])))))))))))))))
 
 abbrev pub t24 : List.List Row.Entry
-t24 = List._∷_ (0, Rows'.any-gone (Laws.mir)) (List._∷_ (1, Reshare.mslice-owedS (OfOutput.row) (Syntax.tyRef (Syntax.named 0) Syntax.mut OfOutput.named) 0 6 Row.off) (List._∷_ (2, Reshare.mslice-owedS (OfStation.row) (Syntax.tyRef (Syntax.named 1) Syntax.mut OfStation.named) 1 7 Row.off) (List._∷_ (3, Rows'.mref (OfPanelRecord.row) (Syntax.tyRef (Syntax.named 2) Syntax.mut OfPanelRecord.named) 2) (List._∷_ (4, Rows'.sslice (Referent.rtF (Referent.fInt Syntax.w8)) (Syntax.tyRef (Syntax.named 3) Syntax.imm (Syntax.tyInt Syntax.w8)) 3) (List._∷_ (5, OfPanelRecord.held) (List._∷_ (6, Rows'.whole (Declared'.row Parameters.the-type)) (List._∷_ (7, Rows'.whole (Declared.row Verdict.the-type)) (List._∷_ (8, Rows'.any-gone Syntax.tyBool) (List._∷_ (9, Rows'.any-gone (Syntax.tyRef Syntax.erased Syntax.imm OfOutput.named)) (List._∷_ (10, Rows'.any-gone (Syntax.tyStruct (List._∷_ 38 (List._∷_ 91 (List._∷_ 93 List.[]))) (Syntax.tcons (Syntax.tyRef Syntax.erased Syntax.imm OfOutput.named) (Syntax.tcons (Syntax.tyInt Syntax.w64) Syntax.tnil)))) (List._∷_ (11, Rows'.any-gone (Syntax.tyRef Syntax.erased Syntax.imm OfStation.named)) (List._∷_ (12, Rows'.any-gone (Syntax.tyStruct (List._∷_ 38 (List._∷_ 91 (List._∷_ 93 List.[]))) (Syntax.tcons (Syntax.tyRef Syntax.erased Syntax.imm OfStation.named) (Syntax.tcons (Syntax.tyInt Syntax.w64) Syntax.tnil)))) (List._∷_ (13, Rows'.any-gone Syntax.tyBool) (List._∷_ (14, Rows'.any-gone (Syntax.tyRef Syntax.erased Syntax.imm OfOutput.named)) (List._∷_ (15, Rows'.any-gone (Syntax.tyStruct (List._∷_ 38 (List._∷_ 91 (List._∷_ 93 List.[]))) (Syntax.tcons (Syntax.tyRef Syntax.erased Syntax.imm OfOutput.named) (Syntax.tcons (Syntax.tyInt Syntax.w64) Syntax.tnil)))) List.[])))))))))))))))
+t24 = List._∷_ (0, Rows'.any-gone (Laws'.mir)) (List._∷_ (1, Reshare.mslice-owedS (OfOutput.row) (Syntax.tyRef (Syntax.named 0) Syntax.mut OfOutput.named) 0 6 Row.off) (List._∷_ (2, Reshare.mslice-owedS (OfStation.row) (Syntax.tyRef (Syntax.named 1) Syntax.mut OfStation.named) 1 7 Row.off) (List._∷_ (3, Rows'.mref (OfPanelRecord.row) (Syntax.tyRef (Syntax.named 2) Syntax.mut OfPanelRecord.named) 2) (List._∷_ (4, Rows'.sslice (Referent.rtF (Referent.fInt Syntax.w8)) (Syntax.tyRef (Syntax.named 3) Syntax.imm (Syntax.tyInt Syntax.w8)) 3) (List._∷_ (5, OfPanelRecord.held) (List._∷_ (6, Rows'.whole (Declared'.row Parameters.the-type)) (List._∷_ (7, Rows'.whole (Declared.row Verdict.the-type)) (List._∷_ (8, Rows'.any-gone Syntax.tyBool) (List._∷_ (9, Rows'.any-gone (Syntax.tyRef Syntax.erased Syntax.imm OfOutput.named)) (List._∷_ (10, Rows'.any-gone (Syntax.tyStruct (List._∷_ 38 (List._∷_ 91 (List._∷_ 93 List.[]))) (Syntax.tcons (Syntax.tyRef Syntax.erased Syntax.imm OfOutput.named) (Syntax.tcons (Syntax.tyInt Syntax.w64) Syntax.tnil)))) (List._∷_ (11, Rows'.any-gone (Syntax.tyRef Syntax.erased Syntax.imm OfStation.named)) (List._∷_ (12, Rows'.any-gone (Syntax.tyStruct (List._∷_ 38 (List._∷_ 91 (List._∷_ 93 List.[]))) (Syntax.tcons (Syntax.tyRef Syntax.erased Syntax.imm OfStation.named) (Syntax.tcons (Syntax.tyInt Syntax.w64) Syntax.tnil)))) (List._∷_ (13, Rows'.any-gone Syntax.tyBool) (List._∷_ (14, Rows'.any-gone (Syntax.tyRef Syntax.erased Syntax.imm OfOutput.named)) (List._∷_ (15, Rows'.any-gone (Syntax.tyStruct (List._∷_ 38 (List._∷_ 91 (List._∷_ 93 List.[]))) (Syntax.tcons (Syntax.tyRef Syntax.erased Syntax.imm OfOutput.named) (Syntax.tcons (Syntax.tyInt Syntax.w64) Syntax.tnil)))) List.[])))))))))))))))
 
 abbrev pub t25 : List.List Row.Entry
-t25 = List._∷_ (0, Rows'.any-gone (Laws.mir)) (List._∷_ (1, Reshare.mslice-owedS (OfOutput.row) (Syntax.tyRef (Syntax.named 0) Syntax.mut OfOutput.named) 0 6 Row.off) (List._∷_ (2, Reshare.mslice-owedS (OfStation.row) (Syntax.tyRef (Syntax.named 1) Syntax.mut OfStation.named) 1 7 Row.off) (List._∷_ (3, Rows'.mref (OfPanelRecord.row) (Syntax.tyRef (Syntax.named 2) Syntax.mut OfPanelRecord.named) 2) (List._∷_ (4, Rows'.sslice (Referent.rtF (Referent.fInt Syntax.w8)) (Syntax.tyRef (Syntax.named 3) Syntax.imm (Syntax.tyInt Syntax.w8)) 3) (List._∷_ (5, Rows'.any-gone OfPanelRecord.spelt) (List._∷_ (6, Rows'.whole (Declared'.row Parameters.the-type)) (List._∷_ (7, Rows'.whole (Declared.row Verdict.the-type)) (List._∷_ (8, Rows'.any-gone Syntax.tyBool) (List._∷_ (9, Rows'.any-gone (Syntax.tyRef Syntax.erased Syntax.imm OfOutput.named)) (List._∷_ (10, Rows'.any-gone (Syntax.tyStruct (List._∷_ 38 (List._∷_ 91 (List._∷_ 93 List.[]))) (Syntax.tcons (Syntax.tyRef Syntax.erased Syntax.imm OfOutput.named) (Syntax.tcons (Syntax.tyInt Syntax.w64) Syntax.tnil)))) (List._∷_ (11, Rows'.any-gone (Syntax.tyRef Syntax.erased Syntax.imm OfStation.named)) (List._∷_ (12, Rows'.any-gone (Syntax.tyStruct (List._∷_ 38 (List._∷_ 91 (List._∷_ 93 List.[]))) (Syntax.tcons (Syntax.tyRef Syntax.erased Syntax.imm OfStation.named) (Syntax.tcons (Syntax.tyInt Syntax.w64) Syntax.tnil)))) (List._∷_ (13, Rows'.any-gone Syntax.tyBool) (List._∷_ (14, Rows'.any-gone (Syntax.tyRef Syntax.erased Syntax.imm OfOutput.named)) (List._∷_ (15, Rows'.any-gone (Syntax.tyStruct (List._∷_ 38 (List._∷_ 91 (List._∷_ 93 List.[]))) (Syntax.tcons (Syntax.tyRef Syntax.erased Syntax.imm OfOutput.named) (Syntax.tcons (Syntax.tyInt Syntax.w64) Syntax.tnil)))) List.[])))))))))))))))
+t25 = List._∷_ (0, Rows'.any-gone (Laws'.mir)) (List._∷_ (1, Reshare.mslice-owedS (OfOutput.row) (Syntax.tyRef (Syntax.named 0) Syntax.mut OfOutput.named) 0 6 Row.off) (List._∷_ (2, Reshare.mslice-owedS (OfStation.row) (Syntax.tyRef (Syntax.named 1) Syntax.mut OfStation.named) 1 7 Row.off) (List._∷_ (3, Rows'.mref (OfPanelRecord.row) (Syntax.tyRef (Syntax.named 2) Syntax.mut OfPanelRecord.named) 2) (List._∷_ (4, Rows'.sslice (Referent.rtF (Referent.fInt Syntax.w8)) (Syntax.tyRef (Syntax.named 3) Syntax.imm (Syntax.tyInt Syntax.w8)) 3) (List._∷_ (5, Rows'.any-gone OfPanelRecord.spelt) (List._∷_ (6, Rows'.whole (Declared'.row Parameters.the-type)) (List._∷_ (7, Rows'.whole (Declared.row Verdict.the-type)) (List._∷_ (8, Rows'.any-gone Syntax.tyBool) (List._∷_ (9, Rows'.any-gone (Syntax.tyRef Syntax.erased Syntax.imm OfOutput.named)) (List._∷_ (10, Rows'.any-gone (Syntax.tyStruct (List._∷_ 38 (List._∷_ 91 (List._∷_ 93 List.[]))) (Syntax.tcons (Syntax.tyRef Syntax.erased Syntax.imm OfOutput.named) (Syntax.tcons (Syntax.tyInt Syntax.w64) Syntax.tnil)))) (List._∷_ (11, Rows'.any-gone (Syntax.tyRef Syntax.erased Syntax.imm OfStation.named)) (List._∷_ (12, Rows'.any-gone (Syntax.tyStruct (List._∷_ 38 (List._∷_ 91 (List._∷_ 93 List.[]))) (Syntax.tcons (Syntax.tyRef Syntax.erased Syntax.imm OfStation.named) (Syntax.tcons (Syntax.tyInt Syntax.w64) Syntax.tnil)))) (List._∷_ (13, Rows'.any-gone Syntax.tyBool) (List._∷_ (14, Rows'.any-gone (Syntax.tyRef Syntax.erased Syntax.imm OfOutput.named)) (List._∷_ (15, Rows'.any-gone (Syntax.tyStruct (List._∷_ 38 (List._∷_ 91 (List._∷_ 93 List.[]))) (Syntax.tcons (Syntax.tyRef Syntax.erased Syntax.imm OfOutput.named) (Syntax.tcons (Syntax.tyInt Syntax.w64) Syntax.tnil)))) List.[])))))))))))))))
 
 abbrev pub t26 : List.List Row.Entry
-t26 = List._∷_ (0, Rows'.any-gone (Laws.mir)) (List._∷_ (1, Reshare.mslice-owedS (OfOutput.row) (Syntax.tyRef (Syntax.named 0) Syntax.mut OfOutput.named) 0 6 Row.off) (List._∷_ (2, Reshare.mslice-owedS (OfStation.row) (Syntax.tyRef (Syntax.named 1) Syntax.mut OfStation.named) 1 7 Row.off) (List._∷_ (3, Rows'.mref (OfPanelRecord.row) (Syntax.tyRef (Syntax.named 2) Syntax.mut OfPanelRecord.named) 2) (List._∷_ (4, Rows'.sslice (Referent.rtF (Referent.fInt Syntax.w8)) (Syntax.tyRef (Syntax.named 3) Syntax.imm (Syntax.tyInt Syntax.w8)) 3) (List._∷_ (5, Rows'.any-gone OfPanelRecord.spelt) (List._∷_ (6, Rows'.any-gone (Laws'.mir)) (List._∷_ (7, Rows'.whole (Declared.row Verdict.the-type)) (List._∷_ (8, Rows'.any-gone Syntax.tyBool) (List._∷_ (9, Rows'.any-gone (Syntax.tyRef Syntax.erased Syntax.imm OfOutput.named)) (List._∷_ (10, Rows'.any-gone (Syntax.tyStruct (List._∷_ 38 (List._∷_ 91 (List._∷_ 93 List.[]))) (Syntax.tcons (Syntax.tyRef Syntax.erased Syntax.imm OfOutput.named) (Syntax.tcons (Syntax.tyInt Syntax.w64) Syntax.tnil)))) (List._∷_ (11, Rows'.any-gone (Syntax.tyRef Syntax.erased Syntax.imm OfStation.named)) (List._∷_ (12, Rows'.any-gone (Syntax.tyStruct (List._∷_ 38 (List._∷_ 91 (List._∷_ 93 List.[]))) (Syntax.tcons (Syntax.tyRef Syntax.erased Syntax.imm OfStation.named) (Syntax.tcons (Syntax.tyInt Syntax.w64) Syntax.tnil)))) (List._∷_ (13, Rows'.any-gone Syntax.tyBool) (List._∷_ (14, Rows'.any-gone (Syntax.tyRef Syntax.erased Syntax.imm OfOutput.named)) (List._∷_ (15, Rows'.any-gone (Syntax.tyStruct (List._∷_ 38 (List._∷_ 91 (List._∷_ 93 List.[]))) (Syntax.tcons (Syntax.tyRef Syntax.erased Syntax.imm OfOutput.named) (Syntax.tcons (Syntax.tyInt Syntax.w64) Syntax.tnil)))) List.[])))))))))))))))
+t26 = List._∷_ (0, Rows'.any-gone (Laws'.mir)) (List._∷_ (1, Reshare.mslice-owedS (OfOutput.row) (Syntax.tyRef (Syntax.named 0) Syntax.mut OfOutput.named) 0 6 Row.off) (List._∷_ (2, Reshare.mslice-owedS (OfStation.row) (Syntax.tyRef (Syntax.named 1) Syntax.mut OfStation.named) 1 7 Row.off) (List._∷_ (3, Rows'.mref (OfPanelRecord.row) (Syntax.tyRef (Syntax.named 2) Syntax.mut OfPanelRecord.named) 2) (List._∷_ (4, Rows'.sslice (Referent.rtF (Referent.fInt Syntax.w8)) (Syntax.tyRef (Syntax.named 3) Syntax.imm (Syntax.tyInt Syntax.w8)) 3) (List._∷_ (5, Rows'.any-gone OfPanelRecord.spelt) (List._∷_ (6, Rows'.any-gone (Laws''.mir)) (List._∷_ (7, Rows'.whole (Declared.row Verdict.the-type)) (List._∷_ (8, Rows'.any-gone Syntax.tyBool) (List._∷_ (9, Rows'.any-gone (Syntax.tyRef Syntax.erased Syntax.imm OfOutput.named)) (List._∷_ (10, Rows'.any-gone (Syntax.tyStruct (List._∷_ 38 (List._∷_ 91 (List._∷_ 93 List.[]))) (Syntax.tcons (Syntax.tyRef Syntax.erased Syntax.imm OfOutput.named) (Syntax.tcons (Syntax.tyInt Syntax.w64) Syntax.tnil)))) (List._∷_ (11, Rows'.any-gone (Syntax.tyRef Syntax.erased Syntax.imm OfStation.named)) (List._∷_ (12, Rows'.any-gone (Syntax.tyStruct (List._∷_ 38 (List._∷_ 91 (List._∷_ 93 List.[]))) (Syntax.tcons (Syntax.tyRef Syntax.erased Syntax.imm OfStation.named) (Syntax.tcons (Syntax.tyInt Syntax.w64) Syntax.tnil)))) (List._∷_ (13, Rows'.any-gone Syntax.tyBool) (List._∷_ (14, Rows'.any-gone (Syntax.tyRef Syntax.erased Syntax.imm OfOutput.named)) (List._∷_ (15, Rows'.any-gone (Syntax.tyStruct (List._∷_ 38 (List._∷_ 91 (List._∷_ 93 List.[]))) (Syntax.tcons (Syntax.tyRef Syntax.erased Syntax.imm OfOutput.named) (Syntax.tcons (Syntax.tyInt Syntax.w64) Syntax.tnil)))) List.[])))))))))))))))
 
 abbrev pub t27 : List.List Row.Entry
-t27 = List._∷_ (0, Rows'.any-gone (Laws.mir)) (List._∷_ (1, Mut.mslice (OfOutput.row) (Syntax.tyRef (Syntax.named 0) Syntax.mut OfOutput.named) 0) (List._∷_ (2, Reshare.mslice-owedS (OfStation.row) (Syntax.tyRef (Syntax.named 1) Syntax.mut OfStation.named) 1 7 Row.off) (List._∷_ (3, Rows'.mref (OfPanelRecord.row) (Syntax.tyRef (Syntax.named 2) Syntax.mut OfPanelRecord.named) 2) (List._∷_ (4, Rows'.sslice (Referent.rtF (Referent.fInt Syntax.w8)) (Syntax.tyRef (Syntax.named 3) Syntax.imm (Syntax.tyInt Syntax.w8)) 3) (List._∷_ (5, Rows'.any-gone OfPanelRecord.spelt) (List._∷_ (6, Rows'.any-gone (Laws'.mir)) (List._∷_ (7, Rows'.whole (Declared.row Verdict.the-type)) (List._∷_ (8, Rows'.any-gone Syntax.tyBool) (List._∷_ (9, Rows'.any-gone (Syntax.tyRef Syntax.erased Syntax.imm OfOutput.named)) (List._∷_ (10, Rows'.any-gone (Syntax.tyStruct (List._∷_ 38 (List._∷_ 91 (List._∷_ 93 List.[]))) (Syntax.tcons (Syntax.tyRef Syntax.erased Syntax.imm OfOutput.named) (Syntax.tcons (Syntax.tyInt Syntax.w64) Syntax.tnil)))) (List._∷_ (11, Rows'.any-gone (Syntax.tyRef Syntax.erased Syntax.imm OfStation.named)) (List._∷_ (12, Rows'.any-gone (Syntax.tyStruct (List._∷_ 38 (List._∷_ 91 (List._∷_ 93 List.[]))) (Syntax.tcons (Syntax.tyRef Syntax.erased Syntax.imm OfStation.named) (Syntax.tcons (Syntax.tyInt Syntax.w64) Syntax.tnil)))) (List._∷_ (13, Rows'.any-gone Syntax.tyBool) (List._∷_ (14, Rows'.any-gone (Syntax.tyRef Syntax.erased Syntax.imm OfOutput.named)) (List._∷_ (15, Rows'.any-gone (Syntax.tyStruct (List._∷_ 38 (List._∷_ 91 (List._∷_ 93 List.[]))) (Syntax.tcons (Syntax.tyRef Syntax.erased Syntax.imm OfOutput.named) (Syntax.tcons (Syntax.tyInt Syntax.w64) Syntax.tnil)))) List.[])))))))))))))))
+t27 = List._∷_ (0, Rows'.any-gone (Laws'.mir)) (List._∷_ (1, Mut.mslice (OfOutput.row) (Syntax.tyRef (Syntax.named 0) Syntax.mut OfOutput.named) 0) (List._∷_ (2, Reshare.mslice-owedS (OfStation.row) (Syntax.tyRef (Syntax.named 1) Syntax.mut OfStation.named) 1 7 Row.off) (List._∷_ (3, Rows'.mref (OfPanelRecord.row) (Syntax.tyRef (Syntax.named 2) Syntax.mut OfPanelRecord.named) 2) (List._∷_ (4, Rows'.sslice (Referent.rtF (Referent.fInt Syntax.w8)) (Syntax.tyRef (Syntax.named 3) Syntax.imm (Syntax.tyInt Syntax.w8)) 3) (List._∷_ (5, Rows'.any-gone OfPanelRecord.spelt) (List._∷_ (6, Rows'.any-gone (Laws''.mir)) (List._∷_ (7, Rows'.whole (Declared.row Verdict.the-type)) (List._∷_ (8, Rows'.any-gone Syntax.tyBool) (List._∷_ (9, Rows'.any-gone (Syntax.tyRef Syntax.erased Syntax.imm OfOutput.named)) (List._∷_ (10, Rows'.any-gone (Syntax.tyStruct (List._∷_ 38 (List._∷_ 91 (List._∷_ 93 List.[]))) (Syntax.tcons (Syntax.tyRef Syntax.erased Syntax.imm OfOutput.named) (Syntax.tcons (Syntax.tyInt Syntax.w64) Syntax.tnil)))) (List._∷_ (11, Rows'.any-gone (Syntax.tyRef Syntax.erased Syntax.imm OfStation.named)) (List._∷_ (12, Rows'.any-gone (Syntax.tyStruct (List._∷_ 38 (List._∷_ 91 (List._∷_ 93 List.[]))) (Syntax.tcons (Syntax.tyRef Syntax.erased Syntax.imm OfStation.named) (Syntax.tcons (Syntax.tyInt Syntax.w64) Syntax.tnil)))) (List._∷_ (13, Rows'.any-gone Syntax.tyBool) (List._∷_ (14, Rows'.any-gone (Syntax.tyRef Syntax.erased Syntax.imm OfOutput.named)) (List._∷_ (15, Rows'.any-gone (Syntax.tyStruct (List._∷_ 38 (List._∷_ 91 (List._∷_ 93 List.[]))) (Syntax.tcons (Syntax.tyRef Syntax.erased Syntax.imm OfOutput.named) (Syntax.tcons (Syntax.tyInt Syntax.w64) Syntax.tnil)))) List.[])))))))))))))))
 
 abbrev pub t28 : List.List Row.Entry
-t28 = List._∷_ (0, Rows'.any-gone (Laws.mir)) (List._∷_ (1, Mut.mslice (OfOutput.row) (Syntax.tyRef (Syntax.named 0) Syntax.mut OfOutput.named) 0) (List._∷_ (2, Mut.mslice (OfStation.row) (Syntax.tyRef (Syntax.named 1) Syntax.mut OfStation.named) 1) (List._∷_ (3, Rows'.mref (OfPanelRecord.row) (Syntax.tyRef (Syntax.named 2) Syntax.mut OfPanelRecord.named) 2) (List._∷_ (4, Rows'.sslice (Referent.rtF (Referent.fInt Syntax.w8)) (Syntax.tyRef (Syntax.named 3) Syntax.imm (Syntax.tyInt Syntax.w8)) 3) (List._∷_ (5, Rows'.any-gone OfPanelRecord.spelt) (List._∷_ (6, Rows'.any-gone (Laws'.mir)) (List._∷_ (7, Rows'.whole (Declared.row Verdict.the-type)) (List._∷_ (8, Rows'.any-gone Syntax.tyBool) (List._∷_ (9, Rows'.any-gone (Syntax.tyRef Syntax.erased Syntax.imm OfOutput.named)) (List._∷_ (10, Rows'.any-gone (Syntax.tyStruct (List._∷_ 38 (List._∷_ 91 (List._∷_ 93 List.[]))) (Syntax.tcons (Syntax.tyRef Syntax.erased Syntax.imm OfOutput.named) (Syntax.tcons (Syntax.tyInt Syntax.w64) Syntax.tnil)))) (List._∷_ (11, Rows'.any-gone (Syntax.tyRef Syntax.erased Syntax.imm OfStation.named)) (List._∷_ (12, Rows'.any-gone (Syntax.tyStruct (List._∷_ 38 (List._∷_ 91 (List._∷_ 93 List.[]))) (Syntax.tcons (Syntax.tyRef Syntax.erased Syntax.imm OfStation.named) (Syntax.tcons (Syntax.tyInt Syntax.w64) Syntax.tnil)))) (List._∷_ (13, Rows'.any-gone Syntax.tyBool) (List._∷_ (14, Rows'.any-gone (Syntax.tyRef Syntax.erased Syntax.imm OfOutput.named)) (List._∷_ (15, Rows'.any-gone (Syntax.tyStruct (List._∷_ 38 (List._∷_ 91 (List._∷_ 93 List.[]))) (Syntax.tcons (Syntax.tyRef Syntax.erased Syntax.imm OfOutput.named) (Syntax.tcons (Syntax.tyInt Syntax.w64) Syntax.tnil)))) List.[])))))))))))))))
+t28 = List._∷_ (0, Rows'.any-gone (Laws'.mir)) (List._∷_ (1, Mut.mslice (OfOutput.row) (Syntax.tyRef (Syntax.named 0) Syntax.mut OfOutput.named) 0) (List._∷_ (2, Mut.mslice (OfStation.row) (Syntax.tyRef (Syntax.named 1) Syntax.mut OfStation.named) 1) (List._∷_ (3, Rows'.mref (OfPanelRecord.row) (Syntax.tyRef (Syntax.named 2) Syntax.mut OfPanelRecord.named) 2) (List._∷_ (4, Rows'.sslice (Referent.rtF (Referent.fInt Syntax.w8)) (Syntax.tyRef (Syntax.named 3) Syntax.imm (Syntax.tyInt Syntax.w8)) 3) (List._∷_ (5, Rows'.any-gone OfPanelRecord.spelt) (List._∷_ (6, Rows'.any-gone (Laws''.mir)) (List._∷_ (7, Rows'.whole (Declared.row Verdict.the-type)) (List._∷_ (8, Rows'.any-gone Syntax.tyBool) (List._∷_ (9, Rows'.any-gone (Syntax.tyRef Syntax.erased Syntax.imm OfOutput.named)) (List._∷_ (10, Rows'.any-gone (Syntax.tyStruct (List._∷_ 38 (List._∷_ 91 (List._∷_ 93 List.[]))) (Syntax.tcons (Syntax.tyRef Syntax.erased Syntax.imm OfOutput.named) (Syntax.tcons (Syntax.tyInt Syntax.w64) Syntax.tnil)))) (List._∷_ (11, Rows'.any-gone (Syntax.tyRef Syntax.erased Syntax.imm OfStation.named)) (List._∷_ (12, Rows'.any-gone (Syntax.tyStruct (List._∷_ 38 (List._∷_ 91 (List._∷_ 93 List.[]))) (Syntax.tcons (Syntax.tyRef Syntax.erased Syntax.imm OfStation.named) (Syntax.tcons (Syntax.tyInt Syntax.w64) Syntax.tnil)))) (List._∷_ (13, Rows'.any-gone Syntax.tyBool) (List._∷_ (14, Rows'.any-gone (Syntax.tyRef Syntax.erased Syntax.imm OfOutput.named)) (List._∷_ (15, Rows'.any-gone (Syntax.tyStruct (List._∷_ 38 (List._∷_ 91 (List._∷_ 93 List.[]))) (Syntax.tcons (Syntax.tyRef Syntax.erased Syntax.imm OfOutput.named) (Syntax.tcons (Syntax.tyInt Syntax.w64) Syntax.tnil)))) List.[])))))))))))))))
 
 abbrev pub t29 : List.List Row.Entry
-t29 = List._∷_ (0, Rows'.any-gone (Laws.mir)) (List._∷_ (1, Relend.mslice-owed (OfOutput.row) (Syntax.tyRef (Syntax.named 0) Syntax.mut OfOutput.named) 0 8 Row.off) (List._∷_ (2, Mut.mslice (OfStation.row) (Syntax.tyRef (Syntax.named 1) Syntax.mut OfStation.named) 1) (List._∷_ (3, Rows'.mref (OfPanelRecord.row) (Syntax.tyRef (Syntax.named 2) Syntax.mut OfPanelRecord.named) 2) (List._∷_ (4, Rows'.sslice (Referent.rtF (Referent.fInt Syntax.w8)) (Syntax.tyRef (Syntax.named 3) Syntax.imm (Syntax.tyInt Syntax.w8)) 3) (List._∷_ (5, Rows'.any-gone OfPanelRecord.spelt) (List._∷_ (6, Rows'.any-gone (Laws'.mir)) (List._∷_ (7, Rows'.whole (Declared.row Verdict.the-type)) (List._∷_ (8, Rows'.any-gone Syntax.tyBool) (List._∷_ (9, Rows'.any-gone (Syntax.tyRef Syntax.erased Syntax.imm OfOutput.named)) (List._∷_ (10, Rows'.any-gone (Syntax.tyStruct (List._∷_ 38 (List._∷_ 91 (List._∷_ 93 List.[]))) (Syntax.tcons (Syntax.tyRef Syntax.erased Syntax.imm OfOutput.named) (Syntax.tcons (Syntax.tyInt Syntax.w64) Syntax.tnil)))) (List._∷_ (11, Rows'.any-gone (Syntax.tyRef Syntax.erased Syntax.imm OfStation.named)) (List._∷_ (12, Rows'.any-gone (Syntax.tyStruct (List._∷_ 38 (List._∷_ 91 (List._∷_ 93 List.[]))) (Syntax.tcons (Syntax.tyRef Syntax.erased Syntax.imm OfStation.named) (Syntax.tcons (Syntax.tyInt Syntax.w64) Syntax.tnil)))) (List._∷_ (13, Rows'.any-gone Syntax.tyBool) (List._∷_ (14, Rows'.any-gone (Syntax.tyRef Syntax.erased Syntax.imm OfOutput.named)) (List._∷_ (15, Rows'.any-gone (Syntax.tyStruct (List._∷_ 38 (List._∷_ 91 (List._∷_ 93 List.[]))) (Syntax.tcons (Syntax.tyRef Syntax.erased Syntax.imm OfOutput.named) (Syntax.tcons (Syntax.tyInt Syntax.w64) Syntax.tnil)))) List.[])))))))))))))))
+t29 = List._∷_ (0, Rows'.any-gone (Laws'.mir)) (List._∷_ (1, Relend.mslice-owed (OfOutput.row) (Syntax.tyRef (Syntax.named 0) Syntax.mut OfOutput.named) 0 8 Row.off) (List._∷_ (2, Mut.mslice (OfStation.row) (Syntax.tyRef (Syntax.named 1) Syntax.mut OfStation.named) 1) (List._∷_ (3, Rows'.mref (OfPanelRecord.row) (Syntax.tyRef (Syntax.named 2) Syntax.mut OfPanelRecord.named) 2) (List._∷_ (4, Rows'.sslice (Referent.rtF (Referent.fInt Syntax.w8)) (Syntax.tyRef (Syntax.named 3) Syntax.imm (Syntax.tyInt Syntax.w8)) 3) (List._∷_ (5, Rows'.any-gone OfPanelRecord.spelt) (List._∷_ (6, Rows'.any-gone (Laws''.mir)) (List._∷_ (7, Rows'.whole (Declared.row Verdict.the-type)) (List._∷_ (8, Rows'.any-gone Syntax.tyBool) (List._∷_ (9, Rows'.any-gone (Syntax.tyRef Syntax.erased Syntax.imm OfOutput.named)) (List._∷_ (10, Rows'.any-gone (Syntax.tyStruct (List._∷_ 38 (List._∷_ 91 (List._∷_ 93 List.[]))) (Syntax.tcons (Syntax.tyRef Syntax.erased Syntax.imm OfOutput.named) (Syntax.tcons (Syntax.tyInt Syntax.w64) Syntax.tnil)))) (List._∷_ (11, Rows'.any-gone (Syntax.tyRef Syntax.erased Syntax.imm OfStation.named)) (List._∷_ (12, Rows'.any-gone (Syntax.tyStruct (List._∷_ 38 (List._∷_ 91 (List._∷_ 93 List.[]))) (Syntax.tcons (Syntax.tyRef Syntax.erased Syntax.imm OfStation.named) (Syntax.tcons (Syntax.tyInt Syntax.w64) Syntax.tnil)))) (List._∷_ (13, Rows'.any-gone Syntax.tyBool) (List._∷_ (14, Rows'.any-gone (Syntax.tyRef Syntax.erased Syntax.imm OfOutput.named)) (List._∷_ (15, Rows'.any-gone (Syntax.tyStruct (List._∷_ 38 (List._∷_ 91 (List._∷_ 93 List.[]))) (Syntax.tcons (Syntax.tyRef Syntax.erased Syntax.imm OfOutput.named) (Syntax.tcons (Syntax.tyInt Syntax.w64) Syntax.tnil)))) List.[])))))))))))))))
 
 abbrev pub t30 : List.List Row.Entry
 t30 = List._∷_ (16, Rows'.any-gone (Syntax.tyRef Syntax.erased Syntax.imm OfStation.named)) (List._∷_ (17, Rows'.any-gone (Syntax.tyStruct (List._∷_ 38 (List._∷_ 91 (List._∷_ 93 List.[]))) (Syntax.tcons (Syntax.tyRef Syntax.erased Syntax.imm OfStation.named) (Syntax.tcons (Syntax.tyInt Syntax.w64) Syntax.tnil)))) (List._∷_ (18, Relend.msptr (OfOutput.row) (Syntax.tyRef Syntax.erased Syntax.mut OfOutput.named) 8) (List._∷_ (19, Rows'.any-gone (Syntax.tyStruct (List._∷_ 38 (List._∷_ 91 (List._∷_ 93 List.[]))) (Syntax.tcons (Syntax.tyRef Syntax.erased Syntax.mut OfOutput.named) (Syntax.tcons (Syntax.tyInt Syntax.w64) Syntax.tnil)))) (List._∷_ (20, Rows'.any-gone (Syntax.tyRef Syntax.erased Syntax.mut OfStation.named)) (List._∷_ (21, Rows'.any-gone (Syntax.tyStruct (List._∷_ 38 (List._∷_ 91 (List._∷_ 93 List.[]))) (Syntax.tcons (Syntax.tyRef Syntax.erased Syntax.mut OfStation.named) (Syntax.tcons (Syntax.tyInt Syntax.w64) Syntax.tnil)))) (List._∷_ (22, Rows'.any-gone (Syntax.tyRef Syntax.erased Syntax.mut OfPanelRecord.named)) List.[]))))))
@@ -340,7 +340,7 @@ abbrev pub t31 : List.List Row.Entry
 t31 = List._∷_ (16, Rows'.any-gone (Syntax.tyRef Syntax.erased Syntax.imm OfStation.named)) (List._∷_ (17, Rows'.any-gone (Syntax.tyStruct (List._∷_ 38 (List._∷_ 91 (List._∷_ 93 List.[]))) (Syntax.tcons (Syntax.tyRef Syntax.erased Syntax.imm OfStation.named) (Syntax.tcons (Syntax.tyInt Syntax.w64) Syntax.tnil)))) (List._∷_ (18, Rows'.any-gone (Syntax.tyRef Syntax.erased Syntax.mut OfOutput.named)) (List._∷_ (19, Mut.mslice (OfOutput.row) (Syntax.tyRef Syntax.erased Syntax.mut OfOutput.named) 8) (List._∷_ (20, Rows'.any-gone (Syntax.tyRef Syntax.erased Syntax.mut OfStation.named)) (List._∷_ (21, Rows'.any-gone (Syntax.tyStruct (List._∷_ 38 (List._∷_ 91 (List._∷_ 93 List.[]))) (Syntax.tcons (Syntax.tyRef Syntax.erased Syntax.mut OfStation.named) (Syntax.tcons (Syntax.tyInt Syntax.w64) Syntax.tnil)))) (List._∷_ (22, Rows'.any-gone (Syntax.tyRef Syntax.erased Syntax.mut OfPanelRecord.named)) List.[]))))))
 
 abbrev pub t32 : List.List Row.Entry
-t32 = List._∷_ (0, Rows'.any-gone (Laws.mir)) (List._∷_ (1, Relend.mslice-owed (OfOutput.row) (Syntax.tyRef (Syntax.named 0) Syntax.mut OfOutput.named) 0 8 Row.off) (List._∷_ (2, Relend.mslice-owed (OfStation.row) (Syntax.tyRef (Syntax.named 1) Syntax.mut OfStation.named) 1 9 Row.off) (List._∷_ (3, Rows'.mref (OfPanelRecord.row) (Syntax.tyRef (Syntax.named 2) Syntax.mut OfPanelRecord.named) 2) (List._∷_ (4, Rows'.sslice (Referent.rtF (Referent.fInt Syntax.w8)) (Syntax.tyRef (Syntax.named 3) Syntax.imm (Syntax.tyInt Syntax.w8)) 3) (List._∷_ (5, Rows'.any-gone OfPanelRecord.spelt) (List._∷_ (6, Rows'.any-gone (Laws'.mir)) (List._∷_ (7, Rows'.whole (Declared.row Verdict.the-type)) (List._∷_ (8, Rows'.any-gone Syntax.tyBool) (List._∷_ (9, Rows'.any-gone (Syntax.tyRef Syntax.erased Syntax.imm OfOutput.named)) (List._∷_ (10, Rows'.any-gone (Syntax.tyStruct (List._∷_ 38 (List._∷_ 91 (List._∷_ 93 List.[]))) (Syntax.tcons (Syntax.tyRef Syntax.erased Syntax.imm OfOutput.named) (Syntax.tcons (Syntax.tyInt Syntax.w64) Syntax.tnil)))) (List._∷_ (11, Rows'.any-gone (Syntax.tyRef Syntax.erased Syntax.imm OfStation.named)) (List._∷_ (12, Rows'.any-gone (Syntax.tyStruct (List._∷_ 38 (List._∷_ 91 (List._∷_ 93 List.[]))) (Syntax.tcons (Syntax.tyRef Syntax.erased Syntax.imm OfStation.named) (Syntax.tcons (Syntax.tyInt Syntax.w64) Syntax.tnil)))) (List._∷_ (13, Rows'.any-gone Syntax.tyBool) (List._∷_ (14, Rows'.any-gone (Syntax.tyRef Syntax.erased Syntax.imm OfOutput.named)) (List._∷_ (15, Rows'.any-gone (Syntax.tyStruct (List._∷_ 38 (List._∷_ 91 (List._∷_ 93 List.[]))) (Syntax.tcons (Syntax.tyRef Syntax.erased Syntax.imm OfOutput.named) (Syntax.tcons (Syntax.tyInt Syntax.w64) Syntax.tnil)))) List.[])))))))))))))))
+t32 = List._∷_ (0, Rows'.any-gone (Laws'.mir)) (List._∷_ (1, Relend.mslice-owed (OfOutput.row) (Syntax.tyRef (Syntax.named 0) Syntax.mut OfOutput.named) 0 8 Row.off) (List._∷_ (2, Relend.mslice-owed (OfStation.row) (Syntax.tyRef (Syntax.named 1) Syntax.mut OfStation.named) 1 9 Row.off) (List._∷_ (3, Rows'.mref (OfPanelRecord.row) (Syntax.tyRef (Syntax.named 2) Syntax.mut OfPanelRecord.named) 2) (List._∷_ (4, Rows'.sslice (Referent.rtF (Referent.fInt Syntax.w8)) (Syntax.tyRef (Syntax.named 3) Syntax.imm (Syntax.tyInt Syntax.w8)) 3) (List._∷_ (5, Rows'.any-gone OfPanelRecord.spelt) (List._∷_ (6, Rows'.any-gone (Laws''.mir)) (List._∷_ (7, Rows'.whole (Declared.row Verdict.the-type)) (List._∷_ (8, Rows'.any-gone Syntax.tyBool) (List._∷_ (9, Rows'.any-gone (Syntax.tyRef Syntax.erased Syntax.imm OfOutput.named)) (List._∷_ (10, Rows'.any-gone (Syntax.tyStruct (List._∷_ 38 (List._∷_ 91 (List._∷_ 93 List.[]))) (Syntax.tcons (Syntax.tyRef Syntax.erased Syntax.imm OfOutput.named) (Syntax.tcons (Syntax.tyInt Syntax.w64) Syntax.tnil)))) (List._∷_ (11, Rows'.any-gone (Syntax.tyRef Syntax.erased Syntax.imm OfStation.named)) (List._∷_ (12, Rows'.any-gone (Syntax.tyStruct (List._∷_ 38 (List._∷_ 91 (List._∷_ 93 List.[]))) (Syntax.tcons (Syntax.tyRef Syntax.erased Syntax.imm OfStation.named) (Syntax.tcons (Syntax.tyInt Syntax.w64) Syntax.tnil)))) (List._∷_ (13, Rows'.any-gone Syntax.tyBool) (List._∷_ (14, Rows'.any-gone (Syntax.tyRef Syntax.erased Syntax.imm OfOutput.named)) (List._∷_ (15, Rows'.any-gone (Syntax.tyStruct (List._∷_ 38 (List._∷_ 91 (List._∷_ 93 List.[]))) (Syntax.tcons (Syntax.tyRef Syntax.erased Syntax.imm OfOutput.named) (Syntax.tcons (Syntax.tyInt Syntax.w64) Syntax.tnil)))) List.[])))))))))))))))
 
 abbrev pub t33 : List.List Row.Entry
 t33 = List._∷_ (16, Rows'.any-gone (Syntax.tyRef Syntax.erased Syntax.imm OfStation.named)) (List._∷_ (17, Rows'.any-gone (Syntax.tyStruct (List._∷_ 38 (List._∷_ 91 (List._∷_ 93 List.[]))) (Syntax.tcons (Syntax.tyRef Syntax.erased Syntax.imm OfStation.named) (Syntax.tcons (Syntax.tyInt Syntax.w64) Syntax.tnil)))) (List._∷_ (18, Rows'.any-gone (Syntax.tyRef Syntax.erased Syntax.mut OfOutput.named)) (List._∷_ (19, Mut.mslice (OfOutput.row) (Syntax.tyRef Syntax.erased Syntax.mut OfOutput.named) 8) (List._∷_ (20, Relend.msptr (OfStation.row) (Syntax.tyRef Syntax.erased Syntax.mut OfStation.named) 9) (List._∷_ (21, Rows'.any-gone (Syntax.tyStruct (List._∷_ 38 (List._∷_ 91 (List._∷_ 93 List.[]))) (Syntax.tcons (Syntax.tyRef Syntax.erased Syntax.mut OfStation.named) (Syntax.tcons (Syntax.tyInt Syntax.w64) Syntax.tnil)))) (List._∷_ (22, Rows'.any-gone (Syntax.tyRef Syntax.erased Syntax.mut OfPanelRecord.named)) List.[]))))))
@@ -349,28 +349,28 @@ abbrev pub t34 : List.List Row.Entry
 t34 = List._∷_ (16, Rows'.any-gone (Syntax.tyRef Syntax.erased Syntax.imm OfStation.named)) (List._∷_ (17, Rows'.any-gone (Syntax.tyStruct (List._∷_ 38 (List._∷_ 91 (List._∷_ 93 List.[]))) (Syntax.tcons (Syntax.tyRef Syntax.erased Syntax.imm OfStation.named) (Syntax.tcons (Syntax.tyInt Syntax.w64) Syntax.tnil)))) (List._∷_ (18, Rows'.any-gone (Syntax.tyRef Syntax.erased Syntax.mut OfOutput.named)) (List._∷_ (19, Mut.mslice (OfOutput.row) (Syntax.tyRef Syntax.erased Syntax.mut OfOutput.named) 8) (List._∷_ (20, Rows'.any-gone (Syntax.tyRef Syntax.erased Syntax.mut OfStation.named)) (List._∷_ (21, Mut.mslice (OfStation.row) (Syntax.tyRef Syntax.erased Syntax.mut OfStation.named) 9) (List._∷_ (22, Rows'.any-gone (Syntax.tyRef Syntax.erased Syntax.mut OfPanelRecord.named)) List.[]))))))
 
 abbrev pub t35 : List.List Row.Entry
-t35 = List._∷_ (0, Rows'.any-gone (Laws.mir)) (List._∷_ (1, Relend.mslice-owed (OfOutput.row) (Syntax.tyRef (Syntax.named 0) Syntax.mut OfOutput.named) 0 8 Row.off) (List._∷_ (2, Relend.mslice-owed (OfStation.row) (Syntax.tyRef (Syntax.named 1) Syntax.mut OfStation.named) 1 9 Row.off) (List._∷_ (3, Rows'.mref-owed (OfPanelRecord.row) (Syntax.tyRef (Syntax.named 2) Syntax.mut OfPanelRecord.named) 2 10 Row.off) (List._∷_ (4, Rows'.sslice (Referent.rtF (Referent.fInt Syntax.w8)) (Syntax.tyRef (Syntax.named 3) Syntax.imm (Syntax.tyInt Syntax.w8)) 3) (List._∷_ (5, Rows'.any-gone OfPanelRecord.spelt) (List._∷_ (6, Rows'.any-gone (Laws'.mir)) (List._∷_ (7, Rows'.whole (Declared.row Verdict.the-type)) (List._∷_ (8, Rows'.any-gone Syntax.tyBool) (List._∷_ (9, Rows'.any-gone (Syntax.tyRef Syntax.erased Syntax.imm OfOutput.named)) (List._∷_ (10, Rows'.any-gone (Syntax.tyStruct (List._∷_ 38 (List._∷_ 91 (List._∷_ 93 List.[]))) (Syntax.tcons (Syntax.tyRef Syntax.erased Syntax.imm OfOutput.named) (Syntax.tcons (Syntax.tyInt Syntax.w64) Syntax.tnil)))) (List._∷_ (11, Rows'.any-gone (Syntax.tyRef Syntax.erased Syntax.imm OfStation.named)) (List._∷_ (12, Rows'.any-gone (Syntax.tyStruct (List._∷_ 38 (List._∷_ 91 (List._∷_ 93 List.[]))) (Syntax.tcons (Syntax.tyRef Syntax.erased Syntax.imm OfStation.named) (Syntax.tcons (Syntax.tyInt Syntax.w64) Syntax.tnil)))) (List._∷_ (13, Rows'.any-gone Syntax.tyBool) (List._∷_ (14, Rows'.any-gone (Syntax.tyRef Syntax.erased Syntax.imm OfOutput.named)) (List._∷_ (15, Rows'.any-gone (Syntax.tyStruct (List._∷_ 38 (List._∷_ 91 (List._∷_ 93 List.[]))) (Syntax.tcons (Syntax.tyRef Syntax.erased Syntax.imm OfOutput.named) (Syntax.tcons (Syntax.tyInt Syntax.w64) Syntax.tnil)))) List.[])))))))))))))))
+t35 = List._∷_ (0, Rows'.any-gone (Laws'.mir)) (List._∷_ (1, Relend.mslice-owed (OfOutput.row) (Syntax.tyRef (Syntax.named 0) Syntax.mut OfOutput.named) 0 8 Row.off) (List._∷_ (2, Relend.mslice-owed (OfStation.row) (Syntax.tyRef (Syntax.named 1) Syntax.mut OfStation.named) 1 9 Row.off) (List._∷_ (3, Rows'.mref-owed (OfPanelRecord.row) (Syntax.tyRef (Syntax.named 2) Syntax.mut OfPanelRecord.named) 2 10 Row.off) (List._∷_ (4, Rows'.sslice (Referent.rtF (Referent.fInt Syntax.w8)) (Syntax.tyRef (Syntax.named 3) Syntax.imm (Syntax.tyInt Syntax.w8)) 3) (List._∷_ (5, Rows'.any-gone OfPanelRecord.spelt) (List._∷_ (6, Rows'.any-gone (Laws''.mir)) (List._∷_ (7, Rows'.whole (Declared.row Verdict.the-type)) (List._∷_ (8, Rows'.any-gone Syntax.tyBool) (List._∷_ (9, Rows'.any-gone (Syntax.tyRef Syntax.erased Syntax.imm OfOutput.named)) (List._∷_ (10, Rows'.any-gone (Syntax.tyStruct (List._∷_ 38 (List._∷_ 91 (List._∷_ 93 List.[]))) (Syntax.tcons (Syntax.tyRef Syntax.erased Syntax.imm OfOutput.named) (Syntax.tcons (Syntax.tyInt Syntax.w64) Syntax.tnil)))) (List._∷_ (11, Rows'.any-gone (Syntax.tyRef Syntax.erased Syntax.imm OfStation.named)) (List._∷_ (12, Rows'.any-gone (Syntax.tyStruct (List._∷_ 38 (List._∷_ 91 (List._∷_ 93 List.[]))) (Syntax.tcons (Syntax.tyRef Syntax.erased Syntax.imm OfStation.named) (Syntax.tcons (Syntax.tyInt Syntax.w64) Syntax.tnil)))) (List._∷_ (13, Rows'.any-gone Syntax.tyBool) (List._∷_ (14, Rows'.any-gone (Syntax.tyRef Syntax.erased Syntax.imm OfOutput.named)) (List._∷_ (15, Rows'.any-gone (Syntax.tyStruct (List._∷_ 38 (List._∷_ 91 (List._∷_ 93 List.[]))) (Syntax.tcons (Syntax.tyRef Syntax.erased Syntax.imm OfOutput.named) (Syntax.tcons (Syntax.tyInt Syntax.w64) Syntax.tnil)))) List.[])))))))))))))))
 
 abbrev pub t36 : List.List Row.Entry
 t36 = List._∷_ (16, Rows'.any-gone (Syntax.tyRef Syntax.erased Syntax.imm OfStation.named)) (List._∷_ (17, Rows'.any-gone (Syntax.tyStruct (List._∷_ 38 (List._∷_ 91 (List._∷_ 93 List.[]))) (Syntax.tcons (Syntax.tyRef Syntax.erased Syntax.imm OfStation.named) (Syntax.tcons (Syntax.tyInt Syntax.w64) Syntax.tnil)))) (List._∷_ (18, Rows'.any-gone (Syntax.tyRef Syntax.erased Syntax.mut OfOutput.named)) (List._∷_ (19, Mut.mslice (OfOutput.row) (Syntax.tyRef Syntax.erased Syntax.mut OfOutput.named) 8) (List._∷_ (20, Rows'.any-gone (Syntax.tyRef Syntax.erased Syntax.mut OfStation.named)) (List._∷_ (21, Mut.mslice (OfStation.row) (Syntax.tyRef Syntax.erased Syntax.mut OfStation.named) 9) (List._∷_ (22, Rows'.mref (OfPanelRecord.row) (Syntax.tyRef Syntax.erased Syntax.mut OfPanelRecord.named) 10) List.[]))))))
 
 abbrev pub t37 : List.List Row.Entry
-t37 = List._∷_ (0, Rows'.whole (Declared.row Answer.the-type)) (List._∷_ (1, Relend.mslice-owed (OfOutput.row) (Syntax.tyRef (Syntax.named 0) Syntax.mut OfOutput.named) 0 8 Row.off) (List._∷_ (2, Relend.mslice-owed (OfStation.row) (Syntax.tyRef (Syntax.named 1) Syntax.mut OfStation.named) 1 9 Row.off) (List._∷_ (3, Rows'.mref-owed (OfPanelRecord.row) (Syntax.tyRef (Syntax.named 2) Syntax.mut OfPanelRecord.named) 2 10 Row.off) (List._∷_ (4, Rows'.sslice (Referent.rtF (Referent.fInt Syntax.w8)) (Syntax.tyRef (Syntax.named 3) Syntax.imm (Syntax.tyInt Syntax.w8)) 3) (List._∷_ (5, Rows'.any-gone OfPanelRecord.spelt) (List._∷_ (6, Rows'.any-gone (Laws'.mir)) (List._∷_ (7, Rows'.whole (Declared.row Verdict.the-type)) (List._∷_ (8, Rows'.any-gone Syntax.tyBool) (List._∷_ (9, Rows'.any-gone (Syntax.tyRef Syntax.erased Syntax.imm OfOutput.named)) (List._∷_ (10, Rows'.any-gone (Syntax.tyStruct (List._∷_ 38 (List._∷_ 91 (List._∷_ 93 List.[]))) (Syntax.tcons (Syntax.tyRef Syntax.erased Syntax.imm OfOutput.named) (Syntax.tcons (Syntax.tyInt Syntax.w64) Syntax.tnil)))) (List._∷_ (11, Rows'.any-gone (Syntax.tyRef Syntax.erased Syntax.imm OfStation.named)) (List._∷_ (12, Rows'.any-gone (Syntax.tyStruct (List._∷_ 38 (List._∷_ 91 (List._∷_ 93 List.[]))) (Syntax.tcons (Syntax.tyRef Syntax.erased Syntax.imm OfStation.named) (Syntax.tcons (Syntax.tyInt Syntax.w64) Syntax.tnil)))) (List._∷_ (13, Rows'.any-gone Syntax.tyBool) (List._∷_ (14, Rows'.any-gone (Syntax.tyRef Syntax.erased Syntax.imm OfOutput.named)) (List._∷_ (15, Rows'.any-gone (Syntax.tyStruct (List._∷_ 38 (List._∷_ 91 (List._∷_ 93 List.[]))) (Syntax.tcons (Syntax.tyRef Syntax.erased Syntax.imm OfOutput.named) (Syntax.tcons (Syntax.tyInt Syntax.w64) Syntax.tnil)))) List.[])))))))))))))))
+t37 = List._∷_ (0, Rows'.whole (Declared.row Answer.the-type)) (List._∷_ (1, Relend.mslice-owed (OfOutput.row) (Syntax.tyRef (Syntax.named 0) Syntax.mut OfOutput.named) 0 8 Row.off) (List._∷_ (2, Relend.mslice-owed (OfStation.row) (Syntax.tyRef (Syntax.named 1) Syntax.mut OfStation.named) 1 9 Row.off) (List._∷_ (3, Rows'.mref-owed (OfPanelRecord.row) (Syntax.tyRef (Syntax.named 2) Syntax.mut OfPanelRecord.named) 2 10 Row.off) (List._∷_ (4, Rows'.sslice (Referent.rtF (Referent.fInt Syntax.w8)) (Syntax.tyRef (Syntax.named 3) Syntax.imm (Syntax.tyInt Syntax.w8)) 3) (List._∷_ (5, Rows'.any-gone OfPanelRecord.spelt) (List._∷_ (6, Rows'.any-gone (Laws''.mir)) (List._∷_ (7, Rows'.whole (Declared.row Verdict.the-type)) (List._∷_ (8, Rows'.any-gone Syntax.tyBool) (List._∷_ (9, Rows'.any-gone (Syntax.tyRef Syntax.erased Syntax.imm OfOutput.named)) (List._∷_ (10, Rows'.any-gone (Syntax.tyStruct (List._∷_ 38 (List._∷_ 91 (List._∷_ 93 List.[]))) (Syntax.tcons (Syntax.tyRef Syntax.erased Syntax.imm OfOutput.named) (Syntax.tcons (Syntax.tyInt Syntax.w64) Syntax.tnil)))) (List._∷_ (11, Rows'.any-gone (Syntax.tyRef Syntax.erased Syntax.imm OfStation.named)) (List._∷_ (12, Rows'.any-gone (Syntax.tyStruct (List._∷_ 38 (List._∷_ 91 (List._∷_ 93 List.[]))) (Syntax.tcons (Syntax.tyRef Syntax.erased Syntax.imm OfStation.named) (Syntax.tcons (Syntax.tyInt Syntax.w64) Syntax.tnil)))) (List._∷_ (13, Rows'.any-gone Syntax.tyBool) (List._∷_ (14, Rows'.any-gone (Syntax.tyRef Syntax.erased Syntax.imm OfOutput.named)) (List._∷_ (15, Rows'.any-gone (Syntax.tyStruct (List._∷_ 38 (List._∷_ 91 (List._∷_ 93 List.[]))) (Syntax.tcons (Syntax.tyRef Syntax.erased Syntax.imm OfOutput.named) (Syntax.tcons (Syntax.tyInt Syntax.w64) Syntax.tnil)))) List.[])))))))))))))))
 
 abbrev pub t38 : List.List Row.Entry
 t38 = List._∷_ (16, Rows'.any-gone (Syntax.tyRef Syntax.erased Syntax.imm OfStation.named)) (List._∷_ (17, Rows'.any-gone (Syntax.tyStruct (List._∷_ 38 (List._∷_ 91 (List._∷_ 93 List.[]))) (Syntax.tcons (Syntax.tyRef Syntax.erased Syntax.imm OfStation.named) (Syntax.tcons (Syntax.tyInt Syntax.w64) Syntax.tnil)))) (List._∷_ (18, Rows'.any-gone (Syntax.tyRef Syntax.erased Syntax.mut OfOutput.named)) (List._∷_ (19, Mut.msleft (OfOutput.row) (Syntax.tyRef Syntax.erased Syntax.mut OfOutput.named)) (List._∷_ (20, Rows'.any-gone (Syntax.tyRef Syntax.erased Syntax.mut OfStation.named)) (List._∷_ (21, Mut.msleft (OfStation.row) (Syntax.tyRef Syntax.erased Syntax.mut OfStation.named)) (List._∷_ (22, Rows'.mleft (OfPanelRecord.row) (Syntax.tyRef Syntax.erased Syntax.mut OfPanelRecord.named)) List.[]))))))
 
 abbrev pub t39 : List.List Row.Entry
-t39 = List._∷_ (0, Rows'.whole (Declared.row Answer.the-type)) (List._∷_ (1, Relend.mslice-owed (OfOutput.row) (Syntax.tyRef (Syntax.named 0) Syntax.mut OfOutput.named) 0 8 Row.off) (List._∷_ (2, Relend.mslice-owed (OfStation.row) (Syntax.tyRef (Syntax.named 1) Syntax.mut OfStation.named) 1 9 Row.off) (List._∷_ (3, Rows'.mref-owed (OfPanelRecord.row) (Syntax.tyRef (Syntax.named 2) Syntax.mut OfPanelRecord.named) 2 10 Row.off) (List._∷_ (4, Rows'.sslice (Referent.rtF (Referent.fInt Syntax.w8)) (Syntax.tyRef (Syntax.named 3) Syntax.imm (Syntax.tyInt Syntax.w8)) 3) (List._∷_ (5, Rows'.any-gone OfPanelRecord.spelt) (List._∷_ (6, Rows'.any-gone (Laws'.mir)) (List._∷_ (7, Rows'.any-gone (Laws''.mir)) (List._∷_ (8, Rows'.any-gone Syntax.tyBool) (List._∷_ (9, Rows'.any-gone (Syntax.tyRef Syntax.erased Syntax.imm OfOutput.named)) (List._∷_ (10, Rows'.any-gone (Syntax.tyStruct (List._∷_ 38 (List._∷_ 91 (List._∷_ 93 List.[]))) (Syntax.tcons (Syntax.tyRef Syntax.erased Syntax.imm OfOutput.named) (Syntax.tcons (Syntax.tyInt Syntax.w64) Syntax.tnil)))) (List._∷_ (11, Rows'.any-gone (Syntax.tyRef Syntax.erased Syntax.imm OfStation.named)) (List._∷_ (12, Rows'.any-gone (Syntax.tyStruct (List._∷_ 38 (List._∷_ 91 (List._∷_ 93 List.[]))) (Syntax.tcons (Syntax.tyRef Syntax.erased Syntax.imm OfStation.named) (Syntax.tcons (Syntax.tyInt Syntax.w64) Syntax.tnil)))) (List._∷_ (13, Rows'.any-gone Syntax.tyBool) (List._∷_ (14, Rows'.any-gone (Syntax.tyRef Syntax.erased Syntax.imm OfOutput.named)) (List._∷_ (15, Rows'.any-gone (Syntax.tyStruct (List._∷_ 38 (List._∷_ 91 (List._∷_ 93 List.[]))) (Syntax.tcons (Syntax.tyRef Syntax.erased Syntax.imm OfOutput.named) (Syntax.tcons (Syntax.tyInt Syntax.w64) Syntax.tnil)))) List.[])))))))))))))))
+t39 = List._∷_ (0, Rows'.whole (Declared.row Answer.the-type)) (List._∷_ (1, Relend.mslice-owed (OfOutput.row) (Syntax.tyRef (Syntax.named 0) Syntax.mut OfOutput.named) 0 8 Row.off) (List._∷_ (2, Relend.mslice-owed (OfStation.row) (Syntax.tyRef (Syntax.named 1) Syntax.mut OfStation.named) 1 9 Row.off) (List._∷_ (3, Rows'.mref-owed (OfPanelRecord.row) (Syntax.tyRef (Syntax.named 2) Syntax.mut OfPanelRecord.named) 2 10 Row.off) (List._∷_ (4, Rows'.sslice (Referent.rtF (Referent.fInt Syntax.w8)) (Syntax.tyRef (Syntax.named 3) Syntax.imm (Syntax.tyInt Syntax.w8)) 3) (List._∷_ (5, Rows'.any-gone OfPanelRecord.spelt) (List._∷_ (6, Rows'.any-gone (Laws''.mir)) (List._∷_ (7, Rows'.any-gone (Laws.mir)) (List._∷_ (8, Rows'.any-gone Syntax.tyBool) (List._∷_ (9, Rows'.any-gone (Syntax.tyRef Syntax.erased Syntax.imm OfOutput.named)) (List._∷_ (10, Rows'.any-gone (Syntax.tyStruct (List._∷_ 38 (List._∷_ 91 (List._∷_ 93 List.[]))) (Syntax.tcons (Syntax.tyRef Syntax.erased Syntax.imm OfOutput.named) (Syntax.tcons (Syntax.tyInt Syntax.w64) Syntax.tnil)))) (List._∷_ (11, Rows'.any-gone (Syntax.tyRef Syntax.erased Syntax.imm OfStation.named)) (List._∷_ (12, Rows'.any-gone (Syntax.tyStruct (List._∷_ 38 (List._∷_ 91 (List._∷_ 93 List.[]))) (Syntax.tcons (Syntax.tyRef Syntax.erased Syntax.imm OfStation.named) (Syntax.tcons (Syntax.tyInt Syntax.w64) Syntax.tnil)))) (List._∷_ (13, Rows'.any-gone Syntax.tyBool) (List._∷_ (14, Rows'.any-gone (Syntax.tyRef Syntax.erased Syntax.imm OfOutput.named)) (List._∷_ (15, Rows'.any-gone (Syntax.tyStruct (List._∷_ 38 (List._∷_ 91 (List._∷_ 93 List.[]))) (Syntax.tcons (Syntax.tyRef Syntax.erased Syntax.imm OfOutput.named) (Syntax.tcons (Syntax.tyInt Syntax.w64) Syntax.tnil)))) List.[])))))))))))))))
 
 abbrev pub t40 : List.List Row.Entry
-t40 = List._∷_ (0, Rows'.whole (Declared.row Answer.the-type)) (List._∷_ (1, Mut.mslice (OfOutput.row) (Syntax.tyRef (Syntax.named 0) Syntax.mut OfOutput.named) 0) (List._∷_ (2, Relend.mslice-owed (OfStation.row) (Syntax.tyRef (Syntax.named 1) Syntax.mut OfStation.named) 1 9 Row.off) (List._∷_ (3, Rows'.mref-owed (OfPanelRecord.row) (Syntax.tyRef (Syntax.named 2) Syntax.mut OfPanelRecord.named) 2 10 Row.off) (List._∷_ (4, Rows'.sslice (Referent.rtF (Referent.fInt Syntax.w8)) (Syntax.tyRef (Syntax.named 3) Syntax.imm (Syntax.tyInt Syntax.w8)) 3) (List._∷_ (5, Rows'.any-gone OfPanelRecord.spelt) (List._∷_ (6, Rows'.any-gone (Laws'.mir)) (List._∷_ (7, Rows'.any-gone (Laws''.mir)) (List._∷_ (8, Rows'.any-gone Syntax.tyBool) (List._∷_ (9, Rows'.any-gone (Syntax.tyRef Syntax.erased Syntax.imm OfOutput.named)) (List._∷_ (10, Rows'.any-gone (Syntax.tyStruct (List._∷_ 38 (List._∷_ 91 (List._∷_ 93 List.[]))) (Syntax.tcons (Syntax.tyRef Syntax.erased Syntax.imm OfOutput.named) (Syntax.tcons (Syntax.tyInt Syntax.w64) Syntax.tnil)))) (List._∷_ (11, Rows'.any-gone (Syntax.tyRef Syntax.erased Syntax.imm OfStation.named)) (List._∷_ (12, Rows'.any-gone (Syntax.tyStruct (List._∷_ 38 (List._∷_ 91 (List._∷_ 93 List.[]))) (Syntax.tcons (Syntax.tyRef Syntax.erased Syntax.imm OfStation.named) (Syntax.tcons (Syntax.tyInt Syntax.w64) Syntax.tnil)))) (List._∷_ (13, Rows'.any-gone Syntax.tyBool) (List._∷_ (14, Rows'.any-gone (Syntax.tyRef Syntax.erased Syntax.imm OfOutput.named)) (List._∷_ (15, Rows'.any-gone (Syntax.tyStruct (List._∷_ 38 (List._∷_ 91 (List._∷_ 93 List.[]))) (Syntax.tcons (Syntax.tyRef Syntax.erased Syntax.imm OfOutput.named) (Syntax.tcons (Syntax.tyInt Syntax.w64) Syntax.tnil)))) List.[])))))))))))))))
+t40 = List._∷_ (0, Rows'.whole (Declared.row Answer.the-type)) (List._∷_ (1, Mut.mslice (OfOutput.row) (Syntax.tyRef (Syntax.named 0) Syntax.mut OfOutput.named) 0) (List._∷_ (2, Relend.mslice-owed (OfStation.row) (Syntax.tyRef (Syntax.named 1) Syntax.mut OfStation.named) 1 9 Row.off) (List._∷_ (3, Rows'.mref-owed (OfPanelRecord.row) (Syntax.tyRef (Syntax.named 2) Syntax.mut OfPanelRecord.named) 2 10 Row.off) (List._∷_ (4, Rows'.sslice (Referent.rtF (Referent.fInt Syntax.w8)) (Syntax.tyRef (Syntax.named 3) Syntax.imm (Syntax.tyInt Syntax.w8)) 3) (List._∷_ (5, Rows'.any-gone OfPanelRecord.spelt) (List._∷_ (6, Rows'.any-gone (Laws''.mir)) (List._∷_ (7, Rows'.any-gone (Laws.mir)) (List._∷_ (8, Rows'.any-gone Syntax.tyBool) (List._∷_ (9, Rows'.any-gone (Syntax.tyRef Syntax.erased Syntax.imm OfOutput.named)) (List._∷_ (10, Rows'.any-gone (Syntax.tyStruct (List._∷_ 38 (List._∷_ 91 (List._∷_ 93 List.[]))) (Syntax.tcons (Syntax.tyRef Syntax.erased Syntax.imm OfOutput.named) (Syntax.tcons (Syntax.tyInt Syntax.w64) Syntax.tnil)))) (List._∷_ (11, Rows'.any-gone (Syntax.tyRef Syntax.erased Syntax.imm OfStation.named)) (List._∷_ (12, Rows'.any-gone (Syntax.tyStruct (List._∷_ 38 (List._∷_ 91 (List._∷_ 93 List.[]))) (Syntax.tcons (Syntax.tyRef Syntax.erased Syntax.imm OfStation.named) (Syntax.tcons (Syntax.tyInt Syntax.w64) Syntax.tnil)))) (List._∷_ (13, Rows'.any-gone Syntax.tyBool) (List._∷_ (14, Rows'.any-gone (Syntax.tyRef Syntax.erased Syntax.imm OfOutput.named)) (List._∷_ (15, Rows'.any-gone (Syntax.tyStruct (List._∷_ 38 (List._∷_ 91 (List._∷_ 93 List.[]))) (Syntax.tcons (Syntax.tyRef Syntax.erased Syntax.imm OfOutput.named) (Syntax.tcons (Syntax.tyInt Syntax.w64) Syntax.tnil)))) List.[])))))))))))))))
 
 abbrev pub t41 : List.List Row.Entry
 t41 = List._∷_ (16, Rows'.any-gone (Syntax.tyRef Syntax.erased Syntax.imm OfStation.named)) (List._∷_ (17, Rows'.any-gone (Syntax.tyStruct (List._∷_ 38 (List._∷_ 91 (List._∷_ 93 List.[]))) (Syntax.tcons (Syntax.tyRef Syntax.erased Syntax.imm OfStation.named) (Syntax.tcons (Syntax.tyInt Syntax.w64) Syntax.tnil)))) (List._∷_ (18, Rows'.any-gone (Syntax.tyRef Syntax.erased Syntax.mut OfOutput.named)) (List._∷_ (19, Rows'.any-gone (Syntax.tyStruct (List._∷_ 38 (List._∷_ 91 (List._∷_ 93 List.[]))) (Syntax.tcons (Syntax.tyRef Syntax.erased Syntax.mut OfOutput.named) (Syntax.tcons (Syntax.tyInt Syntax.w64) Syntax.tnil)))) (List._∷_ (20, Rows'.any-gone (Syntax.tyRef Syntax.erased Syntax.mut OfStation.named)) (List._∷_ (21, Mut.msleft (OfStation.row) (Syntax.tyRef Syntax.erased Syntax.mut OfStation.named)) (List._∷_ (22, Rows'.mleft (OfPanelRecord.row) (Syntax.tyRef Syntax.erased Syntax.mut OfPanelRecord.named)) List.[]))))))
 
 abbrev pub t42 : List.List Row.Entry
-t42 = List._∷_ (0, Rows'.whole (Declared.row Answer.the-type)) (List._∷_ (1, Mut.mslice (OfOutput.row) (Syntax.tyRef (Syntax.named 0) Syntax.mut OfOutput.named) 0) (List._∷_ (2, Mut.mslice (OfStation.row) (Syntax.tyRef (Syntax.named 1) Syntax.mut OfStation.named) 1) (List._∷_ (3, Rows'.mref-owed (OfPanelRecord.row) (Syntax.tyRef (Syntax.named 2) Syntax.mut OfPanelRecord.named) 2 10 Row.off) (List._∷_ (4, Rows'.sslice (Referent.rtF (Referent.fInt Syntax.w8)) (Syntax.tyRef (Syntax.named 3) Syntax.imm (Syntax.tyInt Syntax.w8)) 3) (List._∷_ (5, Rows'.any-gone OfPanelRecord.spelt) (List._∷_ (6, Rows'.any-gone (Laws'.mir)) (List._∷_ (7, Rows'.any-gone (Laws''.mir)) (List._∷_ (8, Rows'.any-gone Syntax.tyBool) (List._∷_ (9, Rows'.any-gone (Syntax.tyRef Syntax.erased Syntax.imm OfOutput.named)) (List._∷_ (10, Rows'.any-gone (Syntax.tyStruct (List._∷_ 38 (List._∷_ 91 (List._∷_ 93 List.[]))) (Syntax.tcons (Syntax.tyRef Syntax.erased Syntax.imm OfOutput.named) (Syntax.tcons (Syntax.tyInt Syntax.w64) Syntax.tnil)))) (List._∷_ (11, Rows'.any-gone (Syntax.tyRef Syntax.erased Syntax.imm OfStation.named)) (List._∷_ (12, Rows'.any-gone (Syntax.tyStruct (List._∷_ 38 (List._∷_ 91 (List._∷_ 93 List.[]))) (Syntax.tcons (Syntax.tyRef Syntax.erased Syntax.imm OfStation.named) (Syntax.tcons (Syntax.tyInt Syntax.w64) Syntax.tnil)))) (List._∷_ (13, Rows'.any-gone Syntax.tyBool) (List._∷_ (14, Rows'.any-gone (Syntax.tyRef Syntax.erased Syntax.imm OfOutput.named)) (List._∷_ (15, Rows'.any-gone (Syntax.tyStruct (List._∷_ 38 (List._∷_ 91 (List._∷_ 93 List.[]))) (Syntax.tcons (Syntax.tyRef Syntax.erased Syntax.imm OfOutput.named) (Syntax.tcons (Syntax.tyInt Syntax.w64) Syntax.tnil)))) List.[])))))))))))))))
+t42 = List._∷_ (0, Rows'.whole (Declared.row Answer.the-type)) (List._∷_ (1, Mut.mslice (OfOutput.row) (Syntax.tyRef (Syntax.named 0) Syntax.mut OfOutput.named) 0) (List._∷_ (2, Mut.mslice (OfStation.row) (Syntax.tyRef (Syntax.named 1) Syntax.mut OfStation.named) 1) (List._∷_ (3, Rows'.mref-owed (OfPanelRecord.row) (Syntax.tyRef (Syntax.named 2) Syntax.mut OfPanelRecord.named) 2 10 Row.off) (List._∷_ (4, Rows'.sslice (Referent.rtF (Referent.fInt Syntax.w8)) (Syntax.tyRef (Syntax.named 3) Syntax.imm (Syntax.tyInt Syntax.w8)) 3) (List._∷_ (5, Rows'.any-gone OfPanelRecord.spelt) (List._∷_ (6, Rows'.any-gone (Laws''.mir)) (List._∷_ (7, Rows'.any-gone (Laws.mir)) (List._∷_ (8, Rows'.any-gone Syntax.tyBool) (List._∷_ (9, Rows'.any-gone (Syntax.tyRef Syntax.erased Syntax.imm OfOutput.named)) (List._∷_ (10, Rows'.any-gone (Syntax.tyStruct (List._∷_ 38 (List._∷_ 91 (List._∷_ 93 List.[]))) (Syntax.tcons (Syntax.tyRef Syntax.erased Syntax.imm OfOutput.named) (Syntax.tcons (Syntax.tyInt Syntax.w64) Syntax.tnil)))) (List._∷_ (11, Rows'.any-gone (Syntax.tyRef Syntax.erased Syntax.imm OfStation.named)) (List._∷_ (12, Rows'.any-gone (Syntax.tyStruct (List._∷_ 38 (List._∷_ 91 (List._∷_ 93 List.[]))) (Syntax.tcons (Syntax.tyRef Syntax.erased Syntax.imm OfStation.named) (Syntax.tcons (Syntax.tyInt Syntax.w64) Syntax.tnil)))) (List._∷_ (13, Rows'.any-gone Syntax.tyBool) (List._∷_ (14, Rows'.any-gone (Syntax.tyRef Syntax.erased Syntax.imm OfOutput.named)) (List._∷_ (15, Rows'.any-gone (Syntax.tyStruct (List._∷_ 38 (List._∷_ 91 (List._∷_ 93 List.[]))) (Syntax.tcons (Syntax.tyRef Syntax.erased Syntax.imm OfOutput.named) (Syntax.tcons (Syntax.tyInt Syntax.w64) Syntax.tnil)))) List.[])))))))))))))))
 
 abbrev pub t43 : List.List Row.Entry
 t43 = List._∷_ (16, Rows'.any-gone (Syntax.tyRef Syntax.erased Syntax.imm OfStation.named)) (List._∷_ (17, Rows'.any-gone (Syntax.tyStruct (List._∷_ 38 (List._∷_ 91 (List._∷_ 93 List.[]))) (Syntax.tcons (Syntax.tyRef Syntax.erased Syntax.imm OfStation.named) (Syntax.tcons (Syntax.tyInt Syntax.w64) Syntax.tnil)))) (List._∷_ (18, Rows'.any-gone (Syntax.tyRef Syntax.erased Syntax.mut OfOutput.named)) (List._∷_ (19, Rows'.any-gone (Syntax.tyStruct (List._∷_ 38 (List._∷_ 91 (List._∷_ 93 List.[]))) (Syntax.tcons (Syntax.tyRef Syntax.erased Syntax.mut OfOutput.named) (Syntax.tcons (Syntax.tyInt Syntax.w64) Syntax.tnil)))) (List._∷_ (20, Rows'.any-gone (Syntax.tyRef Syntax.erased Syntax.mut OfStation.named)) (List._∷_ (21, Rows'.any-gone (Syntax.tyStruct (List._∷_ 38 (List._∷_ 91 (List._∷_ 93 List.[]))) (Syntax.tcons (Syntax.tyRef Syntax.erased Syntax.mut OfStation.named) (Syntax.tcons (Syntax.tyInt Syntax.w64) Syntax.tnil)))) (List._∷_ (22, Rows'.mleft (OfPanelRecord.row) (Syntax.tyRef Syntax.erased Syntax.mut OfPanelRecord.named)) List.[]))))))
@@ -518,7 +518,7 @@ module _ (claims· : Claims) where
   s1 = DerefMove.k-ref-read-copy T2 3 5 2 (OfPanelRecord.row) (Rows'.mref (OfPanelRecord.row) (Syntax.tyRef (Syntax.named 2) Syntax.mut OfPanelRecord.named) 2) Row.off (OfPanelRecord.held) (λ x. x) (λ x. x) (λ x. x) λ x. Unit
 
   abbrev s2 : Typed.Both T3 T4
-  s2 = Call.callB ps·0 r·0 (claims· .0) (claims· .1) T3 tt 6 List.[] (Laws'.mir)
+  s2 = Call.callB ps·0 r·0 (claims· .0) (claims· .1) T3 tt 6 List.[] (Laws''.mir)
 
   abbrev s4 : Typed.Gives T4 T6
   s4 = Reshare.k-sl-reshare (OfOutput.row) T4 1 9 0 4 (Syntax.tyRef (Syntax.named 0) Syntax.mut OfOutput.named) (Syntax.tyRef Syntax.erased Syntax.imm OfOutput.named) Row.off λ x. x
@@ -557,7 +557,7 @@ module _ (claims· : Claims) where
   s20 = Scalar.n-room T22 5 OfPanelRecord.spelt
 
   abbrev s21 : Typed.Mo T23 → Typed.Mo T24
-  s21 = Scalar.n-room T23 6 (Laws'.mir)
+  s21 = Scalar.n-room T23 6 (Laws''.mir)
 
   abbrev s22 : Typed.Mo T24 → Typed.Mo T25
   s22 = Scalar.n-room T24 13 Syntax.tyBool
@@ -581,7 +581,7 @@ module _ (claims· : Claims) where
   s30 = Relend.k-sl-aggregate (OfStation.row) (Relend.asShr (OfStation.row)) T32 16 17 7 (Syntax.tyRef Syntax.erased Syntax.imm OfStation.named) (Syntax.tyRef Syntax.erased Syntax.imm OfStation.named) (λ x. x) (Scalar.oFld 2 (List._∷_ (Syntax.field 1) List.[]) (Syntax.tyInt Syntax.w64) 8 λ v. Shared.lenV (v .0))
 
   abbrev s31 : Typed.Both T33 T34
-  s31 = Call.callB ps·2 r·2 (claims· .4) (claims· .5) T33 (record { pos = 15; ty = Syntax.tyRef Syntax.erased Syntax.imm OfOutput.named; ref = λ x. x }, (record { pos = 17; ty = Syntax.tyRef Syntax.erased Syntax.imm OfStation.named; ref = λ x. x }, (record { pos = 5; st = List.[]; d = 0; at = λ x. x }, (record { pos = 6; st = List.[]; d = 0; at = λ x. x }, (record { pos = 4; ty = Syntax.tyRef (Syntax.named 3) Syntax.imm (Syntax.tyInt Syntax.w8); ref = λ x. x }, tt))))) 7 (List._∷_ 6 (List._∷_ 7 (List._∷_ 3 List.[]))) (Laws''.mir)
+  s31 = Call.callB ps·2 r·2 (claims· .4) (claims· .5) T33 (record { pos = 15; ty = Syntax.tyRef Syntax.erased Syntax.imm OfOutput.named; ref = λ x. x }, (record { pos = 17; ty = Syntax.tyRef Syntax.erased Syntax.imm OfStation.named; ref = λ x. x }, (record { pos = 5; st = List.[]; d = 0; at = λ x. x }, (record { pos = 6; st = List.[]; d = 0; at = λ x. x }, (record { pos = 4; ty = Syntax.tyRef (Syntax.named 3) Syntax.imm (Syntax.tyInt Syntax.w8); ref = λ x. x }, tt))))) 7 (List._∷_ 6 (List._∷_ 7 (List._∷_ 3 List.[]))) (Laws.mir)
 
   abbrev s32 : Typed.Mo T34 → Typed.Mo T35
   s32 = Scalar.n-room T34 15 (Syntax.tyStruct (List._∷_ 38 (List._∷_ 91 (List._∷_ 93 List.[]))) (Syntax.tcons (Syntax.tyRef Syntax.erased Syntax.imm OfOutput.named) (Syntax.tcons (Syntax.tyInt Syntax.w64) Syntax.tnil)))
@@ -593,7 +593,7 @@ module _ (claims· : Claims) where
   s34 = Scalar.n-room T36 5 OfPanelRecord.spelt
 
   abbrev s35 : Typed.Mo T37 → Typed.Mo T38
-  s35 = Scalar.n-room T37 6 (Laws'.mir)
+  s35 = Scalar.n-room T37 6 (Laws''.mir)
 
   abbrev s37 : Typed.Mo T38 → Typed.Mo T40
   s37 = Reshare.n-back-sl-shr (OfOutput.row) T38 1 0 6 (Syntax.tyRef (Syntax.named 0) Syntax.mut OfOutput.named) Row.off λ x. x
@@ -617,10 +617,10 @@ module _ (claims· : Claims) where
   s49 = Reborrow.k-mref-relend T50 3 22 2 10 (OfPanelRecord.row) (Syntax.tyRef (Syntax.named 2) Syntax.mut OfPanelRecord.named) (Syntax.tyRef Syntax.erased Syntax.mut OfPanelRecord.named) Row.off List.[] λ x. x
 
   abbrev s50 : Typed.Both T52 T53
-  s50 = Call.callB ps·3 r·3 (claims· .6) (claims· .7) T52 (record { pos = 19; ty = Syntax.tyRef Syntax.erased Syntax.mut OfOutput.named; ref = λ x. x }, (record { pos = 21; ty = Syntax.tyRef Syntax.erased Syntax.mut OfStation.named; ref = λ x. x }, (record { pos = 22; ty = Syntax.tyRef Syntax.erased Syntax.mut OfPanelRecord.named; ref = λ x. x }, (record { pos = 4; ty = Syntax.tyRef (Syntax.named 3) Syntax.imm (Syntax.tyInt Syntax.w8); ref = λ x. x }, (record { pos = 7; st = List.[]; d = 0; at = λ x. x }, tt))))) 0 (List._∷_ 8 (List._∷_ 9 (List._∷_ 10 (List._∷_ 3 List.[])))) (Laws.mir)
+  s50 = Call.callB ps·3 r·3 (claims· .6) (claims· .7) T52 (record { pos = 19; ty = Syntax.tyRef Syntax.erased Syntax.mut OfOutput.named; ref = λ x. x }, (record { pos = 21; ty = Syntax.tyRef Syntax.erased Syntax.mut OfStation.named; ref = λ x. x }, (record { pos = 22; ty = Syntax.tyRef Syntax.erased Syntax.mut OfPanelRecord.named; ref = λ x. x }, (record { pos = 4; ty = Syntax.tyRef (Syntax.named 3) Syntax.imm (Syntax.tyInt Syntax.w8); ref = λ x. x }, (record { pos = 7; st = List.[]; d = 0; at = λ x. x }, tt))))) 0 (List._∷_ 8 (List._∷_ 9 (List._∷_ 10 (List._∷_ 3 List.[])))) (Laws'.mir)
 
   abbrev s51 : Typed.Mo T53 → Typed.Mo T54
-  s51 = Scalar.n-room T53 7 (Laws''.mir)
+  s51 = Scalar.n-room T53 7 (Laws.mir)
 
   abbrev s53 : Typed.Both T54 T56
   s53 = Relend.k-back-sl (OfOutput.row) T54 19 1 0 8 (Syntax.tyRef (Syntax.named 0) Syntax.mut OfOutput.named) (Syntax.tyRef Syntax.erased Syntax.mut OfOutput.named) Row.off (λ x. x) λ x. x
@@ -846,73 +846,73 @@ module _ (claims· : Claims) where
 
       module _ (κs : Lifetimes.Lfts 4) (qs : Lifetimes.Shares 4) where
         abbrev g5 : List.List Row.Entry
-        g5 = List._∷_ (0, Rows'.any-gone (Laws.mir)) (List._∷_ (1, Reshare.mslice-owedS (OfOutput.row) (Syntax.tyRef (Syntax.named 0) Syntax.mut OfOutput.named) 0 4 (Row.lease (κs .0) (qs .0))) (List._∷_ (2, Mut.mslice (OfStation.row) (Syntax.tyRef (Syntax.named 1) Syntax.mut OfStation.named) 1) (List._∷_ (3, Rows'.mref (OfPanelRecord.row) (Syntax.tyRef (Syntax.named 2) Syntax.mut OfPanelRecord.named) 2) (List._∷_ (4, Rows'.sslice (Referent.rtF (Referent.fInt Syntax.w8)) (Syntax.tyRef (Syntax.named 3) Syntax.imm (Syntax.tyInt Syntax.w8)) 3) (List._∷_ (5, OfPanelRecord.held) (List._∷_ (6, Rows'.whole (Declared'.row Parameters.the-type)) (List._∷_ (7, Rows'.any-gone (Laws''.mir)) (List._∷_ (8, Rows'.any-gone Syntax.tyBool) (List._∷_ (9, Relend.ssptr (OfOutput.row) (Syntax.tyRef Syntax.erased Syntax.imm OfOutput.named) 4) (List._∷_ (10, Rows'.any-gone (Syntax.tyStruct (List._∷_ 38 (List._∷_ 91 (List._∷_ 93 List.[]))) (Syntax.tcons (Syntax.tyRef Syntax.erased Syntax.imm OfOutput.named) (Syntax.tcons (Syntax.tyInt Syntax.w64) Syntax.tnil)))) (List._∷_ (11, Rows'.any-gone (Syntax.tyRef Syntax.erased Syntax.imm OfStation.named)) (List._∷_ (12, Rows'.any-gone (Syntax.tyStruct (List._∷_ 38 (List._∷_ 91 (List._∷_ 93 List.[]))) (Syntax.tcons (Syntax.tyRef Syntax.erased Syntax.imm OfStation.named) (Syntax.tcons (Syntax.tyInt Syntax.w64) Syntax.tnil)))) (List._∷_ (13, Rows'.any-gone Syntax.tyBool) (List._∷_ (14, Rows'.any-gone (Syntax.tyRef Syntax.erased Syntax.imm OfOutput.named)) (List._∷_ (15, Rows'.any-gone (Syntax.tyStruct (List._∷_ 38 (List._∷_ 91 (List._∷_ 93 List.[]))) (Syntax.tcons (Syntax.tyRef Syntax.erased Syntax.imm OfOutput.named) (Syntax.tcons (Syntax.tyInt Syntax.w64) Syntax.tnil)))) List.[])))))))))))))))
+        g5 = List._∷_ (0, Rows'.any-gone (Laws'.mir)) (List._∷_ (1, Reshare.mslice-owedS (OfOutput.row) (Syntax.tyRef (Syntax.named 0) Syntax.mut OfOutput.named) 0 4 (Row.lease (κs .0) (qs .0))) (List._∷_ (2, Mut.mslice (OfStation.row) (Syntax.tyRef (Syntax.named 1) Syntax.mut OfStation.named) 1) (List._∷_ (3, Rows'.mref (OfPanelRecord.row) (Syntax.tyRef (Syntax.named 2) Syntax.mut OfPanelRecord.named) 2) (List._∷_ (4, Rows'.sslice (Referent.rtF (Referent.fInt Syntax.w8)) (Syntax.tyRef (Syntax.named 3) Syntax.imm (Syntax.tyInt Syntax.w8)) 3) (List._∷_ (5, OfPanelRecord.held) (List._∷_ (6, Rows'.whole (Declared'.row Parameters.the-type)) (List._∷_ (7, Rows'.any-gone (Laws.mir)) (List._∷_ (8, Rows'.any-gone Syntax.tyBool) (List._∷_ (9, Relend.ssptr (OfOutput.row) (Syntax.tyRef Syntax.erased Syntax.imm OfOutput.named) 4) (List._∷_ (10, Rows'.any-gone (Syntax.tyStruct (List._∷_ 38 (List._∷_ 91 (List._∷_ 93 List.[]))) (Syntax.tcons (Syntax.tyRef Syntax.erased Syntax.imm OfOutput.named) (Syntax.tcons (Syntax.tyInt Syntax.w64) Syntax.tnil)))) (List._∷_ (11, Rows'.any-gone (Syntax.tyRef Syntax.erased Syntax.imm OfStation.named)) (List._∷_ (12, Rows'.any-gone (Syntax.tyStruct (List._∷_ 38 (List._∷_ 91 (List._∷_ 93 List.[]))) (Syntax.tcons (Syntax.tyRef Syntax.erased Syntax.imm OfStation.named) (Syntax.tcons (Syntax.tyInt Syntax.w64) Syntax.tnil)))) (List._∷_ (13, Rows'.any-gone Syntax.tyBool) (List._∷_ (14, Rows'.any-gone (Syntax.tyRef Syntax.erased Syntax.imm OfOutput.named)) (List._∷_ (15, Rows'.any-gone (Syntax.tyStruct (List._∷_ 38 (List._∷_ 91 (List._∷_ 93 List.[]))) (Syntax.tcons (Syntax.tyRef Syntax.erased Syntax.imm OfOutput.named) (Syntax.tcons (Syntax.tyInt Syntax.w64) Syntax.tnil)))) List.[])))))))))))))))
 
         abbrev g6 : List.List Row.Entry
-        g6 = List._∷_ (0, Rows'.any-gone (Laws.mir)) (List._∷_ (1, Reshare.mslice-owedS (OfOutput.row) (Syntax.tyRef (Syntax.named 0) Syntax.mut OfOutput.named) 0 4 (Row.lease (κs .0) (qs .0))) (List._∷_ (2, Mut.mslice (OfStation.row) (Syntax.tyRef (Syntax.named 1) Syntax.mut OfStation.named) 1) (List._∷_ (3, Rows'.mref (OfPanelRecord.row) (Syntax.tyRef (Syntax.named 2) Syntax.mut OfPanelRecord.named) 2) (List._∷_ (4, Rows'.sslice (Referent.rtF (Referent.fInt Syntax.w8)) (Syntax.tyRef (Syntax.named 3) Syntax.imm (Syntax.tyInt Syntax.w8)) 3) (List._∷_ (5, OfPanelRecord.held) (List._∷_ (6, Rows'.whole (Declared'.row Parameters.the-type)) (List._∷_ (7, Rows'.any-gone (Laws''.mir)) (List._∷_ (8, Rows'.any-gone Syntax.tyBool) (List._∷_ (9, Rows'.any-gone (Syntax.tyRef Syntax.erased Syntax.imm OfOutput.named)) (List._∷_ (10, Rows'.sslice (OfOutput.row) (Syntax.tyRef Syntax.erased Syntax.imm OfOutput.named) 4) (List._∷_ (11, Rows'.any-gone (Syntax.tyRef Syntax.erased Syntax.imm OfStation.named)) (List._∷_ (12, Rows'.any-gone (Syntax.tyStruct (List._∷_ 38 (List._∷_ 91 (List._∷_ 93 List.[]))) (Syntax.tcons (Syntax.tyRef Syntax.erased Syntax.imm OfStation.named) (Syntax.tcons (Syntax.tyInt Syntax.w64) Syntax.tnil)))) (List._∷_ (13, Rows'.any-gone Syntax.tyBool) (List._∷_ (14, Rows'.any-gone (Syntax.tyRef Syntax.erased Syntax.imm OfOutput.named)) (List._∷_ (15, Rows'.any-gone (Syntax.tyStruct (List._∷_ 38 (List._∷_ 91 (List._∷_ 93 List.[]))) (Syntax.tcons (Syntax.tyRef Syntax.erased Syntax.imm OfOutput.named) (Syntax.tcons (Syntax.tyInt Syntax.w64) Syntax.tnil)))) List.[])))))))))))))))
+        g6 = List._∷_ (0, Rows'.any-gone (Laws'.mir)) (List._∷_ (1, Reshare.mslice-owedS (OfOutput.row) (Syntax.tyRef (Syntax.named 0) Syntax.mut OfOutput.named) 0 4 (Row.lease (κs .0) (qs .0))) (List._∷_ (2, Mut.mslice (OfStation.row) (Syntax.tyRef (Syntax.named 1) Syntax.mut OfStation.named) 1) (List._∷_ (3, Rows'.mref (OfPanelRecord.row) (Syntax.tyRef (Syntax.named 2) Syntax.mut OfPanelRecord.named) 2) (List._∷_ (4, Rows'.sslice (Referent.rtF (Referent.fInt Syntax.w8)) (Syntax.tyRef (Syntax.named 3) Syntax.imm (Syntax.tyInt Syntax.w8)) 3) (List._∷_ (5, OfPanelRecord.held) (List._∷_ (6, Rows'.whole (Declared'.row Parameters.the-type)) (List._∷_ (7, Rows'.any-gone (Laws.mir)) (List._∷_ (8, Rows'.any-gone Syntax.tyBool) (List._∷_ (9, Rows'.any-gone (Syntax.tyRef Syntax.erased Syntax.imm OfOutput.named)) (List._∷_ (10, Rows'.sslice (OfOutput.row) (Syntax.tyRef Syntax.erased Syntax.imm OfOutput.named) 4) (List._∷_ (11, Rows'.any-gone (Syntax.tyRef Syntax.erased Syntax.imm OfStation.named)) (List._∷_ (12, Rows'.any-gone (Syntax.tyStruct (List._∷_ 38 (List._∷_ 91 (List._∷_ 93 List.[]))) (Syntax.tcons (Syntax.tyRef Syntax.erased Syntax.imm OfStation.named) (Syntax.tcons (Syntax.tyInt Syntax.w64) Syntax.tnil)))) (List._∷_ (13, Rows'.any-gone Syntax.tyBool) (List._∷_ (14, Rows'.any-gone (Syntax.tyRef Syntax.erased Syntax.imm OfOutput.named)) (List._∷_ (15, Rows'.any-gone (Syntax.tyStruct (List._∷_ 38 (List._∷_ 91 (List._∷_ 93 List.[]))) (Syntax.tcons (Syntax.tyRef Syntax.erased Syntax.imm OfOutput.named) (Syntax.tcons (Syntax.tyInt Syntax.w64) Syntax.tnil)))) List.[])))))))))))))))
 
         abbrev g7 : List.List Row.Entry
-        g7 = List._∷_ (0, Rows'.any-gone (Laws.mir)) (List._∷_ (1, Reshare.mslice-owedS (OfOutput.row) (Syntax.tyRef (Syntax.named 0) Syntax.mut OfOutput.named) 0 4 (Row.lease (κs .0) (qs .0))) (List._∷_ (2, Reshare.mslice-owedS (OfStation.row) (Syntax.tyRef (Syntax.named 1) Syntax.mut OfStation.named) 1 5 (Row.lease (κs .1 .0) (qs .1 .0))) (List._∷_ (3, Rows'.mref (OfPanelRecord.row) (Syntax.tyRef (Syntax.named 2) Syntax.mut OfPanelRecord.named) 2) (List._∷_ (4, Rows'.sslice (Referent.rtF (Referent.fInt Syntax.w8)) (Syntax.tyRef (Syntax.named 3) Syntax.imm (Syntax.tyInt Syntax.w8)) 3) (List._∷_ (5, OfPanelRecord.held) (List._∷_ (6, Rows'.whole (Declared'.row Parameters.the-type)) (List._∷_ (7, Rows'.any-gone (Laws''.mir)) (List._∷_ (8, Rows'.any-gone Syntax.tyBool) (List._∷_ (9, Rows'.any-gone (Syntax.tyRef Syntax.erased Syntax.imm OfOutput.named)) (List._∷_ (10, Rows'.sslice (OfOutput.row) (Syntax.tyRef Syntax.erased Syntax.imm OfOutput.named) 4) (List._∷_ (11, Relend.ssptr (OfStation.row) (Syntax.tyRef Syntax.erased Syntax.imm OfStation.named) 5) (List._∷_ (12, Rows'.any-gone (Syntax.tyStruct (List._∷_ 38 (List._∷_ 91 (List._∷_ 93 List.[]))) (Syntax.tcons (Syntax.tyRef Syntax.erased Syntax.imm OfStation.named) (Syntax.tcons (Syntax.tyInt Syntax.w64) Syntax.tnil)))) (List._∷_ (13, Rows'.any-gone Syntax.tyBool) (List._∷_ (14, Rows'.any-gone (Syntax.tyRef Syntax.erased Syntax.imm OfOutput.named)) (List._∷_ (15, Rows'.any-gone (Syntax.tyStruct (List._∷_ 38 (List._∷_ 91 (List._∷_ 93 List.[]))) (Syntax.tcons (Syntax.tyRef Syntax.erased Syntax.imm OfOutput.named) (Syntax.tcons (Syntax.tyInt Syntax.w64) Syntax.tnil)))) List.[])))))))))))))))
+        g7 = List._∷_ (0, Rows'.any-gone (Laws'.mir)) (List._∷_ (1, Reshare.mslice-owedS (OfOutput.row) (Syntax.tyRef (Syntax.named 0) Syntax.mut OfOutput.named) 0 4 (Row.lease (κs .0) (qs .0))) (List._∷_ (2, Reshare.mslice-owedS (OfStation.row) (Syntax.tyRef (Syntax.named 1) Syntax.mut OfStation.named) 1 5 (Row.lease (κs .1 .0) (qs .1 .0))) (List._∷_ (3, Rows'.mref (OfPanelRecord.row) (Syntax.tyRef (Syntax.named 2) Syntax.mut OfPanelRecord.named) 2) (List._∷_ (4, Rows'.sslice (Referent.rtF (Referent.fInt Syntax.w8)) (Syntax.tyRef (Syntax.named 3) Syntax.imm (Syntax.tyInt Syntax.w8)) 3) (List._∷_ (5, OfPanelRecord.held) (List._∷_ (6, Rows'.whole (Declared'.row Parameters.the-type)) (List._∷_ (7, Rows'.any-gone (Laws.mir)) (List._∷_ (8, Rows'.any-gone Syntax.tyBool) (List._∷_ (9, Rows'.any-gone (Syntax.tyRef Syntax.erased Syntax.imm OfOutput.named)) (List._∷_ (10, Rows'.sslice (OfOutput.row) (Syntax.tyRef Syntax.erased Syntax.imm OfOutput.named) 4) (List._∷_ (11, Relend.ssptr (OfStation.row) (Syntax.tyRef Syntax.erased Syntax.imm OfStation.named) 5) (List._∷_ (12, Rows'.any-gone (Syntax.tyStruct (List._∷_ 38 (List._∷_ 91 (List._∷_ 93 List.[]))) (Syntax.tcons (Syntax.tyRef Syntax.erased Syntax.imm OfStation.named) (Syntax.tcons (Syntax.tyInt Syntax.w64) Syntax.tnil)))) (List._∷_ (13, Rows'.any-gone Syntax.tyBool) (List._∷_ (14, Rows'.any-gone (Syntax.tyRef Syntax.erased Syntax.imm OfOutput.named)) (List._∷_ (15, Rows'.any-gone (Syntax.tyStruct (List._∷_ 38 (List._∷_ 91 (List._∷_ 93 List.[]))) (Syntax.tcons (Syntax.tyRef Syntax.erased Syntax.imm OfOutput.named) (Syntax.tcons (Syntax.tyInt Syntax.w64) Syntax.tnil)))) List.[])))))))))))))))
 
         abbrev g8 : List.List Row.Entry
-        g8 = List._∷_ (0, Rows'.any-gone (Laws.mir)) (List._∷_ (1, Reshare.mslice-owedS (OfOutput.row) (Syntax.tyRef (Syntax.named 0) Syntax.mut OfOutput.named) 0 4 (Row.lease (κs .0) (qs .0))) (List._∷_ (2, Reshare.mslice-owedS (OfStation.row) (Syntax.tyRef (Syntax.named 1) Syntax.mut OfStation.named) 1 5 (Row.lease (κs .1 .0) (qs .1 .0))) (List._∷_ (3, Rows'.mref (OfPanelRecord.row) (Syntax.tyRef (Syntax.named 2) Syntax.mut OfPanelRecord.named) 2) (List._∷_ (4, Rows'.sslice (Referent.rtF (Referent.fInt Syntax.w8)) (Syntax.tyRef (Syntax.named 3) Syntax.imm (Syntax.tyInt Syntax.w8)) 3) (List._∷_ (5, OfPanelRecord.held) (List._∷_ (6, Rows'.whole (Declared'.row Parameters.the-type)) (List._∷_ (7, Rows'.any-gone (Laws''.mir)) (List._∷_ (8, Rows'.any-gone Syntax.tyBool) (List._∷_ (9, Rows'.any-gone (Syntax.tyRef Syntax.erased Syntax.imm OfOutput.named)) (List._∷_ (10, Rows'.sslice (OfOutput.row) (Syntax.tyRef Syntax.erased Syntax.imm OfOutput.named) 4) (List._∷_ (11, Rows'.any-gone (Syntax.tyRef Syntax.erased Syntax.imm OfStation.named)) (List._∷_ (12, Rows'.sslice (OfStation.row) (Syntax.tyRef Syntax.erased Syntax.imm OfStation.named) 5) (List._∷_ (13, Rows'.any-gone Syntax.tyBool) (List._∷_ (14, Rows'.any-gone (Syntax.tyRef Syntax.erased Syntax.imm OfOutput.named)) (List._∷_ (15, Rows'.any-gone (Syntax.tyStruct (List._∷_ 38 (List._∷_ 91 (List._∷_ 93 List.[]))) (Syntax.tcons (Syntax.tyRef Syntax.erased Syntax.imm OfOutput.named) (Syntax.tcons (Syntax.tyInt Syntax.w64) Syntax.tnil)))) List.[])))))))))))))))
+        g8 = List._∷_ (0, Rows'.any-gone (Laws'.mir)) (List._∷_ (1, Reshare.mslice-owedS (OfOutput.row) (Syntax.tyRef (Syntax.named 0) Syntax.mut OfOutput.named) 0 4 (Row.lease (κs .0) (qs .0))) (List._∷_ (2, Reshare.mslice-owedS (OfStation.row) (Syntax.tyRef (Syntax.named 1) Syntax.mut OfStation.named) 1 5 (Row.lease (κs .1 .0) (qs .1 .0))) (List._∷_ (3, Rows'.mref (OfPanelRecord.row) (Syntax.tyRef (Syntax.named 2) Syntax.mut OfPanelRecord.named) 2) (List._∷_ (4, Rows'.sslice (Referent.rtF (Referent.fInt Syntax.w8)) (Syntax.tyRef (Syntax.named 3) Syntax.imm (Syntax.tyInt Syntax.w8)) 3) (List._∷_ (5, OfPanelRecord.held) (List._∷_ (6, Rows'.whole (Declared'.row Parameters.the-type)) (List._∷_ (7, Rows'.any-gone (Laws.mir)) (List._∷_ (8, Rows'.any-gone Syntax.tyBool) (List._∷_ (9, Rows'.any-gone (Syntax.tyRef Syntax.erased Syntax.imm OfOutput.named)) (List._∷_ (10, Rows'.sslice (OfOutput.row) (Syntax.tyRef Syntax.erased Syntax.imm OfOutput.named) 4) (List._∷_ (11, Rows'.any-gone (Syntax.tyRef Syntax.erased Syntax.imm OfStation.named)) (List._∷_ (12, Rows'.sslice (OfStation.row) (Syntax.tyRef Syntax.erased Syntax.imm OfStation.named) 5) (List._∷_ (13, Rows'.any-gone Syntax.tyBool) (List._∷_ (14, Rows'.any-gone (Syntax.tyRef Syntax.erased Syntax.imm OfOutput.named)) (List._∷_ (15, Rows'.any-gone (Syntax.tyStruct (List._∷_ 38 (List._∷_ 91 (List._∷_ 93 List.[]))) (Syntax.tcons (Syntax.tyRef Syntax.erased Syntax.imm OfOutput.named) (Syntax.tcons (Syntax.tyInt Syntax.w64) Syntax.tnil)))) List.[])))))))))))))))
 
         abbrev g9 : List.List Row.Entry
-        g9 = List._∷_ (0, Rows'.any-gone (Laws.mir)) (List._∷_ (1, Reshare.mslice-owedS (OfOutput.row) (Syntax.tyRef (Syntax.named 0) Syntax.mut OfOutput.named) 0 4 (Row.lease (κs .0) (qs .0))) (List._∷_ (2, Reshare.mslice-owedS (OfStation.row) (Syntax.tyRef (Syntax.named 1) Syntax.mut OfStation.named) 1 5 (Row.lease (κs .1 .0) (qs .1 .0))) (List._∷_ (3, Rows'.mref (OfPanelRecord.row) (Syntax.tyRef (Syntax.named 2) Syntax.mut OfPanelRecord.named) 2) (List._∷_ (4, Rows'.sslice (Referent.rtF (Referent.fInt Syntax.w8)) (Syntax.tyRef (Syntax.named 3) Syntax.imm (Syntax.tyInt Syntax.w8)) 3) (List._∷_ (5, OfPanelRecord.held) (List._∷_ (6, Rows'.whole (Declared'.row Parameters.the-type)) (List._∷_ (7, Rows'.any-gone (Laws''.mir)) (List._∷_ (8, Rows'.sc-here Row.sBool) (List._∷_ (9, Rows'.any-gone (Syntax.tyRef Syntax.erased Syntax.imm OfOutput.named)) (List._∷_ (10, Rows'.sslice (OfOutput.row) (Syntax.tyRef Syntax.erased Syntax.imm OfOutput.named) 4) (List._∷_ (11, Rows'.any-gone (Syntax.tyRef Syntax.erased Syntax.imm OfStation.named)) (List._∷_ (12, Rows'.sslice (OfStation.row) (Syntax.tyRef Syntax.erased Syntax.imm OfStation.named) 5) (List._∷_ (13, Rows'.any-gone Syntax.tyBool) (List._∷_ (14, Rows'.any-gone (Syntax.tyRef Syntax.erased Syntax.imm OfOutput.named)) (List._∷_ (15, Rows'.any-gone (Syntax.tyStruct (List._∷_ 38 (List._∷_ 91 (List._∷_ 93 List.[]))) (Syntax.tcons (Syntax.tyRef Syntax.erased Syntax.imm OfOutput.named) (Syntax.tcons (Syntax.tyInt Syntax.w64) Syntax.tnil)))) List.[])))))))))))))))
+        g9 = List._∷_ (0, Rows'.any-gone (Laws'.mir)) (List._∷_ (1, Reshare.mslice-owedS (OfOutput.row) (Syntax.tyRef (Syntax.named 0) Syntax.mut OfOutput.named) 0 4 (Row.lease (κs .0) (qs .0))) (List._∷_ (2, Reshare.mslice-owedS (OfStation.row) (Syntax.tyRef (Syntax.named 1) Syntax.mut OfStation.named) 1 5 (Row.lease (κs .1 .0) (qs .1 .0))) (List._∷_ (3, Rows'.mref (OfPanelRecord.row) (Syntax.tyRef (Syntax.named 2) Syntax.mut OfPanelRecord.named) 2) (List._∷_ (4, Rows'.sslice (Referent.rtF (Referent.fInt Syntax.w8)) (Syntax.tyRef (Syntax.named 3) Syntax.imm (Syntax.tyInt Syntax.w8)) 3) (List._∷_ (5, OfPanelRecord.held) (List._∷_ (6, Rows'.whole (Declared'.row Parameters.the-type)) (List._∷_ (7, Rows'.any-gone (Laws.mir)) (List._∷_ (8, Rows'.sc-here Row.sBool) (List._∷_ (9, Rows'.any-gone (Syntax.tyRef Syntax.erased Syntax.imm OfOutput.named)) (List._∷_ (10, Rows'.sslice (OfOutput.row) (Syntax.tyRef Syntax.erased Syntax.imm OfOutput.named) 4) (List._∷_ (11, Rows'.any-gone (Syntax.tyRef Syntax.erased Syntax.imm OfStation.named)) (List._∷_ (12, Rows'.sslice (OfStation.row) (Syntax.tyRef Syntax.erased Syntax.imm OfStation.named) 5) (List._∷_ (13, Rows'.any-gone Syntax.tyBool) (List._∷_ (14, Rows'.any-gone (Syntax.tyRef Syntax.erased Syntax.imm OfOutput.named)) (List._∷_ (15, Rows'.any-gone (Syntax.tyStruct (List._∷_ 38 (List._∷_ 91 (List._∷_ 93 List.[]))) (Syntax.tcons (Syntax.tyRef Syntax.erased Syntax.imm OfOutput.named) (Syntax.tcons (Syntax.tyInt Syntax.w64) Syntax.tnil)))) List.[])))))))))))))))
 
         abbrev g10 : List.List Row.Entry
-        g10 = List._∷_ (0, Rows'.any-gone (Laws.mir)) (List._∷_ (1, Reshare.mslice-owedS (OfOutput.row) (Syntax.tyRef (Syntax.named 0) Syntax.mut OfOutput.named) 0 4 (Row.lease (κs .0) (qs .0))) (List._∷_ (2, Reshare.mslice-owedS (OfStation.row) (Syntax.tyRef (Syntax.named 1) Syntax.mut OfStation.named) 1 5 (Row.lease (κs .1 .0) (qs .1 .0))) (List._∷_ (3, Rows'.mref (OfPanelRecord.row) (Syntax.tyRef (Syntax.named 2) Syntax.mut OfPanelRecord.named) 2) (List._∷_ (4, Rows'.sslice (Referent.rtF (Referent.fInt Syntax.w8)) (Syntax.tyRef (Syntax.named 3) Syntax.imm (Syntax.tyInt Syntax.w8)) 3) (List._∷_ (5, OfPanelRecord.held) (List._∷_ (6, Rows'.whole (Declared'.row Parameters.the-type)) (List._∷_ (7, Rows'.any-gone (Laws''.mir)) (List._∷_ (8, Rows'.sc-here Row.sBool) (List._∷_ (9, Rows'.any-gone (Syntax.tyRef Syntax.erased Syntax.imm OfOutput.named)) (List._∷_ (10, Rows'.any-gone (Syntax.tyStruct (List._∷_ 38 (List._∷_ 91 (List._∷_ 93 List.[]))) (Syntax.tcons (Syntax.tyRef Syntax.erased Syntax.imm OfOutput.named) (Syntax.tcons (Syntax.tyInt Syntax.w64) Syntax.tnil)))) (List._∷_ (11, Rows'.any-gone (Syntax.tyRef Syntax.erased Syntax.imm OfStation.named)) (List._∷_ (12, Rows'.sslice (OfStation.row) (Syntax.tyRef Syntax.erased Syntax.imm OfStation.named) 5) (List._∷_ (13, Rows'.any-gone Syntax.tyBool) (List._∷_ (14, Rows'.any-gone (Syntax.tyRef Syntax.erased Syntax.imm OfOutput.named)) (List._∷_ (15, Rows'.any-gone (Syntax.tyStruct (List._∷_ 38 (List._∷_ 91 (List._∷_ 93 List.[]))) (Syntax.tcons (Syntax.tyRef Syntax.erased Syntax.imm OfOutput.named) (Syntax.tcons (Syntax.tyInt Syntax.w64) Syntax.tnil)))) List.[])))))))))))))))
+        g10 = List._∷_ (0, Rows'.any-gone (Laws'.mir)) (List._∷_ (1, Reshare.mslice-owedS (OfOutput.row) (Syntax.tyRef (Syntax.named 0) Syntax.mut OfOutput.named) 0 4 (Row.lease (κs .0) (qs .0))) (List._∷_ (2, Reshare.mslice-owedS (OfStation.row) (Syntax.tyRef (Syntax.named 1) Syntax.mut OfStation.named) 1 5 (Row.lease (κs .1 .0) (qs .1 .0))) (List._∷_ (3, Rows'.mref (OfPanelRecord.row) (Syntax.tyRef (Syntax.named 2) Syntax.mut OfPanelRecord.named) 2) (List._∷_ (4, Rows'.sslice (Referent.rtF (Referent.fInt Syntax.w8)) (Syntax.tyRef (Syntax.named 3) Syntax.imm (Syntax.tyInt Syntax.w8)) 3) (List._∷_ (5, OfPanelRecord.held) (List._∷_ (6, Rows'.whole (Declared'.row Parameters.the-type)) (List._∷_ (7, Rows'.any-gone (Laws.mir)) (List._∷_ (8, Rows'.sc-here Row.sBool) (List._∷_ (9, Rows'.any-gone (Syntax.tyRef Syntax.erased Syntax.imm OfOutput.named)) (List._∷_ (10, Rows'.any-gone (Syntax.tyStruct (List._∷_ 38 (List._∷_ 91 (List._∷_ 93 List.[]))) (Syntax.tcons (Syntax.tyRef Syntax.erased Syntax.imm OfOutput.named) (Syntax.tcons (Syntax.tyInt Syntax.w64) Syntax.tnil)))) (List._∷_ (11, Rows'.any-gone (Syntax.tyRef Syntax.erased Syntax.imm OfStation.named)) (List._∷_ (12, Rows'.sslice (OfStation.row) (Syntax.tyRef Syntax.erased Syntax.imm OfStation.named) 5) (List._∷_ (13, Rows'.any-gone Syntax.tyBool) (List._∷_ (14, Rows'.any-gone (Syntax.tyRef Syntax.erased Syntax.imm OfOutput.named)) (List._∷_ (15, Rows'.any-gone (Syntax.tyStruct (List._∷_ 38 (List._∷_ 91 (List._∷_ 93 List.[]))) (Syntax.tcons (Syntax.tyRef Syntax.erased Syntax.imm OfOutput.named) (Syntax.tcons (Syntax.tyInt Syntax.w64) Syntax.tnil)))) List.[])))))))))))))))
 
         abbrev g11 : List.List Row.Entry
-        g11 = List._∷_ (0, Rows'.any-gone (Laws.mir)) (List._∷_ (1, Reshare.mslice-owedS (OfOutput.row) (Syntax.tyRef (Syntax.named 0) Syntax.mut OfOutput.named) 0 4 (Row.lease (κs .0) (qs .0))) (List._∷_ (2, Reshare.mslice-owedS (OfStation.row) (Syntax.tyRef (Syntax.named 1) Syntax.mut OfStation.named) 1 5 (Row.lease (κs .1 .0) (qs .1 .0))) (List._∷_ (3, Rows'.mref (OfPanelRecord.row) (Syntax.tyRef (Syntax.named 2) Syntax.mut OfPanelRecord.named) 2) (List._∷_ (4, Rows'.sslice (Referent.rtF (Referent.fInt Syntax.w8)) (Syntax.tyRef (Syntax.named 3) Syntax.imm (Syntax.tyInt Syntax.w8)) 3) (List._∷_ (5, OfPanelRecord.held) (List._∷_ (6, Rows'.whole (Declared'.row Parameters.the-type)) (List._∷_ (7, Rows'.any-gone (Laws''.mir)) (List._∷_ (8, Rows'.sc-here Row.sBool) (List._∷_ (9, Rows'.any-gone (Syntax.tyRef Syntax.erased Syntax.imm OfOutput.named)) (List._∷_ (10, Rows'.any-gone (Syntax.tyStruct (List._∷_ 38 (List._∷_ 91 (List._∷_ 93 List.[]))) (Syntax.tcons (Syntax.tyRef Syntax.erased Syntax.imm OfOutput.named) (Syntax.tcons (Syntax.tyInt Syntax.w64) Syntax.tnil)))) (List._∷_ (11, Rows'.any-gone (Syntax.tyRef Syntax.erased Syntax.imm OfStation.named)) (List._∷_ (12, Rows'.any-gone (Syntax.tyStruct (List._∷_ 38 (List._∷_ 91 (List._∷_ 93 List.[]))) (Syntax.tcons (Syntax.tyRef Syntax.erased Syntax.imm OfStation.named) (Syntax.tcons (Syntax.tyInt Syntax.w64) Syntax.tnil)))) (List._∷_ (13, Rows'.any-gone Syntax.tyBool) (List._∷_ (14, Rows'.any-gone (Syntax.tyRef Syntax.erased Syntax.imm OfOutput.named)) (List._∷_ (15, Rows'.any-gone (Syntax.tyStruct (List._∷_ 38 (List._∷_ 91 (List._∷_ 93 List.[]))) (Syntax.tcons (Syntax.tyRef Syntax.erased Syntax.imm OfOutput.named) (Syntax.tcons (Syntax.tyInt Syntax.w64) Syntax.tnil)))) List.[])))))))))))))))
+        g11 = List._∷_ (0, Rows'.any-gone (Laws'.mir)) (List._∷_ (1, Reshare.mslice-owedS (OfOutput.row) (Syntax.tyRef (Syntax.named 0) Syntax.mut OfOutput.named) 0 4 (Row.lease (κs .0) (qs .0))) (List._∷_ (2, Reshare.mslice-owedS (OfStation.row) (Syntax.tyRef (Syntax.named 1) Syntax.mut OfStation.named) 1 5 (Row.lease (κs .1 .0) (qs .1 .0))) (List._∷_ (3, Rows'.mref (OfPanelRecord.row) (Syntax.tyRef (Syntax.named 2) Syntax.mut OfPanelRecord.named) 2) (List._∷_ (4, Rows'.sslice (Referent.rtF (Referent.fInt Syntax.w8)) (Syntax.tyRef (Syntax.named 3) Syntax.imm (Syntax.tyInt Syntax.w8)) 3) (List._∷_ (5, OfPanelRecord.held) (List._∷_ (6, Rows'.whole (Declared'.row Parameters.the-type)) (List._∷_ (7, Rows'.any-gone (Laws.mir)) (List._∷_ (8, Rows'.sc-here Row.sBool) (List._∷_ (9, Rows'.any-gone (Syntax.tyRef Syntax.erased Syntax.imm OfOutput.named)) (List._∷_ (10, Rows'.any-gone (Syntax.tyStruct (List._∷_ 38 (List._∷_ 91 (List._∷_ 93 List.[]))) (Syntax.tcons (Syntax.tyRef Syntax.erased Syntax.imm OfOutput.named) (Syntax.tcons (Syntax.tyInt Syntax.w64) Syntax.tnil)))) (List._∷_ (11, Rows'.any-gone (Syntax.tyRef Syntax.erased Syntax.imm OfStation.named)) (List._∷_ (12, Rows'.any-gone (Syntax.tyStruct (List._∷_ 38 (List._∷_ 91 (List._∷_ 93 List.[]))) (Syntax.tcons (Syntax.tyRef Syntax.erased Syntax.imm OfStation.named) (Syntax.tcons (Syntax.tyInt Syntax.w64) Syntax.tnil)))) (List._∷_ (13, Rows'.any-gone Syntax.tyBool) (List._∷_ (14, Rows'.any-gone (Syntax.tyRef Syntax.erased Syntax.imm OfOutput.named)) (List._∷_ (15, Rows'.any-gone (Syntax.tyStruct (List._∷_ 38 (List._∷_ 91 (List._∷_ 93 List.[]))) (Syntax.tcons (Syntax.tyRef Syntax.erased Syntax.imm OfOutput.named) (Syntax.tcons (Syntax.tyInt Syntax.w64) Syntax.tnil)))) List.[])))))))))))))))
 
         abbrev g12 : List.List Row.Entry
-        g12 = List._∷_ (0, Rows'.any-gone (Laws.mir)) (List._∷_ (1, Mut.mslice (OfOutput.row) (Syntax.tyRef (Syntax.named 0) Syntax.mut OfOutput.named) 0) (List._∷_ (2, Reshare.mslice-owedS (OfStation.row) (Syntax.tyRef (Syntax.named 1) Syntax.mut OfStation.named) 1 5 (Row.lease (κs .1 .0) (qs .1 .0))) (List._∷_ (3, Rows'.mref (OfPanelRecord.row) (Syntax.tyRef (Syntax.named 2) Syntax.mut OfPanelRecord.named) 2) (List._∷_ (4, Rows'.sslice (Referent.rtF (Referent.fInt Syntax.w8)) (Syntax.tyRef (Syntax.named 3) Syntax.imm (Syntax.tyInt Syntax.w8)) 3) (List._∷_ (5, OfPanelRecord.held) (List._∷_ (6, Rows'.whole (Declared'.row Parameters.the-type)) (List._∷_ (7, Rows'.any-gone (Laws''.mir)) (List._∷_ (8, Rows'.sc-here Row.sBool) (List._∷_ (9, Rows'.any-gone (Syntax.tyRef Syntax.erased Syntax.imm OfOutput.named)) (List._∷_ (10, Rows'.any-gone (Syntax.tyStruct (List._∷_ 38 (List._∷_ 91 (List._∷_ 93 List.[]))) (Syntax.tcons (Syntax.tyRef Syntax.erased Syntax.imm OfOutput.named) (Syntax.tcons (Syntax.tyInt Syntax.w64) Syntax.tnil)))) (List._∷_ (11, Rows'.any-gone (Syntax.tyRef Syntax.erased Syntax.imm OfStation.named)) (List._∷_ (12, Rows'.any-gone (Syntax.tyStruct (List._∷_ 38 (List._∷_ 91 (List._∷_ 93 List.[]))) (Syntax.tcons (Syntax.tyRef Syntax.erased Syntax.imm OfStation.named) (Syntax.tcons (Syntax.tyInt Syntax.w64) Syntax.tnil)))) (List._∷_ (13, Rows'.any-gone Syntax.tyBool) (List._∷_ (14, Rows'.any-gone (Syntax.tyRef Syntax.erased Syntax.imm OfOutput.named)) (List._∷_ (15, Rows'.any-gone (Syntax.tyStruct (List._∷_ 38 (List._∷_ 91 (List._∷_ 93 List.[]))) (Syntax.tcons (Syntax.tyRef Syntax.erased Syntax.imm OfOutput.named) (Syntax.tcons (Syntax.tyInt Syntax.w64) Syntax.tnil)))) List.[])))))))))))))))
+        g12 = List._∷_ (0, Rows'.any-gone (Laws'.mir)) (List._∷_ (1, Mut.mslice (OfOutput.row) (Syntax.tyRef (Syntax.named 0) Syntax.mut OfOutput.named) 0) (List._∷_ (2, Reshare.mslice-owedS (OfStation.row) (Syntax.tyRef (Syntax.named 1) Syntax.mut OfStation.named) 1 5 (Row.lease (κs .1 .0) (qs .1 .0))) (List._∷_ (3, Rows'.mref (OfPanelRecord.row) (Syntax.tyRef (Syntax.named 2) Syntax.mut OfPanelRecord.named) 2) (List._∷_ (4, Rows'.sslice (Referent.rtF (Referent.fInt Syntax.w8)) (Syntax.tyRef (Syntax.named 3) Syntax.imm (Syntax.tyInt Syntax.w8)) 3) (List._∷_ (5, OfPanelRecord.held) (List._∷_ (6, Rows'.whole (Declared'.row Parameters.the-type)) (List._∷_ (7, Rows'.any-gone (Laws.mir)) (List._∷_ (8, Rows'.sc-here Row.sBool) (List._∷_ (9, Rows'.any-gone (Syntax.tyRef Syntax.erased Syntax.imm OfOutput.named)) (List._∷_ (10, Rows'.any-gone (Syntax.tyStruct (List._∷_ 38 (List._∷_ 91 (List._∷_ 93 List.[]))) (Syntax.tcons (Syntax.tyRef Syntax.erased Syntax.imm OfOutput.named) (Syntax.tcons (Syntax.tyInt Syntax.w64) Syntax.tnil)))) (List._∷_ (11, Rows'.any-gone (Syntax.tyRef Syntax.erased Syntax.imm OfStation.named)) (List._∷_ (12, Rows'.any-gone (Syntax.tyStruct (List._∷_ 38 (List._∷_ 91 (List._∷_ 93 List.[]))) (Syntax.tcons (Syntax.tyRef Syntax.erased Syntax.imm OfStation.named) (Syntax.tcons (Syntax.tyInt Syntax.w64) Syntax.tnil)))) (List._∷_ (13, Rows'.any-gone Syntax.tyBool) (List._∷_ (14, Rows'.any-gone (Syntax.tyRef Syntax.erased Syntax.imm OfOutput.named)) (List._∷_ (15, Rows'.any-gone (Syntax.tyStruct (List._∷_ 38 (List._∷_ 91 (List._∷_ 93 List.[]))) (Syntax.tcons (Syntax.tyRef Syntax.erased Syntax.imm OfOutput.named) (Syntax.tcons (Syntax.tyInt Syntax.w64) Syntax.tnil)))) List.[])))))))))))))))
 
         abbrev g18 : List.List Row.Entry
-        g18 = List._∷_ (0, Rows'.any-gone (Laws.mir)) (List._∷_ (1, Reshare.mslice-owedS (OfOutput.row) (Syntax.tyRef (Syntax.named 0) Syntax.mut OfOutput.named) 0 6 (Row.lease (κs .0) (qs .0))) (List._∷_ (2, Mut.mslice (OfStation.row) (Syntax.tyRef (Syntax.named 1) Syntax.mut OfStation.named) 1) (List._∷_ (3, Rows'.mref (OfPanelRecord.row) (Syntax.tyRef (Syntax.named 2) Syntax.mut OfPanelRecord.named) 2) (List._∷_ (4, Rows'.sslice (Referent.rtF (Referent.fInt Syntax.w8)) (Syntax.tyRef (Syntax.named 3) Syntax.imm (Syntax.tyInt Syntax.w8)) 3) (List._∷_ (5, OfPanelRecord.held) (List._∷_ (6, Rows'.whole (Declared'.row Parameters.the-type)) (List._∷_ (7, Rows'.any-gone (Laws''.mir)) (List._∷_ (8, Rows'.any-gone Syntax.tyBool) (List._∷_ (9, Rows'.any-gone (Syntax.tyRef Syntax.erased Syntax.imm OfOutput.named)) (List._∷_ (10, Rows'.any-gone (Syntax.tyStruct (List._∷_ 38 (List._∷_ 91 (List._∷_ 93 List.[]))) (Syntax.tcons (Syntax.tyRef Syntax.erased Syntax.imm OfOutput.named) (Syntax.tcons (Syntax.tyInt Syntax.w64) Syntax.tnil)))) (List._∷_ (11, Rows'.any-gone (Syntax.tyRef Syntax.erased Syntax.imm OfStation.named)) (List._∷_ (12, Rows'.any-gone (Syntax.tyStruct (List._∷_ 38 (List._∷_ 91 (List._∷_ 93 List.[]))) (Syntax.tcons (Syntax.tyRef Syntax.erased Syntax.imm OfStation.named) (Syntax.tcons (Syntax.tyInt Syntax.w64) Syntax.tnil)))) (List._∷_ (13, Rows'.any-gone Syntax.tyBool) (List._∷_ (14, Relend.ssptr (OfOutput.row) (Syntax.tyRef Syntax.erased Syntax.imm OfOutput.named) 6) (List._∷_ (15, Rows'.any-gone (Syntax.tyStruct (List._∷_ 38 (List._∷_ 91 (List._∷_ 93 List.[]))) (Syntax.tcons (Syntax.tyRef Syntax.erased Syntax.imm OfOutput.named) (Syntax.tcons (Syntax.tyInt Syntax.w64) Syntax.tnil)))) List.[])))))))))))))))
+        g18 = List._∷_ (0, Rows'.any-gone (Laws'.mir)) (List._∷_ (1, Reshare.mslice-owedS (OfOutput.row) (Syntax.tyRef (Syntax.named 0) Syntax.mut OfOutput.named) 0 6 (Row.lease (κs .0) (qs .0))) (List._∷_ (2, Mut.mslice (OfStation.row) (Syntax.tyRef (Syntax.named 1) Syntax.mut OfStation.named) 1) (List._∷_ (3, Rows'.mref (OfPanelRecord.row) (Syntax.tyRef (Syntax.named 2) Syntax.mut OfPanelRecord.named) 2) (List._∷_ (4, Rows'.sslice (Referent.rtF (Referent.fInt Syntax.w8)) (Syntax.tyRef (Syntax.named 3) Syntax.imm (Syntax.tyInt Syntax.w8)) 3) (List._∷_ (5, OfPanelRecord.held) (List._∷_ (6, Rows'.whole (Declared'.row Parameters.the-type)) (List._∷_ (7, Rows'.any-gone (Laws.mir)) (List._∷_ (8, Rows'.any-gone Syntax.tyBool) (List._∷_ (9, Rows'.any-gone (Syntax.tyRef Syntax.erased Syntax.imm OfOutput.named)) (List._∷_ (10, Rows'.any-gone (Syntax.tyStruct (List._∷_ 38 (List._∷_ 91 (List._∷_ 93 List.[]))) (Syntax.tcons (Syntax.tyRef Syntax.erased Syntax.imm OfOutput.named) (Syntax.tcons (Syntax.tyInt Syntax.w64) Syntax.tnil)))) (List._∷_ (11, Rows'.any-gone (Syntax.tyRef Syntax.erased Syntax.imm OfStation.named)) (List._∷_ (12, Rows'.any-gone (Syntax.tyStruct (List._∷_ 38 (List._∷_ 91 (List._∷_ 93 List.[]))) (Syntax.tcons (Syntax.tyRef Syntax.erased Syntax.imm OfStation.named) (Syntax.tcons (Syntax.tyInt Syntax.w64) Syntax.tnil)))) (List._∷_ (13, Rows'.any-gone Syntax.tyBool) (List._∷_ (14, Relend.ssptr (OfOutput.row) (Syntax.tyRef Syntax.erased Syntax.imm OfOutput.named) 6) (List._∷_ (15, Rows'.any-gone (Syntax.tyStruct (List._∷_ 38 (List._∷_ 91 (List._∷_ 93 List.[]))) (Syntax.tcons (Syntax.tyRef Syntax.erased Syntax.imm OfOutput.named) (Syntax.tcons (Syntax.tyInt Syntax.w64) Syntax.tnil)))) List.[])))))))))))))))
 
         abbrev g19 : List.List Row.Entry
-        g19 = List._∷_ (0, Rows'.any-gone (Laws.mir)) (List._∷_ (1, Reshare.mslice-owedS (OfOutput.row) (Syntax.tyRef (Syntax.named 0) Syntax.mut OfOutput.named) 0 6 (Row.lease (κs .0) (qs .0))) (List._∷_ (2, Mut.mslice (OfStation.row) (Syntax.tyRef (Syntax.named 1) Syntax.mut OfStation.named) 1) (List._∷_ (3, Rows'.mref (OfPanelRecord.row) (Syntax.tyRef (Syntax.named 2) Syntax.mut OfPanelRecord.named) 2) (List._∷_ (4, Rows'.sslice (Referent.rtF (Referent.fInt Syntax.w8)) (Syntax.tyRef (Syntax.named 3) Syntax.imm (Syntax.tyInt Syntax.w8)) 3) (List._∷_ (5, OfPanelRecord.held) (List._∷_ (6, Rows'.whole (Declared'.row Parameters.the-type)) (List._∷_ (7, Rows'.any-gone (Laws''.mir)) (List._∷_ (8, Rows'.any-gone Syntax.tyBool) (List._∷_ (9, Rows'.any-gone (Syntax.tyRef Syntax.erased Syntax.imm OfOutput.named)) (List._∷_ (10, Rows'.any-gone (Syntax.tyStruct (List._∷_ 38 (List._∷_ 91 (List._∷_ 93 List.[]))) (Syntax.tcons (Syntax.tyRef Syntax.erased Syntax.imm OfOutput.named) (Syntax.tcons (Syntax.tyInt Syntax.w64) Syntax.tnil)))) (List._∷_ (11, Rows'.any-gone (Syntax.tyRef Syntax.erased Syntax.imm OfStation.named)) (List._∷_ (12, Rows'.any-gone (Syntax.tyStruct (List._∷_ 38 (List._∷_ 91 (List._∷_ 93 List.[]))) (Syntax.tcons (Syntax.tyRef Syntax.erased Syntax.imm OfStation.named) (Syntax.tcons (Syntax.tyInt Syntax.w64) Syntax.tnil)))) (List._∷_ (13, Rows'.any-gone Syntax.tyBool) (List._∷_ (14, Rows'.any-gone (Syntax.tyRef Syntax.erased Syntax.imm OfOutput.named)) (List._∷_ (15, Rows'.sslice (OfOutput.row) (Syntax.tyRef Syntax.erased Syntax.imm OfOutput.named) 6) List.[])))))))))))))))
+        g19 = List._∷_ (0, Rows'.any-gone (Laws'.mir)) (List._∷_ (1, Reshare.mslice-owedS (OfOutput.row) (Syntax.tyRef (Syntax.named 0) Syntax.mut OfOutput.named) 0 6 (Row.lease (κs .0) (qs .0))) (List._∷_ (2, Mut.mslice (OfStation.row) (Syntax.tyRef (Syntax.named 1) Syntax.mut OfStation.named) 1) (List._∷_ (3, Rows'.mref (OfPanelRecord.row) (Syntax.tyRef (Syntax.named 2) Syntax.mut OfPanelRecord.named) 2) (List._∷_ (4, Rows'.sslice (Referent.rtF (Referent.fInt Syntax.w8)) (Syntax.tyRef (Syntax.named 3) Syntax.imm (Syntax.tyInt Syntax.w8)) 3) (List._∷_ (5, OfPanelRecord.held) (List._∷_ (6, Rows'.whole (Declared'.row Parameters.the-type)) (List._∷_ (7, Rows'.any-gone (Laws.mir)) (List._∷_ (8, Rows'.any-gone Syntax.tyBool) (List._∷_ (9, Rows'.any-gone (Syntax.tyRef Syntax.erased Syntax.imm OfOutput.named)) (List._∷_ (10, Rows'.any-gone (Syntax.tyStruct (List._∷_ 38 (List._∷_ 91 (List._∷_ 93 List.[]))) (Syntax.tcons (Syntax.tyRef Syntax.erased Syntax.imm OfOutput.named) (Syntax.tcons (Syntax.tyInt Syntax.w64) Syntax.tnil)))) (List._∷_ (11, Rows'.any-gone (Syntax.tyRef Syntax.erased Syntax.imm OfStation.named)) (List._∷_ (12, Rows'.any-gone (Syntax.tyStruct (List._∷_ 38 (List._∷_ 91 (List._∷_ 93 List.[]))) (Syntax.tcons (Syntax.tyRef Syntax.erased Syntax.imm OfStation.named) (Syntax.tcons (Syntax.tyInt Syntax.w64) Syntax.tnil)))) (List._∷_ (13, Rows'.any-gone Syntax.tyBool) (List._∷_ (14, Rows'.any-gone (Syntax.tyRef Syntax.erased Syntax.imm OfOutput.named)) (List._∷_ (15, Rows'.sslice (OfOutput.row) (Syntax.tyRef Syntax.erased Syntax.imm OfOutput.named) 6) List.[])))))))))))))))
 
         abbrev g20 : List.List Row.Entry
-        g20 = List._∷_ (0, Rows'.any-gone (Laws.mir)) (List._∷_ (1, Reshare.mslice-owedS (OfOutput.row) (Syntax.tyRef (Syntax.named 0) Syntax.mut OfOutput.named) 0 6 (Row.lease (κs .0) (qs .0))) (List._∷_ (2, Reshare.mslice-owedS (OfStation.row) (Syntax.tyRef (Syntax.named 1) Syntax.mut OfStation.named) 1 7 (Row.lease (κs .1 .0) (qs .1 .0))) (List._∷_ (3, Rows'.mref (OfPanelRecord.row) (Syntax.tyRef (Syntax.named 2) Syntax.mut OfPanelRecord.named) 2) (List._∷_ (4, Rows'.sslice (Referent.rtF (Referent.fInt Syntax.w8)) (Syntax.tyRef (Syntax.named 3) Syntax.imm (Syntax.tyInt Syntax.w8)) 3) (List._∷_ (5, OfPanelRecord.held) (List._∷_ (6, Rows'.whole (Declared'.row Parameters.the-type)) (List._∷_ (7, Rows'.any-gone (Laws''.mir)) (List._∷_ (8, Rows'.any-gone Syntax.tyBool) (List._∷_ (9, Rows'.any-gone (Syntax.tyRef Syntax.erased Syntax.imm OfOutput.named)) (List._∷_ (10, Rows'.any-gone (Syntax.tyStruct (List._∷_ 38 (List._∷_ 91 (List._∷_ 93 List.[]))) (Syntax.tcons (Syntax.tyRef Syntax.erased Syntax.imm OfOutput.named) (Syntax.tcons (Syntax.tyInt Syntax.w64) Syntax.tnil)))) (List._∷_ (11, Rows'.any-gone (Syntax.tyRef Syntax.erased Syntax.imm OfStation.named)) (List._∷_ (12, Rows'.any-gone (Syntax.tyStruct (List._∷_ 38 (List._∷_ 91 (List._∷_ 93 List.[]))) (Syntax.tcons (Syntax.tyRef Syntax.erased Syntax.imm OfStation.named) (Syntax.tcons (Syntax.tyInt Syntax.w64) Syntax.tnil)))) (List._∷_ (13, Rows'.any-gone Syntax.tyBool) (List._∷_ (14, Rows'.any-gone (Syntax.tyRef Syntax.erased Syntax.imm OfOutput.named)) (List._∷_ (15, Rows'.sslice (OfOutput.row) (Syntax.tyRef Syntax.erased Syntax.imm OfOutput.named) 6) List.[])))))))))))))))
+        g20 = List._∷_ (0, Rows'.any-gone (Laws'.mir)) (List._∷_ (1, Reshare.mslice-owedS (OfOutput.row) (Syntax.tyRef (Syntax.named 0) Syntax.mut OfOutput.named) 0 6 (Row.lease (κs .0) (qs .0))) (List._∷_ (2, Reshare.mslice-owedS (OfStation.row) (Syntax.tyRef (Syntax.named 1) Syntax.mut OfStation.named) 1 7 (Row.lease (κs .1 .0) (qs .1 .0))) (List._∷_ (3, Rows'.mref (OfPanelRecord.row) (Syntax.tyRef (Syntax.named 2) Syntax.mut OfPanelRecord.named) 2) (List._∷_ (4, Rows'.sslice (Referent.rtF (Referent.fInt Syntax.w8)) (Syntax.tyRef (Syntax.named 3) Syntax.imm (Syntax.tyInt Syntax.w8)) 3) (List._∷_ (5, OfPanelRecord.held) (List._∷_ (6, Rows'.whole (Declared'.row Parameters.the-type)) (List._∷_ (7, Rows'.any-gone (Laws.mir)) (List._∷_ (8, Rows'.any-gone Syntax.tyBool) (List._∷_ (9, Rows'.any-gone (Syntax.tyRef Syntax.erased Syntax.imm OfOutput.named)) (List._∷_ (10, Rows'.any-gone (Syntax.tyStruct (List._∷_ 38 (List._∷_ 91 (List._∷_ 93 List.[]))) (Syntax.tcons (Syntax.tyRef Syntax.erased Syntax.imm OfOutput.named) (Syntax.tcons (Syntax.tyInt Syntax.w64) Syntax.tnil)))) (List._∷_ (11, Rows'.any-gone (Syntax.tyRef Syntax.erased Syntax.imm OfStation.named)) (List._∷_ (12, Rows'.any-gone (Syntax.tyStruct (List._∷_ 38 (List._∷_ 91 (List._∷_ 93 List.[]))) (Syntax.tcons (Syntax.tyRef Syntax.erased Syntax.imm OfStation.named) (Syntax.tcons (Syntax.tyInt Syntax.w64) Syntax.tnil)))) (List._∷_ (13, Rows'.any-gone Syntax.tyBool) (List._∷_ (14, Rows'.any-gone (Syntax.tyRef Syntax.erased Syntax.imm OfOutput.named)) (List._∷_ (15, Rows'.sslice (OfOutput.row) (Syntax.tyRef Syntax.erased Syntax.imm OfOutput.named) 6) List.[])))))))))))))))
 
         abbrev g23 : List.List Row.Entry
-        g23 = List._∷_ (0, Rows'.any-gone (Laws.mir)) (List._∷_ (1, Reshare.mslice-owedS (OfOutput.row) (Syntax.tyRef (Syntax.named 0) Syntax.mut OfOutput.named) 0 6 (Row.lease (κs .0) (qs .0))) (List._∷_ (2, Reshare.mslice-owedS (OfStation.row) (Syntax.tyRef (Syntax.named 1) Syntax.mut OfStation.named) 1 7 (Row.lease (κs .1 .0) (qs .1 .0))) (List._∷_ (3, Rows'.mref (OfPanelRecord.row) (Syntax.tyRef (Syntax.named 2) Syntax.mut OfPanelRecord.named) 2) (List._∷_ (4, Rows'.sslice (Referent.rtF (Referent.fInt Syntax.w8)) (Syntax.tyRef (Syntax.named 3) Syntax.imm (Syntax.tyInt Syntax.w8)) 3) (List._∷_ (5, OfPanelRecord.held) (List._∷_ (6, Rows'.whole (Declared'.row Parameters.the-type)) (List._∷_ (7, Rows'.whole (Declared.row Verdict.the-type)) (List._∷_ (8, Rows'.any-gone Syntax.tyBool) (List._∷_ (9, Rows'.any-gone (Syntax.tyRef Syntax.erased Syntax.imm OfOutput.named)) (List._∷_ (10, Rows'.any-gone (Syntax.tyStruct (List._∷_ 38 (List._∷_ 91 (List._∷_ 93 List.[]))) (Syntax.tcons (Syntax.tyRef Syntax.erased Syntax.imm OfOutput.named) (Syntax.tcons (Syntax.tyInt Syntax.w64) Syntax.tnil)))) (List._∷_ (11, Rows'.any-gone (Syntax.tyRef Syntax.erased Syntax.imm OfStation.named)) (List._∷_ (12, Rows'.any-gone (Syntax.tyStruct (List._∷_ 38 (List._∷_ 91 (List._∷_ 93 List.[]))) (Syntax.tcons (Syntax.tyRef Syntax.erased Syntax.imm OfStation.named) (Syntax.tcons (Syntax.tyInt Syntax.w64) Syntax.tnil)))) (List._∷_ (13, Rows'.any-gone Syntax.tyBool) (List._∷_ (14, Rows'.any-gone (Syntax.tyRef Syntax.erased Syntax.imm OfOutput.named)) (List._∷_ (15, Rows'.sslice (OfOutput.row) (Syntax.tyRef Syntax.erased Syntax.imm OfOutput.named) 6) List.[])))))))))))))))
+        g23 = List._∷_ (0, Rows'.any-gone (Laws'.mir)) (List._∷_ (1, Reshare.mslice-owedS (OfOutput.row) (Syntax.tyRef (Syntax.named 0) Syntax.mut OfOutput.named) 0 6 (Row.lease (κs .0) (qs .0))) (List._∷_ (2, Reshare.mslice-owedS (OfStation.row) (Syntax.tyRef (Syntax.named 1) Syntax.mut OfStation.named) 1 7 (Row.lease (κs .1 .0) (qs .1 .0))) (List._∷_ (3, Rows'.mref (OfPanelRecord.row) (Syntax.tyRef (Syntax.named 2) Syntax.mut OfPanelRecord.named) 2) (List._∷_ (4, Rows'.sslice (Referent.rtF (Referent.fInt Syntax.w8)) (Syntax.tyRef (Syntax.named 3) Syntax.imm (Syntax.tyInt Syntax.w8)) 3) (List._∷_ (5, OfPanelRecord.held) (List._∷_ (6, Rows'.whole (Declared'.row Parameters.the-type)) (List._∷_ (7, Rows'.whole (Declared.row Verdict.the-type)) (List._∷_ (8, Rows'.any-gone Syntax.tyBool) (List._∷_ (9, Rows'.any-gone (Syntax.tyRef Syntax.erased Syntax.imm OfOutput.named)) (List._∷_ (10, Rows'.any-gone (Syntax.tyStruct (List._∷_ 38 (List._∷_ 91 (List._∷_ 93 List.[]))) (Syntax.tcons (Syntax.tyRef Syntax.erased Syntax.imm OfOutput.named) (Syntax.tcons (Syntax.tyInt Syntax.w64) Syntax.tnil)))) (List._∷_ (11, Rows'.any-gone (Syntax.tyRef Syntax.erased Syntax.imm OfStation.named)) (List._∷_ (12, Rows'.any-gone (Syntax.tyStruct (List._∷_ 38 (List._∷_ 91 (List._∷_ 93 List.[]))) (Syntax.tcons (Syntax.tyRef Syntax.erased Syntax.imm OfStation.named) (Syntax.tcons (Syntax.tyInt Syntax.w64) Syntax.tnil)))) (List._∷_ (13, Rows'.any-gone Syntax.tyBool) (List._∷_ (14, Rows'.any-gone (Syntax.tyRef Syntax.erased Syntax.imm OfOutput.named)) (List._∷_ (15, Rows'.sslice (OfOutput.row) (Syntax.tyRef Syntax.erased Syntax.imm OfOutput.named) 6) List.[])))))))))))))))
 
         abbrev g24 : List.List Row.Entry
-        g24 = List._∷_ (0, Rows'.any-gone (Laws.mir)) (List._∷_ (1, Reshare.mslice-owedS (OfOutput.row) (Syntax.tyRef (Syntax.named 0) Syntax.mut OfOutput.named) 0 6 (Row.lease (κs .0) (qs .0))) (List._∷_ (2, Reshare.mslice-owedS (OfStation.row) (Syntax.tyRef (Syntax.named 1) Syntax.mut OfStation.named) 1 7 (Row.lease (κs .1 .0) (qs .1 .0))) (List._∷_ (3, Rows'.mref (OfPanelRecord.row) (Syntax.tyRef (Syntax.named 2) Syntax.mut OfPanelRecord.named) 2) (List._∷_ (4, Rows'.sslice (Referent.rtF (Referent.fInt Syntax.w8)) (Syntax.tyRef (Syntax.named 3) Syntax.imm (Syntax.tyInt Syntax.w8)) 3) (List._∷_ (5, OfPanelRecord.held) (List._∷_ (6, Rows'.whole (Declared'.row Parameters.the-type)) (List._∷_ (7, Rows'.whole (Declared.row Verdict.the-type)) (List._∷_ (8, Rows'.any-gone Syntax.tyBool) (List._∷_ (9, Rows'.any-gone (Syntax.tyRef Syntax.erased Syntax.imm OfOutput.named)) (List._∷_ (10, Rows'.any-gone (Syntax.tyStruct (List._∷_ 38 (List._∷_ 91 (List._∷_ 93 List.[]))) (Syntax.tcons (Syntax.tyRef Syntax.erased Syntax.imm OfOutput.named) (Syntax.tcons (Syntax.tyInt Syntax.w64) Syntax.tnil)))) (List._∷_ (11, Rows'.any-gone (Syntax.tyRef Syntax.erased Syntax.imm OfStation.named)) (List._∷_ (12, Rows'.any-gone (Syntax.tyStruct (List._∷_ 38 (List._∷_ 91 (List._∷_ 93 List.[]))) (Syntax.tcons (Syntax.tyRef Syntax.erased Syntax.imm OfStation.named) (Syntax.tcons (Syntax.tyInt Syntax.w64) Syntax.tnil)))) (List._∷_ (13, Rows'.any-gone Syntax.tyBool) (List._∷_ (14, Rows'.any-gone (Syntax.tyRef Syntax.erased Syntax.imm OfOutput.named)) (List._∷_ (15, Rows'.any-gone (Syntax.tyStruct (List._∷_ 38 (List._∷_ 91 (List._∷_ 93 List.[]))) (Syntax.tcons (Syntax.tyRef Syntax.erased Syntax.imm OfOutput.named) (Syntax.tcons (Syntax.tyInt Syntax.w64) Syntax.tnil)))) List.[])))))))))))))))
+        g24 = List._∷_ (0, Rows'.any-gone (Laws'.mir)) (List._∷_ (1, Reshare.mslice-owedS (OfOutput.row) (Syntax.tyRef (Syntax.named 0) Syntax.mut OfOutput.named) 0 6 (Row.lease (κs .0) (qs .0))) (List._∷_ (2, Reshare.mslice-owedS (OfStation.row) (Syntax.tyRef (Syntax.named 1) Syntax.mut OfStation.named) 1 7 (Row.lease (κs .1 .0) (qs .1 .0))) (List._∷_ (3, Rows'.mref (OfPanelRecord.row) (Syntax.tyRef (Syntax.named 2) Syntax.mut OfPanelRecord.named) 2) (List._∷_ (4, Rows'.sslice (Referent.rtF (Referent.fInt Syntax.w8)) (Syntax.tyRef (Syntax.named 3) Syntax.imm (Syntax.tyInt Syntax.w8)) 3) (List._∷_ (5, OfPanelRecord.held) (List._∷_ (6, Rows'.whole (Declared'.row Parameters.the-type)) (List._∷_ (7, Rows'.whole (Declared.row Verdict.the-type)) (List._∷_ (8, Rows'.any-gone Syntax.tyBool) (List._∷_ (9, Rows'.any-gone (Syntax.tyRef Syntax.erased Syntax.imm OfOutput.named)) (List._∷_ (10, Rows'.any-gone (Syntax.tyStruct (List._∷_ 38 (List._∷_ 91 (List._∷_ 93 List.[]))) (Syntax.tcons (Syntax.tyRef Syntax.erased Syntax.imm OfOutput.named) (Syntax.tcons (Syntax.tyInt Syntax.w64) Syntax.tnil)))) (List._∷_ (11, Rows'.any-gone (Syntax.tyRef Syntax.erased Syntax.imm OfStation.named)) (List._∷_ (12, Rows'.any-gone (Syntax.tyStruct (List._∷_ 38 (List._∷_ 91 (List._∷_ 93 List.[]))) (Syntax.tcons (Syntax.tyRef Syntax.erased Syntax.imm OfStation.named) (Syntax.tcons (Syntax.tyInt Syntax.w64) Syntax.tnil)))) (List._∷_ (13, Rows'.any-gone Syntax.tyBool) (List._∷_ (14, Rows'.any-gone (Syntax.tyRef Syntax.erased Syntax.imm OfOutput.named)) (List._∷_ (15, Rows'.any-gone (Syntax.tyStruct (List._∷_ 38 (List._∷_ 91 (List._∷_ 93 List.[]))) (Syntax.tcons (Syntax.tyRef Syntax.erased Syntax.imm OfOutput.named) (Syntax.tcons (Syntax.tyInt Syntax.w64) Syntax.tnil)))) List.[])))))))))))))))
 
         abbrev g25 : List.List Row.Entry
-        g25 = List._∷_ (0, Rows'.any-gone (Laws.mir)) (List._∷_ (1, Reshare.mslice-owedS (OfOutput.row) (Syntax.tyRef (Syntax.named 0) Syntax.mut OfOutput.named) 0 6 (Row.lease (κs .0) (qs .0))) (List._∷_ (2, Reshare.mslice-owedS (OfStation.row) (Syntax.tyRef (Syntax.named 1) Syntax.mut OfStation.named) 1 7 (Row.lease (κs .1 .0) (qs .1 .0))) (List._∷_ (3, Rows'.mref (OfPanelRecord.row) (Syntax.tyRef (Syntax.named 2) Syntax.mut OfPanelRecord.named) 2) (List._∷_ (4, Rows'.sslice (Referent.rtF (Referent.fInt Syntax.w8)) (Syntax.tyRef (Syntax.named 3) Syntax.imm (Syntax.tyInt Syntax.w8)) 3) (List._∷_ (5, Rows'.any-gone OfPanelRecord.spelt) (List._∷_ (6, Rows'.whole (Declared'.row Parameters.the-type)) (List._∷_ (7, Rows'.whole (Declared.row Verdict.the-type)) (List._∷_ (8, Rows'.any-gone Syntax.tyBool) (List._∷_ (9, Rows'.any-gone (Syntax.tyRef Syntax.erased Syntax.imm OfOutput.named)) (List._∷_ (10, Rows'.any-gone (Syntax.tyStruct (List._∷_ 38 (List._∷_ 91 (List._∷_ 93 List.[]))) (Syntax.tcons (Syntax.tyRef Syntax.erased Syntax.imm OfOutput.named) (Syntax.tcons (Syntax.tyInt Syntax.w64) Syntax.tnil)))) (List._∷_ (11, Rows'.any-gone (Syntax.tyRef Syntax.erased Syntax.imm OfStation.named)) (List._∷_ (12, Rows'.any-gone (Syntax.tyStruct (List._∷_ 38 (List._∷_ 91 (List._∷_ 93 List.[]))) (Syntax.tcons (Syntax.tyRef Syntax.erased Syntax.imm OfStation.named) (Syntax.tcons (Syntax.tyInt Syntax.w64) Syntax.tnil)))) (List._∷_ (13, Rows'.any-gone Syntax.tyBool) (List._∷_ (14, Rows'.any-gone (Syntax.tyRef Syntax.erased Syntax.imm OfOutput.named)) (List._∷_ (15, Rows'.any-gone (Syntax.tyStruct (List._∷_ 38 (List._∷_ 91 (List._∷_ 93 List.[]))) (Syntax.tcons (Syntax.tyRef Syntax.erased Syntax.imm OfOutput.named) (Syntax.tcons (Syntax.tyInt Syntax.w64) Syntax.tnil)))) List.[])))))))))))))))
+        g25 = List._∷_ (0, Rows'.any-gone (Laws'.mir)) (List._∷_ (1, Reshare.mslice-owedS (OfOutput.row) (Syntax.tyRef (Syntax.named 0) Syntax.mut OfOutput.named) 0 6 (Row.lease (κs .0) (qs .0))) (List._∷_ (2, Reshare.mslice-owedS (OfStation.row) (Syntax.tyRef (Syntax.named 1) Syntax.mut OfStation.named) 1 7 (Row.lease (κs .1 .0) (qs .1 .0))) (List._∷_ (3, Rows'.mref (OfPanelRecord.row) (Syntax.tyRef (Syntax.named 2) Syntax.mut OfPanelRecord.named) 2) (List._∷_ (4, Rows'.sslice (Referent.rtF (Referent.fInt Syntax.w8)) (Syntax.tyRef (Syntax.named 3) Syntax.imm (Syntax.tyInt Syntax.w8)) 3) (List._∷_ (5, Rows'.any-gone OfPanelRecord.spelt) (List._∷_ (6, Rows'.whole (Declared'.row Parameters.the-type)) (List._∷_ (7, Rows'.whole (Declared.row Verdict.the-type)) (List._∷_ (8, Rows'.any-gone Syntax.tyBool) (List._∷_ (9, Rows'.any-gone (Syntax.tyRef Syntax.erased Syntax.imm OfOutput.named)) (List._∷_ (10, Rows'.any-gone (Syntax.tyStruct (List._∷_ 38 (List._∷_ 91 (List._∷_ 93 List.[]))) (Syntax.tcons (Syntax.tyRef Syntax.erased Syntax.imm OfOutput.named) (Syntax.tcons (Syntax.tyInt Syntax.w64) Syntax.tnil)))) (List._∷_ (11, Rows'.any-gone (Syntax.tyRef Syntax.erased Syntax.imm OfStation.named)) (List._∷_ (12, Rows'.any-gone (Syntax.tyStruct (List._∷_ 38 (List._∷_ 91 (List._∷_ 93 List.[]))) (Syntax.tcons (Syntax.tyRef Syntax.erased Syntax.imm OfStation.named) (Syntax.tcons (Syntax.tyInt Syntax.w64) Syntax.tnil)))) (List._∷_ (13, Rows'.any-gone Syntax.tyBool) (List._∷_ (14, Rows'.any-gone (Syntax.tyRef Syntax.erased Syntax.imm OfOutput.named)) (List._∷_ (15, Rows'.any-gone (Syntax.tyStruct (List._∷_ 38 (List._∷_ 91 (List._∷_ 93 List.[]))) (Syntax.tcons (Syntax.tyRef Syntax.erased Syntax.imm OfOutput.named) (Syntax.tcons (Syntax.tyInt Syntax.w64) Syntax.tnil)))) List.[])))))))))))))))
 
         abbrev g26 : List.List Row.Entry
-        g26 = List._∷_ (0, Rows'.any-gone (Laws.mir)) (List._∷_ (1, Reshare.mslice-owedS (OfOutput.row) (Syntax.tyRef (Syntax.named 0) Syntax.mut OfOutput.named) 0 6 (Row.lease (κs .0) (qs .0))) (List._∷_ (2, Reshare.mslice-owedS (OfStation.row) (Syntax.tyRef (Syntax.named 1) Syntax.mut OfStation.named) 1 7 (Row.lease (κs .1 .0) (qs .1 .0))) (List._∷_ (3, Rows'.mref (OfPanelRecord.row) (Syntax.tyRef (Syntax.named 2) Syntax.mut OfPanelRecord.named) 2) (List._∷_ (4, Rows'.sslice (Referent.rtF (Referent.fInt Syntax.w8)) (Syntax.tyRef (Syntax.named 3) Syntax.imm (Syntax.tyInt Syntax.w8)) 3) (List._∷_ (5, Rows'.any-gone OfPanelRecord.spelt) (List._∷_ (6, Rows'.any-gone (Laws'.mir)) (List._∷_ (7, Rows'.whole (Declared.row Verdict.the-type)) (List._∷_ (8, Rows'.any-gone Syntax.tyBool) (List._∷_ (9, Rows'.any-gone (Syntax.tyRef Syntax.erased Syntax.imm OfOutput.named)) (List._∷_ (10, Rows'.any-gone (Syntax.tyStruct (List._∷_ 38 (List._∷_ 91 (List._∷_ 93 List.[]))) (Syntax.tcons (Syntax.tyRef Syntax.erased Syntax.imm OfOutput.named) (Syntax.tcons (Syntax.tyInt Syntax.w64) Syntax.tnil)))) (List._∷_ (11, Rows'.any-gone (Syntax.tyRef Syntax.erased Syntax.imm OfStation.named)) (List._∷_ (12, Rows'.any-gone (Syntax.tyStruct (List._∷_ 38 (List._∷_ 91 (List._∷_ 93 List.[]))) (Syntax.tcons (Syntax.tyRef Syntax.erased Syntax.imm OfStation.named) (Syntax.tcons (Syntax.tyInt Syntax.w64) Syntax.tnil)))) (List._∷_ (13, Rows'.any-gone Syntax.tyBool) (List._∷_ (14, Rows'.any-gone (Syntax.tyRef Syntax.erased Syntax.imm OfOutput.named)) (List._∷_ (15, Rows'.any-gone (Syntax.tyStruct (List._∷_ 38 (List._∷_ 91 (List._∷_ 93 List.[]))) (Syntax.tcons (Syntax.tyRef Syntax.erased Syntax.imm OfOutput.named) (Syntax.tcons (Syntax.tyInt Syntax.w64) Syntax.tnil)))) List.[])))))))))))))))
+        g26 = List._∷_ (0, Rows'.any-gone (Laws'.mir)) (List._∷_ (1, Reshare.mslice-owedS (OfOutput.row) (Syntax.tyRef (Syntax.named 0) Syntax.mut OfOutput.named) 0 6 (Row.lease (κs .0) (qs .0))) (List._∷_ (2, Reshare.mslice-owedS (OfStation.row) (Syntax.tyRef (Syntax.named 1) Syntax.mut OfStation.named) 1 7 (Row.lease (κs .1 .0) (qs .1 .0))) (List._∷_ (3, Rows'.mref (OfPanelRecord.row) (Syntax.tyRef (Syntax.named 2) Syntax.mut OfPanelRecord.named) 2) (List._∷_ (4, Rows'.sslice (Referent.rtF (Referent.fInt Syntax.w8)) (Syntax.tyRef (Syntax.named 3) Syntax.imm (Syntax.tyInt Syntax.w8)) 3) (List._∷_ (5, Rows'.any-gone OfPanelRecord.spelt) (List._∷_ (6, Rows'.any-gone (Laws''.mir)) (List._∷_ (7, Rows'.whole (Declared.row Verdict.the-type)) (List._∷_ (8, Rows'.any-gone Syntax.tyBool) (List._∷_ (9, Rows'.any-gone (Syntax.tyRef Syntax.erased Syntax.imm OfOutput.named)) (List._∷_ (10, Rows'.any-gone (Syntax.tyStruct (List._∷_ 38 (List._∷_ 91 (List._∷_ 93 List.[]))) (Syntax.tcons (Syntax.tyRef Syntax.erased Syntax.imm OfOutput.named) (Syntax.tcons (Syntax.tyInt Syntax.w64) Syntax.tnil)))) (List._∷_ (11, Rows'.any-gone (Syntax.tyRef Syntax.erased Syntax.imm OfStation.named)) (List._∷_ (12, Rows'.any-gone (Syntax.tyStruct (List._∷_ 38 (List._∷_ 91 (List._∷_ 93 List.[]))) (Syntax.tcons (Syntax.tyRef Syntax.erased Syntax.imm OfStation.named) (Syntax.tcons (Syntax.tyInt Syntax.w64) Syntax.tnil)))) (List._∷_ (13, Rows'.any-gone Syntax.tyBool) (List._∷_ (14, Rows'.any-gone (Syntax.tyRef Syntax.erased Syntax.imm OfOutput.named)) (List._∷_ (15, Rows'.any-gone (Syntax.tyStruct (List._∷_ 38 (List._∷_ 91 (List._∷_ 93 List.[]))) (Syntax.tcons (Syntax.tyRef Syntax.erased Syntax.imm OfOutput.named) (Syntax.tcons (Syntax.tyInt Syntax.w64) Syntax.tnil)))) List.[])))))))))))))))
 
         abbrev g27 : List.List Row.Entry
-        g27 = List._∷_ (0, Rows'.any-gone (Laws.mir)) (List._∷_ (1, Mut.mslice (OfOutput.row) (Syntax.tyRef (Syntax.named 0) Syntax.mut OfOutput.named) 0) (List._∷_ (2, Reshare.mslice-owedS (OfStation.row) (Syntax.tyRef (Syntax.named 1) Syntax.mut OfStation.named) 1 7 (Row.lease (κs .1 .0) (qs .1 .0))) (List._∷_ (3, Rows'.mref (OfPanelRecord.row) (Syntax.tyRef (Syntax.named 2) Syntax.mut OfPanelRecord.named) 2) (List._∷_ (4, Rows'.sslice (Referent.rtF (Referent.fInt Syntax.w8)) (Syntax.tyRef (Syntax.named 3) Syntax.imm (Syntax.tyInt Syntax.w8)) 3) (List._∷_ (5, Rows'.any-gone OfPanelRecord.spelt) (List._∷_ (6, Rows'.any-gone (Laws'.mir)) (List._∷_ (7, Rows'.whole (Declared.row Verdict.the-type)) (List._∷_ (8, Rows'.any-gone Syntax.tyBool) (List._∷_ (9, Rows'.any-gone (Syntax.tyRef Syntax.erased Syntax.imm OfOutput.named)) (List._∷_ (10, Rows'.any-gone (Syntax.tyStruct (List._∷_ 38 (List._∷_ 91 (List._∷_ 93 List.[]))) (Syntax.tcons (Syntax.tyRef Syntax.erased Syntax.imm OfOutput.named) (Syntax.tcons (Syntax.tyInt Syntax.w64) Syntax.tnil)))) (List._∷_ (11, Rows'.any-gone (Syntax.tyRef Syntax.erased Syntax.imm OfStation.named)) (List._∷_ (12, Rows'.any-gone (Syntax.tyStruct (List._∷_ 38 (List._∷_ 91 (List._∷_ 93 List.[]))) (Syntax.tcons (Syntax.tyRef Syntax.erased Syntax.imm OfStation.named) (Syntax.tcons (Syntax.tyInt Syntax.w64) Syntax.tnil)))) (List._∷_ (13, Rows'.any-gone Syntax.tyBool) (List._∷_ (14, Rows'.any-gone (Syntax.tyRef Syntax.erased Syntax.imm OfOutput.named)) (List._∷_ (15, Rows'.any-gone (Syntax.tyStruct (List._∷_ 38 (List._∷_ 91 (List._∷_ 93 List.[]))) (Syntax.tcons (Syntax.tyRef Syntax.erased Syntax.imm OfOutput.named) (Syntax.tcons (Syntax.tyInt Syntax.w64) Syntax.tnil)))) List.[])))))))))))))))
+        g27 = List._∷_ (0, Rows'.any-gone (Laws'.mir)) (List._∷_ (1, Mut.mslice (OfOutput.row) (Syntax.tyRef (Syntax.named 0) Syntax.mut OfOutput.named) 0) (List._∷_ (2, Reshare.mslice-owedS (OfStation.row) (Syntax.tyRef (Syntax.named 1) Syntax.mut OfStation.named) 1 7 (Row.lease (κs .1 .0) (qs .1 .0))) (List._∷_ (3, Rows'.mref (OfPanelRecord.row) (Syntax.tyRef (Syntax.named 2) Syntax.mut OfPanelRecord.named) 2) (List._∷_ (4, Rows'.sslice (Referent.rtF (Referent.fInt Syntax.w8)) (Syntax.tyRef (Syntax.named 3) Syntax.imm (Syntax.tyInt Syntax.w8)) 3) (List._∷_ (5, Rows'.any-gone OfPanelRecord.spelt) (List._∷_ (6, Rows'.any-gone (Laws''.mir)) (List._∷_ (7, Rows'.whole (Declared.row Verdict.the-type)) (List._∷_ (8, Rows'.any-gone Syntax.tyBool) (List._∷_ (9, Rows'.any-gone (Syntax.tyRef Syntax.erased Syntax.imm OfOutput.named)) (List._∷_ (10, Rows'.any-gone (Syntax.tyStruct (List._∷_ 38 (List._∷_ 91 (List._∷_ 93 List.[]))) (Syntax.tcons (Syntax.tyRef Syntax.erased Syntax.imm OfOutput.named) (Syntax.tcons (Syntax.tyInt Syntax.w64) Syntax.tnil)))) (List._∷_ (11, Rows'.any-gone (Syntax.tyRef Syntax.erased Syntax.imm OfStation.named)) (List._∷_ (12, Rows'.any-gone (Syntax.tyStruct (List._∷_ 38 (List._∷_ 91 (List._∷_ 93 List.[]))) (Syntax.tcons (Syntax.tyRef Syntax.erased Syntax.imm OfStation.named) (Syntax.tcons (Syntax.tyInt Syntax.w64) Syntax.tnil)))) (List._∷_ (13, Rows'.any-gone Syntax.tyBool) (List._∷_ (14, Rows'.any-gone (Syntax.tyRef Syntax.erased Syntax.imm OfOutput.named)) (List._∷_ (15, Rows'.any-gone (Syntax.tyStruct (List._∷_ 38 (List._∷_ 91 (List._∷_ 93 List.[]))) (Syntax.tcons (Syntax.tyRef Syntax.erased Syntax.imm OfOutput.named) (Syntax.tcons (Syntax.tyInt Syntax.w64) Syntax.tnil)))) List.[])))))))))))))))
 
         abbrev g29 : List.List Row.Entry
-        g29 = List._∷_ (0, Rows'.any-gone (Laws.mir)) (List._∷_ (1, Relend.mslice-owed (OfOutput.row) (Syntax.tyRef (Syntax.named 0) Syntax.mut OfOutput.named) 0 8 (Row.lease (κs .0) (qs .0))) (List._∷_ (2, Mut.mslice (OfStation.row) (Syntax.tyRef (Syntax.named 1) Syntax.mut OfStation.named) 1) (List._∷_ (3, Rows'.mref (OfPanelRecord.row) (Syntax.tyRef (Syntax.named 2) Syntax.mut OfPanelRecord.named) 2) (List._∷_ (4, Rows'.sslice (Referent.rtF (Referent.fInt Syntax.w8)) (Syntax.tyRef (Syntax.named 3) Syntax.imm (Syntax.tyInt Syntax.w8)) 3) (List._∷_ (5, Rows'.any-gone OfPanelRecord.spelt) (List._∷_ (6, Rows'.any-gone (Laws'.mir)) (List._∷_ (7, Rows'.whole (Declared.row Verdict.the-type)) (List._∷_ (8, Rows'.any-gone Syntax.tyBool) (List._∷_ (9, Rows'.any-gone (Syntax.tyRef Syntax.erased Syntax.imm OfOutput.named)) (List._∷_ (10, Rows'.any-gone (Syntax.tyStruct (List._∷_ 38 (List._∷_ 91 (List._∷_ 93 List.[]))) (Syntax.tcons (Syntax.tyRef Syntax.erased Syntax.imm OfOutput.named) (Syntax.tcons (Syntax.tyInt Syntax.w64) Syntax.tnil)))) (List._∷_ (11, Rows'.any-gone (Syntax.tyRef Syntax.erased Syntax.imm OfStation.named)) (List._∷_ (12, Rows'.any-gone (Syntax.tyStruct (List._∷_ 38 (List._∷_ 91 (List._∷_ 93 List.[]))) (Syntax.tcons (Syntax.tyRef Syntax.erased Syntax.imm OfStation.named) (Syntax.tcons (Syntax.tyInt Syntax.w64) Syntax.tnil)))) (List._∷_ (13, Rows'.any-gone Syntax.tyBool) (List._∷_ (14, Rows'.any-gone (Syntax.tyRef Syntax.erased Syntax.imm OfOutput.named)) (List._∷_ (15, Rows'.any-gone (Syntax.tyStruct (List._∷_ 38 (List._∷_ 91 (List._∷_ 93 List.[]))) (Syntax.tcons (Syntax.tyRef Syntax.erased Syntax.imm OfOutput.named) (Syntax.tcons (Syntax.tyInt Syntax.w64) Syntax.tnil)))) List.[])))))))))))))))
+        g29 = List._∷_ (0, Rows'.any-gone (Laws'.mir)) (List._∷_ (1, Relend.mslice-owed (OfOutput.row) (Syntax.tyRef (Syntax.named 0) Syntax.mut OfOutput.named) 0 8 (Row.lease (κs .0) (qs .0))) (List._∷_ (2, Mut.mslice (OfStation.row) (Syntax.tyRef (Syntax.named 1) Syntax.mut OfStation.named) 1) (List._∷_ (3, Rows'.mref (OfPanelRecord.row) (Syntax.tyRef (Syntax.named 2) Syntax.mut OfPanelRecord.named) 2) (List._∷_ (4, Rows'.sslice (Referent.rtF (Referent.fInt Syntax.w8)) (Syntax.tyRef (Syntax.named 3) Syntax.imm (Syntax.tyInt Syntax.w8)) 3) (List._∷_ (5, Rows'.any-gone OfPanelRecord.spelt) (List._∷_ (6, Rows'.any-gone (Laws''.mir)) (List._∷_ (7, Rows'.whole (Declared.row Verdict.the-type)) (List._∷_ (8, Rows'.any-gone Syntax.tyBool) (List._∷_ (9, Rows'.any-gone (Syntax.tyRef Syntax.erased Syntax.imm OfOutput.named)) (List._∷_ (10, Rows'.any-gone (Syntax.tyStruct (List._∷_ 38 (List._∷_ 91 (List._∷_ 93 List.[]))) (Syntax.tcons (Syntax.tyRef Syntax.erased Syntax.imm OfOutput.named) (Syntax.tcons (Syntax.tyInt Syntax.w64) Syntax.tnil)))) (List._∷_ (11, Rows'.any-gone (Syntax.tyRef Syntax.erased Syntax.imm OfStation.named)) (List._∷_ (12, Rows'.any-gone (Syntax.tyStruct (List._∷_ 38 (List._∷_ 91 (List._∷_ 93 List.[]))) (Syntax.tcons (Syntax.tyRef Syntax.erased Syntax.imm OfStation.named) (Syntax.tcons (Syntax.tyInt Syntax.w64) Syntax.tnil)))) (List._∷_ (13, Rows'.any-gone Syntax.tyBool) (List._∷_ (14, Rows'.any-gone (Syntax.tyRef Syntax.erased Syntax.imm OfOutput.named)) (List._∷_ (15, Rows'.any-gone (Syntax.tyStruct (List._∷_ 38 (List._∷_ 91 (List._∷_ 93 List.[]))) (Syntax.tcons (Syntax.tyRef Syntax.erased Syntax.imm OfOutput.named) (Syntax.tcons (Syntax.tyInt Syntax.w64) Syntax.tnil)))) List.[])))))))))))))))
 
         abbrev g32 : List.List Row.Entry
-        g32 = List._∷_ (0, Rows'.any-gone (Laws.mir)) (List._∷_ (1, Relend.mslice-owed (OfOutput.row) (Syntax.tyRef (Syntax.named 0) Syntax.mut OfOutput.named) 0 8 (Row.lease (κs .0) (qs .0))) (List._∷_ (2, Relend.mslice-owed (OfStation.row) (Syntax.tyRef (Syntax.named 1) Syntax.mut OfStation.named) 1 9 (Row.lease (κs .1 .0) (qs .1 .0))) (List._∷_ (3, Rows'.mref (OfPanelRecord.row) (Syntax.tyRef (Syntax.named 2) Syntax.mut OfPanelRecord.named) 2) (List._∷_ (4, Rows'.sslice (Referent.rtF (Referent.fInt Syntax.w8)) (Syntax.tyRef (Syntax.named 3) Syntax.imm (Syntax.tyInt Syntax.w8)) 3) (List._∷_ (5, Rows'.any-gone OfPanelRecord.spelt) (List._∷_ (6, Rows'.any-gone (Laws'.mir)) (List._∷_ (7, Rows'.whole (Declared.row Verdict.the-type)) (List._∷_ (8, Rows'.any-gone Syntax.tyBool) (List._∷_ (9, Rows'.any-gone (Syntax.tyRef Syntax.erased Syntax.imm OfOutput.named)) (List._∷_ (10, Rows'.any-gone (Syntax.tyStruct (List._∷_ 38 (List._∷_ 91 (List._∷_ 93 List.[]))) (Syntax.tcons (Syntax.tyRef Syntax.erased Syntax.imm OfOutput.named) (Syntax.tcons (Syntax.tyInt Syntax.w64) Syntax.tnil)))) (List._∷_ (11, Rows'.any-gone (Syntax.tyRef Syntax.erased Syntax.imm OfStation.named)) (List._∷_ (12, Rows'.any-gone (Syntax.tyStruct (List._∷_ 38 (List._∷_ 91 (List._∷_ 93 List.[]))) (Syntax.tcons (Syntax.tyRef Syntax.erased Syntax.imm OfStation.named) (Syntax.tcons (Syntax.tyInt Syntax.w64) Syntax.tnil)))) (List._∷_ (13, Rows'.any-gone Syntax.tyBool) (List._∷_ (14, Rows'.any-gone (Syntax.tyRef Syntax.erased Syntax.imm OfOutput.named)) (List._∷_ (15, Rows'.any-gone (Syntax.tyStruct (List._∷_ 38 (List._∷_ 91 (List._∷_ 93 List.[]))) (Syntax.tcons (Syntax.tyRef Syntax.erased Syntax.imm OfOutput.named) (Syntax.tcons (Syntax.tyInt Syntax.w64) Syntax.tnil)))) List.[])))))))))))))))
+        g32 = List._∷_ (0, Rows'.any-gone (Laws'.mir)) (List._∷_ (1, Relend.mslice-owed (OfOutput.row) (Syntax.tyRef (Syntax.named 0) Syntax.mut OfOutput.named) 0 8 (Row.lease (κs .0) (qs .0))) (List._∷_ (2, Relend.mslice-owed (OfStation.row) (Syntax.tyRef (Syntax.named 1) Syntax.mut OfStation.named) 1 9 (Row.lease (κs .1 .0) (qs .1 .0))) (List._∷_ (3, Rows'.mref (OfPanelRecord.row) (Syntax.tyRef (Syntax.named 2) Syntax.mut OfPanelRecord.named) 2) (List._∷_ (4, Rows'.sslice (Referent.rtF (Referent.fInt Syntax.w8)) (Syntax.tyRef (Syntax.named 3) Syntax.imm (Syntax.tyInt Syntax.w8)) 3) (List._∷_ (5, Rows'.any-gone OfPanelRecord.spelt) (List._∷_ (6, Rows'.any-gone (Laws''.mir)) (List._∷_ (7, Rows'.whole (Declared.row Verdict.the-type)) (List._∷_ (8, Rows'.any-gone Syntax.tyBool) (List._∷_ (9, Rows'.any-gone (Syntax.tyRef Syntax.erased Syntax.imm OfOutput.named)) (List._∷_ (10, Rows'.any-gone (Syntax.tyStruct (List._∷_ 38 (List._∷_ 91 (List._∷_ 93 List.[]))) (Syntax.tcons (Syntax.tyRef Syntax.erased Syntax.imm OfOutput.named) (Syntax.tcons (Syntax.tyInt Syntax.w64) Syntax.tnil)))) (List._∷_ (11, Rows'.any-gone (Syntax.tyRef Syntax.erased Syntax.imm OfStation.named)) (List._∷_ (12, Rows'.any-gone (Syntax.tyStruct (List._∷_ 38 (List._∷_ 91 (List._∷_ 93 List.[]))) (Syntax.tcons (Syntax.tyRef Syntax.erased Syntax.imm OfStation.named) (Syntax.tcons (Syntax.tyInt Syntax.w64) Syntax.tnil)))) (List._∷_ (13, Rows'.any-gone Syntax.tyBool) (List._∷_ (14, Rows'.any-gone (Syntax.tyRef Syntax.erased Syntax.imm OfOutput.named)) (List._∷_ (15, Rows'.any-gone (Syntax.tyStruct (List._∷_ 38 (List._∷_ 91 (List._∷_ 93 List.[]))) (Syntax.tcons (Syntax.tyRef Syntax.erased Syntax.imm OfOutput.named) (Syntax.tcons (Syntax.tyInt Syntax.w64) Syntax.tnil)))) List.[])))))))))))))))
 
         abbrev g35 : List.List Row.Entry
-        g35 = List._∷_ (0, Rows'.any-gone (Laws.mir)) (List._∷_ (1, Relend.mslice-owed (OfOutput.row) (Syntax.tyRef (Syntax.named 0) Syntax.mut OfOutput.named) 0 8 (Row.lease (κs .0) (qs .0))) (List._∷_ (2, Relend.mslice-owed (OfStation.row) (Syntax.tyRef (Syntax.named 1) Syntax.mut OfStation.named) 1 9 (Row.lease (κs .1 .0) (qs .1 .0))) (List._∷_ (3, Rows'.mref-owed (OfPanelRecord.row) (Syntax.tyRef (Syntax.named 2) Syntax.mut OfPanelRecord.named) 2 10 (Row.lease (κs .1 .1 .0) (qs .1 .1 .0))) (List._∷_ (4, Rows'.sslice (Referent.rtF (Referent.fInt Syntax.w8)) (Syntax.tyRef (Syntax.named 3) Syntax.imm (Syntax.tyInt Syntax.w8)) 3) (List._∷_ (5, Rows'.any-gone OfPanelRecord.spelt) (List._∷_ (6, Rows'.any-gone (Laws'.mir)) (List._∷_ (7, Rows'.whole (Declared.row Verdict.the-type)) (List._∷_ (8, Rows'.any-gone Syntax.tyBool) (List._∷_ (9, Rows'.any-gone (Syntax.tyRef Syntax.erased Syntax.imm OfOutput.named)) (List._∷_ (10, Rows'.any-gone (Syntax.tyStruct (List._∷_ 38 (List._∷_ 91 (List._∷_ 93 List.[]))) (Syntax.tcons (Syntax.tyRef Syntax.erased Syntax.imm OfOutput.named) (Syntax.tcons (Syntax.tyInt Syntax.w64) Syntax.tnil)))) (List._∷_ (11, Rows'.any-gone (Syntax.tyRef Syntax.erased Syntax.imm OfStation.named)) (List._∷_ (12, Rows'.any-gone (Syntax.tyStruct (List._∷_ 38 (List._∷_ 91 (List._∷_ 93 List.[]))) (Syntax.tcons (Syntax.tyRef Syntax.erased Syntax.imm OfStation.named) (Syntax.tcons (Syntax.tyInt Syntax.w64) Syntax.tnil)))) (List._∷_ (13, Rows'.any-gone Syntax.tyBool) (List._∷_ (14, Rows'.any-gone (Syntax.tyRef Syntax.erased Syntax.imm OfOutput.named)) (List._∷_ (15, Rows'.any-gone (Syntax.tyStruct (List._∷_ 38 (List._∷_ 91 (List._∷_ 93 List.[]))) (Syntax.tcons (Syntax.tyRef Syntax.erased Syntax.imm OfOutput.named) (Syntax.tcons (Syntax.tyInt Syntax.w64) Syntax.tnil)))) List.[])))))))))))))))
+        g35 = List._∷_ (0, Rows'.any-gone (Laws'.mir)) (List._∷_ (1, Relend.mslice-owed (OfOutput.row) (Syntax.tyRef (Syntax.named 0) Syntax.mut OfOutput.named) 0 8 (Row.lease (κs .0) (qs .0))) (List._∷_ (2, Relend.mslice-owed (OfStation.row) (Syntax.tyRef (Syntax.named 1) Syntax.mut OfStation.named) 1 9 (Row.lease (κs .1 .0) (qs .1 .0))) (List._∷_ (3, Rows'.mref-owed (OfPanelRecord.row) (Syntax.tyRef (Syntax.named 2) Syntax.mut OfPanelRecord.named) 2 10 (Row.lease (κs .1 .1 .0) (qs .1 .1 .0))) (List._∷_ (4, Rows'.sslice (Referent.rtF (Referent.fInt Syntax.w8)) (Syntax.tyRef (Syntax.named 3) Syntax.imm (Syntax.tyInt Syntax.w8)) 3) (List._∷_ (5, Rows'.any-gone OfPanelRecord.spelt) (List._∷_ (6, Rows'.any-gone (Laws''.mir)) (List._∷_ (7, Rows'.whole (Declared.row Verdict.the-type)) (List._∷_ (8, Rows'.any-gone Syntax.tyBool) (List._∷_ (9, Rows'.any-gone (Syntax.tyRef Syntax.erased Syntax.imm OfOutput.named)) (List._∷_ (10, Rows'.any-gone (Syntax.tyStruct (List._∷_ 38 (List._∷_ 91 (List._∷_ 93 List.[]))) (Syntax.tcons (Syntax.tyRef Syntax.erased Syntax.imm OfOutput.named) (Syntax.tcons (Syntax.tyInt Syntax.w64) Syntax.tnil)))) (List._∷_ (11, Rows'.any-gone (Syntax.tyRef Syntax.erased Syntax.imm OfStation.named)) (List._∷_ (12, Rows'.any-gone (Syntax.tyStruct (List._∷_ 38 (List._∷_ 91 (List._∷_ 93 List.[]))) (Syntax.tcons (Syntax.tyRef Syntax.erased Syntax.imm OfStation.named) (Syntax.tcons (Syntax.tyInt Syntax.w64) Syntax.tnil)))) (List._∷_ (13, Rows'.any-gone Syntax.tyBool) (List._∷_ (14, Rows'.any-gone (Syntax.tyRef Syntax.erased Syntax.imm OfOutput.named)) (List._∷_ (15, Rows'.any-gone (Syntax.tyStruct (List._∷_ 38 (List._∷_ 91 (List._∷_ 93 List.[]))) (Syntax.tcons (Syntax.tyRef Syntax.erased Syntax.imm OfOutput.named) (Syntax.tcons (Syntax.tyInt Syntax.w64) Syntax.tnil)))) List.[])))))))))))))))
 
         abbrev g37 : List.List Row.Entry
-        g37 = List._∷_ (0, Rows'.whole (Declared.row Answer.the-type)) (List._∷_ (1, Relend.mslice-owed (OfOutput.row) (Syntax.tyRef (Syntax.named 0) Syntax.mut OfOutput.named) 0 8 (Row.lease (κs .0) (qs .0))) (List._∷_ (2, Relend.mslice-owed (OfStation.row) (Syntax.tyRef (Syntax.named 1) Syntax.mut OfStation.named) 1 9 (Row.lease (κs .1 .0) (qs .1 .0))) (List._∷_ (3, Rows'.mref-owed (OfPanelRecord.row) (Syntax.tyRef (Syntax.named 2) Syntax.mut OfPanelRecord.named) 2 10 (Row.lease (κs .1 .1 .0) (qs .1 .1 .0))) (List._∷_ (4, Rows'.sslice (Referent.rtF (Referent.fInt Syntax.w8)) (Syntax.tyRef (Syntax.named 3) Syntax.imm (Syntax.tyInt Syntax.w8)) 3) (List._∷_ (5, Rows'.any-gone OfPanelRecord.spelt) (List._∷_ (6, Rows'.any-gone (Laws'.mir)) (List._∷_ (7, Rows'.whole (Declared.row Verdict.the-type)) (List._∷_ (8, Rows'.any-gone Syntax.tyBool) (List._∷_ (9, Rows'.any-gone (Syntax.tyRef Syntax.erased Syntax.imm OfOutput.named)) (List._∷_ (10, Rows'.any-gone (Syntax.tyStruct (List._∷_ 38 (List._∷_ 91 (List._∷_ 93 List.[]))) (Syntax.tcons (Syntax.tyRef Syntax.erased Syntax.imm OfOutput.named) (Syntax.tcons (Syntax.tyInt Syntax.w64) Syntax.tnil)))) (List._∷_ (11, Rows'.any-gone (Syntax.tyRef Syntax.erased Syntax.imm OfStation.named)) (List._∷_ (12, Rows'.any-gone (Syntax.tyStruct (List._∷_ 38 (List._∷_ 91 (List._∷_ 93 List.[]))) (Syntax.tcons (Syntax.tyRef Syntax.erased Syntax.imm OfStation.named) (Syntax.tcons (Syntax.tyInt Syntax.w64) Syntax.tnil)))) (List._∷_ (13, Rows'.any-gone Syntax.tyBool) (List._∷_ (14, Rows'.any-gone (Syntax.tyRef Syntax.erased Syntax.imm OfOutput.named)) (List._∷_ (15, Rows'.any-gone (Syntax.tyStruct (List._∷_ 38 (List._∷_ 91 (List._∷_ 93 List.[]))) (Syntax.tcons (Syntax.tyRef Syntax.erased Syntax.imm OfOutput.named) (Syntax.tcons (Syntax.tyInt Syntax.w64) Syntax.tnil)))) List.[])))))))))))))))
+        g37 = List._∷_ (0, Rows'.whole (Declared.row Answer.the-type)) (List._∷_ (1, Relend.mslice-owed (OfOutput.row) (Syntax.tyRef (Syntax.named 0) Syntax.mut OfOutput.named) 0 8 (Row.lease (κs .0) (qs .0))) (List._∷_ (2, Relend.mslice-owed (OfStation.row) (Syntax.tyRef (Syntax.named 1) Syntax.mut OfStation.named) 1 9 (Row.lease (κs .1 .0) (qs .1 .0))) (List._∷_ (3, Rows'.mref-owed (OfPanelRecord.row) (Syntax.tyRef (Syntax.named 2) Syntax.mut OfPanelRecord.named) 2 10 (Row.lease (κs .1 .1 .0) (qs .1 .1 .0))) (List._∷_ (4, Rows'.sslice (Referent.rtF (Referent.fInt Syntax.w8)) (Syntax.tyRef (Syntax.named 3) Syntax.imm (Syntax.tyInt Syntax.w8)) 3) (List._∷_ (5, Rows'.any-gone OfPanelRecord.spelt) (List._∷_ (6, Rows'.any-gone (Laws''.mir)) (List._∷_ (7, Rows'.whole (Declared.row Verdict.the-type)) (List._∷_ (8, Rows'.any-gone Syntax.tyBool) (List._∷_ (9, Rows'.any-gone (Syntax.tyRef Syntax.erased Syntax.imm OfOutput.named)) (List._∷_ (10, Rows'.any-gone (Syntax.tyStruct (List._∷_ 38 (List._∷_ 91 (List._∷_ 93 List.[]))) (Syntax.tcons (Syntax.tyRef Syntax.erased Syntax.imm OfOutput.named) (Syntax.tcons (Syntax.tyInt Syntax.w64) Syntax.tnil)))) (List._∷_ (11, Rows'.any-gone (Syntax.tyRef Syntax.erased Syntax.imm OfStation.named)) (List._∷_ (12, Rows'.any-gone (Syntax.tyStruct (List._∷_ 38 (List._∷_ 91 (List._∷_ 93 List.[]))) (Syntax.tcons (Syntax.tyRef Syntax.erased Syntax.imm OfStation.named) (Syntax.tcons (Syntax.tyInt Syntax.w64) Syntax.tnil)))) (List._∷_ (13, Rows'.any-gone Syntax.tyBool) (List._∷_ (14, Rows'.any-gone (Syntax.tyRef Syntax.erased Syntax.imm OfOutput.named)) (List._∷_ (15, Rows'.any-gone (Syntax.tyStruct (List._∷_ 38 (List._∷_ 91 (List._∷_ 93 List.[]))) (Syntax.tcons (Syntax.tyRef Syntax.erased Syntax.imm OfOutput.named) (Syntax.tcons (Syntax.tyInt Syntax.w64) Syntax.tnil)))) List.[])))))))))))))))
 
         abbrev g39 : List.List Row.Entry
-        g39 = List._∷_ (0, Rows'.whole (Declared.row Answer.the-type)) (List._∷_ (1, Relend.mslice-owed (OfOutput.row) (Syntax.tyRef (Syntax.named 0) Syntax.mut OfOutput.named) 0 8 (Row.lease (κs .0) (qs .0))) (List._∷_ (2, Relend.mslice-owed (OfStation.row) (Syntax.tyRef (Syntax.named 1) Syntax.mut OfStation.named) 1 9 (Row.lease (κs .1 .0) (qs .1 .0))) (List._∷_ (3, Rows'.mref-owed (OfPanelRecord.row) (Syntax.tyRef (Syntax.named 2) Syntax.mut OfPanelRecord.named) 2 10 (Row.lease (κs .1 .1 .0) (qs .1 .1 .0))) (List._∷_ (4, Rows'.sslice (Referent.rtF (Referent.fInt Syntax.w8)) (Syntax.tyRef (Syntax.named 3) Syntax.imm (Syntax.tyInt Syntax.w8)) 3) (List._∷_ (5, Rows'.any-gone OfPanelRecord.spelt) (List._∷_ (6, Rows'.any-gone (Laws'.mir)) (List._∷_ (7, Rows'.any-gone (Laws''.mir)) (List._∷_ (8, Rows'.any-gone Syntax.tyBool) (List._∷_ (9, Rows'.any-gone (Syntax.tyRef Syntax.erased Syntax.imm OfOutput.named)) (List._∷_ (10, Rows'.any-gone (Syntax.tyStruct (List._∷_ 38 (List._∷_ 91 (List._∷_ 93 List.[]))) (Syntax.tcons (Syntax.tyRef Syntax.erased Syntax.imm OfOutput.named) (Syntax.tcons (Syntax.tyInt Syntax.w64) Syntax.tnil)))) (List._∷_ (11, Rows'.any-gone (Syntax.tyRef Syntax.erased Syntax.imm OfStation.named)) (List._∷_ (12, Rows'.any-gone (Syntax.tyStruct (List._∷_ 38 (List._∷_ 91 (List._∷_ 93 List.[]))) (Syntax.tcons (Syntax.tyRef Syntax.erased Syntax.imm OfStation.named) (Syntax.tcons (Syntax.tyInt Syntax.w64) Syntax.tnil)))) (List._∷_ (13, Rows'.any-gone Syntax.tyBool) (List._∷_ (14, Rows'.any-gone (Syntax.tyRef Syntax.erased Syntax.imm OfOutput.named)) (List._∷_ (15, Rows'.any-gone (Syntax.tyStruct (List._∷_ 38 (List._∷_ 91 (List._∷_ 93 List.[]))) (Syntax.tcons (Syntax.tyRef Syntax.erased Syntax.imm OfOutput.named) (Syntax.tcons (Syntax.tyInt Syntax.w64) Syntax.tnil)))) List.[])))))))))))))))
+        g39 = List._∷_ (0, Rows'.whole (Declared.row Answer.the-type)) (List._∷_ (1, Relend.mslice-owed (OfOutput.row) (Syntax.tyRef (Syntax.named 0) Syntax.mut OfOutput.named) 0 8 (Row.lease (κs .0) (qs .0))) (List._∷_ (2, Relend.mslice-owed (OfStation.row) (Syntax.tyRef (Syntax.named 1) Syntax.mut OfStation.named) 1 9 (Row.lease (κs .1 .0) (qs .1 .0))) (List._∷_ (3, Rows'.mref-owed (OfPanelRecord.row) (Syntax.tyRef (Syntax.named 2) Syntax.mut OfPanelRecord.named) 2 10 (Row.lease (κs .1 .1 .0) (qs .1 .1 .0))) (List._∷_ (4, Rows'.sslice (Referent.rtF (Referent.fInt Syntax.w8)) (Syntax.tyRef (Syntax.named 3) Syntax.imm (Syntax.tyInt Syntax.w8)) 3) (List._∷_ (5, Rows'.any-gone OfPanelRecord.spelt) (List._∷_ (6, Rows'.any-gone (Laws''.mir)) (List._∷_ (7, Rows'.any-gone (Laws.mir)) (List._∷_ (8, Rows'.any-gone Syntax.tyBool) (List._∷_ (9, Rows'.any-gone (Syntax.tyRef Syntax.erased Syntax.imm OfOutput.named)) (List._∷_ (10, Rows'.any-gone (Syntax.tyStruct (List._∷_ 38 (List._∷_ 91 (List._∷_ 93 List.[]))) (Syntax.tcons (Syntax.tyRef Syntax.erased Syntax.imm OfOutput.named) (Syntax.tcons (Syntax.tyInt Syntax.w64) Syntax.tnil)))) (List._∷_ (11, Rows'.any-gone (Syntax.tyRef Syntax.erased Syntax.imm OfStation.named)) (List._∷_ (12, Rows'.any-gone (Syntax.tyStruct (List._∷_ 38 (List._∷_ 91 (List._∷_ 93 List.[]))) (Syntax.tcons (Syntax.tyRef Syntax.erased Syntax.imm OfStation.named) (Syntax.tcons (Syntax.tyInt Syntax.w64) Syntax.tnil)))) (List._∷_ (13, Rows'.any-gone Syntax.tyBool) (List._∷_ (14, Rows'.any-gone (Syntax.tyRef Syntax.erased Syntax.imm OfOutput.named)) (List._∷_ (15, Rows'.any-gone (Syntax.tyStruct (List._∷_ 38 (List._∷_ 91 (List._∷_ 93 List.[]))) (Syntax.tcons (Syntax.tyRef Syntax.erased Syntax.imm OfOutput.named) (Syntax.tcons (Syntax.tyInt Syntax.w64) Syntax.tnil)))) List.[])))))))))))))))
 
         abbrev g40 : List.List Row.Entry
-        g40 = List._∷_ (0, Rows'.whole (Declared.row Answer.the-type)) (List._∷_ (1, Mut.mslice (OfOutput.row) (Syntax.tyRef (Syntax.named 0) Syntax.mut OfOutput.named) 0) (List._∷_ (2, Relend.mslice-owed (OfStation.row) (Syntax.tyRef (Syntax.named 1) Syntax.mut OfStation.named) 1 9 (Row.lease (κs .1 .0) (qs .1 .0))) (List._∷_ (3, Rows'.mref-owed (OfPanelRecord.row) (Syntax.tyRef (Syntax.named 2) Syntax.mut OfPanelRecord.named) 2 10 (Row.lease (κs .1 .1 .0) (qs .1 .1 .0))) (List._∷_ (4, Rows'.sslice (Referent.rtF (Referent.fInt Syntax.w8)) (Syntax.tyRef (Syntax.named 3) Syntax.imm (Syntax.tyInt Syntax.w8)) 3) (List._∷_ (5, Rows'.any-gone OfPanelRecord.spelt) (List._∷_ (6, Rows'.any-gone (Laws'.mir)) (List._∷_ (7, Rows'.any-gone (Laws''.mir)) (List._∷_ (8, Rows'.any-gone Syntax.tyBool) (List._∷_ (9, Rows'.any-gone (Syntax.tyRef Syntax.erased Syntax.imm OfOutput.named)) (List._∷_ (10, Rows'.any-gone (Syntax.tyStruct (List._∷_ 38 (List._∷_ 91 (List._∷_ 93 List.[]))) (Syntax.tcons (Syntax.tyRef Syntax.erased Syntax.imm OfOutput.named) (Syntax.tcons (Syntax.tyInt Syntax.w64) Syntax.tnil)))) (List._∷_ (11, Rows'.any-gone (Syntax.tyRef Syntax.erased Syntax.imm OfStation.named)) (List._∷_ (12, Rows'.any-gone (Syntax.tyStruct (List._∷_ 38 (List._∷_ 91 (List._∷_ 93 List.[]))) (Syntax.tcons (Syntax.tyRef Syntax.erased Syntax.imm OfStation.named) (Syntax.tcons (Syntax.tyInt Syntax.w64) Syntax.tnil)))) (List._∷_ (13, Rows'.any-gone Syntax.tyBool) (List._∷_ (14, Rows'.any-gone (Syntax.tyRef Syntax.erased Syntax.imm OfOutput.named)) (List._∷_ (15, Rows'.any-gone (Syntax.tyStruct (List._∷_ 38 (List._∷_ 91 (List._∷_ 93 List.[]))) (Syntax.tcons (Syntax.tyRef Syntax.erased Syntax.imm OfOutput.named) (Syntax.tcons (Syntax.tyInt Syntax.w64) Syntax.tnil)))) List.[])))))))))))))))
+        g40 = List._∷_ (0, Rows'.whole (Declared.row Answer.the-type)) (List._∷_ (1, Mut.mslice (OfOutput.row) (Syntax.tyRef (Syntax.named 0) Syntax.mut OfOutput.named) 0) (List._∷_ (2, Relend.mslice-owed (OfStation.row) (Syntax.tyRef (Syntax.named 1) Syntax.mut OfStation.named) 1 9 (Row.lease (κs .1 .0) (qs .1 .0))) (List._∷_ (3, Rows'.mref-owed (OfPanelRecord.row) (Syntax.tyRef (Syntax.named 2) Syntax.mut OfPanelRecord.named) 2 10 (Row.lease (κs .1 .1 .0) (qs .1 .1 .0))) (List._∷_ (4, Rows'.sslice (Referent.rtF (Referent.fInt Syntax.w8)) (Syntax.tyRef (Syntax.named 3) Syntax.imm (Syntax.tyInt Syntax.w8)) 3) (List._∷_ (5, Rows'.any-gone OfPanelRecord.spelt) (List._∷_ (6, Rows'.any-gone (Laws''.mir)) (List._∷_ (7, Rows'.any-gone (Laws.mir)) (List._∷_ (8, Rows'.any-gone Syntax.tyBool) (List._∷_ (9, Rows'.any-gone (Syntax.tyRef Syntax.erased Syntax.imm OfOutput.named)) (List._∷_ (10, Rows'.any-gone (Syntax.tyStruct (List._∷_ 38 (List._∷_ 91 (List._∷_ 93 List.[]))) (Syntax.tcons (Syntax.tyRef Syntax.erased Syntax.imm OfOutput.named) (Syntax.tcons (Syntax.tyInt Syntax.w64) Syntax.tnil)))) (List._∷_ (11, Rows'.any-gone (Syntax.tyRef Syntax.erased Syntax.imm OfStation.named)) (List._∷_ (12, Rows'.any-gone (Syntax.tyStruct (List._∷_ 38 (List._∷_ 91 (List._∷_ 93 List.[]))) (Syntax.tcons (Syntax.tyRef Syntax.erased Syntax.imm OfStation.named) (Syntax.tcons (Syntax.tyInt Syntax.w64) Syntax.tnil)))) (List._∷_ (13, Rows'.any-gone Syntax.tyBool) (List._∷_ (14, Rows'.any-gone (Syntax.tyRef Syntax.erased Syntax.imm OfOutput.named)) (List._∷_ (15, Rows'.any-gone (Syntax.tyStruct (List._∷_ 38 (List._∷_ 91 (List._∷_ 93 List.[]))) (Syntax.tcons (Syntax.tyRef Syntax.erased Syntax.imm OfOutput.named) (Syntax.tcons (Syntax.tyInt Syntax.w64) Syntax.tnil)))) List.[])))))))))))))))
 
         abbrev g42 : List.List Row.Entry
-        g42 = List._∷_ (0, Rows'.whole (Declared.row Answer.the-type)) (List._∷_ (1, Mut.mslice (OfOutput.row) (Syntax.tyRef (Syntax.named 0) Syntax.mut OfOutput.named) 0) (List._∷_ (2, Mut.mslice (OfStation.row) (Syntax.tyRef (Syntax.named 1) Syntax.mut OfStation.named) 1) (List._∷_ (3, Rows'.mref-owed (OfPanelRecord.row) (Syntax.tyRef (Syntax.named 2) Syntax.mut OfPanelRecord.named) 2 10 (Row.lease (κs .1 .1 .0) (qs .1 .1 .0))) (List._∷_ (4, Rows'.sslice (Referent.rtF (Referent.fInt Syntax.w8)) (Syntax.tyRef (Syntax.named 3) Syntax.imm (Syntax.tyInt Syntax.w8)) 3) (List._∷_ (5, Rows'.any-gone OfPanelRecord.spelt) (List._∷_ (6, Rows'.any-gone (Laws'.mir)) (List._∷_ (7, Rows'.any-gone (Laws''.mir)) (List._∷_ (8, Rows'.any-gone Syntax.tyBool) (List._∷_ (9, Rows'.any-gone (Syntax.tyRef Syntax.erased Syntax.imm OfOutput.named)) (List._∷_ (10, Rows'.any-gone (Syntax.tyStruct (List._∷_ 38 (List._∷_ 91 (List._∷_ 93 List.[]))) (Syntax.tcons (Syntax.tyRef Syntax.erased Syntax.imm OfOutput.named) (Syntax.tcons (Syntax.tyInt Syntax.w64) Syntax.tnil)))) (List._∷_ (11, Rows'.any-gone (Syntax.tyRef Syntax.erased Syntax.imm OfStation.named)) (List._∷_ (12, Rows'.any-gone (Syntax.tyStruct (List._∷_ 38 (List._∷_ 91 (List._∷_ 93 List.[]))) (Syntax.tcons (Syntax.tyRef Syntax.erased Syntax.imm OfStation.named) (Syntax.tcons (Syntax.tyInt Syntax.w64) Syntax.tnil)))) (List._∷_ (13, Rows'.any-gone Syntax.tyBool) (List._∷_ (14, Rows'.any-gone (Syntax.tyRef Syntax.erased Syntax.imm OfOutput.named)) (List._∷_ (15, Rows'.any-gone (Syntax.tyStruct (List._∷_ 38 (List._∷_ 91 (List._∷_ 93 List.[]))) (Syntax.tcons (Syntax.tyRef Syntax.erased Syntax.imm OfOutput.named) (Syntax.tcons (Syntax.tyInt Syntax.w64) Syntax.tnil)))) List.[])))))))))))))))
+        g42 = List._∷_ (0, Rows'.whole (Declared.row Answer.the-type)) (List._∷_ (1, Mut.mslice (OfOutput.row) (Syntax.tyRef (Syntax.named 0) Syntax.mut OfOutput.named) 0) (List._∷_ (2, Mut.mslice (OfStation.row) (Syntax.tyRef (Syntax.named 1) Syntax.mut OfStation.named) 1) (List._∷_ (3, Rows'.mref-owed (OfPanelRecord.row) (Syntax.tyRef (Syntax.named 2) Syntax.mut OfPanelRecord.named) 2 10 (Row.lease (κs .1 .1 .0) (qs .1 .1 .0))) (List._∷_ (4, Rows'.sslice (Referent.rtF (Referent.fInt Syntax.w8)) (Syntax.tyRef (Syntax.named 3) Syntax.imm (Syntax.tyInt Syntax.w8)) 3) (List._∷_ (5, Rows'.any-gone OfPanelRecord.spelt) (List._∷_ (6, Rows'.any-gone (Laws''.mir)) (List._∷_ (7, Rows'.any-gone (Laws.mir)) (List._∷_ (8, Rows'.any-gone Syntax.tyBool) (List._∷_ (9, Rows'.any-gone (Syntax.tyRef Syntax.erased Syntax.imm OfOutput.named)) (List._∷_ (10, Rows'.any-gone (Syntax.tyStruct (List._∷_ 38 (List._∷_ 91 (List._∷_ 93 List.[]))) (Syntax.tcons (Syntax.tyRef Syntax.erased Syntax.imm OfOutput.named) (Syntax.tcons (Syntax.tyInt Syntax.w64) Syntax.tnil)))) (List._∷_ (11, Rows'.any-gone (Syntax.tyRef Syntax.erased Syntax.imm OfStation.named)) (List._∷_ (12, Rows'.any-gone (Syntax.tyStruct (List._∷_ 38 (List._∷_ 91 (List._∷_ 93 List.[]))) (Syntax.tcons (Syntax.tyRef Syntax.erased Syntax.imm OfStation.named) (Syntax.tcons (Syntax.tyInt Syntax.w64) Syntax.tnil)))) (List._∷_ (13, Rows'.any-gone Syntax.tyBool) (List._∷_ (14, Rows'.any-gone (Syntax.tyRef Syntax.erased Syntax.imm OfOutput.named)) (List._∷_ (15, Rows'.any-gone (Syntax.tyStruct (List._∷_ 38 (List._∷_ 91 (List._∷_ 93 List.[]))) (Syntax.tcons (Syntax.tyRef Syntax.erased Syntax.imm OfOutput.named) (Syntax.tcons (Syntax.tyInt Syntax.w64) Syntax.tnil)))) List.[])))))))))))))))
 
         abbrev G0 : Row.Cx
         G0 = record { locals = List._++_ t0 t1; slots = List._∷_ (Row.lease (κs .0) (qs .0)) (List._∷_ (Row.lease (κs .1 .0) (qs .1 .0)) (List._∷_ (Row.lease (κs .1 .1 .0) (qs .1 .1 .0)) (List._∷_ (Row.lease (κs .1 .1 .1 .0) (qs .1 .1 .1 .0)) (List._∷_ Row.off (List._∷_ Row.off (List._∷_ Row.off (List._∷_ Row.off (List._∷_ Row.off (List._∷_ Row.off (List._∷_ Row.off List.[])))))))))) }
@@ -1122,13 +1122,13 @@ module _ (claims· : Claims) where
           d0 = Typed.t-return 𝓤 H A W 𝓣 E Δ1 tt
 
           d1 : Typed.Typed 𝓤 H A 𝓣 E G25 b10 Δ1 at1
-          d1 = Typed.s-seq 𝓤 H A W 𝓣 E G25 G26 b8 b9 Δ1 (Typed.pass T25 T26 s23) at0 (Make.t-enum-make-wt 𝓤 H A W E 𝓣 Answer.the-type Laws.the-laws Laws.the-plain tt G25 0 (List._∷_ (Scalar.oInt Syntax.w8 3) (List._∷_ (Scalar.oInt Syntax.w8 1) List.[])) (λ m. Answer.enum .make (Logic.inr (Logic.inr (Logic.inr (Logic.inl (1, tt)))))) (Reads.room-gone 𝓤 H A (Laws.mir)) (tt, (tt, tt)) Path'.refl (λ m wa. Make.made-val Answer.the-type Laws.the-laws (List._∷_ (Laws.the-laws .1 .1 .1 .0 .0 .val 1) List.[]) (Answer.enum .make (Logic.inr (Logic.inr (Logic.inr (Logic.inl (1, tt)))))) (Signed.made-wt Field.u8-field (Laws.the-laws .1 .1 .1 .0 .0) Make'.u8-wt 1, tt) (wa .1)) λ m wa. Make.made-is Answer.the-type Laws.the-laws (List._∷_ (Laws.the-laws .1 .1 .1 .0 .0 .val 1) List.[]) (Answer.enum .make (Logic.inr (Logic.inr (Logic.inr (Logic.inl (1, tt)))))) (Signed.made-wt Field.u8-field (Laws.the-laws .1 .1 .1 .0 .0) Make'.u8-wt 1, tt) (wa .1)) d0
+          d1 = Typed.s-seq 𝓤 H A W 𝓣 E G25 G26 b8 b9 Δ1 (Typed.pass T25 T26 s23) at0 (Make.t-enum-make-wt 𝓤 H A W E 𝓣 Answer.the-type Laws'.the-laws Laws'.the-plain tt G25 0 (List._∷_ (Scalar.oInt Syntax.w8 3) (List._∷_ (Scalar.oInt Syntax.w8 1) List.[])) (λ m. Answer.enum .make (Logic.inr (Logic.inr (Logic.inr (Logic.inl (1, tt)))))) (Reads.room-gone 𝓤 H A (Laws'.mir)) (tt, (tt, tt)) Path'.refl (λ m wa. Make.made-val Answer.the-type Laws'.the-laws (List._∷_ (Laws'.the-laws .1 .1 .1 .0 .0 .val 1) List.[]) (Answer.enum .make (Logic.inr (Logic.inr (Logic.inr (Logic.inl (1, tt)))))) (Signed.made-wt Field.u8-field (Laws'.the-laws .1 .1 .1 .0 .0) Make'.u8-wt 1, tt) (wa .1)) λ m wa. Make.made-is Answer.the-type Laws'.the-laws (List._∷_ (Laws'.the-laws .1 .1 .1 .0 .0 .val 1) List.[]) (Answer.enum .make (Logic.inr (Logic.inr (Logic.inr (Logic.inl (1, tt)))))) (Signed.made-wt Field.u8-field (Laws'.the-laws .1 .1 .1 .0 .0) Make'.u8-wt 1, tt) (wa .1)) d0
 
           d2 : Typed.Typed 𝓤 H A 𝓣 E G24 b10 Δ1 at2
           d2 = Typed.g-pre 𝓤 H A W 𝓣 E G24 G25 b10 Δ1 (Typed.pass T24 T25 s22) at1 (Scalar.g-room 𝓤 H A W E G24 13 Syntax.tyBool (Scalar.room-sc 𝓤 H A W Row.sBool)) d1
 
           d3 : Typed.Typed 𝓤 H A 𝓣 E G23 b10 Δ1 at3
-          d3 = Typed.g-pre 𝓤 H A W 𝓣 E G23 G24 b10 Δ1 (Typed.pass T23 T24 s21) at2 (Scalar.g-room 𝓤 H A W E G23 6 (Laws'.mir) (Local.room-whole 𝓤 H A W (Declared'.row Parameters.the-type) (Laws'.mir) Path'.refl)) d2
+          d3 = Typed.g-pre 𝓤 H A W 𝓣 E G23 G24 b10 Δ1 (Typed.pass T23 T24 s21) at2 (Scalar.g-room 𝓤 H A W E G23 6 (Laws''.mir) (Local.room-whole 𝓤 H A W (Declared'.row Parameters.the-type) (Laws''.mir) Path'.refl)) d2
 
           d4 : Typed.Typed 𝓤 H A 𝓣 E G22 b10 Δ1 at4
           d4 = Typed.g-pre 𝓤 H A W 𝓣 E G22 G23 b10 Δ1 (Typed.pass T22 T23 s20) at3 (Scalar.g-room 𝓤 H A W E G22 5 OfPanelRecord.spelt (OfPanelRecord.room 𝓤 H A W)) d3
@@ -1176,10 +1176,10 @@ module _ (claims· : Claims) where
           d18 = Typed.g-pre 𝓤 H A W 𝓣 E G54 G55 b24 Δ0 (λ Ψ. Ψ) at17 (Lifetime.g-end 𝓤 H A W E G54 8 Path'.refl) d17
 
           d19 : Typed.Typed 𝓤 H A 𝓣 E G53 b24 Δ0 at19
-          d19 = Typed.g-pre 𝓤 H A W 𝓣 E G53 G54 b24 Δ0 (Typed.pass T53 T54 s51) at18 (Scalar.g-room 𝓤 H A W E G53 7 (Laws''.mir) (Local.room-whole 𝓤 H A W (Declared.row Verdict.the-type) (Laws''.mir) Path'.refl)) d18
+          d19 = Typed.g-pre 𝓤 H A W 𝓣 E G53 G54 b24 Δ0 (Typed.pass T53 T54 s51) at18 (Scalar.g-room 𝓤 H A W E G53 7 (Laws.mir) (Local.room-whole 𝓤 H A W (Declared.row Verdict.the-type) (Laws.mir) Path'.refl)) d18
 
           d20 : Typed.Typed 𝓤 H A 𝓣 E G52 b25 Δ0 at20
-          d20 = Typed.s-seq 𝓤 H A W 𝓣 E G52 G53 b23 b24 Δ0 (Typed.both s50) at19 (Plain.t-call-plain 𝓤 H A W 𝓣 4 ps·3 r·3 (claims· .6) (claims· .7) "panel::execute" (known .3) E (λ pos β. β) G52 (record { pos = 19; ty = Syntax.tyRef Syntax.erased Syntax.mut OfOutput.named; ref = λ x. x }, (record { pos = 21; ty = Syntax.tyRef Syntax.erased Syntax.mut OfStation.named; ref = λ x. x }, (record { pos = 22; ty = Syntax.tyRef Syntax.erased Syntax.mut OfPanelRecord.named; ref = λ x. x }, (record { pos = 4; ty = Syntax.tyRef (Syntax.named 3) Syntax.imm (Syntax.tyInt Syntax.w8); ref = λ x. x }, (record { pos = 7; st = List.[]; d = 0; at = λ x. x }, tt))))) 0 (List._∷_ 8 (List._∷_ 9 (List._∷_ 10 (List._∷_ 3 List.[])))) (Call.sub-id 𝓤 H A W (G52 .slots)) (Reads.as-is 𝓤 H A (Mut.mslice (OfOutput.row) (Syntax.tyRef Syntax.erased Syntax.mut OfOutput.named) 8), Mut.reads-mslice 𝓤 H A W (OfOutput.row) (Syntax.tyRef Syntax.erased Syntax.mut OfOutput.named) 8, Path'.refl, (Reads.as-is 𝓤 H A (Mut.mslice (OfStation.row) (Syntax.tyRef Syntax.erased Syntax.mut OfStation.named) 9), Mut.reads-mslice 𝓤 H A W (OfStation.row) (Syntax.tyRef Syntax.erased Syntax.mut OfStation.named) 9, Path'.refl, (Reads.as-is 𝓤 H A (Rows'.mref (OfPanelRecord.row) (Syntax.tyRef Syntax.erased Syntax.mut OfPanelRecord.named) 10), Reads.reads-mref 𝓤 H A W (OfPanelRecord.row) (Syntax.tyRef Syntax.erased Syntax.mut OfPanelRecord.named) 10, Path'.refl, (ShrSlice.spares-sslice 𝓤 H A W (Referent.rtF (Referent.fInt Syntax.w8)) (Syntax.tyRef (Syntax.named 3) Syntax.imm (Syntax.tyInt Syntax.w8)) 3, Shared.reads-sslice 𝓤 H A W (Referent.rtF (Referent.fInt Syntax.w8)) (Syntax.tyRef (Syntax.named 3) Syntax.imm (Syntax.tyInt Syntax.w8)) 3, Path'.refl, ((Yields.yields-copy 𝓤 H A W (λ ρ. Unit) (Declared.row Verdict.the-type) Path'.refl (Copies.cEnum Verdict.the-type Laws''.the-laws Laws''.the-copy .copy 𝓤 H A W) (Rows'.whole (Declared.row Verdict.the-type)) (λ x. x) (λ x. x) (λ ρ told. Local.mem-whole 𝓤 H A W (Declared.row Verdict.the-type) ρ) λ ρ told. Local.whole-mem 𝓤 H A W (Declared.row Verdict.the-type) ρ, Path'.refl), tt))))) (Reads.room-gone 𝓤 H A (Laws.mir)) (tt, (tt, (tt, (tt, tt)))) Path'.refl) d19
+          d20 = Typed.s-seq 𝓤 H A W 𝓣 E G52 G53 b23 b24 Δ0 (Typed.both s50) at19 (Plain.t-call-plain 𝓤 H A W 𝓣 4 ps·3 r·3 (claims· .6) (claims· .7) "panel::execute" (known .3) E (λ pos β. β) G52 (record { pos = 19; ty = Syntax.tyRef Syntax.erased Syntax.mut OfOutput.named; ref = λ x. x }, (record { pos = 21; ty = Syntax.tyRef Syntax.erased Syntax.mut OfStation.named; ref = λ x. x }, (record { pos = 22; ty = Syntax.tyRef Syntax.erased Syntax.mut OfPanelRecord.named; ref = λ x. x }, (record { pos = 4; ty = Syntax.tyRef (Syntax.named 3) Syntax.imm (Syntax.tyInt Syntax.w8); ref = λ x. x }, (record { pos = 7; st = List.[]; d = 0; at = λ x. x }, tt))))) 0 (List._∷_ 8 (List._∷_ 9 (List._∷_ 10 (List._∷_ 3 List.[])))) (Call.sub-id 𝓤 H A W (G52 .slots)) (Reads.as-is 𝓤 H A (Mut.mslice (OfOutput.row) (Syntax.tyRef Syntax.erased Syntax.mut OfOutput.named) 8), Mut.reads-mslice 𝓤 H A W (OfOutput.row) (Syntax.tyRef Syntax.erased Syntax.mut OfOutput.named) 8, Path'.refl, (Reads.as-is 𝓤 H A (Mut.mslice (OfStation.row) (Syntax.tyRef Syntax.erased Syntax.mut OfStation.named) 9), Mut.reads-mslice 𝓤 H A W (OfStation.row) (Syntax.tyRef Syntax.erased Syntax.mut OfStation.named) 9, Path'.refl, (Reads.as-is 𝓤 H A (Rows'.mref (OfPanelRecord.row) (Syntax.tyRef Syntax.erased Syntax.mut OfPanelRecord.named) 10), Reads.reads-mref 𝓤 H A W (OfPanelRecord.row) (Syntax.tyRef Syntax.erased Syntax.mut OfPanelRecord.named) 10, Path'.refl, (ShrSlice.spares-sslice 𝓤 H A W (Referent.rtF (Referent.fInt Syntax.w8)) (Syntax.tyRef (Syntax.named 3) Syntax.imm (Syntax.tyInt Syntax.w8)) 3, Shared.reads-sslice 𝓤 H A W (Referent.rtF (Referent.fInt Syntax.w8)) (Syntax.tyRef (Syntax.named 3) Syntax.imm (Syntax.tyInt Syntax.w8)) 3, Path'.refl, ((Yields.yields-copy 𝓤 H A W (λ ρ. Unit) (Declared.row Verdict.the-type) Path'.refl (Copies.cEnum Verdict.the-type Laws.the-laws Laws.the-copy .copy 𝓤 H A W) (Rows'.whole (Declared.row Verdict.the-type)) (λ x. x) (λ x. x) (λ ρ told. Local.mem-whole 𝓤 H A W (Declared.row Verdict.the-type) ρ) λ ρ told. Local.whole-mem 𝓤 H A W (Declared.row Verdict.the-type) ρ, Path'.refl), tt))))) (Reads.room-gone 𝓤 H A (Laws'.mir)) (tt, (tt, (tt, (tt, tt)))) Path'.refl) d19
 
           d21 : Typed.Typed 𝓤 H A 𝓣 E G51 b26 Δ0 at21
           d21 = Typed.s-seq 𝓤 H A W 𝓣 E G51 G52 b22 b25 Δ0 (Typed.give s49) at20 (Reborrow.t-mref-relend 𝓤 H A W E 𝓣 G51 3 22 2 10 (OfPanelRecord.row) OfPanelRecord.spelt (Syntax.tyRef (Syntax.named 2) Syntax.mut OfPanelRecord.named) (Syntax.tyRef Syntax.erased Syntax.mut OfPanelRecord.named) (Row.lease (κs .1 .1 .0) (qs .1 .1 .0)) (λ x. x) (Reads.as-is 𝓤 H A (Rows'.mref (OfPanelRecord.row) (Syntax.tyRef (Syntax.named 2) Syntax.mut OfPanelRecord.named) 2)) (Reads.room-gone 𝓤 H A (Syntax.tyRef Syntax.erased Syntax.mut OfPanelRecord.named)) Path'.refl tt Path'.refl Path'.refl λ b o. tt) d20
@@ -1224,7 +1224,7 @@ module _ (claims· : Claims) where
           d34 = Typed.g-pre 𝓤 H A W 𝓣 E G38 G39 b30 Δ0 (λ Ψ. Ψ) at33 (Lifetime.g-end 𝓤 H A W E G38 6 Path'.refl) d33
 
           d35 : Typed.Typed 𝓤 H A 𝓣 E G37 b30 Δ0 at35
-          d35 = Typed.g-pre 𝓤 H A W 𝓣 E G37 G38 b30 Δ0 (Typed.pass T37 T38 s35) at34 (Scalar.g-room 𝓤 H A W E G37 6 (Laws'.mir) (Local.room-whole 𝓤 H A W (Declared'.row Parameters.the-type) (Laws'.mir) Path'.refl)) d34
+          d35 = Typed.g-pre 𝓤 H A W 𝓣 E G37 G38 b30 Δ0 (Typed.pass T37 T38 s35) at34 (Scalar.g-room 𝓤 H A W E G37 6 (Laws''.mir) (Local.room-whole 𝓤 H A W (Declared'.row Parameters.the-type) (Laws''.mir) Path'.refl)) d34
 
           d36 : Typed.Typed 𝓤 H A 𝓣 E G36 b30 Δ0 at36
           d36 = Typed.g-pre 𝓤 H A W 𝓣 E G36 G37 b30 Δ0 (Typed.pass T36 T37 s34) at35 (Scalar.g-room 𝓤 H A W E G36 5 OfPanelRecord.spelt (OfPanelRecord.room 𝓤 H A W)) d35
@@ -1236,7 +1236,7 @@ module _ (claims· : Claims) where
           d38 = Typed.g-pre 𝓤 H A W 𝓣 E G34 G35 b30 Δ0 (Typed.pass T34 T35 s32) at37 (Scalar.g-room 𝓤 H A W E G34 15 (Syntax.tyStruct (List._∷_ 38 (List._∷_ 91 (List._∷_ 93 List.[]))) (Syntax.tcons (Syntax.tyRef Syntax.erased Syntax.imm OfOutput.named) (Syntax.tcons (Syntax.tyInt Syntax.w64) Syntax.tnil))) (Shared.room-sslice 𝓤 H A W (OfOutput.row) (Syntax.tyRef Syntax.erased Syntax.imm OfOutput.named) 6)) d37
 
           d39 : Typed.Typed 𝓤 H A 𝓣 E G33 b31 Δ0 at39
-          d39 = Typed.s-seq 𝓤 H A W 𝓣 E G33 G34 b17 b30 Δ0 (Typed.both s31) at38 (Plain.t-call-plain 𝓤 H A W 𝓣 3 ps·2 r·2 (claims· .4) (claims· .5) "panel_tables::decide" (known .2) E (λ pos β. β) G33 (record { pos = 15; ty = Syntax.tyRef Syntax.erased Syntax.imm OfOutput.named; ref = λ x. x }, (record { pos = 17; ty = Syntax.tyRef Syntax.erased Syntax.imm OfStation.named; ref = λ x. x }, (record { pos = 5; st = List.[]; d = 0; at = λ x. x }, (record { pos = 6; st = List.[]; d = 0; at = λ x. x }, (record { pos = 4; ty = Syntax.tyRef (Syntax.named 3) Syntax.imm (Syntax.tyInt Syntax.w8); ref = λ x. x }, tt))))) 7 (List._∷_ 6 (List._∷_ 7 (List._∷_ 3 List.[]))) (Call.sub-id 𝓤 H A W (G33 .slots)) (ShrSlice.spares-sslice 𝓤 H A W (OfOutput.row) (Syntax.tyRef Syntax.erased Syntax.imm OfOutput.named) 6, Shared.reads-sslice 𝓤 H A W (OfOutput.row) (Syntax.tyRef Syntax.erased Syntax.imm OfOutput.named) 6, Path'.refl, (ShrSlice.spares-sslice 𝓤 H A W (OfStation.row) (Syntax.tyRef Syntax.erased Syntax.imm OfStation.named) 7, Shared.reads-sslice 𝓤 H A W (OfStation.row) (Syntax.tyRef Syntax.erased Syntax.imm OfStation.named) 7, Path'.refl, ((OfPanelRecord.yields 𝓤 H A W, Path'.refl), ((Yields.yields-copy 𝓤 H A W (λ ρ. Unit) (Declared'.row Parameters.the-type) Path'.refl (Copies.cStruct Parameters.the-type Laws'.the-laws Laws'.the-copy .copy 𝓤 H A W) (Rows'.whole (Declared'.row Parameters.the-type)) (λ x. x) (λ x. x) (λ ρ told. Local.mem-whole 𝓤 H A W (Declared'.row Parameters.the-type) ρ) λ ρ told. Local.whole-mem 𝓤 H A W (Declared'.row Parameters.the-type) ρ, Path'.refl), (ShrSlice.spares-sslice 𝓤 H A W (Referent.rtF (Referent.fInt Syntax.w8)) (Syntax.tyRef (Syntax.named 3) Syntax.imm (Syntax.tyInt Syntax.w8)) 3, Shared.reads-sslice 𝓤 H A W (Referent.rtF (Referent.fInt Syntax.w8)) (Syntax.tyRef (Syntax.named 3) Syntax.imm (Syntax.tyInt Syntax.w8)) 3, Path'.refl, tt))))) (Reads.room-gone 𝓤 H A (Laws''.mir)) (tt, (tt, (tt, tt))) Path'.refl) d38
+          d39 = Typed.s-seq 𝓤 H A W 𝓣 E G33 G34 b17 b30 Δ0 (Typed.both s31) at38 (Plain.t-call-plain 𝓤 H A W 𝓣 3 ps·2 r·2 (claims· .4) (claims· .5) "panel_tables::decide" (known .2) E (λ pos β. β) G33 (record { pos = 15; ty = Syntax.tyRef Syntax.erased Syntax.imm OfOutput.named; ref = λ x. x }, (record { pos = 17; ty = Syntax.tyRef Syntax.erased Syntax.imm OfStation.named; ref = λ x. x }, (record { pos = 5; st = List.[]; d = 0; at = λ x. x }, (record { pos = 6; st = List.[]; d = 0; at = λ x. x }, (record { pos = 4; ty = Syntax.tyRef (Syntax.named 3) Syntax.imm (Syntax.tyInt Syntax.w8); ref = λ x. x }, tt))))) 7 (List._∷_ 6 (List._∷_ 7 (List._∷_ 3 List.[]))) (Call.sub-id 𝓤 H A W (G33 .slots)) (ShrSlice.spares-sslice 𝓤 H A W (OfOutput.row) (Syntax.tyRef Syntax.erased Syntax.imm OfOutput.named) 6, Shared.reads-sslice 𝓤 H A W (OfOutput.row) (Syntax.tyRef Syntax.erased Syntax.imm OfOutput.named) 6, Path'.refl, (ShrSlice.spares-sslice 𝓤 H A W (OfStation.row) (Syntax.tyRef Syntax.erased Syntax.imm OfStation.named) 7, Shared.reads-sslice 𝓤 H A W (OfStation.row) (Syntax.tyRef Syntax.erased Syntax.imm OfStation.named) 7, Path'.refl, ((OfPanelRecord.yields 𝓤 H A W, Path'.refl), ((Yields.yields-copy 𝓤 H A W (λ ρ. Unit) (Declared'.row Parameters.the-type) Path'.refl (Copies.cStruct Parameters.the-type Laws''.the-laws Laws''.the-copy .copy 𝓤 H A W) (Rows'.whole (Declared'.row Parameters.the-type)) (λ x. x) (λ x. x) (λ ρ told. Local.mem-whole 𝓤 H A W (Declared'.row Parameters.the-type) ρ) λ ρ told. Local.whole-mem 𝓤 H A W (Declared'.row Parameters.the-type) ρ, Path'.refl), (ShrSlice.spares-sslice 𝓤 H A W (Referent.rtF (Referent.fInt Syntax.w8)) (Syntax.tyRef (Syntax.named 3) Syntax.imm (Syntax.tyInt Syntax.w8)) 3, Shared.reads-sslice 𝓤 H A W (Referent.rtF (Referent.fInt Syntax.w8)) (Syntax.tyRef (Syntax.named 3) Syntax.imm (Syntax.tyInt Syntax.w8)) 3, Path'.refl, tt))))) (Reads.room-gone 𝓤 H A (Laws.mir)) (tt, (tt, (tt, tt))) Path'.refl) d38
 
           d40 : Typed.Typed 𝓤 H A 𝓣 E G32 b32 Δ0 at40
           d40 = Typed.s-seq 𝓤 H A W 𝓣 E G32 G33 b16 b31 Δ0 (Typed.ask s30) at39 (Relend.t-sl-aggregate 𝓤 H A W E (OfStation.row) 𝓣 (Relend.asShr (OfStation.row)) G32 16 17 7 (Syntax.tyRef Syntax.erased Syntax.imm OfStation.named) (Syntax.tyRef Syntax.erased Syntax.imm OfStation.named) (λ x. x) (Scalar.oFld 2 (List._∷_ (Syntax.field 1) List.[]) (Syntax.tyInt Syntax.w64) 8 λ v. Shared.lenV (v .0)) (Reads.as-is 𝓤 H A (Relend.ssptr (OfStation.row) (Syntax.tyRef Syntax.erased Syntax.imm OfStation.named) 7)) (Reads.room-gone 𝓤 H A (Syntax.tyStruct (List._∷_ 38 (List._∷_ 91 (List._∷_ 93 List.[]))) (Syntax.tcons (Syntax.tyRef Syntax.erased Syntax.imm OfStation.named) (Syntax.tcons (Syntax.tyInt Syntax.w64) Syntax.tnil)))) (Reshare.reads-owedS-len 𝓤 H A W (OfStation.row) (Syntax.tyRef (Syntax.named 1) Syntax.mut OfStation.named) 1 7 (Row.lease (κs .1 .0) (qs .1 .0)) 8 Path'.refl, Path'.refl) Path'.refl Path'.refl λ b o k. tt) d39
@@ -1287,7 +1287,7 @@ module _ (claims· : Claims) where
           d55 = Typed.g-pre 𝓤 H A W 𝓣 E G11 G12 b37 Δ0 (Typed.pass T11 T12 s10) at54 (Scalar.g-room 𝓤 H A W E G11 10 (Syntax.tyStruct (List._∷_ 38 (List._∷_ 91 (List._∷_ 93 List.[]))) (Syntax.tcons (Syntax.tyRef Syntax.erased Syntax.imm OfOutput.named) (Syntax.tcons (Syntax.tyInt Syntax.w64) Syntax.tnil))) (Shared.room-sslice 𝓤 H A W (OfOutput.row) (Syntax.tyRef Syntax.erased Syntax.imm OfOutput.named) 4)) d54
 
           d56 : Typed.Typed 𝓤 H A 𝓣 E G10 b38 Δ0 at56
-          d56 = Typed.s-seq 𝓤 H A W 𝓣 E G10 G11 b6 b37 Δ0 (Typed.both s9) at55 (Plain.t-call-plain 𝓤 H A W 𝓣 2 ps·1 r·1 (claims· .2) (claims· .3) "panel::panel_sound" (known .1) E (λ pos β. β) G10 (record { pos = 10; ty = Syntax.tyRef Syntax.erased Syntax.imm OfOutput.named; ref = λ x. x }, (record { pos = 12; ty = Syntax.tyRef Syntax.erased Syntax.imm OfStation.named; ref = λ x. x }, (record { pos = 5; st = List.[]; d = 0; at = λ x. x }, (record { pos = 6; st = List.[]; d = 0; at = λ x. x }, tt)))) 8 (List._∷_ 4 (List._∷_ 5 List.[])) (Call.sub-id 𝓤 H A W (G10 .slots)) (ShrSlice.spares-sslice 𝓤 H A W (OfOutput.row) (Syntax.tyRef Syntax.erased Syntax.imm OfOutput.named) 4, Shared.reads-sslice 𝓤 H A W (OfOutput.row) (Syntax.tyRef Syntax.erased Syntax.imm OfOutput.named) 4, Path'.refl, (ShrSlice.spares-sslice 𝓤 H A W (OfStation.row) (Syntax.tyRef Syntax.erased Syntax.imm OfStation.named) 5, Shared.reads-sslice 𝓤 H A W (OfStation.row) (Syntax.tyRef Syntax.erased Syntax.imm OfStation.named) 5, Path'.refl, ((OfPanelRecord.yields 𝓤 H A W, Path'.refl), ((Yields.yields-copy 𝓤 H A W (λ ρ. Unit) (Declared'.row Parameters.the-type) Path'.refl (Copies.cStruct Parameters.the-type Laws'.the-laws Laws'.the-copy .copy 𝓤 H A W) (Rows'.whole (Declared'.row Parameters.the-type)) (λ x. x) (λ x. x) (λ ρ told. Local.mem-whole 𝓤 H A W (Declared'.row Parameters.the-type) ρ) λ ρ told. Local.whole-mem 𝓤 H A W (Declared'.row Parameters.the-type) ρ, Path'.refl), tt)))) (Reads.room-gone 𝓤 H A Syntax.tyBool) (tt, (tt, tt)) Path'.refl) d55
+          d56 = Typed.s-seq 𝓤 H A W 𝓣 E G10 G11 b6 b37 Δ0 (Typed.both s9) at55 (Plain.t-call-plain 𝓤 H A W 𝓣 2 ps·1 r·1 (claims· .2) (claims· .3) "panel::panel_sound" (known .1) E (λ pos β. β) G10 (record { pos = 10; ty = Syntax.tyRef Syntax.erased Syntax.imm OfOutput.named; ref = λ x. x }, (record { pos = 12; ty = Syntax.tyRef Syntax.erased Syntax.imm OfStation.named; ref = λ x. x }, (record { pos = 5; st = List.[]; d = 0; at = λ x. x }, (record { pos = 6; st = List.[]; d = 0; at = λ x. x }, tt)))) 8 (List._∷_ 4 (List._∷_ 5 List.[])) (Call.sub-id 𝓤 H A W (G10 .slots)) (ShrSlice.spares-sslice 𝓤 H A W (OfOutput.row) (Syntax.tyRef Syntax.erased Syntax.imm OfOutput.named) 4, Shared.reads-sslice 𝓤 H A W (OfOutput.row) (Syntax.tyRef Syntax.erased Syntax.imm OfOutput.named) 4, Path'.refl, (ShrSlice.spares-sslice 𝓤 H A W (OfStation.row) (Syntax.tyRef Syntax.erased Syntax.imm OfStation.named) 5, Shared.reads-sslice 𝓤 H A W (OfStation.row) (Syntax.tyRef Syntax.erased Syntax.imm OfStation.named) 5, Path'.refl, ((OfPanelRecord.yields 𝓤 H A W, Path'.refl), ((Yields.yields-copy 𝓤 H A W (λ ρ. Unit) (Declared'.row Parameters.the-type) Path'.refl (Copies.cStruct Parameters.the-type Laws''.the-laws Laws''.the-copy .copy 𝓤 H A W) (Rows'.whole (Declared'.row Parameters.the-type)) (λ x. x) (λ x. x) (λ ρ told. Local.mem-whole 𝓤 H A W (Declared'.row Parameters.the-type) ρ) λ ρ told. Local.whole-mem 𝓤 H A W (Declared'.row Parameters.the-type) ρ, Path'.refl), tt)))) (Reads.room-gone 𝓤 H A Syntax.tyBool) (tt, (tt, tt)) Path'.refl) d55
 
           d57 : Typed.Typed 𝓤 H A 𝓣 E G9 b39 Δ0 at57
           d57 = Typed.s-seq 𝓤 H A W 𝓣 E G9 G10 b5 b38 Δ0 (Typed.ask s8) at56 (Relend.t-sl-aggregate 𝓤 H A W E (OfStation.row) 𝓣 (Relend.asShr (OfStation.row)) G9 11 12 5 (Syntax.tyRef Syntax.erased Syntax.imm OfStation.named) (Syntax.tyRef Syntax.erased Syntax.imm OfStation.named) (λ x. x) (Scalar.oFld 2 (List._∷_ (Syntax.field 1) List.[]) (Syntax.tyInt Syntax.w64) 8 λ v. Shared.lenV (v .0)) (Reads.as-is 𝓤 H A (Relend.ssptr (OfStation.row) (Syntax.tyRef Syntax.erased Syntax.imm OfStation.named) 5)) (Reads.room-gone 𝓤 H A (Syntax.tyStruct (List._∷_ 38 (List._∷_ 91 (List._∷_ 93 List.[]))) (Syntax.tcons (Syntax.tyRef Syntax.erased Syntax.imm OfStation.named) (Syntax.tcons (Syntax.tyInt Syntax.w64) Syntax.tnil)))) (Reshare.reads-owedS-len 𝓤 H A W (OfStation.row) (Syntax.tyRef (Syntax.named 1) Syntax.mut OfStation.named) 1 5 (Row.lease (κs .1 .0) (qs .1 .0)) 8 Path'.refl, Path'.refl) Path'.refl Path'.refl λ b o k. tt) d56
@@ -1308,7 +1308,7 @@ module _ (claims· : Claims) where
           d62 = Typed.g-pre 𝓤 H A W 𝓣 E G4 G5 b42 Δ0 (λ Ψ. Ψ) at61 (Lifetime.g-begin 𝓤 H A W E G4 4 (tt, (tt, (tt, (tt, (tt, (tt, (tt, (tt, (tt, (tt, (tt, (tt, (tt, (tt, (tt, (tt, (tt, (tt, (tt, (tt, (tt, (tt, (tt, tt)))))))))))))))))))))))) d61
 
           d63 : Typed.Typed 𝓤 H A 𝓣 E G3 b43 Δ0 at63
-          d63 = Typed.s-seq 𝓤 H A W 𝓣 E G3 G4 b1 b42 Δ0 (Typed.both s2) at62 (Plain.t-call-plain 𝓤 H A W 𝓣 0 ps·0 r·0 (claims· .0) (claims· .1) "panel_record::document_01" (known .0) E (λ pos β. β) G3 tt 6 List.[] (Call.sub-id 𝓤 H A W (G3 .slots)) tt (Reads.room-gone 𝓤 H A (Laws'.mir)) tt Path'.refl) d62
+          d63 = Typed.s-seq 𝓤 H A W 𝓣 E G3 G4 b1 b42 Δ0 (Typed.both s2) at62 (Plain.t-call-plain 𝓤 H A W 𝓣 0 ps·0 r·0 (claims· .0) (claims· .1) "panel_record::document_01" (known .0) E (λ pos β. β) G3 tt 6 List.[] (Call.sub-id 𝓤 H A W (G3 .slots)) tt (Reads.room-gone 𝓤 H A (Laws''.mir)) tt Path'.refl) d62
 
           d64 : Typed.Typed 𝓤 H A 𝓣 E G2 b44 Δ0 at64
           d64 = Typed.s-seq 𝓤 H A W 𝓣 E G2 G3 b0 b43 Δ0 (Typed.give s1) at63 (DerefMove.t-ref-read-copy 𝓤 H A W E 𝓣 (λ ρ. Unit) G2 3 5 2 (OfPanelRecord.row) (Syntax.tyRef (Syntax.named 2) Syntax.mut OfPanelRecord.named) OfPanelRecord.spelt OfPanelRecord.spelt (Row.lease (κs .1 .1 .0) (qs .1 .1 .0)) (λ x. x) (OfPanelRecord.held) (λ x. x) (λ x. Unit) Path'.refl Path'.refl Path'.refl (OfPanelRecord.copies .copy 𝓤 H A W) (DerefMove.learns-nothing 𝓤 H A (OfPanelRecord.row)) (Own.told-none 𝓤 H A (G2 .slots)) (Reads.as-is 𝓤 H A (Rows'.mref (OfPanelRecord.row) (Syntax.tyRef (Syntax.named 2) Syntax.mut OfPanelRecord.named) 2)) (Reads.room-gone 𝓤 H A OfPanelRecord.spelt) (Yields.makes-mem 𝓤 H A W (λ ρ. Unit) (OfPanelRecord.row) Path'.refl (OfPanelRecord.held) (λ x. x) λ ρ told. OfPanelRecord.of-mem 𝓤 H A W ρ) Path'.refl tt Path'.refl Path'.refl) d63
