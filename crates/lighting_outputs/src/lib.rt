@@ -170,7 +170,8 @@ pub enum Answer {
     Refused(u8),
 }
 
-// The set of parameters that a panel is made with. Which numbers it may have, the definitions say (`startable` of specs/Paper/Startable.antt).
+// The set of parameters that a panel is made with. Which numbers it may have, the definitions say (`startable`
+// of specs/Paper/Startable.antt).
 pub struct Parameters {
     // How many station records there are, and the most outputs
     pub stations: u32,

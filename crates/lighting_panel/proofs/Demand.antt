@@ -43,8 +43,9 @@ startStep-fresh p e h =
     never : Refused 1 ≡ Done → ⊥
     never z = let k : _≡_ {A = ℕ} 0 1 = cc in omega arith
 
--- For EVERY set of parameters that a panel may have, EVERY lent table e on which the start answered Done, EVERY list l of strings of bytes, and EVERY list l′ in which frames of l come
--- again, anywhere later and any number of times
+-- For EVERY set of parameters that a panel may have, EVERY lent table e on which the start answered Done,
+-- EVERY list l of strings of bytes, and EVERY list l′ in which frames of l come again, anywhere later and any
+-- number of times
 pub demand-3 : (p : Parameters) → startable p ≡ true → (e : Panel) (l l′ : List Bytes) (r : Again [] l l′) → Strings l → startStep p e .answer ≡ Done → Demand p e l l′ r
 demand-3 p allowed e l l′ r s h =
     let c = length (e .outputs) in

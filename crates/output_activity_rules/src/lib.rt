@@ -16,7 +16,8 @@ const SLOT_7: u32 = 6;
 
 const LAST_SLOT: u32 = 15;
 
-// Its end is after panel time t, what is left of it is no longer than it lasts, and it lasts 1 ms to the longest that a movement may last.
+// Its end is after panel time t, what is left of it is no longer than it lasts, and it lasts 1 ms to the longest
+// that a movement may last.
 fn span_sound(parameters: Parameters, t: u64, m: Movement) -> bool
     ensures { λ r. ⌜ r ≡ spanSound parameters t m ⌝ }
 {

@@ -79,9 +79,10 @@ fn is_judged(v: u32, relay: Relay) -> bool
     }
 }
 
-// Every lent record is tested at every frame, so the rules stand here in fewer comparisons than in the definition (proofs/Fewer.antt): where the inactive
-// value is below the active one, the active one is above 0, and the inactive one below 100 percent if the active one is at most that. No number of the set of
-// parameters plays a part.
+// Every lent record is tested at every frame, so the rules stand here in fewer comparisons than in the definition
+// (proofs/Fewer.antt): where the inactive value is below the active one, the active one is above 0, and the
+// inactive one below 100 percent if the active one is at most that. No number of the set of parameters plays a
+// part.
 pub fn relay_sound(v: u32, relay: Relay) -> bool
     ensures { λ r. ⌜ ((p : Parameters) → r ≡ relaySound p v relay) ⌝ }
 {

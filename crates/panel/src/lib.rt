@@ -1,12 +1,10 @@
-// The panel over what a caller lends: two tables, outputs and station records, and beside them the panel's own record, which has the panel
-// time. The two public operations ask nothing of what is lent. The contract of each is one equation: what it leaves of every table and its answer are what `startStep` and `frameStep` say.
-ghost use mathlib.Core.List.{map};
+// The panel over what a caller lends: two tables, outputs and station records, and beside them the panel's own
+// record, which has the panel time. The two public operations ask nothing of what is lent. The contract of each
+// is one equation: all that it leaves of what is lent, and its answer, are what `startStep` and `frameStep` say.
 ghost use mathlib.Core.Path.{_≡_};
-ghost use Prim.Native.Nat.{_≤_};
 ghost use lib.ListN.{length};
 ghost use Rattle.lighting_outputs.specs.Paper.Parameters.{document01};
-ghost use Rattle.lighting_outputs.specs.Engine.Advance.{greatestCount, advance};
-ghost use Rattle.lighting_panel.specs.Engine.VerdictPrecondition.{Arrival, VerdictPrecondition};
+ghost use Rattle.lighting_panel.specs.Engine.VerdictPrecondition.{Standing, Arrival, VerdictPrecondition};
 ghost use Rattle.lighting_panel.specs.Paper.Panel.{panelOf, result, panelSound, startStep};
 ghost use Rattle.lighting_panel.specs.Engine.Executing.{execute, frameStep};
 use lighting_frames::Call;
@@ -43,7 +41,7 @@ fn arrive(
     bytes: &[u8],
     call: Call,
 ) -> Answer
-    requires { ⌜ (now kept .time ≤ greatestCount → map (advance (now kept .time) (now kept .time)) (now outputs) ≡ now outputs) ⌝ }
+    requires { ⌜ Standing (now kept .time) (now outputs) ⌝ }
     requires { ⌜ Arrival (now kept .time) (length (now outputs)) (length (now stations)) (now bytes) call ⌝ }
     ensures { λ a. ⌜ result (panelOf (now (outputs .exit)) (now (stations .exit)) (now (kept .exit))) a ≡ execute (now (bytes .entry)) (panelOf (now (outputs .entry)) (now (stations .entry)) (now (kept .entry))) (Verdict.Arrives call) ⌝ }
 {
@@ -69,7 +67,7 @@ fn execute(
     bytes: &[u8],
     v: Verdict,
 ) -> Answer
-    requires { ⌜ (now kept .time ≤ greatestCount → map (advance (now kept .time) (now kept .time)) (now outputs) ≡ now outputs) ⌝ }
+    requires { ⌜ Standing (now kept .time) (now outputs) ⌝ }
     requires { ⌜ VerdictPrecondition (now kept .time) (length (now outputs)) (length (now stations)) (now bytes) v ⌝ }
     ensures { λ a. ⌜ result (panelOf (now (outputs .exit)) (now (stations .exit)) (now (kept .exit))) a ≡ execute (now (bytes .entry)) (panelOf (now (outputs .entry)) (now (stations .entry)) (now (kept .entry))) v ⌝ }
 {

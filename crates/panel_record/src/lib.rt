@@ -1,4 +1,5 @@
-// The panel's own record, which is lent beside its two tables, by value; and the set of parameters, which the whole panel takes from here.
+// The panel's own record, which is lent beside its two tables, by value; and the set of parameters, which the
+// whole panel takes from here.
 ghost use mathlib.Core.Path.{_≡_};
 ghost use Rattle.lighting_outputs.specs.Paper.Parameters.{document01};
 ghost use Rattle.lighting_panel.specs.Paper.Panel.{freshRecord, withTime};

@@ -8,11 +8,12 @@ ghost use lib.ListN.{length, replicate, set, getD};
 ghost use Rattle.lighting_outputs.specs.Paper.Startable.{startable};
 ghost use Rattle.lighting_outputs.specs.Paper.Fresh.{freshFor, freshOutput};
 ghost use Rattle.lighting_frames.specs.Paper.Stations.{freshStation, stationSound};
-ghost use Rattle.lighting_outputs.specs.Engine.Advance.{greatestCount, advance};
+ghost use Rattle.lighting_outputs.specs.Engine.Advance.{advance};
 ghost use Rattle.lighting_outputs.specs.Paper.Rules.{sound};
 ghost use Rattle.lighting_outputs.specs.Paper.Acting.{served};
 ghost use Rattle.lighting_levels.specs.Paper.Choice.{every};
 ghost use Rattle.lighting_panel.specs.Paper.Panel.{panelOf};
+ghost use Rattle.lighting_panel.specs.Engine.VerdictPrecondition.{Standing};
 ghost use Rattle.lighting_panel.specs.Engine.Judging.{decide};
 use lighting_frames::Station;
 use lighting_frames::Verdict;
@@ -111,7 +112,7 @@ fn advance_output(outputs: &mut [Output], i: usize, from: u64, to: u64)
 
 // Brings every output to a moment. While time stands nothing falls due, and no record is written.
 pub fn advance_outputs(outputs: &mut [Output], from: u64, to: u64)
-    requires { ⌜ (from ≤ greatestCount → map (advance from from) (now outputs) ≡ now outputs) ⌝ }
+    requires { ⌜ Standing from (now outputs) ⌝ }
     requires { ⌜ from ≤ to ⌝ }
     ensures { λ _. ⌜ now (outputs .exit) ≡ map (advance from to) (now (outputs .entry)) ⌝ }
 {

@@ -286,7 +286,8 @@ pub in-range : (p : Parameters) (k : Operation) (d : ℕ) → fieldsRefusal p (f
 unfolding commandRequest commandOf commandRequestBy if_then_else_
 in-range p k d e = rw e
 
--- A COMMAND'S DURATION FIELD d, of an output that keeps the rules. 100 to the longest: whatever comes but a command, slot p is empty d ms later
+-- A COMMAND'S DURATION FIELD d, of an output that keeps the rules. 100 to the longest duration: whatever
+-- comes but a command, the slot is empty d ms later
 pub duration-lasts : (p : Parameters) → startable p ≡ true → (t d : ℕ) (o : Output) (k : Operation) → 100 ≤ d → d ≤ p .duration
     → alone t o (commandWithDuration p k (plainDuration d)) .output .timer ≡ Running (o .settings .slot) (t + d)
 unfolding acted served done afterEvents plainDuration commandWithDuration commandLasting within commanded commandedFrom withCommand timed if_then_else_

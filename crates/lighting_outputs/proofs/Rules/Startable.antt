@@ -1,4 +1,4 @@
--- What every theorem that needs it counts on: the numbers of a set that may be started (`startable`), as facts.
+-- The numbers of a set that a panel may have (`startable`) as facts, which theorems count on.
 use mathlib.Core.Path.{_≡_, refl}
 use mathlib.Core.Bool.{true}
 use Rattle.lighting_levels.specs.Paper.Choice.{if_then_else_}

@@ -46,7 +46,8 @@ freshWith fade =
       relay = freshRelay;
     }
 
--- a fresh output of a panel with the set p, and document 01's, which also stands for an output past the end of a table
+-- a fresh output of a panel with the set p; and document 01's, which also stands for an output past the end of
+-- a table
 unfoldable pub freshFor : Parameters → Output
 freshFor p = freshWith (freshFade p)
 

@@ -1,10 +1,10 @@
--- THE SET OF PARAMETERS: the four numbers that a panel is made with, and what follows from them. Which sets a panel may have, Startable.antt says:
--- every definition takes any set.
+-- THE SET OF PARAMETERS: the four numbers that a panel is made with, and what follows from them. Every
+-- definition takes any set; which sets a panel may have, Startable.antt says.
 use Prim.Native.Nat.{ℕ, min, max}
 pub use Rattle.lighting_outputs.specs.declared.Parameters.{Parameters}
 
--- the longest that a movement may last: a fade takes at most the longest fade time, and no ramp more than 800,000 ms (100 percent at 0.125 a
--- second)
+-- the longest that a movement may last: a fade takes at most the longest fade time, and no ramp more than
+-- 800,000 ms (100 percent at 0.125 a second)
 abbrev pub longestMovement : Parameters → ℕ
 longestMovement p = max (p .fade) 800000
 

@@ -13,8 +13,9 @@ use Rattle.lighting_outputs.specs.declared.Property.the-variants.{Relinq
 use Rattle.lighting_outputs.specs.declared.Range.{Range}
 use Rattle.lighting_outputs.specs.declared.Range.the-variants.{Percent, Limit, Amount, Whole, Priority, ReadOnly}
 
--- THE ROWS, with the end of the paper's 'Fade times: 100 to 86,400,000' as a parameter; blink times are 'each up to 86,400,000'; '0B
--- Elapsed_Active_Time, written only with 0'. Those of §3: 'both are in Relinquish_Default's range', 'Polarity (19, 0 normal, 1 reverse)'
+-- THE ROWS. 'Fade times: 100 to 86,400,000' ends at the set's longest fade time; blink times are 'each up to
+-- 86,400,000'; '0B Elapsed_Active_Time, written only with 0'. Those of §3: 'both are in Relinquish_Default's
+-- range', 'Polarity (19, 0 normal, 1 reverse)'
 abbrev pub rowOf : Parameters → Property → Range
 rowOf p RelinquishDefault = Percent
 rowOf p FadeTime = Whole 100 (p .fade)

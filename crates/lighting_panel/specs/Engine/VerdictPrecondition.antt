@@ -1,12 +1,21 @@
--- Not of the paper: what the panel's inner functions ask (`requires`) of a verdict that they carry out. proofs/Carried.antt has that every verdict
--- on a sound panel meets it (`decide-sure`).
+-- Not of the paper: what the panel's inner functions ask (`requires`) of the outputs and of a verdict that they
+-- carry out. proofs/Carried.antt has that a sound panel's outputs meet it (`all-stay`), and every verdict on one
+-- (`decide-sure`).
+use mathlib.Core.Path.{_≡_}
+use mathlib.Core.List.{List, map}
 use Prim.Native.Nat.{ℕ, _^_, _≤_, _<_}
 use lib.ListN.{length}
 use Rattle.lighting_frames.specs.Paper.Kinds.{longestFrame}
 use Rattle.lighting_frames.specs.Paper.Frames.{Bytes}
+use Rattle.lighting_outputs.specs.Engine.Advance.{greatestCount, advance}
+use Rattle.lighting_outputs.specs.declared.Output.{Output}
 use Rattle.lighting_frames.specs.declared.Call.{Call}
 use Rattle.lighting_frames.specs.declared.Verdict.{Verdict}
 use Rattle.lighting_frames.specs.declared.Verdict.the-variants.{TurnedDown, Copied, Clocked, Arrives}
+
+-- while time stands the outputs stay as they are
+abbrev pub Standing : ℕ → List Output → Type 0
+Standing t outputs = t ≤ greatestCount → map (advance t t) outputs ≡ outputs
 
 -- at panel time `now`, with c outputs and k stations
 pub record Timely (now t : ℕ) : Type 0 where

@@ -16,8 +16,8 @@ use Rattle.lighting_outputs.specs.declared.Answer.the-variants.{Done, Refused}
 pub use Rattle.lighting_frames.specs.declared.Station.{Station}
 pub use Rattle.lighting_panel.specs.declared.PanelRecord.{PanelRecord}
 
--- 'The outputs stand in a lent table [..]; beside it stand eight station records and the panel time'. All that is lent beside the two tables
--- stands in one record
+-- 'The outputs stand in a lent table [..]; beside it stand eight station records and the panel time'. All that
+-- is lent beside the two tables stands in one record, `kept`
 pub record Panel : Type 0 where
   pub outputs : List Output
   pub stations : List Station
