@@ -100,15 +100,10 @@ module _ (p : Parameters) (chosen : Bytes → Bool) where
   strings-sent l s = every-map Octets Octets (sent chosen) l (λ b o. sent-octets b o (sent-as chosen b o)) s
 
   -- For EVERY set of parameters that a panel may have, EVERY lent table e on which the start answered Done,
-<<<<<<< ours
   -- EVERY list l of strings of bytes, and EVERY choice of its commands of which none becomes another frame of
   -- the list
   pub acts-as-plain : startable p ≡ true → (e : Panel) (l : List Bytes) → Strings l → NoneBecomesAnother chosen l → startStep p e .answer ≡ Done
       → ActsAsPlain p e l chosen
-=======
-  -- EVERY list l of strings of bytes without kind 1B, and EVERY choice of its commands
-  pub acts-as-plain : startable p ≡ true → (e : Panel) (l : List Bytes) → Strings l → NoneTagged l → startStep p e .answer ≡ Done → ActsAsPlain p e l chosen
->>>>>>> theirs
   acts-as-plain allowed e l s n h =
       let l′ = map (sent chosen) l in
       let plain = demand-3 p allowed e l l (once [] l) s h in

@@ -89,6 +89,7 @@ the suite's name and i alone, so a new suite moves no row of an older one.
             subject = spoilt.subject;
             row = 1;
             let (_, name) = subject.split_once('-').unwrap_or(("", subject));
+            let name = name.replacen('-', ": ", 1);
             text += &format!(
                 "## {}{}\n\n| | the panel | the paper | {} |\n|---|---|---|---|\n",
                 name[..1].to_uppercase(),
