@@ -78,4 +78,28 @@ unfolding acted
 returns-6 c = search (needs, acted-on, ← c .before .command .ensures)
 
 pub act-spec : {M : Type 1} → statement M
-act-spec = tie.close (tie.spec enum-known-q unchanged-requires enum-known-q-2 write-requires done-requires enum-known-q-3 relinquish-slot-requires done-requires-2 enum-known-q-4 change-requires enum-known-q-5 read-property-requires unchanged-requires-2 enum-known-q-6 command-requires done-requires-3 returns returns-2 returns-3 returns-4 returns-5 returns-6)
+act-spec =
+    tie.close
+    (tie.spec
+    enum-known-q
+    unchanged-requires
+    enum-known-q-2
+    write-requires
+    done-requires
+    enum-known-q-3
+    relinquish-slot-requires
+    done-requires-2
+    enum-known-q-4
+    change-requires
+    enum-known-q-5
+    read-property-requires
+    unchanged-requires-2
+    enum-known-q-6
+    command-requires
+    done-requires-3
+    returns
+    returns-2
+    returns-3
+    returns-4
+    returns-5
+    returns-6)

@@ -69,4 +69,18 @@ returns-2 c =
     sym (l .inv .1 ∙ none-live (slotsWith (l .left) (c .before .before .before .args .s .levels)) (omega (arith, c .loop-test .left)))
 
 pub live-sound-spec : {M : Type 1} → statement M
-live-sound-spec = tie.close (tie.spec Inv-loop μ-loop loop-holds wide-index-requires mul-is-level array-read-is-level is-level-requires returns sub-left loop-less loop-again returns-2)
+live-sound-spec =
+    tie.close
+    (tie.spec
+    Inv-loop
+    μ-loop
+    loop-holds
+    wide-index-requires
+    mul-is-level
+    array-read-is-level
+    is-level-requires
+    returns
+    sub-left
+    loop-less
+    loop-again
+    returns-2)

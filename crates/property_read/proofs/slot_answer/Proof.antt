@@ -23,4 +23,11 @@ unfolding slotAnswer
 returns-2 c = search (needs, ifs)
 
 pub slot-answer-spec : {M : Type 1} → statement M
-slot-answer-spec = tie.close (tie.spec is-live-requires level-at-requires level-answer-requires returns returns-2)
+slot-answer-spec =
+    tie.close
+    (tie.spec
+    is-live-requires
+    level-at-requires
+    level-answer-requires
+    returns
+    returns-2)

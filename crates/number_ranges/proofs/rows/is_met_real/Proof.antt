@@ -52,4 +52,19 @@ unfolding meetsReal
 returns-6 c = search (needs, ifs, meetsReal-on)
 
 pub is-met-real-spec : {M : Type 1} → statement M
-is-met-real-spec = tie.close (tie.spec enum-told enum-told-2 enum-told-3 is-amount-requires enum-told-4 enum-told-5 enum-told-6 returns returns-2 returns-3 returns-4 returns-5 returns-6)
+is-met-real-spec =
+    tie.close
+    (tie.spec
+    enum-told
+    enum-told-2
+    enum-told-3
+    is-amount-requires
+    enum-told-4
+    enum-told-5
+    enum-told-6
+    returns
+    returns-2
+    returns-3
+    returns-4
+    returns-5
+    returns-6)

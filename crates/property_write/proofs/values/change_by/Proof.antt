@@ -91,4 +91,29 @@ unfolding changeBy
 returns-9 c = search (needs, ifs, changeBy-on)
 
 pub change-by-spec : {M : Type 1} → statement M
-change-by-spec = tie.close (tie.spec enum-told level-of-requires change-to-requires enum-told-2 limit-of-requires change-to-requires-2 enum-told-3 is-amount-pattern-requires enum-known-row is-within-requires enum-told-4 is-priority-requires sub-t15 enum-told-5 returns returns-2 returns-3 returns-4 returns-5 returns-6 returns-7 returns-8 returns-9)
+change-by-spec =
+    tie.close
+    (tie.spec
+    enum-told
+    level-of-requires
+    change-to-requires
+    enum-told-2
+    limit-of-requires
+    change-to-requires-2
+    enum-told-3
+    is-amount-pattern-requires
+    enum-known-row
+    is-within-requires
+    enum-told-4
+    is-priority-requires
+    sub-t15
+    enum-told-5
+    returns
+    returns-2
+    returns-3
+    returns-4
+    returns-5
+    returns-6
+    returns-7
+    returns-8
+    returns-9)
