@@ -1,34 +1,43 @@
 #!/usr/bin/env python3
 """draft.py: the proof files of functions, from what people answer and a rule for the rest.
 
-To prove a function is to answer its needs, one for each call, index, sum, .. and return of its code. Rattle lists them; most answers are alike.
-This tool writes the list, proofs/F/Proof.antt, whole. What people have to say of F stands beside it, in proofs/F/answers.txt; where the rule
-answers every need there is no such file. The first line of a Proof.antt says which. The prover checks every line, whoever wrote it.
-(Only functions over lent tables have a Proof.antt that people write: tools/twin.py.)
+To prove a function is to answer its needs, one for each call, index, sum and return of its code. Rattle lists
+them; most answers are alike. This tool writes the list, proofs/F/Proof.antt, whole. What people have to say of F
+stands beside it, in proofs/F/answers.txt; where the rule answers every need there is no such file. The first line
+of a Proof.antt says which. The prover checks every line, whoever wrote it. (Only functions over lent tables have
+a Proof.antt that people write: tools/twin.py.)
 
-    draft.py NAME ..          asks Rattle for the needs of each function (`rt dev`), and writes the proof files of a crate anew
-    draft.py --anew           writes all proof files anew from the needs that stand in them: after an edit of an answers.txt alone
-    draft.py NAME .. --take   makes answers.txt out of each Proof.antt that people wrote whole, and writes that anew
+    draft.py NAME ..            asks Rattle for the needs of each function (`rt dev`), and writes the proof files
+                                of the crate anew
+    draft.py [NAME ..] --anew   writes them from the needs that stand in them: after an edit of answers alone
+    draft.py NAME .. --take     makes answers.txt out of each Proof.antt that people wrote whole, and writes that
+                                anew (tools/taken.py)
     draft.py NAME .. --replace  tries the rule in place of each answers.txt, and keeps it where the prover takes it
-    draft.py --attributes     writes .gitattributes: what tools made is marked as generated
-    draft.py --check          fails where a proof file is not what its answers and the rule give for the needs that stand in it, where an answer
-                              is to no need, where a Proof.antt has no mark, or where .gitattributes is stale
-    draft.py --count          how many files and lines are made, and how many people wrote
+    draft.py --attributes       writes .gitattributes: what tools made is marked as generated
+    draft.py --check            fails where a proof file is not what its answers and the rule give for the needs
+                                that stand in it, where an answer is to no need, where answers are what the rule
+                                gives, where a Proof.antt has no mark, or where .gitattributes is stale
+    draft.py --count            how many files and lines are made, and how many people wrote
 
-The rule. A need that is no return: `search needs`. A return: where the function returns once and calls others, it composes: `simp` with the
-callees' facts from the last call back; else it chooses: `search (needs, ifs)`, with the law of the definition where that goes by clauses
-(tools/laws.py). Where the contract is no such equation: `search needs`.
+The rule. A need that is no return: `search needs`. A return: where the function returns once and calls others, it
+composes: `simp` with the callees' facts from the last call back; else it chooses: `search (needs, ifs)`, with the
+law of the definition where that goes by clauses (tools/laws.py). Where the contract is no such equation:
+`search needs`.
 
-The answers. First `use` lines: those of `needs`, of the statement and of the needs' types are written by the tool. Then blocks with a blank line
-between them. A block that begins `NEED c =` or `NEED c κs =`, perhaps below comments and a line `unfolding ..`, is the answer to a need; its type is
-written by the tool. Any other is a law or a definition of people's, an invariant for instance, and is put in before the answer that follows it.
+The answers. First `use` lines: those of `needs`, of the statement and of the needs' types are written by the tool.
+Then blocks with a blank line between them. A block that begins `NEED c =` or `NEED c κs =`, perhaps below comments
+and a line `unfolding ..`, is the answer to a need; its type is written by the tool. Any other block is a law or a
+definition of people's, an invariant for instance, and is put in before the answer that follows it.
 
     returns-3        the third of the needs called returns; the first is `returns`
     returns-3..5     the third to the fifth, each by the same answer
     returns-last     the last of them; `returns-last-1` is the one before it
     returns*         each of them that has no answer of its own
-    @name            in an answer: the place of that name before the need, with its path: `@put-all .ensures` is `c .before .before .put-all .ensures`
-    ← earlier-calls  in a list of equations: what the calls before the last one ensure, from the last back, each from right to left"""
+    @name            in an answer: the place of that name before the need, with the way to it: `@put-all .ensures`
+                     is `c .before .before .put-all .ensures`
+    ← earlier-calls  in a list of equations: what the calls before the last one ensure, from the last back, each
+                     from right to left"""
+import functools
 import glob
 import os
 import re
@@ -72,15 +81,26 @@ def module(crate, path):
     return 'Rattle.%s.%s' % (parts[0] + ('·proofs' if parts[0] == crate else ''), '.'.join(parts[1:]))
 
 
+def crates_for(name):
+    """The crates that a crate needs, those that it names first, and itself."""
+    found = list(DEPENDS.get(name, []))
+    for other in found:
+        found += [one for one in DEPENDS.get(other, []) if one not in found]
+    return found + [name]
+
+
+@functools.lru_cache(maxsize=None)
 def heads(name):
     """Each function of a crate: its module, its name, its clauses, its body."""
+    found = []
     for path in glob.glob('crates/%s/src/*.rt' % name):
         source = re.sub(r'//.*', '', read(path))
         starts = [m.start() for m in re.finditer(r'\bfn \w+\s*\(', source)] + [len(source)]
         for start, end in zip(starts, starts[1:]):
             body = source.find('\n{', start, end)
             clauses = re.findall(r'ensures(?: \w+)? \{ λ \w+\. ⌜ (.*?) ⌝ \}', source[start:body], re.S)
-            yield os.path.basename(path)[:-3], re.match(r'fn (\w+)', source[start:]).group(1), clauses, source[body:end]
+            found.append((os.path.basename(path)[:-3], re.match(r'fn (\w+)', source[start:]).group(1), clauses, source[body:end]))
+    return found
 
 
 class Crate:
@@ -111,13 +131,12 @@ class Crate:
             equation = re.match(r'\w+ ≡ (\w+)', clauses[0]) if len(clauses) == 1 else None
             self.defined[(here, function)] = equation.group(1) if equation else None
             self.bodies[(here, function)] = body
-        known = DEPENDS.get(name, []) + [name]
-        for other in known:
+        for other in crates_for(name):
             self.several.update((other, function) for _, function, clauses, _ in heads(other) if len(clauses) > 1)
             for path in glob.glob('crates/%s/proofs/**/Laws.antt' % other, recursive=True):
                 for law in re.findall(r'^pub (\w+)-on :', read(path), re.M):
                     self.laws[law] = module(name, path)
-        self.choosing = [module(name, path) for other in known
+        self.choosing = [module(name, path) for other in crates_for(name)
                          for path in glob.glob('crates/%s/proofs/**/Choosing.antt' % other, recursive=True)]
 
 
@@ -351,8 +370,11 @@ def made(crate, path, needs, answers):
     for need in needs.needs:
         tell(need)
     tell_laws(len(blocks))
-    spec = function.replace('_', '-') + '-spec'
-    text.append('pub %s : {M : Type 1} → statement M\n%s = tie.close (tie.spec %s)' % (spec, spec, ' '.join(needs.leading + [n.name for n in needs.needs])))
+    spec, all_ = function.replace('_', '-') + '-spec', needs.leading + [n.name for n in needs.needs]
+    closed = '%s = tie.close (tie.spec %s)' % (spec, ' '.join(all_))
+    if len(closed) > 110:
+        closed = '%s =\n    tie.close\n    (tie.spec\n    %s)' % (spec, '\n    '.join(all_))
+    text.append('pub %s : {M : Type 1} → statement M\n%s' % (spec, closed))
     return '\n\n'.join(['\n'.join(lines)] + text) + '\n'
 
 
@@ -512,6 +534,8 @@ def check():
             except Faults as fault:
                 faults.append(str(fault))
                 continue
+            if answers is not None and taken.is_same(text, made(crate, path, needs, None)):
+                faults.append('%s has answers that the rule gives: remove its %s, and run tools/draft.py --anew' % (path, ANSWERS))
             if not fresh:
                 faults.append('%s is not what %s: run tools/draft.py %s' % (path, 'its answers give' if answers else 'the rule gives', name))
     for fault in faults:

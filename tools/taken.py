@@ -1,4 +1,5 @@
-"""taken.py: what `draft.py NAME --take` does to a Proof.antt that people wrote whole: the answers.txt from which draft.py makes the same text."""
+"""taken.py: what `draft.py NAME --take` does to a Proof.antt that people wrote whole: the answers.txt from which
+draft.py makes the same text."""
 import re
 
 import draft

@@ -31,4 +31,13 @@ unfolding timed
 returns-3 c = search (needs, ifs, timed-on)
 
 pub time-spec : {M : Type 1} → statement M
-time-spec = tie.close (tie.spec enum-known-d running-requires enum-told enum-told-2 returns returns-2 returns-3)
+time-spec =
+    tie.close
+    (tie.spec
+    enum-known-d
+    running-requires
+    enum-told
+    enum-told-2
+    returns
+    returns-2
+    returns-3)

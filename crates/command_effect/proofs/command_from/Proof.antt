@@ -24,4 +24,12 @@ unfolding commandedFrom
 returns c = simp (c .with-command .ensures, c .before .time .ensures, c .before .before .make-effect .ensures, c .before .before .before .without-warning .ensures, c .before .before .before .before .end-warning .ensures)
 
 pub command-from-spec : {M : Type 1} → statement M
-command-from-spec = tie.close (tie.spec end-warning-requires without-warning-requires make-effect-requires time-requires with-command-requires returns)
+command-from-spec =
+    tie.close
+    (tie.spec
+    end-warning-requires
+    without-warning-requires
+    make-effect-requires
+    time-requires
+    with-command-requires
+    returns)

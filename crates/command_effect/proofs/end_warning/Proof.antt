@@ -31,4 +31,13 @@ unfolding withoutWarning
 returns-3 c = search (needs, ifs, withoutWarning-on)
 
 pub end-warning-spec : {M : Type 1} → statement M
-end-warning-spec = tie.close (tie.spec enum-told enum-told-2 enum-told-3 empty-requires returns returns-2 returns-3)
+end-warning-spec =
+    tie.close
+    (tie.spec
+    enum-told
+    enum-told-2
+    enum-told-3
+    empty-requires
+    returns
+    returns-2
+    returns-3)

@@ -117,4 +117,39 @@ unfolding effect
 returns-11 c = search (needs, ifs, effect-on)
 
 pub make-effect-spec : {M : Type 1} → statement M
-make-effect-spec = tie.close (tie.spec enum-told stop-requires enum-known-k fade-to-requires enum-known-k-2 fade-to-requires-2 enum-known-k-3 ramp-to-requires enum-known-k-4 ramp-to-requires-2 enum-told-2 step-up-requires enum-told-3 step-down-requires enum-known-k-5 step-up-requires-2 enum-known-k-6 step-down-requires-2 enum-known-k-7 go-to-requires enum-told-4 relinquish-requires returns returns-2 returns-3 returns-4 returns-5 returns-6 returns-7 returns-8 returns-9 returns-10 returns-11)
+make-effect-spec =
+    tie.close
+    (tie.spec
+    enum-told
+    stop-requires
+    enum-known-k
+    fade-to-requires
+    enum-known-k-2
+    fade-to-requires-2
+    enum-known-k-3
+    ramp-to-requires
+    enum-known-k-4
+    ramp-to-requires-2
+    enum-told-2
+    step-up-requires
+    enum-told-3
+    step-down-requires
+    enum-known-k-5
+    step-up-requires-2
+    enum-known-k-6
+    step-down-requires-2
+    enum-known-k-7
+    go-to-requires
+    enum-told-4
+    relinquish-requires
+    returns
+    returns-2
+    returns-3
+    returns-4
+    returns-5
+    returns-6
+    returns-7
+    returns-8
+    returns-9
+    returns-10
+    returns-11)

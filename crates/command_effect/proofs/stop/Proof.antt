@@ -42,4 +42,14 @@ unfolding stopped
 returns-4 c = search (needs, ifs, stopped-on, same-effect)
 
 pub stop-spec : {M : Type 1} → statement M
-stop-spec = tie.close (tie.spec enum-told enum-known-a halt-requires enum-told-2 returns returns-2 returns-3 returns-4)
+stop-spec =
+    tie.close
+    (tie.spec
+    enum-told
+    enum-known-a
+    halt-requires
+    enum-told-2
+    returns
+    returns-2
+    returns-3
+    returns-4)

@@ -21,4 +21,11 @@ unfolding rampedAt
 returns c = simp (c .place .ensures, c .before .begin .ensures, c .before .before .ramp-length .ensures, c .before .before .before .distance .ensures)
 
 pub ramp-at-spec : {M : Type 1} → statement M
-ramp-at-spec = tie.close (tie.spec distance-requires ramp-length-requires begin-requires place-requires returns)
+ramp-at-spec =
+    tie.close
+    (tie.spec
+    distance-requires
+    ramp-length-requires
+    begin-requires
+    place-requires
+    returns)

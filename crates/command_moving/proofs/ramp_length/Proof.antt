@@ -37,4 +37,13 @@ unfolding rampLength
 returns c = search needs
 
 pub ramp-length-spec : {M : Type 1} → statement M
-ramp-length-spec = tie.close (tie.spec mul-result sub-result cast-result add-result div-result cast-result-2 returns)
+ramp-length-spec =
+    tie.close
+    (tie.spec
+    mul-result
+    sub-result
+    cast-result
+    add-result
+    div-result
+    cast-result-2
+    returns)

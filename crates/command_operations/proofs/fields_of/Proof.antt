@@ -111,4 +111,37 @@ unfolding fieldsOf
 returns-11 c = search (needs, ifs, fieldsOf-on)
 
 pub fields-of-spec : {M : Type 1} → statement M
-fields-of-spec = tie.close (tie.spec enum-told no-fields-requires enum-known-k level-alone-requires enum-known-k-2 enum-known-k-3 level-alone-requires-2 enum-known-k-4 enum-told-2 no-fields-requires-2 enum-told-3 no-fields-requires-3 enum-known-k-5 step-alone-requires enum-known-k-6 step-alone-requires-2 enum-known-k-7 level-alone-requires-3 enum-told-4 no-fields-requires-4 returns returns-2 returns-3 returns-4 returns-5 returns-6 returns-7 returns-8 returns-9 returns-10 returns-11)
+fields-of-spec =
+    tie.close
+    (tie.spec
+    enum-told
+    no-fields-requires
+    enum-known-k
+    level-alone-requires
+    enum-known-k-2
+    enum-known-k-3
+    level-alone-requires-2
+    enum-known-k-4
+    enum-told-2
+    no-fields-requires-2
+    enum-told-3
+    no-fields-requires-3
+    enum-known-k-5
+    step-alone-requires
+    enum-known-k-6
+    step-alone-requires-2
+    enum-known-k-7
+    level-alone-requires-3
+    enum-told-4
+    no-fields-requires-4
+    returns
+    returns-2
+    returns-3
+    returns-4
+    returns-5
+    returns-6
+    returns-7
+    returns-8
+    returns-9
+    returns-10
+    returns-11)

@@ -27,4 +27,12 @@ unfolding amountFieldRefusal
 returns-2 c = search (needs, ifs, amountFieldRefusal-on)
 
 pub amount-field-refusal-spec : {M : Type 1} → statement M
-amount-field-refusal-spec = tie.close (tie.spec enum-known-x amount-of-real-requires level-refusal-requires enum-told returns returns-2)
+amount-field-refusal-spec =
+    tie.close
+    (tie.spec
+    enum-known-x
+    amount-of-real-requires
+    level-refusal-requires
+    enum-told
+    returns
+    returns-2)

@@ -18,4 +18,10 @@ unfolding commandOf
 returns c = simp (c .command-request-by .ensures, c .before .fields-refusal .ensures, c .before .before .fields-of .ensures)
 
 pub command-of-spec : {M : Type 1} → statement M
-command-of-spec = tie.close (tie.spec fields-of-requires fields-refusal-requires command-request-by-requires returns)
+command-of-spec =
+    tie.close
+    (tie.spec
+    fields-of-requires
+    fields-refusal-requires
+    command-request-by-requires
+    returns)

@@ -24,4 +24,11 @@ unfolding commandWithDuration
 returns-2 c = search (needs, ifs, commandWithDuration-on)
 
 pub command-with-duration-spec : {M : Type 1} → statement M
-command-with-duration-spec = tie.close (tie.spec enum-known-duration command-lasting-requires enum-told returns returns-2)
+command-with-duration-spec =
+    tie.close
+    (tie.spec
+    enum-known-duration
+    command-lasting-requires
+    enum-told
+    returns
+    returns-2)

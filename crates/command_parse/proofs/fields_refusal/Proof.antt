@@ -30,4 +30,14 @@ unfolding fieldsRefusal
 returns c = simp (c .first-refusal3 .ensures, c .before .first-refusal2 .ensures, c .before .before .first-refusal .ensures, c .before .before .before .time-field-refusal .ensures, c .before .before .before .before .amount-field-refusal2 .ensures, c .before .before .before .before .before .amount-field-refusal .ensures, c .before .before .before .before .before .before .level-field-refusal .ensures)
 
 pub fields-refusal-spec : {M : Type 1} → statement M
-fields-refusal-spec = tie.close (tie.spec level-field-refusal-requires amount-field-refusal-requires amount-field-refusal-requires-2 time-field-refusal-requires first-refusal-requires first-refusal-requires-2 first-refusal-requires-3 returns)
+fields-refusal-spec =
+    tie.close
+    (tie.spec
+    level-field-refusal-requires
+    amount-field-refusal-requires
+    amount-field-refusal-requires-2
+    time-field-refusal-requires
+    first-refusal-requires
+    first-refusal-requires-2
+    first-refusal-requires-3
+    returns)

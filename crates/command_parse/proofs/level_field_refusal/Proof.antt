@@ -27,4 +27,12 @@ unfolding levelFieldRefusal
 returns-2 c = search (needs, ifs, levelFieldRefusal-on)
 
 pub level-field-refusal-spec : {M : Type 1} → statement M
-level-field-refusal-spec = tie.close (tie.spec enum-known-x level-of-real-requires level-refusal-requires enum-told returns returns-2)
+level-field-refusal-spec =
+    tie.close
+    (tie.spec
+    enum-known-x
+    level-of-real-requires
+    level-refusal-requires
+    enum-told
+    returns
+    returns-2)

@@ -24,4 +24,11 @@ unfolding taggedRequest
 returns-2 c = search (needs, ifs, taggedRequest-on)
 
 pub tagged-request-spec : {M : Type 1} → statement M
-tagged-request-spec = tie.close (tie.spec enum-known-reading enum-known-reading-2 command-of-requires returns returns-2)
+tagged-request-spec =
+    tie.close
+    (tie.spec
+    enum-known-reading
+    enum-known-reading-2
+    command-of-requires
+    returns
+    returns-2)

@@ -28,4 +28,12 @@ unfolding timeFieldRefusal
 returns-3 c = search (needs, ifs, timeFieldRefusal-on)
 
 pub time-field-refusal-spec : {M : Type 1} → statement M
-time-field-refusal-spec = tie.close (tie.spec enum-known-x is-fade-time-requires enum-told returns returns-2 returns-3)
+time-field-refusal-spec =
+    tie.close
+    (tie.spec
+    enum-known-x
+    is-fade-time-requires
+    enum-told
+    returns
+    returns-2
+    returns-3)

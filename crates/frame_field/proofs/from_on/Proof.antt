@@ -30,4 +30,12 @@ returns-2 : tie.Need-returns-2
 returns-2 c = sym (drop-of-length-le _ (c .before .if1 .left))
 
 pub from-on-spec : {M : Type 1} → statement M
-from-on-spec = tie.close (tie.spec sub-result part-result-start part-result-end returns slice-aggregate-result returns-2)
+from-on-spec =
+    tie.close
+    (tie.spec
+    sub-result
+    part-result-start
+    part-result-end
+    returns
+    slice-aggregate-result
+    returns-2)

@@ -39,4 +39,14 @@ returns c =
     )
 
 pub word16-at-spec : {M : Type 1} → statement M
-word16-at-spec = tie.close (tie.spec later-requires byte-at-requires byte-wide-requires mul-result byte-at-requires-2 byte-wide-requires-2 add-result returns)
+word16-at-spec =
+    tie.close
+    (tie.spec
+    later-requires
+    byte-at-requires
+    byte-wide-requires
+    mul-result
+    byte-at-requires-2
+    byte-wide-requires-2
+    add-result
+    returns)

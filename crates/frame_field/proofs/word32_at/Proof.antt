@@ -27,4 +27,12 @@ returns c =
     joined-within (a .s .now) 2 2 (a .at) (l .result) 18446744073709551615 (omega arith) (l .ensures) (c .before .word16-at .ensures .0) (c .word16-at2 .ensures .0)
 
 pub word32-at-spec : {M : Type 1} → statement M
-word32-at-spec = tie.close (tie.spec later-requires word16-at-requires mul-result word16-at-requires-2 add-result returns)
+word32-at-spec =
+    tie.close
+    (tie.spec
+    later-requires
+    word16-at-requires
+    mul-result
+    word16-at-requires-2
+    add-result
+    returns)

@@ -38,4 +38,14 @@ returns c =
     )
 
 pub word48-at-spec : {M : Type 1} → statement M
-word48-at-spec = tie.close (tie.spec later-requires word16-at-requires word-wide-requires mul-result word32-at-requires word-wide-requires-2 add-result returns)
+word48-at-spec =
+    tie.close
+    (tie.spec
+    later-requires
+    word16-at-requires
+    word-wide-requires
+    mul-result
+    word32-at-requires
+    word-wide-requires-2
+    add-result
+    returns)

@@ -95,4 +95,31 @@ unfolding kindRow if_then_else_
 returns-13 c = search (needs, table)
 
 pub command-row-spec : {M : Type 1} → statement M
-command-row-spec = tie.close (tie.spec call-row-requires call-row-requires-2 call-row-requires-3 call-row-requires-4 call-row-requires-5 call-row-requires-6 call-row-requires-7 call-row-requires-8 call-row-requires-9 call-row-requires-10 call-row-requires-11 call-row-requires-12 returns returns-2 returns-3 returns-4 returns-5 returns-6 returns-7 returns-8 returns-9 returns-10 returns-11 returns-12 returns-13)
+command-row-spec =
+    tie.close
+    (tie.spec
+    call-row-requires
+    call-row-requires-2
+    call-row-requires-3
+    call-row-requires-4
+    call-row-requires-5
+    call-row-requires-6
+    call-row-requires-7
+    call-row-requires-8
+    call-row-requires-9
+    call-row-requires-10
+    call-row-requires-11
+    call-row-requires-12
+    returns
+    returns-2
+    returns-3
+    returns-4
+    returns-5
+    returns-6
+    returns-7
+    returns-8
+    returns-9
+    returns-10
+    returns-11
+    returns-12
+    returns-13)

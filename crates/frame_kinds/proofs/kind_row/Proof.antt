@@ -26,4 +26,13 @@ returns-5 : tie.Need-returns-5
 returns-5 c = search (needs, table)
 
 pub kind-row-spec : {M : Type 1} → statement M
-kind-row-spec = tie.close (tie.spec plain-row-requires command-row-requires returns returns-2 returns-3 returns-4 returns-5)
+kind-row-spec =
+    tie.close
+    (tie.spec
+    plain-row-requires
+    command-row-requires
+    returns
+    returns-2
+    returns-3
+    returns-4
+    returns-5)

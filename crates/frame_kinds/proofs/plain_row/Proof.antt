@@ -43,4 +43,16 @@ unfolding kindRow if_then_else_
 returns-6 c = search (needs, table)
 
 pub plain-row-spec : {M : Type 1} → statement M
-plain-row-spec = tie.close (tie.spec call-row-requires call-row-requires-2 call-row-requires-3 call-row-requires-4 returns returns-2 returns-3 returns-4 returns-5 returns-6)
+plain-row-spec =
+    tie.close
+    (tie.spec
+    call-row-requires
+    call-row-requires-2
+    call-row-requires-3
+    call-row-requires-4
+    returns
+    returns-2
+    returns-3
+    returns-4
+    returns-5
+    returns-6)

@@ -24,4 +24,12 @@ unfolding callOf
 returns c = simp (c .request-of .ensures, c .before .byte-at2 .ensures, c .before .before .word48-at .ensures .0, c .before .before .before .word32-at .ensures, c .before .before .before .before .byte-at .ensures)
 
 pub call-of-spec : {M : Type 1} → statement M
-call-of-spec = tie.close (tie.spec byte-at-requires word32-at-requires word48-at-requires byte-at-requires-2 request-of-requires returns)
+call-of-spec =
+    tie.close
+    (tie.spec
+    byte-at-requires
+    word32-at-requires
+    word48-at-requires
+    byte-at-requires-2
+    request-of-requires
+    returns)

@@ -45,4 +45,17 @@ unfolding parseBy
 returns-5 c = search (needs, ifs, parseBy-on)
 
 pub parse-by-spec : {M : Type 1} → statement M
-parse-by-spec = tie.close (tie.spec enum-told enum-told-2 clock-of-requires enum-known-kind call-of-requires called-requires returns returns-2 returns-3 returns-4 returns-5)
+parse-by-spec =
+    tie.close
+    (tie.spec
+    enum-told
+    enum-told-2
+    clock-of-requires
+    enum-known-kind
+    call-of-requires
+    called-requires
+    returns
+    returns-2
+    returns-3
+    returns-4
+    returns-5)

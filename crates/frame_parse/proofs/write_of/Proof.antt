@@ -26,4 +26,12 @@ unfolding writeOf
 returns-2 c = search (needs, ifs)
 
 pub write-of-spec : {M : Type 1} → statement M
-write-of-spec = tie.close (tie.spec is-priority-requires slot-of-requires level-of-requires write-level-requires returns returns-2)
+write-of-spec =
+    tie.close
+    (tie.spec
+    is-priority-requires
+    slot-of-requires
+    level-of-requires
+    write-level-requires
+    returns
+    returns-2)

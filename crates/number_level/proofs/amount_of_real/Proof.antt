@@ -51,4 +51,13 @@ unfolding ofBits
 returns-3 c = sym (too-low (c .before .args .x) (c .if1 .left))
 
 pub amount-of-real-spec : {M : Type 1} → statement M
-amount-of-real-spec = tie.close (tie.spec float-to-float-n float-to-int-n rounded-requires cast-t8 returns returns-2 returns-3)
+amount-of-real-spec =
+    tie.close
+    (tie.spec
+    float-to-float-n
+    float-to-int-n
+    rounded-requires
+    cast-t8
+    returns
+    returns-2
+    returns-3)

@@ -24,4 +24,12 @@ unfolding changedUnless
 returns c = simp (c .change-unless .ensures, c .before .inactive-not-below .ensures, c .before .before .relay-with .ensures, c .before .before .before .min-over-max .ensures, c .before .before .before .before .settings-with .ensures)
 
 pub change-spec : {M : Type 1} → statement M
-change-spec = tie.close (tie.spec settings-with-requires min-over-max-requires relay-with-requires inactive-not-below-requires change-unless-requires returns)
+change-spec =
+    tie.close
+    (tie.spec
+    settings-with-requires
+    min-over-max-requires
+    relay-with-requires
+    inactive-not-below-requires
+    change-unless-requires
+    returns)

@@ -30,4 +30,13 @@ unfolding changedUnless
 returns-3 c = search (needs, ifs, ← c .before .change .ensures)
 
 pub change-unless-spec : {M : Type 1} → statement M
-change-unless-spec = tie.close (tie.spec unchanged-requires unchanged-requires-2 change-requires done-requires returns returns-2 returns-3)
+change-unless-spec =
+    tie.close
+    (tie.spec
+    unchanged-requires
+    unchanged-requires-2
+    change-requires
+    done-requires
+    returns
+    returns-2
+    returns-3)

@@ -42,4 +42,16 @@ unfolding activityBy
 returns-5 c = search (needs, ifs, activityBy-on)
 
 pub activity-by-spec : {M : Type 1} → statement M
-activity-by-spec = tie.close (tie.spec enum-told enum-known-a movement-sound-requires enum-known-a-2 warning-sound-requires returns returns-2 returns-3 returns-4 returns-5)
+activity-by-spec =
+    tie.close
+    (tie.spec
+    enum-told
+    enum-known-a
+    movement-sound-requires
+    enum-known-a-2
+    warning-sound-requires
+    returns
+    returns-2
+    returns-3
+    returns-4
+    returns-5)

@@ -32,4 +32,13 @@ unfolding movementSound
 returns-5 c = search (needs, ifs)
 
 pub movement-sound-spec : {M : Type 1} → statement M
-movement-sound-spec = tie.close (tie.spec cast-if2 span-sound-requires returns returns-2 returns-3 returns-4 returns-5)
+movement-sound-spec =
+    tie.close
+    (tie.spec
+    cast-if2
+    span-sound-requires
+    returns
+    returns-2
+    returns-3
+    returns-4
+    returns-5)

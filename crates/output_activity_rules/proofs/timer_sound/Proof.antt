@@ -31,4 +31,13 @@ unfolding timerSound
 returns-3 c = search (needs, ifs, timerSound-on)
 
 pub timer-sound-spec : {M : Type 1} → statement M
-timer-sound-spec = tie.close (tie.spec enum-told enum-known-m cast-is-slot is-slot-requires returns returns-2 returns-3)
+timer-sound-spec =
+    tie.close
+    (tie.spec
+    enum-told
+    enum-known-m
+    cast-is-slot
+    is-slot-requires
+    returns
+    returns-2
+    returns-3)

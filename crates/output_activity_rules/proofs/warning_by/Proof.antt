@@ -31,4 +31,13 @@ unfolding warningBy
 returns-4 c = search (needs, ifs)
 
 pub warning-by-spec : {M : Type 1} → statement M
-warning-by-spec = tie.close (tie.spec cast-is-within is-within-requires is-level-requires returns returns-2 returns-3 returns-4)
+warning-by-spec =
+    tie.close
+    (tie.spec
+    cast-is-within
+    is-within-requires
+    is-level-requires
+    returns
+    returns-2
+    returns-3
+    returns-4)

@@ -31,4 +31,13 @@ unfolding activityDue
 returns-3 c = search (needs, ifs, activityDue-on)
 
 pub activity-due-spec : {M : Type 1} → statement M
-activity-due-spec = tie.close (tie.spec enum-told enum-known-a enum-known-a-2 phase-end-requires returns returns-2 returns-3)
+activity-due-spec =
+    tie.close
+    (tie.spec
+    enum-told
+    enum-known-a
+    enum-known-a-2
+    phase-end-requires
+    returns
+    returns-2
+    returns-3)

@@ -32,4 +32,13 @@ unfolding endMovementOf
 returns-4 c = search (needs, ifs, endMovementOf-on)
 
 pub end-movement-of-spec : {M : Type 1} → statement M
-end-movement-of-spec = tie.close (tie.spec enum-told enum-known-a enum-told-2 returns returns-2 returns-3 returns-4)
+end-movement-of-spec =
+    tie.close
+    (tie.spec
+    enum-told
+    enum-known-a
+    enum-told-2
+    returns
+    returns-2
+    returns-3
+    returns-4)

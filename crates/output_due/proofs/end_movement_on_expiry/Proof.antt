@@ -20,4 +20,10 @@ unfolding endMovementOnExpiry
 returns-2 c = search (needs, ifs)
 
 pub end-movement-on-expiry-spec : {M : Type 1} → statement M
-end-movement-on-expiry-spec = tie.close (tie.spec is-timer-due-requires end-movement-by-requires returns returns-2)
+end-movement-on-expiry-spec =
+    tie.close
+    (tie.spec
+    is-timer-due-requires
+    end-movement-by-requires
+    returns
+    returns-2)

@@ -30,4 +30,14 @@ unfolding fire
 returns c = simp (c .after-events .ensures, c .before .with-due .ensures, c .before .before .timer-at .ensures, c .before .before .before .activity-at .ensures, c .before .before .before .before .slots-at .ensures, c .before .before .before .before .before .expire .ensures, c .before .before .before .before .before .before .end-movement-on-expiry .ensures)
 
 pub fire-at-spec : {M : Type 1} → statement M
-fire-at-spec = tie.close (tie.spec end-movement-on-expiry-requires expire-requires slots-at-requires activity-at-requires timer-at-requires with-due-requires after-events-requires returns)
+fire-at-spec =
+    tie.close
+    (tie.spec
+    end-movement-on-expiry-requires
+    expire-requires
+    slots-at-requires
+    activity-at-requires
+    timer-at-requires
+    with-due-requires
+    after-events-requires
+    returns)

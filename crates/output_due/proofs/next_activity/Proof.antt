@@ -31,4 +31,13 @@ unfolding nextActivity
 returns-3 c = search (needs, ifs, nextActivity-on)
 
 pub next-activity-spec : {M : Type 1} → statement M
-next-activity-spec = tie.close (tie.spec enum-told enum-told-2 enum-known-a next-phase-requires returns returns-2 returns-3)
+next-activity-spec =
+    tie.close
+    (tie.spec
+    enum-told
+    enum-told-2
+    enum-known-a
+    next-phase-requires
+    returns
+    returns-2
+    returns-3)

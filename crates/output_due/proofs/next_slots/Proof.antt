@@ -31,4 +31,13 @@ unfolding nextSlots
 returns-3 c = search (needs, ifs, nextSlots-on)
 
 pub next-slots-spec : {M : Type 1} → statement M
-next-slots-spec = tie.close (tie.spec enum-told enum-told-2 enum-known-a phase-slots-requires returns returns-2 returns-3)
+next-slots-spec =
+    tie.close
+    (tie.spec
+    enum-told
+    enum-told-2
+    enum-known-a
+    phase-slots-requires
+    returns
+    returns-2
+    returns-3)

@@ -34,4 +34,14 @@ unfolding phaseSlots
 returns-3 c = search (needs, ifs, phaseSlots-on)
 
 pub phase-slots-spec : {M : Type 1} → statement M
-phase-slots-spec = tie.close (tie.spec enum-told fill-requires empty-requires enum-told-2 warning-empty-requires returns returns-2 returns-3)
+phase-slots-spec =
+    tie.close
+    (tie.spec
+    enum-told
+    fill-requires
+    empty-requires
+    enum-told-2
+    warning-empty-requires
+    returns
+    returns-2
+    returns-3)

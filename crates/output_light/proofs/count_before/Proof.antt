@@ -27,4 +27,12 @@ unfolding countBefore
 returns-2 c = search (needs, ifs, countBefore-on, ← c .before .since .ensures)
 
 pub count-before-spec : {M : Type 1} → statement M
-count-before-spec = tie.close (tie.spec enum-told enum-known-d since-requires least-requires returns returns-2)
+count-before-spec =
+    tie.close
+    (tie.spec
+    enum-told
+    enum-known-d
+    since-requires
+    least-requires
+    returns
+    returns-2)

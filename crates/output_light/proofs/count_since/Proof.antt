@@ -27,4 +27,12 @@ unfolding countSince
 returns-2 c = search (needs, ifs, countSince-on, ← c .before .since .ensures)
 
 pub count-since-spec : {M : Type 1} → statement M
-count-since-spec = tie.close (tie.spec enum-told enum-known-d since-requires since-requires-2 returns returns-2)
+count-since-spec =
+    tie.close
+    (tie.spec
+    enum-told
+    enum-known-d
+    since-requires
+    since-requires-2
+    returns
+    returns-2)

@@ -23,4 +23,11 @@ returns-2 : tie.Need-returns-2
 returns-2 c = search (needs, gone-first)
 
 pub first-gone-at-spec : {M : Type 1} → statement M
-first-gone-at-spec = tie.close (tie.spec one-less-requires div-moment-after moment-after-requires returns returns-2)
+first-gone-at-spec =
+    tie.close
+    (tie.spec
+    one-less-requires
+    div-moment-after
+    moment-after-requires
+    returns
+    returns-2)

@@ -23,4 +23,11 @@ returns-2 : tie.Need-returns-2
 returns-2 c = search (needs, gone-short)
 
 pub gone-at-spec : {M : Type 1} → statement M
-gone-at-spec = tie.close (tie.spec last-short-requires at-most-requires moment-after-requires returns returns-2)
+gone-at-spec =
+    tie.close
+    (tie.spec
+    last-short-requires
+    at-most-requires
+    moment-after-requires
+    returns
+    returns-2)

@@ -29,4 +29,13 @@ unfolding lastShort
 returns-2 c = simp (c .since .ensures)
 
 pub last-short-spec : {M : Type 1} → statement M
-last-short-spec = tie.close (tie.spec one-less-requires cast-result mul-since since-requires div-result returns returns-2)
+last-short-spec =
+    tie.close
+    (tie.spec
+    one-less-requires
+    cast-result
+    mul-since
+    since-requires
+    div-result
+    returns
+    returns-2)

@@ -31,4 +31,13 @@ unfolding litInMovement
 returns-3 c = search (needs, ifs, litInMovement-on)
 
 pub lit-in-movement-spec : {M : Type 1} → statement M
-lit-in-movement-spec = tie.close (tie.spec enum-told enum-known-a lit-moving-requires enum-told-2 returns returns-2 returns-3)
+lit-in-movement-spec =
+    tie.close
+    (tie.spec
+    enum-told
+    enum-known-a
+    lit-moving-requires
+    enum-told-2
+    returns
+    returns-2
+    returns-3)

@@ -29,4 +29,13 @@ unfolding litMoving litByPace
 returns-2 c = search (needs, litByPace-on)
 
 pub lit-moving-spec : {M : Type 1} → statement M
-lit-moving-spec = tie.close (tie.spec enum-told way-requires lit-at-requires enum-known-p lit-at-requires-2 returns returns-2)
+lit-moving-spec =
+    tie.close
+    (tie.spec
+    enum-told
+    way-requires
+    lit-at-requires
+    enum-known-p
+    lit-at-requires-2
+    returns
+    returns-2)

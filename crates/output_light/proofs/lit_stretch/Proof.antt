@@ -23,4 +23,11 @@ unfolding litStretch
 returns-2 c = search (needs, ifs)
 
 pub lit-stretch-spec : {M : Type 1} → statement M
-lit-stretch-spec = tie.close (tie.spec is-moving-requires lit-in-movement-requires lit-resting-requires returns returns-2)
+lit-stretch-spec =
+    tie.close
+    (tie.spec
+    is-moving-requires
+    lit-in-movement-requires
+    lit-resting-requires
+    returns
+    returns-2)

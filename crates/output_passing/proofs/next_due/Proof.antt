@@ -21,4 +21,11 @@ unfolding due
 returns c = simp (c .sooner2 .ensures, c .before .timer-due .ensures, c .before .before .sooner .ensures, c .before .before .before .activity-due .ensures)
 
 pub next-due-spec : {M : Type 1} → statement M
-next-due-spec = tie.close (tie.spec activity-due-requires sooner-requires timer-due-requires sooner-requires-2 returns)
+next-due-spec =
+    tie.close
+    (tie.spec
+    activity-due-requires
+    sooner-requires
+    timer-due-requires
+    sooner-requires-2
+    returns)

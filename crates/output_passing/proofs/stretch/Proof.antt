@@ -23,4 +23,11 @@ unfolding eventSteps
 returns-2 c = search (needs, ifs, ← c .before .before .since .ensures)
 
 pub stretch-spec : {M : Type 1} → statement M
-stretch-spec = tie.close (tie.spec since-requires with-burned-saturating-requires fire-due-requires returns returns-2)
+stretch-spec =
+    tie.close
+    (tie.spec
+    since-requires
+    with-burned-saturating-requires
+    fire-due-requires
+    returns
+    returns-2)

@@ -19,4 +19,10 @@ unfolding advance eventSteps if_then_else_
 returns c = simp (c .two-event-steps .ensures, c .before .stretch .ensures, c .before .before .next-due .ensures)
 
 pub three-event-steps-spec : {M : Type 1} → statement M
-three-event-steps-spec = tie.close (tie.spec next-due-requires stretch-requires two-event-steps-requires returns)
+three-event-steps-spec =
+    tie.close
+    (tie.spec
+    next-due-requires
+    stretch-requires
+    two-event-steps-requires
+    returns)

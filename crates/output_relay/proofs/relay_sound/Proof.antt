@@ -27,4 +27,13 @@ returns-4 : tie.Need-returns-4
 returns-4 c = search (needs, ifs, fewer)
 
 pub relay-sound-spec : {M : Type 1} → statement M
-relay-sound-spec = tie.close (tie.spec is-within-requires is-low-level-requires is-judged-requires returns returns-2 returns-3 returns-4)
+relay-sound-spec =
+    tie.close
+    (tie.spec
+    is-within-requires
+    is-low-level-requires
+    is-judged-requires
+    returns
+    returns-2
+    returns-3
+    returns-4)

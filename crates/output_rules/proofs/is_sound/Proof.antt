@@ -52,4 +52,18 @@ returns-6 : tie.Need-returns-6
 returns-6 c = search (needs, settings-first)
 
 pub is-sound-spec : {M : Type 1} → statement M
-is-sound-spec = tie.close (tie.spec settings-sound-requires present-value-requires relay-sound-requires timer-sound-requires activity-sound-requires slots-sound-requires returns returns-2 returns-3 returns-4 returns-5 returns-6)
+is-sound-spec =
+    tie.close
+    (tie.spec
+    settings-sound-requires
+    present-value-requires
+    relay-sound-requires
+    timer-sound-requires
+    activity-sound-requires
+    slots-sound-requires
+    returns
+    returns-2
+    returns-3
+    returns-4
+    returns-5
+    returns-6)

@@ -31,4 +31,13 @@ unfolding levelsSound
 returns-4 c = search (needs, ifs)
 
 pub levels-sound-spec : {M : Type 1} → statement M
-levels-sound-spec = tie.close (tie.spec fits-requires fits-requires-2 fits-requires-3 returns returns-2 returns-3 returns-4)
+levels-sound-spec =
+    tie.close
+    (tie.spec
+    fits-requires
+    fits-requires-2
+    fits-requires-3
+    returns
+    returns-2
+    returns-3
+    returns-4)

@@ -37,4 +37,15 @@ unfolding settingsSound
 returns-4 c = search (needs, ifs)
 
 pub settings-sound-spec : {M : Type 1} → statement M
-settings-sound-spec = tie.close (tie.spec levels-sound-requires times-sound-requires reals-sound-requires cast-fits fits-requires returns returns-2 returns-3 returns-4)
+settings-sound-spec =
+    tie.close
+    (tie.spec
+    levels-sound-requires
+    times-sound-requires
+    reals-sound-requires
+    cast-fits
+    fits-requires
+    returns
+    returns-2
+    returns-3
+    returns-4)

@@ -27,4 +27,12 @@ unfolding timesSound
 returns-3 c = search (needs, ifs)
 
 pub times-sound-spec : {M : Type 1} → statement M
-times-sound-spec = tie.close (tie.spec fits-requires fits-requires-2 fits-requires-3 returns returns-2 returns-3)
+times-sound-spec =
+    tie.close
+    (tie.spec
+    fits-requires
+    fits-requires-2
+    fits-requires-3
+    returns
+    returns-2
+    returns-3)

@@ -27,4 +27,12 @@ unfolding distanceMoved
 returns-2 c = search (needs, ifs, distanceMoved-on)
 
 pub distance-moved-spec : {M : Type 1} → statement M
-distance-moved-spec = tie.close (tie.spec enum-told fade-distance-requires enum-known-p ramp-distance-requires returns returns-2)
+distance-moved-spec =
+    tie.close
+    (tie.spec
+    enum-told
+    fade-distance-requires
+    enum-known-p
+    ramp-distance-requires
+    returns
+    returns-2)

@@ -31,4 +31,13 @@ unfolding progressBy
 returns-3 c = search (needs, ifs, progressBy-on)
 
 pub progress-by-spec : {M : Type 1} → statement M
-progress-by-spec = tie.close (tie.spec enum-told enum-known-a reached-requires enum-told-2 returns returns-2 returns-3)
+progress-by-spec =
+    tie.close
+    (tie.spec
+    enum-told
+    enum-known-a
+    reached-requires
+    enum-told-2
+    returns
+    returns-2
+    returns-3)

@@ -39,4 +39,13 @@ unfolding reachedBy
 returns-2 c = search (needs, ifs, ← c .before .distance-moved2 .ensures)
 
 pub reached-by-spec : {M : Type 1} → statement M
-reached-by-spec = tie.close (tie.spec distance-moved-requires add-result sub-distance-moved distance-moved-requires-2 sub-result returns returns-2)
+reached-by-spec =
+    tie.close
+    (tie.spec
+    distance-moved-requires
+    add-result
+    sub-distance-moved
+    distance-moved-requires-2
+    sub-result
+    returns
+    returns-2)

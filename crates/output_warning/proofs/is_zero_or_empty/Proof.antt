@@ -26,4 +26,12 @@ unfolding zeroOrEmpty
 returns-2 c = search (needs, ifs)
 
 pub is-zero-or-empty-spec : {M : Type 1} → statement M
-is-zero-or-empty-spec = tie.close (tie.spec cast-is-live is-live-requires mul-result element-copy-out-result returns returns-2)
+is-zero-or-empty-spec =
+    tie.close
+    (tie.spec
+    cast-is-live
+    is-live-requires
+    mul-result
+    element-copy-out-result
+    returns
+    returns-2)

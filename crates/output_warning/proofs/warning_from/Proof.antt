@@ -30,4 +30,14 @@ unfolding warningFrom
 returns c = simp (c .before .before .before .first-phase .ensures)
 
 pub warning-from-spec : {M : Type 1} → statement M
-warning-from-spec = tie.close (tie.spec first-phase-requires cast-t6 add-t7 cast-t8 add-t9 cast-t10 add-t11 returns)
+warning-from-spec =
+    tie.close
+    (tie.spec
+    first-phase-requires
+    cast-t6
+    add-t7
+    cast-t8
+    add-t9
+    cast-t10
+    add-t11
+    returns)

@@ -32,4 +32,13 @@ unfolding warnsBy
 returns-5 c = search (needs, ifs)
 
 pub warns-by-spec : {M : Type 1} → statement M
-warns-by-spec = tie.close (tie.spec does-blink-requires zero-or-empty-above-requires returns returns-2 returns-3 returns-4 returns-5)
+warns-by-spec =
+    tie.close
+    (tie.spec
+    does-blink-requires
+    zero-or-empty-above-requires
+    returns
+    returns-2
+    returns-3
+    returns-4
+    returns-5)

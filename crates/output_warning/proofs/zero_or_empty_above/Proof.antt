@@ -20,4 +20,10 @@ unfolding zeroOrEmptyAbove
 returns-2 c = search (needs, ifs)
 
 pub zero-or-empty-above-spec : {M : Type 1} → statement M
-zero-or-empty-above-spec = tie.close (tie.spec add-zero-or-empty-from zero-or-empty-from-requires returns returns-2)
+zero-or-empty-above-spec =
+    tie.close
+    (tie.spec
+    add-zero-or-empty-from
+    zero-or-empty-from-requires
+    returns
+    returns-2)

@@ -45,4 +45,15 @@ returns-2 c =
     sym (c .before .loop .inv ∙ scan-done (zeroOrEmpty (c .before .before .args .s)) 16 (c .before .loop .i) (c .loop-test .left))
 
 pub zero-or-empty-from-spec : {M : Type 1} → statement M
-zero-or-empty-from-spec = tie.close (tie.spec Inv-loop μ-loop loop-holds is-zero-or-empty-requires add-i loop-less loop-again returns returns-2)
+zero-or-empty-from-spec =
+    tie.close
+    (tie.spec
+    Inv-loop
+    μ-loop
+    loop-holds
+    is-zero-or-empty-requires
+    add-i
+    loop-less
+    loop-again
+    returns
+    returns-2)

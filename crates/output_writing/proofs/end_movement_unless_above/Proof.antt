@@ -32,4 +32,13 @@ unfolding endMovementUnlessAbove
 returns-4 c = search (needs, ifs, endMovementUnlessAbove-on)
 
 pub end-movement-unless-above-spec : {M : Type 1} → statement M
-end-movement-unless-above-spec = tie.close (tie.spec enum-told enum-known-a enum-told-2 returns returns-2 returns-3 returns-4)
+end-movement-unless-above-spec =
+    tie.close
+    (tie.spec
+    enum-told
+    enum-known-a
+    enum-told-2
+    returns
+    returns-2
+    returns-3
+    returns-4)

@@ -21,4 +21,11 @@ unfolding slotRelinquished
 returns c = simp (c .with-effect .ensures, c .before .relinquish-activity .ensures, c .before .before .is-live .ensures, c .before .before .before .empty .ensures)
 
 pub relinquish-slot-spec : {M : Type 1} → statement M
-relinquish-slot-spec = tie.close (tie.spec empty-requires is-live-requires relinquish-activity-requires with-effect-requires returns)
+relinquish-slot-spec =
+    tie.close
+    (tie.spec
+    empty-requires
+    is-live-requires
+    relinquish-activity-requires
+    with-effect-requires
+    returns)

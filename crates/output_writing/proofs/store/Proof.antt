@@ -18,4 +18,10 @@ unfolding stored
 returns c = simp (c .with-effect .ensures, c .before .end-movement-unless-above .ensures, c .before .before .fill .ensures)
 
 pub store-spec : {M : Type 1} → statement M
-store-spec = tie.close (tie.spec fill-requires end-movement-unless-above-requires with-effect-requires returns)
+store-spec =
+    tie.close
+    (tie.spec
+    fill-requires
+    end-movement-unless-above-requires
+    with-effect-requires
+    returns)

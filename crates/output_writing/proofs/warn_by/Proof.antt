@@ -24,4 +24,12 @@ unfolding warnedBy
 returns c = simp (c .with-effect .ensures, c .before .warning-from .ensures, c .before .before .fill2 .ensures, c .before .before .before .first-level .ensures, c .before .before .before .before .fill .ensures)
 
 pub warn-by-spec : {M : Type 1} → statement M
-warn-by-spec = tie.close (tie.spec fill-requires first-level-requires fill-requires-2 warning-from-requires with-effect-requires returns)
+warn-by-spec =
+    tie.close
+    (tie.spec
+    fill-requires
+    first-level-requires
+    fill-requires-2
+    warning-from-requires
+    with-effect-requires
+    returns)

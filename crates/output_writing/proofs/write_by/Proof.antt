@@ -37,4 +37,15 @@ unfolding writtenBy
 returns-3 c = search (needs, ifs, writtenBy-on)
 
 pub write-by-spec : {M : Type 1} → statement M
-write-by-spec = tie.close (tie.spec enum-told write-calm-requires enum-told-2 write-calm-requires-2 enum-told-3 write-warned-requires returns returns-2 returns-3)
+write-by-spec =
+    tie.close
+    (tie.spec
+    enum-told
+    write-calm-requires
+    enum-told-2
+    write-calm-requires-2
+    enum-told-3
+    write-warned-requires
+    returns
+    returns-2
+    returns-3)

@@ -27,4 +27,12 @@ unfolding writtenWarned
 returns-3 c = search (needs, ifs)
 
 pub write-warned-spec : {M : Type 1} → statement M
-write-warned-spec = tie.close (tie.spec end-empty-requires end-store-requires end-store-requires-2 returns returns-2 returns-3)
+write-warned-spec =
+    tie.close
+    (tie.spec
+    end-empty-requires
+    end-store-requires
+    end-store-requires-2
+    returns
+    returns-2
+    returns-3)

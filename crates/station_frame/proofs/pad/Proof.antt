@@ -39,4 +39,15 @@ returns : tie.Need-returns Inv-loop μ-loop
 returns c = padded-all (c .before .loop .i) _ _ (c .before .loop .inv .1) (c .loop-test .left)
 
 pub pad-spec : {M : Type 1} → statement M
-pad-spec = tie.close (tie.spec Inv-loop μ-loop loop-holds shared-slice-read-f array-write-f add-i loop-less loop-again returns)
+pad-spec =
+    tie.close
+    (tie.spec
+    Inv-loop
+    μ-loop
+    loop-holds
+    shared-slice-read-f
+    array-write-f
+    add-i
+    loop-less
+    loop-again
+    returns)

@@ -81,4 +81,20 @@ returns-3 c =
     same-end _ _ (c .before .loop .i) (v .4) (omega arith) (omega arith)
 
 pub same-frame-spec : {M : Type 1} → statement M
-same-frame-spec = tie.close (tie.spec Inv-loop μ-loop array-read-kind-length kind-length-requires wide-index-requires returns loop-holds shared-slice-read-if2 array-read-if2 returns-2 add-i loop-less loop-again returns-3)
+same-frame-spec =
+    tie.close
+    (tie.spec
+    Inv-loop
+    μ-loop
+    array-read-kind-length
+    kind-length-requires
+    wide-index-requires
+    returns
+    loop-holds
+    shared-slice-read-if2
+    array-read-if2
+    returns-2
+    add-i
+    loop-less
+    loop-again
+    returns-3)

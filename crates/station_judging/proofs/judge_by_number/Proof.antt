@@ -25,4 +25,11 @@ unfolding judgedByNumber
 returns-4 c = search (needs, ifs)
 
 pub judge-by-number-spec : {M : Type 1} → statement M
-judge-by-number-spec = tie.close (tie.spec retransmission-or-conflict-requires returns returns-2 returns-3 returns-4)
+judge-by-number-spec =
+    tie.close
+    (tie.spec
+    retransmission-or-conflict-requires
+    returns
+    returns-2
+    returns-3
+    returns-4)

@@ -35,4 +35,14 @@ unfolding judgedByStation judgedByRecord
 returns-4 c = search (needs, ifs, judgedByRecord-on)
 
 pub judge-by-station-spec : {M : Type 1} → statement M
-judge-by-station-spec = tie.close (tie.spec enum-known-f enum-known-f-2 enum-known-f-3 judge-by-number-requires returns returns-2 returns-3 returns-4)
+judge-by-station-spec =
+    tie.close
+    (tie.spec
+    enum-known-f
+    enum-known-f-2
+    enum-known-f-3
+    judge-by-number-requires
+    returns
+    returns-2
+    returns-3
+    returns-4)

@@ -28,4 +28,12 @@ unfolding durationField
 returns-3 c = search (needs, ifs, durationField-on)
 
 pub duration-field-spec : {M : Type 1} → statement M
-duration-field-spec = tie.close (tie.spec enum-known-duration enum-told enum-told-2 returns returns-2 returns-3)
+duration-field-spec =
+    tie.close
+    (tie.spec
+    enum-known-duration
+    enum-told
+    enum-told-2
+    returns
+    returns-2
+    returns-3)

@@ -30,4 +30,14 @@ unfolding tagsOf
 returns c = simp (c .whole-tag2 .ensures, c .before .whole-tag .ensures, c .before .before .real-tag3 .ensures, c .before .before .before .real-tag2 .ensures, c .before .before .before .before .real-tag .ensures, c .before .before .before .before .before .operation-number .ensures, c .before .before .before .before .before .before .fields-of .ensures)
 
 pub tags-of-spec : {M : Type 1} → statement M
-tags-of-spec = tie.close (tie.spec fields-of-requires operation-number-requires real-tag-requires real-tag-requires-2 real-tag-requires-3 whole-tag-requires whole-tag-requires-2 returns)
+tags-of-spec =
+    tie.close
+    (tie.spec
+    fields-of-requires
+    operation-number-requires
+    real-tag-requires
+    real-tag-requires-2
+    real-tag-requires-3
+    whole-tag-requires
+    whole-tag-requires-2
+    returns)

@@ -40,4 +40,16 @@ unfolding bothOrNeither
 returns-4 c = search (needs, ifs)
 
 pub both-or-neither-spec : {M : Type 1} → statement M
-both-or-neither-spec = tie.close (tie.spec enum-told enum-told-2 enum-told-3 enum-told-4 enum-told-5 enum-told-6 returns returns-2 returns-3 returns-4)
+both-or-neither-spec =
+    tie.close
+    (tie.spec
+    enum-told
+    enum-told-2
+    enum-told-3
+    enum-told-4
+    enum-told-5
+    enum-told-6
+    returns
+    returns-2
+    returns-3
+    returns-4)

@@ -74,4 +74,28 @@ returns-12 : tie.Need-returns-12
 returns-12 c = unnumbered _ (c .before .held-by .ensures) (past-keys 0 11 _ (omega arith) (c .match .rest))
 
 pub operation-of-spec : {M : Type 1} → statement M
-operation-of-spec = tie.close (tie.spec held-by-requires real-in-requires real-in-requires-2 held-by-requires-2 real-in-requires-3 real-in-requires-4 real-in-requires-5 real-in-requires-6 real-in-requires-7 real-in-requires-8 returns returns-2 returns-3 returns-4 returns-5 returns-6 returns-7 returns-8 returns-9 returns-10 returns-11 returns-12)
+operation-of-spec =
+    tie.close
+    (tie.spec
+    held-by-requires
+    real-in-requires
+    real-in-requires-2
+    held-by-requires-2
+    real-in-requires-3
+    real-in-requires-4
+    real-in-requires-5
+    real-in-requires-6
+    real-in-requires-7
+    real-in-requires-8
+    returns
+    returns-2
+    returns-3
+    returns-4
+    returns-5
+    returns-6
+    returns-7
+    returns-8
+    returns-9
+    returns-10
+    returns-11
+    returns-12)

@@ -55,4 +55,20 @@ unfolding ownTags
 returns-7 c = search (needs, ifs)
 
 pub own-tags-spec : {M : Type 1} → statement M
-own-tags-spec = tie.close (tie.spec both-or-neither-requires both-or-neither-requires-2 both-or-neither-requires-3 both-or-neither-requires-4 both-or-neither-requires-5 is-fewest-requires is-fewest-requires-2 returns returns-2 returns-3 returns-4 returns-5 returns-6 returns-7)
+own-tags-spec =
+    tie.close
+    (tie.spec
+    both-or-neither-requires
+    both-or-neither-requires-2
+    both-or-neither-requires-3
+    both-or-neither-requires-4
+    both-or-neither-requires-5
+    is-fewest-requires
+    is-fewest-requires-2
+    returns
+    returns-2
+    returns-3
+    returns-4
+    returns-5
+    returns-6
+    returns-7)

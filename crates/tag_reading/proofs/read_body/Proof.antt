@@ -23,4 +23,11 @@ unfolding readBody
 returns-2 c = search (needs, ifs)
 
 pub read-body-spec : {M : Type 1} → statement M
-read-body-spec = tie.close (tie.spec body-fields-requires well-tagged-requires read-fields-requires returns returns-2)
+read-body-spec =
+    tie.close
+    (tie.spec
+    body-fields-requires
+    well-tagged-requires
+    read-fields-requires
+    returns
+    returns-2)

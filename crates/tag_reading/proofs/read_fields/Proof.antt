@@ -26,4 +26,12 @@ unfolding readFields
 returns-2 c = rw (← c .before .before .before .before .operation-of .ensures, ← c .before .before .before .time-of .ensures, ← c .before .before .tags-of .ensures) (search (needs, ifs))
 
 pub read-fields-spec : {M : Type 1} → statement M
-read-fields-spec = tie.close (tie.spec operation-of-requires time-of-requires tags-of-requires own-tags-requires returns returns-2)
+read-fields-spec =
+    tie.close
+    (tie.spec
+    operation-of-requires
+    time-of-requires
+    tags-of-requires
+    own-tags-requires
+    returns
+    returns-2)

@@ -43,4 +43,18 @@ unfolding sizes
 returns c = omega arith
 
 pub sizes-of-spec : {M : Type 1} → statement M
-sizes-of-spec = tie.close (tie.spec field-size-requires field-size-requires-2 add-result field-size-requires-3 add-result-2 field-size-requires-4 add-result-3 field-size-requires-5 add-result-4 field-size-requires-6 add-result-5 returns)
+sizes-of-spec =
+    tie.close
+    (tie.spec
+    field-size-requires
+    field-size-requires-2
+    add-result
+    field-size-requires-3
+    add-result-2
+    field-size-requires-4
+    add-result-3
+    field-size-requires-5
+    add-result-4
+    field-size-requires-6
+    add-result-5
+    returns)

@@ -54,4 +54,18 @@ returns-4 c =
     rw (← at .byte-at .ensures, ← at .before .before .pre) (search (needs, ifs))
 
 pub well-tagged-spec : {M : Type 1} → statement M
-well-tagged-spec = tie.close (tie.spec byte-at-requires cast-is-within cast-is-within-2 is-within-requires sizes-of-requires cast-if2 zero-beyond-requires holds-at-most-requires returns returns-2 returns-3 returns-4)
+well-tagged-spec =
+    tie.close
+    (tie.spec
+    byte-at-requires
+    cast-is-within
+    cast-is-within-2
+    is-within-requires
+    sizes-of-requires
+    cast-if2
+    zero-beyond-requires
+    holds-at-most-requires
+    returns
+    returns-2
+    returns-3
+    returns-4)

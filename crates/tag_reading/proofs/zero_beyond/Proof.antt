@@ -56,4 +56,18 @@ unfolding zeroFrom
 returns-2 c = sym (c .before .loop .inv ∙ scan-done (isZero _) 18 (c .before .loop .i) (omega arith))
 
 pub zero-beyond-spec : {M : Type 1} → statement M
-zero-beyond-spec = tie.close (tie.spec Inv-loop μ-loop byte-at-requires index-requires add-i loop-holds byte-at-requires-2 add-i-2 loop-less loop-again returns returns-2)
+zero-beyond-spec =
+    tie.close
+    (tie.spec
+    Inv-loop
+    μ-loop
+    byte-at-requires
+    index-requires
+    add-i
+    loop-holds
+    byte-at-requires-2
+    add-i-2
+    loop-less
+    loop-again
+    returns
+    returns-2)

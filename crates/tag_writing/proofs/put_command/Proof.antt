@@ -54,4 +54,15 @@ returns c =
     (wrote-then (fifth .put-field5 .ensures) (wrote-then (sixth .put-field6 .ensures) (wrote-none _ _)))))))
 
 pub put-command-spec : {M : Type 1} → statement M
-put-command-spec = tie.close (tie.spec command-tags-requires put-field-requires put-field-requires-2 put-field-requires-3 put-field-requires-4 put-field-requires-5 put-field-requires-6 same-length returns)
+put-command-spec =
+    tie.close
+    (tie.spec
+    command-tags-requires
+    put-field-requires
+    put-field-requires-2
+    put-field-requires-3
+    put-field-requires-4
+    put-field-requires-5
+    put-field-requires-6
+    same-length
+    returns)

@@ -33,4 +33,14 @@ returns-2 : tie.Need-returns-2
 returns-2 c = wrote-missing _ (c .enum-told .given .1)
 
 pub put-field-spec : {M : Type 1} → statement M
-put-field-spec = tie.close (tie.spec enum-known-field context-tag-requires put-requires put-octets-requires enum-told same-length returns returns-2)
+put-field-spec =
+    tie.close
+    (tie.spec
+    enum-known-field
+    context-tag-requires
+    put-requires
+    put-octets-requires
+    enum-told
+    same-length
+    returns
+    returns-2)

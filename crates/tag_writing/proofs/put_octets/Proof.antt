@@ -34,4 +34,14 @@ returns c =
     wrote-as (last-octets (a .count) (a .v) (bytes .result) (bytes .ensures) (omega arith)) (c .before .before .put-all .ensures)
 
 pub put-octets-spec : {M : Type 1} → statement M
-put-octets-spec = tie.close (tie.spec four-octets-requires sub-from sub-put-all part-put-all-start part-put-all-end put-all-requires same-length returns)
+put-octets-spec =
+    tie.close
+    (tie.spec
+    four-octets-requires
+    sub-from
+    sub-put-all
+    part-put-all-start
+    part-put-all-end
+    put-all-requires
+    same-length
+    returns)

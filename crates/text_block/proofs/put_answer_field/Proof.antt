@@ -67,4 +67,25 @@ unfolding answerField
 returns-4 c = search (needs, answerField-on)
 
 pub put-answer-field-spec : {M : Type 1} → statement M
-put-answer-field-spec = tie.close (tie.spec enum-told slice-aggregate-put-all put-all-requires enum-known-a put-hex-field-requires enum-told-2 slice-aggregate-put-all-2 put-all-requires-2 enum-told-3 slice-aggregate-put-all-3 put-all-requires-3 same-length returns same-length-2 returns-2 same-length-3 returns-3 same-length-4 returns-4)
+put-answer-field-spec =
+    tie.close
+    (tie.spec
+    enum-told
+    slice-aggregate-put-all
+    put-all-requires
+    enum-known-a
+    put-hex-field-requires
+    enum-told-2
+    slice-aggregate-put-all-2
+    put-all-requires-2
+    enum-told-3
+    slice-aggregate-put-all-3
+    put-all-requires-3
+    same-length
+    returns
+    same-length-2
+    returns-2
+    same-length-3
+    returns-3
+    same-length-4
+    returns-4)

@@ -44,4 +44,15 @@ unfolding block lines
 returns c = wrote-as (rw (take-all (c .before .loop .k) (lines (c .before .before .before .args .i) (c .before .before .before .args .t) (c .before .before .before .args .o)) (omega arith))) (c .before .loop .inv .2)
 
 pub put-block-spec : {M : Type 1} → statement M
-put-block-spec = tie.close (tie.spec Inv-loop μ-loop loop-holds put-line-requires add-k loop-less loop-again same-length returns)
+put-block-spec =
+    tie.close
+    (tie.spec
+    Inv-loop
+    μ-loop
+    loop-holds
+    put-line-requires
+    add-k
+    loop-less
+    loop-again
+    same-length
+    returns)

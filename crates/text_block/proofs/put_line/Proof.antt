@@ -125,4 +125,42 @@ unfolding lines
 returns-11 c = line-none _ _ (lines (c .before .before .before .before .args .i) (c .before .before .before .before .args .t) (c .before .before .before .before .args .o)) (c .before .before .before .before .args .k) (search needs)
 
 pub put-line-spec : {M : Type 1} → statement M
-put-line-spec = tie.close (tie.spec slice-aggregate-put-number-line put-number-line-requires put-slots-line-requires put-present-line-requires put-progress-line-requires put-process-line-requires slice-aggregate-put-properties-line put-properties-line-requires slice-aggregate-put-properties-line-2 put-properties-line-requires-2 slice-aggregate-put-number-line-2 put-number-line-requires-2 put-tagged-line-requires slice-aggregate-put-properties-line-3 put-properties-line-requires-3 same-length returns same-length-2 returns-2 same-length-3 returns-3 same-length-4 returns-4 same-length-5 returns-5 same-length-6 returns-6 same-length-7 returns-7 same-length-8 returns-8 same-length-9 returns-9 same-length-10 returns-10 returns-11)
+put-line-spec =
+    tie.close
+    (tie.spec
+    slice-aggregate-put-number-line
+    put-number-line-requires
+    put-slots-line-requires
+    put-present-line-requires
+    put-progress-line-requires
+    put-process-line-requires
+    slice-aggregate-put-properties-line
+    put-properties-line-requires
+    slice-aggregate-put-properties-line-2
+    put-properties-line-requires-2
+    slice-aggregate-put-number-line-2
+    put-number-line-requires-2
+    put-tagged-line-requires
+    slice-aggregate-put-properties-line-3
+    put-properties-line-requires-3
+    same-length
+    returns
+    same-length-2
+    returns-2
+    same-length-3
+    returns-3
+    same-length-4
+    returns-4
+    same-length-5
+    returns-5
+    same-length-6
+    returns-6
+    same-length-7
+    returns-7
+    same-length-8
+    returns-8
+    same-length-9
+    returns-9
+    same-length-10
+    returns-10
+    returns-11)

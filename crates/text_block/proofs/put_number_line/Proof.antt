@@ -22,4 +22,11 @@ unfolding numberLine
 returns c = wrote-then (c .before .before .before .before .before .before .before .before .before .before .put-all .ensures) (wrote-then (c .before .before .before .before .before .before .put-decimal .ensures) (c .before .before .put .ensures))
 
 pub put-number-line-spec : {M : Type 1} → statement M
-put-number-line-spec = tie.close (tie.spec put-all-requires put-decimal-requires put-requires same-length returns)
+put-number-line-spec =
+    tie.close
+    (tie.spec
+    put-all-requires
+    put-decimal-requires
+    put-requires
+    same-length
+    returns)

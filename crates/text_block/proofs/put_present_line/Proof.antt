@@ -24,4 +24,12 @@ unfolding presentLine
 returns c = rw (← c .before .before .before .present-value .ensures) (c .before .before .put-number-line .ensures)
 
 pub put-present-line-spec : {M : Type 1} → statement M
-put-present-line-spec = tie.close (tie.spec slice-aggregate-put-number-line present-value-requires cast-put-number-line put-number-line-requires same-length returns)
+put-present-line-spec =
+    tie.close
+    (tie.spec
+    slice-aggregate-put-number-line
+    present-value-requires
+    cast-put-number-line
+    put-number-line-requires
+    same-length
+    returns)

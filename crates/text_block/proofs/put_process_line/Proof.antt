@@ -24,4 +24,12 @@ unfolding processLine
 returns c = rw (← c .before .before .before .in-process .ensures) (c .before .before .put-number-line .ensures)
 
 pub put-process-line-spec : {M : Type 1} → statement M
-put-process-line-spec = tie.close (tie.spec slice-aggregate-put-number-line in-process-requires cast-put-number-line put-number-line-requires same-length returns)
+put-process-line-spec =
+    tie.close
+    (tie.spec
+    slice-aggregate-put-number-line
+    in-process-requires
+    cast-put-number-line
+    put-number-line-requires
+    same-length
+    returns)

@@ -24,4 +24,12 @@ unfolding progressLine
 returns c = rw (← c .before .before .before .progress-value .ensures) (c .before .before .put-number-line .ensures)
 
 pub put-progress-line-spec : {M : Type 1} → statement M
-put-progress-line-spec = tie.close (tie.spec slice-aggregate-put-number-line progress-value-requires cast-put-number-line put-number-line-requires same-length returns)
+put-progress-line-spec =
+    tie.close
+    (tie.spec
+    slice-aggregate-put-number-line
+    progress-value-requires
+    cast-put-number-line
+    put-number-line-requires
+    same-length
+    returns)

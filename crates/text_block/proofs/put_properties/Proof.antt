@@ -49,4 +49,16 @@ returns c =
     wrote-as (ap (propertyFields (a .t) (a .o) (a .k)) e) (c .before .loop .inv .2)
 
 pub put-properties-spec : {M : Type 1} → statement M
-put-properties-spec = tie.close (tie.spec Inv-loop μ-loop loop-holds add-put-property put-property-requires add-i loop-less loop-again same-length returns)
+put-properties-spec =
+    tie.close
+    (tie.spec
+    Inv-loop
+    μ-loop
+    loop-holds
+    add-put-property
+    put-property-requires
+    add-i
+    loop-less
+    loop-again
+    same-length
+    returns)

@@ -22,4 +22,11 @@ unfolding propertiesLine
 returns c = wrote-then (c .before .before .before .before .before .before .before .before .before .before .put-all .ensures) (wrote-then (c .before .before .before .before .before .before .put-properties .ensures) (c .before .before .put .ensures))
 
 pub put-properties-line-spec : {M : Type 1} → statement M
-put-properties-line-spec = tie.close (tie.spec put-all-requires put-properties-requires put-requires same-length returns)
+put-properties-line-spec =
+    tie.close
+    (tie.spec
+    put-all-requires
+    put-properties-requires
+    put-requires
+    same-length
+    returns)

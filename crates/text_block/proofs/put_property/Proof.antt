@@ -21,4 +21,11 @@ unfolding propertyField
 returns c = rw (← c .before .before .before .before .before .property-of .ensures, ← c .before .before .before .before .read-property .ensures) (c .before .before .put-answer-field .ensures)
 
 pub put-property-spec : {M : Type 1} → statement M
-put-property-spec = tie.close (tie.spec property-of-requires read-property-requires put-answer-field-requires same-length returns)
+put-property-spec =
+    tie.close
+    (tie.spec
+    property-of-requires
+    read-property-requires
+    put-answer-field-requires
+    same-length
+    returns)

@@ -32,4 +32,14 @@ unfolding slotField
 returns-2 c = search (needs, choices)
 
 pub put-slot-field-spec : {M : Type 1} → statement M
-put-slot-field-spec = tie.close (tie.spec is-live-requires put-slot-level-requires slice-aggregate-put-all put-all-requires same-length returns same-length-2 returns-2)
+put-slot-field-spec =
+    tie.close
+    (tie.spec
+    is-live-requires
+    put-slot-level-requires
+    slice-aggregate-put-all
+    put-all-requires
+    same-length
+    returns
+    same-length-2
+    returns-2)

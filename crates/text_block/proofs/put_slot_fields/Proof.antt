@@ -45,4 +45,15 @@ returns c =
     wrote-as (ap (slotFields (c .before .before .before .args .s)) e) (c .before .loop .inv .2)
 
 pub put-slot-fields-spec : {M : Type 1} → statement M
-put-slot-fields-spec = tie.close (tie.spec Inv-loop μ-loop loop-holds put-slot-field-requires add-i loop-less loop-again same-length returns)
+put-slot-fields-spec =
+    tie.close
+    (tie.spec
+    Inv-loop
+    μ-loop
+    loop-holds
+    put-slot-field-requires
+    add-i
+    loop-less
+    loop-again
+    same-length
+    returns)

@@ -25,4 +25,12 @@ unfolding slotsLine
 returns c = wrote-then (c .before .before .before .before .before .before .before .before .before .before .put-all .ensures) (wrote-then (c .before .before .before .before .before .before .put-slot-fields .ensures) (c .before .before .put .ensures))
 
 pub put-slots-line-spec : {M : Type 1} → statement M
-put-slots-line-spec = tie.close (tie.spec slice-aggregate-put-all put-all-requires put-slot-fields-requires put-requires same-length returns)
+put-slots-line-spec =
+    tie.close
+    (tie.spec
+    slice-aggregate-put-all
+    put-all-requires
+    put-slot-fields-requires
+    put-requires
+    same-length
+    returns)

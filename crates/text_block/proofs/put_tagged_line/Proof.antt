@@ -52,4 +52,17 @@ returns c =
     wrote-then (word .put-all .ensures) (wrote-then (wrote-as (ap hexBytes own) (digits .put-hex-bytes .ensures)) (newline .put .ensures))
 
 pub put-tagged-line-spec : {M : Type 1} → statement M
-put-tagged-line-spec = tie.close (tie.spec tagged-body-requires cast-n slice-aggregate-put-all put-all-requires sub-put-hex-bytes part-put-hex-bytes-start part-put-hex-bytes-end put-hex-bytes-requires put-requires same-length returns)
+put-tagged-line-spec =
+    tie.close
+    (tie.spec
+    tagged-body-requires
+    cast-n
+    slice-aggregate-put-all
+    put-all-requires
+    sub-put-hex-bytes
+    part-put-hex-bytes-start
+    part-put-hex-bytes-end
+    put-hex-bytes-requires
+    put-requires
+    same-length
+    returns)

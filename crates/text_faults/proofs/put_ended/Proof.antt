@@ -25,4 +25,12 @@ unfolding endedLine
 returns c = wrote-then (c .before .before .before .before .before .before .before .before .before .before .before .put-placed .ensures) (wrote-then (c .before .before .before .before .before .before .put-all .ensures) (c .before .before .put .ensures))
 
 pub put-ended-spec : {M : Type 1} → statement M
-put-ended-spec = tie.close (tie.spec put-placed-requires slice-aggregate-put-all put-all-requires put-requires same-length returns)
+put-ended-spec =
+    tie.close
+    (tie.spec
+    put-placed-requires
+    slice-aggregate-put-all
+    put-all-requires
+    put-requires
+    same-length
+    returns)

@@ -22,4 +22,11 @@ unfolding faultLine
 returns c = wrote-then (c .before .before .before .before .before .before .before .before .before .before .put-placed .ensures) (wrote-then (c .before .before .before .before .before .before .put-fault-words .ensures) (c .before .before .put .ensures))
 
 pub put-fault-spec : {M : Type 1} → statement M
-put-fault-spec = tie.close (tie.spec put-placed-requires put-fault-words-requires put-requires same-length returns)
+put-fault-spec =
+    tie.close
+    (tie.spec
+    put-placed-requires
+    put-fault-words-requires
+    put-requires
+    same-length
+    returns)

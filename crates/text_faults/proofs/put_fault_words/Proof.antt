@@ -70,4 +70,26 @@ unfolding faultWords
 returns-4 c = search (needs, faultWords-on)
 
 pub put-fault-words-spec : {M : Type 1} → statement M
-put-fault-words-spec = tie.close (tie.spec enum-told slice-aggregate-put-all put-all-requires enum-told-2 slice-aggregate-put-all-2 put-all-requires-2 enum-told-3 slice-aggregate-put-all-3 put-all-requires-3 enum-told-4 slice-aggregate-put-all-4 put-all-requires-4 same-length returns same-length-2 returns-2 same-length-3 returns-3 same-length-4 returns-4)
+put-fault-words-spec =
+    tie.close
+    (tie.spec
+    enum-told
+    slice-aggregate-put-all
+    put-all-requires
+    enum-told-2
+    slice-aggregate-put-all-2
+    put-all-requires-2
+    enum-told-3
+    slice-aggregate-put-all-3
+    put-all-requires-3
+    enum-told-4
+    slice-aggregate-put-all-4
+    put-all-requires-4
+    same-length
+    returns
+    same-length-2
+    returns-2
+    same-length-3
+    returns-3
+    same-length-4
+    returns-4)

@@ -28,4 +28,13 @@ unfolding placed
 returns c = wrote-then (c .before .before .before .before .before .before .before .before .before .before .before .put-all .ensures) (wrote-then (c .before .before .before .before .before .before .before .put-decimal .ensures) (c .before .before .put-all2 .ensures))
 
 pub put-placed-spec : {M : Type 1} → statement M
-put-placed-spec = tie.close (tie.spec slice-aggregate-put-all put-all-requires put-decimal-requires slice-aggregate-put-all-2 put-all-requires-2 same-length returns)
+put-placed-spec =
+    tie.close
+    (tie.spec
+    slice-aggregate-put-all
+    put-all-requires
+    put-decimal-requires
+    slice-aggregate-put-all-2
+    put-all-requires-2
+    same-length
+    returns)

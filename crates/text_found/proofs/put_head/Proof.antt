@@ -30,4 +30,13 @@ unfolding foundHead
 returns-2 c = search (needs, choices, wrote-then)
 
 pub put-head-spec : {M : Type 1} → statement M
-put-head-spec = tie.close (tie.spec slice-aggregate-put-all put-all-requires put-report-head-requires same-length returns same-length-2 returns-2)
+put-head-spec =
+    tie.close
+    (tie.spec
+    slice-aggregate-put-all
+    put-all-requires
+    put-report-head-requires
+    same-length
+    returns
+    same-length-2
+    returns-2)

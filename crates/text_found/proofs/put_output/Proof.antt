@@ -26,4 +26,12 @@ unfolding foundOutput
 returns-2 c = search (needs, choices)
 
 pub put-output-spec : {M : Type 1} → statement M
-put-output-spec = tie.close (tie.spec put-report-line-requires put-block-requires same-length returns same-length-2 returns-2)
+put-output-spec =
+    tie.close
+    (tie.spec
+    put-report-line-requires
+    put-block-requires
+    same-length
+    returns
+    same-length-2
+    returns-2)

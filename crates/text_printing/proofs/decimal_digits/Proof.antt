@@ -57,4 +57,17 @@ returns c =
     )
 
 pub decimal-digits-spec : {M : Type 1} → statement M
-decimal-digits-spec = tie.close (tie.spec Inv-loop μ-loop loop-holds last-digit-requires array-write-bytes sub-i loop-less loop-again last-digit-requires-2 array-write-bytes-2 returns)
+decimal-digits-spec =
+    tie.close
+    (tie.spec
+    Inv-loop
+    μ-loop
+    loop-holds
+    last-digit-requires
+    array-write-bytes
+    sub-i
+    loop-less
+    loop-again
+    last-digit-requires-2
+    array-write-bytes-2
+    returns)

@@ -44,4 +44,16 @@ returns : tie.Need-returns Inv-loop μ-loop
 returns c = wrote-as (take-all (c .before .loop .i) (c .before .before .before .before .args .s .now) (omega arith)) (c .before .loop .inv .2)
 
 pub put-all-spec : {M : Type 1} → statement M
-put-all-spec = tie.close (tie.spec Inv-loop μ-loop loop-holds shared-slice-read-put put-requires add-i loop-less loop-again same-length returns)
+put-all-spec =
+    tie.close
+    (tie.spec
+    Inv-loop
+    μ-loop
+    loop-holds
+    shared-slice-read-put
+    put-requires
+    add-i
+    loop-less
+    loop-again
+    same-length
+    returns)

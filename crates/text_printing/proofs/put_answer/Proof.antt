@@ -64,4 +64,24 @@ unfolding answerLine
 returns-4 c = search (needs, answerLine-on)
 
 pub put-answer-spec : {M : Type 1} → statement M
-put-answer-spec = tie.close (tie.spec enum-told slice-aggregate-put-all put-all-requires enum-known-a put-value-line-requires enum-told-2 slice-aggregate-put-all-2 put-all-requires-2 enum-known-a-2 put-refused-line-requires same-length returns same-length-2 returns-2 same-length-3 returns-3 same-length-4 returns-4)
+put-answer-spec =
+    tie.close
+    (tie.spec
+    enum-told
+    slice-aggregate-put-all
+    put-all-requires
+    enum-known-a
+    put-value-line-requires
+    enum-told-2
+    slice-aggregate-put-all-2
+    put-all-requires-2
+    enum-known-a-2
+    put-refused-line-requires
+    same-length
+    returns
+    same-length-2
+    returns-2
+    same-length-3
+    returns-3
+    same-length-4
+    returns-4)

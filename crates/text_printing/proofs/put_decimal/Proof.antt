@@ -36,4 +36,13 @@ returns c =
     (c .before .before .put-all .ensures)
 
 pub put-decimal-spec : {M : Type 1} → statement M
-put-decimal-spec = tie.close (tie.spec decimal-digits-requires sub-put-all part-put-all-start part-put-all-end put-all-requires same-length returns)
+put-decimal-spec =
+    tie.close
+    (tie.spec
+    decimal-digits-requires
+    sub-put-all
+    part-put-all-start
+    part-put-all-end
+    put-all-requires
+    same-length
+    returns)

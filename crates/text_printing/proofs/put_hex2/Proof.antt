@@ -25,4 +25,12 @@ unfolding hex2
 returns c = search (needs, wrote-two)
 
 pub put-hex2-spec : {M : Type 1} → statement M
-put-hex2-spec = tie.close (tie.spec hex-digit-requires put-requires hex-digit-requires-2 put-requires-2 same-length returns)
+put-hex2-spec =
+    tie.close
+    (tie.spec
+    hex-digit-requires
+    put-requires
+    hex-digit-requires-2
+    put-requires-2
+    same-length
+    returns)

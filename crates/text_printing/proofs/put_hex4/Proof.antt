@@ -25,4 +25,12 @@ unfolding hex4
 returns c = search (needs, wrote-then)
 
 pub put-hex4-spec : {M : Type 1} → statement M
-put-hex4-spec = tie.close (tie.spec cast-put-hex2 put-hex2-requires cast-put-hex2-2 put-hex2-requires-2 same-length returns)
+put-hex4-spec =
+    tie.close
+    (tie.spec
+    cast-put-hex2
+    put-hex2-requires
+    cast-put-hex2-2
+    put-hex2-requires-2
+    same-length
+    returns)

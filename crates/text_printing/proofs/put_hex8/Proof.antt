@@ -25,4 +25,12 @@ unfolding hex8
 returns c = search (needs, wrote-then)
 
 pub put-hex8-spec : {M : Type 1} → statement M
-put-hex8-spec = tie.close (tie.spec cast-put-hex4 put-hex4-requires cast-put-hex4-2 put-hex4-requires-2 same-length returns)
+put-hex8-spec =
+    tie.close
+    (tie.spec
+    cast-put-hex4
+    put-hex4-requires
+    cast-put-hex4-2
+    put-hex4-requires-2
+    same-length
+    returns)

@@ -46,4 +46,16 @@ returns : tie.Need-returns Inv-loop μ-loop
 returns c = wrote-as (ap hexBytes (take-all (c .before .loop .i) (c .before .before .before .before .args .s .now) (omega arith))) (c .before .loop .inv .2)
 
 pub put-hex-bytes-spec : {M : Type 1} → statement M
-put-hex-bytes-spec = tie.close (tie.spec Inv-loop μ-loop loop-holds shared-slice-read-put-hex2 put-hex2-requires add-i loop-less loop-again same-length returns)
+put-hex-bytes-spec =
+    tie.close
+    (tie.spec
+    Inv-loop
+    μ-loop
+    loop-holds
+    shared-slice-read-put-hex2
+    put-hex2-requires
+    add-i
+    loop-less
+    loop-again
+    same-length
+    returns)

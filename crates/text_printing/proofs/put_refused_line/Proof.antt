@@ -23,4 +23,12 @@ returns : tie.Need-returns
 returns c = wrote-then (c .before .before .before .before .before .before .before .before .before .before .put-all .ensures) (wrote-then (c .before .before .before .before .before .before .put-decimal .ensures) (c .before .before .put .ensures))
 
 pub put-refused-line-spec : {M : Type 1} → statement M
-put-refused-line-spec = tie.close (tie.spec slice-aggregate-put-all put-all-requires put-decimal-requires put-requires same-length returns)
+put-refused-line-spec =
+    tie.close
+    (tie.spec
+    slice-aggregate-put-all
+    put-all-requires
+    put-decimal-requires
+    put-requires
+    same-length
+    returns)

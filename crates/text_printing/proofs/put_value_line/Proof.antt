@@ -23,4 +23,12 @@ returns : tie.Need-returns
 returns c = wrote-then (c .before .before .before .before .before .before .before .before .before .before .put-all .ensures) (wrote-then (c .before .before .before .before .before .before .put-hex8 .ensures) (c .before .before .put .ensures))
 
 pub put-value-line-spec : {M : Type 1} → statement M
-put-value-line-spec = tie.close (tie.spec slice-aggregate-put-all put-all-requires put-hex8-requires put-requires same-length returns)
+put-value-line-spec =
+    tie.close
+    (tie.spec
+    slice-aggregate-put-all
+    put-all-requires
+    put-hex8-requires
+    put-requires
+    same-length
+    returns)

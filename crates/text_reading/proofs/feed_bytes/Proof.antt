@@ -138,4 +138,32 @@ returns-6 : tie.Need-returns-6 Inv-loop μ-loop
 returns-6 c = (refl, (refl, (omega arith, omega arith)))
 
 pub feed-bytes-spec : {M : Type 1} → statement M
-feed-bytes-spec = tie.close (tie.spec Inv-loop μ-loop may-begin-requires loop-holds shared-slice-read-c hex-value-requires add-if4 add-hex-value shared-slice-read-hex-value hex-value-requires-2 byte-pair-requires array-write-bytes add-count add-i loop-less loop-again is-blank-requires add-i-2 loop-less-2 loop-again-2 returns returns-2 returns-3 returns-4 returns-5 returns-6)
+feed-bytes-spec =
+    tie.close
+    (tie.spec
+    Inv-loop
+    μ-loop
+    may-begin-requires
+    loop-holds
+    shared-slice-read-c
+    hex-value-requires
+    add-if4
+    add-hex-value
+    shared-slice-read-hex-value
+    hex-value-requires-2
+    byte-pair-requires
+    array-write-bytes
+    add-count
+    add-i
+    loop-less
+    loop-again
+    is-blank-requires
+    add-i-2
+    loop-less-2
+    loop-again-2
+    returns
+    returns-2
+    returns-3
+    returns-4
+    returns-5
+    returns-6)

@@ -61,4 +61,19 @@ returns-2 c =
     line-newline (n .result .reader) (c .before .before .before .before .before .before .before .before .args .s .now) (n .result .next) _ _ (c .before .before .if1 .taken) (c .if2 .taken) (n .ensures .0 ∙ l .inv .1 .0, n .ensures .1 .0 ∙ l .inv .1 .1)
 
 pub feed-line-spec : {M : Type 1} → statement M
-feed-line-spec = tie.close (tie.spec Inv-loop μ-loop loop-holds feed-bytes-requires shared-slice-read-c feed-requires add-i loop-less loop-again loop-less-2 loop-again-2 returns returns-2)
+feed-line-spec =
+    tie.close
+    (tie.spec
+    Inv-loop
+    μ-loop
+    loop-holds
+    feed-bytes-requires
+    shared-slice-read-c
+    feed-requires
+    add-i
+    loop-less
+    loop-again
+    loop-less-2
+    loop-again-2
+    returns
+    returns-2)

@@ -83,4 +83,28 @@ unfolding lineOf
 returns-10 c = search (needs, ifs, lineOf-on)
 
 pub line-of-spec : {M : Type 1} → statement M
-line-of-spec = tie.close (tie.spec enum-told enum-told-2 enum-told-3 enum-told-4 enum-known-h count-line-requires enum-known-h-2 count-line-requires-2 enum-told-5 enum-told-6 enum-told-7 enum-known-h-3 returns returns-2 returns-3 returns-4 returns-5 returns-6 returns-7 returns-8 returns-9 returns-10)
+line-of-spec =
+    tie.close
+    (tie.spec
+    enum-told
+    enum-told-2
+    enum-told-3
+    enum-told-4
+    enum-known-h
+    count-line-requires
+    enum-known-h-2
+    count-line-requires-2
+    enum-told-5
+    enum-told-6
+    enum-told-7
+    enum-known-h-3
+    returns
+    returns-2
+    returns-3
+    returns-4
+    returns-5
+    returns-6
+    returns-7
+    returns-8
+    returns-9
+    returns-10)

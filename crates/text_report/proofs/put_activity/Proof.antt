@@ -46,4 +46,18 @@ unfolding activityText
 returns-3 c = search (needs, activityText-on, choices)
 
 pub put-activity-spec : {M : Type 1} → statement M
-put-activity-spec = tie.close (tie.spec enum-told enum-known-a slice-aggregate-put-until put-until-requires enum-known-a-2 slice-aggregate-put-until-2 put-until-requires-2 returns same-length returns-2 same-length-2 returns-3)
+put-activity-spec =
+    tie.close
+    (tie.spec
+    enum-told
+    enum-known-a
+    slice-aggregate-put-until
+    put-until-requires
+    enum-known-a-2
+    slice-aggregate-put-until-2
+    put-until-requires-2
+    returns
+    same-length
+    returns-2
+    same-length-2
+    returns-3)

@@ -26,4 +26,12 @@ unfolding either
 returns-2 c = search (needs, choices)
 
 pub put-either-spec : {M : Type 1} → statement M
-put-either-spec = tie.close (tie.spec put-all-requires put-all-requires-2 same-length returns same-length-2 returns-2)
+put-either-spec =
+    tie.close
+    (tie.spec
+    put-all-requires
+    put-all-requires-2
+    same-length
+    returns
+    same-length-2
+    returns-2)

@@ -33,4 +33,14 @@ unfolding lead
 returns-3 c = search (needs, choices)
 
 pub put-lead-spec : {M : Type 1} → statement M
-put-lead-spec = tie.close (tie.spec slice-aggregate-put-all put-all-requires put-requires same-length returns same-length-2 returns-2 returns-3)
+put-lead-spec =
+    tie.close
+    (tie.spec
+    slice-aggregate-put-all
+    put-all-requires
+    put-requires
+    same-length
+    returns
+    same-length-2
+    returns-2
+    returns-3)

@@ -43,4 +43,18 @@ unfolding levelFields
 returns c = rw (← c .before .before .before .before .before .before .before .before .before .before .before .before .before .before .before .before .before .before .before .before .before .before .before .before .present-value .ensures, ← c .before .before .before .before .before .before .before .before .before .before .before .before .before .before .before .before .before .before .before .before .before .before .before .progress-value .ensures) (wrote-then (c .before .before .before .before .before .before .before .before .before .before .before .before .before .before .before .before .before .before .before .before .put-all .ensures) (wrote-then (c .before .before .before .before .before .before .before .before .before .before .before .before .before .before .before .before .put-percent .ensures) (wrote-then (c .before .before .before .before .before .before .before .before .before .before .before .put-all2 .ensures) (wrote-then (c .before .before .before .before .before .before .put-all3 .ensures) (c .before .before .put-percent2 .ensures)))))
 
 pub put-level-fields-spec : {M : Type 1} → statement M
-put-level-fields-spec = tie.close (tie.spec present-value-requires progress-value-requires slice-aggregate-put-all put-all-requires put-percent-requires slice-aggregate-put-all-2 put-all-requires-2 slice-aggregate-put-all-3 put-all-requires-3 put-percent-requires-2 same-length returns)
+put-level-fields-spec =
+    tie.close
+    (tie.spec
+    present-value-requires
+    progress-value-requires
+    slice-aggregate-put-all
+    put-all-requires
+    put-percent-requires
+    slice-aggregate-put-all-2
+    put-all-requires-2
+    slice-aggregate-put-all-3
+    put-all-requires-3
+    put-percent-requires-2
+    same-length
+    returns)

@@ -40,4 +40,17 @@ unfolding lightFields
 returns c = rw (← c .before .before .before .before .before .before .before .before .before .before .before .before .before .before .before .before .before .before .before .before .is-lit .ensures) (wrote-then (c .before .before .before .before .before .before .before .before .before .before .before .before .before .before .before .before .before .put-all .ensures) (wrote-then (c .before .before .before .before .before .before .before .before .before .before .before .before .before .put-aligned .ensures) (wrote-then (c .before .before .before .before .before .before .before .before .put-all2 .ensures) (c .before .before .put-either .ensures))))
 
 pub put-light-fields-spec : {M : Type 1} → statement M
-put-light-fields-spec = tie.close (tie.spec is-lit-requires slice-aggregate-put-all put-all-requires put-aligned-requires slice-aggregate-put-all-2 put-all-requires-2 slice-aggregate-put-either slice-aggregate-put-either-2 put-either-requires same-length returns)
+put-light-fields-spec =
+    tie.close
+    (tie.spec
+    is-lit-requires
+    slice-aggregate-put-all
+    put-all-requires
+    put-aligned-requires
+    slice-aggregate-put-all-2
+    put-all-requires-2
+    slice-aggregate-put-either
+    slice-aggregate-put-either-2
+    put-either-requires
+    same-length
+    returns)

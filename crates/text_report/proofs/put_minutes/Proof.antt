@@ -25,4 +25,12 @@ unfolding minutes
 returns c = wrote-then (c .before .before .before .before .before .before .before .before .before .before .before .before .before .before .put .ensures) (wrote-then (c .before .before .before .before .before .before .before .before .before .before .put-two .ensures) (wrote-then (c .before .before .before .before .before .before .put2 .ensures) (c .before .before .put-two2 .ensures)))
 
 pub put-minutes-spec : {M : Type 1} → statement M
-put-minutes-spec = tie.close (tie.spec put-requires put-two-requires put-requires-2 put-two-requires-2 same-length returns)
+put-minutes-spec =
+    tie.close
+    (tie.spec
+    put-requires
+    put-two-requires
+    put-requires-2
+    put-two-requires-2
+    same-length
+    returns)

@@ -25,4 +25,12 @@ unfolding moment
 returns c = wrote-then (c .before .before .before .before .before .before .before .before .before .before .before .before .before .before .put-decimal .ensures) (wrote-then (c .before .before .before .before .before .before .before .before .before .before .put-minutes .ensures) (wrote-then (c .before .before .before .before .before .before .put .ensures) (c .before .before .put-three .ensures)))
 
 pub put-moment-spec : {M : Type 1} → statement M
-put-moment-spec = tie.close (tie.spec put-decimal-requires put-minutes-requires put-requires put-three-requires same-length returns)
+put-moment-spec =
+    tie.close
+    (tie.spec
+    put-decimal-requires
+    put-minutes-requires
+    put-requires
+    put-three-requires
+    same-length
+    returns)

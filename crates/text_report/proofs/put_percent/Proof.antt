@@ -25,4 +25,12 @@ unfolding percent
 returns c = rw (← c .before .before .before .hundredths .ensures) (wrote-then (c .before .before .before .before .before .before .before .before .before .before .before .put-aligned .ensures) (wrote-then (c .before .before .before .before .before .before .before .put .ensures) (c .before .before .put-two .ensures)))
 
 pub put-percent-spec : {M : Type 1} → statement M
-put-percent-spec = tie.close (tie.spec put-aligned-requires put-requires hundredths-requires put-two-requires same-length returns)
+put-percent-spec =
+    tie.close
+    (tie.spec
+    put-aligned-requires
+    put-requires
+    hundredths-requires
+    put-two-requires
+    same-length
+    returns)

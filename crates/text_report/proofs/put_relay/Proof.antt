@@ -24,4 +24,12 @@ unfolding relayField
 returns c = rw (← c .before .before .before .before .before .before .relay-state .ensures) (c .before .before .put-either .ensures)
 
 pub put-relay-spec : {M : Type 1} → statement M
-put-relay-spec = tie.close (tie.spec relay-state-requires slice-aggregate-put-either slice-aggregate-put-either-2 put-either-requires same-length returns)
+put-relay-spec =
+    tie.close
+    (tie.spec
+    relay-state-requires
+    slice-aggregate-put-either
+    slice-aggregate-put-either-2
+    put-either-requires
+    same-length
+    returns)

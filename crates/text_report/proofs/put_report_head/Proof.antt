@@ -31,4 +31,14 @@ unfolding reportHead
 returns c = wrote-then (c .before .before .before .before .before .before .before .before .before .before .before .before .before .before .before .put-all .ensures) (wrote-then (c .before .before .before .before .before .before .before .before .before .before .before .put-moment .ensures) (wrote-then (c .before .before .before .before .before .before .before .put .ensures) (c .before .before .put-all2 .ensures)))
 
 pub put-report-head-spec : {M : Type 1} → statement M
-put-report-head-spec = tie.close (tie.spec slice-aggregate-put-all put-all-requires put-moment-requires put-requires slice-aggregate-put-all-2 put-all-requires-2 same-length returns)
+put-report-head-spec =
+    tie.close
+    (tie.spec
+    slice-aggregate-put-all
+    put-all-requires
+    put-moment-requires
+    put-requires
+    slice-aggregate-put-all-2
+    put-all-requires-2
+    same-length
+    returns)

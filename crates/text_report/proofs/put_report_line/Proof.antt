@@ -25,4 +25,12 @@ unfolding reportLine
 returns c = wrote-then (c .before .before .before .before .before .before .before .before .before .before .before .before .before .before .put-light-fields .ensures) (wrote-then (c .before .before .before .before .before .before .before .before .before .before .put-level-fields .ensures) (wrote-then (c .before .before .before .before .before .before .put-time-fields .ensures) (c .before .before .put-way-fields .ensures)))
 
 pub put-report-line-spec : {M : Type 1} → statement M
-put-report-line-spec = tie.close (tie.spec put-light-fields-requires put-level-fields-requires put-time-fields-requires put-way-fields-requires same-length returns)
+put-report-line-spec =
+    tie.close
+    (tie.spec
+    put-light-fields-requires
+    put-level-fields-requires
+    put-time-fields-requires
+    put-way-fields-requires
+    same-length
+    returns)

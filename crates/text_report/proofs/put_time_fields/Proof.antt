@@ -25,4 +25,12 @@ unfolding timeFields
 returns c = wrote-then (c .before .before .before .before .before .before .before .before .before .before .put-all .ensures) (wrote-then (c .before .before .before .before .before .before .put-lasting .ensures) (c .before .before .put-operation .ensures))
 
 pub put-time-fields-spec : {M : Type 1} → statement M
-put-time-fields-spec = tie.close (tie.spec slice-aggregate-put-all put-all-requires put-lasting-requires put-operation-requires same-length returns)
+put-time-fields-spec =
+    tie.close
+    (tie.spec
+    slice-aggregate-put-all
+    put-all-requires
+    put-lasting-requires
+    put-operation-requires
+    same-length
+    returns)

@@ -30,4 +30,13 @@ unfolding timerText
 returns-2 c = search (needs, timerText-on, choices)
 
 pub put-timer-spec : {M : Type 1} → statement M
-put-timer-spec = tie.close (tie.spec enum-told enum-known-t slice-aggregate-put-until put-until-requires returns same-length returns-2)
+put-timer-spec =
+    tie.close
+    (tie.spec
+    enum-told
+    enum-known-t
+    slice-aggregate-put-until
+    put-until-requires
+    returns
+    same-length
+    returns-2)

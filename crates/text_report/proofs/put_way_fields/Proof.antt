@@ -25,4 +25,12 @@ unfolding wayFields
 returns c = wrote-then (c .before .before .before .before .before .before .before .before .before .before .before .before .before .before .put-relay .ensures) (wrote-then (c .before .before .before .before .before .before .before .before .before .before .put-activity .ensures) (wrote-then (c .before .before .before .before .before .before .put-timer .ensures) (c .before .before .put .ensures)))
 
 pub put-way-fields-spec : {M : Type 1} → statement M
-put-way-fields-spec = tie.close (tie.spec put-relay-requires put-activity-requires put-timer-requires put-requires same-length returns)
+put-way-fields-spec =
+    tie.close
+    (tie.spec
+    put-relay-requires
+    put-activity-requires
+    put-timer-requires
+    put-requires
+    same-length
+    returns)

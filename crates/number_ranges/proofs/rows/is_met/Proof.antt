@@ -64,4 +64,23 @@ unfolding meets
 returns-6 c = search (needs, ifs, meets-on)
 
 pub is-met-spec : {M : Type 1} → statement M
-is-met-spec = tie.close (tie.spec enum-told is-level-requires enum-told-2 is-within-requires enum-told-3 is-amount-pattern-requires enum-known-row is-within-requires-2 enum-told-4 is-slot-requires enum-told-5 returns returns-2 returns-3 returns-4 returns-5 returns-6)
+is-met-spec =
+    tie.close
+    (tie.spec
+    enum-told
+    is-level-requires
+    enum-told-2
+    is-within-requires
+    enum-told-3
+    is-amount-pattern-requires
+    enum-known-row
+    is-within-requires-2
+    enum-told-4
+    is-slot-requires
+    enum-told-5
+    returns
+    returns-2
+    returns-3
+    returns-4
+    returns-5
+    returns-6)

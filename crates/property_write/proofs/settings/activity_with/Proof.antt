@@ -30,4 +30,13 @@ unfolding activityWith
 returns-3 c = search (needs, ifs)
 
 pub activity-with-spec : {M : Type 1} → statement M
-activity-with-spec = tie.close (tie.spec is-same-requires end-movement-requires is-same-requires-2 end-movement-requires-2 returns returns-2 returns-3)
+activity-with-spec =
+    tie.close
+    (tie.spec
+    is-same-requires
+    end-movement-requires
+    is-same-requires-2
+    end-movement-requires-2
+    returns
+    returns-2
+    returns-3)

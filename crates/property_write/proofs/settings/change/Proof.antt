@@ -24,4 +24,12 @@ unfolding changed
 returns c = simp (c .with-settings .ensures, c .before .burning-with .ensures, c .before .before .activity-with .ensures, c .before .before .before .relay-with .ensures, c .before .before .before .before .settings-with .ensures)
 
 pub change-spec : {M : Type 1} → statement M
-change-spec = tie.close (tie.spec settings-with-requires relay-with-requires activity-with-requires burning-with-requires with-settings-requires returns)
+change-spec =
+    tie.close
+    (tie.spec
+    settings-with-requires
+    relay-with-requires
+    activity-with-requires
+    burning-with-requires
+    with-settings-requires
+    returns)

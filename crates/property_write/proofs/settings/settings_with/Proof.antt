@@ -39,4 +39,17 @@ unfolding settingsWith
 returns c = simp (c .slot-with .ensures, c .before .number-with6 .ensures, c .before .before .number-with5 .ensures, c .before .before .before .number-with4 .ensures, c .before .before .before .before .number-with3 .ensures, c .before .before .before .before .before .flag-with .ensures, c .before .before .before .before .before .before .real-with2 .ensures, c .before .before .before .before .before .before .before .real-with .ensures, c .before .before .before .before .before .before .before .before .number-with2 .ensures, c .before .before .before .before .before .before .before .before .before .number-with .ensures)
 
 pub settings-with-spec : {M : Type 1} → statement M
-settings-with-spec = tie.close (tie.spec number-with-requires number-with-requires-2 real-with-requires real-with-requires-2 flag-with-requires number-with-requires-3 number-with-requires-4 number-with-requires-5 number-with-requires-6 slot-with-requires returns)
+settings-with-spec =
+    tie.close
+    (tie.spec
+    number-with-requires
+    number-with-requires-2
+    real-with-requires
+    real-with-requires-2
+    flag-with-requires
+    number-with-requires-3
+    number-with-requires-4
+    number-with-requires-5
+    number-with-requires-6
+    slot-with-requires
+    returns)

@@ -62,4 +62,20 @@ returns-3 c =
     elsewhere _ _ _ _ (at .before .before .context-tag .ensures) (at .before .context-tag2 .ensures) (at .before .before .before .byte-at .ensures) (at .is-within .ensures) (c .if1 .left)
 
 pub field-in-spec : {M : Type 1} → statement M
-field-in-spec = tie.close (tie.spec byte-at-requires context-tag-requires cast-is-within context-tag-requires-2 cast-is-within-2 cast-is-within-3 is-within-requires context-tag-requires-3 sub-count cast-if2 number-behind-requires returns returns-2 returns-3)
+field-in-spec =
+    tie.close
+    (tie.spec
+    byte-at-requires
+    context-tag-requires
+    cast-is-within
+    context-tag-requires-2
+    cast-is-within-2
+    cast-is-within-3
+    is-within-requires
+    context-tag-requires-3
+    sub-count
+    cast-if2
+    number-behind-requires
+    returns
+    returns-2
+    returns-3)

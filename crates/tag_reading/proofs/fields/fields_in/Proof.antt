@@ -42,4 +42,18 @@ unfolding fieldsFrom
 returns c = simp (c .field-in6 .ensures, c .before .behind5 .ensures, c .before .before .field-in5 .ensures, c .before .before .before .behind4 .ensures, c .before .before .before .before .field-in4 .ensures, c .before .before .before .before .before .behind3 .ensures, c .before .before .before .before .before .before .field-in3 .ensures, c .before .before .before .before .before .before .before .behind2 .ensures, c .before .before .before .before .before .before .before .before .field-in2 .ensures, c .before .before .before .before .before .before .before .before .before .behind .ensures, c .before .before .before .before .before .before .before .before .before .before .field-in .ensures)
 
 pub fields-in-spec : {M : Type 1} → statement M
-fields-in-spec = tie.close (tie.spec field-in-requires behind-requires field-in-requires-2 behind-requires-2 field-in-requires-3 behind-requires-3 field-in-requires-4 behind-requires-4 field-in-requires-5 behind-requires-5 field-in-requires-6 returns)
+fields-in-spec =
+    tie.close
+    (tie.spec
+    field-in-requires
+    behind-requires
+    field-in-requires-2
+    behind-requires-2
+    field-in-requires-3
+    behind-requires-3
+    field-in-requires-4
+    behind-requires-4
+    field-in-requires-5
+    behind-requires-5
+    field-in-requires-6
+    returns)

@@ -40,4 +40,15 @@ unfolding hexValue
 returns-7 c = search (needs, ifs) depth 12
 
 pub hex-value-spec : {M : Type 1} → statement M
-hex-value-spec = tie.close (tie.spec sub-result sub-result-2 returns returns-2 returns-3 returns-4 returns-5 returns-6 returns-7)
+hex-value-spec =
+    tie.close
+    (tie.spec
+    sub-result
+    sub-result-2
+    returns
+    returns-2
+    returns-3
+    returns-4
+    returns-5
+    returns-6
+    returns-7)

@@ -36,4 +36,14 @@ unfolding opened
 returns-6 c = search (needs, ifs)
 
 pub opened-spec : {M : Type 1} → statement M
-opened-spec = tie.close (tie.spec is-blank-requires digit-held-requires returns returns-2 returns-3 returns-4 returns-5 returns-6)
+opened-spec =
+    tie.close
+    (tie.spec
+    is-blank-requires
+    digit-held-requires
+    returns
+    returns-2
+    returns-3
+    returns-4
+    returns-5
+    returns-6)

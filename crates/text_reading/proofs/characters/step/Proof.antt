@@ -101,4 +101,34 @@ unfolding step
 returns-10 c = search (needs, ifs, step-on)
 
 pub step-spec : {M : Type 1} → statement M
-step-spec = tie.close (tie.spec enum-told opened-requires enum-told-2 enum-known-h spelled-requires enum-told-3 gapped-requires enum-known-h-2 numbered-requires enum-known-h-3 trailed-requires enum-told-4 byte-held-requires enum-told-5 half-held-requires enum-told-6 dashed-requires enum-told-7 returns returns-2 returns-3 returns-4 returns-5 returns-6 returns-7 returns-8 returns-9 returns-10)
+step-spec =
+    tie.close
+    (tie.spec
+    enum-told
+    opened-requires
+    enum-told-2
+    enum-known-h
+    spelled-requires
+    enum-told-3
+    gapped-requires
+    enum-known-h-2
+    numbered-requires
+    enum-known-h-3
+    trailed-requires
+    enum-told-4
+    byte-held-requires
+    enum-told-5
+    half-held-requires
+    enum-told-6
+    dashed-requires
+    enum-told-7
+    returns
+    returns-2
+    returns-3
+    returns-4
+    returns-5
+    returns-6
+    returns-7
+    returns-8
+    returns-9
+    returns-10)
