@@ -1,6 +1,6 @@
-// The eleven lighting commands, by value. A command acts on slot p, Lighting_Command_Priority.
-// `t` is the moment, `c` the settings, `f` the level from which the command starts, `s` the slots and `a` the activity that it finds, with
-// any warning ended; `g` is a target, in units.
+// The eleven lighting commands, by value. A command acts on slot p, Lighting_Command_Priority. `t` is the
+// moment, `c` the settings, `f` the level from which the command starts, `s` the slots and `a` the activity
+// that it finds, with any warning ended; `g` is a target, in units.
 ghost use mathlib.Core.Path.{_≡_};
 ghost use Prim.Native.Nat.{_<_, _^_, max};
 ghost use Rattle.lighting_outputs.specs.Paper.Commands.{withoutWarning, activityWithoutWarning, jumped, wentTo, steppedUp, steppedDown, raised, halted, stopped, relinquished, effect, commandedFrom, commanded};

@@ -1,6 +1,6 @@
 // A target is put in slot p, with the movement that leads to it. By value.
-// `t` is the moment, `c` the settings, `f` the level from which a command starts, `s` the slots and `a` the activity that it finds; `g` is the
-// target, in units.
+// `t` is the moment, `c` the settings, `f` the level from which a command starts, `s` the slots and `a` the
+// activity that it finds; `g` is the target, in units.
 ghost use mathlib.Core.Path.{_≡_};
 ghost use Prim.Native.Nat.{_<_, _≤_, _^_};
 ghost use Rattle.lighting_outputs.specs.Paper.Commands.{replaced, placed, movement, rampLength, target, fadedOver, fadedTo, rampedAt, rampedTo};

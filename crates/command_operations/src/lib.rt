@@ -58,7 +58,8 @@ fn step_alone(x: f32) -> OperationFields
     }
 }
 
-// Level, rate, step and fade time, each there or not: also where a setting is used in its place it is not there.
+// Level, rate, step and fade time, each there or not: also where a setting is used in its place it is not
+// there.
 pub fn fields_of(k: Operation) -> OperationFields
     ensures { λ r. ⌜ r ≡ fieldsOf k ⌝ }
 {

@@ -1,4 +1,5 @@
-// A command, read: an operation with its fields and its duration as a request, or the refusal that the first field out of range meets.
+// A command, read: an operation with its fields and its duration as a request, or the refusal that the first
+// field out of range meets.
 ghost use mathlib.Core.Path.{_≡_};
 ghost use Rattle.lighting_outputs.specs.Paper.Answers.{levelRefusal};
 ghost use Rattle.lighting_outputs.specs.Paper.Requests.{levelFieldRefusal, amountFieldRefusal, timeFieldRefusal, firstRefusal, fieldsRefusal, commandLasting, commandWithDuration, commandRequestBy, commandOf, plainDuration, commandRequest};

@@ -1,5 +1,5 @@
-// Bytes, big-endian numbers and parts out of a frame. Past the end of the frame every byte is 0, and a part has what is there, so that a field can be
-// read before the length is judged.
+// Bytes, big-endian numbers and parts out of a frame. Past the end of the frame every byte is 0, and a part
+// has what is there, so that a field can be read before the length is judged.
 ghost use mathlib.Core.Path.{_≡_};
 ghost use Prim.Native.Nat.{_+_, _<_, min};
 ghost use lib.ListN.{take, drop};
@@ -17,7 +17,8 @@ pub fn byte_at(s: &[u8], at: usize) -> u8
 // The last place that a usize holds: no slice reaches it.
 const LAST: usize = 18446744073709551615;
 
-// The place `more` bytes on. A sum that a usize does not hold is past the end of any slice, and so is the last place.
+// The place `more` bytes on. A sum that a usize does not hold is past the end of any slice, and so is the
+// last place.
 fn later(at: usize, more: usize) -> usize
     ensures { λ r. ⌜ r ≡ min (at + more) 18446744073709551615 ⌝ }
 {

@@ -61,7 +61,8 @@ fn command_row(k: u8) -> KindRow
     }
 }
 
-// The row of a kind byte: its length, from which the length test follows, and its kind, from which the action follows.
+// The row of a kind byte: its length, from which the length test follows, and its kind, from which the action
+// follows.
 pub fn kind_row(k: u8) -> KindRow
     ensures { λ r. ⌜ r ≡ kindRow k ⌝ }
 {

@@ -1,5 +1,5 @@
-// A string of bytes, read: refusals 2 to 5, a clock, or a call with its request. Nothing here looks at a panel but for its number of
-// outputs.
+// A string of bytes, read: refusals 2 to 5, a clock, or a call with its request. Nothing here looks at a
+// panel but for its number of outputs.
 ghost use mathlib.Core.Path.{_≡_};
 ghost use Rattle.lighting_levels.specs.Paper.Level.{real};
 ghost use Rattle.lighting_levels.specs.Paper.Field.{bigEndian};

@@ -1,4 +1,5 @@
--- The table of kinds: a fact that each row has is one test over the rows, computed. No frame is longer than the longest; and the kind byte of an action.
+-- The table of kinds: a fact that each row has is one test over the rows, computed. No frame is longer than
+-- the longest; and the kind byte of an action.
 use mathlib.Core.Path.{_≡_, refl, sym, ap, _∙_}
 use mathlib.Core.Logic.{_≢_}
 use mathlib.Core.Bool.{Bool, true, false}

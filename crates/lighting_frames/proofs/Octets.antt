@@ -23,7 +23,8 @@ octet [] at h = omega arith
 octet (x ∷ b) zero h = h .0
 octet (x ∷ b) (suc at) h = octet b at (h .1)
 
--- a part of one is one, and so are one behind another, one byte again and again, and what a number is spelled in
+-- a part of one is one, and so are one behind another, one byte again and again, and what a number is spelled
+-- in
 pub taken-octets : (n : ℕ) (b : Bytes) → Octets b → Octets (take n b)
 taken-octets zero b o = tt
 taken-octets (suc n) [] o = tt

@@ -95,7 +95,8 @@ number-by p c l (CallKind action) b call command e h r n m = by-bool (eqb (lengt
     bad : Bad 3 ≡ Calls call → operationNumber (command .operation) ≡ byteAt b 0 - 0x10
     bad h = cc
 
--- '0F last operation (kind minus 10)': a frame of kind 10 to 1A that is taken as a command has the operation whose number is its kind less 10
+-- '0F last operation (kind minus 10)': a frame of kind 10 to 1A that is taken as a command has the operation
+-- whose number is its kind less 10
 pub kind-number : (p : Parameters) (c : ℕ) (b : Bytes) (call : Call) (command : Command)
     → parse p c b ≡ Calls call → call .request ≡ ToOutput (Commands command) → 0x10 ≤ byteAt b 0 → byteAt b 0 ≤ 0x1a
     → operationNumber (command .operation) ≡ byteAt b 0 - 0x10

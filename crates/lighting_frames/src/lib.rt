@@ -1,5 +1,5 @@
-// Frames of the dimming panel, commands in tags, and stations: the types. The definitions of specs/ are over these very types, and so is the
-// code of the crates above.
+// Frames of the dimming panel, commands in tags, and stations: the types. The definitions of specs/ are over
+// these very types, and so is the code of the crates above.
 use lighting_outputs::Answer;
 use lighting_outputs::Operation;
 use lighting_outputs::Request;
@@ -7,7 +7,8 @@ use lighting_outputs::TimeField;
 
 // ---- a command in BACnet's own tagging (§1 of the change requests)
 
-// A field behind its context tag, there or not: of how many octets its content is, and the number that they spell, a REAL's pattern for a REAL.
+// A field behind its context tag, there or not: of how many octets its content is, and the number that they
+// spell, a REAL's pattern for a REAL.
 pub enum TagField {
     Holds { count: u8, value: u32 },
     Missing,
@@ -26,7 +27,8 @@ pub struct TagFields {
 // The most bytes of a tagged command. The definitions have the same number, `mostTagged`.
 pub const MOST_TAGGED: usize = 17;
 
-// A tagged command as a frame carries it after the 13 common bytes: how many bytes there are, and they, with zeros after them.
+// A tagged command as a frame carries it after the 13 common bytes: how many bytes there are, and they, with
+// zeros after them.
 pub struct TaggedBody {
     pub length: u8,
     pub bytes: [u8; MOST_TAGGED],
@@ -44,7 +46,8 @@ pub enum TaggedReading {
 // The bytes of the longest frame: no kind has more. The definitions have the same number, `longestFrame`.
 pub const LONGEST_FRAME: usize = 31;
 
-// What a station was answered last, to which number and which frame: a retransmission, the paper's copy, is known by them. Number 0: none yet.
+// What a station was answered last, to which number and which frame: a retransmission, the paper's copy, is
+// known by them. Number 0: none yet.
 pub struct Station {
     pub answer: Answer,
     pub number: u32,
@@ -53,7 +56,8 @@ pub struct Station {
 
 // ---- kinds of frames
 
-// What a call asks of its output, by its kind: 02 to 05, then the commands, 10 to 1A, and a command in tags, 1B.
+// What a call asks of its output, by its kind: 02 to 05, then the commands, 10 to 1A, and a command in tags,
+// 1B.
 pub enum Action {
     WritesLevel,
     EmptiesSlot,

@@ -1,5 +1,5 @@
--- A number that none of a match's keys is. The keys stand the last first, as a match's last arm has them: an `omega` over all of them
--- would meet a split for each.
+-- A number that none of a match's keys is. The keys stand the last first, as a match's last arm has them: an
+-- `omega` over all of them would meet a split for each.
 use mathlib.Core.Path.{_≡_}
 use mathlib.Core.List.{List, [], _∷_}
 use Prim.Native.Nat.{ℕ, zero, suc, _+_, _≤_}

@@ -1,5 +1,6 @@
--- The rounding fact, proved once: `nearestTo` sees only the value of a fraction, keeps the order, leaves a whole number as it is, and gives the
--- nearest number, of two the even one. What stands above `twiceApart` needs of a half only that it becomes the whole part or the next number.
+-- The rounding fact, proved once: `nearestTo` sees only the value of a fraction, keeps the order, leaves a
+-- whole number as it is, and gives the nearest number, of two the even one. What stands above `twiceApart`
+-- needs of a half only that it becomes the whole part or the next number.
 use mathlib.Core.Path.{_≡_, refl, sym, ap, subst}
 use mathlib.Core.Logic.{inl, inr}
 use mathlib.Core.Bool.{not}
@@ -90,8 +91,9 @@ nearest-same a b c d B D e = le-antisymm (nearest-mono a b c d B D (le-of-eq e))
 pub nearest-whole : (n : ℕ) → nearestTo n 1 ≡ n
 nearest-whole n = rw (let z : n % 1 ≡ 0 = omega arith in z) (div-one n)
 
--- THE ROUNDING FACT (§5): `nearestTo a c` is within half a unit of a / c, and even where it is half a unit from it; and it is the only such number.
--- Twice |a / c - n|, counted in parts of 1 / c: at half a unit it is c
+-- THE ROUNDING FACT (§5): `nearestTo a c` is within half a unit of a / c, and even where it is half a unit
+-- from it; and it is the only such number. Twice |a / c - n|, counted in parts of 1 / c: at half a unit it is
+-- c
 abbrev pub twiceApart : ℕ → ℕ → ℕ → ℕ
 twiceApart a c n = distance (a * 2) (n * c * 2)
 

@@ -1,4 +1,5 @@
--- A loop that tests one number after another, up to e: what a turn, an early end and its end say of the whole test. And the test whether a number is in a list.
+-- A loop that tests one number after another, up to e: what a turn, an early end and its end say of the whole
+-- test. And the test whether a number is in a list.
 use Prim.Native.Nat.{ℕ, zero, suc, _+_, _-_, _≤_, _<_}
 use mathlib.Core.Path.{_≡_, refl, sym, ap, _∙_}
 use mathlib.Core.Bool.{Bool, true, false}

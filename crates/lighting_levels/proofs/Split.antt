@@ -1,5 +1,6 @@
--- Splitting a proof on a test that computes. Each lemma hands both cases the fact on the numbers and the test's value as an equation,
--- so that `rw` can put the value into the goal; the goal is read off where the lemma is called.
+-- Splitting a proof on a test that computes. Each lemma hands both cases the fact on the numbers and the
+-- test's value as an equation, so that `rw` can put the value into the goal; the goal is read off where the
+-- lemma is called.
 use mathlib.Core.Path.{_≡_, refl, sym, _∙_}
 use mathlib.Core.Logic.{_≢_}
 use mathlib.Core.Bool.{Bool, true, false, false≢true}

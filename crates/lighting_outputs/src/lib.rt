@@ -1,9 +1,11 @@
-// An output of the dimming panel, and what is asked of it: the types. The definitions of specs/ are over these very types, and so is the code
-// of the crates above. Slots are counted from 0: priority p is slot p - 1, and slot 6 of the paper is 5. Times are in milliseconds.
+// An output of the dimming panel, and what is asked of it: the types. The definitions of specs/ are over
+// these very types, and so is the code of the crates above. Slots are counted from 0: priority p is slot p -
+// 1, and slot 6 of the paper is 5. Times are in milliseconds.
 
 // ---- numbers by name; the definitions have the same (specs/Paper/Slots.antt, specs/Paper/Level.antt)
 
-// Sixteen slots: how many there are, and the first number that is no slot. Slot 6, which is a warning's, and slot 16, the last.
+// Sixteen slots: how many there are, and the first number that is no slot. Slot 6, which is a warning's, and
+// slot 16, the last.
 pub const SLOTS: usize = 16;
 
 pub const NO_SLOT: u8 = 16;
@@ -14,13 +16,15 @@ pub const SLOT_16: u8 = 15;
 
 // ---- an output's record
 
-// Sixteen bits say which slots are live, priority 1 being the lowest, beside the levels. An emptied slot's level is 0.
+// Sixteen bits say which slots are live, priority 1 being the lowest, beside the levels. An emptied slot's
+// level is 0.
 pub struct Slots {
     pub live: u16,
     pub levels: [u32; SLOTS],
 }
 
-// The writable properties of document 01 but Elapsed_Active_Time; those of §3 stand in the relay. Fields have names of one word: the definitions would have to put others between marks.
+// The writable properties of document 01 but Elapsed_Active_Time; those of §3 stand in the relay. Fields have
+// names of one word: the definitions would have to put others between marks.
 pub struct Settings {
     // Relinquish_Default, a level
     pub default: u32,
@@ -42,7 +46,8 @@ pub struct Settings {
 
 // The relay of an output (§3 of the change requests), which Present_Value switches.
 pub struct Relay {
-    // Binary_Active_Value and Binary_Inactive_Value, levels: at or above the one it turns active, at or below the other inactive
+    // Binary_Active_Value and Binary_Inactive_Value, levels: at or above the one it turns active, at or below
+    // the other inactive
     pub active: u32,
     pub inactive: u32,
     // Polarity: normal, or reverse
@@ -57,8 +62,8 @@ pub enum Pace {
     Ramp(u32),
 }
 
-// The movement of the slot `owner`. It lasts `length` and is over at the moment `over`: a due moment is kept whole, so that none has to be added
-// up when a record is read.
+// The movement of the slot `owner`. It lasts `length` and is over at the moment `over`: a due moment is kept
+// whole, so that none has to be added up when a record is read.
 pub struct Movement {
     pub owner: u8,
     pub start: u32,
@@ -68,13 +73,15 @@ pub struct Movement {
     pub pace: Pace,
 }
 
-// The phases of a warning: in Blink slot 6 holds 0 until the moment `turn`; in Delay it holds the old level until the moment `over`.
+// The phases of a warning: in Blink slot 6 holds 0 until the moment `turn`; in Delay it holds the old level
+// until the moment `over`.
 pub enum Phase {
     Blink,
     Delay,
 }
 
-// The warning of the slot `owner`. `level` is the paper's Y. Without a delay `over` is `turn`, and no Delay follows.
+// The warning of the slot `owner`. `level` is the paper's Y. Without a delay `over` is `turn`, and no Delay
+// follows.
 pub struct Warning {
     pub phase: Phase,
     pub owner: u8,
@@ -170,8 +177,8 @@ pub enum Answer {
     Refused(u8),
 }
 
-// The set of parameters that a panel is made with. Which numbers it may have, the definitions say (`startable`
-// of specs/Paper/Startable.antt).
+// The set of parameters that a panel is made with. Which numbers it may have, the definitions say
+// (`startable` of specs/Paper/Startable.antt).
 pub struct Parameters {
     // How many station records there are, and the most outputs
     pub stations: u32,
@@ -214,7 +221,8 @@ pub enum Property {
     Unknown,
 }
 
-// What a property's value must be, and how it is kept (`rowOf` of specs/Paper/Rows.antt has the row of each property).
+// What a property's value must be, and how it is kept (`rowOf` of specs/Paper/Rows.antt has the row of each
+// property).
 pub enum Range {
     // REAL 0 to 100, kept as a level
     Percent,
@@ -240,9 +248,9 @@ pub enum OutputRequest {
     Commands(Command),
 }
 
-// What a frame asks: something of its own output, and of no other; or nothing, by the refusal from 9 to 12, or 14 or 15,
-// that its fields meet (a read of an unknown property meets its 9 when it is answered). A request to the whole table is a
-// case of its own here.
+// What a frame asks: something of its own output, and of no other; or nothing, by the refusal from 9 to 12,
+// or 14 or 15, that its fields meet (a read of an unknown property meets its 9 when it is answered). A
+// request to the whole table is a case of its own here.
 pub enum Request {
     Refuse(u8),
     ToOutput(OutputRequest),

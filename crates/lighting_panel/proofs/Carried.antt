@@ -1,4 +1,5 @@
--- `startStep`, `frameStep` and `execute` on each of their ways, as the code over the lent tables takes them; and what a verdict is sure of.
+-- `startStep`, `frameStep` and `execute` on each of their ways, as the code over the lent tables takes them;
+-- and what a verdict is sure of.
 --
 use mathlib.Core.Path.{_≡_, refl, ap₂}
 use mathlib.Core.Bool.{Bool, true, false}

@@ -1,5 +1,6 @@
--- THE LIST THEOREM: over every list of frames the engine finds and answers what the plain panel finds and answers. It stands on laws of
--- the table (proofs/Table.antt) and of reading (proofs/Reading.antt), and never looks at a kind of request.
+-- THE LIST THEOREM: over every list of frames the engine finds and answers what the plain panel finds and
+-- answers. It stands on laws of the table (proofs/Table.antt) and of reading (proofs/Reading.antt), and never
+-- looks at a kind of request.
 use mathlib.Core.Path.{_≡_, refl, sym, ap, _∙_}
 use mathlib.Core.Logic.{_≢_}
 use mathlib.Core.Bool.{true}

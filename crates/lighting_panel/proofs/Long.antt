@@ -1,5 +1,6 @@
--- A string that is longer than the longest frame is refused by its first byte and its length alone: its first bytes, one more than that frame
--- has, are refused likewise. So a reader may keep these of a string of any length.
+-- A string that is longer than the longest frame is refused by its first byte and its length alone: its first
+-- bytes, one more than that frame has, are refused likewise. So a reader may keep these of a string of any
+-- length.
 use mathlib.Core.Path.{_≡_, refl, sym, ap, _∙_}
 use mathlib.Core.List.{[], _∷_}
 use Prim.Native.Nat.{ℕ, _+_, _≤_, _<_}

@@ -1,5 +1,5 @@
--- FRAMES UNDER OTHER NAMES: a list in which each frame is put into another form that is read alike, and in which different frames stay different, finds and
--- answers the same. Nothing here looks at a kind of frame.
+-- FRAMES UNDER OTHER NAMES: a list in which each frame is put into another form that is read alike, and in
+-- which different frames stay different, finds and answers the same. Nothing here looks at a kind of frame.
 use Rattle.lighting_levels.specs.Paper.Choice.{if_then_else_, Every}
 use mathlib.Core.Path.{_≡_, refl, ap, _∙_}
 use mathlib.Core.List.{List, _∷_, map, []}

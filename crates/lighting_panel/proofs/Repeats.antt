@@ -1,4 +1,5 @@
--- Frames of a list that come again later change nothing of the panel, and no answer to the frames of the list.
+-- Frames of a list that come again later change nothing of the panel, and no answer to the frames of the
+-- list.
 use mathlib.Core.Path.{_≡_, refl, ap}
 use mathlib.Core.List.{List, [], _∷_}
 use Prim.Native.Nat.{ℕ, suc, _≤_, _<_}
@@ -25,7 +26,8 @@ use Rattle.lighting_frames.proofs.Reading.{FrameInRange, frame-in-range}
 use Rattle.lighting_panel.proofs.Table.{runPlain-advance, advance-here}
 use Rattle.lighting_panel.proofs.Lists.{joined, Refines, Moved, judged-moved, decide-judged, linked-sound, step}
 
--- a frame that can no longer move the panel: its number is not above its station's latest, or its time is past
+-- a frame that can no longer move the panel: its number is not above its station's latest, or its time is
+-- past
 data Stale (w : PlainState) (call : Call) : Type 0 where
   old : call .number ≤ latest (call .station) (w .past) .number → Stale w call
   late : call .time < w .panel .time → Stale w call

@@ -1,5 +1,5 @@
--- All outputs of a table at once: the laws of time passing, of acting and of the record rules that the list theorem stands on. It asks
--- nothing else of an output or of a request.
+-- All outputs of a table at once: the laws of time passing, of acting and of the record rules that the list
+-- theorem stands on. It asks nothing else of an output or of a request.
 use mathlib.Core.Path.{_≡_, refl, sym, ap, ap₂, _∙_}
 use mathlib.Core.Logic.{_≢_}
 use mathlib.Core.Bool.{true}
@@ -109,8 +109,8 @@ advance-here p t l b a =
 pub all-advance : (p : Parameters) (now to : ℕ) (l : List Output) → now ≤ to → to ≤ greatestCount → AllSound p now l → AllSound p to (map (advance now to) l)
 all-advance p now to l h b a = every-map (Lawful p now) (Lawful p to) (advance now to) l (λ o k. advance-sound p now to o h b k) a
 
--- ACTING: the laws of `served`. A request to the table is a clause more of each that goes by clauses; nothing above looks
--- into a request
+-- ACTING: the laws of `served`. A request to the table is a clause more of each that goes by clauses; nothing
+-- above looks into a request
 pub served-length : (t : ℕ) (l : List Output) (i : ℕ) (r : Request) → length (served t l i r .outputs) ≡ length l
 unfolding served
 served-length t l i (Refuse n) = refl

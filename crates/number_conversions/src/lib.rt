@@ -1,5 +1,6 @@
-// The conversions of REALs for other languages: the static library that the comparison with another binary32 library links.
-// A REAL comes as its pattern, and units go out as they are; 4,294,967,295, which no level, limit, rate or step has, stands for a refusal.
+// The conversions of REALs for other languages: the static library that the comparison with another binary32
+// library links. A REAL comes as its pattern, and units go out as they are; 4,294,967,295, which no level,
+// limit, rate or step has, stands for a refusal.
 ghost use mathlib.Core.Path.{_≡_};
 ghost use Rattle.lighting_levels.specs.Paper.Level.{real, levelOf, limitOf, amountOf, unitsOr, readOut};
 

@@ -1,4 +1,5 @@
-// REALs, levels, rates and steps. What is public asks nothing of its arguments: no REAL and no pattern is out of its reach.
+// REALs, levels, rates and steps. What is public asks nothing of its arguments: no REAL and no pattern is out
+// of its reach.
 ghost use mathlib.Core.Path.{_≡_};
 ghost use Prim.Native.Nat.{_≤_, _<_, _^_, min};
 ghost use lib.Ieee.{binary32, nanBits, isNan};
@@ -33,7 +34,8 @@ fn is_nan(x: f32) -> bool
     x != x
 }
 
-// A REAL's pattern. No record holds a NaN, for which one pattern is fixed here, since `f32::to_bits` is not defined there.
+// A REAL's pattern. No record holds a NaN, for which one pattern is fixed here, since `f32::to_bits` is not
+// defined there.
 pub fn bits_of(x: f32) -> u32
     ensures { λ r. ⌜ r ≡ bits x ⌝ }
 {
@@ -45,8 +47,8 @@ pub fn bits_of(x: f32) -> u32
 
 // ---- from a REAL to units
 
-// The rounding: the whole number nearest to n / 1,024, a half going to the even one. What is added carries all that is more than a half to the next number,
-// and a half only from an odd one.
+// The rounding: the whole number nearest to n / 1,024, a half going to the even one. What is added carries
+// all that is more than a half to the next number, and a half only from an odd one.
 fn rounded(n: u64) -> u64
     requires { ⌜ n < 2 ^ 34 ⌝ }
     ensures { λ r. ⌜ r ≡ nearestTo n 1024 ⌝ }
@@ -132,7 +134,8 @@ pub fn units_or(otherwise: u32, level: Level) -> u32
     }
 }
 
-// A rate or a step that is kept as a REAL: from 0.125 to 100 percent, whatever the REAL, so that a division by it is safe.
+// A rate or a step that is kept as a REAL: from 0.125 to 100 percent, whatever the REAL, so that a division
+// by it is safe.
 pub fn amount_units(x: f32) -> u32
     ensures { λ r. ⌜ r ≡ amountUnits x ⌝ }
     ensures { λ r. ⌜ (leastAmount ≤ r) × (r ≤ greatestLevel) ⌝ }

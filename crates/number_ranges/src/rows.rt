@@ -1,4 +1,5 @@
-// What a property's value must be: one row a property. What is kept of it meets the row: a write is judged by it, and so is a record.
+// What a property's value must be: one row a property. What is kept of it meets the row: a write is judged by
+// it, and so is a record.
 ghost use mathlib.Core.Path.{_≡_};
 ghost use Rattle.lighting_levels.specs.Paper.Level.{real};
 ghost use Rattle.lighting_outputs.specs.Paper.Rows.{rowOf, isAmount, meets};

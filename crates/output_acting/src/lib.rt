@@ -1,5 +1,5 @@
-// What a first arrival's request does to its output, once the output is at the frame's time: it acts, reads, or is
-// refused. By value, and on any record at all; the time comes from six bytes.
+// What a first arrival's request does to its output, once the output is at the frame's time: it acts, reads,
+// or is refused. By value, and on any record at all; the time comes from six bytes.
 ghost use mathlib.Core.Path.{_≡_};
 ghost use Prim.Native.Nat.{_<_, _^_};
 ghost use Rattle.lighting_outputs.specs.Paper.Properties.{settingsWith, relayWith, minOverMax};
@@ -31,7 +31,8 @@ fn unchanged(o: Output, a: Answer) -> Outcome
     }
 }
 
-// A write of a property, unless it would leave Min over Max (m), or the relay's inactive value not below its active one.
+// A write of a property, unless it would leave Min over Max (m), or the relay's inactive value not below its
+// active one.
 fn change_unless(m: bool, unordered: bool, o: Output, n: Property, v: u32) -> Outcome
     ensures { λ r. ⌜ r ≡ changedUnless m unordered o n v ⌝ }
 {

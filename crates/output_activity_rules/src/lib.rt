@@ -1,4 +1,5 @@
-// The record rules on what is under way: a movement, a warning, a duration. Slots are counted from 0: 7 to 16 are 6 to 15.
+// The record rules on what is under way: a movement, a warning, a duration. Slots are counted from 0: 7 to 16
+// are 6 to 15.
 ghost use mathlib.Core.Path.{_≡_};
 ghost use Prim.Native.Nat.{_<_};
 ghost use Rattle.lighting_outputs.specs.Paper.Rules.{spanSound, movementSound, warningBy, warningSound, activityBy, timerSound};
@@ -16,8 +17,8 @@ const SLOT_7: u32 = 6;
 
 const LAST_SLOT: u32 = 15;
 
-// Its end is after panel time t, what is left of it is no longer than it lasts, and it lasts 1 ms to the longest
-// that a movement may last.
+// Its end is after panel time t, what is left of it is no longer than it lasts, and it lasts 1 ms to the
+// longest that a movement may last.
 fn span_sound(parameters: Parameters, t: u64, m: Movement) -> bool
     ensures { λ r. ⌜ r ≡ spanSound parameters t m ⌝ }
 {

@@ -1,4 +1,5 @@
-// What falls due on an output at one moment: a duration, a phase of a warning, the end of a movement. By value, and on any record at all.
+// What falls due on an output at one moment: a duration, a phase of a warning, the end of a movement. By
+// value, and on any record at all.
 ghost use mathlib.Core.Path.{_≡_};
 ghost use mathlib.Core.List.{[], _∷_};
 ghost use Rattle.lighting_outputs.specs.Paper.Slots.{slot6, emptied};

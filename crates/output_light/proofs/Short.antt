@@ -1,6 +1,7 @@
--- WHEN UNITS ARE GONE, with fewer operations of 64 bits than the definition has (§4 of the change requests). `goneAt` goes by `lastShort`, a product and its
--- quotient; of the first unit and of a whole way it takes less. Each law has the form in which code cites it: r is what the function gives, x and k are what
--- it has from others.
+-- WHEN UNITS ARE GONE, with fewer operations of 64 bits than the definition has (§4 of the change requests).
+-- `goneAt` goes by `lastShort`, a product and its quotient; of the first unit and of a whole way it takes
+-- less. Each law has the form in which code cites it: r is what the function gives, x and k are what it has
+-- from others.
 use mathlib.Core.Path.{_≡_, sym, ap, _∙_}
 use Prim.Native.Nat.{ℕ, zero, suc, _-_, _*_, _/_, _≤_, _<_, min}
 use native.Mathlib.Nat.{one-mul, mul-zero, mul-comm, zero-div, le-div-iff-mul-le, div-lt-iff-lt-mul}
@@ -37,7 +38,8 @@ of-all s (suc w) h =
 pub short-all : (u s w r : ℕ) → 0 < s → u ≡ s → r ≡ w - 1 → r ≡ lastShort u s w
 short-all u s w r h i e = e ∙ rw i (sym (of-all s w h))
 
--- A QUOTIENT past the length counts as the length: the movement is over by then. So 32 bits hold what is kept of it
+-- A QUOTIENT past the length counts as the length: the movement is over by then. So 32 bits hold what is kept
+-- of it
 at-most-length : (k : ℕ) (m : Movement) → momentAfter (min (m .length) k) m ≡ momentAfter k m
 unfolding momentAfter if_then_else_
 at-most-length k m =

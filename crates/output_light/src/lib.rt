@@ -1,5 +1,6 @@
-// How long a lamp gives light: of the milliseconds of a stretch those at whose start Progress_Value is above zero (§2 of the change requests), by one
-// product and one division at most, whatever the stretch. On any record at all: with a way, a rate or a length of 0 too.
+// How long a lamp gives light: of the milliseconds of a stretch those at whose start Progress_Value is above
+// zero (§2 of the change requests), by one product and one division at most, whatever the stretch. On any
+// record at all: with a way, a rate or a length of 0 too.
 ghost use mathlib.Core.Path.{_≡_};
 ghost use Prim.Native.Nat.{_<_, _-_, max};
 ghost use lib.Dec.{eqb};
@@ -11,8 +12,8 @@ use lighting_outputs::Movement;
 use lighting_outputs::Output;
 use lighting_outputs::Pace;
 
-// ---- when so many units of a movement's way are gone. In milliseconds of the movement, which have 32 bits once they are known to be at most its length
-// (§4 of the change requests)
+// ---- when so many units of a movement's way are gone. In milliseconds of the movement, which have 32 bits
+// once they are known to be at most its length (§4 of the change requests)
 
 // One less, and 0 of 0, in 32 bits.
 fn one_less(w: u32) -> u32
@@ -21,8 +22,9 @@ fn one_less(w: u32) -> u32
     if w == 0 { 0 } else { w - 1 }
 }
 
-// The last millisecond of a movement at which u units are not yet gone, where s units go in w milliseconds. Of all s, as in a fade to 0, it is the last of the w;
-// else, in a ramp, it takes a product, which has up to 64 bits.
+// The last millisecond of a movement at which u units are not yet gone, where s units go in w milliseconds.
+// Of all s, as in a fade to 0, it is the last of the w; else, in a ramp, it takes a product, which has up to
+// 64 bits.
 fn last_short(u: u32, s: u32, w: u32) -> u64
     requires { ⌜ 0 < s ⌝ }
     ensures { λ r. ⌜ r ≡ lastShort u s w ⌝ }
@@ -56,7 +58,8 @@ fn first_gone_at(s: u32, w: u32, m: Movement) -> Moment
     }
 }
 
-// The moment from which on u units are gone. Whether the movement lasts so long is asked of the whole quotient, before it is narrowed.
+// The moment from which on u units are gone. Whether the movement lasts so long is asked of the whole
+// quotient, before it is narrowed.
 fn gone_at(u: u32, s: u32, w: u32, m: Movement) -> Moment
     ensures { λ r. ⌜ r ≡ goneAt u s w m ⌝ }
 {

@@ -1,4 +1,5 @@
-// The passing of time: from due moment to due moment, at most three an output and frame. Nothing here lives a millisecond by itself.
+// The passing of time: from due moment to due moment, at most three an output and frame. Nothing here lives a
+// millisecond by itself.
 ghost use mathlib.Core.Path.{_≡_};
 ghost use Prim.Native.Nat.{_+_, _-_, min};
 ghost use Rattle.lighting_outputs.specs.Engine.Advance.{sooner, due, burnedBy, withBurnedSaturating, fireDue, eventStep, eventSteps, advance, later};
@@ -70,8 +71,8 @@ fn fire_due(d: u64, o: Output) -> Output
     }
 }
 
-// A stretch up to d, and what falls due at its end, or nothing after the last one. One function makes every stretch: a second one would be passed the record by
-// value, which costs more than the stretch.
+// A stretch up to d, and what falls due at its end, or nothing after the last one. One function makes every
+// stretch: a second one would be passed the record by value, which costs more than the stretch.
 fn stretch(now: u64, d: u64, fires: bool, o: Output) -> Output
     ensures { λ r. ⌜ r ≡ (if fires then eventStep now d o else eventSteps 0 now d o) ⌝ }
 {
@@ -100,7 +101,8 @@ pub fn three_event_steps(now: u64, to: u64, o: Output) -> Output
     two_event_steps(d, to, stretch(now, d, true, o))
 }
 
-// ---- the way of most outputs at most frames: nothing falls due up to its end, and `rest` or `move_on` is all of it
+// ---- the way of most outputs at most frames: nothing falls due up to its end, and `rest` or `move_on` is
+// all of it
 
 pub fn is_later(to: u64, o: Output) -> bool
     ensures { λ r. ⌜ r ≡ later to o ⌝ }
@@ -108,7 +110,8 @@ pub fn is_later(to: u64, o: Output) -> bool
     to < next_due(18446744073709551615, o)
 }
 
-// Of an output without a movement, and of one with it. Each is called in one place, so that the compiler puts it there and copies no record.
+// Of an output without a movement, and of one with it. Each is called in one place, so that the compiler puts
+// it there and copies no record.
 pub fn rest(now: u64, to: u64, o: Output) -> Output
     ensures { λ r. ⌜ r ≡ burnedBy (litResting (to - now) (presentValue (o .settings) (o .slots))) o ⌝ }
 {

@@ -1,4 +1,5 @@
-// Every way in which an output's record is changed, field by field: the like of specs/Paper/Record.antt. A fresh record is the crate `output_fresh`.
+// Every way in which an output's record is changed, field by field: the like of specs/Paper/Record.antt. A
+// fresh record is the crate `output_fresh`.
 ghost use mathlib.Core.Path.{_≡_};
 ghost use Rattle.lighting_outputs.specs.Paper.Record.{withBurning, withDue, withRelay, withEffect, withCommand, withSettings};
 use lighting_outputs::Activity;

@@ -1,5 +1,6 @@
--- THE RULES ON THE RELAY IN FEWER COMPARISONS, as the code tests them. That the inactive value is below the active one comes first: then the active one is
--- not 0, and the inactive one is under 100 percent if the active one is at most that.
+-- THE RULES ON THE RELAY IN FEWER COMPARISONS, as the code tests them. That the inactive value is below the
+-- active one comes first: then the active one is not 0, and the inactive one is under 100 percent if the
+-- active one is at most that.
 use mathlib.Core.Path.{_≡_, refl, sym, _∙_}
 use mathlib.Core.Bool.{Bool, true, false}
 use Prim.Native.Nat.{ℕ, suc, _<_}

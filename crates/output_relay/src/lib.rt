@@ -1,4 +1,5 @@
-// The relay of an output (§3 of the change requests): how Present_Value switches it, its state, and the rules on it. By value, and on any relay at all.
+// The relay of an output (§3 of the change requests): how Present_Value switches it, its state, and the rules
+// on it. By value, and on any relay at all.
 ghost use mathlib.Core.Path.{_≡_};
 ghost use mathlib.Core.Bool.{true};
 ghost use lib.Dec.{ltb, leb, eqb};
@@ -68,7 +69,8 @@ fn is_low_level(inactive: u32) -> bool
     }
 }
 
-// Binary_Present_Value is as judging leaves it: where active, Present_Value is above the inactive value; where inactive, below the active one.
+// Binary_Present_Value is as judging leaves it: where active, Present_Value is above the inactive value;
+// where inactive, below the active one.
 fn is_judged(v: u32, relay: Relay) -> bool
     ensures { λ r. ⌜ r ≡ (if relay .binary then ltb (relay .inactive) v else ltb v (relay .active)) ⌝ }
 {
@@ -79,10 +81,10 @@ fn is_judged(v: u32, relay: Relay) -> bool
     }
 }
 
-// Every lent record is tested at every frame, so the rules stand here in fewer comparisons than in the definition
-// (proofs/Fewer.antt): where the inactive value is below the active one, the active one is above 0, and the
-// inactive one below 100 percent if the active one is at most that. No number of the set of parameters plays a
-// part.
+// Every lent record is tested at every frame, so the rules stand here in fewer comparisons than in the
+// definition (proofs/Fewer.antt): where the inactive value is below the active one, the active one is above
+// 0, and the inactive one below 100 percent if the active one is at most that. No number of the set of
+// parameters plays a part.
 pub fn relay_sound(v: u32, relay: Relay) -> bool
     ensures { λ r. ⌜ ((p : Parameters) → r ≡ relaySound p v relay) ⌝ }
 {

@@ -1,4 +1,5 @@
--- The record rules in the order in which the code tests them: those on the slots, the only ones that copy anything, come last.
+-- The record rules in the order in which the code tests them: those on the slots, the only ones that copy
+-- anything, come last.
 use mathlib.Core.Path.{_≡_, refl, sym, ap, _∙_}
 use mathlib.Core.Bool.{Bool, true, false}
 use Prim.Native.Nat.{ℕ}

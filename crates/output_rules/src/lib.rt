@@ -1,5 +1,5 @@
-// The record rules, as the test that is made of every lent record; those on what is under way are the crate `output_activity_rules`, those on the relay `output_relay`. Slots are counted from
-// 0: slot 6 is 5.
+// The record rules, as the test that is made of every lent record; those on what is under way are the crate
+// `output_activity_rules`, those on the relay `output_relay`. Slots are counted from 0: slot 6 is 5.
 ghost use mathlib.Core.Path.{_≡_};
 ghost use Rattle.lighting_outputs.specs.Paper.Slots.{slot6, isLive, winner};
 ghost use Rattle.lighting_outputs.specs.Paper.Rules.{levelsSound, timesSound, realsSound, settingsSound, slotsSound, activityBy, sound};
@@ -79,7 +79,8 @@ fn settings_sound(parameters: Parameters, c: Settings) -> bool
 
 // ---- slots
 
-// A live slot holds a level. The loop takes the lowest live slot away until none is left, over a copy of the levels alone.
+// A live slot holds a level. The loop takes the lowest live slot away until none is left, over a copy of the
+// levels alone.
 fn live_sound(s: Slots) -> bool
     ensures { λ r. ⌜ r ≡ slotsSound s ⌝ }
 {
@@ -121,7 +122,8 @@ fn activity_sound(parameters: Parameters, t: u64, high: u32, s: Slots, v: u32, a
 
 // ---- the record at panel time t
 
-// The rules on the slots come last: a test of levels copies them, and what was read before such a copy would be kept on the stack beside it.
+// The rules on the slots come last: a test of levels copies them, and what was read before such a copy would
+// be kept on the stack beside it.
 pub fn is_sound(parameters: Parameters, t: u64, o: Output) -> bool
     ensures { λ r. ⌜ r ≡ sound parameters t o ⌝ }
 {

@@ -1,5 +1,6 @@
-// The slots of an output: sixteen bits that say which are live, beside the levels. A slot is set, cleared and tested by a shifted mask; the
-// winner is the lowest bit set. There is no slot from 16 on: it is never live, and to set or clear it changes nothing.
+// The slots of an output: sixteen bits that say which are live, beside the levels. A slot is set, cleared and
+// tested by a shifted mask; the winner is the lowest bit set. There is no slot from 16 on: it is never live,
+// and to set or clear it changes nothing.
 ghost use mathlib.Core.Path.{_≡_};
 ghost use Prim.Native.Nat.{_<_};
 ghost use lib.ListN.{getD};
@@ -76,7 +77,8 @@ pub fn fill(s: Slots, i: u8, v: u32) -> Slots
     }
 }
 
-// The level of slot i. The levels are copied alone, and only where one is looked up: a copy of all of the slots would put the levels askew.
+// The level of slot i. The levels are copied alone, and only where one is looked up: a copy of all of the
+// slots would put the levels askew.
 fn level_of(s: Slots, i: u32) -> u32
     requires { ⌜ i < slotCount ⌝ }
     ensures { λ r. ⌜ r ≡ getD (s .levels) i 0 ⌝ }

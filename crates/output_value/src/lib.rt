@@ -23,7 +23,8 @@ pub fn least(a: u64, b: u64) -> u64
     if a < b { a } else { b }
 }
 
-// A number brought to 32 bits, where it is below another, and else that other: asked of all 64 bits, and narrowed then.
+// A number brought to 32 bits, where it is below another, and else that other: asked of all 64 bits, and
+// narrowed then.
 pub fn at_most(n: u64, most: u32) -> u32
     ensures { λ r. ⌜ r ≡ min most n ⌝ }
 {
@@ -59,9 +60,10 @@ pub fn present_value(c: Settings, s: Slots) -> u32
 
 // ---- a movement
 
-// The milliseconds of a movement that have gone by: its length less what is left of it. This is the one place that makes them from moments (§4 of
-// the change requests): whether the movement still runs is asked of all 64 bits, and what is then left of it is brought to 32. From here on only the
-// product has 64, its quotient, and what a ramp's quotient is asked.
+// The milliseconds of a movement that have gone by: its length less what is left of it. This is the one place
+// that makes them from moments (§4 of the change requests): whether the movement still runs is asked of all
+// 64 bits, and what is then left of it is brought to 32. From here on only the product has 64, its quotient,
+// and what a ramp's quotient is asked.
 fn elapsed(t: u64, m: Movement) -> u32
     ensures { λ r. ⌜ r ≡ elapsed t m ⌝ }
 {

@@ -1,5 +1,6 @@
-// Whether a zero that kind 02 writes starts a blink warning, and the warning's first phase. By value, and on any record at all.
-// Slots are counted from 0: the paper's slot 6, which a warning holds, is 5. `t` is the moment, `c` the settings, `s` the slots, `x` the slot.
+// Whether a zero that kind 02 writes starts a blink warning, and the warning's first phase. By value, and on
+// any record at all. Slots are counted from 0: the paper's slot 6, which a warning holds, is 5. `t` is the
+// moment, `c` the settings, `s` the slots, `x` the slot.
 ghost use mathlib.Core.Path.{_≡_};
 ghost use Prim.Native.Nat.{_<_, _^_};
 ghost use Rattle.lighting_outputs.specs.Paper.Writing.{zeroOrEmpty, zeroOrEmptyFrom, blinks, zeroOrEmptyAbove, warnsBy, warns, firstLevel, firstPhase, warningFrom};
@@ -39,7 +40,8 @@ fn zero_or_empty_from(s: Slots, from: usize) -> bool
     true
 }
 
-// 'if Blink_Enable is 1, Blink_Time B plus delay D is above 0'. The sum is made in 64 bits, for a lent record holds any B and D.
+// 'if Blink_Enable is 1, Blink_Time B plus delay D is above 0'. The sum is made in 64 bits, for a lent record
+// holds any B and D.
 fn does_blink(c: Settings) -> bool
     ensures { λ r. ⌜ r ≡ blinks c ⌝ }
 {
@@ -61,7 +63,8 @@ fn zero_or_empty_above(c: Settings, s: Slots, x: u8) -> bool
     }
 }
 
-// `w` is the winner, `y` Present_Value. 'slots 1 to X - 1 are empty': the winner is no lower than x. The cheap tests come first.
+// `w` is the winner, `y` Present_Value. 'slots 1 to X - 1 are empty': the winner is no lower than x. The
+// cheap tests come first.
 fn warns_by(c: Settings, s: Slots, x: u8, w: u32, y: u32) -> bool
     ensures { λ r. ⌜ r ≡ warnsBy c s x w y ⌝ }
 {

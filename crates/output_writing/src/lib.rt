@@ -1,5 +1,6 @@
 // Kinds 02 and 03: a slot is written or emptied, with the blink warning that a zero may start. All by value.
-// Slots are counted from 0: the paper's slot 6, which a warning holds, is 5. `t` is the moment, `o` the output, `i` the slot, `v` the level.
+// Slots are counted from 0: the paper's slot 6, which a warning holds, is 5. `t` is the moment, `o` the
+// output, `i` the slot, `v` the level.
 ghost use mathlib.Core.Path.{_≡_};
 ghost use Prim.Native.Nat.{_<_, _^_};
 ghost use Rattle.lighting_outputs.specs.Paper.Writing.{endMovementUnlessAbove, stored, warnedBy, warned, endedEmpty, endedStored, writtenWarned, writtenZero, writtenCalm, writtenBy, written, activityRelinquished, slotRelinquished};
@@ -10,7 +11,8 @@ use output_record::with_effect;
 
 // ---- warnings aside
 
-// 'A movement goes on if P is above its owner's number [..]; else it ends': a write at the owner's own number ends it too.
+// 'A movement goes on if P is above its owner's number [..]; else it ends': a write at the owner's own number
+// ends it too.
 fn end_movement_unless_above(i: u8, a: Activity) -> Activity
     ensures { λ r. ⌜ r ≡ endMovementUnlessAbove i a ⌝ }
 {

@@ -1,5 +1,5 @@
--- Loops over a table, of any type of records: what one that changes each in turn has done up to an index, and what one that tests each has
--- found.
+-- Loops over a table, of any type of records: what one that changes each in turn has done up to an index, and
+-- what one that tests each has found.
 use mathlib.Core.Path.{_≡_, refl, sym, ap, _∙_}
 use mathlib.Core.Bool.{Bool, true, false}
 use mathlib.Core.List.{List, [], _∷_, map}

@@ -1,5 +1,6 @@
-// The tables that a caller lends: each record in turn, and one record taken out and put back. The functions here are thin: a record is taken out
-// of its table by value, a by-value function of the crates below does the work, and the record is put back.
+// The tables that a caller lends: each record in turn, and one record taken out and put back. The functions
+// here are thin: a record is taken out of its table by value, a by-value function of the crates below does
+// the work, and the record is put back.
 ghost use mathlib.Core.Bool.{true};
 ghost use mathlib.Core.List.{map};
 ghost use mathlib.Core.Path.{_≡_};
@@ -76,8 +77,9 @@ pub fn stations_sound(stations: &[Station]) -> bool
     true
 }
 
-// Brings one output to a moment, from due moment to due moment. A function of its own, so that the copies of a record that the compiler makes here stay out of
-// the way of most outputs (docs/DESIGN.md, 'With and without a movement apart').
+// Brings one output to a moment, from due moment to due moment. A function of its own, so that the copies of
+// a record that the compiler makes here stay out of the way of most outputs (docs/DESIGN.md, 'With and
+// without a movement apart').
 fn step_output(outputs: &mut [Output], i: usize, from: u64, to: u64)
     requires { ⌜ i < length (now outputs) ⌝ }
     ensures { λ _. ⌜ now (outputs .exit) ≡ set (now (outputs .entry)) i (advance from to (getD (now (outputs .entry)) i freshOutput)) ⌝ }
@@ -87,7 +89,8 @@ fn step_output(outputs: &mut [Output], i: usize, from: u64, to: u64)
     outputs[i] = n;
 }
 
-// Brings one output to a moment. Where nothing falls due on the way, only its burning time changes: by the movement, or by Present_Value alone.
+// Brings one output to a moment. Where nothing falls due on the way, only its burning time changes: by the
+// movement, or by Present_Value alone.
 fn advance_output(outputs: &mut [Output], i: usize, from: u64, to: u64)
     requires { ⌜ i < length (now outputs) ⌝ }
     ensures { λ _. ⌜ now (outputs .exit) ≡ set (now (outputs .entry)) i (advance from to (getD (now (outputs .entry)) i freshOutput)) ⌝ }

@@ -58,7 +58,8 @@ fn real_answer(x: f32) -> Answer
     Answer::Value(number_level::bits_of(x))
 }
 
-// A field of the last command: absent where its operation has none, also where a setting was used in its place.
+// A field of the last command: absent where its operation has none, also where a setting was used in its
+// place.
 fn real_field_answer(x: RealField) -> Answer
     ensures { λ r. ⌜ r ≡ realFieldAnswer x ⌝ }
 {

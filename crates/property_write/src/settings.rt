@@ -1,5 +1,5 @@
-// What a write of a property changes: one setting, and with it the movement or the burning time. `n` is the property that is written, `v` its value
-// as it is kept.
+// What a write of a property changes: one setting, and with it the movement or the burning time. `n` is the
+// property that is written, `v` its value as it is kept.
 ghost use mathlib.Core.Path.{_≡_};
 ghost use Prim.Native.Nat.{_%_};
 ghost use lib.Dec.{eqb};

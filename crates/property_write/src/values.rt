@@ -1,5 +1,5 @@
-// A property's new value: as it is kept, or the refusal that it meets. 9 is a property's that is not writable, 10 a priority's, 11 a REAL's, 12 a
-// whole number's.
+// A property's new value: as it is kept, or the refusal that it meets. 9 is a property's that is not
+// writable, 10 a priority's, 11 a REAL's, 12 a whole number's.
 ghost use mathlib.Core.Path.{_≡_};
 ghost use mathlib.Core.Bool.{true};
 ghost use Prim.Native.Nat.{_-_};

@@ -2,8 +2,8 @@
 // found of every output; with the word `report`, a report for people in place of that. Any other word, or a
 // second one, is answered with a line that says how the program is called, and nothing is run.
 
-// Whether there is no argument here. `os::arg` answers 0 of one that is missing and of one that is longer than
-// the array, but of the latter it leaves the first bytes.
+// Whether there is no argument here. `os::arg` answers 0 of one that is missing and of one that is longer
+// than the array, but of the latter it leaves the first bytes.
 fn is_missing(word: &[u8; 16], n: usize) -> bool {
     if n != 0 {
         return false;

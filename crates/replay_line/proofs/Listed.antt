@@ -1,4 +1,5 @@
--- FROM A LIST'S TEXT TO DEMAND 3: after the whole text of any list of strings, the outputs that it names show what the plain panel shows.
+-- FROM A LIST'S TEXT TO DEMAND 3: after the whole text of any list of strings, the outputs that it names show
+-- what the plain panel shows.
 use mathlib.Core.Path.{_≡_, refl, ap, _∙_}
 use mathlib.Core.Bool.{true}
 use mathlib.Core.List.{List, [], _∷_, _++_, map}
@@ -68,7 +69,8 @@ module _ (n : ℕ) (p : Panel) (h : n ≤ length (p .outputs)) where
     joined-count : n ≤ length (rejoined n p q .outputs)
     joined-count = omega (arith, length-append (q .outputs) (drop n (p .outputs)), k, first-count)
 
--- ONE LINE: x takes the tables p to q, and the reader to the start of the next line, after n outputs are named
+-- ONE LINE: x takes the tables p to q, and the reader to the start of the next line, after n outputs are
+-- named
 record Took (n : ℕ) (p : Panel) (w : Reader) (x : Bytes) (q : Panel) : Type 0 where
   whole : Unbroken x
   good : taken p (fed w x) .good ≡ true

@@ -1,4 +1,5 @@
--- The panel of the first n outputs is lent as a part of the table, up to the smaller of n and the table's length.
+-- The panel of the first n outputs is lent as a part of the table, up to the smaller of n and the table's
+-- length.
 use mathlib.Core.Path.{_≡_, sym, ap, _∙_}
 use mathlib.Core.List.{List, _++_}
 use Prim.Native.Nat.{ℕ, _-_, min}

@@ -1,5 +1,6 @@
--- From a line's text to the panel: a line that gives a string of bytes sends that string, however long it is, and writes its answer. The
--- reader keeps `bytesKept` bytes, and the panel does with a longer string what it does with its first ones (lighting/proofs/Long.antt).
+-- From a line's text to the panel: a line that gives a string of bytes sends that string, however long it is,
+-- and writes its answer. The reader keeps `bytesKept` bytes, and the panel does with a longer string what it
+-- does with its first ones (lighting/proofs/Long.antt).
 use mathlib.Core.Path.{_≡_, refl, sym, ap}
 use Prim.Native.Nat.{ℕ}
 use native.Mathlib.Omega.{arith}

@@ -1,4 +1,5 @@
--- A text goes through line by line, as the session takes it: the characters up to the next newline, and then that line's end.
+-- A text goes through line by line, as the session takes it: the characters up to the next newline, and then
+-- that line's end.
 use mathlib.Core.Path.{_≡_, refl, sym, ap, _∙_}
 use mathlib.Core.Bool.{Bool, true, false}
 use mathlib.Core.List.{[], _∷_, _++_}

@@ -1,5 +1,5 @@
--- A line of a list, taken: what it does to the tables, and the text that it writes. The tables stand ready for 64 outputs; the panel is the first
--- so many of them, and the rest stand by. Definitions only.
+-- A line of a list, taken: what it does to the tables, and the text that it writes. The tables stand ready
+-- for 64 outputs; the panel is the first so many of them, and the rest stand by. Definitions only.
 use mathlib.Core.Bool.{Bool, true, false}
 use lib.Dec.{eqb}
 use mathlib.Core.List.{[], _∷_, _++_}
@@ -38,7 +38,8 @@ sent n b p =
       answer = frameStep document01 (first n p) b .answer;
     }
 
--- what a line leaves: the tables, the text that it writes, the reader at the next line, and whether it was a good one
+-- what a line leaves: the tables, the text that it writes, the reader at the next line, and whether it was a
+-- good one
 pub record Taken : Type 0 where
   pub panel : Panel
   pub text : Bytes
@@ -61,8 +62,8 @@ takenBy p w (Wrong f) = record { panel = p; text = faultLine (w .line) f; reader
 unfoldable pub taken : Panel → Reader → Taken
 taken p w = takenBy p w (lineOf (w .held))
 
--- A TEXT, character after character: a newline ends a line, and a bad line ends the list. What the tables and the reader are then, and whether
--- every line was a good one
+-- A TEXT, character after character: a newline ends a line, and a bad line ends the list. What the tables and
+-- the reader are then, and whether every line was a good one
 pub record Through : Type 0 where
   pub panel : Panel
   pub reader : Reader
@@ -79,15 +80,16 @@ through p w (c ∷ x) =
     )
     else through p (feed w c) x
 
--- Some text came, and the tables p and the reader w came to q and v; g says whether every line was a good one. Which text, no definition says: it
--- comes from outside
+-- Some text came, and the tables p and the reader w came to q and v; g says whether every line was a good
+-- one. Which text, no definition says: it comes from outside
 pub record Went (p : Panel) (w : Reader) (q : Panel) (v : Reader) (g : Bool) : Type 0 where
   pub came : Bytes
   pub panel : q ≡ through p w came .panel
   pub reader : v ≡ through p w came .reader
   pub good : g ≡ through p w came .good
 
--- ALL OF A LIST'S TEXT: the last line may lack its newline, and is taken at the end, unless a bad line ended the list
+-- ALL OF A LIST'S TEXT: the last line may lack its newline, and is taken at the end, unless a bad line ended
+-- the list
 unfoldable pub closed : Through → Panel
 closed z = if z .good then taken (z .panel) (z .reader) .panel else z .panel
 

@@ -1,5 +1,6 @@
-// A line of a list, at its end: `outputs N` starts the panel of the first N outputs, bytes go to that panel, and the answer or the fault is put on
-// the page. Nothing is read or written here but what is lent, and the contracts give all of it.
+// A line of a list, at its end: `outputs N` starts the panel of the first N outputs, bytes go to that panel,
+// and the answer or the fault is put on the page. Nothing is read or written here but what is lent, and the
+// contracts give all of it.
 ghost use mathlib.Core.Path.{_≡_};
 ghost use lib.ListN.{take};
 ghost use Rattle.lighting_panel.specs.Paper.Panel.{panelOf};

@@ -1,8 +1,9 @@
-// A list of frames from standard input, replayed over a panel: a line for each answer, then what is found of every output, or a report for
-// people in place of that. A bad line ends it with a line that says what is wrong and where.
+// A list of frames from standard input, replayed over a panel: a line for each answer, then what is found of
+// every output, or a report for people in place of that. A bad line ends it with a line that says what is
+// wrong and where.
 //
-// Thin: the crate `replay_line` takes each line, `text_reading` its characters, and `text_found` says what is found. Input and output go by
-// pages of 64 KiB, so that memory does not grow with the list.
+// Thin: the crate `replay_line` takes each line, `text_reading` its characters, and `text_found` says what is
+// found. Input and output go by pages of 64 KiB, so that memory does not grow with the list.
 ghost use mathlib.Core.Path.{_≡_};
 ghost use Rattle.lighting_panel.specs.Paper.Panel.{panelOf};
 ghost use Rattle.text_reading.specs.Reading.{freshReader};
@@ -12,7 +13,8 @@ use lighting_outputs::Output;
 use lighting_panel::PanelRecord;
 use text_reading::Reader;
 
-// After some of the list: the reader, the page's mark, whether more of the list may come, and whether all lines were good.
+// After some of the list: the reader, the page's mark, whether more of the list may come, and whether all
+// lines were good.
 struct Turn {
     reader: Reader,
     mark: usize,
@@ -93,7 +95,8 @@ fn take_some(
     take_chunk(outputs, stations, kept, page, mark, r, &chunk[0..n])
 }
 
-// All of it. A proved loop has to end, and nothing says that the input does: the turns are counted down from a number that no run uses up.
+// All of it. A proved loop has to end, and nothing says that the input does: the turns are counted down from
+// a number that no run uses up.
 fn take_all(
     outputs: &mut [Output],
     stations: &mut [Station],
@@ -197,7 +200,8 @@ fn replay(
     }
 }
 
-// Over tables of its own, which the panel is lent: 64 outputs, of which the list names how many there are, and eight stations.
+// Over tables of its own, which the panel is lent: 64 outputs, of which the list names how many there are,
+// and eight stations.
 pub fn run(report: bool) {
     let output = output_fresh::fresh_output(panel_record::document_01());
     let mut outputs = [output; 64];

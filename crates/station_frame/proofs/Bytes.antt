@@ -1,5 +1,5 @@
--- Loops over the bytes of a frame: what one that keeps them in a longer array has done up to a place, and what one that compares them with
--- those of another string has found.
+-- Loops over the bytes of a frame: what one that keeps them in a longer array has done up to a place, and
+-- what one that compares them with those of another string has found.
 use mathlib.Core.Path.{_≡_, refl, sym, ap, _∙_}
 use mathlib.Core.Logic.{_≢_}
 use mathlib.Core.Bool.{Bool, true, false}

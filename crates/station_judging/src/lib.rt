@@ -1,4 +1,5 @@
-// How a frame is judged by its station's record; the counts of a panel, and a station's record rule. One record at a time, by value.
+// How a frame is judged by its station's record; the counts of a panel, and a station's record rule. One
+// record at a time, by value.
 ghost use mathlib.Core.Path.{_≡_};
 ghost use Rattle.lighting_frames.specs.Paper.Stations.{stationSound};
 ghost use Rattle.lighting_frames.specs.Paper.Copies.{sameBytes, retransmissionOrConflict};

@@ -13,7 +13,8 @@ use lighting_outputs::TimeField;
 
 // ---- one field
 
-// The octet before the content: the tag's number, bit 3 for a context tag, and of how many octets the content is.
+// The octet before the content: the tag's number, bit 3 for a context tag, and of how many octets the content
+// is.
 pub fn context_tag(number: u8, count: u8) -> u8
     requires { ⌜ (number ≤ 5) × (count ≤ 4) ⌝ }
     ensures { λ r. ⌜ r ≡ contextTag number count ⌝ }

@@ -21,7 +21,8 @@ fn number_behind(left: &[u8], count: u8) -> u32
     }
 }
 
-// The field with this number at the head of what is left, of `least` to `most` octets: there if its tag is, and no octet of it is missing.
+// The field with this number at the head of what is left, of `least` to `most` octets: there if its tag is,
+// and no octet of it is missing.
 fn field_in(number: u8, least: u8, most: u8, left: &[u8]) -> TagField
     requires { ⌜ (number ≤ 5) × (1 ≤ least) × (least ≤ most) × (most ≤ 4) ⌝ }
     ensures { λ r. ⌜ r ≡ fieldIn number (record { least = least; most = most }) (now (left .entry)) ⌝ }

@@ -1,5 +1,5 @@
-// A command in BACnet's own tagging, read: its form, which refusals 14 and 15 judge. Any string of bytes may stand for a body, also one that is
-// shorter than the 18 bytes that a frame carries.
+// A command in BACnet's own tagging, read: its form, which refusals 14 and 15 judge. Any string of bytes may
+// stand for a body, also one that is shorter than the 18 bytes that a frame carries.
 mod fields;
 
 ghost use mathlib.Core.Path.{_≡_};
@@ -55,7 +55,8 @@ fn holds_at_most(most: u32, field: TagField) -> bool
     }
 }
 
-// The fields, read once, come with the body. If they do not use up the L bytes, something between them is no field in its place.
+// The fields, read once, come with the body. If they do not use up the L bytes, something between them is no
+// field in its place.
 fn well_tagged(body: &[u8], f: TagFields) -> bool
     requires { ⌜ f ≡ bodyFields (now body) ⌝ }
     ensures { λ r. ⌜ r ≡ wellTagged (now (body .entry)) ⌝ }

@@ -1,5 +1,5 @@
-// A command in BACnet's own tagging, written: the writer of §1. Each function writes from a mark on and answers the new one, as text is written
-// on a page.
+// A command in BACnet's own tagging, written: the writer of §1. Each function writes from a mark on and
+// answers the new one, as text is written on a page.
 ghost use mathlib.Core.Path.{_≡_};
 ghost use Prim.Native.Nat.{_≤_};
 ghost use Rattle.lighting_levels.specs.Paper.Field.{octets};
@@ -70,7 +70,8 @@ fn put_command(page: &mut [u8], k: Command) -> usize
     put_field(page, fifth, 5, duration)
 }
 
-// The longest commands, with two REALs or a REAL and a fade time, and a duration, are of 17 bytes: there is always room.
+// The longest commands, with two REALs or a REAL and a fade time, and a duration, are of 17 bytes: there is
+// always room.
 pub fn tagged_body(k: Command) -> TaggedBody
     ensures { λ r. ⌜ r ≡ taggedBody k ⌝ }
 {

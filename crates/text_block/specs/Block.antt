@@ -78,8 +78,8 @@ propertiesLine word t o k n = word ++ (propertyFields t o k n ++ newline)
 unfoldable pub taggedLine : Command → Bytes
 taggedLine k = text "tagged " ++ (hexBytes (tagBytes (commandTags k)) ++ newline)
 
--- THE LINES of the output i at the time t. The settings of document 01 are properties 01 to 0A, the last command is
--- properties 0F to 14, the relay is properties 17 to 1B (§3)
+-- THE LINES of the output i at the time t. The settings of document 01 are properties 01 to 0A, the last
+-- command is properties 0F to 14, the relay is properties 17 to 1B (§3)
 unfoldable pub lines : ℕ → ℕ → Output → List Bytes
 lines i t o =
     numberLine (text "output ") i

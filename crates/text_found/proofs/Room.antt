@@ -185,7 +185,8 @@ unfolding withText
 wrote-text s x = record { filled = refl; moved = refl }
 
 module _ (s : Sheet) (h : 1024 < length (s .bytes)) where
-  -- what was written on the sheet with room, and fits 1,024 bytes, stands whole after what stood before the mark
+  -- what was written on the sheet with room, and fits 1,024 bytes, stands whole after what stood before the
+  -- mark
   whole : {q x : Bytes} {b : ℕ} → length x ≤ 1024 → Wrote (withRoom s .bytes) (withRoom s .mark) x q b → take b q ≡ take (withRoom s .mark) (s .bytes) ++ x
   unfolding withRoom
   whole l f = written (omega (arith, marked-free (length (s .bytes)) (s .mark) h)) f .1

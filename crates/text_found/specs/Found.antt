@@ -1,4 +1,5 @@
--- What is found, as text: a line `--`, and then an output after the other, as a block of lines or as a line of the report. Definitions only.
+-- What is found, as text: a line `--`, and then an output after the other, as a block of lines or as a line
+-- of the report. Definitions only.
 use mathlib.Core.Bool.{Bool}
 use mathlib.Core.List.{List, [], _∷_, _++_}
 use Prim.Native.Nat.{ℕ, suc, _+_, _-_, min, max}
@@ -18,7 +19,8 @@ foundHead report t = text "--\n" ++ (if report then reportHead t else [])
 unfoldable pub foundOutput : Bool → ℕ → ℕ → Output → Bytes
 foundOutput report i t o = if report then reportLine i t o else block i t o
 
--- A PAGE with more than 1,024 free bytes is written on from its mark, and any other from its start, once it was written out
+-- A PAGE with more than 1,024 free bytes is written on from its mark, and any other from its start, once it
+-- was written out
 unfoldable pub roomy : ℕ → ℕ → Bool
 roomy size at = ltb at size also ltb 1024 (size - at)
 

@@ -1,4 +1,5 @@
-// What is found of every output, on pages of text that are written to standard output: a block for each output, or a line of the report.
+// What is found of every output, on pages of text that are written to standard output: a block for each
+// output, or a line of the report.
 ghost use mathlib.Core.Path.{_≡_};
 ghost use lib.ListN.{length, take};
 ghost use Rattle.text_printing.specs.Page.{Wrote};
@@ -6,7 +7,8 @@ ghost use Rattle.text_found.specs.Found.{foundHead, foundOutput, roomy, 
 use libc::STDOUT_FILENO;
 use lighting_outputs::Output;
 
-// A page with fewer free bytes than this is written out before more text is put on it. No answer's line and no output's block is longer.
+// A page with fewer free bytes than this is written out before more text is put on it. No answer's line and
+// no output's block is longer.
 const ROOM: usize = 1024;
 
 // ---- pages

@@ -1,4 +1,5 @@
--- A page: a stretch of bytes, with a mark up to which it is written. What comes past the page's end is not written.
+-- A page: a stretch of bytes, with a mark up to which it is written. What comes past the page's end is not
+-- written.
 use mathlib.Core.Path.{_≡_}
 use Prim.Native.Nat.{ℕ, _+_, min, max}
 use lib.ListN.{length}

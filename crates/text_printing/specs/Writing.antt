@@ -35,7 +35,8 @@ decimalBy (suc k) n = if ltb n 10 then (48 + n % 10) ∷ [] else decimalBy k (n 
 unfoldable pub decimal : ℕ → Bytes
 decimal n = decimalBy 19 n
 
--- AN ANSWER'S LINE: `Done`, `Value` and eight hexadecimal digits, `Absent`, `Refused` and a number; 10 ends the line
+-- AN ANSWER'S LINE: `Done`, `Value` and eight hexadecimal digits, `Absent`, `Refused` and a number; 10 ends
+-- the line
 abbrev pub newline : Bytes
 newline = text "\n"
 

@@ -1,5 +1,6 @@
-// Text written on a page: a lent stretch of bytes, of which the bytes before a mark are the text so far. Each function writes from a mark on and
-// answers the new one; what comes past the page's end is not written, so that none asks for room.
+// Text written on a page: a lent stretch of bytes, of which the bytes before a mark are the text so far. Each
+// function writes from a mark on and answers the new one; what comes past the page's end is not written, so
+// that none asks for room.
 ghost use mathlib.Core.Path.{_≡_};
 ghost use mathlib.Core.List.{_∷_, [], _++_};
 ghost use Prim.Native.Nat.{_+_, _%_, _≤_, _<_};

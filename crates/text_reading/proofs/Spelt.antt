@@ -1,5 +1,5 @@
--- What is spelt is read: a text that spells a string of bytes, fed to a reader at a line's start, makes it hold a frame of those bytes, as far
--- as the first `bytesKept`.
+-- What is spelt is read: a text that spells a string of bytes, fed to a reader at a line's start, makes it
+-- hold a frame of those bytes, as far as the first `bytesKept`.
 use mathlib.Core.Path.{_≡_, refl, sym, ap, _∙_}
 use mathlib.Core.Logic.{_≢_}
 use mathlib.Core.Bool.{true, false, false≢true}

@@ -43,8 +43,8 @@ letter k =
 unfoldable pub digitHeld : ℕ → Held
 digitHeld v = if ltb v 16 then Half v else Spoilt NoDigit
 
--- the first character that is no blank: `#` begins a comment; before the list has named its outputs, `o` begins `outputs`; after that, `-` is
--- the empty string, and all else is to be bytes
+-- the first character that is no blank: `#` begins a comment; before the list has named its outputs, `o`
+-- begins `outputs`; after that, `-` is the empty string, and all else is to be bytes
 unfoldable pub opened : ℕ → ℕ → ℕ → Held
 opened outputs v c =
     if isBlank c then Blank

@@ -13,7 +13,8 @@ pub data Digit : ℕ → ℕ → Type 0 where
   upper : {d : ℕ} → d < 6 → Digit (10 + d) (65 + d)
   lower : {d : ℕ} → d < 6 → Digit (10 + d) (97 + d)
 
--- two digits a byte, the first the more significant, with blanks between bytes, before the first and after the last
+-- two digits a byte, the first the more significant, with blanks between bytes, before the first and after
+-- the last
 pub data Spells : Bytes → Bytes → Type 0 where
   end : Spells [] []
   blank : {b x : Bytes} (c : ℕ) → isBlank c ≡ true → Spells b x → Spells b (c ∷ x)

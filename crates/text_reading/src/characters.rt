@@ -209,7 +209,8 @@ pub fn step(outputs: u8, h: Held, v: u8, c: u8) -> Held
     }
 }
 
-// Whether the first digit of a byte may come next: the list has named its outputs, and the line holds nothing yet, or whole bytes.
+// Whether the first digit of a byte may come next: the list has named its outputs, and the line holds nothing
+// yet, or whole bytes.
 pub fn may_begin(outputs: u8, h: Held) -> bool
     ensures { λ r. ⌜ r ≡ mayBegin outputs h ⌝ }
 {

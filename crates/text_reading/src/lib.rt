@@ -1,4 +1,5 @@
-// A list's text, read a line at a time: whole bytes straight to their place, every other character by value. The caller sees the ends of lines.
+// A list's text, read a line at a time: whole bytes straight to their place, every other character by value.
+// The caller sees the ends of lines.
 mod characters;
 
 ghost use mathlib.Core.Path.{_≡_};
@@ -48,11 +49,12 @@ pub enum Line {
     Wrong(Fault),
 }
 
-// How many bytes of a line's string are kept: one more than the longest frame has, so that they tell any longer string from a frame.
+// How many bytes of a line's string are kept: one more than the longest frame has, so that they tell any
+// longer string from a frame.
 pub const BYTES_KEPT: usize = lighting_frames::LONGEST_FRAME + 1;
 
-// The reader between two bytes: the number of outputs that the list has named (0: none yet), the line's number, what it holds so far, and
-// of its bytes the first ones.
+// The reader between two bytes: the number of outputs that the list has named (0: none yet), the line's
+// number, what it holds so far, and of its bytes the first ones.
 pub struct Reader {
     pub outputs: u8,
     pub line: u64,
@@ -135,14 +137,16 @@ fn feed(w: Reader, c: u8) -> Reader
     with_held(stored, characters::step(w.outputs, h, v, c))
 }
 
-// The reader after the rest of a line, as far as the bytes go, and where that ends: at a newline, or at the end of the bytes.
+// The reader after the rest of a line, as far as the bytes go, and where that ends: at a newline, or at the
+// end of the bytes.
 pub struct Fed {
     pub reader: Reader,
     pub next: usize,
 }
 
-// As many whole bytes as stand from `from` on, with the blanks between them, where a byte may begin: each goes straight to its place, and the
-// reader is made once, after the last. What comes to the same reader at the line's end is left.
+// As many whole bytes as stand from `from` on, with the blanks between them, where a byte may begin: each
+// goes straight to its place, and the reader is made once, after the last. What comes to the same reader at
+// the line's end is left.
 fn feed_bytes(w: Reader, s: &[u8], from: usize) -> Fed
     requires { ⌜ from ≤ length (now s) ⌝ }
     ensures { λ r. ⌜ fedLine (r .reader) (drop (r .next) (now (s .entry))) ≡ fedLine w (drop from (now (s .entry))) ⌝ }

@@ -1,4 +1,5 @@
--- The report for people: a line for each output. Levels are in percent, cut to hundredths; times since the start of the panel.
+-- The report for people: a line for each output. Levels are in percent, cut to hundredths; times since the
+-- start of the panel.
 use mathlib.Core.Bool.{Bool}
 use mathlib.Core.List.{[], _∷_, _++_}
 use Prim.Native.Nat.{ℕ, _+_, _*_, _/_, _%_}
@@ -84,8 +85,9 @@ unfoldable pub timerText : Timer → Bytes
 timerText Off = []
 timerText (Running slot due) = until (text "  duration until ") due
 
--- THE LINE of the output i at the time t: output, whether its lamp gives light (by Progress_Value: §2 of the change requests), present and progress
--- level, burning time, last command, the relay's state (§3), what is under way
+-- THE LINE of the output i at the time t: output, whether its lamp gives light (by Progress_Value: §2 of the
+-- change requests), present and progress level, burning time, last command, the relay's state (§3), what is
+-- under way
 unfoldable pub lightFields : ℕ → ℕ → Output → Bytes
 lightFields i t o = gap ++ (aligned i ++ (gap ++ either (text "  lit  ") (text "  dark ") (lit t o)))
 

@@ -1,4 +1,5 @@
--- WHERE THE FIELDS STAND: the kinds and their lengths, the bytes of station, number, time and output, and of what follows; and refusals 2 to 5.
+-- WHERE THE FIELDS STAND: the kinds and their lengths, the bytes of station, number, time and output, and of
+-- what follows; and refusals 2 to 5.
 --
 use mathlib.Core.Path.{_≡_, refl, ap, _∙_}
 use mathlib.Core.Logic.{_≢_}
@@ -174,7 +175,8 @@ module _ (p : Parameters) (b : Bytes) where
   unfolding kindRow requestOf emptyOf if_then_else_
   empty-priority h = rw (priority-no (byteAt b 13) h)
 
-  -- and what they do: kinds 02 and 03 are answered Done, and act on slot i alone through `written` and `slotRelinquished`; then the relay is judged (§3)
+  -- and what they do: kinds 02 and 03 are answered Done, and act on slot i alone through `written` and
+  -- `slotRelinquished`; then the relay is judged (§3)
   pub writes-slot : (t : ℕ) (o : Output) (i v : ℕ) → Slot i → byteAt b 13 ≡ suc i → levelOf (real (bigEndian 4 b 14)) ≡ Units v
       → alone t o (asked p 2 b) ≡ record { output = afterEvents (written t o i v); answer = Done }
   unfolding acted served done

@@ -1,5 +1,5 @@
--- COMMAND, THEN READ 0F to 14: kind k, 10 to 1A, with the 32-bit fields x, y, z, answered Done; then kind 05 answers the fields as they were sent,
--- Absent where the operation has none.
+-- COMMAND, THEN READ 0F to 14: kind k, 10 to 1A, with the 32-bit fields x, y, z, answered Done; then kind 05
+-- answers the fields as they were sent, Absent where the operation has none.
 use mathlib.Core.Path.{_≡_, refl, _∙_}
 use mathlib.Core.List.{List, [], _∷_, map}
 use Prim.Native.Nat.{ℕ, _^_, _<_}

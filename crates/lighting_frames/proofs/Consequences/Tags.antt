@@ -1,5 +1,5 @@
--- §1, AS AN ENGINEER READS IT: what makes a body in tags 14, for every body; a tagged duration of FFFFFFFF; property 0F; that every plain command has a form in
--- tags, of kind 1B, and that it is read alike.
+-- §1, AS AN ENGINEER READS IT: what makes a body in tags 14, for every body; a tagged duration of FFFFFFFF;
+-- property 0F; that every plain command has a form in tags, of kind 1B, and that it is read alike.
 use Rattle.lighting_levels.specs.Paper.Choice.{if_then_else_}
 use mathlib.Core.Path.{_≡_, refl, sym, ap, _∙_}
 use mathlib.Core.Logic.{_≢_}
@@ -138,7 +138,8 @@ module _ (body : Bytes) (eighteen : length body ≡ 18) (tag : byteAt body 1 ≡
   pub operation-above-ten : 10 < byteAt body 2 → readBody body ≡ Unreadable 14
   operation-above-ten h = unless-tagged body (λ w. false≢true (sym (unknown w h) ∙ w .known))
 
--- A TAGGED DURATION: FFFFFFFF meets 12; missing is what FFFFFFFF is in the plain kind; any other is the plain kind's
+-- A TAGGED DURATION: FFFFFFFF meets 12; missing is what FFFFFFFF is in the plain kind; any other is the plain
+-- kind's
 pub duration-all-ones : (p : Parameters) → startable p ≡ true → (o : Operation) → fieldsRefusal p (fieldsOf o) ≡ 0 → taggedRequest p (Reads o (Time 0xffff_ffff)) ≡ Refuse 12
 unfolding taggedRequest commandOf commandRequestBy commandWithDuration commandLasting within if_then_else_
 duration-all-ones p allowed o e =

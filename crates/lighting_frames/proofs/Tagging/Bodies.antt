@@ -1,5 +1,5 @@
--- A BODY IN TAGS, L and 17 bytes, both ways (§1): the fields that were written are read, and a body that meets no 14 is the one that its fields make: no
--- other bytes hold them.
+-- A BODY IN TAGS, L and 17 bytes, both ways (§1): the fields that were written are read, and a body that
+-- meets no 14 is the one that its fields make: no other bytes hold them.
 use mathlib.Core.Path.{_≡_, refl, sym, ap, ap₂, _∙_}
 use mathlib.Core.Bool.{true}
 use mathlib.Core.List.{_∷_, _++_, []}

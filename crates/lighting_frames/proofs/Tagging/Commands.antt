@@ -1,4 +1,5 @@
--- THE WRITER AND THE READER of a command in tags (§1): reading what the writer made gives the command back, and no other bytes do.
+-- THE WRITER AND THE READER of a command in tags (§1): reading what the writer made gives the command back,
+-- and no other bytes do.
 use Rattle.lighting_levels.specs.Paper.Choice.{if_then_else_}
 use mathlib.Core.Path.{_≡_, refl, ap, ap₂}
 use mathlib.Core.Bool.{true}

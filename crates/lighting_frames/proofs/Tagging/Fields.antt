@@ -1,5 +1,5 @@
--- THE FORM, both ways (§1): fields that were written are read, and what was read is what was written. Over any list of fields whose tags rise, so once
--- for all six.
+-- THE FORM, both ways (§1): fields that were written are read, and what was read is what was written. Over
+-- any list of fields whose tags rise, so once for all six.
 use Rattle.lighting_levels.specs.Paper.Choice.{if_then_else_, Every}
 use mathlib.Core.Path.{_≡_, refl, ap, _∙_}
 use mathlib.Core.Bool.{true, false}
@@ -46,7 +46,8 @@ sizes-length number (Holds count value ∷ fields) =
     omega (arith, length-append (octets count value) (bytesFrom (suc number) fields), length-octets count value, sizes-length (suc number) fields)
 sizes-length number (Missing ∷ fields) = omega (arith, sizes-length (suc number) fields)
 
--- WRITTEN, THEN READ. The next tag is one of a higher number, or there is none: so a missing field is found missing
+-- WRITTEN, THEN READ. The next tag is one of a higher number, or there is none: so a missing field is found
+-- missing
 outside : (allowed : OctetRange) (n number : ℕ) (fields : List TagField) → allowed .most ≤ 7 → n < number
     → within (contextTag n (allowed .least)) (contextTag n (allowed .most)) (byteAt (bytesFrom number fields) 0) ≡ false
 unfolding within byteAt bytesFrom fieldBytes if_then_else_

@@ -1,5 +1,5 @@
--- EVERY COMMAND THAT THE PANEL KEEPS (§1): reading what the writer makes of it gives it back, for every command that a string of bytes asks for, in
--- whatever form it came.
+-- EVERY COMMAND THAT THE PANEL KEEPS (§1): reading what the writer makes of it gives it back, for every
+-- command that a string of bytes asks for, in whatever form it came.
 use Rattle.lighting_levels.specs.Paper.Choice.{if_then_else_}
 use mathlib.Core.Path.{_≡_, refl, ap}
 use mathlib.Core.Bool.{true}
@@ -45,7 +45,8 @@ use Rattle.lighting_frames.proofs.Tagging.Bodies.{well-tagged, fields-f
 use Rattle.lighting_frames.proofs.Tagging.Commands.{Word, Exact, ExactOperation, lasting-word, reads-written}
 use Rattle.lighting_frames.proofs.Tagging.Only.{IsReal, IsTime, held-word, at-most, operation-of}
 
--- AN OPERATION AS FRAMES BRING IT: each REAL has been read from a pattern of 32 bits, and a fade time has 32 bits
+-- AN OPERATION AS FRAMES BRING IT: each REAL has been read from a pattern of 32 bits, and a fade time has 32
+-- bits
 data Patterned : RealField → Type 0 where
   pattern : (v : ℕ) → v < 2 ^ 32 → Patterned (Real (real v))
   none : Patterned NoReal

@@ -1,5 +1,5 @@
--- NO OTHER BYTES: whatever 18 bytes ask for a command in tags are the ones that the writer makes of it (§1). And what is asked is given back: so each
--- command that the panel keeps has one form in tags.
+-- NO OTHER BYTES: whatever 18 bytes ask for a command in tags are the ones that the writer makes of it (§1).
+-- And what is asked is given back: so each command that the panel keeps has one form in tags.
 use Rattle.lighting_levels.specs.Paper.Choice.{if_then_else_}
 use mathlib.Core.Path.{_≡_, refl, sym, ap, ap₂, _∙_}
 use mathlib.Core.Bool.{true, false≢true}
@@ -33,7 +33,8 @@ use Rattle.lighting_outputs.proofs.Rules.CommandRanges.{none-met, refused-never
 use Rattle.lighting_frames.proofs.Tagging.Fields.{Fits, AllFit}
 use Rattle.lighting_frames.proofs.Tagging.Bodies.{well-tagged, fields-fit, only-body}
 
--- THE OPERATION of fields: its number is the one that tag 0 holds, and each of its own fields is the one of its tag
+-- THE OPERATION of fields: its number is the one that tag 0 holds, and each of its own fields is the one of
+-- its tag
 abbrev pub IsReal : Float → RealField → Type 0
 IsReal x (Real y) = y ≡ x
 IsReal x NoReal = Unit {0}

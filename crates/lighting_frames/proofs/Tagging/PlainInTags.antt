@@ -1,4 +1,5 @@
--- A PLAIN COMMAND'S FIELDS IN TAGS (§1): what they ask is what its frame asks, good fields or bad; and they hold every byte of it.
+-- A PLAIN COMMAND'S FIELDS IN TAGS (§1): what they ask is what its frame asks, good fields or bad; and they
+-- hold every byte of it.
 use Rattle.lighting_levels.specs.Paper.Choice.{if_then_else_}
 use mathlib.Core.Path.{_≡_, refl, sym, ap, ap₂, _∙_}
 use mathlib.Core.Bool.{true}
@@ -32,7 +33,8 @@ use Rattle.lighting_frames.proofs.KindTable.{actionByte}
 use Rattle.lighting_frames.proofs.Tagging.Fields.{Fits, AllFit}
 use Rattle.lighting_frames.proofs.Tagging.Commands.{Word, lasting-word, whole-fit, whole-read, whole-fewest, whole-size}
 
--- THE BYTES OF A PLAIN COMMAND after the 13 common ones, from its fields: each that is there in four, the duration last, FFFFFFFF where it is missing
+-- THE BYTES OF A PLAIN COMMAND after the 13 common ones, from its fields: each that is there in four, the
+-- duration last, FFFFFFFF where it is missing
 abbrev plainWord : TagField → Bytes
 plainWord (Holds count value) = octets 4 value
 plainWord Missing = []

@@ -1,5 +1,6 @@
--- 'The last number with the same bytes is a copy: last answer', with other bytes refusal 6. A copy is what the field calls a retransmission.
--- Beside `parse`, the engine, which has the station's record, and the plain panel, which has the list, share no more than this in judging a frame.
+-- 'The last number with the same bytes is a copy: last answer', with other bytes refusal 6. A copy is what
+-- the field calls a retransmission. Beside `parse`, the engine, which has the station's record, and the plain
+-- panel, which has the list, share no more than this in judging a frame.
 --
 use mathlib.Core.Bool.{Bool, true, false}
 use mathlib.Core.List.{[], _∷_}

@@ -1,5 +1,6 @@
--- 'Frames' and 'When a frame is turned down': a string of bytes, read. Refusals 2 to 5, and the request with refusals 9 to 12, 14 and 15 (but a
--- read's 9, which `readProperty` of Properties.antt gives). Nothing here looks at a panel but for its number of outputs.
+-- 'Frames' and 'When a frame is turned down': a string of bytes, read. Refusals 2 to 5, and the request with
+-- refusals 9 to 12, 14 and 15 (but a read's 9, which `readProperty` of Properties.antt gives). Nothing here
+-- looks at a panel but for its number of outputs.
 use mathlib.Core.Path.{_≡_}
 use mathlib.Core.List.{List}
 use Prim.Native.Nat.{ℕ, _<_}
@@ -39,7 +40,8 @@ Octets b = Every (λ (x : ℕ). x < 256) b
 abbrev pub Strings : List Bytes → Type 0
 Strings l = Every Octets l
 
--- and in tags (§1): 14 and 15 come before the ranges. 'A tagged duration of FFFFFFFF meets 12': absent is a missing field there
+-- and in tags (§1): 14 and 15 come before the ranges. 'A tagged duration of FFFFFFFF meets 12': absent is a
+-- missing field there
 unfoldable pub taggedRequest : Parameters → TaggedReading → Request
 taggedRequest p (Unreadable refusal) = Refuse refusal
 taggedRequest p (Reads operation duration) = commandOf p operation duration
@@ -69,7 +71,8 @@ requestOf p GoesTo b = commandRequest p (Goto (realAt b 13)) (wordAt b 17)
 requestOf p Relinquishes b = commandRequest p Relinquish (wordAt b 13)
 requestOf p CommandsTagged b = taggedRequest p (readBody (drop 13 b))
 
--- THE FRAME that b is, to a table of c outputs. 'Every other kind goes on with station (1), number (4), time (6), output (1)'
+-- THE FRAME that b is, to a table of c outputs. 'Every other kind goes on with station (1), number (4), time
+-- (6), output (1)'
 unfoldable pub callOf : Parameters → Action → Bytes → Call
 callOf p action b =
     record {

@@ -1,4 +1,5 @@
--- §1, 'It acts as the plain kind does, in lists too': a plain command frame, kinds 10 to 1A, sent in tags instead (kind 1B), and what is then asked of lists.
+-- §1, 'It acts as the plain kind does, in lists too': a plain command frame, kinds 10 to 1A, sent in tags
+-- instead (kind 1B), and what is then asked of lists.
 use mathlib.Core.Bool.{Bool}
 use mathlib.Core.List.{_∷_, _++_}
 use mathlib.Core.Option.{Option, none, some}
@@ -21,7 +22,8 @@ use Rattle.lighting_frames.specs.declared.TagField.{TagField}
 use Rattle.lighting_frames.specs.declared.TagField.the-variants.{Holds, Missing}
 use Rattle.lighting_frames.specs.declared.TagFields.{TagFields}
 
--- THE FIELDS OF A PLAIN COMMAND as they stand in its frame, good or bad: a REAL by its pattern, in four octets, and 'FFFFFFFF means absent' a missing field
+-- THE FIELDS OF A PLAIN COMMAND as they stand in its frame, good or bad: a REAL by its pattern, in four
+-- octets, and 'FFFFFFFF means absent' a missing field
 abbrev realWord : Bytes → ℕ → TagField
 realWord b at = Holds 4 (bigEndian 4 b at)
 
@@ -58,8 +60,8 @@ plainTags GoesTo b = some (plainFields 9 (realWord b 13) Missing Missing NoTime 
 plainTags Relinquishes b = some (plainFields 10 Missing Missing Missing NoTime (bigEndian 4 b 13))
 plainTags CommandsTagged b = none
 
--- THE FRAME IN TAGS: kind 1B, the same station, number, time and output, then L and the 17 bytes. A frame that is no plain command, or not of its kind's
--- length, is left
+-- THE FRAME IN TAGS: kind 1B, the same station, number, time and output, then L and the 17 bytes. A frame
+-- that is no plain command, or not of its kind's length, is left
 abbrev pub framed : Bytes → Option TagFields → Bytes
 framed b none = b
 framed b (some f) = 0x1b ∷ (take 12 (drop 1 b) ++ bodyBytes f)
@@ -72,6 +74,7 @@ framedBy (CallKind action) b = framed b (plainTags action b)
 unfoldable pub inTags : Bytes → Bytes
 inTags b = if eqb (length b) (kindLength (byteAt b 0)) then framedBy (kindRow (byteAt b 0) .kind) b else b
 
--- 'send any of its commands tagged instead of plain, every copy of a frame like its first': which, the string of bytes says
+-- 'send any of its commands tagged instead of plain, every copy of a frame like its first': which, the string
+-- of bytes says
 unfoldable pub sent : (Bytes → Bool) → Bytes → Bytes
 sent chosen b = if chosen b then inTags b else b

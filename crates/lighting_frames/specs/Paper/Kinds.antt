@@ -1,5 +1,5 @@
--- THE TABLE OF KINDS: 'The kind byte fixes the length', whether a frame is a call of a station, and what it asks. A new kind is a row here and a clause
--- of `requestOf` (Frames.antt).
+-- THE TABLE OF KINDS: 'The kind byte fixes the length', whether a frame is a call of a station, and what it
+-- asks. A new kind is a row here and a clause of `requestOf` (Frames.antt).
 use mathlib.Core.Bool.{Bool, true, false}
 use mathlib.Core.List.{List, [], _∷_}
 use Prim.Native.Nat.{ℕ, _-_}
@@ -34,7 +34,8 @@ plainRows =
     ∷ callRow 14 ReadsProperty
     ∷ []
 
--- the commands, 10 to 1A; 'New kind 1B: after the 13 common bytes, a length L from 2 to 17, then 17 bytes [..] (31 in all)' (§1)
+-- the commands, 10 to 1A; 'New kind 1B: after the 13 common bytes, a length L from 2 to 17, then 17 bytes
+-- [..] (31 in all)' (§1)
 abbrev pub commandRows : List KindRow
 commandRows =
     callRow 17 Stops
@@ -57,7 +58,8 @@ kindRow k = if leb 0x10 k then getD commandRows (k - 0x10) unknownRow else getD 
 unfoldable pub kindLength : ℕ → ℕ
 kindLength k = kindRow k .length
 
--- 'Every other kind goes on with station (1), number (4), time (6), output (1)': any known one but the clock's
+-- 'Every other kind goes on with station (1), number (4), time (6), output (1)': any known one but the
+-- clock's
 unfoldable pub callsBy : Kind → Bool
 callsBy NoKind = false
 callsBy ClockKind = false

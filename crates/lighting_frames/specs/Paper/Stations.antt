@@ -12,6 +12,7 @@ use Rattle.lighting_levels.specs.Paper.Field.{byteAt}
 unfoldable pub freshStation : Station
 freshStation = record { answer = Done; number = 0; frame = replicate longestFrame 0 }
 
--- 'each station's record keeps its last answer, number and frame (of its kind's length), number 0 meaning none'
+-- 'each station's record keeps its last answer, number and frame (of its kind's length), number 0 meaning
+-- none'
 unfoldable pub stationSound : Station → Bool
 stationSound k = if eqb (k .number) 0 then true else isCall (byteAt (k .frame) 0)

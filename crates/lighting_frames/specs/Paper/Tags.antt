@@ -1,5 +1,6 @@
--- §1, 'LIGHTING COMMANDS IN BACNET'S OWN TAGGING': a command as clause 21 has it, in the context tags of clause 20.2, written and read. The reading is of
--- the form alone, refusals 14 and 15: what is read meets the ranges of the plain kinds (`commandOf`, Frames.antt).
+-- §1, 'LIGHTING COMMANDS IN BACNET'S OWN TAGGING': a command as clause 21 has it, in the context tags of
+-- clause 20.2, written and read. The reading is of the form alone, refusals 14 and 15: what is read meets the
+-- ranges of the plain kinds (`commandOf`, Frames.antt).
 use mathlib.Core.Bool.{Bool, true, false}
 use mathlib.Core.List.{List, _∷_, _++_, []}
 use Prim.Native.Nat.{ℕ, suc, _+_, _-_, _*_}
@@ -25,8 +26,8 @@ use Rattle.lighting_frames.specs.declared.TaggedBody.{TaggedBody}
 use Rattle.lighting_frames.specs.declared.TaggedReading.{TaggedReading}
 use Rattle.lighting_frames.specs.declared.TaggedReading.the-variants.{Unreadable, Reads}
 
--- A TAG. 'context tags (clause 20.2)': one octet before the content: the tag's number in the four high bits, bit 3 set for a context tag, and in the three
--- low bits of how many octets the content is
+-- A TAG. 'context tags (clause 20.2)': one octet before the content: the tag's number in the four high bits,
+-- bit 3 set for a context tag, and in the three low bits of how many octets the content is
 abbrev pub contextTag : ℕ → ℕ → ℕ
 contextTag number count = number * 16 + 8 + count
 
@@ -126,8 +127,8 @@ taggedBody k = record { length = length (tagBytes (commandTags k)); bytes = zero
 unfoldable pub bodyBytes : TagFields → List ℕ
 bodyBytes f = length (tagBytes f) ∷ zeroFilled (tagBytes f)
 
--- READ: the field with this number at the head of what is left of the L bytes. It is there if its tag is, with a length that it may have, and its content
--- does not run past L
+-- READ: the field with this number at the head of what is left of the L bytes. It is there if its tag is,
+-- with a length that it may have, and its content does not run past L
 unfoldable pub fieldIn : ℕ → OctetRange → List ℕ → TagField
 fieldIn number allowed left =
     let count = byteAt left 0 - contextTag number 0 in
@@ -135,8 +136,8 @@ fieldIn number allowed left =
     then Holds count (bigEndian count left 1)
     else Missing
 
--- 'in rising order': each field is looked for once, behind those of lower numbers. A tag out of order, of another number or length, or no context tag
--- at all is not taken, and the bytes are not used up
+-- 'in rising order': each field is looked for once, behind those of lower numbers. A tag out of order, of
+-- another number or length, or no context tag at all is not taken, and the bytes are not used up
 unfoldable pub fieldsFrom : ℕ → List OctetRange → List ℕ → List TagField
 fieldsFrom number [] left = []
 fieldsFrom number (allowed ∷ more) left =
@@ -149,7 +150,8 @@ lengthOf body = byteAt body 0
 unfoldable pub bodyFields : List ℕ → TagFields
 bodyFields body = named (fieldsFrom 0 tagOctets (take (lengthOf body) (drop 1 body)))
 
--- '14: L, tag, tag order, tag length or padding wrong, or an operation above 10': judged over the whole body, before any 15
+-- '14: L, tag, tag order, tag length or padding wrong, or an operation above 10': judged over the whole body,
+-- before any 15
 unfoldable pub zeroBeyond : List ℕ → Bool
 zeroBeyond body = allFrom (λ (i : ℕ). eqb (byteAt body i) 0) (mostTagged - lengthOf body) (suc (lengthOf body))
 
@@ -195,8 +197,8 @@ unfoldable pub timeOf : TagField → TimeField
 timeOf (Holds count value) = Time value
 timeOf Missing = NoTime
 
--- '15: field missing, foreign, or not in fewest octets'. 'The operation's own fields must be there and no others', the operation itself too; a REAL's
--- octets are always four
+-- '15: field missing, foreign, or not in fewest octets'. 'The operation's own fields must be there and no
+-- others', the operation itself too; a REAL's octets are always four
 unfoldable pub bothOrNeither : TagField → TagField → Bool
 bothOrNeither (Holds count value) (Holds count′ value′) = true
 bothOrNeither (Holds count value) Missing = false

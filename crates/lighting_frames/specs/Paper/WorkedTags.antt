@@ -1,4 +1,5 @@
--- §1 BY HAND: commands with their octets, bodies with the refusal that each meets, and a list of frames with its answers. proofs/Figures.antt computes them.
+-- §1 BY HAND: commands with their octets, bodies with the refusal that each meets, and a list of frames with
+-- its answers. proofs/Figures.antt computes them.
 use mathlib.Core.List.{List, _∷_, _++_, map, []}
 use Prim.Native.Nat.{ℕ, _-_}
 use lib.ListN.{length, replicate}
@@ -67,8 +68,9 @@ met bodies = map (λ (b : Bytes). served 0 (freshOutput ∷ []) 0 (taggedRequest
 abbrev pub half : Bytes
 half = 0x1c ∷ octets 4 0x4248_0000
 
--- L: 0, 1 and 18; a tag above 5; an application tag; a zero byte inside L; a tag again; a falling one; tag 0 of two octets, a level of three, a fade time of
--- five; content past L; a byte beyond L; an operation above 10, with what it would need or not
+-- L: 0, 1 and 18; a tag above 5; an application tag; a zero byte inside L; a tag again; a falling one; tag 0
+-- of two octets, a level of three, a fade time of five; content past L; a byte beyond L; an operation above
+-- 10, with what it would need or not
 abbrev pub fourteen : List Answer
 fourteen =
     met (
@@ -91,8 +93,8 @@ fourteen =
     ∷ sized 2 (0x09 ∷ 0x01 ∷ 0x01 ∷ [])
     ∷ [])
 
--- a level missing; the operation missing; a level that is foreign; a fade time that is; a duration, and a fade time, that begin with 00; and 15 comes before
--- 11: a NaN, and a step that is foreign
+-- a level missing; the operation missing; a level that is foreign; a fade time that is; a duration, and a
+-- fade time, that begin with 00; and 15 comes before 11: a NaN, and a step that is foreign
 abbrev pub fifteen : List Answer
 fifteen =
     met (
@@ -105,8 +107,8 @@ fifteen =
     ∷ body (0x09 ∷ 0x01 ∷ 0x1c ∷ octets 4 0x7fc0_0000 ++ (0x3c ∷ octets 4 0x4148_0000))
     ∷ [])
 
--- then as the plain kind has them: 101 percent, NaN, a rate of 0.1; a level before a fade time; a fade time of 99, a duration of 99, of 86,400,001, of
--- FFFFFFFF; and those that are taken
+-- then as the plain kind has them: 101 percent, NaN, a rate of 0.1; a level before a fade time; a fade time
+-- of 99, a duration of 99, of 86,400,001, of FFFFFFFF; and those that are taken
 abbrev pub ranges : List Answer
 ranges =
     met (

@@ -1,5 +1,5 @@
--- §5 of the change requests: 'Halves go to the even unit [..] do so for levels, rates and steps.' The rounding fact (proofs/Rounding.antt) of REALs, and what
--- moves by it.
+-- §5 of the change requests: 'Halves go to the even unit [..] do so for levels, rates and steps.' The
+-- rounding fact (proofs/Rounding.antt) of REALs, and what moves by it.
 use mathlib.Core.Path.{_≡_, sym, ap, _∙_}
 use mathlib.Core.Logic.{_⊎_, inl, inr}
 use mathlib.Core.Bool.{false}
@@ -19,7 +19,8 @@ use Rattle.lighting_levels.proofs.Split.{by-bool}
 use Rattle.lighting_levels.proofs.Readout.{by-value}
 use Rattle.lighting_levels.proofs.Rounding.{twiceApart, Nearest, rounds, only, by-cases, nearest-same}
 
--- A REAL OF a / c PERCENT, TAKEN: its units are the whole number nearest to a / c × 65,536, of two the even one
+-- A REAL OF a / c PERCENT, TAKEN: its units are the whole number nearest to a / c × 65,536, of two the even
+-- one
 pub record Rounded (level : Level) (a c : ℕ) : Type 0 where
   pub units : ℕ
   pub becomes : level ≡ Units units

@@ -1,5 +1,5 @@
--- Tests. A definition chooses by clauses, or by an `if` that stays shut: a proof about code then reads its parts off a goal, and a proof about
--- the definitions opens `if_then_else_` and computes.
+-- Tests. A definition chooses by clauses, or by an `if` that stays shut: a proof about code then reads its
+-- parts off a goal, and a proof about the definitions opens `if_then_else_` and computes.
 use Prim.Native.Nat.{ℕ, zero, suc, _+_}
 use mathlib.Core.Bool.{Bool, true, false}
 use mathlib.Core.List.{List, [], _∷_}

@@ -1,5 +1,6 @@
--- A REAL (IEEE 754 binary32, `lib.Ieee`'s Float) as a whole number of 1 / 65,536 percent, and back: 'Levels' and 'Frames'.
--- A finite REAL `fin s m e` is the exact number a / c, with a = m * up e and c = down e, negative where s is true.
+-- A REAL (IEEE 754 binary32, `lib.Ieee`'s Float) as a whole number of 1 / 65,536 percent, and back: 'Levels'
+-- and 'Frames'. A finite REAL `fin s m e` is the exact number a / c, with a = m * up e and c = down e,
+-- negative where s is true.
 use Prim.Native.Nat.{ℕ, suc, _+_, _*_, _/_, _%_, min, compare, Ordering, Ordering·lt, Ordering·eq, Ordering·gt, _-_}
 use mathlib.Core.Bool.{Bool, true, false}
 use lib.Dec.{leb, ltb, eqb}
@@ -8,7 +9,8 @@ use Rattle.lighting_levels.specs.Paper.Choice.{if_then_else_, _also_}
 use Rattle.lighting_levels.specs.declared.Level.{Level}
 use Rattle.lighting_levels.specs.declared.Level.the-variants.{Units, OutOfRange}
 
--- 'a whole number of 1/65,536 percent': the units of one percent, which is the least level above 0, and of 100 percent, the greatest
+-- 'a whole number of 1/65,536 percent': the units of one percent, which is the least level above 0, and of
+-- 100 percent, the greatest
 abbrev pub onePercent : ℕ
 onePercent = 65536
 
@@ -29,8 +31,9 @@ real b = ofBits binary32 b
 unfoldable pub bits : Float → ℕ
 bits x = toBits binary32 x
 
--- 'the nearest unit'; §5 of the change requests, 'Halves go to the even unit', in place of 'a half going up': THE ROUNDING RULE, the only place
--- that has it. Of q whole units and a rest, by how twice the rest compares with a unit; at a half, the even one of q and q + 1
+-- 'the nearest unit'; §5 of the change requests, 'Halves go to the even unit', in place of 'a half going up':
+-- THE ROUNDING RULE, the only place that has it. Of q whole units and a rest, by how twice the rest compares
+-- with a unit; at a half, the even one of q and q + 1
 abbrev pub rule : ℕ → Ordering → ℕ
 rule q Ordering·lt = q
 rule q Ordering·eq = q + q % 2
@@ -59,12 +62,13 @@ levelOf (inf s) = OutOfRange
 levelOf (fin true m e) = if eqb (m * up e) 0 then Units 0 else OutOfRange
 levelOf (fin false m e) = levelIn (m * up e) (down e)
 
--- 'A level is read out as one division by 65,536': the REAL nearest to n / 65,536. Of a level it is n / 65,536 itself (proofs/Readout.antt,
--- `exact`)
+-- 'A level is read out as one division by 65,536': the REAL nearest to n / 65,536. Of a level it is n /
+-- 65,536 itself (proofs/Readout.antt, `exact`)
 unfoldable pub realOf : ℕ → Float
 realOf n = round binary32 false n onePercent
 
--- a level as it is read. No level is above 6,553,600; above that, which no record that meets the rules shows, 100 percent stands
+-- a level as it is read. No level is above 6,553,600; above that, which no record that meets the rules shows,
+-- 100 percent stands
 unfoldable pub readOut : ℕ → ℕ
 readOut n = bits (realOf (min n greatestLevel))
 
@@ -94,8 +98,8 @@ unfoldable pub unitsOr : ℕ → Level → ℕ
 unitsOr d (Units v) = v
 unitsOr d OutOfRange = d
 
--- A rate or a step that is kept as a REAL, in units. It is asked of settings that meet the rules and of commands that were taken: none has one
--- out of range, for which the least stands
+-- A rate or a step that is kept as a REAL, in units. It is asked of settings that meet the rules and of
+-- commands that were taken: none has one out of range, for which the least stands
 unfoldable pub amountUnits : Float → ℕ
 amountUnits x = unitsOr leastAmount (amountOf x)
 

@@ -1,5 +1,6 @@
--- §5 of the change requests by hand: REALs halfway between two units, and the patterns beside them, beside what one reckons on paper. proofs/Figures.antt
--- proves them equal. From 1 to 2 percent 128 patterns are a unit (3F800080 is 65,537 units), from 64 percent on two, from 0.125 to 0.25 percent 1,024.
+-- §5 of the change requests by hand: REALs halfway between two units, and the patterns beside them, beside
+-- what one reckons on paper. proofs/Figures.antt proves them equal. From 1 to 2 percent 128 patterns are a
+-- unit (3F800080 is 65,537 units), from 64 percent on two, from 0.125 to 0.25 percent 1,024.
 use mathlib.Core.List.{List, [], _∷_, map}
 use Prim.Native.Nat.{ℕ}
 use lib.Ieee.{Float}
@@ -15,7 +16,8 @@ units reads patterns = map (λ (b : ℕ). reads (real b)) patterns
 abbrev aboutOnePercent : List ℕ
 aboutOnePercent = 0x3f80_003f ∷ 0x3f80_0040 ∷ 0x3f80_0041 ∷ 0x3f80_00bf ∷ 0x3f80_00c0 ∷ 0x3f80_00c1 ∷ []
 
--- from 64 percent on every second REAL is halfway: 4,194,304.5, 4,194,305, 4,194,305.5; 6,553,598.5, 6,553,599, 6,553,599.5
+-- from 64 percent on every second REAL is halfway: 4,194,304.5, 4,194,305, 4,194,305.5; 6,553,598.5,
+-- 6,553,599, 6,553,599.5
 abbrev aboutMost : List ℕ
 aboutMost = 0x4280_0001 ∷ 0x4280_0002 ∷ 0x4280_0003 ∷ 0x42c7_fffd ∷ 0x42c7_fffe ∷ 0x42c7_ffff ∷ []
 
@@ -23,7 +25,8 @@ aboutMost = 0x4280_0001 ∷ 0x4280_0002 ∷ 0x4280_0003 ∷ 0x42c7_fffd ∷ 0x42
 abbrev aboutAnEighth : List ℕ
 aboutAnEighth = 0x3e00_01ff ∷ 0x3e00_0200 ∷ 0x3e00_0201 ∷ 0x3e00_05ff ∷ 0x3e00_0600 ∷ 0x3e00_0601 ∷ 0x3f7f_fe80 ∷ 0x3f7f_ff80 ∷ []
 
--- below 1 percent a level is raised, at whatever half, and a limit is refused: 0.5, 1.5, 8,192.5, 65,534.5 and 65,535.5 units
+-- below 1 percent a level is raised, at whatever half, and a limit is refused: 0.5, 1.5, 8,192.5, 65,534.5
+-- and 65,535.5 units
 abbrev belowOnePercent : List ℕ
 belowOnePercent = 0x3700_0000 ∷ 0x37c0_0000 ∷ 0x3e00_0200 ∷ 0x3f7f_fe80 ∷ 0x3f7f_ff80 ∷ []
 

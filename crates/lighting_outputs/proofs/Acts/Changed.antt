@@ -75,7 +75,8 @@ endMovement-acts p t c c′ s Still h = h
 endMovement-acts p t c c′ s (Moving m) h = h .six
 endMovement-acts p t c c′ s (Warned w) h = search
 
--- of the settings a movement looks at Min and Max alone: its owner is live, so Relinquish_Default is not shown
+-- of the settings a movement looks at Min and Max alone: its owner is live, so Relinquish_Default is not
+-- shown
 same-acts : (p : Parameters) (t : ℕ) (c c′ : Settings) (s : Slots) (a : Activity) → length (s .levels) ≡ slotCount → c′ .min ≡ c .min → c′ .max ≡ c .max
     → Acts p t c s a → Acts p t c′ s a
 unfolding presentValue

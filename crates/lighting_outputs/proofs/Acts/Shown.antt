@@ -1,4 +1,5 @@
--- The levels that an output works with: brought into Min..Max, reached in a movement, and how long a ramp lasts.
+-- The levels that an output works with: brought into Min..Max, reached in a movement, and how long a ramp
+-- lasts.
 use mathlib.Core.Path.{_≡_, refl}
 use mathlib.Core.Logic.{_≢_}
 use Prim.Native.Nat.{ℕ, suc, _+_, _-_, _*_, _/_, _≤_, _<_, min, max}

@@ -1,4 +1,5 @@
--- A DURATION empties its slot at its moment and not before, whatever writes come; 0 cancels it, absent leaves it.
+-- A DURATION empties its slot at its moment and not before, whatever writes come; 0 cancels it, absent leaves
+-- it.
 use mathlib.Core.Path.{_≡_, refl, sym, ap, subst, _∙_}
 use mathlib.Core.Logic.{_≢_}
 use mathlib.Core.Bool.{true, false, true≢false}
@@ -45,7 +46,8 @@ use Rattle.lighting_outputs.proofs.Acts.Acted.{by-change, acted-sound}
 use Rattle.lighting_outputs.proofs.Consequences.Present.{slot-same, slot-other}
 use Rattle.lighting_outputs.proofs.Consequences.Alone.{alone}
 
--- A STRETCH OF AN OUTPUT'S LIFE without a command: milliseconds, and whatever else a frame may ask, in any order
+-- A STRETCH OF AN OUTPUT'S LIFE without a command: milliseconds, and whatever else a frame may ask, in any
+-- order
 abbrev pub NoCommand : OutputRequest → Type 0
 NoCommand (Write i v) = Unit {0}
 NoCommand (Empty i) = Unit {0}
@@ -259,7 +261,8 @@ expires-warned p t q o h e l = rw (e, eqb-hit {a = suc t} {b = suc t} refl) (go 
     go (Moving m) k = absurd (true≢false (sym l ∙ k .six))
     go (Warned w) k = unfold endMovementOf in refl
 
--- AND NOT BEFORE: until then the passing of time changes no slot (a warning's phases aside, during which slot 6 is live)
+-- AND NOT BEFORE: until then the passing of time changes no slot (a warning's phases aside, during which slot
+-- 6 is live)
 calm-slots : (p : Parameters) (t d : ℕ) (o : Output) (a : Activity) → Acts p t (o .settings) (o .slots) a → isLive (o .slots) slot6 ≡ false → slotsAt d a (o .slots) ≡ o .slots
 unfolding slotsAt nextSlots activityDue isDue if_then_else_
 calm-slots p t d o Still h e = refl

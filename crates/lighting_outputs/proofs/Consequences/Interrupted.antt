@@ -1,4 +1,5 @@
--- WHAT ENDS A WARNING, AND WHAT IT LEAVES. A warning is running exactly while slot 6 is live (the record rules).
+-- WHAT ENDS A WARNING, AND WHAT IT LEAVES. A warning is running exactly while slot 6 is live (the record
+-- rules).
 use mathlib.Core.Path.{_≡_, refl, sym, _∙_}
 use mathlib.Core.Logic.{_≢_}
 use mathlib.Core.Bool.{true, false, false≢true}

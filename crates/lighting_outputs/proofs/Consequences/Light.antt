@@ -1,5 +1,6 @@
--- HOW LONG A MOVEMENT BURNS (§2 of the change requests), from its beginning on, if no frame comes and no duration falls due: a rise from 0 all but the
--- ceiling of what its first unit takes, every other one its whole length. What this asks of a rise is reckoned by hand: d + 1 is that ceiling.
+-- HOW LONG A MOVEMENT BURNS (§2 of the change requests), from its beginning on, if no frame comes and no
+-- duration falls due: a rise from 0 all but the ceiling of what its first unit takes, every other one its
+-- whole length. What this asks of a rise is reckoned by hand: d + 1 is that ceiling.
 use mathlib.Core.Path.{_≡_, refl, sym, ap, _∙_}
 use Prim.Native.Nat.{ℕ, zero, suc, _+_, _-_, _*_, _≤_, _<_, max}
 use native.Mathlib.Nat.{mul-comm, mul-le-mul-left, div-eq-of-lt-le, le-div-iff-mul-le}
@@ -95,7 +96,8 @@ module _ (p : Parameters) (t : ℕ) (o : Output) (m : Movement) (moves : o .acti
       less : (n : ℕ) → n ≤ m .length → m .start * n < m .start * m .length + m .start
       less n y = omega (arith, mul-le-mul-left (m .start) y)
 
-  -- a ramp as long as its way is not gone, which its own length is not past: 'L = ceiling(1,000 × |g - s| / R)'
+  -- a ramp as long as its way is not gone, which its own length is not past: 'L = ceiling(1,000 × |g - s| /
+  -- R)'
   pub ramp-to-zero : (r k : ℕ) → m .pace ≡ Ramp r → 0 < m .start → m .target ≡ 0 → r * k < m .start * 1000 + r → k ≤ m .length
       → TimerAfter (t + k) (o .timer) → ticks k t o .burning ≡ o .burning + k
   ramp-to-zero r k q h z c l a = burned k k l a (by-ramp r k q ∙ fall-at r 1000 k h z l (λ positive. still-lit r 1000 k positive c))

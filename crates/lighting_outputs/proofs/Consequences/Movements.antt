@@ -1,4 +1,5 @@
--- A FADE AND A RAMP begin at the start level and end on the target at their length; between, they are where the paper's formula says.
+-- A FADE AND A RAMP begin at the start level and end on the target at their length; between, they are where
+-- the paper's formula says.
 use mathlib.Core.Path.{_≡_, refl, sym, ap, subst, _∙_}
 use mathlib.Core.Logic.{_≢_}
 use Prim.Native.Nat.{ℕ, zero, suc, _+_, _-_, _*_, _/_, _≤_, _<_, min}
@@ -121,7 +122,8 @@ rules p t o m sound moves = subst (λ (a : Activity). Acts p t (o .settings) (o 
 abbrev Over : Output → Movement → Output → Type 0
 Over o m o′ = (o′ .activity ≡ Still) × (presentValue (o′ .settings) (o′ .slots) ≡ m .target) × (o′ .timer ≡ o .timer)
 
--- A MOVEMENT with so many milliseconds left, of a record that keeps the rules, if no frame comes: k milliseconds later Progress_Value is what the formula says
+-- A MOVEMENT with so many milliseconds left, of a record that keeps the rules, if no frame comes: k
+-- milliseconds later Progress_Value is what the formula says
 module _ (p : Parameters) (t : ℕ) {left : ℕ} (o : Output) (m : Movement) (moves : o .activity ≡ Moving m) (ends : m .over ≡ t + left) where
   pub moving-after : (k : ℕ) → k < left → TimerAfter (t + k) (o .timer) → After (t + k) o
   moving-after k h a = both-after (t + k) o a (rw moves (unfold activityDue in (omega arith)))
@@ -169,7 +171,8 @@ module _ (p : Parameters) (t : ℕ) {left : ℕ} (o : Output) (m : Movement) (mo
       let r = resting (t + left) more (ticks left t o) (f .0) (rw (f .2) (rw e at a)) in
       rw (ticks-add left more t o, e) (r .0 ∙ f .1, r .1)
 
--- A COMMAND THAT MOVES, from Progress_Value before it to g over l, if no frame comes and no duration falls due. Present_Value is g at once
+-- A COMMAND THAT MOVES, from Progress_Value before it to g over l, if no frame comes and no duration falls
+-- due. Present_Value is g at once
 pub record Course (t : ℕ) (o o′ : Output) (g l : ℕ) (w : Pace) : Type 0 where
   pub begins : progressValue t o′ ≡ progressValue t o
   pub shows : presentValue (o′ .settings) (o′ .slots) ≡ g
@@ -290,7 +293,8 @@ fade-to-over p t o x l d h r g w =
     (λ n. omega (arith, r .least))
     (faded-last (progressValue t o) (target (o .settings) x) l (omega (arith, r .least)))
 
--- RAMP_TO and RAMP_TO_AT_RATE begin at Progress_Value and end on the target at 'L = ceiling(1,000 × |g - s| / R)'
+-- RAMP_TO and RAMP_TO_AT_RATE begin at Progress_Value and end on the target at 'L = ceiling(1,000 × |g - s| /
+-- R)'
 ramp-long : (s g : ℕ) (r : Float) → s ≢ g → 0 < rampLength (distance s g) (amountUnits r)
 unfolding rampLength
 ramp-long s g r n =

@@ -1,4 +1,5 @@
--- PRESENT_VALUE is the level of the first live slot, or Relinquish_Default's: so an emptied slot hands over to the next live one.
+-- PRESENT_VALUE is the level of the first live slot, or Relinquish_Default's: so an emptied slot hands over
+-- to the next live one.
 use mathlib.Core.Path.{_≡_, refl, sym, ap, _∙_}
 use mathlib.Core.Logic.{_≢_}
 use mathlib.Core.List.{List, [], _∷_}

@@ -1,4 +1,5 @@
--- KIND 05, by the property's NUMBER: what each of 01 to 14, 17 to 1B and 21 to 30 reads as, of every output at every time.
+-- KIND 05, by the property's NUMBER: what each of 01 to 14, 17 to 1B and 21 to 30 reads as, of every output
+-- at every time.
 use mathlib.Core.Path.{_≡_, refl}
 use mathlib.Core.Bool.{not}
 use mathlib.Core.List.{[], _∷_, map}
@@ -32,7 +33,8 @@ use Rattle.lighting_outputs.proofs.Rules.Rows.{unlisted}
 abbrev pub reads : ℕ → Output → ℕ → Answer
 reads t o n = acted t o (Read (propertyOf n)) .answer
 
--- 'Properties': 01 to 0B, and 'Read only: 0C Present_Value, 0D Progress_Value, 0E In_Process, 0F last operation'
+-- 'Properties': 01 to 0B, and 'Read only: 0C Present_Value, 0D Progress_Value, 0E In_Process, 0F last
+-- operation'
 pub read-numbers : (t : ℕ) (o : Output)
     → map (reads t o) (0x01 ∷ 0x02 ∷ 0x03 ∷ 0x04 ∷ 0x05 ∷ 0x06 ∷ 0x07 ∷ 0x08 ∷ 0x09 ∷ 0x0a ∷ 0x0b ∷ 0x0c ∷ 0x0d ∷ 0x0e ∷ [])
     ≡ Value (readOut (o .settings .default))
@@ -53,8 +55,9 @@ pub read-numbers : (t : ℕ) (o : Output)
 unfolding acted unchanged propertyOf numbered readProperty levelAnswer realAnswer flag if_then_else_
 read-numbers t o = refl
 
--- 'Binary_Active_Value and Binary_Inactive_Value (properties 17 and 18, levels [..]) and Polarity (19, 0 normal, 1 reverse [..]). Binary_Present_Value (1A,
--- read only, 1 active, 0 inactive) [..] The relay's state (1B, read only) is that value, or its opposite under reverse'
+-- 'Binary_Active_Value and Binary_Inactive_Value (properties 17 and 18, levels [..]) and Polarity (19, 0
+-- normal, 1 reverse [..]). Binary_Present_Value (1A, read only, 1 active, 0 inactive) [..] The relay's state
+-- (1B, read only) is that value, or its opposite under reverse'
 pub read-relay : (t : ℕ) (o : Output)
     → map (reads t o) (0x17 ∷ 0x18 ∷ 0x19 ∷ 0x1a ∷ 0x1b ∷ [])
     ≡ Value (readOut (o .relay .active))
@@ -66,8 +69,8 @@ pub read-relay : (t : ℕ) (o : Output)
 unfolding acted unchanged propertyOf numbered readProperty levelAnswer flag relayState if_then_else_
 read-relay t o = refl
 
--- '0F last operation (kind minus 10), 10 its level, 11 rate, 12 step, 13 fade time, 14 duration (Absent where it had none)', after a
--- command without a duration
+-- '0F last operation (kind minus 10), 10 its level, 11 rate, 12 step, 13 fade time, 14 duration (Absent where
+-- it had none)', after a command without a duration
 pub read-last : (t : ℕ) (o : Output) (r : Effect) (timer : Timer) (x y : Float) (f : ℕ)
     → map
     (λ (k : Operation). map (reads t (withCommand o r timer (record { operation = k; duration = Omitted }))) (0x0f ∷ 0x10 ∷ 0x11 ∷ 0x12 ∷ 0x13 ∷ 0x14 ∷ []))

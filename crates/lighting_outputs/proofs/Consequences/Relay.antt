@@ -88,7 +88,8 @@ pub between-acted : (t : ℕ) (o : Output) (q : OutputRequest) → acted t o q .
     → present (acted t o q .output) < acted t o q .output .relay .active → acted t o q .output .relay .binary ≡ o .relay .binary
 between-acted t o q h k = binary-kept t o q (record { low = h; high = k })
 
--- IT FOLLOWS PRESENT_VALUE, NOT PROGRESS_VALUE: while a movement to g lasts, Progress_Value is on its way, and the relay is as g has switched it
+-- IT FOLLOWS PRESENT_VALUE, NOT PROGRESS_VALUE: while a movement to g lasts, Progress_Value is on its way,
+-- and the relay is as g has switched it
 module _ (t : ℕ) (o : Output) (k : Command) (g l : ℕ) (w : Pace) (course : Course t o (commanded t o k) g l w) where
   abbrev moving : Output
   moving = acted t o (Commands k) .output
@@ -114,7 +115,8 @@ module _ (t : ℕ) (o : Output) (k : Command) (g l : ℕ) (w : Pace) (course : C
       progress : progressValue (t + n) (withBurned t n (afterEvents (commanded t o k))) ≡ progressValue (t + n) (ticks n t (commanded t o k))
       progress = unfold withBurned withBurning afterEvents progressValue in (rw (quiet-but-relay n t (commanded t o k) after))
 
--- UNDER REVERSE IT IS THE OPPOSITE, at every moment: an output and the same with the other polarity stay so, whatever happens but a write of 19
+-- UNDER REVERSE IT IS THE OPPOSITE, at every moment: an output and the same with the other polarity stay so,
+-- whatever happens but a write of 19
 unfoldable pub reversed : Output → Output
 reversed o =
     withRelay

@@ -1,4 +1,5 @@
--- KINDS 02 AND 03 without a warning: what is stored, and which movement goes on; and what Present_Value becomes.
+-- KINDS 02 AND 03 without a warning: what is stored, and which movement goes on; and what Present_Value
+-- becomes.
 use mathlib.Core.Path.{_≡_, sym, _∙_}
 use mathlib.Core.Logic.{_≢_}
 use mathlib.Core.Bool.{true, false}

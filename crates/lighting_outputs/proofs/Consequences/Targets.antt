@@ -1,4 +1,5 @@
--- WHAT A COMMAND LEAVES IN THE SLOTS: in slot p what its operation says, slot 6 empty, every other slot as it was.
+-- WHAT A COMMAND LEAVES IN THE SLOTS: in slot p what its operation says, slot 6 empty, every other slot as it
+-- was.
 use mathlib.Core.Path.{_≡_, refl, sym, ap, _∙_}
 use mathlib.Core.Logic.{_≢_}
 use mathlib.Core.Option.{Option, none, some}
@@ -60,7 +61,8 @@ NotMoving Still = Unit {0}
 NotMoving (Moving m) = ⊥
 NotMoving (Warned w) = Unit {0}
 
--- 'Without a movement, in a warning too, Progress_Value equals Present_Value'; 'In_Process (1 exactly while a movement lasts, else 0)'
+-- 'Without a movement, in a warning too, Progress_Value equals Present_Value'; 'In_Process (1 exactly while a
+-- movement lasts, else 0)'
 pub progress-present : (t : ℕ) (o : Output) → NotMoving (o .activity) → progressValue t o ≡ presentValue (o .settings) (o .slots)
 unfolding progressValue
 progress-present t o n = go (o .activity) n
@@ -144,7 +146,8 @@ module _ (p : Parameters) (t : ℕ) (o : Output) (h : Sound p t o) (d : Duration
   pub ramp-to-at-rate : (x r : Float) → Sets o (after t o (RampToAtRate x r) d) y (some (clampLit (o .settings) (levelUnits x)))
   ramp-to-at-rate x r = puts (RampToAtRate x r) (some _) (unfold effect rampedTo rampedAt placed target in refl)
 
-  -- 'Step up: s plus step; step down: s minus step, not below 0; both brought into Min..Max. Step down from s = 0 stays 0'
+  -- 'Step up: s plus step; step down: s minus step, not below 0; both brought into Min..Max. Step down from s
+  -- = 0 stays 0'
   pub step-up : Sets o (after t o StepUp d) y (some (min (o .settings .max) (max (o .settings .min) (progressValue t o + amountUnits (o .settings .step)))))
   step-up = puts StepUp (some _) (unfold effect steppedUp jumped placed stepUpFrom in refl)
 
@@ -171,7 +174,8 @@ module _ (p : Parameters) (t : ℕ) (o : Output) (h : Sound p t o) (d : Duration
   pub relinquish : Sets o (after t o Relinquish d) y none
   relinquish = puts Relinquish none (unfold effect relinquished in refl)
 
-  -- 'STOP: if a movement belongs to p, it ends and slot p gets the reached level, raised to Min if above zero'
+  -- 'STOP: if a movement belongs to p, it ends and slot p gets the reached level, raised to Min if above
+  -- zero'
   stop-by : (m : Movement) (v : ℕ) → o .activity ≡ Moving m → m .owner ≡ y → raised (o .settings) (progressValue t o) ≡ v
       → Sets o (after t o Stop d) y (some v) × (after t o Stop d .activity ≡ Still)
   stop-by m v e w r =

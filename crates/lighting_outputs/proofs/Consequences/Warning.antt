@@ -1,5 +1,5 @@
--- A WARNING'S WHOLE COURSE, for all B, D, X and Y: what Present_Value and slots 6 and X are at every moment from its start on, if no frame comes
--- and no duration falls due.
+-- A WARNING'S WHOLE COURSE, for all B, D, X and Y: what Present_Value and slots 6 and X are at every moment
+-- from its start on, if no frame comes and no duration falls due.
 use mathlib.Core.Path.{_≡_, refl, sym, ap, subst, _∙_}
 use mathlib.Core.Logic.{_≢_}
 use mathlib.Core.Bool.{true, false, true≢false}
@@ -102,7 +102,8 @@ module _ (c : Settings) (s : Slots) (x : ℕ) (starts : Starts c s x) where
           (λ e′ t′. rw (h .rest i e e′)
           (by-lt i x (λ l r. rw (starts .below i l) tt) (λ l r. starts .above i (omega arith) (omega (arith, slots-size z, h .size))))))
 
--- WHAT IS SEEN at a moment: slot 6 is a, slot x is b, Present_Value is v; all other slots and the settings are those of the start
+-- WHAT IS SEEN at a moment: slot 6 is a, slot x is b, Present_Value is v; all other slots and the settings
+-- are those of the start
 pub record Seen (c : Settings) (s : Slots) (x : ℕ) (a b : Option ℕ) (v : ℕ) (o : Output) : Type 0 where
   pub settings : o .settings ≡ c
   pub slots : State s x a b (o .slots)
@@ -195,7 +196,8 @@ module _ (c : Settings) (s : Slots) (x y : ℕ) (starts : Starts c s x) (inside 
         (both-after (t + d + (n - d)) (ticks d t o) (timer-at (t + d + (n - d)) (o .timer) (ticks d t o .timer) (r .timer) (omega arith) a) (rw (r .activity) (unfold activityDue in tt)))
         (seen-over (ticks d t o) tt (r .settings ∙ h .settings) (rw (r .slots) (put-own none inside distance-six (put-six none distance-six (h .slots))))))
 
-    -- the first: slot 6 holds 0 for B ms, then comes the second, or without D the end, at which slot x keeps its 0
+    -- the first: slot 6 holds 0 for B ms, then comes the second, or without D the end, at which slot x keeps
+    -- its 0
     module _ (b d : ℕ) (z′ : 0 < b) (e : o .activity ≡ warningIn Blink x y (t + b) (t + b + d)) (h : Seen c s x (some 0) (some 0) 0 o) where
       blinking : (n : ℕ) → TimerAfter (t + n) (o .timer) → n < b → Seen c s x (some 0) (some 0) 0 (ticks n t o)
       blinking n a l = waits n t o (both-after (t + n) o a (rw e (unfold activityDue phaseEnd in (omega arith)))) h
@@ -282,7 +284,8 @@ module _ (c : Settings) (s : Slots) (x : ℕ) (size : length (s .levels) ≡ slo
         above = λ i l m. slot-zeroOrEmpty s i size m (all-each (zeroOrEmpty s) (slotCount - (x + 1)) (x + 1) i (g .1) (omega arith) (omega arith));
       }
 
--- THE COURSE: B ms dark, D ms at the old level Y, then dark; slot x empties with slot 6 if D is above 0, else keeps its 0
+-- THE COURSE: B ms dark, D ms at the old level Y, then dark; slot x empties with slot 6 if D is above 0, else
+-- keeps its 0
 pub record Course (c : Settings) (s : Slots) (x y t : ℕ) (o : Output) : Type 0 where
   pub dark : (n : ℕ) → TimerAfter (t + n) (o .timer) → n < c .blink → Seen c s x (some 0) (some 0) 0 (ticks n t o)
   pub lit : (n : ℕ) → TimerAfter (t + n) (o .timer) → c .blink ≤ n → n < c .blink + c .delay → Seen c s x (some y) (some 0) y (ticks n t o)
@@ -346,7 +349,8 @@ calm-by p t o i v Still h e = refl
 calm-by p t o i v (Moving m) h e = refl
 calm-by p t o i v (Warned w) h e = absurd (true≢false (sym (h .six) ∙ e))
 
--- KIND 02 OF ZERO at slot x, the paper's conditions met: none is running, for slot 6 is among the slots below x
+-- KIND 02 OF ZERO at slot x, the paper's conditions met: none is running, for slot 6 is among the slots below
+-- x
 pub warning : (p : Parameters) (t : ℕ) (o : Output) (x : ℕ) → Sound p t o → x < slotCount → Starts (o .settings) (o .slots) x
     → Course (o .settings) (o .slots) x (presentValue (o .settings) (o .slots)) t (written t o x 0)
 unfolding written writtenCalm writtenZero warned warnedBy withEffect warningFrom firstLevel firstPhase if_then_else_

@@ -1,5 +1,5 @@
--- WRITE, THEN READ: kind 04 of property n with x, answered Done; then kind 05 of n answers what was written, and every other property that is kept
--- answers as it did.
+-- WRITE, THEN READ: kind 04 of property n with x, answered Done; then kind 05 of n answers what was written,
+-- and every other property that is kept answers as it did.
 use mathlib.Core.Path.{_≡_, refl, ap, ap₂, _∙_}
 use mathlib.Core.Logic.{_≢_}
 use mathlib.Core.Bool.{Bool, true, false, false≢true}
@@ -47,7 +47,8 @@ use Rattle.lighting_outputs.proofs.Consequences.Reads.{reads, refused}
 abbrev pub writes : (p : Parameters) → ℕ → Output → ℕ → ℕ → Outcome
 writes p t o n x = alone t o (changeOf p (propertyOf n) x)
 
--- WHAT A PROPERTY READS AS after x was written to it: 01, 08, 09, 17 and 18 as levels, the nearest unit; all others as they were written
+-- WHAT A PROPERTY READS AS after x was written to it: 01, 08, 09, 17 and 18 as levels, the nearest unit; all
+-- others as they were written
 abbrev pub said : ℕ → ℕ → ℕ
 said n x =
     if eqb n 0x01 then readOut (unitsOr 0 (levelOf (real x)))
@@ -317,7 +318,8 @@ module _ (p : Parameters) (t t′ : ℕ) (o : Output) (x : ℕ) where
   unfolding acted served unchanged done propertyOf numbered changeOf changeBy changeTo changedUnless settingsWith same minOverMax if_then_else_
   max-under-min v e h = rw (e, leb-yes {a = suc v} {b = o .settings .min} h)
 
-  -- 'a write to 17 or 18 that would leave the inactive value not below the active one' is 16, and leaves everything; equal is refused
+  -- 'a write to 17 or 18 that would leave the inactive value not below the active one' is 16, and leaves
+  -- everything; equal is refused
   module _ (order : o .settings .min ≤ o .settings .max) where
     pub active-taken : (v : ℕ) → levelOf (real x) ≡ Units v → o .relay .inactive < v → writes p t o 0x17 x .answer ≡ Done
     unfolding acted served unchanged done propertyOf numbered changeOf changeBy changeTo changedUnless settingsWith relayWith same minOverMax inactiveNotBelow if_then_else_
@@ -340,7 +342,8 @@ module _ (p : Parameters) (t t′ : ℕ) (o : Output) (x : ℕ) where
   unfolding acted served unchanged
   refuses n r e = rw e (refl, refl)
 
-  -- THE RANGES: 02 from 100 to 86,400,000, else 12; 06 and 07 up to 86,400,000; 05 0 or 1; 0A a priority, else 10; 0B 0 alone
+  -- THE RANGES: 02 from 100 to 86,400,000, else 12; 06 and 07 up to 86,400,000; 05 0 or 1; 0A a priority,
+  -- else 10; 0B 0 alone
   in-row : (low high : ℕ) (n : Property) → low ≤ x → x ≤ high → changeBy (Whole low high) n x ≡ ToOutput (Change n x)
   unfolding changeBy within if_then_else_
   in-row low high n h k = rw (leb-yes {a = low} {b = x} h, leb-yes {a = x} {b = high} k)

@@ -118,7 +118,8 @@ pub commandRequest-good : (p : Parameters) (o : Operation) (d : ℕ) → Request
 unfolding commandRequest
 commandRequest-good p o d = commandOf-good p o (plainDuration d)
 
--- A COMMAND THAT WAS TAKEN: its fields are in range, and it has the operation and the duration that were asked
+-- A COMMAND THAT WAS TAKEN: its fields are in range, and it has the operation and the duration that were
+-- asked
 pub record Taken (p : Parameters) (o : Operation) (duration : TimeField) (k : Command) : Type 0 where
   pub ranges : fieldsRefusal p (fieldsOf o) ≡ 0
   pub operation : k .operation ≡ o

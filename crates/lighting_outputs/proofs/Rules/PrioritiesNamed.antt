@@ -8,7 +8,8 @@ use Rattle.lighting_outputs.specs.Paper.Rows.{isSlot, isPriority}
 use Rattle.lighting_levels.proofs.Split.{eqb-miss, leb-yes, leb-no}
 use Rattle.lighting_outputs.proofs.Rules.Facts.{Slot}
 
--- KINDS 02 AND 03: the priority is 1 to 16 but 6, slot i has i + 1; 'priority 0, 6 or over 16' is 10, 'REAL out of range' 11
+-- KINDS 02 AND 03: the priority is 1 to 16 but 6, slot i has i + 1; 'priority 0, 6 or over 16' is 10, 'REAL
+-- out of range' 11
 pub priority-yes : (i : ℕ) → Slot i → isPriority (suc i) ≡ true
 unfolding isPriority isSlot if_then_else_
 priority-yes i k =

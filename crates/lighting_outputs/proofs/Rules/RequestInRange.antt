@@ -18,7 +18,8 @@ DurationInRange p (Lasts d) = Within 100 (p .duration) d
 DurationInRange p Cancels = Unit {0}
 DurationInRange p Omitted = Unit {0}
 
--- a command's REALs are read in units where they are used, which are in range whatever the REAL (proofs/Ranges.antt)
+-- a command's REALs are read in units where they are used, which are in range whatever the REAL
+-- (proofs/Ranges.antt)
 abbrev pub OperationInRange : Parameters → Operation → Type 0
 OperationInRange p Stop = Unit {0}
 OperationInRange p (FadeTo x) = Unit {0}

@@ -49,7 +49,8 @@ pub change-good : (p : Parameters) (n : Property) (x : ℕ) → RequestInRange p
 unfolding changeOf
 change-good p n x = row-good p (rowOf p n) n x (λ v m. m)
 
--- THE NUMBER AND THE TABLE of properties say the same: by its number a property is found again, unless it is a slot past the sixteenth
+-- THE NUMBER AND THE TABLE of properties say the same: by its number a property is found again, unless it is
+-- a slot past the sixteenth
 by-number : {P : Type 0} (n : Property) → (propertyOf (numberOf n) ≡ n → P) → ((i : ℕ) → slotCount ≤ i → n ≡ SlotValue i → P) → P
 unfolding propertyOf numbered if_then_else_
 by-number RelinquishDefault found past = found refl

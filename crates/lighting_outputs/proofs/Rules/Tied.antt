@@ -1,4 +1,5 @@
--- The test of the record rules holds exactly where their facts do. An array's length is part of the code's type.
+-- The test of the record rules holds exactly where their facts do. An array's length is part of the code's
+-- type.
 use mathlib.Core.Path.{_≡_, refl, sym, _∙_}
 use mathlib.Core.Bool.{Bool, true, false, false≢true}
 use Prim.Native.Nat.{ℕ, _-_, _≤_, _<_}

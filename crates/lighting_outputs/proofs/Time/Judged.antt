@@ -1,5 +1,5 @@
--- JUDGING A JUDGED OUTPUT CHANGES NOTHING (§3): so the plain panel, which judges after every millisecond, and the engine, which judges at due moments
--- alone, come to the same.
+-- JUDGING A JUDGED OUTPUT CHANGES NOTHING (§3): so the plain panel, which judges after every millisecond, and
+-- the engine, which judges at due moments alone, come to the same.
 use mathlib.Core.Path.{_≡_, sym}
 use Prim.Native.Nat.{ℕ}
 use lib.Dec.{leb}

@@ -1,5 +1,6 @@
--- HOW LONG A LAMP GIVES LIGHT: the engine's count of a stretch (specs/Engine/Light.antt) comes to its milliseconds one by one, of any record at all: fades
--- and ramps, up and down, from any place of the movement, with a way, a rate or a length of 0 too.
+-- HOW LONG A LAMP GIVES LIGHT: the engine's count of a stretch (specs/Engine/Light.antt) comes to its
+-- milliseconds one by one, of any record at all: fades and ramps, up and down, from any place of the
+-- movement, with a way, a rate or a length of 0 too.
 use mathlib.Core.Path.{_≡_, refl, sym, ap, subst, _∙_}
 use mathlib.Core.Bool.{Bool, true, false, not}
 use Prim.Native.Nat.{ℕ, zero, suc, _+_, _-_, _*_, _/_, _≤_, _<_, min, max}

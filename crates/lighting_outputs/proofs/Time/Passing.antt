@@ -1,7 +1,9 @@
--- EVENT STEPS EQUAL TICKS: the engine's way from due moment to due moment comes to what the plain panel's milliseconds come to.
--- What it asks of the output (`Calm`): every due moment is after the moment it starts from, it has burned no longer than the panel stands, and its relay
--- is judged: so the milliseconds at which nothing falls due, which the engine leaves out, would have judged it for nothing (Judged.antt).
--- Neither the slots nor what lights a lamp play a part: of the count of a stretch it asks that it is its milliseconds one by one (Light.antt).
+-- EVENT STEPS EQUAL TICKS: the engine's way from due moment to due moment comes to what the plain panel's
+-- milliseconds come to. What it asks of the output (`Calm`): every due moment is after the moment it starts
+-- from, it has burned no longer than the panel stands, and its relay is judged: so the milliseconds at which
+-- nothing falls due, which the engine leaves out, would have judged it for nothing (Judged.antt). Neither the
+-- slots nor what lights a lamp play a part: of the count of a stretch it asks that it is its milliseconds one
+-- by one (Light.antt).
 use mathlib.Core.Path.{_≡_, refl, sym, ap, ap₂, _∙_}
 use mathlib.Core.Logic.{_≢_}
 use mathlib.Core.Bool.{true, false, false≢true}
@@ -128,7 +130,8 @@ litMilliseconds-le from (suc n) o =
     (λ e. rw e (omega (arith, litMilliseconds-le (suc from) n o)))
     (λ e. rw e (omega (arith, litMilliseconds-le (suc from) n o)))
 
--- it looks at settings, slots and what is under way alone: neither what has burned nor the relay plays a part in it
+-- it looks at settings, slots and what is under way alone: neither what has burned nor the relay plays a part
+-- in it
 pub litMilliseconds-alike : (from n : ℕ) (o o′ : Output) → o′ .settings ≡ o .settings → o′ .slots ≡ o .slots → o′ .activity ≡ o .activity
     → litMilliseconds from n o′ ≡ litMilliseconds from n o
 unfolding litMilliseconds lit progressValue
@@ -275,7 +278,8 @@ fire-after t o a = record { all = (timer, (activity (endMovementOnExpiry (suc t)
         (λ e. rw e (next-after (suc t) b e))
         (λ e. rw e (not-yet t (suc t) (activityDue b) refl h e)))
 
--- WHAT IS STILL TO COME: how many due moments an output can yet meet, its next ones and the end that follows a warning's turn
+-- WHAT IS STILL TO COME: how many due moments an output can yet meet, its next ones and the end that follows
+-- a warning's turn
 abbrev moments : Moment → ℕ
 moments Never = 0
 moments (At d) = 1

@@ -1,5 +1,5 @@
--- TICKS OF AN OUTPUT WHOSE RELAY NEED NOT HAVE BEEN JUDGED (§3), as between an act and its judging: but for the relay they come to what they come to of a
--- judged one. What is said of levels over time stands on this.
+-- TICKS OF AN OUTPUT WHOSE RELAY NEED NOT HAVE BEEN JUDGED (§3), as between an act and its judging: but for
+-- the relay they come to what they come to of a judged one. What is said of levels over time stands on this.
 use mathlib.Core.Path.{_≡_, sym, ap, _∙_}
 use Prim.Native.Nat.{ℕ, zero, suc, _+_}
 use native.Mathlib.Omega.{arith}

@@ -1,5 +1,5 @@
--- THE ENGINE's passing of time: from due moment to due moment. proofs/Time/Passing.antt has that it comes to the plain panel's milliseconds (`ticks` of
--- Paper/Passing.antt), so that nobody need believe this file.
+-- THE ENGINE's passing of time: from due moment to due moment. proofs/Time/Passing.antt has that it comes to
+-- the plain panel's milliseconds (`ticks` of Paper/Passing.antt), so that nobody need believe this file.
 use mathlib.Core.Bool.{Bool, true, false}
 use mathlib.Core.List.{List, [], _∷_}
 use Prim.Native.Nat.{ℕ, zero, suc, _+_, _-_, min}
@@ -24,8 +24,8 @@ soonest to (d ∷ l) = sooner (soonest to l) d
 unfoldable pub due : ℕ → Output → ℕ
 due to o = soonest to (dueMoments o)
 
--- burning in a count that stays at its top: no frame brings a record that meets the rules there, since its time has 48 bits
--- (proofs/Time/Passing.antt, `eventSteps-ticks`)
+-- burning in a count that stays at its top: no frame brings a record that meets the rules there, since its
+-- time has 48 bits (proofs/Time/Passing.antt, `eventSteps-ticks`)
 abbrev pub greatestCount : ℕ
 greatestCount = 18446744073709551615
 
@@ -35,8 +35,8 @@ burnedBy n o = withBurning o (min (o .burning + n) greatestCount)
 unfoldable pub withBurnedSaturating : ℕ → ℕ → Output → Output
 withBurnedSaturating from n o = burnedBy (litStretch from n o) o
 
--- whether one of these moments is d. The engine does something at due moments alone: elsewhere an output that was judged needs no judging again
--- (proofs/Time/Judged.antt)
+-- whether one of these moments is d. The engine does something at due moments alone: elsewhere an output that
+-- was judged needs no judging again (proofs/Time/Judged.antt)
 abbrev pub anyDue : ℕ → List Moment → Bool
 anyDue d [] = false
 anyDue d (first ∷ rest) = if isDue d first then true else anyDue d rest

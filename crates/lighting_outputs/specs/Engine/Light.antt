@@ -1,5 +1,6 @@
--- THE ENGINE's count of the milliseconds at whose start a lamp gives light, whatever the stretch. proofs/Time/Light.antt has that it comes to the
--- milliseconds one by one (`litMilliseconds` of Paper/Passing.antt), so that nobody need believe this file.
+-- THE ENGINE's count of the milliseconds at whose start a lamp gives light, whatever the stretch.
+-- proofs/Time/Light.antt has that it comes to the milliseconds one by one (`litMilliseconds` of
+-- Paper/Passing.antt), so that nobody need believe this file.
 use Prim.Native.Nat.{ℕ, _+_, _-_, _*_, _/_, min, max}
 use lib.Dec.{ltb, eqb}
 use Rattle.lighting_levels.specs.Paper.Choice.{if_then_else_}
@@ -13,14 +14,15 @@ use Rattle.lighting_outputs.specs.declared.Activity.{Activity}
 use Rattle.lighting_outputs.specs.declared.Activity.the-variants.{Still, Moving, Warned}
 use Rattle.lighting_outputs.specs.declared.Output.{Output}
 
--- k milliseconds along, a movement from 0 or to 0 has gone floor(s × k / w) units of its way: a fade its whole way s in its length w, a ramp its rate s
--- in the 1,000 ms of a second, and no further than its way (`litByPace`).
+-- k milliseconds along, a movement from 0 or to 0 has gone floor(s × k / w) units of its way: a fade its
+-- whole way s in its length w, a ramp its rate s in the 1,000 ms of a second, and no further than its way
+-- (`litByPace`).
 -- So this is the last k at which u units of it, u above 0, are not yet gone
 unfoldable pub lastShort : ℕ → ℕ → ℕ → ℕ
 lastShort u s w = (u * w - 1) / s
 
--- and the moment from which on they are: never, where the movement stands or its length is too short. The k after the last one short is reached as
--- long before the end as it is short of the length
+-- and the moment from which on they are: never, where the movement stands or its length is too short. The k
+-- after the last one short is reached as long before the end as it is short of the length
 unfoldable pub momentAfter : ℕ → Movement → Moment
 momentAfter k m = if ltb k (m .length) then At (m .over - (m .length - (k + 1))) else Never
 
@@ -36,7 +38,8 @@ unfoldable pub countSince : ℕ → ℕ → Moment → ℕ
 countSince from n Never = 0
 countSince from n (At d) = n - (d - from)
 
--- A RISE FROM 0 is dark until the first unit of its way is gone, A FALL TO 0 is lit until all of it is, and no other movement comes to 0
+-- A RISE FROM 0 is dark until the first unit of its way is gone, A FALL TO 0 is lit until all of it is, and
+-- no other movement comes to 0
 unfoldable pub litFromZero : ℕ → ℕ → ℕ → ℕ → Movement → ℕ
 litFromZero s w from n m = if eqb (m .target) 0 then 0 else countSince from n (goneAt 1 s w m)
 

@@ -1,4 +1,5 @@
--- What a first arrival does: 'Each accepted frame first brings the panel to its time, then acts'. The engine and the plain panel share it.
+-- What a first arrival does: 'Each accepted frame first brings the panel to its time, then acts'. The engine
+-- and the plain panel share it.
 --
 use mathlib.Core.Bool.{Bool}
 use mathlib.Core.List.{List}
@@ -28,13 +29,14 @@ done o = record { output = afterEvents o; answer = Done }
 unfoldable pub unchanged : Output → Answer → Outcome
 unchanged o a = record { output = o; answer = a }
 
--- a write of a property, unless it would leave Min over Max (m): 13; or the relay's inactive value not below its active one (unordered): 16, 'tested after 13,
--- leaving what 13 leaves' (§3)
+-- a write of a property, unless it would leave Min over Max (m): 13; or the relay's inactive value not below
+-- its active one (unordered): 16, 'tested after 13, leaving what 13 leaves' (§3)
 unfoldable pub changedUnless : Bool → Bool → Output → Property → ℕ → Outcome
 changedUnless m unordered o property value =
     if m then unchanged o (Refused 13) else if unordered then unchanged o (Refused 16) else done (changed o property value)
 
--- A REQUEST TO ONE OUTPUT: 'does what its kind calls for', or refuses 13 or 16; a read of an unknown property is 9
+-- A REQUEST TO ONE OUTPUT: 'does what its kind calls for', or refuses 13 or 16; a read of an unknown property
+-- is 9
 unfoldable pub acted : ℕ → Output → OutputRequest → Outcome
 acted t o (Write slot level) = done (written t o slot level)
 acted t o (Empty slot) = done (slotRelinquished o slot)
@@ -43,8 +45,9 @@ acted t o (Change n v) =
 acted t o (Read property) = unchanged o (readProperty t o property)
 acted t o (Commands k) = done (commanded t o k)
 
--- A REQUEST, over the table: the outputs and the answer after a frame whose output is i. 'or refuses 9 to 13', and 14 to 16
--- of the change requests, leaves every output. Which station it comes from makes no difference
+-- A REQUEST, over the table: the outputs and the answer after a frame whose output is i. 'or refuses 9 to
+-- 13', and 14 to 16 of the change requests, leaves every output. Which station it comes from makes no
+-- difference
 pub record Served : Type 0 where
   pub outputs : List Output
   pub answer : Answer

@@ -1,5 +1,5 @@
--- 'The answer is Done, a Value of 32 bits, Absent, or Refused with a number': the paper's number and value for each case of each enum that
--- is an answer.
+-- 'The answer is Done, a Value of 32 bits, Absent, or Refused with a number': the paper's number and value
+-- for each case of each enum that is an answer.
 use mathlib.Core.List.{List, [], _∷_}
 use mathlib.Core.Option.{Option, none, some}
 use Prim.Native.Nat.{ℕ}
@@ -9,8 +9,9 @@ use Rattle.lighting_outputs.specs.declared.Answer.the-variants.{Done, Va
 use Rattle.lighting_levels.specs.declared.Level.{Level}
 use Rattle.lighting_levels.specs.declared.Level.the-variants.{Units, OutOfRange}
 
--- THE NUMBER AND THE VALUES OF EVERY ANSWER, as the bytes by which a bus log writes it down: 80 Done; 81 Value, its 32 bits; 82 Absent; 83
--- Refused, its number. No two answers have the same (proofs/AnswersApart.antt, `told-apart`)
+-- THE NUMBER AND THE VALUES OF EVERY ANSWER, as the bytes by which a bus log writes it down: 80 Done; 81
+-- Value, its 32 bits; 82 Absent; 83 Refused, its number. No two answers have the same
+-- (proofs/AnswersApart.antt, `told-apart`)
 unfoldable pub answerBytes : Answer → List ℕ
 answerBytes Done = 0x80 ∷ []
 answerBytes (Value v) = 0x81 ∷ octets 4 v

@@ -1,4 +1,5 @@
--- 'Writes and commands': the eleven commands and the duration. A command acts on slot p, Lighting_Command_Priority.
+-- 'Writes and commands': the eleven commands and the duration. A command acts on slot p,
+-- Lighting_Command_Priority.
 use Prim.Native.Nat.{ℕ, _+_, _-_, _*_, _/_, max}
 use lib.Dec.{eqb}
 use lib.Ieee.{Float}
@@ -34,7 +35,8 @@ activityWithoutWarning Still = Still
 activityWithoutWarning (Moving m) = Moving m
 activityWithoutWarning (Warned w) = Still
 
--- 'put in slot p. If p is then the winner (`first`) it replaces the movement; if not, an existing movement goes on'
+-- 'put in slot p. If p is then the winner (`first`) it replaces the movement; if not, an existing movement
+-- goes on'
 unfoldable pub replaced : ℕ → ℕ → Activity → Activity → Activity
 replaced first p new old = if eqb first p then new else old
 
@@ -54,8 +56,8 @@ rampLength way r = (1000 * way + (r - 1)) / r
 unfoldable pub target : Settings → Float → ℕ
 target c x = clampLit c (levelUnits x)
 
--- THE EFFECT: the slots and the activity after a command, which starts at t from the level f, with the settings c, the slots s and the
--- activity a
+-- THE EFFECT: the slots and the activity after a command, which starts at t from the level f, with the
+-- settings c, the slots s and the activity a
 unfoldable pub fadedOver : ℕ → Settings → ℕ → Slots → Activity → ℕ → ℕ → Effect
 fadedOver t c f s a g l = placed s a (c .slot) g (movement t (c .slot) f g l Fade)
 
@@ -75,7 +77,8 @@ jumped c s a g = placed s a (c .slot) g Still
 unfoldable pub wentTo : Settings → Slots → Activity → Float → Effect
 wentTo c s a x = jumped c s a (target c x)
 
--- 'Step up: s plus step; step down: s minus step, not below 0; both brought into Min..Max. Step down from s = 0 stays 0'
+-- 'Step up: s plus step; step down: s minus step, not below 0; both brought into Min..Max. Step down from s =
+-- 0 stays 0'
 unfoldable pub stepUpFrom : Settings → ℕ → ℕ → ℕ
 stepUpFrom c f step = clamp c (f + step)
 
@@ -88,8 +91,8 @@ steppedUp c f s a x = jumped c s a (stepUpFrom c f (amountUnits x))
 unfoldable pub steppedDown : Settings → ℕ → Slots → Activity → Float → Effect
 steppedDown c f s a x = jumped c s a (stepDownFrom c f (amountUnits x))
 
--- 'STOP: if a movement belongs to p, it ends and slot p gets the reached level, raised to Min if above zero. Else it changes no slot'. A warning
--- has ended before (`activityWithoutWarning`)
+-- 'STOP: if a movement belongs to p, it ends and slot p gets the reached level, raised to Min if above zero.
+-- Else it changes no slot'. A warning has ended before (`activityWithoutWarning`)
 unfoldable pub raised : Settings → ℕ → ℕ
 raised c v = if eqb v 0 then 0 else max (c .min) v
 
@@ -121,7 +124,8 @@ effect t c f s a (StepDownBy x) = steppedDown c f s a x
 effect t c f s a (Goto x) = wentTo c s a x
 effect t c f s a Relinquish = relinquished c s a
 
--- 'Duration d above zero, with every command: slot p empties d ms later. [..] a new one replaces it, 0 cancels it, Absent leaves it running'
+-- 'Duration d above zero, with every command: slot p empties d ms later. [..] a new one replaces it, 0
+-- cancels it, Absent leaves it running'
 unfoldable pub timed : ℕ → ℕ → Timer → Duration → Timer
 timed t p running (Lasts d) = Running p (t + d)
 timed t p running Cancels = Off

@@ -1,5 +1,6 @@
--- 'Bench figures' 1 to 8, figure 4 as §5 of the change requests has it, and the 'Traps' that one output shows (Worked.antt has those that only a list
--- shows): what the definitions give, beside what the papers say. proofs/Figures.antt proves them equal.
+-- 'Bench figures' 1 to 8, figure 4 as §5 of the change requests has it, and the 'Traps' that one output shows
+-- (Worked.antt has those that only a list shows): what the definitions give, beside what the papers say.
+-- proofs/Figures.antt proves them equal.
 use mathlib.Core.List.{List, [], _∷_, map}
 use Prim.Native.Nat.{ℕ}
 use Rattle.lighting_levels.specs.Paper.Level.{real, levelOf}
@@ -87,8 +88,8 @@ said =
     ∷ (Value 0 ∷ Value 0 ∷ Value 3276800 ∷ Value 3276800 ∷ Value 0 ∷ Value 0 ∷ [])
     ∷ []
 
--- TRAPS that one output shows: 'step down lighting a dark output at Min; a fade started from Present_Value instead of Progress_Value; a
--- duration read in seconds'; and a warning without delay
+-- TRAPS that one output shows: 'step down lighting a dark output at Min; a fade started from Present_Value
+-- instead of Progress_Value; a duration read in seconds'; and a warning without delay
 abbrev fadeTurned : Output
 fadeTurned = ordered 500 (FadeToOver (real 0) 1000) Omitted (advance 0 500 fadeUp)
 

@@ -29,7 +29,8 @@ freshSettings fade =
       slot = slot16;
     }
 
--- '(properties 17 and 18, levels, fresh values 50 and 45) and Polarity (19, 0 normal, 1 reverse, fresh 0). Binary_Present_Value [..] starts inactive' (§3)
+-- '(properties 17 and 18, levels, fresh values 50 and 45) and Polarity (19, 0 normal, 1 reverse, fresh 0).
+-- Binary_Present_Value [..] starts inactive' (§3)
 unfoldable pub freshRelay : Relay
 freshRelay = record { active = 50 * leastLevel; inactive = 45 * leastLevel; reverse = false; binary = false }
 
@@ -46,8 +47,8 @@ freshWith fade =
       relay = freshRelay;
     }
 
--- a fresh output of a panel with the set p; and document 01's, which also stands for an output past the end of
--- a table
+-- a fresh output of a panel with the set p; and document 01's, which also stands for an output past the end
+-- of a table
 unfoldable pub freshFor : Parameters → Output
 freshFor p = freshWith (freshFade p)
 

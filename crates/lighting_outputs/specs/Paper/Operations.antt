@@ -1,5 +1,5 @@
--- The eleven lighting operations: their numbers, and the fields that each has. What properties 0F to 13 read and the ranges of a command's fields
--- (Frames.antt) come from here.
+-- The eleven lighting operations: their numbers, and the fields that each has. What properties 0F to 13 read
+-- and the ranges of a command's fields (Frames.antt) come from here.
 use Prim.Native.Nat.{ℕ}
 use lib.Ieee.{Float}
 use Rattle.lighting_outputs.specs.declared.Operation.{Operation}
@@ -11,7 +11,8 @@ use Rattle.lighting_outputs.specs.declared.OperationFields.{OperationFie
 use Rattle.lighting_outputs.specs.declared.Duration.{Duration}
 use Rattle.lighting_outputs.specs.declared.Duration.the-variants.{Lasts, Cancels, Omitted}
 
--- '0F last operation (kind minus 10)': that it is the frame's kind less 10, proofs/Operations.antt has (`kind-number`)
+-- '0F last operation (kind minus 10)': that it is the frame's kind less 10, proofs/Operations.antt has
+-- (`kind-number`)
 unfoldable pub operationNumber : Operation → ℕ
 operationNumber Stop = 0
 operationNumber (FadeTo x) = 1

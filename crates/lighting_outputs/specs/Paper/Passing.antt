@@ -1,5 +1,5 @@
--- 'The plain panel': how an output passes from one moment to another. The plain panel lives one millisecond after another; the engine goes
--- from due moment to due moment. Both do the same at a moment (`fire`).
+-- 'The plain panel': how an output passes from one moment to another. The plain panel lives one millisecond
+-- after another; the engine goes from due moment to due moment. Both do the same at a moment (`fire`).
 use mathlib.Core.Bool.{Bool, false}
 use mathlib.Core.List.{List, [], _∷_}
 use Prim.Native.Nat.{ℕ, zero, suc, _+_}
@@ -20,8 +20,8 @@ use Rattle.lighting_outputs.specs.Paper.Value.{presentValue, lit}
 use Rattle.lighting_outputs.specs.Paper.Relay.{switched}
 use Rattle.lighting_outputs.specs.Paper.Record.{withBurning, withDue, withRelay}
 
--- 'Burning time gains a millisecond when Progress_Value is above zero' (§2 of the change requests): of the n milliseconds from a moment on, those at
--- whose start the lamp gives light
+-- 'Burning time gains a millisecond when Progress_Value is above zero' (§2 of the change requests): of the n
+-- milliseconds from a moment on, those at whose start the lamp gives light
 unfoldable pub litMilliseconds : ℕ → ℕ → Output → ℕ
 litMilliseconds from zero o = 0
 litMilliseconds from (suc n) o = (if lit from o then 1 else 0) + litMilliseconds (suc from) n o
@@ -76,7 +76,8 @@ endMovementBy (Running slot due) a = endMovementOf slot a
 unfoldable pub endMovementOnExpiry : ℕ → Timer → Activity → Activity
 endMovementOnExpiry t timer a = if isDue t (timerDue timer) then endMovementBy timer a else a
 
--- the warning's phases follow one another, the second if D is above 0, and a movement is over at its last moment
+-- the warning's phases follow one another, the second if D is above 0, and a movement is over at its last
+-- moment
 unfoldable pub delayed : Warning → Warning
 delayed w = record { phase = Delay; owner = w .owner; level = w .level; turn = w .turn; over = w .over }
 
@@ -92,7 +93,8 @@ nextActivity (Warned w) = nextPhase w (w .phase)
 unfoldable pub activityAt : ℕ → Activity → Activity
 activityAt t a = if isDue t (activityDue a) then nextActivity a else a
 
--- 'then the warning's slots are set': 'Slot 6 holds 0 for B ms, then Y for D ms, then is empty; if D is above 0, slot X empties with it'
+-- 'then the warning's slots are set': 'Slot 6 holds 0 for B ms, then Y for D ms, then is empty; if D is above
+-- 0, slot X empties with it'
 unfoldable pub phaseSlots : Warning → Phase → Slots → Slots
 phaseSlots w Blink s = if ltb (w .turn) (w .over) then filled s slot6 (w .level) else emptied s slot6
 phaseSlots w Delay s = emptied (emptied s slot6) (w .owner)
@@ -105,7 +107,8 @@ nextSlots (Warned w) s = phaseSlots w (w .phase) s
 unfoldable pub slotsAt : ℕ → Activity → Slots → Slots
 slotsAt t a s = if isDue t (activityDue a) then nextSlots a s else s
 
--- 'It is judged after each frame's act and after each millisecond's due moments' (§3 of the change requests): the relay, by Present_Value
+-- 'It is judged after each frame's act and after each millisecond's due moments' (§3 of the change requests):
+-- the relay, by Present_Value
 unfoldable pub afterEvents : Output → Output
 afterEvents o = withRelay o (switched (presentValue (o .settings) (o .slots)) (o .relay))
 

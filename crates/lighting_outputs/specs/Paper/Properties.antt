@@ -1,4 +1,5 @@
--- 'An output's record': the table of properties, what a write of each asks and changes, and what each reads as.
+-- 'An output's record': the table of properties, what a write of each asks and changes, and what each reads
+-- as.
 use mathlib.Core.Bool.{Bool}
 use mathlib.Core.List.{List, [], _∷_}
 use mathlib.Core.Option.{Option, none, some}
@@ -110,8 +111,9 @@ propertyOf n =
 unfoldable pub same : Property → Property → Bool
 same one other = eqb (numberOf one) (numberOf other)
 
--- WRITES, kind 04: the value x, of 32 bits, as the property's row (Rows.antt) has it kept, or the refusal that it meets: 'property unknown, or
--- not writable' is 9, a priority's is 10, a REAL's 11, a whole number's 12
+-- WRITES, kind 04: the value x, of 32 bits, as the property's row (Rows.antt) has it kept, or the refusal
+-- that it meets: 'property unknown, or not writable' is 9, a priority's is 10, a REAL's 11, a whole number's
+-- 12
 unfoldable pub changeTo : Property → Level → Request
 changeTo property (Units v) = ToOutput (Change property v)
 changeTo property OutOfRange = Refuse (levelRefusal OutOfRange)
@@ -199,7 +201,8 @@ flag on = if on then 1 else 0
 unfoldable pub elapsedActive : ℕ → ℕ
 elapsedActive burning = min 4294967295 (burning / 1000)
 
--- '10 its level, 11 rate, 12 step, 13 fade time, 14 duration (Absent where it had none)', the REALs as they were written
+-- '10 its level, 11 rate, 12 step, 13 fade time, 14 duration (Absent where it had none)', the REALs as they
+-- were written
 unfoldable pub realAnswer : Float → Answer
 realAnswer amount = Value (bits amount)
 

@@ -1,5 +1,5 @@
--- EVERY WAY IN WHICH AN OUTPUT'S RECORD IS CHANGED, field by field. A new field of the record is named here and in Fresh.antt, and in the
--- crates `output_record` and `output_fresh`, which are their likes in code.
+-- EVERY WAY IN WHICH AN OUTPUT'S RECORD IS CHANGED, field by field. A new field of the record is named here
+-- and in Fresh.antt, and in the crates `output_record` and `output_fresh`, which are their likes in code.
 use Prim.Native.Nat.{ℕ}
 use Rattle.lighting_outputs.specs.Paper.Slots.{Slots}
 use Rattle.lighting_outputs.specs.declared.Settings.{Settings}

@@ -5,8 +5,8 @@ use lib.Dec.{leb}
 use Rattle.lighting_levels.specs.Paper.Choice.{if_then_else_}
 use Rattle.lighting_outputs.specs.declared.Relay.{Relay}
 
--- Binary_Present_Value 'turns active when Present_Value is at or above the first, and inactive when at or below the second'; else it is as it was. v is
--- Present_Value
+-- Binary_Present_Value 'turns active when Present_Value is at or above the first, and inactive when at or
+-- below the second'; else it is as it was. v is Present_Value
 unfoldable pub binaryAt : ℕ → Relay → Bool
 binaryAt v r = if leb (r .active) v then true else if leb v (r .inactive) then false else r .binary
 

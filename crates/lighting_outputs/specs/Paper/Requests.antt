@@ -1,4 +1,5 @@
--- THE REQUESTS that a frame's fields ask for, in whatever form they came: refusals 10 to 12 of a command and of kinds 02 and 03.
+-- THE REQUESTS that a frame's fields ask for, in whatever form they came: refusals 10 to 12 of a command and
+-- of kinds 02 and 03.
 use Prim.Native.Nat.{ℕ, _-_}
 use lib.Dec.{eqb}
 use Rattle.lighting_levels.specs.Paper.Choice.{if_then_else_}
@@ -21,8 +22,9 @@ use Rattle.lighting_outputs.specs.declared.Request.{Request}
 use Rattle.lighting_outputs.specs.declared.Request.the-variants.{Refuse, ToOutput}
 use Rattle.lighting_outputs.specs.declared.OutputRequest.the-variants.{Write, Empty, Commands}
 
--- COMMANDS. 'Checked in this order; fields left to right': the refusal that a field meets, 0 where it is in range or not there. 'REAL out of range' is
--- 11, of a level and of a rate or step; 'Fade times: 100 to 86,400,000', which is Fade_Time's row, else 12
+-- COMMANDS. 'Checked in this order; fields left to right': the refusal that a field meets, 0 where it is in
+-- range or not there. 'REAL out of range' is 11, of a level and of a rate or step; 'Fade times: 100 to
+-- 86,400,000', which is Fade_Time's row, else 12
 unfoldable pub levelFieldRefusal : RealField → ℕ
 levelFieldRefusal (Real x) = levelRefusal (levelOf x)
 levelFieldRefusal NoReal = 0

@@ -1,5 +1,5 @@
--- WHAT A PROPERTY'S VALUE MUST BE: one row a property. By it a write is judged (`changeBy`, Properties.antt) and so is what a record keeps
--- (`settingsSound`, Rules.antt).
+-- WHAT A PROPERTY'S VALUE MUST BE: one row a property. By it a write is judged (`changeBy`, Properties.antt)
+-- and so is what a record keeps (`settingsSound`, Rules.antt).
 use mathlib.Core.Bool.{Bool, true, false}
 use Prim.Native.Nat.{ℕ, _-_}
 use lib.Dec.{ltb, leb, eqb}
@@ -57,7 +57,8 @@ isLevel v = if eqb v 0 then true else within leastLevel greatestLevel v
 unfoldable pub isAmount : Float → Bool
 isAmount x = inRange (amountOf x)
 
--- a slot that a frame may name, counted from 0: any of the sixteen but slot 6; and its priority: not '0, 6 or over 16'
+-- a slot that a frame may name, counted from 0: any of the sixteen but slot 6; and its priority: not '0, 6 or
+-- over 16'
 unfoldable pub isSlot : ℕ → Bool
 isSlot i = if eqb i slot6 then false else ltb i slotCount
 

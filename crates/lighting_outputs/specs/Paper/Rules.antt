@@ -1,4 +1,5 @@
--- 'Record rules', as the test that the engine makes on every lent record. Slots are counted from 0: 7 to 16 are 6 to 15.
+-- 'Record rules', as the test that the engine makes on every lent record. Slots are counted from 0: 7 to 16
+-- are 6 to 15.
 use mathlib.Core.Bool.{Bool, true, false, not}
 use Prim.Native.Nat.{ℕ, _+_, _-_}
 use lib.Dec.{ltb, leb, eqb}
@@ -21,7 +22,8 @@ use Rattle.lighting_outputs.specs.declared.Timer.{Timer}
 use Rattle.lighting_outputs.specs.declared.Timer.the-variants.{Off, Running}
 use Rattle.lighting_outputs.specs.declared.Output.{Output}
 
--- 'settings in range, Min at most Max': each meets the row of its property (Rows.antt). A flag is always in range. The levels, the times, the REALs
+-- 'settings in range, Min at most Max': each meets the row of its property (Rows.antt). A flag is always in
+-- range. The levels, the times, the REALs
 unfoldable pub levelsSound : Parameters → Settings → Bool
 levelsSound p c =
     meets (rowOf p RelinquishDefault) (c .default)
@@ -48,8 +50,8 @@ slotSound s i = if isLive s i then isLevel (getD (s .levels) i 0) else true
 unfoldable pub slotsSound : Slots → Bool
 slotsSound s = allFrom (slotSound s) slotCount 0
 
--- 'began no later than panel time' (what is left of it is not longer than it lasts), 'lasts 1 to 86,400,000 ms', 'every due moment is
--- after panel time'
+-- 'began no later than panel time' (what is left of it is not longer than it lasts), 'lasts 1 to 86,400,000
+-- ms', 'every due moment is after panel time'
 unfoldable pub spanSound : Parameters → ℕ → Movement → Bool
 spanSound p t m = ltb t (m .over) also leb (m .over - t) (m .length) also within 1 (longestMovement p) (m .length)
 
@@ -58,15 +60,16 @@ unfoldable pub movementSound : Parameters → ℕ → ℕ → ℕ → ℕ → Mo
 movementSound p t first high v m =
     ltb (m .owner) slotCount also eqb (m .owner) first also leb (m .start) high also eqb (m .target) v also spanSound p t m
 
--- 'a warning, whose own slot is 7 to 16 and whose Y is a slot level'. Its end is not before that of its phase, here e, so that both are after
--- panel time and stay so. In Delay the turn is past, and no due moment
+-- 'a warning, whose own slot is 7 to 16 and whose Y is a slot level'. Its end is not before that of its
+-- phase, here e, so that both are after panel time and stay so. In Delay the turn is past, and no due moment
 unfoldable pub warningBy : ℕ → Warning → ℕ → Bool
 warningBy t w e = within (slot6 + 1) slot16 (w .owner) also isLevel (w .level) also ltb t e also leb e (w .over)
 
 unfoldable pub warningSound : ℕ → Warning → Bool
 warningSound t w = warningBy t w (phaseEnd w (w .phase))
 
--- 'slot 6 live exactly during a warning'. l: whether slot 6 is live; first: the winner; high: Max; v: Present_Value
+-- 'slot 6 live exactly during a warning'. l: whether slot 6 is live; first: the winner; high: Max; v:
+-- Present_Value
 unfoldable pub activityBy : Parameters → ℕ → Bool → ℕ → ℕ → ℕ → Activity → Bool
 activityBy p t l first high v Still = not l
 activityBy p t l first high v (Moving m) = if l then false else movementSound p t first high v m
@@ -80,8 +83,8 @@ unfoldable pub timerSound : ℕ → Timer → Bool
 timerSound t Off = true
 timerSound t (Running slot due) = isSlot slot also ltb t due
 
--- §3: 'both are in Relinquish_Default's range, the inactive value is below the active one, and Binary_Present_Value is as judging leaves it'. A
--- polarity is always in range. v: Present_Value
+-- §3: 'both are in Relinquish_Default's range, the inactive value is below the active one, and
+-- Binary_Present_Value is as judging leaves it'. A polarity is always in range. v: Present_Value
 unfoldable pub agrees : Bool → Bool → Bool
 agrees one other = if one then other else not other
 

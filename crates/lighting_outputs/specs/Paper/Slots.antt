@@ -1,4 +1,5 @@
--- 'An output's record': the slots. Which are live, what each holds, which one wins. A slot is named by its index, its priority less one.
+-- 'An output's record': the slots. Which are live, what each holds, which one wins. A slot is named by its
+-- index, its priority less one.
 --
 use mathlib.Core.Bool.{Bool}
 use mathlib.Core.List.{List, [], _∷_}
@@ -20,8 +21,8 @@ slot16 = 15
 abbrev pub slot6 : ℕ
 slot6 = 5
 
--- 'Sixteen bits say which slots are live' (the paper's word for those that hold a level), priority 1 being the lowest bit: the slots that the
--- mask and the levels stand for
+-- 'Sixteen bits say which slots are live' (the paper's word for those that hold a level), priority 1 being
+-- the lowest bit: the slots that the mask and the levels stand for
 unfoldable pub view : ℕ → List ℕ → List (Option ℕ)
 view m [] = []
 view m (v ∷ l) = (if eqb (m % 2) 1 then some v else none) ∷ view (m / 2) l
@@ -32,8 +33,8 @@ slotsOf s = view (s .live) (s .levels)
 abbrev pub slot : Slots → ℕ → Option ℕ
 slot s i = getD (slotsOf s) i none
 
--- 'the winner is the lowest bit set' (the paper's word for the slot that has its way): the first live slot, or 16, how many there are, where
--- none is live
+-- 'the winner is the lowest bit set' (the paper's word for the slot that has its way): the first live slot,
+-- or 16, how many there are, where none is live
 unfoldable pub firstLive : List (Option ℕ) → ℕ
 firstLive [] = 0
 firstLive (none ∷ l) = suc (firstLive l)
@@ -46,8 +47,8 @@ winner s = firstLive (slotsOf s)
 unfoldable pub isLive : Slots → ℕ → Bool
 isLive s i = eqb (s .live / 2 ^ i % 2) 1
 
--- bit i cleared and set; a level put in its place. There is no slot from 16 on: the guard stands for records that break
--- the rules (proofs/Priorities/Mask.antt, `put-slots`)
+-- bit i cleared and set; a level put in its place. There is no slot from 16 on: the guard stands for records
+-- that break the rules (proofs/Priorities/Mask.antt, `put-slots`)
 unfoldable pub maskEmptied : ℕ → ℕ → ℕ
 maskEmptied m i = if ltb i slotCount then bitAnd m (65535 - 2 ^ i) else m
 

@@ -19,16 +19,18 @@ clamp c v = min (c .max) (max (c .min) v)
 unfoldable pub clampLit : Settings → ℕ → ℕ
 clampLit c v = if eqb v 0 then 0 else clamp c v
 
--- 'Present_Value is the winner's level, or Relinquish_Default with no live slot; if above zero it is brought into Min..Max'
+-- 'Present_Value is the winner's level, or Relinquish_Default with no live slot; if above zero it is brought
+-- into Min..Max'
 unfoldable pub presentValue : Settings → Slots → ℕ
 presentValue c s = clampLit c (winningLevel (c .default) s)
 
--- the paper's k: how many milliseconds of a movement have gone by at the moment t, its length less what is left of it
+-- the paper's k: how many milliseconds of a movement have gone by at the moment t, its length less what is
+-- left of it
 abbrev pub elapsed : ℕ → Movement → ℕ
 elapsed t m = m .length - (m .over - t)
 
--- 'Fade over L from s to g: k ms later, [..] floor(|g - s| × k / L)'; 'Ramp at R units a second: floor(R × k / 1,000), stopping at g'.
--- d is the way, |g - s|.
+-- 'Fade over L from s to g: k ms later, [..] floor(|g - s| × k / L)'; 'Ramp at R units a second: floor(R × k
+-- / 1,000), stopping at g'. d is the way, |g - s|.
 unfoldable pub distanceMoved : Pace → ℕ → ℕ → ℕ → ℕ
 distanceMoved Fade d l k = d * k / l
 distanceMoved (Ramp r) d l k = min d (r * k / 1000)
@@ -43,7 +45,8 @@ reachedBy m k =
 unfoldable pub reached : ℕ → Movement → ℕ
 reached t m = reachedBy m (elapsed t m)
 
--- Progress_Value: the movement's formula while one lasts; 'without a movement, in a warning too', it equals Present_Value v
+-- Progress_Value: the movement's formula while one lasts; 'without a movement, in a warning too', it equals
+-- Present_Value v
 unfoldable pub progressBy : ℕ → ℕ → Activity → ℕ
 progressBy t v Still = v
 progressBy t v (Moving m) = reached t m
@@ -52,7 +55,8 @@ progressBy t v (Warned w) = v
 unfoldable pub progressValue : ℕ → Output → ℕ
 progressValue t o = progressBy t (presentValue (o .settings) (o .slots)) (o .activity)
 
--- whether the lamp gives light at the moment t: 'when Progress_Value is above zero' (§2 of the change requests)
+-- whether the lamp gives light at the moment t: 'when Progress_Value is above zero' (§2 of the change
+-- requests)
 unfoldable pub lit : ℕ → Output → Bool
 lit t o = ltb 0 (progressValue t o)
 

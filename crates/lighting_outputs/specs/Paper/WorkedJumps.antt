@@ -1,5 +1,5 @@
--- §4 of the change requests by hand: movements under way at clock jumps about 4,294,967,296 ms (2^32) and of 2^40, as the engine passes them, beside what one
--- reckons on paper. proofs/Figures.antt proves them equal.
+-- §4 of the change requests by hand: movements under way at clock jumps about 4,294,967,296 ms (2^32) and of
+-- 2^40, as the engine passes them, beside what one reckons on paper. proofs/Figures.antt proves them equal.
 use mathlib.Core.List.{List, [], _∷_}
 use Prim.Native.Nat.{ℕ, _+_}
 use Rattle.lighting_levels.specs.Paper.Level.{real}
@@ -23,21 +23,25 @@ jumps n o = shown 0 n o
 abbrev jumpsOn : ℕ → Output → List ℕ
 jumpsOn n o = shown 500 (500 + n) (advance 0 500 o)
 
--- a fade to 50 percent over 1,000 ms that begins 500 ms before 2^32, so that the low 32 bits of panel time turn to 0 in its middle
+-- a fade to 50 percent over 1,000 ms that begins 500 ms before 2^32, so that the low 32 bits of panel time
+-- turn to 0 in its middle
 abbrev across : Output
 across = ordered 4294966796 (FadeToOver (real 0x4248_0000) 1000) Omitted freshOutput
 
--- and one over 10,000 ms: way times milliseconds, 3,276,800 × 9,999, takes more than 32 bits, as does rate times milliseconds of the slow ramp, 8,192 × 799,999
+-- and one over 10,000 ms: way times milliseconds, 3,276,800 × 9,999, takes more than 32 bits, as does rate
+-- times milliseconds of the slow ramp, 8,192 × 799,999
 abbrev longFade : Output
 longFade = ordered 0 (FadeToOver (real 0x4248_0000) 10000) Omitted freshOutput
 
--- up over 1,000 ms; down to 0 over as long; up by one percent at 3 percent a second (334 ms); up by 100 at 0.125 (800,000 ms)
+-- up over 1,000 ms; down to 0 over as long; up by one percent at 3 percent a second (334 ms); up by 100 at
+-- 0.125 (800,000 ms)
 abbrev pub jumpsGiven : List (List ℕ)
 jumpsGiven =
     jumps 4294967295 fadeUp
     ∷ jumps 4294967296 fadeUp
     ∷ jumps 4294967297 fadeUp
-    -- 2^32 + 5 ms are not 5, at which it would be at 16,384 and moving; nor are 2^32 + 999 the last of its milliseconds
+    -- 2^32 + 5 ms are not 5, at which it would be at 16,384 and moving; nor are 2^32 + 999 the last of its
+    -- milliseconds
     ∷ jumps 4294967301 fadeUp
     ∷ jumps 4294968295 fadeUp
     ∷ jumps 1099511627776 fadeUp

@@ -1,5 +1,5 @@
--- §2 of the change requests by hand: the milliseconds that outputs have burned, as the engine counts them and as the plain panel lives them, beside what
--- one reckons on paper. proofs/Figures.antt proves them equal.
+-- §2 of the change requests by hand: the milliseconds that outputs have burned, as the engine counts them and
+-- as the plain panel lives them, beside what one reckons on paper. proofs/Figures.antt proves them equal.
 use mathlib.Core.List.{List, [], _∷_}
 use Prim.Native.Nat.{ℕ}
 use Rattle.lighting_levels.specs.Paper.Level.{real}
@@ -46,7 +46,8 @@ writtenAbove = written 1000 darkRise 7 3276800
 abbrev rampDown : Output
 rampDown = ordered 0 (RampToAtRate (real 0) (real 0x4040_0000)) Omitted half
 
--- movements that no command begins, and that a lent record may hold: v in slot 16, from s to it, over 5,000 ms
+-- movements that no command begins, and that a lent record may hold: v in slot 16, from s to it, over 5,000
+-- ms
 abbrev lent : ℕ → ℕ → Pace → Output
 lent s v pace =
     record {
@@ -68,7 +69,8 @@ slowRise = onePercent 0 100000 freshOutput
 
 abbrev pub burningGiven : List (List ℕ)
 burningGiven =
-    -- a rise is dark while its way is less than a unit: 1,319 ms of a day's fade by one percent, also where a clock comes in between
+    -- a rise is dark while its way is less than a unit: 1,319 ms of a day's fade by one percent, also where a
+    -- clock comes in between
     (burns 0 1319 day ∷ burns 0 1320 day ∷ burns 0 86400000 day ∷ burns 0 86400001 day ∷ burns 1000 1320 darkRise ∷ [])
     -- the millisecond k = 0 alone of faster ones
     ∷ (burns 0 1 fadeUp ∷ burns 0 2 fadeUp ∷ burns 0 1000 fadeUp ∷ [])

@@ -1,5 +1,6 @@
--- §3 of the change requests by hand: Binary_Present_Value after writes, commands, milliseconds and due moments, beside what one reckons on paper.
--- proofs/Figures.antt proves them equal. 45 percent is 2,949,120 units, 50 percent 3,276,800.
+-- §3 of the change requests by hand: Binary_Present_Value after writes, commands, milliseconds and due
+-- moments, beside what one reckons on paper. proofs/Figures.antt proves them equal. 45 percent is 2,949,120
+-- units, 50 percent 3,276,800.
 use mathlib.Core.Bool.{true}
 use mathlib.Core.List.{List, [], _∷_, map}
 use Prim.Native.Nat.{ℕ}
@@ -52,7 +53,8 @@ aroundBoth = 2949119 ∷ 2949120 ∷ 2949121 ∷ 3276799 ∷ 3276800 ∷ 3276801
 abbrev at50 : Output
 at50 = write 0 3276800 freshOutput
 
--- figure 8's warning, and one whose Y, 47 percent, lies between the two values: 50 percent was written before it, so that the relay is active
+-- figure 8's warning, and one whose Y, 47 percent, lies between the two values: 50 percent was written before
+-- it, so that the relay is active
 abbrev warnedFrom : Output → Output
 warnedFrom o = write 1000 0 (set BlinkEnable 1 (set BlinkTime 700 (set BlinkWarnDelay 120000 o)))
 
@@ -62,8 +64,9 @@ warnedAt50 = warnedFrom at50
 abbrev warnedAt47 : Output
 warnedAt47 = warnedFrom (write 0 3080192 at50)
 
--- a record that may be lent: 47 percent in slot 1 until a duration ends it at 10, and at 10 too a warning's turn puts Y, 47 percent, into slot 6, which was
--- dark. Only between the two is Present_Value 0, and there nothing is judged
+-- a record that may be lent: 47 percent in slot 1 until a duration ends it at 10, and at 10 too a warning's
+-- turn puts Y, 47 percent, into slot 6, which was dark. Only between the two is Present_Value 0, and there
+-- nothing is judged
 abbrev bothAtOnce : Output
 bothAtOnce =
     record {
@@ -92,7 +95,8 @@ relayGiven =
     ∷ (binaryOf warnedAt50 ∷ binaryOf (advance 1000 1699 warnedAt50) ∷ binaryOf (advance 1000 1700 warnedAt50) ∷ binaryOf (advance 1000 121700 warnedAt50) ∷ [])
     -- between the two values the second phase leaves it as the dark one left it
     ∷ (binaryOf (write 0 3080192 at50) ∷ binaryOf warnedAt47 ∷ binaryOf (advance 1000 1700 warnedAt47) ∷ [])
-    -- Min raises 40 percent to 50, Max lowers 50 to 45; Relinquish_Default; an emptied slot; a duration at its end
+    -- Min raises 40 percent to 50, Max lowers 50 to 45; Relinquish_Default; an emptied slot; a duration at
+    -- its end
     ∷ (binaryOf (set MinValue 3276800 (write 0 2621440 freshOutput)) ∷ binaryOf (set MaxValue 2949120 at50) ∷ binaryOf (set RelinquishDefault 3276800 freshOutput) ∷ [])
     ∷ (binaryOf (asked 0 (Empty slot16) at50)
     ∷ binaryOf (advance 0 99 (order 0 (Goto (real 0x4248_0000)) (Lasts 100) freshOutput))

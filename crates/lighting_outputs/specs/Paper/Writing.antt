@@ -40,15 +40,16 @@ blinks c = c .enable also ltb 0 (c .blink + c .delay)
 unfoldable pub zeroOrEmptyAbove : Settings → Slots → ℕ → Bool
 zeroOrEmptyAbove c s x = eqb (c .default) 0 also zeroOrEmptyFrom s (x + 1)
 
--- 'X from 7 to 16' (a frame's priority is at most 16), 'slots 1 to X - 1 are empty' (the winner, `first`, is no lower), 'Present_Value Y was above 0'.
--- That no warning is running, `writtenBy` sees to
+-- 'X from 7 to 16' (a frame's priority is at most 16), 'slots 1 to X - 1 are empty' (the winner, `first`, is
+-- no lower), 'Present_Value Y was above 0'. That no warning is running, `writtenBy` sees to
 unfoldable pub warnsBy : Settings → Slots → ℕ → ℕ → ℕ → Bool
 warnsBy c s x first y = ltb slot6 x also blinks c also leb x first also ltb 0 y also zeroOrEmptyAbove c s x
 
 unfoldable pub warns : Settings → Slots → ℕ → Bool
 warns c s x = warnsBy c s x (winner s) (presentValue c s)
 
--- A WARNING STARTS at t: 'Slot X gets 0. Slot 6 holds 0 for B ms, then Y for D ms'. With B = 0 it holds Y at once
+-- A WARNING STARTS at t: 'Slot X gets 0. Slot 6 holds 0 for B ms, then Y for D ms'. With B = 0 it holds Y at
+-- once
 unfoldable pub firstLevel : Settings → ℕ → ℕ
 firstLevel c y = if eqb (c .blink) 0 then y else 0
 
@@ -66,7 +67,8 @@ warnedBy t o x y =
 unfoldable pub warned : ℕ → Output → ℕ → Output
 warned t o x = warnedBy t o x (presentValue (o .settings) (o .slots))
 
--- 'During a warning: kind 02 of zero at P above 6 empties slots 6 and P; [any other] empties slot 6 and stores'
+-- 'During a warning: kind 02 of zero at P above 6 empties slots 6 and P; [any other] empties slot 6 and
+-- stores'
 unfoldable pub endedEmpty : Output → ℕ → Output
 endedEmpty o i = withEffect o (emptied (emptied (o .slots) slot6) i) Still
 

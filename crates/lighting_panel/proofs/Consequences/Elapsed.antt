@@ -1,5 +1,6 @@
--- §4 of the change requests: 'Carry the milliseconds since a movement's start in 32 bits inside the level formula [..] Answers and tables stay as they were,
--- also after clock jumps of 4,294,967,296 ms and more.' The definitions keep the unbounded number (`elapsed`); here stands why 32 bits lose nothing of it.
+-- §4 of the change requests: 'Carry the milliseconds since a movement's start in 32 bits inside the level
+-- formula [..] Answers and tables stay as they were, also after clock jumps of 4,294,967,296 ms and more.'
+-- The definitions keep the unbounded number (`elapsed`); here stands why 32 bits lose nothing of it.
 use mathlib.Core.Path.{_≡_, refl, sym, ap, _∙_}
 use mathlib.Core.Bool.{true}
 use Prim.Native.Nat.{ℕ, zero, suc, _+_, _-_, _%_, _≤_, _<_}
@@ -40,7 +41,8 @@ use Rattle.lighting_panel.proofs.Consequences.Others.{every-at}
 abbrev pub low : ℕ → ℕ
 low number = number % 4294967296
 
--- AS LONG AS A MOVEMENT LASTS its elapsed part is below its length; once it is over it is the length, however far panel time has jumped
+-- AS LONG AS A MOVEMENT LASTS its elapsed part is below its length; once it is over it is the length, however
+-- far panel time has jumped
 pub elapsed-below : (t : ℕ) (m : Movement) → 0 < m .length → t < m .over → elapsed t m < m .length
 elapsed-below t m long lasts = omega arith
 
@@ -51,7 +53,8 @@ elapsed-over t m over = omega arith
 pub elapsed-whole : (t : ℕ) (m : Movement) → m .length < 4294967296 → low (elapsed t m) ≡ elapsed t m
 elapsed-whole t m fits = mod-eq-of-lt (omega arith)
 
--- EVERY MOVEMENT of a record that keeps the rules lasts, its end being after panel time, and no longer than the longest
+-- EVERY MOVEMENT of a record that keeps the rules lasts, its end being after panel time, and no longer than
+-- the longest
 pub record Narrow (p : Parameters) (t : ℕ) (m : Movement) : Type 0 where
   pub lasts : t < m .over
   pub below : elapsed t m < m .length
@@ -68,7 +71,8 @@ narrow p allowed t o m sound moves =
       whole = elapsed-whole t m (omega (arith, kept .long .most, startable-of p allowed .fade));
     }
 
--- so of every output j of every panel that meets the rules (its record has sixteen slots, as every lent one has)
+-- so of every output j of every panel that meets the rules (its record has sixteen slots, as every lent one
+-- has)
 pub narrow-in : (p : Parameters) → startable p ≡ true → (panel : Panel) (j : ℕ) (m : Movement) → panelSound p panel ≡ true → j < length (panel .outputs)
     → length (getD (panel .outputs) j freshOutput .slots .levels) ≡ slotCount → getD (panel .outputs) j freshOutput .activity ≡ Moving m
     → Narrow p (panel .kept .time) m
@@ -84,14 +88,16 @@ pub progress-narrow : (p : Parameters) → startable p ≡ true → (t : ℕ) (o
 unfolding progressValue progressBy reached
 progress-narrow p allowed t o m sound moves = rw (moves, narrow p allowed t o m sound moves .whole)
 
--- JUMPS of n milliseconds. Each frame's time has 48 bits, so that the engine's count, of 64, holds every moment (`fits`)
+-- JUMPS of n milliseconds. Each frame's time has 48 bits, so that the engine's count, of 64, holds every
+-- moment (`fits`)
 module _ (p : Parameters) (t n : ℕ) (o : Output) (lawful : Lawful p t o) (fits : t + n ≤ greatestCount) where
   by-ticks : advance t (t + n) o ≡ ticks n t o
   by-ticks =
       let same : t + n - t ≡ n = omega arith in
       advance-ticks t (t + n) o (omega arith) fits (sound-calm p t o lawful) ∙ ap (λ (k : ℕ). ticks k t o) same
 
-  -- whatever n, if no duration falls due on the way: up to a movement's end it is under way, where the formula says; from there on it is on the target
+  -- whatever n, if no duration falls due on the way: up to a movement's end it is under way, where the
+  -- formula says; from there on it is on the target
   module _ (m : Movement) (moves : o .activity ≡ Moving m) (quiet : TimerAfter (t + n) (o .timer)) where
     lasts : t < m .over
     lasts = rules p t o m (lawful .sound) moves .later
@@ -108,7 +114,8 @@ module _ (p : Parameters) (t n : ℕ) (o : Output) (lawful : Lawful p t o) (fits
         let on = stays p t {left = m .over - t} o m moves (omega (arith, lasts)) more (omega (arith, lasts)) (rw (sym whole) quiet) (lawful .sound) in
         rw by-ticks (rw (sym whole) at on)
 
--- TIME BEGINS NO MOVEMENT: what is under way after some milliseconds was under way before them, or is no movement
+-- TIME BEGINS NO MOVEMENT: what is under way after some milliseconds was under way before them, or is no
+-- movement
 data Goes (a : Activity) : Activity → Type 0 where
   on : Goes a a
   rests : {b : Activity} → inProcess b ≡ 0 → Goes a b
@@ -173,8 +180,8 @@ rest-shows t v Still e = refl
 rest-shows t v (Moving m) e = absurd (omega arith)
 rest-shows t v (Warned w) e = refl
 
--- 'CLOCK JUMPS OF 4,294,967,296 MS AND MORE': every output is at rest after one, whatever it was at, also where durations fell due on the way. So a jump of
--- 4,294,967,301 ms is not one of 5
+-- 'CLOCK JUMPS OF 4,294,967,296 MS AND MORE': every output is at rest after one, whatever it was at, also
+-- where durations fell due on the way. So a jump of 4,294,967,301 ms is not one of 5
 pub far-rests : (p : Parameters) → startable p ≡ true → (t n : ℕ) (o : Output) → Lawful p t o → t + n ≤ greatestCount → 4294967296 ≤ n
     → (inProcess (advance t (t + n) o .activity) ≡ 0)
     × (progressValue (t + n) (advance t (t + n) o) ≡ presentValue (advance t (t + n) o .settings) (advance t (t + n) o .slots))

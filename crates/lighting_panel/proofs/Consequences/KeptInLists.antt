@@ -1,5 +1,5 @@
--- AFTER EVERY LIST the last command of each output is one that a string of bytes asks for: so the writer's form of it, read, gives it back (§1: 'A writer
--- makes this form from every command the panel keeps').
+-- AFTER EVERY LIST the last command of each output is one that a string of bytes asks for: so the writer's
+-- form of it, read, gives it back (§1: 'A writer makes this form from every command the panel keeps').
 use Rattle.lighting_levels.specs.Paper.Choice.{if_then_else_, Every}
 use mathlib.Core.Path.{_≡_, refl}
 use mathlib.Core.Bool.{true}

@@ -1,4 +1,5 @@
--- A FRAME TO ONE OUTPUT leaves every other as the passing of time leaves it; and which output it is, byte 12 says.
+-- A FRAME TO ONE OUTPUT leaves every other as the passing of time leaves it; and which output it is, byte 12
+-- says.
 use mathlib.Core.Path.{_≡_, refl, sym, _∙_}
 use mathlib.Core.Logic.{_≢_}
 use mathlib.Core.Bool.{Bool, true}

@@ -1,4 +1,5 @@
--- THE ENGINE carries a verdict out over the lent tables: `frameStep` is the right side of the contract of `panel::frame`.
+-- THE ENGINE carries a verdict out over the lent tables: `frameStep` is the right side of the contract of
+-- `panel::frame`.
 use mathlib.Core.List.{map}
 use lib.ListN.{set}
 use Rattle.lighting_levels.specs.Paper.Choice.{if_then_else_}
@@ -12,8 +13,8 @@ use Rattle.lighting_frames.specs.declared.Verdict.the-variants.{TurnedDown, Cop
 use Rattle.lighting_panel.specs.Paper.Panel.{Panel, Step, withTime, panelSound}
 use Rattle.lighting_panel.specs.Engine.Judging.{padded, decide}
 
--- CARRIED OUT: refusals 2 to 8 and copies leave everything; a clock brings every output to its time; a first arrival does so too, acts,
--- and 'the station keeps number, frame and answer'
+-- CARRIED OUT: refusals 2 to 8 and copies leave everything; a clock brings every output to its time; a first
+-- arrival does so too, acts, and 'the station keeps number, frame and answer'
 unfoldable pub execute : Bytes → Panel → Verdict → Step
 execute b e (TurnedDown r) = record { panel = e; answer = Refused r }
 execute b e (Copied a) = record { panel = e; answer = a }

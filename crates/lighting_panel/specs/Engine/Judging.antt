@@ -1,5 +1,5 @@
--- THE ENGINE judges a frame by its station's record. What it judges over a list, Paper/Plain.antt judges from the list alone (`judged`); proofs/Lists.antt
--- has that both come to the same.
+-- THE ENGINE judges a frame by its station's record. What it judges over a list, Paper/Plain.antt judges from
+-- the list alone (`judged`); proofs/Lists.antt has that both come to the same.
 use mathlib.Core.Bool.{Bool}
 use mathlib.Core.List.{_++_}
 use Prim.Native.Nat.{ℕ, _-_}
@@ -20,15 +20,17 @@ use Rattle.lighting_frames.specs.declared.Verdict.the-variants.{TurnedDown, Clo
 use Rattle.lighting_frames.specs.declared.Station.{Station}
 use Rattle.lighting_panel.specs.Paper.Panel.{Panel}
 
--- A FRAME AS A STATION KEEPS IT, in the bytes of the longest, zeros after its own; and read back: 'of its kind's length'
+-- A FRAME AS A STATION KEEPS IT, in the bytes of the longest, zeros after its own; and read back: 'of its
+-- kind's length'
 unfoldable pub padded : Bytes → Bytes
 padded b = b ++ replicate (longestFrame - length b) 0
 
 unfoldable pub restored : Bytes → Bytes
 restored frame = take (kindLength (byteAt frame 0)) frame
 
--- JUDGED by the station's record k at panel time: 'station's last number, other bytes' is 6, the same bytes 'a copy: last answer'; 'number
--- below the station's last' is 7, 'time before panel time' 8. 'A clock meets 1, 2, 3, 8'
+-- JUDGED by the station's record k at panel time: 'station's last number, other bytes' is 6, the same bytes
+-- 'a copy: last answer'; 'number below the station's last' is 7, 'time before panel time' 8. 'A clock meets
+-- 1, 2, 3, 8'
 unfoldable pub judgedByNumber : ℕ → Station → Bool → Call → Verdict
 judgedByNumber now k same call =
     if eqb (call .number) (k .number) then retransmissionOrConflict same (k .answer)

@@ -1,6 +1,6 @@
--- Not of the paper: what the panel's inner functions ask (`requires`) of the outputs and of a verdict that they
--- carry out. proofs/Carried.antt has that a sound panel's outputs meet it (`all-stay`), and every verdict on one
--- (`decide-sure`).
+-- Not of the paper: what the panel's inner functions ask (`requires`) of the outputs and of a verdict that
+-- they carry out. proofs/Carried.antt has that a sound panel's outputs meet it (`all-stay`), and every
+-- verdict on one (`decide-sure`).
 use mathlib.Core.Path.{_≡_}
 use mathlib.Core.List.{List, map}
 use Prim.Native.Nat.{ℕ, _^_, _≤_, _<_}

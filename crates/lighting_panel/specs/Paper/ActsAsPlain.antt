@@ -14,7 +14,8 @@ use Rattle.lighting_frames.specs.Paper.InTags.{sent}
 abbrev pub NoneBecomesAnother : (Bytes → Bool) → List Bytes → Type 0
 NoneBecomesAnother chosen l = (b b′ : Bytes) → Among b l → Among b′ l → sent chosen b ≡ b′ → b ≡ b′
 
--- THE CLAIM, for a lent table e and a list l: what is found and every answer stay. The station records alone differ, which keep the frames as they came
+-- THE CLAIM, for a lent table e and a list l: what is found and every answer stay. The station records alone
+-- differ, which keep the frames as they came
 pub record ActsAsPlain (p : Parameters) (e : Panel) (l : List Bytes) (chosen : Bytes → Bool) : Type 0 where
   pub outputs : after p (startStep p e .panel) (map (sent chosen) l) .outputs ≡ after p (startStep p e .panel) l .outputs
   pub time : after p (startStep p e .panel) (map (sent chosen) l) .kept .time ≡ after p (startStep p e .panel) l .kept .time

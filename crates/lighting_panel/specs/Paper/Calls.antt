@@ -1,5 +1,5 @@
--- What a caller has who called `start` and then calls `frame` for each string of a list, on the same lent tables: by the contracts of the crate
--- `panel`, each call leaves and answers what `frameStep` says.
+-- What a caller has who called `start` and then calls `frame` for each string of a list, on the same lent
+-- tables: by the contracts of the crate `panel`, each call leaves and answers what `frameStep` says.
 use mathlib.Core.Path.{_≡_}
 use mathlib.Core.List.{List, [], _∷_}
 use lib.ListN.{length}
@@ -18,8 +18,9 @@ pub data Calls (p : Parameters) : Panel → List Bytes → List Answer → Panel
   call : {e e₁ e₂ : Panel} {b : Bytes} {l : List Bytes} {a : Answer} {given : List Answer}
       → result e₁ a ≡ frameStep p e b → Calls p e₁ l given e₂ → Calls p e (b ∷ l) (a ∷ given) e₂
 
--- what such a caller may conclude: the outputs, all of every record, are the plain panel's, at the same time, and every answer was its answer; the
--- records keep the rules, and no answer was refusal 1. So the tables show what the plain panel shows (proofs/Calls.antt, `shows`)
+-- what such a caller may conclude: the outputs, all of every record, are the plain panel's, at the same time,
+-- and every answer was its answer; the records keep the rules, and no answer was refusal 1. So the tables
+-- show what the plain panel shows (proofs/Calls.antt, `shows`)
 pub record Concluded (p : Parameters) (e : Panel) (l : List Bytes) (given : List Answer) (e′ : Panel) : Type 0 where
   pub outputs : e′ .outputs ≡ plainAfter p (plainStart p (length (e .outputs))) l .panel .outputs
   pub time : e′ .kept .time ≡ plainAfter p (plainStart p (length (e .outputs))) l .panel .time
@@ -27,7 +28,8 @@ pub record Concluded (p : Parameters) (e : Panel) (l : List Bytes) (given : List
   pub sound : panelSound p e′ ≡ true
   pub never : NeverOne given
 
--- and one whose list is l′, in which frames of l come again: the whole panel is the one that l leaves, and so are the answers to the frames of l
+-- and one whose list is l′, in which frames of l come again: the whole panel is the one that l leaves, and so
+-- are the answers to the frames of l
 pub record ConcludedAgain (p : Parameters) (l l′ : List Bytes) (r : Again [] l l′) (given given′ : List Answer) (e′ e″ : Panel) : Type 0 where
   pub again : e″ ≡ e′
   pub answeredAgain : answersToOriginals r given′ ≡ given

@@ -22,8 +22,9 @@ use Rattle.lighting_outputs.specs.declared.Output.{Output}
 use Rattle.lighting_outputs.specs.declared.Answer.{Answer}
 use Rattle.lighting_outputs.specs.declared.Answer.the-variants.{Refused}
 
--- EVERYTHING FOUND of an output: 'a slot is compared by being live and, if live, by its level; burning time in milliseconds'. In the relay stand the
--- settings of §3 and Binary_Present_Value: 'The plain panel carries the same values through every list'
+-- EVERYTHING FOUND of an output: 'a slot is compared by being live and, if live, by its level; burning time
+-- in milliseconds'. In the relay stand the settings of §3 and Binary_Present_Value: 'The plain panel carries
+-- the same values through every list'
 pub record Found : Type 0 where
   pub slots : List (Option ℕ)
   pub present : ℕ
@@ -53,7 +54,8 @@ foundIn e = map (found (e .kept .time)) (e .outputs)
 abbrev pub foundPlain : Plain → List Found
 foundPlain plain = map (found (plain .time)) (plain .outputs)
 
--- A LIST OF FRAMES: 'outputs, station records and time pass from frame to frame as left'. The panel after it, and the answers
+-- A LIST OF FRAMES: 'outputs, station records and time pass from frame to frame as left'. The panel after it,
+-- and the answers
 unfoldable pub after : Parameters → Panel → List Bytes → Panel
 after p e [] = e
 after p e (b ∷ l) = after p (frameStep p e b .panel) l
@@ -71,8 +73,9 @@ unfoldable pub plainAnswers : Parameters → PlainState → List Bytes → List 
 plainAnswers p w [] = []
 plainAnswers p w (b ∷ l) = plainFrameStep p w b .answer ∷ plainAnswers p (plainFrameStep p w b .state) l
 
--- A LIST WITH FRAMES THAT COME AGAIN (retransmissions), anywhere later and any number of times. `Again seen l l′`: after the frames of `seen`, l′ is l
--- with frames put in that came before, of `seen` or of l, byte for byte
+-- A LIST WITH FRAMES THAT COME AGAIN (retransmissions), anywhere later and any number of times. `Again seen l
+-- l′`: after the frames of `seen`, l′ is l with frames put in that came before, of `seen` or of l, byte for
+-- byte
 pub data Among : Bytes → List Bytes → Type 0 where
   here : {b : Bytes} {l : List Bytes} → Among b (b ∷ l)
   there : {b a : Bytes} {l : List Bytes} → Among b l → Among b (a ∷ l)
@@ -96,8 +99,8 @@ NeverOne given = Every (λ (a : Answer). answerBytes a ≢ answerBytes (Refused 
 
 -- THE DEMAND, for a lent table e, a list of frames l, and the list l′ in which frames of l come again
 pub record Demand (p : Parameters) (e : Panel) (l l′ : List Bytes) (r : Again [] l l′) : Type 0 where
-  -- after every list the outputs, all of every record, are the plain panel's, at the same time: so all that is found is the same (proofs/Demand.antt,
-  -- `finds`)
+  -- after every list the outputs, all of every record, are the plain panel's, at the same time: so all that
+  -- is found is the same (proofs/Demand.antt, `finds`)
   pub outputs : after p (startStep p e .panel) l .outputs ≡ plainAfter p (plainStart p (length (e .outputs))) l .panel .outputs
   pub time : after p (startStep p e .panel) l .kept .time ≡ plainAfter p (plainStart p (length (e .outputs))) l .panel .time
   -- and every answer is its answer

@@ -1,5 +1,5 @@
--- The engine: the panel that judges a frame by its station's record and goes from due moment to due moment; and the start. What it judges over a
--- list, Plain.antt judges from the list alone (`judged`).
+-- The engine: the panel that judges a frame by its station's record and goes from due moment to due moment;
+-- and the start. What it judges over a list, Plain.antt judges from the list alone (`judged`).
 use mathlib.Core.Bool.{Bool}
 use mathlib.Core.List.{List}
 use Prim.Native.Nat.{ℕ}
@@ -16,8 +16,8 @@ use Rattle.lighting_outputs.specs.declared.Answer.the-variants.{Done, Refused}
 pub use Rattle.lighting_frames.specs.declared.Station.{Station}
 pub use Rattle.lighting_panel.specs.declared.PanelRecord.{PanelRecord}
 
--- 'The outputs stand in a lent table [..]; beside it stand eight station records and the panel time'. All that
--- is lent beside the two tables stands in one record, `kept`
+-- 'The outputs stand in a lent table [..]; beside it stand eight station records and the panel time'. All
+-- that is lent beside the two tables stands in one record, `kept`
 pub record Panel : Type 0 where
   pub outputs : List Output
   pub stations : List Station

@@ -29,7 +29,8 @@ unfoldable pub runPlain : ℕ → Plain → Plain
 runPlain zero panel = panel
 runPlain (suc n) panel = runPlain n (record { outputs = map (tick (panel .time)) (panel .outputs); time = suc (panel .time) })
 
--- THE LIST SO FAR: accepted clocks and first arrivals (the paper's word for frames that are taken, and are no retransmission), the latest first
+-- THE LIST SO FAR: accepted clocks and first arrivals (the paper's word for frames that are taken, and are no
+-- retransmission), the latest first
 pub data Event : Type 0 where
   clock : (time : ℕ) → Event
   first : (station number time : ℕ) (bytes : Bytes) (answer : Answer) → Event
@@ -57,8 +58,8 @@ latest s [] = record { answer = Done; number = 0; frame = [] }
 latest s (clock t ∷ h) = latest s h
 latest s (first s′ n t b a ∷ h) = if eqb s′ s then record { answer = a; number = n; frame = b } else latest s h
 
--- A FRAME JUDGED over the list: 'a copy of its station's latest first arrival gets that one's answer, any other the first of refusals 2 to 8
--- that it meets, read over the list'
+-- A FRAME JUDGED over the list: 'a copy of its station's latest first arrival gets that one's answer, any
+-- other the first of refusals 2 to 8 that it meets, read over the list'
 unfoldable pub judged : List Event → Bytes → Frame → Verdict
 judged h b (Bad r) = TurnedDown r
 judged h b (Clock t) = if inTime t h then Clocked t else TurnedDown 8
@@ -78,8 +79,8 @@ pub record Reply : Type 0 where
   pub state : PlainState
   pub answer : Answer
 
--- 'For a first arrival it steps to the frame's time and does what its kind calls for, or refuses 9 to 13'; 'Clocks [..] only step it. Other
--- frames do not touch it'
+-- 'For a first arrival it steps to the frame's time and does what its kind calls for, or refuses 9 to 13';
+-- 'Clocks [..] only step it. Other frames do not touch it'
 unfoldable pub plainExecute : Bytes → PlainState → Verdict → Reply
 plainExecute b w (TurnedDown r) = record { state = w; answer = Refused r }
 plainExecute b w (Copied a) = record { state = w; answer = a }

@@ -1,5 +1,5 @@
--- A worked list: bench figures 9 and 10 and the traps that only a list shows, as frames to a panel of two outputs, with the answers that the
--- paper gives. proofs/Figures.antt computes them.
+-- A worked list: bench figures 9 and 10 and the traps that only a list shows, as frames to a panel of two
+-- outputs, with the answers that the paper gives. proofs/Figures.antt computes them.
 use mathlib.Core.List.{List, [], _∷_, _++_}
 use Prim.Native.Nat.{ℕ}
 use Rattle.lighting_levels.specs.Paper.Field.{octets}
@@ -56,7 +56,8 @@ frames =
     ∷ clockAt 3000
     ∷ stepDown
     ∷ asked 2 4 3000 1 0x0c
-    -- the seconds that both have burned: output 1 was dark in the first of its thousand milliseconds, at the beginning of its fade (§2 of the change requests)
+    -- the seconds that both have burned: output 1 was dark in the first of its thousand milliseconds, at the
+    -- beginning of its fade (§2 of the change requests)
     ∷ asked 2 5 3000 0 0x0b
     ∷ asked 2 6 3000 1 0x0b
     -- a clock that comes again, and a late one

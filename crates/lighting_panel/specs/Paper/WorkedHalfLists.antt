@@ -1,4 +1,5 @@
--- §5 in a worked list: REALs halfway between two units, in every frame that carries one. proofs/Figures.antt computes the answers.
+-- §5 in a worked list: REALs halfway between two units, in every frame that carries one. proofs/Figures.antt
+-- computes the answers.
 use mathlib.Core.List.{List, [], _∷_, _++_}
 use Prim.Native.Nat.{ℕ, _+_}
 use Rattle.lighting_levels.specs.Paper.Field.{octets}
@@ -8,7 +9,8 @@ use Rattle.lighting_frames.specs.Paper.WorkedTags.{body}
 use Rattle.lighting_outputs.specs.declared.Answer.{Answer}
 use Rattle.lighting_outputs.specs.declared.Answer.the-variants.{Done, Value, Refused}
 
--- A LIST: every field that is rounded, of commands in tags one. Station 1 writes to output 0 and reads it at 1,000; station 2 orders and reads output 1
+-- A LIST: every field that is rounded, of commands in tags one. Station 1 writes to output 0 and reads it at
+-- 1,000; station 2 orders and reads output 1
 abbrev puts : ℕ → ℕ → ℕ → Bytes
 puts number property value = call 4 1 number 1000 0 (property ∷ octets 4 value)
 
@@ -34,8 +36,8 @@ framesOfHalves =
     ++ (puts 7 0x08 0x3f80_0080 ∷ puts 8 0x09 0x3f80_0040 ∷ puts 9 0x09 0x3f80_00c0 ∷ looks 10 0x09 ∷ puts 11 0x08 0x3f80_0140 ∷ looks 12 0x08 ∷ [])
     -- 18 at 65,536.5 is below a 17 of 65,537; at 65,538 it is not below a 17 of 65,538.5
     ++ (puts 13 0x18 0x3f80_0040 ∷ looks 14 0x18 ∷ puts 15 0x17 0x3f80_0080 ∷ puts 16 0x17 0x3f80_0140 ∷ looks 17 0x17 ∷ puts 18 0x18 0x3f80_0100 ∷ [])
-    -- RAMP_TO_AT_RATE from 0 to 1 percent at 8,192.5, which is 8,192: by 65,527.8 after 7,999 ms; from 1 to 2 percent at 8,193.5, which is 8,194: by 57,358
-    -- after 7,000 ms
+    -- RAMP_TO_AT_RATE from 0 to 1 percent at 8,192.5, which is 8,192: by 65,527.8 after 7,999 ms; from 1 to 2
+    -- percent at 8,193.5, which is 8,194: by 57,358 after 7,000 ms
     ++ (orders 0x14 1 1000 (octets 4 0x3f80_0000 ++ octets 4 0x3e00_0200) ∷ shows 2 8999 0x0d ∷ [])
     ++ (orders 0x14 3 10000 (octets 4 0x4000_0000 ++ octets 4 0x3e00_0600) ∷ shows 4 17000 0x0d ∷ shows 5 17000 0x11 ∷ [])
     -- from 2 percent STEP_UP_BY 65,537.5, STEP_DOWN_BY 65,536.5, STEP_UP_BY 65,536.5
@@ -43,7 +45,8 @@ framesOfHalves =
     ++ leaves 0x18 8 (octets 4 0x3f80_0040)
     ++ leaves 0x17 10 (octets 4 0x3f80_0040)
     ++ (shows 12 20000 0x12 ∷ [])
-    -- the levels of FADE_TO, FADE_TO_OVER, RAMP_TO, RAMP_TO_AT_RATE and GOTO, in tags too: 65,536.5 and 65,538.5 by turns, and at the end 65,537.5
+    -- the levels of FADE_TO, FADE_TO_OVER, RAMP_TO, RAMP_TO_AT_RATE and GOTO, in tags too: 65,536.5 and
+    -- 65,538.5 by turns, and at the end 65,537.5
     ++ leaves 0x11 13 (octets 4 0x3f80_0040)
     ++ leaves 0x12 15 (octets 4 0x3f80_0140 ++ octets 4 1000)
     ++ leaves 0x13 17 (octets 4 0x3f80_0040)
@@ -51,7 +54,8 @@ framesOfHalves =
     ++ (call 0x1b 2 21 20000 1 (body (0x09 ∷ 0x09 ∷ 0x1c ∷ octets 4 0x3f80_0040)) ∷ shows 22 20000 0x0c ∷ [])
     ++ leaves 0x19 23 (octets 4 0x3f80_00c0)
     ++ (shows 25 20000 0x10 ∷ [])
-    -- Step_Increment 65,536.5, a step up and one down; Ramp_Rate 8,192.5, which is 8,192: to 3 percent, by 57,344 after 7,000 ms
+    -- Step_Increment 65,536.5, a step up and one down; Ramp_Rate 8,192.5, which is 8,192: to 3 percent, by
+    -- 57,344 after 7,000 ms
     ++ (call 4 2 26 20000 1 (0x04 ∷ octets 4 0x3f80_0040) ∷ shows 27 20000 0x04 ∷ [])
     ++ leaves 0x15 28 []
     ++ leaves 0x16 30 []

@@ -7,8 +7,8 @@ use Rattle.lighting_panel.specs.Paper.Worked.{call, clockAt, asked}
 use Rattle.lighting_outputs.specs.declared.Answer.{Answer}
 use Rattle.lighting_outputs.specs.declared.Answer.the-variants.{Done, Value}
 
--- A LIST: fades of output 1 over 1,000 ms, up to 50 percent and down to 0 by turns, each followed by a jump of a clock or of a first arrival, and by reads of
--- Progress_Value, In_Process and the seconds burned
+-- A LIST: fades of output 1 over 1,000 ms, up to 50 percent and down to 0 by turns, each followed by a jump
+-- of a clock or of a first arrival, and by reads of Progress_Value, In_Process and the seconds burned
 abbrev fades : ℕ → ℕ → ℕ → Bytes
 fades number time percent = call 0x12 3 number time 1 (octets 4 percent ++ octets 4 1000 ++ octets 4 0xffff_ffff)
 

@@ -1,4 +1,5 @@
--- §1 in a worked list: commands in tags, with the answers that the papers give. proofs/Figures.antt computes them.
+-- §1 in a worked list: commands in tags, with the answers that the papers give. proofs/Figures.antt computes
+-- them.
 use mathlib.Core.List.{List, _∷_, _++_, []}
 use Rattle.lighting_levels.specs.Paper.Field.{octets}
 use Rattle.lighting_frames.specs.Paper.Frames.{Bytes}
