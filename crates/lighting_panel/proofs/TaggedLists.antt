@@ -115,6 +115,6 @@ module _ (p : Parameters) (chosen : Bytes → Bool) where
         answered = tags .answered ∙ i .1 ∙ sym (plain .answered);
       }
 
-  -- so with any list none of whose frames is of kind 1B, 31 bytes long and well tagged
+  -- so with any list none of whose frames is of kind 1B, 31 bytes long and readable
   pub none-made : (l : List Bytes) → Strings l → Every NeverMade l → NoneBecomesAnother chosen l
   none-made l s n b b′ m m′ h = never-made chosen b b′ (every-among Octets l b m s) (every-among NeverMade l b′ m′ n) h

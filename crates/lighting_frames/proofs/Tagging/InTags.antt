@@ -2,7 +2,7 @@
 use Rattle.lighting_levels.specs.Paper.Choice.{if_then_else_}
 use mathlib.Core.Path.{_≡_, refl, sym, ap, ap₂, _∙_}
 use mathlib.Core.Logic.{_≢_}
-use mathlib.Core.Bool.{Bool, true, false, false≢true}
+use mathlib.Core.Bool.{Bool, true, false≢true}
 use mathlib.Core.List.{_∷_, _++_, []}
 use mathlib.Core.Option.{Option, none, some}
 use Prim.Native.Nat.{ℕ, zero, suc, _+_, _-_, _≤_, _<_}
@@ -12,7 +12,7 @@ use lib.Seq.{drop-at, take-at, drop-cons, drop-drop, getD-take, getD-drop}
 use Rattle.lighting_outputs.specs.declared.Parameters.{Parameters}
 use Rattle.lighting_levels.specs.Paper.Field.{byteAt, bigEndian}
 use Rattle.lighting_frames.specs.Paper.Kinds.{kindRow, kindLength}
-use Rattle.lighting_frames.specs.Paper.Tags.{heldBy, tagBytes, mostTagged, zeroFilled, bodyBytes, bodyFields, wellTagged, readBody}
+use Rattle.lighting_frames.specs.Paper.Tags.{heldBy, tagBytes, mostTagged, zeroFilled, bodyBytes, bodyFields, operationOf, timeOf, readFields, readBody}
 use Rattle.lighting_frames.specs.Paper.Frames.{Bytes, Octets, taggedRequest, requestOf, callOf, called, parseBy, parse}
 use Rattle.lighting_frames.specs.Paper.Copies.{sameBytes}
 use Rattle.lighting_frames.specs.Paper.InTags.{plainTags, framed, framedBy, inTags, sent}
@@ -21,6 +21,7 @@ use Rattle.lighting_frames.specs.declared.Action.the-variants.{CommandsT
 use Rattle.lighting_frames.specs.declared.Kind.{Kind}
 use Rattle.lighting_frames.specs.declared.Kind.the-variants.{NoKind, ClockKind, CallKind}
 use Rattle.lighting_frames.specs.declared.TagFields.{TagFields}
+use Rattle.lighting_frames.specs.declared.TaggedReading.the-variants.{Unreadable, Reads}
 use Rattle.lighting_levels.proofs.Split.{by-bool, by-eq, also-both, also-yes, eqb-hit, eq-of}
 use Rattle.lighting_frames.proofs.KindTable.{kind-byte}
 use Rattle.lighting_frames.proofs.Tagging.Bodies.{sizes-written, fields-read, well-written}
@@ -71,6 +72,13 @@ module _ {action : Action} (b : Bytes) (f : TagFields) (s : Same action b f) whe
       let n = sizes-written f in
       let w = well-written f (s .fit) (omega (arith, s .low)) (omega (arith, s .high)) (s .known) in
       rw (w, fields-read f (s .fit)) (s .asks p)
+
+  body-reads : readBody (bodyBytes f) ≡ Reads (operationOf f) (timeOf (f .duration))
+  unfolding readBody readFields if_then_else_
+  body-reads =
+      let n = sizes-written f in
+      let w = well-written f (s .fit) (omega (arith, s .low)) (omega (arith, s .high)) (s .known) in
+      rw (w, fields-read f (s .fit), s .own)
 
   pub tagged-asks : (p : Parameters) → requestOf p CommandsTagged tagged ≡ requestOf p action b
   unfolding requestOf
@@ -164,21 +172,21 @@ apart b b′ {a} {a′} s s′ n n′ g =
     (λ q. e ∙ sym q))
 
 -- A FRAME THAT NO OTHER BECOMES, whatever the list: of another kind than 1B, of another length than 31, or
--- with a body that is 14
+-- with a body that is 14 or 15
 pub data NeverMade (b : Bytes) : Type 0 where
   other-kind : byteAt b 0 ≢ 0x1b → NeverMade b
   other-length : length b ≢ 31 → NeverMade b
-  not-tagged : wellTagged (drop 13 b) ≡ false → NeverMade b
+  unreadable : {refusal : ℕ} → readBody (drop 13 b) ≡ Unreadable refusal → NeverMade b
 
 never-of : (b b′ : Bytes) {a : Bytes} → SentAs b a → NeverMade b′ → a ≡ b′ → b ≡ b′
 unfolding byteAt
 never-of b b′ itself n h = h
 never-of b b′ (asTags action f k l s) (other-kind n) h = absurd (n (sym (ap (λ (x : Bytes). getD x 0 0) h)))
 never-of b b′ (asTags action f k l s) (other-length n) h = absurd (n (sym (ap length h) ∙ length-tagged b f s))
-never-of b b′ (asTags action f k l s) (not-tagged n) h =
-    let size = sizes-written f in
-    let well = well-written f (s .fit) (omega (arith, s .low)) (omega (arith, s .high)) (s .known) in
-    absurd (false≢true (sym n ∙ ap (λ (x : Bytes). wellTagged (drop 13 x)) (sym h) ∙ ap wellTagged (body-of b f s) ∙ well))
+never-of b b′ (asTags action f k l s) (unreadable n) h =
+    let read = sym (ap readBody (body-of b f s)) ∙ ap (λ (x : Bytes). readBody (drop 13 x)) h ∙ n in
+    let never : _≡_ {A = ℕ} 0 1 = cc (body-reads b f s) in
+    absurd (omega arith)
 
 pub never-made : (chosen : Bytes → Bool) (b b′ : Bytes) → Octets b → NeverMade b′ → sent chosen b ≡ b′ → b ≡ b′
 never-made chosen b b′ o n h = never-of b b′ (sent-as chosen b o) n h

@@ -14,7 +14,7 @@ use Rattle.lighting_levels.specs.Paper.Level.{real}
 use Rattle.lighting_levels.specs.Paper.Field.{byteAt, bigEndian, octets}
 use Rattle.lighting_outputs.specs.Paper.Operations.{fieldsOf}
 use Rattle.lighting_frames.specs.Paper.Kinds.{kindRow, kindLength}
-use Rattle.lighting_frames.specs.Paper.Tags.{realOctets, tagOctets, listed, fieldSize, sizes, mostTagged, realTag, wholeTag, tagsOf, heldBy, holdsAtMost, operationOf, bothOrNeither, ownTags, readFields}
+use Rattle.lighting_frames.specs.Paper.Tags.{realOctets, tagOctets, listed, fieldSize, sizes, mostTagged, realTag, wholeTag, tagsOf, heldBy, holdsAtMost, operationOf, timeOf, bothOrNeither, ownTags, readFields}
 use Rattle.lighting_frames.specs.Paper.Frames.{Bytes, Octets, taggedRequest, requestOf}
 use Rattle.lighting_outputs.specs.Paper.Requests.{plainDuration, commandRequest}
 use Rattle.lighting_frames.specs.Paper.InTags.{plainFields, plainTags}
@@ -53,6 +53,7 @@ pub record Same (action : Action) (b : Bytes) (f : TagFields) : Type 0 where
   pub low : 2 ≤ sizes (listed f)
   pub high : sizes (listed f) ≤ mostTagged
   pub known : holdsAtMost 10 (f .operation) ≡ true
+  pub own : ownTags (tagsOf (operationOf f) (timeOf (f .duration))) f ≡ true
   pub asks : (p : Parameters) → taggedRequest p (readFields f) ≡ requestOf p action b
   pub kind : byteAt b 0 ≡ 0x10 + heldBy (f .operation)
   pub tail : drop 13 b ≡ plainBody f
@@ -94,22 +95,27 @@ module _ (b : Bytes) (o : Octets b) where
     abbrev fields : TagFields
     fields = plainFields number level rate step fade (bigEndian 4 b at)
 
-    fields-asked : operationOf fields ≡ operation
-        → bothOrNeither (tagsOf operation NoTime .level) level ≡ true
-        → bothOrNeither (tagsOf operation NoTime .rate) rate ≡ true
-        → bothOrNeither (tagsOf operation NoTime .step) step ≡ true
-        → bothOrNeither (tagsOf operation NoTime .fade) (wholeTag fade) ≡ true
-        → (p : Parameters) → taggedRequest p (readFields fields) ≡ commandRequest p operation (bigEndian 4 b at)
-    unfolding taggedRequest commandRequest readFields ownTags tagsOf bothOrNeither if_then_else_
-    fields-asked e l r s t p =
-        rw
-        (e, whole-read (plainDuration (bigEndian 4 b at)), l, r, s, t, whole-fewest fade, whole-fewest (plainDuration (bigEndian 4 b at)))
+    module _ (named : operationOf fields ≡ operation)
+        (levels : bothOrNeither (tagsOf operation NoTime .level) level ≡ true)
+        (rates : bothOrNeither (tagsOf operation NoTime .rate) rate ≡ true)
+        (steps : bothOrNeither (tagsOf operation NoTime .step) step ≡ true)
+        (fades : bothOrNeither (tagsOf operation NoTime .fade) (wholeTag fade) ≡ true) where
+      fields-own : ownTags (tagsOf (operationOf fields) (timeOf (fields .duration))) fields ≡ true
+      unfolding ownTags tagsOf bothOrNeither if_then_else_
+      fields-own =
+          rw
+          (named, levels, rates, steps, fades, whole-fewest fade, whole-fewest (plainDuration (bigEndian 4 b at)))
+
+      fields-asked : (p : Parameters) → taggedRequest p (readFields fields) ≡ commandRequest p operation (bigEndian 4 b at)
+      unfolding taggedRequest commandRequest readFields if_then_else_
+      fields-asked p = rw (fields-own, named, whole-read (plainDuration (bigEndian 4 b at)))
 
     fields-same : (action : Action) → 13 ≤ length b → number ≤ 10 → Fits realOctets level → Fits realOctets rate → Fits realOctets step → Word fade
         → fieldSize level + fieldSize rate + fieldSize step + fieldSize (wholeTag fade) ≤ 10
+        → ownTags (tagsOf (operationOf fields) (timeOf (fields .duration))) fields ≡ true
         → ((p : Parameters) → taggedRequest p (readFields fields) ≡ requestOf p action b)
         → byteAt b 0 ≡ 0x10 + number → drop 13 b ≡ plainBody fields → Same action b fields
-    fields-same action long n l r s t size asks kind tail =
+    fields-same action long n l r s t size own asks kind tail =
         let d = plainDuration (bigEndian 4 b at) in
         let w : Word d = lasting-word (bigEndian 4 b at) (word b o at) in
         record {
@@ -118,6 +124,7 @@ module _ (b : Bytes) (o : Octets b) where
           low = least;
           high = most;
           known = unfold holdsAtMost in (leb-yes n);
+          own = own;
           asks = asks;
           kind = unfold heldBy in kind;
           tail = tail;
@@ -154,56 +161,67 @@ module _ (b : Bytes) (o : Octets b) where
   same ReadsProperty k l = tt
   same Stops k l =
       fields-same b o 0 Missing Missing Missing NoTime 13 Stop Stops (omega arith) (omega arith) tt tt tt tt (omega arith)
+      (fields-own b o 0 Missing Missing Missing NoTime 13 Stop refl refl refl refl refl)
       (fields-asked b o 0 Missing Missing Missing NoTime 13 Stop refl refl refl refl refl)
       k
       (last-word b o 13 l)
   same FadesTo k l =
       fields-same b o 1 real13 Missing Missing NoTime 17 (FadeTo (real word13)) FadesTo (omega arith) (omega arith) (held 13) tt tt tt (omega arith)
+      (fields-own b o 1 real13 Missing Missing NoTime 17 (FadeTo (real word13)) refl refl refl refl refl)
       (fields-asked b o 1 real13 Missing Missing NoTime 17 (FadeTo (real word13)) refl refl refl refl refl)
       k
       (two-words b o l)
   same FadesToOver k l =
       fields-same b o 2 real13 Missing Missing (Time word17) 21 (FadeToOver (real word13) word17) FadesToOver (omega arith) (omega arith) (held 13) tt tt (word b o 17) (omega (arith, whole-size (Time word17)))
+      (fields-own b o 2 real13 Missing Missing (Time word17) 21 (FadeToOver (real word13) word17) refl refl refl refl refl)
       (fields-asked b o 2 real13 Missing Missing (Time word17) 21 (FadeToOver (real word13) word17) refl refl refl refl refl)
       k
       (three-words b o l)
   same RampsTo k l =
       fields-same b o 3 real13 Missing Missing NoTime 17 (RampTo (real word13)) RampsTo (omega arith) (omega arith) (held 13) tt tt tt (omega arith)
+      (fields-own b o 3 real13 Missing Missing NoTime 17 (RampTo (real word13)) refl refl refl refl refl)
       (fields-asked b o 3 real13 Missing Missing NoTime 17 (RampTo (real word13)) refl refl refl refl refl)
       k
       (two-words b o l)
   same RampsToAtRate k l =
       fields-same b o 4 real13 real17 Missing NoTime 21 (RampToAtRate (real word13) (real word17)) RampsToAtRate (omega arith) (omega arith) (held 13) (held 17) tt tt (omega arith)
+      (fields-own b o 4 real13 real17 Missing NoTime 21 (RampToAtRate (real word13) (real word17)) refl refl refl refl refl)
       (fields-asked b o 4 real13 real17 Missing NoTime 21 (RampToAtRate (real word13) (real word17)) refl refl refl refl refl)
       k
       (three-words b o l)
   same StepsUp k l =
       fields-same b o 5 Missing Missing Missing NoTime 13 StepUp StepsUp (omega arith) (omega arith) tt tt tt tt (omega arith)
+      (fields-own b o 5 Missing Missing Missing NoTime 13 StepUp refl refl refl refl refl)
       (fields-asked b o 5 Missing Missing Missing NoTime 13 StepUp refl refl refl refl refl)
       k
       (last-word b o 13 l)
   same StepsDown k l =
       fields-same b o 6 Missing Missing Missing NoTime 13 StepDown StepsDown (omega arith) (omega arith) tt tt tt tt (omega arith)
+      (fields-own b o 6 Missing Missing Missing NoTime 13 StepDown refl refl refl refl refl)
       (fields-asked b o 6 Missing Missing Missing NoTime 13 StepDown refl refl refl refl refl)
       k
       (last-word b o 13 l)
   same StepsUpBy k l =
       fields-same b o 7 Missing Missing real13 NoTime 17 (StepUpBy (real word13)) StepsUpBy (omega arith) (omega arith) tt tt (held 13) tt (omega arith)
+      (fields-own b o 7 Missing Missing real13 NoTime 17 (StepUpBy (real word13)) refl refl refl refl refl)
       (fields-asked b o 7 Missing Missing real13 NoTime 17 (StepUpBy (real word13)) refl refl refl refl refl)
       k
       (two-words b o l)
   same StepsDownBy k l =
       fields-same b o 8 Missing Missing real13 NoTime 17 (StepDownBy (real word13)) StepsDownBy (omega arith) (omega arith) tt tt (held 13) tt (omega arith)
+      (fields-own b o 8 Missing Missing real13 NoTime 17 (StepDownBy (real word13)) refl refl refl refl refl)
       (fields-asked b o 8 Missing Missing real13 NoTime 17 (StepDownBy (real word13)) refl refl refl refl refl)
       k
       (two-words b o l)
   same GoesTo k l =
       fields-same b o 9 real13 Missing Missing NoTime 17 (Goto (real word13)) GoesTo (omega arith) (omega arith) (held 13) tt tt tt (omega arith)
+      (fields-own b o 9 real13 Missing Missing NoTime 17 (Goto (real word13)) refl refl refl refl refl)
       (fields-asked b o 9 real13 Missing Missing NoTime 17 (Goto (real word13)) refl refl refl refl refl)
       k
       (two-words b o l)
   same Relinquishes k l =
       fields-same b o 10 Missing Missing Missing NoTime 13 Relinquish Relinquishes (omega arith) (omega arith) tt tt tt tt (omega arith)
+      (fields-own b o 10 Missing Missing Missing NoTime 13 Relinquish refl refl refl refl refl)
       (fields-asked b o 10 Missing Missing Missing NoTime 13 Relinquish refl refl refl refl refl)
       k
       (last-word b o 13 l)
