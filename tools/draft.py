@@ -33,6 +33,7 @@ definition of people's, an invariant for instance, and is put in before the answ
     returns-3..5     the third to the fifth, each by the same answer
     returns-last     the last of them; `returns-last-1` is the one before it
     returns*         each of them that has no answer of its own
+    sub-t            the need of a difference that has no name: Rattle numbers these, sub-t15, by the code before it
     @name            in an answer: the place of that name before the need, with the way to it: `@put-all .ensures`
                      is `c .before .before .put-all .ensures`
     ← earlier-calls  in a list of equations: what the calls before the last one ensure, from the last back, each
@@ -259,7 +260,7 @@ class Answer:
         m = re.match(r'(.*)-last(?:-(\d+))?$', self.name)
         if m and m.group(1) == need.family and needs.count[need.family] - int(m.group(2) or 0) == need.number:
             return 2
-        return 1 if self.name == need.family + '*' else 0
+        return 1 if self.name in (need.family + '*', re.sub(r'-t\d+$', '-t', need.name)) else 0
 
 
 def answers_of(text):
@@ -402,6 +403,9 @@ def take(name, folder, _):
         if is_marked(old):
             continue
         needs = needs_made(folder, name, place(path)[2]) or needs_said(old)
+        if needs is None:
+            print('draft.py: %s closes no needs' % path)
+            continue
         try:
             answers = taken.answers(crate, path, old, needs)
             new = made(crate, path, needs, answers)
@@ -448,7 +452,11 @@ def draft(name, folder, text):
         needs = needs_made(folder, name, place(path)[2])
         if needs is None or old and not is_marked(old):
             continue
-        new = made(crate, path, needs, answers_at(path))
+        try:
+            new = made(crate, path, needs, answers_at(path))
+        except Faults as fault:
+            print('draft.py: %s' % fault)
+            continue
         if not same(old, new):
             write(path, new)
             print('made ' + path)
@@ -462,7 +470,11 @@ def anew(name):
         if not is_marked(old):
             continue
         answers = answers_at(path)
-        new = made(crate, path, needs_said(old), answers)
+        try:
+            new = made(crate, path, needs_said(old), answers)
+        except Faults as fault:
+            print('draft.py: %s (or the code has other needs: tools/draft.py %s)' % (fault, name))
+            continue
         if same(old, new):
             continue
         # the ways to places that no answer has named before are Rattle's to say

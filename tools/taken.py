@@ -106,7 +106,9 @@ def of_family(members, rule, needs, crate, where):
         elif users and m.need.number > users[-1].need.number:
             out[name] = m.said('%s-last%s' % (family, '-%d' % back if back else ''), by_places(m))
         elif users or rule.get(name) != m.words():
-            out[name] = m.said(name, by_places(m))
+            short = re.sub(r'-t\d+$', '-t', name)
+            alone = sum(re.sub(r'-t\d+$', '-t', n.name) == short for n in needs.needs) == 1
+            out[name] = m.said(short if alone else name, by_places(m))
     return out
 
 
