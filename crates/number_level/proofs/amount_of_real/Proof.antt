@@ -1,5 +1,6 @@
 -- Made by tools/draft.py from the answers.txt beside it: edit that file.
--- `number_level::amount_of_real` meets its contract. Within 0.125 to 100 the facts are those of `proofs/Scaled.antt`, and outside those of `proofs/Tested.antt`.
+-- `number_level::amount_of_real` meets its contract. Within 0.125 to 100 the facts are those of
+-- `proofs/Scaled.antt`, and outside those of `proofs/Tested.antt`.
 use mathlib.Core.Path.{_≡_, sym, ap, _∙_, subst}
 use native.Mathlib.Omega.{arith}
 use Prim.Native.Nat.{ℕ}

@@ -1,5 +1,6 @@
 -- Made by tools/draft.py from the answers.txt beside it: edit that file.
--- `number_level::real_of` meets its contract: the level as an f32 is the level, and what the division rounds is level / 65,536.
+-- `number_level::real_of` meets its contract: the level as an f32 is the level, and what the division rounds
+-- is level / 65,536.
 use mathlib.Core.Path.{_≡_}
 use mathlib.Core.Bool.{false}
 use Prim.Native.Nat.{ℕ, _*_, _^_, _≤_}

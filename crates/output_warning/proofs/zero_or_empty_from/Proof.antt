@@ -1,6 +1,6 @@
 -- Made by tools/draft.py from the answers.txt beside it: edit that file.
--- `warning::zero_or_empty_from` meets its contract. The loop's invariant: what is asked of all slots from the first on is asked of those that are
--- left; the measure is how many these are.
+-- `warning::zero_or_empty_from` meets its contract. The loop's invariant: what is asked of all slots from the
+-- first on is asked of those that are left; the measure is how many these are.
 use Prim.Native.Nat.{_-_}
 use mathlib.Core.Path.{_≡_, sym, _∙_}
 use Rattle.lighting_levels.proofs.Scan.{scan-on, scan-off, scan-done}

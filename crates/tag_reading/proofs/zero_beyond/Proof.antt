@@ -1,6 +1,6 @@
 -- Made by tools/draft.py from the answers.txt beside it: edit that file.
--- `tag_reading::zero_beyond` meets its contract. The loop's invariant: what is asked of all bytes beyond the L is asked of those that are left; the
--- measure is how many these are.
+-- `tag_reading::zero_beyond` meets its contract. The loop's invariant: what is asked of all bytes beyond the
+-- L is asked of those that are left; the measure is how many these are.
 use Prim.Native.Nat.{_-_}
 use mathlib.Core.Path.{_≡_, sym, _∙_}
 use native.Mathlib.Omega.{arith}

@@ -1,7 +1,4 @@
 -- Drafted by tools/draft.py: nothing here was written by hand.
-use Rattle.lighting_levels.proofs.Choosing.{ifs}
-use Rattle.lighting_outputs.proofs.Laws.{meetsReal-on}
-use Rattle.lighting_outputs.specs.Paper.Rows.{meetsReal}
 use borrow.Author.Needs.{needs}
 use Rattle.number_ranges.proofs.rows.is_met_real.Statement.{statement}
 use Rattle.number_ranges.proofs.rows.is_met_real.Tie as tie
@@ -28,28 +25,22 @@ enum-told-6 : tie.Need-enum-told-6
 enum-told-6 c = search needs
 
 returns : tie.Need-returns
-unfolding meetsReal
-returns c = search (needs, ifs, meetsReal-on)
+returns c = search needs
 
 returns-2 : tie.Need-returns-2
-unfolding meetsReal
-returns-2 c = search (needs, ifs, meetsReal-on)
+returns-2 c = search needs
 
 returns-3 : tie.Need-returns-3
-unfolding meetsReal
-returns-3 c = search (needs, ifs, meetsReal-on)
+returns-3 c = search needs
 
 returns-4 : tie.Need-returns-4
-unfolding meetsReal
-returns-4 c = search (needs, ifs, meetsReal-on)
+returns-4 c = search needs
 
 returns-5 : tie.Need-returns-5
-unfolding meetsReal
-returns-5 c = search (needs, ifs, meetsReal-on)
+returns-5 c = search needs
 
 returns-6 : tie.Need-returns-6
-unfolding meetsReal
-returns-6 c = search (needs, ifs, meetsReal-on)
+returns-6 c = search needs
 
 pub is-met-real-spec : {M : Type 1} → statement M
 is-met-real-spec =
