@@ -1,5 +1,5 @@
--- EVERY RECORD OF A TABLE, or every one of any list: what is asked of each stays, where each is changed and
--- where one is.
+-- EVERY RECORD OF A TABLE, or every one of any list: what holds of each still holds where each is changed,
+-- and where one is.
 use mathlib.Core.Path.{_≡_, refl}
 use mathlib.Core.Bool.{Bool, true}
 use mathlib.Core.List.{List, [], _∷_, map}

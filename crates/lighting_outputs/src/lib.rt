@@ -248,9 +248,9 @@ pub enum OutputRequest {
     Commands(Command),
 }
 
-// What a frame asks: something of its own output, and of no other; or nothing, by the refusal from 9 to 12,
-// or 14 or 15, that its fields meet (a read of an unknown property meets its 9 when it is answered). A
-// request to the whole table is a case of its own here.
+// What a frame asks: something of its own output, and of no other; or nothing, by the refusal that its
+// fields meet, 9 to 12, 14 or 15 (a read of an unknown property meets its 9 when it is answered). A request
+// to the whole table is a case of its own here.
 pub enum Request {
     Refuse(u8),
     ToOutput(OutputRequest),

@@ -109,26 +109,46 @@ advance-here p t l b a =
 pub all-advance : (p : Parameters) (now to : ℕ) (l : List Output) → now ≤ to → to ≤ greatestCount → AllSound p now l → AllSound p to (map (advance now to) l)
 all-advance p now to l h b a = every-map (Lawful p now) (Lawful p to) (advance now to) l (λ o k. advance-sound p now to o h b k) a
 
--- ACTING: the laws of `served`. A request to the table is a clause more of each that goes by clauses; nothing
--- above looks into a request
-pub served-length : (t : ℕ) (l : List Output) (i : ℕ) (r : Request) → length (served t l i r .outputs) ≡ length l
+-- ACTING: the laws of `served`. A request to the table is a clause more of `served-leaves` and of
+-- `served-not-one`. Nothing above looks into a request
+
+-- what a request leaves of the outputs: all as they were, or the frame's own one acted on
+data Leaves (t : ℕ) (l : List Output) (i : ℕ) (r : Request) : List Output → Type 0 where
+  all : Leaves t l i r l
+  own : (q : OutputRequest) → r ≡ ToOutput q → Leaves t l i r (set l i (acted t (getD l i freshOutput) q .output))
+
+served-leaves : (t : ℕ) (l : List Output) (i : ℕ) (r : Request) → Leaves t l i r (served t l i r .outputs)
 unfolding served
-served-length t l i (Refuse n) = refl
-served-length t l i (ToOutput q) = length-set l i (acted t (getD l i freshOutput) q .output)
+served-leaves t l i (Refuse n) = all
+served-leaves t l i (ToOutput q) = own q refl
+
+-- as many outputs as before
+leaves-length : {t i : ℕ} {l l′ : List Output} {r : Request} → Leaves t l i r l′ → length l′ ≡ length l
+leaves-length all = refl
+leaves-length {i = i} {l = l} (own q e) = length-set l i _
+
+pub served-length : (t : ℕ) (l : List Output) (i : ℕ) (r : Request) → length (served t l i r .outputs) ≡ length l
+served-length t l i r = leaves-length (served-leaves t l i r)
 
 -- what every output keeps, whatever is asked of it, every output of the table keeps
+leaves-every : {t i : ℕ} {l l′ : List Output} {r : Request} (P : Output → Type 0) → Leaves t l i r l′
+    → ((q : OutputRequest) → r ≡ ToOutput q → (o : Output) → P o → P (acted t o q .output))
+    → Every P l → Every P l′
+leaves-every P all k a = a
+leaves-every {i = i} {l = l} P (own q e) k a = every-set P l i freshOutput _ (k q e (getD l i freshOutput)) a
+
 pub served-every : (P : Output → Type 0) (t : ℕ) (l : List Output) (i : ℕ) (r : Request)
     → ((q : OutputRequest) → r ≡ ToOutput q → (o : Output) → P o → P (acted t o q .output))
     → Every P l → Every P (served t l i r .outputs)
-unfolding served
-served-every P t l i (Refuse n) k a = a
-served-every P t l i (ToOutput q) k a = every-set P l i freshOutput _ (k q refl (getD l i freshOutput)) a
+served-every P t l i r k a = leaves-every P (served-leaves t l i r) k a
 
 -- an output that the frame does not name stays as it is
+leaves-other : {t i : ℕ} {l l′ : List Output} {r : Request} (j : ℕ) → Leaves t l i r l′ → j ≢ i → getD l′ j freshOutput ≡ getD l j freshOutput
+leaves-other j all h = refl
+leaves-other {i = i} {l = l} j (own q e) h = getD-set-other l i j _ freshOutput h
+
 pub served-other : (t : ℕ) (l : List Output) (i j : ℕ) (r : Request) → j ≢ i → getD (served t l i r .outputs) j freshOutput ≡ getD l j freshOutput
-unfolding served
-served-other t l i j (Refuse n) h = refl
-served-other t l i j (ToOutput q) h = getD-set-other l i j _ freshOutput h
+served-other t l i j r h = leaves-other j (served-leaves t l i r) h
 
 pub served-not-one : (p : Parameters) (t : ℕ) (l : List Output) (i : ℕ) (r : Request) → RequestInRange p r → NotOne (served t l i r .answer)
 unfolding served

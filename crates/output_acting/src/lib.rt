@@ -1,5 +1,5 @@
-// What a first arrival's request does to its output, once the output is at the frame's time: it acts, reads,
-// or is refused. By value, and on any record at all; the time comes from six bytes.
+// What a first arrival's request does to its output, once the output is at the frame's time: it acts,
+// reads, or is refused. By value, and on any record at all; the time comes from six bytes.
 ghost use mathlib.Core.Path.{_≡_};
 ghost use Prim.Native.Nat.{_<_, _^_};
 ghost use Rattle.lighting_outputs.specs.Paper.Properties.{settingsWith, relayWith, minOverMax};

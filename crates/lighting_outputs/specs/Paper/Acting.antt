@@ -35,8 +35,8 @@ unfoldable pub changedUnless : Bool → Bool → Output → Property → ℕ →
 changedUnless m unordered o property value =
     if m then unchanged o (Refused 13) else if unordered then unchanged o (Refused 16) else done (changed o property value)
 
--- A REQUEST TO ONE OUTPUT: 'does what its kind calls for', or refuses 13 or 16; a read of an unknown property
--- is 9
+-- A REQUEST TO ONE OUTPUT: 'does what its kind calls for', or refuses 13 or 16. A read of an unknown
+-- property is 9
 unfoldable pub acted : ℕ → Output → OutputRequest → Outcome
 acted t o (Write slot level) = done (written t o slot level)
 acted t o (Empty slot) = done (slotRelinquished o slot)
@@ -45,8 +45,8 @@ acted t o (Change n v) =
 acted t o (Read property) = unchanged o (readProperty t o property)
 acted t o (Commands k) = done (commanded t o k)
 
--- A REQUEST, over the table: the outputs and the answer after a frame whose output is i. 'or refuses 9 to
--- 13', and 14 to 16 of the change requests, leaves every output. Which station it comes from makes no
+-- A REQUEST, over the table: the outputs and the answer after a frame whose output is i. One that is
+-- refused by its fields, 9 to 12, 14 or 15, leaves every output. Which station it comes from makes no
 -- difference
 pub record Served : Type 0 where
   pub outputs : List Output
