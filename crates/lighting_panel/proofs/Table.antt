@@ -9,7 +9,7 @@ use native.Mathlib.Nat.{sub-self}
 use native.Mathlib.Omega.{arith}
 use lib.Dec.{leb}
 use lib.Ieee.{ofBits}
-use lib.ListN.{getD, length, replicate, length-set}
+use lib.ListN.{set, getD, length, replicate, length-set}
 use lib.Seq.{getD-set-other}
 use Rattle.lighting_levels.specs.Paper.Choice.{if_then_else_, allFrom, Every, every}
 use Rattle.lighting_outputs.specs.declared.Parameters.{Parameters}
