@@ -16,6 +16,9 @@ pub type Scene = fn(&mut Generator, u8);
 /// Scenes with their shares of the sum.
 pub type Shares = &'static [(u64, Scene)];
 
+/// Chooses a property to write, and a value for it.
+pub type PropertyWrite = fn(&mut Generator, u8) -> (u8, u32);
+
 pub struct Suite {
     /// As pages and the command line name it: `base`, or the § of document 02.
     pub name: &'static str,
@@ -46,7 +49,7 @@ pub struct Tables {
     /// Properties that document 01 does not have, to be read.
     pub more_properties: &'static [u8],
     /// A write of one of these.
-    pub more_writes: Option<fn(&mut Generator, u8) -> (u8, u32)>,
+    pub more_writes: Option<PropertyWrite>,
     /// Properties that change by themselves.
     pub looks: &'static [u8],
     /// How many of a hundred commands come in tags (§1).

@@ -30,6 +30,8 @@ impl<Chosen: Panel> Bench<Chosen> {
         self.bytes(&format!("{kind:02X} 00 {number:08X} {time:012X} 00 {rest}"))
     }
 
+    // some tests have none
+    #[allow(dead_code)]
     pub fn clock(&mut self, time: u64) {
         assert_eq!(self.bytes(&format!("01 {time:012X}")), Answer::Done);
     }

@@ -47,22 +47,44 @@ pub fn failures(
 pub fn summary(results: &Results) -> String {
     let told = results.told[1..].iter().flatten().count();
     let unseen = ALL.iter().filter(|spoilt| spoilt.unseen.is_some()).count();
+    let sum = results.sum();
     format!(
-        "{} spoilt panels; {} lists of {} suites, {} frames, and as many lists with copies, {} frames: \
+        "{} spoilt panels over {} lists, {} frames, and as many lists with copies, {} frames: \
          {told} told apart; {unseen} that no list can show",
         ALL.len(),
-        results.lists,
-        suites::ALL.len(),
-        results.frames,
-        results.frames_with_copies
+        sum.lists,
+        sum.frames,
+        sum.frames_with_copies
     )
+}
+
+/// What each suite has run.
+fn suites_table(results: &Results) -> String {
+    let mut text = String::from(
+        "| suite | about | lists | frames | with copies | panels that name it |\n|---|---|---|---|---|---|\n",
+    );
+    for (suite, counts) in suites::ALL.iter().zip(&results.counts) {
+        let named = ALL.iter().filter(|spoilt| spoilt.suite == suite.name);
+        text += &format!(
+            "| {} | {} | {} | {} | {} | {} |\n",
+            suite.name,
+            suite.subject,
+            counts.lists,
+            counts.frames,
+            counts.frames_with_copies,
+            named.count()
+        );
+    }
+    let unseen = ALL.iter().filter(|spoilt| spoilt.unseen.is_some()).count();
+    text + &format!("| none | no list can show it | all | all | all | {unseen} |\n")
 }
 
 pub fn page(arguments: &Arguments, results: &Results) -> String {
     let mut text = format!(
         "# Spoilt panels
 
-Made by `tests/target/release/spoilt --frames {} --seed {} --write docs/SPOILT.md`; the gate asks with `--check` that it is what the run gives.
+Made by `tests/target/release/spoilt --frames {} --seed {} --write docs/SPOILT.md`; the gate asks
+with `--check` that it is what the run gives.
 
 `tests/fast`, the panel in plain Rust, is spoilt in one way after another (`tests/spoilt/edits`:
 an old text, a new one, and the sentence of the paper, document 01 or a § of document 02, that it
@@ -76,10 +98,9 @@ A panel that its suite does not tell apart is a failure of the run. So is one th
 apart though its reason says that no list can show it. List i of a suite comes from the run's seed,
 the suite's name and i alone, so a new suite moves no row of an older one.
 
-{}.
-
+{}
 ",
-        arguments.frames, arguments.seed, arguments.frames, arguments.seed, summary(results)
+        arguments.frames, arguments.seed, arguments.frames, arguments.seed, suites_table(results)
     );
     let mut subject = "";
     let mut row = 0;

@@ -8,12 +8,19 @@ use spoilt::table::ALL;
 use crate::arguments::Arguments;
 use crate::trial::{Difference, Expected};
 
-pub struct Results {
-    /// Where each panel was first told apart; 0 is the one with nothing spoilt.
-    pub told: Vec<Option<Difference>>,
+/// The lists of one suite, or of all.
+#[derive(Clone, Copy, Default)]
+pub struct Counts {
     pub lists: u64,
     pub frames: u64,
     pub frames_with_copies: u64,
+}
+
+pub struct Results {
+    /// Where each panel was first told apart; 0 is the one with nothing spoilt.
+    pub told: Vec<Option<Difference>>,
+    /// Suite by suite, in the order of `suites::ALL`.
+    pub counts: Vec<Counts>,
 }
 
 /// A suite runs the panels that name it, and those that no list should show.
@@ -41,9 +48,7 @@ pub fn run(arguments: &Arguments, runs: impl Fn(&Suite, usize) -> bool + Sync) -
     });
     let mut all = Results::none();
     for results in by_suite {
-        all.lists += results.lists;
-        all.frames += results.frames;
-        all.frames_with_copies += results.frames_with_copies;
+        all.counts.extend(results.counts);
         for (first, told) in all.told.iter_mut().zip(results.told) {
             *first = first.take().or(told);
         }
@@ -66,10 +71,18 @@ impl Results {
     fn none() -> Results {
         Results {
             told: (0..=ALL.len()).map(|_| None).collect(),
-            lists: 0,
-            frames: 0,
-            frames_with_copies: 0,
+            counts: Vec::new(),
         }
+    }
+
+    pub fn sum(&self) -> Counts {
+        let mut sum = Counts::default();
+        for counts in &self.counts {
+            sum.lists += counts.lists;
+            sum.frames += counts.frames;
+            sum.frames_with_copies += counts.frames_with_copies;
+        }
+        sum
     }
 }
 
@@ -79,12 +92,13 @@ fn run_suite(
     runs: impl Fn(usize) -> bool,
 ) -> Results {
     let mut results = Results::none();
+    let mut counts = Counts::default();
     // As `compare` takes them, so that these are the lists of the gate.
-    while results.frames * 100 < arguments.frames * suite.share {
+    while counts.frames * 100 < arguments.frames * suite.share {
         let which = Which {
             suite,
             run: arguments.seed,
-            number: results.lists,
+            number: counts.lists,
         };
         let pair = pair(which, None);
         let lists = Expected::of_pair(which, &pair);
@@ -93,9 +107,10 @@ fn run_suite(
                 *told = lists.iter().find_map(|list| list.first_difference(number));
             }
         }
-        results.lists += 1;
-        results.frames += pair.list.frames.len() as u64;
-        results.frames_with_copies += pair.with_copies.frames.len() as u64;
+        counts.lists += 1;
+        counts.frames += pair.list.frames.len() as u64;
+        counts.frames_with_copies += pair.with_copies.frames.len() as u64;
     }
+    results.counts.push(counts);
     results
 }
