@@ -16,7 +16,8 @@ PANELS = FRAMES + 'Rules Stations Copies Panel Judging Executing'.split()
 LISTS = ['answers'] + PANELS
 PANEL = 'answers document01 (freshPanel document01 %d 8) '
 
-# of each crate: the name of a theorem, what is given and said, their module, what unfolds (modules with all their definitions, and names), and a comment
+# of each crate: the name of a theorem, what is given and said, their module, what unfolds (modules with all their
+# definitions, and names), and a comment
 FIGURES = {
     'lighting_levels': [
         ('halves-by-hand', 'halvesGiven', 'halvesSaid', 'WorkedHalves', LEVELS, '§5: REALs halfway between two units'),
@@ -28,6 +29,7 @@ FIGURES = {
         ('relay-by-hand', 'relayGiven', 'relaySaid', 'WorkedRelay', ACTS, '§3: Binary_Present_Value'),
         ('jumps-by-hand', 'jumpsGiven', 'jumpsSaid', 'WorkedJumps', OUTPUTS, '§4: movements under way at far jumps'),
         ('fresh-by-number', 'freshGiven', 'freshSaid', 'WorkedFresh', READS, 'every property of a fresh output'),
+        ('fresh-is-empty', 'emptiedGiven', 'emptiedSaid', 'WorkedFresh', ACTS, 'a fresh slot is as emptying leaves it'),
         ('outside-by-number', 'outsideGiven', 'outsideSaid', 'WorkedOutside', ACTS, 'REALs outside their ranges'),
         ('ends-by-number', 'endsGiven', 'endsSaid', 'WorkedOutside', ACTS, 'REALs at the ends of their ranges'),
     ],
@@ -62,7 +64,7 @@ def definitions(module):
 
 
 def figures_of(crate, figures):
-    lines = ['-- Made by tools/figures.py: bench figures, traps and worked lists of this layer, each computed by the definitions.', 'use mathlib.Core.Path.{_≡_, refl}']
+    lines = ['-- Made by tools/figures.py: figures, traps and worked lists of this layer, computed by the definitions.', 'use mathlib.Core.Path.{_≡_, refl}']
     unfolded = list(dict.fromkeys(one for figure in figures for one in figure[4]))
     for module in dict.fromkeys(NAMES[one] for one in unfolded if one in NAMES):
         names = ', '.join(one for one in unfolded if NAMES.get(one) == module)

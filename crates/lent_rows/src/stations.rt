@@ -1,5 +1,5 @@
-// A station's record as the numbers of a row, and back. After its place: the answer's case 1 and number 2, the last number
-// 3, and the frame's bytes 4 to 34.
+// A station's record as the numbers of a row, and back. After its place: the answer's case 1 and number 2,
+// the last number 3, and the frame's bytes 4 to 34.
 use super::NUMBERS;
 use super::numbers::narrow8;
 use super::numbers::narrow32;

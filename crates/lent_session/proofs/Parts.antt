@@ -1,5 +1,6 @@
--- The panel is lent parts of the tables, up to the smaller of what is asked and the table's length: an operation on the parts is one on the panel of
--- the first n outputs and the first k stations, and the rest stands by.
+-- The panel is lent parts of the tables, up to the smaller of what is asked and the table's length: an
+-- operation on the parts is one on the panel of the first n outputs and the first k stations, and the rest
+-- stands by.
 use mathlib.Core.Path.{_≡_}
 use mathlib.Core.List.{List, _++_}
 use Prim.Native.Nat.{ℕ, _-_, min}

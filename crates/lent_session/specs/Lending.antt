@@ -1,4 +1,5 @@
--- Parts of the tables are lent to the panel: the first so many outputs and the first so many stations. The rest stands by.
+-- Parts of the tables are lent to the panel: the first so many outputs and the first so many stations. The
+-- rest stands by.
 use mathlib.Core.List.{_++_}
 use Prim.Native.Nat.{ℕ}
 use lib.ListN.{take, drop}

@@ -1,5 +1,6 @@
-// Tables made by hand, lent to the panel: rows from standard input set up outputs, stations and the panel time, send frames, and ask for what is
-// left, which is written as rows of the same form. The crate `lent_rows` has the rows. A row's first character is its letter:
+// Tables made by hand, lent to the panel: rows from standard input set up outputs, stations and the panel
+// time, send frames, and ask for what is left, which is written as rows of the same form. The crate
+// `lent_rows` has the rows. A row's first character is its letter:
 //   t N K T    N outputs and K stations are lent from here on, every record fresh, at panel time T
 //   o I ..     the record of output I, 48 numbers
 //   s I ..     the record of station I, 34 numbers
@@ -7,8 +8,9 @@
 //   l          what is left: a row t, and a row for each lent record that is not fresh
 // Any other line is a comment.
 //
-// The contract of `send` gives the panel's part whole. What is read and written no contract can say: the stored text and the comparison of tests/lent
-// look at it, and the functions about it are proved safe and ending.
+// The contract of `send` gives the panel's part whole. What is read and written no contract can say: the
+// stored text and the comparison of tests/lent look at it, and the functions about it are proved safe and
+// ending.
 ghost use mathlib.Core.Path.{_≡_};
 ghost use lib.ListN.{take};
 ghost use Rattle.lighting_panel.specs.Paper.Panel.{panelOf};
@@ -19,7 +21,8 @@ use lighting_frames::Station;
 use lighting_outputs::Answer;
 use lighting_outputs::Output;
 
-// After some of the rows: the row that is being read, how many outputs and stations are lent, the page's mark, and whether more may come.
+// After some of the rows: the row that is being read, how many outputs and stations are lent, the page's
+// mark, and whether more may come.
 struct Turn {
     row: Row,
     outputs: usize,
@@ -285,7 +288,8 @@ fn take_some(
     take_chunk(outputs, stations, time, page, t, &chunk[0..n])
 }
 
-// All of it. A proved loop has to end, and nothing says that the input does: the turns are counted down from a number that no run uses up.
+// All of it. A proved loop has to end, and nothing says that the input does: the turns are counted down
+// from a number that no run uses up.
 fn take_all(
     outputs: &mut [Output],
     stations: &mut [Station],

@@ -1,4 +1,4 @@
--- Made by tools/figures.py: bench figures, traps and worked lists of this layer, each computed by the definitions.
+-- Made by tools/figures.py: figures, traps and worked lists of this layer, computed by the definitions.
 use mathlib.Core.Path.{_≡_, refl}
 use lib.Ieee.{ofBits}
 use Rattle.lighting_levels.specs.Paper.Choice.{if_then_else_, allFrom, every}

@@ -84,15 +84,26 @@ fn output_of(record: &Record, time: u64) -> Output {
             });
         }
     }
-    output.duration = record.timer.map(|(slot, due)| RunningDuration {
-        slot: priority(slot),
-        length: due - time,
-        left: due - time,
+    output.duration = record.timer.map(|(slot, due)| {
+        let mut running = a_duration();
+        running.slot = priority(slot);
+        running.left = due - time;
+        running
     });
     output.last = last_command(&record.last);
     output.burning = record.burning;
     output.active = record.binary;
     output
+}
+
+/// One that the plain panel makes itself: STOP with a duration of 100 ms.
+fn a_duration() -> RunningDuration {
+    let mut output = Output::fresh();
+    let mut stop = [0; 17];
+    stop[0] = frame::STOP;
+    stop[16] = 100;
+    output.command(&stop);
+    output.duration.expect("STOP set it")
 }
 
 fn last_command(last: &Last) -> LastCommand {
@@ -175,7 +186,7 @@ fn put_back(record: &mut Record, output: &Output, time: u64) {
                 }
             };
             Activity::Warned {
-                delay: !warning.is_dark(),
+                delay: warning.gone >= warning.dark_time,
                 owner: warning.slot - 1,
                 level: warning.level,
                 turn,
@@ -219,7 +230,6 @@ pub fn pass(record: &mut Record, from: u64, to: u64) {
         }
         let (slot_6, active) = (output.slot(SLOT_6), output.active);
         output.pass(1);
-        output.met.clear();
         // Slot 6 is set at the turn and at the end.
         let goes_on = output
             .warning
