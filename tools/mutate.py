@@ -1,23 +1,25 @@
 #!/usr/bin/env python3
-"""mutate.py: what if a definition were wrong? Changes the definitions of a crate's specs/, one change at a time, and asks
-the prover about each. A change that leaves every theorem proved is one that nothing guards.
+"""mutate.py: what if a definition were wrong? Changes the definitions of a crate's specs/, one change at a
+time, and asks the prover about each. A change that leaves every theorem proved is one that nothing guards.
 
     mutate.py CRATE [--file PART] [--only REGEX] [--sample N] [--seed S] [--jobs J] [--list]
 
-Each change is tried on copies, in target/mutate: on CRATE, then on each crate of definitions and theorems that rests on
-it (one whose source has no function), until one refuses. `rt dev` checks them over copies of their incremental folders,
-so only what rests on the changed definition is checked again.
+Each change is tried on copies, in target/mutate: on CRATE, then on each crate of definitions and theorems
+that rests on it (one whose source has no function), until one refuses. `rt dev` checks them over copies of
+their incremental folders, so only what rests on the changed definition is checked again.
 
-The changes, all on the right sides of definitions: an operator (`ltb` to `leb`, + to -, `min` to `max`, < to ≤); a number
-to one more and one less; true to false; a field to the next one of its record and type; a condition to its contrary, which
-swaps the branches; one operand of `also` left out; the right side of a clause to that of the next clause.
+The changes, all on the right sides of definitions: an operator (`ltb` to `leb`, + to -, `min` to `max`, <
+to ≤); a number to one more and one less; true to false; a field to the next one of its record and type; a
+condition to its contrary, which swaps the branches; one operand of `also` left out; the right side of a
+clause to that of the next clause.
 
---file: only files whose name has this in it. --only: only changes whose entry (see below) this regular expression finds
-something in. --sample: so many of them, by the seed. --list: prints them and tries none. --jobs: how many at a time (1).
-Worked figures, comments and imports are not changed.
+--file: only files whose name has this in it. --only: only changes whose entry (see below) this regular
+expression finds something in. --sample: so many of them, by the seed. --list: prints them and tries none.
+--jobs: how many at a time (1). Worked figures, comments and imports are not changed.
 
-tools/mutations.txt has the changes that are known to be left: dead by the definitions around them, or out of reach; a
-line each: definition | line | line after the change | reason. Exit status 1 where another one is left."""
+tools/mutations.txt has the changes that are known to be left: dead by the definitions around them, or out
+of reach; a line each: definition | line | line after the change | reason. Exit status 1 where another one
+is left."""
 import argparse
 import concurrent.futures
 import glob
@@ -68,7 +70,7 @@ def tried_on(crate):
 
 
 def records(crate):
-    """For each field the next one of its record that has its type: of the crate and of those that it rests on."""
+    """For each field the next one of its record and type, of the crate and those that it rests on."""
     kind = lambda t: 'ℕ' if re.fullmatch(r'u\d+|usize|ℕ', t) else t
     found, others = [], {}
     for name in [c for c in DEPENDS if c == crate or rests_on(crate, c)]:
@@ -163,7 +165,7 @@ def key(change):
 
 # ---- trying one
 def room(job, crates):
-    """A repository of its own for a job, with copies of the crates that are tried and of what is proved already."""
+    """A repository of its own for a job: copies of the crates, and of what is proved already."""
     where = os.path.join('target', 'mutate', str(job))
     shutil.rmtree(where, ignore_errors=True)
     needed = [c for c in DEPENDS if c in crates or any(rests_on(d, c) for d in crates)]

@@ -1,6 +1,6 @@
-// An output's record as the numbers of a row, and back. After its place: settings 1 to 10, the live slots 11,
-// levels 12 to 27, what is under way 28 to 35, the duration 36 to 38, burning time 39, the last command 40 to
-// 44, the relay 45 to 48.
+// An output's record as the numbers of a row, and back. After its place: settings 1 to 10, the live slots
+// 11, levels 12 to 27, what is under way 28 to 35, the duration 36 to 38, burning time 39, the last command
+// 40 to 44, the relay 45 to 48.
 use super::NUMBERS;
 use super::numbers::narrow8;
 use super::numbers::narrow16;

@@ -1,7 +1,8 @@
 // Tables made by hand, lent to the panel: rows from standard input set up outputs, stations and the panel
 // time, send frames, and ask for what is left, which is written as rows of the same form. The crate
-// `lent_rows` has the rows. A row's first character is its letter: t N K T    N outputs and K stations are
-// lent from here on, every record fresh, at panel time T o I ..     the record of output I, 48 numbers
+// `lent_rows` has the rows. A row's first character is its letter:
+//   t N K T    N outputs and K stations are lent from here on, every record fresh, at panel time T
+//   o I ..     the record of output I, 48 numbers
 //   s I ..     the record of station I, 34 numbers
 //   f ..       the bytes of a frame, which is sent: a line with its answer
 //   l          what is left: a row t, and a row for each lent record that is not fresh
@@ -290,8 +291,8 @@ fn take_some(
     take_chunk(outputs, stations, kept, page, t, &chunk[0..n])
 }
 
-// All of it. A proved loop has to end, and nothing says that the input does: the turns are counted down from
-// a number that no run uses up.
+// All of it. A proved loop has to end, and nothing says that the input does: the turns are counted down
+// from a number that no run uses up.
 fn take_all(
     outputs: &mut [Output],
     stations: &mut [Station],

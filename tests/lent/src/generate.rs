@@ -8,7 +8,7 @@ use crate::record::{Activity, Record, Station, LONGEST_FRAME, NUMBERS};
 use crate::states::{states, NOW};
 use crate::text::{call, clock, Head, Text};
 
-/// The kinds that are sent: 01 to 05 and 10 to 1B.
+/// Every kind, the clock's first.
 const KINDS: [u8; 17] = [
     0x01, 0x02, 0x03, 0x04, 0x05, 0x10, 0x11, 0x12, 0x13, 0x14, 0x15, 0x16, 0x17, 0x18, 0x19, 0x1A,
     0x1B,

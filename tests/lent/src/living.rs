@@ -84,14 +84,26 @@ fn output_of(record: &Record, time: u64) -> Output {
             });
         }
     }
-    output.duration = record.timer.map(|(slot, due)| RunningDuration {
-        slot: priority(slot),
-        left: due - time,
+    output.duration = record.timer.map(|(slot, due)| {
+        let mut running = a_duration();
+        running.slot = priority(slot);
+        running.left = due - time;
+        running
     });
     output.last = last_command(&record.last);
     output.burning = record.burning;
     output.active = record.binary;
     output
+}
+
+/// One that the plain panel makes itself: STOP with a duration of 100 ms.
+fn a_duration() -> RunningDuration {
+    let mut output = Output::fresh();
+    let mut stop = [0; 17];
+    stop[0] = frame::STOP;
+    stop[16] = 100;
+    output.command(&stop);
+    output.duration.expect("STOP set it")
 }
 
 fn last_command(last: &Last) -> LastCommand {
