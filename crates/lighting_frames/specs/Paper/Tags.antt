@@ -167,6 +167,7 @@ wellTagged body =
     also holdsAtMost 10 (bodyFields body .operation)
 
 -- THE OPERATION with the number of tag 0, and what the fields hold
+-- What stands for a missing field decides nothing: an operation that has that field is 15 then (`ownTags`)
 unfoldable pub heldBy : TagField → ℕ
 heldBy (Holds count value) = value
 heldBy Missing = 0

@@ -115,32 +115,38 @@ slotsSaid =
 abbrev half : Slots
 half = filled noSlot 15 3276800
 
-abbrev movingIn : Slots → ℕ → ℕ → ℕ → ℕ → ℕ → Bool
-movingIn slots owner start target length over =
+abbrev movingWith : Settings → Slots → ℕ → ℕ → ℕ → ℕ → ℕ → Bool
+movingWith settings slots owner start target length over =
     keepsJudged
-    (lent fresh slots (Moving (record { owner = owner; start = start; target = target; length = length; over = over; pace = Fade })) Off 0 freshRelay)
+    (lent settings slots (Moving (record { owner = owner; start = start; target = target; length = length; over = over; pace = Fade })) Off 0 freshRelay)
+
+abbrev movingIn : Slots → ℕ → ℕ → ℕ → ℕ → ℕ → Bool
+movingIn slots owner start target length over = movingWith fresh slots owner start target length over
 
 abbrev moving : ℕ → ℕ → ℕ → ℕ → ℕ → Bool
 moving owner start target length over = movingIn half owner start target length over
 
+-- the same with Max at 40 percent, 2,621,440 units, and so with Present_Value there
+abbrev movingBelow : ℕ → ℕ → Bool
+movingBelow start target = movingWith (settingsWith fresh (propertyOf 0x09) 2621440) half 15 start target 1000 1500
+
 abbrev movementsGiven : List (List Bool)
 movementsGiven =
     (moving 15 0 3276800 1000 1500 ∷ [])
-    -- 'belongs to the winner': of slot 15, of slot 16 below slot 15, of no slot, 50 percent being
-    -- Relinquish_Default; and never with slot 6 live
+    -- 'belongs to the winner': of slot 15, which is empty; of slot 15, which wins; of slot 16, which then
+    -- loses; of no slot, 50 percent being Relinquish_Default. And of slot 6, which wins and is a warning's
     ∷ (moving 14 0 3276800 1000 1500
     ∷ movingIn (filled half 14 3276800) 14 0 3276800 1000 1500
     ∷ movingIn (filled half 14 3276800) 15 0 3276800 1000 1500
-    ∷ keepsJudged
-    (lent (settingsWith fresh (propertyOf 0x01) 3276800) noSlot (Moving (record { owner = 16; start = 0; target = 3276800; length = 1000; over = 1500; pace = Fade })) Off 0 freshRelay)
+    ∷ movingWith (settingsWith fresh (propertyOf 0x01) 3276800) noSlot 16 0 3276800 1000 1500
     ∷ movingIn (filled half 5 3276800) 5 0 3276800 1000 1500
     ∷ [])
     -- 'starts from 0 to Max', 'aims at Present_Value'
-    ∷ (moving 15 6553600 3276800 1000 1500 ∷ moving 15 6553601 3276800 1000 1500 ∷ [])
-    ∷ (moving 15 0 3276799 1000 1500 ∷ moving 15 0 3276801 1000 1500 ∷ [])
+    ∷ (moving 15 6553600 3276800 1000 1500 ∷ moving 15 6553601 3276800 1000 1500 ∷ movingBelow 2621440 2621440 ∷ movingBelow 2621441 2621440 ∷ [])
+    ∷ (moving 15 0 3276799 1000 1500 ∷ moving 15 0 3276801 1000 1500 ∷ movingBelow 0 2621440 ∷ movingBelow 0 3276800 ∷ [])
     -- 'every due moment is after panel time', 'began no later than panel time'
     ∷ (moving 15 0 3276800 1000 1000 ∷ moving 15 0 3276800 1000 1001 ∷ moving 15 0 3276800 1000 2000 ∷ moving 15 0 3276800 1000 2001 ∷ [])
-    -- 'lasts 1 to 86,400,000 ms'; of 0 ms no end is after panel time
+    -- 'lasts 1 to 86,400,000 ms'; one of 0 ms cannot have begun and not be over
     ∷ (moving 15 0 3276800 0 1000 ∷ moving 15 0 3276800 0 1001 ∷ moving 15 0 3276800 1 1001 ∷ moving 15 0 3276800 86400000 1500 ∷ moving 15 0 3276800 86400001 1500 ∷ [])
     ∷ []
 
@@ -148,8 +154,8 @@ abbrev movementsSaid : List (List Bool)
 movementsSaid =
     (true ∷ [])
     ∷ (false ∷ true ∷ false ∷ false ∷ false ∷ [])
-    ∷ (true ∷ false ∷ [])
-    ∷ (false ∷ false ∷ [])
+    ∷ (true ∷ false ∷ true ∷ false ∷ [])
+    ∷ (false ∷ false ∷ true ∷ false ∷ [])
     ∷ (false ∷ true ∷ true ∷ false ∷ [])
     ∷ (false ∷ false ∷ true ∷ true ∷ false ∷ [])
     ∷ []
