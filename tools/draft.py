@@ -126,7 +126,8 @@ class Crate:
             for used, names in re.findall(r'ghost use (\S+)\.\{([^}]*)\};', source):
                 for one in names.split(','):
                     self.where.setdefault(here, {})[one.strip()] = used
-        # the definition that a function equals; and, of a function that says several things, that its first is asked for
+        # the definition that a function equals; and, of a function that says several things, that its first
+        # is asked for
         self.bodies, self.several, self.functions = {}, set(), {(name, function) for _, function, _, _ in heads(name)}
         for here, function, clauses, body in heads(name):
             equation = re.match(r'\w+ ≡ (\w+)', clauses[0]) if len(clauses) == 1 else None
@@ -336,7 +337,8 @@ def made(crate, path, needs, answers):
         lines.append('use borrow.Author.Needs.{needs}')
     lines.append('use Rattle.%s.proofs.%s.Statement.{statement}' % (crate.name, dotted))
     lines.append('use Rattle.%s.proofs.%s.Tie as tie' % (crate.name, dotted))
-    # laws of people's stand before the answer that follows them; an answer that names another need stands after that one's
+    # laws of people's stand before the answer that follows them; an answer that names another need stands
+    # after that one's
     text, laws, told = [], [i for i, b in enumerate(blocks) if b.name is None], set()
 
     def tell_laws(below):

@@ -16,7 +16,8 @@ PANELS = FRAMES + 'Rules Stations Copies Panel Judging Executing'.split()
 LISTS = ['answers'] + PANELS
 PANEL = 'answers document01 (freshPanel document01 %d 8) '
 
-# of each crate: the name of a theorem, what is given and said, their module, what unfolds (modules with all their
+# of each crate: the name of a theorem, what is given and said, their module, what unfolds (modules with all
+# their
 # definitions, and names), and a comment
 FIGURES = {
     'lighting_levels': [

@@ -20,7 +20,8 @@ PROCESSORS = {
 }
 FADE, RAMP = 0, 1
 PERCENT = 65536
-# what, then start, target, length, pace and rate of a movement, and how many of its milliseconds are gone; by hand, the level then, and how many of the next 100
+# what, then start, target, length, pace and rate of a movement, and how many of its milliseconds are gone; by
+# hand, the level then, and how many of the next 100
 # milliseconds are lit
 MOVEMENTS = [
     ('fade, 0 to 50 percent', 0, 50 * PERCENT, 1000, FADE, 0, 333, 1091174, 100),
@@ -31,7 +32,8 @@ MOVEMENTS = [
 ]
 NAMES = 'START TARGET LENGTH PACE RATE GONE'.split()
 
-# Without a C library: the program calls one function once and ends, in an endless loop if what came is not what was reckoned by hand. Panel time is past 2^40, so
+# Without a C library: the program calls one function once and ends, in an endless loop if what came is not
+# what was reckoned by hand. Panel time is past 2^40, so
 # that no half of it is 0
 PROGRAM = r'''
 typedef unsigned int u32;

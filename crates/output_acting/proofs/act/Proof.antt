@@ -1,17 +1,9 @@
+-- Made by tools/draft.py from the answers.txt beside it: edit that file.
 use Rattle.lighting_outputs.proofs.Laws.{acted-on}
 use Rattle.lighting_outputs.specs.Paper.Acting.{acted}
 use borrow.Author.Needs.{needs}
 use Rattle.output_acting.proofs.act.Statement.{statement}
 use Rattle.output_acting.proofs.act.Tie as tie
-use Rattle.output_acting.proofs.act.Reads as reads
-use Rattle.output_acting.proofs.act.Lts as lts
-use Rattle.output_acting.proofs.change.Reads as change-reads
-use Rattle.output_acting.proofs.unchanged.Reads as unchanged-reads
-use Rattle.output_acting.proofs.done.Reads as done-reads
-use Rattle.command_effect.proofs.command.Reads as command-reads
-use Rattle.property_read.proofs.read_property.Reads as read-property-reads
-use Rattle.output_writing.proofs.relinquish_slot.Reads as relinquish-slot-reads
-use Rattle.output_writing.proofs.write.Reads as write-reads
 
 enum-known-q : tie.Need-enum-known-q
 enum-known-q c = search needs

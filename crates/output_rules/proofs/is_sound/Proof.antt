@@ -24,19 +24,29 @@ slots-sound-requires : tie.Need-slots-sound-requires
 slots-sound-requires c κs = search needs
 
 returns : tie.Need-returns
-returns c = search (needs, ifs, in-order) depth 9
+returns c =
+    let relay = c .before .before .before .before .before .before .before .before .relay-sound .ensures (c .before .before .before .before .before .before .before .before .before .before .before .before .before .before .before .args .parameters) in
+    search (needs, ifs, in-order) depth 9
 
 returns-2 : tie.Need-returns-2
-returns-2 c = search (needs, ifs, in-order) depth 9
+returns-2 c =
+    let relay = c .before .before .before .before .before .before .before .relay-sound .ensures (c .before .before .before .before .before .before .before .before .before .before .before .before .before .before .args .parameters) in
+    search (needs, ifs, in-order) depth 9
 
 returns-3 : tie.Need-returns-3
-returns-3 c = search (needs, ifs, in-order) depth 9
+returns-3 c =
+    let relay = c .before .before .before .before .before .relay-sound .ensures (c .before .before .before .before .before .before .before .before .before .before .before .before .args .parameters) in
+    search (needs, ifs, in-order) depth 9
 
 returns-4 : tie.Need-returns-4
-returns-4 c = search (needs, ifs, in-order) depth 9
+returns-4 c =
+    let relay = c .before .before .before .relay-sound .ensures (c .before .before .before .before .before .before .before .before .before .before .args .parameters) in
+    search (needs, ifs, in-order) depth 9
 
 returns-5 : tie.Need-returns-5
-returns-5 c = search (needs, ifs, in-order) depth 9
+returns-5 c =
+    let relay = c .before .relay-sound .ensures (c .before .before .before .before .before .before .before .before .args .parameters) in
+    search (needs, ifs, in-order) depth 9
 
 returns-6 : tie.Need-returns-6
 returns-6 c = search (needs, settings-first)

@@ -1,19 +1,16 @@
+-- Made by tools/draft.py from the answers.txt beside it: edit that file.
 use mathlib.Core.Path.{_≡_, refl, sym, _∙_}
 use Prim.Native.Nat.{_-_, _<_}
 use native.Mathlib.Omega.{arith}
 use lib.Bits.{and-le-l, and-le-r}
 use lib.Count.{trailing-le}
 use lib.ListN.{getD}
-use borrow.Author.Needs.{needs}
 use borrow.Author.Tests.{not-true, not-false}
 use Rattle.lighting_outputs.specs.Paper.Rules.{slotsSound}
 use Rattle.output_rules.proofs.LiveSlots.{slotsWith, low-within, low-done, low-broken, none-live}
+use borrow.Author.Needs.{needs}
 use Rattle.output_rules.proofs.live_sound.Statement.{statement}
 use Rattle.output_rules.proofs.live_sound.Tie as tie
-use Rattle.output_rules.proofs.live_sound.Reads as reads
-use Rattle.output_rules.proofs.live_sound.Lts as lts
-use Rattle.number_ranges.proofs.is_level.Reads as is-level-reads
-use Rattle.number_ranges.proofs.wide_index.Reads as wide-index-reads
 
 abbrev Inv-loop : tie.InvT-loop
 Inv-loop levels left₀ left =

@@ -1,14 +1,10 @@
+-- Made by tools/draft.py from the answers.txt beside it: edit that file.
 use mathlib.Core.Path.{sym, ap, _∙_}
 use Rattle.lighting_outputs.proofs.Priorities.Mask.{slot-live, slot-dead}
 use Rattle.lighting_outputs.specs.Paper.Properties.{levelAnswer, levelOrAbsent, slotAnswer}
 use borrow.Author.Needs.{needs}
 use Rattle.property_read.proofs.slot_answer.Statement.{statement}
 use Rattle.property_read.proofs.slot_answer.Tie as tie
-use Rattle.property_read.proofs.slot_answer.Reads as reads
-use Rattle.property_read.proofs.slot_answer.Lts as lts
-use Rattle.property_read.proofs.level_answer.Reads as level-answer-reads
-use Rattle.output_slots.proofs.is_live.Reads as is-live-reads
-use Rattle.output_slots.proofs.level_at.Reads as level-at-reads
 
 is-live-requires : tie.Need-is-live-requires
 is-live-requires c κs = search needs
@@ -36,4 +32,10 @@ returns-2 c =
 
 pub slot-answer-spec : {M : Type 1} → statement M
 slot-answer-spec =
-    tie.close (tie.spec is-live-requires level-at-requires level-answer-requires returns returns-2)
+    tie.close
+    (tie.spec
+    is-live-requires
+    level-at-requires
+    level-answer-requires
+    returns
+    returns-2)

@@ -1,21 +1,14 @@
+-- Made by tools/draft.py from the answers.txt beside it: edit that file.
 use mathlib.Core.Path.{_≡_}
 use mathlib.Core.Bool.{true}
 use Rattle.lighting_outputs.specs.Paper.Rows.{isPriority}
 use Rattle.property_write.proofs.Priorities.{priority-range}
-use Rattle.lighting_levels.proofs.Choosing.{ifs}
 use Rattle.lighting_outputs.proofs.Laws.{changeBy-on}
 use Rattle.lighting_outputs.specs.Paper.Properties.{changeBy}
+use Rattle.lighting_levels.proofs.Choosing.{ifs}
 use borrow.Author.Needs.{needs}
 use Rattle.property_write.proofs.values.change_by.Statement.{statement}
 use Rattle.property_write.proofs.values.change_by.Tie as tie
-use Rattle.property_write.proofs.values.change_by.Reads as reads
-use Rattle.property_write.proofs.values.change_by.Lts as lts
-use Rattle.number_level.proofs.level_of.Reads as level-of-reads
-use Rattle.number_level.proofs.limit_of.Reads as limit-of-reads
-use Rattle.property_write.proofs.values.change_to.Reads as change-to-reads
-use Rattle.number_ranges.proofs.is_priority.Reads as is-priority-reads
-use Rattle.number_ranges.proofs.is_within.Reads as is-within-reads
-use Rattle.number_ranges.proofs.rows.is_amount_pattern.Reads as is-amount-pattern-reads
 
 enum-told : tie.Need-enum-told
 enum-told c = search needs
