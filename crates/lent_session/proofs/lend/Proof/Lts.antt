@@ -2,8 +2,9 @@
 use Prim.Native.Nat
 use Rattle.lent_session.proofs.Turn
 use Rattle.lent_session.proofs.Turn.Laws
-use Rattle.lighting_outputs.proofs.Lent.OfOutput as OfOutput
 use Rattle.lighting_frames.proofs.Lent.OfStation as OfStation
+use Rattle.lighting_outputs.proofs.Lent.OfOutput as OfOutput
+use Rattle.lighting_panel.proofs.Lent.OfPanelRecord as OfPanelRecord
 use borrow.Author.Called
 use borrow.Fn.Any
 use borrow.Fn.Call
@@ -49,19 +50,19 @@ use prog.Wp
 use types.Kit
 
 abbrev pub ps : List.List (Kinds.PK 5)
-ps = List._∷_ (MutSlice.pMutS (OfOutput.row) 0 tt) (List._∷_ (MutSlice.pMutS (OfStation.row) 1 tt) (List._∷_ (Kinds.pMutF (Referent.fInt Syntax.w64) 2 tt) (List._∷_ (MutSlice.pMutS (Referent.rtF (Referent.fInt Syntax.w8)) 3 tt) (List._∷_ (MutSlice.pMutS (Referent.rtF (Referent.fInt Syntax.w8)) 4 tt) List.[]))))
+ps = List._∷_ (MutSlice.pMutS (OfOutput.row) 0 tt) (List._∷_ (MutSlice.pMutS (OfStation.row) 1 tt) (List._∷_ (Kinds.pMut (OfPanelRecord.row) 2 tt) (List._∷_ (MutSlice.pMutS (Referent.rtF (Referent.fInt Syntax.w8)) 3 tt) (List._∷_ (MutSlice.pMutS (Referent.rtF (Referent.fInt Syntax.w8)) 4 tt) List.[]))))
 
 abbrev pub r : Kinds.RK 5
 r = Unit'.rUnit
 
 abbrev pub xs : List.List Syntax.Ty
-xs = List._∷_ (Laws.mir) (List._∷_ (Syntax.tyRef Syntax.erased Syntax.mut OfOutput.named) (List._∷_ (Syntax.tyStruct (List._∷_ 38 (List._∷_ 91 (List._∷_ 93 List.[]))) (Syntax.tcons (Syntax.tyRef Syntax.erased Syntax.mut OfOutput.named) (Syntax.tcons (Syntax.tyInt Syntax.w64) Syntax.tnil))) (List._∷_ (Syntax.tyRef Syntax.erased Syntax.mut OfStation.named) (List._∷_ (Syntax.tyStruct (List._∷_ 38 (List._∷_ 91 (List._∷_ 93 List.[]))) (Syntax.tcons (Syntax.tyRef Syntax.erased Syntax.mut OfStation.named) (Syntax.tcons (Syntax.tyInt Syntax.w64) Syntax.tnil))) (List._∷_ (Syntax.tyRef Syntax.erased Syntax.mut (Syntax.tyInt Syntax.w64)) (List._∷_ (Syntax.tyRef Syntax.erased Syntax.mut (Syntax.tyInt Syntax.w8)) (List._∷_ (Syntax.tyStruct (List._∷_ 38 (List._∷_ 91 (List._∷_ 93 List.[]))) (Syntax.tcons (Syntax.tyRef Syntax.erased Syntax.mut (Syntax.tyInt Syntax.w8)) (Syntax.tcons (Syntax.tyInt Syntax.w64) Syntax.tnil))) (List._∷_ (Syntax.tyRef Syntax.erased Syntax.mut (Syntax.tyInt Syntax.w8)) (List._∷_ (Syntax.tyStruct (List._∷_ 38 (List._∷_ 91 (List._∷_ 93 List.[]))) (Syntax.tcons (Syntax.tyRef Syntax.erased Syntax.mut (Syntax.tyInt Syntax.w8)) (Syntax.tcons (Syntax.tyInt Syntax.w64) Syntax.tnil))) (List._∷_ Syntax.tyUnit (List._∷_ (Syntax.tyRef Syntax.erased Syntax.imm (Syntax.tyInt Syntax.w8)) (List._∷_ (Syntax.tyStruct (List._∷_ 38 (List._∷_ 91 (List._∷_ 93 List.[]))) (Syntax.tcons (Syntax.tyRef Syntax.erased Syntax.imm (Syntax.tyInt Syntax.w8)) (Syntax.tcons (Syntax.tyInt Syntax.w64) Syntax.tnil))) List.[]))))))))))))
+xs = List._∷_ (Laws.mir) (List._∷_ (Syntax.tyRef Syntax.erased Syntax.mut OfOutput.named) (List._∷_ (Syntax.tyStruct (List._∷_ 38 (List._∷_ 91 (List._∷_ 93 List.[]))) (Syntax.tcons (Syntax.tyRef Syntax.erased Syntax.mut OfOutput.named) (Syntax.tcons (Syntax.tyInt Syntax.w64) Syntax.tnil))) (List._∷_ (Syntax.tyRef Syntax.erased Syntax.mut OfStation.named) (List._∷_ (Syntax.tyStruct (List._∷_ 38 (List._∷_ 91 (List._∷_ 93 List.[]))) (Syntax.tcons (Syntax.tyRef Syntax.erased Syntax.mut OfStation.named) (Syntax.tcons (Syntax.tyInt Syntax.w64) Syntax.tnil))) (List._∷_ (Syntax.tyRef Syntax.erased Syntax.mut OfPanelRecord.named) (List._∷_ (Syntax.tyRef Syntax.erased Syntax.mut (Syntax.tyInt Syntax.w8)) (List._∷_ (Syntax.tyStruct (List._∷_ 38 (List._∷_ 91 (List._∷_ 93 List.[]))) (Syntax.tcons (Syntax.tyRef Syntax.erased Syntax.mut (Syntax.tyInt Syntax.w8)) (Syntax.tcons (Syntax.tyInt Syntax.w64) Syntax.tnil))) (List._∷_ (Syntax.tyRef Syntax.erased Syntax.mut (Syntax.tyInt Syntax.w8)) (List._∷_ (Syntax.tyStruct (List._∷_ 38 (List._∷_ 91 (List._∷_ 93 List.[]))) (Syntax.tcons (Syntax.tyRef Syntax.erased Syntax.mut (Syntax.tyInt Syntax.w8)) (Syntax.tcons (Syntax.tyInt Syntax.w64) Syntax.tnil))) (List._∷_ Syntax.tyUnit (List._∷_ (Syntax.tyRef Syntax.erased Syntax.imm (Syntax.tyInt Syntax.w8)) (List._∷_ (Syntax.tyStruct (List._∷_ 38 (List._∷_ 91 (List._∷_ 93 List.[]))) (Syntax.tcons (Syntax.tyRef Syntax.erased Syntax.imm (Syntax.tyInt Syntax.w8)) (Syntax.tcons (Syntax.tyInt Syntax.w64) Syntax.tnil))) List.[]))))))))))))
 
 abbrev pub m : Nat.ℕ
 m = 6
 
 abbrev pub ps·0 : List.List (Kinds.PK 5)
-ps·0 = List._∷_ (MutSlice.pMutS (OfOutput.row) 0 tt) (List._∷_ (MutSlice.pMutS (OfStation.row) 1 tt) (List._∷_ (Kinds.pMutF (Referent.fInt Syntax.w64) 2 tt) (List._∷_ (MutSlice.pMutS (Referent.rtF (Referent.fInt Syntax.w8)) 3 tt) (List._∷_ (MutSlice.pMutS (Referent.rtF (Referent.fInt Syntax.w8)) 4 tt) List.[]))))
+ps·0 = List._∷_ (MutSlice.pMutS (OfOutput.row) 0 tt) (List._∷_ (MutSlice.pMutS (OfStation.row) 1 tt) (List._∷_ (Kinds.pMut (OfPanelRecord.row) 2 tt) (List._∷_ (MutSlice.pMutS (Referent.rtF (Referent.fInt Syntax.w8)) 3 tt) (List._∷_ (MutSlice.pMutS (Referent.rtF (Referent.fInt Syntax.w8)) 4 tt) List.[]))))
 
 abbrev pub r·0 : Kinds.RK 5
 r·0 = Value.rVal record { ty = Declared.row Turn.the-type; one = Path'.refl; val = Laws'.val Turn.the-type Laws.the-laws; tells = Laws'.tells Turn.the-type Laws.the-laws; still = Laws'.still Turn.the-type Laws.the-copy Exit.yes; row = Rows.whole (Declared.row Turn.the-type); rd = λ x. x; mk = λ x. x } λ M 𝓤 H A W. record { copies = Laws'.copy Turn.the-type Laws.the-copy 𝓤 H A W; lawful = Laws'.lawful Turn.the-type Laws.the-laws 𝓤 H A W; makes = Laws'.makes Turn.the-type Laws.the-plain 𝓤 H A; in-mem = Local.mem-whole 𝓤 H A W (Declared.row Turn.the-type); of-mem = Local.whole-mem 𝓤 H A W (Declared.row Turn.the-type) }
@@ -88,7 +89,7 @@ abbrev b3 : Syntax.Body
 b3 = Syntax.assign (Syntax.place 10 List.[]) (Syntax.aggregate (List._∷_ (Syntax.copy (Syntax.place 9 List.[])) (List._∷_ (Syntax.copy (Syntax.place 2 (List._∷_ (Syntax.field 1) List.[]))) List.[])))
 
 abbrev b4 : Syntax.Body
-b4 = Syntax.assign (Syntax.place 11 List.[]) (Syntax.addrOf (Syntax.place 3 (List._∷_ (Syntax.deref (Syntax.tyInt Syntax.w64)) List.[])))
+b4 = Syntax.assign (Syntax.place 11 List.[]) (Syntax.addrOf (Syntax.place 3 (List._∷_ (Syntax.deref OfPanelRecord.spelt) List.[])))
 
 abbrev b5 : Syntax.Body
 b5 = Syntax.assign (Syntax.place 12 List.[]) (Syntax.addrOf (Syntax.place 4 (List._∷_ (Syntax.field 0) (List._∷_ (Syntax.deref (Syntax.tyInt Syntax.w8)) List.[]))))
@@ -169,61 +170,61 @@ abbrev pub Claims : Type 1
 Claims = Kinds.In 5 ps·0 × Kinds.Out 5 ps·0 r·0 × Kinds.In 1 ps·1 × Kinds.Out 1 ps·1 r·1
 
 abbrev pub t0 : List.List Row.Entry
-t0 = List._∷_ (0, Rows.any-gone Syntax.tyUnit) (List._∷_ (1, Mut.mslice (OfOutput.row) (Syntax.tyRef (Syntax.named 0) Syntax.mut OfOutput.named) 0) (List._∷_ (2, Mut.mslice (OfStation.row) (Syntax.tyRef (Syntax.named 1) Syntax.mut OfStation.named) 1) (List._∷_ (3, Rows.mref (Referent.rtF (Referent.fInt Syntax.w64)) (Syntax.tyRef (Syntax.named 2) Syntax.mut (Syntax.tyInt Syntax.w64)) 2) (List._∷_ (4, Mut.mslice (Referent.rtF (Referent.fInt Syntax.w8)) (Syntax.tyRef (Syntax.named 3) Syntax.mut (Syntax.tyInt Syntax.w8)) 3) (List._∷_ (5, Mut.mslice (Referent.rtF (Referent.fInt Syntax.w8)) (Syntax.tyRef (Syntax.named 4) Syntax.mut (Syntax.tyInt Syntax.w8)) 4) (List._∷_ (6, Rows.any-gone (Laws.mir)) (List._∷_ (7, Rows.any-gone (Syntax.tyRef Syntax.erased Syntax.mut OfOutput.named)) (List._∷_ (8, Rows.any-gone (Syntax.tyStruct (List._∷_ 38 (List._∷_ 91 (List._∷_ 93 List.[]))) (Syntax.tcons (Syntax.tyRef Syntax.erased Syntax.mut OfOutput.named) (Syntax.tcons (Syntax.tyInt Syntax.w64) Syntax.tnil)))) (List._∷_ (9, Rows.any-gone (Syntax.tyRef Syntax.erased Syntax.mut OfStation.named)) (List._∷_ (10, Rows.any-gone (Syntax.tyStruct (List._∷_ 38 (List._∷_ 91 (List._∷_ 93 List.[]))) (Syntax.tcons (Syntax.tyRef Syntax.erased Syntax.mut OfStation.named) (Syntax.tcons (Syntax.tyInt Syntax.w64) Syntax.tnil)))) (List._∷_ (11, Rows.any-gone (Syntax.tyRef Syntax.erased Syntax.mut (Syntax.tyInt Syntax.w64))) (List._∷_ (12, Rows.any-gone (Syntax.tyRef Syntax.erased Syntax.mut (Syntax.tyInt Syntax.w8))) (List._∷_ (13, Rows.any-gone (Syntax.tyStruct (List._∷_ 38 (List._∷_ 91 (List._∷_ 93 List.[]))) (Syntax.tcons (Syntax.tyRef Syntax.erased Syntax.mut (Syntax.tyInt Syntax.w8)) (Syntax.tcons (Syntax.tyInt Syntax.w64) Syntax.tnil)))) (List._∷_ (14, Rows.any-gone (Syntax.tyRef Syntax.erased Syntax.mut (Syntax.tyInt Syntax.w8))) (List._∷_ (15, Rows.any-gone (Syntax.tyStruct (List._∷_ 38 (List._∷_ 91 (List._∷_ 93 List.[]))) (Syntax.tcons (Syntax.tyRef Syntax.erased Syntax.mut (Syntax.tyInt Syntax.w8)) (Syntax.tcons (Syntax.tyInt Syntax.w64) Syntax.tnil)))) List.[])))))))))))))))
+t0 = List._∷_ (0, Rows.any-gone Syntax.tyUnit) (List._∷_ (1, Mut.mslice (OfOutput.row) (Syntax.tyRef (Syntax.named 0) Syntax.mut OfOutput.named) 0) (List._∷_ (2, Mut.mslice (OfStation.row) (Syntax.tyRef (Syntax.named 1) Syntax.mut OfStation.named) 1) (List._∷_ (3, Rows.mref (OfPanelRecord.row) (Syntax.tyRef (Syntax.named 2) Syntax.mut OfPanelRecord.named) 2) (List._∷_ (4, Mut.mslice (Referent.rtF (Referent.fInt Syntax.w8)) (Syntax.tyRef (Syntax.named 3) Syntax.mut (Syntax.tyInt Syntax.w8)) 3) (List._∷_ (5, Mut.mslice (Referent.rtF (Referent.fInt Syntax.w8)) (Syntax.tyRef (Syntax.named 4) Syntax.mut (Syntax.tyInt Syntax.w8)) 4) (List._∷_ (6, Rows.any-gone (Laws.mir)) (List._∷_ (7, Rows.any-gone (Syntax.tyRef Syntax.erased Syntax.mut OfOutput.named)) (List._∷_ (8, Rows.any-gone (Syntax.tyStruct (List._∷_ 38 (List._∷_ 91 (List._∷_ 93 List.[]))) (Syntax.tcons (Syntax.tyRef Syntax.erased Syntax.mut OfOutput.named) (Syntax.tcons (Syntax.tyInt Syntax.w64) Syntax.tnil)))) (List._∷_ (9, Rows.any-gone (Syntax.tyRef Syntax.erased Syntax.mut OfStation.named)) (List._∷_ (10, Rows.any-gone (Syntax.tyStruct (List._∷_ 38 (List._∷_ 91 (List._∷_ 93 List.[]))) (Syntax.tcons (Syntax.tyRef Syntax.erased Syntax.mut OfStation.named) (Syntax.tcons (Syntax.tyInt Syntax.w64) Syntax.tnil)))) (List._∷_ (11, Rows.any-gone (Syntax.tyRef Syntax.erased Syntax.mut OfPanelRecord.named)) (List._∷_ (12, Rows.any-gone (Syntax.tyRef Syntax.erased Syntax.mut (Syntax.tyInt Syntax.w8))) (List._∷_ (13, Rows.any-gone (Syntax.tyStruct (List._∷_ 38 (List._∷_ 91 (List._∷_ 93 List.[]))) (Syntax.tcons (Syntax.tyRef Syntax.erased Syntax.mut (Syntax.tyInt Syntax.w8)) (Syntax.tcons (Syntax.tyInt Syntax.w64) Syntax.tnil)))) (List._∷_ (14, Rows.any-gone (Syntax.tyRef Syntax.erased Syntax.mut (Syntax.tyInt Syntax.w8))) (List._∷_ (15, Rows.any-gone (Syntax.tyStruct (List._∷_ 38 (List._∷_ 91 (List._∷_ 93 List.[]))) (Syntax.tcons (Syntax.tyRef Syntax.erased Syntax.mut (Syntax.tyInt Syntax.w8)) (Syntax.tcons (Syntax.tyInt Syntax.w64) Syntax.tnil)))) List.[])))))))))))))))
 
 abbrev pub t1 : List.List Row.Entry
 t1 = List._∷_ (16, Rows.any-gone Syntax.tyUnit) (List._∷_ (17, Rows.any-gone (Syntax.tyRef Syntax.erased Syntax.imm (Syntax.tyInt Syntax.w8))) (List._∷_ (18, Rows.any-gone (Syntax.tyStruct (List._∷_ 38 (List._∷_ 91 (List._∷_ 93 List.[]))) (Syntax.tcons (Syntax.tyRef Syntax.erased Syntax.imm (Syntax.tyInt Syntax.w8)) (Syntax.tcons (Syntax.tyInt Syntax.w64) Syntax.tnil)))) List.[]))
 
 abbrev pub t2 : List.List Row.Entry
-t2 = List._∷_ (0, Rows.sc-here Row.sUnit) (List._∷_ (1, Mut.mslice (OfOutput.row) (Syntax.tyRef (Syntax.named 0) Syntax.mut OfOutput.named) 0) (List._∷_ (2, Mut.mslice (OfStation.row) (Syntax.tyRef (Syntax.named 1) Syntax.mut OfStation.named) 1) (List._∷_ (3, Rows.mref (Referent.rtF (Referent.fInt Syntax.w64)) (Syntax.tyRef (Syntax.named 2) Syntax.mut (Syntax.tyInt Syntax.w64)) 2) (List._∷_ (4, Mut.mslice (Referent.rtF (Referent.fInt Syntax.w8)) (Syntax.tyRef (Syntax.named 3) Syntax.mut (Syntax.tyInt Syntax.w8)) 3) (List._∷_ (5, Mut.mslice (Referent.rtF (Referent.fInt Syntax.w8)) (Syntax.tyRef (Syntax.named 4) Syntax.mut (Syntax.tyInt Syntax.w8)) 4) (List._∷_ (6, Rows.any-gone (Laws.mir)) (List._∷_ (7, Rows.any-gone (Syntax.tyRef Syntax.erased Syntax.mut OfOutput.named)) (List._∷_ (8, Rows.any-gone (Syntax.tyStruct (List._∷_ 38 (List._∷_ 91 (List._∷_ 93 List.[]))) (Syntax.tcons (Syntax.tyRef Syntax.erased Syntax.mut OfOutput.named) (Syntax.tcons (Syntax.tyInt Syntax.w64) Syntax.tnil)))) (List._∷_ (9, Rows.any-gone (Syntax.tyRef Syntax.erased Syntax.mut OfStation.named)) (List._∷_ (10, Rows.any-gone (Syntax.tyStruct (List._∷_ 38 (List._∷_ 91 (List._∷_ 93 List.[]))) (Syntax.tcons (Syntax.tyRef Syntax.erased Syntax.mut OfStation.named) (Syntax.tcons (Syntax.tyInt Syntax.w64) Syntax.tnil)))) (List._∷_ (11, Rows.any-gone (Syntax.tyRef Syntax.erased Syntax.mut (Syntax.tyInt Syntax.w64))) (List._∷_ (12, Rows.any-gone (Syntax.tyRef Syntax.erased Syntax.mut (Syntax.tyInt Syntax.w8))) (List._∷_ (13, Rows.any-gone (Syntax.tyStruct (List._∷_ 38 (List._∷_ 91 (List._∷_ 93 List.[]))) (Syntax.tcons (Syntax.tyRef Syntax.erased Syntax.mut (Syntax.tyInt Syntax.w8)) (Syntax.tcons (Syntax.tyInt Syntax.w64) Syntax.tnil)))) (List._∷_ (14, Rows.any-gone (Syntax.tyRef Syntax.erased Syntax.mut (Syntax.tyInt Syntax.w8))) (List._∷_ (15, Rows.any-gone (Syntax.tyStruct (List._∷_ 38 (List._∷_ 91 (List._∷_ 93 List.[]))) (Syntax.tcons (Syntax.tyRef Syntax.erased Syntax.mut (Syntax.tyInt Syntax.w8)) (Syntax.tcons (Syntax.tyInt Syntax.w64) Syntax.tnil)))) List.[])))))))))))))))
+t2 = List._∷_ (0, Rows.sc-here Row.sUnit) (List._∷_ (1, Mut.mslice (OfOutput.row) (Syntax.tyRef (Syntax.named 0) Syntax.mut OfOutput.named) 0) (List._∷_ (2, Mut.mslice (OfStation.row) (Syntax.tyRef (Syntax.named 1) Syntax.mut OfStation.named) 1) (List._∷_ (3, Rows.mref (OfPanelRecord.row) (Syntax.tyRef (Syntax.named 2) Syntax.mut OfPanelRecord.named) 2) (List._∷_ (4, Mut.mslice (Referent.rtF (Referent.fInt Syntax.w8)) (Syntax.tyRef (Syntax.named 3) Syntax.mut (Syntax.tyInt Syntax.w8)) 3) (List._∷_ (5, Mut.mslice (Referent.rtF (Referent.fInt Syntax.w8)) (Syntax.tyRef (Syntax.named 4) Syntax.mut (Syntax.tyInt Syntax.w8)) 4) (List._∷_ (6, Rows.any-gone (Laws.mir)) (List._∷_ (7, Rows.any-gone (Syntax.tyRef Syntax.erased Syntax.mut OfOutput.named)) (List._∷_ (8, Rows.any-gone (Syntax.tyStruct (List._∷_ 38 (List._∷_ 91 (List._∷_ 93 List.[]))) (Syntax.tcons (Syntax.tyRef Syntax.erased Syntax.mut OfOutput.named) (Syntax.tcons (Syntax.tyInt Syntax.w64) Syntax.tnil)))) (List._∷_ (9, Rows.any-gone (Syntax.tyRef Syntax.erased Syntax.mut OfStation.named)) (List._∷_ (10, Rows.any-gone (Syntax.tyStruct (List._∷_ 38 (List._∷_ 91 (List._∷_ 93 List.[]))) (Syntax.tcons (Syntax.tyRef Syntax.erased Syntax.mut OfStation.named) (Syntax.tcons (Syntax.tyInt Syntax.w64) Syntax.tnil)))) (List._∷_ (11, Rows.any-gone (Syntax.tyRef Syntax.erased Syntax.mut OfPanelRecord.named)) (List._∷_ (12, Rows.any-gone (Syntax.tyRef Syntax.erased Syntax.mut (Syntax.tyInt Syntax.w8))) (List._∷_ (13, Rows.any-gone (Syntax.tyStruct (List._∷_ 38 (List._∷_ 91 (List._∷_ 93 List.[]))) (Syntax.tcons (Syntax.tyRef Syntax.erased Syntax.mut (Syntax.tyInt Syntax.w8)) (Syntax.tcons (Syntax.tyInt Syntax.w64) Syntax.tnil)))) (List._∷_ (14, Rows.any-gone (Syntax.tyRef Syntax.erased Syntax.mut (Syntax.tyInt Syntax.w8))) (List._∷_ (15, Rows.any-gone (Syntax.tyStruct (List._∷_ 38 (List._∷_ 91 (List._∷_ 93 List.[]))) (Syntax.tcons (Syntax.tyRef Syntax.erased Syntax.mut (Syntax.tyInt Syntax.w8)) (Syntax.tcons (Syntax.tyInt Syntax.w64) Syntax.tnil)))) List.[])))))))))))))))
 
 abbrev pub t3 : List.List Row.Entry
-t3 = List._∷_ (0, Rows.any-gone Syntax.tyUnit) (List._∷_ (1, Relend.mslice-owed (OfOutput.row) (Syntax.tyRef (Syntax.named 0) Syntax.mut OfOutput.named) 0 5 Row.off) (List._∷_ (2, Mut.mslice (OfStation.row) (Syntax.tyRef (Syntax.named 1) Syntax.mut OfStation.named) 1) (List._∷_ (3, Rows.mref (Referent.rtF (Referent.fInt Syntax.w64)) (Syntax.tyRef (Syntax.named 2) Syntax.mut (Syntax.tyInt Syntax.w64)) 2) (List._∷_ (4, Mut.mslice (Referent.rtF (Referent.fInt Syntax.w8)) (Syntax.tyRef (Syntax.named 3) Syntax.mut (Syntax.tyInt Syntax.w8)) 3) (List._∷_ (5, Mut.mslice (Referent.rtF (Referent.fInt Syntax.w8)) (Syntax.tyRef (Syntax.named 4) Syntax.mut (Syntax.tyInt Syntax.w8)) 4) (List._∷_ (6, Rows.any-gone (Laws.mir)) (List._∷_ (7, Relend.msptr (OfOutput.row) (Syntax.tyRef Syntax.erased Syntax.mut OfOutput.named) 5) (List._∷_ (8, Rows.any-gone (Syntax.tyStruct (List._∷_ 38 (List._∷_ 91 (List._∷_ 93 List.[]))) (Syntax.tcons (Syntax.tyRef Syntax.erased Syntax.mut OfOutput.named) (Syntax.tcons (Syntax.tyInt Syntax.w64) Syntax.tnil)))) (List._∷_ (9, Rows.any-gone (Syntax.tyRef Syntax.erased Syntax.mut OfStation.named)) (List._∷_ (10, Rows.any-gone (Syntax.tyStruct (List._∷_ 38 (List._∷_ 91 (List._∷_ 93 List.[]))) (Syntax.tcons (Syntax.tyRef Syntax.erased Syntax.mut OfStation.named) (Syntax.tcons (Syntax.tyInt Syntax.w64) Syntax.tnil)))) (List._∷_ (11, Rows.any-gone (Syntax.tyRef Syntax.erased Syntax.mut (Syntax.tyInt Syntax.w64))) (List._∷_ (12, Rows.any-gone (Syntax.tyRef Syntax.erased Syntax.mut (Syntax.tyInt Syntax.w8))) (List._∷_ (13, Rows.any-gone (Syntax.tyStruct (List._∷_ 38 (List._∷_ 91 (List._∷_ 93 List.[]))) (Syntax.tcons (Syntax.tyRef Syntax.erased Syntax.mut (Syntax.tyInt Syntax.w8)) (Syntax.tcons (Syntax.tyInt Syntax.w64) Syntax.tnil)))) (List._∷_ (14, Rows.any-gone (Syntax.tyRef Syntax.erased Syntax.mut (Syntax.tyInt Syntax.w8))) (List._∷_ (15, Rows.any-gone (Syntax.tyStruct (List._∷_ 38 (List._∷_ 91 (List._∷_ 93 List.[]))) (Syntax.tcons (Syntax.tyRef Syntax.erased Syntax.mut (Syntax.tyInt Syntax.w8)) (Syntax.tcons (Syntax.tyInt Syntax.w64) Syntax.tnil)))) List.[])))))))))))))))
+t3 = List._∷_ (0, Rows.any-gone Syntax.tyUnit) (List._∷_ (1, Relend.mslice-owed (OfOutput.row) (Syntax.tyRef (Syntax.named 0) Syntax.mut OfOutput.named) 0 5 Row.off) (List._∷_ (2, Mut.mslice (OfStation.row) (Syntax.tyRef (Syntax.named 1) Syntax.mut OfStation.named) 1) (List._∷_ (3, Rows.mref (OfPanelRecord.row) (Syntax.tyRef (Syntax.named 2) Syntax.mut OfPanelRecord.named) 2) (List._∷_ (4, Mut.mslice (Referent.rtF (Referent.fInt Syntax.w8)) (Syntax.tyRef (Syntax.named 3) Syntax.mut (Syntax.tyInt Syntax.w8)) 3) (List._∷_ (5, Mut.mslice (Referent.rtF (Referent.fInt Syntax.w8)) (Syntax.tyRef (Syntax.named 4) Syntax.mut (Syntax.tyInt Syntax.w8)) 4) (List._∷_ (6, Rows.any-gone (Laws.mir)) (List._∷_ (7, Relend.msptr (OfOutput.row) (Syntax.tyRef Syntax.erased Syntax.mut OfOutput.named) 5) (List._∷_ (8, Rows.any-gone (Syntax.tyStruct (List._∷_ 38 (List._∷_ 91 (List._∷_ 93 List.[]))) (Syntax.tcons (Syntax.tyRef Syntax.erased Syntax.mut OfOutput.named) (Syntax.tcons (Syntax.tyInt Syntax.w64) Syntax.tnil)))) (List._∷_ (9, Rows.any-gone (Syntax.tyRef Syntax.erased Syntax.mut OfStation.named)) (List._∷_ (10, Rows.any-gone (Syntax.tyStruct (List._∷_ 38 (List._∷_ 91 (List._∷_ 93 List.[]))) (Syntax.tcons (Syntax.tyRef Syntax.erased Syntax.mut OfStation.named) (Syntax.tcons (Syntax.tyInt Syntax.w64) Syntax.tnil)))) (List._∷_ (11, Rows.any-gone (Syntax.tyRef Syntax.erased Syntax.mut OfPanelRecord.named)) (List._∷_ (12, Rows.any-gone (Syntax.tyRef Syntax.erased Syntax.mut (Syntax.tyInt Syntax.w8))) (List._∷_ (13, Rows.any-gone (Syntax.tyStruct (List._∷_ 38 (List._∷_ 91 (List._∷_ 93 List.[]))) (Syntax.tcons (Syntax.tyRef Syntax.erased Syntax.mut (Syntax.tyInt Syntax.w8)) (Syntax.tcons (Syntax.tyInt Syntax.w64) Syntax.tnil)))) (List._∷_ (14, Rows.any-gone (Syntax.tyRef Syntax.erased Syntax.mut (Syntax.tyInt Syntax.w8))) (List._∷_ (15, Rows.any-gone (Syntax.tyStruct (List._∷_ 38 (List._∷_ 91 (List._∷_ 93 List.[]))) (Syntax.tcons (Syntax.tyRef Syntax.erased Syntax.mut (Syntax.tyInt Syntax.w8)) (Syntax.tcons (Syntax.tyInt Syntax.w64) Syntax.tnil)))) List.[])))))))))))))))
 
 abbrev pub t4 : List.List Row.Entry
-t4 = List._∷_ (0, Rows.any-gone Syntax.tyUnit) (List._∷_ (1, Relend.mslice-owed (OfOutput.row) (Syntax.tyRef (Syntax.named 0) Syntax.mut OfOutput.named) 0 5 Row.off) (List._∷_ (2, Mut.mslice (OfStation.row) (Syntax.tyRef (Syntax.named 1) Syntax.mut OfStation.named) 1) (List._∷_ (3, Rows.mref (Referent.rtF (Referent.fInt Syntax.w64)) (Syntax.tyRef (Syntax.named 2) Syntax.mut (Syntax.tyInt Syntax.w64)) 2) (List._∷_ (4, Mut.mslice (Referent.rtF (Referent.fInt Syntax.w8)) (Syntax.tyRef (Syntax.named 3) Syntax.mut (Syntax.tyInt Syntax.w8)) 3) (List._∷_ (5, Mut.mslice (Referent.rtF (Referent.fInt Syntax.w8)) (Syntax.tyRef (Syntax.named 4) Syntax.mut (Syntax.tyInt Syntax.w8)) 4) (List._∷_ (6, Rows.any-gone (Laws.mir)) (List._∷_ (7, Rows.any-gone (Syntax.tyRef Syntax.erased Syntax.mut OfOutput.named)) (List._∷_ (8, Mut.mslice (OfOutput.row) (Syntax.tyRef Syntax.erased Syntax.mut OfOutput.named) 5) (List._∷_ (9, Rows.any-gone (Syntax.tyRef Syntax.erased Syntax.mut OfStation.named)) (List._∷_ (10, Rows.any-gone (Syntax.tyStruct (List._∷_ 38 (List._∷_ 91 (List._∷_ 93 List.[]))) (Syntax.tcons (Syntax.tyRef Syntax.erased Syntax.mut OfStation.named) (Syntax.tcons (Syntax.tyInt Syntax.w64) Syntax.tnil)))) (List._∷_ (11, Rows.any-gone (Syntax.tyRef Syntax.erased Syntax.mut (Syntax.tyInt Syntax.w64))) (List._∷_ (12, Rows.any-gone (Syntax.tyRef Syntax.erased Syntax.mut (Syntax.tyInt Syntax.w8))) (List._∷_ (13, Rows.any-gone (Syntax.tyStruct (List._∷_ 38 (List._∷_ 91 (List._∷_ 93 List.[]))) (Syntax.tcons (Syntax.tyRef Syntax.erased Syntax.mut (Syntax.tyInt Syntax.w8)) (Syntax.tcons (Syntax.tyInt Syntax.w64) Syntax.tnil)))) (List._∷_ (14, Rows.any-gone (Syntax.tyRef Syntax.erased Syntax.mut (Syntax.tyInt Syntax.w8))) (List._∷_ (15, Rows.any-gone (Syntax.tyStruct (List._∷_ 38 (List._∷_ 91 (List._∷_ 93 List.[]))) (Syntax.tcons (Syntax.tyRef Syntax.erased Syntax.mut (Syntax.tyInt Syntax.w8)) (Syntax.tcons (Syntax.tyInt Syntax.w64) Syntax.tnil)))) List.[])))))))))))))))
+t4 = List._∷_ (0, Rows.any-gone Syntax.tyUnit) (List._∷_ (1, Relend.mslice-owed (OfOutput.row) (Syntax.tyRef (Syntax.named 0) Syntax.mut OfOutput.named) 0 5 Row.off) (List._∷_ (2, Mut.mslice (OfStation.row) (Syntax.tyRef (Syntax.named 1) Syntax.mut OfStation.named) 1) (List._∷_ (3, Rows.mref (OfPanelRecord.row) (Syntax.tyRef (Syntax.named 2) Syntax.mut OfPanelRecord.named) 2) (List._∷_ (4, Mut.mslice (Referent.rtF (Referent.fInt Syntax.w8)) (Syntax.tyRef (Syntax.named 3) Syntax.mut (Syntax.tyInt Syntax.w8)) 3) (List._∷_ (5, Mut.mslice (Referent.rtF (Referent.fInt Syntax.w8)) (Syntax.tyRef (Syntax.named 4) Syntax.mut (Syntax.tyInt Syntax.w8)) 4) (List._∷_ (6, Rows.any-gone (Laws.mir)) (List._∷_ (7, Rows.any-gone (Syntax.tyRef Syntax.erased Syntax.mut OfOutput.named)) (List._∷_ (8, Mut.mslice (OfOutput.row) (Syntax.tyRef Syntax.erased Syntax.mut OfOutput.named) 5) (List._∷_ (9, Rows.any-gone (Syntax.tyRef Syntax.erased Syntax.mut OfStation.named)) (List._∷_ (10, Rows.any-gone (Syntax.tyStruct (List._∷_ 38 (List._∷_ 91 (List._∷_ 93 List.[]))) (Syntax.tcons (Syntax.tyRef Syntax.erased Syntax.mut OfStation.named) (Syntax.tcons (Syntax.tyInt Syntax.w64) Syntax.tnil)))) (List._∷_ (11, Rows.any-gone (Syntax.tyRef Syntax.erased Syntax.mut OfPanelRecord.named)) (List._∷_ (12, Rows.any-gone (Syntax.tyRef Syntax.erased Syntax.mut (Syntax.tyInt Syntax.w8))) (List._∷_ (13, Rows.any-gone (Syntax.tyStruct (List._∷_ 38 (List._∷_ 91 (List._∷_ 93 List.[]))) (Syntax.tcons (Syntax.tyRef Syntax.erased Syntax.mut (Syntax.tyInt Syntax.w8)) (Syntax.tcons (Syntax.tyInt Syntax.w64) Syntax.tnil)))) (List._∷_ (14, Rows.any-gone (Syntax.tyRef Syntax.erased Syntax.mut (Syntax.tyInt Syntax.w8))) (List._∷_ (15, Rows.any-gone (Syntax.tyStruct (List._∷_ 38 (List._∷_ 91 (List._∷_ 93 List.[]))) (Syntax.tcons (Syntax.tyRef Syntax.erased Syntax.mut (Syntax.tyInt Syntax.w8)) (Syntax.tcons (Syntax.tyInt Syntax.w64) Syntax.tnil)))) List.[])))))))))))))))
 
 abbrev pub t5 : List.List Row.Entry
-t5 = List._∷_ (0, Rows.any-gone Syntax.tyUnit) (List._∷_ (1, Relend.mslice-owed (OfOutput.row) (Syntax.tyRef (Syntax.named 0) Syntax.mut OfOutput.named) 0 5 Row.off) (List._∷_ (2, Relend.mslice-owed (OfStation.row) (Syntax.tyRef (Syntax.named 1) Syntax.mut OfStation.named) 1 6 Row.off) (List._∷_ (3, Rows.mref (Referent.rtF (Referent.fInt Syntax.w64)) (Syntax.tyRef (Syntax.named 2) Syntax.mut (Syntax.tyInt Syntax.w64)) 2) (List._∷_ (4, Mut.mslice (Referent.rtF (Referent.fInt Syntax.w8)) (Syntax.tyRef (Syntax.named 3) Syntax.mut (Syntax.tyInt Syntax.w8)) 3) (List._∷_ (5, Mut.mslice (Referent.rtF (Referent.fInt Syntax.w8)) (Syntax.tyRef (Syntax.named 4) Syntax.mut (Syntax.tyInt Syntax.w8)) 4) (List._∷_ (6, Rows.any-gone (Laws.mir)) (List._∷_ (7, Rows.any-gone (Syntax.tyRef Syntax.erased Syntax.mut OfOutput.named)) (List._∷_ (8, Mut.mslice (OfOutput.row) (Syntax.tyRef Syntax.erased Syntax.mut OfOutput.named) 5) (List._∷_ (9, Relend.msptr (OfStation.row) (Syntax.tyRef Syntax.erased Syntax.mut OfStation.named) 6) (List._∷_ (10, Rows.any-gone (Syntax.tyStruct (List._∷_ 38 (List._∷_ 91 (List._∷_ 93 List.[]))) (Syntax.tcons (Syntax.tyRef Syntax.erased Syntax.mut OfStation.named) (Syntax.tcons (Syntax.tyInt Syntax.w64) Syntax.tnil)))) (List._∷_ (11, Rows.any-gone (Syntax.tyRef Syntax.erased Syntax.mut (Syntax.tyInt Syntax.w64))) (List._∷_ (12, Rows.any-gone (Syntax.tyRef Syntax.erased Syntax.mut (Syntax.tyInt Syntax.w8))) (List._∷_ (13, Rows.any-gone (Syntax.tyStruct (List._∷_ 38 (List._∷_ 91 (List._∷_ 93 List.[]))) (Syntax.tcons (Syntax.tyRef Syntax.erased Syntax.mut (Syntax.tyInt Syntax.w8)) (Syntax.tcons (Syntax.tyInt Syntax.w64) Syntax.tnil)))) (List._∷_ (14, Rows.any-gone (Syntax.tyRef Syntax.erased Syntax.mut (Syntax.tyInt Syntax.w8))) (List._∷_ (15, Rows.any-gone (Syntax.tyStruct (List._∷_ 38 (List._∷_ 91 (List._∷_ 93 List.[]))) (Syntax.tcons (Syntax.tyRef Syntax.erased Syntax.mut (Syntax.tyInt Syntax.w8)) (Syntax.tcons (Syntax.tyInt Syntax.w64) Syntax.tnil)))) List.[])))))))))))))))
+t5 = List._∷_ (0, Rows.any-gone Syntax.tyUnit) (List._∷_ (1, Relend.mslice-owed (OfOutput.row) (Syntax.tyRef (Syntax.named 0) Syntax.mut OfOutput.named) 0 5 Row.off) (List._∷_ (2, Relend.mslice-owed (OfStation.row) (Syntax.tyRef (Syntax.named 1) Syntax.mut OfStation.named) 1 6 Row.off) (List._∷_ (3, Rows.mref (OfPanelRecord.row) (Syntax.tyRef (Syntax.named 2) Syntax.mut OfPanelRecord.named) 2) (List._∷_ (4, Mut.mslice (Referent.rtF (Referent.fInt Syntax.w8)) (Syntax.tyRef (Syntax.named 3) Syntax.mut (Syntax.tyInt Syntax.w8)) 3) (List._∷_ (5, Mut.mslice (Referent.rtF (Referent.fInt Syntax.w8)) (Syntax.tyRef (Syntax.named 4) Syntax.mut (Syntax.tyInt Syntax.w8)) 4) (List._∷_ (6, Rows.any-gone (Laws.mir)) (List._∷_ (7, Rows.any-gone (Syntax.tyRef Syntax.erased Syntax.mut OfOutput.named)) (List._∷_ (8, Mut.mslice (OfOutput.row) (Syntax.tyRef Syntax.erased Syntax.mut OfOutput.named) 5) (List._∷_ (9, Relend.msptr (OfStation.row) (Syntax.tyRef Syntax.erased Syntax.mut OfStation.named) 6) (List._∷_ (10, Rows.any-gone (Syntax.tyStruct (List._∷_ 38 (List._∷_ 91 (List._∷_ 93 List.[]))) (Syntax.tcons (Syntax.tyRef Syntax.erased Syntax.mut OfStation.named) (Syntax.tcons (Syntax.tyInt Syntax.w64) Syntax.tnil)))) (List._∷_ (11, Rows.any-gone (Syntax.tyRef Syntax.erased Syntax.mut OfPanelRecord.named)) (List._∷_ (12, Rows.any-gone (Syntax.tyRef Syntax.erased Syntax.mut (Syntax.tyInt Syntax.w8))) (List._∷_ (13, Rows.any-gone (Syntax.tyStruct (List._∷_ 38 (List._∷_ 91 (List._∷_ 93 List.[]))) (Syntax.tcons (Syntax.tyRef Syntax.erased Syntax.mut (Syntax.tyInt Syntax.w8)) (Syntax.tcons (Syntax.tyInt Syntax.w64) Syntax.tnil)))) (List._∷_ (14, Rows.any-gone (Syntax.tyRef Syntax.erased Syntax.mut (Syntax.tyInt Syntax.w8))) (List._∷_ (15, Rows.any-gone (Syntax.tyStruct (List._∷_ 38 (List._∷_ 91 (List._∷_ 93 List.[]))) (Syntax.tcons (Syntax.tyRef Syntax.erased Syntax.mut (Syntax.tyInt Syntax.w8)) (Syntax.tcons (Syntax.tyInt Syntax.w64) Syntax.tnil)))) List.[])))))))))))))))
 
 abbrev pub t6 : List.List Row.Entry
-t6 = List._∷_ (0, Rows.any-gone Syntax.tyUnit) (List._∷_ (1, Relend.mslice-owed (OfOutput.row) (Syntax.tyRef (Syntax.named 0) Syntax.mut OfOutput.named) 0 5 Row.off) (List._∷_ (2, Relend.mslice-owed (OfStation.row) (Syntax.tyRef (Syntax.named 1) Syntax.mut OfStation.named) 1 6 Row.off) (List._∷_ (3, Rows.mref (Referent.rtF (Referent.fInt Syntax.w64)) (Syntax.tyRef (Syntax.named 2) Syntax.mut (Syntax.tyInt Syntax.w64)) 2) (List._∷_ (4, Mut.mslice (Referent.rtF (Referent.fInt Syntax.w8)) (Syntax.tyRef (Syntax.named 3) Syntax.mut (Syntax.tyInt Syntax.w8)) 3) (List._∷_ (5, Mut.mslice (Referent.rtF (Referent.fInt Syntax.w8)) (Syntax.tyRef (Syntax.named 4) Syntax.mut (Syntax.tyInt Syntax.w8)) 4) (List._∷_ (6, Rows.any-gone (Laws.mir)) (List._∷_ (7, Rows.any-gone (Syntax.tyRef Syntax.erased Syntax.mut OfOutput.named)) (List._∷_ (8, Mut.mslice (OfOutput.row) (Syntax.tyRef Syntax.erased Syntax.mut OfOutput.named) 5) (List._∷_ (9, Rows.any-gone (Syntax.tyRef Syntax.erased Syntax.mut OfStation.named)) (List._∷_ (10, Mut.mslice (OfStation.row) (Syntax.tyRef Syntax.erased Syntax.mut OfStation.named) 6) (List._∷_ (11, Rows.any-gone (Syntax.tyRef Syntax.erased Syntax.mut (Syntax.tyInt Syntax.w64))) (List._∷_ (12, Rows.any-gone (Syntax.tyRef Syntax.erased Syntax.mut (Syntax.tyInt Syntax.w8))) (List._∷_ (13, Rows.any-gone (Syntax.tyStruct (List._∷_ 38 (List._∷_ 91 (List._∷_ 93 List.[]))) (Syntax.tcons (Syntax.tyRef Syntax.erased Syntax.mut (Syntax.tyInt Syntax.w8)) (Syntax.tcons (Syntax.tyInt Syntax.w64) Syntax.tnil)))) (List._∷_ (14, Rows.any-gone (Syntax.tyRef Syntax.erased Syntax.mut (Syntax.tyInt Syntax.w8))) (List._∷_ (15, Rows.any-gone (Syntax.tyStruct (List._∷_ 38 (List._∷_ 91 (List._∷_ 93 List.[]))) (Syntax.tcons (Syntax.tyRef Syntax.erased Syntax.mut (Syntax.tyInt Syntax.w8)) (Syntax.tcons (Syntax.tyInt Syntax.w64) Syntax.tnil)))) List.[])))))))))))))))
+t6 = List._∷_ (0, Rows.any-gone Syntax.tyUnit) (List._∷_ (1, Relend.mslice-owed (OfOutput.row) (Syntax.tyRef (Syntax.named 0) Syntax.mut OfOutput.named) 0 5 Row.off) (List._∷_ (2, Relend.mslice-owed (OfStation.row) (Syntax.tyRef (Syntax.named 1) Syntax.mut OfStation.named) 1 6 Row.off) (List._∷_ (3, Rows.mref (OfPanelRecord.row) (Syntax.tyRef (Syntax.named 2) Syntax.mut OfPanelRecord.named) 2) (List._∷_ (4, Mut.mslice (Referent.rtF (Referent.fInt Syntax.w8)) (Syntax.tyRef (Syntax.named 3) Syntax.mut (Syntax.tyInt Syntax.w8)) 3) (List._∷_ (5, Mut.mslice (Referent.rtF (Referent.fInt Syntax.w8)) (Syntax.tyRef (Syntax.named 4) Syntax.mut (Syntax.tyInt Syntax.w8)) 4) (List._∷_ (6, Rows.any-gone (Laws.mir)) (List._∷_ (7, Rows.any-gone (Syntax.tyRef Syntax.erased Syntax.mut OfOutput.named)) (List._∷_ (8, Mut.mslice (OfOutput.row) (Syntax.tyRef Syntax.erased Syntax.mut OfOutput.named) 5) (List._∷_ (9, Rows.any-gone (Syntax.tyRef Syntax.erased Syntax.mut OfStation.named)) (List._∷_ (10, Mut.mslice (OfStation.row) (Syntax.tyRef Syntax.erased Syntax.mut OfStation.named) 6) (List._∷_ (11, Rows.any-gone (Syntax.tyRef Syntax.erased Syntax.mut OfPanelRecord.named)) (List._∷_ (12, Rows.any-gone (Syntax.tyRef Syntax.erased Syntax.mut (Syntax.tyInt Syntax.w8))) (List._∷_ (13, Rows.any-gone (Syntax.tyStruct (List._∷_ 38 (List._∷_ 91 (List._∷_ 93 List.[]))) (Syntax.tcons (Syntax.tyRef Syntax.erased Syntax.mut (Syntax.tyInt Syntax.w8)) (Syntax.tcons (Syntax.tyInt Syntax.w64) Syntax.tnil)))) (List._∷_ (14, Rows.any-gone (Syntax.tyRef Syntax.erased Syntax.mut (Syntax.tyInt Syntax.w8))) (List._∷_ (15, Rows.any-gone (Syntax.tyStruct (List._∷_ 38 (List._∷_ 91 (List._∷_ 93 List.[]))) (Syntax.tcons (Syntax.tyRef Syntax.erased Syntax.mut (Syntax.tyInt Syntax.w8)) (Syntax.tcons (Syntax.tyInt Syntax.w64) Syntax.tnil)))) List.[])))))))))))))))
 
 abbrev pub t7 : List.List Row.Entry
-t7 = List._∷_ (0, Rows.any-gone Syntax.tyUnit) (List._∷_ (1, Relend.mslice-owed (OfOutput.row) (Syntax.tyRef (Syntax.named 0) Syntax.mut OfOutput.named) 0 5 Row.off) (List._∷_ (2, Relend.mslice-owed (OfStation.row) (Syntax.tyRef (Syntax.named 1) Syntax.mut OfStation.named) 1 6 Row.off) (List._∷_ (3, Rows.mref-owed (Referent.rtF (Referent.fInt Syntax.w64)) (Syntax.tyRef (Syntax.named 2) Syntax.mut (Syntax.tyInt Syntax.w64)) 2 7 Row.off) (List._∷_ (4, Mut.mslice (Referent.rtF (Referent.fInt Syntax.w8)) (Syntax.tyRef (Syntax.named 3) Syntax.mut (Syntax.tyInt Syntax.w8)) 3) (List._∷_ (5, Mut.mslice (Referent.rtF (Referent.fInt Syntax.w8)) (Syntax.tyRef (Syntax.named 4) Syntax.mut (Syntax.tyInt Syntax.w8)) 4) (List._∷_ (6, Rows.any-gone (Laws.mir)) (List._∷_ (7, Rows.any-gone (Syntax.tyRef Syntax.erased Syntax.mut OfOutput.named)) (List._∷_ (8, Mut.mslice (OfOutput.row) (Syntax.tyRef Syntax.erased Syntax.mut OfOutput.named) 5) (List._∷_ (9, Rows.any-gone (Syntax.tyRef Syntax.erased Syntax.mut OfStation.named)) (List._∷_ (10, Mut.mslice (OfStation.row) (Syntax.tyRef Syntax.erased Syntax.mut OfStation.named) 6) (List._∷_ (11, Rows.mref (Referent.rtF (Referent.fInt Syntax.w64)) (Syntax.tyRef Syntax.erased Syntax.mut (Syntax.tyInt Syntax.w64)) 7) (List._∷_ (12, Rows.any-gone (Syntax.tyRef Syntax.erased Syntax.mut (Syntax.tyInt Syntax.w8))) (List._∷_ (13, Rows.any-gone (Syntax.tyStruct (List._∷_ 38 (List._∷_ 91 (List._∷_ 93 List.[]))) (Syntax.tcons (Syntax.tyRef Syntax.erased Syntax.mut (Syntax.tyInt Syntax.w8)) (Syntax.tcons (Syntax.tyInt Syntax.w64) Syntax.tnil)))) (List._∷_ (14, Rows.any-gone (Syntax.tyRef Syntax.erased Syntax.mut (Syntax.tyInt Syntax.w8))) (List._∷_ (15, Rows.any-gone (Syntax.tyStruct (List._∷_ 38 (List._∷_ 91 (List._∷_ 93 List.[]))) (Syntax.tcons (Syntax.tyRef Syntax.erased Syntax.mut (Syntax.tyInt Syntax.w8)) (Syntax.tcons (Syntax.tyInt Syntax.w64) Syntax.tnil)))) List.[])))))))))))))))
+t7 = List._∷_ (0, Rows.any-gone Syntax.tyUnit) (List._∷_ (1, Relend.mslice-owed (OfOutput.row) (Syntax.tyRef (Syntax.named 0) Syntax.mut OfOutput.named) 0 5 Row.off) (List._∷_ (2, Relend.mslice-owed (OfStation.row) (Syntax.tyRef (Syntax.named 1) Syntax.mut OfStation.named) 1 6 Row.off) (List._∷_ (3, Rows.mref-owed (OfPanelRecord.row) (Syntax.tyRef (Syntax.named 2) Syntax.mut OfPanelRecord.named) 2 7 Row.off) (List._∷_ (4, Mut.mslice (Referent.rtF (Referent.fInt Syntax.w8)) (Syntax.tyRef (Syntax.named 3) Syntax.mut (Syntax.tyInt Syntax.w8)) 3) (List._∷_ (5, Mut.mslice (Referent.rtF (Referent.fInt Syntax.w8)) (Syntax.tyRef (Syntax.named 4) Syntax.mut (Syntax.tyInt Syntax.w8)) 4) (List._∷_ (6, Rows.any-gone (Laws.mir)) (List._∷_ (7, Rows.any-gone (Syntax.tyRef Syntax.erased Syntax.mut OfOutput.named)) (List._∷_ (8, Mut.mslice (OfOutput.row) (Syntax.tyRef Syntax.erased Syntax.mut OfOutput.named) 5) (List._∷_ (9, Rows.any-gone (Syntax.tyRef Syntax.erased Syntax.mut OfStation.named)) (List._∷_ (10, Mut.mslice (OfStation.row) (Syntax.tyRef Syntax.erased Syntax.mut OfStation.named) 6) (List._∷_ (11, Rows.mref (OfPanelRecord.row) (Syntax.tyRef Syntax.erased Syntax.mut OfPanelRecord.named) 7) (List._∷_ (12, Rows.any-gone (Syntax.tyRef Syntax.erased Syntax.mut (Syntax.tyInt Syntax.w8))) (List._∷_ (13, Rows.any-gone (Syntax.tyStruct (List._∷_ 38 (List._∷_ 91 (List._∷_ 93 List.[]))) (Syntax.tcons (Syntax.tyRef Syntax.erased Syntax.mut (Syntax.tyInt Syntax.w8)) (Syntax.tcons (Syntax.tyInt Syntax.w64) Syntax.tnil)))) (List._∷_ (14, Rows.any-gone (Syntax.tyRef Syntax.erased Syntax.mut (Syntax.tyInt Syntax.w8))) (List._∷_ (15, Rows.any-gone (Syntax.tyStruct (List._∷_ 38 (List._∷_ 91 (List._∷_ 93 List.[]))) (Syntax.tcons (Syntax.tyRef Syntax.erased Syntax.mut (Syntax.tyInt Syntax.w8)) (Syntax.tcons (Syntax.tyInt Syntax.w64) Syntax.tnil)))) List.[])))))))))))))))
 
 abbrev pub t8 : List.List Row.Entry
-t8 = List._∷_ (0, Rows.any-gone Syntax.tyUnit) (List._∷_ (1, Relend.mslice-owed (OfOutput.row) (Syntax.tyRef (Syntax.named 0) Syntax.mut OfOutput.named) 0 5 Row.off) (List._∷_ (2, Relend.mslice-owed (OfStation.row) (Syntax.tyRef (Syntax.named 1) Syntax.mut OfStation.named) 1 6 Row.off) (List._∷_ (3, Rows.mref-owed (Referent.rtF (Referent.fInt Syntax.w64)) (Syntax.tyRef (Syntax.named 2) Syntax.mut (Syntax.tyInt Syntax.w64)) 2 7 Row.off) (List._∷_ (4, Relend.mslice-owed (Referent.rtF (Referent.fInt Syntax.w8)) (Syntax.tyRef (Syntax.named 3) Syntax.mut (Syntax.tyInt Syntax.w8)) 3 8 Row.off) (List._∷_ (5, Mut.mslice (Referent.rtF (Referent.fInt Syntax.w8)) (Syntax.tyRef (Syntax.named 4) Syntax.mut (Syntax.tyInt Syntax.w8)) 4) (List._∷_ (6, Rows.any-gone (Laws.mir)) (List._∷_ (7, Rows.any-gone (Syntax.tyRef Syntax.erased Syntax.mut OfOutput.named)) (List._∷_ (8, Mut.mslice (OfOutput.row) (Syntax.tyRef Syntax.erased Syntax.mut OfOutput.named) 5) (List._∷_ (9, Rows.any-gone (Syntax.tyRef Syntax.erased Syntax.mut OfStation.named)) (List._∷_ (10, Mut.mslice (OfStation.row) (Syntax.tyRef Syntax.erased Syntax.mut OfStation.named) 6) (List._∷_ (11, Rows.mref (Referent.rtF (Referent.fInt Syntax.w64)) (Syntax.tyRef Syntax.erased Syntax.mut (Syntax.tyInt Syntax.w64)) 7) (List._∷_ (12, Relend.msptr (Referent.rtF (Referent.fInt Syntax.w8)) (Syntax.tyRef Syntax.erased Syntax.mut (Syntax.tyInt Syntax.w8)) 8) (List._∷_ (13, Rows.any-gone (Syntax.tyStruct (List._∷_ 38 (List._∷_ 91 (List._∷_ 93 List.[]))) (Syntax.tcons (Syntax.tyRef Syntax.erased Syntax.mut (Syntax.tyInt Syntax.w8)) (Syntax.tcons (Syntax.tyInt Syntax.w64) Syntax.tnil)))) (List._∷_ (14, Rows.any-gone (Syntax.tyRef Syntax.erased Syntax.mut (Syntax.tyInt Syntax.w8))) (List._∷_ (15, Rows.any-gone (Syntax.tyStruct (List._∷_ 38 (List._∷_ 91 (List._∷_ 93 List.[]))) (Syntax.tcons (Syntax.tyRef Syntax.erased Syntax.mut (Syntax.tyInt Syntax.w8)) (Syntax.tcons (Syntax.tyInt Syntax.w64) Syntax.tnil)))) List.[])))))))))))))))
+t8 = List._∷_ (0, Rows.any-gone Syntax.tyUnit) (List._∷_ (1, Relend.mslice-owed (OfOutput.row) (Syntax.tyRef (Syntax.named 0) Syntax.mut OfOutput.named) 0 5 Row.off) (List._∷_ (2, Relend.mslice-owed (OfStation.row) (Syntax.tyRef (Syntax.named 1) Syntax.mut OfStation.named) 1 6 Row.off) (List._∷_ (3, Rows.mref-owed (OfPanelRecord.row) (Syntax.tyRef (Syntax.named 2) Syntax.mut OfPanelRecord.named) 2 7 Row.off) (List._∷_ (4, Relend.mslice-owed (Referent.rtF (Referent.fInt Syntax.w8)) (Syntax.tyRef (Syntax.named 3) Syntax.mut (Syntax.tyInt Syntax.w8)) 3 8 Row.off) (List._∷_ (5, Mut.mslice (Referent.rtF (Referent.fInt Syntax.w8)) (Syntax.tyRef (Syntax.named 4) Syntax.mut (Syntax.tyInt Syntax.w8)) 4) (List._∷_ (6, Rows.any-gone (Laws.mir)) (List._∷_ (7, Rows.any-gone (Syntax.tyRef Syntax.erased Syntax.mut OfOutput.named)) (List._∷_ (8, Mut.mslice (OfOutput.row) (Syntax.tyRef Syntax.erased Syntax.mut OfOutput.named) 5) (List._∷_ (9, Rows.any-gone (Syntax.tyRef Syntax.erased Syntax.mut OfStation.named)) (List._∷_ (10, Mut.mslice (OfStation.row) (Syntax.tyRef Syntax.erased Syntax.mut OfStation.named) 6) (List._∷_ (11, Rows.mref (OfPanelRecord.row) (Syntax.tyRef Syntax.erased Syntax.mut OfPanelRecord.named) 7) (List._∷_ (12, Relend.msptr (Referent.rtF (Referent.fInt Syntax.w8)) (Syntax.tyRef Syntax.erased Syntax.mut (Syntax.tyInt Syntax.w8)) 8) (List._∷_ (13, Rows.any-gone (Syntax.tyStruct (List._∷_ 38 (List._∷_ 91 (List._∷_ 93 List.[]))) (Syntax.tcons (Syntax.tyRef Syntax.erased Syntax.mut (Syntax.tyInt Syntax.w8)) (Syntax.tcons (Syntax.tyInt Syntax.w64) Syntax.tnil)))) (List._∷_ (14, Rows.any-gone (Syntax.tyRef Syntax.erased Syntax.mut (Syntax.tyInt Syntax.w8))) (List._∷_ (15, Rows.any-gone (Syntax.tyStruct (List._∷_ 38 (List._∷_ 91 (List._∷_ 93 List.[]))) (Syntax.tcons (Syntax.tyRef Syntax.erased Syntax.mut (Syntax.tyInt Syntax.w8)) (Syntax.tcons (Syntax.tyInt Syntax.w64) Syntax.tnil)))) List.[])))))))))))))))
 
 abbrev pub t9 : List.List Row.Entry
-t9 = List._∷_ (0, Rows.any-gone Syntax.tyUnit) (List._∷_ (1, Relend.mslice-owed (OfOutput.row) (Syntax.tyRef (Syntax.named 0) Syntax.mut OfOutput.named) 0 5 Row.off) (List._∷_ (2, Relend.mslice-owed (OfStation.row) (Syntax.tyRef (Syntax.named 1) Syntax.mut OfStation.named) 1 6 Row.off) (List._∷_ (3, Rows.mref-owed (Referent.rtF (Referent.fInt Syntax.w64)) (Syntax.tyRef (Syntax.named 2) Syntax.mut (Syntax.tyInt Syntax.w64)) 2 7 Row.off) (List._∷_ (4, Relend.mslice-owed (Referent.rtF (Referent.fInt Syntax.w8)) (Syntax.tyRef (Syntax.named 3) Syntax.mut (Syntax.tyInt Syntax.w8)) 3 8 Row.off) (List._∷_ (5, Mut.mslice (Referent.rtF (Referent.fInt Syntax.w8)) (Syntax.tyRef (Syntax.named 4) Syntax.mut (Syntax.tyInt Syntax.w8)) 4) (List._∷_ (6, Rows.any-gone (Laws.mir)) (List._∷_ (7, Rows.any-gone (Syntax.tyRef Syntax.erased Syntax.mut OfOutput.named)) (List._∷_ (8, Mut.mslice (OfOutput.row) (Syntax.tyRef Syntax.erased Syntax.mut OfOutput.named) 5) (List._∷_ (9, Rows.any-gone (Syntax.tyRef Syntax.erased Syntax.mut OfStation.named)) (List._∷_ (10, Mut.mslice (OfStation.row) (Syntax.tyRef Syntax.erased Syntax.mut OfStation.named) 6) (List._∷_ (11, Rows.mref (Referent.rtF (Referent.fInt Syntax.w64)) (Syntax.tyRef Syntax.erased Syntax.mut (Syntax.tyInt Syntax.w64)) 7) (List._∷_ (12, Rows.any-gone (Syntax.tyRef Syntax.erased Syntax.mut (Syntax.tyInt Syntax.w8))) (List._∷_ (13, Mut.mslice (Referent.rtF (Referent.fInt Syntax.w8)) (Syntax.tyRef Syntax.erased Syntax.mut (Syntax.tyInt Syntax.w8)) 8) (List._∷_ (14, Rows.any-gone (Syntax.tyRef Syntax.erased Syntax.mut (Syntax.tyInt Syntax.w8))) (List._∷_ (15, Rows.any-gone (Syntax.tyStruct (List._∷_ 38 (List._∷_ 91 (List._∷_ 93 List.[]))) (Syntax.tcons (Syntax.tyRef Syntax.erased Syntax.mut (Syntax.tyInt Syntax.w8)) (Syntax.tcons (Syntax.tyInt Syntax.w64) Syntax.tnil)))) List.[])))))))))))))))
+t9 = List._∷_ (0, Rows.any-gone Syntax.tyUnit) (List._∷_ (1, Relend.mslice-owed (OfOutput.row) (Syntax.tyRef (Syntax.named 0) Syntax.mut OfOutput.named) 0 5 Row.off) (List._∷_ (2, Relend.mslice-owed (OfStation.row) (Syntax.tyRef (Syntax.named 1) Syntax.mut OfStation.named) 1 6 Row.off) (List._∷_ (3, Rows.mref-owed (OfPanelRecord.row) (Syntax.tyRef (Syntax.named 2) Syntax.mut OfPanelRecord.named) 2 7 Row.off) (List._∷_ (4, Relend.mslice-owed (Referent.rtF (Referent.fInt Syntax.w8)) (Syntax.tyRef (Syntax.named 3) Syntax.mut (Syntax.tyInt Syntax.w8)) 3 8 Row.off) (List._∷_ (5, Mut.mslice (Referent.rtF (Referent.fInt Syntax.w8)) (Syntax.tyRef (Syntax.named 4) Syntax.mut (Syntax.tyInt Syntax.w8)) 4) (List._∷_ (6, Rows.any-gone (Laws.mir)) (List._∷_ (7, Rows.any-gone (Syntax.tyRef Syntax.erased Syntax.mut OfOutput.named)) (List._∷_ (8, Mut.mslice (OfOutput.row) (Syntax.tyRef Syntax.erased Syntax.mut OfOutput.named) 5) (List._∷_ (9, Rows.any-gone (Syntax.tyRef Syntax.erased Syntax.mut OfStation.named)) (List._∷_ (10, Mut.mslice (OfStation.row) (Syntax.tyRef Syntax.erased Syntax.mut OfStation.named) 6) (List._∷_ (11, Rows.mref (OfPanelRecord.row) (Syntax.tyRef Syntax.erased Syntax.mut OfPanelRecord.named) 7) (List._∷_ (12, Rows.any-gone (Syntax.tyRef Syntax.erased Syntax.mut (Syntax.tyInt Syntax.w8))) (List._∷_ (13, Mut.mslice (Referent.rtF (Referent.fInt Syntax.w8)) (Syntax.tyRef Syntax.erased Syntax.mut (Syntax.tyInt Syntax.w8)) 8) (List._∷_ (14, Rows.any-gone (Syntax.tyRef Syntax.erased Syntax.mut (Syntax.tyInt Syntax.w8))) (List._∷_ (15, Rows.any-gone (Syntax.tyStruct (List._∷_ 38 (List._∷_ 91 (List._∷_ 93 List.[]))) (Syntax.tcons (Syntax.tyRef Syntax.erased Syntax.mut (Syntax.tyInt Syntax.w8)) (Syntax.tcons (Syntax.tyInt Syntax.w64) Syntax.tnil)))) List.[])))))))))))))))
 
 abbrev pub t10 : List.List Row.Entry
-t10 = List._∷_ (0, Rows.any-gone Syntax.tyUnit) (List._∷_ (1, Relend.mslice-owed (OfOutput.row) (Syntax.tyRef (Syntax.named 0) Syntax.mut OfOutput.named) 0 5 Row.off) (List._∷_ (2, Relend.mslice-owed (OfStation.row) (Syntax.tyRef (Syntax.named 1) Syntax.mut OfStation.named) 1 6 Row.off) (List._∷_ (3, Rows.mref-owed (Referent.rtF (Referent.fInt Syntax.w64)) (Syntax.tyRef (Syntax.named 2) Syntax.mut (Syntax.tyInt Syntax.w64)) 2 7 Row.off) (List._∷_ (4, Relend.mslice-owed (Referent.rtF (Referent.fInt Syntax.w8)) (Syntax.tyRef (Syntax.named 3) Syntax.mut (Syntax.tyInt Syntax.w8)) 3 8 Row.off) (List._∷_ (5, Relend.mslice-owed (Referent.rtF (Referent.fInt Syntax.w8)) (Syntax.tyRef (Syntax.named 4) Syntax.mut (Syntax.tyInt Syntax.w8)) 4 9 Row.off) (List._∷_ (6, Rows.any-gone (Laws.mir)) (List._∷_ (7, Rows.any-gone (Syntax.tyRef Syntax.erased Syntax.mut OfOutput.named)) (List._∷_ (8, Mut.mslice (OfOutput.row) (Syntax.tyRef Syntax.erased Syntax.mut OfOutput.named) 5) (List._∷_ (9, Rows.any-gone (Syntax.tyRef Syntax.erased Syntax.mut OfStation.named)) (List._∷_ (10, Mut.mslice (OfStation.row) (Syntax.tyRef Syntax.erased Syntax.mut OfStation.named) 6) (List._∷_ (11, Rows.mref (Referent.rtF (Referent.fInt Syntax.w64)) (Syntax.tyRef Syntax.erased Syntax.mut (Syntax.tyInt Syntax.w64)) 7) (List._∷_ (12, Rows.any-gone (Syntax.tyRef Syntax.erased Syntax.mut (Syntax.tyInt Syntax.w8))) (List._∷_ (13, Mut.mslice (Referent.rtF (Referent.fInt Syntax.w8)) (Syntax.tyRef Syntax.erased Syntax.mut (Syntax.tyInt Syntax.w8)) 8) (List._∷_ (14, Relend.msptr (Referent.rtF (Referent.fInt Syntax.w8)) (Syntax.tyRef Syntax.erased Syntax.mut (Syntax.tyInt Syntax.w8)) 9) (List._∷_ (15, Rows.any-gone (Syntax.tyStruct (List._∷_ 38 (List._∷_ 91 (List._∷_ 93 List.[]))) (Syntax.tcons (Syntax.tyRef Syntax.erased Syntax.mut (Syntax.tyInt Syntax.w8)) (Syntax.tcons (Syntax.tyInt Syntax.w64) Syntax.tnil)))) List.[])))))))))))))))
+t10 = List._∷_ (0, Rows.any-gone Syntax.tyUnit) (List._∷_ (1, Relend.mslice-owed (OfOutput.row) (Syntax.tyRef (Syntax.named 0) Syntax.mut OfOutput.named) 0 5 Row.off) (List._∷_ (2, Relend.mslice-owed (OfStation.row) (Syntax.tyRef (Syntax.named 1) Syntax.mut OfStation.named) 1 6 Row.off) (List._∷_ (3, Rows.mref-owed (OfPanelRecord.row) (Syntax.tyRef (Syntax.named 2) Syntax.mut OfPanelRecord.named) 2 7 Row.off) (List._∷_ (4, Relend.mslice-owed (Referent.rtF (Referent.fInt Syntax.w8)) (Syntax.tyRef (Syntax.named 3) Syntax.mut (Syntax.tyInt Syntax.w8)) 3 8 Row.off) (List._∷_ (5, Relend.mslice-owed (Referent.rtF (Referent.fInt Syntax.w8)) (Syntax.tyRef (Syntax.named 4) Syntax.mut (Syntax.tyInt Syntax.w8)) 4 9 Row.off) (List._∷_ (6, Rows.any-gone (Laws.mir)) (List._∷_ (7, Rows.any-gone (Syntax.tyRef Syntax.erased Syntax.mut OfOutput.named)) (List._∷_ (8, Mut.mslice (OfOutput.row) (Syntax.tyRef Syntax.erased Syntax.mut OfOutput.named) 5) (List._∷_ (9, Rows.any-gone (Syntax.tyRef Syntax.erased Syntax.mut OfStation.named)) (List._∷_ (10, Mut.mslice (OfStation.row) (Syntax.tyRef Syntax.erased Syntax.mut OfStation.named) 6) (List._∷_ (11, Rows.mref (OfPanelRecord.row) (Syntax.tyRef Syntax.erased Syntax.mut OfPanelRecord.named) 7) (List._∷_ (12, Rows.any-gone (Syntax.tyRef Syntax.erased Syntax.mut (Syntax.tyInt Syntax.w8))) (List._∷_ (13, Mut.mslice (Referent.rtF (Referent.fInt Syntax.w8)) (Syntax.tyRef Syntax.erased Syntax.mut (Syntax.tyInt Syntax.w8)) 8) (List._∷_ (14, Relend.msptr (Referent.rtF (Referent.fInt Syntax.w8)) (Syntax.tyRef Syntax.erased Syntax.mut (Syntax.tyInt Syntax.w8)) 9) (List._∷_ (15, Rows.any-gone (Syntax.tyStruct (List._∷_ 38 (List._∷_ 91 (List._∷_ 93 List.[]))) (Syntax.tcons (Syntax.tyRef Syntax.erased Syntax.mut (Syntax.tyInt Syntax.w8)) (Syntax.tcons (Syntax.tyInt Syntax.w64) Syntax.tnil)))) List.[])))))))))))))))
 
 abbrev pub t11 : List.List Row.Entry
-t11 = List._∷_ (0, Rows.any-gone Syntax.tyUnit) (List._∷_ (1, Relend.mslice-owed (OfOutput.row) (Syntax.tyRef (Syntax.named 0) Syntax.mut OfOutput.named) 0 5 Row.off) (List._∷_ (2, Relend.mslice-owed (OfStation.row) (Syntax.tyRef (Syntax.named 1) Syntax.mut OfStation.named) 1 6 Row.off) (List._∷_ (3, Rows.mref-owed (Referent.rtF (Referent.fInt Syntax.w64)) (Syntax.tyRef (Syntax.named 2) Syntax.mut (Syntax.tyInt Syntax.w64)) 2 7 Row.off) (List._∷_ (4, Relend.mslice-owed (Referent.rtF (Referent.fInt Syntax.w8)) (Syntax.tyRef (Syntax.named 3) Syntax.mut (Syntax.tyInt Syntax.w8)) 3 8 Row.off) (List._∷_ (5, Relend.mslice-owed (Referent.rtF (Referent.fInt Syntax.w8)) (Syntax.tyRef (Syntax.named 4) Syntax.mut (Syntax.tyInt Syntax.w8)) 4 9 Row.off) (List._∷_ (6, Rows.any-gone (Laws.mir)) (List._∷_ (7, Rows.any-gone (Syntax.tyRef Syntax.erased Syntax.mut OfOutput.named)) (List._∷_ (8, Mut.mslice (OfOutput.row) (Syntax.tyRef Syntax.erased Syntax.mut OfOutput.named) 5) (List._∷_ (9, Rows.any-gone (Syntax.tyRef Syntax.erased Syntax.mut OfStation.named)) (List._∷_ (10, Mut.mslice (OfStation.row) (Syntax.tyRef Syntax.erased Syntax.mut OfStation.named) 6) (List._∷_ (11, Rows.mref (Referent.rtF (Referent.fInt Syntax.w64)) (Syntax.tyRef Syntax.erased Syntax.mut (Syntax.tyInt Syntax.w64)) 7) (List._∷_ (12, Rows.any-gone (Syntax.tyRef Syntax.erased Syntax.mut (Syntax.tyInt Syntax.w8))) (List._∷_ (13, Mut.mslice (Referent.rtF (Referent.fInt Syntax.w8)) (Syntax.tyRef Syntax.erased Syntax.mut (Syntax.tyInt Syntax.w8)) 8) (List._∷_ (14, Rows.any-gone (Syntax.tyRef Syntax.erased Syntax.mut (Syntax.tyInt Syntax.w8))) (List._∷_ (15, Mut.mslice (Referent.rtF (Referent.fInt Syntax.w8)) (Syntax.tyRef Syntax.erased Syntax.mut (Syntax.tyInt Syntax.w8)) 9) List.[])))))))))))))))
+t11 = List._∷_ (0, Rows.any-gone Syntax.tyUnit) (List._∷_ (1, Relend.mslice-owed (OfOutput.row) (Syntax.tyRef (Syntax.named 0) Syntax.mut OfOutput.named) 0 5 Row.off) (List._∷_ (2, Relend.mslice-owed (OfStation.row) (Syntax.tyRef (Syntax.named 1) Syntax.mut OfStation.named) 1 6 Row.off) (List._∷_ (3, Rows.mref-owed (OfPanelRecord.row) (Syntax.tyRef (Syntax.named 2) Syntax.mut OfPanelRecord.named) 2 7 Row.off) (List._∷_ (4, Relend.mslice-owed (Referent.rtF (Referent.fInt Syntax.w8)) (Syntax.tyRef (Syntax.named 3) Syntax.mut (Syntax.tyInt Syntax.w8)) 3 8 Row.off) (List._∷_ (5, Relend.mslice-owed (Referent.rtF (Referent.fInt Syntax.w8)) (Syntax.tyRef (Syntax.named 4) Syntax.mut (Syntax.tyInt Syntax.w8)) 4 9 Row.off) (List._∷_ (6, Rows.any-gone (Laws.mir)) (List._∷_ (7, Rows.any-gone (Syntax.tyRef Syntax.erased Syntax.mut OfOutput.named)) (List._∷_ (8, Mut.mslice (OfOutput.row) (Syntax.tyRef Syntax.erased Syntax.mut OfOutput.named) 5) (List._∷_ (9, Rows.any-gone (Syntax.tyRef Syntax.erased Syntax.mut OfStation.named)) (List._∷_ (10, Mut.mslice (OfStation.row) (Syntax.tyRef Syntax.erased Syntax.mut OfStation.named) 6) (List._∷_ (11, Rows.mref (OfPanelRecord.row) (Syntax.tyRef Syntax.erased Syntax.mut OfPanelRecord.named) 7) (List._∷_ (12, Rows.any-gone (Syntax.tyRef Syntax.erased Syntax.mut (Syntax.tyInt Syntax.w8))) (List._∷_ (13, Mut.mslice (Referent.rtF (Referent.fInt Syntax.w8)) (Syntax.tyRef Syntax.erased Syntax.mut (Syntax.tyInt Syntax.w8)) 8) (List._∷_ (14, Rows.any-gone (Syntax.tyRef Syntax.erased Syntax.mut (Syntax.tyInt Syntax.w8))) (List._∷_ (15, Mut.mslice (Referent.rtF (Referent.fInt Syntax.w8)) (Syntax.tyRef Syntax.erased Syntax.mut (Syntax.tyInt Syntax.w8)) 9) List.[])))))))))))))))
 
 abbrev pub t12 : List.List Row.Entry
-t12 = List._∷_ (0, Rows.any-gone Syntax.tyUnit) (List._∷_ (1, Relend.mslice-owed (OfOutput.row) (Syntax.tyRef (Syntax.named 0) Syntax.mut OfOutput.named) 0 5 Row.off) (List._∷_ (2, Relend.mslice-owed (OfStation.row) (Syntax.tyRef (Syntax.named 1) Syntax.mut OfStation.named) 1 6 Row.off) (List._∷_ (3, Rows.mref-owed (Referent.rtF (Referent.fInt Syntax.w64)) (Syntax.tyRef (Syntax.named 2) Syntax.mut (Syntax.tyInt Syntax.w64)) 2 7 Row.off) (List._∷_ (4, Relend.mslice-owed (Referent.rtF (Referent.fInt Syntax.w8)) (Syntax.tyRef (Syntax.named 3) Syntax.mut (Syntax.tyInt Syntax.w8)) 3 8 Row.off) (List._∷_ (5, Relend.mslice-owed (Referent.rtF (Referent.fInt Syntax.w8)) (Syntax.tyRef (Syntax.named 4) Syntax.mut (Syntax.tyInt Syntax.w8)) 4 9 Row.off) (List._∷_ (6, Rows.whole (Declared.row Turn.the-type)) (List._∷_ (7, Rows.any-gone (Syntax.tyRef Syntax.erased Syntax.mut OfOutput.named)) (List._∷_ (8, Mut.msleft (OfOutput.row) (Syntax.tyRef Syntax.erased Syntax.mut OfOutput.named)) (List._∷_ (9, Rows.any-gone (Syntax.tyRef Syntax.erased Syntax.mut OfStation.named)) (List._∷_ (10, Mut.msleft (OfStation.row) (Syntax.tyRef Syntax.erased Syntax.mut OfStation.named)) (List._∷_ (11, Rows.mleft (Referent.rtF (Referent.fInt Syntax.w64)) (Syntax.tyRef Syntax.erased Syntax.mut (Syntax.tyInt Syntax.w64))) (List._∷_ (12, Rows.any-gone (Syntax.tyRef Syntax.erased Syntax.mut (Syntax.tyInt Syntax.w8))) (List._∷_ (13, Mut.msleft (Referent.rtF (Referent.fInt Syntax.w8)) (Syntax.tyRef Syntax.erased Syntax.mut (Syntax.tyInt Syntax.w8))) (List._∷_ (14, Rows.any-gone (Syntax.tyRef Syntax.erased Syntax.mut (Syntax.tyInt Syntax.w8))) (List._∷_ (15, Mut.msleft (Referent.rtF (Referent.fInt Syntax.w8)) (Syntax.tyRef Syntax.erased Syntax.mut (Syntax.tyInt Syntax.w8))) List.[])))))))))))))))
+t12 = List._∷_ (0, Rows.any-gone Syntax.tyUnit) (List._∷_ (1, Relend.mslice-owed (OfOutput.row) (Syntax.tyRef (Syntax.named 0) Syntax.mut OfOutput.named) 0 5 Row.off) (List._∷_ (2, Relend.mslice-owed (OfStation.row) (Syntax.tyRef (Syntax.named 1) Syntax.mut OfStation.named) 1 6 Row.off) (List._∷_ (3, Rows.mref-owed (OfPanelRecord.row) (Syntax.tyRef (Syntax.named 2) Syntax.mut OfPanelRecord.named) 2 7 Row.off) (List._∷_ (4, Relend.mslice-owed (Referent.rtF (Referent.fInt Syntax.w8)) (Syntax.tyRef (Syntax.named 3) Syntax.mut (Syntax.tyInt Syntax.w8)) 3 8 Row.off) (List._∷_ (5, Relend.mslice-owed (Referent.rtF (Referent.fInt Syntax.w8)) (Syntax.tyRef (Syntax.named 4) Syntax.mut (Syntax.tyInt Syntax.w8)) 4 9 Row.off) (List._∷_ (6, Rows.whole (Declared.row Turn.the-type)) (List._∷_ (7, Rows.any-gone (Syntax.tyRef Syntax.erased Syntax.mut OfOutput.named)) (List._∷_ (8, Mut.msleft (OfOutput.row) (Syntax.tyRef Syntax.erased Syntax.mut OfOutput.named)) (List._∷_ (9, Rows.any-gone (Syntax.tyRef Syntax.erased Syntax.mut OfStation.named)) (List._∷_ (10, Mut.msleft (OfStation.row) (Syntax.tyRef Syntax.erased Syntax.mut OfStation.named)) (List._∷_ (11, Rows.mleft (OfPanelRecord.row) (Syntax.tyRef Syntax.erased Syntax.mut OfPanelRecord.named)) (List._∷_ (12, Rows.any-gone (Syntax.tyRef Syntax.erased Syntax.mut (Syntax.tyInt Syntax.w8))) (List._∷_ (13, Mut.msleft (Referent.rtF (Referent.fInt Syntax.w8)) (Syntax.tyRef Syntax.erased Syntax.mut (Syntax.tyInt Syntax.w8))) (List._∷_ (14, Rows.any-gone (Syntax.tyRef Syntax.erased Syntax.mut (Syntax.tyInt Syntax.w8))) (List._∷_ (15, Mut.msleft (Referent.rtF (Referent.fInt Syntax.w8)) (Syntax.tyRef Syntax.erased Syntax.mut (Syntax.tyInt Syntax.w8))) List.[])))))))))))))))
 
 abbrev pub t13 : List.List Row.Entry
-t13 = List._∷_ (0, Rows.any-gone Syntax.tyUnit) (List._∷_ (1, Mut.mslice (OfOutput.row) (Syntax.tyRef (Syntax.named 0) Syntax.mut OfOutput.named) 0) (List._∷_ (2, Relend.mslice-owed (OfStation.row) (Syntax.tyRef (Syntax.named 1) Syntax.mut OfStation.named) 1 6 Row.off) (List._∷_ (3, Rows.mref-owed (Referent.rtF (Referent.fInt Syntax.w64)) (Syntax.tyRef (Syntax.named 2) Syntax.mut (Syntax.tyInt Syntax.w64)) 2 7 Row.off) (List._∷_ (4, Relend.mslice-owed (Referent.rtF (Referent.fInt Syntax.w8)) (Syntax.tyRef (Syntax.named 3) Syntax.mut (Syntax.tyInt Syntax.w8)) 3 8 Row.off) (List._∷_ (5, Relend.mslice-owed (Referent.rtF (Referent.fInt Syntax.w8)) (Syntax.tyRef (Syntax.named 4) Syntax.mut (Syntax.tyInt Syntax.w8)) 4 9 Row.off) (List._∷_ (6, Rows.whole (Declared.row Turn.the-type)) (List._∷_ (7, Rows.any-gone (Syntax.tyRef Syntax.erased Syntax.mut OfOutput.named)) (List._∷_ (8, Rows.any-gone (Syntax.tyStruct (List._∷_ 38 (List._∷_ 91 (List._∷_ 93 List.[]))) (Syntax.tcons (Syntax.tyRef Syntax.erased Syntax.mut OfOutput.named) (Syntax.tcons (Syntax.tyInt Syntax.w64) Syntax.tnil)))) (List._∷_ (9, Rows.any-gone (Syntax.tyRef Syntax.erased Syntax.mut OfStation.named)) (List._∷_ (10, Mut.msleft (OfStation.row) (Syntax.tyRef Syntax.erased Syntax.mut OfStation.named)) (List._∷_ (11, Rows.mleft (Referent.rtF (Referent.fInt Syntax.w64)) (Syntax.tyRef Syntax.erased Syntax.mut (Syntax.tyInt Syntax.w64))) (List._∷_ (12, Rows.any-gone (Syntax.tyRef Syntax.erased Syntax.mut (Syntax.tyInt Syntax.w8))) (List._∷_ (13, Mut.msleft (Referent.rtF (Referent.fInt Syntax.w8)) (Syntax.tyRef Syntax.erased Syntax.mut (Syntax.tyInt Syntax.w8))) (List._∷_ (14, Rows.any-gone (Syntax.tyRef Syntax.erased Syntax.mut (Syntax.tyInt Syntax.w8))) (List._∷_ (15, Mut.msleft (Referent.rtF (Referent.fInt Syntax.w8)) (Syntax.tyRef Syntax.erased Syntax.mut (Syntax.tyInt Syntax.w8))) List.[])))))))))))))))
+t13 = List._∷_ (0, Rows.any-gone Syntax.tyUnit) (List._∷_ (1, Mut.mslice (OfOutput.row) (Syntax.tyRef (Syntax.named 0) Syntax.mut OfOutput.named) 0) (List._∷_ (2, Relend.mslice-owed (OfStation.row) (Syntax.tyRef (Syntax.named 1) Syntax.mut OfStation.named) 1 6 Row.off) (List._∷_ (3, Rows.mref-owed (OfPanelRecord.row) (Syntax.tyRef (Syntax.named 2) Syntax.mut OfPanelRecord.named) 2 7 Row.off) (List._∷_ (4, Relend.mslice-owed (Referent.rtF (Referent.fInt Syntax.w8)) (Syntax.tyRef (Syntax.named 3) Syntax.mut (Syntax.tyInt Syntax.w8)) 3 8 Row.off) (List._∷_ (5, Relend.mslice-owed (Referent.rtF (Referent.fInt Syntax.w8)) (Syntax.tyRef (Syntax.named 4) Syntax.mut (Syntax.tyInt Syntax.w8)) 4 9 Row.off) (List._∷_ (6, Rows.whole (Declared.row Turn.the-type)) (List._∷_ (7, Rows.any-gone (Syntax.tyRef Syntax.erased Syntax.mut OfOutput.named)) (List._∷_ (8, Rows.any-gone (Syntax.tyStruct (List._∷_ 38 (List._∷_ 91 (List._∷_ 93 List.[]))) (Syntax.tcons (Syntax.tyRef Syntax.erased Syntax.mut OfOutput.named) (Syntax.tcons (Syntax.tyInt Syntax.w64) Syntax.tnil)))) (List._∷_ (9, Rows.any-gone (Syntax.tyRef Syntax.erased Syntax.mut OfStation.named)) (List._∷_ (10, Mut.msleft (OfStation.row) (Syntax.tyRef Syntax.erased Syntax.mut OfStation.named)) (List._∷_ (11, Rows.mleft (OfPanelRecord.row) (Syntax.tyRef Syntax.erased Syntax.mut OfPanelRecord.named)) (List._∷_ (12, Rows.any-gone (Syntax.tyRef Syntax.erased Syntax.mut (Syntax.tyInt Syntax.w8))) (List._∷_ (13, Mut.msleft (Referent.rtF (Referent.fInt Syntax.w8)) (Syntax.tyRef Syntax.erased Syntax.mut (Syntax.tyInt Syntax.w8))) (List._∷_ (14, Rows.any-gone (Syntax.tyRef Syntax.erased Syntax.mut (Syntax.tyInt Syntax.w8))) (List._∷_ (15, Mut.msleft (Referent.rtF (Referent.fInt Syntax.w8)) (Syntax.tyRef Syntax.erased Syntax.mut (Syntax.tyInt Syntax.w8))) List.[])))))))))))))))
 
 abbrev pub t14 : List.List Row.Entry
-t14 = List._∷_ (0, Rows.any-gone Syntax.tyUnit) (List._∷_ (1, Mut.mslice (OfOutput.row) (Syntax.tyRef (Syntax.named 0) Syntax.mut OfOutput.named) 0) (List._∷_ (2, Mut.mslice (OfStation.row) (Syntax.tyRef (Syntax.named 1) Syntax.mut OfStation.named) 1) (List._∷_ (3, Rows.mref-owed (Referent.rtF (Referent.fInt Syntax.w64)) (Syntax.tyRef (Syntax.named 2) Syntax.mut (Syntax.tyInt Syntax.w64)) 2 7 Row.off) (List._∷_ (4, Relend.mslice-owed (Referent.rtF (Referent.fInt Syntax.w8)) (Syntax.tyRef (Syntax.named 3) Syntax.mut (Syntax.tyInt Syntax.w8)) 3 8 Row.off) (List._∷_ (5, Relend.mslice-owed (Referent.rtF (Referent.fInt Syntax.w8)) (Syntax.tyRef (Syntax.named 4) Syntax.mut (Syntax.tyInt Syntax.w8)) 4 9 Row.off) (List._∷_ (6, Rows.whole (Declared.row Turn.the-type)) (List._∷_ (7, Rows.any-gone (Syntax.tyRef Syntax.erased Syntax.mut OfOutput.named)) (List._∷_ (8, Rows.any-gone (Syntax.tyStruct (List._∷_ 38 (List._∷_ 91 (List._∷_ 93 List.[]))) (Syntax.tcons (Syntax.tyRef Syntax.erased Syntax.mut OfOutput.named) (Syntax.tcons (Syntax.tyInt Syntax.w64) Syntax.tnil)))) (List._∷_ (9, Rows.any-gone (Syntax.tyRef Syntax.erased Syntax.mut OfStation.named)) (List._∷_ (10, Rows.any-gone (Syntax.tyStruct (List._∷_ 38 (List._∷_ 91 (List._∷_ 93 List.[]))) (Syntax.tcons (Syntax.tyRef Syntax.erased Syntax.mut OfStation.named) (Syntax.tcons (Syntax.tyInt Syntax.w64) Syntax.tnil)))) (List._∷_ (11, Rows.mleft (Referent.rtF (Referent.fInt Syntax.w64)) (Syntax.tyRef Syntax.erased Syntax.mut (Syntax.tyInt Syntax.w64))) (List._∷_ (12, Rows.any-gone (Syntax.tyRef Syntax.erased Syntax.mut (Syntax.tyInt Syntax.w8))) (List._∷_ (13, Mut.msleft (Referent.rtF (Referent.fInt Syntax.w8)) (Syntax.tyRef Syntax.erased Syntax.mut (Syntax.tyInt Syntax.w8))) (List._∷_ (14, Rows.any-gone (Syntax.tyRef Syntax.erased Syntax.mut (Syntax.tyInt Syntax.w8))) (List._∷_ (15, Mut.msleft (Referent.rtF (Referent.fInt Syntax.w8)) (Syntax.tyRef Syntax.erased Syntax.mut (Syntax.tyInt Syntax.w8))) List.[])))))))))))))))
+t14 = List._∷_ (0, Rows.any-gone Syntax.tyUnit) (List._∷_ (1, Mut.mslice (OfOutput.row) (Syntax.tyRef (Syntax.named 0) Syntax.mut OfOutput.named) 0) (List._∷_ (2, Mut.mslice (OfStation.row) (Syntax.tyRef (Syntax.named 1) Syntax.mut OfStation.named) 1) (List._∷_ (3, Rows.mref-owed (OfPanelRecord.row) (Syntax.tyRef (Syntax.named 2) Syntax.mut OfPanelRecord.named) 2 7 Row.off) (List._∷_ (4, Relend.mslice-owed (Referent.rtF (Referent.fInt Syntax.w8)) (Syntax.tyRef (Syntax.named 3) Syntax.mut (Syntax.tyInt Syntax.w8)) 3 8 Row.off) (List._∷_ (5, Relend.mslice-owed (Referent.rtF (Referent.fInt Syntax.w8)) (Syntax.tyRef (Syntax.named 4) Syntax.mut (Syntax.tyInt Syntax.w8)) 4 9 Row.off) (List._∷_ (6, Rows.whole (Declared.row Turn.the-type)) (List._∷_ (7, Rows.any-gone (Syntax.tyRef Syntax.erased Syntax.mut OfOutput.named)) (List._∷_ (8, Rows.any-gone (Syntax.tyStruct (List._∷_ 38 (List._∷_ 91 (List._∷_ 93 List.[]))) (Syntax.tcons (Syntax.tyRef Syntax.erased Syntax.mut OfOutput.named) (Syntax.tcons (Syntax.tyInt Syntax.w64) Syntax.tnil)))) (List._∷_ (9, Rows.any-gone (Syntax.tyRef Syntax.erased Syntax.mut OfStation.named)) (List._∷_ (10, Rows.any-gone (Syntax.tyStruct (List._∷_ 38 (List._∷_ 91 (List._∷_ 93 List.[]))) (Syntax.tcons (Syntax.tyRef Syntax.erased Syntax.mut OfStation.named) (Syntax.tcons (Syntax.tyInt Syntax.w64) Syntax.tnil)))) (List._∷_ (11, Rows.mleft (OfPanelRecord.row) (Syntax.tyRef Syntax.erased Syntax.mut OfPanelRecord.named)) (List._∷_ (12, Rows.any-gone (Syntax.tyRef Syntax.erased Syntax.mut (Syntax.tyInt Syntax.w8))) (List._∷_ (13, Mut.msleft (Referent.rtF (Referent.fInt Syntax.w8)) (Syntax.tyRef Syntax.erased Syntax.mut (Syntax.tyInt Syntax.w8))) (List._∷_ (14, Rows.any-gone (Syntax.tyRef Syntax.erased Syntax.mut (Syntax.tyInt Syntax.w8))) (List._∷_ (15, Mut.msleft (Referent.rtF (Referent.fInt Syntax.w8)) (Syntax.tyRef Syntax.erased Syntax.mut (Syntax.tyInt Syntax.w8))) List.[])))))))))))))))
 
 abbrev pub t15 : List.List Row.Entry
-t15 = List._∷_ (0, Rows.any-gone Syntax.tyUnit) (List._∷_ (1, Mut.mslice (OfOutput.row) (Syntax.tyRef (Syntax.named 0) Syntax.mut OfOutput.named) 0) (List._∷_ (2, Mut.mslice (OfStation.row) (Syntax.tyRef (Syntax.named 1) Syntax.mut OfStation.named) 1) (List._∷_ (3, Rows.mref (Referent.rtF (Referent.fInt Syntax.w64)) (Syntax.tyRef (Syntax.named 2) Syntax.mut (Syntax.tyInt Syntax.w64)) 2) (List._∷_ (4, Relend.mslice-owed (Referent.rtF (Referent.fInt Syntax.w8)) (Syntax.tyRef (Syntax.named 3) Syntax.mut (Syntax.tyInt Syntax.w8)) 3 8 Row.off) (List._∷_ (5, Relend.mslice-owed (Referent.rtF (Referent.fInt Syntax.w8)) (Syntax.tyRef (Syntax.named 4) Syntax.mut (Syntax.tyInt Syntax.w8)) 4 9 Row.off) (List._∷_ (6, Rows.whole (Declared.row Turn.the-type)) (List._∷_ (7, Rows.any-gone (Syntax.tyRef Syntax.erased Syntax.mut OfOutput.named)) (List._∷_ (8, Rows.any-gone (Syntax.tyStruct (List._∷_ 38 (List._∷_ 91 (List._∷_ 93 List.[]))) (Syntax.tcons (Syntax.tyRef Syntax.erased Syntax.mut OfOutput.named) (Syntax.tcons (Syntax.tyInt Syntax.w64) Syntax.tnil)))) (List._∷_ (9, Rows.any-gone (Syntax.tyRef Syntax.erased Syntax.mut OfStation.named)) (List._∷_ (10, Rows.any-gone (Syntax.tyStruct (List._∷_ 38 (List._∷_ 91 (List._∷_ 93 List.[]))) (Syntax.tcons (Syntax.tyRef Syntax.erased Syntax.mut OfStation.named) (Syntax.tcons (Syntax.tyInt Syntax.w64) Syntax.tnil)))) (List._∷_ (11, Rows.any-gone (Syntax.tyRef Syntax.erased Syntax.mut (Syntax.tyInt Syntax.w64))) (List._∷_ (12, Rows.any-gone (Syntax.tyRef Syntax.erased Syntax.mut (Syntax.tyInt Syntax.w8))) (List._∷_ (13, Mut.msleft (Referent.rtF (Referent.fInt Syntax.w8)) (Syntax.tyRef Syntax.erased Syntax.mut (Syntax.tyInt Syntax.w8))) (List._∷_ (14, Rows.any-gone (Syntax.tyRef Syntax.erased Syntax.mut (Syntax.tyInt Syntax.w8))) (List._∷_ (15, Mut.msleft (Referent.rtF (Referent.fInt Syntax.w8)) (Syntax.tyRef Syntax.erased Syntax.mut (Syntax.tyInt Syntax.w8))) List.[])))))))))))))))
+t15 = List._∷_ (0, Rows.any-gone Syntax.tyUnit) (List._∷_ (1, Mut.mslice (OfOutput.row) (Syntax.tyRef (Syntax.named 0) Syntax.mut OfOutput.named) 0) (List._∷_ (2, Mut.mslice (OfStation.row) (Syntax.tyRef (Syntax.named 1) Syntax.mut OfStation.named) 1) (List._∷_ (3, Rows.mref (OfPanelRecord.row) (Syntax.tyRef (Syntax.named 2) Syntax.mut OfPanelRecord.named) 2) (List._∷_ (4, Relend.mslice-owed (Referent.rtF (Referent.fInt Syntax.w8)) (Syntax.tyRef (Syntax.named 3) Syntax.mut (Syntax.tyInt Syntax.w8)) 3 8 Row.off) (List._∷_ (5, Relend.mslice-owed (Referent.rtF (Referent.fInt Syntax.w8)) (Syntax.tyRef (Syntax.named 4) Syntax.mut (Syntax.tyInt Syntax.w8)) 4 9 Row.off) (List._∷_ (6, Rows.whole (Declared.row Turn.the-type)) (List._∷_ (7, Rows.any-gone (Syntax.tyRef Syntax.erased Syntax.mut OfOutput.named)) (List._∷_ (8, Rows.any-gone (Syntax.tyStruct (List._∷_ 38 (List._∷_ 91 (List._∷_ 93 List.[]))) (Syntax.tcons (Syntax.tyRef Syntax.erased Syntax.mut OfOutput.named) (Syntax.tcons (Syntax.tyInt Syntax.w64) Syntax.tnil)))) (List._∷_ (9, Rows.any-gone (Syntax.tyRef Syntax.erased Syntax.mut OfStation.named)) (List._∷_ (10, Rows.any-gone (Syntax.tyStruct (List._∷_ 38 (List._∷_ 91 (List._∷_ 93 List.[]))) (Syntax.tcons (Syntax.tyRef Syntax.erased Syntax.mut OfStation.named) (Syntax.tcons (Syntax.tyInt Syntax.w64) Syntax.tnil)))) (List._∷_ (11, Rows.any-gone (Syntax.tyRef Syntax.erased Syntax.mut OfPanelRecord.named)) (List._∷_ (12, Rows.any-gone (Syntax.tyRef Syntax.erased Syntax.mut (Syntax.tyInt Syntax.w8))) (List._∷_ (13, Mut.msleft (Referent.rtF (Referent.fInt Syntax.w8)) (Syntax.tyRef Syntax.erased Syntax.mut (Syntax.tyInt Syntax.w8))) (List._∷_ (14, Rows.any-gone (Syntax.tyRef Syntax.erased Syntax.mut (Syntax.tyInt Syntax.w8))) (List._∷_ (15, Mut.msleft (Referent.rtF (Referent.fInt Syntax.w8)) (Syntax.tyRef Syntax.erased Syntax.mut (Syntax.tyInt Syntax.w8))) List.[])))))))))))))))
 
 abbrev pub t16 : List.List Row.Entry
-t16 = List._∷_ (0, Rows.any-gone Syntax.tyUnit) (List._∷_ (1, Mut.mslice (OfOutput.row) (Syntax.tyRef (Syntax.named 0) Syntax.mut OfOutput.named) 0) (List._∷_ (2, Mut.mslice (OfStation.row) (Syntax.tyRef (Syntax.named 1) Syntax.mut OfStation.named) 1) (List._∷_ (3, Rows.mref (Referent.rtF (Referent.fInt Syntax.w64)) (Syntax.tyRef (Syntax.named 2) Syntax.mut (Syntax.tyInt Syntax.w64)) 2) (List._∷_ (4, Mut.mslice (Referent.rtF (Referent.fInt Syntax.w8)) (Syntax.tyRef (Syntax.named 3) Syntax.mut (Syntax.tyInt Syntax.w8)) 3) (List._∷_ (5, Relend.mslice-owed (Referent.rtF (Referent.fInt Syntax.w8)) (Syntax.tyRef (Syntax.named 4) Syntax.mut (Syntax.tyInt Syntax.w8)) 4 9 Row.off) (List._∷_ (6, Rows.whole (Declared.row Turn.the-type)) (List._∷_ (7, Rows.any-gone (Syntax.tyRef Syntax.erased Syntax.mut OfOutput.named)) (List._∷_ (8, Rows.any-gone (Syntax.tyStruct (List._∷_ 38 (List._∷_ 91 (List._∷_ 93 List.[]))) (Syntax.tcons (Syntax.tyRef Syntax.erased Syntax.mut OfOutput.named) (Syntax.tcons (Syntax.tyInt Syntax.w64) Syntax.tnil)))) (List._∷_ (9, Rows.any-gone (Syntax.tyRef Syntax.erased Syntax.mut OfStation.named)) (List._∷_ (10, Rows.any-gone (Syntax.tyStruct (List._∷_ 38 (List._∷_ 91 (List._∷_ 93 List.[]))) (Syntax.tcons (Syntax.tyRef Syntax.erased Syntax.mut OfStation.named) (Syntax.tcons (Syntax.tyInt Syntax.w64) Syntax.tnil)))) (List._∷_ (11, Rows.any-gone (Syntax.tyRef Syntax.erased Syntax.mut (Syntax.tyInt Syntax.w64))) (List._∷_ (12, Rows.any-gone (Syntax.tyRef Syntax.erased Syntax.mut (Syntax.tyInt Syntax.w8))) (List._∷_ (13, Rows.any-gone (Syntax.tyStruct (List._∷_ 38 (List._∷_ 91 (List._∷_ 93 List.[]))) (Syntax.tcons (Syntax.tyRef Syntax.erased Syntax.mut (Syntax.tyInt Syntax.w8)) (Syntax.tcons (Syntax.tyInt Syntax.w64) Syntax.tnil)))) (List._∷_ (14, Rows.any-gone (Syntax.tyRef Syntax.erased Syntax.mut (Syntax.tyInt Syntax.w8))) (List._∷_ (15, Mut.msleft (Referent.rtF (Referent.fInt Syntax.w8)) (Syntax.tyRef Syntax.erased Syntax.mut (Syntax.tyInt Syntax.w8))) List.[])))))))))))))))
+t16 = List._∷_ (0, Rows.any-gone Syntax.tyUnit) (List._∷_ (1, Mut.mslice (OfOutput.row) (Syntax.tyRef (Syntax.named 0) Syntax.mut OfOutput.named) 0) (List._∷_ (2, Mut.mslice (OfStation.row) (Syntax.tyRef (Syntax.named 1) Syntax.mut OfStation.named) 1) (List._∷_ (3, Rows.mref (OfPanelRecord.row) (Syntax.tyRef (Syntax.named 2) Syntax.mut OfPanelRecord.named) 2) (List._∷_ (4, Mut.mslice (Referent.rtF (Referent.fInt Syntax.w8)) (Syntax.tyRef (Syntax.named 3) Syntax.mut (Syntax.tyInt Syntax.w8)) 3) (List._∷_ (5, Relend.mslice-owed (Referent.rtF (Referent.fInt Syntax.w8)) (Syntax.tyRef (Syntax.named 4) Syntax.mut (Syntax.tyInt Syntax.w8)) 4 9 Row.off) (List._∷_ (6, Rows.whole (Declared.row Turn.the-type)) (List._∷_ (7, Rows.any-gone (Syntax.tyRef Syntax.erased Syntax.mut OfOutput.named)) (List._∷_ (8, Rows.any-gone (Syntax.tyStruct (List._∷_ 38 (List._∷_ 91 (List._∷_ 93 List.[]))) (Syntax.tcons (Syntax.tyRef Syntax.erased Syntax.mut OfOutput.named) (Syntax.tcons (Syntax.tyInt Syntax.w64) Syntax.tnil)))) (List._∷_ (9, Rows.any-gone (Syntax.tyRef Syntax.erased Syntax.mut OfStation.named)) (List._∷_ (10, Rows.any-gone (Syntax.tyStruct (List._∷_ 38 (List._∷_ 91 (List._∷_ 93 List.[]))) (Syntax.tcons (Syntax.tyRef Syntax.erased Syntax.mut OfStation.named) (Syntax.tcons (Syntax.tyInt Syntax.w64) Syntax.tnil)))) (List._∷_ (11, Rows.any-gone (Syntax.tyRef Syntax.erased Syntax.mut OfPanelRecord.named)) (List._∷_ (12, Rows.any-gone (Syntax.tyRef Syntax.erased Syntax.mut (Syntax.tyInt Syntax.w8))) (List._∷_ (13, Rows.any-gone (Syntax.tyStruct (List._∷_ 38 (List._∷_ 91 (List._∷_ 93 List.[]))) (Syntax.tcons (Syntax.tyRef Syntax.erased Syntax.mut (Syntax.tyInt Syntax.w8)) (Syntax.tcons (Syntax.tyInt Syntax.w64) Syntax.tnil)))) (List._∷_ (14, Rows.any-gone (Syntax.tyRef Syntax.erased Syntax.mut (Syntax.tyInt Syntax.w8))) (List._∷_ (15, Mut.msleft (Referent.rtF (Referent.fInt Syntax.w8)) (Syntax.tyRef Syntax.erased Syntax.mut (Syntax.tyInt Syntax.w8))) List.[])))))))))))))))
 
 abbrev pub t17 : List.List Row.Entry
-t17 = List._∷_ (0, Rows.any-gone Syntax.tyUnit) (List._∷_ (1, Mut.mslice (OfOutput.row) (Syntax.tyRef (Syntax.named 0) Syntax.mut OfOutput.named) 0) (List._∷_ (2, Mut.mslice (OfStation.row) (Syntax.tyRef (Syntax.named 1) Syntax.mut OfStation.named) 1) (List._∷_ (3, Rows.mref (Referent.rtF (Referent.fInt Syntax.w64)) (Syntax.tyRef (Syntax.named 2) Syntax.mut (Syntax.tyInt Syntax.w64)) 2) (List._∷_ (4, Mut.mslice (Referent.rtF (Referent.fInt Syntax.w8)) (Syntax.tyRef (Syntax.named 3) Syntax.mut (Syntax.tyInt Syntax.w8)) 3) (List._∷_ (5, Mut.mslice (Referent.rtF (Referent.fInt Syntax.w8)) (Syntax.tyRef (Syntax.named 4) Syntax.mut (Syntax.tyInt Syntax.w8)) 4) (List._∷_ (6, Rows.whole (Declared.row Turn.the-type)) (List._∷_ (7, Rows.any-gone (Syntax.tyRef Syntax.erased Syntax.mut OfOutput.named)) (List._∷_ (8, Rows.any-gone (Syntax.tyStruct (List._∷_ 38 (List._∷_ 91 (List._∷_ 93 List.[]))) (Syntax.tcons (Syntax.tyRef Syntax.erased Syntax.mut OfOutput.named) (Syntax.tcons (Syntax.tyInt Syntax.w64) Syntax.tnil)))) (List._∷_ (9, Rows.any-gone (Syntax.tyRef Syntax.erased Syntax.mut OfStation.named)) (List._∷_ (10, Rows.any-gone (Syntax.tyStruct (List._∷_ 38 (List._∷_ 91 (List._∷_ 93 List.[]))) (Syntax.tcons (Syntax.tyRef Syntax.erased Syntax.mut OfStation.named) (Syntax.tcons (Syntax.tyInt Syntax.w64) Syntax.tnil)))) (List._∷_ (11, Rows.any-gone (Syntax.tyRef Syntax.erased Syntax.mut (Syntax.tyInt Syntax.w64))) (List._∷_ (12, Rows.any-gone (Syntax.tyRef Syntax.erased Syntax.mut (Syntax.tyInt Syntax.w8))) (List._∷_ (13, Rows.any-gone (Syntax.tyStruct (List._∷_ 38 (List._∷_ 91 (List._∷_ 93 List.[]))) (Syntax.tcons (Syntax.tyRef Syntax.erased Syntax.mut (Syntax.tyInt Syntax.w8)) (Syntax.tcons (Syntax.tyInt Syntax.w64) Syntax.tnil)))) (List._∷_ (14, Rows.any-gone (Syntax.tyRef Syntax.erased Syntax.mut (Syntax.tyInt Syntax.w8))) (List._∷_ (15, Rows.any-gone (Syntax.tyStruct (List._∷_ 38 (List._∷_ 91 (List._∷_ 93 List.[]))) (Syntax.tcons (Syntax.tyRef Syntax.erased Syntax.mut (Syntax.tyInt Syntax.w8)) (Syntax.tcons (Syntax.tyInt Syntax.w64) Syntax.tnil)))) List.[])))))))))))))))
+t17 = List._∷_ (0, Rows.any-gone Syntax.tyUnit) (List._∷_ (1, Mut.mslice (OfOutput.row) (Syntax.tyRef (Syntax.named 0) Syntax.mut OfOutput.named) 0) (List._∷_ (2, Mut.mslice (OfStation.row) (Syntax.tyRef (Syntax.named 1) Syntax.mut OfStation.named) 1) (List._∷_ (3, Rows.mref (OfPanelRecord.row) (Syntax.tyRef (Syntax.named 2) Syntax.mut OfPanelRecord.named) 2) (List._∷_ (4, Mut.mslice (Referent.rtF (Referent.fInt Syntax.w8)) (Syntax.tyRef (Syntax.named 3) Syntax.mut (Syntax.tyInt Syntax.w8)) 3) (List._∷_ (5, Mut.mslice (Referent.rtF (Referent.fInt Syntax.w8)) (Syntax.tyRef (Syntax.named 4) Syntax.mut (Syntax.tyInt Syntax.w8)) 4) (List._∷_ (6, Rows.whole (Declared.row Turn.the-type)) (List._∷_ (7, Rows.any-gone (Syntax.tyRef Syntax.erased Syntax.mut OfOutput.named)) (List._∷_ (8, Rows.any-gone (Syntax.tyStruct (List._∷_ 38 (List._∷_ 91 (List._∷_ 93 List.[]))) (Syntax.tcons (Syntax.tyRef Syntax.erased Syntax.mut OfOutput.named) (Syntax.tcons (Syntax.tyInt Syntax.w64) Syntax.tnil)))) (List._∷_ (9, Rows.any-gone (Syntax.tyRef Syntax.erased Syntax.mut OfStation.named)) (List._∷_ (10, Rows.any-gone (Syntax.tyStruct (List._∷_ 38 (List._∷_ 91 (List._∷_ 93 List.[]))) (Syntax.tcons (Syntax.tyRef Syntax.erased Syntax.mut OfStation.named) (Syntax.tcons (Syntax.tyInt Syntax.w64) Syntax.tnil)))) (List._∷_ (11, Rows.any-gone (Syntax.tyRef Syntax.erased Syntax.mut OfPanelRecord.named)) (List._∷_ (12, Rows.any-gone (Syntax.tyRef Syntax.erased Syntax.mut (Syntax.tyInt Syntax.w8))) (List._∷_ (13, Rows.any-gone (Syntax.tyStruct (List._∷_ 38 (List._∷_ 91 (List._∷_ 93 List.[]))) (Syntax.tcons (Syntax.tyRef Syntax.erased Syntax.mut (Syntax.tyInt Syntax.w8)) (Syntax.tcons (Syntax.tyInt Syntax.w64) Syntax.tnil)))) (List._∷_ (14, Rows.any-gone (Syntax.tyRef Syntax.erased Syntax.mut (Syntax.tyInt Syntax.w8))) (List._∷_ (15, Rows.any-gone (Syntax.tyStruct (List._∷_ 38 (List._∷_ 91 (List._∷_ 93 List.[]))) (Syntax.tcons (Syntax.tyRef Syntax.erased Syntax.mut (Syntax.tyInt Syntax.w8)) (Syntax.tcons (Syntax.tyInt Syntax.w64) Syntax.tnil)))) List.[])))))))))))))))
 
 abbrev pub t18 : List.List Row.Entry
-t18 = List._∷_ (0, Rows.any-gone Syntax.tyUnit) (List._∷_ (1, Mut.mslice (OfOutput.row) (Syntax.tyRef (Syntax.named 0) Syntax.mut OfOutput.named) 0) (List._∷_ (2, Mut.mslice (OfStation.row) (Syntax.tyRef (Syntax.named 1) Syntax.mut OfStation.named) 1) (List._∷_ (3, Rows.mref (Referent.rtF (Referent.fInt Syntax.w64)) (Syntax.tyRef (Syntax.named 2) Syntax.mut (Syntax.tyInt Syntax.w64)) 2) (List._∷_ (4, Reshare.mslice-owedS (Referent.rtF (Referent.fInt Syntax.w8)) (Syntax.tyRef (Syntax.named 3) Syntax.mut (Syntax.tyInt Syntax.w8)) 3 10 Row.off) (List._∷_ (5, Mut.mslice (Referent.rtF (Referent.fInt Syntax.w8)) (Syntax.tyRef (Syntax.named 4) Syntax.mut (Syntax.tyInt Syntax.w8)) 4) (List._∷_ (6, Rows.whole (Declared.row Turn.the-type)) (List._∷_ (7, Rows.any-gone (Syntax.tyRef Syntax.erased Syntax.mut OfOutput.named)) (List._∷_ (8, Rows.any-gone (Syntax.tyStruct (List._∷_ 38 (List._∷_ 91 (List._∷_ 93 List.[]))) (Syntax.tcons (Syntax.tyRef Syntax.erased Syntax.mut OfOutput.named) (Syntax.tcons (Syntax.tyInt Syntax.w64) Syntax.tnil)))) (List._∷_ (9, Rows.any-gone (Syntax.tyRef Syntax.erased Syntax.mut OfStation.named)) (List._∷_ (10, Rows.any-gone (Syntax.tyStruct (List._∷_ 38 (List._∷_ 91 (List._∷_ 93 List.[]))) (Syntax.tcons (Syntax.tyRef Syntax.erased Syntax.mut OfStation.named) (Syntax.tcons (Syntax.tyInt Syntax.w64) Syntax.tnil)))) (List._∷_ (11, Rows.any-gone (Syntax.tyRef Syntax.erased Syntax.mut (Syntax.tyInt Syntax.w64))) (List._∷_ (12, Rows.any-gone (Syntax.tyRef Syntax.erased Syntax.mut (Syntax.tyInt Syntax.w8))) (List._∷_ (13, Rows.any-gone (Syntax.tyStruct (List._∷_ 38 (List._∷_ 91 (List._∷_ 93 List.[]))) (Syntax.tcons (Syntax.tyRef Syntax.erased Syntax.mut (Syntax.tyInt Syntax.w8)) (Syntax.tcons (Syntax.tyInt Syntax.w64) Syntax.tnil)))) (List._∷_ (14, Rows.any-gone (Syntax.tyRef Syntax.erased Syntax.mut (Syntax.tyInt Syntax.w8))) (List._∷_ (15, Rows.any-gone (Syntax.tyStruct (List._∷_ 38 (List._∷_ 91 (List._∷_ 93 List.[]))) (Syntax.tcons (Syntax.tyRef Syntax.erased Syntax.mut (Syntax.tyInt Syntax.w8)) (Syntax.tcons (Syntax.tyInt Syntax.w64) Syntax.tnil)))) List.[])))))))))))))))
+t18 = List._∷_ (0, Rows.any-gone Syntax.tyUnit) (List._∷_ (1, Mut.mslice (OfOutput.row) (Syntax.tyRef (Syntax.named 0) Syntax.mut OfOutput.named) 0) (List._∷_ (2, Mut.mslice (OfStation.row) (Syntax.tyRef (Syntax.named 1) Syntax.mut OfStation.named) 1) (List._∷_ (3, Rows.mref (OfPanelRecord.row) (Syntax.tyRef (Syntax.named 2) Syntax.mut OfPanelRecord.named) 2) (List._∷_ (4, Reshare.mslice-owedS (Referent.rtF (Referent.fInt Syntax.w8)) (Syntax.tyRef (Syntax.named 3) Syntax.mut (Syntax.tyInt Syntax.w8)) 3 10 Row.off) (List._∷_ (5, Mut.mslice (Referent.rtF (Referent.fInt Syntax.w8)) (Syntax.tyRef (Syntax.named 4) Syntax.mut (Syntax.tyInt Syntax.w8)) 4) (List._∷_ (6, Rows.whole (Declared.row Turn.the-type)) (List._∷_ (7, Rows.any-gone (Syntax.tyRef Syntax.erased Syntax.mut OfOutput.named)) (List._∷_ (8, Rows.any-gone (Syntax.tyStruct (List._∷_ 38 (List._∷_ 91 (List._∷_ 93 List.[]))) (Syntax.tcons (Syntax.tyRef Syntax.erased Syntax.mut OfOutput.named) (Syntax.tcons (Syntax.tyInt Syntax.w64) Syntax.tnil)))) (List._∷_ (9, Rows.any-gone (Syntax.tyRef Syntax.erased Syntax.mut OfStation.named)) (List._∷_ (10, Rows.any-gone (Syntax.tyStruct (List._∷_ 38 (List._∷_ 91 (List._∷_ 93 List.[]))) (Syntax.tcons (Syntax.tyRef Syntax.erased Syntax.mut OfStation.named) (Syntax.tcons (Syntax.tyInt Syntax.w64) Syntax.tnil)))) (List._∷_ (11, Rows.any-gone (Syntax.tyRef Syntax.erased Syntax.mut OfPanelRecord.named)) (List._∷_ (12, Rows.any-gone (Syntax.tyRef Syntax.erased Syntax.mut (Syntax.tyInt Syntax.w8))) (List._∷_ (13, Rows.any-gone (Syntax.tyStruct (List._∷_ 38 (List._∷_ 91 (List._∷_ 93 List.[]))) (Syntax.tcons (Syntax.tyRef Syntax.erased Syntax.mut (Syntax.tyInt Syntax.w8)) (Syntax.tcons (Syntax.tyInt Syntax.w64) Syntax.tnil)))) (List._∷_ (14, Rows.any-gone (Syntax.tyRef Syntax.erased Syntax.mut (Syntax.tyInt Syntax.w8))) (List._∷_ (15, Rows.any-gone (Syntax.tyStruct (List._∷_ 38 (List._∷_ 91 (List._∷_ 93 List.[]))) (Syntax.tcons (Syntax.tyRef Syntax.erased Syntax.mut (Syntax.tyInt Syntax.w8)) (Syntax.tcons (Syntax.tyInt Syntax.w64) Syntax.tnil)))) List.[])))))))))))))))
 
 abbrev pub t19 : List.List Row.Entry
 t19 = List._∷_ (16, Rows.any-gone Syntax.tyUnit) (List._∷_ (17, Relend.ssptr (Referent.rtF (Referent.fInt Syntax.w8)) (Syntax.tyRef Syntax.erased Syntax.imm (Syntax.tyInt Syntax.w8)) 10) (List._∷_ (18, Rows.any-gone (Syntax.tyStruct (List._∷_ 38 (List._∷_ 91 (List._∷_ 93 List.[]))) (Syntax.tcons (Syntax.tyRef Syntax.erased Syntax.imm (Syntax.tyInt Syntax.w8)) (Syntax.tcons (Syntax.tyInt Syntax.w64) Syntax.tnil)))) List.[]))
@@ -238,7 +239,7 @@ abbrev pub t22 : List.List Row.Entry
 t22 = List._∷_ (16, Rows.sc-here Row.sUnit) (List._∷_ (17, Rows.any-gone (Syntax.tyRef Syntax.erased Syntax.imm (Syntax.tyInt Syntax.w8))) (List._∷_ (18, Rows.any-gone (Syntax.tyStruct (List._∷_ 38 (List._∷_ 91 (List._∷_ 93 List.[]))) (Syntax.tcons (Syntax.tyRef Syntax.erased Syntax.imm (Syntax.tyInt Syntax.w8)) (Syntax.tcons (Syntax.tyInt Syntax.w64) Syntax.tnil)))) List.[]))
 
 abbrev pub t23 : List.List Row.Entry
-t23 = List._∷_ (0, Rows.any-gone Syntax.tyUnit) (List._∷_ (1, Mut.mslice (OfOutput.row) (Syntax.tyRef (Syntax.named 0) Syntax.mut OfOutput.named) 0) (List._∷_ (2, Mut.mslice (OfStation.row) (Syntax.tyRef (Syntax.named 1) Syntax.mut OfStation.named) 1) (List._∷_ (3, Rows.mref (Referent.rtF (Referent.fInt Syntax.w64)) (Syntax.tyRef (Syntax.named 2) Syntax.mut (Syntax.tyInt Syntax.w64)) 2) (List._∷_ (4, Reshare.mslice-owedS (Referent.rtF (Referent.fInt Syntax.w8)) (Syntax.tyRef (Syntax.named 3) Syntax.mut (Syntax.tyInt Syntax.w8)) 3 10 Row.off) (List._∷_ (5, Mut.mslice (Referent.rtF (Referent.fInt Syntax.w8)) (Syntax.tyRef (Syntax.named 4) Syntax.mut (Syntax.tyInt Syntax.w8)) 4) (List._∷_ (6, Rows.any-gone (Laws.mir)) (List._∷_ (7, Rows.any-gone (Syntax.tyRef Syntax.erased Syntax.mut OfOutput.named)) (List._∷_ (8, Rows.any-gone (Syntax.tyStruct (List._∷_ 38 (List._∷_ 91 (List._∷_ 93 List.[]))) (Syntax.tcons (Syntax.tyRef Syntax.erased Syntax.mut OfOutput.named) (Syntax.tcons (Syntax.tyInt Syntax.w64) Syntax.tnil)))) (List._∷_ (9, Rows.any-gone (Syntax.tyRef Syntax.erased Syntax.mut OfStation.named)) (List._∷_ (10, Rows.any-gone (Syntax.tyStruct (List._∷_ 38 (List._∷_ 91 (List._∷_ 93 List.[]))) (Syntax.tcons (Syntax.tyRef Syntax.erased Syntax.mut OfStation.named) (Syntax.tcons (Syntax.tyInt Syntax.w64) Syntax.tnil)))) (List._∷_ (11, Rows.any-gone (Syntax.tyRef Syntax.erased Syntax.mut (Syntax.tyInt Syntax.w64))) (List._∷_ (12, Rows.any-gone (Syntax.tyRef Syntax.erased Syntax.mut (Syntax.tyInt Syntax.w8))) (List._∷_ (13, Rows.any-gone (Syntax.tyStruct (List._∷_ 38 (List._∷_ 91 (List._∷_ 93 List.[]))) (Syntax.tcons (Syntax.tyRef Syntax.erased Syntax.mut (Syntax.tyInt Syntax.w8)) (Syntax.tcons (Syntax.tyInt Syntax.w64) Syntax.tnil)))) (List._∷_ (14, Rows.any-gone (Syntax.tyRef Syntax.erased Syntax.mut (Syntax.tyInt Syntax.w8))) (List._∷_ (15, Rows.any-gone (Syntax.tyStruct (List._∷_ 38 (List._∷_ 91 (List._∷_ 93 List.[]))) (Syntax.tcons (Syntax.tyRef Syntax.erased Syntax.mut (Syntax.tyInt Syntax.w8)) (Syntax.tcons (Syntax.tyInt Syntax.w64) Syntax.tnil)))) List.[])))))))))))))))
+t23 = List._∷_ (0, Rows.any-gone Syntax.tyUnit) (List._∷_ (1, Mut.mslice (OfOutput.row) (Syntax.tyRef (Syntax.named 0) Syntax.mut OfOutput.named) 0) (List._∷_ (2, Mut.mslice (OfStation.row) (Syntax.tyRef (Syntax.named 1) Syntax.mut OfStation.named) 1) (List._∷_ (3, Rows.mref (OfPanelRecord.row) (Syntax.tyRef (Syntax.named 2) Syntax.mut OfPanelRecord.named) 2) (List._∷_ (4, Reshare.mslice-owedS (Referent.rtF (Referent.fInt Syntax.w8)) (Syntax.tyRef (Syntax.named 3) Syntax.mut (Syntax.tyInt Syntax.w8)) 3 10 Row.off) (List._∷_ (5, Mut.mslice (Referent.rtF (Referent.fInt Syntax.w8)) (Syntax.tyRef (Syntax.named 4) Syntax.mut (Syntax.tyInt Syntax.w8)) 4) (List._∷_ (6, Rows.any-gone (Laws.mir)) (List._∷_ (7, Rows.any-gone (Syntax.tyRef Syntax.erased Syntax.mut OfOutput.named)) (List._∷_ (8, Rows.any-gone (Syntax.tyStruct (List._∷_ 38 (List._∷_ 91 (List._∷_ 93 List.[]))) (Syntax.tcons (Syntax.tyRef Syntax.erased Syntax.mut OfOutput.named) (Syntax.tcons (Syntax.tyInt Syntax.w64) Syntax.tnil)))) (List._∷_ (9, Rows.any-gone (Syntax.tyRef Syntax.erased Syntax.mut OfStation.named)) (List._∷_ (10, Rows.any-gone (Syntax.tyStruct (List._∷_ 38 (List._∷_ 91 (List._∷_ 93 List.[]))) (Syntax.tcons (Syntax.tyRef Syntax.erased Syntax.mut OfStation.named) (Syntax.tcons (Syntax.tyInt Syntax.w64) Syntax.tnil)))) (List._∷_ (11, Rows.any-gone (Syntax.tyRef Syntax.erased Syntax.mut OfPanelRecord.named)) (List._∷_ (12, Rows.any-gone (Syntax.tyRef Syntax.erased Syntax.mut (Syntax.tyInt Syntax.w8))) (List._∷_ (13, Rows.any-gone (Syntax.tyStruct (List._∷_ 38 (List._∷_ 91 (List._∷_ 93 List.[]))) (Syntax.tcons (Syntax.tyRef Syntax.erased Syntax.mut (Syntax.tyInt Syntax.w8)) (Syntax.tcons (Syntax.tyInt Syntax.w64) Syntax.tnil)))) (List._∷_ (14, Rows.any-gone (Syntax.tyRef Syntax.erased Syntax.mut (Syntax.tyInt Syntax.w8))) (List._∷_ (15, Rows.any-gone (Syntax.tyStruct (List._∷_ 38 (List._∷_ 91 (List._∷_ 93 List.[]))) (Syntax.tcons (Syntax.tyRef Syntax.erased Syntax.mut (Syntax.tyInt Syntax.w8)) (Syntax.tcons (Syntax.tyInt Syntax.w64) Syntax.tnil)))) List.[])))))))))))))))
 
 abbrev pub T0 : Row.Cx
 T0 = record { locals = List._++_ t0 t1; slots = List.[] }
@@ -350,7 +351,7 @@ module _ (claims· : Claims) where
   s7 = Relend.k-sl-aggregate (OfStation.row) (Relend.asMut (OfStation.row)) T8 9 10 6 (Syntax.tyRef Syntax.erased Syntax.mut OfStation.named) (Syntax.tyRef Syntax.erased Syntax.mut OfStation.named) (λ x. x) (Scalar.oFld 2 (List._∷_ (Syntax.field 1) List.[]) (Syntax.tyInt Syntax.w64) 8 λ v. Shared.lenV (v .0))
 
   abbrev s9 : Typed.Gives T9 T11
-  s9 = Reborrow.k-mref-relend T9 3 11 2 7 (Referent.rtF (Referent.fInt Syntax.w64)) (Syntax.tyRef (Syntax.named 2) Syntax.mut (Syntax.tyInt Syntax.w64)) (Syntax.tyRef Syntax.erased Syntax.mut (Syntax.tyInt Syntax.w64)) Row.off List.[] λ x. x
+  s9 = Reborrow.k-mref-relend T9 3 11 2 7 (OfPanelRecord.row) (Syntax.tyRef (Syntax.named 2) Syntax.mut OfPanelRecord.named) (Syntax.tyRef Syntax.erased Syntax.mut OfPanelRecord.named) Row.off List.[] λ x. x
 
   abbrev s11 : Typed.Gives T11 T13
   s11 = Relend.k-sl-relend (Referent.rtF (Referent.fInt Syntax.w8)) T11 4 12 3 8 (Syntax.tyRef (Syntax.named 3) Syntax.mut (Syntax.tyInt Syntax.w8)) (Syntax.tyRef Syntax.erased Syntax.mut (Syntax.tyInt Syntax.w8)) Row.off λ x. x
@@ -365,7 +366,7 @@ module _ (claims· : Claims) where
   s15 = Relend.k-sl-aggregate (Referent.rtF (Referent.fInt Syntax.w8)) (Relend.asMut (Referent.rtF (Referent.fInt Syntax.w8))) T16 14 15 9 (Syntax.tyRef Syntax.erased Syntax.mut (Syntax.tyInt Syntax.w8)) (Syntax.tyRef Syntax.erased Syntax.mut (Syntax.tyInt Syntax.w8)) (λ x. x) (Scalar.oFld 5 (List._∷_ (Syntax.field 1) List.[]) (Syntax.tyInt Syntax.w64) 8 λ v. Shared.lenV (v .0))
 
   abbrev s16 : Typed.Both T17 T18
-  s16 = Call.callB ps·0 r·0 (claims· .0) (claims· .1) T17 (record { pos = 8; ty = Syntax.tyRef Syntax.erased Syntax.mut OfOutput.named; ref = λ x. x }, (record { pos = 10; ty = Syntax.tyRef Syntax.erased Syntax.mut OfStation.named; ref = λ x. x }, (record { pos = 11; ty = Syntax.tyRef Syntax.erased Syntax.mut (Syntax.tyInt Syntax.w64); ref = λ x. x }, (record { pos = 13; ty = Syntax.tyRef Syntax.erased Syntax.mut (Syntax.tyInt Syntax.w8); ref = λ x. x }, (record { pos = 15; ty = Syntax.tyRef Syntax.erased Syntax.mut (Syntax.tyInt Syntax.w8); ref = λ x. x }, tt))))) 6 (List._∷_ 5 (List._∷_ 6 (List._∷_ 7 (List._∷_ 8 (List._∷_ 9 List.[]))))) (Laws.mir)
+  s16 = Call.callB ps·0 r·0 (claims· .0) (claims· .1) T17 (record { pos = 8; ty = Syntax.tyRef Syntax.erased Syntax.mut OfOutput.named; ref = λ x. x }, (record { pos = 10; ty = Syntax.tyRef Syntax.erased Syntax.mut OfStation.named; ref = λ x. x }, (record { pos = 11; ty = Syntax.tyRef Syntax.erased Syntax.mut OfPanelRecord.named; ref = λ x. x }, (record { pos = 13; ty = Syntax.tyRef Syntax.erased Syntax.mut (Syntax.tyInt Syntax.w8); ref = λ x. x }, (record { pos = 15; ty = Syntax.tyRef Syntax.erased Syntax.mut (Syntax.tyInt Syntax.w8); ref = λ x. x }, tt))))) 6 (List._∷_ 5 (List._∷_ 6 (List._∷_ 7 (List._∷_ 8 (List._∷_ 9 List.[]))))) (Laws.mir)
 
   abbrev s18 : Typed.Both T18 T20
   s18 = Relend.k-back-sl (OfOutput.row) T18 8 1 0 5 (Syntax.tyRef (Syntax.named 0) Syntax.mut OfOutput.named) (Syntax.tyRef Syntax.erased Syntax.mut OfOutput.named) Row.off (λ x. x) λ x. x
@@ -374,7 +375,7 @@ module _ (claims· : Claims) where
   s21 = Relend.k-back-sl (OfStation.row) T20 10 2 1 6 (Syntax.tyRef (Syntax.named 1) Syntax.mut OfStation.named) (Syntax.tyRef Syntax.erased Syntax.mut OfStation.named) Row.off (λ x. x) λ x. x
 
   abbrev s24 : Typed.Asks T23 T26
-  s24 = Reborrow.k-back-mref T23 11 3 2 (Referent.rtF (Referent.fInt Syntax.w64)) (Syntax.tyRef (Syntax.named 2) Syntax.mut (Syntax.tyInt Syntax.w64)) (Syntax.tyRef Syntax.erased Syntax.mut (Syntax.tyInt Syntax.w64)) List.[] (λ x. x) λ x. x
+  s24 = Reborrow.k-back-mref T23 11 3 2 (OfPanelRecord.row) (Syntax.tyRef (Syntax.named 2) Syntax.mut OfPanelRecord.named) (Syntax.tyRef Syntax.erased Syntax.mut OfPanelRecord.named) List.[] (λ x. x) λ x. x
 
   abbrev s27 : Typed.Both T26 T29
   s27 = Relend.k-back-sl (Referent.rtF (Referent.fInt Syntax.w8)) T26 13 4 3 8 (Syntax.tyRef (Syntax.named 3) Syntax.mut (Syntax.tyInt Syntax.w8)) (Syntax.tyRef Syntax.erased Syntax.mut (Syntax.tyInt Syntax.w8)) Row.off (λ x. x) λ x. x
@@ -567,52 +568,52 @@ module _ (claims· : Claims) where
 
       module _ (κs : Lifetimes.Lfts 5) (qs : Lifetimes.Shares 5) where
         abbrev g3 : List.List Row.Entry
-        g3 = List._∷_ (0, Rows.any-gone Syntax.tyUnit) (List._∷_ (1, Relend.mslice-owed (OfOutput.row) (Syntax.tyRef (Syntax.named 0) Syntax.mut OfOutput.named) 0 5 (Row.lease (κs .0) (qs .0))) (List._∷_ (2, Mut.mslice (OfStation.row) (Syntax.tyRef (Syntax.named 1) Syntax.mut OfStation.named) 1) (List._∷_ (3, Rows.mref (Referent.rtF (Referent.fInt Syntax.w64)) (Syntax.tyRef (Syntax.named 2) Syntax.mut (Syntax.tyInt Syntax.w64)) 2) (List._∷_ (4, Mut.mslice (Referent.rtF (Referent.fInt Syntax.w8)) (Syntax.tyRef (Syntax.named 3) Syntax.mut (Syntax.tyInt Syntax.w8)) 3) (List._∷_ (5, Mut.mslice (Referent.rtF (Referent.fInt Syntax.w8)) (Syntax.tyRef (Syntax.named 4) Syntax.mut (Syntax.tyInt Syntax.w8)) 4) (List._∷_ (6, Rows.any-gone (Laws.mir)) (List._∷_ (7, Relend.msptr (OfOutput.row) (Syntax.tyRef Syntax.erased Syntax.mut OfOutput.named) 5) (List._∷_ (8, Rows.any-gone (Syntax.tyStruct (List._∷_ 38 (List._∷_ 91 (List._∷_ 93 List.[]))) (Syntax.tcons (Syntax.tyRef Syntax.erased Syntax.mut OfOutput.named) (Syntax.tcons (Syntax.tyInt Syntax.w64) Syntax.tnil)))) (List._∷_ (9, Rows.any-gone (Syntax.tyRef Syntax.erased Syntax.mut OfStation.named)) (List._∷_ (10, Rows.any-gone (Syntax.tyStruct (List._∷_ 38 (List._∷_ 91 (List._∷_ 93 List.[]))) (Syntax.tcons (Syntax.tyRef Syntax.erased Syntax.mut OfStation.named) (Syntax.tcons (Syntax.tyInt Syntax.w64) Syntax.tnil)))) (List._∷_ (11, Rows.any-gone (Syntax.tyRef Syntax.erased Syntax.mut (Syntax.tyInt Syntax.w64))) (List._∷_ (12, Rows.any-gone (Syntax.tyRef Syntax.erased Syntax.mut (Syntax.tyInt Syntax.w8))) (List._∷_ (13, Rows.any-gone (Syntax.tyStruct (List._∷_ 38 (List._∷_ 91 (List._∷_ 93 List.[]))) (Syntax.tcons (Syntax.tyRef Syntax.erased Syntax.mut (Syntax.tyInt Syntax.w8)) (Syntax.tcons (Syntax.tyInt Syntax.w64) Syntax.tnil)))) (List._∷_ (14, Rows.any-gone (Syntax.tyRef Syntax.erased Syntax.mut (Syntax.tyInt Syntax.w8))) (List._∷_ (15, Rows.any-gone (Syntax.tyStruct (List._∷_ 38 (List._∷_ 91 (List._∷_ 93 List.[]))) (Syntax.tcons (Syntax.tyRef Syntax.erased Syntax.mut (Syntax.tyInt Syntax.w8)) (Syntax.tcons (Syntax.tyInt Syntax.w64) Syntax.tnil)))) List.[])))))))))))))))
+        g3 = List._∷_ (0, Rows.any-gone Syntax.tyUnit) (List._∷_ (1, Relend.mslice-owed (OfOutput.row) (Syntax.tyRef (Syntax.named 0) Syntax.mut OfOutput.named) 0 5 (Row.lease (κs .0) (qs .0))) (List._∷_ (2, Mut.mslice (OfStation.row) (Syntax.tyRef (Syntax.named 1) Syntax.mut OfStation.named) 1) (List._∷_ (3, Rows.mref (OfPanelRecord.row) (Syntax.tyRef (Syntax.named 2) Syntax.mut OfPanelRecord.named) 2) (List._∷_ (4, Mut.mslice (Referent.rtF (Referent.fInt Syntax.w8)) (Syntax.tyRef (Syntax.named 3) Syntax.mut (Syntax.tyInt Syntax.w8)) 3) (List._∷_ (5, Mut.mslice (Referent.rtF (Referent.fInt Syntax.w8)) (Syntax.tyRef (Syntax.named 4) Syntax.mut (Syntax.tyInt Syntax.w8)) 4) (List._∷_ (6, Rows.any-gone (Laws.mir)) (List._∷_ (7, Relend.msptr (OfOutput.row) (Syntax.tyRef Syntax.erased Syntax.mut OfOutput.named) 5) (List._∷_ (8, Rows.any-gone (Syntax.tyStruct (List._∷_ 38 (List._∷_ 91 (List._∷_ 93 List.[]))) (Syntax.tcons (Syntax.tyRef Syntax.erased Syntax.mut OfOutput.named) (Syntax.tcons (Syntax.tyInt Syntax.w64) Syntax.tnil)))) (List._∷_ (9, Rows.any-gone (Syntax.tyRef Syntax.erased Syntax.mut OfStation.named)) (List._∷_ (10, Rows.any-gone (Syntax.tyStruct (List._∷_ 38 (List._∷_ 91 (List._∷_ 93 List.[]))) (Syntax.tcons (Syntax.tyRef Syntax.erased Syntax.mut OfStation.named) (Syntax.tcons (Syntax.tyInt Syntax.w64) Syntax.tnil)))) (List._∷_ (11, Rows.any-gone (Syntax.tyRef Syntax.erased Syntax.mut OfPanelRecord.named)) (List._∷_ (12, Rows.any-gone (Syntax.tyRef Syntax.erased Syntax.mut (Syntax.tyInt Syntax.w8))) (List._∷_ (13, Rows.any-gone (Syntax.tyStruct (List._∷_ 38 (List._∷_ 91 (List._∷_ 93 List.[]))) (Syntax.tcons (Syntax.tyRef Syntax.erased Syntax.mut (Syntax.tyInt Syntax.w8)) (Syntax.tcons (Syntax.tyInt Syntax.w64) Syntax.tnil)))) (List._∷_ (14, Rows.any-gone (Syntax.tyRef Syntax.erased Syntax.mut (Syntax.tyInt Syntax.w8))) (List._∷_ (15, Rows.any-gone (Syntax.tyStruct (List._∷_ 38 (List._∷_ 91 (List._∷_ 93 List.[]))) (Syntax.tcons (Syntax.tyRef Syntax.erased Syntax.mut (Syntax.tyInt Syntax.w8)) (Syntax.tcons (Syntax.tyInt Syntax.w64) Syntax.tnil)))) List.[])))))))))))))))
 
         abbrev g4 : List.List Row.Entry
-        g4 = List._∷_ (0, Rows.any-gone Syntax.tyUnit) (List._∷_ (1, Relend.mslice-owed (OfOutput.row) (Syntax.tyRef (Syntax.named 0) Syntax.mut OfOutput.named) 0 5 (Row.lease (κs .0) (qs .0))) (List._∷_ (2, Mut.mslice (OfStation.row) (Syntax.tyRef (Syntax.named 1) Syntax.mut OfStation.named) 1) (List._∷_ (3, Rows.mref (Referent.rtF (Referent.fInt Syntax.w64)) (Syntax.tyRef (Syntax.named 2) Syntax.mut (Syntax.tyInt Syntax.w64)) 2) (List._∷_ (4, Mut.mslice (Referent.rtF (Referent.fInt Syntax.w8)) (Syntax.tyRef (Syntax.named 3) Syntax.mut (Syntax.tyInt Syntax.w8)) 3) (List._∷_ (5, Mut.mslice (Referent.rtF (Referent.fInt Syntax.w8)) (Syntax.tyRef (Syntax.named 4) Syntax.mut (Syntax.tyInt Syntax.w8)) 4) (List._∷_ (6, Rows.any-gone (Laws.mir)) (List._∷_ (7, Rows.any-gone (Syntax.tyRef Syntax.erased Syntax.mut OfOutput.named)) (List._∷_ (8, Mut.mslice (OfOutput.row) (Syntax.tyRef Syntax.erased Syntax.mut OfOutput.named) 5) (List._∷_ (9, Rows.any-gone (Syntax.tyRef Syntax.erased Syntax.mut OfStation.named)) (List._∷_ (10, Rows.any-gone (Syntax.tyStruct (List._∷_ 38 (List._∷_ 91 (List._∷_ 93 List.[]))) (Syntax.tcons (Syntax.tyRef Syntax.erased Syntax.mut OfStation.named) (Syntax.tcons (Syntax.tyInt Syntax.w64) Syntax.tnil)))) (List._∷_ (11, Rows.any-gone (Syntax.tyRef Syntax.erased Syntax.mut (Syntax.tyInt Syntax.w64))) (List._∷_ (12, Rows.any-gone (Syntax.tyRef Syntax.erased Syntax.mut (Syntax.tyInt Syntax.w8))) (List._∷_ (13, Rows.any-gone (Syntax.tyStruct (List._∷_ 38 (List._∷_ 91 (List._∷_ 93 List.[]))) (Syntax.tcons (Syntax.tyRef Syntax.erased Syntax.mut (Syntax.tyInt Syntax.w8)) (Syntax.tcons (Syntax.tyInt Syntax.w64) Syntax.tnil)))) (List._∷_ (14, Rows.any-gone (Syntax.tyRef Syntax.erased Syntax.mut (Syntax.tyInt Syntax.w8))) (List._∷_ (15, Rows.any-gone (Syntax.tyStruct (List._∷_ 38 (List._∷_ 91 (List._∷_ 93 List.[]))) (Syntax.tcons (Syntax.tyRef Syntax.erased Syntax.mut (Syntax.tyInt Syntax.w8)) (Syntax.tcons (Syntax.tyInt Syntax.w64) Syntax.tnil)))) List.[])))))))))))))))
+        g4 = List._∷_ (0, Rows.any-gone Syntax.tyUnit) (List._∷_ (1, Relend.mslice-owed (OfOutput.row) (Syntax.tyRef (Syntax.named 0) Syntax.mut OfOutput.named) 0 5 (Row.lease (κs .0) (qs .0))) (List._∷_ (2, Mut.mslice (OfStation.row) (Syntax.tyRef (Syntax.named 1) Syntax.mut OfStation.named) 1) (List._∷_ (3, Rows.mref (OfPanelRecord.row) (Syntax.tyRef (Syntax.named 2) Syntax.mut OfPanelRecord.named) 2) (List._∷_ (4, Mut.mslice (Referent.rtF (Referent.fInt Syntax.w8)) (Syntax.tyRef (Syntax.named 3) Syntax.mut (Syntax.tyInt Syntax.w8)) 3) (List._∷_ (5, Mut.mslice (Referent.rtF (Referent.fInt Syntax.w8)) (Syntax.tyRef (Syntax.named 4) Syntax.mut (Syntax.tyInt Syntax.w8)) 4) (List._∷_ (6, Rows.any-gone (Laws.mir)) (List._∷_ (7, Rows.any-gone (Syntax.tyRef Syntax.erased Syntax.mut OfOutput.named)) (List._∷_ (8, Mut.mslice (OfOutput.row) (Syntax.tyRef Syntax.erased Syntax.mut OfOutput.named) 5) (List._∷_ (9, Rows.any-gone (Syntax.tyRef Syntax.erased Syntax.mut OfStation.named)) (List._∷_ (10, Rows.any-gone (Syntax.tyStruct (List._∷_ 38 (List._∷_ 91 (List._∷_ 93 List.[]))) (Syntax.tcons (Syntax.tyRef Syntax.erased Syntax.mut OfStation.named) (Syntax.tcons (Syntax.tyInt Syntax.w64) Syntax.tnil)))) (List._∷_ (11, Rows.any-gone (Syntax.tyRef Syntax.erased Syntax.mut OfPanelRecord.named)) (List._∷_ (12, Rows.any-gone (Syntax.tyRef Syntax.erased Syntax.mut (Syntax.tyInt Syntax.w8))) (List._∷_ (13, Rows.any-gone (Syntax.tyStruct (List._∷_ 38 (List._∷_ 91 (List._∷_ 93 List.[]))) (Syntax.tcons (Syntax.tyRef Syntax.erased Syntax.mut (Syntax.tyInt Syntax.w8)) (Syntax.tcons (Syntax.tyInt Syntax.w64) Syntax.tnil)))) (List._∷_ (14, Rows.any-gone (Syntax.tyRef Syntax.erased Syntax.mut (Syntax.tyInt Syntax.w8))) (List._∷_ (15, Rows.any-gone (Syntax.tyStruct (List._∷_ 38 (List._∷_ 91 (List._∷_ 93 List.[]))) (Syntax.tcons (Syntax.tyRef Syntax.erased Syntax.mut (Syntax.tyInt Syntax.w8)) (Syntax.tcons (Syntax.tyInt Syntax.w64) Syntax.tnil)))) List.[])))))))))))))))
 
         abbrev g5 : List.List Row.Entry
-        g5 = List._∷_ (0, Rows.any-gone Syntax.tyUnit) (List._∷_ (1, Relend.mslice-owed (OfOutput.row) (Syntax.tyRef (Syntax.named 0) Syntax.mut OfOutput.named) 0 5 (Row.lease (κs .0) (qs .0))) (List._∷_ (2, Relend.mslice-owed (OfStation.row) (Syntax.tyRef (Syntax.named 1) Syntax.mut OfStation.named) 1 6 (Row.lease (κs .1 .0) (qs .1 .0))) (List._∷_ (3, Rows.mref (Referent.rtF (Referent.fInt Syntax.w64)) (Syntax.tyRef (Syntax.named 2) Syntax.mut (Syntax.tyInt Syntax.w64)) 2) (List._∷_ (4, Mut.mslice (Referent.rtF (Referent.fInt Syntax.w8)) (Syntax.tyRef (Syntax.named 3) Syntax.mut (Syntax.tyInt Syntax.w8)) 3) (List._∷_ (5, Mut.mslice (Referent.rtF (Referent.fInt Syntax.w8)) (Syntax.tyRef (Syntax.named 4) Syntax.mut (Syntax.tyInt Syntax.w8)) 4) (List._∷_ (6, Rows.any-gone (Laws.mir)) (List._∷_ (7, Rows.any-gone (Syntax.tyRef Syntax.erased Syntax.mut OfOutput.named)) (List._∷_ (8, Mut.mslice (OfOutput.row) (Syntax.tyRef Syntax.erased Syntax.mut OfOutput.named) 5) (List._∷_ (9, Relend.msptr (OfStation.row) (Syntax.tyRef Syntax.erased Syntax.mut OfStation.named) 6) (List._∷_ (10, Rows.any-gone (Syntax.tyStruct (List._∷_ 38 (List._∷_ 91 (List._∷_ 93 List.[]))) (Syntax.tcons (Syntax.tyRef Syntax.erased Syntax.mut OfStation.named) (Syntax.tcons (Syntax.tyInt Syntax.w64) Syntax.tnil)))) (List._∷_ (11, Rows.any-gone (Syntax.tyRef Syntax.erased Syntax.mut (Syntax.tyInt Syntax.w64))) (List._∷_ (12, Rows.any-gone (Syntax.tyRef Syntax.erased Syntax.mut (Syntax.tyInt Syntax.w8))) (List._∷_ (13, Rows.any-gone (Syntax.tyStruct (List._∷_ 38 (List._∷_ 91 (List._∷_ 93 List.[]))) (Syntax.tcons (Syntax.tyRef Syntax.erased Syntax.mut (Syntax.tyInt Syntax.w8)) (Syntax.tcons (Syntax.tyInt Syntax.w64) Syntax.tnil)))) (List._∷_ (14, Rows.any-gone (Syntax.tyRef Syntax.erased Syntax.mut (Syntax.tyInt Syntax.w8))) (List._∷_ (15, Rows.any-gone (Syntax.tyStruct (List._∷_ 38 (List._∷_ 91 (List._∷_ 93 List.[]))) (Syntax.tcons (Syntax.tyRef Syntax.erased Syntax.mut (Syntax.tyInt Syntax.w8)) (Syntax.tcons (Syntax.tyInt Syntax.w64) Syntax.tnil)))) List.[])))))))))))))))
+        g5 = List._∷_ (0, Rows.any-gone Syntax.tyUnit) (List._∷_ (1, Relend.mslice-owed (OfOutput.row) (Syntax.tyRef (Syntax.named 0) Syntax.mut OfOutput.named) 0 5 (Row.lease (κs .0) (qs .0))) (List._∷_ (2, Relend.mslice-owed (OfStation.row) (Syntax.tyRef (Syntax.named 1) Syntax.mut OfStation.named) 1 6 (Row.lease (κs .1 .0) (qs .1 .0))) (List._∷_ (3, Rows.mref (OfPanelRecord.row) (Syntax.tyRef (Syntax.named 2) Syntax.mut OfPanelRecord.named) 2) (List._∷_ (4, Mut.mslice (Referent.rtF (Referent.fInt Syntax.w8)) (Syntax.tyRef (Syntax.named 3) Syntax.mut (Syntax.tyInt Syntax.w8)) 3) (List._∷_ (5, Mut.mslice (Referent.rtF (Referent.fInt Syntax.w8)) (Syntax.tyRef (Syntax.named 4) Syntax.mut (Syntax.tyInt Syntax.w8)) 4) (List._∷_ (6, Rows.any-gone (Laws.mir)) (List._∷_ (7, Rows.any-gone (Syntax.tyRef Syntax.erased Syntax.mut OfOutput.named)) (List._∷_ (8, Mut.mslice (OfOutput.row) (Syntax.tyRef Syntax.erased Syntax.mut OfOutput.named) 5) (List._∷_ (9, Relend.msptr (OfStation.row) (Syntax.tyRef Syntax.erased Syntax.mut OfStation.named) 6) (List._∷_ (10, Rows.any-gone (Syntax.tyStruct (List._∷_ 38 (List._∷_ 91 (List._∷_ 93 List.[]))) (Syntax.tcons (Syntax.tyRef Syntax.erased Syntax.mut OfStation.named) (Syntax.tcons (Syntax.tyInt Syntax.w64) Syntax.tnil)))) (List._∷_ (11, Rows.any-gone (Syntax.tyRef Syntax.erased Syntax.mut OfPanelRecord.named)) (List._∷_ (12, Rows.any-gone (Syntax.tyRef Syntax.erased Syntax.mut (Syntax.tyInt Syntax.w8))) (List._∷_ (13, Rows.any-gone (Syntax.tyStruct (List._∷_ 38 (List._∷_ 91 (List._∷_ 93 List.[]))) (Syntax.tcons (Syntax.tyRef Syntax.erased Syntax.mut (Syntax.tyInt Syntax.w8)) (Syntax.tcons (Syntax.tyInt Syntax.w64) Syntax.tnil)))) (List._∷_ (14, Rows.any-gone (Syntax.tyRef Syntax.erased Syntax.mut (Syntax.tyInt Syntax.w8))) (List._∷_ (15, Rows.any-gone (Syntax.tyStruct (List._∷_ 38 (List._∷_ 91 (List._∷_ 93 List.[]))) (Syntax.tcons (Syntax.tyRef Syntax.erased Syntax.mut (Syntax.tyInt Syntax.w8)) (Syntax.tcons (Syntax.tyInt Syntax.w64) Syntax.tnil)))) List.[])))))))))))))))
 
         abbrev g6 : List.List Row.Entry
-        g6 = List._∷_ (0, Rows.any-gone Syntax.tyUnit) (List._∷_ (1, Relend.mslice-owed (OfOutput.row) (Syntax.tyRef (Syntax.named 0) Syntax.mut OfOutput.named) 0 5 (Row.lease (κs .0) (qs .0))) (List._∷_ (2, Relend.mslice-owed (OfStation.row) (Syntax.tyRef (Syntax.named 1) Syntax.mut OfStation.named) 1 6 (Row.lease (κs .1 .0) (qs .1 .0))) (List._∷_ (3, Rows.mref (Referent.rtF (Referent.fInt Syntax.w64)) (Syntax.tyRef (Syntax.named 2) Syntax.mut (Syntax.tyInt Syntax.w64)) 2) (List._∷_ (4, Mut.mslice (Referent.rtF (Referent.fInt Syntax.w8)) (Syntax.tyRef (Syntax.named 3) Syntax.mut (Syntax.tyInt Syntax.w8)) 3) (List._∷_ (5, Mut.mslice (Referent.rtF (Referent.fInt Syntax.w8)) (Syntax.tyRef (Syntax.named 4) Syntax.mut (Syntax.tyInt Syntax.w8)) 4) (List._∷_ (6, Rows.any-gone (Laws.mir)) (List._∷_ (7, Rows.any-gone (Syntax.tyRef Syntax.erased Syntax.mut OfOutput.named)) (List._∷_ (8, Mut.mslice (OfOutput.row) (Syntax.tyRef Syntax.erased Syntax.mut OfOutput.named) 5) (List._∷_ (9, Rows.any-gone (Syntax.tyRef Syntax.erased Syntax.mut OfStation.named)) (List._∷_ (10, Mut.mslice (OfStation.row) (Syntax.tyRef Syntax.erased Syntax.mut OfStation.named) 6) (List._∷_ (11, Rows.any-gone (Syntax.tyRef Syntax.erased Syntax.mut (Syntax.tyInt Syntax.w64))) (List._∷_ (12, Rows.any-gone (Syntax.tyRef Syntax.erased Syntax.mut (Syntax.tyInt Syntax.w8))) (List._∷_ (13, Rows.any-gone (Syntax.tyStruct (List._∷_ 38 (List._∷_ 91 (List._∷_ 93 List.[]))) (Syntax.tcons (Syntax.tyRef Syntax.erased Syntax.mut (Syntax.tyInt Syntax.w8)) (Syntax.tcons (Syntax.tyInt Syntax.w64) Syntax.tnil)))) (List._∷_ (14, Rows.any-gone (Syntax.tyRef Syntax.erased Syntax.mut (Syntax.tyInt Syntax.w8))) (List._∷_ (15, Rows.any-gone (Syntax.tyStruct (List._∷_ 38 (List._∷_ 91 (List._∷_ 93 List.[]))) (Syntax.tcons (Syntax.tyRef Syntax.erased Syntax.mut (Syntax.tyInt Syntax.w8)) (Syntax.tcons (Syntax.tyInt Syntax.w64) Syntax.tnil)))) List.[])))))))))))))))
+        g6 = List._∷_ (0, Rows.any-gone Syntax.tyUnit) (List._∷_ (1, Relend.mslice-owed (OfOutput.row) (Syntax.tyRef (Syntax.named 0) Syntax.mut OfOutput.named) 0 5 (Row.lease (κs .0) (qs .0))) (List._∷_ (2, Relend.mslice-owed (OfStation.row) (Syntax.tyRef (Syntax.named 1) Syntax.mut OfStation.named) 1 6 (Row.lease (κs .1 .0) (qs .1 .0))) (List._∷_ (3, Rows.mref (OfPanelRecord.row) (Syntax.tyRef (Syntax.named 2) Syntax.mut OfPanelRecord.named) 2) (List._∷_ (4, Mut.mslice (Referent.rtF (Referent.fInt Syntax.w8)) (Syntax.tyRef (Syntax.named 3) Syntax.mut (Syntax.tyInt Syntax.w8)) 3) (List._∷_ (5, Mut.mslice (Referent.rtF (Referent.fInt Syntax.w8)) (Syntax.tyRef (Syntax.named 4) Syntax.mut (Syntax.tyInt Syntax.w8)) 4) (List._∷_ (6, Rows.any-gone (Laws.mir)) (List._∷_ (7, Rows.any-gone (Syntax.tyRef Syntax.erased Syntax.mut OfOutput.named)) (List._∷_ (8, Mut.mslice (OfOutput.row) (Syntax.tyRef Syntax.erased Syntax.mut OfOutput.named) 5) (List._∷_ (9, Rows.any-gone (Syntax.tyRef Syntax.erased Syntax.mut OfStation.named)) (List._∷_ (10, Mut.mslice (OfStation.row) (Syntax.tyRef Syntax.erased Syntax.mut OfStation.named) 6) (List._∷_ (11, Rows.any-gone (Syntax.tyRef Syntax.erased Syntax.mut OfPanelRecord.named)) (List._∷_ (12, Rows.any-gone (Syntax.tyRef Syntax.erased Syntax.mut (Syntax.tyInt Syntax.w8))) (List._∷_ (13, Rows.any-gone (Syntax.tyStruct (List._∷_ 38 (List._∷_ 91 (List._∷_ 93 List.[]))) (Syntax.tcons (Syntax.tyRef Syntax.erased Syntax.mut (Syntax.tyInt Syntax.w8)) (Syntax.tcons (Syntax.tyInt Syntax.w64) Syntax.tnil)))) (List._∷_ (14, Rows.any-gone (Syntax.tyRef Syntax.erased Syntax.mut (Syntax.tyInt Syntax.w8))) (List._∷_ (15, Rows.any-gone (Syntax.tyStruct (List._∷_ 38 (List._∷_ 91 (List._∷_ 93 List.[]))) (Syntax.tcons (Syntax.tyRef Syntax.erased Syntax.mut (Syntax.tyInt Syntax.w8)) (Syntax.tcons (Syntax.tyInt Syntax.w64) Syntax.tnil)))) List.[])))))))))))))))
 
         abbrev g7 : List.List Row.Entry
-        g7 = List._∷_ (0, Rows.any-gone Syntax.tyUnit) (List._∷_ (1, Relend.mslice-owed (OfOutput.row) (Syntax.tyRef (Syntax.named 0) Syntax.mut OfOutput.named) 0 5 (Row.lease (κs .0) (qs .0))) (List._∷_ (2, Relend.mslice-owed (OfStation.row) (Syntax.tyRef (Syntax.named 1) Syntax.mut OfStation.named) 1 6 (Row.lease (κs .1 .0) (qs .1 .0))) (List._∷_ (3, Rows.mref-owed (Referent.rtF (Referent.fInt Syntax.w64)) (Syntax.tyRef (Syntax.named 2) Syntax.mut (Syntax.tyInt Syntax.w64)) 2 7 (Row.lease (κs .1 .1 .0) (qs .1 .1 .0))) (List._∷_ (4, Mut.mslice (Referent.rtF (Referent.fInt Syntax.w8)) (Syntax.tyRef (Syntax.named 3) Syntax.mut (Syntax.tyInt Syntax.w8)) 3) (List._∷_ (5, Mut.mslice (Referent.rtF (Referent.fInt Syntax.w8)) (Syntax.tyRef (Syntax.named 4) Syntax.mut (Syntax.tyInt Syntax.w8)) 4) (List._∷_ (6, Rows.any-gone (Laws.mir)) (List._∷_ (7, Rows.any-gone (Syntax.tyRef Syntax.erased Syntax.mut OfOutput.named)) (List._∷_ (8, Mut.mslice (OfOutput.row) (Syntax.tyRef Syntax.erased Syntax.mut OfOutput.named) 5) (List._∷_ (9, Rows.any-gone (Syntax.tyRef Syntax.erased Syntax.mut OfStation.named)) (List._∷_ (10, Mut.mslice (OfStation.row) (Syntax.tyRef Syntax.erased Syntax.mut OfStation.named) 6) (List._∷_ (11, Rows.mref (Referent.rtF (Referent.fInt Syntax.w64)) (Syntax.tyRef Syntax.erased Syntax.mut (Syntax.tyInt Syntax.w64)) 7) (List._∷_ (12, Rows.any-gone (Syntax.tyRef Syntax.erased Syntax.mut (Syntax.tyInt Syntax.w8))) (List._∷_ (13, Rows.any-gone (Syntax.tyStruct (List._∷_ 38 (List._∷_ 91 (List._∷_ 93 List.[]))) (Syntax.tcons (Syntax.tyRef Syntax.erased Syntax.mut (Syntax.tyInt Syntax.w8)) (Syntax.tcons (Syntax.tyInt Syntax.w64) Syntax.tnil)))) (List._∷_ (14, Rows.any-gone (Syntax.tyRef Syntax.erased Syntax.mut (Syntax.tyInt Syntax.w8))) (List._∷_ (15, Rows.any-gone (Syntax.tyStruct (List._∷_ 38 (List._∷_ 91 (List._∷_ 93 List.[]))) (Syntax.tcons (Syntax.tyRef Syntax.erased Syntax.mut (Syntax.tyInt Syntax.w8)) (Syntax.tcons (Syntax.tyInt Syntax.w64) Syntax.tnil)))) List.[])))))))))))))))
+        g7 = List._∷_ (0, Rows.any-gone Syntax.tyUnit) (List._∷_ (1, Relend.mslice-owed (OfOutput.row) (Syntax.tyRef (Syntax.named 0) Syntax.mut OfOutput.named) 0 5 (Row.lease (κs .0) (qs .0))) (List._∷_ (2, Relend.mslice-owed (OfStation.row) (Syntax.tyRef (Syntax.named 1) Syntax.mut OfStation.named) 1 6 (Row.lease (κs .1 .0) (qs .1 .0))) (List._∷_ (3, Rows.mref-owed (OfPanelRecord.row) (Syntax.tyRef (Syntax.named 2) Syntax.mut OfPanelRecord.named) 2 7 (Row.lease (κs .1 .1 .0) (qs .1 .1 .0))) (List._∷_ (4, Mut.mslice (Referent.rtF (Referent.fInt Syntax.w8)) (Syntax.tyRef (Syntax.named 3) Syntax.mut (Syntax.tyInt Syntax.w8)) 3) (List._∷_ (5, Mut.mslice (Referent.rtF (Referent.fInt Syntax.w8)) (Syntax.tyRef (Syntax.named 4) Syntax.mut (Syntax.tyInt Syntax.w8)) 4) (List._∷_ (6, Rows.any-gone (Laws.mir)) (List._∷_ (7, Rows.any-gone (Syntax.tyRef Syntax.erased Syntax.mut OfOutput.named)) (List._∷_ (8, Mut.mslice (OfOutput.row) (Syntax.tyRef Syntax.erased Syntax.mut OfOutput.named) 5) (List._∷_ (9, Rows.any-gone (Syntax.tyRef Syntax.erased Syntax.mut OfStation.named)) (List._∷_ (10, Mut.mslice (OfStation.row) (Syntax.tyRef Syntax.erased Syntax.mut OfStation.named) 6) (List._∷_ (11, Rows.mref (OfPanelRecord.row) (Syntax.tyRef Syntax.erased Syntax.mut OfPanelRecord.named) 7) (List._∷_ (12, Rows.any-gone (Syntax.tyRef Syntax.erased Syntax.mut (Syntax.tyInt Syntax.w8))) (List._∷_ (13, Rows.any-gone (Syntax.tyStruct (List._∷_ 38 (List._∷_ 91 (List._∷_ 93 List.[]))) (Syntax.tcons (Syntax.tyRef Syntax.erased Syntax.mut (Syntax.tyInt Syntax.w8)) (Syntax.tcons (Syntax.tyInt Syntax.w64) Syntax.tnil)))) (List._∷_ (14, Rows.any-gone (Syntax.tyRef Syntax.erased Syntax.mut (Syntax.tyInt Syntax.w8))) (List._∷_ (15, Rows.any-gone (Syntax.tyStruct (List._∷_ 38 (List._∷_ 91 (List._∷_ 93 List.[]))) (Syntax.tcons (Syntax.tyRef Syntax.erased Syntax.mut (Syntax.tyInt Syntax.w8)) (Syntax.tcons (Syntax.tyInt Syntax.w64) Syntax.tnil)))) List.[])))))))))))))))
 
         abbrev g8 : List.List Row.Entry
-        g8 = List._∷_ (0, Rows.any-gone Syntax.tyUnit) (List._∷_ (1, Relend.mslice-owed (OfOutput.row) (Syntax.tyRef (Syntax.named 0) Syntax.mut OfOutput.named) 0 5 (Row.lease (κs .0) (qs .0))) (List._∷_ (2, Relend.mslice-owed (OfStation.row) (Syntax.tyRef (Syntax.named 1) Syntax.mut OfStation.named) 1 6 (Row.lease (κs .1 .0) (qs .1 .0))) (List._∷_ (3, Rows.mref-owed (Referent.rtF (Referent.fInt Syntax.w64)) (Syntax.tyRef (Syntax.named 2) Syntax.mut (Syntax.tyInt Syntax.w64)) 2 7 (Row.lease (κs .1 .1 .0) (qs .1 .1 .0))) (List._∷_ (4, Relend.mslice-owed (Referent.rtF (Referent.fInt Syntax.w8)) (Syntax.tyRef (Syntax.named 3) Syntax.mut (Syntax.tyInt Syntax.w8)) 3 8 (Row.lease (κs .1 .1 .1 .0) (qs .1 .1 .1 .0))) (List._∷_ (5, Mut.mslice (Referent.rtF (Referent.fInt Syntax.w8)) (Syntax.tyRef (Syntax.named 4) Syntax.mut (Syntax.tyInt Syntax.w8)) 4) (List._∷_ (6, Rows.any-gone (Laws.mir)) (List._∷_ (7, Rows.any-gone (Syntax.tyRef Syntax.erased Syntax.mut OfOutput.named)) (List._∷_ (8, Mut.mslice (OfOutput.row) (Syntax.tyRef Syntax.erased Syntax.mut OfOutput.named) 5) (List._∷_ (9, Rows.any-gone (Syntax.tyRef Syntax.erased Syntax.mut OfStation.named)) (List._∷_ (10, Mut.mslice (OfStation.row) (Syntax.tyRef Syntax.erased Syntax.mut OfStation.named) 6) (List._∷_ (11, Rows.mref (Referent.rtF (Referent.fInt Syntax.w64)) (Syntax.tyRef Syntax.erased Syntax.mut (Syntax.tyInt Syntax.w64)) 7) (List._∷_ (12, Relend.msptr (Referent.rtF (Referent.fInt Syntax.w8)) (Syntax.tyRef Syntax.erased Syntax.mut (Syntax.tyInt Syntax.w8)) 8) (List._∷_ (13, Rows.any-gone (Syntax.tyStruct (List._∷_ 38 (List._∷_ 91 (List._∷_ 93 List.[]))) (Syntax.tcons (Syntax.tyRef Syntax.erased Syntax.mut (Syntax.tyInt Syntax.w8)) (Syntax.tcons (Syntax.tyInt Syntax.w64) Syntax.tnil)))) (List._∷_ (14, Rows.any-gone (Syntax.tyRef Syntax.erased Syntax.mut (Syntax.tyInt Syntax.w8))) (List._∷_ (15, Rows.any-gone (Syntax.tyStruct (List._∷_ 38 (List._∷_ 91 (List._∷_ 93 List.[]))) (Syntax.tcons (Syntax.tyRef Syntax.erased Syntax.mut (Syntax.tyInt Syntax.w8)) (Syntax.tcons (Syntax.tyInt Syntax.w64) Syntax.tnil)))) List.[])))))))))))))))
+        g8 = List._∷_ (0, Rows.any-gone Syntax.tyUnit) (List._∷_ (1, Relend.mslice-owed (OfOutput.row) (Syntax.tyRef (Syntax.named 0) Syntax.mut OfOutput.named) 0 5 (Row.lease (κs .0) (qs .0))) (List._∷_ (2, Relend.mslice-owed (OfStation.row) (Syntax.tyRef (Syntax.named 1) Syntax.mut OfStation.named) 1 6 (Row.lease (κs .1 .0) (qs .1 .0))) (List._∷_ (3, Rows.mref-owed (OfPanelRecord.row) (Syntax.tyRef (Syntax.named 2) Syntax.mut OfPanelRecord.named) 2 7 (Row.lease (κs .1 .1 .0) (qs .1 .1 .0))) (List._∷_ (4, Relend.mslice-owed (Referent.rtF (Referent.fInt Syntax.w8)) (Syntax.tyRef (Syntax.named 3) Syntax.mut (Syntax.tyInt Syntax.w8)) 3 8 (Row.lease (κs .1 .1 .1 .0) (qs .1 .1 .1 .0))) (List._∷_ (5, Mut.mslice (Referent.rtF (Referent.fInt Syntax.w8)) (Syntax.tyRef (Syntax.named 4) Syntax.mut (Syntax.tyInt Syntax.w8)) 4) (List._∷_ (6, Rows.any-gone (Laws.mir)) (List._∷_ (7, Rows.any-gone (Syntax.tyRef Syntax.erased Syntax.mut OfOutput.named)) (List._∷_ (8, Mut.mslice (OfOutput.row) (Syntax.tyRef Syntax.erased Syntax.mut OfOutput.named) 5) (List._∷_ (9, Rows.any-gone (Syntax.tyRef Syntax.erased Syntax.mut OfStation.named)) (List._∷_ (10, Mut.mslice (OfStation.row) (Syntax.tyRef Syntax.erased Syntax.mut OfStation.named) 6) (List._∷_ (11, Rows.mref (OfPanelRecord.row) (Syntax.tyRef Syntax.erased Syntax.mut OfPanelRecord.named) 7) (List._∷_ (12, Relend.msptr (Referent.rtF (Referent.fInt Syntax.w8)) (Syntax.tyRef Syntax.erased Syntax.mut (Syntax.tyInt Syntax.w8)) 8) (List._∷_ (13, Rows.any-gone (Syntax.tyStruct (List._∷_ 38 (List._∷_ 91 (List._∷_ 93 List.[]))) (Syntax.tcons (Syntax.tyRef Syntax.erased Syntax.mut (Syntax.tyInt Syntax.w8)) (Syntax.tcons (Syntax.tyInt Syntax.w64) Syntax.tnil)))) (List._∷_ (14, Rows.any-gone (Syntax.tyRef Syntax.erased Syntax.mut (Syntax.tyInt Syntax.w8))) (List._∷_ (15, Rows.any-gone (Syntax.tyStruct (List._∷_ 38 (List._∷_ 91 (List._∷_ 93 List.[]))) (Syntax.tcons (Syntax.tyRef Syntax.erased Syntax.mut (Syntax.tyInt Syntax.w8)) (Syntax.tcons (Syntax.tyInt Syntax.w64) Syntax.tnil)))) List.[])))))))))))))))
 
         abbrev g9 : List.List Row.Entry
-        g9 = List._∷_ (0, Rows.any-gone Syntax.tyUnit) (List._∷_ (1, Relend.mslice-owed (OfOutput.row) (Syntax.tyRef (Syntax.named 0) Syntax.mut OfOutput.named) 0 5 (Row.lease (κs .0) (qs .0))) (List._∷_ (2, Relend.mslice-owed (OfStation.row) (Syntax.tyRef (Syntax.named 1) Syntax.mut OfStation.named) 1 6 (Row.lease (κs .1 .0) (qs .1 .0))) (List._∷_ (3, Rows.mref-owed (Referent.rtF (Referent.fInt Syntax.w64)) (Syntax.tyRef (Syntax.named 2) Syntax.mut (Syntax.tyInt Syntax.w64)) 2 7 (Row.lease (κs .1 .1 .0) (qs .1 .1 .0))) (List._∷_ (4, Relend.mslice-owed (Referent.rtF (Referent.fInt Syntax.w8)) (Syntax.tyRef (Syntax.named 3) Syntax.mut (Syntax.tyInt Syntax.w8)) 3 8 (Row.lease (κs .1 .1 .1 .0) (qs .1 .1 .1 .0))) (List._∷_ (5, Mut.mslice (Referent.rtF (Referent.fInt Syntax.w8)) (Syntax.tyRef (Syntax.named 4) Syntax.mut (Syntax.tyInt Syntax.w8)) 4) (List._∷_ (6, Rows.any-gone (Laws.mir)) (List._∷_ (7, Rows.any-gone (Syntax.tyRef Syntax.erased Syntax.mut OfOutput.named)) (List._∷_ (8, Mut.mslice (OfOutput.row) (Syntax.tyRef Syntax.erased Syntax.mut OfOutput.named) 5) (List._∷_ (9, Rows.any-gone (Syntax.tyRef Syntax.erased Syntax.mut OfStation.named)) (List._∷_ (10, Mut.mslice (OfStation.row) (Syntax.tyRef Syntax.erased Syntax.mut OfStation.named) 6) (List._∷_ (11, Rows.mref (Referent.rtF (Referent.fInt Syntax.w64)) (Syntax.tyRef Syntax.erased Syntax.mut (Syntax.tyInt Syntax.w64)) 7) (List._∷_ (12, Rows.any-gone (Syntax.tyRef Syntax.erased Syntax.mut (Syntax.tyInt Syntax.w8))) (List._∷_ (13, Mut.mslice (Referent.rtF (Referent.fInt Syntax.w8)) (Syntax.tyRef Syntax.erased Syntax.mut (Syntax.tyInt Syntax.w8)) 8) (List._∷_ (14, Rows.any-gone (Syntax.tyRef Syntax.erased Syntax.mut (Syntax.tyInt Syntax.w8))) (List._∷_ (15, Rows.any-gone (Syntax.tyStruct (List._∷_ 38 (List._∷_ 91 (List._∷_ 93 List.[]))) (Syntax.tcons (Syntax.tyRef Syntax.erased Syntax.mut (Syntax.tyInt Syntax.w8)) (Syntax.tcons (Syntax.tyInt Syntax.w64) Syntax.tnil)))) List.[])))))))))))))))
+        g9 = List._∷_ (0, Rows.any-gone Syntax.tyUnit) (List._∷_ (1, Relend.mslice-owed (OfOutput.row) (Syntax.tyRef (Syntax.named 0) Syntax.mut OfOutput.named) 0 5 (Row.lease (κs .0) (qs .0))) (List._∷_ (2, Relend.mslice-owed (OfStation.row) (Syntax.tyRef (Syntax.named 1) Syntax.mut OfStation.named) 1 6 (Row.lease (κs .1 .0) (qs .1 .0))) (List._∷_ (3, Rows.mref-owed (OfPanelRecord.row) (Syntax.tyRef (Syntax.named 2) Syntax.mut OfPanelRecord.named) 2 7 (Row.lease (κs .1 .1 .0) (qs .1 .1 .0))) (List._∷_ (4, Relend.mslice-owed (Referent.rtF (Referent.fInt Syntax.w8)) (Syntax.tyRef (Syntax.named 3) Syntax.mut (Syntax.tyInt Syntax.w8)) 3 8 (Row.lease (κs .1 .1 .1 .0) (qs .1 .1 .1 .0))) (List._∷_ (5, Mut.mslice (Referent.rtF (Referent.fInt Syntax.w8)) (Syntax.tyRef (Syntax.named 4) Syntax.mut (Syntax.tyInt Syntax.w8)) 4) (List._∷_ (6, Rows.any-gone (Laws.mir)) (List._∷_ (7, Rows.any-gone (Syntax.tyRef Syntax.erased Syntax.mut OfOutput.named)) (List._∷_ (8, Mut.mslice (OfOutput.row) (Syntax.tyRef Syntax.erased Syntax.mut OfOutput.named) 5) (List._∷_ (9, Rows.any-gone (Syntax.tyRef Syntax.erased Syntax.mut OfStation.named)) (List._∷_ (10, Mut.mslice (OfStation.row) (Syntax.tyRef Syntax.erased Syntax.mut OfStation.named) 6) (List._∷_ (11, Rows.mref (OfPanelRecord.row) (Syntax.tyRef Syntax.erased Syntax.mut OfPanelRecord.named) 7) (List._∷_ (12, Rows.any-gone (Syntax.tyRef Syntax.erased Syntax.mut (Syntax.tyInt Syntax.w8))) (List._∷_ (13, Mut.mslice (Referent.rtF (Referent.fInt Syntax.w8)) (Syntax.tyRef Syntax.erased Syntax.mut (Syntax.tyInt Syntax.w8)) 8) (List._∷_ (14, Rows.any-gone (Syntax.tyRef Syntax.erased Syntax.mut (Syntax.tyInt Syntax.w8))) (List._∷_ (15, Rows.any-gone (Syntax.tyStruct (List._∷_ 38 (List._∷_ 91 (List._∷_ 93 List.[]))) (Syntax.tcons (Syntax.tyRef Syntax.erased Syntax.mut (Syntax.tyInt Syntax.w8)) (Syntax.tcons (Syntax.tyInt Syntax.w64) Syntax.tnil)))) List.[])))))))))))))))
 
         abbrev g10 : List.List Row.Entry
-        g10 = List._∷_ (0, Rows.any-gone Syntax.tyUnit) (List._∷_ (1, Relend.mslice-owed (OfOutput.row) (Syntax.tyRef (Syntax.named 0) Syntax.mut OfOutput.named) 0 5 (Row.lease (κs .0) (qs .0))) (List._∷_ (2, Relend.mslice-owed (OfStation.row) (Syntax.tyRef (Syntax.named 1) Syntax.mut OfStation.named) 1 6 (Row.lease (κs .1 .0) (qs .1 .0))) (List._∷_ (3, Rows.mref-owed (Referent.rtF (Referent.fInt Syntax.w64)) (Syntax.tyRef (Syntax.named 2) Syntax.mut (Syntax.tyInt Syntax.w64)) 2 7 (Row.lease (κs .1 .1 .0) (qs .1 .1 .0))) (List._∷_ (4, Relend.mslice-owed (Referent.rtF (Referent.fInt Syntax.w8)) (Syntax.tyRef (Syntax.named 3) Syntax.mut (Syntax.tyInt Syntax.w8)) 3 8 (Row.lease (κs .1 .1 .1 .0) (qs .1 .1 .1 .0))) (List._∷_ (5, Relend.mslice-owed (Referent.rtF (Referent.fInt Syntax.w8)) (Syntax.tyRef (Syntax.named 4) Syntax.mut (Syntax.tyInt Syntax.w8)) 4 9 (Row.lease (κs .1 .1 .1 .1 .0) (qs .1 .1 .1 .1 .0))) (List._∷_ (6, Rows.any-gone (Laws.mir)) (List._∷_ (7, Rows.any-gone (Syntax.tyRef Syntax.erased Syntax.mut OfOutput.named)) (List._∷_ (8, Mut.mslice (OfOutput.row) (Syntax.tyRef Syntax.erased Syntax.mut OfOutput.named) 5) (List._∷_ (9, Rows.any-gone (Syntax.tyRef Syntax.erased Syntax.mut OfStation.named)) (List._∷_ (10, Mut.mslice (OfStation.row) (Syntax.tyRef Syntax.erased Syntax.mut OfStation.named) 6) (List._∷_ (11, Rows.mref (Referent.rtF (Referent.fInt Syntax.w64)) (Syntax.tyRef Syntax.erased Syntax.mut (Syntax.tyInt Syntax.w64)) 7) (List._∷_ (12, Rows.any-gone (Syntax.tyRef Syntax.erased Syntax.mut (Syntax.tyInt Syntax.w8))) (List._∷_ (13, Mut.mslice (Referent.rtF (Referent.fInt Syntax.w8)) (Syntax.tyRef Syntax.erased Syntax.mut (Syntax.tyInt Syntax.w8)) 8) (List._∷_ (14, Relend.msptr (Referent.rtF (Referent.fInt Syntax.w8)) (Syntax.tyRef Syntax.erased Syntax.mut (Syntax.tyInt Syntax.w8)) 9) (List._∷_ (15, Rows.any-gone (Syntax.tyStruct (List._∷_ 38 (List._∷_ 91 (List._∷_ 93 List.[]))) (Syntax.tcons (Syntax.tyRef Syntax.erased Syntax.mut (Syntax.tyInt Syntax.w8)) (Syntax.tcons (Syntax.tyInt Syntax.w64) Syntax.tnil)))) List.[])))))))))))))))
+        g10 = List._∷_ (0, Rows.any-gone Syntax.tyUnit) (List._∷_ (1, Relend.mslice-owed (OfOutput.row) (Syntax.tyRef (Syntax.named 0) Syntax.mut OfOutput.named) 0 5 (Row.lease (κs .0) (qs .0))) (List._∷_ (2, Relend.mslice-owed (OfStation.row) (Syntax.tyRef (Syntax.named 1) Syntax.mut OfStation.named) 1 6 (Row.lease (κs .1 .0) (qs .1 .0))) (List._∷_ (3, Rows.mref-owed (OfPanelRecord.row) (Syntax.tyRef (Syntax.named 2) Syntax.mut OfPanelRecord.named) 2 7 (Row.lease (κs .1 .1 .0) (qs .1 .1 .0))) (List._∷_ (4, Relend.mslice-owed (Referent.rtF (Referent.fInt Syntax.w8)) (Syntax.tyRef (Syntax.named 3) Syntax.mut (Syntax.tyInt Syntax.w8)) 3 8 (Row.lease (κs .1 .1 .1 .0) (qs .1 .1 .1 .0))) (List._∷_ (5, Relend.mslice-owed (Referent.rtF (Referent.fInt Syntax.w8)) (Syntax.tyRef (Syntax.named 4) Syntax.mut (Syntax.tyInt Syntax.w8)) 4 9 (Row.lease (κs .1 .1 .1 .1 .0) (qs .1 .1 .1 .1 .0))) (List._∷_ (6, Rows.any-gone (Laws.mir)) (List._∷_ (7, Rows.any-gone (Syntax.tyRef Syntax.erased Syntax.mut OfOutput.named)) (List._∷_ (8, Mut.mslice (OfOutput.row) (Syntax.tyRef Syntax.erased Syntax.mut OfOutput.named) 5) (List._∷_ (9, Rows.any-gone (Syntax.tyRef Syntax.erased Syntax.mut OfStation.named)) (List._∷_ (10, Mut.mslice (OfStation.row) (Syntax.tyRef Syntax.erased Syntax.mut OfStation.named) 6) (List._∷_ (11, Rows.mref (OfPanelRecord.row) (Syntax.tyRef Syntax.erased Syntax.mut OfPanelRecord.named) 7) (List._∷_ (12, Rows.any-gone (Syntax.tyRef Syntax.erased Syntax.mut (Syntax.tyInt Syntax.w8))) (List._∷_ (13, Mut.mslice (Referent.rtF (Referent.fInt Syntax.w8)) (Syntax.tyRef Syntax.erased Syntax.mut (Syntax.tyInt Syntax.w8)) 8) (List._∷_ (14, Relend.msptr (Referent.rtF (Referent.fInt Syntax.w8)) (Syntax.tyRef Syntax.erased Syntax.mut (Syntax.tyInt Syntax.w8)) 9) (List._∷_ (15, Rows.any-gone (Syntax.tyStruct (List._∷_ 38 (List._∷_ 91 (List._∷_ 93 List.[]))) (Syntax.tcons (Syntax.tyRef Syntax.erased Syntax.mut (Syntax.tyInt Syntax.w8)) (Syntax.tcons (Syntax.tyInt Syntax.w64) Syntax.tnil)))) List.[])))))))))))))))
 
         abbrev g11 : List.List Row.Entry
-        g11 = List._∷_ (0, Rows.any-gone Syntax.tyUnit) (List._∷_ (1, Relend.mslice-owed (OfOutput.row) (Syntax.tyRef (Syntax.named 0) Syntax.mut OfOutput.named) 0 5 (Row.lease (κs .0) (qs .0))) (List._∷_ (2, Relend.mslice-owed (OfStation.row) (Syntax.tyRef (Syntax.named 1) Syntax.mut OfStation.named) 1 6 (Row.lease (κs .1 .0) (qs .1 .0))) (List._∷_ (3, Rows.mref-owed (Referent.rtF (Referent.fInt Syntax.w64)) (Syntax.tyRef (Syntax.named 2) Syntax.mut (Syntax.tyInt Syntax.w64)) 2 7 (Row.lease (κs .1 .1 .0) (qs .1 .1 .0))) (List._∷_ (4, Relend.mslice-owed (Referent.rtF (Referent.fInt Syntax.w8)) (Syntax.tyRef (Syntax.named 3) Syntax.mut (Syntax.tyInt Syntax.w8)) 3 8 (Row.lease (κs .1 .1 .1 .0) (qs .1 .1 .1 .0))) (List._∷_ (5, Relend.mslice-owed (Referent.rtF (Referent.fInt Syntax.w8)) (Syntax.tyRef (Syntax.named 4) Syntax.mut (Syntax.tyInt Syntax.w8)) 4 9 (Row.lease (κs .1 .1 .1 .1 .0) (qs .1 .1 .1 .1 .0))) (List._∷_ (6, Rows.any-gone (Laws.mir)) (List._∷_ (7, Rows.any-gone (Syntax.tyRef Syntax.erased Syntax.mut OfOutput.named)) (List._∷_ (8, Mut.mslice (OfOutput.row) (Syntax.tyRef Syntax.erased Syntax.mut OfOutput.named) 5) (List._∷_ (9, Rows.any-gone (Syntax.tyRef Syntax.erased Syntax.mut OfStation.named)) (List._∷_ (10, Mut.mslice (OfStation.row) (Syntax.tyRef Syntax.erased Syntax.mut OfStation.named) 6) (List._∷_ (11, Rows.mref (Referent.rtF (Referent.fInt Syntax.w64)) (Syntax.tyRef Syntax.erased Syntax.mut (Syntax.tyInt Syntax.w64)) 7) (List._∷_ (12, Rows.any-gone (Syntax.tyRef Syntax.erased Syntax.mut (Syntax.tyInt Syntax.w8))) (List._∷_ (13, Mut.mslice (Referent.rtF (Referent.fInt Syntax.w8)) (Syntax.tyRef Syntax.erased Syntax.mut (Syntax.tyInt Syntax.w8)) 8) (List._∷_ (14, Rows.any-gone (Syntax.tyRef Syntax.erased Syntax.mut (Syntax.tyInt Syntax.w8))) (List._∷_ (15, Mut.mslice (Referent.rtF (Referent.fInt Syntax.w8)) (Syntax.tyRef Syntax.erased Syntax.mut (Syntax.tyInt Syntax.w8)) 9) List.[])))))))))))))))
+        g11 = List._∷_ (0, Rows.any-gone Syntax.tyUnit) (List._∷_ (1, Relend.mslice-owed (OfOutput.row) (Syntax.tyRef (Syntax.named 0) Syntax.mut OfOutput.named) 0 5 (Row.lease (κs .0) (qs .0))) (List._∷_ (2, Relend.mslice-owed (OfStation.row) (Syntax.tyRef (Syntax.named 1) Syntax.mut OfStation.named) 1 6 (Row.lease (κs .1 .0) (qs .1 .0))) (List._∷_ (3, Rows.mref-owed (OfPanelRecord.row) (Syntax.tyRef (Syntax.named 2) Syntax.mut OfPanelRecord.named) 2 7 (Row.lease (κs .1 .1 .0) (qs .1 .1 .0))) (List._∷_ (4, Relend.mslice-owed (Referent.rtF (Referent.fInt Syntax.w8)) (Syntax.tyRef (Syntax.named 3) Syntax.mut (Syntax.tyInt Syntax.w8)) 3 8 (Row.lease (κs .1 .1 .1 .0) (qs .1 .1 .1 .0))) (List._∷_ (5, Relend.mslice-owed (Referent.rtF (Referent.fInt Syntax.w8)) (Syntax.tyRef (Syntax.named 4) Syntax.mut (Syntax.tyInt Syntax.w8)) 4 9 (Row.lease (κs .1 .1 .1 .1 .0) (qs .1 .1 .1 .1 .0))) (List._∷_ (6, Rows.any-gone (Laws.mir)) (List._∷_ (7, Rows.any-gone (Syntax.tyRef Syntax.erased Syntax.mut OfOutput.named)) (List._∷_ (8, Mut.mslice (OfOutput.row) (Syntax.tyRef Syntax.erased Syntax.mut OfOutput.named) 5) (List._∷_ (9, Rows.any-gone (Syntax.tyRef Syntax.erased Syntax.mut OfStation.named)) (List._∷_ (10, Mut.mslice (OfStation.row) (Syntax.tyRef Syntax.erased Syntax.mut OfStation.named) 6) (List._∷_ (11, Rows.mref (OfPanelRecord.row) (Syntax.tyRef Syntax.erased Syntax.mut OfPanelRecord.named) 7) (List._∷_ (12, Rows.any-gone (Syntax.tyRef Syntax.erased Syntax.mut (Syntax.tyInt Syntax.w8))) (List._∷_ (13, Mut.mslice (Referent.rtF (Referent.fInt Syntax.w8)) (Syntax.tyRef Syntax.erased Syntax.mut (Syntax.tyInt Syntax.w8)) 8) (List._∷_ (14, Rows.any-gone (Syntax.tyRef Syntax.erased Syntax.mut (Syntax.tyInt Syntax.w8))) (List._∷_ (15, Mut.mslice (Referent.rtF (Referent.fInt Syntax.w8)) (Syntax.tyRef Syntax.erased Syntax.mut (Syntax.tyInt Syntax.w8)) 9) List.[])))))))))))))))
 
         abbrev g12 : List.List Row.Entry
-        g12 = List._∷_ (0, Rows.any-gone Syntax.tyUnit) (List._∷_ (1, Relend.mslice-owed (OfOutput.row) (Syntax.tyRef (Syntax.named 0) Syntax.mut OfOutput.named) 0 5 (Row.lease (κs .0) (qs .0))) (List._∷_ (2, Relend.mslice-owed (OfStation.row) (Syntax.tyRef (Syntax.named 1) Syntax.mut OfStation.named) 1 6 (Row.lease (κs .1 .0) (qs .1 .0))) (List._∷_ (3, Rows.mref-owed (Referent.rtF (Referent.fInt Syntax.w64)) (Syntax.tyRef (Syntax.named 2) Syntax.mut (Syntax.tyInt Syntax.w64)) 2 7 (Row.lease (κs .1 .1 .0) (qs .1 .1 .0))) (List._∷_ (4, Relend.mslice-owed (Referent.rtF (Referent.fInt Syntax.w8)) (Syntax.tyRef (Syntax.named 3) Syntax.mut (Syntax.tyInt Syntax.w8)) 3 8 (Row.lease (κs .1 .1 .1 .0) (qs .1 .1 .1 .0))) (List._∷_ (5, Relend.mslice-owed (Referent.rtF (Referent.fInt Syntax.w8)) (Syntax.tyRef (Syntax.named 4) Syntax.mut (Syntax.tyInt Syntax.w8)) 4 9 (Row.lease (κs .1 .1 .1 .1 .0) (qs .1 .1 .1 .1 .0))) (List._∷_ (6, Rows.whole (Declared.row Turn.the-type)) (List._∷_ (7, Rows.any-gone (Syntax.tyRef Syntax.erased Syntax.mut OfOutput.named)) (List._∷_ (8, Mut.msleft (OfOutput.row) (Syntax.tyRef Syntax.erased Syntax.mut OfOutput.named)) (List._∷_ (9, Rows.any-gone (Syntax.tyRef Syntax.erased Syntax.mut OfStation.named)) (List._∷_ (10, Mut.msleft (OfStation.row) (Syntax.tyRef Syntax.erased Syntax.mut OfStation.named)) (List._∷_ (11, Rows.mleft (Referent.rtF (Referent.fInt Syntax.w64)) (Syntax.tyRef Syntax.erased Syntax.mut (Syntax.tyInt Syntax.w64))) (List._∷_ (12, Rows.any-gone (Syntax.tyRef Syntax.erased Syntax.mut (Syntax.tyInt Syntax.w8))) (List._∷_ (13, Mut.msleft (Referent.rtF (Referent.fInt Syntax.w8)) (Syntax.tyRef Syntax.erased Syntax.mut (Syntax.tyInt Syntax.w8))) (List._∷_ (14, Rows.any-gone (Syntax.tyRef Syntax.erased Syntax.mut (Syntax.tyInt Syntax.w8))) (List._∷_ (15, Mut.msleft (Referent.rtF (Referent.fInt Syntax.w8)) (Syntax.tyRef Syntax.erased Syntax.mut (Syntax.tyInt Syntax.w8))) List.[])))))))))))))))
+        g12 = List._∷_ (0, Rows.any-gone Syntax.tyUnit) (List._∷_ (1, Relend.mslice-owed (OfOutput.row) (Syntax.tyRef (Syntax.named 0) Syntax.mut OfOutput.named) 0 5 (Row.lease (κs .0) (qs .0))) (List._∷_ (2, Relend.mslice-owed (OfStation.row) (Syntax.tyRef (Syntax.named 1) Syntax.mut OfStation.named) 1 6 (Row.lease (κs .1 .0) (qs .1 .0))) (List._∷_ (3, Rows.mref-owed (OfPanelRecord.row) (Syntax.tyRef (Syntax.named 2) Syntax.mut OfPanelRecord.named) 2 7 (Row.lease (κs .1 .1 .0) (qs .1 .1 .0))) (List._∷_ (4, Relend.mslice-owed (Referent.rtF (Referent.fInt Syntax.w8)) (Syntax.tyRef (Syntax.named 3) Syntax.mut (Syntax.tyInt Syntax.w8)) 3 8 (Row.lease (κs .1 .1 .1 .0) (qs .1 .1 .1 .0))) (List._∷_ (5, Relend.mslice-owed (Referent.rtF (Referent.fInt Syntax.w8)) (Syntax.tyRef (Syntax.named 4) Syntax.mut (Syntax.tyInt Syntax.w8)) 4 9 (Row.lease (κs .1 .1 .1 .1 .0) (qs .1 .1 .1 .1 .0))) (List._∷_ (6, Rows.whole (Declared.row Turn.the-type)) (List._∷_ (7, Rows.any-gone (Syntax.tyRef Syntax.erased Syntax.mut OfOutput.named)) (List._∷_ (8, Mut.msleft (OfOutput.row) (Syntax.tyRef Syntax.erased Syntax.mut OfOutput.named)) (List._∷_ (9, Rows.any-gone (Syntax.tyRef Syntax.erased Syntax.mut OfStation.named)) (List._∷_ (10, Mut.msleft (OfStation.row) (Syntax.tyRef Syntax.erased Syntax.mut OfStation.named)) (List._∷_ (11, Rows.mleft (OfPanelRecord.row) (Syntax.tyRef Syntax.erased Syntax.mut OfPanelRecord.named)) (List._∷_ (12, Rows.any-gone (Syntax.tyRef Syntax.erased Syntax.mut (Syntax.tyInt Syntax.w8))) (List._∷_ (13, Mut.msleft (Referent.rtF (Referent.fInt Syntax.w8)) (Syntax.tyRef Syntax.erased Syntax.mut (Syntax.tyInt Syntax.w8))) (List._∷_ (14, Rows.any-gone (Syntax.tyRef Syntax.erased Syntax.mut (Syntax.tyInt Syntax.w8))) (List._∷_ (15, Mut.msleft (Referent.rtF (Referent.fInt Syntax.w8)) (Syntax.tyRef Syntax.erased Syntax.mut (Syntax.tyInt Syntax.w8))) List.[])))))))))))))))
 
         abbrev g13 : List.List Row.Entry
-        g13 = List._∷_ (0, Rows.any-gone Syntax.tyUnit) (List._∷_ (1, Mut.mslice (OfOutput.row) (Syntax.tyRef (Syntax.named 0) Syntax.mut OfOutput.named) 0) (List._∷_ (2, Relend.mslice-owed (OfStation.row) (Syntax.tyRef (Syntax.named 1) Syntax.mut OfStation.named) 1 6 (Row.lease (κs .1 .0) (qs .1 .0))) (List._∷_ (3, Rows.mref-owed (Referent.rtF (Referent.fInt Syntax.w64)) (Syntax.tyRef (Syntax.named 2) Syntax.mut (Syntax.tyInt Syntax.w64)) 2 7 (Row.lease (κs .1 .1 .0) (qs .1 .1 .0))) (List._∷_ (4, Relend.mslice-owed (Referent.rtF (Referent.fInt Syntax.w8)) (Syntax.tyRef (Syntax.named 3) Syntax.mut (Syntax.tyInt Syntax.w8)) 3 8 (Row.lease (κs .1 .1 .1 .0) (qs .1 .1 .1 .0))) (List._∷_ (5, Relend.mslice-owed (Referent.rtF (Referent.fInt Syntax.w8)) (Syntax.tyRef (Syntax.named 4) Syntax.mut (Syntax.tyInt Syntax.w8)) 4 9 (Row.lease (κs .1 .1 .1 .1 .0) (qs .1 .1 .1 .1 .0))) (List._∷_ (6, Rows.whole (Declared.row Turn.the-type)) (List._∷_ (7, Rows.any-gone (Syntax.tyRef Syntax.erased Syntax.mut OfOutput.named)) (List._∷_ (8, Rows.any-gone (Syntax.tyStruct (List._∷_ 38 (List._∷_ 91 (List._∷_ 93 List.[]))) (Syntax.tcons (Syntax.tyRef Syntax.erased Syntax.mut OfOutput.named) (Syntax.tcons (Syntax.tyInt Syntax.w64) Syntax.tnil)))) (List._∷_ (9, Rows.any-gone (Syntax.tyRef Syntax.erased Syntax.mut OfStation.named)) (List._∷_ (10, Mut.msleft (OfStation.row) (Syntax.tyRef Syntax.erased Syntax.mut OfStation.named)) (List._∷_ (11, Rows.mleft (Referent.rtF (Referent.fInt Syntax.w64)) (Syntax.tyRef Syntax.erased Syntax.mut (Syntax.tyInt Syntax.w64))) (List._∷_ (12, Rows.any-gone (Syntax.tyRef Syntax.erased Syntax.mut (Syntax.tyInt Syntax.w8))) (List._∷_ (13, Mut.msleft (Referent.rtF (Referent.fInt Syntax.w8)) (Syntax.tyRef Syntax.erased Syntax.mut (Syntax.tyInt Syntax.w8))) (List._∷_ (14, Rows.any-gone (Syntax.tyRef Syntax.erased Syntax.mut (Syntax.tyInt Syntax.w8))) (List._∷_ (15, Mut.msleft (Referent.rtF (Referent.fInt Syntax.w8)) (Syntax.tyRef Syntax.erased Syntax.mut (Syntax.tyInt Syntax.w8))) List.[])))))))))))))))
+        g13 = List._∷_ (0, Rows.any-gone Syntax.tyUnit) (List._∷_ (1, Mut.mslice (OfOutput.row) (Syntax.tyRef (Syntax.named 0) Syntax.mut OfOutput.named) 0) (List._∷_ (2, Relend.mslice-owed (OfStation.row) (Syntax.tyRef (Syntax.named 1) Syntax.mut OfStation.named) 1 6 (Row.lease (κs .1 .0) (qs .1 .0))) (List._∷_ (3, Rows.mref-owed (OfPanelRecord.row) (Syntax.tyRef (Syntax.named 2) Syntax.mut OfPanelRecord.named) 2 7 (Row.lease (κs .1 .1 .0) (qs .1 .1 .0))) (List._∷_ (4, Relend.mslice-owed (Referent.rtF (Referent.fInt Syntax.w8)) (Syntax.tyRef (Syntax.named 3) Syntax.mut (Syntax.tyInt Syntax.w8)) 3 8 (Row.lease (κs .1 .1 .1 .0) (qs .1 .1 .1 .0))) (List._∷_ (5, Relend.mslice-owed (Referent.rtF (Referent.fInt Syntax.w8)) (Syntax.tyRef (Syntax.named 4) Syntax.mut (Syntax.tyInt Syntax.w8)) 4 9 (Row.lease (κs .1 .1 .1 .1 .0) (qs .1 .1 .1 .1 .0))) (List._∷_ (6, Rows.whole (Declared.row Turn.the-type)) (List._∷_ (7, Rows.any-gone (Syntax.tyRef Syntax.erased Syntax.mut OfOutput.named)) (List._∷_ (8, Rows.any-gone (Syntax.tyStruct (List._∷_ 38 (List._∷_ 91 (List._∷_ 93 List.[]))) (Syntax.tcons (Syntax.tyRef Syntax.erased Syntax.mut OfOutput.named) (Syntax.tcons (Syntax.tyInt Syntax.w64) Syntax.tnil)))) (List._∷_ (9, Rows.any-gone (Syntax.tyRef Syntax.erased Syntax.mut OfStation.named)) (List._∷_ (10, Mut.msleft (OfStation.row) (Syntax.tyRef Syntax.erased Syntax.mut OfStation.named)) (List._∷_ (11, Rows.mleft (OfPanelRecord.row) (Syntax.tyRef Syntax.erased Syntax.mut OfPanelRecord.named)) (List._∷_ (12, Rows.any-gone (Syntax.tyRef Syntax.erased Syntax.mut (Syntax.tyInt Syntax.w8))) (List._∷_ (13, Mut.msleft (Referent.rtF (Referent.fInt Syntax.w8)) (Syntax.tyRef Syntax.erased Syntax.mut (Syntax.tyInt Syntax.w8))) (List._∷_ (14, Rows.any-gone (Syntax.tyRef Syntax.erased Syntax.mut (Syntax.tyInt Syntax.w8))) (List._∷_ (15, Mut.msleft (Referent.rtF (Referent.fInt Syntax.w8)) (Syntax.tyRef Syntax.erased Syntax.mut (Syntax.tyInt Syntax.w8))) List.[])))))))))))))))
 
         abbrev g14 : List.List Row.Entry
-        g14 = List._∷_ (0, Rows.any-gone Syntax.tyUnit) (List._∷_ (1, Mut.mslice (OfOutput.row) (Syntax.tyRef (Syntax.named 0) Syntax.mut OfOutput.named) 0) (List._∷_ (2, Mut.mslice (OfStation.row) (Syntax.tyRef (Syntax.named 1) Syntax.mut OfStation.named) 1) (List._∷_ (3, Rows.mref-owed (Referent.rtF (Referent.fInt Syntax.w64)) (Syntax.tyRef (Syntax.named 2) Syntax.mut (Syntax.tyInt Syntax.w64)) 2 7 (Row.lease (κs .1 .1 .0) (qs .1 .1 .0))) (List._∷_ (4, Relend.mslice-owed (Referent.rtF (Referent.fInt Syntax.w8)) (Syntax.tyRef (Syntax.named 3) Syntax.mut (Syntax.tyInt Syntax.w8)) 3 8 (Row.lease (κs .1 .1 .1 .0) (qs .1 .1 .1 .0))) (List._∷_ (5, Relend.mslice-owed (Referent.rtF (Referent.fInt Syntax.w8)) (Syntax.tyRef (Syntax.named 4) Syntax.mut (Syntax.tyInt Syntax.w8)) 4 9 (Row.lease (κs .1 .1 .1 .1 .0) (qs .1 .1 .1 .1 .0))) (List._∷_ (6, Rows.whole (Declared.row Turn.the-type)) (List._∷_ (7, Rows.any-gone (Syntax.tyRef Syntax.erased Syntax.mut OfOutput.named)) (List._∷_ (8, Rows.any-gone (Syntax.tyStruct (List._∷_ 38 (List._∷_ 91 (List._∷_ 93 List.[]))) (Syntax.tcons (Syntax.tyRef Syntax.erased Syntax.mut OfOutput.named) (Syntax.tcons (Syntax.tyInt Syntax.w64) Syntax.tnil)))) (List._∷_ (9, Rows.any-gone (Syntax.tyRef Syntax.erased Syntax.mut OfStation.named)) (List._∷_ (10, Rows.any-gone (Syntax.tyStruct (List._∷_ 38 (List._∷_ 91 (List._∷_ 93 List.[]))) (Syntax.tcons (Syntax.tyRef Syntax.erased Syntax.mut OfStation.named) (Syntax.tcons (Syntax.tyInt Syntax.w64) Syntax.tnil)))) (List._∷_ (11, Rows.mleft (Referent.rtF (Referent.fInt Syntax.w64)) (Syntax.tyRef Syntax.erased Syntax.mut (Syntax.tyInt Syntax.w64))) (List._∷_ (12, Rows.any-gone (Syntax.tyRef Syntax.erased Syntax.mut (Syntax.tyInt Syntax.w8))) (List._∷_ (13, Mut.msleft (Referent.rtF (Referent.fInt Syntax.w8)) (Syntax.tyRef Syntax.erased Syntax.mut (Syntax.tyInt Syntax.w8))) (List._∷_ (14, Rows.any-gone (Syntax.tyRef Syntax.erased Syntax.mut (Syntax.tyInt Syntax.w8))) (List._∷_ (15, Mut.msleft (Referent.rtF (Referent.fInt Syntax.w8)) (Syntax.tyRef Syntax.erased Syntax.mut (Syntax.tyInt Syntax.w8))) List.[])))))))))))))))
+        g14 = List._∷_ (0, Rows.any-gone Syntax.tyUnit) (List._∷_ (1, Mut.mslice (OfOutput.row) (Syntax.tyRef (Syntax.named 0) Syntax.mut OfOutput.named) 0) (List._∷_ (2, Mut.mslice (OfStation.row) (Syntax.tyRef (Syntax.named 1) Syntax.mut OfStation.named) 1) (List._∷_ (3, Rows.mref-owed (OfPanelRecord.row) (Syntax.tyRef (Syntax.named 2) Syntax.mut OfPanelRecord.named) 2 7 (Row.lease (κs .1 .1 .0) (qs .1 .1 .0))) (List._∷_ (4, Relend.mslice-owed (Referent.rtF (Referent.fInt Syntax.w8)) (Syntax.tyRef (Syntax.named 3) Syntax.mut (Syntax.tyInt Syntax.w8)) 3 8 (Row.lease (κs .1 .1 .1 .0) (qs .1 .1 .1 .0))) (List._∷_ (5, Relend.mslice-owed (Referent.rtF (Referent.fInt Syntax.w8)) (Syntax.tyRef (Syntax.named 4) Syntax.mut (Syntax.tyInt Syntax.w8)) 4 9 (Row.lease (κs .1 .1 .1 .1 .0) (qs .1 .1 .1 .1 .0))) (List._∷_ (6, Rows.whole (Declared.row Turn.the-type)) (List._∷_ (7, Rows.any-gone (Syntax.tyRef Syntax.erased Syntax.mut OfOutput.named)) (List._∷_ (8, Rows.any-gone (Syntax.tyStruct (List._∷_ 38 (List._∷_ 91 (List._∷_ 93 List.[]))) (Syntax.tcons (Syntax.tyRef Syntax.erased Syntax.mut OfOutput.named) (Syntax.tcons (Syntax.tyInt Syntax.w64) Syntax.tnil)))) (List._∷_ (9, Rows.any-gone (Syntax.tyRef Syntax.erased Syntax.mut OfStation.named)) (List._∷_ (10, Rows.any-gone (Syntax.tyStruct (List._∷_ 38 (List._∷_ 91 (List._∷_ 93 List.[]))) (Syntax.tcons (Syntax.tyRef Syntax.erased Syntax.mut OfStation.named) (Syntax.tcons (Syntax.tyInt Syntax.w64) Syntax.tnil)))) (List._∷_ (11, Rows.mleft (OfPanelRecord.row) (Syntax.tyRef Syntax.erased Syntax.mut OfPanelRecord.named)) (List._∷_ (12, Rows.any-gone (Syntax.tyRef Syntax.erased Syntax.mut (Syntax.tyInt Syntax.w8))) (List._∷_ (13, Mut.msleft (Referent.rtF (Referent.fInt Syntax.w8)) (Syntax.tyRef Syntax.erased Syntax.mut (Syntax.tyInt Syntax.w8))) (List._∷_ (14, Rows.any-gone (Syntax.tyRef Syntax.erased Syntax.mut (Syntax.tyInt Syntax.w8))) (List._∷_ (15, Mut.msleft (Referent.rtF (Referent.fInt Syntax.w8)) (Syntax.tyRef Syntax.erased Syntax.mut (Syntax.tyInt Syntax.w8))) List.[])))))))))))))))
 
         abbrev g15 : List.List Row.Entry
-        g15 = List._∷_ (0, Rows.any-gone Syntax.tyUnit) (List._∷_ (1, Mut.mslice (OfOutput.row) (Syntax.tyRef (Syntax.named 0) Syntax.mut OfOutput.named) 0) (List._∷_ (2, Mut.mslice (OfStation.row) (Syntax.tyRef (Syntax.named 1) Syntax.mut OfStation.named) 1) (List._∷_ (3, Rows.mref (Referent.rtF (Referent.fInt Syntax.w64)) (Syntax.tyRef (Syntax.named 2) Syntax.mut (Syntax.tyInt Syntax.w64)) 2) (List._∷_ (4, Relend.mslice-owed (Referent.rtF (Referent.fInt Syntax.w8)) (Syntax.tyRef (Syntax.named 3) Syntax.mut (Syntax.tyInt Syntax.w8)) 3 8 (Row.lease (κs .1 .1 .1 .0) (qs .1 .1 .1 .0))) (List._∷_ (5, Relend.mslice-owed (Referent.rtF (Referent.fInt Syntax.w8)) (Syntax.tyRef (Syntax.named 4) Syntax.mut (Syntax.tyInt Syntax.w8)) 4 9 (Row.lease (κs .1 .1 .1 .1 .0) (qs .1 .1 .1 .1 .0))) (List._∷_ (6, Rows.whole (Declared.row Turn.the-type)) (List._∷_ (7, Rows.any-gone (Syntax.tyRef Syntax.erased Syntax.mut OfOutput.named)) (List._∷_ (8, Rows.any-gone (Syntax.tyStruct (List._∷_ 38 (List._∷_ 91 (List._∷_ 93 List.[]))) (Syntax.tcons (Syntax.tyRef Syntax.erased Syntax.mut OfOutput.named) (Syntax.tcons (Syntax.tyInt Syntax.w64) Syntax.tnil)))) (List._∷_ (9, Rows.any-gone (Syntax.tyRef Syntax.erased Syntax.mut OfStation.named)) (List._∷_ (10, Rows.any-gone (Syntax.tyStruct (List._∷_ 38 (List._∷_ 91 (List._∷_ 93 List.[]))) (Syntax.tcons (Syntax.tyRef Syntax.erased Syntax.mut OfStation.named) (Syntax.tcons (Syntax.tyInt Syntax.w64) Syntax.tnil)))) (List._∷_ (11, Rows.any-gone (Syntax.tyRef Syntax.erased Syntax.mut (Syntax.tyInt Syntax.w64))) (List._∷_ (12, Rows.any-gone (Syntax.tyRef Syntax.erased Syntax.mut (Syntax.tyInt Syntax.w8))) (List._∷_ (13, Mut.msleft (Referent.rtF (Referent.fInt Syntax.w8)) (Syntax.tyRef Syntax.erased Syntax.mut (Syntax.tyInt Syntax.w8))) (List._∷_ (14, Rows.any-gone (Syntax.tyRef Syntax.erased Syntax.mut (Syntax.tyInt Syntax.w8))) (List._∷_ (15, Mut.msleft (Referent.rtF (Referent.fInt Syntax.w8)) (Syntax.tyRef Syntax.erased Syntax.mut (Syntax.tyInt Syntax.w8))) List.[])))))))))))))))
+        g15 = List._∷_ (0, Rows.any-gone Syntax.tyUnit) (List._∷_ (1, Mut.mslice (OfOutput.row) (Syntax.tyRef (Syntax.named 0) Syntax.mut OfOutput.named) 0) (List._∷_ (2, Mut.mslice (OfStation.row) (Syntax.tyRef (Syntax.named 1) Syntax.mut OfStation.named) 1) (List._∷_ (3, Rows.mref (OfPanelRecord.row) (Syntax.tyRef (Syntax.named 2) Syntax.mut OfPanelRecord.named) 2) (List._∷_ (4, Relend.mslice-owed (Referent.rtF (Referent.fInt Syntax.w8)) (Syntax.tyRef (Syntax.named 3) Syntax.mut (Syntax.tyInt Syntax.w8)) 3 8 (Row.lease (κs .1 .1 .1 .0) (qs .1 .1 .1 .0))) (List._∷_ (5, Relend.mslice-owed (Referent.rtF (Referent.fInt Syntax.w8)) (Syntax.tyRef (Syntax.named 4) Syntax.mut (Syntax.tyInt Syntax.w8)) 4 9 (Row.lease (κs .1 .1 .1 .1 .0) (qs .1 .1 .1 .1 .0))) (List._∷_ (6, Rows.whole (Declared.row Turn.the-type)) (List._∷_ (7, Rows.any-gone (Syntax.tyRef Syntax.erased Syntax.mut OfOutput.named)) (List._∷_ (8, Rows.any-gone (Syntax.tyStruct (List._∷_ 38 (List._∷_ 91 (List._∷_ 93 List.[]))) (Syntax.tcons (Syntax.tyRef Syntax.erased Syntax.mut OfOutput.named) (Syntax.tcons (Syntax.tyInt Syntax.w64) Syntax.tnil)))) (List._∷_ (9, Rows.any-gone (Syntax.tyRef Syntax.erased Syntax.mut OfStation.named)) (List._∷_ (10, Rows.any-gone (Syntax.tyStruct (List._∷_ 38 (List._∷_ 91 (List._∷_ 93 List.[]))) (Syntax.tcons (Syntax.tyRef Syntax.erased Syntax.mut OfStation.named) (Syntax.tcons (Syntax.tyInt Syntax.w64) Syntax.tnil)))) (List._∷_ (11, Rows.any-gone (Syntax.tyRef Syntax.erased Syntax.mut OfPanelRecord.named)) (List._∷_ (12, Rows.any-gone (Syntax.tyRef Syntax.erased Syntax.mut (Syntax.tyInt Syntax.w8))) (List._∷_ (13, Mut.msleft (Referent.rtF (Referent.fInt Syntax.w8)) (Syntax.tyRef Syntax.erased Syntax.mut (Syntax.tyInt Syntax.w8))) (List._∷_ (14, Rows.any-gone (Syntax.tyRef Syntax.erased Syntax.mut (Syntax.tyInt Syntax.w8))) (List._∷_ (15, Mut.msleft (Referent.rtF (Referent.fInt Syntax.w8)) (Syntax.tyRef Syntax.erased Syntax.mut (Syntax.tyInt Syntax.w8))) List.[])))))))))))))))
 
         abbrev g16 : List.List Row.Entry
-        g16 = List._∷_ (0, Rows.any-gone Syntax.tyUnit) (List._∷_ (1, Mut.mslice (OfOutput.row) (Syntax.tyRef (Syntax.named 0) Syntax.mut OfOutput.named) 0) (List._∷_ (2, Mut.mslice (OfStation.row) (Syntax.tyRef (Syntax.named 1) Syntax.mut OfStation.named) 1) (List._∷_ (3, Rows.mref (Referent.rtF (Referent.fInt Syntax.w64)) (Syntax.tyRef (Syntax.named 2) Syntax.mut (Syntax.tyInt Syntax.w64)) 2) (List._∷_ (4, Mut.mslice (Referent.rtF (Referent.fInt Syntax.w8)) (Syntax.tyRef (Syntax.named 3) Syntax.mut (Syntax.tyInt Syntax.w8)) 3) (List._∷_ (5, Relend.mslice-owed (Referent.rtF (Referent.fInt Syntax.w8)) (Syntax.tyRef (Syntax.named 4) Syntax.mut (Syntax.tyInt Syntax.w8)) 4 9 (Row.lease (κs .1 .1 .1 .1 .0) (qs .1 .1 .1 .1 .0))) (List._∷_ (6, Rows.whole (Declared.row Turn.the-type)) (List._∷_ (7, Rows.any-gone (Syntax.tyRef Syntax.erased Syntax.mut OfOutput.named)) (List._∷_ (8, Rows.any-gone (Syntax.tyStruct (List._∷_ 38 (List._∷_ 91 (List._∷_ 93 List.[]))) (Syntax.tcons (Syntax.tyRef Syntax.erased Syntax.mut OfOutput.named) (Syntax.tcons (Syntax.tyInt Syntax.w64) Syntax.tnil)))) (List._∷_ (9, Rows.any-gone (Syntax.tyRef Syntax.erased Syntax.mut OfStation.named)) (List._∷_ (10, Rows.any-gone (Syntax.tyStruct (List._∷_ 38 (List._∷_ 91 (List._∷_ 93 List.[]))) (Syntax.tcons (Syntax.tyRef Syntax.erased Syntax.mut OfStation.named) (Syntax.tcons (Syntax.tyInt Syntax.w64) Syntax.tnil)))) (List._∷_ (11, Rows.any-gone (Syntax.tyRef Syntax.erased Syntax.mut (Syntax.tyInt Syntax.w64))) (List._∷_ (12, Rows.any-gone (Syntax.tyRef Syntax.erased Syntax.mut (Syntax.tyInt Syntax.w8))) (List._∷_ (13, Rows.any-gone (Syntax.tyStruct (List._∷_ 38 (List._∷_ 91 (List._∷_ 93 List.[]))) (Syntax.tcons (Syntax.tyRef Syntax.erased Syntax.mut (Syntax.tyInt Syntax.w8)) (Syntax.tcons (Syntax.tyInt Syntax.w64) Syntax.tnil)))) (List._∷_ (14, Rows.any-gone (Syntax.tyRef Syntax.erased Syntax.mut (Syntax.tyInt Syntax.w8))) (List._∷_ (15, Mut.msleft (Referent.rtF (Referent.fInt Syntax.w8)) (Syntax.tyRef Syntax.erased Syntax.mut (Syntax.tyInt Syntax.w8))) List.[])))))))))))))))
+        g16 = List._∷_ (0, Rows.any-gone Syntax.tyUnit) (List._∷_ (1, Mut.mslice (OfOutput.row) (Syntax.tyRef (Syntax.named 0) Syntax.mut OfOutput.named) 0) (List._∷_ (2, Mut.mslice (OfStation.row) (Syntax.tyRef (Syntax.named 1) Syntax.mut OfStation.named) 1) (List._∷_ (3, Rows.mref (OfPanelRecord.row) (Syntax.tyRef (Syntax.named 2) Syntax.mut OfPanelRecord.named) 2) (List._∷_ (4, Mut.mslice (Referent.rtF (Referent.fInt Syntax.w8)) (Syntax.tyRef (Syntax.named 3) Syntax.mut (Syntax.tyInt Syntax.w8)) 3) (List._∷_ (5, Relend.mslice-owed (Referent.rtF (Referent.fInt Syntax.w8)) (Syntax.tyRef (Syntax.named 4) Syntax.mut (Syntax.tyInt Syntax.w8)) 4 9 (Row.lease (κs .1 .1 .1 .1 .0) (qs .1 .1 .1 .1 .0))) (List._∷_ (6, Rows.whole (Declared.row Turn.the-type)) (List._∷_ (7, Rows.any-gone (Syntax.tyRef Syntax.erased Syntax.mut OfOutput.named)) (List._∷_ (8, Rows.any-gone (Syntax.tyStruct (List._∷_ 38 (List._∷_ 91 (List._∷_ 93 List.[]))) (Syntax.tcons (Syntax.tyRef Syntax.erased Syntax.mut OfOutput.named) (Syntax.tcons (Syntax.tyInt Syntax.w64) Syntax.tnil)))) (List._∷_ (9, Rows.any-gone (Syntax.tyRef Syntax.erased Syntax.mut OfStation.named)) (List._∷_ (10, Rows.any-gone (Syntax.tyStruct (List._∷_ 38 (List._∷_ 91 (List._∷_ 93 List.[]))) (Syntax.tcons (Syntax.tyRef Syntax.erased Syntax.mut OfStation.named) (Syntax.tcons (Syntax.tyInt Syntax.w64) Syntax.tnil)))) (List._∷_ (11, Rows.any-gone (Syntax.tyRef Syntax.erased Syntax.mut OfPanelRecord.named)) (List._∷_ (12, Rows.any-gone (Syntax.tyRef Syntax.erased Syntax.mut (Syntax.tyInt Syntax.w8))) (List._∷_ (13, Rows.any-gone (Syntax.tyStruct (List._∷_ 38 (List._∷_ 91 (List._∷_ 93 List.[]))) (Syntax.tcons (Syntax.tyRef Syntax.erased Syntax.mut (Syntax.tyInt Syntax.w8)) (Syntax.tcons (Syntax.tyInt Syntax.w64) Syntax.tnil)))) (List._∷_ (14, Rows.any-gone (Syntax.tyRef Syntax.erased Syntax.mut (Syntax.tyInt Syntax.w8))) (List._∷_ (15, Mut.msleft (Referent.rtF (Referent.fInt Syntax.w8)) (Syntax.tyRef Syntax.erased Syntax.mut (Syntax.tyInt Syntax.w8))) List.[])))))))))))))))
 
         abbrev g18 : List.List Row.Entry
-        g18 = List._∷_ (0, Rows.any-gone Syntax.tyUnit) (List._∷_ (1, Mut.mslice (OfOutput.row) (Syntax.tyRef (Syntax.named 0) Syntax.mut OfOutput.named) 0) (List._∷_ (2, Mut.mslice (OfStation.row) (Syntax.tyRef (Syntax.named 1) Syntax.mut OfStation.named) 1) (List._∷_ (3, Rows.mref (Referent.rtF (Referent.fInt Syntax.w64)) (Syntax.tyRef (Syntax.named 2) Syntax.mut (Syntax.tyInt Syntax.w64)) 2) (List._∷_ (4, Reshare.mslice-owedS (Referent.rtF (Referent.fInt Syntax.w8)) (Syntax.tyRef (Syntax.named 3) Syntax.mut (Syntax.tyInt Syntax.w8)) 3 10 (Row.lease (κs .1 .1 .1 .0) (qs .1 .1 .1 .0))) (List._∷_ (5, Mut.mslice (Referent.rtF (Referent.fInt Syntax.w8)) (Syntax.tyRef (Syntax.named 4) Syntax.mut (Syntax.tyInt Syntax.w8)) 4) (List._∷_ (6, Rows.whole (Declared.row Turn.the-type)) (List._∷_ (7, Rows.any-gone (Syntax.tyRef Syntax.erased Syntax.mut OfOutput.named)) (List._∷_ (8, Rows.any-gone (Syntax.tyStruct (List._∷_ 38 (List._∷_ 91 (List._∷_ 93 List.[]))) (Syntax.tcons (Syntax.tyRef Syntax.erased Syntax.mut OfOutput.named) (Syntax.tcons (Syntax.tyInt Syntax.w64) Syntax.tnil)))) (List._∷_ (9, Rows.any-gone (Syntax.tyRef Syntax.erased Syntax.mut OfStation.named)) (List._∷_ (10, Rows.any-gone (Syntax.tyStruct (List._∷_ 38 (List._∷_ 91 (List._∷_ 93 List.[]))) (Syntax.tcons (Syntax.tyRef Syntax.erased Syntax.mut OfStation.named) (Syntax.tcons (Syntax.tyInt Syntax.w64) Syntax.tnil)))) (List._∷_ (11, Rows.any-gone (Syntax.tyRef Syntax.erased Syntax.mut (Syntax.tyInt Syntax.w64))) (List._∷_ (12, Rows.any-gone (Syntax.tyRef Syntax.erased Syntax.mut (Syntax.tyInt Syntax.w8))) (List._∷_ (13, Rows.any-gone (Syntax.tyStruct (List._∷_ 38 (List._∷_ 91 (List._∷_ 93 List.[]))) (Syntax.tcons (Syntax.tyRef Syntax.erased Syntax.mut (Syntax.tyInt Syntax.w8)) (Syntax.tcons (Syntax.tyInt Syntax.w64) Syntax.tnil)))) (List._∷_ (14, Rows.any-gone (Syntax.tyRef Syntax.erased Syntax.mut (Syntax.tyInt Syntax.w8))) (List._∷_ (15, Rows.any-gone (Syntax.tyStruct (List._∷_ 38 (List._∷_ 91 (List._∷_ 93 List.[]))) (Syntax.tcons (Syntax.tyRef Syntax.erased Syntax.mut (Syntax.tyInt Syntax.w8)) (Syntax.tcons (Syntax.tyInt Syntax.w64) Syntax.tnil)))) List.[])))))))))))))))
+        g18 = List._∷_ (0, Rows.any-gone Syntax.tyUnit) (List._∷_ (1, Mut.mslice (OfOutput.row) (Syntax.tyRef (Syntax.named 0) Syntax.mut OfOutput.named) 0) (List._∷_ (2, Mut.mslice (OfStation.row) (Syntax.tyRef (Syntax.named 1) Syntax.mut OfStation.named) 1) (List._∷_ (3, Rows.mref (OfPanelRecord.row) (Syntax.tyRef (Syntax.named 2) Syntax.mut OfPanelRecord.named) 2) (List._∷_ (4, Reshare.mslice-owedS (Referent.rtF (Referent.fInt Syntax.w8)) (Syntax.tyRef (Syntax.named 3) Syntax.mut (Syntax.tyInt Syntax.w8)) 3 10 (Row.lease (κs .1 .1 .1 .0) (qs .1 .1 .1 .0))) (List._∷_ (5, Mut.mslice (Referent.rtF (Referent.fInt Syntax.w8)) (Syntax.tyRef (Syntax.named 4) Syntax.mut (Syntax.tyInt Syntax.w8)) 4) (List._∷_ (6, Rows.whole (Declared.row Turn.the-type)) (List._∷_ (7, Rows.any-gone (Syntax.tyRef Syntax.erased Syntax.mut OfOutput.named)) (List._∷_ (8, Rows.any-gone (Syntax.tyStruct (List._∷_ 38 (List._∷_ 91 (List._∷_ 93 List.[]))) (Syntax.tcons (Syntax.tyRef Syntax.erased Syntax.mut OfOutput.named) (Syntax.tcons (Syntax.tyInt Syntax.w64) Syntax.tnil)))) (List._∷_ (9, Rows.any-gone (Syntax.tyRef Syntax.erased Syntax.mut OfStation.named)) (List._∷_ (10, Rows.any-gone (Syntax.tyStruct (List._∷_ 38 (List._∷_ 91 (List._∷_ 93 List.[]))) (Syntax.tcons (Syntax.tyRef Syntax.erased Syntax.mut OfStation.named) (Syntax.tcons (Syntax.tyInt Syntax.w64) Syntax.tnil)))) (List._∷_ (11, Rows.any-gone (Syntax.tyRef Syntax.erased Syntax.mut OfPanelRecord.named)) (List._∷_ (12, Rows.any-gone (Syntax.tyRef Syntax.erased Syntax.mut (Syntax.tyInt Syntax.w8))) (List._∷_ (13, Rows.any-gone (Syntax.tyStruct (List._∷_ 38 (List._∷_ 91 (List._∷_ 93 List.[]))) (Syntax.tcons (Syntax.tyRef Syntax.erased Syntax.mut (Syntax.tyInt Syntax.w8)) (Syntax.tcons (Syntax.tyInt Syntax.w64) Syntax.tnil)))) (List._∷_ (14, Rows.any-gone (Syntax.tyRef Syntax.erased Syntax.mut (Syntax.tyInt Syntax.w8))) (List._∷_ (15, Rows.any-gone (Syntax.tyStruct (List._∷_ 38 (List._∷_ 91 (List._∷_ 93 List.[]))) (Syntax.tcons (Syntax.tyRef Syntax.erased Syntax.mut (Syntax.tyInt Syntax.w8)) (Syntax.tcons (Syntax.tyInt Syntax.w64) Syntax.tnil)))) List.[])))))))))))))))
 
         abbrev g23 : List.List Row.Entry
-        g23 = List._∷_ (0, Rows.any-gone Syntax.tyUnit) (List._∷_ (1, Mut.mslice (OfOutput.row) (Syntax.tyRef (Syntax.named 0) Syntax.mut OfOutput.named) 0) (List._∷_ (2, Mut.mslice (OfStation.row) (Syntax.tyRef (Syntax.named 1) Syntax.mut OfStation.named) 1) (List._∷_ (3, Rows.mref (Referent.rtF (Referent.fInt Syntax.w64)) (Syntax.tyRef (Syntax.named 2) Syntax.mut (Syntax.tyInt Syntax.w64)) 2) (List._∷_ (4, Reshare.mslice-owedS (Referent.rtF (Referent.fInt Syntax.w8)) (Syntax.tyRef (Syntax.named 3) Syntax.mut (Syntax.tyInt Syntax.w8)) 3 10 (Row.lease (κs .1 .1 .1 .0) (qs .1 .1 .1 .0))) (List._∷_ (5, Mut.mslice (Referent.rtF (Referent.fInt Syntax.w8)) (Syntax.tyRef (Syntax.named 4) Syntax.mut (Syntax.tyInt Syntax.w8)) 4) (List._∷_ (6, Rows.any-gone (Laws.mir)) (List._∷_ (7, Rows.any-gone (Syntax.tyRef Syntax.erased Syntax.mut OfOutput.named)) (List._∷_ (8, Rows.any-gone (Syntax.tyStruct (List._∷_ 38 (List._∷_ 91 (List._∷_ 93 List.[]))) (Syntax.tcons (Syntax.tyRef Syntax.erased Syntax.mut OfOutput.named) (Syntax.tcons (Syntax.tyInt Syntax.w64) Syntax.tnil)))) (List._∷_ (9, Rows.any-gone (Syntax.tyRef Syntax.erased Syntax.mut OfStation.named)) (List._∷_ (10, Rows.any-gone (Syntax.tyStruct (List._∷_ 38 (List._∷_ 91 (List._∷_ 93 List.[]))) (Syntax.tcons (Syntax.tyRef Syntax.erased Syntax.mut OfStation.named) (Syntax.tcons (Syntax.tyInt Syntax.w64) Syntax.tnil)))) (List._∷_ (11, Rows.any-gone (Syntax.tyRef Syntax.erased Syntax.mut (Syntax.tyInt Syntax.w64))) (List._∷_ (12, Rows.any-gone (Syntax.tyRef Syntax.erased Syntax.mut (Syntax.tyInt Syntax.w8))) (List._∷_ (13, Rows.any-gone (Syntax.tyStruct (List._∷_ 38 (List._∷_ 91 (List._∷_ 93 List.[]))) (Syntax.tcons (Syntax.tyRef Syntax.erased Syntax.mut (Syntax.tyInt Syntax.w8)) (Syntax.tcons (Syntax.tyInt Syntax.w64) Syntax.tnil)))) (List._∷_ (14, Rows.any-gone (Syntax.tyRef Syntax.erased Syntax.mut (Syntax.tyInt Syntax.w8))) (List._∷_ (15, Rows.any-gone (Syntax.tyStruct (List._∷_ 38 (List._∷_ 91 (List._∷_ 93 List.[]))) (Syntax.tcons (Syntax.tyRef Syntax.erased Syntax.mut (Syntax.tyInt Syntax.w8)) (Syntax.tcons (Syntax.tyInt Syntax.w64) Syntax.tnil)))) List.[])))))))))))))))
+        g23 = List._∷_ (0, Rows.any-gone Syntax.tyUnit) (List._∷_ (1, Mut.mslice (OfOutput.row) (Syntax.tyRef (Syntax.named 0) Syntax.mut OfOutput.named) 0) (List._∷_ (2, Mut.mslice (OfStation.row) (Syntax.tyRef (Syntax.named 1) Syntax.mut OfStation.named) 1) (List._∷_ (3, Rows.mref (OfPanelRecord.row) (Syntax.tyRef (Syntax.named 2) Syntax.mut OfPanelRecord.named) 2) (List._∷_ (4, Reshare.mslice-owedS (Referent.rtF (Referent.fInt Syntax.w8)) (Syntax.tyRef (Syntax.named 3) Syntax.mut (Syntax.tyInt Syntax.w8)) 3 10 (Row.lease (κs .1 .1 .1 .0) (qs .1 .1 .1 .0))) (List._∷_ (5, Mut.mslice (Referent.rtF (Referent.fInt Syntax.w8)) (Syntax.tyRef (Syntax.named 4) Syntax.mut (Syntax.tyInt Syntax.w8)) 4) (List._∷_ (6, Rows.any-gone (Laws.mir)) (List._∷_ (7, Rows.any-gone (Syntax.tyRef Syntax.erased Syntax.mut OfOutput.named)) (List._∷_ (8, Rows.any-gone (Syntax.tyStruct (List._∷_ 38 (List._∷_ 91 (List._∷_ 93 List.[]))) (Syntax.tcons (Syntax.tyRef Syntax.erased Syntax.mut OfOutput.named) (Syntax.tcons (Syntax.tyInt Syntax.w64) Syntax.tnil)))) (List._∷_ (9, Rows.any-gone (Syntax.tyRef Syntax.erased Syntax.mut OfStation.named)) (List._∷_ (10, Rows.any-gone (Syntax.tyStruct (List._∷_ 38 (List._∷_ 91 (List._∷_ 93 List.[]))) (Syntax.tcons (Syntax.tyRef Syntax.erased Syntax.mut OfStation.named) (Syntax.tcons (Syntax.tyInt Syntax.w64) Syntax.tnil)))) (List._∷_ (11, Rows.any-gone (Syntax.tyRef Syntax.erased Syntax.mut OfPanelRecord.named)) (List._∷_ (12, Rows.any-gone (Syntax.tyRef Syntax.erased Syntax.mut (Syntax.tyInt Syntax.w8))) (List._∷_ (13, Rows.any-gone (Syntax.tyStruct (List._∷_ 38 (List._∷_ 91 (List._∷_ 93 List.[]))) (Syntax.tcons (Syntax.tyRef Syntax.erased Syntax.mut (Syntax.tyInt Syntax.w8)) (Syntax.tcons (Syntax.tyInt Syntax.w64) Syntax.tnil)))) (List._∷_ (14, Rows.any-gone (Syntax.tyRef Syntax.erased Syntax.mut (Syntax.tyInt Syntax.w8))) (List._∷_ (15, Rows.any-gone (Syntax.tyStruct (List._∷_ 38 (List._∷_ 91 (List._∷_ 93 List.[]))) (Syntax.tcons (Syntax.tyRef Syntax.erased Syntax.mut (Syntax.tyInt Syntax.w8)) (Syntax.tcons (Syntax.tyInt Syntax.w64) Syntax.tnil)))) List.[])))))))))))))))
 
         abbrev G0 : Row.Cx
         G0 = record { locals = List._++_ t0 t1; slots = List._∷_ (Row.lease (κs .0) (qs .0)) (List._∷_ (Row.lease (κs .1 .0) (qs .1 .0)) (List._∷_ (Row.lease (κs .1 .1 .0) (qs .1 .1 .0)) (List._∷_ (Row.lease (κs .1 .1 .1 .0) (qs .1 .1 .1 .0)) (List._∷_ (Row.lease (κs .1 .1 .1 .1 .0) (qs .1 .1 .1 .1 .0)) (List._∷_ Row.off (List._∷_ Row.off (List._∷_ Row.off (List._∷_ Row.off (List._∷_ Row.off (List._∷_ Row.off List.[])))))))))) }
@@ -828,7 +829,7 @@ module _ (claims· : Claims) where
           d20 = Typed.g-pre 𝓤 H A W 𝓣 E G26 G27 b18 Δ0 (λ Ψ. Ψ) at19 (Lifetime.g-forget 𝓤 H A W E G26 7 Row.dead Path'.refl) d19
 
           d21 : Typed.Typed 𝓤 H A 𝓣 E G25 b18 Δ0 at21
-          d21 = Typed.g-pre 𝓤 H A W 𝓣 E G25 G26 b18 Δ0 (Typed.ask s24) at20 (Reborrow.g-back-mref 𝓤 H A W E G25 11 3 2 7 (Referent.rtF (Referent.fInt Syntax.w64)) (Syntax.tyRef (Syntax.named 2) Syntax.mut (Syntax.tyInt Syntax.w64)) (Syntax.tyRef Syntax.erased Syntax.mut (Syntax.tyInt Syntax.w64)) (Row.lease (κs .1 .1 .0) (qs .1 .1 .0)) (λ x. x) (λ x. x) (Reads'.as-is 𝓤 H A (Rows.mleft (Referent.rtF (Referent.fInt Syntax.w64)) (Syntax.tyRef Syntax.erased Syntax.mut (Syntax.tyInt Syntax.w64)))) (Reads'.as-is 𝓤 H A (Rows.mref-owed (Referent.rtF (Referent.fInt Syntax.w64)) (Syntax.tyRef (Syntax.named 2) Syntax.mut (Syntax.tyInt Syntax.w64)) 2 7 (Row.lease (κs .1 .1 .0) (qs .1 .1 .0)))) Path'.refl Path'.refl) d20
+          d21 = Typed.g-pre 𝓤 H A W 𝓣 E G25 G26 b18 Δ0 (Typed.ask s24) at20 (Reborrow.g-back-mref 𝓤 H A W E G25 11 3 2 7 (OfPanelRecord.row) (Syntax.tyRef (Syntax.named 2) Syntax.mut OfPanelRecord.named) (Syntax.tyRef Syntax.erased Syntax.mut OfPanelRecord.named) (Row.lease (κs .1 .1 .0) (qs .1 .1 .0)) (λ x. x) (λ x. x) (Reads'.as-is 𝓤 H A (Rows.mleft (OfPanelRecord.row) (Syntax.tyRef Syntax.erased Syntax.mut OfPanelRecord.named))) (Reads'.as-is 𝓤 H A (Rows.mref-owed (OfPanelRecord.row) (Syntax.tyRef (Syntax.named 2) Syntax.mut OfPanelRecord.named) 2 7 (Row.lease (κs .1 .1 .0) (qs .1 .1 .0)))) Path'.refl Path'.refl) d20
 
           d22 : Typed.Typed 𝓤 H A 𝓣 E G24 b18 Δ0 at22
           d22 = Typed.g-pre 𝓤 H A W 𝓣 E G24 G25 b18 Δ0 (λ Ψ. Ψ) at21 (Lifetime.g-end 𝓤 H A W E G24 7 Path'.refl) d21
@@ -852,7 +853,7 @@ module _ (claims· : Claims) where
           d28 = Typed.g-pre 𝓤 H A W 𝓣 E G18 G19 b18 Δ0 (λ Ψ. Ψ) at27 (Lifetime.g-end 𝓤 H A W E G18 5 Path'.refl) d27
 
           d29 : Typed.Typed 𝓤 H A 𝓣 E G17 b19 Δ0 at29
-          d29 = Typed.s-seq 𝓤 H A W 𝓣 E G17 G18 b9 b18 Δ0 (Typed.both s16) at28 (Plain.t-call-plain 𝓤 H A W 𝓣 5 ps·0 r·0 (claims· .0) (claims· .1) "lent_session::take_all" (known .0) E (λ pos β. β) G17 (record { pos = 8; ty = Syntax.tyRef Syntax.erased Syntax.mut OfOutput.named; ref = λ x. x }, (record { pos = 10; ty = Syntax.tyRef Syntax.erased Syntax.mut OfStation.named; ref = λ x. x }, (record { pos = 11; ty = Syntax.tyRef Syntax.erased Syntax.mut (Syntax.tyInt Syntax.w64); ref = λ x. x }, (record { pos = 13; ty = Syntax.tyRef Syntax.erased Syntax.mut (Syntax.tyInt Syntax.w8); ref = λ x. x }, (record { pos = 15; ty = Syntax.tyRef Syntax.erased Syntax.mut (Syntax.tyInt Syntax.w8); ref = λ x. x }, tt))))) 6 (List._∷_ 5 (List._∷_ 6 (List._∷_ 7 (List._∷_ 8 (List._∷_ 9 List.[]))))) (Call.sub-id 𝓤 H A W (G17 .slots)) (Reads'.as-is 𝓤 H A (Mut.mslice (OfOutput.row) (Syntax.tyRef Syntax.erased Syntax.mut OfOutput.named) 5), Mut.reads-mslice 𝓤 H A W (OfOutput.row) (Syntax.tyRef Syntax.erased Syntax.mut OfOutput.named) 5, Path'.refl, (Reads'.as-is 𝓤 H A (Mut.mslice (OfStation.row) (Syntax.tyRef Syntax.erased Syntax.mut OfStation.named) 6), Mut.reads-mslice 𝓤 H A W (OfStation.row) (Syntax.tyRef Syntax.erased Syntax.mut OfStation.named) 6, Path'.refl, (Reads'.as-is 𝓤 H A (Rows.mref (Referent.rtF (Referent.fInt Syntax.w64)) (Syntax.tyRef Syntax.erased Syntax.mut (Syntax.tyInt Syntax.w64)) 7), Reads'.reads-mref 𝓤 H A W (Referent.rtF (Referent.fInt Syntax.w64)) (Syntax.tyRef Syntax.erased Syntax.mut (Syntax.tyInt Syntax.w64)) 7, Path'.refl, (Reads'.as-is 𝓤 H A (Mut.mslice (Referent.rtF (Referent.fInt Syntax.w8)) (Syntax.tyRef Syntax.erased Syntax.mut (Syntax.tyInt Syntax.w8)) 8), Mut.reads-mslice 𝓤 H A W (Referent.rtF (Referent.fInt Syntax.w8)) (Syntax.tyRef Syntax.erased Syntax.mut (Syntax.tyInt Syntax.w8)) 8, Path'.refl, (Reads'.as-is 𝓤 H A (Mut.mslice (Referent.rtF (Referent.fInt Syntax.w8)) (Syntax.tyRef Syntax.erased Syntax.mut (Syntax.tyInt Syntax.w8)) 9), Mut.reads-mslice 𝓤 H A W (Referent.rtF (Referent.fInt Syntax.w8)) (Syntax.tyRef Syntax.erased Syntax.mut (Syntax.tyInt Syntax.w8)) 9, Path'.refl, tt))))) (Reads'.room-gone 𝓤 H A (Laws.mir)) (tt, (tt, (tt, (tt, (tt, tt))))) Path'.refl) d28
+          d29 = Typed.s-seq 𝓤 H A W 𝓣 E G17 G18 b9 b18 Δ0 (Typed.both s16) at28 (Plain.t-call-plain 𝓤 H A W 𝓣 5 ps·0 r·0 (claims· .0) (claims· .1) "lent_session::take_all" (known .0) E (λ pos β. β) G17 (record { pos = 8; ty = Syntax.tyRef Syntax.erased Syntax.mut OfOutput.named; ref = λ x. x }, (record { pos = 10; ty = Syntax.tyRef Syntax.erased Syntax.mut OfStation.named; ref = λ x. x }, (record { pos = 11; ty = Syntax.tyRef Syntax.erased Syntax.mut OfPanelRecord.named; ref = λ x. x }, (record { pos = 13; ty = Syntax.tyRef Syntax.erased Syntax.mut (Syntax.tyInt Syntax.w8); ref = λ x. x }, (record { pos = 15; ty = Syntax.tyRef Syntax.erased Syntax.mut (Syntax.tyInt Syntax.w8); ref = λ x. x }, tt))))) 6 (List._∷_ 5 (List._∷_ 6 (List._∷_ 7 (List._∷_ 8 (List._∷_ 9 List.[]))))) (Call.sub-id 𝓤 H A W (G17 .slots)) (Reads'.as-is 𝓤 H A (Mut.mslice (OfOutput.row) (Syntax.tyRef Syntax.erased Syntax.mut OfOutput.named) 5), Mut.reads-mslice 𝓤 H A W (OfOutput.row) (Syntax.tyRef Syntax.erased Syntax.mut OfOutput.named) 5, Path'.refl, (Reads'.as-is 𝓤 H A (Mut.mslice (OfStation.row) (Syntax.tyRef Syntax.erased Syntax.mut OfStation.named) 6), Mut.reads-mslice 𝓤 H A W (OfStation.row) (Syntax.tyRef Syntax.erased Syntax.mut OfStation.named) 6, Path'.refl, (Reads'.as-is 𝓤 H A (Rows.mref (OfPanelRecord.row) (Syntax.tyRef Syntax.erased Syntax.mut OfPanelRecord.named) 7), Reads'.reads-mref 𝓤 H A W (OfPanelRecord.row) (Syntax.tyRef Syntax.erased Syntax.mut OfPanelRecord.named) 7, Path'.refl, (Reads'.as-is 𝓤 H A (Mut.mslice (Referent.rtF (Referent.fInt Syntax.w8)) (Syntax.tyRef Syntax.erased Syntax.mut (Syntax.tyInt Syntax.w8)) 8), Mut.reads-mslice 𝓤 H A W (Referent.rtF (Referent.fInt Syntax.w8)) (Syntax.tyRef Syntax.erased Syntax.mut (Syntax.tyInt Syntax.w8)) 8, Path'.refl, (Reads'.as-is 𝓤 H A (Mut.mslice (Referent.rtF (Referent.fInt Syntax.w8)) (Syntax.tyRef Syntax.erased Syntax.mut (Syntax.tyInt Syntax.w8)) 9), Mut.reads-mslice 𝓤 H A W (Referent.rtF (Referent.fInt Syntax.w8)) (Syntax.tyRef Syntax.erased Syntax.mut (Syntax.tyInt Syntax.w8)) 9, Path'.refl, tt))))) (Reads'.room-gone 𝓤 H A (Laws.mir)) (tt, (tt, (tt, (tt, (tt, tt))))) Path'.refl) d28
 
           d30 : Typed.Typed 𝓤 H A 𝓣 E G16 b20 Δ0 at30
           d30 = Typed.s-seq 𝓤 H A W 𝓣 E G16 G17 b8 b19 Δ0 (Typed.ask s15) at29 (Relend.t-sl-aggregate 𝓤 H A W E (Referent.rtF (Referent.fInt Syntax.w8)) 𝓣 (Relend.asMut (Referent.rtF (Referent.fInt Syntax.w8))) G16 14 15 9 (Syntax.tyRef Syntax.erased Syntax.mut (Syntax.tyInt Syntax.w8)) (Syntax.tyRef Syntax.erased Syntax.mut (Syntax.tyInt Syntax.w8)) (λ x. x) (Scalar.oFld 5 (List._∷_ (Syntax.field 1) List.[]) (Syntax.tyInt Syntax.w64) 8 λ v. Shared.lenV (v .0)) (Reads'.as-is 𝓤 H A (Relend.msptr (Referent.rtF (Referent.fInt Syntax.w8)) (Syntax.tyRef Syntax.erased Syntax.mut (Syntax.tyInt Syntax.w8)) 9)) (Reads'.room-gone 𝓤 H A (Syntax.tyStruct (List._∷_ 38 (List._∷_ 91 (List._∷_ 93 List.[]))) (Syntax.tcons (Syntax.tyRef Syntax.erased Syntax.mut (Syntax.tyInt Syntax.w8)) (Syntax.tcons (Syntax.tyInt Syntax.w64) Syntax.tnil)))) (Relend.reads-owed-len 𝓤 H A W (Referent.rtF (Referent.fInt Syntax.w8)) (Syntax.tyRef (Syntax.named 4) Syntax.mut (Syntax.tyInt Syntax.w8)) 4 9 (Row.lease (κs .1 .1 .1 .1 .0) (qs .1 .1 .1 .1 .0)) 8 Path'.refl, Path'.refl) Path'.refl Path'.refl λ b o k. tt) d29
@@ -873,7 +874,7 @@ module _ (claims· : Claims) where
           d35 = Typed.g-pre 𝓤 H A W 𝓣 E G11 G12 b23 Δ0 (λ Ψ. Ψ) at34 (Lifetime.g-begin 𝓤 H A W E G11 8 (tt, ((tt, tt), ((tt, tt), ((tt, tt), (tt, (tt, (tt, (tt, (tt, (tt, (tt, (tt, (tt, (tt, (tt, (tt, (tt, (tt, (tt, tt)))))))))))))))))))) d34
 
           d36 : Typed.Typed 𝓤 H A 𝓣 E G10 b24 Δ0 at36
-          d36 = Typed.s-seq 𝓤 H A W 𝓣 E G10 G11 b4 b23 Δ0 (Typed.give s9) at35 (Reborrow.t-mref-relend 𝓤 H A W E 𝓣 G10 3 11 2 7 (Referent.rtF (Referent.fInt Syntax.w64)) (Syntax.tyInt Syntax.w64) (Syntax.tyRef (Syntax.named 2) Syntax.mut (Syntax.tyInt Syntax.w64)) (Syntax.tyRef Syntax.erased Syntax.mut (Syntax.tyInt Syntax.w64)) (Row.lease (κs .1 .1 .0) (qs .1 .1 .0)) (λ x. x) (Reads'.as-is 𝓤 H A (Rows.mref (Referent.rtF (Referent.fInt Syntax.w64)) (Syntax.tyRef (Syntax.named 2) Syntax.mut (Syntax.tyInt Syntax.w64)) 2)) (Reads'.room-gone 𝓤 H A (Syntax.tyRef Syntax.erased Syntax.mut (Syntax.tyInt Syntax.w64))) Path'.refl tt Path'.refl Path'.refl λ b o. tt) d35
+          d36 = Typed.s-seq 𝓤 H A W 𝓣 E G10 G11 b4 b23 Δ0 (Typed.give s9) at35 (Reborrow.t-mref-relend 𝓤 H A W E 𝓣 G10 3 11 2 7 (OfPanelRecord.row) OfPanelRecord.spelt (Syntax.tyRef (Syntax.named 2) Syntax.mut OfPanelRecord.named) (Syntax.tyRef Syntax.erased Syntax.mut OfPanelRecord.named) (Row.lease (κs .1 .1 .0) (qs .1 .1 .0)) (λ x. x) (Reads'.as-is 𝓤 H A (Rows.mref (OfPanelRecord.row) (Syntax.tyRef (Syntax.named 2) Syntax.mut OfPanelRecord.named) 2)) (Reads'.room-gone 𝓤 H A (Syntax.tyRef Syntax.erased Syntax.mut OfPanelRecord.named)) Path'.refl tt Path'.refl Path'.refl λ b o. tt) d35
 
           d37 : Typed.Typed 𝓤 H A 𝓣 E G9 b24 Δ0 at37
           d37 = Typed.g-pre 𝓤 H A W 𝓣 E G9 G10 b24 Δ0 (λ Ψ. Ψ) at36 (Lifetime.g-begin 𝓤 H A W E G9 7 (tt, ((tt, tt), ((tt, tt), (tt, (tt, (tt, (tt, (tt, (tt, (tt, (tt, (tt, (tt, (tt, (tt, (tt, (tt, (tt, (tt, tt)))))))))))))))))))) d36
@@ -923,7 +924,9 @@ module _ (claims· : Claims) where
           pub stations : Kinds.Den {n = 5}
               κs
               (MutSlice.pMutS (OfStation.row) 1 tt)
-          pub time : Kinds.Den {n = 5} κs (Kinds.pMutF (Referent.fInt Syntax.w64) 2 tt)
+          pub kept : Kinds.Den {n = 5}
+              κs
+              (Kinds.pMut (OfPanelRecord.row) 2 tt)
           pub page : Kinds.Den {n = 5}
               κs
               (MutSlice.pMutS (Referent.rtF (Referent.fInt Syntax.w8)) 3 tt)
@@ -932,7 +935,7 @@ module _ (claims· : Claims) where
               (MutSlice.pMutS (Referent.rtF (Referent.fInt Syntax.w8)) 4 tt)
 
         abbrev pub dens : (a : Args) → Kinds.Dens κs ps
-        dens = λ a. (a .outputs, (a .stations, (a .time, (a .page, (a .chunk, tt)))))
+        dens = λ a. (a .outputs, (a .stations, (a .kept, (a .page, (a .chunk, tt)))))
 
       abbrev pub m0 : (κs : Lifetimes.Lfts 5) → (args : Args κs) → Typed.Mo T0
       m0 = λ κs args. (tt, Enter.partsP κs 1 ps xs (dens κs args))
@@ -1077,7 +1080,7 @@ module _ (claims· : Claims) where
 
       module _ (before· : After-take-all-arg5) where
         abbrev pub After-take-all·own : Type 0
-        After-take-all·own = Called.Called ps·0 r·0 (claims· .1) T17 (record { pos = 8; ty = Syntax.tyRef Syntax.erased Syntax.mut OfOutput.named; ref = λ x. x }, (record { pos = 10; ty = Syntax.tyRef Syntax.erased Syntax.mut OfStation.named; ref = λ x. x }, (record { pos = 11; ty = Syntax.tyRef Syntax.erased Syntax.mut (Syntax.tyInt Syntax.w64); ref = λ x. x }, (record { pos = 13; ty = Syntax.tyRef Syntax.erased Syntax.mut (Syntax.tyInt Syntax.w8); ref = λ x. x }, (record { pos = 15; ty = Syntax.tyRef Syntax.erased Syntax.mut (Syntax.tyInt Syntax.w8); ref = λ x. x }, tt))))) (m11 (before· .before) (before· .take-all-arg5 .given))
+        After-take-all·own = Called.Called ps·0 r·0 (claims· .1) T17 (record { pos = 8; ty = Syntax.tyRef Syntax.erased Syntax.mut OfOutput.named; ref = λ x. x }, (record { pos = 10; ty = Syntax.tyRef Syntax.erased Syntax.mut OfStation.named; ref = λ x. x }, (record { pos = 11; ty = Syntax.tyRef Syntax.erased Syntax.mut OfPanelRecord.named; ref = λ x. x }, (record { pos = 13; ty = Syntax.tyRef Syntax.erased Syntax.mut (Syntax.tyInt Syntax.w8); ref = λ x. x }, (record { pos = 15; ty = Syntax.tyRef Syntax.erased Syntax.mut (Syntax.tyInt Syntax.w8); ref = λ x. x }, tt))))) (m11 (before· .before) (before· .take-all-arg5 .given))
 
       pub record After-take-all : Type 0 where
         pub before : After-take-all-arg5
@@ -1086,7 +1089,7 @@ module _ (claims· : Claims) where
       abbrev pub After-take-all·gave :
           (c : After-take-all) →
           s16 .gives (m11 (c .before .before) (c .before .take-all-arg5 .given))
-      After-take-all·gave = λ c. Called.given ps·0 r·0 (claims· .1) T17 (record { pos = 8; ty = Syntax.tyRef Syntax.erased Syntax.mut OfOutput.named; ref = λ x. x }, (record { pos = 10; ty = Syntax.tyRef Syntax.erased Syntax.mut OfStation.named; ref = λ x. x }, (record { pos = 11; ty = Syntax.tyRef Syntax.erased Syntax.mut (Syntax.tyInt Syntax.w64); ref = λ x. x }, (record { pos = 13; ty = Syntax.tyRef Syntax.erased Syntax.mut (Syntax.tyInt Syntax.w8); ref = λ x. x }, (record { pos = 15; ty = Syntax.tyRef Syntax.erased Syntax.mut (Syntax.tyInt Syntax.w8); ref = λ x. x }, tt))))) (m11 (c .before .before) (c .before .take-all-arg5 .given)) (c .take-all)
+      After-take-all·gave = λ c. Called.given ps·0 r·0 (claims· .1) T17 (record { pos = 8; ty = Syntax.tyRef Syntax.erased Syntax.mut OfOutput.named; ref = λ x. x }, (record { pos = 10; ty = Syntax.tyRef Syntax.erased Syntax.mut OfStation.named; ref = λ x. x }, (record { pos = 11; ty = Syntax.tyRef Syntax.erased Syntax.mut OfPanelRecord.named; ref = λ x. x }, (record { pos = 13; ty = Syntax.tyRef Syntax.erased Syntax.mut (Syntax.tyInt Syntax.w8); ref = λ x. x }, (record { pos = 15; ty = Syntax.tyRef Syntax.erased Syntax.mut (Syntax.tyInt Syntax.w8); ref = λ x. x }, tt))))) (m11 (c .before .before) (c .before .take-all-arg5 .given)) (c .take-all)
 
       abbrev pub m13 :
           (before : After-take-all) →
@@ -1287,7 +1290,7 @@ module _ (claims· : Claims) where
         lay1 = λ c. (Path'.refl, λ g. (Path'.refl, λ g'. (Path'.refl, (Path'.refl, λ g''. λ g'3. (Path'.refl, λ g'4. λ g'5. λ g'6. (Path'.refl, (flush-requires record { before = record { before = record { before = record { before = record { before = record { before = record { before = record { before = c .before; take-all = c .take-all }; outputs = record { given = g } }; stations = record { given = g' } }; page = record { given = g'' } }; slice-known3 = record { given = g'3 } }; chunk = record { given = g'4 } }; slice-known4 = record { given = g'5 } }; flush-arg = record { given = g'6 } }, λ g'7. lay2 record { before = record { before = record { before = record { before = record { before = record { before = record { before = record { before = record { before = c .before; take-all = c .take-all }; outputs = record { given = g } }; stations = record { given = g' } }; page = record { given = g'' } }; slice-known3 = record { given = g'3 } }; chunk = record { given = g'4 } }; slice-known4 = record { given = g'5 } }; flush-arg = record { given = g'6 } }; flush = Called.called ps·1 r·1 (claims· .3) T38 (record { pos = 18; ty = Syntax.tyRef Syntax.erased Syntax.imm (Syntax.tyInt Syntax.w8); ref = λ x. x }, (Num.vFld 6 (List._∷_ (Syntax.field 3) List.[]) 440 λ x. Turn.struct .as-values x .1 .1 .1 .0, tt)) (m21 record { before = record { before = record { before = record { before = record { before = record { before = record { before = c .before; take-all = c .take-all }; outputs = record { given = g } }; stations = record { given = g' } }; page = record { given = g'' } }; slice-known3 = record { given = g'3 } }; chunk = record { given = g'4 } }; slice-known4 = record { given = g'5 } } g'6) g'7 })))))))
 
         pub laid : (c : Start) → at45 (W0 (c .κs) (c .args)) (m0 (c .κs) (c .args))
-        laid = λ c. λ g. λ g'. λ g''. (Path'.refl, λ g'3. (Path'.refl, λ g'4. λ g'5. (Path'.refl, λ g'6. (Path'.refl, (take-all-requires record { before = record { before = record { before = record { before = record { before = record { before = record { before = c; slice-known = record { given = g } }; slice-known2 = record { given = g' } }; take-all-arg = record { given = g'' } }; take-all-arg2 = record { given = g'3 } }; take-all-arg3 = record { given = g'4 } }; take-all-arg4 = record { given = g'5 } }; take-all-arg5 = record { given = g'6 } }, λ g'7. lay1 record { before = record { before = record { before = record { before = record { before = record { before = record { before = record { before = c; slice-known = record { given = g } }; slice-known2 = record { given = g' } }; take-all-arg = record { given = g'' } }; take-all-arg2 = record { given = g'3 } }; take-all-arg3 = record { given = g'4 } }; take-all-arg4 = record { given = g'5 } }; take-all-arg5 = record { given = g'6 } }; take-all = Called.called ps·0 r·0 (claims· .1) T17 (record { pos = 8; ty = Syntax.tyRef Syntax.erased Syntax.mut OfOutput.named; ref = λ x. x }, (record { pos = 10; ty = Syntax.tyRef Syntax.erased Syntax.mut OfStation.named; ref = λ x. x }, (record { pos = 11; ty = Syntax.tyRef Syntax.erased Syntax.mut (Syntax.tyInt Syntax.w64); ref = λ x. x }, (record { pos = 13; ty = Syntax.tyRef Syntax.erased Syntax.mut (Syntax.tyInt Syntax.w8); ref = λ x. x }, (record { pos = 15; ty = Syntax.tyRef Syntax.erased Syntax.mut (Syntax.tyInt Syntax.w8); ref = λ x. x }, tt))))) (m11 record { before = record { before = record { before = record { before = record { before = record { before = c; slice-known = record { given = g } }; slice-known2 = record { given = g' } }; take-all-arg = record { given = g'' } }; take-all-arg2 = record { given = g'3 } }; take-all-arg3 = record { given = g'4 } }; take-all-arg4 = record { given = g'5 } } g'6) g'7 })))))
+        laid = λ c. λ g. λ g'. λ g''. (Path'.refl, λ g'3. (Path'.refl, λ g'4. λ g'5. (Path'.refl, λ g'6. (Path'.refl, (take-all-requires record { before = record { before = record { before = record { before = record { before = record { before = record { before = c; slice-known = record { given = g } }; slice-known2 = record { given = g' } }; take-all-arg = record { given = g'' } }; take-all-arg2 = record { given = g'3 } }; take-all-arg3 = record { given = g'4 } }; take-all-arg4 = record { given = g'5 } }; take-all-arg5 = record { given = g'6 } }, λ g'7. lay1 record { before = record { before = record { before = record { before = record { before = record { before = record { before = record { before = c; slice-known = record { given = g } }; slice-known2 = record { given = g' } }; take-all-arg = record { given = g'' } }; take-all-arg2 = record { given = g'3 } }; take-all-arg3 = record { given = g'4 } }; take-all-arg4 = record { given = g'5 } }; take-all-arg5 = record { given = g'6 } }; take-all = Called.called ps·0 r·0 (claims· .1) T17 (record { pos = 8; ty = Syntax.tyRef Syntax.erased Syntax.mut OfOutput.named; ref = λ x. x }, (record { pos = 10; ty = Syntax.tyRef Syntax.erased Syntax.mut OfStation.named; ref = λ x. x }, (record { pos = 11; ty = Syntax.tyRef Syntax.erased Syntax.mut OfPanelRecord.named; ref = λ x. x }, (record { pos = 13; ty = Syntax.tyRef Syntax.erased Syntax.mut (Syntax.tyInt Syntax.w8); ref = λ x. x }, (record { pos = 15; ty = Syntax.tyRef Syntax.erased Syntax.mut (Syntax.tyInt Syntax.w8); ref = λ x. x }, tt))))) (m11 record { before = record { before = record { before = record { before = record { before = record { before = c; slice-known = record { given = g } }; slice-known2 = record { given = g' } }; take-all-arg = record { given = g'' } }; take-all-arg2 = record { given = g'3 } }; take-all-arg3 = record { given = g'4 } }; take-all-arg4 = record { given = g'5 } } g'6) g'7 })))))
 
         module _ (κs : Lifetimes.Lfts 5) (qs : Lifetimes.Shares 5) where
           pub asked :
@@ -1296,7 +1299,7 @@ module _ (claims· : Claims) where
               (pre : Pre· κs a) →
               (bs : List.List Nat.ℕ) →
               Φ (Any.wantQ 5 ps r xs m κs qs a (Post· κs a)) (Function.init 5 ps r xs m κs qs a)
-          asked = λ a good pre bs. laid record { κs = κs; args = record { outputs = a .0; stations = a .1 .0; time = a .1 .1 .0; page = a .1 .1 .1 .0; chunk = a .1 .1 .1 .1 .0 }; good = good; pre = pre }
+          asked = λ a good pre bs. laid record { κs = κs; args = record { outputs = a .0; stations = a .1 .0; kept = a .1 .1 .0; page = a .1 .1 .1 .0; chunk = a .1 .1 .1 .1 .0 }; good = good; pre = pre }
 
         module _ {M : Type 1} (𝓤 : URA.URA M) (H : Wp.Heap 𝓤) (A : Atoms.Atoms 𝓤)
             (W : Kit.Given 𝓤 H A) (𝓣 : Wp.Tables 𝓤 H)

@@ -1,9 +1,10 @@
 -- Made by tools/twin.py.
 use Prim.Native.Nat
+use Rattle.lighting_frames.proofs.Lent.OfStation as OfStation
 use Rattle.lighting_outputs.proofs.Answer
 use Rattle.lighting_outputs.proofs.Answer.Laws
 use Rattle.lighting_outputs.proofs.Lent.OfOutput as OfOutput
-use Rattle.lighting_frames.proofs.Lent.OfStation as OfStation
+use Rattle.lighting_panel.proofs.Lent.OfPanelRecord as OfPanelRecord
 use borrow.Author.Called
 use borrow.Fn.Any
 use borrow.Fn.Call
@@ -54,13 +55,13 @@ use prog.Wp
 use types.Kit
 
 abbrev pub ps : List.List (Kinds.PK 4)
-ps = List._∷_ (MutSlice.pMutS (OfOutput.row) 0 tt) (List._∷_ (MutSlice.pMutS (OfStation.row) 1 tt) (List._∷_ (Kinds.pMutF (Referent.fInt Syntax.w64) 2 tt) (List._∷_ (Num.pNum Syntax.w64) (List._∷_ (Num.pNum Syntax.w64) (List._∷_ (ShrRef.pShr (Array.Array (Referent.rtF (Referent.fInt Syntax.w8)) 49) 3 tt) (List._∷_ (Num.pNum Syntax.w64) List.[]))))))
+ps = List._∷_ (MutSlice.pMutS (OfOutput.row) 0 tt) (List._∷_ (MutSlice.pMutS (OfStation.row) 1 tt) (List._∷_ (Kinds.pMut (OfPanelRecord.row) 2 tt) (List._∷_ (Num.pNum Syntax.w64) (List._∷_ (Num.pNum Syntax.w64) (List._∷_ (ShrRef.pShr (Array.Array (Referent.rtF (Referent.fInt Syntax.w8)) 49) 3 tt) (List._∷_ (Num.pNum Syntax.w64) List.[]))))))
 
 abbrev pub r : Kinds.RK 4
 r = Value.rVal record { ty = Declared.row Answer.the-type; one = Path'.refl; val = Laws'.val Answer.the-type Laws.the-laws; tells = Laws'.tells Answer.the-type Laws.the-laws; still = Laws'.still Answer.the-type Laws.the-copy Exit.yes; row = Rows.whole (Declared.row Answer.the-type); rd = λ x. x; mk = λ x. x } λ M 𝓤 H A W. record { copies = Laws'.copy Answer.the-type Laws.the-copy 𝓤 H A W; lawful = Laws'.lawful Answer.the-type Laws.the-laws 𝓤 H A W tt; makes = Laws'.makes Answer.the-type Laws.the-plain 𝓤 H A; in-mem = Local.mem-whole 𝓤 H A W (Declared.row Answer.the-type); of-mem = Local.whole-mem 𝓤 H A W (Declared.row Answer.the-type) }
 
 abbrev pub xs : List.List Syntax.Ty
-xs = List._∷_ (Syntax.tyInt Syntax.w64) (List._∷_ (Syntax.tyInt Syntax.w64) (List._∷_ (Syntax.tyStruct (List._∷_ 38 (List._∷_ 91 (List._∷_ 93 List.[]))) (Syntax.tcons (Syntax.tyRef Syntax.erased Syntax.imm (Syntax.tyInt Syntax.w8)) (Syntax.tcons (Syntax.tyInt Syntax.w64) Syntax.tnil))) (List._∷_ (Syntax.tyInt Syntax.w64) (List._∷_ (Syntax.tyInt Syntax.w64) (List._∷_ (Syntax.tyRef Syntax.erased Syntax.imm (Syntax.tyInt Syntax.w8)) (List._∷_ Syntax.tyPtr (List._∷_ (Syntax.tyRef Syntax.erased Syntax.mut OfOutput.named) (List._∷_ (Syntax.tyStruct (List._∷_ 38 (List._∷_ 91 (List._∷_ 93 List.[]))) (Syntax.tcons (Syntax.tyRef Syntax.erased Syntax.mut OfOutput.named) (Syntax.tcons (Syntax.tyInt Syntax.w64) Syntax.tnil))) (List._∷_ Syntax.tyPtr (List._∷_ (Syntax.tyInt Syntax.w64) (List._∷_ (Syntax.tyRef Syntax.erased Syntax.mut OfStation.named) (List._∷_ (Syntax.tyStruct (List._∷_ 38 (List._∷_ 91 (List._∷_ 93 List.[]))) (Syntax.tcons (Syntax.tyRef Syntax.erased Syntax.mut OfStation.named) (Syntax.tcons (Syntax.tyInt Syntax.w64) Syntax.tnil))) (List._∷_ (Syntax.tyRef Syntax.erased Syntax.mut (Syntax.tyInt Syntax.w64)) (List._∷_ Syntax.tyPtr (List._∷_ (Syntax.tyInt Syntax.w64) (List._∷_ (Syntax.tyRef Syntax.erased Syntax.imm (Syntax.tyInt Syntax.w8)) (List._∷_ (Syntax.tyStruct (List._∷_ 38 (List._∷_ 91 (List._∷_ 93 List.[]))) (Syntax.tcons (Syntax.tyRef Syntax.erased Syntax.imm (Syntax.tyInt Syntax.w8)) (Syntax.tcons (Syntax.tyInt Syntax.w64) Syntax.tnil))) List.[])))))))))))))))))
+xs = List._∷_ (Syntax.tyInt Syntax.w64) (List._∷_ (Syntax.tyInt Syntax.w64) (List._∷_ (Syntax.tyStruct (List._∷_ 38 (List._∷_ 91 (List._∷_ 93 List.[]))) (Syntax.tcons (Syntax.tyRef Syntax.erased Syntax.imm (Syntax.tyInt Syntax.w8)) (Syntax.tcons (Syntax.tyInt Syntax.w64) Syntax.tnil))) (List._∷_ (Syntax.tyInt Syntax.w64) (List._∷_ (Syntax.tyInt Syntax.w64) (List._∷_ (Syntax.tyRef Syntax.erased Syntax.imm (Syntax.tyInt Syntax.w8)) (List._∷_ Syntax.tyPtr (List._∷_ (Syntax.tyRef Syntax.erased Syntax.mut OfOutput.named) (List._∷_ (Syntax.tyStruct (List._∷_ 38 (List._∷_ 91 (List._∷_ 93 List.[]))) (Syntax.tcons (Syntax.tyRef Syntax.erased Syntax.mut OfOutput.named) (Syntax.tcons (Syntax.tyInt Syntax.w64) Syntax.tnil))) (List._∷_ Syntax.tyPtr (List._∷_ (Syntax.tyInt Syntax.w64) (List._∷_ (Syntax.tyRef Syntax.erased Syntax.mut OfStation.named) (List._∷_ (Syntax.tyStruct (List._∷_ 38 (List._∷_ 91 (List._∷_ 93 List.[]))) (Syntax.tcons (Syntax.tyRef Syntax.erased Syntax.mut OfStation.named) (Syntax.tcons (Syntax.tyInt Syntax.w64) Syntax.tnil))) (List._∷_ (Syntax.tyRef Syntax.erased Syntax.mut OfPanelRecord.named) (List._∷_ Syntax.tyPtr (List._∷_ (Syntax.tyInt Syntax.w64) (List._∷_ (Syntax.tyRef Syntax.erased Syntax.imm (Syntax.tyInt Syntax.w8)) (List._∷_ (Syntax.tyStruct (List._∷_ 38 (List._∷_ 91 (List._∷_ 93 List.[]))) (Syntax.tcons (Syntax.tyRef Syntax.erased Syntax.imm (Syntax.tyInt Syntax.w8)) (Syntax.tcons (Syntax.tyInt Syntax.w64) Syntax.tnil))) List.[])))))))))))))))))
 
 abbrev pub m : Nat.ℕ
 m = 3
@@ -72,7 +73,7 @@ abbrev pub r·0 : Kinds.RK 0
 r·0 = Num.rNum Syntax.w64
 
 abbrev pub ps·1 : List.List (Kinds.PK 4)
-ps·1 = List._∷_ (MutSlice.pMutS (OfOutput.row) 0 tt) (List._∷_ (MutSlice.pMutS (OfStation.row) 1 tt) (List._∷_ (Kinds.pMutF (Referent.fInt Syntax.w64) 2 tt) (List._∷_ (ShrSlice.pShrS (Referent.rtF (Referent.fInt Syntax.w8)) 3 tt) List.[])))
+ps·1 = List._∷_ (MutSlice.pMutS (OfOutput.row) 0 tt) (List._∷_ (MutSlice.pMutS (OfStation.row) 1 tt) (List._∷_ (Kinds.pMut (OfPanelRecord.row) 2 tt) (List._∷_ (ShrSlice.pShrS (Referent.rtF (Referent.fInt Syntax.w8)) 3 tt) List.[])))
 
 abbrev pub r·1 : Kinds.RK 4
 r·1 = Value.rVal record { ty = Declared.row Answer.the-type; one = Path'.refl; val = Laws'.val Answer.the-type Laws.the-laws; tells = Laws'.tells Answer.the-type Laws.the-laws; still = Laws'.still Answer.the-type Laws.the-copy Exit.yes; row = Rows.whole (Declared.row Answer.the-type); rd = λ x. x; mk = λ x. x } λ M 𝓤 H A W. record { copies = Laws'.copy Answer.the-type Laws.the-copy 𝓤 H A W; lawful = Laws'.lawful Answer.the-type Laws.the-laws 𝓤 H A W tt; makes = Laws'.makes Answer.the-type Laws.the-plain 𝓤 H A; in-mem = Local.mem-whole 𝓤 H A W (Declared.row Answer.the-type); of-mem = Local.whole-mem 𝓤 H A W (Declared.row Answer.the-type) }
@@ -129,7 +130,7 @@ abbrev b15 : Syntax.Body
 b15 = Syntax.assign (Syntax.place 20 List.[]) (Syntax.aggregate (List._∷_ (Syntax.copy (Syntax.place 19 List.[])) (List._∷_ (Syntax.copy (Syntax.place 18 List.[])) List.[])))
 
 abbrev b16 : Syntax.Body
-b16 = Syntax.assign (Syntax.place 21 List.[]) (Syntax.addrOf (Syntax.place 3 (List._∷_ (Syntax.deref (Syntax.tyInt Syntax.w64)) List.[])))
+b16 = Syntax.assign (Syntax.place 21 List.[]) (Syntax.addrOf (Syntax.place 3 (List._∷_ (Syntax.deref OfPanelRecord.spelt) List.[])))
 
 abbrev b17 : Syntax.Body
 b17 = Syntax.assign (Syntax.place 22 List.[]) (Syntax.op2 Syntax.offset (Syntax.copy (Syntax.place 10 (List._∷_ (Syntax.field 0) List.[]))) (Syntax.int Syntax.w64 0))
@@ -222,154 +223,154 @@ abbrev pub Claims : Type 1
 Claims = Kinds.In 0 ps·0 × Kinds.Out 0 ps·0 r·0 × Kinds.In 4 ps·1 × Kinds.Out 4 ps·1 r·1
 
 abbrev pub t0 : List.List Row.Entry
-t0 = List._∷_ (0, Rows.any-gone (Laws.mir)) (List._∷_ (1, Mut.mslice (OfOutput.row) (Syntax.tyRef (Syntax.named 0) Syntax.mut OfOutput.named) 0) (List._∷_ (2, Mut.mslice (OfStation.row) (Syntax.tyRef (Syntax.named 1) Syntax.mut OfStation.named) 1) (List._∷_ (3, Rows.mref (Referent.rtF (Referent.fInt Syntax.w64)) (Syntax.tyRef (Syntax.named 2) Syntax.mut (Syntax.tyInt Syntax.w64)) 2) (List._∷_ (4, Rows.sc-here (Row.sInt Syntax.w64)) (List._∷_ (5, Rows.sc-here (Row.sInt Syntax.w64)) (List._∷_ (6, Rows.sref (Array.Array (Referent.rtF (Referent.fInt Syntax.w8)) 49) (Syntax.tyRef (Syntax.named 3) Syntax.imm (Syntax.tyArray (Syntax.tyInt Syntax.w8) 49)) 3) (List._∷_ (7, Rows.sc-here (Row.sInt Syntax.w64)) (List._∷_ (8, Rows.any-gone (Syntax.tyInt Syntax.w64)) (List._∷_ (9, Rows.any-gone (Syntax.tyInt Syntax.w64)) (List._∷_ (10, Rows.any-gone (Syntax.tyStruct (List._∷_ 38 (List._∷_ 91 (List._∷_ 93 List.[]))) (Syntax.tcons (Syntax.tyRef Syntax.erased Syntax.imm (Syntax.tyInt Syntax.w8)) (Syntax.tcons (Syntax.tyInt Syntax.w64) Syntax.tnil)))) (List._∷_ (11, Rows.any-gone (Syntax.tyInt Syntax.w64)) (List._∷_ (12, Rows.any-gone (Syntax.tyInt Syntax.w64)) (List._∷_ (13, Rows.any-gone (Syntax.tyRef Syntax.erased Syntax.imm (Syntax.tyInt Syntax.w8))) (List._∷_ (14, Rows.any-gone Syntax.tyPtr) (List._∷_ (15, Rows.any-gone (Syntax.tyRef Syntax.erased Syntax.mut OfOutput.named)) List.[])))))))))))))))
+t0 = List._∷_ (0, Rows.any-gone (Laws.mir)) (List._∷_ (1, Mut.mslice (OfOutput.row) (Syntax.tyRef (Syntax.named 0) Syntax.mut OfOutput.named) 0) (List._∷_ (2, Mut.mslice (OfStation.row) (Syntax.tyRef (Syntax.named 1) Syntax.mut OfStation.named) 1) (List._∷_ (3, Rows.mref (OfPanelRecord.row) (Syntax.tyRef (Syntax.named 2) Syntax.mut OfPanelRecord.named) 2) (List._∷_ (4, Rows.sc-here (Row.sInt Syntax.w64)) (List._∷_ (5, Rows.sc-here (Row.sInt Syntax.w64)) (List._∷_ (6, Rows.sref (Array.Array (Referent.rtF (Referent.fInt Syntax.w8)) 49) (Syntax.tyRef (Syntax.named 3) Syntax.imm (Syntax.tyArray (Syntax.tyInt Syntax.w8) 49)) 3) (List._∷_ (7, Rows.sc-here (Row.sInt Syntax.w64)) (List._∷_ (8, Rows.any-gone (Syntax.tyInt Syntax.w64)) (List._∷_ (9, Rows.any-gone (Syntax.tyInt Syntax.w64)) (List._∷_ (10, Rows.any-gone (Syntax.tyStruct (List._∷_ 38 (List._∷_ 91 (List._∷_ 93 List.[]))) (Syntax.tcons (Syntax.tyRef Syntax.erased Syntax.imm (Syntax.tyInt Syntax.w8)) (Syntax.tcons (Syntax.tyInt Syntax.w64) Syntax.tnil)))) (List._∷_ (11, Rows.any-gone (Syntax.tyInt Syntax.w64)) (List._∷_ (12, Rows.any-gone (Syntax.tyInt Syntax.w64)) (List._∷_ (13, Rows.any-gone (Syntax.tyRef Syntax.erased Syntax.imm (Syntax.tyInt Syntax.w8))) (List._∷_ (14, Rows.any-gone Syntax.tyPtr) (List._∷_ (15, Rows.any-gone (Syntax.tyRef Syntax.erased Syntax.mut OfOutput.named)) List.[])))))))))))))))
 
 abbrev pub t1 : List.List Row.Entry
-t1 = List._∷_ (16, Rows.any-gone (Syntax.tyStruct (List._∷_ 38 (List._∷_ 91 (List._∷_ 93 List.[]))) (Syntax.tcons (Syntax.tyRef Syntax.erased Syntax.mut OfOutput.named) (Syntax.tcons (Syntax.tyInt Syntax.w64) Syntax.tnil)))) (List._∷_ (17, Rows.any-gone Syntax.tyPtr) (List._∷_ (18, Rows.any-gone (Syntax.tyInt Syntax.w64)) (List._∷_ (19, Rows.any-gone (Syntax.tyRef Syntax.erased Syntax.mut OfStation.named)) (List._∷_ (20, Rows.any-gone (Syntax.tyStruct (List._∷_ 38 (List._∷_ 91 (List._∷_ 93 List.[]))) (Syntax.tcons (Syntax.tyRef Syntax.erased Syntax.mut OfStation.named) (Syntax.tcons (Syntax.tyInt Syntax.w64) Syntax.tnil)))) (List._∷_ (21, Rows.any-gone (Syntax.tyRef Syntax.erased Syntax.mut (Syntax.tyInt Syntax.w64))) (List._∷_ (22, Rows.any-gone Syntax.tyPtr) (List._∷_ (23, Rows.any-gone (Syntax.tyInt Syntax.w64)) (List._∷_ (24, Rows.any-gone (Syntax.tyRef Syntax.erased Syntax.imm (Syntax.tyInt Syntax.w8))) (List._∷_ (25, Rows.any-gone (Syntax.tyStruct (List._∷_ 38 (List._∷_ 91 (List._∷_ 93 List.[]))) (Syntax.tcons (Syntax.tyRef Syntax.erased Syntax.imm (Syntax.tyInt Syntax.w8)) (Syntax.tcons (Syntax.tyInt Syntax.w64) Syntax.tnil)))) List.[])))))))))
+t1 = List._∷_ (16, Rows.any-gone (Syntax.tyStruct (List._∷_ 38 (List._∷_ 91 (List._∷_ 93 List.[]))) (Syntax.tcons (Syntax.tyRef Syntax.erased Syntax.mut OfOutput.named) (Syntax.tcons (Syntax.tyInt Syntax.w64) Syntax.tnil)))) (List._∷_ (17, Rows.any-gone Syntax.tyPtr) (List._∷_ (18, Rows.any-gone (Syntax.tyInt Syntax.w64)) (List._∷_ (19, Rows.any-gone (Syntax.tyRef Syntax.erased Syntax.mut OfStation.named)) (List._∷_ (20, Rows.any-gone (Syntax.tyStruct (List._∷_ 38 (List._∷_ 91 (List._∷_ 93 List.[]))) (Syntax.tcons (Syntax.tyRef Syntax.erased Syntax.mut OfStation.named) (Syntax.tcons (Syntax.tyInt Syntax.w64) Syntax.tnil)))) (List._∷_ (21, Rows.any-gone (Syntax.tyRef Syntax.erased Syntax.mut OfPanelRecord.named)) (List._∷_ (22, Rows.any-gone Syntax.tyPtr) (List._∷_ (23, Rows.any-gone (Syntax.tyInt Syntax.w64)) (List._∷_ (24, Rows.any-gone (Syntax.tyRef Syntax.erased Syntax.imm (Syntax.tyInt Syntax.w8))) (List._∷_ (25, Rows.any-gone (Syntax.tyStruct (List._∷_ 38 (List._∷_ 91 (List._∷_ 93 List.[]))) (Syntax.tcons (Syntax.tyRef Syntax.erased Syntax.imm (Syntax.tyInt Syntax.w8)) (Syntax.tcons (Syntax.tyInt Syntax.w64) Syntax.tnil)))) List.[])))))))))
 
 abbrev pub t2 : List.List Row.Entry
-t2 = List._∷_ (0, Rows.whole (Declared.row Answer.the-type)) (List._∷_ (1, Mut.mslice (OfOutput.row) (Syntax.tyRef (Syntax.named 0) Syntax.mut OfOutput.named) 0) (List._∷_ (2, Mut.mslice (OfStation.row) (Syntax.tyRef (Syntax.named 1) Syntax.mut OfStation.named) 1) (List._∷_ (3, Rows.mref (Referent.rtF (Referent.fInt Syntax.w64)) (Syntax.tyRef (Syntax.named 2) Syntax.mut (Syntax.tyInt Syntax.w64)) 2) (List._∷_ (4, Rows.any-gone (Syntax.tyInt Syntax.w64)) (List._∷_ (5, Rows.any-gone (Syntax.tyInt Syntax.w64)) (List._∷_ (6, Rows.sref (Array.Array (Referent.rtF (Referent.fInt Syntax.w8)) 49) (Syntax.tyRef (Syntax.named 3) Syntax.imm (Syntax.tyArray (Syntax.tyInt Syntax.w8) 49)) 3) (List._∷_ (7, Rows.any-gone (Syntax.tyInt Syntax.w64)) (List._∷_ (8, Rows.any-gone (Syntax.tyInt Syntax.w64)) (List._∷_ (9, Rows.any-gone (Syntax.tyInt Syntax.w64)) (List._∷_ (10, Rows.any-gone (Syntax.tyStruct (List._∷_ 38 (List._∷_ 91 (List._∷_ 93 List.[]))) (Syntax.tcons (Syntax.tyRef Syntax.erased Syntax.imm (Syntax.tyInt Syntax.w8)) (Syntax.tcons (Syntax.tyInt Syntax.w64) Syntax.tnil)))) (List._∷_ (11, Rows.any-gone (Syntax.tyInt Syntax.w64)) (List._∷_ (12, Rows.any-gone (Syntax.tyInt Syntax.w64)) (List._∷_ (13, Rows.any-gone (Syntax.tyRef Syntax.erased Syntax.imm (Syntax.tyInt Syntax.w8))) (List._∷_ (14, Rows.any-gone Syntax.tyPtr) (List._∷_ (15, Rows.any-gone (Syntax.tyRef Syntax.erased Syntax.mut OfOutput.named)) List.[])))))))))))))))
+t2 = List._∷_ (0, Rows.whole (Declared.row Answer.the-type)) (List._∷_ (1, Mut.mslice (OfOutput.row) (Syntax.tyRef (Syntax.named 0) Syntax.mut OfOutput.named) 0) (List._∷_ (2, Mut.mslice (OfStation.row) (Syntax.tyRef (Syntax.named 1) Syntax.mut OfStation.named) 1) (List._∷_ (3, Rows.mref (OfPanelRecord.row) (Syntax.tyRef (Syntax.named 2) Syntax.mut OfPanelRecord.named) 2) (List._∷_ (4, Rows.any-gone (Syntax.tyInt Syntax.w64)) (List._∷_ (5, Rows.any-gone (Syntax.tyInt Syntax.w64)) (List._∷_ (6, Rows.sref (Array.Array (Referent.rtF (Referent.fInt Syntax.w8)) 49) (Syntax.tyRef (Syntax.named 3) Syntax.imm (Syntax.tyArray (Syntax.tyInt Syntax.w8) 49)) 3) (List._∷_ (7, Rows.any-gone (Syntax.tyInt Syntax.w64)) (List._∷_ (8, Rows.any-gone (Syntax.tyInt Syntax.w64)) (List._∷_ (9, Rows.any-gone (Syntax.tyInt Syntax.w64)) (List._∷_ (10, Rows.any-gone (Syntax.tyStruct (List._∷_ 38 (List._∷_ 91 (List._∷_ 93 List.[]))) (Syntax.tcons (Syntax.tyRef Syntax.erased Syntax.imm (Syntax.tyInt Syntax.w8)) (Syntax.tcons (Syntax.tyInt Syntax.w64) Syntax.tnil)))) (List._∷_ (11, Rows.any-gone (Syntax.tyInt Syntax.w64)) (List._∷_ (12, Rows.any-gone (Syntax.tyInt Syntax.w64)) (List._∷_ (13, Rows.any-gone (Syntax.tyRef Syntax.erased Syntax.imm (Syntax.tyInt Syntax.w8))) (List._∷_ (14, Rows.any-gone Syntax.tyPtr) (List._∷_ (15, Rows.any-gone (Syntax.tyRef Syntax.erased Syntax.mut OfOutput.named)) List.[])))))))))))))))
 
 abbrev pub t3 : List.List Row.Entry
-t3 = List._∷_ (0, Rows.any-gone (Laws.mir)) (List._∷_ (1, Mut.mslice (OfOutput.row) (Syntax.tyRef (Syntax.named 0) Syntax.mut OfOutput.named) 0) (List._∷_ (2, Mut.mslice (OfStation.row) (Syntax.tyRef (Syntax.named 1) Syntax.mut OfStation.named) 1) (List._∷_ (3, Rows.mref (Referent.rtF (Referent.fInt Syntax.w64)) (Syntax.tyRef (Syntax.named 2) Syntax.mut (Syntax.tyInt Syntax.w64)) 2) (List._∷_ (4, Rows.sc-here (Row.sInt Syntax.w64)) (List._∷_ (5, Rows.sc-here (Row.sInt Syntax.w64)) (List._∷_ (6, Rows.sref (Array.Array (Referent.rtF (Referent.fInt Syntax.w8)) 49) (Syntax.tyRef (Syntax.named 3) Syntax.imm (Syntax.tyArray (Syntax.tyInt Syntax.w8) 49)) 3) (List._∷_ (7, Rows.sc-here (Row.sInt Syntax.w64)) (List._∷_ (8, Rows.any-gone (Syntax.tyInt Syntax.w64)) (List._∷_ (9, Rows.any-gone (Syntax.tyInt Syntax.w64)) (List._∷_ (10, Rows.any-gone (Syntax.tyStruct (List._∷_ 38 (List._∷_ 91 (List._∷_ 93 List.[]))) (Syntax.tcons (Syntax.tyRef Syntax.erased Syntax.imm (Syntax.tyInt Syntax.w8)) (Syntax.tcons (Syntax.tyInt Syntax.w64) Syntax.tnil)))) (List._∷_ (11, Rows.any-gone (Syntax.tyInt Syntax.w64)) (List._∷_ (12, Rows.sc-here (Row.sInt Syntax.w64)) (List._∷_ (13, Rows.any-gone (Syntax.tyRef Syntax.erased Syntax.imm (Syntax.tyInt Syntax.w8))) (List._∷_ (14, Rows.any-gone Syntax.tyPtr) (List._∷_ (15, Rows.any-gone (Syntax.tyRef Syntax.erased Syntax.mut OfOutput.named)) List.[])))))))))))))))
+t3 = List._∷_ (0, Rows.any-gone (Laws.mir)) (List._∷_ (1, Mut.mslice (OfOutput.row) (Syntax.tyRef (Syntax.named 0) Syntax.mut OfOutput.named) 0) (List._∷_ (2, Mut.mslice (OfStation.row) (Syntax.tyRef (Syntax.named 1) Syntax.mut OfStation.named) 1) (List._∷_ (3, Rows.mref (OfPanelRecord.row) (Syntax.tyRef (Syntax.named 2) Syntax.mut OfPanelRecord.named) 2) (List._∷_ (4, Rows.sc-here (Row.sInt Syntax.w64)) (List._∷_ (5, Rows.sc-here (Row.sInt Syntax.w64)) (List._∷_ (6, Rows.sref (Array.Array (Referent.rtF (Referent.fInt Syntax.w8)) 49) (Syntax.tyRef (Syntax.named 3) Syntax.imm (Syntax.tyArray (Syntax.tyInt Syntax.w8) 49)) 3) (List._∷_ (7, Rows.sc-here (Row.sInt Syntax.w64)) (List._∷_ (8, Rows.any-gone (Syntax.tyInt Syntax.w64)) (List._∷_ (9, Rows.any-gone (Syntax.tyInt Syntax.w64)) (List._∷_ (10, Rows.any-gone (Syntax.tyStruct (List._∷_ 38 (List._∷_ 91 (List._∷_ 93 List.[]))) (Syntax.tcons (Syntax.tyRef Syntax.erased Syntax.imm (Syntax.tyInt Syntax.w8)) (Syntax.tcons (Syntax.tyInt Syntax.w64) Syntax.tnil)))) (List._∷_ (11, Rows.any-gone (Syntax.tyInt Syntax.w64)) (List._∷_ (12, Rows.sc-here (Row.sInt Syntax.w64)) (List._∷_ (13, Rows.any-gone (Syntax.tyRef Syntax.erased Syntax.imm (Syntax.tyInt Syntax.w8))) (List._∷_ (14, Rows.any-gone Syntax.tyPtr) (List._∷_ (15, Rows.any-gone (Syntax.tyRef Syntax.erased Syntax.mut OfOutput.named)) List.[])))))))))))))))
 
 abbrev pub t4 : List.List Row.Entry
-t4 = List._∷_ (0, Rows.any-gone (Laws.mir)) (List._∷_ (1, Mut.mslice (OfOutput.row) (Syntax.tyRef (Syntax.named 0) Syntax.mut OfOutput.named) 0) (List._∷_ (2, Mut.mslice (OfStation.row) (Syntax.tyRef (Syntax.named 1) Syntax.mut OfStation.named) 1) (List._∷_ (3, Rows.mref (Referent.rtF (Referent.fInt Syntax.w64)) (Syntax.tyRef (Syntax.named 2) Syntax.mut (Syntax.tyInt Syntax.w64)) 2) (List._∷_ (4, Rows.sc-here (Row.sInt Syntax.w64)) (List._∷_ (5, Rows.sc-here (Row.sInt Syntax.w64)) (List._∷_ (6, Rows.sref (Array.Array (Referent.rtF (Referent.fInt Syntax.w8)) 49) (Syntax.tyRef (Syntax.named 3) Syntax.imm (Syntax.tyArray (Syntax.tyInt Syntax.w8) 49)) 3) (List._∷_ (7, Rows.sc-here (Row.sInt Syntax.w64)) (List._∷_ (8, Rows.sc-here (Row.sInt Syntax.w64)) (List._∷_ (9, Rows.any-gone (Syntax.tyInt Syntax.w64)) (List._∷_ (10, Rows.any-gone (Syntax.tyStruct (List._∷_ 38 (List._∷_ 91 (List._∷_ 93 List.[]))) (Syntax.tcons (Syntax.tyRef Syntax.erased Syntax.imm (Syntax.tyInt Syntax.w8)) (Syntax.tcons (Syntax.tyInt Syntax.w64) Syntax.tnil)))) (List._∷_ (11, Rows.any-gone (Syntax.tyInt Syntax.w64)) (List._∷_ (12, Rows.sc-here (Row.sInt Syntax.w64)) (List._∷_ (13, Rows.any-gone (Syntax.tyRef Syntax.erased Syntax.imm (Syntax.tyInt Syntax.w8))) (List._∷_ (14, Rows.any-gone Syntax.tyPtr) (List._∷_ (15, Rows.any-gone (Syntax.tyRef Syntax.erased Syntax.mut OfOutput.named)) List.[])))))))))))))))
+t4 = List._∷_ (0, Rows.any-gone (Laws.mir)) (List._∷_ (1, Mut.mslice (OfOutput.row) (Syntax.tyRef (Syntax.named 0) Syntax.mut OfOutput.named) 0) (List._∷_ (2, Mut.mslice (OfStation.row) (Syntax.tyRef (Syntax.named 1) Syntax.mut OfStation.named) 1) (List._∷_ (3, Rows.mref (OfPanelRecord.row) (Syntax.tyRef (Syntax.named 2) Syntax.mut OfPanelRecord.named) 2) (List._∷_ (4, Rows.sc-here (Row.sInt Syntax.w64)) (List._∷_ (5, Rows.sc-here (Row.sInt Syntax.w64)) (List._∷_ (6, Rows.sref (Array.Array (Referent.rtF (Referent.fInt Syntax.w8)) 49) (Syntax.tyRef (Syntax.named 3) Syntax.imm (Syntax.tyArray (Syntax.tyInt Syntax.w8) 49)) 3) (List._∷_ (7, Rows.sc-here (Row.sInt Syntax.w64)) (List._∷_ (8, Rows.sc-here (Row.sInt Syntax.w64)) (List._∷_ (9, Rows.any-gone (Syntax.tyInt Syntax.w64)) (List._∷_ (10, Rows.any-gone (Syntax.tyStruct (List._∷_ 38 (List._∷_ 91 (List._∷_ 93 List.[]))) (Syntax.tcons (Syntax.tyRef Syntax.erased Syntax.imm (Syntax.tyInt Syntax.w8)) (Syntax.tcons (Syntax.tyInt Syntax.w64) Syntax.tnil)))) (List._∷_ (11, Rows.any-gone (Syntax.tyInt Syntax.w64)) (List._∷_ (12, Rows.sc-here (Row.sInt Syntax.w64)) (List._∷_ (13, Rows.any-gone (Syntax.tyRef Syntax.erased Syntax.imm (Syntax.tyInt Syntax.w8))) (List._∷_ (14, Rows.any-gone Syntax.tyPtr) (List._∷_ (15, Rows.any-gone (Syntax.tyRef Syntax.erased Syntax.mut OfOutput.named)) List.[])))))))))))))))
 
 abbrev pub t5 : List.List Row.Entry
-t5 = List._∷_ (0, Rows.any-gone (Laws.mir)) (List._∷_ (1, Mut.mslice (OfOutput.row) (Syntax.tyRef (Syntax.named 0) Syntax.mut OfOutput.named) 0) (List._∷_ (2, Mut.mslice (OfStation.row) (Syntax.tyRef (Syntax.named 1) Syntax.mut OfStation.named) 1) (List._∷_ (3, Rows.mref (Referent.rtF (Referent.fInt Syntax.w64)) (Syntax.tyRef (Syntax.named 2) Syntax.mut (Syntax.tyInt Syntax.w64)) 2) (List._∷_ (4, Rows.sc-here (Row.sInt Syntax.w64)) (List._∷_ (5, Rows.sc-here (Row.sInt Syntax.w64)) (List._∷_ (6, Rows.sref (Array.Array (Referent.rtF (Referent.fInt Syntax.w8)) 49) (Syntax.tyRef (Syntax.named 3) Syntax.imm (Syntax.tyArray (Syntax.tyInt Syntax.w8) 49)) 3) (List._∷_ (7, Rows.sc-here (Row.sInt Syntax.w64)) (List._∷_ (8, Rows.sc-here (Row.sInt Syntax.w64)) (List._∷_ (9, Rows.any-gone (Syntax.tyInt Syntax.w64)) (List._∷_ (10, Rows.any-gone (Syntax.tyStruct (List._∷_ 38 (List._∷_ 91 (List._∷_ 93 List.[]))) (Syntax.tcons (Syntax.tyRef Syntax.erased Syntax.imm (Syntax.tyInt Syntax.w8)) (Syntax.tcons (Syntax.tyInt Syntax.w64) Syntax.tnil)))) (List._∷_ (11, Rows.any-gone (Syntax.tyInt Syntax.w64)) (List._∷_ (12, Rows.any-gone (Syntax.tyInt Syntax.w64)) (List._∷_ (13, Rows.any-gone (Syntax.tyRef Syntax.erased Syntax.imm (Syntax.tyInt Syntax.w8))) (List._∷_ (14, Rows.any-gone Syntax.tyPtr) (List._∷_ (15, Rows.any-gone (Syntax.tyRef Syntax.erased Syntax.mut OfOutput.named)) List.[])))))))))))))))
+t5 = List._∷_ (0, Rows.any-gone (Laws.mir)) (List._∷_ (1, Mut.mslice (OfOutput.row) (Syntax.tyRef (Syntax.named 0) Syntax.mut OfOutput.named) 0) (List._∷_ (2, Mut.mslice (OfStation.row) (Syntax.tyRef (Syntax.named 1) Syntax.mut OfStation.named) 1) (List._∷_ (3, Rows.mref (OfPanelRecord.row) (Syntax.tyRef (Syntax.named 2) Syntax.mut OfPanelRecord.named) 2) (List._∷_ (4, Rows.sc-here (Row.sInt Syntax.w64)) (List._∷_ (5, Rows.sc-here (Row.sInt Syntax.w64)) (List._∷_ (6, Rows.sref (Array.Array (Referent.rtF (Referent.fInt Syntax.w8)) 49) (Syntax.tyRef (Syntax.named 3) Syntax.imm (Syntax.tyArray (Syntax.tyInt Syntax.w8) 49)) 3) (List._∷_ (7, Rows.sc-here (Row.sInt Syntax.w64)) (List._∷_ (8, Rows.sc-here (Row.sInt Syntax.w64)) (List._∷_ (9, Rows.any-gone (Syntax.tyInt Syntax.w64)) (List._∷_ (10, Rows.any-gone (Syntax.tyStruct (List._∷_ 38 (List._∷_ 91 (List._∷_ 93 List.[]))) (Syntax.tcons (Syntax.tyRef Syntax.erased Syntax.imm (Syntax.tyInt Syntax.w8)) (Syntax.tcons (Syntax.tyInt Syntax.w64) Syntax.tnil)))) (List._∷_ (11, Rows.any-gone (Syntax.tyInt Syntax.w64)) (List._∷_ (12, Rows.any-gone (Syntax.tyInt Syntax.w64)) (List._∷_ (13, Rows.any-gone (Syntax.tyRef Syntax.erased Syntax.imm (Syntax.tyInt Syntax.w8))) (List._∷_ (14, Rows.any-gone Syntax.tyPtr) (List._∷_ (15, Rows.any-gone (Syntax.tyRef Syntax.erased Syntax.mut OfOutput.named)) List.[])))))))))))))))
 
 abbrev pub t6 : List.List Row.Entry
-t6 = List._∷_ (0, Rows.any-gone (Laws.mir)) (List._∷_ (1, Mut.mslice (OfOutput.row) (Syntax.tyRef (Syntax.named 0) Syntax.mut OfOutput.named) 0) (List._∷_ (2, Mut.mslice (OfStation.row) (Syntax.tyRef (Syntax.named 1) Syntax.mut OfStation.named) 1) (List._∷_ (3, Rows.mref (Referent.rtF (Referent.fInt Syntax.w64)) (Syntax.tyRef (Syntax.named 2) Syntax.mut (Syntax.tyInt Syntax.w64)) 2) (List._∷_ (4, Rows.sc-here (Row.sInt Syntax.w64)) (List._∷_ (5, Rows.sc-here (Row.sInt Syntax.w64)) (List._∷_ (6, Rows.sref (Array.Array (Referent.rtF (Referent.fInt Syntax.w8)) 49) (Syntax.tyRef (Syntax.named 3) Syntax.imm (Syntax.tyArray (Syntax.tyInt Syntax.w8) 49)) 3) (List._∷_ (7, Rows.sc-here (Row.sInt Syntax.w64)) (List._∷_ (8, Rows.sc-here (Row.sInt Syntax.w64)) (List._∷_ (9, Rows.sc-here (Row.sInt Syntax.w64)) (List._∷_ (10, Rows.any-gone (Syntax.tyStruct (List._∷_ 38 (List._∷_ 91 (List._∷_ 93 List.[]))) (Syntax.tcons (Syntax.tyRef Syntax.erased Syntax.imm (Syntax.tyInt Syntax.w8)) (Syntax.tcons (Syntax.tyInt Syntax.w64) Syntax.tnil)))) (List._∷_ (11, Rows.any-gone (Syntax.tyInt Syntax.w64)) (List._∷_ (12, Rows.sc-here (Row.sInt Syntax.w64)) (List._∷_ (13, Rows.any-gone (Syntax.tyRef Syntax.erased Syntax.imm (Syntax.tyInt Syntax.w8))) (List._∷_ (14, Rows.any-gone Syntax.tyPtr) (List._∷_ (15, Rows.any-gone (Syntax.tyRef Syntax.erased Syntax.mut OfOutput.named)) List.[])))))))))))))))
+t6 = List._∷_ (0, Rows.any-gone (Laws.mir)) (List._∷_ (1, Mut.mslice (OfOutput.row) (Syntax.tyRef (Syntax.named 0) Syntax.mut OfOutput.named) 0) (List._∷_ (2, Mut.mslice (OfStation.row) (Syntax.tyRef (Syntax.named 1) Syntax.mut OfStation.named) 1) (List._∷_ (3, Rows.mref (OfPanelRecord.row) (Syntax.tyRef (Syntax.named 2) Syntax.mut OfPanelRecord.named) 2) (List._∷_ (4, Rows.sc-here (Row.sInt Syntax.w64)) (List._∷_ (5, Rows.sc-here (Row.sInt Syntax.w64)) (List._∷_ (6, Rows.sref (Array.Array (Referent.rtF (Referent.fInt Syntax.w8)) 49) (Syntax.tyRef (Syntax.named 3) Syntax.imm (Syntax.tyArray (Syntax.tyInt Syntax.w8) 49)) 3) (List._∷_ (7, Rows.sc-here (Row.sInt Syntax.w64)) (List._∷_ (8, Rows.sc-here (Row.sInt Syntax.w64)) (List._∷_ (9, Rows.sc-here (Row.sInt Syntax.w64)) (List._∷_ (10, Rows.any-gone (Syntax.tyStruct (List._∷_ 38 (List._∷_ 91 (List._∷_ 93 List.[]))) (Syntax.tcons (Syntax.tyRef Syntax.erased Syntax.imm (Syntax.tyInt Syntax.w8)) (Syntax.tcons (Syntax.tyInt Syntax.w64) Syntax.tnil)))) (List._∷_ (11, Rows.any-gone (Syntax.tyInt Syntax.w64)) (List._∷_ (12, Rows.sc-here (Row.sInt Syntax.w64)) (List._∷_ (13, Rows.any-gone (Syntax.tyRef Syntax.erased Syntax.imm (Syntax.tyInt Syntax.w8))) (List._∷_ (14, Rows.any-gone Syntax.tyPtr) (List._∷_ (15, Rows.any-gone (Syntax.tyRef Syntax.erased Syntax.mut OfOutput.named)) List.[])))))))))))))))
 
 abbrev pub t7 : List.List Row.Entry
-t7 = List._∷_ (0, Rows.any-gone (Laws.mir)) (List._∷_ (1, Mut.mslice (OfOutput.row) (Syntax.tyRef (Syntax.named 0) Syntax.mut OfOutput.named) 0) (List._∷_ (2, Mut.mslice (OfStation.row) (Syntax.tyRef (Syntax.named 1) Syntax.mut OfStation.named) 1) (List._∷_ (3, Rows.mref (Referent.rtF (Referent.fInt Syntax.w64)) (Syntax.tyRef (Syntax.named 2) Syntax.mut (Syntax.tyInt Syntax.w64)) 2) (List._∷_ (4, Rows.sc-here (Row.sInt Syntax.w64)) (List._∷_ (5, Rows.sc-here (Row.sInt Syntax.w64)) (List._∷_ (6, Rows.sref (Array.Array (Referent.rtF (Referent.fInt Syntax.w8)) 49) (Syntax.tyRef (Syntax.named 3) Syntax.imm (Syntax.tyArray (Syntax.tyInt Syntax.w8) 49)) 3) (List._∷_ (7, Rows.sc-here (Row.sInt Syntax.w64)) (List._∷_ (8, Rows.sc-here (Row.sInt Syntax.w64)) (List._∷_ (9, Rows.sc-here (Row.sInt Syntax.w64)) (List._∷_ (10, Rows.any-gone (Syntax.tyStruct (List._∷_ 38 (List._∷_ 91 (List._∷_ 93 List.[]))) (Syntax.tcons (Syntax.tyRef Syntax.erased Syntax.imm (Syntax.tyInt Syntax.w8)) (Syntax.tcons (Syntax.tyInt Syntax.w64) Syntax.tnil)))) (List._∷_ (11, Rows.any-gone (Syntax.tyInt Syntax.w64)) (List._∷_ (12, Rows.any-gone (Syntax.tyInt Syntax.w64)) (List._∷_ (13, Rows.any-gone (Syntax.tyRef Syntax.erased Syntax.imm (Syntax.tyInt Syntax.w8))) (List._∷_ (14, Rows.any-gone Syntax.tyPtr) (List._∷_ (15, Rows.any-gone (Syntax.tyRef Syntax.erased Syntax.mut OfOutput.named)) List.[])))))))))))))))
+t7 = List._∷_ (0, Rows.any-gone (Laws.mir)) (List._∷_ (1, Mut.mslice (OfOutput.row) (Syntax.tyRef (Syntax.named 0) Syntax.mut OfOutput.named) 0) (List._∷_ (2, Mut.mslice (OfStation.row) (Syntax.tyRef (Syntax.named 1) Syntax.mut OfStation.named) 1) (List._∷_ (3, Rows.mref (OfPanelRecord.row) (Syntax.tyRef (Syntax.named 2) Syntax.mut OfPanelRecord.named) 2) (List._∷_ (4, Rows.sc-here (Row.sInt Syntax.w64)) (List._∷_ (5, Rows.sc-here (Row.sInt Syntax.w64)) (List._∷_ (6, Rows.sref (Array.Array (Referent.rtF (Referent.fInt Syntax.w8)) 49) (Syntax.tyRef (Syntax.named 3) Syntax.imm (Syntax.tyArray (Syntax.tyInt Syntax.w8) 49)) 3) (List._∷_ (7, Rows.sc-here (Row.sInt Syntax.w64)) (List._∷_ (8, Rows.sc-here (Row.sInt Syntax.w64)) (List._∷_ (9, Rows.sc-here (Row.sInt Syntax.w64)) (List._∷_ (10, Rows.any-gone (Syntax.tyStruct (List._∷_ 38 (List._∷_ 91 (List._∷_ 93 List.[]))) (Syntax.tcons (Syntax.tyRef Syntax.erased Syntax.imm (Syntax.tyInt Syntax.w8)) (Syntax.tcons (Syntax.tyInt Syntax.w64) Syntax.tnil)))) (List._∷_ (11, Rows.any-gone (Syntax.tyInt Syntax.w64)) (List._∷_ (12, Rows.any-gone (Syntax.tyInt Syntax.w64)) (List._∷_ (13, Rows.any-gone (Syntax.tyRef Syntax.erased Syntax.imm (Syntax.tyInt Syntax.w8))) (List._∷_ (14, Rows.any-gone Syntax.tyPtr) (List._∷_ (15, Rows.any-gone (Syntax.tyRef Syntax.erased Syntax.mut OfOutput.named)) List.[])))))))))))))))
 
 abbrev pub t8 : List.List Row.Entry
-t8 = List._∷_ (0, Rows.any-gone (Laws.mir)) (List._∷_ (1, Mut.mslice (OfOutput.row) (Syntax.tyRef (Syntax.named 0) Syntax.mut OfOutput.named) 0) (List._∷_ (2, Mut.mslice (OfStation.row) (Syntax.tyRef (Syntax.named 1) Syntax.mut OfStation.named) 1) (List._∷_ (3, Rows.mref (Referent.rtF (Referent.fInt Syntax.w64)) (Syntax.tyRef (Syntax.named 2) Syntax.mut (Syntax.tyInt Syntax.w64)) 2) (List._∷_ (4, Rows.sc-here (Row.sInt Syntax.w64)) (List._∷_ (5, Rows.sc-here (Row.sInt Syntax.w64)) (List._∷_ (6, Rows.sref (Array.Array (Referent.rtF (Referent.fInt Syntax.w8)) 49) (Syntax.tyRef (Syntax.named 3) Syntax.imm (Syntax.tyArray (Syntax.tyInt Syntax.w8) 49)) 3) (List._∷_ (7, Rows.sc-here (Row.sInt Syntax.w64)) (List._∷_ (8, Rows.sc-here (Row.sInt Syntax.w64)) (List._∷_ (9, Rows.sc-here (Row.sInt Syntax.w64)) (List._∷_ (10, Rows.any-gone (Syntax.tyStruct (List._∷_ 38 (List._∷_ 91 (List._∷_ 93 List.[]))) (Syntax.tcons (Syntax.tyRef Syntax.erased Syntax.imm (Syntax.tyInt Syntax.w8)) (Syntax.tcons (Syntax.tyInt Syntax.w64) Syntax.tnil)))) (List._∷_ (11, Rows.any-gone (Syntax.tyInt Syntax.w64)) (List._∷_ (12, Rows.any-gone (Syntax.tyInt Syntax.w64)) (List._∷_ (13, Rows.sref (Array.Array (Referent.rtF (Referent.fInt Syntax.w8)) 49) (Syntax.tyRef Syntax.erased Syntax.imm (Syntax.tyInt Syntax.w8)) 3) (List._∷_ (14, Rows.any-gone Syntax.tyPtr) (List._∷_ (15, Rows.any-gone (Syntax.tyRef Syntax.erased Syntax.mut OfOutput.named)) List.[])))))))))))))))
+t8 = List._∷_ (0, Rows.any-gone (Laws.mir)) (List._∷_ (1, Mut.mslice (OfOutput.row) (Syntax.tyRef (Syntax.named 0) Syntax.mut OfOutput.named) 0) (List._∷_ (2, Mut.mslice (OfStation.row) (Syntax.tyRef (Syntax.named 1) Syntax.mut OfStation.named) 1) (List._∷_ (3, Rows.mref (OfPanelRecord.row) (Syntax.tyRef (Syntax.named 2) Syntax.mut OfPanelRecord.named) 2) (List._∷_ (4, Rows.sc-here (Row.sInt Syntax.w64)) (List._∷_ (5, Rows.sc-here (Row.sInt Syntax.w64)) (List._∷_ (6, Rows.sref (Array.Array (Referent.rtF (Referent.fInt Syntax.w8)) 49) (Syntax.tyRef (Syntax.named 3) Syntax.imm (Syntax.tyArray (Syntax.tyInt Syntax.w8) 49)) 3) (List._∷_ (7, Rows.sc-here (Row.sInt Syntax.w64)) (List._∷_ (8, Rows.sc-here (Row.sInt Syntax.w64)) (List._∷_ (9, Rows.sc-here (Row.sInt Syntax.w64)) (List._∷_ (10, Rows.any-gone (Syntax.tyStruct (List._∷_ 38 (List._∷_ 91 (List._∷_ 93 List.[]))) (Syntax.tcons (Syntax.tyRef Syntax.erased Syntax.imm (Syntax.tyInt Syntax.w8)) (Syntax.tcons (Syntax.tyInt Syntax.w64) Syntax.tnil)))) (List._∷_ (11, Rows.any-gone (Syntax.tyInt Syntax.w64)) (List._∷_ (12, Rows.any-gone (Syntax.tyInt Syntax.w64)) (List._∷_ (13, Rows.sref (Array.Array (Referent.rtF (Referent.fInt Syntax.w8)) 49) (Syntax.tyRef Syntax.erased Syntax.imm (Syntax.tyInt Syntax.w8)) 3) (List._∷_ (14, Rows.any-gone Syntax.tyPtr) (List._∷_ (15, Rows.any-gone (Syntax.tyRef Syntax.erased Syntax.mut OfOutput.named)) List.[])))))))))))))))
 
 abbrev pub t9 : List.List Row.Entry
-t9 = List._∷_ (0, Rows.any-gone (Laws.mir)) (List._∷_ (1, Mut.mslice (OfOutput.row) (Syntax.tyRef (Syntax.named 0) Syntax.mut OfOutput.named) 0) (List._∷_ (2, Mut.mslice (OfStation.row) (Syntax.tyRef (Syntax.named 1) Syntax.mut OfStation.named) 1) (List._∷_ (3, Rows.mref (Referent.rtF (Referent.fInt Syntax.w64)) (Syntax.tyRef (Syntax.named 2) Syntax.mut (Syntax.tyInt Syntax.w64)) 2) (List._∷_ (4, Rows.sc-here (Row.sInt Syntax.w64)) (List._∷_ (5, Rows.sc-here (Row.sInt Syntax.w64)) (List._∷_ (6, Rows.sref (Array.Array (Referent.rtF (Referent.fInt Syntax.w8)) 49) (Syntax.tyRef (Syntax.named 3) Syntax.imm (Syntax.tyArray (Syntax.tyInt Syntax.w8) 49)) 3) (List._∷_ (7, Rows.sc-here (Row.sInt Syntax.w64)) (List._∷_ (8, Rows.sc-here (Row.sInt Syntax.w64)) (List._∷_ (9, Rows.sc-here (Row.sInt Syntax.w64)) (List._∷_ (10, Rows.any-gone (Syntax.tyStruct (List._∷_ 38 (List._∷_ 91 (List._∷_ 93 List.[]))) (Syntax.tcons (Syntax.tyRef Syntax.erased Syntax.imm (Syntax.tyInt Syntax.w8)) (Syntax.tcons (Syntax.tyInt Syntax.w64) Syntax.tnil)))) (List._∷_ (11, Rows.any-gone (Syntax.tyInt Syntax.w64)) (List._∷_ (12, Rows.any-gone (Syntax.tyInt Syntax.w64)) (List._∷_ (13, Relend.ssptr (Referent.rtF (Referent.fInt Syntax.w8)) (Syntax.tyRef Syntax.erased Syntax.imm (Syntax.tyInt Syntax.w8)) 3) (List._∷_ (14, Rows.any-gone Syntax.tyPtr) (List._∷_ (15, Rows.any-gone (Syntax.tyRef Syntax.erased Syntax.mut OfOutput.named)) List.[])))))))))))))))
+t9 = List._∷_ (0, Rows.any-gone (Laws.mir)) (List._∷_ (1, Mut.mslice (OfOutput.row) (Syntax.tyRef (Syntax.named 0) Syntax.mut OfOutput.named) 0) (List._∷_ (2, Mut.mslice (OfStation.row) (Syntax.tyRef (Syntax.named 1) Syntax.mut OfStation.named) 1) (List._∷_ (3, Rows.mref (OfPanelRecord.row) (Syntax.tyRef (Syntax.named 2) Syntax.mut OfPanelRecord.named) 2) (List._∷_ (4, Rows.sc-here (Row.sInt Syntax.w64)) (List._∷_ (5, Rows.sc-here (Row.sInt Syntax.w64)) (List._∷_ (6, Rows.sref (Array.Array (Referent.rtF (Referent.fInt Syntax.w8)) 49) (Syntax.tyRef (Syntax.named 3) Syntax.imm (Syntax.tyArray (Syntax.tyInt Syntax.w8) 49)) 3) (List._∷_ (7, Rows.sc-here (Row.sInt Syntax.w64)) (List._∷_ (8, Rows.sc-here (Row.sInt Syntax.w64)) (List._∷_ (9, Rows.sc-here (Row.sInt Syntax.w64)) (List._∷_ (10, Rows.any-gone (Syntax.tyStruct (List._∷_ 38 (List._∷_ 91 (List._∷_ 93 List.[]))) (Syntax.tcons (Syntax.tyRef Syntax.erased Syntax.imm (Syntax.tyInt Syntax.w8)) (Syntax.tcons (Syntax.tyInt Syntax.w64) Syntax.tnil)))) (List._∷_ (11, Rows.any-gone (Syntax.tyInt Syntax.w64)) (List._∷_ (12, Rows.any-gone (Syntax.tyInt Syntax.w64)) (List._∷_ (13, Relend.ssptr (Referent.rtF (Referent.fInt Syntax.w8)) (Syntax.tyRef Syntax.erased Syntax.imm (Syntax.tyInt Syntax.w8)) 3) (List._∷_ (14, Rows.any-gone Syntax.tyPtr) (List._∷_ (15, Rows.any-gone (Syntax.tyRef Syntax.erased Syntax.mut OfOutput.named)) List.[])))))))))))))))
 
 abbrev pub t10 : List.List Row.Entry
-t10 = List._∷_ (0, Rows.any-gone (Laws.mir)) (List._∷_ (1, Mut.mslice (OfOutput.row) (Syntax.tyRef (Syntax.named 0) Syntax.mut OfOutput.named) 0) (List._∷_ (2, Mut.mslice (OfStation.row) (Syntax.tyRef (Syntax.named 1) Syntax.mut OfStation.named) 1) (List._∷_ (3, Rows.mref (Referent.rtF (Referent.fInt Syntax.w64)) (Syntax.tyRef (Syntax.named 2) Syntax.mut (Syntax.tyInt Syntax.w64)) 2) (List._∷_ (4, Rows.sc-here (Row.sInt Syntax.w64)) (List._∷_ (5, Rows.sc-here (Row.sInt Syntax.w64)) (List._∷_ (6, Rows.sref (Array.Array (Referent.rtF (Referent.fInt Syntax.w8)) 49) (Syntax.tyRef (Syntax.named 3) Syntax.imm (Syntax.tyArray (Syntax.tyInt Syntax.w8) 49)) 3) (List._∷_ (7, Rows.sc-here (Row.sInt Syntax.w64)) (List._∷_ (8, Rows.sc-here (Row.sInt Syntax.w64)) (List._∷_ (9, Rows.sc-here (Row.sInt Syntax.w64)) (List._∷_ (10, Rows.sslice (Referent.rtF (Referent.fInt Syntax.w8)) (Syntax.tyRef Syntax.erased Syntax.imm (Syntax.tyInt Syntax.w8)) 3) (List._∷_ (11, Rows.any-gone (Syntax.tyInt Syntax.w64)) (List._∷_ (12, Rows.any-gone (Syntax.tyInt Syntax.w64)) (List._∷_ (13, Rows.any-gone (Syntax.tyRef Syntax.erased Syntax.imm (Syntax.tyInt Syntax.w8))) (List._∷_ (14, Rows.any-gone Syntax.tyPtr) (List._∷_ (15, Rows.any-gone (Syntax.tyRef Syntax.erased Syntax.mut OfOutput.named)) List.[])))))))))))))))
+t10 = List._∷_ (0, Rows.any-gone (Laws.mir)) (List._∷_ (1, Mut.mslice (OfOutput.row) (Syntax.tyRef (Syntax.named 0) Syntax.mut OfOutput.named) 0) (List._∷_ (2, Mut.mslice (OfStation.row) (Syntax.tyRef (Syntax.named 1) Syntax.mut OfStation.named) 1) (List._∷_ (3, Rows.mref (OfPanelRecord.row) (Syntax.tyRef (Syntax.named 2) Syntax.mut OfPanelRecord.named) 2) (List._∷_ (4, Rows.sc-here (Row.sInt Syntax.w64)) (List._∷_ (5, Rows.sc-here (Row.sInt Syntax.w64)) (List._∷_ (6, Rows.sref (Array.Array (Referent.rtF (Referent.fInt Syntax.w8)) 49) (Syntax.tyRef (Syntax.named 3) Syntax.imm (Syntax.tyArray (Syntax.tyInt Syntax.w8) 49)) 3) (List._∷_ (7, Rows.sc-here (Row.sInt Syntax.w64)) (List._∷_ (8, Rows.sc-here (Row.sInt Syntax.w64)) (List._∷_ (9, Rows.sc-here (Row.sInt Syntax.w64)) (List._∷_ (10, Rows.sslice (Referent.rtF (Referent.fInt Syntax.w8)) (Syntax.tyRef Syntax.erased Syntax.imm (Syntax.tyInt Syntax.w8)) 3) (List._∷_ (11, Rows.any-gone (Syntax.tyInt Syntax.w64)) (List._∷_ (12, Rows.any-gone (Syntax.tyInt Syntax.w64)) (List._∷_ (13, Rows.any-gone (Syntax.tyRef Syntax.erased Syntax.imm (Syntax.tyInt Syntax.w8))) (List._∷_ (14, Rows.any-gone Syntax.tyPtr) (List._∷_ (15, Rows.any-gone (Syntax.tyRef Syntax.erased Syntax.mut OfOutput.named)) List.[])))))))))))))))
 
 abbrev pub t11 : List.List Row.Entry
-t11 = List._∷_ (0, Rows.any-gone (Laws.mir)) (List._∷_ (1, Mut.mslice (OfOutput.row) (Syntax.tyRef (Syntax.named 0) Syntax.mut OfOutput.named) 0) (List._∷_ (2, Mut.mslice (OfStation.row) (Syntax.tyRef (Syntax.named 1) Syntax.mut OfStation.named) 1) (List._∷_ (3, Rows.mref (Referent.rtF (Referent.fInt Syntax.w64)) (Syntax.tyRef (Syntax.named 2) Syntax.mut (Syntax.tyInt Syntax.w64)) 2) (List._∷_ (4, Rows.sc-here (Row.sInt Syntax.w64)) (List._∷_ (5, Rows.sc-here (Row.sInt Syntax.w64)) (List._∷_ (6, Rows.sref (Array.Array (Referent.rtF (Referent.fInt Syntax.w8)) 49) (Syntax.tyRef (Syntax.named 3) Syntax.imm (Syntax.tyArray (Syntax.tyInt Syntax.w8) 49)) 3) (List._∷_ (7, Rows.sc-here (Row.sInt Syntax.w64)) (List._∷_ (8, Rows.sc-here (Row.sInt Syntax.w64)) (List._∷_ (9, Rows.sc-here (Row.sInt Syntax.w64)) (List._∷_ (10, Rows.sslice (Referent.rtF (Referent.fInt Syntax.w8)) (Syntax.tyRef Syntax.erased Syntax.imm (Syntax.tyInt Syntax.w8)) 3) (List._∷_ (11, Rows.any-gone (Syntax.tyInt Syntax.w64)) (List._∷_ (12, Rows.sc-here (Row.sInt Syntax.w64)) (List._∷_ (13, Rows.any-gone (Syntax.tyRef Syntax.erased Syntax.imm (Syntax.tyInt Syntax.w8))) (List._∷_ (14, Rows.any-gone Syntax.tyPtr) (List._∷_ (15, Rows.any-gone (Syntax.tyRef Syntax.erased Syntax.mut OfOutput.named)) List.[])))))))))))))))
+t11 = List._∷_ (0, Rows.any-gone (Laws.mir)) (List._∷_ (1, Mut.mslice (OfOutput.row) (Syntax.tyRef (Syntax.named 0) Syntax.mut OfOutput.named) 0) (List._∷_ (2, Mut.mslice (OfStation.row) (Syntax.tyRef (Syntax.named 1) Syntax.mut OfStation.named) 1) (List._∷_ (3, Rows.mref (OfPanelRecord.row) (Syntax.tyRef (Syntax.named 2) Syntax.mut OfPanelRecord.named) 2) (List._∷_ (4, Rows.sc-here (Row.sInt Syntax.w64)) (List._∷_ (5, Rows.sc-here (Row.sInt Syntax.w64)) (List._∷_ (6, Rows.sref (Array.Array (Referent.rtF (Referent.fInt Syntax.w8)) 49) (Syntax.tyRef (Syntax.named 3) Syntax.imm (Syntax.tyArray (Syntax.tyInt Syntax.w8) 49)) 3) (List._∷_ (7, Rows.sc-here (Row.sInt Syntax.w64)) (List._∷_ (8, Rows.sc-here (Row.sInt Syntax.w64)) (List._∷_ (9, Rows.sc-here (Row.sInt Syntax.w64)) (List._∷_ (10, Rows.sslice (Referent.rtF (Referent.fInt Syntax.w8)) (Syntax.tyRef Syntax.erased Syntax.imm (Syntax.tyInt Syntax.w8)) 3) (List._∷_ (11, Rows.any-gone (Syntax.tyInt Syntax.w64)) (List._∷_ (12, Rows.sc-here (Row.sInt Syntax.w64)) (List._∷_ (13, Rows.any-gone (Syntax.tyRef Syntax.erased Syntax.imm (Syntax.tyInt Syntax.w8))) (List._∷_ (14, Rows.any-gone Syntax.tyPtr) (List._∷_ (15, Rows.any-gone (Syntax.tyRef Syntax.erased Syntax.mut OfOutput.named)) List.[])))))))))))))))
 
 abbrev pub t12 : List.List Row.Entry
-t12 = List._∷_ (0, Rows.any-gone (Laws.mir)) (List._∷_ (1, Mut.mslice (OfOutput.row) (Syntax.tyRef (Syntax.named 0) Syntax.mut OfOutput.named) 0) (List._∷_ (2, Mut.mslice (OfStation.row) (Syntax.tyRef (Syntax.named 1) Syntax.mut OfStation.named) 1) (List._∷_ (3, Rows.mref (Referent.rtF (Referent.fInt Syntax.w64)) (Syntax.tyRef (Syntax.named 2) Syntax.mut (Syntax.tyInt Syntax.w64)) 2) (List._∷_ (4, Rows.sc-here (Row.sInt Syntax.w64)) (List._∷_ (5, Rows.sc-here (Row.sInt Syntax.w64)) (List._∷_ (6, Rows.sref (Array.Array (Referent.rtF (Referent.fInt Syntax.w8)) 49) (Syntax.tyRef (Syntax.named 3) Syntax.imm (Syntax.tyArray (Syntax.tyInt Syntax.w8) 49)) 3) (List._∷_ (7, Rows.sc-here (Row.sInt Syntax.w64)) (List._∷_ (8, Rows.sc-here (Row.sInt Syntax.w64)) (List._∷_ (9, Rows.sc-here (Row.sInt Syntax.w64)) (List._∷_ (10, Rows.sslice (Referent.rtF (Referent.fInt Syntax.w8)) (Syntax.tyRef Syntax.erased Syntax.imm (Syntax.tyInt Syntax.w8)) 3) (List._∷_ (11, Rows.sc-here (Row.sInt Syntax.w64)) (List._∷_ (12, Rows.sc-here (Row.sInt Syntax.w64)) (List._∷_ (13, Rows.any-gone (Syntax.tyRef Syntax.erased Syntax.imm (Syntax.tyInt Syntax.w8))) (List._∷_ (14, Rows.any-gone Syntax.tyPtr) (List._∷_ (15, Rows.any-gone (Syntax.tyRef Syntax.erased Syntax.mut OfOutput.named)) List.[])))))))))))))))
+t12 = List._∷_ (0, Rows.any-gone (Laws.mir)) (List._∷_ (1, Mut.mslice (OfOutput.row) (Syntax.tyRef (Syntax.named 0) Syntax.mut OfOutput.named) 0) (List._∷_ (2, Mut.mslice (OfStation.row) (Syntax.tyRef (Syntax.named 1) Syntax.mut OfStation.named) 1) (List._∷_ (3, Rows.mref (OfPanelRecord.row) (Syntax.tyRef (Syntax.named 2) Syntax.mut OfPanelRecord.named) 2) (List._∷_ (4, Rows.sc-here (Row.sInt Syntax.w64)) (List._∷_ (5, Rows.sc-here (Row.sInt Syntax.w64)) (List._∷_ (6, Rows.sref (Array.Array (Referent.rtF (Referent.fInt Syntax.w8)) 49) (Syntax.tyRef (Syntax.named 3) Syntax.imm (Syntax.tyArray (Syntax.tyInt Syntax.w8) 49)) 3) (List._∷_ (7, Rows.sc-here (Row.sInt Syntax.w64)) (List._∷_ (8, Rows.sc-here (Row.sInt Syntax.w64)) (List._∷_ (9, Rows.sc-here (Row.sInt Syntax.w64)) (List._∷_ (10, Rows.sslice (Referent.rtF (Referent.fInt Syntax.w8)) (Syntax.tyRef Syntax.erased Syntax.imm (Syntax.tyInt Syntax.w8)) 3) (List._∷_ (11, Rows.sc-here (Row.sInt Syntax.w64)) (List._∷_ (12, Rows.sc-here (Row.sInt Syntax.w64)) (List._∷_ (13, Rows.any-gone (Syntax.tyRef Syntax.erased Syntax.imm (Syntax.tyInt Syntax.w8))) (List._∷_ (14, Rows.any-gone Syntax.tyPtr) (List._∷_ (15, Rows.any-gone (Syntax.tyRef Syntax.erased Syntax.mut OfOutput.named)) List.[])))))))))))))))
 
 abbrev pub t13 : List.List Row.Entry
-t13 = List._∷_ (0, Rows.any-gone (Laws.mir)) (List._∷_ (1, Mut.mslice (OfOutput.row) (Syntax.tyRef (Syntax.named 0) Syntax.mut OfOutput.named) 0) (List._∷_ (2, Mut.mslice (OfStation.row) (Syntax.tyRef (Syntax.named 1) Syntax.mut OfStation.named) 1) (List._∷_ (3, Rows.mref (Referent.rtF (Referent.fInt Syntax.w64)) (Syntax.tyRef (Syntax.named 2) Syntax.mut (Syntax.tyInt Syntax.w64)) 2) (List._∷_ (4, Rows.sc-here (Row.sInt Syntax.w64)) (List._∷_ (5, Rows.sc-here (Row.sInt Syntax.w64)) (List._∷_ (6, Rows.sref (Array.Array (Referent.rtF (Referent.fInt Syntax.w8)) 49) (Syntax.tyRef (Syntax.named 3) Syntax.imm (Syntax.tyArray (Syntax.tyInt Syntax.w8) 49)) 3) (List._∷_ (7, Rows.sc-here (Row.sInt Syntax.w64)) (List._∷_ (8, Rows.sc-here (Row.sInt Syntax.w64)) (List._∷_ (9, Rows.sc-here (Row.sInt Syntax.w64)) (List._∷_ (10, Rows.sslice (Referent.rtF (Referent.fInt Syntax.w8)) (Syntax.tyRef Syntax.erased Syntax.imm (Syntax.tyInt Syntax.w8)) 3) (List._∷_ (11, Rows.sc-here (Row.sInt Syntax.w64)) (List._∷_ (12, Rows.any-gone (Syntax.tyInt Syntax.w64)) (List._∷_ (13, Rows.any-gone (Syntax.tyRef Syntax.erased Syntax.imm (Syntax.tyInt Syntax.w8))) (List._∷_ (14, Rows.any-gone Syntax.tyPtr) (List._∷_ (15, Rows.any-gone (Syntax.tyRef Syntax.erased Syntax.mut OfOutput.named)) List.[])))))))))))))))
+t13 = List._∷_ (0, Rows.any-gone (Laws.mir)) (List._∷_ (1, Mut.mslice (OfOutput.row) (Syntax.tyRef (Syntax.named 0) Syntax.mut OfOutput.named) 0) (List._∷_ (2, Mut.mslice (OfStation.row) (Syntax.tyRef (Syntax.named 1) Syntax.mut OfStation.named) 1) (List._∷_ (3, Rows.mref (OfPanelRecord.row) (Syntax.tyRef (Syntax.named 2) Syntax.mut OfPanelRecord.named) 2) (List._∷_ (4, Rows.sc-here (Row.sInt Syntax.w64)) (List._∷_ (5, Rows.sc-here (Row.sInt Syntax.w64)) (List._∷_ (6, Rows.sref (Array.Array (Referent.rtF (Referent.fInt Syntax.w8)) 49) (Syntax.tyRef (Syntax.named 3) Syntax.imm (Syntax.tyArray (Syntax.tyInt Syntax.w8) 49)) 3) (List._∷_ (7, Rows.sc-here (Row.sInt Syntax.w64)) (List._∷_ (8, Rows.sc-here (Row.sInt Syntax.w64)) (List._∷_ (9, Rows.sc-here (Row.sInt Syntax.w64)) (List._∷_ (10, Rows.sslice (Referent.rtF (Referent.fInt Syntax.w8)) (Syntax.tyRef Syntax.erased Syntax.imm (Syntax.tyInt Syntax.w8)) 3) (List._∷_ (11, Rows.sc-here (Row.sInt Syntax.w64)) (List._∷_ (12, Rows.any-gone (Syntax.tyInt Syntax.w64)) (List._∷_ (13, Rows.any-gone (Syntax.tyRef Syntax.erased Syntax.imm (Syntax.tyInt Syntax.w8))) (List._∷_ (14, Rows.any-gone Syntax.tyPtr) (List._∷_ (15, Rows.any-gone (Syntax.tyRef Syntax.erased Syntax.mut OfOutput.named)) List.[])))))))))))))))
 
 abbrev pub t14 : List.List Row.Entry
-t14 = List._∷_ (0, Rows.any-gone (Laws.mir)) (List._∷_ (1, Mut.mslice (OfOutput.row) (Syntax.tyRef (Syntax.named 0) Syntax.mut OfOutput.named) 0) (List._∷_ (2, Mut.mslice (OfStation.row) (Syntax.tyRef (Syntax.named 1) Syntax.mut OfStation.named) 1) (List._∷_ (3, Rows.mref (Referent.rtF (Referent.fInt Syntax.w64)) (Syntax.tyRef (Syntax.named 2) Syntax.mut (Syntax.tyInt Syntax.w64)) 2) (List._∷_ (4, Rows.sc-here (Row.sInt Syntax.w64)) (List._∷_ (5, Rows.sc-here (Row.sInt Syntax.w64)) (List._∷_ (6, Rows.sref (Array.Array (Referent.rtF (Referent.fInt Syntax.w8)) 49) (Syntax.tyRef (Syntax.named 3) Syntax.imm (Syntax.tyArray (Syntax.tyInt Syntax.w8) 49)) 3) (List._∷_ (7, Rows.sc-here (Row.sInt Syntax.w64)) (List._∷_ (8, Rows.sc-here (Row.sInt Syntax.w64)) (List._∷_ (9, Rows.sc-here (Row.sInt Syntax.w64)) (List._∷_ (10, Rows.sslice (Referent.rtF (Referent.fInt Syntax.w8)) (Syntax.tyRef Syntax.erased Syntax.imm (Syntax.tyInt Syntax.w8)) 3) (List._∷_ (11, Rows.sc-here (Row.sInt Syntax.w64)) (List._∷_ (12, Rows.any-gone (Syntax.tyInt Syntax.w64)) (List._∷_ (13, Rows.any-gone (Syntax.tyRef Syntax.erased Syntax.imm (Syntax.tyInt Syntax.w8))) (List._∷_ (14, Rows.sc-here Row.sPtr) (List._∷_ (15, Rows.any-gone (Syntax.tyRef Syntax.erased Syntax.mut OfOutput.named)) List.[])))))))))))))))
+t14 = List._∷_ (0, Rows.any-gone (Laws.mir)) (List._∷_ (1, Mut.mslice (OfOutput.row) (Syntax.tyRef (Syntax.named 0) Syntax.mut OfOutput.named) 0) (List._∷_ (2, Mut.mslice (OfStation.row) (Syntax.tyRef (Syntax.named 1) Syntax.mut OfStation.named) 1) (List._∷_ (3, Rows.mref (OfPanelRecord.row) (Syntax.tyRef (Syntax.named 2) Syntax.mut OfPanelRecord.named) 2) (List._∷_ (4, Rows.sc-here (Row.sInt Syntax.w64)) (List._∷_ (5, Rows.sc-here (Row.sInt Syntax.w64)) (List._∷_ (6, Rows.sref (Array.Array (Referent.rtF (Referent.fInt Syntax.w8)) 49) (Syntax.tyRef (Syntax.named 3) Syntax.imm (Syntax.tyArray (Syntax.tyInt Syntax.w8) 49)) 3) (List._∷_ (7, Rows.sc-here (Row.sInt Syntax.w64)) (List._∷_ (8, Rows.sc-here (Row.sInt Syntax.w64)) (List._∷_ (9, Rows.sc-here (Row.sInt Syntax.w64)) (List._∷_ (10, Rows.sslice (Referent.rtF (Referent.fInt Syntax.w8)) (Syntax.tyRef Syntax.erased Syntax.imm (Syntax.tyInt Syntax.w8)) 3) (List._∷_ (11, Rows.sc-here (Row.sInt Syntax.w64)) (List._∷_ (12, Rows.any-gone (Syntax.tyInt Syntax.w64)) (List._∷_ (13, Rows.any-gone (Syntax.tyRef Syntax.erased Syntax.imm (Syntax.tyInt Syntax.w8))) (List._∷_ (14, Rows.sc-here Row.sPtr) (List._∷_ (15, Rows.any-gone (Syntax.tyRef Syntax.erased Syntax.mut OfOutput.named)) List.[])))))))))))))))
 
 abbrev pub t15 : List.List Row.Entry
-t15 = List._∷_ (0, Rows.any-gone (Laws.mir)) (List._∷_ (1, Mut.mslice (OfOutput.row) (Syntax.tyRef (Syntax.named 0) Syntax.mut OfOutput.named) 0) (List._∷_ (2, Mut.mslice (OfStation.row) (Syntax.tyRef (Syntax.named 1) Syntax.mut OfStation.named) 1) (List._∷_ (3, Rows.mref (Referent.rtF (Referent.fInt Syntax.w64)) (Syntax.tyRef (Syntax.named 2) Syntax.mut (Syntax.tyInt Syntax.w64)) 2) (List._∷_ (4, Rows.sc-here (Row.sInt Syntax.w64)) (List._∷_ (5, Rows.sc-here (Row.sInt Syntax.w64)) (List._∷_ (6, Rows.sref (Array.Array (Referent.rtF (Referent.fInt Syntax.w8)) 49) (Syntax.tyRef (Syntax.named 3) Syntax.imm (Syntax.tyArray (Syntax.tyInt Syntax.w8) 49)) 3) (List._∷_ (7, Rows.sc-here (Row.sInt Syntax.w64)) (List._∷_ (8, Rows.sc-here (Row.sInt Syntax.w64)) (List._∷_ (9, Rows.sc-here (Row.sInt Syntax.w64)) (List._∷_ (10, Rows.sslice (Referent.rtF (Referent.fInt Syntax.w8)) (Syntax.tyRef Syntax.erased Syntax.imm (Syntax.tyInt Syntax.w8)) 3) (List._∷_ (11, Rows.sc-here (Row.sInt Syntax.w64)) (List._∷_ (12, Rows.sc-here (Row.sInt Syntax.w64)) (List._∷_ (13, Rows.any-gone (Syntax.tyRef Syntax.erased Syntax.imm (Syntax.tyInt Syntax.w8))) (List._∷_ (14, Rows.sc-here Row.sPtr) (List._∷_ (15, Rows.any-gone (Syntax.tyRef Syntax.erased Syntax.mut OfOutput.named)) List.[])))))))))))))))
+t15 = List._∷_ (0, Rows.any-gone (Laws.mir)) (List._∷_ (1, Mut.mslice (OfOutput.row) (Syntax.tyRef (Syntax.named 0) Syntax.mut OfOutput.named) 0) (List._∷_ (2, Mut.mslice (OfStation.row) (Syntax.tyRef (Syntax.named 1) Syntax.mut OfStation.named) 1) (List._∷_ (3, Rows.mref (OfPanelRecord.row) (Syntax.tyRef (Syntax.named 2) Syntax.mut OfPanelRecord.named) 2) (List._∷_ (4, Rows.sc-here (Row.sInt Syntax.w64)) (List._∷_ (5, Rows.sc-here (Row.sInt Syntax.w64)) (List._∷_ (6, Rows.sref (Array.Array (Referent.rtF (Referent.fInt Syntax.w8)) 49) (Syntax.tyRef (Syntax.named 3) Syntax.imm (Syntax.tyArray (Syntax.tyInt Syntax.w8) 49)) 3) (List._∷_ (7, Rows.sc-here (Row.sInt Syntax.w64)) (List._∷_ (8, Rows.sc-here (Row.sInt Syntax.w64)) (List._∷_ (9, Rows.sc-here (Row.sInt Syntax.w64)) (List._∷_ (10, Rows.sslice (Referent.rtF (Referent.fInt Syntax.w8)) (Syntax.tyRef Syntax.erased Syntax.imm (Syntax.tyInt Syntax.w8)) 3) (List._∷_ (11, Rows.sc-here (Row.sInt Syntax.w64)) (List._∷_ (12, Rows.sc-here (Row.sInt Syntax.w64)) (List._∷_ (13, Rows.any-gone (Syntax.tyRef Syntax.erased Syntax.imm (Syntax.tyInt Syntax.w8))) (List._∷_ (14, Rows.sc-here Row.sPtr) (List._∷_ (15, Rows.any-gone (Syntax.tyRef Syntax.erased Syntax.mut OfOutput.named)) List.[])))))))))))))))
 
 abbrev pub t16 : List.List Row.Entry
-t16 = List._∷_ (0, Rows.any-gone (Laws.mir)) (List._∷_ (1, PartMut.mslice-owedM (OfOutput.row) (Syntax.tyRef (Syntax.named 0) Syntax.mut OfOutput.named) 0 4 Row.off) (List._∷_ (2, Mut.mslice (OfStation.row) (Syntax.tyRef (Syntax.named 1) Syntax.mut OfStation.named) 1) (List._∷_ (3, Rows.mref (Referent.rtF (Referent.fInt Syntax.w64)) (Syntax.tyRef (Syntax.named 2) Syntax.mut (Syntax.tyInt Syntax.w64)) 2) (List._∷_ (4, Rows.sc-here (Row.sInt Syntax.w64)) (List._∷_ (5, Rows.sc-here (Row.sInt Syntax.w64)) (List._∷_ (6, Rows.sref (Array.Array (Referent.rtF (Referent.fInt Syntax.w8)) 49) (Syntax.tyRef (Syntax.named 3) Syntax.imm (Syntax.tyArray (Syntax.tyInt Syntax.w8) 49)) 3) (List._∷_ (7, Rows.sc-here (Row.sInt Syntax.w64)) (List._∷_ (8, Rows.sc-here (Row.sInt Syntax.w64)) (List._∷_ (9, Rows.sc-here (Row.sInt Syntax.w64)) (List._∷_ (10, Rows.sslice (Referent.rtF (Referent.fInt Syntax.w8)) (Syntax.tyRef Syntax.erased Syntax.imm (Syntax.tyInt Syntax.w8)) 3) (List._∷_ (11, Rows.sc-here (Row.sInt Syntax.w64)) (List._∷_ (12, Rows.sc-here (Row.sInt Syntax.w64)) (List._∷_ (13, Rows.any-gone (Syntax.tyRef Syntax.erased Syntax.imm (Syntax.tyInt Syntax.w8))) (List._∷_ (14, Rows.sc-here Row.sPtr) (List._∷_ (15, Relend.msptr (OfOutput.row) (Syntax.tyRef Syntax.erased Syntax.mut OfOutput.named) 4) List.[])))))))))))))))
+t16 = List._∷_ (0, Rows.any-gone (Laws.mir)) (List._∷_ (1, PartMut.mslice-owedM (OfOutput.row) (Syntax.tyRef (Syntax.named 0) Syntax.mut OfOutput.named) 0 4 Row.off) (List._∷_ (2, Mut.mslice (OfStation.row) (Syntax.tyRef (Syntax.named 1) Syntax.mut OfStation.named) 1) (List._∷_ (3, Rows.mref (OfPanelRecord.row) (Syntax.tyRef (Syntax.named 2) Syntax.mut OfPanelRecord.named) 2) (List._∷_ (4, Rows.sc-here (Row.sInt Syntax.w64)) (List._∷_ (5, Rows.sc-here (Row.sInt Syntax.w64)) (List._∷_ (6, Rows.sref (Array.Array (Referent.rtF (Referent.fInt Syntax.w8)) 49) (Syntax.tyRef (Syntax.named 3) Syntax.imm (Syntax.tyArray (Syntax.tyInt Syntax.w8) 49)) 3) (List._∷_ (7, Rows.sc-here (Row.sInt Syntax.w64)) (List._∷_ (8, Rows.sc-here (Row.sInt Syntax.w64)) (List._∷_ (9, Rows.sc-here (Row.sInt Syntax.w64)) (List._∷_ (10, Rows.sslice (Referent.rtF (Referent.fInt Syntax.w8)) (Syntax.tyRef Syntax.erased Syntax.imm (Syntax.tyInt Syntax.w8)) 3) (List._∷_ (11, Rows.sc-here (Row.sInt Syntax.w64)) (List._∷_ (12, Rows.sc-here (Row.sInt Syntax.w64)) (List._∷_ (13, Rows.any-gone (Syntax.tyRef Syntax.erased Syntax.imm (Syntax.tyInt Syntax.w8))) (List._∷_ (14, Rows.sc-here Row.sPtr) (List._∷_ (15, Relend.msptr (OfOutput.row) (Syntax.tyRef Syntax.erased Syntax.mut OfOutput.named) 4) List.[])))))))))))))))
 
 abbrev pub t17 : List.List Row.Entry
-t17 = List._∷_ (0, Rows.any-gone (Laws.mir)) (List._∷_ (1, PartMut.mslice-owedM (OfOutput.row) (Syntax.tyRef (Syntax.named 0) Syntax.mut OfOutput.named) 0 4 Row.off) (List._∷_ (2, Mut.mslice (OfStation.row) (Syntax.tyRef (Syntax.named 1) Syntax.mut OfStation.named) 1) (List._∷_ (3, Rows.mref (Referent.rtF (Referent.fInt Syntax.w64)) (Syntax.tyRef (Syntax.named 2) Syntax.mut (Syntax.tyInt Syntax.w64)) 2) (List._∷_ (4, Rows.sc-here (Row.sInt Syntax.w64)) (List._∷_ (5, Rows.sc-here (Row.sInt Syntax.w64)) (List._∷_ (6, Rows.sref (Array.Array (Referent.rtF (Referent.fInt Syntax.w8)) 49) (Syntax.tyRef (Syntax.named 3) Syntax.imm (Syntax.tyArray (Syntax.tyInt Syntax.w8) 49)) 3) (List._∷_ (7, Rows.sc-here (Row.sInt Syntax.w64)) (List._∷_ (8, Rows.sc-here (Row.sInt Syntax.w64)) (List._∷_ (9, Rows.sc-here (Row.sInt Syntax.w64)) (List._∷_ (10, Rows.sslice (Referent.rtF (Referent.fInt Syntax.w8)) (Syntax.tyRef Syntax.erased Syntax.imm (Syntax.tyInt Syntax.w8)) 3) (List._∷_ (11, Rows.sc-here (Row.sInt Syntax.w64)) (List._∷_ (12, Rows.sc-here (Row.sInt Syntax.w64)) (List._∷_ (13, Rows.any-gone (Syntax.tyRef Syntax.erased Syntax.imm (Syntax.tyInt Syntax.w8))) (List._∷_ (14, Rows.any-gone Syntax.tyPtr) (List._∷_ (15, Relend.msptr (OfOutput.row) (Syntax.tyRef Syntax.erased Syntax.mut OfOutput.named) 4) List.[])))))))))))))))
+t17 = List._∷_ (0, Rows.any-gone (Laws.mir)) (List._∷_ (1, PartMut.mslice-owedM (OfOutput.row) (Syntax.tyRef (Syntax.named 0) Syntax.mut OfOutput.named) 0 4 Row.off) (List._∷_ (2, Mut.mslice (OfStation.row) (Syntax.tyRef (Syntax.named 1) Syntax.mut OfStation.named) 1) (List._∷_ (3, Rows.mref (OfPanelRecord.row) (Syntax.tyRef (Syntax.named 2) Syntax.mut OfPanelRecord.named) 2) (List._∷_ (4, Rows.sc-here (Row.sInt Syntax.w64)) (List._∷_ (5, Rows.sc-here (Row.sInt Syntax.w64)) (List._∷_ (6, Rows.sref (Array.Array (Referent.rtF (Referent.fInt Syntax.w8)) 49) (Syntax.tyRef (Syntax.named 3) Syntax.imm (Syntax.tyArray (Syntax.tyInt Syntax.w8) 49)) 3) (List._∷_ (7, Rows.sc-here (Row.sInt Syntax.w64)) (List._∷_ (8, Rows.sc-here (Row.sInt Syntax.w64)) (List._∷_ (9, Rows.sc-here (Row.sInt Syntax.w64)) (List._∷_ (10, Rows.sslice (Referent.rtF (Referent.fInt Syntax.w8)) (Syntax.tyRef Syntax.erased Syntax.imm (Syntax.tyInt Syntax.w8)) 3) (List._∷_ (11, Rows.sc-here (Row.sInt Syntax.w64)) (List._∷_ (12, Rows.sc-here (Row.sInt Syntax.w64)) (List._∷_ (13, Rows.any-gone (Syntax.tyRef Syntax.erased Syntax.imm (Syntax.tyInt Syntax.w8))) (List._∷_ (14, Rows.any-gone Syntax.tyPtr) (List._∷_ (15, Relend.msptr (OfOutput.row) (Syntax.tyRef Syntax.erased Syntax.mut OfOutput.named) 4) List.[])))))))))))))))
 
 abbrev pub t18 : List.List Row.Entry
-t18 = List._∷_ (0, Rows.any-gone (Laws.mir)) (List._∷_ (1, PartMut.mslice-owedM (OfOutput.row) (Syntax.tyRef (Syntax.named 0) Syntax.mut OfOutput.named) 0 4 Row.off) (List._∷_ (2, Mut.mslice (OfStation.row) (Syntax.tyRef (Syntax.named 1) Syntax.mut OfStation.named) 1) (List._∷_ (3, Rows.mref (Referent.rtF (Referent.fInt Syntax.w64)) (Syntax.tyRef (Syntax.named 2) Syntax.mut (Syntax.tyInt Syntax.w64)) 2) (List._∷_ (4, Rows.sc-here (Row.sInt Syntax.w64)) (List._∷_ (5, Rows.sc-here (Row.sInt Syntax.w64)) (List._∷_ (6, Rows.sref (Array.Array (Referent.rtF (Referent.fInt Syntax.w8)) 49) (Syntax.tyRef (Syntax.named 3) Syntax.imm (Syntax.tyArray (Syntax.tyInt Syntax.w8) 49)) 3) (List._∷_ (7, Rows.sc-here (Row.sInt Syntax.w64)) (List._∷_ (8, Rows.sc-here (Row.sInt Syntax.w64)) (List._∷_ (9, Rows.sc-here (Row.sInt Syntax.w64)) (List._∷_ (10, Rows.sslice (Referent.rtF (Referent.fInt Syntax.w8)) (Syntax.tyRef Syntax.erased Syntax.imm (Syntax.tyInt Syntax.w8)) 3) (List._∷_ (11, Rows.sc-here (Row.sInt Syntax.w64)) (List._∷_ (12, Rows.sc-here (Row.sInt Syntax.w64)) (List._∷_ (13, Rows.any-gone (Syntax.tyRef Syntax.erased Syntax.imm (Syntax.tyInt Syntax.w8))) (List._∷_ (14, Rows.any-gone Syntax.tyPtr) (List._∷_ (15, Rows.any-gone (Syntax.tyRef Syntax.erased Syntax.mut OfOutput.named)) List.[])))))))))))))))
+t18 = List._∷_ (0, Rows.any-gone (Laws.mir)) (List._∷_ (1, PartMut.mslice-owedM (OfOutput.row) (Syntax.tyRef (Syntax.named 0) Syntax.mut OfOutput.named) 0 4 Row.off) (List._∷_ (2, Mut.mslice (OfStation.row) (Syntax.tyRef (Syntax.named 1) Syntax.mut OfStation.named) 1) (List._∷_ (3, Rows.mref (OfPanelRecord.row) (Syntax.tyRef (Syntax.named 2) Syntax.mut OfPanelRecord.named) 2) (List._∷_ (4, Rows.sc-here (Row.sInt Syntax.w64)) (List._∷_ (5, Rows.sc-here (Row.sInt Syntax.w64)) (List._∷_ (6, Rows.sref (Array.Array (Referent.rtF (Referent.fInt Syntax.w8)) 49) (Syntax.tyRef (Syntax.named 3) Syntax.imm (Syntax.tyArray (Syntax.tyInt Syntax.w8) 49)) 3) (List._∷_ (7, Rows.sc-here (Row.sInt Syntax.w64)) (List._∷_ (8, Rows.sc-here (Row.sInt Syntax.w64)) (List._∷_ (9, Rows.sc-here (Row.sInt Syntax.w64)) (List._∷_ (10, Rows.sslice (Referent.rtF (Referent.fInt Syntax.w8)) (Syntax.tyRef Syntax.erased Syntax.imm (Syntax.tyInt Syntax.w8)) 3) (List._∷_ (11, Rows.sc-here (Row.sInt Syntax.w64)) (List._∷_ (12, Rows.sc-here (Row.sInt Syntax.w64)) (List._∷_ (13, Rows.any-gone (Syntax.tyRef Syntax.erased Syntax.imm (Syntax.tyInt Syntax.w8))) (List._∷_ (14, Rows.any-gone Syntax.tyPtr) (List._∷_ (15, Rows.any-gone (Syntax.tyRef Syntax.erased Syntax.mut OfOutput.named)) List.[])))))))))))))))
 
 abbrev pub t19 : List.List Row.Entry
-t19 = List._∷_ (16, Mut.mslice (OfOutput.row) (Syntax.tyRef Syntax.erased Syntax.mut OfOutput.named) 4) (List._∷_ (17, Rows.any-gone Syntax.tyPtr) (List._∷_ (18, Rows.any-gone (Syntax.tyInt Syntax.w64)) (List._∷_ (19, Rows.any-gone (Syntax.tyRef Syntax.erased Syntax.mut OfStation.named)) (List._∷_ (20, Rows.any-gone (Syntax.tyStruct (List._∷_ 38 (List._∷_ 91 (List._∷_ 93 List.[]))) (Syntax.tcons (Syntax.tyRef Syntax.erased Syntax.mut OfStation.named) (Syntax.tcons (Syntax.tyInt Syntax.w64) Syntax.tnil)))) (List._∷_ (21, Rows.any-gone (Syntax.tyRef Syntax.erased Syntax.mut (Syntax.tyInt Syntax.w64))) (List._∷_ (22, Rows.any-gone Syntax.tyPtr) (List._∷_ (23, Rows.any-gone (Syntax.tyInt Syntax.w64)) (List._∷_ (24, Rows.any-gone (Syntax.tyRef Syntax.erased Syntax.imm (Syntax.tyInt Syntax.w8))) (List._∷_ (25, Rows.any-gone (Syntax.tyStruct (List._∷_ 38 (List._∷_ 91 (List._∷_ 93 List.[]))) (Syntax.tcons (Syntax.tyRef Syntax.erased Syntax.imm (Syntax.tyInt Syntax.w8)) (Syntax.tcons (Syntax.tyInt Syntax.w64) Syntax.tnil)))) List.[])))))))))
+t19 = List._∷_ (16, Mut.mslice (OfOutput.row) (Syntax.tyRef Syntax.erased Syntax.mut OfOutput.named) 4) (List._∷_ (17, Rows.any-gone Syntax.tyPtr) (List._∷_ (18, Rows.any-gone (Syntax.tyInt Syntax.w64)) (List._∷_ (19, Rows.any-gone (Syntax.tyRef Syntax.erased Syntax.mut OfStation.named)) (List._∷_ (20, Rows.any-gone (Syntax.tyStruct (List._∷_ 38 (List._∷_ 91 (List._∷_ 93 List.[]))) (Syntax.tcons (Syntax.tyRef Syntax.erased Syntax.mut OfStation.named) (Syntax.tcons (Syntax.tyInt Syntax.w64) Syntax.tnil)))) (List._∷_ (21, Rows.any-gone (Syntax.tyRef Syntax.erased Syntax.mut OfPanelRecord.named)) (List._∷_ (22, Rows.any-gone Syntax.tyPtr) (List._∷_ (23, Rows.any-gone (Syntax.tyInt Syntax.w64)) (List._∷_ (24, Rows.any-gone (Syntax.tyRef Syntax.erased Syntax.imm (Syntax.tyInt Syntax.w8))) (List._∷_ (25, Rows.any-gone (Syntax.tyStruct (List._∷_ 38 (List._∷_ 91 (List._∷_ 93 List.[]))) (Syntax.tcons (Syntax.tyRef Syntax.erased Syntax.imm (Syntax.tyInt Syntax.w8)) (Syntax.tcons (Syntax.tyInt Syntax.w64) Syntax.tnil)))) List.[])))))))))
 
 abbrev pub t20 : List.List Row.Entry
-t20 = List._∷_ (0, Rows.any-gone (Laws.mir)) (List._∷_ (1, PartMut.mslice-owedM (OfOutput.row) (Syntax.tyRef (Syntax.named 0) Syntax.mut OfOutput.named) 0 4 Row.off) (List._∷_ (2, Mut.mslice (OfStation.row) (Syntax.tyRef (Syntax.named 1) Syntax.mut OfStation.named) 1) (List._∷_ (3, Rows.mref (Referent.rtF (Referent.fInt Syntax.w64)) (Syntax.tyRef (Syntax.named 2) Syntax.mut (Syntax.tyInt Syntax.w64)) 2) (List._∷_ (4, Rows.sc-here (Row.sInt Syntax.w64)) (List._∷_ (5, Rows.sc-here (Row.sInt Syntax.w64)) (List._∷_ (6, Rows.sref (Array.Array (Referent.rtF (Referent.fInt Syntax.w8)) 49) (Syntax.tyRef (Syntax.named 3) Syntax.imm (Syntax.tyArray (Syntax.tyInt Syntax.w8) 49)) 3) (List._∷_ (7, Rows.sc-here (Row.sInt Syntax.w64)) (List._∷_ (8, Rows.sc-here (Row.sInt Syntax.w64)) (List._∷_ (9, Rows.sc-here (Row.sInt Syntax.w64)) (List._∷_ (10, Rows.sslice (Referent.rtF (Referent.fInt Syntax.w8)) (Syntax.tyRef Syntax.erased Syntax.imm (Syntax.tyInt Syntax.w8)) 3) (List._∷_ (11, Rows.sc-here (Row.sInt Syntax.w64)) (List._∷_ (12, Rows.any-gone (Syntax.tyInt Syntax.w64)) (List._∷_ (13, Rows.any-gone (Syntax.tyRef Syntax.erased Syntax.imm (Syntax.tyInt Syntax.w8))) (List._∷_ (14, Rows.any-gone Syntax.tyPtr) (List._∷_ (15, Rows.any-gone (Syntax.tyRef Syntax.erased Syntax.mut OfOutput.named)) List.[])))))))))))))))
+t20 = List._∷_ (0, Rows.any-gone (Laws.mir)) (List._∷_ (1, PartMut.mslice-owedM (OfOutput.row) (Syntax.tyRef (Syntax.named 0) Syntax.mut OfOutput.named) 0 4 Row.off) (List._∷_ (2, Mut.mslice (OfStation.row) (Syntax.tyRef (Syntax.named 1) Syntax.mut OfStation.named) 1) (List._∷_ (3, Rows.mref (OfPanelRecord.row) (Syntax.tyRef (Syntax.named 2) Syntax.mut OfPanelRecord.named) 2) (List._∷_ (4, Rows.sc-here (Row.sInt Syntax.w64)) (List._∷_ (5, Rows.sc-here (Row.sInt Syntax.w64)) (List._∷_ (6, Rows.sref (Array.Array (Referent.rtF (Referent.fInt Syntax.w8)) 49) (Syntax.tyRef (Syntax.named 3) Syntax.imm (Syntax.tyArray (Syntax.tyInt Syntax.w8) 49)) 3) (List._∷_ (7, Rows.sc-here (Row.sInt Syntax.w64)) (List._∷_ (8, Rows.sc-here (Row.sInt Syntax.w64)) (List._∷_ (9, Rows.sc-here (Row.sInt Syntax.w64)) (List._∷_ (10, Rows.sslice (Referent.rtF (Referent.fInt Syntax.w8)) (Syntax.tyRef Syntax.erased Syntax.imm (Syntax.tyInt Syntax.w8)) 3) (List._∷_ (11, Rows.sc-here (Row.sInt Syntax.w64)) (List._∷_ (12, Rows.any-gone (Syntax.tyInt Syntax.w64)) (List._∷_ (13, Rows.any-gone (Syntax.tyRef Syntax.erased Syntax.imm (Syntax.tyInt Syntax.w8))) (List._∷_ (14, Rows.any-gone Syntax.tyPtr) (List._∷_ (15, Rows.any-gone (Syntax.tyRef Syntax.erased Syntax.mut OfOutput.named)) List.[])))))))))))))))
 
 abbrev pub t21 : List.List Row.Entry
-t21 = List._∷_ (16, Mut.mslice (OfOutput.row) (Syntax.tyRef Syntax.erased Syntax.mut OfOutput.named) 4) (List._∷_ (17, Rows.sc-here Row.sPtr) (List._∷_ (18, Rows.any-gone (Syntax.tyInt Syntax.w64)) (List._∷_ (19, Rows.any-gone (Syntax.tyRef Syntax.erased Syntax.mut OfStation.named)) (List._∷_ (20, Rows.any-gone (Syntax.tyStruct (List._∷_ 38 (List._∷_ 91 (List._∷_ 93 List.[]))) (Syntax.tcons (Syntax.tyRef Syntax.erased Syntax.mut OfStation.named) (Syntax.tcons (Syntax.tyInt Syntax.w64) Syntax.tnil)))) (List._∷_ (21, Rows.any-gone (Syntax.tyRef Syntax.erased Syntax.mut (Syntax.tyInt Syntax.w64))) (List._∷_ (22, Rows.any-gone Syntax.tyPtr) (List._∷_ (23, Rows.any-gone (Syntax.tyInt Syntax.w64)) (List._∷_ (24, Rows.any-gone (Syntax.tyRef Syntax.erased Syntax.imm (Syntax.tyInt Syntax.w8))) (List._∷_ (25, Rows.any-gone (Syntax.tyStruct (List._∷_ 38 (List._∷_ 91 (List._∷_ 93 List.[]))) (Syntax.tcons (Syntax.tyRef Syntax.erased Syntax.imm (Syntax.tyInt Syntax.w8)) (Syntax.tcons (Syntax.tyInt Syntax.w64) Syntax.tnil)))) List.[])))))))))
+t21 = List._∷_ (16, Mut.mslice (OfOutput.row) (Syntax.tyRef Syntax.erased Syntax.mut OfOutput.named) 4) (List._∷_ (17, Rows.sc-here Row.sPtr) (List._∷_ (18, Rows.any-gone (Syntax.tyInt Syntax.w64)) (List._∷_ (19, Rows.any-gone (Syntax.tyRef Syntax.erased Syntax.mut OfStation.named)) (List._∷_ (20, Rows.any-gone (Syntax.tyStruct (List._∷_ 38 (List._∷_ 91 (List._∷_ 93 List.[]))) (Syntax.tcons (Syntax.tyRef Syntax.erased Syntax.mut OfStation.named) (Syntax.tcons (Syntax.tyInt Syntax.w64) Syntax.tnil)))) (List._∷_ (21, Rows.any-gone (Syntax.tyRef Syntax.erased Syntax.mut OfPanelRecord.named)) (List._∷_ (22, Rows.any-gone Syntax.tyPtr) (List._∷_ (23, Rows.any-gone (Syntax.tyInt Syntax.w64)) (List._∷_ (24, Rows.any-gone (Syntax.tyRef Syntax.erased Syntax.imm (Syntax.tyInt Syntax.w8))) (List._∷_ (25, Rows.any-gone (Syntax.tyStruct (List._∷_ 38 (List._∷_ 91 (List._∷_ 93 List.[]))) (Syntax.tcons (Syntax.tyRef Syntax.erased Syntax.imm (Syntax.tyInt Syntax.w8)) (Syntax.tcons (Syntax.tyInt Syntax.w64) Syntax.tnil)))) List.[])))))))))
 
 abbrev pub t22 : List.List Row.Entry
-t22 = List._∷_ (16, Mut.mslice (OfOutput.row) (Syntax.tyRef Syntax.erased Syntax.mut OfOutput.named) 4) (List._∷_ (17, Rows.sc-here Row.sPtr) (List._∷_ (18, Rows.sc-here (Row.sInt Syntax.w64)) (List._∷_ (19, Rows.any-gone (Syntax.tyRef Syntax.erased Syntax.mut OfStation.named)) (List._∷_ (20, Rows.any-gone (Syntax.tyStruct (List._∷_ 38 (List._∷_ 91 (List._∷_ 93 List.[]))) (Syntax.tcons (Syntax.tyRef Syntax.erased Syntax.mut OfStation.named) (Syntax.tcons (Syntax.tyInt Syntax.w64) Syntax.tnil)))) (List._∷_ (21, Rows.any-gone (Syntax.tyRef Syntax.erased Syntax.mut (Syntax.tyInt Syntax.w64))) (List._∷_ (22, Rows.any-gone Syntax.tyPtr) (List._∷_ (23, Rows.any-gone (Syntax.tyInt Syntax.w64)) (List._∷_ (24, Rows.any-gone (Syntax.tyRef Syntax.erased Syntax.imm (Syntax.tyInt Syntax.w8))) (List._∷_ (25, Rows.any-gone (Syntax.tyStruct (List._∷_ 38 (List._∷_ 91 (List._∷_ 93 List.[]))) (Syntax.tcons (Syntax.tyRef Syntax.erased Syntax.imm (Syntax.tyInt Syntax.w8)) (Syntax.tcons (Syntax.tyInt Syntax.w64) Syntax.tnil)))) List.[])))))))))
+t22 = List._∷_ (16, Mut.mslice (OfOutput.row) (Syntax.tyRef Syntax.erased Syntax.mut OfOutput.named) 4) (List._∷_ (17, Rows.sc-here Row.sPtr) (List._∷_ (18, Rows.sc-here (Row.sInt Syntax.w64)) (List._∷_ (19, Rows.any-gone (Syntax.tyRef Syntax.erased Syntax.mut OfStation.named)) (List._∷_ (20, Rows.any-gone (Syntax.tyStruct (List._∷_ 38 (List._∷_ 91 (List._∷_ 93 List.[]))) (Syntax.tcons (Syntax.tyRef Syntax.erased Syntax.mut OfStation.named) (Syntax.tcons (Syntax.tyInt Syntax.w64) Syntax.tnil)))) (List._∷_ (21, Rows.any-gone (Syntax.tyRef Syntax.erased Syntax.mut OfPanelRecord.named)) (List._∷_ (22, Rows.any-gone Syntax.tyPtr) (List._∷_ (23, Rows.any-gone (Syntax.tyInt Syntax.w64)) (List._∷_ (24, Rows.any-gone (Syntax.tyRef Syntax.erased Syntax.imm (Syntax.tyInt Syntax.w8))) (List._∷_ (25, Rows.any-gone (Syntax.tyStruct (List._∷_ 38 (List._∷_ 91 (List._∷_ 93 List.[]))) (Syntax.tcons (Syntax.tyRef Syntax.erased Syntax.imm (Syntax.tyInt Syntax.w8)) (Syntax.tcons (Syntax.tyInt Syntax.w64) Syntax.tnil)))) List.[])))))))))
 
 abbrev pub t23 : List.List Row.Entry
-t23 = List._∷_ (0, Rows.any-gone (Laws.mir)) (List._∷_ (1, PartMut.mslice-owedM (OfOutput.row) (Syntax.tyRef (Syntax.named 0) Syntax.mut OfOutput.named) 0 4 Row.off) (List._∷_ (2, PartMut.mslice-owedM (OfStation.row) (Syntax.tyRef (Syntax.named 1) Syntax.mut OfStation.named) 1 5 Row.off) (List._∷_ (3, Rows.mref (Referent.rtF (Referent.fInt Syntax.w64)) (Syntax.tyRef (Syntax.named 2) Syntax.mut (Syntax.tyInt Syntax.w64)) 2) (List._∷_ (4, Rows.sc-here (Row.sInt Syntax.w64)) (List._∷_ (5, Rows.sc-here (Row.sInt Syntax.w64)) (List._∷_ (6, Rows.sref (Array.Array (Referent.rtF (Referent.fInt Syntax.w8)) 49) (Syntax.tyRef (Syntax.named 3) Syntax.imm (Syntax.tyArray (Syntax.tyInt Syntax.w8) 49)) 3) (List._∷_ (7, Rows.sc-here (Row.sInt Syntax.w64)) (List._∷_ (8, Rows.sc-here (Row.sInt Syntax.w64)) (List._∷_ (9, Rows.sc-here (Row.sInt Syntax.w64)) (List._∷_ (10, Rows.sslice (Referent.rtF (Referent.fInt Syntax.w8)) (Syntax.tyRef Syntax.erased Syntax.imm (Syntax.tyInt Syntax.w8)) 3) (List._∷_ (11, Rows.sc-here (Row.sInt Syntax.w64)) (List._∷_ (12, Rows.any-gone (Syntax.tyInt Syntax.w64)) (List._∷_ (13, Rows.any-gone (Syntax.tyRef Syntax.erased Syntax.imm (Syntax.tyInt Syntax.w8))) (List._∷_ (14, Rows.any-gone Syntax.tyPtr) (List._∷_ (15, Rows.any-gone (Syntax.tyRef Syntax.erased Syntax.mut OfOutput.named)) List.[])))))))))))))))
+t23 = List._∷_ (0, Rows.any-gone (Laws.mir)) (List._∷_ (1, PartMut.mslice-owedM (OfOutput.row) (Syntax.tyRef (Syntax.named 0) Syntax.mut OfOutput.named) 0 4 Row.off) (List._∷_ (2, PartMut.mslice-owedM (OfStation.row) (Syntax.tyRef (Syntax.named 1) Syntax.mut OfStation.named) 1 5 Row.off) (List._∷_ (3, Rows.mref (OfPanelRecord.row) (Syntax.tyRef (Syntax.named 2) Syntax.mut OfPanelRecord.named) 2) (List._∷_ (4, Rows.sc-here (Row.sInt Syntax.w64)) (List._∷_ (5, Rows.sc-here (Row.sInt Syntax.w64)) (List._∷_ (6, Rows.sref (Array.Array (Referent.rtF (Referent.fInt Syntax.w8)) 49) (Syntax.tyRef (Syntax.named 3) Syntax.imm (Syntax.tyArray (Syntax.tyInt Syntax.w8) 49)) 3) (List._∷_ (7, Rows.sc-here (Row.sInt Syntax.w64)) (List._∷_ (8, Rows.sc-here (Row.sInt Syntax.w64)) (List._∷_ (9, Rows.sc-here (Row.sInt Syntax.w64)) (List._∷_ (10, Rows.sslice (Referent.rtF (Referent.fInt Syntax.w8)) (Syntax.tyRef Syntax.erased Syntax.imm (Syntax.tyInt Syntax.w8)) 3) (List._∷_ (11, Rows.sc-here (Row.sInt Syntax.w64)) (List._∷_ (12, Rows.any-gone (Syntax.tyInt Syntax.w64)) (List._∷_ (13, Rows.any-gone (Syntax.tyRef Syntax.erased Syntax.imm (Syntax.tyInt Syntax.w8))) (List._∷_ (14, Rows.any-gone Syntax.tyPtr) (List._∷_ (15, Rows.any-gone (Syntax.tyRef Syntax.erased Syntax.mut OfOutput.named)) List.[])))))))))))))))
 
 abbrev pub t24 : List.List Row.Entry
-t24 = List._∷_ (16, Mut.mslice (OfOutput.row) (Syntax.tyRef Syntax.erased Syntax.mut OfOutput.named) 4) (List._∷_ (17, Rows.sc-here Row.sPtr) (List._∷_ (18, Rows.sc-here (Row.sInt Syntax.w64)) (List._∷_ (19, Relend.msptr (OfStation.row) (Syntax.tyRef Syntax.erased Syntax.mut OfStation.named) 5) (List._∷_ (20, Rows.any-gone (Syntax.tyStruct (List._∷_ 38 (List._∷_ 91 (List._∷_ 93 List.[]))) (Syntax.tcons (Syntax.tyRef Syntax.erased Syntax.mut OfStation.named) (Syntax.tcons (Syntax.tyInt Syntax.w64) Syntax.tnil)))) (List._∷_ (21, Rows.any-gone (Syntax.tyRef Syntax.erased Syntax.mut (Syntax.tyInt Syntax.w64))) (List._∷_ (22, Rows.any-gone Syntax.tyPtr) (List._∷_ (23, Rows.any-gone (Syntax.tyInt Syntax.w64)) (List._∷_ (24, Rows.any-gone (Syntax.tyRef Syntax.erased Syntax.imm (Syntax.tyInt Syntax.w8))) (List._∷_ (25, Rows.any-gone (Syntax.tyStruct (List._∷_ 38 (List._∷_ 91 (List._∷_ 93 List.[]))) (Syntax.tcons (Syntax.tyRef Syntax.erased Syntax.imm (Syntax.tyInt Syntax.w8)) (Syntax.tcons (Syntax.tyInt Syntax.w64) Syntax.tnil)))) List.[])))))))))
+t24 = List._∷_ (16, Mut.mslice (OfOutput.row) (Syntax.tyRef Syntax.erased Syntax.mut OfOutput.named) 4) (List._∷_ (17, Rows.sc-here Row.sPtr) (List._∷_ (18, Rows.sc-here (Row.sInt Syntax.w64)) (List._∷_ (19, Relend.msptr (OfStation.row) (Syntax.tyRef Syntax.erased Syntax.mut OfStation.named) 5) (List._∷_ (20, Rows.any-gone (Syntax.tyStruct (List._∷_ 38 (List._∷_ 91 (List._∷_ 93 List.[]))) (Syntax.tcons (Syntax.tyRef Syntax.erased Syntax.mut OfStation.named) (Syntax.tcons (Syntax.tyInt Syntax.w64) Syntax.tnil)))) (List._∷_ (21, Rows.any-gone (Syntax.tyRef Syntax.erased Syntax.mut OfPanelRecord.named)) (List._∷_ (22, Rows.any-gone Syntax.tyPtr) (List._∷_ (23, Rows.any-gone (Syntax.tyInt Syntax.w64)) (List._∷_ (24, Rows.any-gone (Syntax.tyRef Syntax.erased Syntax.imm (Syntax.tyInt Syntax.w8))) (List._∷_ (25, Rows.any-gone (Syntax.tyStruct (List._∷_ 38 (List._∷_ 91 (List._∷_ 93 List.[]))) (Syntax.tcons (Syntax.tyRef Syntax.erased Syntax.imm (Syntax.tyInt Syntax.w8)) (Syntax.tcons (Syntax.tyInt Syntax.w64) Syntax.tnil)))) List.[])))))))))
 
 abbrev pub t25 : List.List Row.Entry
-t25 = List._∷_ (16, Mut.mslice (OfOutput.row) (Syntax.tyRef Syntax.erased Syntax.mut OfOutput.named) 4) (List._∷_ (17, Rows.any-gone Syntax.tyPtr) (List._∷_ (18, Rows.sc-here (Row.sInt Syntax.w64)) (List._∷_ (19, Relend.msptr (OfStation.row) (Syntax.tyRef Syntax.erased Syntax.mut OfStation.named) 5) (List._∷_ (20, Rows.any-gone (Syntax.tyStruct (List._∷_ 38 (List._∷_ 91 (List._∷_ 93 List.[]))) (Syntax.tcons (Syntax.tyRef Syntax.erased Syntax.mut OfStation.named) (Syntax.tcons (Syntax.tyInt Syntax.w64) Syntax.tnil)))) (List._∷_ (21, Rows.any-gone (Syntax.tyRef Syntax.erased Syntax.mut (Syntax.tyInt Syntax.w64))) (List._∷_ (22, Rows.any-gone Syntax.tyPtr) (List._∷_ (23, Rows.any-gone (Syntax.tyInt Syntax.w64)) (List._∷_ (24, Rows.any-gone (Syntax.tyRef Syntax.erased Syntax.imm (Syntax.tyInt Syntax.w8))) (List._∷_ (25, Rows.any-gone (Syntax.tyStruct (List._∷_ 38 (List._∷_ 91 (List._∷_ 93 List.[]))) (Syntax.tcons (Syntax.tyRef Syntax.erased Syntax.imm (Syntax.tyInt Syntax.w8)) (Syntax.tcons (Syntax.tyInt Syntax.w64) Syntax.tnil)))) List.[])))))))))
+t25 = List._∷_ (16, Mut.mslice (OfOutput.row) (Syntax.tyRef Syntax.erased Syntax.mut OfOutput.named) 4) (List._∷_ (17, Rows.any-gone Syntax.tyPtr) (List._∷_ (18, Rows.sc-here (Row.sInt Syntax.w64)) (List._∷_ (19, Relend.msptr (OfStation.row) (Syntax.tyRef Syntax.erased Syntax.mut OfStation.named) 5) (List._∷_ (20, Rows.any-gone (Syntax.tyStruct (List._∷_ 38 (List._∷_ 91 (List._∷_ 93 List.[]))) (Syntax.tcons (Syntax.tyRef Syntax.erased Syntax.mut OfStation.named) (Syntax.tcons (Syntax.tyInt Syntax.w64) Syntax.tnil)))) (List._∷_ (21, Rows.any-gone (Syntax.tyRef Syntax.erased Syntax.mut OfPanelRecord.named)) (List._∷_ (22, Rows.any-gone Syntax.tyPtr) (List._∷_ (23, Rows.any-gone (Syntax.tyInt Syntax.w64)) (List._∷_ (24, Rows.any-gone (Syntax.tyRef Syntax.erased Syntax.imm (Syntax.tyInt Syntax.w8))) (List._∷_ (25, Rows.any-gone (Syntax.tyStruct (List._∷_ 38 (List._∷_ 91 (List._∷_ 93 List.[]))) (Syntax.tcons (Syntax.tyRef Syntax.erased Syntax.imm (Syntax.tyInt Syntax.w8)) (Syntax.tcons (Syntax.tyInt Syntax.w64) Syntax.tnil)))) List.[])))))))))
 
 abbrev pub t26 : List.List Row.Entry
-t26 = List._∷_ (16, Mut.mslice (OfOutput.row) (Syntax.tyRef Syntax.erased Syntax.mut OfOutput.named) 4) (List._∷_ (17, Rows.any-gone Syntax.tyPtr) (List._∷_ (18, Rows.sc-here (Row.sInt Syntax.w64)) (List._∷_ (19, Rows.any-gone (Syntax.tyRef Syntax.erased Syntax.mut OfStation.named)) (List._∷_ (20, Mut.mslice (OfStation.row) (Syntax.tyRef Syntax.erased Syntax.mut OfStation.named) 5) (List._∷_ (21, Rows.any-gone (Syntax.tyRef Syntax.erased Syntax.mut (Syntax.tyInt Syntax.w64))) (List._∷_ (22, Rows.any-gone Syntax.tyPtr) (List._∷_ (23, Rows.any-gone (Syntax.tyInt Syntax.w64)) (List._∷_ (24, Rows.any-gone (Syntax.tyRef Syntax.erased Syntax.imm (Syntax.tyInt Syntax.w8))) (List._∷_ (25, Rows.any-gone (Syntax.tyStruct (List._∷_ 38 (List._∷_ 91 (List._∷_ 93 List.[]))) (Syntax.tcons (Syntax.tyRef Syntax.erased Syntax.imm (Syntax.tyInt Syntax.w8)) (Syntax.tcons (Syntax.tyInt Syntax.w64) Syntax.tnil)))) List.[])))))))))
+t26 = List._∷_ (16, Mut.mslice (OfOutput.row) (Syntax.tyRef Syntax.erased Syntax.mut OfOutput.named) 4) (List._∷_ (17, Rows.any-gone Syntax.tyPtr) (List._∷_ (18, Rows.sc-here (Row.sInt Syntax.w64)) (List._∷_ (19, Rows.any-gone (Syntax.tyRef Syntax.erased Syntax.mut OfStation.named)) (List._∷_ (20, Mut.mslice (OfStation.row) (Syntax.tyRef Syntax.erased Syntax.mut OfStation.named) 5) (List._∷_ (21, Rows.any-gone (Syntax.tyRef Syntax.erased Syntax.mut OfPanelRecord.named)) (List._∷_ (22, Rows.any-gone Syntax.tyPtr) (List._∷_ (23, Rows.any-gone (Syntax.tyInt Syntax.w64)) (List._∷_ (24, Rows.any-gone (Syntax.tyRef Syntax.erased Syntax.imm (Syntax.tyInt Syntax.w8))) (List._∷_ (25, Rows.any-gone (Syntax.tyStruct (List._∷_ 38 (List._∷_ 91 (List._∷_ 93 List.[]))) (Syntax.tcons (Syntax.tyRef Syntax.erased Syntax.imm (Syntax.tyInt Syntax.w8)) (Syntax.tcons (Syntax.tyInt Syntax.w64) Syntax.tnil)))) List.[])))))))))
 
 abbrev pub t27 : List.List Row.Entry
-t27 = List._∷_ (16, Mut.mslice (OfOutput.row) (Syntax.tyRef Syntax.erased Syntax.mut OfOutput.named) 4) (List._∷_ (17, Rows.any-gone Syntax.tyPtr) (List._∷_ (18, Rows.any-gone (Syntax.tyInt Syntax.w64)) (List._∷_ (19, Rows.any-gone (Syntax.tyRef Syntax.erased Syntax.mut OfStation.named)) (List._∷_ (20, Mut.mslice (OfStation.row) (Syntax.tyRef Syntax.erased Syntax.mut OfStation.named) 5) (List._∷_ (21, Rows.any-gone (Syntax.tyRef Syntax.erased Syntax.mut (Syntax.tyInt Syntax.w64))) (List._∷_ (22, Rows.any-gone Syntax.tyPtr) (List._∷_ (23, Rows.any-gone (Syntax.tyInt Syntax.w64)) (List._∷_ (24, Rows.any-gone (Syntax.tyRef Syntax.erased Syntax.imm (Syntax.tyInt Syntax.w8))) (List._∷_ (25, Rows.any-gone (Syntax.tyStruct (List._∷_ 38 (List._∷_ 91 (List._∷_ 93 List.[]))) (Syntax.tcons (Syntax.tyRef Syntax.erased Syntax.imm (Syntax.tyInt Syntax.w8)) (Syntax.tcons (Syntax.tyInt Syntax.w64) Syntax.tnil)))) List.[])))))))))
+t27 = List._∷_ (16, Mut.mslice (OfOutput.row) (Syntax.tyRef Syntax.erased Syntax.mut OfOutput.named) 4) (List._∷_ (17, Rows.any-gone Syntax.tyPtr) (List._∷_ (18, Rows.any-gone (Syntax.tyInt Syntax.w64)) (List._∷_ (19, Rows.any-gone (Syntax.tyRef Syntax.erased Syntax.mut OfStation.named)) (List._∷_ (20, Mut.mslice (OfStation.row) (Syntax.tyRef Syntax.erased Syntax.mut OfStation.named) 5) (List._∷_ (21, Rows.any-gone (Syntax.tyRef Syntax.erased Syntax.mut OfPanelRecord.named)) (List._∷_ (22, Rows.any-gone Syntax.tyPtr) (List._∷_ (23, Rows.any-gone (Syntax.tyInt Syntax.w64)) (List._∷_ (24, Rows.any-gone (Syntax.tyRef Syntax.erased Syntax.imm (Syntax.tyInt Syntax.w8))) (List._∷_ (25, Rows.any-gone (Syntax.tyStruct (List._∷_ 38 (List._∷_ 91 (List._∷_ 93 List.[]))) (Syntax.tcons (Syntax.tyRef Syntax.erased Syntax.imm (Syntax.tyInt Syntax.w8)) (Syntax.tcons (Syntax.tyInt Syntax.w64) Syntax.tnil)))) List.[])))))))))
 
 abbrev pub t28 : List.List Row.Entry
-t28 = List._∷_ (0, Rows.any-gone (Laws.mir)) (List._∷_ (1, PartMut.mslice-owedM (OfOutput.row) (Syntax.tyRef (Syntax.named 0) Syntax.mut OfOutput.named) 0 4 Row.off) (List._∷_ (2, PartMut.mslice-owedM (OfStation.row) (Syntax.tyRef (Syntax.named 1) Syntax.mut OfStation.named) 1 5 Row.off) (List._∷_ (3, Rows.mref-owed (Referent.rtF (Referent.fInt Syntax.w64)) (Syntax.tyRef (Syntax.named 2) Syntax.mut (Syntax.tyInt Syntax.w64)) 2 6 Row.off) (List._∷_ (4, Rows.sc-here (Row.sInt Syntax.w64)) (List._∷_ (5, Rows.sc-here (Row.sInt Syntax.w64)) (List._∷_ (6, Rows.sref (Array.Array (Referent.rtF (Referent.fInt Syntax.w8)) 49) (Syntax.tyRef (Syntax.named 3) Syntax.imm (Syntax.tyArray (Syntax.tyInt Syntax.w8) 49)) 3) (List._∷_ (7, Rows.sc-here (Row.sInt Syntax.w64)) (List._∷_ (8, Rows.sc-here (Row.sInt Syntax.w64)) (List._∷_ (9, Rows.sc-here (Row.sInt Syntax.w64)) (List._∷_ (10, Rows.sslice (Referent.rtF (Referent.fInt Syntax.w8)) (Syntax.tyRef Syntax.erased Syntax.imm (Syntax.tyInt Syntax.w8)) 3) (List._∷_ (11, Rows.sc-here (Row.sInt Syntax.w64)) (List._∷_ (12, Rows.any-gone (Syntax.tyInt Syntax.w64)) (List._∷_ (13, Rows.any-gone (Syntax.tyRef Syntax.erased Syntax.imm (Syntax.tyInt Syntax.w8))) (List._∷_ (14, Rows.any-gone Syntax.tyPtr) (List._∷_ (15, Rows.any-gone (Syntax.tyRef Syntax.erased Syntax.mut OfOutput.named)) List.[])))))))))))))))
+t28 = List._∷_ (0, Rows.any-gone (Laws.mir)) (List._∷_ (1, PartMut.mslice-owedM (OfOutput.row) (Syntax.tyRef (Syntax.named 0) Syntax.mut OfOutput.named) 0 4 Row.off) (List._∷_ (2, PartMut.mslice-owedM (OfStation.row) (Syntax.tyRef (Syntax.named 1) Syntax.mut OfStation.named) 1 5 Row.off) (List._∷_ (3, Rows.mref-owed (OfPanelRecord.row) (Syntax.tyRef (Syntax.named 2) Syntax.mut OfPanelRecord.named) 2 6 Row.off) (List._∷_ (4, Rows.sc-here (Row.sInt Syntax.w64)) (List._∷_ (5, Rows.sc-here (Row.sInt Syntax.w64)) (List._∷_ (6, Rows.sref (Array.Array (Referent.rtF (Referent.fInt Syntax.w8)) 49) (Syntax.tyRef (Syntax.named 3) Syntax.imm (Syntax.tyArray (Syntax.tyInt Syntax.w8) 49)) 3) (List._∷_ (7, Rows.sc-here (Row.sInt Syntax.w64)) (List._∷_ (8, Rows.sc-here (Row.sInt Syntax.w64)) (List._∷_ (9, Rows.sc-here (Row.sInt Syntax.w64)) (List._∷_ (10, Rows.sslice (Referent.rtF (Referent.fInt Syntax.w8)) (Syntax.tyRef Syntax.erased Syntax.imm (Syntax.tyInt Syntax.w8)) 3) (List._∷_ (11, Rows.sc-here (Row.sInt Syntax.w64)) (List._∷_ (12, Rows.any-gone (Syntax.tyInt Syntax.w64)) (List._∷_ (13, Rows.any-gone (Syntax.tyRef Syntax.erased Syntax.imm (Syntax.tyInt Syntax.w8))) (List._∷_ (14, Rows.any-gone Syntax.tyPtr) (List._∷_ (15, Rows.any-gone (Syntax.tyRef Syntax.erased Syntax.mut OfOutput.named)) List.[])))))))))))))))
 
 abbrev pub t29 : List.List Row.Entry
-t29 = List._∷_ (16, Mut.mslice (OfOutput.row) (Syntax.tyRef Syntax.erased Syntax.mut OfOutput.named) 4) (List._∷_ (17, Rows.any-gone Syntax.tyPtr) (List._∷_ (18, Rows.any-gone (Syntax.tyInt Syntax.w64)) (List._∷_ (19, Rows.any-gone (Syntax.tyRef Syntax.erased Syntax.mut OfStation.named)) (List._∷_ (20, Mut.mslice (OfStation.row) (Syntax.tyRef Syntax.erased Syntax.mut OfStation.named) 5) (List._∷_ (21, Rows.mref (Referent.rtF (Referent.fInt Syntax.w64)) (Syntax.tyRef Syntax.erased Syntax.mut (Syntax.tyInt Syntax.w64)) 6) (List._∷_ (22, Rows.any-gone Syntax.tyPtr) (List._∷_ (23, Rows.any-gone (Syntax.tyInt Syntax.w64)) (List._∷_ (24, Rows.any-gone (Syntax.tyRef Syntax.erased Syntax.imm (Syntax.tyInt Syntax.w8))) (List._∷_ (25, Rows.any-gone (Syntax.tyStruct (List._∷_ 38 (List._∷_ 91 (List._∷_ 93 List.[]))) (Syntax.tcons (Syntax.tyRef Syntax.erased Syntax.imm (Syntax.tyInt Syntax.w8)) (Syntax.tcons (Syntax.tyInt Syntax.w64) Syntax.tnil)))) List.[])))))))))
+t29 = List._∷_ (16, Mut.mslice (OfOutput.row) (Syntax.tyRef Syntax.erased Syntax.mut OfOutput.named) 4) (List._∷_ (17, Rows.any-gone Syntax.tyPtr) (List._∷_ (18, Rows.any-gone (Syntax.tyInt Syntax.w64)) (List._∷_ (19, Rows.any-gone (Syntax.tyRef Syntax.erased Syntax.mut OfStation.named)) (List._∷_ (20, Mut.mslice (OfStation.row) (Syntax.tyRef Syntax.erased Syntax.mut OfStation.named) 5) (List._∷_ (21, Rows.mref (OfPanelRecord.row) (Syntax.tyRef Syntax.erased Syntax.mut OfPanelRecord.named) 6) (List._∷_ (22, Rows.any-gone Syntax.tyPtr) (List._∷_ (23, Rows.any-gone (Syntax.tyInt Syntax.w64)) (List._∷_ (24, Rows.any-gone (Syntax.tyRef Syntax.erased Syntax.imm (Syntax.tyInt Syntax.w8))) (List._∷_ (25, Rows.any-gone (Syntax.tyStruct (List._∷_ 38 (List._∷_ 91 (List._∷_ 93 List.[]))) (Syntax.tcons (Syntax.tyRef Syntax.erased Syntax.imm (Syntax.tyInt Syntax.w8)) (Syntax.tcons (Syntax.tyInt Syntax.w64) Syntax.tnil)))) List.[])))))))))
 
 abbrev pub t30 : List.List Row.Entry
-t30 = List._∷_ (16, Mut.mslice (OfOutput.row) (Syntax.tyRef Syntax.erased Syntax.mut OfOutput.named) 4) (List._∷_ (17, Rows.any-gone Syntax.tyPtr) (List._∷_ (18, Rows.any-gone (Syntax.tyInt Syntax.w64)) (List._∷_ (19, Rows.any-gone (Syntax.tyRef Syntax.erased Syntax.mut OfStation.named)) (List._∷_ (20, Mut.mslice (OfStation.row) (Syntax.tyRef Syntax.erased Syntax.mut OfStation.named) 5) (List._∷_ (21, Rows.mref (Referent.rtF (Referent.fInt Syntax.w64)) (Syntax.tyRef Syntax.erased Syntax.mut (Syntax.tyInt Syntax.w64)) 6) (List._∷_ (22, Rows.sc-here Row.sPtr) (List._∷_ (23, Rows.any-gone (Syntax.tyInt Syntax.w64)) (List._∷_ (24, Rows.any-gone (Syntax.tyRef Syntax.erased Syntax.imm (Syntax.tyInt Syntax.w8))) (List._∷_ (25, Rows.any-gone (Syntax.tyStruct (List._∷_ 38 (List._∷_ 91 (List._∷_ 93 List.[]))) (Syntax.tcons (Syntax.tyRef Syntax.erased Syntax.imm (Syntax.tyInt Syntax.w8)) (Syntax.tcons (Syntax.tyInt Syntax.w64) Syntax.tnil)))) List.[])))))))))
+t30 = List._∷_ (16, Mut.mslice (OfOutput.row) (Syntax.tyRef Syntax.erased Syntax.mut OfOutput.named) 4) (List._∷_ (17, Rows.any-gone Syntax.tyPtr) (List._∷_ (18, Rows.any-gone (Syntax.tyInt Syntax.w64)) (List._∷_ (19, Rows.any-gone (Syntax.tyRef Syntax.erased Syntax.mut OfStation.named)) (List._∷_ (20, Mut.mslice (OfStation.row) (Syntax.tyRef Syntax.erased Syntax.mut OfStation.named) 5) (List._∷_ (21, Rows.mref (OfPanelRecord.row) (Syntax.tyRef Syntax.erased Syntax.mut OfPanelRecord.named) 6) (List._∷_ (22, Rows.sc-here Row.sPtr) (List._∷_ (23, Rows.any-gone (Syntax.tyInt Syntax.w64)) (List._∷_ (24, Rows.any-gone (Syntax.tyRef Syntax.erased Syntax.imm (Syntax.tyInt Syntax.w8))) (List._∷_ (25, Rows.any-gone (Syntax.tyStruct (List._∷_ 38 (List._∷_ 91 (List._∷_ 93 List.[]))) (Syntax.tcons (Syntax.tyRef Syntax.erased Syntax.imm (Syntax.tyInt Syntax.w8)) (Syntax.tcons (Syntax.tyInt Syntax.w64) Syntax.tnil)))) List.[])))))))))
 
 abbrev pub t31 : List.List Row.Entry
-t31 = List._∷_ (16, Mut.mslice (OfOutput.row) (Syntax.tyRef Syntax.erased Syntax.mut OfOutput.named) 4) (List._∷_ (17, Rows.any-gone Syntax.tyPtr) (List._∷_ (18, Rows.any-gone (Syntax.tyInt Syntax.w64)) (List._∷_ (19, Rows.any-gone (Syntax.tyRef Syntax.erased Syntax.mut OfStation.named)) (List._∷_ (20, Mut.mslice (OfStation.row) (Syntax.tyRef Syntax.erased Syntax.mut OfStation.named) 5) (List._∷_ (21, Rows.mref (Referent.rtF (Referent.fInt Syntax.w64)) (Syntax.tyRef Syntax.erased Syntax.mut (Syntax.tyInt Syntax.w64)) 6) (List._∷_ (22, Rows.sc-here Row.sPtr) (List._∷_ (23, Rows.sc-here (Row.sInt Syntax.w64)) (List._∷_ (24, Rows.any-gone (Syntax.tyRef Syntax.erased Syntax.imm (Syntax.tyInt Syntax.w8))) (List._∷_ (25, Rows.any-gone (Syntax.tyStruct (List._∷_ 38 (List._∷_ 91 (List._∷_ 93 List.[]))) (Syntax.tcons (Syntax.tyRef Syntax.erased Syntax.imm (Syntax.tyInt Syntax.w8)) (Syntax.tcons (Syntax.tyInt Syntax.w64) Syntax.tnil)))) List.[])))))))))
+t31 = List._∷_ (16, Mut.mslice (OfOutput.row) (Syntax.tyRef Syntax.erased Syntax.mut OfOutput.named) 4) (List._∷_ (17, Rows.any-gone Syntax.tyPtr) (List._∷_ (18, Rows.any-gone (Syntax.tyInt Syntax.w64)) (List._∷_ (19, Rows.any-gone (Syntax.tyRef Syntax.erased Syntax.mut OfStation.named)) (List._∷_ (20, Mut.mslice (OfStation.row) (Syntax.tyRef Syntax.erased Syntax.mut OfStation.named) 5) (List._∷_ (21, Rows.mref (OfPanelRecord.row) (Syntax.tyRef Syntax.erased Syntax.mut OfPanelRecord.named) 6) (List._∷_ (22, Rows.sc-here Row.sPtr) (List._∷_ (23, Rows.sc-here (Row.sInt Syntax.w64)) (List._∷_ (24, Rows.any-gone (Syntax.tyRef Syntax.erased Syntax.imm (Syntax.tyInt Syntax.w8))) (List._∷_ (25, Rows.any-gone (Syntax.tyStruct (List._∷_ 38 (List._∷_ 91 (List._∷_ 93 List.[]))) (Syntax.tcons (Syntax.tyRef Syntax.erased Syntax.imm (Syntax.tyInt Syntax.w8)) (Syntax.tcons (Syntax.tyInt Syntax.w64) Syntax.tnil)))) List.[])))))))))
 
 abbrev pub t32 : List.List Row.Entry
-t32 = List._∷_ (16, Mut.mslice (OfOutput.row) (Syntax.tyRef Syntax.erased Syntax.mut OfOutput.named) 4) (List._∷_ (17, Rows.any-gone Syntax.tyPtr) (List._∷_ (18, Rows.any-gone (Syntax.tyInt Syntax.w64)) (List._∷_ (19, Rows.any-gone (Syntax.tyRef Syntax.erased Syntax.mut OfStation.named)) (List._∷_ (20, Mut.mslice (OfStation.row) (Syntax.tyRef Syntax.erased Syntax.mut OfStation.named) 5) (List._∷_ (21, Rows.mref (Referent.rtF (Referent.fInt Syntax.w64)) (Syntax.tyRef Syntax.erased Syntax.mut (Syntax.tyInt Syntax.w64)) 6) (List._∷_ (22, Rows.sc-here Row.sPtr) (List._∷_ (23, Rows.sc-here (Row.sInt Syntax.w64)) (List._∷_ (24, Relend.ssptr (Referent.rtF (Referent.fInt Syntax.w8)) (Syntax.tyRef Syntax.erased Syntax.imm (Syntax.tyInt Syntax.w8)) 3) (List._∷_ (25, Rows.any-gone (Syntax.tyStruct (List._∷_ 38 (List._∷_ 91 (List._∷_ 93 List.[]))) (Syntax.tcons (Syntax.tyRef Syntax.erased Syntax.imm (Syntax.tyInt Syntax.w8)) (Syntax.tcons (Syntax.tyInt Syntax.w64) Syntax.tnil)))) List.[])))))))))
+t32 = List._∷_ (16, Mut.mslice (OfOutput.row) (Syntax.tyRef Syntax.erased Syntax.mut OfOutput.named) 4) (List._∷_ (17, Rows.any-gone Syntax.tyPtr) (List._∷_ (18, Rows.any-gone (Syntax.tyInt Syntax.w64)) (List._∷_ (19, Rows.any-gone (Syntax.tyRef Syntax.erased Syntax.mut OfStation.named)) (List._∷_ (20, Mut.mslice (OfStation.row) (Syntax.tyRef Syntax.erased Syntax.mut OfStation.named) 5) (List._∷_ (21, Rows.mref (OfPanelRecord.row) (Syntax.tyRef Syntax.erased Syntax.mut OfPanelRecord.named) 6) (List._∷_ (22, Rows.sc-here Row.sPtr) (List._∷_ (23, Rows.sc-here (Row.sInt Syntax.w64)) (List._∷_ (24, Relend.ssptr (Referent.rtF (Referent.fInt Syntax.w8)) (Syntax.tyRef Syntax.erased Syntax.imm (Syntax.tyInt Syntax.w8)) 3) (List._∷_ (25, Rows.any-gone (Syntax.tyStruct (List._∷_ 38 (List._∷_ 91 (List._∷_ 93 List.[]))) (Syntax.tcons (Syntax.tyRef Syntax.erased Syntax.imm (Syntax.tyInt Syntax.w8)) (Syntax.tcons (Syntax.tyInt Syntax.w64) Syntax.tnil)))) List.[])))))))))
 
 abbrev pub t33 : List.List Row.Entry
-t33 = List._∷_ (0, Rows.any-gone (Laws.mir)) (List._∷_ (1, PartMut.mslice-owedM (OfOutput.row) (Syntax.tyRef (Syntax.named 0) Syntax.mut OfOutput.named) 0 4 Row.off) (List._∷_ (2, PartMut.mslice-owedM (OfStation.row) (Syntax.tyRef (Syntax.named 1) Syntax.mut OfStation.named) 1 5 Row.off) (List._∷_ (3, Rows.mref-owed (Referent.rtF (Referent.fInt Syntax.w64)) (Syntax.tyRef (Syntax.named 2) Syntax.mut (Syntax.tyInt Syntax.w64)) 2 6 Row.off) (List._∷_ (4, Rows.sc-here (Row.sInt Syntax.w64)) (List._∷_ (5, Rows.sc-here (Row.sInt Syntax.w64)) (List._∷_ (6, Rows.sref (Array.Array (Referent.rtF (Referent.fInt Syntax.w8)) 49) (Syntax.tyRef (Syntax.named 3) Syntax.imm (Syntax.tyArray (Syntax.tyInt Syntax.w8) 49)) 3) (List._∷_ (7, Rows.sc-here (Row.sInt Syntax.w64)) (List._∷_ (8, Rows.sc-here (Row.sInt Syntax.w64)) (List._∷_ (9, Rows.sc-here (Row.sInt Syntax.w64)) (List._∷_ (10, Rows.any-gone (Syntax.tyStruct (List._∷_ 38 (List._∷_ 91 (List._∷_ 93 List.[]))) (Syntax.tcons (Syntax.tyRef Syntax.erased Syntax.imm (Syntax.tyInt Syntax.w8)) (Syntax.tcons (Syntax.tyInt Syntax.w64) Syntax.tnil)))) (List._∷_ (11, Rows.sc-here (Row.sInt Syntax.w64)) (List._∷_ (12, Rows.any-gone (Syntax.tyInt Syntax.w64)) (List._∷_ (13, Rows.any-gone (Syntax.tyRef Syntax.erased Syntax.imm (Syntax.tyInt Syntax.w8))) (List._∷_ (14, Rows.any-gone Syntax.tyPtr) (List._∷_ (15, Rows.any-gone (Syntax.tyRef Syntax.erased Syntax.mut OfOutput.named)) List.[])))))))))))))))
+t33 = List._∷_ (0, Rows.any-gone (Laws.mir)) (List._∷_ (1, PartMut.mslice-owedM (OfOutput.row) (Syntax.tyRef (Syntax.named 0) Syntax.mut OfOutput.named) 0 4 Row.off) (List._∷_ (2, PartMut.mslice-owedM (OfStation.row) (Syntax.tyRef (Syntax.named 1) Syntax.mut OfStation.named) 1 5 Row.off) (List._∷_ (3, Rows.mref-owed (OfPanelRecord.row) (Syntax.tyRef (Syntax.named 2) Syntax.mut OfPanelRecord.named) 2 6 Row.off) (List._∷_ (4, Rows.sc-here (Row.sInt Syntax.w64)) (List._∷_ (5, Rows.sc-here (Row.sInt Syntax.w64)) (List._∷_ (6, Rows.sref (Array.Array (Referent.rtF (Referent.fInt Syntax.w8)) 49) (Syntax.tyRef (Syntax.named 3) Syntax.imm (Syntax.tyArray (Syntax.tyInt Syntax.w8) 49)) 3) (List._∷_ (7, Rows.sc-here (Row.sInt Syntax.w64)) (List._∷_ (8, Rows.sc-here (Row.sInt Syntax.w64)) (List._∷_ (9, Rows.sc-here (Row.sInt Syntax.w64)) (List._∷_ (10, Rows.any-gone (Syntax.tyStruct (List._∷_ 38 (List._∷_ 91 (List._∷_ 93 List.[]))) (Syntax.tcons (Syntax.tyRef Syntax.erased Syntax.imm (Syntax.tyInt Syntax.w8)) (Syntax.tcons (Syntax.tyInt Syntax.w64) Syntax.tnil)))) (List._∷_ (11, Rows.sc-here (Row.sInt Syntax.w64)) (List._∷_ (12, Rows.any-gone (Syntax.tyInt Syntax.w64)) (List._∷_ (13, Rows.any-gone (Syntax.tyRef Syntax.erased Syntax.imm (Syntax.tyInt Syntax.w8))) (List._∷_ (14, Rows.any-gone Syntax.tyPtr) (List._∷_ (15, Rows.any-gone (Syntax.tyRef Syntax.erased Syntax.mut OfOutput.named)) List.[])))))))))))))))
 
 abbrev pub t34 : List.List Row.Entry
-t34 = List._∷_ (16, Mut.mslice (OfOutput.row) (Syntax.tyRef Syntax.erased Syntax.mut OfOutput.named) 4) (List._∷_ (17, Rows.any-gone Syntax.tyPtr) (List._∷_ (18, Rows.any-gone (Syntax.tyInt Syntax.w64)) (List._∷_ (19, Rows.any-gone (Syntax.tyRef Syntax.erased Syntax.mut OfStation.named)) (List._∷_ (20, Mut.mslice (OfStation.row) (Syntax.tyRef Syntax.erased Syntax.mut OfStation.named) 5) (List._∷_ (21, Rows.mref (Referent.rtF (Referent.fInt Syntax.w64)) (Syntax.tyRef Syntax.erased Syntax.mut (Syntax.tyInt Syntax.w64)) 6) (List._∷_ (22, Rows.any-gone Syntax.tyPtr) (List._∷_ (23, Rows.sc-here (Row.sInt Syntax.w64)) (List._∷_ (24, Relend.ssptr (Referent.rtF (Referent.fInt Syntax.w8)) (Syntax.tyRef Syntax.erased Syntax.imm (Syntax.tyInt Syntax.w8)) 3) (List._∷_ (25, Rows.any-gone (Syntax.tyStruct (List._∷_ 38 (List._∷_ 91 (List._∷_ 93 List.[]))) (Syntax.tcons (Syntax.tyRef Syntax.erased Syntax.imm (Syntax.tyInt Syntax.w8)) (Syntax.tcons (Syntax.tyInt Syntax.w64) Syntax.tnil)))) List.[])))))))))
+t34 = List._∷_ (16, Mut.mslice (OfOutput.row) (Syntax.tyRef Syntax.erased Syntax.mut OfOutput.named) 4) (List._∷_ (17, Rows.any-gone Syntax.tyPtr) (List._∷_ (18, Rows.any-gone (Syntax.tyInt Syntax.w64)) (List._∷_ (19, Rows.any-gone (Syntax.tyRef Syntax.erased Syntax.mut OfStation.named)) (List._∷_ (20, Mut.mslice (OfStation.row) (Syntax.tyRef Syntax.erased Syntax.mut OfStation.named) 5) (List._∷_ (21, Rows.mref (OfPanelRecord.row) (Syntax.tyRef Syntax.erased Syntax.mut OfPanelRecord.named) 6) (List._∷_ (22, Rows.any-gone Syntax.tyPtr) (List._∷_ (23, Rows.sc-here (Row.sInt Syntax.w64)) (List._∷_ (24, Relend.ssptr (Referent.rtF (Referent.fInt Syntax.w8)) (Syntax.tyRef Syntax.erased Syntax.imm (Syntax.tyInt Syntax.w8)) 3) (List._∷_ (25, Rows.any-gone (Syntax.tyStruct (List._∷_ 38 (List._∷_ 91 (List._∷_ 93 List.[]))) (Syntax.tcons (Syntax.tyRef Syntax.erased Syntax.imm (Syntax.tyInt Syntax.w8)) (Syntax.tcons (Syntax.tyInt Syntax.w64) Syntax.tnil)))) List.[])))))))))
 
 abbrev pub t35 : List.List Row.Entry
-t35 = List._∷_ (16, Mut.mslice (OfOutput.row) (Syntax.tyRef Syntax.erased Syntax.mut OfOutput.named) 4) (List._∷_ (17, Rows.any-gone Syntax.tyPtr) (List._∷_ (18, Rows.any-gone (Syntax.tyInt Syntax.w64)) (List._∷_ (19, Rows.any-gone (Syntax.tyRef Syntax.erased Syntax.mut OfStation.named)) (List._∷_ (20, Mut.mslice (OfStation.row) (Syntax.tyRef Syntax.erased Syntax.mut OfStation.named) 5) (List._∷_ (21, Rows.mref (Referent.rtF (Referent.fInt Syntax.w64)) (Syntax.tyRef Syntax.erased Syntax.mut (Syntax.tyInt Syntax.w64)) 6) (List._∷_ (22, Rows.any-gone Syntax.tyPtr) (List._∷_ (23, Rows.sc-here (Row.sInt Syntax.w64)) (List._∷_ (24, Rows.any-gone (Syntax.tyRef Syntax.erased Syntax.imm (Syntax.tyInt Syntax.w8))) (List._∷_ (25, Rows.sslice (Referent.rtF (Referent.fInt Syntax.w8)) (Syntax.tyRef Syntax.erased Syntax.imm (Syntax.tyInt Syntax.w8)) 3) List.[])))))))))
+t35 = List._∷_ (16, Mut.mslice (OfOutput.row) (Syntax.tyRef Syntax.erased Syntax.mut OfOutput.named) 4) (List._∷_ (17, Rows.any-gone Syntax.tyPtr) (List._∷_ (18, Rows.any-gone (Syntax.tyInt Syntax.w64)) (List._∷_ (19, Rows.any-gone (Syntax.tyRef Syntax.erased Syntax.mut OfStation.named)) (List._∷_ (20, Mut.mslice (OfStation.row) (Syntax.tyRef Syntax.erased Syntax.mut OfStation.named) 5) (List._∷_ (21, Rows.mref (OfPanelRecord.row) (Syntax.tyRef Syntax.erased Syntax.mut OfPanelRecord.named) 6) (List._∷_ (22, Rows.any-gone Syntax.tyPtr) (List._∷_ (23, Rows.sc-here (Row.sInt Syntax.w64)) (List._∷_ (24, Rows.any-gone (Syntax.tyRef Syntax.erased Syntax.imm (Syntax.tyInt Syntax.w8))) (List._∷_ (25, Rows.sslice (Referent.rtF (Referent.fInt Syntax.w8)) (Syntax.tyRef Syntax.erased Syntax.imm (Syntax.tyInt Syntax.w8)) 3) List.[])))))))))
 
 abbrev pub t36 : List.List Row.Entry
-t36 = List._∷_ (16, Mut.mslice (OfOutput.row) (Syntax.tyRef Syntax.erased Syntax.mut OfOutput.named) 4) (List._∷_ (17, Rows.any-gone Syntax.tyPtr) (List._∷_ (18, Rows.any-gone (Syntax.tyInt Syntax.w64)) (List._∷_ (19, Rows.any-gone (Syntax.tyRef Syntax.erased Syntax.mut OfStation.named)) (List._∷_ (20, Mut.mslice (OfStation.row) (Syntax.tyRef Syntax.erased Syntax.mut OfStation.named) 5) (List._∷_ (21, Rows.mref (Referent.rtF (Referent.fInt Syntax.w64)) (Syntax.tyRef Syntax.erased Syntax.mut (Syntax.tyInt Syntax.w64)) 6) (List._∷_ (22, Rows.any-gone Syntax.tyPtr) (List._∷_ (23, Rows.any-gone (Syntax.tyInt Syntax.w64)) (List._∷_ (24, Rows.any-gone (Syntax.tyRef Syntax.erased Syntax.imm (Syntax.tyInt Syntax.w8))) (List._∷_ (25, Rows.sslice (Referent.rtF (Referent.fInt Syntax.w8)) (Syntax.tyRef Syntax.erased Syntax.imm (Syntax.tyInt Syntax.w8)) 3) List.[])))))))))
+t36 = List._∷_ (16, Mut.mslice (OfOutput.row) (Syntax.tyRef Syntax.erased Syntax.mut OfOutput.named) 4) (List._∷_ (17, Rows.any-gone Syntax.tyPtr) (List._∷_ (18, Rows.any-gone (Syntax.tyInt Syntax.w64)) (List._∷_ (19, Rows.any-gone (Syntax.tyRef Syntax.erased Syntax.mut OfStation.named)) (List._∷_ (20, Mut.mslice (OfStation.row) (Syntax.tyRef Syntax.erased Syntax.mut OfStation.named) 5) (List._∷_ (21, Rows.mref (OfPanelRecord.row) (Syntax.tyRef Syntax.erased Syntax.mut OfPanelRecord.named) 6) (List._∷_ (22, Rows.any-gone Syntax.tyPtr) (List._∷_ (23, Rows.any-gone (Syntax.tyInt Syntax.w64)) (List._∷_ (24, Rows.any-gone (Syntax.tyRef Syntax.erased Syntax.imm (Syntax.tyInt Syntax.w8))) (List._∷_ (25, Rows.sslice (Referent.rtF (Referent.fInt Syntax.w8)) (Syntax.tyRef Syntax.erased Syntax.imm (Syntax.tyInt Syntax.w8)) 3) List.[])))))))))
 
 abbrev pub t37 : List.List Row.Entry
-t37 = List._∷_ (0, Rows.whole (Declared.row Answer.the-type)) (List._∷_ (1, PartMut.mslice-owedM (OfOutput.row) (Syntax.tyRef (Syntax.named 0) Syntax.mut OfOutput.named) 0 4 Row.off) (List._∷_ (2, PartMut.mslice-owedM (OfStation.row) (Syntax.tyRef (Syntax.named 1) Syntax.mut OfStation.named) 1 5 Row.off) (List._∷_ (3, Rows.mref-owed (Referent.rtF (Referent.fInt Syntax.w64)) (Syntax.tyRef (Syntax.named 2) Syntax.mut (Syntax.tyInt Syntax.w64)) 2 6 Row.off) (List._∷_ (4, Rows.sc-here (Row.sInt Syntax.w64)) (List._∷_ (5, Rows.sc-here (Row.sInt Syntax.w64)) (List._∷_ (6, Rows.sref (Array.Array (Referent.rtF (Referent.fInt Syntax.w8)) 49) (Syntax.tyRef (Syntax.named 3) Syntax.imm (Syntax.tyArray (Syntax.tyInt Syntax.w8) 49)) 3) (List._∷_ (7, Rows.sc-here (Row.sInt Syntax.w64)) (List._∷_ (8, Rows.sc-here (Row.sInt Syntax.w64)) (List._∷_ (9, Rows.sc-here (Row.sInt Syntax.w64)) (List._∷_ (10, Rows.any-gone (Syntax.tyStruct (List._∷_ 38 (List._∷_ 91 (List._∷_ 93 List.[]))) (Syntax.tcons (Syntax.tyRef Syntax.erased Syntax.imm (Syntax.tyInt Syntax.w8)) (Syntax.tcons (Syntax.tyInt Syntax.w64) Syntax.tnil)))) (List._∷_ (11, Rows.sc-here (Row.sInt Syntax.w64)) (List._∷_ (12, Rows.any-gone (Syntax.tyInt Syntax.w64)) (List._∷_ (13, Rows.any-gone (Syntax.tyRef Syntax.erased Syntax.imm (Syntax.tyInt Syntax.w8))) (List._∷_ (14, Rows.any-gone Syntax.tyPtr) (List._∷_ (15, Rows.any-gone (Syntax.tyRef Syntax.erased Syntax.mut OfOutput.named)) List.[])))))))))))))))
+t37 = List._∷_ (0, Rows.whole (Declared.row Answer.the-type)) (List._∷_ (1, PartMut.mslice-owedM (OfOutput.row) (Syntax.tyRef (Syntax.named 0) Syntax.mut OfOutput.named) 0 4 Row.off) (List._∷_ (2, PartMut.mslice-owedM (OfStation.row) (Syntax.tyRef (Syntax.named 1) Syntax.mut OfStation.named) 1 5 Row.off) (List._∷_ (3, Rows.mref-owed (OfPanelRecord.row) (Syntax.tyRef (Syntax.named 2) Syntax.mut OfPanelRecord.named) 2 6 Row.off) (List._∷_ (4, Rows.sc-here (Row.sInt Syntax.w64)) (List._∷_ (5, Rows.sc-here (Row.sInt Syntax.w64)) (List._∷_ (6, Rows.sref (Array.Array (Referent.rtF (Referent.fInt Syntax.w8)) 49) (Syntax.tyRef (Syntax.named 3) Syntax.imm (Syntax.tyArray (Syntax.tyInt Syntax.w8) 49)) 3) (List._∷_ (7, Rows.sc-here (Row.sInt Syntax.w64)) (List._∷_ (8, Rows.sc-here (Row.sInt Syntax.w64)) (List._∷_ (9, Rows.sc-here (Row.sInt Syntax.w64)) (List._∷_ (10, Rows.any-gone (Syntax.tyStruct (List._∷_ 38 (List._∷_ 91 (List._∷_ 93 List.[]))) (Syntax.tcons (Syntax.tyRef Syntax.erased Syntax.imm (Syntax.tyInt Syntax.w8)) (Syntax.tcons (Syntax.tyInt Syntax.w64) Syntax.tnil)))) (List._∷_ (11, Rows.sc-here (Row.sInt Syntax.w64)) (List._∷_ (12, Rows.any-gone (Syntax.tyInt Syntax.w64)) (List._∷_ (13, Rows.any-gone (Syntax.tyRef Syntax.erased Syntax.imm (Syntax.tyInt Syntax.w8))) (List._∷_ (14, Rows.any-gone Syntax.tyPtr) (List._∷_ (15, Rows.any-gone (Syntax.tyRef Syntax.erased Syntax.mut OfOutput.named)) List.[])))))))))))))))
 
 abbrev pub t38 : List.List Row.Entry
-t38 = List._∷_ (16, Mut.msleft (OfOutput.row) (Syntax.tyRef Syntax.erased Syntax.mut OfOutput.named)) (List._∷_ (17, Rows.any-gone Syntax.tyPtr) (List._∷_ (18, Rows.any-gone (Syntax.tyInt Syntax.w64)) (List._∷_ (19, Rows.any-gone (Syntax.tyRef Syntax.erased Syntax.mut OfStation.named)) (List._∷_ (20, Mut.msleft (OfStation.row) (Syntax.tyRef Syntax.erased Syntax.mut OfStation.named)) (List._∷_ (21, Rows.mleft (Referent.rtF (Referent.fInt Syntax.w64)) (Syntax.tyRef Syntax.erased Syntax.mut (Syntax.tyInt Syntax.w64))) (List._∷_ (22, Rows.any-gone Syntax.tyPtr) (List._∷_ (23, Rows.any-gone (Syntax.tyInt Syntax.w64)) (List._∷_ (24, Rows.any-gone (Syntax.tyRef Syntax.erased Syntax.imm (Syntax.tyInt Syntax.w8))) (List._∷_ (25, Rows.sslice (Referent.rtF (Referent.fInt Syntax.w8)) (Syntax.tyRef Syntax.erased Syntax.imm (Syntax.tyInt Syntax.w8)) 3) List.[])))))))))
+t38 = List._∷_ (16, Mut.msleft (OfOutput.row) (Syntax.tyRef Syntax.erased Syntax.mut OfOutput.named)) (List._∷_ (17, Rows.any-gone Syntax.tyPtr) (List._∷_ (18, Rows.any-gone (Syntax.tyInt Syntax.w64)) (List._∷_ (19, Rows.any-gone (Syntax.tyRef Syntax.erased Syntax.mut OfStation.named)) (List._∷_ (20, Mut.msleft (OfStation.row) (Syntax.tyRef Syntax.erased Syntax.mut OfStation.named)) (List._∷_ (21, Rows.mleft (OfPanelRecord.row) (Syntax.tyRef Syntax.erased Syntax.mut OfPanelRecord.named)) (List._∷_ (22, Rows.any-gone Syntax.tyPtr) (List._∷_ (23, Rows.any-gone (Syntax.tyInt Syntax.w64)) (List._∷_ (24, Rows.any-gone (Syntax.tyRef Syntax.erased Syntax.imm (Syntax.tyInt Syntax.w8))) (List._∷_ (25, Rows.sslice (Referent.rtF (Referent.fInt Syntax.w8)) (Syntax.tyRef Syntax.erased Syntax.imm (Syntax.tyInt Syntax.w8)) 3) List.[])))))))))
 
 abbrev pub t39 : List.List Row.Entry
-t39 = List._∷_ (16, Mut.msleft (OfOutput.row) (Syntax.tyRef Syntax.erased Syntax.mut OfOutput.named)) (List._∷_ (17, Rows.any-gone Syntax.tyPtr) (List._∷_ (18, Rows.any-gone (Syntax.tyInt Syntax.w64)) (List._∷_ (19, Rows.any-gone (Syntax.tyRef Syntax.erased Syntax.mut OfStation.named)) (List._∷_ (20, Mut.msleft (OfStation.row) (Syntax.tyRef Syntax.erased Syntax.mut OfStation.named)) (List._∷_ (21, Rows.mleft (Referent.rtF (Referent.fInt Syntax.w64)) (Syntax.tyRef Syntax.erased Syntax.mut (Syntax.tyInt Syntax.w64))) (List._∷_ (22, Rows.any-gone Syntax.tyPtr) (List._∷_ (23, Rows.any-gone (Syntax.tyInt Syntax.w64)) (List._∷_ (24, Rows.any-gone (Syntax.tyRef Syntax.erased Syntax.imm (Syntax.tyInt Syntax.w8))) (List._∷_ (25, Rows.any-gone (Syntax.tyStruct (List._∷_ 38 (List._∷_ 91 (List._∷_ 93 List.[]))) (Syntax.tcons (Syntax.tyRef Syntax.erased Syntax.imm (Syntax.tyInt Syntax.w8)) (Syntax.tcons (Syntax.tyInt Syntax.w64) Syntax.tnil)))) List.[])))))))))
+t39 = List._∷_ (16, Mut.msleft (OfOutput.row) (Syntax.tyRef Syntax.erased Syntax.mut OfOutput.named)) (List._∷_ (17, Rows.any-gone Syntax.tyPtr) (List._∷_ (18, Rows.any-gone (Syntax.tyInt Syntax.w64)) (List._∷_ (19, Rows.any-gone (Syntax.tyRef Syntax.erased Syntax.mut OfStation.named)) (List._∷_ (20, Mut.msleft (OfStation.row) (Syntax.tyRef Syntax.erased Syntax.mut OfStation.named)) (List._∷_ (21, Rows.mleft (OfPanelRecord.row) (Syntax.tyRef Syntax.erased Syntax.mut OfPanelRecord.named)) (List._∷_ (22, Rows.any-gone Syntax.tyPtr) (List._∷_ (23, Rows.any-gone (Syntax.tyInt Syntax.w64)) (List._∷_ (24, Rows.any-gone (Syntax.tyRef Syntax.erased Syntax.imm (Syntax.tyInt Syntax.w8))) (List._∷_ (25, Rows.any-gone (Syntax.tyStruct (List._∷_ 38 (List._∷_ 91 (List._∷_ 93 List.[]))) (Syntax.tcons (Syntax.tyRef Syntax.erased Syntax.imm (Syntax.tyInt Syntax.w8)) (Syntax.tcons (Syntax.tyInt Syntax.w64) Syntax.tnil)))) List.[])))))))))
 
 abbrev pub t40 : List.List Row.Entry
-t40 = List._∷_ (0, Rows.whole (Declared.row Answer.the-type)) (List._∷_ (1, PartMut.mslice-owedM (OfOutput.row) (Syntax.tyRef (Syntax.named 0) Syntax.mut OfOutput.named) 0 4 Row.off) (List._∷_ (2, PartMut.mslice-owedM (OfStation.row) (Syntax.tyRef (Syntax.named 1) Syntax.mut OfStation.named) 1 5 Row.off) (List._∷_ (3, Rows.mref-owed (Referent.rtF (Referent.fInt Syntax.w64)) (Syntax.tyRef (Syntax.named 2) Syntax.mut (Syntax.tyInt Syntax.w64)) 2 6 Row.off) (List._∷_ (4, Rows.sc-here (Row.sInt Syntax.w64)) (List._∷_ (5, Rows.sc-here (Row.sInt Syntax.w64)) (List._∷_ (6, Rows.sref (Array.Array (Referent.rtF (Referent.fInt Syntax.w8)) 49) (Syntax.tyRef (Syntax.named 3) Syntax.imm (Syntax.tyArray (Syntax.tyInt Syntax.w8) 49)) 3) (List._∷_ (7, Rows.sc-here (Row.sInt Syntax.w64)) (List._∷_ (8, Rows.any-gone (Syntax.tyInt Syntax.w64)) (List._∷_ (9, Rows.sc-here (Row.sInt Syntax.w64)) (List._∷_ (10, Rows.any-gone (Syntax.tyStruct (List._∷_ 38 (List._∷_ 91 (List._∷_ 93 List.[]))) (Syntax.tcons (Syntax.tyRef Syntax.erased Syntax.imm (Syntax.tyInt Syntax.w8)) (Syntax.tcons (Syntax.tyInt Syntax.w64) Syntax.tnil)))) (List._∷_ (11, Rows.sc-here (Row.sInt Syntax.w64)) (List._∷_ (12, Rows.any-gone (Syntax.tyInt Syntax.w64)) (List._∷_ (13, Rows.any-gone (Syntax.tyRef Syntax.erased Syntax.imm (Syntax.tyInt Syntax.w8))) (List._∷_ (14, Rows.any-gone Syntax.tyPtr) (List._∷_ (15, Rows.any-gone (Syntax.tyRef Syntax.erased Syntax.mut OfOutput.named)) List.[])))))))))))))))
+t40 = List._∷_ (0, Rows.whole (Declared.row Answer.the-type)) (List._∷_ (1, PartMut.mslice-owedM (OfOutput.row) (Syntax.tyRef (Syntax.named 0) Syntax.mut OfOutput.named) 0 4 Row.off) (List._∷_ (2, PartMut.mslice-owedM (OfStation.row) (Syntax.tyRef (Syntax.named 1) Syntax.mut OfStation.named) 1 5 Row.off) (List._∷_ (3, Rows.mref-owed (OfPanelRecord.row) (Syntax.tyRef (Syntax.named 2) Syntax.mut OfPanelRecord.named) 2 6 Row.off) (List._∷_ (4, Rows.sc-here (Row.sInt Syntax.w64)) (List._∷_ (5, Rows.sc-here (Row.sInt Syntax.w64)) (List._∷_ (6, Rows.sref (Array.Array (Referent.rtF (Referent.fInt Syntax.w8)) 49) (Syntax.tyRef (Syntax.named 3) Syntax.imm (Syntax.tyArray (Syntax.tyInt Syntax.w8) 49)) 3) (List._∷_ (7, Rows.sc-here (Row.sInt Syntax.w64)) (List._∷_ (8, Rows.any-gone (Syntax.tyInt Syntax.w64)) (List._∷_ (9, Rows.sc-here (Row.sInt Syntax.w64)) (List._∷_ (10, Rows.any-gone (Syntax.tyStruct (List._∷_ 38 (List._∷_ 91 (List._∷_ 93 List.[]))) (Syntax.tcons (Syntax.tyRef Syntax.erased Syntax.imm (Syntax.tyInt Syntax.w8)) (Syntax.tcons (Syntax.tyInt Syntax.w64) Syntax.tnil)))) (List._∷_ (11, Rows.sc-here (Row.sInt Syntax.w64)) (List._∷_ (12, Rows.any-gone (Syntax.tyInt Syntax.w64)) (List._∷_ (13, Rows.any-gone (Syntax.tyRef Syntax.erased Syntax.imm (Syntax.tyInt Syntax.w8))) (List._∷_ (14, Rows.any-gone Syntax.tyPtr) (List._∷_ (15, Rows.any-gone (Syntax.tyRef Syntax.erased Syntax.mut OfOutput.named)) List.[])))))))))))))))
 
 abbrev pub t41 : List.List Row.Entry
-t41 = List._∷_ (0, Rows.whole (Declared.row Answer.the-type)) (List._∷_ (1, PartMut.mslice-owedM (OfOutput.row) (Syntax.tyRef (Syntax.named 0) Syntax.mut OfOutput.named) 0 4 Row.off) (List._∷_ (2, PartMut.mslice-owedM (OfStation.row) (Syntax.tyRef (Syntax.named 1) Syntax.mut OfStation.named) 1 5 Row.off) (List._∷_ (3, Rows.mref-owed (Referent.rtF (Referent.fInt Syntax.w64)) (Syntax.tyRef (Syntax.named 2) Syntax.mut (Syntax.tyInt Syntax.w64)) 2 6 Row.off) (List._∷_ (4, Rows.sc-here (Row.sInt Syntax.w64)) (List._∷_ (5, Rows.sc-here (Row.sInt Syntax.w64)) (List._∷_ (6, Rows.sref (Array.Array (Referent.rtF (Referent.fInt Syntax.w8)) 49) (Syntax.tyRef (Syntax.named 3) Syntax.imm (Syntax.tyArray (Syntax.tyInt Syntax.w8) 49)) 3) (List._∷_ (7, Rows.sc-here (Row.sInt Syntax.w64)) (List._∷_ (8, Rows.any-gone (Syntax.tyInt Syntax.w64)) (List._∷_ (9, Rows.any-gone (Syntax.tyInt Syntax.w64)) (List._∷_ (10, Rows.any-gone (Syntax.tyStruct (List._∷_ 38 (List._∷_ 91 (List._∷_ 93 List.[]))) (Syntax.tcons (Syntax.tyRef Syntax.erased Syntax.imm (Syntax.tyInt Syntax.w8)) (Syntax.tcons (Syntax.tyInt Syntax.w64) Syntax.tnil)))) (List._∷_ (11, Rows.sc-here (Row.sInt Syntax.w64)) (List._∷_ (12, Rows.any-gone (Syntax.tyInt Syntax.w64)) (List._∷_ (13, Rows.any-gone (Syntax.tyRef Syntax.erased Syntax.imm (Syntax.tyInt Syntax.w8))) (List._∷_ (14, Rows.any-gone Syntax.tyPtr) (List._∷_ (15, Rows.any-gone (Syntax.tyRef Syntax.erased Syntax.mut OfOutput.named)) List.[])))))))))))))))
+t41 = List._∷_ (0, Rows.whole (Declared.row Answer.the-type)) (List._∷_ (1, PartMut.mslice-owedM (OfOutput.row) (Syntax.tyRef (Syntax.named 0) Syntax.mut OfOutput.named) 0 4 Row.off) (List._∷_ (2, PartMut.mslice-owedM (OfStation.row) (Syntax.tyRef (Syntax.named 1) Syntax.mut OfStation.named) 1 5 Row.off) (List._∷_ (3, Rows.mref-owed (OfPanelRecord.row) (Syntax.tyRef (Syntax.named 2) Syntax.mut OfPanelRecord.named) 2 6 Row.off) (List._∷_ (4, Rows.sc-here (Row.sInt Syntax.w64)) (List._∷_ (5, Rows.sc-here (Row.sInt Syntax.w64)) (List._∷_ (6, Rows.sref (Array.Array (Referent.rtF (Referent.fInt Syntax.w8)) 49) (Syntax.tyRef (Syntax.named 3) Syntax.imm (Syntax.tyArray (Syntax.tyInt Syntax.w8) 49)) 3) (List._∷_ (7, Rows.sc-here (Row.sInt Syntax.w64)) (List._∷_ (8, Rows.any-gone (Syntax.tyInt Syntax.w64)) (List._∷_ (9, Rows.any-gone (Syntax.tyInt Syntax.w64)) (List._∷_ (10, Rows.any-gone (Syntax.tyStruct (List._∷_ 38 (List._∷_ 91 (List._∷_ 93 List.[]))) (Syntax.tcons (Syntax.tyRef Syntax.erased Syntax.imm (Syntax.tyInt Syntax.w8)) (Syntax.tcons (Syntax.tyInt Syntax.w64) Syntax.tnil)))) (List._∷_ (11, Rows.sc-here (Row.sInt Syntax.w64)) (List._∷_ (12, Rows.any-gone (Syntax.tyInt Syntax.w64)) (List._∷_ (13, Rows.any-gone (Syntax.tyRef Syntax.erased Syntax.imm (Syntax.tyInt Syntax.w8))) (List._∷_ (14, Rows.any-gone Syntax.tyPtr) (List._∷_ (15, Rows.any-gone (Syntax.tyRef Syntax.erased Syntax.mut OfOutput.named)) List.[])))))))))))))))
 
 abbrev pub t42 : List.List Row.Entry
-t42 = List._∷_ (0, Rows.whole (Declared.row Answer.the-type)) (List._∷_ (1, PartMut.mslice-owedM (OfOutput.row) (Syntax.tyRef (Syntax.named 0) Syntax.mut OfOutput.named) 0 4 Row.off) (List._∷_ (2, PartMut.mslice-owedM (OfStation.row) (Syntax.tyRef (Syntax.named 1) Syntax.mut OfStation.named) 1 5 Row.off) (List._∷_ (3, Rows.mref-owed (Referent.rtF (Referent.fInt Syntax.w64)) (Syntax.tyRef (Syntax.named 2) Syntax.mut (Syntax.tyInt Syntax.w64)) 2 6 Row.off) (List._∷_ (4, Rows.sc-here (Row.sInt Syntax.w64)) (List._∷_ (5, Rows.sc-here (Row.sInt Syntax.w64)) (List._∷_ (6, Rows.sref (Array.Array (Referent.rtF (Referent.fInt Syntax.w8)) 49) (Syntax.tyRef (Syntax.named 3) Syntax.imm (Syntax.tyArray (Syntax.tyInt Syntax.w8) 49)) 3) (List._∷_ (7, Rows.sc-here (Row.sInt Syntax.w64)) (List._∷_ (8, Rows.any-gone (Syntax.tyInt Syntax.w64)) (List._∷_ (9, Rows.any-gone (Syntax.tyInt Syntax.w64)) (List._∷_ (10, Rows.any-gone (Syntax.tyStruct (List._∷_ 38 (List._∷_ 91 (List._∷_ 93 List.[]))) (Syntax.tcons (Syntax.tyRef Syntax.erased Syntax.imm (Syntax.tyInt Syntax.w8)) (Syntax.tcons (Syntax.tyInt Syntax.w64) Syntax.tnil)))) (List._∷_ (11, Rows.any-gone (Syntax.tyInt Syntax.w64)) (List._∷_ (12, Rows.any-gone (Syntax.tyInt Syntax.w64)) (List._∷_ (13, Rows.any-gone (Syntax.tyRef Syntax.erased Syntax.imm (Syntax.tyInt Syntax.w8))) (List._∷_ (14, Rows.any-gone Syntax.tyPtr) (List._∷_ (15, Rows.any-gone (Syntax.tyRef Syntax.erased Syntax.mut OfOutput.named)) List.[])))))))))))))))
+t42 = List._∷_ (0, Rows.whole (Declared.row Answer.the-type)) (List._∷_ (1, PartMut.mslice-owedM (OfOutput.row) (Syntax.tyRef (Syntax.named 0) Syntax.mut OfOutput.named) 0 4 Row.off) (List._∷_ (2, PartMut.mslice-owedM (OfStation.row) (Syntax.tyRef (Syntax.named 1) Syntax.mut OfStation.named) 1 5 Row.off) (List._∷_ (3, Rows.mref-owed (OfPanelRecord.row) (Syntax.tyRef (Syntax.named 2) Syntax.mut OfPanelRecord.named) 2 6 Row.off) (List._∷_ (4, Rows.sc-here (Row.sInt Syntax.w64)) (List._∷_ (5, Rows.sc-here (Row.sInt Syntax.w64)) (List._∷_ (6, Rows.sref (Array.Array (Referent.rtF (Referent.fInt Syntax.w8)) 49) (Syntax.tyRef (Syntax.named 3) Syntax.imm (Syntax.tyArray (Syntax.tyInt Syntax.w8) 49)) 3) (List._∷_ (7, Rows.sc-here (Row.sInt Syntax.w64)) (List._∷_ (8, Rows.any-gone (Syntax.tyInt Syntax.w64)) (List._∷_ (9, Rows.any-gone (Syntax.tyInt Syntax.w64)) (List._∷_ (10, Rows.any-gone (Syntax.tyStruct (List._∷_ 38 (List._∷_ 91 (List._∷_ 93 List.[]))) (Syntax.tcons (Syntax.tyRef Syntax.erased Syntax.imm (Syntax.tyInt Syntax.w8)) (Syntax.tcons (Syntax.tyInt Syntax.w64) Syntax.tnil)))) (List._∷_ (11, Rows.any-gone (Syntax.tyInt Syntax.w64)) (List._∷_ (12, Rows.any-gone (Syntax.tyInt Syntax.w64)) (List._∷_ (13, Rows.any-gone (Syntax.tyRef Syntax.erased Syntax.imm (Syntax.tyInt Syntax.w8))) (List._∷_ (14, Rows.any-gone Syntax.tyPtr) (List._∷_ (15, Rows.any-gone (Syntax.tyRef Syntax.erased Syntax.mut OfOutput.named)) List.[])))))))))))))))
 
 abbrev pub t43 : List.List Row.Entry
-t43 = List._∷_ (0, Rows.whole (Declared.row Answer.the-type)) (List._∷_ (1, Mut.mslice (OfOutput.row) (Syntax.tyRef (Syntax.named 0) Syntax.mut OfOutput.named) 0) (List._∷_ (2, PartMut.mslice-owedM (OfStation.row) (Syntax.tyRef (Syntax.named 1) Syntax.mut OfStation.named) 1 5 Row.off) (List._∷_ (3, Rows.mref-owed (Referent.rtF (Referent.fInt Syntax.w64)) (Syntax.tyRef (Syntax.named 2) Syntax.mut (Syntax.tyInt Syntax.w64)) 2 6 Row.off) (List._∷_ (4, Rows.sc-here (Row.sInt Syntax.w64)) (List._∷_ (5, Rows.sc-here (Row.sInt Syntax.w64)) (List._∷_ (6, Rows.sref (Array.Array (Referent.rtF (Referent.fInt Syntax.w8)) 49) (Syntax.tyRef (Syntax.named 3) Syntax.imm (Syntax.tyArray (Syntax.tyInt Syntax.w8) 49)) 3) (List._∷_ (7, Rows.sc-here (Row.sInt Syntax.w64)) (List._∷_ (8, Rows.any-gone (Syntax.tyInt Syntax.w64)) (List._∷_ (9, Rows.any-gone (Syntax.tyInt Syntax.w64)) (List._∷_ (10, Rows.any-gone (Syntax.tyStruct (List._∷_ 38 (List._∷_ 91 (List._∷_ 93 List.[]))) (Syntax.tcons (Syntax.tyRef Syntax.erased Syntax.imm (Syntax.tyInt Syntax.w8)) (Syntax.tcons (Syntax.tyInt Syntax.w64) Syntax.tnil)))) (List._∷_ (11, Rows.any-gone (Syntax.tyInt Syntax.w64)) (List._∷_ (12, Rows.any-gone (Syntax.tyInt Syntax.w64)) (List._∷_ (13, Rows.any-gone (Syntax.tyRef Syntax.erased Syntax.imm (Syntax.tyInt Syntax.w8))) (List._∷_ (14, Rows.any-gone Syntax.tyPtr) (List._∷_ (15, Rows.any-gone (Syntax.tyRef Syntax.erased Syntax.mut OfOutput.named)) List.[])))))))))))))))
+t43 = List._∷_ (0, Rows.whole (Declared.row Answer.the-type)) (List._∷_ (1, Mut.mslice (OfOutput.row) (Syntax.tyRef (Syntax.named 0) Syntax.mut OfOutput.named) 0) (List._∷_ (2, PartMut.mslice-owedM (OfStation.row) (Syntax.tyRef (Syntax.named 1) Syntax.mut OfStation.named) 1 5 Row.off) (List._∷_ (3, Rows.mref-owed (OfPanelRecord.row) (Syntax.tyRef (Syntax.named 2) Syntax.mut OfPanelRecord.named) 2 6 Row.off) (List._∷_ (4, Rows.sc-here (Row.sInt Syntax.w64)) (List._∷_ (5, Rows.sc-here (Row.sInt Syntax.w64)) (List._∷_ (6, Rows.sref (Array.Array (Referent.rtF (Referent.fInt Syntax.w8)) 49) (Syntax.tyRef (Syntax.named 3) Syntax.imm (Syntax.tyArray (Syntax.tyInt Syntax.w8) 49)) 3) (List._∷_ (7, Rows.sc-here (Row.sInt Syntax.w64)) (List._∷_ (8, Rows.any-gone (Syntax.tyInt Syntax.w64)) (List._∷_ (9, Rows.any-gone (Syntax.tyInt Syntax.w64)) (List._∷_ (10, Rows.any-gone (Syntax.tyStruct (List._∷_ 38 (List._∷_ 91 (List._∷_ 93 List.[]))) (Syntax.tcons (Syntax.tyRef Syntax.erased Syntax.imm (Syntax.tyInt Syntax.w8)) (Syntax.tcons (Syntax.tyInt Syntax.w64) Syntax.tnil)))) (List._∷_ (11, Rows.any-gone (Syntax.tyInt Syntax.w64)) (List._∷_ (12, Rows.any-gone (Syntax.tyInt Syntax.w64)) (List._∷_ (13, Rows.any-gone (Syntax.tyRef Syntax.erased Syntax.imm (Syntax.tyInt Syntax.w8))) (List._∷_ (14, Rows.any-gone Syntax.tyPtr) (List._∷_ (15, Rows.any-gone (Syntax.tyRef Syntax.erased Syntax.mut OfOutput.named)) List.[])))))))))))))))
 
 abbrev pub t44 : List.List Row.Entry
-t44 = List._∷_ (16, Rows.any-gone (Syntax.tyStruct (List._∷_ 38 (List._∷_ 91 (List._∷_ 93 List.[]))) (Syntax.tcons (Syntax.tyRef Syntax.erased Syntax.mut OfOutput.named) (Syntax.tcons (Syntax.tyInt Syntax.w64) Syntax.tnil)))) (List._∷_ (17, Rows.any-gone Syntax.tyPtr) (List._∷_ (18, Rows.any-gone (Syntax.tyInt Syntax.w64)) (List._∷_ (19, Rows.any-gone (Syntax.tyRef Syntax.erased Syntax.mut OfStation.named)) (List._∷_ (20, Mut.msleft (OfStation.row) (Syntax.tyRef Syntax.erased Syntax.mut OfStation.named)) (List._∷_ (21, Rows.mleft (Referent.rtF (Referent.fInt Syntax.w64)) (Syntax.tyRef Syntax.erased Syntax.mut (Syntax.tyInt Syntax.w64))) (List._∷_ (22, Rows.any-gone Syntax.tyPtr) (List._∷_ (23, Rows.any-gone (Syntax.tyInt Syntax.w64)) (List._∷_ (24, Rows.any-gone (Syntax.tyRef Syntax.erased Syntax.imm (Syntax.tyInt Syntax.w8))) (List._∷_ (25, Rows.any-gone (Syntax.tyStruct (List._∷_ 38 (List._∷_ 91 (List._∷_ 93 List.[]))) (Syntax.tcons (Syntax.tyRef Syntax.erased Syntax.imm (Syntax.tyInt Syntax.w8)) (Syntax.tcons (Syntax.tyInt Syntax.w64) Syntax.tnil)))) List.[])))))))))
+t44 = List._∷_ (16, Rows.any-gone (Syntax.tyStruct (List._∷_ 38 (List._∷_ 91 (List._∷_ 93 List.[]))) (Syntax.tcons (Syntax.tyRef Syntax.erased Syntax.mut OfOutput.named) (Syntax.tcons (Syntax.tyInt Syntax.w64) Syntax.tnil)))) (List._∷_ (17, Rows.any-gone Syntax.tyPtr) (List._∷_ (18, Rows.any-gone (Syntax.tyInt Syntax.w64)) (List._∷_ (19, Rows.any-gone (Syntax.tyRef Syntax.erased Syntax.mut OfStation.named)) (List._∷_ (20, Mut.msleft (OfStation.row) (Syntax.tyRef Syntax.erased Syntax.mut OfStation.named)) (List._∷_ (21, Rows.mleft (OfPanelRecord.row) (Syntax.tyRef Syntax.erased Syntax.mut OfPanelRecord.named)) (List._∷_ (22, Rows.any-gone Syntax.tyPtr) (List._∷_ (23, Rows.any-gone (Syntax.tyInt Syntax.w64)) (List._∷_ (24, Rows.any-gone (Syntax.tyRef Syntax.erased Syntax.imm (Syntax.tyInt Syntax.w8))) (List._∷_ (25, Rows.any-gone (Syntax.tyStruct (List._∷_ 38 (List._∷_ 91 (List._∷_ 93 List.[]))) (Syntax.tcons (Syntax.tyRef Syntax.erased Syntax.imm (Syntax.tyInt Syntax.w8)) (Syntax.tcons (Syntax.tyInt Syntax.w64) Syntax.tnil)))) List.[])))))))))
 
 abbrev pub t45 : List.List Row.Entry
-t45 = List._∷_ (0, Rows.whole (Declared.row Answer.the-type)) (List._∷_ (1, Mut.mslice (OfOutput.row) (Syntax.tyRef (Syntax.named 0) Syntax.mut OfOutput.named) 0) (List._∷_ (2, Mut.mslice (OfStation.row) (Syntax.tyRef (Syntax.named 1) Syntax.mut OfStation.named) 1) (List._∷_ (3, Rows.mref-owed (Referent.rtF (Referent.fInt Syntax.w64)) (Syntax.tyRef (Syntax.named 2) Syntax.mut (Syntax.tyInt Syntax.w64)) 2 6 Row.off) (List._∷_ (4, Rows.sc-here (Row.sInt Syntax.w64)) (List._∷_ (5, Rows.sc-here (Row.sInt Syntax.w64)) (List._∷_ (6, Rows.sref (Array.Array (Referent.rtF (Referent.fInt Syntax.w8)) 49) (Syntax.tyRef (Syntax.named 3) Syntax.imm (Syntax.tyArray (Syntax.tyInt Syntax.w8) 49)) 3) (List._∷_ (7, Rows.sc-here (Row.sInt Syntax.w64)) (List._∷_ (8, Rows.any-gone (Syntax.tyInt Syntax.w64)) (List._∷_ (9, Rows.any-gone (Syntax.tyInt Syntax.w64)) (List._∷_ (10, Rows.any-gone (Syntax.tyStruct (List._∷_ 38 (List._∷_ 91 (List._∷_ 93 List.[]))) (Syntax.tcons (Syntax.tyRef Syntax.erased Syntax.imm (Syntax.tyInt Syntax.w8)) (Syntax.tcons (Syntax.tyInt Syntax.w64) Syntax.tnil)))) (List._∷_ (11, Rows.any-gone (Syntax.tyInt Syntax.w64)) (List._∷_ (12, Rows.any-gone (Syntax.tyInt Syntax.w64)) (List._∷_ (13, Rows.any-gone (Syntax.tyRef Syntax.erased Syntax.imm (Syntax.tyInt Syntax.w8))) (List._∷_ (14, Rows.any-gone Syntax.tyPtr) (List._∷_ (15, Rows.any-gone (Syntax.tyRef Syntax.erased Syntax.mut OfOutput.named)) List.[])))))))))))))))
+t45 = List._∷_ (0, Rows.whole (Declared.row Answer.the-type)) (List._∷_ (1, Mut.mslice (OfOutput.row) (Syntax.tyRef (Syntax.named 0) Syntax.mut OfOutput.named) 0) (List._∷_ (2, Mut.mslice (OfStation.row) (Syntax.tyRef (Syntax.named 1) Syntax.mut OfStation.named) 1) (List._∷_ (3, Rows.mref-owed (OfPanelRecord.row) (Syntax.tyRef (Syntax.named 2) Syntax.mut OfPanelRecord.named) 2 6 Row.off) (List._∷_ (4, Rows.sc-here (Row.sInt Syntax.w64)) (List._∷_ (5, Rows.sc-here (Row.sInt Syntax.w64)) (List._∷_ (6, Rows.sref (Array.Array (Referent.rtF (Referent.fInt Syntax.w8)) 49) (Syntax.tyRef (Syntax.named 3) Syntax.imm (Syntax.tyArray (Syntax.tyInt Syntax.w8) 49)) 3) (List._∷_ (7, Rows.sc-here (Row.sInt Syntax.w64)) (List._∷_ (8, Rows.any-gone (Syntax.tyInt Syntax.w64)) (List._∷_ (9, Rows.any-gone (Syntax.tyInt Syntax.w64)) (List._∷_ (10, Rows.any-gone (Syntax.tyStruct (List._∷_ 38 (List._∷_ 91 (List._∷_ 93 List.[]))) (Syntax.tcons (Syntax.tyRef Syntax.erased Syntax.imm (Syntax.tyInt Syntax.w8)) (Syntax.tcons (Syntax.tyInt Syntax.w64) Syntax.tnil)))) (List._∷_ (11, Rows.any-gone (Syntax.tyInt Syntax.w64)) (List._∷_ (12, Rows.any-gone (Syntax.tyInt Syntax.w64)) (List._∷_ (13, Rows.any-gone (Syntax.tyRef Syntax.erased Syntax.imm (Syntax.tyInt Syntax.w8))) (List._∷_ (14, Rows.any-gone Syntax.tyPtr) (List._∷_ (15, Rows.any-gone (Syntax.tyRef Syntax.erased Syntax.mut OfOutput.named)) List.[])))))))))))))))
 
 abbrev pub t46 : List.List Row.Entry
-t46 = List._∷_ (16, Rows.any-gone (Syntax.tyStruct (List._∷_ 38 (List._∷_ 91 (List._∷_ 93 List.[]))) (Syntax.tcons (Syntax.tyRef Syntax.erased Syntax.mut OfOutput.named) (Syntax.tcons (Syntax.tyInt Syntax.w64) Syntax.tnil)))) (List._∷_ (17, Rows.any-gone Syntax.tyPtr) (List._∷_ (18, Rows.any-gone (Syntax.tyInt Syntax.w64)) (List._∷_ (19, Rows.any-gone (Syntax.tyRef Syntax.erased Syntax.mut OfStation.named)) (List._∷_ (20, Rows.any-gone (Syntax.tyStruct (List._∷_ 38 (List._∷_ 91 (List._∷_ 93 List.[]))) (Syntax.tcons (Syntax.tyRef Syntax.erased Syntax.mut OfStation.named) (Syntax.tcons (Syntax.tyInt Syntax.w64) Syntax.tnil)))) (List._∷_ (21, Rows.mleft (Referent.rtF (Referent.fInt Syntax.w64)) (Syntax.tyRef Syntax.erased Syntax.mut (Syntax.tyInt Syntax.w64))) (List._∷_ (22, Rows.any-gone Syntax.tyPtr) (List._∷_ (23, Rows.any-gone (Syntax.tyInt Syntax.w64)) (List._∷_ (24, Rows.any-gone (Syntax.tyRef Syntax.erased Syntax.imm (Syntax.tyInt Syntax.w8))) (List._∷_ (25, Rows.any-gone (Syntax.tyStruct (List._∷_ 38 (List._∷_ 91 (List._∷_ 93 List.[]))) (Syntax.tcons (Syntax.tyRef Syntax.erased Syntax.imm (Syntax.tyInt Syntax.w8)) (Syntax.tcons (Syntax.tyInt Syntax.w64) Syntax.tnil)))) List.[])))))))))
+t46 = List._∷_ (16, Rows.any-gone (Syntax.tyStruct (List._∷_ 38 (List._∷_ 91 (List._∷_ 93 List.[]))) (Syntax.tcons (Syntax.tyRef Syntax.erased Syntax.mut OfOutput.named) (Syntax.tcons (Syntax.tyInt Syntax.w64) Syntax.tnil)))) (List._∷_ (17, Rows.any-gone Syntax.tyPtr) (List._∷_ (18, Rows.any-gone (Syntax.tyInt Syntax.w64)) (List._∷_ (19, Rows.any-gone (Syntax.tyRef Syntax.erased Syntax.mut OfStation.named)) (List._∷_ (20, Rows.any-gone (Syntax.tyStruct (List._∷_ 38 (List._∷_ 91 (List._∷_ 93 List.[]))) (Syntax.tcons (Syntax.tyRef Syntax.erased Syntax.mut OfStation.named) (Syntax.tcons (Syntax.tyInt Syntax.w64) Syntax.tnil)))) (List._∷_ (21, Rows.mleft (OfPanelRecord.row) (Syntax.tyRef Syntax.erased Syntax.mut OfPanelRecord.named)) (List._∷_ (22, Rows.any-gone Syntax.tyPtr) (List._∷_ (23, Rows.any-gone (Syntax.tyInt Syntax.w64)) (List._∷_ (24, Rows.any-gone (Syntax.tyRef Syntax.erased Syntax.imm (Syntax.tyInt Syntax.w8))) (List._∷_ (25, Rows.any-gone (Syntax.tyStruct (List._∷_ 38 (List._∷_ 91 (List._∷_ 93 List.[]))) (Syntax.tcons (Syntax.tyRef Syntax.erased Syntax.imm (Syntax.tyInt Syntax.w8)) (Syntax.tcons (Syntax.tyInt Syntax.w64) Syntax.tnil)))) List.[])))))))))
 
 abbrev pub t47 : List.List Row.Entry
-t47 = List._∷_ (0, Rows.whole (Declared.row Answer.the-type)) (List._∷_ (1, Mut.mslice (OfOutput.row) (Syntax.tyRef (Syntax.named 0) Syntax.mut OfOutput.named) 0) (List._∷_ (2, Mut.mslice (OfStation.row) (Syntax.tyRef (Syntax.named 1) Syntax.mut OfStation.named) 1) (List._∷_ (3, Rows.mref (Referent.rtF (Referent.fInt Syntax.w64)) (Syntax.tyRef (Syntax.named 2) Syntax.mut (Syntax.tyInt Syntax.w64)) 2) (List._∷_ (4, Rows.sc-here (Row.sInt Syntax.w64)) (List._∷_ (5, Rows.sc-here (Row.sInt Syntax.w64)) (List._∷_ (6, Rows.sref (Array.Array (Referent.rtF (Referent.fInt Syntax.w8)) 49) (Syntax.tyRef (Syntax.named 3) Syntax.imm (Syntax.tyArray (Syntax.tyInt Syntax.w8) 49)) 3) (List._∷_ (7, Rows.sc-here (Row.sInt Syntax.w64)) (List._∷_ (8, Rows.any-gone (Syntax.tyInt Syntax.w64)) (List._∷_ (9, Rows.any-gone (Syntax.tyInt Syntax.w64)) (List._∷_ (10, Rows.any-gone (Syntax.tyStruct (List._∷_ 38 (List._∷_ 91 (List._∷_ 93 List.[]))) (Syntax.tcons (Syntax.tyRef Syntax.erased Syntax.imm (Syntax.tyInt Syntax.w8)) (Syntax.tcons (Syntax.tyInt Syntax.w64) Syntax.tnil)))) (List._∷_ (11, Rows.any-gone (Syntax.tyInt Syntax.w64)) (List._∷_ (12, Rows.any-gone (Syntax.tyInt Syntax.w64)) (List._∷_ (13, Rows.any-gone (Syntax.tyRef Syntax.erased Syntax.imm (Syntax.tyInt Syntax.w8))) (List._∷_ (14, Rows.any-gone Syntax.tyPtr) (List._∷_ (15, Rows.any-gone (Syntax.tyRef Syntax.erased Syntax.mut OfOutput.named)) List.[])))))))))))))))
+t47 = List._∷_ (0, Rows.whole (Declared.row Answer.the-type)) (List._∷_ (1, Mut.mslice (OfOutput.row) (Syntax.tyRef (Syntax.named 0) Syntax.mut OfOutput.named) 0) (List._∷_ (2, Mut.mslice (OfStation.row) (Syntax.tyRef (Syntax.named 1) Syntax.mut OfStation.named) 1) (List._∷_ (3, Rows.mref (OfPanelRecord.row) (Syntax.tyRef (Syntax.named 2) Syntax.mut OfPanelRecord.named) 2) (List._∷_ (4, Rows.sc-here (Row.sInt Syntax.w64)) (List._∷_ (5, Rows.sc-here (Row.sInt Syntax.w64)) (List._∷_ (6, Rows.sref (Array.Array (Referent.rtF (Referent.fInt Syntax.w8)) 49) (Syntax.tyRef (Syntax.named 3) Syntax.imm (Syntax.tyArray (Syntax.tyInt Syntax.w8) 49)) 3) (List._∷_ (7, Rows.sc-here (Row.sInt Syntax.w64)) (List._∷_ (8, Rows.any-gone (Syntax.tyInt Syntax.w64)) (List._∷_ (9, Rows.any-gone (Syntax.tyInt Syntax.w64)) (List._∷_ (10, Rows.any-gone (Syntax.tyStruct (List._∷_ 38 (List._∷_ 91 (List._∷_ 93 List.[]))) (Syntax.tcons (Syntax.tyRef Syntax.erased Syntax.imm (Syntax.tyInt Syntax.w8)) (Syntax.tcons (Syntax.tyInt Syntax.w64) Syntax.tnil)))) (List._∷_ (11, Rows.any-gone (Syntax.tyInt Syntax.w64)) (List._∷_ (12, Rows.any-gone (Syntax.tyInt Syntax.w64)) (List._∷_ (13, Rows.any-gone (Syntax.tyRef Syntax.erased Syntax.imm (Syntax.tyInt Syntax.w8))) (List._∷_ (14, Rows.any-gone Syntax.tyPtr) (List._∷_ (15, Rows.any-gone (Syntax.tyRef Syntax.erased Syntax.mut OfOutput.named)) List.[])))))))))))))))
 
 abbrev pub t48 : List.List Row.Entry
-t48 = List._∷_ (0, Rows.whole (Declared.row Answer.the-type)) (List._∷_ (1, Mut.mslice (OfOutput.row) (Syntax.tyRef (Syntax.named 0) Syntax.mut OfOutput.named) 0) (List._∷_ (2, Mut.mslice (OfStation.row) (Syntax.tyRef (Syntax.named 1) Syntax.mut OfStation.named) 1) (List._∷_ (3, Rows.mref (Referent.rtF (Referent.fInt Syntax.w64)) (Syntax.tyRef (Syntax.named 2) Syntax.mut (Syntax.tyInt Syntax.w64)) 2) (List._∷_ (4, Rows.any-gone (Syntax.tyInt Syntax.w64)) (List._∷_ (5, Rows.sc-here (Row.sInt Syntax.w64)) (List._∷_ (6, Rows.sref (Array.Array (Referent.rtF (Referent.fInt Syntax.w8)) 49) (Syntax.tyRef (Syntax.named 3) Syntax.imm (Syntax.tyArray (Syntax.tyInt Syntax.w8) 49)) 3) (List._∷_ (7, Rows.sc-here (Row.sInt Syntax.w64)) (List._∷_ (8, Rows.any-gone (Syntax.tyInt Syntax.w64)) (List._∷_ (9, Rows.any-gone (Syntax.tyInt Syntax.w64)) (List._∷_ (10, Rows.any-gone (Syntax.tyStruct (List._∷_ 38 (List._∷_ 91 (List._∷_ 93 List.[]))) (Syntax.tcons (Syntax.tyRef Syntax.erased Syntax.imm (Syntax.tyInt Syntax.w8)) (Syntax.tcons (Syntax.tyInt Syntax.w64) Syntax.tnil)))) (List._∷_ (11, Rows.any-gone (Syntax.tyInt Syntax.w64)) (List._∷_ (12, Rows.any-gone (Syntax.tyInt Syntax.w64)) (List._∷_ (13, Rows.any-gone (Syntax.tyRef Syntax.erased Syntax.imm (Syntax.tyInt Syntax.w8))) (List._∷_ (14, Rows.any-gone Syntax.tyPtr) (List._∷_ (15, Rows.any-gone (Syntax.tyRef Syntax.erased Syntax.mut OfOutput.named)) List.[])))))))))))))))
+t48 = List._∷_ (0, Rows.whole (Declared.row Answer.the-type)) (List._∷_ (1, Mut.mslice (OfOutput.row) (Syntax.tyRef (Syntax.named 0) Syntax.mut OfOutput.named) 0) (List._∷_ (2, Mut.mslice (OfStation.row) (Syntax.tyRef (Syntax.named 1) Syntax.mut OfStation.named) 1) (List._∷_ (3, Rows.mref (OfPanelRecord.row) (Syntax.tyRef (Syntax.named 2) Syntax.mut OfPanelRecord.named) 2) (List._∷_ (4, Rows.any-gone (Syntax.tyInt Syntax.w64)) (List._∷_ (5, Rows.sc-here (Row.sInt Syntax.w64)) (List._∷_ (6, Rows.sref (Array.Array (Referent.rtF (Referent.fInt Syntax.w8)) 49) (Syntax.tyRef (Syntax.named 3) Syntax.imm (Syntax.tyArray (Syntax.tyInt Syntax.w8) 49)) 3) (List._∷_ (7, Rows.sc-here (Row.sInt Syntax.w64)) (List._∷_ (8, Rows.any-gone (Syntax.tyInt Syntax.w64)) (List._∷_ (9, Rows.any-gone (Syntax.tyInt Syntax.w64)) (List._∷_ (10, Rows.any-gone (Syntax.tyStruct (List._∷_ 38 (List._∷_ 91 (List._∷_ 93 List.[]))) (Syntax.tcons (Syntax.tyRef Syntax.erased Syntax.imm (Syntax.tyInt Syntax.w8)) (Syntax.tcons (Syntax.tyInt Syntax.w64) Syntax.tnil)))) (List._∷_ (11, Rows.any-gone (Syntax.tyInt Syntax.w64)) (List._∷_ (12, Rows.any-gone (Syntax.tyInt Syntax.w64)) (List._∷_ (13, Rows.any-gone (Syntax.tyRef Syntax.erased Syntax.imm (Syntax.tyInt Syntax.w8))) (List._∷_ (14, Rows.any-gone Syntax.tyPtr) (List._∷_ (15, Rows.any-gone (Syntax.tyRef Syntax.erased Syntax.mut OfOutput.named)) List.[])))))))))))))))
 
 abbrev pub t49 : List.List Row.Entry
-t49 = List._∷_ (0, Rows.whole (Declared.row Answer.the-type)) (List._∷_ (1, Mut.mslice (OfOutput.row) (Syntax.tyRef (Syntax.named 0) Syntax.mut OfOutput.named) 0) (List._∷_ (2, Mut.mslice (OfStation.row) (Syntax.tyRef (Syntax.named 1) Syntax.mut OfStation.named) 1) (List._∷_ (3, Rows.mref (Referent.rtF (Referent.fInt Syntax.w64)) (Syntax.tyRef (Syntax.named 2) Syntax.mut (Syntax.tyInt Syntax.w64)) 2) (List._∷_ (4, Rows.any-gone (Syntax.tyInt Syntax.w64)) (List._∷_ (5, Rows.any-gone (Syntax.tyInt Syntax.w64)) (List._∷_ (6, Rows.sref (Array.Array (Referent.rtF (Referent.fInt Syntax.w8)) 49) (Syntax.tyRef (Syntax.named 3) Syntax.imm (Syntax.tyArray (Syntax.tyInt Syntax.w8) 49)) 3) (List._∷_ (7, Rows.sc-here (Row.sInt Syntax.w64)) (List._∷_ (8, Rows.any-gone (Syntax.tyInt Syntax.w64)) (List._∷_ (9, Rows.any-gone (Syntax.tyInt Syntax.w64)) (List._∷_ (10, Rows.any-gone (Syntax.tyStruct (List._∷_ 38 (List._∷_ 91 (List._∷_ 93 List.[]))) (Syntax.tcons (Syntax.tyRef Syntax.erased Syntax.imm (Syntax.tyInt Syntax.w8)) (Syntax.tcons (Syntax.tyInt Syntax.w64) Syntax.tnil)))) (List._∷_ (11, Rows.any-gone (Syntax.tyInt Syntax.w64)) (List._∷_ (12, Rows.any-gone (Syntax.tyInt Syntax.w64)) (List._∷_ (13, Rows.any-gone (Syntax.tyRef Syntax.erased Syntax.imm (Syntax.tyInt Syntax.w8))) (List._∷_ (14, Rows.any-gone Syntax.tyPtr) (List._∷_ (15, Rows.any-gone (Syntax.tyRef Syntax.erased Syntax.mut OfOutput.named)) List.[])))))))))))))))
+t49 = List._∷_ (0, Rows.whole (Declared.row Answer.the-type)) (List._∷_ (1, Mut.mslice (OfOutput.row) (Syntax.tyRef (Syntax.named 0) Syntax.mut OfOutput.named) 0) (List._∷_ (2, Mut.mslice (OfStation.row) (Syntax.tyRef (Syntax.named 1) Syntax.mut OfStation.named) 1) (List._∷_ (3, Rows.mref (OfPanelRecord.row) (Syntax.tyRef (Syntax.named 2) Syntax.mut OfPanelRecord.named) 2) (List._∷_ (4, Rows.any-gone (Syntax.tyInt Syntax.w64)) (List._∷_ (5, Rows.any-gone (Syntax.tyInt Syntax.w64)) (List._∷_ (6, Rows.sref (Array.Array (Referent.rtF (Referent.fInt Syntax.w8)) 49) (Syntax.tyRef (Syntax.named 3) Syntax.imm (Syntax.tyArray (Syntax.tyInt Syntax.w8) 49)) 3) (List._∷_ (7, Rows.sc-here (Row.sInt Syntax.w64)) (List._∷_ (8, Rows.any-gone (Syntax.tyInt Syntax.w64)) (List._∷_ (9, Rows.any-gone (Syntax.tyInt Syntax.w64)) (List._∷_ (10, Rows.any-gone (Syntax.tyStruct (List._∷_ 38 (List._∷_ 91 (List._∷_ 93 List.[]))) (Syntax.tcons (Syntax.tyRef Syntax.erased Syntax.imm (Syntax.tyInt Syntax.w8)) (Syntax.tcons (Syntax.tyInt Syntax.w64) Syntax.tnil)))) (List._∷_ (11, Rows.any-gone (Syntax.tyInt Syntax.w64)) (List._∷_ (12, Rows.any-gone (Syntax.tyInt Syntax.w64)) (List._∷_ (13, Rows.any-gone (Syntax.tyRef Syntax.erased Syntax.imm (Syntax.tyInt Syntax.w8))) (List._∷_ (14, Rows.any-gone Syntax.tyPtr) (List._∷_ (15, Rows.any-gone (Syntax.tyRef Syntax.erased Syntax.mut OfOutput.named)) List.[])))))))))))))))
 
 abbrev pub T0 : Row.Cx
 T0 = record { locals = List._++_ t0 t1; slots = List.[] }
@@ -583,7 +584,7 @@ module _ (claims· : Claims) where
   s25 = Scalar.n-room T26 18 (Syntax.tyInt Syntax.w64)
 
   abbrev s27 : Typed.Gives T27 T29
-  s27 = Reborrow.k-mref-relend T27 3 21 2 6 (Referent.rtF (Referent.fInt Syntax.w64)) (Syntax.tyRef (Syntax.named 2) Syntax.mut (Syntax.tyInt Syntax.w64)) (Syntax.tyRef Syntax.erased Syntax.mut (Syntax.tyInt Syntax.w64)) Row.off List.[] λ x. x
+  s27 = Reborrow.k-mref-relend T27 3 21 2 6 (OfPanelRecord.row) (Syntax.tyRef (Syntax.named 2) Syntax.mut OfPanelRecord.named) (Syntax.tyRef Syntax.erased Syntax.mut OfPanelRecord.named) Row.off List.[] λ x. x
 
   abbrev s28 : Typed.Asks T29 T30
   s28 = Scalar.k-op2 T29 Syntax.offset (Scalar.oFld 10 (List._∷_ (Syntax.field 0) List.[]) (Syntax.tyRef Syntax.erased Syntax.imm (Syntax.tyInt Syntax.w8)) 0 Reads.ptrVal) (Scalar.oInt Syntax.w64 0) 22 (Rows.sc-here Row.sPtr) (Row.sPtr .of)
@@ -607,7 +608,7 @@ module _ (claims· : Claims) where
   s34 = Scalar.n-room T35 23 (Syntax.tyInt Syntax.w64)
 
   abbrev s35 : Typed.Both T36 T37
-  s35 = Call.callB ps·1 r·1 (claims· .2) (claims· .3) T36 (record { pos = 16; ty = Syntax.tyRef Syntax.erased Syntax.mut OfOutput.named; ref = λ x. x }, (record { pos = 20; ty = Syntax.tyRef Syntax.erased Syntax.mut OfStation.named; ref = λ x. x }, (record { pos = 21; ty = Syntax.tyRef Syntax.erased Syntax.mut (Syntax.tyInt Syntax.w64); ref = λ x. x }, (record { pos = 25; ty = Syntax.tyRef Syntax.erased Syntax.imm (Syntax.tyInt Syntax.w8); ref = λ x. x }, tt)))) 0 (List._∷_ 4 (List._∷_ 5 (List._∷_ 6 (List._∷_ 3 List.[])))) (Laws.mir)
+  s35 = Call.callB ps·1 r·1 (claims· .2) (claims· .3) T36 (record { pos = 16; ty = Syntax.tyRef Syntax.erased Syntax.mut OfOutput.named; ref = λ x. x }, (record { pos = 20; ty = Syntax.tyRef Syntax.erased Syntax.mut OfStation.named; ref = λ x. x }, (record { pos = 21; ty = Syntax.tyRef Syntax.erased Syntax.mut OfPanelRecord.named; ref = λ x. x }, (record { pos = 25; ty = Syntax.tyRef Syntax.erased Syntax.imm (Syntax.tyInt Syntax.w8); ref = λ x. x }, tt)))) 0 (List._∷_ 4 (List._∷_ 5 (List._∷_ 6 (List._∷_ 3 List.[])))) (Laws.mir)
 
   abbrev s36 : Typed.Mo T37 → Typed.Mo T38
   s36 = Scalar.n-room T37 25 (Syntax.tyStruct (List._∷_ 38 (List._∷_ 91 (List._∷_ 93 List.[]))) (Syntax.tcons (Syntax.tyRef Syntax.erased Syntax.imm (Syntax.tyInt Syntax.w8)) (Syntax.tcons (Syntax.tyInt Syntax.w64) Syntax.tnil)))
@@ -628,7 +629,7 @@ module _ (claims· : Claims) where
   s44 = PartMut.k-back-slᵐ (OfStation.row) T43 20 2 1 5 (Syntax.tyRef (Syntax.named 1) Syntax.mut OfStation.named) (Syntax.tyRef Syntax.erased Syntax.mut OfStation.named) Row.off (λ x. x) λ x. x
 
   abbrev s47 : Typed.Asks T46 T49
-  s47 = Reborrow.k-back-mref T46 21 3 2 (Referent.rtF (Referent.fInt Syntax.w64)) (Syntax.tyRef (Syntax.named 2) Syntax.mut (Syntax.tyInt Syntax.w64)) (Syntax.tyRef Syntax.erased Syntax.mut (Syntax.tyInt Syntax.w64)) List.[] (λ x. x) λ x. x
+  s47 = Reborrow.k-back-mref T46 21 3 2 (OfPanelRecord.row) (Syntax.tyRef (Syntax.named 2) Syntax.mut OfPanelRecord.named) (Syntax.tyRef Syntax.erased Syntax.mut OfPanelRecord.named) List.[] (λ x. x) λ x. x
 
   abbrev s49 : Typed.Mo T49 → Typed.Mo T51
   s49 = Scalar.n-room T49 4 (Syntax.tyInt Syntax.w64)
@@ -815,43 +816,43 @@ module _ (claims· : Claims) where
 
       module _ (κs : Lifetimes.Lfts 4) (qs : Lifetimes.Shares 4) where
         abbrev g16 : List.List Row.Entry
-        g16 = List._∷_ (0, Rows.any-gone (Laws.mir)) (List._∷_ (1, PartMut.mslice-owedM (OfOutput.row) (Syntax.tyRef (Syntax.named 0) Syntax.mut OfOutput.named) 0 4 (Row.lease (κs .0) (qs .0))) (List._∷_ (2, Mut.mslice (OfStation.row) (Syntax.tyRef (Syntax.named 1) Syntax.mut OfStation.named) 1) (List._∷_ (3, Rows.mref (Referent.rtF (Referent.fInt Syntax.w64)) (Syntax.tyRef (Syntax.named 2) Syntax.mut (Syntax.tyInt Syntax.w64)) 2) (List._∷_ (4, Rows.sc-here (Row.sInt Syntax.w64)) (List._∷_ (5, Rows.sc-here (Row.sInt Syntax.w64)) (List._∷_ (6, Rows.sref (Array.Array (Referent.rtF (Referent.fInt Syntax.w8)) 49) (Syntax.tyRef (Syntax.named 3) Syntax.imm (Syntax.tyArray (Syntax.tyInt Syntax.w8) 49)) 3) (List._∷_ (7, Rows.sc-here (Row.sInt Syntax.w64)) (List._∷_ (8, Rows.sc-here (Row.sInt Syntax.w64)) (List._∷_ (9, Rows.sc-here (Row.sInt Syntax.w64)) (List._∷_ (10, Rows.sslice (Referent.rtF (Referent.fInt Syntax.w8)) (Syntax.tyRef Syntax.erased Syntax.imm (Syntax.tyInt Syntax.w8)) 3) (List._∷_ (11, Rows.sc-here (Row.sInt Syntax.w64)) (List._∷_ (12, Rows.sc-here (Row.sInt Syntax.w64)) (List._∷_ (13, Rows.any-gone (Syntax.tyRef Syntax.erased Syntax.imm (Syntax.tyInt Syntax.w8))) (List._∷_ (14, Rows.sc-here Row.sPtr) (List._∷_ (15, Relend.msptr (OfOutput.row) (Syntax.tyRef Syntax.erased Syntax.mut OfOutput.named) 4) List.[])))))))))))))))
+        g16 = List._∷_ (0, Rows.any-gone (Laws.mir)) (List._∷_ (1, PartMut.mslice-owedM (OfOutput.row) (Syntax.tyRef (Syntax.named 0) Syntax.mut OfOutput.named) 0 4 (Row.lease (κs .0) (qs .0))) (List._∷_ (2, Mut.mslice (OfStation.row) (Syntax.tyRef (Syntax.named 1) Syntax.mut OfStation.named) 1) (List._∷_ (3, Rows.mref (OfPanelRecord.row) (Syntax.tyRef (Syntax.named 2) Syntax.mut OfPanelRecord.named) 2) (List._∷_ (4, Rows.sc-here (Row.sInt Syntax.w64)) (List._∷_ (5, Rows.sc-here (Row.sInt Syntax.w64)) (List._∷_ (6, Rows.sref (Array.Array (Referent.rtF (Referent.fInt Syntax.w8)) 49) (Syntax.tyRef (Syntax.named 3) Syntax.imm (Syntax.tyArray (Syntax.tyInt Syntax.w8) 49)) 3) (List._∷_ (7, Rows.sc-here (Row.sInt Syntax.w64)) (List._∷_ (8, Rows.sc-here (Row.sInt Syntax.w64)) (List._∷_ (9, Rows.sc-here (Row.sInt Syntax.w64)) (List._∷_ (10, Rows.sslice (Referent.rtF (Referent.fInt Syntax.w8)) (Syntax.tyRef Syntax.erased Syntax.imm (Syntax.tyInt Syntax.w8)) 3) (List._∷_ (11, Rows.sc-here (Row.sInt Syntax.w64)) (List._∷_ (12, Rows.sc-here (Row.sInt Syntax.w64)) (List._∷_ (13, Rows.any-gone (Syntax.tyRef Syntax.erased Syntax.imm (Syntax.tyInt Syntax.w8))) (List._∷_ (14, Rows.sc-here Row.sPtr) (List._∷_ (15, Relend.msptr (OfOutput.row) (Syntax.tyRef Syntax.erased Syntax.mut OfOutput.named) 4) List.[])))))))))))))))
 
         abbrev g17 : List.List Row.Entry
-        g17 = List._∷_ (0, Rows.any-gone (Laws.mir)) (List._∷_ (1, PartMut.mslice-owedM (OfOutput.row) (Syntax.tyRef (Syntax.named 0) Syntax.mut OfOutput.named) 0 4 (Row.lease (κs .0) (qs .0))) (List._∷_ (2, Mut.mslice (OfStation.row) (Syntax.tyRef (Syntax.named 1) Syntax.mut OfStation.named) 1) (List._∷_ (3, Rows.mref (Referent.rtF (Referent.fInt Syntax.w64)) (Syntax.tyRef (Syntax.named 2) Syntax.mut (Syntax.tyInt Syntax.w64)) 2) (List._∷_ (4, Rows.sc-here (Row.sInt Syntax.w64)) (List._∷_ (5, Rows.sc-here (Row.sInt Syntax.w64)) (List._∷_ (6, Rows.sref (Array.Array (Referent.rtF (Referent.fInt Syntax.w8)) 49) (Syntax.tyRef (Syntax.named 3) Syntax.imm (Syntax.tyArray (Syntax.tyInt Syntax.w8) 49)) 3) (List._∷_ (7, Rows.sc-here (Row.sInt Syntax.w64)) (List._∷_ (8, Rows.sc-here (Row.sInt Syntax.w64)) (List._∷_ (9, Rows.sc-here (Row.sInt Syntax.w64)) (List._∷_ (10, Rows.sslice (Referent.rtF (Referent.fInt Syntax.w8)) (Syntax.tyRef Syntax.erased Syntax.imm (Syntax.tyInt Syntax.w8)) 3) (List._∷_ (11, Rows.sc-here (Row.sInt Syntax.w64)) (List._∷_ (12, Rows.sc-here (Row.sInt Syntax.w64)) (List._∷_ (13, Rows.any-gone (Syntax.tyRef Syntax.erased Syntax.imm (Syntax.tyInt Syntax.w8))) (List._∷_ (14, Rows.any-gone Syntax.tyPtr) (List._∷_ (15, Relend.msptr (OfOutput.row) (Syntax.tyRef Syntax.erased Syntax.mut OfOutput.named) 4) List.[])))))))))))))))
+        g17 = List._∷_ (0, Rows.any-gone (Laws.mir)) (List._∷_ (1, PartMut.mslice-owedM (OfOutput.row) (Syntax.tyRef (Syntax.named 0) Syntax.mut OfOutput.named) 0 4 (Row.lease (κs .0) (qs .0))) (List._∷_ (2, Mut.mslice (OfStation.row) (Syntax.tyRef (Syntax.named 1) Syntax.mut OfStation.named) 1) (List._∷_ (3, Rows.mref (OfPanelRecord.row) (Syntax.tyRef (Syntax.named 2) Syntax.mut OfPanelRecord.named) 2) (List._∷_ (4, Rows.sc-here (Row.sInt Syntax.w64)) (List._∷_ (5, Rows.sc-here (Row.sInt Syntax.w64)) (List._∷_ (6, Rows.sref (Array.Array (Referent.rtF (Referent.fInt Syntax.w8)) 49) (Syntax.tyRef (Syntax.named 3) Syntax.imm (Syntax.tyArray (Syntax.tyInt Syntax.w8) 49)) 3) (List._∷_ (7, Rows.sc-here (Row.sInt Syntax.w64)) (List._∷_ (8, Rows.sc-here (Row.sInt Syntax.w64)) (List._∷_ (9, Rows.sc-here (Row.sInt Syntax.w64)) (List._∷_ (10, Rows.sslice (Referent.rtF (Referent.fInt Syntax.w8)) (Syntax.tyRef Syntax.erased Syntax.imm (Syntax.tyInt Syntax.w8)) 3) (List._∷_ (11, Rows.sc-here (Row.sInt Syntax.w64)) (List._∷_ (12, Rows.sc-here (Row.sInt Syntax.w64)) (List._∷_ (13, Rows.any-gone (Syntax.tyRef Syntax.erased Syntax.imm (Syntax.tyInt Syntax.w8))) (List._∷_ (14, Rows.any-gone Syntax.tyPtr) (List._∷_ (15, Relend.msptr (OfOutput.row) (Syntax.tyRef Syntax.erased Syntax.mut OfOutput.named) 4) List.[])))))))))))))))
 
         abbrev g18 : List.List Row.Entry
-        g18 = List._∷_ (0, Rows.any-gone (Laws.mir)) (List._∷_ (1, PartMut.mslice-owedM (OfOutput.row) (Syntax.tyRef (Syntax.named 0) Syntax.mut OfOutput.named) 0 4 (Row.lease (κs .0) (qs .0))) (List._∷_ (2, Mut.mslice (OfStation.row) (Syntax.tyRef (Syntax.named 1) Syntax.mut OfStation.named) 1) (List._∷_ (3, Rows.mref (Referent.rtF (Referent.fInt Syntax.w64)) (Syntax.tyRef (Syntax.named 2) Syntax.mut (Syntax.tyInt Syntax.w64)) 2) (List._∷_ (4, Rows.sc-here (Row.sInt Syntax.w64)) (List._∷_ (5, Rows.sc-here (Row.sInt Syntax.w64)) (List._∷_ (6, Rows.sref (Array.Array (Referent.rtF (Referent.fInt Syntax.w8)) 49) (Syntax.tyRef (Syntax.named 3) Syntax.imm (Syntax.tyArray (Syntax.tyInt Syntax.w8) 49)) 3) (List._∷_ (7, Rows.sc-here (Row.sInt Syntax.w64)) (List._∷_ (8, Rows.sc-here (Row.sInt Syntax.w64)) (List._∷_ (9, Rows.sc-here (Row.sInt Syntax.w64)) (List._∷_ (10, Rows.sslice (Referent.rtF (Referent.fInt Syntax.w8)) (Syntax.tyRef Syntax.erased Syntax.imm (Syntax.tyInt Syntax.w8)) 3) (List._∷_ (11, Rows.sc-here (Row.sInt Syntax.w64)) (List._∷_ (12, Rows.sc-here (Row.sInt Syntax.w64)) (List._∷_ (13, Rows.any-gone (Syntax.tyRef Syntax.erased Syntax.imm (Syntax.tyInt Syntax.w8))) (List._∷_ (14, Rows.any-gone Syntax.tyPtr) (List._∷_ (15, Rows.any-gone (Syntax.tyRef Syntax.erased Syntax.mut OfOutput.named)) List.[])))))))))))))))
+        g18 = List._∷_ (0, Rows.any-gone (Laws.mir)) (List._∷_ (1, PartMut.mslice-owedM (OfOutput.row) (Syntax.tyRef (Syntax.named 0) Syntax.mut OfOutput.named) 0 4 (Row.lease (κs .0) (qs .0))) (List._∷_ (2, Mut.mslice (OfStation.row) (Syntax.tyRef (Syntax.named 1) Syntax.mut OfStation.named) 1) (List._∷_ (3, Rows.mref (OfPanelRecord.row) (Syntax.tyRef (Syntax.named 2) Syntax.mut OfPanelRecord.named) 2) (List._∷_ (4, Rows.sc-here (Row.sInt Syntax.w64)) (List._∷_ (5, Rows.sc-here (Row.sInt Syntax.w64)) (List._∷_ (6, Rows.sref (Array.Array (Referent.rtF (Referent.fInt Syntax.w8)) 49) (Syntax.tyRef (Syntax.named 3) Syntax.imm (Syntax.tyArray (Syntax.tyInt Syntax.w8) 49)) 3) (List._∷_ (7, Rows.sc-here (Row.sInt Syntax.w64)) (List._∷_ (8, Rows.sc-here (Row.sInt Syntax.w64)) (List._∷_ (9, Rows.sc-here (Row.sInt Syntax.w64)) (List._∷_ (10, Rows.sslice (Referent.rtF (Referent.fInt Syntax.w8)) (Syntax.tyRef Syntax.erased Syntax.imm (Syntax.tyInt Syntax.w8)) 3) (List._∷_ (11, Rows.sc-here (Row.sInt Syntax.w64)) (List._∷_ (12, Rows.sc-here (Row.sInt Syntax.w64)) (List._∷_ (13, Rows.any-gone (Syntax.tyRef Syntax.erased Syntax.imm (Syntax.tyInt Syntax.w8))) (List._∷_ (14, Rows.any-gone Syntax.tyPtr) (List._∷_ (15, Rows.any-gone (Syntax.tyRef Syntax.erased Syntax.mut OfOutput.named)) List.[])))))))))))))))
 
         abbrev g20 : List.List Row.Entry
-        g20 = List._∷_ (0, Rows.any-gone (Laws.mir)) (List._∷_ (1, PartMut.mslice-owedM (OfOutput.row) (Syntax.tyRef (Syntax.named 0) Syntax.mut OfOutput.named) 0 4 (Row.lease (κs .0) (qs .0))) (List._∷_ (2, Mut.mslice (OfStation.row) (Syntax.tyRef (Syntax.named 1) Syntax.mut OfStation.named) 1) (List._∷_ (3, Rows.mref (Referent.rtF (Referent.fInt Syntax.w64)) (Syntax.tyRef (Syntax.named 2) Syntax.mut (Syntax.tyInt Syntax.w64)) 2) (List._∷_ (4, Rows.sc-here (Row.sInt Syntax.w64)) (List._∷_ (5, Rows.sc-here (Row.sInt Syntax.w64)) (List._∷_ (6, Rows.sref (Array.Array (Referent.rtF (Referent.fInt Syntax.w8)) 49) (Syntax.tyRef (Syntax.named 3) Syntax.imm (Syntax.tyArray (Syntax.tyInt Syntax.w8) 49)) 3) (List._∷_ (7, Rows.sc-here (Row.sInt Syntax.w64)) (List._∷_ (8, Rows.sc-here (Row.sInt Syntax.w64)) (List._∷_ (9, Rows.sc-here (Row.sInt Syntax.w64)) (List._∷_ (10, Rows.sslice (Referent.rtF (Referent.fInt Syntax.w8)) (Syntax.tyRef Syntax.erased Syntax.imm (Syntax.tyInt Syntax.w8)) 3) (List._∷_ (11, Rows.sc-here (Row.sInt Syntax.w64)) (List._∷_ (12, Rows.any-gone (Syntax.tyInt Syntax.w64)) (List._∷_ (13, Rows.any-gone (Syntax.tyRef Syntax.erased Syntax.imm (Syntax.tyInt Syntax.w8))) (List._∷_ (14, Rows.any-gone Syntax.tyPtr) (List._∷_ (15, Rows.any-gone (Syntax.tyRef Syntax.erased Syntax.mut OfOutput.named)) List.[])))))))))))))))
+        g20 = List._∷_ (0, Rows.any-gone (Laws.mir)) (List._∷_ (1, PartMut.mslice-owedM (OfOutput.row) (Syntax.tyRef (Syntax.named 0) Syntax.mut OfOutput.named) 0 4 (Row.lease (κs .0) (qs .0))) (List._∷_ (2, Mut.mslice (OfStation.row) (Syntax.tyRef (Syntax.named 1) Syntax.mut OfStation.named) 1) (List._∷_ (3, Rows.mref (OfPanelRecord.row) (Syntax.tyRef (Syntax.named 2) Syntax.mut OfPanelRecord.named) 2) (List._∷_ (4, Rows.sc-here (Row.sInt Syntax.w64)) (List._∷_ (5, Rows.sc-here (Row.sInt Syntax.w64)) (List._∷_ (6, Rows.sref (Array.Array (Referent.rtF (Referent.fInt Syntax.w8)) 49) (Syntax.tyRef (Syntax.named 3) Syntax.imm (Syntax.tyArray (Syntax.tyInt Syntax.w8) 49)) 3) (List._∷_ (7, Rows.sc-here (Row.sInt Syntax.w64)) (List._∷_ (8, Rows.sc-here (Row.sInt Syntax.w64)) (List._∷_ (9, Rows.sc-here (Row.sInt Syntax.w64)) (List._∷_ (10, Rows.sslice (Referent.rtF (Referent.fInt Syntax.w8)) (Syntax.tyRef Syntax.erased Syntax.imm (Syntax.tyInt Syntax.w8)) 3) (List._∷_ (11, Rows.sc-here (Row.sInt Syntax.w64)) (List._∷_ (12, Rows.any-gone (Syntax.tyInt Syntax.w64)) (List._∷_ (13, Rows.any-gone (Syntax.tyRef Syntax.erased Syntax.imm (Syntax.tyInt Syntax.w8))) (List._∷_ (14, Rows.any-gone Syntax.tyPtr) (List._∷_ (15, Rows.any-gone (Syntax.tyRef Syntax.erased Syntax.mut OfOutput.named)) List.[])))))))))))))))
 
         abbrev g23 : List.List Row.Entry
-        g23 = List._∷_ (0, Rows.any-gone (Laws.mir)) (List._∷_ (1, PartMut.mslice-owedM (OfOutput.row) (Syntax.tyRef (Syntax.named 0) Syntax.mut OfOutput.named) 0 4 (Row.lease (κs .0) (qs .0))) (List._∷_ (2, PartMut.mslice-owedM (OfStation.row) (Syntax.tyRef (Syntax.named 1) Syntax.mut OfStation.named) 1 5 (Row.lease (κs .1 .0) (qs .1 .0))) (List._∷_ (3, Rows.mref (Referent.rtF (Referent.fInt Syntax.w64)) (Syntax.tyRef (Syntax.named 2) Syntax.mut (Syntax.tyInt Syntax.w64)) 2) (List._∷_ (4, Rows.sc-here (Row.sInt Syntax.w64)) (List._∷_ (5, Rows.sc-here (Row.sInt Syntax.w64)) (List._∷_ (6, Rows.sref (Array.Array (Referent.rtF (Referent.fInt Syntax.w8)) 49) (Syntax.tyRef (Syntax.named 3) Syntax.imm (Syntax.tyArray (Syntax.tyInt Syntax.w8) 49)) 3) (List._∷_ (7, Rows.sc-here (Row.sInt Syntax.w64)) (List._∷_ (8, Rows.sc-here (Row.sInt Syntax.w64)) (List._∷_ (9, Rows.sc-here (Row.sInt Syntax.w64)) (List._∷_ (10, Rows.sslice (Referent.rtF (Referent.fInt Syntax.w8)) (Syntax.tyRef Syntax.erased Syntax.imm (Syntax.tyInt Syntax.w8)) 3) (List._∷_ (11, Rows.sc-here (Row.sInt Syntax.w64)) (List._∷_ (12, Rows.any-gone (Syntax.tyInt Syntax.w64)) (List._∷_ (13, Rows.any-gone (Syntax.tyRef Syntax.erased Syntax.imm (Syntax.tyInt Syntax.w8))) (List._∷_ (14, Rows.any-gone Syntax.tyPtr) (List._∷_ (15, Rows.any-gone (Syntax.tyRef Syntax.erased Syntax.mut OfOutput.named)) List.[])))))))))))))))
+        g23 = List._∷_ (0, Rows.any-gone (Laws.mir)) (List._∷_ (1, PartMut.mslice-owedM (OfOutput.row) (Syntax.tyRef (Syntax.named 0) Syntax.mut OfOutput.named) 0 4 (Row.lease (κs .0) (qs .0))) (List._∷_ (2, PartMut.mslice-owedM (OfStation.row) (Syntax.tyRef (Syntax.named 1) Syntax.mut OfStation.named) 1 5 (Row.lease (κs .1 .0) (qs .1 .0))) (List._∷_ (3, Rows.mref (OfPanelRecord.row) (Syntax.tyRef (Syntax.named 2) Syntax.mut OfPanelRecord.named) 2) (List._∷_ (4, Rows.sc-here (Row.sInt Syntax.w64)) (List._∷_ (5, Rows.sc-here (Row.sInt Syntax.w64)) (List._∷_ (6, Rows.sref (Array.Array (Referent.rtF (Referent.fInt Syntax.w8)) 49) (Syntax.tyRef (Syntax.named 3) Syntax.imm (Syntax.tyArray (Syntax.tyInt Syntax.w8) 49)) 3) (List._∷_ (7, Rows.sc-here (Row.sInt Syntax.w64)) (List._∷_ (8, Rows.sc-here (Row.sInt Syntax.w64)) (List._∷_ (9, Rows.sc-here (Row.sInt Syntax.w64)) (List._∷_ (10, Rows.sslice (Referent.rtF (Referent.fInt Syntax.w8)) (Syntax.tyRef Syntax.erased Syntax.imm (Syntax.tyInt Syntax.w8)) 3) (List._∷_ (11, Rows.sc-here (Row.sInt Syntax.w64)) (List._∷_ (12, Rows.any-gone (Syntax.tyInt Syntax.w64)) (List._∷_ (13, Rows.any-gone (Syntax.tyRef Syntax.erased Syntax.imm (Syntax.tyInt Syntax.w8))) (List._∷_ (14, Rows.any-gone Syntax.tyPtr) (List._∷_ (15, Rows.any-gone (Syntax.tyRef Syntax.erased Syntax.mut OfOutput.named)) List.[])))))))))))))))
 
         abbrev g28 : List.List Row.Entry
-        g28 = List._∷_ (0, Rows.any-gone (Laws.mir)) (List._∷_ (1, PartMut.mslice-owedM (OfOutput.row) (Syntax.tyRef (Syntax.named 0) Syntax.mut OfOutput.named) 0 4 (Row.lease (κs .0) (qs .0))) (List._∷_ (2, PartMut.mslice-owedM (OfStation.row) (Syntax.tyRef (Syntax.named 1) Syntax.mut OfStation.named) 1 5 (Row.lease (κs .1 .0) (qs .1 .0))) (List._∷_ (3, Rows.mref-owed (Referent.rtF (Referent.fInt Syntax.w64)) (Syntax.tyRef (Syntax.named 2) Syntax.mut (Syntax.tyInt Syntax.w64)) 2 6 (Row.lease (κs .1 .1 .0) (qs .1 .1 .0))) (List._∷_ (4, Rows.sc-here (Row.sInt Syntax.w64)) (List._∷_ (5, Rows.sc-here (Row.sInt Syntax.w64)) (List._∷_ (6, Rows.sref (Array.Array (Referent.rtF (Referent.fInt Syntax.w8)) 49) (Syntax.tyRef (Syntax.named 3) Syntax.imm (Syntax.tyArray (Syntax.tyInt Syntax.w8) 49)) 3) (List._∷_ (7, Rows.sc-here (Row.sInt Syntax.w64)) (List._∷_ (8, Rows.sc-here (Row.sInt Syntax.w64)) (List._∷_ (9, Rows.sc-here (Row.sInt Syntax.w64)) (List._∷_ (10, Rows.sslice (Referent.rtF (Referent.fInt Syntax.w8)) (Syntax.tyRef Syntax.erased Syntax.imm (Syntax.tyInt Syntax.w8)) 3) (List._∷_ (11, Rows.sc-here (Row.sInt Syntax.w64)) (List._∷_ (12, Rows.any-gone (Syntax.tyInt Syntax.w64)) (List._∷_ (13, Rows.any-gone (Syntax.tyRef Syntax.erased Syntax.imm (Syntax.tyInt Syntax.w8))) (List._∷_ (14, Rows.any-gone Syntax.tyPtr) (List._∷_ (15, Rows.any-gone (Syntax.tyRef Syntax.erased Syntax.mut OfOutput.named)) List.[])))))))))))))))
+        g28 = List._∷_ (0, Rows.any-gone (Laws.mir)) (List._∷_ (1, PartMut.mslice-owedM (OfOutput.row) (Syntax.tyRef (Syntax.named 0) Syntax.mut OfOutput.named) 0 4 (Row.lease (κs .0) (qs .0))) (List._∷_ (2, PartMut.mslice-owedM (OfStation.row) (Syntax.tyRef (Syntax.named 1) Syntax.mut OfStation.named) 1 5 (Row.lease (κs .1 .0) (qs .1 .0))) (List._∷_ (3, Rows.mref-owed (OfPanelRecord.row) (Syntax.tyRef (Syntax.named 2) Syntax.mut OfPanelRecord.named) 2 6 (Row.lease (κs .1 .1 .0) (qs .1 .1 .0))) (List._∷_ (4, Rows.sc-here (Row.sInt Syntax.w64)) (List._∷_ (5, Rows.sc-here (Row.sInt Syntax.w64)) (List._∷_ (6, Rows.sref (Array.Array (Referent.rtF (Referent.fInt Syntax.w8)) 49) (Syntax.tyRef (Syntax.named 3) Syntax.imm (Syntax.tyArray (Syntax.tyInt Syntax.w8) 49)) 3) (List._∷_ (7, Rows.sc-here (Row.sInt Syntax.w64)) (List._∷_ (8, Rows.sc-here (Row.sInt Syntax.w64)) (List._∷_ (9, Rows.sc-here (Row.sInt Syntax.w64)) (List._∷_ (10, Rows.sslice (Referent.rtF (Referent.fInt Syntax.w8)) (Syntax.tyRef Syntax.erased Syntax.imm (Syntax.tyInt Syntax.w8)) 3) (List._∷_ (11, Rows.sc-here (Row.sInt Syntax.w64)) (List._∷_ (12, Rows.any-gone (Syntax.tyInt Syntax.w64)) (List._∷_ (13, Rows.any-gone (Syntax.tyRef Syntax.erased Syntax.imm (Syntax.tyInt Syntax.w8))) (List._∷_ (14, Rows.any-gone Syntax.tyPtr) (List._∷_ (15, Rows.any-gone (Syntax.tyRef Syntax.erased Syntax.mut OfOutput.named)) List.[])))))))))))))))
 
         abbrev g33 : List.List Row.Entry
-        g33 = List._∷_ (0, Rows.any-gone (Laws.mir)) (List._∷_ (1, PartMut.mslice-owedM (OfOutput.row) (Syntax.tyRef (Syntax.named 0) Syntax.mut OfOutput.named) 0 4 (Row.lease (κs .0) (qs .0))) (List._∷_ (2, PartMut.mslice-owedM (OfStation.row) (Syntax.tyRef (Syntax.named 1) Syntax.mut OfStation.named) 1 5 (Row.lease (κs .1 .0) (qs .1 .0))) (List._∷_ (3, Rows.mref-owed (Referent.rtF (Referent.fInt Syntax.w64)) (Syntax.tyRef (Syntax.named 2) Syntax.mut (Syntax.tyInt Syntax.w64)) 2 6 (Row.lease (κs .1 .1 .0) (qs .1 .1 .0))) (List._∷_ (4, Rows.sc-here (Row.sInt Syntax.w64)) (List._∷_ (5, Rows.sc-here (Row.sInt Syntax.w64)) (List._∷_ (6, Rows.sref (Array.Array (Referent.rtF (Referent.fInt Syntax.w8)) 49) (Syntax.tyRef (Syntax.named 3) Syntax.imm (Syntax.tyArray (Syntax.tyInt Syntax.w8) 49)) 3) (List._∷_ (7, Rows.sc-here (Row.sInt Syntax.w64)) (List._∷_ (8, Rows.sc-here (Row.sInt Syntax.w64)) (List._∷_ (9, Rows.sc-here (Row.sInt Syntax.w64)) (List._∷_ (10, Rows.any-gone (Syntax.tyStruct (List._∷_ 38 (List._∷_ 91 (List._∷_ 93 List.[]))) (Syntax.tcons (Syntax.tyRef Syntax.erased Syntax.imm (Syntax.tyInt Syntax.w8)) (Syntax.tcons (Syntax.tyInt Syntax.w64) Syntax.tnil)))) (List._∷_ (11, Rows.sc-here (Row.sInt Syntax.w64)) (List._∷_ (12, Rows.any-gone (Syntax.tyInt Syntax.w64)) (List._∷_ (13, Rows.any-gone (Syntax.tyRef Syntax.erased Syntax.imm (Syntax.tyInt Syntax.w8))) (List._∷_ (14, Rows.any-gone Syntax.tyPtr) (List._∷_ (15, Rows.any-gone (Syntax.tyRef Syntax.erased Syntax.mut OfOutput.named)) List.[])))))))))))))))
+        g33 = List._∷_ (0, Rows.any-gone (Laws.mir)) (List._∷_ (1, PartMut.mslice-owedM (OfOutput.row) (Syntax.tyRef (Syntax.named 0) Syntax.mut OfOutput.named) 0 4 (Row.lease (κs .0) (qs .0))) (List._∷_ (2, PartMut.mslice-owedM (OfStation.row) (Syntax.tyRef (Syntax.named 1) Syntax.mut OfStation.named) 1 5 (Row.lease (κs .1 .0) (qs .1 .0))) (List._∷_ (3, Rows.mref-owed (OfPanelRecord.row) (Syntax.tyRef (Syntax.named 2) Syntax.mut OfPanelRecord.named) 2 6 (Row.lease (κs .1 .1 .0) (qs .1 .1 .0))) (List._∷_ (4, Rows.sc-here (Row.sInt Syntax.w64)) (List._∷_ (5, Rows.sc-here (Row.sInt Syntax.w64)) (List._∷_ (6, Rows.sref (Array.Array (Referent.rtF (Referent.fInt Syntax.w8)) 49) (Syntax.tyRef (Syntax.named 3) Syntax.imm (Syntax.tyArray (Syntax.tyInt Syntax.w8) 49)) 3) (List._∷_ (7, Rows.sc-here (Row.sInt Syntax.w64)) (List._∷_ (8, Rows.sc-here (Row.sInt Syntax.w64)) (List._∷_ (9, Rows.sc-here (Row.sInt Syntax.w64)) (List._∷_ (10, Rows.any-gone (Syntax.tyStruct (List._∷_ 38 (List._∷_ 91 (List._∷_ 93 List.[]))) (Syntax.tcons (Syntax.tyRef Syntax.erased Syntax.imm (Syntax.tyInt Syntax.w8)) (Syntax.tcons (Syntax.tyInt Syntax.w64) Syntax.tnil)))) (List._∷_ (11, Rows.sc-here (Row.sInt Syntax.w64)) (List._∷_ (12, Rows.any-gone (Syntax.tyInt Syntax.w64)) (List._∷_ (13, Rows.any-gone (Syntax.tyRef Syntax.erased Syntax.imm (Syntax.tyInt Syntax.w8))) (List._∷_ (14, Rows.any-gone Syntax.tyPtr) (List._∷_ (15, Rows.any-gone (Syntax.tyRef Syntax.erased Syntax.mut OfOutput.named)) List.[])))))))))))))))
 
         abbrev g37 : List.List Row.Entry
-        g37 = List._∷_ (0, Rows.whole (Declared.row Answer.the-type)) (List._∷_ (1, PartMut.mslice-owedM (OfOutput.row) (Syntax.tyRef (Syntax.named 0) Syntax.mut OfOutput.named) 0 4 (Row.lease (κs .0) (qs .0))) (List._∷_ (2, PartMut.mslice-owedM (OfStation.row) (Syntax.tyRef (Syntax.named 1) Syntax.mut OfStation.named) 1 5 (Row.lease (κs .1 .0) (qs .1 .0))) (List._∷_ (3, Rows.mref-owed (Referent.rtF (Referent.fInt Syntax.w64)) (Syntax.tyRef (Syntax.named 2) Syntax.mut (Syntax.tyInt Syntax.w64)) 2 6 (Row.lease (κs .1 .1 .0) (qs .1 .1 .0))) (List._∷_ (4, Rows.sc-here (Row.sInt Syntax.w64)) (List._∷_ (5, Rows.sc-here (Row.sInt Syntax.w64)) (List._∷_ (6, Rows.sref (Array.Array (Referent.rtF (Referent.fInt Syntax.w8)) 49) (Syntax.tyRef (Syntax.named 3) Syntax.imm (Syntax.tyArray (Syntax.tyInt Syntax.w8) 49)) 3) (List._∷_ (7, Rows.sc-here (Row.sInt Syntax.w64)) (List._∷_ (8, Rows.sc-here (Row.sInt Syntax.w64)) (List._∷_ (9, Rows.sc-here (Row.sInt Syntax.w64)) (List._∷_ (10, Rows.any-gone (Syntax.tyStruct (List._∷_ 38 (List._∷_ 91 (List._∷_ 93 List.[]))) (Syntax.tcons (Syntax.tyRef Syntax.erased Syntax.imm (Syntax.tyInt Syntax.w8)) (Syntax.tcons (Syntax.tyInt Syntax.w64) Syntax.tnil)))) (List._∷_ (11, Rows.sc-here (Row.sInt Syntax.w64)) (List._∷_ (12, Rows.any-gone (Syntax.tyInt Syntax.w64)) (List._∷_ (13, Rows.any-gone (Syntax.tyRef Syntax.erased Syntax.imm (Syntax.tyInt Syntax.w8))) (List._∷_ (14, Rows.any-gone Syntax.tyPtr) (List._∷_ (15, Rows.any-gone (Syntax.tyRef Syntax.erased Syntax.mut OfOutput.named)) List.[])))))))))))))))
+        g37 = List._∷_ (0, Rows.whole (Declared.row Answer.the-type)) (List._∷_ (1, PartMut.mslice-owedM (OfOutput.row) (Syntax.tyRef (Syntax.named 0) Syntax.mut OfOutput.named) 0 4 (Row.lease (κs .0) (qs .0))) (List._∷_ (2, PartMut.mslice-owedM (OfStation.row) (Syntax.tyRef (Syntax.named 1) Syntax.mut OfStation.named) 1 5 (Row.lease (κs .1 .0) (qs .1 .0))) (List._∷_ (3, Rows.mref-owed (OfPanelRecord.row) (Syntax.tyRef (Syntax.named 2) Syntax.mut OfPanelRecord.named) 2 6 (Row.lease (κs .1 .1 .0) (qs .1 .1 .0))) (List._∷_ (4, Rows.sc-here (Row.sInt Syntax.w64)) (List._∷_ (5, Rows.sc-here (Row.sInt Syntax.w64)) (List._∷_ (6, Rows.sref (Array.Array (Referent.rtF (Referent.fInt Syntax.w8)) 49) (Syntax.tyRef (Syntax.named 3) Syntax.imm (Syntax.tyArray (Syntax.tyInt Syntax.w8) 49)) 3) (List._∷_ (7, Rows.sc-here (Row.sInt Syntax.w64)) (List._∷_ (8, Rows.sc-here (Row.sInt Syntax.w64)) (List._∷_ (9, Rows.sc-here (Row.sInt Syntax.w64)) (List._∷_ (10, Rows.any-gone (Syntax.tyStruct (List._∷_ 38 (List._∷_ 91 (List._∷_ 93 List.[]))) (Syntax.tcons (Syntax.tyRef Syntax.erased Syntax.imm (Syntax.tyInt Syntax.w8)) (Syntax.tcons (Syntax.tyInt Syntax.w64) Syntax.tnil)))) (List._∷_ (11, Rows.sc-here (Row.sInt Syntax.w64)) (List._∷_ (12, Rows.any-gone (Syntax.tyInt Syntax.w64)) (List._∷_ (13, Rows.any-gone (Syntax.tyRef Syntax.erased Syntax.imm (Syntax.tyInt Syntax.w8))) (List._∷_ (14, Rows.any-gone Syntax.tyPtr) (List._∷_ (15, Rows.any-gone (Syntax.tyRef Syntax.erased Syntax.mut OfOutput.named)) List.[])))))))))))))))
 
         abbrev g40 : List.List Row.Entry
-        g40 = List._∷_ (0, Rows.whole (Declared.row Answer.the-type)) (List._∷_ (1, PartMut.mslice-owedM (OfOutput.row) (Syntax.tyRef (Syntax.named 0) Syntax.mut OfOutput.named) 0 4 (Row.lease (κs .0) (qs .0))) (List._∷_ (2, PartMut.mslice-owedM (OfStation.row) (Syntax.tyRef (Syntax.named 1) Syntax.mut OfStation.named) 1 5 (Row.lease (κs .1 .0) (qs .1 .0))) (List._∷_ (3, Rows.mref-owed (Referent.rtF (Referent.fInt Syntax.w64)) (Syntax.tyRef (Syntax.named 2) Syntax.mut (Syntax.tyInt Syntax.w64)) 2 6 (Row.lease (κs .1 .1 .0) (qs .1 .1 .0))) (List._∷_ (4, Rows.sc-here (Row.sInt Syntax.w64)) (List._∷_ (5, Rows.sc-here (Row.sInt Syntax.w64)) (List._∷_ (6, Rows.sref (Array.Array (Referent.rtF (Referent.fInt Syntax.w8)) 49) (Syntax.tyRef (Syntax.named 3) Syntax.imm (Syntax.tyArray (Syntax.tyInt Syntax.w8) 49)) 3) (List._∷_ (7, Rows.sc-here (Row.sInt Syntax.w64)) (List._∷_ (8, Rows.any-gone (Syntax.tyInt Syntax.w64)) (List._∷_ (9, Rows.sc-here (Row.sInt Syntax.w64)) (List._∷_ (10, Rows.any-gone (Syntax.tyStruct (List._∷_ 38 (List._∷_ 91 (List._∷_ 93 List.[]))) (Syntax.tcons (Syntax.tyRef Syntax.erased Syntax.imm (Syntax.tyInt Syntax.w8)) (Syntax.tcons (Syntax.tyInt Syntax.w64) Syntax.tnil)))) (List._∷_ (11, Rows.sc-here (Row.sInt Syntax.w64)) (List._∷_ (12, Rows.any-gone (Syntax.tyInt Syntax.w64)) (List._∷_ (13, Rows.any-gone (Syntax.tyRef Syntax.erased Syntax.imm (Syntax.tyInt Syntax.w8))) (List._∷_ (14, Rows.any-gone Syntax.tyPtr) (List._∷_ (15, Rows.any-gone (Syntax.tyRef Syntax.erased Syntax.mut OfOutput.named)) List.[])))))))))))))))
+        g40 = List._∷_ (0, Rows.whole (Declared.row Answer.the-type)) (List._∷_ (1, PartMut.mslice-owedM (OfOutput.row) (Syntax.tyRef (Syntax.named 0) Syntax.mut OfOutput.named) 0 4 (Row.lease (κs .0) (qs .0))) (List._∷_ (2, PartMut.mslice-owedM (OfStation.row) (Syntax.tyRef (Syntax.named 1) Syntax.mut OfStation.named) 1 5 (Row.lease (κs .1 .0) (qs .1 .0))) (List._∷_ (3, Rows.mref-owed (OfPanelRecord.row) (Syntax.tyRef (Syntax.named 2) Syntax.mut OfPanelRecord.named) 2 6 (Row.lease (κs .1 .1 .0) (qs .1 .1 .0))) (List._∷_ (4, Rows.sc-here (Row.sInt Syntax.w64)) (List._∷_ (5, Rows.sc-here (Row.sInt Syntax.w64)) (List._∷_ (6, Rows.sref (Array.Array (Referent.rtF (Referent.fInt Syntax.w8)) 49) (Syntax.tyRef (Syntax.named 3) Syntax.imm (Syntax.tyArray (Syntax.tyInt Syntax.w8) 49)) 3) (List._∷_ (7, Rows.sc-here (Row.sInt Syntax.w64)) (List._∷_ (8, Rows.any-gone (Syntax.tyInt Syntax.w64)) (List._∷_ (9, Rows.sc-here (Row.sInt Syntax.w64)) (List._∷_ (10, Rows.any-gone (Syntax.tyStruct (List._∷_ 38 (List._∷_ 91 (List._∷_ 93 List.[]))) (Syntax.tcons (Syntax.tyRef Syntax.erased Syntax.imm (Syntax.tyInt Syntax.w8)) (Syntax.tcons (Syntax.tyInt Syntax.w64) Syntax.tnil)))) (List._∷_ (11, Rows.sc-here (Row.sInt Syntax.w64)) (List._∷_ (12, Rows.any-gone (Syntax.tyInt Syntax.w64)) (List._∷_ (13, Rows.any-gone (Syntax.tyRef Syntax.erased Syntax.imm (Syntax.tyInt Syntax.w8))) (List._∷_ (14, Rows.any-gone Syntax.tyPtr) (List._∷_ (15, Rows.any-gone (Syntax.tyRef Syntax.erased Syntax.mut OfOutput.named)) List.[])))))))))))))))
 
         abbrev g41 : List.List Row.Entry
-        g41 = List._∷_ (0, Rows.whole (Declared.row Answer.the-type)) (List._∷_ (1, PartMut.mslice-owedM (OfOutput.row) (Syntax.tyRef (Syntax.named 0) Syntax.mut OfOutput.named) 0 4 (Row.lease (κs .0) (qs .0))) (List._∷_ (2, PartMut.mslice-owedM (OfStation.row) (Syntax.tyRef (Syntax.named 1) Syntax.mut OfStation.named) 1 5 (Row.lease (κs .1 .0) (qs .1 .0))) (List._∷_ (3, Rows.mref-owed (Referent.rtF (Referent.fInt Syntax.w64)) (Syntax.tyRef (Syntax.named 2) Syntax.mut (Syntax.tyInt Syntax.w64)) 2 6 (Row.lease (κs .1 .1 .0) (qs .1 .1 .0))) (List._∷_ (4, Rows.sc-here (Row.sInt Syntax.w64)) (List._∷_ (5, Rows.sc-here (Row.sInt Syntax.w64)) (List._∷_ (6, Rows.sref (Array.Array (Referent.rtF (Referent.fInt Syntax.w8)) 49) (Syntax.tyRef (Syntax.named 3) Syntax.imm (Syntax.tyArray (Syntax.tyInt Syntax.w8) 49)) 3) (List._∷_ (7, Rows.sc-here (Row.sInt Syntax.w64)) (List._∷_ (8, Rows.any-gone (Syntax.tyInt Syntax.w64)) (List._∷_ (9, Rows.any-gone (Syntax.tyInt Syntax.w64)) (List._∷_ (10, Rows.any-gone (Syntax.tyStruct (List._∷_ 38 (List._∷_ 91 (List._∷_ 93 List.[]))) (Syntax.tcons (Syntax.tyRef Syntax.erased Syntax.imm (Syntax.tyInt Syntax.w8)) (Syntax.tcons (Syntax.tyInt Syntax.w64) Syntax.tnil)))) (List._∷_ (11, Rows.sc-here (Row.sInt Syntax.w64)) (List._∷_ (12, Rows.any-gone (Syntax.tyInt Syntax.w64)) (List._∷_ (13, Rows.any-gone (Syntax.tyRef Syntax.erased Syntax.imm (Syntax.tyInt Syntax.w8))) (List._∷_ (14, Rows.any-gone Syntax.tyPtr) (List._∷_ (15, Rows.any-gone (Syntax.tyRef Syntax.erased Syntax.mut OfOutput.named)) List.[])))))))))))))))
+        g41 = List._∷_ (0, Rows.whole (Declared.row Answer.the-type)) (List._∷_ (1, PartMut.mslice-owedM (OfOutput.row) (Syntax.tyRef (Syntax.named 0) Syntax.mut OfOutput.named) 0 4 (Row.lease (κs .0) (qs .0))) (List._∷_ (2, PartMut.mslice-owedM (OfStation.row) (Syntax.tyRef (Syntax.named 1) Syntax.mut OfStation.named) 1 5 (Row.lease (κs .1 .0) (qs .1 .0))) (List._∷_ (3, Rows.mref-owed (OfPanelRecord.row) (Syntax.tyRef (Syntax.named 2) Syntax.mut OfPanelRecord.named) 2 6 (Row.lease (κs .1 .1 .0) (qs .1 .1 .0))) (List._∷_ (4, Rows.sc-here (Row.sInt Syntax.w64)) (List._∷_ (5, Rows.sc-here (Row.sInt Syntax.w64)) (List._∷_ (6, Rows.sref (Array.Array (Referent.rtF (Referent.fInt Syntax.w8)) 49) (Syntax.tyRef (Syntax.named 3) Syntax.imm (Syntax.tyArray (Syntax.tyInt Syntax.w8) 49)) 3) (List._∷_ (7, Rows.sc-here (Row.sInt Syntax.w64)) (List._∷_ (8, Rows.any-gone (Syntax.tyInt Syntax.w64)) (List._∷_ (9, Rows.any-gone (Syntax.tyInt Syntax.w64)) (List._∷_ (10, Rows.any-gone (Syntax.tyStruct (List._∷_ 38 (List._∷_ 91 (List._∷_ 93 List.[]))) (Syntax.tcons (Syntax.tyRef Syntax.erased Syntax.imm (Syntax.tyInt Syntax.w8)) (Syntax.tcons (Syntax.tyInt Syntax.w64) Syntax.tnil)))) (List._∷_ (11, Rows.sc-here (Row.sInt Syntax.w64)) (List._∷_ (12, Rows.any-gone (Syntax.tyInt Syntax.w64)) (List._∷_ (13, Rows.any-gone (Syntax.tyRef Syntax.erased Syntax.imm (Syntax.tyInt Syntax.w8))) (List._∷_ (14, Rows.any-gone Syntax.tyPtr) (List._∷_ (15, Rows.any-gone (Syntax.tyRef Syntax.erased Syntax.mut OfOutput.named)) List.[])))))))))))))))
 
         abbrev g42 : List.List Row.Entry
-        g42 = List._∷_ (0, Rows.whole (Declared.row Answer.the-type)) (List._∷_ (1, PartMut.mslice-owedM (OfOutput.row) (Syntax.tyRef (Syntax.named 0) Syntax.mut OfOutput.named) 0 4 (Row.lease (κs .0) (qs .0))) (List._∷_ (2, PartMut.mslice-owedM (OfStation.row) (Syntax.tyRef (Syntax.named 1) Syntax.mut OfStation.named) 1 5 (Row.lease (κs .1 .0) (qs .1 .0))) (List._∷_ (3, Rows.mref-owed (Referent.rtF (Referent.fInt Syntax.w64)) (Syntax.tyRef (Syntax.named 2) Syntax.mut (Syntax.tyInt Syntax.w64)) 2 6 (Row.lease (κs .1 .1 .0) (qs .1 .1 .0))) (List._∷_ (4, Rows.sc-here (Row.sInt Syntax.w64)) (List._∷_ (5, Rows.sc-here (Row.sInt Syntax.w64)) (List._∷_ (6, Rows.sref (Array.Array (Referent.rtF (Referent.fInt Syntax.w8)) 49) (Syntax.tyRef (Syntax.named 3) Syntax.imm (Syntax.tyArray (Syntax.tyInt Syntax.w8) 49)) 3) (List._∷_ (7, Rows.sc-here (Row.sInt Syntax.w64)) (List._∷_ (8, Rows.any-gone (Syntax.tyInt Syntax.w64)) (List._∷_ (9, Rows.any-gone (Syntax.tyInt Syntax.w64)) (List._∷_ (10, Rows.any-gone (Syntax.tyStruct (List._∷_ 38 (List._∷_ 91 (List._∷_ 93 List.[]))) (Syntax.tcons (Syntax.tyRef Syntax.erased Syntax.imm (Syntax.tyInt Syntax.w8)) (Syntax.tcons (Syntax.tyInt Syntax.w64) Syntax.tnil)))) (List._∷_ (11, Rows.any-gone (Syntax.tyInt Syntax.w64)) (List._∷_ (12, Rows.any-gone (Syntax.tyInt Syntax.w64)) (List._∷_ (13, Rows.any-gone (Syntax.tyRef Syntax.erased Syntax.imm (Syntax.tyInt Syntax.w8))) (List._∷_ (14, Rows.any-gone Syntax.tyPtr) (List._∷_ (15, Rows.any-gone (Syntax.tyRef Syntax.erased Syntax.mut OfOutput.named)) List.[])))))))))))))))
+        g42 = List._∷_ (0, Rows.whole (Declared.row Answer.the-type)) (List._∷_ (1, PartMut.mslice-owedM (OfOutput.row) (Syntax.tyRef (Syntax.named 0) Syntax.mut OfOutput.named) 0 4 (Row.lease (κs .0) (qs .0))) (List._∷_ (2, PartMut.mslice-owedM (OfStation.row) (Syntax.tyRef (Syntax.named 1) Syntax.mut OfStation.named) 1 5 (Row.lease (κs .1 .0) (qs .1 .0))) (List._∷_ (3, Rows.mref-owed (OfPanelRecord.row) (Syntax.tyRef (Syntax.named 2) Syntax.mut OfPanelRecord.named) 2 6 (Row.lease (κs .1 .1 .0) (qs .1 .1 .0))) (List._∷_ (4, Rows.sc-here (Row.sInt Syntax.w64)) (List._∷_ (5, Rows.sc-here (Row.sInt Syntax.w64)) (List._∷_ (6, Rows.sref (Array.Array (Referent.rtF (Referent.fInt Syntax.w8)) 49) (Syntax.tyRef (Syntax.named 3) Syntax.imm (Syntax.tyArray (Syntax.tyInt Syntax.w8) 49)) 3) (List._∷_ (7, Rows.sc-here (Row.sInt Syntax.w64)) (List._∷_ (8, Rows.any-gone (Syntax.tyInt Syntax.w64)) (List._∷_ (9, Rows.any-gone (Syntax.tyInt Syntax.w64)) (List._∷_ (10, Rows.any-gone (Syntax.tyStruct (List._∷_ 38 (List._∷_ 91 (List._∷_ 93 List.[]))) (Syntax.tcons (Syntax.tyRef Syntax.erased Syntax.imm (Syntax.tyInt Syntax.w8)) (Syntax.tcons (Syntax.tyInt Syntax.w64) Syntax.tnil)))) (List._∷_ (11, Rows.any-gone (Syntax.tyInt Syntax.w64)) (List._∷_ (12, Rows.any-gone (Syntax.tyInt Syntax.w64)) (List._∷_ (13, Rows.any-gone (Syntax.tyRef Syntax.erased Syntax.imm (Syntax.tyInt Syntax.w8))) (List._∷_ (14, Rows.any-gone Syntax.tyPtr) (List._∷_ (15, Rows.any-gone (Syntax.tyRef Syntax.erased Syntax.mut OfOutput.named)) List.[])))))))))))))))
 
         abbrev g43 : List.List Row.Entry
-        g43 = List._∷_ (0, Rows.whole (Declared.row Answer.the-type)) (List._∷_ (1, Mut.mslice (OfOutput.row) (Syntax.tyRef (Syntax.named 0) Syntax.mut OfOutput.named) 0) (List._∷_ (2, PartMut.mslice-owedM (OfStation.row) (Syntax.tyRef (Syntax.named 1) Syntax.mut OfStation.named) 1 5 (Row.lease (κs .1 .0) (qs .1 .0))) (List._∷_ (3, Rows.mref-owed (Referent.rtF (Referent.fInt Syntax.w64)) (Syntax.tyRef (Syntax.named 2) Syntax.mut (Syntax.tyInt Syntax.w64)) 2 6 (Row.lease (κs .1 .1 .0) (qs .1 .1 .0))) (List._∷_ (4, Rows.sc-here (Row.sInt Syntax.w64)) (List._∷_ (5, Rows.sc-here (Row.sInt Syntax.w64)) (List._∷_ (6, Rows.sref (Array.Array (Referent.rtF (Referent.fInt Syntax.w8)) 49) (Syntax.tyRef (Syntax.named 3) Syntax.imm (Syntax.tyArray (Syntax.tyInt Syntax.w8) 49)) 3) (List._∷_ (7, Rows.sc-here (Row.sInt Syntax.w64)) (List._∷_ (8, Rows.any-gone (Syntax.tyInt Syntax.w64)) (List._∷_ (9, Rows.any-gone (Syntax.tyInt Syntax.w64)) (List._∷_ (10, Rows.any-gone (Syntax.tyStruct (List._∷_ 38 (List._∷_ 91 (List._∷_ 93 List.[]))) (Syntax.tcons (Syntax.tyRef Syntax.erased Syntax.imm (Syntax.tyInt Syntax.w8)) (Syntax.tcons (Syntax.tyInt Syntax.w64) Syntax.tnil)))) (List._∷_ (11, Rows.any-gone (Syntax.tyInt Syntax.w64)) (List._∷_ (12, Rows.any-gone (Syntax.tyInt Syntax.w64)) (List._∷_ (13, Rows.any-gone (Syntax.tyRef Syntax.erased Syntax.imm (Syntax.tyInt Syntax.w8))) (List._∷_ (14, Rows.any-gone Syntax.tyPtr) (List._∷_ (15, Rows.any-gone (Syntax.tyRef Syntax.erased Syntax.mut OfOutput.named)) List.[])))))))))))))))
+        g43 = List._∷_ (0, Rows.whole (Declared.row Answer.the-type)) (List._∷_ (1, Mut.mslice (OfOutput.row) (Syntax.tyRef (Syntax.named 0) Syntax.mut OfOutput.named) 0) (List._∷_ (2, PartMut.mslice-owedM (OfStation.row) (Syntax.tyRef (Syntax.named 1) Syntax.mut OfStation.named) 1 5 (Row.lease (κs .1 .0) (qs .1 .0))) (List._∷_ (3, Rows.mref-owed (OfPanelRecord.row) (Syntax.tyRef (Syntax.named 2) Syntax.mut OfPanelRecord.named) 2 6 (Row.lease (κs .1 .1 .0) (qs .1 .1 .0))) (List._∷_ (4, Rows.sc-here (Row.sInt Syntax.w64)) (List._∷_ (5, Rows.sc-here (Row.sInt Syntax.w64)) (List._∷_ (6, Rows.sref (Array.Array (Referent.rtF (Referent.fInt Syntax.w8)) 49) (Syntax.tyRef (Syntax.named 3) Syntax.imm (Syntax.tyArray (Syntax.tyInt Syntax.w8) 49)) 3) (List._∷_ (7, Rows.sc-here (Row.sInt Syntax.w64)) (List._∷_ (8, Rows.any-gone (Syntax.tyInt Syntax.w64)) (List._∷_ (9, Rows.any-gone (Syntax.tyInt Syntax.w64)) (List._∷_ (10, Rows.any-gone (Syntax.tyStruct (List._∷_ 38 (List._∷_ 91 (List._∷_ 93 List.[]))) (Syntax.tcons (Syntax.tyRef Syntax.erased Syntax.imm (Syntax.tyInt Syntax.w8)) (Syntax.tcons (Syntax.tyInt Syntax.w64) Syntax.tnil)))) (List._∷_ (11, Rows.any-gone (Syntax.tyInt Syntax.w64)) (List._∷_ (12, Rows.any-gone (Syntax.tyInt Syntax.w64)) (List._∷_ (13, Rows.any-gone (Syntax.tyRef Syntax.erased Syntax.imm (Syntax.tyInt Syntax.w8))) (List._∷_ (14, Rows.any-gone Syntax.tyPtr) (List._∷_ (15, Rows.any-gone (Syntax.tyRef Syntax.erased Syntax.mut OfOutput.named)) List.[])))))))))))))))
 
         abbrev g45 : List.List Row.Entry
-        g45 = List._∷_ (0, Rows.whole (Declared.row Answer.the-type)) (List._∷_ (1, Mut.mslice (OfOutput.row) (Syntax.tyRef (Syntax.named 0) Syntax.mut OfOutput.named) 0) (List._∷_ (2, Mut.mslice (OfStation.row) (Syntax.tyRef (Syntax.named 1) Syntax.mut OfStation.named) 1) (List._∷_ (3, Rows.mref-owed (Referent.rtF (Referent.fInt Syntax.w64)) (Syntax.tyRef (Syntax.named 2) Syntax.mut (Syntax.tyInt Syntax.w64)) 2 6 (Row.lease (κs .1 .1 .0) (qs .1 .1 .0))) (List._∷_ (4, Rows.sc-here (Row.sInt Syntax.w64)) (List._∷_ (5, Rows.sc-here (Row.sInt Syntax.w64)) (List._∷_ (6, Rows.sref (Array.Array (Referent.rtF (Referent.fInt Syntax.w8)) 49) (Syntax.tyRef (Syntax.named 3) Syntax.imm (Syntax.tyArray (Syntax.tyInt Syntax.w8) 49)) 3) (List._∷_ (7, Rows.sc-here (Row.sInt Syntax.w64)) (List._∷_ (8, Rows.any-gone (Syntax.tyInt Syntax.w64)) (List._∷_ (9, Rows.any-gone (Syntax.tyInt Syntax.w64)) (List._∷_ (10, Rows.any-gone (Syntax.tyStruct (List._∷_ 38 (List._∷_ 91 (List._∷_ 93 List.[]))) (Syntax.tcons (Syntax.tyRef Syntax.erased Syntax.imm (Syntax.tyInt Syntax.w8)) (Syntax.tcons (Syntax.tyInt Syntax.w64) Syntax.tnil)))) (List._∷_ (11, Rows.any-gone (Syntax.tyInt Syntax.w64)) (List._∷_ (12, Rows.any-gone (Syntax.tyInt Syntax.w64)) (List._∷_ (13, Rows.any-gone (Syntax.tyRef Syntax.erased Syntax.imm (Syntax.tyInt Syntax.w8))) (List._∷_ (14, Rows.any-gone Syntax.tyPtr) (List._∷_ (15, Rows.any-gone (Syntax.tyRef Syntax.erased Syntax.mut OfOutput.named)) List.[])))))))))))))))
+        g45 = List._∷_ (0, Rows.whole (Declared.row Answer.the-type)) (List._∷_ (1, Mut.mslice (OfOutput.row) (Syntax.tyRef (Syntax.named 0) Syntax.mut OfOutput.named) 0) (List._∷_ (2, Mut.mslice (OfStation.row) (Syntax.tyRef (Syntax.named 1) Syntax.mut OfStation.named) 1) (List._∷_ (3, Rows.mref-owed (OfPanelRecord.row) (Syntax.tyRef (Syntax.named 2) Syntax.mut OfPanelRecord.named) 2 6 (Row.lease (κs .1 .1 .0) (qs .1 .1 .0))) (List._∷_ (4, Rows.sc-here (Row.sInt Syntax.w64)) (List._∷_ (5, Rows.sc-here (Row.sInt Syntax.w64)) (List._∷_ (6, Rows.sref (Array.Array (Referent.rtF (Referent.fInt Syntax.w8)) 49) (Syntax.tyRef (Syntax.named 3) Syntax.imm (Syntax.tyArray (Syntax.tyInt Syntax.w8) 49)) 3) (List._∷_ (7, Rows.sc-here (Row.sInt Syntax.w64)) (List._∷_ (8, Rows.any-gone (Syntax.tyInt Syntax.w64)) (List._∷_ (9, Rows.any-gone (Syntax.tyInt Syntax.w64)) (List._∷_ (10, Rows.any-gone (Syntax.tyStruct (List._∷_ 38 (List._∷_ 91 (List._∷_ 93 List.[]))) (Syntax.tcons (Syntax.tyRef Syntax.erased Syntax.imm (Syntax.tyInt Syntax.w8)) (Syntax.tcons (Syntax.tyInt Syntax.w64) Syntax.tnil)))) (List._∷_ (11, Rows.any-gone (Syntax.tyInt Syntax.w64)) (List._∷_ (12, Rows.any-gone (Syntax.tyInt Syntax.w64)) (List._∷_ (13, Rows.any-gone (Syntax.tyRef Syntax.erased Syntax.imm (Syntax.tyInt Syntax.w8))) (List._∷_ (14, Rows.any-gone Syntax.tyPtr) (List._∷_ (15, Rows.any-gone (Syntax.tyRef Syntax.erased Syntax.mut OfOutput.named)) List.[])))))))))))))))
 
         abbrev G0 : Row.Cx
         G0 = record { locals = List._++_ t0 t1; slots = List._∷_ (Row.lease (κs .0) (qs .0)) (List._∷_ (Row.lease (κs .1 .0) (qs .1 .0)) (List._∷_ (Row.lease (κs .1 .1 .0) (qs .1 .1 .0)) (List._∷_ (Row.lease (κs .1 .1 .1 .0) (qs .1 .1 .1 .0)) (List._∷_ Row.off (List._∷_ Row.off (List._∷_ Row.off List.[])))))) }
@@ -1040,7 +1041,7 @@ module _ (claims· : Claims) where
           d4 = Typed.g-pre 𝓤 H A W 𝓣 E G49 G50 b22 Δ0 (λ Ψ. Ψ) at3 (Lifetime.g-forget 𝓤 H A W E G49 6 Row.dead Path'.refl) d3
 
           d5 : Typed.Typed 𝓤 H A 𝓣 E G48 b22 Δ0 at5
-          d5 = Typed.g-pre 𝓤 H A W 𝓣 E G48 G49 b22 Δ0 (Typed.ask s47) at4 (Reborrow.g-back-mref 𝓤 H A W E G48 21 3 2 6 (Referent.rtF (Referent.fInt Syntax.w64)) (Syntax.tyRef (Syntax.named 2) Syntax.mut (Syntax.tyInt Syntax.w64)) (Syntax.tyRef Syntax.erased Syntax.mut (Syntax.tyInt Syntax.w64)) (Row.lease (κs .1 .1 .0) (qs .1 .1 .0)) (λ x. x) (λ x. x) (Reads.as-is 𝓤 H A (Rows.mleft (Referent.rtF (Referent.fInt Syntax.w64)) (Syntax.tyRef Syntax.erased Syntax.mut (Syntax.tyInt Syntax.w64)))) (Reads.as-is 𝓤 H A (Rows.mref-owed (Referent.rtF (Referent.fInt Syntax.w64)) (Syntax.tyRef (Syntax.named 2) Syntax.mut (Syntax.tyInt Syntax.w64)) 2 6 (Row.lease (κs .1 .1 .0) (qs .1 .1 .0)))) Path'.refl Path'.refl) d4
+          d5 = Typed.g-pre 𝓤 H A W 𝓣 E G48 G49 b22 Δ0 (Typed.ask s47) at4 (Reborrow.g-back-mref 𝓤 H A W E G48 21 3 2 6 (OfPanelRecord.row) (Syntax.tyRef (Syntax.named 2) Syntax.mut OfPanelRecord.named) (Syntax.tyRef Syntax.erased Syntax.mut OfPanelRecord.named) (Row.lease (κs .1 .1 .0) (qs .1 .1 .0)) (λ x. x) (λ x. x) (Reads.as-is 𝓤 H A (Rows.mleft (OfPanelRecord.row) (Syntax.tyRef Syntax.erased Syntax.mut OfPanelRecord.named))) (Reads.as-is 𝓤 H A (Rows.mref-owed (OfPanelRecord.row) (Syntax.tyRef (Syntax.named 2) Syntax.mut OfPanelRecord.named) 2 6 (Row.lease (κs .1 .1 .0) (qs .1 .1 .0)))) Path'.refl Path'.refl) d4
 
           d6 : Typed.Typed 𝓤 H A 𝓣 E G47 b22 Δ0 at6
           d6 = Typed.g-pre 𝓤 H A W 𝓣 E G47 G48 b22 Δ0 (λ Ψ. Ψ) at5 (Lifetime.g-end 𝓤 H A W E G47 6 Path'.refl) d5
@@ -1076,7 +1077,7 @@ module _ (claims· : Claims) where
           d16 = Typed.g-pre 𝓤 H A W 𝓣 E G37 G38 b22 Δ0 (Typed.pass T37 T38 s36) at15 (Scalar.g-room 𝓤 H A W E G37 25 (Syntax.tyStruct (List._∷_ 38 (List._∷_ 91 (List._∷_ 93 List.[]))) (Syntax.tcons (Syntax.tyRef Syntax.erased Syntax.imm (Syntax.tyInt Syntax.w8)) (Syntax.tcons (Syntax.tyInt Syntax.w64) Syntax.tnil))) (Shared.room-sslice 𝓤 H A W (Referent.rtF (Referent.fInt Syntax.w8)) (Syntax.tyRef Syntax.erased Syntax.imm (Syntax.tyInt Syntax.w8)) 3)) d15
 
           d17 : Typed.Typed 𝓤 H A 𝓣 E G36 b23 Δ0 at17
-          d17 = Typed.s-seq 𝓤 H A W 𝓣 E G36 G37 b21 b22 Δ0 (Typed.both s35) at16 (Plain.t-call-plain 𝓤 H A W 𝓣 4 ps·1 r·1 (claims· .2) (claims· .3) "panel::frame" (known .1) E (λ pos β. β) G36 (record { pos = 16; ty = Syntax.tyRef Syntax.erased Syntax.mut OfOutput.named; ref = λ x. x }, (record { pos = 20; ty = Syntax.tyRef Syntax.erased Syntax.mut OfStation.named; ref = λ x. x }, (record { pos = 21; ty = Syntax.tyRef Syntax.erased Syntax.mut (Syntax.tyInt Syntax.w64); ref = λ x. x }, (record { pos = 25; ty = Syntax.tyRef Syntax.erased Syntax.imm (Syntax.tyInt Syntax.w8); ref = λ x. x }, tt)))) 0 (List._∷_ 4 (List._∷_ 5 (List._∷_ 6 (List._∷_ 3 List.[])))) (Call.sub-id 𝓤 H A W (G36 .slots)) (Reads.as-is 𝓤 H A (Mut.mslice (OfOutput.row) (Syntax.tyRef Syntax.erased Syntax.mut OfOutput.named) 4), Mut.reads-mslice 𝓤 H A W (OfOutput.row) (Syntax.tyRef Syntax.erased Syntax.mut OfOutput.named) 4, Path'.refl, (Reads.as-is 𝓤 H A (Mut.mslice (OfStation.row) (Syntax.tyRef Syntax.erased Syntax.mut OfStation.named) 5), Mut.reads-mslice 𝓤 H A W (OfStation.row) (Syntax.tyRef Syntax.erased Syntax.mut OfStation.named) 5, Path'.refl, (Reads.as-is 𝓤 H A (Rows.mref (Referent.rtF (Referent.fInt Syntax.w64)) (Syntax.tyRef Syntax.erased Syntax.mut (Syntax.tyInt Syntax.w64)) 6), Reads.reads-mref 𝓤 H A W (Referent.rtF (Referent.fInt Syntax.w64)) (Syntax.tyRef Syntax.erased Syntax.mut (Syntax.tyInt Syntax.w64)) 6, Path'.refl, (ShrSlice.spares-sslice 𝓤 H A W (Referent.rtF (Referent.fInt Syntax.w8)) (Syntax.tyRef Syntax.erased Syntax.imm (Syntax.tyInt Syntax.w8)) 3, Shared.reads-sslice 𝓤 H A W (Referent.rtF (Referent.fInt Syntax.w8)) (Syntax.tyRef Syntax.erased Syntax.imm (Syntax.tyInt Syntax.w8)) 3, Path'.refl, tt)))) (Reads.room-gone 𝓤 H A (Laws.mir)) (tt, (tt, (tt, (tt, tt)))) Path'.refl) d16
+          d17 = Typed.s-seq 𝓤 H A W 𝓣 E G36 G37 b21 b22 Δ0 (Typed.both s35) at16 (Plain.t-call-plain 𝓤 H A W 𝓣 4 ps·1 r·1 (claims· .2) (claims· .3) "panel::frame" (known .1) E (λ pos β. β) G36 (record { pos = 16; ty = Syntax.tyRef Syntax.erased Syntax.mut OfOutput.named; ref = λ x. x }, (record { pos = 20; ty = Syntax.tyRef Syntax.erased Syntax.mut OfStation.named; ref = λ x. x }, (record { pos = 21; ty = Syntax.tyRef Syntax.erased Syntax.mut OfPanelRecord.named; ref = λ x. x }, (record { pos = 25; ty = Syntax.tyRef Syntax.erased Syntax.imm (Syntax.tyInt Syntax.w8); ref = λ x. x }, tt)))) 0 (List._∷_ 4 (List._∷_ 5 (List._∷_ 6 (List._∷_ 3 List.[])))) (Call.sub-id 𝓤 H A W (G36 .slots)) (Reads.as-is 𝓤 H A (Mut.mslice (OfOutput.row) (Syntax.tyRef Syntax.erased Syntax.mut OfOutput.named) 4), Mut.reads-mslice 𝓤 H A W (OfOutput.row) (Syntax.tyRef Syntax.erased Syntax.mut OfOutput.named) 4, Path'.refl, (Reads.as-is 𝓤 H A (Mut.mslice (OfStation.row) (Syntax.tyRef Syntax.erased Syntax.mut OfStation.named) 5), Mut.reads-mslice 𝓤 H A W (OfStation.row) (Syntax.tyRef Syntax.erased Syntax.mut OfStation.named) 5, Path'.refl, (Reads.as-is 𝓤 H A (Rows.mref (OfPanelRecord.row) (Syntax.tyRef Syntax.erased Syntax.mut OfPanelRecord.named) 6), Reads.reads-mref 𝓤 H A W (OfPanelRecord.row) (Syntax.tyRef Syntax.erased Syntax.mut OfPanelRecord.named) 6, Path'.refl, (ShrSlice.spares-sslice 𝓤 H A W (Referent.rtF (Referent.fInt Syntax.w8)) (Syntax.tyRef Syntax.erased Syntax.imm (Syntax.tyInt Syntax.w8)) 3, Shared.reads-sslice 𝓤 H A W (Referent.rtF (Referent.fInt Syntax.w8)) (Syntax.tyRef Syntax.erased Syntax.imm (Syntax.tyInt Syntax.w8)) 3, Path'.refl, tt)))) (Reads.room-gone 𝓤 H A (Laws.mir)) (tt, (tt, (tt, (tt, tt)))) Path'.refl) d16
 
           d18 : Typed.Typed 𝓤 H A 𝓣 E G35 b23 Δ0 at18
           d18 = Typed.g-pre 𝓤 H A W 𝓣 E G35 G36 b23 Δ0 (Typed.pass T35 T36 s34) at17 (Scalar.g-room 𝓤 H A W E G35 23 (Syntax.tyInt Syntax.w64) (Scalar.room-sc 𝓤 H A W (Row.sInt Syntax.w64))) d17
@@ -1100,7 +1101,7 @@ module _ (claims· : Claims) where
           d24 = Typed.s-seq 𝓤 H A W 𝓣 E G29 G30 b17 b26 Δ0 (Typed.ask s28) at23 (Scalar.t-op2 𝓤 H A W E 𝓣 G29 Syntax.offset (Scalar.oFld 10 (List._∷_ (Syntax.field 0) List.[]) (Syntax.tyRef Syntax.erased Syntax.imm (Syntax.tyInt Syntax.w8)) 0 Reads.ptrVal) (Scalar.oInt Syntax.w64 0) 22 (Rows.sc-here Row.sPtr) Syntax.tyPtr (Row.valS Row.sPtr) (Row.sPtr .of) (Shared.reads-sslice-ptr 𝓤 H A W (Referent.rtF (Referent.fInt Syntax.w8)) (Syntax.tyRef Syntax.erased Syntax.imm (Syntax.tyInt Syntax.w8)) 3 0 Path'.refl, Path'.refl) tt (Reads.room-gone 𝓤 H A Syntax.tyPtr) (Scalar.holds-sc 𝓤 H A W Row.sPtr) Path'.refl (λ u. Path'.refl) λ u. tt) d23
 
           d25 : Typed.Typed 𝓤 H A 𝓣 E G28 b28 Δ0 at25
-          d25 = Typed.s-seq 𝓤 H A W 𝓣 E G28 G29 b16 b27 Δ0 (Typed.give s27) at24 (Reborrow.t-mref-relend 𝓤 H A W E 𝓣 G28 3 21 2 6 (Referent.rtF (Referent.fInt Syntax.w64)) (Syntax.tyInt Syntax.w64) (Syntax.tyRef (Syntax.named 2) Syntax.mut (Syntax.tyInt Syntax.w64)) (Syntax.tyRef Syntax.erased Syntax.mut (Syntax.tyInt Syntax.w64)) (Row.lease (κs .1 .1 .0) (qs .1 .1 .0)) (λ x. x) (Reads.as-is 𝓤 H A (Rows.mref (Referent.rtF (Referent.fInt Syntax.w64)) (Syntax.tyRef (Syntax.named 2) Syntax.mut (Syntax.tyInt Syntax.w64)) 2)) (Reads.room-gone 𝓤 H A (Syntax.tyRef Syntax.erased Syntax.mut (Syntax.tyInt Syntax.w64))) Path'.refl tt Path'.refl Path'.refl λ b o. tt) d24
+          d25 = Typed.s-seq 𝓤 H A W 𝓣 E G28 G29 b16 b27 Δ0 (Typed.give s27) at24 (Reborrow.t-mref-relend 𝓤 H A W E 𝓣 G28 3 21 2 6 (OfPanelRecord.row) OfPanelRecord.spelt (Syntax.tyRef (Syntax.named 2) Syntax.mut OfPanelRecord.named) (Syntax.tyRef Syntax.erased Syntax.mut OfPanelRecord.named) (Row.lease (κs .1 .1 .0) (qs .1 .1 .0)) (λ x. x) (Reads.as-is 𝓤 H A (Rows.mref (OfPanelRecord.row) (Syntax.tyRef (Syntax.named 2) Syntax.mut OfPanelRecord.named) 2)) (Reads.room-gone 𝓤 H A (Syntax.tyRef Syntax.erased Syntax.mut OfPanelRecord.named)) Path'.refl tt Path'.refl Path'.refl λ b o. tt) d24
 
           d26 : Typed.Typed 𝓤 H A 𝓣 E G27 b28 Δ0 at26
           d26 = Typed.g-pre 𝓤 H A W 𝓣 E G27 G28 b28 Δ0 (λ Ψ. Ψ) at25 (Lifetime.g-begin 𝓤 H A W E G27 6 (tt, ((tt, tt), ((tt, tt), (tt, (tt, (tt, (tt, (tt, (tt, (tt, (tt, (tt, (tt, (tt, (tt, (tt, (tt, (tt, (tt, (tt, (tt, (tt, (tt, (tt, (tt, (tt, tt))))))))))))))))))))))))))) d25
@@ -1204,7 +1205,9 @@ module _ (claims· : Claims) where
           pub stations : Kinds.Den {n = 4}
               κs
               (MutSlice.pMutS (OfStation.row) 1 tt)
-          pub time : Kinds.Den {n = 4} κs (Kinds.pMutF (Referent.fInt Syntax.w64) 2 tt)
+          pub kept : Kinds.Den {n = 4}
+              κs
+              (Kinds.pMut (OfPanelRecord.row) 2 tt)
           pub n : Kinds.Den {n = 4} κs (Num.pNum Syntax.w64)
           pub k : Kinds.Den {n = 4} κs (Num.pNum Syntax.w64)
           pub bytes : Kinds.Den {n = 4}
@@ -1213,7 +1216,7 @@ module _ (claims· : Claims) where
           pub count : Kinds.Den {n = 4} κs (Num.pNum Syntax.w64)
 
         abbrev pub dens : (a : Args) → Kinds.Dens κs ps
-        dens = λ a. (a .outputs, (a .stations, (a .time, (a .n, (a .k, (a .bytes, (a .count, tt)))))))
+        dens = λ a. (a .outputs, (a .stations, (a .kept, (a .n, (a .k, (a .bytes, (a .count, tt)))))))
 
         module _ (args· : Args) where
           pub record Ranges : Type 0 where
@@ -1316,43 +1319,43 @@ module _ (claims· : Claims) where
       m10 = λ before given. s9 (m9 before given)
 
       module _ (before· : After-least2) where
-        pub record After-kept·own : Type 0 where
+        pub record After-all·own : Type 0 where
           pub given : s7 .gives (m7 (before· .before) (After-least2·gave before·))
 
-      pub record After-kept : Type 0 where
+      pub record After-all : Type 0 where
         pub before : After-least2
-        pub kept : After-kept·own before
+        pub all : After-all·own before
 
       abbrev pub Need-least-requires-3 : Type 0
-      Need-least-requires-3 = (c : After-kept) → s10 .asks (m10 (c .before) (c .kept .given))
+      Need-least-requires-3 = (c : After-all) → s10 .asks (m10 (c .before) (c .all .given))
 
       abbrev pub m11 :
-          (before : After-kept) →
-          (given : s10 .gives (m10 (before .before) (before .kept .given))) →
+          (before : After-all) →
+          (given : s10 .gives (m10 (before .before) (before .all .given))) →
           Typed.Mo T12
-      m11 = λ before given. s10 .next (m10 (before .before) (before .kept .given)) given
+      m11 = λ before given. s10 .next (m10 (before .before) (before .all .given)) given
 
-      module _ (before· : After-kept) where
+      module _ (before· : After-all) where
         abbrev pub After-least3·own : Type 0
-        After-least3·own = Called.Called ps·0 r·0 (claims· .1) T11 (Num.vAt 7 λ x. x, (Num.vAt 12 λ x. x, tt)) (m10 (before· .before) (before· .kept .given))
+        After-least3·own = Called.Called ps·0 r·0 (claims· .1) T11 (Num.vAt 7 λ x. x, (Num.vAt 12 λ x. x, tt)) (m10 (before· .before) (before· .all .given))
 
       pub record After-least3 : Type 0 where
-        pub before : After-kept
+        pub before : After-all
         pub least3 : After-least3·own before
 
       abbrev pub After-least3·gave :
-          (c : After-least3) → s10 .gives (m10 (c .before .before) (c .before .kept .given))
-      After-least3·gave = λ c. Called.given ps·0 r·0 (claims· .1) T11 (Num.vAt 7 λ x. x, (Num.vAt 12 λ x. x, tt)) (m10 (c .before .before) (c .before .kept .given)) (c .least3)
+          (c : After-least3) → s10 .gives (m10 (c .before .before) (c .before .all .given))
+      After-least3·gave = λ c. Called.given ps·0 r·0 (claims· .1) T11 (Num.vAt 7 λ x. x, (Num.vAt 12 λ x. x, tt)) (m10 (c .before .before) (c .before .all .given)) (c .least3)
 
       abbrev pub m12 :
-          (before : After-kept) →
-          (given : s10 .gives (m10 (before .before) (before .kept .given))) →
+          (before : After-all) →
+          (given : s10 .gives (m10 (before .before) (before .all .given))) →
           Typed.Mo T13
       m12 = λ before given. s11 (m11 before given)
 
       abbrev pub m13 :
-          (before : After-kept) →
-          (given : s10 .gives (m10 (before .before) (before .kept .given))) →
+          (before : After-all) →
+          (given : s10 .gives (m10 (before .before) (before .all .given))) →
           Typed.Mo T14
       m13 = λ before given. s12 .next (m12 before given)
 
@@ -1360,8 +1363,8 @@ module _ (claims· : Claims) where
       Need-sub-frame = (c : After-least3) → s13 .asks (m13 (c .before) (After-least3·gave c))
 
       abbrev pub m14 :
-          (before : After-kept) →
-          (given : s10 .gives (m10 (before .before) (before .kept .given))) →
+          (before : After-all) →
+          (given : s10 .gives (m10 (before .before) (before .all .given))) →
           Typed.Mo T15
       m14 = λ before given. s13 .next (m13 before given)
 
@@ -1540,7 +1543,7 @@ module _ (claims· : Claims) where
 
       module _ (before· : After-frame-arg4) where
         abbrev pub After-frame·own : Type 0
-        After-frame·own = Called.Called ps·1 r·1 (claims· .3) T36 (record { pos = 16; ty = Syntax.tyRef Syntax.erased Syntax.mut OfOutput.named; ref = λ x. x }, (record { pos = 20; ty = Syntax.tyRef Syntax.erased Syntax.mut OfStation.named; ref = λ x. x }, (record { pos = 21; ty = Syntax.tyRef Syntax.erased Syntax.mut (Syntax.tyInt Syntax.w64); ref = λ x. x }, (record { pos = 25; ty = Syntax.tyRef Syntax.erased Syntax.imm (Syntax.tyInt Syntax.w8); ref = λ x. x }, tt)))) (m32 (before· .before) (before· .frame-arg4 .given))
+        After-frame·own = Called.Called ps·1 r·1 (claims· .3) T36 (record { pos = 16; ty = Syntax.tyRef Syntax.erased Syntax.mut OfOutput.named; ref = λ x. x }, (record { pos = 20; ty = Syntax.tyRef Syntax.erased Syntax.mut OfStation.named; ref = λ x. x }, (record { pos = 21; ty = Syntax.tyRef Syntax.erased Syntax.mut OfPanelRecord.named; ref = λ x. x }, (record { pos = 25; ty = Syntax.tyRef Syntax.erased Syntax.imm (Syntax.tyInt Syntax.w8); ref = λ x. x }, tt)))) (m32 (before· .before) (before· .frame-arg4 .given))
 
       pub record After-frame : Type 0 where
         pub before : After-frame-arg4
@@ -1548,7 +1551,7 @@ module _ (claims· : Claims) where
 
       abbrev pub After-frame·gave :
           (c : After-frame) → s35 .gives (m32 (c .before .before) (c .before .frame-arg4 .given))
-      After-frame·gave = λ c. Called.given ps·1 r·1 (claims· .3) T36 (record { pos = 16; ty = Syntax.tyRef Syntax.erased Syntax.mut OfOutput.named; ref = λ x. x }, (record { pos = 20; ty = Syntax.tyRef Syntax.erased Syntax.mut OfStation.named; ref = λ x. x }, (record { pos = 21; ty = Syntax.tyRef Syntax.erased Syntax.mut (Syntax.tyInt Syntax.w64); ref = λ x. x }, (record { pos = 25; ty = Syntax.tyRef Syntax.erased Syntax.imm (Syntax.tyInt Syntax.w8); ref = λ x. x }, tt)))) (m32 (c .before .before) (c .before .frame-arg4 .given)) (c .frame)
+      After-frame·gave = λ c. Called.given ps·1 r·1 (claims· .3) T36 (record { pos = 16; ty = Syntax.tyRef Syntax.erased Syntax.mut OfOutput.named; ref = λ x. x }, (record { pos = 20; ty = Syntax.tyRef Syntax.erased Syntax.mut OfStation.named; ref = λ x. x }, (record { pos = 21; ty = Syntax.tyRef Syntax.erased Syntax.mut OfPanelRecord.named; ref = λ x. x }, (record { pos = 25; ty = Syntax.tyRef Syntax.erased Syntax.imm (Syntax.tyInt Syntax.w8); ref = λ x. x }, tt)))) (m32 (c .before .before) (c .before .frame-arg4 .given)) (c .frame)
 
       abbrev pub m34 :
           (before : After-frame-arg4) →
@@ -1657,14 +1660,14 @@ module _ (claims· : Claims) where
             at41
             (W0 (c .before .before .before .before .κs) (c .before .before .before .before .args))
             (m11 (c .before) (After-least3·gave c))
-        lay3 = λ c. (tt, (sub-frame record { before = c .before; least3 = c .least3 }, ((Path'.refl, Path'.refl, part-frame-start record { before = c .before; least3 = c .least3 }, part-frame-end record { before = c .before; least3 = c .least3 }), λ g. (Relend.count-is T18 15 16 (λ x. x) (λ u. u .1 .1 .1 .1 .1 .1 .1 .1 .1 .1 .1 .1 .0) (m16 record { before = c .before; least3 = c .least3 } g) (g .1), (tt, (sub-frame-2 record { before = record { before = c .before; least3 = c .least3 }; frame-arg = record { given = g } }, ((Path'.refl, Path'.refl, part-frame-start-2 record { before = record { before = c .before; least3 = c .least3 }; frame-arg = record { given = g } }, part-frame-end-2 record { before = record { before = c .before; least3 = c .least3 }; frame-arg = record { given = g } }), λ g'. (Relend.count-is T25 19 20 (λ x. x) (λ u. u .1 .1 .1 .1 .1 .1 .1 .1 .1 .1 .1 .1 .1 .1 .1 .1 .1 .1 .0) (m22 record { before = record { before = c .before; least3 = c .least3 }; frame-arg = record { given = g } } g') (g' .1), λ g''. (tt, (sub-frame-3 record { before = record { before = record { before = record { before = c .before; least3 = c .least3 }; frame-arg = record { given = g } }; frame-arg2 = record { given = g' } }; frame-arg3 = record { given = g'' } }, ((Path'.refl, Path'.refl, part-frame-start-3 record { before = record { before = record { before = record { before = c .before; least3 = c .least3 }; frame-arg = record { given = g } }; frame-arg2 = record { given = g' } }; frame-arg3 = record { given = g'' } }, part-frame-end-3 record { before = record { before = record { before = record { before = c .before; least3 = c .least3 }; frame-arg = record { given = g } }; frame-arg2 = record { given = g' } }; frame-arg3 = record { given = g'' } }), λ g'3. (Relend.count-is T34 24 25 (λ x. x) (λ u. u .1 .1 .1 .1 .1 .1 .1 .1 .1 .1 .1 .1 .1 .1 .1 .1 .1 .1 .1 .1 .1 .1 .1 .0) (m30 record { before = record { before = record { before = record { before = c .before; least3 = c .least3 }; frame-arg = record { given = g } }; frame-arg2 = record { given = g' } }; frame-arg3 = record { given = g'' } } g'3) (g'3 .1), (frame-requires record { before = record { before = record { before = record { before = record { before = c .before; least3 = c .least3 }; frame-arg = record { given = g } }; frame-arg2 = record { given = g' } }; frame-arg3 = record { given = g'' } }; frame-arg4 = record { given = g'3 } }, λ g'4. lay4 record { before = record { before = record { before = record { before = record { before = record { before = c .before; least3 = c .least3 }; frame-arg = record { given = g } }; frame-arg2 = record { given = g' } }; frame-arg3 = record { given = g'' } }; frame-arg4 = record { given = g'3 } }; frame = Called.called ps·1 r·1 (claims· .3) T36 (record { pos = 16; ty = Syntax.tyRef Syntax.erased Syntax.mut OfOutput.named; ref = λ x. x }, (record { pos = 20; ty = Syntax.tyRef Syntax.erased Syntax.mut OfStation.named; ref = λ x. x }, (record { pos = 21; ty = Syntax.tyRef Syntax.erased Syntax.mut (Syntax.tyInt Syntax.w64); ref = λ x. x }, (record { pos = 25; ty = Syntax.tyRef Syntax.erased Syntax.imm (Syntax.tyInt Syntax.w8); ref = λ x. x }, tt)))) (m32 record { before = record { before = record { before = record { before = c .before; least3 = c .least3 }; frame-arg = record { given = g } }; frame-arg2 = record { given = g' } }; frame-arg3 = record { given = g'' } } g'3) g'4 })))))))))))))
+        lay3 = λ c. (tt, (sub-frame record { before = c .before; least3 = c .least3 }, ((Path'.refl, Path'.refl, part-frame-start record { before = c .before; least3 = c .least3 }, part-frame-end record { before = c .before; least3 = c .least3 }), λ g. (Relend.count-is T18 15 16 (λ x. x) (λ u. u .1 .1 .1 .1 .1 .1 .1 .1 .1 .1 .1 .1 .0) (m16 record { before = c .before; least3 = c .least3 } g) (g .1), (tt, (sub-frame-2 record { before = record { before = c .before; least3 = c .least3 }; frame-arg = record { given = g } }, ((Path'.refl, Path'.refl, part-frame-start-2 record { before = record { before = c .before; least3 = c .least3 }; frame-arg = record { given = g } }, part-frame-end-2 record { before = record { before = c .before; least3 = c .least3 }; frame-arg = record { given = g } }), λ g'. (Relend.count-is T25 19 20 (λ x. x) (λ u. u .1 .1 .1 .1 .1 .1 .1 .1 .1 .1 .1 .1 .1 .1 .1 .1 .1 .1 .0) (m22 record { before = record { before = c .before; least3 = c .least3 }; frame-arg = record { given = g } } g') (g' .1), λ g''. (tt, (sub-frame-3 record { before = record { before = record { before = record { before = c .before; least3 = c .least3 }; frame-arg = record { given = g } }; frame-arg2 = record { given = g' } }; frame-arg3 = record { given = g'' } }, ((Path'.refl, Path'.refl, part-frame-start-3 record { before = record { before = record { before = record { before = c .before; least3 = c .least3 }; frame-arg = record { given = g } }; frame-arg2 = record { given = g' } }; frame-arg3 = record { given = g'' } }, part-frame-end-3 record { before = record { before = record { before = record { before = c .before; least3 = c .least3 }; frame-arg = record { given = g } }; frame-arg2 = record { given = g' } }; frame-arg3 = record { given = g'' } }), λ g'3. (Relend.count-is T34 24 25 (λ x. x) (λ u. u .1 .1 .1 .1 .1 .1 .1 .1 .1 .1 .1 .1 .1 .1 .1 .1 .1 .1 .1 .1 .1 .1 .1 .0) (m30 record { before = record { before = record { before = record { before = c .before; least3 = c .least3 }; frame-arg = record { given = g } }; frame-arg2 = record { given = g' } }; frame-arg3 = record { given = g'' } } g'3) (g'3 .1), (frame-requires record { before = record { before = record { before = record { before = record { before = c .before; least3 = c .least3 }; frame-arg = record { given = g } }; frame-arg2 = record { given = g' } }; frame-arg3 = record { given = g'' } }; frame-arg4 = record { given = g'3 } }, λ g'4. lay4 record { before = record { before = record { before = record { before = record { before = record { before = c .before; least3 = c .least3 }; frame-arg = record { given = g } }; frame-arg2 = record { given = g' } }; frame-arg3 = record { given = g'' } }; frame-arg4 = record { given = g'3 } }; frame = Called.called ps·1 r·1 (claims· .3) T36 (record { pos = 16; ty = Syntax.tyRef Syntax.erased Syntax.mut OfOutput.named; ref = λ x. x }, (record { pos = 20; ty = Syntax.tyRef Syntax.erased Syntax.mut OfStation.named; ref = λ x. x }, (record { pos = 21; ty = Syntax.tyRef Syntax.erased Syntax.mut OfPanelRecord.named; ref = λ x. x }, (record { pos = 25; ty = Syntax.tyRef Syntax.erased Syntax.imm (Syntax.tyInt Syntax.w8); ref = λ x. x }, tt)))) (m32 record { before = record { before = record { before = record { before = c .before; least3 = c .least3 }; frame-arg = record { given = g } }; frame-arg2 = record { given = g' } }; frame-arg3 = record { given = g'' } } g'3) g'4 })))))))))))))
 
         lay2 :
             (c : After-least2) →
             at47
             (W0 (c .before .before .κs) (c .before .before .args))
             (m5 (c .before) (After-least2·gave c))
-        lay2 = λ c. λ g. (Relend.count-is T9 13 10 (λ x. x) (λ u. 49) (m8 record { before = c .before; least2 = c .least2 } g) (Path'.sym (g .0)), (least-requires-3 record { before = record { before = c .before; least2 = c .least2 }; kept = record { given = g } }, λ g'. lay3 record { before = record { before = record { before = c .before; least2 = c .least2 }; kept = record { given = g } }; least3 = Called.called ps·0 r·0 (claims· .1) T11 (Num.vAt 7 λ x. x, (Num.vAt 12 λ x. x, tt)) (m10 record { before = c .before; least2 = c .least2 } g) g' }))
+        lay2 = λ c. λ g. (Relend.count-is T9 13 10 (λ x. x) (λ u. 49) (m8 record { before = c .before; least2 = c .least2 } g) (Path'.sym (g .0)), (least-requires-3 record { before = record { before = c .before; least2 = c .least2 }; all = record { given = g } }, λ g'. lay3 record { before = record { before = record { before = c .before; least2 = c .least2 }; all = record { given = g } }; least3 = Called.called ps·0 r·0 (claims· .1) T11 (Num.vAt 7 λ x. x, (Num.vAt 12 λ x. x, tt)) (m10 record { before = c .before; least2 = c .least2 } g) g' }))
 
         lay1 :
             (c : After-least) →
@@ -1681,7 +1684,7 @@ module _ (claims· : Claims) where
               (pre : Pre· κs a) →
               (bs : List.List Nat.ℕ) →
               Φ (Any.wantQ 4 ps r xs m κs qs a (Post· κs a)) (Function.init 4 ps r xs m κs qs a)
-          asked = λ a good pre bs. laid record { κs = κs; args = record { outputs = a .0; stations = a .1 .0; time = a .1 .1 .0; n = a .1 .1 .1 .0; k = a .1 .1 .1 .1 .0; bytes = a .1 .1 .1 .1 .1 .0; count = a .1 .1 .1 .1 .1 .1 .0 }; good = good; fits = record { n = record { fits = good .1 .1 .1 .0 .1 }; k = record { fits = good .1 .1 .1 .1 .0 .1 }; count = record { fits = good .1 .1 .1 .1 .1 .1 .0 .1 } }; pre = pre }
+          asked = λ a good pre bs. laid record { κs = κs; args = record { outputs = a .0; stations = a .1 .0; kept = a .1 .1 .0; n = a .1 .1 .1 .0; k = a .1 .1 .1 .1 .0; bytes = a .1 .1 .1 .1 .1 .0; count = a .1 .1 .1 .1 .1 .1 .0 }; good = good; fits = record { n = record { fits = good .1 .1 .1 .0 .1 }; k = record { fits = good .1 .1 .1 .1 .0 .1 }; count = record { fits = good .1 .1 .1 .1 .1 .1 .0 .1 } }; pre = pre }
 
         module _ {M : Type 1} (𝓤 : URA.URA M) (H : Wp.Heap 𝓤) (A : Atoms.Atoms 𝓤)
             (W : Kit.Given 𝓤 H A) (𝓣 : Wp.Tables 𝓤 H)

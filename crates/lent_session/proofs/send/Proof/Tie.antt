@@ -24,8 +24,8 @@ After-least = Lts.After-least (Reads'.Asked, Reads'.Learnt, Reads''.Asked, Reads
 abbrev pub After-least2 : Type 0
 After-least2 = Lts.After-least2 (Reads'.Asked, Reads'.Learnt, Reads''.Asked, Reads''.Learnt) Reads.Pre Reads.Post
 
-abbrev pub After-kept : Type 0
-After-kept = Lts.After-kept (Reads'.Asked, Reads'.Learnt, Reads''.Asked, Reads''.Learnt) Reads.Pre Reads.Post
+abbrev pub After-all : Type 0
+After-all = Lts.After-all (Reads'.Asked, Reads'.Learnt, Reads''.Asked, Reads''.Learnt) Reads.Pre Reads.Post
 
 abbrev pub After-least3 : Type 0
 After-least3 = Lts.After-least3 (Reads'.Asked, Reads'.Learnt, Reads''.Asked, Reads''.Learnt) Reads.Pre Reads.Post

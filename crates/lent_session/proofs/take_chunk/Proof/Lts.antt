@@ -2,8 +2,9 @@
 use Prim.Native.Nat
 use Rattle.lent_session.proofs.Turn
 use Rattle.lent_session.proofs.Turn.Laws
-use Rattle.lighting_outputs.proofs.Lent.OfOutput as OfOutput
 use Rattle.lighting_frames.proofs.Lent.OfStation as OfStation
+use Rattle.lighting_outputs.proofs.Lent.OfOutput as OfOutput
+use Rattle.lighting_panel.proofs.Lent.OfPanelRecord as OfPanelRecord
 use borrow.Author.Called
 use borrow.Author.Tests
 use borrow.Fn.Any
@@ -52,19 +53,19 @@ use prog.Wp
 use types.Kit
 
 abbrev pub ps : List.List (Kinds.PK 5)
-ps = List._∷_ (MutSlice.pMutS (OfOutput.row) 0 tt) (List._∷_ (MutSlice.pMutS (OfStation.row) 1 tt) (List._∷_ (Kinds.pMutF (Referent.fInt Syntax.w64) 2 tt) (List._∷_ (MutSlice.pMutS (Referent.rtF (Referent.fInt Syntax.w8)) 3 tt) (List._∷_ (Value.pVal record { ty = Declared.row Turn.the-type; one = Path'.refl; val = Laws'.val Turn.the-type Laws.the-laws; tells = Laws'.tells Turn.the-type Laws.the-laws; still = Laws'.still Turn.the-type Laws.the-copy Exit.yes; row = Rows.whole (Declared.row Turn.the-type); rd = λ x. x; mk = λ x. x } λ M 𝓤 H A W. record { copies = Laws'.copy Turn.the-type Laws.the-copy 𝓤 H A W; lawful = Laws'.lawful Turn.the-type Laws.the-laws 𝓤 H A W; makes = Laws'.makes Turn.the-type Laws.the-plain 𝓤 H A; in-mem = Local.mem-whole 𝓤 H A W (Declared.row Turn.the-type); of-mem = Local.whole-mem 𝓤 H A W (Declared.row Turn.the-type) }) (List._∷_ (ShrSlice.pShrS (Referent.rtF (Referent.fInt Syntax.w8)) 4 tt) List.[])))))
+ps = List._∷_ (MutSlice.pMutS (OfOutput.row) 0 tt) (List._∷_ (MutSlice.pMutS (OfStation.row) 1 tt) (List._∷_ (Kinds.pMut (OfPanelRecord.row) 2 tt) (List._∷_ (MutSlice.pMutS (Referent.rtF (Referent.fInt Syntax.w8)) 3 tt) (List._∷_ (Value.pVal record { ty = Declared.row Turn.the-type; one = Path'.refl; val = Laws'.val Turn.the-type Laws.the-laws; tells = Laws'.tells Turn.the-type Laws.the-laws; still = Laws'.still Turn.the-type Laws.the-copy Exit.yes; row = Rows.whole (Declared.row Turn.the-type); rd = λ x. x; mk = λ x. x } λ M 𝓤 H A W. record { copies = Laws'.copy Turn.the-type Laws.the-copy 𝓤 H A W; lawful = Laws'.lawful Turn.the-type Laws.the-laws 𝓤 H A W; makes = Laws'.makes Turn.the-type Laws.the-plain 𝓤 H A; in-mem = Local.mem-whole 𝓤 H A W (Declared.row Turn.the-type); of-mem = Local.whole-mem 𝓤 H A W (Declared.row Turn.the-type) }) (List._∷_ (ShrSlice.pShrS (Referent.rtF (Referent.fInt Syntax.w8)) 4 tt) List.[])))))
 
 abbrev pub r : Kinds.RK 5
 r = Value.rVal record { ty = Declared.row Turn.the-type; one = Path'.refl; val = Laws'.val Turn.the-type Laws.the-laws; tells = Laws'.tells Turn.the-type Laws.the-laws; still = Laws'.still Turn.the-type Laws.the-copy Exit.yes; row = Rows.whole (Declared.row Turn.the-type); rd = λ x. x; mk = λ x. x } λ M 𝓤 H A W. record { copies = Laws'.copy Turn.the-type Laws.the-copy 𝓤 H A W; lawful = Laws'.lawful Turn.the-type Laws.the-laws 𝓤 H A W; makes = Laws'.makes Turn.the-type Laws.the-plain 𝓤 H A; in-mem = Local.mem-whole 𝓤 H A W (Declared.row Turn.the-type); of-mem = Local.whole-mem 𝓤 H A W (Declared.row Turn.the-type) }
 
 abbrev pub xs : List.List Syntax.Ty
-xs = List._∷_ (Laws.mir) (List._∷_ (Syntax.tyInt Syntax.w64) (List._∷_ (Syntax.tyInt Syntax.w8) (List._∷_ (Syntax.tyInt Syntax.w64) (List._∷_ Syntax.tyBool (List._∷_ Syntax.tyPtr (List._∷_ (Syntax.tyInt Syntax.w8) (List._∷_ (Syntax.tyRef Syntax.erased Syntax.mut OfOutput.named) (List._∷_ (Syntax.tyStruct (List._∷_ 38 (List._∷_ 91 (List._∷_ 93 List.[]))) (Syntax.tcons (Syntax.tyRef Syntax.erased Syntax.mut OfOutput.named) (Syntax.tcons (Syntax.tyInt Syntax.w64) Syntax.tnil))) (List._∷_ (Syntax.tyRef Syntax.erased Syntax.mut OfStation.named) (List._∷_ (Syntax.tyStruct (List._∷_ 38 (List._∷_ 91 (List._∷_ 93 List.[]))) (Syntax.tcons (Syntax.tyRef Syntax.erased Syntax.mut OfStation.named) (Syntax.tcons (Syntax.tyInt Syntax.w64) Syntax.tnil))) (List._∷_ (Syntax.tyRef Syntax.erased Syntax.mut (Syntax.tyInt Syntax.w64)) (List._∷_ (Syntax.tyRef Syntax.erased Syntax.mut (Syntax.tyInt Syntax.w8)) (List._∷_ (Syntax.tyStruct (List._∷_ 38 (List._∷_ 91 (List._∷_ 93 List.[]))) (Syntax.tcons (Syntax.tyRef Syntax.erased Syntax.mut (Syntax.tyInt Syntax.w8)) (Syntax.tcons (Syntax.tyInt Syntax.w64) Syntax.tnil))) List.[])))))))))))))
+xs = List._∷_ (Laws.mir) (List._∷_ (Syntax.tyInt Syntax.w64) (List._∷_ (Syntax.tyInt Syntax.w8) (List._∷_ (Syntax.tyInt Syntax.w64) (List._∷_ Syntax.tyBool (List._∷_ Syntax.tyPtr (List._∷_ (Syntax.tyInt Syntax.w8) (List._∷_ (Syntax.tyRef Syntax.erased Syntax.mut OfOutput.named) (List._∷_ (Syntax.tyStruct (List._∷_ 38 (List._∷_ 91 (List._∷_ 93 List.[]))) (Syntax.tcons (Syntax.tyRef Syntax.erased Syntax.mut OfOutput.named) (Syntax.tcons (Syntax.tyInt Syntax.w64) Syntax.tnil))) (List._∷_ (Syntax.tyRef Syntax.erased Syntax.mut OfStation.named) (List._∷_ (Syntax.tyStruct (List._∷_ 38 (List._∷_ 91 (List._∷_ 93 List.[]))) (Syntax.tcons (Syntax.tyRef Syntax.erased Syntax.mut OfStation.named) (Syntax.tcons (Syntax.tyInt Syntax.w64) Syntax.tnil))) (List._∷_ (Syntax.tyRef Syntax.erased Syntax.mut OfPanelRecord.named) (List._∷_ (Syntax.tyRef Syntax.erased Syntax.mut (Syntax.tyInt Syntax.w8)) (List._∷_ (Syntax.tyStruct (List._∷_ 38 (List._∷_ 91 (List._∷_ 93 List.[]))) (Syntax.tcons (Syntax.tyRef Syntax.erased Syntax.mut (Syntax.tyInt Syntax.w8)) (Syntax.tcons (Syntax.tyInt Syntax.w64) Syntax.tnil))) List.[])))))))))))))
 
 abbrev pub m : Nat.ℕ
 m = 4
 
 abbrev pub ps·0 : List.List (Kinds.PK 4)
-ps·0 = List._∷_ (MutSlice.pMutS (OfOutput.row) 0 tt) (List._∷_ (MutSlice.pMutS (OfStation.row) 1 tt) (List._∷_ (Kinds.pMutF (Referent.fInt Syntax.w64) 2 tt) (List._∷_ (MutSlice.pMutS (Referent.rtF (Referent.fInt Syntax.w8)) 3 tt) (List._∷_ (Value.pVal record { ty = Declared.row Turn.the-type; one = Path'.refl; val = Laws'.val Turn.the-type Laws.the-laws; tells = Laws'.tells Turn.the-type Laws.the-laws; still = Laws'.still Turn.the-type Laws.the-copy Exit.yes; row = Rows.whole (Declared.row Turn.the-type); rd = λ x. x; mk = λ x. x } λ M 𝓤 H A W. record { copies = Laws'.copy Turn.the-type Laws.the-copy 𝓤 H A W; lawful = Laws'.lawful Turn.the-type Laws.the-laws 𝓤 H A W; makes = Laws'.makes Turn.the-type Laws.the-plain 𝓤 H A; in-mem = Local.mem-whole 𝓤 H A W (Declared.row Turn.the-type); of-mem = Local.whole-mem 𝓤 H A W (Declared.row Turn.the-type) }) List.[]))))
+ps·0 = List._∷_ (MutSlice.pMutS (OfOutput.row) 0 tt) (List._∷_ (MutSlice.pMutS (OfStation.row) 1 tt) (List._∷_ (Kinds.pMut (OfPanelRecord.row) 2 tt) (List._∷_ (MutSlice.pMutS (Referent.rtF (Referent.fInt Syntax.w8)) 3 tt) (List._∷_ (Value.pVal record { ty = Declared.row Turn.the-type; one = Path'.refl; val = Laws'.val Turn.the-type Laws.the-laws; tells = Laws'.tells Turn.the-type Laws.the-laws; still = Laws'.still Turn.the-type Laws.the-copy Exit.yes; row = Rows.whole (Declared.row Turn.the-type); rd = λ x. x; mk = λ x. x } λ M 𝓤 H A W. record { copies = Laws'.copy Turn.the-type Laws.the-copy 𝓤 H A W; lawful = Laws'.lawful Turn.the-type Laws.the-laws 𝓤 H A W; makes = Laws'.makes Turn.the-type Laws.the-plain 𝓤 H A; in-mem = Local.mem-whole 𝓤 H A W (Declared.row Turn.the-type); of-mem = Local.whole-mem 𝓤 H A W (Declared.row Turn.the-type) }) List.[]))))
 
 abbrev pub r·0 : Kinds.RK 4
 r·0 = Value.rVal record { ty = Declared.row Turn.the-type; one = Path'.refl; val = Laws'.val Turn.the-type Laws.the-laws; tells = Laws'.tells Turn.the-type Laws.the-laws; still = Laws'.still Turn.the-type Laws.the-copy Exit.yes; row = Rows.whole (Declared.row Turn.the-type); rd = λ x. x; mk = λ x. x } λ M 𝓤 H A W. record { copies = Laws'.copy Turn.the-type Laws.the-copy 𝓤 H A W; lawful = Laws'.lawful Turn.the-type Laws.the-laws 𝓤 H A W; makes = Laws'.makes Turn.the-type Laws.the-plain 𝓤 H A; in-mem = Local.mem-whole 𝓤 H A W (Declared.row Turn.the-type); of-mem = Local.whole-mem 𝓤 H A W (Declared.row Turn.the-type) }
@@ -127,7 +128,7 @@ abbrev b15 : Syntax.Body
 b15 = Syntax.assign (Syntax.place 17 List.[]) (Syntax.aggregate (List._∷_ (Syntax.copy (Syntax.place 16 List.[])) (List._∷_ (Syntax.copy (Syntax.place 2 (List._∷_ (Syntax.field 1) List.[]))) List.[])))
 
 abbrev b16 : Syntax.Body
-b16 = Syntax.assign (Syntax.place 18 List.[]) (Syntax.addrOf (Syntax.place 3 (List._∷_ (Syntax.deref (Syntax.tyInt Syntax.w64)) List.[])))
+b16 = Syntax.assign (Syntax.place 18 List.[]) (Syntax.addrOf (Syntax.place 3 (List._∷_ (Syntax.deref OfPanelRecord.spelt) List.[])))
 
 abbrev b17 : Syntax.Body
 b17 = Syntax.assign (Syntax.place 19 List.[]) (Syntax.addrOf (Syntax.place 4 (List._∷_ (Syntax.field 0) (List._∷_ (Syntax.deref (Syntax.tyInt Syntax.w8)) List.[]))))
@@ -220,109 +221,109 @@ abbrev pub Claims : Type 1
 Claims = Kinds.In 4 ps·0 × Kinds.Out 4 ps·0 r·0 × Kinds.In 0 ps·1 × Kinds.Out 0 ps·1 r·1
 
 abbrev pub t0 : List.List Row.Entry
-t0 = List._∷_ (0, Rows.any-gone (Laws.mir)) (List._∷_ (1, Mut.mslice (OfOutput.row) (Syntax.tyRef (Syntax.named 0) Syntax.mut OfOutput.named) 0) (List._∷_ (2, Mut.mslice (OfStation.row) (Syntax.tyRef (Syntax.named 1) Syntax.mut OfStation.named) 1) (List._∷_ (3, Rows.mref (Referent.rtF (Referent.fInt Syntax.w64)) (Syntax.tyRef (Syntax.named 2) Syntax.mut (Syntax.tyInt Syntax.w64)) 2) (List._∷_ (4, Mut.mslice (Referent.rtF (Referent.fInt Syntax.w8)) (Syntax.tyRef (Syntax.named 3) Syntax.mut (Syntax.tyInt Syntax.w8)) 3) (List._∷_ (5, Rows.whole (Declared.row Turn.the-type)) (List._∷_ (6, Rows.sslice (Referent.rtF (Referent.fInt Syntax.w8)) (Syntax.tyRef (Syntax.named 4) Syntax.imm (Syntax.tyInt Syntax.w8)) 4) (List._∷_ (7, Rows.any-gone (Laws.mir)) (List._∷_ (8, Rows.any-gone (Syntax.tyInt Syntax.w64)) (List._∷_ (9, Rows.any-gone (Syntax.tyInt Syntax.w8)) (List._∷_ (10, Rows.any-gone (Syntax.tyInt Syntax.w64)) (List._∷_ (11, Rows.any-gone Syntax.tyBool) (List._∷_ (12, Rows.any-gone Syntax.tyPtr) (List._∷_ (13, Rows.any-gone (Syntax.tyInt Syntax.w8)) (List._∷_ (14, Rows.any-gone (Syntax.tyRef Syntax.erased Syntax.mut OfOutput.named)) (List._∷_ (15, Rows.any-gone (Syntax.tyStruct (List._∷_ 38 (List._∷_ 91 (List._∷_ 93 List.[]))) (Syntax.tcons (Syntax.tyRef Syntax.erased Syntax.mut OfOutput.named) (Syntax.tcons (Syntax.tyInt Syntax.w64) Syntax.tnil)))) List.[])))))))))))))))
+t0 = List._∷_ (0, Rows.any-gone (Laws.mir)) (List._∷_ (1, Mut.mslice (OfOutput.row) (Syntax.tyRef (Syntax.named 0) Syntax.mut OfOutput.named) 0) (List._∷_ (2, Mut.mslice (OfStation.row) (Syntax.tyRef (Syntax.named 1) Syntax.mut OfStation.named) 1) (List._∷_ (3, Rows.mref (OfPanelRecord.row) (Syntax.tyRef (Syntax.named 2) Syntax.mut OfPanelRecord.named) 2) (List._∷_ (4, Mut.mslice (Referent.rtF (Referent.fInt Syntax.w8)) (Syntax.tyRef (Syntax.named 3) Syntax.mut (Syntax.tyInt Syntax.w8)) 3) (List._∷_ (5, Rows.whole (Declared.row Turn.the-type)) (List._∷_ (6, Rows.sslice (Referent.rtF (Referent.fInt Syntax.w8)) (Syntax.tyRef (Syntax.named 4) Syntax.imm (Syntax.tyInt Syntax.w8)) 4) (List._∷_ (7, Rows.any-gone (Laws.mir)) (List._∷_ (8, Rows.any-gone (Syntax.tyInt Syntax.w64)) (List._∷_ (9, Rows.any-gone (Syntax.tyInt Syntax.w8)) (List._∷_ (10, Rows.any-gone (Syntax.tyInt Syntax.w64)) (List._∷_ (11, Rows.any-gone Syntax.tyBool) (List._∷_ (12, Rows.any-gone Syntax.tyPtr) (List._∷_ (13, Rows.any-gone (Syntax.tyInt Syntax.w8)) (List._∷_ (14, Rows.any-gone (Syntax.tyRef Syntax.erased Syntax.mut OfOutput.named)) (List._∷_ (15, Rows.any-gone (Syntax.tyStruct (List._∷_ 38 (List._∷_ 91 (List._∷_ 93 List.[]))) (Syntax.tcons (Syntax.tyRef Syntax.erased Syntax.mut OfOutput.named) (Syntax.tcons (Syntax.tyInt Syntax.w64) Syntax.tnil)))) List.[])))))))))))))))
 
 abbrev pub t1 : List.List Row.Entry
-t1 = List._∷_ (16, Rows.any-gone (Syntax.tyRef Syntax.erased Syntax.mut OfStation.named)) (List._∷_ (17, Rows.any-gone (Syntax.tyStruct (List._∷_ 38 (List._∷_ 91 (List._∷_ 93 List.[]))) (Syntax.tcons (Syntax.tyRef Syntax.erased Syntax.mut OfStation.named) (Syntax.tcons (Syntax.tyInt Syntax.w64) Syntax.tnil)))) (List._∷_ (18, Rows.any-gone (Syntax.tyRef Syntax.erased Syntax.mut (Syntax.tyInt Syntax.w64))) (List._∷_ (19, Rows.any-gone (Syntax.tyRef Syntax.erased Syntax.mut (Syntax.tyInt Syntax.w8))) (List._∷_ (20, Rows.any-gone (Syntax.tyStruct (List._∷_ 38 (List._∷_ 91 (List._∷_ 93 List.[]))) (Syntax.tcons (Syntax.tyRef Syntax.erased Syntax.mut (Syntax.tyInt Syntax.w8)) (Syntax.tcons (Syntax.tyInt Syntax.w64) Syntax.tnil)))) List.[]))))
+t1 = List._∷_ (16, Rows.any-gone (Syntax.tyRef Syntax.erased Syntax.mut OfStation.named)) (List._∷_ (17, Rows.any-gone (Syntax.tyStruct (List._∷_ 38 (List._∷_ 91 (List._∷_ 93 List.[]))) (Syntax.tcons (Syntax.tyRef Syntax.erased Syntax.mut OfStation.named) (Syntax.tcons (Syntax.tyInt Syntax.w64) Syntax.tnil)))) (List._∷_ (18, Rows.any-gone (Syntax.tyRef Syntax.erased Syntax.mut OfPanelRecord.named)) (List._∷_ (19, Rows.any-gone (Syntax.tyRef Syntax.erased Syntax.mut (Syntax.tyInt Syntax.w8))) (List._∷_ (20, Rows.any-gone (Syntax.tyStruct (List._∷_ 38 (List._∷_ 91 (List._∷_ 93 List.[]))) (Syntax.tcons (Syntax.tyRef Syntax.erased Syntax.mut (Syntax.tyInt Syntax.w8)) (Syntax.tcons (Syntax.tyInt Syntax.w64) Syntax.tnil)))) List.[]))))
 
 abbrev pub t2 : List.List Row.Entry
-t2 = List._∷_ (0, Rows.whole (Declared.row Turn.the-type)) (List._∷_ (1, Mut.mslice (OfOutput.row) (Syntax.tyRef (Syntax.named 0) Syntax.mut OfOutput.named) 0) (List._∷_ (2, Mut.mslice (OfStation.row) (Syntax.tyRef (Syntax.named 1) Syntax.mut OfStation.named) 1) (List._∷_ (3, Rows.mref (Referent.rtF (Referent.fInt Syntax.w64)) (Syntax.tyRef (Syntax.named 2) Syntax.mut (Syntax.tyInt Syntax.w64)) 2) (List._∷_ (4, Mut.mslice (Referent.rtF (Referent.fInt Syntax.w8)) (Syntax.tyRef (Syntax.named 3) Syntax.mut (Syntax.tyInt Syntax.w8)) 3) (List._∷_ (5, Rows.any-gone (Laws.mir)) (List._∷_ (6, Rows.sslice (Referent.rtF (Referent.fInt Syntax.w8)) (Syntax.tyRef (Syntax.named 4) Syntax.imm (Syntax.tyInt Syntax.w8)) 4) (List._∷_ (7, Rows.any-gone (Laws.mir)) (List._∷_ (8, Rows.any-gone (Syntax.tyInt Syntax.w64)) (List._∷_ (9, Rows.any-gone (Syntax.tyInt Syntax.w8)) (List._∷_ (10, Rows.any-gone (Syntax.tyInt Syntax.w64)) (List._∷_ (11, Rows.any-gone Syntax.tyBool) (List._∷_ (12, Rows.any-gone Syntax.tyPtr) (List._∷_ (13, Rows.any-gone (Syntax.tyInt Syntax.w8)) (List._∷_ (14, Rows.any-gone (Syntax.tyRef Syntax.erased Syntax.mut OfOutput.named)) (List._∷_ (15, Rows.any-gone (Syntax.tyStruct (List._∷_ 38 (List._∷_ 91 (List._∷_ 93 List.[]))) (Syntax.tcons (Syntax.tyRef Syntax.erased Syntax.mut OfOutput.named) (Syntax.tcons (Syntax.tyInt Syntax.w64) Syntax.tnil)))) List.[])))))))))))))))
+t2 = List._∷_ (0, Rows.whole (Declared.row Turn.the-type)) (List._∷_ (1, Mut.mslice (OfOutput.row) (Syntax.tyRef (Syntax.named 0) Syntax.mut OfOutput.named) 0) (List._∷_ (2, Mut.mslice (OfStation.row) (Syntax.tyRef (Syntax.named 1) Syntax.mut OfStation.named) 1) (List._∷_ (3, Rows.mref (OfPanelRecord.row) (Syntax.tyRef (Syntax.named 2) Syntax.mut OfPanelRecord.named) 2) (List._∷_ (4, Mut.mslice (Referent.rtF (Referent.fInt Syntax.w8)) (Syntax.tyRef (Syntax.named 3) Syntax.mut (Syntax.tyInt Syntax.w8)) 3) (List._∷_ (5, Rows.any-gone (Laws.mir)) (List._∷_ (6, Rows.sslice (Referent.rtF (Referent.fInt Syntax.w8)) (Syntax.tyRef (Syntax.named 4) Syntax.imm (Syntax.tyInt Syntax.w8)) 4) (List._∷_ (7, Rows.any-gone (Laws.mir)) (List._∷_ (8, Rows.any-gone (Syntax.tyInt Syntax.w64)) (List._∷_ (9, Rows.any-gone (Syntax.tyInt Syntax.w8)) (List._∷_ (10, Rows.any-gone (Syntax.tyInt Syntax.w64)) (List._∷_ (11, Rows.any-gone Syntax.tyBool) (List._∷_ (12, Rows.any-gone Syntax.tyPtr) (List._∷_ (13, Rows.any-gone (Syntax.tyInt Syntax.w8)) (List._∷_ (14, Rows.any-gone (Syntax.tyRef Syntax.erased Syntax.mut OfOutput.named)) (List._∷_ (15, Rows.any-gone (Syntax.tyStruct (List._∷_ 38 (List._∷_ 91 (List._∷_ 93 List.[]))) (Syntax.tcons (Syntax.tyRef Syntax.erased Syntax.mut OfOutput.named) (Syntax.tcons (Syntax.tyInt Syntax.w64) Syntax.tnil)))) List.[])))))))))))))))
 
 abbrev pub t3 : List.List Row.Entry
-t3 = List._∷_ (0, Rows.any-gone (Laws.mir)) (List._∷_ (1, Mut.mslice (OfOutput.row) (Syntax.tyRef (Syntax.named 0) Syntax.mut OfOutput.named) 0) (List._∷_ (2, Mut.mslice (OfStation.row) (Syntax.tyRef (Syntax.named 1) Syntax.mut OfStation.named) 1) (List._∷_ (3, Rows.mref (Referent.rtF (Referent.fInt Syntax.w64)) (Syntax.tyRef (Syntax.named 2) Syntax.mut (Syntax.tyInt Syntax.w64)) 2) (List._∷_ (4, Mut.mslice (Referent.rtF (Referent.fInt Syntax.w8)) (Syntax.tyRef (Syntax.named 3) Syntax.mut (Syntax.tyInt Syntax.w8)) 3) (List._∷_ (5, Rows.whole (Declared.row Turn.the-type)) (List._∷_ (6, Rows.sslice (Referent.rtF (Referent.fInt Syntax.w8)) (Syntax.tyRef (Syntax.named 4) Syntax.imm (Syntax.tyInt Syntax.w8)) 4) (List._∷_ (7, Rows.whole (Declared.row Turn.the-type)) (List._∷_ (8, Rows.any-gone (Syntax.tyInt Syntax.w64)) (List._∷_ (9, Rows.any-gone (Syntax.tyInt Syntax.w8)) (List._∷_ (10, Rows.any-gone (Syntax.tyInt Syntax.w64)) (List._∷_ (11, Rows.any-gone Syntax.tyBool) (List._∷_ (12, Rows.any-gone Syntax.tyPtr) (List._∷_ (13, Rows.any-gone (Syntax.tyInt Syntax.w8)) (List._∷_ (14, Rows.any-gone (Syntax.tyRef Syntax.erased Syntax.mut OfOutput.named)) (List._∷_ (15, Rows.any-gone (Syntax.tyStruct (List._∷_ 38 (List._∷_ 91 (List._∷_ 93 List.[]))) (Syntax.tcons (Syntax.tyRef Syntax.erased Syntax.mut OfOutput.named) (Syntax.tcons (Syntax.tyInt Syntax.w64) Syntax.tnil)))) List.[])))))))))))))))
+t3 = List._∷_ (0, Rows.any-gone (Laws.mir)) (List._∷_ (1, Mut.mslice (OfOutput.row) (Syntax.tyRef (Syntax.named 0) Syntax.mut OfOutput.named) 0) (List._∷_ (2, Mut.mslice (OfStation.row) (Syntax.tyRef (Syntax.named 1) Syntax.mut OfStation.named) 1) (List._∷_ (3, Rows.mref (OfPanelRecord.row) (Syntax.tyRef (Syntax.named 2) Syntax.mut OfPanelRecord.named) 2) (List._∷_ (4, Mut.mslice (Referent.rtF (Referent.fInt Syntax.w8)) (Syntax.tyRef (Syntax.named 3) Syntax.mut (Syntax.tyInt Syntax.w8)) 3) (List._∷_ (5, Rows.whole (Declared.row Turn.the-type)) (List._∷_ (6, Rows.sslice (Referent.rtF (Referent.fInt Syntax.w8)) (Syntax.tyRef (Syntax.named 4) Syntax.imm (Syntax.tyInt Syntax.w8)) 4) (List._∷_ (7, Rows.whole (Declared.row Turn.the-type)) (List._∷_ (8, Rows.any-gone (Syntax.tyInt Syntax.w64)) (List._∷_ (9, Rows.any-gone (Syntax.tyInt Syntax.w8)) (List._∷_ (10, Rows.any-gone (Syntax.tyInt Syntax.w64)) (List._∷_ (11, Rows.any-gone Syntax.tyBool) (List._∷_ (12, Rows.any-gone Syntax.tyPtr) (List._∷_ (13, Rows.any-gone (Syntax.tyInt Syntax.w8)) (List._∷_ (14, Rows.any-gone (Syntax.tyRef Syntax.erased Syntax.mut OfOutput.named)) (List._∷_ (15, Rows.any-gone (Syntax.tyStruct (List._∷_ 38 (List._∷_ 91 (List._∷_ 93 List.[]))) (Syntax.tcons (Syntax.tyRef Syntax.erased Syntax.mut OfOutput.named) (Syntax.tcons (Syntax.tyInt Syntax.w64) Syntax.tnil)))) List.[])))))))))))))))
 
 abbrev pub t4 : List.List Row.Entry
-t4 = List._∷_ (0, Rows.any-gone (Laws.mir)) (List._∷_ (1, Mut.mslice (OfOutput.row) (Syntax.tyRef (Syntax.named 0) Syntax.mut OfOutput.named) 0) (List._∷_ (2, Mut.mslice (OfStation.row) (Syntax.tyRef (Syntax.named 1) Syntax.mut OfStation.named) 1) (List._∷_ (3, Rows.mref (Referent.rtF (Referent.fInt Syntax.w64)) (Syntax.tyRef (Syntax.named 2) Syntax.mut (Syntax.tyInt Syntax.w64)) 2) (List._∷_ (4, Mut.mslice (Referent.rtF (Referent.fInt Syntax.w8)) (Syntax.tyRef (Syntax.named 3) Syntax.mut (Syntax.tyInt Syntax.w8)) 3) (List._∷_ (5, Rows.any-gone (Laws.mir)) (List._∷_ (6, Rows.sslice (Referent.rtF (Referent.fInt Syntax.w8)) (Syntax.tyRef (Syntax.named 4) Syntax.imm (Syntax.tyInt Syntax.w8)) 4) (List._∷_ (7, Rows.whole (Declared.row Turn.the-type)) (List._∷_ (8, Rows.any-gone (Syntax.tyInt Syntax.w64)) (List._∷_ (9, Rows.any-gone (Syntax.tyInt Syntax.w8)) (List._∷_ (10, Rows.any-gone (Syntax.tyInt Syntax.w64)) (List._∷_ (11, Rows.any-gone Syntax.tyBool) (List._∷_ (12, Rows.any-gone Syntax.tyPtr) (List._∷_ (13, Rows.any-gone (Syntax.tyInt Syntax.w8)) (List._∷_ (14, Rows.any-gone (Syntax.tyRef Syntax.erased Syntax.mut OfOutput.named)) (List._∷_ (15, Rows.any-gone (Syntax.tyStruct (List._∷_ 38 (List._∷_ 91 (List._∷_ 93 List.[]))) (Syntax.tcons (Syntax.tyRef Syntax.erased Syntax.mut OfOutput.named) (Syntax.tcons (Syntax.tyInt Syntax.w64) Syntax.tnil)))) List.[])))))))))))))))
+t4 = List._∷_ (0, Rows.any-gone (Laws.mir)) (List._∷_ (1, Mut.mslice (OfOutput.row) (Syntax.tyRef (Syntax.named 0) Syntax.mut OfOutput.named) 0) (List._∷_ (2, Mut.mslice (OfStation.row) (Syntax.tyRef (Syntax.named 1) Syntax.mut OfStation.named) 1) (List._∷_ (3, Rows.mref (OfPanelRecord.row) (Syntax.tyRef (Syntax.named 2) Syntax.mut OfPanelRecord.named) 2) (List._∷_ (4, Mut.mslice (Referent.rtF (Referent.fInt Syntax.w8)) (Syntax.tyRef (Syntax.named 3) Syntax.mut (Syntax.tyInt Syntax.w8)) 3) (List._∷_ (5, Rows.any-gone (Laws.mir)) (List._∷_ (6, Rows.sslice (Referent.rtF (Referent.fInt Syntax.w8)) (Syntax.tyRef (Syntax.named 4) Syntax.imm (Syntax.tyInt Syntax.w8)) 4) (List._∷_ (7, Rows.whole (Declared.row Turn.the-type)) (List._∷_ (8, Rows.any-gone (Syntax.tyInt Syntax.w64)) (List._∷_ (9, Rows.any-gone (Syntax.tyInt Syntax.w8)) (List._∷_ (10, Rows.any-gone (Syntax.tyInt Syntax.w64)) (List._∷_ (11, Rows.any-gone Syntax.tyBool) (List._∷_ (12, Rows.any-gone Syntax.tyPtr) (List._∷_ (13, Rows.any-gone (Syntax.tyInt Syntax.w8)) (List._∷_ (14, Rows.any-gone (Syntax.tyRef Syntax.erased Syntax.mut OfOutput.named)) (List._∷_ (15, Rows.any-gone (Syntax.tyStruct (List._∷_ 38 (List._∷_ 91 (List._∷_ 93 List.[]))) (Syntax.tcons (Syntax.tyRef Syntax.erased Syntax.mut OfOutput.named) (Syntax.tcons (Syntax.tyInt Syntax.w64) Syntax.tnil)))) List.[])))))))))))))))
 
 abbrev pub t5 : List.List Row.Entry
-t5 = List._∷_ (0, Rows.any-gone (Laws.mir)) (List._∷_ (1, Mut.mslice (OfOutput.row) (Syntax.tyRef (Syntax.named 0) Syntax.mut OfOutput.named) 0) (List._∷_ (2, Mut.mslice (OfStation.row) (Syntax.tyRef (Syntax.named 1) Syntax.mut OfStation.named) 1) (List._∷_ (3, Rows.mref (Referent.rtF (Referent.fInt Syntax.w64)) (Syntax.tyRef (Syntax.named 2) Syntax.mut (Syntax.tyInt Syntax.w64)) 2) (List._∷_ (4, Mut.mslice (Referent.rtF (Referent.fInt Syntax.w8)) (Syntax.tyRef (Syntax.named 3) Syntax.mut (Syntax.tyInt Syntax.w8)) 3) (List._∷_ (5, Rows.any-gone (Laws.mir)) (List._∷_ (6, Rows.sslice (Referent.rtF (Referent.fInt Syntax.w8)) (Syntax.tyRef (Syntax.named 4) Syntax.imm (Syntax.tyInt Syntax.w8)) 4) (List._∷_ (7, Rows.whole (Declared.row Turn.the-type)) (List._∷_ (8, Rows.sc-here (Row.sInt Syntax.w64)) (List._∷_ (9, Rows.any-gone (Syntax.tyInt Syntax.w8)) (List._∷_ (10, Rows.any-gone (Syntax.tyInt Syntax.w64)) (List._∷_ (11, Rows.any-gone Syntax.tyBool) (List._∷_ (12, Rows.any-gone Syntax.tyPtr) (List._∷_ (13, Rows.any-gone (Syntax.tyInt Syntax.w8)) (List._∷_ (14, Rows.any-gone (Syntax.tyRef Syntax.erased Syntax.mut OfOutput.named)) (List._∷_ (15, Rows.any-gone (Syntax.tyStruct (List._∷_ 38 (List._∷_ 91 (List._∷_ 93 List.[]))) (Syntax.tcons (Syntax.tyRef Syntax.erased Syntax.mut OfOutput.named) (Syntax.tcons (Syntax.tyInt Syntax.w64) Syntax.tnil)))) List.[])))))))))))))))
+t5 = List._∷_ (0, Rows.any-gone (Laws.mir)) (List._∷_ (1, Mut.mslice (OfOutput.row) (Syntax.tyRef (Syntax.named 0) Syntax.mut OfOutput.named) 0) (List._∷_ (2, Mut.mslice (OfStation.row) (Syntax.tyRef (Syntax.named 1) Syntax.mut OfStation.named) 1) (List._∷_ (3, Rows.mref (OfPanelRecord.row) (Syntax.tyRef (Syntax.named 2) Syntax.mut OfPanelRecord.named) 2) (List._∷_ (4, Mut.mslice (Referent.rtF (Referent.fInt Syntax.w8)) (Syntax.tyRef (Syntax.named 3) Syntax.mut (Syntax.tyInt Syntax.w8)) 3) (List._∷_ (5, Rows.any-gone (Laws.mir)) (List._∷_ (6, Rows.sslice (Referent.rtF (Referent.fInt Syntax.w8)) (Syntax.tyRef (Syntax.named 4) Syntax.imm (Syntax.tyInt Syntax.w8)) 4) (List._∷_ (7, Rows.whole (Declared.row Turn.the-type)) (List._∷_ (8, Rows.sc-here (Row.sInt Syntax.w64)) (List._∷_ (9, Rows.any-gone (Syntax.tyInt Syntax.w8)) (List._∷_ (10, Rows.any-gone (Syntax.tyInt Syntax.w64)) (List._∷_ (11, Rows.any-gone Syntax.tyBool) (List._∷_ (12, Rows.any-gone Syntax.tyPtr) (List._∷_ (13, Rows.any-gone (Syntax.tyInt Syntax.w8)) (List._∷_ (14, Rows.any-gone (Syntax.tyRef Syntax.erased Syntax.mut OfOutput.named)) (List._∷_ (15, Rows.any-gone (Syntax.tyStruct (List._∷_ 38 (List._∷_ 91 (List._∷_ 93 List.[]))) (Syntax.tcons (Syntax.tyRef Syntax.erased Syntax.mut OfOutput.named) (Syntax.tcons (Syntax.tyInt Syntax.w64) Syntax.tnil)))) List.[])))))))))))))))
 
 abbrev pub t6 : List.List Row.Entry
-t6 = List._∷_ (0, Rows.any-gone (Laws.mir)) (List._∷_ (1, Mut.mslice (OfOutput.row) (Syntax.tyRef (Syntax.named 0) Syntax.mut OfOutput.named) 0) (List._∷_ (2, Mut.mslice (OfStation.row) (Syntax.tyRef (Syntax.named 1) Syntax.mut OfStation.named) 1) (List._∷_ (3, Rows.mref (Referent.rtF (Referent.fInt Syntax.w64)) (Syntax.tyRef (Syntax.named 2) Syntax.mut (Syntax.tyInt Syntax.w64)) 2) (List._∷_ (4, Mut.mslice (Referent.rtF (Referent.fInt Syntax.w8)) (Syntax.tyRef (Syntax.named 3) Syntax.mut (Syntax.tyInt Syntax.w8)) 3) (List._∷_ (5, Rows.any-gone (Laws.mir)) (List._∷_ (6, Rows.sslice (Referent.rtF (Referent.fInt Syntax.w8)) (Syntax.tyRef (Syntax.named 4) Syntax.imm (Syntax.tyInt Syntax.w8)) 4) (List._∷_ (7, Rows.whole (Declared.row Turn.the-type)) (List._∷_ (8, Rows.sc-here (Row.sInt Syntax.w64)) (List._∷_ (9, Rows.any-gone (Syntax.tyInt Syntax.w8)) (List._∷_ (10, Rows.sc-here (Row.sInt Syntax.w64)) (List._∷_ (11, Rows.any-gone Syntax.tyBool) (List._∷_ (12, Rows.any-gone Syntax.tyPtr) (List._∷_ (13, Rows.any-gone (Syntax.tyInt Syntax.w8)) (List._∷_ (14, Rows.any-gone (Syntax.tyRef Syntax.erased Syntax.mut OfOutput.named)) (List._∷_ (15, Rows.any-gone (Syntax.tyStruct (List._∷_ 38 (List._∷_ 91 (List._∷_ 93 List.[]))) (Syntax.tcons (Syntax.tyRef Syntax.erased Syntax.mut OfOutput.named) (Syntax.tcons (Syntax.tyInt Syntax.w64) Syntax.tnil)))) List.[])))))))))))))))
+t6 = List._∷_ (0, Rows.any-gone (Laws.mir)) (List._∷_ (1, Mut.mslice (OfOutput.row) (Syntax.tyRef (Syntax.named 0) Syntax.mut OfOutput.named) 0) (List._∷_ (2, Mut.mslice (OfStation.row) (Syntax.tyRef (Syntax.named 1) Syntax.mut OfStation.named) 1) (List._∷_ (3, Rows.mref (OfPanelRecord.row) (Syntax.tyRef (Syntax.named 2) Syntax.mut OfPanelRecord.named) 2) (List._∷_ (4, Mut.mslice (Referent.rtF (Referent.fInt Syntax.w8)) (Syntax.tyRef (Syntax.named 3) Syntax.mut (Syntax.tyInt Syntax.w8)) 3) (List._∷_ (5, Rows.any-gone (Laws.mir)) (List._∷_ (6, Rows.sslice (Referent.rtF (Referent.fInt Syntax.w8)) (Syntax.tyRef (Syntax.named 4) Syntax.imm (Syntax.tyInt Syntax.w8)) 4) (List._∷_ (7, Rows.whole (Declared.row Turn.the-type)) (List._∷_ (8, Rows.sc-here (Row.sInt Syntax.w64)) (List._∷_ (9, Rows.any-gone (Syntax.tyInt Syntax.w8)) (List._∷_ (10, Rows.sc-here (Row.sInt Syntax.w64)) (List._∷_ (11, Rows.any-gone Syntax.tyBool) (List._∷_ (12, Rows.any-gone Syntax.tyPtr) (List._∷_ (13, Rows.any-gone (Syntax.tyInt Syntax.w8)) (List._∷_ (14, Rows.any-gone (Syntax.tyRef Syntax.erased Syntax.mut OfOutput.named)) (List._∷_ (15, Rows.any-gone (Syntax.tyStruct (List._∷_ 38 (List._∷_ 91 (List._∷_ 93 List.[]))) (Syntax.tcons (Syntax.tyRef Syntax.erased Syntax.mut OfOutput.named) (Syntax.tcons (Syntax.tyInt Syntax.w64) Syntax.tnil)))) List.[])))))))))))))))
 
 abbrev pub t7 : List.List Row.Entry
-t7 = List._∷_ (0, Rows.any-gone (Laws.mir)) (List._∷_ (1, Mut.mslice (OfOutput.row) (Syntax.tyRef (Syntax.named 0) Syntax.mut OfOutput.named) 0) (List._∷_ (2, Mut.mslice (OfStation.row) (Syntax.tyRef (Syntax.named 1) Syntax.mut OfStation.named) 1) (List._∷_ (3, Rows.mref (Referent.rtF (Referent.fInt Syntax.w64)) (Syntax.tyRef (Syntax.named 2) Syntax.mut (Syntax.tyInt Syntax.w64)) 2) (List._∷_ (4, Mut.mslice (Referent.rtF (Referent.fInt Syntax.w8)) (Syntax.tyRef (Syntax.named 3) Syntax.mut (Syntax.tyInt Syntax.w8)) 3) (List._∷_ (5, Rows.any-gone (Laws.mir)) (List._∷_ (6, Rows.sslice (Referent.rtF (Referent.fInt Syntax.w8)) (Syntax.tyRef (Syntax.named 4) Syntax.imm (Syntax.tyInt Syntax.w8)) 4) (List._∷_ (7, Rows.whole (Declared.row Turn.the-type)) (List._∷_ (8, Rows.sc-here (Row.sInt Syntax.w64)) (List._∷_ (9, Rows.any-gone (Syntax.tyInt Syntax.w8)) (List._∷_ (10, Rows.sc-here (Row.sInt Syntax.w64)) (List._∷_ (11, Rows.sc-here Row.sBool) (List._∷_ (12, Rows.any-gone Syntax.tyPtr) (List._∷_ (13, Rows.any-gone (Syntax.tyInt Syntax.w8)) (List._∷_ (14, Rows.any-gone (Syntax.tyRef Syntax.erased Syntax.mut OfOutput.named)) (List._∷_ (15, Rows.any-gone (Syntax.tyStruct (List._∷_ 38 (List._∷_ 91 (List._∷_ 93 List.[]))) (Syntax.tcons (Syntax.tyRef Syntax.erased Syntax.mut OfOutput.named) (Syntax.tcons (Syntax.tyInt Syntax.w64) Syntax.tnil)))) List.[])))))))))))))))
+t7 = List._∷_ (0, Rows.any-gone (Laws.mir)) (List._∷_ (1, Mut.mslice (OfOutput.row) (Syntax.tyRef (Syntax.named 0) Syntax.mut OfOutput.named) 0) (List._∷_ (2, Mut.mslice (OfStation.row) (Syntax.tyRef (Syntax.named 1) Syntax.mut OfStation.named) 1) (List._∷_ (3, Rows.mref (OfPanelRecord.row) (Syntax.tyRef (Syntax.named 2) Syntax.mut OfPanelRecord.named) 2) (List._∷_ (4, Mut.mslice (Referent.rtF (Referent.fInt Syntax.w8)) (Syntax.tyRef (Syntax.named 3) Syntax.mut (Syntax.tyInt Syntax.w8)) 3) (List._∷_ (5, Rows.any-gone (Laws.mir)) (List._∷_ (6, Rows.sslice (Referent.rtF (Referent.fInt Syntax.w8)) (Syntax.tyRef (Syntax.named 4) Syntax.imm (Syntax.tyInt Syntax.w8)) 4) (List._∷_ (7, Rows.whole (Declared.row Turn.the-type)) (List._∷_ (8, Rows.sc-here (Row.sInt Syntax.w64)) (List._∷_ (9, Rows.any-gone (Syntax.tyInt Syntax.w8)) (List._∷_ (10, Rows.sc-here (Row.sInt Syntax.w64)) (List._∷_ (11, Rows.sc-here Row.sBool) (List._∷_ (12, Rows.any-gone Syntax.tyPtr) (List._∷_ (13, Rows.any-gone (Syntax.tyInt Syntax.w8)) (List._∷_ (14, Rows.any-gone (Syntax.tyRef Syntax.erased Syntax.mut OfOutput.named)) (List._∷_ (15, Rows.any-gone (Syntax.tyStruct (List._∷_ 38 (List._∷_ 91 (List._∷_ 93 List.[]))) (Syntax.tcons (Syntax.tyRef Syntax.erased Syntax.mut OfOutput.named) (Syntax.tcons (Syntax.tyInt Syntax.w64) Syntax.tnil)))) List.[])))))))))))))))
 
 abbrev pub t8 : List.List Row.Entry
-t8 = List._∷_ (0, Rows.any-gone (Laws.mir)) (List._∷_ (1, Mut.mslice (OfOutput.row) (Syntax.tyRef (Syntax.named 0) Syntax.mut OfOutput.named) 0) (List._∷_ (2, Mut.mslice (OfStation.row) (Syntax.tyRef (Syntax.named 1) Syntax.mut OfStation.named) 1) (List._∷_ (3, Rows.mref (Referent.rtF (Referent.fInt Syntax.w64)) (Syntax.tyRef (Syntax.named 2) Syntax.mut (Syntax.tyInt Syntax.w64)) 2) (List._∷_ (4, Mut.mslice (Referent.rtF (Referent.fInt Syntax.w8)) (Syntax.tyRef (Syntax.named 3) Syntax.mut (Syntax.tyInt Syntax.w8)) 3) (List._∷_ (5, Rows.any-gone (Laws.mir)) (List._∷_ (6, Rows.sslice (Referent.rtF (Referent.fInt Syntax.w8)) (Syntax.tyRef (Syntax.named 4) Syntax.imm (Syntax.tyInt Syntax.w8)) 4) (List._∷_ (7, Rows.whole (Declared.row Turn.the-type)) (List._∷_ (8, Rows.sc-here (Row.sInt Syntax.w64)) (List._∷_ (9, Rows.any-gone (Syntax.tyInt Syntax.w8)) (List._∷_ (10, Rows.any-gone (Syntax.tyInt Syntax.w64)) (List._∷_ (11, Rows.sc-here Row.sBool) (List._∷_ (12, Rows.any-gone Syntax.tyPtr) (List._∷_ (13, Rows.any-gone (Syntax.tyInt Syntax.w8)) (List._∷_ (14, Rows.any-gone (Syntax.tyRef Syntax.erased Syntax.mut OfOutput.named)) (List._∷_ (15, Rows.any-gone (Syntax.tyStruct (List._∷_ 38 (List._∷_ 91 (List._∷_ 93 List.[]))) (Syntax.tcons (Syntax.tyRef Syntax.erased Syntax.mut OfOutput.named) (Syntax.tcons (Syntax.tyInt Syntax.w64) Syntax.tnil)))) List.[])))))))))))))))
+t8 = List._∷_ (0, Rows.any-gone (Laws.mir)) (List._∷_ (1, Mut.mslice (OfOutput.row) (Syntax.tyRef (Syntax.named 0) Syntax.mut OfOutput.named) 0) (List._∷_ (2, Mut.mslice (OfStation.row) (Syntax.tyRef (Syntax.named 1) Syntax.mut OfStation.named) 1) (List._∷_ (3, Rows.mref (OfPanelRecord.row) (Syntax.tyRef (Syntax.named 2) Syntax.mut OfPanelRecord.named) 2) (List._∷_ (4, Mut.mslice (Referent.rtF (Referent.fInt Syntax.w8)) (Syntax.tyRef (Syntax.named 3) Syntax.mut (Syntax.tyInt Syntax.w8)) 3) (List._∷_ (5, Rows.any-gone (Laws.mir)) (List._∷_ (6, Rows.sslice (Referent.rtF (Referent.fInt Syntax.w8)) (Syntax.tyRef (Syntax.named 4) Syntax.imm (Syntax.tyInt Syntax.w8)) 4) (List._∷_ (7, Rows.whole (Declared.row Turn.the-type)) (List._∷_ (8, Rows.sc-here (Row.sInt Syntax.w64)) (List._∷_ (9, Rows.any-gone (Syntax.tyInt Syntax.w8)) (List._∷_ (10, Rows.any-gone (Syntax.tyInt Syntax.w64)) (List._∷_ (11, Rows.sc-here Row.sBool) (List._∷_ (12, Rows.any-gone Syntax.tyPtr) (List._∷_ (13, Rows.any-gone (Syntax.tyInt Syntax.w8)) (List._∷_ (14, Rows.any-gone (Syntax.tyRef Syntax.erased Syntax.mut OfOutput.named)) (List._∷_ (15, Rows.any-gone (Syntax.tyStruct (List._∷_ 38 (List._∷_ 91 (List._∷_ 93 List.[]))) (Syntax.tcons (Syntax.tyRef Syntax.erased Syntax.mut OfOutput.named) (Syntax.tcons (Syntax.tyInt Syntax.w64) Syntax.tnil)))) List.[])))))))))))))))
 
 abbrev pub t9 : List.List Row.Entry
-t9 = List._∷_ (0, Rows.any-gone (Laws.mir)) (List._∷_ (1, Mut.mslice (OfOutput.row) (Syntax.tyRef (Syntax.named 0) Syntax.mut OfOutput.named) 0) (List._∷_ (2, Mut.mslice (OfStation.row) (Syntax.tyRef (Syntax.named 1) Syntax.mut OfStation.named) 1) (List._∷_ (3, Rows.mref (Referent.rtF (Referent.fInt Syntax.w64)) (Syntax.tyRef (Syntax.named 2) Syntax.mut (Syntax.tyInt Syntax.w64)) 2) (List._∷_ (4, Mut.mslice (Referent.rtF (Referent.fInt Syntax.w8)) (Syntax.tyRef (Syntax.named 3) Syntax.mut (Syntax.tyInt Syntax.w8)) 3) (List._∷_ (5, Rows.any-gone (Laws.mir)) (List._∷_ (6, Rows.sslice (Referent.rtF (Referent.fInt Syntax.w8)) (Syntax.tyRef (Syntax.named 4) Syntax.imm (Syntax.tyInt Syntax.w8)) 4) (List._∷_ (7, Rows.whole (Declared.row Turn.the-type)) (List._∷_ (8, Rows.sc-here (Row.sInt Syntax.w64)) (List._∷_ (9, Rows.any-gone (Syntax.tyInt Syntax.w8)) (List._∷_ (10, Rows.any-gone (Syntax.tyInt Syntax.w64)) (List._∷_ (11, Rows.any-gone Syntax.tyBool) (List._∷_ (12, Rows.sc-here Row.sPtr) (List._∷_ (13, Rows.any-gone (Syntax.tyInt Syntax.w8)) (List._∷_ (14, Rows.any-gone (Syntax.tyRef Syntax.erased Syntax.mut OfOutput.named)) (List._∷_ (15, Rows.any-gone (Syntax.tyStruct (List._∷_ 38 (List._∷_ 91 (List._∷_ 93 List.[]))) (Syntax.tcons (Syntax.tyRef Syntax.erased Syntax.mut OfOutput.named) (Syntax.tcons (Syntax.tyInt Syntax.w64) Syntax.tnil)))) List.[])))))))))))))))
+t9 = List._∷_ (0, Rows.any-gone (Laws.mir)) (List._∷_ (1, Mut.mslice (OfOutput.row) (Syntax.tyRef (Syntax.named 0) Syntax.mut OfOutput.named) 0) (List._∷_ (2, Mut.mslice (OfStation.row) (Syntax.tyRef (Syntax.named 1) Syntax.mut OfStation.named) 1) (List._∷_ (3, Rows.mref (OfPanelRecord.row) (Syntax.tyRef (Syntax.named 2) Syntax.mut OfPanelRecord.named) 2) (List._∷_ (4, Mut.mslice (Referent.rtF (Referent.fInt Syntax.w8)) (Syntax.tyRef (Syntax.named 3) Syntax.mut (Syntax.tyInt Syntax.w8)) 3) (List._∷_ (5, Rows.any-gone (Laws.mir)) (List._∷_ (6, Rows.sslice (Referent.rtF (Referent.fInt Syntax.w8)) (Syntax.tyRef (Syntax.named 4) Syntax.imm (Syntax.tyInt Syntax.w8)) 4) (List._∷_ (7, Rows.whole (Declared.row Turn.the-type)) (List._∷_ (8, Rows.sc-here (Row.sInt Syntax.w64)) (List._∷_ (9, Rows.any-gone (Syntax.tyInt Syntax.w8)) (List._∷_ (10, Rows.any-gone (Syntax.tyInt Syntax.w64)) (List._∷_ (11, Rows.any-gone Syntax.tyBool) (List._∷_ (12, Rows.sc-here Row.sPtr) (List._∷_ (13, Rows.any-gone (Syntax.tyInt Syntax.w8)) (List._∷_ (14, Rows.any-gone (Syntax.tyRef Syntax.erased Syntax.mut OfOutput.named)) (List._∷_ (15, Rows.any-gone (Syntax.tyStruct (List._∷_ 38 (List._∷_ 91 (List._∷_ 93 List.[]))) (Syntax.tcons (Syntax.tyRef Syntax.erased Syntax.mut OfOutput.named) (Syntax.tcons (Syntax.tyInt Syntax.w64) Syntax.tnil)))) List.[])))))))))))))))
 
 abbrev pub t10 : List.List Row.Entry
-t10 = List._∷_ (0, Rows.any-gone (Laws.mir)) (List._∷_ (1, Mut.mslice (OfOutput.row) (Syntax.tyRef (Syntax.named 0) Syntax.mut OfOutput.named) 0) (List._∷_ (2, Mut.mslice (OfStation.row) (Syntax.tyRef (Syntax.named 1) Syntax.mut OfStation.named) 1) (List._∷_ (3, Rows.mref (Referent.rtF (Referent.fInt Syntax.w64)) (Syntax.tyRef (Syntax.named 2) Syntax.mut (Syntax.tyInt Syntax.w64)) 2) (List._∷_ (4, Mut.mslice (Referent.rtF (Referent.fInt Syntax.w8)) (Syntax.tyRef (Syntax.named 3) Syntax.mut (Syntax.tyInt Syntax.w8)) 3) (List._∷_ (5, Rows.any-gone (Laws.mir)) (List._∷_ (6, Rows.sslice (Referent.rtF (Referent.fInt Syntax.w8)) (Syntax.tyRef (Syntax.named 4) Syntax.imm (Syntax.tyInt Syntax.w8)) 4) (List._∷_ (7, Rows.whole (Declared.row Turn.the-type)) (List._∷_ (8, Rows.sc-here (Row.sInt Syntax.w64)) (List._∷_ (9, Rows.any-gone (Syntax.tyInt Syntax.w8)) (List._∷_ (10, Rows.any-gone (Syntax.tyInt Syntax.w64)) (List._∷_ (11, Rows.any-gone Syntax.tyBool) (List._∷_ (12, Rows.sc-here Row.sPtr) (List._∷_ (13, Rows.sc-here (Row.sInt Syntax.w8)) (List._∷_ (14, Rows.any-gone (Syntax.tyRef Syntax.erased Syntax.mut OfOutput.named)) (List._∷_ (15, Rows.any-gone (Syntax.tyStruct (List._∷_ 38 (List._∷_ 91 (List._∷_ 93 List.[]))) (Syntax.tcons (Syntax.tyRef Syntax.erased Syntax.mut OfOutput.named) (Syntax.tcons (Syntax.tyInt Syntax.w64) Syntax.tnil)))) List.[])))))))))))))))
+t10 = List._∷_ (0, Rows.any-gone (Laws.mir)) (List._∷_ (1, Mut.mslice (OfOutput.row) (Syntax.tyRef (Syntax.named 0) Syntax.mut OfOutput.named) 0) (List._∷_ (2, Mut.mslice (OfStation.row) (Syntax.tyRef (Syntax.named 1) Syntax.mut OfStation.named) 1) (List._∷_ (3, Rows.mref (OfPanelRecord.row) (Syntax.tyRef (Syntax.named 2) Syntax.mut OfPanelRecord.named) 2) (List._∷_ (4, Mut.mslice (Referent.rtF (Referent.fInt Syntax.w8)) (Syntax.tyRef (Syntax.named 3) Syntax.mut (Syntax.tyInt Syntax.w8)) 3) (List._∷_ (5, Rows.any-gone (Laws.mir)) (List._∷_ (6, Rows.sslice (Referent.rtF (Referent.fInt Syntax.w8)) (Syntax.tyRef (Syntax.named 4) Syntax.imm (Syntax.tyInt Syntax.w8)) 4) (List._∷_ (7, Rows.whole (Declared.row Turn.the-type)) (List._∷_ (8, Rows.sc-here (Row.sInt Syntax.w64)) (List._∷_ (9, Rows.any-gone (Syntax.tyInt Syntax.w8)) (List._∷_ (10, Rows.any-gone (Syntax.tyInt Syntax.w64)) (List._∷_ (11, Rows.any-gone Syntax.tyBool) (List._∷_ (12, Rows.sc-here Row.sPtr) (List._∷_ (13, Rows.sc-here (Row.sInt Syntax.w8)) (List._∷_ (14, Rows.any-gone (Syntax.tyRef Syntax.erased Syntax.mut OfOutput.named)) (List._∷_ (15, Rows.any-gone (Syntax.tyStruct (List._∷_ 38 (List._∷_ 91 (List._∷_ 93 List.[]))) (Syntax.tcons (Syntax.tyRef Syntax.erased Syntax.mut OfOutput.named) (Syntax.tcons (Syntax.tyInt Syntax.w64) Syntax.tnil)))) List.[])))))))))))))))
 
 abbrev pub t11 : List.List Row.Entry
-t11 = List._∷_ (0, Rows.any-gone (Laws.mir)) (List._∷_ (1, Mut.mslice (OfOutput.row) (Syntax.tyRef (Syntax.named 0) Syntax.mut OfOutput.named) 0) (List._∷_ (2, Mut.mslice (OfStation.row) (Syntax.tyRef (Syntax.named 1) Syntax.mut OfStation.named) 1) (List._∷_ (3, Rows.mref (Referent.rtF (Referent.fInt Syntax.w64)) (Syntax.tyRef (Syntax.named 2) Syntax.mut (Syntax.tyInt Syntax.w64)) 2) (List._∷_ (4, Mut.mslice (Referent.rtF (Referent.fInt Syntax.w8)) (Syntax.tyRef (Syntax.named 3) Syntax.mut (Syntax.tyInt Syntax.w8)) 3) (List._∷_ (5, Rows.any-gone (Laws.mir)) (List._∷_ (6, Rows.sslice (Referent.rtF (Referent.fInt Syntax.w8)) (Syntax.tyRef (Syntax.named 4) Syntax.imm (Syntax.tyInt Syntax.w8)) 4) (List._∷_ (7, Rows.whole (Declared.row Turn.the-type)) (List._∷_ (8, Rows.sc-here (Row.sInt Syntax.w64)) (List._∷_ (9, Rows.any-gone (Syntax.tyInt Syntax.w8)) (List._∷_ (10, Rows.any-gone (Syntax.tyInt Syntax.w64)) (List._∷_ (11, Rows.any-gone Syntax.tyBool) (List._∷_ (12, Rows.any-gone Syntax.tyPtr) (List._∷_ (13, Rows.sc-here (Row.sInt Syntax.w8)) (List._∷_ (14, Rows.any-gone (Syntax.tyRef Syntax.erased Syntax.mut OfOutput.named)) (List._∷_ (15, Rows.any-gone (Syntax.tyStruct (List._∷_ 38 (List._∷_ 91 (List._∷_ 93 List.[]))) (Syntax.tcons (Syntax.tyRef Syntax.erased Syntax.mut OfOutput.named) (Syntax.tcons (Syntax.tyInt Syntax.w64) Syntax.tnil)))) List.[])))))))))))))))
+t11 = List._∷_ (0, Rows.any-gone (Laws.mir)) (List._∷_ (1, Mut.mslice (OfOutput.row) (Syntax.tyRef (Syntax.named 0) Syntax.mut OfOutput.named) 0) (List._∷_ (2, Mut.mslice (OfStation.row) (Syntax.tyRef (Syntax.named 1) Syntax.mut OfStation.named) 1) (List._∷_ (3, Rows.mref (OfPanelRecord.row) (Syntax.tyRef (Syntax.named 2) Syntax.mut OfPanelRecord.named) 2) (List._∷_ (4, Mut.mslice (Referent.rtF (Referent.fInt Syntax.w8)) (Syntax.tyRef (Syntax.named 3) Syntax.mut (Syntax.tyInt Syntax.w8)) 3) (List._∷_ (5, Rows.any-gone (Laws.mir)) (List._∷_ (6, Rows.sslice (Referent.rtF (Referent.fInt Syntax.w8)) (Syntax.tyRef (Syntax.named 4) Syntax.imm (Syntax.tyInt Syntax.w8)) 4) (List._∷_ (7, Rows.whole (Declared.row Turn.the-type)) (List._∷_ (8, Rows.sc-here (Row.sInt Syntax.w64)) (List._∷_ (9, Rows.any-gone (Syntax.tyInt Syntax.w8)) (List._∷_ (10, Rows.any-gone (Syntax.tyInt Syntax.w64)) (List._∷_ (11, Rows.any-gone Syntax.tyBool) (List._∷_ (12, Rows.any-gone Syntax.tyPtr) (List._∷_ (13, Rows.sc-here (Row.sInt Syntax.w8)) (List._∷_ (14, Rows.any-gone (Syntax.tyRef Syntax.erased Syntax.mut OfOutput.named)) (List._∷_ (15, Rows.any-gone (Syntax.tyStruct (List._∷_ 38 (List._∷_ 91 (List._∷_ 93 List.[]))) (Syntax.tcons (Syntax.tyRef Syntax.erased Syntax.mut OfOutput.named) (Syntax.tcons (Syntax.tyInt Syntax.w64) Syntax.tnil)))) List.[])))))))))))))))
 
 abbrev pub t12 : List.List Row.Entry
-t12 = List._∷_ (0, Rows.any-gone (Laws.mir)) (List._∷_ (1, Mut.mslice (OfOutput.row) (Syntax.tyRef (Syntax.named 0) Syntax.mut OfOutput.named) 0) (List._∷_ (2, Mut.mslice (OfStation.row) (Syntax.tyRef (Syntax.named 1) Syntax.mut OfStation.named) 1) (List._∷_ (3, Rows.mref (Referent.rtF (Referent.fInt Syntax.w64)) (Syntax.tyRef (Syntax.named 2) Syntax.mut (Syntax.tyInt Syntax.w64)) 2) (List._∷_ (4, Mut.mslice (Referent.rtF (Referent.fInt Syntax.w8)) (Syntax.tyRef (Syntax.named 3) Syntax.mut (Syntax.tyInt Syntax.w8)) 3) (List._∷_ (5, Rows.any-gone (Laws.mir)) (List._∷_ (6, Rows.sslice (Referent.rtF (Referent.fInt Syntax.w8)) (Syntax.tyRef (Syntax.named 4) Syntax.imm (Syntax.tyInt Syntax.w8)) 4) (List._∷_ (7, Rows.whole (Declared.row Turn.the-type)) (List._∷_ (8, Rows.sc-here (Row.sInt Syntax.w64)) (List._∷_ (9, Rows.sc-here (Row.sInt Syntax.w8)) (List._∷_ (10, Rows.any-gone (Syntax.tyInt Syntax.w64)) (List._∷_ (11, Rows.any-gone Syntax.tyBool) (List._∷_ (12, Rows.any-gone Syntax.tyPtr) (List._∷_ (13, Rows.sc-here (Row.sInt Syntax.w8)) (List._∷_ (14, Rows.any-gone (Syntax.tyRef Syntax.erased Syntax.mut OfOutput.named)) (List._∷_ (15, Rows.any-gone (Syntax.tyStruct (List._∷_ 38 (List._∷_ 91 (List._∷_ 93 List.[]))) (Syntax.tcons (Syntax.tyRef Syntax.erased Syntax.mut OfOutput.named) (Syntax.tcons (Syntax.tyInt Syntax.w64) Syntax.tnil)))) List.[])))))))))))))))
+t12 = List._∷_ (0, Rows.any-gone (Laws.mir)) (List._∷_ (1, Mut.mslice (OfOutput.row) (Syntax.tyRef (Syntax.named 0) Syntax.mut OfOutput.named) 0) (List._∷_ (2, Mut.mslice (OfStation.row) (Syntax.tyRef (Syntax.named 1) Syntax.mut OfStation.named) 1) (List._∷_ (3, Rows.mref (OfPanelRecord.row) (Syntax.tyRef (Syntax.named 2) Syntax.mut OfPanelRecord.named) 2) (List._∷_ (4, Mut.mslice (Referent.rtF (Referent.fInt Syntax.w8)) (Syntax.tyRef (Syntax.named 3) Syntax.mut (Syntax.tyInt Syntax.w8)) 3) (List._∷_ (5, Rows.any-gone (Laws.mir)) (List._∷_ (6, Rows.sslice (Referent.rtF (Referent.fInt Syntax.w8)) (Syntax.tyRef (Syntax.named 4) Syntax.imm (Syntax.tyInt Syntax.w8)) 4) (List._∷_ (7, Rows.whole (Declared.row Turn.the-type)) (List._∷_ (8, Rows.sc-here (Row.sInt Syntax.w64)) (List._∷_ (9, Rows.sc-here (Row.sInt Syntax.w8)) (List._∷_ (10, Rows.any-gone (Syntax.tyInt Syntax.w64)) (List._∷_ (11, Rows.any-gone Syntax.tyBool) (List._∷_ (12, Rows.any-gone Syntax.tyPtr) (List._∷_ (13, Rows.sc-here (Row.sInt Syntax.w8)) (List._∷_ (14, Rows.any-gone (Syntax.tyRef Syntax.erased Syntax.mut OfOutput.named)) (List._∷_ (15, Rows.any-gone (Syntax.tyStruct (List._∷_ 38 (List._∷_ 91 (List._∷_ 93 List.[]))) (Syntax.tcons (Syntax.tyRef Syntax.erased Syntax.mut OfOutput.named) (Syntax.tcons (Syntax.tyInt Syntax.w64) Syntax.tnil)))) List.[])))))))))))))))
 
 abbrev pub t13 : List.List Row.Entry
-t13 = List._∷_ (0, Rows.any-gone (Laws.mir)) (List._∷_ (1, Mut.mslice (OfOutput.row) (Syntax.tyRef (Syntax.named 0) Syntax.mut OfOutput.named) 0) (List._∷_ (2, Mut.mslice (OfStation.row) (Syntax.tyRef (Syntax.named 1) Syntax.mut OfStation.named) 1) (List._∷_ (3, Rows.mref (Referent.rtF (Referent.fInt Syntax.w64)) (Syntax.tyRef (Syntax.named 2) Syntax.mut (Syntax.tyInt Syntax.w64)) 2) (List._∷_ (4, Mut.mslice (Referent.rtF (Referent.fInt Syntax.w8)) (Syntax.tyRef (Syntax.named 3) Syntax.mut (Syntax.tyInt Syntax.w8)) 3) (List._∷_ (5, Rows.any-gone (Laws.mir)) (List._∷_ (6, Rows.sslice (Referent.rtF (Referent.fInt Syntax.w8)) (Syntax.tyRef (Syntax.named 4) Syntax.imm (Syntax.tyInt Syntax.w8)) 4) (List._∷_ (7, Rows.whole (Declared.row Turn.the-type)) (List._∷_ (8, Rows.sc-here (Row.sInt Syntax.w64)) (List._∷_ (9, Rows.sc-here (Row.sInt Syntax.w8)) (List._∷_ (10, Rows.any-gone (Syntax.tyInt Syntax.w64)) (List._∷_ (11, Rows.any-gone Syntax.tyBool) (List._∷_ (12, Rows.any-gone Syntax.tyPtr) (List._∷_ (13, Rows.any-gone (Syntax.tyInt Syntax.w8)) (List._∷_ (14, Rows.any-gone (Syntax.tyRef Syntax.erased Syntax.mut OfOutput.named)) (List._∷_ (15, Rows.any-gone (Syntax.tyStruct (List._∷_ 38 (List._∷_ 91 (List._∷_ 93 List.[]))) (Syntax.tcons (Syntax.tyRef Syntax.erased Syntax.mut OfOutput.named) (Syntax.tcons (Syntax.tyInt Syntax.w64) Syntax.tnil)))) List.[])))))))))))))))
+t13 = List._∷_ (0, Rows.any-gone (Laws.mir)) (List._∷_ (1, Mut.mslice (OfOutput.row) (Syntax.tyRef (Syntax.named 0) Syntax.mut OfOutput.named) 0) (List._∷_ (2, Mut.mslice (OfStation.row) (Syntax.tyRef (Syntax.named 1) Syntax.mut OfStation.named) 1) (List._∷_ (3, Rows.mref (OfPanelRecord.row) (Syntax.tyRef (Syntax.named 2) Syntax.mut OfPanelRecord.named) 2) (List._∷_ (4, Mut.mslice (Referent.rtF (Referent.fInt Syntax.w8)) (Syntax.tyRef (Syntax.named 3) Syntax.mut (Syntax.tyInt Syntax.w8)) 3) (List._∷_ (5, Rows.any-gone (Laws.mir)) (List._∷_ (6, Rows.sslice (Referent.rtF (Referent.fInt Syntax.w8)) (Syntax.tyRef (Syntax.named 4) Syntax.imm (Syntax.tyInt Syntax.w8)) 4) (List._∷_ (7, Rows.whole (Declared.row Turn.the-type)) (List._∷_ (8, Rows.sc-here (Row.sInt Syntax.w64)) (List._∷_ (9, Rows.sc-here (Row.sInt Syntax.w8)) (List._∷_ (10, Rows.any-gone (Syntax.tyInt Syntax.w64)) (List._∷_ (11, Rows.any-gone Syntax.tyBool) (List._∷_ (12, Rows.any-gone Syntax.tyPtr) (List._∷_ (13, Rows.any-gone (Syntax.tyInt Syntax.w8)) (List._∷_ (14, Rows.any-gone (Syntax.tyRef Syntax.erased Syntax.mut OfOutput.named)) (List._∷_ (15, Rows.any-gone (Syntax.tyStruct (List._∷_ 38 (List._∷_ 91 (List._∷_ 93 List.[]))) (Syntax.tcons (Syntax.tyRef Syntax.erased Syntax.mut OfOutput.named) (Syntax.tcons (Syntax.tyInt Syntax.w64) Syntax.tnil)))) List.[])))))))))))))))
 
 abbrev pub t14 : List.List Row.Entry
-t14 = List._∷_ (0, Rows.any-gone (Laws.mir)) (List._∷_ (1, Mut.mslice (OfOutput.row) (Syntax.tyRef (Syntax.named 0) Syntax.mut OfOutput.named) 0) (List._∷_ (2, Mut.mslice (OfStation.row) (Syntax.tyRef (Syntax.named 1) Syntax.mut OfStation.named) 1) (List._∷_ (3, Rows.mref (Referent.rtF (Referent.fInt Syntax.w64)) (Syntax.tyRef (Syntax.named 2) Syntax.mut (Syntax.tyInt Syntax.w64)) 2) (List._∷_ (4, Mut.mslice (Referent.rtF (Referent.fInt Syntax.w8)) (Syntax.tyRef (Syntax.named 3) Syntax.mut (Syntax.tyInt Syntax.w8)) 3) (List._∷_ (5, Rows.any-gone (Laws.mir)) (List._∷_ (6, Rows.sslice (Referent.rtF (Referent.fInt Syntax.w8)) (Syntax.tyRef (Syntax.named 4) Syntax.imm (Syntax.tyInt Syntax.w8)) 4) (List._∷_ (7, Rows.whole (Declared.row Turn.the-type)) (List._∷_ (8, Rows.sc-here (Row.sInt Syntax.w64)) (List._∷_ (9, Rows.sc-here (Row.sInt Syntax.w8)) (List._∷_ (10, Rows.any-gone (Syntax.tyInt Syntax.w64)) (List._∷_ (11, Rows.sc-here Row.sBool) (List._∷_ (12, Rows.any-gone Syntax.tyPtr) (List._∷_ (13, Rows.any-gone (Syntax.tyInt Syntax.w8)) (List._∷_ (14, Rows.any-gone (Syntax.tyRef Syntax.erased Syntax.mut OfOutput.named)) (List._∷_ (15, Rows.any-gone (Syntax.tyStruct (List._∷_ 38 (List._∷_ 91 (List._∷_ 93 List.[]))) (Syntax.tcons (Syntax.tyRef Syntax.erased Syntax.mut OfOutput.named) (Syntax.tcons (Syntax.tyInt Syntax.w64) Syntax.tnil)))) List.[])))))))))))))))
+t14 = List._∷_ (0, Rows.any-gone (Laws.mir)) (List._∷_ (1, Mut.mslice (OfOutput.row) (Syntax.tyRef (Syntax.named 0) Syntax.mut OfOutput.named) 0) (List._∷_ (2, Mut.mslice (OfStation.row) (Syntax.tyRef (Syntax.named 1) Syntax.mut OfStation.named) 1) (List._∷_ (3, Rows.mref (OfPanelRecord.row) (Syntax.tyRef (Syntax.named 2) Syntax.mut OfPanelRecord.named) 2) (List._∷_ (4, Mut.mslice (Referent.rtF (Referent.fInt Syntax.w8)) (Syntax.tyRef (Syntax.named 3) Syntax.mut (Syntax.tyInt Syntax.w8)) 3) (List._∷_ (5, Rows.any-gone (Laws.mir)) (List._∷_ (6, Rows.sslice (Referent.rtF (Referent.fInt Syntax.w8)) (Syntax.tyRef (Syntax.named 4) Syntax.imm (Syntax.tyInt Syntax.w8)) 4) (List._∷_ (7, Rows.whole (Declared.row Turn.the-type)) (List._∷_ (8, Rows.sc-here (Row.sInt Syntax.w64)) (List._∷_ (9, Rows.sc-here (Row.sInt Syntax.w8)) (List._∷_ (10, Rows.any-gone (Syntax.tyInt Syntax.w64)) (List._∷_ (11, Rows.sc-here Row.sBool) (List._∷_ (12, Rows.any-gone Syntax.tyPtr) (List._∷_ (13, Rows.any-gone (Syntax.tyInt Syntax.w8)) (List._∷_ (14, Rows.any-gone (Syntax.tyRef Syntax.erased Syntax.mut OfOutput.named)) (List._∷_ (15, Rows.any-gone (Syntax.tyStruct (List._∷_ 38 (List._∷_ 91 (List._∷_ 93 List.[]))) (Syntax.tcons (Syntax.tyRef Syntax.erased Syntax.mut OfOutput.named) (Syntax.tcons (Syntax.tyInt Syntax.w64) Syntax.tnil)))) List.[])))))))))))))))
 
 abbrev pub t15 : List.List Row.Entry
-t15 = List._∷_ (0, Rows.any-gone (Laws.mir)) (List._∷_ (1, Relend.mslice-owed (OfOutput.row) (Syntax.tyRef (Syntax.named 0) Syntax.mut OfOutput.named) 0 5 Row.off) (List._∷_ (2, Mut.mslice (OfStation.row) (Syntax.tyRef (Syntax.named 1) Syntax.mut OfStation.named) 1) (List._∷_ (3, Rows.mref (Referent.rtF (Referent.fInt Syntax.w64)) (Syntax.tyRef (Syntax.named 2) Syntax.mut (Syntax.tyInt Syntax.w64)) 2) (List._∷_ (4, Mut.mslice (Referent.rtF (Referent.fInt Syntax.w8)) (Syntax.tyRef (Syntax.named 3) Syntax.mut (Syntax.tyInt Syntax.w8)) 3) (List._∷_ (5, Rows.any-gone (Laws.mir)) (List._∷_ (6, Rows.sslice (Referent.rtF (Referent.fInt Syntax.w8)) (Syntax.tyRef (Syntax.named 4) Syntax.imm (Syntax.tyInt Syntax.w8)) 4) (List._∷_ (7, Rows.whole (Declared.row Turn.the-type)) (List._∷_ (8, Rows.sc-here (Row.sInt Syntax.w64)) (List._∷_ (9, Rows.sc-here (Row.sInt Syntax.w8)) (List._∷_ (10, Rows.any-gone (Syntax.tyInt Syntax.w64)) (List._∷_ (11, Rows.any-gone Syntax.tyBool) (List._∷_ (12, Rows.any-gone Syntax.tyPtr) (List._∷_ (13, Rows.any-gone (Syntax.tyInt Syntax.w8)) (List._∷_ (14, Relend.msptr (OfOutput.row) (Syntax.tyRef Syntax.erased Syntax.mut OfOutput.named) 5) (List._∷_ (15, Rows.any-gone (Syntax.tyStruct (List._∷_ 38 (List._∷_ 91 (List._∷_ 93 List.[]))) (Syntax.tcons (Syntax.tyRef Syntax.erased Syntax.mut OfOutput.named) (Syntax.tcons (Syntax.tyInt Syntax.w64) Syntax.tnil)))) List.[])))))))))))))))
+t15 = List._∷_ (0, Rows.any-gone (Laws.mir)) (List._∷_ (1, Relend.mslice-owed (OfOutput.row) (Syntax.tyRef (Syntax.named 0) Syntax.mut OfOutput.named) 0 5 Row.off) (List._∷_ (2, Mut.mslice (OfStation.row) (Syntax.tyRef (Syntax.named 1) Syntax.mut OfStation.named) 1) (List._∷_ (3, Rows.mref (OfPanelRecord.row) (Syntax.tyRef (Syntax.named 2) Syntax.mut OfPanelRecord.named) 2) (List._∷_ (4, Mut.mslice (Referent.rtF (Referent.fInt Syntax.w8)) (Syntax.tyRef (Syntax.named 3) Syntax.mut (Syntax.tyInt Syntax.w8)) 3) (List._∷_ (5, Rows.any-gone (Laws.mir)) (List._∷_ (6, Rows.sslice (Referent.rtF (Referent.fInt Syntax.w8)) (Syntax.tyRef (Syntax.named 4) Syntax.imm (Syntax.tyInt Syntax.w8)) 4) (List._∷_ (7, Rows.whole (Declared.row Turn.the-type)) (List._∷_ (8, Rows.sc-here (Row.sInt Syntax.w64)) (List._∷_ (9, Rows.sc-here (Row.sInt Syntax.w8)) (List._∷_ (10, Rows.any-gone (Syntax.tyInt Syntax.w64)) (List._∷_ (11, Rows.any-gone Syntax.tyBool) (List._∷_ (12, Rows.any-gone Syntax.tyPtr) (List._∷_ (13, Rows.any-gone (Syntax.tyInt Syntax.w8)) (List._∷_ (14, Relend.msptr (OfOutput.row) (Syntax.tyRef Syntax.erased Syntax.mut OfOutput.named) 5) (List._∷_ (15, Rows.any-gone (Syntax.tyStruct (List._∷_ 38 (List._∷_ 91 (List._∷_ 93 List.[]))) (Syntax.tcons (Syntax.tyRef Syntax.erased Syntax.mut OfOutput.named) (Syntax.tcons (Syntax.tyInt Syntax.w64) Syntax.tnil)))) List.[])))))))))))))))
 
 abbrev pub t16 : List.List Row.Entry
-t16 = List._∷_ (0, Rows.any-gone (Laws.mir)) (List._∷_ (1, Relend.mslice-owed (OfOutput.row) (Syntax.tyRef (Syntax.named 0) Syntax.mut OfOutput.named) 0 5 Row.off) (List._∷_ (2, Mut.mslice (OfStation.row) (Syntax.tyRef (Syntax.named 1) Syntax.mut OfStation.named) 1) (List._∷_ (3, Rows.mref (Referent.rtF (Referent.fInt Syntax.w64)) (Syntax.tyRef (Syntax.named 2) Syntax.mut (Syntax.tyInt Syntax.w64)) 2) (List._∷_ (4, Mut.mslice (Referent.rtF (Referent.fInt Syntax.w8)) (Syntax.tyRef (Syntax.named 3) Syntax.mut (Syntax.tyInt Syntax.w8)) 3) (List._∷_ (5, Rows.any-gone (Laws.mir)) (List._∷_ (6, Rows.sslice (Referent.rtF (Referent.fInt Syntax.w8)) (Syntax.tyRef (Syntax.named 4) Syntax.imm (Syntax.tyInt Syntax.w8)) 4) (List._∷_ (7, Rows.whole (Declared.row Turn.the-type)) (List._∷_ (8, Rows.sc-here (Row.sInt Syntax.w64)) (List._∷_ (9, Rows.sc-here (Row.sInt Syntax.w8)) (List._∷_ (10, Rows.any-gone (Syntax.tyInt Syntax.w64)) (List._∷_ (11, Rows.any-gone Syntax.tyBool) (List._∷_ (12, Rows.any-gone Syntax.tyPtr) (List._∷_ (13, Rows.any-gone (Syntax.tyInt Syntax.w8)) (List._∷_ (14, Rows.any-gone (Syntax.tyRef Syntax.erased Syntax.mut OfOutput.named)) (List._∷_ (15, Mut.mslice (OfOutput.row) (Syntax.tyRef Syntax.erased Syntax.mut OfOutput.named) 5) List.[])))))))))))))))
+t16 = List._∷_ (0, Rows.any-gone (Laws.mir)) (List._∷_ (1, Relend.mslice-owed (OfOutput.row) (Syntax.tyRef (Syntax.named 0) Syntax.mut OfOutput.named) 0 5 Row.off) (List._∷_ (2, Mut.mslice (OfStation.row) (Syntax.tyRef (Syntax.named 1) Syntax.mut OfStation.named) 1) (List._∷_ (3, Rows.mref (OfPanelRecord.row) (Syntax.tyRef (Syntax.named 2) Syntax.mut OfPanelRecord.named) 2) (List._∷_ (4, Mut.mslice (Referent.rtF (Referent.fInt Syntax.w8)) (Syntax.tyRef (Syntax.named 3) Syntax.mut (Syntax.tyInt Syntax.w8)) 3) (List._∷_ (5, Rows.any-gone (Laws.mir)) (List._∷_ (6, Rows.sslice (Referent.rtF (Referent.fInt Syntax.w8)) (Syntax.tyRef (Syntax.named 4) Syntax.imm (Syntax.tyInt Syntax.w8)) 4) (List._∷_ (7, Rows.whole (Declared.row Turn.the-type)) (List._∷_ (8, Rows.sc-here (Row.sInt Syntax.w64)) (List._∷_ (9, Rows.sc-here (Row.sInt Syntax.w8)) (List._∷_ (10, Rows.any-gone (Syntax.tyInt Syntax.w64)) (List._∷_ (11, Rows.any-gone Syntax.tyBool) (List._∷_ (12, Rows.any-gone Syntax.tyPtr) (List._∷_ (13, Rows.any-gone (Syntax.tyInt Syntax.w8)) (List._∷_ (14, Rows.any-gone (Syntax.tyRef Syntax.erased Syntax.mut OfOutput.named)) (List._∷_ (15, Mut.mslice (OfOutput.row) (Syntax.tyRef Syntax.erased Syntax.mut OfOutput.named) 5) List.[])))))))))))))))
 
 abbrev pub t17 : List.List Row.Entry
-t17 = List._∷_ (0, Rows.any-gone (Laws.mir)) (List._∷_ (1, Relend.mslice-owed (OfOutput.row) (Syntax.tyRef (Syntax.named 0) Syntax.mut OfOutput.named) 0 5 Row.off) (List._∷_ (2, Relend.mslice-owed (OfStation.row) (Syntax.tyRef (Syntax.named 1) Syntax.mut OfStation.named) 1 6 Row.off) (List._∷_ (3, Rows.mref (Referent.rtF (Referent.fInt Syntax.w64)) (Syntax.tyRef (Syntax.named 2) Syntax.mut (Syntax.tyInt Syntax.w64)) 2) (List._∷_ (4, Mut.mslice (Referent.rtF (Referent.fInt Syntax.w8)) (Syntax.tyRef (Syntax.named 3) Syntax.mut (Syntax.tyInt Syntax.w8)) 3) (List._∷_ (5, Rows.any-gone (Laws.mir)) (List._∷_ (6, Rows.sslice (Referent.rtF (Referent.fInt Syntax.w8)) (Syntax.tyRef (Syntax.named 4) Syntax.imm (Syntax.tyInt Syntax.w8)) 4) (List._∷_ (7, Rows.whole (Declared.row Turn.the-type)) (List._∷_ (8, Rows.sc-here (Row.sInt Syntax.w64)) (List._∷_ (9, Rows.sc-here (Row.sInt Syntax.w8)) (List._∷_ (10, Rows.any-gone (Syntax.tyInt Syntax.w64)) (List._∷_ (11, Rows.any-gone Syntax.tyBool) (List._∷_ (12, Rows.any-gone Syntax.tyPtr) (List._∷_ (13, Rows.any-gone (Syntax.tyInt Syntax.w8)) (List._∷_ (14, Rows.any-gone (Syntax.tyRef Syntax.erased Syntax.mut OfOutput.named)) (List._∷_ (15, Mut.mslice (OfOutput.row) (Syntax.tyRef Syntax.erased Syntax.mut OfOutput.named) 5) List.[])))))))))))))))
+t17 = List._∷_ (0, Rows.any-gone (Laws.mir)) (List._∷_ (1, Relend.mslice-owed (OfOutput.row) (Syntax.tyRef (Syntax.named 0) Syntax.mut OfOutput.named) 0 5 Row.off) (List._∷_ (2, Relend.mslice-owed (OfStation.row) (Syntax.tyRef (Syntax.named 1) Syntax.mut OfStation.named) 1 6 Row.off) (List._∷_ (3, Rows.mref (OfPanelRecord.row) (Syntax.tyRef (Syntax.named 2) Syntax.mut OfPanelRecord.named) 2) (List._∷_ (4, Mut.mslice (Referent.rtF (Referent.fInt Syntax.w8)) (Syntax.tyRef (Syntax.named 3) Syntax.mut (Syntax.tyInt Syntax.w8)) 3) (List._∷_ (5, Rows.any-gone (Laws.mir)) (List._∷_ (6, Rows.sslice (Referent.rtF (Referent.fInt Syntax.w8)) (Syntax.tyRef (Syntax.named 4) Syntax.imm (Syntax.tyInt Syntax.w8)) 4) (List._∷_ (7, Rows.whole (Declared.row Turn.the-type)) (List._∷_ (8, Rows.sc-here (Row.sInt Syntax.w64)) (List._∷_ (9, Rows.sc-here (Row.sInt Syntax.w8)) (List._∷_ (10, Rows.any-gone (Syntax.tyInt Syntax.w64)) (List._∷_ (11, Rows.any-gone Syntax.tyBool) (List._∷_ (12, Rows.any-gone Syntax.tyPtr) (List._∷_ (13, Rows.any-gone (Syntax.tyInt Syntax.w8)) (List._∷_ (14, Rows.any-gone (Syntax.tyRef Syntax.erased Syntax.mut OfOutput.named)) (List._∷_ (15, Mut.mslice (OfOutput.row) (Syntax.tyRef Syntax.erased Syntax.mut OfOutput.named) 5) List.[])))))))))))))))
 
 abbrev pub t18 : List.List Row.Entry
-t18 = List._∷_ (16, Relend.msptr (OfStation.row) (Syntax.tyRef Syntax.erased Syntax.mut OfStation.named) 6) (List._∷_ (17, Rows.any-gone (Syntax.tyStruct (List._∷_ 38 (List._∷_ 91 (List._∷_ 93 List.[]))) (Syntax.tcons (Syntax.tyRef Syntax.erased Syntax.mut OfStation.named) (Syntax.tcons (Syntax.tyInt Syntax.w64) Syntax.tnil)))) (List._∷_ (18, Rows.any-gone (Syntax.tyRef Syntax.erased Syntax.mut (Syntax.tyInt Syntax.w64))) (List._∷_ (19, Rows.any-gone (Syntax.tyRef Syntax.erased Syntax.mut (Syntax.tyInt Syntax.w8))) (List._∷_ (20, Rows.any-gone (Syntax.tyStruct (List._∷_ 38 (List._∷_ 91 (List._∷_ 93 List.[]))) (Syntax.tcons (Syntax.tyRef Syntax.erased Syntax.mut (Syntax.tyInt Syntax.w8)) (Syntax.tcons (Syntax.tyInt Syntax.w64) Syntax.tnil)))) List.[]))))
+t18 = List._∷_ (16, Relend.msptr (OfStation.row) (Syntax.tyRef Syntax.erased Syntax.mut OfStation.named) 6) (List._∷_ (17, Rows.any-gone (Syntax.tyStruct (List._∷_ 38 (List._∷_ 91 (List._∷_ 93 List.[]))) (Syntax.tcons (Syntax.tyRef Syntax.erased Syntax.mut OfStation.named) (Syntax.tcons (Syntax.tyInt Syntax.w64) Syntax.tnil)))) (List._∷_ (18, Rows.any-gone (Syntax.tyRef Syntax.erased Syntax.mut OfPanelRecord.named)) (List._∷_ (19, Rows.any-gone (Syntax.tyRef Syntax.erased Syntax.mut (Syntax.tyInt Syntax.w8))) (List._∷_ (20, Rows.any-gone (Syntax.tyStruct (List._∷_ 38 (List._∷_ 91 (List._∷_ 93 List.[]))) (Syntax.tcons (Syntax.tyRef Syntax.erased Syntax.mut (Syntax.tyInt Syntax.w8)) (Syntax.tcons (Syntax.tyInt Syntax.w64) Syntax.tnil)))) List.[]))))
 
 abbrev pub t19 : List.List Row.Entry
-t19 = List._∷_ (16, Rows.any-gone (Syntax.tyRef Syntax.erased Syntax.mut OfStation.named)) (List._∷_ (17, Mut.mslice (OfStation.row) (Syntax.tyRef Syntax.erased Syntax.mut OfStation.named) 6) (List._∷_ (18, Rows.any-gone (Syntax.tyRef Syntax.erased Syntax.mut (Syntax.tyInt Syntax.w64))) (List._∷_ (19, Rows.any-gone (Syntax.tyRef Syntax.erased Syntax.mut (Syntax.tyInt Syntax.w8))) (List._∷_ (20, Rows.any-gone (Syntax.tyStruct (List._∷_ 38 (List._∷_ 91 (List._∷_ 93 List.[]))) (Syntax.tcons (Syntax.tyRef Syntax.erased Syntax.mut (Syntax.tyInt Syntax.w8)) (Syntax.tcons (Syntax.tyInt Syntax.w64) Syntax.tnil)))) List.[]))))
+t19 = List._∷_ (16, Rows.any-gone (Syntax.tyRef Syntax.erased Syntax.mut OfStation.named)) (List._∷_ (17, Mut.mslice (OfStation.row) (Syntax.tyRef Syntax.erased Syntax.mut OfStation.named) 6) (List._∷_ (18, Rows.any-gone (Syntax.tyRef Syntax.erased Syntax.mut OfPanelRecord.named)) (List._∷_ (19, Rows.any-gone (Syntax.tyRef Syntax.erased Syntax.mut (Syntax.tyInt Syntax.w8))) (List._∷_ (20, Rows.any-gone (Syntax.tyStruct (List._∷_ 38 (List._∷_ 91 (List._∷_ 93 List.[]))) (Syntax.tcons (Syntax.tyRef Syntax.erased Syntax.mut (Syntax.tyInt Syntax.w8)) (Syntax.tcons (Syntax.tyInt Syntax.w64) Syntax.tnil)))) List.[]))))
 
 abbrev pub t20 : List.List Row.Entry
-t20 = List._∷_ (0, Rows.any-gone (Laws.mir)) (List._∷_ (1, Relend.mslice-owed (OfOutput.row) (Syntax.tyRef (Syntax.named 0) Syntax.mut OfOutput.named) 0 5 Row.off) (List._∷_ (2, Relend.mslice-owed (OfStation.row) (Syntax.tyRef (Syntax.named 1) Syntax.mut OfStation.named) 1 6 Row.off) (List._∷_ (3, Rows.mref-owed (Referent.rtF (Referent.fInt Syntax.w64)) (Syntax.tyRef (Syntax.named 2) Syntax.mut (Syntax.tyInt Syntax.w64)) 2 7 Row.off) (List._∷_ (4, Mut.mslice (Referent.rtF (Referent.fInt Syntax.w8)) (Syntax.tyRef (Syntax.named 3) Syntax.mut (Syntax.tyInt Syntax.w8)) 3) (List._∷_ (5, Rows.any-gone (Laws.mir)) (List._∷_ (6, Rows.sslice (Referent.rtF (Referent.fInt Syntax.w8)) (Syntax.tyRef (Syntax.named 4) Syntax.imm (Syntax.tyInt Syntax.w8)) 4) (List._∷_ (7, Rows.whole (Declared.row Turn.the-type)) (List._∷_ (8, Rows.sc-here (Row.sInt Syntax.w64)) (List._∷_ (9, Rows.sc-here (Row.sInt Syntax.w8)) (List._∷_ (10, Rows.any-gone (Syntax.tyInt Syntax.w64)) (List._∷_ (11, Rows.any-gone Syntax.tyBool) (List._∷_ (12, Rows.any-gone Syntax.tyPtr) (List._∷_ (13, Rows.any-gone (Syntax.tyInt Syntax.w8)) (List._∷_ (14, Rows.any-gone (Syntax.tyRef Syntax.erased Syntax.mut OfOutput.named)) (List._∷_ (15, Mut.mslice (OfOutput.row) (Syntax.tyRef Syntax.erased Syntax.mut OfOutput.named) 5) List.[])))))))))))))))
+t20 = List._∷_ (0, Rows.any-gone (Laws.mir)) (List._∷_ (1, Relend.mslice-owed (OfOutput.row) (Syntax.tyRef (Syntax.named 0) Syntax.mut OfOutput.named) 0 5 Row.off) (List._∷_ (2, Relend.mslice-owed (OfStation.row) (Syntax.tyRef (Syntax.named 1) Syntax.mut OfStation.named) 1 6 Row.off) (List._∷_ (3, Rows.mref-owed (OfPanelRecord.row) (Syntax.tyRef (Syntax.named 2) Syntax.mut OfPanelRecord.named) 2 7 Row.off) (List._∷_ (4, Mut.mslice (Referent.rtF (Referent.fInt Syntax.w8)) (Syntax.tyRef (Syntax.named 3) Syntax.mut (Syntax.tyInt Syntax.w8)) 3) (List._∷_ (5, Rows.any-gone (Laws.mir)) (List._∷_ (6, Rows.sslice (Referent.rtF (Referent.fInt Syntax.w8)) (Syntax.tyRef (Syntax.named 4) Syntax.imm (Syntax.tyInt Syntax.w8)) 4) (List._∷_ (7, Rows.whole (Declared.row Turn.the-type)) (List._∷_ (8, Rows.sc-here (Row.sInt Syntax.w64)) (List._∷_ (9, Rows.sc-here (Row.sInt Syntax.w8)) (List._∷_ (10, Rows.any-gone (Syntax.tyInt Syntax.w64)) (List._∷_ (11, Rows.any-gone Syntax.tyBool) (List._∷_ (12, Rows.any-gone Syntax.tyPtr) (List._∷_ (13, Rows.any-gone (Syntax.tyInt Syntax.w8)) (List._∷_ (14, Rows.any-gone (Syntax.tyRef Syntax.erased Syntax.mut OfOutput.named)) (List._∷_ (15, Mut.mslice (OfOutput.row) (Syntax.tyRef Syntax.erased Syntax.mut OfOutput.named) 5) List.[])))))))))))))))
 
 abbrev pub t21 : List.List Row.Entry
-t21 = List._∷_ (16, Rows.any-gone (Syntax.tyRef Syntax.erased Syntax.mut OfStation.named)) (List._∷_ (17, Mut.mslice (OfStation.row) (Syntax.tyRef Syntax.erased Syntax.mut OfStation.named) 6) (List._∷_ (18, Rows.mref (Referent.rtF (Referent.fInt Syntax.w64)) (Syntax.tyRef Syntax.erased Syntax.mut (Syntax.tyInt Syntax.w64)) 7) (List._∷_ (19, Rows.any-gone (Syntax.tyRef Syntax.erased Syntax.mut (Syntax.tyInt Syntax.w8))) (List._∷_ (20, Rows.any-gone (Syntax.tyStruct (List._∷_ 38 (List._∷_ 91 (List._∷_ 93 List.[]))) (Syntax.tcons (Syntax.tyRef Syntax.erased Syntax.mut (Syntax.tyInt Syntax.w8)) (Syntax.tcons (Syntax.tyInt Syntax.w64) Syntax.tnil)))) List.[]))))
+t21 = List._∷_ (16, Rows.any-gone (Syntax.tyRef Syntax.erased Syntax.mut OfStation.named)) (List._∷_ (17, Mut.mslice (OfStation.row) (Syntax.tyRef Syntax.erased Syntax.mut OfStation.named) 6) (List._∷_ (18, Rows.mref (OfPanelRecord.row) (Syntax.tyRef Syntax.erased Syntax.mut OfPanelRecord.named) 7) (List._∷_ (19, Rows.any-gone (Syntax.tyRef Syntax.erased Syntax.mut (Syntax.tyInt Syntax.w8))) (List._∷_ (20, Rows.any-gone (Syntax.tyStruct (List._∷_ 38 (List._∷_ 91 (List._∷_ 93 List.[]))) (Syntax.tcons (Syntax.tyRef Syntax.erased Syntax.mut (Syntax.tyInt Syntax.w8)) (Syntax.tcons (Syntax.tyInt Syntax.w64) Syntax.tnil)))) List.[]))))
 
 abbrev pub t22 : List.List Row.Entry
-t22 = List._∷_ (0, Rows.any-gone (Laws.mir)) (List._∷_ (1, Relend.mslice-owed (OfOutput.row) (Syntax.tyRef (Syntax.named 0) Syntax.mut OfOutput.named) 0 5 Row.off) (List._∷_ (2, Relend.mslice-owed (OfStation.row) (Syntax.tyRef (Syntax.named 1) Syntax.mut OfStation.named) 1 6 Row.off) (List._∷_ (3, Rows.mref-owed (Referent.rtF (Referent.fInt Syntax.w64)) (Syntax.tyRef (Syntax.named 2) Syntax.mut (Syntax.tyInt Syntax.w64)) 2 7 Row.off) (List._∷_ (4, Relend.mslice-owed (Referent.rtF (Referent.fInt Syntax.w8)) (Syntax.tyRef (Syntax.named 3) Syntax.mut (Syntax.tyInt Syntax.w8)) 3 8 Row.off) (List._∷_ (5, Rows.any-gone (Laws.mir)) (List._∷_ (6, Rows.sslice (Referent.rtF (Referent.fInt Syntax.w8)) (Syntax.tyRef (Syntax.named 4) Syntax.imm (Syntax.tyInt Syntax.w8)) 4) (List._∷_ (7, Rows.whole (Declared.row Turn.the-type)) (List._∷_ (8, Rows.sc-here (Row.sInt Syntax.w64)) (List._∷_ (9, Rows.sc-here (Row.sInt Syntax.w8)) (List._∷_ (10, Rows.any-gone (Syntax.tyInt Syntax.w64)) (List._∷_ (11, Rows.any-gone Syntax.tyBool) (List._∷_ (12, Rows.any-gone Syntax.tyPtr) (List._∷_ (13, Rows.any-gone (Syntax.tyInt Syntax.w8)) (List._∷_ (14, Rows.any-gone (Syntax.tyRef Syntax.erased Syntax.mut OfOutput.named)) (List._∷_ (15, Mut.mslice (OfOutput.row) (Syntax.tyRef Syntax.erased Syntax.mut OfOutput.named) 5) List.[])))))))))))))))
+t22 = List._∷_ (0, Rows.any-gone (Laws.mir)) (List._∷_ (1, Relend.mslice-owed (OfOutput.row) (Syntax.tyRef (Syntax.named 0) Syntax.mut OfOutput.named) 0 5 Row.off) (List._∷_ (2, Relend.mslice-owed (OfStation.row) (Syntax.tyRef (Syntax.named 1) Syntax.mut OfStation.named) 1 6 Row.off) (List._∷_ (3, Rows.mref-owed (OfPanelRecord.row) (Syntax.tyRef (Syntax.named 2) Syntax.mut OfPanelRecord.named) 2 7 Row.off) (List._∷_ (4, Relend.mslice-owed (Referent.rtF (Referent.fInt Syntax.w8)) (Syntax.tyRef (Syntax.named 3) Syntax.mut (Syntax.tyInt Syntax.w8)) 3 8 Row.off) (List._∷_ (5, Rows.any-gone (Laws.mir)) (List._∷_ (6, Rows.sslice (Referent.rtF (Referent.fInt Syntax.w8)) (Syntax.tyRef (Syntax.named 4) Syntax.imm (Syntax.tyInt Syntax.w8)) 4) (List._∷_ (7, Rows.whole (Declared.row Turn.the-type)) (List._∷_ (8, Rows.sc-here (Row.sInt Syntax.w64)) (List._∷_ (9, Rows.sc-here (Row.sInt Syntax.w8)) (List._∷_ (10, Rows.any-gone (Syntax.tyInt Syntax.w64)) (List._∷_ (11, Rows.any-gone Syntax.tyBool) (List._∷_ (12, Rows.any-gone Syntax.tyPtr) (List._∷_ (13, Rows.any-gone (Syntax.tyInt Syntax.w8)) (List._∷_ (14, Rows.any-gone (Syntax.tyRef Syntax.erased Syntax.mut OfOutput.named)) (List._∷_ (15, Mut.mslice (OfOutput.row) (Syntax.tyRef Syntax.erased Syntax.mut OfOutput.named) 5) List.[])))))))))))))))
 
 abbrev pub t23 : List.List Row.Entry
-t23 = List._∷_ (16, Rows.any-gone (Syntax.tyRef Syntax.erased Syntax.mut OfStation.named)) (List._∷_ (17, Mut.mslice (OfStation.row) (Syntax.tyRef Syntax.erased Syntax.mut OfStation.named) 6) (List._∷_ (18, Rows.mref (Referent.rtF (Referent.fInt Syntax.w64)) (Syntax.tyRef Syntax.erased Syntax.mut (Syntax.tyInt Syntax.w64)) 7) (List._∷_ (19, Relend.msptr (Referent.rtF (Referent.fInt Syntax.w8)) (Syntax.tyRef Syntax.erased Syntax.mut (Syntax.tyInt Syntax.w8)) 8) (List._∷_ (20, Rows.any-gone (Syntax.tyStruct (List._∷_ 38 (List._∷_ 91 (List._∷_ 93 List.[]))) (Syntax.tcons (Syntax.tyRef Syntax.erased Syntax.mut (Syntax.tyInt Syntax.w8)) (Syntax.tcons (Syntax.tyInt Syntax.w64) Syntax.tnil)))) List.[]))))
+t23 = List._∷_ (16, Rows.any-gone (Syntax.tyRef Syntax.erased Syntax.mut OfStation.named)) (List._∷_ (17, Mut.mslice (OfStation.row) (Syntax.tyRef Syntax.erased Syntax.mut OfStation.named) 6) (List._∷_ (18, Rows.mref (OfPanelRecord.row) (Syntax.tyRef Syntax.erased Syntax.mut OfPanelRecord.named) 7) (List._∷_ (19, Relend.msptr (Referent.rtF (Referent.fInt Syntax.w8)) (Syntax.tyRef Syntax.erased Syntax.mut (Syntax.tyInt Syntax.w8)) 8) (List._∷_ (20, Rows.any-gone (Syntax.tyStruct (List._∷_ 38 (List._∷_ 91 (List._∷_ 93 List.[]))) (Syntax.tcons (Syntax.tyRef Syntax.erased Syntax.mut (Syntax.tyInt Syntax.w8)) (Syntax.tcons (Syntax.tyInt Syntax.w64) Syntax.tnil)))) List.[]))))
 
 abbrev pub t24 : List.List Row.Entry
-t24 = List._∷_ (16, Rows.any-gone (Syntax.tyRef Syntax.erased Syntax.mut OfStation.named)) (List._∷_ (17, Mut.mslice (OfStation.row) (Syntax.tyRef Syntax.erased Syntax.mut OfStation.named) 6) (List._∷_ (18, Rows.mref (Referent.rtF (Referent.fInt Syntax.w64)) (Syntax.tyRef Syntax.erased Syntax.mut (Syntax.tyInt Syntax.w64)) 7) (List._∷_ (19, Rows.any-gone (Syntax.tyRef Syntax.erased Syntax.mut (Syntax.tyInt Syntax.w8))) (List._∷_ (20, Mut.mslice (Referent.rtF (Referent.fInt Syntax.w8)) (Syntax.tyRef Syntax.erased Syntax.mut (Syntax.tyInt Syntax.w8)) 8) List.[]))))
+t24 = List._∷_ (16, Rows.any-gone (Syntax.tyRef Syntax.erased Syntax.mut OfStation.named)) (List._∷_ (17, Mut.mslice (OfStation.row) (Syntax.tyRef Syntax.erased Syntax.mut OfStation.named) 6) (List._∷_ (18, Rows.mref (OfPanelRecord.row) (Syntax.tyRef Syntax.erased Syntax.mut OfPanelRecord.named) 7) (List._∷_ (19, Rows.any-gone (Syntax.tyRef Syntax.erased Syntax.mut (Syntax.tyInt Syntax.w8))) (List._∷_ (20, Mut.mslice (Referent.rtF (Referent.fInt Syntax.w8)) (Syntax.tyRef Syntax.erased Syntax.mut (Syntax.tyInt Syntax.w8)) 8) List.[]))))
 
 abbrev pub t25 : List.List Row.Entry
-t25 = List._∷_ (0, Rows.any-gone (Laws.mir)) (List._∷_ (1, Relend.mslice-owed (OfOutput.row) (Syntax.tyRef (Syntax.named 0) Syntax.mut OfOutput.named) 0 5 Row.off) (List._∷_ (2, Relend.mslice-owed (OfStation.row) (Syntax.tyRef (Syntax.named 1) Syntax.mut OfStation.named) 1 6 Row.off) (List._∷_ (3, Rows.mref-owed (Referent.rtF (Referent.fInt Syntax.w64)) (Syntax.tyRef (Syntax.named 2) Syntax.mut (Syntax.tyInt Syntax.w64)) 2 7 Row.off) (List._∷_ (4, Relend.mslice-owed (Referent.rtF (Referent.fInt Syntax.w8)) (Syntax.tyRef (Syntax.named 3) Syntax.mut (Syntax.tyInt Syntax.w8)) 3 8 Row.off) (List._∷_ (5, Rows.any-gone (Laws.mir)) (List._∷_ (6, Rows.sslice (Referent.rtF (Referent.fInt Syntax.w8)) (Syntax.tyRef (Syntax.named 4) Syntax.imm (Syntax.tyInt Syntax.w8)) 4) (List._∷_ (7, Rows.whole (Declared.row Turn.the-type)) (List._∷_ (8, Rows.sc-here (Row.sInt Syntax.w64)) (List._∷_ (9, Rows.sc-here (Row.sInt Syntax.w8)) (List._∷_ (10, Rows.any-gone (Syntax.tyInt Syntax.w64)) (List._∷_ (11, Rows.any-gone Syntax.tyBool) (List._∷_ (12, Rows.any-gone Syntax.tyPtr) (List._∷_ (13, Rows.any-gone (Syntax.tyInt Syntax.w8)) (List._∷_ (14, Rows.any-gone (Syntax.tyRef Syntax.erased Syntax.mut OfOutput.named)) (List._∷_ (15, Mut.msleft (OfOutput.row) (Syntax.tyRef Syntax.erased Syntax.mut OfOutput.named)) List.[])))))))))))))))
+t25 = List._∷_ (0, Rows.any-gone (Laws.mir)) (List._∷_ (1, Relend.mslice-owed (OfOutput.row) (Syntax.tyRef (Syntax.named 0) Syntax.mut OfOutput.named) 0 5 Row.off) (List._∷_ (2, Relend.mslice-owed (OfStation.row) (Syntax.tyRef (Syntax.named 1) Syntax.mut OfStation.named) 1 6 Row.off) (List._∷_ (3, Rows.mref-owed (OfPanelRecord.row) (Syntax.tyRef (Syntax.named 2) Syntax.mut OfPanelRecord.named) 2 7 Row.off) (List._∷_ (4, Relend.mslice-owed (Referent.rtF (Referent.fInt Syntax.w8)) (Syntax.tyRef (Syntax.named 3) Syntax.mut (Syntax.tyInt Syntax.w8)) 3 8 Row.off) (List._∷_ (5, Rows.any-gone (Laws.mir)) (List._∷_ (6, Rows.sslice (Referent.rtF (Referent.fInt Syntax.w8)) (Syntax.tyRef (Syntax.named 4) Syntax.imm (Syntax.tyInt Syntax.w8)) 4) (List._∷_ (7, Rows.whole (Declared.row Turn.the-type)) (List._∷_ (8, Rows.sc-here (Row.sInt Syntax.w64)) (List._∷_ (9, Rows.sc-here (Row.sInt Syntax.w8)) (List._∷_ (10, Rows.any-gone (Syntax.tyInt Syntax.w64)) (List._∷_ (11, Rows.any-gone Syntax.tyBool) (List._∷_ (12, Rows.any-gone Syntax.tyPtr) (List._∷_ (13, Rows.any-gone (Syntax.tyInt Syntax.w8)) (List._∷_ (14, Rows.any-gone (Syntax.tyRef Syntax.erased Syntax.mut OfOutput.named)) (List._∷_ (15, Mut.msleft (OfOutput.row) (Syntax.tyRef Syntax.erased Syntax.mut OfOutput.named)) List.[])))))))))))))))
 
 abbrev pub t26 : List.List Row.Entry
-t26 = List._∷_ (16, Rows.any-gone (Syntax.tyRef Syntax.erased Syntax.mut OfStation.named)) (List._∷_ (17, Mut.msleft (OfStation.row) (Syntax.tyRef Syntax.erased Syntax.mut OfStation.named)) (List._∷_ (18, Rows.mleft (Referent.rtF (Referent.fInt Syntax.w64)) (Syntax.tyRef Syntax.erased Syntax.mut (Syntax.tyInt Syntax.w64))) (List._∷_ (19, Rows.any-gone (Syntax.tyRef Syntax.erased Syntax.mut (Syntax.tyInt Syntax.w8))) (List._∷_ (20, Mut.msleft (Referent.rtF (Referent.fInt Syntax.w8)) (Syntax.tyRef Syntax.erased Syntax.mut (Syntax.tyInt Syntax.w8))) List.[]))))
+t26 = List._∷_ (16, Rows.any-gone (Syntax.tyRef Syntax.erased Syntax.mut OfStation.named)) (List._∷_ (17, Mut.msleft (OfStation.row) (Syntax.tyRef Syntax.erased Syntax.mut OfStation.named)) (List._∷_ (18, Rows.mleft (OfPanelRecord.row) (Syntax.tyRef Syntax.erased Syntax.mut OfPanelRecord.named)) (List._∷_ (19, Rows.any-gone (Syntax.tyRef Syntax.erased Syntax.mut (Syntax.tyInt Syntax.w8))) (List._∷_ (20, Mut.msleft (Referent.rtF (Referent.fInt Syntax.w8)) (Syntax.tyRef Syntax.erased Syntax.mut (Syntax.tyInt Syntax.w8))) List.[]))))
 
 abbrev pub t27 : List.List Row.Entry
-t27 = List._∷_ (0, Rows.any-gone (Laws.mir)) (List._∷_ (1, Relend.mslice-owed (OfOutput.row) (Syntax.tyRef (Syntax.named 0) Syntax.mut OfOutput.named) 0 5 Row.off) (List._∷_ (2, Relend.mslice-owed (OfStation.row) (Syntax.tyRef (Syntax.named 1) Syntax.mut OfStation.named) 1 6 Row.off) (List._∷_ (3, Rows.mref-owed (Referent.rtF (Referent.fInt Syntax.w64)) (Syntax.tyRef (Syntax.named 2) Syntax.mut (Syntax.tyInt Syntax.w64)) 2 7 Row.off) (List._∷_ (4, Relend.mslice-owed (Referent.rtF (Referent.fInt Syntax.w8)) (Syntax.tyRef (Syntax.named 3) Syntax.mut (Syntax.tyInt Syntax.w8)) 3 8 Row.off) (List._∷_ (5, Rows.any-gone (Laws.mir)) (List._∷_ (6, Rows.sslice (Referent.rtF (Referent.fInt Syntax.w8)) (Syntax.tyRef (Syntax.named 4) Syntax.imm (Syntax.tyInt Syntax.w8)) 4) (List._∷_ (7, Rows.whole (Declared.row Turn.the-type)) (List._∷_ (8, Rows.sc-here (Row.sInt Syntax.w64)) (List._∷_ (9, Rows.any-gone (Syntax.tyInt Syntax.w8)) (List._∷_ (10, Rows.any-gone (Syntax.tyInt Syntax.w64)) (List._∷_ (11, Rows.any-gone Syntax.tyBool) (List._∷_ (12, Rows.any-gone Syntax.tyPtr) (List._∷_ (13, Rows.any-gone (Syntax.tyInt Syntax.w8)) (List._∷_ (14, Rows.any-gone (Syntax.tyRef Syntax.erased Syntax.mut OfOutput.named)) (List._∷_ (15, Mut.msleft (OfOutput.row) (Syntax.tyRef Syntax.erased Syntax.mut OfOutput.named)) List.[])))))))))))))))
+t27 = List._∷_ (0, Rows.any-gone (Laws.mir)) (List._∷_ (1, Relend.mslice-owed (OfOutput.row) (Syntax.tyRef (Syntax.named 0) Syntax.mut OfOutput.named) 0 5 Row.off) (List._∷_ (2, Relend.mslice-owed (OfStation.row) (Syntax.tyRef (Syntax.named 1) Syntax.mut OfStation.named) 1 6 Row.off) (List._∷_ (3, Rows.mref-owed (OfPanelRecord.row) (Syntax.tyRef (Syntax.named 2) Syntax.mut OfPanelRecord.named) 2 7 Row.off) (List._∷_ (4, Relend.mslice-owed (Referent.rtF (Referent.fInt Syntax.w8)) (Syntax.tyRef (Syntax.named 3) Syntax.mut (Syntax.tyInt Syntax.w8)) 3 8 Row.off) (List._∷_ (5, Rows.any-gone (Laws.mir)) (List._∷_ (6, Rows.sslice (Referent.rtF (Referent.fInt Syntax.w8)) (Syntax.tyRef (Syntax.named 4) Syntax.imm (Syntax.tyInt Syntax.w8)) 4) (List._∷_ (7, Rows.whole (Declared.row Turn.the-type)) (List._∷_ (8, Rows.sc-here (Row.sInt Syntax.w64)) (List._∷_ (9, Rows.any-gone (Syntax.tyInt Syntax.w8)) (List._∷_ (10, Rows.any-gone (Syntax.tyInt Syntax.w64)) (List._∷_ (11, Rows.any-gone Syntax.tyBool) (List._∷_ (12, Rows.any-gone Syntax.tyPtr) (List._∷_ (13, Rows.any-gone (Syntax.tyInt Syntax.w8)) (List._∷_ (14, Rows.any-gone (Syntax.tyRef Syntax.erased Syntax.mut OfOutput.named)) (List._∷_ (15, Mut.msleft (OfOutput.row) (Syntax.tyRef Syntax.erased Syntax.mut OfOutput.named)) List.[])))))))))))))))
 
 abbrev pub t28 : List.List Row.Entry
-t28 = List._∷_ (0, Rows.any-gone (Laws.mir)) (List._∷_ (1, Mut.mslice (OfOutput.row) (Syntax.tyRef (Syntax.named 0) Syntax.mut OfOutput.named) 0) (List._∷_ (2, Relend.mslice-owed (OfStation.row) (Syntax.tyRef (Syntax.named 1) Syntax.mut OfStation.named) 1 6 Row.off) (List._∷_ (3, Rows.mref-owed (Referent.rtF (Referent.fInt Syntax.w64)) (Syntax.tyRef (Syntax.named 2) Syntax.mut (Syntax.tyInt Syntax.w64)) 2 7 Row.off) (List._∷_ (4, Relend.mslice-owed (Referent.rtF (Referent.fInt Syntax.w8)) (Syntax.tyRef (Syntax.named 3) Syntax.mut (Syntax.tyInt Syntax.w8)) 3 8 Row.off) (List._∷_ (5, Rows.any-gone (Laws.mir)) (List._∷_ (6, Rows.sslice (Referent.rtF (Referent.fInt Syntax.w8)) (Syntax.tyRef (Syntax.named 4) Syntax.imm (Syntax.tyInt Syntax.w8)) 4) (List._∷_ (7, Rows.whole (Declared.row Turn.the-type)) (List._∷_ (8, Rows.sc-here (Row.sInt Syntax.w64)) (List._∷_ (9, Rows.any-gone (Syntax.tyInt Syntax.w8)) (List._∷_ (10, Rows.any-gone (Syntax.tyInt Syntax.w64)) (List._∷_ (11, Rows.any-gone Syntax.tyBool) (List._∷_ (12, Rows.any-gone Syntax.tyPtr) (List._∷_ (13, Rows.any-gone (Syntax.tyInt Syntax.w8)) (List._∷_ (14, Rows.any-gone (Syntax.tyRef Syntax.erased Syntax.mut OfOutput.named)) (List._∷_ (15, Rows.any-gone (Syntax.tyStruct (List._∷_ 38 (List._∷_ 91 (List._∷_ 93 List.[]))) (Syntax.tcons (Syntax.tyRef Syntax.erased Syntax.mut OfOutput.named) (Syntax.tcons (Syntax.tyInt Syntax.w64) Syntax.tnil)))) List.[])))))))))))))))
+t28 = List._∷_ (0, Rows.any-gone (Laws.mir)) (List._∷_ (1, Mut.mslice (OfOutput.row) (Syntax.tyRef (Syntax.named 0) Syntax.mut OfOutput.named) 0) (List._∷_ (2, Relend.mslice-owed (OfStation.row) (Syntax.tyRef (Syntax.named 1) Syntax.mut OfStation.named) 1 6 Row.off) (List._∷_ (3, Rows.mref-owed (OfPanelRecord.row) (Syntax.tyRef (Syntax.named 2) Syntax.mut OfPanelRecord.named) 2 7 Row.off) (List._∷_ (4, Relend.mslice-owed (Referent.rtF (Referent.fInt Syntax.w8)) (Syntax.tyRef (Syntax.named 3) Syntax.mut (Syntax.tyInt Syntax.w8)) 3 8 Row.off) (List._∷_ (5, Rows.any-gone (Laws.mir)) (List._∷_ (6, Rows.sslice (Referent.rtF (Referent.fInt Syntax.w8)) (Syntax.tyRef (Syntax.named 4) Syntax.imm (Syntax.tyInt Syntax.w8)) 4) (List._∷_ (7, Rows.whole (Declared.row Turn.the-type)) (List._∷_ (8, Rows.sc-here (Row.sInt Syntax.w64)) (List._∷_ (9, Rows.any-gone (Syntax.tyInt Syntax.w8)) (List._∷_ (10, Rows.any-gone (Syntax.tyInt Syntax.w64)) (List._∷_ (11, Rows.any-gone Syntax.tyBool) (List._∷_ (12, Rows.any-gone Syntax.tyPtr) (List._∷_ (13, Rows.any-gone (Syntax.tyInt Syntax.w8)) (List._∷_ (14, Rows.any-gone (Syntax.tyRef Syntax.erased Syntax.mut OfOutput.named)) (List._∷_ (15, Rows.any-gone (Syntax.tyStruct (List._∷_ 38 (List._∷_ 91 (List._∷_ 93 List.[]))) (Syntax.tcons (Syntax.tyRef Syntax.erased Syntax.mut OfOutput.named) (Syntax.tcons (Syntax.tyInt Syntax.w64) Syntax.tnil)))) List.[])))))))))))))))
 
 abbrev pub t29 : List.List Row.Entry
-t29 = List._∷_ (0, Rows.any-gone (Laws.mir)) (List._∷_ (1, Mut.mslice (OfOutput.row) (Syntax.tyRef (Syntax.named 0) Syntax.mut OfOutput.named) 0) (List._∷_ (2, Mut.mslice (OfStation.row) (Syntax.tyRef (Syntax.named 1) Syntax.mut OfStation.named) 1) (List._∷_ (3, Rows.mref-owed (Referent.rtF (Referent.fInt Syntax.w64)) (Syntax.tyRef (Syntax.named 2) Syntax.mut (Syntax.tyInt Syntax.w64)) 2 7 Row.off) (List._∷_ (4, Relend.mslice-owed (Referent.rtF (Referent.fInt Syntax.w8)) (Syntax.tyRef (Syntax.named 3) Syntax.mut (Syntax.tyInt Syntax.w8)) 3 8 Row.off) (List._∷_ (5, Rows.any-gone (Laws.mir)) (List._∷_ (6, Rows.sslice (Referent.rtF (Referent.fInt Syntax.w8)) (Syntax.tyRef (Syntax.named 4) Syntax.imm (Syntax.tyInt Syntax.w8)) 4) (List._∷_ (7, Rows.whole (Declared.row Turn.the-type)) (List._∷_ (8, Rows.sc-here (Row.sInt Syntax.w64)) (List._∷_ (9, Rows.any-gone (Syntax.tyInt Syntax.w8)) (List._∷_ (10, Rows.any-gone (Syntax.tyInt Syntax.w64)) (List._∷_ (11, Rows.any-gone Syntax.tyBool) (List._∷_ (12, Rows.any-gone Syntax.tyPtr) (List._∷_ (13, Rows.any-gone (Syntax.tyInt Syntax.w8)) (List._∷_ (14, Rows.any-gone (Syntax.tyRef Syntax.erased Syntax.mut OfOutput.named)) (List._∷_ (15, Rows.any-gone (Syntax.tyStruct (List._∷_ 38 (List._∷_ 91 (List._∷_ 93 List.[]))) (Syntax.tcons (Syntax.tyRef Syntax.erased Syntax.mut OfOutput.named) (Syntax.tcons (Syntax.tyInt Syntax.w64) Syntax.tnil)))) List.[])))))))))))))))
+t29 = List._∷_ (0, Rows.any-gone (Laws.mir)) (List._∷_ (1, Mut.mslice (OfOutput.row) (Syntax.tyRef (Syntax.named 0) Syntax.mut OfOutput.named) 0) (List._∷_ (2, Mut.mslice (OfStation.row) (Syntax.tyRef (Syntax.named 1) Syntax.mut OfStation.named) 1) (List._∷_ (3, Rows.mref-owed (OfPanelRecord.row) (Syntax.tyRef (Syntax.named 2) Syntax.mut OfPanelRecord.named) 2 7 Row.off) (List._∷_ (4, Relend.mslice-owed (Referent.rtF (Referent.fInt Syntax.w8)) (Syntax.tyRef (Syntax.named 3) Syntax.mut (Syntax.tyInt Syntax.w8)) 3 8 Row.off) (List._∷_ (5, Rows.any-gone (Laws.mir)) (List._∷_ (6, Rows.sslice (Referent.rtF (Referent.fInt Syntax.w8)) (Syntax.tyRef (Syntax.named 4) Syntax.imm (Syntax.tyInt Syntax.w8)) 4) (List._∷_ (7, Rows.whole (Declared.row Turn.the-type)) (List._∷_ (8, Rows.sc-here (Row.sInt Syntax.w64)) (List._∷_ (9, Rows.any-gone (Syntax.tyInt Syntax.w8)) (List._∷_ (10, Rows.any-gone (Syntax.tyInt Syntax.w64)) (List._∷_ (11, Rows.any-gone Syntax.tyBool) (List._∷_ (12, Rows.any-gone Syntax.tyPtr) (List._∷_ (13, Rows.any-gone (Syntax.tyInt Syntax.w8)) (List._∷_ (14, Rows.any-gone (Syntax.tyRef Syntax.erased Syntax.mut OfOutput.named)) (List._∷_ (15, Rows.any-gone (Syntax.tyStruct (List._∷_ 38 (List._∷_ 91 (List._∷_ 93 List.[]))) (Syntax.tcons (Syntax.tyRef Syntax.erased Syntax.mut OfOutput.named) (Syntax.tcons (Syntax.tyInt Syntax.w64) Syntax.tnil)))) List.[])))))))))))))))
 
 abbrev pub t30 : List.List Row.Entry
-t30 = List._∷_ (16, Rows.any-gone (Syntax.tyRef Syntax.erased Syntax.mut OfStation.named)) (List._∷_ (17, Rows.any-gone (Syntax.tyStruct (List._∷_ 38 (List._∷_ 91 (List._∷_ 93 List.[]))) (Syntax.tcons (Syntax.tyRef Syntax.erased Syntax.mut OfStation.named) (Syntax.tcons (Syntax.tyInt Syntax.w64) Syntax.tnil)))) (List._∷_ (18, Rows.mleft (Referent.rtF (Referent.fInt Syntax.w64)) (Syntax.tyRef Syntax.erased Syntax.mut (Syntax.tyInt Syntax.w64))) (List._∷_ (19, Rows.any-gone (Syntax.tyRef Syntax.erased Syntax.mut (Syntax.tyInt Syntax.w8))) (List._∷_ (20, Mut.msleft (Referent.rtF (Referent.fInt Syntax.w8)) (Syntax.tyRef Syntax.erased Syntax.mut (Syntax.tyInt Syntax.w8))) List.[]))))
+t30 = List._∷_ (16, Rows.any-gone (Syntax.tyRef Syntax.erased Syntax.mut OfStation.named)) (List._∷_ (17, Rows.any-gone (Syntax.tyStruct (List._∷_ 38 (List._∷_ 91 (List._∷_ 93 List.[]))) (Syntax.tcons (Syntax.tyRef Syntax.erased Syntax.mut OfStation.named) (Syntax.tcons (Syntax.tyInt Syntax.w64) Syntax.tnil)))) (List._∷_ (18, Rows.mleft (OfPanelRecord.row) (Syntax.tyRef Syntax.erased Syntax.mut OfPanelRecord.named)) (List._∷_ (19, Rows.any-gone (Syntax.tyRef Syntax.erased Syntax.mut (Syntax.tyInt Syntax.w8))) (List._∷_ (20, Mut.msleft (Referent.rtF (Referent.fInt Syntax.w8)) (Syntax.tyRef Syntax.erased Syntax.mut (Syntax.tyInt Syntax.w8))) List.[]))))
 
 abbrev pub t31 : List.List Row.Entry
-t31 = List._∷_ (0, Rows.any-gone (Laws.mir)) (List._∷_ (1, Mut.mslice (OfOutput.row) (Syntax.tyRef (Syntax.named 0) Syntax.mut OfOutput.named) 0) (List._∷_ (2, Mut.mslice (OfStation.row) (Syntax.tyRef (Syntax.named 1) Syntax.mut OfStation.named) 1) (List._∷_ (3, Rows.mref (Referent.rtF (Referent.fInt Syntax.w64)) (Syntax.tyRef (Syntax.named 2) Syntax.mut (Syntax.tyInt Syntax.w64)) 2) (List._∷_ (4, Relend.mslice-owed (Referent.rtF (Referent.fInt Syntax.w8)) (Syntax.tyRef (Syntax.named 3) Syntax.mut (Syntax.tyInt Syntax.w8)) 3 8 Row.off) (List._∷_ (5, Rows.any-gone (Laws.mir)) (List._∷_ (6, Rows.sslice (Referent.rtF (Referent.fInt Syntax.w8)) (Syntax.tyRef (Syntax.named 4) Syntax.imm (Syntax.tyInt Syntax.w8)) 4) (List._∷_ (7, Rows.whole (Declared.row Turn.the-type)) (List._∷_ (8, Rows.sc-here (Row.sInt Syntax.w64)) (List._∷_ (9, Rows.any-gone (Syntax.tyInt Syntax.w8)) (List._∷_ (10, Rows.any-gone (Syntax.tyInt Syntax.w64)) (List._∷_ (11, Rows.any-gone Syntax.tyBool) (List._∷_ (12, Rows.any-gone Syntax.tyPtr) (List._∷_ (13, Rows.any-gone (Syntax.tyInt Syntax.w8)) (List._∷_ (14, Rows.any-gone (Syntax.tyRef Syntax.erased Syntax.mut OfOutput.named)) (List._∷_ (15, Rows.any-gone (Syntax.tyStruct (List._∷_ 38 (List._∷_ 91 (List._∷_ 93 List.[]))) (Syntax.tcons (Syntax.tyRef Syntax.erased Syntax.mut OfOutput.named) (Syntax.tcons (Syntax.tyInt Syntax.w64) Syntax.tnil)))) List.[])))))))))))))))
+t31 = List._∷_ (0, Rows.any-gone (Laws.mir)) (List._∷_ (1, Mut.mslice (OfOutput.row) (Syntax.tyRef (Syntax.named 0) Syntax.mut OfOutput.named) 0) (List._∷_ (2, Mut.mslice (OfStation.row) (Syntax.tyRef (Syntax.named 1) Syntax.mut OfStation.named) 1) (List._∷_ (3, Rows.mref (OfPanelRecord.row) (Syntax.tyRef (Syntax.named 2) Syntax.mut OfPanelRecord.named) 2) (List._∷_ (4, Relend.mslice-owed (Referent.rtF (Referent.fInt Syntax.w8)) (Syntax.tyRef (Syntax.named 3) Syntax.mut (Syntax.tyInt Syntax.w8)) 3 8 Row.off) (List._∷_ (5, Rows.any-gone (Laws.mir)) (List._∷_ (6, Rows.sslice (Referent.rtF (Referent.fInt Syntax.w8)) (Syntax.tyRef (Syntax.named 4) Syntax.imm (Syntax.tyInt Syntax.w8)) 4) (List._∷_ (7, Rows.whole (Declared.row Turn.the-type)) (List._∷_ (8, Rows.sc-here (Row.sInt Syntax.w64)) (List._∷_ (9, Rows.any-gone (Syntax.tyInt Syntax.w8)) (List._∷_ (10, Rows.any-gone (Syntax.tyInt Syntax.w64)) (List._∷_ (11, Rows.any-gone Syntax.tyBool) (List._∷_ (12, Rows.any-gone Syntax.tyPtr) (List._∷_ (13, Rows.any-gone (Syntax.tyInt Syntax.w8)) (List._∷_ (14, Rows.any-gone (Syntax.tyRef Syntax.erased Syntax.mut OfOutput.named)) (List._∷_ (15, Rows.any-gone (Syntax.tyStruct (List._∷_ 38 (List._∷_ 91 (List._∷_ 93 List.[]))) (Syntax.tcons (Syntax.tyRef Syntax.erased Syntax.mut OfOutput.named) (Syntax.tcons (Syntax.tyInt Syntax.w64) Syntax.tnil)))) List.[])))))))))))))))
 
 abbrev pub t32 : List.List Row.Entry
-t32 = List._∷_ (16, Rows.any-gone (Syntax.tyRef Syntax.erased Syntax.mut OfStation.named)) (List._∷_ (17, Rows.any-gone (Syntax.tyStruct (List._∷_ 38 (List._∷_ 91 (List._∷_ 93 List.[]))) (Syntax.tcons (Syntax.tyRef Syntax.erased Syntax.mut OfStation.named) (Syntax.tcons (Syntax.tyInt Syntax.w64) Syntax.tnil)))) (List._∷_ (18, Rows.any-gone (Syntax.tyRef Syntax.erased Syntax.mut (Syntax.tyInt Syntax.w64))) (List._∷_ (19, Rows.any-gone (Syntax.tyRef Syntax.erased Syntax.mut (Syntax.tyInt Syntax.w8))) (List._∷_ (20, Mut.msleft (Referent.rtF (Referent.fInt Syntax.w8)) (Syntax.tyRef Syntax.erased Syntax.mut (Syntax.tyInt Syntax.w8))) List.[]))))
+t32 = List._∷_ (16, Rows.any-gone (Syntax.tyRef Syntax.erased Syntax.mut OfStation.named)) (List._∷_ (17, Rows.any-gone (Syntax.tyStruct (List._∷_ 38 (List._∷_ 91 (List._∷_ 93 List.[]))) (Syntax.tcons (Syntax.tyRef Syntax.erased Syntax.mut OfStation.named) (Syntax.tcons (Syntax.tyInt Syntax.w64) Syntax.tnil)))) (List._∷_ (18, Rows.any-gone (Syntax.tyRef Syntax.erased Syntax.mut OfPanelRecord.named)) (List._∷_ (19, Rows.any-gone (Syntax.tyRef Syntax.erased Syntax.mut (Syntax.tyInt Syntax.w8))) (List._∷_ (20, Mut.msleft (Referent.rtF (Referent.fInt Syntax.w8)) (Syntax.tyRef Syntax.erased Syntax.mut (Syntax.tyInt Syntax.w8))) List.[]))))
 
 abbrev pub t33 : List.List Row.Entry
-t33 = List._∷_ (0, Rows.whole (Declared.row Turn.the-type)) (List._∷_ (1, Mut.mslice (OfOutput.row) (Syntax.tyRef (Syntax.named 0) Syntax.mut OfOutput.named) 0) (List._∷_ (2, Mut.mslice (OfStation.row) (Syntax.tyRef (Syntax.named 1) Syntax.mut OfStation.named) 1) (List._∷_ (3, Rows.mref (Referent.rtF (Referent.fInt Syntax.w64)) (Syntax.tyRef (Syntax.named 2) Syntax.mut (Syntax.tyInt Syntax.w64)) 2) (List._∷_ (4, Mut.mslice (Referent.rtF (Referent.fInt Syntax.w8)) (Syntax.tyRef (Syntax.named 3) Syntax.mut (Syntax.tyInt Syntax.w8)) 3) (List._∷_ (5, Rows.any-gone (Laws.mir)) (List._∷_ (6, Rows.sslice (Referent.rtF (Referent.fInt Syntax.w8)) (Syntax.tyRef (Syntax.named 4) Syntax.imm (Syntax.tyInt Syntax.w8)) 4) (List._∷_ (7, Rows.whole (Declared.row Turn.the-type)) (List._∷_ (8, Rows.sc-here (Row.sInt Syntax.w64)) (List._∷_ (9, Rows.any-gone (Syntax.tyInt Syntax.w8)) (List._∷_ (10, Rows.any-gone (Syntax.tyInt Syntax.w64)) (List._∷_ (11, Rows.any-gone Syntax.tyBool) (List._∷_ (12, Rows.any-gone Syntax.tyPtr) (List._∷_ (13, Rows.any-gone (Syntax.tyInt Syntax.w8)) (List._∷_ (14, Rows.any-gone (Syntax.tyRef Syntax.erased Syntax.mut OfOutput.named)) (List._∷_ (15, Rows.any-gone (Syntax.tyStruct (List._∷_ 38 (List._∷_ 91 (List._∷_ 93 List.[]))) (Syntax.tcons (Syntax.tyRef Syntax.erased Syntax.mut OfOutput.named) (Syntax.tcons (Syntax.tyInt Syntax.w64) Syntax.tnil)))) List.[])))))))))))))))
+t33 = List._∷_ (0, Rows.whole (Declared.row Turn.the-type)) (List._∷_ (1, Mut.mslice (OfOutput.row) (Syntax.tyRef (Syntax.named 0) Syntax.mut OfOutput.named) 0) (List._∷_ (2, Mut.mslice (OfStation.row) (Syntax.tyRef (Syntax.named 1) Syntax.mut OfStation.named) 1) (List._∷_ (3, Rows.mref (OfPanelRecord.row) (Syntax.tyRef (Syntax.named 2) Syntax.mut OfPanelRecord.named) 2) (List._∷_ (4, Mut.mslice (Referent.rtF (Referent.fInt Syntax.w8)) (Syntax.tyRef (Syntax.named 3) Syntax.mut (Syntax.tyInt Syntax.w8)) 3) (List._∷_ (5, Rows.any-gone (Laws.mir)) (List._∷_ (6, Rows.sslice (Referent.rtF (Referent.fInt Syntax.w8)) (Syntax.tyRef (Syntax.named 4) Syntax.imm (Syntax.tyInt Syntax.w8)) 4) (List._∷_ (7, Rows.whole (Declared.row Turn.the-type)) (List._∷_ (8, Rows.sc-here (Row.sInt Syntax.w64)) (List._∷_ (9, Rows.any-gone (Syntax.tyInt Syntax.w8)) (List._∷_ (10, Rows.any-gone (Syntax.tyInt Syntax.w64)) (List._∷_ (11, Rows.any-gone Syntax.tyBool) (List._∷_ (12, Rows.any-gone Syntax.tyPtr) (List._∷_ (13, Rows.any-gone (Syntax.tyInt Syntax.w8)) (List._∷_ (14, Rows.any-gone (Syntax.tyRef Syntax.erased Syntax.mut OfOutput.named)) (List._∷_ (15, Rows.any-gone (Syntax.tyStruct (List._∷_ 38 (List._∷_ 91 (List._∷_ 93 List.[]))) (Syntax.tcons (Syntax.tyRef Syntax.erased Syntax.mut OfOutput.named) (Syntax.tcons (Syntax.tyInt Syntax.w64) Syntax.tnil)))) List.[])))))))))))))))
 
 abbrev pub t34 : List.List Row.Entry
-t34 = List._∷_ (0, Rows.whole (Declared.row Turn.the-type)) (List._∷_ (1, Mut.mslice (OfOutput.row) (Syntax.tyRef (Syntax.named 0) Syntax.mut OfOutput.named) 0) (List._∷_ (2, Mut.mslice (OfStation.row) (Syntax.tyRef (Syntax.named 1) Syntax.mut OfStation.named) 1) (List._∷_ (3, Rows.mref (Referent.rtF (Referent.fInt Syntax.w64)) (Syntax.tyRef (Syntax.named 2) Syntax.mut (Syntax.tyInt Syntax.w64)) 2) (List._∷_ (4, Mut.mslice (Referent.rtF (Referent.fInt Syntax.w8)) (Syntax.tyRef (Syntax.named 3) Syntax.mut (Syntax.tyInt Syntax.w8)) 3) (List._∷_ (5, Rows.any-gone (Laws.mir)) (List._∷_ (6, Rows.sslice (Referent.rtF (Referent.fInt Syntax.w8)) (Syntax.tyRef (Syntax.named 4) Syntax.imm (Syntax.tyInt Syntax.w8)) 4) (List._∷_ (7, Rows.any-gone (Laws.mir)) (List._∷_ (8, Rows.sc-here (Row.sInt Syntax.w64)) (List._∷_ (9, Rows.any-gone (Syntax.tyInt Syntax.w8)) (List._∷_ (10, Rows.any-gone (Syntax.tyInt Syntax.w64)) (List._∷_ (11, Rows.any-gone Syntax.tyBool) (List._∷_ (12, Rows.any-gone Syntax.tyPtr) (List._∷_ (13, Rows.any-gone (Syntax.tyInt Syntax.w8)) (List._∷_ (14, Rows.any-gone (Syntax.tyRef Syntax.erased Syntax.mut OfOutput.named)) (List._∷_ (15, Rows.any-gone (Syntax.tyStruct (List._∷_ 38 (List._∷_ 91 (List._∷_ 93 List.[]))) (Syntax.tcons (Syntax.tyRef Syntax.erased Syntax.mut OfOutput.named) (Syntax.tcons (Syntax.tyInt Syntax.w64) Syntax.tnil)))) List.[])))))))))))))))
+t34 = List._∷_ (0, Rows.whole (Declared.row Turn.the-type)) (List._∷_ (1, Mut.mslice (OfOutput.row) (Syntax.tyRef (Syntax.named 0) Syntax.mut OfOutput.named) 0) (List._∷_ (2, Mut.mslice (OfStation.row) (Syntax.tyRef (Syntax.named 1) Syntax.mut OfStation.named) 1) (List._∷_ (3, Rows.mref (OfPanelRecord.row) (Syntax.tyRef (Syntax.named 2) Syntax.mut OfPanelRecord.named) 2) (List._∷_ (4, Mut.mslice (Referent.rtF (Referent.fInt Syntax.w8)) (Syntax.tyRef (Syntax.named 3) Syntax.mut (Syntax.tyInt Syntax.w8)) 3) (List._∷_ (5, Rows.any-gone (Laws.mir)) (List._∷_ (6, Rows.sslice (Referent.rtF (Referent.fInt Syntax.w8)) (Syntax.tyRef (Syntax.named 4) Syntax.imm (Syntax.tyInt Syntax.w8)) 4) (List._∷_ (7, Rows.any-gone (Laws.mir)) (List._∷_ (8, Rows.sc-here (Row.sInt Syntax.w64)) (List._∷_ (9, Rows.any-gone (Syntax.tyInt Syntax.w8)) (List._∷_ (10, Rows.any-gone (Syntax.tyInt Syntax.w64)) (List._∷_ (11, Rows.any-gone Syntax.tyBool) (List._∷_ (12, Rows.any-gone Syntax.tyPtr) (List._∷_ (13, Rows.any-gone (Syntax.tyInt Syntax.w8)) (List._∷_ (14, Rows.any-gone (Syntax.tyRef Syntax.erased Syntax.mut OfOutput.named)) (List._∷_ (15, Rows.any-gone (Syntax.tyStruct (List._∷_ 38 (List._∷_ 91 (List._∷_ 93 List.[]))) (Syntax.tcons (Syntax.tyRef Syntax.erased Syntax.mut OfOutput.named) (Syntax.tcons (Syntax.tyInt Syntax.w64) Syntax.tnil)))) List.[])))))))))))))))
 
 abbrev pub T0 : Row.Cx
 T0 = record { locals = List._++_ t0 t1; slots = List.[] }
@@ -469,10 +470,10 @@ abbrev pub O4 : Typed.Outs
 O4 = Typed.withNext (Option.some T10) O3
 
 abbrev pub InvT-loop : Type 1
-InvT-loop = List.List (OfOutput.row .Denot) → List.List (OfStation.row .Denot) → Referent.rtF (Referent.fInt Syntax.w64) .Denot → List.List (Referent.rtF (Referent.fInt Syntax.w8) .Denot) → List.List (Referent.rtF (Referent.fInt Syntax.w8) .Denot) → Rows.whole (Declared.row Turn.the-type) .Mod → Rows.sc-here (Row.sInt Syntax.w64) .Mod → List.List (OfOutput.row .Denot) → List.List (OfStation.row .Denot) → Referent.rtF (Referent.fInt Syntax.w64) .Denot → List.List (Referent.rtF (Referent.fInt Syntax.w8) .Denot) → Rows.whole (Declared.row Turn.the-type) .Mod → Rows.sc-here (Row.sInt Syntax.w64) .Mod → Type 0
+InvT-loop = List.List (OfOutput.row .Denot) → List.List (OfStation.row .Denot) → OfPanelRecord.row .Denot → List.List (Referent.rtF (Referent.fInt Syntax.w8) .Denot) → List.List (Referent.rtF (Referent.fInt Syntax.w8) .Denot) → Rows.whole (Declared.row Turn.the-type) .Mod → Rows.sc-here (Row.sInt Syntax.w64) .Mod → List.List (OfOutput.row .Denot) → List.List (OfStation.row .Denot) → OfPanelRecord.row .Denot → List.List (Referent.rtF (Referent.fInt Syntax.w8) .Denot) → Rows.whole (Declared.row Turn.the-type) .Mod → Rows.sc-here (Row.sInt Syntax.w64) .Mod → Type 0
 
 abbrev pub MeasureT-loop : Type 0
-MeasureT-loop = List.List (OfOutput.row .Denot) → List.List (OfStation.row .Denot) → Referent.rtF (Referent.fInt Syntax.w64) .Denot → List.List (Referent.rtF (Referent.fInt Syntax.w8) .Denot) → List.List (Referent.rtF (Referent.fInt Syntax.w8) .Denot) → Rows.whole (Declared.row Turn.the-type) .Mod → Rows.sc-here (Row.sInt Syntax.w64) .Mod → List.List (OfOutput.row .Denot) → List.List (OfStation.row .Denot) → Referent.rtF (Referent.fInt Syntax.w64) .Denot → List.List (Referent.rtF (Referent.fInt Syntax.w8) .Denot) → Rows.whole (Declared.row Turn.the-type) .Mod → Rows.sc-here (Row.sInt Syntax.w64) .Mod → Nat.ℕ
+MeasureT-loop = List.List (OfOutput.row .Denot) → List.List (OfStation.row .Denot) → OfPanelRecord.row .Denot → List.List (Referent.rtF (Referent.fInt Syntax.w8) .Denot) → List.List (Referent.rtF (Referent.fInt Syntax.w8) .Denot) → Rows.whole (Declared.row Turn.the-type) .Mod → Rows.sc-here (Row.sInt Syntax.w64) .Mod → List.List (OfOutput.row .Denot) → List.List (OfStation.row .Denot) → OfPanelRecord.row .Denot → List.List (Referent.rtF (Referent.fInt Syntax.w8) .Denot) → Rows.whole (Declared.row Turn.the-type) .Mod → Rows.sc-here (Row.sInt Syntax.w64) .Mod → Nat.ℕ
 
 module _ (claims· : Claims) where
   abbrev s0 : Typed.Gives T0 T2
@@ -545,7 +546,7 @@ module _ (claims· : Claims) where
   s24 = Relend.k-sl-aggregate (OfStation.row) (Relend.asMut (OfStation.row)) T27 16 17 6 (Syntax.tyRef Syntax.erased Syntax.mut OfStation.named) (Syntax.tyRef Syntax.erased Syntax.mut OfStation.named) (λ x. x) (Scalar.oFld 2 (List._∷_ (Syntax.field 1) List.[]) (Syntax.tyInt Syntax.w64) 8 λ v. Shared.lenV (v .0))
 
   abbrev s26 : Typed.Gives T28 T30
-  s26 = Reborrow.k-mref-relend T28 3 18 2 7 (Referent.rtF (Referent.fInt Syntax.w64)) (Syntax.tyRef (Syntax.named 2) Syntax.mut (Syntax.tyInt Syntax.w64)) (Syntax.tyRef Syntax.erased Syntax.mut (Syntax.tyInt Syntax.w64)) Row.off List.[] λ x. x
+  s26 = Reborrow.k-mref-relend T28 3 18 2 7 (OfPanelRecord.row) (Syntax.tyRef (Syntax.named 2) Syntax.mut OfPanelRecord.named) (Syntax.tyRef Syntax.erased Syntax.mut OfPanelRecord.named) Row.off List.[] λ x. x
 
   abbrev s28 : Typed.Gives T30 T32
   s28 = Relend.k-sl-relend (Referent.rtF (Referent.fInt Syntax.w8)) T30 4 19 3 8 (Syntax.tyRef (Syntax.named 3) Syntax.mut (Syntax.tyInt Syntax.w8)) (Syntax.tyRef Syntax.erased Syntax.mut (Syntax.tyInt Syntax.w8)) Row.off λ x. x
@@ -554,7 +555,7 @@ module _ (claims· : Claims) where
   s29 = Relend.k-sl-aggregate (Referent.rtF (Referent.fInt Syntax.w8)) (Relend.asMut (Referent.rtF (Referent.fInt Syntax.w8))) T32 19 20 8 (Syntax.tyRef Syntax.erased Syntax.mut (Syntax.tyInt Syntax.w8)) (Syntax.tyRef Syntax.erased Syntax.mut (Syntax.tyInt Syntax.w8)) (λ x. x) (Scalar.oFld 4 (List._∷_ (Syntax.field 1) List.[]) (Syntax.tyInt Syntax.w64) 8 λ v. Shared.lenV (v .0))
 
   abbrev s30 : Typed.Both T33 T34
-  s30 = Call.callB ps·0 r·0 (claims· .0) (claims· .1) T33 (record { pos = 15; ty = Syntax.tyRef Syntax.erased Syntax.mut OfOutput.named; ref = λ x. x }, (record { pos = 17; ty = Syntax.tyRef Syntax.erased Syntax.mut OfStation.named; ref = λ x. x }, (record { pos = 18; ty = Syntax.tyRef Syntax.erased Syntax.mut (Syntax.tyInt Syntax.w64); ref = λ x. x }, (record { pos = 20; ty = Syntax.tyRef Syntax.erased Syntax.mut (Syntax.tyInt Syntax.w8); ref = λ x. x }, (record { pos = 7; st = List.[]; d = 0; at = λ x. x }, tt))))) 7 (List._∷_ 5 (List._∷_ 6 (List._∷_ 7 (List._∷_ 8 List.[])))) (Laws.mir)
+  s30 = Call.callB ps·0 r·0 (claims· .0) (claims· .1) T33 (record { pos = 15; ty = Syntax.tyRef Syntax.erased Syntax.mut OfOutput.named; ref = λ x. x }, (record { pos = 17; ty = Syntax.tyRef Syntax.erased Syntax.mut OfStation.named; ref = λ x. x }, (record { pos = 18; ty = Syntax.tyRef Syntax.erased Syntax.mut OfPanelRecord.named; ref = λ x. x }, (record { pos = 20; ty = Syntax.tyRef Syntax.erased Syntax.mut (Syntax.tyInt Syntax.w8); ref = λ x. x }, (record { pos = 7; st = List.[]; d = 0; at = λ x. x }, tt))))) 7 (List._∷_ 5 (List._∷_ 6 (List._∷_ 7 (List._∷_ 8 List.[])))) (Laws.mir)
 
   abbrev s31 : Typed.Mo T34 → Typed.Mo T35
   s31 = Scalar.n-room T34 9 (Syntax.tyInt Syntax.w8)
@@ -566,7 +567,7 @@ module _ (claims· : Claims) where
   s36 = Relend.k-back-sl (OfStation.row) T37 17 2 1 6 (Syntax.tyRef (Syntax.named 1) Syntax.mut OfStation.named) (Syntax.tyRef Syntax.erased Syntax.mut OfStation.named) Row.off (λ x. x) λ x. x
 
   abbrev s39 : Typed.Asks T40 T43
-  s39 = Reborrow.k-back-mref T40 18 3 2 (Referent.rtF (Referent.fInt Syntax.w64)) (Syntax.tyRef (Syntax.named 2) Syntax.mut (Syntax.tyInt Syntax.w64)) (Syntax.tyRef Syntax.erased Syntax.mut (Syntax.tyInt Syntax.w64)) List.[] (λ x. x) λ x. x
+  s39 = Reborrow.k-back-mref T40 18 3 2 (OfPanelRecord.row) (Syntax.tyRef (Syntax.named 2) Syntax.mut OfPanelRecord.named) (Syntax.tyRef Syntax.erased Syntax.mut OfPanelRecord.named) List.[] (λ x. x) λ x. x
 
   abbrev s42 : Typed.Both T43 T46
   s42 = Relend.k-back-sl (Referent.rtF (Referent.fInt Syntax.w8)) T43 20 4 3 8 (Syntax.tyRef (Syntax.named 3) Syntax.mut (Syntax.tyInt Syntax.w8)) (Syntax.tyRef Syntax.erased Syntax.mut (Syntax.tyInt Syntax.w8)) Row.off (λ x. x) λ x. x
@@ -595,13 +596,13 @@ module _ (claims· : Claims) where
   abbrev put0 :
       List.List (OfOutput.row .Denot) ×
       List.List (OfStation.row .Denot) ×
-      Referent.rtF (Referent.fInt Syntax.w64) .Denot ×
+      OfPanelRecord.row .Denot ×
       List.List (Referent.rtF (Referent.fInt Syntax.w8) .Denot) ×
       Rows.whole (Declared.row Turn.the-type) .Mod ×
       Rows.sc-here (Row.sInt Syntax.w64) .Mod →
       Typed.Mo T6 →
       Typed.Mo T6
-  put0 = λ vs u. Row.set 8 (8, Rows.sc-here (Row.sInt Syntax.w64)) (vs .5) (T6 .locals) (Row.set 7 (7, Rows.whole (Declared.row Turn.the-type)) (vs .4) (T6 .locals) (Row.set 4 (4, Mut.mslice (Referent.rtF (Referent.fInt Syntax.w8)) (Syntax.tyRef (Syntax.named 3) Syntax.mut (Syntax.tyInt Syntax.w8)) 3) record { ptr = Row.get 4 (T6 .locals) u .ptr; name = Row.get 4 (T6 .locals) u .name; now = vs .3 } (T6 .locals) (Row.set 3 (3, Rows.mref (Referent.rtF (Referent.fInt Syntax.w64)) (Syntax.tyRef (Syntax.named 2) Syntax.mut (Syntax.tyInt Syntax.w64)) 2) record { ptr = Row.get 3 (T6 .locals) u .ptr; name = Row.get 3 (T6 .locals) u .name; now = vs .2 } (T6 .locals) (Row.set 2 (2, Mut.mslice (OfStation.row) (Syntax.tyRef (Syntax.named 1) Syntax.mut OfStation.named) 1) record { ptr = Row.get 2 (T6 .locals) u .ptr; name = Row.get 2 (T6 .locals) u .name; now = vs .1 } (T6 .locals) (Row.set 1 (1, Mut.mslice (OfOutput.row) (Syntax.tyRef (Syntax.named 0) Syntax.mut OfOutput.named) 0) record { ptr = Row.get 1 (T6 .locals) u .ptr; name = Row.get 1 (T6 .locals) u .name; now = vs .0 } (T6 .locals) u)))))
+  put0 = λ vs u. Row.set 8 (8, Rows.sc-here (Row.sInt Syntax.w64)) (vs .5) (T6 .locals) (Row.set 7 (7, Rows.whole (Declared.row Turn.the-type)) (vs .4) (T6 .locals) (Row.set 4 (4, Mut.mslice (Referent.rtF (Referent.fInt Syntax.w8)) (Syntax.tyRef (Syntax.named 3) Syntax.mut (Syntax.tyInt Syntax.w8)) 3) record { ptr = Row.get 4 (T6 .locals) u .ptr; name = Row.get 4 (T6 .locals) u .name; now = vs .3 } (T6 .locals) (Row.set 3 (3, Rows.mref (OfPanelRecord.row) (Syntax.tyRef (Syntax.named 2) Syntax.mut OfPanelRecord.named) 2) record { ptr = Row.get 3 (T6 .locals) u .ptr; name = Row.get 3 (T6 .locals) u .name; now = vs .2 } (T6 .locals) (Row.set 2 (2, Mut.mslice (OfStation.row) (Syntax.tyRef (Syntax.named 1) Syntax.mut OfStation.named) 1) record { ptr = Row.get 2 (T6 .locals) u .ptr; name = Row.get 2 (T6 .locals) u .name; now = vs .1 } (T6 .locals) (Row.set 1 (1, Mut.mslice (OfOutput.row) (Syntax.tyRef (Syntax.named 0) Syntax.mut OfOutput.named) 0) record { ptr = Row.get 1 (T6 .locals) u .ptr; name = Row.get 1 (T6 .locals) u .name; now = vs .0 } (T6 .locals) u)))))
 
   module _ (Pre· : (κs : Lifetimes.Lfts 5) → Kinds.Dens κs ps → Type 0)
       (Post· : (κs : Lifetimes.Lfts 5) → (a : Kinds.Dens κs ps) → Kinds.Plain 5 ps r κs) where
@@ -755,34 +756,34 @@ module _ (claims· : Claims) where
 
       module _ (κs : Lifetimes.Lfts 5) (qs : Lifetimes.Shares 5) where
         abbrev g15 : List.List Row.Entry
-        g15 = List._∷_ (0, Rows.any-gone (Laws.mir)) (List._∷_ (1, Relend.mslice-owed (OfOutput.row) (Syntax.tyRef (Syntax.named 0) Syntax.mut OfOutput.named) 0 5 (Row.lease (κs .0) (qs .0))) (List._∷_ (2, Mut.mslice (OfStation.row) (Syntax.tyRef (Syntax.named 1) Syntax.mut OfStation.named) 1) (List._∷_ (3, Rows.mref (Referent.rtF (Referent.fInt Syntax.w64)) (Syntax.tyRef (Syntax.named 2) Syntax.mut (Syntax.tyInt Syntax.w64)) 2) (List._∷_ (4, Mut.mslice (Referent.rtF (Referent.fInt Syntax.w8)) (Syntax.tyRef (Syntax.named 3) Syntax.mut (Syntax.tyInt Syntax.w8)) 3) (List._∷_ (5, Rows.any-gone (Laws.mir)) (List._∷_ (6, Rows.sslice (Referent.rtF (Referent.fInt Syntax.w8)) (Syntax.tyRef (Syntax.named 4) Syntax.imm (Syntax.tyInt Syntax.w8)) 4) (List._∷_ (7, Rows.whole (Declared.row Turn.the-type)) (List._∷_ (8, Rows.sc-here (Row.sInt Syntax.w64)) (List._∷_ (9, Rows.sc-here (Row.sInt Syntax.w8)) (List._∷_ (10, Rows.any-gone (Syntax.tyInt Syntax.w64)) (List._∷_ (11, Rows.any-gone Syntax.tyBool) (List._∷_ (12, Rows.any-gone Syntax.tyPtr) (List._∷_ (13, Rows.any-gone (Syntax.tyInt Syntax.w8)) (List._∷_ (14, Relend.msptr (OfOutput.row) (Syntax.tyRef Syntax.erased Syntax.mut OfOutput.named) 5) (List._∷_ (15, Rows.any-gone (Syntax.tyStruct (List._∷_ 38 (List._∷_ 91 (List._∷_ 93 List.[]))) (Syntax.tcons (Syntax.tyRef Syntax.erased Syntax.mut OfOutput.named) (Syntax.tcons (Syntax.tyInt Syntax.w64) Syntax.tnil)))) List.[])))))))))))))))
+        g15 = List._∷_ (0, Rows.any-gone (Laws.mir)) (List._∷_ (1, Relend.mslice-owed (OfOutput.row) (Syntax.tyRef (Syntax.named 0) Syntax.mut OfOutput.named) 0 5 (Row.lease (κs .0) (qs .0))) (List._∷_ (2, Mut.mslice (OfStation.row) (Syntax.tyRef (Syntax.named 1) Syntax.mut OfStation.named) 1) (List._∷_ (3, Rows.mref (OfPanelRecord.row) (Syntax.tyRef (Syntax.named 2) Syntax.mut OfPanelRecord.named) 2) (List._∷_ (4, Mut.mslice (Referent.rtF (Referent.fInt Syntax.w8)) (Syntax.tyRef (Syntax.named 3) Syntax.mut (Syntax.tyInt Syntax.w8)) 3) (List._∷_ (5, Rows.any-gone (Laws.mir)) (List._∷_ (6, Rows.sslice (Referent.rtF (Referent.fInt Syntax.w8)) (Syntax.tyRef (Syntax.named 4) Syntax.imm (Syntax.tyInt Syntax.w8)) 4) (List._∷_ (7, Rows.whole (Declared.row Turn.the-type)) (List._∷_ (8, Rows.sc-here (Row.sInt Syntax.w64)) (List._∷_ (9, Rows.sc-here (Row.sInt Syntax.w8)) (List._∷_ (10, Rows.any-gone (Syntax.tyInt Syntax.w64)) (List._∷_ (11, Rows.any-gone Syntax.tyBool) (List._∷_ (12, Rows.any-gone Syntax.tyPtr) (List._∷_ (13, Rows.any-gone (Syntax.tyInt Syntax.w8)) (List._∷_ (14, Relend.msptr (OfOutput.row) (Syntax.tyRef Syntax.erased Syntax.mut OfOutput.named) 5) (List._∷_ (15, Rows.any-gone (Syntax.tyStruct (List._∷_ 38 (List._∷_ 91 (List._∷_ 93 List.[]))) (Syntax.tcons (Syntax.tyRef Syntax.erased Syntax.mut OfOutput.named) (Syntax.tcons (Syntax.tyInt Syntax.w64) Syntax.tnil)))) List.[])))))))))))))))
 
         abbrev g16 : List.List Row.Entry
-        g16 = List._∷_ (0, Rows.any-gone (Laws.mir)) (List._∷_ (1, Relend.mslice-owed (OfOutput.row) (Syntax.tyRef (Syntax.named 0) Syntax.mut OfOutput.named) 0 5 (Row.lease (κs .0) (qs .0))) (List._∷_ (2, Mut.mslice (OfStation.row) (Syntax.tyRef (Syntax.named 1) Syntax.mut OfStation.named) 1) (List._∷_ (3, Rows.mref (Referent.rtF (Referent.fInt Syntax.w64)) (Syntax.tyRef (Syntax.named 2) Syntax.mut (Syntax.tyInt Syntax.w64)) 2) (List._∷_ (4, Mut.mslice (Referent.rtF (Referent.fInt Syntax.w8)) (Syntax.tyRef (Syntax.named 3) Syntax.mut (Syntax.tyInt Syntax.w8)) 3) (List._∷_ (5, Rows.any-gone (Laws.mir)) (List._∷_ (6, Rows.sslice (Referent.rtF (Referent.fInt Syntax.w8)) (Syntax.tyRef (Syntax.named 4) Syntax.imm (Syntax.tyInt Syntax.w8)) 4) (List._∷_ (7, Rows.whole (Declared.row Turn.the-type)) (List._∷_ (8, Rows.sc-here (Row.sInt Syntax.w64)) (List._∷_ (9, Rows.sc-here (Row.sInt Syntax.w8)) (List._∷_ (10, Rows.any-gone (Syntax.tyInt Syntax.w64)) (List._∷_ (11, Rows.any-gone Syntax.tyBool) (List._∷_ (12, Rows.any-gone Syntax.tyPtr) (List._∷_ (13, Rows.any-gone (Syntax.tyInt Syntax.w8)) (List._∷_ (14, Rows.any-gone (Syntax.tyRef Syntax.erased Syntax.mut OfOutput.named)) (List._∷_ (15, Mut.mslice (OfOutput.row) (Syntax.tyRef Syntax.erased Syntax.mut OfOutput.named) 5) List.[])))))))))))))))
+        g16 = List._∷_ (0, Rows.any-gone (Laws.mir)) (List._∷_ (1, Relend.mslice-owed (OfOutput.row) (Syntax.tyRef (Syntax.named 0) Syntax.mut OfOutput.named) 0 5 (Row.lease (κs .0) (qs .0))) (List._∷_ (2, Mut.mslice (OfStation.row) (Syntax.tyRef (Syntax.named 1) Syntax.mut OfStation.named) 1) (List._∷_ (3, Rows.mref (OfPanelRecord.row) (Syntax.tyRef (Syntax.named 2) Syntax.mut OfPanelRecord.named) 2) (List._∷_ (4, Mut.mslice (Referent.rtF (Referent.fInt Syntax.w8)) (Syntax.tyRef (Syntax.named 3) Syntax.mut (Syntax.tyInt Syntax.w8)) 3) (List._∷_ (5, Rows.any-gone (Laws.mir)) (List._∷_ (6, Rows.sslice (Referent.rtF (Referent.fInt Syntax.w8)) (Syntax.tyRef (Syntax.named 4) Syntax.imm (Syntax.tyInt Syntax.w8)) 4) (List._∷_ (7, Rows.whole (Declared.row Turn.the-type)) (List._∷_ (8, Rows.sc-here (Row.sInt Syntax.w64)) (List._∷_ (9, Rows.sc-here (Row.sInt Syntax.w8)) (List._∷_ (10, Rows.any-gone (Syntax.tyInt Syntax.w64)) (List._∷_ (11, Rows.any-gone Syntax.tyBool) (List._∷_ (12, Rows.any-gone Syntax.tyPtr) (List._∷_ (13, Rows.any-gone (Syntax.tyInt Syntax.w8)) (List._∷_ (14, Rows.any-gone (Syntax.tyRef Syntax.erased Syntax.mut OfOutput.named)) (List._∷_ (15, Mut.mslice (OfOutput.row) (Syntax.tyRef Syntax.erased Syntax.mut OfOutput.named) 5) List.[])))))))))))))))
 
         abbrev g17 : List.List Row.Entry
-        g17 = List._∷_ (0, Rows.any-gone (Laws.mir)) (List._∷_ (1, Relend.mslice-owed (OfOutput.row) (Syntax.tyRef (Syntax.named 0) Syntax.mut OfOutput.named) 0 5 (Row.lease (κs .0) (qs .0))) (List._∷_ (2, Relend.mslice-owed (OfStation.row) (Syntax.tyRef (Syntax.named 1) Syntax.mut OfStation.named) 1 6 (Row.lease (κs .1 .0) (qs .1 .0))) (List._∷_ (3, Rows.mref (Referent.rtF (Referent.fInt Syntax.w64)) (Syntax.tyRef (Syntax.named 2) Syntax.mut (Syntax.tyInt Syntax.w64)) 2) (List._∷_ (4, Mut.mslice (Referent.rtF (Referent.fInt Syntax.w8)) (Syntax.tyRef (Syntax.named 3) Syntax.mut (Syntax.tyInt Syntax.w8)) 3) (List._∷_ (5, Rows.any-gone (Laws.mir)) (List._∷_ (6, Rows.sslice (Referent.rtF (Referent.fInt Syntax.w8)) (Syntax.tyRef (Syntax.named 4) Syntax.imm (Syntax.tyInt Syntax.w8)) 4) (List._∷_ (7, Rows.whole (Declared.row Turn.the-type)) (List._∷_ (8, Rows.sc-here (Row.sInt Syntax.w64)) (List._∷_ (9, Rows.sc-here (Row.sInt Syntax.w8)) (List._∷_ (10, Rows.any-gone (Syntax.tyInt Syntax.w64)) (List._∷_ (11, Rows.any-gone Syntax.tyBool) (List._∷_ (12, Rows.any-gone Syntax.tyPtr) (List._∷_ (13, Rows.any-gone (Syntax.tyInt Syntax.w8)) (List._∷_ (14, Rows.any-gone (Syntax.tyRef Syntax.erased Syntax.mut OfOutput.named)) (List._∷_ (15, Mut.mslice (OfOutput.row) (Syntax.tyRef Syntax.erased Syntax.mut OfOutput.named) 5) List.[])))))))))))))))
+        g17 = List._∷_ (0, Rows.any-gone (Laws.mir)) (List._∷_ (1, Relend.mslice-owed (OfOutput.row) (Syntax.tyRef (Syntax.named 0) Syntax.mut OfOutput.named) 0 5 (Row.lease (κs .0) (qs .0))) (List._∷_ (2, Relend.mslice-owed (OfStation.row) (Syntax.tyRef (Syntax.named 1) Syntax.mut OfStation.named) 1 6 (Row.lease (κs .1 .0) (qs .1 .0))) (List._∷_ (3, Rows.mref (OfPanelRecord.row) (Syntax.tyRef (Syntax.named 2) Syntax.mut OfPanelRecord.named) 2) (List._∷_ (4, Mut.mslice (Referent.rtF (Referent.fInt Syntax.w8)) (Syntax.tyRef (Syntax.named 3) Syntax.mut (Syntax.tyInt Syntax.w8)) 3) (List._∷_ (5, Rows.any-gone (Laws.mir)) (List._∷_ (6, Rows.sslice (Referent.rtF (Referent.fInt Syntax.w8)) (Syntax.tyRef (Syntax.named 4) Syntax.imm (Syntax.tyInt Syntax.w8)) 4) (List._∷_ (7, Rows.whole (Declared.row Turn.the-type)) (List._∷_ (8, Rows.sc-here (Row.sInt Syntax.w64)) (List._∷_ (9, Rows.sc-here (Row.sInt Syntax.w8)) (List._∷_ (10, Rows.any-gone (Syntax.tyInt Syntax.w64)) (List._∷_ (11, Rows.any-gone Syntax.tyBool) (List._∷_ (12, Rows.any-gone Syntax.tyPtr) (List._∷_ (13, Rows.any-gone (Syntax.tyInt Syntax.w8)) (List._∷_ (14, Rows.any-gone (Syntax.tyRef Syntax.erased Syntax.mut OfOutput.named)) (List._∷_ (15, Mut.mslice (OfOutput.row) (Syntax.tyRef Syntax.erased Syntax.mut OfOutput.named) 5) List.[])))))))))))))))
 
         abbrev g20 : List.List Row.Entry
-        g20 = List._∷_ (0, Rows.any-gone (Laws.mir)) (List._∷_ (1, Relend.mslice-owed (OfOutput.row) (Syntax.tyRef (Syntax.named 0) Syntax.mut OfOutput.named) 0 5 (Row.lease (κs .0) (qs .0))) (List._∷_ (2, Relend.mslice-owed (OfStation.row) (Syntax.tyRef (Syntax.named 1) Syntax.mut OfStation.named) 1 6 (Row.lease (κs .1 .0) (qs .1 .0))) (List._∷_ (3, Rows.mref-owed (Referent.rtF (Referent.fInt Syntax.w64)) (Syntax.tyRef (Syntax.named 2) Syntax.mut (Syntax.tyInt Syntax.w64)) 2 7 (Row.lease (κs .1 .1 .0) (qs .1 .1 .0))) (List._∷_ (4, Mut.mslice (Referent.rtF (Referent.fInt Syntax.w8)) (Syntax.tyRef (Syntax.named 3) Syntax.mut (Syntax.tyInt Syntax.w8)) 3) (List._∷_ (5, Rows.any-gone (Laws.mir)) (List._∷_ (6, Rows.sslice (Referent.rtF (Referent.fInt Syntax.w8)) (Syntax.tyRef (Syntax.named 4) Syntax.imm (Syntax.tyInt Syntax.w8)) 4) (List._∷_ (7, Rows.whole (Declared.row Turn.the-type)) (List._∷_ (8, Rows.sc-here (Row.sInt Syntax.w64)) (List._∷_ (9, Rows.sc-here (Row.sInt Syntax.w8)) (List._∷_ (10, Rows.any-gone (Syntax.tyInt Syntax.w64)) (List._∷_ (11, Rows.any-gone Syntax.tyBool) (List._∷_ (12, Rows.any-gone Syntax.tyPtr) (List._∷_ (13, Rows.any-gone (Syntax.tyInt Syntax.w8)) (List._∷_ (14, Rows.any-gone (Syntax.tyRef Syntax.erased Syntax.mut OfOutput.named)) (List._∷_ (15, Mut.mslice (OfOutput.row) (Syntax.tyRef Syntax.erased Syntax.mut OfOutput.named) 5) List.[])))))))))))))))
+        g20 = List._∷_ (0, Rows.any-gone (Laws.mir)) (List._∷_ (1, Relend.mslice-owed (OfOutput.row) (Syntax.tyRef (Syntax.named 0) Syntax.mut OfOutput.named) 0 5 (Row.lease (κs .0) (qs .0))) (List._∷_ (2, Relend.mslice-owed (OfStation.row) (Syntax.tyRef (Syntax.named 1) Syntax.mut OfStation.named) 1 6 (Row.lease (κs .1 .0) (qs .1 .0))) (List._∷_ (3, Rows.mref-owed (OfPanelRecord.row) (Syntax.tyRef (Syntax.named 2) Syntax.mut OfPanelRecord.named) 2 7 (Row.lease (κs .1 .1 .0) (qs .1 .1 .0))) (List._∷_ (4, Mut.mslice (Referent.rtF (Referent.fInt Syntax.w8)) (Syntax.tyRef (Syntax.named 3) Syntax.mut (Syntax.tyInt Syntax.w8)) 3) (List._∷_ (5, Rows.any-gone (Laws.mir)) (List._∷_ (6, Rows.sslice (Referent.rtF (Referent.fInt Syntax.w8)) (Syntax.tyRef (Syntax.named 4) Syntax.imm (Syntax.tyInt Syntax.w8)) 4) (List._∷_ (7, Rows.whole (Declared.row Turn.the-type)) (List._∷_ (8, Rows.sc-here (Row.sInt Syntax.w64)) (List._∷_ (9, Rows.sc-here (Row.sInt Syntax.w8)) (List._∷_ (10, Rows.any-gone (Syntax.tyInt Syntax.w64)) (List._∷_ (11, Rows.any-gone Syntax.tyBool) (List._∷_ (12, Rows.any-gone Syntax.tyPtr) (List._∷_ (13, Rows.any-gone (Syntax.tyInt Syntax.w8)) (List._∷_ (14, Rows.any-gone (Syntax.tyRef Syntax.erased Syntax.mut OfOutput.named)) (List._∷_ (15, Mut.mslice (OfOutput.row) (Syntax.tyRef Syntax.erased Syntax.mut OfOutput.named) 5) List.[])))))))))))))))
 
         abbrev g22 : List.List Row.Entry
-        g22 = List._∷_ (0, Rows.any-gone (Laws.mir)) (List._∷_ (1, Relend.mslice-owed (OfOutput.row) (Syntax.tyRef (Syntax.named 0) Syntax.mut OfOutput.named) 0 5 (Row.lease (κs .0) (qs .0))) (List._∷_ (2, Relend.mslice-owed (OfStation.row) (Syntax.tyRef (Syntax.named 1) Syntax.mut OfStation.named) 1 6 (Row.lease (κs .1 .0) (qs .1 .0))) (List._∷_ (3, Rows.mref-owed (Referent.rtF (Referent.fInt Syntax.w64)) (Syntax.tyRef (Syntax.named 2) Syntax.mut (Syntax.tyInt Syntax.w64)) 2 7 (Row.lease (κs .1 .1 .0) (qs .1 .1 .0))) (List._∷_ (4, Relend.mslice-owed (Referent.rtF (Referent.fInt Syntax.w8)) (Syntax.tyRef (Syntax.named 3) Syntax.mut (Syntax.tyInt Syntax.w8)) 3 8 (Row.lease (κs .1 .1 .1 .0) (qs .1 .1 .1 .0))) (List._∷_ (5, Rows.any-gone (Laws.mir)) (List._∷_ (6, Rows.sslice (Referent.rtF (Referent.fInt Syntax.w8)) (Syntax.tyRef (Syntax.named 4) Syntax.imm (Syntax.tyInt Syntax.w8)) 4) (List._∷_ (7, Rows.whole (Declared.row Turn.the-type)) (List._∷_ (8, Rows.sc-here (Row.sInt Syntax.w64)) (List._∷_ (9, Rows.sc-here (Row.sInt Syntax.w8)) (List._∷_ (10, Rows.any-gone (Syntax.tyInt Syntax.w64)) (List._∷_ (11, Rows.any-gone Syntax.tyBool) (List._∷_ (12, Rows.any-gone Syntax.tyPtr) (List._∷_ (13, Rows.any-gone (Syntax.tyInt Syntax.w8)) (List._∷_ (14, Rows.any-gone (Syntax.tyRef Syntax.erased Syntax.mut OfOutput.named)) (List._∷_ (15, Mut.mslice (OfOutput.row) (Syntax.tyRef Syntax.erased Syntax.mut OfOutput.named) 5) List.[])))))))))))))))
+        g22 = List._∷_ (0, Rows.any-gone (Laws.mir)) (List._∷_ (1, Relend.mslice-owed (OfOutput.row) (Syntax.tyRef (Syntax.named 0) Syntax.mut OfOutput.named) 0 5 (Row.lease (κs .0) (qs .0))) (List._∷_ (2, Relend.mslice-owed (OfStation.row) (Syntax.tyRef (Syntax.named 1) Syntax.mut OfStation.named) 1 6 (Row.lease (κs .1 .0) (qs .1 .0))) (List._∷_ (3, Rows.mref-owed (OfPanelRecord.row) (Syntax.tyRef (Syntax.named 2) Syntax.mut OfPanelRecord.named) 2 7 (Row.lease (κs .1 .1 .0) (qs .1 .1 .0))) (List._∷_ (4, Relend.mslice-owed (Referent.rtF (Referent.fInt Syntax.w8)) (Syntax.tyRef (Syntax.named 3) Syntax.mut (Syntax.tyInt Syntax.w8)) 3 8 (Row.lease (κs .1 .1 .1 .0) (qs .1 .1 .1 .0))) (List._∷_ (5, Rows.any-gone (Laws.mir)) (List._∷_ (6, Rows.sslice (Referent.rtF (Referent.fInt Syntax.w8)) (Syntax.tyRef (Syntax.named 4) Syntax.imm (Syntax.tyInt Syntax.w8)) 4) (List._∷_ (7, Rows.whole (Declared.row Turn.the-type)) (List._∷_ (8, Rows.sc-here (Row.sInt Syntax.w64)) (List._∷_ (9, Rows.sc-here (Row.sInt Syntax.w8)) (List._∷_ (10, Rows.any-gone (Syntax.tyInt Syntax.w64)) (List._∷_ (11, Rows.any-gone Syntax.tyBool) (List._∷_ (12, Rows.any-gone Syntax.tyPtr) (List._∷_ (13, Rows.any-gone (Syntax.tyInt Syntax.w8)) (List._∷_ (14, Rows.any-gone (Syntax.tyRef Syntax.erased Syntax.mut OfOutput.named)) (List._∷_ (15, Mut.mslice (OfOutput.row) (Syntax.tyRef Syntax.erased Syntax.mut OfOutput.named) 5) List.[])))))))))))))))
 
         abbrev g25 : List.List Row.Entry
-        g25 = List._∷_ (0, Rows.any-gone (Laws.mir)) (List._∷_ (1, Relend.mslice-owed (OfOutput.row) (Syntax.tyRef (Syntax.named 0) Syntax.mut OfOutput.named) 0 5 (Row.lease (κs .0) (qs .0))) (List._∷_ (2, Relend.mslice-owed (OfStation.row) (Syntax.tyRef (Syntax.named 1) Syntax.mut OfStation.named) 1 6 (Row.lease (κs .1 .0) (qs .1 .0))) (List._∷_ (3, Rows.mref-owed (Referent.rtF (Referent.fInt Syntax.w64)) (Syntax.tyRef (Syntax.named 2) Syntax.mut (Syntax.tyInt Syntax.w64)) 2 7 (Row.lease (κs .1 .1 .0) (qs .1 .1 .0))) (List._∷_ (4, Relend.mslice-owed (Referent.rtF (Referent.fInt Syntax.w8)) (Syntax.tyRef (Syntax.named 3) Syntax.mut (Syntax.tyInt Syntax.w8)) 3 8 (Row.lease (κs .1 .1 .1 .0) (qs .1 .1 .1 .0))) (List._∷_ (5, Rows.any-gone (Laws.mir)) (List._∷_ (6, Rows.sslice (Referent.rtF (Referent.fInt Syntax.w8)) (Syntax.tyRef (Syntax.named 4) Syntax.imm (Syntax.tyInt Syntax.w8)) 4) (List._∷_ (7, Rows.whole (Declared.row Turn.the-type)) (List._∷_ (8, Rows.sc-here (Row.sInt Syntax.w64)) (List._∷_ (9, Rows.sc-here (Row.sInt Syntax.w8)) (List._∷_ (10, Rows.any-gone (Syntax.tyInt Syntax.w64)) (List._∷_ (11, Rows.any-gone Syntax.tyBool) (List._∷_ (12, Rows.any-gone Syntax.tyPtr) (List._∷_ (13, Rows.any-gone (Syntax.tyInt Syntax.w8)) (List._∷_ (14, Rows.any-gone (Syntax.tyRef Syntax.erased Syntax.mut OfOutput.named)) (List._∷_ (15, Mut.msleft (OfOutput.row) (Syntax.tyRef Syntax.erased Syntax.mut OfOutput.named)) List.[])))))))))))))))
+        g25 = List._∷_ (0, Rows.any-gone (Laws.mir)) (List._∷_ (1, Relend.mslice-owed (OfOutput.row) (Syntax.tyRef (Syntax.named 0) Syntax.mut OfOutput.named) 0 5 (Row.lease (κs .0) (qs .0))) (List._∷_ (2, Relend.mslice-owed (OfStation.row) (Syntax.tyRef (Syntax.named 1) Syntax.mut OfStation.named) 1 6 (Row.lease (κs .1 .0) (qs .1 .0))) (List._∷_ (3, Rows.mref-owed (OfPanelRecord.row) (Syntax.tyRef (Syntax.named 2) Syntax.mut OfPanelRecord.named) 2 7 (Row.lease (κs .1 .1 .0) (qs .1 .1 .0))) (List._∷_ (4, Relend.mslice-owed (Referent.rtF (Referent.fInt Syntax.w8)) (Syntax.tyRef (Syntax.named 3) Syntax.mut (Syntax.tyInt Syntax.w8)) 3 8 (Row.lease (κs .1 .1 .1 .0) (qs .1 .1 .1 .0))) (List._∷_ (5, Rows.any-gone (Laws.mir)) (List._∷_ (6, Rows.sslice (Referent.rtF (Referent.fInt Syntax.w8)) (Syntax.tyRef (Syntax.named 4) Syntax.imm (Syntax.tyInt Syntax.w8)) 4) (List._∷_ (7, Rows.whole (Declared.row Turn.the-type)) (List._∷_ (8, Rows.sc-here (Row.sInt Syntax.w64)) (List._∷_ (9, Rows.sc-here (Row.sInt Syntax.w8)) (List._∷_ (10, Rows.any-gone (Syntax.tyInt Syntax.w64)) (List._∷_ (11, Rows.any-gone Syntax.tyBool) (List._∷_ (12, Rows.any-gone Syntax.tyPtr) (List._∷_ (13, Rows.any-gone (Syntax.tyInt Syntax.w8)) (List._∷_ (14, Rows.any-gone (Syntax.tyRef Syntax.erased Syntax.mut OfOutput.named)) (List._∷_ (15, Mut.msleft (OfOutput.row) (Syntax.tyRef Syntax.erased Syntax.mut OfOutput.named)) List.[])))))))))))))))
 
         abbrev g27 : List.List Row.Entry
-        g27 = List._∷_ (0, Rows.any-gone (Laws.mir)) (List._∷_ (1, Relend.mslice-owed (OfOutput.row) (Syntax.tyRef (Syntax.named 0) Syntax.mut OfOutput.named) 0 5 (Row.lease (κs .0) (qs .0))) (List._∷_ (2, Relend.mslice-owed (OfStation.row) (Syntax.tyRef (Syntax.named 1) Syntax.mut OfStation.named) 1 6 (Row.lease (κs .1 .0) (qs .1 .0))) (List._∷_ (3, Rows.mref-owed (Referent.rtF (Referent.fInt Syntax.w64)) (Syntax.tyRef (Syntax.named 2) Syntax.mut (Syntax.tyInt Syntax.w64)) 2 7 (Row.lease (κs .1 .1 .0) (qs .1 .1 .0))) (List._∷_ (4, Relend.mslice-owed (Referent.rtF (Referent.fInt Syntax.w8)) (Syntax.tyRef (Syntax.named 3) Syntax.mut (Syntax.tyInt Syntax.w8)) 3 8 (Row.lease (κs .1 .1 .1 .0) (qs .1 .1 .1 .0))) (List._∷_ (5, Rows.any-gone (Laws.mir)) (List._∷_ (6, Rows.sslice (Referent.rtF (Referent.fInt Syntax.w8)) (Syntax.tyRef (Syntax.named 4) Syntax.imm (Syntax.tyInt Syntax.w8)) 4) (List._∷_ (7, Rows.whole (Declared.row Turn.the-type)) (List._∷_ (8, Rows.sc-here (Row.sInt Syntax.w64)) (List._∷_ (9, Rows.any-gone (Syntax.tyInt Syntax.w8)) (List._∷_ (10, Rows.any-gone (Syntax.tyInt Syntax.w64)) (List._∷_ (11, Rows.any-gone Syntax.tyBool) (List._∷_ (12, Rows.any-gone Syntax.tyPtr) (List._∷_ (13, Rows.any-gone (Syntax.tyInt Syntax.w8)) (List._∷_ (14, Rows.any-gone (Syntax.tyRef Syntax.erased Syntax.mut OfOutput.named)) (List._∷_ (15, Mut.msleft (OfOutput.row) (Syntax.tyRef Syntax.erased Syntax.mut OfOutput.named)) List.[])))))))))))))))
+        g27 = List._∷_ (0, Rows.any-gone (Laws.mir)) (List._∷_ (1, Relend.mslice-owed (OfOutput.row) (Syntax.tyRef (Syntax.named 0) Syntax.mut OfOutput.named) 0 5 (Row.lease (κs .0) (qs .0))) (List._∷_ (2, Relend.mslice-owed (OfStation.row) (Syntax.tyRef (Syntax.named 1) Syntax.mut OfStation.named) 1 6 (Row.lease (κs .1 .0) (qs .1 .0))) (List._∷_ (3, Rows.mref-owed (OfPanelRecord.row) (Syntax.tyRef (Syntax.named 2) Syntax.mut OfPanelRecord.named) 2 7 (Row.lease (κs .1 .1 .0) (qs .1 .1 .0))) (List._∷_ (4, Relend.mslice-owed (Referent.rtF (Referent.fInt Syntax.w8)) (Syntax.tyRef (Syntax.named 3) Syntax.mut (Syntax.tyInt Syntax.w8)) 3 8 (Row.lease (κs .1 .1 .1 .0) (qs .1 .1 .1 .0))) (List._∷_ (5, Rows.any-gone (Laws.mir)) (List._∷_ (6, Rows.sslice (Referent.rtF (Referent.fInt Syntax.w8)) (Syntax.tyRef (Syntax.named 4) Syntax.imm (Syntax.tyInt Syntax.w8)) 4) (List._∷_ (7, Rows.whole (Declared.row Turn.the-type)) (List._∷_ (8, Rows.sc-here (Row.sInt Syntax.w64)) (List._∷_ (9, Rows.any-gone (Syntax.tyInt Syntax.w8)) (List._∷_ (10, Rows.any-gone (Syntax.tyInt Syntax.w64)) (List._∷_ (11, Rows.any-gone Syntax.tyBool) (List._∷_ (12, Rows.any-gone Syntax.tyPtr) (List._∷_ (13, Rows.any-gone (Syntax.tyInt Syntax.w8)) (List._∷_ (14, Rows.any-gone (Syntax.tyRef Syntax.erased Syntax.mut OfOutput.named)) (List._∷_ (15, Mut.msleft (OfOutput.row) (Syntax.tyRef Syntax.erased Syntax.mut OfOutput.named)) List.[])))))))))))))))
 
         abbrev g28 : List.List Row.Entry
-        g28 = List._∷_ (0, Rows.any-gone (Laws.mir)) (List._∷_ (1, Mut.mslice (OfOutput.row) (Syntax.tyRef (Syntax.named 0) Syntax.mut OfOutput.named) 0) (List._∷_ (2, Relend.mslice-owed (OfStation.row) (Syntax.tyRef (Syntax.named 1) Syntax.mut OfStation.named) 1 6 (Row.lease (κs .1 .0) (qs .1 .0))) (List._∷_ (3, Rows.mref-owed (Referent.rtF (Referent.fInt Syntax.w64)) (Syntax.tyRef (Syntax.named 2) Syntax.mut (Syntax.tyInt Syntax.w64)) 2 7 (Row.lease (κs .1 .1 .0) (qs .1 .1 .0))) (List._∷_ (4, Relend.mslice-owed (Referent.rtF (Referent.fInt Syntax.w8)) (Syntax.tyRef (Syntax.named 3) Syntax.mut (Syntax.tyInt Syntax.w8)) 3 8 (Row.lease (κs .1 .1 .1 .0) (qs .1 .1 .1 .0))) (List._∷_ (5, Rows.any-gone (Laws.mir)) (List._∷_ (6, Rows.sslice (Referent.rtF (Referent.fInt Syntax.w8)) (Syntax.tyRef (Syntax.named 4) Syntax.imm (Syntax.tyInt Syntax.w8)) 4) (List._∷_ (7, Rows.whole (Declared.row Turn.the-type)) (List._∷_ (8, Rows.sc-here (Row.sInt Syntax.w64)) (List._∷_ (9, Rows.any-gone (Syntax.tyInt Syntax.w8)) (List._∷_ (10, Rows.any-gone (Syntax.tyInt Syntax.w64)) (List._∷_ (11, Rows.any-gone Syntax.tyBool) (List._∷_ (12, Rows.any-gone Syntax.tyPtr) (List._∷_ (13, Rows.any-gone (Syntax.tyInt Syntax.w8)) (List._∷_ (14, Rows.any-gone (Syntax.tyRef Syntax.erased Syntax.mut OfOutput.named)) (List._∷_ (15, Rows.any-gone (Syntax.tyStruct (List._∷_ 38 (List._∷_ 91 (List._∷_ 93 List.[]))) (Syntax.tcons (Syntax.tyRef Syntax.erased Syntax.mut OfOutput.named) (Syntax.tcons (Syntax.tyInt Syntax.w64) Syntax.tnil)))) List.[])))))))))))))))
+        g28 = List._∷_ (0, Rows.any-gone (Laws.mir)) (List._∷_ (1, Mut.mslice (OfOutput.row) (Syntax.tyRef (Syntax.named 0) Syntax.mut OfOutput.named) 0) (List._∷_ (2, Relend.mslice-owed (OfStation.row) (Syntax.tyRef (Syntax.named 1) Syntax.mut OfStation.named) 1 6 (Row.lease (κs .1 .0) (qs .1 .0))) (List._∷_ (3, Rows.mref-owed (OfPanelRecord.row) (Syntax.tyRef (Syntax.named 2) Syntax.mut OfPanelRecord.named) 2 7 (Row.lease (κs .1 .1 .0) (qs .1 .1 .0))) (List._∷_ (4, Relend.mslice-owed (Referent.rtF (Referent.fInt Syntax.w8)) (Syntax.tyRef (Syntax.named 3) Syntax.mut (Syntax.tyInt Syntax.w8)) 3 8 (Row.lease (κs .1 .1 .1 .0) (qs .1 .1 .1 .0))) (List._∷_ (5, Rows.any-gone (Laws.mir)) (List._∷_ (6, Rows.sslice (Referent.rtF (Referent.fInt Syntax.w8)) (Syntax.tyRef (Syntax.named 4) Syntax.imm (Syntax.tyInt Syntax.w8)) 4) (List._∷_ (7, Rows.whole (Declared.row Turn.the-type)) (List._∷_ (8, Rows.sc-here (Row.sInt Syntax.w64)) (List._∷_ (9, Rows.any-gone (Syntax.tyInt Syntax.w8)) (List._∷_ (10, Rows.any-gone (Syntax.tyInt Syntax.w64)) (List._∷_ (11, Rows.any-gone Syntax.tyBool) (List._∷_ (12, Rows.any-gone Syntax.tyPtr) (List._∷_ (13, Rows.any-gone (Syntax.tyInt Syntax.w8)) (List._∷_ (14, Rows.any-gone (Syntax.tyRef Syntax.erased Syntax.mut OfOutput.named)) (List._∷_ (15, Rows.any-gone (Syntax.tyStruct (List._∷_ 38 (List._∷_ 91 (List._∷_ 93 List.[]))) (Syntax.tcons (Syntax.tyRef Syntax.erased Syntax.mut OfOutput.named) (Syntax.tcons (Syntax.tyInt Syntax.w64) Syntax.tnil)))) List.[])))))))))))))))
 
         abbrev g29 : List.List Row.Entry
-        g29 = List._∷_ (0, Rows.any-gone (Laws.mir)) (List._∷_ (1, Mut.mslice (OfOutput.row) (Syntax.tyRef (Syntax.named 0) Syntax.mut OfOutput.named) 0) (List._∷_ (2, Mut.mslice (OfStation.row) (Syntax.tyRef (Syntax.named 1) Syntax.mut OfStation.named) 1) (List._∷_ (3, Rows.mref-owed (Referent.rtF (Referent.fInt Syntax.w64)) (Syntax.tyRef (Syntax.named 2) Syntax.mut (Syntax.tyInt Syntax.w64)) 2 7 (Row.lease (κs .1 .1 .0) (qs .1 .1 .0))) (List._∷_ (4, Relend.mslice-owed (Referent.rtF (Referent.fInt Syntax.w8)) (Syntax.tyRef (Syntax.named 3) Syntax.mut (Syntax.tyInt Syntax.w8)) 3 8 (Row.lease (κs .1 .1 .1 .0) (qs .1 .1 .1 .0))) (List._∷_ (5, Rows.any-gone (Laws.mir)) (List._∷_ (6, Rows.sslice (Referent.rtF (Referent.fInt Syntax.w8)) (Syntax.tyRef (Syntax.named 4) Syntax.imm (Syntax.tyInt Syntax.w8)) 4) (List._∷_ (7, Rows.whole (Declared.row Turn.the-type)) (List._∷_ (8, Rows.sc-here (Row.sInt Syntax.w64)) (List._∷_ (9, Rows.any-gone (Syntax.tyInt Syntax.w8)) (List._∷_ (10, Rows.any-gone (Syntax.tyInt Syntax.w64)) (List._∷_ (11, Rows.any-gone Syntax.tyBool) (List._∷_ (12, Rows.any-gone Syntax.tyPtr) (List._∷_ (13, Rows.any-gone (Syntax.tyInt Syntax.w8)) (List._∷_ (14, Rows.any-gone (Syntax.tyRef Syntax.erased Syntax.mut OfOutput.named)) (List._∷_ (15, Rows.any-gone (Syntax.tyStruct (List._∷_ 38 (List._∷_ 91 (List._∷_ 93 List.[]))) (Syntax.tcons (Syntax.tyRef Syntax.erased Syntax.mut OfOutput.named) (Syntax.tcons (Syntax.tyInt Syntax.w64) Syntax.tnil)))) List.[])))))))))))))))
+        g29 = List._∷_ (0, Rows.any-gone (Laws.mir)) (List._∷_ (1, Mut.mslice (OfOutput.row) (Syntax.tyRef (Syntax.named 0) Syntax.mut OfOutput.named) 0) (List._∷_ (2, Mut.mslice (OfStation.row) (Syntax.tyRef (Syntax.named 1) Syntax.mut OfStation.named) 1) (List._∷_ (3, Rows.mref-owed (OfPanelRecord.row) (Syntax.tyRef (Syntax.named 2) Syntax.mut OfPanelRecord.named) 2 7 (Row.lease (κs .1 .1 .0) (qs .1 .1 .0))) (List._∷_ (4, Relend.mslice-owed (Referent.rtF (Referent.fInt Syntax.w8)) (Syntax.tyRef (Syntax.named 3) Syntax.mut (Syntax.tyInt Syntax.w8)) 3 8 (Row.lease (κs .1 .1 .1 .0) (qs .1 .1 .1 .0))) (List._∷_ (5, Rows.any-gone (Laws.mir)) (List._∷_ (6, Rows.sslice (Referent.rtF (Referent.fInt Syntax.w8)) (Syntax.tyRef (Syntax.named 4) Syntax.imm (Syntax.tyInt Syntax.w8)) 4) (List._∷_ (7, Rows.whole (Declared.row Turn.the-type)) (List._∷_ (8, Rows.sc-here (Row.sInt Syntax.w64)) (List._∷_ (9, Rows.any-gone (Syntax.tyInt Syntax.w8)) (List._∷_ (10, Rows.any-gone (Syntax.tyInt Syntax.w64)) (List._∷_ (11, Rows.any-gone Syntax.tyBool) (List._∷_ (12, Rows.any-gone Syntax.tyPtr) (List._∷_ (13, Rows.any-gone (Syntax.tyInt Syntax.w8)) (List._∷_ (14, Rows.any-gone (Syntax.tyRef Syntax.erased Syntax.mut OfOutput.named)) (List._∷_ (15, Rows.any-gone (Syntax.tyStruct (List._∷_ 38 (List._∷_ 91 (List._∷_ 93 List.[]))) (Syntax.tcons (Syntax.tyRef Syntax.erased Syntax.mut OfOutput.named) (Syntax.tcons (Syntax.tyInt Syntax.w64) Syntax.tnil)))) List.[])))))))))))))))
 
         abbrev g31 : List.List Row.Entry
-        g31 = List._∷_ (0, Rows.any-gone (Laws.mir)) (List._∷_ (1, Mut.mslice (OfOutput.row) (Syntax.tyRef (Syntax.named 0) Syntax.mut OfOutput.named) 0) (List._∷_ (2, Mut.mslice (OfStation.row) (Syntax.tyRef (Syntax.named 1) Syntax.mut OfStation.named) 1) (List._∷_ (3, Rows.mref (Referent.rtF (Referent.fInt Syntax.w64)) (Syntax.tyRef (Syntax.named 2) Syntax.mut (Syntax.tyInt Syntax.w64)) 2) (List._∷_ (4, Relend.mslice-owed (Referent.rtF (Referent.fInt Syntax.w8)) (Syntax.tyRef (Syntax.named 3) Syntax.mut (Syntax.tyInt Syntax.w8)) 3 8 (Row.lease (κs .1 .1 .1 .0) (qs .1 .1 .1 .0))) (List._∷_ (5, Rows.any-gone (Laws.mir)) (List._∷_ (6, Rows.sslice (Referent.rtF (Referent.fInt Syntax.w8)) (Syntax.tyRef (Syntax.named 4) Syntax.imm (Syntax.tyInt Syntax.w8)) 4) (List._∷_ (7, Rows.whole (Declared.row Turn.the-type)) (List._∷_ (8, Rows.sc-here (Row.sInt Syntax.w64)) (List._∷_ (9, Rows.any-gone (Syntax.tyInt Syntax.w8)) (List._∷_ (10, Rows.any-gone (Syntax.tyInt Syntax.w64)) (List._∷_ (11, Rows.any-gone Syntax.tyBool) (List._∷_ (12, Rows.any-gone Syntax.tyPtr) (List._∷_ (13, Rows.any-gone (Syntax.tyInt Syntax.w8)) (List._∷_ (14, Rows.any-gone (Syntax.tyRef Syntax.erased Syntax.mut OfOutput.named)) (List._∷_ (15, Rows.any-gone (Syntax.tyStruct (List._∷_ 38 (List._∷_ 91 (List._∷_ 93 List.[]))) (Syntax.tcons (Syntax.tyRef Syntax.erased Syntax.mut OfOutput.named) (Syntax.tcons (Syntax.tyInt Syntax.w64) Syntax.tnil)))) List.[])))))))))))))))
+        g31 = List._∷_ (0, Rows.any-gone (Laws.mir)) (List._∷_ (1, Mut.mslice (OfOutput.row) (Syntax.tyRef (Syntax.named 0) Syntax.mut OfOutput.named) 0) (List._∷_ (2, Mut.mslice (OfStation.row) (Syntax.tyRef (Syntax.named 1) Syntax.mut OfStation.named) 1) (List._∷_ (3, Rows.mref (OfPanelRecord.row) (Syntax.tyRef (Syntax.named 2) Syntax.mut OfPanelRecord.named) 2) (List._∷_ (4, Relend.mslice-owed (Referent.rtF (Referent.fInt Syntax.w8)) (Syntax.tyRef (Syntax.named 3) Syntax.mut (Syntax.tyInt Syntax.w8)) 3 8 (Row.lease (κs .1 .1 .1 .0) (qs .1 .1 .1 .0))) (List._∷_ (5, Rows.any-gone (Laws.mir)) (List._∷_ (6, Rows.sslice (Referent.rtF (Referent.fInt Syntax.w8)) (Syntax.tyRef (Syntax.named 4) Syntax.imm (Syntax.tyInt Syntax.w8)) 4) (List._∷_ (7, Rows.whole (Declared.row Turn.the-type)) (List._∷_ (8, Rows.sc-here (Row.sInt Syntax.w64)) (List._∷_ (9, Rows.any-gone (Syntax.tyInt Syntax.w8)) (List._∷_ (10, Rows.any-gone (Syntax.tyInt Syntax.w64)) (List._∷_ (11, Rows.any-gone Syntax.tyBool) (List._∷_ (12, Rows.any-gone Syntax.tyPtr) (List._∷_ (13, Rows.any-gone (Syntax.tyInt Syntax.w8)) (List._∷_ (14, Rows.any-gone (Syntax.tyRef Syntax.erased Syntax.mut OfOutput.named)) (List._∷_ (15, Rows.any-gone (Syntax.tyStruct (List._∷_ 38 (List._∷_ 91 (List._∷_ 93 List.[]))) (Syntax.tcons (Syntax.tyRef Syntax.erased Syntax.mut OfOutput.named) (Syntax.tcons (Syntax.tyInt Syntax.w64) Syntax.tnil)))) List.[])))))))))))))))
 
         abbrev G0 : Row.Cx
         G0 = record { locals = List._++_ t0 t1; slots = List._∷_ (Row.lease (κs .0) (qs .0)) (List._∷_ (Row.lease (κs .1 .0) (qs .1 .0)) (List._∷_ (Row.lease (κs .1 .1 .0) (qs .1 .1 .0)) (List._∷_ (Row.lease (κs .1 .1 .1 .0) (qs .1 .1 .1 .0)) (List._∷_ (Row.lease (κs .1 .1 .1 .1 .0) (qs .1 .1 .1 .1 .0)) (List._∷_ Row.off (List._∷_ Row.off (List._∷_ Row.off (List._∷_ Row.off List.[])))))))) }
@@ -989,7 +990,7 @@ module _ (claims· : Claims) where
           d5 = Typed.g-pre 𝓤 H A W 𝓣 E G9 G11 b6 Δ4 (Typed.pass T9 T11 s7) at4 (Scalar.g-room 𝓤 H A W E G9 10 (Syntax.tyInt Syntax.w64) (Scalar.room-sc 𝓤 H A W (Row.sInt Syntax.w64))) d4
 
           d6 : Typed.Typed 𝓤 H A 𝓣 E G33 b19 Δ3 at6
-          d6 = Typed.s-typed 𝓤 H A W 𝓣 E G33 b19 Δ3 (λ Ψ. Typed.both s30 (Typed.pass T34 T35 s31 (Typed.both s33 (Typed.both s36 (Typed.ask s39 (Typed.both s42 (Typed.give s43 Ψ))))))) tt (Typed.g-post 𝓤 H A W 𝓣 E G33 G47 G48 b19 (λ Ψ. Typed.both s30 (Typed.pass T34 T35 s31 (Typed.both s33 (Typed.both s36 (Typed.ask s39 (Typed.both s42 (Typed.give s43 Ψ))))))) (λ Ψ. Ψ) (Typed.g-post 𝓤 H A W 𝓣 E G33 G46 G47 b19 (λ Ψ. Typed.both s30 (Typed.pass T34 T35 s31 (Typed.both s33 (Typed.both s36 (Typed.ask s39 (Typed.both s42 Ψ)))))) (Typed.give s43) (Typed.g-post 𝓤 H A W 𝓣 E G33 G45 G46 b19 (λ Ψ. Typed.both s30 (Typed.pass T34 T35 s31 (Typed.both s33 (Typed.both s36 (Typed.ask s39 Ψ))))) (Typed.both s42) (Typed.g-post 𝓤 H A W 𝓣 E G33 G44 G45 b19 (λ Ψ. Typed.both s30 (Typed.pass T34 T35 s31 (Typed.both s33 (Typed.both s36 (Typed.ask s39 Ψ))))) (λ Ψ. Ψ) (Typed.g-post 𝓤 H A W 𝓣 E G33 G43 G44 b19 (λ Ψ. Typed.both s30 (Typed.pass T34 T35 s31 (Typed.both s33 (Typed.both s36 (Typed.ask s39 Ψ))))) (λ Ψ. Ψ) (Typed.g-post 𝓤 H A W 𝓣 E G33 G42 G43 b19 (λ Ψ. Typed.both s30 (Typed.pass T34 T35 s31 (Typed.both s33 (Typed.both s36 Ψ)))) (Typed.ask s39) (Typed.g-post 𝓤 H A W 𝓣 E G33 G41 G42 b19 (λ Ψ. Typed.both s30 (Typed.pass T34 T35 s31 (Typed.both s33 (Typed.both s36 Ψ)))) (λ Ψ. Ψ) (Typed.g-post 𝓤 H A W 𝓣 E G33 G40 G41 b19 (λ Ψ. Typed.both s30 (Typed.pass T34 T35 s31 (Typed.both s33 (Typed.both s36 Ψ)))) (λ Ψ. Ψ) (Typed.g-post 𝓤 H A W 𝓣 E G33 G39 G40 b19 (λ Ψ. Typed.both s30 (Typed.pass T34 T35 s31 (Typed.both s33 Ψ))) (Typed.both s36) (Typed.g-post 𝓤 H A W 𝓣 E G33 G38 G39 b19 (λ Ψ. Typed.both s30 (Typed.pass T34 T35 s31 (Typed.both s33 Ψ))) (λ Ψ. Ψ) (Typed.g-post 𝓤 H A W 𝓣 E G33 G37 G38 b19 (λ Ψ. Typed.both s30 (Typed.pass T34 T35 s31 (Typed.both s33 Ψ))) (λ Ψ. Ψ) (Typed.g-post 𝓤 H A W 𝓣 E G33 G36 G37 b19 (λ Ψ. Typed.both s30 (Typed.pass T34 T35 s31 Ψ)) (Typed.both s33) (Typed.g-post 𝓤 H A W 𝓣 E G33 G35 G36 b19 (λ Ψ. Typed.both s30 (Typed.pass T34 T35 s31 Ψ)) (λ Ψ. Ψ) (Typed.g-post 𝓤 H A W 𝓣 E G33 G34 G35 b19 (Typed.both s30) (Typed.pass T34 T35 s31) (Plain.t-call-plain 𝓤 H A W 𝓣 4 ps·0 r·0 (claims· .0) (claims· .1) "lent_session::take_row" (known .0) E (λ pos β. β) G33 (record { pos = 15; ty = Syntax.tyRef Syntax.erased Syntax.mut OfOutput.named; ref = λ x. x }, (record { pos = 17; ty = Syntax.tyRef Syntax.erased Syntax.mut OfStation.named; ref = λ x. x }, (record { pos = 18; ty = Syntax.tyRef Syntax.erased Syntax.mut (Syntax.tyInt Syntax.w64); ref = λ x. x }, (record { pos = 20; ty = Syntax.tyRef Syntax.erased Syntax.mut (Syntax.tyInt Syntax.w8); ref = λ x. x }, (record { pos = 7; st = List.[]; d = 0; at = λ x. x }, tt))))) 7 (List._∷_ 5 (List._∷_ 6 (List._∷_ 7 (List._∷_ 8 List.[])))) (Call.sub-id 𝓤 H A W (G33 .slots)) (Reads.as-is 𝓤 H A (Mut.mslice (OfOutput.row) (Syntax.tyRef Syntax.erased Syntax.mut OfOutput.named) 5), Mut.reads-mslice 𝓤 H A W (OfOutput.row) (Syntax.tyRef Syntax.erased Syntax.mut OfOutput.named) 5, Path'.refl, (Reads.as-is 𝓤 H A (Mut.mslice (OfStation.row) (Syntax.tyRef Syntax.erased Syntax.mut OfStation.named) 6), Mut.reads-mslice 𝓤 H A W (OfStation.row) (Syntax.tyRef Syntax.erased Syntax.mut OfStation.named) 6, Path'.refl, (Reads.as-is 𝓤 H A (Rows.mref (Referent.rtF (Referent.fInt Syntax.w64)) (Syntax.tyRef Syntax.erased Syntax.mut (Syntax.tyInt Syntax.w64)) 7), Reads.reads-mref 𝓤 H A W (Referent.rtF (Referent.fInt Syntax.w64)) (Syntax.tyRef Syntax.erased Syntax.mut (Syntax.tyInt Syntax.w64)) 7, Path'.refl, (Reads.as-is 𝓤 H A (Mut.mslice (Referent.rtF (Referent.fInt Syntax.w8)) (Syntax.tyRef Syntax.erased Syntax.mut (Syntax.tyInt Syntax.w8)) 8), Mut.reads-mslice 𝓤 H A W (Referent.rtF (Referent.fInt Syntax.w8)) (Syntax.tyRef Syntax.erased Syntax.mut (Syntax.tyInt Syntax.w8)) 8, Path'.refl, ((Yields.yields-copy 𝓤 H A W (λ ρ. Unit) (Declared.row Turn.the-type) Path'.refl (Copies.cStruct Turn.the-type Laws.the-laws Laws.the-copy .copy 𝓤 H A W) (Rows.whole (Declared.row Turn.the-type)) (λ x. x) (λ x. x) (λ ρ told. Local.mem-whole 𝓤 H A W (Declared.row Turn.the-type) ρ) λ ρ told. Local.whole-mem 𝓤 H A W (Declared.row Turn.the-type) ρ, Path'.refl), tt))))) (Local.room-whole 𝓤 H A W (Declared.row Turn.the-type) (Laws.mir) Path'.refl) (tt, (tt, (tt, (tt, tt)))) Path'.refl) (Scalar.g-room 𝓤 H A W E G34 9 (Syntax.tyInt Syntax.w8) (Scalar.room-sc 𝓤 H A W (Row.sInt Syntax.w8)))) (Lifetime.g-end 𝓤 H A W E G35 5 Path'.refl)) (Relend.g-back-sl 𝓤 H A W E (OfOutput.row) G36 15 1 0 5 (Syntax.tyRef (Syntax.named 0) Syntax.mut OfOutput.named) (Syntax.tyRef Syntax.erased Syntax.mut OfOutput.named) (Row.lease (κs .0) (qs .0)) (λ x. x) (λ x. x) (Reads.as-is 𝓤 H A (Mut.msleft (OfOutput.row) (Syntax.tyRef Syntax.erased Syntax.mut OfOutput.named))) (Reads.as-is 𝓤 H A (Relend.mslice-owed (OfOutput.row) (Syntax.tyRef (Syntax.named 0) Syntax.mut OfOutput.named) 0 5 (Row.lease (κs .0) (qs .0)))) Path'.refl Path'.refl)) (Lifetime.g-forget 𝓤 H A W E G37 5 Row.dead Path'.refl)) (Lifetime.g-end 𝓤 H A W E G38 6 Path'.refl)) (Relend.g-back-sl 𝓤 H A W E (OfStation.row) G39 17 2 1 6 (Syntax.tyRef (Syntax.named 1) Syntax.mut OfStation.named) (Syntax.tyRef Syntax.erased Syntax.mut OfStation.named) (Row.lease (κs .1 .0) (qs .1 .0)) (λ x. x) (λ x. x) (Reads.as-is 𝓤 H A (Mut.msleft (OfStation.row) (Syntax.tyRef Syntax.erased Syntax.mut OfStation.named))) (Reads.as-is 𝓤 H A (Relend.mslice-owed (OfStation.row) (Syntax.tyRef (Syntax.named 1) Syntax.mut OfStation.named) 1 6 (Row.lease (κs .1 .0) (qs .1 .0)))) Path'.refl Path'.refl)) (Lifetime.g-forget 𝓤 H A W E G40 6 Row.dead Path'.refl)) (Lifetime.g-end 𝓤 H A W E G41 7 Path'.refl)) (Reborrow.g-back-mref 𝓤 H A W E G42 18 3 2 7 (Referent.rtF (Referent.fInt Syntax.w64)) (Syntax.tyRef (Syntax.named 2) Syntax.mut (Syntax.tyInt Syntax.w64)) (Syntax.tyRef Syntax.erased Syntax.mut (Syntax.tyInt Syntax.w64)) (Row.lease (κs .1 .1 .0) (qs .1 .1 .0)) (λ x. x) (λ x. x) (Reads.as-is 𝓤 H A (Rows.mleft (Referent.rtF (Referent.fInt Syntax.w64)) (Syntax.tyRef Syntax.erased Syntax.mut (Syntax.tyInt Syntax.w64)))) (Reads.as-is 𝓤 H A (Rows.mref-owed (Referent.rtF (Referent.fInt Syntax.w64)) (Syntax.tyRef (Syntax.named 2) Syntax.mut (Syntax.tyInt Syntax.w64)) 2 7 (Row.lease (κs .1 .1 .0) (qs .1 .1 .0)))) Path'.refl Path'.refl)) (Lifetime.g-forget 𝓤 H A W E G43 7 Row.dead Path'.refl)) (Lifetime.g-end 𝓤 H A W E G44 8 Path'.refl)) (Relend.g-back-sl 𝓤 H A W E (Referent.rtF (Referent.fInt Syntax.w8)) G45 20 4 3 8 (Syntax.tyRef (Syntax.named 3) Syntax.mut (Syntax.tyInt Syntax.w8)) (Syntax.tyRef Syntax.erased Syntax.mut (Syntax.tyInt Syntax.w8)) (Row.lease (κs .1 .1 .1 .0) (qs .1 .1 .1 .0)) (λ x. x) (λ x. x) (Reads.as-is 𝓤 H A (Mut.msleft (Referent.rtF (Referent.fInt Syntax.w8)) (Syntax.tyRef Syntax.erased Syntax.mut (Syntax.tyInt Syntax.w8)))) (Reads.as-is 𝓤 H A (Relend.mslice-owed (Referent.rtF (Referent.fInt Syntax.w8)) (Syntax.tyRef (Syntax.named 3) Syntax.mut (Syntax.tyInt Syntax.w8)) 3 8 (Row.lease (κs .1 .1 .1 .0) (qs .1 .1 .1 .0)))) Path'.refl Path'.refl)) (Know.g-sl-known 𝓤 H A W (Referent.fInt Syntax.w8) E G46 4 3 (Syntax.tyRef (Syntax.named 3) Syntax.mut (Syntax.tyInt Syntax.w8)) (Row.lease (κs .1 .1 .1 .0) (qs .1 .1 .1 .0)) 0 (λ x. x) record { fits = Dec'.lit< tt } (Reads.as-is 𝓤 H A (Mut.mslice (Referent.rtF (Referent.fInt Syntax.w8)) (Syntax.tyRef (Syntax.named 3) Syntax.mut (Syntax.tyInt Syntax.w8)) 3)) Path'.refl tt)) (Lifetime.g-forget 𝓤 H A W E G47 8 Row.dead Path'.refl))
+          d6 = Typed.s-typed 𝓤 H A W 𝓣 E G33 b19 Δ3 (λ Ψ. Typed.both s30 (Typed.pass T34 T35 s31 (Typed.both s33 (Typed.both s36 (Typed.ask s39 (Typed.both s42 (Typed.give s43 Ψ))))))) tt (Typed.g-post 𝓤 H A W 𝓣 E G33 G47 G48 b19 (λ Ψ. Typed.both s30 (Typed.pass T34 T35 s31 (Typed.both s33 (Typed.both s36 (Typed.ask s39 (Typed.both s42 (Typed.give s43 Ψ))))))) (λ Ψ. Ψ) (Typed.g-post 𝓤 H A W 𝓣 E G33 G46 G47 b19 (λ Ψ. Typed.both s30 (Typed.pass T34 T35 s31 (Typed.both s33 (Typed.both s36 (Typed.ask s39 (Typed.both s42 Ψ)))))) (Typed.give s43) (Typed.g-post 𝓤 H A W 𝓣 E G33 G45 G46 b19 (λ Ψ. Typed.both s30 (Typed.pass T34 T35 s31 (Typed.both s33 (Typed.both s36 (Typed.ask s39 Ψ))))) (Typed.both s42) (Typed.g-post 𝓤 H A W 𝓣 E G33 G44 G45 b19 (λ Ψ. Typed.both s30 (Typed.pass T34 T35 s31 (Typed.both s33 (Typed.both s36 (Typed.ask s39 Ψ))))) (λ Ψ. Ψ) (Typed.g-post 𝓤 H A W 𝓣 E G33 G43 G44 b19 (λ Ψ. Typed.both s30 (Typed.pass T34 T35 s31 (Typed.both s33 (Typed.both s36 (Typed.ask s39 Ψ))))) (λ Ψ. Ψ) (Typed.g-post 𝓤 H A W 𝓣 E G33 G42 G43 b19 (λ Ψ. Typed.both s30 (Typed.pass T34 T35 s31 (Typed.both s33 (Typed.both s36 Ψ)))) (Typed.ask s39) (Typed.g-post 𝓤 H A W 𝓣 E G33 G41 G42 b19 (λ Ψ. Typed.both s30 (Typed.pass T34 T35 s31 (Typed.both s33 (Typed.both s36 Ψ)))) (λ Ψ. Ψ) (Typed.g-post 𝓤 H A W 𝓣 E G33 G40 G41 b19 (λ Ψ. Typed.both s30 (Typed.pass T34 T35 s31 (Typed.both s33 (Typed.both s36 Ψ)))) (λ Ψ. Ψ) (Typed.g-post 𝓤 H A W 𝓣 E G33 G39 G40 b19 (λ Ψ. Typed.both s30 (Typed.pass T34 T35 s31 (Typed.both s33 Ψ))) (Typed.both s36) (Typed.g-post 𝓤 H A W 𝓣 E G33 G38 G39 b19 (λ Ψ. Typed.both s30 (Typed.pass T34 T35 s31 (Typed.both s33 Ψ))) (λ Ψ. Ψ) (Typed.g-post 𝓤 H A W 𝓣 E G33 G37 G38 b19 (λ Ψ. Typed.both s30 (Typed.pass T34 T35 s31 (Typed.both s33 Ψ))) (λ Ψ. Ψ) (Typed.g-post 𝓤 H A W 𝓣 E G33 G36 G37 b19 (λ Ψ. Typed.both s30 (Typed.pass T34 T35 s31 Ψ)) (Typed.both s33) (Typed.g-post 𝓤 H A W 𝓣 E G33 G35 G36 b19 (λ Ψ. Typed.both s30 (Typed.pass T34 T35 s31 Ψ)) (λ Ψ. Ψ) (Typed.g-post 𝓤 H A W 𝓣 E G33 G34 G35 b19 (Typed.both s30) (Typed.pass T34 T35 s31) (Plain.t-call-plain 𝓤 H A W 𝓣 4 ps·0 r·0 (claims· .0) (claims· .1) "lent_session::take_row" (known .0) E (λ pos β. β) G33 (record { pos = 15; ty = Syntax.tyRef Syntax.erased Syntax.mut OfOutput.named; ref = λ x. x }, (record { pos = 17; ty = Syntax.tyRef Syntax.erased Syntax.mut OfStation.named; ref = λ x. x }, (record { pos = 18; ty = Syntax.tyRef Syntax.erased Syntax.mut OfPanelRecord.named; ref = λ x. x }, (record { pos = 20; ty = Syntax.tyRef Syntax.erased Syntax.mut (Syntax.tyInt Syntax.w8); ref = λ x. x }, (record { pos = 7; st = List.[]; d = 0; at = λ x. x }, tt))))) 7 (List._∷_ 5 (List._∷_ 6 (List._∷_ 7 (List._∷_ 8 List.[])))) (Call.sub-id 𝓤 H A W (G33 .slots)) (Reads.as-is 𝓤 H A (Mut.mslice (OfOutput.row) (Syntax.tyRef Syntax.erased Syntax.mut OfOutput.named) 5), Mut.reads-mslice 𝓤 H A W (OfOutput.row) (Syntax.tyRef Syntax.erased Syntax.mut OfOutput.named) 5, Path'.refl, (Reads.as-is 𝓤 H A (Mut.mslice (OfStation.row) (Syntax.tyRef Syntax.erased Syntax.mut OfStation.named) 6), Mut.reads-mslice 𝓤 H A W (OfStation.row) (Syntax.tyRef Syntax.erased Syntax.mut OfStation.named) 6, Path'.refl, (Reads.as-is 𝓤 H A (Rows.mref (OfPanelRecord.row) (Syntax.tyRef Syntax.erased Syntax.mut OfPanelRecord.named) 7), Reads.reads-mref 𝓤 H A W (OfPanelRecord.row) (Syntax.tyRef Syntax.erased Syntax.mut OfPanelRecord.named) 7, Path'.refl, (Reads.as-is 𝓤 H A (Mut.mslice (Referent.rtF (Referent.fInt Syntax.w8)) (Syntax.tyRef Syntax.erased Syntax.mut (Syntax.tyInt Syntax.w8)) 8), Mut.reads-mslice 𝓤 H A W (Referent.rtF (Referent.fInt Syntax.w8)) (Syntax.tyRef Syntax.erased Syntax.mut (Syntax.tyInt Syntax.w8)) 8, Path'.refl, ((Yields.yields-copy 𝓤 H A W (λ ρ. Unit) (Declared.row Turn.the-type) Path'.refl (Copies.cStruct Turn.the-type Laws.the-laws Laws.the-copy .copy 𝓤 H A W) (Rows.whole (Declared.row Turn.the-type)) (λ x. x) (λ x. x) (λ ρ told. Local.mem-whole 𝓤 H A W (Declared.row Turn.the-type) ρ) λ ρ told. Local.whole-mem 𝓤 H A W (Declared.row Turn.the-type) ρ, Path'.refl), tt))))) (Local.room-whole 𝓤 H A W (Declared.row Turn.the-type) (Laws.mir) Path'.refl) (tt, (tt, (tt, (tt, tt)))) Path'.refl) (Scalar.g-room 𝓤 H A W E G34 9 (Syntax.tyInt Syntax.w8) (Scalar.room-sc 𝓤 H A W (Row.sInt Syntax.w8)))) (Lifetime.g-end 𝓤 H A W E G35 5 Path'.refl)) (Relend.g-back-sl 𝓤 H A W E (OfOutput.row) G36 15 1 0 5 (Syntax.tyRef (Syntax.named 0) Syntax.mut OfOutput.named) (Syntax.tyRef Syntax.erased Syntax.mut OfOutput.named) (Row.lease (κs .0) (qs .0)) (λ x. x) (λ x. x) (Reads.as-is 𝓤 H A (Mut.msleft (OfOutput.row) (Syntax.tyRef Syntax.erased Syntax.mut OfOutput.named))) (Reads.as-is 𝓤 H A (Relend.mslice-owed (OfOutput.row) (Syntax.tyRef (Syntax.named 0) Syntax.mut OfOutput.named) 0 5 (Row.lease (κs .0) (qs .0)))) Path'.refl Path'.refl)) (Lifetime.g-forget 𝓤 H A W E G37 5 Row.dead Path'.refl)) (Lifetime.g-end 𝓤 H A W E G38 6 Path'.refl)) (Relend.g-back-sl 𝓤 H A W E (OfStation.row) G39 17 2 1 6 (Syntax.tyRef (Syntax.named 1) Syntax.mut OfStation.named) (Syntax.tyRef Syntax.erased Syntax.mut OfStation.named) (Row.lease (κs .1 .0) (qs .1 .0)) (λ x. x) (λ x. x) (Reads.as-is 𝓤 H A (Mut.msleft (OfStation.row) (Syntax.tyRef Syntax.erased Syntax.mut OfStation.named))) (Reads.as-is 𝓤 H A (Relend.mslice-owed (OfStation.row) (Syntax.tyRef (Syntax.named 1) Syntax.mut OfStation.named) 1 6 (Row.lease (κs .1 .0) (qs .1 .0)))) Path'.refl Path'.refl)) (Lifetime.g-forget 𝓤 H A W E G40 6 Row.dead Path'.refl)) (Lifetime.g-end 𝓤 H A W E G41 7 Path'.refl)) (Reborrow.g-back-mref 𝓤 H A W E G42 18 3 2 7 (OfPanelRecord.row) (Syntax.tyRef (Syntax.named 2) Syntax.mut OfPanelRecord.named) (Syntax.tyRef Syntax.erased Syntax.mut OfPanelRecord.named) (Row.lease (κs .1 .1 .0) (qs .1 .1 .0)) (λ x. x) (λ x. x) (Reads.as-is 𝓤 H A (Rows.mleft (OfPanelRecord.row) (Syntax.tyRef Syntax.erased Syntax.mut OfPanelRecord.named))) (Reads.as-is 𝓤 H A (Rows.mref-owed (OfPanelRecord.row) (Syntax.tyRef (Syntax.named 2) Syntax.mut OfPanelRecord.named) 2 7 (Row.lease (κs .1 .1 .0) (qs .1 .1 .0)))) Path'.refl Path'.refl)) (Lifetime.g-forget 𝓤 H A W E G43 7 Row.dead Path'.refl)) (Lifetime.g-end 𝓤 H A W E G44 8 Path'.refl)) (Relend.g-back-sl 𝓤 H A W E (Referent.rtF (Referent.fInt Syntax.w8)) G45 20 4 3 8 (Syntax.tyRef (Syntax.named 3) Syntax.mut (Syntax.tyInt Syntax.w8)) (Syntax.tyRef Syntax.erased Syntax.mut (Syntax.tyInt Syntax.w8)) (Row.lease (κs .1 .1 .1 .0) (qs .1 .1 .1 .0)) (λ x. x) (λ x. x) (Reads.as-is 𝓤 H A (Mut.msleft (Referent.rtF (Referent.fInt Syntax.w8)) (Syntax.tyRef Syntax.erased Syntax.mut (Syntax.tyInt Syntax.w8)))) (Reads.as-is 𝓤 H A (Relend.mslice-owed (Referent.rtF (Referent.fInt Syntax.w8)) (Syntax.tyRef (Syntax.named 3) Syntax.mut (Syntax.tyInt Syntax.w8)) 3 8 (Row.lease (κs .1 .1 .1 .0) (qs .1 .1 .1 .0)))) Path'.refl Path'.refl)) (Know.g-sl-known 𝓤 H A W (Referent.fInt Syntax.w8) E G46 4 3 (Syntax.tyRef (Syntax.named 3) Syntax.mut (Syntax.tyInt Syntax.w8)) (Row.lease (κs .1 .1 .1 .0) (qs .1 .1 .1 .0)) 0 (λ x. x) record { fits = Dec'.lit< tt } (Reads.as-is 𝓤 H A (Mut.mslice (Referent.rtF (Referent.fInt Syntax.w8)) (Syntax.tyRef (Syntax.named 3) Syntax.mut (Syntax.tyInt Syntax.w8)) 3)) Path'.refl tt)) (Lifetime.g-forget 𝓤 H A W E G47 8 Row.dead Path'.refl))
 
           d7 : Typed.Typed 𝓤 H A 𝓣 E G32 b20 Δ3 at7
           d7 = Typed.s-seq 𝓤 H A W 𝓣 E G32 G33 b18 b19 Δ3 (Typed.ask s29) at6 (Relend.t-sl-aggregate 𝓤 H A W E (Referent.rtF (Referent.fInt Syntax.w8)) 𝓣 (Relend.asMut (Referent.rtF (Referent.fInt Syntax.w8))) G32 19 20 8 (Syntax.tyRef Syntax.erased Syntax.mut (Syntax.tyInt Syntax.w8)) (Syntax.tyRef Syntax.erased Syntax.mut (Syntax.tyInt Syntax.w8)) (λ x. x) (Scalar.oFld 4 (List._∷_ (Syntax.field 1) List.[]) (Syntax.tyInt Syntax.w64) 8 λ v. Shared.lenV (v .0)) (Reads.as-is 𝓤 H A (Relend.msptr (Referent.rtF (Referent.fInt Syntax.w8)) (Syntax.tyRef Syntax.erased Syntax.mut (Syntax.tyInt Syntax.w8)) 8)) (Reads.room-gone 𝓤 H A (Syntax.tyStruct (List._∷_ 38 (List._∷_ 91 (List._∷_ 93 List.[]))) (Syntax.tcons (Syntax.tyRef Syntax.erased Syntax.mut (Syntax.tyInt Syntax.w8)) (Syntax.tcons (Syntax.tyInt Syntax.w64) Syntax.tnil)))) (Relend.reads-owed-len 𝓤 H A W (Referent.rtF (Referent.fInt Syntax.w8)) (Syntax.tyRef (Syntax.named 3) Syntax.mut (Syntax.tyInt Syntax.w8)) 3 8 (Row.lease (κs .1 .1 .1 .0) (qs .1 .1 .1 .0)) 8 Path'.refl, Path'.refl) Path'.refl Path'.refl λ b o k. tt) d6
@@ -1001,7 +1002,7 @@ module _ (claims· : Claims) where
           d9 = Typed.g-pre 𝓤 H A W 𝓣 E G30 G31 b21 Δ3 (λ Ψ. Ψ) at8 (Lifetime.g-begin 𝓤 H A W E G30 8 (tt, ((tt, tt), ((tt, tt), ((tt, tt), (tt, (tt, (tt, (tt, (tt, (tt, (tt, (tt, (tt, (tt, (tt, (tt, (tt, (tt, (tt, (tt, (tt, tt)))))))))))))))))))))) d8
 
           d10 : Typed.Typed 𝓤 H A 𝓣 E G29 b22 Δ3 at10
-          d10 = Typed.s-seq 𝓤 H A W 𝓣 E G29 G30 b16 b21 Δ3 (Typed.give s26) at9 (Reborrow.t-mref-relend 𝓤 H A W E 𝓣 G29 3 18 2 7 (Referent.rtF (Referent.fInt Syntax.w64)) (Syntax.tyInt Syntax.w64) (Syntax.tyRef (Syntax.named 2) Syntax.mut (Syntax.tyInt Syntax.w64)) (Syntax.tyRef Syntax.erased Syntax.mut (Syntax.tyInt Syntax.w64)) (Row.lease (κs .1 .1 .0) (qs .1 .1 .0)) (λ x. x) (Reads.as-is 𝓤 H A (Rows.mref (Referent.rtF (Referent.fInt Syntax.w64)) (Syntax.tyRef (Syntax.named 2) Syntax.mut (Syntax.tyInt Syntax.w64)) 2)) (Reads.room-gone 𝓤 H A (Syntax.tyRef Syntax.erased Syntax.mut (Syntax.tyInt Syntax.w64))) Path'.refl tt Path'.refl Path'.refl λ b o. tt) d9
+          d10 = Typed.s-seq 𝓤 H A W 𝓣 E G29 G30 b16 b21 Δ3 (Typed.give s26) at9 (Reborrow.t-mref-relend 𝓤 H A W E 𝓣 G29 3 18 2 7 (OfPanelRecord.row) OfPanelRecord.spelt (Syntax.tyRef (Syntax.named 2) Syntax.mut OfPanelRecord.named) (Syntax.tyRef Syntax.erased Syntax.mut OfPanelRecord.named) (Row.lease (κs .1 .1 .0) (qs .1 .1 .0)) (λ x. x) (Reads.as-is 𝓤 H A (Rows.mref (OfPanelRecord.row) (Syntax.tyRef (Syntax.named 2) Syntax.mut OfPanelRecord.named) 2)) (Reads.room-gone 𝓤 H A (Syntax.tyRef Syntax.erased Syntax.mut OfPanelRecord.named)) Path'.refl tt Path'.refl Path'.refl λ b o. tt) d9
 
           d11 : Typed.Typed 𝓤 H A 𝓣 E G28 b22 Δ3 at11
           d11 = Typed.g-pre 𝓤 H A W 𝓣 E G28 G29 b22 Δ3 (λ Ψ. Ψ) at10 (Lifetime.g-begin 𝓤 H A W E G28 7 (tt, ((tt, tt), ((tt, tt), (tt, (tt, (tt, (tt, (tt, (tt, (tt, (tt, (tt, (tt, (tt, (tt, (tt, (tt, (tt, (tt, (tt, (tt, tt)))))))))))))))))))))) d10
@@ -1126,7 +1127,9 @@ module _ (claims· : Claims) where
           pub stations : Kinds.Den {n = 5}
               κs
               (MutSlice.pMutS (OfStation.row) 1 tt)
-          pub time : Kinds.Den {n = 5} κs (Kinds.pMutF (Referent.fInt Syntax.w64) 2 tt)
+          pub kept : Kinds.Den {n = 5}
+              κs
+              (Kinds.pMut (OfPanelRecord.row) 2 tt)
           pub page : Kinds.Den {n = 5}
               κs
               (MutSlice.pMutS (Referent.rtF (Referent.fInt Syntax.w8)) 3 tt)
@@ -1151,7 +1154,7 @@ module _ (claims· : Claims) where
               (ShrSlice.pShrS (Referent.rtF (Referent.fInt Syntax.w8)) 4 tt)
 
         abbrev pub dens : (a : Args) → Kinds.Dens κs ps
-        dens = λ a. (a .outputs, (a .stations, (a .time, (a .page, (a .from, (a .s, tt))))))
+        dens = λ a. (a .outputs, (a .stations, (a .kept, (a .page, (a .from, (a .s, tt))))))
 
       abbrev pub m0 : (κs : Lifetimes.Lfts 5) → (args : Args κs) → Typed.Mo T0
       m0 = λ κs args. (tt, Enter.partsP κs 1 ps xs (dens κs args))
@@ -1229,79 +1232,79 @@ module _ (claims· : Claims) where
           (outputs : List.List (OfOutput.row .Denot)) →
           (stations : List.List
           (OfStation.row .Denot)) →
-          (time : Referent.rtF (Referent.fInt Syntax.w64) .Denot) →
+          (kept : OfPanelRecord.row .Denot) →
           (page : List.List (Referent.rtF (Referent.fInt Syntax.w8) .Denot)) →
           (t : Rows.whole (Declared.row Turn.the-type) .Mod) →
           (i : Rows.sc-here (Row.sInt Syntax.w64) .Mod) →
           Typed.Mo T6
-      m6 = λ before outputs stations time page t i. Row.set 8 (8, Rows.sc-here (Row.sInt Syntax.w64)) i (Row.setRow 7 (7, Rows.whole (Declared.row Turn.the-type)) (Row.setRow 4 (4, Mut.mslice (Referent.rtF (Referent.fInt Syntax.w8)) (Syntax.tyRef (Syntax.named 3) Syntax.mut (Syntax.tyInt Syntax.w8)) 3) (Row.setRow 3 (3, Rows.mref (Referent.rtF (Referent.fInt Syntax.w64)) (Syntax.tyRef (Syntax.named 2) Syntax.mut (Syntax.tyInt Syntax.w64)) 2) (Row.setRow 2 (2, Mut.mslice (OfStation.row) (Syntax.tyRef (Syntax.named 1) Syntax.mut OfStation.named) 1) (Row.setRow 1 (1, Mut.mslice (OfOutput.row) (Syntax.tyRef (Syntax.named 0) Syntax.mut OfOutput.named) 0) (T6 .locals)))))) (Row.set 7 (7, Rows.whole (Declared.row Turn.the-type)) t (Row.setRow 4 (4, Mut.mslice (Referent.rtF (Referent.fInt Syntax.w8)) (Syntax.tyRef (Syntax.named 3) Syntax.mut (Syntax.tyInt Syntax.w8)) 3) (Row.setRow 3 (3, Rows.mref (Referent.rtF (Referent.fInt Syntax.w64)) (Syntax.tyRef (Syntax.named 2) Syntax.mut (Syntax.tyInt Syntax.w64)) 2) (Row.setRow 2 (2, Mut.mslice (OfStation.row) (Syntax.tyRef (Syntax.named 1) Syntax.mut OfStation.named) 1) (Row.setRow 1 (1, Mut.mslice (OfOutput.row) (Syntax.tyRef (Syntax.named 0) Syntax.mut OfOutput.named) 0) (T6 .locals))))) (Row.set 4 (4, Mut.mslice (Referent.rtF (Referent.fInt Syntax.w8)) (Syntax.tyRef (Syntax.named 3) Syntax.mut (Syntax.tyInt Syntax.w8)) 3) record { ptr = Row.get 4 (T6 .locals) (m5 (before .before) (before .shared-slice-known .given)) .ptr; name = Row.get 4 (T6 .locals) (m5 (before .before) (before .shared-slice-known .given)) .name; now = page } (Row.setRow 3 (3, Rows.mref (Referent.rtF (Referent.fInt Syntax.w64)) (Syntax.tyRef (Syntax.named 2) Syntax.mut (Syntax.tyInt Syntax.w64)) 2) (Row.setRow 2 (2, Mut.mslice (OfStation.row) (Syntax.tyRef (Syntax.named 1) Syntax.mut OfStation.named) 1) (Row.setRow 1 (1, Mut.mslice (OfOutput.row) (Syntax.tyRef (Syntax.named 0) Syntax.mut OfOutput.named) 0) (T6 .locals)))) (Row.set 3 (3, Rows.mref (Referent.rtF (Referent.fInt Syntax.w64)) (Syntax.tyRef (Syntax.named 2) Syntax.mut (Syntax.tyInt Syntax.w64)) 2) record { ptr = Row.get 3 (T6 .locals) (m5 (before .before) (before .shared-slice-known .given)) .ptr; name = Row.get 3 (T6 .locals) (m5 (before .before) (before .shared-slice-known .given)) .name; now = time } (Row.setRow 2 (2, Mut.mslice (OfStation.row) (Syntax.tyRef (Syntax.named 1) Syntax.mut OfStation.named) 1) (Row.setRow 1 (1, Mut.mslice (OfOutput.row) (Syntax.tyRef (Syntax.named 0) Syntax.mut OfOutput.named) 0) (T6 .locals))) (Row.set 2 (2, Mut.mslice (OfStation.row) (Syntax.tyRef (Syntax.named 1) Syntax.mut OfStation.named) 1) record { ptr = Row.get 2 (T6 .locals) (m5 (before .before) (before .shared-slice-known .given)) .ptr; name = Row.get 2 (T6 .locals) (m5 (before .before) (before .shared-slice-known .given)) .name; now = stations } (Row.setRow 1 (1, Mut.mslice (OfOutput.row) (Syntax.tyRef (Syntax.named 0) Syntax.mut OfOutput.named) 0) (T6 .locals)) (Row.set 1 (1, Mut.mslice (OfOutput.row) (Syntax.tyRef (Syntax.named 0) Syntax.mut OfOutput.named) 0) record { ptr = Row.get 1 (T6 .locals) (m5 (before .before) (before .shared-slice-known .given)) .ptr; name = Row.get 1 (T6 .locals) (m5 (before .before) (before .shared-slice-known .given)) .name; now = outputs } (T6 .locals) (m5 (before .before) (before .shared-slice-known .given)))))))
+      m6 = λ before outputs stations kept page t i. Row.set 8 (8, Rows.sc-here (Row.sInt Syntax.w64)) i (Row.setRow 7 (7, Rows.whole (Declared.row Turn.the-type)) (Row.setRow 4 (4, Mut.mslice (Referent.rtF (Referent.fInt Syntax.w8)) (Syntax.tyRef (Syntax.named 3) Syntax.mut (Syntax.tyInt Syntax.w8)) 3) (Row.setRow 3 (3, Rows.mref (OfPanelRecord.row) (Syntax.tyRef (Syntax.named 2) Syntax.mut OfPanelRecord.named) 2) (Row.setRow 2 (2, Mut.mslice (OfStation.row) (Syntax.tyRef (Syntax.named 1) Syntax.mut OfStation.named) 1) (Row.setRow 1 (1, Mut.mslice (OfOutput.row) (Syntax.tyRef (Syntax.named 0) Syntax.mut OfOutput.named) 0) (T6 .locals)))))) (Row.set 7 (7, Rows.whole (Declared.row Turn.the-type)) t (Row.setRow 4 (4, Mut.mslice (Referent.rtF (Referent.fInt Syntax.w8)) (Syntax.tyRef (Syntax.named 3) Syntax.mut (Syntax.tyInt Syntax.w8)) 3) (Row.setRow 3 (3, Rows.mref (OfPanelRecord.row) (Syntax.tyRef (Syntax.named 2) Syntax.mut OfPanelRecord.named) 2) (Row.setRow 2 (2, Mut.mslice (OfStation.row) (Syntax.tyRef (Syntax.named 1) Syntax.mut OfStation.named) 1) (Row.setRow 1 (1, Mut.mslice (OfOutput.row) (Syntax.tyRef (Syntax.named 0) Syntax.mut OfOutput.named) 0) (T6 .locals))))) (Row.set 4 (4, Mut.mslice (Referent.rtF (Referent.fInt Syntax.w8)) (Syntax.tyRef (Syntax.named 3) Syntax.mut (Syntax.tyInt Syntax.w8)) 3) record { ptr = Row.get 4 (T6 .locals) (m5 (before .before) (before .shared-slice-known .given)) .ptr; name = Row.get 4 (T6 .locals) (m5 (before .before) (before .shared-slice-known .given)) .name; now = page } (Row.setRow 3 (3, Rows.mref (OfPanelRecord.row) (Syntax.tyRef (Syntax.named 2) Syntax.mut OfPanelRecord.named) 2) (Row.setRow 2 (2, Mut.mslice (OfStation.row) (Syntax.tyRef (Syntax.named 1) Syntax.mut OfStation.named) 1) (Row.setRow 1 (1, Mut.mslice (OfOutput.row) (Syntax.tyRef (Syntax.named 0) Syntax.mut OfOutput.named) 0) (T6 .locals)))) (Row.set 3 (3, Rows.mref (OfPanelRecord.row) (Syntax.tyRef (Syntax.named 2) Syntax.mut OfPanelRecord.named) 2) record { ptr = Row.get 3 (T6 .locals) (m5 (before .before) (before .shared-slice-known .given)) .ptr; name = Row.get 3 (T6 .locals) (m5 (before .before) (before .shared-slice-known .given)) .name; now = kept } (Row.setRow 2 (2, Mut.mslice (OfStation.row) (Syntax.tyRef (Syntax.named 1) Syntax.mut OfStation.named) 1) (Row.setRow 1 (1, Mut.mslice (OfOutput.row) (Syntax.tyRef (Syntax.named 0) Syntax.mut OfOutput.named) 0) (T6 .locals))) (Row.set 2 (2, Mut.mslice (OfStation.row) (Syntax.tyRef (Syntax.named 1) Syntax.mut OfStation.named) 1) record { ptr = Row.get 2 (T6 .locals) (m5 (before .before) (before .shared-slice-known .given)) .ptr; name = Row.get 2 (T6 .locals) (m5 (before .before) (before .shared-slice-known .given)) .name; now = stations } (Row.setRow 1 (1, Mut.mslice (OfOutput.row) (Syntax.tyRef (Syntax.named 0) Syntax.mut OfOutput.named) 0) (T6 .locals)) (Row.set 1 (1, Mut.mslice (OfOutput.row) (Syntax.tyRef (Syntax.named 0) Syntax.mut OfOutput.named) 0) record { ptr = Row.get 1 (T6 .locals) (m5 (before .before) (before .shared-slice-known .given)) .ptr; name = Row.get 1 (T6 .locals) (m5 (before .before) (before .shared-slice-known .given)) .name; now = outputs } (T6 .locals) (m5 (before .before) (before .shared-slice-known .given)))))))
 
       abbrev W3 :
           (before : After-shared-slice-known) →
           (outputs : List.List (OfOutput.row .Denot)) →
           (stations : List.List
           (OfStation.row .Denot)) →
-          (time : Referent.rtF (Referent.fInt Syntax.w64) .Denot) →
+          (kept : OfPanelRecord.row .Denot) →
           (page : List.List (Referent.rtF (Referent.fInt Syntax.w8) .Denot)) →
           (t : Rows.whole (Declared.row Turn.the-type) .Mod) →
           (i : Rows.sc-here (Row.sInt Syntax.w64) .Mod) →
           Typed.Want O3
-      W3 = λ before outputs stations time page t i. Typed.inLoop T6 O2 (Typed.Round T6 O2 put0 (λ u vs. Inv·0 (Row.get 1 (T6 .locals) u .now) (Row.get 2 (T6 .locals) u .now) (Row.get 3 (T6 .locals) u .now) (Row.get 4 (T6 .locals) u .now) (Row.get 6 (T6 .locals) u .now) (Row.get 7 (T6 .locals) u) (Row.get 8 (T6 .locals) u) (vs .0) (vs .1) (vs .2) (vs .3) (vs .4) (vs .5)) (λ u vs. μ·0 (Row.get 1 (T6 .locals) u .now) (Row.get 2 (T6 .locals) u .now) (Row.get 3 (T6 .locals) u .now) (Row.get 4 (T6 .locals) u .now) (Row.get 6 (T6 .locals) u .now) (Row.get 7 (T6 .locals) u) (Row.get 8 (T6 .locals) u) (vs .0) (vs .1) (vs .2) (vs .3) (vs .4) (vs .5)) at32 (m5 (before .before) (before .shared-slice-known .given)) (outputs, stations, time, page, t, i)) (W2 (before .before) (before .shared-slice-known .given))
+      W3 = λ before outputs stations kept page t i. Typed.inLoop T6 O2 (Typed.Round T6 O2 put0 (λ u vs. Inv·0 (Row.get 1 (T6 .locals) u .now) (Row.get 2 (T6 .locals) u .now) (Row.get 3 (T6 .locals) u .now) (Row.get 4 (T6 .locals) u .now) (Row.get 6 (T6 .locals) u .now) (Row.get 7 (T6 .locals) u) (Row.get 8 (T6 .locals) u) (vs .0) (vs .1) (vs .2) (vs .3) (vs .4) (vs .5)) (λ u vs. μ·0 (Row.get 1 (T6 .locals) u .now) (Row.get 2 (T6 .locals) u .now) (Row.get 3 (T6 .locals) u .now) (Row.get 4 (T6 .locals) u .now) (Row.get 6 (T6 .locals) u .now) (Row.get 7 (T6 .locals) u) (Row.get 8 (T6 .locals) u) (vs .0) (vs .1) (vs .2) (vs .3) (vs .4) (vs .5)) at32 (m5 (before .before) (before .shared-slice-known .given)) (outputs, stations, kept, page, t, i)) (W2 (before .before) (before .shared-slice-known .given))
 
       abbrev pub m7 :
           (before : After-shared-slice-known) →
           (outputs : List.List (OfOutput.row .Denot)) →
           (stations : List.List
           (OfStation.row .Denot)) →
-          (time : Referent.rtF (Referent.fInt Syntax.w64) .Denot) →
+          (kept : OfPanelRecord.row .Denot) →
           (page : List.List (Referent.rtF (Referent.fInt Syntax.w8) .Denot)) →
           (t : Rows.whole (Declared.row Turn.the-type) .Mod) →
           (i : Rows.sc-here (Row.sInt Syntax.w64) .Mod) →
           Typed.Mo T8
-      m7 = λ before outputs stations time page t i. s5 (m6 before outputs stations time page t i)
+      m7 = λ before outputs stations kept page t i. s5 (m6 before outputs stations kept page t i)
 
       abbrev pub m8 :
           (before : After-shared-slice-known) →
           (outputs : List.List (OfOutput.row .Denot)) →
           (stations : List.List
           (OfStation.row .Denot)) →
-          (time : Referent.rtF (Referent.fInt Syntax.w64) .Denot) →
+          (kept : OfPanelRecord.row .Denot) →
           (page : List.List (Referent.rtF (Referent.fInt Syntax.w8) .Denot)) →
           (t : Rows.whole (Declared.row Turn.the-type) .Mod) →
           (i : Rows.sc-here (Row.sInt Syntax.w64) .Mod) →
           Typed.Mo T9
-      m8 = λ before outputs stations time page t i. s6 .next (m7 before outputs stations time page t i)
+      m8 = λ before outputs stations kept page t i. s6 .next (m7 before outputs stations kept page t i)
 
       abbrev W4 :
           (before : After-shared-slice-known) →
           (outputs : List.List (OfOutput.row .Denot)) →
           (stations : List.List
           (OfStation.row .Denot)) →
-          (time : Referent.rtF (Referent.fInt Syntax.w64) .Denot) →
+          (kept : OfPanelRecord.row .Denot) →
           (page : List.List (Referent.rtF (Referent.fInt Syntax.w8) .Denot)) →
           (t : Rows.whole (Declared.row Turn.the-type) .Mod) →
           (i : Rows.sc-here (Row.sInt Syntax.w64) .Mod) →
           Typed.Want O4
-      W4 = λ before outputs stations time page t i. Typed.wantNext T10 O3 (at29 (W3 before outputs stations time page t i)) (W3 before outputs stations time page t i)
+      W4 = λ before outputs stations kept page t i. Typed.wantNext T10 O3 (at29 (W3 before outputs stations kept page t i)) (W3 before outputs stations kept page t i)
 
       abbrev pub m9 :
           (before : After-shared-slice-known) →
           (outputs : List.List (OfOutput.row .Denot)) →
           (stations : List.List
           (OfStation.row .Denot)) →
-          (time : Referent.rtF (Referent.fInt Syntax.w64) .Denot) →
+          (kept : OfPanelRecord.row .Denot) →
           (page : List.List (Referent.rtF (Referent.fInt Syntax.w8) .Denot)) →
           (t : Rows.whole (Declared.row Turn.the-type) .Mod) →
           (i : Rows.sc-here (Row.sInt Syntax.w64) .Mod) →
           Typed.Mo T11
-      m9 = λ before outputs stations time page t i. s7 (m8 before outputs stations time page t i)
+      m9 = λ before outputs stations kept page t i. s7 (m8 before outputs stations kept page t i)
 
       module _ (before· : After-shared-slice-known) where
         pub record At-loop·own : Type 0 where
           pub outputs : List.List (OfOutput.row .Denot)
           pub stations : List.List
               (OfStation.row .Denot)
-          pub time : Referent.rtF (Referent.fInt Syntax.w64) .Denot
+          pub kept : OfPanelRecord.row .Denot
           pub page : List.List (Referent.rtF (Referent.fInt Syntax.w8) .Denot)
           pub t : Rows.whole (Declared.row Turn.the-type) .Mod
           pub i : Rows.sc-here (Row.sInt Syntax.w64) .Mod
@@ -1330,7 +1333,7 @@ module _ (claims· : Claims) where
               (Row.get 8 (T6 .locals) (m5 (before· .before) (before· .shared-slice-known .given)))
               outputs
               stations
-              time
+              kept
               page
               t
               i
@@ -1349,7 +1352,7 @@ module _ (claims· : Claims) where
               (before· .before)
               (before· .loop .outputs)
               (before· .loop .stations)
-              (before· .loop .time)
+              (before· .loop .kept)
               (before· .loop .page)
               (before· .loop .t)
               (before· .loop .i)))
@@ -1360,7 +1363,7 @@ module _ (claims· : Claims) where
               (before· .before)
               (before· .loop .outputs)
               (before· .loop .stations)
-              (before· .loop .time)
+              (before· .loop .kept)
               (before· .loop .page)
               (before· .loop .t)
               (before· .loop .i)))
@@ -1370,7 +1373,7 @@ module _ (claims· : Claims) where
         pub loop-test : In-loop·own before
 
       abbrev pub m10 : (before : At-loop) → Typed.Mo T12
-      m10 = λ before. s8 (m9 (before .before) (before .loop .outputs) (before .loop .stations) (before .loop .time) (before .loop .page) (before .loop .t) (before .loop .i))
+      m10 = λ before. s8 (m9 (before .before) (before .loop .outputs) (before .loop .stations) (before .loop .kept) (before .loop .page) (before .loop .t) (before .loop .i))
 
       module _ (before· : At-loop) where
         pub record After-loop·own : Type 0 where
@@ -1382,7 +1385,7 @@ module _ (claims· : Claims) where
               (before· .before)
               (before· .loop .outputs)
               (before· .loop .stations)
-              (before· .loop .time)
+              (before· .loop .kept)
               (before· .loop .page)
               (before· .loop .t)
               (before· .loop .i)))
@@ -1393,7 +1396,7 @@ module _ (claims· : Claims) where
               (before· .before)
               (before· .loop .outputs)
               (before· .loop .stations)
-              (before· .loop .time)
+              (before· .loop .kept)
               (before· .loop .page)
               (before· .loop .t)
               (before· .loop .i)))
@@ -1403,7 +1406,7 @@ module _ (claims· : Claims) where
         pub loop-test : After-loop·own before
 
       abbrev pub m11 : (before : At-loop) → Typed.Mo T13
-      m11 = λ before. s9 (m9 (before .before) (before .loop .outputs) (before .loop .stations) (before .loop .time) (before .loop .page) (before .loop .t) (before .loop .i))
+      m11 = λ before. s9 (m9 (before .before) (before .loop .outputs) (before .loop .stations) (before .loop .kept) (before .loop .page) (before .loop .t) (before .loop .i))
 
       abbrev pub m12 : (before : At-loop) → Typed.Mo T14
       m12 = λ before. s10 .next (m10 before)
@@ -1553,7 +1556,7 @@ module _ (claims· : Claims) where
 
       module _ (before· : After-take-row-arg4) where
         abbrev pub After-take-row·own : Type 0
-        After-take-row·own = Called.Called ps·0 r·0 (claims· .1) T33 (record { pos = 15; ty = Syntax.tyRef Syntax.erased Syntax.mut OfOutput.named; ref = λ x. x }, (record { pos = 17; ty = Syntax.tyRef Syntax.erased Syntax.mut OfStation.named; ref = λ x. x }, (record { pos = 18; ty = Syntax.tyRef Syntax.erased Syntax.mut (Syntax.tyInt Syntax.w64); ref = λ x. x }, (record { pos = 20; ty = Syntax.tyRef Syntax.erased Syntax.mut (Syntax.tyInt Syntax.w8); ref = λ x. x }, (record { pos = 7; st = List.[]; d = 0; at = λ x. x }, tt))))) (m27 (before· .before) (before· .take-row-arg4 .given))
+        After-take-row·own = Called.Called ps·0 r·0 (claims· .1) T33 (record { pos = 15; ty = Syntax.tyRef Syntax.erased Syntax.mut OfOutput.named; ref = λ x. x }, (record { pos = 17; ty = Syntax.tyRef Syntax.erased Syntax.mut OfStation.named; ref = λ x. x }, (record { pos = 18; ty = Syntax.tyRef Syntax.erased Syntax.mut OfPanelRecord.named; ref = λ x. x }, (record { pos = 20; ty = Syntax.tyRef Syntax.erased Syntax.mut (Syntax.tyInt Syntax.w8); ref = λ x. x }, (record { pos = 7; st = List.[]; d = 0; at = λ x. x }, tt))))) (m27 (before· .before) (before· .take-row-arg4 .given))
 
       pub record After-take-row : Type 0 where
         pub before : After-take-row-arg4
@@ -1562,7 +1565,7 @@ module _ (claims· : Claims) where
       abbrev pub After-take-row·gave :
           (c : After-take-row) →
           s30 .gives (m27 (c .before .before) (c .before .take-row-arg4 .given))
-      After-take-row·gave = λ c. Called.given ps·0 r·0 (claims· .1) T33 (record { pos = 15; ty = Syntax.tyRef Syntax.erased Syntax.mut OfOutput.named; ref = λ x. x }, (record { pos = 17; ty = Syntax.tyRef Syntax.erased Syntax.mut OfStation.named; ref = λ x. x }, (record { pos = 18; ty = Syntax.tyRef Syntax.erased Syntax.mut (Syntax.tyInt Syntax.w64); ref = λ x. x }, (record { pos = 20; ty = Syntax.tyRef Syntax.erased Syntax.mut (Syntax.tyInt Syntax.w8); ref = λ x. x }, (record { pos = 7; st = List.[]; d = 0; at = λ x. x }, tt))))) (m27 (c .before .before) (c .before .take-row-arg4 .given)) (c .take-row)
+      After-take-row·gave = λ c. Called.given ps·0 r·0 (claims· .1) T33 (record { pos = 15; ty = Syntax.tyRef Syntax.erased Syntax.mut OfOutput.named; ref = λ x. x }, (record { pos = 17; ty = Syntax.tyRef Syntax.erased Syntax.mut OfStation.named; ref = λ x. x }, (record { pos = 18; ty = Syntax.tyRef Syntax.erased Syntax.mut OfPanelRecord.named; ref = λ x. x }, (record { pos = 20; ty = Syntax.tyRef Syntax.erased Syntax.mut (Syntax.tyInt Syntax.w8); ref = λ x. x }, (record { pos = 7; st = List.[]; d = 0; at = λ x. x }, tt))))) (m27 (c .before .before) (c .before .take-row-arg4 .given)) (c .take-row)
 
       abbrev pub m30 :
           (before : After-take-row) →
@@ -1627,7 +1630,7 @@ module _ (claims· : Claims) where
         pub slice-known2 : After-slice-known2·own before
 
       abbrev pub Need-loop-less : Type 0
-      Need-loop-less = (c : After-slice-known2) → Nat._<_ (μ·0 (Row.get 1 (T6 .locals) (m5 (c .before .before .before .before .before .before .before .before .before .before .before .before .before .before) (c .before .before .before .before .before .before .before .before .before .before .before .before .before .shared-slice-known .given)) .now) (Row.get 2 (T6 .locals) (m5 (c .before .before .before .before .before .before .before .before .before .before .before .before .before .before) (c .before .before .before .before .before .before .before .before .before .before .before .before .before .shared-slice-known .given)) .now) (Row.get 3 (T6 .locals) (m5 (c .before .before .before .before .before .before .before .before .before .before .before .before .before .before) (c .before .before .before .before .before .before .before .before .before .before .before .before .before .shared-slice-known .given)) .now) (Row.get 4 (T6 .locals) (m5 (c .before .before .before .before .before .before .before .before .before .before .before .before .before .before) (c .before .before .before .before .before .before .before .before .before .before .before .before .before .shared-slice-known .given)) .now) (Row.get 6 (T6 .locals) (m5 (c .before .before .before .before .before .before .before .before .before .before .before .before .before .before) (c .before .before .before .before .before .before .before .before .before .before .before .before .before .shared-slice-known .given)) .now) (Row.get 7 (T6 .locals) (m5 (c .before .before .before .before .before .before .before .before .before .before .before .before .before .before) (c .before .before .before .before .before .before .before .before .before .before .before .before .before .shared-slice-known .given))) (Row.get 8 (T6 .locals) (m5 (c .before .before .before .before .before .before .before .before .before .before .before .before .before .before) (c .before .before .before .before .before .before .before .before .before .before .before .before .before .shared-slice-known .given))) (Row.get 1 (T6 .locals) (m34 (c .before) (c .slice-known2 .given)) .now) (Row.get 2 (T6 .locals) (m34 (c .before) (c .slice-known2 .given)) .now) (Row.get 3 (T6 .locals) (m34 (c .before) (c .slice-known2 .given)) .now) (Row.get 4 (T6 .locals) (m34 (c .before) (c .slice-known2 .given)) .now) (Row.get 7 (T6 .locals) (m34 (c .before) (c .slice-known2 .given))) (Row.get 8 (T6 .locals) (m34 (c .before) (c .slice-known2 .given)))) (μ·0 (Row.get 1 (T6 .locals) (m5 (c .before .before .before .before .before .before .before .before .before .before .before .before .before .before) (c .before .before .before .before .before .before .before .before .before .before .before .before .before .shared-slice-known .given)) .now) (Row.get 2 (T6 .locals) (m5 (c .before .before .before .before .before .before .before .before .before .before .before .before .before .before) (c .before .before .before .before .before .before .before .before .before .before .before .before .before .shared-slice-known .given)) .now) (Row.get 3 (T6 .locals) (m5 (c .before .before .before .before .before .before .before .before .before .before .before .before .before .before) (c .before .before .before .before .before .before .before .before .before .before .before .before .before .shared-slice-known .given)) .now) (Row.get 4 (T6 .locals) (m5 (c .before .before .before .before .before .before .before .before .before .before .before .before .before .before) (c .before .before .before .before .before .before .before .before .before .before .before .before .before .shared-slice-known .given)) .now) (Row.get 6 (T6 .locals) (m5 (c .before .before .before .before .before .before .before .before .before .before .before .before .before .before) (c .before .before .before .before .before .before .before .before .before .before .before .before .before .shared-slice-known .given)) .now) (Row.get 7 (T6 .locals) (m5 (c .before .before .before .before .before .before .before .before .before .before .before .before .before .before) (c .before .before .before .before .before .before .before .before .before .before .before .before .before .shared-slice-known .given))) (Row.get 8 (T6 .locals) (m5 (c .before .before .before .before .before .before .before .before .before .before .before .before .before .before) (c .before .before .before .before .before .before .before .before .before .before .before .before .before .shared-slice-known .given))) (c .before .before .before .before .before .before .before .before .before .before .before .before .loop .outputs) (c .before .before .before .before .before .before .before .before .before .before .before .before .loop .stations) (c .before .before .before .before .before .before .before .before .before .before .before .before .loop .time) (c .before .before .before .before .before .before .before .before .before .before .before .before .loop .page) (c .before .before .before .before .before .before .before .before .before .before .before .before .loop .t) (c .before .before .before .before .before .before .before .before .before .before .before .before .loop .i))
+      Need-loop-less = (c : After-slice-known2) → Nat._<_ (μ·0 (Row.get 1 (T6 .locals) (m5 (c .before .before .before .before .before .before .before .before .before .before .before .before .before .before) (c .before .before .before .before .before .before .before .before .before .before .before .before .before .shared-slice-known .given)) .now) (Row.get 2 (T6 .locals) (m5 (c .before .before .before .before .before .before .before .before .before .before .before .before .before .before) (c .before .before .before .before .before .before .before .before .before .before .before .before .before .shared-slice-known .given)) .now) (Row.get 3 (T6 .locals) (m5 (c .before .before .before .before .before .before .before .before .before .before .before .before .before .before) (c .before .before .before .before .before .before .before .before .before .before .before .before .before .shared-slice-known .given)) .now) (Row.get 4 (T6 .locals) (m5 (c .before .before .before .before .before .before .before .before .before .before .before .before .before .before) (c .before .before .before .before .before .before .before .before .before .before .before .before .before .shared-slice-known .given)) .now) (Row.get 6 (T6 .locals) (m5 (c .before .before .before .before .before .before .before .before .before .before .before .before .before .before) (c .before .before .before .before .before .before .before .before .before .before .before .before .before .shared-slice-known .given)) .now) (Row.get 7 (T6 .locals) (m5 (c .before .before .before .before .before .before .before .before .before .before .before .before .before .before) (c .before .before .before .before .before .before .before .before .before .before .before .before .before .shared-slice-known .given))) (Row.get 8 (T6 .locals) (m5 (c .before .before .before .before .before .before .before .before .before .before .before .before .before .before) (c .before .before .before .before .before .before .before .before .before .before .before .before .before .shared-slice-known .given))) (Row.get 1 (T6 .locals) (m34 (c .before) (c .slice-known2 .given)) .now) (Row.get 2 (T6 .locals) (m34 (c .before) (c .slice-known2 .given)) .now) (Row.get 3 (T6 .locals) (m34 (c .before) (c .slice-known2 .given)) .now) (Row.get 4 (T6 .locals) (m34 (c .before) (c .slice-known2 .given)) .now) (Row.get 7 (T6 .locals) (m34 (c .before) (c .slice-known2 .given))) (Row.get 8 (T6 .locals) (m34 (c .before) (c .slice-known2 .given)))) (μ·0 (Row.get 1 (T6 .locals) (m5 (c .before .before .before .before .before .before .before .before .before .before .before .before .before .before) (c .before .before .before .before .before .before .before .before .before .before .before .before .before .shared-slice-known .given)) .now) (Row.get 2 (T6 .locals) (m5 (c .before .before .before .before .before .before .before .before .before .before .before .before .before .before) (c .before .before .before .before .before .before .before .before .before .before .before .before .before .shared-slice-known .given)) .now) (Row.get 3 (T6 .locals) (m5 (c .before .before .before .before .before .before .before .before .before .before .before .before .before .before) (c .before .before .before .before .before .before .before .before .before .before .before .before .before .shared-slice-known .given)) .now) (Row.get 4 (T6 .locals) (m5 (c .before .before .before .before .before .before .before .before .before .before .before .before .before .before) (c .before .before .before .before .before .before .before .before .before .before .before .before .before .shared-slice-known .given)) .now) (Row.get 6 (T6 .locals) (m5 (c .before .before .before .before .before .before .before .before .before .before .before .before .before .before) (c .before .before .before .before .before .before .before .before .before .before .before .before .before .shared-slice-known .given)) .now) (Row.get 7 (T6 .locals) (m5 (c .before .before .before .before .before .before .before .before .before .before .before .before .before .before) (c .before .before .before .before .before .before .before .before .before .before .before .before .before .shared-slice-known .given))) (Row.get 8 (T6 .locals) (m5 (c .before .before .before .before .before .before .before .before .before .before .before .before .before .before) (c .before .before .before .before .before .before .before .before .before .before .before .before .before .shared-slice-known .given))) (c .before .before .before .before .before .before .before .before .before .before .before .before .loop .outputs) (c .before .before .before .before .before .before .before .before .before .before .before .before .loop .stations) (c .before .before .before .before .before .before .before .before .before .before .before .before .loop .kept) (c .before .before .before .before .before .before .before .before .before .before .before .before .loop .page) (c .before .before .before .before .before .before .before .before .before .before .before .before .loop .t) (c .before .before .before .before .before .before .before .before .before .before .before .before .loop .i))
 
       abbrev pub Need-loop-again : Type 0
       Need-loop-again = (c : After-slice-known2) → Inv·0 (Row.get 1 (T6 .locals) (m5 (c .before .before .before .before .before .before .before .before .before .before .before .before .before .before) (c .before .before .before .before .before .before .before .before .before .before .before .before .before .shared-slice-known .given)) .now) (Row.get 2 (T6 .locals) (m5 (c .before .before .before .before .before .before .before .before .before .before .before .before .before .before) (c .before .before .before .before .before .before .before .before .before .before .before .before .before .shared-slice-known .given)) .now) (Row.get 3 (T6 .locals) (m5 (c .before .before .before .before .before .before .before .before .before .before .before .before .before .before) (c .before .before .before .before .before .before .before .before .before .before .before .before .before .shared-slice-known .given)) .now) (Row.get 4 (T6 .locals) (m5 (c .before .before .before .before .before .before .before .before .before .before .before .before .before .before) (c .before .before .before .before .before .before .before .before .before .before .before .before .before .shared-slice-known .given)) .now) (Row.get 6 (T6 .locals) (m5 (c .before .before .before .before .before .before .before .before .before .before .before .before .before .before) (c .before .before .before .before .before .before .before .before .before .before .before .before .before .shared-slice-known .given)) .now) (Row.get 7 (T6 .locals) (m5 (c .before .before .before .before .before .before .before .before .before .before .before .before .before .before) (c .before .before .before .before .before .before .before .before .before .before .before .before .before .shared-slice-known .given))) (Row.get 8 (T6 .locals) (m5 (c .before .before .before .before .before .before .before .before .before .before .before .before .before .before) (c .before .before .before .before .before .before .before .before .before .before .before .before .before .shared-slice-known .given))) (Row.get 1 (T6 .locals) (m34 (c .before) (c .slice-known2 .given)) .now) (Row.get 2 (T6 .locals) (m34 (c .before) (c .slice-known2 .given)) .now) (Row.get 3 (T6 .locals) (m34 (c .before) (c .slice-known2 .given)) .now) (Row.get 4 (T6 .locals) (m34 (c .before) (c .slice-known2 .given)) .now) (Row.get 7 (T6 .locals) (m34 (c .before) (c .slice-known2 .given))) (Row.get 8 (T6 .locals) (m34 (c .before) (c .slice-known2 .given)))
@@ -1673,7 +1676,7 @@ module _ (claims· : Claims) where
       After-with-character·gave = λ c. Called.given ps·1 r·1 (claims· .3) T49 (record { pos = 7; st = List.[]; d = 0; at = λ x. x }, (Num.vAt 9 λ x. x, tt)) (m35 (c .before .before)) (c .with-character)
 
       abbrev pub Need-loop-less-2 : Type 0
-      Need-loop-less-2 = (c : After-with-character) → Nat._<_ (μ·0 (Row.get 1 (T6 .locals) (m5 (c .before .before .before .before .before .before) (c .before .before .before .before .before .shared-slice-known .given)) .now) (Row.get 2 (T6 .locals) (m5 (c .before .before .before .before .before .before) (c .before .before .before .before .before .shared-slice-known .given)) .now) (Row.get 3 (T6 .locals) (m5 (c .before .before .before .before .before .before) (c .before .before .before .before .before .shared-slice-known .given)) .now) (Row.get 4 (T6 .locals) (m5 (c .before .before .before .before .before .before) (c .before .before .before .before .before .shared-slice-known .given)) .now) (Row.get 6 (T6 .locals) (m5 (c .before .before .before .before .before .before) (c .before .before .before .before .before .shared-slice-known .given)) .now) (Row.get 7 (T6 .locals) (m5 (c .before .before .before .before .before .before) (c .before .before .before .before .before .shared-slice-known .given))) (Row.get 8 (T6 .locals) (m5 (c .before .before .before .before .before .before) (c .before .before .before .before .before .shared-slice-known .given))) (Row.get 1 (T6 .locals) (m37 (c .before) (After-with-character·gave c)) .now) (Row.get 2 (T6 .locals) (m37 (c .before) (After-with-character·gave c)) .now) (Row.get 3 (T6 .locals) (m37 (c .before) (After-with-character·gave c)) .now) (Row.get 4 (T6 .locals) (m37 (c .before) (After-with-character·gave c)) .now) (Row.get 7 (T6 .locals) (m37 (c .before) (After-with-character·gave c))) (Row.get 8 (T6 .locals) (m37 (c .before) (After-with-character·gave c)))) (μ·0 (Row.get 1 (T6 .locals) (m5 (c .before .before .before .before .before .before) (c .before .before .before .before .before .shared-slice-known .given)) .now) (Row.get 2 (T6 .locals) (m5 (c .before .before .before .before .before .before) (c .before .before .before .before .before .shared-slice-known .given)) .now) (Row.get 3 (T6 .locals) (m5 (c .before .before .before .before .before .before) (c .before .before .before .before .before .shared-slice-known .given)) .now) (Row.get 4 (T6 .locals) (m5 (c .before .before .before .before .before .before) (c .before .before .before .before .before .shared-slice-known .given)) .now) (Row.get 6 (T6 .locals) (m5 (c .before .before .before .before .before .before) (c .before .before .before .before .before .shared-slice-known .given)) .now) (Row.get 7 (T6 .locals) (m5 (c .before .before .before .before .before .before) (c .before .before .before .before .before .shared-slice-known .given))) (Row.get 8 (T6 .locals) (m5 (c .before .before .before .before .before .before) (c .before .before .before .before .before .shared-slice-known .given))) (c .before .before .before .before .loop .outputs) (c .before .before .before .before .loop .stations) (c .before .before .before .before .loop .time) (c .before .before .before .before .loop .page) (c .before .before .before .before .loop .t) (c .before .before .before .before .loop .i))
+      Need-loop-less-2 = (c : After-with-character) → Nat._<_ (μ·0 (Row.get 1 (T6 .locals) (m5 (c .before .before .before .before .before .before) (c .before .before .before .before .before .shared-slice-known .given)) .now) (Row.get 2 (T6 .locals) (m5 (c .before .before .before .before .before .before) (c .before .before .before .before .before .shared-slice-known .given)) .now) (Row.get 3 (T6 .locals) (m5 (c .before .before .before .before .before .before) (c .before .before .before .before .before .shared-slice-known .given)) .now) (Row.get 4 (T6 .locals) (m5 (c .before .before .before .before .before .before) (c .before .before .before .before .before .shared-slice-known .given)) .now) (Row.get 6 (T6 .locals) (m5 (c .before .before .before .before .before .before) (c .before .before .before .before .before .shared-slice-known .given)) .now) (Row.get 7 (T6 .locals) (m5 (c .before .before .before .before .before .before) (c .before .before .before .before .before .shared-slice-known .given))) (Row.get 8 (T6 .locals) (m5 (c .before .before .before .before .before .before) (c .before .before .before .before .before .shared-slice-known .given))) (Row.get 1 (T6 .locals) (m37 (c .before) (After-with-character·gave c)) .now) (Row.get 2 (T6 .locals) (m37 (c .before) (After-with-character·gave c)) .now) (Row.get 3 (T6 .locals) (m37 (c .before) (After-with-character·gave c)) .now) (Row.get 4 (T6 .locals) (m37 (c .before) (After-with-character·gave c)) .now) (Row.get 7 (T6 .locals) (m37 (c .before) (After-with-character·gave c))) (Row.get 8 (T6 .locals) (m37 (c .before) (After-with-character·gave c)))) (μ·0 (Row.get 1 (T6 .locals) (m5 (c .before .before .before .before .before .before) (c .before .before .before .before .before .shared-slice-known .given)) .now) (Row.get 2 (T6 .locals) (m5 (c .before .before .before .before .before .before) (c .before .before .before .before .before .shared-slice-known .given)) .now) (Row.get 3 (T6 .locals) (m5 (c .before .before .before .before .before .before) (c .before .before .before .before .before .shared-slice-known .given)) .now) (Row.get 4 (T6 .locals) (m5 (c .before .before .before .before .before .before) (c .before .before .before .before .before .shared-slice-known .given)) .now) (Row.get 6 (T6 .locals) (m5 (c .before .before .before .before .before .before) (c .before .before .before .before .before .shared-slice-known .given)) .now) (Row.get 7 (T6 .locals) (m5 (c .before .before .before .before .before .before) (c .before .before .before .before .before .shared-slice-known .given))) (Row.get 8 (T6 .locals) (m5 (c .before .before .before .before .before .before) (c .before .before .before .before .before .shared-slice-known .given))) (c .before .before .before .before .loop .outputs) (c .before .before .before .before .loop .stations) (c .before .before .before .before .loop .kept) (c .before .before .before .before .loop .page) (c .before .before .before .before .loop .t) (c .before .before .before .before .loop .i))
 
       abbrev pub Need-loop-again-2 : Type 0
       Need-loop-again-2 = (c : After-with-character) → Inv·0 (Row.get 1 (T6 .locals) (m5 (c .before .before .before .before .before .before) (c .before .before .before .before .before .shared-slice-known .given)) .now) (Row.get 2 (T6 .locals) (m5 (c .before .before .before .before .before .before) (c .before .before .before .before .before .shared-slice-known .given)) .now) (Row.get 3 (T6 .locals) (m5 (c .before .before .before .before .before .before) (c .before .before .before .before .before .shared-slice-known .given)) .now) (Row.get 4 (T6 .locals) (m5 (c .before .before .before .before .before .before) (c .before .before .before .before .before .shared-slice-known .given)) .now) (Row.get 6 (T6 .locals) (m5 (c .before .before .before .before .before .before) (c .before .before .before .before .before .shared-slice-known .given)) .now) (Row.get 7 (T6 .locals) (m5 (c .before .before .before .before .before .before) (c .before .before .before .before .before .shared-slice-known .given))) (Row.get 8 (T6 .locals) (m5 (c .before .before .before .before .before .before) (c .before .before .before .before .before .shared-slice-known .given))) (Row.get 1 (T6 .locals) (m37 (c .before) (After-with-character·gave c)) .now) (Row.get 2 (T6 .locals) (m37 (c .before) (After-with-character·gave c)) .now) (Row.get 3 (T6 .locals) (m37 (c .before) (After-with-character·gave c)) .now) (Row.get 4 (T6 .locals) (m37 (c .before) (After-with-character·gave c)) .now) (Row.get 7 (T6 .locals) (m37 (c .before) (After-with-character·gave c))) (Row.get 8 (T6 .locals) (m37 (c .before) (After-with-character·gave c)))
@@ -1720,7 +1723,7 @@ module _ (claims· : Claims) where
             (c .before .before .before .before)
             (c .before .before .before .loop .outputs)
             (c .before .before .before .loop .stations)
-            (c .before .before .before .loop .time)
+            (c .before .before .before .loop .kept)
             (c .before .before .before .loop .page)
             (c .before .before .before .loop .t)
             (c .before .before .before .loop .i))
@@ -1734,12 +1737,12 @@ module _ (claims· : Claims) where
             (c .before .before .before .before)
             (c .before .before .before .loop .outputs)
             (c .before .before .before .loop .stations)
-            (c .before .before .before .loop .time)
+            (c .before .before .before .loop .kept)
             (c .before .before .before .loop .page)
             (c .before .before .before .loop .t)
             (c .before .before .before .loop .i))
             (m19 (c .before .before) (c .before .shared-slice-known2 .given))
-        lay4 = λ c. λ g. (Path'.refl, λ g'. (Path'.refl, λ g''. λ g'3. (Path'.refl, (take-row-requires record { before = record { before = record { before = record { before = record { before = c .before; if1 = c .if1 }; take-row-arg = record { given = g } }; take-row-arg2 = record { given = g' } }; take-row-arg3 = record { given = g'' } }; take-row-arg4 = record { given = g'3 } }, λ g'4. (Path'.refl, λ g'5. (Path'.refl, λ g'6. (Path'.refl, (Path'.refl, λ g'7. λ g'8. (μ·0 (Row.get 1 (T6 .locals) (m5 (c .before .before .before .before .before) (c .before .before .before .before .shared-slice-known .given)) .now) (Row.get 2 (T6 .locals) (m5 (c .before .before .before .before .before) (c .before .before .before .before .shared-slice-known .given)) .now) (Row.get 3 (T6 .locals) (m5 (c .before .before .before .before .before) (c .before .before .before .before .shared-slice-known .given)) .now) (Row.get 4 (T6 .locals) (m5 (c .before .before .before .before .before) (c .before .before .before .before .shared-slice-known .given)) .now) (Row.get 6 (T6 .locals) (m5 (c .before .before .before .before .before) (c .before .before .before .before .shared-slice-known .given)) .now) (Row.get 7 (T6 .locals) (m5 (c .before .before .before .before .before) (c .before .before .before .before .shared-slice-known .given))) (Row.get 8 (T6 .locals) (m5 (c .before .before .before .before .before) (c .before .before .before .before .shared-slice-known .given))) (Row.get 1 (T6 .locals) (m34 record { before = record { before = record { before = record { before = record { before = record { before = record { before = record { before = record { before = c .before; if1 = c .if1 }; take-row-arg = record { given = g } }; take-row-arg2 = record { given = g' } }; take-row-arg3 = record { given = g'' } }; take-row-arg4 = record { given = g'3 } }; take-row = Called.called ps·0 r·0 (claims· .1) T33 (record { pos = 15; ty = Syntax.tyRef Syntax.erased Syntax.mut OfOutput.named; ref = λ x. x }, (record { pos = 17; ty = Syntax.tyRef Syntax.erased Syntax.mut OfStation.named; ref = λ x. x }, (record { pos = 18; ty = Syntax.tyRef Syntax.erased Syntax.mut (Syntax.tyInt Syntax.w64); ref = λ x. x }, (record { pos = 20; ty = Syntax.tyRef Syntax.erased Syntax.mut (Syntax.tyInt Syntax.w8); ref = λ x. x }, (record { pos = 7; st = List.[]; d = 0; at = λ x. x }, tt))))) (m27 record { before = record { before = record { before = record { before = c .before; if1 = c .if1 }; take-row-arg = record { given = g } }; take-row-arg2 = record { given = g' } }; take-row-arg3 = record { given = g'' } } g'3) g'4 }; outputs = record { given = g'5 } }; stations = record { given = g'6 } }; page = record { given = g'7 } } g'8) .now) (Row.get 2 (T6 .locals) (m34 record { before = record { before = record { before = record { before = record { before = record { before = record { before = record { before = record { before = c .before; if1 = c .if1 }; take-row-arg = record { given = g } }; take-row-arg2 = record { given = g' } }; take-row-arg3 = record { given = g'' } }; take-row-arg4 = record { given = g'3 } }; take-row = Called.called ps·0 r·0 (claims· .1) T33 (record { pos = 15; ty = Syntax.tyRef Syntax.erased Syntax.mut OfOutput.named; ref = λ x. x }, (record { pos = 17; ty = Syntax.tyRef Syntax.erased Syntax.mut OfStation.named; ref = λ x. x }, (record { pos = 18; ty = Syntax.tyRef Syntax.erased Syntax.mut (Syntax.tyInt Syntax.w64); ref = λ x. x }, (record { pos = 20; ty = Syntax.tyRef Syntax.erased Syntax.mut (Syntax.tyInt Syntax.w8); ref = λ x. x }, (record { pos = 7; st = List.[]; d = 0; at = λ x. x }, tt))))) (m27 record { before = record { before = record { before = record { before = c .before; if1 = c .if1 }; take-row-arg = record { given = g } }; take-row-arg2 = record { given = g' } }; take-row-arg3 = record { given = g'' } } g'3) g'4 }; outputs = record { given = g'5 } }; stations = record { given = g'6 } }; page = record { given = g'7 } } g'8) .now) (Row.get 3 (T6 .locals) (m34 record { before = record { before = record { before = record { before = record { before = record { before = record { before = record { before = record { before = c .before; if1 = c .if1 }; take-row-arg = record { given = g } }; take-row-arg2 = record { given = g' } }; take-row-arg3 = record { given = g'' } }; take-row-arg4 = record { given = g'3 } }; take-row = Called.called ps·0 r·0 (claims· .1) T33 (record { pos = 15; ty = Syntax.tyRef Syntax.erased Syntax.mut OfOutput.named; ref = λ x. x }, (record { pos = 17; ty = Syntax.tyRef Syntax.erased Syntax.mut OfStation.named; ref = λ x. x }, (record { pos = 18; ty = Syntax.tyRef Syntax.erased Syntax.mut (Syntax.tyInt Syntax.w64); ref = λ x. x }, (record { pos = 20; ty = Syntax.tyRef Syntax.erased Syntax.mut (Syntax.tyInt Syntax.w8); ref = λ x. x }, (record { pos = 7; st = List.[]; d = 0; at = λ x. x }, tt))))) (m27 record { before = record { before = record { before = record { before = c .before; if1 = c .if1 }; take-row-arg = record { given = g } }; take-row-arg2 = record { given = g' } }; take-row-arg3 = record { given = g'' } } g'3) g'4 }; outputs = record { given = g'5 } }; stations = record { given = g'6 } }; page = record { given = g'7 } } g'8) .now) (Row.get 4 (T6 .locals) (m34 record { before = record { before = record { before = record { before = record { before = record { before = record { before = record { before = record { before = c .before; if1 = c .if1 }; take-row-arg = record { given = g } }; take-row-arg2 = record { given = g' } }; take-row-arg3 = record { given = g'' } }; take-row-arg4 = record { given = g'3 } }; take-row = Called.called ps·0 r·0 (claims· .1) T33 (record { pos = 15; ty = Syntax.tyRef Syntax.erased Syntax.mut OfOutput.named; ref = λ x. x }, (record { pos = 17; ty = Syntax.tyRef Syntax.erased Syntax.mut OfStation.named; ref = λ x. x }, (record { pos = 18; ty = Syntax.tyRef Syntax.erased Syntax.mut (Syntax.tyInt Syntax.w64); ref = λ x. x }, (record { pos = 20; ty = Syntax.tyRef Syntax.erased Syntax.mut (Syntax.tyInt Syntax.w8); ref = λ x. x }, (record { pos = 7; st = List.[]; d = 0; at = λ x. x }, tt))))) (m27 record { before = record { before = record { before = record { before = c .before; if1 = c .if1 }; take-row-arg = record { given = g } }; take-row-arg2 = record { given = g' } }; take-row-arg3 = record { given = g'' } } g'3) g'4 }; outputs = record { given = g'5 } }; stations = record { given = g'6 } }; page = record { given = g'7 } } g'8) .now) (Row.get 7 (T6 .locals) (m34 record { before = record { before = record { before = record { before = record { before = record { before = record { before = record { before = record { before = c .before; if1 = c .if1 }; take-row-arg = record { given = g } }; take-row-arg2 = record { given = g' } }; take-row-arg3 = record { given = g'' } }; take-row-arg4 = record { given = g'3 } }; take-row = Called.called ps·0 r·0 (claims· .1) T33 (record { pos = 15; ty = Syntax.tyRef Syntax.erased Syntax.mut OfOutput.named; ref = λ x. x }, (record { pos = 17; ty = Syntax.tyRef Syntax.erased Syntax.mut OfStation.named; ref = λ x. x }, (record { pos = 18; ty = Syntax.tyRef Syntax.erased Syntax.mut (Syntax.tyInt Syntax.w64); ref = λ x. x }, (record { pos = 20; ty = Syntax.tyRef Syntax.erased Syntax.mut (Syntax.tyInt Syntax.w8); ref = λ x. x }, (record { pos = 7; st = List.[]; d = 0; at = λ x. x }, tt))))) (m27 record { before = record { before = record { before = record { before = c .before; if1 = c .if1 }; take-row-arg = record { given = g } }; take-row-arg2 = record { given = g' } }; take-row-arg3 = record { given = g'' } } g'3) g'4 }; outputs = record { given = g'5 } }; stations = record { given = g'6 } }; page = record { given = g'7 } } g'8)) (Row.get 8 (T6 .locals) (m34 record { before = record { before = record { before = record { before = record { before = record { before = record { before = record { before = record { before = c .before; if1 = c .if1 }; take-row-arg = record { given = g } }; take-row-arg2 = record { given = g' } }; take-row-arg3 = record { given = g'' } }; take-row-arg4 = record { given = g'3 } }; take-row = Called.called ps·0 r·0 (claims· .1) T33 (record { pos = 15; ty = Syntax.tyRef Syntax.erased Syntax.mut OfOutput.named; ref = λ x. x }, (record { pos = 17; ty = Syntax.tyRef Syntax.erased Syntax.mut OfStation.named; ref = λ x. x }, (record { pos = 18; ty = Syntax.tyRef Syntax.erased Syntax.mut (Syntax.tyInt Syntax.w64); ref = λ x. x }, (record { pos = 20; ty = Syntax.tyRef Syntax.erased Syntax.mut (Syntax.tyInt Syntax.w8); ref = λ x. x }, (record { pos = 7; st = List.[]; d = 0; at = λ x. x }, tt))))) (m27 record { before = record { before = record { before = record { before = c .before; if1 = c .if1 }; take-row-arg = record { given = g } }; take-row-arg2 = record { given = g' } }; take-row-arg3 = record { given = g'' } } g'3) g'4 }; outputs = record { given = g'5 } }; stations = record { given = g'6 } }; page = record { given = g'7 } } g'8)), loop-less record { before = record { before = record { before = record { before = record { before = record { before = record { before = record { before = record { before = record { before = c .before; if1 = c .if1 }; take-row-arg = record { given = g } }; take-row-arg2 = record { given = g' } }; take-row-arg3 = record { given = g'' } }; take-row-arg4 = record { given = g'3 } }; take-row = Called.called ps·0 r·0 (claims· .1) T33 (record { pos = 15; ty = Syntax.tyRef Syntax.erased Syntax.mut OfOutput.named; ref = λ x. x }, (record { pos = 17; ty = Syntax.tyRef Syntax.erased Syntax.mut OfStation.named; ref = λ x. x }, (record { pos = 18; ty = Syntax.tyRef Syntax.erased Syntax.mut (Syntax.tyInt Syntax.w64); ref = λ x. x }, (record { pos = 20; ty = Syntax.tyRef Syntax.erased Syntax.mut (Syntax.tyInt Syntax.w8); ref = λ x. x }, (record { pos = 7; st = List.[]; d = 0; at = λ x. x }, tt))))) (m27 record { before = record { before = record { before = record { before = c .before; if1 = c .if1 }; take-row-arg = record { given = g } }; take-row-arg2 = record { given = g' } }; take-row-arg3 = record { given = g'' } } g'3) g'4 }; outputs = record { given = g'5 } }; stations = record { given = g'6 } }; page = record { given = g'7 } }; slice-known2 = record { given = g'8 } }, ((Row.get 1 (T6 .locals) (m34 record { before = record { before = record { before = record { before = record { before = record { before = record { before = record { before = record { before = c .before; if1 = c .if1 }; take-row-arg = record { given = g } }; take-row-arg2 = record { given = g' } }; take-row-arg3 = record { given = g'' } }; take-row-arg4 = record { given = g'3 } }; take-row = Called.called ps·0 r·0 (claims· .1) T33 (record { pos = 15; ty = Syntax.tyRef Syntax.erased Syntax.mut OfOutput.named; ref = λ x. x }, (record { pos = 17; ty = Syntax.tyRef Syntax.erased Syntax.mut OfStation.named; ref = λ x. x }, (record { pos = 18; ty = Syntax.tyRef Syntax.erased Syntax.mut (Syntax.tyInt Syntax.w64); ref = λ x. x }, (record { pos = 20; ty = Syntax.tyRef Syntax.erased Syntax.mut (Syntax.tyInt Syntax.w8); ref = λ x. x }, (record { pos = 7; st = List.[]; d = 0; at = λ x. x }, tt))))) (m27 record { before = record { before = record { before = record { before = c .before; if1 = c .if1 }; take-row-arg = record { given = g } }; take-row-arg2 = record { given = g' } }; take-row-arg3 = record { given = g'' } } g'3) g'4 }; outputs = record { given = g'5 } }; stations = record { given = g'6 } }; page = record { given = g'7 } } g'8) .now, Row.get 2 (T6 .locals) (m34 record { before = record { before = record { before = record { before = record { before = record { before = record { before = record { before = record { before = c .before; if1 = c .if1 }; take-row-arg = record { given = g } }; take-row-arg2 = record { given = g' } }; take-row-arg3 = record { given = g'' } }; take-row-arg4 = record { given = g'3 } }; take-row = Called.called ps·0 r·0 (claims· .1) T33 (record { pos = 15; ty = Syntax.tyRef Syntax.erased Syntax.mut OfOutput.named; ref = λ x. x }, (record { pos = 17; ty = Syntax.tyRef Syntax.erased Syntax.mut OfStation.named; ref = λ x. x }, (record { pos = 18; ty = Syntax.tyRef Syntax.erased Syntax.mut (Syntax.tyInt Syntax.w64); ref = λ x. x }, (record { pos = 20; ty = Syntax.tyRef Syntax.erased Syntax.mut (Syntax.tyInt Syntax.w8); ref = λ x. x }, (record { pos = 7; st = List.[]; d = 0; at = λ x. x }, tt))))) (m27 record { before = record { before = record { before = record { before = c .before; if1 = c .if1 }; take-row-arg = record { given = g } }; take-row-arg2 = record { given = g' } }; take-row-arg3 = record { given = g'' } } g'3) g'4 }; outputs = record { given = g'5 } }; stations = record { given = g'6 } }; page = record { given = g'7 } } g'8) .now, Row.get 3 (T6 .locals) (m34 record { before = record { before = record { before = record { before = record { before = record { before = record { before = record { before = record { before = c .before; if1 = c .if1 }; take-row-arg = record { given = g } }; take-row-arg2 = record { given = g' } }; take-row-arg3 = record { given = g'' } }; take-row-arg4 = record { given = g'3 } }; take-row = Called.called ps·0 r·0 (claims· .1) T33 (record { pos = 15; ty = Syntax.tyRef Syntax.erased Syntax.mut OfOutput.named; ref = λ x. x }, (record { pos = 17; ty = Syntax.tyRef Syntax.erased Syntax.mut OfStation.named; ref = λ x. x }, (record { pos = 18; ty = Syntax.tyRef Syntax.erased Syntax.mut (Syntax.tyInt Syntax.w64); ref = λ x. x }, (record { pos = 20; ty = Syntax.tyRef Syntax.erased Syntax.mut (Syntax.tyInt Syntax.w8); ref = λ x. x }, (record { pos = 7; st = List.[]; d = 0; at = λ x. x }, tt))))) (m27 record { before = record { before = record { before = record { before = c .before; if1 = c .if1 }; take-row-arg = record { given = g } }; take-row-arg2 = record { given = g' } }; take-row-arg3 = record { given = g'' } } g'3) g'4 }; outputs = record { given = g'5 } }; stations = record { given = g'6 } }; page = record { given = g'7 } } g'8) .now, Row.get 4 (T6 .locals) (m34 record { before = record { before = record { before = record { before = record { before = record { before = record { before = record { before = record { before = c .before; if1 = c .if1 }; take-row-arg = record { given = g } }; take-row-arg2 = record { given = g' } }; take-row-arg3 = record { given = g'' } }; take-row-arg4 = record { given = g'3 } }; take-row = Called.called ps·0 r·0 (claims· .1) T33 (record { pos = 15; ty = Syntax.tyRef Syntax.erased Syntax.mut OfOutput.named; ref = λ x. x }, (record { pos = 17; ty = Syntax.tyRef Syntax.erased Syntax.mut OfStation.named; ref = λ x. x }, (record { pos = 18; ty = Syntax.tyRef Syntax.erased Syntax.mut (Syntax.tyInt Syntax.w64); ref = λ x. x }, (record { pos = 20; ty = Syntax.tyRef Syntax.erased Syntax.mut (Syntax.tyInt Syntax.w8); ref = λ x. x }, (record { pos = 7; st = List.[]; d = 0; at = λ x. x }, tt))))) (m27 record { before = record { before = record { before = record { before = c .before; if1 = c .if1 }; take-row-arg = record { given = g } }; take-row-arg2 = record { given = g' } }; take-row-arg3 = record { given = g'' } } g'3) g'4 }; outputs = record { given = g'5 } }; stations = record { given = g'6 } }; page = record { given = g'7 } } g'8) .now, Row.get 7 (T6 .locals) (m34 record { before = record { before = record { before = record { before = record { before = record { before = record { before = record { before = record { before = c .before; if1 = c .if1 }; take-row-arg = record { given = g } }; take-row-arg2 = record { given = g' } }; take-row-arg3 = record { given = g'' } }; take-row-arg4 = record { given = g'3 } }; take-row = Called.called ps·0 r·0 (claims· .1) T33 (record { pos = 15; ty = Syntax.tyRef Syntax.erased Syntax.mut OfOutput.named; ref = λ x. x }, (record { pos = 17; ty = Syntax.tyRef Syntax.erased Syntax.mut OfStation.named; ref = λ x. x }, (record { pos = 18; ty = Syntax.tyRef Syntax.erased Syntax.mut (Syntax.tyInt Syntax.w64); ref = λ x. x }, (record { pos = 20; ty = Syntax.tyRef Syntax.erased Syntax.mut (Syntax.tyInt Syntax.w8); ref = λ x. x }, (record { pos = 7; st = List.[]; d = 0; at = λ x. x }, tt))))) (m27 record { before = record { before = record { before = record { before = c .before; if1 = c .if1 }; take-row-arg = record { given = g } }; take-row-arg2 = record { given = g' } }; take-row-arg3 = record { given = g'' } } g'3) g'4 }; outputs = record { given = g'5 } }; stations = record { given = g'6 } }; page = record { given = g'7 } } g'8), Row.get 8 (T6 .locals) (m34 record { before = record { before = record { before = record { before = record { before = record { before = record { before = record { before = record { before = c .before; if1 = c .if1 }; take-row-arg = record { given = g } }; take-row-arg2 = record { given = g' } }; take-row-arg3 = record { given = g'' } }; take-row-arg4 = record { given = g'3 } }; take-row = Called.called ps·0 r·0 (claims· .1) T33 (record { pos = 15; ty = Syntax.tyRef Syntax.erased Syntax.mut OfOutput.named; ref = λ x. x }, (record { pos = 17; ty = Syntax.tyRef Syntax.erased Syntax.mut OfStation.named; ref = λ x. x }, (record { pos = 18; ty = Syntax.tyRef Syntax.erased Syntax.mut (Syntax.tyInt Syntax.w64); ref = λ x. x }, (record { pos = 20; ty = Syntax.tyRef Syntax.erased Syntax.mut (Syntax.tyInt Syntax.w8); ref = λ x. x }, (record { pos = 7; st = List.[]; d = 0; at = λ x. x }, tt))))) (m27 record { before = record { before = record { before = record { before = c .before; if1 = c .if1 }; take-row-arg = record { given = g } }; take-row-arg2 = record { given = g' } }; take-row-arg3 = record { given = g'' } } g'3) g'4 }; outputs = record { given = g'5 } }; stations = record { given = g'6 } }; page = record { given = g'7 } } g'8)), Path'.refl {a = m34 record { before = record { before = record { before = record { before = record { before = record { before = record { before = record { before = record { before = c .before; if1 = c .if1 }; take-row-arg = record { given = g } }; take-row-arg2 = record { given = g' } }; take-row-arg3 = record { given = g'' } }; take-row-arg4 = record { given = g'3 } }; take-row = Called.called ps·0 r·0 (claims· .1) T33 (record { pos = 15; ty = Syntax.tyRef Syntax.erased Syntax.mut OfOutput.named; ref = λ x. x }, (record { pos = 17; ty = Syntax.tyRef Syntax.erased Syntax.mut OfStation.named; ref = λ x. x }, (record { pos = 18; ty = Syntax.tyRef Syntax.erased Syntax.mut (Syntax.tyInt Syntax.w64); ref = λ x. x }, (record { pos = 20; ty = Syntax.tyRef Syntax.erased Syntax.mut (Syntax.tyInt Syntax.w8); ref = λ x. x }, (record { pos = 7; st = List.[]; d = 0; at = λ x. x }, tt))))) (m27 record { before = record { before = record { before = record { before = c .before; if1 = c .if1 }; take-row-arg = record { given = g } }; take-row-arg2 = record { given = g' } }; take-row-arg3 = record { given = g'' } } g'3) g'4 }; outputs = record { given = g'5 } }; stations = record { given = g'6 } }; page = record { given = g'7 } } g'8}, loop-again record { before = record { before = record { before = record { before = record { before = record { before = record { before = record { before = record { before = record { before = c .before; if1 = c .if1 }; take-row-arg = record { given = g } }; take-row-arg2 = record { given = g' } }; take-row-arg3 = record { given = g'' } }; take-row-arg4 = record { given = g'3 } }; take-row = Called.called ps·0 r·0 (claims· .1) T33 (record { pos = 15; ty = Syntax.tyRef Syntax.erased Syntax.mut OfOutput.named; ref = λ x. x }, (record { pos = 17; ty = Syntax.tyRef Syntax.erased Syntax.mut OfStation.named; ref = λ x. x }, (record { pos = 18; ty = Syntax.tyRef Syntax.erased Syntax.mut (Syntax.tyInt Syntax.w64); ref = λ x. x }, (record { pos = 20; ty = Syntax.tyRef Syntax.erased Syntax.mut (Syntax.tyInt Syntax.w8); ref = λ x. x }, (record { pos = 7; st = List.[]; d = 0; at = λ x. x }, tt))))) (m27 record { before = record { before = record { before = record { before = c .before; if1 = c .if1 }; take-row-arg = record { given = g } }; take-row-arg2 = record { given = g' } }; take-row-arg3 = record { given = g'' } } g'3) g'4 }; outputs = record { given = g'5 } }; stations = record { given = g'6 } }; page = record { given = g'7 } }; slice-known2 = record { given = g'8 } }, Path'.refl {a = μ·0 (Row.get 1 (T6 .locals) (m5 (c .before .before .before .before .before) (c .before .before .before .before .shared-slice-known .given)) .now) (Row.get 2 (T6 .locals) (m5 (c .before .before .before .before .before) (c .before .before .before .before .shared-slice-known .given)) .now) (Row.get 3 (T6 .locals) (m5 (c .before .before .before .before .before) (c .before .before .before .before .shared-slice-known .given)) .now) (Row.get 4 (T6 .locals) (m5 (c .before .before .before .before .before) (c .before .before .before .before .shared-slice-known .given)) .now) (Row.get 6 (T6 .locals) (m5 (c .before .before .before .before .before) (c .before .before .before .before .shared-slice-known .given)) .now) (Row.get 7 (T6 .locals) (m5 (c .before .before .before .before .before) (c .before .before .before .before .shared-slice-known .given))) (Row.get 8 (T6 .locals) (m5 (c .before .before .before .before .before) (c .before .before .before .before .shared-slice-known .given))) (Row.get 1 (T6 .locals) (m34 record { before = record { before = record { before = record { before = record { before = record { before = record { before = record { before = record { before = c .before; if1 = c .if1 }; take-row-arg = record { given = g } }; take-row-arg2 = record { given = g' } }; take-row-arg3 = record { given = g'' } }; take-row-arg4 = record { given = g'3 } }; take-row = Called.called ps·0 r·0 (claims· .1) T33 (record { pos = 15; ty = Syntax.tyRef Syntax.erased Syntax.mut OfOutput.named; ref = λ x. x }, (record { pos = 17; ty = Syntax.tyRef Syntax.erased Syntax.mut OfStation.named; ref = λ x. x }, (record { pos = 18; ty = Syntax.tyRef Syntax.erased Syntax.mut (Syntax.tyInt Syntax.w64); ref = λ x. x }, (record { pos = 20; ty = Syntax.tyRef Syntax.erased Syntax.mut (Syntax.tyInt Syntax.w8); ref = λ x. x }, (record { pos = 7; st = List.[]; d = 0; at = λ x. x }, tt))))) (m27 record { before = record { before = record { before = record { before = c .before; if1 = c .if1 }; take-row-arg = record { given = g } }; take-row-arg2 = record { given = g' } }; take-row-arg3 = record { given = g'' } } g'3) g'4 }; outputs = record { given = g'5 } }; stations = record { given = g'6 } }; page = record { given = g'7 } } g'8) .now) (Row.get 2 (T6 .locals) (m34 record { before = record { before = record { before = record { before = record { before = record { before = record { before = record { before = record { before = c .before; if1 = c .if1 }; take-row-arg = record { given = g } }; take-row-arg2 = record { given = g' } }; take-row-arg3 = record { given = g'' } }; take-row-arg4 = record { given = g'3 } }; take-row = Called.called ps·0 r·0 (claims· .1) T33 (record { pos = 15; ty = Syntax.tyRef Syntax.erased Syntax.mut OfOutput.named; ref = λ x. x }, (record { pos = 17; ty = Syntax.tyRef Syntax.erased Syntax.mut OfStation.named; ref = λ x. x }, (record { pos = 18; ty = Syntax.tyRef Syntax.erased Syntax.mut (Syntax.tyInt Syntax.w64); ref = λ x. x }, (record { pos = 20; ty = Syntax.tyRef Syntax.erased Syntax.mut (Syntax.tyInt Syntax.w8); ref = λ x. x }, (record { pos = 7; st = List.[]; d = 0; at = λ x. x }, tt))))) (m27 record { before = record { before = record { before = record { before = c .before; if1 = c .if1 }; take-row-arg = record { given = g } }; take-row-arg2 = record { given = g' } }; take-row-arg3 = record { given = g'' } } g'3) g'4 }; outputs = record { given = g'5 } }; stations = record { given = g'6 } }; page = record { given = g'7 } } g'8) .now) (Row.get 3 (T6 .locals) (m34 record { before = record { before = record { before = record { before = record { before = record { before = record { before = record { before = record { before = c .before; if1 = c .if1 }; take-row-arg = record { given = g } }; take-row-arg2 = record { given = g' } }; take-row-arg3 = record { given = g'' } }; take-row-arg4 = record { given = g'3 } }; take-row = Called.called ps·0 r·0 (claims· .1) T33 (record { pos = 15; ty = Syntax.tyRef Syntax.erased Syntax.mut OfOutput.named; ref = λ x. x }, (record { pos = 17; ty = Syntax.tyRef Syntax.erased Syntax.mut OfStation.named; ref = λ x. x }, (record { pos = 18; ty = Syntax.tyRef Syntax.erased Syntax.mut (Syntax.tyInt Syntax.w64); ref = λ x. x }, (record { pos = 20; ty = Syntax.tyRef Syntax.erased Syntax.mut (Syntax.tyInt Syntax.w8); ref = λ x. x }, (record { pos = 7; st = List.[]; d = 0; at = λ x. x }, tt))))) (m27 record { before = record { before = record { before = record { before = c .before; if1 = c .if1 }; take-row-arg = record { given = g } }; take-row-arg2 = record { given = g' } }; take-row-arg3 = record { given = g'' } } g'3) g'4 }; outputs = record { given = g'5 } }; stations = record { given = g'6 } }; page = record { given = g'7 } } g'8) .now) (Row.get 4 (T6 .locals) (m34 record { before = record { before = record { before = record { before = record { before = record { before = record { before = record { before = record { before = c .before; if1 = c .if1 }; take-row-arg = record { given = g } }; take-row-arg2 = record { given = g' } }; take-row-arg3 = record { given = g'' } }; take-row-arg4 = record { given = g'3 } }; take-row = Called.called ps·0 r·0 (claims· .1) T33 (record { pos = 15; ty = Syntax.tyRef Syntax.erased Syntax.mut OfOutput.named; ref = λ x. x }, (record { pos = 17; ty = Syntax.tyRef Syntax.erased Syntax.mut OfStation.named; ref = λ x. x }, (record { pos = 18; ty = Syntax.tyRef Syntax.erased Syntax.mut (Syntax.tyInt Syntax.w64); ref = λ x. x }, (record { pos = 20; ty = Syntax.tyRef Syntax.erased Syntax.mut (Syntax.tyInt Syntax.w8); ref = λ x. x }, (record { pos = 7; st = List.[]; d = 0; at = λ x. x }, tt))))) (m27 record { before = record { before = record { before = record { before = c .before; if1 = c .if1 }; take-row-arg = record { given = g } }; take-row-arg2 = record { given = g' } }; take-row-arg3 = record { given = g'' } } g'3) g'4 }; outputs = record { given = g'5 } }; stations = record { given = g'6 } }; page = record { given = g'7 } } g'8) .now) (Row.get 7 (T6 .locals) (m34 record { before = record { before = record { before = record { before = record { before = record { before = record { before = record { before = record { before = c .before; if1 = c .if1 }; take-row-arg = record { given = g } }; take-row-arg2 = record { given = g' } }; take-row-arg3 = record { given = g'' } }; take-row-arg4 = record { given = g'3 } }; take-row = Called.called ps·0 r·0 (claims· .1) T33 (record { pos = 15; ty = Syntax.tyRef Syntax.erased Syntax.mut OfOutput.named; ref = λ x. x }, (record { pos = 17; ty = Syntax.tyRef Syntax.erased Syntax.mut OfStation.named; ref = λ x. x }, (record { pos = 18; ty = Syntax.tyRef Syntax.erased Syntax.mut (Syntax.tyInt Syntax.w64); ref = λ x. x }, (record { pos = 20; ty = Syntax.tyRef Syntax.erased Syntax.mut (Syntax.tyInt Syntax.w8); ref = λ x. x }, (record { pos = 7; st = List.[]; d = 0; at = λ x. x }, tt))))) (m27 record { before = record { before = record { before = record { before = c .before; if1 = c .if1 }; take-row-arg = record { given = g } }; take-row-arg2 = record { given = g' } }; take-row-arg3 = record { given = g'' } } g'3) g'4 }; outputs = record { given = g'5 } }; stations = record { given = g'6 } }; page = record { given = g'7 } } g'8)) (Row.get 8 (T6 .locals) (m34 record { before = record { before = record { before = record { before = record { before = record { before = record { before = record { before = record { before = c .before; if1 = c .if1 }; take-row-arg = record { given = g } }; take-row-arg2 = record { given = g' } }; take-row-arg3 = record { given = g'' } }; take-row-arg4 = record { given = g'3 } }; take-row = Called.called ps·0 r·0 (claims· .1) T33 (record { pos = 15; ty = Syntax.tyRef Syntax.erased Syntax.mut OfOutput.named; ref = λ x. x }, (record { pos = 17; ty = Syntax.tyRef Syntax.erased Syntax.mut OfStation.named; ref = λ x. x }, (record { pos = 18; ty = Syntax.tyRef Syntax.erased Syntax.mut (Syntax.tyInt Syntax.w64); ref = λ x. x }, (record { pos = 20; ty = Syntax.tyRef Syntax.erased Syntax.mut (Syntax.tyInt Syntax.w8); ref = λ x. x }, (record { pos = 7; st = List.[]; d = 0; at = λ x. x }, tt))))) (m27 record { before = record { before = record { before = record { before = c .before; if1 = c .if1 }; take-row-arg = record { given = g } }; take-row-arg2 = record { given = g' } }; take-row-arg3 = record { given = g'' } } g'3) g'4 }; outputs = record { given = g'5 } }; stations = record { given = g'6 } }; page = record { given = g'7 } } g'8))}))))))))))
+        lay4 = λ c. λ g. (Path'.refl, λ g'. (Path'.refl, λ g''. λ g'3. (Path'.refl, (take-row-requires record { before = record { before = record { before = record { before = record { before = c .before; if1 = c .if1 }; take-row-arg = record { given = g } }; take-row-arg2 = record { given = g' } }; take-row-arg3 = record { given = g'' } }; take-row-arg4 = record { given = g'3 } }, λ g'4. (Path'.refl, λ g'5. (Path'.refl, λ g'6. (Path'.refl, (Path'.refl, λ g'7. λ g'8. (μ·0 (Row.get 1 (T6 .locals) (m5 (c .before .before .before .before .before) (c .before .before .before .before .shared-slice-known .given)) .now) (Row.get 2 (T6 .locals) (m5 (c .before .before .before .before .before) (c .before .before .before .before .shared-slice-known .given)) .now) (Row.get 3 (T6 .locals) (m5 (c .before .before .before .before .before) (c .before .before .before .before .shared-slice-known .given)) .now) (Row.get 4 (T6 .locals) (m5 (c .before .before .before .before .before) (c .before .before .before .before .shared-slice-known .given)) .now) (Row.get 6 (T6 .locals) (m5 (c .before .before .before .before .before) (c .before .before .before .before .shared-slice-known .given)) .now) (Row.get 7 (T6 .locals) (m5 (c .before .before .before .before .before) (c .before .before .before .before .shared-slice-known .given))) (Row.get 8 (T6 .locals) (m5 (c .before .before .before .before .before) (c .before .before .before .before .shared-slice-known .given))) (Row.get 1 (T6 .locals) (m34 record { before = record { before = record { before = record { before = record { before = record { before = record { before = record { before = record { before = c .before; if1 = c .if1 }; take-row-arg = record { given = g } }; take-row-arg2 = record { given = g' } }; take-row-arg3 = record { given = g'' } }; take-row-arg4 = record { given = g'3 } }; take-row = Called.called ps·0 r·0 (claims· .1) T33 (record { pos = 15; ty = Syntax.tyRef Syntax.erased Syntax.mut OfOutput.named; ref = λ x. x }, (record { pos = 17; ty = Syntax.tyRef Syntax.erased Syntax.mut OfStation.named; ref = λ x. x }, (record { pos = 18; ty = Syntax.tyRef Syntax.erased Syntax.mut OfPanelRecord.named; ref = λ x. x }, (record { pos = 20; ty = Syntax.tyRef Syntax.erased Syntax.mut (Syntax.tyInt Syntax.w8); ref = λ x. x }, (record { pos = 7; st = List.[]; d = 0; at = λ x. x }, tt))))) (m27 record { before = record { before = record { before = record { before = c .before; if1 = c .if1 }; take-row-arg = record { given = g } }; take-row-arg2 = record { given = g' } }; take-row-arg3 = record { given = g'' } } g'3) g'4 }; outputs = record { given = g'5 } }; stations = record { given = g'6 } }; page = record { given = g'7 } } g'8) .now) (Row.get 2 (T6 .locals) (m34 record { before = record { before = record { before = record { before = record { before = record { before = record { before = record { before = record { before = c .before; if1 = c .if1 }; take-row-arg = record { given = g } }; take-row-arg2 = record { given = g' } }; take-row-arg3 = record { given = g'' } }; take-row-arg4 = record { given = g'3 } }; take-row = Called.called ps·0 r·0 (claims· .1) T33 (record { pos = 15; ty = Syntax.tyRef Syntax.erased Syntax.mut OfOutput.named; ref = λ x. x }, (record { pos = 17; ty = Syntax.tyRef Syntax.erased Syntax.mut OfStation.named; ref = λ x. x }, (record { pos = 18; ty = Syntax.tyRef Syntax.erased Syntax.mut OfPanelRecord.named; ref = λ x. x }, (record { pos = 20; ty = Syntax.tyRef Syntax.erased Syntax.mut (Syntax.tyInt Syntax.w8); ref = λ x. x }, (record { pos = 7; st = List.[]; d = 0; at = λ x. x }, tt))))) (m27 record { before = record { before = record { before = record { before = c .before; if1 = c .if1 }; take-row-arg = record { given = g } }; take-row-arg2 = record { given = g' } }; take-row-arg3 = record { given = g'' } } g'3) g'4 }; outputs = record { given = g'5 } }; stations = record { given = g'6 } }; page = record { given = g'7 } } g'8) .now) (Row.get 3 (T6 .locals) (m34 record { before = record { before = record { before = record { before = record { before = record { before = record { before = record { before = record { before = c .before; if1 = c .if1 }; take-row-arg = record { given = g } }; take-row-arg2 = record { given = g' } }; take-row-arg3 = record { given = g'' } }; take-row-arg4 = record { given = g'3 } }; take-row = Called.called ps·0 r·0 (claims· .1) T33 (record { pos = 15; ty = Syntax.tyRef Syntax.erased Syntax.mut OfOutput.named; ref = λ x. x }, (record { pos = 17; ty = Syntax.tyRef Syntax.erased Syntax.mut OfStation.named; ref = λ x. x }, (record { pos = 18; ty = Syntax.tyRef Syntax.erased Syntax.mut OfPanelRecord.named; ref = λ x. x }, (record { pos = 20; ty = Syntax.tyRef Syntax.erased Syntax.mut (Syntax.tyInt Syntax.w8); ref = λ x. x }, (record { pos = 7; st = List.[]; d = 0; at = λ x. x }, tt))))) (m27 record { before = record { before = record { before = record { before = c .before; if1 = c .if1 }; take-row-arg = record { given = g } }; take-row-arg2 = record { given = g' } }; take-row-arg3 = record { given = g'' } } g'3) g'4 }; outputs = record { given = g'5 } }; stations = record { given = g'6 } }; page = record { given = g'7 } } g'8) .now) (Row.get 4 (T6 .locals) (m34 record { before = record { before = record { before = record { before = record { before = record { before = record { before = record { before = record { before = c .before; if1 = c .if1 }; take-row-arg = record { given = g } }; take-row-arg2 = record { given = g' } }; take-row-arg3 = record { given = g'' } }; take-row-arg4 = record { given = g'3 } }; take-row = Called.called ps·0 r·0 (claims· .1) T33 (record { pos = 15; ty = Syntax.tyRef Syntax.erased Syntax.mut OfOutput.named; ref = λ x. x }, (record { pos = 17; ty = Syntax.tyRef Syntax.erased Syntax.mut OfStation.named; ref = λ x. x }, (record { pos = 18; ty = Syntax.tyRef Syntax.erased Syntax.mut OfPanelRecord.named; ref = λ x. x }, (record { pos = 20; ty = Syntax.tyRef Syntax.erased Syntax.mut (Syntax.tyInt Syntax.w8); ref = λ x. x }, (record { pos = 7; st = List.[]; d = 0; at = λ x. x }, tt))))) (m27 record { before = record { before = record { before = record { before = c .before; if1 = c .if1 }; take-row-arg = record { given = g } }; take-row-arg2 = record { given = g' } }; take-row-arg3 = record { given = g'' } } g'3) g'4 }; outputs = record { given = g'5 } }; stations = record { given = g'6 } }; page = record { given = g'7 } } g'8) .now) (Row.get 7 (T6 .locals) (m34 record { before = record { before = record { before = record { before = record { before = record { before = record { before = record { before = record { before = c .before; if1 = c .if1 }; take-row-arg = record { given = g } }; take-row-arg2 = record { given = g' } }; take-row-arg3 = record { given = g'' } }; take-row-arg4 = record { given = g'3 } }; take-row = Called.called ps·0 r·0 (claims· .1) T33 (record { pos = 15; ty = Syntax.tyRef Syntax.erased Syntax.mut OfOutput.named; ref = λ x. x }, (record { pos = 17; ty = Syntax.tyRef Syntax.erased Syntax.mut OfStation.named; ref = λ x. x }, (record { pos = 18; ty = Syntax.tyRef Syntax.erased Syntax.mut OfPanelRecord.named; ref = λ x. x }, (record { pos = 20; ty = Syntax.tyRef Syntax.erased Syntax.mut (Syntax.tyInt Syntax.w8); ref = λ x. x }, (record { pos = 7; st = List.[]; d = 0; at = λ x. x }, tt))))) (m27 record { before = record { before = record { before = record { before = c .before; if1 = c .if1 }; take-row-arg = record { given = g } }; take-row-arg2 = record { given = g' } }; take-row-arg3 = record { given = g'' } } g'3) g'4 }; outputs = record { given = g'5 } }; stations = record { given = g'6 } }; page = record { given = g'7 } } g'8)) (Row.get 8 (T6 .locals) (m34 record { before = record { before = record { before = record { before = record { before = record { before = record { before = record { before = record { before = c .before; if1 = c .if1 }; take-row-arg = record { given = g } }; take-row-arg2 = record { given = g' } }; take-row-arg3 = record { given = g'' } }; take-row-arg4 = record { given = g'3 } }; take-row = Called.called ps·0 r·0 (claims· .1) T33 (record { pos = 15; ty = Syntax.tyRef Syntax.erased Syntax.mut OfOutput.named; ref = λ x. x }, (record { pos = 17; ty = Syntax.tyRef Syntax.erased Syntax.mut OfStation.named; ref = λ x. x }, (record { pos = 18; ty = Syntax.tyRef Syntax.erased Syntax.mut OfPanelRecord.named; ref = λ x. x }, (record { pos = 20; ty = Syntax.tyRef Syntax.erased Syntax.mut (Syntax.tyInt Syntax.w8); ref = λ x. x }, (record { pos = 7; st = List.[]; d = 0; at = λ x. x }, tt))))) (m27 record { before = record { before = record { before = record { before = c .before; if1 = c .if1 }; take-row-arg = record { given = g } }; take-row-arg2 = record { given = g' } }; take-row-arg3 = record { given = g'' } } g'3) g'4 }; outputs = record { given = g'5 } }; stations = record { given = g'6 } }; page = record { given = g'7 } } g'8)), loop-less record { before = record { before = record { before = record { before = record { before = record { before = record { before = record { before = record { before = record { before = c .before; if1 = c .if1 }; take-row-arg = record { given = g } }; take-row-arg2 = record { given = g' } }; take-row-arg3 = record { given = g'' } }; take-row-arg4 = record { given = g'3 } }; take-row = Called.called ps·0 r·0 (claims· .1) T33 (record { pos = 15; ty = Syntax.tyRef Syntax.erased Syntax.mut OfOutput.named; ref = λ x. x }, (record { pos = 17; ty = Syntax.tyRef Syntax.erased Syntax.mut OfStation.named; ref = λ x. x }, (record { pos = 18; ty = Syntax.tyRef Syntax.erased Syntax.mut OfPanelRecord.named; ref = λ x. x }, (record { pos = 20; ty = Syntax.tyRef Syntax.erased Syntax.mut (Syntax.tyInt Syntax.w8); ref = λ x. x }, (record { pos = 7; st = List.[]; d = 0; at = λ x. x }, tt))))) (m27 record { before = record { before = record { before = record { before = c .before; if1 = c .if1 }; take-row-arg = record { given = g } }; take-row-arg2 = record { given = g' } }; take-row-arg3 = record { given = g'' } } g'3) g'4 }; outputs = record { given = g'5 } }; stations = record { given = g'6 } }; page = record { given = g'7 } }; slice-known2 = record { given = g'8 } }, ((Row.get 1 (T6 .locals) (m34 record { before = record { before = record { before = record { before = record { before = record { before = record { before = record { before = record { before = c .before; if1 = c .if1 }; take-row-arg = record { given = g } }; take-row-arg2 = record { given = g' } }; take-row-arg3 = record { given = g'' } }; take-row-arg4 = record { given = g'3 } }; take-row = Called.called ps·0 r·0 (claims· .1) T33 (record { pos = 15; ty = Syntax.tyRef Syntax.erased Syntax.mut OfOutput.named; ref = λ x. x }, (record { pos = 17; ty = Syntax.tyRef Syntax.erased Syntax.mut OfStation.named; ref = λ x. x }, (record { pos = 18; ty = Syntax.tyRef Syntax.erased Syntax.mut OfPanelRecord.named; ref = λ x. x }, (record { pos = 20; ty = Syntax.tyRef Syntax.erased Syntax.mut (Syntax.tyInt Syntax.w8); ref = λ x. x }, (record { pos = 7; st = List.[]; d = 0; at = λ x. x }, tt))))) (m27 record { before = record { before = record { before = record { before = c .before; if1 = c .if1 }; take-row-arg = record { given = g } }; take-row-arg2 = record { given = g' } }; take-row-arg3 = record { given = g'' } } g'3) g'4 }; outputs = record { given = g'5 } }; stations = record { given = g'6 } }; page = record { given = g'7 } } g'8) .now, Row.get 2 (T6 .locals) (m34 record { before = record { before = record { before = record { before = record { before = record { before = record { before = record { before = record { before = c .before; if1 = c .if1 }; take-row-arg = record { given = g } }; take-row-arg2 = record { given = g' } }; take-row-arg3 = record { given = g'' } }; take-row-arg4 = record { given = g'3 } }; take-row = Called.called ps·0 r·0 (claims· .1) T33 (record { pos = 15; ty = Syntax.tyRef Syntax.erased Syntax.mut OfOutput.named; ref = λ x. x }, (record { pos = 17; ty = Syntax.tyRef Syntax.erased Syntax.mut OfStation.named; ref = λ x. x }, (record { pos = 18; ty = Syntax.tyRef Syntax.erased Syntax.mut OfPanelRecord.named; ref = λ x. x }, (record { pos = 20; ty = Syntax.tyRef Syntax.erased Syntax.mut (Syntax.tyInt Syntax.w8); ref = λ x. x }, (record { pos = 7; st = List.[]; d = 0; at = λ x. x }, tt))))) (m27 record { before = record { before = record { before = record { before = c .before; if1 = c .if1 }; take-row-arg = record { given = g } }; take-row-arg2 = record { given = g' } }; take-row-arg3 = record { given = g'' } } g'3) g'4 }; outputs = record { given = g'5 } }; stations = record { given = g'6 } }; page = record { given = g'7 } } g'8) .now, Row.get 3 (T6 .locals) (m34 record { before = record { before = record { before = record { before = record { before = record { before = record { before = record { before = record { before = c .before; if1 = c .if1 }; take-row-arg = record { given = g } }; take-row-arg2 = record { given = g' } }; take-row-arg3 = record { given = g'' } }; take-row-arg4 = record { given = g'3 } }; take-row = Called.called ps·0 r·0 (claims· .1) T33 (record { pos = 15; ty = Syntax.tyRef Syntax.erased Syntax.mut OfOutput.named; ref = λ x. x }, (record { pos = 17; ty = Syntax.tyRef Syntax.erased Syntax.mut OfStation.named; ref = λ x. x }, (record { pos = 18; ty = Syntax.tyRef Syntax.erased Syntax.mut OfPanelRecord.named; ref = λ x. x }, (record { pos = 20; ty = Syntax.tyRef Syntax.erased Syntax.mut (Syntax.tyInt Syntax.w8); ref = λ x. x }, (record { pos = 7; st = List.[]; d = 0; at = λ x. x }, tt))))) (m27 record { before = record { before = record { before = record { before = c .before; if1 = c .if1 }; take-row-arg = record { given = g } }; take-row-arg2 = record { given = g' } }; take-row-arg3 = record { given = g'' } } g'3) g'4 }; outputs = record { given = g'5 } }; stations = record { given = g'6 } }; page = record { given = g'7 } } g'8) .now, Row.get 4 (T6 .locals) (m34 record { before = record { before = record { before = record { before = record { before = record { before = record { before = record { before = record { before = c .before; if1 = c .if1 }; take-row-arg = record { given = g } }; take-row-arg2 = record { given = g' } }; take-row-arg3 = record { given = g'' } }; take-row-arg4 = record { given = g'3 } }; take-row = Called.called ps·0 r·0 (claims· .1) T33 (record { pos = 15; ty = Syntax.tyRef Syntax.erased Syntax.mut OfOutput.named; ref = λ x. x }, (record { pos = 17; ty = Syntax.tyRef Syntax.erased Syntax.mut OfStation.named; ref = λ x. x }, (record { pos = 18; ty = Syntax.tyRef Syntax.erased Syntax.mut OfPanelRecord.named; ref = λ x. x }, (record { pos = 20; ty = Syntax.tyRef Syntax.erased Syntax.mut (Syntax.tyInt Syntax.w8); ref = λ x. x }, (record { pos = 7; st = List.[]; d = 0; at = λ x. x }, tt))))) (m27 record { before = record { before = record { before = record { before = c .before; if1 = c .if1 }; take-row-arg = record { given = g } }; take-row-arg2 = record { given = g' } }; take-row-arg3 = record { given = g'' } } g'3) g'4 }; outputs = record { given = g'5 } }; stations = record { given = g'6 } }; page = record { given = g'7 } } g'8) .now, Row.get 7 (T6 .locals) (m34 record { before = record { before = record { before = record { before = record { before = record { before = record { before = record { before = record { before = c .before; if1 = c .if1 }; take-row-arg = record { given = g } }; take-row-arg2 = record { given = g' } }; take-row-arg3 = record { given = g'' } }; take-row-arg4 = record { given = g'3 } }; take-row = Called.called ps·0 r·0 (claims· .1) T33 (record { pos = 15; ty = Syntax.tyRef Syntax.erased Syntax.mut OfOutput.named; ref = λ x. x }, (record { pos = 17; ty = Syntax.tyRef Syntax.erased Syntax.mut OfStation.named; ref = λ x. x }, (record { pos = 18; ty = Syntax.tyRef Syntax.erased Syntax.mut OfPanelRecord.named; ref = λ x. x }, (record { pos = 20; ty = Syntax.tyRef Syntax.erased Syntax.mut (Syntax.tyInt Syntax.w8); ref = λ x. x }, (record { pos = 7; st = List.[]; d = 0; at = λ x. x }, tt))))) (m27 record { before = record { before = record { before = record { before = c .before; if1 = c .if1 }; take-row-arg = record { given = g } }; take-row-arg2 = record { given = g' } }; take-row-arg3 = record { given = g'' } } g'3) g'4 }; outputs = record { given = g'5 } }; stations = record { given = g'6 } }; page = record { given = g'7 } } g'8), Row.get 8 (T6 .locals) (m34 record { before = record { before = record { before = record { before = record { before = record { before = record { before = record { before = record { before = c .before; if1 = c .if1 }; take-row-arg = record { given = g } }; take-row-arg2 = record { given = g' } }; take-row-arg3 = record { given = g'' } }; take-row-arg4 = record { given = g'3 } }; take-row = Called.called ps·0 r·0 (claims· .1) T33 (record { pos = 15; ty = Syntax.tyRef Syntax.erased Syntax.mut OfOutput.named; ref = λ x. x }, (record { pos = 17; ty = Syntax.tyRef Syntax.erased Syntax.mut OfStation.named; ref = λ x. x }, (record { pos = 18; ty = Syntax.tyRef Syntax.erased Syntax.mut OfPanelRecord.named; ref = λ x. x }, (record { pos = 20; ty = Syntax.tyRef Syntax.erased Syntax.mut (Syntax.tyInt Syntax.w8); ref = λ x. x }, (record { pos = 7; st = List.[]; d = 0; at = λ x. x }, tt))))) (m27 record { before = record { before = record { before = record { before = c .before; if1 = c .if1 }; take-row-arg = record { given = g } }; take-row-arg2 = record { given = g' } }; take-row-arg3 = record { given = g'' } } g'3) g'4 }; outputs = record { given = g'5 } }; stations = record { given = g'6 } }; page = record { given = g'7 } } g'8)), Path'.refl {a = m34 record { before = record { before = record { before = record { before = record { before = record { before = record { before = record { before = record { before = c .before; if1 = c .if1 }; take-row-arg = record { given = g } }; take-row-arg2 = record { given = g' } }; take-row-arg3 = record { given = g'' } }; take-row-arg4 = record { given = g'3 } }; take-row = Called.called ps·0 r·0 (claims· .1) T33 (record { pos = 15; ty = Syntax.tyRef Syntax.erased Syntax.mut OfOutput.named; ref = λ x. x }, (record { pos = 17; ty = Syntax.tyRef Syntax.erased Syntax.mut OfStation.named; ref = λ x. x }, (record { pos = 18; ty = Syntax.tyRef Syntax.erased Syntax.mut OfPanelRecord.named; ref = λ x. x }, (record { pos = 20; ty = Syntax.tyRef Syntax.erased Syntax.mut (Syntax.tyInt Syntax.w8); ref = λ x. x }, (record { pos = 7; st = List.[]; d = 0; at = λ x. x }, tt))))) (m27 record { before = record { before = record { before = record { before = c .before; if1 = c .if1 }; take-row-arg = record { given = g } }; take-row-arg2 = record { given = g' } }; take-row-arg3 = record { given = g'' } } g'3) g'4 }; outputs = record { given = g'5 } }; stations = record { given = g'6 } }; page = record { given = g'7 } } g'8}, loop-again record { before = record { before = record { before = record { before = record { before = record { before = record { before = record { before = record { before = record { before = c .before; if1 = c .if1 }; take-row-arg = record { given = g } }; take-row-arg2 = record { given = g' } }; take-row-arg3 = record { given = g'' } }; take-row-arg4 = record { given = g'3 } }; take-row = Called.called ps·0 r·0 (claims· .1) T33 (record { pos = 15; ty = Syntax.tyRef Syntax.erased Syntax.mut OfOutput.named; ref = λ x. x }, (record { pos = 17; ty = Syntax.tyRef Syntax.erased Syntax.mut OfStation.named; ref = λ x. x }, (record { pos = 18; ty = Syntax.tyRef Syntax.erased Syntax.mut OfPanelRecord.named; ref = λ x. x }, (record { pos = 20; ty = Syntax.tyRef Syntax.erased Syntax.mut (Syntax.tyInt Syntax.w8); ref = λ x. x }, (record { pos = 7; st = List.[]; d = 0; at = λ x. x }, tt))))) (m27 record { before = record { before = record { before = record { before = c .before; if1 = c .if1 }; take-row-arg = record { given = g } }; take-row-arg2 = record { given = g' } }; take-row-arg3 = record { given = g'' } } g'3) g'4 }; outputs = record { given = g'5 } }; stations = record { given = g'6 } }; page = record { given = g'7 } }; slice-known2 = record { given = g'8 } }, Path'.refl {a = μ·0 (Row.get 1 (T6 .locals) (m5 (c .before .before .before .before .before) (c .before .before .before .before .shared-slice-known .given)) .now) (Row.get 2 (T6 .locals) (m5 (c .before .before .before .before .before) (c .before .before .before .before .shared-slice-known .given)) .now) (Row.get 3 (T6 .locals) (m5 (c .before .before .before .before .before) (c .before .before .before .before .shared-slice-known .given)) .now) (Row.get 4 (T6 .locals) (m5 (c .before .before .before .before .before) (c .before .before .before .before .shared-slice-known .given)) .now) (Row.get 6 (T6 .locals) (m5 (c .before .before .before .before .before) (c .before .before .before .before .shared-slice-known .given)) .now) (Row.get 7 (T6 .locals) (m5 (c .before .before .before .before .before) (c .before .before .before .before .shared-slice-known .given))) (Row.get 8 (T6 .locals) (m5 (c .before .before .before .before .before) (c .before .before .before .before .shared-slice-known .given))) (Row.get 1 (T6 .locals) (m34 record { before = record { before = record { before = record { before = record { before = record { before = record { before = record { before = record { before = c .before; if1 = c .if1 }; take-row-arg = record { given = g } }; take-row-arg2 = record { given = g' } }; take-row-arg3 = record { given = g'' } }; take-row-arg4 = record { given = g'3 } }; take-row = Called.called ps·0 r·0 (claims· .1) T33 (record { pos = 15; ty = Syntax.tyRef Syntax.erased Syntax.mut OfOutput.named; ref = λ x. x }, (record { pos = 17; ty = Syntax.tyRef Syntax.erased Syntax.mut OfStation.named; ref = λ x. x }, (record { pos = 18; ty = Syntax.tyRef Syntax.erased Syntax.mut OfPanelRecord.named; ref = λ x. x }, (record { pos = 20; ty = Syntax.tyRef Syntax.erased Syntax.mut (Syntax.tyInt Syntax.w8); ref = λ x. x }, (record { pos = 7; st = List.[]; d = 0; at = λ x. x }, tt))))) (m27 record { before = record { before = record { before = record { before = c .before; if1 = c .if1 }; take-row-arg = record { given = g } }; take-row-arg2 = record { given = g' } }; take-row-arg3 = record { given = g'' } } g'3) g'4 }; outputs = record { given = g'5 } }; stations = record { given = g'6 } }; page = record { given = g'7 } } g'8) .now) (Row.get 2 (T6 .locals) (m34 record { before = record { before = record { before = record { before = record { before = record { before = record { before = record { before = record { before = c .before; if1 = c .if1 }; take-row-arg = record { given = g } }; take-row-arg2 = record { given = g' } }; take-row-arg3 = record { given = g'' } }; take-row-arg4 = record { given = g'3 } }; take-row = Called.called ps·0 r·0 (claims· .1) T33 (record { pos = 15; ty = Syntax.tyRef Syntax.erased Syntax.mut OfOutput.named; ref = λ x. x }, (record { pos = 17; ty = Syntax.tyRef Syntax.erased Syntax.mut OfStation.named; ref = λ x. x }, (record { pos = 18; ty = Syntax.tyRef Syntax.erased Syntax.mut OfPanelRecord.named; ref = λ x. x }, (record { pos = 20; ty = Syntax.tyRef Syntax.erased Syntax.mut (Syntax.tyInt Syntax.w8); ref = λ x. x }, (record { pos = 7; st = List.[]; d = 0; at = λ x. x }, tt))))) (m27 record { before = record { before = record { before = record { before = c .before; if1 = c .if1 }; take-row-arg = record { given = g } }; take-row-arg2 = record { given = g' } }; take-row-arg3 = record { given = g'' } } g'3) g'4 }; outputs = record { given = g'5 } }; stations = record { given = g'6 } }; page = record { given = g'7 } } g'8) .now) (Row.get 3 (T6 .locals) (m34 record { before = record { before = record { before = record { before = record { before = record { before = record { before = record { before = record { before = c .before; if1 = c .if1 }; take-row-arg = record { given = g } }; take-row-arg2 = record { given = g' } }; take-row-arg3 = record { given = g'' } }; take-row-arg4 = record { given = g'3 } }; take-row = Called.called ps·0 r·0 (claims· .1) T33 (record { pos = 15; ty = Syntax.tyRef Syntax.erased Syntax.mut OfOutput.named; ref = λ x. x }, (record { pos = 17; ty = Syntax.tyRef Syntax.erased Syntax.mut OfStation.named; ref = λ x. x }, (record { pos = 18; ty = Syntax.tyRef Syntax.erased Syntax.mut OfPanelRecord.named; ref = λ x. x }, (record { pos = 20; ty = Syntax.tyRef Syntax.erased Syntax.mut (Syntax.tyInt Syntax.w8); ref = λ x. x }, (record { pos = 7; st = List.[]; d = 0; at = λ x. x }, tt))))) (m27 record { before = record { before = record { before = record { before = c .before; if1 = c .if1 }; take-row-arg = record { given = g } }; take-row-arg2 = record { given = g' } }; take-row-arg3 = record { given = g'' } } g'3) g'4 }; outputs = record { given = g'5 } }; stations = record { given = g'6 } }; page = record { given = g'7 } } g'8) .now) (Row.get 4 (T6 .locals) (m34 record { before = record { before = record { before = record { before = record { before = record { before = record { before = record { before = record { before = c .before; if1 = c .if1 }; take-row-arg = record { given = g } }; take-row-arg2 = record { given = g' } }; take-row-arg3 = record { given = g'' } }; take-row-arg4 = record { given = g'3 } }; take-row = Called.called ps·0 r·0 (claims· .1) T33 (record { pos = 15; ty = Syntax.tyRef Syntax.erased Syntax.mut OfOutput.named; ref = λ x. x }, (record { pos = 17; ty = Syntax.tyRef Syntax.erased Syntax.mut OfStation.named; ref = λ x. x }, (record { pos = 18; ty = Syntax.tyRef Syntax.erased Syntax.mut OfPanelRecord.named; ref = λ x. x }, (record { pos = 20; ty = Syntax.tyRef Syntax.erased Syntax.mut (Syntax.tyInt Syntax.w8); ref = λ x. x }, (record { pos = 7; st = List.[]; d = 0; at = λ x. x }, tt))))) (m27 record { before = record { before = record { before = record { before = c .before; if1 = c .if1 }; take-row-arg = record { given = g } }; take-row-arg2 = record { given = g' } }; take-row-arg3 = record { given = g'' } } g'3) g'4 }; outputs = record { given = g'5 } }; stations = record { given = g'6 } }; page = record { given = g'7 } } g'8) .now) (Row.get 7 (T6 .locals) (m34 record { before = record { before = record { before = record { before = record { before = record { before = record { before = record { before = record { before = c .before; if1 = c .if1 }; take-row-arg = record { given = g } }; take-row-arg2 = record { given = g' } }; take-row-arg3 = record { given = g'' } }; take-row-arg4 = record { given = g'3 } }; take-row = Called.called ps·0 r·0 (claims· .1) T33 (record { pos = 15; ty = Syntax.tyRef Syntax.erased Syntax.mut OfOutput.named; ref = λ x. x }, (record { pos = 17; ty = Syntax.tyRef Syntax.erased Syntax.mut OfStation.named; ref = λ x. x }, (record { pos = 18; ty = Syntax.tyRef Syntax.erased Syntax.mut OfPanelRecord.named; ref = λ x. x }, (record { pos = 20; ty = Syntax.tyRef Syntax.erased Syntax.mut (Syntax.tyInt Syntax.w8); ref = λ x. x }, (record { pos = 7; st = List.[]; d = 0; at = λ x. x }, tt))))) (m27 record { before = record { before = record { before = record { before = c .before; if1 = c .if1 }; take-row-arg = record { given = g } }; take-row-arg2 = record { given = g' } }; take-row-arg3 = record { given = g'' } } g'3) g'4 }; outputs = record { given = g'5 } }; stations = record { given = g'6 } }; page = record { given = g'7 } } g'8)) (Row.get 8 (T6 .locals) (m34 record { before = record { before = record { before = record { before = record { before = record { before = record { before = record { before = record { before = c .before; if1 = c .if1 }; take-row-arg = record { given = g } }; take-row-arg2 = record { given = g' } }; take-row-arg3 = record { given = g'' } }; take-row-arg4 = record { given = g'3 } }; take-row = Called.called ps·0 r·0 (claims· .1) T33 (record { pos = 15; ty = Syntax.tyRef Syntax.erased Syntax.mut OfOutput.named; ref = λ x. x }, (record { pos = 17; ty = Syntax.tyRef Syntax.erased Syntax.mut OfStation.named; ref = λ x. x }, (record { pos = 18; ty = Syntax.tyRef Syntax.erased Syntax.mut OfPanelRecord.named; ref = λ x. x }, (record { pos = 20; ty = Syntax.tyRef Syntax.erased Syntax.mut (Syntax.tyInt Syntax.w8); ref = λ x. x }, (record { pos = 7; st = List.[]; d = 0; at = λ x. x }, tt))))) (m27 record { before = record { before = record { before = record { before = c .before; if1 = c .if1 }; take-row-arg = record { given = g } }; take-row-arg2 = record { given = g' } }; take-row-arg3 = record { given = g'' } } g'3) g'4 }; outputs = record { given = g'5 } }; stations = record { given = g'6 } }; page = record { given = g'7 } } g'8))}))))))))))
 
         lay3 :
             (c : In-loop) →
@@ -1748,7 +1751,7 @@ module _ (claims· : Claims) where
             (c .before .before)
             (c .before .loop .outputs)
             (c .before .loop .stations)
-            (c .before .loop .time)
+            (c .before .loop .kept)
             (c .before .loop .page)
             (c .before .loop .t)
             (c .before .loop .i))
@@ -1762,7 +1765,7 @@ module _ (claims· : Claims) where
             (c .before .before)
             (c .before .loop .outputs)
             (c .before .loop .stations)
-            (c .before .loop .time)
+            (c .before .loop .kept)
             (c .before .loop .page)
             (c .before .loop .t)
             (c .before .loop .i))
@@ -1770,7 +1773,7 @@ module _ (claims· : Claims) where
             (c .before .before)
             (c .before .loop .outputs)
             (c .before .loop .stations)
-            (c .before .loop .time)
+            (c .before .loop .kept)
             (c .before .loop .page)
             (c .before .loop .t)
             (c .before .loop .i))
@@ -1783,7 +1786,7 @@ module _ (claims· : Claims) where
             (c .before .before)
             (c .before .loop .outputs)
             (c .before .loop .stations)
-            (c .before .loop .time)
+            (c .before .loop .kept)
             (c .before .loop .page)
             (c .before .loop .t)
             (c .before .loop .i))
@@ -1791,14 +1794,14 @@ module _ (claims· : Claims) where
             (c .before .before)
             (c .before .loop .outputs)
             (c .before .loop .stations)
-            (c .before .loop .time)
+            (c .before .loop .kept)
             (c .before .loop .page)
             (c .before .loop .t)
             (c .before .loop .i))
         lay1 = λ c. lay3 record { before = c .before; loop-test = c .loop-test }
 
         pub laid : (c : Start) → at44 (W0 (c .κs) (c .args)) (m0 (c .κs) (c .args))
-        laid = λ c. λ g. λ g'. (((Row.get 1 (T6 .locals) (m5 record { before = c; slice-known = record { given = g } } g') .now, Row.get 2 (T6 .locals) (m5 record { before = c; slice-known = record { given = g } } g') .now, Row.get 3 (T6 .locals) (m5 record { before = c; slice-known = record { given = g } } g') .now, Row.get 4 (T6 .locals) (m5 record { before = c; slice-known = record { given = g } } g') .now, Row.get 7 (T6 .locals) (m5 record { before = c; slice-known = record { given = g } } g'), Row.get 8 (T6 .locals) (m5 record { before = c; slice-known = record { given = g } } g')), Path'.refl {a = m5 record { before = c; slice-known = record { given = g } } g'}, loop-holds record { before = record { before = c; slice-known = record { given = g } }; shared-slice-known = record { given = g' } }), λ vs inv. (tt, (λ taken. lay1 record { before = record { before = record { before = record { before = c; slice-known = record { given = g } }; shared-slice-known = record { given = g' } }; loop = record { outputs = vs .0; stations = vs .1; time = vs .2; page = vs .3; t = vs .4; i = vs .5; inv = inv } }; loop-test = record { taken = Tests.ltb-true (Row.get 8 (T8 .locals) (m7 record { before = record { before = c; slice-known = record { given = g } }; shared-slice-known = record { given = g' } } (vs .0) (vs .1) (vs .2) (vs .3) (vs .4) (vs .5))) (Row.get 10 (T8 .locals) (m7 record { before = record { before = c; slice-known = record { given = g } }; shared-slice-known = record { given = g' } } (vs .0) (vs .1) (vs .2) (vs .3) (vs .4) (vs .5))) taken } }, λ left. lay2 record { before = record { before = record { before = record { before = c; slice-known = record { given = g } }; shared-slice-known = record { given = g' } }; loop = record { outputs = vs .0; stations = vs .1; time = vs .2; page = vs .3; t = vs .4; i = vs .5; inv = inv } }; loop-test = record { left = Tests.ltb-false (Row.get 8 (T8 .locals) (m7 record { before = record { before = c; slice-known = record { given = g } }; shared-slice-known = record { given = g' } } (vs .0) (vs .1) (vs .2) (vs .3) (vs .4) (vs .5))) (Row.get 10 (T8 .locals) (m7 record { before = record { before = c; slice-known = record { given = g } }; shared-slice-known = record { given = g' } } (vs .0) (vs .1) (vs .2) (vs .3) (vs .4) (vs .5))) left } })))
+        laid = λ c. λ g. λ g'. (((Row.get 1 (T6 .locals) (m5 record { before = c; slice-known = record { given = g } } g') .now, Row.get 2 (T6 .locals) (m5 record { before = c; slice-known = record { given = g } } g') .now, Row.get 3 (T6 .locals) (m5 record { before = c; slice-known = record { given = g } } g') .now, Row.get 4 (T6 .locals) (m5 record { before = c; slice-known = record { given = g } } g') .now, Row.get 7 (T6 .locals) (m5 record { before = c; slice-known = record { given = g } } g'), Row.get 8 (T6 .locals) (m5 record { before = c; slice-known = record { given = g } } g')), Path'.refl {a = m5 record { before = c; slice-known = record { given = g } } g'}, loop-holds record { before = record { before = c; slice-known = record { given = g } }; shared-slice-known = record { given = g' } }), λ vs inv. (tt, (λ taken. lay1 record { before = record { before = record { before = record { before = c; slice-known = record { given = g } }; shared-slice-known = record { given = g' } }; loop = record { outputs = vs .0; stations = vs .1; kept = vs .2; page = vs .3; t = vs .4; i = vs .5; inv = inv } }; loop-test = record { taken = Tests.ltb-true (Row.get 8 (T8 .locals) (m7 record { before = record { before = c; slice-known = record { given = g } }; shared-slice-known = record { given = g' } } (vs .0) (vs .1) (vs .2) (vs .3) (vs .4) (vs .5))) (Row.get 10 (T8 .locals) (m7 record { before = record { before = c; slice-known = record { given = g } }; shared-slice-known = record { given = g' } } (vs .0) (vs .1) (vs .2) (vs .3) (vs .4) (vs .5))) taken } }, λ left. lay2 record { before = record { before = record { before = record { before = c; slice-known = record { given = g } }; shared-slice-known = record { given = g' } }; loop = record { outputs = vs .0; stations = vs .1; kept = vs .2; page = vs .3; t = vs .4; i = vs .5; inv = inv } }; loop-test = record { left = Tests.ltb-false (Row.get 8 (T8 .locals) (m7 record { before = record { before = c; slice-known = record { given = g } }; shared-slice-known = record { given = g' } } (vs .0) (vs .1) (vs .2) (vs .3) (vs .4) (vs .5))) (Row.get 10 (T8 .locals) (m7 record { before = record { before = c; slice-known = record { given = g } }; shared-slice-known = record { given = g' } } (vs .0) (vs .1) (vs .2) (vs .3) (vs .4) (vs .5))) left } })))
 
         module _ (κs : Lifetimes.Lfts 5) (qs : Lifetimes.Shares 5) where
           pub asked :
@@ -1807,7 +1810,7 @@ module _ (claims· : Claims) where
               (pre : Pre· κs a) →
               (bs : List.List Nat.ℕ) →
               Φ (Any.wantQ 5 ps r xs m κs qs a (Post· κs a)) (Function.init 5 ps r xs m κs qs a)
-          asked = λ a good pre bs. laid record { κs = κs; args = record { outputs = a .0; stations = a .1 .0; time = a .1 .1 .0; page = a .1 .1 .1 .0; from = a .1 .1 .1 .1 .0; s = a .1 .1 .1 .1 .1 .0 }; good = good; pre = pre }
+          asked = λ a good pre bs. laid record { κs = κs; args = record { outputs = a .0; stations = a .1 .0; kept = a .1 .1 .0; page = a .1 .1 .1 .0; from = a .1 .1 .1 .1 .0; s = a .1 .1 .1 .1 .1 .0 }; good = good; pre = pre }
 
         module _ {M : Type 1} (𝓤 : URA.URA M) (H : Wp.Heap 𝓤) (A : Atoms.Atoms 𝓤)
             (W : Kit.Given 𝓤 H A) (𝓣 : Wp.Tables 𝓤 H)
