@@ -180,7 +180,7 @@ def room(job, crates):
 
 
 def verdict(where, crates, change):
-    """survives, refused, or untyped: an error in specs/ says that the changed definition is none."""
+    """untyped: an error in specs/ says that the changed definition is none. undecided: no verdict was given."""
     path, _, start, end, new, brings = change
     text = read(path)
     write(os.path.join(where, path), changed(text, start, end, new, brings))
@@ -190,12 +190,12 @@ def verdict(where, crates, change):
             shutil.rmtree(os.path.join(where, 'target', 'inc', crate), ignore_errors=True)
             if os.path.isdir('target/inc/' + crate):
                 shutil.copytree('target/inc/' + crate, os.path.join(where, 'target', 'inc', crate))
-            done = subprocess.run(['rt', 'dev', crate], cwd=where, capture_output=True, text=True)
-            said = done.stdout + done.stderr
+            said = subprocess.run(['rt', 'dev', crate], cwd=where, stdout=subprocess.PIPE, stderr=subprocess.STDOUT, text=True).stdout
             if re.search(r'/specs/\S+: error', said):
                 return 'untyped'
-            if not re.search(r'^logic=proved', said, re.M):
-                return 'refused' if re.search(r'^logic=not-proved', said, re.M) else 'untyped'
+            last = re.findall(r'^logic=(\S+)', said, re.M)[-1:]    # the crate's own; those that it rests on come before
+            if last != ['proved']:
+                return 'refused' if last == ['not-proved'] else 'undecided'
         return 'survives'
     finally:
         write(os.path.join(where, path), text)
@@ -226,7 +226,7 @@ def main():
         if subprocess.run(['rt', 'dev', crate], capture_output=True).returncode:
             sys.exit('mutate.py: %s is not proved as it stands' % crate)
     rooms = [room(job, crates) for job in range(asked.jobs)]
-    count, left = {'survives': 0, 'refused': 0, 'untyped': 0}, []
+    count, left = {'survives': 0, 'refused': 0, 'untyped': 0, 'undecided': 0}, []
 
     def try_one(change):
         where = rooms.pop()
@@ -237,13 +237,13 @@ def main():
     with concurrent.futures.ThreadPoolExecutor(asked.jobs) as jobs:
         for change, said in jobs.map(try_one, made):
             count[said] += 1
-            if said == 'survives':
-                mark = 'known' if key(change) in known else 'NOT KNOWN'
+            if said in ('survives', 'undecided'):
+                mark = 'NO VERDICT' if said == 'undecided' else 'known' if key(change) in known else 'NOT KNOWN'
                 left += [change] if mark == 'NOT KNOWN' else []
                 print('%s: %s: %s' % (mark, os.path.relpath(change[0], 'crates'), ' | '.join(key(change))), flush=True)
-    print('mutate.py: %d changes on %s: %d refused by the proofs, %d no definitions, %d left, %d of them not known'
-          % (len(made), ', '.join(crates), count['refused'], count['untyped'], count['survives'], len(left)))
-    return 1 if left else 0
+    print('mutate.py: %d changes on %s: %d refused by the proofs, %d no definitions, %d undecided, %d left, %d not known'
+          % (len(made), ', '.join(crates), count['refused'], count['untyped'], count['undecided'], count['survives'], len(left)))
+    return 1 if left or count['undecided'] else 0
 
 
 sys.exit(main())
