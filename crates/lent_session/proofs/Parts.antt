@@ -8,13 +8,14 @@ use lib.ListN.{length, take, drop}
 use Rattle.lighting_panel.specs.Paper.Panel.{Panel, panelOf}
 use Rattle.lighting_outputs.specs.declared.Output.{Output}
 use Rattle.lighting_frames.specs.declared.Station.{Station}
+use Rattle.lighting_panel.specs.declared.PanelRecord.{PanelRecord}
 use Rattle.replay_line.proofs.Named.{part-taken, part-left}
 use Rattle.lent_session.specs.Lending.{lent, returned}
 
 pub parts-joined :
-    (op : Panel → Panel) (n i k j : ℕ) (o : List Output) (s : List Station) (t : ℕ) (q : Panel) → i ≡ min n (length o) →
+    (op : Panel → Panel) (n i k j : ℕ) (o : List Output) (s : List Station) (t : PanelRecord) (q : Panel) → i ≡ min n (length o) →
     j ≡ min k (length s) →
     q ≡ op (panelOf (take (i - 0) o) (take (j - 0) s) t) →
-    panelOf (q .outputs ++ drop (i - 0) o) (q .stations ++ drop (j - 0) s) (q .time) ≡ returned n k (panelOf o s t) (op (lent n k (panelOf o s t)))
+    panelOf (q .outputs ++ drop (i - 0) o) (q .stations ++ drop (j - 0) s) (q .kept) ≡ returned n k (panelOf o s t) (op (lent n k (panelOf o s t)))
 parts-joined op n i k j o s t q e f p =
     rw (p, part-taken n i o e, part-left n i o e, part-taken k j s f, part-left k j s f)

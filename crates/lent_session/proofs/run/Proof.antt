@@ -6,11 +6,17 @@ use Rattle.lent_session.proofs.run.Proof.Tie as tie
 use Rattle.lent_session.proofs.Lent.run.Reads as reads
 use Rattle.lent_session.proofs.run.Proof.Lts as lts
 
+document-01-requires : tie.Need-document-01-requires
+document-01-requires c κs = search needs
+
 fresh-output-requires : tie.Need-fresh-output-requires
 fresh-output-requires c κs = search needs
 
 fresh-station-requires : tie.Need-fresh-station-requires
 fresh-station-requires c κs = search needs
+
+fresh-record-requires : tie.Need-fresh-record-requires
+fresh-record-requires c κs = search needs
 
 large-buffer-requires : tie.Need-large-buffer-requires
 large-buffer-requires c κs = search needs
@@ -40,8 +46,10 @@ pub run-spec : {M : Type 1} → statement M
 run-spec =
     tie.close
     (tie.spec
+    document-01-requires
     fresh-output-requires
     fresh-station-requires
+    fresh-record-requires
     large-buffer-requires
     large-buffer-requires-2
     slice-aggregate-lend

@@ -70,7 +70,7 @@ returns c =
     let f = c .before .before .frame in
     let d : take (h .result - 0) (a .bytes .now) ≡ take (a .count) (a .bytes .now) = part-taken (a .count) (h .result) (a .bytes .now) (h .ensures) in (
       rw (← part-taken (a .n) (i .result) (a .outputs .now) (i .ensures), ← part-taken (a .k) (j .result) (a .stations .now) (j .ensures), ← d) (ap (λ (x : Step). x .answer) (f .ensures)),
-      rw (← d) (parts-joined (λ (p : Panel). frameStep document01 p (take (h .result - 0) (a .bytes .now)) .panel) (a .n) (i .result) (a .k) (j .result) (a .outputs .now) (a .stations .now) (a .time .now) (panelOf (f .last .0) (f .last .1 .0) (f .last .1 .1 .0)) (i .ensures) (j .ensures) (ap (λ (x : Step). x .panel) (f .ensures))),
+      rw (← d) (parts-joined (λ (p : Panel). frameStep document01 p (take (h .result - 0) (a .bytes .now)) .panel) (a .n) (i .result) (a .k) (j .result) (a .outputs .now) (a .stations .now) (a .kept .now) (panelOf (f .last .0) (f .last .1 .0) (f .last .1 .1 .0)) (i .ensures) (j .ensures) (ap (λ (x : Step). x .panel) (f .ensures))),
     )
 
 pub send-spec : {M : Type 1} → statement M

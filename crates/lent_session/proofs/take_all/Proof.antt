@@ -10,10 +10,10 @@ use Rattle.lent_session.proofs.Lent.take_all.Reads as reads
 use Rattle.lent_session.proofs.take_all.Proof.Lts as lts
 
 abbrev Inv-loop : tie.InvT-loop
-Inv-loop outputs₀ stations₀ time₀ page₀ chunk₀ t₀ turns₀ outputs stations time page chunk t turns = (length outputs ≡ length outputs₀) × (length stations ≡ length stations₀) × (length page ≡ length page₀) × (length chunk ≡ length chunk₀)
+Inv-loop outputs₀ stations₀ kept₀ page₀ chunk₀ t₀ turns₀ outputs stations kept page chunk t turns = (length outputs ≡ length outputs₀) × (length stations ≡ length stations₀) × (length page ≡ length page₀) × (length chunk ≡ length chunk₀)
 
 abbrev μ-loop : tie.MeasureT-loop
-μ-loop outputs₀ stations₀ time₀ page₀ chunk₀ t₀ turns₀ outputs stations time page chunk t turns = turns
+μ-loop outputs₀ stations₀ kept₀ page₀ chunk₀ t₀ turns₀ outputs stations kept page chunk t turns = turns
 
 fresh-turn-requires : tie.Need-fresh-turn-requires Inv-loop μ-loop
 fresh-turn-requires c κs = search needs

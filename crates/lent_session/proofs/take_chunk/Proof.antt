@@ -10,10 +10,10 @@ use Rattle.lent_session.proofs.Lent.take_chunk.Reads as reads
 use Rattle.lent_session.proofs.take_chunk.Proof.Lts as lts
 
 abbrev Inv-loop : tie.InvT-loop
-Inv-loop outputs₀ stations₀ time₀ page₀ s t₀ i₀ outputs stations time page t i = (i ≤ length s) × (length outputs ≡ length outputs₀) × (length stations ≡ length stations₀) × (length page ≡ length page₀)
+Inv-loop outputs₀ stations₀ kept₀ page₀ s t₀ i₀ outputs stations kept page t i = (i ≤ length s) × (length outputs ≡ length outputs₀) × (length stations ≡ length stations₀) × (length page ≡ length page₀)
 
 abbrev μ-loop : tie.MeasureT-loop
-μ-loop outputs₀ stations₀ time₀ page₀ s t₀ i₀ outputs stations time page t i = length s - i
+μ-loop outputs₀ stations₀ kept₀ page₀ s t₀ i₀ outputs stations kept page t i = length s - i
 
 loop-holds : tie.Need-loop-holds Inv-loop μ-loop
 loop-holds c = search needs

@@ -72,6 +72,9 @@ put-answer-requires c κs = search needs
 with-mark-requires : tie.Need-with-mark-requires
 with-mark-requires c κs = search needs
 
+time-of-requires : tie.Need-time-of-requires
+time-of-requires c κs = search needs
+
 put-counts-requires : tie.Need-put-counts-requires
 put-counts-requires c κs = search needs
 
@@ -158,6 +161,7 @@ take-row-spec =
     with-room-requires
     put-answer-requires
     with-mark-requires
+    time-of-requires
     put-counts-requires
     put-outputs-requires
     put-stations-requires
