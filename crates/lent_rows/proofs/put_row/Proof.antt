@@ -1,13 +1,10 @@
+-- Made by tools/draft.py from the answers.txt beside it: edit that file.
 use Prim.Native.Nat.{_≤_, _-_}
 use mathlib.Core.Path.{_≡_}
 use lib.ListN.{length}
 use borrow.Author.Needs.{needs}
 use Rattle.lent_rows.proofs.put_row.Statement.{statement}
 use Rattle.lent_rows.proofs.put_row.Tie as tie
-use Rattle.lent_rows.proofs.put_row.Reads as reads
-use Rattle.lent_rows.proofs.put_row.Lts as lts
-use Rattle.text_printing.proofs.put.Reads as put-reads
-use Rattle.text_printing.proofs.put_decimal.Reads as put-decimal-reads
 
 abbrev Inv-loop : tie.InvT-loop
 Inv-loop page₀ at letter row mark₀ i₀ page mark i = (i ≤ length row) × (length page ≡ length page₀)

@@ -1,11 +1,8 @@
+-- Made by tools/draft.py from the answers.txt beside it: edit that file.
 use Prim.Native.Nat.{_≤_, _-_}
-use mathlib.Core.Path.{_≡_}
-use lib.ListN.{length}
 use borrow.Author.Needs.{needs}
 use Rattle.lent_rows.proofs.same.Statement.{statement}
 use Rattle.lent_rows.proofs.same.Tie as tie
-use Rattle.lent_rows.proofs.same.Reads as reads
-use Rattle.lent_rows.proofs.same.Lts as lts
 
 abbrev Inv-loop : tie.InvT-loop
 Inv-loop a b i₀ i = i ≤ 49

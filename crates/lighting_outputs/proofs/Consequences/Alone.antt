@@ -16,8 +16,8 @@ use Rattle.lighting_outputs.specs.declared.Answer.the-variants.{Refused}
 abbrev pub alone : ℕ → Output → Request → Outcome
 alone t o r = let done = served t (o ∷ []) 0 r in record { output = getD (done .outputs) 0 freshOutput; answer = done .answer }
 
--- what it does to the one output of a table, it does to the frame's own of any table, and no other is touched;
--- refused, it touches none
+-- what it does to the one output of a table, it does to the frame's own of any table, and no other is
+-- touched; refused, it touches none
 pub in-any-table : (t : ℕ) (l : List Output) (i : ℕ) (q : OutputRequest)
     → (served t l i (ToOutput q) .outputs ≡ set l i (alone t (getD l i freshOutput) (ToOutput q) .output))
     × (served t l i (ToOutput q) .answer ≡ alone t (getD l i freshOutput) (ToOutput q) .answer)

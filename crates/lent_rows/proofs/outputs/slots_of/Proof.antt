@@ -1,13 +1,8 @@
+-- Made by tools/draft.py from the answers.txt beside it: edit that file.
 use Prim.Native.Nat.{_≤_, _-_}
-use mathlib.Core.Path.{_≡_}
-use lib.ListN.{length}
 use borrow.Author.Needs.{needs}
 use Rattle.lent_rows.proofs.outputs.slots_of.Statement.{statement}
 use Rattle.lent_rows.proofs.outputs.slots_of.Tie as tie
-use Rattle.lent_rows.proofs.outputs.slots_of.Reads as reads
-use Rattle.lent_rows.proofs.outputs.slots_of.Lts as lts
-use Rattle.lent_rows.proofs.numbers.narrow16.Reads as narrow16-reads
-use Rattle.lent_rows.proofs.numbers.narrow32.Reads as narrow32-reads
 
 abbrev Inv-loop : tie.InvT-loop
 Inv-loop n levels₀ i₀ levels i = i ≤ 16

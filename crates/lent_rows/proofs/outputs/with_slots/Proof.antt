@@ -1,13 +1,8 @@
+-- Made by tools/draft.py from the answers.txt beside it: edit that file.
 use Prim.Native.Nat.{_≤_, _-_}
-use mathlib.Core.Path.{_≡_}
-use lib.ListN.{length}
 use borrow.Author.Needs.{needs}
 use Rattle.lent_rows.proofs.outputs.with_slots.Statement.{statement}
 use Rattle.lent_rows.proofs.outputs.with_slots.Tie as tie
-use Rattle.lent_rows.proofs.outputs.with_slots.Reads as reads
-use Rattle.lent_rows.proofs.outputs.with_slots.Lts as lts
-use Rattle.lent_rows.proofs.numbers.wide16.Reads as wide16-reads
-use Rattle.lent_rows.proofs.numbers.wide32.Reads as wide32-reads
 
 abbrev Inv-loop : tie.InvT-loop
 Inv-loop levels r₀ i₀ r i = i ≤ 16

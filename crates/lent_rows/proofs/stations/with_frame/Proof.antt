@@ -1,12 +1,8 @@
+-- Made by tools/draft.py from the answers.txt beside it: edit that file.
 use Prim.Native.Nat.{_≤_, _-_}
-use mathlib.Core.Path.{_≡_}
-use lib.ListN.{length}
 use borrow.Author.Needs.{needs}
 use Rattle.lent_rows.proofs.stations.with_frame.Statement.{statement}
 use Rattle.lent_rows.proofs.stations.with_frame.Tie as tie
-use Rattle.lent_rows.proofs.stations.with_frame.Reads as reads
-use Rattle.lent_rows.proofs.stations.with_frame.Lts as lts
-use Rattle.lent_rows.proofs.numbers.wide8.Reads as wide8-reads
 
 abbrev Inv-loop : tie.InvT-loop
 Inv-loop frame r₀ i₀ r i = i ≤ 31
