@@ -14,6 +14,7 @@ import sys
 AXIOMS = {
     'replay': ['libc::read', 'libc::write', 'os::c::rattle_arg', 'os::c::rattle_set_errno'],
     'bench_figures': ['libc::read', 'libc::write'],
+    'lent_tables': ['libc::read', 'libc::write'],
 }
 PAGE = 'docs/TRUST.md'
 BEGIN, END = '<!-- made by tools/trust.py -->', '<!-- to here -->'
