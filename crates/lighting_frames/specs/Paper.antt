@@ -1,6 +1,6 @@
 -- DOCUMENT 01 AND §1 TO §5 AS DEFINITIONS, this layer's part: what a reader must believe. In reading order;
--- docs/PAPER.md has all layers. 'Frames': the table of kinds; a command in BACnet's own tagging (§1); a
--- string of bytes read
+-- docs/PAPER.md has all layers.
+-- 'Frames': the table of kinds; a command in BACnet's own tagging (§1); a string of bytes read
 pub mod Kinds
 pub mod Tags
 pub mod Frames

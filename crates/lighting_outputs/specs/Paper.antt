@@ -1,5 +1,6 @@
 -- DOCUMENT 01 AND §1 TO §5 AS DEFINITIONS, this layer's part: what a reader must believe. In reading order;
--- docs/PAPER.md has all layers. the set of parameters, and which sets a panel may have
+-- docs/PAPER.md has all layers.
+-- the set of parameters, and which sets a panel may have
 pub mod Parameters
 pub mod Startable
 -- 'An output's record': slots, what an output shows, its relay (§3), every way to change its record

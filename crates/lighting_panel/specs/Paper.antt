@@ -1,5 +1,6 @@
 -- DOCUMENT 01 AND §1 TO §5 AS DEFINITIONS, this layer's part: what a reader must believe. In reading order;
--- docs/PAPER.md has all layers. the panel, its counts, and the start
+-- docs/PAPER.md has all layers.
+-- the panel, its counts, and the start
 pub mod Panel
 -- 'The plain panel' over a list; demand 3; what a caller may conclude
 pub mod Plain
