@@ -2,7 +2,6 @@
 pub mod clear
 pub mod lend_output
 pub mod lend_station
-pub mod send
 pub mod put_outputs
 pub mod put_stations
 pub mod take_row

@@ -8,17 +8,11 @@
 //   l          what is left: a row t, and a row for each lent record that is not fresh
 // Any other line is a comment.
 //
-// The contract of `send` gives the panel's part whole. What is read and written no contract can say: the
-// stored text and the comparison of tests/lent look at it, and the functions about it are proved safe and
-// ending.
-ghost use mathlib.Core.Path.{_≡_};
-ghost use lib.ListN.{take};
-ghost use Rattle.lighting_panel.specs.Paper.Panel.{panelOf};
-ghost use Rattle.lent_session.specs.Lending.{sent};
-use lent_rows::NUMBERS;
+// The contract of `lent_parts::send` gives the panel's part whole. What is read and written no contract can
+// say: the stored text and the comparison of tests/lent look at it, and the functions about it are proved
+// safe and ending.
 use lent_rows::Row;
 use lighting_frames::Station;
-use lighting_outputs::Answer;
 use lighting_outputs::Output;
 use lighting_panel::PanelRecord;
 
@@ -116,31 +110,6 @@ fn lend_station(stations: &mut [Station], at: usize, k: Station) {
     }
 }
 
-// The first n outputs and the first k stations are lent to the panel, with the first `count` bytes.
-fn send(
-    outputs: &mut [Output],
-    stations: &mut [Station],
-    kept: &mut PanelRecord,
-    n: usize,
-    k: usize,
-    bytes: &[u8; NUMBERS],
-    count: usize,
-) -> Answer
-    ensures { λ a. ⌜ a ≡ sent n k (take count (now (bytes .entry))) (panelOf (now (outputs .entry)) (now (stations .entry)) (now (kept .entry))) .answer ⌝ }
-    ensures { λ _. ⌜ panelOf (now (outputs .exit)) (now (stations .exit)) (now (kept .exit)) ≡ sent n k (take count (now (bytes .entry))) (panelOf (now (outputs .entry)) (now (stations .entry)) (now (kept .entry))) .panel ⌝ }
-{
-    let lent = number_ranges::least(n, outputs.len());
-    let beside = number_ranges::least(k, stations.len());
-    let all = &bytes[..];
-    let held = number_ranges::least(count, all.len());
-    panel::frame(
-        &mut outputs[0..lent],
-        &mut stations[0..beside],
-        kept,
-        &all[0..held],
-    )
-}
-
 // ---- what is left
 
 fn put_counts(page: &mut [u8], mark: usize, n: usize, k: usize, time: u64) -> usize {
@@ -227,7 +196,7 @@ fn take_row(
         }
         b'f' => {
             let bytes = lent_rows::bytes_of(numbers);
-            let a = send(
+            let a = lent_parts::send(
                 outputs,
                 stations,
                 kept,

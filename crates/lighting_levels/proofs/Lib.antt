@@ -7,6 +7,8 @@ pub mod Choosing
 pub mod Scan
 -- tools: a number that none of a match's keys is
 pub mod Keys
+-- tools: the first entries of a list, and the rest
+pub mod Parts
 -- every one of a list
 pub mod Every
 -- the product of two numbers of k bits

@@ -1,5 +1,4 @@
 -- Made by tools/twin.py.
-pub mod panel_sound
 pub mod arrive
 pub mod execute
 pub mod start

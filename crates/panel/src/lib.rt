@@ -6,33 +6,14 @@ ghost use mathlib.Core.Path.{_≡_};
 ghost use lib.ListN.{length};
 ghost use Rattle.lighting_outputs.specs.Paper.Parameters.{document01};
 ghost use Rattle.lighting_panel.specs.Engine.VerdictPrecondition.{Standing, Arrival, VerdictPrecondition};
-ghost use Rattle.lighting_panel.specs.Paper.Panel.{panelOf, result, panelSound, startStep};
+ghost use Rattle.lighting_panel.specs.Paper.Panel.{panelOf, result, startStep};
 ghost use Rattle.lighting_panel.specs.Engine.Executing.{execute, frameStep};
 use lighting_frames::Call;
 use lighting_frames::Station;
 use lighting_frames::Verdict;
 use lighting_outputs::Answer;
 use lighting_outputs::Output;
-use lighting_outputs::Parameters;
 use lighting_panel::PanelRecord;
-
-// Refusal 1: the counts, then each record.
-fn panel_sound(
-    outputs: &[Output],
-    stations: &[Station],
-    kept: PanelRecord,
-    parameters: Parameters,
-) -> bool
-    ensures { λ r. ⌜ r ≡ panelSound parameters (panelOf (now (outputs .entry)) (now (stations .entry)) kept) ⌝ }
-{
-    if !station_judging::counts_sound(parameters, outputs.len(), stations.len()) {
-        return false;
-    }
-    if !panel_tables::outputs_sound(outputs, parameters, panel_record::time_of(kept)) {
-        return false;
-    }
-    panel_tables::stations_sound(stations)
-}
 
 // A first arrival: the panel goes to its time and acts, and the station keeps number, frame and answer.
 fn arrive(
@@ -113,9 +94,9 @@ pub fn frame(
 {
     let record = *kept;
     let parameters = panel_record::document_01();
-    if !panel_sound(outputs, stations, record, parameters) {
+    if !panel_judging::panel_sound(outputs, stations, record, parameters) {
         return Answer::Refused(1);
     }
-    let verdict = panel_tables::decide(outputs, stations, record, parameters, bytes);
+    let verdict = panel_judging::decide(outputs, stations, record, parameters, bytes);
     execute(outputs, stations, kept, bytes, verdict)
 }

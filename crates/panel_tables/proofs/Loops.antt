@@ -1,14 +1,10 @@
--- Loops over a table, of any type of records: what one that changes each in turn has done up to an index, and
--- what one that tests each has found.
+-- A loop that changes each record of a table in turn, of any type: what it has done up to an index.
 use mathlib.Core.Path.{_≡_, refl, sym, ap, _∙_}
-use mathlib.Core.Bool.{Bool, true, false}
 use mathlib.Core.List.{List, [], _∷_, map}
 use Prim.Native.Nat.{ℕ, zero, suc, _+_, _<_, _≤_}
 use native.Mathlib.Numerals.{add-one}
 use native.Mathlib.Omega.{arith}
-use lib.ListN.{length, getD, set, drop, replicate, drop-of-length-le}
-use lib.Seq.{drop-cons}
-use Rattle.lighting_levels.specs.Paper.Choice.{if_then_else_, _also_, every}
+use lib.ListN.{length, getD, set, replicate}
 
 module _ {A : Type 0} where
   -- the first i records changed by f, and the others as they were
@@ -43,23 +39,3 @@ module _ {A : Type 0} where
 
   pub mapped-alike : (x : A) (i : ℕ) (xs ys : List A) → ys ≡ mapped (λ (_ : A). x) i xs → length xs ≤ i → ys ≡ replicate (length xs) x
   mapped-alike x i xs ys e h = mapped-all (λ (_ : A). x) i xs ys e h ∙ alike x xs
-
-  -- every record passes if each from i on does
-  opened : (p : A → Bool) (i : ℕ) (xs : List A) (d : A) (t : Bool) → i < length xs → p (getD xs i d) ≡ t
-      → every p (drop i xs) ≡ (t also every p (drop (i + 1) xs))
-  unfolding every
-  opened p i xs d t h e = rw (add-one, drop-cons xs i d h, e)
-
-  pub every-more : (p : A → Bool) (i : ℕ) (xs : List A) (d : A) → every p xs ≡ every p (drop i xs) → i < length xs → p (getD xs i d) ≡ true
-      → every p xs ≡ every p (drop (i + 1) xs)
-  unfolding if_then_else_
-  every-more p i xs d e h q = e ∙ opened p i xs d true h q
-
-  pub every-stop : (p : A → Bool) (i : ℕ) (xs : List A) (d : A) → every p xs ≡ every p (drop i xs) → i < length xs → p (getD xs i d) ≡ false
-      → false ≡ every p xs
-  unfolding if_then_else_
-  every-stop p i xs d e h q = sym (e ∙ opened p i xs d false h q)
-
-  pub every-all : (p : A → Bool) (i : ℕ) (xs : List A) → every p xs ≡ every p (drop i xs) → length xs ≤ i → true ≡ every p xs
-  unfolding every
-  every-all p i xs e h = sym (rw (drop-of-length-le xs {i = i} h) at e)

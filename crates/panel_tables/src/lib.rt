@@ -1,29 +1,21 @@
 // The tables that a caller lends: each record in turn, and one record taken out and put back. The functions
 // here are thin: a record is taken out of its table by value, a by-value function of the crates below does
 // the work, and the record is put back.
-ghost use mathlib.Core.Bool.{true};
 ghost use mathlib.Core.List.{map};
 ghost use mathlib.Core.Path.{_≡_};
 ghost use Prim.Native.Nat.{_≤_, _<_, _^_};
 ghost use lib.ListN.{length, replicate, set, getD};
-ghost use Rattle.lighting_outputs.specs.Paper.Startable.{startable};
 ghost use Rattle.lighting_outputs.specs.Paper.Fresh.{freshFor, freshOutput};
-ghost use Rattle.lighting_frames.specs.Paper.Stations.{freshStation, stationSound};
+ghost use Rattle.lighting_frames.specs.Paper.Stations.{freshStation};
 ghost use Rattle.lighting_outputs.specs.Engine.Advance.{advance};
-ghost use Rattle.lighting_outputs.specs.Paper.Rules.{sound};
 ghost use Rattle.lighting_outputs.specs.Paper.Acting.{served};
-ghost use Rattle.lighting_levels.specs.Paper.Choice.{every};
-ghost use Rattle.lighting_panel.specs.Paper.Panel.{panelOf};
 ghost use Rattle.lighting_panel.specs.Engine.VerdictPrecondition.{Standing};
-ghost use Rattle.lighting_panel.specs.Engine.Judging.{decide};
 use lighting_frames::Station;
-use lighting_frames::Verdict;
 use lighting_outputs::Answer;
 use lighting_outputs::Output;
 use lighting_outputs::OutputRequest;
 use lighting_outputs::Parameters;
 use lighting_outputs::Request;
-use lighting_panel::PanelRecord;
 
 // ---- each record of a table
 
@@ -47,34 +39,6 @@ pub fn fresh_stations(stations: &mut [Station])
         stations[i] = fresh;
         i += 1;
     }
-}
-
-pub fn outputs_sound(outputs: &[Output], parameters: Parameters, t: u64) -> bool
-    ensures { λ r. ⌜ r ≡ every (sound parameters t) (now (outputs .entry)) ⌝ }
-{
-    let mut i: usize = 0;
-    while i < outputs.len() {
-        let o = outputs[i];
-        if !output_rules::is_sound(parameters, t, o) {
-            return false;
-        }
-        i += 1;
-    }
-    true
-}
-
-pub fn stations_sound(stations: &[Station]) -> bool
-    ensures { λ r. ⌜ r ≡ every stationSound (now (stations .entry)) ⌝ }
-{
-    let mut i: usize = 0;
-    while i < stations.len() {
-        let k = stations[i];
-        if !station_judging::station_sound(k) {
-            return false;
-        }
-        i += 1;
-    }
-    true
 }
 
 // Brings one output to a moment, from due moment to due moment. A function of its own, so that the copies of
@@ -156,22 +120,4 @@ pub fn serve(outputs: &mut [Output], time: u64, at: usize, request: Request) -> 
         Request::Refuse(number) => Answer::Refused(number),
         Request::ToOutput(asked) => serve_output(outputs, time, at, asked),
     }
-}
-
-// What is to be done with the bytes, by the record of the station that they name.
-pub fn decide(
-    outputs: &[Output],
-    stations: &[Station],
-    kept: PanelRecord,
-    parameters: Parameters,
-    bytes: &[u8],
-) -> Verdict
-    requires { ⌜ startable parameters ≡ true ⌝ }
-    requires { ⌜ length (now stations) ≡ parameters .stations ⌝ }
-    ensures { λ v. ⌜ v ≡ decide parameters (panelOf (now (outputs .entry)) (now (stations .entry)) kept) (now (bytes .entry)) ⌝ }
-{
-    let f = frame_parse::parse(parameters, outputs.len(), bytes);
-    let at = number_ranges::index(station_judging::station_of(f));
-    let record = stations[at];
-    station_judging::judge_by_station(panel_record::time_of(kept), record, bytes, f)
 }

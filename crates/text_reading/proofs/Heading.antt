@@ -7,7 +7,8 @@ use native.Mathlib.Omega.{arith}
 use Rattle.lighting_levels.specs.Paper.Choice.{if_then_else_}
 use Rattle.lighting_frames.specs.Paper.Frames.{Bytes}
 use Rattle.lighting_levels.proofs.Split.{eqb-hit, eqb-miss, leb-yes}
-use Rattle.text_reading.specs.Reading.{isBlank, letter, opened, lettered, spelled, gapped, grownHeld, numbered, step, storedBy, withHeld, feed, lineOf, countLine}
+use Rattle.text_characters.specs.Characters.{isBlank}
+use Rattle.text_reading.specs.Reading.{letter, opened, lettered, spelled, gapped, grownHeld, numbered, step, storedBy, withHeld, feed, lineOf, countLine}
 use Rattle.text_reading.specs.Spelling.{figure, Blanks, no-blank, one-blank, Writes, no-digit, one-digit, outputsWord, Heading, heading}
 use Rattle.text_reading.specs.declared.Held.{Held}
 use Rattle.text_reading.specs.declared.Held.the-variants.{Blank, Letters, Gap, Number, Trail}

@@ -8,7 +8,8 @@ use lib.ListN.{length, take}
 use Rattle.lighting_levels.specs.Paper.Choice.{if_then_else_}
 use Rattle.lighting_frames.specs.Paper.Frames.{Bytes, Octets}
 use Rattle.lighting_levels.proofs.Split.{leb-yes}
-use Rattle.text_reading.specs.Reading.{bytesKept, isBlank, hexValue, opened, step, storedBy, withHeld, feed, fed, lineOf, content, nextLine, withOutputs, freshReader}
+use Rattle.text_characters.specs.Characters.{isBlank, hexValue}
+use Rattle.text_reading.specs.Reading.{bytesKept, opened, step, storedBy, withHeld, feed, fed, lineOf, content, nextLine, withOutputs, freshReader}
 use Rattle.text_reading.specs.Spelling.{Unbroken, nothing, char, Blanks, no-blank, one-blank, Silent, blanks, comment, Gives, bytes, dash}
 use Rattle.text_reading.specs.declared.Held.{Held}
 use Rattle.text_reading.specs.declared.Held.the-variants.{Blank, Comment, Dash}

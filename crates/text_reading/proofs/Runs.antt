@@ -8,7 +8,8 @@ use lib.ListN.{length, getD, set}
 use Rattle.lighting_levels.specs.Paper.Choice.{if_then_else_}
 use Rattle.lighting_frames.specs.Paper.Frames.{Bytes}
 use Rattle.lighting_levels.proofs.Split.{by-lt, le-of, leb-yes}
-use Rattle.text_reading.specs.Reading.{isBlank, hexValue, mayBegin, bytesKept, bytePair, pushed, withHeld, feed}
+use Rattle.text_characters.specs.Characters.{isBlank, hexValue, bytePair}
+use Rattle.text_reading.specs.Reading.{mayBegin, bytesKept, pushed, withHeld, feed}
 use Rattle.text_reading.specs.Spelling.{Digit, figure, upper, lower}
 use Rattle.text_reading.specs.declared.Held.{Held}
 use Rattle.text_reading.specs.declared.Held.the-variants.{Blank, Comment, Letters, Gap, Number, Trail, Whole, Half, Dash, Spoilt}

@@ -12,7 +12,8 @@ use lib.Seq.{take-all, take-append-le, take-suc-set}
 use Rattle.lighting_levels.specs.Paper.Choice.{if_then_else_}
 use Rattle.lighting_frames.specs.Paper.Frames.{Bytes, Octets}
 use Rattle.lighting_levels.proofs.Split.{by-eq, by-lt, eq-of, eqb-miss, leb-yes, leb-no}
-use Rattle.text_reading.specs.Reading.{bytesKept, isBlank, hexValue, digitHeld, opened, gapped, trailed, byteHeld, halfHeld, dashed, step, bytePair, pushed, joined, storedBy, withHeld, feed, fed, lineOf, content}
+use Rattle.text_characters.specs.Characters.{isBlank, hexValue, bytePair}
+use Rattle.text_reading.specs.Reading.{bytesKept, digitHeld, opened, gapped, trailed, byteHeld, halfHeld, dashed, step, pushed, joined, storedBy, withHeld, feed, fed, lineOf, content}
 use Rattle.text_reading.specs.Spelling.{Digit, figure, upper, lower, Spells, end, blank, byte, Unbroken, nothing, char}
 use Rattle.text_reading.specs.declared.Held.{Held}
 use Rattle.text_reading.specs.declared.Held.the-variants.{Blank, Gap, Trail, Whole, Half, Dash}

@@ -1,12 +1,13 @@
 -- The text of a list of frames, read one byte at a time. Only newlines are not fed: they end a line.
 use mathlib.Core.Bool.{Bool, true, false}
 use mathlib.Core.List.{[], _∷_}
-use Prim.Native.Nat.{ℕ, suc, _+_, _-_, _*_, _%_, min}
+use Prim.Native.Nat.{ℕ, suc, _+_, _*_, min}
 use lib.Dec.{ltb, eqb}
 use lib.ListN.{set, replicate, take}
 use Rattle.lighting_levels.specs.Paper.Choice.{if_then_else_}
 use Rattle.lighting_frames.specs.Paper.Kinds.{longestFrame}
 use Rattle.lighting_frames.specs.Paper.Frames.{Bytes}
+use Rattle.text_characters.specs.Characters.{isBlank, hexValue, bytePair}
 use Rattle.text_reading.specs.declared.Fault.the-variants.{NoOutputs, BadCount, NoDigit, HalfByte}
 use Rattle.text_reading.specs.declared.Held.{Held}
 use Rattle.text_reading.specs.declared.Held.the-variants.{Blank, Comment, Letters, Gap, Number, Trail, Whole, Half, Dash, Spoilt}
@@ -14,22 +15,7 @@ use Rattle.text_reading.specs.declared.Line.{Line}
 use Rattle.text_reading.specs.declared.Line.the-variants.{Nothing, Outputs, Frame, Wrong}
 use Rattle.text_reading.specs.declared.Reader.{Reader}
 
--- CHARACTERS. A blank, a tab, or the carriage return before a newline
-unfoldable pub isBlank : ℕ → Bool
-isBlank c = if eqb c 32 then true else if eqb c 9 then true else eqb c 13
-
--- what a hexadecimal digit is worth: 0 to 9, A to F, a to f; 16 for any other character
-unfoldable pub hexValue : ℕ → ℕ
-hexValue c =
-    if ltb c 48 then 16
-    else if ltb c 58 then c - 48
-    else if ltb c 65 then 16
-    else if ltb c 71 then c - 55
-    else if ltb c 97 then 16
-    else if ltb c 103 then c - 87
-    else 16
-
--- the letter of `outputs` after the first k: u, t, p, u, t, s
+-- THE FIRST LINE. The letter of `outputs` after the first k: u, t, p, u, t, s
 unfoldable pub letter : ℕ → ℕ
 letter k =
     if eqb k 1 then 117
@@ -114,10 +100,6 @@ mayBegin outputs (Spoilt f) = false
 -- THE READER FED. Of a string it keeps one byte more than the longest frame has
 abbrev pub bytesKept : ℕ
 bytesKept = longestFrame + 1
-
--- a byte is its two digits, the first the more significant
-unfoldable pub bytePair : ℕ → ℕ → ℕ
-bytePair d v = d % 16 * 16 + v % 16
 
 unfoldable pub pushed : Reader → ℕ → Reader
 pushed w x =

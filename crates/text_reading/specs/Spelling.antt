@@ -5,7 +5,7 @@ use mathlib.Core.Bool.{true}
 use mathlib.Core.List.{[], _∷_, _++_}
 use Prim.Native.Nat.{ℕ, _+_, _*_, _≤_, _<_}
 use Rattle.lighting_frames.specs.Paper.Frames.{Bytes}
-use Rattle.text_reading.specs.Reading.{isBlank}
+use Rattle.text_characters.specs.Characters.{isBlank}
 
 -- BYTES. A hexadecimal digit of either case, and its character: `0` to `9`, `A` to `F`, `a` to `f`
 pub data Digit : ℕ → ℕ → Type 0 where

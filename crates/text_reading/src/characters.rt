@@ -1,45 +1,9 @@
-// A character of a list, and what a line holds after one more.
+// What a line holds after one more character.
 ghost use mathlib.Core.Path.{_≡_};
 ghost use Prim.Native.Nat.{_+_, _*_, min};
-ghost use Rattle.text_reading.specs.Reading.{isBlank, hexValue, letter, digitHeld, opened, lettered, spelled, gapped, grownHeld, numbered, trailed, byteHeld, halfHeld, dashed, step, mayBegin};
+ghost use Rattle.text_reading.specs.Reading.{letter, digitHeld, opened, lettered, spelled, gapped, grownHeld, numbered, trailed, byteHeld, halfHeld, dashed, step, mayBegin};
 use crate::Fault;
 use crate::Held;
-
-// ---- characters
-
-// A blank, a tab, or the carriage return before a newline.
-pub fn is_blank(c: u8) -> bool
-    ensures { λ r. ⌜ r ≡ isBlank c ⌝ }
-{
-    if c == b' ' {
-        true
-    } else if c == b'\t' {
-        true
-    } else {
-        c == b'\r'
-    }
-}
-
-// What a hexadecimal digit of either case is worth, and 16 for any other character.
-pub fn hex_value(c: u8) -> u8
-    ensures { λ r. ⌜ r ≡ hexValue c ⌝ }
-{
-    if c < 48 {
-        16
-    } else if c < 58 {
-        c - 48
-    } else if c < 65 {
-        16
-    } else if c < 71 {
-        c - 55
-    } else if c < 97 {
-        16
-    } else if c < 103 {
-        c - 87
-    } else {
-        16
-    }
-}
 
 // The letter of `outputs` after the first k.
 fn letter(k: u8) -> u8
@@ -76,7 +40,7 @@ fn digit_held(v: u8) -> Held
 fn opened(outputs: u8, v: u8, c: u8) -> Held
     ensures { λ r. ⌜ r ≡ opened outputs v c ⌝ }
 {
-    if is_blank(c) {
+    if text_characters::is_blank(c) {
         Held::Blank
     } else if c == b'#' {
         Held::Comment
@@ -99,7 +63,7 @@ fn lettered(k: u8, l: u8, c: u8) -> Held
         } else {
             Held::Spoilt(Fault::NoOutputs)
         }
-    } else if is_blank(c) {
+    } else if text_characters::is_blank(c) {
         Held::Gap
     } else {
         Held::Spoilt(Fault::NoOutputs)
@@ -117,7 +81,7 @@ fn gapped(v: u8, c: u8) -> Held
 {
     if v < 10 {
         Held::Number(v)
-    } else if is_blank(c) {
+    } else if text_characters::is_blank(c) {
         Held::Gap
     } else {
         Held::Spoilt(Fault::BadCount)
@@ -143,7 +107,7 @@ fn numbered(n: u8, v: u8, c: u8) -> Held
 {
     if v < 10 {
         grown_held(n, v)
-    } else if is_blank(c) {
+    } else if text_characters::is_blank(c) {
         Held::Trail(n)
     } else {
         Held::Spoilt(Fault::BadCount)
@@ -153,7 +117,7 @@ fn numbered(n: u8, v: u8, c: u8) -> Held
 fn trailed(n: u8, c: u8) -> Held
     ensures { λ r. ⌜ r ≡ trailed n c ⌝ }
 {
-    if is_blank(c) {
+    if text_characters::is_blank(c) {
         Held::Trail(n)
     } else {
         Held::Spoilt(Fault::BadCount)
@@ -163,7 +127,7 @@ fn trailed(n: u8, c: u8) -> Held
 fn byte_held(v: u8, c: u8) -> Held
     ensures { λ r. ⌜ r ≡ byteHeld v c ⌝ }
 {
-    if is_blank(c) {
+    if text_characters::is_blank(c) {
         Held::Whole
     } else {
         digit_held(v)
@@ -175,7 +139,7 @@ fn half_held(v: u8, c: u8) -> Held
 {
     if v < 16 {
         Held::Whole
-    } else if is_blank(c) {
+    } else if text_characters::is_blank(c) {
         Held::Spoilt(Fault::HalfByte)
     } else {
         Held::Spoilt(Fault::NoDigit)
@@ -185,7 +149,7 @@ fn half_held(v: u8, c: u8) -> Held
 fn dashed(c: u8) -> Held
     ensures { λ r. ⌜ r ≡ dashed c ⌝ }
 {
-    if is_blank(c) {
+    if text_characters::is_blank(c) {
         Held::Dash
     } else {
         Held::Spoilt(Fault::NoDigit)

@@ -5,7 +5,7 @@ mod characters;
 ghost use mathlib.Core.Path.{_≡_};
 ghost use Prim.Native.Nat.{_+_, _*_, _≤_, min};
 ghost use lib.ListN.{length, drop};
-ghost use Rattle.text_reading.specs.Reading.{bytePair, pushed, joined, storedBy, withHeld, feed, fedLine, lineLength, countLine, lineOf, nextLine, withOutputs, freshReader};
+ghost use Rattle.text_reading.specs.Reading.{pushed, joined, storedBy, withHeld, feed, fedLine, lineLength, countLine, lineOf, nextLine, withOutputs, freshReader};
 
 // What makes a line a bad one.
 pub enum Fault {
@@ -65,13 +65,6 @@ pub struct Reader {
 
 // ---- the reader fed
 
-// The byte of two digits.
-fn byte_pair(d: u8, v: u8) -> u8
-    ensures { λ r. ⌜ r ≡ bytePair d v ⌝ }
-{
-    d % 16 * 16 + v % 16
-}
-
 fn push(w: Reader, x: u8) -> Reader
     ensures { λ r. ⌜ r ≡ pushed w x ⌝ }
 {
@@ -95,7 +88,7 @@ fn push(w: Reader, x: u8) -> Reader
 fn join(w: Reader, d: u8, v: u8) -> Reader
     ensures { λ r. ⌜ r ≡ joined w d v ⌝ }
 {
-    push(w, byte_pair(d, v))
+    push(w, text_characters::byte_pair(d, v))
 }
 
 fn store(w: Reader, h: Held, v: u8) -> Reader
@@ -132,7 +125,7 @@ fn feed(w: Reader, c: u8) -> Reader
     ensures { λ r. ⌜ r ≡ feed w c ⌝ }
 {
     let h = w.held;
-    let v = characters::hex_value(c);
+    let v = text_characters::hex_value(c);
     let stored = store(w, h, v);
     with_held(stored, characters::step(w.outputs, h, v, c))
 }
@@ -162,7 +155,7 @@ fn feed_bytes(w: Reader, s: &[u8], from: usize) -> Fed
     if characters::may_begin(outputs, held) {
         while i < s.len() {
             let c = s[i];
-            let d = characters::hex_value(c);
+            let d = text_characters::hex_value(c);
             if d < 16 {
                 if BYTES_KEPT <= count {
                     break;
@@ -170,16 +163,16 @@ fn feed_bytes(w: Reader, s: &[u8], from: usize) -> Fed
                 if s.len() <= i + 1 {
                     break;
                 }
-                let v = characters::hex_value(s[i + 1]);
+                let v = text_characters::hex_value(s[i + 1]);
                 if 16 <= v {
                     break;
                 }
-                bytes[count] = byte_pair(d, v);
+                bytes[count] = text_characters::byte_pair(d, v);
                 count += 1;
                 held = Held::Whole;
                 i += 2;
             } else {
-                if !characters::is_blank(c) {
+                if !text_characters::is_blank(c) {
                     break;
                 }
                 i += 1;

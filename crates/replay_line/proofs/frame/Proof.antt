@@ -3,11 +3,12 @@ mod Tie
 use mathlib.Core.Path.{_≡_, ap}
 use Prim.Native.Nat.{_-_, min}
 use lib.ListN.{length, take}
+use Rattle.lighting_levels.proofs.Parts.{part-taken}
 use Rattle.lighting_outputs.specs.Paper.Parameters.{document01}
 use Rattle.lighting_panel.specs.Paper.Panel.{Panel, Step, panelOf}
 use Rattle.lighting_panel.specs.Engine.Executing.{frameStep}
 use Rattle.replay_line.specs.Taking.{sent}
-use Rattle.replay_line.proofs.Named.{part-taken, part-joined}
+use Rattle.replay_line.proofs.Named.{part-joined}
 use borrow.Author.Needs.{needs}
 use Rattle.replay_line.proofs.frame.Statement.{statement}
 use Rattle.replay_line.proofs.frame.Proof.Tie as tie

@@ -462,7 +462,7 @@ abbrev b86 : Syntax.Body
 b86 = Syntax.assign (Syntax.place 60 List.[]) (Syntax.addrOf (Syntax.place 13 List.[]))
 
 abbrev b87 : Syntax.Body
-b87 = Syntax.call "lent_session::send" (List._∷_ (Syntax.copy (Syntax.place 56 List.[])) (List._∷_ (Syntax.copy (Syntax.place 58 List.[])) (List._∷_ (Syntax.copy (Syntax.place 59 List.[])) (List._∷_ (Syntax.copy (Syntax.place 5 (List._∷_ (Syntax.field 1) List.[]))) (List._∷_ (Syntax.copy (Syntax.place 5 (List._∷_ (Syntax.field 2) List.[]))) (List._∷_ (Syntax.copy (Syntax.place 60 List.[])) (List._∷_ (Syntax.copy (Syntax.place 7 (List._∷_ (Syntax.field 2) List.[]))) List.[]))))))) (Syntax.place 14 List.[])
+b87 = Syntax.call "lent_parts::send" (List._∷_ (Syntax.copy (Syntax.place 56 List.[])) (List._∷_ (Syntax.copy (Syntax.place 58 List.[])) (List._∷_ (Syntax.copy (Syntax.place 59 List.[])) (List._∷_ (Syntax.copy (Syntax.place 5 (List._∷_ (Syntax.field 1) List.[]))) (List._∷_ (Syntax.copy (Syntax.place 5 (List._∷_ (Syntax.field 2) List.[]))) (List._∷_ (Syntax.copy (Syntax.place 60 List.[])) (List._∷_ (Syntax.copy (Syntax.place 7 (List._∷_ (Syntax.field 2) List.[]))) List.[]))))))) (Syntax.place 14 List.[])
 
 abbrev b88 : Syntax.Body
 b88 = Syntax.assign (Syntax.place 61 List.[]) (Syntax.addrOf (Syntax.place 4 (List._∷_ (Syntax.field 0) (List._∷_ (Syntax.deref (Syntax.tyInt Syntax.w8)) List.[]))))
@@ -2164,7 +2164,7 @@ module _ (claims· : Claims) where
       (Post· : (κs : Lifetimes.Lfts 4) → (a : Kinds.Dens κs ps) → Kinds.Plain 4 ps r κs) where
     module _ (M : Type 1) where
       abbrev pub Closed : Type 2
-      Closed = (𝓤 : URA.URA M) (H : Wp.Heap 𝓤) (A : Atoms.Atoms 𝓤) (W : Kit.Given 𝓤 H A) (𝓣 : Wp.Tables 𝓤 H) (known0 : Plain.Known 𝓤 H A W 𝓣 0 ps·0 r·0 (claims· .0) (claims· .1) "lent_rows::closed") (known1 : Plain.Known 𝓤 H A W 𝓣 0 ps·1 r·1 (claims· .2) (claims· .3) "lent_session::with_next_row") (known2 : Plain.Known 𝓤 H A W 𝓣 3 ps·2 r·2 (claims· .4) (claims· .5) "lent_session::clear") (known3 : Plain.Known 𝓤 H A W 𝓣 0 ps·3 r·3 (claims· .6) (claims· .7) "lent_rows::numbers::place") (known4 : Plain.Known 𝓤 H A W 𝓣 0 ps·4 r·4 (claims· .8) (claims· .9) "lent_session::with_counts") (known5 : Plain.Known 𝓤 H A W 𝓣 0 ps·5 r·5 (claims· .10) (claims· .11) "lent_rows::outputs::output_of") (known6 : Plain.Known 𝓤 H A W 𝓣 1 ps·6 r·6 (claims· .12) (claims· .13) "lent_session::lend_output") (known7 : Plain.Known 𝓤 H A W 𝓣 0 ps·7 r·7 (claims· .14) (claims· .15) "lent_rows::stations::station_of") (known8 : Plain.Known 𝓤 H A W 𝓣 1 ps·8 r·8 (claims· .16) (claims· .17) "lent_session::lend_station") (known9 : Plain.Known 𝓤 H A W 𝓣 0 ps·9 r·9 (claims· .18) (claims· .19) "lent_rows::bytes_of") (known10 : Plain.Known 𝓤 H A W 𝓣 4 ps·10 r·10 (claims· .20) (claims· .21) "lent_session::send") (known11 : Plain.Known 𝓤 H A W 𝓣 1 ps·11 r·11 (claims· .22) (claims· .23) "text_found::with_room") (known12 : Plain.Known 𝓤 H A W 𝓣 1 ps·12 r·12 (claims· .24) (claims· .25) "text_printing::put_answer") (known13 : Plain.Known 𝓤 H A W 𝓣 0 ps·13 r·13 (claims· .26) (claims· .27) "lent_session::with_mark") (known14 : Plain.Known 𝓤 H A W 𝓣 0 ps·14 r·14 (claims· .28) (claims· .29) "panel_record::time_of") (known15 : Plain.Known 𝓤 H A W 𝓣 1 ps·15 r·15 (claims· .30) (claims· .31) "lent_session::put_counts") (known16 : Plain.Known 𝓤 H A W 𝓣 2 ps·16 r·16 (claims· .32) (claims· .33) "lent_session::put_outputs") (known17 : Plain.Known 𝓤 H A W 𝓣 2 ps·17 r·17 (claims· .34) (claims· .35) "lent_session::put_stations") → Statement.Triple 𝓤 (Wp.WpFn 𝓤 H (𝓣 .C) (𝓣 .Λ) (Function.fnOf 4 ps r xs m hs body)) (Function.plainOf 𝓤 H A 4 ps r Pre· Post·)
+      Closed = (𝓤 : URA.URA M) (H : Wp.Heap 𝓤) (A : Atoms.Atoms 𝓤) (W : Kit.Given 𝓤 H A) (𝓣 : Wp.Tables 𝓤 H) (known0 : Plain.Known 𝓤 H A W 𝓣 0 ps·0 r·0 (claims· .0) (claims· .1) "lent_rows::closed") (known1 : Plain.Known 𝓤 H A W 𝓣 0 ps·1 r·1 (claims· .2) (claims· .3) "lent_session::with_next_row") (known2 : Plain.Known 𝓤 H A W 𝓣 3 ps·2 r·2 (claims· .4) (claims· .5) "lent_session::clear") (known3 : Plain.Known 𝓤 H A W 𝓣 0 ps·3 r·3 (claims· .6) (claims· .7) "lent_rows::numbers::place") (known4 : Plain.Known 𝓤 H A W 𝓣 0 ps·4 r·4 (claims· .8) (claims· .9) "lent_session::with_counts") (known5 : Plain.Known 𝓤 H A W 𝓣 0 ps·5 r·5 (claims· .10) (claims· .11) "lent_rows::outputs::output_of") (known6 : Plain.Known 𝓤 H A W 𝓣 1 ps·6 r·6 (claims· .12) (claims· .13) "lent_session::lend_output") (known7 : Plain.Known 𝓤 H A W 𝓣 0 ps·7 r·7 (claims· .14) (claims· .15) "lent_rows::stations::station_of") (known8 : Plain.Known 𝓤 H A W 𝓣 1 ps·8 r·8 (claims· .16) (claims· .17) "lent_session::lend_station") (known9 : Plain.Known 𝓤 H A W 𝓣 0 ps·9 r·9 (claims· .18) (claims· .19) "lent_rows::bytes_of") (known10 : Plain.Known 𝓤 H A W 𝓣 4 ps·10 r·10 (claims· .20) (claims· .21) "lent_parts::send") (known11 : Plain.Known 𝓤 H A W 𝓣 1 ps·11 r·11 (claims· .22) (claims· .23) "text_found::with_room") (known12 : Plain.Known 𝓤 H A W 𝓣 1 ps·12 r·12 (claims· .24) (claims· .25) "text_printing::put_answer") (known13 : Plain.Known 𝓤 H A W 𝓣 0 ps·13 r·13 (claims· .26) (claims· .27) "lent_session::with_mark") (known14 : Plain.Known 𝓤 H A W 𝓣 0 ps·14 r·14 (claims· .28) (claims· .29) "panel_record::time_of") (known15 : Plain.Known 𝓤 H A W 𝓣 1 ps·15 r·15 (claims· .30) (claims· .31) "lent_session::put_counts") (known16 : Plain.Known 𝓤 H A W 𝓣 2 ps·16 r·16 (claims· .32) (claims· .33) "lent_session::put_outputs") (known17 : Plain.Known 𝓤 H A W 𝓣 2 ps·17 r·17 (claims· .34) (claims· .35) "lent_session::put_stations") → Statement.Triple 𝓤 (Wp.WpFn 𝓤 H (𝓣 .C) (𝓣 .Λ) (Function.fnOf 4 ps r xs m hs body)) (Function.plainOf 𝓤 H A 4 ps r Pre· Post·)
 
     module _ where
       abbrev at0 : (bs : List.List Nat.ℕ) → Typed.TF T51 O1
@@ -2785,7 +2785,7 @@ module _ (claims· : Claims) where
       module _ {M : Type 1} (𝓤 : URA.URA M) (H : Wp.Heap 𝓤) (A : Atoms.Atoms 𝓤)
           (W : Kit.Given 𝓤 H A) (𝓣 : Wp.Tables 𝓤 H) where
         abbrev Knowns : Type 1
-        Knowns = Plain.Known 𝓤 H A W 𝓣 0 ps·0 r·0 (claims· .0) (claims· .1) "lent_rows::closed" × Plain.Known 𝓤 H A W 𝓣 0 ps·1 r·1 (claims· .2) (claims· .3) "lent_session::with_next_row" × Plain.Known 𝓤 H A W 𝓣 3 ps·2 r·2 (claims· .4) (claims· .5) "lent_session::clear" × Plain.Known 𝓤 H A W 𝓣 0 ps·3 r·3 (claims· .6) (claims· .7) "lent_rows::numbers::place" × Plain.Known 𝓤 H A W 𝓣 0 ps·4 r·4 (claims· .8) (claims· .9) "lent_session::with_counts" × Plain.Known 𝓤 H A W 𝓣 0 ps·5 r·5 (claims· .10) (claims· .11) "lent_rows::outputs::output_of" × Plain.Known 𝓤 H A W 𝓣 1 ps·6 r·6 (claims· .12) (claims· .13) "lent_session::lend_output" × Plain.Known 𝓤 H A W 𝓣 0 ps·7 r·7 (claims· .14) (claims· .15) "lent_rows::stations::station_of" × Plain.Known 𝓤 H A W 𝓣 1 ps·8 r·8 (claims· .16) (claims· .17) "lent_session::lend_station" × Plain.Known 𝓤 H A W 𝓣 0 ps·9 r·9 (claims· .18) (claims· .19) "lent_rows::bytes_of" × Plain.Known 𝓤 H A W 𝓣 4 ps·10 r·10 (claims· .20) (claims· .21) "lent_session::send" × Plain.Known 𝓤 H A W 𝓣 1 ps·11 r·11 (claims· .22) (claims· .23) "text_found::with_room" × Plain.Known 𝓤 H A W 𝓣 1 ps·12 r·12 (claims· .24) (claims· .25) "text_printing::put_answer" × Plain.Known 𝓤 H A W 𝓣 0 ps·13 r·13 (claims· .26) (claims· .27) "lent_session::with_mark" × Plain.Known 𝓤 H A W 𝓣 0 ps·14 r·14 (claims· .28) (claims· .29) "panel_record::time_of" × Plain.Known 𝓤 H A W 𝓣 1 ps·15 r·15 (claims· .30) (claims· .31) "lent_session::put_counts" × Plain.Known 𝓤 H A W 𝓣 2 ps·16 r·16 (claims· .32) (claims· .33) "lent_session::put_outputs" × Plain.Known 𝓤 H A W 𝓣 2 ps·17 r·17 (claims· .34) (claims· .35) "lent_session::put_stations"
+        Knowns = Plain.Known 𝓤 H A W 𝓣 0 ps·0 r·0 (claims· .0) (claims· .1) "lent_rows::closed" × Plain.Known 𝓤 H A W 𝓣 0 ps·1 r·1 (claims· .2) (claims· .3) "lent_session::with_next_row" × Plain.Known 𝓤 H A W 𝓣 3 ps·2 r·2 (claims· .4) (claims· .5) "lent_session::clear" × Plain.Known 𝓤 H A W 𝓣 0 ps·3 r·3 (claims· .6) (claims· .7) "lent_rows::numbers::place" × Plain.Known 𝓤 H A W 𝓣 0 ps·4 r·4 (claims· .8) (claims· .9) "lent_session::with_counts" × Plain.Known 𝓤 H A W 𝓣 0 ps·5 r·5 (claims· .10) (claims· .11) "lent_rows::outputs::output_of" × Plain.Known 𝓤 H A W 𝓣 1 ps·6 r·6 (claims· .12) (claims· .13) "lent_session::lend_output" × Plain.Known 𝓤 H A W 𝓣 0 ps·7 r·7 (claims· .14) (claims· .15) "lent_rows::stations::station_of" × Plain.Known 𝓤 H A W 𝓣 1 ps·8 r·8 (claims· .16) (claims· .17) "lent_session::lend_station" × Plain.Known 𝓤 H A W 𝓣 0 ps·9 r·9 (claims· .18) (claims· .19) "lent_rows::bytes_of" × Plain.Known 𝓤 H A W 𝓣 4 ps·10 r·10 (claims· .20) (claims· .21) "lent_parts::send" × Plain.Known 𝓤 H A W 𝓣 1 ps·11 r·11 (claims· .22) (claims· .23) "text_found::with_room" × Plain.Known 𝓤 H A W 𝓣 1 ps·12 r·12 (claims· .24) (claims· .25) "text_printing::put_answer" × Plain.Known 𝓤 H A W 𝓣 0 ps·13 r·13 (claims· .26) (claims· .27) "lent_session::with_mark" × Plain.Known 𝓤 H A W 𝓣 0 ps·14 r·14 (claims· .28) (claims· .29) "panel_record::time_of" × Plain.Known 𝓤 H A W 𝓣 1 ps·15 r·15 (claims· .30) (claims· .31) "lent_session::put_counts" × Plain.Known 𝓤 H A W 𝓣 2 ps·16 r·16 (claims· .32) (claims· .33) "lent_session::put_outputs" × Plain.Known 𝓤 H A W 𝓣 2 ps·17 r·17 (claims· .34) (claims· .35) "lent_session::put_stations"
 
       module _ (κs : Lifetimes.Lfts 4) (qs : Lifetimes.Shares 4) where
         abbrev g16 : List.List Row'.Entry
@@ -3926,7 +3926,7 @@ module _ (claims· : Claims) where
           d124 = Typed.g-pre 𝓤 H A W 𝓣 E G122 G123 b100 Δ1 (Typed.pass T122 T123 (s120 bs)) (at123 bs) (Local.g-drop-sref 𝓤 H A W E G122 60 12 (Array'.Array (Referent.rtF (Referent.fInt Syntax.w8)) 49) (Syntax.tyRef Syntax.erased Syntax.imm (Syntax.tyArray (Syntax.tyInt Syntax.w8) 49)) (λ x. x) (Reads'.as-is 𝓤 H A (Rows'.sref (Array'.Array (Referent.rtF (Referent.fInt Syntax.w8)) 49) (Syntax.tyRef Syntax.erased Syntax.imm (Syntax.tyArray (Syntax.tyInt Syntax.w8) 49)) 12))) d123
 
           d125 : Typed.Typed 𝓤 H A 𝓣 E G121 b101 Δ1 (at125 bs)
-          d125 = Typed.s-seq 𝓤 H A W 𝓣 E G121 G122 b87 b100 Δ1 (Typed.both (s119 bs)) (at124 bs) (Plain.t-call-plain 𝓤 H A W 𝓣 4 ps·10 r·10 (claims· .20) (claims· .21) "lent_session::send" (known .10) E (λ pos β. β) G121 (record { pos = 56; ty = Syntax.tyRef Syntax.erased Syntax.mut OfOutput.named; ref = λ x. x }, (record { pos = 58; ty = Syntax.tyRef Syntax.erased Syntax.mut OfStation.named; ref = λ x. x }, (record { pos = 59; ty = Syntax.tyRef Syntax.erased Syntax.mut OfPanelRecord.named; ref = λ x. x }, (Num.vFld 5 (List._∷_ (Syntax.field 1) List.[]) 424 λ x. Turn.struct .as-values x .1 .0, (Num.vFld 5 (List._∷_ (Syntax.field 2) List.[]) 432 λ x. Turn.struct .as-values x .1 .1 .0, (record { pos = 60; ty = Syntax.tyRef Syntax.erased Syntax.imm (Syntax.tyArray (Syntax.tyInt Syntax.w8) 49); ref = λ x. x }, (Num.vFld 7 (List._∷_ (Syntax.field 2) List.[]) 400 λ x. Row.struct .as-values x .1 .1 .0, tt))))))) 14 (List._∷_ 9 (List._∷_ 10 (List._∷_ 11 (List._∷_ 12 List.[])))) (Call.sub-id 𝓤 H A W (G121 .slots)) (Reads'.as-is 𝓤 H A (Mut.mslice (OfOutput.row) (Syntax.tyRef Syntax.erased Syntax.mut OfOutput.named) 9), Mut.reads-mslice 𝓤 H A W (OfOutput.row) (Syntax.tyRef Syntax.erased Syntax.mut OfOutput.named) 9, Path'.refl, (Reads'.as-is 𝓤 H A (Mut.mslice (OfStation.row) (Syntax.tyRef Syntax.erased Syntax.mut OfStation.named) 10), Mut.reads-mslice 𝓤 H A W (OfStation.row) (Syntax.tyRef Syntax.erased Syntax.mut OfStation.named) 10, Path'.refl, (Reads'.as-is 𝓤 H A (Rows'.mref (OfPanelRecord.row) (Syntax.tyRef Syntax.erased Syntax.mut OfPanelRecord.named) 11), Reads'.reads-mref 𝓤 H A W (OfPanelRecord.row) (Syntax.tyRef Syntax.erased Syntax.mut OfPanelRecord.named) 11, Path'.refl, ((Reads.reads-field 𝓤 H A W Turn.the-type Laws'.the-laws 1 (Syntax.tyInt Syntax.w64) 424 Path'.refl, Path'.refl), ((Reads.reads-field 𝓤 H A W Turn.the-type Laws'.the-laws 2 (Syntax.tyInt Syntax.w64) 432 Path'.refl, Path'.refl), (ShrRef.spares-sref 𝓤 H A W (Array'.Array (Referent.rtF (Referent.fInt Syntax.w8)) 49) (Syntax.tyRef Syntax.erased Syntax.imm (Syntax.tyArray (Syntax.tyInt Syntax.w8) 49)) 12, Reads'.reads-sref 𝓤 H A W (Array'.Array (Referent.rtF (Referent.fInt Syntax.w8)) 49) (Syntax.tyRef Syntax.erased Syntax.imm (Syntax.tyArray (Syntax.tyInt Syntax.w8) 49)) 12, Path'.refl, ((Reads.reads-field 𝓤 H A W Row.the-type Laws.the-laws 2 (Syntax.tyInt Syntax.w64) 400 Path'.refl, Path'.refl), tt))))))) (Reads'.room-gone 𝓤 H A (Laws''.mir)) (tt, (tt, (tt, (tt, tt)))) Path'.refl) d124
+          d125 = Typed.s-seq 𝓤 H A W 𝓣 E G121 G122 b87 b100 Δ1 (Typed.both (s119 bs)) (at124 bs) (Plain.t-call-plain 𝓤 H A W 𝓣 4 ps·10 r·10 (claims· .20) (claims· .21) "lent_parts::send" (known .10) E (λ pos β. β) G121 (record { pos = 56; ty = Syntax.tyRef Syntax.erased Syntax.mut OfOutput.named; ref = λ x. x }, (record { pos = 58; ty = Syntax.tyRef Syntax.erased Syntax.mut OfStation.named; ref = λ x. x }, (record { pos = 59; ty = Syntax.tyRef Syntax.erased Syntax.mut OfPanelRecord.named; ref = λ x. x }, (Num.vFld 5 (List._∷_ (Syntax.field 1) List.[]) 424 λ x. Turn.struct .as-values x .1 .0, (Num.vFld 5 (List._∷_ (Syntax.field 2) List.[]) 432 λ x. Turn.struct .as-values x .1 .1 .0, (record { pos = 60; ty = Syntax.tyRef Syntax.erased Syntax.imm (Syntax.tyArray (Syntax.tyInt Syntax.w8) 49); ref = λ x. x }, (Num.vFld 7 (List._∷_ (Syntax.field 2) List.[]) 400 λ x. Row.struct .as-values x .1 .1 .0, tt))))))) 14 (List._∷_ 9 (List._∷_ 10 (List._∷_ 11 (List._∷_ 12 List.[])))) (Call.sub-id 𝓤 H A W (G121 .slots)) (Reads'.as-is 𝓤 H A (Mut.mslice (OfOutput.row) (Syntax.tyRef Syntax.erased Syntax.mut OfOutput.named) 9), Mut.reads-mslice 𝓤 H A W (OfOutput.row) (Syntax.tyRef Syntax.erased Syntax.mut OfOutput.named) 9, Path'.refl, (Reads'.as-is 𝓤 H A (Mut.mslice (OfStation.row) (Syntax.tyRef Syntax.erased Syntax.mut OfStation.named) 10), Mut.reads-mslice 𝓤 H A W (OfStation.row) (Syntax.tyRef Syntax.erased Syntax.mut OfStation.named) 10, Path'.refl, (Reads'.as-is 𝓤 H A (Rows'.mref (OfPanelRecord.row) (Syntax.tyRef Syntax.erased Syntax.mut OfPanelRecord.named) 11), Reads'.reads-mref 𝓤 H A W (OfPanelRecord.row) (Syntax.tyRef Syntax.erased Syntax.mut OfPanelRecord.named) 11, Path'.refl, ((Reads.reads-field 𝓤 H A W Turn.the-type Laws'.the-laws 1 (Syntax.tyInt Syntax.w64) 424 Path'.refl, Path'.refl), ((Reads.reads-field 𝓤 H A W Turn.the-type Laws'.the-laws 2 (Syntax.tyInt Syntax.w64) 432 Path'.refl, Path'.refl), (ShrRef.spares-sref 𝓤 H A W (Array'.Array (Referent.rtF (Referent.fInt Syntax.w8)) 49) (Syntax.tyRef Syntax.erased Syntax.imm (Syntax.tyArray (Syntax.tyInt Syntax.w8) 49)) 12, Reads'.reads-sref 𝓤 H A W (Array'.Array (Referent.rtF (Referent.fInt Syntax.w8)) 49) (Syntax.tyRef Syntax.erased Syntax.imm (Syntax.tyArray (Syntax.tyInt Syntax.w8) 49)) 12, Path'.refl, ((Reads.reads-field 𝓤 H A W Row.the-type Laws.the-laws 2 (Syntax.tyInt Syntax.w64) 400 Path'.refl, Path'.refl), tt))))))) (Reads'.room-gone 𝓤 H A (Laws''.mir)) (tt, (tt, (tt, (tt, tt)))) Path'.refl) d124
 
           d126 : Typed.Typed 𝓤 H A 𝓣 E G120 b102 Δ1 (at126 bs)
           d126 = Typed.s-seq 𝓤 H A W 𝓣 E G120 G121 b86 b101 Δ1 (Typed.give (s118 bs)) (at125 bs) (Local.t-sc-share 𝓤 H A W E 𝓣 G120 13 60 12 (Array'.Array (Referent.rtF (Referent.fInt Syntax.w8)) 49) (Syntax.tyRef Syntax.erased Syntax.imm (Syntax.tyArray (Syntax.tyInt Syntax.w8) 49)) (λ x. x) (Whole.mem-arr 𝓤 H A W (Referent.rtF (Referent.fInt Syntax.w8)) 49) (Reads'.room-gone 𝓤 H A (Syntax.tyRef Syntax.erased Syntax.imm (Syntax.tyArray (Syntax.tyInt Syntax.w8) 49))) Path'.refl λ b o. tt) d125
@@ -6783,7 +6783,7 @@ module _ (claims· : Claims) where
             r·10
             (claims· .20)
             (claims· .21)
-            "lent_session::send")
+            "lent_parts::send")
             (known11 : Plain.Known
             𝓤
             H

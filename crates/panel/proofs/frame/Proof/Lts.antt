@@ -121,7 +121,7 @@ abbrev b5 : Syntax.Body
 b5 = Syntax.assign (Syntax.place 12 List.[]) (Syntax.aggregate (List._∷_ (Syntax.copy (Syntax.place 11 List.[])) (List._∷_ (Syntax.copy (Syntax.place 2 (List._∷_ (Syntax.field 1) List.[]))) List.[])))
 
 abbrev b6 : Syntax.Body
-b6 = Syntax.call "panel::panel_sound" (List._∷_ (Syntax.copy (Syntax.place 10 List.[])) (List._∷_ (Syntax.copy (Syntax.place 12 List.[])) (List._∷_ (Syntax.copy (Syntax.place 5 List.[])) (List._∷_ (Syntax.copy (Syntax.place 6 List.[])) List.[])))) (Syntax.place 8 List.[])
+b6 = Syntax.call "panel_judging::panel_sound" (List._∷_ (Syntax.copy (Syntax.place 10 List.[])) (List._∷_ (Syntax.copy (Syntax.place 12 List.[])) (List._∷_ (Syntax.copy (Syntax.place 5 List.[])) (List._∷_ (Syntax.copy (Syntax.place 6 List.[])) List.[])))) (Syntax.place 8 List.[])
 
 abbrev b7 : Syntax.Body
 b7 = Syntax.assign (Syntax.place 13 List.[]) (Syntax.op1 Syntax.bitNot (Syntax.copy (Syntax.place 8 List.[])))
@@ -154,7 +154,7 @@ abbrev b16 : Syntax.Body
 b16 = Syntax.assign (Syntax.place 17 List.[]) (Syntax.aggregate (List._∷_ (Syntax.copy (Syntax.place 16 List.[])) (List._∷_ (Syntax.copy (Syntax.place 2 (List._∷_ (Syntax.field 1) List.[]))) List.[])))
 
 abbrev b17 : Syntax.Body
-b17 = Syntax.call "panel_tables::decide" (List._∷_ (Syntax.copy (Syntax.place 15 List.[])) (List._∷_ (Syntax.copy (Syntax.place 17 List.[])) (List._∷_ (Syntax.copy (Syntax.place 5 List.[])) (List._∷_ (Syntax.copy (Syntax.place 6 List.[])) (List._∷_ (Syntax.copy (Syntax.place 4 List.[])) List.[]))))) (Syntax.place 7 List.[])
+b17 = Syntax.call "panel_judging::decide" (List._∷_ (Syntax.copy (Syntax.place 15 List.[])) (List._∷_ (Syntax.copy (Syntax.place 17 List.[])) (List._∷_ (Syntax.copy (Syntax.place 5 List.[])) (List._∷_ (Syntax.copy (Syntax.place 6 List.[])) (List._∷_ (Syntax.copy (Syntax.place 4 List.[])) List.[]))))) (Syntax.place 7 List.[])
 
 abbrev b18 : Syntax.Body
 b18 = Syntax.assign (Syntax.place 18 List.[]) (Syntax.addrOf (Syntax.place 1 (List._∷_ (Syntax.field 0) (List._∷_ (Syntax.deref OfOutput.spelt) List.[]))))
@@ -635,7 +635,7 @@ module _ (claims· : Claims) where
       (Post· : (κs : Lifetimes.Lfts 4) → (a : Kinds.Dens κs ps) → Kinds.Plain 4 ps r κs) where
     module _ (M : Type 1) where
       abbrev pub Closed : Type 2
-      Closed = (𝓤 : URA.URA M) (H : Wp.Heap 𝓤) (A : Atoms.Atoms 𝓤) (W : Kit.Given 𝓤 H A) (𝓣 : Wp.Tables 𝓤 H) (known0 : Plain.Known 𝓤 H A W 𝓣 0 ps·0 r·0 (claims· .0) (claims· .1) "panel_record::document_01") (known1 : Plain.Known 𝓤 H A W 𝓣 2 ps·1 r·1 (claims· .2) (claims· .3) "panel::panel_sound") (known2 : Plain.Known 𝓤 H A W 𝓣 3 ps·2 r·2 (claims· .4) (claims· .5) "panel_tables::decide") (known3 : Plain.Known 𝓤 H A W 𝓣 4 ps·3 r·3 (claims· .6) (claims· .7) "panel::execute") → Statement.Triple 𝓤 (Wp.WpFn 𝓤 H (𝓣 .C) (𝓣 .Λ) (Function.fnOf 4 ps r xs m hs body)) (Function.plainOf 𝓤 H A 4 ps r Pre· Post·)
+      Closed = (𝓤 : URA.URA M) (H : Wp.Heap 𝓤) (A : Atoms.Atoms 𝓤) (W : Kit.Given 𝓤 H A) (𝓣 : Wp.Tables 𝓤 H) (known0 : Plain.Known 𝓤 H A W 𝓣 0 ps·0 r·0 (claims· .0) (claims· .1) "panel_record::document_01") (known1 : Plain.Known 𝓤 H A W 𝓣 2 ps·1 r·1 (claims· .2) (claims· .3) "panel_judging::panel_sound") (known2 : Plain.Known 𝓤 H A W 𝓣 3 ps·2 r·2 (claims· .4) (claims· .5) "panel_judging::decide") (known3 : Plain.Known 𝓤 H A W 𝓣 4 ps·3 r·3 (claims· .6) (claims· .7) "panel::execute") → Statement.Triple 𝓤 (Wp.WpFn 𝓤 H (𝓣 .C) (𝓣 .Λ) (Function.fnOf 4 ps r xs m hs body)) (Function.plainOf 𝓤 H A 4 ps r Pre· Post·)
 
     module _ where
       abbrev at0 : Typed.TF T26 O1
@@ -842,7 +842,7 @@ module _ (claims· : Claims) where
       module _ {M : Type 1} (𝓤 : URA.URA M) (H : Wp.Heap 𝓤) (A : Atoms.Atoms 𝓤)
           (W : Kit.Given 𝓤 H A) (𝓣 : Wp.Tables 𝓤 H) where
         abbrev Knowns : Type 1
-        Knowns = Plain.Known 𝓤 H A W 𝓣 0 ps·0 r·0 (claims· .0) (claims· .1) "panel_record::document_01" × Plain.Known 𝓤 H A W 𝓣 2 ps·1 r·1 (claims· .2) (claims· .3) "panel::panel_sound" × Plain.Known 𝓤 H A W 𝓣 3 ps·2 r·2 (claims· .4) (claims· .5) "panel_tables::decide" × Plain.Known 𝓤 H A W 𝓣 4 ps·3 r·3 (claims· .6) (claims· .7) "panel::execute"
+        Knowns = Plain.Known 𝓤 H A W 𝓣 0 ps·0 r·0 (claims· .0) (claims· .1) "panel_record::document_01" × Plain.Known 𝓤 H A W 𝓣 2 ps·1 r·1 (claims· .2) (claims· .3) "panel_judging::panel_sound" × Plain.Known 𝓤 H A W 𝓣 3 ps·2 r·2 (claims· .4) (claims· .5) "panel_judging::decide" × Plain.Known 𝓤 H A W 𝓣 4 ps·3 r·3 (claims· .6) (claims· .7) "panel::execute"
 
       module _ (κs : Lifetimes.Lfts 4) (qs : Lifetimes.Shares 4) where
         abbrev g5 : List.List Row.Entry
@@ -1236,7 +1236,7 @@ module _ (claims· : Claims) where
           d38 = Typed.g-pre 𝓤 H A W 𝓣 E G34 G35 b30 Δ0 (Typed.pass T34 T35 s32) at37 (Scalar.g-room 𝓤 H A W E G34 15 (Syntax.tyStruct (List._∷_ 38 (List._∷_ 91 (List._∷_ 93 List.[]))) (Syntax.tcons (Syntax.tyRef Syntax.erased Syntax.imm OfOutput.named) (Syntax.tcons (Syntax.tyInt Syntax.w64) Syntax.tnil))) (Shared.room-sslice 𝓤 H A W (OfOutput.row) (Syntax.tyRef Syntax.erased Syntax.imm OfOutput.named) 6)) d37
 
           d39 : Typed.Typed 𝓤 H A 𝓣 E G33 b31 Δ0 at39
-          d39 = Typed.s-seq 𝓤 H A W 𝓣 E G33 G34 b17 b30 Δ0 (Typed.both s31) at38 (Plain.t-call-plain 𝓤 H A W 𝓣 3 ps·2 r·2 (claims· .4) (claims· .5) "panel_tables::decide" (known .2) E (λ pos β. β) G33 (record { pos = 15; ty = Syntax.tyRef Syntax.erased Syntax.imm OfOutput.named; ref = λ x. x }, (record { pos = 17; ty = Syntax.tyRef Syntax.erased Syntax.imm OfStation.named; ref = λ x. x }, (record { pos = 5; st = List.[]; d = 0; at = λ x. x }, (record { pos = 6; st = List.[]; d = 0; at = λ x. x }, (record { pos = 4; ty = Syntax.tyRef (Syntax.named 3) Syntax.imm (Syntax.tyInt Syntax.w8); ref = λ x. x }, tt))))) 7 (List._∷_ 6 (List._∷_ 7 (List._∷_ 3 List.[]))) (Call.sub-id 𝓤 H A W (G33 .slots)) (ShrSlice.spares-sslice 𝓤 H A W (OfOutput.row) (Syntax.tyRef Syntax.erased Syntax.imm OfOutput.named) 6, Shared.reads-sslice 𝓤 H A W (OfOutput.row) (Syntax.tyRef Syntax.erased Syntax.imm OfOutput.named) 6, Path'.refl, (ShrSlice.spares-sslice 𝓤 H A W (OfStation.row) (Syntax.tyRef Syntax.erased Syntax.imm OfStation.named) 7, Shared.reads-sslice 𝓤 H A W (OfStation.row) (Syntax.tyRef Syntax.erased Syntax.imm OfStation.named) 7, Path'.refl, ((OfPanelRecord.yields 𝓤 H A W, Path'.refl), ((Yields.yields-copy 𝓤 H A W (λ ρ. Unit) (Declared'.row Parameters.the-type) Path'.refl (Copies.cStruct Parameters.the-type Laws''.the-laws Laws''.the-copy .copy 𝓤 H A W) (Rows'.whole (Declared'.row Parameters.the-type)) (λ x. x) (λ x. x) (λ ρ told. Local.mem-whole 𝓤 H A W (Declared'.row Parameters.the-type) ρ) λ ρ told. Local.whole-mem 𝓤 H A W (Declared'.row Parameters.the-type) ρ, Path'.refl), (ShrSlice.spares-sslice 𝓤 H A W (Referent.rtF (Referent.fInt Syntax.w8)) (Syntax.tyRef (Syntax.named 3) Syntax.imm (Syntax.tyInt Syntax.w8)) 3, Shared.reads-sslice 𝓤 H A W (Referent.rtF (Referent.fInt Syntax.w8)) (Syntax.tyRef (Syntax.named 3) Syntax.imm (Syntax.tyInt Syntax.w8)) 3, Path'.refl, tt))))) (Reads.room-gone 𝓤 H A (Laws.mir)) (tt, (tt, (tt, tt))) Path'.refl) d38
+          d39 = Typed.s-seq 𝓤 H A W 𝓣 E G33 G34 b17 b30 Δ0 (Typed.both s31) at38 (Plain.t-call-plain 𝓤 H A W 𝓣 3 ps·2 r·2 (claims· .4) (claims· .5) "panel_judging::decide" (known .2) E (λ pos β. β) G33 (record { pos = 15; ty = Syntax.tyRef Syntax.erased Syntax.imm OfOutput.named; ref = λ x. x }, (record { pos = 17; ty = Syntax.tyRef Syntax.erased Syntax.imm OfStation.named; ref = λ x. x }, (record { pos = 5; st = List.[]; d = 0; at = λ x. x }, (record { pos = 6; st = List.[]; d = 0; at = λ x. x }, (record { pos = 4; ty = Syntax.tyRef (Syntax.named 3) Syntax.imm (Syntax.tyInt Syntax.w8); ref = λ x. x }, tt))))) 7 (List._∷_ 6 (List._∷_ 7 (List._∷_ 3 List.[]))) (Call.sub-id 𝓤 H A W (G33 .slots)) (ShrSlice.spares-sslice 𝓤 H A W (OfOutput.row) (Syntax.tyRef Syntax.erased Syntax.imm OfOutput.named) 6, Shared.reads-sslice 𝓤 H A W (OfOutput.row) (Syntax.tyRef Syntax.erased Syntax.imm OfOutput.named) 6, Path'.refl, (ShrSlice.spares-sslice 𝓤 H A W (OfStation.row) (Syntax.tyRef Syntax.erased Syntax.imm OfStation.named) 7, Shared.reads-sslice 𝓤 H A W (OfStation.row) (Syntax.tyRef Syntax.erased Syntax.imm OfStation.named) 7, Path'.refl, ((OfPanelRecord.yields 𝓤 H A W, Path'.refl), ((Yields.yields-copy 𝓤 H A W (λ ρ. Unit) (Declared'.row Parameters.the-type) Path'.refl (Copies.cStruct Parameters.the-type Laws''.the-laws Laws''.the-copy .copy 𝓤 H A W) (Rows'.whole (Declared'.row Parameters.the-type)) (λ x. x) (λ x. x) (λ ρ told. Local.mem-whole 𝓤 H A W (Declared'.row Parameters.the-type) ρ) λ ρ told. Local.whole-mem 𝓤 H A W (Declared'.row Parameters.the-type) ρ, Path'.refl), (ShrSlice.spares-sslice 𝓤 H A W (Referent.rtF (Referent.fInt Syntax.w8)) (Syntax.tyRef (Syntax.named 3) Syntax.imm (Syntax.tyInt Syntax.w8)) 3, Shared.reads-sslice 𝓤 H A W (Referent.rtF (Referent.fInt Syntax.w8)) (Syntax.tyRef (Syntax.named 3) Syntax.imm (Syntax.tyInt Syntax.w8)) 3, Path'.refl, tt))))) (Reads.room-gone 𝓤 H A (Laws.mir)) (tt, (tt, (tt, tt))) Path'.refl) d38
 
           d40 : Typed.Typed 𝓤 H A 𝓣 E G32 b32 Δ0 at40
           d40 = Typed.s-seq 𝓤 H A W 𝓣 E G32 G33 b16 b31 Δ0 (Typed.ask s30) at39 (Relend.t-sl-aggregate 𝓤 H A W E (OfStation.row) 𝓣 (Relend.asShr (OfStation.row)) G32 16 17 7 (Syntax.tyRef Syntax.erased Syntax.imm OfStation.named) (Syntax.tyRef Syntax.erased Syntax.imm OfStation.named) (λ x. x) (Scalar.oFld 2 (List._∷_ (Syntax.field 1) List.[]) (Syntax.tyInt Syntax.w64) 8 λ v. Shared.lenV (v .0)) (Reads.as-is 𝓤 H A (Relend.ssptr (OfStation.row) (Syntax.tyRef Syntax.erased Syntax.imm OfStation.named) 7)) (Reads.room-gone 𝓤 H A (Syntax.tyStruct (List._∷_ 38 (List._∷_ 91 (List._∷_ 93 List.[]))) (Syntax.tcons (Syntax.tyRef Syntax.erased Syntax.imm OfStation.named) (Syntax.tcons (Syntax.tyInt Syntax.w64) Syntax.tnil)))) (Reshare.reads-owedS-len 𝓤 H A W (OfStation.row) (Syntax.tyRef (Syntax.named 1) Syntax.mut OfStation.named) 1 7 (Row.lease (κs .1 .0) (qs .1 .0)) 8 Path'.refl, Path'.refl) Path'.refl Path'.refl λ b o k. tt) d39
@@ -1287,7 +1287,7 @@ module _ (claims· : Claims) where
           d55 = Typed.g-pre 𝓤 H A W 𝓣 E G11 G12 b37 Δ0 (Typed.pass T11 T12 s10) at54 (Scalar.g-room 𝓤 H A W E G11 10 (Syntax.tyStruct (List._∷_ 38 (List._∷_ 91 (List._∷_ 93 List.[]))) (Syntax.tcons (Syntax.tyRef Syntax.erased Syntax.imm OfOutput.named) (Syntax.tcons (Syntax.tyInt Syntax.w64) Syntax.tnil))) (Shared.room-sslice 𝓤 H A W (OfOutput.row) (Syntax.tyRef Syntax.erased Syntax.imm OfOutput.named) 4)) d54
 
           d56 : Typed.Typed 𝓤 H A 𝓣 E G10 b38 Δ0 at56
-          d56 = Typed.s-seq 𝓤 H A W 𝓣 E G10 G11 b6 b37 Δ0 (Typed.both s9) at55 (Plain.t-call-plain 𝓤 H A W 𝓣 2 ps·1 r·1 (claims· .2) (claims· .3) "panel::panel_sound" (known .1) E (λ pos β. β) G10 (record { pos = 10; ty = Syntax.tyRef Syntax.erased Syntax.imm OfOutput.named; ref = λ x. x }, (record { pos = 12; ty = Syntax.tyRef Syntax.erased Syntax.imm OfStation.named; ref = λ x. x }, (record { pos = 5; st = List.[]; d = 0; at = λ x. x }, (record { pos = 6; st = List.[]; d = 0; at = λ x. x }, tt)))) 8 (List._∷_ 4 (List._∷_ 5 List.[])) (Call.sub-id 𝓤 H A W (G10 .slots)) (ShrSlice.spares-sslice 𝓤 H A W (OfOutput.row) (Syntax.tyRef Syntax.erased Syntax.imm OfOutput.named) 4, Shared.reads-sslice 𝓤 H A W (OfOutput.row) (Syntax.tyRef Syntax.erased Syntax.imm OfOutput.named) 4, Path'.refl, (ShrSlice.spares-sslice 𝓤 H A W (OfStation.row) (Syntax.tyRef Syntax.erased Syntax.imm OfStation.named) 5, Shared.reads-sslice 𝓤 H A W (OfStation.row) (Syntax.tyRef Syntax.erased Syntax.imm OfStation.named) 5, Path'.refl, ((OfPanelRecord.yields 𝓤 H A W, Path'.refl), ((Yields.yields-copy 𝓤 H A W (λ ρ. Unit) (Declared'.row Parameters.the-type) Path'.refl (Copies.cStruct Parameters.the-type Laws''.the-laws Laws''.the-copy .copy 𝓤 H A W) (Rows'.whole (Declared'.row Parameters.the-type)) (λ x. x) (λ x. x) (λ ρ told. Local.mem-whole 𝓤 H A W (Declared'.row Parameters.the-type) ρ) λ ρ told. Local.whole-mem 𝓤 H A W (Declared'.row Parameters.the-type) ρ, Path'.refl), tt)))) (Reads.room-gone 𝓤 H A Syntax.tyBool) (tt, (tt, tt)) Path'.refl) d55
+          d56 = Typed.s-seq 𝓤 H A W 𝓣 E G10 G11 b6 b37 Δ0 (Typed.both s9) at55 (Plain.t-call-plain 𝓤 H A W 𝓣 2 ps·1 r·1 (claims· .2) (claims· .3) "panel_judging::panel_sound" (known .1) E (λ pos β. β) G10 (record { pos = 10; ty = Syntax.tyRef Syntax.erased Syntax.imm OfOutput.named; ref = λ x. x }, (record { pos = 12; ty = Syntax.tyRef Syntax.erased Syntax.imm OfStation.named; ref = λ x. x }, (record { pos = 5; st = List.[]; d = 0; at = λ x. x }, (record { pos = 6; st = List.[]; d = 0; at = λ x. x }, tt)))) 8 (List._∷_ 4 (List._∷_ 5 List.[])) (Call.sub-id 𝓤 H A W (G10 .slots)) (ShrSlice.spares-sslice 𝓤 H A W (OfOutput.row) (Syntax.tyRef Syntax.erased Syntax.imm OfOutput.named) 4, Shared.reads-sslice 𝓤 H A W (OfOutput.row) (Syntax.tyRef Syntax.erased Syntax.imm OfOutput.named) 4, Path'.refl, (ShrSlice.spares-sslice 𝓤 H A W (OfStation.row) (Syntax.tyRef Syntax.erased Syntax.imm OfStation.named) 5, Shared.reads-sslice 𝓤 H A W (OfStation.row) (Syntax.tyRef Syntax.erased Syntax.imm OfStation.named) 5, Path'.refl, ((OfPanelRecord.yields 𝓤 H A W, Path'.refl), ((Yields.yields-copy 𝓤 H A W (λ ρ. Unit) (Declared'.row Parameters.the-type) Path'.refl (Copies.cStruct Parameters.the-type Laws''.the-laws Laws''.the-copy .copy 𝓤 H A W) (Rows'.whole (Declared'.row Parameters.the-type)) (λ x. x) (λ x. x) (λ ρ told. Local.mem-whole 𝓤 H A W (Declared'.row Parameters.the-type) ρ) λ ρ told. Local.whole-mem 𝓤 H A W (Declared'.row Parameters.the-type) ρ, Path'.refl), tt)))) (Reads.room-gone 𝓤 H A Syntax.tyBool) (tt, (tt, tt)) Path'.refl) d55
 
           d57 : Typed.Typed 𝓤 H A 𝓣 E G9 b39 Δ0 at57
           d57 = Typed.s-seq 𝓤 H A W 𝓣 E G9 G10 b5 b38 Δ0 (Typed.ask s8) at56 (Relend.t-sl-aggregate 𝓤 H A W E (OfStation.row) 𝓣 (Relend.asShr (OfStation.row)) G9 11 12 5 (Syntax.tyRef Syntax.erased Syntax.imm OfStation.named) (Syntax.tyRef Syntax.erased Syntax.imm OfStation.named) (λ x. x) (Scalar.oFld 2 (List._∷_ (Syntax.field 1) List.[]) (Syntax.tyInt Syntax.w64) 8 λ v. Shared.lenV (v .0)) (Reads.as-is 𝓤 H A (Relend.ssptr (OfStation.row) (Syntax.tyRef Syntax.erased Syntax.imm OfStation.named) 5)) (Reads.room-gone 𝓤 H A (Syntax.tyStruct (List._∷_ 38 (List._∷_ 91 (List._∷_ 93 List.[]))) (Syntax.tcons (Syntax.tyRef Syntax.erased Syntax.imm OfStation.named) (Syntax.tcons (Syntax.tyInt Syntax.w64) Syntax.tnil)))) (Reshare.reads-owedS-len 𝓤 H A W (OfStation.row) (Syntax.tyRef (Syntax.named 1) Syntax.mut OfStation.named) 1 5 (Row.lease (κs .1 .0) (qs .1 .0)) 8 Path'.refl, Path'.refl) Path'.refl Path'.refl λ b o k. tt) d56
@@ -1855,7 +1855,7 @@ module _ (claims· : Claims) where
             r·1
             (claims· .2)
             (claims· .3)
-            "panel::panel_sound")
+            "panel_judging::panel_sound")
             (known2 : Plain.Known
             𝓤
             H
@@ -1867,7 +1867,7 @@ module _ (claims· : Claims) where
             r·2
             (claims· .4)
             (claims· .5)
-            "panel_tables::decide")
+            "panel_judging::decide")
             (known3 : Plain.Known
             𝓤
             H

@@ -1,0 +1,2 @@
+-- Made by tools/twin.py.
+pub mod send
