@@ -4,12 +4,30 @@ use Prim.Native.Nat.{ℕ}
 use Rattle.lighting_frames.specs.Paper.Frames.{Bytes}
 use Rattle.text_printing.specs.Text.{text}
 use Rattle.text_printing.specs.Writing.{decimal, newline}
+use Rattle.text_heading.specs.Words.{letters, bounds}
+use Rattle.text_heading.specs.declared.Word.{Word}
+use Rattle.text_heading.specs.declared.Bounds.{Bounds}
+use Rattle.text_heading.specs.declared.HeadingFault.{HeadingFault}
+use Rattle.text_heading.specs.declared.HeadingFault.the-variants.{NoOutputs, BadCount, BadWord, Outside}
 use Rattle.text_reading.specs.declared.Fault.{Fault}
-use Rattle.text_reading.specs.declared.Fault.the-variants.{NoOutputs, BadCount, NoDigit, HalfByte}
+use Rattle.text_reading.specs.declared.Fault.the-variants.{InHeading, NoDigit, HalfByte}
 
+-- IN THE LINE THAT NAMES THE OUTPUTS. A number out of range: §6 refuses such a start with 17
+unfoldable pub boundsWords : Bounds → Bytes
+boundsWords b = decimal (b .least) ++ (text " to " ++ decimal (b .most))
+
+unfoldable pub outsideWords : Word → Bytes
+outsideWords w = text "`" ++ (letters w ++ (text "` is to be " ++ (boundsWords (bounds w) ++ text ": Refused 17")))
+
+unfoldable pub headingWords : HeadingFault → Bytes
+headingWords NoOutputs = text "the first line is to be `outputs N`"
+headingWords BadCount = text "N is to be 1 to 64"
+headingWords BadWord = text "after `outputs N` may come `stations S`, `fade F` and `duration D`, each once"
+headingWords (Outside w) = outsideWords w
+
+-- IN ANY LINE
 unfoldable pub faultWords : Fault → Bytes
-faultWords NoOutputs = text "the first line is to be `outputs N`"
-faultWords BadCount = text "N is to be 1 to 64"
+faultWords (InHeading f) = headingWords f
 faultWords NoDigit = text "a character that is no hexadecimal digit"
 faultWords HalfByte = text "half a byte"
 

@@ -1,20 +1,21 @@
 -- Whole bytes and the blanks between them, one after another, where a byte may begin.
 use mathlib.Core.Path.{_≡_, sym, ap, _∙_}
 use mathlib.Core.Logic.{_≢_}
-use mathlib.Core.Bool.{true, false≢true}
+use mathlib.Core.Bool.{Bool, true, false≢true}
 use Prim.Native.Nat.{ℕ, suc, _+_, _-_, _*_, _≤_, _<_}
 use native.Mathlib.Omega.{arith}
 use lib.ListN.{length, getD, set}
 use Rattle.lighting_levels.specs.Paper.Choice.{if_then_else_}
 use Rattle.lighting_frames.specs.Paper.Frames.{Bytes}
-use Rattle.lighting_levels.proofs.Split.{by-lt, le-of, leb-yes}
+use Rattle.lighting_levels.proofs.Split.{by-lt, leb-yes}
 use Rattle.text_characters.specs.Characters.{isBlank, hexValue, bytePair}
+use Rattle.text_heading.proofs.Leads.{blank-no-newline}
 use Rattle.text_reading.specs.Reading.{mayBegin, bytesKept, pushed, withHeld, feed}
 use Rattle.text_reading.specs.Spelling.{Digit, figure, upper, lower}
 use Rattle.text_reading.specs.declared.Held.{Held}
-use Rattle.text_reading.specs.declared.Held.the-variants.{Blank, Comment, Letters, Gap, Number, Trail, Whole, Half, Dash, Spoilt}
+use Rattle.text_reading.specs.declared.Held.the-variants.{Blank, Comment, Naming, Whole, Half, Dash, Spoilt}
 use Rattle.text_reading.specs.declared.Reader.{Reader}
-use Rattle.text_reading.proofs.Spelt.{Between, none, some, past, first, second, passed-over, blank-no-newline}
+use Rattle.text_reading.proofs.Spelt.{Between, none, some, past, first, second, passed-over}
 use Rattle.text_reading.proofs.Lines.{Comes, line-turn}
 
 -- A CHARACTER THAT IS WORTH A DIGIT is one
@@ -53,38 +54,35 @@ digit-no-newline : (c v : ℕ) → v ≡ hexValue c → v < 16 → c ≢ 10
 digit-no-newline c v e h n = omega (arith, past (digit-of c (rw e at h)), n)
 
 -- WHERE A BYTE MAY BEGIN
-pub may-begin : (n : ℕ) (h : Held) → mayBegin n h ≡ true → (0 < n) × Between h
+pub may-begin : (n : Bool) (h : Held) → mayBegin n h ≡ true → (n ≡ true) × Between h
 unfolding mayBegin
-may-begin n Blank e = (le-of e, none)
+may-begin n Blank e = (e, none)
 may-begin n Comment e = absurd (false≢true e)
-may-begin n (Letters k) e = absurd (false≢true e)
-may-begin n Gap e = absurd (false≢true e)
-may-begin n (Number k) e = absurd (false≢true e)
-may-begin n (Trail k) e = absurd (false≢true e)
-may-begin n Whole e = (le-of e, some)
+may-begin n (Naming k) e = absurd (false≢true e)
+may-begin n Whole e = (e, some)
 may-begin n (Half d) e = absurd (false≢true e)
 may-begin n Dash e = absurd (false≢true e)
 may-begin n (Spoilt f) e = absurd (false≢true e)
 
-pub begins-again : (n : ℕ) (h : Held) → mayBegin n h ≡ true → mayBegin n Whole ≡ true
-begins-again n h e = unfold mayBegin in (leb-yes {a = 1} {b = n} (may-begin n h e .0))
+pub begins-again : (n : Bool) (h : Held) → mayBegin n h ≡ true → mayBegin n Whole ≡ true
+begins-again n h e = unfold mayBegin in (may-begin n h e .0)
 
 -- a reader of these parts
-abbrev pub readerWith : ℕ → ℕ → Held → Bytes → ℕ → Reader
-readerWith outputs line held bytes count = record { outputs = outputs; line = line; held = held; bytes = bytes; count = count }
+abbrev pub readerWith : Bool → ℕ → Held → Bytes → ℕ → Reader
+readerWith named line held bytes count = record { named = named; line = line; held = held; bytes = bytes; count = count }
 
 -- the reader after one more byte z
 abbrev pub withByte : Reader → ℕ → Reader
 withByte w z =
     record {
-      outputs = w .outputs;
+      named = w .named;
       line = w .line;
       held = Whole;
       bytes = set (w .bytes) (w .count) z;
       count = w .count + 1;
     }
 
-module _ (w : Reader) (b : mayBegin (w .outputs) (w .held) ≡ true) where
+module _ (w : Reader) (b : mayBegin (w .named) (w .held) ≡ true) where
   two-fed : (c k : ℕ) → hexValue c < 16 → hexValue k < 16 → w .count < bytesKept → feed (feed w c) k ≡ withByte w (bytePair (hexValue c) (hexValue k))
   two-fed c k p q m =
       ap (λ (u : Reader). feed u k) (first w (may-begin _ _ b .0) (may-begin _ _ b .1) (digit-of c p))

@@ -2,7 +2,7 @@
 -- hold a frame of those bytes, as far as the first `bytesKept`.
 use mathlib.Core.Path.{_≡_, refl, sym, ap, _∙_}
 use mathlib.Core.Logic.{_≢_}
-use mathlib.Core.Bool.{true, false, false≢true}
+use mathlib.Core.Bool.{Bool, true, false}
 use mathlib.Core.List.{[], _∷_, _++_, append-assoc, append-nil}
 use Prim.Native.Nat.{ℕ, zero, suc, _+_, _*_, _≤_, _<_}
 use native.Mathlib.Omega.{arith}
@@ -11,20 +11,22 @@ use lib.ListN.{length, take, length-set, length-take, length-append}
 use lib.Seq.{take-all, take-append-le, take-suc-set}
 use Rattle.lighting_levels.specs.Paper.Choice.{if_then_else_}
 use Rattle.lighting_frames.specs.Paper.Frames.{Bytes, Octets}
-use Rattle.lighting_levels.proofs.Split.{by-eq, by-lt, eq-of, eqb-miss, leb-yes, leb-no}
+use Rattle.lighting_levels.proofs.Split.{by-lt, eqb-miss, leb-yes, leb-no}
 use Rattle.text_characters.specs.Characters.{isBlank, hexValue, bytePair}
-use Rattle.text_reading.specs.Reading.{bytesKept, digitHeld, opened, gapped, trailed, byteHeld, halfHeld, dashed, step, pushed, joined, storedBy, withHeld, feed, fed, lineOf, content}
-use Rattle.text_reading.specs.Spelling.{Digit, figure, upper, lower, Spells, end, blank, byte, Unbroken, nothing, char}
+use Rattle.text_heading.specs.Heading.{run}
+use Rattle.text_heading.specs.Spelling.{Unbroken, nothing, char}
+use Rattle.text_heading.proofs.Leads.{blank-no-newline, figure-worth}
+use Rattle.text_reading.specs.Reading.{bytesKept, digitHeld, opened, byteHeld, halfHeld, dashed, step, pushed, joined, storedBy, withHeld, feed, fed, lineOf, content}
+use Rattle.text_reading.specs.Spelling.{Digit, figure, upper, lower, Spells, end, blank, byte}
 use Rattle.text_reading.specs.declared.Held.{Held}
-use Rattle.text_reading.specs.declared.Held.the-variants.{Blank, Gap, Trail, Whole, Half, Dash}
+use Rattle.text_reading.specs.declared.Held.the-variants.{Blank, Whole, Half, Dash}
 use Rattle.text_reading.specs.declared.Line.the-variants.{Frame}
 use Rattle.text_reading.specs.declared.Reader.{Reader}
 
 -- DIGITS
 pub worth : {d c : ℕ} → Digit d c → hexValue c ≡ d
 unfolding hexValue if_then_else_
-worth (figure {d} h) =
-    rw (leb-no {a = suc (48 + d)} {b = 48} (omega arith), leb-yes {a = suc (48 + d)} {b = 58} (omega arith)) (omega arith)
+worth (figure h) = figure-worth h
 worth (upper {d} h) =
     rw (
       leb-no {a = suc (65 + d)} {b = 48} (omega arith),
@@ -68,19 +70,19 @@ pub data Between : Held → Type 0 where
   some : Between Whole
 
 pub record Ready (w : Reader) : Type 0 where
-  pub named : 0 < w .outputs
+  pub named : w .named ≡ true
   pub room : length (w .bytes) ≡ bytesKept
   pub most : w .count ≤ bytesKept
   pub between : Between (w .held)
 
 -- a first digit
-first-held : (n : ℕ) {h : Held} {d c : ℕ} → 0 < n → Between h → Digit d c → step n h d c ≡ Half d
+first-held : (n : Bool) {h : Held} {d c : ℕ} → n ≡ true → Between h → Digit d c → step n h d c ≡ Half d
 unfolding step opened byteHeld digitHeld if_then_else_
 first-held n {d = d} {c = c} p none g =
     rw (
       is-no-blank c (past g),
       eqb-miss {a = c} {b = 35} (omega (arith, past g)),
-      leb-yes {a = 1} {b = n} p,
+      p,
       eqb-miss {a = c} {b = 45} (omega (arith, past g)),
       leb-yes {a = suc d} {b = 16} (small g),
     )
@@ -91,9 +93,9 @@ unfolding storedBy
 unstored w v none = refl
 unstored w v some = refl
 
-pub first : (w : Reader) {d c : ℕ} → 0 < w .outputs → Between (w .held) → Digit d c → feed w c ≡ withHeld w (Half d)
+pub first : (w : Reader) {d c : ℕ} → w .named ≡ true → Between (w .held) → Digit d c → feed w c ≡ withHeld w (Half d)
 unfolding feed
-first w {d} {c} p b g = rw (worth g, unstored w d b, first-held (w .outputs) p b g)
+first w {d} {c} p b g = rw (worth g, unstored w d b, first-held (w .named) p b g)
 
 -- a second one
 pub second : (w : Reader) {d v c : ℕ} → d < 16 → Digit v c → feed (withHeld w (Half d)) c ≡ withHeld (pushed w (d * 16 + v)) Whole
@@ -128,29 +130,17 @@ ready-pushed w x r =
     (λ p e. rw e (record { named = r .named; room = length-set (w .bytes) (w .count) x ∙ r .room; most = omega arith; between = some }))
     (λ p e. rw e (record { named = r .named; room = r .room; most = r .most; between = some }))
 
--- A BLANK is worth no digit
-pub blank-worth : (c : ℕ) → isBlank c ≡ true → hexValue c ≡ 16
-unfolding isBlank hexValue if_then_else_
-blank-worth c e =
-    by-eq c 32
-    (λ p z. rw p)
-    (λ p z. by-eq c 9 (λ q y. rw q) (λ q y. let r = rw (z, y) at e in rw (eq-of {a = c} {b = 13} r)))
-
--- and changes nothing where the line holds one of these
+-- A BLANK changes nothing where the line holds one of these
 pub data Steady : Held → Type 0 where
   at-start : Steady Blank
   after-bytes : Steady Whole
   at-dash : Steady Dash
-  in-gap : Steady Gap
-  in-trail : {n : ℕ} → Steady (Trail n)
 
 pub blank-steady : (w : Reader) {h : Held} (c : ℕ) → Steady h → isBlank c ≡ true → feed (withHeld w h) c ≡ withHeld w h
-unfolding feed withHeld step storedBy opened byteHeld dashed gapped trailed if_then_else_
+unfolding feed withHeld step storedBy opened byteHeld dashed if_then_else_
 blank-steady w c at-start e = rw e
 blank-steady w c after-bytes e = rw e
 blank-steady w c at-dash e = rw e
-blank-steady w c in-gap e = rw (blank-worth c e, e)
-blank-steady w c in-trail e = rw e
 
 between-steady : {h : Held} → Between h → Steady h
 between-steady none = at-start
@@ -161,17 +151,17 @@ passed-over w c b e = unfold withHeld in (blank-steady w c (between-steady b) e)
 
 -- a character, and a byte, at the head of a text
 on-blank : (w : Reader) (c : ℕ) (x : Bytes) → Ready w → isBlank c ≡ true → fed w (c ∷ x) ≡ fed w x
-unfolding fed
+unfolding run
 on-blank w c x r e = ap (λ (u : Reader). fed u x) (passed-over w c (r .between) e)
 
 on-byte : (w : Reader) {d v c k : ℕ} (x : Bytes) → Ready w → Digit d c → Digit v k → fed w (c ∷ (k ∷ x)) ≡ fed (withHeld (pushed w (d * 16 + v)) Whole) x
-unfolding fed
+unfolding run
 on-byte w {k = k} x r g h =
     ap (λ (u : Reader). fed (feed u k) x) (first w (r .named) (r .between) g) ∙ ap (λ (u : Reader). fed u x) (second w (small g) h)
 
 -- THE TEXT. What was read before stays in front: at a line's start that is nothing
 pub read : {b x : Bytes} → Spells b x → (w : Reader) → Ready w → content (fed w x) ≡ take bytesKept (content w ++ b)
-unfolding fed
+unfolding run
 read end w r =
     sym (rw append-nil (take-all bytesKept (content w) (unfold content in (omega (arith, length-take (w .count) (w .bytes), r .most)))))
 read (blank {b} {x} c e s) w r = ap content (on-blank w c x r e) ∙ read s w r
@@ -186,7 +176,7 @@ read (byte {b} {x} {d} {v} g k s) w r =
     stored = unfold withHeld content in (content-pushed w (d * 16 + v) (r .room) (r .most))
 
 stays : {b x : Bytes} → Spells b x → (w : Reader) → Ready w → w .held ≡ Whole → fed w x .held ≡ Whole
-stays end w r h = unfold fed in h
+stays end w r h = unfold run in h
 stays (blank {b} {x} c e s) w r h = ap (λ (u : Reader). u .held) (on-blank w c x r e) ∙ stays s w r h
 stays (byte {b} {x} {d} {v} g k s) w r h =
     ap (λ (u : Reader). u .held) (on-byte w x r g k)
@@ -200,31 +190,27 @@ frame (byte {b} {x} {d} {v} g k s) w r =
     ap (λ (u : Reader). lineOf (u .held)) (on-byte w x r g k)
     ∙ ap lineOf (stays s (withHeld (pushed w (d * 16 + v)) Whole) (ready-pushed w (d * 16 + v) r) (unfold withHeld in refl))
 
-pushed-outputs : (w : Reader) (x : ℕ) → pushed w x .outputs ≡ w .outputs
+pushed-named : (w : Reader) (x : ℕ) → pushed w x .named ≡ w .named
 unfolding pushed if_then_else_
-pushed-outputs w x = by-lt (w .count) bytesKept (λ p e. rw e) (λ p e. rw e)
+pushed-named w x = by-lt (w .count) bytesKept (λ p e. rw e) (λ p e. rw e)
 
--- the number of outputs stays as the list has named it
-pub outputs-kept : {b x : Bytes} → Spells b x → (w : Reader) → Ready w → fed w x .outputs ≡ w .outputs
-outputs-kept end w r = unfold fed in refl
-outputs-kept (blank {b} {x} c e s) w r = ap (λ (u : Reader). u .outputs) (on-blank w c x r e) ∙ outputs-kept s w r
-outputs-kept (byte {b} {x} {d} {v} g k s) w r =
-    ap (λ (u : Reader). u .outputs) (on-byte w x r g k)
-    ∙ outputs-kept s (withHeld (pushed w (d * 16 + v)) Whole) (ready-pushed w (d * 16 + v) r)
-    ∙ (unfold withHeld in (pushed-outputs w (d * 16 + v)))
+-- whether the list has named its outputs stays
+pub named-kept : {b x : Bytes} → Spells b x → (w : Reader) → Ready w → fed w x .named ≡ w .named
+named-kept end w r = unfold run in refl
+named-kept (blank {b} {x} c e s) w r = ap (λ (u : Reader). u .named) (on-blank w c x r e) ∙ named-kept s w r
+named-kept (byte {b} {x} {d} {v} g k s) w r =
+    ap (λ (u : Reader). u .named) (on-byte w x r g k)
+    ∙ named-kept s (withHeld (pushed w (d * 16 + v)) Whole) (ready-pushed w (d * 16 + v) r)
+    ∙ (unfold withHeld in (pushed-named w (d * 16 + v)))
 
 -- the reader is ready again after each byte
 pub ready-fed : {b x : Bytes} → Spells b x → (w : Reader) → Ready w → Ready (fed w x)
-ready-fed end w r = unfold fed in r
+ready-fed end w r = unfold run in r
 ready-fed (blank {b} {x} c e s) w r = rw (on-blank w c x r e) (ready-fed s w r)
 ready-fed (byte {b} {x} {d} {v} g k s) w r =
     rw (on-byte w x r g k) (ready-fed s (withHeld (pushed w (d * 16 + v)) Whole) (ready-pushed w (d * 16 + v) r))
 
 -- no character of such a text is a newline
-pub blank-no-newline : (c : ℕ) → isBlank c ≡ true → c ≢ 10
-unfolding isBlank if_then_else_
-blank-no-newline c h e = false≢true (rw e at h)
-
 pub unbroken : {b x : Bytes} → Spells b x → Unbroken x
 unbroken end = nothing
 unbroken (blank c e s) = char (blank-no-newline c e) (unbroken s)

@@ -1,28 +1,9 @@
 // What a line holds after one more character.
 ghost use mathlib.Core.Path.{_≡_};
-ghost use Prim.Native.Nat.{_+_, _*_, min};
-ghost use Rattle.text_reading.specs.Reading.{letter, digitHeld, opened, lettered, spelled, gapped, grownHeld, numbered, trailed, byteHeld, halfHeld, dashed, step, mayBegin};
+ghost use Rattle.text_reading.specs.Reading.{digitHeld, namingHeld, opened, byteHeld, halfHeld, dashed, step, mayBegin};
 use crate::Fault;
 use crate::Held;
-
-// The letter of `outputs` after the first k.
-fn letter(k: u8) -> u8
-    ensures { λ r. ⌜ r ≡ letter k ⌝ }
-{
-    if k == 1 {
-        b'u'
-    } else if k == 2 {
-        b't'
-    } else if k == 3 {
-        b'p'
-    } else if k == 4 {
-        b'u'
-    } else if k == 5 {
-        b't'
-    } else {
-        b's'
-    }
-}
+use text_heading::Heading;
 
 // ---- what a line holds after one more character: c, worth v as a digit
 
@@ -36,91 +17,24 @@ fn digit_held(v: u8) -> Held
     }
 }
 
+fn naming_held(h: Heading, v: u8, c: u8) -> Held
+    ensures { λ r. ⌜ r ≡ namingHeld h v c ⌝ }
+{
+    Held::Naming(text_heading::step(h, v, c))
+}
+
 // The first character that is no blank.
-fn opened(outputs: u8, v: u8, c: u8) -> Held
-    ensures { λ r. ⌜ r ≡ opened outputs v c ⌝ }
+fn opened(named: bool, v: u8, c: u8) -> Held
+    ensures { λ r. ⌜ r ≡ opened named v c ⌝ }
 {
     if text_characters::is_blank(c) {
         Held::Blank
     } else if c == b'#' {
         Held::Comment
-    } else if 0 < outputs {
+    } else if named {
         if c == b'-' { Held::Dash } else { digit_held(v) }
-    } else if c == b'o' {
-        Held::Letters(1)
     } else {
-        Held::Spoilt(Fault::NoOutputs)
-    }
-}
-
-// After k letters of `outputs`, where the next one is l.
-fn lettered(k: u8, l: u8, c: u8) -> Held
-    ensures { λ r. ⌜ r ≡ lettered k l c ⌝ }
-{
-    if k < 7 {
-        if c == l {
-            Held::Letters(k + 1)
-        } else {
-            Held::Spoilt(Fault::NoOutputs)
-        }
-    } else if text_characters::is_blank(c) {
-        Held::Gap
-    } else {
-        Held::Spoilt(Fault::NoOutputs)
-    }
-}
-
-fn spelled(k: u8, c: u8) -> Held
-    ensures { λ r. ⌜ r ≡ spelled k c ⌝ }
-{
-    lettered(k, letter(k), c)
-}
-
-fn gapped(v: u8, c: u8) -> Held
-    ensures { λ r. ⌜ r ≡ gapped v c ⌝ }
-{
-    if v < 10 {
-        Held::Number(v)
-    } else if text_characters::is_blank(c) {
-        Held::Gap
-    } else {
-        Held::Spoilt(Fault::BadCount)
-    }
-}
-
-// One more decimal digit.
-fn grown(n: u8, v: u8) -> u8
-    ensures { λ r. ⌜ r ≡ min 65 (10 * n + v) ⌝ }
-{
-    let m = 10 * (n as u32) + (v as u32);
-    if m < 65 { m as u8 } else { 65 }
-}
-
-fn grown_held(n: u8, v: u8) -> Held
-    ensures { λ r. ⌜ r ≡ grownHeld n v ⌝ }
-{
-    Held::Number(grown(n, v))
-}
-
-fn numbered(n: u8, v: u8, c: u8) -> Held
-    ensures { λ r. ⌜ r ≡ numbered n v c ⌝ }
-{
-    if v < 10 {
-        grown_held(n, v)
-    } else if text_characters::is_blank(c) {
-        Held::Trail(n)
-    } else {
-        Held::Spoilt(Fault::BadCount)
-    }
-}
-
-fn trailed(n: u8, c: u8) -> Held
-    ensures { λ r. ⌜ r ≡ trailed n c ⌝ }
-{
-    if text_characters::is_blank(c) {
-        Held::Trail(n)
-    } else {
-        Held::Spoilt(Fault::BadCount)
+        naming_held(text_heading::fresh_heading(), v, c)
     }
 }
 
@@ -156,16 +70,13 @@ fn dashed(c: u8) -> Held
     }
 }
 
-pub fn step(outputs: u8, h: Held, v: u8, c: u8) -> Held
-    ensures { λ r. ⌜ r ≡ step outputs h v c ⌝ }
+pub fn step(named: bool, h: Held, v: u8, c: u8) -> Held
+    ensures { λ r. ⌜ r ≡ step named h v c ⌝ }
 {
     match h {
-        Held::Blank => opened(outputs, v, c),
+        Held::Blank => opened(named, v, c),
         Held::Comment => h,
-        Held::Letters(k) => spelled(k, c),
-        Held::Gap => gapped(v, c),
-        Held::Number(n) => numbered(n, v, c),
-        Held::Trail(n) => trailed(n, c),
+        Held::Naming(n) => naming_held(n, v, c),
         Held::Whole => byte_held(v, c),
         Held::Half(_) => half_held(v, c),
         Held::Dash => dashed(c),
@@ -175,17 +86,14 @@ pub fn step(outputs: u8, h: Held, v: u8, c: u8) -> Held
 
 // Whether the first digit of a byte may come next: the list has named its outputs, and the line holds nothing
 // yet, or whole bytes.
-pub fn may_begin(outputs: u8, h: Held) -> bool
-    ensures { λ r. ⌜ r ≡ mayBegin outputs h ⌝ }
+pub fn may_begin(named: bool, h: Held) -> bool
+    ensures { λ r. ⌜ r ≡ mayBegin named h ⌝ }
 {
     match h {
-        Held::Blank => 0 < outputs,
+        Held::Blank => named,
         Held::Comment => false,
-        Held::Letters(_) => false,
-        Held::Gap => false,
-        Held::Number(_) => false,
-        Held::Trail(_) => false,
-        Held::Whole => 0 < outputs,
+        Held::Naming(_) => false,
+        Held::Whole => named,
         Held::Half(_) => false,
         Held::Dash => false,
         Held::Spoilt(_) => false,

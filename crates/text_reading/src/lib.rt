@@ -3,16 +3,18 @@
 mod characters;
 
 ghost use mathlib.Core.Path.{_≡_};
-ghost use Prim.Native.Nat.{_+_, _*_, _≤_, min};
+ghost use Prim.Native.Nat.{_+_, _≤_, min};
 ghost use lib.ListN.{length, drop};
-ghost use Rattle.text_reading.specs.Reading.{pushed, joined, storedBy, withHeld, feed, fedLine, lineLength, countLine, lineOf, nextLine, withOutputs, freshReader};
+ghost use Rattle.text_reading.specs.Reading.{pushed, joined, storedBy, withHeld, feed, fedLine, lineLength, headingLine, lineOf, nextLine, withNamed, freshReader};
+use lighting_outputs::Parameters;
+use text_heading::Ending;
+use text_heading::Heading;
+use text_heading::HeadingFault;
 
 // What makes a line a bad one.
 pub enum Fault {
-    // the first line is not `outputs N`
-    NoOutputs,
-    // N is not 1 to 64
-    BadCount,
+    // in the line that names the outputs
+    InHeading(HeadingFault),
     // a character that is no hexadecimal digit
     NoDigit,
     // one digit where a byte has two
@@ -24,14 +26,8 @@ pub enum Held {
     // nothing, or blanks
     Blank,
     Comment,
-    // so many letters of `outputs`
-    Letters(u8),
-    // `outputs` and a blank
-    Gap,
-    // `outputs` and a number; 65 stands for every number above 64
-    Number(u8),
-    // the same, and a blank
-    Trail(u8),
+    // the line that names the outputs
+    Naming(Heading),
     // whole bytes
     Whole,
     // a digit that waits for the second one of its byte
@@ -44,7 +40,7 @@ pub enum Held {
 // What a line is at its end.
 pub enum Line {
     Nothing,
-    Outputs(u8),
+    Started(Parameters),
     Frame,
     Wrong(Fault),
 }
@@ -53,10 +49,10 @@ pub enum Line {
 // longer string from a frame.
 pub const BYTES_KEPT: usize = lighting_frames::LONGEST_FRAME + 1;
 
-// The reader between two bytes: the number of outputs that the list has named (0: none yet), the line's
-// number, what it holds so far, and of its bytes the first ones.
+// The reader between two bytes: whether the list has named its outputs, the line's number, what it holds so
+// far, and of its bytes the first ones.
 pub struct Reader {
-    pub outputs: u8,
+    pub named: bool,
     pub line: u64,
     pub held: Held,
     pub bytes: [u8; BYTES_KEPT],
@@ -74,7 +70,7 @@ fn push(w: Reader, x: u8) -> Reader
     if at < BYTES_KEPT {
         bytes[at] = x;
         Reader {
-            outputs: w.outputs,
+            named: w.named,
             line: w.line,
             held: held,
             bytes: bytes,
@@ -97,10 +93,7 @@ fn store(w: Reader, h: Held, v: u8) -> Reader
     match h {
         Held::Blank => w,
         Held::Comment => w,
-        Held::Letters(_) => w,
-        Held::Gap => w,
-        Held::Number(_) => w,
-        Held::Trail(_) => w,
+        Held::Naming(_) => w,
         Held::Whole => w,
         Held::Half(d) => if v < 16 { join(w, d, v) } else { w },
         Held::Dash => w,
@@ -113,7 +106,7 @@ fn with_held(w: Reader, h: Held) -> Reader
 {
     let bytes = w.bytes;
     Reader {
-        outputs: w.outputs,
+        named: w.named,
         line: w.line,
         held: h,
         bytes: bytes,
@@ -127,7 +120,7 @@ fn feed(w: Reader, c: u8) -> Reader
     let h = w.held;
     let v = text_characters::hex_value(c);
     let stored = store(w, h, v);
-    with_held(stored, characters::step(w.outputs, h, v, c))
+    with_held(stored, characters::step(w.named, h, v, c))
 }
 
 // The reader after the rest of a line, as far as the bytes go, and where that ends: at a newline, or at the
@@ -146,13 +139,13 @@ fn feed_bytes(w: Reader, s: &[u8], from: usize) -> Fed
     ensures { λ r. ⌜ r .next + lineLength (drop (r .next) (now (s .entry))) ≡ from + lineLength (drop from (now (s .entry))) ⌝ }
     ensures { λ r. ⌜ (from ≤ r .next) × (r .next ≤ length (now (s .entry))) ⌝ }
 {
-    let outputs = w.outputs;
+    let named = w.named;
     let line = w.line;
     let mut held = w.held;
     let mut bytes = w.bytes;
     let mut count = w.count;
     let mut i = from;
-    if characters::may_begin(outputs, held) {
+    if characters::may_begin(named, held) {
         while i < s.len() {
             let c = s[i];
             let d = text_characters::hex_value(c);
@@ -181,7 +174,7 @@ fn feed_bytes(w: Reader, s: &[u8], from: usize) -> Fed
     }
     Fed {
         reader: Reader {
-            outputs: outputs,
+            named: named,
             line: line,
             held: held,
             bytes: bytes,
@@ -220,15 +213,12 @@ pub fn feed_line(w: Reader, s: &[u8], from: usize) -> Fed
 
 // ---- a line's end
 
-fn count_line(n: u8) -> Line
-    ensures { λ r. ⌜ r ≡ countLine n ⌝ }
+fn heading_line(e: Ending) -> Line
+    ensures { λ r. ⌜ r ≡ headingLine e ⌝ }
 {
-    if n == 0 {
-        Line::Wrong(Fault::BadCount)
-    } else if n < 65 {
-        Line::Outputs(n)
-    } else {
-        Line::Wrong(Fault::BadCount)
+    match e {
+        Ending::Starts(set) => Line::Started(set),
+        Ending::Fails(f) => Line::Wrong(Fault::InHeading(f)),
     }
 }
 
@@ -238,10 +228,7 @@ pub fn line_of(h: Held) -> Line
     match h {
         Held::Blank => Line::Nothing,
         Held::Comment => Line::Nothing,
-        Held::Letters(_) => Line::Wrong(Fault::NoOutputs),
-        Held::Gap => Line::Wrong(Fault::BadCount),
-        Held::Number(n) => count_line(n),
-        Held::Trail(n) => count_line(n),
+        Held::Naming(n) => heading_line(text_heading::ended(n)),
         Held::Whole => Line::Frame,
         Held::Half(_) => Line::Wrong(Fault::HalfByte),
         Held::Dash => Line::Frame,
@@ -261,7 +248,7 @@ pub fn next_line(w: Reader) -> Reader
 {
     let bytes = w.bytes;
     Reader {
-        outputs: w.outputs,
+        named: w.named,
         line: line_after(w.line),
         held: Held::Blank,
         bytes: bytes,
@@ -270,13 +257,13 @@ pub fn next_line(w: Reader) -> Reader
 }
 
 // The reader of a list that has named its outputs.
-pub fn with_outputs(w: Reader, n: u8) -> Reader
-    ensures { λ r. ⌜ r ≡ withOutputs w n ⌝ }
+pub fn with_named(w: Reader) -> Reader
+    ensures { λ r. ⌜ r ≡ withNamed w ⌝ }
 {
     let bytes = w.bytes;
     let held = w.held;
     Reader {
-        outputs: n,
+        named: true,
         line: w.line,
         held: held,
         bytes: bytes,
@@ -289,7 +276,7 @@ pub fn fresh_reader() -> Reader
     ensures { λ r. ⌜ r ≡ freshReader ⌝ }
 {
     Reader {
-        outputs: 0,
+        named: false,
         line: 1,
         held: Held::Blank,
         bytes: [0; BYTES_KEPT],

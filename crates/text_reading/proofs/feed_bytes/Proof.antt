@@ -13,15 +13,15 @@ use Rattle.text_reading.proofs.feed_bytes.Statement.{statement}
 use Rattle.text_reading.proofs.feed_bytes.Tie as tie
 
 abbrev Inv-loop : tie.InvT-loop
-Inv-loop s from outputs line held₀ bytes₀ count₀ i₀ held bytes count i =
-    (mayBegin outputs held ≡ true)
+Inv-loop s from named line held₀ bytes₀ count₀ i₀ held bytes count i =
+    (mayBegin named held ≡ true)
     × ((length bytes ≡ bytesKept)
     × ((from ≤ i)
     × ((i ≤ length s)
-    × Comes (readerWith outputs line held bytes count) s i (fedLine (readerWith outputs line held₀ bytes₀ count₀) (drop from s)) (from + lineLength (drop from s)))))
+    × Comes (readerWith named line held bytes count) s i (fedLine (readerWith named line held₀ bytes₀ count₀) (drop from s)) (from + lineLength (drop from s)))))
 
 abbrev μ-loop : tie.MeasureT-loop
-μ-loop s from outputs line held₀ bytes₀ count₀ i₀ held bytes count i = length s - i
+μ-loop s from named line held₀ bytes₀ count₀ i₀ held bytes count i = length s - i
 
 may-begin-requires : tie.Need-may-begin-requires Inv-loop μ-loop
 may-begin-requires c κs = search needs
@@ -67,8 +67,8 @@ loop-again : tie.Need-loop-again Inv-loop μ-loop
 loop-again c =
     let l = c .before .before .before .before .before .before .before .before .before .before .loop in
     let a = c .before .before .before .before .before .before .before .before .before .before .before .before .before .before .before .args in
-    let w = readerWith (a .w .outputs) (a .w .line) (l .held) (l .bytes) (l .count) in (
-      begins-again (a .w .outputs) (l .held) (l .inv .0),
+    let w = readerWith (a .w .named) (a .w .line) (l .held) (l .bytes) (l .count) in (
+      begins-again (a .w .named) (l .held) (l .inv .0),
       (
         length-set (l .bytes) (l .count) (c .byte-pair .result) ∙ l .inv .1 .0,
         (
@@ -94,7 +94,7 @@ loop-again-2 : tie.Need-loop-again-2 Inv-loop μ-loop
 loop-again-2 c =
     let l = c .before .before .before .before .before .before .loop in
     let a = c .before .before .before .before .before .before .before .before .before .before .before .args in
-    let w = readerWith (a .w .outputs) (a .w .line) (l .held) (l .bytes) (l .count) in
+    let w = readerWith (a .w .named) (a .w .line) (l .held) (l .bytes) (l .count) in
     let blank = sym (c .before .is-blank .ensures) ∙ not-false (c .before .is-blank .result) (c .if6 .left) in (
       l .inv .0,
       (

@@ -18,26 +18,17 @@ enum-told-3 c = search needs
 enum-told-4 : tie.Need-enum-told-4
 enum-told-4 c = search needs
 
-enum-told-5 : tie.Need-enum-told-5
-enum-told-5 c = search needs
-
-enum-told-6 : tie.Need-enum-told-6
-enum-told-6 c = search needs
-
-enum-told-7 : tie.Need-enum-told-7
-enum-told-7 c = search needs
-
 enum-known-h : tie.Need-enum-known-h
 enum-known-h c = search needs
 
 join-requires : tie.Need-join-requires
 join-requires c κs = search needs
 
-enum-told-8 : tie.Need-enum-told-8
-enum-told-8 c = search needs
+enum-told-5 : tie.Need-enum-told-5
+enum-told-5 c = search needs
 
-enum-told-9 : tie.Need-enum-told-9
-enum-told-9 c = search needs
+enum-told-6 : tie.Need-enum-told-6
+enum-told-6 c = search needs
 
 returns : tie.Need-returns
 unfolding storedBy
@@ -71,18 +62,6 @@ returns-8 : tie.Need-returns-8
 unfolding storedBy
 returns-8 c = search (needs, ifs, storedBy-on)
 
-returns-9 : tie.Need-returns-9
-unfolding storedBy
-returns-9 c = search (needs, ifs, storedBy-on)
-
-returns-10 : tie.Need-returns-10
-unfolding storedBy
-returns-10 c = search (needs, ifs, storedBy-on)
-
-returns-11 : tie.Need-returns-11
-unfolding storedBy
-returns-11 c = search (needs, ifs, storedBy-on)
-
 pub store-spec : {M : Type 1} → statement M
 store-spec =
     tie.close
@@ -91,13 +70,10 @@ store-spec =
     enum-told-2
     enum-told-3
     enum-told-4
-    enum-told-5
-    enum-told-6
-    enum-told-7
     enum-known-h
     join-requires
-    enum-told-8
-    enum-told-9
+    enum-told-5
+    enum-told-6
     returns
     returns-2
     returns-3
@@ -105,7 +81,4 @@ store-spec =
     returns-5
     returns-6
     returns-7
-    returns-8
-    returns-9
-    returns-10
-    returns-11)
+    returns-8)

@@ -27,15 +27,6 @@ enum-told-6 c = search needs
 enum-told-7 : tie.Need-enum-told-7
 enum-told-7 c = search needs
 
-enum-told-8 : tie.Need-enum-told-8
-enum-told-8 c = search needs
-
-enum-told-9 : tie.Need-enum-told-9
-enum-told-9 c = search needs
-
-enum-told-10 : tie.Need-enum-told-10
-enum-told-10 c = search needs
-
 returns : tie.Need-returns
 unfolding mayBegin
 returns c = search (needs, ifs, mayBegin-on)
@@ -64,18 +55,6 @@ returns-7 : tie.Need-returns-7
 unfolding mayBegin
 returns-7 c = search (needs, ifs, mayBegin-on)
 
-returns-8 : tie.Need-returns-8
-unfolding mayBegin
-returns-8 c = search (needs, ifs, mayBegin-on)
-
-returns-9 : tie.Need-returns-9
-unfolding mayBegin
-returns-9 c = search (needs, ifs, mayBegin-on)
-
-returns-10 : tie.Need-returns-10
-unfolding mayBegin
-returns-10 c = search (needs, ifs, mayBegin-on)
-
 pub may-begin-spec : {M : Type 1} → statement M
 may-begin-spec =
     tie.close
@@ -87,16 +66,10 @@ may-begin-spec =
     enum-told-5
     enum-told-6
     enum-told-7
-    enum-told-8
-    enum-told-9
-    enum-told-10
     returns
     returns-2
     returns-3
     returns-4
     returns-5
     returns-6
-    returns-7
-    returns-8
-    returns-9
-    returns-10)
+    returns-7)

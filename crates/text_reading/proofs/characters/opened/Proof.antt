@@ -1,4 +1,4 @@
--- Drafted by tools/draft.py: nothing here was written by hand.
+-- Made by tools/draft.py from the answers.txt beside it: edit that file.
 use Rattle.lighting_levels.proofs.Choosing.{ifs}
 use Rattle.text_reading.specs.Reading.{opened}
 use borrow.Author.Needs.{needs}
@@ -10,6 +10,12 @@ is-blank-requires c κs = search needs
 
 digit-held-requires : tie.Need-digit-held-requires
 digit-held-requires c κs = search needs
+
+fresh-heading-requires : tie.Need-fresh-heading-requires
+fresh-heading-requires c κs = search needs
+
+naming-held-requires : tie.Need-naming-held-requires
+naming-held-requires c κs = search needs
 
 returns : tie.Need-returns
 unfolding opened
@@ -29,11 +35,7 @@ returns-4 c = search (needs, ifs)
 
 returns-5 : tie.Need-returns-5
 unfolding opened
-returns-5 c = search (needs, ifs)
-
-returns-6 : tie.Need-returns-6
-unfolding opened
-returns-6 c = search (needs, ifs)
+returns-5 c = search (needs, ifs, ← c .before .fresh-heading .ensures)
 
 pub opened-spec : {M : Type 1} → statement M
 opened-spec =
@@ -41,9 +43,10 @@ opened-spec =
     (tie.spec
     is-blank-requires
     digit-held-requires
+    fresh-heading-requires
+    naming-held-requires
     returns
     returns-2
     returns-3
     returns-4
-    returns-5
-    returns-6)
+    returns-5)

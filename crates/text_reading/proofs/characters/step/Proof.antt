@@ -18,47 +18,29 @@ enum-told-2 c = search needs
 enum-known-h : tie.Need-enum-known-h
 enum-known-h c = search needs
 
-spelled-requires : tie.Need-spelled-requires
-spelled-requires c κs = search needs
+naming-held-requires : tie.Need-naming-held-requires
+naming-held-requires c κs = search needs
 
 enum-told-3 : tie.Need-enum-told-3
 enum-told-3 c = search needs
 
-gapped-requires : tie.Need-gapped-requires
-gapped-requires c κs = search needs
-
-enum-known-h-2 : tie.Need-enum-known-h-2
-enum-known-h-2 c = search needs
-
-numbered-requires : tie.Need-numbered-requires
-numbered-requires c κs = search needs
-
-enum-known-h-3 : tie.Need-enum-known-h-3
-enum-known-h-3 c = search needs
-
-trailed-requires : tie.Need-trailed-requires
-trailed-requires c κs = search needs
+byte-held-requires : tie.Need-byte-held-requires
+byte-held-requires c κs = search needs
 
 enum-told-4 : tie.Need-enum-told-4
 enum-told-4 c = search needs
 
-byte-held-requires : tie.Need-byte-held-requires
-byte-held-requires c κs = search needs
+half-held-requires : tie.Need-half-held-requires
+half-held-requires c κs = search needs
 
 enum-told-5 : tie.Need-enum-told-5
 enum-told-5 c = search needs
 
-half-held-requires : tie.Need-half-held-requires
-half-held-requires c κs = search needs
-
-enum-told-6 : tie.Need-enum-told-6
-enum-told-6 c = search needs
-
 dashed-requires : tie.Need-dashed-requires
 dashed-requires c κs = search needs
 
-enum-told-7 : tie.Need-enum-told-7
-enum-told-7 c = search needs
+enum-told-6 : tie.Need-enum-told-6
+enum-told-6 c = search needs
 
 returns : tie.Need-returns
 unfolding step
@@ -88,18 +70,6 @@ returns-7 : tie.Need-returns-7
 unfolding step
 returns-7 c = search (needs, ifs, step-on)
 
-returns-8 : tie.Need-returns-8
-unfolding step
-returns-8 c = search (needs, ifs, step-on)
-
-returns-9 : tie.Need-returns-9
-unfolding step
-returns-9 c = search (needs, ifs, step-on)
-
-returns-10 : tie.Need-returns-10
-unfolding step
-returns-10 c = search (needs, ifs, step-on)
-
 pub step-spec : {M : Type 1} → statement M
 step-spec =
     tie.close
@@ -108,27 +78,18 @@ step-spec =
     opened-requires
     enum-told-2
     enum-known-h
-    spelled-requires
+    naming-held-requires
     enum-told-3
-    gapped-requires
-    enum-known-h-2
-    numbered-requires
-    enum-known-h-3
-    trailed-requires
-    enum-told-4
     byte-held-requires
-    enum-told-5
+    enum-told-4
     half-held-requires
-    enum-told-6
+    enum-told-5
     dashed-requires
-    enum-told-7
+    enum-told-6
     returns
     returns-2
     returns-3
     returns-4
     returns-5
     returns-6
-    returns-7
-    returns-8
-    returns-9
-    returns-10)
+    returns-7)

@@ -1,0 +1,5 @@
+pub mod Laws
+pub mod Letters
+pub mod Range
+pub mod Leads
+pub mod Named

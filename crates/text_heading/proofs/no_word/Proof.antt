@@ -1,0 +1,48 @@
+-- Drafted by tools/draft.py: nothing here was written by hand.
+use Rattle.lighting_levels.proofs.Choosing.{ifs}
+use Rattle.text_heading.proofs.Laws.{noWord-on}
+use Rattle.text_heading.specs.Heading.{noWord}
+use borrow.Author.Needs.{needs}
+use Rattle.text_heading.proofs.no_word.Statement.{statement}
+use Rattle.text_heading.proofs.no_word.Tie as tie
+
+enum-told : tie.Need-enum-told
+enum-told c = search needs
+
+enum-told-2 : tie.Need-enum-told-2
+enum-told-2 c = search needs
+
+enum-told-3 : tie.Need-enum-told-3
+enum-told-3 c = search needs
+
+enum-told-4 : tie.Need-enum-told-4
+enum-told-4 c = search needs
+
+returns : tie.Need-returns
+unfolding noWord
+returns c = search (needs, ifs, noWord-on)
+
+returns-2 : tie.Need-returns-2
+unfolding noWord
+returns-2 c = search (needs, ifs, noWord-on)
+
+returns-3 : tie.Need-returns-3
+unfolding noWord
+returns-3 c = search (needs, ifs, noWord-on)
+
+returns-4 : tie.Need-returns-4
+unfolding noWord
+returns-4 c = search (needs, ifs, noWord-on)
+
+pub no-word-spec : {M : Type 1} → statement M
+no-word-spec =
+    tie.close
+    (tie.spec
+    enum-told
+    enum-told-2
+    enum-told-3
+    enum-told-4
+    returns
+    returns-2
+    returns-3
+    returns-4)

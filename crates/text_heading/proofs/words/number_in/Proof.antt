@@ -1,0 +1,48 @@
+-- Drafted by tools/draft.py: nothing here was written by hand.
+use Rattle.lighting_levels.proofs.Choosing.{ifs}
+use Rattle.text_heading.proofs.Laws.{numberIn-on}
+use Rattle.text_heading.specs.Words.{numberIn}
+use borrow.Author.Needs.{needs}
+use Rattle.text_heading.proofs.words.number_in.Statement.{statement}
+use Rattle.text_heading.proofs.words.number_in.Tie as tie
+
+enum-told : tie.Need-enum-told
+enum-told c = search needs
+
+enum-told-2 : tie.Need-enum-told-2
+enum-told-2 c = search needs
+
+enum-told-3 : tie.Need-enum-told-3
+enum-told-3 c = search needs
+
+enum-told-4 : tie.Need-enum-told-4
+enum-told-4 c = search needs
+
+returns : tie.Need-returns
+unfolding numberIn
+returns c = search (needs, ifs, numberIn-on)
+
+returns-2 : tie.Need-returns-2
+unfolding numberIn
+returns-2 c = search (needs, ifs, numberIn-on)
+
+returns-3 : tie.Need-returns-3
+unfolding numberIn
+returns-3 c = search (needs, ifs, numberIn-on)
+
+returns-4 : tie.Need-returns-4
+unfolding numberIn
+returns-4 c = search (needs, ifs, numberIn-on)
+
+pub number-in-spec : {M : Type 1} → statement M
+number-in-spec =
+    tie.close
+    (tie.spec
+    enum-told
+    enum-told-2
+    enum-told-3
+    enum-told-4
+    returns
+    returns-2
+    returns-3
+    returns-4)

@@ -1,0 +1,48 @@
+-- Drafted by tools/draft.py: nothing here was written by hand.
+use Rattle.lighting_levels.proofs.Choosing.{ifs}
+use Rattle.text_heading.proofs.Laws.{withCome-on}
+use Rattle.text_heading.specs.Words.{withCome}
+use borrow.Author.Needs.{needs}
+use Rattle.text_heading.proofs.words.with_come.Statement.{statement}
+use Rattle.text_heading.proofs.words.with_come.Tie as tie
+
+enum-told : tie.Need-enum-told
+enum-told c = search needs
+
+enum-told-2 : tie.Need-enum-told-2
+enum-told-2 c = search needs
+
+enum-told-3 : tie.Need-enum-told-3
+enum-told-3 c = search needs
+
+enum-told-4 : tie.Need-enum-told-4
+enum-told-4 c = search needs
+
+returns : tie.Need-returns
+unfolding withCome
+returns c = search (needs, ifs, withCome-on)
+
+returns-2 : tie.Need-returns-2
+unfolding withCome
+returns-2 c = search (needs, ifs, withCome-on)
+
+returns-3 : tie.Need-returns-3
+unfolding withCome
+returns-3 c = search (needs, ifs, withCome-on)
+
+returns-4 : tie.Need-returns-4
+unfolding withCome
+returns-4 c = search (needs, ifs, withCome-on)
+
+pub with-come-spec : {M : Type 1} → statement M
+with-come-spec =
+    tie.close
+    (tie.spec
+    enum-told
+    enum-told-2
+    enum-told-3
+    enum-told-4
+    returns
+    returns-2
+    returns-3
+    returns-4)
