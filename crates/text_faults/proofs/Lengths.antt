@@ -2,15 +2,30 @@
 use Prim.Native.Nat.{ℕ, _≤_}
 use native.Mathlib.Omega.{arith}
 use lib.ListN.{length, length-append}
+use Rattle.text_heading.specs.Words.{bounds}
+use Rattle.text_heading.specs.declared.Bounds.{Bounds}
+use Rattle.text_heading.specs.declared.HeadingFault.{HeadingFault}
+use Rattle.text_heading.specs.declared.HeadingFault.the-variants.{NoOutputs, BadCount, BadWord, Outside}
 use Rattle.text_reading.specs.declared.Fault.{Fault}
-use Rattle.text_reading.specs.declared.Fault.the-variants.{NoOutputs, BadCount, NoDigit, HalfByte}
+use Rattle.text_reading.specs.declared.Fault.the-variants.{InHeading, NoDigit, HalfByte}
+use Rattle.text_heading.proofs.Letters.{most-letters}
 use Rattle.text_printing.proofs.Lengths.{decimal-length}
-use Rattle.text_faults.specs.Faults.{faultWords, placed, faultLine, endedLine}
+use Rattle.text_faults.specs.Faults.{boundsWords, outsideWords, headingWords, faultWords, placed, faultLine, endedLine}
 
-words-length : (f : Fault) → length (faultWords f) ≤ 40
+bounds-length : (b : Bounds) → length (boundsWords b) ≤ 44
+unfolding boundsWords
+bounds-length b = simp length-append (omega (arith, decimal-length (b .least), decimal-length (b .most)))
+
+heading-length : (f : HeadingFault) → length (headingWords f) ≤ 77
+unfolding headingWords outsideWords
+heading-length NoOutputs = omega arith
+heading-length BadCount = omega arith
+heading-length BadWord = omega arith
+heading-length (Outside w) = simp length-append (omega (arith, most-letters w, bounds-length (bounds w)))
+
+words-length : (f : Fault) → length (faultWords f) ≤ 77
 unfolding faultWords
-words-length NoOutputs = omega arith
-words-length BadCount = omega arith
+words-length (InHeading f) = heading-length f
 words-length NoDigit = omega arith
 words-length HalfByte = omega arith
 
@@ -18,7 +33,7 @@ placed-length : (k : ℕ) → length (placed k) ≤ 27
 unfolding placed
 placed-length k = simp length-append (omega (arith, decimal-length k))
 
-pub fault-length : (k : ℕ) (f : Fault) → length (faultLine k f) ≤ 68
+pub fault-length : (k : ℕ) (f : Fault) → length (faultLine k f) ≤ 105
 unfolding faultLine
 fault-length k f = simp length-append (omega (arith, placed-length k, words-length f))
 

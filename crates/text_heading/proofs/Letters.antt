@@ -9,7 +9,7 @@ use Rattle.text_heading.specs.Words.{letters}
 use Rattle.text_heading.specs.declared.Word.{Word}
 use Rattle.text_heading.specs.declared.Word.the-variants.{Outputs, Stations, Fade, Duration}
 
-most-letters : (w : Word) → length (letters w) ≤ 8
+pub most-letters : (w : Word) → length (letters w) ≤ 8
 unfolding letters
 most-letters Outputs = omega arith
 most-letters Stations = omega arith

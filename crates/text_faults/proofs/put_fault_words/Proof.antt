@@ -5,6 +5,12 @@ use borrow.Author.Needs.{needs}
 use Rattle.text_faults.proofs.put_fault_words.Statement.{statement}
 use Rattle.text_faults.proofs.put_fault_words.Tie as tie
 
+enum-known-f : tie.Need-enum-known-f
+enum-known-f c = search needs
+
+put-heading-words-requires : tie.Need-put-heading-words-requires
+put-heading-words-requires c κs = search needs
+
 enum-told : tie.Need-enum-told
 enum-told c = search needs
 
@@ -22,24 +28,6 @@ slice-aggregate-put-all-2 c = search needs
 
 put-all-requires-2 : tie.Need-put-all-requires-2
 put-all-requires-2 c κs = search needs
-
-enum-told-3 : tie.Need-enum-told-3
-enum-told-3 c = search needs
-
-slice-aggregate-put-all-3 : tie.Need-slice-aggregate-put-all-3
-slice-aggregate-put-all-3 c = search needs
-
-put-all-requires-3 : tie.Need-put-all-requires-3
-put-all-requires-3 c κs = search needs
-
-enum-told-4 : tie.Need-enum-told-4
-enum-told-4 c = search needs
-
-slice-aggregate-put-all-4 : tie.Need-slice-aggregate-put-all-4
-slice-aggregate-put-all-4 c = search needs
-
-put-all-requires-4 : tie.Need-put-all-requires-4
-put-all-requires-4 c κs = search needs
 
 same-length : tie.Need-same-length
 same-length c = search needs
@@ -62,34 +50,21 @@ returns-3 : tie.Need-returns-3
 unfolding faultWords
 returns-3 c = search (needs, faultWords-on)
 
-same-length-4 : tie.Need-same-length-4
-same-length-4 c = search needs
-
-returns-4 : tie.Need-returns-4
-unfolding faultWords
-returns-4 c = search (needs, faultWords-on)
-
 pub put-fault-words-spec : {M : Type 1} → statement M
 put-fault-words-spec =
     tie.close
     (tie.spec
+    enum-known-f
+    put-heading-words-requires
     enum-told
     slice-aggregate-put-all
     put-all-requires
     enum-told-2
     slice-aggregate-put-all-2
     put-all-requires-2
-    enum-told-3
-    slice-aggregate-put-all-3
-    put-all-requires-3
-    enum-told-4
-    slice-aggregate-put-all-4
-    put-all-requires-4
     same-length
     returns
     same-length-2
     returns-2
     same-length-3
-    returns-3
-    same-length-4
-    returns-4)
+    returns-3)
