@@ -65,12 +65,7 @@ pub fn panel_sound(outputs: &[Output], stations: &[Station], kept: PanelRecord) 
 // ---- the verdict
 
 // What is to be done with the bytes, by the record of the station that they name.
-pub fn decide(
-    outputs: &[Output],
-    stations: &[Station],
-    kept: PanelRecord,
-    bytes: &[u8],
-) -> Verdict
+pub fn decide(outputs: &[Output], stations: &[Station], kept: PanelRecord, bytes: &[u8]) -> Verdict
     requires { ⌜ startable (kept .parameters) ≡ true ⌝ }
     requires { ⌜ length (now stations) ≡ kept .parameters .stations ⌝ }
     ensures { λ v. ⌜ v ≡ decide (panelOf (now (outputs .entry)) (now (stations .entry)) kept) (now (bytes .entry)) ⌝ }
