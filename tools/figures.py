@@ -12,9 +12,9 @@ OUTPUTS = 'bitAnd bitOr'.split() + LEVELS + 'Slots Value Relay Record Passing Li
 ACTS = OUTPUTS + 'Requests Acting'.split()
 READS = ['toBits', 'round'] + ACTS
 FRAMES = READS + 'Field Kinds Tags Frames'.split()
-PANELS = FRAMES + 'Rules Stations Copies Panel Judging Executing'.split()
+PANELS = FRAMES + 'Startable Rules Stations Copies Panel Judging Executing'.split()
 LISTS = ['answers'] + PANELS
-PANEL = 'answers document01 (freshPanel document01 %d 8) '
+PANEL = 'answers (freshPanel (document01 %d)) '
 
 # of each crate: the name of a theorem, what is given and said, their module, what unfolds (modules with all
 # their
@@ -45,6 +45,12 @@ FIGURES = {
         ('worked-halves', PANEL % 2 + 'framesOfHalves', 'answersToHalves', 'WorkedHalfLists', LISTS, '§5 in a list'),
         ('worked-order', PANEL % 1 + 'framesOfOrder', 'answersInOrder', 'WorkedOrder', LISTS, 'wrong in two places at once'),
         ('rules-by-number', 'rulesGiven', 'rulesSaid', 'WorkedRules', PANELS, 'refusal 1: the record rules'),
+        ('ends-by-number', 'endsGiven', 'endsSaid', 'WorkedSets', PANELS, '§6: which sets may be started'),
+        ('kept-by-number', 'keptGiven', 'keptSaid', 'WorkedSets', PANELS, '§6: which sets may be kept'),
+        ('sizes-by-number', 'sizesGiven', 'sizesSaid', 'WorkedSets', PANELS, '§6: 17 before 1, exactly that many records'),
+        ('frames-at-sets', 'framesGiven', 'framesSaid', 'WorkedSets', LISTS, '§6: refusals 4 and 12 at some sets'),
+        ('fresh-fades', 'freshFadesGiven', 'freshFadesSaid', 'WorkedSets', LISTS, '§6: a fresh Fade_Time'),
+        ('longest-ramp', 'rampGiven', 'rampSaid', 'WorkedSets', LISTS, '§6: a ramp that is longer than every fade'),
     ],
 }
 # names that unfold, and their module: what is no definition of ours, and lists

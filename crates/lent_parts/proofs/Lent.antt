@@ -1,2 +1,3 @@
 -- Made by tools/twin.py.
 pub mod send
+pub mod start

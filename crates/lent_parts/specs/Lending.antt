@@ -3,23 +3,25 @@
 use mathlib.Core.List.{_++_}
 use Prim.Native.Nat.{ℕ}
 use lib.ListN.{take, drop}
-use Rattle.lighting_outputs.specs.Paper.Parameters.{document01}
+use Rattle.lighting_outputs.specs.declared.Parameters.{Parameters}
 use Rattle.lighting_frames.specs.Paper.Frames.{Bytes}
-use Rattle.lighting_panel.specs.Paper.Panel.{Panel, Step, panelOf}
+use Rattle.lighting_panel.specs.Paper.Panel.{Panel, Step, panelOf, startStep}
 use Rattle.lighting_panel.specs.Engine.Executing.{frameStep}
 
 -- the panel of the first n outputs and the first k stations
 abbrev pub lent : ℕ → ℕ → Panel → Panel
-lent n k p = panelOf (take n (p .outputs)) (take k (p .stations)) (p .kept)
+lent n k e = panelOf (take n (e .outputs)) (take k (e .stations)) (e .kept)
 
--- that panel q after a frame, and the records that stand by
+-- that panel q after an operation, and the records that stand by
 abbrev pub returned : ℕ → ℕ → Panel → Panel → Panel
-returned n k p q = panelOf (q .outputs ++ drop n (p .outputs)) (q .stations ++ drop k (p .stations)) (q .kept)
+returned n k e q = panelOf (q .outputs ++ drop n (e .outputs)) (q .stations ++ drop k (e .stations)) (q .kept)
+
+-- that panel is started with the set p (§6)
+unfoldable pub begun : ℕ → ℕ → Parameters → Panel → Step
+begun n k p e =
+    record { panel = returned n k e (startStep p (lent n k e) .panel); answer = startStep p (lent n k e) .answer }
 
 -- a string of bytes goes to that panel
 unfoldable pub sent : ℕ → ℕ → Bytes → Panel → Step
-sent n k b p =
-    record {
-      panel = returned n k p (frameStep document01 (lent n k p) b .panel);
-      answer = frameStep document01 (lent n k p) b .answer;
-    }
+sent n k b e =
+    record { panel = returned n k e (frameStep (lent n k e) b .panel); answer = frameStep (lent n k e) b .answer }

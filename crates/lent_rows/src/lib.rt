@@ -3,6 +3,7 @@
 // hold becomes the greatest that it can, and numbers after the 49th are left out.
 pub mod numbers;
 pub mod outputs;
+pub mod parameters;
 pub mod stations;
 
 // The numbers of a row: an output's place and its 48 fields. No other row has more.

@@ -1,19 +1,23 @@
-// Tables made by hand, lent to the panel: rows from standard input set up outputs, stations and the panel
-// time, send frames, and ask for what is left, which is written as rows of the same form. The crate
-// `lent_rows` has the rows. A row's first character is its letter:
-//   t N K T    N outputs and K stations are lent from here on, every record fresh, at panel time T
+// Tables made by hand, lent to the panel: rows from standard input set up outputs, stations and the panel's
+// record, start the panel, send frames, and ask for what is left, which is written as rows of the same form.
+// The crate `lent_rows` has the rows. A row's first character is its letter:
+//   t N K T    N outputs and K stations are lent from here on, every record fresh, at panel time T, and the kept
+//              set is document 01's of N outputs
+//   p S C F D  the kept set is from here on S stations, C outputs, the longest fade F, the longest duration D
 //   o I ..     the record of output I, 48 numbers
 //   s I ..     the record of station I, 34 numbers
+//   b S C F D  a start with this set: a line with its answer
 //   f ..       the bytes of a frame, which is sent: a line with its answer
-//   l          what is left: a row t, and a row for each lent record that is not fresh
+//   l          what is left: a row t, a row p, and a row for each lent record that is not document 01's fresh one
 // Any other line is a comment.
 //
-// The contract of `lent_parts::send` gives the panel's part whole. What is read and written no contract can
+// The contracts of `lent_parts` give the panel's part whole. What is read and written no contract can
 // say: the stored text and the comparison of tests/lent look at it, and the functions about it are proved
 // safe and ending.
 use lent_rows::Row;
 use lighting_frames::Station;
 use lighting_outputs::Output;
+use lighting_outputs::Parameters;
 use lighting_panel::PanelRecord;
 
 // After some of the rows: the row that is being read, how many outputs and stations are lent, the page's
@@ -92,10 +96,21 @@ fn ended(t: Turn) -> Turn {
 
 // ---- the tables
 
-fn clear(outputs: &mut [Output], stations: &mut [Station], kept: &mut PanelRecord, moment: u64) {
-    panel_tables::fresh_outputs(outputs, panel_record::document_01());
+// Every record fresh, and beside them what the panel's own record is to be.
+fn clear(
+    outputs: &mut [Output],
+    stations: &mut [Station],
+    kept: &mut PanelRecord,
+    parameters: Parameters,
+    moment: u64,
+) {
+    panel_tables::fresh_outputs(outputs, parameters);
     panel_tables::fresh_stations(stations);
-    *kept = panel_record::with_time(panel_record::fresh_record(), moment);
+    keep(kept, parameters, moment);
+}
+
+fn keep(kept: &mut PanelRecord, parameters: Parameters, moment: u64) {
+    *kept = panel_record::with_time(panel_record::fresh_record(parameters), moment);
 }
 
 fn lend_output(outputs: &mut [Output], at: usize, o: Output) {
@@ -115,6 +130,11 @@ fn lend_station(stations: &mut [Station], at: usize, k: Station) {
 fn put_counts(page: &mut [u8], mark: usize, n: usize, k: usize, time: u64) -> usize {
     let row = [n as u64, k as u64, time];
     lent_rows::put_row(page, text_found::with_room(page, mark), b't', &row)
+}
+
+fn put_parameters(page: &mut [u8], mark: usize, parameters: Parameters) -> usize {
+    let row = lent_rows::parameters::parameters_numbers(parameters);
+    lent_rows::put_row(page, text_found::with_room(page, mark), b'p', &row)
 }
 
 fn put_output(page: &mut [u8], mark: usize, at: usize, o: Output) -> usize {
@@ -177,7 +197,8 @@ fn take_row(
     let next = with_next_row(t);
     match letter {
         b't' => {
-            clear(outputs, stations, kept, numbers[2]);
+            let parameters = panel_record::document_01(lent_rows::numbers::narrow32(numbers[0]));
+            clear(outputs, stations, kept, parameters, numbers[2]);
             with_counts(
                 next,
                 lent_rows::numbers::place(numbers[0]),
@@ -194,6 +215,25 @@ fn take_row(
             lend_station(stations, lent_rows::numbers::place(numbers[0]), s);
             next
         }
+        b'p' => {
+            let record = *kept;
+            let time = panel_record::time_of(record);
+            keep(kept, lent_rows::parameters::parameters_of(numbers), time);
+            next
+        }
+        b'b' => {
+            let parameters = lent_rows::parameters::parameters_of(numbers);
+            let a = lent_parts::start(
+                outputs,
+                stations,
+                kept,
+                t.outputs,
+                t.stations,
+                parameters,
+            );
+            let room = text_found::with_room(page, t.mark);
+            with_mark(next, text_printing::put_answer(page, room, a))
+        }
         b'f' => {
             let bytes = lent_rows::bytes_of(numbers);
             let a = lent_parts::send(
@@ -202,7 +242,7 @@ fn take_row(
                 kept,
                 t.outputs,
                 t.stations,
-                &bytes,
+                &bytes[..],
                 row.count,
             );
             let room = text_found::with_room(page, t.mark);
@@ -211,7 +251,8 @@ fn take_row(
         b'l' => {
             let record = *kept;
             let time = panel_record::time_of(record);
-            let head = put_counts(page, t.mark, t.outputs, t.stations, time);
+            let counts = put_counts(page, t.mark, t.outputs, t.stations, time);
+            let head = put_parameters(page, counts, panel_record::parameters_of(record));
             let middle = put_outputs(outputs, t.outputs, page, head);
             with_mark(next, put_stations(stations, t.stations, page, middle))
         }
@@ -292,13 +333,14 @@ fn lend(
     text_found::flush(page, t.mark);
 }
 
-// Over tables of its own, with one record more than any panel has: 65 outputs and nine stations.
+// Over tables of its own, with one record more than any panel has: 65 outputs and 33 stations.
 pub fn run() {
-    let output = output_fresh::fresh_output(panel_record::document_01());
+    let parameters = panel_record::document_01(1);
+    let output = output_fresh::fresh_output(parameters);
     let mut outputs = [output; 65];
     let record = output_fresh::fresh_station();
-    let mut stations = [record; 9];
-    let mut kept = panel_record::fresh_record();
+    let mut stations = [record; 33];
+    let mut kept = panel_record::fresh_record(parameters);
     let mut page = io::large_buffer();
     let mut chunk = io::large_buffer();
     lend(

@@ -4,3 +4,5 @@ pub mod Bytes
 pub mod Orders
 -- bodies in tags (§1)
 pub mod Tags
+-- document 01's own number of stations
+pub mod Numbers

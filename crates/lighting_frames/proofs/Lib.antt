@@ -9,6 +9,8 @@ pub mod Octets
 pub mod Operations
 -- commands in tags (§1), written and read
 pub mod Tagging
+-- the number of outputs of a set plays no part here (§6)
+pub mod OutputCount
 -- what the reading of a frame leaves in range
 pub mod Reading
 -- what an engineer would check by hand

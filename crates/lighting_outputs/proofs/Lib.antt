@@ -5,6 +5,8 @@ pub mod Priorities
 pub mod Time
 -- the record rules as facts, and ranges
 pub mod Rules
+-- the number of outputs of a set plays no part here (§6)
+pub mod OutputCount
 -- every act keeps the record rules
 pub mod Acts
 -- between a REAL and its pattern nothing is lost

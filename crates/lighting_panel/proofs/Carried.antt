@@ -7,17 +7,18 @@ use mathlib.Core.List.{List, [], _∷_, map}
 use Prim.Native.Nat.{ℕ, suc, _≤_, _<_}
 use native.Mathlib.Omega.{arith}
 use lib.Dec.{ltb, eqb}
-use lib.ListN.{length, getD}
+use lib.ListN.{length, getD, replicate}
 use Rattle.lighting_levels.specs.Paper.Choice.{if_then_else_, every}
 use Rattle.lighting_outputs.specs.declared.Parameters.{Parameters}
 use Rattle.lighting_levels.specs.Paper.Field.{byteAt}
 use Rattle.lighting_frames.specs.Paper.Frames.{Bytes, Octets, parse}
 use Rattle.lighting_outputs.specs.Engine.Advance.{greatestCount, advance}
+use Rattle.lighting_outputs.specs.Paper.Fresh.{freshFor}
 use Rattle.lighting_outputs.specs.Paper.Rules.{sound}
 use Rattle.lighting_frames.specs.Paper.Stations.{freshStation}
 use Rattle.lighting_frames.specs.Paper.Copies.{sameBytes, retransmissionOrConflict}
 use Rattle.lighting_panel.specs.Engine.VerdictPrecondition.{VerdictPrecondition}
-use Rattle.lighting_panel.specs.Paper.Panel.{Panel, result, Station, countsSound, panelSound, freshPanel, startStep}
+use Rattle.lighting_panel.specs.Paper.Panel.{Panel, panelOf, freshRecord, result, Station, countsSound, rulesKept, panelSound, freshPanel, startStep}
 use Rattle.lighting_panel.specs.Engine.Judging.{restored, judgedByNumber, judgedByRecord, stationOf, judgedByStation, decide}
 use Rattle.lighting_panel.specs.Engine.Executing.{execute, frameStep}
 use Rattle.lighting_outputs.specs.declared.Output.{Output}
@@ -34,23 +35,28 @@ use Rattle.lighting_outputs.proofs.Rules.Tied.{tested-stays}
 
 -- THE START
 module _ (p : Parameters) (e : Panel) where
-  pub startStep-refused : countsSound p (length (e .outputs)) (length (e .stations)) ≡ false
+  pub startStep-outside : startable p ≡ false → startStep p e ≡ result e (Refused 17)
+  unfolding startStep if_then_else_
+  startStep-outside h = rw h
+
+  pub startStep-refused : startable p ≡ true → countsSound p (length (e .outputs)) (length (e .stations)) ≡ false
       → startStep p e ≡ result e (Refused 1)
   unfolding startStep if_then_else_
-  startStep-refused h = rw h
+  startStep-refused h g = rw (h, g)
 
-  pub startStep-done : countsSound p (length (e .outputs)) (length (e .stations)) ≡ true
-      → startStep p e ≡ result (freshPanel p (length (e .outputs)) (length (e .stations))) Done
-  unfolding startStep if_then_else_
-  startStep-done h = rw h
+  -- the fresh records are as many as are lent
+  pub startStep-done : startable p ≡ true → countsSound p (length (e .outputs)) (length (e .stations)) ≡ true
+      → startStep p e ≡ result (panelOf (replicate (length (e .outputs)) (freshFor p)) (replicate (length (e .stations)) freshStation) (freshRecord p)) Done
+  unfolding startStep freshPanel countsSound if_then_else_
+  startStep-done h g = let q = also-both g in rw (h, g) (rw (eq-of {a = length (e .outputs)} {b = p .outputs} (q .0), eq-of {a = length (e .stations)} {b = p .stations} (q .1)))
 
 -- ONE FRAME
-module _ (p : Parameters) (e : Panel) (b : Bytes) where
-  pub frameStep-refused : panelSound p e ≡ false → frameStep p e b ≡ result e (Refused 1)
+module _ (e : Panel) (b : Bytes) where
+  pub frameStep-refused : panelSound e ≡ false → frameStep e b ≡ result e (Refused 1)
   unfolding frameStep if_then_else_
   frameStep-refused h = rw h
 
-  pub frameStep-execute : panelSound p e ≡ true → frameStep p e b ≡ execute b e (decide p e b)
+  pub frameStep-execute : panelSound e ≡ true → frameStep e b ≡ execute b e (decide e b)
   unfolding frameStep if_then_else_
   frameStep-execute h = rw h
 
@@ -62,13 +68,17 @@ all-stay p t (o ∷ l) m h =
     ap₂ (λ (x : Output) (k : List Output). x ∷ k) (tested-stays p t o m (also-both h .0)) (all-stay p t l m (also-both h .1))
 
 -- the parts of the test of refusal 1
-pub sound-stations : (p : Parameters) (e : Panel) → panelSound p e ≡ true → length (e .stations) ≡ p .stations
-unfolding panelSound countsSound
-sound-stations p e h = eq-of (also-both (also-both (also-both h .0) .1) .1)
-
-pub sound-outputs : (p : Parameters) (e : Panel) → panelSound p e ≡ true → every (sound p (e .kept .time)) (e .outputs) ≡ true
+pub sound-startable : (e : Panel) → panelSound e ≡ true → startable (e .kept .parameters) ≡ true
 unfolding panelSound
-sound-outputs p e h = also-both (also-both h .1) .0
+sound-startable e h = also-both h .0
+
+pub sound-stations : (e : Panel) → panelSound e ≡ true → length (e .stations) ≡ e .kept .parameters .stations
+unfolding panelSound rulesKept countsSound
+sound-stations e h = eq-of (also-both (also-both (also-both h .1) .0) .1)
+
+pub sound-outputs : (e : Panel) → panelSound e ≡ true → every (sound (e .kept .parameters) (e .kept .time)) (e .outputs) ≡ true
+unfolding panelSound rulesKept
+sound-outputs e h = also-both (also-both (also-both h .1) .1) .0
 
 -- WHAT A VERDICT IS SURE OF. The numbers of a slice of bytes are bytes
 pub octets : (b : Bytes) → ((i : ℕ) → getD b i 0 < 256) → Octets b
@@ -111,10 +121,11 @@ judgedByRecord-sure p now c k b a same (Calls call) e g =
       size = omega (arith, g .sized, length-most (byteAt b 0));
     }))))))
 
-pub decide-sure : (p : Parameters) (e : Panel) (b : Bytes) → Octets b → panelSound p e ≡ true
-    → VerdictPrecondition (e .kept .time) (length (e .outputs)) (length (e .stations)) b (decide p e b)
+pub decide-sure : (e : Panel) (b : Bytes) → Octets b → panelSound e ≡ true
+    → VerdictPrecondition (e .kept .time) (length (e .outputs)) (length (e .stations)) b (decide e b)
 unfolding decide judgedByStation
-decide-sure p e b h z =
+decide-sure e b h z =
+    let p = e .kept .parameters in
     let f = parse p (length (e .outputs)) b in
     let k = getD (e .stations) (stationOf f) freshStation in
-    judgedByRecord-sure p (e .kept .time) (length (e .outputs)) (length (e .stations)) b k (sameBytes b (restored (k .frame))) f (sound-stations p e z) (frame-in-range p (length (e .outputs)) b h)
+    judgedByRecord-sure p (e .kept .time) (length (e .outputs)) (length (e .stations)) b k (sameBytes b (restored (k .frame))) f (sound-stations e z) (frame-in-range p (length (e .outputs)) b h)

@@ -26,10 +26,11 @@ use Rattle.lighting_levels.specs.Paper.Field.{byteAt, bigEndian, octets}
 use Rattle.lighting_frames.specs.Paper.Kinds.{kindRow, kindLength, callsBy, isCall}
 use Rattle.lighting_frames.specs.Paper.Tags.{fewestOctets, fieldSize, sizes, fieldBytes, bytesFrom, tagBytes, realTag, wholeTag, tagsOf, commandTags, zeroFilled, taggedBody, bodyBytes, fieldIn, fieldsFrom, bodyFields, zeroBeyond, holdsAtMost, wellTagged, heldBy, operationOf, timeOf, bothOrNeither, fewest, ownTags, readFields, readBody}
 use Rattle.lighting_frames.specs.Paper.Frames.{taggedRequest, requestOf, callOf, called, clockOf, parseBy, parse}
+use Rattle.lighting_outputs.specs.Paper.Startable.{startable}
 use Rattle.lighting_outputs.specs.Paper.Rules.{levelsSound, timesSound, realsSound, settingsSound, slotSound, slotsSound, spanSound, movementSound, warningBy, warningSound, activityBy, activitySound, timerSound, agrees, relaySound, sound}
 use Rattle.lighting_frames.specs.Paper.Stations.{freshStation, stationSound}
 use Rattle.lighting_frames.specs.Paper.Copies.{sameBytes, retransmissionOrConflict}
-use Rattle.lighting_panel.specs.Paper.Panel.{countsSound, panelSound, freshPanel, startStep}
+use Rattle.lighting_panel.specs.Paper.Panel.{countsSound, rulesKept, panelSound, freshPanel, startStep}
 use Rattle.lighting_panel.specs.Engine.Judging.{padded, restored, judgedByNumber, judgedByRecord, stationOf, judgedByStation, decide}
 use Rattle.lighting_panel.specs.Engine.Executing.{execute, frameStep}
 use Rattle.lighting_panel.specs.Paper.Worked.{frames, expected}
@@ -38,33 +39,64 @@ use Rattle.lighting_panel.specs.Paper.WorkedJumpLists.{framesOfJumps, an
 use Rattle.lighting_panel.specs.Paper.WorkedHalfLists.{framesOfHalves, answersToHalves}
 use Rattle.lighting_panel.specs.Paper.WorkedOrder.{framesOfOrder, answersInOrder}
 use Rattle.lighting_panel.specs.Paper.WorkedRules.{rulesGiven, rulesSaid}
+use Rattle.lighting_panel.specs.Paper.WorkedSets.{endsGiven, endsSaid, keptGiven, keptSaid, sizesGiven, sizesSaid, framesGiven, framesSaid, freshFadesGiven, freshFadesSaid, rampGiven, rampSaid}
 
 -- bench figures 9 and 10, and the traps of a list
-pub worked : answers document01 (freshPanel document01 2 8) frames ≡ expected
-unfolding answers toBits round bitAnd bitOr ofBits if_then_else_ allFrom every real bits levelOf realOf readOut realFromTo amountOf limitOf inRange unitsOr amountUnits levelUnits view slotsOf firstLive winner isLive maskEmptied maskFilled levelSet put levelAt winningLevel clampLit presentValue distanceMoved reachedBy reached progressBy progressValue lit inProcess binaryAt switched relayState inactiveNotBelow withBurning withEffect withCommand withSettings litMilliseconds withBurned timerDue phaseEnd activityDue isDue timerAt emptiedBy expired endMovementOf endMovementBy endMovementOnExpiry delayed nextPhase nextActivity activityAt phaseSlots nextSlots slotsAt afterEvents fire tick ticks lastShort momentAfter goneAt countBefore countSince litFromZero litFromLight litAt litByPace litMoving litInMovement litResting litStretch sooner due burnedBy withBurnedSaturating fireDue eventStep eventSteps advance later endMovementUnlessAbove stored zeroOrEmpty zeroOrEmptyFrom blinks zeroOrEmptyAbove warnsBy warns firstLevel firstPhase warningFrom warnedBy warned endedEmpty endedStored writtenWarned writtenZero writtenCalm writtenBy written activityRelinquished slotRelinquished operationNumber fieldsOf durationField withoutWarning activityWithoutWarning replaced placed movement rampLength target fadedOver fadedTo rampedAt rampedTo jumped wentTo stepUpFrom stepDownFrom steppedUp steppedDown raised halted stopped relinquished effect timed commandedFrom commanded answerBytes levelAnswered within isLevel isAmount isSlot isPriority meets numbered propertyOf same changeTo changeBy changeOf settingsWith relayWith endMovement activityWith burningWith changed minOverMax levelAnswer levelOrAbsent slotAnswer flag elapsedActive realAnswer realFieldAnswer timeFieldAnswer lastDuration readProperty freshSettings freshRelay freshWith freshFor freshOutput levelFieldRefusal amountFieldRefusal timeFieldRefusal firstRefusal fieldsRefusal commandLasting commandWithDuration commandRequestBy commandOf plainDuration commandRequest writeLevel writeOf emptyOf done unchanged changedUnless acted served byteAt bigEndian octets kindRow kindLength callsBy isCall fewestOctets fieldSize sizes fieldBytes bytesFrom tagBytes realTag wholeTag tagsOf commandTags zeroFilled taggedBody bodyBytes fieldIn fieldsFrom bodyFields zeroBeyond holdsAtMost wellTagged heldBy operationOf timeOf bothOrNeither fewest ownTags readFields readBody taggedRequest requestOf callOf called clockOf parseBy parse levelsSound timesSound realsSound settingsSound slotSound slotsSound spanSound movementSound warningBy warningSound activityBy activitySound timerSound agrees relaySound sound freshStation stationSound sameBytes retransmissionOrConflict countsSound panelSound freshPanel startStep padded restored judgedByNumber judgedByRecord stationOf judgedByStation decide execute frameStep
+pub worked : answers (freshPanel (document01 2)) frames ≡ expected
+unfolding answers toBits round bitAnd bitOr ofBits if_then_else_ allFrom every real bits levelOf realOf readOut realFromTo amountOf limitOf inRange unitsOr amountUnits levelUnits view slotsOf firstLive winner isLive maskEmptied maskFilled levelSet put levelAt winningLevel clampLit presentValue distanceMoved reachedBy reached progressBy progressValue lit inProcess binaryAt switched relayState inactiveNotBelow withBurning withEffect withCommand withSettings litMilliseconds withBurned timerDue phaseEnd activityDue isDue timerAt emptiedBy expired endMovementOf endMovementBy endMovementOnExpiry delayed nextPhase nextActivity activityAt phaseSlots nextSlots slotsAt afterEvents fire tick ticks lastShort momentAfter goneAt countBefore countSince litFromZero litFromLight litAt litByPace litMoving litInMovement litResting litStretch sooner due burnedBy withBurnedSaturating fireDue eventStep eventSteps advance later endMovementUnlessAbove stored zeroOrEmpty zeroOrEmptyFrom blinks zeroOrEmptyAbove warnsBy warns firstLevel firstPhase warningFrom warnedBy warned endedEmpty endedStored writtenWarned writtenZero writtenCalm writtenBy written activityRelinquished slotRelinquished operationNumber fieldsOf durationField withoutWarning activityWithoutWarning replaced placed movement rampLength target fadedOver fadedTo rampedAt rampedTo jumped wentTo stepUpFrom stepDownFrom steppedUp steppedDown raised halted stopped relinquished effect timed commandedFrom commanded answerBytes levelAnswered within isLevel isAmount isSlot isPriority meets numbered propertyOf same changeTo changeBy changeOf settingsWith relayWith endMovement activityWith burningWith changed minOverMax levelAnswer levelOrAbsent slotAnswer flag elapsedActive realAnswer realFieldAnswer timeFieldAnswer lastDuration readProperty freshSettings freshRelay freshWith freshFor freshOutput levelFieldRefusal amountFieldRefusal timeFieldRefusal firstRefusal fieldsRefusal commandLasting commandWithDuration commandRequestBy commandOf plainDuration commandRequest writeLevel writeOf emptyOf done unchanged changedUnless acted served byteAt bigEndian octets kindRow kindLength callsBy isCall fewestOctets fieldSize sizes fieldBytes bytesFrom tagBytes realTag wholeTag tagsOf commandTags zeroFilled taggedBody bodyBytes fieldIn fieldsFrom bodyFields zeroBeyond holdsAtMost wellTagged heldBy operationOf timeOf bothOrNeither fewest ownTags readFields readBody taggedRequest requestOf callOf called clockOf parseBy parse startable levelsSound timesSound realsSound settingsSound slotSound slotsSound spanSound movementSound warningBy warningSound activityBy activitySound timerSound agrees relaySound sound freshStation stationSound sameBytes retransmissionOrConflict countsSound rulesKept panelSound freshPanel startStep padded restored judgedByNumber judgedByRecord stationOf judgedByStation decide execute frameStep
 worked = refl
 
 -- §1 in a list
-pub worked-in-tags : answers document01 (freshPanel document01 2 8) framesInTags ≡ answersInTags
-unfolding answers toBits round bitAnd bitOr ofBits if_then_else_ allFrom every real bits levelOf realOf readOut realFromTo amountOf limitOf inRange unitsOr amountUnits levelUnits view slotsOf firstLive winner isLive maskEmptied maskFilled levelSet put levelAt winningLevel clampLit presentValue distanceMoved reachedBy reached progressBy progressValue lit inProcess binaryAt switched relayState inactiveNotBelow withBurning withEffect withCommand withSettings litMilliseconds withBurned timerDue phaseEnd activityDue isDue timerAt emptiedBy expired endMovementOf endMovementBy endMovementOnExpiry delayed nextPhase nextActivity activityAt phaseSlots nextSlots slotsAt afterEvents fire tick ticks lastShort momentAfter goneAt countBefore countSince litFromZero litFromLight litAt litByPace litMoving litInMovement litResting litStretch sooner due burnedBy withBurnedSaturating fireDue eventStep eventSteps advance later endMovementUnlessAbove stored zeroOrEmpty zeroOrEmptyFrom blinks zeroOrEmptyAbove warnsBy warns firstLevel firstPhase warningFrom warnedBy warned endedEmpty endedStored writtenWarned writtenZero writtenCalm writtenBy written activityRelinquished slotRelinquished operationNumber fieldsOf durationField withoutWarning activityWithoutWarning replaced placed movement rampLength target fadedOver fadedTo rampedAt rampedTo jumped wentTo stepUpFrom stepDownFrom steppedUp steppedDown raised halted stopped relinquished effect timed commandedFrom commanded answerBytes levelAnswered within isLevel isAmount isSlot isPriority meets numbered propertyOf same changeTo changeBy changeOf settingsWith relayWith endMovement activityWith burningWith changed minOverMax levelAnswer levelOrAbsent slotAnswer flag elapsedActive realAnswer realFieldAnswer timeFieldAnswer lastDuration readProperty freshSettings freshRelay freshWith freshFor freshOutput levelFieldRefusal amountFieldRefusal timeFieldRefusal firstRefusal fieldsRefusal commandLasting commandWithDuration commandRequestBy commandOf plainDuration commandRequest writeLevel writeOf emptyOf done unchanged changedUnless acted served byteAt bigEndian octets kindRow kindLength callsBy isCall fewestOctets fieldSize sizes fieldBytes bytesFrom tagBytes realTag wholeTag tagsOf commandTags zeroFilled taggedBody bodyBytes fieldIn fieldsFrom bodyFields zeroBeyond holdsAtMost wellTagged heldBy operationOf timeOf bothOrNeither fewest ownTags readFields readBody taggedRequest requestOf callOf called clockOf parseBy parse levelsSound timesSound realsSound settingsSound slotSound slotsSound spanSound movementSound warningBy warningSound activityBy activitySound timerSound agrees relaySound sound freshStation stationSound sameBytes retransmissionOrConflict countsSound panelSound freshPanel startStep padded restored judgedByNumber judgedByRecord stationOf judgedByStation decide execute frameStep
+pub worked-in-tags : answers (freshPanel (document01 2)) framesInTags ≡ answersInTags
+unfolding answers toBits round bitAnd bitOr ofBits if_then_else_ allFrom every real bits levelOf realOf readOut realFromTo amountOf limitOf inRange unitsOr amountUnits levelUnits view slotsOf firstLive winner isLive maskEmptied maskFilled levelSet put levelAt winningLevel clampLit presentValue distanceMoved reachedBy reached progressBy progressValue lit inProcess binaryAt switched relayState inactiveNotBelow withBurning withEffect withCommand withSettings litMilliseconds withBurned timerDue phaseEnd activityDue isDue timerAt emptiedBy expired endMovementOf endMovementBy endMovementOnExpiry delayed nextPhase nextActivity activityAt phaseSlots nextSlots slotsAt afterEvents fire tick ticks lastShort momentAfter goneAt countBefore countSince litFromZero litFromLight litAt litByPace litMoving litInMovement litResting litStretch sooner due burnedBy withBurnedSaturating fireDue eventStep eventSteps advance later endMovementUnlessAbove stored zeroOrEmpty zeroOrEmptyFrom blinks zeroOrEmptyAbove warnsBy warns firstLevel firstPhase warningFrom warnedBy warned endedEmpty endedStored writtenWarned writtenZero writtenCalm writtenBy written activityRelinquished slotRelinquished operationNumber fieldsOf durationField withoutWarning activityWithoutWarning replaced placed movement rampLength target fadedOver fadedTo rampedAt rampedTo jumped wentTo stepUpFrom stepDownFrom steppedUp steppedDown raised halted stopped relinquished effect timed commandedFrom commanded answerBytes levelAnswered within isLevel isAmount isSlot isPriority meets numbered propertyOf same changeTo changeBy changeOf settingsWith relayWith endMovement activityWith burningWith changed minOverMax levelAnswer levelOrAbsent slotAnswer flag elapsedActive realAnswer realFieldAnswer timeFieldAnswer lastDuration readProperty freshSettings freshRelay freshWith freshFor freshOutput levelFieldRefusal amountFieldRefusal timeFieldRefusal firstRefusal fieldsRefusal commandLasting commandWithDuration commandRequestBy commandOf plainDuration commandRequest writeLevel writeOf emptyOf done unchanged changedUnless acted served byteAt bigEndian octets kindRow kindLength callsBy isCall fewestOctets fieldSize sizes fieldBytes bytesFrom tagBytes realTag wholeTag tagsOf commandTags zeroFilled taggedBody bodyBytes fieldIn fieldsFrom bodyFields zeroBeyond holdsAtMost wellTagged heldBy operationOf timeOf bothOrNeither fewest ownTags readFields readBody taggedRequest requestOf callOf called clockOf parseBy parse startable levelsSound timesSound realsSound settingsSound slotSound slotsSound spanSound movementSound warningBy warningSound activityBy activitySound timerSound agrees relaySound sound freshStation stationSound sameBytes retransmissionOrConflict countsSound rulesKept panelSound freshPanel startStep padded restored judgedByNumber judgedByRecord stationOf judgedByStation decide execute frameStep
 worked-in-tags = refl
 
 -- §4 in a list
-pub worked-jumps : answers document01 (freshPanel document01 2 8) framesOfJumps ≡ answersToJumps
-unfolding answers toBits round bitAnd bitOr ofBits if_then_else_ allFrom every real bits levelOf realOf readOut realFromTo amountOf limitOf inRange unitsOr amountUnits levelUnits view slotsOf firstLive winner isLive maskEmptied maskFilled levelSet put levelAt winningLevel clampLit presentValue distanceMoved reachedBy reached progressBy progressValue lit inProcess binaryAt switched relayState inactiveNotBelow withBurning withEffect withCommand withSettings litMilliseconds withBurned timerDue phaseEnd activityDue isDue timerAt emptiedBy expired endMovementOf endMovementBy endMovementOnExpiry delayed nextPhase nextActivity activityAt phaseSlots nextSlots slotsAt afterEvents fire tick ticks lastShort momentAfter goneAt countBefore countSince litFromZero litFromLight litAt litByPace litMoving litInMovement litResting litStretch sooner due burnedBy withBurnedSaturating fireDue eventStep eventSteps advance later endMovementUnlessAbove stored zeroOrEmpty zeroOrEmptyFrom blinks zeroOrEmptyAbove warnsBy warns firstLevel firstPhase warningFrom warnedBy warned endedEmpty endedStored writtenWarned writtenZero writtenCalm writtenBy written activityRelinquished slotRelinquished operationNumber fieldsOf durationField withoutWarning activityWithoutWarning replaced placed movement rampLength target fadedOver fadedTo rampedAt rampedTo jumped wentTo stepUpFrom stepDownFrom steppedUp steppedDown raised halted stopped relinquished effect timed commandedFrom commanded answerBytes levelAnswered within isLevel isAmount isSlot isPriority meets numbered propertyOf same changeTo changeBy changeOf settingsWith relayWith endMovement activityWith burningWith changed minOverMax levelAnswer levelOrAbsent slotAnswer flag elapsedActive realAnswer realFieldAnswer timeFieldAnswer lastDuration readProperty freshSettings freshRelay freshWith freshFor freshOutput levelFieldRefusal amountFieldRefusal timeFieldRefusal firstRefusal fieldsRefusal commandLasting commandWithDuration commandRequestBy commandOf plainDuration commandRequest writeLevel writeOf emptyOf done unchanged changedUnless acted served byteAt bigEndian octets kindRow kindLength callsBy isCall fewestOctets fieldSize sizes fieldBytes bytesFrom tagBytes realTag wholeTag tagsOf commandTags zeroFilled taggedBody bodyBytes fieldIn fieldsFrom bodyFields zeroBeyond holdsAtMost wellTagged heldBy operationOf timeOf bothOrNeither fewest ownTags readFields readBody taggedRequest requestOf callOf called clockOf parseBy parse levelsSound timesSound realsSound settingsSound slotSound slotsSound spanSound movementSound warningBy warningSound activityBy activitySound timerSound agrees relaySound sound freshStation stationSound sameBytes retransmissionOrConflict countsSound panelSound freshPanel startStep padded restored judgedByNumber judgedByRecord stationOf judgedByStation decide execute frameStep
+pub worked-jumps : answers (freshPanel (document01 2)) framesOfJumps ≡ answersToJumps
+unfolding answers toBits round bitAnd bitOr ofBits if_then_else_ allFrom every real bits levelOf realOf readOut realFromTo amountOf limitOf inRange unitsOr amountUnits levelUnits view slotsOf firstLive winner isLive maskEmptied maskFilled levelSet put levelAt winningLevel clampLit presentValue distanceMoved reachedBy reached progressBy progressValue lit inProcess binaryAt switched relayState inactiveNotBelow withBurning withEffect withCommand withSettings litMilliseconds withBurned timerDue phaseEnd activityDue isDue timerAt emptiedBy expired endMovementOf endMovementBy endMovementOnExpiry delayed nextPhase nextActivity activityAt phaseSlots nextSlots slotsAt afterEvents fire tick ticks lastShort momentAfter goneAt countBefore countSince litFromZero litFromLight litAt litByPace litMoving litInMovement litResting litStretch sooner due burnedBy withBurnedSaturating fireDue eventStep eventSteps advance later endMovementUnlessAbove stored zeroOrEmpty zeroOrEmptyFrom blinks zeroOrEmptyAbove warnsBy warns firstLevel firstPhase warningFrom warnedBy warned endedEmpty endedStored writtenWarned writtenZero writtenCalm writtenBy written activityRelinquished slotRelinquished operationNumber fieldsOf durationField withoutWarning activityWithoutWarning replaced placed movement rampLength target fadedOver fadedTo rampedAt rampedTo jumped wentTo stepUpFrom stepDownFrom steppedUp steppedDown raised halted stopped relinquished effect timed commandedFrom commanded answerBytes levelAnswered within isLevel isAmount isSlot isPriority meets numbered propertyOf same changeTo changeBy changeOf settingsWith relayWith endMovement activityWith burningWith changed minOverMax levelAnswer levelOrAbsent slotAnswer flag elapsedActive realAnswer realFieldAnswer timeFieldAnswer lastDuration readProperty freshSettings freshRelay freshWith freshFor freshOutput levelFieldRefusal amountFieldRefusal timeFieldRefusal firstRefusal fieldsRefusal commandLasting commandWithDuration commandRequestBy commandOf plainDuration commandRequest writeLevel writeOf emptyOf done unchanged changedUnless acted served byteAt bigEndian octets kindRow kindLength callsBy isCall fewestOctets fieldSize sizes fieldBytes bytesFrom tagBytes realTag wholeTag tagsOf commandTags zeroFilled taggedBody bodyBytes fieldIn fieldsFrom bodyFields zeroBeyond holdsAtMost wellTagged heldBy operationOf timeOf bothOrNeither fewest ownTags readFields readBody taggedRequest requestOf callOf called clockOf parseBy parse startable levelsSound timesSound realsSound settingsSound slotSound slotsSound spanSound movementSound warningBy warningSound activityBy activitySound timerSound agrees relaySound sound freshStation stationSound sameBytes retransmissionOrConflict countsSound rulesKept panelSound freshPanel startStep padded restored judgedByNumber judgedByRecord stationOf judgedByStation decide execute frameStep
 worked-jumps = refl
 
 -- §5 in a list
-pub worked-halves : answers document01 (freshPanel document01 2 8) framesOfHalves ≡ answersToHalves
-unfolding answers toBits round bitAnd bitOr ofBits if_then_else_ allFrom every real bits levelOf realOf readOut realFromTo amountOf limitOf inRange unitsOr amountUnits levelUnits view slotsOf firstLive winner isLive maskEmptied maskFilled levelSet put levelAt winningLevel clampLit presentValue distanceMoved reachedBy reached progressBy progressValue lit inProcess binaryAt switched relayState inactiveNotBelow withBurning withEffect withCommand withSettings litMilliseconds withBurned timerDue phaseEnd activityDue isDue timerAt emptiedBy expired endMovementOf endMovementBy endMovementOnExpiry delayed nextPhase nextActivity activityAt phaseSlots nextSlots slotsAt afterEvents fire tick ticks lastShort momentAfter goneAt countBefore countSince litFromZero litFromLight litAt litByPace litMoving litInMovement litResting litStretch sooner due burnedBy withBurnedSaturating fireDue eventStep eventSteps advance later endMovementUnlessAbove stored zeroOrEmpty zeroOrEmptyFrom blinks zeroOrEmptyAbove warnsBy warns firstLevel firstPhase warningFrom warnedBy warned endedEmpty endedStored writtenWarned writtenZero writtenCalm writtenBy written activityRelinquished slotRelinquished operationNumber fieldsOf durationField withoutWarning activityWithoutWarning replaced placed movement rampLength target fadedOver fadedTo rampedAt rampedTo jumped wentTo stepUpFrom stepDownFrom steppedUp steppedDown raised halted stopped relinquished effect timed commandedFrom commanded answerBytes levelAnswered within isLevel isAmount isSlot isPriority meets numbered propertyOf same changeTo changeBy changeOf settingsWith relayWith endMovement activityWith burningWith changed minOverMax levelAnswer levelOrAbsent slotAnswer flag elapsedActive realAnswer realFieldAnswer timeFieldAnswer lastDuration readProperty freshSettings freshRelay freshWith freshFor freshOutput levelFieldRefusal amountFieldRefusal timeFieldRefusal firstRefusal fieldsRefusal commandLasting commandWithDuration commandRequestBy commandOf plainDuration commandRequest writeLevel writeOf emptyOf done unchanged changedUnless acted served byteAt bigEndian octets kindRow kindLength callsBy isCall fewestOctets fieldSize sizes fieldBytes bytesFrom tagBytes realTag wholeTag tagsOf commandTags zeroFilled taggedBody bodyBytes fieldIn fieldsFrom bodyFields zeroBeyond holdsAtMost wellTagged heldBy operationOf timeOf bothOrNeither fewest ownTags readFields readBody taggedRequest requestOf callOf called clockOf parseBy parse levelsSound timesSound realsSound settingsSound slotSound slotsSound spanSound movementSound warningBy warningSound activityBy activitySound timerSound agrees relaySound sound freshStation stationSound sameBytes retransmissionOrConflict countsSound panelSound freshPanel startStep padded restored judgedByNumber judgedByRecord stationOf judgedByStation decide execute frameStep
+pub worked-halves : answers (freshPanel (document01 2)) framesOfHalves ≡ answersToHalves
+unfolding answers toBits round bitAnd bitOr ofBits if_then_else_ allFrom every real bits levelOf realOf readOut realFromTo amountOf limitOf inRange unitsOr amountUnits levelUnits view slotsOf firstLive winner isLive maskEmptied maskFilled levelSet put levelAt winningLevel clampLit presentValue distanceMoved reachedBy reached progressBy progressValue lit inProcess binaryAt switched relayState inactiveNotBelow withBurning withEffect withCommand withSettings litMilliseconds withBurned timerDue phaseEnd activityDue isDue timerAt emptiedBy expired endMovementOf endMovementBy endMovementOnExpiry delayed nextPhase nextActivity activityAt phaseSlots nextSlots slotsAt afterEvents fire tick ticks lastShort momentAfter goneAt countBefore countSince litFromZero litFromLight litAt litByPace litMoving litInMovement litResting litStretch sooner due burnedBy withBurnedSaturating fireDue eventStep eventSteps advance later endMovementUnlessAbove stored zeroOrEmpty zeroOrEmptyFrom blinks zeroOrEmptyAbove warnsBy warns firstLevel firstPhase warningFrom warnedBy warned endedEmpty endedStored writtenWarned writtenZero writtenCalm writtenBy written activityRelinquished slotRelinquished operationNumber fieldsOf durationField withoutWarning activityWithoutWarning replaced placed movement rampLength target fadedOver fadedTo rampedAt rampedTo jumped wentTo stepUpFrom stepDownFrom steppedUp steppedDown raised halted stopped relinquished effect timed commandedFrom commanded answerBytes levelAnswered within isLevel isAmount isSlot isPriority meets numbered propertyOf same changeTo changeBy changeOf settingsWith relayWith endMovement activityWith burningWith changed minOverMax levelAnswer levelOrAbsent slotAnswer flag elapsedActive realAnswer realFieldAnswer timeFieldAnswer lastDuration readProperty freshSettings freshRelay freshWith freshFor freshOutput levelFieldRefusal amountFieldRefusal timeFieldRefusal firstRefusal fieldsRefusal commandLasting commandWithDuration commandRequestBy commandOf plainDuration commandRequest writeLevel writeOf emptyOf done unchanged changedUnless acted served byteAt bigEndian octets kindRow kindLength callsBy isCall fewestOctets fieldSize sizes fieldBytes bytesFrom tagBytes realTag wholeTag tagsOf commandTags zeroFilled taggedBody bodyBytes fieldIn fieldsFrom bodyFields zeroBeyond holdsAtMost wellTagged heldBy operationOf timeOf bothOrNeither fewest ownTags readFields readBody taggedRequest requestOf callOf called clockOf parseBy parse startable levelsSound timesSound realsSound settingsSound slotSound slotsSound spanSound movementSound warningBy warningSound activityBy activitySound timerSound agrees relaySound sound freshStation stationSound sameBytes retransmissionOrConflict countsSound rulesKept panelSound freshPanel startStep padded restored judgedByNumber judgedByRecord stationOf judgedByStation decide execute frameStep
 worked-halves = refl
 
 -- wrong in two places at once
-pub worked-order : answers document01 (freshPanel document01 1 8) framesOfOrder ≡ answersInOrder
-unfolding answers toBits round bitAnd bitOr ofBits if_then_else_ allFrom every real bits levelOf realOf readOut realFromTo amountOf limitOf inRange unitsOr amountUnits levelUnits view slotsOf firstLive winner isLive maskEmptied maskFilled levelSet put levelAt winningLevel clampLit presentValue distanceMoved reachedBy reached progressBy progressValue lit inProcess binaryAt switched relayState inactiveNotBelow withBurning withEffect withCommand withSettings litMilliseconds withBurned timerDue phaseEnd activityDue isDue timerAt emptiedBy expired endMovementOf endMovementBy endMovementOnExpiry delayed nextPhase nextActivity activityAt phaseSlots nextSlots slotsAt afterEvents fire tick ticks lastShort momentAfter goneAt countBefore countSince litFromZero litFromLight litAt litByPace litMoving litInMovement litResting litStretch sooner due burnedBy withBurnedSaturating fireDue eventStep eventSteps advance later endMovementUnlessAbove stored zeroOrEmpty zeroOrEmptyFrom blinks zeroOrEmptyAbove warnsBy warns firstLevel firstPhase warningFrom warnedBy warned endedEmpty endedStored writtenWarned writtenZero writtenCalm writtenBy written activityRelinquished slotRelinquished operationNumber fieldsOf durationField withoutWarning activityWithoutWarning replaced placed movement rampLength target fadedOver fadedTo rampedAt rampedTo jumped wentTo stepUpFrom stepDownFrom steppedUp steppedDown raised halted stopped relinquished effect timed commandedFrom commanded answerBytes levelAnswered within isLevel isAmount isSlot isPriority meets numbered propertyOf same changeTo changeBy changeOf settingsWith relayWith endMovement activityWith burningWith changed minOverMax levelAnswer levelOrAbsent slotAnswer flag elapsedActive realAnswer realFieldAnswer timeFieldAnswer lastDuration readProperty freshSettings freshRelay freshWith freshFor freshOutput levelFieldRefusal amountFieldRefusal timeFieldRefusal firstRefusal fieldsRefusal commandLasting commandWithDuration commandRequestBy commandOf plainDuration commandRequest writeLevel writeOf emptyOf done unchanged changedUnless acted served byteAt bigEndian octets kindRow kindLength callsBy isCall fewestOctets fieldSize sizes fieldBytes bytesFrom tagBytes realTag wholeTag tagsOf commandTags zeroFilled taggedBody bodyBytes fieldIn fieldsFrom bodyFields zeroBeyond holdsAtMost wellTagged heldBy operationOf timeOf bothOrNeither fewest ownTags readFields readBody taggedRequest requestOf callOf called clockOf parseBy parse levelsSound timesSound realsSound settingsSound slotSound slotsSound spanSound movementSound warningBy warningSound activityBy activitySound timerSound agrees relaySound sound freshStation stationSound sameBytes retransmissionOrConflict countsSound panelSound freshPanel startStep padded restored judgedByNumber judgedByRecord stationOf judgedByStation decide execute frameStep
+pub worked-order : answers (freshPanel (document01 1)) framesOfOrder ≡ answersInOrder
+unfolding answers toBits round bitAnd bitOr ofBits if_then_else_ allFrom every real bits levelOf realOf readOut realFromTo amountOf limitOf inRange unitsOr amountUnits levelUnits view slotsOf firstLive winner isLive maskEmptied maskFilled levelSet put levelAt winningLevel clampLit presentValue distanceMoved reachedBy reached progressBy progressValue lit inProcess binaryAt switched relayState inactiveNotBelow withBurning withEffect withCommand withSettings litMilliseconds withBurned timerDue phaseEnd activityDue isDue timerAt emptiedBy expired endMovementOf endMovementBy endMovementOnExpiry delayed nextPhase nextActivity activityAt phaseSlots nextSlots slotsAt afterEvents fire tick ticks lastShort momentAfter goneAt countBefore countSince litFromZero litFromLight litAt litByPace litMoving litInMovement litResting litStretch sooner due burnedBy withBurnedSaturating fireDue eventStep eventSteps advance later endMovementUnlessAbove stored zeroOrEmpty zeroOrEmptyFrom blinks zeroOrEmptyAbove warnsBy warns firstLevel firstPhase warningFrom warnedBy warned endedEmpty endedStored writtenWarned writtenZero writtenCalm writtenBy written activityRelinquished slotRelinquished operationNumber fieldsOf durationField withoutWarning activityWithoutWarning replaced placed movement rampLength target fadedOver fadedTo rampedAt rampedTo jumped wentTo stepUpFrom stepDownFrom steppedUp steppedDown raised halted stopped relinquished effect timed commandedFrom commanded answerBytes levelAnswered within isLevel isAmount isSlot isPriority meets numbered propertyOf same changeTo changeBy changeOf settingsWith relayWith endMovement activityWith burningWith changed minOverMax levelAnswer levelOrAbsent slotAnswer flag elapsedActive realAnswer realFieldAnswer timeFieldAnswer lastDuration readProperty freshSettings freshRelay freshWith freshFor freshOutput levelFieldRefusal amountFieldRefusal timeFieldRefusal firstRefusal fieldsRefusal commandLasting commandWithDuration commandRequestBy commandOf plainDuration commandRequest writeLevel writeOf emptyOf done unchanged changedUnless acted served byteAt bigEndian octets kindRow kindLength callsBy isCall fewestOctets fieldSize sizes fieldBytes bytesFrom tagBytes realTag wholeTag tagsOf commandTags zeroFilled taggedBody bodyBytes fieldIn fieldsFrom bodyFields zeroBeyond holdsAtMost wellTagged heldBy operationOf timeOf bothOrNeither fewest ownTags readFields readBody taggedRequest requestOf callOf called clockOf parseBy parse startable levelsSound timesSound realsSound settingsSound slotSound slotsSound spanSound movementSound warningBy warningSound activityBy activitySound timerSound agrees relaySound sound freshStation stationSound sameBytes retransmissionOrConflict countsSound rulesKept panelSound freshPanel startStep padded restored judgedByNumber judgedByRecord stationOf judgedByStation decide execute frameStep
 worked-order = refl
 
 -- refusal 1: the record rules
 pub rules-by-number : rulesGiven ≡ rulesSaid
-unfolding toBits round bitAnd bitOr ofBits if_then_else_ allFrom every real bits levelOf realOf readOut realFromTo amountOf limitOf inRange unitsOr amountUnits levelUnits view slotsOf firstLive winner isLive maskEmptied maskFilled levelSet put levelAt winningLevel clampLit presentValue distanceMoved reachedBy reached progressBy progressValue lit inProcess binaryAt switched relayState inactiveNotBelow withBurning withEffect withCommand withSettings litMilliseconds withBurned timerDue phaseEnd activityDue isDue timerAt emptiedBy expired endMovementOf endMovementBy endMovementOnExpiry delayed nextPhase nextActivity activityAt phaseSlots nextSlots slotsAt afterEvents fire tick ticks lastShort momentAfter goneAt countBefore countSince litFromZero litFromLight litAt litByPace litMoving litInMovement litResting litStretch sooner due burnedBy withBurnedSaturating fireDue eventStep eventSteps advance later endMovementUnlessAbove stored zeroOrEmpty zeroOrEmptyFrom blinks zeroOrEmptyAbove warnsBy warns firstLevel firstPhase warningFrom warnedBy warned endedEmpty endedStored writtenWarned writtenZero writtenCalm writtenBy written activityRelinquished slotRelinquished operationNumber fieldsOf durationField withoutWarning activityWithoutWarning replaced placed movement rampLength target fadedOver fadedTo rampedAt rampedTo jumped wentTo stepUpFrom stepDownFrom steppedUp steppedDown raised halted stopped relinquished effect timed commandedFrom commanded answerBytes levelAnswered within isLevel isAmount isSlot isPriority meets numbered propertyOf same changeTo changeBy changeOf settingsWith relayWith endMovement activityWith burningWith changed minOverMax levelAnswer levelOrAbsent slotAnswer flag elapsedActive realAnswer realFieldAnswer timeFieldAnswer lastDuration readProperty freshSettings freshRelay freshWith freshFor freshOutput levelFieldRefusal amountFieldRefusal timeFieldRefusal firstRefusal fieldsRefusal commandLasting commandWithDuration commandRequestBy commandOf plainDuration commandRequest writeLevel writeOf emptyOf done unchanged changedUnless acted served byteAt bigEndian octets kindRow kindLength callsBy isCall fewestOctets fieldSize sizes fieldBytes bytesFrom tagBytes realTag wholeTag tagsOf commandTags zeroFilled taggedBody bodyBytes fieldIn fieldsFrom bodyFields zeroBeyond holdsAtMost wellTagged heldBy operationOf timeOf bothOrNeither fewest ownTags readFields readBody taggedRequest requestOf callOf called clockOf parseBy parse levelsSound timesSound realsSound settingsSound slotSound slotsSound spanSound movementSound warningBy warningSound activityBy activitySound timerSound agrees relaySound sound freshStation stationSound sameBytes retransmissionOrConflict countsSound panelSound freshPanel startStep padded restored judgedByNumber judgedByRecord stationOf judgedByStation decide execute frameStep
+unfolding toBits round bitAnd bitOr ofBits if_then_else_ allFrom every real bits levelOf realOf readOut realFromTo amountOf limitOf inRange unitsOr amountUnits levelUnits view slotsOf firstLive winner isLive maskEmptied maskFilled levelSet put levelAt winningLevel clampLit presentValue distanceMoved reachedBy reached progressBy progressValue lit inProcess binaryAt switched relayState inactiveNotBelow withBurning withEffect withCommand withSettings litMilliseconds withBurned timerDue phaseEnd activityDue isDue timerAt emptiedBy expired endMovementOf endMovementBy endMovementOnExpiry delayed nextPhase nextActivity activityAt phaseSlots nextSlots slotsAt afterEvents fire tick ticks lastShort momentAfter goneAt countBefore countSince litFromZero litFromLight litAt litByPace litMoving litInMovement litResting litStretch sooner due burnedBy withBurnedSaturating fireDue eventStep eventSteps advance later endMovementUnlessAbove stored zeroOrEmpty zeroOrEmptyFrom blinks zeroOrEmptyAbove warnsBy warns firstLevel firstPhase warningFrom warnedBy warned endedEmpty endedStored writtenWarned writtenZero writtenCalm writtenBy written activityRelinquished slotRelinquished operationNumber fieldsOf durationField withoutWarning activityWithoutWarning replaced placed movement rampLength target fadedOver fadedTo rampedAt rampedTo jumped wentTo stepUpFrom stepDownFrom steppedUp steppedDown raised halted stopped relinquished effect timed commandedFrom commanded answerBytes levelAnswered within isLevel isAmount isSlot isPriority meets numbered propertyOf same changeTo changeBy changeOf settingsWith relayWith endMovement activityWith burningWith changed minOverMax levelAnswer levelOrAbsent slotAnswer flag elapsedActive realAnswer realFieldAnswer timeFieldAnswer lastDuration readProperty freshSettings freshRelay freshWith freshFor freshOutput levelFieldRefusal amountFieldRefusal timeFieldRefusal firstRefusal fieldsRefusal commandLasting commandWithDuration commandRequestBy commandOf plainDuration commandRequest writeLevel writeOf emptyOf done unchanged changedUnless acted served byteAt bigEndian octets kindRow kindLength callsBy isCall fewestOctets fieldSize sizes fieldBytes bytesFrom tagBytes realTag wholeTag tagsOf commandTags zeroFilled taggedBody bodyBytes fieldIn fieldsFrom bodyFields zeroBeyond holdsAtMost wellTagged heldBy operationOf timeOf bothOrNeither fewest ownTags readFields readBody taggedRequest requestOf callOf called clockOf parseBy parse startable levelsSound timesSound realsSound settingsSound slotSound slotsSound spanSound movementSound warningBy warningSound activityBy activitySound timerSound agrees relaySound sound freshStation stationSound sameBytes retransmissionOrConflict countsSound rulesKept panelSound freshPanel startStep padded restored judgedByNumber judgedByRecord stationOf judgedByStation decide execute frameStep
 rules-by-number = refl
+
+-- §6: which sets may be started
+pub ends-by-number : endsGiven ≡ endsSaid
+unfolding toBits round bitAnd bitOr ofBits if_then_else_ allFrom every real bits levelOf realOf readOut realFromTo amountOf limitOf inRange unitsOr amountUnits levelUnits view slotsOf firstLive winner isLive maskEmptied maskFilled levelSet put levelAt winningLevel clampLit presentValue distanceMoved reachedBy reached progressBy progressValue lit inProcess binaryAt switched relayState inactiveNotBelow withBurning withEffect withCommand withSettings litMilliseconds withBurned timerDue phaseEnd activityDue isDue timerAt emptiedBy expired endMovementOf endMovementBy endMovementOnExpiry delayed nextPhase nextActivity activityAt phaseSlots nextSlots slotsAt afterEvents fire tick ticks lastShort momentAfter goneAt countBefore countSince litFromZero litFromLight litAt litByPace litMoving litInMovement litResting litStretch sooner due burnedBy withBurnedSaturating fireDue eventStep eventSteps advance later endMovementUnlessAbove stored zeroOrEmpty zeroOrEmptyFrom blinks zeroOrEmptyAbove warnsBy warns firstLevel firstPhase warningFrom warnedBy warned endedEmpty endedStored writtenWarned writtenZero writtenCalm writtenBy written activityRelinquished slotRelinquished operationNumber fieldsOf durationField withoutWarning activityWithoutWarning replaced placed movement rampLength target fadedOver fadedTo rampedAt rampedTo jumped wentTo stepUpFrom stepDownFrom steppedUp steppedDown raised halted stopped relinquished effect timed commandedFrom commanded answerBytes levelAnswered within isLevel isAmount isSlot isPriority meets numbered propertyOf same changeTo changeBy changeOf settingsWith relayWith endMovement activityWith burningWith changed minOverMax levelAnswer levelOrAbsent slotAnswer flag elapsedActive realAnswer realFieldAnswer timeFieldAnswer lastDuration readProperty freshSettings freshRelay freshWith freshFor freshOutput levelFieldRefusal amountFieldRefusal timeFieldRefusal firstRefusal fieldsRefusal commandLasting commandWithDuration commandRequestBy commandOf plainDuration commandRequest writeLevel writeOf emptyOf done unchanged changedUnless acted served byteAt bigEndian octets kindRow kindLength callsBy isCall fewestOctets fieldSize sizes fieldBytes bytesFrom tagBytes realTag wholeTag tagsOf commandTags zeroFilled taggedBody bodyBytes fieldIn fieldsFrom bodyFields zeroBeyond holdsAtMost wellTagged heldBy operationOf timeOf bothOrNeither fewest ownTags readFields readBody taggedRequest requestOf callOf called clockOf parseBy parse startable levelsSound timesSound realsSound settingsSound slotSound slotsSound spanSound movementSound warningBy warningSound activityBy activitySound timerSound agrees relaySound sound freshStation stationSound sameBytes retransmissionOrConflict countsSound rulesKept panelSound freshPanel startStep padded restored judgedByNumber judgedByRecord stationOf judgedByStation decide execute frameStep
+ends-by-number = refl
+
+-- §6: which sets may be kept
+pub kept-by-number : keptGiven ≡ keptSaid
+unfolding toBits round bitAnd bitOr ofBits if_then_else_ allFrom every real bits levelOf realOf readOut realFromTo amountOf limitOf inRange unitsOr amountUnits levelUnits view slotsOf firstLive winner isLive maskEmptied maskFilled levelSet put levelAt winningLevel clampLit presentValue distanceMoved reachedBy reached progressBy progressValue lit inProcess binaryAt switched relayState inactiveNotBelow withBurning withEffect withCommand withSettings litMilliseconds withBurned timerDue phaseEnd activityDue isDue timerAt emptiedBy expired endMovementOf endMovementBy endMovementOnExpiry delayed nextPhase nextActivity activityAt phaseSlots nextSlots slotsAt afterEvents fire tick ticks lastShort momentAfter goneAt countBefore countSince litFromZero litFromLight litAt litByPace litMoving litInMovement litResting litStretch sooner due burnedBy withBurnedSaturating fireDue eventStep eventSteps advance later endMovementUnlessAbove stored zeroOrEmpty zeroOrEmptyFrom blinks zeroOrEmptyAbove warnsBy warns firstLevel firstPhase warningFrom warnedBy warned endedEmpty endedStored writtenWarned writtenZero writtenCalm writtenBy written activityRelinquished slotRelinquished operationNumber fieldsOf durationField withoutWarning activityWithoutWarning replaced placed movement rampLength target fadedOver fadedTo rampedAt rampedTo jumped wentTo stepUpFrom stepDownFrom steppedUp steppedDown raised halted stopped relinquished effect timed commandedFrom commanded answerBytes levelAnswered within isLevel isAmount isSlot isPriority meets numbered propertyOf same changeTo changeBy changeOf settingsWith relayWith endMovement activityWith burningWith changed minOverMax levelAnswer levelOrAbsent slotAnswer flag elapsedActive realAnswer realFieldAnswer timeFieldAnswer lastDuration readProperty freshSettings freshRelay freshWith freshFor freshOutput levelFieldRefusal amountFieldRefusal timeFieldRefusal firstRefusal fieldsRefusal commandLasting commandWithDuration commandRequestBy commandOf plainDuration commandRequest writeLevel writeOf emptyOf done unchanged changedUnless acted served byteAt bigEndian octets kindRow kindLength callsBy isCall fewestOctets fieldSize sizes fieldBytes bytesFrom tagBytes realTag wholeTag tagsOf commandTags zeroFilled taggedBody bodyBytes fieldIn fieldsFrom bodyFields zeroBeyond holdsAtMost wellTagged heldBy operationOf timeOf bothOrNeither fewest ownTags readFields readBody taggedRequest requestOf callOf called clockOf parseBy parse startable levelsSound timesSound realsSound settingsSound slotSound slotsSound spanSound movementSound warningBy warningSound activityBy activitySound timerSound agrees relaySound sound freshStation stationSound sameBytes retransmissionOrConflict countsSound rulesKept panelSound freshPanel startStep padded restored judgedByNumber judgedByRecord stationOf judgedByStation decide execute frameStep
+kept-by-number = refl
+
+-- §6: 17 before 1, exactly that many records
+pub sizes-by-number : sizesGiven ≡ sizesSaid
+unfolding toBits round bitAnd bitOr ofBits if_then_else_ allFrom every real bits levelOf realOf readOut realFromTo amountOf limitOf inRange unitsOr amountUnits levelUnits view slotsOf firstLive winner isLive maskEmptied maskFilled levelSet put levelAt winningLevel clampLit presentValue distanceMoved reachedBy reached progressBy progressValue lit inProcess binaryAt switched relayState inactiveNotBelow withBurning withEffect withCommand withSettings litMilliseconds withBurned timerDue phaseEnd activityDue isDue timerAt emptiedBy expired endMovementOf endMovementBy endMovementOnExpiry delayed nextPhase nextActivity activityAt phaseSlots nextSlots slotsAt afterEvents fire tick ticks lastShort momentAfter goneAt countBefore countSince litFromZero litFromLight litAt litByPace litMoving litInMovement litResting litStretch sooner due burnedBy withBurnedSaturating fireDue eventStep eventSteps advance later endMovementUnlessAbove stored zeroOrEmpty zeroOrEmptyFrom blinks zeroOrEmptyAbove warnsBy warns firstLevel firstPhase warningFrom warnedBy warned endedEmpty endedStored writtenWarned writtenZero writtenCalm writtenBy written activityRelinquished slotRelinquished operationNumber fieldsOf durationField withoutWarning activityWithoutWarning replaced placed movement rampLength target fadedOver fadedTo rampedAt rampedTo jumped wentTo stepUpFrom stepDownFrom steppedUp steppedDown raised halted stopped relinquished effect timed commandedFrom commanded answerBytes levelAnswered within isLevel isAmount isSlot isPriority meets numbered propertyOf same changeTo changeBy changeOf settingsWith relayWith endMovement activityWith burningWith changed minOverMax levelAnswer levelOrAbsent slotAnswer flag elapsedActive realAnswer realFieldAnswer timeFieldAnswer lastDuration readProperty freshSettings freshRelay freshWith freshFor freshOutput levelFieldRefusal amountFieldRefusal timeFieldRefusal firstRefusal fieldsRefusal commandLasting commandWithDuration commandRequestBy commandOf plainDuration commandRequest writeLevel writeOf emptyOf done unchanged changedUnless acted served byteAt bigEndian octets kindRow kindLength callsBy isCall fewestOctets fieldSize sizes fieldBytes bytesFrom tagBytes realTag wholeTag tagsOf commandTags zeroFilled taggedBody bodyBytes fieldIn fieldsFrom bodyFields zeroBeyond holdsAtMost wellTagged heldBy operationOf timeOf bothOrNeither fewest ownTags readFields readBody taggedRequest requestOf callOf called clockOf parseBy parse startable levelsSound timesSound realsSound settingsSound slotSound slotsSound spanSound movementSound warningBy warningSound activityBy activitySound timerSound agrees relaySound sound freshStation stationSound sameBytes retransmissionOrConflict countsSound rulesKept panelSound freshPanel startStep padded restored judgedByNumber judgedByRecord stationOf judgedByStation decide execute frameStep
+sizes-by-number = refl
+
+-- §6: refusals 4 and 12 at some sets
+pub frames-at-sets : framesGiven ≡ framesSaid
+unfolding answers toBits round bitAnd bitOr ofBits if_then_else_ allFrom every real bits levelOf realOf readOut realFromTo amountOf limitOf inRange unitsOr amountUnits levelUnits view slotsOf firstLive winner isLive maskEmptied maskFilled levelSet put levelAt winningLevel clampLit presentValue distanceMoved reachedBy reached progressBy progressValue lit inProcess binaryAt switched relayState inactiveNotBelow withBurning withEffect withCommand withSettings litMilliseconds withBurned timerDue phaseEnd activityDue isDue timerAt emptiedBy expired endMovementOf endMovementBy endMovementOnExpiry delayed nextPhase nextActivity activityAt phaseSlots nextSlots slotsAt afterEvents fire tick ticks lastShort momentAfter goneAt countBefore countSince litFromZero litFromLight litAt litByPace litMoving litInMovement litResting litStretch sooner due burnedBy withBurnedSaturating fireDue eventStep eventSteps advance later endMovementUnlessAbove stored zeroOrEmpty zeroOrEmptyFrom blinks zeroOrEmptyAbove warnsBy warns firstLevel firstPhase warningFrom warnedBy warned endedEmpty endedStored writtenWarned writtenZero writtenCalm writtenBy written activityRelinquished slotRelinquished operationNumber fieldsOf durationField withoutWarning activityWithoutWarning replaced placed movement rampLength target fadedOver fadedTo rampedAt rampedTo jumped wentTo stepUpFrom stepDownFrom steppedUp steppedDown raised halted stopped relinquished effect timed commandedFrom commanded answerBytes levelAnswered within isLevel isAmount isSlot isPriority meets numbered propertyOf same changeTo changeBy changeOf settingsWith relayWith endMovement activityWith burningWith changed minOverMax levelAnswer levelOrAbsent slotAnswer flag elapsedActive realAnswer realFieldAnswer timeFieldAnswer lastDuration readProperty freshSettings freshRelay freshWith freshFor freshOutput levelFieldRefusal amountFieldRefusal timeFieldRefusal firstRefusal fieldsRefusal commandLasting commandWithDuration commandRequestBy commandOf plainDuration commandRequest writeLevel writeOf emptyOf done unchanged changedUnless acted served byteAt bigEndian octets kindRow kindLength callsBy isCall fewestOctets fieldSize sizes fieldBytes bytesFrom tagBytes realTag wholeTag tagsOf commandTags zeroFilled taggedBody bodyBytes fieldIn fieldsFrom bodyFields zeroBeyond holdsAtMost wellTagged heldBy operationOf timeOf bothOrNeither fewest ownTags readFields readBody taggedRequest requestOf callOf called clockOf parseBy parse startable levelsSound timesSound realsSound settingsSound slotSound slotsSound spanSound movementSound warningBy warningSound activityBy activitySound timerSound agrees relaySound sound freshStation stationSound sameBytes retransmissionOrConflict countsSound rulesKept panelSound freshPanel startStep padded restored judgedByNumber judgedByRecord stationOf judgedByStation decide execute frameStep
+frames-at-sets = refl
+
+-- §6: a fresh Fade_Time
+pub fresh-fades : freshFadesGiven ≡ freshFadesSaid
+unfolding answers toBits round bitAnd bitOr ofBits if_then_else_ allFrom every real bits levelOf realOf readOut realFromTo amountOf limitOf inRange unitsOr amountUnits levelUnits view slotsOf firstLive winner isLive maskEmptied maskFilled levelSet put levelAt winningLevel clampLit presentValue distanceMoved reachedBy reached progressBy progressValue lit inProcess binaryAt switched relayState inactiveNotBelow withBurning withEffect withCommand withSettings litMilliseconds withBurned timerDue phaseEnd activityDue isDue timerAt emptiedBy expired endMovementOf endMovementBy endMovementOnExpiry delayed nextPhase nextActivity activityAt phaseSlots nextSlots slotsAt afterEvents fire tick ticks lastShort momentAfter goneAt countBefore countSince litFromZero litFromLight litAt litByPace litMoving litInMovement litResting litStretch sooner due burnedBy withBurnedSaturating fireDue eventStep eventSteps advance later endMovementUnlessAbove stored zeroOrEmpty zeroOrEmptyFrom blinks zeroOrEmptyAbove warnsBy warns firstLevel firstPhase warningFrom warnedBy warned endedEmpty endedStored writtenWarned writtenZero writtenCalm writtenBy written activityRelinquished slotRelinquished operationNumber fieldsOf durationField withoutWarning activityWithoutWarning replaced placed movement rampLength target fadedOver fadedTo rampedAt rampedTo jumped wentTo stepUpFrom stepDownFrom steppedUp steppedDown raised halted stopped relinquished effect timed commandedFrom commanded answerBytes levelAnswered within isLevel isAmount isSlot isPriority meets numbered propertyOf same changeTo changeBy changeOf settingsWith relayWith endMovement activityWith burningWith changed minOverMax levelAnswer levelOrAbsent slotAnswer flag elapsedActive realAnswer realFieldAnswer timeFieldAnswer lastDuration readProperty freshSettings freshRelay freshWith freshFor freshOutput levelFieldRefusal amountFieldRefusal timeFieldRefusal firstRefusal fieldsRefusal commandLasting commandWithDuration commandRequestBy commandOf plainDuration commandRequest writeLevel writeOf emptyOf done unchanged changedUnless acted served byteAt bigEndian octets kindRow kindLength callsBy isCall fewestOctets fieldSize sizes fieldBytes bytesFrom tagBytes realTag wholeTag tagsOf commandTags zeroFilled taggedBody bodyBytes fieldIn fieldsFrom bodyFields zeroBeyond holdsAtMost wellTagged heldBy operationOf timeOf bothOrNeither fewest ownTags readFields readBody taggedRequest requestOf callOf called clockOf parseBy parse startable levelsSound timesSound realsSound settingsSound slotSound slotsSound spanSound movementSound warningBy warningSound activityBy activitySound timerSound agrees relaySound sound freshStation stationSound sameBytes retransmissionOrConflict countsSound rulesKept panelSound freshPanel startStep padded restored judgedByNumber judgedByRecord stationOf judgedByStation decide execute frameStep
+fresh-fades = refl
+
+-- §6: a ramp that is longer than every fade
+pub longest-ramp : rampGiven ≡ rampSaid
+unfolding answers toBits round bitAnd bitOr ofBits if_then_else_ allFrom every real bits levelOf realOf readOut realFromTo amountOf limitOf inRange unitsOr amountUnits levelUnits view slotsOf firstLive winner isLive maskEmptied maskFilled levelSet put levelAt winningLevel clampLit presentValue distanceMoved reachedBy reached progressBy progressValue lit inProcess binaryAt switched relayState inactiveNotBelow withBurning withEffect withCommand withSettings litMilliseconds withBurned timerDue phaseEnd activityDue isDue timerAt emptiedBy expired endMovementOf endMovementBy endMovementOnExpiry delayed nextPhase nextActivity activityAt phaseSlots nextSlots slotsAt afterEvents fire tick ticks lastShort momentAfter goneAt countBefore countSince litFromZero litFromLight litAt litByPace litMoving litInMovement litResting litStretch sooner due burnedBy withBurnedSaturating fireDue eventStep eventSteps advance later endMovementUnlessAbove stored zeroOrEmpty zeroOrEmptyFrom blinks zeroOrEmptyAbove warnsBy warns firstLevel firstPhase warningFrom warnedBy warned endedEmpty endedStored writtenWarned writtenZero writtenCalm writtenBy written activityRelinquished slotRelinquished operationNumber fieldsOf durationField withoutWarning activityWithoutWarning replaced placed movement rampLength target fadedOver fadedTo rampedAt rampedTo jumped wentTo stepUpFrom stepDownFrom steppedUp steppedDown raised halted stopped relinquished effect timed commandedFrom commanded answerBytes levelAnswered within isLevel isAmount isSlot isPriority meets numbered propertyOf same changeTo changeBy changeOf settingsWith relayWith endMovement activityWith burningWith changed minOverMax levelAnswer levelOrAbsent slotAnswer flag elapsedActive realAnswer realFieldAnswer timeFieldAnswer lastDuration readProperty freshSettings freshRelay freshWith freshFor freshOutput levelFieldRefusal amountFieldRefusal timeFieldRefusal firstRefusal fieldsRefusal commandLasting commandWithDuration commandRequestBy commandOf plainDuration commandRequest writeLevel writeOf emptyOf done unchanged changedUnless acted served byteAt bigEndian octets kindRow kindLength callsBy isCall fewestOctets fieldSize sizes fieldBytes bytesFrom tagBytes realTag wholeTag tagsOf commandTags zeroFilled taggedBody bodyBytes fieldIn fieldsFrom bodyFields zeroBeyond holdsAtMost wellTagged heldBy operationOf timeOf bothOrNeither fewest ownTags readFields readBody taggedRequest requestOf callOf called clockOf parseBy parse startable levelsSound timesSound realsSound settingsSound slotSound slotsSound spanSound movementSound warningBy warningSound activityBy activitySound timerSound agrees relaySound sound freshStation stationSound sameBytes retransmissionOrConflict countsSound rulesKept panelSound freshPanel startStep padded restored judgedByNumber judgedByRecord stationOf judgedByStation decide execute frameStep
+longest-ramp = refl

@@ -23,6 +23,8 @@ pub mod Lent
 pub mod Renamed
 -- commands in tags, in lists (§1)
 pub mod TaggedLists
+-- the panel as it stood before §6 is today's at one set
+pub mod OldPanel
 -- what an engineer would check by hand
 pub mod Consequences
 -- worked lists, computed

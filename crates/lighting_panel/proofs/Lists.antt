@@ -21,7 +21,7 @@ use Rattle.lighting_frames.specs.Paper.Stations.{stationSound, freshStation}
 use Rattle.lighting_outputs.specs.Paper.Fresh.{freshFor}
 use Rattle.lighting_outputs.specs.Paper.Acting.{served}
 use Rattle.lighting_frames.specs.Paper.Copies.{sameBytes, retransmissionOrConflict}
-use Rattle.lighting_panel.specs.Paper.Panel.{Panel, Station, countsSound, panelSound}
+use Rattle.lighting_panel.specs.Paper.Panel.{Panel, Station, countsSound, rulesKept, panelSound}
 use Rattle.lighting_panel.specs.Engine.Judging.{padded, restored, judgedByNumber, judgedByRecord, stationOf, judgedByStation, decide}
 use Rattle.lighting_panel.specs.Engine.Executing.{execute, frameStep}
 use Rattle.lighting_panel.specs.Paper.Plain.{Event, clock, first, above, inTime, Latest, latest, judged, PlainState, plainExecute, plainFrameStep, plainStart}
@@ -34,7 +34,8 @@ use Rattle.lighting_frames.specs.declared.Frame.the-variants.{Bad, Clock, Calls
 use Rattle.lighting_frames.specs.declared.Verdict.{Verdict}
 use Rattle.lighting_frames.specs.declared.Verdict.the-variants.{TurnedDown, Copied, Clocked, Arrives}
 use Rattle.lighting_levels.proofs.Split.{also-both, also-yes, by-eq, by-lt, by-le, by-bool, leb-yes, leb-no, eqb-hit}
-use Rattle.lighting_outputs.proofs.Rules.Startable.{Startable}
+use Rattle.lighting_outputs.specs.Paper.Startable.{startable}
+use Rattle.lighting_outputs.proofs.Rules.Startable.{startable-of}
 use Rattle.lighting_frames.proofs.Reading.{Called, FrameInRange, frame-in-range}
 use Rattle.lighting_panel.proofs.Lengths.{padded-kind, restored-padded}
 use Rattle.lighting_outputs.proofs.AnswersApart.{refusalOf}
@@ -43,8 +44,8 @@ use Rattle.lighting_outputs.proofs.Acts.Answered.{NotOne, not-one}
 use Rattle.lighting_panel.proofs.Table.{served-not-one, AllSound, all-tested, all-fresh, runPlain-advance, all-advance, served-sound, served-length}
 
 -- THE LINK between the station records and the list so far. The engine's panel is rebuilt from the plain one
-abbrev pub joined : List Station → PlainState → Panel
-joined k w = record { outputs = w .panel .outputs; stations = k; kept = record { time = w .panel .time } }
+abbrev pub joined : Parameters → List Station → PlainState → Panel
+joined p k w = record { outputs = w .panel .outputs; stations = k; kept = record { time = w .panel .time; parameters = p } }
 
 -- a station's record, as the list's own
 abbrev pub asLatest : Station → Latest
@@ -63,8 +64,8 @@ latest-other s (clock t ∷ h) j = latest-other s h j
 latest-other s (first s′ n t b a ∷ h) j = by-bool (eqb s′ s) (λ e. rw e (j .0)) (λ e. rw e (latest-other s h (j .1)))
 
 pub record Refines (p : Parameters) (c : ℕ) (k : List Station) (w : PlainState) : Type 0 where
-  pub least : 1 ≤ c
-  pub most : c ≤ p .outputs
+  pub allowed : startable p ≡ true
+  pub exact : c ≡ p .outputs
   pub count : length (w .panel .outputs) ≡ c
   pub sound : AllSound p (w .panel .time) (w .panel .outputs)
   pub bounded : w .panel .time ≤ greatestCount
@@ -78,14 +79,15 @@ pub record Refines (p : Parameters) (c : ℕ) (k : List Station) (w : PlainState
   pub others : PastOther (w .past)
 
 -- refusal 1 does not come
-pub linked-sound : (p : Parameters) (c : ℕ) (k : List Station) (w : PlainState) → Refines p c k w → panelSound p (joined k w) ≡ true
-unfolding panelSound countsSound
+pub linked-sound : (p : Parameters) (c : ℕ) (k : List Station) (w : PlainState) → Refines p c k w → panelSound (joined p k w) ≡ true
+unfolding panelSound rulesKept countsSound
 linked-sound p c k w m =
     rw
     (m .count, m .counted)
+    (also-yes (m .allowed)
     (also-yes
-    (also-yes (leb-yes (m .least)) (also-yes (leb-yes (m .most)) (eqb-hit {a = p .stations} {b = p .stations} refl)))
-    (also-yes (all-tested p (w .panel .time) (w .panel .outputs) (m .sound)) (m .kept)))
+    (also-yes (eqb-hit (m .exact)) (eqb-hit {a = p .stations} {b = p .stations} refl))
+    (also-yes (all-tested p (w .panel .time) (w .panel .outputs) (m .sound)) (m .kept))))
 
 -- BOTH JUDGE ALIKE
 not-before : (a b : ℕ) {A : Type 0} (x y : A) → (if ltb a b then x else y) ≡ (if leb b a then y else x)
@@ -128,7 +130,7 @@ judgedByRecord-judged p c k w b (Calls call) m g =
     (alike n (latest s (w .past) .number) t (w .panel .time) _ (TurnedDown 7) (TurnedDown 8) (Arrives call))
 
 pub decide-judged : (p : Parameters) (c : ℕ) (k : List Station) (w : PlainState) (b : Bytes) → Octets b → Refines p c k w
-    → decide p (joined k w) b ≡ judged (w .past) b (parse p (length (w .panel .outputs)) b)
+    → decide (joined p k w) b ≡ judged (w .past) b (parse p (length (w .panel .outputs)) b)
 unfolding decide
 decide-judged p c k w b h m =
     rw (m .count) (judgedByRecord-judged p c k w b (parse p c b) m (frame-in-range p c b h))
@@ -184,7 +186,7 @@ nextStations b k w (Arrives call) =
     set k (call .station) (record { answer = plainExecute b w (Arrives call) .answer; number = call .number; frame = padded b })
 
 step-same : (p : Parameters) (c : ℕ) (k : List Station) (w : PlainState) (b : Bytes) (v : Verdict) → Refines p c k w → Moved p c w b v
-    → execute b (joined k w) v ≡ record { panel = joined (nextStations b k w v) (plainExecute b w v .state); answer = plainExecute b w v .answer }
+    → execute b (joined p k w) v ≡ record { panel = joined p (nextStations b k w v) (plainExecute b w v .state); answer = plainExecute b w v .answer }
 unfolding execute plainExecute
 step-same p c k w b (TurnedDown r) m g = refl
 step-same p c k w b (Copied a) m g = refl
@@ -244,8 +246,8 @@ linked-clock : (p : Parameters) (c : ℕ) (k : List Station) (w : PlainState) (t
 unfolding latest above inTime
 linked-clock p c k w t m g u =
     record {
-      least = m .least;
-      most = m .most;
+      allowed = m .allowed;
+      exact = m .exact;
       count = length-map (w .panel .outputs) (advance (w .panel .time) t) ∙ m .count;
       sound = all-advance p (w .panel .time) t (w .panel .outputs) g (omega arith) (m .sound);
       bounded = omega arith;
@@ -273,8 +275,8 @@ linked-first p c k w b call l a m g e h z =
     let t = call .time in
     let x : Station = record { answer = a; number = n; frame = padded b } in
     record {
-      least = m .least;
-      most = m .most;
+      allowed = m .allowed;
+      exact = m .exact;
       count = e;
       sound = h;
       bounded = omega (arith, g .frame .time);
@@ -321,8 +323,8 @@ plainExecute-other p c k w b (Arrives call) m g = served-not-one p _ _ (call .ou
 pub record Stepped (p : Parameters) (c : ℕ) (k : List Station) (w : PlainState) (b : Bytes) : Type 0 where
   pub stations : List Station
   pub same :
-      frameStep p (joined k w) b
-      ≡ record { panel = joined stations (plainFrameStep p w b .state); answer = plainFrameStep p w b .answer }
+      frameStep (joined p k w) b
+      ≡ record { panel = joined p stations (plainFrameStep p w b .state); answer = plainFrameStep p w b .answer }
   pub linked : Refines p c stations (plainFrameStep p w b .state)
   pub other : NotOne (plainFrameStep p w b .answer)
 
@@ -344,8 +346,8 @@ AllOther l = Every NotOne l
 
 pub record Listed (p : Parameters) (c : ℕ) (k : List Station) (w : PlainState) (l : List Bytes) : Type 0 where
   pub stations : List Station
-  pub same : after p (joined k w) l ≡ joined stations (plainAfter p w l)
-  pub answered : answers p (joined k w) l ≡ plainAnswers p w l
+  pub same : after (joined p k w) l ≡ joined p stations (plainAfter p w l)
+  pub answered : answers (joined p k w) l ≡ plainAnswers p w l
   pub linked : Refines p c stations (plainAfter p w l)
   pub others : AllOther (plainAnswers p w l)
 
@@ -368,14 +370,14 @@ unfolding every stationSound freshStation if_then_else_
 kept-fresh zero = refl
 kept-fresh (suc n) = also-yes refl (kept-fresh n)
 
-pub linked-start : (p : Parameters) → Startable p → (c : ℕ) → 1 ≤ c → c ≤ p .outputs → Refines p c (replicate (p .stations) freshStation) (plainStart p c)
+pub linked-start : (p : Parameters) → startable p ≡ true → Refines p (p .outputs) (replicate (p .stations) freshStation) (plainStart p)
 unfolding plainStart latest above inTime if_then_else_ restored kindRow kindLength byteAt freshStation
-linked-start p allowed c j q =
+linked-start p allowed =
     record {
-      least = j;
-      most = q;
-      count = length-replicate c (freshFor p);
-      sound = all-fresh p allowed c;
+      allowed = allowed;
+      exact = refl;
+      count = length-replicate (p .outputs) (freshFor p);
+      sound = all-fresh p (startable-of p allowed) (p .outputs);
       bounded = omega arith;
       counted = length-replicate (p .stations) freshStation;
       kept = kept-fresh (p .stations);

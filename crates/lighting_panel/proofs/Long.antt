@@ -57,19 +57,19 @@ parse-first p c b h =
     ∙ sym (parse-long p c (take (longestFrame + 1) b) (omega (arith, length-take (longestFrame + 1) b)))
 
 -- so the panel does with such a string what it does with its first bytes: neither gets past refusals 2 and 3
-decide-long : (p : Parameters) (e : Panel) (b : Bytes) (f : Frame) → parse p (length (e .outputs)) b ≡ f → decide p e b ≡ judgedByStation (e .kept .time) (getD (e .stations) (stationOf f) freshStation) b f
+decide-long : (e : Panel) (b : Bytes) (f : Frame) → parse (e .kept .parameters) (length (e .outputs)) b ≡ f → decide e b ≡ judgedByStation (e .kept .time) (getD (e .stations) (stationOf f) freshStation) b f
 unfolding decide
-decide-long p e b f h = rw h
+decide-long e b f h = rw h
 
-pub frameStep-first : (p : Parameters) (e : Panel) (b : Bytes) → longestFrame + 1 ≤ length b → frameStep p e b ≡ frameStep p e (take (longestFrame + 1) b)
+pub frameStep-first : (e : Panel) (b : Bytes) → longestFrame + 1 ≤ length b → frameStep e b ≡ frameStep e (take (longestFrame + 1) b)
 unfolding frameStep
-frameStep-first p e b h =
-    ap (λ (s : Step). if panelSound p e then s else record { panel = e; answer = Refused 1 })
-    (alike (refusal b) (parse-long p (length (e .outputs)) b h))
+frameStep-first e b h =
+    ap (λ (s : Step). if panelSound e then s else record { panel = e; answer = Refused 1 })
+    (alike (refusal b) (parse-long (e .kept .parameters) (length (e .outputs)) b h))
   where
-    refused : (b : Bytes) (r : ℕ) → parse p (length (e .outputs)) b ≡ Bad r → execute b e (decide p e b) ≡ record { panel = e; answer = Refused r }
-    refused b r q = rw (decide-long p e b (Bad r) q) (unfold judgedByStation judgedByRecord execute in refl)
+    refused : (b : Bytes) (r : ℕ) → parse (e .kept .parameters) (length (e .outputs)) b ≡ Bad r → execute b e (decide e b) ≡ record { panel = e; answer = Refused r }
+    refused b r q = rw (decide-long e b (Bad r) q) (unfold judgedByStation judgedByRecord execute in refl)
 
-    alike : (r : ℕ) → parse p (length (e .outputs)) b ≡ Bad r → execute b e (decide p e b) ≡ execute (take (longestFrame + 1) b) e (decide p e (take (longestFrame + 1) b))
+    alike : (r : ℕ) → parse (e .kept .parameters) (length (e .outputs)) b ≡ Bad r → execute b e (decide e b) ≡ execute (take (longestFrame + 1) b) e (decide e (take (longestFrame + 1) b))
     alike r q =
-        refused b r q ∙ sym (refused (take (longestFrame + 1) b) r (sym (parse-first p (length (e .outputs)) b h) ∙ q))
+        refused b r q ∙ sym (refused (take (longestFrame + 1) b) r (sym (parse-first (e .kept .parameters) (length (e .outputs)) b h) ∙ q))

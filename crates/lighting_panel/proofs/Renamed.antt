@@ -116,7 +116,7 @@ module _ (p : Parameters) (s : Bytes → Bytes) (Sort : Bytes → Type 0) (r : R
       )
 
   -- from a fresh start
-  pub start-renamed : (c : ℕ) (l : List Bytes) → Every Sort l
-      → (plainAfter p (plainStart p c) (map s l) .panel ≡ plainAfter p (plainStart p c) l .panel) × (plainAnswers p (plainStart p c) (map s l) ≡ plainAnswers p (plainStart p c) l)
+  pub start-renamed : (l : List Bytes) → Every Sort l
+      → (plainAfter p (plainStart p) (map s l) .panel ≡ plainAfter p (plainStart p) l .panel) × (plainAnswers p (plainStart p) (map s l) ≡ plainAnswers p (plainStart p) l)
   unfolding plainStart
-  start-renamed c l d = list-renamed (plainStart p c) l tt d
+  start-renamed l d = list-renamed (plainStart p) l tt d

@@ -101,7 +101,7 @@ now-spent p c k w b (Calls call) m g =
 
 -- what a spent frame leaves: everything
 stays : (p : Parameters) (c : ℕ) (k : List Station) (w : PlainState) (b : Bytes) (f : Frame) → Refines p c k w → FrameInRange p c b f → Spent w f
-    → execute b (joined k w) (judged (w .past) b f) .panel ≡ joined k w
+    → execute b (joined p k w) (judged (w .past) b f) .panel ≡ joined p k w
 unfolding judged retransmissionOrConflict execute if_then_else_
 stays p c k w b (Bad r) m g h = refl
 stays p c k w b (Clock t) m g h =
@@ -151,7 +151,7 @@ all-grow p c w w′ l g h =
     every-then (SpentString p c w) (SpentString p c w′) l (λ b s. (s .0, spent-grows w w′ (parse p c b) g (s .1))) h
 
 engine-stays : (p : Parameters) (c : ℕ) (k : List Station) (w : PlainState) (b : Bytes) → Octets b → Refines p c k w → Spent w (parse p c b)
-    → frameStep p (joined k w) b .panel ≡ joined k w
+    → frameStep (joined p k w) b .panel ≡ joined p k w
 unfolding frameStep if_then_else_
 engine-stays p c k w b o m h =
     rw
@@ -175,8 +175,8 @@ plain-spends p c k w b l o m h =
     )
 
 repeats : (p : Parameters) (c : ℕ) (k : List Station) (w : PlainState) {seen l l′ : List Bytes} (r : Again seen l l′) → Strings l → Refines p c k w → AllSpent p c w seen
-    → (after p (joined k w) l′ ≡ after p (joined k w) l)
-    × (answersToOriginals r (answers p (joined k w) l′) ≡ answers p (joined k w) l)
+    → (after (joined p k w) l′ ≡ after (joined p k w) l)
+    × (answersToOriginals r (answers (joined p k w) l′) ≡ answers (joined p k w) l)
 unfolding after answers answersToOriginals
 repeats p c k w end s m h = (refl, refl)
 repeats p c k w (own {seen = seen} {b = b} r) s m h =
@@ -190,6 +190,6 @@ repeats p c k w (copy {seen = seen} {b = b} a r) s m h =
 
 -- after a start nothing is seen yet
 pub repeats-change-nothing : (p : Parameters) (c : ℕ) (k : List Station) (w : PlainState) {l l′ : List Bytes} (r : Again [] l l′) → Strings l → Refines p c k w
-    → (after p (joined k w) l′ ≡ after p (joined k w) l)
-    × (answersToOriginals r (answers p (joined k w) l′) ≡ answers p (joined k w) l)
+    → (after (joined p k w) l′ ≡ after (joined p k w) l)
+    × (answersToOriginals r (answers (joined p k w) l′) ≡ answers (joined p k w) l)
 repeats-change-nothing p c k w r s m = repeats p c k w r s m tt

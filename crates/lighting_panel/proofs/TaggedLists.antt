@@ -26,7 +26,6 @@ use Rattle.lighting_frames.proofs.Octets.{taken-octets, dropped-octets, appende
 use Rattle.lighting_frames.proofs.Tagging.Fields.{AllFit, ThreeBits, three-bits}
 use Rattle.lighting_frames.proofs.Tagging.Bodies.{sizes-written}
 use Rattle.lighting_frames.proofs.Tagging.InTags.{SentAs, itself, asTags, sent-as, parse-sent, apart, NeverMade, never-made}
-use Rattle.lighting_outputs.specs.Paper.Startable.{startable}
 use Rattle.lighting_panel.proofs.Demand.{demand-3}
 use Rattle.lighting_panel.proofs.Calls.{once}
 use Rattle.lighting_panel.proofs.Renamed.{Renaming, start-renamed}
@@ -99,16 +98,15 @@ module _ (p : Parameters) (chosen : Bytes → Bool) where
   strings-sent : (l : List Bytes) → Strings l → Strings (map (sent chosen) l)
   strings-sent l s = every-map Octets Octets (sent chosen) l (λ b o. sent-octets b o (sent-as chosen b o)) s
 
-  -- For EVERY set of parameters that a panel may have, EVERY lent table e on which the start answered Done,
-  -- EVERY list l of strings of bytes, and EVERY choice of its commands of which none becomes another frame of
-  -- the list
-  pub acts-as-plain : startable p ≡ true → (e : Panel) (l : List Bytes) → Strings l → NoneBecomesAnother chosen l → startStep p e .answer ≡ Done
+  -- For EVERY set of parameters and EVERY lent table e on which a start with it answered Done, EVERY list l of
+  -- strings of bytes, and EVERY choice of its commands of which none becomes another frame of the list
+  pub acts-as-plain : (e : Panel) (l : List Bytes) → Strings l → NoneBecomesAnother chosen l → startStep p e .answer ≡ Done
       → ActsAsPlain p e l chosen
-  acts-as-plain allowed e l s n h =
+  acts-as-plain e l s n h =
       let l′ = map (sent chosen) l in
-      let plain = demand-3 p allowed e l l (once [] l) s h in
-      let tags = demand-3 p allowed e l′ l′ (once [] l′) (strings-sent l s) h in
-      let i = start-renamed p (sent chosen) (Listed l n) (renaming l n) (length (e .outputs)) l (each-listed l n l s (λ b m. m)) in
+      let plain = demand-3 p e l l (once [] l) s h in
+      let tags = demand-3 p e l′ l′ (once [] l′) (strings-sent l s) h in
+      let i = start-renamed p (sent chosen) (Listed l n) (renaming l n) l (each-listed l n l s (λ b m. m)) in
       record {
         outputs = tags .outputs ∙ ap (λ (x : Plain). x .outputs) (i .0) ∙ sym (plain .outputs);
         time = tags .time ∙ ap (λ (x : Plain). x .time) (i .0) ∙ sym (plain .time);

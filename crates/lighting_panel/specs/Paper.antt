@@ -8,6 +8,8 @@ pub mod Demand
 pub mod Calls
 -- §1 in lists
 pub mod ActsAsPlain
+-- the panel as it stood before §6
+pub mod OldPanel
 -- worked lists: bench figures 9 and 10 and the traps; §1, §4 and §5
 pub mod Worked
 pub mod WorkedOrder
@@ -16,3 +18,5 @@ pub mod WorkedJumpLists
 pub mod WorkedHalfLists
 -- refusal 1 by hand: the record rules
 pub mod WorkedRules
+-- §6 by hand: which sets may be started, and frames at some
+pub mod WorkedSets

@@ -4,4 +4,6 @@
 pub struct PanelRecord {
     // The panel time
     pub time: u64,
+    // The set of parameters that the panel was started with (§6)
+    pub parameters: lighting_outputs::Parameters,
 }

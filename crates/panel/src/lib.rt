@@ -1,10 +1,9 @@
 // The panel over what a caller lends: two tables, outputs and station records, and beside them the panel's
-// own record, which has the panel time. The two public operations ask nothing of what is lent. The contract
-// of each is one equation: all that it leaves of what is lent, and its answer, are what `startStep` and
-// `frameStep` say.
+// own record, which has the panel time and the set of parameters. The two public operations ask nothing of
+// what is lent. The contract of each is one equation: all that it leaves of what is lent, and its answer, are
+// what `startStep` and `frameStep` say.
 ghost use mathlib.Core.Path.{_≡_};
 ghost use lib.ListN.{length};
-ghost use Rattle.lighting_outputs.specs.Paper.Parameters.{document01};
 ghost use Rattle.lighting_panel.specs.Engine.VerdictPrecondition.{Standing, Arrival, VerdictPrecondition};
 ghost use Rattle.lighting_panel.specs.Paper.Panel.{panelOf, result, startStep};
 ghost use Rattle.lighting_panel.specs.Engine.Executing.{execute, frameStep};
@@ -13,6 +12,7 @@ use lighting_frames::Station;
 use lighting_frames::Verdict;
 use lighting_outputs::Answer;
 use lighting_outputs::Output;
+use lighting_outputs::Parameters;
 use lighting_panel::PanelRecord;
 
 // A first arrival: the panel goes to its time and acts, and the station keeps number, frame and answer.
@@ -68,35 +68,41 @@ fn execute(
     }
 }
 
-// Writes every lent record fresh and answers Done, or meets 1 by its counts alone.
-pub fn start(outputs: &mut [Output], stations: &mut [Station], kept: &mut PanelRecord) -> Answer
-    ensures { λ a. ⌜ result (panelOf (now (outputs .exit)) (now (stations .exit)) (now (kept .exit))) a ≡ startStep document01 (panelOf (now (outputs .entry)) (now (stations .entry)) (now (kept .entry))) ⌝ }
+// Writes every lent record fresh, keeps the set and answers Done; or meets 17 by the set, or 1 by its counts.
+pub fn start(
+    outputs: &mut [Output],
+    stations: &mut [Station],
+    kept: &mut PanelRecord,
+    parameters: Parameters,
+) -> Answer
+    ensures { λ a. ⌜ result (panelOf (now (outputs .exit)) (now (stations .exit)) (now (kept .exit))) a ≡ startStep parameters (panelOf (now (outputs .entry)) (now (stations .entry)) (now (kept .entry))) ⌝ }
 {
-    let parameters = panel_record::document_01();
+    if !panel_record::is_startable(parameters) {
+        return Answer::Refused(17);
+    }
     if !station_judging::counts_sound(parameters, outputs.len(), stations.len()) {
         return Answer::Refused(1);
     }
     panel_tables::fresh_outputs(outputs, parameters);
     panel_tables::fresh_stations(stations);
-    let record = panel_record::fresh_record();
+    let record = panel_record::fresh_record(parameters);
     *kept = record;
     Answer::Done
 }
 
-// Takes one string of bytes: judges it by its station's record and carries the verdict out.
+// Takes one string of bytes: judges it by the kept set and its station's record, and carries the verdict out.
 pub fn frame(
     outputs: &mut [Output],
     stations: &mut [Station],
     kept: &mut PanelRecord,
     bytes: &[u8],
 ) -> Answer
-    ensures { λ a. ⌜ result (panelOf (now (outputs .exit)) (now (stations .exit)) (now (kept .exit))) a ≡ frameStep document01 (panelOf (now (outputs .entry)) (now (stations .entry)) (now (kept .entry))) (now (bytes .entry)) ⌝ }
+    ensures { λ a. ⌜ result (panelOf (now (outputs .exit)) (now (stations .exit)) (now (kept .exit))) a ≡ frameStep (panelOf (now (outputs .entry)) (now (stations .entry)) (now (kept .entry))) (now (bytes .entry)) ⌝ }
 {
     let record = *kept;
-    let parameters = panel_record::document_01();
-    if !panel_judging::panel_sound(outputs, stations, record, parameters) {
+    if !panel_judging::panel_sound(outputs, stations, record) {
         return Answer::Refused(1);
     }
-    let verdict = panel_judging::decide(outputs, stations, record, parameters, bytes);
+    let verdict = panel_judging::decide(outputs, stations, record, bytes);
     execute(outputs, stations, kept, bytes, verdict)
 }

@@ -45,15 +45,14 @@ fn stations_sound(stations: &[Station]) -> bool
     true
 }
 
-// Refusal 1: the counts, then each record.
-pub fn panel_sound(
-    outputs: &[Output],
-    stations: &[Station],
-    kept: PanelRecord,
-    parameters: Parameters,
-) -> bool
-    ensures { λ r. ⌜ r ≡ panelSound parameters (panelOf (now (outputs .entry)) (now (stations .entry)) kept) ⌝ }
+// Refusal 1: the kept set, then by it the counts, then each record.
+pub fn panel_sound(outputs: &[Output], stations: &[Station], kept: PanelRecord) -> bool
+    ensures { λ r. ⌜ r ≡ panelSound (panelOf (now (outputs .entry)) (now (stations .entry)) kept) ⌝ }
 {
+    let parameters = panel_record::parameters_of(kept);
+    if !panel_record::is_startable(parameters) {
+        return false;
+    }
     if !station_judging::counts_sound(parameters, outputs.len(), stations.len()) {
         return false;
     }
@@ -66,17 +65,12 @@ pub fn panel_sound(
 // ---- the verdict
 
 // What is to be done with the bytes, by the record of the station that they name.
-pub fn decide(
-    outputs: &[Output],
-    stations: &[Station],
-    kept: PanelRecord,
-    parameters: Parameters,
-    bytes: &[u8],
-) -> Verdict
-    requires { ⌜ startable parameters ≡ true ⌝ }
-    requires { ⌜ length (now stations) ≡ parameters .stations ⌝ }
-    ensures { λ v. ⌜ v ≡ decide parameters (panelOf (now (outputs .entry)) (now (stations .entry)) kept) (now (bytes .entry)) ⌝ }
+pub fn decide(outputs: &[Output], stations: &[Station], kept: PanelRecord, bytes: &[u8]) -> Verdict
+    requires { ⌜ startable (kept .parameters) ≡ true ⌝ }
+    requires { ⌜ length (now stations) ≡ kept .parameters .stations ⌝ }
+    ensures { λ v. ⌜ v ≡ decide (panelOf (now (outputs .entry)) (now (stations .entry)) kept) (now (bytes .entry)) ⌝ }
 {
+    let parameters = panel_record::parameters_of(kept);
     let f = frame_parse::parse(parameters, outputs.len(), bytes);
     let at = number_ranges::index(station_judging::station_of(f));
     let record = stations[at];

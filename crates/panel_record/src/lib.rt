@@ -1,33 +1,67 @@
-// The panel's own record, which is lent beside its two tables, by value; and the set of parameters, which the
-// whole panel takes from here.
+// The panel's own record, which is lent beside its two tables, by value; and the set of parameters that it
+// keeps.
 ghost use mathlib.Core.Path.{_≡_};
 ghost use Rattle.lighting_outputs.specs.Paper.Parameters.{document01};
+ghost use Rattle.lighting_outputs.specs.Paper.Startable.{startable};
 ghost use Rattle.lighting_panel.specs.Paper.Panel.{freshRecord, withTime};
 use lighting_outputs::Parameters;
 use lighting_panel::PanelRecord;
+use number_ranges::is_within;
 
-// Document 01's: eight stations, 64 outputs, a day.
-pub fn document_01() -> Parameters
-    ensures { λ r. ⌜ r ≡ document01 ⌝ }
+// ---- the set of parameters
+
+// Document 01's: eight stations, so many outputs, a day.
+pub fn document_01(outputs: u32) -> Parameters
+    ensures { λ r. ⌜ r ≡ document01 outputs ⌝ }
 {
     Parameters {
         stations: 8,
-        outputs: 64,
+        outputs: outputs,
         fade: 86400000,
         duration: 86400000,
     }
 }
 
-pub fn fresh_record() -> PanelRecord
-    ensures { λ r. ⌜ r ≡ freshRecord ⌝ }
+// Whether a panel may be started with the set, and may keep it: the one test.
+pub fn is_startable(parameters: Parameters) -> bool
+    ensures { λ r. ⌜ r ≡ startable parameters ⌝ }
 {
-    PanelRecord { time: 0 }
+    if is_within(1, 32, parameters.stations) {
+        if is_within(1, 64, parameters.outputs) {
+            if is_within(100, 86400000, parameters.fade) {
+                is_within(100, 86400000, parameters.duration)
+            } else {
+                false
+            }
+        } else {
+            false
+        }
+    } else {
+        false
+    }
+}
+
+// ---- the record
+
+pub fn fresh_record(parameters: Parameters) -> PanelRecord
+    ensures { λ r. ⌜ r ≡ freshRecord parameters ⌝ }
+{
+    PanelRecord {
+        time: 0,
+        parameters: parameters,
+    }
 }
 
 pub fn time_of(kept: PanelRecord) -> u64
     ensures { λ r. ⌜ r ≡ kept .time ⌝ }
 {
     kept.time
+}
+
+pub fn parameters_of(kept: PanelRecord) -> Parameters
+    ensures { λ r. ⌜ r ≡ kept .parameters ⌝ }
+{
+    kept.parameters
 }
 
 // Written in place: it names no other field.

@@ -13,16 +13,12 @@ use lighting_outputs::Parameters;
 
 // ---- the counts, and a station's record rule
 
-// 0 outputs or more than the set has, or other station records than it has, is refusal 1.
+// As many output records and as many station records as the set has: else it is refusal 1.
 pub fn counts_sound(parameters: Parameters, outputs: usize, stations: usize) -> bool
     ensures { λ r. ⌜ r ≡ countsSound parameters outputs stations ⌝ }
 {
-    if 1 <= outputs {
-        if outputs <= parameters.outputs as usize {
-            stations == parameters.stations as usize
-        } else {
-            false
-        }
+    if outputs == parameters.outputs as usize {
+        stations == parameters.stations as usize
     } else {
         false
     }

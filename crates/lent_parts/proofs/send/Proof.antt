@@ -4,7 +4,6 @@ use mathlib.Core.Path.{_≡_, ap}
 use Prim.Native.Nat.{_-_}
 use lib.ListN.{take}
 use Rattle.lighting_levels.proofs.Parts.{part-taken}
-use Rattle.lighting_outputs.specs.Paper.Parameters.{document01}
 use Rattle.lighting_panel.specs.Paper.Panel.{Panel, Step, panelOf}
 use Rattle.lighting_panel.specs.Engine.Executing.{frameStep}
 use Rattle.lent_parts.specs.Lending.{sent}
@@ -64,13 +63,13 @@ returns : tie.Need-returns
 unfolding sent
 returns c =
     let a = c .before .before .before .before .before .before .before .before .before .before .before .args in
-    let i = c .before .before .before .before .before .before .before .before .before .before .least in
-    let j = c .before .before .before .before .before .before .before .before .before .least2 in
+    let i = c .before .before .before .before .before .before .before .before .before .least in
+    let j = c .before .before .before .before .before .before .before .before .least2 in
     let h = c .before .before .before .before .before .before .before .least3 in
     let f = c .before .before .frame in
     let d : take (h .result - 0) (a .bytes .now) ≡ take (a .count) (a .bytes .now) = part-taken (a .count) (h .result) (a .bytes .now) (h .ensures) in (
       rw (← part-taken (a .n) (i .result) (a .outputs .now) (i .ensures), ← part-taken (a .k) (j .result) (a .stations .now) (j .ensures), ← d) (ap (λ (x : Step). x .answer) (f .ensures)),
-      rw (← d) (parts-joined (λ (p : Panel). frameStep document01 p (take (h .result - 0) (a .bytes .now)) .panel) (a .n) (i .result) (a .k) (j .result) (a .outputs .now) (a .stations .now) (a .kept .now) (panelOf (f .last .0) (f .last .1 .0) (f .last .1 .1 .0)) (i .ensures) (j .ensures) (ap (λ (x : Step). x .panel) (f .ensures))),
+      rw (← d) (parts-joined (λ (p : Panel). frameStep p (take (h .result - 0) (a .bytes .now)) .panel) (a .n) (i .result) (a .k) (j .result) (a .outputs .now) (a .stations .now) (a .kept .now) (panelOf (f .last .0) (f .last .1 .0) (f .last .1 .1 .0)) (i .ensures) (j .ensures) (ap (λ (x : Step). x .panel) (f .ensures))),
     )
 
 pub send-spec : {M : Type 1} → statement M

@@ -1,11 +1,12 @@
--- The numbers of a set that a panel may have (`startable`) as facts, which theorems count on.
-use mathlib.Core.Path.{_≡_, refl}
+-- The numbers of a set that may be started (`startable`) as facts, which theorems count on.
+use mathlib.Core.Path.{_≡_}
 use mathlib.Core.Bool.{true}
+use Prim.Native.Nat.{ℕ, _≤_}
 use Rattle.lighting_levels.specs.Paper.Choice.{if_then_else_}
 use Rattle.lighting_outputs.specs.Paper.Parameters.{Parameters, document01}
 use Rattle.lighting_outputs.specs.Paper.Rows.{within}
 use Rattle.lighting_outputs.specs.Paper.Startable.{startable}
-use Rattle.lighting_levels.proofs.Split.{parts}
+use Rattle.lighting_levels.proofs.Split.{parts, leb-yes}
 use Rattle.lighting_outputs.proofs.Rules.Facts.{Within}
 use Rattle.lighting_outputs.proofs.Rules.Tied.{within-of}
 
@@ -19,7 +20,7 @@ pub startable-of : (p : Parameters) → startable p ≡ true → Startable p
 unfolding startable
 startable-of p h = search (parts, within-of)
 
--- document 01's set is one
-pub document01-startable : startable document01 ≡ true
+-- document 01's set is one, for every count of outputs that it allows
+pub document01-startable : (outputs : ℕ) → 1 ≤ outputs → outputs ≤ 64 → startable (document01 outputs) ≡ true
 unfolding startable within if_then_else_
-document01-startable = refl
+document01-startable outputs least most = rw (leb-yes {a = 1} {b = outputs} least, leb-yes {a = outputs} {b = 64} most)

@@ -13,7 +13,7 @@ use Rattle.lighting_outputs.specs.declared.Output.{Output}
 use Rattle.lighting_outputs.specs.declared.OutputRequest.the-variants.{Read}
 
 abbrev fresh : Output
-fresh = freshFor document01
+fresh = freshFor (document01 1)
 
 abbrev read : ℕ → Answer
 read n = acted 0 fresh (Read (propertyOf n)) .answer

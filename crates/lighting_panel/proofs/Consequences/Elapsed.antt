@@ -27,12 +27,13 @@ use Rattle.lighting_outputs.specs.declared.Activity.the-variants.{Still, Moving
 use Rattle.lighting_outputs.specs.declared.Timer.{Timer}
 use Rattle.lighting_outputs.specs.declared.Timer.the-variants.{Off, Running}
 use Rattle.lighting_outputs.specs.declared.Output.{Output}
-use Rattle.lighting_levels.proofs.Split.{also-both, by-bool}
+use Rattle.lighting_levels.proofs.Split.{by-bool}
 use Rattle.lighting_outputs.proofs.Rules.Facts.{Sound, Lawful}
 use Rattle.lighting_outputs.proofs.Time.Passing.{TimerAfter, advance-ticks}
 use Rattle.lighting_outputs.proofs.Time.Ticking.{advance-sound}
 use Rattle.lighting_outputs.specs.Paper.Startable.{startable}
 use Rattle.lighting_outputs.proofs.Rules.Startable.{startable-of}
+use Rattle.lighting_panel.proofs.Carried.{sound-startable, sound-outputs}
 use Rattle.lighting_outputs.proofs.Rules.Tied.{sound-facts, sound-calm}
 use Rattle.lighting_outputs.proofs.Consequences.Movements.{along, rules, moving, stays}
 use Rattle.lighting_panel.proofs.Consequences.Others.{every-at}
@@ -73,15 +74,15 @@ narrow p allowed t o m sound moves =
 
 -- so of every output j of every panel that meets the rules (its record has sixteen slots, as every lent one
 -- has)
-pub narrow-in : (p : Parameters) → startable p ≡ true → (panel : Panel) (j : ℕ) (m : Movement) → panelSound p panel ≡ true → j < length (panel .outputs)
+pub narrow-in : (panel : Panel) (j : ℕ) (m : Movement) → panelSound panel ≡ true → j < length (panel .outputs)
     → length (getD (panel .outputs) j freshOutput .slots .levels) ≡ slotCount → getD (panel .outputs) j freshOutput .activity ≡ Moving m
-    → Narrow p (panel .kept .time) m
-unfolding panelSound
-narrow-in p allowed panel j m meets inside size moves =
+    → Narrow (panel .kept .parameters) (panel .kept .time) m
+narrow-in panel j m meets inside size moves =
+    let p = panel .kept .parameters in
     let t = panel .kept .time in
     let o = getD (panel .outputs) j freshOutput in
-    let tested = every-at p t (panel .outputs) j inside (also-both (also-both meets .1) .0) in
-    narrow p allowed t o m (sound-facts p t o size tested .sound) moves
+    let tested = every-at p t (panel .outputs) j inside (sound-outputs panel meets) in
+    narrow p (sound-startable panel meets) t o m (sound-facts p t o size tested .sound) moves
 
 -- and Progress_Value by what 32 bits keep is Progress_Value
 pub progress-narrow : (p : Parameters) → startable p ≡ true → (t : ℕ) (o : Output) (m : Movement) → Sound p t o → o .activity ≡ Moving m → progressValue t o ≡ reachedBy m (low (elapsed t m))

@@ -49,7 +49,6 @@ use Rattle.lighting_outputs.proofs.Acts.Acted.{by-change}
 use Rattle.lighting_panel.proofs.Table.{served-every}
 use Rattle.lighting_frames.proofs.Octets.{appended-octets, repeated-octets}
 use Rattle.lighting_frames.proofs.Tagging.Kept.{gives-back}
-use Rattle.lighting_outputs.specs.Paper.Startable.{startable}
 use Rattle.lighting_panel.proofs.Demand.{demand-3}
 use Rattle.lighting_panel.proofs.Calls.{once}
 use Rattle.lighting_outputs.proofs.Consequences.Durations.{written-rest}
@@ -149,18 +148,18 @@ all-after p w (b ∷ l) s h =
     all-after p _ l (s .1) (all-execute p b w (judged (w .past) b f) (judged-kept p (w .past) b f (parse-kept p (length (w .panel .outputs)) b (s .0))) h)
 
 -- every output's, after every list
-pub last-kept : (p : Parameters) → startable p ≡ true → (e : Panel) (l : List Bytes) → Strings l → startStep p e .answer ≡ Done → Every (LastKept p) (after p (startStep p e .panel) l .outputs)
-last-kept p allowed e l s h =
-    rw (demand-3 p allowed e l l (once [] l) s h .outputs)
-    (all-after p (plainStart p (length (e .outputs))) l s
-    (unfold plainStart in (every-replicate (LastKept p) (freshFor p) (length (e .outputs)) (unfold freshFor in (fresh-kept p (freshFade p))))))
+pub last-kept : (p : Parameters) (e : Panel) (l : List Bytes) → Strings l → startStep p e .answer ≡ Done → Every (LastKept p) (after (startStep p e .panel) l .outputs)
+last-kept p e l s h =
+    rw (demand-3 p e l l (once [] l) s h .outputs)
+    (all-after p (plainStart p) l s
+    (unfold plainStart in (every-replicate (LastKept p) (freshFor p) (p .outputs) (unfold freshFor in (fresh-kept p (freshFade p))))))
 
 -- so the writer's form of each, read, gives it back
 abbrev pub LastGivenBack : Parameters → Output → Type 0
 LastGivenBack p o = taggedRequest p (readBody (bodyBytes (commandTags (o .last)))) ≡ ToOutput (Commands (o .last))
 
-pub last-given-back : (p : Parameters) → startable p ≡ true → (e : Panel) (l : List Bytes) → Strings l → startStep p e .answer ≡ Done
-    → Every (LastGivenBack p) (after p (startStep p e .panel) l .outputs)
-last-given-back p allowed e l s h =
-    let outputs = after p (startStep p e .panel) l .outputs in
-    every-then (LastKept p) (LastGivenBack p) outputs (λ o k. gives-back p (o .last) k) (last-kept p allowed e l s h)
+pub last-given-back : (p : Parameters) (e : Panel) (l : List Bytes) → Strings l → startStep p e .answer ≡ Done
+    → Every (LastGivenBack p) (after (startStep p e .panel) l .outputs)
+last-given-back p e l s h =
+    let outputs = after (startStep p e .panel) l .outputs in
+    every-then (LastKept p) (LastGivenBack p) outputs (λ o k. gives-back p (o .last) k) (last-kept p e l s h)

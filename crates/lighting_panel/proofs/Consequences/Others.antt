@@ -29,6 +29,7 @@ use Rattle.lighting_frames.specs.declared.Frame.the-variants.{Bad, Clock, Calls
 use Rattle.lighting_frames.specs.declared.Verdict.{Verdict}
 use Rattle.lighting_frames.specs.declared.Verdict.the-variants.{TurnedDown, Copied, Clocked, Arrives}
 use Rattle.lighting_levels.proofs.Split.{also-both, by-bool}
+use Rattle.lighting_panel.proofs.Carried.{sound-outputs}
 use Rattle.lighting_outputs.proofs.Rules.Tied.{tested-stays}
 use Rattle.lighting_panel.proofs.Table.{served-other}
 
@@ -70,9 +71,11 @@ judgedByRecord-for i now k same (Calls call) h =
     by-bool (eqb (call .number) (k .number)) (λ e. rw e (by-bool same (λ f. rw f tt) (λ f. rw f tt)))
     (λ e. rw e (by-bool (ltb (call .number) (k .number)) (λ f. rw f tt) (λ f. rw f (by-bool (ltb (call .time) now) (λ g. rw g tt) (λ g. rw g h)))))
 
-decide-for : (p : Parameters) (e : Panel) (b : Bytes) → For (byteAt b 12) (decide p e b)
+decide-for : (e : Panel) (b : Bytes) → For (byteAt b 12) (decide e b)
 unfolding decide judgedByStation
-decide-for p e b = judgedByRecord-for (byteAt b 12) (e .kept .time) _ _ (parse p (length (e .outputs)) b) (parse-of p (length (e .outputs)) b)
+decide-for e b =
+    let p = e .kept .parameters in
+    judgedByRecord-for (byteAt b 12) (e .kept .time) _ _ (parse p (length (e .outputs)) b) (parse-of p (length (e .outputs)) b)
 
 -- one of a table
 at-map : (f : Output → Output) (l : List Output) (j : ℕ) → j < length l → getD (map f l) j freshOutput ≡ f (getD l j freshOutput)
@@ -86,12 +89,13 @@ every-at p t [] j h e = absurd (omega arith)
 every-at p t (x ∷ l) zero h e = also-both e .0
 every-at p t (x ∷ l) (suc j) h e = every-at p t l j (omega arith) (also-both e .1)
 
-module _ (p : Parameters) (e : Panel) (b : Bytes) (j : ℕ) (sized : j < length (e .outputs)) (bounded : e .kept .time ≤ greatestCount) (other : byteAt b 12 ≢ j) where
-  stands : panelSound p e ≡ true → getD (e .outputs) j freshOutput ≡ advance (e .kept .time) (e .kept .time) (getD (e .outputs) j freshOutput)
-  unfolding panelSound
-  stands h = sym (tested-stays p (e .kept .time) (getD (e .outputs) j freshOutput) bounded (every-at p (e .kept .time) (e .outputs) j sized (also-both (also-both h .1) .0)))
+module _ (e : Panel) (b : Bytes) (j : ℕ) (sized : j < length (e .outputs)) (bounded : e .kept .time ≤ greatestCount) (other : byteAt b 12 ≢ j) where
+  stands : panelSound e ≡ true → getD (e .outputs) j freshOutput ≡ advance (e .kept .time) (e .kept .time) (getD (e .outputs) j freshOutput)
+  stands h =
+      let p = e .kept .parameters in
+      sym (tested-stays p (e .kept .time) (getD (e .outputs) j freshOutput) bounded (every-at p (e .kept .time) (e .outputs) j sized (sound-outputs e h)))
 
-  execute-other : (v : Verdict) → For (byteAt b 12) v → panelSound p e ≡ true
+  execute-other : (v : Verdict) → For (byteAt b 12) v → panelSound e ≡ true
       → getD (execute b e v .panel .outputs) j freshOutput ≡ advance (e .kept .time) (execute b e v .panel .kept .time) (getD (e .outputs) j freshOutput)
   unfolding execute
   execute-other (TurnedDown r) f h = stands h
@@ -102,7 +106,7 @@ module _ (p : Parameters) (e : Panel) (b : Bytes) (j : ℕ) (sized : j < length 
       ∙ at-map (advance (e .kept .time) (call .time)) (e .outputs) j sized
 
   -- any string of bytes, to any panel that keeps the rules
-  pub others : panelSound p e ≡ true
-      → getD (frameStep p e b .panel .outputs) j freshOutput ≡ advance (e .kept .time) (frameStep p e b .panel .kept .time) (getD (e .outputs) j freshOutput)
+  pub others : panelSound e ≡ true
+      → getD (frameStep e b .panel .outputs) j freshOutput ≡ advance (e .kept .time) (frameStep e b .panel .kept .time) (getD (e .outputs) j freshOutput)
   unfolding frameStep if_then_else_
-  others h = rw h (execute-other (decide p e b) (decide-for p e b) h)
+  others h = rw h (execute-other (decide e b) (decide-for e b) h)

@@ -41,7 +41,7 @@ abbrev pub held : Row
 held = whole row
 
 abbrev pub none : row .Denot
-none = S.freshRecord
+none = S.anyRecord
 
 abbrev pub copies : Cp row
 copies = cStruct T.the-type L.the-laws L.the-copy

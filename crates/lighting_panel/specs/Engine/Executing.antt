@@ -3,7 +3,6 @@
 use mathlib.Core.List.{map}
 use lib.ListN.{set}
 use Rattle.lighting_levels.specs.Paper.Choice.{if_then_else_}
-use Rattle.lighting_outputs.specs.declared.Parameters.{Parameters}
 use Rattle.lighting_frames.specs.Paper.Frames.{Bytes}
 use Rattle.lighting_outputs.specs.Engine.Advance.{advance}
 use Rattle.lighting_outputs.specs.Paper.Acting.{served}
@@ -36,6 +35,6 @@ execute b e (Arrives call) =
       answer = done .answer;
     }
 
--- ONE FRAME
-unfoldable pub frameStep : Parameters → Panel → Bytes → Step
-frameStep p e b = if panelSound p e then execute b e (decide p e b) else record { panel = e; answer = Refused 1 }
+-- ONE FRAME, by the set that is kept
+unfoldable pub frameStep : Panel → Bytes → Step
+frameStep e b = if panelSound e then execute b e (decide e b) else record { panel = e; answer = Refused 1 }

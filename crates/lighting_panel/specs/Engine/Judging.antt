@@ -6,7 +6,6 @@ use Prim.Native.Nat.{ℕ, _-_}
 use lib.Dec.{ltb, eqb}
 use lib.ListN.{getD, length, replicate, take}
 use Rattle.lighting_levels.specs.Paper.Choice.{if_then_else_}
-use Rattle.lighting_outputs.specs.declared.Parameters.{Parameters}
 use Rattle.lighting_levels.specs.Paper.Field.{byteAt}
 use Rattle.lighting_frames.specs.Paper.Kinds.{longestFrame, kindLength}
 use Rattle.lighting_frames.specs.Paper.Frames.{Bytes, parse}
@@ -52,6 +51,8 @@ stationOf (Calls call) = call .station
 unfoldable pub judgedByStation : ℕ → Station → Bytes → Frame → Verdict
 judgedByStation now k b f = judgedByRecord now k (sameBytes b (restored (k .frame))) f
 
-unfoldable pub decide : Parameters → Panel → Bytes → Verdict
-decide p e b =
-    let f = parse p (length (e .outputs)) b in judgedByStation (e .kept .time) (getD (e .stations) (stationOf f) freshStation) b f
+-- the frame is read by the kept set
+unfoldable pub decide : Panel → Bytes → Verdict
+decide e b =
+    let f = parse (e .kept .parameters) (length (e .outputs)) b in
+    judgedByStation (e .kept .time) (getD (e .stations) (stationOf f) freshStation) b f

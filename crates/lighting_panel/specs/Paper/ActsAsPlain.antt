@@ -17,6 +17,6 @@ NoneBecomesAnother chosen l = (b b′ : Bytes) → Among b l → Among b′ l �
 -- THE CLAIM, for a lent table e and a list l: what is found and every answer stay. The station records alone
 -- differ, which keep the frames as they came
 pub record ActsAsPlain (p : Parameters) (e : Panel) (l : List Bytes) (chosen : Bytes → Bool) : Type 0 where
-  pub outputs : after p (startStep p e .panel) (map (sent chosen) l) .outputs ≡ after p (startStep p e .panel) l .outputs
-  pub time : after p (startStep p e .panel) (map (sent chosen) l) .kept .time ≡ after p (startStep p e .panel) l .kept .time
-  pub answered : answers p (startStep p e .panel) (map (sent chosen) l) ≡ answers p (startStep p e .panel) l
+  pub outputs : after (startStep p e .panel) (map (sent chosen) l) .outputs ≡ after (startStep p e .panel) l .outputs
+  pub time : after (startStep p e .panel) (map (sent chosen) l) .kept .time ≡ after (startStep p e .panel) l .kept .time
+  pub answered : answers (startStep p e .panel) (map (sent chosen) l) ≡ answers (startStep p e .panel) l

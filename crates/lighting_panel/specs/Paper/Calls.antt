@@ -2,7 +2,6 @@
 -- tables: by the contracts of the crate `panel`, each call leaves and answers what `frameStep` says.
 use mathlib.Core.Path.{_≡_}
 use mathlib.Core.List.{List, [], _∷_}
-use lib.ListN.{length}
 use Rattle.lighting_outputs.specs.declared.Parameters.{Parameters}
 use Rattle.lighting_frames.specs.Paper.Frames.{Bytes}
 use mathlib.Core.Bool.{true}
@@ -12,24 +11,25 @@ use Rattle.lighting_panel.specs.Paper.Plain.{plainStart}
 use Rattle.lighting_panel.specs.Paper.Demand.{plainAfter, plainAnswers, Again, answersToOriginals, NeverOne}
 use Rattle.lighting_outputs.specs.declared.Answer.{Answer}
 
--- `Calls p e l a e′`: a call of `frame` for each string of l took the panel from e to e′ and answered a
-pub data Calls (p : Parameters) : Panel → List Bytes → List Answer → Panel → Type 0 where
-  none : {e : Panel} → Calls p e [] [] e
+-- `Calls e l a e′`: a call of `frame` for each string of l took the panel from e to e′ and answered a
+pub data Calls : Panel → List Bytes → List Answer → Panel → Type 0 where
+  none : {e : Panel} → Calls e [] [] e
   call : {e e₁ e₂ : Panel} {b : Bytes} {l : List Bytes} {a : Answer} {given : List Answer}
-      → result e₁ a ≡ frameStep p e b → Calls p e₁ l given e₂ → Calls p e (b ∷ l) (a ∷ given) e₂
+      → result e₁ a ≡ frameStep e b → Calls e₁ l given e₂ → Calls e (b ∷ l) (a ∷ given) e₂
 
--- what such a caller may conclude: the outputs, all of every record, are the plain panel's, at the same time,
--- and every answer was its answer; the records keep the rules, and no answer was refusal 1. So the tables
--- show what the plain panel shows (proofs/Calls.antt, `shows`)
-pub record Concluded (p : Parameters) (e : Panel) (l : List Bytes) (given : List Answer) (e′ : Panel) : Type 0 where
-  pub outputs : e′ .outputs ≡ plainAfter p (plainStart p (length (e .outputs))) l .panel .outputs
-  pub time : e′ .kept .time ≡ plainAfter p (plainStart p (length (e .outputs))) l .panel .time
-  pub answered : given ≡ plainAnswers p (plainStart p (length (e .outputs))) l
-  pub sound : panelSound p e′ ≡ true
+-- what such a caller may conclude who started with the set p: the outputs, all of every record, are the plain
+-- panel's, at the same time, and every answer was its answer; the set is kept, the records keep the rules, and
+-- no answer was refusal 1. So the tables show what the plain panel shows (proofs/Calls.antt, `shows`)
+pub record Concluded (p : Parameters) (l : List Bytes) (given : List Answer) (e′ : Panel) : Type 0 where
+  pub outputs : e′ .outputs ≡ plainAfter p (plainStart p) l .panel .outputs
+  pub time : e′ .kept .time ≡ plainAfter p (plainStart p) l .panel .time
+  pub parameters : e′ .kept .parameters ≡ p
+  pub answered : given ≡ plainAnswers p (plainStart p) l
+  pub sound : panelSound e′ ≡ true
   pub never : NeverOne given
 
 -- and one whose list is l′, in which frames of l come again: the whole panel is the one that l leaves, and so
 -- are the answers to the frames of l
-pub record ConcludedAgain (p : Parameters) (l l′ : List Bytes) (r : Again [] l l′) (given given′ : List Answer) (e′ e″ : Panel) : Type 0 where
+pub record ConcludedAgain (l l′ : List Bytes) (r : Again [] l l′) (given given′ : List Answer) (e′ e″ : Panel) : Type 0 where
   pub again : e″ ≡ e′
   pub answeredAgain : answersToOriginals r given′ ≡ given

@@ -5,7 +5,6 @@ use mathlib.Core.Bool.{true}
 use mathlib.Core.List.{List, [], _∷_, map}
 use mathlib.Core.Option.{Option}
 use Prim.Native.Nat.{ℕ}
-use lib.ListN.{length}
 use Rattle.lighting_levels.specs.Paper.Choice.{Every}
 use Rattle.lighting_outputs.specs.declared.Parameters.{Parameters}
 use Rattle.lighting_frames.specs.Paper.Frames.{Bytes}
@@ -56,15 +55,15 @@ foundPlain plain = map (found (plain .time)) (plain .outputs)
 
 -- A LIST OF FRAMES: 'outputs, station records and time pass from frame to frame as left'. The panel after it,
 -- and the answers
-unfoldable pub after : Parameters → Panel → List Bytes → Panel
-after p e [] = e
-after p e (b ∷ l) = after p (frameStep p e b .panel) l
+unfoldable pub after : Panel → List Bytes → Panel
+after e [] = e
+after e (b ∷ l) = after (frameStep e b .panel) l
 
-unfoldable pub answers : Parameters → Panel → List Bytes → List Answer
-answers p e [] = []
-answers p e (b ∷ l) = frameStep p e b .answer ∷ answers p (frameStep p e b .panel) l
+unfoldable pub answers : Panel → List Bytes → List Answer
+answers e [] = []
+answers e (b ∷ l) = frameStep e b .answer ∷ answers (frameStep e b .panel) l
 
--- the same of the plain panel
+-- the same of the plain panel, which is given the set
 unfoldable pub plainAfter : Parameters → PlainState → List Bytes → PlainState
 plainAfter p w [] = w
 plainAfter p w (b ∷ l) = plainAfter p (plainFrameStep p w b .state) l
@@ -97,17 +96,20 @@ answersToOriginals (copy m r) (a ∷ z) = answersToOriginals r z
 abbrev pub NeverOne : List Answer → Type 0
 NeverOne given = Every (λ (a : Answer). answerBytes a ≢ answerBytes (Refused 1)) given
 
--- THE DEMAND, for a lent table e, a list of frames l, and the list l′ in which frames of l come again
+-- THE DEMAND, for a set of parameters p, a lent table e, a list of frames l, and the list l′ in which frames of
+-- l come again
 pub record Demand (p : Parameters) (e : Panel) (l l′ : List Bytes) (r : Again [] l l′) : Type 0 where
   -- after every list the outputs, all of every record, are the plain panel's, at the same time: so all that
   -- is found is the same (proofs/Demand.antt, `finds`)
-  pub outputs : after p (startStep p e .panel) l .outputs ≡ plainAfter p (plainStart p (length (e .outputs))) l .panel .outputs
-  pub time : after p (startStep p e .panel) l .kept .time ≡ plainAfter p (plainStart p (length (e .outputs))) l .panel .time
-  -- and every answer is its answer
-  pub answered : answers p (startStep p e .panel) l ≡ plainAnswers p (plainStart p (length (e .outputs))) l
+  pub outputs : after (startStep p e .panel) l .outputs ≡ plainAfter p (plainStart p) l .panel .outputs
+  pub time : after (startStep p e .panel) l .kept .time ≡ plainAfter p (plainStart p) l .panel .time
+  -- the set is kept as it was started with
+  pub parameters : after (startStep p e .panel) l .kept .parameters ≡ p
+  -- and every answer is the plain panel's answer
+  pub answered : answers (startStep p e .panel) l ≡ plainAnswers p (plainStart p) l
   -- 'Refusal 1 never comes in it': every record keeps the rules, and no answer is 1
-  pub sound : panelSound p (after p (startStep p e .panel) l) ≡ true
-  pub never : NeverOne (answers p (startStep p e .panel) l)
+  pub sound : panelSound (after (startStep p e .panel) l) ≡ true
+  pub never : NeverOne (answers (startStep p e .panel) l)
   -- frames that come again change nothing at all of the panel, and no answer to the frames of the list
-  pub again : after p (startStep p e .panel) l′ ≡ after p (startStep p e .panel) l
-  pub answeredAgain : answersToOriginals r (answers p (startStep p e .panel) l′) ≡ answers p (startStep p e .panel) l
+  pub again : after (startStep p e .panel) l′ ≡ after (startStep p e .panel) l
+  pub answeredAgain : answersToOriginals r (answers (startStep p e .panel) l′) ≡ answers (startStep p e .panel) l

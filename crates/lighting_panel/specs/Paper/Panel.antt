@@ -3,10 +3,12 @@
 use mathlib.Core.Bool.{Bool}
 use mathlib.Core.List.{List}
 use Prim.Native.Nat.{ℕ}
-use lib.Dec.{leb, eqb}
+use lib.Dec.{eqb}
 use lib.ListN.{length, replicate}
 use Rattle.lighting_levels.specs.Paper.Choice.{if_then_else_, _also_, every}
 use Rattle.lighting_outputs.specs.declared.Parameters.{Parameters}
+use Rattle.lighting_outputs.specs.Paper.Parameters.{document01}
+use Rattle.lighting_outputs.specs.Paper.Startable.{startable}
 use Rattle.lighting_outputs.specs.Paper.Fresh.{freshFor}
 use Rattle.lighting_frames.specs.Paper.Stations.{freshStation, stationSound}
 use Rattle.lighting_outputs.specs.Paper.Rules.{sound}
@@ -16,8 +18,9 @@ use Rattle.lighting_outputs.specs.declared.Answer.the-variants.{Done, Refused}
 pub use Rattle.lighting_frames.specs.declared.Station.{Station}
 pub use Rattle.lighting_panel.specs.declared.PanelRecord.{PanelRecord}
 
--- 'The outputs stand in a lent table [..]; beside it stand eight station records and the panel time'. All
--- that is lent beside the two tables stands in one record, `kept`
+-- 'The outputs stand in a lent table [..]; beside it stand [..] station records and the panel time'. All that
+-- is lent beside the two tables stands in one record, `kept`: the time, and the set of parameters, which 'are
+-- kept in the panel's record' (§6)
 pub record Panel : Type 0 where
   pub outputs : List Output
   pub stations : List Station
@@ -26,12 +29,16 @@ pub record Panel : Type 0 where
 abbrev pub panelOf : List Output → List Station → PanelRecord → Panel
 panelOf outputs stations kept = record { outputs = outputs; stations = stations; kept = kept }
 
--- that record fresh, and at another time
-abbrev pub freshRecord : PanelRecord
-freshRecord = record { time = 0 }
+-- that record fresh, and at another time: the set stays
+abbrev pub freshRecord : Parameters → PanelRecord
+freshRecord p = record { time = 0; parameters = p }
+
+-- one of document 01's, which stands where a record past the end of a list is asked for
+abbrev pub anyRecord : PanelRecord
+anyRecord = freshRecord (document01 1)
 
 abbrev pub withTime : PanelRecord → ℕ → PanelRecord
-withTime kept t = record { time = t }
+withTime kept t = record { time = t; parameters = kept .parameters }
 
 -- what an operation leaves and answers
 pub record Step : Type 0 where
@@ -41,24 +48,33 @@ pub record Step : Type 0 where
 abbrev pub result : Panel → Answer → Step
 result panel answer = record { panel = panel; answer = answer }
 
--- true unless '0 or over 64 outputs, station records not eight'
+-- 'Refusals 1 (now exactly that many records)': so many output records and so many station records
 unfoldable pub countsSound : Parameters → ℕ → ℕ → Bool
-countsSound p outputs stations = leb 1 outputs also leb outputs (p .outputs) also eqb stations (p .stations)
+countsSound p outputs stations = eqb outputs (p .outputs) also eqb stations (p .stations)
 
--- 'or a record rule broken': what refusal 1 tests
-unfoldable pub panelSound : Parameters → Panel → Bool
-panelSound p e =
+-- what refusal 1 tests, by the set p: the counts, 'or a record rule broken'
+unfoldable pub rulesKept : Parameters → Panel → Bool
+rulesKept p e =
     countsSound p (length (e .outputs)) (length (e .stations))
     also every (sound p (e .kept .time)) (e .outputs)
     also every stationSound (e .stations)
 
--- THE START: 'writes every lent record fresh and answers Done, or meets 1 by its counts alone'
-unfoldable pub freshPanel : Parameters → ℕ → ℕ → Panel
-freshPanel p outputs stations =
-    record { outputs = replicate outputs (freshFor p); stations = replicate stations freshStation; kept = freshRecord }
+-- 'kept ones out of range meet 1': the kept set is tested first, and by it the rest
+unfoldable pub panelSound : Panel → Bool
+panelSound e = startable (e .kept .parameters) also rulesKept (e .kept .parameters) e
+
+-- THE START: 'writes every lent record fresh and answers Done, or meets 1 by its counts alone'; '(17: a start
+-- with a parameter out of range; tested before 1, tables unwritten)'
+unfoldable pub freshPanel : Parameters → Panel
+freshPanel p =
+    record { outputs = replicate (p .outputs) (freshFor p); stations = replicate (p .stations) freshStation; kept = freshRecord p }
 
 unfoldable pub startStep : Parameters → Panel → Step
 startStep p e =
+    if startable p
+    then (
     if countsSound p (length (e .outputs)) (length (e .stations))
-    then record { panel = freshPanel p (length (e .outputs)) (length (e .stations)); answer = Done }
+    then record { panel = freshPanel p; answer = Done }
     else record { panel = e; answer = Refused 1 }
+    )
+    else record { panel = e; answer = Refused 17 }

@@ -41,14 +41,14 @@ lent settings slots activity timer burning relay =
     }
 
 abbrev keeps : Output → Bool
-keeps o = sound document01 1000 o
+keeps o = sound (document01 2) 1000 o
 
 abbrev keepsJudged : Output → Bool
 keepsJudged o = keeps (afterEvents o)
 
 -- SETTINGS: at rest, all fresh but the property n, which is kept as v
 abbrev fresh : Settings
-fresh = freshSettings (freshFade document01)
+fresh = freshSettings (freshFade (document01 2))
 
 abbrev noSlot : Slots
 noSlot = freshOutput .slots
@@ -253,20 +253,20 @@ stationsSaid =
     ∷ (true ∷ true ∷ true ∷ true ∷ true ∷ true ∷ true ∷ true ∷ true ∷ true ∷ true ∷ true ∷ false ∷ false ∷ [])
     ∷ []
 
--- THE COUNTS, '0 or over 64 outputs, station records not eight'; and a whole panel of two outputs, with one
--- record of each table out of the rules
+-- THE COUNTS, 'now exactly that many records': of document 01's panel of two outputs; and that panel whole, with
+-- one record of each table out of the rules
 abbrev counts : ℕ → ℕ → Bool
-counts outputs stations = countsSound document01 outputs stations
+counts outputs stations = countsSound (document01 2) outputs stations
 
 abbrev late : Output
 late = lent fresh noSlot Still Off 1001 freshRelay
 
 abbrev panel : Output → Output → Station → Bool
-panel one other last = panelSound document01 (panelOf (one ∷ other ∷ []) (set (replicate 8 freshStation) 7 last) (withTime freshRecord 1000))
+panel one other last = panelSound (panelOf (one ∷ other ∷ []) (set (replicate 8 freshStation) 7 last) (withTime (freshRecord (document01 2)) 1000))
 
 abbrev panelsGiven : List (List Bool)
 panelsGiven =
-    (counts 0 8 ∷ counts 1 8 ∷ counts 64 8 ∷ counts 65 8 ∷ counts 1 7 ∷ counts 1 9 ∷ [])
+    (counts 1 8 ∷ counts 2 8 ∷ counts 3 8 ∷ counts 2 7 ∷ counts 2 9 ∷ [])
     ∷ (panel freshOutput freshOutput (stationWith 1 2)
     ∷ panel late freshOutput (stationWith 1 2)
     ∷ panel freshOutput late (stationWith 1 2)
@@ -275,7 +275,7 @@ panelsGiven =
     ∷ []
 
 abbrev panelsSaid : List (List Bool)
-panelsSaid = (false ∷ true ∷ true ∷ false ∷ false ∷ false ∷ []) ∷ (true ∷ false ∷ false ∷ false ∷ []) ∷ []
+panelsSaid = (false ∷ true ∷ false ∷ false ∷ false ∷ []) ∷ (true ∷ false ∷ false ∷ false ∷ []) ∷ []
 
 abbrev pub rulesGiven : List (List (List Bool))
 rulesGiven =

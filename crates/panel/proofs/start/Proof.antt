@@ -1,30 +1,38 @@
 mod Lts
 mod Tie
-use mathlib.Core.Path.{sym, ap, _∙_}
+use mathlib.Core.Path.{_≡_, sym, _∙_}
+use mathlib.Core.Bool.{true}
 use borrow.Author.Tests.{not-true, not-false}
-use lib.ListN.{length}
-use Rattle.lighting_outputs.specs.Paper.Parameters.{document01}
-use Rattle.lighting_panel.specs.Paper.Panel.{countsSound, freshPanel, panelOf}
-use Rattle.lighting_outputs.specs.declared.Parameters.{Parameters}
-use Rattle.lighting_panel.proofs.Carried.{startStep-refused, startStep-done}
+use Rattle.lighting_outputs.specs.Paper.Startable.{startable}
+use Rattle.lighting_panel.specs.Paper.Panel.{panelOf}
+use Rattle.lighting_panel.proofs.Carried.{startStep-outside, startStep-refused, startStep-done}
 use borrow.Author.Needs.{needs}
 use Rattle.panel.proofs.start.Statement.{statement}
 use Rattle.panel.proofs.start.Proof.Tie as tie
 use Rattle.panel.proofs.Lent.start.Reads as reads
 use Rattle.panel.proofs.start.Proof.Lts as lts
 
-document-01-requires : tie.Need-document-01-requires
-document-01-requires c κs = search needs
+is-startable-requires : tie.Need-is-startable-requires
+is-startable-requires c κs = search needs
+
+returns : tie.Need-returns
+returns c =
+    let a = c .before .before .args in
+    let e = panelOf (a .outputs .now) (a .stations .now) (a .kept .now) in
+    sym (startStep-outside (a .parameters) e (sym (c .before .is-startable .ensures) ∙ not-true _ (c .if1 .taken)))
 
 counts-sound-requires : tie.Need-counts-sound-requires
 counts-sound-requires c κs = search needs
 
-returns : tie.Need-returns
-returns c =
-    let a = c .before .before .before .args in
+-- past the first test the set may be started
+allowed : (c : tie.Else1) → startable (c .before .before .args .parameters) ≡ true
+allowed c = sym (c .before .is-startable .ensures) ∙ not-false _ (c .if1 .left)
+
+returns-2 : tie.Need-returns-2
+returns-2 c =
+    let a = c .before .before .before .before .args in
     let e = panelOf (a .outputs .now) (a .stations .now) (a .kept .now) in
-    let same = ap (λ (p : Parameters). countsSound p (length (e .outputs)) (length (e .stations))) (sym (c .before .before .document-01 .ensures)) in
-    sym (startStep-refused document01 e (same ∙ sym (c .before .counts-sound .ensures) ∙ not-true _ (c .if1 .taken)))
+    sym (startStep-refused (a .parameters) e (allowed (c .before .before)) (sym (c .before .counts-sound .ensures) ∙ not-true _ (c .if2 .taken)))
 
 fresh-outputs-requires : tie.Need-fresh-outputs-requires
 fresh-outputs-requires c κs = search needs
@@ -41,27 +49,25 @@ same-length c = search needs
 same-length-2 : tie.Need-same-length-2
 same-length-2 c = search needs
 
-returns-2 : tie.Need-returns-2
-unfolding freshPanel
-returns-2 c =
+returns-3 : tie.Need-returns-3
+returns-3 c =
     let b = c .before .before .before .before .before .before .before in
-    let set = b .before .before .document-01 .ensures in
-    let a = b .before .before .before .args in
+    let a = b .before .before .before .before .args in
     let e = panelOf (a .outputs .now) (a .stations .now) (a .kept .now) in
-    let same = ap (λ (p : Parameters). countsSound p (length (e .outputs)) (length (e .stations))) (sym set) in
-    rw (c .before .before .before .before .before .fresh-outputs .ensures, c .before .before .fresh-stations .ensures, c .fresh-record .ensures, set)
-    (sym (startStep-done document01 e (same ∙ sym (b .before .counts-sound .ensures) ∙ not-false _ (b .if1 .left))))
+    rw (c .before .before .before .before .before .fresh-outputs .ensures, c .before .before .fresh-stations .ensures, c .fresh-record .ensures)
+    (sym (startStep-done (a .parameters) e (allowed (b .before .before)) (sym (b .before .counts-sound .ensures) ∙ not-false _ (b .if2 .left))))
 
 pub start-spec : {M : Type 1} → statement M
 start-spec =
     tie.close
     (tie.spec
-    document-01-requires
-    counts-sound-requires
+    is-startable-requires
     returns
+    counts-sound-requires
+    returns-2
     fresh-outputs-requires
     fresh-stations-requires
     fresh-record-requires
     same-length
     same-length-2
-    returns-2)
+    returns-3)

@@ -4,6 +4,7 @@ use mathlib.Core.Path.{_≡_, ap, _∙_}
 use Prim.Native.Nat.{ℕ, _<_}
 use native.Mathlib.Omega.{arith}
 use lib.ListN.{length}
+use Rattle.lighting_outputs.specs.declared.Parameters.{Parameters}
 use Rattle.lighting_frames.specs.Paper.Frames.{parse}
 use Rattle.lighting_panel.specs.Engine.Judging.{stationOf, decide}
 use Rattle.lighting_panel.proofs.Carried.{octets, station-found}
@@ -12,6 +13,9 @@ use Rattle.panel_judging.proofs.decide.Statement.{statement}
 use Rattle.panel_judging.proofs.decide.Proof.Tie as tie
 use Rattle.panel_judging.proofs.Lent.decide.Reads as reads
 use Rattle.panel_judging.proofs.decide.Proof.Lts as lts
+
+parameters-of-requires : tie.Need-parameters-of-requires
+parameters-of-requires c κs = search needs
 
 parse-requires : tie.Need-parse-requires
 parse-requires c κs = search needs
@@ -23,17 +27,21 @@ index-requires : tie.Need-index-requires
 index-requires c κs = search needs
 
 -- the station that the frame names has its record
-within : (c : tie.After-index) → c .index .result < length (c .before .before .before .before .args .stations .now)
+within : (c : tie.After-index) → c .index .result < length (c .before .before .before .before .before .args .stations .now)
 within c =
-    let a = c .before .before .before .before .args in
+    let start = c .before .before .before .before .before in
+    let a = start .args in
     let b = a .bytes .now in
-    let e : c .index .result ≡ stationOf (parse (a .parameters) (length (a .outputs .now)) b) =
-    c .index .ensures ∙ c .before .station-of .ensures ∙ ap stationOf (c .before .before .parse .ensures) in
+    let set = a .kept .parameters in
+    let e : c .index .result ≡ stationOf (parse set (length (a .outputs .now)) b) =
+    c .index .ensures
+    ∙ c .before .station-of .ensures
+    ∙ ap stationOf (c .before .before .parse .ensures ∙ ap (λ (p : Parameters). parse p (length (a .outputs .now)) b) (c .before .before .before .parameters-of .ensures)) in
     omega (
       arith,
       e,
-      c .before .before .before .before .pre .1,
-      station-found (a .parameters) (c .before .before .before .before .pre .0) (length (a .outputs .now)) b (octets b (λ (i : ℕ). omega (arith, c .before .before .before .shared-slice-known .given i))),
+      start .pre .1,
+      station-found set (start .pre .0) (length (a .outputs .now)) b (octets b (λ (i : ℕ). omega (arith, c .before .before .before .before .shared-slice-known .given i))),
     )
 
 mul-record : tie.Need-mul-record
@@ -57,12 +65,14 @@ returns c =
       c .before .before .before .index .ensures,
       c .before .before .before .before .station-of .ensures,
       c .before .before .before .before .before .parse .ensures,
+      c .before .before .before .before .before .before .parameters-of .ensures,
     )
 
 pub decide-spec : {M : Type 1} → statement M
 decide-spec =
     tie.close
     (tie.spec
+    parameters-of-requires
     parse-requires
     station-of-requires
     index-requires

@@ -5,8 +5,8 @@ use borrow.Author.Needs.{needs}
 use Rattle.station_judging.proofs.counts_sound.Statement.{statement}
 use Rattle.station_judging.proofs.counts_sound.Tie as tie
 
-cast-if2 : tie.Need-cast-if2
-cast-if2 c = search needs
+cast-if1 : tie.Need-cast-if1
+cast-if1 c = search needs
 
 cast-result : tie.Need-cast-result
 cast-result c = search needs
@@ -19,9 +19,5 @@ returns-2 : tie.Need-returns-2
 unfolding countsSound
 returns-2 c = search (needs, ifs)
 
-returns-3 : tie.Need-returns-3
-unfolding countsSound
-returns-3 c = search (needs, ifs)
-
 pub counts-sound-spec : {M : Type 1} → statement M
-counts-sound-spec = tie.close (tie.spec cast-if2 cast-result returns returns-2 returns-3)
+counts-sound-spec = tie.close (tie.spec cast-if1 cast-result returns returns-2)

@@ -6,11 +6,11 @@ use Rattle.lighting_outputs.proofs.Lent.OfOutput as OfOutput
 use Rattle.lighting_panel.proofs.Lent.OfPanelRecord as OfPanelRecord
 use borrow.Fn.Kinds
 use borrow.Kind.MutSlice
+use borrow.Kind.ShrSlice
 use borrow.Kind.Value
 use borrow.Rule.Local
 use borrow.Table.Referent
 use borrow.Table.Rows
-use denote.Array
 use denote.Enum.Declared
 use denote.Enum.Laws as Laws'
 use denote.Exit
@@ -19,7 +19,7 @@ use mathlib.Core.Path as Path'
 use mir.Syntax
 
 abbrev pub ps : List.List (Kinds.PK 4)
-ps = List._∷_ (MutSlice.pMutS (OfOutput.row) 0 tt) (List._∷_ (MutSlice.pMutS (OfStation.row) 1 tt) (List._∷_ (Kinds.pMut (OfPanelRecord.row) 2 tt) (List._∷_ (Kinds.pNum Syntax.w64) (List._∷_ (Kinds.pNum Syntax.w64) (List._∷_ (Kinds.pShr (Array.Array (Referent.rtF (Referent.fInt Syntax.w8)) 49) 3 tt) (List._∷_ (Kinds.pNum Syntax.w64) List.[]))))))
+ps = List._∷_ (MutSlice.pMutS (OfOutput.row) 0 tt) (List._∷_ (MutSlice.pMutS (OfStation.row) 1 tt) (List._∷_ (Kinds.pMut (OfPanelRecord.row) 2 tt) (List._∷_ (Kinds.pNum Syntax.w64) (List._∷_ (Kinds.pNum Syntax.w64) (List._∷_ (ShrSlice.pShrS (Referent.rtF (Referent.fInt Syntax.w8)) 3 tt) (List._∷_ (Kinds.pNum Syntax.w64) List.[]))))))
 
 abbrev pub r : Kinds.RK 4
 r = Value.rVal record { ty = Declared.row Answer.the-type; one = Path'.refl; val = Laws'.val Answer.the-type Laws.the-laws; tells = Laws'.tells Answer.the-type Laws.the-laws; still = Laws'.still Answer.the-type Laws.the-copy Exit.yes; row = Rows.whole (Declared.row Answer.the-type); rd = λ x. x; mk = λ x. x } λ M 𝓤 H A W. record { copies = Laws'.copy Answer.the-type Laws.the-copy 𝓤 H A W; lawful = Laws'.lawful Answer.the-type Laws.the-laws 𝓤 H A W tt; makes = Laws'.makes Answer.the-type Laws.the-plain 𝓤 H A; in-mem = Local.mem-whole 𝓤 H A W (Declared.row Answer.the-type); of-mem = Local.whole-mem 𝓤 H A W (Declared.row Answer.the-type) }

@@ -18,14 +18,14 @@ use contract.Running
 abbrev pub Start : Type 0
 Start = Lts.Start (Reads'.Asked, Reads'.Learnt, Reads''.Asked, Reads''.Learnt) Reads.Pre Reads.Post
 
+abbrev pub After-shared-slice-known : Type 0
+After-shared-slice-known = Lts.After-shared-slice-known (Reads'.Asked, Reads'.Learnt, Reads''.Asked, Reads''.Learnt) Reads.Pre Reads.Post
+
 abbrev pub After-least : Type 0
 After-least = Lts.After-least (Reads'.Asked, Reads'.Learnt, Reads''.Asked, Reads''.Learnt) Reads.Pre Reads.Post
 
 abbrev pub After-least2 : Type 0
 After-least2 = Lts.After-least2 (Reads'.Asked, Reads'.Learnt, Reads''.Asked, Reads''.Learnt) Reads.Pre Reads.Post
-
-abbrev pub After-all : Type 0
-After-all = Lts.After-all (Reads'.Asked, Reads'.Learnt, Reads''.Asked, Reads''.Learnt) Reads.Pre Reads.Post
 
 abbrev pub After-least3 : Type 0
 After-least3 = Lts.After-least3 (Reads'.Asked, Reads'.Learnt, Reads''.Asked, Reads''.Learnt) Reads.Pre Reads.Post

@@ -76,8 +76,7 @@ module _ (κs : Lifetimes.Lfts 3) where
       (a .1 .0)
       (a .1 .1 .0)
       (a .1 .1 .1 .0)
-      (a .1 .1 .1 .1 .0)
-  requires-1·read = λ a g. Read.all-models (λ w. decide.requires-1 (w .𝓤) (w .H) κs (w .𝓖 .A) (w .𝓜 .mem) (w .𝓡 .run) (a .0) (a .1 .0) (a .1 .1 .0) (a .1 .1 .1 .0) (a .1 .1 .1 .1 .0)) (λ w. Read.r-last _) (λ w. Path'.refl) (λ w. Path'.refl) λ w. Path'.refl
+  requires-1·read = λ a g. Read.all-models (λ w. decide.requires-1 (w .𝓤) (w .H) κs (w .𝓖 .A) (w .𝓜 .mem) (w .𝓡 .run) (a .0) (a .1 .0) (a .1 .1 .0) (a .1 .1 .1 .0)) (λ w. Read.r-last _) (λ w. Path'.refl) (λ w. Path'.refl) λ w. Path'.refl
 
   abbrev pub requires-2·read :
       (a : World.ArgsD decide.signature κs) →
@@ -96,14 +95,13 @@ module _ (κs : Lifetimes.Lfts 3) where
       (a .1 .0)
       (a .1 .1 .0)
       (a .1 .1 .1 .0)
-      (a .1 .1 .1 .1 .0)
-  requires-2·read = λ a g. Read.all-models (λ w. decide.requires-2 (w .𝓤) (w .H) κs (w .𝓖 .A) (w .𝓜 .mem) (w .𝓡 .run) (a .0) (a .1 .0) (a .1 .1 .0) (a .1 .1 .1 .0) (a .1 .1 .1 .1 .0)) (λ w. Read.r-last _) (λ w. Path'.refl) (λ w. Path'.refl) λ w. Path'.refl
+  requires-2·read = λ a g. Read.all-models (λ w. decide.requires-2 (w .𝓤) (w .H) κs (w .𝓖 .A) (w .𝓜 .mem) (w .𝓡 .run) (a .0) (a .1 .0) (a .1 .1 .0) (a .1 .1 .1 .0)) (λ w. Read.r-last _) (λ w. Path'.refl) (λ w. Path'.refl) λ w. Path'.refl
 
   abbrev pub pre-read :
       (a : World.ArgsD decide.signature κs) →
       (g : Ghost) →
       Read.Read (World.In decide.signature κs a) Read.no-know (requires a g)
-  pre-read = λ a g. Read.read-join (λ w. decide.requires-1 (w .𝓤) (w .H) κs (w .𝓖 .A) (w .𝓜 .mem) (w .𝓡 .run) (a .0) (a .1 .0) (a .1 .1 .0) (a .1 .1 .1 .0) (a .1 .1 .1 .1 .0)) (λ w. decide.requires-2 (w .𝓤) (w .H) κs (w .𝓖 .A) (w .𝓜 .mem) (w .𝓡 .run) (a .0) (a .1 .0) (a .1 .1 .0) (a .1 .1 .1 .0) (a .1 .1 .1 .1 .0)) (requires-1·read a g) (requires-2·read a g)
+  pre-read = λ a g. Read.read-join (λ w. decide.requires-1 (w .𝓤) (w .H) κs (w .𝓖 .A) (w .𝓜 .mem) (w .𝓡 .run) (a .0) (a .1 .0) (a .1 .1 .0) (a .1 .1 .1 .0)) (λ w. decide.requires-2 (w .𝓤) (w .H) κs (w .𝓖 .A) (w .𝓜 .mem) (w .𝓡 .run) (a .0) (a .1 .0) (a .1 .1 .0) (a .1 .1 .1 .0)) (requires-1·read a g) (requires-2·read a g)
 
   abbrev pub ensures-1·read :
       (a : World.ArgsD decide.signature κs) →
@@ -124,14 +122,12 @@ module _ (κs : Lifetimes.Lfts 3) where
       (a .1 .0)
       (a .1 .1 .0)
       (a .1 .1 .1 .0)
-      (a .1 .1 .1 .1 .0)
       record { entry = a .0; exit = s .0 }
       record { entry = a .1 .0; exit = s .1 .0 }
       record { entry = a .1 .1 .0; exit = s .1 .1 .0 }
       record { entry = a .1 .1 .1 .0; exit = s .1 .1 .1 .0 }
-      record { entry = a .1 .1 .1 .1 .0; exit = s .1 .1 .1 .1 .0 }
       r
-  ensures-1·read = λ a g r s. Read.all-models (λ w. decide.ensures-1 (w .𝓤) (w .H) κs (w .𝓖 .A) (w .𝓜 .mem) (w .𝓡 .run) (a .0) (a .1 .0) (a .1 .1 .0) (a .1 .1 .1 .0) (a .1 .1 .1 .1 .0) record { entry = a .0; exit = s .0 } record { entry = a .1 .0; exit = s .1 .0 } record { entry = a .1 .1 .0; exit = s .1 .1 .0 } record { entry = a .1 .1 .1 .0; exit = s .1 .1 .1 .0 } record { entry = a .1 .1 .1 .1 .0; exit = s .1 .1 .1 .1 .0 } r) (λ w. Read.r-last _) (λ w. Path'.refl) (λ w. Path'.refl) λ w. Path'.refl
+  ensures-1·read = λ a g r s. Read.all-models (λ w. decide.ensures-1 (w .𝓤) (w .H) κs (w .𝓖 .A) (w .𝓜 .mem) (w .𝓡 .run) (a .0) (a .1 .0) (a .1 .1 .0) (a .1 .1 .1 .0) record { entry = a .0; exit = s .0 } record { entry = a .1 .0; exit = s .1 .0 } record { entry = a .1 .1 .0; exit = s .1 .1 .0 } record { entry = a .1 .1 .1 .0; exit = s .1 .1 .1 .0 } r) (λ w. Read.r-last _) (λ w. Path'.refl) (λ w. Path'.refl) λ w. Path'.refl
 
   abbrev pub post-read :
       (a : World.ArgsD decide.signature κs) →
