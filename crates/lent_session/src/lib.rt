@@ -223,14 +223,7 @@ fn take_row(
         }
         b'b' => {
             let parameters = lent_rows::parameters::parameters_of(numbers);
-            let a = lent_parts::start(
-                outputs,
-                stations,
-                kept,
-                t.outputs,
-                t.stations,
-                parameters,
-            );
+            let a = lent_parts::start(outputs, stations, kept, t.outputs, t.stations, parameters);
             let room = text_found::with_room(page, t.mark);
             with_mark(next, text_printing::put_answer(page, room, a))
         }

@@ -1,5 +1,4 @@
 pub mod Lent
-pub mod Named
 pub mod Ends
 pub mod Spelled
 pub mod Through

@@ -1,14 +1,15 @@
--- FROM A LIST'S TEXT TO DEMAND 3: after the whole text of any list of strings, the outputs that it names show
--- what the plain panel shows.
-use mathlib.Core.Path.{_≡_, refl, ap, _∙_}
-use mathlib.Core.Bool.{true}
+-- FROM A LIST'S TEXT TO DEMAND 3: after the whole text of any list of strings, the outputs of the set that it
+-- names show what the plain panel shows that is given the same set.
+use mathlib.Core.Path.{_≡_, refl, ap, ap₂, _∙_}
+use mathlib.Core.Bool.{Bool, true, false}
 use mathlib.Core.List.{List, [], _∷_, _++_, map}
-use Prim.Native.Nat.{ℕ, _≤_, _<_}
+use Prim.Native.Nat.{ℕ, _≤_}
 use native.Mathlib.Omega.{arith}
-use lib.ListN.{length, drop, length-map, length-append, length-replicate}
+use lib.ListN.{length, drop, length-map, length-set, length-append, length-replicate}
 use lib.Seq.{take-at, length-take-le}
 use Rattle.lighting_levels.specs.Paper.Choice.{if_then_else_}
-use Rattle.lighting_outputs.specs.Paper.Parameters.{document01}
+use Rattle.lighting_outputs.specs.declared.Parameters.{Parameters}
+use Rattle.lighting_outputs.specs.Paper.Startable.{startable}
 use Rattle.lighting_frames.specs.Paper.Frames.{Bytes, Strings}
 use Rattle.lighting_outputs.specs.Engine.Advance.{advance}
 use Rattle.lighting_panel.specs.Paper.Panel.{Panel, panelOf, panelSound, countsSound, freshPanel, startStep}
@@ -18,152 +19,209 @@ use Rattle.lighting_panel.specs.Paper.Plain.{plainStart}
 use Rattle.lighting_panel.specs.Paper.Demand.{foundIn, foundPlain, plainAfter, after}
 use Rattle.lighting_outputs.specs.declared.Answer.the-variants.{Done}
 use Rattle.lighting_outputs.specs.declared.Output.{Output}
+use Rattle.lighting_frames.specs.declared.Station.{Station}
 use Rattle.lighting_frames.specs.declared.Verdict.{Verdict}
 use Rattle.lighting_frames.specs.declared.Verdict.the-variants.{TurnedDown, Copied, Clocked, Arrives}
-use Rattle.lighting_outputs.proofs.Rules.Startable.{document01-startable}
-use Rattle.lighting_levels.proofs.Split.{by-bool, leb-yes}
+use Rattle.lighting_levels.proofs.Split.{by-bool, eqb-hit}
 use Rattle.lighting_panel.proofs.Table.{served-length}
 use Rattle.lighting_panel.proofs.Calls.{once}
-use Rattle.lighting_panel.proofs.Demand.{demand-3, finds}
+use Rattle.lighting_panel.proofs.Demand.{demand-3, finds, startStep-fresh}
+use Rattle.lent_parts.specs.Lending.{lent, returned}
+use Rattle.lent_parts.specs.Lending as lending
 use Rattle.text_reading.specs.declared.Reader.{Reader}
 use Rattle.text_reading.specs.Reading.{fed}
-use Rattle.text_reading.specs.Spelling.{Unbroken, Silent, Gives, Heading}
+use Rattle.text_heading.specs.Spelling.{Unbroken}
+use Rattle.text_reading.specs.Spelling.{Silent, Gives, Heading}
 use Rattle.text_reading.proofs.Marked.{Start, start-fresh, start-next, start-named, silent-read, gives-read, gives-octets}
-use Rattle.text_reading.proofs.Heading.{heading-read, heading-count}
-use Rattle.replay_line.specs.Taking.{first, rejoined, begun, sent, taken, takenBy, through, closed, finished, Replayed}
+use Rattle.text_reading.proofs.Heading.{heading-read, heading-startable}
+use Rattle.replay_line.specs.Taking.{inUse, begun, sent, taken, takenBy, through, closed, finished, Replayed}
 use Rattle.replay_line.specs.Listed.{Lines, none, string, remark, Listing, named, preface, unended}
 use Rattle.replay_line.proofs.Spelled.{spelled}
 use Rattle.replay_line.proofs.Through.{through-line}
 use Rattle.replay_line.proofs.Parts.{taken-blank, closed-newline}
 
--- a frame and the start leave as many outputs as there were
-execute-count : (b : Bytes) (e : Panel) (v : Verdict) → length (execute b e v .panel .outputs) ≡ length (e .outputs)
+-- A FRAME leaves as many records as there were, and the set
+record Alike (e q : Panel) : Type 0 where
+  outputs : length (q .outputs) ≡ length (e .outputs)
+  stations : length (q .stations) ≡ length (e .stations)
+  parameters : q .kept .parameters ≡ e .kept .parameters
+
+execute-alike : (b : Bytes) (e : Panel) (v : Verdict) → Alike e (execute b e v .panel)
 unfolding execute
-execute-count b e (TurnedDown r) = refl
-execute-count b e (Copied a) = refl
-execute-count b e (Clocked t) = length-map (e .outputs) (advance (e .kept .time) t)
-execute-count b e (Arrives call) =
-    served-length (call .time) (map (advance (e .kept .time) (call .time)) (e .outputs)) (call .output) (call .request)
-    ∙ length-map (e .outputs) (advance (e .kept .time) (call .time))
+execute-alike b e (TurnedDown r) = record { outputs = refl; stations = refl; parameters = refl }
+execute-alike b e (Copied a) = record { outputs = refl; stations = refl; parameters = refl }
+execute-alike b e (Clocked t) =
+    record { outputs = length-map (e .outputs) (advance (e .kept .time) t); stations = refl; parameters = refl }
+execute-alike b e (Arrives call) =
+    record {
+      outputs =
+          served-length (call .time) (map (advance (e .kept .time) (call .time)) (e .outputs)) (call .output) (call .request)
+          ∙ length-map (e .outputs) (advance (e .kept .time) (call .time));
+      stations = length-set (e .stations) (call .station) _;
+      parameters = refl;
+    }
 
-frameStep-count : (e : Panel) (b : Bytes) → length (frameStep document01 e b .panel .outputs) ≡ length (e .outputs)
+frameStep-alike : (e : Panel) (b : Bytes) → Alike e (frameStep e b .panel)
 unfolding frameStep if_then_else_
-frameStep-count e b = by-bool (panelSound document01 e) (λ h. rw h (execute-count b e (decide document01 e b))) (λ h. rw h)
+frameStep-alike e b =
+    by-bool (panelSound e)
+    (λ h. rw h (execute-alike b e (decide e b)))
+    (λ h. rw h (record { outputs = refl; stations = refl; parameters = refl }))
 
-startStep-count : (e : Panel) → length (startStep document01 e .panel .outputs) ≡ length (e .outputs)
-unfolding startStep freshPanel if_then_else_
-startStep-count e =
-    by-bool (countsSound document01 (length (e .outputs)) (length (e .stations)))
-    (λ h. rw h (length-replicate _ _))
-    (λ h. rw h)
+-- A PANEL WITHIN THE TABLES p, of the first n outputs and the first k stations
+module _ (n k : ℕ) (p : Panel) (h : n ≤ length (p .outputs)) (i : k ≤ length (p .stations)) where
+  lent-outputs : length (lent n k p .outputs) ≡ n
+  lent-outputs = length-take-le n (p .outputs) h
 
--- the panel of the first n outputs, after an operation on it
-module _ (n : ℕ) (p : Panel) (h : n ≤ length (p .outputs)) where
-  first-count : length (first n p .outputs) ≡ n
-  first-count = length-take-le n (p .outputs) h
+  lent-stations : length (lent n k p .stations) ≡ k
+  lent-stations = length-take-le k (p .stations) i
 
-  module _ (q : Panel) (k : length (q .outputs) ≡ length (first n p .outputs)) where
-    first-joined : first n (rejoined n p q) ≡ q
-    first-joined = ap (λ (l : List Output). panelOf l (q .stations) (q .kept)) (take-at (q .outputs) (drop n (p .outputs)) n (k ∙ first-count))
+  -- after an operation that leaves q
+  module _ (q : Panel) (a : length (q .outputs) ≡ n) (b : length (q .stations) ≡ k) where
+    lent-returned : lent n k (returned n k p q) ≡ q
+    lent-returned =
+        ap₂ (λ (o : List Output) (s : List Station). panelOf o s (q .kept)) (take-at (q .outputs) (drop n (p .outputs)) n a) (take-at (q .stations) (drop k (p .stations)) k b)
 
-    joined-count : n ≤ length (rejoined n p q .outputs)
-    joined-count = omega (arith, length-append (q .outputs) (drop n (p .outputs)), k, first-count)
+    returned-outputs : n ≤ length (returned n k p q .outputs)
+    returned-outputs = omega (arith, length-append (q .outputs) (drop n (p .outputs)), a)
 
--- ONE LINE: x takes the tables p to q, and the reader to the start of the next line, after n outputs are
--- named
-record Took (n : ℕ) (p : Panel) (w : Reader) (x : Bytes) (q : Panel) : Type 0 where
+    returned-stations : k ≤ length (returned n k p q .stations)
+    returned-stations = omega (arith, length-append (q .stations) (drop k (p .stations)), b)
+
+-- THE PANEL IN USE: the tables have as many records as the kept set says
+record Holds (p : Panel) : Type 0 where
+  outputs : p .kept .parameters .outputs ≤ length (p .outputs)
+  stations : p .kept .parameters .stations ≤ length (p .stations)
+
+-- the tables p come to q, and the panel in use to e
+record Becomes (q e : Panel) : Type 0 where
+  used : inUse q ≡ e
+  holds : Holds q
+
+-- where q has as many records as its set says
+becomes : (n k : ℕ) (p q : Panel) → n ≤ length (p .outputs) → k ≤ length (p .stations) →
+    length (q .outputs) ≡ n → length (q .stations) ≡ k → q .kept .parameters .outputs ≡ n → q .kept .parameters .stations ≡ k →
+    Becomes (returned n k p q) q
+becomes n k p q h i a b c d =
+    record {
+      used = ap₂ (λ (x y : ℕ). lent x y (returned n k p q)) c d ∙ lent-returned n k p h i q a b;
+      holds = record { outputs = rw c (returned-outputs n k p h i q a b); stations = rw d (returned-stations n k p h i q a b) };
+    }
+
+sent-becomes : (b : Bytes) (p : Panel) → Holds p → Becomes (sent b p .panel) (frameStep (inUse p) b .panel)
+unfolding lending.sent
+sent-becomes b p h =
+    let n = p .kept .parameters .outputs in
+    let k = p .kept .parameters .stations in
+    let s = frameStep-alike (inUse p) b in
+    becomes n k p (frameStep (inUse p) b .panel) (h .outputs) (h .stations)
+    (s .outputs ∙ lent-outputs n k p (h .outputs) (h .stations))
+    (s .stations ∙ lent-stations n k p (h .outputs) (h .stations))
+    (ap (λ (z : Parameters). z .outputs) (s .parameters))
+    (ap (λ (z : Parameters). z .stations) (s .parameters))
+
+-- THE START with a set that may be started, where the tables have so many records
+module _ (s : Parameters) (p : Panel) (z : startable s ≡ true) (h : s .outputs ≤ length (p .outputs)) (i : s .stations ≤ length (p .stations)) where
+  abbrev begins : Panel
+  begins = lent (s .outputs) (s .stations) p
+
+  starts : startStep s begins .answer ≡ Done
+  unfolding startStep countsSound if_then_else_
+  starts =
+      rw (
+        z,
+        eqb-hit (lent-outputs (s .outputs) (s .stations) p h i),
+        eqb-hit (lent-stations (s .outputs) (s .stations) p h i),
+      )
+
+  begun-becomes : Becomes (begun s p) (startStep s begins .panel)
+  unfolding lending.begun freshPanel
+  begun-becomes =
+      rw (startStep-fresh s begins starts .1)
+      (becomes (s .outputs) (s .stations) p (freshPanel s) h i (length-replicate _ _) (length-replicate _ _) refl refl)
+
+-- ONE LINE: x takes the tables p to q, and the reader to the start of the next line; n: whether the outputs
+-- are named then
+record Took (n : Bool) (p : Panel) (w : Reader) (x : Bytes) (q : Panel) : Type 0 where
   whole : Unbroken x
   good : taken p (fed w x) .good ≡ true
   panel : taken p (fed w x) .panel ≡ q
   next : Start n (taken p (fed w x) .reader)
 
-silent-took : {n : ℕ} {w : Reader} {x : Bytes} (p : Panel) → Start n w → Silent x → Took n p w x p
+silent-took : {n : Bool} {w : Reader} {x : Bytes} (p : Panel) → Start n w → Silent x → Took n p w x p
 unfolding taken takenBy
 silent-took p t s =
     let r = silent-read t s in
     record { whole = r .unbroken; good = rw (r .line); panel = rw (r .line); next = rw (r .line) (start-next r) }
 
-gives-took : {n : ℕ} {w : Reader} {x b : Bytes} (p : Panel) → 0 < n → Start n w → Gives b x → Took n p w x (rejoined n p (frameStep document01 (first n p) b .panel))
-unfolding taken takenBy sent
-gives-took p h t g =
-    let r = gives-read h t g in
+gives-took : {w : Reader} {x b : Bytes} (p : Panel) → Start true w → Gives b x → Took true p w x (sent b p .panel)
+unfolding taken takenBy
+gives-took p t g =
+    let r = gives-read t g in
     record { whole = r .reads .unbroken; good = rw (r .reads .line); panel = spelled p r .0; next = rw (r .reads .line) (start-next (r .reads)) }
 
-heading-took : {n : ℕ} {w : Reader} {x : Bytes} (p : Panel) → Start 0 w → Heading n x → Took n p w x (rejoined n p (startStep document01 (first n p) .panel))
-unfolding taken takenBy begun
+heading-took : {s : Parameters} {w : Reader} {x : Bytes} (p : Panel) → Start false w → Heading s x → Took true p w x (begun s p)
+unfolding taken takenBy
 heading-took p t g =
     let r = heading-read t g in
     record { whole = r .unbroken; good = rw (r .line); panel = rw (r .line); next = rw (r .line) (start-named (start-next r)) }
 
 -- a line, its newline, and the text t after it
-took-on : {n : ℕ} {p q : Panel} {w : Reader} {x : Bytes} (t : Bytes) → Took n p w x q → through p w (x ++ (10 ∷ t)) ≡ through q (taken p (fed w x) .reader) t
+took-on : {n : Bool} {p q : Panel} {w : Reader} {x : Bytes} (t : Bytes) → Took n p w x q → through p w (x ++ (10 ∷ t)) ≡ through q (taken p (fed w x) .reader) t
 took-on {p = p} {w = w} {x = x} t k =
     through-line p w t (k .whole) (k .good) ∙ ap (λ (u : Panel). through u (taken p (fed w x) .reader) t) (k .panel)
 
--- the same, where the line is an operation on the panel of the first n outputs that leaves q
-joined-on : {n : ℕ} {p : Panel} {w : Reader} {x : Bytes} (q : Panel) (l : List Bytes) (t : Bytes) (k : Took n p w x (rejoined n p q)) →
-    n ≤ length (p .outputs) → length (q .outputs) ≡ length (first n p .outputs) →
-    (n ≤ length (rejoined n p q .outputs) → first n (closed (through (rejoined n p q) (taken p (fed w x) .reader) t)) ≡ after document01 (first n (rejoined n p q)) l) →
-    first n (closed (through p w (x ++ (10 ∷ t)))) ≡ after document01 q l
-joined-on {n} {p} q l t k h c i =
-    rw (took-on t k) (i (joined-count n p h q c) ∙ ap (λ (u : Panel). after document01 u l) (first-joined n p h q c))
-
 -- THE STRINGS' LINES
-listed : {n : ℕ} {w : Reader} {l : List Bytes} {t : Bytes} (p : Panel) → Lines l t → 0 < n → Start n w → n ≤ length (p .outputs) →
-    first n (closed (through p w t)) ≡ after document01 (first n p) l
+listed : {w : Reader} {l : List Bytes} {t : Bytes} (p : Panel) → Lines l t → Start true w → Holds p → inUse (closed (through p w t)) ≡ after (inUse p) l
 unfolding after
-listed {n} {w} p none i s h = ap (first n) (unfold closed through if_then_else_ in (taken-blank p w (s .blank)))
-listed {n} p (string {b} {x} {t} {l} g m) i s h =
-    let q = frameStep document01 (first n p) b .panel in
-    let k = gives-took p i s g in
-    joined-on q l t k h (frameStep-count (first n p) b) (λ j. listed (rejoined n p q) m i (k .next) j)
-listed p (remark {x} {t} g m) i s h =
+listed {w} p none s h = ap inUse (unfold closed through if_then_else_ in (taken-blank p w (s .blank)))
+listed p (string {b} {x} {t} {l} g m) s h =
+    let k = gives-took p s g in
+    let c = sent-becomes b p h in
+    rw (took-on t k) (listed (sent b p .panel) m (k .next) (c .holds) ∙ ap (λ (u : Panel). after u l) (c .used))
+listed p (remark {x} {t} g m) s h =
     let k = silent-took p s g in
-    rw (took-on t k) (listed p m i (k .next) h)
+    rw (took-on t k) (listed p m (k .next) h)
 
--- THE WHOLE TEXT
-listed-whole : {n : ℕ} {w : Reader} {l : List Bytes} {t : Bytes} (p : Panel) → Listing n l t → Start 0 w → n ≤ length (p .outputs) →
-    first n (closed (through p w t)) ≡ after document01 (startStep document01 (first n p) .panel) l
-listed-whole {n} {l = l} p (named {x} {t} g m) s h =
-    let q = startStep document01 (first n p) .panel in
-    let k = heading-took p s g in
-    joined-on q l t k h (startStep-count (first n p)) (listed (rejoined n p q) m (heading-count g .0) (k .next))
-listed-whole p (preface {x} {t} g m) s h =
-    let k = silent-took p s g in
-    rw (took-on t k) (listed-whole p m (k .next) h)
-listed-whole {w = w} p (unended {t} m) s h = rw (← closed-newline p w t) (listed-whole p m s h)
-
--- it names 1 to 64 outputs, and its strings are strings of bytes
-record ListingInRange (n : ℕ) (l : List Bytes) : Type 0 where
-  least : 1 ≤ n
-  most : n ≤ 64
-  strings : Strings l
-
+-- THE WHOLE TEXT names a set that may be started, and its strings are strings of bytes
 lines-strings : {l : List Bytes} {t : Bytes} → Lines l t → Strings l
 lines-strings none = tt
 lines-strings (string g m) = (gives-octets g, lines-strings m)
 lines-strings (remark g m) = lines-strings m
 
-listing-in-range : {n : ℕ} {l : List Bytes} {t : Bytes} → Listing n l t → ListingInRange n l
-listing-in-range (named g m) = record { least = heading-count g .0; most = heading-count g .1; strings = lines-strings m }
+record ListingInRange (s : Parameters) (l : List Bytes) : Type 0 where
+  starts : startable s ≡ true
+  strings : Strings l
+
+listing-in-range : {s : Parameters} {l : List Bytes} {t : Bytes} → Listing s l t → ListingInRange s l
+listing-in-range (named g m) = record { starts = heading-startable g; strings = lines-strings m }
 listing-in-range (preface g m) = listing-in-range m
 listing-in-range (unended m) = listing-in-range m
 
--- so the panel that it names starts
-starts : (n : ℕ) (p : Panel) → 1 ≤ n → n ≤ 64 → n ≤ length (p .outputs) → length (p .stations) ≡ 8 → startStep document01 (first n p) .answer ≡ Done
-unfolding startStep countsSound if_then_else_
-starts n p i k h e = rw (first-count n p h, leb-yes {a = 1} {b = n} i, leb-yes {a = n} {b = 64} k, e)
+listed-whole : {s : Parameters} {w : Reader} {l : List Bytes} {t : Bytes} (p : Panel) → Listing s l t → Start false w →
+    s .outputs ≤ length (p .outputs) → s .stations ≤ length (p .stations) →
+    inUse (closed (through p w t)) ≡ after (startStep s (lent (s .outputs) (s .stations) p) .panel) l
+listed-whole {s} {l = l} p (named {x} {t} g m) r h i =
+    let k = heading-took p r g in
+    let c = begun-becomes s p (heading-startable g) h i in
+    rw (took-on t k) (listed (begun s p) m (k .next) (c .holds) ∙ ap (λ (u : Panel). after u l) (c .used))
+listed-whole p (preface {x} {t} g m) r h i =
+    let k = silent-took p r g in
+    rw (took-on t k) (listed-whole p m (k .next) h i)
+listed-whole {w = w} p (unended {t} m) r h i = rw (← closed-newline p w t) (listed-whole p m r h i)
 
-pub found-by-text : (n : ℕ) (p : Panel) (l : List Bytes) (t : Bytes) → Listing n l t → n ≤ length (p .outputs) → length (p .stations) ≡ 8 →
-    foundIn (first n (finished p t)) ≡ foundPlain (plainAfter document01 (plainStart document01 n) l .panel)
+pub found-by-text : (s : Parameters) (p : Panel) (l : List Bytes) (t : Bytes) → Listing s l t →
+    s .outputs ≤ length (p .outputs) → s .stations ≤ length (p .stations) →
+    foundIn (inUse (finished p t)) ≡ foundPlain (plainAfter s (plainStart s) l .panel)
 unfolding finished
-found-by-text n p l t m h e =
+found-by-text s p l t m h i =
     let c = listing-in-range m in
-    ap foundIn (listed-whole p m start-fresh h)
-    ∙ finds document01 (first n p) l l (once [] l) (demand-3 document01 document01-startable (first n p) l l (once [] l) (c .strings) (starts n p (c .least) (c .most) h e))
-    ∙ ap (λ (i : ℕ). foundPlain (plainAfter document01 (plainStart document01 i) l .panel)) (first-count n p h)
+    let e = lent (s .outputs) (s .stations) p in
+    ap foundIn (listed-whole p m start-fresh h i)
+    ∙ finds s e l l (once [] l) (demand-3 s e l l (once [] l) (c .strings) (starts s p (c .starts) h i))
 
 -- and so it is after the session, by its contract, where the text that came is such a one
-pub found-by-session : (n : ℕ) (p q : Panel) (l : List Bytes) (r : Replayed p q) → Listing n l (r .came) → n ≤ length (p .outputs) → length (p .stations) ≡ 8 →
-    foundIn (first n q) ≡ foundPlain (plainAfter document01 (plainStart document01 n) l .panel)
-found-by-session n p q l r m h e = rw (r .panel) (found-by-text n p l (r .came) m h e)
+pub found-by-session : (s : Parameters) (p q : Panel) (l : List Bytes) (r : Replayed p q) → Listing s l (r .came) →
+    s .outputs ≤ length (p .outputs) → s .stations ≤ length (p .stations) →
+    foundIn (inUse q) ≡ foundPlain (plainAfter s (plainStart s) l .panel)
+found-by-session s p q l r m h i = rw (r .panel) (found-by-text s p l (r .came) m h i)

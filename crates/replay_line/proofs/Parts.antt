@@ -10,8 +10,8 @@ use Rattle.lighting_levels.proofs.Split.{by-bool}
 use Rattle.text_reading.specs.declared.Reader.{Reader}
 use Rattle.text_reading.specs.declared.Held.the-variants.{Blank}
 use Rattle.text_reading.specs.declared.Line.{Line}
-use Rattle.text_reading.specs.declared.Line.the-variants.{Nothing, Outputs, Frame, Wrong}
-use Rattle.text_reading.specs.Reading.{feed, lineOf, nextLine, withOutputs, freshReader}
+use Rattle.text_reading.specs.declared.Line.the-variants.{Nothing, Started, Frame, Wrong}
+use Rattle.text_reading.specs.Reading.{feed, lineOf, nextLine, withNamed, freshReader}
 use Rattle.replay_line.specs.Taking.{takenBy, taken, through, Went, closed, finished, Replayed}
 
 through-append : (p : Panel) (w : Reader) (x y : Bytes) → through p w x .good ≡ true → through p w (x ++ y) ≡ through (through p w x .panel) (through p w x .reader) y
@@ -60,9 +60,9 @@ unfolding taken takenBy lineOf
 taken-blank p w h = rw h
 
 at-start : (p : Panel) (w : Reader) (k : Line) → takenBy p w k .reader .held ≡ Blank
-unfolding takenBy nextLine withOutputs
+unfolding takenBy nextLine withNamed
 at-start p w Nothing = refl
-at-start p w (Outputs n) = refl
+at-start p w (Started s) = refl
 at-start p w Frame = refl
 at-start p w (Wrong f) = refl
 

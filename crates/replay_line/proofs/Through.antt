@@ -14,7 +14,8 @@ use Rattle.lighting_panel.specs.Paper.Panel.{Panel}
 use Rattle.lighting_levels.proofs.Split.{by-bool, eqb-miss}
 use Rattle.text_reading.specs.declared.Reader.{Reader}
 use Rattle.text_reading.specs.Reading.{feed, fed, fedLine, lineLength}
-use Rattle.text_reading.specs.Spelling.{Unbroken, nothing, char}
+use Rattle.text_heading.specs.Heading.{run}
+use Rattle.text_heading.specs.Spelling.{Unbroken, nothing, char}
 use Rattle.replay_line.specs.Taking.{Taken, taken, Through, through}
 
 -- after a line's end
@@ -72,6 +73,6 @@ text-over p w s i z h v = rw (← (rw (drop-of-length-le s h) at v)) (refl, (ref
 
 -- a line's text without a newline, its newline, and what comes after, where the line is a good one
 pub through-line : (p : Panel) (w : Reader) {x : Bytes} (t : Bytes) → Unbroken x → taken p (fed w x) .good ≡ true → through p w (x ++ (10 ∷ t)) ≡ through (taken p (fed w x) .panel) (taken p (fed w x) .reader) t
-unfolding through fed if_then_else_
+unfolding through run if_then_else_
 through-line p w t nothing g = rw g
 through-line p w t (char {c} {x} h u) g = rw (eqb-miss {a = c} {b = 10} h) (through-line p (feed w c) t u g)

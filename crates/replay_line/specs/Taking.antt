@@ -1,42 +1,34 @@
 -- A line of a list, taken: what it does to the tables, and the text that it writes. The tables stand ready
--- for 64 outputs; the panel is the first so many of them, and the rest stand by. Definitions only.
+-- for 64 outputs and 32 stations; the panel is the first so many of them, and the rest stand by. Definitions
+-- only.
 use mathlib.Core.Bool.{Bool, true, false}
 use lib.Dec.{eqb}
-use mathlib.Core.List.{[], _∷_, _++_}
+use mathlib.Core.List.{[], _∷_}
 use mathlib.Core.Path.{_≡_}
-use Prim.Native.Nat.{ℕ}
-use lib.ListN.{take, drop}
 use Rattle.lighting_levels.specs.Paper.Choice.{if_then_else_}
-use Rattle.lighting_outputs.specs.Paper.Parameters.{document01}
+use Rattle.lighting_outputs.specs.declared.Parameters.{Parameters}
 use Rattle.lighting_frames.specs.Paper.Frames.{Bytes}
-use Rattle.lighting_panel.specs.Paper.Panel.{Panel, Step, panelOf, startStep}
-use Rattle.lighting_panel.specs.Engine.Executing.{frameStep}
+use Rattle.lighting_panel.specs.Paper.Panel.{Panel, Step}
+use Rattle.lent_parts.specs.Lending as lending
+use Rattle.lent_parts.specs.Lending.{lent}
 use Rattle.text_reading.specs.declared.Line.{Line}
-use Rattle.text_reading.specs.declared.Line.the-variants.{Nothing, Outputs, Frame, Wrong}
+use Rattle.text_reading.specs.declared.Line.the-variants.{Nothing, Started, Frame, Wrong}
 use Rattle.text_reading.specs.declared.Reader.{Reader}
-use Rattle.text_reading.specs.Reading.{lineOf, content, nextLine, withOutputs, feed, freshReader}
+use Rattle.text_reading.specs.Reading.{lineOf, content, nextLine, withNamed, feed, freshReader}
 use Rattle.text_printing.specs.Writing.{answerLine}
 use Rattle.text_faults.specs.Faults.{faultLine}
 
--- the panel of the first n outputs
-abbrev pub first : ℕ → Panel → Panel
-first n p = panelOf (take n (p .outputs)) (p .stations) (p .kept)
+-- the panel that is in use: as many outputs and as many stations as the kept set says
+abbrev pub inUse : Panel → Panel
+inUse e = lent (e .kept .parameters .outputs) (e .kept .parameters .stations) e
 
--- that panel q after an operation, and the outputs that stand by
-abbrev pub rejoined : ℕ → Panel → Panel → Panel
-rejoined n p q = panelOf (q .outputs ++ drop n (p .outputs)) (q .stations) (q .kept)
+-- the line that names the set p starts the panel of so many outputs and stations
+abbrev pub begun : Parameters → Panel → Panel
+begun p e = lending.begun (p .outputs) (p .stations) p e .panel
 
--- `outputs N`: the panel of the first N outputs starts
-unfoldable pub begun : ℕ → Panel → Panel
-begun n p = rejoined n p (startStep document01 (first n p) .panel)
-
--- a string of bytes goes to the panel of the first n outputs
-unfoldable pub sent : ℕ → Bytes → Panel → Step
-sent n b p =
-    record {
-      panel = rejoined n p (frameStep document01 (first n p) b .panel);
-      answer = frameStep document01 (first n p) b .answer;
-    }
+-- a string of bytes goes to the panel that is in use
+abbrev pub sent : Bytes → Panel → Step
+sent b e = lending.sent (e .kept .parameters .outputs) (e .kept .parameters .stations) b e
 
 -- what a line leaves: the tables, the text that it writes, the reader at the next line, and whether it was a
 -- good one
@@ -48,11 +40,11 @@ pub record Taken : Type 0 where
 
 unfoldable pub takenBy : Panel → Reader → Line → Taken
 takenBy p w Nothing = record { panel = p; text = []; reader = nextLine w; good = true }
-takenBy p w (Outputs n) = record { panel = begun n p; text = []; reader = withOutputs (nextLine w) n; good = true }
+takenBy p w (Started s) = record { panel = begun s p; text = []; reader = withNamed (nextLine w); good = true }
 takenBy p w Frame =
     record {
-      panel = sent (w .outputs) (content w) p .panel;
-      text = answerLine (sent (w .outputs) (content w) p .answer);
+      panel = sent (content w) p .panel;
+      text = answerLine (sent (content w) p .answer);
       reader = nextLine w;
       good = true;
     }

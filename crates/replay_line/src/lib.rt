@@ -1,18 +1,15 @@
-// A line of a list, at its end: `outputs N` starts the panel of the first N outputs, bytes go to that panel,
-// and the answer or the fault is put on the page. Nothing is read or written here but what is lent, and the
-// contracts give all of it.
+// A line of a list, at its end: the line that names the set starts the panel of so many outputs and stations,
+// bytes go to that panel, and the answer or the fault is put on the page. Nothing is read or written here but
+// what is lent, and the contracts give all of it.
 ghost use mathlib.Core.Path.{_≡_};
-ghost use lib.ListN.{take};
 ghost use Rattle.lighting_panel.specs.Paper.Panel.{panelOf};
 ghost use Rattle.text_reading.specs.Reading.{content};
 ghost use Rattle.text_printing.specs.Page.{Wrote};
 ghost use Rattle.text_printing.specs.Writing.{answerLine};
-ghost use Rattle.replay_line.specs.Taking.{begun, sent, taken};
+ghost use Rattle.replay_line.specs.Taking.{sent, taken};
 use lighting_frames::Station;
-use lighting_outputs::Answer;
 use lighting_outputs::Output;
 use lighting_panel::PanelRecord;
-use text_reading::BYTES_KEPT;
 use text_reading::Line;
 use text_reading::Reader;
 
@@ -23,32 +20,7 @@ pub struct Ended {
     pub good: bool,
 }
 
-// `outputs N`: the panel of the first N outputs starts.
-fn start(outputs: &mut [Output], stations: &mut [Station], kept: &mut PanelRecord, n: u8)
-    ensures { λ _. ⌜ panelOf (now (outputs .exit)) (now (stations .exit)) (now (kept .exit)) ≡ begun n (panelOf (now (outputs .entry)) (now (stations .entry)) (now (kept .entry))) ⌝ }
-{
-    let named = number_ranges::least(number_ranges::index(n), outputs.len());
-    panel::start(&mut outputs[0..named], stations, kept);
-}
-
-// The bytes go to that panel: the first `count` of those that the reader keeps.
-fn frame(
-    outputs: &mut [Output],
-    stations: &mut [Station],
-    kept: &mut PanelRecord,
-    bytes: &[u8; BYTES_KEPT],
-    count: usize,
-    n: u8,
-) -> Answer
-    ensures { λ a. ⌜ a ≡ sent n (take count (now (bytes .entry))) (panelOf (now (outputs .entry)) (now (stations .entry)) (now (kept .entry))) .answer ⌝ }
-    ensures { λ _. ⌜ panelOf (now (outputs .exit)) (now (stations .exit)) (now (kept .exit)) ≡ sent n (take count (now (bytes .entry))) (panelOf (now (outputs .entry)) (now (stations .entry)) (now (kept .entry))) .panel ⌝ }
-{
-    let named = number_ranges::least(number_ranges::index(n), outputs.len());
-    let all = &bytes[..];
-    let held = number_ranges::least(count, all.len());
-    panel::frame(&mut outputs[0..named], stations, kept, &all[0..held])
-}
-
+// The bytes go to the panel of the kept set: the first ones of those that the reader keeps.
 fn answer(
     outputs: &mut [Output],
     stations: &mut [Station],
@@ -57,11 +29,15 @@ fn answer(
     mark: usize,
     r: Reader,
 ) -> usize
-    ensures { λ m. ⌜ Wrote (now (page .entry)) mark (answerLine (sent (r .outputs) (content r) (panelOf (now (outputs .entry)) (now (stations .entry)) (now (kept .entry))) .answer)) (now (page .exit)) m ⌝ }
-    ensures { λ _. ⌜ panelOf (now (outputs .exit)) (now (stations .exit)) (now (kept .exit)) ≡ sent (r .outputs) (content r) (panelOf (now (outputs .entry)) (now (stations .entry)) (now (kept .entry))) .panel ⌝ }
+    ensures { λ m. ⌜ Wrote (now (page .entry)) mark (answerLine (sent (content r) (panelOf (now (outputs .entry)) (now (stations .entry)) (now (kept .entry))) .answer)) (now (page .exit)) m ⌝ }
+    ensures { λ _. ⌜ panelOf (now (outputs .exit)) (now (stations .exit)) (now (kept .exit)) ≡ sent (content r) (panelOf (now (outputs .entry)) (now (stations .entry)) (now (kept .entry))) .panel ⌝ }
 {
+    let record = *kept;
+    let set = panel_record::parameters_of(record);
+    let n = number_ranges::wide_index(set.outputs);
+    let k = number_ranges::wide_index(set.stations);
     let bytes = r.bytes;
-    let a = frame(outputs, stations, kept, &bytes, r.count, r.outputs);
+    let a = lent_parts::send(outputs, stations, kept, n, k, &bytes, r.count);
     text_printing::put_answer(page, mark, a)
 }
 
@@ -88,9 +64,11 @@ pub fn take_line(
             mark: mark,
             good: true,
         },
-        Line::Outputs(n) => {
-            start(outputs, stations, kept, n);
-            let named = text_reading::with_outputs(next, n);
+        Line::Started(set) => {
+            let n = number_ranges::wide_index(set.outputs);
+            let k = number_ranges::wide_index(set.stations);
+            lent_parts::start(outputs, stations, kept, n, k, set);
+            let named = text_reading::with_named(next);
             Ended {
                 reader: named,
                 mark: mark,

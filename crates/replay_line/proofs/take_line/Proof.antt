@@ -5,7 +5,7 @@ use mathlib.Core.Bool.{true, false}
 use Rattle.lighting_panel.specs.Paper.Panel.{panelOf}
 use Rattle.text_printing.proofs.Pages.{wrote-none}
 use Rattle.replay_line.specs.Taking.{takenBy}
-use Rattle.replay_line.proofs.Ends.{ended}
+use Rattle.replay_line.proofs.Ends.{begun-by, ended}
 use borrow.Author.Needs.{needs}
 use Rattle.replay_line.proofs.take_line.Statement.{statement}
 use Rattle.replay_line.proofs.take_line.Proof.Tie as tie
@@ -24,11 +24,17 @@ enum-told c = search needs
 enum-known-line : tie.Need-enum-known-line
 enum-known-line c = search needs
 
+wide-index-requires : tie.Need-wide-index-requires
+wide-index-requires c κs = search needs
+
+wide-index-requires-2 : tie.Need-wide-index-requires-2
+wide-index-requires-2 c κs = search needs
+
 start-requires : tie.Need-start-requires
 start-requires c κs = search needs
 
-with-outputs-requires : tie.Need-with-outputs-requires
-with-outputs-requires c κs = search needs
+with-named-requires : tie.Need-with-named-requires
+with-named-requires c κs = search needs
 
 enum-told-2 : tie.Need-enum-told-2
 enum-told-2 c = search needs
@@ -58,10 +64,10 @@ same-length-2 c = search needs
 returns-2 : tie.Need-returns-2
 unfolding takenBy
 returns-2 c =
-    let a = c .before .before .before .before .before .before .before .before .before .before .before .before .before .args in
+    let a = c .before .before .before .before .before .before .before .before .before .before .before .before .before .before .before .args in
     let p = panelOf (a .outputs .now) (a .stations .now) (a .kept .now) in
     let s = c .before .before .before .start in
-    ended p (a .r) _ (c .before .before .before .before .before .before .before .before .before .before .before .line-of .result) (a .page .now) (a .mark) (c .with-outputs .result) true (a .page .now) (a .mark) (panelOf (s .last .0) (s .last .1 .0) (s .last .1 .1 .0)) (c .before .before .before .before .before .before .before .before .before .before .before .line-of .ensures) (c .before .before .before .before .before .before .before .before .line .given .1) (rw (← c .before .before .before .before .before .before .before .before .before .before .next-line .ensures) (c .with-outputs .ensures)) refl (wrote-none (a .page .now) (a .mark)) (s .ensures)
+    ended p (a .r) _ (c .before .before .before .before .before .before .before .before .before .before .before .before .before .line-of .result) (a .page .now) (a .mark) (c .with-named .result) true (a .page .now) (a .mark) (panelOf (s .last .0) (s .last .1 .0) (s .last .1 .1 .0)) (c .before .before .before .before .before .before .before .before .before .before .before .before .before .line-of .ensures) (c .before .before .before .before .before .before .before .before .before .before .line .given .1) (rw (← c .before .before .before .before .before .before .before .before .before .before .before .before .next-line .ensures) (c .with-named .ensures)) refl (wrote-none (a .page .now) (a .mark)) (begun-by _ p (c .before .before .before .before .before .before .before .before .wide-index .ensures) (c .before .before .before .before .before .before .before .wide-index2 .ensures) (s .ensures .1))
 
 same-length-3 : tie.Need-same-length-3
 same-length-3 c = search needs
@@ -99,8 +105,10 @@ take-line-spec =
     next-line-requires
     enum-told
     enum-known-line
+    wide-index-requires
+    wide-index-requires-2
     start-requires
-    with-outputs-requires
+    with-named-requires
     enum-told-2
     answer-requires
     enum-known-line-2
