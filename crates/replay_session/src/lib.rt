@@ -135,6 +135,7 @@ fn take_all(
 // A list that named no outputs has found nothing.
 fn put_end(
     outputs: &[Output],
+    count: usize,
     time: u64,
     page: &mut [u8],
     mark: usize,
@@ -142,11 +143,10 @@ fn put_end(
     line: u64,
     r: Reader,
 ) -> usize {
-    let named = number_ranges::index(r.outputs);
-    if named == 0 {
-        text_faults::put_ended(page, mark, line)
+    if r.named {
+        text_found::put_found(outputs, count, time, page, mark, report)
     } else {
-        text_found::put_found(outputs, named, time, page, mark, report)
+        text_faults::put_ended(page, mark, line)
     }
 }
 
@@ -166,8 +166,10 @@ fn end_list(
     if t.good {
         let last = t.reader;
         let record = *kept;
+        let set = panel_record::parameters_of(record);
         put_end(
             outputs,
+            number_ranges::wide_index(set.outputs),
             panel_record::time_of(record),
             page,
             t.mark,
@@ -200,14 +202,15 @@ fn replay(
     }
 }
 
-// Over tables of its own, which the panel is lent: 64 outputs, of which the list names how many there are,
-// and eight stations.
+// Over tables of its own, which the panel is lent: 64 outputs and 32 stations, of which the list names how
+// many there are.
 pub fn run(report: bool) {
-    let output = output_fresh::fresh_output(panel_record::document_01());
+    let parameters = panel_record::document_01(64);
+    let output = output_fresh::fresh_output(parameters);
     let mut outputs = [output; 64];
     let record = output_fresh::fresh_station();
-    let mut stations = [record; 8];
-    let mut kept = panel_record::fresh_record();
+    let mut stations = [record; 32];
+    let mut kept = panel_record::fresh_record(parameters);
     let mut page = io::large_buffer();
     let mut chunk = io::large_buffer();
     replay(

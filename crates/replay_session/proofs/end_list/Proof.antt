@@ -9,6 +9,12 @@ use Rattle.replay_session.proofs.end_list.Proof.Lts as lts
 take-line-requires : tie.Need-take-line-requires
 take-line-requires c κs = search needs
 
+parameters-of-requires : tie.Need-parameters-of-requires
+parameters-of-requires c κs = search needs
+
+wide-index-requires : tie.Need-wide-index-requires
+wide-index-requires c κs = search needs
+
 time-of-requires : tie.Need-time-of-requires
 time-of-requires c κs = search needs
 
@@ -44,6 +50,8 @@ end-list-spec =
     tie.close
     (tie.spec
     take-line-requires
+    parameters-of-requires
+    wide-index-requires
     time-of-requires
     put-end-requires
     same-length

@@ -6,14 +6,11 @@ use Rattle.replay_session.proofs.put_end.Proof.Tie as tie
 use Rattle.replay_session.proofs.Lent.put_end.Reads as reads
 use Rattle.replay_session.proofs.put_end.Proof.Lts as lts
 
-index-requires : tie.Need-index-requires
-index-requires c κs = search needs
+put-found-requires : tie.Need-put-found-requires
+put-found-requires c κs = search needs
 
 put-ended-requires : tie.Need-put-ended-requires
 put-ended-requires c κs = search needs
-
-put-found-requires : tie.Need-put-found-requires
-put-found-requires c κs = search needs
 
 same-length : tie.Need-same-length
 same-length c = search needs
@@ -31,9 +28,8 @@ pub put-end-spec : {M : Type 1} → statement M
 put-end-spec =
     tie.close
     (tie.spec
-    index-requires
-    put-ended-requires
     put-found-requires
+    put-ended-requires
     same-length
     returns
     same-length-2

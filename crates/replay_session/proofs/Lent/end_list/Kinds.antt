@@ -1,7 +1,7 @@
 -- Made by tools/twin.py.
+use Rattle.lighting_frames.proofs.Lent.OfStation as OfStation
 use Rattle.lighting_outputs.proofs.Lent.OfOutput as OfOutput
 use Rattle.lighting_panel.proofs.Lent.OfPanelRecord as OfPanelRecord
-use Rattle.lighting_frames.proofs.Lent.OfStation as OfStation
 use Rattle.text_reading.proofs.Reader
 use Rattle.text_reading.proofs.Reader.Laws
 use borrow.Fn.Kinds
