@@ -1,8 +1,9 @@
-// A set of parameters as the numbers of a row: stations, outputs, the longest fade time, the longest duration.
-use lighting_outputs::Parameters;
+// A set of parameters as the numbers of a row: stations, outputs, the longest fade time, the longest
+// duration.
 use super::NUMBERS;
 use super::numbers::narrow32;
 use super::numbers::wide32;
+use lighting_outputs::Parameters;
 
 pub const PARAMETERS_NUMBERS: usize = 4;
 

@@ -253,8 +253,8 @@ stationsSaid =
     ∷ (true ∷ true ∷ true ∷ true ∷ true ∷ true ∷ true ∷ true ∷ true ∷ true ∷ true ∷ true ∷ false ∷ false ∷ [])
     ∷ []
 
--- THE COUNTS, 'now exactly that many records': of document 01's panel of two outputs; and that panel whole, with
--- one record of each table out of the rules
+-- THE COUNTS, 'now exactly that many records': of document 01's panel of two outputs; and that panel
+-- whole, with one record of each table out of the rules
 abbrev counts : ℕ → ℕ → Bool
 counts outputs stations = countsSound (document01 2) outputs stations
 
