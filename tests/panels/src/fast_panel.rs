@@ -8,26 +8,41 @@ macro_rules! face_of_fast {
         $(#[$comment])*
         pub struct $name {
             pub outputs: Vec<$source::Output>,
-            pub stations: [$source::Station; $source::STATIONS],
-            pub time: u64,
+            pub stations: Vec<$source::Station>,
+            pub kept: $source::PanelRecord,
         }
 
         impl $crate::Panel for $name {
-            fn start(outputs: usize) -> $name {
-                let mut panel = $name {
-                    outputs: vec![$source::Output::FRESH; outputs],
-                    stations: [$source::Station::FRESH; $source::STATIONS],
-                    time: 0,
+            /// Over tables of just as many records; of no more than a panel
+            /// that starts too large a set has use for.
+            fn start(parameters: $crate::Parameters) -> Result<$name, $crate::Answer> {
+                const MOST: u32 = 100;
+                let parameters = $source::Parameters {
+                    stations: parameters.stations,
+                    outputs: parameters.outputs,
+                    longest_fade: parameters.fade,
+                    longest_duration: parameters.duration,
                 };
-                let answer =
-                    $source::start(&mut panel.outputs, &mut panel.stations, &mut panel.time);
-                assert_eq!(answer, $source::Answer::Done, "1 to 64 outputs");
-                panel
+                let count = |number: u32| number.min(MOST) as usize;
+                let fresh = $source::Output::fresh(&parameters);
+                let mut panel = $name {
+                    outputs: vec![fresh; count(parameters.outputs)],
+                    stations: vec![$source::Station::FRESH; count(parameters.stations)],
+                    kept: $source::PanelRecord {
+                        time: 0,
+                        parameters,
+                    },
+                };
+                let (outputs, stations) = (&mut panel.outputs, &mut panel.stations);
+                match $source::start(outputs, stations, &mut panel.kept, parameters) {
+                    $source::Answer::Done => Ok(panel),
+                    answer => Err(answer.into()),
+                }
             }
 
             fn frame(&mut self, bytes: &[u8]) -> $crate::Answer {
                 let (outputs, stations) = (&mut self.outputs, &mut self.stations);
-                $source::frame::<$check>(outputs, stations, &mut self.time, bytes).into()
+                $source::frame::<$check>(outputs, stations, &mut self.kept, bytes).into()
             }
 
             fn found(&self) -> Vec<$crate::Found> {
@@ -39,7 +54,7 @@ macro_rules! face_of_fast {
 
         impl $name {
             pub fn found_of(&self, output: usize) -> $crate::Found {
-                let (output, time) = (&self.outputs[output], self.time);
+                let (output, time) = (&self.outputs[output], self.kept.time);
                 let read = |property| match output.read_property(time, property) {
                     Ok($source::Answer::Value(value)) => Some(value),
                     _ => None,
@@ -64,8 +79,8 @@ macro_rules! face_of_fast {
                 steps: &[u64],
             ) -> Vec<u64> {
                 use $source::output::{Movement, Pace};
-                let mut panel = <$name as $crate::Panel>::start(1);
-                panel.time = lent.gone.into();
+                let mut panel = <$name as $crate::Panel>::with_outputs(1);
+                panel.kept.time = lent.gone.into();
                 panel.outputs[0].store($crate::lent::OWNER, lent.to);
                 panel.outputs[0].judge();
                 panel.outputs[0].movement = Some(Movement {
@@ -80,7 +95,7 @@ macro_rules! face_of_fast {
                     },
                 });
                 let go = |step: &u64| {
-                    let mut clock = (panel.time + step).to_be_bytes()[1..].to_vec();
+                    let mut clock = (panel.kept.time + step).to_be_bytes()[1..].to_vec();
                     clock[0] = 0x01;
                     let answer = $crate::Panel::frame(&mut panel, &clock);
                     assert_eq!(answer, $crate::Answer::Done, "{lent:?}");
@@ -95,7 +110,7 @@ macro_rules! face_of_fast {
             pub fn active_of_lent(lent: &$crate::lent_warning::LentWarning) -> bool {
                 use $crate::lent_warning::{BLINK_SLOT, DUE, OWN_SLOT, STRONGER_SLOT};
                 use $source::output::{RunningDuration, Warning};
-                let mut panel = <$name as $crate::Panel>::start(1);
+                let mut panel = <$name as $crate::Panel>::with_outputs(1);
                 let output = &mut panel.outputs[0];
                 output.store(STRONGER_SLOT, lent.stronger);
                 output.store(BLINK_SLOT, 0);

@@ -15,4 +15,5 @@ pub use answer::Answer;
 pub use fast_panel::FastPanel;
 pub use found::Found;
 pub use panel::Panel;
+pub use plain::{Parameter, Parameters};
 pub use plain_panel::PlainPanel;
