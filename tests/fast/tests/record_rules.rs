@@ -1,45 +1,32 @@
-//! Refusal 1: each record rule broken once, with everything left as it was.
+//! Refusal 1: each record rule broken once, with everything left as it was. The
+//! counts and the rules at other sets are in panels/src/lent_set.rs.
 
 use fast::answer::Refusal;
 use fast::output::{Movement, Pace, RunningDuration, Warning};
-use fast::{frame, start, Answer, Output, PanelRecord, Parameters, Station};
+use fast::{frame, Answer, Output, PanelRecord, Parameters, Station};
 
 const TIME: u64 = 10_000;
 const FIFTY_PERCENT: u32 = 3_276_800;
 const FORTY_FIVE_PERCENT: u32 = 2_949_120;
 const CLOCK: [u8; 7] = [0x01, 0, 0, 0, 0, 0x4E, 0x20];
 const REFUSED: Answer = Answer::Refused(Refusal::Records);
-const DAY: u32 = 86_400_000;
-
-fn set(stations: u32, outputs: u32, longest_fade: u32, longest_duration: u32) -> Parameters {
-    Parameters {
-        stations,
-        outputs,
-        longest_fade,
-        longest_duration,
-    }
-}
-
-fn of_document_01(outputs: u32) -> Parameters {
-    set(8, outputs, DAY, DAY)
-}
 
 /// The answer to a clock of 20,000 ms after a change to a table of records at
 /// 10,000 ms that keep all rules.
 fn answer_after(change: impl Fn(&mut Output, &mut Station)) -> Answer {
-    answer_at(of_document_01(3), change)
-}
-
-/// The same in a panel that keeps this set and has tables of its counts.
-fn answer_at(parameters: Parameters, change: impl Fn(&mut Output, &mut Station)) -> Answer {
-    let mut outputs = vec![Output::fresh(&parameters); parameters.outputs as usize];
-    let mut stations = vec![Station::FRESH; parameters.stations as usize];
+    let parameters = Parameters {
+        stations: 8,
+        outputs: 3,
+        longest_fade: 86_400_000,
+        longest_duration: 86_400_000,
+    };
+    let mut outputs = [Output::fresh(&parameters); 3];
+    let mut stations = [Station::FRESH; 8];
     let mut kept = PanelRecord {
         time: TIME,
         parameters,
     };
-    let last = stations.len() - 1;
-    change(&mut outputs[1], &mut stations[last.min(5)]);
+    change(&mut outputs[1], &mut stations[5]);
     let before = format!("{outputs:?} {stations:?} {kept:?}");
     let answer = frame::<true>(&mut outputs, &mut stations, &mut kept, &CLOCK);
     if answer == REFUSED {
@@ -82,126 +69,6 @@ fn warn_at_slot_nine(output: &mut Output, change: impl Fn(&mut Warning)) {
     };
     change(&mut warning);
     output.warning = Some(warning);
-}
-
-/// The answers of a start with this set, and of a frame where it is kept, over
-/// tables of so many records.
-fn answers_over(outputs: u32, stations: u32, parameters: Parameters) -> (Answer, Answer) {
-    let fresh = Output::fresh(&parameters);
-    let mut outputs = vec![fresh; outputs as usize];
-    let mut stations = vec![Station::FRESH; stations as usize];
-    let mut kept = PanelRecord {
-        time: 7,
-        parameters,
-    };
-    let answer = frame::<true>(&mut outputs, &mut stations, &mut kept, &CLOCK);
-    for station in &mut stations {
-        station.number = 1;
-    }
-    kept.time = 7;
-    kept.parameters.stations += 100;
-    let before = format!("{outputs:?} {stations:?} {kept:?}");
-    let started = start(&mut outputs, &mut stations, &mut kept, parameters);
-    if started == Answer::Done {
-        assert_eq!((kept.time, kept.parameters), (0, parameters));
-        assert!(stations.iter().all(|station| station.number == 0));
-    } else {
-        assert_eq!(format!("{outputs:?} {stations:?} {kept:?}"), before);
-    }
-    (started, answer)
-}
-
-#[test]
-fn counts() {
-    let good = (Answer::Done, Answer::Done);
-    let wrong = (REFUSED, REFUSED);
-    for (outputs, stations, expected) in [
-        (2, 3, good),
-        (1, 3, wrong),
-        (3, 3, wrong),
-        (2, 2, wrong),
-        (2, 4, wrong),
-        (0, 3, wrong),
-        (2, 0, wrong),
-    ] {
-        let parameters = set(3, 2, 500, 600);
-        assert_eq!(answers_over(outputs, stations, parameters), expected);
-    }
-}
-
-/// §6: each number at the ends of its range, and one beside it. The counts are
-/// right, or wrong: 17 comes before 1.
-#[test]
-fn sets() {
-    let out_of_range = (Answer::Refused(Refusal::Parameters), REFUSED);
-    for (parameters, good) in [
-        (set(0, 2, 500, 600), false),
-        (set(1, 2, 500, 600), true),
-        (set(32, 2, 500, 600), true),
-        (set(33, 2, 500, 600), false),
-        (set(3, 0, 500, 600), false),
-        (set(3, 1, 500, 600), true),
-        (set(3, 64, 500, 600), true),
-        (set(3, 65, 500, 600), false),
-        (set(3, 2, 99, 600), false),
-        (set(3, 2, 100, 600), true),
-        (set(3, 2, DAY, 600), true),
-        (set(3, 2, DAY + 1, 600), false),
-        (set(3, 2, 500, 99), false),
-        (set(3, 2, 500, 100), true),
-        (set(3, 2, 500, DAY), true),
-        (set(3, 2, 500, DAY + 1), false),
-    ] {
-        let (outputs, stations) = (parameters.outputs, parameters.stations);
-        let expected = match good {
-            true => (Answer::Done, Answer::Done),
-            false => out_of_range,
-        };
-        assert_eq!(answers_over(outputs, stations, parameters), expected);
-        let expected = match good {
-            true => (REFUSED, REFUSED),
-            false => out_of_range,
-        };
-        assert_eq!(answers_over(outputs + 1, stations, parameters), expected);
-        assert_eq!(answers_over(outputs, stations + 1, parameters), expected);
-    }
-}
-
-/// §6: rules that read the set, and those that do not.
-#[test]
-fn rules_at_sets() {
-    let answer = |longest_fade, change: &dyn Fn(&mut Output)| {
-        let parameters = set(3, 2, longest_fade, 100);
-        answer_at(parameters, |output, _| change(output)) == Answer::Done
-    };
-    for longest in [100, 101, 999, 1_000, 1_001, 799_999, 800_000, 800_001, DAY] {
-        let fade_time = |fade_time| {
-            answer(longest, &move |output| {
-                output.settings.fade_time = fade_time
-            })
-        };
-        assert!(fade_time(100) && fade_time(longest));
-        assert!(!fade_time(99) && !fade_time(longest + 1));
-        let lasting = |length| {
-            answer(longest, &move |output| {
-                move_slot_eight(output, |movement| movement.length = length)
-            })
-        };
-        let most = longest.max(800_000);
-        assert!(lasting(101) && lasting(most) && !lasting(most + 1));
-        // Blink times have a day, and no rule bounds a running duration.
-        assert!(answer(longest, &|output| output.settings.blink_time = DAY));
-        assert!(!answer(longest, &|output| output.settings.blink_time = DAY + 1));
-        assert!(answer(longest, &|output| output
-            .settings
-            .blink_warn_delay = DAY));
-        assert!(!answer(longest, &|output| output
-            .settings
-            .blink_warn_delay = DAY + 1));
-        let (slot, end) = (16, u64::MAX);
-        assert!(answer(longest, &|output| output.duration =
-            Some(RunningDuration { slot, end })));
-    }
 }
 
 #[test]

@@ -5,6 +5,7 @@ mod bench;
 mod tags;
 
 use bench::Bench;
+use panels::lent_set::lent_sets;
 use panels::{Answer, FastPanel, Panel, Parameters, PlainPanel};
 
 const DONE: Answer = Answer::Done;
@@ -38,6 +39,15 @@ macro_rules! on_both {
 }
 
 on_both!(starts stations fade_times durations blink_times fresh_fade_times slowest_ramp copies);
+
+/// Starts and frames over tables that no list lends.
+#[test]
+fn lent_tables() {
+    for lent in lent_sets() {
+        let expected = (lent.answer, lent.left());
+        assert_eq!(FastPanel::over_lent_set(&lent), expected, "{lent:?}");
+    }
+}
 
 /// A whole number under its tag, in the fewest octets.
 fn in_tag(number: u8, value: u32) -> String {
