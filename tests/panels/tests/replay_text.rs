@@ -110,6 +110,41 @@ fn refused_starts() {
     }
 }
 
+/// Those of the bad lists whose heading is bad are answered as the proved
+/// program answers them.
+#[test]
+fn bad_lists() {
+    for name in [
+        "all",
+        "count",
+        "duration",
+        "fade",
+        "first",
+        "great",
+        "great-fade",
+        "no-count",
+        "no-number",
+        "stations",
+        "twice",
+        "word",
+    ] {
+        let file = |ending| {
+            format!(
+                "{}/../bad-lists/{name}.{ending}",
+                env!("CARGO_MANIFEST_DIR")
+            )
+        };
+        let list = std::fs::read_to_string(file("txt")).unwrap();
+        let (text, good) = both(&list);
+        assert!(!good, "{name}");
+        assert_eq!(
+            text,
+            std::fs::read_to_string(file("out")).unwrap(),
+            "{name}"
+        );
+    }
+}
+
 /// §6: words in any order, blanks between them, and document 01's numbers for
 /// those that are left out.
 #[test]
