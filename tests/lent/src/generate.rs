@@ -2,6 +2,7 @@
 //! one field away from them, a set of document 01 or another one, and a few
 //! frames and starts.
 
+use generator::suites::set::EDGES;
 use generator::Random;
 use plain::frame::{length_of_kind, CLOCK};
 use plain::{Parameter, Parameters};
@@ -62,18 +63,13 @@ const REALS: [u32; 16] = [
     0xBF80_0000,
 ];
 
-/// Longest fades and longest durations.
-const LONGEST: [u32; 11] = [
-    100, 101, 999, 1_000, 1_001, 5_000, 799_999, 800_000, 800_001, 86_399_999, 86_400_000,
-];
-
 /// A set, now and then with a number out of range.
 fn set(random: &mut Random, outputs: usize) -> Parameters {
     let mut set = Parameters {
         stations: random.pick(&[1, 2, 3, 7, 8, 9, 30, 31, 32]),
         outputs: outputs as u32,
-        fade: random.pick(&LONGEST),
-        duration: random.pick(&LONGEST),
+        fade: random.pick(&EDGES),
+        duration: random.pick(&EDGES),
     };
     if random.one_in(8) {
         let (parameter, number) = random.pick(&[

@@ -2,6 +2,7 @@
 //! of their ranges and beside them, exact counts, the rules and ranges that read
 //! the kept set, and starts over lent tables.
 
+use generator::suites::set::EDGES;
 use plain::settings::LONGEST;
 use plain::{Parameter, Parameters};
 
@@ -27,11 +28,6 @@ const NUMBERS: [(Parameter, [u32; 5]); 4] = [
         Parameter::Duration,
         [99, 100, LONGEST, LONGEST + 1, u32::MAX],
     ),
-];
-
-/// The longest fades about which a rule moves.
-const LONGEST_FADES: [u32; 10] = [
-    100, 101, 999, 1_000, 1_001, 799_999, 800_000, 800_001, 86_399_999, 86_400_000,
 ];
 
 pub fn sets(text: &mut Text) {
@@ -134,7 +130,7 @@ fn counts(text: &mut Text) {
 
 /// What the last of two outputs may hold at each longest fade.
 fn records(text: &mut Text) {
-    for fade in LONGEST_FADES {
+    for fade in EDGES {
         let set = with(Parameter::Fade, fade);
         text.comment(&format!("records, kept: {}", words(&set)));
         for record in records_at(&set) {
@@ -278,7 +274,7 @@ fn starts(text: &mut Text) {
         duration: 0,
     };
     for kept in [SHOP, broken] {
-        for fade in LONGEST_FADES {
+        for fade in EDGES {
             let set = with(Parameter::Fade, fade);
             text.comment(&format!("a start with {}", words(&set)));
             used_tables(text, set.outputs, set.stations);
@@ -356,7 +352,7 @@ mod tests {
     /// other half breaks that rule alone.
     #[test]
     fn each_record_breaks_one_rule_or_none() {
-        for fade in LONGEST_FADES {
+        for fade in EDGES {
             let kept = Kept {
                 time: NOW,
                 parameters: with(Parameter::Fade, fade),

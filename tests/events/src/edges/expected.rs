@@ -99,11 +99,11 @@ pub fn of_relays() -> Vec<Edge> {
     edges
 }
 
-/// Numbers that 32 bits do not hold, or only just, and that are good if all but
-/// 32 bits of them are lost.
+/// The first number that 32 bits do not hold.
 const PAST_32_BITS: u64 = 1 << 32;
 
-/// The numbers of a set at the ends of their range, beside them and far out.
+/// The numbers of a set at the ends of their range, beside them and far out; the
+/// last one would be good if all but 32 bits of it were lost.
 pub fn of_parameter(parameter: Parameter) -> Vec<u64> {
     let least = u64::from(*parameter.range().start());
     let mut edges = match parameter {

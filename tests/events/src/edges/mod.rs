@@ -3,7 +3,7 @@
 mod expected;
 mod tags;
 
-pub use expected::{of_base, of_relays, of_sets, of_tags};
+pub use expected::{of_base, of_parameter, of_relays, of_sets, of_tags};
 pub use tags::{TagEdge, EDGES_OF_OCTETS};
 
 use plain::frame::*;
@@ -150,7 +150,7 @@ fn real_edge(bits: u32) -> Option<RealEdge> {
 /// Counts the edges in the numbers of a heading.
 pub fn of_heading(words: &[(Parameter, u64)], tally: &mut Tally<Edge>) {
     for (parameter, value) in words.iter().copied() {
-        if expected::of_parameter(parameter).contains(&value) {
+        if of_parameter(parameter).contains(&value) {
             tally.count(Edge::Parameter { parameter, value });
         }
     }

@@ -21,7 +21,7 @@ use crate::tally::Tally;
 use crate::words::is_ramp;
 
 /// In milliseconds, from 0 to 100 percent or back.
-const SLOWEST_RAMP: u32 = 800_000;
+pub const SLOWEST_RAMP: u32 = 800_000;
 
 /// Hotels.
 const MANY_STATIONS: [u32; 2] = [30, 32];
@@ -59,13 +59,12 @@ pub fn start(
             note(SetEvent::Words(further));
         }
         Err(_) => {
-            let is_wrong = |parameter: &Parameter| {
-                let written = words.iter().find(|(other, _)| other == parameter);
-                let range = parameter.range();
-                let range = u64::from(*range.start())..=u64::from(*range.end());
-                written.is_some_and(|(_, number)| !range.contains(number))
-            };
-            let wrong: Vec<Parameter> = Parameter::ALL.into_iter().filter(is_wrong).collect();
+            let wrong = words.iter().filter(|(parameter, number)| {
+                let number = u32::try_from(*number).unwrap_or(u32::MAX);
+                !parameter.range().contains(&number)
+            });
+            let mut wrong: Vec<Parameter> = wrong.map(|(parameter, _)| *parameter).collect();
+            wrong.sort();
             if let [first, second] = wrong[..] {
                 note(SetEvent::Named { first, second });
             }
@@ -77,12 +76,8 @@ pub fn start(
 pub fn list(seen: &Seen, events: &mut Tally<Event>) {
     let mut note = |event| events.count(Event::Set(event));
     let stations = seen.after.parameters().stations;
-    let has_head = matches!(seen.answer, Answer::Refused(answer::STATION_OR_NUMBER))
-        || seen
-            .bytes
-            .first()
-            .is_some_and(|kind| *kind != CLOCK && length_of_kind(*kind) == Some(seen.bytes.len()));
-    if !has_head {
+    let has_head = |kind: &u8| *kind != CLOCK && length_of_kind(*kind) == Some(seen.bytes.len());
+    if !seen.bytes.first().is_some_and(has_head) {
         return;
     }
     let station = station(seen.bytes);

@@ -4,6 +4,8 @@ mod headings;
 mod scenes;
 mod stations;
 
+pub use events::set::EDGES;
+
 use super::{base, relay, tags};
 use crate::list::Generator;
 use crate::suite::{Suite, Tables};

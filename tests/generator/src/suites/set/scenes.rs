@@ -1,6 +1,7 @@
 //! Scenes: fade times, durations and blink times at the edges that the set
 //! gives them, and what goes by the longest ones.
 
+use events::set::SLOWEST_RAMP;
 use events::words::COMMANDS;
 use plain::frame::{self, *};
 use plain::settings::*;
@@ -14,9 +15,6 @@ use crate::values::{self, ABSENT, REAL_HUNDRED_PERCENT, SHORTEST};
 /// Ramp_Rate's least value, and a usual one.
 const SLOWEST: u32 = 0x3E00_0000;
 const USUAL: u32 = 0x4120_0000;
-/// In milliseconds, from 0 to 100 percent.
-const SLOWEST_RAMP: u64 = 800_000;
-
 impl Generator {
     pub(crate) fn plan_set(&mut self, output: u8) {
         // It is fresh only once.
@@ -155,9 +153,14 @@ impl Generator {
         self.plan_property(output, property, 0);
     }
 
+    /// Whether the budget has so many milliseconds, and some for other outputs.
+    fn can_live(&self, milliseconds: u32) -> bool {
+        self.budget > 5 * u64::from(milliseconds) / 4
+    }
+
     /// Longer than every fade, where fades are short.
     fn plan_slowest_ramp(&mut self, output: u8) {
-        if self.budget < SLOWEST_RAMP + SLOWEST_RAMP / 4 {
+        if !self.can_live(SLOWEST_RAMP) {
             return self.plan_fade_times(output);
         }
         let (from, to) = self
@@ -171,13 +174,13 @@ impl Generator {
         } else {
             self.plan_command(output, RAMP_TO_AT_RATE, &[to, SLOWEST, ABSENT]);
         }
-        self.plan_looks(output, SLOWEST_RAMP);
+        self.plan_looks(output, SLOWEST_RAMP.into());
     }
 
     /// By Fade_Time or by a time of its own.
     fn plan_longest_fade(&mut self, output: u8) {
         let longest = self.panel.parameters().fade;
-        if self.budget < u64::from(longest) + u64::from(longest) / 4 {
+        if !self.can_live(longest) {
             return self.plan_fade_times(output);
         }
         self.plan_moving_from(output, 0);
@@ -194,16 +197,16 @@ impl Generator {
 
     /// The slot is looked at just before it empties, and then.
     fn plan_longest_duration(&mut self, output: u8) {
-        let longest = u64::from(self.panel.parameters().duration);
-        if self.budget < longest + longest / 4 {
+        let longest = self.panel.parameters().duration;
+        if !self.can_live(longest) {
             return self.plan_durations(output);
         }
         let own = self.plan_winning_slot(output);
         self.plan_command_priority(output, own, When::Now);
-        let fields = [REAL_HUNDRED_PERCENT, longest as u32];
+        let fields = [REAL_HUNDRED_PERCENT, longest];
         self.plan_command(output, GOTO, &fields);
         let slot = FIRST_SLOT + own - 1;
-        self.plan_read(output, slot, When::After(longest - 1));
+        self.plan_read(output, slot, When::After(u64::from(longest) - 1));
         self.plan_read(output, slot, When::After(1));
     }
 }
