@@ -7,6 +7,10 @@ pub struct Heading {
     /// In the order in which they are written, `outputs` first. The others may
     /// be left out. A number may be greater than a panel can be given.
     pub words: Vec<(Parameter, u64)>,
+    /// What stands between words and numbers.
+    pub blanks: &'static str,
+    /// The least number of digits; zeros stand first.
+    pub digits: usize,
 }
 
 impl Heading {
@@ -14,6 +18,8 @@ impl Heading {
     pub fn of_document_01(outputs: u64) -> Heading {
         Heading {
             words: vec![(Parameter::Outputs, outputs)],
+            blanks: " ",
+            digits: 1,
         }
     }
 
@@ -27,8 +33,11 @@ impl Heading {
     }
 
     pub fn text(&self) -> String {
-        let words = self.words.iter();
-        let words = words.map(|(parameter, number)| format!("{} {number}", parameter.name()));
-        words.collect::<Vec<String>>().join(" ")
+        let (blanks, digits) = (self.blanks, self.digits);
+        let words = self.words.iter().map(|(parameter, number)| {
+            let name = parameter.name();
+            format!("{name}{blanks}{number:0digits$}")
+        });
+        words.collect::<Vec<String>>().join(blanks)
     }
 }

@@ -13,7 +13,7 @@ const LISTS: [(&str, u64); 7] = [
     ("§3", 0x3E19_8C29_1C3F_123D),
     ("§4", 0x328C_5F36_1DEE_9994),
     ("§5", 0x914E_007A_0692_CF75),
-    ("§6", 0xB6F1_277A_BE16_B132),
+    ("§6", 0xBF39_4990_F11D_16AF),
 ];
 
 fn digest(bytes: impl Iterator<Item = u8>) -> u64 {

@@ -88,5 +88,9 @@ fn shuffled(random: &mut Random, outputs: u64, mut further: Vec<(Parameter, u64)
         let place = random.below(further.len() as u64) as usize;
         words.push(further.remove(place));
     }
-    Heading { words }
+    Heading {
+        words,
+        blanks: random.pick(&[" ", " ", " ", "  ", "\t", " \t "]),
+        digits: random.pick(&[1, 1, 1, 2, 12, 24]),
+    }
 }

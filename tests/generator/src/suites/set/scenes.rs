@@ -15,6 +15,7 @@ use crate::values::{self, ABSENT, REAL_HUNDRED_PERCENT, SHORTEST};
 /// Ramp_Rate's least value, and a usual one.
 const SLOWEST: u32 = 0x3E00_0000;
 const USUAL: u32 = 0x4120_0000;
+
 impl Generator {
     pub(crate) fn plan_set(&mut self, output: u8) {
         // It is fresh only once.
