@@ -44,7 +44,7 @@ impl Output {
                 1 => self.settings.blink_enable = true,
                 _ => return REFUSED_WHOLE_NUMBER,
             },
-            // §6: "Blink times aside", the set bounds whole numbers.
+            // The set does not bound these two: §6, "blink times aside".
             BLINK_TIME => match value {
                 0..=LONGEST => self.settings.blink_time = value,
                 _ => return REFUSED_WHOLE_NUMBER,
