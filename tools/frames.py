@@ -4,8 +4,9 @@ answers are one list over 16 outputs, and so are those of docs/SUPPLY.md over on
 answer. examples/frames.txt must be the list of docs/FRAMES.md (--write makes it). Each row of its
 'Properties' is read on a fresh output, written with 0, and written with the ends of its range and what lies
 next to them: the columns 'fresh', 'writable' and 'range' must be true. Every kind and every property that
-`replay` knows, and no other, has its row. Every kind and every refusal but 1 has an example; a kind's bytes
-are those of its frames. Exit status 1 where something is not so."""
+`replay` knows, and no other, has its row. Every kind and every refusal but 1 and 17 has an example; a kind's
+bytes are those of its frames. 17 is a start's: a list whose first line has a number out of range ends in it.
+Exit status 1 where something is not so."""
 import re
 import struct
 import subprocess
@@ -15,6 +16,9 @@ PAGE, LIST, PROGRAM = 'docs/FRAMES.md', 'examples/frames.txt', 'target/bin/repla
 HEAD = '# The frames of docs/FRAMES.md in its order, without the answers: tools/frames.py --write makes this file.\n'
 # a frame in hex, its answer, and what the page says beside them
 FRAME = r'^((?:[0-9A-F]{2})+(?: (?:[0-9A-F]{2})+)*|-) +(Done|Absent|Value [0-9A-F]{8}|Refused \d+)(?:  +(.*))?$'
+
+# refusals that a start meets, and no frame
+STARTS = {17: ('outputs 0', 'outputs 65', 'outputs 1 stations 33', 'outputs 1 fade 99', 'outputs 1 duration 86400001')}
 
 faults = []
 
@@ -72,7 +76,7 @@ with open(PAGE) as page:
             kind_rows[cells[0]] = int(cells[3])
         elif len(cells) == 3 and cells[0].isdigit() and cells[2] in ('yes', 'no'):
             refusal_rows.add(int(cells[0]))
-            if (cells[2] == 'yes') != (int(cells[0]) >= 9):
+            if (cells[2] == 'yes') != (int(cells[0]) >= 9 and int(cells[0]) not in STARTS):
                 faults.append('%s:%d: whether refusal %s uses up the number' % (PAGE, line, cells[0]))
 for line, frame, answer in shown:
     if answer not in ('Refused 2', 'Refused 3') and kind_rows.get(frame[:2]) != len(frame.replace(' ', '')) // 2:
@@ -126,10 +130,15 @@ known_properties = {k for k, answer in enumerate(answers(
     if answer != 'Refused 9'}
 kinds = {frame[:2] for _, frame, answer in shown if answer not in ('Refused 2', 'Refused 3')}
 refused = {int(answer.split()[1]) for _, _, answer in shown if answer.startswith('Refused')}
-refusals = set(range(2, max(refusal_rows) + 1))
+refusals = set(range(2, max(refusal_rows) + 1)) - set(STARTS)
+for number, headings in STARTS.items():
+    for heading in headings:
+        line = answers(heading + '\n')[0]
+        if not re.match(r'^line 1: .*: Refused %d$' % number, line):
+            faults.append('%s: %s is answered %s' % (PAGE, heading, line))
 for what, missing in (('example of kind', known_kinds - kinds), ('row of kind', known_kinds - set(kind_rows)),
                       ('kind in replay', set(kind_rows) - known_kinds),
-                      ('example of refusal', refusals - refused), ('row of refusal', ({1} | refusals | refused) - refusal_rows),
+                      ('example of refusal', refusals - refused), ('row of refusal', ({1} | refusals | refused | set(STARTS)) - refusal_rows),
                       ('row of property', {'%02X' % number for number in known_properties - set(numbers)}),
                       ('property in replay', {'%02X' % number for number in set(numbers) - known_properties})):
     faults += ['%s: no %s %s' % (PAGE, what, name) for name in sorted(missing)]

@@ -1,4 +1,5 @@
-// A set of parameters as the numbers of a row: stations, outputs, the longest fade time, the longest duration.
+// A set of parameters as the numbers of a row: stations, outputs, the longest fade time, the longest
+// duration.
 use super::NUMBERS;
 use super::numbers::narrow32;
 use super::numbers::wide32;

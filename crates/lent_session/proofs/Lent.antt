@@ -1,4 +1,5 @@
 -- Made by tools/twin.py.
+pub mod keep
 pub mod clear
 pub mod lend_output
 pub mod lend_station

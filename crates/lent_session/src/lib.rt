@@ -1,14 +1,15 @@
 // Tables made by hand, lent to the panel: rows from standard input set up outputs, stations and the panel's
 // record, start the panel, send frames, and ask for what is left, which is written as rows of the same form.
 // The crate `lent_rows` has the rows. A row's first character is its letter:
-//   t N K T    N outputs and K stations are lent from here on, every record fresh, at panel time T, and the kept
-//              set is document 01's of N outputs
+//   t N K T    N outputs and K stations are lent from here on, every record fresh, at panel time T; the
+//              kept set is document 01's of N outputs
 //   p S C F D  the kept set is from here on S stations, C outputs, the longest fade F, the longest duration D
 //   o I ..     the record of output I, 48 numbers
 //   s I ..     the record of station I, 34 numbers
 //   b S C F D  a start with this set: a line with its answer
 //   f ..       the bytes of a frame, which is sent: a line with its answer
-//   l          what is left: a row t, a row p, and a row for each lent record that is not document 01's fresh one
+//   l          what is left: a row t, a row p, and a row for each lent record that is not fresh as
+//              document 01 has it
 // Any other line is a comment.
 //
 // The contracts of `lent_parts` give the panel's part whole. What is read and written no contract can

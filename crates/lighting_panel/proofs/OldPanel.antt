@@ -1,5 +1,5 @@
--- THE OLD PANEL IS TODAY'S AT THE SET 8, ITS OUTPUT COUNT, 86,400,000, 86,400,000 (§6): of one frame over every
--- lent table, sound or not, of the start, and of lists.
+-- THE OLD PANEL IS TODAY'S AT THE SET 8, ITS OUTPUT COUNT, 86,400,000, 86,400,000 (§6): of one frame over
+-- every lent table, sound or not, of the start, and of lists.
 use mathlib.Core.Path.{_≡_, refl, sym, ap, _∙_}
 use mathlib.Core.Bool.{Bool, true, false}
 use mathlib.Core.List.{List, [], _∷_, map}
@@ -123,8 +123,8 @@ old-answers e [] = refl
 old-answers e (b ∷ l) =
     rw (old-frame e b, next e b) (ap (λ (given : List Answer). oldFrame e b .answer ∷ given) (old-answers (oldFrame e b .panel) l))
 
--- THE START with that set, over every lent table of 1 to 64 outputs, whatever its record keeps: the same answer,
--- and the same outputs, station records and time. Where it answers Done, the set is kept
+-- THE START with that set, over every lent table of 1 to 64 outputs, whatever its record keeps: the same
+-- answer, and the same outputs, station records and time. Where it answers Done, the set is kept
 pub record StartsAlike (e : Panel) : Type 0 where
   pub answered : startStep (setOf (withoutSet e)) e .answer ≡ oldStart (withoutSet e) .answer
   pub panel : withoutSet (startStep (setOf (withoutSet e)) e .panel) ≡ oldStart (withoutSet e) .panel

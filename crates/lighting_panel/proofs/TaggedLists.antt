@@ -98,8 +98,9 @@ module _ (p : Parameters) (chosen : Bytes → Bool) where
   strings-sent : (l : List Bytes) → Strings l → Strings (map (sent chosen) l)
   strings-sent l s = every-map Octets Octets (sent chosen) l (λ b o. sent-octets b o (sent-as chosen b o)) s
 
-  -- For EVERY set of parameters and EVERY lent table e on which a start with it answered Done, EVERY list l of
-  -- strings of bytes, and EVERY choice of its commands of which none becomes another frame of the list
+  -- For EVERY set of parameters and EVERY lent table e on which a start with it answered Done, EVERY list
+  -- l of strings of bytes, and EVERY choice of its commands of which none becomes another frame of the
+  -- list
   pub acts-as-plain : (e : Panel) (l : List Bytes) → Strings l → NoneBecomesAnother chosen l → startStep p e .answer ≡ Done
       → ActsAsPlain p e l chosen
   acts-as-plain e l s n h =

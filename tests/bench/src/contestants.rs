@@ -1,6 +1,7 @@
 //! The panels that are timed inside this process.
 
 use generator::stream::Stream;
+use panels::{FastPanel, Panel};
 
 pub trait Contestant {
     fn name(&self) -> &str;
@@ -42,13 +43,16 @@ impl<const CHECK: bool> Contestant for Fast<CHECK> {
     }
 
     fn run(&mut self, stream: &Stream) -> Result<u64, String> {
-        let mut outputs = vec![fast::Output::FRESH; stream.outputs];
-        let mut stations = [fast::Station::FRESH; fast::STATIONS];
-        let mut time = 0;
-        fast::start(&mut outputs, &mut stations, &mut time);
+        let started = FastPanel::start(stream.heading().parameters());
+        let mut panel = started.map_err(|answer| answer.to_string())?;
+        let FastPanel {
+            outputs,
+            stations,
+            kept,
+        } = &mut panel;
         let mut all = EMPTY_DIGEST;
         for bytes in &stream.frames {
-            let answer = fast::frame::<CHECK>(&mut outputs, &mut stations, &mut time, bytes);
+            let answer = fast::frame::<CHECK>(outputs, stations, kept, bytes);
             all = digest(all, answer.into());
         }
         Ok(all)

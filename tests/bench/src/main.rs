@@ -124,7 +124,7 @@ fn write_streams(directory: &Path, streams: &[Stream]) -> Result<(), String> {
     for stream in streams {
         let name = stream.name.replace([' ', '^'], "-");
         let file = directory.join(format!("{name}-{}.list", stream.outputs));
-        std::fs::write(&file, write_list(stream.outputs, &stream.frames))
+        std::fs::write(&file, write_list(&stream.heading().text(), &stream.frames))
             .map_err(|error| format!("{}: {error}", file.display()))?;
         println!("{}", file.display());
     }

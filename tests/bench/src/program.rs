@@ -52,7 +52,7 @@ impl Contestant for Program {
     }
 
     fn run(&mut self, stream: &Stream) -> Result<u64, String> {
-        let text = self.replay(&write_list(stream.outputs, &stream.frames))?;
+        let text = self.replay(&write_list(&stream.heading().text(), &stream.frames))?;
         let mut all = EMPTY_DIGEST;
         for line in text.lines().take_while(|line| *line != "--") {
             all = digest(all, answer_from(line)?);

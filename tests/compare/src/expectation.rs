@@ -1,23 +1,34 @@
 //! What the plain panel says should be written, and the first difference.
 
+use generator::Heading;
+use panels::list_text::refused_start;
 use panels::plain_panel::found_of_plain;
 use panels::replay::write_found;
 use panels::Answer;
 
 pub struct Expectation {
     pub answers: Vec<Answer>,
-    /// The lines from `--` to the end.
+    /// The lines from `--` to the end, or the one line of a panel that is not
+    /// started (§6).
     pub found: String,
 }
 
 impl Expectation {
-    pub fn new(answers: &[plain::Answer], panel: &plain::Panel) -> Expectation {
-        let found: Vec<_> = panel.outputs().iter().map(found_of_plain).collect();
-        let mut text = Vec::new();
-        write_found(&mut text, &found).expect("a Vec takes everything");
+    pub fn new(
+        heading: &Heading,
+        answers: &[plain::Answer],
+        panel: &Result<plain::Panel, plain::Answer>,
+    ) -> Expectation {
+        let found = match panel {
+            Ok(panel) => text_of_found(panel),
+            Err(answer) => {
+                let wrong = refused_start(&heading.parameters(), (*answer).into());
+                format!("line 1: {wrong}\n")
+            }
+        };
         Expectation {
             answers: answers.iter().map(|answer| (*answer).into()).collect(),
-            found: String::from_utf8(text).expect("only ASCII was written"),
+            found,
         }
     }
 
@@ -50,6 +61,13 @@ impl Expectation {
             None => Ok(()),
         }
     }
+}
+
+fn text_of_found(panel: &plain::Panel) -> String {
+    let found: Vec<_> = panel.outputs().iter().map(found_of_plain).collect();
+    let mut text = Vec::new();
+    write_found(&mut text, &found).expect("a Vec takes everything");
+    String::from_utf8(text).expect("only ASCII was written")
 }
 
 fn hexadecimal(bytes: &[u8]) -> String {

@@ -37,8 +37,11 @@ impl Totals {
         self.lists += 1;
         self.frames += list.frames.len() as u64;
         self.frames_with_copies += frames_with_copies as u64;
-        self.outputs += 2 * list.outputs as u64;
-        self.sizes.insert(list.outputs);
+        if let Ok(panel) = &list.panel {
+            let outputs = panel.outputs().len();
+            self.outputs += 2 * outputs as u64;
+            self.sizes.insert(outputs);
+        }
         self.events.add(observer.events());
         self.edges.add(observer.edges());
     }

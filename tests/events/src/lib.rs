@@ -14,6 +14,7 @@ pub mod observer;
 pub mod passing;
 pub mod relay;
 pub mod seen;
+pub mod set;
 pub mod tags;
 pub mod tally;
 pub mod tie;

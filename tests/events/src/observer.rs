@@ -2,20 +2,21 @@
 //! plain panel does not know of it.
 
 use plain::frame;
-use plain::{Answer, Output, Panel};
+use plain::{Answer, Output, Panel, Parameter};
 
 use crate::base::Event;
 use crate::edges::{self, Edge};
 use crate::passing::Passed;
 use crate::seen::{Act, Seen};
 use crate::tally::Tally;
-use crate::{base, jump, light, relay, tags, tie};
+use crate::{base, jump, light, relay, set, tags, tie};
 
 /// What the observer remembers of an output beside its record.
 #[derive(Clone, Copy, Default)]
 pub struct Memory {
     pub base: base::Memory,
     pub tie: tie::Memory,
+    pub set: set::Memory,
 }
 
 pub struct Observer {
@@ -51,11 +52,18 @@ impl Observer {
         &self.edges
     }
 
+    /// The list has this heading, and its panel was started or not.
+    pub fn saw_start(&mut self, words: &[(Parameter, u64)], started: &Result<Panel, Answer>) {
+        set::start(words, started, &mut self.events);
+        edges::of_heading(words, &mut self.edges);
+    }
+
     /// The panel has just answered this string of bytes.
     pub fn saw(&mut self, bytes: &[u8], answer: Answer, after: &Panel) {
         // There at the first frame of the list; none is added later.
         let outputs = after.outputs().len();
-        self.outputs.resize_with(outputs, Output::fresh);
+        let fresh = || Output::fresh(after.parameters());
+        self.outputs.resize_with(outputs, fresh);
         self.memory.resize_with(outputs, Memory::default);
         let seen = Seen {
             bytes,
@@ -71,6 +79,7 @@ impl Observer {
         base::list(&seen, events);
         tags::list(&seen, events);
         relay::list(&seen, events);
+        set::list(&seen, events);
         if arrives || steps {
             jump::frame(&seen, events);
             let acted_on = arrives.then(|| usize::from(frame::output(bytes)));
@@ -80,6 +89,7 @@ impl Observer {
                 base::passed(&passed, memory.base, events);
                 light::passed(&passed, events);
                 relay::passed(&passed, events);
+                set::passed(&passed, after.parameters(), events);
                 jump::passed(&passed, after.time(), events);
                 if acted_on != Some(index) {
                     continue;
@@ -89,12 +99,14 @@ impl Observer {
                     answer,
                     arrived: &passed.arrived,
                     after: &after.outputs()[index],
+                    parameters: after.parameters(),
                 };
                 base::act(&act, &passed, &mut memory.base, events);
                 tags::act(&act, events);
                 light::act(&act, events);
                 relay::act(&act, events);
                 tie::act(&act, &mut memory.tie, events);
+                set::act(&act, &passed, &mut memory.set, events);
                 edges::of_frame(bytes, &mut self.edges);
             }
         }

@@ -3,7 +3,7 @@
 use plain::frame::{self, STOP, TAGGED_COMMAND};
 use plain::last_command::LastCommand;
 use plain::panel::FirstArrival;
-use plain::{Answer, Output, Panel};
+use plain::{Answer, Output, Panel, Parameters};
 
 /// All that an observer has of a frame.
 pub struct Seen<'a> {
@@ -50,6 +50,7 @@ pub struct Act<'a> {
     pub arrived: &'a Output,
     /// After the act.
     pub after: &'a Output,
+    pub parameters: &'a Parameters,
 }
 
 impl Act<'_> {

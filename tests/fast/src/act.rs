@@ -4,6 +4,7 @@ use crate::answer::{Answer, Refusal};
 use crate::frame::{u32_at, HEAD_LENGTH};
 use crate::level::level_from_real;
 use crate::output::{Output, Warning, WARNING_PRIORITY};
+use crate::parameters::Parameters;
 use crate::tags::TAGGED_COMMAND;
 
 pub fn is_priority(number: u32) -> bool {
@@ -11,15 +12,21 @@ pub fn is_priority(number: u32) -> bool {
 }
 
 impl Output {
-    pub fn act(&mut self, now: u64, kind: u8, bytes: &[u8]) -> Result<Answer, Refusal> {
+    pub fn act(
+        &mut self,
+        parameters: &Parameters,
+        now: u64,
+        kind: u8,
+        bytes: &[u8],
+    ) -> Result<Answer, Refusal> {
         let byte_field = bytes[HEAD_LENGTH];
         let answer = match kind {
             0x02 => self.write_present_value(now, byte_field, f32::from_bits(u32_at(bytes, 14))),
             0x03 => self.empty_a_slot(byte_field),
-            0x04 => self.write_property(byte_field, u32_at(bytes, 14)),
+            0x04 => self.write_property(parameters, byte_field, u32_at(bytes, 14)),
             0x05 => self.read_property(now, byte_field),
-            TAGGED_COMMAND => self.run_tagged_command(now, bytes),
-            _ => self.run_command(now, kind, bytes),
+            TAGGED_COMMAND => self.run_tagged_command(parameters, now, bytes),
+            _ => self.run_command(parameters, now, kind, bytes),
         }?;
         self.judge();
         Ok(answer)

@@ -1,4 +1,4 @@
-//! Answers and the refusals of the paper's table, with those of §1 and §3.
+//! Answers and the refusals of the paper's table, with those of §1, §3 and §6.
 
 #[derive(Clone, Copy, Debug, PartialEq, Eq)]
 pub enum Answer {
@@ -27,6 +27,7 @@ pub enum Refusal {
     Tagging = 14,
     TaggedField = 15,
     RelayValues = 16,
+    Parameters = 17,
 }
 
 impl Refusal {

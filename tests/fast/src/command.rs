@@ -3,20 +3,19 @@
 use crate::answer::{Answer, Refusal};
 use crate::frame::Fields;
 use crate::level::{level_from_real, rate_or_step_from_real};
-use crate::output::{
-    Command, Movement, Operation, Output, RunningDuration, LONGEST_TIME, SHORTEST_TIME,
-};
+use crate::output::{Command, Movement, Operation, Output, RunningDuration, SHORTEST_TIME};
+use crate::parameters::Parameters;
 use crate::tags::Tagged;
 
 const ABSENT: u32 = u32::MAX;
 
-fn is_time(milliseconds: u32) -> bool {
-    (SHORTEST_TIME..=LONGEST_TIME).contains(&milliseconds)
+fn is_time(milliseconds: u32, longest: u32) -> bool {
+    (SHORTEST_TIME..=longest).contains(&milliseconds)
 }
 
 /// A duration that is not absent.
-fn duration_in_range(milliseconds: u32) -> Result<u32, Refusal> {
-    match milliseconds == 0 || is_time(milliseconds) {
+fn duration_in_range(parameters: &Parameters, milliseconds: u32) -> Result<u32, Refusal> {
+    match milliseconds == 0 || is_time(milliseconds, parameters.longest_duration) {
         true => Ok(milliseconds),
         false => Err(Refusal::WholeNumber),
     }
@@ -35,7 +34,12 @@ enum Action {
 
 impl Output {
     /// Reads operation and action, refusing at the first field out of range.
-    fn operation(&self, kind: u8, fields: &mut Fields) -> Result<(Operation, Action), Refusal> {
+    fn operation(
+        &self,
+        parameters: &Parameters,
+        kind: u8,
+        fields: &mut Fields,
+    ) -> Result<(Operation, Action), Refusal> {
         let settings = &self.settings;
         Ok(match kind {
             0x10 => (Operation::Stop, Action::Stop),
@@ -51,7 +55,7 @@ impl Output {
                 let level = fields.real();
                 let units = level_from_real(level)?;
                 let fade_time = fields.whole();
-                if !is_time(fade_time) {
+                if !is_time(fade_time, parameters.longest_fade) {
                     return Err(Refusal::WholeNumber);
                 }
                 let action = Action::Fade {
@@ -112,23 +116,37 @@ impl Output {
         })
     }
 
-    pub fn run_command(&mut self, now: u64, kind: u8, bytes: &[u8]) -> Result<Answer, Refusal> {
+    pub fn run_command(
+        &mut self,
+        parameters: &Parameters,
+        now: u64,
+        kind: u8,
+        bytes: &[u8],
+    ) -> Result<Answer, Refusal> {
         let mut fields = Fields::after_head(bytes);
-        let (operation, action) = self.operation(kind, &mut fields)?;
+        let (operation, action) = self.operation(parameters, kind, &mut fields)?;
         let duration = match fields.whole() {
             ABSENT => None,
-            milliseconds => Some(duration_in_range(milliseconds)?),
+            milliseconds => Some(duration_in_range(parameters, milliseconds)?),
         };
         self.carry_out(now, operation, action, duration);
         Ok(Answer::Done)
     }
 
     /// The tags are judged as a whole before any range.
-    pub fn run_tagged_command(&mut self, now: u64, bytes: &[u8]) -> Result<Answer, Refusal> {
+    pub fn run_tagged_command(
+        &mut self,
+        parameters: &Parameters,
+        now: u64,
+        bytes: &[u8],
+    ) -> Result<Answer, Refusal> {
         let tagged = Tagged::read(bytes)?;
-        let (operation, action) = self.operation(tagged.kind, &mut tagged.fields())?;
+        let (operation, action) = self.operation(parameters, tagged.kind, &mut tagged.fields())?;
         // Absent is a tag that is missing: FFFFFFFF is out of range here.
-        let duration = tagged.duration.map(duration_in_range).transpose()?;
+        let duration = tagged
+            .duration
+            .map(|duration| duration_in_range(parameters, duration))
+            .transpose()?;
         self.carry_out(now, operation, action, duration);
         Ok(Answer::Done)
     }

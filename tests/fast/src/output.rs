@@ -1,8 +1,10 @@
 //! An output's record.
 
 use crate::level::{HIGHEST, LOWEST_LIT, UNITS_PER_PERCENT};
+use crate::parameters::Parameters;
 
 pub const WARNING_PRIORITY: u8 = 6;
+/// Of blink times. No panel has a longer fade or duration either.
 pub const LONGEST_TIME: u32 = 86_400_000;
 pub const SHORTEST_TIME: u32 = 100;
 
@@ -27,21 +29,23 @@ pub struct Settings {
 }
 
 impl Settings {
-    pub const FRESH: Settings = Settings {
-        relinquish_default: 0,
-        fade_time: 1_000,
-        ramp_rate: 10.0,
-        step_increment: 5.0,
-        blink_enable: false,
-        blink_time: 0,
-        blink_warn_delay: 0,
-        minimum: LOWEST_LIT,
-        maximum: HIGHEST,
-        command_priority: 16,
-        active_value: 50 * UNITS_PER_PERCENT,
-        inactive_value: 45 * UNITS_PER_PERCENT,
-        reverse: false,
-    };
+    pub fn fresh(parameters: &Parameters) -> Settings {
+        Settings {
+            relinquish_default: 0,
+            fade_time: parameters.fresh_fade(),
+            ramp_rate: 10.0,
+            step_increment: 5.0,
+            blink_enable: false,
+            blink_time: 0,
+            blink_warn_delay: 0,
+            minimum: LOWEST_LIT,
+            maximum: HIGHEST,
+            command_priority: 16,
+            active_value: 50 * UNITS_PER_PERCENT,
+            inactive_value: 45 * UNITS_PER_PERCENT,
+            reverse: false,
+        }
+    }
 
     pub fn clamp(&self, level: u32) -> u32 {
         level.clamp(self.minimum, self.maximum)
@@ -197,20 +201,22 @@ pub struct Output {
 }
 
 impl Output {
-    pub const FRESH: Output = Output {
-        live: 0,
-        levels: [0; 16],
-        settings: Settings::FRESH,
-        movement: None,
-        warning: None,
-        duration: None,
-        last: Command {
-            operation: Operation::Stop,
+    pub fn fresh(parameters: &Parameters) -> Output {
+        Output {
+            live: 0,
+            levels: [0; 16],
+            settings: Settings::fresh(parameters),
+            movement: None,
+            warning: None,
             duration: None,
-        },
-        burning: 0,
-        active: false,
-    };
+            last: Command {
+                operation: Operation::Stop,
+                duration: None,
+            },
+            burning: 0,
+            active: false,
+        }
+    }
 
     pub fn is_live(&self, priority: u8) -> bool {
         self.live & bit(priority) != 0

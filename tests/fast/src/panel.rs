@@ -3,17 +3,28 @@
 use crate::answer::{Answer, Refusal};
 use crate::frame::{check_kind_and_length, clock_time, Head, CLOCK};
 use crate::output::Output;
-use crate::rules::{all_rules_hold, MOST_OUTPUTS};
-use crate::station::{Station, STATIONS};
+use crate::parameters::{PanelRecord, Parameters};
+use crate::rules::all_rules_hold;
+use crate::station::Station;
 
-/// Makes every lent record fresh and sets the time to 0.
-pub fn start(outputs: &mut [Output], stations: &mut [Station; STATIONS], time: &mut u64) -> Answer {
-    if !(1..=MOST_OUTPUTS).contains(&outputs.len()) {
+/// Makes every lent record fresh, sets the time to 0 and keeps the set. What is
+/// refused leaves all as it was.
+pub fn start(
+    outputs: &mut [Output],
+    stations: &mut [Station],
+    kept: &mut PanelRecord,
+    parameters: Parameters,
+) -> Answer {
+    if !parameters.are_in_range() {
+        return Refusal::Parameters.into();
+    }
+    if !parameters.fit(outputs, stations) {
         return Refusal::Records.into();
     }
-    outputs.fill(Output::FRESH);
+    outputs.fill(Output::fresh(&parameters));
     stations.fill(Station::FRESH);
-    *time = 0;
+    kept.time = 0;
+    kept.parameters = parameters;
     Answer::Done
 }
 
@@ -21,20 +32,22 @@ pub fn start(outputs: &mut [Output], stations: &mut [Station; STATIONS], time: &
 /// as the paper's table demands; without it the caller vouches for them.
 pub fn frame<const CHECK: bool>(
     outputs: &mut [Output],
-    stations: &mut [Station; STATIONS],
-    time: &mut u64,
+    stations: &mut [Station],
+    kept: &mut PanelRecord,
     bytes: &[u8],
 ) -> Answer {
-    if CHECK && !all_rules_hold(outputs, stations, *time) {
+    if CHECK && !all_rules_hold(outputs, stations, kept) {
         return Refusal::Records.into();
     }
-    take(outputs, stations, time, bytes).unwrap_or_else(Answer::Refused)
+    let PanelRecord { time, parameters } = kept;
+    take(outputs, stations, time, parameters, bytes).unwrap_or_else(Answer::Refused)
 }
 
 fn take(
     outputs: &mut [Output],
-    stations: &mut [Station; STATIONS],
+    stations: &mut [Station],
     time: &mut u64,
+    parameters: &Parameters,
     bytes: &[u8],
 ) -> Result<Answer, Refusal> {
     let kind = check_kind_and_length(bytes)?;
@@ -47,6 +60,7 @@ fn take(
     if head.number == 0 {
         return Err(Refusal::StationOrNumber);
     }
+    // There are as many records as stations.
     let station = stations
         .get_mut(usize::from(head.station))
         .ok_or(Refusal::StationOrNumber)?;
@@ -66,7 +80,7 @@ fn take(
     }
     advance(outputs, time, head.time)?;
     let answer = outputs[output]
-        .act(head.time, kind, bytes)
+        .act(parameters, head.time, kind, bytes)
         .unwrap_or_else(Answer::Refused);
     station.keep(head.number, bytes, answer);
     Ok(answer)

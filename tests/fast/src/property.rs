@@ -4,14 +4,20 @@ use crate::act::is_priority;
 use crate::answer::{Answer, Refusal};
 use crate::level::{bound_from_real, is_rate_or_step, level_from_real, real_from_level};
 use crate::output::{Operation, Output, LONGEST_TIME, SHORTEST_TIME};
+use crate::parameters::Parameters;
 
 impl Output {
-    pub fn write_property(&mut self, property: u8, value: u32) -> Result<Answer, Refusal> {
+    pub fn write_property(
+        &mut self,
+        parameters: &Parameters,
+        property: u8,
+        value: u32,
+    ) -> Result<Answer, Refusal> {
         let settings = &mut self.settings;
         let real = f32::from_bits(value);
         match property {
             0x01 => settings.relinquish_default = level_from_real(real)?,
-            0x02 => settings.fade_time = whole_in(SHORTEST_TIME, LONGEST_TIME, value)?,
+            0x02 => settings.fade_time = whole_in(SHORTEST_TIME, parameters.longest_fade, value)?,
             0x03 => settings.ramp_rate = rate_or_step(real)?,
             0x04 => settings.step_increment = rate_or_step(real)?,
             0x05 => settings.blink_enable = whole_in(0, 1, value)? == 1,

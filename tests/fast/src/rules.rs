@@ -7,13 +7,15 @@ use crate::output::{
     Movement, Output, RunningDuration, Settings, Warning, LONGEST_TIME, SHORTEST_TIME,
     WARNING_PRIORITY,
 };
+use crate::parameters::{PanelRecord, Parameters};
 use crate::station::Station;
 
-pub const MOST_OUTPUTS: usize = 64;
-
-pub fn all_rules_hold(outputs: &[Output], stations: &[Station], time: u64) -> bool {
-    (1..=MOST_OUTPUTS).contains(&outputs.len())
-        && outputs.iter().all(|output| output_rules_hold(output, time))
+pub fn all_rules_hold(outputs: &[Output], stations: &[Station], kept: &PanelRecord) -> bool {
+    kept.parameters.are_in_range()
+        && kept.parameters.fit(outputs, stations)
+        && outputs
+            .iter()
+            .all(|output| output_rules_hold(output, &kept.parameters, kept.time))
         && stations.iter().all(station_rules_hold)
 }
 
@@ -22,14 +24,14 @@ fn station_rules_hold(station: &Station) -> bool {
     station.number == 0 || (kind != CLOCK && length_of_kind(kind).is_some())
 }
 
-fn output_rules_hold(output: &Output, time: u64) -> bool {
-    settings_hold(&output.settings)
+fn output_rules_hold(output: &Output, parameters: &Parameters, time: u64) -> bool {
+    settings_hold(&output.settings, parameters.longest_fade)
         && slots_hold(output)
         && output.live & 1 << (WARNING_PRIORITY - 1) == warning_bit(output)
         && !(output.movement.is_some() && output.warning.is_some())
         && output
             .movement
-            .is_none_or(|movement| movement_holds(output, &movement, time))
+            .is_none_or(|movement| movement_holds(output, &movement, parameters, time))
         && output
             .warning
             .is_none_or(|warning| warning_holds(&warning, time))
@@ -45,10 +47,10 @@ fn warning_bit(output: &Output) -> u16 {
     u16::from(output.warning.is_some()) << (WARNING_PRIORITY - 1)
 }
 
-fn settings_hold(settings: &Settings) -> bool {
+fn settings_hold(settings: &Settings, longest_fade: u32) -> bool {
     let bounds = LOWEST_LIT..=HIGHEST;
     is_slot_level(settings.relinquish_default)
-        && (SHORTEST_TIME..=LONGEST_TIME).contains(&settings.fade_time)
+        && (SHORTEST_TIME..=longest_fade).contains(&settings.fade_time)
         && is_rate_or_step(settings.ramp_rate)
         && is_rate_or_step(settings.step_increment)
         && settings.blink_time <= LONGEST_TIME
@@ -71,12 +73,17 @@ fn slots_hold(output: &Output) -> bool {
         .all(|(index, level)| output.live >> index & 1 == 0 || is_slot_level(*level))
 }
 
-fn movement_holds(output: &Output, movement: &Movement, time: u64) -> bool {
+fn movement_holds(
+    output: &Output,
+    movement: &Movement,
+    parameters: &Parameters,
+    time: u64,
+) -> bool {
     output.winner() == Some(movement.owner)
         && movement.from <= output.settings.maximum
         && movement.to == output.present_value()
         && movement.began <= time
-        && (1..=LONGEST_TIME).contains(&movement.length)
+        && (1..=parameters.longest_movement()).contains(&movement.length)
         && time - movement.began < u64::from(movement.length)
 }
 

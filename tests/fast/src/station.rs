@@ -3,8 +3,6 @@
 use crate::answer::Answer;
 use crate::frame::LONGEST_FRAME;
 
-pub const STATIONS: usize = 8;
-
 #[derive(Clone, Copy, Debug)]
 pub struct Station {
     /// The last number, 0 meaning none.

@@ -1,8 +1,9 @@
-//! Refusal 1: each record rule broken once, with everything left as it was.
+//! Refusal 1: each record rule broken once, with everything left as it was. The
+//! counts and the rules at other sets are in panels/src/lent_set.rs.
 
 use fast::answer::Refusal;
 use fast::output::{Movement, Pace, RunningDuration, Warning};
-use fast::{frame, start, Answer, Output, Station, STATIONS};
+use fast::{frame, Answer, Output, PanelRecord, Parameters, Station};
 
 const TIME: u64 = 10_000;
 const FIFTY_PERCENT: u32 = 3_276_800;
@@ -13,14 +14,23 @@ const REFUSED: Answer = Answer::Refused(Refusal::Records);
 /// The answer to a clock of 20,000 ms after a change to a table of records at
 /// 10,000 ms that keep all rules.
 fn answer_after(change: impl Fn(&mut Output, &mut Station)) -> Answer {
-    let mut outputs = [Output::FRESH; 3];
-    let mut stations = [Station::FRESH; STATIONS];
-    let mut time = TIME;
+    let parameters = Parameters {
+        stations: 8,
+        outputs: 3,
+        longest_fade: 86_400_000,
+        longest_duration: 86_400_000,
+    };
+    let mut outputs = [Output::fresh(&parameters); 3];
+    let mut stations = [Station::FRESH; 8];
+    let mut kept = PanelRecord {
+        time: TIME,
+        parameters,
+    };
     change(&mut outputs[1], &mut stations[5]);
-    let before = format!("{outputs:?} {stations:?} {time}");
-    let answer = frame::<true>(&mut outputs, &mut stations, &mut time, &CLOCK);
+    let before = format!("{outputs:?} {stations:?} {kept:?}");
+    let answer = frame::<true>(&mut outputs, &mut stations, &mut kept, &CLOCK);
     if answer == REFUSED {
-        assert_eq!(format!("{outputs:?} {stations:?} {time}"), before);
+        assert_eq!(format!("{outputs:?} {stations:?} {kept:?}"), before);
     }
     answer
 }
@@ -59,24 +69,6 @@ fn warn_at_slot_nine(output: &mut Output, change: impl Fn(&mut Warning)) {
     };
     change(&mut warning);
     output.warning = Some(warning);
-}
-
-#[test]
-fn counts() {
-    for (count, expected) in [
-        (0, REFUSED),
-        (1, Answer::Done),
-        (64, Answer::Done),
-        (65, REFUSED),
-    ] {
-        let mut outputs = vec![Output::FRESH; count];
-        let mut stations = [Station::FRESH; STATIONS];
-        let mut time = 7;
-        assert_eq!(start(&mut outputs, &mut stations, &mut time), expected);
-        assert_eq!(time, if expected == REFUSED { 7 } else { 0 });
-        let answer = frame::<true>(&mut outputs, &mut stations, &mut time, &CLOCK);
-        assert_eq!(answer, expected);
-    }
 }
 
 #[test]

@@ -18,7 +18,7 @@ fn length_to_come(kind: u8) -> Option<usize> {
 impl Generator {
     /// A copy of a station's latest first arrival, or of any earlier frame.
     pub(crate) fn copy_of_earlier(&mut self) -> Vec<u8> {
-        let station = self.random.below(8) as u8;
+        let station = self.some_station();
         let wanted = self.random.below(10);
         let latest = self.panel.latest_of_station(station);
         let last_arrival = self.panel.first_arrivals().last();
@@ -55,6 +55,7 @@ impl Generator {
             output,
             body: Some(body),
             when: When::Whenever,
+            station: None,
         });
         self.spoil(&mut bytes);
         if self.random.chance(35) {
@@ -80,7 +81,12 @@ impl Generator {
             0 => bytes.clear(),
             1 => self.spoil_kind(bytes),
             2 | 3 => self.spoil_length(bytes),
-            4 if whole_head => bytes[1] = self.random.pick(&[8, 9, 16, 127, 128, 255]),
+            4 if whole_head => {
+                let stations = self.panel.parameters().stations as u8;
+                bytes[1] = self
+                    .random
+                    .pick(&[stations, stations + 1, 16, 127, 128, 255]);
+            }
             5 if whole_head => bytes[2..6].fill(0),
             6 if whole_head => {
                 let outputs = self.panel.outputs().len() as u8;
@@ -131,7 +137,7 @@ impl Generator {
 
     /// "Station's last number, other bytes" - or the same, which is a copy.
     fn take_latest_number(&mut self, bytes: &mut Vec<u8>) {
-        let station = self.random.below(8) as u8;
+        let station = self.some_station();
         let Some(latest) = self.panel.latest_of_station(station) else {
             return;
         };
@@ -161,7 +167,7 @@ impl Generator {
     }
 
     fn take_older_number(&mut self, bytes: &mut [u8]) {
-        let station = self.random.below(8) as u8;
+        let station = self.some_station();
         let Some(latest) = self.panel.latest_of_station(station) else {
             return;
         };

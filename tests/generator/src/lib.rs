@@ -2,6 +2,7 @@
 
 pub mod body;
 pub mod copies;
+pub mod heading;
 pub mod hostile;
 pub mod list;
 pub mod pair;
@@ -13,6 +14,7 @@ pub mod suites;
 pub mod timing;
 pub mod values;
 
+pub use heading::Heading;
 pub use list::{generate, List, Which};
 pub use pair::{pair, pair_seen_by, Pair};
 pub use random::Random;

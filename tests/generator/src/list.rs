@@ -5,16 +5,19 @@ use std::collections::VecDeque;
 use plain::{Answer, Panel};
 
 use crate::body::{clock, Body, Head};
+use crate::heading::Heading;
 use crate::random::Random;
 use crate::suite::Suite;
 use crate::timing::When;
 
 /// A list with what the plain panel answered and what it is left with.
 pub struct List {
-    pub outputs: usize,
+    pub heading: Heading,
     pub frames: Vec<Vec<u8>>,
+    /// None if the panel was not started.
     pub answers: Vec<Answer>,
-    pub panel: Panel,
+    /// The panel at the end, or what its start was answered (§6).
+    pub panel: Result<Panel, Answer>,
 }
 
 /// A frame to come; head and time are made when its turn is there.
@@ -22,9 +25,11 @@ pub struct List {
 pub struct Planned {
     /// The one that the time is aimed at, of a clock too.
     pub output: u8,
-    /// Nothing for a clock.
+    /// Nothing for a clock, or, with a station, for its latest frame once more.
     pub body: Option<Body>,
     pub when: When,
+    /// The station that it comes from; any if it has none.
+    pub station: Option<u8>,
 }
 
 pub struct Generator {
@@ -72,7 +77,16 @@ impl Which {
 
 /// Makes that list, with `length` frames.
 pub fn generate(which: Which, length: usize, onlooker: Onlooker) -> List {
-    let mut generator = Generator::new(which);
+    let mut random = Random::from_seed(which.seed());
+    let heading = match which.suite.tables.headings {
+        Some(headings) => headings(&mut random, which.number),
+        None => Heading::of_document_01(outputs(which, &mut random)),
+    };
+    let panel = match Panel::start(heading.parameters()) {
+        Ok(panel) => panel,
+        Err(answer) => return List::not_started(heading, answer),
+    };
+    let mut generator = Generator::new(which, random, panel);
     while generator.frames.len() < length {
         let bytes = generator.next_frame();
         let answer = generator.panel.frame(&bytes);
@@ -81,25 +95,40 @@ pub fn generate(which: Which, length: usize, onlooker: Onlooker) -> List {
         generator.frames.push(bytes);
     }
     List {
-        outputs: generator.panel.outputs().len(),
+        heading,
         frames: generator.frames,
         answers: generator.answers,
-        panel: generator.panel,
+        panel: Ok(generator.panel),
+    }
+}
+
+/// How many, in a list of document 01's numbers.
+fn outputs(which: Which, random: &mut Random) -> u64 {
+    match random.below(10) {
+        _ if which.is_great() => random.between(1, 2),
+        // Every number of outputs has its turn in 256 lists.
+        _ if which.number.is_multiple_of(4) => which.number / 4 * 21 % 64 + 1,
+        0..=3 => 1,
+        4..=8 => random.between(2, 8),
+        _ => 64,
+    }
+}
+
+impl List {
+    /// Two frames that nobody answers.
+    fn not_started(heading: Heading, answer: Answer) -> List {
+        List {
+            heading,
+            frames: vec![clock(1), Vec::new()],
+            answers: Vec::new(),
+            panel: Err(answer),
+        }
     }
 }
 
 impl Generator {
-    fn new(which: Which) -> Generator {
-        let mut random = Random::from_seed(which.seed());
-        let great = which.is_great();
-        let outputs = match random.below(10) {
-            _ if great => random.between(1, 2),
-            // Every number of outputs has its turn in 256 lists.
-            _ if which.number.is_multiple_of(4) => which.number / 4 * 21 % 64 + 1,
-            0..=3 => 1,
-            4..=8 => random.between(2, 8),
-            _ => 64,
-        };
+    fn new(which: Which, mut random: Random, panel: Panel) -> Generator {
+        let outputs = panel.outputs().len() as u64;
         let favourites = (0..random.between(1, 3))
             .map(|_| match random.one_in(4) {
                 // The edge of the table.
@@ -110,10 +139,13 @@ impl Generator {
         Generator {
             suite: which.suite,
             random,
-            panel: Panel::start(outputs as usize),
+            panel,
             frames: Vec::new(),
             answers: Vec::new(),
-            budget: if great { GREAT_BUDGET } else { USUAL_BUDGET },
+            budget: match which.is_great() {
+                true => GREAT_BUDGET,
+                false => USUAL_BUDGET,
+            },
             favourites,
             plan: VecDeque::new(),
         }
@@ -157,9 +189,15 @@ impl Generator {
         };
         let time = self.next_time(planned.output, when);
         let Some(body) = &planned.body else {
-            return clock(time);
+            let latest = planned
+                .station
+                .and_then(|station| self.panel.latest_of_station(station));
+            return latest.map_or(clock(time), |latest| latest.bytes.clone());
         };
-        let (station, number) = self.station_and_number();
+        let (station, number) = match planned.station {
+            Some(station) => (station, self.next_number(station)),
+            None => self.station_and_number(),
+        };
         let body = self.perhaps_tagged(body);
         body.bytes(Head {
             station,
@@ -169,14 +207,28 @@ impl Generator {
         })
     }
 
+    /// Any station of the panel.
+    pub(crate) fn some_station(&mut self) -> u8 {
+        let stations = self.panel.parameters().stations;
+        self.random.below(stations.into()) as u8
+    }
+
+    /// 0 if it has sent none.
+    fn last_number(&self, station: u8) -> u32 {
+        let latest = self.panel.latest_of_station(station);
+        latest.map_or(0, |latest| latest.number)
+    }
+
+    /// 1 of a station that has no number left.
+    fn next_number(&self, station: u8) -> u32 {
+        self.last_number(station).checked_add(1).unwrap_or(1)
+    }
+
     /// A station that still has a number to give, and such a number.
     fn station_and_number(&mut self) -> (u8, u32) {
         loop {
-            let station = self.random.below(8) as u8;
-            let last = self
-                .panel
-                .latest_of_station(station)
-                .map_or(0, |latest| latest.number);
+            let station = self.some_station();
+            let last = self.last_number(station);
             let left = u32::MAX - last;
             if left == 0 {
                 continue;

@@ -19,7 +19,7 @@ pub fn pair(which: Which, length: Option<usize>) -> Pair {
 /// The same; the onlooker sees the list without copies.
 pub fn pair_seen_by(which: Which, length: Option<usize>, onlooker: Onlooker) -> Pair {
     let mut random = Random::from_seed(!which.seed());
-    let own_length = own_length(&mut random, which.is_great());
+    let own_length = own_length(&mut random, which);
     let list = generate(which, length.unwrap_or(own_length), onlooker);
     let with_copies = with_copies(&mut random, &list.frames);
     Pair { list, with_copies }
@@ -27,8 +27,10 @@ pub fn pair_seen_by(which: Which, length: Option<usize>, onlooker: Onlooker) -> 
 
 /// Many short lists show what is found in the middle of things; long ones
 /// build up more, and whole days want one.
-fn own_length(random: &mut Random, is_great: bool) -> usize {
-    let length = if !is_great && random.chance(40) {
+fn own_length(random: &mut Random, which: Which) -> usize {
+    let length = if let Some((least, most)) = which.suite.tables.length {
+        random.between(least, most)
+    } else if !which.is_great() && random.chance(40) {
         random.between(1, 120)
     } else {
         random.between(500, 3_000)
@@ -38,10 +40,13 @@ fn own_length(random: &mut Random, is_great: bool) -> usize {
 
 impl Pair {
     /// The plain panel over the list with copies.
-    pub fn live_with_copies(&self) -> (Vec<Answer>, Panel) {
-        let mut panel = Panel::start(self.list.outputs);
+    pub fn live_with_copies(&self) -> (Vec<Answer>, Result<Panel, Answer>) {
+        let mut panel = match Panel::start(self.list.heading.parameters()) {
+            Ok(panel) => panel,
+            Err(answer) => return (Vec::new(), Err(answer)),
+        };
         let frames = self.with_copies.frames.iter();
         let answers = frames.map(|bytes| panel.frame(bytes)).collect();
-        (answers, panel)
+        (answers, Ok(panel))
     }
 }

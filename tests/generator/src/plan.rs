@@ -63,13 +63,26 @@ impl Generator {
     }
 
     pub(crate) fn plan(&mut self, output: u8, body: Body, when: When) {
-        let body = Some(body);
-        self.plan.push_back(Planned { output, body, when });
+        self.plan_from(None, output, Some(body), when);
     }
 
     pub(crate) fn plan_clock(&mut self, output: u8, when: When) {
-        let body = None;
-        self.plan.push_back(Planned { output, body, when });
+        self.plan_from(None, output, None, when);
+    }
+
+    pub(crate) fn plan_from(
+        &mut self,
+        station: Option<u8>,
+        output: u8,
+        body: Option<Body>,
+        when: When,
+    ) {
+        self.plan.push_back(Planned {
+            output,
+            body,
+            when,
+            station,
+        });
     }
 
     pub(crate) fn plan_read(&mut self, output: u8, property: u8, when: When) {

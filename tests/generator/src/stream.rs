@@ -5,6 +5,7 @@ use plain::frame::*;
 use plain::settings::*;
 
 use crate::body::{clock, Body, Head};
+use crate::heading::Heading;
 
 const HOUR: u64 = 3_600_000;
 const FIFTY_PERCENT: u32 = 0x4248_0000;
@@ -15,6 +16,12 @@ pub struct Stream {
     pub name: &'static str,
     pub outputs: usize,
     pub frames: Vec<Vec<u8>>,
+}
+
+impl Stream {
+    pub fn heading(&self) -> Heading {
+        Heading::of_document_01(self.outputs as u64)
+    }
 }
 
 /// The numbers of outputs at which panels are timed.

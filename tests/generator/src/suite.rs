@@ -7,6 +7,7 @@
 
 use events::{Edge, Event};
 
+use crate::heading::Heading;
 use crate::list::Generator;
 use crate::random::Random;
 
@@ -15,6 +16,9 @@ pub type Scene = fn(&mut Generator, u8);
 
 /// Scenes with their shares of the sum.
 pub type Shares = &'static [(u64, Scene)];
+
+/// Chooses the heading of a list by its number in the suite.
+pub type Headings = fn(&mut Random, u64) -> Heading;
 
 /// Chooses a property to write, and a value for it.
 pub type PropertyWrite = fn(&mut Generator, u8) -> (u8, u32);
@@ -56,6 +60,11 @@ pub struct Tables {
     pub tagged: u64,
     /// One list in so many may live whole days; none if 0.
     pub great_lists: u64,
+    /// Of a suite that starts panels with sets of its own (§6).
+    pub headings: Option<Headings>,
+    /// The least and the most frames of a list, if lists of this suite are
+    /// shorter than others.
+    pub length: Option<(u64, u64)>,
 }
 
 impl Tables {

@@ -21,7 +21,9 @@ fn it_comes_to_what_the_panel_lives() {
             Some(200),
         )
         .list;
-        let mut panel = Panel::start(list.outputs);
+        let Ok(mut panel) = Panel::start(list.heading.parameters()) else {
+            continue;
+        };
         for bytes in &list.frames {
             let (before, time) = (panel.outputs().to_vec(), panel.time());
             let arrivals = panel.first_arrivals().len();

@@ -2,16 +2,18 @@
 
 use generator::{pair, suites, Which};
 
-/// FNV-1a over the first lists of each suite, with and without copies. A change
+/// FNV-1a over the first lists of each suite, with and without copies, and over
+/// their headings where the suite has headings of its own. A change
 /// that adds a suite adds a line here and moves none. Where the panel that the
 /// lists are aimed by moves otherwise, lines may move; its note says which.
-const LISTS: [(&str, u64); 6] = [
+const LISTS: [(&str, u64); 7] = [
     ("base", 0x4F04_307F_5916_9911),
     ("§1", 0x39CF_320A_B6BF_C11F),
     ("§2", 0x2448_8DB8_5558_9A71),
     ("§3", 0x3E19_8C29_1C3F_123D),
     ("§4", 0x328C_5F36_1DEE_9994),
     ("§5", 0x914E_007A_0692_CF75),
+    ("§6", 0xBF39_4990_F11D_16AF),
 ];
 
 fn digest(bytes: impl Iterator<Item = u8>) -> u64 {
@@ -33,7 +35,13 @@ fn lists_stay_as_they_are() {
                 Some(400),
             )
         });
-        let frames = lists.flat_map(|pair| [pair.list.frames, pair.with_copies.frames].concat());
+        let frames = lists.flat_map(|pair| {
+            let heading = match suite.tables.headings {
+                Some(_) => vec![pair.list.heading.text().into_bytes()],
+                None => Vec::new(),
+            };
+            [heading, pair.list.frames, pair.with_copies.frames].concat()
+        });
         let with_lengths = frames.flat_map(|frame| [vec![frame.len() as u8], frame].concat());
         (suite.name, digest(with_lengths))
     });

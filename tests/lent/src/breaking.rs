@@ -222,13 +222,18 @@ pub fn breaking() -> Vec<(&'static str, Record)> {
 #[cfg(test)]
 mod tests {
     use super::*;
+    use crate::record::Kept;
     use crate::rules::{all_broken, names};
     use crate::states::states;
+
+    fn kept() -> Kept {
+        Kept::at(NOW, 1)
+    }
 
     #[test]
     fn each_breaks_one_rule_alone() {
         for (what, record) in breaking() {
-            let broken = all_broken(&record, NOW);
+            let broken = all_broken(&record, &kept());
             assert_eq!(broken.len(), 1, "{what}: {broken:?}");
         }
     }
@@ -237,10 +242,10 @@ mod tests {
     fn each_rule_is_broken_by_one() {
         let broken: Vec<&str> = breaking()
             .iter()
-            .flat_map(|(_, record)| all_broken(record, NOW))
+            .flat_map(|(_, record)| all_broken(record, &kept()))
             .collect();
         for (_, record) in states() {
-            for rule in names(&record, NOW) {
+            for rule in names(&record, &kept()) {
                 assert!(broken.contains(&rule), "{rule}");
             }
         }
@@ -249,7 +254,7 @@ mod tests {
     #[test]
     fn every_state_keeps_the_rules() {
         for (what, record) in states() {
-            let broken = all_broken(&record, NOW);
+            let broken = all_broken(&record, &kept());
             assert!(broken.is_empty(), "{what}: {broken:?}");
         }
     }

@@ -1,8 +1,11 @@
 //! Tables from a seed: records in any state, most of them kept to the rules or
-//! one field away from them, and a few frames.
+//! one field away from them, a set of document 01 or another one, and a few
+//! frames and starts.
 
+use generator::suites::set::EDGES;
 use generator::Random;
 use plain::frame::{length_of_kind, CLOCK};
+use plain::{Parameter, Parameters};
 
 use crate::record::{Activity, Record, Station, LONGEST_FRAME, NUMBERS};
 use crate::states::{states, NOW};
@@ -60,6 +63,40 @@ const REALS: [u32; 16] = [
     0xBF80_0000,
 ];
 
+/// A set, now and then with a number out of range.
+fn set(random: &mut Random, outputs: usize) -> Parameters {
+    let mut set = Parameters {
+        stations: random.pick(&[1, 2, 3, 7, 8, 9, 30, 31, 32]),
+        outputs: outputs as u32,
+        fade: random.pick(&EDGES),
+        duration: random.pick(&EDGES),
+    };
+    if random.one_in(8) {
+        let (parameter, number) = random.pick(&[
+            (Parameter::Stations, 0),
+            (Parameter::Stations, 33),
+            (Parameter::Outputs, 0),
+            (Parameter::Outputs, 65),
+            (Parameter::Fade, 99),
+            (Parameter::Fade, 86_400_001),
+            (Parameter::Duration, 99),
+            (Parameter::Duration, 86_400_001),
+            (Parameter::Duration, u32::MAX),
+        ]);
+        set.set(parameter, number);
+    }
+    set
+}
+
+/// One more or one fewer, now and then.
+fn about(random: &mut Random, number: u32) -> usize {
+    match random.below(40) {
+        0 => number.saturating_sub(1) as usize,
+        1 => number as usize + 1,
+        _ => number as usize,
+    }
+}
+
 /// The rows of one table with its frames.
 pub fn table(random: &mut Random) -> String {
     let mut text = Text(String::new());
@@ -69,10 +106,15 @@ pub fn table(random: &mut Random) -> String {
         2 => 65,
         _ => random.between(1, 3) as usize,
     };
-    let stations = match random.below(40) {
-        0 => 7,
-        1 => 9,
-        _ => 8,
+    let of_document_01 = random.chance(50);
+    let kept = match of_document_01 {
+        true => Parameters::of_document_01(outputs as u32),
+        false => set(random, outputs),
+    };
+    let stations = about(random, kept.stations).min(33);
+    let outputs = match of_document_01 {
+        true => outputs,
+        false => about(random, kept.outputs).min(65),
     };
     let time = match random.below(30) {
         0 => 0,
@@ -81,10 +123,19 @@ pub fn table(random: &mut Random) -> String {
         _ => NOW,
     };
     text.table(outputs, stations, time);
+    if !of_document_01 {
+        text.keep(&kept);
+        // As a start with that set leaves them.
+        let mut fresh = Record::fresh();
+        fresh.fade = kept.fresh_fade_time();
+        for place in (0..outputs).filter(|_| fresh != Record::fresh()) {
+            text.output(place, &fresh);
+        }
+    }
     let mut pending = false;
     for place in 0..outputs.min(3) {
         let place = if place == 2 { outputs - 1 } else { place };
-        let mut row = record(random).row(place);
+        let mut row = record(random, &kept).row(place);
         if random.one_in(4) {
             change_one(random, &mut row, time);
         }
@@ -98,7 +149,19 @@ pub fn table(random: &mut Random) -> String {
         }
     }
     let mut now = time;
+    let mut kept = kept;
     for _ in 0..random.between(1, 5) {
+        if random.one_in(12) {
+            let mut other = set(random, outputs);
+            if random.chance(70) {
+                other.stations = stations as u32;
+            }
+            text.start(&other);
+            let fits = (other.outputs, other.stations) == (outputs as u32, stations as u32);
+            if fits && other.out_of_range().is_none() {
+                (now, kept, pending) = (0, other, false);
+            }
+        }
         let later = match random.below(10) {
             0..=3 => random.below(3),
             4 | 5 => random.pick(&[299, 300, 301, 500, 599, 600, 601, 900]),
@@ -108,7 +171,7 @@ pub fn table(random: &mut Random) -> String {
             _ => random.below(1 << 40),
         };
         let moment = (now + later).min((1 << 48) - 1);
-        text.frame(&frame(random, moment, outputs));
+        text.frame(&frame(random, moment, outputs, &kept));
         now = now.max(moment);
         if random.one_in(2) {
             text.left();
@@ -120,7 +183,7 @@ pub fn table(random: &mut Random) -> String {
 
 /// A state of the list, with some of its fields changed so that it keeps the
 /// rules, or mostly so.
-fn record(random: &mut Random) -> Record {
+fn record(random: &mut Random, kept: &Parameters) -> Record {
     let states = states();
     let (_, mut record) = states[random.below(states.len() as u64) as usize];
     if random.one_in(3) {
@@ -132,7 +195,7 @@ fn record(random: &mut Random) -> Record {
         record.slot = random.pick(&[0, 4, 6, 7, 8, 14, 15]);
     }
     if random.one_in(3) {
-        record.fade = random.pick(&[100, 101, 1_000, 86_400_000]);
+        record.fade = random.pick(&[100, 101, 1_000, 86_400_000, kept.fade]);
         record.ramp = random.pick(&REALS[4..13]);
         record.step = random.pick(&REALS[4..13]);
     }
@@ -152,6 +215,17 @@ fn record(random: &mut Random) -> Record {
         record.reverse = !record.reverse;
     }
     record.burning = random.pick(&[0, 999, 1_000, 9_999, 10_000]);
+    // At the longest that the set allows, and one more.
+    if record.fade > kept.fade {
+        record.fade = kept.fade.saturating_add(random.one_in(10).into());
+    }
+    if let Activity::Moving { length, over, .. } = &mut record.activity {
+        let most = kept.fade.max(800_000);
+        if random.one_in(6) || *length > most {
+            *length = most.saturating_add(random.one_in(4).into());
+            *over = NOW + u64::from(*length).min(random.pick(&[1, 600, 5_000]));
+        }
+    }
     record
 }
 
@@ -195,13 +269,16 @@ fn station(random: &mut Random) -> Station {
     }
 }
 
-fn frame(random: &mut Random, time: u64, outputs: usize) -> Vec<u8> {
+fn frame(random: &mut Random, time: u64, outputs: usize, kept: &Parameters) -> Vec<u8> {
     let kind = random.pick(&KINDS);
     if kind == CLOCK {
         return clock(time);
     }
     let head = Head {
-        station: random.pick(&[0, 1, 2, 3, 4, 5, 6, 7, 0, 1, 2, 3, 4, 5, 6, 7, 8]),
+        station: match random.below(17) {
+            0 => kept.stations.min(255) as u8,
+            _ => random.below(kept.stations.clamp(1, 32).into()) as u8,
+        },
         number: random.pick(&[0, 1, 2, 2, 3, 3, 4, 4, 5, 5, 6, 7, 8, 9, u32::MAX]),
         time,
         output: match random.below(12) {
@@ -219,9 +296,10 @@ fn frame(random: &mut Random, time: u64, outputs: usize) -> Vec<u8> {
         0x03 => adds.push(priority(random)),
         0x04 => {
             adds.push(random.between(0, 0x1C) as u8);
-            let value = match random.below(3) {
+            let value = match random.below(4) {
                 0 => random.pick(&REALS),
                 1 => random.pick(&TIMES),
+                2 => time_about(random, kept),
                 _ => random.below(18) as u32,
             };
             adds.extend(value.to_be_bytes());
@@ -233,7 +311,19 @@ fn frame(random: &mut Random, time: u64, outputs: usize) -> Vec<u8> {
             let fields = (length_of_kind(kind).unwrap_or(13) - 13) / 4;
             for field in 1..=fields {
                 let value = if field == fields || (kind == 0x12 && field == 2) {
-                    random.pick(&[0, 100, 300, 5_000, 99, 86_400_000, u32::MAX, u32::MAX])
+                    let about = time_about(random, kept);
+                    random.pick(&[
+                        0,
+                        100,
+                        300,
+                        5_000,
+                        99,
+                        86_400_000,
+                        u32::MAX,
+                        u32::MAX,
+                        about,
+                        about,
+                    ])
                 } else {
                     random.pick(&REALS)
                 };
@@ -246,6 +336,12 @@ fn frame(random: &mut Random, time: u64, outputs: usize) -> Vec<u8> {
         bytes.pop();
     }
     bytes
+}
+
+/// A longest fade or duration, or one more.
+fn time_about(random: &mut Random, kept: &Parameters) -> u32 {
+    let longest = random.pick(&[kept.fade, kept.duration]);
+    longest.saturating_add(random.below(2) as u32)
 }
 
 fn priority(random: &mut Random) -> u8 {

@@ -8,6 +8,7 @@ pub mod panel;
 pub mod record;
 pub mod rows;
 pub mod rules;
+pub mod sets;
 pub mod states;
 pub mod stored;
 pub mod text;

@@ -10,7 +10,7 @@ use plain::last_command::LastCommand;
 use plain::movement::{Movement, Pace};
 use plain::output::RunningDuration;
 use plain::warning::Warning;
-use plain::{Answer, Output};
+use plain::{Answer, Output, Parameters};
 
 use crate::record::{Activity, Last, Record};
 
@@ -22,7 +22,7 @@ fn priority(slot: u8) -> u8 {
 }
 
 fn output_of(record: &Record, time: u64) -> Output {
-    let mut output = Output::fresh();
+    let mut output = a_fresh_output();
     let settings = &mut output.settings;
     settings.relinquish_default = record.default;
     settings.fade_time = record.fade;
@@ -96,13 +96,18 @@ fn output_of(record: &Record, time: u64) -> Output {
     output
 }
 
+/// Every field of it is written.
+fn a_fresh_output() -> Output {
+    Output::fresh(&Parameters::of_document_01(1))
+}
+
 /// One that the plain panel makes itself: STOP with a duration of 100 ms.
 fn a_duration() -> RunningDuration {
-    let mut output = Output::fresh();
+    let mut output = a_fresh_output();
     let mut stop = [0; 17];
     stop[0] = frame::STOP;
     stop[16] = 100;
-    output.command(&stop);
+    output.command(&Parameters::of_document_01(1), &stop);
     output.duration.expect("STOP set it")
 }
 
@@ -245,7 +250,7 @@ pub fn pass(record: &mut Record, from: u64, to: u64) {
 }
 
 /// What the frame's kind calls for, at its time.
-pub fn act(record: &mut Record, time: u64, bytes: &[u8]) -> Answer {
+pub fn act(record: &mut Record, parameters: &Parameters, time: u64, bytes: &[u8]) -> Answer {
     let mut output = output_of(record, time);
     let warned = output.warning.is_some();
     let answer = match bytes[0] {
@@ -254,11 +259,12 @@ pub fn act(record: &mut Record, time: u64, bytes: &[u8]) -> Answer {
         }
         frame::EMPTY_A_SLOT => output.empty_a_slot(frame::byte_field(bytes)),
         frame::WRITE_PROPERTY => {
-            output.write_property(frame::byte_field(bytes), frame::value_field(bytes))
+            let (property, value) = (frame::byte_field(bytes), frame::value_field(bytes));
+            output.write_property(parameters, property, value)
         }
         frame::READ_PROPERTY => output.read_property(frame::byte_field(bytes)),
-        frame::TAGGED_COMMAND => output.tagged_command(bytes),
-        _ => output.command(bytes),
+        frame::TAGGED_COMMAND => output.tagged_command(parameters, bytes),
+        _ => output.command(parameters, bytes),
     };
     if matches!(answer, Answer::Refused(_)) || bytes[0] == frame::READ_PROPERTY {
         return answer;

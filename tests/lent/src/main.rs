@@ -69,7 +69,7 @@ fn compare(program: &str, tables: u64, seed: u64) -> Result<(), String> {
             let lines = || {
                 expected
                     .lines()
-                    .filter(|line| !line.starts_with(['t', 'o', 's']))
+                    .filter(|line| !line.starts_with(['t', 'p', 'o', 's']))
             };
             answers += lines().count();
             refused += lines().filter(|line| *line == "Refused 1").count();

@@ -1,24 +1,51 @@
-//! The table of refusals over lent tables: "checked in this order".
+//! The start, and the table of refusals, over lent tables: "checked in this
+//! order".
 
 use plain::frame;
-use plain::{answer, Answer};
+use plain::{answer, Answer, Parameters};
 
 use crate::living;
-use crate::record::{Record, Station, LONGEST_FRAME};
+use crate::record::{Kept, Record, Station, LONGEST_FRAME};
 use crate::rules;
 
 /// "A record rule broken."
 const TABLES: u8 = 1;
 
+/// "17: a start with a parameter out of range; tested before 1, tables
+/// unwritten." Then "exactly that many records" are asked for.
+pub fn start(
+    outputs: &mut [Record],
+    stations: &mut [Station],
+    kept: &mut Kept,
+    set: Parameters,
+) -> Answer {
+    if set.out_of_range().is_some() {
+        return Answer::Refused(answer::PARAMETER);
+    }
+    if !rules::counts_hold(outputs, stations, &set) {
+        return Answer::Refused(TABLES);
+    }
+    let mut fresh = Record::fresh();
+    fresh.fade = set.fresh_fade_time();
+    outputs.fill(fresh);
+    stations.fill(Station::fresh());
+    *kept = Kept {
+        time: 0,
+        parameters: set,
+    };
+    Answer::Done
+}
+
 pub fn frame(
     outputs: &mut [Record],
     stations: &mut [Station],
-    time: &mut u64,
+    kept: &mut Kept,
     bytes: &[u8],
 ) -> Answer {
-    if !rules::hold(outputs, stations, *time) {
+    if !rules::hold(outputs, stations, kept) {
         return Answer::Refused(TABLES);
     }
+    let Kept { time, parameters } = kept;
     let Some(length) = bytes.first().and_then(|kind| frame::length_of_kind(*kind)) else {
         return Answer::Refused(answer::NO_BYTE_OR_UNKNOWN_KIND);
     };
@@ -33,7 +60,7 @@ pub fn frame(
     }
     let station = usize::from(frame::station(bytes));
     let number = frame::number(bytes);
-    if station > 7 || number == 0 {
+    if station >= parameters.stations as usize || number == 0 {
         return Answer::Refused(answer::STATION_OR_NUMBER);
     }
     let output = usize::from(frame::output(bytes));
@@ -54,7 +81,7 @@ pub fn frame(
     if !move_to(outputs, time, frame::time(bytes)) {
         return Answer::Refused(answer::TIME_BEFORE_PANEL_TIME);
     }
-    let answer = living::act(&mut outputs[output], *time, bytes);
+    let answer = living::act(&mut outputs[output], parameters, *time, bytes);
     let mut kept = [0; LONGEST_FRAME];
     kept[..bytes.len()].copy_from_slice(bytes);
     stations[station] = Station {

@@ -1,6 +1,8 @@
 //! Lent records as rows of numbers (crates/lent_rows has the same places), with
 //! a name for each number. Slots are counted from 0 here: slot 6 is 5.
 
+use plain::Parameters;
+
 /// The most numbers of a row: an output's place and its 48 fields.
 pub const NUMBERS: usize = 49;
 pub const STATION_NUMBERS: usize = 35;
@@ -72,6 +74,38 @@ pub struct Station {
     pub frame: [u8; LONGEST_FRAME],
 }
 
+/// What is lent beside the two tables: the panel time and the set that the
+/// panel was started with (§6), whatever its numbers are.
+#[derive(Clone, Copy, Debug, PartialEq, Eq)]
+pub struct Kept {
+    pub time: u64,
+    pub parameters: Parameters,
+}
+
+impl Kept {
+    /// The set of document 01.
+    pub fn at(time: u64, outputs: usize) -> Kept {
+        Kept {
+            time,
+            parameters: Parameters::of_document_01(outputs as u32),
+        }
+    }
+}
+
+/// A set as a row has it: stations, outputs, longest fade, longest duration.
+pub fn set_of_row(row: &[u64; NUMBERS]) -> Parameters {
+    Parameters {
+        stations: word(row[0]),
+        outputs: word(row[1]),
+        fade: word(row[2]),
+        duration: word(row[3]),
+    }
+}
+
+pub fn row_of_set(set: &Parameters) -> [u64; 4] {
+    [set.stations, set.outputs, set.fade, set.duration].map(u64::from)
+}
+
 /// What is too great for a field becomes the greatest that it holds.
 fn byte(number: u64) -> u8 {
     number.try_into().unwrap_or(u8::MAX)
@@ -92,6 +126,7 @@ fn real(number: u64) -> u32 {
 }
 
 impl Record {
+    /// As document 01 has it.
     pub fn fresh() -> Record {
         Record {
             default: 0,

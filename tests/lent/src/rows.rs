@@ -4,16 +4,16 @@
 use plain::Answer;
 
 use crate::panel;
-use crate::record::{Record, Station, NUMBERS};
+use crate::record::{row_of_set, set_of_row, Kept, Record, Station, NUMBERS};
 
 /// One more than any panel has.
 const OUTPUTS: usize = 65;
-const STATIONS: usize = 9;
+const STATIONS: usize = 33;
 
 struct Tables {
     outputs: Vec<Record>,
     stations: Vec<Station>,
-    time: u64,
+    kept: Kept,
     lent_outputs: usize,
     lent_stations: usize,
 }
@@ -22,7 +22,7 @@ pub fn run(text: &str) -> String {
     let mut tables = Tables {
         outputs: vec![Record::fresh(); OUTPUTS],
         stations: vec![Station::fresh(); STATIONS],
-        time: 0,
+        kept: Kept::at(0, 0),
         lent_outputs: 0,
         lent_stations: 0,
     };
@@ -57,7 +57,7 @@ pub fn row(letter: char, numbers: &[u64]) -> String {
 
 impl Tables {
     fn take(&mut self, line: &str, written: &mut String) {
-        let Some(letter @ ('t' | 'o' | 's' | 'f' | 'l')) = line.chars().next() else {
+        let Some(letter @ ('t' | 'p' | 'o' | 's' | 'b' | 'f' | 'l')) = line.chars().next() else {
             return;
         };
         let read = numbers(line);
@@ -70,8 +70,9 @@ impl Tables {
                 self.stations.fill(Station::fresh());
                 self.lent_outputs = place;
                 self.lent_stations = row[1].min(255) as usize;
-                self.time = row[2];
+                self.kept = Kept::at(row[2], place);
             }
+            'p' => self.kept.parameters = set_of_row(&row),
             'o' => {
                 if let Some(record) = self.outputs.get_mut(place) {
                     *record = Record::of_row(&row);
@@ -82,23 +83,33 @@ impl Tables {
                     *record = Station::of_row(&row);
                 }
             }
+            'b' => {
+                let (outputs, stations, kept) = self.lent();
+                let answer = panel::start(outputs, stations, kept, set_of_row(&row));
+                written.push_str(&answer_line(answer));
+            }
             'f' => {
                 let bytes: Vec<u8> = read.iter().map(|byte| (*byte).min(255) as u8).collect();
-                let answer = panel::frame(
-                    &mut self.outputs[..self.lent_outputs.min(OUTPUTS)],
-                    &mut self.stations[..self.lent_stations.min(STATIONS)],
-                    &mut self.time,
-                    &bytes,
-                );
+                let (outputs, stations, kept) = self.lent();
+                let answer = panel::frame(outputs, stations, kept, &bytes);
                 written.push_str(&answer_line(answer));
             }
             _ => self.put_left(written),
         }
     }
 
+    fn lent(&mut self) -> (&mut [Record], &mut [Station], &mut Kept) {
+        (
+            &mut self.outputs[..self.lent_outputs.min(OUTPUTS)],
+            &mut self.stations[..self.lent_stations.min(STATIONS)],
+            &mut self.kept,
+        )
+    }
+
     fn put_left(&self, written: &mut String) {
         let counts = [self.lent_outputs as u64, self.lent_stations as u64];
-        written.push_str(&row('t', &[counts[0], counts[1], self.time]));
+        written.push_str(&row('t', &[counts[0], counts[1], self.kept.time]));
+        written.push_str(&row('p', &row_of_set(&self.kept.parameters)));
         for (place, record) in self.outputs.iter().enumerate().take(self.lent_outputs) {
             if *record != Record::fresh() {
                 written.push_str(&row('o', &record.row(place)));

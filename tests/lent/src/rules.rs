@@ -1,19 +1,31 @@
-//! The paper's record rules, sentence by sentence, with those of §3 on relays:
-//! refusal 1. Slots are counted from 0.
+//! The paper's record rules, sentence by sentence, with those of §3 on relays and
+//! with the numbers that the panel keeps (§6): refusal 1. Slots are counted from 0.
 
 use plain::frame::{length_of_kind, CLOCK};
 use plain::real::{rate_or_step, HUNDRED_PERCENT, ONE_PERCENT};
-use plain::settings::{LONGEST, SHORTEST};
+use plain::settings::LONGEST;
+use plain::Parameters;
 
-use crate::record::{Activity, Record, Station};
+use crate::record::{Activity, Kept, Record, Station};
 
-pub fn hold(outputs: &[Record], stations: &[Station], time: u64) -> bool {
-    (1..=64).contains(&outputs.len())
-        && stations.len() == 8
+/// "Kept ones out of range meet 1."
+pub fn hold(outputs: &[Record], stations: &[Station], kept: &Kept) -> bool {
+    kept.parameters.out_of_range().is_none()
+        && counts_hold(outputs, stations, &kept.parameters)
         && outputs
             .iter()
-            .all(|record| all_broken(record, time).is_empty())
+            .all(|record| all_broken(record, kept).is_empty())
         && stations.iter().all(station_holds)
+}
+
+/// "Now exactly that many records."
+pub fn counts_hold(outputs: &[Record], stations: &[Station], set: &Parameters) -> bool {
+    outputs.len() == set.outputs as usize && stations.len() == set.stations as usize
+}
+
+/// "A movement may last up to the larger of the longest fade and 800,000 ms."
+fn longest_movement(set: &Parameters) -> u32 {
+    set.fade.max(800_000)
 }
 
 /// "Number 0 meaning none"; else a frame "of its kind's length", and no clock:
@@ -34,16 +46,14 @@ fn is_slot(slot: u8) -> bool {
 
 /// The rules that bear on the record, in the paper's words, and whether it
 /// keeps them.
-fn rules(record: &Record, time: u64) -> Vec<(&'static str, bool)> {
+fn rules(record: &Record, kept: &Kept) -> Vec<(&'static str, bool)> {
+    let Kept { time, parameters } = *kept;
     let limits = ONE_PERCENT..=HUNDRED_PERCENT;
     let shown = record.present_value();
     let warned = matches!(record.activity, Activity::Warned { .. });
     let mut rules = vec![
         ("Relinquish_Default in range", is_level(record.default)),
-        (
-            "Fade_Time in range",
-            (SHORTEST..=LONGEST).contains(&record.fade),
-        ),
+        ("Fade_Time in range", parameters.is_fade_time(record.fade)),
         ("Ramp_Rate in range", rate_or_step(record.ramp).is_some()),
         (
             "Step_Increment in range",
@@ -102,8 +112,8 @@ fn rules(record: &Record, time: u64) -> Vec<(&'static str, bool)> {
                 over.saturating_sub(time) <= u64::from(length),
             ),
             (
-                "it lasts 1 to 86,400,000 ms",
-                (1..=LONGEST).contains(&length),
+                "it lasts 1 ms to the longest movement",
+                (1..=longest_movement(&parameters)).contains(&length),
             ),
             ("a movement's end after panel time", time < over),
         ]),
@@ -124,13 +134,13 @@ fn rules(record: &Record, time: u64) -> Vec<(&'static str, bool)> {
     rules
 }
 
-pub fn names(record: &Record, time: u64) -> Vec<&'static str> {
-    rules(record, time).iter().map(|(rule, _)| *rule).collect()
+pub fn names(record: &Record, kept: &Kept) -> Vec<&'static str> {
+    rules(record, kept).iter().map(|(rule, _)| *rule).collect()
 }
 
 /// All the rules that the record breaks.
-pub fn all_broken(record: &Record, time: u64) -> Vec<&'static str> {
-    rules(record, time)
+pub fn all_broken(record: &Record, kept: &Kept) -> Vec<&'static str> {
+    rules(record, kept)
         .into_iter()
         .filter(|(_, holds)| !holds)
         .map(|(rule, _)| rule)

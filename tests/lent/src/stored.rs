@@ -1,8 +1,10 @@
 //! The rows of crates/lent_tables/stdin: each rule broken alone in each place,
-//! counts, and every state that the rules allow, each with a few frames.
+//! counts, and every state that the rules allow, each with a few frames, at the
+//! set of document 01; then sets and starts.
 
 use crate::breaking::breaking;
 use crate::record::{Record, Station, LONGEST_FRAME};
+use crate::sets::sets;
 use crate::states::{state, states, NOW};
 use crate::text::{call, clock, Head, Text};
 
@@ -18,6 +20,7 @@ pub fn stored() -> String {
     far_times(&mut text);
     time_passes(&mut text);
     frames_act(&mut text);
+    sets(&mut text);
     text.0
 }
 

@@ -1,6 +1,8 @@
 //! Tables and frames written as rows.
 
-use crate::record::{Record, Station};
+use plain::Parameters;
+
+use crate::record::{row_of_set, Record, Station};
 use crate::rows::row;
 
 pub const PERCENT: u32 = 65_536;
@@ -41,6 +43,16 @@ impl Text {
     pub fn table(&mut self, outputs: usize, stations: usize, time: u64) {
         self.0
             .push_str(&row('t', &[outputs as u64, stations as u64, time]));
+    }
+
+    /// The set that is kept from here on.
+    pub fn keep(&mut self, set: &Parameters) {
+        self.0.push_str(&row('p', &row_of_set(set)));
+    }
+
+    /// A start with that set over what is lent.
+    pub fn start(&mut self, set: &Parameters) {
+        self.0.push_str(&row('b', &row_of_set(set)));
     }
 
     pub fn output(&mut self, place: usize, record: &Record) {

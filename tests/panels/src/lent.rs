@@ -5,7 +5,7 @@
 //! Burning time goes by their levels like by any other's (§2).
 
 use plain::movement::{Movement, Pace};
-use plain::Output;
+use plain::{Output, Parameters};
 
 /// A movement of slot 16, at panel time `gone`.
 #[derive(Clone, Copy, Debug)]
@@ -86,7 +86,7 @@ impl LentMovement {
             reached: 0,
         };
         movement.reached = movement.level_after(movement.gone);
-        let mut output = Output::fresh();
+        let mut output = Output::fresh(&Parameters::of_document_01(1));
         output.store(OWNER, self.to);
         output.movement = Some(movement);
         let live = |step: &u64| {

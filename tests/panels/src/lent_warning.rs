@@ -8,7 +8,7 @@
 
 use plain::output::RunningDuration;
 use plain::warning::Warning;
-use plain::Output;
+use plain::{Output, Parameters};
 
 /// At panel time 0, in its dark phase.
 #[derive(Clone, Copy, Debug)]
@@ -55,7 +55,7 @@ pub fn lent_warnings() -> Vec<LentWarning> {
 impl LentWarning {
     /// Binary_Present_Value at that moment, the milliseconds lived one by one.
     pub fn active_lived(&self) -> bool {
-        let mut output = Output::fresh();
+        let mut output = Output::fresh(&Parameters::of_document_01(1));
         output.store(STRONGER_SLOT, self.stronger);
         output.store(BLINK_SLOT, 0);
         output.store(OWN_SLOT, 0);

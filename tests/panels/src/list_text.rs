@@ -1,11 +1,15 @@
 //! Lists as text.
 //!
-//! The first line that is no comment is `outputs N`, 1 to 64. Every further
-//! line is a string of bytes in hexadecimal, either case, with blanks allowed
-//! between bytes; `-` is the empty string. Blank lines and lines that begin
-//! with `#` are comments.
+//! The first line that is no comment is the heading: `outputs C`, then any of
+//! `stations S`, `fade F` and `duration D`, each at most once and in any order
+//! (§6). Those that are left out are document 01's. Every further line is a
+//! string of bytes in hexadecimal, either case, with blanks allowed between
+//! bytes; `-` is the empty string. Blank lines and lines that begin with `#` are
+//! comments.
 
 use std::fmt::Write;
+
+use crate::{Answer, Parameter, Parameters};
 
 /// What a line after the first holds.
 pub enum Line {
@@ -17,20 +21,58 @@ fn is_comment(line: &str) -> bool {
     line.is_empty() || line.starts_with('#')
 }
 
-/// Reads `outputs N`; nothing for a comment.
-pub fn read_outputs(line: &str) -> Result<Option<usize>, String> {
-    let line = line.trim();
+const BLANKS: [char; 3] = [' ', '\t', '\r'];
+
+const NO_OUTPUTS: &str = "the first line is to be `outputs N`";
+const NO_COUNT: &str = "N is to be 1 to 64";
+const BAD_WORD: &str =
+    "after `outputs N` may come `stations S`, `fade F` and `duration D`, each once";
+
+/// Reads a heading, whatever its numbers are; nothing for a comment.
+pub fn read_heading(line: &str) -> Result<Option<Parameters>, String> {
+    let line = line.trim_start_matches(BLANKS);
     if is_comment(line) {
         return Ok(None);
     }
-    let number = line
-        .strip_prefix("outputs ")
-        .ok_or("expected `outputs N` first")?
-        .trim_start();
-    let digits_only = number.bytes().all(|byte| byte.is_ascii_digit());
-    match number.parse::<usize>() {
-        Ok(outputs) if digits_only && (1..=64).contains(&outputs) => Ok(Some(outputs)),
-        _ => Err(format!("1 to 64 outputs, not `{number}`")),
+    // There must be a blank or more after the word.
+    let further = line
+        .strip_prefix(Parameter::Outputs.name())
+        .filter(|further| further.starts_with(BLANKS))
+        .ok_or(NO_OUTPUTS)?;
+    let mut words = further.split(BLANKS).filter(|word| !word.is_empty());
+    let outputs = words.next().and_then(read_number).ok_or(NO_COUNT)?;
+    let mut parameters = Parameters::of_document_01(outputs);
+    let mut left = vec![Parameter::Stations, Parameter::Fade, Parameter::Duration];
+    while let Some(word) = words.next() {
+        let place = left.iter().position(|parameter| parameter.name() == word);
+        let parameter = left.remove(place.ok_or(BAD_WORD)?);
+        let number = words.next().and_then(read_number).ok_or(BAD_WORD)?;
+        parameters.set(parameter, number);
+    }
+    Ok(Some(parameters))
+}
+
+/// Digits alone. What 32 bits do not hold is out of every range, as their
+/// greatest number is.
+fn read_number(digits: &str) -> Option<u32> {
+    digits.bytes().try_fold(0_u32, |number, digit| {
+        let value = digit.is_ascii_digit().then(|| digit - b'0')?;
+        Some(number.saturating_mul(10).saturating_add(value.into()))
+    })
+}
+
+/// What is wrong with a set that a panel did not start with.
+pub fn refused_start(parameters: &Parameters, answer: Answer) -> String {
+    match parameters.out_of_range() {
+        Some(parameter) => {
+            let (name, range) = (parameter.name(), parameter.range());
+            format!(
+                "`{name}` is to be {} to {}: {answer}",
+                range.start(),
+                range.end()
+            )
+        }
+        None => answer.to_string(),
     }
 }
 
@@ -82,9 +124,9 @@ pub fn write_string(text: &mut String, bytes: &[u8]) {
     text.push('\n');
 }
 
-/// Writes a whole list.
-pub fn write_list(outputs: usize, frames: &[Vec<u8>]) -> String {
-    let mut text = format!("outputs {outputs}\n");
+/// Writes a whole list under its heading.
+pub fn write_list(heading: &str, frames: &[Vec<u8>]) -> String {
+    let mut text = format!("{heading}\n");
     for bytes in frames {
         write_string(&mut text, bytes);
     }

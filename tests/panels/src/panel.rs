@@ -2,10 +2,17 @@
 
 use crate::answer::Answer;
 use crate::found::Found;
+use crate::Parameters;
 
-pub trait Panel {
-    /// A panel after a start that answered Done. The caller gives 1 to 64.
-    fn start(outputs: usize) -> Self;
+pub trait Panel: Sized {
+    /// A panel after a start that answered Done; else the start's answer.
+    fn start(parameters: Parameters) -> Result<Self, Answer>;
+
+    /// A panel with the numbers of document 01. The caller gives 1 to 64.
+    fn with_outputs(outputs: u32) -> Self {
+        let started = Self::start(Parameters::of_document_01(outputs));
+        started.unwrap_or_else(|answer| panic!("{outputs} outputs: {answer}"))
+    }
 
     fn frame(&mut self, bytes: &[u8]) -> Answer;
 

@@ -3,16 +3,16 @@
 use crate::answer::Answer;
 use crate::found::Found;
 use crate::panel::Panel;
+use crate::Parameters;
 
 pub struct PlainPanel {
     panel: plain::Panel,
 }
 
 impl Panel for PlainPanel {
-    fn start(outputs: usize) -> PlainPanel {
-        PlainPanel {
-            panel: plain::Panel::start(outputs),
-        }
+    fn start(parameters: Parameters) -> Result<PlainPanel, Answer> {
+        let panel = plain::Panel::start(parameters)?;
+        Ok(PlainPanel { panel })
     }
 
     fn frame(&mut self, bytes: &[u8]) -> Answer {

@@ -5,7 +5,7 @@ use std::io::{self, BufRead, Write};
 use std::process::ExitCode;
 
 use crate::found::Found;
-use crate::list_text::{read_outputs, read_string, Line};
+use crate::list_text::{read_heading, read_string, refused_start, Line};
 use crate::panel::Panel;
 
 /// Whether the list was good.
@@ -47,7 +47,10 @@ fn take_line<Chosen: Panel>(
 ) -> Result<Option<crate::Answer>, String> {
     match panel {
         None => {
-            *panel = read_outputs(line)?.map(Chosen::start);
+            if let Some(parameters) = read_heading(line)? {
+                let started = Chosen::start(parameters);
+                *panel = Some(started.map_err(|answer| refused_start(&parameters, answer))?);
+            }
             Ok(None)
         }
         Some(panel) => match read_string(line)? {

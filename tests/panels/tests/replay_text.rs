@@ -44,18 +44,135 @@ fn a_bad_line_ends_the_replay() {
 
 #[test]
 fn bad_first_lines() {
-    for list in [
-        "",
-        "outputs 0",
-        "outputs 65",
-        "outputs",
-        "outputs +1",
-        "01",
-        "outputs 1 1",
+    let no_outputs = "the first line is to be `outputs N`";
+    let no_count = "N is to be 1 to 64";
+    let bad_word = "after `outputs N` may come `stations S`, `fade F` and `duration D`, each once";
+    for (list, wrong) in [
+        ("outputs", no_outputs),
+        ("outputs5", no_outputs),
+        ("output 5", no_outputs),
+        ("stations 5 outputs 5", no_outputs),
+        ("01", no_outputs),
+        ("outputs ", no_count),
+        ("outputs +1", no_count),
+        ("outputs x", no_count),
+        ("outputs 1x", no_count),
+        ("outputs stations 5", no_count),
+        ("outputs 1 1", bad_word),
+        ("outputs 1 outputs 1", bad_word),
+        ("outputs 1 stations", bad_word),
+        ("outputs 1 stations 5x", bad_word),
+        ("outputs 1 stations fade 100", bad_word),
+        ("outputs 1 station 5", bad_word),
+        ("outputs 1 stations5", bad_word),
+        ("outputs 1 stations 5 stations 5", bad_word),
+        ("outputs 1 fade 100 duration 100 fade 100", bad_word),
+        ("outputs 0 stations 0 fade 0 duration", bad_word),
+        ("outputs 1 # a comment", bad_word),
     ] {
         let (text, good) = both(list);
         assert!(!good, "{list}");
-        assert!(text.starts_with("line 1: "), "{list}: {text}");
+        assert_eq!(text, format!("line 1: {wrong}\n"), "{list}");
+    }
+    let (text, good) = both("");
+    assert!(!good && text.starts_with("line 1: "), "{text}");
+}
+
+/// §6: the first one out of range, in the order of the set.
+#[test]
+fn refused_starts() {
+    let stations = "`stations` is to be 1 to 32: Refused 17";
+    let outputs = "`outputs` is to be 1 to 64: Refused 17";
+    let fade = "`fade` is to be 100 to 86400000: Refused 17";
+    let duration = "`duration` is to be 100 to 86400000: Refused 17";
+    for (heading, wrong) in [
+        ("outputs 0", outputs),
+        ("outputs 65", outputs),
+        ("outputs 4294967297", outputs),
+        ("outputs 18446744073709551617", outputs),
+        ("outputs 1 stations 0", stations),
+        ("outputs 1 stations 33", stations),
+        ("outputs 1 fade 99", fade),
+        ("outputs 1 fade 86400001", fade),
+        ("outputs 1 duration 99", duration),
+        ("outputs 1 duration 86400001", duration),
+        (
+            "outputs 1 duration 340282366920938463463374607431768211556",
+            duration,
+        ),
+        ("outputs 0 duration 0 fade 0 stations 0", stations),
+        ("outputs 0 duration 0 fade 0", outputs),
+        ("outputs 1 duration 0 fade 0", fade),
+    ] {
+        let (text, good) = both(&format!("# a comment\n\n{heading}\n01 000000000001\n"));
+        assert!(!good, "{heading}");
+        assert_eq!(text, format!("line 3: {wrong}\n"), "{heading}");
+    }
+}
+
+/// Those of the bad lists whose heading is bad are answered as the proved
+/// program answers them.
+#[test]
+fn bad_lists() {
+    for name in [
+        "all",
+        "count",
+        "duration",
+        "fade",
+        "first",
+        "great",
+        "great-fade",
+        "no-count",
+        "no-number",
+        "stations",
+        "twice",
+        "word",
+    ] {
+        let file = |ending| {
+            format!(
+                "{}/../bad-lists/{name}.{ending}",
+                env!("CARGO_MANIFEST_DIR")
+            )
+        };
+        let list = std::fs::read_to_string(file("txt")).unwrap();
+        let (text, good) = both(&list);
+        assert!(!good, "{name}");
+        assert_eq!(
+            text,
+            std::fs::read_to_string(file("out")).unwrap(),
+            "{name}"
+        );
+    }
+}
+
+/// §6: words in any order, blanks between them, and document 01's numbers for
+/// those that are left out.
+#[test]
+fn headings() {
+    for (heading, stations, fade) in [
+        ("outputs 2", 8, 1_000),
+        ("  outputs\t002  \r", 8, 1_000),
+        ("outputs 2 stations 3", 3, 1_000),
+        ("outputs 2 fade 250", 8, 250),
+        ("outputs 2 duration 100", 8, 1_000),
+        ("outputs 2 duration 100 fade 999 stations 32", 32, 999),
+        (
+            "outputs  2\tstations 0001 fade 00000000000000000000250",
+            1,
+            250,
+        ),
+        (
+            "outputs 2 stations 8 fade 86400000 duration 86400000",
+            8,
+            1_000,
+        ),
+    ] {
+        let frame = |station| format!("05 {station:02X} 00000001 000000000000 00 02");
+        let list = format!("{heading}\n{}\n{}\n", frame(stations - 1), frame(stations));
+        let (text, good) = both(&list);
+        assert!(good, "{heading}");
+        let expected = format!("Value {fade:08X}\nRefused 4\n--\noutput 0\n");
+        assert!(text.starts_with(&expected), "{heading}: {text}");
     }
 }
 

@@ -28,3 +28,5 @@ pub const TAGGED_FIELD: u8 = 15;
 /// §3: "A write to 17 or 18 that would leave the inactive value not below the
 /// active one."
 pub const INACTIVE_NOT_BELOW_ACTIVE: u8 = 16;
+/// §6: "A start with a parameter out of range."
+pub const PARAMETER: u8 = 17;

@@ -5,13 +5,13 @@ use crate::frame::*;
 use crate::last_command::LastCommand;
 use crate::movement::Movement;
 use crate::output::{Output, RunningDuration};
+use crate::parameters::Parameters;
 use crate::real;
-use crate::settings::{LONGEST, SHORTEST};
 use crate::tags;
 
 /// The first field out of range refuses: "fields left to right", which is the
 /// order of their tags.
-pub fn out_of_range(command: &LastCommand) -> Option<u8> {
+pub fn out_of_range(command: &LastCommand, parameters: &Parameters) -> Option<u8> {
     let wrong_level = command
         .level
         .is_some_and(|bits| real::level(bits).is_none());
@@ -19,30 +19,33 @@ pub fn out_of_range(command: &LastCommand) -> Option<u8> {
     if wrong_level || wrong(command.rate) || wrong(command.step) {
         return Some(answer::REAL);
     }
-    let fade_time = matches!(command.fade_time, None | Some(SHORTEST..=LONGEST));
-    // "0 cancels, 100 to 86,400,000 sets."
-    let duration = matches!(command.duration, None | Some(0 | SHORTEST..=LONGEST));
+    let fade_time = command
+        .fade_time
+        .is_none_or(|milliseconds| parameters.is_fade_time(milliseconds));
+    let duration = command
+        .duration
+        .is_none_or(|milliseconds| parameters.is_duration(milliseconds));
     (!fade_time || !duration).then_some(answer::WHOLE_NUMBER)
 }
 
 impl Output {
     /// Kinds 10 to 1A.
-    pub fn command(&mut self, bytes: &[u8]) -> Answer {
-        self.carry_out_if_in_range(LastCommand::of_plain_kind(bytes))
+    pub fn command(&mut self, parameters: &Parameters, bytes: &[u8]) -> Answer {
+        self.carry_out_if_in_range(parameters, LastCommand::of_plain_kind(bytes))
     }
 
     /// Kind 1B: "it acts as the plain kind does." A duration of FFFFFFFF is out
     /// of range here, since absent is missing.
-    pub fn tagged_command(&mut self, bytes: &[u8]) -> Answer {
+    pub fn tagged_command(&mut self, parameters: &Parameters, bytes: &[u8]) -> Answer {
         let reading = tags::read(tagged_body(bytes));
         match reading.refusal() {
             Some(number) => Answer::Refused(number),
-            None => self.carry_out_if_in_range(reading.command),
+            None => self.carry_out_if_in_range(parameters, reading.command),
         }
     }
 
-    fn carry_out_if_in_range(&mut self, command: LastCommand) -> Answer {
-        match out_of_range(&command) {
+    fn carry_out_if_in_range(&mut self, parameters: &Parameters, command: LastCommand) -> Answer {
+        match out_of_range(&command, parameters) {
             Some(number) => Answer::Refused(number),
             None => {
                 self.carry_out(&command);

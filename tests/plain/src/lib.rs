@@ -1,4 +1,4 @@
-//! The plain panel of document 01, with §1 to §5 of document 02: outputs and a
+//! The plain panel of document 01, with §1 to §6 of document 02: outputs and a
 //! time, no stations.
 //!
 //! It is written to be read beside the paper, not to be quick. It lives every
@@ -12,6 +12,7 @@ pub mod last_command;
 pub mod movement;
 pub mod output;
 pub mod panel;
+pub mod parameters;
 pub mod passing;
 pub mod property;
 pub mod real;
@@ -25,3 +26,4 @@ pub mod warning;
 pub use answer::Answer;
 pub use output::Output;
 pub use panel::Panel;
+pub use parameters::{Parameter, Parameters};

@@ -2,6 +2,7 @@
 
 use crate::last_command::LastCommand;
 use crate::movement::Movement;
+use crate::parameters::Parameters;
 use crate::settings::Settings;
 use crate::warning::Warning;
 
@@ -35,10 +36,10 @@ pub struct Output {
 impl Output {
     /// "A fresh record has no live slot, last operation STOP without duration,
     /// burning time 0"; Binary_Present_Value "starts inactive" (§3).
-    pub fn fresh() -> Output {
+    pub fn fresh(parameters: &Parameters) -> Output {
         Output {
             slots: [None; 16],
-            settings: Settings::fresh(),
+            settings: Settings::fresh(parameters),
             movement: None,
             warning: None,
             duration: None,

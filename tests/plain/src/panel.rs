@@ -3,6 +3,7 @@
 use crate::answer::{self, Answer};
 use crate::frame;
 use crate::output::Output;
+use crate::parameters::Parameters;
 
 /// A frame that was a first arrival, with the answer it got.
 #[derive(Clone, Debug)]
@@ -18,6 +19,7 @@ pub struct FirstArrival {
 /// looks up in the list so far, frame by frame.
 #[derive(Clone, Debug)]
 pub struct Panel {
+    parameters: Parameters,
     outputs: Vec<Output>,
     time: u64,
     first_arrivals: Vec<FirstArrival>,
@@ -25,15 +27,23 @@ pub struct Panel {
 }
 
 impl Panel {
-    /// "Starts at time 0 with as many fresh outputs as the table", 1 to 64.
-    pub fn start(outputs: usize) -> Panel {
-        assert!((1..=64).contains(&outputs), "1 to 64 outputs");
-        Panel {
-            outputs: vec![Output::fresh(); outputs],
+    /// "Starts at time 0 with as many fresh outputs as the table": as the set
+    /// has (§6), or the start is refused 17.
+    pub fn start(parameters: Parameters) -> Result<Panel, Answer> {
+        if parameters.out_of_range().is_some() {
+            return Err(Answer::Refused(answer::PARAMETER));
+        }
+        Ok(Panel {
+            parameters,
+            outputs: vec![Output::fresh(&parameters); parameters.outputs as usize],
             time: 0,
             first_arrivals: Vec::new(),
             accepted_clocks: Vec::new(),
-        }
+        })
+    }
+
+    pub fn parameters(&self) -> &Parameters {
+        &self.parameters
     }
 
     pub fn outputs(&self) -> &[Output] {
@@ -95,7 +105,7 @@ impl Panel {
         let number = frame::number(bytes);
         let time = frame::time(bytes);
         let output = usize::from(frame::output(bytes));
-        if station > 7 || number == 0 {
+        if u32::from(station) >= self.parameters.stations || number == 0 {
             return Answer::Refused(answer::STATION_OR_NUMBER);
         }
         if output >= self.outputs.len() {
@@ -126,7 +136,7 @@ impl Panel {
             return Answer::Refused(answer::TIME_BEFORE_PANEL_TIME);
         }
         self.step_to(time);
-        let answer = self.outputs[output].act(bytes);
+        let answer = self.outputs[output].act(&self.parameters, bytes);
         self.first_arrivals.push(FirstArrival {
             station,
             number,
@@ -148,15 +158,15 @@ impl Panel {
 impl Output {
     /// A first arrival "does what its kind calls for, or refuses 9 to 13", and
     /// 14, 15 (§1) or 16 (§3).
-    fn act(&mut self, bytes: &[u8]) -> Answer {
+    fn act(&mut self, parameters: &Parameters, bytes: &[u8]) -> Answer {
         let (byte, value) = (frame::byte_field(bytes), frame::value_field);
         let answer = match bytes[0] {
             frame::WRITE_PRESENT_VALUE => self.write_present_value(byte, value(bytes)),
             frame::EMPTY_A_SLOT => self.empty_a_slot(byte),
-            frame::WRITE_PROPERTY => self.write_property(byte, value(bytes)),
+            frame::WRITE_PROPERTY => self.write_property(parameters, byte, value(bytes)),
             frame::READ_PROPERTY => self.read_property(byte),
-            frame::TAGGED_COMMAND => self.tagged_command(bytes),
-            _ => self.command(bytes),
+            frame::TAGGED_COMMAND => self.tagged_command(parameters, bytes),
+            _ => self.command(parameters, bytes),
         };
         // §3: "It is judged after each frame's act."
         self.judge_relay();

@@ -2,6 +2,7 @@
 
 use crate::answer::{self, Answer};
 use crate::output::Output;
+use crate::parameters::Parameters;
 use crate::real;
 use crate::settings::*;
 use crate::slots::is_priority;
@@ -12,8 +13,8 @@ const REFUSED_WHOLE_NUMBER: Answer = Answer::Refused(answer::WHOLE_NUMBER);
 
 impl Output {
     /// Kind 04.
-    pub fn write_property(&mut self, property: u8, value: u32) -> Answer {
-        let answer = self.store_property(property, value);
+    pub fn write_property(&mut self, parameters: &Parameters, property: u8, value: u32) -> Answer {
+        let answer = self.store_property(parameters, property, value);
         // "Writing 08 or 09 ends the movement."
         if matches!(property, MINIMUM | MAXIMUM) && answer == Answer::Done {
             self.movement = None;
@@ -22,16 +23,14 @@ impl Output {
     }
 
     /// "Property unknown, or not writable" is met before the value.
-    fn store_property(&mut self, property: u8, value: u32) -> Answer {
+    fn store_property(&mut self, parameters: &Parameters, property: u8, value: u32) -> Answer {
         match property {
             RELINQUISH_DEFAULT => match real::level(value) {
                 Some(level) => self.settings.relinquish_default = level,
                 None => return REFUSED_REAL,
             },
-            FADE_TIME => match value {
-                SHORTEST..=LONGEST => self.settings.fade_time = value,
-                _ => return REFUSED_WHOLE_NUMBER,
-            },
+            FADE_TIME if !parameters.is_fade_time(value) => return REFUSED_WHOLE_NUMBER,
+            FADE_TIME => self.settings.fade_time = value,
             RAMP_RATE => match real::rate_or_step(value) {
                 Some(_) => self.settings.ramp_rate = value,
                 None => return REFUSED_REAL,
@@ -45,6 +44,7 @@ impl Output {
                 1 => self.settings.blink_enable = true,
                 _ => return REFUSED_WHOLE_NUMBER,
             },
+            // The set does not bound these two: §6, "blink times aside".
             BLINK_TIME => match value {
                 0..=LONGEST => self.settings.blink_time = value,
                 _ => return REFUSED_WHOLE_NUMBER,

@@ -1,5 +1,6 @@
 //! "Properties, with fresh values."
 
+use crate::parameters::Parameters;
 use crate::real::{HUNDRED_PERCENT, ONE_PERCENT};
 
 pub const RELINQUISH_DEFAULT: u8 = 0x01;
@@ -31,7 +32,8 @@ pub const RELAY_STATE: u8 = 0x1B;
 pub const FIRST_SLOT: u8 = 0x21;
 pub const LAST_SLOT: u8 = 0x30;
 
-/// A day: the longest fade time, duration and blink times.
+/// A day: the longest blink times, and the greatest longest fade and duration
+/// that a panel may be started with (§6).
 pub const LONGEST: u32 = 86_400_000;
 /// "Duration: 100 to 86,400,000 sets. Fade times: 100 to 86,400,000."
 pub const SHORTEST: u32 = 100;
@@ -59,10 +61,10 @@ pub struct Settings {
 }
 
 impl Settings {
-    pub fn fresh() -> Settings {
+    pub fn fresh(parameters: &Parameters) -> Settings {
         Settings {
             relinquish_default: 0,
-            fade_time: 1_000,
+            fade_time: parameters.fresh_fade_time(),
             ramp_rate: 10.0_f32.to_bits(),
             step_increment: 5.0_f32.to_bits(),
             blink_enable: false,

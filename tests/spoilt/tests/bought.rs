@@ -1,6 +1,6 @@
 //! The list of the bus error: what the panels have on their meters after it.
 
-use panels::list_text::{read_outputs, read_string, Line};
+use panels::list_text::{read_heading, read_string, Line};
 use panels::{FastPanel, Panel, PlainPanel};
 use spoilt::table::ALL;
 use spoilt::{switch, SpoiltPanel};
@@ -8,7 +8,7 @@ use spoilt::{switch, SpoiltPanel};
 const LIST: &str = include_str!("../../../examples/bus-error.txt");
 
 fn frames() -> Vec<Vec<u8>> {
-    let lines = LIST.lines().filter(|line| read_outputs(line).is_err());
+    let lines = LIST.lines().filter(|line| read_heading(line).is_err());
     lines
         .filter_map(|line| match read_string(line) {
             Ok(Line::Content(bytes)) => Some(bytes),
@@ -18,7 +18,7 @@ fn frames() -> Vec<Vec<u8>> {
 }
 
 fn burning_after<Chosen: Panel>(frames: &[Vec<u8>]) -> u64 {
-    let mut panel = Chosen::start(1);
+    let mut panel = Chosen::with_outputs(1);
     for bytes in frames {
         panel.frame(bytes);
     }

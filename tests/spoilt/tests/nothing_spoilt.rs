@@ -11,8 +11,15 @@ fn it_is_the_fast_panel() {
         for number in 0..3 {
             let run = 1;
             let list = pair(Which { suite, run, number }, Some(300)).list;
-            let mut fast = FastPanel::start(list.outputs);
-            let mut unspoilt = SpoiltPanel::start(list.outputs);
+            let parameters = list.heading.parameters();
+            let started = (FastPanel::start(parameters), SpoiltPanel::start(parameters));
+            let (mut fast, mut unspoilt) = match started {
+                (Ok(fast), Ok(unspoilt)) => (fast, unspoilt),
+                (fast, unspoilt) => {
+                    assert_eq!(fast.err(), unspoilt.err());
+                    continue;
+                }
+            };
             for bytes in &list.frames {
                 assert_eq!(unspoilt.frame(bytes), fast.frame(bytes));
                 assert_eq!(unspoilt.found(), fast.found());

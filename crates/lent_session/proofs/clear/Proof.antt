@@ -6,20 +6,14 @@ use Rattle.lent_session.proofs.clear.Proof.Tie as tie
 use Rattle.lent_session.proofs.Lent.clear.Reads as reads
 use Rattle.lent_session.proofs.clear.Proof.Lts as lts
 
-document-01-requires : tie.Need-document-01-requires
-document-01-requires c κs = search needs
-
 fresh-outputs-requires : tie.Need-fresh-outputs-requires
 fresh-outputs-requires c κs = search needs
 
 fresh-stations-requires : tie.Need-fresh-stations-requires
 fresh-stations-requires c κs = search needs
 
-fresh-record-requires : tie.Need-fresh-record-requires
-fresh-record-requires c κs = search needs
-
-with-time-requires : tie.Need-with-time-requires
-with-time-requires c κs = search needs
+keep-requires : tie.Need-keep-requires
+keep-requires c κs = search needs
 
 same-length : tie.Need-same-length
 same-length c = search needs
@@ -34,11 +28,9 @@ pub clear-spec : {M : Type 1} → statement M
 clear-spec =
     tie.close
     (tie.spec
-    document-01-requires
     fresh-outputs-requires
     fresh-stations-requires
-    fresh-record-requires
-    with-time-requires
+    keep-requires
     same-length
     same-length-2
     returns)

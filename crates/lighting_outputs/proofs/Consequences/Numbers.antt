@@ -2,13 +2,12 @@
 -- outputs, these are the numbers that they speak of, and that an engineer reads in the paper.
 use mathlib.Core.Path.{_≡_, refl}
 use mathlib.Core.List.{[], _∷_}
-use Prim.Native.Nat.{ℕ}
-use Rattle.lighting_outputs.specs.Paper.Parameters.{longestMovement, longestBlink, freshFade, document01}
-use Rattle.lighting_outputs.specs.Paper.Fresh.{freshFor, freshOutput}
 use mathlib.Core.Bool.{Bool}
-use Prim.Native.Nat.{_-_}
+use Prim.Native.Nat.{ℕ, _-_}
 use lib.Dec.{eqb, leb, ltb}
 use Rattle.lighting_levels.specs.Paper.Choice.{if_then_else_, _also_}
+use Rattle.lighting_outputs.specs.Paper.Parameters.{longestMovement, longestBlink, freshFade, document01}
+use Rattle.lighting_outputs.specs.Paper.Fresh.{freshFor, freshOutput}
 use Rattle.lighting_outputs.specs.Paper.Rows.{rowOf, within, meets}
 use Rattle.lighting_outputs.specs.Paper.Requests.{timeFieldRefusal, commandLasting}
 use Rattle.lighting_outputs.specs.Paper.Rules.{timesSound, spanSound}

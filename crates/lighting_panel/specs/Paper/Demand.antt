@@ -96,8 +96,8 @@ answersToOriginals (copy m r) (a ∷ z) = answersToOriginals r z
 abbrev pub NeverOne : List Answer → Type 0
 NeverOne given = Every (λ (a : Answer). answerBytes a ≢ answerBytes (Refused 1)) given
 
--- THE DEMAND, for a set of parameters p, a lent table e, a list of frames l, and the list l′ in which frames of
--- l come again
+-- THE DEMAND, for a set of parameters p, a lent table e, a list of frames l, and the list l′ in which
+-- frames of l come again
 pub record Demand (p : Parameters) (e : Panel) (l l′ : List Bytes) (r : Again [] l l′) : Type 0 where
   -- after every list the outputs, all of every record, are the plain panel's, at the same time: so all that
   -- is found is the same (proofs/Demand.antt, `finds`)

@@ -101,7 +101,7 @@ plainExecute b w (Arrives call) =
 unfoldable pub plainFrameStep : Parameters → PlainState → Bytes → Reply
 plainFrameStep p w b = plainExecute b w (judged (w .past) b (parse p (length (w .panel .outputs)) b))
 
--- 'starts at time 0 with as many fresh outputs as the table': as the set says, 'the plain panel being given the
--- same set' (§6)
+-- 'starts at time 0 with as many fresh outputs as the table': as the set says, 'the plain panel being
+-- given the same set' (§6)
 unfoldable pub plainStart : Parameters → PlainState
 plainStart p = record { past = []; panel = record { outputs = replicate (p .outputs) (freshFor p); time = 0 } }

@@ -253,8 +253,8 @@ stationsSaid =
     ∷ (true ∷ true ∷ true ∷ true ∷ true ∷ true ∷ true ∷ true ∷ true ∷ true ∷ true ∷ true ∷ false ∷ false ∷ [])
     ∷ []
 
--- THE COUNTS, 'now exactly that many records': of document 01's panel of two outputs; and that panel whole, with
--- one record of each table out of the rules
+-- THE COUNTS, 'now exactly that many records': of document 01's panel of two outputs; and that panel
+-- whole, with one record of each table out of the rules
 abbrev counts : ℕ → ℕ → Bool
 counts outputs stations = countsSound (document01 2) outputs stations
 
@@ -277,9 +277,46 @@ panelsGiven =
 abbrev panelsSaid : List (List Bool)
 panelsSaid = (false ∷ true ∷ false ∷ false ∷ false ∷ []) ∷ (true ∷ false ∷ false ∷ false ∷ []) ∷ []
 
+-- AT OTHER SETS (§6), whose longest fade is given and whose longest duration is 100: how long a movement may
+-- last, 'up to the larger of the longest fade and 800,000 ms'; which Fade_Time is kept; and a duration that
+-- runs, whose moment no rule bounds
+abbrev at : ℕ → Settings → Slots → Activity → Timer → Bool
+at longest settings slots activity timer =
+    sound (record { stations = 1; outputs = 1; fade = longest; duration = 100 }) 1000
+    (afterEvents (lent settings slots activity timer 0 freshRelay))
+
+abbrev lasting : ℕ → ℕ → Bool
+lasting longest length =
+    at longest (freshSettings 100) half (Moving (record { owner = 15; start = 0; target = 3276800; length = length; over = 1001; pace = Fade })) Off
+
+abbrev fading : ℕ → ℕ → Bool
+fading longest time = at longest (freshSettings time) noSlot Still Off
+
+abbrev setsGiven : List (List Bool)
+setsGiven =
+    map (lasting 100) (1 ∷ 101 ∷ 800000 ∷ 800001 ∷ [])
+    ∷ map (lasting 800000) (800000 ∷ 800001 ∷ [])
+    ∷ map (lasting 800001) (800001 ∷ 800002 ∷ [])
+    ∷ map (lasting 86400000) (86400000 ∷ 86400001 ∷ [])
+    ∷ map (fading 100) (99 ∷ 100 ∷ 101 ∷ [])
+    ∷ map (fading 5000) (5000 ∷ 5001 ∷ [])
+    ∷ map (λ (due : ℕ). at 100 (freshSettings 100) noSlot Still (Running 15 due)) (1000 ∷ 1001 ∷ 1101 ∷ 281474976710656 ∷ [])
+    ∷ []
+
+abbrev setsSaid : List (List Bool)
+setsSaid =
+    (true ∷ true ∷ true ∷ false ∷ [])
+    ∷ (true ∷ false ∷ [])
+    ∷ (true ∷ false ∷ [])
+    ∷ (true ∷ false ∷ [])
+    ∷ (false ∷ true ∷ false ∷ [])
+    ∷ (true ∷ false ∷ [])
+    ∷ (false ∷ true ∷ true ∷ true ∷ [])
+    ∷ []
+
 abbrev pub rulesGiven : List (List (List Bool))
 rulesGiven =
-    settingsGiven ∷ slotsGiven ∷ movementsGiven ∷ warningsGiven ∷ timesGiven ∷ relaysGiven ∷ stationsGiven ∷ panelsGiven ∷ []
+    settingsGiven ∷ slotsGiven ∷ movementsGiven ∷ warningsGiven ∷ timesGiven ∷ relaysGiven ∷ stationsGiven ∷ panelsGiven ∷ setsGiven ∷ []
 
 abbrev pub rulesSaid : List (List (List Bool))
-rulesSaid = settingsSaid ∷ slotsSaid ∷ movementsSaid ∷ warningsSaid ∷ timesSaid ∷ relaysSaid ∷ stationsSaid ∷ panelsSaid ∷ []
+rulesSaid = settingsSaid ∷ slotsSaid ∷ movementsSaid ∷ warningsSaid ∷ timesSaid ∷ relaysSaid ∷ stationsSaid ∷ panelsSaid ∷ setsSaid ∷ []

@@ -29,8 +29,8 @@ ends =
 abbrev ofEnds : {A : Type 0} → (Parameters → A) → List (List A)
 ofEnds f = map (λ (l : List Parameters). map f l) ends
 
--- a start over tables of just that size, and a clock to a panel that keeps such a set and is fresh: 'kept ones
--- out of range meet 1'
+-- a start over tables of just that size, and a clock to a panel that keeps such a set and is fresh: 'kept
+-- ones out of range meet 1'
 abbrev pub endsGiven : List (List Answer)
 endsGiven = ofEnds (λ (p : Parameters). startStep p (freshPanel p) .answer)
 
@@ -53,9 +53,9 @@ keptSaid =
     ∷ (Refused 1 ∷ Done ∷ Done ∷ Refused 1 ∷ [])
     ∷ []
 
--- OTHER TABLES: '17 [..] tested before 1', 'exactly that many records'. A start with a set of two stations and
--- two outputs over tables that are one short, fit, and are one long, in each of the two; one with 33 stations
--- over the same
+-- OTHER TABLES: '17 [..] tested before 1', 'exactly that many records'. A start with a set of two stations
+-- and two outputs over tables that are one short, fit, and are one long, in each of the two; one with 33
+-- stations over the same
 abbrev lentSizes : List Panel
 lentSizes = map (λ (p : Parameters). freshPanel p) (of 1 2 100 100 ∷ of 2 2 100 100 ∷ of 3 2 100 100 ∷ of 2 1 100 100 ∷ of 2 3 100 100 ∷ [])
 

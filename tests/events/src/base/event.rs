@@ -3,6 +3,7 @@
 use crate::jump::JumpEvent;
 use crate::light::LightEvent;
 use crate::relay::RelayEvent;
+use crate::set::SetEvent;
 use crate::tags::TaggedEvent;
 use crate::tie::TieEvent;
 use crate::words::{Answered, Hexadecimal, Rank, Situation};
@@ -190,6 +191,8 @@ pub enum Event {
     Jumped(JumpEvent),
     /// REALs between two units (§5).
     Tie(TieEvent),
+    /// Sets of parameters (§6).
+    Set(SetEvent),
 
     // Commands.
     Command {

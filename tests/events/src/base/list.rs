@@ -38,6 +38,7 @@ fn first_arrival(seen: &Seen, events: &mut Tally<Event>) {
 fn turned_down(seen: &Seen, events: &mut Tally<Event>) {
     let bytes = seen.bytes;
     let kind = bytes.first().copied().unwrap_or(0);
+    let stations = seen.after.parameters().stations;
     let event = match seen.answer {
         Answer::Refused(2) if bytes.is_empty() => Event::NoByte,
         Answer::Refused(2) => Event::UnknownKind,
@@ -45,7 +46,7 @@ fn turned_down(seen: &Seen, events: &mut Tally<Event>) {
             true => Event::TooShort { kind: kind.into() },
             false => Event::TooLong { kind: kind.into() },
         },
-        Answer::Refused(4) => match frame::station(bytes) > 7 {
+        Answer::Refused(4) => match u32::from(frame::station(bytes)) >= stations {
             true => Event::StationOverSeven,
             false => Event::NumberZero,
         },

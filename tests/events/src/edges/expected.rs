@@ -1,7 +1,10 @@
 //! The edges that a thorough suite must try, of document 01 and of the changes
 //! that bring fields.
 
+use plain::Parameter;
+
 use super::{tags, Edge, RealEdge, RealField, WholeField, EDGE_TIMES, WIDE_PRIORITIES};
+use crate::set;
 
 const REAL_EDGES: [RealEdge; 20] = [
     RealEdge::Zero,
@@ -94,4 +97,32 @@ pub fn of_relays() -> Vec<Edge> {
     let mut edges = of_reals(&[RealField::BinaryActiveValue, RealField::BinaryInactiveValue]);
     edges.extend(of_whole_numbers(&[WholeField::Polarity]));
     edges
+}
+
+/// The first number that 32 bits do not hold.
+const PAST_32_BITS: u64 = 1 << 32;
+
+/// The numbers of a set at the ends of their range, beside them and far out; the
+/// last one would be good if all but 32 bits of it were lost.
+pub fn of_parameter(parameter: Parameter) -> Vec<u64> {
+    let least = u64::from(*parameter.range().start());
+    let mut edges = match parameter {
+        Parameter::Stations => vec![0, 1, 2, 31, 32, 33],
+        Parameter::Outputs => vec![0, 1, 63, 64, 65],
+        Parameter::Fade | Parameter::Duration => {
+            let edges = [&[0, 99][..], &set::EDGES, &[86_400_001]].concat();
+            edges.into_iter().map(u64::from).collect()
+        }
+    };
+    edges.extend([PAST_32_BITS - 1, PAST_32_BITS + least]);
+    edges
+}
+
+/// §6.
+pub fn of_sets() -> Vec<Edge> {
+    let of_one = |parameter| {
+        let edges = of_parameter(parameter).into_iter();
+        edges.map(move |value| Edge::Parameter { parameter, value })
+    };
+    Parameter::ALL.into_iter().flat_map(of_one).collect()
 }

@@ -3,12 +3,13 @@
 mod expected;
 mod tags;
 
-pub use expected::{of_base, of_relays, of_tags};
+pub use expected::{of_base, of_parameter, of_relays, of_sets, of_tags};
 pub use tags::{TagEdge, EDGES_OF_OCTETS};
 
 use plain::frame::*;
 use plain::last_command::LastCommand;
 use plain::settings::*;
+use plain::Parameter;
 
 use crate::tally::Tally;
 
@@ -70,12 +71,23 @@ pub enum WholeField {
 
 #[derive(Clone, Copy, Debug, PartialEq, Eq, PartialOrd, Ord)]
 pub enum Edge {
-    Real { field: RealField, edge: RealEdge },
-    Whole { field: WholeField, value: u32 },
+    Real {
+        field: RealField,
+        edge: RealEdge,
+    },
+    Whole {
+        field: WholeField,
+        value: u32,
+    },
     WritePriority(u8),
     EmptyPriority(u8),
     CommandPriority(u32),
     Tagged(TagEdge),
+    /// A number of the set that a panel is to be started with.
+    Parameter {
+        parameter: Parameter,
+        value: u64,
+    },
 }
 
 /// Values of property 0A that only a look at all 32 bits tells apart.
@@ -133,6 +145,15 @@ fn real_edge(bits: u32) -> Option<RealEdge> {
         _ if half_unit(bits - 1) => RealEdge::JustAboveHalfUnit,
         _ => return None,
     })
+}
+
+/// Counts the edges in the numbers of a heading.
+pub fn of_heading(words: &[(Parameter, u64)], tally: &mut Tally<Edge>) {
+    for (parameter, value) in words.iter().copied() {
+        if of_parameter(parameter).contains(&value) {
+            tally.count(Edge::Parameter { parameter, value });
+        }
+    }
 }
 
 /// Counts the edges in the fields of a first arrival.

@@ -119,12 +119,14 @@ pub fn act(act: &Act, events: &mut Tally<Event>) {
     }
     let reading = tags::read(tagged_body(act.bytes));
     if let Some(number) = reading.refusal() {
-        refused(&reading, number, |event| events.count(Event::Tagged(event)));
+        refused(act, &reading, number, |event| {
+            events.count(Event::Tagged(event))
+        });
     }
 }
 
-fn refused(reading: &tags::Reading, number: u8, mut note: impl FnMut(TaggedEvent)) {
-    if let Some(range) = out_of_range(&reading.command) {
+fn refused(act: &Act, reading: &tags::Reading, number: u8, mut note: impl FnMut(TaggedEvent)) {
+    if let Some(range) = out_of_range(&reading.command, act.parameters) {
         note(TaggedEvent::RefusedBeforeRange { number, range });
     }
     let causes = reading.faults.iter().map(|fault| fault.cause);

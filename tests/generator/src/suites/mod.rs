@@ -4,18 +4,20 @@ pub mod base;
 pub mod jump;
 pub mod light;
 pub mod relay;
+pub mod set;
 pub mod tags;
 pub mod tie;
 
 use crate::suite::Suite;
 
-pub static ALL: [&Suite; 6] = [
+pub static ALL: [&Suite; 7] = [
     &base::SUITE,
     &tags::SUITE,
     &light::SUITE,
     &relay::SUITE,
     &jump::SUITE,
     &tie::SUITE,
+    &set::SUITE,
 ];
 
 /// The suite of that name, the sign § left out or not.

@@ -1,7 +1,7 @@
 //! A panel with one output, spoken to in hexadecimal.
 
 use panels::list_text::{read_string, Line};
-use panels::{Answer, Found, Panel};
+use panels::{Answer, Found, Panel, Parameters};
 
 pub struct Bench<Chosen: Panel> {
     panel: Chosen,
@@ -9,11 +9,22 @@ pub struct Bench<Chosen: Panel> {
 }
 
 impl<Chosen: Panel> Bench<Chosen> {
+    // one of the two is not in every test
+    #[allow(dead_code)]
     pub fn new() -> Bench<Chosen> {
         Bench {
-            panel: Chosen::start(1),
+            panel: Chosen::with_outputs(1),
             number: 0,
         }
+    }
+
+    /// With that set (§6).
+    #[allow(dead_code)]
+    pub fn with(parameters: Parameters) -> Bench<Chosen> {
+        let Ok(panel) = Chosen::start(parameters) else {
+            panic!("{parameters:?} are not started");
+        };
+        Bench { panel, number: 0 }
     }
 
     pub fn bytes(&mut self, text: &str) -> Answer {
@@ -36,12 +47,14 @@ impl<Chosen: Panel> Bench<Chosen> {
         assert_eq!(self.bytes(&format!("01 {time:012X}")), Answer::Done);
     }
 
+    #[allow(dead_code)]
     pub fn found(&self) -> Found {
         self.panel.found().remove(0)
     }
 }
 
 /// Runs a function with the bench of each panel.
+#[allow(unused_macros)]
 macro_rules! on_both_panels {
     ($($name:ident)*) => {
         $(mod $name {

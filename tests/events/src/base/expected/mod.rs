@@ -2,7 +2,7 @@
 
 use plain::frame::*;
 use plain::settings::*;
-use plain::{Answer, Output};
+use plain::{Answer, Output, Parameters};
 
 mod due;
 
@@ -99,6 +99,7 @@ fn property_events(events: &mut Vec<Event>) {
             events.push(Event::PaceWrittenInMovement { ramp, slower });
         }
     }
+    let fresh = Output::fresh(&Parameters::of_document_01(1));
     for property in 0..=255_u8 {
         let readable = matches!(
             property,
@@ -109,7 +110,7 @@ fn property_events(events: &mut Vec<Event>) {
         // Of the unknown numbers, those beside a known one and the ends. A change
         // may make one of them known; from then on it is not expected here.
         let tried = matches!(property, 0x00 | 0x15 | 0x16 | 0x1C | 0x20 | 0x31 | 0xFF);
-        let unknown = Output::fresh().read_property(property) == Answer::Refused(9);
+        let unknown = fresh.read_property(property) == Answer::Refused(9);
         let unknown_but_tried = tried && unknown;
         if readable {
             events.push(read(property, Answered::Value));

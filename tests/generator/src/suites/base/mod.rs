@@ -49,6 +49,8 @@ pub const TABLES: Tables = Tables {
     looks: &LOOKS,
     tagged: 0,
     great_lists: 0,
+    headings: None,
+    length: None,
 };
 
 pub const KINDS: [(u8, usize); 16] = [

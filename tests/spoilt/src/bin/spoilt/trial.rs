@@ -5,7 +5,7 @@ use std::panic::catch_unwind;
 
 use generator::{Pair, Which};
 use panels::plain_panel::found_of_plain;
-use panels::{Answer, Found, Panel};
+use panels::{Answer, Found, Panel, Parameters};
 use spoilt::{switch, SpoiltPanel};
 
 /// A list with what the plain panel answers and what is found after it: all
@@ -13,14 +13,16 @@ use spoilt::{switch, SpoiltPanel};
 pub struct Expected<'a> {
     which: Which,
     with_copies: bool,
-    outputs: usize,
+    parameters: Parameters,
     frames: &'a [Vec<u8>],
     answers: Vec<Answer>,
-    found: Vec<Found>,
+    /// What the start is answered if it is refused (§6).
+    found: Result<Vec<Found>, Answer>,
 }
 
 /// What told a panel apart.
 enum Sign {
+    Start { expected: Answer, got: Answer },
     Answer { expected: Answer, got: Answer },
     Found { output: usize },
     Panic,
@@ -39,15 +41,18 @@ impl<'a> Expected<'a> {
     pub fn of_pair(which: Which, pair: &'a Pair) -> [Expected<'a>; 2] {
         let (answers, panel) = pair.live_with_copies();
         let list = &pair.list;
-        let expected =
-            |with_copies, frames, answers: &[plain::Answer], panel: &plain::Panel| Expected {
-                which,
-                with_copies,
-                outputs: list.outputs,
-                frames,
-                answers: answers.iter().map(|answer| (*answer).into()).collect(),
-                found: panel.outputs().iter().map(found_of_plain).collect(),
-            };
+        let found = |panel: &Result<plain::Panel, plain::Answer>| match panel {
+            Ok(panel) => Ok(panel.outputs().iter().map(found_of_plain).collect()),
+            Err(answer) => Err((*answer).into()),
+        };
+        let expected = |with_copies, frames, answers: &[plain::Answer], panel| Expected {
+            which,
+            with_copies,
+            parameters: list.heading.parameters(),
+            frames,
+            answers: answers.iter().map(|answer| (*answer).into()).collect(),
+            found: found(panel),
+        };
         [
             expected(false, &list.frames, &list.answers, &list.panel),
             expected(true, &pair.with_copies.frames, &answers, &panel),
@@ -56,7 +61,6 @@ impl<'a> Expected<'a> {
 
     pub fn first_difference(&self, number: usize) -> Option<Difference> {
         switch::turn_on(number);
-        let mut panel = SpoiltPanel::start(self.outputs);
         let difference = |frame, sign| {
             Some(Difference {
                 which: self.which,
@@ -64,6 +68,20 @@ impl<'a> Expected<'a> {
                 frame,
                 sign,
             })
+        };
+        let started = catch_unwind(|| SpoiltPanel::start(self.parameters));
+        let (mut panel, expected) = match (started, &self.found) {
+            (Ok(Ok(panel)), Ok(found)) => (panel, found),
+            (Ok(Err(got)), Err(expected)) if got == *expected => return None,
+            (Ok(started), expected) => {
+                let answer = |refused: Option<&Answer>| refused.copied().unwrap_or(Answer::Done);
+                let sign = Sign::Start {
+                    expected: answer(expected.as_ref().err()),
+                    got: answer(started.as_ref().err()),
+                };
+                return difference(0, sign);
+            }
+            (Err(_), _) => return difference(0, Sign::Panic),
         };
         for (index, (bytes, expected)) in self.frames.iter().zip(&self.answers).enumerate() {
             let mut next = panel;
@@ -83,7 +101,7 @@ impl<'a> Expected<'a> {
         let Ok(found) = catch_unwind(move || panel.found()) else {
             return difference(self.frames.len(), Sign::Panic);
         };
-        let output = (0..self.outputs).find(|output| found[*output] != self.found[*output])?;
+        let output = (0..expected.len()).find(|output| found[*output] != expected[*output])?;
         difference(self.frames.len(), Sign::Found { output })
     }
 }
@@ -95,6 +113,7 @@ impl fmt::Display for Difference {
         let (suite, list) = (which.suite.name, which.number);
         write!(formatter, "{suite}, list {list}{copies}, ")?;
         match &self.sign {
+            Sign::Start { expected, got } => write!(formatter, "the start: {got}, not {expected}"),
             Sign::Answer { expected, got } => {
                 write!(formatter, "frame {frame}: {got}, not {expected}")
             }

@@ -1,0 +1,106 @@
+//! §6: "The start takes a set of parameters", and "they are kept in the panel's
+//! record".
+
+use std::ops::RangeInclusive;
+
+use crate::settings::{LONGEST, SHORTEST};
+
+/// Any four numbers; those that may be started are told by `out_of_range`.
+#[derive(Clone, Copy, Debug, PartialEq, Eq)]
+pub struct Parameters {
+    pub stations: u32,
+    pub outputs: u32,
+    /// The longest fade time and the longest duration, in milliseconds.
+    pub fade: u32,
+    pub duration: u32,
+}
+
+#[derive(Clone, Copy, Debug, PartialEq, Eq, PartialOrd, Ord)]
+pub enum Parameter {
+    Stations,
+    Outputs,
+    Fade,
+    Duration,
+}
+
+impl Parameter {
+    /// As §6 lists them.
+    pub const ALL: [Parameter; 4] = [
+        Parameter::Stations,
+        Parameter::Outputs,
+        Parameter::Fade,
+        Parameter::Duration,
+    ];
+
+    /// As lists name it.
+    pub fn name(self) -> &'static str {
+        match self {
+            Parameter::Stations => "stations",
+            Parameter::Outputs => "outputs",
+            Parameter::Fade => "fade",
+            Parameter::Duration => "duration",
+        }
+    }
+
+    /// "Stations 1 to 32, outputs 1 to 64, longest fade time 100 to 86,400,000,
+    /// longest duration likewise."
+    pub fn range(self) -> RangeInclusive<u32> {
+        match self {
+            Parameter::Stations => 1..=32,
+            Parameter::Outputs => 1..=64,
+            Parameter::Fade | Parameter::Duration => SHORTEST..=LONGEST,
+        }
+    }
+}
+
+impl Parameters {
+    /// "The old panel is the set 8, its output count, 86,400,000, 86,400,000."
+    pub fn of_document_01(outputs: u32) -> Parameters {
+        Parameters {
+            stations: 8,
+            outputs,
+            fade: LONGEST,
+            duration: LONGEST,
+        }
+    }
+
+    pub fn of(&self, parameter: Parameter) -> u32 {
+        match parameter {
+            Parameter::Stations => self.stations,
+            Parameter::Outputs => self.outputs,
+            Parameter::Fade => self.fade,
+            Parameter::Duration => self.duration,
+        }
+    }
+
+    pub fn set(&mut self, parameter: Parameter, number: u32) {
+        match parameter {
+            Parameter::Stations => self.stations = number,
+            Parameter::Outputs => self.outputs = number,
+            Parameter::Fade => self.fade = number,
+            Parameter::Duration => self.duration = number,
+        }
+    }
+
+    /// The first one; nothing of a set that may be started.
+    pub fn out_of_range(&self) -> Option<Parameter> {
+        Parameter::ALL
+            .into_iter()
+            .find(|parameter| !parameter.range().contains(&self.of(*parameter)))
+    }
+
+    /// "Fade times: 100 to 86,400,000", now to the longest fade.
+    pub fn is_fade_time(&self, milliseconds: u32) -> bool {
+        (SHORTEST..=self.fade).contains(&milliseconds)
+    }
+
+    /// "0 cancels, 100 to 86,400,000 sets", now to the longest duration.
+    pub fn is_duration(&self, milliseconds: u32) -> bool {
+        milliseconds == 0 || (SHORTEST..=self.duration).contains(&milliseconds)
+    }
+
+    /// "A fresh Fade_Time is the smaller of 1,000 and the longest fade."
+    pub fn fresh_fade_time(&self) -> u32 {
+        self.fade.min(1_000)
+    }
+}
