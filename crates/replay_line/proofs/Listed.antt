@@ -26,15 +26,14 @@ use Rattle.lighting_levels.proofs.Split.{by-bool, eqb-hit}
 use Rattle.lighting_panel.proofs.Table.{served-length}
 use Rattle.lighting_panel.proofs.Calls.{once}
 use Rattle.lighting_panel.proofs.Demand.{demand-3, finds, startStep-fresh}
-use Rattle.lent_parts.specs.Lending.{lent, returned}
-use Rattle.lent_parts.specs.Lending as lending
+use Rattle.lent_parts.specs.Lending.{lent, returned, begun, sent}
 use Rattle.text_reading.specs.declared.Reader.{Reader}
 use Rattle.text_reading.specs.Reading.{fed}
 use Rattle.text_heading.specs.Spelling.{Unbroken}
 use Rattle.text_reading.specs.Spelling.{Silent, Gives, Heading}
 use Rattle.text_reading.proofs.Marked.{Start, start-fresh, start-next, start-named, silent-read, gives-read, gives-octets}
 use Rattle.text_reading.proofs.Heading.{heading-read, heading-startable}
-use Rattle.replay_line.specs.Taking.{inUse, begun, sent, taken, takenBy, through, closed, finished, Replayed}
+use Rattle.replay_line.specs.Taking.{inUse, startedWith, sentOn, taken, takenBy, through, closed, finished, Replayed}
 use Rattle.replay_line.specs.Listed.{Lines, none, string, remark, Listing, named, preface, unended}
 use Rattle.replay_line.proofs.Spelled.{spelled}
 use Rattle.replay_line.proofs.Through.{through-line}
@@ -108,8 +107,8 @@ becomes n k p q h i a b c d =
       holds = record { outputs = rw c (returned-outputs n k p h i q a b); stations = rw d (returned-stations n k p h i q a b) };
     }
 
-sent-becomes : (b : Bytes) (p : Panel) → Holds p → Becomes (sent b p .panel) (frameStep (inUse p) b .panel)
-unfolding lending.sent
+sent-becomes : (b : Bytes) (p : Panel) → Holds p → Becomes (sentOn b p .panel) (frameStep (inUse p) b .panel)
+unfolding sent
 sent-becomes b p h =
     let n = p .kept .parameters .outputs in
     let k = p .kept .parameters .stations in
@@ -134,8 +133,8 @@ module _ (s : Parameters) (p : Panel) (z : startable s ≡ true) (h : s .outputs
         eqb-hit (lent-stations (s .outputs) (s .stations) p h i),
       )
 
-  begun-becomes : Becomes (begun s p) (startStep s begins .panel)
-  unfolding lending.begun freshPanel
+  begun-becomes : Becomes (startedWith s p) (startStep s begins .panel)
+  unfolding begun freshPanel
   begun-becomes =
       rw (startStep-fresh s begins starts .1)
       (becomes (s .outputs) (s .stations) p (freshPanel s) h i (length-replicate _ _) (length-replicate _ _) refl refl)
@@ -154,13 +153,13 @@ silent-took p t s =
     let r = silent-read t s in
     record { whole = r .unbroken; good = rw (r .line); panel = rw (r .line); next = rw (r .line) (start-next r) }
 
-gives-took : {w : Reader} {x b : Bytes} (p : Panel) → Start true w → Gives b x → Took true p w x (sent b p .panel)
+gives-took : {w : Reader} {x b : Bytes} (p : Panel) → Start true w → Gives b x → Took true p w x (sentOn b p .panel)
 unfolding taken takenBy
 gives-took p t g =
     let r = gives-read t g in
     record { whole = r .reads .unbroken; good = rw (r .reads .line); panel = spelled p r .0; next = rw (r .reads .line) (start-next (r .reads)) }
 
-heading-took : {s : Parameters} {w : Reader} {x : Bytes} (p : Panel) → Start false w → Heading s x → Took true p w x (begun s p)
+heading-took : {s : Parameters} {w : Reader} {x : Bytes} (p : Panel) → Start false w → Heading s x → Took true p w x (startedWith s p)
 unfolding taken takenBy
 heading-took p t g =
     let r = heading-read t g in
@@ -178,7 +177,7 @@ listed {w} p none s h = ap inUse (unfold closed through if_then_else_ in (taken-
 listed p (string {b} {x} {t} {l} g m) s h =
     let k = gives-took p s g in
     let c = sent-becomes b p h in
-    rw (took-on t k) (listed (sent b p .panel) m (k .next) (c .holds) ∙ ap (λ (u : Panel). after u l) (c .used))
+    rw (took-on t k) (listed (sentOn b p .panel) m (k .next) (c .holds) ∙ ap (λ (u : Panel). after u l) (c .used))
 listed p (remark {x} {t} g m) s h =
     let k = silent-took p s g in
     rw (took-on t k) (listed p m (k .next) h)
@@ -204,7 +203,7 @@ listed-whole : {s : Parameters} {w : Reader} {l : List Bytes} {t : Bytes} (p : P
 listed-whole {s} {l = l} p (named {x} {t} g m) r h i =
     let k = heading-took p r g in
     let c = begun-becomes s p (heading-startable g) h i in
-    rw (took-on t k) (listed (begun s p) m (k .next) (c .holds) ∙ ap (λ (u : Panel). after u l) (c .used))
+    rw (took-on t k) (listed (startedWith s p) m (k .next) (c .holds) ∙ ap (λ (u : Panel). after u l) (c .used))
 listed-whole p (preface {x} {t} g m) r h i =
     let k = silent-took p r g in
     rw (took-on t k) (listed-whole p m (k .next) h i)

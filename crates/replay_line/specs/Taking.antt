@@ -9,8 +9,7 @@ use Rattle.lighting_levels.specs.Paper.Choice.{if_then_else_}
 use Rattle.lighting_outputs.specs.declared.Parameters.{Parameters}
 use Rattle.lighting_frames.specs.Paper.Frames.{Bytes}
 use Rattle.lighting_panel.specs.Paper.Panel.{Panel, Step}
-use Rattle.lent_parts.specs.Lending as lending
-use Rattle.lent_parts.specs.Lending.{lent}
+use Rattle.lent_parts.specs.Lending.{lent, begun, sent}
 use Rattle.text_reading.specs.declared.Line.{Line}
 use Rattle.text_reading.specs.declared.Line.the-variants.{Nothing, Started, Frame, Wrong}
 use Rattle.text_reading.specs.declared.Reader.{Reader}
@@ -23,12 +22,12 @@ abbrev pub inUse : Panel → Panel
 inUse e = lent (e .kept .parameters .outputs) (e .kept .parameters .stations) e
 
 -- the line that names the set p starts the panel of so many outputs and stations
-abbrev pub begun : Parameters → Panel → Panel
-begun p e = lending.begun (p .outputs) (p .stations) p e .panel
+abbrev pub startedWith : Parameters → Panel → Panel
+startedWith p e = begun (p .outputs) (p .stations) p e .panel
 
 -- a string of bytes goes to the panel that is in use
-abbrev pub sent : Bytes → Panel → Step
-sent b e = lending.sent (e .kept .parameters .outputs) (e .kept .parameters .stations) b e
+abbrev pub sentOn : Bytes → Panel → Step
+sentOn b e = sent (e .kept .parameters .outputs) (e .kept .parameters .stations) b e
 
 -- what a line leaves: the tables, the text that it writes, the reader at the next line, and whether it was a
 -- good one
@@ -40,11 +39,11 @@ pub record Taken : Type 0 where
 
 unfoldable pub takenBy : Panel → Reader → Line → Taken
 takenBy p w Nothing = record { panel = p; text = []; reader = nextLine w; good = true }
-takenBy p w (Started s) = record { panel = begun s p; text = []; reader = withNamed (nextLine w); good = true }
+takenBy p w (Started s) = record { panel = startedWith s p; text = []; reader = withNamed (nextLine w); good = true }
 takenBy p w Frame =
     record {
-      panel = sent (content w) p .panel;
-      text = answerLine (sent (content w) p .answer);
+      panel = sentOn (content w) p .panel;
+      text = answerLine (sentOn (content w) p .answer);
       reader = nextLine w;
       good = true;
     }

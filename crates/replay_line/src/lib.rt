@@ -6,7 +6,7 @@ ghost use Rattle.lighting_panel.specs.Paper.Panel.{panelOf};
 ghost use Rattle.text_reading.specs.Reading.{content};
 ghost use Rattle.text_printing.specs.Page.{Wrote};
 ghost use Rattle.text_printing.specs.Writing.{answerLine};
-ghost use Rattle.replay_line.specs.Taking.{sent, taken};
+ghost use Rattle.replay_line.specs.Taking.{sentOn, taken};
 use lighting_frames::Station;
 use lighting_outputs::Output;
 use lighting_panel::PanelRecord;
@@ -29,8 +29,8 @@ fn answer(
     mark: usize,
     r: Reader,
 ) -> usize
-    ensures { λ m. ⌜ Wrote (now (page .entry)) mark (answerLine (sent (content r) (panelOf (now (outputs .entry)) (now (stations .entry)) (now (kept .entry))) .answer)) (now (page .exit)) m ⌝ }
-    ensures { λ _. ⌜ panelOf (now (outputs .exit)) (now (stations .exit)) (now (kept .exit)) ≡ sent (content r) (panelOf (now (outputs .entry)) (now (stations .entry)) (now (kept .entry))) .panel ⌝ }
+    ensures { λ m. ⌜ Wrote (now (page .entry)) mark (answerLine (sentOn (content r) (panelOf (now (outputs .entry)) (now (stations .entry)) (now (kept .entry))) .answer)) (now (page .exit)) m ⌝ }
+    ensures { λ _. ⌜ panelOf (now (outputs .exit)) (now (stations .exit)) (now (kept .exit)) ≡ sentOn (content r) (panelOf (now (outputs .entry)) (now (stations .entry)) (now (kept .entry))) .panel ⌝ }
 {
     let record = *kept;
     let set = panel_record::parameters_of(record);
@@ -75,10 +75,12 @@ pub fn take_line(
                 good: true,
             }
         }
+        // The reader is made again after the frame: one that was made before would take registers on its way.
         Line::Frame => {
             let m = answer(outputs, stations, kept, page, mark, r);
+            let after = text_reading::next_line(r);
             Ended {
-                reader: next,
+                reader: after,
                 mark: m,
                 good: true,
             }

@@ -13,7 +13,7 @@ use Rattle.lighting_frames.specs.Paper.Frames.{Bytes}
 use Rattle.lighting_levels.proofs.Split.{leb-yes, le-of, also-both}
 use Rattle.text_characters.specs.Characters.{isBlank}
 use Rattle.text_heading.specs.Words.{letters, numberIn, withNumber, hasCome, withCome}
-use Rattle.text_heading.specs.Heading.{leftOut, noneCame, freshHeading, withPlace, lettered, counted, countedOn, gapped, numbered, marked, begun, trailed, stepAt, headingStep, read, run, judged, endedAt, ended}
+use Rattle.text_heading.specs.Heading.{leftOut, noneCame, freshHeading, withPlace, lettered, counted, countedOn, gapped, numbered, marked, wordBegun, trailed, stepAt, headingStep, read, run, judged, endedAt, ended}
 use Rattle.text_heading.specs.Spelling.{Unbroken, nothing, char, Blanks, no-blank, one-blank, Writes, no-digit, one-digit, Says, says, Further, no-more, one-more, Names, names}
 use Rattle.text_heading.specs.declared.Word.{Word}
 use Rattle.text_heading.specs.declared.Word.the-variants.{Outputs, Stations, Fade, Duration}
@@ -53,7 +53,7 @@ module _ (p : Parameters) (m : Came) where
       }
 
   spelt-on : (w : Word) → hasCome w m ≡ false → run read (line p m Trail) (letters w) ≡ line p (withCome w m) (Letters w (length (letters w)))
-  unfolding run read headingStep stepAt trailed begun marked lettered withPlace letters hasCome isBlank if_then_else_
+  unfolding run read headingStep stepAt trailed wordBegun marked lettered withPlace letters hasCome isBlank if_then_else_
   spelt-on Outputs h = absurd (false≢true (sym h))
   spelt-on Stations h = rw h
   spelt-on Fade h = rw h

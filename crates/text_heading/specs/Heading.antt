@@ -79,15 +79,15 @@ numbered h w v c = if ltb v 10 then countedOn h w v else if isBlank c then withP
 unfoldable pub marked : Heading → Word → Heading
 marked h w = record { set = h .set; came = withCome w (h .came); place = Letters w 1 }
 
-unfoldable pub begun : Heading → Word → Heading
-begun h w = if hasCome w (h .came) then withPlace h (Spoilt BadWord) else marked h w
+unfoldable pub wordBegun : Heading → Word → Heading
+wordBegun h w = if hasCome w (h .came) then withPlace h (Spoilt BadWord) else marked h w
 
 unfoldable pub trailed : Heading → ℕ → Heading
 trailed h c =
     if isBlank c then h
-    else if eqb c 115 then begun h Stations
-    else if eqb c 102 then begun h Fade
-    else if eqb c 100 then begun h Duration
+    else if eqb c 115 then wordBegun h Stations
+    else if eqb c 102 then wordBegun h Fade
+    else if eqb c 100 then wordBegun h Duration
     else withPlace h (Spoilt BadWord)
 
 unfoldable pub stepAt : Heading → Place → ℕ → ℕ → Heading

@@ -4,7 +4,7 @@ pub mod words;
 
 ghost use mathlib.Core.Path.{_≡_};
 ghost use Prim.Native.Nat.{_+_, _*_, min};
-ghost use Rattle.text_heading.specs.Heading.{freshHeading, withPlace, noWord, noNumber, misspelt, unnumbered, lettered, counted, countedOn, gapped, numbered, marked, begun, trailed, headingStep, fitting, judged, ended};
+ghost use Rattle.text_heading.specs.Heading.{freshHeading, withPlace, noWord, noNumber, misspelt, unnumbered, lettered, counted, countedOn, gapped, numbered, marked, wordBegun, trailed, headingStep, fitting, judged, ended};
 use lighting_outputs::Parameters;
 
 // A word that has a number of the set.
@@ -217,8 +217,8 @@ fn marked(h: Heading, w: Word) -> Heading
     }
 }
 
-fn begun(h: Heading, w: Word) -> Heading
-    ensures { λ r. ⌜ r ≡ begun h w ⌝ }
+fn word_begun(h: Heading, w: Word) -> Heading
+    ensures { λ r. ⌜ r ≡ wordBegun h w ⌝ }
 {
     if words::has_come(w, h.came) {
         with_place(h, Place::Spoilt(HeadingFault::BadWord))
@@ -233,11 +233,11 @@ fn trailed(h: Heading, c: u8) -> Heading
     if text_characters::is_blank(c) {
         h
     } else if c == b's' {
-        begun(h, Word::Stations)
+        word_begun(h, Word::Stations)
     } else if c == b'f' {
-        begun(h, Word::Fade)
+        word_begun(h, Word::Fade)
     } else if c == b'd' {
-        begun(h, Word::Duration)
+        word_begun(h, Word::Duration)
     } else {
         with_place(h, Place::Spoilt(HeadingFault::BadWord))
     }

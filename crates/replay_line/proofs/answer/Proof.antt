@@ -3,7 +3,7 @@ mod Tie
 use mathlib.Core.Path.{_≡_, ap, _∙_}
 use Rattle.lighting_panel.specs.Paper.Panel.{Step, panelOf}
 use Rattle.text_reading.specs.Reading.{content}
-use Rattle.replay_line.specs.Taking.{sent}
+use Rattle.replay_line.specs.Taking.{sentOn}
 use Rattle.replay_line.proofs.Ends.{sent-by}
 use borrow.Author.Needs.{needs}
 use Rattle.replay_line.proofs.answer.Statement.{statement}
@@ -45,7 +45,7 @@ returns c =
     let p = panelOf (a .outputs .now) (a .stations .now) (a .kept .now) in
     let set = c .before .before .before .before .before .before .before .before .before .before .before .before .before .before .parameters-of in
     let s = c .before .before .before .before .before .before .send in
-    let e : _ ≡ sent (content (a .r)) p = sent-by (set .result) (content (a .r)) p (c .before .before .before .before .before .before .before .before .before .before .before .before .before .wide-index .ensures) (c .before .before .before .before .before .before .before .before .before .before .before .before .wide-index2 .ensures) (set .ensures) in
+    let e : _ ≡ sentOn (content (a .r)) p = sent-by (set .result) (content (a .r)) p (c .before .before .before .before .before .before .before .before .before .before .before .before .before .wide-index .ensures) (c .before .before .before .before .before .before .before .before .before .before .before .before .wide-index2 .ensures) (set .ensures) in
     (rw (← s .ensures .0 ∙ ap (λ (z : Step). z .answer) e) (c .before .before .put-answer .ensures), s .ensures .1 ∙ ap (λ (z : Step). z .panel) e)
 
 pub answer-spec : {M : Type 1} → statement M

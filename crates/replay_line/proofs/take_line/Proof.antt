@@ -5,7 +5,7 @@ use mathlib.Core.Bool.{true, false}
 use Rattle.lighting_panel.specs.Paper.Panel.{panelOf}
 use Rattle.text_printing.proofs.Pages.{wrote-none}
 use Rattle.replay_line.specs.Taking.{takenBy}
-use Rattle.replay_line.proofs.Ends.{begun-by, ended}
+use Rattle.replay_line.proofs.Ends.{started-by, ended}
 use borrow.Author.Needs.{needs}
 use Rattle.replay_line.proofs.take_line.Statement.{statement}
 use Rattle.replay_line.proofs.take_line.Proof.Tie as tie
@@ -42,6 +42,9 @@ enum-told-2 c = search needs
 answer-requires : tie.Need-answer-requires
 answer-requires c κs = search needs
 
+next-line-requires-2 : tie.Need-next-line-requires-2
+next-line-requires-2 c κs = search needs
+
 enum-known-line-2 : tie.Need-enum-known-line-2
 enum-known-line-2 c = search needs
 
@@ -67,7 +70,7 @@ returns-2 c =
     let a = c .before .before .before .before .before .before .before .before .before .before .before .before .before .before .before .args in
     let p = panelOf (a .outputs .now) (a .stations .now) (a .kept .now) in
     let s = c .before .before .before .start in
-    ended p (a .r) _ (c .before .before .before .before .before .before .before .before .before .before .before .before .before .line-of .result) (a .page .now) (a .mark) (c .with-named .result) true (a .page .now) (a .mark) (panelOf (s .last .0) (s .last .1 .0) (s .last .1 .1 .0)) (c .before .before .before .before .before .before .before .before .before .before .before .before .before .line-of .ensures) (c .before .before .before .before .before .before .before .before .before .before .line .given .1) (rw (← c .before .before .before .before .before .before .before .before .before .before .before .before .next-line .ensures) (c .with-named .ensures)) refl (wrote-none (a .page .now) (a .mark)) (begun-by _ p (c .before .before .before .before .before .before .before .before .wide-index .ensures) (c .before .before .before .before .before .before .before .wide-index2 .ensures) (s .ensures .1))
+    ended p (a .r) _ (c .before .before .before .before .before .before .before .before .before .before .before .before .before .line-of .result) (a .page .now) (a .mark) (c .with-named .result) true (a .page .now) (a .mark) (panelOf (s .last .0) (s .last .1 .0) (s .last .1 .1 .0)) (c .before .before .before .before .before .before .before .before .before .before .before .before .before .line-of .ensures) (c .before .before .before .before .before .before .before .before .before .before .line .given .1) (rw (← c .before .before .before .before .before .before .before .before .before .before .before .before .next-line .ensures) (c .with-named .ensures)) refl (wrote-none (a .page .now) (a .mark)) (started-by _ p (c .before .before .before .before .before .before .before .before .wide-index .ensures) (c .before .before .before .before .before .before .before .wide-index2 .ensures) (s .ensures .1))
 
 same-length-3 : tie.Need-same-length-3
 same-length-3 c = search needs
@@ -81,10 +84,10 @@ same-length-5 c = search needs
 returns-3 : tie.Need-returns-3
 unfolding takenBy
 returns-3 c =
-    let a = c .before .before .before .before .before .before .before .before .before .before .before .before .before .before .args in
+    let a = c .before .before .before .before .before .before .before .before .before .before .before .before .before .before .before .args in
     let p = panelOf (a .outputs .now) (a .stations .now) (a .kept .now) in
-    let s = c .before .before .before .before .answer in
-    ended p (a .r) _ (c .before .before .before .before .before .before .before .before .before .before .before .before .line-of .result) (a .page .now) (a .mark) (c .before .before .before .before .before .before .before .before .before .before .before .next-line .result) true (s .last .1 .1 .1 .0) (s .result) (panelOf (s .last .0) (s .last .1 .0) (s .last .1 .1 .0)) (c .before .before .before .before .before .before .before .before .before .before .before .before .line-of .ensures) (c .before .before .before .before .before .before .before .before .before .enum-told2 .given .1) (c .before .before .before .before .before .before .before .before .before .before .before .next-line .ensures) refl (s .ensures .0) (s .ensures .1)
+    let s = c .before .before .before .before .before .answer in
+    ended p (a .r) _ (c .before .before .before .before .before .before .before .before .before .before .before .before .before .line-of .result) (a .page .now) (a .mark) (c .next-line2 .result) true (s .last .1 .1 .1 .0) (s .result) (panelOf (s .last .0) (s .last .1 .0) (s .last .1 .1 .0)) (c .before .before .before .before .before .before .before .before .before .before .before .before .before .line-of .ensures) (c .before .before .before .before .before .before .before .before .before .before .enum-told2 .given .1) (c .next-line2 .ensures) refl (s .ensures .0) (s .ensures .1)
 
 same-length-6 : tie.Need-same-length-6
 same-length-6 c = search needs
@@ -111,6 +114,7 @@ take-line-spec =
     with-named-requires
     enum-told-2
     answer-requires
+    next-line-requires-2
     enum-known-line-2
     put-fault-requires
     returns

@@ -8,14 +8,14 @@ use Rattle.text_heading.proofs.trailed.Tie as tie
 is-blank-requires : tie.Need-is-blank-requires
 is-blank-requires c κs = search needs
 
-begun-requires : tie.Need-begun-requires
-begun-requires c κs = search needs
+word-begun-requires : tie.Need-word-begun-requires
+word-begun-requires c κs = search needs
 
-begun-requires-2 : tie.Need-begun-requires-2
-begun-requires-2 c κs = search needs
+word-begun-requires-2 : tie.Need-word-begun-requires-2
+word-begun-requires-2 c κs = search needs
 
-begun-requires-3 : tie.Need-begun-requires-3
-begun-requires-3 c κs = search needs
+word-begun-requires-3 : tie.Need-word-begun-requires-3
+word-begun-requires-3 c κs = search needs
 
 with-place-requires : tie.Need-with-place-requires
 with-place-requires c κs = search needs
@@ -45,9 +45,9 @@ trailed-spec =
     tie.close
     (tie.spec
     is-blank-requires
-    begun-requires
-    begun-requires-2
-    begun-requires-3
+    word-begun-requires
+    word-begun-requires-2
+    word-begun-requires-3
     with-place-requires
     returns
     returns-2

@@ -117,6 +117,9 @@ After-page = Lts.After-page (Reads'5.Asked, Reads'5.Learnt, Reads'6.Asked, Reads
 abbrev pub After-slice-known2 : Type 0
 After-slice-known2 = Lts.After-slice-known2 (Reads'5.Asked, Reads'5.Learnt, Reads'6.Asked, Reads'6.Learnt, Reads'.Asked, Reads'.Learnt, Reads.Asked, Reads.Learnt, Reads'7.Asked, Reads'7.Learnt, Reads''.Asked, Reads''.Learnt, Reads'4.Asked, Reads'4.Learnt) Reads'3.Pre Reads'3.Post
 
+abbrev pub After-next-line2 : Type 0
+After-next-line2 = Lts.After-next-line2 (Reads'5.Asked, Reads'5.Learnt, Reads'6.Asked, Reads'6.Learnt, Reads'.Asked, Reads'.Learnt, Reads.Asked, Reads.Learnt, Reads'7.Asked, Reads'7.Learnt, Reads''.Asked, Reads''.Learnt, Reads'4.Asked, Reads'4.Learnt) Reads'3.Pre Reads'3.Post
+
 abbrev pub At-match-keys4 : Type 0
 At-match-keys4 = Lts.At-match-keys4 (Reads'5.Asked, Reads'5.Learnt, Reads'6.Asked, Reads'6.Learnt, Reads'.Asked, Reads'.Learnt, Reads.Asked, Reads.Learnt, Reads'7.Asked, Reads'7.Learnt, Reads''.Asked, Reads''.Learnt, Reads'4.Asked, Reads'4.Learnt) Reads'3.Pre Reads'3.Post
 
@@ -168,6 +171,9 @@ Need-enum-told-2 = Lts.Need-enum-told-2 (Reads'5.Asked, Reads'5.Learnt, Reads'6.
 abbrev pub Need-answer-requires : Type 0
 Need-answer-requires = Lts.Need-answer-requires (Reads'5.Asked, Reads'5.Learnt, Reads'6.Asked, Reads'6.Learnt, Reads'.Asked, Reads'.Learnt, Reads.Asked, Reads.Learnt, Reads'7.Asked, Reads'7.Learnt, Reads''.Asked, Reads''.Learnt, Reads'4.Asked, Reads'4.Learnt) Reads'3.Pre Reads'3.Post
 
+abbrev pub Need-next-line-requires-2 : Type 0
+Need-next-line-requires-2 = Lts.Need-next-line-requires-2 (Reads'5.Asked, Reads'5.Learnt, Reads'6.Asked, Reads'6.Learnt, Reads'.Asked, Reads'.Learnt, Reads.Asked, Reads.Learnt, Reads'7.Asked, Reads'7.Learnt, Reads''.Asked, Reads''.Learnt, Reads'4.Asked, Reads'4.Learnt) Reads'3.Pre Reads'3.Post
+
 abbrev pub Need-enum-known-line-2 : Type 0
 Need-enum-known-line-2 = Lts.Need-enum-known-line-2 (Reads'5.Asked, Reads'5.Learnt, Reads'6.Asked, Reads'6.Learnt, Reads'.Asked, Reads'.Learnt, Reads.Asked, Reads.Learnt, Reads'7.Asked, Reads'7.Learnt, Reads''.Asked, Reads''.Learnt, Reads'4.Asked, Reads'4.Learnt) Reads'3.Pre Reads'3.Post
 
@@ -216,6 +222,7 @@ module _ {M : Type 1} where
       (answer : Need-with-named-requires) →
       (answer : Need-enum-told-2) →
       (answer : Need-answer-requires) →
+      (answer : Need-next-line-requires-2) →
       (answer : Need-enum-known-line-2) →
       (answer : Need-put-fault-requires) →
       (answer : Need-returns) →
@@ -244,7 +251,7 @@ module _ {M : Type 1} where
         Reads'4.Asked,
         Reads'4.Learnt,
       ) Reads'3.Pre Reads'3.Post M
-  spec = λ answer answer' answer'' answer'3 answer'4 answer'5 answer'6 answer'7 answer'8 answer'9 answer'10 answer'11 answer'12 answer'13 answer'14 answer'15 answer'16 answer'17 answer'18 answer'19 answer'20 answer'21. Lts.spec (Reads'5.Asked, Reads'5.Learnt, Reads'6.Asked, Reads'6.Learnt, Reads'.Asked, Reads'.Learnt, Reads.Asked, Reads.Learnt, Reads'7.Asked, Reads'7.Learnt, Reads''.Asked, Reads''.Learnt, Reads'4.Asked, Reads'4.Learnt) Reads'3.Pre Reads'3.Post answer answer' answer'' answer'3 answer'4 answer'5 answer'6 answer'7 answer'8 answer'9 answer'10 answer'11 answer'12 answer'13 answer'14 answer'15 answer'16 answer'17 answer'18 answer'19 answer'20 answer'21
+  spec = λ answer answer' answer'' answer'3 answer'4 answer'5 answer'6 answer'7 answer'8 answer'9 answer'10 answer'11 answer'12 answer'13 answer'14 answer'15 answer'16 answer'17 answer'18 answer'19 answer'20 answer'21 answer'22. Lts.spec (Reads'5.Asked, Reads'5.Learnt, Reads'6.Asked, Reads'6.Learnt, Reads'.Asked, Reads'.Learnt, Reads.Asked, Reads.Learnt, Reads'7.Asked, Reads'7.Learnt, Reads''.Asked, Reads''.Learnt, Reads'4.Asked, Reads'4.Learnt) Reads'3.Pre Reads'3.Post answer answer' answer'' answer'3 answer'4 answer'5 answer'6 answer'7 answer'8 answer'9 answer'10 answer'11 answer'12 answer'13 answer'14 answer'15 answer'16 answer'17 answer'18 answer'19 answer'20 answer'21 answer'22
 
   pub close : Lts.Closed (
     Reads'5.Asked,
