@@ -8,7 +8,7 @@ use Prim.Native.Nat.{ℕ, suc, _≤_, _<_}
 use native.Mathlib.Omega.{arith}
 use lib.Dec.{ltb, eqb}
 use lib.ListN.{length, getD, replicate}
-use Rattle.lighting_levels.specs.Paper.Choice.{if_then_else_, _also_, every}
+use Rattle.lighting_levels.specs.Paper.Choice.{if_then_else_, every}
 use Rattle.lighting_outputs.specs.declared.Parameters.{Parameters}
 use Rattle.lighting_levels.specs.Paper.Field.{byteAt}
 use Rattle.lighting_frames.specs.Paper.Frames.{Bytes, Octets, parse}
@@ -67,19 +67,7 @@ all-stay p t [] m h = refl
 all-stay p t (o ∷ l) m h =
     ap₂ (λ (x : Output) (k : List Output). x ∷ k) (tested-stays p t o m (also-both h .0)) (all-stay p t l m (also-both h .1))
 
--- REFUSAL 1. The kept set may be tested last
-also-turned : (a b : Bool) → (a also b) ≡ (b also a)
-unfolding if_then_else_
-also-turned true true = refl
-also-turned true false = refl
-also-turned false true = refl
-also-turned false false = refl
-
-pub sound-last : (e : Panel) → panelSound e ≡ (rulesKept (e .kept .parameters) e also startable (e .kept .parameters))
-unfolding panelSound
-sound-last e = also-turned (startable (e .kept .parameters)) (rulesKept (e .kept .parameters) e)
-
--- the parts of its test
+-- the parts of the test of refusal 1
 pub sound-startable : (e : Panel) → panelSound e ≡ true → startable (e .kept .parameters) ≡ true
 unfolding panelSound
 sound-startable e h = also-both h .0

@@ -45,22 +45,21 @@ fn stations_sound(stations: &[Station]) -> bool
     true
 }
 
-// Refusal 1: by the kept set the counts, then each record, then the set itself. It comes last so that its
-// numbers need not be held beside the records.
+// Refusal 1: the kept set, then by it the counts, then each record.
 pub fn panel_sound(outputs: &[Output], stations: &[Station], kept: PanelRecord) -> bool
     ensures { λ r. ⌜ r ≡ panelSound (panelOf (now (outputs .entry)) (now (stations .entry)) kept) ⌝ }
 {
     let parameters = panel_record::parameters_of(kept);
+    if !panel_record::is_startable(parameters) {
+        return false;
+    }
     if !station_judging::counts_sound(parameters, outputs.len(), stations.len()) {
         return false;
     }
     if !outputs_sound(outputs, parameters, panel_record::time_of(kept)) {
         return false;
     }
-    if !stations_sound(stations) {
-        return false;
-    }
-    panel_record::is_startable(parameters)
+    stations_sound(stations)
 }
 
 // ---- the verdict
