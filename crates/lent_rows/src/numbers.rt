@@ -6,11 +6,16 @@ pub fn is_digit(c: u8) -> bool {
 
 // A digit more at the end of a number: the low four bits of its character.
 pub fn digit_after(n: u64, c: u8) -> u64 {
-    if n < 1_000_000_000_000_000_000 {
-        n * 10 + wide8(c) % 16
-    } else {
-        18_446_744_073_709_551_615
+    let d = wide8(c) % 16;
+    if n < 1_844_674_407_370_955_161 {
+        return n * 10 + d;
     }
+    if n == 1_844_674_407_370_955_161 {
+        if d < 6 {
+            return 18_446_744_073_709_551_610 + d;
+        }
+    }
+    18_446_744_073_709_551_615
 }
 
 // ---- wider
