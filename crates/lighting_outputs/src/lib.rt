@@ -177,10 +177,22 @@ pub enum Answer {
     Refused(u8),
 }
 
-// The set of parameters that a panel is made with. Which numbers it may have, the definitions say
+// The ends of the ranges of a set of parameters (§6): stations and outputs from 1, the two times from
+// LEAST_TIME.
+pub const MOST_STATIONS: u32 = 32;
+
+pub const MOST_OUTPUTS: u32 = 64;
+
+pub const LEAST_TIME: u32 = 100;
+
+pub const MOST_FADE: u32 = 86_400_000;
+
+pub const MOST_DURATION: u32 = 86_400_000;
+
+// The set of parameters that a panel is started with. Which numbers it may have, the definitions say
 // (`startable` of specs/Paper/Startable.antt).
 pub struct Parameters {
-    // How many station records there are, and the most outputs
+    // How many station records and how many outputs there are
     pub stations: u32,
     pub outputs: u32,
     // The longest fade time and the longest duration

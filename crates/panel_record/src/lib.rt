@@ -4,6 +4,11 @@ ghost use mathlib.Core.Path.{_≡_};
 ghost use Rattle.lighting_outputs.specs.Paper.Parameters.{document01};
 ghost use Rattle.lighting_outputs.specs.Paper.Startable.{startable};
 ghost use Rattle.lighting_panel.specs.Paper.Panel.{freshRecord, withTime};
+use lighting_outputs::LEAST_TIME;
+use lighting_outputs::MOST_DURATION;
+use lighting_outputs::MOST_FADE;
+use lighting_outputs::MOST_OUTPUTS;
+use lighting_outputs::MOST_STATIONS;
 use lighting_outputs::Parameters;
 use lighting_panel::PanelRecord;
 use number_ranges::is_within;
@@ -26,10 +31,10 @@ pub fn document_01(outputs: u32) -> Parameters
 pub fn is_startable(parameters: Parameters) -> bool
     ensures { λ r. ⌜ r ≡ startable parameters ⌝ }
 {
-    if is_within(1, 32, parameters.stations) {
-        if is_within(1, 64, parameters.outputs) {
-            if is_within(100, 86400000, parameters.fade) {
-                is_within(100, 86400000, parameters.duration)
+    if is_within(1, MOST_STATIONS, parameters.stations) {
+        if is_within(1, MOST_OUTPUTS, parameters.outputs) {
+            if is_within(LEAST_TIME, MOST_FADE, parameters.fade) {
+                is_within(LEAST_TIME, MOST_DURATION, parameters.duration)
             } else {
                 false
             }

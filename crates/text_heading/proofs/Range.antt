@@ -7,7 +7,7 @@ use native.Mathlib.Omega.{arith}
 use Rattle.lighting_levels.specs.Paper.Choice.{if_then_else_, _also_}
 use Rattle.lighting_outputs.specs.declared.Parameters.{Parameters}
 use Rattle.lighting_outputs.specs.Paper.Rows.{within}
-use Rattle.lighting_outputs.specs.Paper.Startable.{startable}
+use Rattle.lighting_outputs.specs.Paper.Startable.{mostStations, mostOutputs, leastTime, mostFade, mostDuration, startable}
 use Rattle.lighting_outputs.proofs.Rules.Startable.{startable-of}
 use Rattle.lighting_levels.proofs.Split.{by-bool, by-le, leb-yes, leb-no}
 use Rattle.text_heading.specs.Words.{numberIn, bounds, fits}
@@ -87,10 +87,10 @@ within-capped low high n l h =
 
 fits-capped : (w : Word) (p : Parameters) → fits w (capped p) ≡ fits w p
 unfolding fits bounds numberIn
-fits-capped Outputs p = within-capped 1 64 (p .outputs) (omega arith) (omega arith)
-fits-capped Stations p = within-capped 1 32 (p .stations) (omega arith) (omega arith)
-fits-capped Fade p = within-capped 100 86400000 (p .fade) (omega arith) (omega arith)
-fits-capped Duration p = within-capped 100 86400000 (p .duration) (omega arith) (omega arith)
+fits-capped Outputs p = within-capped 1 mostOutputs (p .outputs) (omega arith) (omega arith)
+fits-capped Stations p = within-capped 1 mostStations (p .stations) (omega arith) (omega arith)
+fits-capped Fade p = within-capped leastTime mostFade (p .fade) (omega arith) (omega arith)
+fits-capped Duration p = within-capped leastTime mostDuration (p .duration) (omega arith) (omega arith)
 
 pub judged-capped : (p : Parameters) → judged (capped p) ≡ judged p
 unfolding judged fitting if_then_else_

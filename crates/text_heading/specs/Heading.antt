@@ -5,6 +5,7 @@ use Prim.Native.Nat.{ℕ, _+_, _*_, min}
 use lib.Dec.{ltb, eqb}
 use Rattle.lighting_levels.specs.Paper.Choice.{if_then_else_}
 use Rattle.lighting_outputs.specs.declared.Parameters.{Parameters}
+use Rattle.lighting_outputs.specs.Paper.Startable.{mostFade, mostDuration}
 use Rattle.lighting_frames.specs.Paper.Frames.{Bytes}
 use Rattle.text_characters.specs.Characters.{isBlank, hexValue}
 use Rattle.text_heading.specs.Words.{letter, numberIn, withNumber, fits, hasCome, withCome}
@@ -19,9 +20,10 @@ use Rattle.text_heading.specs.declared.Heading.{Heading}
 use Rattle.text_heading.specs.declared.Ending.{Ending}
 use Rattle.text_heading.specs.declared.Ending.the-variants.{Starts, Fails}
 
--- WHAT IS LEFT OUT: eight stations, and a day for fades and for durations. The outputs are always named
+-- WHAT IS LEFT OUT: eight stations, and the greatest times for fades and for durations, a day. The outputs
+-- are always named
 abbrev pub leftOut : Parameters
-leftOut = record { stations = 8; outputs = 0; fade = 86400000; duration = 86400000 }
+leftOut = record { stations = 8; outputs = 0; fade = mostFade; duration = mostDuration }
 
 abbrev pub noneCame : Came
 noneCame = record { stations = false; fade = false; duration = false }

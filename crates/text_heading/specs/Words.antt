@@ -4,6 +4,7 @@ use Prim.Native.Nat.{ℕ}
 use lib.ListN.{getD}
 use Rattle.lighting_outputs.specs.declared.Parameters.{Parameters}
 use Rattle.lighting_outputs.specs.Paper.Rows.{within}
+use Rattle.lighting_outputs.specs.Paper.Startable.{mostStations, mostOutputs, leastTime, mostFade, mostDuration}
 use Rattle.lighting_frames.specs.Paper.Frames.{Bytes}
 use Rattle.text_printing.specs.Text.{text}
 use Rattle.text_heading.specs.declared.Word.{Word}
@@ -34,12 +35,13 @@ withNumber Stations n p = record { stations = n; outputs = p .outputs; fade = p 
 withNumber Fade n p = record { stations = p .stations; outputs = p .outputs; fade = n; duration = p .duration }
 withNumber Duration n p = record { stations = p .stations; outputs = p .outputs; fade = p .fade; duration = n }
 
--- §6: its range. Whether all four are within theirs is the test `startable` (proofs/Range.antt)
+-- §6: its range, as Startable.antt has it. Whether all four are within theirs is the test `startable`
+-- (proofs/Range.antt)
 unfoldable pub bounds : Word → Bounds
-bounds Outputs = record { least = 1; most = 64 }
-bounds Stations = record { least = 1; most = 32 }
-bounds Fade = record { least = 100; most = 86400000 }
-bounds Duration = record { least = 100; most = 86400000 }
+bounds Outputs = record { least = 1; most = mostOutputs }
+bounds Stations = record { least = 1; most = mostStations }
+bounds Fade = record { least = leastTime; most = mostFade }
+bounds Duration = record { least = leastTime; most = mostDuration }
 
 unfoldable pub fits : Word → Parameters → Bool
 fits w p = within (bounds w .least) (bounds w .most) (numberIn w p)

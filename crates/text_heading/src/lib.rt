@@ -5,6 +5,8 @@ pub mod words;
 ghost use mathlib.Core.Path.{_≡_};
 ghost use Prim.Native.Nat.{_+_, _*_, min};
 ghost use Rattle.text_heading.specs.Heading.{freshHeading, withPlace, noWord, noNumber, misspelt, unnumbered, lettered, counted, countedOn, gapped, numbered, marked, wordBegun, trailed, headingStep, fitting, judged, ended};
+use lighting_outputs::MOST_DURATION;
+use lighting_outputs::MOST_FADE;
 use lighting_outputs::Parameters;
 
 // A word that has a number of the set.
@@ -69,7 +71,7 @@ pub enum Ending {
 
 // ---- the line after one more character c, worth v as a digit
 
-// Before its first character. Left out are eight stations and a day.
+// Before its first character. Left out are eight stations and the greatest times.
 pub fn fresh_heading() -> Heading
     ensures { λ r. ⌜ r ≡ freshHeading ⌝ }
 {
@@ -77,8 +79,8 @@ pub fn fresh_heading() -> Heading
         set: Parameters {
             stations: 8,
             outputs: 0,
-            fade: 86400000,
-            duration: 86400000,
+            fade: MOST_FADE,
+            duration: MOST_DURATION,
         },
         came: Came {
             stations: false,

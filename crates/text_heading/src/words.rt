@@ -5,6 +5,11 @@ ghost use Rattle.text_heading.specs.Words.{letters, bounds, numberIn, wi
 use crate::Bounds;
 use crate::Came;
 use crate::Word;
+use lighting_outputs::LEAST_TIME;
+use lighting_outputs::MOST_DURATION;
+use lighting_outputs::MOST_FADE;
+use lighting_outputs::MOST_OUTPUTS;
+use lighting_outputs::MOST_STATIONS;
 use lighting_outputs::Parameters;
 
 // ---- letters
@@ -76,15 +81,21 @@ pub fn bounds(w: Word) -> Bounds
     ensures { λ r. ⌜ r ≡ bounds w ⌝ }
 {
     match w {
-        Word::Outputs => Bounds { least: 1, most: 64 },
-        Word::Stations => Bounds { least: 1, most: 32 },
+        Word::Outputs => Bounds {
+            least: 1,
+            most: MOST_OUTPUTS,
+        },
+        Word::Stations => Bounds {
+            least: 1,
+            most: MOST_STATIONS,
+        },
         Word::Fade => Bounds {
-            least: 100,
-            most: 86400000,
+            least: LEAST_TIME,
+            most: MOST_FADE,
         },
         Word::Duration => Bounds {
-            least: 100,
-            most: 86400000,
+            least: LEAST_TIME,
+            most: MOST_DURATION,
         },
     }
 }

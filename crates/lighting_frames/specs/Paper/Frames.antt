@@ -83,7 +83,7 @@ callOf p action b =
       request = requestOf p action b;
     }
 
--- 'station over 7, or number 0' is 4, 'output not in the table' is 5
+-- 'station over 7, or number 0' is 4, by the set's number of stations (§6); 'output not in the table' is 5
 unfoldable pub called : Parameters → ℕ → Call → Frame
 called p c call =
     if ltb (call .station) (p .stations)

@@ -5,16 +5,16 @@ use Prim.Native.Nat.{ℕ, _≤_}
 use Rattle.lighting_levels.specs.Paper.Choice.{if_then_else_}
 use Rattle.lighting_outputs.specs.Paper.Parameters.{Parameters, document01}
 use Rattle.lighting_outputs.specs.Paper.Rows.{within}
-use Rattle.lighting_outputs.specs.Paper.Startable.{startable}
+use Rattle.lighting_outputs.specs.Paper.Startable.{mostStations, mostOutputs, leastTime, mostFade, mostDuration, startable}
 use Rattle.lighting_levels.proofs.Split.{parts, leb-yes}
 use Rattle.lighting_outputs.proofs.Rules.Facts.{Within}
 use Rattle.lighting_outputs.proofs.Rules.Tied.{within-of}
 
 pub record Startable (p : Parameters) : Type 0 where
-  pub stations : Within 1 32 (p .stations)
-  pub outputs : Within 1 64 (p .outputs)
-  pub fade : Within 100 86400000 (p .fade)
-  pub duration : Within 100 86400000 (p .duration)
+  pub stations : Within 1 mostStations (p .stations)
+  pub outputs : Within 1 mostOutputs (p .outputs)
+  pub fade : Within leastTime mostFade (p .fade)
+  pub duration : Within leastTime mostDuration (p .duration)
 
 pub startable-of : (p : Parameters) → startable p ≡ true → Startable p
 unfolding startable

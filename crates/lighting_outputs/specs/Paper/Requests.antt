@@ -45,7 +45,8 @@ unfoldable pub fieldsRefusal : Parameters → OperationFields → ℕ
 fieldsRefusal p f =
     firstRefusal (levelFieldRefusal (f .level)) (firstRefusal (amountFieldRefusal (f .rate)) (firstRefusal (amountFieldRefusal (f .step)) (timeFieldRefusal p (f .fade))))
 
--- 'Duration is milliseconds: 0 cancels, 100 to 86,400,000 sets'; any other is 12
+-- 'Duration is milliseconds: 0 cancels, 100 to 86,400,000 sets', up to the set's longest duration (§6); any
+-- other is 12
 unfoldable pub commandLasting : Parameters → Operation → ℕ → Request
 commandLasting p operation d =
     if eqb d 0 then ToOutput (Commands (record { operation = operation; duration = Cancels }))

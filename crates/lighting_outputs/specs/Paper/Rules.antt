@@ -51,7 +51,7 @@ unfoldable pub slotsSound : Slots → Bool
 slotsSound s = allFrom (slotSound s) slotCount 0
 
 -- 'began no later than panel time' (what is left of it is not longer than it lasts), 'lasts 1 to 86,400,000
--- ms', 'every due moment is after panel time'
+-- ms', up to the longest movement (§6), 'every due moment is after panel time'
 unfoldable pub spanSound : Parameters → ℕ → Movement → Bool
 spanSound p t m = ltb t (m .over) also leb (m .over - t) (m .length) also within 1 (longestMovement p) (m .length)
 

@@ -2,13 +2,30 @@
 -- time 100 to 86,400,000, longest duration likewise'. One test, apart from every definition that uses the
 -- numbers.
 use mathlib.Core.Bool.{Bool}
+use Prim.Native.Nat.{ℕ}
 use Rattle.lighting_levels.specs.Paper.Choice.{_also_}
 use Rattle.lighting_outputs.specs.Paper.Parameters.{Parameters}
 use Rattle.lighting_outputs.specs.Paper.Rows.{within}
 
+-- the ends of the four ranges
+abbrev pub mostStations : ℕ
+mostStations = 32
+
+abbrev pub mostOutputs : ℕ
+mostOutputs = 64
+
+abbrev pub leastTime : ℕ
+leastTime = 100
+
+abbrev pub mostFade : ℕ
+mostFade = 86400000
+
+abbrev pub mostDuration : ℕ
+mostDuration = 86400000
+
 unfoldable pub startable : Parameters → Bool
 startable p =
-    within 1 32 (p .stations)
-    also within 1 64 (p .outputs)
-    also within 100 86400000 (p .fade)
-    also within 100 86400000 (p .duration)
+    within 1 mostStations (p .stations)
+    also within 1 mostOutputs (p .outputs)
+    also within leastTime mostFade (p .fade)
+    also within leastTime mostDuration (p .duration)
