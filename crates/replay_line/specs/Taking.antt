@@ -21,9 +21,9 @@ use Rattle.text_faults.specs.Faults.{faultLine}
 abbrev pub inUse : Panel → Panel
 inUse e = lent (e .kept .parameters .outputs) (e .kept .parameters .stations) e
 
--- the line that names the set p starts the panel of so many outputs and stations
+-- the line that names the set s starts the panel of so many outputs and stations
 abbrev pub startedWith : Parameters → Panel → Panel
-startedWith p e = begun (p .outputs) (p .stations) p e .panel
+startedWith s e = begun (s .outputs) (s .stations) s e .panel
 
 -- a string of bytes goes to the panel that is in use
 abbrev pub sentOn : Bytes → Panel → Step

@@ -105,10 +105,10 @@ headingStep h v c = stepAt h (h .place) v c
 unfoldable pub read : Heading → ℕ → Heading
 read h c = headingStep h (hexValue c) c
 
--- ALL THE CHARACTERS OF A TEXT, each by a step f
+-- ALL THE CHARACTERS OF A TEXT, each by a step
 unfoldable pub run : {A : Type 0} → (A → ℕ → A) → A → Bytes → A
-run f a [] = a
-run f a (c ∷ x) = run f (f a c) x
+run step a [] = a
+run step a (c ∷ x) = run step (step a c) x
 
 -- THE LINE'S END: the first number out of range, in this order, or the set
 unfoldable pub fitting : Word → Parameters → Ending → Ending

@@ -35,14 +35,14 @@ pub data Says (w : Word) (n : ℕ) : Bytes → Type 0 where
       Blanks (c ∷ gap) → d < 10 → Writes d n digits →
       Says w n (letters w ++ ((c ∷ gap) ++ ((48 + d) ∷ digits)))
 
--- THE WORDS AFTER `outputs`, in any order and each at most once: where the words m have come and made the set
+-- THE WORDS AFTER `outputs`, in any order and each at most once: where some words have come and made the set
 -- p, the text x makes it q
 pub data Further : Came → Parameters → Parameters → Bytes → Type 0 where
-  no-more : {m : Came} {p : Parameters} {x : Bytes} → Blanks x → Further m p p x
+  no-more : {came : Came} {p : Parameters} {x : Bytes} → Blanks x → Further came p p x
   one-more :
-      {m : Came} {p q : Parameters} {n c : ℕ} {gap x y : Bytes} (w : Word) →
-      hasCome w m ≡ false → Blanks (c ∷ gap) → Says w n x → Further (withCome w m) (withNumber w n p) q y →
-      Further m p q ((c ∷ gap) ++ (x ++ y))
+      {came : Came} {p q : Parameters} {n c : ℕ} {gap x y : Bytes} (w : Word) →
+      hasCome w came ≡ false → Blanks (c ∷ gap) → Says w n x → Further (withCome w came) (withNumber w n p) q y →
+      Further came p q ((c ∷ gap) ++ (x ++ y))
 
 -- THE LINE, from the word `outputs` on: the set that it names
 pub data Names : Parameters → Bytes → Type 0 where
