@@ -14,7 +14,9 @@ READS = ['toBits', 'round'] + ACTS
 FRAMES = READS + 'Field Kinds Tags Frames'.split()
 PANELS = FRAMES + 'Startable Rules Stations Copies Panel Judging Executing'.split()
 LISTS = ['answers'] + PANELS
-PANEL = 'answers (freshPanel (document01 %d)) '
+OLD_LISTS = LISTS + ['OldPanel']
+CARRIED = 'Choice Field Rows TimeWithin Tags FadeTimes'.split()
+PANEL = 'answers (freshPanel (fourHours %d)) '
 
 # of each crate: the name of a theorem, what is given and said, their module, what unfolds (modules with all
 # their
@@ -51,6 +53,10 @@ FIGURES = {
         ('frames-at-sets', 'framesGiven', 'framesSaid', 'WorkedSets', LISTS, '§6: refusals 4 and 12 at some sets'),
         ('fresh-fades', 'freshFadesGiven', 'freshFadesSaid', 'WorkedSets', LISTS, '§6: a fresh Fade_Time'),
         ('longest-ramp', 'rampGiven', 'rampSaid', 'WorkedSets', LISTS, '§6: a ramp that is longer than every fade'),
+        ('fades-at-the-top', 'topGiven', 'topSaid', 'WorkedFourHours', OLD_LISTS, '§7: the longest fade, today and before'),
+        ('longer-needed', 'longerGiven', 'longerSaid', 'WorkedFourHours', OLD_LISTS, '§7: lists with a longer fade time differ'),
+        ('longer-unasked', 'unaskedGiven', 'unaskedSaid', 'WorkedFourHours', OLD_LISTS, '§7: longer fade times that neither panel takes'),
+        ('longer-carried', 'carriedGiven', 'carriedSaid', 'WorkedFourHours', CARRIED, '§7: which frames carry a longer fade time'),
     ],
 }
 # names that unfold, and their module: what is no definition of ours, and lists
@@ -76,8 +82,8 @@ def figures_of(crate, figures):
     for module in dict.fromkeys(NAMES[one] for one in unfolded if one in NAMES):
         names = ', '.join(one for one in unfolded if NAMES.get(one) == module)
         lines.append('use %s.{%s}' % (module if '.' in module else library(module, crate), names))
-    if any('document01' in figure[1] for figure in figures):
-        lines.append('use %s.{document01}' % library('Parameters', crate))
+    if any('fourHours' in figure[1] for figure in figures):
+        lines.append('use %s.{fourHours}' % library('Parameters', crate))
     for module in unfolded:
         if module not in NAMES and definitions(module):
             lines.append('use %s.{%s}' % (library(module, crate), ', '.join(definitions(module))))

@@ -18,7 +18,7 @@ HEAD = '# The frames of docs/FRAMES.md in its order, without the answers: tools/
 FRAME = r'^((?:[0-9A-F]{2})+(?: (?:[0-9A-F]{2})+)*|-) +(Done|Absent|Value [0-9A-F]{8}|Refused \d+)(?:  +(.*))?$'
 
 # refusals that a start meets, and no frame
-STARTS = {17: ('outputs 0', 'outputs 65', 'outputs 1 stations 33', 'outputs 1 fade 99', 'outputs 1 duration 86400001')}
+STARTS = {17: ('outputs 0', 'outputs 65', 'outputs 1 stations 33', 'outputs 1 fade 99', 'outputs 1 fade 14400001', 'outputs 1 duration 86400001')}
 
 faults = []
 

@@ -341,6 +341,6 @@ pub fn output_numbers(at: usize, o: Output) -> [u64; NUMBERS] {
 pub fn is_fresh_output(o: Output) -> bool {
     super::same(
         output_numbers(0, o),
-        output_numbers(0, output_fresh::fresh_output(panel_record::document_01(1))),
+        output_numbers(0, output_fresh::fresh_output(panel_record::four_hours(1))),
     )
 }

@@ -2,7 +2,7 @@
 // record, start the panel, send frames, and ask for what is left, which is written as rows of the same form.
 // The crate `lent_rows` has the rows. A row's first character is its letter:
 //   t N K T    N outputs and K stations are lent from here on, every record fresh, at panel time T; the
-//              kept set is document 01's of N outputs
+//              kept set is the old panel's of N outputs (§7)
 //   p S C F D  the kept set is from here on S stations, C outputs, the longest fade F, the longest duration D
 //   o I ..     the record of output I, 48 numbers
 //   s I ..     the record of station I, 34 numbers
@@ -198,7 +198,7 @@ fn take_row(
     let next = with_next_row(t);
     match letter {
         b't' => {
-            let parameters = panel_record::document_01(lent_rows::numbers::narrow32(numbers[0]));
+            let parameters = panel_record::four_hours(lent_rows::numbers::narrow32(numbers[0]));
             clear(outputs, stations, kept, parameters, numbers[2]);
             with_counts(
                 next,
@@ -329,7 +329,7 @@ fn lend(
 
 // Over tables of its own, with one record more than any panel has: 65 outputs and 33 stations.
 pub fn run() {
-    let parameters = panel_record::document_01(1);
+    let parameters = panel_record::four_hours(1);
     let output = output_fresh::fresh_output(parameters);
     let mut outputs = [output; 65];
     let record = output_fresh::fresh_station();

@@ -68,8 +68,15 @@ isByte k NoKind = true
 isByte k ClockKind = eqb k 0x01
 isByte k (CallKind action) = eqb k (actionByte action)
 
--- so the kind byte is that of what the table says it asks
-pub kind-byte : (k : ℕ) (action : Action) → kindRow k .kind ≡ CallKind action → k ≡ actionByte action
+-- so the kind byte is that of what the table says it is, and asks
+row-byte : (k : ℕ) → isByte k (kindRow k .kind) ≡ true
 unfolding isByte rowsFrom if_then_else_
-kind-byte k action h =
-    eq-of (sym (ap (isByte k) h) ∙ each-row (λ (n : ℕ) (row : KindRow). isByte n (row .kind)) (λ n. refl) refl refl k)
+row-byte k = each-row (λ (n : ℕ) (row : KindRow). isByte n (row .kind)) (λ n. refl) refl refl k
+
+pub clock-byte : (k : ℕ) → kindRow k .kind ≡ ClockKind → k ≡ 0x01
+unfolding isByte
+clock-byte k h = eq-of (sym (ap (isByte k) h) ∙ row-byte k)
+
+pub kind-byte : (k : ℕ) (action : Action) → kindRow k .kind ≡ CallKind action → k ≡ actionByte action
+unfolding isByte
+kind-byte k action h = eq-of (sym (ap (isByte k) h) ∙ row-byte k)

@@ -11,6 +11,8 @@ pub mod Operations
 pub mod Tagging
 -- the number of outputs of a set plays no part here (§6)
 pub mod OutputCount
+-- of two longest fades: a frame, by the shorter one (§7)
+pub mod ShorterFade
 -- what the reading of a frame leaves in range
 pub mod Reading
 -- what an engineer would check by hand

@@ -1,4 +1,4 @@
--- DOCUMENT 01 AND §1 TO §5 AS DEFINITIONS, this layer's part: what a reader must believe. In reading order;
+-- DOCUMENT 01 AND §1 TO §7 AS DEFINITIONS, this layer's part: what a reader must believe. In reading order;
 -- docs/PAPER.md has all layers.
 -- 'Frames': the table of kinds; a command in BACnet's own tagging (§1); a string of bytes read
 pub mod Kinds
@@ -10,3 +10,5 @@ pub mod Copies
 -- §1: a plain command sent in tags instead; by hand
 pub mod InTags
 pub mod WorkedTags
+-- §7: the fade time that a frame carries
+pub mod FadeTimes

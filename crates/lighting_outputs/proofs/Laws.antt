@@ -15,6 +15,7 @@ use Rattle.lighting_outputs.specs.Paper.Requests.{levelFieldRefusal, amo
 use Rattle.lighting_outputs.specs.Paper.Rows.{rowOf, meets}
 use Rattle.lighting_outputs.specs.Paper.Rules.{activityBy, timerSound}
 use Rattle.lighting_outputs.specs.Paper.Slots.{Slots}
+use Rattle.lighting_outputs.specs.Paper.TimeWithin.{timeWithin}
 use Rattle.lighting_outputs.specs.Paper.Value.{distanceMoved, progressBy, inProcess}
 use Rattle.lighting_outputs.specs.Paper.Writing.{endMovementUnlessAbove, writtenBy}
 use Rattle.lighting_outputs.specs.declared.Activity.{Activity}
@@ -175,6 +176,9 @@ activityBy-on x0 x1 x2 x3 x4 x5 x6 k r e p = rw e p
 
 pub timerSound-on : (x0 : ℕ) (x1 : Timer) (k : Timer) (r : Bool) → x1 ≡ k → r ≡ timerSound x0 k → r ≡ timerSound x0 x1
 timerSound-on x0 x1 k r e p = rw e p
+
+pub timeWithin-on : (x0 : ℕ) (x1 : ℕ) (x2 : TimeField) (k : TimeField) (r : Bool) → x2 ≡ k → r ≡ timeWithin x0 x1 k → r ≡ timeWithin x0 x1 x2
+timeWithin-on x0 x1 x2 k r e p = rw e p
 
 pub distanceMoved-on : (x0 : Pace) (x1 : ℕ) (x2 : ℕ) (x3 : ℕ) (k : Pace) (r : ℕ) → x0 ≡ k → r ≡ distanceMoved k x1 x2 x3 → r ≡ distanceMoved x0 x1 x2 x3
 distanceMoved-on x0 x1 x2 x3 k r e p = rw e p

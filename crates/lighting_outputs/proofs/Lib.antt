@@ -7,6 +7,8 @@ pub mod Time
 pub mod Rules
 -- the number of outputs of a set plays no part here (§6)
 pub mod OutputCount
+-- of two longest fades: the rules, and requests, by the shorter one (§7)
+pub mod ShorterFade
 -- every act keeps the record rules
 pub mod Acts
 -- between a REAL and its pattern nothing is lost

@@ -1,6 +1,6 @@
 -- THE NUMBER OF OUTPUTS of a set is read by no definition of this layer (the counts of lent records read it,
 -- and the test of which sets may be started). So two sets that differ in it alone come to the same.
-use mathlib.Core.Path.{_≡_, refl}
+use mathlib.Core.Path.{_≡_, refl, sym, _∙_}
 use mathlib.Core.Bool.{Bool}
 use Prim.Native.Nat.{ℕ}
 use Rattle.lighting_outputs.specs.Paper.Parameters.{Parameters}
@@ -16,9 +16,9 @@ use Rattle.lighting_outputs.specs.declared.Activity.the-variants.{Still,
 use Rattle.lighting_outputs.specs.declared.Operation.{Operation}
 use Rattle.lighting_outputs.specs.declared.Output.{Output}
 use Rattle.lighting_outputs.specs.declared.Property.{Property}
-use Rattle.lighting_outputs.specs.declared.Property.the-variants.{RelinquishDefault, FadeTime, RampRate, StepIncrement, BlinkEnable, BlinkTime, BlinkWarnDelay, MinValue, MaxValue, CommandPriority, ElapsedActiveTime, PresentValue, ProgressValue, InProcess, LastOperation, LastLevel, LastRate, LastStep, LastFadeTime, LastDuration, BinaryActiveValue, BinaryInactiveValue, Polarity, BinaryPresentValue, RelayState, SlotValue, Unknown}
 use Rattle.lighting_outputs.specs.declared.TimeField.{TimeField}
 use Rattle.lighting_outputs.specs.declared.TimeField.the-variants.{Time, NoTime}
+use Rattle.lighting_outputs.proofs.Rules.Rows.{row-reads}
 
 -- the set with another number of outputs
 abbrev pub withOutputs : Parameters → ℕ → Parameters
@@ -30,33 +30,7 @@ module _ (p : Parameters) (n : ℕ) where
 
   -- REFUSAL 12
   row : (property : Property) → rowOf other property ≡ rowOf p property
-  row RelinquishDefault = refl
-  row FadeTime = refl
-  row RampRate = refl
-  row StepIncrement = refl
-  row BlinkEnable = refl
-  row BlinkTime = refl
-  row BlinkWarnDelay = refl
-  row MinValue = refl
-  row MaxValue = refl
-  row CommandPriority = refl
-  row ElapsedActiveTime = refl
-  row PresentValue = refl
-  row ProgressValue = refl
-  row InProcess = refl
-  row LastOperation = refl
-  row LastLevel = refl
-  row LastRate = refl
-  row LastStep = refl
-  row LastFadeTime = refl
-  row LastDuration = refl
-  row BinaryActiveValue = refl
-  row BinaryInactiveValue = refl
-  row Polarity = refl
-  row BinaryPresentValue = refl
-  row RelayState = refl
-  row (SlotValue i) = refl
-  row Unknown = refl
+  row property = row-reads other p property ∙ sym (row-reads p p property)
 
   pub change : (property : Property) (x : ℕ) → changeOf other property x ≡ changeOf p property x
   unfolding changeOf

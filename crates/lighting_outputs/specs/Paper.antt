@@ -1,4 +1,4 @@
--- DOCUMENT 01 AND §1 TO §5 AS DEFINITIONS, this layer's part: what a reader must believe. In reading order;
+-- DOCUMENT 01 AND §1 TO §7 AS DEFINITIONS, this layer's part: what a reader must believe. In reading order;
 -- docs/PAPER.md has all layers.
 -- the set of parameters, and which sets a panel may have
 pub mod Parameters
@@ -24,6 +24,8 @@ pub mod Fresh
 pub mod Acting
 -- 'Record rules'
 pub mod Rules
+-- §7: a time within two numbers
+pub mod TimeWithin
 -- 'Bench figures' 1 to 8; §2 to §4 and fresh values and rules by hand
 pub mod Figures
 pub mod WorkedLight

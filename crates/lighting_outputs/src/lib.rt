@@ -178,14 +178,14 @@ pub enum Answer {
 }
 
 // The ends of the ranges of a set of parameters (§6): stations and outputs from 1, the two times from
-// LEAST_TIME.
+// LEAST_TIME; fades to four hours (§7).
 pub const MOST_STATIONS: u32 = 32;
 
 pub const MOST_OUTPUTS: u32 = 64;
 
 pub const LEAST_TIME: u32 = 100;
 
-pub const MOST_FADE: u32 = 86_400_000;
+pub const MOST_FADE: u32 = 14_400_000;
 
 pub const MOST_DURATION: u32 = 86_400_000;
 

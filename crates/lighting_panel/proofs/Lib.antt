@@ -23,8 +23,10 @@ pub mod Lent
 pub mod Renamed
 -- commands in tags, in lists (§1)
 pub mod TaggedLists
--- the panel as it stood before §6 is today's at one set
+-- the panel as it stood before §6 is today's at one set, on lists without a longer fade time (§7)
 pub mod OldPanel
+pub mod OldLists
+pub mod FourHours
 -- what an engineer would check by hand
 pub mod Consequences
 -- worked lists, computed

@@ -1,79 +1,116 @@
--- THE OLD PANEL IS TODAY'S AT THE SET 8, ITS OUTPUT COUNT, 86,400,000, 86,400,000 (§6): of one frame over
--- every lent table, sound or not, of the start, and of lists.
+-- THE OLD PANEL AND TODAY'S AT THE SET 8, ITS OUTPUT COUNT, 14,400,000, 86,400,000 (§7): of one frame over
+-- every lent table that keeps the rules of four hours, and of the start. Lists: FourHours.antt.
 use mathlib.Core.Path.{_≡_, refl, sym, ap, _∙_}
-use mathlib.Core.Bool.{Bool, true, false}
+use mathlib.Core.Bool.{Bool, true, false, false≢true}
 use mathlib.Core.List.{List, [], _∷_, map}
 use Prim.Native.Nat.{ℕ, _≤_}
 use native.Mathlib.Omega.{arith}
-use lib.Dec.{leb, eqb}
-use lib.ListN.{length, replicate, length-map, length-replicate}
+use lib.Dec.{leb, ltb, eqb}
+use lib.ListN.{getD, length, length-map, length-replicate}
 use Rattle.lighting_levels.specs.Paper.Choice.{if_then_else_, _also_, every}
 use Rattle.lighting_outputs.specs.declared.Parameters.{Parameters}
-use Rattle.lighting_outputs.specs.Paper.Parameters.{document01}
+use Rattle.lighting_outputs.specs.Paper.Parameters.{document01, fourHours}
 use Rattle.lighting_outputs.specs.Paper.Startable.{startable}
 use Rattle.lighting_outputs.specs.Paper.Rows.{within}
 use Rattle.lighting_outputs.specs.Paper.Rules.{sound}
-use Rattle.lighting_outputs.specs.Paper.Fresh.{freshFor, freshOutput}
+use Rattle.lighting_outputs.specs.Paper.Fresh.{freshOutput}
 use Rattle.lighting_outputs.specs.Engine.Advance.{advance}
 use Rattle.lighting_frames.specs.Paper.Frames.{Bytes}
-use Rattle.lighting_frames.specs.Paper.Stations.{stationSound}
-use Rattle.lighting_panel.specs.Paper.Panel.{Panel, Step, result, countsSound, rulesKept, panelSound, freshPanel, startStep}
-use Rattle.lighting_panel.specs.Paper.Demand.{foundIn, after, answers}
-use Rattle.lighting_panel.specs.Paper.OldPanel.{OldPanel, OldStep, withoutSet, withSet, oldCounts, oldSound, oldStart, oldDecide, oldExecute, oldFrame, oldAfter, oldAnswers, oldFound}
-use Rattle.lighting_panel.specs.Engine.Judging.{decide}
+use Rattle.lighting_frames.specs.Paper.Copies.{sameBytes, retransmissionOrConflict}
+use Rattle.lighting_frames.specs.Paper.Stations.{freshStation}
+use Rattle.lighting_panel.specs.Paper.Panel.{Panel, Station, Step, result, countsSound, rulesKept, panelSound, startStep}
+use Rattle.lighting_panel.specs.Paper.OldPanel.{OldPanel, OldStep, withoutSet, withSet, oldCounts, oldSound, oldStart, oldDecide, oldExecute, oldFrame}
+use Rattle.lighting_panel.specs.Paper.FourHours.{carriesLonger}
+use Rattle.lighting_panel.specs.Engine.Judging.{restored, judgedByNumber, judgedByRecord, stationOf, judgedByStation, decide}
 use Rattle.lighting_panel.specs.Engine.Executing.{execute, frameStep}
 use Rattle.lighting_outputs.specs.declared.Output.{Output}
+use Rattle.lighting_outputs.specs.declared.OutputRequest.{OutputRequest}
+use Rattle.lighting_outputs.specs.declared.Request.{Request}
+use Rattle.lighting_outputs.specs.declared.Request.the-variants.{Refuse, ToOutput}
 use Rattle.lighting_outputs.specs.declared.Answer.{Answer}
 use Rattle.lighting_outputs.specs.declared.Answer.the-variants.{Done, Refused}
+use Rattle.lighting_frames.specs.declared.Call.{Call}
+use Rattle.lighting_frames.specs.declared.Frame.{Frame}
 use Rattle.lighting_frames.specs.declared.Verdict.{Verdict}
 use Rattle.lighting_frames.specs.declared.Verdict.the-variants.{TurnedDown, Copied, Clocked, Arrives}
-use Rattle.lighting_levels.proofs.Split.{by-bool, eqb-hit}
-use Rattle.lighting_outputs.proofs.OutputCount.{rules}
-use Rattle.lighting_outputs.proofs.Rules.Startable.{document01-startable}
+use Rattle.lighting_levels.proofs.Split.{by-bool, also-both, also-yes, eqb-hit}
+use Rattle.lighting_outputs.proofs.OutputCount as Count
+use Rattle.lighting_outputs.proofs.ShorterFade.{withFade, TakesFade, Shortened, alike, refused, cut}
+use Rattle.lighting_outputs.proofs.ShorterFade as Shorter
+use Rattle.lighting_outputs.proofs.Rules.Startable.{fourHours-startable}
 use Rattle.lighting_frames.proofs.OutputCount.{parsed}
+use Rattle.lighting_frames.proofs.ShorterFade.{asking, ShortenedFrame, bad, clocked, asks}
+use Rattle.lighting_frames.proofs.ShorterFade as Frames
 use Rattle.lighting_outputs.proofs.Consequences.Numbers.{fresh}
 use Rattle.lighting_panel.proofs.Carried.{startStep-refused, startStep-done}
 use Rattle.lighting_panel.proofs.Table.{served-length}
 
--- THE SET: document 01's, with as many outputs as the table has
+-- THE SET: the old panel's, with as many outputs as the table has
 abbrev pub setOf : OldPanel → Parameters
-setOf e = document01 (length (e .outputs))
+setOf e = fourHours (length (e .outputs))
 
 abbrev pub today : OldPanel → Panel
 today e = withSet (setOf e) e
 
 -- REFUSAL 1. The counts: exactly so many outputs as there are is no restriction, and the range of the kept
 -- number is document 01's '0 or over 64 outputs'
-pub counts : (c k : ℕ) → (startable (document01 c) also countsSound (document01 c) c k) ≡ oldCounts c k
+pub counts : (c k : ℕ) → (startable (fourHours c) also countsSound (fourHours c) c k) ≡ oldCounts c k
 unfolding startable within countsSound oldCounts if_then_else_
 counts c k =
     rw (eqb-hit {a = c} {b = c} refl)
     (by-bool (leb 1 c) (λ h. rw h (by-bool (leb c 64) (λ g. rw g) (λ g. rw g))) (λ h. rw h))
 
--- the record rules: the number of outputs plays no part in them
-every-same : (outputs t : ℕ) (l : List Output) → every (sound (document01 outputs) t) l ≡ every (sound (document01 64) t) l
+-- the record rules: whoever keeps those of four hours keeps document 01's
+rule : (outputs t : ℕ) (o : Output) → sound (fourHours outputs) t o ≡ true → sound (document01 64) t o ≡ true
+rule outputs t o h =
+    Shorter.rules (document01 64) 14400000 (omega arith) t o (sym (Count.rules (withFade (document01 64) 14400000) outputs t o) ∙ h)
+
+every-rule : (outputs t : ℕ) (l : List Output) → every (sound (fourHours outputs) t) l ≡ true → every (sound (document01 64) t) l ≡ true
 unfolding every
-every-same outputs t [] = refl
-every-same outputs t (o ∷ l) = rw (rules (document01 64) outputs t o, every-same outputs t l)
+every-rule outputs t [] h = refl
+every-rule outputs t (o ∷ l) h = let both = also-both h in also-yes (rule outputs t o (both .0)) (every-rule outputs t l (both .1))
 
-also-also : (a b c : Bool) → (a also (b also c)) ≡ ((a also b) also c)
-unfolding if_then_else_
-also-also true b c = refl
-also-also false b c = refl
-
-pub same-sound : (e : OldPanel) → panelSound (today e) ≡ oldSound e
+pub sound-then : (e : OldPanel) → panelSound (today e) ≡ true → oldSound e ≡ true
 unfolding panelSound rulesKept oldSound
-same-sound e =
-    also-also (startable (setOf e)) (countsSound (setOf e) (length (e .outputs)) (length (e .stations))) _
-    ∙ rw (counts (length (e .outputs)) (length (e .stations)), every-same (length (e .outputs)) (e .time) (e .outputs))
+sound-then e h =
+    let set = also-both h in
+    let kept = also-both (set .1) in
+    let records = also-both (kept .1) in
+    also-yes
+    (sym (counts (length (e .outputs)) (length (e .stations))) ∙ also-yes (set .0) (kept .0))
+    (also-yes (every-rule (length (e .outputs)) (e .time) (e .outputs) (records .0)) (records .1))
 
--- REFUSALS 2 TO 8, AND THE VERDICT
-pub same-verdict : (e : OldPanel) (b : Bytes) → decide (today e) b ≡ oldDecide e b
+-- THE VERDICT, by document 01's numbers and by four hours: at most what is asked differs
+pub data ShortenedVerdict (between : Bool) : Verdict → Verdict → Type 0 where
+  turned : {r : ℕ} → ShortenedVerdict between (TurnedDown r) (TurnedDown r)
+  copied : {a : Answer} → ShortenedVerdict between (Copied a) (Copied a)
+  timed : {t : ℕ} → between ≡ false → ShortenedVerdict between (Clocked t) (Clocked t)
+  arrives : (call : Call) (request : Request) → Shortened between (call .request) request → ShortenedVerdict between (Arrives call) (Arrives (asking call request))
+
+judged : {between : Bool} {long short : Frame} (now : ℕ) (stations : List Station) (b : Bytes) → ShortenedFrame between long short
+    → ShortenedVerdict between
+    (judgedByStation now (getD stations (stationOf long) freshStation) b long)
+    (judgedByStation now (getD stations (stationOf short) freshStation) b short)
+unfolding judgedByStation judgedByRecord judgedByNumber stationOf retransmissionOrConflict if_then_else_
+judged now stations b bad = turned
+judged now stations b (clocked {t = t} h) = by-bool (ltb t now) (λ e. rw e turned) (λ e. rw e (timed h))
+judged now stations b (asks call request s) =
+    let k = getD stations (call .station) freshStation in
+    by-bool (eqb (call .number) (k .number))
+    (λ e. rw e (by-bool (sameBytes b (restored (k .frame))) (λ q. rw q copied) (λ q. rw q turned)))
+    (λ e. rw e
+    (by-bool (ltb (call .number) (k .number))
+    (λ q. rw q turned)
+    (λ q. rw q (by-bool (ltb (call .time) now) (λ u. rw u turned) (λ u. rw u (arrives call request s))))))
+
+pub verdicts : (e : OldPanel) (b : Bytes) → ShortenedVerdict (carriesLonger b) (oldDecide e b) (decide (today e) b)
 unfolding decide oldDecide
-same-verdict e b = rw (parsed (document01 64) (length (e .outputs)) (length (e .outputs)) b)
+verdicts e b =
+    rw (parsed (withFade (document01 64) 14400000) (length (e .outputs)) (length (e .outputs)) b)
+    (judged (e .time) (e .stations) b (Frames.parsed (document01 64) 14400000 (omega arith) (length (e .outputs)) b))
 
 -- CARRIED OUT: no set is read, and the one that is kept stays
-abbrev stepWith : Parameters → OldStep → Step
+abbrev pub stepWith : Parameters → OldStep → Step
 stepWith p s = result (withSet p (s .panel)) (s .answer)
 
 same-execute : (p : Parameters) (b : Bytes) (e : OldPanel) (v : Verdict) → execute b (withSet p e) v ≡ stepWith p (oldExecute b e v)
@@ -83,15 +120,62 @@ same-execute p b e (Copied a) = refl
 same-execute p b e (Clocked t) = refl
 same-execute p b e (Arrives call) = refl
 
--- ONE FRAME, any string of bytes, over every lent table, whether it keeps the rules or not
-pub old-frame : (e : OldPanel) (b : Bytes) → frameStep (today e) b ≡ stepWith (setOf e) (oldFrame e b)
-unfolding frameStep oldFrame if_then_else_
-old-frame e b =
-    by-bool (oldSound e)
-    (λ h. rw (same-sound e, h, same-verdict e b) (same-execute (setOf e) b e (oldDecide e b)))
-    (λ h. rw (same-sound e, h))
+-- ONE FRAME. It is CUT where the old panel takes a longer fade time, which is 12 by four hours
+pub record Cut (e : OldPanel) (b : Bytes) : Type 0 where
+  pub call : Call
+  pub request : OutputRequest
+  pub before : oldDecide e b ≡ Arrives call
+  pub now : decide (today e) b ≡ Arrives (asking call (Refuse 12))
+  pub asked : call .request ≡ ToOutput request
+  pub takes : TakesFade request
+  pub longer : carriesLonger b ≡ true
 
--- LISTS. A frame leaves as many outputs as there are, so the set stays the table's
+-- THE TWO VERDICTS on every string of bytes: turned down alike, or copies; a frame without a longer fade time;
+-- a first arrival that both refuse; or one that is cut
+pub data Compared (e : OldPanel) (b : Bytes) : Type 0 where
+  turned-down : {r : ℕ} → oldDecide e b ≡ TurnedDown r → decide (today e) b ≡ TurnedDown r → Compared e b
+  copied-both : {a : Answer} → oldDecide e b ≡ Copied a → decide (today e) b ≡ Copied a → Compared e b
+  short : carriesLonger b ≡ false → decide (today e) b ≡ oldDecide e b → Compared e b
+  refused-both : {r : ℕ} (call : Call) → call .request ≡ Refuse r → oldDecide e b ≡ Arrives call → decide (today e) b ≡ Arrives call → Compared e b
+  cut-off : Cut e b → Compared e b
+
+pub compared : (e : OldPanel) (b : Bytes) → Compared e b
+compared e b = by (verdicts e b) refl refl
+  where
+    ask : (call : Call) {long request : Request} → Shortened (carriesLonger b) long request → call .request ≡ long
+        → oldDecide e b ≡ Arrives call → decide (today e) b ≡ Arrives (asking call request) → Compared e b
+    ask call (alike h) q x y = short h (y ∙ ap (λ (r : Request). Arrives (asking call r)) (sym q) ∙ sym x)
+    ask call refused q x y = refused-both call q x (y ∙ ap (λ (r : Request). Arrives (asking call r)) (sym q))
+    ask call (cut {request = request} h t) q x y = cut-off (record { call = call; request = request; before = x; now = y; asked = q; takes = t; longer = h })
+
+    by : {long now : Verdict} → ShortenedVerdict (carriesLonger b) long now → oldDecide e b ≡ long → decide (today e) b ≡ now → Compared e b
+    by turned x y = turned-down x y
+    by copied x y = copied-both x y
+    by (timed h) x y = short h (y ∙ sym x)
+    by (arrives call request s) x y = ask call s refl x y
+
+-- so every verdict is the same, but of a frame that is cut
+same-verdict : (e : OldPanel) (b : Bytes) → (Cut e b → ⊥) → decide (today e) b ≡ oldDecide e b
+same-verdict e b never = by (compared e b)
+  where
+    by : Compared e b → decide (today e) b ≡ oldDecide e b
+    by (turned-down x y) = y ∙ sym x
+    by (copied-both x y) = y ∙ sym x
+    by (short h x) = x
+    by (refused-both call q x y) = y ∙ sym x
+    by (cut-off k) = absurd (never k)
+
+pub frame-by : (e : OldPanel) (b : Bytes) → panelSound (today e) ≡ true → (Cut e b → ⊥) → frameStep (today e) b ≡ stepWith (setOf e) (oldFrame e b)
+unfolding frameStep oldFrame if_then_else_
+frame-by e b h never =
+    rw (h, sound-then e h, same-verdict e b never) (same-execute (setOf e) b e (oldDecide e b))
+
+-- any string of bytes that carries no longer fade time, over every lent table that keeps the rules of four
+-- hours
+pub old-frame : (e : OldPanel) (b : Bytes) → panelSound (today e) ≡ true → carriesLonger b ≡ false → frameStep (today e) b ≡ stepWith (setOf e) (oldFrame e b)
+old-frame e b h none = frame-by e b h (λ k. false≢true (sym none ∙ k .longer))
+
+-- A frame leaves as many outputs as there are, so the set stays the table's
 execute-length : (b : Bytes) (e : OldPanel) (v : Verdict) → length (oldExecute b e v .panel .outputs) ≡ length (e .outputs)
 unfolding oldExecute execute
 execute-length b e (TurnedDown r) = refl
@@ -105,23 +189,8 @@ frame-length : (e : OldPanel) (b : Bytes) → length (oldFrame e b .panel .outpu
 unfolding oldFrame if_then_else_
 frame-length e b = by-bool (oldSound e) (λ h. rw h (execute-length b e (oldDecide e b))) (λ h. rw h)
 
-next : (e : OldPanel) (b : Bytes) → withSet (setOf e) (oldFrame e b .panel) ≡ today (oldFrame e b .panel)
-next e b = ap (λ (c : ℕ). withSet (document01 c) (oldFrame e b .panel)) (sym (frame-length e b))
-
--- over every list, from any table: the outputs, the station records, the time and the answers
-pub old-after : (e : OldPanel) (l : List Bytes) → withoutSet (after (today e) l) ≡ oldAfter e l
-unfolding after oldAfter
-old-after e [] = refl
-old-after e (b ∷ l) =
-    ap (λ (s : Step). withoutSet (after (s .panel) l)) (old-frame e b)
-    ∙ ap (λ (x : Panel). withoutSet (after x l)) (next e b)
-    ∙ old-after (oldFrame e b .panel) l
-
-pub old-answers : (e : OldPanel) (l : List Bytes) → answers (today e) l ≡ oldAnswers e l
-unfolding answers oldAnswers
-old-answers e [] = refl
-old-answers e (b ∷ l) =
-    rw (old-frame e b, next e b) (ap (λ (given : List Answer). oldFrame e b .answer ∷ given) (old-answers (oldFrame e b .panel) l))
+pub next : (e : OldPanel) (b : Bytes) → withSet (setOf e) (oldFrame e b .panel) ≡ today (oldFrame e b .panel)
+next e b = ap (λ (c : ℕ). withSet (fourHours c) (oldFrame e b .panel)) (sym (frame-length e b))
 
 -- THE START with that set, over every lent table of 1 to 64 outputs, whatever its record keeps: the same
 -- answer, and the same outputs, station records and time. Where it answers Done, the set is kept
@@ -137,20 +206,20 @@ module _ (e : Panel) (least : 1 ≤ length (e .outputs)) (most : length (e .outp
   abbrev k : ℕ
   k = length (e .stations)
 
-  allowed : startable (document01 c) ≡ true
-  allowed = document01-startable c least most
+  allowed : startable (fourHours c) ≡ true
+  allowed = fourHours-startable c least most
 
-  counted : countsSound (document01 c) c k ≡ oldCounts c k
+  counted : countsSound (fourHours c) c k ≡ oldCounts c k
   unfolding if_then_else_
   counted = rw allowed at (counts c k)
 
   -- both are done, or both meet 1
-  done : oldCounts c k ≡ true → startStep (document01 c) e ≡ stepWith (document01 c) (oldStart (withoutSet e))
+  done : oldCounts c k ≡ true → startStep (fourHours c) e ≡ stepWith (fourHours c) (oldStart (withoutSet e))
   unfolding oldStart if_then_else_
-  done h = rw (startStep-done (document01 c) e allowed (counted ∙ h), h, fresh c)
+  done h = rw (startStep-done (fourHours c) e allowed (counted ∙ h), h, fresh (fourHours c) (omega arith))
 
-  refused : oldCounts c k ≡ false → startStep (document01 c) e ≡ result e (Refused 1)
-  refused h = startStep-refused (document01 c) e allowed (counted ∙ h)
+  meets-one : oldCounts c k ≡ false → startStep (fourHours c) e ≡ result e (Refused 1)
+  meets-one h = startStep-refused (fourHours c) e allowed (counted ∙ h)
 
   old-refused : oldCounts c k ≡ false → oldStart (withoutSet e) ≡ record { panel = withoutSet e; answer = Refused 1 }
   unfolding oldStart if_then_else_
@@ -171,26 +240,10 @@ module _ (e : Panel) (least : 1 ≤ length (e .outputs)) (most : length (e .outp
         panel = ap (λ (s : Step). withoutSet (s .panel)) (done h);
         kept = λ d.
             ap (λ (s : Step). s .panel) (done h)
-            ∙ ap (λ (n : ℕ). withSet (document01 n) (oldStart (withoutSet e) .panel)) (sym (old-length h));
+            ∙ ap (λ (n : ℕ). withSet (fourHours n) (oldStart (withoutSet e) .panel)) (sym (old-length h));
       })
       (λ h. record {
-        answered = ap (λ (s : Step). s .answer) (refused h) ∙ sym (ap (λ (s : OldStep). s .answer) (old-refused h));
-        panel = ap (λ (s : Step). withoutSet (s .panel)) (refused h) ∙ sym (ap (λ (s : OldStep). s .panel) (old-refused h));
+        answered = ap (λ (s : Step). s .answer) (meets-one h) ∙ sym (ap (λ (s : OldStep). s .answer) (old-refused h));
+        panel = ap (λ (s : Step). withoutSet (s .panel)) (meets-one h) ∙ sym (ap (λ (s : OldStep). s .panel) (old-refused h));
         kept = λ d. absurd (never (sym (ap (λ (s : OldStep). s .answer) (old-refused h)) ∙ d));
       })
-
--- EVERY LIST after such a start: what is found, the station records and the time, and every answer
-pub record AsOld (e : Panel) (l : List Bytes) : Type 0 where
-  pub panel : withoutSet (after (startStep (setOf (withoutSet e)) e .panel) l) ≡ oldAfter (oldStart (withoutSet e) .panel) l
-  pub found : foundIn (after (startStep (setOf (withoutSet e)) e .panel) l) ≡ oldFound (oldAfter (oldStart (withoutSet e) .panel) l)
-  pub answered : answers (startStep (setOf (withoutSet e)) e .panel) l ≡ oldAnswers (oldStart (withoutSet e) .panel) l
-
-pub as-old : (e : Panel) (l : List Bytes) → 1 ≤ length (e .outputs) → length (e .outputs) ≤ 64 → oldStart (withoutSet e) .answer ≡ Done → AsOld e l
-as-old e l least most h =
-    let begin = starts-alike e least most .kept h in
-    let same = ap (λ (x : Panel). withoutSet (after x l)) begin ∙ old-after (oldStart (withoutSet e) .panel) l in
-    record {
-      panel = same;
-      found = ap oldFound same;
-      answered = ap (λ (x : Panel). answers x l) begin ∙ old-answers (oldStart (withoutSet e) .panel) l;
-    }

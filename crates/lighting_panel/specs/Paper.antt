@@ -1,4 +1,4 @@
--- DOCUMENT 01 AND §1 TO §5 AS DEFINITIONS, this layer's part: what a reader must believe. In reading order;
+-- DOCUMENT 01 AND §1 TO §7 AS DEFINITIONS, this layer's part: what a reader must believe. In reading order;
 -- docs/PAPER.md has all layers.
 -- the panel, its counts, and the start
 pub mod Panel
@@ -8,8 +8,9 @@ pub mod Demand
 pub mod Calls
 -- §1 in lists
 pub mod ActsAsPlain
--- the panel as it stood before §6
+-- the panel as it stood before §6; §7: lists without a longer fade time
 pub mod OldPanel
+pub mod FourHours
 -- worked lists: bench figures 9 and 10 and the traps; §1, §4 and §5
 pub mod Worked
 pub mod WorkedOrder
@@ -20,3 +21,5 @@ pub mod WorkedHalfLists
 pub mod WorkedRules
 -- §6 by hand: which sets may be started, and frames at some
 pub mod WorkedSets
+-- §7 by hand: fade times at the top, and lists with longer ones
+pub mod WorkedFourHours

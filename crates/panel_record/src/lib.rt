@@ -1,7 +1,7 @@
 // The panel's own record, which is lent beside its two tables, by value; and the set of parameters that it
 // keeps.
 ghost use mathlib.Core.Path.{_≡_};
-ghost use Rattle.lighting_outputs.specs.Paper.Parameters.{document01};
+ghost use Rattle.lighting_outputs.specs.Paper.Parameters.{fourHours};
 ghost use Rattle.lighting_outputs.specs.Paper.Startable.{startable};
 ghost use Rattle.lighting_panel.specs.Paper.Panel.{freshRecord, withTime};
 use lighting_outputs::LEAST_TIME;
@@ -15,15 +15,15 @@ use number_ranges::is_within;
 
 // ---- the set of parameters
 
-// Document 01's: eight stations, so many outputs, a day.
-pub fn document_01(outputs: u32) -> Parameters
-    ensures { λ r. ⌜ r ≡ document01 outputs ⌝ }
+// The old panel's (§7): eight stations, so many outputs, fades of four hours, durations of a day.
+pub fn four_hours(outputs: u32) -> Parameters
+    ensures { λ r. ⌜ r ≡ fourHours outputs ⌝ }
 {
     Parameters {
         stations: 8,
         outputs: outputs,
-        fade: 86400000,
-        duration: 86400000,
+        fade: MOST_FADE,
+        duration: MOST_DURATION,
     }
 }
 

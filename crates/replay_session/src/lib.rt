@@ -205,7 +205,7 @@ fn replay(
 // Over tables of its own, which the panel is lent: 64 outputs and 32 stations, of which the list names how
 // many there are.
 pub fn run(report: bool) {
-    let parameters = panel_record::document_01(64);
+    let parameters = panel_record::four_hours(64);
     let output = output_fresh::fresh_output(parameters);
     let mut outputs = [output; 64];
     let record = output_fresh::fresh_station();

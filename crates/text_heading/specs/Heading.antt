@@ -20,8 +20,8 @@ use Rattle.text_heading.specs.declared.Heading.{Heading}
 use Rattle.text_heading.specs.declared.Ending.{Ending}
 use Rattle.text_heading.specs.declared.Ending.the-variants.{Starts, Fails}
 
--- WHAT IS LEFT OUT: eight stations, and the greatest times for fades and for durations, a day. The outputs
--- are always named
+-- WHAT IS LEFT OUT: eight stations, and the greatest times: four hours for fades (§7), a day for durations.
+-- The outputs are always named
 abbrev pub leftOut : Parameters
 leftOut = record { stations = 8; outputs = 0; fade = mostFade; duration = mostDuration }
 

@@ -151,7 +151,7 @@ told-apart b b′ (asTags action f k l s) (asTags action′ f′ k′ l′ s′)
     ∙ ap₂ (λ (x : Bytes) (g : TagFields). (0x10 + heldBy (g .operation)) ∷ (x ++ plainBody g)) front fields
     ∙ rebuilt b′ f′ s′
 
-same-equal : (k l : Bytes) → sameBytes k l ≡ true → k ≡ l
+pub same-equal : (k l : Bytes) → sameBytes k l ≡ true → k ≡ l
 unfolding sameBytes
 same-equal [] [] h = refl
 same-equal [] (y ∷ l) h = absurd (false≢true h)

@@ -137,7 +137,7 @@ real-same (Real x) Missing h s b = absurd (false≢true b)
 real-same NoReal (Holds count value) h s b = absurd (false≢true b)
 real-same NoReal Missing h s b = refl
 
-time-same : (t : TimeField) (f : TagField) → IsTime (heldBy f) t → fewest f ≡ true → bothOrNeither (wholeTag t) f ≡ true → wholeTag t ≡ f
+pub time-same : (t : TimeField) (f : TagField) → IsTime (heldBy f) t → fewest f ≡ true → bothOrNeither (wholeTag t) f ≡ true → wholeTag t ≡ f
 unfolding wholeTag bothOrNeither heldBy fewest
 time-same (Time v) (Holds count value) e q b = rw e (ap (λ (n : ℕ). Holds n value) (sym (eq-of q)))
 time-same (Time v) Missing e q b = absurd (false≢true b)

@@ -3,10 +3,11 @@
 use mathlib.Core.Path.{_≡_, refl}
 use mathlib.Core.List.{[], _∷_}
 use mathlib.Core.Bool.{Bool}
-use Prim.Native.Nat.{ℕ, _-_}
+use Prim.Native.Nat.{ℕ, _-_, _≤_}
+use native.Mathlib.Omega.{arith}
 use lib.Dec.{eqb, leb, ltb}
 use Rattle.lighting_levels.specs.Paper.Choice.{if_then_else_, _also_}
-use Rattle.lighting_outputs.specs.Paper.Parameters.{longestMovement, longestBlink, freshFade, document01}
+use Rattle.lighting_outputs.specs.Paper.Parameters.{Parameters, longestMovement, longestBlink, freshFade, document01}
 use Rattle.lighting_outputs.specs.Paper.Fresh.{freshFor, freshOutput}
 use Rattle.lighting_outputs.specs.Paper.Rows.{rowOf, within, meets}
 use Rattle.lighting_outputs.specs.Paper.Requests.{timeFieldRefusal, commandLasting}
@@ -28,10 +29,10 @@ pub numbers : document01 64 .stations ∷ document01 64 .outputs ∷ document01 
     ≡ 8 ∷ 64 ∷ 86400000 ∷ 86400000 ∷ 86400000 ∷ 86400000 ∷ 1000 ∷ []
 numbers = refl
 
--- and a fresh output
-pub fresh : (outputs : ℕ) → freshFor (document01 outputs) ≡ freshOutput
+-- and a fresh output, which every set has whose longest fade is no less than a fresh Fade_Time
+pub fresh : (p : Parameters) → 1000 ≤ p .fade → freshFor p ≡ freshOutput
 unfolding freshFor freshOutput
-fresh outputs = refl
+fresh p long = let same : freshFade p ≡ 1000 = omega arith in rw same
 
 -- EACH DEFINITION THAT READS A NUMBER OF THE SET is at document 01's, whatever the count of outputs, document
 -- 01's own clause. Refusal 12: 'Fade times: 100 to 86,400,000', written and in a command; 'Duration is

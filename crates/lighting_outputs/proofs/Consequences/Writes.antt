@@ -342,15 +342,15 @@ module _ (p : Parameters) (t t′ : ℕ) (o : Output) (x : ℕ) where
   unfolding acted served unchanged
   refuses n r e = rw e (refl, refl)
 
-  -- THE RANGES: 02 from 100 to 86,400,000, else 12; 06 and 07 up to 86,400,000; 05 0 or 1; 0A a priority,
-  -- else 10; 0B 0 alone
+  -- THE RANGES: 02 from 100 to the set's longest fade, else 12; 06 and 07 up to 86,400,000; 05 0 or 1; 0A a
+  -- priority, else 10; 0B 0 alone
   in-row : (low high : ℕ) (n : Property) → low ≤ x → x ≤ high → changeBy (Whole low high) n x ≡ ToOutput (Change n x)
   unfolding changeBy within if_then_else_
   in-row low high n h k = rw (leb-yes {a = low} {b = x} h, leb-yes {a = x} {b = high} k)
 
   module _ (order : o .settings .min ≤ o .settings .max) (below : o .relay .inactive < o .relay .active) where
     -- a property but 08, 09, 17 and 18: Min stays at most Max, and the inactive value below the active one
-    accepted : (n : Property) (v : ℕ) → settingsWith (o .settings) n v .min ≡ o .settings .min → settingsWith (o .settings) n v .max ≡ o .settings .max
+    pub accepted : (n : Property) (v : ℕ) → settingsWith (o .settings) n v .min ≡ o .settings .min → settingsWith (o .settings) n v .max ≡ o .settings .max
         → relayWith (o .relay) n v .active ≡ o .relay .active → relayWith (o .relay) n v .inactive ≡ o .relay .inactive
         → alone t o (ToOutput (Change n v)) .answer ≡ Done
     unfolding acted served done changedUnless minOverMax inactiveNotBelow if_then_else_

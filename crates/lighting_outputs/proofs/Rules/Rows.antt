@@ -5,7 +5,7 @@ use mathlib.Core.List.{List, [], _∷_}
 use Prim.Native.Nat.{ℕ, _+_, _-_, _≤_, _<_, max}
 use native.Mathlib.Omega.{arith}
 use native.Mathlib.Nat.{add-sub-cancel-left}
-use lib.Dec.{leb}
+use lib.Dec.{leb, ltb, eqb}
 use Rattle.lighting_levels.specs.Paper.Choice.{if_then_else_}
 use Rattle.lighting_outputs.specs.Paper.Parameters.{Parameters}
 use Rattle.lighting_levels.specs.Paper.Level.{real, levelOf, limitOf}
@@ -19,7 +19,7 @@ use Rattle.lighting_outputs.specs.declared.Range.{Range}
 use Rattle.lighting_outputs.specs.declared.Range.the-variants.{Percent, Limit, Amount, Whole, Priority, ReadOnly}
 use Rattle.lighting_outputs.specs.declared.Request.the-variants.{ToOutput}
 use Rattle.lighting_outputs.specs.declared.OutputRequest.the-variants.{Change}
-use Rattle.lighting_levels.proofs.Split.{by-bool, by-eq, by-lt, leb-yes, eq-of, eqb-miss}
+use Rattle.lighting_levels.proofs.Split.{by-bool, by-eq, by-le, by-lt, leb-yes, le-of, eq-of, eqb-hit, eqb-miss}
 use Rattle.lighting_levels.proofs.Ranges.{level-units, limit-units}
 use Rattle.lighting_outputs.proofs.Rules.Facts.{Slot, Meets}
 use Rattle.lighting_outputs.proofs.Rules.Tied.{within-of, slot-of}
@@ -103,6 +103,42 @@ past-most (x ∷ l) n h = rw (eqb-miss {a = n} {b = numberOf x} (omega arith)) (
 pub unlisted : (n : ℕ) → 0x1b < n → numbered properties n ≡ Unknown
 unlisted n h = past-most properties n h
 
+-- of a property whose number is below that of the slots: the one is the other
+pub same-is : (n m : Property) → ltb (numberOf n) 0x21 ≡ true → same n m ≡ true → m ≡ n
+unfolding same
+same-is n m low h =
+    let e : numberOf n ≡ numberOf m = eq-of h in
+    let below : numberOf n < 0x21 = le-of low in
+    sym (number-kept m (omega arith)) ∙ ap propertyOf (sym e) ∙ number-kept n (omega arith)
+
+-- and a number's property has that number, unless it is unknown
+by-numbered : {P : Type 0} (l : List Property) (n : ℕ) → (numberOf (numbered l n) ≡ n → P) → (numbered l n ≡ Unknown → P) → P
+unfolding numbered if_then_else_
+by-numbered [] n found past = past refl
+by-numbered (x ∷ l) n found past =
+    by-eq n (numberOf x) (λ h e. found (rw e (sym h))) (λ h e. by-numbered l n (λ k. found (rw e k)) (λ k. past (rw e k)))
+
+by-property : {P : Type 0} (n : ℕ) → (numberOf (propertyOf n) ≡ n → P) → (propertyOf n ≡ Unknown → P) → P
+unfolding propertyOf if_then_else_
+by-property n found past =
+    by-le 0x21 n
+    (λ h e. by-bool (leb n 0x30) (λ e′. found (rw (e, e′) (omega arith))) (λ e′. past (rw (e, e′))))
+    (λ h e. by-numbered properties n (λ k. found (rw e k)) (λ k. past (rw e k)))
+
+-- so a number is a property's by the one test and by the other
+pub same-number : (x : Property) (n : ℕ) → 0 < numberOf x → numberOf x < 0x31 → same x (propertyOf n) ≡ eqb n (numberOf x)
+unfolding same
+same-number x n above listed =
+    by-property n
+    (λ e. rw e (by-eq n (numberOf x) (λ h z. rw z (eqb-hit (sym h))) (λ h z. rw z (eqb-miss {a = numberOf x} {b = n} (λ k. h (sym k))))))
+    (λ e. rw e
+    (by-eq n (numberOf x)
+    (λ h z. absurd (zero-not (ap numberOf (sym (number-kept x listed) ∙ ap propertyOf (sym h) ∙ e))))
+    (λ h z. rw z (eqb-miss {a = numberOf x} {b = 0} zero-not))))
+  where
+    zero-not : numberOf x ≡ 0 → ⊥
+    zero-not k = omega arith
+
 -- THE SAME PROPERTY has the same row: the number says which it is
 row-number : (p : Parameters) (n : Property) → rowOf p (propertyOf (numberOf n)) ≡ rowOf p n
 row-number p n = by-number n (λ e. ap (rowOf p) e) (λ i l q. rw q (beyond i))
@@ -114,6 +150,37 @@ pub same-row : (p : Parameters) (n m : Property) → same n m ≡ true → rowOf
 unfolding same
 same-row p n m h =
     sym (row-number p n) ∙ ap (λ (k : ℕ). rowOf p (propertyOf k)) (eq-of h) ∙ row-number p m
+
+-- OF A SET a row reads the longest fade alone, and that in Fade_Time's
+pub row-reads : (p q : Parameters) (n : Property) → rowOf p n ≡ (if same FadeTime n then Whole 100 (p .fade) else rowOf q n)
+unfolding same if_then_else_
+row-reads p q RelinquishDefault = refl
+row-reads p q FadeTime = refl
+row-reads p q RampRate = refl
+row-reads p q StepIncrement = refl
+row-reads p q BlinkEnable = refl
+row-reads p q BlinkTime = refl
+row-reads p q BlinkWarnDelay = refl
+row-reads p q MinValue = refl
+row-reads p q MaxValue = refl
+row-reads p q CommandPriority = refl
+row-reads p q ElapsedActiveTime = refl
+row-reads p q PresentValue = refl
+row-reads p q ProgressValue = refl
+row-reads p q InProcess = refl
+row-reads p q LastOperation = refl
+row-reads p q LastLevel = refl
+row-reads p q LastRate = refl
+row-reads p q LastStep = refl
+row-reads p q LastFadeTime = refl
+row-reads p q LastDuration = refl
+row-reads p q BinaryActiveValue = refl
+row-reads p q BinaryInactiveValue = refl
+row-reads p q Polarity = refl
+row-reads p q BinaryPresentValue = refl
+row-reads p q RelayState = refl
+row-reads p q (SlotValue i) = rw (eqb-miss {a = 0x02} {b = 0x21 + i} (omega arith))
+row-reads p q Unknown = refl
 
 -- A FIELD that takes the value of a write of its own property keeps its row
 pub kept-met : (p : Parameters) (field n : Property) (v old : ℕ) → Meets (rowOf p n) v → Meets (rowOf p field) old

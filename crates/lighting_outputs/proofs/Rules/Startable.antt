@@ -3,7 +3,7 @@ use mathlib.Core.Path.{_≡_}
 use mathlib.Core.Bool.{true}
 use Prim.Native.Nat.{ℕ, _≤_}
 use Rattle.lighting_levels.specs.Paper.Choice.{if_then_else_}
-use Rattle.lighting_outputs.specs.Paper.Parameters.{Parameters, document01}
+use Rattle.lighting_outputs.specs.Paper.Parameters.{Parameters, fourHours}
 use Rattle.lighting_outputs.specs.Paper.Rows.{within}
 use Rattle.lighting_outputs.specs.Paper.Startable.{mostStations, mostOutputs, leastTime, mostFade, mostDuration, startable}
 use Rattle.lighting_levels.proofs.Split.{parts, leb-yes}
@@ -20,7 +20,7 @@ pub startable-of : (p : Parameters) → startable p ≡ true → Startable p
 unfolding startable
 startable-of p h = search (parts, within-of)
 
--- document 01's set is one, for every count of outputs that it allows
-pub document01-startable : (outputs : ℕ) → 1 ≤ outputs → outputs ≤ 64 → startable (document01 outputs) ≡ true
+-- the old panel's set is one (§7), for every count of outputs that it allows
+pub fourHours-startable : (outputs : ℕ) → 1 ≤ outputs → outputs ≤ 64 → startable (fourHours outputs) ≡ true
 unfolding startable within if_then_else_
-document01-startable outputs least most = rw (leb-yes {a = 1} {b = outputs} least, leb-yes {a = outputs} {b = 64} most)
+fourHours-startable outputs least most = rw (leb-yes {a = 1} {b = outputs} least, leb-yes {a = outputs} {b = 64} most)

@@ -16,6 +16,12 @@ longestBlink = 86400000
 abbrev pub freshFade : Parameters → ℕ
 freshFade p = min 1000 (p .fade)
 
--- document 01's panel of so many outputs, 'the set 8, its output count, 86,400,000, 86,400,000'
+-- document 01's own numbers, of a panel of so many outputs: eight stations, and a day for fades and durations.
+-- No panel may be started with them any more (§7)
 abbrev pub document01 : ℕ → Parameters
 document01 outputs = record { stations = 8; outputs = outputs; fade = 86400000; duration = 86400000 }
+
+-- §7: 'The old panel's set now ends in 14,400,000, 86,400,000'. With this one a panel does what document 01's
+-- did, on lists without a longer fade time
+abbrev pub fourHours : ℕ → Parameters
+fourHours outputs = record { stations = 8; outputs = outputs; fade = 14400000; duration = 86400000 }

@@ -1,6 +1,6 @@
--- §6: WHICH SETS OF PARAMETERS may be started, and kept: 'stations 1 to 32, outputs 1 to 64, longest fade
--- time 100 to 86,400,000, longest duration likewise'. One test, apart from every definition that uses the
--- numbers.
+-- §6: WHICH SETS OF PARAMETERS may be started, and kept: 'stations 1 to 32, outputs 1 to 64', the longest
+-- fade time and the longest duration from 100 ms, to four hours (§7) and to a day. One test, apart from every
+-- definition that uses the numbers.
 use mathlib.Core.Bool.{Bool}
 use Prim.Native.Nat.{ℕ}
 use Rattle.lighting_levels.specs.Paper.Choice.{_also_}
@@ -17,8 +17,10 @@ mostOutputs = 64
 abbrev pub leastTime : ℕ
 leastTime = 100
 
+-- §7: 14,400,000 'becomes the greatest value of the longest fade parameter, of Fade_Time and of every fade
+-- time': these two are within the parameter
 abbrev pub mostFade : ℕ
-mostFade = 86400000
+mostFade = 14400000
 
 abbrev pub mostDuration : ℕ
 mostDuration = 86400000

@@ -26,21 +26,22 @@ lives n o = ticks n 0 o .burning
 abbrev onePercent : ℕ → ℕ → Output → Output
 onePercent t l o = ordered t (FadeToOver (real 0x3f80_0000) l) Omitted o
 
-abbrev day : Output
-day = onePercent 0 86400000 freshOutput
+-- the longest fade, four hours (§7)
+abbrev longest : Output
+longest = onePercent 0 14400000 freshOutput
 
--- the rise of a day, 1,000 ms along and still dark: commanded again, stopped, and 50 percent written above it
+-- that rise, 100 ms along and still dark: commanded again, stopped, and 50 percent written above it
 abbrev darkRise : Output
-darkRise = advance 0 1000 day
+darkRise = advance 0 100 longest
 
 abbrev begunAgain : Output
-begunAgain = onePercent 1000 86400000 darkRise
+begunAgain = onePercent 100 14400000 darkRise
 
 abbrev haltedDark : Output
-haltedDark = ordered 1000 Stop Omitted darkRise
+haltedDark = ordered 100 Stop Omitted darkRise
 
 abbrev writtenAbove : Output
-writtenAbove = written 1000 darkRise 7 3276800
+writtenAbove = written 100 darkRise 7 3276800
 
 -- three percent a second down from 50 percent, which takes 16,667 ms
 abbrev rampDown : Output
@@ -69,9 +70,9 @@ slowRise = onePercent 0 100000 freshOutput
 
 abbrev pub burningGiven : List (List ℕ)
 burningGiven =
-    -- a rise is dark while its way is less than a unit: 1,319 ms of a day's fade by one percent, also where a
-    -- clock comes in between
-    (burns 0 1319 day ∷ burns 0 1320 day ∷ burns 0 86400000 day ∷ burns 0 86400001 day ∷ burns 1000 1320 darkRise ∷ [])
+    -- a rise is dark while its way is less than a unit: 220 ms of a fade of four hours by one percent, also
+    -- where a clock comes in between
+    (burns 0 220 longest ∷ burns 0 221 longest ∷ burns 0 14400000 longest ∷ burns 0 14400001 longest ∷ burns 100 221 darkRise ∷ [])
     -- the millisecond k = 0 alone of faster ones
     ∷ (burns 0 1 fadeUp ∷ burns 0 2 fadeUp ∷ burns 0 1000 fadeUp ∷ [])
     ∷ (burns 0 1 slowRamp ∷ burns 0 2 slowRamp ∷ burns 0 800000 slowRamp ∷ burns 0 334 rampUp ∷ [])
@@ -79,7 +80,7 @@ burningGiven =
     ∷ (burns 0 999 fadeDown ∷ burns 0 1000 fadeDown ∷ burns 0 1001 fadeDown ∷ [])
     ∷ (burns 0 16666 rampDown ∷ burns 0 16667 rampDown ∷ burns 0 20000 rampDown ∷ [])
     -- a rise that is broken off while it is dark
-    ∷ (burns 1000 2319 begunAgain ∷ burns 1000 2320 begunAgain ∷ burns 1000 90000 haltedDark ∷ burns 1000 1500 writtenAbove ∷ [])
+    ∷ (burns 100 320 begunAgain ∷ burns 100 321 begunAgain ∷ burns 100 90000 haltedDark ∷ burns 100 600 writtenAbove ∷ [])
     -- from 0 to 0; a ramp that stands; one that is at 0 after a second; no way at all, of a lamp that is lit
     ∷ (burnsLent 0 0 Fade ∷ burnsLent 0 0 (Ramp 65536) ∷ burnsLent 0 65536 (Ramp 0) ∷ burnsLent 65536 0 (Ramp 65536) ∷ burnsLent 65536 65536 Fade ∷ [])
     -- one millisecond after another: two are dark of a fade by one percent over 100 s
@@ -88,7 +89,7 @@ burningGiven =
 
 abbrev pub burningSaid : List (List ℕ)
 burningSaid =
-    (0 ∷ 1 ∷ 86398681 ∷ 86398682 ∷ 1 ∷ [])
+    (0 ∷ 1 ∷ 14399780 ∷ 14399781 ∷ 1 ∷ [])
     ∷ (0 ∷ 1 ∷ 999 ∷ [])
     ∷ (0 ∷ 1 ∷ 799999 ∷ 333 ∷ [])
     ∷ (999 ∷ 1000 ∷ 1000 ∷ [])

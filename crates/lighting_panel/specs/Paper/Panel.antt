@@ -7,7 +7,7 @@ use lib.Dec.{eqb}
 use lib.ListN.{length, replicate}
 use Rattle.lighting_levels.specs.Paper.Choice.{if_then_else_, _also_, every}
 use Rattle.lighting_outputs.specs.declared.Parameters.{Parameters}
-use Rattle.lighting_outputs.specs.Paper.Parameters.{document01}
+use Rattle.lighting_outputs.specs.Paper.Parameters.{fourHours}
 use Rattle.lighting_outputs.specs.Paper.Startable.{startable}
 use Rattle.lighting_outputs.specs.Paper.Fresh.{freshFor}
 use Rattle.lighting_frames.specs.Paper.Stations.{freshStation, stationSound}
@@ -33,9 +33,9 @@ panelOf outputs stations kept = record { outputs = outputs; stations = stations;
 abbrev pub freshRecord : Parameters → PanelRecord
 freshRecord p = record { time = 0; parameters = p }
 
--- one of document 01's, which stands where a record past the end of a list is asked for
+-- some record, which stands where a record past the end of a list is asked for
 abbrev pub anyRecord : PanelRecord
-anyRecord = freshRecord (document01 1)
+anyRecord = freshRecord (fourHours 1)
 
 abbrev pub withTime : PanelRecord → ℕ → PanelRecord
 withTime kept t = record { time = t; parameters = kept .parameters }

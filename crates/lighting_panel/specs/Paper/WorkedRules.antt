@@ -5,7 +5,7 @@ use mathlib.Core.Bool.{Bool, true, false}
 use mathlib.Core.List.{List, [], _∷_, map}
 use Prim.Native.Nat.{ℕ}
 use lib.ListN.{replicate, set}
-use Rattle.lighting_outputs.specs.Paper.Parameters.{freshFade, document01}
+use Rattle.lighting_outputs.specs.Paper.Parameters.{freshFade, fourHours}
 use Rattle.lighting_outputs.specs.declared.Slots.{Slots}
 use Rattle.lighting_outputs.specs.Paper.Slots.{filled}
 use Rattle.lighting_outputs.specs.Paper.Passing.{afterEvents}
@@ -41,14 +41,14 @@ lent settings slots activity timer burning relay =
     }
 
 abbrev keeps : Output → Bool
-keeps o = sound (document01 2) 1000 o
+keeps o = sound (fourHours 2) 1000 o
 
 abbrev keepsJudged : Output → Bool
 keepsJudged o = keeps (afterEvents o)
 
 -- SETTINGS: at rest, all fresh but the property n, which is kept as v
 abbrev fresh : Settings
-fresh = freshSettings (freshFade (document01 2))
+fresh = freshSettings (freshFade (fourHours 2))
 
 abbrev noSlot : Slots
 noSlot = freshOutput .slots
@@ -63,7 +63,7 @@ limits min max =
 abbrev settingsGiven : List (List Bool)
 settingsGiven =
     map (setting 0x01) (0 ∷ 1 ∷ 65535 ∷ 65536 ∷ 6553600 ∷ 6553601 ∷ [])
-    ∷ map (setting 0x02) (99 ∷ 100 ∷ 86400000 ∷ 86400001 ∷ [])
+    ∷ map (setting 0x02) (99 ∷ 100 ∷ 14400000 ∷ 14400001 ∷ [])
     ∷ map (setting 0x03) (0x3dff_ffff ∷ 0x3e00_0000 ∷ 0x42c8_0000 ∷ 0x42c8_0001 ∷ [])
     ∷ map (setting 0x04) (0x3dff_ffff ∷ 0x3e00_0000 ∷ 0x42c8_0000 ∷ 0x42c8_0001 ∷ [])
     ∷ map (setting 0x06) (0 ∷ 86400000 ∷ 86400001 ∷ [])
@@ -147,7 +147,7 @@ movementsGiven =
     -- 'every due moment is after panel time', 'began no later than panel time'
     ∷ (moving 15 0 3276800 1000 1000 ∷ moving 15 0 3276800 1000 1001 ∷ moving 15 0 3276800 1000 2000 ∷ moving 15 0 3276800 1000 2001 ∷ [])
     -- 'lasts 1 to 86,400,000 ms'; one of 0 ms cannot have begun and not be over
-    ∷ (moving 15 0 3276800 0 1000 ∷ moving 15 0 3276800 0 1001 ∷ moving 15 0 3276800 1 1001 ∷ moving 15 0 3276800 86400000 1500 ∷ moving 15 0 3276800 86400001 1500 ∷ [])
+    ∷ (moving 15 0 3276800 0 1000 ∷ moving 15 0 3276800 0 1001 ∷ moving 15 0 3276800 1 1001 ∷ moving 15 0 3276800 14400000 1500 ∷ moving 15 0 3276800 14400001 1500 ∷ [])
     ∷ []
 
 abbrev movementsSaid : List (List Bool)
@@ -253,16 +253,16 @@ stationsSaid =
     ∷ (true ∷ true ∷ true ∷ true ∷ true ∷ true ∷ true ∷ true ∷ true ∷ true ∷ true ∷ true ∷ false ∷ false ∷ [])
     ∷ []
 
--- THE COUNTS, 'now exactly that many records': of document 01's panel of two outputs; and that panel
+-- THE COUNTS, 'now exactly that many records': of the old panel's set with two outputs; and that panel
 -- whole, with one record of each table out of the rules
 abbrev counts : ℕ → ℕ → Bool
-counts outputs stations = countsSound (document01 2) outputs stations
+counts outputs stations = countsSound (fourHours 2) outputs stations
 
 abbrev late : Output
 late = lent fresh noSlot Still Off 1001 freshRelay
 
 abbrev panel : Output → Output → Station → Bool
-panel one other last = panelSound (panelOf (one ∷ other ∷ []) (set (replicate 8 freshStation) 7 last) (withTime (freshRecord (document01 2)) 1000))
+panel one other last = panelSound (panelOf (one ∷ other ∷ []) (set (replicate 8 freshStation) 7 last) (withTime (freshRecord (fourHours 2)) 1000))
 
 abbrev panelsGiven : List (List Bool)
 panelsGiven =
@@ -297,7 +297,7 @@ setsGiven =
     map (lasting 100) (1 ∷ 101 ∷ 800000 ∷ 800001 ∷ [])
     ∷ map (lasting 800000) (800000 ∷ 800001 ∷ [])
     ∷ map (lasting 800001) (800001 ∷ 800002 ∷ [])
-    ∷ map (lasting 86400000) (86400000 ∷ 86400001 ∷ [])
+    ∷ map (lasting 14400000) (14400000 ∷ 14400001 ∷ [])
     ∷ map (fading 100) (99 ∷ 100 ∷ 101 ∷ [])
     ∷ map (fading 5000) (5000 ∷ 5001 ∷ [])
     ∷ map (λ (due : ℕ). at 100 (freshSettings 100) noSlot Still (Running 15 due)) (1000 ∷ 1001 ∷ 1101 ∷ 281474976710656 ∷ [])

@@ -13,16 +13,16 @@ use Rattle.lighting_panel.specs.Paper.Worked.{call, clockAt, asked}
 use Rattle.lighting_outputs.specs.declared.Answer.{Answer}
 use Rattle.lighting_outputs.specs.declared.Answer.the-variants.{Done, Value, Refused}
 
-abbrev of : ℕ → ℕ → ℕ → ℕ → Parameters
+abbrev pub of : ℕ → ℕ → ℕ → ℕ → Parameters
 of stations outputs fade duration = record { stations = stations; outputs = outputs; fade = fade; duration = duration }
 
--- WHICH SETS may be started: 'stations 1 to 32, outputs 1 to 64, longest fade time 100 to 86,400,000, longest
--- duration likewise'. The number alone is out of its range
+-- WHICH SETS may be started: 'stations 1 to 32, outputs 1 to 64', the longest fade time 100 to 14,400,000
+-- (§7), the longest duration 100 to 86,400,000. The number alone is out of its range
 abbrev ends : List (List Parameters)
 ends =
     map (λ (n : ℕ). of n 2 1000 2000) (0 ∷ 1 ∷ 32 ∷ 33 ∷ [])
     ∷ map (λ (n : ℕ). of 2 n 1000 2000) (0 ∷ 1 ∷ 64 ∷ 65 ∷ [])
-    ∷ map (λ (n : ℕ). of 2 2 n 2000) (99 ∷ 100 ∷ 86400000 ∷ 86400001 ∷ [])
+    ∷ map (λ (n : ℕ). of 2 2 n 2000) (99 ∷ 100 ∷ 14400000 ∷ 14400001 ∷ [])
     ∷ map (λ (n : ℕ). of 2 2 1000 n) (99 ∷ 100 ∷ 86400000 ∷ 86400001 ∷ [])
     ∷ []
 
@@ -73,27 +73,27 @@ sizesSaid =
 
 -- FRAMES AT A SET: of its last station and of the next number; then from station 0 the longest fade and one
 -- more as Fade_Time, in kind 12 and in tag 4; the longest duration and one more, in kind 10 and in tag 5; and
--- blink times, which no number of the set bounds. The numbers in tags have two octets
-abbrev none : Bytes
+-- blink times, which no number of the set bounds. The numbers in tags have so many octets
+abbrev pub none : Bytes
 none = octets 4 0xffff_ffff
 
-abbrev nth : ℕ → ℕ → Bytes → Bytes
+abbrev pub nth : ℕ → ℕ → Bytes → Bytes
 nth n kind added = call kind 0 n 0 0 added
 
-abbrev written : ℕ → ℕ → ℕ → Bytes
+abbrev pub written : ℕ → ℕ → ℕ → Bytes
 written n property value = nth n 0x04 (property ∷ octets 4 value)
 
-abbrev fadesOver : ℕ → ℕ → Bytes
+abbrev pub fadesOver : ℕ → ℕ → Bytes
 fadesOver n time = nth n 0x12 (octets 4 0x4248_0000 ++ octets 4 time ++ none)
 
-abbrev fadesInTags : ℕ → ℕ → Bytes
-fadesInTags n time = nth n 0x1b (body (0x09 ∷ 2 ∷ half ++ 0x4a ∷ octets 2 time))
+abbrev pub fadesInTags : ℕ → ℕ → ℕ → Bytes
+fadesInTags n count time = nth n 0x1b (body (0x09 ∷ 2 ∷ half ++ (0x48 + count) ∷ octets count time))
 
-abbrev stopsFor : ℕ → ℕ → Bytes
+abbrev pub stopsFor : ℕ → ℕ → Bytes
 stopsFor n time = nth n 0x10 (octets 4 time)
 
-abbrev stopsInTags : ℕ → ℕ → Bytes
-stopsInTags n time = nth n 0x1b (body (0x09 ∷ 0 ∷ 0x5a ∷ octets 2 time))
+abbrev pub stopsInTags : ℕ → ℕ → ℕ → Bytes
+stopsInTags n count time = nth n 0x1b (body (0x09 ∷ 0 ∷ (0x58 + count) ∷ octets count time))
 
 abbrev framesAt : ℕ → ℕ → ℕ → List Bytes
 framesAt last fade duration =
@@ -103,12 +103,12 @@ framesAt last fade duration =
     ∷ written 102 0x02 (fade + 1)
     ∷ fadesOver 103 fade
     ∷ fadesOver 104 (fade + 1)
-    ∷ fadesInTags 105 fade
-    ∷ fadesInTags 106 (fade + 1)
+    ∷ fadesInTags 105 2 fade
+    ∷ fadesInTags 106 2 (fade + 1)
     ∷ stopsFor 107 duration
     ∷ stopsFor 108 (duration + 1)
-    ∷ stopsInTags 109 duration
-    ∷ stopsInTags 110 (duration + 1)
+    ∷ stopsInTags 109 2 duration
+    ∷ stopsInTags 110 2 (duration + 1)
     ∷ written 111 0x06 86400000
     ∷ written 112 0x06 86400001
     ∷ written 113 0x07 86400000

@@ -272,7 +272,7 @@ abbrev b8 : Syntax.Body
 b8 = Syntax.call "lent_rows::numbers::narrow32" (List._∷_ (Syntax.copy (Syntax.place 31 List.[])) List.[]) (Syntax.place 28 List.[])
 
 abbrev b9 : Syntax.Body
-b9 = Syntax.call "panel_record::document_01" (List._∷_ (Syntax.copy (Syntax.place 28 List.[])) List.[]) (Syntax.place 11 List.[])
+b9 = Syntax.call "panel_record::four_hours" (List._∷_ (Syntax.copy (Syntax.place 28 List.[])) List.[]) (Syntax.place 11 List.[])
 
 abbrev b10 : Syntax.Body
 b10 = Syntax.assign (Syntax.place 33 List.[]) (Syntax.addrOf (Syntax.place 1 (List._∷_ (Syntax.field 0) (List._∷_ (Syntax.deref OfOutput.spelt) List.[]))))
@@ -2961,7 +2961,7 @@ module _ (claims· : Claims) where
       (Post· : (κs : Lifetimes.Lfts 4) → (a : Kinds.Dens κs ps) → Kinds.Plain 4 ps r κs) where
     module _ (M : Type 1) where
       abbrev pub Closed : Type 2
-      Closed = (𝓤 : URA.URA M) (H : Wp.Heap 𝓤) (A : Atoms.Atoms 𝓤) (W : Kit.Given 𝓤 H A) (𝓣 : Wp.Tables 𝓤 H) (known0 : Plain.Known 𝓤 H A W 𝓣 0 ps·0 r·0 (claims· .0) (claims· .1) "lent_rows::closed") (known1 : Plain.Known 𝓤 H A W 𝓣 0 ps·1 r·1 (claims· .2) (claims· .3) "lent_session::with_next_row") (known2 : Plain.Known 𝓤 H A W 𝓣 0 ps·2 r·2 (claims· .4) (claims· .5) "lent_rows::numbers::narrow32") (known3 : Plain.Known 𝓤 H A W 𝓣 0 ps·3 r·3 (claims· .6) (claims· .7) "panel_record::document_01") (known4 : Plain.Known 𝓤 H A W 𝓣 3 ps·4 r·4 (claims· .8) (claims· .9) "lent_session::clear") (known5 : Plain.Known 𝓤 H A W 𝓣 0 ps·5 r·5 (claims· .10) (claims· .11) "lent_rows::numbers::place") (known6 : Plain.Known 𝓤 H A W 𝓣 0 ps·6 r·6 (claims· .12) (claims· .13) "lent_session::with_counts") (known7 : Plain.Known 𝓤 H A W 𝓣 0 ps·7 r·7 (claims· .14) (claims· .15) "lent_rows::outputs::output_of") (known8 : Plain.Known 𝓤 H A W 𝓣 1 ps·8 r·8 (claims· .16) (claims· .17) "lent_session::lend_output") (known9 : Plain.Known 𝓤 H A W 𝓣 0 ps·9 r·9 (claims· .18) (claims· .19) "lent_rows::stations::station_of") (known10 : Plain.Known 𝓤 H A W 𝓣 1 ps·10 r·10 (claims· .20) (claims· .21) "lent_session::lend_station") (known11 : Plain.Known 𝓤 H A W 𝓣 0 ps·11 r·11 (claims· .22) (claims· .23) "panel_record::time_of") (known12 : Plain.Known 𝓤 H A W 𝓣 0 ps·12 r·12 (claims· .24) (claims· .25) "lent_rows::parameters::parameters_of") (known13 : Plain.Known 𝓤 H A W 𝓣 1 ps·13 r·13 (claims· .26) (claims· .27) "lent_session::keep") (known14 : Plain.Known 𝓤 H A W 𝓣 3 ps·14 r·14 (claims· .28) (claims· .29) "lent_parts::start") (known15 : Plain.Known 𝓤 H A W 𝓣 1 ps·15 r·15 (claims· .30) (claims· .31) "text_found::with_room") (known16 : Plain.Known 𝓤 H A W 𝓣 1 ps·16 r·16 (claims· .32) (claims· .33) "text_printing::put_answer") (known17 : Plain.Known 𝓤 H A W 𝓣 0 ps·17 r·17 (claims· .34) (claims· .35) "lent_session::with_mark") (known18 : Plain.Known 𝓤 H A W 𝓣 0 ps·18 r·18 (claims· .36) (claims· .37) "lent_rows::bytes_of") (known19 : Plain.Known 𝓤 H A W 𝓣 4 ps·19 r·19 (claims· .38) (claims· .39) "lent_parts::send") (known20 : Plain.Known 𝓤 H A W 𝓣 1 ps·20 r·20 (claims· .40) (claims· .41) "lent_session::put_counts") (known21 : Plain.Known 𝓤 H A W 𝓣 0 ps·21 r·21 (claims· .42) (claims· .43) "panel_record::parameters_of") (known22 : Plain.Known 𝓤 H A W 𝓣 1 ps·22 r·22 (claims· .44) (claims· .45) "lent_session::put_parameters") (known23 : Plain.Known 𝓤 H A W 𝓣 2 ps·23 r·23 (claims· .46) (claims· .47) "lent_session::put_outputs") (known24 : Plain.Known 𝓤 H A W 𝓣 2 ps·24 r·24 (claims· .48) (claims· .49) "lent_session::put_stations") → Statement.Triple 𝓤 (Wp.WpFn 𝓤 H (𝓣 .C) (𝓣 .Λ) (Function.fnOf 4 ps r xs m hs body)) (Function.plainOf 𝓤 H A 4 ps r Pre· Post·)
+      Closed = (𝓤 : URA.URA M) (H : Wp.Heap 𝓤) (A : Atoms.Atoms 𝓤) (W : Kit.Given 𝓤 H A) (𝓣 : Wp.Tables 𝓤 H) (known0 : Plain.Known 𝓤 H A W 𝓣 0 ps·0 r·0 (claims· .0) (claims· .1) "lent_rows::closed") (known1 : Plain.Known 𝓤 H A W 𝓣 0 ps·1 r·1 (claims· .2) (claims· .3) "lent_session::with_next_row") (known2 : Plain.Known 𝓤 H A W 𝓣 0 ps·2 r·2 (claims· .4) (claims· .5) "lent_rows::numbers::narrow32") (known3 : Plain.Known 𝓤 H A W 𝓣 0 ps·3 r·3 (claims· .6) (claims· .7) "panel_record::four_hours") (known4 : Plain.Known 𝓤 H A W 𝓣 3 ps·4 r·4 (claims· .8) (claims· .9) "lent_session::clear") (known5 : Plain.Known 𝓤 H A W 𝓣 0 ps·5 r·5 (claims· .10) (claims· .11) "lent_rows::numbers::place") (known6 : Plain.Known 𝓤 H A W 𝓣 0 ps·6 r·6 (claims· .12) (claims· .13) "lent_session::with_counts") (known7 : Plain.Known 𝓤 H A W 𝓣 0 ps·7 r·7 (claims· .14) (claims· .15) "lent_rows::outputs::output_of") (known8 : Plain.Known 𝓤 H A W 𝓣 1 ps·8 r·8 (claims· .16) (claims· .17) "lent_session::lend_output") (known9 : Plain.Known 𝓤 H A W 𝓣 0 ps·9 r·9 (claims· .18) (claims· .19) "lent_rows::stations::station_of") (known10 : Plain.Known 𝓤 H A W 𝓣 1 ps·10 r·10 (claims· .20) (claims· .21) "lent_session::lend_station") (known11 : Plain.Known 𝓤 H A W 𝓣 0 ps·11 r·11 (claims· .22) (claims· .23) "panel_record::time_of") (known12 : Plain.Known 𝓤 H A W 𝓣 0 ps·12 r·12 (claims· .24) (claims· .25) "lent_rows::parameters::parameters_of") (known13 : Plain.Known 𝓤 H A W 𝓣 1 ps·13 r·13 (claims· .26) (claims· .27) "lent_session::keep") (known14 : Plain.Known 𝓤 H A W 𝓣 3 ps·14 r·14 (claims· .28) (claims· .29) "lent_parts::start") (known15 : Plain.Known 𝓤 H A W 𝓣 1 ps·15 r·15 (claims· .30) (claims· .31) "text_found::with_room") (known16 : Plain.Known 𝓤 H A W 𝓣 1 ps·16 r·16 (claims· .32) (claims· .33) "text_printing::put_answer") (known17 : Plain.Known 𝓤 H A W 𝓣 0 ps·17 r·17 (claims· .34) (claims· .35) "lent_session::with_mark") (known18 : Plain.Known 𝓤 H A W 𝓣 0 ps·18 r·18 (claims· .36) (claims· .37) "lent_rows::bytes_of") (known19 : Plain.Known 𝓤 H A W 𝓣 4 ps·19 r·19 (claims· .38) (claims· .39) "lent_parts::send") (known20 : Plain.Known 𝓤 H A W 𝓣 1 ps·20 r·20 (claims· .40) (claims· .41) "lent_session::put_counts") (known21 : Plain.Known 𝓤 H A W 𝓣 0 ps·21 r·21 (claims· .42) (claims· .43) "panel_record::parameters_of") (known22 : Plain.Known 𝓤 H A W 𝓣 1 ps·22 r·22 (claims· .44) (claims· .45) "lent_session::put_parameters") (known23 : Plain.Known 𝓤 H A W 𝓣 2 ps·23 r·23 (claims· .46) (claims· .47) "lent_session::put_outputs") (known24 : Plain.Known 𝓤 H A W 𝓣 2 ps·24 r·24 (claims· .48) (claims· .49) "lent_session::put_stations") → Statement.Triple 𝓤 (Wp.WpFn 𝓤 H (𝓣 .C) (𝓣 .Λ) (Function.fnOf 4 ps r xs m hs body)) (Function.plainOf 𝓤 H A 4 ps r Pre· Post·)
 
     module _ where
       abbrev at0 : (bs : List.List Nat.ℕ) → Typed.TF T61 O1
@@ -3828,7 +3828,7 @@ module _ (claims· : Claims) where
       module _ {M : Type 1} (𝓤 : URA.URA M) (H : Wp.Heap 𝓤) (A : Atoms.Atoms 𝓤)
           (W : Kit.Given 𝓤 H A) (𝓣 : Wp.Tables 𝓤 H) where
         abbrev Knowns : Type 1
-        Knowns = Plain.Known 𝓤 H A W 𝓣 0 ps·0 r·0 (claims· .0) (claims· .1) "lent_rows::closed" × Plain.Known 𝓤 H A W 𝓣 0 ps·1 r·1 (claims· .2) (claims· .3) "lent_session::with_next_row" × Plain.Known 𝓤 H A W 𝓣 0 ps·2 r·2 (claims· .4) (claims· .5) "lent_rows::numbers::narrow32" × Plain.Known 𝓤 H A W 𝓣 0 ps·3 r·3 (claims· .6) (claims· .7) "panel_record::document_01" × Plain.Known 𝓤 H A W 𝓣 3 ps·4 r·4 (claims· .8) (claims· .9) "lent_session::clear" × Plain.Known 𝓤 H A W 𝓣 0 ps·5 r·5 (claims· .10) (claims· .11) "lent_rows::numbers::place" × Plain.Known 𝓤 H A W 𝓣 0 ps·6 r·6 (claims· .12) (claims· .13) "lent_session::with_counts" × Plain.Known 𝓤 H A W 𝓣 0 ps·7 r·7 (claims· .14) (claims· .15) "lent_rows::outputs::output_of" × Plain.Known 𝓤 H A W 𝓣 1 ps·8 r·8 (claims· .16) (claims· .17) "lent_session::lend_output" × Plain.Known 𝓤 H A W 𝓣 0 ps·9 r·9 (claims· .18) (claims· .19) "lent_rows::stations::station_of" × Plain.Known 𝓤 H A W 𝓣 1 ps·10 r·10 (claims· .20) (claims· .21) "lent_session::lend_station" × Plain.Known 𝓤 H A W 𝓣 0 ps·11 r·11 (claims· .22) (claims· .23) "panel_record::time_of" × Plain.Known 𝓤 H A W 𝓣 0 ps·12 r·12 (claims· .24) (claims· .25) "lent_rows::parameters::parameters_of" × Plain.Known 𝓤 H A W 𝓣 1 ps·13 r·13 (claims· .26) (claims· .27) "lent_session::keep" × Plain.Known 𝓤 H A W 𝓣 3 ps·14 r·14 (claims· .28) (claims· .29) "lent_parts::start" × Plain.Known 𝓤 H A W 𝓣 1 ps·15 r·15 (claims· .30) (claims· .31) "text_found::with_room" × Plain.Known 𝓤 H A W 𝓣 1 ps·16 r·16 (claims· .32) (claims· .33) "text_printing::put_answer" × Plain.Known 𝓤 H A W 𝓣 0 ps·17 r·17 (claims· .34) (claims· .35) "lent_session::with_mark" × Plain.Known 𝓤 H A W 𝓣 0 ps·18 r·18 (claims· .36) (claims· .37) "lent_rows::bytes_of" × Plain.Known 𝓤 H A W 𝓣 4 ps·19 r·19 (claims· .38) (claims· .39) "lent_parts::send" × Plain.Known 𝓤 H A W 𝓣 1 ps·20 r·20 (claims· .40) (claims· .41) "lent_session::put_counts" × Plain.Known 𝓤 H A W 𝓣 0 ps·21 r·21 (claims· .42) (claims· .43) "panel_record::parameters_of" × Plain.Known 𝓤 H A W 𝓣 1 ps·22 r·22 (claims· .44) (claims· .45) "lent_session::put_parameters" × Plain.Known 𝓤 H A W 𝓣 2 ps·23 r·23 (claims· .46) (claims· .47) "lent_session::put_outputs" × Plain.Known 𝓤 H A W 𝓣 2 ps·24 r·24 (claims· .48) (claims· .49) "lent_session::put_stations"
+        Knowns = Plain.Known 𝓤 H A W 𝓣 0 ps·0 r·0 (claims· .0) (claims· .1) "lent_rows::closed" × Plain.Known 𝓤 H A W 𝓣 0 ps·1 r·1 (claims· .2) (claims· .3) "lent_session::with_next_row" × Plain.Known 𝓤 H A W 𝓣 0 ps·2 r·2 (claims· .4) (claims· .5) "lent_rows::numbers::narrow32" × Plain.Known 𝓤 H A W 𝓣 0 ps·3 r·3 (claims· .6) (claims· .7) "panel_record::four_hours" × Plain.Known 𝓤 H A W 𝓣 3 ps·4 r·4 (claims· .8) (claims· .9) "lent_session::clear" × Plain.Known 𝓤 H A W 𝓣 0 ps·5 r·5 (claims· .10) (claims· .11) "lent_rows::numbers::place" × Plain.Known 𝓤 H A W 𝓣 0 ps·6 r·6 (claims· .12) (claims· .13) "lent_session::with_counts" × Plain.Known 𝓤 H A W 𝓣 0 ps·7 r·7 (claims· .14) (claims· .15) "lent_rows::outputs::output_of" × Plain.Known 𝓤 H A W 𝓣 1 ps·8 r·8 (claims· .16) (claims· .17) "lent_session::lend_output" × Plain.Known 𝓤 H A W 𝓣 0 ps·9 r·9 (claims· .18) (claims· .19) "lent_rows::stations::station_of" × Plain.Known 𝓤 H A W 𝓣 1 ps·10 r·10 (claims· .20) (claims· .21) "lent_session::lend_station" × Plain.Known 𝓤 H A W 𝓣 0 ps·11 r·11 (claims· .22) (claims· .23) "panel_record::time_of" × Plain.Known 𝓤 H A W 𝓣 0 ps·12 r·12 (claims· .24) (claims· .25) "lent_rows::parameters::parameters_of" × Plain.Known 𝓤 H A W 𝓣 1 ps·13 r·13 (claims· .26) (claims· .27) "lent_session::keep" × Plain.Known 𝓤 H A W 𝓣 3 ps·14 r·14 (claims· .28) (claims· .29) "lent_parts::start" × Plain.Known 𝓤 H A W 𝓣 1 ps·15 r·15 (claims· .30) (claims· .31) "text_found::with_room" × Plain.Known 𝓤 H A W 𝓣 1 ps·16 r·16 (claims· .32) (claims· .33) "text_printing::put_answer" × Plain.Known 𝓤 H A W 𝓣 0 ps·17 r·17 (claims· .34) (claims· .35) "lent_session::with_mark" × Plain.Known 𝓤 H A W 𝓣 0 ps·18 r·18 (claims· .36) (claims· .37) "lent_rows::bytes_of" × Plain.Known 𝓤 H A W 𝓣 4 ps·19 r·19 (claims· .38) (claims· .39) "lent_parts::send" × Plain.Known 𝓤 H A W 𝓣 1 ps·20 r·20 (claims· .40) (claims· .41) "lent_session::put_counts" × Plain.Known 𝓤 H A W 𝓣 0 ps·21 r·21 (claims· .42) (claims· .43) "panel_record::parameters_of" × Plain.Known 𝓤 H A W 𝓣 1 ps·22 r·22 (claims· .44) (claims· .45) "lent_session::put_parameters" × Plain.Known 𝓤 H A W 𝓣 2 ps·23 r·23 (claims· .46) (claims· .47) "lent_session::put_outputs" × Plain.Known 𝓤 H A W 𝓣 2 ps·24 r·24 (claims· .48) (claims· .49) "lent_session::put_stations"
 
       module _ (κs : Lifetimes.Lfts 4) (qs : Lifetimes.Shares 4) where
         abbrev g26 : List.List Row'.Entry
@@ -5011,7 +5011,7 @@ module _ (claims· : Claims) where
           d42 = Typed.g-pre 𝓤 H A W 𝓣 E G19 G20 b44 Δ1 (Typed.pass T19 T20 (s17 bs)) (at41 bs) (Scalar.g-room 𝓤 H A W E G19 28 (Syntax.tyInt Syntax.w32) (Scalar.room-sc 𝓤 H A W (Row'.sInt Syntax.w32))) d41
 
           d43 : Typed.Typed 𝓤 H A 𝓣 E G18 b45 Δ1 (at43 bs)
-          d43 = Typed.s-seq 𝓤 H A W 𝓣 E G18 G19 b9 b44 Δ1 (Typed.both (s16 bs)) (at42 bs) (Plain.t-call-plain 𝓤 H A W 𝓣 0 ps·3 r·3 (claims· .6) (claims· .7) "panel_record::document_01" (known .3) E (λ pos β. β) G18 (Num.vAt 28 λ x. x, tt) 11 List.[] (Call.sub-id 𝓤 H A W (G18 .slots)) ((Scalar.reads-sc 𝓤 H A W (Row'.sInt Syntax.w32), Path'.refl), tt) (Reads'.room-gone 𝓤 H A (Laws'3.mir)) tt Path'.refl) d42
+          d43 = Typed.s-seq 𝓤 H A W 𝓣 E G18 G19 b9 b44 Δ1 (Typed.both (s16 bs)) (at42 bs) (Plain.t-call-plain 𝓤 H A W 𝓣 0 ps·3 r·3 (claims· .6) (claims· .7) "panel_record::four_hours" (known .3) E (λ pos β. β) G18 (Num.vAt 28 λ x. x, tt) 11 List.[] (Call.sub-id 𝓤 H A W (G18 .slots)) ((Scalar.reads-sc 𝓤 H A W (Row'.sInt Syntax.w32), Path'.refl), tt) (Reads'.room-gone 𝓤 H A (Laws'3.mir)) tt Path'.refl) d42
 
           d44 : Typed.Typed 𝓤 H A 𝓣 E G17 b45 Δ1 (at44 bs)
           d44 = Typed.g-pre 𝓤 H A W 𝓣 E G17 G18 b45 Δ1 (Typed.pass T17 T18 (s15 bs)) (at43 bs) (Scalar.g-room 𝓤 H A W E G17 31 (Syntax.tyInt Syntax.w64) (Scalar.room-sc 𝓤 H A W (Row'.sInt Syntax.w64))) d43
@@ -9331,7 +9331,7 @@ module _ (claims· : Claims) where
             r·3
             (claims· .6)
             (claims· .7)
-            "panel_record::document_01")
+            "panel_record::four_hours")
             (known4 : Plain.Known
             𝓤
             H

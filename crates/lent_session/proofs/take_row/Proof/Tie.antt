@@ -65,9 +65,9 @@ use Rattle.lent_session.proofs.with_mark.Symbol as Symbol'18
 use Rattle.lent_session.proofs.with_next_row.Met as Met'19
 use Rattle.lent_session.proofs.with_next_row.Reads as Reads'20
 use Rattle.lent_session.proofs.with_next_row.Symbol as Symbol'19
-use Rattle.panel_record.proofs.document_01.Met as Met'20
-use Rattle.panel_record.proofs.document_01.Reads as Reads'21
-use Rattle.panel_record.proofs.document_01.Symbol as Symbol'20
+use Rattle.panel_record.proofs.four_hours.Met as Met'20
+use Rattle.panel_record.proofs.four_hours.Reads as Reads'21
+use Rattle.panel_record.proofs.four_hours.Symbol as Symbol'20
 use Rattle.panel_record.proofs.parameters_of.Met as Met'21
 use Rattle.panel_record.proofs.parameters_of.Reads as Reads'22
 use Rattle.panel_record.proofs.parameters_of.Symbol as Symbol'21

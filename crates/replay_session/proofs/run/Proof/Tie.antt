@@ -8,9 +8,9 @@ use Rattle.output_fresh.proofs.fresh_output.Symbol as Symbol'
 use Rattle.output_fresh.proofs.fresh_station.Met as Met''
 use Rattle.output_fresh.proofs.fresh_station.Reads as Reads''
 use Rattle.output_fresh.proofs.fresh_station.Symbol as Symbol''
-use Rattle.panel_record.proofs.document_01.Met as Met'3
-use Rattle.panel_record.proofs.document_01.Reads as Reads'3
-use Rattle.panel_record.proofs.document_01.Symbol as Symbol'3
+use Rattle.panel_record.proofs.four_hours.Met as Met'3
+use Rattle.panel_record.proofs.four_hours.Reads as Reads'3
+use Rattle.panel_record.proofs.four_hours.Symbol as Symbol'3
 use Rattle.panel_record.proofs.fresh_record.Met as Met'4
 use Rattle.panel_record.proofs.fresh_record.Reads as Reads'4
 use Rattle.panel_record.proofs.fresh_record.Symbol as Symbol'4
