@@ -265,7 +265,7 @@ impl Generator {
     }
 
     /// Burns on, with reads at which a millisecond too many or too few shows.
-    fn plan_look_at_burning(&mut self, output: u8, own: u8) {
+    pub(crate) fn plan_look_at_burning(&mut self, output: u8, own: u8) {
         let priority = STRONGEST;
         self.plan(output, Body::Empty { priority }, When::Now);
         // Else the output may be under way for a day.
