@@ -14,7 +14,7 @@ const LISTS: [(&str, u64); 8] = [
     ("§4", 0x328C_5F36_1DEE_9994),
     ("§5", 0x914E_007A_0692_CF75),
     ("§6", 0xBDAD_A3E4_8883_577F),
-    ("§7", 0xD7D4_B26C_BFC8_C191),
+    ("§7", 0x6278_BA03_7A9B_327B),
 ];
 
 fn digest(bytes: impl Iterator<Item = u8>) -> u64 {

@@ -13,7 +13,7 @@ const REFUSED: u64 = 4;
 
 /// One list in so many may live hours. The one in the middle of them has a
 /// longest fade of four hours, as the test below asks.
-pub const GREAT_LISTS: u64 = 48;
+pub const GREAT_LISTS: u64 = 24;
 
 /// The numbers of the suite's list of that number in turn.
 pub fn heading(random: &mut Random, number: u64) -> Heading {

@@ -25,8 +25,8 @@ pub static SUITE: Suite = Suite {
         more_writes: Some(Generator::some_relay_write),
         tagged: 45,
         great_lists: headings::GREAT_LISTS,
-        // Three fades of four hours.
-        great_budget: 50_000_000,
+        // Two fades of four hours.
+        great_budget: 35_000_000,
         headings: Some(headings::heading),
         // Many sets in few frames.
         length: Some((40, 200)),

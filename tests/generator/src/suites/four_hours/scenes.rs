@@ -39,8 +39,12 @@ impl Generator {
     }
 
     /// The frame is refused for its level or for its tags, for a duration that
-    /// is out of range too, or comes too late, or comes again.
+    /// is out of range too, or comes too late, or comes again. A duration that
+    /// runs goes on.
     fn plan_longer(&mut self, output: u8) {
+        if self.random.chance(30) {
+            self.plan_duration(output, SHORTEST);
+        }
         let (first, last) = LONGER.into_inner();
         let between = self.random.between(first.into(), last.into()) as u32;
         let longer = self.random.pick(&[first, first, last, between]);
@@ -66,6 +70,9 @@ impl Generator {
         }
         self.plan_read(output, LAST_FADE_TIME, When::Now);
         self.plan_read(output, FADE_TIME, When::Now);
+        if self.random.chance(30) {
+            self.plan_read(output, PRESENT_VALUE, When::After(SHORTEST.into()));
+        }
     }
 
     fn plan_longer_in_bad_tags(&mut self, output: u8, level: u32, longer: u32) {
