@@ -124,6 +124,7 @@ fn bad_lists() {
         "first",
         "great",
         "great-fade",
+        "long-fade",
         "no-count",
         "no-number",
         "stations",
