@@ -42,16 +42,6 @@ impl<Chosen: Panel> Bench<Chosen> {
         let answer = self.frame(0x12, time, &format!("{level} 000003E8 {ABSENT}"));
         assert_eq!(answer, Answer::Done);
     }
-
-    fn moves(&mut self, time: u64, expected: (bool, u32, u64)) {
-        self.clock(time);
-        let found = self.found();
-        assert_eq!(
-            (found.in_process, found.progress_value, found.burning),
-            expected,
-            "at {time}"
-        );
-    }
 }
 
 fn a_fade_is_over_after_a_far_jump<Chosen: Panel>(mut bench: Bench<Chosen>) {

@@ -57,13 +57,6 @@ impl<Chosen: Panel> Bench<Chosen> {
             assert_eq!(self.frame(0x04, 0, &format!("{property} {plain}")), answer);
         }
     }
-
-    fn moves(&mut self, time: u64, expected: (bool, u32, u64)) {
-        self.clock(time);
-        let found = self.found();
-        let moved = (found.in_process, found.progress_value, found.burning);
-        assert_eq!(moved, expected, "at {time}");
-    }
 }
 
 /// "That becomes the greatest value of the longest fade parameter ... that
