@@ -28,7 +28,9 @@ REALS = (1, 2, 3)
 # tshark's names follow the published edition, where tag 5 is a priority; the draft has the duration there
 SHOWN_NAMES = ['operation', 'target-level', 'ramp-rate', 'step-increment', 'fade-time', 'priority']
 WHOLE = [100, 255, 256, 65535, 65536, 16777215, 16777216, 86400000]
-EDGES = {1: [0.0, 1.0, 50.0, 100.0, -0.0, 0.5, 33.333], 2: [0.125, 5.0, 100.0], 3: [0.125, 5.0, 100.0], 4: WHOLE, 5: [None, 0] + WHOLE}
+# no fade time is longer than four hours
+FADE_TIMES = [100, 255, 256, 65535, 65536, 8388608, 14399999, 14400000]
+EDGES = {1: [0.0, 1.0, 50.0, 100.0, -0.0, 0.5, 33.333], 2: [0.125, 5.0, 100.0], 3: [0.125, 5.0, 100.0], 4: FADE_TIMES, 5: [None, 0] + WHOLE}
 
 # where the property's value begins in a packet: Ethernet 14, IP 20, UDP 8, BVLC 4, NPDU 2, APDU 4, object 5, property 3, opening tag 1
 BEGIN = 61

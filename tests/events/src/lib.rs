@@ -8,6 +8,7 @@
 
 pub mod base;
 pub mod edges;
+pub mod four_hours;
 pub mod jump;
 pub mod light;
 pub mod observer;

@@ -9,7 +9,7 @@ use crate::edges::{self, Edge};
 use crate::passing::Passed;
 use crate::seen::{Act, Seen};
 use crate::tally::Tally;
-use crate::{base, jump, light, relay, set, tags, tie};
+use crate::{base, four_hours, jump, light, relay, set, tags, tie};
 
 /// What the observer remembers of an output beside its record.
 #[derive(Clone, Copy, Default)]
@@ -17,6 +17,7 @@ pub struct Memory {
     pub base: base::Memory,
     pub tie: tie::Memory,
     pub set: set::Memory,
+    pub four_hours: four_hours::Memory,
 }
 
 pub struct Observer {
@@ -52,9 +53,10 @@ impl Observer {
         &self.edges
     }
 
-    /// The list has this heading, and its panel was started or not.
+    /// The list that has ended has this heading, and its panel was started or not.
     pub fn saw_start(&mut self, words: &[(Parameter, u64)], started: &Result<Panel, Answer>) {
         set::start(words, started, &mut self.events);
+        four_hours::start(words, started, &mut self.events);
         edges::of_heading(words, &mut self.edges);
     }
 
@@ -80,6 +82,7 @@ impl Observer {
         tags::list(&seen, events);
         relay::list(&seen, events);
         set::list(&seen, events);
+        four_hours::list(&seen, events);
         if arrives || steps {
             jump::frame(&seen, events);
             let acted_on = arrives.then(|| usize::from(frame::output(bytes)));
@@ -107,6 +110,7 @@ impl Observer {
                 relay::act(&act, events);
                 tie::act(&act, &mut memory.tie, events);
                 set::act(&act, &passed, &mut memory.set, events);
+                four_hours::act(&act, &passed, &mut memory.four_hours, events);
                 edges::of_frame(bytes, &mut self.edges);
             }
         }

@@ -8,7 +8,7 @@ use plain::{Answer, Output};
 
 pub const BOTH: [bool; 2] = [false, true];
 
-/// Document 01's longest fade time, duration and blink times, in milliseconds.
+/// Document 01's longest duration and blink times, in milliseconds.
 pub const DAY: u64 = 86_400_000;
 
 /// The kinds of document 01's commands, in the order of their operations; §1

@@ -4,7 +4,7 @@ use crate::level::{HIGHEST, LOWEST_LIT, UNITS_PER_PERCENT};
 use crate::parameters::Parameters;
 
 pub const WARNING_PRIORITY: u8 = 6;
-/// Of blink times. No panel has a longer fade or duration either.
+/// Of blink times. No panel has a longer duration either.
 pub const LONGEST_TIME: u32 = 86_400_000;
 pub const SHORTEST_TIME: u32 = 100;
 

@@ -22,6 +22,8 @@ pub struct PanelRecord {
 
 const MOST_STATIONS: u32 = 32;
 const MOST_OUTPUTS: u32 = 64;
+/// Four hours: a dawn. No panel has a longer fade.
+const LONGEST_FADE: u32 = 14_400_000;
 /// How long a ramp takes from 0 to 100 percent at the least rate.
 const LONGEST_RAMP: u32 = 800_000;
 /// A fresh Fade_Time where fades may last that long.
@@ -30,11 +32,10 @@ const USUAL_FADE: u32 = 1_000;
 impl Parameters {
     /// Whether a panel may be started with them.
     pub fn are_in_range(&self) -> bool {
-        let times = SHORTEST_TIME..=LONGEST_TIME;
         (1..=MOST_STATIONS).contains(&self.stations)
             && (1..=MOST_OUTPUTS).contains(&self.outputs)
-            && times.contains(&self.longest_fade)
-            && times.contains(&self.longest_duration)
+            && (SHORTEST_TIME..=LONGEST_FADE).contains(&self.longest_fade)
+            && (SHORTEST_TIME..=LONGEST_TIME).contains(&self.longest_duration)
     }
 
     /// Whether the tables have just as many records.

@@ -17,7 +17,7 @@ fn answer_after(change: impl Fn(&mut Output, &mut Station)) -> Answer {
     let parameters = Parameters {
         stations: 8,
         outputs: 3,
-        longest_fade: 86_400_000,
+        longest_fade: 14_400_000,
         longest_duration: 86_400_000,
     };
     let mut outputs = [Output::fresh(&parameters); 3];
@@ -77,7 +77,7 @@ fn settings() {
     refused(|output| output.settings.relinquish_default = 65_535);
     refused(|output| output.settings.relinquish_default = 6_553_601);
     refused(|output| output.settings.fade_time = 99);
-    refused(|output| output.settings.fade_time = 86_400_001);
+    refused(|output| output.settings.fade_time = 14_400_001);
     refused(|output| output.settings.ramp_rate = f32::NAN);
     refused(|output| output.settings.ramp_rate = 0.124_999_99);
     refused(|output| output.settings.step_increment = 100.000_01);
@@ -142,7 +142,7 @@ fn movements() {
     refused(|output| move_slot_eight(output, |movement| movement.began = TIME + 1));
     refused(|output| move_slot_eight(output, |movement| movement.length = 0));
     refused(|output| move_slot_eight(output, |movement| movement.length = 100));
-    refused(|output| move_slot_eight(output, |movement| movement.length = 86_400_001));
+    refused(|output| move_slot_eight(output, |movement| movement.length = 14_400_001));
     // No rule speaks of the rate, or asks that a movement goes anywhere.
     taken(|output| move_slot_eight(output, |movement| movement.from = movement.to));
     for units_per_second in [0, 1, u32::MAX] {

@@ -25,7 +25,7 @@ impl Heading {
 
     /// Digits that 32 bits do not hold count as out of range.
     pub fn parameters(&self) -> Parameters {
-        let mut parameters = Parameters::of_document_01(0);
+        let mut parameters = Parameters::of_old_panel(0);
         for (parameter, number) in &self.words {
             parameters.set(*parameter, u32::try_from(*number).unwrap_or(u32::MAX));
         }

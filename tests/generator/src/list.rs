@@ -45,9 +45,8 @@ pub struct Generator {
     pub(crate) plan: VecDeque<Planned>,
 }
 
-/// Most lists are quick to live; some may live whole days.
+/// Most lists are quick to live; some may live whole days, or hours.
 const USUAL_BUDGET: u64 = 2_000_000;
-const GREAT_BUDGET: u64 = 350_000_000;
 
 /// Looks on while a list is made: at each frame, with its answer and the panel
 /// after it.
@@ -68,7 +67,7 @@ impl Which {
         self.suite.seed(self.run, self.number)
     }
 
-    /// Whether it may live whole days: one in the middle of so many lists.
+    /// Whether it may live so long: one in the middle of so many lists.
     pub fn is_great(&self) -> bool {
         let great_lists = self.suite.tables.great_lists;
         great_lists > 0 && self.number % great_lists == great_lists / 2
@@ -143,7 +142,7 @@ impl Generator {
             frames: Vec::new(),
             answers: Vec::new(),
             budget: match which.is_great() {
-                true => GREAT_BUDGET,
+                true => which.suite.tables.great_budget,
                 false => USUAL_BUDGET,
             },
             favourites,

@@ -96,12 +96,12 @@ impl Writer {
         self.send(Body::Command { kind, fields });
     }
 
-    /// Every output fades over a day, with a duration of a day.
+    /// Every output fades over four hours, with a duration of a day.
     fn set_all_in_motion(&mut self) {
         for _ in 0..self.outputs {
             self.send(Body::Command {
                 kind: FADE_TO_OVER,
-                fields: vec![FIFTY_PERCENT, LONGEST, LONGEST],
+                fields: vec![FIFTY_PERCENT, FOUR_HOURS, LONGEST],
             });
         }
     }

@@ -58,8 +58,10 @@ pub struct Tables {
     pub looks: &'static [u8],
     /// How many of a hundred commands come in tags (§1).
     pub tagged: u64,
-    /// One list in so many may live whole days; none if 0.
+    /// One list in so many may live whole days, or hours; none if 0.
     pub great_lists: u64,
+    /// Milliseconds that the outputs of such a list may live one by one.
+    pub great_budget: u64,
     /// Of a suite that starts panels with sets of its own (§6).
     pub headings: Option<Headings>,
     /// The least and the most frames of a list, if lists of this suite are

@@ -6,7 +6,8 @@ use crate::random::Random;
 
 pub use events::edges::EDGE_TIMES;
 
-/// The least and the greatest fade time and duration of document 01.
+/// The least and the greatest fade time and duration of document 01; §7 has
+/// taken fade times above four hours away.
 pub const SHORTEST: u32 = 100;
 pub const LONGEST: u32 = 86_400_000;
 /// A duration that is not there.

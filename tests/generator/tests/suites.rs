@@ -6,14 +6,15 @@ use generator::{pair, suites, Which};
 /// their headings where the suite has headings of its own. A change
 /// that adds a suite adds a line here and moves none. Where the panel that the
 /// lists are aimed by moves otherwise, lines may move; its note says which.
-const LISTS: [(&str, u64); 7] = [
+const LISTS: [(&str, u64); 8] = [
     ("base", 0x4F04_307F_5916_9911),
-    ("§1", 0x39CF_320A_B6BF_C11F),
-    ("§2", 0x2448_8DB8_5558_9A71),
+    ("§1", 0xAAB6_FE9D_AE7B_3C81),
+    ("§2", 0x0051_1F2F_91B8_8E34),
     ("§3", 0x3E19_8C29_1C3F_123D),
     ("§4", 0x328C_5F36_1DEE_9994),
     ("§5", 0x914E_007A_0692_CF75),
-    ("§6", 0xBF39_4990_F11D_16AF),
+    ("§6", 0xBDAD_A3E4_8883_577F),
+    ("§7", 0x6278_BA03_7A9B_327B),
 ];
 
 fn digest(bytes: impl Iterator<Item = u8>) -> u64 {

@@ -1,5 +1,7 @@
 //! Records that break one rule alone, at panel time `NOW`.
 
+use plain::settings::{FOUR_HOURS, LONGEST};
+
 use crate::record::{Activity, Record};
 use crate::states::{state, NOW};
 use crate::text::PERCENT;
@@ -21,9 +23,10 @@ const CHANGES: &[Change] = &[
         record.default = 100 * PERCENT + 1
     }),
     ("Fade_Time 99", LIT, |record| record.fade = 99),
-    ("Fade_Time 86,400,001", LIT, |record| {
-        record.fade = 86_400_001
+    ("Fade_Time 14,400,001", LIT, |record| {
+        record.fade = FOUR_HOURS + 1
     }),
+    ("Fade_Time 86,400,000", LIT, |record| record.fade = LONGEST),
     ("Ramp_Rate just below 0.125", LIT, |record| {
         record.ramp = 0.125_f32.to_bits() - 1
     }),
@@ -41,10 +44,10 @@ const CHANGES: &[Change] = &[
         record.step = (-5.0_f32).to_bits()
     }),
     ("Blink_Time 86,400,001", LIT, |record| {
-        record.blink = 86_400_001
+        record.blink = LONGEST + 1
     }),
     ("Blink_Warn_Delay 86,400,001", LIT, |record| {
-        record.delay = 86_400_001
+        record.delay = LONGEST + 1
     }),
     ("Min 65,535", LIT, |record| record.min = PERCENT - 1),
     ("Min over Max", LIT, |record| {
@@ -136,8 +139,11 @@ const CHANGES: &[Change] = &[
     ("a movement over at panel time", FADE, |record| {
         change_movement(record, |_, _, _, _, over| *over = NOW)
     }),
-    ("a movement of 86,400,001 ms", FADE, |record| {
-        change_movement(record, |_, _, _, length, _| *length = 86_400_001)
+    ("a movement of 14,400,001 ms", FADE, |record| {
+        change_movement(record, |_, _, _, length, _| *length = FOUR_HOURS + 1)
+    }),
+    ("a movement of 86,400,000 ms", FADE, |record| {
+        change_movement(record, |_, _, _, length, _| *length = LONGEST)
     }),
     ("burning time one more than panel time", LIT, |record| {
         record.burning = NOW + 1

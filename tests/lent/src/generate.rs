@@ -1,10 +1,13 @@
 //! Tables from a seed: records in any state, most of them kept to the rules or
-//! one field away from them, a set of document 01 or another one, and a few
+//! one field away from them, the old panel's set or another one, and a few
 //! frames and starts.
 
-use generator::suites::set::EDGES;
+use generator::suites::set::edges_of;
 use generator::Random;
 use plain::frame::{length_of_kind, CLOCK};
+use plain::settings::{FOUR_HOURS, LONGEST};
+use plain::tag_writer::fewest_octets;
+use plain::tags::FADE_TIME;
 use plain::{Parameter, Parameters};
 
 use crate::record::{Activity, Record, Station, LONGEST_FRAME, NUMBERS};
@@ -31,7 +34,7 @@ const LEVELS: [u32; 12] = [
     6_553_600,
     6_553_601,
 ];
-const TIMES: [u32; 11] = [
+const TIMES: [u32; 14] = [
     0,
     1,
     99,
@@ -39,9 +42,12 @@ const TIMES: [u32; 11] = [
     101,
     700,
     5_000,
-    86_399_999,
-    86_400_000,
-    86_400_001,
+    FOUR_HOURS - 1,
+    FOUR_HOURS,
+    FOUR_HOURS + 1,
+    LONGEST - 1,
+    LONGEST,
+    LONGEST + 1,
     u32::MAX,
 ];
 const REALS: [u32; 16] = [
@@ -68,8 +74,8 @@ fn set(random: &mut Random, outputs: usize) -> Parameters {
     let mut set = Parameters {
         stations: random.pick(&[1, 2, 3, 7, 8, 9, 30, 31, 32]),
         outputs: outputs as u32,
-        fade: random.pick(&EDGES),
-        duration: random.pick(&EDGES),
+        fade: random.pick(&edges_of(Parameter::Fade)),
+        duration: random.pick(&edges_of(Parameter::Duration)),
     };
     if random.one_in(8) {
         let (parameter, number) = random.pick(&[
@@ -78,9 +84,10 @@ fn set(random: &mut Random, outputs: usize) -> Parameters {
             (Parameter::Outputs, 0),
             (Parameter::Outputs, 65),
             (Parameter::Fade, 99),
-            (Parameter::Fade, 86_400_001),
+            (Parameter::Fade, FOUR_HOURS + 1),
+            (Parameter::Fade, LONGEST),
             (Parameter::Duration, 99),
-            (Parameter::Duration, 86_400_001),
+            (Parameter::Duration, LONGEST + 1),
             (Parameter::Duration, u32::MAX),
         ]);
         set.set(parameter, number);
@@ -106,13 +113,13 @@ pub fn table(random: &mut Random) -> String {
         2 => 65,
         _ => random.between(1, 3) as usize,
     };
-    let of_document_01 = random.chance(50);
-    let kept = match of_document_01 {
-        true => Parameters::of_document_01(outputs as u32),
+    let of_old_panel = random.chance(50);
+    let kept = match of_old_panel {
+        true => Parameters::of_old_panel(outputs as u32),
         false => set(random, outputs),
     };
     let stations = about(random, kept.stations).min(33);
-    let outputs = match of_document_01 {
+    let outputs = match of_old_panel {
         true => outputs,
         false => about(random, kept.outputs).min(65),
     };
@@ -123,7 +130,7 @@ pub fn table(random: &mut Random) -> String {
         _ => NOW,
     };
     text.table(outputs, stations, time);
-    if !of_document_01 {
+    if !of_old_panel {
         text.keep(&kept);
         // As a start with that set leaves them.
         let mut fresh = Record::fresh();
@@ -188,14 +195,14 @@ fn record(random: &mut Random, kept: &Parameters) -> Record {
     let (_, mut record) = states[random.below(states.len() as u64) as usize];
     if random.one_in(3) {
         record.enable = random.chance(70);
-        record.blink = random.pick(&[0, 1, 300, 86_400_000]);
-        record.delay = random.pick(&[0, 1, 600, 86_400_000]);
+        record.blink = random.pick(&[0, 1, 300, LONGEST]);
+        record.delay = random.pick(&[0, 1, 600, LONGEST]);
     }
     if random.one_in(3) {
         record.slot = random.pick(&[0, 4, 6, 7, 8, 14, 15]);
     }
     if random.one_in(3) {
-        record.fade = random.pick(&[100, 101, 1_000, 86_400_000, kept.fade]);
+        record.fade = random.pick(&[100, 101, 1_000, FOUR_HOURS, kept.fade]);
         record.ramp = random.pick(&REALS[4..13]);
         record.step = random.pick(&REALS[4..13]);
     }
@@ -305,7 +312,7 @@ fn frame(random: &mut Random, time: u64, outputs: usize, kept: &Parameters) -> V
             adds.extend(value.to_be_bytes());
         }
         0x05 => adds.push(random.between(0, 0x31) as u8),
-        0x1B => adds.extend(tagged(random)),
+        0x1B => adds.extend(tagged(random, kept)),
         _ => {
             // Each field has four bytes; the last one is the duration.
             let fields = (length_of_kind(kind).unwrap_or(13) - 13) / 4;
@@ -318,7 +325,8 @@ fn frame(random: &mut Random, time: u64, outputs: usize, kept: &Parameters) -> V
                         300,
                         5_000,
                         99,
-                        86_400_000,
+                        FOUR_HOURS + 1,
+                        LONGEST,
                         u32::MAX,
                         u32::MAX,
                         about,
@@ -348,15 +356,23 @@ fn priority(random: &mut Random) -> u8 {
     random.pick(&[1, 3, 5, 7, 8, 8, 8, 9, 15, 16, 16, 16, 6, 0, 17])
 }
 
-/// GOTO, STOP or RELINQUISH in tags, now and then with a byte changed.
-fn tagged(random: &mut Random) -> [u8; 18] {
-    let mut body = [0; 18];
-    let command: &[u8] = match random.below(3) {
-        0 => &[7, 0x09, 9, 0x1C, 0x42, 0x48, 0, 0],
-        1 => &[5, 0x09, 0, 0x5A, 0x01, 0x2C],
-        _ => &[2, 0x09, 10],
+/// GOTO, STOP, RELINQUISH or FADE_TO_OVER in tags, now and then with a byte
+/// changed.
+fn tagged(random: &mut Random, kept: &Parameters) -> [u8; 18] {
+    let mut tags = match random.below(4) {
+        0 => vec![0x09, 9, 0x1C, 0x42, 0x48, 0, 0],
+        1 => vec![0x09, 0, 0x5A, 0x01, 0x2C],
+        2 => vec![0x09, 10],
+        _ => vec![0x09, 2, 0x1C, 0x42, 0x48, 0, 0],
     };
-    body[..command.len()].copy_from_slice(command);
+    if tags[1] == 2 {
+        let octets = fewest_octets(time_about(random, kept));
+        tags.push(FADE_TIME * 16 + 8 + octets.len() as u8);
+        tags.extend(octets);
+    }
+    let mut body = [0; 18];
+    body[0] = tags.len() as u8;
+    body[1..=tags.len()].copy_from_slice(&tags);
     if random.one_in(5) {
         body[random.below(18) as usize] = random.below(256) as u8;
     }

@@ -98,7 +98,7 @@ fn output_of(record: &Record, time: u64) -> Output {
 
 /// Every field of it is written.
 fn a_fresh_output() -> Output {
-    Output::fresh(&Parameters::of_document_01(1))
+    Output::fresh(&Parameters::of_old_panel(1))
 }
 
 /// One that the plain panel makes itself: STOP with a duration of 100 ms.
@@ -107,7 +107,7 @@ fn a_duration() -> RunningDuration {
     let mut stop = [0; 17];
     stop[0] = frame::STOP;
     stop[16] = 100;
-    output.command(&Parameters::of_document_01(1), &stop);
+    output.command(&Parameters::of_old_panel(1), &stop);
     output.duration.expect("STOP set it")
 }
 

@@ -83,11 +83,11 @@ pub struct Kept {
 }
 
 impl Kept {
-    /// The set of document 01.
+    /// The old panel's set.
     pub fn at(time: u64, outputs: usize) -> Kept {
         Kept {
             time,
-            parameters: Parameters::of_document_01(outputs as u32),
+            parameters: Parameters::of_old_panel(outputs as u32),
         }
     }
 }

@@ -2,9 +2,10 @@
 //! of their ranges and beside them, exact counts, the rules and ranges that read
 //! the kept set, and starts over lent tables.
 
-use generator::suites::set::EDGES;
-use plain::settings::LONGEST;
-use plain::{Parameter, Parameters};
+use generator::suites::set::edges_of;
+use plain::settings::{FOUR_HOURS, LONGEST};
+use plain::tag_writer::fewest_octets;
+use plain::{tags, Parameter, Parameters};
 
 use crate::record::{Activity, Record, Station, LONGEST_FRAME};
 use crate::states::{state, NOW};
@@ -19,14 +20,34 @@ const SHOP: Parameters = Parameters {
 };
 
 /// What no panel can be started with, and what it can: one out on each side,
-/// each end, and the greatest number.
-const NUMBERS: [(Parameter, [u32; 5]); 4] = [
-    (Parameter::Stations, [0, 1, 32, 33, u32::MAX]),
-    (Parameter::Outputs, [0, 1, 64, 65, u32::MAX]),
-    (Parameter::Fade, [99, 100, LONGEST, LONGEST + 1, u32::MAX]),
+/// each end, and the greatest number; of a longest fade a day too, where its
+/// range ended before §7, and of a longest duration four hours.
+const NUMBERS: [(Parameter, &[u32]); 4] = [
+    (Parameter::Stations, &[0, 1, 32, 33, u32::MAX]),
+    (Parameter::Outputs, &[0, 1, 64, 65, u32::MAX]),
+    (
+        Parameter::Fade,
+        &[
+            99,
+            100,
+            FOUR_HOURS - 1,
+            FOUR_HOURS,
+            FOUR_HOURS + 1,
+            LONGEST,
+            u32::MAX,
+        ],
+    ),
     (
         Parameter::Duration,
-        [99, 100, LONGEST, LONGEST + 1, u32::MAX],
+        &[
+            99,
+            100,
+            FOUR_HOURS,
+            FOUR_HOURS + 1,
+            LONGEST,
+            LONGEST + 1,
+            u32::MAX,
+        ],
     ),
 ];
 
@@ -81,7 +102,7 @@ fn read(station: u8, number: u32, time: u64, output: u8, property: u8) -> Vec<u8
 fn kept_numbers(text: &mut Text) {
     for (parameter, numbers) in NUMBERS {
         for number in numbers {
-            let set = with(parameter, number);
+            let set = with(parameter, *number);
             text.comment(&format!("kept: {}", words(&set)));
             tables(text, &set);
             text.keep(&set);
@@ -130,7 +151,7 @@ fn counts(text: &mut Text) {
 
 /// What the last of two outputs may hold at each longest fade.
 fn records(text: &mut Text) {
-    for fade in EDGES {
+    for fade in edges_of(Parameter::Fade) {
         let set = with(Parameter::Fade, fade);
         text.comment(&format!("records, kept: {}", words(&set)));
         for record in records_at(&set) {
@@ -189,7 +210,15 @@ fn records_at(set: &Parameters) -> Vec<Record> {
 fn ranges(text: &mut Text) {
     let whole = |number: u32| number.to_be_bytes().to_vec();
     let level = 50.0_f32.to_bits().to_be_bytes().to_vec();
-    for (set, property) in [(SHOP, 0x0D), (with(Parameter::Fade, 100), 0x02)] {
+    let greatest = Parameters {
+        duration: LONGEST,
+        ..with(Parameter::Fade, FOUR_HOURS)
+    };
+    for (set, property) in [
+        (SHOP, 0x0D),
+        (with(Parameter::Fade, 100), 0x02),
+        (greatest, 0x02),
+    ] {
         text.comment(&format!("frames after a start, {}", words(&set)));
         for more in [0, 1] {
             let (fade, duration) = (set.fade + more, set.duration + more);
@@ -201,11 +230,10 @@ fn ranges(text: &mut Text) {
                 (0x12, [level.clone(), whole(fade), whole(u32::MAX)].concat()),
                 (0x12, [level.clone(), whole(100), whole(duration)].concat()),
                 (0x1A, whole(duration)),
-                (0x1B, tagged(&[0x09, 10, 0x5A], duration)),
+                (0x1B, tagged(&[0x09, 10], tags::DURATION, duration)),
             ];
             let fade_to_over = [&[0x09, 2, 0x1C][..], &level].concat();
-            let tag = if fade < 256 { 0x49 } else { 0x4A };
-            frames.push((0x1B, tagged(&[&fade_to_over[..], &[tag]].concat(), fade)));
+            frames.push((0x1B, tagged(&fade_to_over, tags::FADE_TIME, fade)));
             for (kind, adds) in frames {
                 let head = Head {
                     station: 2,
@@ -231,15 +259,12 @@ fn ranges(text: &mut Text) {
     }
 }
 
-/// L and 17 bytes: these, and a whole number in one or two octets.
-fn tagged(tags: &[u8], number: u32) -> Vec<u8> {
-    let mut bytes = tags.to_vec();
-    bytes.extend(
-        number
-            .to_be_bytes()
-            .into_iter()
-            .skip_while(|octet| *octet == 0),
-    );
+/// L and 17 bytes: these, and a whole number under its tag in the fewest octets.
+fn tagged(others: &[u8], tag: u8, number: u32) -> Vec<u8> {
+    let octets = fewest_octets(number);
+    let mut bytes = others.to_vec();
+    bytes.push(tag * 16 + 8 + octets.len() as u8);
+    bytes.extend(octets);
     let length = bytes.len() as u8;
     bytes.resize(17, 0);
     [vec![length], bytes].concat()
@@ -274,7 +299,7 @@ fn starts(text: &mut Text) {
         duration: 0,
     };
     for kept in [SHOP, broken] {
-        for fade in EDGES {
+        for fade in edges_of(Parameter::Fade) {
             let set = with(Parameter::Fade, fade);
             text.comment(&format!("a start with {}", words(&set)));
             used_tables(text, set.outputs, set.stations);
@@ -309,7 +334,7 @@ fn starts(text: &mut Text) {
 fn refused_starts(text: &mut Text) {
     for (parameter, numbers) in NUMBERS {
         for number in numbers {
-            let set = with(parameter, number);
+            let set = with(parameter, *number);
             if set.out_of_range().is_none() {
                 continue;
             }
@@ -352,7 +377,7 @@ mod tests {
     /// other half breaks that rule alone.
     #[test]
     fn each_record_breaks_one_rule_or_none() {
-        for fade in EDGES {
+        for fade in edges_of(Parameter::Fade) {
             let kept = Kept {
                 time: NOW,
                 parameters: with(Parameter::Fade, fade),

@@ -1,5 +1,7 @@
 //! Records in every state that the rules allow, at panel time `NOW`.
 
+use plain::settings::{FOUR_HOURS, LONGEST};
+
 use crate::record::{Activity, Last, Record};
 use crate::text::PERCENT;
 
@@ -97,12 +99,12 @@ pub fn states() -> Vec<(&'static str, Record)> {
             "settings at their greatest values",
             with(Record::fresh(), |record| {
                 record.default = 100 * PERCENT;
-                record.fade = 86_400_000;
+                record.fade = FOUR_HOURS;
                 record.ramp = 100.0_f32.to_bits();
                 record.step = 100.0_f32.to_bits();
                 record.enable = true;
-                record.blink = 86_400_000;
-                record.delay = 86_400_000;
+                record.blink = LONGEST;
+                record.delay = LONGEST;
                 record.min = 100 * PERCENT;
                 record.active = 100 * PERCENT;
                 record.inactive = 100 * PERCENT - 1;
@@ -140,8 +142,8 @@ pub fn states() -> Vec<(&'static str, Record)> {
         ),
         ("a fade of 1 ms", moving(100, half, 1, 1, None)),
         (
-            "a fade of a day",
-            moving(0, half, 86_400_000, 86_399_000, None),
+            "a fade of four hours",
+            moving(0, half, FOUR_HOURS, 14_399_000, None),
         ),
         (
             "a fade that began before the panel's time 0",
@@ -283,6 +285,12 @@ pub fn states() -> Vec<(&'static str, Record)> {
             "last FADE_TO_OVER, lasting",
             with(Record::fresh(), |record| {
                 record.last = last(2, 50.0, 1_000, 2, 5_000);
+            }),
+        ),
+        (
+            "last FADE_TO_OVER, over longer than any may",
+            with(Record::fresh(), |record| {
+                record.last = last(2, 50.0, LONGEST, 0, 0);
             }),
         ),
         (

@@ -1,6 +1,6 @@
 //! The rows of crates/lent_tables/stdin: each rule broken alone in each place,
 //! counts, and every state that the rules allow, each with a few frames, at the
-//! set of document 01; then sets and starts.
+//! old panel's set; then sets and starts.
 
 use crate::breaking::breaking;
 use crate::record::{Record, Station, LONGEST_FRAME};

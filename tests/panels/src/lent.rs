@@ -24,7 +24,7 @@ pub const OWNER: u8 = 16;
 
 const FROM: [u32; 8] = [0, 1, 2, 999, 65_535, 65_536, 3_276_800, 6_553_600];
 const TO: [u32; 3] = [0, 65_536, 6_553_600];
-const LENGTHS: [u32; 7] = [1, 2, 7, 100, 1_319, 10_000, 86_400_000];
+const LENGTHS: [u32; 7] = [1, 2, 7, 100, 1_319, 10_000, 14_400_000];
 const RATES: [u32; 12] = [
     0,
     1,
@@ -66,7 +66,7 @@ pub fn lent_movements() -> Vec<LentMovement> {
 /// first, and then ever more; or all of it at once.
 pub fn steps() -> [Vec<u64>; 3] {
     let mut fine = vec![1; 12];
-    fine.extend([2, 5, 11, 23, 47, 900, 1, 318, 1, 1, 900, 3_000]);
+    fine.extend([2, 5, 11, 23, 47, 119, 1, 1, 779, 1, 318, 1, 1, 900, 3_000]);
     [fine, vec![333; 10], vec![3_000]]
 }
 
@@ -86,7 +86,7 @@ impl LentMovement {
             reached: 0,
         };
         movement.reached = movement.level_after(movement.gone);
-        let mut output = Output::fresh(&Parameters::of_document_01(1));
+        let mut output = Output::fresh(&Parameters::of_old_panel(1));
         output.store(OWNER, self.to);
         output.movement = Some(movement);
         let live = |step: &u64| {

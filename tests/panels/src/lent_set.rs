@@ -58,6 +58,8 @@ const DONE: Answer = Answer::Done;
 const TABLES: Answer = Answer::Refused(1);
 const PARAMETER: Answer = Answer::Refused(17);
 const DAY: u32 = 86_400_000;
+/// The greatest longest fade (§7).
+const FOUR_HOURS: u32 = 14_400_000;
 
 fn set(stations: u32, outputs: u32, fade: u32, duration: u32) -> Parameters {
     Parameters {
@@ -78,9 +80,17 @@ fn sets() -> Vec<(Parameters, bool)> {
     for (number, good) in [(0, false), (1, true), (64, true), (65, false)] {
         sets.push((set(3, number, 500, 600), good));
     }
-    for (number, good) in [(99, false), (100, true), (DAY, true), (DAY + 1, false)] {
-        sets.push((set(3, 2, number, 600), good));
-        sets.push((set(3, 2, 500, number), good));
+    for number in [
+        99,
+        100,
+        FOUR_HOURS - 1,
+        FOUR_HOURS,
+        FOUR_HOURS + 1,
+        DAY,
+        DAY + 1,
+    ] {
+        sets.push((set(3, 2, number, 600), (100..=FOUR_HOURS).contains(&number)));
+        sets.push((set(3, 2, 500, number), (100..=DAY).contains(&number)));
     }
     sets
 }
@@ -164,16 +174,29 @@ fn numbers() -> Vec<LentSet> {
 /// What a record may hold at each longest fade.
 fn records() -> Vec<LentSet> {
     let mut all = Vec::new();
-    for longest in [100, 500, 1_000, 799_999, 800_000, 800_001, DAY] {
+    for longest in [
+        100,
+        500,
+        1_000,
+        799_999,
+        800_000,
+        800_001,
+        FOUR_HOURS - 1,
+        FOUR_HOURS,
+    ] {
         let most = longest.max(800_000);
         for (held, good) in [
             (Held::FadeTime(99), false),
             (Held::FadeTime(100), true),
             (Held::FadeTime(longest), true),
             (Held::FadeTime(longest + 1), false),
+            (Held::FadeTime(DAY), false),
             (Held::Movement(1), true),
             (Held::Movement(most), true),
             (Held::Movement(most + 1), false),
+            (Held::Movement(DAY), false),
+            (Held::BlinkTime(FOUR_HOURS + 1), true),
+            (Held::BlinkWarnDelay(FOUR_HOURS + 1), true),
             (Held::BlinkTime(DAY), true),
             (Held::BlinkTime(DAY + 1), false),
             (Held::BlinkWarnDelay(DAY), true),

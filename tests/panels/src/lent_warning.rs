@@ -55,7 +55,7 @@ pub fn lent_warnings() -> Vec<LentWarning> {
 impl LentWarning {
     /// Binary_Present_Value at that moment, the milliseconds lived one by one.
     pub fn active_lived(&self) -> bool {
-        let mut output = Output::fresh(&Parameters::of_document_01(1));
+        let mut output = Output::fresh(&Parameters::of_old_panel(1));
         output.store(STRONGER_SLOT, self.stronger);
         output.store(BLINK_SLOT, 0);
         output.store(OWN_SLOT, 0);

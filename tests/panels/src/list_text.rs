@@ -2,7 +2,7 @@
 //!
 //! The first line that is no comment is the heading: `outputs C`, then any of
 //! `stations S`, `fade F` and `duration D`, each at most once and in any order
-//! (§6). Those that are left out are document 01's. Every further line is a
+//! (§6). Those that are left out are the old panel's. Every further line is a
 //! string of bytes in hexadecimal, either case, with blanks allowed between
 //! bytes; `-` is the empty string. Blank lines and lines that begin with `#` are
 //! comments.
@@ -41,7 +41,7 @@ pub fn read_heading(line: &str) -> Result<Option<Parameters>, String> {
         .ok_or(NO_OUTPUTS)?;
     let mut words = further.split(BLANKS).filter(|word| !word.is_empty());
     let outputs = words.next().and_then(read_number).ok_or(NO_COUNT)?;
-    let mut parameters = Parameters::of_document_01(outputs);
+    let mut parameters = Parameters::of_old_panel(outputs);
     let mut left = vec![Parameter::Stations, Parameter::Fade, Parameter::Duration];
     while let Some(word) = words.next() {
         let place = left.iter().position(|parameter| parameter.name() == word);

@@ -8,9 +8,9 @@ pub trait Panel: Sized {
     /// A panel after a start that answered Done; else the start's answer.
     fn start(parameters: Parameters) -> Result<Self, Answer>;
 
-    /// A panel with the numbers of document 01. The caller gives 1 to 64.
+    /// A panel with the old panel's numbers. The caller gives 1 to 64.
     fn with_outputs(outputs: u32) -> Self {
-        let started = Self::start(Parameters::of_document_01(outputs));
+        let started = Self::start(Parameters::of_old_panel(outputs));
         started.unwrap_or_else(|answer| panic!("{outputs} outputs: {answer}"))
     }
 

@@ -43,26 +43,26 @@ impl<Chosen: Panel> Bench<Chosen> {
         );
     }
 
-    /// FADE_TO_OVER one percent over a day.
-    fn fade_over_a_day(&mut self, time: u64, duration: &str) {
-        let fields = format!("3F800000 05265C00 {duration}");
+    /// FADE_TO_OVER one percent, as long as can be.
+    fn fade_over_four_hours(&mut self, time: u64, duration: &str) {
+        let fields = format!("3F800000 00DBBA00 {duration}");
         assert_eq!(self.frame(0x12, time, &fields), Answer::Done);
     }
 }
 
-/// "Up to 1,319 ms of a day's fade by one percent."
+/// 220 ms of a fade by one percent over four hours: one unit takes 219.7 ms.
 fn a_rise_is_dark_at_first<Chosen: Panel>(mut bench: Bench<Chosen>) {
-    bench.fade_over_a_day(0, ABSENT);
+    bench.fade_over_four_hours(0, ABSENT);
     assert_eq!(bench.found().present_value, 65_536);
     bench.burns(&[
         (1, 0, 0),
-        (1_318, 0, 0),
-        (1_319, 0, 1),
-        (1_320, 1, 1),
-        (3_000, 1_681, 2),
-        (86_399_999, 86_398_680, 65_535),
-        (86_400_000, 86_398_681, 65_536),
-        (86_400_001, 86_398_682, 65_536),
+        (219, 0, 0),
+        (220, 0, 1),
+        (221, 1, 1),
+        (3_000, 2_780, 13),
+        (14_399_999, 14_399_779, 65_535),
+        (14_400_000, 14_399_780, 65_536),
+        (14_400_001, 14_399_781, 65_536),
     ]);
 }
 
@@ -93,52 +93,52 @@ fn between_lit_levels_there_is_light<Chosen: Panel>(mut bench: Bench<Chosen>) {
 }
 
 fn a_stop_in_the_dark<Chosen: Panel>(mut bench: Bench<Chosen>) {
-    bench.fade_over_a_day(0, ABSENT);
-    bench.frame(0x10, 1_318, ABSENT);
+    bench.fade_over_four_hours(0, ABSENT);
+    bench.frame(0x10, 219, ABSENT);
     bench.burns(&[(5_000, 0, 0)]);
     // One millisecond later there is light, raised to Min.
-    bench.fade_over_a_day(5_000, ABSENT);
-    bench.frame(0x10, 6_319, ABSENT);
-    bench.burns(&[(6_319, 0, 65_536), (7_000, 681, 65_536)]);
+    bench.fade_over_four_hours(5_000, ABSENT);
+    bench.frame(0x10, 5_220, ABSENT);
+    bench.burns(&[(5_220, 0, 65_536), (7_000, 1_780, 65_536)]);
 }
 
 /// It starts from Progress_Value, which is zero.
 fn a_command_in_the_dark<Chosen: Panel>(mut bench: Bench<Chosen>) {
-    bench.fade_over_a_day(0, ABSENT);
-    bench.fade_over_a_day(1_000, ABSENT);
-    bench.burns(&[(2_318, 0, 0), (2_319, 0, 1), (2_320, 1, 1)]);
+    bench.fade_over_four_hours(0, ABSENT);
+    bench.fade_over_four_hours(100, ABSENT);
+    bench.burns(&[(319, 0, 0), (320, 0, 1), (321, 1, 1)]);
     bench.goto(3_000, "00000000");
-    bench.fade_over_a_day(3_000, ABSENT);
-    bench.frame(0x12, 3_500, &format!("00000000 000003E8 {ABSENT}"));
+    bench.fade_over_four_hours(3_000, ABSENT);
+    bench.frame(0x12, 3_100, &format!("00000000 000003E8 {ABSENT}"));
     assert!(!bench.found().in_process);
-    bench.burns(&[(5_000, 681, 0)]);
+    bench.burns(&[(5_000, 2_680, 0)]);
 }
 
 /// The millisecond before counts by what was before the due moment.
 fn a_duration_that_ends_a_rise<Chosen: Panel>(mut bench: Bench<Chosen>) {
     bench.frame(0x04, 0, "01 42480000");
     bench.goto(0, "00000000");
-    bench.fade_over_a_day(0, &format!("{:08X}", 1_320));
-    bench.burns(&[(1_319, 0, 1), (1_320, 1, 3_276_800), (1_330, 11, 3_276_800)]);
+    bench.fade_over_four_hours(0, &format!("{:08X}", 221));
+    bench.burns(&[(220, 0, 1), (221, 1, 3_276_800), (231, 11, 3_276_800)]);
     bench.goto(2_000, "00000000");
-    bench.fade_over_a_day(2_000, &format!("{:08X}", 1_000));
+    bench.fade_over_four_hours(2_000, &format!("{:08X}", 200));
     bench.burns(&[
-        (2_999, 681, 0),
-        (3_000, 681, 3_276_800),
-        (3_001, 682, 3_276_800),
+        (2_199, 1_780, 0),
+        (2_200, 1_780, 3_276_800),
+        (2_201, 1_781, 3_276_800),
     ]);
 }
 
 fn cleared_in_the_dark<Chosen: Panel>(mut bench: Bench<Chosen>) {
     bench.goto(0, "42480000");
     bench.goto(700, "00000000");
-    bench.fade_over_a_day(700, ABSENT);
-    bench.burns(&[(1_000, 700, 0)]);
-    assert_eq!(bench.frame(0x04, 1_500, "0B 00000000"), Answer::Done);
-    // The light begins at 2,019.
-    bench.burns(&[(2_019, 0, 1), (2_020, 1, 1)]);
-    assert_eq!(bench.frame(0x05, 3_018, "0B"), Answer::Value(0));
-    assert_eq!(bench.frame(0x05, 3_019, "0B"), Answer::Value(1));
+    bench.fade_over_four_hours(700, ABSENT);
+    bench.burns(&[(800, 700, 0)]);
+    assert_eq!(bench.frame(0x04, 850, "0B 00000000"), Answer::Done);
+    // The light begins at 920.
+    bench.burns(&[(920, 0, 1), (921, 1, 1)]);
+    assert_eq!(bench.frame(0x05, 1_919, "0B"), Answer::Value(0));
+    assert_eq!(bench.frame(0x05, 1_920, "0B"), Answer::Value(1));
 }
 
 fn a_warning_goes_by_what_is_shown<Chosen: Panel>(mut bench: Bench<Chosen>) {
@@ -146,9 +146,9 @@ fn a_warning_goes_by_what_is_shown<Chosen: Panel>(mut bench: Bench<Chosen>) {
     bench.frame(0x04, 0, "06 00000064");
     bench.frame(0x04, 0, "07 000000C8");
     // In the dark part of a rise Present_Value is above zero: it warns.
-    bench.fade_over_a_day(0, ABSENT);
-    assert_eq!(bench.frame(0x02, 500, "10 00000000"), Answer::Done);
-    bench.burns(&[(600, 0, 65_536), (700, 100, 65_536), (900, 200, 0)]);
+    bench.fade_over_four_hours(0, ABSENT);
+    assert_eq!(bench.frame(0x02, 100, "10 00000000"), Answer::Done);
+    bench.burns(&[(200, 0, 65_536), (300, 100, 65_536), (500, 200, 0)]);
 }
 
 #[test]

@@ -12,7 +12,7 @@ on_both_panels! {
     a_fall_to_zero_burns_to_its_end_alone
     a_command_starts_from_the_target
     a_fade_goes_on_where_the_low_bits_begin_anew
-    a_day_late_in_the_panels_time
+    four_hours_late_in_the_panels_time
 }
 
 const ABSENT: &str = "FFFFFFFF";
@@ -41,16 +41,6 @@ impl<Chosen: Panel> Bench<Chosen> {
     fn fade(&mut self, time: u64, level: &str) {
         let answer = self.frame(0x12, time, &format!("{level} 000003E8 {ABSENT}"));
         assert_eq!(answer, Answer::Done);
-    }
-
-    fn moves(&mut self, time: u64, expected: (bool, u32, u64)) {
-        self.clock(time);
-        let found = self.found();
-        assert_eq!(
-            (found.in_process, found.progress_value, found.burning),
-            expected,
-            "at {time}"
-        );
     }
 }
 
@@ -134,12 +124,12 @@ fn a_fade_goes_on_where_the_low_bits_begin_anew<Chosen: Panel>(mut bench: Bench<
 }
 
 /// The longest fade, and as late as it can be lived to its end.
-fn a_day_late_in_the_panels_time<Chosen: Panel>(mut bench: Bench<Chosen>) {
-    let start = (1 << 48) - 1 - 86_400_000;
+fn four_hours_late_in_the_panels_time<Chosen: Panel>(mut bench: Bench<Chosen>) {
+    let start = (1 << 48) - 1 - 14_400_000;
     bench.goto(start, "00000000");
-    let fields = format!("42C80000 05265C00 {ABSENT}");
+    let fields = format!("42C80000 00DBBA00 {ABSENT}");
     assert_eq!(bench.frame(0x12, start, &fields), Answer::Done);
-    bench.moves(start + 43_200_000, (true, 3_276_800, 43_199_986));
-    bench.moves(start + 86_399_999, (true, 6_553_599, 86_399_985));
-    bench.moves(start + 86_400_000, (false, 6_553_600, 86_399_986));
+    bench.moves(start + 7_200_000, (true, 3_276_800, 7_199_997));
+    bench.moves(start + 14_399_999, (true, 6_553_599, 14_399_996));
+    bench.moves(start + 14_400_000, (false, 6_553_600, 14_399_997));
 }

@@ -11,11 +11,18 @@ use panels::{Answer, FastPanel, Panel, Parameters, PlainPanel};
 const DONE: Answer = Answer::Done;
 const REFUSED_12: Answer = Answer::Refused(12);
 const DAY: u32 = 86_400_000;
+/// The greatest longest fade (§7).
+const FOUR_HOURS: u32 = 14_400_000;
 /// 50 percent, as a REAL.
 const HALF: &str = "42480000";
 
-/// Longest fades and durations.
-const LONGEST: [u32; 10] = [
+/// Longest fades.
+const FADES: [u32; 10] = [
+    100, 101, 999, 1_000, 1_001, 799_999, 800_000, 800_001, 14_399_999, FOUR_HOURS,
+];
+
+/// Longest durations.
+const DURATIONS: [u32; 10] = [
     100, 101, 999, 1_000, 1_001, 799_999, 800_000, 800_001, 86_399_999, DAY,
 ];
 
@@ -93,8 +100,8 @@ mod of {
                 [(1, 0, 100, 100), (1, 65, 100, 100)],
             ),
             (
-                [(1, 1, 100, 100), (1, 1, DAY, 100)],
-                [(1, 1, 99, 100), (1, 1, DAY + 1, 100)],
+                [(1, 1, 100, 100), (1, 1, FOUR_HOURS, 100)],
+                [(1, 1, 99, 100), (1, 1, FOUR_HOURS + 1, 100)],
             ),
             (
                 [(1, 1, 100, 100), (1, 1, 100, DAY)],
@@ -113,7 +120,7 @@ mod of {
 
     pub fn stations<Chosen: Panel>() {
         for stations in [1, 2, 3, 8, 30, 31, 32] {
-            let mut bench = Bench::<Chosen>::with(set(stations, DAY, DAY));
+            let mut bench = Bench::<Chosen>::with(set(stations, FOUR_HOURS, DAY));
             let mut of = |station: u32| {
                 bench.bytes(&format!("05 {station:02X} 00000001 000000000000 00 0E"))
             };
@@ -127,7 +134,7 @@ mod of {
     }
 
     pub fn fade_times<Chosen: Panel>() {
-        for longest in LONGEST {
+        for longest in FADES {
             // The other number is as far away as can be.
             for duration in [100, DAY] {
                 let mut bench = Bench::<Chosen>::with(set(8, longest, duration));
@@ -148,8 +155,8 @@ mod of {
     }
 
     pub fn durations<Chosen: Panel>() {
-        for longest in LONGEST {
-            for fade in [100, DAY] {
+        for longest in DURATIONS {
+            for fade in [100, FOUR_HOURS] {
                 let mut bench = Bench::<Chosen>::with(set(8, fade, longest));
                 for (value, answer) in [
                     (0, DONE),
@@ -175,7 +182,7 @@ mod of {
     }
 
     pub fn blink_times<Chosen: Panel>() {
-        for (fade, duration) in [(100, 100), (100, DAY), (DAY, 100), (DAY, DAY)] {
+        for (fade, duration) in [(100, 100), (100, DAY), (FOUR_HOURS, 100), (FOUR_HOURS, DAY)] {
             let mut bench = Bench::<Chosen>::with(set(8, fade, duration));
             for property in [0x06, 0x07] {
                 for value in [0, 99, 101, DAY] {
@@ -188,7 +195,7 @@ mod of {
     }
 
     pub fn fresh_fade_times<Chosen: Panel>() {
-        for longest in LONGEST {
+        for longest in FADES {
             let mut bench = Bench::<Chosen>::with(set(8, longest, DAY));
             let fresh = longest.min(1_000);
             assert_eq!(read(&mut bench, 0, 0x02), Answer::Value(fresh));
@@ -217,7 +224,7 @@ mod of {
     /// A hotel: thirty stations, all of them with numbers of their own, and
     /// frames that come again.
     pub fn copies<Chosen: Panel>() {
-        let mut bench = Bench::<Chosen>::with(set(30, DAY, DAY));
+        let mut bench = Bench::<Chosen>::with(set(30, FOUR_HOURS, DAY));
         let step = |station: u32| {
             let number = 31 - station;
             format!("17 {station:02X} {number:08X} 000000000000 00 3F800000 FFFFFFFF")

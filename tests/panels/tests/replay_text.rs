@@ -83,7 +83,7 @@ fn bad_first_lines() {
 fn refused_starts() {
     let stations = "`stations` is to be 1 to 32: Refused 17";
     let outputs = "`outputs` is to be 1 to 64: Refused 17";
-    let fade = "`fade` is to be 100 to 86400000: Refused 17";
+    let fade = "`fade` is to be 100 to 14400000: Refused 17";
     let duration = "`duration` is to be 100 to 86400000: Refused 17";
     for (heading, wrong) in [
         ("outputs 0", outputs),
@@ -93,7 +93,9 @@ fn refused_starts() {
         ("outputs 1 stations 0", stations),
         ("outputs 1 stations 33", stations),
         ("outputs 1 fade 99", fade),
-        ("outputs 1 fade 86400001", fade),
+        ("outputs 1 fade 14400001", fade),
+        ("outputs 1 fade 86400000", fade),
+        ("outputs 1 fade 86400000 duration 86400000", fade),
         ("outputs 1 duration 99", duration),
         ("outputs 1 duration 86400001", duration),
         (
@@ -122,6 +124,7 @@ fn bad_lists() {
         "first",
         "great",
         "great-fade",
+        "long-fade",
         "no-count",
         "no-number",
         "stations",
@@ -145,7 +148,7 @@ fn bad_lists() {
     }
 }
 
-/// §6: words in any order, blanks between them, and document 01's numbers for
+/// §6: words in any order, blanks between them, and the old panel's numbers for
 /// those that are left out.
 #[test]
 fn headings() {
@@ -162,7 +165,7 @@ fn headings() {
             250,
         ),
         (
-            "outputs 2 stations 8 fade 86400000 duration 86400000",
+            "outputs 2 stations 8 fade 14400000 duration 86400000",
             8,
             1_000,
         ),

@@ -120,8 +120,13 @@ fn octets_of_whole_numbers<Chosen: Panel>(mut bench: Bench<Chosen>) {
         DONE,
         "0900 5900, 0900 59FF, 0900 5A0100, 0900 5AFFFF, 0900 5B010000, \
          0900 5BFFFFFF, 0900 5C01000000, 0902 1C00000000 49FF, \
-         0902 1C00000000 4A0100, 0902 1C00000000 4BFFFFFF, \
-         0902 1C00000000 4C01000000 5C01000000",
+         0902 1C00000000 4A0100, 0902 1C00000000 4B010000, \
+         0902 1C00000000 4BDBBA00 5C01000000",
+    );
+    // In the fewest octets, and longer than anyone fades (§7).
+    bench.all_answered(
+        Answer::Refused(12),
+        "0902 1C00000000 4BFFFFFF, 0902 1C00000000 4C01000000 5C01000000",
     );
     bench.all_answered(
         TAGGED_FIELD,

@@ -3,7 +3,7 @@
 
 use std::ops::RangeInclusive;
 
-use crate::settings::{LONGEST, SHORTEST};
+use crate::settings::{FOUR_HOURS, LONGEST, SHORTEST};
 
 /// Any four numbers; those that may be started are told by `out_of_range`.
 #[derive(Clone, Copy, Debug, PartialEq, Eq)]
@@ -42,24 +42,26 @@ impl Parameter {
         }
     }
 
-    /// "Stations 1 to 32, outputs 1 to 64, longest fade time 100 to 86,400,000,
-    /// longest duration likewise."
+    /// "Stations 1 to 32, outputs 1 to 64, longest fade time 100 to", since §7,
+    /// 14,400,000; the longest duration ends at 86,400,000 as it did.
     pub fn range(self) -> RangeInclusive<u32> {
         match self {
             Parameter::Stations => 1..=32,
             Parameter::Outputs => 1..=64,
-            Parameter::Fade | Parameter::Duration => SHORTEST..=LONGEST,
+            Parameter::Fade => SHORTEST..=FOUR_HOURS,
+            Parameter::Duration => SHORTEST..=LONGEST,
         }
     }
 }
 
 impl Parameters {
-    /// "The old panel is the set 8, its output count, 86,400,000, 86,400,000."
-    pub fn of_document_01(outputs: u32) -> Parameters {
+    /// "The old panel is the set 8, its output count", and §7: "The old panel's
+    /// set now ends in 14,400,000, 86,400,000."
+    pub fn of_old_panel(outputs: u32) -> Parameters {
         Parameters {
             stations: 8,
             outputs,
-            fade: LONGEST,
+            fade: FOUR_HOURS,
             duration: LONGEST,
         }
     }
@@ -89,7 +91,7 @@ impl Parameters {
             .find(|parameter| !parameter.range().contains(&self.of(*parameter)))
     }
 
-    /// "Fade times: 100 to 86,400,000", now to the longest fade.
+    /// "Fade times: 100 to" the longest fade, which §7 ends at four hours.
     pub fn is_fade_time(&self, milliseconds: u32) -> bool {
         (SHORTEST..=self.fade).contains(&milliseconds)
     }

@@ -32,10 +32,13 @@ pub const RELAY_STATE: u8 = 0x1B;
 pub const FIRST_SLOT: u8 = 0x21;
 pub const LAST_SLOT: u8 = 0x30;
 
-/// A day: the longest blink times, and the greatest longest fade and duration
-/// that a panel may be started with (§6).
+/// A day: the longest blink times, and the greatest longest duration that a
+/// panel may be started with (§6).
 pub const LONGEST: u32 = 86_400_000;
-/// "Duration: 100 to 86,400,000 sets. Fade times: 100 to 86,400,000."
+/// §7: "That becomes the greatest value of the longest fade parameter, of
+/// Fade_Time and of every fade time."
+pub const FOUR_HOURS: u32 = 14_400_000;
+/// "Duration: 100 to 86,400,000 sets. Fade times: 100 to" the longest fade.
 pub const SHORTEST: u32 = 100;
 /// "FFFFFFFF means absent."
 pub const ABSENT_DURATION: u32 = 0xFFFF_FFFF;

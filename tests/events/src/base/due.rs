@@ -1,6 +1,7 @@
 //! Durations that fire, movements that run out, and warnings that turn or run
 //! out, on the way to a frame's time.
 
+use plain::settings::FOUR_HOURS;
 use plain::warning::Warning;
 
 use super::{Coincidence, Event, FiredIn, Memory};
@@ -96,8 +97,8 @@ fn movement(due: &Due, events: &mut Tally<Event>) {
             ramp: is_ramp(movement),
             up: goes_up(movement),
         });
-        if movement.length == DAY {
-            events.count(Event::WholeDayMovementRanOut);
+        if movement.length == u64::from(FOUR_HOURS) {
+            events.count(Event::LongestFadeRanOut);
         }
     }
 }

@@ -1,5 +1,6 @@
 //! The events of document 01, and one variant for those of each change.
 
+use crate::four_hours::FourHoursEvent;
 use crate::jump::JumpEvent;
 use crate::light::LightEvent;
 use crate::relay::RelayEvent;
@@ -193,6 +194,8 @@ pub enum Event {
     Tie(TieEvent),
     /// Sets of parameters (§6).
     Set(SetEvent),
+    /// Fade times of four hours and more (§7).
+    FourHours(FourHoursEvent),
 
     // Commands.
     Command {
@@ -218,8 +221,8 @@ pub enum Event {
         ramp: bool,
         up: bool,
     },
-    /// The longest fade, lived to its end.
-    WholeDayMovementRanOut,
+    /// The longest fade, lived to its end: four hours since §7.
+    LongestFadeRanOut,
 
     // Durations.
     DurationSet {

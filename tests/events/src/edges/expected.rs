@@ -3,8 +3,10 @@
 
 use plain::Parameter;
 
-use super::{tags, Edge, RealEdge, RealField, WholeField, EDGE_TIMES, WIDE_PRIORITIES};
-use crate::set;
+use super::{
+    tags, Edge, RealEdge, RealField, WholeField, EDGE_TIMES, FOUR_HOUR_EDGES, WIDE_PRIORITIES,
+};
+use crate::{four_hours, set};
 
 const REAL_EDGES: [RealEdge; 20] = [
     RealEdge::Zero,
@@ -37,10 +39,11 @@ fn of_reals(fields: &[RealField]) -> Vec<Edge> {
     fields.iter().flat_map(of_field).collect()
 }
 
-fn of_whole_numbers(fields: &[WholeField]) -> Vec<Edge> {
+fn of_whole_numbers(fields: &[WholeField], values: &[u32]) -> Vec<Edge> {
     let of_field = |field: &WholeField| {
         let field = *field;
-        EDGE_TIMES.map(|value| Edge::Whole { field, value })
+        let edges = values.iter().copied();
+        edges.map(move |value| Edge::Whole { field, value })
     };
     fields.iter().flat_map(of_field).collect()
 }
@@ -58,7 +61,7 @@ pub fn of_base() -> Vec<Edge> {
         RealField::Minimum,
         RealField::Maximum,
     ]);
-    edges.extend(of_whole_numbers(&[
+    let fields = [
         WholeField::Duration,
         WholeField::CommandFadeTime,
         WholeField::FadeTime,
@@ -66,7 +69,8 @@ pub fn of_base() -> Vec<Edge> {
         WholeField::BlinkTime,
         WholeField::BlinkWarnDelay,
         WholeField::ElapsedActiveTime,
-    ]));
+    ];
+    edges.extend(of_whole_numbers(&fields, &EDGE_TIMES));
     for priority in (0..=17).chain([255]) {
         edges.push(Edge::WritePriority(priority));
         edges.push(Edge::EmptyPriority(priority));
@@ -84,10 +88,8 @@ pub fn of_tags() -> Vec<Edge> {
         RealField::TaggedRate,
         RealField::TaggedStep,
     ]);
-    edges.extend(of_whole_numbers(&[
-        WholeField::TaggedDuration,
-        WholeField::TaggedFadeTime,
-    ]));
+    let fields = [WholeField::TaggedDuration, WholeField::TaggedFadeTime];
+    edges.extend(of_whole_numbers(&fields, &EDGE_TIMES));
     edges.extend(tags::expected().into_iter().map(Edge::Tagged));
     edges
 }
@@ -95,7 +97,7 @@ pub fn of_tags() -> Vec<Edge> {
 /// §3.
 pub fn of_relays() -> Vec<Edge> {
     let mut edges = of_reals(&[RealField::BinaryActiveValue, RealField::BinaryInactiveValue]);
-    edges.extend(of_whole_numbers(&[WholeField::Polarity]));
+    edges.extend(of_whole_numbers(&[WholeField::Polarity], &EDGE_TIMES));
     edges
 }
 
@@ -110,7 +112,8 @@ pub fn of_parameter(parameter: Parameter) -> Vec<u64> {
         Parameter::Stations => vec![0, 1, 2, 31, 32, 33],
         Parameter::Outputs => vec![0, 1, 63, 64, 65],
         Parameter::Fade | Parameter::Duration => {
-            let edges = [&[0, 99][..], &set::EDGES, &[86_400_001]].concat();
+            let past = parameter.range().end() + 1;
+            let edges = [&[0, 99][..], &set::edges_of(parameter), &[past]].concat();
             edges.into_iter().map(u64::from).collect()
         }
     };
@@ -125,4 +128,15 @@ pub fn of_sets() -> Vec<Edge> {
         edges.map(move |value| Edge::Parameter { parameter, value })
     };
     Parameter::ALL.into_iter().flat_map(of_one).collect()
+}
+
+/// §7: fade times and what keeps its day, and the two longest numbers of a set.
+pub fn of_four_hours() -> Vec<Edge> {
+    let fields = [&four_hours::FADE_TIMES[..], &four_hours::OTHERS].concat();
+    let mut edges = of_whole_numbers(&fields, &FOUR_HOUR_EDGES);
+    for parameter in [Parameter::Fade, Parameter::Duration] {
+        let values = FOUR_HOUR_EDGES.map(u64::from);
+        edges.extend(values.map(|value| Edge::Parameter { parameter, value }));
+    }
+    edges
 }

@@ -3,7 +3,7 @@
 mod expected;
 mod tags;
 
-pub use expected::{of_base, of_parameter, of_relays, of_sets, of_tags};
+pub use expected::{of_base, of_four_hours, of_parameter, of_relays, of_sets, of_tags};
 pub use tags::{TagEdge, EDGES_OF_OCTETS};
 
 use plain::frame::*;
@@ -117,6 +117,16 @@ pub const EDGE_TIMES: [u32; 13] = [
     0xFFFF_FFFF,
 ];
 
+/// Where fade times end since §7, and where they ended before.
+pub const FOUR_HOUR_EDGES: [u32; 6] = [
+    FOUR_HOURS - 1,
+    FOUR_HOURS,
+    FOUR_HOURS + 1,
+    LONGEST - 1,
+    LONGEST,
+    LONGEST + 1,
+];
+
 /// The edge that a REAL stands on, if any.
 fn real_edge(bits: u32) -> Option<RealEdge> {
     let real = f32::from_bits(bits);
@@ -150,7 +160,8 @@ fn real_edge(bits: u32) -> Option<RealEdge> {
 /// Counts the edges in the numbers of a heading.
 pub fn of_heading(words: &[(Parameter, u64)], tally: &mut Tally<Edge>) {
     for (parameter, value) in words.iter().copied() {
-        if of_parameter(parameter).contains(&value) {
+        let of_four_hours = FOUR_HOUR_EDGES.map(u64::from).contains(&value);
+        if of_four_hours || of_parameter(parameter).contains(&value) {
             tally.count(Edge::Parameter { parameter, value });
         }
     }
@@ -164,7 +175,7 @@ pub fn of_frame(bytes: &[u8], tally: &mut Tally<Edge>) {
         }
     };
     let whole = |tally: &mut Tally<Edge>, field, value| {
-        if EDGE_TIMES.contains(&value) {
+        if EDGE_TIMES.contains(&value) || FOUR_HOUR_EDGES.contains(&value) {
             tally.count(Edge::Whole { field, value });
         }
     };

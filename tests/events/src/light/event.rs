@@ -84,8 +84,8 @@ pub enum LightEvent {
         place: Place,
         own_movement: bool,
     },
-    /// A frame comes to such a moment of a day's fade by one percent, which is
-    /// dark for longer than any other movement.
+    /// A frame comes to such a moment of a fade by one percent over four hours,
+    /// which is dark for longer than any other movement (since §7).
     LongestDarkPart {
         place: Place,
     },

@@ -34,8 +34,6 @@ fn of_light() -> Vec<LightEvent> {
         let kind = kind.into();
         events.push(LightEvent::CommandedBackToZero { kind });
     }
-    let around = [Place::LastDark, Place::FirstLit, Place::SecondLit];
-    events.extend(around.map(|place| LightEvent::LongestDarkPart { place }));
     events.extend(BOTH.map(|just_then| LightEvent::FirstUnit { just_then }));
     events.extend(BOTH.map(|just_before| LightEvent::ElapsedReadAtSecond { just_before }));
     events

@@ -13,14 +13,16 @@ use plain::frame::*;
 use plain::last_command::LastCommand;
 use plain::movement::Movement;
 use plain::real;
-use plain::settings::{ELAPSED_ACTIVE_TIME, MAXIMUM, MINIMUM, PRESENT_VALUE, PROGRESS_VALUE};
+use plain::settings::{
+    ELAPSED_ACTIVE_TIME, FOUR_HOURS, MAXIMUM, MINIMUM, PRESENT_VALUE, PROGRESS_VALUE,
+};
 use plain::Output;
 
 use crate::base::Event;
 use crate::passing::{Due, Passed};
 use crate::seen::Act as Acted;
 use crate::tally::Tally;
-use crate::words::{is_ramp, Hexadecimal, Rank, DAY};
+use crate::words::{is_ramp, Hexadecimal, Rank};
 
 /// Properties whose writing burning time or a movement feels.
 const WRITTEN: [u8; 3] = [ELAPSED_ACTIVE_TIME, MINIMUM, MAXIMUM];
@@ -101,7 +103,7 @@ fn stretch(passed: &Passed, way: Way, begins: Place, mut note: impl FnMut(LightE
         return;
     };
     let (to, length) = (u64::from(movement.to), movement.length);
-    if to == u64::from(real::ONE_PERCENT) && length == DAY {
+    if to == u64::from(real::ONE_PERCENT) && length == u64::from(FOUR_HOURS) {
         note(LightEvent::LongestDarkPart { place: ends });
     }
     if ends == Place::FirstLit && movement.gone > 1 {

@@ -22,6 +22,10 @@ pub enum Moment {
     Over,
 }
 
+impl Moment {
+    pub const ALL: [Moment; 3] = [Moment::OnTheWay, Moment::LastMillisecond, Moment::Over];
+}
+
 /// What sort of movement it is that is looked at.
 #[derive(Clone, Copy, Debug, PartialEq, Eq, PartialOrd, Ord)]
 pub enum Lasting {

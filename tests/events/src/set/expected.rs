@@ -6,13 +6,18 @@ use super::*;
 use crate::base::Event;
 use crate::words::BOTH;
 
-/// Longest fades and durations: the ends of their range, beside a fresh
+/// Longest fades or durations: the ends of their range, beside a fresh
 /// Fade_Time, and beside the longest ramp.
-pub const EDGES: [u32; 10] = [
-    100, 101, 999, 1_000, 1_001, 799_999, 800_000, 800_001, 86_399_999, 86_400_000,
-];
+pub fn edges_of(parameter: Parameter) -> [u32; 10] {
+    let greatest = *parameter.range().end();
+    std::array::from_fn(|place| match place {
+        8 => greatest - 1,
+        9 => greatest,
+        _ => LIVED[place],
+    })
+}
 
-/// Those of them that can be lived to their end.
+/// Those of them that any list can live to their end.
 const LIVED: [u32; 8] = [100, 101, 999, 1_000, 1_001, 799_999, 800_000, 800_001];
 
 pub fn expected() -> Vec<Event> {
@@ -47,8 +52,8 @@ fn words() -> Vec<SetEvent> {
 }
 
 fn whole_numbers(events: &mut Vec<SetEvent>) {
-    for (field, _) in BOUNDED {
-        for longest in EDGES {
+    for (field, bound) in BOUNDED {
+        for longest in edges_of(bound) {
             for at in [Longest::Reached, Longest::Passed] {
                 events.push(SetEvent::Whole { field, longest, at });
             }
@@ -64,7 +69,7 @@ fn whole_numbers(events: &mut Vec<SetEvent>) {
 }
 
 fn movements(events: &mut Vec<SetEvent>) {
-    for longest in EDGES {
+    for longest in edges_of(Parameter::Fade) {
         events.push(SetEvent::FreshRead { longest });
         looks(events, Lasting::FreshFadeTime, longest);
     }
@@ -78,13 +83,11 @@ fn movements(events: &mut Vec<SetEvent>) {
 }
 
 fn looks(events: &mut Vec<SetEvent>, lasting: Lasting, longest: u32) {
-    events.extend(
-        [Moment::OnTheWay, Moment::LastMillisecond, Moment::Over].map(|moment| SetEvent::Looked {
-            lasting,
-            longest,
-            moment,
-        }),
-    );
+    events.extend(Moment::ALL.map(|moment| SetEvent::Looked {
+        lasting,
+        longest,
+        moment,
+    }));
 }
 
 fn stations(events: &mut Vec<SetEvent>) {

@@ -5,7 +5,7 @@ mod event;
 mod expected;
 
 pub use event::*;
-pub use expected::{expected, EDGES};
+pub use expected::{edges_of, expected};
 
 use plain::frame::*;
 use plain::last_command::LastCommand;
@@ -59,17 +59,22 @@ pub fn start(
             note(SetEvent::Words(further));
         }
         Err(_) => {
-            let wrong = words.iter().filter(|(parameter, number)| {
-                let number = u32::try_from(*number).unwrap_or(u32::MAX);
-                !parameter.range().contains(&number)
-            });
-            let mut wrong: Vec<Parameter> = wrong.map(|(parameter, _)| *parameter).collect();
-            wrong.sort();
-            if let [first, second] = wrong[..] {
+            if let [first, second] = out_of_range(words)[..] {
                 note(SetEvent::Named { first, second });
             }
         }
     }
+}
+
+/// The parameters whose numbers are, in the order of the set.
+pub(crate) fn out_of_range(words: &[(Parameter, u64)]) -> Vec<Parameter> {
+    let wrong = words.iter().filter(|(parameter, number)| {
+        let number = u32::try_from(*number).unwrap_or(u32::MAX);
+        !parameter.range().contains(&number)
+    });
+    let mut wrong: Vec<Parameter> = wrong.map(|(parameter, _)| *parameter).collect();
+    wrong.sort();
+    wrong
 }
 
 /// Stations, copies and numbers.
@@ -148,7 +153,7 @@ pub fn act(act: &Act, passed: &Passed, memory: &mut Memory, events: &mut Tally<E
 }
 
 /// Fade times, durations and blink times in a frame.
-fn whole_fields(bytes: &[u8]) -> Vec<(WholeField, u32)> {
+pub(crate) fn whole_fields(bytes: &[u8]) -> Vec<(WholeField, u32)> {
     if bytes[0] == WRITE_PROPERTY {
         let field = match byte_field(bytes) {
             FADE_TIME => WholeField::FadeTime,
@@ -172,7 +177,7 @@ fn whole_fields(bytes: &[u8]) -> Vec<(WholeField, u32)> {
         .collect()
 }
 
-fn is_refused_whole(act: &Act) -> bool {
+pub(crate) fn is_refused_whole(act: &Act) -> bool {
     act.answer == Answer::Refused(answer::WHOLE_NUMBER)
 }
 
@@ -226,16 +231,21 @@ fn blink_time(act: &Act, field: WholeField, value: u32, note: &mut impl FnMut(Se
     }
 }
 
-fn looked(act: &Act, passed: &Passed, memory: &Memory, mut note: impl FnMut(SetEvent)) {
+/// When a movement is looked at, and which; nothing if there is none.
+pub(crate) fn moment(act: &Act, passed: &Passed) -> Option<(Movement, Moment)> {
     let moment = match (&act.arrived.movement, &passed.before.movement) {
         (Some(movement), _) if movement.gone + 1 == movement.length => Moment::LastMillisecond,
         (Some(_), _) => Moment::OnTheWay,
         (None, Some(movement)) if movement.gone + passed.milliseconds == movement.length => {
             Moment::Over
         }
-        _ => return,
+        _ => return None,
     };
-    let Some(movement) = passed.before.movement else {
+    Some((passed.before.movement?, moment))
+}
+
+fn looked(act: &Act, passed: &Passed, memory: &Memory, mut note: impl FnMut(SetEvent)) {
+    let Some((movement, moment)) = moment(act, passed) else {
         return;
     };
     let longest = act.parameters.fade;

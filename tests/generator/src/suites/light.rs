@@ -92,8 +92,8 @@ impl Generator {
         self.plan_look_at_burning(output, own);
     }
 
-    /// Mostly one that is dark for a while: a day's fade by one percent is so
-    /// for 1,319 ms.
+    /// Mostly one that is dark for a while. Those of a day are refused 12 since
+    /// §7.
     fn rising_fade(&mut self) -> Moving {
         let (level, length) = match self.random.below(10) {
             0..=2 => (REAL_ONE_PERCENT, LONGEST),
@@ -265,7 +265,7 @@ impl Generator {
     }
 
     /// Burns on, with reads at which a millisecond too many or too few shows.
-    fn plan_look_at_burning(&mut self, output: u8, own: u8) {
+    pub(crate) fn plan_look_at_burning(&mut self, output: u8, own: u8) {
         let priority = STRONGEST;
         self.plan(output, Body::Empty { priority }, When::Now);
         // Else the output may be under way for a day.

@@ -1,6 +1,7 @@
 //! The suites, in the order of their papers. A change adds its file and a line.
 
 pub mod base;
+pub mod four_hours;
 pub mod jump;
 pub mod light;
 pub mod relay;
@@ -10,7 +11,7 @@ pub mod tie;
 
 use crate::suite::Suite;
 
-pub static ALL: [&Suite; 7] = [
+pub static ALL: [&Suite; 8] = [
     &base::SUITE,
     &tags::SUITE,
     &light::SUITE,
@@ -18,6 +19,7 @@ pub static ALL: [&Suite; 7] = [
     &jump::SUITE,
     &tie::SUITE,
     &set::SUITE,
+    &four_hours::SUITE,
 ];
 
 /// The suite of that name, the sign § left out or not.

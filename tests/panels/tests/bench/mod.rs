@@ -51,6 +51,15 @@ impl<Chosen: Panel> Bench<Chosen> {
     pub fn found(&self) -> Found {
         self.panel.found().remove(0)
     }
+
+    /// In_Process, Progress_Value and burning time then.
+    #[allow(dead_code)]
+    pub fn moves(&mut self, time: u64, expected: (bool, u32, u64)) {
+        self.clock(time);
+        let found = self.found();
+        let moved = (found.in_process, found.progress_value, found.burning);
+        assert_eq!(moved, expected, "at {time}");
+    }
 }
 
 /// Runs a function with the bench of each panel.

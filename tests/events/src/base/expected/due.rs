@@ -18,7 +18,6 @@ pub fn movement_events(events: &mut Vec<Event>) {
     for kind in FADE_TO..=GOTO {
         events.push(Event::MovementReplacedByNone { kind: kind.into() });
     }
-    events.push(Event::WholeDayMovementRanOut);
 }
 
 pub fn duration_events(events: &mut Vec<Event>) {

@@ -99,7 +99,7 @@ fn property_events(events: &mut Vec<Event>) {
             events.push(Event::PaceWrittenInMovement { ramp, slower });
         }
     }
-    let fresh = Output::fresh(&Parameters::of_document_01(1));
+    let fresh = Output::fresh(&Parameters::of_old_panel(1));
     for property in 0..=255_u8 {
         let readable = matches!(
             property,

@@ -49,6 +49,7 @@ pub const TABLES: Tables = Tables {
     looks: &LOOKS,
     tagged: 0,
     great_lists: 0,
+    great_budget: 350_000_000,
     headings: None,
     length: None,
 };

@@ -87,7 +87,8 @@ impl Generator {
         self.plan_property(output, RELINQUISH_DEFAULT, 0);
         let mut length = u64::from(LONGEST);
         // Few lists live a day: the first one of a list is a fade, whose level
-        // shows on the way, and what comes later is not.
+        // shows on the way, and what comes later is not. Since §7 such a fade is
+        // refused 12.
         let choices: &[u8] = match self.budget > 3 * length {
             true => &[0, 1],
             false => &[2, 3, 3],

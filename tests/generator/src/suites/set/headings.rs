@@ -2,7 +2,7 @@
 //! started with.
 
 use events::edges::of_parameter;
-use events::set::EDGES;
+use events::set::edges_of;
 use plain::{Parameter, Parameters};
 
 use crate::heading::Heading;
@@ -25,7 +25,7 @@ pub fn heading(random: &mut Random, number: u64) -> Heading {
 }
 
 fn started(random: &mut Random, turn: u64) -> Heading {
-    let edge = |turn: u64| u64::from(EDGES[(turn % 10) as usize]);
+    let edge = |parameter, turn: u64| u64::from(edges_of(parameter)[(turn % 10) as usize]);
     let stations = match turn % 7 {
         6 => random.between(1, 32),
         place => STATIONS[place as usize],
@@ -33,7 +33,8 @@ fn started(random: &mut Random, turn: u64) -> Heading {
     let few = random.between(2, 5);
     let outputs = random.pick(&[1, 1, few, few, 63, 64]);
     // Every pair of the two has its turn in a hundred lists.
-    let (fade, duration) = (edge(turn), edge(7 * turn + turn / 10));
+    let fade = edge(Parameter::Fade, turn);
+    let duration = edge(Parameter::Duration, 7 * turn + turn / 10);
     let mut further = vec![
         (Parameter::Stations, stations),
         (Parameter::Fade, fade),
@@ -45,8 +46,8 @@ fn started(random: &mut Random, turn: u64) -> Heading {
     shuffled(random, outputs, further)
 }
 
-/// Each number out of range in turn, or two of them; the others are document
-/// 01's, written or left out.
+/// Each number out of range in turn, or two of them; the others are the old
+/// panel's, written or left out.
 fn refused(random: &mut Random, turn: u64) -> Heading {
     let singles = Parameter::ALL.into_iter().flat_map(out_of_range);
     let mut wrong: Vec<Vec<(Parameter, u64)>> = singles.map(|word| vec![word]).collect();
@@ -57,7 +58,7 @@ fn refused(random: &mut Random, turn: u64) -> Heading {
         }
     }
     let wrong = &wrong[turn as usize % wrong.len()];
-    let others = Parameters::of_document_01(1);
+    let others = Parameters::of_old_panel(1);
     let mut outputs = others.outputs.into();
     let mut further = Vec::new();
     for parameter in Parameter::ALL {
@@ -82,7 +83,12 @@ fn out_of_range(parameter: Parameter) -> Vec<(Parameter, u64)> {
     outside.map(|number| (parameter, number)).collect()
 }
 
-fn shuffled(random: &mut Random, outputs: u64, mut further: Vec<(Parameter, u64)>) -> Heading {
+/// `outputs` first, and the others in any order.
+pub(crate) fn shuffled(
+    random: &mut Random,
+    outputs: u64,
+    mut further: Vec<(Parameter, u64)>,
+) -> Heading {
     let mut words = vec![(Parameter::Outputs, outputs)];
     while !further.is_empty() {
         let place = random.below(further.len() as u64) as usize;

@@ -1,10 +1,10 @@
 //! §6: panel parameters at start.
 
-mod headings;
+pub(crate) mod headings;
 mod scenes;
 mod stations;
 
-pub use events::set::EDGES;
+pub use events::set::edges_of;
 
 use super::{base, relay, tags};
 use crate::list::Generator;

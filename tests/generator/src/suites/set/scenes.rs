@@ -94,13 +94,13 @@ impl Generator {
         times
     }
 
-    fn plan_fade_times(&mut self, output: u8) {
+    pub(crate) fn plan_fade_times(&mut self, output: u8) {
         for value in self.bounded_times(Parameter::Fade) {
             self.plan_fade_time(output, value);
         }
     }
 
-    fn plan_fade_time(&mut self, output: u8, value: u32) {
+    pub(crate) fn plan_fade_time(&mut self, output: u8, value: u32) {
         if self.random.chance(40) {
             self.plan_property(output, FADE_TIME, value);
             self.plan_read(output, FADE_TIME, When::Now);
@@ -122,7 +122,7 @@ impl Generator {
         self.plan_command(output, GOTO, &[level, 0]);
     }
 
-    fn plan_duration(&mut self, output: u8, value: u32) {
+    pub(crate) fn plan_duration(&mut self, output: u8, value: u32) {
         let kind = self.random.pick(&COMMANDS);
         if let Body::Command { kind, mut fields } = self.good_command(kind) {
             if kind == FADE_TO_OVER {
@@ -149,13 +149,17 @@ impl Generator {
             duration,
             duration + 1,
         ]);
+        self.plan_blink_time_of(output, property, value);
+    }
+
+    pub(crate) fn plan_blink_time_of(&mut self, output: u8, property: u8, value: u32) {
         self.plan_property(output, property, value);
         self.plan_read(output, property, When::Now);
         self.plan_property(output, property, 0);
     }
 
     /// Whether the budget has so many milliseconds, and some for other outputs.
-    fn can_live(&self, milliseconds: u32) -> bool {
+    pub(crate) fn can_live(&self, milliseconds: u32) -> bool {
         self.budget > 5 * u64::from(milliseconds) / 4
     }
 
@@ -179,7 +183,7 @@ impl Generator {
     }
 
     /// By Fade_Time or by a time of its own.
-    fn plan_longest_fade(&mut self, output: u8) {
+    pub(crate) fn plan_longest_fade(&mut self, output: u8) {
         let longest = self.panel.parameters().fade;
         if !self.can_live(longest) {
             return self.plan_fade_times(output);
