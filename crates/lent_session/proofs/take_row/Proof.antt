@@ -18,8 +18,8 @@ array-read-narrow32 c = search needs
 narrow32-requires : tie.Need-narrow32-requires
 narrow32-requires c κs = search needs
 
-document-01-requires : tie.Need-document-01-requires
-document-01-requires c κs = search needs
+four-hours-requires : tie.Need-four-hours-requires
+four-hours-requires c κs = search needs
 
 array-read-clear : tie.Need-array-read-clear
 array-read-clear c = search needs
@@ -200,7 +200,7 @@ take-row-spec =
     with-next-row-requires
     array-read-narrow32
     narrow32-requires
-    document-01-requires
+    four-hours-requires
     array-read-clear
     clear-requires
     array-read-place

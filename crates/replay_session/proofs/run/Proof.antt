@@ -6,8 +6,8 @@ use Rattle.replay_session.proofs.run.Proof.Tie as tie
 use Rattle.replay_session.proofs.Lent.run.Reads as reads
 use Rattle.replay_session.proofs.run.Proof.Lts as lts
 
-document-01-requires : tie.Need-document-01-requires
-document-01-requires c κs = search needs
+four-hours-requires : tie.Need-four-hours-requires
+four-hours-requires c κs = search needs
 
 fresh-output-requires : tie.Need-fresh-output-requires
 fresh-output-requires c κs = search needs
@@ -46,7 +46,7 @@ pub run-spec : {M : Type 1} → statement M
 run-spec =
     tie.close
     (tie.spec
-    document-01-requires
+    four-hours-requires
     fresh-output-requires
     fresh-station-requires
     fresh-record-requires

@@ -5997,8 +5997,8 @@ module _ (claims· : Claims) where
           Typed.Mo T18
       m16 = λ before given. s15 (before .before .before .before .before .before .before .blocks) (m15 before given)
 
-      abbrev pub Need-document-01-requires : Type 0
-      Need-document-01-requires = (c : After-narrow32) → s16 (c .before .before .before .before .before .before .before .blocks) .asks (m16 (c .before) (After-narrow32·gave c))
+      abbrev pub Need-four-hours-requires : Type 0
+      Need-four-hours-requires = (c : After-narrow32) → s16 (c .before .before .before .before .before .before .before .blocks) .asks (m16 (c .before) (After-narrow32·gave c))
 
       abbrev pub m17 :
           (before : After-narrow32) →
@@ -6009,19 +6009,19 @@ module _ (claims· : Claims) where
       m17 = λ before given. s16 (before .before .before .before .before .before .before .before .blocks) .next (m16 (before .before) (After-narrow32·gave before)) given
 
       module _ (before· : After-narrow32) where
-        abbrev pub After-document-01·own : Type 0
-        After-document-01·own = Called.Called ps·3 r·3 (claims· .7) T18 (Num.vAt 28 λ x. x, tt) (m16 (before· .before) (After-narrow32·gave before·))
+        abbrev pub After-four-hours·own : Type 0
+        After-four-hours·own = Called.Called ps·3 r·3 (claims· .7) T18 (Num.vAt 28 λ x. x, tt) (m16 (before· .before) (After-narrow32·gave before·))
 
-      pub record After-document-01 : Type 0 where
+      pub record After-four-hours : Type 0 where
         pub before : After-narrow32
-        pub document-01 : After-document-01·own before
+        pub four-hours : After-four-hours·own before
 
-      abbrev pub After-document-01·gave :
-          (c : After-document-01) →
+      abbrev pub After-four-hours·gave :
+          (c : After-four-hours) →
           s16
           (c .before .before .before .before .before .before .before .before .blocks) .gives
           (m16 (c .before .before) (After-narrow32·gave (c .before)))
-      After-document-01·gave = λ c. Called.given ps·3 r·3 (claims· .7) T18 (Num.vAt 28 λ x. x, tt) (m16 (c .before .before) (After-narrow32·gave (c .before))) (c .document-01)
+      After-four-hours·gave = λ c. Called.given ps·3 r·3 (claims· .7) T18 (Num.vAt 28 λ x. x, tt) (m16 (c .before .before) (After-narrow32·gave (c .before))) (c .four-hours)
 
       abbrev pub m18 :
           (before : After-narrow32) →
@@ -6032,30 +6032,30 @@ module _ (claims· : Claims) where
       m18 = λ before given. s17 (before .before .before .before .before .before .before .before .blocks) (m17 before given)
 
       abbrev pub m19 :
-          (before : After-document-01) →
+          (before : After-four-hours) →
           (given : s19
           (before .before .before .before .before .before .before .before .before .blocks) .gives
-          (m18 (before .before) (After-document-01·gave before))) →
+          (m18 (before .before) (After-four-hours·gave before))) →
           Typed.Mo T22
-      m19 = λ before given. s19 (before .before .before .before .before .before .before .before .before .blocks) .next (m18 (before .before) (After-document-01·gave before)) given
+      m19 = λ before given. s19 (before .before .before .before .before .before .before .before .before .blocks) .next (m18 (before .before) (After-four-hours·gave before)) given
 
       abbrev pub m20 :
-          (before : After-document-01) →
+          (before : After-four-hours) →
           (given : s19
           (before .before .before .before .before .before .before .before .before .blocks) .gives
-          (m18 (before .before) (After-document-01·gave before))) →
+          (m18 (before .before) (After-four-hours·gave before))) →
           Typed.Mo T23
       m20 = λ before given. s20 (before .before .before .before .before .before .before .before .before .blocks) .next (m19 before given)
 
-      module _ (before· : After-document-01) where
+      module _ (before· : After-four-hours) where
         pub record After-clear-arg·own : Type 0 where
           pub given : s19
               (before· .before .before .before .before .before .before .before .before .blocks)
               .gives
-              (m18 (before· .before) (After-document-01·gave before·))
+              (m18 (before· .before) (After-four-hours·gave before·))
 
       pub record After-clear-arg : Type 0 where
-        pub before : After-document-01
+        pub before : After-four-hours
         pub clear-arg : After-clear-arg·own before
 
       abbrev pub m21 :
@@ -8838,7 +8838,7 @@ module _ (claims· : Claims) where
           (with-next-row-requires : Need-with-next-row-requires)
           (array-read-narrow32 : Need-array-read-narrow32)
           (narrow32-requires : Need-narrow32-requires)
-          (document-01-requires : Need-document-01-requires)
+          (four-hours-requires : Need-four-hours-requires)
           (array-read-clear : Need-array-read-clear) (clear-requires : Need-clear-requires)
           (array-read-place : Need-array-read-place) (place-requires : Need-place-requires)
           (array-read-place-2 : Need-array-read-place-2) (place-requires-2 : Need-place-requires-2)
@@ -9229,14 +9229,14 @@ module _ (claims· : Claims) where
         lay5 = λ c. (Path'.refl, λ g. (Path'.refl, λ g'. (Path'.refl, (tt, (((Path'.refl, Path'.refl), array-read-place record { before = record { before = record { before = c .before; clear = c .clear }; outputs = record { given = g } }; stations = record { given = g' } }), (place-requires record { before = record { before = record { before = c .before; clear = c .clear }; outputs = record { given = g } }; stations = record { given = g' } }, λ g''. lay6 record { before = record { before = record { before = record { before = c .before; clear = c .clear }; outputs = record { given = g } }; stations = record { given = g' } }; place = Called.called ps·5 r·5 (claims· .11) T51 (Num.vAt 31 λ x. x, tt) (m40 record { before = record { before = c .before; clear = c .clear }; outputs = record { given = g } } g') g'' }))))))
 
         lay4 :
-            (c : After-document-01) →
+            (c : After-four-hours) →
             at42
             (c .before .before .before .before .before .before .before .before .blocks)
             (W1
             (c .before .before .before .before)
             (After-with-next-row·gave (c .before .before .before)))
-            (m17 (c .before) (After-document-01·gave c))
-        lay4 = λ c. λ g. (Path'.refl, λ g'. (Path'.refl, λ g''. (tt, (((Path'.refl, Path'.refl), array-read-clear record { before = record { before = record { before = record { before = c .before; document-01 = c .document-01 }; clear-arg = record { given = g } }; clear-arg2 = record { given = g' } }; clear-arg3 = record { given = g'' } }), (clear-requires record { before = record { before = record { before = record { before = c .before; document-01 = c .document-01 }; clear-arg = record { given = g } }; clear-arg2 = record { given = g' } }; clear-arg3 = record { given = g'' } }, λ g'3. lay5 record { before = record { before = record { before = record { before = record { before = c .before; document-01 = c .document-01 }; clear-arg = record { given = g } }; clear-arg2 = record { given = g' } }; clear-arg3 = record { given = g'' } }; clear = Called.called ps·4 r·4 (claims· .9) T33 (record { pos = 34; ty = Syntax.tyRef Syntax.erased Syntax.mut OfOutput.named; ref = λ x. x }, (record { pos = 36; ty = Syntax.tyRef Syntax.erased Syntax.mut OfStation.named; ref = λ x. x }, (record { pos = 37; ty = Syntax.tyRef Syntax.erased Syntax.mut OfPanelRecord.named; ref = λ x. x }, (record { pos = 11; st = List.[]; d = 0; at = λ x. x }, (Num.vAt 31 λ x. x, tt))))) (m28 record { before = record { before = record { before = c .before; document-01 = c .document-01 }; clear-arg = record { given = g } }; clear-arg2 = record { given = g' } } g'') g'3 })))))
+            (m17 (c .before) (After-four-hours·gave c))
+        lay4 = λ c. λ g. (Path'.refl, λ g'. (Path'.refl, λ g''. (tt, (((Path'.refl, Path'.refl), array-read-clear record { before = record { before = record { before = record { before = c .before; four-hours = c .four-hours }; clear-arg = record { given = g } }; clear-arg2 = record { given = g' } }; clear-arg3 = record { given = g'' } }), (clear-requires record { before = record { before = record { before = record { before = c .before; four-hours = c .four-hours }; clear-arg = record { given = g } }; clear-arg2 = record { given = g' } }; clear-arg3 = record { given = g'' } }, λ g'3. lay5 record { before = record { before = record { before = record { before = record { before = c .before; four-hours = c .four-hours }; clear-arg = record { given = g } }; clear-arg2 = record { given = g' } }; clear-arg3 = record { given = g'' } }; clear = Called.called ps·4 r·4 (claims· .9) T33 (record { pos = 34; ty = Syntax.tyRef Syntax.erased Syntax.mut OfOutput.named; ref = λ x. x }, (record { pos = 36; ty = Syntax.tyRef Syntax.erased Syntax.mut OfStation.named; ref = λ x. x }, (record { pos = 37; ty = Syntax.tyRef Syntax.erased Syntax.mut OfPanelRecord.named; ref = λ x. x }, (record { pos = 11; st = List.[]; d = 0; at = λ x. x }, (Num.vAt 31 λ x. x, tt))))) (m28 record { before = record { before = record { before = c .before; four-hours = c .four-hours }; clear-arg = record { given = g } }; clear-arg2 = record { given = g' } } g'') g'3 })))))
 
         lay3 :
             (c : After-narrow32) →
@@ -9244,7 +9244,7 @@ module _ (claims· : Claims) where
             (c .before .before .before .before .before .before .before .blocks)
             (W1 (c .before .before .before) (After-with-next-row·gave (c .before .before)))
             (m15 (c .before) (After-narrow32·gave c))
-        lay3 = λ c. (document-01-requires record { before = c .before; narrow32 = c .narrow32 }, λ g. lay4 record { before = record { before = c .before; narrow32 = c .narrow32 }; document-01 = Called.called ps·3 r·3 (claims· .7) T18 (Num.vAt 28 λ x. x, tt) (m16 (c .before) (After-narrow32·gave c)) g })
+        lay3 = λ c. (four-hours-requires record { before = c .before; narrow32 = c .narrow32 }, λ g. lay4 record { before = record { before = c .before; narrow32 = c .narrow32 }; four-hours = Called.called ps·3 r·3 (claims· .7) T18 (Num.vAt 28 λ x. x, tt) (m16 (c .before) (After-narrow32·gave c)) g })
 
         lay2 :
             (c : After-with-next-row) →

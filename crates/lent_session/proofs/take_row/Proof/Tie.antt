@@ -108,8 +108,8 @@ At-match-keys1 = Lts.At-match-keys1 (Reads'3.Asked, Reads'3.Learnt, Reads'20.Ask
 abbrev pub After-narrow32 : Type 0
 After-narrow32 = Lts.After-narrow32 (Reads'3.Asked, Reads'3.Learnt, Reads'20.Asked, Reads'20.Learnt, Reads'4.Asked, Reads'4.Learnt, Reads'21.Asked, Reads'21.Learnt, Reads'9.Asked, Reads'9.Learnt, Reads'5.Asked, Reads'5.Learnt, Reads'18.Asked, Reads'18.Learnt, Reads'6.Asked, Reads'6.Learnt, Reads'11.Asked, Reads'11.Learnt, Reads'8.Asked, Reads'8.Learnt, Reads'12.Asked, Reads'12.Learnt, Reads'23.Asked, Reads'23.Learnt, Reads'7.Asked, Reads'7.Learnt, Reads'10.Asked, Reads'10.Learnt, Reads'.Asked, Reads'.Learnt, Reads'24.Asked, Reads'24.Learnt, Reads'25.Asked, Reads'25.Learnt, Reads'19.Asked, Reads'19.Learnt, Reads''.Asked, Reads''.Learnt, Reads.Asked, Reads.Learnt, Reads'13.Asked, Reads'13.Learnt, Reads'22.Asked, Reads'22.Learnt, Reads'15.Asked, Reads'15.Learnt, Reads'14.Asked, Reads'14.Learnt, Reads'16.Asked, Reads'16.Learnt) Reads'17.Pre Reads'17.Post
 
-abbrev pub After-document-01 : Type 0
-After-document-01 = Lts.After-document-01 (Reads'3.Asked, Reads'3.Learnt, Reads'20.Asked, Reads'20.Learnt, Reads'4.Asked, Reads'4.Learnt, Reads'21.Asked, Reads'21.Learnt, Reads'9.Asked, Reads'9.Learnt, Reads'5.Asked, Reads'5.Learnt, Reads'18.Asked, Reads'18.Learnt, Reads'6.Asked, Reads'6.Learnt, Reads'11.Asked, Reads'11.Learnt, Reads'8.Asked, Reads'8.Learnt, Reads'12.Asked, Reads'12.Learnt, Reads'23.Asked, Reads'23.Learnt, Reads'7.Asked, Reads'7.Learnt, Reads'10.Asked, Reads'10.Learnt, Reads'.Asked, Reads'.Learnt, Reads'24.Asked, Reads'24.Learnt, Reads'25.Asked, Reads'25.Learnt, Reads'19.Asked, Reads'19.Learnt, Reads''.Asked, Reads''.Learnt, Reads.Asked, Reads.Learnt, Reads'13.Asked, Reads'13.Learnt, Reads'22.Asked, Reads'22.Learnt, Reads'15.Asked, Reads'15.Learnt, Reads'14.Asked, Reads'14.Learnt, Reads'16.Asked, Reads'16.Learnt) Reads'17.Pre Reads'17.Post
+abbrev pub After-four-hours : Type 0
+After-four-hours = Lts.After-four-hours (Reads'3.Asked, Reads'3.Learnt, Reads'20.Asked, Reads'20.Learnt, Reads'4.Asked, Reads'4.Learnt, Reads'21.Asked, Reads'21.Learnt, Reads'9.Asked, Reads'9.Learnt, Reads'5.Asked, Reads'5.Learnt, Reads'18.Asked, Reads'18.Learnt, Reads'6.Asked, Reads'6.Learnt, Reads'11.Asked, Reads'11.Learnt, Reads'8.Asked, Reads'8.Learnt, Reads'12.Asked, Reads'12.Learnt, Reads'23.Asked, Reads'23.Learnt, Reads'7.Asked, Reads'7.Learnt, Reads'10.Asked, Reads'10.Learnt, Reads'.Asked, Reads'.Learnt, Reads'24.Asked, Reads'24.Learnt, Reads'25.Asked, Reads'25.Learnt, Reads'19.Asked, Reads'19.Learnt, Reads''.Asked, Reads''.Learnt, Reads.Asked, Reads.Learnt, Reads'13.Asked, Reads'13.Learnt, Reads'22.Asked, Reads'22.Learnt, Reads'15.Asked, Reads'15.Learnt, Reads'14.Asked, Reads'14.Learnt, Reads'16.Asked, Reads'16.Learnt) Reads'17.Pre Reads'17.Post
 
 abbrev pub After-clear-arg : Type 0
 After-clear-arg = Lts.After-clear-arg (Reads'3.Asked, Reads'3.Learnt, Reads'20.Asked, Reads'20.Learnt, Reads'4.Asked, Reads'4.Learnt, Reads'21.Asked, Reads'21.Learnt, Reads'9.Asked, Reads'9.Learnt, Reads'5.Asked, Reads'5.Learnt, Reads'18.Asked, Reads'18.Learnt, Reads'6.Asked, Reads'6.Learnt, Reads'11.Asked, Reads'11.Learnt, Reads'8.Asked, Reads'8.Learnt, Reads'12.Asked, Reads'12.Learnt, Reads'23.Asked, Reads'23.Learnt, Reads'7.Asked, Reads'7.Learnt, Reads'10.Asked, Reads'10.Learnt, Reads'.Asked, Reads'.Learnt, Reads'24.Asked, Reads'24.Learnt, Reads'25.Asked, Reads'25.Learnt, Reads'19.Asked, Reads'19.Learnt, Reads''.Asked, Reads''.Learnt, Reads.Asked, Reads.Learnt, Reads'13.Asked, Reads'13.Learnt, Reads'22.Asked, Reads'22.Learnt, Reads'15.Asked, Reads'15.Learnt, Reads'14.Asked, Reads'14.Learnt, Reads'16.Asked, Reads'16.Learnt) Reads'17.Pre Reads'17.Post
@@ -369,8 +369,8 @@ Need-array-read-narrow32 = Lts.Need-array-read-narrow32 (Reads'3.Asked, Reads'3.
 abbrev pub Need-narrow32-requires : Type 0
 Need-narrow32-requires = Lts.Need-narrow32-requires (Reads'3.Asked, Reads'3.Learnt, Reads'20.Asked, Reads'20.Learnt, Reads'4.Asked, Reads'4.Learnt, Reads'21.Asked, Reads'21.Learnt, Reads'9.Asked, Reads'9.Learnt, Reads'5.Asked, Reads'5.Learnt, Reads'18.Asked, Reads'18.Learnt, Reads'6.Asked, Reads'6.Learnt, Reads'11.Asked, Reads'11.Learnt, Reads'8.Asked, Reads'8.Learnt, Reads'12.Asked, Reads'12.Learnt, Reads'23.Asked, Reads'23.Learnt, Reads'7.Asked, Reads'7.Learnt, Reads'10.Asked, Reads'10.Learnt, Reads'.Asked, Reads'.Learnt, Reads'24.Asked, Reads'24.Learnt, Reads'25.Asked, Reads'25.Learnt, Reads'19.Asked, Reads'19.Learnt, Reads''.Asked, Reads''.Learnt, Reads.Asked, Reads.Learnt, Reads'13.Asked, Reads'13.Learnt, Reads'22.Asked, Reads'22.Learnt, Reads'15.Asked, Reads'15.Learnt, Reads'14.Asked, Reads'14.Learnt, Reads'16.Asked, Reads'16.Learnt) Reads'17.Pre Reads'17.Post
 
-abbrev pub Need-document-01-requires : Type 0
-Need-document-01-requires = Lts.Need-document-01-requires (Reads'3.Asked, Reads'3.Learnt, Reads'20.Asked, Reads'20.Learnt, Reads'4.Asked, Reads'4.Learnt, Reads'21.Asked, Reads'21.Learnt, Reads'9.Asked, Reads'9.Learnt, Reads'5.Asked, Reads'5.Learnt, Reads'18.Asked, Reads'18.Learnt, Reads'6.Asked, Reads'6.Learnt, Reads'11.Asked, Reads'11.Learnt, Reads'8.Asked, Reads'8.Learnt, Reads'12.Asked, Reads'12.Learnt, Reads'23.Asked, Reads'23.Learnt, Reads'7.Asked, Reads'7.Learnt, Reads'10.Asked, Reads'10.Learnt, Reads'.Asked, Reads'.Learnt, Reads'24.Asked, Reads'24.Learnt, Reads'25.Asked, Reads'25.Learnt, Reads'19.Asked, Reads'19.Learnt, Reads''.Asked, Reads''.Learnt, Reads.Asked, Reads.Learnt, Reads'13.Asked, Reads'13.Learnt, Reads'22.Asked, Reads'22.Learnt, Reads'15.Asked, Reads'15.Learnt, Reads'14.Asked, Reads'14.Learnt, Reads'16.Asked, Reads'16.Learnt) Reads'17.Pre Reads'17.Post
+abbrev pub Need-four-hours-requires : Type 0
+Need-four-hours-requires = Lts.Need-four-hours-requires (Reads'3.Asked, Reads'3.Learnt, Reads'20.Asked, Reads'20.Learnt, Reads'4.Asked, Reads'4.Learnt, Reads'21.Asked, Reads'21.Learnt, Reads'9.Asked, Reads'9.Learnt, Reads'5.Asked, Reads'5.Learnt, Reads'18.Asked, Reads'18.Learnt, Reads'6.Asked, Reads'6.Learnt, Reads'11.Asked, Reads'11.Learnt, Reads'8.Asked, Reads'8.Learnt, Reads'12.Asked, Reads'12.Learnt, Reads'23.Asked, Reads'23.Learnt, Reads'7.Asked, Reads'7.Learnt, Reads'10.Asked, Reads'10.Learnt, Reads'.Asked, Reads'.Learnt, Reads'24.Asked, Reads'24.Learnt, Reads'25.Asked, Reads'25.Learnt, Reads'19.Asked, Reads'19.Learnt, Reads''.Asked, Reads''.Learnt, Reads.Asked, Reads.Learnt, Reads'13.Asked, Reads'13.Learnt, Reads'22.Asked, Reads'22.Learnt, Reads'15.Asked, Reads'15.Learnt, Reads'14.Asked, Reads'14.Learnt, Reads'16.Asked, Reads'16.Learnt) Reads'17.Pre Reads'17.Post
 
 abbrev pub Need-array-read-clear : Type 0
 Need-array-read-clear = Lts.Need-array-read-clear (Reads'3.Asked, Reads'3.Learnt, Reads'20.Asked, Reads'20.Learnt, Reads'4.Asked, Reads'4.Learnt, Reads'21.Asked, Reads'21.Learnt, Reads'9.Asked, Reads'9.Learnt, Reads'5.Asked, Reads'5.Learnt, Reads'18.Asked, Reads'18.Learnt, Reads'6.Asked, Reads'6.Learnt, Reads'11.Asked, Reads'11.Learnt, Reads'8.Asked, Reads'8.Learnt, Reads'12.Asked, Reads'12.Learnt, Reads'23.Asked, Reads'23.Learnt, Reads'7.Asked, Reads'7.Learnt, Reads'10.Asked, Reads'10.Learnt, Reads'.Asked, Reads'.Learnt, Reads'24.Asked, Reads'24.Learnt, Reads'25.Asked, Reads'25.Learnt, Reads'19.Asked, Reads'19.Learnt, Reads''.Asked, Reads''.Learnt, Reads.Asked, Reads.Learnt, Reads'13.Asked, Reads'13.Learnt, Reads'22.Asked, Reads'22.Learnt, Reads'15.Asked, Reads'15.Learnt, Reads'14.Asked, Reads'14.Learnt, Reads'16.Asked, Reads'16.Learnt) Reads'17.Pre Reads'17.Post
@@ -549,7 +549,7 @@ module _ {M : Type 1} where
       (answer : Need-with-next-row-requires) →
       (answer : Need-array-read-narrow32) →
       (answer : Need-narrow32-requires) →
-      (answer : Need-document-01-requires) →
+      (answer : Need-four-hours-requires) →
       (answer : Need-array-read-clear) →
       (answer : Need-clear-requires) →
       (answer : Need-array-read-place) →
@@ -714,4 +714,4 @@ module _ {M : Type 1} where
     Reads'16.Learnt,
   ) Reads'17.Pre Reads'17.Post M → Statement.statement M
   unfolding Code.routine Running.tablesOf
-  close = λ closed 𝓤 H 𝓜 𝓖 𝓡. Written.close 4 Kinds.ps Kinds.r Reads'17.Ghost Reads'17.requires Reads'17.ensures Reads'17.pre-read Reads'17.Pinned Reads'17.Owned Reads'17.post-read record { M = M; 𝓤 = 𝓤; H = H; 𝓜 = 𝓜; 𝓖 = 𝓖; 𝓡 = 𝓡 } Code.env Key.name Code.function (Code.unfolded 𝓤 H 𝓜 𝓡) (λ κs a g. tt) (λ κs. Reads'17.owns κs record { M = M; 𝓤 = 𝓤; H = H; 𝓜 = 𝓜; 𝓖 = 𝓖; 𝓡 = 𝓡 }) (Reads'17.passes record { M = M; 𝓤 = 𝓤; H = H; 𝓜 = 𝓜; 𝓖 = 𝓖; 𝓡 = 𝓡 }) λ g. closed 𝓤 H (𝓖 .A) (Running.givenOf 𝓤 H 𝓜 𝓖) (Run.Over 𝓤 H 𝓜 𝓖 𝓡 Code.env) (Reads'3.known record { M = M; 𝓤 = 𝓤; H = H; 𝓜 = 𝓜; 𝓖 = 𝓖; 𝓡 = 𝓡 } Code.env Symbol'3.name Symbol'3.routine Code.calls-lent-rows·closed (Met'3.met 𝓤 H 𝓜 𝓖 𝓡)) (Reads'20.known record { M = M; 𝓤 = 𝓤; H = H; 𝓜 = 𝓜; 𝓖 = 𝓖; 𝓡 = 𝓡 } Code.env Symbol'19.name Symbol'19.routine Code.calls-lent-session·with-next-row (Met'19.met 𝓤 H 𝓜 𝓖 𝓡)) (Reads'4.known record { M = M; 𝓤 = 𝓤; H = H; 𝓜 = 𝓜; 𝓖 = 𝓖; 𝓡 = 𝓡 } Code.env Symbol'4.name Symbol'4.routine Code.calls-lent-rows·numbers·narrow32 (Met'4.met 𝓤 H 𝓜 𝓖 𝓡)) (Reads'21.known record { M = M; 𝓤 = 𝓤; H = H; 𝓜 = 𝓜; 𝓖 = 𝓖; 𝓡 = 𝓡 } Code.env Symbol'20.name Symbol'20.routine Code.calls-panel-record·document-01 (Met'20.met 𝓤 H 𝓜 𝓖 𝓡)) (Reads'9.known record { M = M; 𝓤 = 𝓤; H = H; 𝓜 = 𝓜; 𝓖 = 𝓖; 𝓡 = 𝓡 } Code.env Symbol'9.name Symbol'9.routine Code.calls-lent-session·clear (Met'9.met 𝓤 H 𝓜 𝓖 𝓡)) (Reads'5.known record { M = M; 𝓤 = 𝓤; H = H; 𝓜 = 𝓜; 𝓖 = 𝓖; 𝓡 = 𝓡 } Code.env Symbol'5.name Symbol'5.routine Code.calls-lent-rows·numbers·place (Met'5.met 𝓤 H 𝓜 𝓖 𝓡)) (Reads'18.known record { M = M; 𝓤 = 𝓤; H = H; 𝓜 = 𝓜; 𝓖 = 𝓖; 𝓡 = 𝓡 } Code.env Symbol'17.name Symbol'17.routine Code.calls-lent-session·with-counts (Met'17.met 𝓤 H 𝓜 𝓖 𝓡)) (Reads'6.known record { M = M; 𝓤 = 𝓤; H = H; 𝓜 = 𝓜; 𝓖 = 𝓖; 𝓡 = 𝓡 } Code.env Symbol'6.name Symbol'6.routine Code.calls-lent-rows·outputs·output-of (Met'6.met 𝓤 H 𝓜 𝓖 𝓡)) (Reads'11.known record { M = M; 𝓤 = 𝓤; H = H; 𝓜 = 𝓜; 𝓖 = 𝓖; 𝓡 = 𝓡 } Code.env Symbol'11.name Symbol'11.routine Code.calls-lent-session·lend-output (Met'11.met 𝓤 H 𝓜 𝓖 𝓡)) (Reads'8.known record { M = M; 𝓤 = 𝓤; H = H; 𝓜 = 𝓜; 𝓖 = 𝓖; 𝓡 = 𝓡 } Code.env Symbol'8.name Symbol'8.routine Code.calls-lent-rows·stations·station-of (Met'8.met 𝓤 H 𝓜 𝓖 𝓡)) (Reads'12.known record { M = M; 𝓤 = 𝓤; H = H; 𝓜 = 𝓜; 𝓖 = 𝓖; 𝓡 = 𝓡 } Code.env Symbol'12.name Symbol'12.routine Code.calls-lent-session·lend-station (Met'12.met 𝓤 H 𝓜 𝓖 𝓡)) (Reads'23.known record { M = M; 𝓤 = 𝓤; H = H; 𝓜 = 𝓜; 𝓖 = 𝓖; 𝓡 = 𝓡 } Code.env Symbol'22.name Symbol'22.routine Code.calls-panel-record·time-of (Met'22.met 𝓤 H 𝓜 𝓖 𝓡)) (Reads'7.known record { M = M; 𝓤 = 𝓤; H = H; 𝓜 = 𝓜; 𝓖 = 𝓖; 𝓡 = 𝓡 } Code.env Symbol'7.name Symbol'7.routine Code.calls-lent-rows·parameters·parameters-of (Met'7.met 𝓤 H 𝓜 𝓖 𝓡)) (Reads'10.known record { M = M; 𝓤 = 𝓤; H = H; 𝓜 = 𝓜; 𝓖 = 𝓖; 𝓡 = 𝓡 } Code.env Symbol'10.name Symbol'10.routine Code.calls-lent-session·keep (Met'10.met 𝓤 H 𝓜 𝓖 𝓡)) (Reads'.known record { M = M; 𝓤 = 𝓤; H = H; 𝓜 = 𝓜; 𝓖 = 𝓖; 𝓡 = 𝓡 } Code.env Symbol'.name Symbol'.routine Code.calls-lent-parts·start (Met'.met 𝓤 H 𝓜 𝓖 𝓡)) (Reads'24.known record { M = M; 𝓤 = 𝓤; H = H; 𝓜 = 𝓜; 𝓖 = 𝓖; 𝓡 = 𝓡 } Code.env Symbol'23.name Symbol'23.routine Code.calls-text-found·with-room (Met'23.met 𝓤 H 𝓜 𝓖 𝓡)) (Reads'25.known record { M = M; 𝓤 = 𝓤; H = H; 𝓜 = 𝓜; 𝓖 = 𝓖; 𝓡 = 𝓡 } Code.env Symbol'24.name Symbol'24.routine Code.calls-text-printing·put-answer (Met'24.met 𝓤 H 𝓜 𝓖 𝓡)) (Reads'19.known record { M = M; 𝓤 = 𝓤; H = H; 𝓜 = 𝓜; 𝓖 = 𝓖; 𝓡 = 𝓡 } Code.env Symbol'18.name Symbol'18.routine Code.calls-lent-session·with-mark (Met'18.met 𝓤 H 𝓜 𝓖 𝓡)) (Reads''.known record { M = M; 𝓤 = 𝓤; H = H; 𝓜 = 𝓜; 𝓖 = 𝓖; 𝓡 = 𝓡 } Code.env Symbol''.name Symbol''.routine Code.calls-lent-rows·bytes-of (Met''.met 𝓤 H 𝓜 𝓖 𝓡)) (Reads.known record { M = M; 𝓤 = 𝓤; H = H; 𝓜 = 𝓜; 𝓖 = 𝓖; 𝓡 = 𝓡 } Code.env Symbol.name Symbol.routine Code.calls-lent-parts·send (Met.met 𝓤 H 𝓜 𝓖 𝓡)) (Reads'13.known record { M = M; 𝓤 = 𝓤; H = H; 𝓜 = 𝓜; 𝓖 = 𝓖; 𝓡 = 𝓡 } Code.env Symbol'13.name Symbol'13.routine Code.calls-lent-session·put-counts (Met'13.met 𝓤 H 𝓜 𝓖 𝓡)) (Reads'22.known record { M = M; 𝓤 = 𝓤; H = H; 𝓜 = 𝓜; 𝓖 = 𝓖; 𝓡 = 𝓡 } Code.env Symbol'21.name Symbol'21.routine Code.calls-panel-record·parameters-of (Met'21.met 𝓤 H 𝓜 𝓖 𝓡)) (Reads'15.known record { M = M; 𝓤 = 𝓤; H = H; 𝓜 = 𝓜; 𝓖 = 𝓖; 𝓡 = 𝓡 } Code.env Symbol'15.name Symbol'15.routine Code.calls-lent-session·put-parameters (Met'15.met 𝓤 H 𝓜 𝓖 𝓡)) (Reads'14.known record { M = M; 𝓤 = 𝓤; H = H; 𝓜 = 𝓜; 𝓖 = 𝓖; 𝓡 = 𝓡 } Code.env Symbol'14.name Symbol'14.routine Code.calls-lent-session·put-outputs (Met'14.met 𝓤 H 𝓜 𝓖 𝓡)) (Reads'16.known record { M = M; 𝓤 = 𝓤; H = H; 𝓜 = 𝓜; 𝓖 = 𝓖; 𝓡 = 𝓡 } Code.env Symbol'16.name Symbol'16.routine Code.calls-lent-session·put-stations (Met'16.met 𝓤 H 𝓜 𝓖 𝓡))
+  close = λ closed 𝓤 H 𝓜 𝓖 𝓡. Written.close 4 Kinds.ps Kinds.r Reads'17.Ghost Reads'17.requires Reads'17.ensures Reads'17.pre-read Reads'17.Pinned Reads'17.Owned Reads'17.post-read record { M = M; 𝓤 = 𝓤; H = H; 𝓜 = 𝓜; 𝓖 = 𝓖; 𝓡 = 𝓡 } Code.env Key.name Code.function (Code.unfolded 𝓤 H 𝓜 𝓡) (λ κs a g. tt) (λ κs. Reads'17.owns κs record { M = M; 𝓤 = 𝓤; H = H; 𝓜 = 𝓜; 𝓖 = 𝓖; 𝓡 = 𝓡 }) (Reads'17.passes record { M = M; 𝓤 = 𝓤; H = H; 𝓜 = 𝓜; 𝓖 = 𝓖; 𝓡 = 𝓡 }) λ g. closed 𝓤 H (𝓖 .A) (Running.givenOf 𝓤 H 𝓜 𝓖) (Run.Over 𝓤 H 𝓜 𝓖 𝓡 Code.env) (Reads'3.known record { M = M; 𝓤 = 𝓤; H = H; 𝓜 = 𝓜; 𝓖 = 𝓖; 𝓡 = 𝓡 } Code.env Symbol'3.name Symbol'3.routine Code.calls-lent-rows·closed (Met'3.met 𝓤 H 𝓜 𝓖 𝓡)) (Reads'20.known record { M = M; 𝓤 = 𝓤; H = H; 𝓜 = 𝓜; 𝓖 = 𝓖; 𝓡 = 𝓡 } Code.env Symbol'19.name Symbol'19.routine Code.calls-lent-session·with-next-row (Met'19.met 𝓤 H 𝓜 𝓖 𝓡)) (Reads'4.known record { M = M; 𝓤 = 𝓤; H = H; 𝓜 = 𝓜; 𝓖 = 𝓖; 𝓡 = 𝓡 } Code.env Symbol'4.name Symbol'4.routine Code.calls-lent-rows·numbers·narrow32 (Met'4.met 𝓤 H 𝓜 𝓖 𝓡)) (Reads'21.known record { M = M; 𝓤 = 𝓤; H = H; 𝓜 = 𝓜; 𝓖 = 𝓖; 𝓡 = 𝓡 } Code.env Symbol'20.name Symbol'20.routine Code.calls-panel-record·four-hours (Met'20.met 𝓤 H 𝓜 𝓖 𝓡)) (Reads'9.known record { M = M; 𝓤 = 𝓤; H = H; 𝓜 = 𝓜; 𝓖 = 𝓖; 𝓡 = 𝓡 } Code.env Symbol'9.name Symbol'9.routine Code.calls-lent-session·clear (Met'9.met 𝓤 H 𝓜 𝓖 𝓡)) (Reads'5.known record { M = M; 𝓤 = 𝓤; H = H; 𝓜 = 𝓜; 𝓖 = 𝓖; 𝓡 = 𝓡 } Code.env Symbol'5.name Symbol'5.routine Code.calls-lent-rows·numbers·place (Met'5.met 𝓤 H 𝓜 𝓖 𝓡)) (Reads'18.known record { M = M; 𝓤 = 𝓤; H = H; 𝓜 = 𝓜; 𝓖 = 𝓖; 𝓡 = 𝓡 } Code.env Symbol'17.name Symbol'17.routine Code.calls-lent-session·with-counts (Met'17.met 𝓤 H 𝓜 𝓖 𝓡)) (Reads'6.known record { M = M; 𝓤 = 𝓤; H = H; 𝓜 = 𝓜; 𝓖 = 𝓖; 𝓡 = 𝓡 } Code.env Symbol'6.name Symbol'6.routine Code.calls-lent-rows·outputs·output-of (Met'6.met 𝓤 H 𝓜 𝓖 𝓡)) (Reads'11.known record { M = M; 𝓤 = 𝓤; H = H; 𝓜 = 𝓜; 𝓖 = 𝓖; 𝓡 = 𝓡 } Code.env Symbol'11.name Symbol'11.routine Code.calls-lent-session·lend-output (Met'11.met 𝓤 H 𝓜 𝓖 𝓡)) (Reads'8.known record { M = M; 𝓤 = 𝓤; H = H; 𝓜 = 𝓜; 𝓖 = 𝓖; 𝓡 = 𝓡 } Code.env Symbol'8.name Symbol'8.routine Code.calls-lent-rows·stations·station-of (Met'8.met 𝓤 H 𝓜 𝓖 𝓡)) (Reads'12.known record { M = M; 𝓤 = 𝓤; H = H; 𝓜 = 𝓜; 𝓖 = 𝓖; 𝓡 = 𝓡 } Code.env Symbol'12.name Symbol'12.routine Code.calls-lent-session·lend-station (Met'12.met 𝓤 H 𝓜 𝓖 𝓡)) (Reads'23.known record { M = M; 𝓤 = 𝓤; H = H; 𝓜 = 𝓜; 𝓖 = 𝓖; 𝓡 = 𝓡 } Code.env Symbol'22.name Symbol'22.routine Code.calls-panel-record·time-of (Met'22.met 𝓤 H 𝓜 𝓖 𝓡)) (Reads'7.known record { M = M; 𝓤 = 𝓤; H = H; 𝓜 = 𝓜; 𝓖 = 𝓖; 𝓡 = 𝓡 } Code.env Symbol'7.name Symbol'7.routine Code.calls-lent-rows·parameters·parameters-of (Met'7.met 𝓤 H 𝓜 𝓖 𝓡)) (Reads'10.known record { M = M; 𝓤 = 𝓤; H = H; 𝓜 = 𝓜; 𝓖 = 𝓖; 𝓡 = 𝓡 } Code.env Symbol'10.name Symbol'10.routine Code.calls-lent-session·keep (Met'10.met 𝓤 H 𝓜 𝓖 𝓡)) (Reads'.known record { M = M; 𝓤 = 𝓤; H = H; 𝓜 = 𝓜; 𝓖 = 𝓖; 𝓡 = 𝓡 } Code.env Symbol'.name Symbol'.routine Code.calls-lent-parts·start (Met'.met 𝓤 H 𝓜 𝓖 𝓡)) (Reads'24.known record { M = M; 𝓤 = 𝓤; H = H; 𝓜 = 𝓜; 𝓖 = 𝓖; 𝓡 = 𝓡 } Code.env Symbol'23.name Symbol'23.routine Code.calls-text-found·with-room (Met'23.met 𝓤 H 𝓜 𝓖 𝓡)) (Reads'25.known record { M = M; 𝓤 = 𝓤; H = H; 𝓜 = 𝓜; 𝓖 = 𝓖; 𝓡 = 𝓡 } Code.env Symbol'24.name Symbol'24.routine Code.calls-text-printing·put-answer (Met'24.met 𝓤 H 𝓜 𝓖 𝓡)) (Reads'19.known record { M = M; 𝓤 = 𝓤; H = H; 𝓜 = 𝓜; 𝓖 = 𝓖; 𝓡 = 𝓡 } Code.env Symbol'18.name Symbol'18.routine Code.calls-lent-session·with-mark (Met'18.met 𝓤 H 𝓜 𝓖 𝓡)) (Reads''.known record { M = M; 𝓤 = 𝓤; H = H; 𝓜 = 𝓜; 𝓖 = 𝓖; 𝓡 = 𝓡 } Code.env Symbol''.name Symbol''.routine Code.calls-lent-rows·bytes-of (Met''.met 𝓤 H 𝓜 𝓖 𝓡)) (Reads.known record { M = M; 𝓤 = 𝓤; H = H; 𝓜 = 𝓜; 𝓖 = 𝓖; 𝓡 = 𝓡 } Code.env Symbol.name Symbol.routine Code.calls-lent-parts·send (Met.met 𝓤 H 𝓜 𝓖 𝓡)) (Reads'13.known record { M = M; 𝓤 = 𝓤; H = H; 𝓜 = 𝓜; 𝓖 = 𝓖; 𝓡 = 𝓡 } Code.env Symbol'13.name Symbol'13.routine Code.calls-lent-session·put-counts (Met'13.met 𝓤 H 𝓜 𝓖 𝓡)) (Reads'22.known record { M = M; 𝓤 = 𝓤; H = H; 𝓜 = 𝓜; 𝓖 = 𝓖; 𝓡 = 𝓡 } Code.env Symbol'21.name Symbol'21.routine Code.calls-panel-record·parameters-of (Met'21.met 𝓤 H 𝓜 𝓖 𝓡)) (Reads'15.known record { M = M; 𝓤 = 𝓤; H = H; 𝓜 = 𝓜; 𝓖 = 𝓖; 𝓡 = 𝓡 } Code.env Symbol'15.name Symbol'15.routine Code.calls-lent-session·put-parameters (Met'15.met 𝓤 H 𝓜 𝓖 𝓡)) (Reads'14.known record { M = M; 𝓤 = 𝓤; H = H; 𝓜 = 𝓜; 𝓖 = 𝓖; 𝓡 = 𝓡 } Code.env Symbol'14.name Symbol'14.routine Code.calls-lent-session·put-outputs (Met'14.met 𝓤 H 𝓜 𝓖 𝓡)) (Reads'16.known record { M = M; 𝓤 = 𝓤; H = H; 𝓜 = 𝓜; 𝓖 = 𝓖; 𝓡 = 𝓡 } Code.env Symbol'16.name Symbol'16.routine Code.calls-lent-session·put-stations (Met'16.met 𝓤 H 𝓜 𝓖 𝓡))

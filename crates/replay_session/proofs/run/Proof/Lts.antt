@@ -1243,8 +1243,8 @@ module _ (claims· : Claims) where
         pub good : Kinds.GoodsP tt ps (dens args)
         pub pre : Pre· tt (dens args)
 
-      abbrev pub Need-document-01-requires : Type 0
-      Need-document-01-requires = (c : Start) → s0 (c .blocks) .asks (m0 (c .args) (c .blocks))
+      abbrev pub Need-four-hours-requires : Type 0
+      Need-four-hours-requires = (c : Start) → s0 (c .blocks) .asks (m0 (c .args) (c .blocks))
 
       abbrev pub m1 :
           (before : Start) →
@@ -1253,65 +1253,65 @@ module _ (claims· : Claims) where
       m1 = λ before given. s0 (before .blocks) .next (m0 (before .args) (before .blocks)) given
 
       module _ (before· : Start) where
-        abbrev pub After-document-01·own : Type 0
-        After-document-01·own = Called.Called ps·0 r·0 (claims· .1) T0 (Num.vLit 64, tt) (m0 (before· .args) (before· .blocks))
+        abbrev pub After-four-hours·own : Type 0
+        After-four-hours·own = Called.Called ps·0 r·0 (claims· .1) T0 (Num.vLit 64, tt) (m0 (before· .args) (before· .blocks))
 
-      pub record After-document-01 : Type 0 where
+      pub record After-four-hours : Type 0 where
         pub before : Start
-        pub document-01 : After-document-01·own before
+        pub four-hours : After-four-hours·own before
 
-      abbrev pub After-document-01·gave :
-          (c : After-document-01) →
+      abbrev pub After-four-hours·gave :
+          (c : After-four-hours) →
           s0 (c .before .blocks) .gives (m0 (c .before .args) (c .before .blocks))
-      After-document-01·gave = λ c. Called.given ps·0 r·0 (claims· .1) T0 (Num.vLit 64, tt) (m0 (c .before .args) (c .before .blocks)) (c .document-01)
+      After-four-hours·gave = λ c. Called.given ps·0 r·0 (claims· .1) T0 (Num.vLit 64, tt) (m0 (c .before .args) (c .before .blocks)) (c .four-hours)
 
       abbrev pub Need-fresh-output-requires : Type 0
-      Need-fresh-output-requires = (c : After-document-01) → s1 (c .before .blocks) .asks (m1 (c .before) (After-document-01·gave c))
+      Need-fresh-output-requires = (c : After-four-hours) → s1 (c .before .blocks) .asks (m1 (c .before) (After-four-hours·gave c))
 
       abbrev pub m2 :
-          (before : After-document-01) →
+          (before : After-four-hours) →
           (given : s1
           (before .before .blocks) .gives
-          (m1 (before .before) (After-document-01·gave before))) →
+          (m1 (before .before) (After-four-hours·gave before))) →
           Typed.Mo T3
-      m2 = λ before given. s1 (before .before .blocks) .next (m1 (before .before) (After-document-01·gave before)) given
+      m2 = λ before given. s1 (before .before .blocks) .next (m1 (before .before) (After-four-hours·gave before)) given
 
-      module _ (before· : After-document-01) where
+      module _ (before· : After-four-hours) where
         abbrev pub After-fresh-output·own : Type 0
-        After-fresh-output·own = Called.Called ps·1 r·1 (claims· .3) T2 (record { pos = 2; st = List.[]; d = 0; at = λ x. x }, tt) (m1 (before· .before) (After-document-01·gave before·))
+        After-fresh-output·own = Called.Called ps·1 r·1 (claims· .3) T2 (record { pos = 2; st = List.[]; d = 0; at = λ x. x }, tt) (m1 (before· .before) (After-four-hours·gave before·))
 
       pub record After-fresh-output : Type 0 where
-        pub before : After-document-01
+        pub before : After-four-hours
         pub fresh-output : After-fresh-output·own before
 
       abbrev pub After-fresh-output·gave :
           (c : After-fresh-output) →
           s1
           (c .before .before .blocks) .gives
-          (m1 (c .before .before) (After-document-01·gave (c .before)))
-      After-fresh-output·gave = λ c. Called.given ps·1 r·1 (claims· .3) T2 (record { pos = 2; st = List.[]; d = 0; at = λ x. x }, tt) (m1 (c .before .before) (After-document-01·gave (c .before))) (c .fresh-output)
+          (m1 (c .before .before) (After-four-hours·gave (c .before)))
+      After-fresh-output·gave = λ c. Called.given ps·1 r·1 (claims· .3) T2 (record { pos = 2; st = List.[]; d = 0; at = λ x. x }, tt) (m1 (c .before .before) (After-four-hours·gave (c .before))) (c .fresh-output)
 
       abbrev pub m3 :
-          (before : After-document-01) →
+          (before : After-four-hours) →
           (given : s1
           (before .before .blocks) .gives
-          (m1 (before .before) (After-document-01·gave before))) →
+          (m1 (before .before) (After-four-hours·gave before))) →
           Typed.Mo T4
       m3 = λ before given. s2 (before .before .blocks) (m2 before given)
 
       abbrev pub m4 :
-          (before : After-document-01) →
+          (before : After-four-hours) →
           (given : s1
           (before .before .blocks) .gives
-          (m1 (before .before) (After-document-01·gave before))) →
+          (m1 (before .before) (After-four-hours·gave before))) →
           Typed.Mo T5
       m4 = λ before given. s3 (before .before .blocks) (m3 before given)
 
       abbrev pub m5 :
-          (before : After-document-01) →
+          (before : After-four-hours) →
           (given : s1
           (before .before .blocks) .gives
-          (m1 (before .before) (After-document-01·gave before))) →
+          (m1 (before .before) (After-four-hours·gave before))) →
           Typed.Mo T6
       m5 = λ before given. s4 (before .before .blocks) (m4 before given)
 
@@ -1788,7 +1788,7 @@ module _ (claims· : Claims) where
       abbrev pub Need-returns : Type 0
       Need-returns = (c : After-chunk2) → Post· tt (dens (c .before .before .before .before .before .before .before .before .before .before .before .before .before .before .before .before .args)) (Function.resV r tt (m42 (c .before) (c .chunk2 .given) .0)) (Clauses.atExit (Kinds.endedOf 0 ps r) tt (dens (c .before .before .before .before .before .before .before .before .before .before .before .before .before .before .before .before .args)) (Enter.lastsP tt 1 ps xs (dens (c .before .before .before .before .before .before .before .before .before .before .before .before .before .before .before .before .args)) (m42 (c .before) (c .chunk2 .given) .1)))
 
-      module _ (document-01-requires : Need-document-01-requires)
+      module _ (four-hours-requires : Need-four-hours-requires)
           (fresh-output-requires : Need-fresh-output-requires)
           (fresh-station-requires : Need-fresh-station-requires)
           (fresh-record-requires : Need-fresh-record-requires)
@@ -1856,16 +1856,16 @@ module _ (claims· : Claims) where
         lay2 = λ c. (fresh-station-requires record { before = c .before; fresh-output = c .fresh-output }, λ g. lay3 record { before = record { before = c .before; fresh-output = c .fresh-output }; fresh-station = Called.called ps·2 r·2 (claims· .5) T6 tt (m5 (c .before) (After-fresh-output·gave c)) g })
 
         lay1 :
-            (c : After-document-01) →
+            (c : After-four-hours) →
             at56
             (c .before .blocks)
             (W0 (c .before .args) (c .before .blocks))
-            (m1 (c .before) (After-document-01·gave c))
-        lay1 = λ c. (fresh-output-requires record { before = c .before; document-01 = c .document-01 }, λ g. lay2 record { before = record { before = c .before; document-01 = c .document-01 }; fresh-output = Called.called ps·1 r·1 (claims· .3) T2 (record { pos = 2; st = List.[]; d = 0; at = λ x. x }, tt) (m1 (c .before) (After-document-01·gave c)) g })
+            (m1 (c .before) (After-four-hours·gave c))
+        lay1 = λ c. (fresh-output-requires record { before = c .before; four-hours = c .four-hours }, λ g. lay2 record { before = record { before = c .before; four-hours = c .four-hours }; fresh-output = Called.called ps·1 r·1 (claims· .3) T2 (record { pos = 2; st = List.[]; d = 0; at = λ x. x }, tt) (m1 (c .before) (After-four-hours·gave c)) g })
 
         pub laid :
             (c : Start) → at57 (c .blocks) (W0 (c .args) (c .blocks)) (m0 (c .args) (c .blocks))
-        laid = λ c. (document-01-requires c, λ g. lay1 record { before = c; document-01 = Called.called ps·0 r·0 (claims· .1) T0 (Num.vLit 64, tt) (m0 (c .args) (c .blocks)) g })
+        laid = λ c. (four-hours-requires c, λ g. lay1 record { before = c; four-hours = Called.called ps·0 r·0 (claims· .1) T0 (Num.vLit 64, tt) (m0 (c .args) (c .blocks)) g })
 
         module _ (κs : Lifetimes.Lfts 0) (qs : Lifetimes.Shares 0) where
           pub asked :
