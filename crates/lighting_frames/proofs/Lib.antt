@@ -9,6 +9,8 @@ pub mod Octets
 pub mod Operations
 -- commands in tags (§1), written and read
 pub mod Tagging
+-- what a request reads of a set
+pub mod SetRead
 -- the number of outputs of a set plays no part here (§6)
 pub mod OutputCount
 -- of two longest fades: a frame, by the shorter one (§7)

@@ -7,7 +7,7 @@ use Rattle.lighting_outputs.specs.Paper.Parameters.{Parameters}
 use Rattle.lighting_outputs.specs.Paper.Rows.{rowOf}
 use Rattle.lighting_outputs.specs.Paper.Properties.{changeOf}
 use Rattle.lighting_outputs.specs.Paper.Operations.{fieldsOf}
-use Rattle.lighting_outputs.specs.Paper.Requests.{timeFieldRefusal, fieldsRefusal, commandLasting, commandWithDuration, commandRequestBy, commandOf, commandRequest, plainDuration}
+use Rattle.lighting_outputs.specs.Paper.Requests.{timeFieldRefusal, fieldsRefusal, commandLasting, commandWithDuration, commandRequestBy, commandOf}
 use Rattle.lighting_outputs.specs.Paper.Rules.{levelsSound, timesSound, settingsSound, spanSound, movementSound, activityBy, activitySound, relaySound, sound}
 use Rattle.lighting_outputs.specs.Paper.Slots.{isLive, winner, slot6}
 use Rattle.lighting_outputs.specs.Paper.Value.{presentValue}
@@ -49,10 +49,6 @@ module _ (p : Parameters) (n : ℕ) where
   pub command : (operation : Operation) (duration : TimeField) → commandOf other operation duration ≡ commandOf p operation duration
   unfolding commandOf commandRequestBy fieldsRefusal
   command operation duration = rw (time (fieldsOf operation .fade), lasting operation duration)
-
-  pub plain : (operation : Operation) (d : ℕ) → commandRequest other operation d ≡ commandRequest p operation d
-  unfolding commandRequest
-  plain operation d = command operation (plainDuration d)
 
   -- THE RECORD RULES
   activity : (t : ℕ) (l : Bool) (first high v : ℕ) (a : Activity) → activityBy other t l first high v a ≡ activityBy p t l first high v a

@@ -3,15 +3,15 @@
 -- two: by the shorter one that is 12.
 use mathlib.Core.Path.{_≡_, refl}
 use mathlib.Core.Bool.{Bool, true, false}
-use Prim.Native.Nat.{ℕ, suc, _≤_, max}
+use Prim.Native.Nat.{ℕ, suc, _≤_}
 use native.Mathlib.Omega.{arith}
 use lib.Dec.{eqb}
 use Rattle.lighting_levels.specs.Paper.Choice.{if_then_else_, _also_}
-use Rattle.lighting_outputs.specs.Paper.Parameters.{Parameters}
+use Rattle.lighting_outputs.specs.Paper.Parameters.{Parameters, longestMovement}
 use Rattle.lighting_outputs.specs.Paper.Rows.{within, meets}
 use Rattle.lighting_outputs.specs.Paper.Properties.{same, changeBy, changeOf}
 use Rattle.lighting_outputs.specs.Paper.Operations.{fieldsOf}
-use Rattle.lighting_outputs.specs.Paper.Requests.{levelFieldRefusal, amountFieldRefusal, timeFieldRefusal, firstRefusal, fieldsRefusal, commandLasting, commandWithDuration, commandRequestBy, commandOf, commandRequest, plainDuration}
+use Rattle.lighting_outputs.specs.Paper.Requests.{levelFieldRefusal, amountFieldRefusal, timeFieldRefusal, firstRefusal, fieldsRefusal, commandLasting, commandWithDuration, commandRequestBy, commandOf}
 use Rattle.lighting_outputs.specs.Paper.TimeWithin.{timeWithin}
 use Rattle.lighting_outputs.specs.Paper.Rules.{levelsSound, timesSound, settingsSound, spanSound, movementSound, activityBy, activitySound, relaySound, sound}
 use Rattle.lighting_outputs.specs.declared.Activity.{Activity}
@@ -52,39 +52,36 @@ pub data Shortened (between : Bool) : Request → Request → Type 0 where
 also-then : {a a′ b b′ : Bool} → (a ≡ true → a′ ≡ true) → (b ≡ true → b′ ≡ true) → (a also b) ≡ true → (a′ also b′) ≡ true
 also-then f g h = let both = also-both h in also-yes (f (both .0)) (g (both .1))
 
+also-rest : (a : Bool) {b b′ : Bool} → (b ≡ true → b′ ≡ true) → (a also b) ≡ true → (a also b′) ≡ true
+also-rest a g = also-then {a = a} {a′ = a} (λ e. e) g
+
 module _ (p : Parameters) (fade : ℕ) (less : fade ≤ p .fade) where
   abbrev shorter : Parameters
   shorter = withFade p fade
 
   -- THE RECORD RULES
-  within-longer : (least most v : ℕ) → fade ≤ most → within least fade v ≡ true → within least most v ≡ true
+  within-longer : (least short long v : ℕ) → short ≤ long → within least short v ≡ true → within least long v ≡ true
   unfolding within
-  within-longer least most v l h = also-then (λ e. e) (λ e. leb-yes {a = v} {b = most} (omega (arith, le-of {a = v} {b = fade} e))) h
+  within-longer least short long v longer =
+      also-rest _ (λ high. leb-yes {a = v} {b = long} (omega (arith, le-of {a = v} {b = short} high)))
 
   times : (c : Settings) → timesSound shorter c ≡ true → timesSound p c ≡ true
   unfolding timesSound meets
-  times c h = also-then (within-longer 100 (p .fade) (c .fade) less) (λ e. e) h
+  times c = also-then (within-longer 100 fade (p .fade) (c .fade) less) (λ blinks. blinks)
 
   settings : (c : Settings) → settingsSound shorter c ≡ true → settingsSound p c ≡ true
   unfolding settingsSound levelsSound
-  settings c h = also-then (λ e. e) (also-then (times c) (λ e. e)) h
+  settings c = also-rest _ (also-then (times c) (λ others. others))
 
-  within-movement : (v : ℕ) → within 1 (max fade 800000) v ≡ true → within 1 (max (p .fade) 800000) v ≡ true
-  unfolding within
-  within-movement v h = also-then (λ e. e) (λ e. leb-yes {a = v} {b = max (p .fade) 800000} (omega (arith, le-of {a = v} {b = max fade 800000} e))) h
-
-  movement : (t first high v : ℕ) (m : Movement) → movementSound shorter t first high v m ≡ true → movementSound p t first high v m ≡ true
+  movement : (t first high v : ℕ) (m : Movement) → movementSound shorter t first high v m ≡ true
+      → movementSound p t first high v m ≡ true
   unfolding movementSound spanSound
-  movement t first high v m h =
-      also-then (λ e. e)
-      (also-then (λ e. e)
-      (also-then (λ e. e)
-      (also-then (λ e. e)
-      (also-then (λ e. e)
-      (also-then (λ e. e)
-      (within-movement (m .length))))))) h
+  movement t first high v m =
+      let length = within-longer 1 (longestMovement shorter) (longestMovement p) (m .length) (omega arith) in
+      also-rest _ (also-rest _ (also-rest _ (also-rest _ (also-rest _ (also-rest _ length)))))
 
-  activity : (t : ℕ) (l : Bool) (first high v : ℕ) (a : Activity) → activityBy shorter t l first high v a ≡ true → activityBy p t l first high v a ≡ true
+  activity : (t : ℕ) (l : Bool) (first high v : ℕ) (a : Activity) → activityBy shorter t l first high v a ≡ true
+      → activityBy p t l first high v a ≡ true
   unfolding activityBy if_then_else_
   activity t l first high v Still h = h
   activity t true first high v (Moving m) h = h
@@ -93,7 +90,7 @@ module _ (p : Parameters) (fade : ℕ) (less : fade ≤ p .fade) where
 
   pub rules : (t : ℕ) (o : Output) → sound shorter t o ≡ true → sound p t o ≡ true
   unfolding sound activitySound relaySound
-  rules t o h = also-then (settings (o .settings)) (also-then (λ e. e) (also-then (activity t _ _ _ _ (o .activity)) (λ e. e))) h
+  rules t o = also-then (settings (o .settings)) (also-rest _ (also-then (activity t _ _ _ _ (o .activity)) (λ others. others)))
 
   -- REFUSAL 12. A time is between the two; or both sets take it, or both refuse it
   by-time : {P : Type 0} (x : ℕ)
@@ -104,23 +101,23 @@ module _ (p : Parameters) (fade : ℕ) (less : fade ≤ p .fade) where
   unfolding within if_then_else_
   by-time x outside neither between =
       by-le x fade
-      (λ l e. outside
+      (λ under taken. outside
       (rw (leb-no {a = suc fade} {b = x} (omega arith)))
-      (rw (e, leb-yes {a = x} {b = p .fade} (omega arith))))
-      (λ l e. by-le x (p .fade)
-      (λ l′ e′. by-le 100 x
-      (λ l″ e″. between (rw (leb-yes {a = suc fade} {b = x} (omega arith), e′)) (rw (e″, e)) (rw (e″, e′)))
-      (λ l″ e″. neither (rw e″) (rw e″)))
-      (λ l′ e′. outside (rw (leb-yes {a = suc fade} {b = x} (omega arith), e′)) (rw (e, e′))))
+      (rw (taken, leb-yes {a = x} {b = p .fade} (omega arith))))
+      (λ over high. by-le x (p .fade)
+      (λ under taken. by-le 100 x
+      (λ above low. between (rw (leb-yes {a = suc fade} {b = x} (omega arith), taken)) (rw (low, high)) (rw (low, taken)))
+      (λ below low. neither (rw low) (rw low)))
+      (λ past highest. outside (rw (leb-yes {a = suc fade} {b = x} (omega arith), highest)) (rw (high, highest))))
 
   -- a write of a property
   fade-time : (x : ℕ) → Shortened (within (suc fade) (p .fade) x) (changeOf p FadeTime x) (changeOf shorter FadeTime x)
   unfolding changeOf changeBy if_then_else_
   fade-time x =
       by-time x
-      (λ o e. rw e (alike o))
-      (λ s l. rw (s, l) refused)
-      (λ b s l. rw (s, l) (cut b written))
+      (λ none same-test. rw same-test (alike none))
+      (λ high highest. rw (high, highest) refused)
+      (λ carried high taken. rw (high, taken) (cut carried written))
 
   pub change : (property : Property) (x : ℕ)
       → Shortened (same FadeTime property also within (suc fade) (p .fade) x) (changeOf p property x) (changeOf shorter property x)
@@ -134,7 +131,8 @@ module _ (p : Parameters) (fade : ℕ) (less : fade ≤ p .fade) where
   fields : OperationFields → ℕ
   fields f = firstRefusal (levelFieldRefusal (f .level)) (firstRefusal (amountFieldRefusal (f .rate)) (amountFieldRefusal (f .step)))
 
-  fields-then : (q : Parameters) (f : OperationFields) → fieldsRefusal q f ≡ firstRefusal (fields f) (timeFieldRefusal q (f .fade))
+  fields-then : (q : Parameters) (f : OperationFields)
+      → fieldsRefusal q f ≡ firstRefusal (fields f) (timeFieldRefusal q (f .fade))
   unfolding fields fieldsRefusal firstRefusal if_then_else_
   fields-then q f =
       by-bool (eqb (levelFieldRefusal (f .level)) 0)
@@ -142,12 +140,14 @@ module _ (p : Parameters) (fade : ℕ) (less : fade ≤ p .fade) where
       (λ e. rw (e, e))
 
   -- the duration reads no fade: by both sets it is taken, or 12
-  lasting : (operation : Operation) (field : TimeField) → commandWithDuration shorter operation field ≡ commandWithDuration p operation field
+  lasting : (operation : Operation) (field : TimeField)
+      → commandWithDuration shorter operation field ≡ commandWithDuration p operation field
   unfolding commandWithDuration commandLasting
   lasting operation (Time d) = refl
   lasting operation NoTime = refl
 
-  taken : (between : Bool) → between ≡ true → (operation : Operation) (field : TimeField) → Shortened between (commandWithDuration p operation field) (Refuse 12)
+  taken : (between : Bool) → between ≡ true → (operation : Operation) (field : TimeField)
+      → Shortened between (commandWithDuration p operation field) (Refuse 12)
   unfolding commandWithDuration commandLasting if_then_else_
   taken between h operation (Time d) =
       by-bool (eqb d 0)
@@ -163,12 +163,12 @@ module _ (p : Parameters) (fade : ℕ) (less : fade ≤ p .fade) where
   by-fade operation duration NoTime reals = rw (lasting operation duration) (alike refl)
   by-fade operation duration (Time x) reals =
       by-time x
-      (λ o e. rw (e, lasting operation duration) (alike o))
-      (λ s l. rw (s, l) (by-bool (eqb reals 0) (λ e. rw e refused) (λ e. rw (e, e) refused)))
-      (λ b s l. rw (s, l)
+      (λ none same-test. rw (same-test, lasting operation duration) (alike none))
+      (λ high highest. rw (high, highest) (by-bool (eqb reals 0) (λ good. rw good refused) (λ bad. rw (bad, bad) refused)))
+      (λ carried high low. rw (high, low)
       (by-bool (eqb reals 0)
-      (λ e. rw e (taken (within (suc fade) (p .fade) x) b operation duration))
-      (λ e. rw (e, e) refused)))
+      (λ good. rw good (taken (within (suc fade) (p .fade) x) carried operation duration))
+      (λ bad. rw (bad, bad) refused)))
 
   pub command : (operation : Operation) (duration : TimeField)
       → Shortened (timeWithin (suc fade) (p .fade) (fieldsOf operation .fade)) (commandOf p operation duration) (commandOf shorter operation duration)
@@ -176,8 +176,3 @@ module _ (p : Parameters) (fade : ℕ) (less : fade ≤ p .fade) where
   command operation duration =
       rw (fields-then p (fieldsOf operation), fields-then shorter (fieldsOf operation))
       (by-fade operation duration (fieldsOf operation .fade) (fields (fieldsOf operation)))
-
-  pub plain : (operation : Operation) (d : ℕ)
-      → Shortened (timeWithin (suc fade) (p .fade) (fieldsOf operation .fade)) (commandRequest p operation d) (commandRequest shorter operation d)
-  unfolding commandRequest
-  plain operation d = command operation (plainDuration d)

@@ -1,7 +1,7 @@
--- §7 AS A THEOREM: the old panel and today's, started with the set 8, its output count, 14,400,000, 86,400,000,
--- find the same, keep the same station records and time and give the same answers after every list without a
--- longer fade time. It is asked of the frames alone to which the old panel answers Done; and on every other
--- list an answer differs.
+-- §7 AS A THEOREM: the old panel and today's, started with the set 8, its output count, 14,400,000,
+-- 86,400,000, find the same, keep the same station records and time and give the same answers after every
+-- list without a longer fade time. It is asked of the frames alone to which the old panel answers Done; and
+-- on every other list an answer differs.
 use mathlib.Core.Path.{_≡_, refl, sym, ap, _∙_}
 use mathlib.Core.List.{List, [], _∷_}
 use lib.ListN.{length, replicate}
@@ -22,8 +22,8 @@ use Rattle.lighting_panel.proofs.Calls.{calls-list}
 use Rattle.lighting_panel.proofs.OldPanel.{setOf, StartsAlike, starts-alike}
 use Rattle.lighting_panel.proofs.OldLists.{old, listed-as-old, short-as-old}
 
--- AFTER THE START with 8, C, 14,400,000, 86,400,000, where it answered Done: then the old panel's did, and both
--- begin alike
+-- AFTER THE START with 8, C, 14,400,000, 86,400,000, where it answered Done: then the old panel's did, and
+-- both begin alike
 module _ (e : Panel) (h : startStep (setOf (withoutSet e)) e .answer ≡ Done) where
   abbrev begun : PlainState
   begun = plainStart (setOf (withoutSet e))
@@ -83,7 +83,8 @@ none-longer (b ∷ l) (a ∷ given) n = (λ h. n .0, none-longer l given (n .1))
 
 -- WHO CALLS `start` with that set and then `frame` for each string of the list has the old panel's records,
 -- time and answers
-pub called-as-old : (e e₀ e′ : Panel) (l : List Bytes) (given : List Answer) → Strings l → result e₀ Done ≡ startStep (setOf (withoutSet e)) e → Calls e₀ l given e′
+pub called-as-old : (e e₀ e′ : Panel) (l : List Bytes) (given : List Answer) → Strings l
+    → result e₀ Done ≡ startStep (setOf (withoutSet e)) e → Calls e₀ l given e′
     → NoneLongerDone l (oldAnswers (oldStart (withoutSet e) .panel) l)
     → (withoutSet e′ ≡ oldAfter (oldStart (withoutSet e) .panel) l) × (given ≡ oldAnswers (oldStart (withoutSet e) .panel) l)
 called-as-old e e₀ e′ l given s b c n =

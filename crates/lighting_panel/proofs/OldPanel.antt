@@ -65,7 +65,8 @@ rule : (outputs t : ℕ) (o : Output) → sound (fourHours outputs) t o ≡ true
 rule outputs t o h =
     Shorter.rules (document01 64) 14400000 (omega arith) t o (sym (Count.rules (withFade (document01 64) 14400000) outputs t o) ∙ h)
 
-every-rule : (outputs t : ℕ) (l : List Output) → every (sound (fourHours outputs) t) l ≡ true → every (sound (document01 64) t) l ≡ true
+every-rule : (outputs t : ℕ) (l : List Output) → every (sound (fourHours outputs) t) l ≡ true
+    → every (sound (document01 64) t) l ≡ true
 unfolding every
 every-rule outputs t [] h = refl
 every-rule outputs t (o ∷ l) h = let both = also-both h in also-yes (rule outputs t o (both .0)) (every-rule outputs t l (both .1))
@@ -85,7 +86,8 @@ pub data ShortenedVerdict (between : Bool) : Verdict → Verdict → Type 0 wher
   turned : {r : ℕ} → ShortenedVerdict between (TurnedDown r) (TurnedDown r)
   copied : {a : Answer} → ShortenedVerdict between (Copied a) (Copied a)
   timed : {t : ℕ} → between ≡ false → ShortenedVerdict between (Clocked t) (Clocked t)
-  arrives : (call : Call) (request : Request) → Shortened between (call .request) request → ShortenedVerdict between (Arrives call) (Arrives (asking call request))
+  arrives : (call : Call) (request : Request) → Shortened between (call .request) request
+      → ShortenedVerdict between (Arrives call) (Arrives (asking call request))
 
 judged : {between : Bool} {long short : Frame} (now : ℕ) (stations : List Station) (b : Bytes) → ShortenedFrame between long short
     → ShortenedVerdict between
@@ -93,15 +95,15 @@ judged : {between : Bool} {long short : Frame} (now : ℕ) (stations : List Stat
     (judgedByStation now (getD stations (stationOf short) freshStation) b short)
 unfolding judgedByStation judgedByRecord judgedByNumber stationOf retransmissionOrConflict if_then_else_
 judged now stations b bad = turned
-judged now stations b (clocked {t = t} h) = by-bool (ltb t now) (λ e. rw e turned) (λ e. rw e (timed h))
-judged now stations b (asks call request s) =
-    let k = getD stations (call .station) freshStation in
-    by-bool (eqb (call .number) (k .number))
-    (λ e. rw e (by-bool (sameBytes b (restored (k .frame))) (λ q. rw q copied) (λ q. rw q turned)))
-    (λ e. rw e
-    (by-bool (ltb (call .number) (k .number))
-    (λ q. rw q turned)
-    (λ q. rw q (by-bool (ltb (call .time) now) (λ u. rw u turned) (λ u. rw u (arrives call request s))))))
+judged now stations b (clocked {t = t} none) = by-bool (ltb t now) (λ late. rw late turned) (λ timely. rw timely (timed none))
+judged now stations b (asks call request asked) =
+    let last = getD stations (call .station) freshStation in
+    by-bool (eqb (call .number) (last .number))
+    (λ again. rw again (by-bool (sameBytes b (restored (last .frame))) (λ same. rw same copied) (λ other. rw other turned)))
+    (λ other. rw other
+    (by-bool (ltb (call .number) (last .number))
+    (λ below. rw below turned)
+    (λ new. rw new (by-bool (ltb (call .time) now) (λ late. rw late turned) (λ timely. rw timely (arrives call request asked))))))
 
 pub verdicts : (e : OldPanel) (b : Bytes) → ShortenedVerdict (carriesLonger b) (oldDecide e b) (decide (today e) b)
 unfolding decide oldDecide
@@ -113,7 +115,8 @@ verdicts e b =
 abbrev pub stepWith : Parameters → OldStep → Step
 stepWith p s = result (withSet p (s .panel)) (s .answer)
 
-same-execute : (p : Parameters) (b : Bytes) (e : OldPanel) (v : Verdict) → execute b (withSet p e) v ≡ stepWith p (oldExecute b e v)
+same-execute : (p : Parameters) (b : Bytes) (e : OldPanel) (v : Verdict)
+    → execute b (withSet p e) v ≡ stepWith p (oldExecute b e v)
 unfolding execute oldExecute
 same-execute p b e (TurnedDown r) = refl
 same-execute p b e (Copied a) = refl
@@ -130,13 +133,14 @@ pub record Cut (e : OldPanel) (b : Bytes) : Type 0 where
   pub takes : TakesFade request
   pub longer : carriesLonger b ≡ true
 
--- THE TWO VERDICTS on every string of bytes: turned down alike, or copies; a frame without a longer fade time;
--- a first arrival that both refuse; or one that is cut
+-- THE TWO VERDICTS on every string of bytes: turned down alike, or copies; a frame without a longer fade
+-- time; a first arrival that both refuse; or one that is cut
 pub data Compared (e : OldPanel) (b : Bytes) : Type 0 where
   turned-down : {r : ℕ} → oldDecide e b ≡ TurnedDown r → decide (today e) b ≡ TurnedDown r → Compared e b
   copied-both : {a : Answer} → oldDecide e b ≡ Copied a → decide (today e) b ≡ Copied a → Compared e b
   short : carriesLonger b ≡ false → decide (today e) b ≡ oldDecide e b → Compared e b
-  refused-both : {r : ℕ} (call : Call) → call .request ≡ Refuse r → oldDecide e b ≡ Arrives call → decide (today e) b ≡ Arrives call → Compared e b
+  refused-both : {r : ℕ} (call : Call) → call .request ≡ Refuse r → oldDecide e b ≡ Arrives call
+      → decide (today e) b ≡ Arrives call → Compared e b
   cut-off : Cut e b → Compared e b
 
 pub compared : (e : OldPanel) (b : Bytes) → Compared e b
@@ -144,36 +148,40 @@ compared e b = by (verdicts e b) refl refl
   where
     ask : (call : Call) {long request : Request} → Shortened (carriesLonger b) long request → call .request ≡ long
         → oldDecide e b ≡ Arrives call → decide (today e) b ≡ Arrives (asking call request) → Compared e b
-    ask call (alike h) q x y = short h (y ∙ ap (λ (r : Request). Arrives (asking call r)) (sym q) ∙ sym x)
-    ask call refused q x y = refused-both call q x (y ∙ ap (λ (r : Request). Arrives (asking call r)) (sym q))
-    ask call (cut {request = request} h t) q x y = cut-off (record { call = call; request = request; before = x; now = y; asked = q; takes = t; longer = h })
+    ask call (alike none) asked before now = short none (now ∙ ap (λ (r : Request). Arrives (asking call r)) (sym asked) ∙ sym before)
+    ask call refused asked before now = refused-both call asked before (now ∙ ap (λ (r : Request). Arrives (asking call r)) (sym asked))
+    ask call (cut {request = request} longer takes) asked before now =
+        cut-off (record { call = call; request = request; before = before; now = now; asked = asked; takes = takes; longer = longer })
 
-    by : {long now : Verdict} → ShortenedVerdict (carriesLonger b) long now → oldDecide e b ≡ long → decide (today e) b ≡ now → Compared e b
-    by turned x y = turned-down x y
-    by copied x y = copied-both x y
-    by (timed h) x y = short h (y ∙ sym x)
-    by (arrives call request s) x y = ask call s refl x y
+    by : {long shorter : Verdict} → ShortenedVerdict (carriesLonger b) long shorter
+        → oldDecide e b ≡ long → decide (today e) b ≡ shorter → Compared e b
+    by turned before now = turned-down before now
+    by copied before now = copied-both before now
+    by (timed none) before now = short none (now ∙ sym before)
+    by (arrives call request asked) before now = ask call asked refl before now
 
 -- so every verdict is the same, but of a frame that is cut
 same-verdict : (e : OldPanel) (b : Bytes) → (Cut e b → ⊥) → decide (today e) b ≡ oldDecide e b
 same-verdict e b never = by (compared e b)
   where
     by : Compared e b → decide (today e) b ≡ oldDecide e b
-    by (turned-down x y) = y ∙ sym x
-    by (copied-both x y) = y ∙ sym x
-    by (short h x) = x
-    by (refused-both call q x y) = y ∙ sym x
-    by (cut-off k) = absurd (never k)
+    by (turned-down before now) = now ∙ sym before
+    by (copied-both before now) = now ∙ sym before
+    by (short none both) = both
+    by (refused-both call asked before now) = now ∙ sym before
+    by (cut-off z) = absurd (never z)
 
-pub frame-by : (e : OldPanel) (b : Bytes) → panelSound (today e) ≡ true → (Cut e b → ⊥) → frameStep (today e) b ≡ stepWith (setOf e) (oldFrame e b)
+pub frame-by : (e : OldPanel) (b : Bytes) → panelSound (today e) ≡ true → (Cut e b → ⊥)
+    → frameStep (today e) b ≡ stepWith (setOf e) (oldFrame e b)
 unfolding frameStep oldFrame if_then_else_
 frame-by e b h never =
     rw (h, sound-then e h, same-verdict e b never) (same-execute (setOf e) b e (oldDecide e b))
 
 -- any string of bytes that carries no longer fade time, over every lent table that keeps the rules of four
 -- hours
-pub old-frame : (e : OldPanel) (b : Bytes) → panelSound (today e) ≡ true → carriesLonger b ≡ false → frameStep (today e) b ≡ stepWith (setOf e) (oldFrame e b)
-old-frame e b h none = frame-by e b h (λ k. false≢true (sym none ∙ k .longer))
+pub old-frame : (e : OldPanel) (b : Bytes) → panelSound (today e) ≡ true → carriesLonger b ≡ false
+    → frameStep (today e) b ≡ stepWith (setOf e) (oldFrame e b)
+old-frame e b h none = frame-by e b h (λ z. false≢true (sym none ∙ z .longer))
 
 -- A frame leaves as many outputs as there are, so the set stays the table's
 execute-length : (b : Bytes) (e : OldPanel) (v : Verdict) → length (oldExecute b e v .panel .outputs) ≡ length (e .outputs)
@@ -197,7 +205,8 @@ next e b = ap (λ (c : ℕ). withSet (fourHours c) (oldFrame e b .panel)) (sym (
 pub record StartsAlike (e : Panel) : Type 0 where
   pub answered : startStep (setOf (withoutSet e)) e .answer ≡ oldStart (withoutSet e) .answer
   pub panel : withoutSet (startStep (setOf (withoutSet e)) e .panel) ≡ oldStart (withoutSet e) .panel
-  pub kept : oldStart (withoutSet e) .answer ≡ Done → startStep (setOf (withoutSet e)) e .panel ≡ today (oldStart (withoutSet e) .panel)
+  pub kept : oldStart (withoutSet e) .answer ≡ Done
+      → startStep (setOf (withoutSet e)) e .panel ≡ today (oldStart (withoutSet e) .panel)
 
 module _ (e : Panel) (least : 1 ≤ length (e .outputs)) (most : length (e .outputs) ≤ 64) where
   abbrev c : ℕ

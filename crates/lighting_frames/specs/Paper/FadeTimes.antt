@@ -1,6 +1,6 @@
--- §7, 'lists without a longer fade time': THE FADE TIME THAT A FRAME CARRIES, read from its bytes alone, good or
--- bad. It stands in the field of kind 12, in the value of a write (kind 04) of property 02, and in tag 4 of a
--- body of kind 1B.
+-- §7, 'lists without a longer fade time': THE FADE TIME THAT A FRAME CARRIES, read from its bytes alone,
+-- good or bad. It stands in the field of kind 12, in the value of a write (kind 04) of property 02, and in
+-- tag 4 of a body of kind 1B.
 use mathlib.Core.Bool.{Bool}
 use Prim.Native.Nat.{ℕ}
 use lib.Dec.{eqb}

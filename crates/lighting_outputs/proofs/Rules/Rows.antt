@@ -31,12 +31,14 @@ pub priority-of : (n : ℕ) → isPriority n ≡ true → Slot (n - 1)
 unfolding isPriority if_then_else_
 priority-of n h = by-eq n 0 (λ z e. absurd (false≢true (rw e at h))) (λ z e. slot-of (n - 1) (rw e at h))
 
-to-good : (p : Parameters) (n : Property) (l : Level) → ((v : ℕ) → l ≡ Units v → RequestInRange p (ToOutput (Change n v))) → RequestInRange p (changeTo n l)
+to-good : (p : Parameters) (n : Property) (l : Level)
+    → ((v : ℕ) → l ≡ Units v → RequestInRange p (ToOutput (Change n v))) → RequestInRange p (changeTo n l)
 unfolding changeTo
 to-good p n (Units v) f = f v refl
 to-good p n OutOfRange f = omega arith
 
-row-good : (p : Parameters) (r : Range) (n : Property) (x : ℕ) → ((v : ℕ) → Meets r v → RequestInRange p (ToOutput (Change n v))) → RequestInRange p (changeBy r n x)
+row-good : (p : Parameters) (r : Range) (n : Property) (x : ℕ)
+    → ((v : ℕ) → Meets r v → RequestInRange p (ToOutput (Change n v))) → RequestInRange p (changeBy r n x)
 unfolding changeBy if_then_else_
 row-good p Percent n x f = to-good p n (levelOf (real x)) (λ v e. let u = level-units (real x) v e in f v (record { least = u .0; most = u .1 }))
 row-good p Limit n x f = to-good p n (limitOf (real x)) (λ v e. let u = limit-units (real x) v e in f v (record { least = u .0; most = u .1 }))

@@ -16,8 +16,8 @@ longestBlink = 86400000
 abbrev pub freshFade : Parameters → ℕ
 freshFade p = min 1000 (p .fade)
 
--- document 01's own numbers, of a panel of so many outputs: eight stations, and a day for fades and durations.
--- No panel may be started with them any more (§7)
+-- document 01's own numbers, of a panel of so many outputs: eight stations, and a day for fades and
+-- durations. No panel may be started with them any more (§7)
 abbrev pub document01 : ℕ → Parameters
 document01 outputs = record { stations = 8; outputs = outputs; fade = 86400000; duration = 86400000 }
 

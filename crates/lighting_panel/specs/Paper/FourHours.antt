@@ -1,6 +1,6 @@
 -- §7: 'The old panel's set now ends in 14,400,000, 86,400,000, and equals it on lists without a longer fade
--- time'. Which lists these are; proofs/FourHours.antt has that they are just the ones on which every answer is
--- the same.
+-- time'. Which lists these are; proofs/FourHours.antt has that they are just the ones on which every answer
+-- is the same.
 use mathlib.Core.Path.{_≡_}
 use mathlib.Core.Bool.{Bool, false}
 use mathlib.Core.List.{List, [], _∷_}
@@ -18,8 +18,8 @@ carriesLonger b = carries 14400001 86400000 b
 abbrev pub NoneLonger : List Bytes → Type 0
 NoneLonger l = Every (λ (b : Bytes). carriesLonger b ≡ false) l
 
--- and less is enough: of the frames to which the old panel answered Done none carries one. What it refused may
--- carry any
+-- and less is enough: of the frames to which the old panel answered Done none carries one. What it refused
+-- may carry any
 abbrev pub NoneLongerDone : List Bytes → List Answer → Type 0
 NoneLongerDone [] given = Unit {0}
 NoneLongerDone (b ∷ l) [] = Unit {0}

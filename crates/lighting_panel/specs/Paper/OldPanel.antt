@@ -2,8 +2,8 @@
 -- did not move it shares with today's panel; where today's reads a number of the set, it reads document
 -- 01's, which is written there with 64 outputs, the most that it allows. That each such definition is then
 -- document 01's own clause, with its numbers, the theorems of `Consequences/Numbers.antt` say.
--- proofs/OldPanel.antt and proofs/FourHours.antt: 'The old panel's set now ends in 14,400,000, 86,400,000, and
--- equals it on lists without a longer fade time' (§7).
+-- proofs/OldPanel.antt and proofs/FourHours.antt: 'The old panel's set now ends in 14,400,000, 86,400,000,
+-- and equals it on lists without a longer fade time' (§7).
 use mathlib.Core.Bool.{Bool}
 use mathlib.Core.List.{List, [], _∷_, map}
 use Prim.Native.Nat.{ℕ}

@@ -1,6 +1,6 @@
--- §7 BY NUMBER: fade times at four hours and one more, and at a day and one more, by all three ways, to today's
--- panel and to the old one; and lists that show which frames the theorem asks. proofs/Figures.antt computes
--- them.
+-- §7 BY NUMBER: fade times at four hours and one more, and at a day and one more, by all three ways, to
+-- today's panel and to the old one; and lists that show which frames the theorem asks. proofs/Figures.antt
+-- computes them.
 use mathlib.Core.Bool.{Bool, true, false}
 use mathlib.Core.List.{List, [], _∷_, _++_, map}
 use Prim.Native.Nat.{ℕ, _+_}
@@ -16,7 +16,7 @@ use Rattle.lighting_panel.specs.Paper.Demand.{answers}
 use Rattle.lighting_panel.specs.Paper.OldPanel.{OldPanel, oldStart, oldAnswers}
 use Rattle.lighting_panel.specs.Paper.FourHours.{carriesLonger}
 use Rattle.lighting_panel.specs.Paper.Worked.{call, clockAt, asked}
-use Rattle.lighting_panel.specs.Paper.WorkedSets.{of, none, nth, written, fadesOver, fadesInTags, stopsFor, stopsInTags}
+use Rattle.lighting_panel.specs.Paper.WorkedSets.{of, none, nth, propertyWritten, fadesOver, fadesInTags, stopsFor, stopsInTags}
 use Rattle.lighting_outputs.specs.declared.Answer.{Answer}
 use Rattle.lighting_outputs.specs.declared.Answer.the-variants.{Done, Value, Refused}
 
@@ -27,10 +27,10 @@ today = freshPanel (fourHours 1)
 abbrev old : OldPanel
 old = oldStart (record { outputs = freshOutput ∷ []; stations = replicate 8 freshStation; time = 5 }) .panel
 
--- AT THE TOP: a fade time written, in kind 12 and in tag 4, in so many octets; durations and blink times, which
--- keep a day; at last Fade_Time is read
+-- AT THE TOP: a fade time written, in kind 12 and in tag 4, in so many octets; durations and blink times,
+-- which keep a day; at last Fade_Time is read
 abbrev byAllWays : ℕ → ℕ → ℕ → List Bytes
-byAllWays n count time = written n 0x02 time ∷ fadesOver (n + 1) time ∷ fadesInTags (n + 2) count time ∷ []
+byAllWays n count time = propertyWritten n 0x02 time ∷ fadesOver (n + 1) time ∷ fadesInTags (n + 2) count time ∷ []
 
 abbrev topFrames : List Bytes
 topFrames =
@@ -45,12 +45,12 @@ topFrames =
     ∷ stopsInTags 19 3 14400001
     ∷ stopsInTags 20 4 86400000
     ∷ stopsInTags 21 4 86400001
-    ∷ written 22 0x06 14400001
-    ∷ written 23 0x06 86400000
-    ∷ written 24 0x06 86400001
-    ∷ written 25 0x07 14400001
-    ∷ written 26 0x07 86400000
-    ∷ written 27 0x07 86400001
+    ∷ propertyWritten 22 0x06 14400001
+    ∷ propertyWritten 23 0x06 86400000
+    ∷ propertyWritten 24 0x06 86400001
+    ∷ propertyWritten 25 0x07 14400001
+    ∷ propertyWritten 26 0x07 86400000
+    ∷ propertyWritten 27 0x07 86400001
     ∷ asked 0 28 0 0 0x02
     ∷ []
 
@@ -99,7 +99,7 @@ topSaid =
 -- else is found: Fade_Time; and whether the output is under way, a millisecond later
 abbrev longerLists : List (List Bytes)
 longerLists =
-    (written 1 0x02 14400001 ∷ asked 0 2 1 0 0x02 ∷ [])
+    (propertyWritten 1 0x02 14400001 ∷ asked 0 2 1 0 0x02 ∷ [])
     ∷ (fadesOver 1 14400001 ∷ asked 0 2 1 0 0x0e ∷ [])
     ∷ (fadesInTags 1 3 14400001 ∷ asked 0 2 1 0 0x0e ∷ [])
     ∷ []
@@ -114,10 +114,10 @@ longerSaid =
     ∷ ((Refused 12 ∷ Value 0 ∷ []) ∷ (Done ∷ Value 1 ∷ []) ∷ [])
     ∷ []
 
--- OF THESE IT IS NOT ASKED: each carries 14,400,001 and the old panel does not answer it with Done. Cut short;
--- of station 8; to output 1; a level out of range; that number again with other bytes; in tags out of order,
--- and foreign to STOP; a duration out of range too; a number below the last, and a time before that of the
--- clock
+-- OF THESE IT IS NOT ASKED: each carries 14,400,001 and the old panel does not answer it with Done. Cut
+-- short; of station 8; to output 1; a level out of range; that number again with other bytes; in tags out
+-- of order, and foreign to STOP; a duration out of range too; a number below the last, and a time before
+-- that of the clock
 abbrev fades : ℕ → ℕ → ℕ → ℕ → ℕ → ℕ → Bytes
 fades station n time output level duration =
     call 0x12 station n time output (octets 4 level ++ octets 4 14400001 ++ octets 4 duration)
@@ -172,7 +172,7 @@ carriedGiven =
     ∷ map carriesLonger (byAllWays 1 4 86400000)
     ∷ map carriesLonger (byAllWays 1 4 86400001)
     ∷ map carriesLonger
-    (written 1 0x06 14400001
+    (propertyWritten 1 0x06 14400001
     ∷ stopsFor 1 14400001
     ∷ stopsInTags 1 3 14400001
     ∷ nth 1 0x14 (octets 4 0x4248_0000 ++ octets 4 14400001 ++ none)

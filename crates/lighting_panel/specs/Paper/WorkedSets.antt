@@ -80,8 +80,8 @@ none = octets 4 0xffff_ffff
 abbrev pub nth : ℕ → ℕ → Bytes → Bytes
 nth n kind added = call kind 0 n 0 0 added
 
-abbrev pub written : ℕ → ℕ → ℕ → Bytes
-written n property value = nth n 0x04 (property ∷ octets 4 value)
+abbrev pub propertyWritten : ℕ → ℕ → ℕ → Bytes
+propertyWritten n property value = nth n 0x04 (property ∷ octets 4 value)
 
 abbrev pub fadesOver : ℕ → ℕ → Bytes
 fadesOver n time = nth n 0x12 (octets 4 0x4248_0000 ++ octets 4 time ++ none)
@@ -99,8 +99,8 @@ abbrev framesAt : ℕ → ℕ → ℕ → List Bytes
 framesAt last fade duration =
     asked last 100 0 0 0x02
     ∷ asked (last + 1) 100 0 0 0x02
-    ∷ written 101 0x02 fade
-    ∷ written 102 0x02 (fade + 1)
+    ∷ propertyWritten 101 0x02 fade
+    ∷ propertyWritten 102 0x02 (fade + 1)
     ∷ fadesOver 103 fade
     ∷ fadesOver 104 (fade + 1)
     ∷ fadesInTags 105 2 fade
@@ -109,10 +109,10 @@ framesAt last fade duration =
     ∷ stopsFor 108 (duration + 1)
     ∷ stopsInTags 109 2 duration
     ∷ stopsInTags 110 2 (duration + 1)
-    ∷ written 111 0x06 86400000
-    ∷ written 112 0x06 86400001
-    ∷ written 113 0x07 86400000
-    ∷ written 114 0x07 86400001
+    ∷ propertyWritten 111 0x06 86400000
+    ∷ propertyWritten 112 0x06 86400001
+    ∷ propertyWritten 113 0x07 86400000
+    ∷ propertyWritten 114 0x07 86400001
     ∷ []
 
 -- what the first read answers, then 4; each number at its longest is taken, and one more is 12
