@@ -1,6 +1,7 @@
 -- WHAT A REQUEST READS OF A SET: of every kind one of these. It reads none; it is refused by its form; a
--- property is written; or it is a command, plain or in tags. And the fade time that its bytes carry (§7) is the
--- one that is written, or the command's. Two sets are compared by it (OutputCount.antt, ShorterFade.antt).
+-- property is written; or it is a command, plain or in tags. And the fade time that its bytes carry (§7) is
+-- the one that is written, or the command's. Two sets are compared by it (OutputCount.antt,
+-- ShorterFade.antt).
 use mathlib.Core.Path.{_≡_, refl, sym, ap, _∙_}
 use mathlib.Core.Bool.{true}
 use Prim.Native.Nat.{ℕ}

@@ -1,5 +1,6 @@
--- A SHORTER LONGEST FADE (§7), of frames: by two sets that differ in it alone a string of bytes is read alike,
--- unless it carries a fade time between the two that the longer one takes: by the shorter one that is 12.
+-- A SHORTER LONGEST FADE (§7), of frames: by two sets that differ in it alone a string of bytes is read
+-- alike, unless it carries a fade time between the two that the longer one takes: by the shorter one that
+-- is 12.
 use mathlib.Core.Path.{_≡_, refl}
 use mathlib.Core.Bool.{Bool, false}
 use Prim.Native.Nat.{ℕ, suc, _≤_}

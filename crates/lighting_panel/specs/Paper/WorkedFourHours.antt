@@ -57,7 +57,7 @@ topFrames =
 abbrev three : Answer → List Answer
 three a = replicate 3 a
 
--- of 14,400,001 and of a day as a fade time, then of Fade_Time
+-- to 14,400,000, and to 14,400,001 and a day, as a fade time; then what Fade_Time is
 abbrev topAnswers : Answer → Answer → ℕ → List Answer
 topAnswers top longer kept =
     three Done

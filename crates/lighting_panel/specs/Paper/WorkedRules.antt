@@ -146,7 +146,7 @@ movementsGiven =
     ∷ (moving 15 0 3276799 1000 1500 ∷ moving 15 0 3276801 1000 1500 ∷ movingBelow 0 2621440 ∷ movingBelow 0 3276800 ∷ [])
     -- 'every due moment is after panel time', 'began no later than panel time'
     ∷ (moving 15 0 3276800 1000 1000 ∷ moving 15 0 3276800 1000 1001 ∷ moving 15 0 3276800 1000 2000 ∷ moving 15 0 3276800 1000 2001 ∷ [])
-    -- 'lasts 1 to 86,400,000 ms'; one of 0 ms cannot have begun and not be over
+    -- 'lasts 1 to 86,400,000 ms', to four hours now (§7); one of 0 ms cannot have begun and not be over
     ∷ (moving 15 0 3276800 0 1000 ∷ moving 15 0 3276800 0 1001 ∷ moving 15 0 3276800 1 1001 ∷ moving 15 0 3276800 14400000 1500 ∷ moving 15 0 3276800 14400001 1500 ∷ [])
     ∷ []
 
