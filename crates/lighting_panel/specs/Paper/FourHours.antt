@@ -1,6 +1,6 @@
 -- §7: 'The old panel's set now ends in 14,400,000, 86,400,000, and equals it on lists without a longer fade
--- time'. Which lists these are, and what is the same; proofs/FourHours.antt proves it, and that on every other
--- list an answer differs.
+-- time'. Which lists these are, and what is the same; proofs/FourHours.antt proves it, and that on every
+-- other list an answer differs.
 use mathlib.Core.Path.{_≡_}
 use mathlib.Core.Bool.{Bool, false}
 use mathlib.Core.List.{List, [], _∷_}
@@ -30,16 +30,16 @@ NoneLongerDone [] given = Unit {0}
 NoneLongerDone (b ∷ l) [] = Unit {0}
 NoneLongerDone (b ∷ l) (a ∷ given) = (a ≡ Done → carriesLonger b ≡ false) × NoneLongerDone l given
 
--- THE TWO PANELS over the same lent table e: the start of now with 8, as many outputs as there are, 14,400,000,
--- 86,400,000; and the old one's
+-- THE TWO PANELS over the same lent table e: the start of now with 8, as many outputs as there are,
+-- 14,400,000, 86,400,000; and the old one's
 abbrev pub startNow : Panel → Step
 startNow e = startStep (fourHours (length (e .outputs))) e
 
 abbrev pub startedOld : Panel → OldPanel
 startedOld e = oldStart (withoutSet e) .panel
 
--- WHAT IS THE SAME after the list l: the outputs, all of every record, the station records and the time; so all
--- that is found; and every answer
+-- WHAT IS THE SAME after the list l: the outputs, all of every record, the station records and the time; so
+-- all that is found; and every answer
 pub record AsOld (e : Panel) (l : List Bytes) : Type 0 where
   pub started : oldStart (withoutSet e) .answer ≡ Done
   pub panel : withoutSet (after (startNow e .panel) l) ≡ oldAfter (startedOld e) l
