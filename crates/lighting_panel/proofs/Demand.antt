@@ -25,6 +25,10 @@ use Rattle.lighting_panel.proofs.Repeats.{repeats-change-nothing}
 never-one : (l : List Answer) → AllOther l → NeverOne l
 never-one l h = every-then NotOne _ l (λ a k. never-bytes a 1 (k .other)) h
 
+-- a refusal is not Done
+pub never-done : (r : ℕ) → Refused r ≡ Done → ⊥
+never-done r impossible = let one : _≡_ {A = ℕ} 0 1 = cc in omega arith
+
 -- a start that answers Done was given a set that may be started, and leaves fresh records
 pub startStep-fresh : (p : Parameters) (e : Panel) → startStep p e .answer ≡ Done → (startable p ≡ true) × (startStep p e .panel ≡ freshPanel p)
 unfolding startStep if_then_else_
@@ -33,11 +37,8 @@ startStep-fresh p e h =
     (λ x. by-bool
     (countsSound p (length (e .outputs)) (length (e .stations)))
     (λ y. (x, rw (x, y)))
-    (λ y. absurd (never 1 (rw (x, y) at h))))
-    (λ x. absurd (never 17 (rw x at h)))
-  where
-    never : (n : ℕ) → Refused n ≡ Done → ⊥
-    never n z = let k : _≡_ {A = ℕ} 0 1 = cc in omega arith
+    (λ y. absurd (never-done 1 (rw (x, y) at h))))
+    (λ x. absurd (never-done 17 (rw x at h)))
 
 -- For EVERY set of parameters and EVERY lent table e on which a start with this set answered Done (so the set
 -- is one that may be started), EVERY list l of strings of bytes, and EVERY list l′ in which frames of l come

@@ -47,6 +47,7 @@ use Rattle.lighting_frames.proofs.Reading.{frame-in-range}
 use Rattle.lighting_frames.proofs.Tagging.InTags.{same-equal}
 use Rattle.lighting_panel.proofs.Table.{AllSound, all-tested, all-advance}
 use Rattle.lighting_panel.proofs.Lists.{joined, Refines, linked-sound, decide-judged, Arrived, judged-moved, Stepped, step}
+use Rattle.lighting_panel.proofs.Demand.{never-done}
 use Rattle.lighting_panel.proofs.Consequences.Others.{every-at}
 use Rattle.lighting_panel.proofs.OldPanel.{today, sound-then, Cut, Compared, turned-down, copied-both, short, refused-both, cut-off, compared, frame-by}
 
@@ -119,9 +120,6 @@ past-short b w (Arrives call) were is = (is, were)
 -- THE OLD PANEL BESIDE A LIST: what the list theorem has of today's is there of the old one too, but the set
 abbrev pub old : List Station → PlainState → OldPanel
 old k w = record { outputs = w .panel .outputs; stations = k; time = w .panel .time }
-
-never-done : (r : ℕ) → Refused r ≡ Done → ⊥
-never-done r impossible = let one : _≡_ {A = ℕ} 0 1 = cc in omega arith
 
 module _ (c : ℕ) (k : List Station) (w : PlainState) (b : Bytes) (octets : Octets b) (m : Refines (fourHours c) c k w) where
   abbrev p : Parameters

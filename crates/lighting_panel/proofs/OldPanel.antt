@@ -42,6 +42,7 @@ use Rattle.lighting_frames.proofs.OutputCount.{parsed}
 use Rattle.lighting_frames.proofs.ShorterFade.{asking, ShortenedFrame, bad, clocked, asks}
 use Rattle.lighting_frames.proofs.ShorterFade as Frames
 use Rattle.lighting_outputs.proofs.Consequences.Numbers.{fresh}
+use Rattle.lighting_panel.proofs.Demand.{never-done}
 use Rattle.lighting_panel.proofs.Carried.{startStep-refused, startStep-done}
 use Rattle.lighting_panel.proofs.Table.{served-length}
 
@@ -238,9 +239,6 @@ module _ (e : Panel) (least : 1 ≤ length (e .outputs)) (most : length (e .outp
   unfolding oldStart if_then_else_
   old-length h = rw h (length-replicate c freshOutput)
 
-  never : Refused 1 ≡ Done → ⊥
-  never z = let one : _≡_ {A = ℕ} 0 1 = cc in omega arith
-
   pub starts-alike : StartsAlike e
   starts-alike =
       by-bool (oldCounts c k)
@@ -254,5 +252,5 @@ module _ (e : Panel) (least : 1 ≤ length (e .outputs)) (most : length (e .outp
       (λ h. record {
         answered = ap (λ (s : Step). s .answer) (meets-one h) ∙ sym (ap (λ (s : OldStep). s .answer) (old-refused h));
         panel = ap (λ (s : Step). withoutSet (s .panel)) (meets-one h) ∙ sym (ap (λ (s : OldStep). s .panel) (old-refused h));
-        kept = λ d. absurd (never (sym (ap (λ (s : OldStep). s .answer) (old-refused h)) ∙ d));
+        kept = λ d. absurd (never-done 1 (sym (ap (λ (s : OldStep). s .answer) (old-refused h)) ∙ d));
       })
