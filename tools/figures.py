@@ -54,9 +54,12 @@ FIGURES = {
         ('fresh-fades', 'freshFadesGiven', 'freshFadesSaid', 'WorkedSets', LISTS, '§6: a fresh Fade_Time'),
         ('longest-ramp', 'rampGiven', 'rampSaid', 'WorkedSets', LISTS, '§6: a ramp that is longer than every fade'),
         ('fades-at-the-top', 'topGiven', 'topSaid', 'WorkedFourHours', OLD_LISTS, '§7: the longest fade, today and before'),
-        ('longer-needed', 'longerGiven', 'longerSaid', 'WorkedFourHours', OLD_LISTS, '§7: lists with a longer fade time differ'),
-        ('longer-unasked', 'unaskedGiven', 'unaskedSaid', 'WorkedFourHours', OLD_LISTS, '§7: longer fade times that neither panel takes'),
-        ('longer-carried', 'carriedGiven', 'carriedSaid', 'WorkedFourHours', CARRIED, '§7: which frames carry a longer fade time'),
+        ('longer-needed', 'longerGiven', 'longerSaid', 'WorkedFourHours', OLD_LISTS,
+         '§7: lists with a longer fade time differ'),
+        ('longer-unasked', 'unaskedGiven', 'unaskedSaid', 'WorkedFourHours', OLD_LISTS,
+         '§7: longer fade times that neither panel takes'),
+        ('longer-carried', 'carriedGiven', 'carriedSaid', 'WorkedFourHours', CARRIED,
+         '§7: which frames carry a longer fade time'),
     ],
 }
 # names that unfold, and their module: what is no definition of ours, and lists

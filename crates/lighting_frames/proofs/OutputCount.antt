@@ -22,7 +22,8 @@ module _ (p : Parameters) (n : ℕ) where
   request action b (writes property x reads carried) = rw (reads p, reads other) (change p n property x)
   request action b (commands operation duration reads carried) = rw (reads p, reads other) (command p n operation duration)
 
-  by-kind : (c size : ℕ) (kind : Kind) (b : Bytes) → kindRow (byteAt b 0) .kind ≡ kind → parseBy other c size kind b ≡ parseBy p c size kind b
+  by-kind : (c size : ℕ) (kind : Kind) (b : Bytes) → kindRow (byteAt b 0) .kind ≡ kind
+      → parseBy other c size kind b ≡ parseBy p c size kind b
   unfolding parseBy callOf called
   by-kind c size NoKind b is = refl
   by-kind c size ClockKind b is = refl

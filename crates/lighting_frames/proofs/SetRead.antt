@@ -34,11 +34,13 @@ use Rattle.lighting_frames.proofs.Tagging.Commands.{whole-read}
 use Rattle.lighting_frames.proofs.Tagging.Only.{operation-of, at-most, time-same}
 
 pub data SetRead (action : Action) (b : Bytes) : Type 0 where
-  none : {request : Request} → ((p : Parameters) → requestOf p action b ≡ request) → fadeTimeIn b ≡ NoTime → SetRead action b
+  none : {request : Request} → ((p : Parameters) → requestOf p action b ≡ request)
+      → fadeTimeIn b ≡ NoTime → SetRead action b
   refuses : {refusal : ℕ} → ((p : Parameters) → requestOf p action b ≡ Refuse refusal) → SetRead action b
   writes : (property : Property) (x : ℕ) → ((p : Parameters) → requestOf p action b ≡ changeOf p property x)
       → fadeTimeIn b ≡ (if same FadeTime property then Time x else NoTime) → SetRead action b
-  commands : (operation : Operation) (duration : TimeField) → ((p : Parameters) → requestOf p action b ≡ commandOf p operation duration)
+  commands : (operation : Operation) (duration : TimeField)
+      → ((p : Parameters) → requestOf p action b ≡ commandOf p operation duration)
       → fadeTimeIn b ≡ fieldsOf operation .fade → SetRead action b
 
 -- THE FADE TIME OF A COMMAND IN TAGS, where its body is readable, is the one that tag 4 holds
@@ -58,7 +60,9 @@ pub set-read : (action : Action) (b : Bytes) → byteAt b 0 ≡ actionByte actio
 unfolding fadeTimeIn fieldsOf requestOf commandRequest readBody readFields taggedRequest if_then_else_
 set-read WritesLevel b byte = none (λ p. refl) (rw byte)
 set-read EmptiesSlot b byte = none (λ p. refl) (rw byte)
-set-read WritesProperty b byte = writes _ _ (λ p. refl) (rw (byte, same-number FadeTime (byteAt b 13) (omega arith) (omega arith)))
+set-read WritesProperty b byte =
+    let numbered = same-number FadeTime (byteAt b 13) (omega arith) (omega arith) in
+    writes _ _ (λ p. refl) (rw (byte, numbered))
 set-read ReadsProperty b byte = none (λ p. refl) (rw byte)
 set-read Stops b byte = commands _ _ (λ p. refl) (rw byte)
 set-read FadesTo b byte = commands _ _ (λ p. refl) (rw byte)
@@ -77,6 +81,8 @@ set-read CommandsTagged b byte =
     by-bool (wellTagged body)
     (λ well.
     by-bool (ownTags (tagsOf (operationOf f) (timeOf (f .duration))) f)
-    (λ own. commands (operationOf f) (timeOf (f .duration)) (λ p. rw (well, own)) (rw byte (own-fade f (well-tagged body well .known) own)))
+    (λ own.
+    let carried = own-fade f (well-tagged body well .known) own in
+    commands (operationOf f) (timeOf (f .duration)) (λ p. rw (well, own)) (rw byte carried))
     (λ foreign. refuses {refusal = 15} (λ p. rw (well, foreign))))
     (λ ill. refuses {refusal = 14} (λ p. rw ill))

@@ -66,7 +66,9 @@ module _ (p : Parameters) (fade : ℕ) (less : fade ≤ p .fade) where
   unfolding parseBy called callOf clockOf if_then_else_
   by-kind c size NoKind b is = bad
   by-kind c size ClockKind b is =
-      by-bool (eqb (length b) size) (λ whole. rw whole (clocked (clock-carries (suc fade) (p .fade) b is))) (λ other. rw other bad)
+      by-bool (eqb (length b) size)
+      (λ whole. rw whole (clocked (clock-carries (suc fade) (p .fade) b is)))
+      (λ other. rw other bad)
   by-kind c size (CallKind action) b is =
       let asked = request action b (set-read action b (kind-byte (byteAt b 0) action is)) in
       by-bool (eqb (length b) size)

@@ -90,7 +90,9 @@ module _ (p : Parameters) (fade : ℕ) (less : fade ≤ p .fade) where
 
   pub rules : (t : ℕ) (o : Output) → sound shorter t o ≡ true → sound p t o ≡ true
   unfolding sound activitySound relaySound
-  rules t o = also-then (settings (o .settings)) (also-rest _ (also-then (activity t _ _ _ _ (o .activity)) (λ others. others)))
+  rules t o =
+      let acts = activity t _ _ _ _ (o .activity) in
+      also-then (settings (o .settings)) (also-rest _ (also-then acts (λ others. others)))
 
   -- REFUSAL 12. A time is between the two; or both sets take it, or both refuse it
   by-time : {P : Type 0} (x : ℕ)
@@ -120,7 +122,9 @@ module _ (p : Parameters) (fade : ℕ) (less : fade ≤ p .fade) where
       (λ carried high taken. rw (high, taken) (cut carried written))
 
   pub change : (property : Property) (x : ℕ)
-      → Shortened (same FadeTime property also within (suc fade) (p .fade) x) (changeOf p property x) (changeOf shorter property x)
+      → Shortened (same FadeTime property also within (suc fade) (p .fade) x)
+      (changeOf p property x)
+      (changeOf shorter property x)
   unfolding changeOf if_then_else_
   change property x =
       by-bool (same FadeTime property)
@@ -129,7 +133,9 @@ module _ (p : Parameters) (fade : ℕ) (less : fade ≤ p .fade) where
 
   -- a command: the refusal of its REALs, which read no set, then that of its fade time
   fields : OperationFields → ℕ
-  fields f = firstRefusal (levelFieldRefusal (f .level)) (firstRefusal (amountFieldRefusal (f .rate)) (amountFieldRefusal (f .step)))
+  fields f =
+      let amounts = firstRefusal (amountFieldRefusal (f .rate)) (amountFieldRefusal (f .step)) in
+      firstRefusal (levelFieldRefusal (f .level)) amounts
 
   fields-then : (q : Parameters) (f : OperationFields)
       → fieldsRefusal q f ≡ firstRefusal (fields f) (timeFieldRefusal q (f .fade))
@@ -171,7 +177,9 @@ module _ (p : Parameters) (fade : ℕ) (less : fade ≤ p .fade) where
       (λ bad. rw (bad, bad) refused)))
 
   pub command : (operation : Operation) (duration : TimeField)
-      → Shortened (timeWithin (suc fade) (p .fade) (fieldsOf operation .fade)) (commandOf p operation duration) (commandOf shorter operation duration)
+      → Shortened (timeWithin (suc fade) (p .fade) (fieldsOf operation .fade))
+      (commandOf p operation duration)
+      (commandOf shorter operation duration)
   unfolding commandOf
   command operation duration =
       rw (fields-then p (fieldsOf operation), fields-then shorter (fieldsOf operation))

@@ -54,8 +54,9 @@ module _ (e : Panel) (isDone : startNow e .answer ≡ Done) where
   pub as-old : (l : List Bytes) → Strings l → NoneLongerDone l (oldAnswers (startedOld e) l) → AsOld e l
   as-old l strings none =
       let all = listed-as-old (length (e .outputs)) unheard begun l strings linked (rw begins-old at none) in
-      let same : withoutSet (after (startNow e .panel) l) ≡ oldAfter (startedOld e) l
-      = ap (λ (x : Panel). withoutSet (after x l)) begins ∙ all .panel ∙ sym (ap (λ (x : OldPanel). oldAfter x l) begins-old) in
+      let now = ap (λ (x : Panel). withoutSet (after x l)) begins in
+      let before = sym (ap (λ (x : OldPanel). oldAfter x l) begins-old) in
+      let same : withoutSet (after (startNow e .panel) l) ≡ oldAfter (startedOld e) l = now ∙ all .panel ∙ before in
       record {
         started = sym (alike-started .answered) ∙ isDone;
         panel = same;

@@ -104,7 +104,8 @@ judged-short past b (Calls call) were =
     (by-bool (eqb (call .number) (last .number))
     (λ again. rw again
     (by-bool (sameBytes b (last .frame))
-    (λ copy. rw copy (λ isDone. ap carriesLonger (same-equal b (last .frame) copy) ∙ latest-short (call .station) past were isDone))
+    (λ copy. rw copy
+    (λ isDone. ap carriesLonger (same-equal b (last .frame) copy) ∙ latest-short (call .station) past were isDone))
     (λ other. rw other tt)))
     (λ below. rw below tt)))
 
@@ -142,7 +143,8 @@ module _ (c : ℕ) (k : List Station) (w : PlainState) (b : Bytes) (octets : Oct
     arrival : Arrived p c w b (asking (z .call) (Refuse 12))
     arrival =
         let moved = judged-moved p c k w b (parse p c b) m (frame-in-range p c b octets) in
-        let arrives : judged (w .past) b (parse p c b) ≡ Arrives (asking (z .call) (Refuse 12)) = rw (m .count) at (sym verdict ∙ z .now) in
+        let refused = Arrives (asking (z .call) (Refuse 12)) in
+        let arrives : judged (w .past) b (parse p c b) ≡ refused = rw (m .count) at (sym verdict ∙ z .now) in
         rw arrives at moved
 
     outputs : List Output
@@ -153,8 +155,9 @@ module _ (c : ℕ) (k : List Station) (w : PlainState) (b : Bytes) (octets : Oct
     old-done =
         let t = z .call .time in
         let bounded : t ≤ greatestCount = omega (arith, arrival .frame .time) in
-        let all : AllSound p t outputs = all-advance p (w .panel .time) t (w .panel .outputs) (arrival .due) bounded (m .sound) in
-        let size : length outputs ≡ c = length-map (w .panel .outputs) (advance (w .panel .time) t) ∙ m .count in
+        let before = w .panel .outputs in
+        let all : AllSound p t outputs = all-advance p (w .panel .time) t before (arrival .due) bounded (m .sound) in
+        let size : length outputs ≡ c = length-map before (advance (w .panel .time) t) ∙ m .count in
         let inside : z .call .output < length outputs = omega (arith, arrival .frame .output) in
         rw (sound-then e rules, z .before, z .asked)
         (taken-done p t outputs (z .call .output) (z .request) (z .takes) inside (all-tested p t outputs all))
@@ -195,7 +198,8 @@ module _ (c : ℕ) (k : List Station) (w : PlainState) (b : Bytes) (octets : Oct
           let copy : CopyShort b (Copied a) = rw (sym verdict ∙ now) at known in
           copy (sym (old-answer before) ∙ isDone)
       by (short none both) = none
-      by (refused-both {r = r} call asked before now) = absurd (never-done r (sym (rw asked at (old-answer before)) ∙ isDone))
+      by (refused-both {r = r} call asked before now) =
+          absurd (never-done r (sym (rw asked at (old-answer before)) ∙ isDone))
       by (cut-off z) = absurd (never-done 12 (sym (today-refuses z) ∙ alike ∙ isDone))
 
 -- EVERY LIST, from a panel that a list has left
@@ -237,4 +241,5 @@ short-as-old c k w (b ∷ l) strings m were alike =
     let same = frame-same c k w b (strings .0) m (never-cut c k w b (strings .0) m is) in
     let next = plainFrameStep (fourHours c) w b .state in
     let past = past-short b w _ were (rw same at is) in
-    (is, rw same (short-as-old c (now .stations) next l (strings .1) (now .linked) past (rw (now .same, same) at rest-alike)))
+    let alike-on = rw (now .same, same) at rest-alike in
+    (is, rw same (short-as-old c (now .stations) next l (strings .1) (now .linked) past alike-on))

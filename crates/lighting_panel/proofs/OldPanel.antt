@@ -64,13 +64,16 @@ counts c k =
 -- the record rules: whoever keeps those of four hours keeps document 01's
 rule : (outputs t : ℕ) (o : Output) → sound (fourHours outputs) t o ≡ true → sound (document01 64) t o ≡ true
 rule outputs t o h =
-    Shorter.rules (document01 64) 14400000 (omega arith) t o (sym (Count.rules (withFade (document01 64) 14400000) outputs t o) ∙ h)
+    let counted = sym (Count.rules (withFade (document01 64) 14400000) outputs t o) in
+    Shorter.rules (document01 64) 14400000 (omega arith) t o (counted ∙ h)
 
 every-rule : (outputs t : ℕ) (l : List Output) → every (sound (fourHours outputs) t) l ≡ true
     → every (sound (document01 64) t) l ≡ true
 unfolding every
 every-rule outputs t [] h = refl
-every-rule outputs t (o ∷ l) h = let both = also-both h in also-yes (rule outputs t o (both .0)) (every-rule outputs t l (both .1))
+every-rule outputs t (o ∷ l) h =
+    let both = also-both h in
+    also-yes (rule outputs t o (both .0)) (every-rule outputs t l (both .1))
 
 pub sound-then : (e : OldPanel) → panelSound (today e) ≡ true → oldSound e ≡ true
 unfolding panelSound rulesKept oldSound
@@ -90,21 +93,27 @@ pub data ShortenedVerdict (between : Bool) : Verdict → Verdict → Type 0 wher
   arrives : (call : Call) (request : Request) → Shortened between (call .request) request
       → ShortenedVerdict between (Arrives call) (Arrives (asking call request))
 
-judged : {between : Bool} {long short : Frame} (now : ℕ) (stations : List Station) (b : Bytes) → ShortenedFrame between long short
+judged : {between : Bool} {long short : Frame} (now : ℕ) (stations : List Station) (b : Bytes)
+    → ShortenedFrame between long short
     → ShortenedVerdict between
     (judgedByStation now (getD stations (stationOf long) freshStation) b long)
     (judgedByStation now (getD stations (stationOf short) freshStation) b short)
 unfolding judgedByStation judgedByRecord judgedByNumber stationOf retransmissionOrConflict if_then_else_
 judged now stations b bad = turned
-judged now stations b (clocked {t = t} none) = by-bool (ltb t now) (λ late. rw late turned) (λ timely. rw timely (timed none))
+judged now stations b (clocked {t = t} none) =
+    by-bool (ltb t now) (λ late. rw late turned) (λ timely. rw timely (timed none))
 judged now stations b (asks call request asked) =
     let last = getD stations (call .station) freshStation in
     by-bool (eqb (call .number) (last .number))
-    (λ again. rw again (by-bool (sameBytes b (restored (last .frame))) (λ same. rw same copied) (λ other. rw other turned)))
+    (λ again. rw again
+    (by-bool (sameBytes b (restored (last .frame))) (λ same. rw same copied) (λ other. rw other turned)))
     (λ other. rw other
     (by-bool (ltb (call .number) (last .number))
     (λ below. rw below turned)
-    (λ new. rw new (by-bool (ltb (call .time) now) (λ late. rw late turned) (λ timely. rw timely (arrives call request asked))))))
+    (λ new. rw new
+    (by-bool (ltb (call .time) now)
+    (λ late. rw late turned)
+    (λ timely. rw timely (arrives call request asked))))))
 
 pub verdicts : (e : OldPanel) (b : Bytes) → ShortenedVerdict (carriesLonger b) (oldDecide e b) (decide (today e) b)
 unfolding decide oldDecide
@@ -144,15 +153,27 @@ pub data Compared (e : OldPanel) (b : Bytes) : Type 0 where
       → decide (today e) b ≡ Arrives call → Compared e b
   cut-off : Cut e b → Compared e b
 
+arriving : (call : Call) {request : Request} → call .request ≡ request → Arrives (asking call request) ≡ Arrives call
+arriving call asked = ap (λ (r : Request). Arrives (asking call r)) (sym asked)
+
 pub compared : (e : OldPanel) (b : Bytes) → Compared e b
 compared e b = by (verdicts e b) refl refl
   where
     ask : (call : Call) {long request : Request} → Shortened (carriesLonger b) long request → call .request ≡ long
         → oldDecide e b ≡ Arrives call → decide (today e) b ≡ Arrives (asking call request) → Compared e b
-    ask call (alike none) asked before now = short none (now ∙ ap (λ (r : Request). Arrives (asking call r)) (sym asked) ∙ sym before)
-    ask call refused asked before now = refused-both call asked before (now ∙ ap (λ (r : Request). Arrives (asking call r)) (sym asked))
+    ask call (alike none) asked before now = short none (now ∙ arriving call asked ∙ sym before)
+    ask call refused asked before now = refused-both call asked before (now ∙ arriving call asked)
     ask call (cut {request = request} longer takes) asked before now =
-        cut-off (record { call = call; request = request; before = before; now = now; asked = asked; takes = takes; longer = longer })
+        cut-off
+        (record {
+          call = call;
+          request = request;
+          before = before;
+          now = now;
+          asked = asked;
+          takes = takes;
+          longer = longer;
+        })
 
     by : {long shorter : Verdict} → ShortenedVerdict (carriesLonger b) long shorter
         → oldDecide e b ≡ long → decide (today e) b ≡ shorter → Compared e b
@@ -251,6 +272,7 @@ module _ (e : Panel) (least : 1 ≤ length (e .outputs)) (most : length (e .outp
       })
       (λ h. record {
         answered = ap (λ (s : Step). s .answer) (meets-one h) ∙ sym (ap (λ (s : OldStep). s .answer) (old-refused h));
-        panel = ap (λ (s : Step). withoutSet (s .panel)) (meets-one h) ∙ sym (ap (λ (s : OldStep). s .panel) (old-refused h));
+        panel =
+            ap (λ (s : Step). withoutSet (s .panel)) (meets-one h) ∙ sym (ap (λ (s : OldStep). s .panel) (old-refused h));
         kept = λ d. absurd (never-done 1 (sym (ap (λ (s : OldStep). s .answer) (old-refused h)) ∙ d));
       })

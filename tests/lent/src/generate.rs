@@ -2,6 +2,7 @@
 //! one field away from them, the old panel's set or another one, and a few
 //! frames and starts.
 
+use generator::suites::four_hours::FOUR_HOUR_EDGES;
 use generator::suites::set::edges_of;
 use generator::Random;
 use plain::frame::{length_of_kind, CLOCK};
@@ -34,22 +35,7 @@ const LEVELS: [u32; 12] = [
     6_553_600,
     6_553_601,
 ];
-const TIMES: [u32; 14] = [
-    0,
-    1,
-    99,
-    100,
-    101,
-    700,
-    5_000,
-    FOUR_HOURS - 1,
-    FOUR_HOURS,
-    FOUR_HOURS + 1,
-    LONGEST - 1,
-    LONGEST,
-    LONGEST + 1,
-    u32::MAX,
-];
+const SHORT_TIMES: [u32; 7] = [0, 1, 99, 100, 101, 700, 5_000];
 const REALS: [u32; 16] = [
     0x0000_0000,
     0x8000_0000,
@@ -68,6 +54,11 @@ const REALS: [u32; 16] = [
     0x7FC0_0000,
     0xBF80_0000,
 ];
+
+/// Short ones, those about four hours and a day, and the greatest number.
+fn times() -> Vec<u32> {
+    [&SHORT_TIMES[..], &FOUR_HOUR_EDGES, &[u32::MAX]].concat()
+}
 
 /// A set, now and then with a number out of range.
 fn set(random: &mut Random, outputs: usize) -> Parameters {
@@ -305,7 +296,7 @@ fn frame(random: &mut Random, time: u64, outputs: usize, kept: &Parameters) -> V
             adds.push(random.between(0, 0x1C) as u8);
             let value = match random.below(4) {
                 0 => random.pick(&REALS),
-                1 => random.pick(&TIMES),
+                1 => random.pick(&times()),
                 2 => time_about(random, kept),
                 _ => random.below(18) as u32,
             };

@@ -132,7 +132,10 @@ pub same-number : (x : Property) (n : ℕ) → 0 < numberOf x → numberOf x < 0
 unfolding same
 same-number x n above listed =
     by-property n
-    (λ e. rw e (by-eq n (numberOf x) (λ h z. rw z (eqb-hit (sym h))) (λ h z. rw z (eqb-miss {a = numberOf x} {b = n} (λ k. h (sym k))))))
+    (λ e. rw e
+    (by-eq n (numberOf x)
+    (λ h z. rw z (eqb-hit (sym h)))
+    (λ h z. rw z (eqb-miss {a = numberOf x} {b = n} (λ k. h (sym k))))))
     (λ e. rw e
     (by-eq n (numberOf x)
     (λ h z. absurd (zero-not (ap numberOf (sym (number-kept x listed) ∙ ap propertyOf (sym h) ∙ e))))

@@ -3,6 +3,8 @@
 mod headings;
 mod scenes;
 
+pub use events::edges::FOUR_HOUR_EDGES;
+
 use super::{base, relay, tags};
 use crate::list::Generator;
 use crate::suite::{Suite, Tables};
