@@ -8,7 +8,7 @@ import re
 import sys
 
 LEVELS = 'ofBits Choice Level'.split()
-OUTPUTS = 'bitAnd bitOr'.split() + LEVELS + 'Slots Value Relay Record Passing Light Advance Writing Operations Commands Answers Rows Properties Fresh'.split()
+OUTPUTS = 'bitAnd bitOr'.split() + LEVELS + 'Slots Value Relay Record Passing Light Advance Writing Operations Commands Tenants Answers Rows Properties Fresh'.split()
 ACTS = OUTPUTS + 'Requests Acting'.split()
 READS = ['toBits', 'round'] + ACTS
 FRAMES = READS + 'Field Kinds Tags Frames'.split()
@@ -16,7 +16,7 @@ PANELS = FRAMES + 'Startable Rules Stations Copies Panel Judging Executing'.spli
 LISTS = ['answers'] + PANELS
 OLD_LISTS = LISTS + ['OldPanel']
 CARRIED = 'Choice Field Rows TimeWithin Tags FadeTimes'.split()
-PANEL = 'answers (freshPanel (fourHours %d)) '
+PANEL = 'answers (freshPanel (fourHours %d) 0) '
 
 # of each crate: the name of a theorem, what is given and said, their module, what unfolds (modules with all
 # their
@@ -35,6 +35,11 @@ FIGURES = {
         ('fresh-is-empty', 'emptiedGiven', 'emptiedSaid', 'WorkedFresh', ACTS, 'a fresh slot is as emptying leaves it'),
         ('outside-by-number', 'outsideGiven', 'outsideSaid', 'WorkedOutside', ACTS, 'REALs outside their ranges'),
         ('ends-by-number', 'endsGiven', 'endsSaid', 'WorkedOutside', ACTS, 'REALs at the ends of their ranges'),
+        ('side-by-side', 'sideBySideGiven', 'sideBySideSaid', 'WorkedTenants', READS,
+         '§8: each property, read by a tenant and by a service station'),
+        ('in-a-warning', 'warnedGiven', 'warnedSaid', 'WorkedTenants', READS, '§8: slot 6 in a warning'),
+        ('rounded-down', 'roundedGiven', 'roundedSaid', 'WorkedTenants', READS, '§8: levels about whole percents'),
+        ('marks-by-hand', 'marksGiven', 'marksSaid', 'WorkedTenants', READS, '§8: which stations are tenants'),
     ],
     'lighting_frames': [
         ('tags-written', 'commandsWritten', 'theirOctets', 'WorkedTags', FRAMES, '§1: the octets of commands'),

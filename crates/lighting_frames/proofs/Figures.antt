@@ -14,6 +14,7 @@ use Rattle.lighting_outputs.specs.Engine.Advance.{sooner, due, burnedBy, withBu
 use Rattle.lighting_outputs.specs.Paper.Writing.{endMovementUnlessAbove, stored, zeroOrEmpty, zeroOrEmptyFrom, blinks, zeroOrEmptyAbove, warnsBy, warns, firstLevel, firstPhase, warningFrom, warnedBy, warned, endedEmpty, endedStored, writtenWarned, writtenZero, writtenCalm, writtenBy, written, activityRelinquished, slotRelinquished}
 use Rattle.lighting_outputs.specs.Paper.Operations.{operationNumber, fieldsOf, durationField}
 use Rattle.lighting_outputs.specs.Paper.Commands.{withoutWarning, activityWithoutWarning, replaced, placed, movement, rampLength, target, fadedOver, fadedTo, rampedAt, rampedTo, jumped, wentTo, stepUpFrom, stepDownFrom, steppedUp, steppedDown, raised, halted, stopped, relinquished, effect, timed, commandedFrom, commanded}
+use Rattle.lighting_outputs.specs.Paper.Tenants.{isTenant, wholePercent, shownLevel, hidden}
 use Rattle.lighting_outputs.specs.Paper.Answers.{answerBytes, levelAnswered}
 use Rattle.lighting_outputs.specs.Paper.Rows.{within, isLevel, isAmount, isSlot, isPriority, meets}
 use Rattle.lighting_outputs.specs.Paper.Properties.{numbered, propertyOf, same, changeTo, changeBy, changeOf, settingsWith, relayWith, endMovement, activityWith, burningWith, changed, minOverMax, levelAnswer, levelOrAbsent, slotAnswer, flag, elapsedActive, realAnswer, realFieldAnswer, timeFieldAnswer, lastDuration, readProperty}
@@ -28,10 +29,10 @@ use Rattle.lighting_frames.specs.Paper.WorkedTags.{commandsWritten, thei
 
 -- §1: the octets of commands
 pub tags-written : commandsWritten ≡ theirOctets
-unfolding toBits round bitAnd bitOr ofBits if_then_else_ allFrom every real bits levelOf realOf readOut realFromTo amountOf limitOf inRange unitsOr amountUnits levelUnits view slotsOf firstLive winner isLive maskEmptied maskFilled levelSet put levelAt winningLevel clampLit presentValue distanceMoved reachedBy reached progressBy progressValue lit inProcess binaryAt switched relayState inactiveNotBelow withBurning withEffect withCommand withSettings litMilliseconds withBurned timerDue phaseEnd activityDue isDue timerAt emptiedBy expired endMovementOf endMovementBy endMovementOnExpiry delayed nextPhase nextActivity activityAt phaseSlots nextSlots slotsAt afterEvents fire tick ticks lastShort momentAfter goneAt countBefore countSince litFromZero litFromLight litAt litByPace litMoving litInMovement litResting litStretch sooner due burnedBy withBurnedSaturating fireDue eventStep eventSteps advance later endMovementUnlessAbove stored zeroOrEmpty zeroOrEmptyFrom blinks zeroOrEmptyAbove warnsBy warns firstLevel firstPhase warningFrom warnedBy warned endedEmpty endedStored writtenWarned writtenZero writtenCalm writtenBy written activityRelinquished slotRelinquished operationNumber fieldsOf durationField withoutWarning activityWithoutWarning replaced placed movement rampLength target fadedOver fadedTo rampedAt rampedTo jumped wentTo stepUpFrom stepDownFrom steppedUp steppedDown raised halted stopped relinquished effect timed commandedFrom commanded answerBytes levelAnswered within isLevel isAmount isSlot isPriority meets numbered propertyOf same changeTo changeBy changeOf settingsWith relayWith endMovement activityWith burningWith changed minOverMax levelAnswer levelOrAbsent slotAnswer flag elapsedActive realAnswer realFieldAnswer timeFieldAnswer lastDuration readProperty freshSettings freshRelay freshWith freshFor freshOutput levelFieldRefusal amountFieldRefusal timeFieldRefusal firstRefusal fieldsRefusal commandLasting commandWithDuration commandRequestBy commandOf plainDuration commandRequest writeLevel writeOf emptyOf done unchanged changedUnless acted served byteAt bigEndian octets kindRow kindLength callsBy isCall fewestOctets fieldSize sizes fieldBytes bytesFrom tagBytes realTag wholeTag tagsOf commandTags zeroFilled taggedBody bodyBytes fieldIn fieldsFrom bodyFields zeroBeyond holdsAtMost wellTagged heldBy operationOf timeOf bothOrNeither fewest ownTags readFields readBody taggedRequest requestOf callOf called clockOf parseBy parse
+unfolding toBits round bitAnd bitOr ofBits if_then_else_ allFrom every real bits levelOf realOf readOut realFromTo amountOf limitOf inRange unitsOr amountUnits levelUnits view slotsOf firstLive winner isLive maskEmptied maskFilled levelSet put levelAt winningLevel clampLit presentValue distanceMoved reachedBy reached progressBy progressValue lit inProcess binaryAt switched relayState inactiveNotBelow withBurning withEffect withCommand withSettings litMilliseconds withBurned timerDue phaseEnd activityDue isDue timerAt emptiedBy expired endMovementOf endMovementBy endMovementOnExpiry delayed nextPhase nextActivity activityAt phaseSlots nextSlots slotsAt afterEvents fire tick ticks lastShort momentAfter goneAt countBefore countSince litFromZero litFromLight litAt litByPace litMoving litInMovement litResting litStretch sooner due burnedBy withBurnedSaturating fireDue eventStep eventSteps advance later endMovementUnlessAbove stored zeroOrEmpty zeroOrEmptyFrom blinks zeroOrEmptyAbove warnsBy warns firstLevel firstPhase warningFrom warnedBy warned endedEmpty endedStored writtenWarned writtenZero writtenCalm writtenBy written activityRelinquished slotRelinquished operationNumber fieldsOf durationField withoutWarning activityWithoutWarning replaced placed movement rampLength target fadedOver fadedTo rampedAt rampedTo jumped wentTo stepUpFrom stepDownFrom steppedUp steppedDown raised halted stopped relinquished effect timed commandedFrom commanded isTenant wholePercent shownLevel hidden answerBytes levelAnswered within isLevel isAmount isSlot isPriority meets numbered propertyOf same changeTo changeBy changeOf settingsWith relayWith endMovement activityWith burningWith changed minOverMax levelAnswer levelOrAbsent slotAnswer flag elapsedActive realAnswer realFieldAnswer timeFieldAnswer lastDuration readProperty freshSettings freshRelay freshWith freshFor freshOutput levelFieldRefusal amountFieldRefusal timeFieldRefusal firstRefusal fieldsRefusal commandLasting commandWithDuration commandRequestBy commandOf plainDuration commandRequest writeLevel writeOf emptyOf done unchanged changedUnless acted served byteAt bigEndian octets kindRow kindLength callsBy isCall fewestOctets fieldSize sizes fieldBytes bytesFrom tagBytes realTag wholeTag tagsOf commandTags zeroFilled taggedBody bodyBytes fieldIn fieldsFrom bodyFields zeroBeyond holdsAtMost wellTagged heldBy operationOf timeOf bothOrNeither fewest ownTags readFields readBody taggedRequest requestOf callOf called clockOf parseBy parse
 tags-written = refl
 
 -- §1: the refusals of bodies
 pub tags-refused : refused ≡ refusals
-unfolding toBits round bitAnd bitOr ofBits if_then_else_ allFrom every real bits levelOf realOf readOut realFromTo amountOf limitOf inRange unitsOr amountUnits levelUnits view slotsOf firstLive winner isLive maskEmptied maskFilled levelSet put levelAt winningLevel clampLit presentValue distanceMoved reachedBy reached progressBy progressValue lit inProcess binaryAt switched relayState inactiveNotBelow withBurning withEffect withCommand withSettings litMilliseconds withBurned timerDue phaseEnd activityDue isDue timerAt emptiedBy expired endMovementOf endMovementBy endMovementOnExpiry delayed nextPhase nextActivity activityAt phaseSlots nextSlots slotsAt afterEvents fire tick ticks lastShort momentAfter goneAt countBefore countSince litFromZero litFromLight litAt litByPace litMoving litInMovement litResting litStretch sooner due burnedBy withBurnedSaturating fireDue eventStep eventSteps advance later endMovementUnlessAbove stored zeroOrEmpty zeroOrEmptyFrom blinks zeroOrEmptyAbove warnsBy warns firstLevel firstPhase warningFrom warnedBy warned endedEmpty endedStored writtenWarned writtenZero writtenCalm writtenBy written activityRelinquished slotRelinquished operationNumber fieldsOf durationField withoutWarning activityWithoutWarning replaced placed movement rampLength target fadedOver fadedTo rampedAt rampedTo jumped wentTo stepUpFrom stepDownFrom steppedUp steppedDown raised halted stopped relinquished effect timed commandedFrom commanded answerBytes levelAnswered within isLevel isAmount isSlot isPriority meets numbered propertyOf same changeTo changeBy changeOf settingsWith relayWith endMovement activityWith burningWith changed minOverMax levelAnswer levelOrAbsent slotAnswer flag elapsedActive realAnswer realFieldAnswer timeFieldAnswer lastDuration readProperty freshSettings freshRelay freshWith freshFor freshOutput levelFieldRefusal amountFieldRefusal timeFieldRefusal firstRefusal fieldsRefusal commandLasting commandWithDuration commandRequestBy commandOf plainDuration commandRequest writeLevel writeOf emptyOf done unchanged changedUnless acted served byteAt bigEndian octets kindRow kindLength callsBy isCall fewestOctets fieldSize sizes fieldBytes bytesFrom tagBytes realTag wholeTag tagsOf commandTags zeroFilled taggedBody bodyBytes fieldIn fieldsFrom bodyFields zeroBeyond holdsAtMost wellTagged heldBy operationOf timeOf bothOrNeither fewest ownTags readFields readBody taggedRequest requestOf callOf called clockOf parseBy parse
+unfolding toBits round bitAnd bitOr ofBits if_then_else_ allFrom every real bits levelOf realOf readOut realFromTo amountOf limitOf inRange unitsOr amountUnits levelUnits view slotsOf firstLive winner isLive maskEmptied maskFilled levelSet put levelAt winningLevel clampLit presentValue distanceMoved reachedBy reached progressBy progressValue lit inProcess binaryAt switched relayState inactiveNotBelow withBurning withEffect withCommand withSettings litMilliseconds withBurned timerDue phaseEnd activityDue isDue timerAt emptiedBy expired endMovementOf endMovementBy endMovementOnExpiry delayed nextPhase nextActivity activityAt phaseSlots nextSlots slotsAt afterEvents fire tick ticks lastShort momentAfter goneAt countBefore countSince litFromZero litFromLight litAt litByPace litMoving litInMovement litResting litStretch sooner due burnedBy withBurnedSaturating fireDue eventStep eventSteps advance later endMovementUnlessAbove stored zeroOrEmpty zeroOrEmptyFrom blinks zeroOrEmptyAbove warnsBy warns firstLevel firstPhase warningFrom warnedBy warned endedEmpty endedStored writtenWarned writtenZero writtenCalm writtenBy written activityRelinquished slotRelinquished operationNumber fieldsOf durationField withoutWarning activityWithoutWarning replaced placed movement rampLength target fadedOver fadedTo rampedAt rampedTo jumped wentTo stepUpFrom stepDownFrom steppedUp steppedDown raised halted stopped relinquished effect timed commandedFrom commanded isTenant wholePercent shownLevel hidden answerBytes levelAnswered within isLevel isAmount isSlot isPriority meets numbered propertyOf same changeTo changeBy changeOf settingsWith relayWith endMovement activityWith burningWith changed minOverMax levelAnswer levelOrAbsent slotAnswer flag elapsedActive realAnswer realFieldAnswer timeFieldAnswer lastDuration readProperty freshSettings freshRelay freshWith freshFor freshOutput levelFieldRefusal amountFieldRefusal timeFieldRefusal firstRefusal fieldsRefusal commandLasting commandWithDuration commandRequestBy commandOf plainDuration commandRequest writeLevel writeOf emptyOf done unchanged changedUnless acted served byteAt bigEndian octets kindRow kindLength callsBy isCall fewestOctets fieldSize sizes fieldBytes bytesFrom tagBytes realTag wholeTag tagsOf commandTags zeroFilled taggedBody bodyBytes fieldIn fieldsFrom bodyFields zeroBeyond holdsAtMost wellTagged heldBy operationOf timeOf bothOrNeither fewest ownTags readFields readBody taggedRequest requestOf callOf called clockOf parseBy parse
 tags-refused = refl

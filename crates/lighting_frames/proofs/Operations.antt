@@ -1,5 +1,6 @@
 -- A command's fields in range, and its operation's number: '0F last operation (kind minus 10)'.
 use mathlib.Core.Path.{_≡_, refl, sym, ap, _∙_}
+use mathlib.Core.Bool.{Bool}
 use Prim.Native.Nat.{ℕ, _-_, _≤_}
 use native.Mathlib.Omega.{arith}
 use lib.Dec.{ltb, eqb}
@@ -103,9 +104,9 @@ pub kind-number : (p : Parameters) (c : ℕ) (b : Bytes) (call : Call) (command 
 unfolding parse
 kind-number p c b call command h r n m = number-by p c _ _ b call command refl h r n m
 
--- and that is what property 0F of its output reads from then on
-pub kind-read : (p : Parameters) (c : ℕ) (b : Bytes) (call : Call) (command : Command) (t t′ : ℕ) (o : Output)
+-- and that is what property 0F of its output reads from then on, to a tenant too (§8)
+pub kind-read : (p : Parameters) (c : ℕ) (b : Bytes) (call : Call) (command : Command) (tenant reader : Bool) (t t′ : ℕ) (o : Output)
     → parse p c b ≡ Calls call → call .request ≡ ToOutput (Commands command) → 0x10 ≤ byteAt b 0 → byteAt b 0 ≤ 0x1a
-    → readProperty t′ (acted t o (Commands command) .output) LastOperation ≡ Value (byteAt b 0 - 0x10)
+    → readProperty reader t′ (acted tenant t o (Commands command) .output) LastOperation ≡ Value (byteAt b 0 - 0x10)
 unfolding acted done afterEvents commanded commandedFrom withCommand readProperty
-kind-read p c b call command t t′ o h r n m = ap Value (kind-number p c b call command h r n m)
+kind-read p c b call command tenant reader t t′ o h r n m = ap Value (kind-number p c b call command h r n m)

@@ -4,6 +4,8 @@ pub mod Alone
 pub mod Present
 -- kind 05 by number
 pub mod Reads
+-- what a tenant is shown (§8)
+pub mod Tenants
 -- kind 04, then kind 05
 pub mod Writes
 -- the order of a command's refusals

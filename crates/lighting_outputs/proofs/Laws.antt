@@ -57,11 +57,11 @@ litByPace-on x0 x1 x2 x3 k r e p = rw e p
 pub litInMovement-on : (x0 : ℕ) (x1 : ℕ) (x2 : Activity) (k : Activity) (r : ℕ) → x2 ≡ k → r ≡ litInMovement x0 x1 k → r ≡ litInMovement x0 x1 x2
 litInMovement-on x0 x1 x2 k r e p = rw e p
 
-pub acted-on : (x0 : ℕ) (x1 : Output) (x2 : OutputRequest) (k : OutputRequest) (r : Outcome) → x2 ≡ k → r ≡ acted x0 x1 k → r ≡ acted x0 x1 x2
-acted-on x0 x1 x2 k r e p = rw e p
+pub acted-on : (x0 : Bool) (x1 : ℕ) (x2 : Output) (x3 : OutputRequest) (k : OutputRequest) (r : Outcome) → x3 ≡ k → r ≡ acted x0 x1 x2 k → r ≡ acted x0 x1 x2 x3
+acted-on x0 x1 x2 x3 k r e p = rw e p
 
-pub served-on : (x0 : ℕ) (x1 : List Output) (x2 : ℕ) (x3 : Request) (k : Request) (r : Served) → x3 ≡ k → r ≡ served x0 x1 x2 k → r ≡ served x0 x1 x2 x3
-served-on x0 x1 x2 x3 k r e p = rw e p
+pub served-on : (x0 : Bool) (x1 : ℕ) (x2 : List Output) (x3 : ℕ) (x4 : Request) (k : Request) (r : Served) → x4 ≡ k → r ≡ served x0 x1 x2 x3 k → r ≡ served x0 x1 x2 x3 x4
+served-on x0 x1 x2 x3 x4 k r e p = rw e p
 
 pub answerBytes-on : (x0 : Answer) (k : Answer) (r : List ℕ) → x0 ≡ k → r ≡ answerBytes k → r ≡ answerBytes x0
 answerBytes-on x0 k r e p = rw e p
@@ -147,8 +147,8 @@ timeFieldAnswer-on x0 k r e p = rw e p
 pub lastDuration-on : (x0 : Duration) (k : Duration) (r : Answer) → x0 ≡ k → r ≡ lastDuration k → r ≡ lastDuration x0
 lastDuration-on x0 k r e p = rw e p
 
-pub readProperty-on : (x0 : ℕ) (x1 : Output) (x2 : Property) (k : Property) (r : Answer) → x2 ≡ k → r ≡ readProperty x0 x1 k → r ≡ readProperty x0 x1 x2
-readProperty-on x0 x1 x2 k r e p = rw e p
+pub readProperty-on : (x0 : Bool) (x1 : ℕ) (x2 : Output) (x3 : Property) (k : Property) (r : Answer) → x3 ≡ k → r ≡ readProperty x0 x1 x2 k → r ≡ readProperty x0 x1 x2 x3
+readProperty-on x0 x1 x2 x3 k r e p = rw e p
 
 pub levelFieldRefusal-on : (x0 : RealField) (k : RealField) (r : ℕ) → x0 ≡ k → r ≡ levelFieldRefusal k → r ≡ levelFieldRefusal x0
 levelFieldRefusal-on x0 k r e p = rw e p

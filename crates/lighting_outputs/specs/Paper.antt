@@ -1,4 +1,4 @@
--- DOCUMENT 01 AND §1 TO §7 AS DEFINITIONS, this layer's part: what a reader must believe. In reading order;
+-- DOCUMENT 01 AND §1 TO §8 AS DEFINITIONS, this layer's part: what a reader must believe. In reading order;
 -- docs/PAPER.md has all layers.
 -- the set of parameters, and which sets a panel may have
 pub mod Parameters
@@ -14,6 +14,8 @@ pub mod Passing
 pub mod Writing
 pub mod Operations
 pub mod Commands
+-- §8: tenant stations, and what they are shown
+pub mod Tenants
 -- the four answers; the properties, a row each, written and read
 pub mod Answers
 pub mod Rows
@@ -26,6 +28,8 @@ pub mod Acting
 pub mod Rules
 -- §7: a time within two numbers
 pub mod TimeWithin
+-- §8: what a tenant may learn of an output
+pub mod Learnt
 -- 'Bench figures' 1 to 8; §2 to §4 and fresh values and rules by hand
 pub mod Figures
 pub mod WorkedLight
@@ -33,3 +37,5 @@ pub mod WorkedRelay
 pub mod WorkedJumps
 pub mod WorkedFresh
 pub mod WorkedOutside
+-- §8 by hand: what a tenant and a service station read
+pub mod WorkedTenants

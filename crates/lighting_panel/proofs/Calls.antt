@@ -2,6 +2,7 @@
 use mathlib.Core.Path.{_≡_, refl, sym, ap, ap₂, _∙_}
 use mathlib.Core.Bool.{true}
 use mathlib.Core.List.{List, [], _∷_}
+use Prim.Native.Nat.{ℕ}
 use Rattle.lighting_outputs.specs.declared.Parameters.{Parameters}
 use Rattle.lighting_frames.specs.Paper.Frames.{Bytes, Strings}
 use Rattle.lighting_panel.specs.Paper.Panel.{Panel, Step, result, startStep}
@@ -23,37 +24,37 @@ calls-list (call {l = l} {given = given} x z) =
     (i .0 ∙ ap (λ (e : Panel). after e l) e₁, ap₂ (λ (a : Answer) (m : List Answer). a ∷ m) a (i .1 ∙ ap (λ (e : Panel). answers e l) e₁))
 
 -- a start that answered Done, by its contract
-answered : (p : Parameters) (e : Panel) {e₀ : Panel} → result e₀ Done ≡ startStep p e → startStep p e .answer ≡ Done
-answered p e b = sym (ap (λ (k : Step). k .answer) b)
+answered : (p : Parameters) (marks : ℕ) (e : Panel) {e₀ : Panel} → result e₀ Done ≡ startStep p marks e → startStep p marks e .answer ≡ Done
+answered p marks e b = sym (ap (λ (k : Step). k .answer) b)
 
 -- the same after a start
-called : (p : Parameters) (e : Panel) {e₀ e′ : Panel} {l : List Bytes} {given : List Answer} → result e₀ Done ≡ startStep p e → Calls e₀ l given e′
-    → (e′ ≡ after (startStep p e .panel) l) × (given ≡ answers (startStep p e .panel) l)
-called p e b c = rw (← ap (λ (k : Step). k .panel) b) (calls-list c)
+called : (p : Parameters) (marks : ℕ) (e : Panel) {e₀ e′ : Panel} {l : List Bytes} {given : List Answer} → result e₀ Done ≡ startStep p marks e → Calls e₀ l given e′
+    → (e′ ≡ after (startStep p marks e .panel) l) × (given ≡ answers (startStep p marks e .panel) l)
+called p marks e b c = rw (← ap (λ (k : Step). k .panel) b) (calls-list c)
 
 -- a list with no frame that comes again
 pub once : (seen l : List Bytes) → Again seen l l
 once seen [] = end
 once seen (b ∷ l) = own (once (b ∷ seen) l)
 
-pub conclude : (p : Parameters) (e e₀ e′ : Panel) (l : List Bytes) (given : List Answer) → Strings l
-    → result e₀ Done ≡ startStep p e → Calls e₀ l given e′ → Concluded p l given e′
-conclude p e e₀ e′ l given s b c =
-    let d = demand-3 p e l l (once [] l) s (answered p e b) in
-    let k = called p e b c in
-    rw (k .0, k .1) (record { outputs = d .outputs; time = d .time; parameters = d .parameters; answered = d .answered; sound = d .sound; never = d .never })
+pub conclude : (p : Parameters) (marks : ℕ) (e e₀ e′ : Panel) (l : List Bytes) (given : List Answer) → Strings l
+    → result e₀ Done ≡ startStep p marks e → Calls e₀ l given e′ → Concluded p marks l given e′
+conclude p marks e e₀ e′ l given s b c =
+    let d = demand-3 p marks e l l (once [] l) s (answered p marks e b) in
+    let k = called p marks e b c in
+    rw (k .0, k .1) (record { outputs = d .outputs; time = d .time; parameters = d .parameters; tenants = d .tenants; answered = d .answered; sound = d .sound; never = d .never })
 
 -- so the tables show what the plain panel shows
-pub shows : (p : Parameters) (e′ : Panel) (l : List Bytes) (given : List Answer) → Concluded p l given e′
-    → foundIn e′ ≡ foundPlain (plainAfter p (plainStart p) l .panel)
-shows p e′ l given c = same-found e′ (plainAfter p (plainStart p) l .panel) (c .outputs) (c .time)
+pub shows : (p : Parameters) (marks : ℕ) (e′ : Panel) (l : List Bytes) (given : List Answer) → Concluded p marks l given e′
+    → foundIn e′ ≡ foundPlain (plainAfter p marks (plainStart p) l .panel)
+shows p marks e′ l given c = same-found e′ (plainAfter p marks (plainStart p) l .panel) (c .outputs) (c .time)
 
 -- two callers after the same start: the one's list is l, and in the other's frames of it come again
-pub conclude-again : (p : Parameters) (e e₀ e′ e″ : Panel) (l l′ : List Bytes) (r : Again [] l l′) (given given′ : List Answer) → Strings l
-    → result e₀ Done ≡ startStep p e → Calls e₀ l given e′ → Calls e₀ l′ given′ e″
+pub conclude-again : (p : Parameters) (marks : ℕ) (e e₀ e′ e″ : Panel) (l l′ : List Bytes) (r : Again [] l l′) (given given′ : List Answer) → Strings l
+    → result e₀ Done ≡ startStep p marks e → Calls e₀ l given e′ → Calls e₀ l′ given′ e″
     → ConcludedAgain l l′ r given given′ e′ e″
-conclude-again p e e₀ e′ e″ l l′ r given given′ s b c c′ =
-    let d = demand-3 p e l l′ r s (answered p e b) in
-    let k = called p e b c in
-    let k′ = called p e b c′ in
+conclude-again p marks e e₀ e′ e″ l l′ r given given′ s b c c′ =
+    let d = demand-3 p marks e l l′ r s (answered p marks e b) in
+    let k = called p marks e b c in
+    let k′ = called p marks e b c′ in
     rw (k .0, k .1, k′ .0, k′ .1) (record { again = d .again; answeredAgain = d .answeredAgain })

@@ -34,19 +34,19 @@ use Rattle.lighting_frames.proofs.KindTable.{length-most}
 use Rattle.lighting_outputs.proofs.Rules.Tied.{tested-stays}
 
 -- THE START
-module _ (p : Parameters) (e : Panel) where
-  pub startStep-outside : startable p ≡ false → startStep p e ≡ result e (Refused 17)
+module _ (p : Parameters) (marks : ℕ) (e : Panel) where
+  pub startStep-outside : startable p ≡ false → startStep p marks e ≡ result e (Refused 17)
   unfolding startStep if_then_else_
   startStep-outside h = rw h
 
   pub startStep-refused : startable p ≡ true → countsSound p (length (e .outputs)) (length (e .stations)) ≡ false
-      → startStep p e ≡ result e (Refused 1)
+      → startStep p marks e ≡ result e (Refused 1)
   unfolding startStep if_then_else_
   startStep-refused h g = rw (h, g)
 
   -- the fresh records are as many as are lent
   pub startStep-done : startable p ≡ true → countsSound p (length (e .outputs)) (length (e .stations)) ≡ true
-      → startStep p e ≡ result (panelOf (replicate (length (e .outputs)) (freshFor p)) (replicate (length (e .stations)) freshStation) (freshRecord p)) Done
+      → startStep p marks e ≡ result (panelOf (replicate (length (e .outputs)) (freshFor p)) (replicate (length (e .stations)) freshStation) (freshRecord p marks)) Done
   unfolding startStep freshPanel countsSound if_then_else_
   startStep-done h g = let q = also-both g in rw (h, g) (rw (eq-of {a = length (e .outputs)} {b = p .outputs} (q .0), eq-of {a = length (e .stations)} {b = p .stations} (q .1)))
 

@@ -30,9 +30,9 @@ pub never-done : (r : ℕ) → Refused r ≡ Done → ⊥
 never-done r impossible = let one : _≡_ {A = ℕ} 0 1 = cc in omega arith
 
 -- a start that answers Done was given a set that may be started, and leaves fresh records
-pub startStep-fresh : (p : Parameters) (e : Panel) → startStep p e .answer ≡ Done → (startable p ≡ true) × (startStep p e .panel ≡ freshPanel p)
+pub startStep-fresh : (p : Parameters) (marks : ℕ) (e : Panel) → startStep p marks e .answer ≡ Done → (startable p ≡ true) × (startStep p marks e .panel ≡ freshPanel p marks)
 unfolding startStep if_then_else_
-startStep-fresh p e h =
+startStep-fresh p marks e h =
     by-bool (startable p)
     (λ x. by-bool
     (countsSound p (length (e .outputs)) (length (e .stations)))
@@ -40,24 +40,25 @@ startStep-fresh p e h =
     (λ y. absurd (never-done 1 (rw (x, y) at h))))
     (λ x. absurd (never-done 17 (rw x at h)))
 
--- For EVERY set of parameters and EVERY lent table e on which a start with this set answered Done (so the set
--- is one that may be started), EVERY list l of strings of bytes, and EVERY list l′ in which frames of l come
+-- For EVERY set of parameters, ALL marks and EVERY lent table e on which a start with these answered Done (so
+-- the set is one that may be started), EVERY list l of strings of bytes, and EVERY list l′ in which frames of l come
 -- again, anywhere later and any number of times
-pub demand-3 : (p : Parameters) (e : Panel) (l l′ : List Bytes) (r : Again [] l l′) → Strings l → startStep p e .answer ≡ Done → Demand p e l l′ r
-demand-3 p e l l′ r s h =
+pub demand-3 : (p : Parameters) (marks : ℕ) (e : Panel) (l l′ : List Bytes) (r : Again [] l l′) → Strings l → startStep p marks e .answer ≡ Done → Demand p marks e l l′ r
+demand-3 p marks e l l′ r s h =
     let c = p .outputs in
-    let f = startStep-fresh p e h in
+    let f = startStep-fresh p marks e h in
     let m = linked-start p (f .0) in
-    let begin : startStep p e .panel ≡ joined p (replicate (p .stations) freshStation) (plainStart p) = f .1 ∙ (unfold freshPanel plainStart in refl) in
-    let i = listed p c (replicate (p .stations) freshStation) (plainStart p) l s m in
-    let j = repeats-change-nothing p c (replicate (p .stations) freshStation) (plainStart p) r s m in
+    let begin : startStep p marks e .panel ≡ joined p marks (replicate (p .stations) freshStation) (plainStart p) = f .1 ∙ (unfold freshPanel plainStart in refl) in
+    let i = listed p marks c (replicate (p .stations) freshStation) (plainStart p) l s m in
+    let j = repeats-change-nothing p marks c (replicate (p .stations) freshStation) (plainStart p) r s m in
     record {
       outputs = rw (begin, i .same);
       time = rw (begin, i .same);
       parameters = rw (begin, i .same);
+      tenants = rw (begin, i .same);
       answered = rw begin (i .answered);
-      sound = rw (begin, i .same) (linked-sound p c (i .stations) (plainAfter p (plainStart p) l) (i .linked));
-      never = rw (begin, i .answered) (never-one (plainAnswers p (plainStart p) l) (i .others));
+      sound = rw (begin, i .same) (linked-sound p marks c (i .stations) (plainAfter p marks (plainStart p) l) (i .linked));
+      never = rw (begin, i .answered) (never-one (plainAnswers p marks (plainStart p) l) (i .others));
       again = rw begin (j .0);
       answeredAgain = rw begin (j .1);
     }
@@ -67,11 +68,11 @@ pub same-found : (e : Panel) (w : Plain) → e .outputs ≡ w .outputs → e .ke
 same-found e w y q = rw (y, q)
 
 -- so by demand 3 all that is found is what the plain panel has
-pub finds : (p : Parameters) (e : Panel) (l l′ : List Bytes) (r : Again [] l l′) → Demand p e l l′ r
-    → foundIn (after (startStep p e .panel) l) ≡ foundPlain (plainAfter p (plainStart p) l .panel)
-finds p e l l′ r d =
+pub finds : (p : Parameters) (marks : ℕ) (e : Panel) (l l′ : List Bytes) (r : Again [] l l′) → Demand p marks e l l′ r
+    → foundIn (after (startStep p marks e .panel) l) ≡ foundPlain (plainAfter p marks (plainStart p) l .panel)
+finds p marks e l l′ r d =
     same-found
-    (after (startStep p e .panel) l)
-    (plainAfter p (plainStart p) l .panel)
+    (after (startStep p marks e .panel) l)
+    (plainAfter p marks (plainStart p) l .panel)
     (d .outputs)
     (d .time)

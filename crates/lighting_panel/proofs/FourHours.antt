@@ -37,17 +37,17 @@ module _ (e : Panel) (isDone : startNow e .answer ≡ Done) where
 
   alike-started : StartsAlike e
   alike-started =
-      let outputs = startable-of p (startStep-fresh p e isDone .0) .outputs in
+      let outputs = startable-of p (startStep-fresh p 0 e isDone .0) .outputs in
       starts-alike e (outputs .least) (outputs .most)
 
-  begins : startNow e .panel ≡ joined p unheard begun
-  begins = startStep-fresh p e isDone .1 ∙ (unfold freshPanel plainStart in refl)
+  begins : startNow e .panel ≡ joined p 0 unheard begun
+  begins = startStep-fresh p 0 e isDone .1 ∙ (unfold freshPanel plainStart in refl)
 
   begins-old : startedOld e ≡ old unheard begun
   begins-old = sym (alike-started .panel) ∙ ap withoutSet begins
 
   linked : Refines p (length (e .outputs)) unheard begun
-  linked = linked-start p (startStep-fresh p e isDone .0)
+  linked = linked-start p (startStep-fresh p 0 e isDone .0)
 
   -- THE THEOREM, for every lent table e on which the start with that set answered Done, and every list l of
   -- strings of bytes in which no frame to which the old panel answers Done carries a longer fade time

@@ -29,6 +29,8 @@ pub mod OldLists
 pub mod FourHours
 -- what an engineer would check by hand
 pub mod Consequences
+-- the claim of secrecy (§8)
+pub mod Secrecy
 -- worked lists, computed
 pub mod Figures
 -- definitions by clauses, for proofs of code

@@ -19,6 +19,7 @@ use Rattle.lighting_outputs.specs.Engine.Advance.{greatestCount, advance}
 use Rattle.lighting_outputs.specs.Paper.Rules.{sound}
 use Rattle.lighting_frames.specs.Paper.Stations.{stationSound, freshStation}
 use Rattle.lighting_outputs.specs.Paper.Fresh.{freshFor}
+use Rattle.lighting_outputs.specs.Paper.Tenants.{isTenant}
 use Rattle.lighting_outputs.specs.Paper.Acting.{served}
 use Rattle.lighting_frames.specs.Paper.Copies.{sameBytes, retransmissionOrConflict}
 use Rattle.lighting_panel.specs.Paper.Panel.{Panel, Station, countsSound, rulesKept, panelSound}
@@ -44,8 +45,13 @@ use Rattle.lighting_outputs.proofs.Acts.Answered.{NotOne, not-one}
 use Rattle.lighting_panel.proofs.Table.{served-not-one, AllSound, all-tested, all-fresh, runPlain-advance, all-advance, served-sound, served-length}
 
 -- THE LINK between the station records and the list so far. The engine's panel is rebuilt from the plain one
-abbrev pub joined : Parameters → List Station → PlainState → Panel
-joined p k w = record { outputs = w .panel .outputs; stations = k; kept = record { time = w .panel .time; parameters = p } }
+abbrev pub joined : Parameters → ℕ → List Station → PlainState → Panel
+joined p marks k w =
+    record {
+      outputs = w .panel .outputs;
+      stations = k;
+      kept = record { time = w .panel .time; parameters = p; tenants = marks };
+    }
 
 -- a station's record, as the list's own
 abbrev pub asLatest : Station → Latest
@@ -79,9 +85,9 @@ pub record Refines (p : Parameters) (c : ℕ) (k : List Station) (w : PlainState
   pub others : PastOther (w .past)
 
 -- refusal 1 does not come
-pub linked-sound : (p : Parameters) (c : ℕ) (k : List Station) (w : PlainState) → Refines p c k w → panelSound (joined p k w) ≡ true
+pub linked-sound : (p : Parameters) (marks : ℕ) (c : ℕ) (k : List Station) (w : PlainState) → Refines p c k w → panelSound (joined p marks k w) ≡ true
 unfolding panelSound rulesKept countsSound
-linked-sound p c k w m =
+linked-sound p marks c k w m =
     rw
     (m .count, m .counted)
     (also-yes (m .allowed)
@@ -129,10 +135,10 @@ judgedByRecord-judged p c k w b (Calls call) m g =
     )
     (alike n (latest s (w .past) .number) t (w .panel .time) _ (TurnedDown 7) (TurnedDown 8) (Arrives call))
 
-pub decide-judged : (p : Parameters) (c : ℕ) (k : List Station) (w : PlainState) (b : Bytes) → Octets b → Refines p c k w
-    → decide (joined p k w) b ≡ judged (w .past) b (parse p (length (w .panel .outputs)) b)
+pub decide-judged : (p : Parameters) (marks : ℕ) (c : ℕ) (k : List Station) (w : PlainState) (b : Bytes) → Octets b → Refines p c k w
+    → decide (joined p marks k w) b ≡ judged (w .past) b (parse p (length (w .panel .outputs)) b)
 unfolding decide
-decide-judged p c k w b h m =
+decide-judged p marks c k w b h m =
     rw (m .count) (judgedByRecord-judged p c k w b (parse p c b) m (frame-in-range p c b h))
 
 -- WHAT IS KNOWN of a verdict
@@ -178,20 +184,20 @@ judged-moved p c k w b (Calls call) m g =
     (λ j. rw (e, j) (omega arith))))
 
 -- ONE FRAME
-abbrev pub nextStations : Bytes → List Station → PlainState → Verdict → List Station
-nextStations b k w (TurnedDown r) = k
-nextStations b k w (Copied a) = k
-nextStations b k w (Clocked t) = k
-nextStations b k w (Arrives call) =
-    set k (call .station) (record { answer = plainExecute b w (Arrives call) .answer; number = call .number; frame = padded b })
+abbrev pub nextStations : ℕ → Bytes → List Station → PlainState → Verdict → List Station
+nextStations marks b k w (TurnedDown r) = k
+nextStations marks b k w (Copied a) = k
+nextStations marks b k w (Clocked t) = k
+nextStations marks b k w (Arrives call) =
+    set k (call .station) (record { answer = plainExecute marks b w (Arrives call) .answer; number = call .number; frame = padded b })
 
-step-same : (p : Parameters) (c : ℕ) (k : List Station) (w : PlainState) (b : Bytes) (v : Verdict) → Refines p c k w → Moved p c w b v
-    → execute b (joined p k w) v ≡ record { panel = joined p (nextStations b k w v) (plainExecute b w v .state); answer = plainExecute b w v .answer }
+step-same : (p : Parameters) (marks : ℕ) (c : ℕ) (k : List Station) (w : PlainState) (b : Bytes) (v : Verdict) → Refines p c k w → Moved p c w b v
+    → execute b (joined p marks k w) v ≡ record { panel = joined p marks (nextStations marks b k w v) (plainExecute marks b w v .state); answer = plainExecute marks b w v .answer }
 unfolding execute plainExecute
-step-same p c k w b (TurnedDown r) m g = refl
-step-same p c k w b (Copied a) m g = refl
-step-same p c k w b (Clocked t) m g = rw (runPlain-advance p t (w .panel) (g .0) (omega (arith, g .1)) (m .sound))
-step-same p c k w b (Arrives call) m g =
+step-same p marks c k w b (TurnedDown r) m g = refl
+step-same p marks c k w b (Copied a) m g = refl
+step-same p marks c k w b (Clocked t) m g = rw (runPlain-advance p t (w .panel) (g .0) (omega (arith, g .1)) (m .sound))
+step-same p marks c k w b (Arrives call) m g =
     rw (runPlain-advance p (call .time) (w .panel) (g .due) (omega (arith, g .frame .time)) (m .sound))
 
 and-le : (a b c : ℕ) → b ≤ a → (leb a c also leb b c) ≡ leb a c
@@ -289,78 +295,79 @@ linked-first p c k w b call l a m g e h z =
       others = (z, m .others);
     }
 
-pub step-linked : (p : Parameters) (c : ℕ) (k : List Station) (w : PlainState) (b : Bytes) (v : Verdict) → Refines p c k w → Moved p c w b v
-    → Refines p c (nextStations b k w v) (plainExecute b w v .state)
+pub step-linked : (p : Parameters) (marks : ℕ) (c : ℕ) (k : List Station) (w : PlainState) (b : Bytes) (v : Verdict) → Refines p c k w → Moved p c w b v
+    → Refines p c (nextStations marks b k w v) (plainExecute marks b w v .state)
 unfolding plainExecute
-step-linked p c k w b (TurnedDown r) m g = m
-step-linked p c k w b (Copied a) m g = m
-step-linked p c k w b (Clocked t) m g =
+step-linked p marks c k w b (TurnedDown r) m g = m
+step-linked p marks c k w b (Copied a) m g = m
+step-linked p marks c k w b (Clocked t) m g =
     rw (runPlain-advance p t (w .panel) (g .0) (omega (arith, g .1)) (m .sound)) (linked-clock p c k w t m (g .0) (g .1))
-step-linked p c k w b (Arrives call) m g =
+step-linked p marks c k w b (Arrives call) m g =
     let t = call .time in
     let i = call .output in
     let r = call .request in
     let u : t ≤ greatestCount = omega (arith, g .frame .time) in
+    let tenant = isTenant marks (call .station) in
     let l = map (advance (w .panel .time) t) (w .panel .outputs) in
     let e : length l ≡ c = length-map (w .panel .outputs) (advance (w .panel .time) t) ∙ m .count in
     let h : AllSound p t l = all-advance p (w .panel .time) t (w .panel .outputs) (g .due) u (m .sound) in
     rw
     (runPlain-advance p t (w .panel) (g .due) u (m .sound))
-    (linked-first p c k w b call (served t l i r .outputs) (served t l i r .answer) m g
-    (served-length t l i r ∙ e)
-    (served-sound p t l i r (g .frame .good) h)
-    (served-not-one p t l i r (g .frame .good)))
+    (linked-first p c k w b call (served tenant t l i r .outputs) (served tenant t l i r .answer) m g
+    (served-length tenant t l i r ∙ e)
+    (served-sound p tenant t l i r (g .frame .good) h)
+    (served-not-one p tenant t l i r (g .frame .good)))
 
 -- its answer is not refusal 1
-plainExecute-other : (p : Parameters) (c : ℕ) (k : List Station) (w : PlainState) (b : Bytes) (v : Verdict) → Refines p c k w → Moved p c w b v → NotOne (plainExecute b w v .answer)
+plainExecute-other : (p : Parameters) (marks : ℕ) (c : ℕ) (k : List Station) (w : PlainState) (b : Bytes) (v : Verdict) → Refines p c k w → Moved p c w b v → NotOne (plainExecute marks b w v .answer)
 unfolding plainExecute
-plainExecute-other p c k w b (TurnedDown r) m g = record { other = omega arith }
-plainExecute-other p c k w b (Copied a) m g = g
-plainExecute-other p c k w b (Clocked t) m g = record { other = omega arith }
-plainExecute-other p c k w b (Arrives call) m g = served-not-one p _ _ (call .output) (call .request) (g .frame .good)
+plainExecute-other p marks c k w b (TurnedDown r) m g = record { other = omega arith }
+plainExecute-other p marks c k w b (Copied a) m g = g
+plainExecute-other p marks c k w b (Clocked t) m g = record { other = omega arith }
+plainExecute-other p marks c k w b (Arrives call) m g = served-not-one p _ _ _ (call .output) (call .request) (g .frame .good)
 
 -- the engine's step from a linked panel is the plain panel's, and the panels are linked again
-pub record Stepped (p : Parameters) (c : ℕ) (k : List Station) (w : PlainState) (b : Bytes) : Type 0 where
+pub record Stepped (p : Parameters) (marks : ℕ) (c : ℕ) (k : List Station) (w : PlainState) (b : Bytes) : Type 0 where
   pub stations : List Station
   pub same :
-      frameStep (joined p k w) b
-      ≡ record { panel = joined p stations (plainFrameStep p w b .state); answer = plainFrameStep p w b .answer }
-  pub linked : Refines p c stations (plainFrameStep p w b .state)
-  pub other : NotOne (plainFrameStep p w b .answer)
+      frameStep (joined p marks k w) b
+      ≡ record { panel = joined p marks stations (plainFrameStep p marks w b .state); answer = plainFrameStep p marks w b .answer }
+  pub linked : Refines p c stations (plainFrameStep p marks w b .state)
+  pub other : NotOne (plainFrameStep p marks w b .answer)
 
-pub step : (p : Parameters) (c : ℕ) (k : List Station) (w : PlainState) (b : Bytes) → Octets b → Refines p c k w → Stepped p c k w b
+pub step : (p : Parameters) (marks : ℕ) (c : ℕ) (k : List Station) (w : PlainState) (b : Bytes) → Octets b → Refines p c k w → Stepped p marks c k w b
 unfolding frameStep plainFrameStep if_then_else_
-step p c k w b h m =
+step p marks c k w b h m =
     let v = judged (w .past) b (parse p (length (w .panel .outputs)) b) in
     let g : Moved p c w b v = rw (m .count) (judged-moved p c k w b (parse p c b) m (frame-in-range p c b h)) in
     record {
-      stations = nextStations b k w v;
-      same = rw (linked-sound p c k w m, decide-judged p c k w b h m) (step-same p c k w b v m g);
-      linked = step-linked p c k w b v m g;
-      other = plainExecute-other p c k w b v m g;
+      stations = nextStations marks b k w v;
+      same = rw (linked-sound p marks c k w m, decide-judged p marks c k w b h m) (step-same p marks c k w b v m g);
+      linked = step-linked p marks c k w b v m g;
+      other = plainExecute-other p marks c k w b v m g;
     }
 
 -- EVERY LIST
 abbrev pub AllOther : List Answer → Type 0
 AllOther l = Every NotOne l
 
-pub record Listed (p : Parameters) (c : ℕ) (k : List Station) (w : PlainState) (l : List Bytes) : Type 0 where
+pub record Listed (p : Parameters) (marks : ℕ) (c : ℕ) (k : List Station) (w : PlainState) (l : List Bytes) : Type 0 where
   pub stations : List Station
-  pub same : after (joined p k w) l ≡ joined p stations (plainAfter p w l)
-  pub answered : answers (joined p k w) l ≡ plainAnswers p w l
-  pub linked : Refines p c stations (plainAfter p w l)
-  pub others : AllOther (plainAnswers p w l)
+  pub same : after (joined p marks k w) l ≡ joined p marks stations (plainAfter p marks w l)
+  pub answered : answers (joined p marks k w) l ≡ plainAnswers p marks w l
+  pub linked : Refines p c stations (plainAfter p marks w l)
+  pub others : AllOther (plainAnswers p marks w l)
 
-pub listed : (p : Parameters) (c : ℕ) (k : List Station) (w : PlainState) (l : List Bytes) → Strings l → Refines p c k w → Listed p c k w l
+pub listed : (p : Parameters) (marks : ℕ) (c : ℕ) (k : List Station) (w : PlainState) (l : List Bytes) → Strings l → Refines p c k w → Listed p marks c k w l
 unfolding after answers plainAfter plainAnswers
-listed p c k w [] s m = record { stations = k; same = refl; answered = refl; linked = m; others = tt }
-listed p c k w (b ∷ l) s m =
-    let h = step p c k w b (s .0) m in
-    let i = listed p c (h .stations) (plainFrameStep p w b .state) l (s .1) (h .linked) in
+listed p marks c k w [] s m = record { stations = k; same = refl; answered = refl; linked = m; others = tt }
+listed p marks c k w (b ∷ l) s m =
+    let h = step p marks c k w b (s .0) m in
+    let i = listed p marks c (h .stations) (plainFrameStep p marks w b .state) l (s .1) (h .linked) in
     record {
       stations = i .stations;
       same = rw (h .same) (i .same);
-      answered = rw (h .same) (ap (λ (z : List Answer). plainFrameStep p w b .answer ∷ z) (i .answered));
+      answered = rw (h .same) (ap (λ (z : List Answer). plainFrameStep p marks w b .answer ∷ z) (i .answered));
       linked = i .linked;
       others = (h .other, i .others);
     }

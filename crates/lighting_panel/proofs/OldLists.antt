@@ -1,7 +1,7 @@
 -- §7 IN LISTS, frame by frame: beside a panel of the set 8, its output count, 14,400,000, 86,400,000 that a
 -- list has left stands the old panel with the same records. The theorem after a start: FourHours.antt.
 use mathlib.Core.Path.{_≡_, refl, sym, ap, _∙_}
-use mathlib.Core.Bool.{true, false, false≢true}
+use mathlib.Core.Bool.{Bool, true, false, false≢true}
 use mathlib.Core.List.{List, [], _∷_, map}
 use Prim.Native.Nat.{ℕ, _≤_, _<_}
 use native.Mathlib.Omega.{arith}
@@ -60,16 +60,16 @@ values : (p : Parameters) (t : ℕ) (o : Output) → sound p t o ≡ true → o 
 unfolding sound relaySound
 values p t o keeps = search parts depth 10
 
-taken-done : (p : Parameters) (t : ℕ) (outputs : List Output) (i : ℕ) (request : OutputRequest) → TakesFade request
+taken-done : (p : Parameters) (tenant : Bool) (t : ℕ) (outputs : List Output) (i : ℕ) (request : OutputRequest) → TakesFade request
     → i < length outputs → every (sound p t) outputs ≡ true
-    → served t outputs i (ToOutput request) .answer ≡ Done
+    → served tenant t outputs i (ToOutput request) .answer ≡ Done
 unfolding served acted done settingsWith relayWith same if_then_else_
-taken-done p t outputs i _ (written {v = v}) inside keep =
+taken-done p tenant t outputs i _ (written {v = v}) inside keep =
     let o = getD outputs i freshOutput in
     let keeps = every-at p t outputs i inside keep in
     in-any-table t outputs i (Change FadeTime v) .1
     ∙ accepted p t t o v (limits p t o keeps) (values p t o keeps) FadeTime v refl refl refl refl
-taken-done p t outputs i _ commanded inside keep = refl
+taken-done p tenant t outputs i _ commanded inside keep = refl
 
 -- OF THE FIRST ARRIVALS SO FAR none that was answered Done carried a longer fade time
 abbrev PastShort : List Event → Type 0
@@ -110,8 +110,8 @@ judged-short past b (Calls call) were =
     (λ below. rw below tt)))
 
 past-short : (b : Bytes) (w : PlainState) (verdict : Verdict) → PastShort (w .past)
-    → (plainExecute b w verdict .answer ≡ Done → carriesLonger b ≡ false)
-    → PastShort (plainExecute b w verdict .state .past)
+    → (plainExecute 0 b w verdict .answer ≡ Done → carriesLonger b ≡ false)
+    → PastShort (plainExecute 0 b w verdict .state .past)
 unfolding plainExecute
 past-short b w (TurnedDown r) were is = were
 past-short b w (Copied a) were is = were
@@ -129,14 +129,14 @@ module _ (c : ℕ) (k : List Station) (w : PlainState) (b : Bytes) (octets : Oct
   abbrev e : OldPanel
   e = old k w
 
-  today-joined : today e ≡ joined p k w
+  today-joined : today e ≡ joined p 0 k w
   today-joined = ap (λ (n : ℕ). withSet (fourHours n) e) (m .count)
 
   rules : panelSound (today e) ≡ true
-  rules = rw today-joined (linked-sound p c k w m)
+  rules = rw today-joined (linked-sound p 0 c k w m)
 
   verdict : decide (today e) b ≡ judged (w .past) b (parse p (length (w .panel .outputs)) b)
-  verdict = rw today-joined (decide-judged p c k w b octets m)
+  verdict = rw today-joined (decide-judged p 0 c k w b octets m)
 
   -- what is cut the old panel answers with Done, and today's with 12
   module _ (z : Cut e b) where
@@ -160,22 +160,22 @@ module _ (c : ℕ) (k : List Station) (w : PlainState) (b : Bytes) (octets : Oct
         let size : length outputs ≡ c = length-map before (advance (w .panel .time) t) ∙ m .count in
         let inside : z .call .output < length outputs = omega (arith, arrival .frame .output) in
         rw (sound-then e rules, z .before, z .asked)
-        (taken-done p t outputs (z .call .output) (z .request) (z .takes) inside (all-tested p t outputs all))
+        (taken-done p _ t outputs (z .call .output) (z .request) (z .takes) inside (all-tested p t outputs all))
 
     today-refuses : frameStep (today e) b .answer ≡ Refused 12
     unfolding frameStep execute served if_then_else_
     today-refuses = rw (rules, z .now)
 
   -- ONE FRAME, which carries no longer fade time if the old panel answers it with Done
-  stepped : Stepped p c k w b
-  stepped = step p c k w b octets m
+  stepped : Stepped p 0 c k w b
+  stepped = step p 0 c k w b octets m
 
   never-cut : (oldFrame e b .answer ≡ Done → carriesLonger b ≡ false) → Cut e b → ⊥
   never-cut is z = false≢true (sym (is (old-done z)) ∙ z .longer)
 
   frame-same : (Cut e b → ⊥)
       → oldFrame e b
-      ≡ record { panel = old (stepped .stations) (plainFrameStep p w b .state); answer = plainFrameStep p w b .answer }
+      ≡ record { panel = old (stepped .stations) (plainFrameStep p 0 w b .state); answer = plainFrameStep p 0 w b .answer }
   frame-same never =
       ap
       (λ (made : Step). record { panel = withoutSet (made .panel); answer = made .answer })
@@ -204,8 +204,8 @@ module _ (c : ℕ) (k : List Station) (w : PlainState) (b : Bytes) (octets : Oct
 
 -- EVERY LIST, from a panel that a list has left
 pub record ListedAsOld (c : ℕ) (k : List Station) (w : PlainState) (l : List Bytes) : Type 0 where
-  pub panel : withoutSet (after (joined (fourHours c) k w) l) ≡ oldAfter (old k w) l
-  pub answered : answers (joined (fourHours c) k w) l ≡ oldAnswers (old k w) l
+  pub panel : withoutSet (after (joined (fourHours c) 0 k w) l) ≡ oldAfter (old k w) l
+  pub answered : answers (joined (fourHours c) 0 k w) l ≡ oldAnswers (old k w) l
 
 pub listed-as-old : (c : ℕ) (k : List Station) (w : PlainState) (l : List Bytes) → Strings l → Refines (fourHours c) c k w
     → NoneLongerDone l (oldAnswers (old k w) l) → ListedAsOld c k w l
@@ -213,7 +213,7 @@ unfolding after answers oldAfter oldAnswers
 listed-as-old c k w [] strings m none = record { panel = refl; answered = refl }
 listed-as-old c k w (b ∷ l) strings m none =
     let now = stepped c k w b (strings .0) m in
-    let next = plainFrameStep (fourHours c) w b in
+    let next = plainFrameStep (fourHours c) 0 w b in
     let same = frame-same c k w b (strings .0) m (never-cut c k w b (strings .0) m (none .0)) in
     let rest = listed-as-old c (now .stations) (next .state) l (strings .1) (now .linked) (rw same at (none .1)) in
     record {
@@ -228,18 +228,18 @@ listed-as-old c k w (b ∷ l) strings m none =
 -- time
 pub short-as-old : (c : ℕ) (k : List Station) (w : PlainState) (l : List Bytes) → Strings l
     → Refines (fourHours c) c k w → PastShort (w .past)
-    → answers (joined (fourHours c) k w) l ≡ oldAnswers (old k w) l → NoneLongerDone l (oldAnswers (old k w) l)
+    → answers (joined (fourHours c) 0 k w) l ≡ oldAnswers (old k w) l → NoneLongerDone l (oldAnswers (old k w) l)
 unfolding answers oldAnswers plainFrameStep
 short-as-old c k w [] strings m were alike = tt
 short-as-old c k w (b ∷ l) strings m were alike =
     let now = stepped c k w b (strings .0) m in
-    let today-step = frameStep (joined (fourHours c) k w) b in
+    let today-step = frameStep (joined (fourHours c) 0 k w) b in
     let old-step = oldFrame (old k w) b in
     let first-alike : today-step .answer ≡ old-step .answer = cc in
     let rest-alike : answers (today-step .panel) l ≡ oldAnswers (old-step .panel) l = cc in
     let is = frame-short c k w b (strings .0) m were (rw (today-joined c k w b (strings .0) m) first-alike) in
     let same = frame-same c k w b (strings .0) m (never-cut c k w b (strings .0) m is) in
-    let next = plainFrameStep (fourHours c) w b .state in
+    let next = plainFrameStep (fourHours c) 0 w b .state in
     let past = past-short b w _ were (rw same at is) in
     let alike-on = rw (now .same, same) at rest-alike in
     (is, rw same (short-as-old c (now .stations) next l (strings .1) (now .linked) past alike-on))

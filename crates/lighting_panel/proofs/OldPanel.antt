@@ -1,5 +1,6 @@
--- THE OLD PANEL AND TODAY'S AT THE SET 8, ITS OUTPUT COUNT, 14,400,000, 86,400,000 (§7): of one frame over
--- every lent table that keeps the rules of four hours, and of the start. Lists: FourHours.antt.
+-- THE OLD PANEL AND TODAY'S AT THE SET 8, ITS OUTPUT COUNT, 14,400,000, 86,400,000 (§7), WITH NO TENANT (§8):
+-- of one frame over every lent table that keeps the rules of four hours and the marks 0, and of the start.
+-- Lists: FourHours.antt.
 use mathlib.Core.Path.{_≡_, refl, sym, ap, _∙_}
 use mathlib.Core.Bool.{Bool, true, false, false≢true}
 use mathlib.Core.List.{List, [], _∷_, map}
@@ -212,7 +213,7 @@ execute-length b e (TurnedDown r) = refl
 execute-length b e (Copied a) = refl
 execute-length b e (Clocked t) = length-map (e .outputs) (advance (e .time) t)
 execute-length b e (Arrives call) =
-    served-length (call .time) (map (advance (e .time) (call .time)) (e .outputs)) (call .output) (call .request)
+    served-length _ (call .time) (map (advance (e .time) (call .time)) (e .outputs)) (call .output) (call .request)
     ∙ length-map (e .outputs) (advance (e .time) (call .time))
 
 frame-length : (e : OldPanel) (b : Bytes) → length (oldFrame e b .panel .outputs) ≡ length (e .outputs)
@@ -225,10 +226,10 @@ next e b = ap (λ (c : ℕ). withSet (fourHours c) (oldFrame e b .panel)) (sym (
 -- THE START with that set, over every lent table of 1 to 64 outputs, whatever its record keeps: the same
 -- answer, and the same outputs, station records and time. Where it answers Done, the set is kept
 pub record StartsAlike (e : Panel) : Type 0 where
-  pub answered : startStep (setOf (withoutSet e)) e .answer ≡ oldStart (withoutSet e) .answer
-  pub panel : withoutSet (startStep (setOf (withoutSet e)) e .panel) ≡ oldStart (withoutSet e) .panel
+  pub answered : startStep (setOf (withoutSet e)) 0 e .answer ≡ oldStart (withoutSet e) .answer
+  pub panel : withoutSet (startStep (setOf (withoutSet e)) 0 e .panel) ≡ oldStart (withoutSet e) .panel
   pub kept : oldStart (withoutSet e) .answer ≡ Done
-      → startStep (setOf (withoutSet e)) e .panel ≡ today (oldStart (withoutSet e) .panel)
+      → startStep (setOf (withoutSet e)) 0 e .panel ≡ today (oldStart (withoutSet e) .panel)
 
 module _ (e : Panel) (least : 1 ≤ length (e .outputs)) (most : length (e .outputs) ≤ 64) where
   abbrev c : ℕ
@@ -245,12 +246,12 @@ module _ (e : Panel) (least : 1 ≤ length (e .outputs)) (most : length (e .outp
   counted = rw allowed at (counts c k)
 
   -- both are done, or both meet 1
-  done : oldCounts c k ≡ true → startStep (fourHours c) e ≡ stepWith (fourHours c) (oldStart (withoutSet e))
+  done : oldCounts c k ≡ true → startStep (fourHours c) 0 e ≡ stepWith (fourHours c) (oldStart (withoutSet e))
   unfolding oldStart if_then_else_
-  done h = rw (startStep-done (fourHours c) e allowed (counted ∙ h), h, fresh (fourHours c) (omega arith))
+  done h = rw (startStep-done (fourHours c) 0 e allowed (counted ∙ h), h, fresh (fourHours c) (omega arith))
 
-  meets-one : oldCounts c k ≡ false → startStep (fourHours c) e ≡ result e (Refused 1)
-  meets-one h = startStep-refused (fourHours c) e allowed (counted ∙ h)
+  meets-one : oldCounts c k ≡ false → startStep (fourHours c) 0 e ≡ result e (Refused 1)
+  meets-one h = startStep-refused (fourHours c) 0 e allowed (counted ∙ h)
 
   old-refused : oldCounts c k ≡ false → oldStart (withoutSet e) ≡ record { panel = withoutSet e; answer = Refused 1 }
   unfolding oldStart if_then_else_

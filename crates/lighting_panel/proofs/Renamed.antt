@@ -26,7 +26,7 @@ pub record Renaming (p : Parameters) (s : Bytes → Bytes) (Sort : Bytes → Typ
   pub empty : Sort []
   pub nothing : s [] ≡ []
 
-module _ (p : Parameters) (s : Bytes → Bytes) (Sort : Bytes → Type 0) (r : Renaming p s Sort) where
+module _ (p : Parameters) (marks : ℕ) (s : Bytes → Bytes) (Sort : Bytes → Type 0) (r : Renaming p s Sort) where
   abbrev rename : Event → Event
   rename (clock t) = clock t
   rename (first k n t b a) = first k n t (s b) a
@@ -78,14 +78,14 @@ module _ (p : Parameters) (s : Bytes → Bytes) (Sort : Bytes → Type 0) (r : R
   renameState w = record { past = map rename (w .past); panel = w .panel }
 
   execute-renamed : (b : Bytes) (w : PlainState) (v : Verdict)
-      → plainExecute (s b) (renameState w) v ≡ record { state = renameState (plainExecute b w v .state); answer = plainExecute b w v .answer }
+      → plainExecute marks (s b) (renameState w) v ≡ record { state = renameState (plainExecute marks b w v .state); answer = plainExecute marks b w v .answer }
   unfolding plainExecute
   execute-renamed b w (TurnedDown n) = refl
   execute-renamed b w (Copied a) = refl
   execute-renamed b w (Clocked t) = refl
   execute-renamed b w (Arrives call) = refl
 
-  execute-sort : (b : Bytes) (w : PlainState) (v : Verdict) → Sort b → AllPast (w .past) → AllPast (plainExecute b w v .state .past)
+  execute-sort : (b : Bytes) (w : PlainState) (v : Verdict) → Sort b → AllPast (w .past) → AllPast (plainExecute marks b w v .state .past)
   unfolding plainExecute
   execute-sort b w (TurnedDown n) d g = g
   execute-sort b w (Copied a) d g = g
@@ -93,30 +93,30 @@ module _ (p : Parameters) (s : Bytes → Bytes) (Sort : Bytes → Type 0) (r : R
   execute-sort b w (Arrives call) d g = (d, g)
 
   step-renamed : (w : PlainState) (b : Bytes) → AllPast (w .past) → Sort b
-      → plainFrameStep p (renameState w) (s b) ≡ record { state = renameState (plainFrameStep p w b .state); answer = plainFrameStep p w b .answer }
+      → plainFrameStep p marks (renameState w) (s b) ≡ record { state = renameState (plainFrameStep p marks w b .state); answer = plainFrameStep p marks w b .answer }
   unfolding plainFrameStep
   step-renamed w b g d =
       let f = parse p (length (w .panel .outputs)) b in
       rw (r .alike (length (w .panel .outputs)) b d, judged-renamed (w .past) b f g d) (execute-renamed b w (judged (w .past) b f))
 
-  step-sort : (w : PlainState) (b : Bytes) → AllPast (w .past) → Sort b → AllPast (plainFrameStep p w b .state .past)
+  step-sort : (w : PlainState) (b : Bytes) → AllPast (w .past) → Sort b → AllPast (plainFrameStep p marks w b .state .past)
   unfolding plainFrameStep
   step-sort w b g d = execute-sort b w (judged (w .past) b (parse p (length (w .panel .outputs)) b)) d g
 
   -- OVER A LIST
   list-renamed : (w : PlainState) (l : List Bytes) → AllPast (w .past) → Every Sort l
-      → (plainAfter p (renameState w) (map s l) .panel ≡ plainAfter p w l .panel) × (plainAnswers p (renameState w) (map s l) ≡ plainAnswers p w l)
+      → (plainAfter p marks (renameState w) (map s l) .panel ≡ plainAfter p marks w l .panel) × (plainAnswers p marks (renameState w) (map s l) ≡ plainAnswers p marks w l)
   unfolding plainAfter plainAnswers
   list-renamed w [] g d = (refl, refl)
   list-renamed w (b ∷ l) g d =
-      let i = list-renamed (plainFrameStep p w b .state) l (step-sort w b g (d .0)) (d .1) in
+      let i = list-renamed (plainFrameStep p marks w b .state) l (step-sort w b g (d .0)) (d .1) in
       let e = step-renamed w b g (d .0) in (
-        ap (λ (z : Reply). plainAfter p (z .state) (map s l) .panel) e ∙ i .0,
-        ap (λ (z : Reply). z .answer ∷ plainAnswers p (z .state) (map s l)) e ∙ ap (λ (z : List Answer). plainFrameStep p w b .answer ∷ z) (i .1),
+        ap (λ (z : Reply). plainAfter p marks (z .state) (map s l) .panel) e ∙ i .0,
+        ap (λ (z : Reply). z .answer ∷ plainAnswers p marks (z .state) (map s l)) e ∙ ap (λ (z : List Answer). plainFrameStep p marks w b .answer ∷ z) (i .1),
       )
 
   -- from a fresh start
   pub start-renamed : (l : List Bytes) → Every Sort l
-      → (plainAfter p (plainStart p) (map s l) .panel ≡ plainAfter p (plainStart p) l .panel) × (plainAnswers p (plainStart p) (map s l) ≡ plainAnswers p (plainStart p) l)
+      → (plainAfter p marks (plainStart p) (map s l) .panel ≡ plainAfter p marks (plainStart p) l .panel) × (plainAnswers p marks (plainStart p) (map s l) ≡ plainAnswers p marks (plainStart p) l)
   unfolding plainStart
   start-renamed l d = list-renamed (plainStart p) l tt d

@@ -48,15 +48,15 @@ spent-grows w w′ (Clock t) g h = omega (arith, g .time)
 spent-grows w w′ (Calls call) g (old h) = old (omega (arith, g .number (call .station)))
 spent-grows w w′ (Calls call) g (late h) = late (omega (arith, g .time))
 
-plainExecute-grows : (p : Parameters) (c : ℕ) (k : List Station) (w : PlainState) (b : Bytes) (v : Verdict) → Refines p c k w → Moved p c w b v → Grows w (plainExecute b w v .state)
+plainExecute-grows : (p : Parameters) (marks : ℕ) (c : ℕ) (k : List Station) (w : PlainState) (b : Bytes) (v : Verdict) → Refines p c k w → Moved p c w b v → Grows w (plainExecute marks b w v .state)
 unfolding plainExecute latest if_then_else_
-plainExecute-grows p c k w b (TurnedDown r) m g = record { time = omega arith; number = λ s. omega arith }
-plainExecute-grows p c k w b (Copied a) m g = record { time = omega arith; number = λ s. omega arith }
-plainExecute-grows p c k w b (Clocked t) m g =
+plainExecute-grows p marks c k w b (TurnedDown r) m g = record { time = omega arith; number = λ s. omega arith }
+plainExecute-grows p marks c k w b (Copied a) m g = record { time = omega arith; number = λ s. omega arith }
+plainExecute-grows p marks c k w b (Clocked t) m g =
     rw
     (runPlain-advance p t (w .panel) (g .0) (omega (arith, g .1)) (m .sound))
     (record { time = g .0; number = λ s. omega arith })
-plainExecute-grows p c k w b (Arrives call) m g =
+plainExecute-grows p marks c k w b (Arrives call) m g =
     rw
     (runPlain-advance p (call .time) (w .panel) (g .due) (omega (arith, g .frame .time)) (m .sound))
     (record {
@@ -65,11 +65,11 @@ plainExecute-grows p c k w b (Arrives call) m g =
     })
 
 -- once judged, a frame is spent
-now-spent : (p : Parameters) (c : ℕ) (k : List Station) (w : PlainState) (b : Bytes) (f : Frame) → Refines p c k w → FrameInRange p c b f
-    → Spent (plainExecute b w (judged (w .past) b f) .state) f
+now-spent : (p : Parameters) (marks : ℕ) (c : ℕ) (k : List Station) (w : PlainState) (b : Bytes) (f : Frame) → Refines p c k w → FrameInRange p c b f
+    → Spent (plainExecute marks b w (judged (w .past) b f) .state) f
 unfolding judged retransmissionOrConflict plainExecute latest if_then_else_
-now-spent p c k w b (Bad r) m g = tt
-now-spent p c k w b (Clock t) m g =
+now-spent p marks c k w b (Bad r) m g = tt
+now-spent p marks c k w b (Clock t) m g =
     rw
     (m .times t)
     (by-le
@@ -77,7 +77,7 @@ now-spent p c k w b (Clock t) m g =
     t
     (λ h e. rw (e, runPlain-advance p t (w .panel) h (omega arith) (m .sound)) (omega arith))
     (λ h e. rw e (omega arith)))
-now-spent p c k w b (Calls call) m g =
+now-spent p marks c k w b (Calls call) m g =
     let s = call .station in
     let n = call .number in
     let t = call .time in
@@ -100,11 +100,11 @@ now-spent p c k w b (Calls call) m g =
     (λ y. rw (e, y) (old h))))
 
 -- what a spent frame leaves: everything
-stays : (p : Parameters) (c : ℕ) (k : List Station) (w : PlainState) (b : Bytes) (f : Frame) → Refines p c k w → FrameInRange p c b f → Spent w f
-    → execute b (joined p k w) (judged (w .past) b f) .panel ≡ joined p k w
+stays : (p : Parameters) (marks : ℕ) (c : ℕ) (k : List Station) (w : PlainState) (b : Bytes) (f : Frame) → Refines p c k w → FrameInRange p c b f → Spent w f
+    → execute b (joined p marks k w) (judged (w .past) b f) .panel ≡ joined p marks k w
 unfolding judged retransmissionOrConflict execute if_then_else_
-stays p c k w b (Bad r) m g h = refl
-stays p c k w b (Clock t) m g h =
+stays p marks c k w b (Bad r) m g h = refl
+stays p marks c k w b (Clock t) m g h =
     rw
     (m .times t)
     (by-le
@@ -114,7 +114,7 @@ stays p c k w b (Clock t) m g h =
     let q = advance-here p (w .panel .time) (w .panel .outputs) (m .bounded) (m .sound) in
     rw e (rw y (rw q)))
     (λ h′ e. rw e))
-stays p c k w b (Calls call) m g (old h) =
+stays p marks c k w b (Calls call) m g (old h) =
     let s = call .station in
     let n = call .number in
     rw
@@ -123,7 +123,7 @@ stays p c k w b (Calls call) m g (old h) =
     (eqb n (latest s (w .past) .number))
     (λ y. by-bool (sameBytes b (latest s (w .past) .frame)) (λ q. rw (y, q)) (λ q. rw (y, q)))
     (λ y. rw y))
-stays p c k w b (Calls call) m g (late h) =
+stays p marks c k w b (Calls call) m g (late h) =
     let s = call .station in
     let n = call .number in
     let t = call .time in
@@ -150,46 +150,46 @@ all-grow : (p : Parameters) (c : ℕ) (w w′ : PlainState) (l : List Bytes) →
 all-grow p c w w′ l g h =
     every-then (SpentString p c w) (SpentString p c w′) l (λ b s. (s .0, spent-grows w w′ (parse p c b) g (s .1))) h
 
-engine-stays : (p : Parameters) (c : ℕ) (k : List Station) (w : PlainState) (b : Bytes) → Octets b → Refines p c k w → Spent w (parse p c b)
-    → frameStep (joined p k w) b .panel ≡ joined p k w
+engine-stays : (p : Parameters) (marks : ℕ) (c : ℕ) (k : List Station) (w : PlainState) (b : Bytes) → Octets b → Refines p c k w → Spent w (parse p c b)
+    → frameStep (joined p marks k w) b .panel ≡ joined p marks k w
 unfolding frameStep if_then_else_
-engine-stays p c k w b o m h =
+engine-stays p marks c k w b o m h =
     rw
-    (linked-sound p c k w m, decide-judged p c k w b o m, m .count)
-    (stays p c k w b (parse p c b) m (frame-in-range p c b o) h)
+    (linked-sound p marks c k w m, decide-judged p marks c k w b o m, m .count)
+    (stays p marks c k w b (parse p c b) m (frame-in-range p c b o) h)
 
-plain-spends : (p : Parameters) (c : ℕ) (k : List Station) (w : PlainState) (b : Bytes) (l : List Bytes) → Octets b → Refines p c k w → AllSpent p c w l
-    → AllSpent p c (plainFrameStep p w b .state) (b ∷ l)
+plain-spends : (p : Parameters) (marks : ℕ) (c : ℕ) (k : List Station) (w : PlainState) (b : Bytes) (l : List Bytes) → Octets b → Refines p c k w → AllSpent p c w l
+    → AllSpent p c (plainFrameStep p marks w b .state) (b ∷ l)
 unfolding plainFrameStep
-plain-spends p c k w b l o m h =
+plain-spends p marks c k w b l o m h =
     rw
     (m .count) (
-      (o, now-spent p c k w b (parse p c b) m (frame-in-range p c b o)),
+      (o, now-spent p marks c k w b (parse p c b) m (frame-in-range p c b o)),
       all-grow p
           c
           w
-          (plainExecute b w (judged (w .past) b (parse p c b)) .state)
+          (plainExecute marks b w (judged (w .past) b (parse p c b)) .state)
           l
-          (plainExecute-grows p c k w b (judged (w .past) b (parse p c b)) m (judged-moved p c k w b (parse p c b) m (frame-in-range p c b o)))
+          (plainExecute-grows p marks c k w b (judged (w .past) b (parse p c b)) m (judged-moved p c k w b (parse p c b) m (frame-in-range p c b o)))
           h,
     )
 
-repeats : (p : Parameters) (c : ℕ) (k : List Station) (w : PlainState) {seen l l′ : List Bytes} (r : Again seen l l′) → Strings l → Refines p c k w → AllSpent p c w seen
-    → (after (joined p k w) l′ ≡ after (joined p k w) l)
-    × (answersToOriginals r (answers (joined p k w) l′) ≡ answers (joined p k w) l)
+repeats : (p : Parameters) (marks : ℕ) (c : ℕ) (k : List Station) (w : PlainState) {seen l l′ : List Bytes} (r : Again seen l l′) → Strings l → Refines p c k w → AllSpent p c w seen
+    → (after (joined p marks k w) l′ ≡ after (joined p marks k w) l)
+    × (answersToOriginals r (answers (joined p marks k w) l′) ≡ answers (joined p marks k w) l)
 unfolding after answers answersToOriginals
-repeats p c k w end s m h = (refl, refl)
-repeats p c k w (own {seen = seen} {b = b} r) s m h =
-    let z = step p c k w b (s .0) m in
-    let i = repeats p c (z .stations) (plainFrameStep p w b .state) r (s .1) (z .linked) (plain-spends p c k w b seen (s .0) m h) in
-    rw (z .same) (i .0, ap (λ (x : List Answer). plainFrameStep p w b .answer ∷ x) (i .1))
-repeats p c k w (copy {seen = seen} {b = b} a r) s m h =
-    let i = repeats p c k w r s m h in
+repeats p marks c k w end s m h = (refl, refl)
+repeats p marks c k w (own {seen = seen} {b = b} r) s m h =
+    let z = step p marks c k w b (s .0) m in
+    let i = repeats p marks c (z .stations) (plainFrameStep p marks w b .state) r (s .1) (z .linked) (plain-spends p marks c k w b seen (s .0) m h) in
+    rw (z .same) (i .0, ap (λ (x : List Answer). plainFrameStep p marks w b .answer ∷ x) (i .1))
+repeats p marks c k w (copy {seen = seen} {b = b} a r) s m h =
+    let i = repeats p marks c k w r s m h in
     let o = every-among (SpentString p c w) seen b a h in
-    rw (engine-stays p c k w b (o .0) m (o .1)) i
+    rw (engine-stays p marks c k w b (o .0) m (o .1)) i
 
 -- after a start nothing is seen yet
-pub repeats-change-nothing : (p : Parameters) (c : ℕ) (k : List Station) (w : PlainState) {l l′ : List Bytes} (r : Again [] l l′) → Strings l → Refines p c k w
-    → (after (joined p k w) l′ ≡ after (joined p k w) l)
-    × (answersToOriginals r (answers (joined p k w) l′) ≡ answers (joined p k w) l)
-repeats-change-nothing p c k w r s m = repeats p c k w r s m tt
+pub repeats-change-nothing : (p : Parameters) (marks : ℕ) (c : ℕ) (k : List Station) (w : PlainState) {l l′ : List Bytes} (r : Again [] l l′) → Strings l → Refines p c k w
+    → (after (joined p marks k w) l′ ≡ after (joined p marks k w) l)
+    × (answersToOriginals r (answers (joined p marks k w) l′) ≡ answers (joined p marks k w) l)
+repeats-change-nothing p marks c k w r s m = repeats p marks c k w r s m tt

@@ -59,7 +59,7 @@ left-nothing : (b : Bytes) {a : Bytes} → SentAs b a → a ≡ [] → b ≡ []
 left-nothing b itself h = h
 left-nothing b (asTags action f k l s) h = let z : _≡_ {A = ℕ} 0 1 = cc in absurd (omega arith)
 
-module _ (p : Parameters) (chosen : Bytes → Bool) where
+module _ (p : Parameters) (marks : ℕ) (chosen : Bytes → Bool) where
   nothing-sent : sent chosen [] ≡ []
   nothing-sent = by (sent chosen []) (sent-as chosen [] tt)
     where
@@ -98,16 +98,16 @@ module _ (p : Parameters) (chosen : Bytes → Bool) where
   strings-sent : (l : List Bytes) → Strings l → Strings (map (sent chosen) l)
   strings-sent l s = every-map Octets Octets (sent chosen) l (λ b o. sent-octets b o (sent-as chosen b o)) s
 
-  -- For EVERY set of parameters and EVERY lent table e on which a start with it answered Done, EVERY list
-  -- l of strings of bytes, and EVERY choice of its commands of which none becomes another frame of the
-  -- list
-  pub acts-as-plain : (e : Panel) (l : List Bytes) → Strings l → NoneBecomesAnother chosen l → startStep p e .answer ≡ Done
-      → ActsAsPlain p e l chosen
+  -- For EVERY set of parameters, ALL marks and EVERY lent table e on which a start with them answered Done,
+  -- EVERY list l of strings of bytes, and EVERY choice of its commands of which none becomes another frame
+  -- of the list
+  pub acts-as-plain : (e : Panel) (l : List Bytes) → Strings l → NoneBecomesAnother chosen l → startStep p marks e .answer ≡ Done
+      → ActsAsPlain p marks e l chosen
   acts-as-plain e l s n h =
       let l′ = map (sent chosen) l in
-      let plain = demand-3 p e l l (once [] l) s h in
-      let tags = demand-3 p e l′ l′ (once [] l′) (strings-sent l s) h in
-      let i = start-renamed p (sent chosen) (Listed l n) (renaming l n) l (each-listed l n l s (λ b m. m)) in
+      let plain = demand-3 p marks e l l (once [] l) s h in
+      let tags = demand-3 p marks e l′ l′ (once [] l′) (strings-sent l s) h in
+      let i = start-renamed p marks (sent chosen) (Listed l n) (renaming l n) l (each-listed l n l s (λ b m. m)) in
       record {
         outputs = tags .outputs ∙ ap (λ (x : Plain). x .outputs) (i .0) ∙ sym (plain .outputs);
         time = tags .time ∙ ap (λ (x : Plain). x .time) (i .0) ∙ sym (plain .time);

@@ -1,4 +1,4 @@
--- DOCUMENT 01 AND §1 TO §7 AS DEFINITIONS, this layer's part: what a reader must believe. In reading order;
+-- DOCUMENT 01 AND §1 TO §8 AS DEFINITIONS, this layer's part: what a reader must believe. In reading order;
 -- docs/PAPER.md has all layers.
 -- the panel, its counts, and the start
 pub mod Panel
@@ -11,6 +11,8 @@ pub mod ActsAsPlain
 -- the panel as it stood before §6; §7: lists without a longer fade time
 pub mod OldPanel
 pub mod FourHours
+-- §8: the claim of secrecy
+pub mod Secrecy
 -- worked lists: bench figures 9 and 10 and the traps; §1, §4 and §5
 pub mod Worked
 pub mod WorkedOrder

@@ -6,4 +6,6 @@ pub struct PanelRecord {
     pub time: u64,
     // The set of parameters that the panel was started with (§6)
     pub parameters: lighting_outputs::Parameters,
+    // The marks of the stations (§8): bit n makes station n a tenant
+    pub tenants: u32,
 }

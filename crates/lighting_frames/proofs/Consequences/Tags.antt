@@ -3,7 +3,7 @@
 use Rattle.lighting_levels.specs.Paper.Choice.{if_then_else_}
 use mathlib.Core.Path.{_≡_, refl, sym, ap, _∙_}
 use mathlib.Core.Logic.{_≢_}
-use mathlib.Core.Bool.{true, false, false≢true}
+use mathlib.Core.Bool.{Bool, true, false, false≢true}
 use mathlib.Core.Option.{Option, none, some}
 use mathlib.Core.List.{List, _∷_, []}
 use Prim.Native.Nat.{ℕ, zero, suc, _+_, _-_, _%_, _≤_, _<_}
@@ -165,9 +165,9 @@ module _ (p : Parameters) (b : Bytes) (o : Octets b) (size : length b ≡ 31) (k
       ∙ ap (λ (x : Bytes). byteAt x 2) (sym (only-written p (drop 13 b) (dropped-octets 13 b o) (omega (arith, length-drop 13 b)) k (unfold requestOf in h)))
       ∙ (unfold byteAt in (getD-drop 13 b 2 0))
 
-  pub tagged-read : (t t′ : ℕ) (q : Output) → readProperty t′ (alone t q (requestOf p CommandsTagged b) .output) LastOperation ≡ Value (byteAt b 15)
+  pub tagged-read : (reader : Bool) (t t′ : ℕ) (q : Output) → readProperty reader t′ (alone t q (requestOf p CommandsTagged b) .output) LastOperation ≡ Value (byteAt b 15)
   unfolding acted served done afterEvents commanded commandedFrom withCommand readProperty
-  tagged-read t t′ q = rw h (ap Value tagged-number)
+  tagged-read reader t t′ q = rw h (ap Value tagged-number)
 
 -- EVERY PLAIN COMMAND goes in tags: its frame becomes one of kind 1B, which is read alike
 plain-goes : (action : Action) (b : Bytes) → 0x10 ≤ actionByte action → actionByte action ≤ 0x1a → byteAt (framed b (plainTags action b)) 0 ≡ 0x1b

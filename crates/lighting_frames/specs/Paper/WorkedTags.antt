@@ -9,6 +9,7 @@ use Rattle.lighting_levels.specs.Paper.Field.{octets}
 use Rattle.lighting_frames.specs.Paper.Tags.{commandTags, tagBytes, readBody}
 use Rattle.lighting_frames.specs.Paper.Frames.{Bytes, taggedRequest}
 use Rattle.lighting_outputs.specs.Paper.Fresh.{freshOutput}
+use Rattle.lighting_outputs.specs.Paper.Tenants.{forService}
 use Rattle.lighting_outputs.specs.Paper.Acting.{served}
 use Rattle.lighting_outputs.specs.declared.Answer.{Answer}
 use Rattle.lighting_outputs.specs.declared.Answer.the-variants.{Done, Refused}
@@ -63,7 +64,7 @@ abbrev pub body : Bytes → Bytes
 body tags = sized (length tags) tags
 
 abbrev met : List Bytes → List Answer
-met bodies = map (λ (b : Bytes). served 0 (freshOutput ∷ []) 0 (taggedRequest (document01 1) (readBody b)) .answer) bodies
+met bodies = map (λ (b : Bytes). served forService 0 (freshOutput ∷ []) 0 (taggedRequest (document01 1) (readBody b)) .answer) bodies
 
 abbrev pub half : Bytes
 half = 0x1c ∷ octets 4 0x4248_0000

@@ -2,7 +2,7 @@
 -- it.
 use mathlib.Core.Path.{_≡_, refl, sym, ap, subst, _∙_}
 use mathlib.Core.Logic.{_≢_}
-use mathlib.Core.Bool.{true, false, true≢false}
+use mathlib.Core.Bool.{Bool, true, false, true≢false}
 use mathlib.Core.Option.{Option, none, some}
 use Prim.Native.Nat.{ℕ, zero, suc, _+_, _≤_, _<_}
 use native.Mathlib.Omega.{arith}
@@ -58,17 +58,19 @@ NoCommand (Commands k) = ⊥
 pub data Life (p : Parameters) : ℕ → Output → ℕ → Output → Type 0 where
   here : {t : ℕ} {o : Output} → Life p t o t o
   millisecond : {t t′ : ℕ} {o o′ : Output} → Life p (suc t) (tick t o) t′ o′ → Life p t o t′ o′
-  request : {t t′ : ℕ} {o o′ : Output} (q : OutputRequest) → OutputRequestInRange p q → NoCommand q → Life p t (acted t o q .output) t′ o′ → Life p t o t′ o′
+  request :
+      {t t′ : ℕ} {o o′ : Output} (tenant : Bool) (q : OutputRequest) → OutputRequestInRange p q → NoCommand q
+      → Life p t (acted tenant t o q .output) t′ o′ → Life p t o t′ o′
 
 forward : (p : Parameters) {t t′ : ℕ} {o o′ : Output} → Life p t o t′ o′ → t ≤ t′
 forward p here = omega arith
 forward p (millisecond l) = omega (arith, forward p l)
-forward p (request r g n l) = forward p l
+forward p (request tenant r g n l) = forward p l
 
 life-sound : (p : Parameters) {t t′ : ℕ} {o o′ : Output} → Life p t o t′ o′ → Sound p t o → Sound p t′ o′
 life-sound p here h = h
 life-sound p (millisecond {t = t} {o = o} l) h = life-sound p l (tick-sound p t o h)
-life-sound p (request {t = t} {o = o} r g n l) h = life-sound p l (acted-sound p t o r g h)
+life-sound p (request {t = t} {o = o} tenant r g n l) h = life-sound p l (acted-sound p tenant t o r g h)
 
 -- 'no write ends it': a write of Present_Value touches slots and activity alone
 pub record Rest (o o′ : Output) : Type 0 where
@@ -106,13 +108,13 @@ pub written-rest : (t : ℕ) (o : Output) (i v : ℕ) → Rest o (written t o i 
 unfolding written
 written-rest t o i v = written-by-rest t o i v (o .activity)
 
-acted-timer : (t : ℕ) (o : Output) (q : OutputRequest) → NoCommand q → acted t o q .output .timer ≡ o .timer
+acted-timer : (tenant : Bool) (t : ℕ) (o : Output) (q : OutputRequest) → NoCommand q → acted tenant t o q .output .timer ≡ o .timer
 unfolding acted done unchanged afterEvents slotRelinquished withEffect changed withSettings
-acted-timer t o (Write i v) n = written-rest t o i v .timer
-acted-timer t o (Empty i) n = refl
-acted-timer t o (Change m v) n = by-change (λ (z : Outcome). z .output .timer ≡ o .timer) t o m v (λ r l. refl) (λ e e′. refl)
-acted-timer t o (Read q) n = refl
-acted-timer t o (Commands k) n = elim n [ ]
+acted-timer tenant t o (Write i v) n = written-rest t o i v .timer
+acted-timer tenant t o (Empty i) n = refl
+acted-timer tenant t o (Change m v) n = by-change (λ (z : Outcome). z .output .timer ≡ o .timer) tenant t o m v (λ r l. refl) (λ e e′. refl)
+acted-timer tenant t o (Read q) n = refl
+acted-timer tenant t o (Commands k) n = elim n [ ]
 
 -- UNTIL ITS MOMENT it runs on
 tick-timer : (t q d : ℕ) (o : Output) → o .timer ≡ Running q d → suc t < d → tick t o .timer ≡ Running q d
@@ -122,7 +124,7 @@ tick-timer t q d o e h = rw (e, eqb-miss {a = d} {b = suc t} (omega arith))
 pub runs-on : (p : Parameters) {t t′ : ℕ} {o o′ : Output} (q d : ℕ) → Life p t o t′ o′ → o .timer ≡ Running q d → t′ < d → o′ .timer ≡ Running q d
 runs-on p q d here e h = e
 runs-on p q d (millisecond {t = t} {o = o} l) e h = runs-on p q d l (tick-timer t q d o e (omega (arith, forward p l))) h
-runs-on p q d (request {t = t} {o = o} r g n l) e h = runs-on p q d l (acted-timer t o r n ∙ e) h
+runs-on p q d (request {t = t} {o = o} tenant r g n l) e h = runs-on p q d l (acted-timer tenant t o r n ∙ e) h
 
 -- one that was cancelled does not come back
 tick-off : (t : ℕ) (o : Output) → o .timer ≡ Off → tick t o .timer ≡ Off
@@ -132,7 +134,7 @@ tick-off t o e = rw e
 pub stays-off : (p : Parameters) {t t′ : ℕ} {o o′ : Output} → Life p t o t′ o′ → o .timer ≡ Off → o′ .timer ≡ Off
 stays-off p here e = e
 stays-off p (millisecond {t = t} {o = o} l) e = stays-off p l (tick-off t o e)
-stays-off p (request {t = t} {o = o} r g n l) e = stays-off p l (acted-timer t o r n ∙ e)
+stays-off p (request {t = t} {o = o} tenant r g n l) e = stays-off p l (acted-timer tenant t o r n ∙ e)
 
 -- a warning's own slot is one of the sixteen
 abbrev Owned : Activity → Type 0

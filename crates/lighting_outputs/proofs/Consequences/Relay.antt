@@ -14,6 +14,7 @@ use Rattle.lighting_outputs.specs.Paper.Writing.{stored, warns, warnedBy
 use Rattle.lighting_outputs.specs.Paper.Properties.{same, settingsWith, relayWith, changed, minOverMax}
 use Rattle.lighting_outputs.specs.Paper.Commands.{commandedFrom, commanded}
 use Rattle.lighting_outputs.specs.Paper.Acting.{done, unchanged, changedUnless, acted}
+use Rattle.lighting_outputs.specs.Paper.Tenants.{forService}
 use Rattle.lighting_outputs.specs.declared.Pace.{Pace}
 use Rattle.lighting_outputs.specs.declared.Activity.{Activity}
 use Rattle.lighting_outputs.specs.declared.Activity.the-variants.{Still, Moving, Warned}
@@ -67,13 +68,14 @@ unfolding afterEvents
 judged-between o z e b =
     ap (λ (r : Relay). r .binary) (between (present z) (z .relay) (unfold switched in (b .low)) (unfold switched in (b .high))) ∙ e
 
-binary-kept : (t : ℕ) (o : Output) (q : OutputRequest) → Between (acted t o q .output) → acted t o q .output .relay .binary ≡ o .relay .binary
+binary-kept : (tenant : Bool) (t : ℕ) (o : Output) (q : OutputRequest) → Between (acted tenant t o q .output) → acted tenant t o q .output .relay .binary ≡ o .relay .binary
 unfolding acted done unchanged
-binary-kept t o (Write i v) b = judged-between o (written t o i v) (ap (λ (r : Relay). r .binary) (written-rest t o i v .relay)) b
-binary-kept t o (Empty i) b = judged-between o (slotRelinquished o i) (unfold slotRelinquished withEffect in refl) b
-binary-kept t o (Change property v) b =
+binary-kept tenant t o (Write i v) b = judged-between o (written t o i v) (ap (λ (r : Relay). r .binary) (written-rest t o i v .relay)) b
+binary-kept tenant t o (Empty i) b = judged-between o (slotRelinquished o i) (unfold slotRelinquished withEffect in refl) b
+binary-kept tenant t o (Change property v) b =
     by-change
     (λ (done : Outcome). Between (done .output) → done .output .relay .binary ≡ o .relay .binary)
+    tenant
     t
     o
     property
@@ -81,18 +83,18 @@ binary-kept t o (Change property v) b =
     (λ number l c. refl)
     (λ e e′ c. judged-between o (changed o property v) (unfold changed withSettings relayWith in refl) c)
     b
-binary-kept t o (Read property) b = refl
-binary-kept t o (Commands k) b = judged-between o (commanded t o k) (unfold commanded commandedFrom withCommand in refl) b
+binary-kept tenant t o (Read property) b = refl
+binary-kept tenant t o (Commands k) b = judged-between o (commanded t o k) (unfold commanded commandedFrom withCommand in refl) b
 
-pub between-acted : (t : ℕ) (o : Output) (q : OutputRequest) → acted t o q .output .relay .inactive < present (acted t o q .output)
-    → present (acted t o q .output) < acted t o q .output .relay .active → acted t o q .output .relay .binary ≡ o .relay .binary
-between-acted t o q h k = binary-kept t o q (record { low = h; high = k })
+pub between-acted : (tenant : Bool) (t : ℕ) (o : Output) (q : OutputRequest) → acted tenant t o q .output .relay .inactive < present (acted tenant t o q .output)
+    → present (acted tenant t o q .output) < acted tenant t o q .output .relay .active → acted tenant t o q .output .relay .binary ≡ o .relay .binary
+between-acted tenant t o q h k = binary-kept tenant t o q (record { low = h; high = k })
 
 -- IT FOLLOWS PRESENT_VALUE, NOT PROGRESS_VALUE: while a movement to g lasts, Progress_Value is on its way,
 -- and the relay is as g has switched it
 module _ (t : ℕ) (o : Output) (k : Command) (g l : ℕ) (w : Pace) (course : Course t o (commanded t o k) g l w) where
   abbrev moving : Output
-  moving = acted t o (Commands k) .output
+  moving = acted forService t o (Commands k) .output
 
   pub follows-present : (n : ℕ) → n < l → TimerAfter (t + n) (commanded t o k .timer)
       → (progressValue (t + n) (ticks n t moving) ≡ along w (progressValue t o) g l n) × (ticks n t moving .relay ≡ switched g (o .relay))
@@ -174,12 +176,12 @@ changed-reversed : (o : Output) (property : Property) (v : ℕ) → same Polarit
 unfolding changed withSettings relayWith reversed if_then_else_
 changed-reversed o property v e = rw e
 
-acted-reversed : (t : ℕ) (o : Output) (q : OutputRequest) → NoPolarity q → acted t (reversed o) q .output ≡ reversed (acted t o q .output)
+acted-reversed : (tenant : Bool) (t : ℕ) (o : Output) (q : OutputRequest) → NoPolarity q → acted tenant t (reversed o) q .output ≡ reversed (acted tenant t o q .output)
 unfolding acted done unchanged
-acted-reversed t o (Write i v) p = judged-reversed (written t o i v) (written t (reversed o) i v) (written-reversed t o i v)
-acted-reversed t o (Empty i) p =
+acted-reversed tenant t o (Write i v) p = judged-reversed (written t o i v) (written t (reversed o) i v) (written-reversed t o i v)
+acted-reversed tenant t o (Empty i) p =
     judged-reversed (slotRelinquished o i) (slotRelinquished (reversed o) i) (unfold slotRelinquished withEffect reversed in refl)
-acted-reversed t o (Change property v) p = unfold changedUnless if_then_else_ in
+acted-reversed tenant t o (Change property v) p = unfold changedUnless if_then_else_ in
     (by-bool
     (minOverMax (settingsWith (o .settings) property v))
     (λ e. unfold reversed in (rw e))
@@ -190,10 +192,10 @@ acted-reversed t o (Change property v) p = unfold changedUnless if_then_else_ in
     (rw
     (e, e′)
     (judged-reversed (changed o property v) (changed (reversed o) property v) (changed-reversed o property v p))))))
-acted-reversed t o (Read property) p = refl
-acted-reversed t o (Commands k) p =
+acted-reversed tenant t o (Read property) p = refl
+acted-reversed tenant t o (Commands k) p =
     judged-reversed (commanded t o k) (commanded t (reversed o) k) (unfold commanded commandedFrom withCommand progressValue reversed in refl)
 
-pub opposite-acted : (t : ℕ) (o : Output) (q : OutputRequest) → NoPolarity q
-    → relayState (acted t (reversed o) q .output .relay) ≡ not (relayState (acted t o q .output .relay))
-opposite-acted t o q p = rw (acted-reversed t o q p) (opposite (acted t o q .output))
+pub opposite-acted : (tenant : Bool) (t : ℕ) (o : Output) (q : OutputRequest) → NoPolarity q
+    → relayState (acted tenant t (reversed o) q .output .relay) ≡ not (relayState (acted tenant t o q .output .relay))
+opposite-acted tenant t o q p = rw (acted-reversed tenant t o q p) (opposite (acted tenant t o q .output))

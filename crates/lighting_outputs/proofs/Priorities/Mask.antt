@@ -14,6 +14,7 @@ use lib.Count.{trailingZeros}
 use lib.ListN.{set, getD, length, length-set, List·getD-eq-default}
 use Rattle.lighting_levels.proofs.Split.{by-eq, by-lt, by-bool, eqb-miss, leb-yes}
 use Rattle.lighting_levels.specs.Paper.Choice.{if_then_else_}
+use Rattle.lighting_levels.specs.Paper.Field.{bitSet}
 use Rattle.lighting_outputs.specs.Paper.Slots.{slotCount, Slots, view, slotsOf, slot, put, firstLive, winner, isLive, maskEmptied, maskFilled, levelSet, levelAt}
 
 length-view : (m : ℕ) (l : List ℕ) → length (view m l) ≡ length l
@@ -141,7 +142,7 @@ alive (some v) = true
 pub halved : (i m : ℕ) → m / 2 ^ suc i ≡ m / 2 / 2 ^ i
 halved i m = sym (shr-shr m 1 i ∙ ap (λ (k : ℕ). m / 2 ^ k) (omega arith))
 
-slot-view : (m i : ℕ) (l : List ℕ) → i < length l → getD (view m l) i none ≡ (if eqb (m / 2 ^ i % 2) 1 then some (getD l i 0) else none)
+slot-view : (m i : ℕ) (l : List ℕ) → i < length l → getD (view m l) i none ≡ (if bitSet m i then some (getD l i 0) else none)
 unfolding view
 slot-view m i [] h = absurd (omega arith)
 slot-view m zero (v ∷ l) h = rw (div-one m)
@@ -155,22 +156,23 @@ pub isLive-slot : (s : Slots) (i : ℕ) → i < length (s .levels) → isLive s 
 unfolding if_then_else_
 isLive-slot s i h = rw (slot-is s i h) (by-bool (isLive s i) (λ e. rw e) (λ e. rw e))
 
-pub dead-past : (m i : ℕ) → m < 65536 → slotCount ≤ i → eqb (m / 2 ^ i % 2) 1 ≡ false
+pub dead-past : (m i : ℕ) → m < 65536 → slotCount ≤ i → bitSet m i ≡ false
 dead-past m i h k = ap (λ (x : ℕ). eqb (x % 2) 1) (div-eq-of-lt (lt-of-lt-of-le h (pow-mono k)))
 
-pub shifted : (i : ℕ) → i < slotCount → (1 * 2 ^ i) % 2 ^ 16 ≡ 2 ^ i
-shifted i h = shl-exact 1 i slotCount (omega arith) (omega arith) ∙ one-mul (2 ^ i)
+-- A BIT TESTED in a word of so many bits, the slots' sixteen or the stations' thirty-two (§8): a shifted mask
+-- leaves bit i alone, where it stands
+pub shifted : (width i : ℕ) → i < width → (1 * 2 ^ i) % 2 ^ width ≡ 2 ^ i
+shifted width i h = shl-exact 1 i width (omega arith) (omega arith) ∙ one-mul (2 ^ i)
 
--- SLOT i TESTED: a shifted mask leaves bit i alone, where it stands
 bit-left : (m i : ℕ) → bitAnd m (2 ^ i) ≡ (m / 2 ^ i % 2) * 2 ^ i
 bit-left m i =
     let bit : 2 ^ (1 + i) - 2 ^ i ≡ 2 ^ i = omega (arith, pow-add 2 1 i) in
     ap (bitAnd m) (sym bit) ∙ and-high m 1 i
 
-pub tested : (m i : ℕ) → i < slotCount → not (eqb (bitAnd m ((1 * 2 ^ i) % 2 ^ 16)) 0) ≡ eqb (m / 2 ^ i % 2) 1
-tested m i h =
+pub tested : (width m i : ℕ) → i < width → not (eqb (bitAnd m ((1 * 2 ^ i) % 2 ^ width)) 0) ≡ bitSet m i
+tested width m i h =
     rw
-    (shifted i h, bit-left m i)
+    (shifted width i h, bit-left m i)
     (by-eq
     (m / 2 ^ i % 2)
     1

@@ -36,24 +36,24 @@ changedUnless m unordered o property value =
     if m then unchanged o (Refused 13) else if unordered then unchanged o (Refused 16) else done (changed o property value)
 
 -- A REQUEST TO ONE OUTPUT: 'does what its kind calls for', or refuses 13 or 16. A read of an unknown
--- property is 9
-unfoldable pub acted : ℕ → Output → OutputRequest → Outcome
-acted t o (Write slot level) = done (written t o slot level)
-acted t o (Empty slot) = done (slotRelinquished o slot)
-acted t o (Change n v) =
+-- property is 9. Whether its station is a tenant (§8) is asked by a read alone
+unfoldable pub acted : Bool → ℕ → Output → OutputRequest → Outcome
+acted tenant t o (Write slot level) = done (written t o slot level)
+acted tenant t o (Empty slot) = done (slotRelinquished o slot)
+acted tenant t o (Change n v) =
     changedUnless (minOverMax (settingsWith (o .settings) n v)) (inactiveNotBelow (relayWith (o .relay) n v)) o n v
-acted t o (Read property) = unchanged o (readProperty t o property)
-acted t o (Commands k) = done (commanded t o k)
+acted tenant t o (Read property) = unchanged o (readProperty tenant t o property)
+acted tenant t o (Commands k) = done (commanded t o k)
 
 -- A REQUEST, over the table: the outputs and the answer after a frame whose output is i. One that is
--- refused by its fields, 9 to 12, 14 or 15, leaves every output. Which station it comes from makes no
--- difference
+-- refused by its fields, 9 to 12, 14 or 15, leaves every output. Of the station that it comes from it is
+-- asked whether that is a tenant (§8), and nothing else
 pub record Served : Type 0 where
   pub outputs : List Output
   pub answer : Answer
 
-unfoldable pub served : ℕ → List Output → ℕ → Request → Served
-served t outputs i (Refuse r) = record { outputs = outputs; answer = Refused r }
-served t outputs i (ToOutput request) =
-    let done = acted t (getD outputs i freshOutput) request in
+unfoldable pub served : Bool → ℕ → List Output → ℕ → Request → Served
+served tenant t outputs i (Refuse r) = record { outputs = outputs; answer = Refused r }
+served tenant t outputs i (ToOutput request) =
+    let done = acted tenant t (getD outputs i freshOutput) request in
     record { outputs = set outputs i (done .output); answer = done .answer }

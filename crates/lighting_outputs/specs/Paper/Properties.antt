@@ -13,6 +13,7 @@ use Rattle.lighting_levels.specs.Paper.Level.{real, bits, readOut, levelOf, lim
 use Rattle.lighting_outputs.specs.Paper.Slots.{Slots, slot}
 use Rattle.lighting_outputs.specs.Paper.Value.{presentValue, progressValue, inProcess}
 use Rattle.lighting_outputs.specs.Paper.Relay.{relayState}
+use Rattle.lighting_outputs.specs.Paper.Tenants.{shownLevel, hidden}
 use Rattle.lighting_outputs.specs.Paper.Record.{withSettings}
 use Rattle.lighting_outputs.specs.Paper.Rows.{within, isPriority, rowOf, isAmount}
 use Rattle.lighting_outputs.specs.Paper.Operations.{operationNumber, fieldsOf}
@@ -219,32 +220,33 @@ lastDuration (Lasts d) = Value d
 lastDuration Cancels = Value 0
 lastDuration Omitted = Absent
 
--- kind 05: what a property reads as at the time t; 'property unknown' is 9
-unfoldable pub readProperty : ℕ → Output → Property → Answer
-readProperty t o RelinquishDefault = levelAnswer (o .settings .default)
-readProperty t o FadeTime = Value (o .settings .fade)
-readProperty t o RampRate = realAnswer (o .settings .ramp)
-readProperty t o StepIncrement = realAnswer (o .settings .step)
-readProperty t o BlinkEnable = Value (flag (o .settings .enable))
-readProperty t o BlinkTime = Value (o .settings .blink)
-readProperty t o BlinkWarnDelay = Value (o .settings .delay)
-readProperty t o MinValue = levelAnswer (o .settings .min)
-readProperty t o MaxValue = levelAnswer (o .settings .max)
-readProperty t o CommandPriority = Value (o .settings .slot + 1)
-readProperty t o ElapsedActiveTime = Value (elapsedActive (o .burning))
-readProperty t o PresentValue = levelAnswer (presentValue (o .settings) (o .slots))
-readProperty t o ProgressValue = levelAnswer (progressValue t o)
-readProperty t o InProcess = Value (inProcess (o .activity))
-readProperty t o LastOperation = Value (operationNumber (o .last .operation))
-readProperty t o LastLevel = realFieldAnswer (fieldsOf (o .last .operation) .level)
-readProperty t o LastRate = realFieldAnswer (fieldsOf (o .last .operation) .rate)
-readProperty t o LastStep = realFieldAnswer (fieldsOf (o .last .operation) .step)
-readProperty t o LastFadeTime = timeFieldAnswer (fieldsOf (o .last .operation) .fade)
-readProperty t o LastDuration = lastDuration (o .last .duration)
-readProperty t o BinaryActiveValue = levelAnswer (o .relay .active)
-readProperty t o BinaryInactiveValue = levelAnswer (o .relay .inactive)
-readProperty t o Polarity = Value (flag (o .relay .reverse))
-readProperty t o BinaryPresentValue = Value (flag (o .relay .binary))
-readProperty t o RelayState = Value (flag (relayState (o .relay)))
-readProperty t o (SlotValue i) = slotAnswer (o .slots) i
-readProperty t o Unknown = Refused 9
+-- kind 05: what a property reads as at the time t, to a tenant or to a service station (§8); 'property
+-- unknown' is 9
+unfoldable pub readProperty : Bool → ℕ → Output → Property → Answer
+readProperty tenant t o RelinquishDefault = levelAnswer (o .settings .default)
+readProperty tenant t o FadeTime = Value (o .settings .fade)
+readProperty tenant t o RampRate = realAnswer (o .settings .ramp)
+readProperty tenant t o StepIncrement = realAnswer (o .settings .step)
+readProperty tenant t o BlinkEnable = Value (flag (o .settings .enable))
+readProperty tenant t o BlinkTime = Value (o .settings .blink)
+readProperty tenant t o BlinkWarnDelay = Value (o .settings .delay)
+readProperty tenant t o MinValue = levelAnswer (o .settings .min)
+readProperty tenant t o MaxValue = levelAnswer (o .settings .max)
+readProperty tenant t o CommandPriority = Value (o .settings .slot + 1)
+readProperty tenant t o ElapsedActiveTime = Value (elapsedActive (o .burning))
+readProperty tenant t o PresentValue = levelAnswer (shownLevel tenant (presentValue (o .settings) (o .slots)))
+readProperty tenant t o ProgressValue = levelAnswer (shownLevel tenant (progressValue t o))
+readProperty tenant t o InProcess = Value (inProcess (o .activity))
+readProperty tenant t o LastOperation = Value (operationNumber (o .last .operation))
+readProperty tenant t o LastLevel = realFieldAnswer (fieldsOf (o .last .operation) .level)
+readProperty tenant t o LastRate = realFieldAnswer (fieldsOf (o .last .operation) .rate)
+readProperty tenant t o LastStep = realFieldAnswer (fieldsOf (o .last .operation) .step)
+readProperty tenant t o LastFadeTime = timeFieldAnswer (fieldsOf (o .last .operation) .fade)
+readProperty tenant t o LastDuration = lastDuration (o .last .duration)
+readProperty tenant t o BinaryActiveValue = levelAnswer (o .relay .active)
+readProperty tenant t o BinaryInactiveValue = levelAnswer (o .relay .inactive)
+readProperty tenant t o Polarity = Value (flag (o .relay .reverse))
+readProperty tenant t o BinaryPresentValue = Value (flag (o .relay .binary))
+readProperty tenant t o RelayState = Value (flag (relayState (o .relay)))
+readProperty tenant t o (SlotValue i) = if hidden tenant i then Absent else slotAnswer (o .slots) i
+readProperty tenant t o Unknown = Refused 9

@@ -9,6 +9,7 @@ use lib.Dec.{eqb, ltb}
 use lib.Bits.{bitAnd, bitOr}
 use lib.ListN.{set, getD}
 use Rattle.lighting_levels.specs.Paper.Choice.{if_then_else_}
+use Rattle.lighting_levels.specs.Paper.Field.{bitSet}
 pub use Rattle.lighting_outputs.specs.declared.Slots.{Slots}
 
 -- sixteen slots; the last is slot 16, and slot 6 is a warning's
@@ -45,7 +46,7 @@ winner s = firstLive (slotsOf s)
 
 -- whether slot i is live, by the mask
 unfoldable pub isLive : Slots → ℕ → Bool
-isLive s i = eqb (s .live / 2 ^ i % 2) 1
+isLive s i = bitSet (s .live) i
 
 -- bit i cleared and set; a level put in its place. There is no slot from 16 on: the guard stands for records
 -- that break the rules (proofs/Priorities/Mask.antt, `put-slots`)

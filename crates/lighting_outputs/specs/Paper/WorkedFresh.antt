@@ -7,6 +7,7 @@ use Rattle.lighting_outputs.specs.Paper.Slots.{Slots, emptied}
 use Rattle.lighting_outputs.specs.Paper.Properties.{propertyOf}
 use Rattle.lighting_outputs.specs.Paper.Fresh.{freshFor}
 use Rattle.lighting_outputs.specs.Paper.Acting.{acted}
+use Rattle.lighting_outputs.specs.Paper.Tenants.{forService}
 use Rattle.lighting_outputs.specs.declared.Answer.{Answer}
 use Rattle.lighting_outputs.specs.declared.Answer.the-variants.{Value, Absent}
 use Rattle.lighting_outputs.specs.declared.Output.{Output}
@@ -16,7 +17,7 @@ abbrev fresh : Output
 fresh = freshFor (document01 1)
 
 abbrev read : ℕ → Answer
-read n = acted 0 fresh (Read (propertyOf n)) .answer
+read n = acted forService 0 fresh (Read (propertyOf n)) .answer
 
 -- 01 to 0B and 0C to 0E; 0F to 14, the last command; 17 to 1B (§3); 21 to 30, the slots
 abbrev pub freshGiven : List (List Answer)

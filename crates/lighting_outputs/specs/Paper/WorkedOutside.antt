@@ -7,11 +7,12 @@ use Rattle.lighting_outputs.specs.Paper.Parameters.{document01}
 use Rattle.lighting_outputs.specs.Paper.Properties.{propertyOf, changeOf}
 use Rattle.lighting_outputs.specs.Paper.Fresh.{freshOutput}
 use Rattle.lighting_outputs.specs.Paper.Acting.{served}
+use Rattle.lighting_outputs.specs.Paper.Tenants.{forService}
 use Rattle.lighting_outputs.specs.declared.Answer.{Answer}
 use Rattle.lighting_outputs.specs.declared.Answer.the-variants.{Done, Refused}
 
 abbrev write : ℕ → ℕ → Answer
-write n x = served 0 (freshOutput ∷ []) 0 (changeOf (document01 1) (propertyOf n) x) .answer
+write n x = served forService 0 (freshOutput ∷ []) 0 (changeOf (document01 1) (propertyOf n) x) .answer
 
 -- two NaNs, both infinities, -1, the least negative, the least above 100
 abbrev never : List ℕ

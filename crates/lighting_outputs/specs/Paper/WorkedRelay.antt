@@ -12,6 +12,7 @@ use Rattle.lighting_outputs.specs.Engine.Advance.{advance}
 use Rattle.lighting_outputs.specs.Paper.Properties.{flag}
 use Rattle.lighting_outputs.specs.Paper.Acting.{acted}
 use Rattle.lighting_outputs.specs.Paper.Fresh.{freshOutput}
+use Rattle.lighting_outputs.specs.Paper.Tenants.{forService}
 use Rattle.lighting_outputs.specs.declared.Duration.{Duration}
 use Rattle.lighting_outputs.specs.declared.Duration.the-variants.{Lasts, Omitted}
 use Rattle.lighting_outputs.specs.declared.Operation.{Operation}
@@ -27,7 +28,7 @@ use Rattle.lighting_outputs.specs.declared.Output.{Output}
 
 -- what is asked of an output at t: v written to slot 16, a property's kept value, a command
 abbrev asked : ℕ → OutputRequest → Output → Output
-asked t request o = acted t o request .output
+asked t request o = acted forService t o request .output
 
 abbrev write : ℕ → ℕ → Output → Output
 write t v o = asked t (Write slot16 v) o

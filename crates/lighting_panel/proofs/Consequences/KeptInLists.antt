@@ -2,7 +2,7 @@
 -- form of it, read, gives it back (§1: 'A writer makes this form from every command the panel keeps').
 use Rattle.lighting_levels.specs.Paper.Choice.{if_then_else_, Every}
 use mathlib.Core.Path.{_≡_, refl}
-use mathlib.Core.Bool.{true}
+use mathlib.Core.Bool.{Bool, true}
 use mathlib.Core.List.{List, _∷_, _++_, []}
 use Prim.Native.Nat.{ℕ, zero, suc, _-_}
 use native.Mathlib.Omega.{arith}
@@ -19,6 +19,7 @@ use Rattle.lighting_outputs.specs.Paper.Commands.{commandedFrom, commanded}
 use Rattle.lighting_outputs.specs.Paper.Properties.{changed}
 use Rattle.lighting_frames.specs.Paper.Kinds.{kindRow}
 use Rattle.lighting_outputs.specs.Paper.Fresh.{freshWith, freshFor}
+use Rattle.lighting_outputs.specs.Paper.Tenants.{isTenant}
 use Rattle.lighting_outputs.specs.Paper.Acting.{done, unchanged, acted}
 use Rattle.lighting_frames.specs.Paper.Tags.{commandTags, bodyBytes, readBody}
 use Rattle.lighting_frames.specs.Paper.Frames.{Bytes, Octets, Strings, taggedRequest, requestOf, callOf, called, clockOf, parseBy, parse, Kept, asked}
@@ -113,13 +114,13 @@ tick-last : (t : ℕ) (o : Output) → tick t o .last ≡ o .last
 unfolding tick fire afterEvents withBurned withBurning
 tick-last t o = refl
 
-acted-last : (p : Parameters) (t : ℕ) (o : Output) (q : OutputRequest) → Asking p (ToOutput q) → Kept p (o .last) → Kept p (acted t o q .output .last)
+acted-last : (p : Parameters) (tenant : Bool) (t : ℕ) (o : Output) (q : OutputRequest) → Asking p (ToOutput q) → Kept p (o .last) → Kept p (acted tenant t o q .output .last)
 unfolding acted done unchanged afterEvents slotRelinquished withEffect changed withSettings commanded commandedFrom withCommand
-acted-last p t o (Write i v) g h = rw (written-rest t o i v .last) h
-acted-last p t o (Empty i) g h = h
-acted-last p t o (Change n v) g h = by-change (λ (z : Outcome). Kept p (z .output .last)) t o n v (λ r l. h) (λ e e′. h)
-acted-last p t o (Read n) g h = h
-acted-last p t o (Commands k) g h = g k refl
+acted-last p tenant t o (Write i v) g h = rw (written-rest t o i v .last) h
+acted-last p tenant t o (Empty i) g h = h
+acted-last p tenant t o (Change n v) g h = by-change (λ (z : Outcome). Kept p (z .output .last)) tenant t o n v (λ r l. h) (λ e e′. h)
+acted-last p tenant t o (Read n) g h = h
+acted-last p tenant t o (Commands k) g h = g k refl
 
 abbrev pub LastKept : Parameters → Output → Type 0
 LastKept p o = Kept p (o .last)
@@ -129,37 +130,37 @@ unfolding runPlain
 all-run p zero y h = h
 all-run p (suc n) y h = all-run p n _ (every-map (LastKept p) (LastKept p) (tick (y .time)) (y .outputs) (λ o k. rw (tick-last (y .time) o) k) h)
 
-all-execute : (p : Parameters) (b : Bytes) (w : PlainState) (v : Verdict) → VerdictKept p v → Every (LastKept p) (w .panel .outputs) → Every (LastKept p) (plainExecute b w v .state .panel .outputs)
+all-execute : (p : Parameters) (marks : ℕ) (b : Bytes) (w : PlainState) (v : Verdict) → VerdictKept p v → Every (LastKept p) (w .panel .outputs) → Every (LastKept p) (plainExecute marks b w v .state .panel .outputs)
 unfolding plainExecute
-all-execute p b w (TurnedDown r) g h = h
-all-execute p b w (Copied a) g h = h
-all-execute p b w (Clocked t) g h = all-run p (t - w .panel .time) (w .panel) h
-all-execute p b w (Arrives call) g h =
+all-execute p marks b w (TurnedDown r) g h = h
+all-execute p marks b w (Copied a) g h = h
+all-execute p marks b w (Clocked t) g h = all-run p (t - w .panel .time) (w .panel) h
+all-execute p marks b w (Arrives call) g h =
     let come = runPlain (call .time - w .panel .time) (w .panel) in
-    served-every (LastKept p) (come .time) (come .outputs) (call .output) (call .request)
-    (λ q e o k. acted-last p (come .time) o q (rw e at g) k)
+    served-every (LastKept p) (isTenant marks (call .station)) (come .time) (come .outputs) (call .output) (call .request)
+    (λ q e o k. acted-last p (isTenant marks (call .station)) (come .time) o q (rw e at g) k)
     (all-run p (call .time - w .panel .time) (w .panel) h)
 
-all-after : (p : Parameters) (w : PlainState) (l : List Bytes) → Strings l → Every (LastKept p) (w .panel .outputs) → Every (LastKept p) (plainAfter p w l .panel .outputs)
+all-after : (p : Parameters) (marks : ℕ) (w : PlainState) (l : List Bytes) → Strings l → Every (LastKept p) (w .panel .outputs) → Every (LastKept p) (plainAfter p marks w l .panel .outputs)
 unfolding plainAfter plainFrameStep
-all-after p w [] s h = h
-all-after p w (b ∷ l) s h =
+all-after p marks w [] s h = h
+all-after p marks w (b ∷ l) s h =
     let f = parse p (length (w .panel .outputs)) b in
-    all-after p _ l (s .1) (all-execute p b w (judged (w .past) b f) (judged-kept p (w .past) b f (parse-kept p (length (w .panel .outputs)) b (s .0))) h)
+    all-after p marks _ l (s .1) (all-execute p marks b w (judged (w .past) b f) (judged-kept p (w .past) b f (parse-kept p (length (w .panel .outputs)) b (s .0))) h)
 
 -- every output's, after every list
-pub last-kept : (p : Parameters) (e : Panel) (l : List Bytes) → Strings l → startStep p e .answer ≡ Done → Every (LastKept p) (after (startStep p e .panel) l .outputs)
-last-kept p e l s h =
-    rw (demand-3 p e l l (once [] l) s h .outputs)
-    (all-after p (plainStart p) l s
+pub last-kept : (p : Parameters) (marks : ℕ) (e : Panel) (l : List Bytes) → Strings l → startStep p marks e .answer ≡ Done → Every (LastKept p) (after (startStep p marks e .panel) l .outputs)
+last-kept p marks e l s h =
+    rw (demand-3 p marks e l l (once [] l) s h .outputs)
+    (all-after p marks (plainStart p) l s
     (unfold plainStart in (every-replicate (LastKept p) (freshFor p) (p .outputs) (unfold freshFor in (fresh-kept p (freshFade p))))))
 
 -- so the writer's form of each, read, gives it back
 abbrev pub LastGivenBack : Parameters → Output → Type 0
 LastGivenBack p o = taggedRequest p (readBody (bodyBytes (commandTags (o .last)))) ≡ ToOutput (Commands (o .last))
 
-pub last-given-back : (p : Parameters) (e : Panel) (l : List Bytes) → Strings l → startStep p e .answer ≡ Done
-    → Every (LastGivenBack p) (after (startStep p e .panel) l .outputs)
-last-given-back p e l s h =
-    let outputs = after (startStep p e .panel) l .outputs in
-    every-then (LastKept p) (LastGivenBack p) outputs (λ o k. gives-back p (o .last) k) (last-kept p e l s h)
+pub last-given-back : (p : Parameters) (marks : ℕ) (e : Panel) (l : List Bytes) → Strings l → startStep p marks e .answer ≡ Done
+    → Every (LastGivenBack p) (after (startStep p marks e .panel) l .outputs)
+last-given-back p marks e l s h =
+    let outputs = after (startStep p marks e .panel) l .outputs in
+    every-then (LastKept p) (LastGivenBack p) outputs (λ o k. gives-back p (o .last) k) (last-kept p marks e l s h)

@@ -5,6 +5,7 @@ use lib.ListN.{set}
 use Rattle.lighting_levels.specs.Paper.Choice.{if_then_else_}
 use Rattle.lighting_frames.specs.Paper.Frames.{Bytes}
 use Rattle.lighting_outputs.specs.Engine.Advance.{advance}
+use Rattle.lighting_outputs.specs.Paper.Tenants.{isTenant}
 use Rattle.lighting_outputs.specs.Paper.Acting.{served}
 use Rattle.lighting_outputs.specs.declared.Answer.the-variants.{Done, Refused}
 use Rattle.lighting_frames.specs.declared.Verdict.{Verdict}
@@ -13,7 +14,7 @@ use Rattle.lighting_panel.specs.Paper.Panel.{Panel, Step, withTime, pane
 use Rattle.lighting_panel.specs.Engine.Judging.{padded, decide}
 
 -- CARRIED OUT: refusals 2 to 8 and copies leave everything; a clock brings every output to its time; a first
--- arrival does so too, acts, and 'the station keeps number, frame and answer'
+-- arrival does so too, acts, by its station's mark (§8), and 'the station keeps number, frame and answer'
 unfoldable pub execute : Bytes → Panel → Verdict → Step
 execute b e (TurnedDown r) = record { panel = e; answer = Refused r }
 execute b e (Copied a) = record { panel = e; answer = a }
@@ -24,7 +25,8 @@ execute b e (Clocked t) =
     }
 execute b e (Arrives call) =
     let t = call .time in
-    let done = served t (map (advance (e .kept .time) t) (e .outputs)) (call .output) (call .request) in
+    let tenant = isTenant (e .kept .tenants) (call .station) in
+    let done = served tenant t (map (advance (e .kept .time) t) (e .outputs)) (call .output) (call .request) in
     record {
       panel =
           record {

@@ -2,6 +2,7 @@
 use mathlib.Core.Path.{_≡_}
 use mathlib.Core.Bool.{Bool}
 use mathlib.Core.List.{List, map}
+use Prim.Native.Nat.{ℕ}
 use Rattle.lighting_outputs.specs.declared.Parameters.{Parameters}
 use Rattle.lighting_frames.specs.Paper.Frames.{Bytes}
 use Rattle.lighting_panel.specs.Paper.Panel.{Panel, startStep}
@@ -16,7 +17,7 @@ NoneBecomesAnother chosen l = (b b′ : Bytes) → Among b l → Among b′ l �
 
 -- THE CLAIM, for a lent table e and a list l: what is found and every answer stay. The station records alone
 -- differ, which keep the frames as they came
-pub record ActsAsPlain (p : Parameters) (e : Panel) (l : List Bytes) (chosen : Bytes → Bool) : Type 0 where
-  pub outputs : after (startStep p e .panel) (map (sent chosen) l) .outputs ≡ after (startStep p e .panel) l .outputs
-  pub time : after (startStep p e .panel) (map (sent chosen) l) .kept .time ≡ after (startStep p e .panel) l .kept .time
-  pub answered : answers (startStep p e .panel) (map (sent chosen) l) ≡ answers (startStep p e .panel) l
+pub record ActsAsPlain (p : Parameters) (marks : ℕ) (e : Panel) (l : List Bytes) (chosen : Bytes → Bool) : Type 0 where
+  pub outputs : after (startStep p marks e .panel) (map (sent chosen) l) .outputs ≡ after (startStep p marks e .panel) l .outputs
+  pub time : after (startStep p marks e .panel) (map (sent chosen) l) .kept .time ≡ after (startStep p marks e .panel) l .kept .time
+  pub answered : answers (startStep p marks e .panel) (map (sent chosen) l) ≡ answers (startStep p marks e .panel) l

@@ -2,6 +2,7 @@
 -- tables: by the contracts of the crate `panel`, each call leaves and answers what `frameStep` says.
 use mathlib.Core.Path.{_≡_}
 use mathlib.Core.List.{List, [], _∷_}
+use Prim.Native.Nat.{ℕ}
 use Rattle.lighting_outputs.specs.declared.Parameters.{Parameters}
 use Rattle.lighting_frames.specs.Paper.Frames.{Bytes}
 use mathlib.Core.Bool.{true}
@@ -17,15 +18,16 @@ pub data Calls : Panel → List Bytes → List Answer → Panel → Type 0 where
   call : {e e₁ e₂ : Panel} {b : Bytes} {l : List Bytes} {a : Answer} {given : List Answer}
       → result e₁ a ≡ frameStep e b → Calls e₁ l given e₂ → Calls e (b ∷ l) (a ∷ given) e₂
 
--- what such a caller may conclude who started with the set p: the outputs, all of every record, are the
+-- what such a caller may conclude who started with the set p and the marks: the outputs, all of every record, are the
 -- plain panel's, at the same time, and every answer was its answer; the set is kept, the records keep the
 -- rules, and no answer was refusal 1. So the tables show what the plain panel shows (proofs/Calls.antt,
 -- `shows`)
-pub record Concluded (p : Parameters) (l : List Bytes) (given : List Answer) (e′ : Panel) : Type 0 where
-  pub outputs : e′ .outputs ≡ plainAfter p (plainStart p) l .panel .outputs
-  pub time : e′ .kept .time ≡ plainAfter p (plainStart p) l .panel .time
+pub record Concluded (p : Parameters) (marks : ℕ) (l : List Bytes) (given : List Answer) (e′ : Panel) : Type 0 where
+  pub outputs : e′ .outputs ≡ plainAfter p marks (plainStart p) l .panel .outputs
+  pub time : e′ .kept .time ≡ plainAfter p marks (plainStart p) l .panel .time
   pub parameters : e′ .kept .parameters ≡ p
-  pub answered : given ≡ plainAnswers p (plainStart p) l
+  pub tenants : e′ .kept .tenants ≡ marks
+  pub answered : given ≡ plainAnswers p marks (plainStart p) l
   pub sound : panelSound e′ ≡ true
   pub never : NeverOne given
 

@@ -63,14 +63,14 @@ unfoldable pub answers : Panel → List Bytes → List Answer
 answers e [] = []
 answers e (b ∷ l) = frameStep e b .answer ∷ answers (frameStep e b .panel) l
 
--- the same of the plain panel, which is given the set
-unfoldable pub plainAfter : Parameters → PlainState → List Bytes → PlainState
-plainAfter p w [] = w
-plainAfter p w (b ∷ l) = plainAfter p (plainFrameStep p w b .state) l
+-- the same of the plain panel, which is given the set and the marks
+unfoldable pub plainAfter : Parameters → ℕ → PlainState → List Bytes → PlainState
+plainAfter p marks w [] = w
+plainAfter p marks w (b ∷ l) = plainAfter p marks (plainFrameStep p marks w b .state) l
 
-unfoldable pub plainAnswers : Parameters → PlainState → List Bytes → List Answer
-plainAnswers p w [] = []
-plainAnswers p w (b ∷ l) = plainFrameStep p w b .answer ∷ plainAnswers p (plainFrameStep p w b .state) l
+unfoldable pub plainAnswers : Parameters → ℕ → PlainState → List Bytes → List Answer
+plainAnswers p marks w [] = []
+plainAnswers p marks w (b ∷ l) = plainFrameStep p marks w b .answer ∷ plainAnswers p marks (plainFrameStep p marks w b .state) l
 
 -- A LIST WITH FRAMES THAT COME AGAIN (retransmissions), anywhere later and any number of times. `Again seen l
 -- l′`: after the frames of `seen`, l′ is l with frames put in that came before, of `seen` or of l, byte for
@@ -96,20 +96,21 @@ answersToOriginals (copy m r) (a ∷ z) = answersToOriginals r z
 abbrev pub NeverOne : List Answer → Type 0
 NeverOne given = Every (λ (a : Answer). answerBytes a ≢ answerBytes (Refused 1)) given
 
--- THE DEMAND, for a set of parameters p, a lent table e, a list of frames l, and the list l′ in which
--- frames of l come again
-pub record Demand (p : Parameters) (e : Panel) (l l′ : List Bytes) (r : Again [] l l′) : Type 0 where
+-- THE DEMAND, for a set of parameters p, any marks, a lent table e, a list of frames l, and the list l′ in
+-- which frames of l come again
+pub record Demand (p : Parameters) (marks : ℕ) (e : Panel) (l l′ : List Bytes) (r : Again [] l l′) : Type 0 where
   -- after every list the outputs, all of every record, are the plain panel's, at the same time: so all that
   -- is found is the same (proofs/Demand.antt, `finds`)
-  pub outputs : after (startStep p e .panel) l .outputs ≡ plainAfter p (plainStart p) l .panel .outputs
-  pub time : after (startStep p e .panel) l .kept .time ≡ plainAfter p (plainStart p) l .panel .time
-  -- the set is kept as it was started with
-  pub parameters : after (startStep p e .panel) l .kept .parameters ≡ p
+  pub outputs : after (startStep p marks e .panel) l .outputs ≡ plainAfter p marks (plainStart p) l .panel .outputs
+  pub time : after (startStep p marks e .panel) l .kept .time ≡ plainAfter p marks (plainStart p) l .panel .time
+  -- the set and the marks are kept as they were started with: no frame changes them
+  pub parameters : after (startStep p marks e .panel) l .kept .parameters ≡ p
+  pub tenants : after (startStep p marks e .panel) l .kept .tenants ≡ marks
   -- and every answer is the plain panel's answer
-  pub answered : answers (startStep p e .panel) l ≡ plainAnswers p (plainStart p) l
+  pub answered : answers (startStep p marks e .panel) l ≡ plainAnswers p marks (plainStart p) l
   -- 'Refusal 1 never comes in it': every record keeps the rules, and no answer is 1
-  pub sound : panelSound (after (startStep p e .panel) l) ≡ true
-  pub never : NeverOne (answers (startStep p e .panel) l)
+  pub sound : panelSound (after (startStep p marks e .panel) l) ≡ true
+  pub never : NeverOne (answers (startStep p marks e .panel) l)
   -- frames that come again change nothing at all of the panel, and no answer to the frames of the list
-  pub again : after (startStep p e .panel) l′ ≡ after (startStep p e .panel) l
-  pub answeredAgain : answersToOriginals r (answers (startStep p e .panel) l′) ≡ answers (startStep p e .panel) l
+  pub again : after (startStep p marks e .panel) l′ ≡ after (startStep p marks e .panel) l
+  pub answeredAgain : answersToOriginals r (answers (startStep p marks e .panel) l′) ≡ answers (startStep p marks e .panel) l

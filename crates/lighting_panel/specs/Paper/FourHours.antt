@@ -31,9 +31,9 @@ NoneLongerDone (b ∷ l) [] = Unit {0}
 NoneLongerDone (b ∷ l) (a ∷ given) = (a ≡ Done → carriesLonger b ≡ false) × NoneLongerDone l given
 
 -- THE TWO PANELS over the same lent table e: the start of now with 8, as many outputs as there are,
--- 14,400,000, 86,400,000; and the old one's
+-- 14,400,000, 86,400,000 and the marks 0, no station a tenant (§8); and the old one's
 abbrev pub startNow : Panel → Step
-startNow e = startStep (fourHours (length (e .outputs))) e
+startNow e = startStep (fourHours (length (e .outputs))) 0 e
 
 abbrev pub startedOld : Panel → OldPanel
 startedOld e = oldStart (withoutSet e) .panel

@@ -1,4 +1,4 @@
--- THE PANEL AS IT STOOD BEFORE §6: no set in its record, 1 to 64 outputs, eight stations, a day. What §6
+-- THE PANEL AS IT STOOD BEFORE §6: no set in its record, no marks, 1 to 64 outputs, eight stations, a day. What §6
 -- did not move it shares with today's panel; where today's reads a number of the set, it reads document
 -- 01's, which is written there with 64 outputs, the most that it allows. That each such definition is then
 -- document 01's own clause, with its numbers, the theorems of `Consequences/Numbers.antt` say.
@@ -35,12 +35,13 @@ pub record OldStep : Type 0 where
   pub panel : OldPanel
   pub answer : Answer
 
--- today's panel without its set, and the old one with a set beside its time
+-- today's panel without its set and its marks, and the old one with a set beside its time, and no mark: to it
+-- every station is a service station (§8)
 abbrev pub withoutSet : Panel → OldPanel
 withoutSet e = record { outputs = e .outputs; stations = e .stations; time = e .kept .time }
 
 abbrev pub withSet : Parameters → OldPanel → Panel
-withSet p e = panelOf (e .outputs) (e .stations) (record { time = e .time; parameters = p })
+withSet p e = panelOf (e .outputs) (e .stations) (record { time = e .time; parameters = p; tenants = 0 })
 
 -- document 01's numbers, where a definition asks for a set
 abbrev numbers : Parameters

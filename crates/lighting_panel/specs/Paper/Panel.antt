@@ -19,8 +19,8 @@ pub use Rattle.lighting_frames.specs.declared.Station.{Station}
 pub use Rattle.lighting_panel.specs.declared.PanelRecord.{PanelRecord}
 
 -- 'The outputs stand in a lent table [..]; beside it stand [..] station records and the panel time'. All that
--- is lent beside the two tables stands in one record, `kept`: the time, and the set of parameters, which 'are
--- kept in the panel's record' (§6)
+-- is lent beside the two tables stands in one record, `kept`: the time, the set of parameters, which 'are
+-- kept in the panel's record' (§6), and the marks of the stations (§8)
 pub record Panel : Type 0 where
   pub outputs : List Output
   pub stations : List Station
@@ -29,16 +29,17 @@ pub record Panel : Type 0 where
 abbrev pub panelOf : List Output → List Station → PanelRecord → Panel
 panelOf outputs stations kept = record { outputs = outputs; stations = stations; kept = kept }
 
--- that record fresh, and at another time: the set stays
-abbrev pub freshRecord : Parameters → PanelRecord
-freshRecord p = record { time = 0; parameters = p }
+-- that record fresh, and at another time: the set and the marks stay. The marks are kept as they are given:
+-- no bit of them is tested, and those at or above the number of stations mean nothing
+abbrev pub freshRecord : Parameters → ℕ → PanelRecord
+freshRecord p marks = record { time = 0; parameters = p; tenants = marks }
 
 -- some record, which stands where a record past the end of a list is asked for
 abbrev pub anyRecord : PanelRecord
-anyRecord = freshRecord (fourHours 1)
+anyRecord = freshRecord (fourHours 1) 0
 
 abbrev pub withTime : PanelRecord → ℕ → PanelRecord
-withTime kept t = record { time = t; parameters = kept .parameters }
+withTime kept t = record { time = t; parameters = kept .parameters; tenants = kept .tenants }
 
 -- what an operation leaves and answers
 pub record Step : Type 0 where
@@ -64,17 +65,22 @@ unfoldable pub panelSound : Panel → Bool
 panelSound e = startable (e .kept .parameters) also rulesKept (e .kept .parameters) e
 
 -- THE START: 'writes every lent record fresh and answers Done, or meets 1 by its counts alone'; '(17: a start
--- with a parameter out of range; tested before 1, tables unwritten)'
-unfoldable pub freshPanel : Parameters → Panel
-freshPanel p =
-    record { outputs = replicate (p .outputs) (freshFor p); stations = replicate (p .stations) freshStation; kept = freshRecord p }
+-- with a parameter out of range; tested before 1, tables unwritten)'. 'At the start a 32-bit word's bit n'
+-- marks station n (§8): it takes that word, the marks, and refuses none
+unfoldable pub freshPanel : Parameters → ℕ → Panel
+freshPanel p marks =
+    record {
+      outputs = replicate (p .outputs) (freshFor p);
+      stations = replicate (p .stations) freshStation;
+      kept = freshRecord p marks;
+    }
 
-unfoldable pub startStep : Parameters → Panel → Step
-startStep p e =
+unfoldable pub startStep : Parameters → ℕ → Panel → Step
+startStep p marks e =
     if startable p
     then (
     if countsSound p (length (e .outputs)) (length (e .stations))
-    then record { panel = freshPanel p; answer = Done }
+    then record { panel = freshPanel p marks; answer = Done }
     else record { panel = e; answer = Refused 1 }
     )
     else record { panel = e; answer = Refused 17 }

@@ -9,6 +9,7 @@ use Rattle.lighting_outputs.specs.declared.Parameters.{Parameters}
 use Rattle.lighting_frames.specs.Paper.Frames.{Bytes, parse}
 use Rattle.lighting_outputs.specs.Paper.Passing.{tick}
 use Rattle.lighting_outputs.specs.Paper.Fresh.{freshFor}
+use Rattle.lighting_outputs.specs.Paper.Tenants.{isTenant}
 use Rattle.lighting_outputs.specs.Paper.Acting.{served}
 use Rattle.lighting_frames.specs.Paper.Copies.{sameBytes, retransmissionOrConflict}
 use Rattle.lighting_outputs.specs.declared.Output.{Output}
@@ -80,15 +81,16 @@ pub record Reply : Type 0 where
   pub answer : Answer
 
 -- 'For a first arrival it steps to the frame's time and does what its kind calls for, or refuses 9 to 13';
--- 'Clocks [..] only step it. Other frames do not touch it'
-unfoldable pub plainExecute : Bytes → PlainState → Verdict → Reply
-plainExecute b w (TurnedDown r) = record { state = w; answer = Refused r }
-plainExecute b w (Copied a) = record { state = w; answer = a }
-plainExecute b w (Clocked t) =
+-- 'Clocks [..] only step it. Other frames do not touch it'. 'The plain panel takes the mark with each first
+-- arrival' (§8): whether its station is a tenant
+unfoldable pub plainExecute : ℕ → Bytes → PlainState → Verdict → Reply
+plainExecute marks b w (TurnedDown r) = record { state = w; answer = Refused r }
+plainExecute marks b w (Copied a) = record { state = w; answer = a }
+plainExecute marks b w (Clocked t) =
     record { state = record { past = clock t ∷ w .past; panel = runPlain (t - w .panel .time) (w .panel) }; answer = Done }
-plainExecute b w (Arrives call) =
+plainExecute marks b w (Arrives call) =
     let come = runPlain (call .time - w .panel .time) (w .panel) in
-    let done = served (come .time) (come .outputs) (call .output) (call .request) in
+    let done = served (isTenant marks (call .station)) (come .time) (come .outputs) (call .output) (call .request) in
     record {
       state =
           record {
@@ -98,8 +100,8 @@ plainExecute b w (Arrives call) =
       answer = done .answer;
     }
 
-unfoldable pub plainFrameStep : Parameters → PlainState → Bytes → Reply
-plainFrameStep p w b = plainExecute b w (judged (w .past) b (parse p (length (w .panel .outputs)) b))
+unfoldable pub plainFrameStep : Parameters → ℕ → PlainState → Bytes → Reply
+plainFrameStep p marks w b = plainExecute marks b w (judged (w .past) b (parse p (length (w .panel .outputs)) b))
 
 -- 'starts at time 0 with as many fresh outputs as the table': as the set says, 'the plain panel being
 -- given the same set' (§6)

@@ -22,7 +22,7 @@ use Rattle.lighting_outputs.specs.declared.Answer.the-variants.{Done, Value, Re
 
 -- today's panel of one output, and the old one, both started
 abbrev today : Panel
-today = freshPanel (fourHours 1)
+today = freshPanel (fourHours 1) 0
 
 abbrev old : OldPanel
 old = oldStart (record { outputs = freshOutput ∷ []; stations = replicate 8 freshStation; time = 5 }) .panel
@@ -84,7 +84,7 @@ topAnswers top longer kept =
 abbrev pub topGiven : List (List Answer)
 topGiven =
     answers today topFrames
-    ∷ answers (freshPanel (of 8 1 14399999 86400000)) topFrames
+    ∷ answers (freshPanel (of 8 1 14399999 86400000) 0) topFrames
     ∷ oldAnswers old topFrames
     ∷ []
 

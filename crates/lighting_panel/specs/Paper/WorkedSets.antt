@@ -32,7 +32,7 @@ ofEnds f = map (λ (l : List Parameters). map f l) ends
 -- a start over tables of just that size, and a clock to a panel that keeps such a set and is fresh: 'kept
 -- ones out of range meet 1'
 abbrev pub endsGiven : List (List Answer)
-endsGiven = ofEnds (λ (p : Parameters). startStep p (freshPanel p) .answer)
+endsGiven = ofEnds (λ (p : Parameters). startStep p 0 (freshPanel p 0) .answer)
 
 abbrev pub endsSaid : List (List Answer)
 endsSaid =
@@ -43,7 +43,7 @@ endsSaid =
     ∷ []
 
 abbrev pub keptGiven : List (List Answer)
-keptGiven = ofEnds (λ (p : Parameters). frameStep (freshPanel p) (clockAt 5) .answer)
+keptGiven = ofEnds (λ (p : Parameters). frameStep (freshPanel p 0) (clockAt 5) .answer)
 
 abbrev pub keptSaid : List (List Answer)
 keptSaid =
@@ -57,12 +57,12 @@ keptSaid =
 -- and two outputs over tables that are one short, fit, and are one long, in each of the two; one with 33
 -- stations over the same
 abbrev lentSizes : List Panel
-lentSizes = map (λ (p : Parameters). freshPanel p) (of 1 2 100 100 ∷ of 2 2 100 100 ∷ of 3 2 100 100 ∷ of 2 1 100 100 ∷ of 2 3 100 100 ∷ [])
+lentSizes = map (λ (p : Parameters). freshPanel p 0) (of 1 2 100 100 ∷ of 2 2 100 100 ∷ of 3 2 100 100 ∷ of 2 1 100 100 ∷ of 2 3 100 100 ∷ [])
 
 abbrev pub sizesGiven : List (List Answer)
 sizesGiven =
-    map (λ (e : Panel). startStep (of 2 2 1000 2000) e .answer) lentSizes
-    ∷ map (λ (e : Panel). startStep (of 33 2 1000 2000) e .answer) lentSizes
+    map (λ (e : Panel). startStep (of 2 2 1000 2000) 0 e .answer) lentSizes
+    ∷ map (λ (e : Panel). startStep (of 33 2 1000 2000) 0 e .answer) lentSizes
     ∷ []
 
 abbrev pub sizesSaid : List (List Answer)
@@ -138,9 +138,9 @@ answersWith fresh =
 
 abbrev pub framesGiven : List (List Answer)
 framesGiven =
-    answers (freshPanel (of 3 1 5000 700)) (framesAt 2 5000 700)
-    ∷ answers (freshPanel (of 32 1 700 5000)) (framesAt 31 700 5000)
-    ∷ answers (freshPanel (of 1 1 65534 256)) (framesAt 0 65534 256)
+    answers (freshPanel (of 3 1 5000 700) 0) (framesAt 2 5000 700)
+    ∷ answers (freshPanel (of 32 1 700 5000) 0) (framesAt 31 700 5000)
+    ∷ answers (freshPanel (of 1 1 65534 256) 0) (framesAt 0 65534 256)
     ∷ []
 
 abbrev pub framesSaid : List (List Answer)
@@ -149,7 +149,7 @@ framesSaid = answersWith 1000 ∷ answersWith 700 ∷ answersWith 1000 ∷ []
 -- 'A FRESH FADE_TIME is the smaller of 1,000 and the longest fade'
 abbrev pub freshFadesGiven : List (List Answer)
 freshFadesGiven =
-    map (λ (fade : ℕ). answers (freshPanel (of 1 1 fade 100)) (asked 0 1 0 0 0x02 ∷ [])) (100 ∷ 999 ∷ 1000 ∷ 1001 ∷ [])
+    map (λ (fade : ℕ). answers (freshPanel (of 1 1 fade 100) 0) (asked 0 1 0 0 0x02 ∷ [])) (100 ∷ 999 ∷ 1000 ∷ 1001 ∷ [])
 
 abbrev pub freshFadesSaid : List (List Answer)
 freshFadesSaid = (Value 100 ∷ []) ∷ (Value 999 ∷ []) ∷ (Value 1000 ∷ []) ∷ (Value 1000 ∷ []) ∷ []
@@ -158,7 +158,7 @@ freshFadesSaid = (Value 100 ∷ []) ∷ (Value 999 ∷ []) ∷ (Value 1000 ∷ [
 -- 0.125 percent a second, where the longest fade is 100 ms. Halfway 50 percent; under way until its end
 abbrev pub rampGiven : List Answer
 rampGiven =
-    answers (freshPanel (of 1 1 100 100))
+    answers (freshPanel (of 1 1 100 100) 0)
     (call 0x14 0 1 0 0 (octets 4 0x42c8_0000 ++ octets 4 0x3e00_0000 ++ none)
     ∷ asked 0 2 400000 0 0x0d
     ∷ asked 0 3 799999 0 0x0e
