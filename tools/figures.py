@@ -1,7 +1,7 @@
 #!/usr/bin/env python3
 """figures.py [--check]: write proofs/Figures.antt of each crate of definitions (crates/lighting_*): that the definitions compute the bench figures,
-the traps and the worked lists, which stand in specs/Paper/Figures.antt and Worked*.antt of the crate. Only the lists of names to unfold are
-made; the prover checks the equations. With --check nothing is written, and a stale file is an error."""
+the traps and the worked lists, which stand in specs/Paper/Figures.antt and Worked*.antt of the crate; and lighting_panel/proofs/Needed.antt, §8's
+premises. Only the lists of names to unfold are made; the prover checks the equations. With --check nothing is written, and a stale file is an error."""
 import glob
 import os
 import re
@@ -65,6 +65,7 @@ FIGURES = {
          '§7: longer fade times that neither panel takes'),
         ('longer-carried', 'carriedGiven', 'carriedSaid', 'WorkedFourHours', CARRIED,
          '§7: which frames carry a longer fade time'),
+        ('two-panels', 'twoGiven', 'twoSaid', 'WorkedSecrecy', PANELS, '§8: two panels for each premise of the claim of secrecy'),
     ],
 }
 # names that unfold, and their module: what is no definition of ours, and lists
@@ -84,29 +85,66 @@ def definitions(module):
     return re.findall(r'^unfoldable pub (\S+) :', open(path_of(module)).read(), re.M)
 
 
+def imports(modules, crate):
+    lines = []
+    for module in dict.fromkeys(NAMES[one] for one in modules if one in NAMES):
+        names = ', '.join(one for one in modules if NAMES.get(one) == module)
+        lines.append('use %s.{%s}' % (module if '.' in module else library(module, crate), names))
+    for module in modules:
+        if module not in NAMES and definitions(module):
+            lines.append('use %s.{%s}' % (library(module, crate), ', '.join(definitions(module))))
+    return lines
+
+
+def opened(unfolds):
+    return ' '.join(definition for one in unfolds for definition in ([one] if one in NAMES else definitions(one)))
+
+
 def figures_of(crate, figures):
     lines = ['-- Made by tools/figures.py: figures, traps and worked lists of this layer, computed by the definitions.', 'use mathlib.Core.Path.{_≡_, refl}']
     unfolded = list(dict.fromkeys(one for figure in figures for one in figure[4]))
-    for module in dict.fromkeys(NAMES[one] for one in unfolded if one in NAMES):
-        names = ', '.join(one for one in unfolded if NAMES.get(one) == module)
-        lines.append('use %s.{%s}' % (module if '.' in module else library(module, crate), names))
+    lines += imports(unfolded, crate)
     if any('fourHours' in figure[1] for figure in figures):
         lines.append('use %s.{fourHours}' % library('Parameters', crate))
-    for module in unfolded:
-        if module not in NAMES and definitions(module):
-            lines.append('use %s.{%s}' % (library(module, crate), ', '.join(definitions(module))))
     for worked in dict.fromkeys(figure[3] for figure in figures):
         names = [name.split()[-1] for figure in figures if figure[3] == worked for name in figure[1:3]]
         lines.append('use %s.{%s}' % (library(worked, crate), ', '.join(names)))
     for name, given, said, _, unfolds, comment in figures:
-        opened = ' '.join(definition for one in unfolds for definition in ([one] if one in NAMES else definitions(one)))
-        lines += ['', '-- ' + comment, 'pub %s : %s ≡ %s' % (name, given, said), 'unfolding ' + opened, '%s = refl' % name]
+        lines += ['', '-- ' + comment, 'pub %s : %s ≡ %s' % (name, given, said), 'unfolding ' + opened(unfolds), '%s = refl' % name]
     return '\n'.join(lines) + '\n'
 
 
-for crate, figures in FIGURES.items():
-    out = 'crates/%s/proofs/Figures.antt' % crate
-    text = figures_of(crate, figures)
+# §8: for each premise of the claim of secrecy two panels that are alike in all the others, in the order of `premises`
+PREMISES = 'neitherMeetsOne stationCounts outputCounts itsMark panelTimes itsRecord'.split()
+LEARNT = 'theSettings theRelaySettings theSlots theLastCommand theProcess theBinaryValue theBurningTime thePresentValue theProgressValue'.split()
+
+
+def needed():
+    crate = 'lighting_panel'
+    names = PREMISES + ['(learnt %s)' % what for what in LEARNT]
+    both = {'neitherMeetsOne': '(refl, refl)', 'itsMark': '(refl, refl)', '(learnt theRelaySettings)': 'λ timely. (refl, refl, refl)'}
+    lines = ['-- Made by tools/figures.py: §8, each premise of the claim of secrecy is needed. For each of them two panels',
+             '-- (WorkedSecrecy.antt) that are alike in all the others, and a string of kind 05 that they answer differently.',
+             'use mathlib.Core.Path.{refl}']
+    lines += imports(PANELS, crate)
+    lines.append('use %s.{%s}' % (library('Learnt', crate), ', '.join(LEARNT)))
+    lines.append('use %s.{Premise, %s, learnt, Needed}' % (library('Secrecy', crate), ', '.join(PREMISES)))
+    lines.append('use %s.{theOne, theOther, theString}' % library('WorkedSecrecy', crate))
+    lines.append('use Rattle.lighting_panel.proofs.Secrecy.{apart-answers}')
+    lines += ['', 'pub needed : (k : Premise) → Needed k', 'unfolding ' + opened(PANELS)]
+    for spared in names:
+        proofs = ['tt' if name == spared else both.get(name, 'λ timely. refl' if name.startswith('(') else 'refl') for name in names]
+        alike = 'tt'
+        for proof in reversed(proofs):
+            alike = '(%s, %s)' % (proof, alike)
+        lines.append('needed %s = record { one = theOne %s; other = theOther %s; string = theString %s; kind = refl; alike = %s; '
+                     'differ = apart-answers _ _ refl }' % (spared, spared, spared, spared, alike))
+    return '\n'.join(lines) + '\n'
+
+
+MADE = {'crates/%s/proofs/Figures.antt' % crate: figures_of(crate, figures) for crate, figures in FIGURES.items()}
+MADE['crates/lighting_panel/proofs/Needed.antt'] = needed()
+for out, text in MADE.items():
     if '--check' in sys.argv:
         # the layout is rt fmt's
         if not os.path.exists(out) or open(out).read().split() != text.split():

@@ -29,8 +29,9 @@ pub mod OldLists
 pub mod FourHours
 -- what an engineer would check by hand
 pub mod Consequences
--- the claim of secrecy (§8)
+-- the claim of secrecy, and that each of its premises is needed (§8)
 pub mod Secrecy
+pub mod Needed
 -- worked lists, computed
 pub mod Figures
 -- definitions by clauses, for proofs of code

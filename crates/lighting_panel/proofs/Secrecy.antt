@@ -1,7 +1,8 @@
 -- §8, THE CLAIM OF SECRECY: two panels that are alike in all that Secrecy.antt names give a tenant's kind 05 the
 -- same answer, EVERY string of bytes of that kind.
 use mathlib.Core.Path.{_≡_, refl, sym, ap, _∙_}
-use mathlib.Core.Bool.{Bool, true}
+use mathlib.Core.Logic.{_≢_}
+use mathlib.Core.Bool.{Bool, true, false, false≢true}
 use mathlib.Core.List.{List, map}
 use Prim.Native.Nat.{ℕ, _≤_, _<_}
 use native.Mathlib.Omega.{arith}
@@ -15,7 +16,8 @@ use Rattle.lighting_outputs.specs.Paper.Fresh.{freshOutput}
 use Rattle.lighting_outputs.specs.Paper.Tenants.{isTenant, forTenant}
 use Rattle.lighting_outputs.specs.Paper.Properties.{propertyOf, readProperty}
 use Rattle.lighting_outputs.specs.Paper.Acting.{unchanged, acted, served}
-use Rattle.lighting_outputs.specs.Paper.Learnt.{Learnt, AlikeIn}
+use Rattle.lighting_outputs.specs.Paper.Learnt.{Learnt, theSettings, theRelaySettings, theSlots, theLastCommand, theProcess, theBinaryValue, theBurningTime, thePresentValue, theProgressValue, AlikeIn}
+use Rattle.lighting_outputs.specs.Paper.Answers.{answerBytes}
 use Rattle.lighting_outputs.specs.declared.Output.{Output}
 use Rattle.lighting_outputs.specs.declared.Answer.{Answer}
 use Rattle.lighting_frames.specs.Paper.Kinds.{kindRow}
@@ -32,9 +34,10 @@ use Rattle.lighting_frames.specs.Paper.Copies.{sameBytes, retransmissionOrConfl
 use Rattle.lighting_panel.specs.Paper.Panel.{Panel, Step, result, countsSound, rulesKept, panelSound}
 use Rattle.lighting_panel.specs.Engine.Judging.{restored, judgedByNumber, judgedByRecord, stationOf, judgedByStation, decide}
 use Rattle.lighting_panel.specs.Engine.Executing.{execute, frameStep}
-use Rattle.lighting_panel.specs.Paper.Secrecy.{OfKind05, sender, moment, addressed, brought, Premise, neitherMeetsOne, stationCounts, outputCounts, itsMark, panelTimes, itsRecord, learnt, Alike, AlikeAsSaid}
+use Rattle.lighting_panel.specs.Paper.Secrecy.{OfKind05, sender, moment, addressed, brought, Premise, neitherMeetsOne, stationCounts, outputCounts, itsMark, panelTimes, itsRecord, learnt, Alike, AlikeAsSaid, premises, premiseNumber}
 use Rattle.lighting_levels.proofs.Split.{also-both, eq-of, by-bool, by-lt}
 use Rattle.lighting_outputs.proofs.Consequences.Tenants.{alike-reads}
+use Rattle.lighting_frames.proofs.Tagging.InTags.{same-self}
 use Rattle.lighting_panel.proofs.Carried.{frameStep-execute}
 use Rattle.lighting_panel.proofs.Consequences.Others.{at-map}
 
@@ -191,3 +194,26 @@ pub called-secret : (e e′ left left′ : Panel) (b : Bytes) (a a′ : Answer) 
     → result left a ≡ frameStep e b → result left′ a′ ≡ frameStep e′ b → a ≡ a′
 called-secret e e′ left left′ b a a′ kind alike call call′ =
     ap (λ (s : Step). s .answer) call ∙ secret e e′ b kind alike ∙ sym (ap (λ (s : Step). s .answer) call′)
+
+-- THE PREMISES ARE ALL THOSE OF THE ROW that proofs/Needed.antt goes through
+pub all-premises : (k : Premise) → getD premises (premiseNumber k) neitherMeetsOne ≡ k
+all-premises neitherMeetsOne = refl
+all-premises stationCounts = refl
+all-premises outputCounts = refl
+all-premises itsMark = refl
+all-premises panelTimes = refl
+all-premises itsRecord = refl
+all-premises (learnt theSettings) = refl
+all-premises (learnt theRelaySettings) = refl
+all-premises (learnt theSlots) = refl
+all-premises (learnt theLastCommand) = refl
+all-premises (learnt theProcess) = refl
+all-premises (learnt theBinaryValue) = refl
+all-premises (learnt theBurningTime) = refl
+all-premises (learnt thePresentValue) = refl
+all-premises (learnt theProgressValue) = refl
+
+-- answers whose bytes differ are different
+pub apart-answers : (a a′ : Answer) → sameBytes (answerBytes a) (answerBytes a′) ≡ false → a ≢ a′
+apart-answers a a′ differ same =
+    false≢true (sym differ ∙ ap (λ (x : Answer). sameBytes (answerBytes a) (answerBytes x)) (sym same) ∙ same-self (answerBytes a))

@@ -158,7 +158,7 @@ same-equal [] (y ∷ l) h = absurd (false≢true h)
 same-equal (x ∷ k) [] h = absurd (false≢true h)
 same-equal (x ∷ k) (y ∷ l) h = ap₂ (λ (z : ℕ) (m : Bytes). z ∷ m) (eq-of (also-both h .0)) (same-equal k l (also-both h .1))
 
-same-self : (k : Bytes) → sameBytes k k ≡ true
+pub same-self : (k : Bytes) → sameBytes k k ≡ true
 unfolding sameBytes
 same-self [] = refl
 same-self (x ∷ k) = also-yes (eqb-hit {a = x} refl) (same-self k)
