@@ -65,7 +65,9 @@ FIGURES = {
          '§7: longer fade times that neither panel takes'),
         ('longer-carried', 'carriedGiven', 'carriedSaid', 'WorkedFourHours', CARRIED,
          '§7: which frames carry a longer fade time'),
+        ('worked-tenants', 'tenantGiven', 'tenantSaid', 'WorkedTenantLists', LISTS, '§8 in a list'),
         ('two-panels', 'twoGiven', 'twoSaid', 'WorkedSecrecy', PANELS, '§8: two panels for each premise of the claim of secrecy'),
+        ('free-to-differ', 'freeGiven', 'freeSaid', 'WorkedSecrecy', PANELS, '§8: two panels that a tenant cannot tell apart'),
     ],
 }
 # names that unfold, and their module: what is no definition of ours, and lists
@@ -125,12 +127,13 @@ def needed():
     both = {'neitherMeetsOne': '(refl, refl)', 'itsMark': '(refl, refl)', '(learnt theRelaySettings)': 'λ timely. (refl, refl, refl)'}
     lines = ['-- Made by tools/figures.py: §8, each premise of the claim of secrecy is needed. For each of them two panels',
              '-- (WorkedSecrecy.antt) that are alike in all the others, and a string of kind 05 that they answer differently.',
-             'use mathlib.Core.Path.{refl}']
+             'use mathlib.Core.Path.{_≡_, refl}', 'use Prim.Native.Nat.{ℕ}']
     lines += imports(PANELS, crate)
     lines.append('use %s.{%s}' % (library('Learnt', crate), ', '.join(LEARNT)))
-    lines.append('use %s.{Premise, %s, learnt, Needed}' % (library('Secrecy', crate), ', '.join(PREMISES)))
-    lines.append('use %s.{theOne, theOther, theString}' % library('WorkedSecrecy', crate))
-    lines.append('use Rattle.lighting_panel.proofs.Secrecy.{apart-answers}')
+    lines.append('use %s.{Premise, %s, learnt, Alike, Needed}' % (library('Secrecy', crate), ', '.join(PREMISES)))
+    lines.append('use %s.{theOne, theOther, theString, quiet, busy}' % library('WorkedSecrecy', crate))
+    lines.append('use Rattle.lighting_panel.proofs.Secrecy.{secret, apart-answers}')
+    lines.append('use %s.{asked}' % library('Worked', crate))
     lines += ['', 'pub needed : (k : Premise) → Needed k', 'unfolding ' + opened(PANELS)]
     for spared in names:
         proofs = ['tt' if name == spared else both.get(name, 'λ timely. refl' if name.startswith('(') else 'refl') for name in names]
@@ -139,6 +142,12 @@ def needed():
             alike = '(%s, %s)' % (proof, alike)
         lines.append('needed %s = record { one = theOne %s; other = theOther %s; string = theString %s; kind = refl; alike = %s; '
                      'differ = apart-answers _ _ refl }' % (spared, spared, spared, spared, alike))
+    lines += ['', '-- two panels that are alike in all of them and differ in much else; so a tenant cannot tell them apart, whatever it reads',
+              'alike : (n : ℕ) (k : Premise) → Alike k quiet busy (asked 1 1 10000 0 n)', 'unfolding ' + opened(PANELS)]
+    for name in names:
+        lines.append('alike n %s = %s' % (name, both.get(name, 'λ timely. refl' if name.startswith('(') else 'refl')))
+    lines += ['', 'pub untold : (n : ℕ) → frameStep quiet (asked 1 1 10000 0 n) .answer ≡ frameStep busy (asked 1 1 10000 0 n) .answer',
+              'untold n = secret quiet busy (asked 1 1 10000 0 n) (unfold byteAt in refl) (alike n)']
     return '\n'.join(lines) + '\n'
 
 

@@ -1,6 +1,7 @@
 -- Made by tools/figures.py: §8, each premise of the claim of secrecy is needed. For each of them two panels
 -- (WorkedSecrecy.antt) that are alike in all the others, and a string of kind 05 that they answer differently.
-use mathlib.Core.Path.{refl}
+use mathlib.Core.Path.{_≡_, refl}
+use Prim.Native.Nat.{ℕ}
 use lib.Ieee.{toBits, round, ofBits}
 use lib.Bits.{bitAnd, bitOr}
 use Rattle.lighting_levels.specs.Paper.Choice.{if_then_else_, allFrom, every}
@@ -34,9 +35,10 @@ use Rattle.lighting_panel.specs.Paper.Panel.{countsSound, rulesKept, pan
 use Rattle.lighting_panel.specs.Engine.Judging.{padded, restored, judgedByNumber, judgedByRecord, stationOf, judgedByStation, decide}
 use Rattle.lighting_panel.specs.Engine.Executing.{execute, frameStep}
 use Rattle.lighting_outputs.specs.Paper.Learnt.{theSettings, theRelaySettings, theSlots, theLastCommand, theProcess, theBinaryValue, theBurningTime, thePresentValue, theProgressValue}
-use Rattle.lighting_panel.specs.Paper.Secrecy.{Premise, neitherMeetsOne, stationCounts, outputCounts, itsMark, panelTimes, itsRecord, learnt, Needed}
-use Rattle.lighting_panel.specs.Paper.WorkedSecrecy.{theOne, theOther, theString}
-use Rattle.lighting_panel.proofs.Secrecy.{apart-answers}
+use Rattle.lighting_panel.specs.Paper.Secrecy.{Premise, neitherMeetsOne, stationCounts, outputCounts, itsMark, panelTimes, itsRecord, learnt, Alike, Needed}
+use Rattle.lighting_panel.specs.Paper.WorkedSecrecy.{theOne, theOther, theString, quiet, busy}
+use Rattle.lighting_panel.proofs.Secrecy.{secret, apart-answers}
+use Rattle.lighting_panel.specs.Paper.Worked.{asked}
 
 pub needed : (k : Premise) → Needed k
 unfolding toBits round bitAnd bitOr ofBits if_then_else_ allFrom every real bits levelOf realOf readOut realFromTo amountOf limitOf inRange unitsOr amountUnits levelUnits view slotsOf firstLive winner isLive maskEmptied maskFilled levelSet put levelAt winningLevel clampLit presentValue distanceMoved reachedBy reached progressBy progressValue lit inProcess binaryAt switched relayState inactiveNotBelow withBurning withEffect withCommand withSettings litMilliseconds withBurned timerDue phaseEnd activityDue isDue timerAt emptiedBy expired endMovementOf endMovementBy endMovementOnExpiry delayed nextPhase nextActivity activityAt phaseSlots nextSlots slotsAt afterEvents fire tick ticks lastShort momentAfter goneAt countBefore countSince litFromZero litFromLight litAt litByPace litMoving litInMovement litResting litStretch sooner due burnedBy withBurnedSaturating fireDue eventStep eventSteps advance later endMovementUnlessAbove stored zeroOrEmpty zeroOrEmptyFrom blinks zeroOrEmptyAbove warnsBy warns firstLevel firstPhase warningFrom warnedBy warned endedEmpty endedStored writtenWarned writtenZero writtenCalm writtenBy written activityRelinquished slotRelinquished operationNumber fieldsOf durationField withoutWarning activityWithoutWarning replaced placed movement rampLength target fadedOver fadedTo rampedAt rampedTo jumped wentTo stepUpFrom stepDownFrom steppedUp steppedDown raised halted stopped relinquished effect timed commandedFrom commanded isTenant wholePercent shownLevel hidden answerBytes levelAnswered within isLevel isAmount isSlot isPriority meets numbered propertyOf same changeTo changeBy changeOf settingsWith relayWith endMovement activityWith burningWith changed minOverMax levelAnswer levelOrAbsent slotAnswer flag elapsedActive realAnswer realFieldAnswer timeFieldAnswer lastDuration readProperty freshSettings freshRelay freshWith freshFor freshOutput levelFieldRefusal amountFieldRefusal timeFieldRefusal firstRefusal fieldsRefusal commandLasting commandWithDuration commandRequestBy commandOf plainDuration commandRequest writeLevel writeOf emptyOf done unchanged changedUnless acted served byteAt bigEndian octets kindRow kindLength callsBy isCall fewestOctets fieldSize sizes fieldBytes bytesFrom tagBytes realTag wholeTag tagsOf commandTags zeroFilled taggedBody bodyBytes fieldIn fieldsFrom bodyFields zeroBeyond holdsAtMost wellTagged heldBy operationOf timeOf bothOrNeither fewest ownTags readFields readBody taggedRequest requestOf callOf called clockOf parseBy parse startable levelsSound timesSound realsSound settingsSound slotSound slotsSound spanSound movementSound warningBy warningSound activityBy activitySound timerSound agrees relaySound sound freshStation stationSound sameBytes retransmissionOrConflict countsSound rulesKept panelSound freshPanel startStep padded restored judgedByNumber judgedByRecord stationOf judgedByStation decide execute frameStep
@@ -55,3 +57,25 @@ needed (learnt theBinaryValue) = record { one = theOne (learnt theBinaryValue); 
 needed (learnt theBurningTime) = record { one = theOne (learnt theBurningTime); other = theOther (learnt theBurningTime); string = theString (learnt theBurningTime); kind = refl; alike = ((refl, refl), (refl, (refl, ((refl, refl), (refl, (refl, (λ timely. refl, (λ timely. (refl, refl, refl), (λ timely. refl, (λ timely. refl, (λ timely. refl, (λ timely. refl, (tt, (λ timely. refl, (λ timely. refl, tt))))))))))))))); differ = apart-answers _ _ refl }
 needed (learnt thePresentValue) = record { one = theOne (learnt thePresentValue); other = theOther (learnt thePresentValue); string = theString (learnt thePresentValue); kind = refl; alike = ((refl, refl), (refl, (refl, ((refl, refl), (refl, (refl, (λ timely. refl, (λ timely. (refl, refl, refl), (λ timely. refl, (λ timely. refl, (λ timely. refl, (λ timely. refl, (λ timely. refl, (tt, (λ timely. refl, tt))))))))))))))); differ = apart-answers _ _ refl }
 needed (learnt theProgressValue) = record { one = theOne (learnt theProgressValue); other = theOther (learnt theProgressValue); string = theString (learnt theProgressValue); kind = refl; alike = ((refl, refl), (refl, (refl, ((refl, refl), (refl, (refl, (λ timely. refl, (λ timely. (refl, refl, refl), (λ timely. refl, (λ timely. refl, (λ timely. refl, (λ timely. refl, (λ timely. refl, (λ timely. refl, (tt, tt))))))))))))))); differ = apart-answers _ _ refl }
+
+-- two panels that are alike in all of them and differ in much else; so a tenant cannot tell them apart, whatever it reads
+alike : (n : ℕ) (k : Premise) → Alike k quiet busy (asked 1 1 10000 0 n)
+unfolding toBits round bitAnd bitOr ofBits if_then_else_ allFrom every real bits levelOf realOf readOut realFromTo amountOf limitOf inRange unitsOr amountUnits levelUnits view slotsOf firstLive winner isLive maskEmptied maskFilled levelSet put levelAt winningLevel clampLit presentValue distanceMoved reachedBy reached progressBy progressValue lit inProcess binaryAt switched relayState inactiveNotBelow withBurning withEffect withCommand withSettings litMilliseconds withBurned timerDue phaseEnd activityDue isDue timerAt emptiedBy expired endMovementOf endMovementBy endMovementOnExpiry delayed nextPhase nextActivity activityAt phaseSlots nextSlots slotsAt afterEvents fire tick ticks lastShort momentAfter goneAt countBefore countSince litFromZero litFromLight litAt litByPace litMoving litInMovement litResting litStretch sooner due burnedBy withBurnedSaturating fireDue eventStep eventSteps advance later endMovementUnlessAbove stored zeroOrEmpty zeroOrEmptyFrom blinks zeroOrEmptyAbove warnsBy warns firstLevel firstPhase warningFrom warnedBy warned endedEmpty endedStored writtenWarned writtenZero writtenCalm writtenBy written activityRelinquished slotRelinquished operationNumber fieldsOf durationField withoutWarning activityWithoutWarning replaced placed movement rampLength target fadedOver fadedTo rampedAt rampedTo jumped wentTo stepUpFrom stepDownFrom steppedUp steppedDown raised halted stopped relinquished effect timed commandedFrom commanded isTenant wholePercent shownLevel hidden answerBytes levelAnswered within isLevel isAmount isSlot isPriority meets numbered propertyOf same changeTo changeBy changeOf settingsWith relayWith endMovement activityWith burningWith changed minOverMax levelAnswer levelOrAbsent slotAnswer flag elapsedActive realAnswer realFieldAnswer timeFieldAnswer lastDuration readProperty freshSettings freshRelay freshWith freshFor freshOutput levelFieldRefusal amountFieldRefusal timeFieldRefusal firstRefusal fieldsRefusal commandLasting commandWithDuration commandRequestBy commandOf plainDuration commandRequest writeLevel writeOf emptyOf done unchanged changedUnless acted served byteAt bigEndian octets kindRow kindLength callsBy isCall fewestOctets fieldSize sizes fieldBytes bytesFrom tagBytes realTag wholeTag tagsOf commandTags zeroFilled taggedBody bodyBytes fieldIn fieldsFrom bodyFields zeroBeyond holdsAtMost wellTagged heldBy operationOf timeOf bothOrNeither fewest ownTags readFields readBody taggedRequest requestOf callOf called clockOf parseBy parse startable levelsSound timesSound realsSound settingsSound slotSound slotsSound spanSound movementSound warningBy warningSound activityBy activitySound timerSound agrees relaySound sound freshStation stationSound sameBytes retransmissionOrConflict countsSound rulesKept panelSound freshPanel startStep padded restored judgedByNumber judgedByRecord stationOf judgedByStation decide execute frameStep
+alike n neitherMeetsOne = (refl, refl)
+alike n stationCounts = refl
+alike n outputCounts = refl
+alike n itsMark = (refl, refl)
+alike n panelTimes = refl
+alike n itsRecord = refl
+alike n (learnt theSettings) = λ timely. refl
+alike n (learnt theRelaySettings) = λ timely. (refl, refl, refl)
+alike n (learnt theSlots) = λ timely. refl
+alike n (learnt theLastCommand) = λ timely. refl
+alike n (learnt theProcess) = λ timely. refl
+alike n (learnt theBinaryValue) = λ timely. refl
+alike n (learnt theBurningTime) = λ timely. refl
+alike n (learnt thePresentValue) = λ timely. refl
+alike n (learnt theProgressValue) = λ timely. refl
+
+pub untold : (n : ℕ) → frameStep quiet (asked 1 1 10000 0 n) .answer ≡ frameStep busy (asked 1 1 10000 0 n) .answer
+untold n = secret quiet busy (asked 1 1 10000 0 n) (unfold byteAt in refl) (alike n)

@@ -23,7 +23,8 @@ pub mod WorkedHalfLists
 pub mod WorkedRules
 -- §6 by hand: which sets may be started, and frames at some
 pub mod WorkedSets
--- §8 by hand: two panels for each premise of the claim of secrecy
-pub mod WorkedSecrecy
 -- §7 by hand: fade times at the top, and lists with longer ones
 pub mod WorkedFourHours
+-- §8 by hand: a list with a tenant; two panels for each premise of the claim of secrecy
+pub mod WorkedTenantLists
+pub mod WorkedSecrecy

@@ -12,16 +12,17 @@ use Rattle.lighting_outputs.specs.Paper.Slots.{filled}
 use Rattle.lighting_outputs.specs.Paper.Fresh.{freshSettings, freshOutput}
 use Rattle.lighting_outputs.specs.Paper.Learnt.{Learnt, theSettings, theRelaySettings, theSlots, theLastCommand, theProcess, theBinaryValue, theBurningTime, thePresentValue, theProgressValue}
 use Rattle.lighting_outputs.specs.declared.Activity.{Activity}
-use Rattle.lighting_outputs.specs.declared.Activity.the-variants.{Still, Moving}
+use Rattle.lighting_outputs.specs.declared.Activity.the-variants.{Still, Moving, Warned}
 use Rattle.lighting_outputs.specs.declared.Answer.{Answer}
-use Rattle.lighting_outputs.specs.declared.Answer.the-variants.{Done, Value, Refused}
+use Rattle.lighting_outputs.specs.declared.Answer.the-variants.{Done, Value, Absent, Refused}
 use Rattle.lighting_outputs.specs.declared.Duration.the-variants.{Omitted}
 use Rattle.lighting_outputs.specs.declared.Operation.{Operation}
 use Rattle.lighting_outputs.specs.declared.Operation.the-variants.{Stop, StepUp}
 use Rattle.lighting_outputs.specs.declared.Output.{Output}
 use Rattle.lighting_outputs.specs.declared.Pace.the-variants.{Fade}
+use Rattle.lighting_outputs.specs.declared.Phase.the-variants.{Delay}
 use Rattle.lighting_outputs.specs.declared.Slots.{Slots}
-use Rattle.lighting_outputs.specs.declared.Timer.the-variants.{Off}
+use Rattle.lighting_outputs.specs.declared.Timer.the-variants.{Off, Running}
 use Rattle.lighting_frames.specs.Paper.Frames.{Bytes}
 use Rattle.lighting_frames.specs.Paper.Stations.{freshStation}
 use Rattle.lighting_frames.specs.declared.Station.{Station}
@@ -163,4 +164,60 @@ twoSaid =
     ∷ (Value 5 ∷ Value 6 ∷ [])
     ∷ (Value 0x423c_0000 ∷ Value 0x4240_0000 ∷ [])
     ∷ (Value 0x41a0_0000 ∷ Value 0x41f0_0000 ∷ [])
+    ∷ []
+
+-- WHAT IS FREE TO DIFFER: two panels of two outputs, whose station 1 is a tenant and station 2 is none. In the
+-- one slot 1 holds 47.25 percent; in the other a warning shows 47.75, a duration runs, the second output is lit,
+-- station 3 has sent a frame, the longest times are shorter and other stations are tenants
+abbrev pub quiet : Panel
+quiet =
+    panelAt 8 2 10000 0x0000_0002
+    (outputOf 1000 (filled (filled (freshOutput .slots) 0 3096576) 7 0) Still 5000 Stop false false ∷ freshOutput ∷ [])
+
+abbrev pub busy : Panel
+busy =
+    panelOf
+    (record {
+      settings = freshSettings 1000;
+      slots = filled (filled (freshOutput .slots) 5 3129344) 7 0;
+      activity = Warned (record { phase = Delay; owner = 7; level = 3129344; turn = 9000; over = 12000 });
+      timer = Running 3 20000;
+      burning = 5000;
+      last = record { operation = Stop; duration = Omitted };
+      relay = record { active = 3276800; inactive = 2949120; reverse = false; binary = false };
+    }
+    ∷ resting
+    ∷ [])
+    (set (replicate 8 freshStation) 3 fifth)
+    (record {
+      time = 10000;
+      parameters = record { stations = 8; outputs = 2; fade = 1000; duration = 100 };
+      tenants = 0xffff_fffa;
+    })
+
+-- each reads properties 0C, 0D, 0E and 21 to 28 of output 0: the tenant of the one and of the other, the service
+-- station of the one and of the other
+abbrev pub freeGiven : List (List Answer)
+freeGiven =
+    map
+    (λ (n : ℕ). frameStep quiet (asked 1 1 10000 0 n) .answer
+    ∷ frameStep busy (asked 1 1 10000 0 n) .answer
+    ∷ frameStep quiet (asked 2 1 10000 0 n) .answer
+    ∷ frameStep busy (asked 2 1 10000 0 n) .answer
+    ∷ [])
+    (0x0c ∷ 0x0d ∷ 0x0e ∷ 0x21 ∷ 0x22 ∷ 0x23 ∷ 0x24 ∷ 0x25 ∷ 0x26 ∷ 0x27 ∷ 0x28 ∷ [])
+
+abbrev pub freeSaid : List (List Answer)
+freeSaid =
+    (Value 0x423c_0000 ∷ Value 0x423c_0000 ∷ Value 0x423d_0000 ∷ Value 0x423f_0000 ∷ [])
+    ∷ (Value 0x423c_0000 ∷ Value 0x423c_0000 ∷ Value 0x423d_0000 ∷ Value 0x423f_0000 ∷ [])
+    ∷ (Value 0 ∷ Value 0 ∷ Value 0 ∷ Value 0 ∷ [])
+    ∷ (Absent ∷ Absent ∷ Value 0x423d_0000 ∷ Absent ∷ [])
+    ∷ replicate 4 Absent
+    ∷ replicate 4 Absent
+    ∷ replicate 4 Absent
+    ∷ replicate 4 Absent
+    ∷ (Absent ∷ Absent ∷ Absent ∷ Value 0x423f_0000 ∷ [])
+    ∷ replicate 4 Absent
+    ∷ replicate 4 (Value 0)
     ∷ []
