@@ -60,15 +60,19 @@ fn change(o: Output, n: Property, v: u32) -> Outcome
     )
 }
 
-pub fn act(t: u64, o: Output, q: OutputRequest) -> Outcome
+// The station's mark is asked by a read alone (§8).
+pub fn act(tenant: bool, t: u64, o: Output, q: OutputRequest) -> Outcome
     requires { ⌜ t < 2 ^ 48 ⌝ }
-    ensures { λ r. ⌜ r ≡ acted t o q ⌝ }
+    ensures { λ r. ⌜ r ≡ acted tenant t o q ⌝ }
 {
     match q {
         OutputRequest::Write { slot, level } => done(output_writing::write(t, o, slot, level)),
         OutputRequest::Empty { slot } => done(output_writing::relinquish_slot(o, slot)),
         OutputRequest::Change { property, value } => change(o, property, value),
-        OutputRequest::Read(property) => unchanged(o, property_read::read_property(t, o, property)),
+        OutputRequest::Read(property) => unchanged(
+            o,
+            property_read::read_property(tenant, t, o, property),
+        ),
         OutputRequest::Commands(k) => done(command_effect::command(t, o, k)),
     }
 }

@@ -1,5 +1,5 @@
 // The panel over what a caller lends: two tables, outputs and station records, and beside them the panel's
-// own record, which has the panel time and the set of parameters. The two public operations ask nothing of
+// own record, which has the panel time, the set of parameters and the marks. The two public operations ask nothing of
 // what is lent. The contract of each is one equation: all that it leaves of what is lent, and its answer, are
 // what `startStep` and `frameStep` say.
 ghost use mathlib.Core.Path.{_≡_};
@@ -32,7 +32,14 @@ fn arrive(
     let moment = call.time;
     panel_tables::advance_outputs(outputs, from, moment);
     let request = call.request;
-    let answer = panel_tables::serve(outputs, moment, number_ranges::index(call.output), request);
+    let tenant = tenant_view::is_tenant(panel_record::tenants_of(before), call.station);
+    let answer = panel_tables::serve(
+        outputs,
+        tenant,
+        moment,
+        number_ranges::index(call.output),
+        request,
+    );
     let record = station_frame::station_record(answer, call.number, bytes);
     let at = number_ranges::index(call.station);
     stations[at] = record;
@@ -68,14 +75,16 @@ fn execute(
     }
 }
 
-// Writes every lent record fresh, keeps the set and answers Done; or meets 17 by the set, or 1 by its counts.
+// Writes every lent record fresh, keeps the set and the marks and answers Done; or meets 17 by the set, or 1
+// by its counts. No mark is refused.
 pub fn start(
     outputs: &mut [Output],
     stations: &mut [Station],
     kept: &mut PanelRecord,
     parameters: Parameters,
+    tenants: u32,
 ) -> Answer
-    ensures { λ a. ⌜ result (panelOf (now (outputs .exit)) (now (stations .exit)) (now (kept .exit))) a ≡ startStep parameters (panelOf (now (outputs .entry)) (now (stations .entry)) (now (kept .entry))) ⌝ }
+    ensures { λ a. ⌜ result (panelOf (now (outputs .exit)) (now (stations .exit)) (now (kept .exit))) a ≡ startStep parameters tenants (panelOf (now (outputs .entry)) (now (stations .entry)) (now (kept .entry))) ⌝ }
 {
     if !panel_record::is_startable(parameters) {
         return Answer::Refused(17);
@@ -85,7 +94,7 @@ pub fn start(
     }
     panel_tables::fresh_outputs(outputs, parameters);
     panel_tables::fresh_stations(stations);
-    let record = panel_record::fresh_record(parameters);
+    let record = panel_record::fresh_record(parameters, tenants);
     *kept = record;
     Answer::Done
 }

@@ -1,5 +1,5 @@
-// The panel's own record, which is lent beside its two tables, by value; and the set of parameters that it
-// keeps.
+// The panel's own record, which is lent beside its two tables, by value; and the set of parameters and the
+// marks that it keeps.
 ghost use mathlib.Core.Path.{_≡_};
 ghost use Rattle.lighting_outputs.specs.Paper.Parameters.{fourHours};
 ghost use Rattle.lighting_outputs.specs.Paper.Startable.{startable};
@@ -48,12 +48,14 @@ pub fn is_startable(parameters: Parameters) -> bool
 
 // ---- the record
 
-pub fn fresh_record(parameters: Parameters) -> PanelRecord
-    ensures { λ r. ⌜ r ≡ freshRecord parameters ⌝ }
+// The marks are kept as they are given.
+pub fn fresh_record(parameters: Parameters, tenants: u32) -> PanelRecord
+    ensures { λ r. ⌜ r ≡ freshRecord parameters tenants ⌝ }
 {
     PanelRecord {
         time: 0,
         parameters: parameters,
+        tenants: tenants,
     }
 }
 
@@ -67,6 +69,12 @@ pub fn parameters_of(kept: PanelRecord) -> Parameters
     ensures { λ r. ⌜ r ≡ kept .parameters ⌝ }
 {
     kept.parameters
+}
+
+pub fn tenants_of(kept: PanelRecord) -> u32
+    ensures { λ r. ⌜ r ≡ kept .tenants ⌝ }
+{
+    kept.tenants
 }
 
 // Written in place: it names no other field.

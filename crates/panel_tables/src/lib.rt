@@ -96,28 +96,34 @@ pub fn advance_outputs(outputs: &mut [Output], from: u64, to: u64)
 // ---- one record of a table
 
 // A request to one output: the output is taken out, acted on, and put back.
-fn serve_output(outputs: &mut [Output], time: u64, at: usize, request: OutputRequest) -> Answer
+fn serve_output(
+    outputs: &mut [Output],
+    tenant: bool,
+    time: u64,
+    at: usize,
+    request: OutputRequest,
+) -> Answer
     requires { ⌜ time < 2 ^ 48 ⌝ }
     requires { ⌜ at < length (now outputs) ⌝ }
-    ensures { λ a. ⌜ a ≡ served time (now (outputs .entry)) at (Request.ToOutput request) .answer ⌝ }
-    ensures { λ _. ⌜ now (outputs .exit) ≡ served time (now (outputs .entry)) at (Request.ToOutput request) .outputs ⌝ }
+    ensures { λ a. ⌜ a ≡ served tenant time (now (outputs .entry)) at (Request.ToOutput request) .answer ⌝ }
+    ensures { λ _. ⌜ now (outputs .exit) ≡ served tenant time (now (outputs .entry)) at (Request.ToOutput request) .outputs ⌝ }
 {
     let o = outputs[at];
-    let done = output_acting::act(time, o, request);
+    let done = output_acting::act(tenant, time, o, request);
     let n = output_acting::outcome_output(done);
     outputs[at] = n;
     output_acting::outcome_answer(done)
 }
 
-// Any request: one that its fields refuse touches no output.
-pub fn serve(outputs: &mut [Output], time: u64, at: usize, request: Request) -> Answer
+// Any request, of a tenant or of a service station: one that its fields refuse touches no output.
+pub fn serve(outputs: &mut [Output], tenant: bool, time: u64, at: usize, request: Request) -> Answer
     requires { ⌜ time < 2 ^ 48 ⌝ }
     requires { ⌜ at < length (now outputs) ⌝ }
-    ensures { λ a. ⌜ a ≡ served time (now (outputs .entry)) at request .answer ⌝ }
-    ensures { λ _. ⌜ now (outputs .exit) ≡ served time (now (outputs .entry)) at request .outputs ⌝ }
+    ensures { λ a. ⌜ a ≡ served tenant time (now (outputs .entry)) at request .answer ⌝ }
+    ensures { λ _. ⌜ now (outputs .exit) ≡ served tenant time (now (outputs .entry)) at request .outputs ⌝ }
 {
     match request {
         Request::Refuse(number) => Answer::Refused(number),
-        Request::ToOutput(asked) => serve_output(outputs, time, at, asked),
+        Request::ToOutput(asked) => serve_output(outputs, tenant, time, at, asked),
     }
 }

@@ -1,6 +1,8 @@
 // What the properties read as. Levels read out as REALs, and the last command's REALs as they were written.
 ghost use mathlib.Core.Path.{_≡_};
 ghost use Prim.Native.Nat.{_+_};
+ghost use Rattle.lighting_levels.specs.Paper.Choice.{if_then_else_};
+ghost use Rattle.lighting_outputs.specs.Paper.Tenants.{shownLevel, hidden};
 ghost use Rattle.lighting_outputs.specs.Paper.Properties.{levelAnswer, slotAnswer, flag, elapsedActive, realAnswer, realFieldAnswer, timeFieldAnswer, lastDuration, readProperty};
 use lighting_outputs::Answer;
 use lighting_outputs::Duration;
@@ -16,6 +18,13 @@ fn level_answer(v: u32) -> Answer
     Answer::Value(number_level::read_out(v))
 }
 
+// A level that a tenant reads in whole percent.
+fn shown_answer(tenant: bool, v: u32) -> Answer
+    ensures { λ r. ⌜ r ≡ levelAnswer (shownLevel tenant v) ⌝ }
+{
+    level_answer(tenant_view::shown_level(tenant, v))
+}
+
 // A slot that is not live is absent.
 fn slot_answer(s: Slots, i: u8) -> Answer
     ensures { λ r. ⌜ r ≡ slotAnswer s i ⌝ }
@@ -24,6 +33,17 @@ fn slot_answer(s: Slots, i: u8) -> Answer
         level_answer(output_slots::level_at(0, s, i as u32))
     } else {
         Answer::Absent
+    }
+}
+
+// To a tenant slots 1 to 6 are absent, live or not.
+fn unhidden_answer(tenant: bool, s: Slots, i: u8) -> Answer
+    ensures { λ r. ⌜ r ≡ (if hidden tenant i then Answer.Absent else slotAnswer s i) ⌝ }
+{
+    if tenant_view::is_hidden(tenant, i) {
+        Answer::Absent
+    } else {
+        slot_answer(s, i)
     }
 }
 
@@ -88,9 +108,9 @@ fn last_duration(d: Duration) -> Answer
     }
 }
 
-// Kind 05, a read: what a property reads as at the time t.
-pub fn read_property(t: u64, o: Output, p: Property) -> Answer
-    ensures { λ r. ⌜ r ≡ readProperty t o p ⌝ }
+// Kind 05, a read: what a property reads as at the time t, to a tenant or to a service station (§8).
+pub fn read_property(tenant: bool, t: u64, o: Output, p: Property) -> Answer
+    ensures { λ r. ⌜ r ≡ readProperty tenant t o p ⌝ }
 {
     let settings = o.settings;
     let slots = o.slots;
@@ -116,8 +136,11 @@ pub fn read_property(t: u64, o: Output, p: Property) -> Answer
         Property::MaxValue => level_answer(settings.max),
         Property::CommandPriority => Answer::Value(priority(settings.slot)),
         Property::ElapsedActiveTime => Answer::Value(elapsed_active(o.burning)),
-        Property::PresentValue => level_answer(output_value::present_value(settings, slots)),
-        Property::ProgressValue => level_answer(output_value::progress_value(t, o)),
+        Property::PresentValue => shown_answer(
+            tenant,
+            output_value::present_value(settings, slots),
+        ),
+        Property::ProgressValue => shown_answer(tenant, output_value::progress_value(t, o)),
         Property::InProcess => Answer::Value(output_value::in_process(activity)),
         Property::LastOperation => Answer::Value(command_operations::operation_number(operation)),
         Property::LastLevel => real_field_answer(level),
@@ -130,7 +153,7 @@ pub fn read_property(t: u64, o: Output, p: Property) -> Answer
         Property::Polarity => Answer::Value(flag(relay.reverse)),
         Property::BinaryPresentValue => Answer::Value(flag(relay.binary)),
         Property::RelayState => Answer::Value(flag(output_relay::relay_state(relay))),
-        Property::SlotValue(i) => slot_answer(slots, i),
+        Property::SlotValue(i) => unhidden_answer(tenant, slots, i),
         Property::Unknown => Answer::Refused(9),
     }
 }

@@ -25,6 +25,8 @@ pub record Timely (now t : ℕ) : Type 0 where
 pub record Arrival (now c k : ℕ) (b : Bytes) (call : Call) : Type 0 where
   pub moment : Timely now (call .time)
   pub station : call .station < k
+  -- its mark is one of the word's 32 bits (§8)
+  pub mark : call .station < 32
   pub output : call .output < c
   pub size : length b ≤ longestFrame
 

@@ -11,7 +11,7 @@ shl-result c = search needs
 
 returns : tie.Need-returns
 unfolding isLive
-returns c = tested (c .before .before .args .s .live) (c .before .before .args .i) (c .before .if1 .taken)
+returns c = tested 16 (c .before .before .args .s .live) (c .before .before .args .i) (c .before .if1 .taken)
 
 returns-2 : tie.Need-returns-2
 unfolding isLive

@@ -11,7 +11,7 @@ shl-result c = search needs
 
 returns : tie.Need-returns
 unfolding maskEmptied
-returns c = rw (shifted (c .before .args .i) (c .if1 .taken)) (search (needs, ifs))
+returns c = rw (shifted 16 (c .before .args .i) (c .if1 .taken)) (search (needs, ifs))
 
 returns-2 : tie.Need-returns-2
 unfolding maskEmptied

@@ -23,8 +23,8 @@ unfolding served
 returns c =
     let a = c .before .before .before .args in
     let e = c .before .request .given .1 in (
-      sym (ap (λ (r : Request). served (a .time) (a .outputs .now) (a .at) r .answer) e),
-      sym (ap (λ (r : Request). served (a .time) (a .outputs .now) (a .at) r .outputs) e),
+      sym (ap (λ (r : Request). served (a .tenant) (a .time) (a .outputs .now) (a .at) r .answer) e),
+      sym (ap (λ (r : Request). served (a .tenant) (a .time) (a .outputs .now) (a .at) r .outputs) e),
     )
 
 same-length : tie.Need-same-length
@@ -35,8 +35,8 @@ returns-2 c =
     let a = c .before .before .before .before .before .before .args in
     let e = c .before .before .before .before .request2 .given .1 in
     let done = c .before .serve-output .ensures in (
-      done .0 ∙ sym (ap (λ (r : Request). served (a .time) (a .outputs .now) (a .at) r .answer) e),
-      done .1 ∙ sym (ap (λ (r : Request). served (a .time) (a .outputs .now) (a .at) r .outputs) e),
+      done .0 ∙ sym (ap (λ (r : Request). served (a .tenant) (a .time) (a .outputs .now) (a .at) r .answer) e),
+      done .1 ∙ sym (ap (λ (r : Request). served (a .tenant) (a .time) (a .outputs .now) (a .at) r .outputs) e),
     )
 
 pub serve-spec : {M : Type 1} → statement M

@@ -71,8 +71,8 @@ enum-told-12 c = search needs
 present-value-requires : tie.Need-present-value-requires
 present-value-requires c κs = search needs
 
-level-answer-requires-4 : tie.Need-level-answer-requires-4
-level-answer-requires-4 c κs = search needs
+shown-answer-requires : tie.Need-shown-answer-requires
+shown-answer-requires c κs = search needs
 
 enum-told-13 : tie.Need-enum-told-13
 enum-told-13 c = search needs
@@ -80,8 +80,8 @@ enum-told-13 c = search needs
 progress-value-requires : tie.Need-progress-value-requires
 progress-value-requires c κs = search needs
 
-level-answer-requires-5 : tie.Need-level-answer-requires-5
-level-answer-requires-5 c κs = search needs
+shown-answer-requires-2 : tie.Need-shown-answer-requires-2
+shown-answer-requires-2 c κs = search needs
 
 enum-told-14 : tie.Need-enum-told-14
 enum-told-14 c = search needs
@@ -128,14 +128,14 @@ last-duration-requires c κs = search needs
 enum-told-21 : tie.Need-enum-told-21
 enum-told-21 c = search needs
 
-level-answer-requires-6 : tie.Need-level-answer-requires-6
-level-answer-requires-6 c κs = search needs
+level-answer-requires-4 : tie.Need-level-answer-requires-4
+level-answer-requires-4 c κs = search needs
 
 enum-told-22 : tie.Need-enum-told-22
 enum-told-22 c = search needs
 
-level-answer-requires-7 : tie.Need-level-answer-requires-7
-level-answer-requires-7 c κs = search needs
+level-answer-requires-5 : tie.Need-level-answer-requires-5
+level-answer-requires-5 c κs = search needs
 
 enum-told-23 : tie.Need-enum-told-23
 enum-told-23 c = search needs
@@ -161,8 +161,8 @@ flag-requires-4 c κs = search needs
 enum-known-p : tie.Need-enum-known-p
 enum-known-p c = search needs
 
-slot-answer-requires : tie.Need-slot-answer-requires
-slot-answer-requires c κs = search needs
+unhidden-answer-requires : tie.Need-unhidden-answer-requires
+unhidden-answer-requires c κs = search needs
 
 enum-told-26 : tie.Need-enum-told-26
 enum-told-26 c = search needs
@@ -301,10 +301,10 @@ read-property-spec =
     elapsed-active-requires
     enum-told-12
     present-value-requires
-    level-answer-requires-4
+    shown-answer-requires
     enum-told-13
     progress-value-requires
-    level-answer-requires-5
+    shown-answer-requires-2
     enum-told-14
     in-process-requires
     enum-told-15
@@ -320,9 +320,9 @@ read-property-spec =
     enum-told-20
     last-duration-requires
     enum-told-21
-    level-answer-requires-6
+    level-answer-requires-4
     enum-told-22
-    level-answer-requires-7
+    level-answer-requires-5
     enum-told-23
     flag-requires-2
     enum-told-24
@@ -331,7 +331,7 @@ read-property-spec =
     relay-state-requires
     flag-requires-4
     enum-known-p
-    slot-answer-requires
+    unhidden-answer-requires
     enum-told-26
     returns
     returns-2

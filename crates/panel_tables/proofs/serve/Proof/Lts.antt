@@ -19,6 +19,7 @@ use borrow.Fn.Frame
 use borrow.Fn.Function
 use borrow.Fn.Kinds
 use borrow.Fn.Plain
+use borrow.Kind.Bool
 use borrow.Kind.MutSlice
 use borrow.Kind.Num
 use borrow.Kind.Value
@@ -60,7 +61,7 @@ use types.Kit
 use types.Run
 
 abbrev pub ps : List.List (Kinds.PK 1)
-ps = List._∷_ (MutSlice.pMutS (OfOutput.row) 0 tt) (List._∷_ (Num.pNum Syntax.w64) (List._∷_ (Num.pNum Syntax.w64) (List._∷_ (Value.pVal record { ty = Declared.row Request.the-type; one = Path'.refl; val = Laws'3.val Request.the-type Laws''.the-laws; tells = Laws'3.tells Request.the-type Laws''.the-laws; still = Laws'3.still Request.the-type Laws''.the-copy Exit.yes; row = Rows.whole (Declared.row Request.the-type); rd = λ x. x; mk = λ x. x } λ M 𝓤 H A W. record { copies = Laws'3.copy Request.the-type Laws''.the-copy 𝓤 H A W; lawful = Laws'3.lawful Request.the-type Laws''.the-laws 𝓤 H A W tt; makes = Laws'3.makes Request.the-type Laws''.the-plain 𝓤 H A; in-mem = Local.mem-whole 𝓤 H A W (Declared.row Request.the-type); of-mem = Local.whole-mem 𝓤 H A W (Declared.row Request.the-type) }) List.[])))
+ps = List._∷_ (MutSlice.pMutS (OfOutput.row) 0 tt) (List._∷_ Bool.pBool (List._∷_ (Num.pNum Syntax.w64) (List._∷_ (Num.pNum Syntax.w64) (List._∷_ (Value.pVal record { ty = Declared.row Request.the-type; one = Path'.refl; val = Laws'3.val Request.the-type Laws''.the-laws; tells = Laws'3.tells Request.the-type Laws''.the-laws; still = Laws'3.still Request.the-type Laws''.the-copy Exit.yes; row = Rows.whole (Declared.row Request.the-type); rd = λ x. x; mk = λ x. x } λ M 𝓤 H A W. record { copies = Laws'3.copy Request.the-type Laws''.the-copy 𝓤 H A W; lawful = Laws'3.lawful Request.the-type Laws''.the-laws 𝓤 H A W tt; makes = Laws'3.makes Request.the-type Laws''.the-plain 𝓤 H A; in-mem = Local.mem-whole 𝓤 H A W (Declared.row Request.the-type); of-mem = Local.whole-mem 𝓤 H A W (Declared.row Request.the-type) }) List.[]))))
 
 abbrev pub r : Kinds.RK 1
 r = Value.rVal record { ty = Declared.row Answer.the-type; one = Path'.refl; val = Laws'3.val Answer.the-type Laws.the-laws; tells = Laws'3.tells Answer.the-type Laws.the-laws; still = Laws'3.still Answer.the-type Laws.the-copy Exit.yes; row = Rows.whole (Declared.row Answer.the-type); rd = λ x. x; mk = λ x. x } λ M 𝓤 H A W. record { copies = Laws'3.copy Answer.the-type Laws.the-copy 𝓤 H A W; lawful = Laws'3.lawful Answer.the-type Laws.the-laws 𝓤 H A W tt; makes = Laws'3.makes Answer.the-type Laws.the-plain 𝓤 H A; in-mem = Local.mem-whole 𝓤 H A W (Declared.row Answer.the-type); of-mem = Local.whole-mem 𝓤 H A W (Declared.row Answer.the-type) }
@@ -72,34 +73,34 @@ abbrev pub m : Nat.ℕ
 m = 1
 
 abbrev pub ps·0 : List.List (Kinds.PK 1)
-ps·0 = List._∷_ (MutSlice.pMutS (OfOutput.row) 0 tt) (List._∷_ (Num.pNum Syntax.w64) (List._∷_ (Num.pNum Syntax.w64) (List._∷_ (Value.pVal record { ty = Declared.row OutputRequest.the-type; one = Path'.refl; val = Laws'3.val OutputRequest.the-type Laws'.the-laws; tells = Laws'3.tells OutputRequest.the-type Laws'.the-laws; still = Laws'3.still OutputRequest.the-type Laws'.the-copy Exit.yes; row = Rows.whole (Declared.row OutputRequest.the-type); rd = λ x. x; mk = λ x. x } λ M 𝓤 H A W. record { copies = Laws'3.copy OutputRequest.the-type Laws'.the-copy 𝓤 H A W; lawful = Laws'3.lawful OutputRequest.the-type Laws'.the-laws 𝓤 H A W tt; makes = Laws'3.makes OutputRequest.the-type Laws'.the-plain 𝓤 H A; in-mem = Local.mem-whole 𝓤 H A W (Declared.row OutputRequest.the-type); of-mem = Local.whole-mem 𝓤 H A W (Declared.row OutputRequest.the-type) }) List.[])))
+ps·0 = List._∷_ (MutSlice.pMutS (OfOutput.row) 0 tt) (List._∷_ Bool.pBool (List._∷_ (Num.pNum Syntax.w64) (List._∷_ (Num.pNum Syntax.w64) (List._∷_ (Value.pVal record { ty = Declared.row OutputRequest.the-type; one = Path'.refl; val = Laws'3.val OutputRequest.the-type Laws'.the-laws; tells = Laws'3.tells OutputRequest.the-type Laws'.the-laws; still = Laws'3.still OutputRequest.the-type Laws'.the-copy Exit.yes; row = Rows.whole (Declared.row OutputRequest.the-type); rd = λ x. x; mk = λ x. x } λ M 𝓤 H A W. record { copies = Laws'3.copy OutputRequest.the-type Laws'.the-copy 𝓤 H A W; lawful = Laws'3.lawful OutputRequest.the-type Laws'.the-laws 𝓤 H A W tt; makes = Laws'3.makes OutputRequest.the-type Laws'.the-plain 𝓤 H A; in-mem = Local.mem-whole 𝓤 H A W (Declared.row OutputRequest.the-type); of-mem = Local.whole-mem 𝓤 H A W (Declared.row OutputRequest.the-type) }) List.[]))))
 
 abbrev pub r·0 : Kinds.RK 1
 r·0 = Value.rVal record { ty = Declared.row Answer.the-type; one = Path'.refl; val = Laws'3.val Answer.the-type Laws.the-laws; tells = Laws'3.tells Answer.the-type Laws.the-laws; still = Laws'3.still Answer.the-type Laws.the-copy Exit.yes; row = Rows.whole (Declared.row Answer.the-type); rd = λ x. x; mk = λ x. x } λ M 𝓤 H A W. record { copies = Laws'3.copy Answer.the-type Laws.the-copy 𝓤 H A W; lawful = Laws'3.lawful Answer.the-type Laws.the-laws 𝓤 H A W tt; makes = Laws'3.makes Answer.the-type Laws.the-plain 𝓤 H A; in-mem = Local.mem-whole 𝓤 H A W (Declared.row Answer.the-type); of-mem = Local.whole-mem 𝓤 H A W (Declared.row Answer.the-type) }
 
 abbrev pub hs : List.List Syntax.Home
-hs = List._∷_ Syntax.valueLocal (List._∷_ Syntax.valueLocal (List._∷_ Syntax.valueLocal (List._∷_ Syntax.valueLocal (List._∷_ Syntax.valueLocal (List._∷_ Syntax.valueLocal (List._∷_ Syntax.valueLocal (List._∷_ Syntax.valueLocal (List._∷_ Syntax.valueLocal (List._∷_ Syntax.valueLocal List.[])))))))))
+hs = List._∷_ Syntax.valueLocal (List._∷_ Syntax.valueLocal (List._∷_ Syntax.valueLocal (List._∷_ Syntax.valueLocal (List._∷_ Syntax.valueLocal (List._∷_ Syntax.valueLocal (List._∷_ Syntax.valueLocal (List._∷_ Syntax.valueLocal (List._∷_ Syntax.valueLocal (List._∷_ Syntax.valueLocal (List._∷_ Syntax.valueLocal List.[]))))))))))
 
 abbrev b0 : Syntax.Body
-b0 = Syntax.assign (Syntax.place 5 List.[]) (Syntax.rvOpd (Syntax.copy (Syntax.place 4 (List._∷_ (Syntax.variant 0) (List._∷_ (Syntax.field 1) List.[])))))
+b0 = Syntax.assign (Syntax.place 6 List.[]) (Syntax.rvOpd (Syntax.copy (Syntax.place 5 (List._∷_ (Syntax.variant 0) (List._∷_ (Syntax.field 1) List.[])))))
 
 abbrev b1 : Syntax.Body
-b1 = Syntax.assign (Syntax.place 7 List.[]) (Syntax.aggregate (List._∷_ (Syntax.int Syntax.w8 3) (List._∷_ (Syntax.copy (Syntax.place 5 List.[])) List.[])))
+b1 = Syntax.assign (Syntax.place 8 List.[]) (Syntax.aggregate (List._∷_ (Syntax.int Syntax.w8 3) (List._∷_ (Syntax.copy (Syntax.place 6 List.[])) List.[])))
 
 abbrev b2 : Syntax.Body
 b2 = Syntax.seq b0 b1
 
 abbrev b3 : Syntax.Body
-b3 = Syntax.assign (Syntax.place 6 List.[]) (Syntax.rvOpd (Syntax.copy (Syntax.place 4 (List._∷_ (Syntax.variant 1) (List._∷_ (Syntax.field 1) List.[])))))
+b3 = Syntax.assign (Syntax.place 7 List.[]) (Syntax.rvOpd (Syntax.copy (Syntax.place 5 (List._∷_ (Syntax.variant 1) (List._∷_ (Syntax.field 1) List.[])))))
 
 abbrev b4 : Syntax.Body
-b4 = Syntax.assign (Syntax.place 8 List.[]) (Syntax.addrOf (Syntax.place 1 (List._∷_ (Syntax.field 0) (List._∷_ (Syntax.deref OfOutput.spelt) List.[]))))
+b4 = Syntax.assign (Syntax.place 9 List.[]) (Syntax.addrOf (Syntax.place 1 (List._∷_ (Syntax.field 0) (List._∷_ (Syntax.deref OfOutput.spelt) List.[]))))
 
 abbrev b5 : Syntax.Body
-b5 = Syntax.assign (Syntax.place 9 List.[]) (Syntax.aggregate (List._∷_ (Syntax.copy (Syntax.place 8 List.[])) (List._∷_ (Syntax.copy (Syntax.place 1 (List._∷_ (Syntax.field 1) List.[]))) List.[])))
+b5 = Syntax.assign (Syntax.place 10 List.[]) (Syntax.aggregate (List._∷_ (Syntax.copy (Syntax.place 9 List.[])) (List._∷_ (Syntax.copy (Syntax.place 1 (List._∷_ (Syntax.field 1) List.[]))) List.[])))
 
 abbrev b6 : Syntax.Body
-b6 = Syntax.call "panel_tables::serve_output" (List._∷_ (Syntax.copy (Syntax.place 9 List.[])) (List._∷_ (Syntax.copy (Syntax.place 2 List.[])) (List._∷_ (Syntax.copy (Syntax.place 3 List.[])) (List._∷_ (Syntax.copy (Syntax.place 6 List.[])) List.[])))) (Syntax.place 7 List.[])
+b6 = Syntax.call "panel_tables::serve_output" (List._∷_ (Syntax.copy (Syntax.place 10 List.[])) (List._∷_ (Syntax.copy (Syntax.place 2 List.[])) (List._∷_ (Syntax.copy (Syntax.place 3 List.[])) (List._∷_ (Syntax.copy (Syntax.place 4 List.[])) (List._∷_ (Syntax.copy (Syntax.place 7 List.[])) List.[]))))) (Syntax.place 8 List.[])
 
 abbrev b7 : Syntax.Body
 b7 = Syntax.seq b5 b6
@@ -111,10 +112,10 @@ abbrev b9 : Syntax.Body
 b9 = Syntax.seq b3 b8
 
 abbrev b10 : Syntax.Body
-b10 = Syntax.switch (Syntax.copy (Syntax.place 4 (List._∷_ (Syntax.variant 0) (List._∷_ (Syntax.field 0) List.[])))) (Syntax.arm (List._∷_ 0 List.[]) b2 (Syntax.arm (List._∷_ 1 List.[]) b9 Syntax.noDefault))
+b10 = Syntax.switch (Syntax.copy (Syntax.place 5 (List._∷_ (Syntax.variant 0) (List._∷_ (Syntax.field 0) List.[])))) (Syntax.arm (List._∷_ 0 List.[]) b2 (Syntax.arm (List._∷_ 1 List.[]) b9 Syntax.noDefault))
 
 abbrev b11 : Syntax.Body
-b11 = Syntax.assign (Syntax.place 0 List.[]) (Syntax.rvOpd (Syntax.copy (Syntax.place 7 List.[])))
+b11 = Syntax.assign (Syntax.place 0 List.[]) (Syntax.rvOpd (Syntax.copy (Syntax.place 8 List.[])))
 
 abbrev b12 : Syntax.Body
 b12 = Syntax.return
@@ -132,55 +133,58 @@ abbrev pub Claims : Type 1
 Claims = Kinds.In 1 ps·0 × Kinds.Out 1 ps·0 r·0
 
 abbrev pub t0 : List.List Row.Entry
-t0 = List._∷_ (0, Rows.any-gone (Laws.mir)) (List._∷_ (1, Mut.mslice (OfOutput.row) (Syntax.tyRef (Syntax.named 0) Syntax.mut OfOutput.named) 0) (List._∷_ (2, Rows.sc-here (Row.sInt Syntax.w64)) (List._∷_ (3, Rows.sc-here (Row.sInt Syntax.w64)) (List._∷_ (4, Rows.whole (Declared.row Request.the-type)) (List._∷_ (5, Rows.any-gone (Syntax.tyInt Syntax.w8)) (List._∷_ (6, Rows.any-gone (Laws'.mir)) (List._∷_ (7, Rows.any-gone (Laws.mir)) (List._∷_ (8, Rows.any-gone (Syntax.tyRef Syntax.erased Syntax.mut OfOutput.named)) (List._∷_ (9, Rows.any-gone (Syntax.tyStruct (List._∷_ 38 (List._∷_ 91 (List._∷_ 93 List.[]))) (Syntax.tcons (Syntax.tyRef Syntax.erased Syntax.mut OfOutput.named) (Syntax.tcons (Syntax.tyInt Syntax.w64) Syntax.tnil)))) List.[])))))))))
+t0 = List._∷_ (0, Rows.any-gone (Laws.mir)) (List._∷_ (1, Mut.mslice (OfOutput.row) (Syntax.tyRef (Syntax.named 0) Syntax.mut OfOutput.named) 0) (List._∷_ (2, Rows.sc-here Row.sBool) (List._∷_ (3, Rows.sc-here (Row.sInt Syntax.w64)) (List._∷_ (4, Rows.sc-here (Row.sInt Syntax.w64)) (List._∷_ (5, Rows.whole (Declared.row Request.the-type)) (List._∷_ (6, Rows.any-gone (Syntax.tyInt Syntax.w8)) (List._∷_ (7, Rows.any-gone (Laws'.mir)) (List._∷_ (8, Rows.any-gone (Laws.mir)) (List._∷_ (9, Rows.any-gone (Syntax.tyRef Syntax.erased Syntax.mut OfOutput.named)) (List._∷_ (10, Rows.any-gone (Syntax.tyStruct (List._∷_ 38 (List._∷_ 91 (List._∷_ 93 List.[]))) (Syntax.tcons (Syntax.tyRef Syntax.erased Syntax.mut OfOutput.named) (Syntax.tcons (Syntax.tyInt Syntax.w64) Syntax.tnil)))) List.[]))))))))))
 
 abbrev pub t1 : List.List Row.Entry
-t1 = List._∷_ (0, Rows.whole (Declared.row Answer.the-type)) (List._∷_ (1, Mut.mslice (OfOutput.row) (Syntax.tyRef (Syntax.named 0) Syntax.mut OfOutput.named) 0) (List._∷_ (2, Rows.any-gone (Syntax.tyInt Syntax.w64)) (List._∷_ (3, Rows.any-gone (Syntax.tyInt Syntax.w64)) (List._∷_ (4, Rows.any-gone (Laws''.mir)) (List._∷_ (5, Rows.any-gone (Syntax.tyInt Syntax.w8)) (List._∷_ (6, Rows.any-gone (Laws'.mir)) (List._∷_ (7, Rows.any-gone (Laws.mir)) (List._∷_ (8, Rows.any-gone (Syntax.tyRef Syntax.erased Syntax.mut OfOutput.named)) (List._∷_ (9, Rows.any-gone (Syntax.tyStruct (List._∷_ 38 (List._∷_ 91 (List._∷_ 93 List.[]))) (Syntax.tcons (Syntax.tyRef Syntax.erased Syntax.mut OfOutput.named) (Syntax.tcons (Syntax.tyInt Syntax.w64) Syntax.tnil)))) List.[])))))))))
+t1 = List._∷_ (0, Rows.whole (Declared.row Answer.the-type)) (List._∷_ (1, Mut.mslice (OfOutput.row) (Syntax.tyRef (Syntax.named 0) Syntax.mut OfOutput.named) 0) (List._∷_ (2, Rows.any-gone Syntax.tyBool) (List._∷_ (3, Rows.any-gone (Syntax.tyInt Syntax.w64)) (List._∷_ (4, Rows.any-gone (Syntax.tyInt Syntax.w64)) (List._∷_ (5, Rows.any-gone (Laws''.mir)) (List._∷_ (6, Rows.any-gone (Syntax.tyInt Syntax.w8)) (List._∷_ (7, Rows.any-gone (Laws'.mir)) (List._∷_ (8, Rows.any-gone (Laws.mir)) (List._∷_ (9, Rows.any-gone (Syntax.tyRef Syntax.erased Syntax.mut OfOutput.named)) (List._∷_ (10, Rows.any-gone (Syntax.tyStruct (List._∷_ 38 (List._∷_ 91 (List._∷_ 93 List.[]))) (Syntax.tcons (Syntax.tyRef Syntax.erased Syntax.mut OfOutput.named) (Syntax.tcons (Syntax.tyInt Syntax.w64) Syntax.tnil)))) List.[]))))))))))
 
 abbrev pub t2 : List.List Row.Entry
-t2 = List._∷_ (0, Rows.any-gone (Laws.mir)) (List._∷_ (1, Mut.mslice (OfOutput.row) (Syntax.tyRef (Syntax.named 0) Syntax.mut OfOutput.named) 0) (List._∷_ (2, Rows.sc-here (Row.sInt Syntax.w64)) (List._∷_ (3, Rows.sc-here (Row.sInt Syntax.w64)) (List._∷_ (4, Rows.any-gone (Laws''.mir)) (List._∷_ (5, Rows.any-gone (Syntax.tyInt Syntax.w8)) (List._∷_ (6, Rows.any-gone (Laws'.mir)) (List._∷_ (7, Rows.whole (Declared.row Answer.the-type)) (List._∷_ (8, Rows.any-gone (Syntax.tyRef Syntax.erased Syntax.mut OfOutput.named)) (List._∷_ (9, Rows.any-gone (Syntax.tyStruct (List._∷_ 38 (List._∷_ 91 (List._∷_ 93 List.[]))) (Syntax.tcons (Syntax.tyRef Syntax.erased Syntax.mut OfOutput.named) (Syntax.tcons (Syntax.tyInt Syntax.w64) Syntax.tnil)))) List.[])))))))))
+t2 = List._∷_ (0, Rows.any-gone (Laws.mir)) (List._∷_ (1, Mut.mslice (OfOutput.row) (Syntax.tyRef (Syntax.named 0) Syntax.mut OfOutput.named) 0) (List._∷_ (2, Rows.sc-here Row.sBool) (List._∷_ (3, Rows.sc-here (Row.sInt Syntax.w64)) (List._∷_ (4, Rows.sc-here (Row.sInt Syntax.w64)) (List._∷_ (5, Rows.any-gone (Laws''.mir)) (List._∷_ (6, Rows.any-gone (Syntax.tyInt Syntax.w8)) (List._∷_ (7, Rows.any-gone (Laws'.mir)) (List._∷_ (8, Rows.whole (Declared.row Answer.the-type)) (List._∷_ (9, Rows.any-gone (Syntax.tyRef Syntax.erased Syntax.mut OfOutput.named)) (List._∷_ (10, Rows.any-gone (Syntax.tyStruct (List._∷_ 38 (List._∷_ 91 (List._∷_ 93 List.[]))) (Syntax.tcons (Syntax.tyRef Syntax.erased Syntax.mut OfOutput.named) (Syntax.tcons (Syntax.tyInt Syntax.w64) Syntax.tnil)))) List.[]))))))))))
 
 abbrev pub t3 : List.List Row.Entry
-t3 = List._∷_ (0, Rows.any-gone (Laws.mir)) (List._∷_ (1, Mut.mslice (OfOutput.row) (Syntax.tyRef (Syntax.named 0) Syntax.mut OfOutput.named) 0) (List._∷_ (2, Rows.sc-here (Row.sInt Syntax.w64)) (List._∷_ (3, Rows.sc-here (Row.sInt Syntax.w64)) (List._∷_ (4, Rows.whole (Known.Known Request.enum 0)) (List._∷_ (5, Rows.any-gone (Syntax.tyInt Syntax.w8)) (List._∷_ (6, Rows.any-gone (Laws'.mir)) (List._∷_ (7, Rows.any-gone (Laws.mir)) (List._∷_ (8, Rows.any-gone (Syntax.tyRef Syntax.erased Syntax.mut OfOutput.named)) (List._∷_ (9, Rows.any-gone (Syntax.tyStruct (List._∷_ 38 (List._∷_ 91 (List._∷_ 93 List.[]))) (Syntax.tcons (Syntax.tyRef Syntax.erased Syntax.mut OfOutput.named) (Syntax.tcons (Syntax.tyInt Syntax.w64) Syntax.tnil)))) List.[])))))))))
+t3 = List._∷_ (0, Rows.any-gone (Laws.mir)) (List._∷_ (1, Mut.mslice (OfOutput.row) (Syntax.tyRef (Syntax.named 0) Syntax.mut OfOutput.named) 0) (List._∷_ (2, Rows.sc-here Row.sBool) (List._∷_ (3, Rows.sc-here (Row.sInt Syntax.w64)) (List._∷_ (4, Rows.sc-here (Row.sInt Syntax.w64)) (List._∷_ (5, Rows.whole (Known.Known Request.enum 0)) (List._∷_ (6, Rows.any-gone (Syntax.tyInt Syntax.w8)) (List._∷_ (7, Rows.any-gone (Laws'.mir)) (List._∷_ (8, Rows.any-gone (Laws.mir)) (List._∷_ (9, Rows.any-gone (Syntax.tyRef Syntax.erased Syntax.mut OfOutput.named)) (List._∷_ (10, Rows.any-gone (Syntax.tyStruct (List._∷_ 38 (List._∷_ 91 (List._∷_ 93 List.[]))) (Syntax.tcons (Syntax.tyRef Syntax.erased Syntax.mut OfOutput.named) (Syntax.tcons (Syntax.tyInt Syntax.w64) Syntax.tnil)))) List.[]))))))))))
 
 abbrev pub t4 : List.List Row.Entry
-t4 = List._∷_ (0, Rows.any-gone (Laws.mir)) (List._∷_ (1, Mut.mslice (OfOutput.row) (Syntax.tyRef (Syntax.named 0) Syntax.mut OfOutput.named) 0) (List._∷_ (2, Rows.sc-here (Row.sInt Syntax.w64)) (List._∷_ (3, Rows.sc-here (Row.sInt Syntax.w64)) (List._∷_ (4, Rows.whole (Known.Known Request.enum 0)) (List._∷_ (5, Rows.sc-here (Row.sInt Syntax.w8)) (List._∷_ (6, Rows.any-gone (Laws'.mir)) (List._∷_ (7, Rows.any-gone (Laws.mir)) (List._∷_ (8, Rows.any-gone (Syntax.tyRef Syntax.erased Syntax.mut OfOutput.named)) (List._∷_ (9, Rows.any-gone (Syntax.tyStruct (List._∷_ 38 (List._∷_ 91 (List._∷_ 93 List.[]))) (Syntax.tcons (Syntax.tyRef Syntax.erased Syntax.mut OfOutput.named) (Syntax.tcons (Syntax.tyInt Syntax.w64) Syntax.tnil)))) List.[])))))))))
+t4 = List._∷_ (0, Rows.any-gone (Laws.mir)) (List._∷_ (1, Mut.mslice (OfOutput.row) (Syntax.tyRef (Syntax.named 0) Syntax.mut OfOutput.named) 0) (List._∷_ (2, Rows.sc-here Row.sBool) (List._∷_ (3, Rows.sc-here (Row.sInt Syntax.w64)) (List._∷_ (4, Rows.sc-here (Row.sInt Syntax.w64)) (List._∷_ (5, Rows.whole (Known.Known Request.enum 0)) (List._∷_ (6, Rows.sc-here (Row.sInt Syntax.w8)) (List._∷_ (7, Rows.any-gone (Laws'.mir)) (List._∷_ (8, Rows.any-gone (Laws.mir)) (List._∷_ (9, Rows.any-gone (Syntax.tyRef Syntax.erased Syntax.mut OfOutput.named)) (List._∷_ (10, Rows.any-gone (Syntax.tyStruct (List._∷_ 38 (List._∷_ 91 (List._∷_ 93 List.[]))) (Syntax.tcons (Syntax.tyRef Syntax.erased Syntax.mut OfOutput.named) (Syntax.tcons (Syntax.tyInt Syntax.w64) Syntax.tnil)))) List.[]))))))))))
 
 abbrev pub t5 : List.List Row.Entry
-t5 = List._∷_ (0, Rows.any-gone (Laws.mir)) (List._∷_ (1, Mut.mslice (OfOutput.row) (Syntax.tyRef (Syntax.named 0) Syntax.mut OfOutput.named) 0) (List._∷_ (2, Rows.sc-here (Row.sInt Syntax.w64)) (List._∷_ (3, Rows.sc-here (Row.sInt Syntax.w64)) (List._∷_ (4, Rows.any-gone (Laws''.mir)) (List._∷_ (5, Rows.sc-here (Row.sInt Syntax.w8)) (List._∷_ (6, Rows.any-gone (Laws'.mir)) (List._∷_ (7, Rows.any-gone (Laws.mir)) (List._∷_ (8, Rows.any-gone (Syntax.tyRef Syntax.erased Syntax.mut OfOutput.named)) (List._∷_ (9, Rows.any-gone (Syntax.tyStruct (List._∷_ 38 (List._∷_ 91 (List._∷_ 93 List.[]))) (Syntax.tcons (Syntax.tyRef Syntax.erased Syntax.mut OfOutput.named) (Syntax.tcons (Syntax.tyInt Syntax.w64) Syntax.tnil)))) List.[])))))))))
+t5 = List._∷_ (0, Rows.any-gone (Laws.mir)) (List._∷_ (1, Mut.mslice (OfOutput.row) (Syntax.tyRef (Syntax.named 0) Syntax.mut OfOutput.named) 0) (List._∷_ (2, Rows.sc-here Row.sBool) (List._∷_ (3, Rows.sc-here (Row.sInt Syntax.w64)) (List._∷_ (4, Rows.sc-here (Row.sInt Syntax.w64)) (List._∷_ (5, Rows.any-gone (Laws''.mir)) (List._∷_ (6, Rows.sc-here (Row.sInt Syntax.w8)) (List._∷_ (7, Rows.any-gone (Laws'.mir)) (List._∷_ (8, Rows.any-gone (Laws.mir)) (List._∷_ (9, Rows.any-gone (Syntax.tyRef Syntax.erased Syntax.mut OfOutput.named)) (List._∷_ (10, Rows.any-gone (Syntax.tyStruct (List._∷_ 38 (List._∷_ 91 (List._∷_ 93 List.[]))) (Syntax.tcons (Syntax.tyRef Syntax.erased Syntax.mut OfOutput.named) (Syntax.tcons (Syntax.tyInt Syntax.w64) Syntax.tnil)))) List.[]))))))))))
 
 abbrev pub t6 : List.List Row.Entry
-t6 = List._∷_ (0, Rows.any-gone (Laws.mir)) (List._∷_ (1, Mut.mslice (OfOutput.row) (Syntax.tyRef (Syntax.named 0) Syntax.mut OfOutput.named) 0) (List._∷_ (2, Rows.sc-here (Row.sInt Syntax.w64)) (List._∷_ (3, Rows.sc-here (Row.sInt Syntax.w64)) (List._∷_ (4, Rows.any-gone (Laws''.mir)) (List._∷_ (5, Rows.sc-here (Row.sInt Syntax.w8)) (List._∷_ (6, Rows.any-gone (Laws'.mir)) (List._∷_ (7, Rows.whole (Declared.row Answer.the-type)) (List._∷_ (8, Rows.any-gone (Syntax.tyRef Syntax.erased Syntax.mut OfOutput.named)) (List._∷_ (9, Rows.any-gone (Syntax.tyStruct (List._∷_ 38 (List._∷_ 91 (List._∷_ 93 List.[]))) (Syntax.tcons (Syntax.tyRef Syntax.erased Syntax.mut OfOutput.named) (Syntax.tcons (Syntax.tyInt Syntax.w64) Syntax.tnil)))) List.[])))))))))
+t6 = List._∷_ (0, Rows.any-gone (Laws.mir)) (List._∷_ (1, Mut.mslice (OfOutput.row) (Syntax.tyRef (Syntax.named 0) Syntax.mut OfOutput.named) 0) (List._∷_ (2, Rows.sc-here Row.sBool) (List._∷_ (3, Rows.sc-here (Row.sInt Syntax.w64)) (List._∷_ (4, Rows.sc-here (Row.sInt Syntax.w64)) (List._∷_ (5, Rows.any-gone (Laws''.mir)) (List._∷_ (6, Rows.sc-here (Row.sInt Syntax.w8)) (List._∷_ (7, Rows.any-gone (Laws'.mir)) (List._∷_ (8, Rows.whole (Declared.row Answer.the-type)) (List._∷_ (9, Rows.any-gone (Syntax.tyRef Syntax.erased Syntax.mut OfOutput.named)) (List._∷_ (10, Rows.any-gone (Syntax.tyStruct (List._∷_ 38 (List._∷_ 91 (List._∷_ 93 List.[]))) (Syntax.tcons (Syntax.tyRef Syntax.erased Syntax.mut OfOutput.named) (Syntax.tcons (Syntax.tyInt Syntax.w64) Syntax.tnil)))) List.[]))))))))))
 
 abbrev pub t7 : List.List Row.Entry
-t7 = List._∷_ (0, Rows.any-gone (Laws.mir)) (List._∷_ (1, Mut.mslice (OfOutput.row) (Syntax.tyRef (Syntax.named 0) Syntax.mut OfOutput.named) 0) (List._∷_ (2, Rows.sc-here (Row.sInt Syntax.w64)) (List._∷_ (3, Rows.sc-here (Row.sInt Syntax.w64)) (List._∷_ (4, Rows.whole (Known.Known Request.enum 1)) (List._∷_ (5, Rows.any-gone (Syntax.tyInt Syntax.w8)) (List._∷_ (6, Rows.any-gone (Laws'.mir)) (List._∷_ (7, Rows.any-gone (Laws.mir)) (List._∷_ (8, Rows.any-gone (Syntax.tyRef Syntax.erased Syntax.mut OfOutput.named)) (List._∷_ (9, Rows.any-gone (Syntax.tyStruct (List._∷_ 38 (List._∷_ 91 (List._∷_ 93 List.[]))) (Syntax.tcons (Syntax.tyRef Syntax.erased Syntax.mut OfOutput.named) (Syntax.tcons (Syntax.tyInt Syntax.w64) Syntax.tnil)))) List.[])))))))))
+t7 = List._∷_ (0, Rows.any-gone (Laws.mir)) (List._∷_ (1, Mut.mslice (OfOutput.row) (Syntax.tyRef (Syntax.named 0) Syntax.mut OfOutput.named) 0) (List._∷_ (2, Rows.sc-here Row.sBool) (List._∷_ (3, Rows.sc-here (Row.sInt Syntax.w64)) (List._∷_ (4, Rows.sc-here (Row.sInt Syntax.w64)) (List._∷_ (5, Rows.whole (Known.Known Request.enum 1)) (List._∷_ (6, Rows.any-gone (Syntax.tyInt Syntax.w8)) (List._∷_ (7, Rows.any-gone (Laws'.mir)) (List._∷_ (8, Rows.any-gone (Laws.mir)) (List._∷_ (9, Rows.any-gone (Syntax.tyRef Syntax.erased Syntax.mut OfOutput.named)) (List._∷_ (10, Rows.any-gone (Syntax.tyStruct (List._∷_ 38 (List._∷_ 91 (List._∷_ 93 List.[]))) (Syntax.tcons (Syntax.tyRef Syntax.erased Syntax.mut OfOutput.named) (Syntax.tcons (Syntax.tyInt Syntax.w64) Syntax.tnil)))) List.[]))))))))))
 
 abbrev pub t8 : List.List Row.Entry
-t8 = List._∷_ (0, Rows.any-gone (Laws.mir)) (List._∷_ (1, Mut.mslice (OfOutput.row) (Syntax.tyRef (Syntax.named 0) Syntax.mut OfOutput.named) 0) (List._∷_ (2, Rows.sc-here (Row.sInt Syntax.w64)) (List._∷_ (3, Rows.sc-here (Row.sInt Syntax.w64)) (List._∷_ (4, Rows.whole (Known.Known Request.enum 1)) (List._∷_ (5, Rows.any-gone (Syntax.tyInt Syntax.w8)) (List._∷_ (6, Rows.whole (Declared.row OutputRequest.the-type)) (List._∷_ (7, Rows.any-gone (Laws.mir)) (List._∷_ (8, Rows.any-gone (Syntax.tyRef Syntax.erased Syntax.mut OfOutput.named)) (List._∷_ (9, Rows.any-gone (Syntax.tyStruct (List._∷_ 38 (List._∷_ 91 (List._∷_ 93 List.[]))) (Syntax.tcons (Syntax.tyRef Syntax.erased Syntax.mut OfOutput.named) (Syntax.tcons (Syntax.tyInt Syntax.w64) Syntax.tnil)))) List.[])))))))))
+t8 = List._∷_ (0, Rows.any-gone (Laws.mir)) (List._∷_ (1, Mut.mslice (OfOutput.row) (Syntax.tyRef (Syntax.named 0) Syntax.mut OfOutput.named) 0) (List._∷_ (2, Rows.sc-here Row.sBool) (List._∷_ (3, Rows.sc-here (Row.sInt Syntax.w64)) (List._∷_ (4, Rows.sc-here (Row.sInt Syntax.w64)) (List._∷_ (5, Rows.whole (Known.Known Request.enum 1)) (List._∷_ (6, Rows.any-gone (Syntax.tyInt Syntax.w8)) (List._∷_ (7, Rows.whole (Declared.row OutputRequest.the-type)) (List._∷_ (8, Rows.any-gone (Laws.mir)) (List._∷_ (9, Rows.any-gone (Syntax.tyRef Syntax.erased Syntax.mut OfOutput.named)) (List._∷_ (10, Rows.any-gone (Syntax.tyStruct (List._∷_ 38 (List._∷_ 91 (List._∷_ 93 List.[]))) (Syntax.tcons (Syntax.tyRef Syntax.erased Syntax.mut OfOutput.named) (Syntax.tcons (Syntax.tyInt Syntax.w64) Syntax.tnil)))) List.[]))))))))))
 
 abbrev pub t9 : List.List Row.Entry
-t9 = List._∷_ (0, Rows.any-gone (Laws.mir)) (List._∷_ (1, Mut.mslice (OfOutput.row) (Syntax.tyRef (Syntax.named 0) Syntax.mut OfOutput.named) 0) (List._∷_ (2, Rows.sc-here (Row.sInt Syntax.w64)) (List._∷_ (3, Rows.sc-here (Row.sInt Syntax.w64)) (List._∷_ (4, Rows.any-gone (Laws''.mir)) (List._∷_ (5, Rows.any-gone (Syntax.tyInt Syntax.w8)) (List._∷_ (6, Rows.whole (Declared.row OutputRequest.the-type)) (List._∷_ (7, Rows.any-gone (Laws.mir)) (List._∷_ (8, Rows.any-gone (Syntax.tyRef Syntax.erased Syntax.mut OfOutput.named)) (List._∷_ (9, Rows.any-gone (Syntax.tyStruct (List._∷_ 38 (List._∷_ 91 (List._∷_ 93 List.[]))) (Syntax.tcons (Syntax.tyRef Syntax.erased Syntax.mut OfOutput.named) (Syntax.tcons (Syntax.tyInt Syntax.w64) Syntax.tnil)))) List.[])))))))))
+t9 = List._∷_ (0, Rows.any-gone (Laws.mir)) (List._∷_ (1, Mut.mslice (OfOutput.row) (Syntax.tyRef (Syntax.named 0) Syntax.mut OfOutput.named) 0) (List._∷_ (2, Rows.sc-here Row.sBool) (List._∷_ (3, Rows.sc-here (Row.sInt Syntax.w64)) (List._∷_ (4, Rows.sc-here (Row.sInt Syntax.w64)) (List._∷_ (5, Rows.any-gone (Laws''.mir)) (List._∷_ (6, Rows.any-gone (Syntax.tyInt Syntax.w8)) (List._∷_ (7, Rows.whole (Declared.row OutputRequest.the-type)) (List._∷_ (8, Rows.any-gone (Laws.mir)) (List._∷_ (9, Rows.any-gone (Syntax.tyRef Syntax.erased Syntax.mut OfOutput.named)) (List._∷_ (10, Rows.any-gone (Syntax.tyStruct (List._∷_ 38 (List._∷_ 91 (List._∷_ 93 List.[]))) (Syntax.tcons (Syntax.tyRef Syntax.erased Syntax.mut OfOutput.named) (Syntax.tcons (Syntax.tyInt Syntax.w64) Syntax.tnil)))) List.[]))))))))))
 
 abbrev pub t10 : List.List Row.Entry
-t10 = List._∷_ (0, Rows.any-gone (Laws.mir)) (List._∷_ (1, Relend.mslice-owed (OfOutput.row) (Syntax.tyRef (Syntax.named 0) Syntax.mut OfOutput.named) 0 1 Row.off) (List._∷_ (2, Rows.sc-here (Row.sInt Syntax.w64)) (List._∷_ (3, Rows.sc-here (Row.sInt Syntax.w64)) (List._∷_ (4, Rows.any-gone (Laws''.mir)) (List._∷_ (5, Rows.any-gone (Syntax.tyInt Syntax.w8)) (List._∷_ (6, Rows.whole (Declared.row OutputRequest.the-type)) (List._∷_ (7, Rows.any-gone (Laws.mir)) (List._∷_ (8, Relend.msptr (OfOutput.row) (Syntax.tyRef Syntax.erased Syntax.mut OfOutput.named) 1) (List._∷_ (9, Rows.any-gone (Syntax.tyStruct (List._∷_ 38 (List._∷_ 91 (List._∷_ 93 List.[]))) (Syntax.tcons (Syntax.tyRef Syntax.erased Syntax.mut OfOutput.named) (Syntax.tcons (Syntax.tyInt Syntax.w64) Syntax.tnil)))) List.[])))))))))
+t10 = List._∷_ (0, Rows.any-gone (Laws.mir)) (List._∷_ (1, Relend.mslice-owed (OfOutput.row) (Syntax.tyRef (Syntax.named 0) Syntax.mut OfOutput.named) 0 1 Row.off) (List._∷_ (2, Rows.sc-here Row.sBool) (List._∷_ (3, Rows.sc-here (Row.sInt Syntax.w64)) (List._∷_ (4, Rows.sc-here (Row.sInt Syntax.w64)) (List._∷_ (5, Rows.any-gone (Laws''.mir)) (List._∷_ (6, Rows.any-gone (Syntax.tyInt Syntax.w8)) (List._∷_ (7, Rows.whole (Declared.row OutputRequest.the-type)) (List._∷_ (8, Rows.any-gone (Laws.mir)) (List._∷_ (9, Relend.msptr (OfOutput.row) (Syntax.tyRef Syntax.erased Syntax.mut OfOutput.named) 1) (List._∷_ (10, Rows.any-gone (Syntax.tyStruct (List._∷_ 38 (List._∷_ 91 (List._∷_ 93 List.[]))) (Syntax.tcons (Syntax.tyRef Syntax.erased Syntax.mut OfOutput.named) (Syntax.tcons (Syntax.tyInt Syntax.w64) Syntax.tnil)))) List.[]))))))))))
 
 abbrev pub t11 : List.List Row.Entry
-t11 = List._∷_ (0, Rows.any-gone (Laws.mir)) (List._∷_ (1, Relend.mslice-owed (OfOutput.row) (Syntax.tyRef (Syntax.named 0) Syntax.mut OfOutput.named) 0 1 Row.off) (List._∷_ (2, Rows.sc-here (Row.sInt Syntax.w64)) (List._∷_ (3, Rows.sc-here (Row.sInt Syntax.w64)) (List._∷_ (4, Rows.any-gone (Laws''.mir)) (List._∷_ (5, Rows.any-gone (Syntax.tyInt Syntax.w8)) (List._∷_ (6, Rows.whole (Declared.row OutputRequest.the-type)) (List._∷_ (7, Rows.any-gone (Laws.mir)) (List._∷_ (8, Rows.any-gone (Syntax.tyRef Syntax.erased Syntax.mut OfOutput.named)) (List._∷_ (9, Mut.mslice (OfOutput.row) (Syntax.tyRef Syntax.erased Syntax.mut OfOutput.named) 1) List.[])))))))))
+t11 = List._∷_ (0, Rows.any-gone (Laws.mir)) (List._∷_ (1, Relend.mslice-owed (OfOutput.row) (Syntax.tyRef (Syntax.named 0) Syntax.mut OfOutput.named) 0 1 Row.off) (List._∷_ (2, Rows.sc-here Row.sBool) (List._∷_ (3, Rows.sc-here (Row.sInt Syntax.w64)) (List._∷_ (4, Rows.sc-here (Row.sInt Syntax.w64)) (List._∷_ (5, Rows.any-gone (Laws''.mir)) (List._∷_ (6, Rows.any-gone (Syntax.tyInt Syntax.w8)) (List._∷_ (7, Rows.whole (Declared.row OutputRequest.the-type)) (List._∷_ (8, Rows.any-gone (Laws.mir)) (List._∷_ (9, Rows.any-gone (Syntax.tyRef Syntax.erased Syntax.mut OfOutput.named)) (List._∷_ (10, Mut.mslice (OfOutput.row) (Syntax.tyRef Syntax.erased Syntax.mut OfOutput.named) 1) List.[]))))))))))
 
 abbrev pub t12 : List.List Row.Entry
-t12 = List._∷_ (0, Rows.any-gone (Laws.mir)) (List._∷_ (1, Relend.mslice-owed (OfOutput.row) (Syntax.tyRef (Syntax.named 0) Syntax.mut OfOutput.named) 0 1 Row.off) (List._∷_ (2, Rows.sc-here (Row.sInt Syntax.w64)) (List._∷_ (3, Rows.sc-here (Row.sInt Syntax.w64)) (List._∷_ (4, Rows.any-gone (Laws''.mir)) (List._∷_ (5, Rows.any-gone (Syntax.tyInt Syntax.w8)) (List._∷_ (6, Rows.whole (Declared.row OutputRequest.the-type)) (List._∷_ (7, Rows.whole (Declared.row Answer.the-type)) (List._∷_ (8, Rows.any-gone (Syntax.tyRef Syntax.erased Syntax.mut OfOutput.named)) (List._∷_ (9, Mut.msleft (OfOutput.row) (Syntax.tyRef Syntax.erased Syntax.mut OfOutput.named)) List.[])))))))))
+t12 = List._∷_ (0, Rows.any-gone (Laws.mir)) (List._∷_ (1, Relend.mslice-owed (OfOutput.row) (Syntax.tyRef (Syntax.named 0) Syntax.mut OfOutput.named) 0 1 Row.off) (List._∷_ (2, Rows.sc-here Row.sBool) (List._∷_ (3, Rows.sc-here (Row.sInt Syntax.w64)) (List._∷_ (4, Rows.sc-here (Row.sInt Syntax.w64)) (List._∷_ (5, Rows.any-gone (Laws''.mir)) (List._∷_ (6, Rows.any-gone (Syntax.tyInt Syntax.w8)) (List._∷_ (7, Rows.whole (Declared.row OutputRequest.the-type)) (List._∷_ (8, Rows.whole (Declared.row Answer.the-type)) (List._∷_ (9, Rows.any-gone (Syntax.tyRef Syntax.erased Syntax.mut OfOutput.named)) (List._∷_ (10, Mut.msleft (OfOutput.row) (Syntax.tyRef Syntax.erased Syntax.mut OfOutput.named)) List.[]))))))))))
 
 abbrev pub t13 : List.List Row.Entry
-t13 = List._∷_ (0, Rows.any-gone (Laws.mir)) (List._∷_ (1, Relend.mslice-owed (OfOutput.row) (Syntax.tyRef (Syntax.named 0) Syntax.mut OfOutput.named) 0 1 Row.off) (List._∷_ (2, Rows.sc-here (Row.sInt Syntax.w64)) (List._∷_ (3, Rows.sc-here (Row.sInt Syntax.w64)) (List._∷_ (4, Rows.any-gone (Laws''.mir)) (List._∷_ (5, Rows.any-gone (Syntax.tyInt Syntax.w8)) (List._∷_ (6, Rows.any-gone (Laws'.mir)) (List._∷_ (7, Rows.whole (Declared.row Answer.the-type)) (List._∷_ (8, Rows.any-gone (Syntax.tyRef Syntax.erased Syntax.mut OfOutput.named)) (List._∷_ (9, Mut.msleft (OfOutput.row) (Syntax.tyRef Syntax.erased Syntax.mut OfOutput.named)) List.[])))))))))
+t13 = List._∷_ (0, Rows.any-gone (Laws.mir)) (List._∷_ (1, Relend.mslice-owed (OfOutput.row) (Syntax.tyRef (Syntax.named 0) Syntax.mut OfOutput.named) 0 1 Row.off) (List._∷_ (2, Rows.sc-here Row.sBool) (List._∷_ (3, Rows.sc-here (Row.sInt Syntax.w64)) (List._∷_ (4, Rows.sc-here (Row.sInt Syntax.w64)) (List._∷_ (5, Rows.any-gone (Laws''.mir)) (List._∷_ (6, Rows.any-gone (Syntax.tyInt Syntax.w8)) (List._∷_ (7, Rows.any-gone (Laws'.mir)) (List._∷_ (8, Rows.whole (Declared.row Answer.the-type)) (List._∷_ (9, Rows.any-gone (Syntax.tyRef Syntax.erased Syntax.mut OfOutput.named)) (List._∷_ (10, Mut.msleft (OfOutput.row) (Syntax.tyRef Syntax.erased Syntax.mut OfOutput.named)) List.[]))))))))))
 
 abbrev pub t14 : List.List Row.Entry
-t14 = List._∷_ (0, Rows.whole (Declared.row Answer.the-type)) (List._∷_ (1, Mut.mslice (OfOutput.row) (Syntax.tyRef (Syntax.named 0) Syntax.mut OfOutput.named) 0) (List._∷_ (2, Rows.sc-here (Row.sInt Syntax.w64)) (List._∷_ (3, Rows.sc-here (Row.sInt Syntax.w64)) (List._∷_ (4, Rows.any-gone (Laws''.mir)) (List._∷_ (5, Rows.any-gone (Syntax.tyInt Syntax.w8)) (List._∷_ (6, Rows.any-gone (Laws'.mir)) (List._∷_ (7, Rows.whole (Declared.row Answer.the-type)) (List._∷_ (8, Rows.any-gone (Syntax.tyRef Syntax.erased Syntax.mut OfOutput.named)) (List._∷_ (9, Rows.any-gone (Syntax.tyStruct (List._∷_ 38 (List._∷_ 91 (List._∷_ 93 List.[]))) (Syntax.tcons (Syntax.tyRef Syntax.erased Syntax.mut OfOutput.named) (Syntax.tcons (Syntax.tyInt Syntax.w64) Syntax.tnil)))) List.[])))))))))
+t14 = List._∷_ (0, Rows.whole (Declared.row Answer.the-type)) (List._∷_ (1, Mut.mslice (OfOutput.row) (Syntax.tyRef (Syntax.named 0) Syntax.mut OfOutput.named) 0) (List._∷_ (2, Rows.sc-here Row.sBool) (List._∷_ (3, Rows.sc-here (Row.sInt Syntax.w64)) (List._∷_ (4, Rows.sc-here (Row.sInt Syntax.w64)) (List._∷_ (5, Rows.any-gone (Laws''.mir)) (List._∷_ (6, Rows.any-gone (Syntax.tyInt Syntax.w8)) (List._∷_ (7, Rows.any-gone (Laws'.mir)) (List._∷_ (8, Rows.whole (Declared.row Answer.the-type)) (List._∷_ (9, Rows.any-gone (Syntax.tyRef Syntax.erased Syntax.mut OfOutput.named)) (List._∷_ (10, Rows.any-gone (Syntax.tyStruct (List._∷_ 38 (List._∷_ 91 (List._∷_ 93 List.[]))) (Syntax.tcons (Syntax.tyRef Syntax.erased Syntax.mut OfOutput.named) (Syntax.tcons (Syntax.tyInt Syntax.w64) Syntax.tnil)))) List.[]))))))))))
 
 abbrev pub t15 : List.List Row.Entry
-t15 = List._∷_ (0, Rows.whole (Declared.row Answer.the-type)) (List._∷_ (1, Mut.mslice (OfOutput.row) (Syntax.tyRef (Syntax.named 0) Syntax.mut OfOutput.named) 0) (List._∷_ (2, Rows.sc-here (Row.sInt Syntax.w64)) (List._∷_ (3, Rows.sc-here (Row.sInt Syntax.w64)) (List._∷_ (4, Rows.any-gone (Laws''.mir)) (List._∷_ (5, Rows.any-gone (Syntax.tyInt Syntax.w8)) (List._∷_ (6, Rows.any-gone (Laws'.mir)) (List._∷_ (7, Rows.any-gone (Laws.mir)) (List._∷_ (8, Rows.any-gone (Syntax.tyRef Syntax.erased Syntax.mut OfOutput.named)) (List._∷_ (9, Rows.any-gone (Syntax.tyStruct (List._∷_ 38 (List._∷_ 91 (List._∷_ 93 List.[]))) (Syntax.tcons (Syntax.tyRef Syntax.erased Syntax.mut OfOutput.named) (Syntax.tcons (Syntax.tyInt Syntax.w64) Syntax.tnil)))) List.[])))))))))
+t15 = List._∷_ (0, Rows.whole (Declared.row Answer.the-type)) (List._∷_ (1, Mut.mslice (OfOutput.row) (Syntax.tyRef (Syntax.named 0) Syntax.mut OfOutput.named) 0) (List._∷_ (2, Rows.sc-here Row.sBool) (List._∷_ (3, Rows.sc-here (Row.sInt Syntax.w64)) (List._∷_ (4, Rows.sc-here (Row.sInt Syntax.w64)) (List._∷_ (5, Rows.any-gone (Laws''.mir)) (List._∷_ (6, Rows.any-gone (Syntax.tyInt Syntax.w8)) (List._∷_ (7, Rows.any-gone (Laws'.mir)) (List._∷_ (8, Rows.any-gone (Laws.mir)) (List._∷_ (9, Rows.any-gone (Syntax.tyRef Syntax.erased Syntax.mut OfOutput.named)) (List._∷_ (10, Rows.any-gone (Syntax.tyStruct (List._∷_ 38 (List._∷_ 91 (List._∷_ 93 List.[]))) (Syntax.tcons (Syntax.tyRef Syntax.erased Syntax.mut OfOutput.named) (Syntax.tcons (Syntax.tyInt Syntax.w64) Syntax.tnil)))) List.[]))))))))))
 
 abbrev pub t16 : List.List Row.Entry
-t16 = List._∷_ (0, Rows.whole (Declared.row Answer.the-type)) (List._∷_ (1, Mut.mslice (OfOutput.row) (Syntax.tyRef (Syntax.named 0) Syntax.mut OfOutput.named) 0) (List._∷_ (2, Rows.any-gone (Syntax.tyInt Syntax.w64)) (List._∷_ (3, Rows.sc-here (Row.sInt Syntax.w64)) (List._∷_ (4, Rows.any-gone (Laws''.mir)) (List._∷_ (5, Rows.any-gone (Syntax.tyInt Syntax.w8)) (List._∷_ (6, Rows.any-gone (Laws'.mir)) (List._∷_ (7, Rows.any-gone (Laws.mir)) (List._∷_ (8, Rows.any-gone (Syntax.tyRef Syntax.erased Syntax.mut OfOutput.named)) (List._∷_ (9, Rows.any-gone (Syntax.tyStruct (List._∷_ 38 (List._∷_ 91 (List._∷_ 93 List.[]))) (Syntax.tcons (Syntax.tyRef Syntax.erased Syntax.mut OfOutput.named) (Syntax.tcons (Syntax.tyInt Syntax.w64) Syntax.tnil)))) List.[])))))))))
+t16 = List._∷_ (0, Rows.whole (Declared.row Answer.the-type)) (List._∷_ (1, Mut.mslice (OfOutput.row) (Syntax.tyRef (Syntax.named 0) Syntax.mut OfOutput.named) 0) (List._∷_ (2, Rows.any-gone Syntax.tyBool) (List._∷_ (3, Rows.sc-here (Row.sInt Syntax.w64)) (List._∷_ (4, Rows.sc-here (Row.sInt Syntax.w64)) (List._∷_ (5, Rows.any-gone (Laws''.mir)) (List._∷_ (6, Rows.any-gone (Syntax.tyInt Syntax.w8)) (List._∷_ (7, Rows.any-gone (Laws'.mir)) (List._∷_ (8, Rows.any-gone (Laws.mir)) (List._∷_ (9, Rows.any-gone (Syntax.tyRef Syntax.erased Syntax.mut OfOutput.named)) (List._∷_ (10, Rows.any-gone (Syntax.tyStruct (List._∷_ 38 (List._∷_ 91 (List._∷_ 93 List.[]))) (Syntax.tcons (Syntax.tyRef Syntax.erased Syntax.mut OfOutput.named) (Syntax.tcons (Syntax.tyInt Syntax.w64) Syntax.tnil)))) List.[]))))))))))
+
+abbrev pub t17 : List.List Row.Entry
+t17 = List._∷_ (0, Rows.whole (Declared.row Answer.the-type)) (List._∷_ (1, Mut.mslice (OfOutput.row) (Syntax.tyRef (Syntax.named 0) Syntax.mut OfOutput.named) 0) (List._∷_ (2, Rows.any-gone Syntax.tyBool) (List._∷_ (3, Rows.any-gone (Syntax.tyInt Syntax.w64)) (List._∷_ (4, Rows.sc-here (Row.sInt Syntax.w64)) (List._∷_ (5, Rows.any-gone (Laws''.mir)) (List._∷_ (6, Rows.any-gone (Syntax.tyInt Syntax.w8)) (List._∷_ (7, Rows.any-gone (Laws'.mir)) (List._∷_ (8, Rows.any-gone (Laws.mir)) (List._∷_ (9, Rows.any-gone (Syntax.tyRef Syntax.erased Syntax.mut OfOutput.named)) (List._∷_ (10, Rows.any-gone (Syntax.tyStruct (List._∷_ 38 (List._∷_ 91 (List._∷_ 93 List.[]))) (Syntax.tcons (Syntax.tyRef Syntax.erased Syntax.mut OfOutput.named) (Syntax.tcons (Syntax.tyInt Syntax.w64) Syntax.tnil)))) List.[]))))))))))
 
 abbrev pub T0 : Row.Cx
 T0 = record { locals = t0; slots = List.[] }
@@ -246,7 +250,10 @@ abbrev pub T23 : Row.Cx
 T23 = record { locals = t16; slots = List.[] }
 
 abbrev pub T24 : Row.Cx
-T24 = record { locals = t1; slots = List.[] }
+T24 = record { locals = t17; slots = List.[] }
+
+abbrev pub T25 : Row.Cx
+T25 = record { locals = t1; slots = List.[] }
 
 abbrev pub O0 : Typed.Outs
 O0 = record { next = Option.none; exits = List.[]; returns = Option.some T1 }
@@ -256,61 +263,64 @@ O1 = Typed.withNext (Option.some T2) O0
 
 module _ (claims· : Claims) where
   abbrev s0 : Typed.Both T0 T3
-  s0 = Known.k-enum-known Request.enum 0 T0 4 λ x. x
+  s0 = Known.k-enum-known Request.enum 0 T0 5 λ x. x
 
   abbrev s1 : Typed.Gives T3 T4
-  s1 = Known.k-known-told Request.enum Laws''.the-laws 0 T3 4 λ x. x
+  s1 = Known.k-known-told Request.enum Laws''.the-laws 0 T3 5 λ x. x
 
   abbrev s2 : Typed.Mo T4 → Typed.Mo T5
-  s2 = Scalar.n-use T4 (Scalar.oFld 4 (List._∷_ (Syntax.variant 0) (List._∷_ (Syntax.field 1) List.[])) (Syntax.tyInt Syntax.w8) 1 λ v. Laws''.the-laws .0 .0 .val (v .0)) 5 (Rows.sc-here (Row.sInt Syntax.w8)) (Row.sInt Syntax.w8 .of)
+  s2 = Scalar.n-use T4 (Scalar.oFld 5 (List._∷_ (Syntax.variant 0) (List._∷_ (Syntax.field 1) List.[])) (Syntax.tyInt Syntax.w8) 1 λ v. Laws''.the-laws .0 .0 .val (v .0)) 6 (Rows.sc-here (Row.sInt Syntax.w8)) (Row.sInt Syntax.w8 .of)
 
   abbrev s3 : Typed.Mo T5 → Typed.Mo T6
-  s3 = Scalar.n-room T5 4 (Laws''.mir)
+  s3 = Scalar.n-room T5 5 (Laws''.mir)
 
   abbrev s4 : Typed.Mo T6 → Typed.Mo T7
-  s4 = Make.n-enum-make Answer.the-type T6 7 λ m. Answer.enum .make (Logic.inr (Logic.inr (Logic.inr (Logic.inl (m .1 .1 .1 .1 .1 .0, tt)))))
+  s4 = Make.n-enum-make Answer.the-type T6 8 λ m. Answer.enum .make (Logic.inr (Logic.inr (Logic.inr (Logic.inl (m .1 .1 .1 .1 .1 .1 .0, tt)))))
 
   abbrev s5 : Typed.Mo T7 → Typed.Mo T8
-  s5 = Scalar.n-room T7 5 (Syntax.tyInt Syntax.w8)
+  s5 = Scalar.n-room T7 6 (Syntax.tyInt Syntax.w8)
 
   abbrev s6 : Typed.Both T0 T9
-  s6 = Known.k-enum-known Request.enum 1 T0 4 λ x. x
+  s6 = Known.k-enum-known Request.enum 1 T0 5 λ x. x
 
   abbrev s7 : Typed.Gives T9 T10
-  s7 = Known.k-known-told Request.enum Laws''.the-laws 1 T9 4 λ x. x
+  s7 = Known.k-known-told Request.enum Laws''.the-laws 1 T9 5 λ x. x
 
   abbrev s8 : Typed.Mo T10 → Typed.Mo T11
-  s8 = Make'.n-make (Declared.row OutputRequest.the-type) T10 6 λ m. m .1 .1 .1 .1 .0 .0
+  s8 = Make'.n-make (Declared.row OutputRequest.the-type) T10 7 λ m. m .1 .1 .1 .1 .1 .0 .0
 
   abbrev s9 : Typed.Mo T11 → Typed.Mo T12
-  s9 = Scalar.n-room T11 4 (Laws''.mir)
+  s9 = Scalar.n-room T11 5 (Laws''.mir)
 
   abbrev s11 : Typed.Gives T12 T14
-  s11 = Relend.k-sl-relend (OfOutput.row) T12 1 8 0 1 (Syntax.tyRef (Syntax.named 0) Syntax.mut OfOutput.named) (Syntax.tyRef Syntax.erased Syntax.mut OfOutput.named) Row.off λ x. x
+  s11 = Relend.k-sl-relend (OfOutput.row) T12 1 9 0 1 (Syntax.tyRef (Syntax.named 0) Syntax.mut OfOutput.named) (Syntax.tyRef Syntax.erased Syntax.mut OfOutput.named) Row.off λ x. x
 
   abbrev s12 : Typed.Asks T14 T15
-  s12 = Relend.k-sl-aggregate (OfOutput.row) (Relend.asMut (OfOutput.row)) T14 8 9 1 (Syntax.tyRef Syntax.erased Syntax.mut OfOutput.named) (Syntax.tyRef Syntax.erased Syntax.mut OfOutput.named) (λ x. x) (Scalar.oFld 1 (List._∷_ (Syntax.field 1) List.[]) (Syntax.tyInt Syntax.w64) 8 λ v. Shared.lenV (v .0))
+  s12 = Relend.k-sl-aggregate (OfOutput.row) (Relend.asMut (OfOutput.row)) T14 9 10 1 (Syntax.tyRef Syntax.erased Syntax.mut OfOutput.named) (Syntax.tyRef Syntax.erased Syntax.mut OfOutput.named) (λ x. x) (Scalar.oFld 1 (List._∷_ (Syntax.field 1) List.[]) (Syntax.tyInt Syntax.w64) 8 λ v. Shared.lenV (v .0))
 
   abbrev s13 : Typed.Both T15 T16
-  s13 = Call.callB ps·0 r·0 (claims· .0) (claims· .1) T15 (record { pos = 9; ty = Syntax.tyRef Syntax.erased Syntax.mut OfOutput.named; ref = λ x. x }, (Num.vAt 2 λ x. x, (Num.vAt 3 λ x. x, (record { pos = 6; st = List.[]; d = 0; at = λ x. x }, tt)))) 7 (List._∷_ 1 List.[]) (Laws.mir)
+  s13 = Call.callB ps·0 r·0 (claims· .0) (claims· .1) T15 (record { pos = 10; ty = Syntax.tyRef Syntax.erased Syntax.mut OfOutput.named; ref = λ x. x }, (Bool.bAt 2 λ x. x, (Num.vAt 3 λ x. x, (Num.vAt 4 λ x. x, (record { pos = 7; st = List.[]; d = 0; at = λ x. x }, tt))))) 8 (List._∷_ 1 List.[]) (Laws.mir)
 
   abbrev s14 : Typed.Mo T16 → Typed.Mo T17
-  s14 = Scalar.n-room T16 6 (Laws'.mir)
+  s14 = Scalar.n-room T16 7 (Laws'.mir)
 
   abbrev s16 : Typed.Both T17 T19
-  s16 = Relend.k-back-sl (OfOutput.row) T17 9 1 0 1 (Syntax.tyRef (Syntax.named 0) Syntax.mut OfOutput.named) (Syntax.tyRef Syntax.erased Syntax.mut OfOutput.named) Row.off (λ x. x) λ x. x
+  s16 = Relend.k-back-sl (OfOutput.row) T17 10 1 0 1 (Syntax.tyRef (Syntax.named 0) Syntax.mut OfOutput.named) (Syntax.tyRef Syntax.erased Syntax.mut OfOutput.named) Row.off (λ x. x) λ x. x
 
   abbrev s18 : Typed.Mo T2 → Typed.Mo T21
-  s18 = LocalCopy.n-val-copy T2 7 0 (Declared.row Answer.the-type) (Rows.whole (Declared.row Answer.the-type)) (Rows.whole (Declared.row Answer.the-type)) (λ x. x) (λ x. x) λ x. x
+  s18 = LocalCopy.n-val-copy T2 8 0 (Declared.row Answer.the-type) (Rows.whole (Declared.row Answer.the-type)) (Rows.whole (Declared.row Answer.the-type)) (λ x. x) (λ x. x) λ x. x
 
   abbrev s19 : Typed.Mo T21 → Typed.Mo T22
-  s19 = Scalar.n-room T21 7 (Laws.mir)
+  s19 = Scalar.n-room T21 8 (Laws.mir)
 
   abbrev s20 : Typed.Mo T22 → Typed.Mo T23
-  s20 = Scalar.n-room T22 2 (Syntax.tyInt Syntax.w64)
+  s20 = Scalar.n-room T22 2 Syntax.tyBool
 
   abbrev s21 : Typed.Mo T23 → Typed.Mo T24
   s21 = Scalar.n-room T23 3 (Syntax.tyInt Syntax.w64)
+
+  abbrev s22 : Typed.Mo T24 → Typed.Mo T25
+  s22 = Scalar.n-room T24 4 (Syntax.tyInt Syntax.w64)
 
   module _ (Pre· : (κs : Lifetimes.Lfts 1) → Kinds.Dens κs ps → Type 0)
       (Post· : (κs : Lifetimes.Lfts 1) → (a : Kinds.Dens κs ps) → Kinds.Plain 1 ps r κs) where
@@ -359,28 +369,31 @@ module _ (claims· : Claims) where
       at12 = λ Ψ. Typed.both s6 (at11 Ψ)
 
       abbrev at13 : Typed.TF T0 O1
-      at13 = Switch.Φswitch T0 O1 4 (λ x. Declared.tagOf Request.the-type x) (Syntax.arm (List._∷_ 0 List.[]) b2 (Syntax.arm (List._∷_ 1 List.[]) b9 Syntax.noDefault)) (at4, (at12, tt))
+      at13 = Switch.Φswitch T0 O1 5 (λ x. Declared.tagOf Request.the-type x) (Syntax.arm (List._∷_ 0 List.[]) b2 (Syntax.arm (List._∷_ 1 List.[]) b9 Syntax.noDefault)) (at4, (at12, tt))
 
-      abbrev at14 : Typed.TF T24 O0
+      abbrev at14 : Typed.TF T25 O0
       at14 = Typed.atRet O0
 
-      abbrev at15 : Typed.TF T23 O0
-      at15 = λ Ψ. Typed.pass T23 T24 s21 (at14 Ψ)
+      abbrev at15 : Typed.TF T24 O0
+      at15 = λ Ψ. Typed.pass T24 T25 s22 (at14 Ψ)
 
-      abbrev at16 : Typed.TF T22 O0
-      at16 = λ Ψ. Typed.pass T22 T23 s20 (at15 Ψ)
+      abbrev at16 : Typed.TF T23 O0
+      at16 = λ Ψ. Typed.pass T23 T24 s21 (at15 Ψ)
 
-      abbrev at17 : Typed.TF T21 O0
-      at17 = λ Ψ. Typed.pass T21 T22 s19 (at16 Ψ)
+      abbrev at17 : Typed.TF T22 O0
+      at17 = λ Ψ. Typed.pass T22 T23 s20 (at16 Ψ)
 
-      abbrev at18 : Typed.TF T2 O0
-      at18 = λ Ψ. Typed.pass T2 T21 s18 (at17 Ψ)
+      abbrev at18 : Typed.TF T21 O0
+      at18 = λ Ψ. Typed.pass T21 T22 s19 (at17 Ψ)
 
-      abbrev at19 : Typed.TF T0 O0
-      at19 = λ Ψ. at13 (Typed.wantNext T2 O0 (at18 Ψ) Ψ)
+      abbrev at19 : Typed.TF T2 O0
+      at19 = λ Ψ. Typed.pass T2 T21 s18 (at18 Ψ)
+
+      abbrev at20 : Typed.TF T0 O0
+      at20 = λ Ψ. at13 (Typed.wantNext T2 O0 (at19 Ψ) Ψ)
 
       abbrev pub Φ : Typed.TF T0 O0
-      Φ = at19
+      Φ = at20
 
       module _ {M : Type 1} (𝓤 : URA.URA M) (H : Wp.Heap 𝓤) (A : Atoms.Atoms 𝓤)
           (W : Kit.Given 𝓤 H A) (𝓣 : Wp.Tables 𝓤 H) where
@@ -389,16 +402,16 @@ module _ (claims· : Claims) where
 
       module _ (κs : Lifetimes.Lfts 1) (qs : Lifetimes.Shares 1) where
         abbrev g10 : List.List Row.Entry
-        g10 = List._∷_ (0, Rows.any-gone (Laws.mir)) (List._∷_ (1, Relend.mslice-owed (OfOutput.row) (Syntax.tyRef (Syntax.named 0) Syntax.mut OfOutput.named) 0 1 (Row.lease (κs .0) (qs .0))) (List._∷_ (2, Rows.sc-here (Row.sInt Syntax.w64)) (List._∷_ (3, Rows.sc-here (Row.sInt Syntax.w64)) (List._∷_ (4, Rows.any-gone (Laws''.mir)) (List._∷_ (5, Rows.any-gone (Syntax.tyInt Syntax.w8)) (List._∷_ (6, Rows.whole (Declared.row OutputRequest.the-type)) (List._∷_ (7, Rows.any-gone (Laws.mir)) (List._∷_ (8, Relend.msptr (OfOutput.row) (Syntax.tyRef Syntax.erased Syntax.mut OfOutput.named) 1) (List._∷_ (9, Rows.any-gone (Syntax.tyStruct (List._∷_ 38 (List._∷_ 91 (List._∷_ 93 List.[]))) (Syntax.tcons (Syntax.tyRef Syntax.erased Syntax.mut OfOutput.named) (Syntax.tcons (Syntax.tyInt Syntax.w64) Syntax.tnil)))) List.[])))))))))
+        g10 = List._∷_ (0, Rows.any-gone (Laws.mir)) (List._∷_ (1, Relend.mslice-owed (OfOutput.row) (Syntax.tyRef (Syntax.named 0) Syntax.mut OfOutput.named) 0 1 (Row.lease (κs .0) (qs .0))) (List._∷_ (2, Rows.sc-here Row.sBool) (List._∷_ (3, Rows.sc-here (Row.sInt Syntax.w64)) (List._∷_ (4, Rows.sc-here (Row.sInt Syntax.w64)) (List._∷_ (5, Rows.any-gone (Laws''.mir)) (List._∷_ (6, Rows.any-gone (Syntax.tyInt Syntax.w8)) (List._∷_ (7, Rows.whole (Declared.row OutputRequest.the-type)) (List._∷_ (8, Rows.any-gone (Laws.mir)) (List._∷_ (9, Relend.msptr (OfOutput.row) (Syntax.tyRef Syntax.erased Syntax.mut OfOutput.named) 1) (List._∷_ (10, Rows.any-gone (Syntax.tyStruct (List._∷_ 38 (List._∷_ 91 (List._∷_ 93 List.[]))) (Syntax.tcons (Syntax.tyRef Syntax.erased Syntax.mut OfOutput.named) (Syntax.tcons (Syntax.tyInt Syntax.w64) Syntax.tnil)))) List.[]))))))))))
 
         abbrev g11 : List.List Row.Entry
-        g11 = List._∷_ (0, Rows.any-gone (Laws.mir)) (List._∷_ (1, Relend.mslice-owed (OfOutput.row) (Syntax.tyRef (Syntax.named 0) Syntax.mut OfOutput.named) 0 1 (Row.lease (κs .0) (qs .0))) (List._∷_ (2, Rows.sc-here (Row.sInt Syntax.w64)) (List._∷_ (3, Rows.sc-here (Row.sInt Syntax.w64)) (List._∷_ (4, Rows.any-gone (Laws''.mir)) (List._∷_ (5, Rows.any-gone (Syntax.tyInt Syntax.w8)) (List._∷_ (6, Rows.whole (Declared.row OutputRequest.the-type)) (List._∷_ (7, Rows.any-gone (Laws.mir)) (List._∷_ (8, Rows.any-gone (Syntax.tyRef Syntax.erased Syntax.mut OfOutput.named)) (List._∷_ (9, Mut.mslice (OfOutput.row) (Syntax.tyRef Syntax.erased Syntax.mut OfOutput.named) 1) List.[])))))))))
+        g11 = List._∷_ (0, Rows.any-gone (Laws.mir)) (List._∷_ (1, Relend.mslice-owed (OfOutput.row) (Syntax.tyRef (Syntax.named 0) Syntax.mut OfOutput.named) 0 1 (Row.lease (κs .0) (qs .0))) (List._∷_ (2, Rows.sc-here Row.sBool) (List._∷_ (3, Rows.sc-here (Row.sInt Syntax.w64)) (List._∷_ (4, Rows.sc-here (Row.sInt Syntax.w64)) (List._∷_ (5, Rows.any-gone (Laws''.mir)) (List._∷_ (6, Rows.any-gone (Syntax.tyInt Syntax.w8)) (List._∷_ (7, Rows.whole (Declared.row OutputRequest.the-type)) (List._∷_ (8, Rows.any-gone (Laws.mir)) (List._∷_ (9, Rows.any-gone (Syntax.tyRef Syntax.erased Syntax.mut OfOutput.named)) (List._∷_ (10, Mut.mslice (OfOutput.row) (Syntax.tyRef Syntax.erased Syntax.mut OfOutput.named) 1) List.[]))))))))))
 
         abbrev g12 : List.List Row.Entry
-        g12 = List._∷_ (0, Rows.any-gone (Laws.mir)) (List._∷_ (1, Relend.mslice-owed (OfOutput.row) (Syntax.tyRef (Syntax.named 0) Syntax.mut OfOutput.named) 0 1 (Row.lease (κs .0) (qs .0))) (List._∷_ (2, Rows.sc-here (Row.sInt Syntax.w64)) (List._∷_ (3, Rows.sc-here (Row.sInt Syntax.w64)) (List._∷_ (4, Rows.any-gone (Laws''.mir)) (List._∷_ (5, Rows.any-gone (Syntax.tyInt Syntax.w8)) (List._∷_ (6, Rows.whole (Declared.row OutputRequest.the-type)) (List._∷_ (7, Rows.whole (Declared.row Answer.the-type)) (List._∷_ (8, Rows.any-gone (Syntax.tyRef Syntax.erased Syntax.mut OfOutput.named)) (List._∷_ (9, Mut.msleft (OfOutput.row) (Syntax.tyRef Syntax.erased Syntax.mut OfOutput.named)) List.[])))))))))
+        g12 = List._∷_ (0, Rows.any-gone (Laws.mir)) (List._∷_ (1, Relend.mslice-owed (OfOutput.row) (Syntax.tyRef (Syntax.named 0) Syntax.mut OfOutput.named) 0 1 (Row.lease (κs .0) (qs .0))) (List._∷_ (2, Rows.sc-here Row.sBool) (List._∷_ (3, Rows.sc-here (Row.sInt Syntax.w64)) (List._∷_ (4, Rows.sc-here (Row.sInt Syntax.w64)) (List._∷_ (5, Rows.any-gone (Laws''.mir)) (List._∷_ (6, Rows.any-gone (Syntax.tyInt Syntax.w8)) (List._∷_ (7, Rows.whole (Declared.row OutputRequest.the-type)) (List._∷_ (8, Rows.whole (Declared.row Answer.the-type)) (List._∷_ (9, Rows.any-gone (Syntax.tyRef Syntax.erased Syntax.mut OfOutput.named)) (List._∷_ (10, Mut.msleft (OfOutput.row) (Syntax.tyRef Syntax.erased Syntax.mut OfOutput.named)) List.[]))))))))))
 
         abbrev g13 : List.List Row.Entry
-        g13 = List._∷_ (0, Rows.any-gone (Laws.mir)) (List._∷_ (1, Relend.mslice-owed (OfOutput.row) (Syntax.tyRef (Syntax.named 0) Syntax.mut OfOutput.named) 0 1 (Row.lease (κs .0) (qs .0))) (List._∷_ (2, Rows.sc-here (Row.sInt Syntax.w64)) (List._∷_ (3, Rows.sc-here (Row.sInt Syntax.w64)) (List._∷_ (4, Rows.any-gone (Laws''.mir)) (List._∷_ (5, Rows.any-gone (Syntax.tyInt Syntax.w8)) (List._∷_ (6, Rows.any-gone (Laws'.mir)) (List._∷_ (7, Rows.whole (Declared.row Answer.the-type)) (List._∷_ (8, Rows.any-gone (Syntax.tyRef Syntax.erased Syntax.mut OfOutput.named)) (List._∷_ (9, Mut.msleft (OfOutput.row) (Syntax.tyRef Syntax.erased Syntax.mut OfOutput.named)) List.[])))))))))
+        g13 = List._∷_ (0, Rows.any-gone (Laws.mir)) (List._∷_ (1, Relend.mslice-owed (OfOutput.row) (Syntax.tyRef (Syntax.named 0) Syntax.mut OfOutput.named) 0 1 (Row.lease (κs .0) (qs .0))) (List._∷_ (2, Rows.sc-here Row.sBool) (List._∷_ (3, Rows.sc-here (Row.sInt Syntax.w64)) (List._∷_ (4, Rows.sc-here (Row.sInt Syntax.w64)) (List._∷_ (5, Rows.any-gone (Laws''.mir)) (List._∷_ (6, Rows.any-gone (Syntax.tyInt Syntax.w8)) (List._∷_ (7, Rows.any-gone (Laws'.mir)) (List._∷_ (8, Rows.whole (Declared.row Answer.the-type)) (List._∷_ (9, Rows.any-gone (Syntax.tyRef Syntax.erased Syntax.mut OfOutput.named)) (List._∷_ (10, Mut.msleft (OfOutput.row) (Syntax.tyRef Syntax.erased Syntax.mut OfOutput.named)) List.[]))))))))))
 
         abbrev G0 : Row.Cx
         G0 = record { locals = t0; slots = List._∷_ (Row.lease (κs .0) (qs .0)) (List._∷_ Row.off List.[]) }
@@ -473,7 +486,10 @@ module _ (claims· : Claims) where
         G23 = record { locals = t16; slots = List._∷_ (Row.lease (κs .0) (qs .0)) (List._∷_ Row.off List.[]) }
 
         abbrev G24 : Row.Cx
-        G24 = record { locals = t1; slots = List._∷_ (Row.lease (κs .0) (qs .0)) (List._∷_ Row.off List.[]) }
+        G24 = record { locals = t17; slots = List._∷_ (Row.lease (κs .0) (qs .0)) (List._∷_ Row.off List.[]) }
+
+        abbrev G25 : Row.Cx
+        G25 = record { locals = t1; slots = List._∷_ (Row.lease (κs .0) (qs .0)) (List._∷_ Row.off List.[]) }
 
         abbrev Δ0 : Typed.Outs
         Δ0 = record { next = Option.none; exits = List.[]; returns = Option.some G1 }
@@ -488,64 +504,67 @@ module _ (claims· : Claims) where
           E = Frame.EnvOf 𝓤 H (List._∷_ (Kinds.tyR r) (Enter.tysP ps xs)) bs
 
           d0 : Typed.Typed 𝓤 H A 𝓣 E G6 b1 Δ1 at0
-          d0 = Typed.s-typed 𝓤 H A W 𝓣 E G6 b1 Δ1 (λ Ψ. Typed.pass T6 T7 s4 (Typed.pass T7 T8 s5 Ψ)) tt (Typed.g-post 𝓤 H A W 𝓣 E G6 G7 G8 b1 (Typed.pass T6 T7 s4) (Typed.pass T7 T8 s5) (Make.t-enum-make-wt 𝓤 H A W E 𝓣 Answer.the-type Laws.the-laws Laws.the-plain tt G6 7 (List._∷_ (Scalar.oInt Syntax.w8 3) (List._∷_ (Scalar.oAt 5 (Syntax.tyInt Syntax.w8) (Row.valS (Row.sInt Syntax.w8))) List.[])) (λ m. Answer.enum .make (Logic.inr (Logic.inr (Logic.inr (Logic.inl (m .1 .1 .1 .1 .1 .0, tt)))))) (Reads.room-gone 𝓤 H A (Laws.mir)) (tt, ((Scalar.reads-sc 𝓤 H A W (Row.sInt Syntax.w8), Path'.refl), tt)) Path'.refl (λ m wa. Make.made-val Answer.the-type Laws.the-laws (List._∷_ (Laws.the-laws .1 .1 .1 .0 .0 .val (m .1 .1 .1 .1 .1 .0)) List.[]) (Answer.enum .make (Logic.inr (Logic.inr (Logic.inr (Logic.inl (m .1 .1 .1 .1 .1 .0, tt)))))) (Signed.made-wt Field.u8-field (Laws.the-laws .1 .1 .1 .0 .0) Make'.u8-wt (m .1 .1 .1 .1 .1 .0), tt) (wa .1)) λ m wa. Make.made-is Answer.the-type Laws.the-laws (List._∷_ (Laws.the-laws .1 .1 .1 .0 .0 .val (m .1 .1 .1 .1 .1 .0)) List.[]) (Answer.enum .make (Logic.inr (Logic.inr (Logic.inr (Logic.inl (m .1 .1 .1 .1 .1 .0, tt)))))) (Signed.made-wt Field.u8-field (Laws.the-laws .1 .1 .1 .0 .0) Make'.u8-wt (m .1 .1 .1 .1 .1 .0), tt) (wa .1)) (Scalar.g-room 𝓤 H A W E G7 5 (Syntax.tyInt Syntax.w8) (Scalar.room-sc 𝓤 H A W (Row.sInt Syntax.w8))))
+          d0 = Typed.s-typed 𝓤 H A W 𝓣 E G6 b1 Δ1 (λ Ψ. Typed.pass T6 T7 s4 (Typed.pass T7 T8 s5 Ψ)) tt (Typed.g-post 𝓤 H A W 𝓣 E G6 G7 G8 b1 (Typed.pass T6 T7 s4) (Typed.pass T7 T8 s5) (Make.t-enum-make-wt 𝓤 H A W E 𝓣 Answer.the-type Laws.the-laws Laws.the-plain tt G6 8 (List._∷_ (Scalar.oInt Syntax.w8 3) (List._∷_ (Scalar.oAt 6 (Syntax.tyInt Syntax.w8) (Row.valS (Row.sInt Syntax.w8))) List.[])) (λ m. Answer.enum .make (Logic.inr (Logic.inr (Logic.inr (Logic.inl (m .1 .1 .1 .1 .1 .1 .0, tt)))))) (Reads.room-gone 𝓤 H A (Laws.mir)) (tt, ((Scalar.reads-sc 𝓤 H A W (Row.sInt Syntax.w8), Path'.refl), tt)) Path'.refl (λ m wa. Make.made-val Answer.the-type Laws.the-laws (List._∷_ (Laws.the-laws .1 .1 .1 .0 .0 .val (m .1 .1 .1 .1 .1 .1 .0)) List.[]) (Answer.enum .make (Logic.inr (Logic.inr (Logic.inr (Logic.inl (m .1 .1 .1 .1 .1 .1 .0, tt)))))) (Signed.made-wt Field.u8-field (Laws.the-laws .1 .1 .1 .0 .0) Make'.u8-wt (m .1 .1 .1 .1 .1 .1 .0), tt) (wa .1)) λ m wa. Make.made-is Answer.the-type Laws.the-laws (List._∷_ (Laws.the-laws .1 .1 .1 .0 .0 .val (m .1 .1 .1 .1 .1 .1 .0)) List.[]) (Answer.enum .make (Logic.inr (Logic.inr (Logic.inr (Logic.inl (m .1 .1 .1 .1 .1 .1 .0, tt)))))) (Signed.made-wt Field.u8-field (Laws.the-laws .1 .1 .1 .0 .0) Make'.u8-wt (m .1 .1 .1 .1 .1 .1 .0), tt) (wa .1)) (Scalar.g-room 𝓤 H A W E G7 6 (Syntax.tyInt Syntax.w8) (Scalar.room-sc 𝓤 H A W (Row.sInt Syntax.w8))))
 
           d1 : Typed.Typed 𝓤 H A 𝓣 E G5 b1 Δ1 at1
-          d1 = Typed.g-pre 𝓤 H A W 𝓣 E G5 G6 b1 Δ1 (Typed.pass T5 T6 s3) at0 (Scalar.g-room 𝓤 H A W E G5 4 (Laws''.mir) (Local.room-whole 𝓤 H A W (Known.Known Request.enum 0) (Laws''.mir) Path'.refl)) d0
+          d1 = Typed.g-pre 𝓤 H A W 𝓣 E G5 G6 b1 Δ1 (Typed.pass T5 T6 s3) at0 (Scalar.g-room 𝓤 H A W E G5 5 (Laws''.mir) (Local.room-whole 𝓤 H A W (Known.Known Request.enum 0) (Laws''.mir) Path'.refl)) d0
 
           d2 : Typed.Typed 𝓤 H A 𝓣 E G4 b2 Δ1 at2
-          d2 = Typed.s-seq 𝓤 H A W 𝓣 E G4 G5 b0 b1 Δ1 (Typed.pass T4 T5 s2) at1 (Scalar.t-use 𝓤 H A W E 𝓣 G4 (Scalar.oFld 4 (List._∷_ (Syntax.variant 0) (List._∷_ (Syntax.field 1) List.[])) (Syntax.tyInt Syntax.w8) 1 λ v. Laws''.the-laws .0 .0 .val (v .0)) 5 (Rows.sc-here (Row.sInt Syntax.w8)) (Syntax.tyInt Syntax.w8) (Row.valS (Row.sInt Syntax.w8)) (Row.sInt Syntax.w8 .of) (Match.reads-payload 𝓤 H A W Request.enum Laws''.the-laws 0 Path'.refl Path'.refl (λ v. Val.vcons (Laws''.the-laws .0 .0 .val (v .0)) Val.vnil) (λ v. Path'.refl) 0 (Syntax.tyInt Syntax.w8) 1 Path'.refl, Path'.refl) (Reads.room-gone 𝓤 H A (Syntax.tyInt Syntax.w8)) (Scalar.holds-sc 𝓤 H A W (Row.sInt Syntax.w8)) Path'.refl (λ u. Path'.refl) λ u. tt) d1
+          d2 = Typed.s-seq 𝓤 H A W 𝓣 E G4 G5 b0 b1 Δ1 (Typed.pass T4 T5 s2) at1 (Scalar.t-use 𝓤 H A W E 𝓣 G4 (Scalar.oFld 5 (List._∷_ (Syntax.variant 0) (List._∷_ (Syntax.field 1) List.[])) (Syntax.tyInt Syntax.w8) 1 λ v. Laws''.the-laws .0 .0 .val (v .0)) 6 (Rows.sc-here (Row.sInt Syntax.w8)) (Syntax.tyInt Syntax.w8) (Row.valS (Row.sInt Syntax.w8)) (Row.sInt Syntax.w8 .of) (Match.reads-payload 𝓤 H A W Request.enum Laws''.the-laws 0 Path'.refl Path'.refl (λ v. Val.vcons (Laws''.the-laws .0 .0 .val (v .0)) Val.vnil) (λ v. Path'.refl) 0 (Syntax.tyInt Syntax.w8) 1 Path'.refl, Path'.refl) (Reads.room-gone 𝓤 H A (Syntax.tyInt Syntax.w8)) (Scalar.holds-sc 𝓤 H A W (Row.sInt Syntax.w8)) Path'.refl (λ u. Path'.refl) λ u. tt) d1
 
           d3 : Typed.Typed 𝓤 H A 𝓣 E G3 b2 Δ1 at3
-          d3 = Typed.g-pre 𝓤 H A W 𝓣 E G3 G4 b2 Δ1 (Typed.give s1) at2 (Known.g-known-told 𝓤 H A W E Request.enum 0 G3 4 Laws''.the-laws (λ x. x) (Reads.as-is 𝓤 H A (Rows.whole (Known.Known Request.enum 0)))) d2
+          d3 = Typed.g-pre 𝓤 H A W 𝓣 E G3 G4 b2 Δ1 (Typed.give s1) at2 (Known.g-known-told 𝓤 H A W E Request.enum 0 G3 5 Laws''.the-laws (λ x. x) (Reads.as-is 𝓤 H A (Rows.whole (Known.Known Request.enum 0)))) d2
 
           d4 : Typed.Typed 𝓤 H A 𝓣 E G0 b2 Δ1 at4
-          d4 = Typed.g-pre 𝓤 H A W 𝓣 E G0 G3 b2 Δ1 (Typed.both s0) at3 (Known.g-enum-known 𝓤 H A W E Request.enum 0 G0 4 (λ x. x) (Reads.as-is 𝓤 H A (Rows.whole (Declared.row Request.the-type)))) d3
+          d4 = Typed.g-pre 𝓤 H A W 𝓣 E G0 G3 b2 Δ1 (Typed.both s0) at3 (Known.g-enum-known 𝓤 H A W E Request.enum 0 G0 5 (λ x. x) (Reads.as-is 𝓤 H A (Rows.whole (Declared.row Request.the-type)))) d3
 
           d5 : Typed.Typed 𝓤 H A 𝓣 E G15 b6 Δ1 at5
-          d5 = Typed.s-typed 𝓤 H A W 𝓣 E G15 b6 Δ1 (λ Ψ. Typed.both s13 (Typed.pass T16 T17 s14 (Typed.both s16 Ψ))) tt (Typed.g-post 𝓤 H A W 𝓣 E G15 G19 G20 b6 (λ Ψ. Typed.both s13 (Typed.pass T16 T17 s14 (Typed.both s16 Ψ))) (λ Ψ. Ψ) (Typed.g-post 𝓤 H A W 𝓣 E G15 G18 G19 b6 (λ Ψ. Typed.both s13 (Typed.pass T16 T17 s14 Ψ)) (Typed.both s16) (Typed.g-post 𝓤 H A W 𝓣 E G15 G17 G18 b6 (λ Ψ. Typed.both s13 (Typed.pass T16 T17 s14 Ψ)) (λ Ψ. Ψ) (Typed.g-post 𝓤 H A W 𝓣 E G15 G16 G17 b6 (Typed.both s13) (Typed.pass T16 T17 s14) (Plain.t-call-plain 𝓤 H A W 𝓣 1 ps·0 r·0 (claims· .0) (claims· .1) "panel_tables::serve_output" known E (λ pos β. β) G15 (record { pos = 9; ty = Syntax.tyRef Syntax.erased Syntax.mut OfOutput.named; ref = λ x. x }, (Num.vAt 2 λ x. x, (Num.vAt 3 λ x. x, (record { pos = 6; st = List.[]; d = 0; at = λ x. x }, tt)))) 7 (List._∷_ 1 List.[]) (Call.sub-id 𝓤 H A W (G15 .slots)) (Reads.as-is 𝓤 H A (Mut.mslice (OfOutput.row) (Syntax.tyRef Syntax.erased Syntax.mut OfOutput.named) 1), Mut.reads-mslice 𝓤 H A W (OfOutput.row) (Syntax.tyRef Syntax.erased Syntax.mut OfOutput.named) 1, Path'.refl, ((Scalar.reads-sc 𝓤 H A W (Row.sInt Syntax.w64), Path'.refl), ((Scalar.reads-sc 𝓤 H A W (Row.sInt Syntax.w64), Path'.refl), ((Yields.yields-copy 𝓤 H A W (λ ρ. Unit) (Declared.row OutputRequest.the-type) Path'.refl (Copies.cEnum OutputRequest.the-type Laws'.the-laws Laws'.the-copy .copy 𝓤 H A W) (Rows.whole (Declared.row OutputRequest.the-type)) (λ x. x) (λ x. x) (λ ρ told. Local.mem-whole 𝓤 H A W (Declared.row OutputRequest.the-type) ρ) λ ρ told. Local.whole-mem 𝓤 H A W (Declared.row OutputRequest.the-type) ρ, Path'.refl), tt)))) (Reads.room-gone 𝓤 H A (Laws.mir)) (tt, tt) Path'.refl) (Scalar.g-room 𝓤 H A W E G16 6 (Laws'.mir) (Local.room-whole 𝓤 H A W (Declared.row OutputRequest.the-type) (Laws'.mir) Path'.refl))) (Lifetime.g-end 𝓤 H A W E G17 1 Path'.refl)) (Relend.g-back-sl 𝓤 H A W E (OfOutput.row) G18 9 1 0 1 (Syntax.tyRef (Syntax.named 0) Syntax.mut OfOutput.named) (Syntax.tyRef Syntax.erased Syntax.mut OfOutput.named) (Row.lease (κs .0) (qs .0)) (λ x. x) (λ x. x) (Reads.as-is 𝓤 H A (Mut.msleft (OfOutput.row) (Syntax.tyRef Syntax.erased Syntax.mut OfOutput.named))) (Reads.as-is 𝓤 H A (Relend.mslice-owed (OfOutput.row) (Syntax.tyRef (Syntax.named 0) Syntax.mut OfOutput.named) 0 1 (Row.lease (κs .0) (qs .0)))) Path'.refl Path'.refl)) (Lifetime.g-forget 𝓤 H A W E G19 1 Row.dead Path'.refl))
+          d5 = Typed.s-typed 𝓤 H A W 𝓣 E G15 b6 Δ1 (λ Ψ. Typed.both s13 (Typed.pass T16 T17 s14 (Typed.both s16 Ψ))) tt (Typed.g-post 𝓤 H A W 𝓣 E G15 G19 G20 b6 (λ Ψ. Typed.both s13 (Typed.pass T16 T17 s14 (Typed.both s16 Ψ))) (λ Ψ. Ψ) (Typed.g-post 𝓤 H A W 𝓣 E G15 G18 G19 b6 (λ Ψ. Typed.both s13 (Typed.pass T16 T17 s14 Ψ)) (Typed.both s16) (Typed.g-post 𝓤 H A W 𝓣 E G15 G17 G18 b6 (λ Ψ. Typed.both s13 (Typed.pass T16 T17 s14 Ψ)) (λ Ψ. Ψ) (Typed.g-post 𝓤 H A W 𝓣 E G15 G16 G17 b6 (Typed.both s13) (Typed.pass T16 T17 s14) (Plain.t-call-plain 𝓤 H A W 𝓣 1 ps·0 r·0 (claims· .0) (claims· .1) "panel_tables::serve_output" known E (λ pos β. β) G15 (record { pos = 10; ty = Syntax.tyRef Syntax.erased Syntax.mut OfOutput.named; ref = λ x. x }, (Bool.bAt 2 λ x. x, (Num.vAt 3 λ x. x, (Num.vAt 4 λ x. x, (record { pos = 7; st = List.[]; d = 0; at = λ x. x }, tt))))) 8 (List._∷_ 1 List.[]) (Call.sub-id 𝓤 H A W (G15 .slots)) (Reads.as-is 𝓤 H A (Mut.mslice (OfOutput.row) (Syntax.tyRef Syntax.erased Syntax.mut OfOutput.named) 1), Mut.reads-mslice 𝓤 H A W (OfOutput.row) (Syntax.tyRef Syntax.erased Syntax.mut OfOutput.named) 1, Path'.refl, ((Scalar.reads-sc 𝓤 H A W Row.sBool, Path'.refl), ((Scalar.reads-sc 𝓤 H A W (Row.sInt Syntax.w64), Path'.refl), ((Scalar.reads-sc 𝓤 H A W (Row.sInt Syntax.w64), Path'.refl), ((Yields.yields-copy 𝓤 H A W (λ ρ. Unit) (Declared.row OutputRequest.the-type) Path'.refl (Copies.cEnum OutputRequest.the-type Laws'.the-laws Laws'.the-copy .copy 𝓤 H A W) (Rows.whole (Declared.row OutputRequest.the-type)) (λ x. x) (λ x. x) (λ ρ told. Local.mem-whole 𝓤 H A W (Declared.row OutputRequest.the-type) ρ) λ ρ told. Local.whole-mem 𝓤 H A W (Declared.row OutputRequest.the-type) ρ, Path'.refl), tt))))) (Reads.room-gone 𝓤 H A (Laws.mir)) (tt, tt) Path'.refl) (Scalar.g-room 𝓤 H A W E G16 7 (Laws'.mir) (Local.room-whole 𝓤 H A W (Declared.row OutputRequest.the-type) (Laws'.mir) Path'.refl))) (Lifetime.g-end 𝓤 H A W E G17 1 Path'.refl)) (Relend.g-back-sl 𝓤 H A W E (OfOutput.row) G18 10 1 0 1 (Syntax.tyRef (Syntax.named 0) Syntax.mut OfOutput.named) (Syntax.tyRef Syntax.erased Syntax.mut OfOutput.named) (Row.lease (κs .0) (qs .0)) (λ x. x) (λ x. x) (Reads.as-is 𝓤 H A (Mut.msleft (OfOutput.row) (Syntax.tyRef Syntax.erased Syntax.mut OfOutput.named))) (Reads.as-is 𝓤 H A (Relend.mslice-owed (OfOutput.row) (Syntax.tyRef (Syntax.named 0) Syntax.mut OfOutput.named) 0 1 (Row.lease (κs .0) (qs .0)))) Path'.refl Path'.refl)) (Lifetime.g-forget 𝓤 H A W E G19 1 Row.dead Path'.refl))
 
           d6 : Typed.Typed 𝓤 H A 𝓣 E G14 b7 Δ1 at6
-          d6 = Typed.s-seq 𝓤 H A W 𝓣 E G14 G15 b5 b6 Δ1 (Typed.ask s12) at5 (Relend.t-sl-aggregate 𝓤 H A W E (OfOutput.row) 𝓣 (Relend.asMut (OfOutput.row)) G14 8 9 1 (Syntax.tyRef Syntax.erased Syntax.mut OfOutput.named) (Syntax.tyRef Syntax.erased Syntax.mut OfOutput.named) (λ x. x) (Scalar.oFld 1 (List._∷_ (Syntax.field 1) List.[]) (Syntax.tyInt Syntax.w64) 8 λ v. Shared.lenV (v .0)) (Reads.as-is 𝓤 H A (Relend.msptr (OfOutput.row) (Syntax.tyRef Syntax.erased Syntax.mut OfOutput.named) 1)) (Reads.room-gone 𝓤 H A (Syntax.tyStruct (List._∷_ 38 (List._∷_ 91 (List._∷_ 93 List.[]))) (Syntax.tcons (Syntax.tyRef Syntax.erased Syntax.mut OfOutput.named) (Syntax.tcons (Syntax.tyInt Syntax.w64) Syntax.tnil)))) (Relend.reads-owed-len 𝓤 H A W (OfOutput.row) (Syntax.tyRef (Syntax.named 0) Syntax.mut OfOutput.named) 0 1 (Row.lease (κs .0) (qs .0)) 8 Path'.refl, Path'.refl) Path'.refl Path'.refl λ b o k. tt) d5
+          d6 = Typed.s-seq 𝓤 H A W 𝓣 E G14 G15 b5 b6 Δ1 (Typed.ask s12) at5 (Relend.t-sl-aggregate 𝓤 H A W E (OfOutput.row) 𝓣 (Relend.asMut (OfOutput.row)) G14 9 10 1 (Syntax.tyRef Syntax.erased Syntax.mut OfOutput.named) (Syntax.tyRef Syntax.erased Syntax.mut OfOutput.named) (λ x. x) (Scalar.oFld 1 (List._∷_ (Syntax.field 1) List.[]) (Syntax.tyInt Syntax.w64) 8 λ v. Shared.lenV (v .0)) (Reads.as-is 𝓤 H A (Relend.msptr (OfOutput.row) (Syntax.tyRef Syntax.erased Syntax.mut OfOutput.named) 1)) (Reads.room-gone 𝓤 H A (Syntax.tyStruct (List._∷_ 38 (List._∷_ 91 (List._∷_ 93 List.[]))) (Syntax.tcons (Syntax.tyRef Syntax.erased Syntax.mut OfOutput.named) (Syntax.tcons (Syntax.tyInt Syntax.w64) Syntax.tnil)))) (Relend.reads-owed-len 𝓤 H A W (OfOutput.row) (Syntax.tyRef (Syntax.named 0) Syntax.mut OfOutput.named) 0 1 (Row.lease (κs .0) (qs .0)) 8 Path'.refl, Path'.refl) Path'.refl Path'.refl λ b o k. tt) d5
 
           d7 : Typed.Typed 𝓤 H A 𝓣 E G13 b8 Δ1 at7
-          d7 = Typed.s-seq 𝓤 H A W 𝓣 E G13 G14 b4 b7 Δ1 (Typed.give s11) at6 (Relend.t-sl-relend 𝓤 H A W E (OfOutput.row) 𝓣 G13 1 8 0 1 (Syntax.tyRef (Syntax.named 0) Syntax.mut OfOutput.named) (Syntax.tyRef Syntax.erased Syntax.mut OfOutput.named) (Row.lease (κs .0) (qs .0)) 0 (λ x. x) (Reads.as-is 𝓤 H A (Mut.mslice (OfOutput.row) (Syntax.tyRef (Syntax.named 0) Syntax.mut OfOutput.named) 0)) (Reads.room-gone 𝓤 H A (Syntax.tyRef Syntax.erased Syntax.mut OfOutput.named)) Path'.refl tt Path'.refl Path'.refl Path'.refl λ b o. tt) d6
+          d7 = Typed.s-seq 𝓤 H A W 𝓣 E G13 G14 b4 b7 Δ1 (Typed.give s11) at6 (Relend.t-sl-relend 𝓤 H A W E (OfOutput.row) 𝓣 G13 1 9 0 1 (Syntax.tyRef (Syntax.named 0) Syntax.mut OfOutput.named) (Syntax.tyRef Syntax.erased Syntax.mut OfOutput.named) (Row.lease (κs .0) (qs .0)) 0 (λ x. x) (Reads.as-is 𝓤 H A (Mut.mslice (OfOutput.row) (Syntax.tyRef (Syntax.named 0) Syntax.mut OfOutput.named) 0)) (Reads.room-gone 𝓤 H A (Syntax.tyRef Syntax.erased Syntax.mut OfOutput.named)) Path'.refl tt Path'.refl Path'.refl Path'.refl λ b o. tt) d6
 
           d8 : Typed.Typed 𝓤 H A 𝓣 E G12 b8 Δ1 at8
-          d8 = Typed.g-pre 𝓤 H A W 𝓣 E G12 G13 b8 Δ1 (λ Ψ. Ψ) at7 (Lifetime.g-begin 𝓤 H A W E G12 1 (tt, (tt, (tt, (tt, (tt, (tt, (tt, (tt, (tt, (tt, tt))))))))))) d7
+          d8 = Typed.g-pre 𝓤 H A W 𝓣 E G12 G13 b8 Δ1 (λ Ψ. Ψ) at7 (Lifetime.g-begin 𝓤 H A W E G12 1 (tt, (tt, (tt, (tt, (tt, (tt, (tt, (tt, (tt, (tt, (tt, tt)))))))))))) d7
 
           d9 : Typed.Typed 𝓤 H A 𝓣 E G11 b8 Δ1 at9
-          d9 = Typed.g-pre 𝓤 H A W 𝓣 E G11 G12 b8 Δ1 (Typed.pass T11 T12 s9) at8 (Scalar.g-room 𝓤 H A W E G11 4 (Laws''.mir) (Local.room-whole 𝓤 H A W (Known.Known Request.enum 1) (Laws''.mir) Path'.refl)) d8
+          d9 = Typed.g-pre 𝓤 H A W 𝓣 E G11 G12 b8 Δ1 (Typed.pass T11 T12 s9) at8 (Scalar.g-room 𝓤 H A W E G11 5 (Laws''.mir) (Local.room-whole 𝓤 H A W (Known.Known Request.enum 1) (Laws''.mir) Path'.refl)) d8
 
           d10 : Typed.Typed 𝓤 H A 𝓣 E G10 b9 Δ1 at10
-          d10 = Typed.s-seq 𝓤 H A W 𝓣 E G10 G11 b3 b8 Δ1 (Typed.pass T10 T11 s8) at9 (CopyOut.t-copy-told 𝓤 H A W E 𝓣 (Declared.row OutputRequest.the-type) Path'.refl (Laws'3.val OutputRequest.the-type Laws'.the-laws) (Laws'3.lawful OutputRequest.the-type Laws'.the-laws 𝓤 H A W tt) (Laws'3.makes OutputRequest.the-type Laws'.the-plain 𝓤 H A) G10 6 (Scalar.oFld 4 (List._∷_ (Syntax.variant 1) (List._∷_ (Syntax.field 1) List.[])) (Laws'.mir) 4 λ v. Laws'3.val OutputRequest.the-type Laws'.the-laws (v .0)) (λ m. m .1 .1 .1 .1 .0 .0) (λ m. Laws'3.Fields (Declared.variants Request.the-type) (Laws'3.spellss (Request.enum .parts) Laws''.the-laws) (Request.the-type .to (Known.at Request.enum 1 (m .1 .1 .1 .1 .0)))) (Reads.room-gone 𝓤 H A (Laws'.mir)) (Match.reads-payload 𝓤 H A W Request.enum Laws''.the-laws 1 Path'.refl Path'.refl (λ v. Val.vcons (Laws'3.val OutputRequest.the-type Laws'.the-laws (v .0)) Val.vnil) (λ v. Path'.refl) 0 (Laws'.mir) 4 Path'.refl, Path'.refl) Path'.refl (λ ρ m. Make'.tells-row 𝓤 H A W E ρ (Row.out 6 (G10 .locals)) m 4 (Laws'3.Fields (Declared.variants Request.the-type) (Laws'3.spellss (Request.enum .parts) Laws''.the-laws) (Request.the-type .to (Known.at Request.enum 1 (m .1 .1 .1 .1 .0)))) (Known.known-is 𝓤 H A W E Request.enum 1 Laws''.the-laws ρ 4 (m .1 .1 .1 .1 .0))) (λ m k wa. Path'.refl) λ m k wa. k .0) d9
+          d10 = Typed.s-seq 𝓤 H A W 𝓣 E G10 G11 b3 b8 Δ1 (Typed.pass T10 T11 s8) at9 (CopyOut.t-copy-told 𝓤 H A W E 𝓣 (Declared.row OutputRequest.the-type) Path'.refl (Laws'3.val OutputRequest.the-type Laws'.the-laws) (Laws'3.lawful OutputRequest.the-type Laws'.the-laws 𝓤 H A W tt) (Laws'3.makes OutputRequest.the-type Laws'.the-plain 𝓤 H A) G10 7 (Scalar.oFld 5 (List._∷_ (Syntax.variant 1) (List._∷_ (Syntax.field 1) List.[])) (Laws'.mir) 4 λ v. Laws'3.val OutputRequest.the-type Laws'.the-laws (v .0)) (λ m. m .1 .1 .1 .1 .1 .0 .0) (λ m. Laws'3.Fields (Declared.variants Request.the-type) (Laws'3.spellss (Request.enum .parts) Laws''.the-laws) (Request.the-type .to (Known.at Request.enum 1 (m .1 .1 .1 .1 .1 .0)))) (Reads.room-gone 𝓤 H A (Laws'.mir)) (Match.reads-payload 𝓤 H A W Request.enum Laws''.the-laws 1 Path'.refl Path'.refl (λ v. Val.vcons (Laws'3.val OutputRequest.the-type Laws'.the-laws (v .0)) Val.vnil) (λ v. Path'.refl) 0 (Laws'.mir) 4 Path'.refl, Path'.refl) Path'.refl (λ ρ m. Make'.tells-row 𝓤 H A W E ρ (Row.out 7 (G10 .locals)) m 5 (Laws'3.Fields (Declared.variants Request.the-type) (Laws'3.spellss (Request.enum .parts) Laws''.the-laws) (Request.the-type .to (Known.at Request.enum 1 (m .1 .1 .1 .1 .1 .0)))) (Known.known-is 𝓤 H A W E Request.enum 1 Laws''.the-laws ρ 5 (m .1 .1 .1 .1 .1 .0))) (λ m k wa. Path'.refl) λ m k wa. k .0) d9
 
           d11 : Typed.Typed 𝓤 H A 𝓣 E G9 b9 Δ1 at11
-          d11 = Typed.g-pre 𝓤 H A W 𝓣 E G9 G10 b9 Δ1 (Typed.give s7) at10 (Known.g-known-told 𝓤 H A W E Request.enum 1 G9 4 Laws''.the-laws (λ x. x) (Reads.as-is 𝓤 H A (Rows.whole (Known.Known Request.enum 1)))) d10
+          d11 = Typed.g-pre 𝓤 H A W 𝓣 E G9 G10 b9 Δ1 (Typed.give s7) at10 (Known.g-known-told 𝓤 H A W E Request.enum 1 G9 5 Laws''.the-laws (λ x. x) (Reads.as-is 𝓤 H A (Rows.whole (Known.Known Request.enum 1)))) d10
 
           d12 : Typed.Typed 𝓤 H A 𝓣 E G0 b9 Δ1 at12
-          d12 = Typed.g-pre 𝓤 H A W 𝓣 E G0 G9 b9 Δ1 (Typed.both s6) at11 (Known.g-enum-known 𝓤 H A W E Request.enum 1 G0 4 (λ x. x) (Reads.as-is 𝓤 H A (Rows.whole (Declared.row Request.the-type)))) d11
+          d12 = Typed.g-pre 𝓤 H A W 𝓣 E G0 G9 b9 Δ1 (Typed.both s6) at11 (Known.g-enum-known 𝓤 H A W E Request.enum 1 G0 5 (λ x. x) (Reads.as-is 𝓤 H A (Rows.whole (Declared.row Request.the-type)))) d11
 
           d13 : Typed.Typed 𝓤 H A 𝓣 E G0 b10 Δ1 at13
-          d13 = Switch.t-switch-on 𝓤 H A W E 𝓣 G0 (Scalar.oFld 4 (List._∷_ (Syntax.variant 0) (List._∷_ (Syntax.field 0) List.[])) (Syntax.tyInt Syntax.w8) 0 λ x. Val.vint Syntax.w8 (Declared.tagOf Request.the-type x)) Syntax.w8 (λ u. Declared.tagOf Request.the-type (u .1 .1 .1 .1 .0)) (Syntax.arm (List._∷_ 0 List.[]) b2 (Syntax.arm (List._∷_ 1 List.[]) b9 Syntax.noDefault)) Δ1 (at4, (at12, tt)) (Match.reads-tag 𝓤 H A W Request.the-type Laws''.the-laws (Rows.whole (Declared.row Request.the-type)) 0 (λ x. x) (Whole.reads-enum 𝓤 H A W Request.the-type Laws''.the-laws), Path'.refl) (λ u. Path'.refl) (d4, (d12, tt))
+          d13 = Switch.t-switch-on 𝓤 H A W E 𝓣 G0 (Scalar.oFld 5 (List._∷_ (Syntax.variant 0) (List._∷_ (Syntax.field 0) List.[])) (Syntax.tyInt Syntax.w8) 0 λ x. Val.vint Syntax.w8 (Declared.tagOf Request.the-type x)) Syntax.w8 (λ u. Declared.tagOf Request.the-type (u .1 .1 .1 .1 .1 .0)) (Syntax.arm (List._∷_ 0 List.[]) b2 (Syntax.arm (List._∷_ 1 List.[]) b9 Syntax.noDefault)) Δ1 (at4, (at12, tt)) (Match.reads-tag 𝓤 H A W Request.the-type Laws''.the-laws (Rows.whole (Declared.row Request.the-type)) 0 (λ x. x) (Whole.reads-enum 𝓤 H A W Request.the-type Laws''.the-laws), Path'.refl) (λ u. Path'.refl) (d4, (d12, tt))
 
-          d14 : Typed.Typed 𝓤 H A 𝓣 E G24 b12 Δ0 at14
+          d14 : Typed.Typed 𝓤 H A 𝓣 E G25 b12 Δ0 at14
           d14 = Typed.t-return 𝓤 H A W 𝓣 E Δ0 tt
 
-          d15 : Typed.Typed 𝓤 H A 𝓣 E G23 b12 Δ0 at15
-          d15 = Typed.g-pre 𝓤 H A W 𝓣 E G23 G24 b12 Δ0 (Typed.pass T23 T24 s21) at14 (Scalar.g-room 𝓤 H A W E G23 3 (Syntax.tyInt Syntax.w64) (Scalar.room-sc 𝓤 H A W (Row.sInt Syntax.w64))) d14
+          d15 : Typed.Typed 𝓤 H A 𝓣 E G24 b12 Δ0 at15
+          d15 = Typed.g-pre 𝓤 H A W 𝓣 E G24 G25 b12 Δ0 (Typed.pass T24 T25 s22) at14 (Scalar.g-room 𝓤 H A W E G24 4 (Syntax.tyInt Syntax.w64) (Scalar.room-sc 𝓤 H A W (Row.sInt Syntax.w64))) d14
 
-          d16 : Typed.Typed 𝓤 H A 𝓣 E G22 b12 Δ0 at16
-          d16 = Typed.g-pre 𝓤 H A W 𝓣 E G22 G23 b12 Δ0 (Typed.pass T22 T23 s20) at15 (Scalar.g-room 𝓤 H A W E G22 2 (Syntax.tyInt Syntax.w64) (Scalar.room-sc 𝓤 H A W (Row.sInt Syntax.w64))) d15
+          d16 : Typed.Typed 𝓤 H A 𝓣 E G23 b12 Δ0 at16
+          d16 = Typed.g-pre 𝓤 H A W 𝓣 E G23 G24 b12 Δ0 (Typed.pass T23 T24 s21) at15 (Scalar.g-room 𝓤 H A W E G23 3 (Syntax.tyInt Syntax.w64) (Scalar.room-sc 𝓤 H A W (Row.sInt Syntax.w64))) d15
 
-          d17 : Typed.Typed 𝓤 H A 𝓣 E G21 b12 Δ0 at17
-          d17 = Typed.g-pre 𝓤 H A W 𝓣 E G21 G22 b12 Δ0 (Typed.pass T21 T22 s19) at16 (Scalar.g-room 𝓤 H A W E G21 7 (Laws.mir) (Local.room-whole 𝓤 H A W (Declared.row Answer.the-type) (Laws.mir) Path'.refl)) d16
+          d17 : Typed.Typed 𝓤 H A 𝓣 E G22 b12 Δ0 at17
+          d17 = Typed.g-pre 𝓤 H A W 𝓣 E G22 G23 b12 Δ0 (Typed.pass T22 T23 s20) at16 (Scalar.g-room 𝓤 H A W E G22 2 Syntax.tyBool (Scalar.room-sc 𝓤 H A W Row.sBool)) d16
 
-          d18 : Typed.Typed 𝓤 H A 𝓣 E G2 b13 Δ0 at18
-          d18 = Typed.s-seq 𝓤 H A W 𝓣 E G2 G21 b11 b12 Δ0 (Typed.pass T2 T21 s18) at17 (LocalCopy.t-val-copy 𝓤 H A W E 𝓣 (λ ρ. Unit) G2 7 0 (Declared.row Answer.the-type) (Laws.mir) (Laws.mir) (Rows.whole (Declared.row Answer.the-type)) (Rows.whole (Declared.row Answer.the-type)) (λ x. x) (λ x. x) (λ x. x) Path'.refl (Own.told-none 𝓤 H A (G2 .slots)) (Yields.yields-copy 𝓤 H A W (λ ρ. Unit) (Declared.row Answer.the-type) Path'.refl (Copies.cEnum Answer.the-type Laws.the-laws Laws.the-copy .copy 𝓤 H A W) (Rows.whole (Declared.row Answer.the-type)) (λ x. x) (λ x. x) (λ ρ told. Local.mem-whole 𝓤 H A W (Declared.row Answer.the-type) ρ) λ ρ told. Local.whole-mem 𝓤 H A W (Declared.row Answer.the-type) ρ) (Reads.room-gone 𝓤 H A (Laws.mir)) (Yields.makes-mem 𝓤 H A W (λ ρ. Unit) (Declared.row Answer.the-type) Path'.refl (Rows.whole (Declared.row Answer.the-type)) (λ x. x) λ ρ told. Local.whole-mem 𝓤 H A W (Declared.row Answer.the-type) ρ) Path'.refl Path'.refl) d17
+          d18 : Typed.Typed 𝓤 H A 𝓣 E G21 b12 Δ0 at18
+          d18 = Typed.g-pre 𝓤 H A W 𝓣 E G21 G22 b12 Δ0 (Typed.pass T21 T22 s19) at17 (Scalar.g-room 𝓤 H A W E G21 8 (Laws.mir) (Local.room-whole 𝓤 H A W (Declared.row Answer.the-type) (Laws.mir) Path'.refl)) d17
 
-          d19 : Typed.Typed 𝓤 H A 𝓣 E G0 b14 Δ0 at19
-          d19 = Typed.t-seq 𝓤 H A W 𝓣 E G0 G2 b10 b13 Δ0 at13 at18 d13 d18
+          d19 : Typed.Typed 𝓤 H A 𝓣 E G2 b13 Δ0 at19
+          d19 = Typed.s-seq 𝓤 H A W 𝓣 E G2 G21 b11 b12 Δ0 (Typed.pass T2 T21 s18) at18 (LocalCopy.t-val-copy 𝓤 H A W E 𝓣 (λ ρ. Unit) G2 8 0 (Declared.row Answer.the-type) (Laws.mir) (Laws.mir) (Rows.whole (Declared.row Answer.the-type)) (Rows.whole (Declared.row Answer.the-type)) (λ x. x) (λ x. x) (λ x. x) Path'.refl (Own.told-none 𝓤 H A (G2 .slots)) (Yields.yields-copy 𝓤 H A W (λ ρ. Unit) (Declared.row Answer.the-type) Path'.refl (Copies.cEnum Answer.the-type Laws.the-laws Laws.the-copy .copy 𝓤 H A W) (Rows.whole (Declared.row Answer.the-type)) (λ x. x) (λ x. x) (λ ρ told. Local.mem-whole 𝓤 H A W (Declared.row Answer.the-type) ρ) λ ρ told. Local.whole-mem 𝓤 H A W (Declared.row Answer.the-type) ρ) (Reads.room-gone 𝓤 H A (Laws.mir)) (Yields.makes-mem 𝓤 H A W (λ ρ. Unit) (Declared.row Answer.the-type) Path'.refl (Rows.whole (Declared.row Answer.the-type)) (λ x. x) λ ρ told. Local.whole-mem 𝓤 H A W (Declared.row Answer.the-type) ρ) Path'.refl Path'.refl) d18
+
+          d20 : Typed.Typed 𝓤 H A 𝓣 E G0 b14 Δ0 at20
+          d20 = Typed.t-seq 𝓤 H A W 𝓣 E G0 G2 b10 b13 Δ0 at13 at19 d13 d19
 
           pub typed :
               Typed.Typed
@@ -558,13 +577,14 @@ module _ (claims· : Claims) where
               b14
               (Function.Δret 1 ps r xs m κs qs)
               Φ
-          typed = d19
+          typed = d20
 
       module _ (κs : Lifetimes.Lfts 1) where
         pub record Args : Type 0 where
           pub outputs : Kinds.Den {n = 1}
               κs
               (MutSlice.pMutS (OfOutput.row) 0 tt)
+          pub tenant : Kinds.Den {n = 1} κs Bool.pBool
           pub time : Kinds.Den {n = 1} κs (Num.pNum Syntax.w64)
           pub at : Kinds.Den {n = 1} κs (Num.pNum Syntax.w64)
           pub request : Kinds.Den {n = 1} κs (Value.pVal record {
@@ -585,7 +605,7 @@ module _ (claims· : Claims) where
           })
 
         abbrev pub dens : (a : Args) → Kinds.Dens κs ps
-        dens = λ a. (a .outputs, (a .time, (a .at, (a .request, tt))))
+        dens = λ a. (a .outputs, (a .tenant, (a .time, (a .at, (a .request, tt)))))
 
         module _ (args· : Args) where
           pub record Ranges : Type 0 where
@@ -606,7 +626,7 @@ module _ (claims· : Claims) where
         pub pre : Pre· κs (dens κs args)
 
       abbrev W1 : (κs : Lifetimes.Lfts 1) → (args : Args κs) → Typed.Want O1
-      W1 = λ κs args. Typed.wantNext T2 O0 (at18 (W0 κs args)) (W0 κs args)
+      W1 = λ κs args. Typed.wantNext T2 O0 (at19 (W0 κs args)) (W0 κs args)
 
       module _ (before· : Start) where
         pub record At-match-keys1·own : Type 0 where
@@ -614,7 +634,7 @@ module _ (claims· : Claims) where
               (List._∷_ 0 List.[])
               (Declared.tagOf
               Request.the-type
-              (Row.get 4 (T0 .locals) (m0 (before· .κs) (before· .args))))
+              (Row.get 5 (T0 .locals) (m0 (before· .κs) (before· .args))))
 
       pub record At-match-keys1 : Type 0 where
         pub before : Start
@@ -681,7 +701,7 @@ module _ (claims· : Claims) where
               (List._∷_ 1 List.[])
               (Declared.tagOf
               Request.the-type
-              (Row.get 4 (T0 .locals) (m0 (before· .κs) (before· .args))))
+              (Row.get 5 (T0 .locals) (m0 (before· .κs) (before· .args))))
 
       pub record At-match-keys2 : Type 0 where
         pub before : Start
@@ -767,7 +787,7 @@ module _ (claims· : Claims) where
 
       module _ (before· : After-serve-output-arg) where
         abbrev pub After-serve-output·own : Type 0
-        After-serve-output·own = Called.Called ps·0 r·0 (claims· .1) T15 (record { pos = 9; ty = Syntax.tyRef Syntax.erased Syntax.mut OfOutput.named; ref = λ x. x }, (Num.vAt 2 λ x. x, (Num.vAt 3 λ x. x, (record { pos = 6; st = List.[]; d = 0; at = λ x. x }, tt)))) (m12 (before· .before) (before· .serve-output-arg .given))
+        After-serve-output·own = Called.Called ps·0 r·0 (claims· .1) T15 (record { pos = 10; ty = Syntax.tyRef Syntax.erased Syntax.mut OfOutput.named; ref = λ x. x }, (Bool.bAt 2 λ x. x, (Num.vAt 3 λ x. x, (Num.vAt 4 λ x. x, (record { pos = 7; st = List.[]; d = 0; at = λ x. x }, tt))))) (m12 (before· .before) (before· .serve-output-arg .given))
 
       pub record After-serve-output : Type 0 where
         pub before : After-serve-output-arg
@@ -776,7 +796,7 @@ module _ (claims· : Claims) where
       abbrev pub After-serve-output·gave :
           (c : After-serve-output) →
           s13 .gives (m12 (c .before .before) (c .before .serve-output-arg .given))
-      After-serve-output·gave = λ c. Called.given ps·0 r·0 (claims· .1) T15 (record { pos = 9; ty = Syntax.tyRef Syntax.erased Syntax.mut OfOutput.named; ref = λ x. x }, (Num.vAt 2 λ x. x, (Num.vAt 3 λ x. x, (record { pos = 6; st = List.[]; d = 0; at = λ x. x }, tt)))) (m12 (c .before .before) (c .before .serve-output-arg .given)) (c .serve-output)
+      After-serve-output·gave = λ c. Called.given ps·0 r·0 (claims· .1) T15 (record { pos = 10; ty = Syntax.tyRef Syntax.erased Syntax.mut OfOutput.named; ref = λ x. x }, (Bool.bAt 2 λ x. x, (Num.vAt 3 λ x. x, (Num.vAt 4 λ x. x, (record { pos = 7; st = List.[]; d = 0; at = λ x. x }, tt))))) (m12 (c .before .before) (c .before .serve-output-arg .given)) (c .serve-output)
 
       abbrev pub m15 :
           (before : After-serve-output) →
@@ -816,38 +836,50 @@ module _ (claims· : Claims) where
           Typed.Mo T24
       m19 = λ before given. s21 (m18 before given)
 
-      abbrev pub Need-returns : Type 0
-      Need-returns = (c : After-known-told) → Post· (c .before .before .before .κs) (dens (c .before .before .before .κs) (c .before .before .before .args)) (Function.resV r (c .before .before .before .κs) (m19 (c .before) (c .known-told .given) .0)) (Clauses.atExit (Kinds.endedOf 1 ps r) (c .before .before .before .κs) (dens (c .before .before .before .κs) (c .before .before .before .args)) (Enter.lastsP (c .before .before .before .κs) 1 ps xs (dens (c .before .before .before .κs) (c .before .before .before .args)) (m19 (c .before) (c .known-told .given) .1)))
-
       abbrev pub m20 :
-          (before : After-serve-output) →
-          (given : s16 .gives (m14 (before .before) (After-serve-output·gave before))) →
-          Typed.Mo T21
-      m20 = λ before given. s18 (m15 before given)
+          (before : After-request) →
+          (given : s1 .gives (m1 (before .before) (before .request .given))) →
+          Typed.Mo T25
+      m20 = λ before given. s22 (m19 before given)
+
+      abbrev pub Need-returns : Type 0
+      Need-returns = (c : After-known-told) → Post· (c .before .before .before .κs) (dens (c .before .before .before .κs) (c .before .before .before .args)) (Function.resV r (c .before .before .before .κs) (m20 (c .before) (c .known-told .given) .0)) (Clauses.atExit (Kinds.endedOf 1 ps r) (c .before .before .before .κs) (dens (c .before .before .before .κs) (c .before .before .before .args)) (Enter.lastsP (c .before .before .before .κs) 1 ps xs (dens (c .before .before .before .κs) (c .before .before .before .args)) (m20 (c .before) (c .known-told .given) .1)))
 
       abbrev pub m21 :
           (before : After-serve-output) →
           (given : s16 .gives (m14 (before .before) (After-serve-output·gave before))) →
-          Typed.Mo T22
-      m21 = λ before given. s19 (m20 before given)
+          Typed.Mo T21
+      m21 = λ before given. s18 (m15 before given)
 
       abbrev pub m22 :
           (before : After-serve-output) →
           (given : s16 .gives (m14 (before .before) (After-serve-output·gave before))) →
-          Typed.Mo T23
-      m22 = λ before given. s20 (m21 before given)
+          Typed.Mo T22
+      m22 = λ before given. s19 (m21 before given)
 
       abbrev pub m23 :
           (before : After-serve-output) →
           (given : s16 .gives (m14 (before .before) (After-serve-output·gave before))) →
+          Typed.Mo T23
+      m23 = λ before given. s20 (m22 before given)
+
+      abbrev pub m24 :
+          (before : After-serve-output) →
+          (given : s16 .gives (m14 (before .before) (After-serve-output·gave before))) →
           Typed.Mo T24
-      m23 = λ before given. s21 (m22 before given)
+      m24 = λ before given. s21 (m23 before given)
+
+      abbrev pub m25 :
+          (before : After-serve-output) →
+          (given : s16 .gives (m14 (before .before) (After-serve-output·gave before))) →
+          Typed.Mo T25
+      m25 = λ before given. s22 (m24 before given)
 
       abbrev pub Need-same-length : Type 0
-      Need-same-length = (c : After-outputs) → MutSlice.SameLen (Row.get 1 (T24 .locals) (m23 (c .before) (c .outputs .given))) (dens (c .before .before .before .before .before .before .κs) (c .before .before .before .before .before .before .args) .0)
+      Need-same-length = (c : After-outputs) → MutSlice.SameLen (Row.get 1 (T25 .locals) (m25 (c .before) (c .outputs .given))) (dens (c .before .before .before .before .before .before .κs) (c .before .before .before .before .before .before .args) .0)
 
       abbrev pub Need-returns-2 : Type 0
-      Need-returns-2 = (c : After-outputs) → Post· (c .before .before .before .before .before .before .κs) (dens (c .before .before .before .before .before .before .κs) (c .before .before .before .before .before .before .args)) (Function.resV r (c .before .before .before .before .before .before .κs) (m23 (c .before) (c .outputs .given) .0)) (Clauses.atExit (Kinds.endedOf 1 ps r) (c .before .before .before .before .before .before .κs) (dens (c .before .before .before .before .before .before .κs) (c .before .before .before .before .before .before .args)) (Enter.lastsP (c .before .before .before .before .before .before .κs) 1 ps xs (dens (c .before .before .before .before .before .before .κs) (c .before .before .before .before .before .before .args)) (m23 (c .before) (c .outputs .given) .1)))
+      Need-returns-2 = (c : After-outputs) → Post· (c .before .before .before .before .before .before .κs) (dens (c .before .before .before .before .before .before .κs) (c .before .before .before .before .before .before .args)) (Function.resV r (c .before .before .before .before .before .before .κs) (m25 (c .before) (c .outputs .given) .0)) (Clauses.atExit (Kinds.endedOf 1 ps r) (c .before .before .before .before .before .before .κs) (dens (c .before .before .before .before .before .before .κs) (c .before .before .before .before .before .before .args)) (Enter.lastsP (c .before .before .before .before .before .before .κs) 1 ps xs (dens (c .before .before .before .before .before .before .κs) (c .before .before .before .before .before .before .args)) (m25 (c .before) (c .outputs .given) .1)))
 
       module _ (enum-known-request : Need-enum-known-request)
           (enum-known-request-2 : Need-enum-known-request-2)
@@ -855,22 +887,22 @@ module _ (claims· : Claims) where
           (same-length : Need-same-length) (returns-2 : Need-returns-2) where
         lay2 :
             (c : After-outputs) →
-            at18
+            at19
             (W0
             (c .before .before .before .before .before .before .κs)
             (c .before .before .before .before .before .before .args))
             (m15 (c .before) (c .outputs .given))
-        lay2 = λ c. ((MutSlice.fix-len (Row.get 1 (T24 .locals) (m23 (c .before) (c .outputs .given)) .ptr) (Row.get 1 (T24 .locals) (m23 (c .before) (c .outputs .given)) .name) (Row.get 1 (T24 .locals) (m23 (c .before) (c .outputs .given)) .now) (dens (c .before .before .before .before .before .before .κs) (c .before .before .before .before .before .before .args) .0 .now) (same-length record { before = c .before; outputs = c .outputs }), (tt, (tt, (tt, tt)))), returns-2 record { before = c .before; outputs = c .outputs })
+        lay2 = λ c. ((MutSlice.fix-len (Row.get 1 (T25 .locals) (m25 (c .before) (c .outputs .given)) .ptr) (Row.get 1 (T25 .locals) (m25 (c .before) (c .outputs .given)) .name) (Row.get 1 (T25 .locals) (m25 (c .before) (c .outputs .given)) .now) (dens (c .before .before .before .before .before .before .κs) (c .before .before .before .before .before .before .args) .0 .now) (same-length record { before = c .before; outputs = c .outputs }), (tt, (tt, (tt, (tt, tt))))), returns-2 record { before = c .before; outputs = c .outputs })
 
         lay1 :
             (c : After-known-told) →
-            at18
+            at19
             (W0 (c .before .before .before .κs) (c .before .before .before .args))
             (m6 (c .before) (c .known-told .given))
-        lay1 = λ c. ((Path'.refl, (tt, (tt, (tt, tt)))), returns record { before = c .before; known-told = c .known-told })
+        lay1 = λ c. ((Path'.refl, (tt, (tt, (tt, (tt, tt))))), returns record { before = c .before; known-told = c .known-told })
 
-        pub laid : (c : Start) → at19 (W0 (c .κs) (c .args)) (m0 (c .κs) (c .args))
-        laid = λ c. (λ k. (enum-known-request record { before = c; match = record { keys1 = k } }, λ g. λ g'. lay1 record { before = record { before = record { before = c; match = record { keys1 = k } }; request = record { given = g } }; known-told = record { given = g' } }), (λ k. (enum-known-request-2 record { before = c; match = record { keys2 = k } }, λ g. λ g''. λ g'3. (Path'.refl, (serve-output-requires record { before = record { before = record { before = record { before = c; match = record { keys2 = k } }; request2 = record { given = g } }; known-told2 = record { given = g'' } }; serve-output-arg = record { given = g'3 } }, λ g'4. (Path'.refl, λ g'5. lay2 record { before = record { before = record { before = record { before = record { before = record { before = c; match = record { keys2 = k } }; request2 = record { given = g } }; known-told2 = record { given = g'' } }; serve-output-arg = record { given = g'3 } }; serve-output = Called.called ps·0 r·0 (claims· .1) T15 (record { pos = 9; ty = Syntax.tyRef Syntax.erased Syntax.mut OfOutput.named; ref = λ x. x }, (Num.vAt 2 λ x. x, (Num.vAt 3 λ x. x, (record { pos = 6; st = List.[]; d = 0; at = λ x. x }, tt)))) (m12 record { before = record { before = record { before = c; match = record { keys2 = k } }; request2 = record { given = g } }; known-told2 = record { given = g'' } } g'3) g'4 }; outputs = record { given = g'5 } })))), Match.each-below 2 (λ j. (Unit {0} × (Run.OneOf (List._∷_ 0 List.[]) j → ⊥)) × (Run.OneOf (List._∷_ 1 List.[]) j → ⊥) → ⊥) (λ n. n .1 Path'.refl, (λ n. n .0 .1 Path'.refl, tt)) (Declared.tagOf Request.the-type (Row.get 4 (T0 .locals) (m0 (c .κs) (c .args)))) (Match.tag-small Request.the-type (Row.get 4 (T0 .locals) (m0 (c .κs) (c .args))))))
+        pub laid : (c : Start) → at20 (W0 (c .κs) (c .args)) (m0 (c .κs) (c .args))
+        laid = λ c. (λ k. (enum-known-request record { before = c; match = record { keys1 = k } }, λ g. λ g'. lay1 record { before = record { before = record { before = c; match = record { keys1 = k } }; request = record { given = g } }; known-told = record { given = g' } }), (λ k. (enum-known-request-2 record { before = c; match = record { keys2 = k } }, λ g. λ g''. λ g'3. (Path'.refl, (serve-output-requires record { before = record { before = record { before = record { before = c; match = record { keys2 = k } }; request2 = record { given = g } }; known-told2 = record { given = g'' } }; serve-output-arg = record { given = g'3 } }, λ g'4. (Path'.refl, λ g'5. lay2 record { before = record { before = record { before = record { before = record { before = record { before = c; match = record { keys2 = k } }; request2 = record { given = g } }; known-told2 = record { given = g'' } }; serve-output-arg = record { given = g'3 } }; serve-output = Called.called ps·0 r·0 (claims· .1) T15 (record { pos = 10; ty = Syntax.tyRef Syntax.erased Syntax.mut OfOutput.named; ref = λ x. x }, (Bool.bAt 2 λ x. x, (Num.vAt 3 λ x. x, (Num.vAt 4 λ x. x, (record { pos = 7; st = List.[]; d = 0; at = λ x. x }, tt))))) (m12 record { before = record { before = record { before = c; match = record { keys2 = k } }; request2 = record { given = g } }; known-told2 = record { given = g'' } } g'3) g'4 }; outputs = record { given = g'5 } })))), Match.each-below 2 (λ j. (Unit {0} × (Run.OneOf (List._∷_ 0 List.[]) j → ⊥)) × (Run.OneOf (List._∷_ 1 List.[]) j → ⊥) → ⊥) (λ n. n .1 Path'.refl, (λ n. n .0 .1 Path'.refl, tt)) (Declared.tagOf Request.the-type (Row.get 5 (T0 .locals) (m0 (c .κs) (c .args)))) (Match.tag-small Request.the-type (Row.get 5 (T0 .locals) (m0 (c .κs) (c .args))))))
 
         module _ (κs : Lifetimes.Lfts 1) (qs : Lifetimes.Shares 1) where
           pub asked :
@@ -879,7 +911,7 @@ module _ (claims· : Claims) where
               (pre : Pre· κs a) →
               (bs : List.List Nat.ℕ) →
               Φ (Any.wantQ 1 ps r xs m κs qs a (Post· κs a)) (Function.init 1 ps r xs m κs qs a)
-          asked = λ a good pre bs. laid record { κs = κs; args = record { outputs = a .0; time = a .1 .0; at = a .1 .1 .0; request = a .1 .1 .1 .0 }; good = good; fits = record { time = record { fits = good .1 .0 .1 }; at = record { fits = good .1 .1 .0 .1 } }; pre = pre }
+          asked = λ a good pre bs. laid record { κs = κs; args = record { outputs = a .0; tenant = a .1 .0; time = a .1 .1 .0; at = a .1 .1 .1 .0; request = a .1 .1 .1 .1 .0 }; good = good; fits = record { time = record { fits = good .1 .1 .0 .1 }; at = record { fits = good .1 .1 .1 .0 .1 } }; pre = pre }
 
         module _ {M : Type 1} (𝓤 : URA.URA M) (H : Wp.Heap 𝓤) (A : Atoms.Atoms 𝓤)
             (W : Kit.Given 𝓤 H A) (𝓣 : Wp.Tables 𝓤 H)

@@ -15,6 +15,7 @@ use borrow.Fn.Frame
 use borrow.Fn.Function
 use borrow.Fn.Kinds
 use borrow.Fn.Plain
+use borrow.Kind.Bool
 use borrow.Kind.MutSlice
 use borrow.Kind.Num
 use borrow.Kind.Value
@@ -52,7 +53,7 @@ use prog.Wp
 use types.Kit
 
 abbrev pub ps : List.List (Kinds.PK 1)
-ps = List._∷_ (MutSlice.pMutS (OfOutput.row) 0 tt) (List._∷_ (Num.pNum Syntax.w64) (List._∷_ (Num.pNum Syntax.w64) (List._∷_ (Value.pVal record { ty = Declared.row OutputRequest.the-type; one = Path'.refl; val = Laws'3.val OutputRequest.the-type Laws''.the-laws; tells = Laws'3.tells OutputRequest.the-type Laws''.the-laws; still = Laws'3.still OutputRequest.the-type Laws''.the-copy Exit.yes; row = Rows'.whole (Declared.row OutputRequest.the-type); rd = λ x. x; mk = λ x. x } λ M 𝓤 H A W. record { copies = Laws'3.copy OutputRequest.the-type Laws''.the-copy 𝓤 H A W; lawful = Laws'3.lawful OutputRequest.the-type Laws''.the-laws 𝓤 H A W tt; makes = Laws'3.makes OutputRequest.the-type Laws''.the-plain 𝓤 H A; in-mem = Local.mem-whole 𝓤 H A W (Declared.row OutputRequest.the-type); of-mem = Local.whole-mem 𝓤 H A W (Declared.row OutputRequest.the-type) }) List.[])))
+ps = List._∷_ (MutSlice.pMutS (OfOutput.row) 0 tt) (List._∷_ Bool.pBool (List._∷_ (Num.pNum Syntax.w64) (List._∷_ (Num.pNum Syntax.w64) (List._∷_ (Value.pVal record { ty = Declared.row OutputRequest.the-type; one = Path'.refl; val = Laws'3.val OutputRequest.the-type Laws''.the-laws; tells = Laws'3.tells OutputRequest.the-type Laws''.the-laws; still = Laws'3.still OutputRequest.the-type Laws''.the-copy Exit.yes; row = Rows'.whole (Declared.row OutputRequest.the-type); rd = λ x. x; mk = λ x. x } λ M 𝓤 H A W. record { copies = Laws'3.copy OutputRequest.the-type Laws''.the-copy 𝓤 H A W; lawful = Laws'3.lawful OutputRequest.the-type Laws''.the-laws 𝓤 H A W tt; makes = Laws'3.makes OutputRequest.the-type Laws''.the-plain 𝓤 H A; in-mem = Local.mem-whole 𝓤 H A W (Declared.row OutputRequest.the-type); of-mem = Local.whole-mem 𝓤 H A W (Declared.row OutputRequest.the-type) }) List.[]))))
 
 abbrev pub r : Kinds.RK 1
 r = Value.rVal record { ty = Declared.row Answer.the-type; one = Path'.refl; val = Laws'3.val Answer.the-type Laws.the-laws; tells = Laws'3.tells Answer.the-type Laws.the-laws; still = Laws'3.still Answer.the-type Laws.the-copy Exit.yes; row = Rows'.whole (Declared.row Answer.the-type); rd = λ x. x; mk = λ x. x } λ M 𝓤 H A W. record { copies = Laws'3.copy Answer.the-type Laws.the-copy 𝓤 H A W; lawful = Laws'3.lawful Answer.the-type Laws.the-laws 𝓤 H A W tt; makes = Laws'3.makes Answer.the-type Laws.the-plain 𝓤 H A; in-mem = Local.mem-whole 𝓤 H A W (Declared.row Answer.the-type); of-mem = Local.whole-mem 𝓤 H A W (Declared.row Answer.the-type) }
@@ -64,7 +65,7 @@ abbrev pub m : Nat.ℕ
 m = 0
 
 abbrev pub ps·0 : List.List (Kinds.PK 0)
-ps·0 = List._∷_ (Num.pNum Syntax.w64) (List._∷_ (OfOutput.kind) (List._∷_ (Value.pVal record { ty = Declared.row OutputRequest.the-type; one = Path'.refl; val = Laws'3.val OutputRequest.the-type Laws''.the-laws; tells = Laws'3.tells OutputRequest.the-type Laws''.the-laws; still = Laws'3.still OutputRequest.the-type Laws''.the-copy Exit.yes; row = Rows'.whole (Declared.row OutputRequest.the-type); rd = λ x. x; mk = λ x. x } λ M 𝓤 H A W. record { copies = Laws'3.copy OutputRequest.the-type Laws''.the-copy 𝓤 H A W; lawful = Laws'3.lawful OutputRequest.the-type Laws''.the-laws 𝓤 H A W tt; makes = Laws'3.makes OutputRequest.the-type Laws''.the-plain 𝓤 H A; in-mem = Local.mem-whole 𝓤 H A W (Declared.row OutputRequest.the-type); of-mem = Local.whole-mem 𝓤 H A W (Declared.row OutputRequest.the-type) }) List.[]))
+ps·0 = List._∷_ Bool.pBool (List._∷_ (Num.pNum Syntax.w64) (List._∷_ (OfOutput.kind) (List._∷_ (Value.pVal record { ty = Declared.row OutputRequest.the-type; one = Path'.refl; val = Laws'3.val OutputRequest.the-type Laws''.the-laws; tells = Laws'3.tells OutputRequest.the-type Laws''.the-laws; still = Laws'3.still OutputRequest.the-type Laws''.the-copy Exit.yes; row = Rows'.whole (Declared.row OutputRequest.the-type); rd = λ x. x; mk = λ x. x } λ M 𝓤 H A W. record { copies = Laws'3.copy OutputRequest.the-type Laws''.the-copy 𝓤 H A W; lawful = Laws'3.lawful OutputRequest.the-type Laws''.the-laws 𝓤 H A W tt; makes = Laws'3.makes OutputRequest.the-type Laws''.the-plain 𝓤 H A; in-mem = Local.mem-whole 𝓤 H A W (Declared.row OutputRequest.the-type); of-mem = Local.whole-mem 𝓤 H A W (Declared.row OutputRequest.the-type) }) List.[])))
 
 abbrev pub r·0 : Kinds.RK 0
 r·0 = Value.rVal record { ty = Declared'.row Outcome.the-type; one = Path'.refl; val = Laws'4.val Outcome.the-type Laws'.the-laws; tells = Laws'4.tells Outcome.the-type Laws'.the-laws; still = Laws'4.still Outcome.the-type Laws'.the-copy Exit.yes; row = Rows'.whole (Declared'.row Outcome.the-type); rd = λ x. x; mk = λ x. x } λ M 𝓤 H A W. record { copies = Laws'4.copy Outcome.the-type Laws'.the-copy 𝓤 H A W; lawful = Laws'4.lawful Outcome.the-type Laws'.the-laws 𝓤 H A W; makes = Laws'4.makes Outcome.the-type Laws'.the-plain 𝓤 H A; in-mem = Local.mem-whole 𝓤 H A W (Declared'.row Outcome.the-type); of-mem = Local.whole-mem 𝓤 H A W (Declared'.row Outcome.the-type) }
@@ -82,37 +83,37 @@ abbrev pub r·2 : Kinds.RK 0
 r·2 = Value.rVal record { ty = Declared.row Answer.the-type; one = Path'.refl; val = Laws'3.val Answer.the-type Laws.the-laws; tells = Laws'3.tells Answer.the-type Laws.the-laws; still = Laws'3.still Answer.the-type Laws.the-copy Exit.yes; row = Rows'.whole (Declared.row Answer.the-type); rd = λ x. x; mk = λ x. x } λ M 𝓤 H A W. record { copies = Laws'3.copy Answer.the-type Laws.the-copy 𝓤 H A W; lawful = Laws'3.lawful Answer.the-type Laws.the-laws 𝓤 H A W tt; makes = Laws'3.makes Answer.the-type Laws.the-plain 𝓤 H A; in-mem = Local.mem-whole 𝓤 H A W (Declared.row Answer.the-type); of-mem = Local.whole-mem 𝓤 H A W (Declared.row Answer.the-type) }
 
 abbrev pub hs : List.List Syntax.Home
-hs = List._∷_ Syntax.valueLocal (List._∷_ Syntax.valueLocal (List._∷_ Syntax.valueLocal (List._∷_ Syntax.valueLocal (List._∷_ Syntax.valueLocal (List._∷_ Syntax.valueLocal (List._∷_ Syntax.valueLocal (List._∷_ Syntax.valueLocal (List._∷_ Syntax.valueLocal (List._∷_ Syntax.valueLocal (List._∷_ Syntax.valueLocal (List._∷_ Syntax.valueLocal List.[])))))))))))
+hs = List._∷_ Syntax.valueLocal (List._∷_ Syntax.valueLocal (List._∷_ Syntax.valueLocal (List._∷_ Syntax.valueLocal (List._∷_ Syntax.valueLocal (List._∷_ Syntax.valueLocal (List._∷_ Syntax.valueLocal (List._∷_ Syntax.valueLocal (List._∷_ Syntax.valueLocal (List._∷_ Syntax.valueLocal (List._∷_ Syntax.valueLocal (List._∷_ Syntax.valueLocal (List._∷_ Syntax.valueLocal List.[]))))))))))))
 
 abbrev b0 : Syntax.Body
-b0 = Syntax.assign (Syntax.place 8 List.[]) (Syntax.op2 (Syntax.mul Syntax.unsigned) (Syntax.copy (Syntax.place 3 List.[])) (Syntax.int Syntax.w64 208))
+b0 = Syntax.assign (Syntax.place 9 List.[]) (Syntax.op2 (Syntax.mul Syntax.unsigned) (Syntax.copy (Syntax.place 4 List.[])) (Syntax.int Syntax.w64 208))
 
 abbrev b1 : Syntax.Body
-b1 = Syntax.assign (Syntax.place 9 List.[]) (Syntax.op2 Syntax.offset (Syntax.copy (Syntax.place 1 (List._∷_ (Syntax.field 0) List.[]))) (Syntax.copy (Syntax.place 8 List.[])))
+b1 = Syntax.assign (Syntax.place 10 List.[]) (Syntax.op2 Syntax.offset (Syntax.copy (Syntax.place 1 (List._∷_ (Syntax.field 0) List.[]))) (Syntax.copy (Syntax.place 9 List.[])))
 
 abbrev b2 : Syntax.Body
-b2 = Syntax.assign (Syntax.place 10 List.[]) (Syntax.rvOpd (Syntax.copy (Syntax.place 9 (List._∷_ (Syntax.deref OfOutput.spelt) List.[]))))
+b2 = Syntax.assign (Syntax.place 11 List.[]) (Syntax.rvOpd (Syntax.copy (Syntax.place 10 (List._∷_ (Syntax.deref OfOutput.spelt) List.[]))))
 
 abbrev b3 : Syntax.Body
-b3 = Syntax.assign (Syntax.place 5 List.[]) (Syntax.rvOpd (Syntax.copy (Syntax.place 10 List.[])))
+b3 = Syntax.assign (Syntax.place 6 List.[]) (Syntax.rvOpd (Syntax.copy (Syntax.place 11 List.[])))
 
 abbrev b4 : Syntax.Body
-b4 = Syntax.call "output_acting::act" (List._∷_ (Syntax.copy (Syntax.place 2 List.[])) (List._∷_ (Syntax.copy (Syntax.place 5 List.[])) (List._∷_ (Syntax.copy (Syntax.place 4 List.[])) List.[]))) (Syntax.place 6 List.[])
+b4 = Syntax.call "output_acting::act" (List._∷_ (Syntax.copy (Syntax.place 2 List.[])) (List._∷_ (Syntax.copy (Syntax.place 3 List.[])) (List._∷_ (Syntax.copy (Syntax.place 6 List.[])) (List._∷_ (Syntax.copy (Syntax.place 5 List.[])) List.[])))) (Syntax.place 7 List.[])
 
 abbrev b5 : Syntax.Body
-b5 = Syntax.call "output_acting::outcome_output" (List._∷_ (Syntax.copy (Syntax.place 6 List.[])) List.[]) (Syntax.place 7 List.[])
+b5 = Syntax.call "output_acting::outcome_output" (List._∷_ (Syntax.copy (Syntax.place 7 List.[])) List.[]) (Syntax.place 8 List.[])
 
 abbrev b6 : Syntax.Body
-b6 = Syntax.assign (Syntax.place 8 List.[]) (Syntax.op2 (Syntax.mul Syntax.unsigned) (Syntax.copy (Syntax.place 3 List.[])) (Syntax.int Syntax.w64 208))
+b6 = Syntax.assign (Syntax.place 9 List.[]) (Syntax.op2 (Syntax.mul Syntax.unsigned) (Syntax.copy (Syntax.place 4 List.[])) (Syntax.int Syntax.w64 208))
 
 abbrev b7 : Syntax.Body
-b7 = Syntax.assign (Syntax.place 11 List.[]) (Syntax.op2 Syntax.offset (Syntax.copy (Syntax.place 1 (List._∷_ (Syntax.field 0) List.[]))) (Syntax.copy (Syntax.place 8 List.[])))
+b7 = Syntax.assign (Syntax.place 12 List.[]) (Syntax.op2 Syntax.offset (Syntax.copy (Syntax.place 1 (List._∷_ (Syntax.field 0) List.[]))) (Syntax.copy (Syntax.place 9 List.[])))
 
 abbrev b8 : Syntax.Body
-b8 = Syntax.assign (Syntax.place 11 (List._∷_ (Syntax.deref OfOutput.spelt) List.[])) (Syntax.rvOpd (Syntax.copy (Syntax.place 7 List.[])))
+b8 = Syntax.assign (Syntax.place 12 (List._∷_ (Syntax.deref OfOutput.spelt) List.[])) (Syntax.rvOpd (Syntax.copy (Syntax.place 8 List.[])))
 
 abbrev b9 : Syntax.Body
-b9 = Syntax.call "output_acting::outcome_answer" (List._∷_ (Syntax.copy (Syntax.place 6 List.[])) List.[]) (Syntax.place 0 List.[])
+b9 = Syntax.call "output_acting::outcome_answer" (List._∷_ (Syntax.copy (Syntax.place 7 List.[])) List.[]) (Syntax.place 0 List.[])
 
 abbrev b10 : Syntax.Body
 b10 = Syntax.return
@@ -154,64 +155,67 @@ abbrev pub Claims : Type 1
 Claims = Kinds.In 0 ps·0 × Kinds.Out 0 ps·0 r·0 × Kinds.In 0 ps·1 × Kinds.Out 0 ps·1 r·1 × Kinds.In 0 ps·2 × Kinds.Out 0 ps·2 r·2
 
 abbrev pub t0 : List.List Row.Entry
-t0 = List._∷_ (0, Rows'.any-gone (Laws.mir)) (List._∷_ (1, Mut.mslice (OfOutput.row) (Syntax.tyRef (Syntax.named 0) Syntax.mut OfOutput.named) 0) (List._∷_ (2, Rows'.sc-here (Row.sInt Syntax.w64)) (List._∷_ (3, Rows'.sc-here (Row.sInt Syntax.w64)) (List._∷_ (4, Rows'.whole (Declared.row OutputRequest.the-type)) (List._∷_ (5, Rows'.any-gone OfOutput.spelt) (List._∷_ (6, Rows'.any-gone (Laws'.mir)) (List._∷_ (7, Rows'.any-gone OfOutput.spelt) (List._∷_ (8, Rows'.any-gone (Syntax.tyInt Syntax.w64)) (List._∷_ (9, Rows'.any-gone Syntax.tyPtr) (List._∷_ (10, Rows'.any-gone OfOutput.spelt) (List._∷_ (11, Rows'.any-gone Syntax.tyPtr) List.[])))))))))))
+t0 = List._∷_ (0, Rows'.any-gone (Laws.mir)) (List._∷_ (1, Mut.mslice (OfOutput.row) (Syntax.tyRef (Syntax.named 0) Syntax.mut OfOutput.named) 0) (List._∷_ (2, Rows'.sc-here Row.sBool) (List._∷_ (3, Rows'.sc-here (Row.sInt Syntax.w64)) (List._∷_ (4, Rows'.sc-here (Row.sInt Syntax.w64)) (List._∷_ (5, Rows'.whole (Declared.row OutputRequest.the-type)) (List._∷_ (6, Rows'.any-gone OfOutput.spelt) (List._∷_ (7, Rows'.any-gone (Laws'.mir)) (List._∷_ (8, Rows'.any-gone OfOutput.spelt) (List._∷_ (9, Rows'.any-gone (Syntax.tyInt Syntax.w64)) (List._∷_ (10, Rows'.any-gone Syntax.tyPtr) (List._∷_ (11, Rows'.any-gone OfOutput.spelt) (List._∷_ (12, Rows'.any-gone Syntax.tyPtr) List.[]))))))))))))
 
 abbrev pub t1 : List.List Row.Entry
-t1 = List._∷_ (0, Rows'.whole (Declared.row Answer.the-type)) (List._∷_ (1, Mut.mslice (OfOutput.row) (Syntax.tyRef (Syntax.named 0) Syntax.mut OfOutput.named) 0) (List._∷_ (2, Rows'.any-gone (Syntax.tyInt Syntax.w64)) (List._∷_ (3, Rows'.any-gone (Syntax.tyInt Syntax.w64)) (List._∷_ (4, Rows'.any-gone (Laws''.mir)) (List._∷_ (5, Rows'.any-gone OfOutput.spelt) (List._∷_ (6, Rows'.any-gone (Laws'.mir)) (List._∷_ (7, Rows'.any-gone OfOutput.spelt) (List._∷_ (8, Rows'.any-gone (Syntax.tyInt Syntax.w64)) (List._∷_ (9, Rows'.any-gone Syntax.tyPtr) (List._∷_ (10, Rows'.any-gone OfOutput.spelt) (List._∷_ (11, Rows'.any-gone Syntax.tyPtr) List.[])))))))))))
+t1 = List._∷_ (0, Rows'.whole (Declared.row Answer.the-type)) (List._∷_ (1, Mut.mslice (OfOutput.row) (Syntax.tyRef (Syntax.named 0) Syntax.mut OfOutput.named) 0) (List._∷_ (2, Rows'.any-gone Syntax.tyBool) (List._∷_ (3, Rows'.any-gone (Syntax.tyInt Syntax.w64)) (List._∷_ (4, Rows'.any-gone (Syntax.tyInt Syntax.w64)) (List._∷_ (5, Rows'.any-gone (Laws''.mir)) (List._∷_ (6, Rows'.any-gone OfOutput.spelt) (List._∷_ (7, Rows'.any-gone (Laws'.mir)) (List._∷_ (8, Rows'.any-gone OfOutput.spelt) (List._∷_ (9, Rows'.any-gone (Syntax.tyInt Syntax.w64)) (List._∷_ (10, Rows'.any-gone Syntax.tyPtr) (List._∷_ (11, Rows'.any-gone OfOutput.spelt) (List._∷_ (12, Rows'.any-gone Syntax.tyPtr) List.[]))))))))))))
 
 abbrev pub t2 : List.List Row.Entry
-t2 = List._∷_ (0, Rows'.any-gone (Laws.mir)) (List._∷_ (1, Mut.mslice (OfOutput.row) (Syntax.tyRef (Syntax.named 0) Syntax.mut OfOutput.named) 0) (List._∷_ (2, Rows'.sc-here (Row.sInt Syntax.w64)) (List._∷_ (3, Rows'.sc-here (Row.sInt Syntax.w64)) (List._∷_ (4, Rows'.whole (Declared.row OutputRequest.the-type)) (List._∷_ (5, Rows'.any-gone OfOutput.spelt) (List._∷_ (6, Rows'.any-gone (Laws'.mir)) (List._∷_ (7, Rows'.any-gone OfOutput.spelt) (List._∷_ (8, Rows'.sc-here (Row.sInt Syntax.w64)) (List._∷_ (9, Rows'.any-gone Syntax.tyPtr) (List._∷_ (10, Rows'.any-gone OfOutput.spelt) (List._∷_ (11, Rows'.any-gone Syntax.tyPtr) List.[])))))))))))
+t2 = List._∷_ (0, Rows'.any-gone (Laws.mir)) (List._∷_ (1, Mut.mslice (OfOutput.row) (Syntax.tyRef (Syntax.named 0) Syntax.mut OfOutput.named) 0) (List._∷_ (2, Rows'.sc-here Row.sBool) (List._∷_ (3, Rows'.sc-here (Row.sInt Syntax.w64)) (List._∷_ (4, Rows'.sc-here (Row.sInt Syntax.w64)) (List._∷_ (5, Rows'.whole (Declared.row OutputRequest.the-type)) (List._∷_ (6, Rows'.any-gone OfOutput.spelt) (List._∷_ (7, Rows'.any-gone (Laws'.mir)) (List._∷_ (8, Rows'.any-gone OfOutput.spelt) (List._∷_ (9, Rows'.sc-here (Row.sInt Syntax.w64)) (List._∷_ (10, Rows'.any-gone Syntax.tyPtr) (List._∷_ (11, Rows'.any-gone OfOutput.spelt) (List._∷_ (12, Rows'.any-gone Syntax.tyPtr) List.[]))))))))))))
 
 abbrev pub t3 : List.List Row.Entry
-t3 = List._∷_ (0, Rows'.any-gone (Laws.mir)) (List._∷_ (1, Mut.mslice (OfOutput.row) (Syntax.tyRef (Syntax.named 0) Syntax.mut OfOutput.named) 0) (List._∷_ (2, Rows'.sc-here (Row.sInt Syntax.w64)) (List._∷_ (3, Rows'.sc-here (Row.sInt Syntax.w64)) (List._∷_ (4, Rows'.whole (Declared.row OutputRequest.the-type)) (List._∷_ (5, Rows'.any-gone OfOutput.spelt) (List._∷_ (6, Rows'.any-gone (Laws'.mir)) (List._∷_ (7, Rows'.any-gone OfOutput.spelt) (List._∷_ (8, Rows'.sc-here (Row.sInt Syntax.w64)) (List._∷_ (9, Rows'.sc-here Row.sPtr) (List._∷_ (10, Rows'.any-gone OfOutput.spelt) (List._∷_ (11, Rows'.any-gone Syntax.tyPtr) List.[])))))))))))
+t3 = List._∷_ (0, Rows'.any-gone (Laws.mir)) (List._∷_ (1, Mut.mslice (OfOutput.row) (Syntax.tyRef (Syntax.named 0) Syntax.mut OfOutput.named) 0) (List._∷_ (2, Rows'.sc-here Row.sBool) (List._∷_ (3, Rows'.sc-here (Row.sInt Syntax.w64)) (List._∷_ (4, Rows'.sc-here (Row.sInt Syntax.w64)) (List._∷_ (5, Rows'.whole (Declared.row OutputRequest.the-type)) (List._∷_ (6, Rows'.any-gone OfOutput.spelt) (List._∷_ (7, Rows'.any-gone (Laws'.mir)) (List._∷_ (8, Rows'.any-gone OfOutput.spelt) (List._∷_ (9, Rows'.sc-here (Row.sInt Syntax.w64)) (List._∷_ (10, Rows'.sc-here Row.sPtr) (List._∷_ (11, Rows'.any-gone OfOutput.spelt) (List._∷_ (12, Rows'.any-gone Syntax.tyPtr) List.[]))))))))))))
 
 abbrev pub t4 : List.List Row.Entry
-t4 = List._∷_ (0, Rows'.any-gone (Laws.mir)) (List._∷_ (1, Mut.mslice (OfOutput.row) (Syntax.tyRef (Syntax.named 0) Syntax.mut OfOutput.named) 0) (List._∷_ (2, Rows'.sc-here (Row.sInt Syntax.w64)) (List._∷_ (3, Rows'.sc-here (Row.sInt Syntax.w64)) (List._∷_ (4, Rows'.whole (Declared.row OutputRequest.the-type)) (List._∷_ (5, Rows'.any-gone OfOutput.spelt) (List._∷_ (6, Rows'.any-gone (Laws'.mir)) (List._∷_ (7, Rows'.any-gone OfOutput.spelt) (List._∷_ (8, Rows'.sc-here (Row.sInt Syntax.w64)) (List._∷_ (9, Rows'.sc-here Row.sPtr) (List._∷_ (10, OfOutput.held) (List._∷_ (11, Rows'.any-gone Syntax.tyPtr) List.[])))))))))))
+t4 = List._∷_ (0, Rows'.any-gone (Laws.mir)) (List._∷_ (1, Mut.mslice (OfOutput.row) (Syntax.tyRef (Syntax.named 0) Syntax.mut OfOutput.named) 0) (List._∷_ (2, Rows'.sc-here Row.sBool) (List._∷_ (3, Rows'.sc-here (Row.sInt Syntax.w64)) (List._∷_ (4, Rows'.sc-here (Row.sInt Syntax.w64)) (List._∷_ (5, Rows'.whole (Declared.row OutputRequest.the-type)) (List._∷_ (6, Rows'.any-gone OfOutput.spelt) (List._∷_ (7, Rows'.any-gone (Laws'.mir)) (List._∷_ (8, Rows'.any-gone OfOutput.spelt) (List._∷_ (9, Rows'.sc-here (Row.sInt Syntax.w64)) (List._∷_ (10, Rows'.sc-here Row.sPtr) (List._∷_ (11, OfOutput.held) (List._∷_ (12, Rows'.any-gone Syntax.tyPtr) List.[]))))))))))))
 
 abbrev pub t5 : List.List Row.Entry
-t5 = List._∷_ (0, Rows'.any-gone (Laws.mir)) (List._∷_ (1, Mut.mslice (OfOutput.row) (Syntax.tyRef (Syntax.named 0) Syntax.mut OfOutput.named) 0) (List._∷_ (2, Rows'.sc-here (Row.sInt Syntax.w64)) (List._∷_ (3, Rows'.sc-here (Row.sInt Syntax.w64)) (List._∷_ (4, Rows'.whole (Declared.row OutputRequest.the-type)) (List._∷_ (5, Rows'.any-gone OfOutput.spelt) (List._∷_ (6, Rows'.any-gone (Laws'.mir)) (List._∷_ (7, Rows'.any-gone OfOutput.spelt) (List._∷_ (8, Rows'.any-gone (Syntax.tyInt Syntax.w64)) (List._∷_ (9, Rows'.sc-here Row.sPtr) (List._∷_ (10, OfOutput.held) (List._∷_ (11, Rows'.any-gone Syntax.tyPtr) List.[])))))))))))
+t5 = List._∷_ (0, Rows'.any-gone (Laws.mir)) (List._∷_ (1, Mut.mslice (OfOutput.row) (Syntax.tyRef (Syntax.named 0) Syntax.mut OfOutput.named) 0) (List._∷_ (2, Rows'.sc-here Row.sBool) (List._∷_ (3, Rows'.sc-here (Row.sInt Syntax.w64)) (List._∷_ (4, Rows'.sc-here (Row.sInt Syntax.w64)) (List._∷_ (5, Rows'.whole (Declared.row OutputRequest.the-type)) (List._∷_ (6, Rows'.any-gone OfOutput.spelt) (List._∷_ (7, Rows'.any-gone (Laws'.mir)) (List._∷_ (8, Rows'.any-gone OfOutput.spelt) (List._∷_ (9, Rows'.any-gone (Syntax.tyInt Syntax.w64)) (List._∷_ (10, Rows'.sc-here Row.sPtr) (List._∷_ (11, OfOutput.held) (List._∷_ (12, Rows'.any-gone Syntax.tyPtr) List.[]))))))))))))
 
 abbrev pub t6 : List.List Row.Entry
-t6 = List._∷_ (0, Rows'.any-gone (Laws.mir)) (List._∷_ (1, Mut.mslice (OfOutput.row) (Syntax.tyRef (Syntax.named 0) Syntax.mut OfOutput.named) 0) (List._∷_ (2, Rows'.sc-here (Row.sInt Syntax.w64)) (List._∷_ (3, Rows'.sc-here (Row.sInt Syntax.w64)) (List._∷_ (4, Rows'.whole (Declared.row OutputRequest.the-type)) (List._∷_ (5, Rows'.any-gone OfOutput.spelt) (List._∷_ (6, Rows'.any-gone (Laws'.mir)) (List._∷_ (7, Rows'.any-gone OfOutput.spelt) (List._∷_ (8, Rows'.any-gone (Syntax.tyInt Syntax.w64)) (List._∷_ (9, Rows'.any-gone Syntax.tyPtr) (List._∷_ (10, OfOutput.held) (List._∷_ (11, Rows'.any-gone Syntax.tyPtr) List.[])))))))))))
+t6 = List._∷_ (0, Rows'.any-gone (Laws.mir)) (List._∷_ (1, Mut.mslice (OfOutput.row) (Syntax.tyRef (Syntax.named 0) Syntax.mut OfOutput.named) 0) (List._∷_ (2, Rows'.sc-here Row.sBool) (List._∷_ (3, Rows'.sc-here (Row.sInt Syntax.w64)) (List._∷_ (4, Rows'.sc-here (Row.sInt Syntax.w64)) (List._∷_ (5, Rows'.whole (Declared.row OutputRequest.the-type)) (List._∷_ (6, Rows'.any-gone OfOutput.spelt) (List._∷_ (7, Rows'.any-gone (Laws'.mir)) (List._∷_ (8, Rows'.any-gone OfOutput.spelt) (List._∷_ (9, Rows'.any-gone (Syntax.tyInt Syntax.w64)) (List._∷_ (10, Rows'.any-gone Syntax.tyPtr) (List._∷_ (11, OfOutput.held) (List._∷_ (12, Rows'.any-gone Syntax.tyPtr) List.[]))))))))))))
 
 abbrev pub t7 : List.List Row.Entry
-t7 = List._∷_ (0, Rows'.any-gone (Laws.mir)) (List._∷_ (1, Mut.mslice (OfOutput.row) (Syntax.tyRef (Syntax.named 0) Syntax.mut OfOutput.named) 0) (List._∷_ (2, Rows'.sc-here (Row.sInt Syntax.w64)) (List._∷_ (3, Rows'.sc-here (Row.sInt Syntax.w64)) (List._∷_ (4, Rows'.whole (Declared.row OutputRequest.the-type)) (List._∷_ (5, OfOutput.held) (List._∷_ (6, Rows'.any-gone (Laws'.mir)) (List._∷_ (7, Rows'.any-gone OfOutput.spelt) (List._∷_ (8, Rows'.any-gone (Syntax.tyInt Syntax.w64)) (List._∷_ (9, Rows'.any-gone Syntax.tyPtr) (List._∷_ (10, OfOutput.held) (List._∷_ (11, Rows'.any-gone Syntax.tyPtr) List.[])))))))))))
+t7 = List._∷_ (0, Rows'.any-gone (Laws.mir)) (List._∷_ (1, Mut.mslice (OfOutput.row) (Syntax.tyRef (Syntax.named 0) Syntax.mut OfOutput.named) 0) (List._∷_ (2, Rows'.sc-here Row.sBool) (List._∷_ (3, Rows'.sc-here (Row.sInt Syntax.w64)) (List._∷_ (4, Rows'.sc-here (Row.sInt Syntax.w64)) (List._∷_ (5, Rows'.whole (Declared.row OutputRequest.the-type)) (List._∷_ (6, OfOutput.held) (List._∷_ (7, Rows'.any-gone (Laws'.mir)) (List._∷_ (8, Rows'.any-gone OfOutput.spelt) (List._∷_ (9, Rows'.any-gone (Syntax.tyInt Syntax.w64)) (List._∷_ (10, Rows'.any-gone Syntax.tyPtr) (List._∷_ (11, OfOutput.held) (List._∷_ (12, Rows'.any-gone Syntax.tyPtr) List.[]))))))))))))
 
 abbrev pub t8 : List.List Row.Entry
-t8 = List._∷_ (0, Rows'.any-gone (Laws.mir)) (List._∷_ (1, Mut.mslice (OfOutput.row) (Syntax.tyRef (Syntax.named 0) Syntax.mut OfOutput.named) 0) (List._∷_ (2, Rows'.sc-here (Row.sInt Syntax.w64)) (List._∷_ (3, Rows'.sc-here (Row.sInt Syntax.w64)) (List._∷_ (4, Rows'.whole (Declared.row OutputRequest.the-type)) (List._∷_ (5, OfOutput.held) (List._∷_ (6, Rows'.any-gone (Laws'.mir)) (List._∷_ (7, Rows'.any-gone OfOutput.spelt) (List._∷_ (8, Rows'.any-gone (Syntax.tyInt Syntax.w64)) (List._∷_ (9, Rows'.any-gone Syntax.tyPtr) (List._∷_ (10, Rows'.any-gone OfOutput.spelt) (List._∷_ (11, Rows'.any-gone Syntax.tyPtr) List.[])))))))))))
+t8 = List._∷_ (0, Rows'.any-gone (Laws.mir)) (List._∷_ (1, Mut.mslice (OfOutput.row) (Syntax.tyRef (Syntax.named 0) Syntax.mut OfOutput.named) 0) (List._∷_ (2, Rows'.sc-here Row.sBool) (List._∷_ (3, Rows'.sc-here (Row.sInt Syntax.w64)) (List._∷_ (4, Rows'.sc-here (Row.sInt Syntax.w64)) (List._∷_ (5, Rows'.whole (Declared.row OutputRequest.the-type)) (List._∷_ (6, OfOutput.held) (List._∷_ (7, Rows'.any-gone (Laws'.mir)) (List._∷_ (8, Rows'.any-gone OfOutput.spelt) (List._∷_ (9, Rows'.any-gone (Syntax.tyInt Syntax.w64)) (List._∷_ (10, Rows'.any-gone Syntax.tyPtr) (List._∷_ (11, Rows'.any-gone OfOutput.spelt) (List._∷_ (12, Rows'.any-gone Syntax.tyPtr) List.[]))))))))))))
 
 abbrev pub t9 : List.List Row.Entry
-t9 = List._∷_ (0, Rows'.any-gone (Laws.mir)) (List._∷_ (1, Mut.mslice (OfOutput.row) (Syntax.tyRef (Syntax.named 0) Syntax.mut OfOutput.named) 0) (List._∷_ (2, Rows'.sc-here (Row.sInt Syntax.w64)) (List._∷_ (3, Rows'.sc-here (Row.sInt Syntax.w64)) (List._∷_ (4, Rows'.whole (Declared.row OutputRequest.the-type)) (List._∷_ (5, OfOutput.held) (List._∷_ (6, Rows'.whole (Declared'.row Outcome.the-type)) (List._∷_ (7, Rows'.any-gone OfOutput.spelt) (List._∷_ (8, Rows'.any-gone (Syntax.tyInt Syntax.w64)) (List._∷_ (9, Rows'.any-gone Syntax.tyPtr) (List._∷_ (10, Rows'.any-gone OfOutput.spelt) (List._∷_ (11, Rows'.any-gone Syntax.tyPtr) List.[])))))))))))
+t9 = List._∷_ (0, Rows'.any-gone (Laws.mir)) (List._∷_ (1, Mut.mslice (OfOutput.row) (Syntax.tyRef (Syntax.named 0) Syntax.mut OfOutput.named) 0) (List._∷_ (2, Rows'.sc-here Row.sBool) (List._∷_ (3, Rows'.sc-here (Row.sInt Syntax.w64)) (List._∷_ (4, Rows'.sc-here (Row.sInt Syntax.w64)) (List._∷_ (5, Rows'.whole (Declared.row OutputRequest.the-type)) (List._∷_ (6, OfOutput.held) (List._∷_ (7, Rows'.whole (Declared'.row Outcome.the-type)) (List._∷_ (8, Rows'.any-gone OfOutput.spelt) (List._∷_ (9, Rows'.any-gone (Syntax.tyInt Syntax.w64)) (List._∷_ (10, Rows'.any-gone Syntax.tyPtr) (List._∷_ (11, Rows'.any-gone OfOutput.spelt) (List._∷_ (12, Rows'.any-gone Syntax.tyPtr) List.[]))))))))))))
 
 abbrev pub t10 : List.List Row.Entry
-t10 = List._∷_ (0, Rows'.any-gone (Laws.mir)) (List._∷_ (1, Mut.mslice (OfOutput.row) (Syntax.tyRef (Syntax.named 0) Syntax.mut OfOutput.named) 0) (List._∷_ (2, Rows'.sc-here (Row.sInt Syntax.w64)) (List._∷_ (3, Rows'.sc-here (Row.sInt Syntax.w64)) (List._∷_ (4, Rows'.any-gone (Laws''.mir)) (List._∷_ (5, OfOutput.held) (List._∷_ (6, Rows'.whole (Declared'.row Outcome.the-type)) (List._∷_ (7, Rows'.any-gone OfOutput.spelt) (List._∷_ (8, Rows'.any-gone (Syntax.tyInt Syntax.w64)) (List._∷_ (9, Rows'.any-gone Syntax.tyPtr) (List._∷_ (10, Rows'.any-gone OfOutput.spelt) (List._∷_ (11, Rows'.any-gone Syntax.tyPtr) List.[])))))))))))
+t10 = List._∷_ (0, Rows'.any-gone (Laws.mir)) (List._∷_ (1, Mut.mslice (OfOutput.row) (Syntax.tyRef (Syntax.named 0) Syntax.mut OfOutput.named) 0) (List._∷_ (2, Rows'.sc-here Row.sBool) (List._∷_ (3, Rows'.sc-here (Row.sInt Syntax.w64)) (List._∷_ (4, Rows'.sc-here (Row.sInt Syntax.w64)) (List._∷_ (5, Rows'.any-gone (Laws''.mir)) (List._∷_ (6, OfOutput.held) (List._∷_ (7, Rows'.whole (Declared'.row Outcome.the-type)) (List._∷_ (8, Rows'.any-gone OfOutput.spelt) (List._∷_ (9, Rows'.any-gone (Syntax.tyInt Syntax.w64)) (List._∷_ (10, Rows'.any-gone Syntax.tyPtr) (List._∷_ (11, Rows'.any-gone OfOutput.spelt) (List._∷_ (12, Rows'.any-gone Syntax.tyPtr) List.[]))))))))))))
 
 abbrev pub t11 : List.List Row.Entry
-t11 = List._∷_ (0, Rows'.any-gone (Laws.mir)) (List._∷_ (1, Mut.mslice (OfOutput.row) (Syntax.tyRef (Syntax.named 0) Syntax.mut OfOutput.named) 0) (List._∷_ (2, Rows'.sc-here (Row.sInt Syntax.w64)) (List._∷_ (3, Rows'.sc-here (Row.sInt Syntax.w64)) (List._∷_ (4, Rows'.any-gone (Laws''.mir)) (List._∷_ (5, Rows'.any-gone OfOutput.spelt) (List._∷_ (6, Rows'.whole (Declared'.row Outcome.the-type)) (List._∷_ (7, Rows'.any-gone OfOutput.spelt) (List._∷_ (8, Rows'.any-gone (Syntax.tyInt Syntax.w64)) (List._∷_ (9, Rows'.any-gone Syntax.tyPtr) (List._∷_ (10, Rows'.any-gone OfOutput.spelt) (List._∷_ (11, Rows'.any-gone Syntax.tyPtr) List.[])))))))))))
+t11 = List._∷_ (0, Rows'.any-gone (Laws.mir)) (List._∷_ (1, Mut.mslice (OfOutput.row) (Syntax.tyRef (Syntax.named 0) Syntax.mut OfOutput.named) 0) (List._∷_ (2, Rows'.sc-here Row.sBool) (List._∷_ (3, Rows'.sc-here (Row.sInt Syntax.w64)) (List._∷_ (4, Rows'.sc-here (Row.sInt Syntax.w64)) (List._∷_ (5, Rows'.any-gone (Laws''.mir)) (List._∷_ (6, Rows'.any-gone OfOutput.spelt) (List._∷_ (7, Rows'.whole (Declared'.row Outcome.the-type)) (List._∷_ (8, Rows'.any-gone OfOutput.spelt) (List._∷_ (9, Rows'.any-gone (Syntax.tyInt Syntax.w64)) (List._∷_ (10, Rows'.any-gone Syntax.tyPtr) (List._∷_ (11, Rows'.any-gone OfOutput.spelt) (List._∷_ (12, Rows'.any-gone Syntax.tyPtr) List.[]))))))))))))
 
 abbrev pub t12 : List.List Row.Entry
-t12 = List._∷_ (0, Rows'.any-gone (Laws.mir)) (List._∷_ (1, Mut.mslice (OfOutput.row) (Syntax.tyRef (Syntax.named 0) Syntax.mut OfOutput.named) 0) (List._∷_ (2, Rows'.sc-here (Row.sInt Syntax.w64)) (List._∷_ (3, Rows'.sc-here (Row.sInt Syntax.w64)) (List._∷_ (4, Rows'.any-gone (Laws''.mir)) (List._∷_ (5, Rows'.any-gone OfOutput.spelt) (List._∷_ (6, Rows'.whole (Declared'.row Outcome.the-type)) (List._∷_ (7, OfOutput.held) (List._∷_ (8, Rows'.any-gone (Syntax.tyInt Syntax.w64)) (List._∷_ (9, Rows'.any-gone Syntax.tyPtr) (List._∷_ (10, Rows'.any-gone OfOutput.spelt) (List._∷_ (11, Rows'.any-gone Syntax.tyPtr) List.[])))))))))))
+t12 = List._∷_ (0, Rows'.any-gone (Laws.mir)) (List._∷_ (1, Mut.mslice (OfOutput.row) (Syntax.tyRef (Syntax.named 0) Syntax.mut OfOutput.named) 0) (List._∷_ (2, Rows'.sc-here Row.sBool) (List._∷_ (3, Rows'.sc-here (Row.sInt Syntax.w64)) (List._∷_ (4, Rows'.sc-here (Row.sInt Syntax.w64)) (List._∷_ (5, Rows'.any-gone (Laws''.mir)) (List._∷_ (6, Rows'.any-gone OfOutput.spelt) (List._∷_ (7, Rows'.whole (Declared'.row Outcome.the-type)) (List._∷_ (8, OfOutput.held) (List._∷_ (9, Rows'.any-gone (Syntax.tyInt Syntax.w64)) (List._∷_ (10, Rows'.any-gone Syntax.tyPtr) (List._∷_ (11, Rows'.any-gone OfOutput.spelt) (List._∷_ (12, Rows'.any-gone Syntax.tyPtr) List.[]))))))))))))
 
 abbrev pub t13 : List.List Row.Entry
-t13 = List._∷_ (0, Rows'.any-gone (Laws.mir)) (List._∷_ (1, Mut.mslice (OfOutput.row) (Syntax.tyRef (Syntax.named 0) Syntax.mut OfOutput.named) 0) (List._∷_ (2, Rows'.sc-here (Row.sInt Syntax.w64)) (List._∷_ (3, Rows'.sc-here (Row.sInt Syntax.w64)) (List._∷_ (4, Rows'.any-gone (Laws''.mir)) (List._∷_ (5, Rows'.any-gone OfOutput.spelt) (List._∷_ (6, Rows'.whole (Declared'.row Outcome.the-type)) (List._∷_ (7, OfOutput.held) (List._∷_ (8, Rows'.sc-here (Row.sInt Syntax.w64)) (List._∷_ (9, Rows'.any-gone Syntax.tyPtr) (List._∷_ (10, Rows'.any-gone OfOutput.spelt) (List._∷_ (11, Rows'.any-gone Syntax.tyPtr) List.[])))))))))))
+t13 = List._∷_ (0, Rows'.any-gone (Laws.mir)) (List._∷_ (1, Mut.mslice (OfOutput.row) (Syntax.tyRef (Syntax.named 0) Syntax.mut OfOutput.named) 0) (List._∷_ (2, Rows'.sc-here Row.sBool) (List._∷_ (3, Rows'.sc-here (Row.sInt Syntax.w64)) (List._∷_ (4, Rows'.sc-here (Row.sInt Syntax.w64)) (List._∷_ (5, Rows'.any-gone (Laws''.mir)) (List._∷_ (6, Rows'.any-gone OfOutput.spelt) (List._∷_ (7, Rows'.whole (Declared'.row Outcome.the-type)) (List._∷_ (8, OfOutput.held) (List._∷_ (9, Rows'.sc-here (Row.sInt Syntax.w64)) (List._∷_ (10, Rows'.any-gone Syntax.tyPtr) (List._∷_ (11, Rows'.any-gone OfOutput.spelt) (List._∷_ (12, Rows'.any-gone Syntax.tyPtr) List.[]))))))))))))
 
 abbrev pub t14 : List.List Row.Entry
-t14 = List._∷_ (0, Rows'.any-gone (Laws.mir)) (List._∷_ (1, Mut.mslice (OfOutput.row) (Syntax.tyRef (Syntax.named 0) Syntax.mut OfOutput.named) 0) (List._∷_ (2, Rows'.sc-here (Row.sInt Syntax.w64)) (List._∷_ (3, Rows'.sc-here (Row.sInt Syntax.w64)) (List._∷_ (4, Rows'.any-gone (Laws''.mir)) (List._∷_ (5, Rows'.any-gone OfOutput.spelt) (List._∷_ (6, Rows'.whole (Declared'.row Outcome.the-type)) (List._∷_ (7, OfOutput.held) (List._∷_ (8, Rows'.sc-here (Row.sInt Syntax.w64)) (List._∷_ (9, Rows'.any-gone Syntax.tyPtr) (List._∷_ (10, Rows'.any-gone OfOutput.spelt) (List._∷_ (11, Rows'.sc-here Row.sPtr) List.[])))))))))))
+t14 = List._∷_ (0, Rows'.any-gone (Laws.mir)) (List._∷_ (1, Mut.mslice (OfOutput.row) (Syntax.tyRef (Syntax.named 0) Syntax.mut OfOutput.named) 0) (List._∷_ (2, Rows'.sc-here Row.sBool) (List._∷_ (3, Rows'.sc-here (Row.sInt Syntax.w64)) (List._∷_ (4, Rows'.sc-here (Row.sInt Syntax.w64)) (List._∷_ (5, Rows'.any-gone (Laws''.mir)) (List._∷_ (6, Rows'.any-gone OfOutput.spelt) (List._∷_ (7, Rows'.whole (Declared'.row Outcome.the-type)) (List._∷_ (8, OfOutput.held) (List._∷_ (9, Rows'.sc-here (Row.sInt Syntax.w64)) (List._∷_ (10, Rows'.any-gone Syntax.tyPtr) (List._∷_ (11, Rows'.any-gone OfOutput.spelt) (List._∷_ (12, Rows'.sc-here Row.sPtr) List.[]))))))))))))
 
 abbrev pub t15 : List.List Row.Entry
-t15 = List._∷_ (0, Rows'.any-gone (Laws.mir)) (List._∷_ (1, Mut.mslice (OfOutput.row) (Syntax.tyRef (Syntax.named 0) Syntax.mut OfOutput.named) 0) (List._∷_ (2, Rows'.sc-here (Row.sInt Syntax.w64)) (List._∷_ (3, Rows'.sc-here (Row.sInt Syntax.w64)) (List._∷_ (4, Rows'.any-gone (Laws''.mir)) (List._∷_ (5, Rows'.any-gone OfOutput.spelt) (List._∷_ (6, Rows'.whole (Declared'.row Outcome.the-type)) (List._∷_ (7, Rows'.any-gone OfOutput.spelt) (List._∷_ (8, Rows'.sc-here (Row.sInt Syntax.w64)) (List._∷_ (9, Rows'.any-gone Syntax.tyPtr) (List._∷_ (10, Rows'.any-gone OfOutput.spelt) (List._∷_ (11, Rows'.sc-here Row.sPtr) List.[])))))))))))
+t15 = List._∷_ (0, Rows'.any-gone (Laws.mir)) (List._∷_ (1, Mut.mslice (OfOutput.row) (Syntax.tyRef (Syntax.named 0) Syntax.mut OfOutput.named) 0) (List._∷_ (2, Rows'.sc-here Row.sBool) (List._∷_ (3, Rows'.sc-here (Row.sInt Syntax.w64)) (List._∷_ (4, Rows'.sc-here (Row.sInt Syntax.w64)) (List._∷_ (5, Rows'.any-gone (Laws''.mir)) (List._∷_ (6, Rows'.any-gone OfOutput.spelt) (List._∷_ (7, Rows'.whole (Declared'.row Outcome.the-type)) (List._∷_ (8, Rows'.any-gone OfOutput.spelt) (List._∷_ (9, Rows'.sc-here (Row.sInt Syntax.w64)) (List._∷_ (10, Rows'.any-gone Syntax.tyPtr) (List._∷_ (11, Rows'.any-gone OfOutput.spelt) (List._∷_ (12, Rows'.sc-here Row.sPtr) List.[]))))))))))))
 
 abbrev pub t16 : List.List Row.Entry
-t16 = List._∷_ (0, Rows'.any-gone (Laws.mir)) (List._∷_ (1, Mut.mslice (OfOutput.row) (Syntax.tyRef (Syntax.named 0) Syntax.mut OfOutput.named) 0) (List._∷_ (2, Rows'.sc-here (Row.sInt Syntax.w64)) (List._∷_ (3, Rows'.sc-here (Row.sInt Syntax.w64)) (List._∷_ (4, Rows'.any-gone (Laws''.mir)) (List._∷_ (5, Rows'.any-gone OfOutput.spelt) (List._∷_ (6, Rows'.whole (Declared'.row Outcome.the-type)) (List._∷_ (7, Rows'.any-gone OfOutput.spelt) (List._∷_ (8, Rows'.any-gone (Syntax.tyInt Syntax.w64)) (List._∷_ (9, Rows'.any-gone Syntax.tyPtr) (List._∷_ (10, Rows'.any-gone OfOutput.spelt) (List._∷_ (11, Rows'.sc-here Row.sPtr) List.[])))))))))))
+t16 = List._∷_ (0, Rows'.any-gone (Laws.mir)) (List._∷_ (1, Mut.mslice (OfOutput.row) (Syntax.tyRef (Syntax.named 0) Syntax.mut OfOutput.named) 0) (List._∷_ (2, Rows'.sc-here Row.sBool) (List._∷_ (3, Rows'.sc-here (Row.sInt Syntax.w64)) (List._∷_ (4, Rows'.sc-here (Row.sInt Syntax.w64)) (List._∷_ (5, Rows'.any-gone (Laws''.mir)) (List._∷_ (6, Rows'.any-gone OfOutput.spelt) (List._∷_ (7, Rows'.whole (Declared'.row Outcome.the-type)) (List._∷_ (8, Rows'.any-gone OfOutput.spelt) (List._∷_ (9, Rows'.any-gone (Syntax.tyInt Syntax.w64)) (List._∷_ (10, Rows'.any-gone Syntax.tyPtr) (List._∷_ (11, Rows'.any-gone OfOutput.spelt) (List._∷_ (12, Rows'.sc-here Row.sPtr) List.[]))))))))))))
 
 abbrev pub t17 : List.List Row.Entry
-t17 = List._∷_ (0, Rows'.whole (Declared.row Answer.the-type)) (List._∷_ (1, Mut.mslice (OfOutput.row) (Syntax.tyRef (Syntax.named 0) Syntax.mut OfOutput.named) 0) (List._∷_ (2, Rows'.sc-here (Row.sInt Syntax.w64)) (List._∷_ (3, Rows'.sc-here (Row.sInt Syntax.w64)) (List._∷_ (4, Rows'.any-gone (Laws''.mir)) (List._∷_ (5, Rows'.any-gone OfOutput.spelt) (List._∷_ (6, Rows'.whole (Declared'.row Outcome.the-type)) (List._∷_ (7, Rows'.any-gone OfOutput.spelt) (List._∷_ (8, Rows'.any-gone (Syntax.tyInt Syntax.w64)) (List._∷_ (9, Rows'.any-gone Syntax.tyPtr) (List._∷_ (10, Rows'.any-gone OfOutput.spelt) (List._∷_ (11, Rows'.any-gone Syntax.tyPtr) List.[])))))))))))
+t17 = List._∷_ (0, Rows'.whole (Declared.row Answer.the-type)) (List._∷_ (1, Mut.mslice (OfOutput.row) (Syntax.tyRef (Syntax.named 0) Syntax.mut OfOutput.named) 0) (List._∷_ (2, Rows'.sc-here Row.sBool) (List._∷_ (3, Rows'.sc-here (Row.sInt Syntax.w64)) (List._∷_ (4, Rows'.sc-here (Row.sInt Syntax.w64)) (List._∷_ (5, Rows'.any-gone (Laws''.mir)) (List._∷_ (6, Rows'.any-gone OfOutput.spelt) (List._∷_ (7, Rows'.whole (Declared'.row Outcome.the-type)) (List._∷_ (8, Rows'.any-gone OfOutput.spelt) (List._∷_ (9, Rows'.any-gone (Syntax.tyInt Syntax.w64)) (List._∷_ (10, Rows'.any-gone Syntax.tyPtr) (List._∷_ (11, Rows'.any-gone OfOutput.spelt) (List._∷_ (12, Rows'.any-gone Syntax.tyPtr) List.[]))))))))))))
 
 abbrev pub t18 : List.List Row.Entry
-t18 = List._∷_ (0, Rows'.whole (Declared.row Answer.the-type)) (List._∷_ (1, Mut.mslice (OfOutput.row) (Syntax.tyRef (Syntax.named 0) Syntax.mut OfOutput.named) 0) (List._∷_ (2, Rows'.sc-here (Row.sInt Syntax.w64)) (List._∷_ (3, Rows'.sc-here (Row.sInt Syntax.w64)) (List._∷_ (4, Rows'.any-gone (Laws''.mir)) (List._∷_ (5, Rows'.any-gone OfOutput.spelt) (List._∷_ (6, Rows'.any-gone (Laws'.mir)) (List._∷_ (7, Rows'.any-gone OfOutput.spelt) (List._∷_ (8, Rows'.any-gone (Syntax.tyInt Syntax.w64)) (List._∷_ (9, Rows'.any-gone Syntax.tyPtr) (List._∷_ (10, Rows'.any-gone OfOutput.spelt) (List._∷_ (11, Rows'.any-gone Syntax.tyPtr) List.[])))))))))))
+t18 = List._∷_ (0, Rows'.whole (Declared.row Answer.the-type)) (List._∷_ (1, Mut.mslice (OfOutput.row) (Syntax.tyRef (Syntax.named 0) Syntax.mut OfOutput.named) 0) (List._∷_ (2, Rows'.sc-here Row.sBool) (List._∷_ (3, Rows'.sc-here (Row.sInt Syntax.w64)) (List._∷_ (4, Rows'.sc-here (Row.sInt Syntax.w64)) (List._∷_ (5, Rows'.any-gone (Laws''.mir)) (List._∷_ (6, Rows'.any-gone OfOutput.spelt) (List._∷_ (7, Rows'.any-gone (Laws'.mir)) (List._∷_ (8, Rows'.any-gone OfOutput.spelt) (List._∷_ (9, Rows'.any-gone (Syntax.tyInt Syntax.w64)) (List._∷_ (10, Rows'.any-gone Syntax.tyPtr) (List._∷_ (11, Rows'.any-gone OfOutput.spelt) (List._∷_ (12, Rows'.any-gone Syntax.tyPtr) List.[]))))))))))))
 
 abbrev pub t19 : List.List Row.Entry
-t19 = List._∷_ (0, Rows'.whole (Declared.row Answer.the-type)) (List._∷_ (1, Mut.mslice (OfOutput.row) (Syntax.tyRef (Syntax.named 0) Syntax.mut OfOutput.named) 0) (List._∷_ (2, Rows'.any-gone (Syntax.tyInt Syntax.w64)) (List._∷_ (3, Rows'.sc-here (Row.sInt Syntax.w64)) (List._∷_ (4, Rows'.any-gone (Laws''.mir)) (List._∷_ (5, Rows'.any-gone OfOutput.spelt) (List._∷_ (6, Rows'.any-gone (Laws'.mir)) (List._∷_ (7, Rows'.any-gone OfOutput.spelt) (List._∷_ (8, Rows'.any-gone (Syntax.tyInt Syntax.w64)) (List._∷_ (9, Rows'.any-gone Syntax.tyPtr) (List._∷_ (10, Rows'.any-gone OfOutput.spelt) (List._∷_ (11, Rows'.any-gone Syntax.tyPtr) List.[])))))))))))
+t19 = List._∷_ (0, Rows'.whole (Declared.row Answer.the-type)) (List._∷_ (1, Mut.mslice (OfOutput.row) (Syntax.tyRef (Syntax.named 0) Syntax.mut OfOutput.named) 0) (List._∷_ (2, Rows'.any-gone Syntax.tyBool) (List._∷_ (3, Rows'.sc-here (Row.sInt Syntax.w64)) (List._∷_ (4, Rows'.sc-here (Row.sInt Syntax.w64)) (List._∷_ (5, Rows'.any-gone (Laws''.mir)) (List._∷_ (6, Rows'.any-gone OfOutput.spelt) (List._∷_ (7, Rows'.any-gone (Laws'.mir)) (List._∷_ (8, Rows'.any-gone OfOutput.spelt) (List._∷_ (9, Rows'.any-gone (Syntax.tyInt Syntax.w64)) (List._∷_ (10, Rows'.any-gone Syntax.tyPtr) (List._∷_ (11, Rows'.any-gone OfOutput.spelt) (List._∷_ (12, Rows'.any-gone Syntax.tyPtr) List.[]))))))))))))
+
+abbrev pub t20 : List.List Row.Entry
+t20 = List._∷_ (0, Rows'.whole (Declared.row Answer.the-type)) (List._∷_ (1, Mut.mslice (OfOutput.row) (Syntax.tyRef (Syntax.named 0) Syntax.mut OfOutput.named) 0) (List._∷_ (2, Rows'.any-gone Syntax.tyBool) (List._∷_ (3, Rows'.any-gone (Syntax.tyInt Syntax.w64)) (List._∷_ (4, Rows'.sc-here (Row.sInt Syntax.w64)) (List._∷_ (5, Rows'.any-gone (Laws''.mir)) (List._∷_ (6, Rows'.any-gone OfOutput.spelt) (List._∷_ (7, Rows'.any-gone (Laws'.mir)) (List._∷_ (8, Rows'.any-gone OfOutput.spelt) (List._∷_ (9, Rows'.any-gone (Syntax.tyInt Syntax.w64)) (List._∷_ (10, Rows'.any-gone Syntax.tyPtr) (List._∷_ (11, Rows'.any-gone OfOutput.spelt) (List._∷_ (12, Rows'.any-gone Syntax.tyPtr) List.[]))))))))))))
 
 abbrev pub T0 : Row.Cx
 T0 = record { locals = t0; slots = List.[] }
@@ -280,74 +284,80 @@ abbrev pub T21 : Row.Cx
 T21 = record { locals = t19; slots = List.[] }
 
 abbrev pub T22 : Row.Cx
-T22 = record { locals = t1; slots = List.[] }
+T22 = record { locals = t20; slots = List.[] }
+
+abbrev pub T23 : Row.Cx
+T23 = record { locals = t1; slots = List.[] }
 
 abbrev pub O0 : Typed.Outs
 O0 = record { next = Option.none; exits = List.[]; returns = Option.some T1 }
 
 module _ (claims· : Claims) where
   abbrev s0 : Typed.Asks T0 T2
-  s0 = Scalar.k-op2 T0 (Syntax.mul Syntax.unsigned) (Scalar.oAt 3 (Syntax.tyInt Syntax.w64) (Row.valS (Row.sInt Syntax.w64))) (Scalar.oInt Syntax.w64 208) 8 (Rows'.sc-here (Row.sInt Syntax.w64)) (Row.sInt Syntax.w64 .of)
+  s0 = Scalar.k-op2 T0 (Syntax.mul Syntax.unsigned) (Scalar.oAt 4 (Syntax.tyInt Syntax.w64) (Row.valS (Row.sInt Syntax.w64))) (Scalar.oInt Syntax.w64 208) 9 (Rows'.sc-here (Row.sInt Syntax.w64)) (Row.sInt Syntax.w64 .of)
 
   abbrev s1 : Typed.Asks T2 T3
-  s1 = Scalar.k-op2 T2 Syntax.offset (Scalar.oFld 1 (List._∷_ (Syntax.field 0) List.[]) (Syntax.tyRef (Syntax.named 0) Syntax.mut OfOutput.named) 0 Reads.ptrVal) (Scalar.oAt 8 (Syntax.tyInt Syntax.w64) (Row.valS (Row.sInt Syntax.w64))) 9 (Rows'.sc-here Row.sPtr) (Row.sPtr .of)
+  s1 = Scalar.k-op2 T2 Syntax.offset (Scalar.oFld 1 (List._∷_ (Syntax.field 0) List.[]) (Syntax.tyRef (Syntax.named 0) Syntax.mut OfOutput.named) 0 Reads.ptrVal) (Scalar.oAt 9 (Syntax.tyInt Syntax.w64) (Row.valS (Row.sInt Syntax.w64))) 10 (Rows'.sc-here Row.sPtr) (Row.sPtr .of)
 
   abbrev s2 : Typed.Both T3 T4
-  s2 = Move.k-sl-copy-out (OfOutput.row) T3 1 9 10 0 (Syntax.tyRef (Syntax.named 0) Syntax.mut OfOutput.named) Row.off (OfOutput.held) (Shared.bySize 208) (λ u. u .1 .1 .1 .0) (λ x. x) OfOutput.none (λ x. Unit) (λ x. x) λ x. x
+  s2 = Move.k-sl-copy-out (OfOutput.row) T3 1 10 11 0 (Syntax.tyRef (Syntax.named 0) Syntax.mut OfOutput.named) Row.off (OfOutput.held) (Shared.bySize 208) (λ u. u .1 .1 .1 .1 .0) (λ x. x) OfOutput.none (λ x. Unit) (λ x. x) λ x. x
 
   abbrev s3 : Typed.Mo T4 → Typed.Mo T5
-  s3 = Scalar.n-room T4 8 (Syntax.tyInt Syntax.w64)
+  s3 = Scalar.n-room T4 9 (Syntax.tyInt Syntax.w64)
 
   abbrev s4 : Typed.Mo T5 → Typed.Mo T6
-  s4 = Scalar.n-room T5 9 Syntax.tyPtr
+  s4 = Scalar.n-room T5 10 Syntax.tyPtr
 
   abbrev s5 : Typed.Mo T6 → Typed.Mo T7
-  s5 = LocalCopy.n-val-copy T6 10 5 (OfOutput.row) (OfOutput.held) (OfOutput.held) (λ x. x) (λ x. x) λ x. x
+  s5 = LocalCopy.n-val-copy T6 11 6 (OfOutput.row) (OfOutput.held) (OfOutput.held) (λ x. x) (λ x. x) λ x. x
 
   abbrev s6 : Typed.Mo T7 → Typed.Mo T8
-  s6 = Scalar.n-room T7 10 OfOutput.spelt
+  s6 = Scalar.n-room T7 11 OfOutput.spelt
 
   abbrev s7 : Typed.Both T8 T9
-  s7 = Call.callB ps·0 r·0 (claims· .0) (claims· .1) T8 (Num.vAt 2 λ x. x, (record { pos = 5; st = List.[]; d = 0; at = λ x. x }, (record { pos = 4; st = List.[]; d = 0; at = λ x. x }, tt))) 6 List.[] (Laws'.mir)
+  s7 = Call.callB ps·0 r·0 (claims· .0) (claims· .1) T8 (Bool.bAt 2 λ x. x, (Num.vAt 3 λ x. x, (record { pos = 6; st = List.[]; d = 0; at = λ x. x }, (record { pos = 5; st = List.[]; d = 0; at = λ x. x }, tt)))) 7 List.[] (Laws'.mir)
 
   abbrev s8 : Typed.Mo T9 → Typed.Mo T10
-  s8 = Scalar.n-room T9 4 (Laws''.mir)
+  s8 = Scalar.n-room T9 5 (Laws''.mir)
 
   abbrev s9 : Typed.Mo T10 → Typed.Mo T11
-  s9 = Scalar.n-room T10 5 OfOutput.spelt
+  s9 = Scalar.n-room T10 6 OfOutput.spelt
 
   abbrev s10 : Typed.Both T11 T12
-  s10 = Call.callB ps·1 r·1 (claims· .2) (claims· .3) T11 (record { pos = 6; st = List.[]; d = 0; at = λ x. x }, tt) 7 List.[] OfOutput.spelt
+  s10 = Call.callB ps·1 r·1 (claims· .2) (claims· .3) T11 (record { pos = 7; st = List.[]; d = 0; at = λ x. x }, tt) 8 List.[] OfOutput.spelt
 
   abbrev s11 : Typed.Asks T12 T13
-  s11 = Scalar.k-op2 T12 (Syntax.mul Syntax.unsigned) (Scalar.oAt 3 (Syntax.tyInt Syntax.w64) (Row.valS (Row.sInt Syntax.w64))) (Scalar.oInt Syntax.w64 208) 8 (Rows'.sc-here (Row.sInt Syntax.w64)) (Row.sInt Syntax.w64 .of)
+  s11 = Scalar.k-op2 T12 (Syntax.mul Syntax.unsigned) (Scalar.oAt 4 (Syntax.tyInt Syntax.w64) (Row.valS (Row.sInt Syntax.w64))) (Scalar.oInt Syntax.w64 208) 9 (Rows'.sc-here (Row.sInt Syntax.w64)) (Row.sInt Syntax.w64 .of)
 
   abbrev s12 : Typed.Asks T13 T14
-  s12 = Scalar.k-op2 T13 Syntax.offset (Scalar.oFld 1 (List._∷_ (Syntax.field 0) List.[]) (Syntax.tyRef (Syntax.named 0) Syntax.mut OfOutput.named) 0 Reads.ptrVal) (Scalar.oAt 8 (Syntax.tyInt Syntax.w64) (Row.valS (Row.sInt Syntax.w64))) 11 (Rows'.sc-here Row.sPtr) (Row.sPtr .of)
+  s12 = Scalar.k-op2 T13 Syntax.offset (Scalar.oFld 1 (List._∷_ (Syntax.field 0) List.[]) (Syntax.tyRef (Syntax.named 0) Syntax.mut OfOutput.named) 0 Reads.ptrVal) (Scalar.oAt 9 (Syntax.tyInt Syntax.w64) (Row.valS (Row.sInt Syntax.w64))) 12 (Rows'.sc-here Row.sPtr) (Row.sPtr .of)
 
   abbrev s13 : Typed.Asks T14 T15
-  s13 = Move.k-sl-set-from (OfOutput.row) T14 1 11 7 0 (Syntax.tyRef (Syntax.named 0) Syntax.mut OfOutput.named) Row.off (OfOutput.held) (Shared.bySize 208) (λ u. u .1 .1 .1 .0) (λ x. x) (λ x. x) (λ x. x) λ x. x
+  s13 = Move.k-sl-set-from (OfOutput.row) T14 1 12 8 0 (Syntax.tyRef (Syntax.named 0) Syntax.mut OfOutput.named) Row.off (OfOutput.held) (Shared.bySize 208) (λ u. u .1 .1 .1 .1 .0) (λ x. x) (λ x. x) (λ x. x) λ x. x
 
   abbrev s14 : Typed.Mo T15 → Typed.Mo T16
-  s14 = Scalar.n-room T15 7 OfOutput.spelt
+  s14 = Scalar.n-room T15 8 OfOutput.spelt
 
   abbrev s15 : Typed.Mo T16 → Typed.Mo T17
-  s15 = Scalar.n-room T16 8 (Syntax.tyInt Syntax.w64)
+  s15 = Scalar.n-room T16 9 (Syntax.tyInt Syntax.w64)
 
   abbrev s16 : Typed.Mo T17 → Typed.Mo T18
-  s16 = Scalar.n-room T17 11 Syntax.tyPtr
+  s16 = Scalar.n-room T17 12 Syntax.tyPtr
 
   abbrev s17 : Typed.Both T18 T19
-  s17 = Call.callB ps·2 r·2 (claims· .4) (claims· .5) T18 (record { pos = 6; st = List.[]; d = 0; at = λ x. x }, tt) 0 List.[] (Laws.mir)
+  s17 = Call.callB ps·2 r·2 (claims· .4) (claims· .5) T18 (record { pos = 7; st = List.[]; d = 0; at = λ x. x }, tt) 0 List.[] (Laws.mir)
 
   abbrev s18 : Typed.Mo T19 → Typed.Mo T20
-  s18 = Scalar.n-room T19 6 (Laws'.mir)
+  s18 = Scalar.n-room T19 7 (Laws'.mir)
 
   abbrev s19 : Typed.Mo T20 → Typed.Mo T21
-  s19 = Scalar.n-room T20 2 (Syntax.tyInt Syntax.w64)
+  s19 = Scalar.n-room T20 2 Syntax.tyBool
 
   abbrev s20 : Typed.Mo T21 → Typed.Mo T22
   s20 = Scalar.n-room T21 3 (Syntax.tyInt Syntax.w64)
+
+  abbrev s21 : Typed.Mo T22 → Typed.Mo T23
+  s21 = Scalar.n-room T22 4 (Syntax.tyInt Syntax.w64)
 
   module _ (Pre· : (κs : Lifetimes.Lfts 1) → Kinds.Dens κs ps → Type 0)
       (Post· : (κs : Lifetimes.Lfts 1) → (a : Kinds.Dens κs ps) → Kinds.Plain 1 ps r κs) where
@@ -356,74 +366,77 @@ module _ (claims· : Claims) where
       Closed = (𝓤 : URA.URA M) (H : Wp.Heap 𝓤) (A : Atoms.Atoms 𝓤) (W : Kit.Given 𝓤 H A) (𝓣 : Wp.Tables 𝓤 H) (known0 : Plain.Known 𝓤 H A W 𝓣 0 ps·0 r·0 (claims· .0) (claims· .1) "output_acting::act") (known1 : Plain.Known 𝓤 H A W 𝓣 0 ps·1 r·1 (claims· .2) (claims· .3) "output_acting::outcome_output") (known2 : Plain.Known 𝓤 H A W 𝓣 0 ps·2 r·2 (claims· .4) (claims· .5) "output_acting::outcome_answer") → Statement.Triple 𝓤 (Wp.WpFn 𝓤 H (𝓣 .C) (𝓣 .Λ) (Function.fnOf 1 ps r xs m hs body)) (Function.plainOf 𝓤 H A 1 ps r Pre· Post·)
 
     module _ where
-      abbrev at0 : Typed.TF T22 O0
+      abbrev at0 : Typed.TF T23 O0
       at0 = Typed.atRet O0
 
-      abbrev at1 : Typed.TF T21 O0
-      at1 = λ Ψ. Typed.pass T21 T22 s20 (at0 Ψ)
+      abbrev at1 : Typed.TF T22 O0
+      at1 = λ Ψ. Typed.pass T22 T23 s21 (at0 Ψ)
 
-      abbrev at2 : Typed.TF T20 O0
-      at2 = λ Ψ. Typed.pass T20 T21 s19 (at1 Ψ)
+      abbrev at2 : Typed.TF T21 O0
+      at2 = λ Ψ. Typed.pass T21 T22 s20 (at1 Ψ)
 
-      abbrev at3 : Typed.TF T19 O0
-      at3 = λ Ψ. Typed.pass T19 T20 s18 (at2 Ψ)
+      abbrev at3 : Typed.TF T20 O0
+      at3 = λ Ψ. Typed.pass T20 T21 s19 (at2 Ψ)
 
-      abbrev at4 : Typed.TF T18 O0
-      at4 = λ Ψ. Typed.both s17 (at3 Ψ)
+      abbrev at4 : Typed.TF T19 O0
+      at4 = λ Ψ. Typed.pass T19 T20 s18 (at3 Ψ)
 
-      abbrev at5 : Typed.TF T17 O0
-      at5 = λ Ψ. Typed.pass T17 T18 s16 (at4 Ψ)
+      abbrev at5 : Typed.TF T18 O0
+      at5 = λ Ψ. Typed.both s17 (at4 Ψ)
 
-      abbrev at6 : Typed.TF T16 O0
-      at6 = λ Ψ. Typed.pass T16 T17 s15 (at5 Ψ)
+      abbrev at6 : Typed.TF T17 O0
+      at6 = λ Ψ. Typed.pass T17 T18 s16 (at5 Ψ)
 
-      abbrev at7 : Typed.TF T15 O0
-      at7 = λ Ψ. Typed.pass T15 T16 s14 (at6 Ψ)
+      abbrev at7 : Typed.TF T16 O0
+      at7 = λ Ψ. Typed.pass T16 T17 s15 (at6 Ψ)
 
-      abbrev at8 : Typed.TF T14 O0
-      at8 = λ Ψ. Typed.ask s13 (at7 Ψ)
+      abbrev at8 : Typed.TF T15 O0
+      at8 = λ Ψ. Typed.pass T15 T16 s14 (at7 Ψ)
 
-      abbrev at9 : Typed.TF T13 O0
-      at9 = λ Ψ. Typed.ask s12 (at8 Ψ)
+      abbrev at9 : Typed.TF T14 O0
+      at9 = λ Ψ. Typed.ask s13 (at8 Ψ)
 
-      abbrev at10 : Typed.TF T12 O0
-      at10 = λ Ψ. Typed.ask s11 (at9 Ψ)
+      abbrev at10 : Typed.TF T13 O0
+      at10 = λ Ψ. Typed.ask s12 (at9 Ψ)
 
-      abbrev at11 : Typed.TF T11 O0
-      at11 = λ Ψ. Typed.both s10 (at10 Ψ)
+      abbrev at11 : Typed.TF T12 O0
+      at11 = λ Ψ. Typed.ask s11 (at10 Ψ)
 
-      abbrev at12 : Typed.TF T10 O0
-      at12 = λ Ψ. Typed.pass T10 T11 s9 (at11 Ψ)
+      abbrev at12 : Typed.TF T11 O0
+      at12 = λ Ψ. Typed.both s10 (at11 Ψ)
 
-      abbrev at13 : Typed.TF T9 O0
-      at13 = λ Ψ. Typed.pass T9 T10 s8 (at12 Ψ)
+      abbrev at13 : Typed.TF T10 O0
+      at13 = λ Ψ. Typed.pass T10 T11 s9 (at12 Ψ)
 
-      abbrev at14 : Typed.TF T8 O0
-      at14 = λ Ψ. Typed.both s7 (at13 Ψ)
+      abbrev at14 : Typed.TF T9 O0
+      at14 = λ Ψ. Typed.pass T9 T10 s8 (at13 Ψ)
 
-      abbrev at15 : Typed.TF T7 O0
-      at15 = λ Ψ. Typed.pass T7 T8 s6 (at14 Ψ)
+      abbrev at15 : Typed.TF T8 O0
+      at15 = λ Ψ. Typed.both s7 (at14 Ψ)
 
-      abbrev at16 : Typed.TF T6 O0
-      at16 = λ Ψ. Typed.pass T6 T7 s5 (at15 Ψ)
+      abbrev at16 : Typed.TF T7 O0
+      at16 = λ Ψ. Typed.pass T7 T8 s6 (at15 Ψ)
 
-      abbrev at17 : Typed.TF T5 O0
-      at17 = λ Ψ. Typed.pass T5 T6 s4 (at16 Ψ)
+      abbrev at17 : Typed.TF T6 O0
+      at17 = λ Ψ. Typed.pass T6 T7 s5 (at16 Ψ)
 
-      abbrev at18 : Typed.TF T4 O0
-      at18 = λ Ψ. Typed.pass T4 T5 s3 (at17 Ψ)
+      abbrev at18 : Typed.TF T5 O0
+      at18 = λ Ψ. Typed.pass T5 T6 s4 (at17 Ψ)
 
-      abbrev at19 : Typed.TF T3 O0
-      at19 = λ Ψ. Typed.both s2 (at18 Ψ)
+      abbrev at19 : Typed.TF T4 O0
+      at19 = λ Ψ. Typed.pass T4 T5 s3 (at18 Ψ)
 
-      abbrev at20 : Typed.TF T2 O0
-      at20 = λ Ψ. Typed.ask s1 (at19 Ψ)
+      abbrev at20 : Typed.TF T3 O0
+      at20 = λ Ψ. Typed.both s2 (at19 Ψ)
 
-      abbrev at21 : Typed.TF T0 O0
-      at21 = λ Ψ. Typed.ask s0 (at20 Ψ)
+      abbrev at21 : Typed.TF T2 O0
+      at21 = λ Ψ. Typed.ask s1 (at20 Ψ)
+
+      abbrev at22 : Typed.TF T0 O0
+      at22 = λ Ψ. Typed.ask s0 (at21 Ψ)
 
       abbrev pub Φ : Typed.TF T0 O0
-      Φ = at21
+      Φ = at22
 
       module _ {M : Type 1} (𝓤 : URA.URA M) (H : Wp.Heap 𝓤) (A : Atoms.Atoms 𝓤)
           (W : Kit.Given 𝓤 H A) (𝓣 : Wp.Tables 𝓤 H) where
@@ -498,7 +511,10 @@ module _ (claims· : Claims) where
         G21 = record { locals = t19; slots = List._∷_ (Row.lease (κs .0) (qs .0)) List.[] }
 
         abbrev G22 : Row.Cx
-        G22 = record { locals = t1; slots = List._∷_ (Row.lease (κs .0) (qs .0)) List.[] }
+        G22 = record { locals = t20; slots = List._∷_ (Row.lease (κs .0) (qs .0)) List.[] }
+
+        abbrev G23 : Row.Cx
+        G23 = record { locals = t1; slots = List._∷_ (Row.lease (κs .0) (qs .0)) List.[] }
 
         abbrev Δ0 : Typed.Outs
         Δ0 = record { next = Option.none; exits = List.[]; returns = Option.some G1 }
@@ -509,71 +525,74 @@ module _ (claims· : Claims) where
           abbrev E : Wp.Env 𝓤 H
           E = Frame.EnvOf 𝓤 H (List._∷_ (Kinds.tyR r) (Enter.tysP ps xs)) bs
 
-          d0 : Typed.Typed 𝓤 H A 𝓣 E G22 b10 Δ0 at0
+          d0 : Typed.Typed 𝓤 H A 𝓣 E G23 b10 Δ0 at0
           d0 = Typed.t-return 𝓤 H A W 𝓣 E Δ0 tt
 
-          d1 : Typed.Typed 𝓤 H A 𝓣 E G21 b10 Δ0 at1
-          d1 = Typed.g-pre 𝓤 H A W 𝓣 E G21 G22 b10 Δ0 (Typed.pass T21 T22 s20) at0 (Scalar.g-room 𝓤 H A W E G21 3 (Syntax.tyInt Syntax.w64) (Scalar.room-sc 𝓤 H A W (Row.sInt Syntax.w64))) d0
+          d1 : Typed.Typed 𝓤 H A 𝓣 E G22 b10 Δ0 at1
+          d1 = Typed.g-pre 𝓤 H A W 𝓣 E G22 G23 b10 Δ0 (Typed.pass T22 T23 s21) at0 (Scalar.g-room 𝓤 H A W E G22 4 (Syntax.tyInt Syntax.w64) (Scalar.room-sc 𝓤 H A W (Row.sInt Syntax.w64))) d0
 
-          d2 : Typed.Typed 𝓤 H A 𝓣 E G20 b10 Δ0 at2
-          d2 = Typed.g-pre 𝓤 H A W 𝓣 E G20 G21 b10 Δ0 (Typed.pass T20 T21 s19) at1 (Scalar.g-room 𝓤 H A W E G20 2 (Syntax.tyInt Syntax.w64) (Scalar.room-sc 𝓤 H A W (Row.sInt Syntax.w64))) d1
+          d2 : Typed.Typed 𝓤 H A 𝓣 E G21 b10 Δ0 at2
+          d2 = Typed.g-pre 𝓤 H A W 𝓣 E G21 G22 b10 Δ0 (Typed.pass T21 T22 s20) at1 (Scalar.g-room 𝓤 H A W E G21 3 (Syntax.tyInt Syntax.w64) (Scalar.room-sc 𝓤 H A W (Row.sInt Syntax.w64))) d1
 
-          d3 : Typed.Typed 𝓤 H A 𝓣 E G19 b10 Δ0 at3
-          d3 = Typed.g-pre 𝓤 H A W 𝓣 E G19 G20 b10 Δ0 (Typed.pass T19 T20 s18) at2 (Scalar.g-room 𝓤 H A W E G19 6 (Laws'.mir) (Local.room-whole 𝓤 H A W (Declared'.row Outcome.the-type) (Laws'.mir) Path'.refl)) d2
+          d3 : Typed.Typed 𝓤 H A 𝓣 E G20 b10 Δ0 at3
+          d3 = Typed.g-pre 𝓤 H A W 𝓣 E G20 G21 b10 Δ0 (Typed.pass T20 T21 s19) at2 (Scalar.g-room 𝓤 H A W E G20 2 Syntax.tyBool (Scalar.room-sc 𝓤 H A W Row.sBool)) d2
 
-          d4 : Typed.Typed 𝓤 H A 𝓣 E G18 b11 Δ0 at4
-          d4 = Typed.s-seq 𝓤 H A W 𝓣 E G18 G19 b9 b10 Δ0 (Typed.both s17) at3 (Plain.t-call-plain 𝓤 H A W 𝓣 0 ps·2 r·2 (claims· .4) (claims· .5) "output_acting::outcome_answer" (known .2) E (λ pos β. β) G18 (record { pos = 6; st = List.[]; d = 0; at = λ x. x }, tt) 0 List.[] (Call.sub-id 𝓤 H A W (G18 .slots)) ((Yields.yields-copy 𝓤 H A W (λ ρ. Unit) (Declared'.row Outcome.the-type) Path'.refl (Copies.cStruct Outcome.the-type Laws'.the-laws Laws'.the-copy .copy 𝓤 H A W) (Rows'.whole (Declared'.row Outcome.the-type)) (λ x. x) (λ x. x) (λ ρ told. Local.mem-whole 𝓤 H A W (Declared'.row Outcome.the-type) ρ) λ ρ told. Local.whole-mem 𝓤 H A W (Declared'.row Outcome.the-type) ρ, Path'.refl), tt) (Reads.room-gone 𝓤 H A (Laws.mir)) tt Path'.refl) d3
+          d4 : Typed.Typed 𝓤 H A 𝓣 E G19 b10 Δ0 at4
+          d4 = Typed.g-pre 𝓤 H A W 𝓣 E G19 G20 b10 Δ0 (Typed.pass T19 T20 s18) at3 (Scalar.g-room 𝓤 H A W E G19 7 (Laws'.mir) (Local.room-whole 𝓤 H A W (Declared'.row Outcome.the-type) (Laws'.mir) Path'.refl)) d3
 
-          d5 : Typed.Typed 𝓤 H A 𝓣 E G17 b11 Δ0 at5
-          d5 = Typed.g-pre 𝓤 H A W 𝓣 E G17 G18 b11 Δ0 (Typed.pass T17 T18 s16) at4 (Scalar.g-room 𝓤 H A W E G17 11 Syntax.tyPtr (Scalar.room-sc 𝓤 H A W Row.sPtr)) d4
+          d5 : Typed.Typed 𝓤 H A 𝓣 E G18 b11 Δ0 at5
+          d5 = Typed.s-seq 𝓤 H A W 𝓣 E G18 G19 b9 b10 Δ0 (Typed.both s17) at4 (Plain.t-call-plain 𝓤 H A W 𝓣 0 ps·2 r·2 (claims· .4) (claims· .5) "output_acting::outcome_answer" (known .2) E (λ pos β. β) G18 (record { pos = 7; st = List.[]; d = 0; at = λ x. x }, tt) 0 List.[] (Call.sub-id 𝓤 H A W (G18 .slots)) ((Yields.yields-copy 𝓤 H A W (λ ρ. Unit) (Declared'.row Outcome.the-type) Path'.refl (Copies.cStruct Outcome.the-type Laws'.the-laws Laws'.the-copy .copy 𝓤 H A W) (Rows'.whole (Declared'.row Outcome.the-type)) (λ x. x) (λ x. x) (λ ρ told. Local.mem-whole 𝓤 H A W (Declared'.row Outcome.the-type) ρ) λ ρ told. Local.whole-mem 𝓤 H A W (Declared'.row Outcome.the-type) ρ, Path'.refl), tt) (Reads.room-gone 𝓤 H A (Laws.mir)) tt Path'.refl) d4
 
-          d6 : Typed.Typed 𝓤 H A 𝓣 E G16 b11 Δ0 at6
-          d6 = Typed.g-pre 𝓤 H A W 𝓣 E G16 G17 b11 Δ0 (Typed.pass T16 T17 s15) at5 (Scalar.g-room 𝓤 H A W E G16 8 (Syntax.tyInt Syntax.w64) (Scalar.room-sc 𝓤 H A W (Row.sInt Syntax.w64))) d5
+          d6 : Typed.Typed 𝓤 H A 𝓣 E G17 b11 Δ0 at6
+          d6 = Typed.g-pre 𝓤 H A W 𝓣 E G17 G18 b11 Δ0 (Typed.pass T17 T18 s16) at5 (Scalar.g-room 𝓤 H A W E G17 12 Syntax.tyPtr (Scalar.room-sc 𝓤 H A W Row.sPtr)) d5
 
-          d7 : Typed.Typed 𝓤 H A 𝓣 E G15 b11 Δ0 at7
-          d7 = Typed.g-pre 𝓤 H A W 𝓣 E G15 G16 b11 Δ0 (Typed.pass T15 T16 s14) at6 (Scalar.g-room 𝓤 H A W E G15 7 OfOutput.spelt (OfOutput.room 𝓤 H A W)) d6
+          d7 : Typed.Typed 𝓤 H A 𝓣 E G16 b11 Δ0 at7
+          d7 = Typed.g-pre 𝓤 H A W 𝓣 E G16 G17 b11 Δ0 (Typed.pass T16 T17 s15) at6 (Scalar.g-room 𝓤 H A W E G16 9 (Syntax.tyInt Syntax.w64) (Scalar.room-sc 𝓤 H A W (Row.sInt Syntax.w64))) d6
 
-          d8 : Typed.Typed 𝓤 H A 𝓣 E G14 b12 Δ0 at8
-          d8 = Typed.s-seq 𝓤 H A W 𝓣 E G14 G15 b8 b11 Δ0 (Typed.ask s13) at7 (Move.t-sl-set-from 𝓤 H A W E (OfOutput.row) 𝓣 Path'.refl (λ ρ. Unit) G14 1 11 7 0 (Syntax.tyRef (Syntax.named 0) Syntax.mut OfOutput.named) (Row.lease (κs .0) (qs .0)) OfOutput.spelt OfOutput.spelt (OfOutput.held) (Shared.bySize 208) (λ u. u .1 .1 .1 .0) (λ x. x) (λ x. x) (λ x. x) (λ x. x) (λ i o. Elements.at-mul o 208 i) Path'.refl Path'.refl (Own.told-none 𝓤 H A (G14 .slots)) (Reads.as-is 𝓤 H A (Mut.mslice (OfOutput.row) (Syntax.tyRef (Syntax.named 0) Syntax.mut OfOutput.named) 0)) (Reads.as-is 𝓤 H A (Rows'.sc-here Row.sPtr)) (Yields.yields-copy 𝓤 H A W (λ ρ. Unit) (OfOutput.row) Path'.refl (OfOutput.copies .copy 𝓤 H A W) (OfOutput.held) (λ x. x) (λ x. x) (λ ρ told. OfOutput.in-mem 𝓤 H A W ρ) λ ρ told. OfOutput.of-mem 𝓤 H A W ρ) Path'.refl tt Path'.refl Path'.refl) d7
+          d8 : Typed.Typed 𝓤 H A 𝓣 E G15 b11 Δ0 at8
+          d8 = Typed.g-pre 𝓤 H A W 𝓣 E G15 G16 b11 Δ0 (Typed.pass T15 T16 s14) at7 (Scalar.g-room 𝓤 H A W E G15 8 OfOutput.spelt (OfOutput.room 𝓤 H A W)) d7
 
-          d9 : Typed.Typed 𝓤 H A 𝓣 E G13 b13 Δ0 at9
-          d9 = Typed.s-seq 𝓤 H A W 𝓣 E G13 G14 b7 b12 Δ0 (Typed.ask s12) at8 (Scalar.t-op2 𝓤 H A W E 𝓣 G13 Syntax.offset (Scalar.oFld 1 (List._∷_ (Syntax.field 0) List.[]) (Syntax.tyRef (Syntax.named 0) Syntax.mut OfOutput.named) 0 Reads.ptrVal) (Scalar.oAt 8 (Syntax.tyInt Syntax.w64) (Row.valS (Row.sInt Syntax.w64))) 11 (Rows'.sc-here Row.sPtr) Syntax.tyPtr (Row.valS Row.sPtr) (Row.sPtr .of) (Mut.reads-mslice-ptr 𝓤 H A W (OfOutput.row) (Syntax.tyRef (Syntax.named 0) Syntax.mut OfOutput.named) 0 0 Path'.refl, Path'.refl) (Scalar.reads-sc 𝓤 H A W (Row.sInt Syntax.w64), Path'.refl) (Reads.room-gone 𝓤 H A Syntax.tyPtr) (Scalar.holds-sc 𝓤 H A W Row.sPtr) Path'.refl (λ u. Path'.refl) λ u. tt) d8
+          d9 : Typed.Typed 𝓤 H A 𝓣 E G14 b12 Δ0 at9
+          d9 = Typed.s-seq 𝓤 H A W 𝓣 E G14 G15 b8 b11 Δ0 (Typed.ask s13) at8 (Move.t-sl-set-from 𝓤 H A W E (OfOutput.row) 𝓣 Path'.refl (λ ρ. Unit) G14 1 12 8 0 (Syntax.tyRef (Syntax.named 0) Syntax.mut OfOutput.named) (Row.lease (κs .0) (qs .0)) OfOutput.spelt OfOutput.spelt (OfOutput.held) (Shared.bySize 208) (λ u. u .1 .1 .1 .1 .0) (λ x. x) (λ x. x) (λ x. x) (λ x. x) (λ i o. Elements.at-mul o 208 i) Path'.refl Path'.refl (Own.told-none 𝓤 H A (G14 .slots)) (Reads.as-is 𝓤 H A (Mut.mslice (OfOutput.row) (Syntax.tyRef (Syntax.named 0) Syntax.mut OfOutput.named) 0)) (Reads.as-is 𝓤 H A (Rows'.sc-here Row.sPtr)) (Yields.yields-copy 𝓤 H A W (λ ρ. Unit) (OfOutput.row) Path'.refl (OfOutput.copies .copy 𝓤 H A W) (OfOutput.held) (λ x. x) (λ x. x) (λ ρ told. OfOutput.in-mem 𝓤 H A W ρ) λ ρ told. OfOutput.of-mem 𝓤 H A W ρ) Path'.refl tt Path'.refl Path'.refl) d8
 
-          d10 : Typed.Typed 𝓤 H A 𝓣 E G12 b14 Δ0 at10
-          d10 = Typed.s-seq 𝓤 H A W 𝓣 E G12 G13 b6 b13 Δ0 (Typed.ask s11) at9 (Scalar.t-op2 𝓤 H A W E 𝓣 G12 (Syntax.mul Syntax.unsigned) (Scalar.oAt 3 (Syntax.tyInt Syntax.w64) (Row.valS (Row.sInt Syntax.w64))) (Scalar.oInt Syntax.w64 208) 8 (Rows'.sc-here (Row.sInt Syntax.w64)) (Syntax.tyInt Syntax.w64) (Row.valS (Row.sInt Syntax.w64)) (Row.sInt Syntax.w64 .of) (Scalar.reads-sc 𝓤 H A W (Row.sInt Syntax.w64), Path'.refl) tt (Reads.room-gone 𝓤 H A (Syntax.tyInt Syntax.w64)) (Scalar.holds-sc 𝓤 H A W (Row.sInt Syntax.w64)) Path'.refl (λ u. Path'.refl) λ u. tt) d9
+          d10 : Typed.Typed 𝓤 H A 𝓣 E G13 b13 Δ0 at10
+          d10 = Typed.s-seq 𝓤 H A W 𝓣 E G13 G14 b7 b12 Δ0 (Typed.ask s12) at9 (Scalar.t-op2 𝓤 H A W E 𝓣 G13 Syntax.offset (Scalar.oFld 1 (List._∷_ (Syntax.field 0) List.[]) (Syntax.tyRef (Syntax.named 0) Syntax.mut OfOutput.named) 0 Reads.ptrVal) (Scalar.oAt 9 (Syntax.tyInt Syntax.w64) (Row.valS (Row.sInt Syntax.w64))) 12 (Rows'.sc-here Row.sPtr) Syntax.tyPtr (Row.valS Row.sPtr) (Row.sPtr .of) (Mut.reads-mslice-ptr 𝓤 H A W (OfOutput.row) (Syntax.tyRef (Syntax.named 0) Syntax.mut OfOutput.named) 0 0 Path'.refl, Path'.refl) (Scalar.reads-sc 𝓤 H A W (Row.sInt Syntax.w64), Path'.refl) (Reads.room-gone 𝓤 H A Syntax.tyPtr) (Scalar.holds-sc 𝓤 H A W Row.sPtr) Path'.refl (λ u. Path'.refl) λ u. tt) d9
 
-          d11 : Typed.Typed 𝓤 H A 𝓣 E G11 b15 Δ0 at11
-          d11 = Typed.s-seq 𝓤 H A W 𝓣 E G11 G12 b5 b14 Δ0 (Typed.both s10) at10 (Plain.t-call-plain 𝓤 H A W 𝓣 0 ps·1 r·1 (claims· .2) (claims· .3) "output_acting::outcome_output" (known .1) E (λ pos β. β) G11 (record { pos = 6; st = List.[]; d = 0; at = λ x. x }, tt) 7 List.[] (Call.sub-id 𝓤 H A W (G11 .slots)) ((Yields.yields-copy 𝓤 H A W (λ ρ. Unit) (Declared'.row Outcome.the-type) Path'.refl (Copies.cStruct Outcome.the-type Laws'.the-laws Laws'.the-copy .copy 𝓤 H A W) (Rows'.whole (Declared'.row Outcome.the-type)) (λ x. x) (λ x. x) (λ ρ told. Local.mem-whole 𝓤 H A W (Declared'.row Outcome.the-type) ρ) λ ρ told. Local.whole-mem 𝓤 H A W (Declared'.row Outcome.the-type) ρ, Path'.refl), tt) (Reads.room-gone 𝓤 H A OfOutput.spelt) tt Path'.refl) d10
+          d11 : Typed.Typed 𝓤 H A 𝓣 E G12 b14 Δ0 at11
+          d11 = Typed.s-seq 𝓤 H A W 𝓣 E G12 G13 b6 b13 Δ0 (Typed.ask s11) at10 (Scalar.t-op2 𝓤 H A W E 𝓣 G12 (Syntax.mul Syntax.unsigned) (Scalar.oAt 4 (Syntax.tyInt Syntax.w64) (Row.valS (Row.sInt Syntax.w64))) (Scalar.oInt Syntax.w64 208) 9 (Rows'.sc-here (Row.sInt Syntax.w64)) (Syntax.tyInt Syntax.w64) (Row.valS (Row.sInt Syntax.w64)) (Row.sInt Syntax.w64 .of) (Scalar.reads-sc 𝓤 H A W (Row.sInt Syntax.w64), Path'.refl) tt (Reads.room-gone 𝓤 H A (Syntax.tyInt Syntax.w64)) (Scalar.holds-sc 𝓤 H A W (Row.sInt Syntax.w64)) Path'.refl (λ u. Path'.refl) λ u. tt) d10
 
-          d12 : Typed.Typed 𝓤 H A 𝓣 E G10 b15 Δ0 at12
-          d12 = Typed.g-pre 𝓤 H A W 𝓣 E G10 G11 b15 Δ0 (Typed.pass T10 T11 s9) at11 (Scalar.g-room 𝓤 H A W E G10 5 OfOutput.spelt (OfOutput.room 𝓤 H A W)) d11
+          d12 : Typed.Typed 𝓤 H A 𝓣 E G11 b15 Δ0 at12
+          d12 = Typed.s-seq 𝓤 H A W 𝓣 E G11 G12 b5 b14 Δ0 (Typed.both s10) at11 (Plain.t-call-plain 𝓤 H A W 𝓣 0 ps·1 r·1 (claims· .2) (claims· .3) "output_acting::outcome_output" (known .1) E (λ pos β. β) G11 (record { pos = 7; st = List.[]; d = 0; at = λ x. x }, tt) 8 List.[] (Call.sub-id 𝓤 H A W (G11 .slots)) ((Yields.yields-copy 𝓤 H A W (λ ρ. Unit) (Declared'.row Outcome.the-type) Path'.refl (Copies.cStruct Outcome.the-type Laws'.the-laws Laws'.the-copy .copy 𝓤 H A W) (Rows'.whole (Declared'.row Outcome.the-type)) (λ x. x) (λ x. x) (λ ρ told. Local.mem-whole 𝓤 H A W (Declared'.row Outcome.the-type) ρ) λ ρ told. Local.whole-mem 𝓤 H A W (Declared'.row Outcome.the-type) ρ, Path'.refl), tt) (Reads.room-gone 𝓤 H A OfOutput.spelt) tt Path'.refl) d11
 
-          d13 : Typed.Typed 𝓤 H A 𝓣 E G9 b15 Δ0 at13
-          d13 = Typed.g-pre 𝓤 H A W 𝓣 E G9 G10 b15 Δ0 (Typed.pass T9 T10 s8) at12 (Scalar.g-room 𝓤 H A W E G9 4 (Laws''.mir) (Local.room-whole 𝓤 H A W (Declared.row OutputRequest.the-type) (Laws''.mir) Path'.refl)) d12
+          d13 : Typed.Typed 𝓤 H A 𝓣 E G10 b15 Δ0 at13
+          d13 = Typed.g-pre 𝓤 H A W 𝓣 E G10 G11 b15 Δ0 (Typed.pass T10 T11 s9) at12 (Scalar.g-room 𝓤 H A W E G10 6 OfOutput.spelt (OfOutput.room 𝓤 H A W)) d12
 
-          d14 : Typed.Typed 𝓤 H A 𝓣 E G8 b16 Δ0 at14
-          d14 = Typed.s-seq 𝓤 H A W 𝓣 E G8 G9 b4 b15 Δ0 (Typed.both s7) at13 (Plain.t-call-plain 𝓤 H A W 𝓣 0 ps·0 r·0 (claims· .0) (claims· .1) "output_acting::act" (known .0) E (λ pos β. β) G8 (Num.vAt 2 λ x. x, (record { pos = 5; st = List.[]; d = 0; at = λ x. x }, (record { pos = 4; st = List.[]; d = 0; at = λ x. x }, tt))) 6 List.[] (Call.sub-id 𝓤 H A W (G8 .slots)) ((Scalar.reads-sc 𝓤 H A W (Row.sInt Syntax.w64), Path'.refl), ((OfOutput.yields 𝓤 H A W, Path'.refl), ((Yields.yields-copy 𝓤 H A W (λ ρ. Unit) (Declared.row OutputRequest.the-type) Path'.refl (Copies.cEnum OutputRequest.the-type Laws''.the-laws Laws''.the-copy .copy 𝓤 H A W) (Rows'.whole (Declared.row OutputRequest.the-type)) (λ x. x) (λ x. x) (λ ρ told. Local.mem-whole 𝓤 H A W (Declared.row OutputRequest.the-type) ρ) λ ρ told. Local.whole-mem 𝓤 H A W (Declared.row OutputRequest.the-type) ρ, Path'.refl), tt))) (Reads.room-gone 𝓤 H A (Laws'.mir)) tt Path'.refl) d13
+          d14 : Typed.Typed 𝓤 H A 𝓣 E G9 b15 Δ0 at14
+          d14 = Typed.g-pre 𝓤 H A W 𝓣 E G9 G10 b15 Δ0 (Typed.pass T9 T10 s8) at13 (Scalar.g-room 𝓤 H A W E G9 5 (Laws''.mir) (Local.room-whole 𝓤 H A W (Declared.row OutputRequest.the-type) (Laws''.mir) Path'.refl)) d13
 
-          d15 : Typed.Typed 𝓤 H A 𝓣 E G7 b16 Δ0 at15
-          d15 = Typed.g-pre 𝓤 H A W 𝓣 E G7 G8 b16 Δ0 (Typed.pass T7 T8 s6) at14 (Scalar.g-room 𝓤 H A W E G7 10 OfOutput.spelt (OfOutput.room 𝓤 H A W)) d14
+          d15 : Typed.Typed 𝓤 H A 𝓣 E G8 b16 Δ0 at15
+          d15 = Typed.s-seq 𝓤 H A W 𝓣 E G8 G9 b4 b15 Δ0 (Typed.both s7) at14 (Plain.t-call-plain 𝓤 H A W 𝓣 0 ps·0 r·0 (claims· .0) (claims· .1) "output_acting::act" (known .0) E (λ pos β. β) G8 (Bool.bAt 2 λ x. x, (Num.vAt 3 λ x. x, (record { pos = 6; st = List.[]; d = 0; at = λ x. x }, (record { pos = 5; st = List.[]; d = 0; at = λ x. x }, tt)))) 7 List.[] (Call.sub-id 𝓤 H A W (G8 .slots)) ((Scalar.reads-sc 𝓤 H A W Row.sBool, Path'.refl), ((Scalar.reads-sc 𝓤 H A W (Row.sInt Syntax.w64), Path'.refl), ((OfOutput.yields 𝓤 H A W, Path'.refl), ((Yields.yields-copy 𝓤 H A W (λ ρ. Unit) (Declared.row OutputRequest.the-type) Path'.refl (Copies.cEnum OutputRequest.the-type Laws''.the-laws Laws''.the-copy .copy 𝓤 H A W) (Rows'.whole (Declared.row OutputRequest.the-type)) (λ x. x) (λ x. x) (λ ρ told. Local.mem-whole 𝓤 H A W (Declared.row OutputRequest.the-type) ρ) λ ρ told. Local.whole-mem 𝓤 H A W (Declared.row OutputRequest.the-type) ρ, Path'.refl), tt)))) (Reads.room-gone 𝓤 H A (Laws'.mir)) tt Path'.refl) d14
 
-          d16 : Typed.Typed 𝓤 H A 𝓣 E G6 b17 Δ0 at16
-          d16 = Typed.s-seq 𝓤 H A W 𝓣 E G6 G7 b3 b16 Δ0 (Typed.pass T6 T7 s5) at15 (LocalCopy.t-val-copy 𝓤 H A W E 𝓣 (λ ρ. Unit) G6 10 5 (OfOutput.row) OfOutput.spelt OfOutput.spelt (OfOutput.held) (OfOutput.held) (λ x. x) (λ x. x) (λ x. x) Path'.refl (Own.told-none 𝓤 H A (G6 .slots)) (Yields.yields-copy 𝓤 H A W (λ ρ. Unit) (OfOutput.row) Path'.refl (OfOutput.copies .copy 𝓤 H A W) (OfOutput.held) (λ x. x) (λ x. x) (λ ρ told. OfOutput.in-mem 𝓤 H A W ρ) λ ρ told. OfOutput.of-mem 𝓤 H A W ρ) (Reads.room-gone 𝓤 H A OfOutput.spelt) (Yields.makes-mem 𝓤 H A W (λ ρ. Unit) (OfOutput.row) Path'.refl (OfOutput.held) (λ x. x) λ ρ told. OfOutput.of-mem 𝓤 H A W ρ) Path'.refl Path'.refl) d15
+          d16 : Typed.Typed 𝓤 H A 𝓣 E G7 b16 Δ0 at16
+          d16 = Typed.g-pre 𝓤 H A W 𝓣 E G7 G8 b16 Δ0 (Typed.pass T7 T8 s6) at15 (Scalar.g-room 𝓤 H A W E G7 11 OfOutput.spelt (OfOutput.room 𝓤 H A W)) d15
 
-          d17 : Typed.Typed 𝓤 H A 𝓣 E G5 b17 Δ0 at17
-          d17 = Typed.g-pre 𝓤 H A W 𝓣 E G5 G6 b17 Δ0 (Typed.pass T5 T6 s4) at16 (Scalar.g-room 𝓤 H A W E G5 9 Syntax.tyPtr (Scalar.room-sc 𝓤 H A W Row.sPtr)) d16
+          d17 : Typed.Typed 𝓤 H A 𝓣 E G6 b17 Δ0 at17
+          d17 = Typed.s-seq 𝓤 H A W 𝓣 E G6 G7 b3 b16 Δ0 (Typed.pass T6 T7 s5) at16 (LocalCopy.t-val-copy 𝓤 H A W E 𝓣 (λ ρ. Unit) G6 11 6 (OfOutput.row) OfOutput.spelt OfOutput.spelt (OfOutput.held) (OfOutput.held) (λ x. x) (λ x. x) (λ x. x) Path'.refl (Own.told-none 𝓤 H A (G6 .slots)) (Yields.yields-copy 𝓤 H A W (λ ρ. Unit) (OfOutput.row) Path'.refl (OfOutput.copies .copy 𝓤 H A W) (OfOutput.held) (λ x. x) (λ x. x) (λ ρ told. OfOutput.in-mem 𝓤 H A W ρ) λ ρ told. OfOutput.of-mem 𝓤 H A W ρ) (Reads.room-gone 𝓤 H A OfOutput.spelt) (Yields.makes-mem 𝓤 H A W (λ ρ. Unit) (OfOutput.row) Path'.refl (OfOutput.held) (λ x. x) λ ρ told. OfOutput.of-mem 𝓤 H A W ρ) Path'.refl Path'.refl) d16
 
-          d18 : Typed.Typed 𝓤 H A 𝓣 E G4 b17 Δ0 at18
-          d18 = Typed.g-pre 𝓤 H A W 𝓣 E G4 G5 b17 Δ0 (Typed.pass T4 T5 s3) at17 (Scalar.g-room 𝓤 H A W E G4 8 (Syntax.tyInt Syntax.w64) (Scalar.room-sc 𝓤 H A W (Row.sInt Syntax.w64))) d17
+          d18 : Typed.Typed 𝓤 H A 𝓣 E G5 b17 Δ0 at18
+          d18 = Typed.g-pre 𝓤 H A W 𝓣 E G5 G6 b17 Δ0 (Typed.pass T5 T6 s4) at17 (Scalar.g-room 𝓤 H A W E G5 10 Syntax.tyPtr (Scalar.room-sc 𝓤 H A W Row.sPtr)) d17
 
-          d19 : Typed.Typed 𝓤 H A 𝓣 E G3 b18 Δ0 at19
-          d19 = Typed.s-seq 𝓤 H A W 𝓣 E G3 G4 b2 b17 Δ0 (Typed.both s2) at18 (Move.t-sl-copy-out 𝓤 H A W E (OfOutput.row) 𝓣 Path'.refl (OfOutput.copies .copy 𝓤 H A W) (λ ρ. Unit) G3 1 9 10 0 (Syntax.tyRef (Syntax.named 0) Syntax.mut OfOutput.named) (Row.lease (κs .0) (qs .0)) OfOutput.spelt OfOutput.spelt (OfOutput.held) (Shared.bySize 208) (λ u. u .1 .1 .1 .0) (λ x. x) OfOutput.none (λ x. Unit) (λ x. x) (λ x. x) (λ i o. Elements.at-mul o 208 i) Path'.refl Path'.refl (Own.told-none 𝓤 H A (G3 .slots)) (DerefMove.learns-nothing 𝓤 H A (OfOutput.row)) (Reads.as-is 𝓤 H A (Mut.mslice (OfOutput.row) (Syntax.tyRef (Syntax.named 0) Syntax.mut OfOutput.named) 0)) (Reads.as-is 𝓤 H A (Rows'.sc-here Row.sPtr)) (Reads.room-gone 𝓤 H A OfOutput.spelt) (Yields.makes-mem 𝓤 H A W (λ ρ. Unit) (OfOutput.row) Path'.refl (OfOutput.held) (λ x. x) λ ρ told. OfOutput.of-mem 𝓤 H A W ρ) Path'.refl tt Path'.refl Path'.refl) d18
+          d19 : Typed.Typed 𝓤 H A 𝓣 E G4 b17 Δ0 at19
+          d19 = Typed.g-pre 𝓤 H A W 𝓣 E G4 G5 b17 Δ0 (Typed.pass T4 T5 s3) at18 (Scalar.g-room 𝓤 H A W E G4 9 (Syntax.tyInt Syntax.w64) (Scalar.room-sc 𝓤 H A W (Row.sInt Syntax.w64))) d18
 
-          d20 : Typed.Typed 𝓤 H A 𝓣 E G2 b19 Δ0 at20
-          d20 = Typed.s-seq 𝓤 H A W 𝓣 E G2 G3 b1 b18 Δ0 (Typed.ask s1) at19 (Scalar.t-op2 𝓤 H A W E 𝓣 G2 Syntax.offset (Scalar.oFld 1 (List._∷_ (Syntax.field 0) List.[]) (Syntax.tyRef (Syntax.named 0) Syntax.mut OfOutput.named) 0 Reads.ptrVal) (Scalar.oAt 8 (Syntax.tyInt Syntax.w64) (Row.valS (Row.sInt Syntax.w64))) 9 (Rows'.sc-here Row.sPtr) Syntax.tyPtr (Row.valS Row.sPtr) (Row.sPtr .of) (Mut.reads-mslice-ptr 𝓤 H A W (OfOutput.row) (Syntax.tyRef (Syntax.named 0) Syntax.mut OfOutput.named) 0 0 Path'.refl, Path'.refl) (Scalar.reads-sc 𝓤 H A W (Row.sInt Syntax.w64), Path'.refl) (Reads.room-gone 𝓤 H A Syntax.tyPtr) (Scalar.holds-sc 𝓤 H A W Row.sPtr) Path'.refl (λ u. Path'.refl) λ u. tt) d19
+          d20 : Typed.Typed 𝓤 H A 𝓣 E G3 b18 Δ0 at20
+          d20 = Typed.s-seq 𝓤 H A W 𝓣 E G3 G4 b2 b17 Δ0 (Typed.both s2) at19 (Move.t-sl-copy-out 𝓤 H A W E (OfOutput.row) 𝓣 Path'.refl (OfOutput.copies .copy 𝓤 H A W) (λ ρ. Unit) G3 1 10 11 0 (Syntax.tyRef (Syntax.named 0) Syntax.mut OfOutput.named) (Row.lease (κs .0) (qs .0)) OfOutput.spelt OfOutput.spelt (OfOutput.held) (Shared.bySize 208) (λ u. u .1 .1 .1 .1 .0) (λ x. x) OfOutput.none (λ x. Unit) (λ x. x) (λ x. x) (λ i o. Elements.at-mul o 208 i) Path'.refl Path'.refl (Own.told-none 𝓤 H A (G3 .slots)) (DerefMove.learns-nothing 𝓤 H A (OfOutput.row)) (Reads.as-is 𝓤 H A (Mut.mslice (OfOutput.row) (Syntax.tyRef (Syntax.named 0) Syntax.mut OfOutput.named) 0)) (Reads.as-is 𝓤 H A (Rows'.sc-here Row.sPtr)) (Reads.room-gone 𝓤 H A OfOutput.spelt) (Yields.makes-mem 𝓤 H A W (λ ρ. Unit) (OfOutput.row) Path'.refl (OfOutput.held) (λ x. x) λ ρ told. OfOutput.of-mem 𝓤 H A W ρ) Path'.refl tt Path'.refl Path'.refl) d19
 
-          d21 : Typed.Typed 𝓤 H A 𝓣 E G0 b20 Δ0 at21
-          d21 = Typed.s-seq 𝓤 H A W 𝓣 E G0 G2 b0 b19 Δ0 (Typed.ask s0) at20 (Scalar.t-op2 𝓤 H A W E 𝓣 G0 (Syntax.mul Syntax.unsigned) (Scalar.oAt 3 (Syntax.tyInt Syntax.w64) (Row.valS (Row.sInt Syntax.w64))) (Scalar.oInt Syntax.w64 208) 8 (Rows'.sc-here (Row.sInt Syntax.w64)) (Syntax.tyInt Syntax.w64) (Row.valS (Row.sInt Syntax.w64)) (Row.sInt Syntax.w64 .of) (Scalar.reads-sc 𝓤 H A W (Row.sInt Syntax.w64), Path'.refl) tt (Reads.room-gone 𝓤 H A (Syntax.tyInt Syntax.w64)) (Scalar.holds-sc 𝓤 H A W (Row.sInt Syntax.w64)) Path'.refl (λ u. Path'.refl) λ u. tt) d20
+          d21 : Typed.Typed 𝓤 H A 𝓣 E G2 b19 Δ0 at21
+          d21 = Typed.s-seq 𝓤 H A W 𝓣 E G2 G3 b1 b18 Δ0 (Typed.ask s1) at20 (Scalar.t-op2 𝓤 H A W E 𝓣 G2 Syntax.offset (Scalar.oFld 1 (List._∷_ (Syntax.field 0) List.[]) (Syntax.tyRef (Syntax.named 0) Syntax.mut OfOutput.named) 0 Reads.ptrVal) (Scalar.oAt 9 (Syntax.tyInt Syntax.w64) (Row.valS (Row.sInt Syntax.w64))) 10 (Rows'.sc-here Row.sPtr) Syntax.tyPtr (Row.valS Row.sPtr) (Row.sPtr .of) (Mut.reads-mslice-ptr 𝓤 H A W (OfOutput.row) (Syntax.tyRef (Syntax.named 0) Syntax.mut OfOutput.named) 0 0 Path'.refl, Path'.refl) (Scalar.reads-sc 𝓤 H A W (Row.sInt Syntax.w64), Path'.refl) (Reads.room-gone 𝓤 H A Syntax.tyPtr) (Scalar.holds-sc 𝓤 H A W Row.sPtr) Path'.refl (λ u. Path'.refl) λ u. tt) d20
+
+          d22 : Typed.Typed 𝓤 H A 𝓣 E G0 b20 Δ0 at22
+          d22 = Typed.s-seq 𝓤 H A W 𝓣 E G0 G2 b0 b19 Δ0 (Typed.ask s0) at21 (Scalar.t-op2 𝓤 H A W E 𝓣 G0 (Syntax.mul Syntax.unsigned) (Scalar.oAt 4 (Syntax.tyInt Syntax.w64) (Row.valS (Row.sInt Syntax.w64))) (Scalar.oInt Syntax.w64 208) 9 (Rows'.sc-here (Row.sInt Syntax.w64)) (Syntax.tyInt Syntax.w64) (Row.valS (Row.sInt Syntax.w64)) (Row.sInt Syntax.w64 .of) (Scalar.reads-sc 𝓤 H A W (Row.sInt Syntax.w64), Path'.refl) tt (Reads.room-gone 𝓤 H A (Syntax.tyInt Syntax.w64)) (Scalar.holds-sc 𝓤 H A W (Row.sInt Syntax.w64)) Path'.refl (λ u. Path'.refl) λ u. tt) d21
 
           pub typed :
               Typed.Typed
@@ -586,13 +605,14 @@ module _ (claims· : Claims) where
               b20
               (Function.Δret 1 ps r xs m κs qs)
               Φ
-          typed = d21
+          typed = d22
 
       module _ (κs : Lifetimes.Lfts 1) where
         pub record Args : Type 0 where
           pub outputs : Kinds.Den {n = 1}
               κs
               (MutSlice.pMutS (OfOutput.row) 0 tt)
+          pub tenant : Kinds.Den {n = 1} κs Bool.pBool
           pub time : Kinds.Den {n = 1} κs (Num.pNum Syntax.w64)
           pub at : Kinds.Den {n = 1} κs (Num.pNum Syntax.w64)
           pub request : Kinds.Den {n = 1} κs (Value.pVal record {
@@ -613,7 +633,7 @@ module _ (claims· : Claims) where
           })
 
         abbrev pub dens : (a : Args) → Kinds.Dens κs ps
-        dens = λ a. (a .outputs, (a .time, (a .at, (a .request, tt))))
+        dens = λ a. (a .outputs, (a .tenant, (a .time, (a .at, (a .request, tt)))))
 
         module _ (args· : Args) where
           pub record Ranges : Type 0 where
@@ -643,7 +663,7 @@ module _ (claims· : Claims) where
       m2 = λ κs args. s1 .next (m1 κs args)
 
       abbrev pub Need-slice-copy-out-o : Type 0
-      Need-slice-copy-out-o = (c : Start) → Shared.InSlice T3 1 9 (λ x. x) (λ u. u .1 .1 .1 .0) (m2 (c .κs) (c .args))
+      Need-slice-copy-out-o = (c : Start) → Shared.InSlice T3 1 10 (λ x. x) (λ u. u .1 .1 .1 .1 .0) (m2 (c .κs) (c .args))
 
       abbrev pub m3 :
           (before : Start) → (given : s2 .gives (m2 (before .κs) (before .args))) → Typed.Mo T4
@@ -684,7 +704,7 @@ module _ (claims· : Claims) where
 
       module _ (before· : After-o) where
         abbrev pub After-act·own : Type 0
-        After-act·own = Called.Called ps·0 r·0 (claims· .1) T8 (Num.vAt 2 λ x. x, (record { pos = 5; st = List.[]; d = 0; at = λ x. x }, (record { pos = 4; st = List.[]; d = 0; at = λ x. x }, tt))) (m7 (before· .before) (before· .o .given))
+        After-act·own = Called.Called ps·0 r·0 (claims· .1) T8 (Bool.bAt 2 λ x. x, (Num.vAt 3 λ x. x, (record { pos = 6; st = List.[]; d = 0; at = λ x. x }, (record { pos = 5; st = List.[]; d = 0; at = λ x. x }, tt)))) (m7 (before· .before) (before· .o .given))
 
       pub record After-act : Type 0 where
         pub before : After-o
@@ -692,7 +712,7 @@ module _ (claims· : Claims) where
 
       abbrev pub After-act·gave :
           (c : After-act) → s7 .gives (m7 (c .before .before) (c .before .o .given))
-      After-act·gave = λ c. Called.given ps·0 r·0 (claims· .1) T8 (Num.vAt 2 λ x. x, (record { pos = 5; st = List.[]; d = 0; at = λ x. x }, (record { pos = 4; st = List.[]; d = 0; at = λ x. x }, tt))) (m7 (c .before .before) (c .before .o .given)) (c .act)
+      After-act·gave = λ c. Called.given ps·0 r·0 (claims· .1) T8 (Bool.bAt 2 λ x. x, (Num.vAt 3 λ x. x, (record { pos = 6; st = List.[]; d = 0; at = λ x. x }, (record { pos = 5; st = List.[]; d = 0; at = λ x. x }, tt)))) (m7 (c .before .before) (c .before .o .given)) (c .act)
 
       abbrev pub m9 :
           (before : After-o) →
@@ -717,7 +737,7 @@ module _ (claims· : Claims) where
 
       module _ (before· : After-act) where
         abbrev pub After-outcome-output·own : Type 0
-        After-outcome-output·own = Called.Called ps·1 r·1 (claims· .3) T11 (record { pos = 6; st = List.[]; d = 0; at = λ x. x }, tt) (m10 (before· .before) (After-act·gave before·))
+        After-outcome-output·own = Called.Called ps·1 r·1 (claims· .3) T11 (record { pos = 7; st = List.[]; d = 0; at = λ x. x }, tt) (m10 (before· .before) (After-act·gave before·))
 
       pub record After-outcome-output : Type 0 where
         pub before : After-act
@@ -726,7 +746,7 @@ module _ (claims· : Claims) where
       abbrev pub After-outcome-output·gave :
           (c : After-outcome-output) →
           s10 .gives (m10 (c .before .before) (After-act·gave (c .before)))
-      After-outcome-output·gave = λ c. Called.given ps·1 r·1 (claims· .3) T11 (record { pos = 6; st = List.[]; d = 0; at = λ x. x }, tt) (m10 (c .before .before) (After-act·gave (c .before))) (c .outcome-output)
+      After-outcome-output·gave = λ c. Called.given ps·1 r·1 (claims· .3) T11 (record { pos = 7; st = List.[]; d = 0; at = λ x. x }, tt) (m10 (c .before .before) (After-act·gave (c .before))) (c .outcome-output)
 
       abbrev pub Need-mul-n : Type 0
       Need-mul-n = (c : After-outcome-output) → s11 .asks (m11 (c .before) (After-outcome-output·gave c))
@@ -744,7 +764,7 @@ module _ (claims· : Claims) where
       m13 = λ before given. s12 .next (m12 before given)
 
       abbrev pub Need-slice-set-from-n : Type 0
-      Need-slice-set-from-n = (c : After-outcome-output) → Shared.InSlice T14 1 11 (λ x. x) (λ u. u .1 .1 .1 .0) (m13 (c .before) (After-outcome-output·gave c))
+      Need-slice-set-from-n = (c : After-outcome-output) → Shared.InSlice T14 1 12 (λ x. x) (λ u. u .1 .1 .1 .1 .0) (m13 (c .before) (After-outcome-output·gave c))
 
       abbrev pub m14 :
           (before : After-act) →
@@ -781,7 +801,7 @@ module _ (claims· : Claims) where
 
       module _ (before· : After-outcome-output) where
         abbrev pub After-outcome-answer·own : Type 0
-        After-outcome-answer·own = Called.Called ps·2 r·2 (claims· .5) T18 (record { pos = 6; st = List.[]; d = 0; at = λ x. x }, tt) (m17 (before· .before) (After-outcome-output·gave before·))
+        After-outcome-answer·own = Called.Called ps·2 r·2 (claims· .5) T18 (record { pos = 7; st = List.[]; d = 0; at = λ x. x }, tt) (m17 (before· .before) (After-outcome-output·gave before·))
 
       pub record After-outcome-answer : Type 0 where
         pub before : After-outcome-output
@@ -790,7 +810,7 @@ module _ (claims· : Claims) where
       abbrev pub After-outcome-answer·gave :
           (c : After-outcome-answer) →
           s17 .gives (m17 (c .before .before) (After-outcome-output·gave (c .before)))
-      After-outcome-answer·gave = λ c. Called.given ps·2 r·2 (claims· .5) T18 (record { pos = 6; st = List.[]; d = 0; at = λ x. x }, tt) (m17 (c .before .before) (After-outcome-output·gave (c .before))) (c .outcome-answer)
+      After-outcome-answer·gave = λ c. Called.given ps·2 r·2 (claims· .5) T18 (record { pos = 7; st = List.[]; d = 0; at = λ x. x }, tt) (m17 (c .before .before) (After-outcome-output·gave (c .before))) (c .outcome-answer)
 
       abbrev pub m19 :
           (before : After-outcome-output) →
@@ -810,11 +830,17 @@ module _ (claims· : Claims) where
           Typed.Mo T22
       m21 = λ before given. s20 (m20 before given)
 
+      abbrev pub m22 :
+          (before : After-outcome-output) →
+          (given : s17 .gives (m17 (before .before) (After-outcome-output·gave before))) →
+          Typed.Mo T23
+      m22 = λ before given. s21 (m21 before given)
+
       abbrev pub Need-same-length : Type 0
-      Need-same-length = (c : After-outcome-answer) → MutSlice.SameLen (Row.get 1 (T22 .locals) (m21 (c .before) (After-outcome-answer·gave c))) (dens (c .before .before .before .before .κs) (c .before .before .before .before .args) .0)
+      Need-same-length = (c : After-outcome-answer) → MutSlice.SameLen (Row.get 1 (T23 .locals) (m22 (c .before) (After-outcome-answer·gave c))) (dens (c .before .before .before .before .κs) (c .before .before .before .before .args) .0)
 
       abbrev pub Need-returns : Type 0
-      Need-returns = (c : After-outcome-answer) → Post· (c .before .before .before .before .κs) (dens (c .before .before .before .before .κs) (c .before .before .before .before .args)) (Function.resV r (c .before .before .before .before .κs) (m21 (c .before) (After-outcome-answer·gave c) .0)) (Clauses.atExit (Kinds.endedOf 1 ps r) (c .before .before .before .before .κs) (dens (c .before .before .before .before .κs) (c .before .before .before .before .args)) (Enter.lastsP (c .before .before .before .before .κs) 1 ps xs (dens (c .before .before .before .before .κs) (c .before .before .before .before .args)) (m21 (c .before) (After-outcome-answer·gave c) .1)))
+      Need-returns = (c : After-outcome-answer) → Post· (c .before .before .before .before .κs) (dens (c .before .before .before .before .κs) (c .before .before .before .before .args)) (Function.resV r (c .before .before .before .before .κs) (m22 (c .before) (After-outcome-answer·gave c) .0)) (Clauses.atExit (Kinds.endedOf 1 ps r) (c .before .before .before .before .κs) (dens (c .before .before .before .before .κs) (c .before .before .before .before .args)) (Enter.lastsP (c .before .before .before .before .κs) 1 ps xs (dens (c .before .before .before .before .κs) (c .before .before .before .before .args)) (m22 (c .before) (After-outcome-answer·gave c) .1)))
 
       module _ (mul-o : Need-mul-o) (slice-copy-out-o : Need-slice-copy-out-o)
           (act-requires : Need-act-requires)
@@ -824,27 +850,27 @@ module _ (claims· : Claims) where
           (returns : Need-returns) where
         lay3 :
             (c : After-outcome-answer) →
-            at3
+            at4
             (W0 (c .before .before .before .before .κs) (c .before .before .before .before .args))
             (m18 (c .before) (After-outcome-answer·gave c))
-        lay3 = λ c. ((MutSlice.fix-len (Row.get 1 (T22 .locals) (m21 (c .before) (After-outcome-answer·gave c)) .ptr) (Row.get 1 (T22 .locals) (m21 (c .before) (After-outcome-answer·gave c)) .name) (Row.get 1 (T22 .locals) (m21 (c .before) (After-outcome-answer·gave c)) .now) (dens (c .before .before .before .before .κs) (c .before .before .before .before .args) .0 .now) (same-length record { before = c .before; outcome-answer = c .outcome-answer }), (tt, (tt, (tt, tt)))), returns record { before = c .before; outcome-answer = c .outcome-answer })
+        lay3 = λ c. ((MutSlice.fix-len (Row.get 1 (T23 .locals) (m22 (c .before) (After-outcome-answer·gave c)) .ptr) (Row.get 1 (T23 .locals) (m22 (c .before) (After-outcome-answer·gave c)) .name) (Row.get 1 (T23 .locals) (m22 (c .before) (After-outcome-answer·gave c)) .now) (dens (c .before .before .before .before .κs) (c .before .before .before .before .args) .0 .now) (same-length record { before = c .before; outcome-answer = c .outcome-answer }), (tt, (tt, (tt, (tt, tt))))), returns record { before = c .before; outcome-answer = c .outcome-answer })
 
         lay2 :
             (c : After-outcome-output) →
-            at10
+            at11
             (W0 (c .before .before .before .κs) (c .before .before .before .args))
             (m11 (c .before) (After-outcome-output·gave c))
-        lay2 = λ c. (mul-n record { before = c .before; outcome-output = c .outcome-output }, (tt, ((Path'.refl, Path'.refl, slice-set-from-n record { before = c .before; outcome-output = c .outcome-output }), (outcome-answer-requires record { before = c .before; outcome-output = c .outcome-output }, λ g. lay3 record { before = record { before = c .before; outcome-output = c .outcome-output }; outcome-answer = Called.called ps·2 r·2 (claims· .5) T18 (record { pos = 6; st = List.[]; d = 0; at = λ x. x }, tt) (m17 (c .before) (After-outcome-output·gave c)) g }))))
+        lay2 = λ c. (mul-n record { before = c .before; outcome-output = c .outcome-output }, (tt, ((Path'.refl, Path'.refl, slice-set-from-n record { before = c .before; outcome-output = c .outcome-output }), (outcome-answer-requires record { before = c .before; outcome-output = c .outcome-output }, λ g. lay3 record { before = record { before = c .before; outcome-output = c .outcome-output }; outcome-answer = Called.called ps·2 r·2 (claims· .5) T18 (record { pos = 7; st = List.[]; d = 0; at = λ x. x }, tt) (m17 (c .before) (After-outcome-output·gave c)) g }))))
 
         lay1 :
             (c : After-act) →
-            at13
+            at14
             (W0 (c .before .before .κs) (c .before .before .args))
             (m8 (c .before) (After-act·gave c))
-        lay1 = λ c. (outcome-output-requires record { before = c .before; act = c .act }, λ g. lay2 record { before = record { before = c .before; act = c .act }; outcome-output = Called.called ps·1 r·1 (claims· .3) T11 (record { pos = 6; st = List.[]; d = 0; at = λ x. x }, tt) (m10 (c .before) (After-act·gave c)) g })
+        lay1 = λ c. (outcome-output-requires record { before = c .before; act = c .act }, λ g. lay2 record { before = record { before = c .before; act = c .act }; outcome-output = Called.called ps·1 r·1 (claims· .3) T11 (record { pos = 7; st = List.[]; d = 0; at = λ x. x }, tt) (m10 (c .before) (After-act·gave c)) g })
 
-        pub laid : (c : Start) → at21 (W0 (c .κs) (c .args)) (m0 (c .κs) (c .args))
-        laid = λ c. (mul-o c, (tt, ((Path'.refl, Path'.refl, slice-copy-out-o c), λ g. (act-requires record { before = c; o = record { given = g } }, λ g'. lay1 record { before = record { before = c; o = record { given = g } }; act = Called.called ps·0 r·0 (claims· .1) T8 (Num.vAt 2 λ x. x, (record { pos = 5; st = List.[]; d = 0; at = λ x. x }, (record { pos = 4; st = List.[]; d = 0; at = λ x. x }, tt))) (m7 c g) g' }))))
+        pub laid : (c : Start) → at22 (W0 (c .κs) (c .args)) (m0 (c .κs) (c .args))
+        laid = λ c. (mul-o c, (tt, ((Path'.refl, Path'.refl, slice-copy-out-o c), λ g. (act-requires record { before = c; o = record { given = g } }, λ g'. lay1 record { before = record { before = c; o = record { given = g } }; act = Called.called ps·0 r·0 (claims· .1) T8 (Bool.bAt 2 λ x. x, (Num.vAt 3 λ x. x, (record { pos = 6; st = List.[]; d = 0; at = λ x. x }, (record { pos = 5; st = List.[]; d = 0; at = λ x. x }, tt)))) (m7 c g) g' }))))
 
         module _ (κs : Lifetimes.Lfts 1) (qs : Lifetimes.Shares 1) where
           pub asked :
@@ -853,7 +879,7 @@ module _ (claims· : Claims) where
               (pre : Pre· κs a) →
               (bs : List.List Nat.ℕ) →
               Φ (Any.wantQ 1 ps r xs m κs qs a (Post· κs a)) (Function.init 1 ps r xs m κs qs a)
-          asked = λ a good pre bs. laid record { κs = κs; args = record { outputs = a .0; time = a .1 .0; at = a .1 .1 .0; request = a .1 .1 .1 .0 }; good = good; fits = record { time = record { fits = good .1 .0 .1 }; at = record { fits = good .1 .1 .0 .1 } }; pre = pre }
+          asked = λ a good pre bs. laid record { κs = κs; args = record { outputs = a .0; tenant = a .1 .0; time = a .1 .1 .0; at = a .1 .1 .1 .0; request = a .1 .1 .1 .1 .0 }; good = good; fits = record { time = record { fits = good .1 .1 .0 .1 }; at = record { fits = good .1 .1 .1 .0 .1 } }; pre = pre }
 
         module _ {M : Type 1} (𝓤 : URA.URA M) (H : Wp.Heap 𝓤) (A : Atoms.Atoms 𝓤)
             (W : Kit.Given 𝓤 H A) (𝓣 : Wp.Tables 𝓤 H)
