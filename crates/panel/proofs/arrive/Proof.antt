@@ -18,16 +18,22 @@ advance-outputs-requires : tie.Need-advance-outputs-requires
 advance-outputs-requires c κs =
     let b = c .before .before .before .before in rw (c .before .time-of .ensures) (b .pre .0, b .pre .1 .moment .due)
 
+tenants-of-requires : tie.Need-tenants-of-requires
+tenants-of-requires c κs = search needs
+
+is-tenant-requires : tie.Need-is-tenant-requires
+is-tenant-requires c κs = c .before .before .before .before .before .before .before .pre .1 .mark
+
 index-requires : tie.Need-index-requires
 index-requires c κs = search needs
 
 serve-requires : tie.Need-serve-requires
 serve-requires c κs =
-    let b = c .before .before .before .before .before .before .before .before in
+    let b = c .before .before .before .before .before .before .before .before .before .before in
     let p = b .pre .1 in
     let a = b .args in
-    let from = c .before .before .before .before .before .time-of .result in
-    (p .moment .time, omega (arith, p .output, ap length (c .before .before .before .advance-outputs .ensures), length-map (a .outputs .now) (advance from (a .call .time))))
+    let from = c .before .before .before .before .before .before .before .time-of .result in
+    (p .moment .time, omega (arith, p .output, ap length (c .before .before .before .before .before .advance-outputs .ensures), length-map (a .outputs .now) (advance from (a .call .time))))
 
 station-record-requires : tie.Need-station-record-requires
 station-record-requires c κs = search needs
@@ -60,8 +66,10 @@ returns c =
       c .before .before .before .before .serve .ensures .0,
       c .before .before .before .before .serve .ensures .1,
       c .before .before .before .before .before .index .ensures,
-      c .before .before .before .before .before .before .before .before .advance-outputs .ensures,
-      c .before .before .before .before .before .before .before .before .before .before .time-of .ensures,
+      c .before .before .before .before .before .before .before .is-tenant .ensures,
+      c .before .before .before .before .before .before .before .before .tenants-of .ensures,
+      c .before .before .before .before .before .before .before .before .before .before .advance-outputs .ensures,
+      c .before .before .before .before .before .before .before .before .before .before .before .before .time-of .ensures,
     )
 
 pub arrive-spec : {M : Type 1} → statement M
@@ -70,6 +78,8 @@ arrive-spec =
     (tie.spec
     time-of-requires
     advance-outputs-requires
+    tenants-of-requires
+    is-tenant-requires
     index-requires
     serve-requires
     station-record-requires

@@ -19,7 +19,7 @@ returns : tie.Need-returns
 returns c =
     let a = c .before .before .args in
     let e = panelOf (a .outputs .now) (a .stations .now) (a .kept .now) in
-    sym (startStep-outside (a .parameters) e (sym (c .before .is-startable .ensures) ∙ not-true _ (c .if1 .taken)))
+    sym (startStep-outside (a .parameters) (a .tenants) e (sym (c .before .is-startable .ensures) ∙ not-true _ (c .if1 .taken)))
 
 counts-sound-requires : tie.Need-counts-sound-requires
 counts-sound-requires c κs = search needs
@@ -32,7 +32,7 @@ returns-2 : tie.Need-returns-2
 returns-2 c =
     let a = c .before .before .before .before .args in
     let e = panelOf (a .outputs .now) (a .stations .now) (a .kept .now) in
-    sym (startStep-refused (a .parameters) e (allowed (c .before .before)) (sym (c .before .counts-sound .ensures) ∙ not-true _ (c .if2 .taken)))
+    sym (startStep-refused (a .parameters) (a .tenants) e (allowed (c .before .before)) (sym (c .before .counts-sound .ensures) ∙ not-true _ (c .if2 .taken)))
 
 fresh-outputs-requires : tie.Need-fresh-outputs-requires
 fresh-outputs-requires c κs = search needs
@@ -55,7 +55,7 @@ returns-3 c =
     let a = b .before .before .before .before .args in
     let e = panelOf (a .outputs .now) (a .stations .now) (a .kept .now) in
     rw (c .before .before .before .before .before .fresh-outputs .ensures, c .before .before .fresh-stations .ensures, c .fresh-record .ensures)
-    (sym (startStep-done (a .parameters) e (allowed (b .before .before)) (sym (b .before .counts-sound .ensures) ∙ not-false _ (b .if2 .left))))
+    (sym (startStep-done (a .parameters) (a .tenants) e (allowed (b .before .before)) (sym (b .before .counts-sound .ensures) ∙ not-false _ (b .if2 .left))))
 
 pub start-spec : {M : Type 1} → statement M
 start-spec =

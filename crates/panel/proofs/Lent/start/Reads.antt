@@ -84,12 +84,14 @@ module _ (κs : Lifetimes.Lfts 3) where
       (a .1 .0)
       (a .1 .1 .0)
       (a .1 .1 .1 .0)
+      (a .1 .1 .1 .1 .0)
       record { entry = a .0; exit = s .0 }
       record { entry = a .1 .0; exit = s .1 .0 }
       record { entry = a .1 .1 .0; exit = s .1 .1 .0 }
       record { entry = a .1 .1 .1 .0; exit = s .1 .1 .1 .0 }
+      record { entry = a .1 .1 .1 .1 .0; exit = s .1 .1 .1 .1 .0 }
       r
-  ensures-1·read = λ a g r s. Read.all-models (λ w. start.ensures-1 (w .𝓤) (w .H) κs (w .𝓖 .A) (w .𝓜 .mem) (w .𝓡 .run) (a .0) (a .1 .0) (a .1 .1 .0) (a .1 .1 .1 .0) record { entry = a .0; exit = s .0 } record { entry = a .1 .0; exit = s .1 .0 } record { entry = a .1 .1 .0; exit = s .1 .1 .0 } record { entry = a .1 .1 .1 .0; exit = s .1 .1 .1 .0 } r) (λ w. Read.r-last _) (λ w. Path'.refl) (λ w. Path'.refl) λ w. Path'.refl
+  ensures-1·read = λ a g r s. Read.all-models (λ w. start.ensures-1 (w .𝓤) (w .H) κs (w .𝓖 .A) (w .𝓜 .mem) (w .𝓡 .run) (a .0) (a .1 .0) (a .1 .1 .0) (a .1 .1 .1 .0) (a .1 .1 .1 .1 .0) record { entry = a .0; exit = s .0 } record { entry = a .1 .0; exit = s .1 .0 } record { entry = a .1 .1 .0; exit = s .1 .1 .0 } record { entry = a .1 .1 .1 .0; exit = s .1 .1 .1 .0 } record { entry = a .1 .1 .1 .1 .0; exit = s .1 .1 .1 .1 .0 } r) (λ w. Read.r-last _) (λ w. Path'.refl) (λ w. Path'.refl) λ w. Path'.refl
 
   abbrev pub post-read :
       (a : World.ArgsD start.signature κs) →
