@@ -22,7 +22,8 @@ outsideWords w = text "`" ++ (letters w ++ (text "` is to be " ++ (boundsWords (
 unfoldable pub headingWords : HeadingFault → Bytes
 headingWords NoOutputs = text "the first line is to be `outputs N`"
 headingWords BadCount = text "N is to be 1 to 64"
-headingWords BadWord = text "after `outputs N` may come `stations S`, `fade F`, `duration D` and `tenants HEX`, each once"
+headingWords BadWord =
+    text "after `outputs N` may come `stations S`, `fade F`, `duration D` and `tenants HEX`, each once"
 headingWords BadMarks = text "HEX is to be 1 to 8 hexadecimal digits"
 headingWords (Outside w) = outsideWords w
 

@@ -47,7 +47,9 @@ noWord-on w v r e p = rw e p
 pub noNumber-on : (w v : Word) (r : HeadingFault) → w ≡ v → r ≡ noNumber v → r ≡ noNumber w
 noNumber-on w v r e p = rw e p
 
-pub stepAt-on : (h : Heading) (at : Place) (v c : ℕ) (k : Place) (r : Heading) → at ≡ k → r ≡ stepAt h k v c → r ≡ stepAt h at v c
+pub stepAt-on :
+    (h : Heading) (at : Place) (v c : ℕ) (k : Place) (r : Heading) →
+    at ≡ k → r ≡ stepAt h k v c → r ≡ stepAt h at v c
 stepAt-on h at v c k r e p = rw e p
 
 pub endedAt-on : (s : Named) (at k : Place) (r : Ending) → at ≡ k → r ≡ endedAt s k → r ≡ endedAt s at

@@ -31,7 +31,10 @@ no-newline c h e = omega (arith, e)
 pub worth : {d c : ℕ} → Digit d c → hexValue c ≡ d
 unfolding hexValue if_then_else_
 worth (figure {d} h) =
-    rw (leb-no {a = suc (48 + d)} {b = 48} (omega arith), leb-yes {a = suc (48 + d)} {b = 58} (omega arith)) (omega arith)
+    rw (
+      leb-no {a = suc (48 + d)} {b = 48} (omega arith),
+      leb-yes {a = suc (48 + d)} {b = 58} (omega arith),
+    ) (omega arith)
 worth (upper {d} h) =
     rw (
       leb-no {a = suc (65 + d)} {b = 48} (omega arith),

@@ -29,7 +29,9 @@ written {k} {m} (one-digit {d = d} f g l s) e h =
     let q : k < 8 = follows k f in
     written s (omega arith) (omega (arith, p, h, small g))
 
-said : (p : Named) (w : Word) {n : ℕ} {x : Bytes} → Says w n x → p .tenants < 4294967296 → withNumber w n p .tenants < 4294967296
+said :
+    (p : Named) (w : Word) {n : ℕ} {x : Bytes} → Says w n x → p .tenants < 4294967296 →
+    withNumber w n p .tenants < 4294967296
 unfolding withNumber marksWith
 said p Outputs s h = h
 said p Stations s h = h
@@ -37,7 +39,8 @@ said p Fade s h = h
 said p Duration s h = h
 said p Tenants (says g s) h = written s (omega arith) (omega arith)
 
-further-marks : {m : Came} {p q : Named} {x : Bytes} → Further m p q x → p .tenants < 4294967296 → q .tenants < 4294967296
+further-marks :
+    {m : Came} {p q : Named} {x : Bytes} → Further m p q x → p .tenants < 4294967296 → q .tenants < 4294967296
 further-marks (no-more b) h = h
 further-marks {p = p} (one-more w e b s f) h = further-marks f (said p w s h)
 

@@ -1,5 +1,5 @@
--- What is named is read: a text that names a set and marks, read from the word `outputs` on, is judged by that
--- set's numbers at its end.
+-- What is named is read: a text that names a set and marks, read from the word `outputs` on, is judged by
+-- that set's numbers at its end.
 use mathlib.Core.Path.{_≡_, refl, sym, ap, _∙_}
 use mathlib.Core.Bool.{Bool, true, false, false≢true}
 use mathlib.Core.List.{[], _∷_, _++_}
@@ -56,14 +56,18 @@ blank-untaken Tenants k = refl
 
 -- `outputs` at the line's start, and a further word after a blank, for the first time
 module _ (p : Named) (m : Came) where
-  first-word : Leads read (line p m (Letters Outputs 0)) (letters Outputs) (line p m (Letters Outputs (length (letters Outputs))))
+  first-word :
+      Leads read (line p m (Letters Outputs 0)) (letters Outputs)
+      (line p m (Letters Outputs (length (letters Outputs))))
   first-word =
       record {
         comes = unfold run read headingStep stepAt lettered withPlace letters isBlank if_then_else_ in refl;
         whole = unbroken-letters Outputs;
       }
 
-  spelt-on : (w : Word) → hasCome w m ≡ false → run read (line p m Trail) (letters w) ≡ line p (withCome w m) (Letters w (length (letters w)))
+  spelt-on :
+      (w : Word) → hasCome w m ≡ false →
+      run read (line p m Trail) (letters w) ≡ line p (withCome w m) (Letters w (length (letters w)))
   unfolding run read headingStep stepAt trailed wordBegun marked lettered withPlace letters hasCome isBlank if_then_else_
   spelt-on Outputs h = absurd (false≢true (sym h))
   spelt-on Stations h = rw h
@@ -71,11 +75,15 @@ module _ (p : Named) (m : Came) where
   spelt-on Duration h = rw h
   spelt-on Tenants h = rw h
 
-  further-word : (w : Word) → hasCome w m ≡ false → Leads read (line p m Trail) (letters w) (line p (withCome w m) (Letters w (length (letters w))))
+  further-word :
+      (w : Word) → hasCome w m ≡ false →
+      Leads read (line p m Trail) (letters w) (line p (withCome w m) (Letters w (length (letters w))))
   further-word w h = record { comes = spelt-on w h; whole = unbroken-letters w }
 
   -- THE BLANKS after a word
-  first-gap : (w : Word) (c : ℕ) → isBlank c ≡ true → read (line p m (Letters w (length (letters w)))) c ≡ line p m (Gap w)
+  first-gap :
+      (w : Word) (c : ℕ) → isBlank c ≡ true →
+      read (line p m (Letters w (length (letters w)))) c ≡ line p m (Gap w)
   unfolding read headingStep stepAt lettered withPlace letters if_then_else_
   first-gap Outputs c e = rw e
   first-gap Stations c e = rw e
@@ -87,7 +95,9 @@ module _ (p : Named) (m : Came) where
   unfolding read headingStep stepAt gapped if_then_else_
   further-gap w c e = rw (blank-worth c e, blank-untaken w 0, e)
 
-  gap : (w : Word) {c : ℕ} {x : Bytes} → Blanks (c ∷ x) → Leads read (line p m (Letters w (length (letters w)))) (c ∷ x) (line p m (Gap w))
+  gap :
+      (w : Word) {c : ℕ} {x : Bytes} → Blanks (c ∷ x) →
+      Leads read (line p m (Letters w (length (letters w)))) (c ∷ x) (line p m (Gap w))
   gap w {c} (one-blank e s) = leads-char (first-gap w c e) (blank-no-newline c e) (leads-blanks (further-gap w) s)
 
   -- and after a number
@@ -102,7 +112,8 @@ module _ (p : Named) (m : Came) where
   trail :
       (w : Word) (k : ℕ) {c : ℕ} {x : Bytes} → Blanks (c ∷ x) →
       Leads read (line p m (Number w k)) (c ∷ x) (line p m Trail)
-  trail w k {c} (one-blank e s) = leads-char (first-trail w k c e) (blank-no-newline c e) (leads-blanks further-trail s)
+  trail w k {c} (one-blank e s) =
+      leads-char (first-trail w k c e) (blank-no-newline c e) (leads-blanks further-trail s)
 
 -- A NUMBER, as far as 32 bits go
 abbrev cap : ℕ → ℕ
@@ -158,11 +169,16 @@ follows-count w k h =
     rw (e, leb-yes {a = suc (count k)} {b = 8} (omega (arith, l))))
 
 module _ (p : Named) (m : Came) (w : Word) where
-  first-digit : {d c : ℕ} → mayFollow w 0 ≡ true → Digit d c → d < base w → read (line p m (Gap w)) c ≡ line (withNumber w (cap (base w * 0 + d)) p) m (Number w 1)
+  first-digit :
+      {d c : ℕ} → mayFollow w 0 ≡ true → Digit d c → d < base w →
+      read (line p m (Gap w)) c ≡ line (withNumber w (cap (base w * 0 + d)) p) m (Number w 1)
   unfolding read headingStep stepAt gapped takes counted if_then_else_
   first-digit {d} f g l = rw (worth g, leb-yes {a = suc d} {b = base w} l, f)
 
-  further-digit : (k n : ℕ) {d c : ℕ} → mayFollow w k ≡ true → Digit d c → d < base w → read (line (withNumber w (cap n) p) m (Number w (count k))) c ≡ line (withNumber w (cap (base w * n + d)) p) m (Number w (count (k + 1)))
+  further-digit :
+      (k n : ℕ) {d c : ℕ} → mayFollow w k ≡ true → Digit d c → d < base w →
+      read (line (withNumber w (cap n) p) m (Number w (count k))) c
+      ≡ line (withNumber w (cap (base w * n + d)) p) m (Number w (count (k + 1)))
   unfolding read headingStep stepAt numbered takes countedOn counted if_then_else_
   further-digit k n {d} f g l =
       let e : count (count k + 1) ≡ count (k + 1) = omega arith in
@@ -176,15 +192,24 @@ module _ (p : Named) (m : Came) (w : Word) where
         e,
       )
 
-  digits : {k i n : ℕ} {x : Bytes} → Writes w k i n x → Leads read (line (withNumber w (cap i) p) m (Number w (count k))) x (line (withNumber w (cap n) p) m (Number w (counts k x)))
+  digits :
+      {k i n : ℕ} {x : Bytes} → Writes w k i n x →
+      Leads read (line (withNumber w (cap i) p) m (Number w (count k))) x
+      (line (withNumber w (cap n) p) m (Number w (counts k x)))
   unfolding counts
   digits no-digit = leads-none
-  digits {k} {i} (one-digit {c = c} f g l s) = leads-char (further-digit k i f g l) (no-newline c (omega (arith, past g))) (digits s)
+  digits {k} {i} (one-digit {c = c} f g l s) =
+      leads-char (further-digit k i f g l) (no-newline c (omega (arith, past g))) (digits s)
 
   -- the blanks and the number after a word
-  number : {n c d : ℕ} {x y : Bytes} → Blanks (c ∷ x) → Writes w 0 0 n (d ∷ y) →
-      Leads read (line p m (Letters w (length (letters w)))) ((c ∷ x) ++ (d ∷ y)) (line (withNumber w (cap n) p) m (Number w (counts 1 y)))
-  number {d = d} b (one-digit f g l s) = leads-then (gap p m w b) (leads-char (first-digit f g l) (no-newline d (omega (arith, past g))) (digits s))
+  number :
+      {n c d : ℕ} {x y : Bytes} → Blanks (c ∷ x) → Writes w 0 0 n (d ∷ y) →
+      Leads read (line p m (Letters w (length (letters w)))) ((c ∷ x) ++ (d ∷ y))
+      (line (withNumber w (cap n) p) m (Number w (counts 1 y)))
+  number {d = d} b (one-digit f g l s) =
+      leads-then
+      (gap p m w b)
+      (leads-char (first-digit f g l) (no-newline d (omega (arith, past g))) (digits s))
 
 -- THE LINE to its end: from the state h on, the text x leaves what is judged as q is
 record Ends (h : Heading) (x : Bytes) (q : Named) : Type 0 where

@@ -27,7 +27,9 @@ startable-fits q = refl
 -- a word's number fits, or that word is named
 pub data Judged (q : Named) : Type 0 where
   all-fit : startable (q .parameters) ≡ true → judged q ≡ Starts q → Judged q
-  outside : (w : Word) → startable (q .parameters) ≡ false → fits w q ≡ false → judged q ≡ Fails (Outside w) → Judged q
+  outside :
+      (w : Word) → startable (q .parameters) ≡ false → fits w q ≡ false → judged q ≡ Fails (Outside w) →
+      Judged q
 
 pub judging : (q : Named) → Judged q
 unfolding judged fitting if_then_else_

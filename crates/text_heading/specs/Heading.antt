@@ -20,11 +20,14 @@ use Rattle.text_heading.specs.declared.Heading.{Heading}
 use Rattle.text_heading.specs.declared.Ending.{Ending}
 use Rattle.text_heading.specs.declared.Ending.the-variants.{Starts, Fails}
 
--- WHAT IS LEFT OUT: eight stations, and the greatest times: four hours for fades (§7), a day for durations; and
--- no marks (§8). The outputs are always named
+-- WHAT IS LEFT OUT: eight stations, and the greatest times: four hours for fades (§7), a day for durations;
+-- and no marks (§8). The outputs are always named
 abbrev pub leftOut : Named
 leftOut =
-    record { parameters = record { stations = 8; outputs = 0; fade = mostFade; duration = mostDuration }; tenants = 0 }
+    record {
+      parameters = record { stations = 8; outputs = 0; fade = mostFade; duration = mostDuration };
+      tenants = 0;
+    }
 
 abbrev pub noneCame : Came
 noneCame = record { stations = false; fade = false; duration = false; tenants = false }
@@ -86,8 +89,8 @@ unfoldable pub numbered : Heading → Word → ℕ → ℕ → ℕ → Heading
 numbered h w k v c =
     if takes w k v then countedOn h w k v else if isBlank c then withPlace h Trail else unnumbered h w
 
--- a further word: `stations`, `fade`, `duration` or `tenants`, told by its first letter, and not for the second
--- time
+-- a further word: `stations`, `fade`, `duration` or `tenants`, told by its first letter, and not for the
+-- second time
 unfoldable pub marked : Heading → Word → Heading
 marked h w = record { named = h .named; came = withCome w (h .came); place = Letters w 1 }
 
@@ -121,7 +124,8 @@ unfoldable pub run : {A : Type 0} → (A → ℕ → A) → A → Bytes → A
 run step a [] = a
 run step a (c ∷ x) = run step (step a c) x
 
--- THE LINE'S END: the first number of the set out of range, in this order, or what is named. The marks never are
+-- THE LINE'S END: the first number of the set out of range, in this order, or what is named. No marks are out
+-- of range (§8)
 unfoldable pub fitting : Word → Named → Ending → Ending
 fitting w q e = if fits w q then e else Fails (Outside w)
 

@@ -64,8 +64,8 @@ marksWith Tenants n t = n
 unfoldable pub withNumber : Word → ℕ → Named → Named
 withNumber w n q = record { parameters = setWith w n (q .parameters); tenants = marksWith w n (q .tenants) }
 
--- §6: its range, as Startable.antt has it. Whether the four of the set are within theirs is the test `startable`
--- (proofs/Range.antt). §8: any word of 32 bits may be the marks
+-- §6: its range, as Startable.antt has it. Whether the four of the set are within theirs is the test
+-- `startable` (proofs/Range.antt). §8: any word of 32 bits may be the marks
 unfoldable pub bounds : Word → Bounds
 bounds Outputs = record { least = 1; most = mostOutputs }
 bounds Stations = record { least = 1; most = mostStations }

@@ -24,12 +24,16 @@ use Rattle.text_reading.proofs.Spelt.{at-start}
 use Rattle.text_reading.proofs.Marked.{Start, Reads, LeadsTo, leads-read, leads-steady}
 
 -- the line goes on character by character, from the first that is no blank
-naming : (w : Reader) (h : Underway) (x : Bytes) → run feed (withHeld w (Naming h)) x ≡ withHeld w (Naming (run read h x))
+naming :
+    (w : Reader) (h : Underway) (x : Bytes) →
+    run feed (withHeld w (Naming h)) x ≡ withHeld w (Naming (run read h x))
 unfolding run feed withHeld step storedBy namingHeld read
 naming w h [] = refl
 naming w h (c ∷ x) = naming w (read h c) x
 
-named-from : {x : Bytes} (w : Reader) → w .named ≡ false → Opens x → run feed (withHeld w Blank) x ≡ withHeld w (Naming (run read freshHeading x))
+named-from :
+    {x : Bytes} (w : Reader) → w .named ≡ false → Opens x →
+    run feed (withHeld w Blank) x ≡ withHeld w (Naming (run read freshHeading x))
 unfolding run
 named-from w o (opens x) = ap (λ (u : Reader). run feed u x) first ∙ naming w (read freshHeading 111) x
   where
