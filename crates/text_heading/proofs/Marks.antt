@@ -21,28 +21,28 @@ unfolding mayFollow base if_then_else_
 follows k h = le-of h
 
 -- k digits make a number below the k-th power of 16
-written : {k m n : ℕ} {x : Bytes} → Writes Tenants k m n x → k ≤ 8 → m < 16 ^ k → n < 4294967296
+writes-marks : {k m n : ℕ} {x : Bytes} → Writes Tenants k m n x → k ≤ 8 → m < 16 ^ k → n < 4294967296
 unfolding base
-written {k} no-digit e l = omega (arith, l, pow-le-pow-right {n = 16} (omega arith) {i = k} {j = 8} e)
-written {k} {m} (one-digit {d = d} f g l s) e h =
+writes-marks {k} no-digit e l = omega (arith, l, pow-le-pow-right {n = 16} (omega arith) {i = k} {j = 8} e)
+writes-marks {k} {m} (one-digit {d = d} f g l s) e h =
     let p : 16 ^ (k + 1) ≡ 16 * 16 ^ k = rw add-one (pow-succ' 16 k) in
     let q : k < 8 = follows k f in
-    written s (omega arith) (omega (arith, p, h, small g))
+    writes-marks s (omega arith) (omega (arith, p, h, small g))
 
-said :
+says-marks :
     (p : Named) (w : Word) {n : ℕ} {x : Bytes} → Says w n x → p .tenants < 4294967296 →
     withNumber w n p .tenants < 4294967296
 unfolding withNumber marksWith
-said p Outputs s h = h
-said p Stations s h = h
-said p Fade s h = h
-said p Duration s h = h
-said p Tenants (says g s) h = written s (omega arith) (omega arith)
+says-marks p Outputs s h = h
+says-marks p Stations s h = h
+says-marks p Fade s h = h
+says-marks p Duration s h = h
+says-marks p Tenants (says g s) h = writes-marks s (omega arith) (omega arith)
 
 further-marks :
     {m : Came} {p q : Named} {x : Bytes} → Further m p q x → p .tenants < 4294967296 → q .tenants < 4294967296
 further-marks (no-more b) h = h
-further-marks {p = p} (one-more w e b s f) h = further-marks f (said p w s h)
+further-marks {p = p} (one-more w e b s f) h = further-marks f (says-marks p w s h)
 
 pub named-marks : {q : Named} {x : Bytes} → Names q x → q .tenants < 4294967296
-named-marks (names s f) = further-marks f (said _ Outputs s (omega arith))
+named-marks (names s f) = further-marks f (says-marks _ Outputs s (omega arith))

@@ -12,7 +12,7 @@ use Rattle.lighting_frames.specs.Paper.Frames.{Bytes}
 use Rattle.lighting_levels.proofs.Split.{by-bool, leb-yes, le-of, also-yes, also-both}
 use Rattle.text_characters.specs.Characters.{isBlank}
 use Rattle.text_heading.specs.Words.{letters, base, mayFollow, numberIn, setWith, marksWith, withNumber, hasCome, withCome}
-use Rattle.text_heading.specs.Heading.{leftOut, noneCame, freshHeading, withPlace, lettered, takes, counted, countedOn, gapped, numbered, marked, wordBegun, trailed, stepAt, headingStep, read, run, judged, endedAt, ended}
+use Rattle.text_heading.specs.Heading.{leftOut, noneCame, freshHeading, withPlace, lettered, takesDigit, counted, countedOn, gapped, numbered, marked, wordBegun, trailed, stepAt, headingStep, read, run, judged, endedAt, ended}
 use Rattle.text_heading.specs.Spelling.{Unbroken, nothing, char, Blanks, no-blank, one-blank, Digit, Writes, no-digit, one-digit, Says, says, Further, no-more, one-more, Names, names}
 use Rattle.text_heading.specs.declared.Word.{Word}
 use Rattle.text_heading.specs.declared.Word.the-variants.{Outputs, Stations, Fade, Duration, Tenants}
@@ -46,8 +46,8 @@ unbroken-letters Duration = unbroken-past _ refl
 unbroken-letters Tenants = unbroken-past _ refl
 
 -- a blank is no digit of any word's number
-blank-untaken : (w : Word) (k : ℕ) → takes w k 16 ≡ false
-unfolding takes base if_then_else_
+blank-untaken : (w : Word) (k : ℕ) → takesDigit w k 16 ≡ false
+unfolding takesDigit base if_then_else_
 blank-untaken Outputs k = refl
 blank-untaken Stations k = refl
 blank-untaken Fade k = refl
@@ -172,14 +172,14 @@ module _ (p : Named) (m : Came) (w : Word) where
   first-digit :
       {d c : ℕ} → mayFollow w 0 ≡ true → Digit d c → d < base w →
       read (line p m (Gap w)) c ≡ line (withNumber w (cap (base w * 0 + d)) p) m (Number w 1)
-  unfolding read headingStep stepAt gapped takes counted if_then_else_
+  unfolding read headingStep stepAt gapped takesDigit counted if_then_else_
   first-digit {d} f g l = rw (worth g, leb-yes {a = suc d} {b = base w} l, f)
 
   further-digit :
       (k n : ℕ) {d c : ℕ} → mayFollow w k ≡ true → Digit d c → d < base w →
       read (line (withNumber w (cap n) p) m (Number w (count k))) c
       ≡ line (withNumber w (cap (base w * n + d)) p) m (Number w (count (k + 1)))
-  unfolding read headingStep stepAt numbered takes countedOn counted if_then_else_
+  unfolding read headingStep stepAt numbered takesDigit countedOn counted if_then_else_
   further-digit k n {d} f g l =
       let e : count (count k + 1) ≡ count (k + 1) = omega arith in
       rw (

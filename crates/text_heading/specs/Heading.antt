@@ -69,8 +69,8 @@ lettered h w k c =
 
 -- after k digits, which made the number n: whether v is one more, and the line after it. 4,294,967,295 stands
 -- for every number above it too, and 255 for every count of digits above it
-unfoldable pub takes : Word → ℕ → ℕ → Bool
-takes w k v = ltb v (base w) also mayFollow w k
+unfoldable pub takesDigit : Word → ℕ → ℕ → Bool
+takesDigit w k v = ltb v (base w) also mayFollow w k
 
 abbrev pub grown : Word → ℕ → ℕ → ℕ
 grown w n v = min 4294967295 (base w * n + v)
@@ -83,11 +83,11 @@ unfoldable pub countedOn : Heading → Word → ℕ → ℕ → Heading
 countedOn h w k v = counted h w k (numberIn w (h .named)) v
 
 unfoldable pub gapped : Heading → Word → ℕ → ℕ → Heading
-gapped h w v c = if takes w 0 v then counted h w 0 0 v else if isBlank c then h else unnumbered h w
+gapped h w v c = if takesDigit w 0 v then counted h w 0 0 v else if isBlank c then h else unnumbered h w
 
 unfoldable pub numbered : Heading → Word → ℕ → ℕ → ℕ → Heading
 numbered h w k v c =
-    if takes w k v then countedOn h w k v else if isBlank c then withPlace h Trail else unnumbered h w
+    if takesDigit w k v then countedOn h w k v else if isBlank c then withPlace h Trail else unnumbered h w
 
 -- a further word: `stations`, `fade`, `duration` or `tenants`, told by its first letter, and not for the
 -- second time

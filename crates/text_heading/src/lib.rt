@@ -5,7 +5,7 @@ pub mod words;
 
 ghost use mathlib.Core.Path.{_≡_};
 ghost use Prim.Native.Nat.{_+_, min};
-ghost use Rattle.text_heading.specs.Heading.{freshHeading, withPlace, noWord, noNumber, misspelt, unnumbered, lettered, grown, takes, counted, countedOn, gapped, numbered, marked, wordBegun, trailed, headingStep, fitting, judged, ended};
+ghost use Rattle.text_heading.specs.Heading.{freshHeading, withPlace, noWord, noNumber, misspelt, unnumbered, lettered, grown, takesDigit, counted, countedOn, gapped, numbered, marked, wordBegun, trailed, headingStep, fitting, judged, ended};
 use lighting_outputs::MOST_DURATION;
 use lighting_outputs::MOST_FADE;
 use lighting_outputs::Parameters;
@@ -188,8 +188,8 @@ fn one_more(k: u8) -> u8
 }
 
 // Whether after k digits of a word's number v is one more.
-fn takes(w: Word, k: u8, v: u8) -> bool
-    ensures { λ r. ⌜ r ≡ takes w k v ⌝ }
+fn takes_digit(w: Word, k: u8, v: u8) -> bool
+    ensures { λ r. ⌜ r ≡ takesDigit w k v ⌝ }
 {
     if v < words::base(w) {
         words::may_follow(w, k)
@@ -220,7 +220,7 @@ fn counted_on(h: Heading, w: Word, k: u8, v: u8) -> Heading
 fn gapped(h: Heading, w: Word, v: u8, c: u8) -> Heading
     ensures { λ r. ⌜ r ≡ gapped h w v c ⌝ }
 {
-    if takes(w, 0, v) {
+    if takes_digit(w, 0, v) {
         counted(h, w, 0, 0, v)
     } else if text_characters::is_blank(c) {
         h
@@ -232,7 +232,7 @@ fn gapped(h: Heading, w: Word, v: u8, c: u8) -> Heading
 fn numbered(h: Heading, w: Word, k: u8, v: u8, c: u8) -> Heading
     ensures { λ r. ⌜ r ≡ numbered h w k v c ⌝ }
 {
-    if takes(w, k, v) {
+    if takes_digit(w, k, v) {
         counted_on(h, w, k, v)
     } else if text_characters::is_blank(c) {
         with_place(h, Place::Trail)
