@@ -8,7 +8,7 @@ use Rattle.text_heading.specs.Words.{letters, bounds}
 use Rattle.text_heading.specs.declared.Word.{Word}
 use Rattle.text_heading.specs.declared.Bounds.{Bounds}
 use Rattle.text_heading.specs.declared.HeadingFault.{HeadingFault}
-use Rattle.text_heading.specs.declared.HeadingFault.the-variants.{NoOutputs, BadCount, BadWord, Outside}
+use Rattle.text_heading.specs.declared.HeadingFault.the-variants.{NoOutputs, BadCount, BadWord, BadMarks, Outside}
 use Rattle.text_reading.specs.declared.Fault.{Fault}
 use Rattle.text_reading.specs.declared.Fault.the-variants.{InHeading, NoDigit, HalfByte}
 
@@ -22,7 +22,9 @@ outsideWords w = text "`" ++ (letters w ++ (text "` is to be " ++ (boundsWords (
 unfoldable pub headingWords : HeadingFault → Bytes
 headingWords NoOutputs = text "the first line is to be `outputs N`"
 headingWords BadCount = text "N is to be 1 to 64"
-headingWords BadWord = text "after `outputs N` may come `stations S`, `fade F` and `duration D`, each once"
+headingWords BadWord =
+    text "after `outputs N` may come `stations S`, `fade F`, `duration D` and `tenants HEX`, each once"
+headingWords BadMarks = text "HEX is to be 1 to 8 hexadecimal digits"
 headingWords (Outside w) = outsideWords w
 
 -- IN ANY LINE

@@ -26,6 +26,7 @@ fn put_word(page: &mut [u8], at: usize, w: Word) -> usize
         Word::Stations => put_all(page, at, b"stations"),
         Word::Fade => put_all(page, at, b"fade"),
         Word::Duration => put_all(page, at, b"duration"),
+        Word::Tenants => put_all(page, at, b"tenants"),
     }
 }
 
@@ -57,8 +58,9 @@ fn put_heading_words(page: &mut [u8], at: usize, f: HeadingFault) -> usize
         HeadingFault::BadWord => put_all(
             page,
             at,
-            b"after `outputs N` may come `stations S`, `fade F` and `duration D`, each once",
+            b"after `outputs N` may come `stations S`, `fade F`, `duration D` and `tenants HEX`, each once",
         ),
+        HeadingFault::BadMarks => put_all(page, at, b"HEX is to be 1 to 8 hexadecimal digits"),
         HeadingFault::Outside(w) => put_outside(page, at, w),
     }
 }

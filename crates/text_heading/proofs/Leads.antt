@@ -10,9 +10,9 @@ use Rattle.lighting_frames.specs.Paper.Frames.{Bytes}
 use Rattle.lighting_levels.proofs.Split.{by-eq, eq-of, leb-yes, leb-no}
 use Rattle.text_characters.specs.Characters.{isBlank, hexValue}
 use Rattle.text_heading.specs.Heading.{run}
-use Rattle.text_heading.specs.Spelling.{Unbroken, nothing, char, Blanks, no-blank, one-blank}
+use Rattle.text_heading.specs.Spelling.{Unbroken, nothing, char, Blanks, no-blank, one-blank, Digit, figure, upper, lower}
 
--- CHARACTERS. A blank is worth no digit, and is no newline; a decimal digit is worth its number
+-- CHARACTERS. A blank is worth no digit, and is no newline
 pub blank-worth : (c : ℕ) → isBlank c ≡ true → hexValue c ≡ 16
 unfolding isBlank hexValue if_then_else_
 blank-worth c e =
@@ -24,13 +24,44 @@ pub blank-no-newline : (c : ℕ) → isBlank c ≡ true → c ≢ 10
 unfolding isBlank if_then_else_
 blank-no-newline c h e = false≢true (rw e at h)
 
-pub figure-worth : {d : ℕ} → d < 10 → hexValue (48 + d) ≡ d
-unfolding hexValue if_then_else_
-figure-worth {d} h =
-    rw (leb-no {a = suc (48 + d)} {b = 48} (omega arith), leb-yes {a = suc (48 + d)} {b = 58} (omega arith)) (omega arith)
-
 pub no-newline : (c : ℕ) → 10 < c → c ≢ 10
 no-newline c h e = omega (arith, e)
+
+-- a digit is worth its number
+pub worth : {d c : ℕ} → Digit d c → hexValue c ≡ d
+unfolding hexValue if_then_else_
+worth (figure {d} h) =
+    rw (
+      leb-no {a = suc (48 + d)} {b = 48} (omega arith),
+      leb-yes {a = suc (48 + d)} {b = 58} (omega arith),
+    ) (omega arith)
+worth (upper {d} h) =
+    rw (
+      leb-no {a = suc (65 + d)} {b = 48} (omega arith),
+      leb-no {a = suc (65 + d)} {b = 58} (omega arith),
+      leb-no {a = suc (65 + d)} {b = 65} (omega arith),
+      leb-yes {a = suc (65 + d)} {b = 71} (omega arith),
+    ) (omega arith)
+worth (lower {d} h) =
+    rw (
+      leb-no {a = suc (97 + d)} {b = 48} (omega arith),
+      leb-no {a = suc (97 + d)} {b = 58} (omega arith),
+      leb-no {a = suc (97 + d)} {b = 65} (omega arith),
+      leb-no {a = suc (97 + d)} {b = 71} (omega arith),
+      leb-no {a = suc (97 + d)} {b = 97} (omega arith),
+      leb-yes {a = suc (97 + d)} {b = 103} (omega arith),
+    ) (omega arith)
+
+pub small : {d c : ℕ} → Digit d c → d < 16
+small (figure h) = omega arith
+small (upper h) = omega arith
+small (lower h) = omega arith
+
+-- and is past every blank and mark
+pub past : {d c : ℕ} → Digit d c → 47 < c
+past (figure h) = omega arith
+past (upper h) = omega arith
+past (lower h) = omega arith
 
 -- TEXTS
 pub record Leads {A : Type 0} (f : A → ℕ → A) (a : A) (x : Bytes) (b : A) : Type 0 where

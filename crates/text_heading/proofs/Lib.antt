@@ -2,4 +2,5 @@ pub mod Laws
 pub mod Letters
 pub mod Range
 pub mod Leads
-pub mod Named
+pub mod Marks
+pub mod Naming

@@ -1,20 +1,28 @@
 // The first line of a list that says something, read a character at a time: `outputs N`, and after it further
-// words with their numbers. It names the set of parameters that the panel is started with.
+// words with their numbers. It names the set of parameters that the panel is started with, and the marks of
+// tenants.
 pub mod words;
 
 ghost use mathlib.Core.Path.{_≡_};
-ghost use Prim.Native.Nat.{_+_, _*_, min};
-ghost use Rattle.text_heading.specs.Heading.{freshHeading, withPlace, noWord, noNumber, misspelt, unnumbered, lettered, counted, countedOn, gapped, numbered, marked, wordBegun, trailed, headingStep, fitting, judged, ended};
+ghost use Prim.Native.Nat.{_+_, min};
+ghost use Rattle.text_heading.specs.Heading.{freshHeading, withPlace, noWord, noNumber, misspelt, unnumbered, lettered, grown, takesDigit, counted, countedOn, gapped, numbered, marked, wordBegun, trailed, headingStep, fitting, judged, ended};
 use lighting_outputs::MOST_DURATION;
 use lighting_outputs::MOST_FADE;
 use lighting_outputs::Parameters;
 
-// A word that has a number of the set.
+// A word that has a number of the set, or the marks.
 pub enum Word {
     Outputs,
     Stations,
     Fade,
     Duration,
+    Tenants,
+}
+
+// What a first line names: the set of parameters (§6), and the marks of tenants (§8).
+pub struct Named {
+    pub parameters: Parameters,
+    pub tenants: u32,
 }
 
 // The range of a word's number: both ends belong to it.
@@ -28,6 +36,7 @@ pub struct Came {
     pub stations: bool,
     pub fade: bool,
     pub duration: bool,
+    pub tenants: bool,
 }
 
 // What makes a first line a bad one.
@@ -36,8 +45,10 @@ pub enum HeadingFault {
     NoOutputs,
     // no number follows `outputs`
     BadCount,
-    // a further word is none of the three, or comes twice, or is not followed by a number
+    // a further word is none of the four, or comes twice, or is not followed by a number
     BadWord,
+    // `tenants` is not followed by 1 to 8 hexadecimal digits
+    BadMarks,
     // this word's number is out of range
     Outside(Word),
 }
@@ -48,8 +59,8 @@ pub enum Place {
     Letters(Word, u8),
     // after a word and a blank
     Gap(Word),
-    // after a digit of a word's number
-    Number(Word),
+    // after so many digits of a word's number, or more where they are 255
+    Number(Word, u8),
     // after a number and a blank
     Trail,
     Spoilt(HeadingFault),
@@ -58,34 +69,38 @@ pub enum Place {
 // The line so far: the numbers that it has named, with those that hold where it names none, the words that
 // have come, and the place.
 pub struct Heading {
-    pub set: Parameters,
+    pub named: Named,
     pub came: Came,
     pub place: Place,
 }
 
 // What the line is at its end.
 pub enum Ending {
-    Starts(Parameters),
+    Starts(Named),
     Fails(HeadingFault),
 }
 
 // ---- the line after one more character c, worth v as a digit
 
-// Before its first character. Left out are eight stations and the greatest times.
+// Before its first character. Left out are eight stations, the greatest times, and no marks.
 pub fn fresh_heading() -> Heading
     ensures { λ r. ⌜ r ≡ freshHeading ⌝ }
 {
     Heading {
-        set: Parameters {
-            stations: 8,
-            outputs: 0,
-            fade: MOST_FADE,
-            duration: MOST_DURATION,
+        named: Named {
+            parameters: Parameters {
+                stations: 8,
+                outputs: 0,
+                fade: MOST_FADE,
+                duration: MOST_DURATION,
+            },
+            tenants: 0,
         },
         came: Came {
             stations: false,
             fade: false,
             duration: false,
+            tenants: false,
         },
         place: Place::Letters(Word::Outputs, 0),
     }
@@ -94,10 +109,10 @@ pub fn fresh_heading() -> Heading
 fn with_place(h: Heading, at: Place) -> Heading
     ensures { λ r. ⌜ r ≡ withPlace h at ⌝ }
 {
-    let set = h.set;
+    let named = h.named;
     let came = h.came;
     Heading {
-        set: set,
+        named: named,
         came: came,
         place: at,
     }
@@ -112,6 +127,7 @@ fn no_word(w: Word) -> HeadingFault
         Word::Stations => HeadingFault::BadWord,
         Word::Fade => HeadingFault::BadWord,
         Word::Duration => HeadingFault::BadWord,
+        Word::Tenants => HeadingFault::BadWord,
     }
 }
 
@@ -123,6 +139,7 @@ fn no_number(w: Word) -> HeadingFault
         Word::Stations => HeadingFault::BadWord,
         Word::Fade => HeadingFault::BadWord,
         Word::Duration => HeadingFault::BadWord,
+        Word::Tenants => HeadingFault::BadMarks,
     }
 }
 
@@ -156,37 +173,55 @@ fn lettered(h: Heading, w: Word, k: u8, c: u8) -> Heading
     }
 }
 
-// One more decimal digit. The greatest number stands for all above it too.
-fn grown(n: u32, v: u8) -> u32
-    ensures { λ r. ⌜ r ≡ min 4294967295 (10 * n + v) ⌝ }
+// One more digit. The greatest number stands for all above it too.
+fn grown(w: Word, n: u32, v: u8) -> u32
+    ensures { λ r. ⌜ r ≡ grown w n v ⌝ }
 {
-    let m = 10 * (n as u64) + (v as u64);
+    let m = (words::base(w) as u64) * (n as u64) + (v as u64);
     if m < 4294967295 { m as u32 } else { 4294967295 }
 }
 
-fn counted(h: Heading, w: Word, n: u32, v: u8) -> Heading
-    ensures { λ r. ⌜ r ≡ counted h w n v ⌝ }
+fn one_more(k: u8) -> u8
+    ensures { λ r. ⌜ r ≡ min 255 (k + 1) ⌝ }
 {
-    let came = h.came;
-    let set = words::with_number(w, grown(n, v), h.set);
-    Heading {
-        set: set,
-        came: came,
-        place: Place::Number(w),
+    if k < 255 { k + 1 } else { 255 }
+}
+
+// Whether after k digits of a word's number v is one more.
+fn takes_digit(w: Word, k: u8, v: u8) -> bool
+    ensures { λ r. ⌜ r ≡ takesDigit w k v ⌝ }
+{
+    if v < words::base(w) {
+        words::may_follow(w, k)
+    } else {
+        false
     }
 }
 
-fn counted_on(h: Heading, w: Word, v: u8) -> Heading
-    ensures { λ r. ⌜ r ≡ countedOn h w v ⌝ }
+// v is one more digit, after k that made the number n.
+fn counted(h: Heading, w: Word, k: u8, n: u32, v: u8) -> Heading
+    ensures { λ r. ⌜ r ≡ counted h w k n v ⌝ }
 {
-    counted(h, w, words::number_in(w, h.set), v)
+    let came = h.came;
+    let named = words::with_number(w, grown(w, n, v), h.named);
+    Heading {
+        named: named,
+        came: came,
+        place: Place::Number(w, one_more(k)),
+    }
+}
+
+fn counted_on(h: Heading, w: Word, k: u8, v: u8) -> Heading
+    ensures { λ r. ⌜ r ≡ countedOn h w k v ⌝ }
+{
+    counted(h, w, k, words::number_in(w, h.named), v)
 }
 
 fn gapped(h: Heading, w: Word, v: u8, c: u8) -> Heading
     ensures { λ r. ⌜ r ≡ gapped h w v c ⌝ }
 {
-    if v < 10 {
-        counted(h, w, 0, v)
+    if takes_digit(w, 0, v) {
+        counted(h, w, 0, 0, v)
     } else if text_characters::is_blank(c) {
         h
     } else {
@@ -194,11 +229,11 @@ fn gapped(h: Heading, w: Word, v: u8, c: u8) -> Heading
     }
 }
 
-fn numbered(h: Heading, w: Word, v: u8, c: u8) -> Heading
-    ensures { λ r. ⌜ r ≡ numbered h w v c ⌝ }
+fn numbered(h: Heading, w: Word, k: u8, v: u8, c: u8) -> Heading
+    ensures { λ r. ⌜ r ≡ numbered h w k v c ⌝ }
 {
-    if v < 10 {
-        counted_on(h, w, v)
+    if takes_digit(w, k, v) {
+        counted_on(h, w, k, v)
     } else if text_characters::is_blank(c) {
         with_place(h, Place::Trail)
     } else {
@@ -210,10 +245,10 @@ fn numbered(h: Heading, w: Word, v: u8, c: u8) -> Heading
 fn marked(h: Heading, w: Word) -> Heading
     ensures { λ r. ⌜ r ≡ marked h w ⌝ }
 {
-    let set = h.set;
+    let named = h.named;
     let came = words::with_come(w, h.came);
     Heading {
-        set: set,
+        named: named,
         came: came,
         place: Place::Letters(w, 1),
     }
@@ -240,6 +275,8 @@ fn trailed(h: Heading, c: u8) -> Heading
         word_begun(h, Word::Fade)
     } else if c == b'd' {
         word_begun(h, Word::Duration)
+    } else if c == b't' {
+        word_begun(h, Word::Tenants)
     } else {
         with_place(h, Place::Spoilt(HeadingFault::BadWord))
     }
@@ -252,7 +289,7 @@ pub fn step(h: Heading, v: u8, c: u8) -> Heading
     match at {
         Place::Letters(w, k) => lettered(h, w, k, c),
         Place::Gap(w) => gapped(h, w, v, c),
-        Place::Number(w) => numbered(h, w, v, c),
+        Place::Number(w, k) => numbered(h, w, k, v, c),
         Place::Trail => trailed(h, c),
         Place::Spoilt(_) => h,
     }
@@ -261,35 +298,35 @@ pub fn step(h: Heading, v: u8, c: u8) -> Heading
 // ---- the line's end
 
 // What comes of it, unless this word's number is out of range.
-fn fitting(w: Word, set: Parameters, e: Ending) -> Ending
-    ensures { λ r. ⌜ r ≡ fitting w set e ⌝ }
+fn fitting(w: Word, named: Named, e: Ending) -> Ending
+    ensures { λ r. ⌜ r ≡ fitting w named e ⌝ }
 {
-    if words::fits(w, set) {
+    if words::fits(w, named) {
         e
     } else {
         Ending::Fails(HeadingFault::Outside(w))
     }
 }
 
-fn judged(set: Parameters) -> Ending
-    ensures { λ r. ⌜ r ≡ judged set ⌝ }
+fn judged(named: Named) -> Ending
+    ensures { λ r. ⌜ r ≡ judged named ⌝ }
 {
-    let duration = fitting(Word::Duration, set, Ending::Starts(set));
-    let fade = fitting(Word::Fade, set, duration);
-    let outputs = fitting(Word::Outputs, set, fade);
-    fitting(Word::Stations, set, outputs)
+    let duration = fitting(Word::Duration, named, Ending::Starts(named));
+    let fade = fitting(Word::Fade, named, duration);
+    let outputs = fitting(Word::Outputs, named, fade);
+    fitting(Word::Stations, named, outputs)
 }
 
 pub fn ended(h: Heading) -> Ending
     ensures { λ r. ⌜ r ≡ ended h ⌝ }
 {
-    let set = h.set;
+    let named = h.named;
     let at = h.place;
     match at {
         Place::Letters(w, _) => Ending::Fails(no_word(w)),
         Place::Gap(w) => Ending::Fails(no_number(w)),
-        Place::Number(_) => judged(set),
-        Place::Trail => judged(set),
+        Place::Number(_, _) => judged(named),
+        Place::Trail => judged(named),
         Place::Spoilt(f) => Ending::Fails(f),
     }
 }

@@ -1,9 +1,10 @@
-// The words of a list's first line: their letters, and each one's number of the set.
+// The words of a list's first line: their letters, and each one's number in what is named.
 ghost use mathlib.Core.Path.{_≡_};
 ghost use lib.ListN.{getD};
-ghost use Rattle.text_heading.specs.Words.{letters, bounds, numberIn, withNumber, hasCome, withCome, fits};
+ghost use Rattle.text_heading.specs.Words.{letters, base, mayFollow, numberIn, setWith, marksWith, withNumber, bounds, fits, hasCome, withCome};
 use crate::Bounds;
 use crate::Came;
+use crate::Named;
 use crate::Word;
 use lighting_outputs::LEAST_TIME;
 use lighting_outputs::MOST_DURATION;
@@ -30,24 +31,47 @@ pub fn letter(w: Word, k: u8) -> u8
         Word::Stations => letter_of(b"stations", k),
         Word::Fade => letter_of(b"fade", k),
         Word::Duration => letter_of(b"duration", k),
+        Word::Tenants => letter_of(b"tenants", k),
     }
+}
+
+// ---- how a word's number is written
+
+pub fn base(w: Word) -> u8
+    ensures { λ r. ⌜ r ≡ base w ⌝ }
+{
+    match w {
+        Word::Outputs => 10,
+        Word::Stations => 10,
+        Word::Fade => 10,
+        Word::Duration => 10,
+        Word::Tenants => 16,
+    }
+}
+
+// Whether after k digits one more may come: of hexadecimal ones there are eight at most.
+pub fn may_follow(w: Word, k: u8) -> bool
+    ensures { λ r. ⌜ r ≡ mayFollow w k ⌝ }
+{
+    if base(w) == 10 { true } else { k < 8 }
 }
 
 // ---- a word's number
 
-pub fn number_in(w: Word, set: Parameters) -> u32
-    ensures { λ r. ⌜ r ≡ numberIn w set ⌝ }
+pub fn number_in(w: Word, named: Named) -> u32
+    ensures { λ r. ⌜ r ≡ numberIn w named ⌝ }
 {
     match w {
-        Word::Outputs => set.outputs,
-        Word::Stations => set.stations,
-        Word::Fade => set.fade,
-        Word::Duration => set.duration,
+        Word::Outputs => named.parameters.outputs,
+        Word::Stations => named.parameters.stations,
+        Word::Fade => named.parameters.fade,
+        Word::Duration => named.parameters.duration,
+        Word::Tenants => named.tenants,
     }
 }
 
-pub fn with_number(w: Word, n: u32, set: Parameters) -> Parameters
-    ensures { λ r. ⌜ r ≡ withNumber w n set ⌝ }
+fn set_with(w: Word, n: u32, set: Parameters) -> Parameters
+    ensures { λ r. ⌜ r ≡ setWith w n set ⌝ }
 {
     match w {
         Word::Outputs => Parameters {
@@ -74,6 +98,29 @@ pub fn with_number(w: Word, n: u32, set: Parameters) -> Parameters
             fade: set.fade,
             duration: n,
         },
+        Word::Tenants => set,
+    }
+}
+
+fn marks_with(w: Word, n: u32, marks: u32) -> u32
+    ensures { λ r. ⌜ r ≡ marksWith w n marks ⌝ }
+{
+    match w {
+        Word::Outputs => marks,
+        Word::Stations => marks,
+        Word::Fade => marks,
+        Word::Duration => marks,
+        Word::Tenants => n,
+    }
+}
+
+pub fn with_number(w: Word, n: u32, named: Named) -> Named
+    ensures { λ r. ⌜ r ≡ withNumber w n named ⌝ }
+{
+    let set = set_with(w, n, named.parameters);
+    Named {
+        parameters: set,
+        tenants: marks_with(w, n, named.tenants),
     }
 }
 
@@ -97,14 +144,18 @@ pub fn bounds(w: Word) -> Bounds
             least: LEAST_TIME,
             most: MOST_DURATION,
         },
+        Word::Tenants => Bounds {
+            least: 0,
+            most: 4294967295,
+        },
     }
 }
 
-pub fn fits(w: Word, set: Parameters) -> bool
-    ensures { λ r. ⌜ r ≡ fits w set ⌝ }
+pub fn fits(w: Word, named: Named) -> bool
+    ensures { λ r. ⌜ r ≡ fits w named ⌝ }
 {
     let b = bounds(w);
-    number_ranges::is_within(b.least, b.most, number_in(w, set))
+    number_ranges::is_within(b.least, b.most, number_in(w, named))
 }
 
 // ---- which words have come
@@ -117,6 +168,7 @@ pub fn has_come(w: Word, came: Came) -> bool
         Word::Stations => came.stations,
         Word::Fade => came.fade,
         Word::Duration => came.duration,
+        Word::Tenants => came.tenants,
     }
 }
 
@@ -129,16 +181,25 @@ pub fn with_come(w: Word, came: Came) -> Came
             stations: true,
             fade: came.fade,
             duration: came.duration,
+            tenants: came.tenants,
         },
         Word::Fade => Came {
             stations: came.stations,
             fade: true,
             duration: came.duration,
+            tenants: came.tenants,
         },
         Word::Duration => Came {
             stations: came.stations,
             fade: came.fade,
             duration: true,
+            tenants: came.tenants,
+        },
+        Word::Tenants => Came {
+            stations: came.stations,
+            fade: came.fade,
+            duration: came.duration,
+            tenants: true,
         },
     }
 }

@@ -9,13 +9,13 @@ use Rattle.lighting_levels.specs.Paper.Choice.{if_then_else_}
 use Rattle.lighting_frames.specs.Paper.Frames.{Bytes}
 use Rattle.lighting_levels.proofs.Split.{by-lt, leb-yes}
 use Rattle.text_characters.specs.Characters.{isBlank, hexValue, bytePair}
-use Rattle.text_heading.proofs.Leads.{blank-no-newline}
+use Rattle.text_heading.specs.Spelling.{Digit, figure, upper, lower}
+use Rattle.text_heading.proofs.Leads.{blank-no-newline, past}
 use Rattle.text_reading.specs.Reading.{mayBegin, bytesKept, pushed, withHeld, feed}
-use Rattle.text_reading.specs.Spelling.{Digit, figure, upper, lower}
 use Rattle.text_reading.specs.declared.Held.{Held}
 use Rattle.text_reading.specs.declared.Held.the-variants.{Blank, Comment, Naming, Whole, Half, Dash, Spoilt}
 use Rattle.text_reading.specs.declared.Reader.{Reader}
-use Rattle.text_reading.proofs.Spelt.{Between, none, some, past, first, second, passed-over}
+use Rattle.text_reading.proofs.Spelt.{Between, none, some, first, second, passed-over}
 use Rattle.text_reading.proofs.Lines.{Comes, line-turn}
 
 -- A CHARACTER THAT IS WORTH A DIGIT is one

@@ -14,47 +14,16 @@ use Rattle.lighting_frames.specs.Paper.Frames.{Bytes, Octets}
 use Rattle.lighting_levels.proofs.Split.{by-lt, eqb-miss, leb-yes, leb-no}
 use Rattle.text_characters.specs.Characters.{isBlank, hexValue, bytePair}
 use Rattle.text_heading.specs.Heading.{run}
-use Rattle.text_heading.specs.Spelling.{Unbroken, nothing, char}
-use Rattle.text_heading.proofs.Leads.{blank-no-newline, figure-worth}
+use Rattle.text_heading.specs.Spelling.{Unbroken, nothing, char, Digit}
+use Rattle.text_heading.proofs.Leads.{blank-no-newline, worth, small, past}
 use Rattle.text_reading.specs.Reading.{bytesKept, digitHeld, opened, byteHeld, halfHeld, dashed, step, pushed, joined, storedBy, withHeld, feed, fed, lineOf, content}
-use Rattle.text_reading.specs.Spelling.{Digit, figure, upper, lower, Spells, end, blank, byte}
+use Rattle.text_reading.specs.Spelling.{Spells, end, blank, byte}
 use Rattle.text_reading.specs.declared.Held.{Held}
 use Rattle.text_reading.specs.declared.Held.the-variants.{Blank, Whole, Half, Dash}
 use Rattle.text_reading.specs.declared.Line.the-variants.{Frame}
 use Rattle.text_reading.specs.declared.Reader.{Reader}
 
--- DIGITS
-pub worth : {d c : ℕ} → Digit d c → hexValue c ≡ d
-unfolding hexValue if_then_else_
-worth (figure h) = figure-worth h
-worth (upper {d} h) =
-    rw (
-      leb-no {a = suc (65 + d)} {b = 48} (omega arith),
-      leb-no {a = suc (65 + d)} {b = 58} (omega arith),
-      leb-no {a = suc (65 + d)} {b = 65} (omega arith),
-      leb-yes {a = suc (65 + d)} {b = 71} (omega arith),
-    ) (omega arith)
-worth (lower {d} h) =
-    rw (
-      leb-no {a = suc (97 + d)} {b = 48} (omega arith),
-      leb-no {a = suc (97 + d)} {b = 58} (omega arith),
-      leb-no {a = suc (97 + d)} {b = 65} (omega arith),
-      leb-no {a = suc (97 + d)} {b = 71} (omega arith),
-      leb-no {a = suc (97 + d)} {b = 97} (omega arith),
-      leb-yes {a = suc (97 + d)} {b = 103} (omega arith),
-    ) (omega arith)
-
-pub small : {d c : ℕ} → Digit d c → d < 16
-small (figure h) = omega arith
-small (upper h) = omega arith
-small (lower h) = omega arith
-
--- a digit is past every blank and mark
-pub past : {d c : ℕ} → Digit d c → 47 < c
-past (figure h) = omega arith
-past (upper h) = omega arith
-past (lower h) = omega arith
-
+-- A DIGIT is no blank
 is-no-blank : (c : ℕ) → 47 < c → isBlank c ≡ false
 unfolding isBlank if_then_else_
 is-no-blank c h =

@@ -109,7 +109,7 @@ lineLength (c ∷ x) = if eqb c 10 then 0 else suc (lineLength x)
 
 -- A LINE'S END
 unfoldable pub headingLine : Ending → Line
-headingLine (Starts p) = Started p
+headingLine (Starts q) = Started q
 headingLine (Fails f) = Wrong (InHeading f)
 
 unfoldable pub lineOf : Held → Line

@@ -2,21 +2,15 @@
 use mathlib.Core.Path.{_≡_}
 use mathlib.Core.Bool.{true}
 use mathlib.Core.List.{[], _∷_, _++_}
-use Prim.Native.Nat.{ℕ, _+_, _*_, _<_}
-use Rattle.lighting_outputs.specs.declared.Parameters.{Parameters}
+use Prim.Native.Nat.{ℕ, _+_, _*_}
 use Rattle.lighting_outputs.specs.Paper.Startable.{startable}
 use Rattle.lighting_frames.specs.Paper.Frames.{Bytes}
 use Rattle.text_characters.specs.Characters.{isBlank}
-use Rattle.text_heading.specs.Spelling.{Unbroken, Blanks, Names}
+use Rattle.text_heading.specs.declared.Named.{Named}
+use Rattle.text_heading.specs.Spelling.{Unbroken, Blanks, Digit, Names}
 
--- BYTES. A hexadecimal digit of either case, and its character: `0` to `9`, `A` to `F`, `a` to `f`
-pub data Digit : ℕ → ℕ → Type 0 where
-  figure : {d : ℕ} → d < 10 → Digit d (48 + d)
-  upper : {d : ℕ} → d < 6 → Digit (10 + d) (65 + d)
-  lower : {d : ℕ} → d < 6 → Digit (10 + d) (97 + d)
-
--- two digits a byte, the first the more significant, with blanks between bytes, before the first and after
--- the last
+-- BYTES. Two hexadecimal digits a byte, the first the more significant, with blanks between bytes, before the
+-- first and after the last
 pub data Spells : Bytes → Bytes → Type 0 where
   end : Spells [] []
   blank : {b x : Bytes} (c : ℕ) → isBlank c ≡ true → Spells b x → Spells b (c ∷ x)
@@ -32,6 +26,8 @@ pub data Gives : Bytes → Bytes → Type 0 where
   bytes : {y : ℕ} {b x : Bytes} → Spells (y ∷ b) x → Gives (y ∷ b) x
   dash : {before after : Bytes} → Blanks before → Blanks after → Gives [] (before ++ (45 ∷ after))
 
--- THE LINE THAT NAMES THE OUTPUTS, and with them a set that may be started
-pub data Heading : Parameters → Bytes → Type 0 where
-  heading : {p : Parameters} {before x : Bytes} → Blanks before → Names p x → startable p ≡ true → Heading p (before ++ x)
+-- THE LINE THAT NAMES THE OUTPUTS, with them a set that may be started, and any marks (§8)
+pub data Heading : Named → Bytes → Type 0 where
+  heading :
+      {q : Named} {before x : Bytes} →
+      Blanks before → Names q x → startable (q .parameters) ≡ true → Heading q (before ++ x)

@@ -6,10 +6,10 @@ ghost use mathlib.Core.Path.{_≡_};
 ghost use Prim.Native.Nat.{_+_, _≤_, min};
 ghost use lib.ListN.{length, drop};
 ghost use Rattle.text_reading.specs.Reading.{pushed, joined, storedBy, withHeld, feed, fedLine, lineLength, headingLine, lineOf, nextLine, withNamed, freshReader};
-use lighting_outputs::Parameters;
 use text_heading::Ending;
 use text_heading::Heading;
 use text_heading::HeadingFault;
+use text_heading::Named;
 
 // What makes a line a bad one.
 pub enum Fault {
@@ -40,7 +40,7 @@ pub enum Held {
 // What a line is at its end.
 pub enum Line {
     Nothing,
-    Started(Parameters),
+    Started(Named),
     Frame,
     Wrong(Fault),
 }
@@ -217,7 +217,7 @@ fn heading_line(e: Ending) -> Line
     ensures { λ r. ⌜ r ≡ headingLine e ⌝ }
 {
     match e {
-        Ending::Starts(set) => Line::Started(set),
+        Ending::Starts(named) => Line::Started(named),
         Ending::Fails(f) => Line::Wrong(Fault::InHeading(f)),
     }
 }

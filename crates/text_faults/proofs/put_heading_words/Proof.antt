@@ -32,6 +32,15 @@ slice-aggregate-put-all-3 c = search needs
 put-all-requires-3 : tie.Need-put-all-requires-3
 put-all-requires-3 c κs = search needs
 
+enum-told-4 : tie.Need-enum-told-4
+enum-told-4 c = search needs
+
+slice-aggregate-put-all-4 : tie.Need-slice-aggregate-put-all-4
+slice-aggregate-put-all-4 c = search needs
+
+put-all-requires-4 : tie.Need-put-all-requires-4
+put-all-requires-4 c κs = search needs
+
 enum-known-f : tie.Need-enum-known-f
 enum-known-f c = search needs
 
@@ -66,6 +75,13 @@ returns-4 : tie.Need-returns-4
 unfolding headingWords
 returns-4 c = search (needs, headingWords-on)
 
+same-length-5 : tie.Need-same-length-5
+same-length-5 c = search needs
+
+returns-5 : tie.Need-returns-5
+unfolding headingWords
+returns-5 c = search (needs, headingWords-on)
+
 pub put-heading-words-spec : {M : Type 1} → statement M
 put-heading-words-spec =
     tie.close
@@ -79,6 +95,9 @@ put-heading-words-spec =
     enum-told-3
     slice-aggregate-put-all-3
     put-all-requires-3
+    enum-told-4
+    slice-aggregate-put-all-4
+    put-all-requires-4
     enum-known-f
     put-outside-requires
     same-length
@@ -88,4 +107,6 @@ put-heading-words-spec =
     same-length-3
     returns-3
     same-length-4
-    returns-4)
+    returns-4
+    same-length-5
+    returns-5)

@@ -41,6 +41,15 @@ slice-aggregate-put-all-4 c = search needs
 put-all-requires-4 : tie.Need-put-all-requires-4
 put-all-requires-4 c κs = search needs
 
+enum-told-5 : tie.Need-enum-told-5
+enum-told-5 c = search needs
+
+slice-aggregate-put-all-5 : tie.Need-slice-aggregate-put-all-5
+slice-aggregate-put-all-5 c = search needs
+
+put-all-requires-5 : tie.Need-put-all-requires-5
+put-all-requires-5 c κs = search needs
+
 same-length : tie.Need-same-length
 same-length c = search needs
 
@@ -69,6 +78,13 @@ returns-4 : tie.Need-returns-4
 unfolding letters
 returns-4 c = search (needs, letters-on)
 
+same-length-5 : tie.Need-same-length-5
+same-length-5 c = search needs
+
+returns-5 : tie.Need-returns-5
+unfolding letters
+returns-5 c = search (needs, letters-on)
+
 pub put-word-spec : {M : Type 1} → statement M
 put-word-spec =
     tie.close
@@ -85,6 +101,9 @@ put-word-spec =
     enum-told-4
     slice-aggregate-put-all-4
     put-all-requires-4
+    enum-told-5
+    slice-aggregate-put-all-5
+    put-all-requires-5
     same-length
     returns
     same-length-2
@@ -92,4 +111,6 @@ put-word-spec =
     same-length-3
     returns-3
     same-length-4
-    returns-4)
+    returns-4
+    same-length-5
+    returns-5)

@@ -10,9 +10,12 @@ grown-requires c κs = search needs
 with-number-requires : tie.Need-with-number-requires
 with-number-requires c κs = search needs
 
+one-more-requires : tie.Need-one-more-requires
+one-more-requires c κs = search needs
+
 returns : tie.Need-returns
 unfolding counted
-returns c = simp (c .with-number .ensures, c .before .grown .ensures)
+returns c = simp (c .one-more .ensures, c .before .with-number .ensures, c .before .before .grown .ensures)
 
 pub counted-spec : {M : Type 1} → statement M
-counted-spec = tie.close (tie.spec grown-requires with-number-requires returns)
+counted-spec = tie.close (tie.spec grown-requires with-number-requires one-more-requires returns)

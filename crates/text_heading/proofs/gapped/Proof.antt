@@ -5,6 +5,9 @@ use borrow.Author.Needs.{needs}
 use Rattle.text_heading.proofs.gapped.Statement.{statement}
 use Rattle.text_heading.proofs.gapped.Tie as tie
 
+takes-digit-requires : tie.Need-takes-digit-requires
+takes-digit-requires c κs = search needs
+
 counted-requires : tie.Need-counted-requires
 counted-requires c κs = search needs
 
@@ -30,6 +33,7 @@ pub gapped-spec : {M : Type 1} → statement M
 gapped-spec =
     tie.close
     (tie.spec
+    takes-digit-requires
     counted-requires
     is-blank-requires
     unnumbered-requires

@@ -5,6 +5,9 @@ use borrow.Author.Needs.{needs}
 use Rattle.text_heading.proofs.numbered.Statement.{statement}
 use Rattle.text_heading.proofs.numbered.Tie as tie
 
+takes-digit-requires : tie.Need-takes-digit-requires
+takes-digit-requires c κs = search needs
+
 counted-on-requires : tie.Need-counted-on-requires
 counted-on-requires c κs = search needs
 
@@ -33,6 +36,7 @@ pub numbered-spec : {M : Type 1} → statement M
 numbered-spec =
     tie.close
     (tie.spec
+    takes-digit-requires
     counted-on-requires
     is-blank-requires
     with-place-requires

@@ -17,6 +17,9 @@ word-begun-requires-2 c κs = search needs
 word-begun-requires-3 : tie.Need-word-begun-requires-3
 word-begun-requires-3 c κs = search needs
 
+word-begun-requires-4 : tie.Need-word-begun-requires-4
+word-begun-requires-4 c κs = search needs
+
 with-place-requires : tie.Need-with-place-requires
 with-place-requires c κs = search needs
 
@@ -40,6 +43,10 @@ returns-5 : tie.Need-returns-5
 unfolding trailed
 returns-5 c = search (needs, ifs)
 
+returns-6 : tie.Need-returns-6
+unfolding trailed
+returns-6 c = search (needs, ifs)
+
 pub trailed-spec : {M : Type 1} → statement M
 trailed-spec =
     tie.close
@@ -48,9 +55,11 @@ trailed-spec =
     word-begun-requires
     word-begun-requires-2
     word-begun-requires-3
+    word-begun-requires-4
     with-place-requires
     returns
     returns-2
     returns-3
     returns-4
-    returns-5)
+    returns-5
+    returns-6)

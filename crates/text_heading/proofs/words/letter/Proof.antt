@@ -41,6 +41,15 @@ slice-aggregate-letter-of-4 c = search needs
 letter-of-requires-4 : tie.Need-letter-of-requires-4
 letter-of-requires-4 c κs = search needs
 
+enum-told-5 : tie.Need-enum-told-5
+enum-told-5 c = search needs
+
+slice-aggregate-letter-of-5 : tie.Need-slice-aggregate-letter-of-5
+slice-aggregate-letter-of-5 c = search needs
+
+letter-of-requires-5 : tie.Need-letter-of-requires-5
+letter-of-requires-5 c κs = search needs
+
 returns : tie.Need-returns
 unfolding letters
 returns c = search (needs, letters-on)
@@ -56,6 +65,10 @@ returns-3 c = search (needs, letters-on)
 returns-4 : tie.Need-returns-4
 unfolding letters
 returns-4 c = search (needs, letters-on)
+
+returns-5 : tie.Need-returns-5
+unfolding letters
+returns-5 c = search (needs, letters-on)
 
 pub letter-spec : {M : Type 1} → statement M
 letter-spec =
@@ -73,7 +86,11 @@ letter-spec =
     enum-told-4
     slice-aggregate-letter-of-4
     letter-of-requires-4
+    enum-told-5
+    slice-aggregate-letter-of-5
+    letter-of-requires-5
     returns
     returns-2
     returns-3
-    returns-4)
+    returns-4
+    returns-5)

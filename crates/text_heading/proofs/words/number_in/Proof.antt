@@ -18,6 +18,9 @@ enum-told-3 c = search needs
 enum-told-4 : tie.Need-enum-told-4
 enum-told-4 c = search needs
 
+enum-told-5 : tie.Need-enum-told-5
+enum-told-5 c = search needs
+
 returns : tie.Need-returns
 unfolding numberIn
 returns c = search (needs, ifs, numberIn-on)
@@ -34,6 +37,10 @@ returns-4 : tie.Need-returns-4
 unfolding numberIn
 returns-4 c = search (needs, ifs, numberIn-on)
 
+returns-5 : tie.Need-returns-5
+unfolding numberIn
+returns-5 c = search (needs, ifs, numberIn-on)
+
 pub number-in-spec : {M : Type 1} → statement M
 number-in-spec =
     tie.close
@@ -42,7 +49,9 @@ number-in-spec =
     enum-told-2
     enum-told-3
     enum-told-4
+    enum-told-5
     returns
     returns-2
     returns-3
-    returns-4)
+    returns-4
+    returns-5)
