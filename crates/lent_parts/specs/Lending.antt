@@ -16,10 +16,11 @@ lent n k e = panelOf (take n (e .outputs)) (take k (e .stations)) (e .kept)
 abbrev pub returned : ℕ → ℕ → Panel → Panel → Panel
 returned n k e q = panelOf (q .outputs ++ drop n (e .outputs)) (q .stations ++ drop k (e .stations)) (q .kept)
 
--- that panel is started with the set p (§6)
-unfoldable pub begun : ℕ → ℕ → Parameters → Panel → Step
-begun n k p e =
-    record { panel = returned n k e (startStep p (lent n k e) .panel); answer = startStep p (lent n k e) .answer }
+-- that panel is started with the set p (§6) and the marks (§8)
+unfoldable pub begun : ℕ → ℕ → Parameters → ℕ → Panel → Step
+begun n k p marks e =
+    let started = startStep p marks (lent n k e) in
+    record { panel = returned n k e (started .panel); answer = started .answer }
 
 -- a string of bytes goes to that panel
 unfoldable pub sent : ℕ → ℕ → Bytes → Panel → Step

@@ -9,7 +9,8 @@ use lighting_outputs::Output;
 use lighting_outputs::Parameters;
 use lighting_panel::PanelRecord;
 
-// The first n outputs and the first k stations are lent to the panel, which is started with the set.
+// The first n outputs and the first k stations are lent to the panel, which is started with the set and the
+// marks.
 pub fn start(
     outputs: &mut [Output],
     stations: &mut [Station],
@@ -17,9 +18,10 @@ pub fn start(
     n: usize,
     k: usize,
     parameters: Parameters,
+    tenants: u32,
 ) -> Answer
-    ensures { λ a. ⌜ a ≡ begun n k parameters (panelOf (now (outputs .entry)) (now (stations .entry)) (now (kept .entry))) .answer ⌝ }
-    ensures { λ _. ⌜ panelOf (now (outputs .exit)) (now (stations .exit)) (now (kept .exit)) ≡ begun n k parameters (panelOf (now (outputs .entry)) (now (stations .entry)) (now (kept .entry))) .panel ⌝ }
+    ensures { λ a. ⌜ a ≡ begun n k parameters tenants (panelOf (now (outputs .entry)) (now (stations .entry)) (now (kept .entry))) .answer ⌝ }
+    ensures { λ _. ⌜ panelOf (now (outputs .exit)) (now (stations .exit)) (now (kept .exit)) ≡ begun n k parameters tenants (panelOf (now (outputs .entry)) (now (stations .entry)) (now (kept .entry))) .panel ⌝ }
 {
     let lent = number_ranges::least(n, outputs.len());
     let beside = number_ranges::least(k, stations.len());
@@ -28,6 +30,7 @@ pub fn start(
         &mut stations[0..beside],
         kept,
         parameters,
+        tenants,
     )
 }
 

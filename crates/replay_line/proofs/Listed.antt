@@ -1,5 +1,5 @@
 -- FROM A LIST'S TEXT TO DEMAND 3: after the whole text of any list of strings, the outputs of the set that it
--- names show what the plain panel shows that is given the same set.
+-- names show what the plain panel shows that is given the same set and marks.
 use mathlib.Core.Path.{_≡_, refl, ap, ap₂, _∙_}
 use mathlib.Core.Bool.{Bool, true, false}
 use mathlib.Core.List.{List, [], _∷_, _++_, map}
@@ -27,6 +27,7 @@ use Rattle.lighting_panel.proofs.Table.{served-length}
 use Rattle.lighting_panel.proofs.Calls.{once}
 use Rattle.lighting_panel.proofs.Demand.{demand-3, finds, startStep-fresh}
 use Rattle.lent_parts.specs.Lending.{lent, returned, begun, sent}
+use Rattle.text_heading.specs.declared.Named.{Named}
 use Rattle.text_reading.specs.declared.Reader.{Reader}
 use Rattle.text_reading.specs.Reading.{fed}
 use Rattle.text_heading.specs.Spelling.{Unbroken}
@@ -54,7 +55,7 @@ execute-alike b e (Clocked t) =
 execute-alike b e (Arrives call) =
     record {
       outputs =
-          served-length (call .time) (map (advance (e .kept .time) (call .time)) (e .outputs)) (call .output) (call .request)
+          served-length _ (call .time) (map (advance (e .kept .time) (call .time)) (e .outputs)) (call .output) (call .request)
           ∙ length-map (e .outputs) (advance (e .kept .time) (call .time));
       stations = length-set (e .stations) (call .station) _;
       parameters = refl;
@@ -120,24 +121,25 @@ sent-becomes b p h =
     (ap (λ (z : Parameters). z .stations) (s .parameters))
 
 -- THE START with a set that may be started, where the tables have so many records
-module _ (s : Parameters) (p : Panel) (z : startable s ≡ true) (h : s .outputs ≤ length (p .outputs)) (i : s .stations ≤ length (p .stations)) where
+module _ (s : Named) (p : Panel) (z : startable (s .parameters) ≡ true)
+    (h : s .parameters .outputs ≤ length (p .outputs)) (i : s .parameters .stations ≤ length (p .stations)) where
   abbrev begins : Panel
-  begins = lent (s .outputs) (s .stations) p
+  begins = lent (s .parameters .outputs) (s .parameters .stations) p
 
-  starts : startStep s begins .answer ≡ Done
+  starts : startStep (s .parameters) (s .tenants) begins .answer ≡ Done
   unfolding startStep countsSound if_then_else_
   starts =
       rw (
         z,
-        eqb-hit (lent-outputs (s .outputs) (s .stations) p h i),
-        eqb-hit (lent-stations (s .outputs) (s .stations) p h i),
+        eqb-hit (lent-outputs (s .parameters .outputs) (s .parameters .stations) p h i),
+        eqb-hit (lent-stations (s .parameters .outputs) (s .parameters .stations) p h i),
       )
 
-  begun-becomes : Becomes (startedWith s p) (startStep s begins .panel)
+  begun-becomes : Becomes (startedWith s p) (startStep (s .parameters) (s .tenants) begins .panel)
   unfolding begun freshPanel
   begun-becomes =
-      rw (startStep-fresh s begins starts .1)
-      (becomes (s .outputs) (s .stations) p (freshPanel s) h i (length-replicate _ _) (length-replicate _ _) refl refl)
+      rw (startStep-fresh (s .parameters) (s .tenants) begins starts .1)
+      (becomes (s .parameters .outputs) (s .parameters .stations) p (freshPanel (s .parameters) (s .tenants)) h i (length-replicate _ _) (length-replicate _ _) refl refl)
 
 -- ONE LINE: x takes the tables p to q, and the reader to the start of the next line; n: whether the outputs
 -- are named then
@@ -159,7 +161,7 @@ gives-took p t g =
     let r = gives-read t g in
     record { whole = r .reads .unbroken; good = rw (r .reads .line); panel = spelled p r .0; next = rw (r .reads .line) (start-next (r .reads)) }
 
-heading-took : {s : Parameters} {w : Reader} {x : Bytes} (p : Panel) → Start false w → Heading s x → Took true p w x (startedWith s p)
+heading-took : {s : Named} {w : Reader} {x : Bytes} (p : Panel) → Start false w → Heading s x → Took true p w x (startedWith s p)
 unfolding taken takenBy
 heading-took p t g =
     let r = heading-read t g in
@@ -188,18 +190,18 @@ lines-strings none = tt
 lines-strings (string g m) = (gives-octets g, lines-strings m)
 lines-strings (remark g m) = lines-strings m
 
-record ListingInRange (s : Parameters) (l : List Bytes) : Type 0 where
-  starts : startable s ≡ true
+record ListingInRange (s : Named) (l : List Bytes) : Type 0 where
+  starts : startable (s .parameters) ≡ true
   strings : Strings l
 
-listing-in-range : {s : Parameters} {l : List Bytes} {t : Bytes} → Listing s l t → ListingInRange s l
+listing-in-range : {s : Named} {l : List Bytes} {t : Bytes} → Listing s l t → ListingInRange s l
 listing-in-range (named g m) = record { starts = heading-startable g; strings = lines-strings m }
 listing-in-range (preface g m) = listing-in-range m
 listing-in-range (unended m) = listing-in-range m
 
-listed-whole : {s : Parameters} {w : Reader} {l : List Bytes} {t : Bytes} (p : Panel) → Listing s l t → Start false w →
-    s .outputs ≤ length (p .outputs) → s .stations ≤ length (p .stations) →
-    inUse (closed (through p w t)) ≡ after (startStep s (lent (s .outputs) (s .stations) p) .panel) l
+listed-whole : {s : Named} {w : Reader} {l : List Bytes} {t : Bytes} (p : Panel) → Listing s l t → Start false w →
+    s .parameters .outputs ≤ length (p .outputs) → s .parameters .stations ≤ length (p .stations) →
+    inUse (closed (through p w t)) ≡ after (startStep (s .parameters) (s .tenants) (lent (s .parameters .outputs) (s .parameters .stations) p) .panel) l
 listed-whole {s} {l = l} p (named {x} {t} g m) r h i =
     let k = heading-took p r g in
     let c = begun-becomes s p (heading-startable g) h i in
@@ -209,18 +211,18 @@ listed-whole p (preface {x} {t} g m) r h i =
     rw (took-on t k) (listed-whole p m (k .next) h i)
 listed-whole {w = w} p (unended {t} m) r h i = rw (← closed-newline p w t) (listed-whole p m r h i)
 
-pub found-by-text : (s : Parameters) (p : Panel) (l : List Bytes) (t : Bytes) → Listing s l t →
-    s .outputs ≤ length (p .outputs) → s .stations ≤ length (p .stations) →
-    foundIn (inUse (finished p t)) ≡ foundPlain (plainAfter s (plainStart s) l .panel)
+pub found-by-text : (s : Named) (p : Panel) (l : List Bytes) (t : Bytes) → Listing s l t →
+    s .parameters .outputs ≤ length (p .outputs) → s .parameters .stations ≤ length (p .stations) →
+    foundIn (inUse (finished p t)) ≡ foundPlain (plainAfter (s .parameters) (s .tenants) (plainStart (s .parameters)) l .panel)
 unfolding finished
 found-by-text s p l t m h i =
     let c = listing-in-range m in
-    let e = lent (s .outputs) (s .stations) p in
+    let e = lent (s .parameters .outputs) (s .parameters .stations) p in
     ap foundIn (listed-whole p m start-fresh h i)
-    ∙ finds s e l l (once [] l) (demand-3 s e l l (once [] l) (c .strings) (starts s p (c .starts) h i))
+    ∙ finds (s .parameters) (s .tenants) e l l (once [] l) (demand-3 (s .parameters) (s .tenants) e l l (once [] l) (c .strings) (starts s p (c .starts) h i))
 
 -- and so it is after the session, by its contract, where the text that came is such a one
-pub found-by-session : (s : Parameters) (p q : Panel) (l : List Bytes) (r : Replayed p q) → Listing s l (r .came) →
-    s .outputs ≤ length (p .outputs) → s .stations ≤ length (p .stations) →
-    foundIn (inUse q) ≡ foundPlain (plainAfter s (plainStart s) l .panel)
+pub found-by-session : (s : Named) (p q : Panel) (l : List Bytes) (r : Replayed p q) → Listing s l (r .came) →
+    s .parameters .outputs ≤ length (p .outputs) → s .parameters .stations ≤ length (p .stations) →
+    foundIn (inUse q) ≡ foundPlain (plainAfter (s .parameters) (s .tenants) (plainStart (s .parameters)) l .panel)
 found-by-session s p q l r m h i = rw (r .panel) (found-by-text s p l (r .came) m h i)

@@ -6,10 +6,10 @@ use lib.Dec.{eqb}
 use mathlib.Core.List.{[], _∷_}
 use mathlib.Core.Path.{_≡_}
 use Rattle.lighting_levels.specs.Paper.Choice.{if_then_else_}
-use Rattle.lighting_outputs.specs.declared.Parameters.{Parameters}
 use Rattle.lighting_frames.specs.Paper.Frames.{Bytes}
 use Rattle.lighting_panel.specs.Paper.Panel.{Panel, Step}
 use Rattle.lent_parts.specs.Lending.{lent, begun, sent}
+use Rattle.text_heading.specs.declared.Named.{Named}
 use Rattle.text_reading.specs.declared.Line.{Line}
 use Rattle.text_reading.specs.declared.Line.the-variants.{Nothing, Started, Frame, Wrong}
 use Rattle.text_reading.specs.declared.Reader.{Reader}
@@ -21,9 +21,9 @@ use Rattle.text_faults.specs.Faults.{faultLine}
 abbrev pub inUse : Panel → Panel
 inUse e = lent (e .kept .parameters .outputs) (e .kept .parameters .stations) e
 
--- the line that names the set s starts the panel of so many outputs and stations
-abbrev pub startedWith : Parameters → Panel → Panel
-startedWith s e = begun (s .outputs) (s .stations) s e .panel
+-- the line that names a set and marks starts the panel of so many outputs and stations with them
+abbrev pub startedWith : Named → Panel → Panel
+startedWith s e = begun (s .parameters .outputs) (s .parameters .stations) (s .parameters) (s .tenants) e .panel
 
 -- a string of bytes goes to the panel that is in use
 abbrev pub sentOn : Bytes → Panel → Step

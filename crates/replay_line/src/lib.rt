@@ -64,13 +64,14 @@ pub fn take_line(
             mark: mark,
             good: true,
         },
-        Line::Started(set) => {
+        Line::Started(named) => {
+            let set = named.parameters;
             let n = number_ranges::wide_index(set.outputs);
             let k = number_ranges::wide_index(set.stations);
-            lent_parts::start(outputs, stations, kept, n, k, set);
-            let named = text_reading::with_named(next);
+            lent_parts::start(outputs, stations, kept, n, k, set, named.tenants);
+            let begun = text_reading::with_named(next);
             Ended {
-                reader: named,
+                reader: begun,
                 mark: mark,
                 good: true,
             }

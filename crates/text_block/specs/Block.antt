@@ -7,6 +7,7 @@ use Rattle.lighting_frames.specs.Paper.Frames.{Bytes}
 use Rattle.lighting_outputs.specs.Paper.Slots.{isLive, levelAt}
 use Rattle.lighting_outputs.specs.Paper.Value.{presentValue, progressValue, inProcess}
 use Rattle.lighting_outputs.specs.Paper.Answers.{valueOf}
+use Rattle.lighting_outputs.specs.Paper.Tenants.{forService}
 use Rattle.lighting_outputs.specs.Paper.Properties.{propertyOf, readProperty}
 use Rattle.lighting_frames.specs.Paper.Tags.{tagBytes, commandTags}
 use Rattle.lighting_outputs.specs.declared.Answer.{Answer}
@@ -46,8 +47,9 @@ valueField (some v) = hexField v
 unfoldable pub answerField : Answer → Bytes
 answerField a = valueField (valueOf a)
 
+-- as a service station reads it (§8)
 unfoldable pub propertyField : ℕ → Output → ℕ → Bytes
-propertyField t o k = answerField (readProperty t o (propertyOf k))
+propertyField t o k = answerField (readProperty forService t o (propertyOf k))
 
 -- n properties from the number k on
 unfoldable pub propertyFields : ℕ → Output → ℕ → ℕ → Bytes

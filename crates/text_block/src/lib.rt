@@ -71,11 +71,12 @@ fn put_answer_field(page: &mut [u8], at: usize, a: Answer) -> usize
     }
 }
 
+// As a service station reads it (§8).
 fn put_property(page: &mut [u8], at: usize, t: u64, o: Output, k: u8) -> usize
     ensures { λ r. ⌜ Wrote (now (page .entry)) at (propertyField t o k) (now (page .exit)) r ⌝ }
 {
     let p = property_write::property_of(k);
-    let a = property_read::read_property(t, o, p);
+    let a = property_read::read_property(false, t, o, p);
     put_answer_field(page, at, a)
 }
 

@@ -12,6 +12,7 @@ use Rattle.lighting_frames.specs.Paper.Frames.{Bytes}
 use Rattle.lighting_outputs.specs.Paper.Slots.{isLive, levelAt}
 use Rattle.lighting_outputs.specs.Paper.Value.{presentValue, progressValue, inProcess, lit}
 use Rattle.lighting_outputs.specs.Paper.Relay.{relayState}
+use Rattle.lighting_outputs.specs.Paper.Tenants.{forService}
 use Rattle.lighting_outputs.specs.Paper.Properties.{propertyOf, readProperty}
 use Rattle.lighting_outputs.specs.declared.Activity.{Activity}
 use Rattle.lighting_outputs.specs.declared.Activity.the-variants.{Still, Moving, Warned}
@@ -58,7 +59,7 @@ answer-field (Refused n) = omega arith
 property-fields : (t : ℕ) (o : Output) (k n : ℕ) → length (propertyFields t o k n) ≤ n * 9
 unfolding propertyFields propertyField
 property-fields t o k zero = omega arith
-property-fields t o k (suc n) = simp length-append (omega (arith, property-fields t o k n, answer-field (readProperty t o (propertyOf (k + n)))))
+property-fields t o k (suc n) = simp length-append (omega (arith, property-fields t o k n, answer-field (readProperty forService t o (propertyOf (k + n)))))
 
 pub block-length : (i t : ℕ) (o : Output) → length (block i t o) ≤ 735
 unfolding block lines joined slotsLine presentLine progressLine processLine propertiesLine
