@@ -96,6 +96,7 @@ pub(crate) fn shuffled(
     }
     Heading {
         words,
+        tenants: None,
         blanks: random.pick(&[" ", " ", " ", "  ", "\t", " \t "]),
         digits: random.pick(&[1, 1, 1, 2, 12, 24]),
     }
