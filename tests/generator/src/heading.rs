@@ -1,6 +1,6 @@
 //! The first line of a list: the set that its panel is started with (§6, §8).
 
-use plain::{Parameter, Parameters};
+use plain::parameters::{Parameter, Parameters, TENANTS};
 
 #[derive(Clone, Debug, PartialEq, Eq)]
 pub struct Heading {
@@ -46,7 +46,7 @@ impl Heading {
         });
         let mut words: Vec<String> = words.collect();
         if let Some((place, marks)) = &self.tenants {
-            words.insert(*place, format!("tenants{blanks}{marks}"));
+            words.insert(*place, format!("{TENANTS}{blanks}{marks}"));
         }
         words.join(blanks)
     }

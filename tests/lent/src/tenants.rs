@@ -4,7 +4,8 @@
 
 use plain::{Answer, Parameters};
 
-use crate::record::{Activity, Record, Station, LONGEST_FRAME};
+use crate::record::{Activity, Kept, Record, Station, LONGEST_FRAME};
+use crate::rules::all_broken;
 use crate::sets::{read, used_tables, words, SHOP};
 use crate::states::{state, states, NOW};
 use crate::text::{call, clock, Head, Text, PERCENT};
@@ -17,6 +18,11 @@ const SLOT_16: u8 = 15;
 const TENANT: u8 = 0;
 const SERVICE: u8 = 1;
 const ONE_TENANT: Parameters = Parameters { tenants: 1, ..SHOP };
+
+const KEPT: Kept = Kept {
+    time: NOW,
+    parameters: ONE_TENANT,
+};
 
 const PRESENT_VALUE: u8 = 0x0C;
 const PROGRESS_VALUE: u8 = 0x0D;
@@ -224,7 +230,7 @@ fn marks(text: &mut Text) {
                 text.frame(&read(station, 1, NOW, 1, property));
             }
             text.frame(&read(0, 2, NOW, 1, PRESENT_VALUE));
-            text.frame(&read(last as u8, 3, NOW, 1, SLOT_1 + SLOT_6 - 1));
+            text.frame(&read(last as u8, 3, NOW, 1, SLOT_1 + 4));
             text.left();
         }
     }
@@ -331,7 +337,8 @@ fn other_frames(text: &mut Text) {
         text.left();
     }
     for (what, record) in states() {
-        if record.fade > SHOP.fade {
+        // Some fade for longer than a shop may.
+        if !all_broken(&record, &KEPT).is_empty() {
             continue;
         }
         text.comment(&format!("a tenant writes and commands: {what}"));
@@ -435,15 +442,9 @@ fn short_rows(text: &mut Text) {
 #[cfg(test)]
 mod tests {
     use super::*;
-    use crate::record::Kept;
-    use crate::rules::all_broken;
 
     #[test]
     fn records_keep_the_rules() {
-        let kept = Kept {
-            time: NOW,
-            parameters: ONE_TENANT,
-        };
         let activities = [
             Activity::Still,
             moving(None),
@@ -452,7 +453,7 @@ mod tests {
             warned(true),
         ];
         for record in activities.map(every_slot) {
-            assert_eq!(all_broken(&record, &kept), [""; 0]);
+            assert_eq!(all_broken(&record, &KEPT), [""; 0]);
         }
     }
 }

@@ -3,12 +3,13 @@
 //! The first line that is no comment is the heading: `outputs C`, then any of
 //! `stations S`, `fade F`, `duration D` (§6) and `tenants HEX` (§8), each at most
 //! once and in any order. Those that are left out are the old panel's, which has
-//! no tenants. Every further line is a
-//! string of bytes in hexadecimal, either case, with blanks allowed between
-//! bytes; `-` is the empty string. Blank lines and lines that begin with `#` are
-//! comments.
+//! no tenants. Every further line is a string of bytes in hexadecimal, either
+//! case, with blanks allowed between bytes; `-` is the empty string. Blank lines
+//! and lines that begin with `#` are comments.
 
 use std::fmt::Write;
+
+use plain::parameters::TENANTS;
 
 use crate::{Answer, Parameter, Parameters};
 
@@ -21,9 +22,6 @@ pub enum Line {
 fn is_comment(line: &str) -> bool {
     line.is_empty() || line.starts_with('#')
 }
-
-/// The word before the marks of stations, as lists have it.
-pub const TENANTS: &str = "tenants";
 
 const BLANKS: [char; 3] = [' ', '\t', '\r'];
 

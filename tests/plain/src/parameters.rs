@@ -5,6 +5,9 @@ use std::ops::RangeInclusive;
 
 use crate::settings::{FOUR_HOURS, LONGEST, SHORTEST};
 
+/// As lists name the word of §8.
+pub const TENANTS: &str = "tenants";
+
 /// Any numbers; those that may be started are told by `out_of_range`.
 #[derive(Clone, Copy, Debug, PartialEq, Eq)]
 pub struct Parameters {

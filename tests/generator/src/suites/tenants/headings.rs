@@ -1,13 +1,13 @@
 //! Words that mark the first station, the last one, none or all of them, and
 //! bits that no station has; written in every place, or left out.
 
-use events::edges::{of_parameter, EDGES_OF_MARKS};
+use events::edges::EDGES_OF_MARKS;
 use events::tenants::{Marked, STATIONS};
 use plain::Parameter;
 
 use crate::heading::Heading;
 use crate::random::Random;
-use crate::suites::set::headings::shuffled;
+use crate::suites::set::headings::{out_of_range, shuffled};
 
 /// One list in so many has a number out of range.
 const REFUSED: u64 = 16;
@@ -39,7 +39,7 @@ pub fn heading(random: &mut Random, number: u64) -> Heading {
     let mut outputs = random.pick(&[1, 1, 1, few, few, 64]);
     if number % REFUSED == REFUSED - 1 {
         let parameter = Parameter::ALL[(number / REFUSED % 4) as usize];
-        let wrong = out_of_range(random, parameter);
+        let (_, wrong) = random.pick(&out_of_range(parameter));
         match parameter {
             Parameter::Outputs => outputs = wrong,
             _ => {
@@ -69,15 +69,6 @@ fn marks(random: &mut Random, sort: usize, turn: u64, stations: u32) -> u32 {
         8 => 1 << one,
         _ => any,
     }
-}
-
-fn out_of_range(random: &mut Random, parameter: Parameter) -> u64 {
-    let is_good = |number: &u64| {
-        u32::try_from(*number).is_ok_and(|number| parameter.range().contains(&number))
-    };
-    let edges = of_parameter(parameter).into_iter();
-    let outside: Vec<u64> = edges.filter(|number| !is_good(number)).collect();
-    random.pick(&outside)
 }
 
 /// In any place after `outputs C`, in any number of digits, in either case.
