@@ -19,6 +19,7 @@ on_both_panels! {
     copies
     writes_and_commands
     reads_leave_the_record
+    two_panels_alike
     turned_down
 }
 
@@ -313,6 +314,24 @@ fn reads_leave_the_record<Chosen: Panel>(_: Bench<Chosen>) {
         bench.read_as(TENANT, u32::from(property) + 1, 0, property);
     }
     assert_eq!(bench.found(), before);
+}
+
+/// They differ in slots 1 to 5 and in what is shown between 50 and 51 percent:
+/// a tenant is answered the same, and a service station is not.
+fn two_panels_alike<Chosen: Panel>(_: Bench<Chosen>) {
+    let answers = |station: u8, writes: &[&str]| {
+        let mut bench = three_stations::<Chosen>();
+        assert_eq!(bench.frame(0x02, 0, "08 41280000"), DONE);
+        for write in writes {
+            assert_eq!(bench.frame(0x02, 0, write), DONE);
+        }
+        let read = |property: u8| bench.read_as(station, u32::from(property) + 1, 5_000, property);
+        (0..=u8::MAX).map(read).collect::<Vec<Answer>>()
+    };
+    // 50.25 percent in slot 1; 50.75 in slot 3, above 20.5 in slot 5.
+    let (one, other) = (["01 42490000"], ["05 41A40000", "03 424B0000"]);
+    assert_eq!(answers(TENANT, &one), answers(TENANT, &other));
+    assert_ne!(answers(OTHER, &one), answers(OTHER, &other));
 }
 
 fn turned_down<Chosen: Panel>(_: Bench<Chosen>) {

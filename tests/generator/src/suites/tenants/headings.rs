@@ -18,7 +18,7 @@ const SORTS: u64 = 10;
 /// Every sort of marks with every number of stations in turn.
 pub fn heading(random: &mut Random, number: u64) -> Heading {
     let turn = number / SORTS;
-    // Nothing is left out, which is the old panel's number.
+    // Where the word is left out there are 8, as in the old panel.
     let stations = match turn % (STATIONS.len() as u64 + 2) {
         8 => None,
         9 => Some(random.between(1, 32) as u32),
@@ -27,9 +27,9 @@ pub fn heading(random: &mut Random, number: u64) -> Heading {
     let sort = (number % SORTS) as usize;
     let marks = marks(random, sort, turn, stations.unwrap_or(8));
     let mut words = vec![(Parameter::Stations, stations)];
-    for (parameter, chance) in [(Parameter::Fade, 40), (Parameter::Duration, 40)] {
+    for parameter in [Parameter::Fade, Parameter::Duration] {
         let longest = random.pick(&[1_000, 5_000, 100_000, 14_400_000]);
-        words.push((parameter, random.chance(chance).then_some(longest)));
+        words.push((parameter, random.chance(40).then_some(longest)));
     }
     let mut further: Vec<(Parameter, u64)> = words
         .into_iter()
