@@ -1,7 +1,7 @@
 //! One list, without and with copies, against the plain panel.
 
 use events::Observer;
-use generator::{pair_seen_by, Pair, Which};
+use generator::{pair_seen_by, Heading, Pair, Which};
 use panels::list_text::write_list;
 
 use crate::arguments::Arguments;
@@ -17,7 +17,11 @@ pub fn check_list(arguments: &Arguments, which: Which, totals: &mut Totals) -> R
         observer.saw(bytes, answer, panel)
     });
     let Pair { list, with_copies } = &pair;
-    observer.saw_start(&list.heading.words, &list.panel);
+    let Heading { words, tenants, .. } = &list.heading;
+    let tenants = tenants
+        .as_ref()
+        .map(|(place, digits)| (*place, digits.as_str()));
+    observer.saw_start(words, tenants, &list.panel);
     let heading = list.heading.text();
     let text = write_list(&heading, &list.frames);
     let text_with_copies = write_list(&heading, &with_copies.frames);

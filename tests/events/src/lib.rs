@@ -18,6 +18,7 @@ pub mod seen;
 pub mod set;
 pub mod tags;
 pub mod tally;
+pub mod tenants;
 pub mod tie;
 pub mod words;
 

@@ -9,7 +9,7 @@ use crate::edges::{self, Edge};
 use crate::passing::Passed;
 use crate::seen::{Act, Seen};
 use crate::tally::Tally;
-use crate::{base, four_hours, jump, light, relay, set, tags, tie};
+use crate::{base, four_hours, jump, light, relay, set, tags, tenants, tie};
 
 /// What the observer remembers of an output beside its record.
 #[derive(Clone, Copy, Default)]
@@ -54,10 +54,16 @@ impl Observer {
     }
 
     /// The list that has ended has this heading, and its panel was started or not.
-    pub fn saw_start(&mut self, words: &[(Parameter, u64)], started: &Result<Panel, Answer>) {
+    pub fn saw_start(
+        &mut self,
+        words: &[(Parameter, u64)],
+        tenants: tenants::Written,
+        started: &Result<Panel, Answer>,
+    ) {
         set::start(words, started, &mut self.events);
         four_hours::start(words, started, &mut self.events);
-        edges::of_heading(words, &mut self.edges);
+        tenants::start(words, tenants, started, &mut self.events);
+        edges::of_heading(words, tenants, &mut self.edges);
     }
 
     /// The panel has just answered this string of bytes.
@@ -83,6 +89,7 @@ impl Observer {
         relay::list(&seen, events);
         set::list(&seen, events);
         four_hours::list(&seen, events);
+        tenants::list(&seen, events);
         if arrives || steps {
             jump::frame(&seen, events);
             let acted_on = arrives.then(|| usize::from(frame::output(bytes)));
@@ -111,6 +118,7 @@ impl Observer {
                 tie::act(&act, &mut memory.tie, events);
                 set::act(&act, &passed, &mut memory.set, events);
                 four_hours::act(&act, &passed, &mut memory.four_hours, events);
+                tenants::act(&act, events);
                 edges::of_frame(bytes, &mut self.edges);
             }
         }

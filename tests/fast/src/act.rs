@@ -1,7 +1,7 @@
 //! What a frame does once the panel has come to its time.
 
 use crate::answer::{Answer, Refusal};
-use crate::frame::{u32_at, HEAD_LENGTH};
+use crate::frame::{u32_at, Head, HEAD_LENGTH};
 use crate::level::level_from_real;
 use crate::output::{Output, Warning, WARNING_PRIORITY};
 use crate::parameters::Parameters;
@@ -24,6 +24,9 @@ impl Output {
             0x02 => self.write_present_value(now, byte_field, f32::from_bits(u32_at(bytes, 14))),
             0x03 => self.empty_a_slot(byte_field),
             0x04 => self.write_property(parameters, byte_field, u32_at(bytes, 14)),
+            0x05 if parameters.is_tenant(Head::of(bytes).station) => {
+                self.read_as_tenant(now, byte_field)
+            }
             0x05 => self.read_property(now, byte_field),
             TAGGED_COMMAND => self.run_tagged_command(parameters, now, bytes),
             _ => self.run_command(parameters, now, kind, bytes),

@@ -49,6 +49,11 @@ pub fn is_slot_level(level: u32) -> bool {
     level == 0 || (LOWEST_LIT..=HIGHEST).contains(&level)
 }
 
+/// What lies between two whole percents stands in the low bits of a level.
+pub fn whole_percent(level: u32) -> u32 {
+    level & !(UNITS_PER_PERCENT - 1)
+}
+
 /// At most 23 bits, so the float is exact and so is the division.
 pub fn real_from_level(level: u32) -> f32 {
     level as f32 / UNITS_PER_PERCENT as f32

@@ -1,4 +1,4 @@
-//! The set of numbers that a panel is started with (§6), and what is lent
+//! The set of numbers that a panel is started with (§6, §8), and what is lent
 //! beside the two tables.
 
 use crate::output::{Output, LONGEST_TIME, SHORTEST_TIME};
@@ -11,6 +11,8 @@ pub struct Parameters {
     pub outputs: u32,
     pub longest_fade: u32,
     pub longest_duration: u32,
+    /// Bit n marks station n as a tenant (§8).
+    pub tenants: u32,
 }
 
 /// The panel's own record.
@@ -41,6 +43,11 @@ impl Parameters {
     /// Whether the tables have just as many records.
     pub fn fit(&self, outputs: &[Output], stations: &[Station]) -> bool {
         outputs.len() == self.outputs as usize && stations.len() == self.stations as usize
+    }
+
+    /// No station has a number above 31.
+    pub fn is_tenant(&self, station: u8) -> bool {
+        self.tenants & 1 << station != 0
     }
 
     pub fn fresh_fade(&self) -> u32 {

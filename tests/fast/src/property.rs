@@ -2,7 +2,9 @@
 
 use crate::act::is_priority;
 use crate::answer::{Answer, Refusal};
-use crate::level::{bound_from_real, is_rate_or_step, level_from_real, real_from_level};
+use crate::level::{
+    bound_from_real, is_rate_or_step, level_from_real, real_from_level, whole_percent,
+};
 use crate::output::{Operation, Output, LONGEST_TIME, SHORTEST_TIME};
 use crate::parameters::Parameters;
 
@@ -64,6 +66,18 @@ impl Output {
             _ => return Err(Refusal::Property),
         }
         Ok(Answer::Done)
+    }
+
+    /// Slots 1 to 6 are the fire panel's, and what they hold is not to be told
+    /// from the light to the last unit either (§8).
+    pub fn read_as_tenant(&self, now: u64, property: u8) -> Result<Answer, Refusal> {
+        let level = match property {
+            0x21..=0x26 => return Ok(Answer::Absent),
+            0x0C => self.present_value(),
+            0x0D => self.progress_value(now),
+            _ => return self.read_property(now, property),
+        };
+        Ok(Answer::Value(level_bits(whole_percent(level))))
     }
 
     pub fn read_property(&self, now: u64, property: u8) -> Result<Answer, Refusal> {

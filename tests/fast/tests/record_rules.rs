@@ -19,6 +19,7 @@ fn answer_after(change: impl Fn(&mut Output, &mut Station)) -> Answer {
         outputs: 3,
         longest_fade: 14_400_000,
         longest_duration: 86_400_000,
+        tenants: 0,
     };
     let mut outputs = [Output::fresh(&parameters); 3];
     let mut stations = [Station::FRESH; 8];

@@ -58,6 +58,9 @@ pub struct Tables {
     pub looks: &'static [u8],
     /// How many of a hundred commands come in tags (§1).
     pub tagged: u64,
+    /// How many of a hundred frames that are then spoilt are reads, mostly of
+    /// slots 1 to 6 (§8), beside those that any body may be.
+    pub spoilt_reads: u64,
     /// One list in so many may live whole days, or hours; none if 0.
     pub great_lists: u64,
     /// Milliseconds that the outputs of such a list may live one by one.

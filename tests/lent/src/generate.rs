@@ -5,7 +5,7 @@
 use generator::suites::four_hours::FOUR_HOUR_EDGES;
 use generator::suites::set::edges_of;
 use generator::Random;
-use plain::frame::{length_of_kind, CLOCK};
+use plain::frame::{length_of_kind, CLOCK, READ_PROPERTY};
 use plain::settings::{FOUR_HOURS, LONGEST};
 use plain::tag_writer::fewest_octets;
 use plain::tags::FADE_TIME;
@@ -62,11 +62,13 @@ fn times() -> Vec<u32> {
 
 /// A set, now and then with a number out of range.
 fn set(random: &mut Random, outputs: usize) -> Parameters {
+    let stations = random.pick(&[1, 2, 3, 7, 8, 9, 30, 31, 32]);
     let mut set = Parameters {
-        stations: random.pick(&[1, 2, 3, 7, 8, 9, 30, 31, 32]),
+        stations,
         outputs: outputs as u32,
         fade: random.pick(&edges_of(Parameter::Fade)),
         duration: random.pick(&edges_of(Parameter::Duration)),
+        tenants: marks(random, stations),
     };
     if random.one_in(8) {
         let (parameter, number) = random.pick(&[
@@ -84,6 +86,24 @@ fn set(random: &mut Random, outputs: usize) -> Parameters {
         set.set(parameter, number);
     }
     set
+}
+
+/// Often the bits of some stations, and at times those of none, of all, of the
+/// last one or of the one after it.
+fn marks(random: &mut Random, stations: u32) -> u32 {
+    let last = 1 << (stations - 1);
+    let any = random.bits() as u32;
+    random.pick(&[
+        0,
+        1,
+        last,
+        last.rotate_left(1),
+        1 << 31,
+        u32::MAX,
+        any,
+        any,
+        any,
+    ])
 }
 
 /// One more or one fewer, now and then.
@@ -268,7 +288,11 @@ fn station(random: &mut Random) -> Station {
 }
 
 fn frame(random: &mut Random, time: u64, outputs: usize, kept: &Parameters) -> Vec<u8> {
-    let kind = random.pick(&KINDS);
+    // One frame in four is a read.
+    let kind = match random.one_in(5) {
+        true => READ_PROPERTY,
+        false => random.pick(&KINDS),
+    };
     if kind == CLOCK {
         return clock(time);
     }
@@ -302,7 +326,11 @@ fn frame(random: &mut Random, time: u64, outputs: usize, kept: &Parameters) -> V
             };
             adds.extend(value.to_be_bytes());
         }
-        0x05 => adds.push(random.between(0, 0x31) as u8),
+        0x05 => {
+            let any = random.between(0, 0x31) as u8;
+            let hidden = random.between(0x21, 0x26) as u8;
+            adds.push(random.pick(&[any, any, 0x0C, 0x0D, hidden]));
+        }
         0x1B => adds.extend(tagged(random, kept)),
         _ => {
             // Each field has four bytes; the last one is the duration.

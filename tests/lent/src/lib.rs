@@ -11,4 +11,5 @@ pub mod rules;
 pub mod sets;
 pub mod states;
 pub mod stored;
+pub mod tenants;
 pub mod text;

@@ -251,6 +251,7 @@ pub fn pass(record: &mut Record, from: u64, to: u64) {
 
 /// What the frame's kind calls for, at its time.
 pub fn act(record: &mut Record, parameters: &Parameters, time: u64, bytes: &[u8]) -> Answer {
+    let tenant = parameters.is_tenant(frame::station(bytes));
     let mut output = output_of(record, time);
     let warned = output.warning.is_some();
     let answer = match bytes[0] {
@@ -262,7 +263,7 @@ pub fn act(record: &mut Record, parameters: &Parameters, time: u64, bytes: &[u8]
             let (property, value) = (frame::byte_field(bytes), frame::value_field(bytes));
             output.write_property(parameters, property, value)
         }
-        frame::READ_PROPERTY => output.read_property(frame::byte_field(bytes)),
+        frame::READ_PROPERTY => output.read_property_by(tenant, frame::byte_field(bytes)),
         frame::TAGGED_COMMAND => output.tagged_command(parameters, bytes),
         _ => output.command(parameters, bytes),
     };

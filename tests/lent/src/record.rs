@@ -75,7 +75,7 @@ pub struct Station {
 }
 
 /// What is lent beside the two tables: the panel time and the set that the
-/// panel was started with (§6), whatever its numbers are.
+/// panel was started with (§6, §8), whatever its numbers are.
 #[derive(Clone, Copy, Debug, PartialEq, Eq)]
 pub struct Kept {
     pub time: u64,
@@ -92,18 +92,27 @@ impl Kept {
     }
 }
 
-/// A set as a row has it: stations, outputs, longest fade, longest duration.
+/// A set as a row has it: stations, outputs, longest fade, longest duration, and
+/// the word that marks tenants (§8). A number that is left out is 0.
 pub fn set_of_row(row: &[u64; NUMBERS]) -> Parameters {
     Parameters {
         stations: word(row[0]),
         outputs: word(row[1]),
         fade: word(row[2]),
         duration: word(row[3]),
+        tenants: word(row[4]),
     }
 }
 
-pub fn row_of_set(set: &Parameters) -> [u64; 4] {
-    [set.stations, set.outputs, set.fade, set.duration].map(u64::from)
+pub fn row_of_set(set: &Parameters) -> [u64; 5] {
+    [
+        set.stations,
+        set.outputs,
+        set.fade,
+        set.duration,
+        set.tenants,
+    ]
+    .map(u64::from)
 }
 
 /// What is too great for a field becomes the greatest that it holds.

@@ -12,11 +12,12 @@ use crate::states::{state, NOW};
 use crate::text::{call, clock, Head, Text};
 
 /// Two outputs and three stations. A fresh record keeps the rules there.
-const SHOP: Parameters = Parameters {
+pub const SHOP: Parameters = Parameters {
     stations: 3,
     outputs: 2,
     fade: 5_000,
     duration: 6_000,
+    tenants: 0,
 };
 
 /// What no panel can be started with, and what it can: one out on each side,
@@ -66,7 +67,7 @@ fn with(parameter: Parameter, number: u32) -> Parameters {
     set
 }
 
-fn words(set: &Parameters) -> String {
+pub fn words(set: &Parameters) -> String {
     let words =
         Parameter::ALL.map(|parameter| format!("{} {}", parameter.name(), set.of(parameter)));
     words.join(", ")
@@ -88,7 +89,7 @@ fn short(name: &str) -> Record {
     record
 }
 
-fn read(station: u8, number: u32, time: u64, output: u8, property: u8) -> Vec<u8> {
+pub fn read(station: u8, number: u32, time: u64, output: u8, property: u8) -> Vec<u8> {
     let head = Head {
         station,
         number,
@@ -271,7 +272,7 @@ fn tagged(others: &[u8], tag: u8, number: u32) -> Vec<u8> {
 }
 
 /// Records that are not fresh, and stations that keep frames.
-fn used_tables(text: &mut Text, outputs: u32, stations: u32) {
+pub fn used_tables(text: &mut Text, outputs: u32, stations: u32) {
     text.table(outputs as usize, stations as usize, NOW);
     if outputs > 0 {
         text.output(0, &state("a fade and a duration on its slot, due first"));
@@ -297,6 +298,7 @@ fn starts(text: &mut Text) {
         outputs: 65,
         fade: 99,
         duration: 0,
+        tenants: 0,
     };
     for kept in [SHOP, broken] {
         for fade in edges_of(Parameter::Fade) {

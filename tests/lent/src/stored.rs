@@ -1,11 +1,12 @@
 //! The rows of crates/lent_tables/stdin: each rule broken alone in each place,
 //! counts, and every state that the rules allow, each with a few frames, at the
-//! old panel's set; then sets and starts.
+//! old panel's set; then sets, starts and tenants.
 
 use crate::breaking::breaking;
 use crate::record::{Record, Station, LONGEST_FRAME};
 use crate::sets::sets;
 use crate::states::{state, states, NOW};
+use crate::tenants::tenants;
 use crate::text::{call, clock, Head, Text};
 
 const STATIONS: usize = 8;
@@ -21,6 +22,7 @@ pub fn stored() -> String {
     time_passes(&mut text);
     frames_act(&mut text);
     sets(&mut text);
+    tenants(&mut text);
     text.0
 }
 

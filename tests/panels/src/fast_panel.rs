@@ -27,6 +27,7 @@ macro_rules! face_of_fast {
                         outputs: 0,
                         fade: 0,
                         duration: 0,
+                        tenants: 0,
                     },
                 );
                 match panel.start_with(parameters) {
@@ -67,6 +68,7 @@ macro_rules! face_of_fast {
                     outputs: parameters.outputs,
                     longest_fade: parameters.fade,
                     longest_duration: parameters.duration,
+                    tenants: parameters.tenants,
                 }
             }
 

@@ -1,4 +1,4 @@
-//! Starts and frames over tables that are lent with a set (§6), which no list
+//! Starts and frames over tables that are lent with a set (§6, §8), which no list
 //! brings about: a list lends as many records as its heading says, and keeps
 //! the set that it was started with.
 
@@ -67,6 +67,7 @@ fn set(stations: u32, outputs: u32, fade: u32, duration: u32) -> Parameters {
         outputs,
         fade,
         duration,
+        tenants: 0,
     }
 }
 
@@ -99,6 +100,7 @@ pub fn lent_sets() -> Vec<LentSet> {
     let mut all = counts();
     all.extend(numbers());
     all.extend(records());
+    all.extend(marks());
     all
 }
 
@@ -209,6 +211,31 @@ fn records() -> Vec<LentSet> {
                 held,
                 ..LentSet::kept(kept, Asked::Clock, answer)
             });
+        }
+    }
+    all
+}
+
+/// Marks of stations that are there and of none, kept and in a start. A start
+/// that is refused leaves those that are kept.
+fn marks() -> Vec<LentSet> {
+    let good = set(3, 2, 500, 600);
+    let mut all = Vec::new();
+    for before in [0, 1, 5, 7, 8, 1 << 31, u32::MAX] {
+        let with_marks = |set: Parameters, tenants| Parameters { tenants, ..set };
+        let kept = with_marks(good, before);
+        all.push(LentSet::kept(kept, Asked::Clock, DONE));
+        let broken = with_marks(set(3, 2, 99, 600), before);
+        all.push(LentSet::kept(broken, Asked::NoByte, TABLES));
+        for tenants in [0, 2, 7, 8, 1 << 31, u32::MAX] {
+            for (started, answer) in [
+                (good, DONE),
+                (set(3, 2, 99, 600), PARAMETER),
+                (set(4, 2, 500, 600), TABLES),
+            ] {
+                let asked = Asked::Start(with_marks(started, tenants));
+                all.push(LentSet::kept(kept, asked, answer));
+            }
         }
     }
     all

@@ -1,13 +1,15 @@
 //! Lists as text.
 //!
 //! The first line that is no comment is the heading: `outputs C`, then any of
-//! `stations S`, `fade F` and `duration D`, each at most once and in any order
-//! (§6). Those that are left out are the old panel's. Every further line is a
-//! string of bytes in hexadecimal, either case, with blanks allowed between
-//! bytes; `-` is the empty string. Blank lines and lines that begin with `#` are
-//! comments.
+//! `stations S`, `fade F`, `duration D` (§6) and `tenants HEX` (§8), each at most
+//! once and in any order. Those that are left out are the old panel's, which has
+//! no tenants. Every further line is a string of bytes in hexadecimal, either
+//! case, with blanks allowed between bytes; `-` is the empty string. Blank lines
+//! and lines that begin with `#` are comments.
 
 use std::fmt::Write;
+
+use plain::parameters::TENANTS;
 
 use crate::{Answer, Parameter, Parameters};
 
@@ -26,7 +28,8 @@ const BLANKS: [char; 3] = [' ', '\t', '\r'];
 const NO_OUTPUTS: &str = "the first line is to be `outputs N`";
 const NO_COUNT: &str = "N is to be 1 to 64";
 const BAD_WORD: &str =
-    "after `outputs N` may come `stations S`, `fade F` and `duration D`, each once";
+    "after `outputs N` may come `stations S`, `fade F`, `duration D` and `tenants HEX`, each once";
+const NO_MARKS: &str = "HEX is to be 1 to 8 hexadecimal digits";
 
 /// Reads a heading, whatever its numbers are; nothing for a comment.
 pub fn read_heading(line: &str) -> Result<Option<Parameters>, String> {
@@ -42,12 +45,19 @@ pub fn read_heading(line: &str) -> Result<Option<Parameters>, String> {
     let mut words = further.split(BLANKS).filter(|word| !word.is_empty());
     let outputs = words.next().and_then(read_number).ok_or(NO_COUNT)?;
     let mut parameters = Parameters::of_old_panel(outputs);
-    let mut left = vec![Parameter::Stations, Parameter::Fade, Parameter::Duration];
+    let further = [Parameter::Stations, Parameter::Fade, Parameter::Duration];
+    // Nothing stands for the word `tenants`, which is no number of the set.
+    let mut left: Vec<Option<Parameter>> = further.into_iter().map(Some).chain([None]).collect();
     while let Some(word) = words.next() {
-        let place = left.iter().position(|parameter| parameter.name() == word);
-        let parameter = left.remove(place.ok_or(BAD_WORD)?);
-        let number = words.next().and_then(read_number).ok_or(BAD_WORD)?;
-        parameters.set(parameter, number);
+        let name = |parameter: &Option<Parameter>| parameter.map_or(TENANTS, Parameter::name);
+        let place = left.iter().position(|parameter| name(parameter) == word);
+        match left.remove(place.ok_or(BAD_WORD)?) {
+            Some(parameter) => {
+                let number = words.next().and_then(read_number).ok_or(BAD_WORD)?;
+                parameters.set(parameter, number);
+            }
+            None => parameters.tenants = words.next().and_then(read_marks).ok_or(NO_MARKS)?,
+        }
     }
     Ok(Some(parameters))
 }
@@ -59,6 +69,13 @@ fn read_number(digits: &str) -> Option<u32> {
         let value = digit.is_ascii_digit().then(|| digit - b'0')?;
         Some(number.saturating_mul(10).saturating_add(value.into()))
     })
+}
+
+/// The word that marks tenants: 1 to 8 digits of either case, as they are.
+fn read_marks(digits: &str) -> Option<u32> {
+    let is_digit = |digit: u8| hexadecimal_digit(digit).is_ok();
+    let is_good = (1..=8).contains(&digits.len()) && digits.bytes().all(is_digit);
+    is_good.then(|| u32::from_str_radix(digits, 16).ok())?
 }
 
 /// What is wrong with a set that a panel did not start with.

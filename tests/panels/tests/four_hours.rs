@@ -36,6 +36,7 @@ fn set(fade: u32, duration: u32) -> Parameters {
         outputs: 1,
         fade,
         duration,
+        tenants: 0,
     }
 }
 

@@ -32,6 +32,7 @@ fn set(stations: u32, fade: u32, duration: u32) -> Parameters {
         outputs: 1,
         fade,
         duration,
+        tenants: 0,
     }
 }
 
@@ -81,6 +82,7 @@ mod of {
                 outputs,
                 fade,
                 duration,
+                tenants: 0,
             };
             match Chosen::start(parameters) {
                 Ok(panel) => {

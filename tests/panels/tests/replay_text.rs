@@ -46,7 +46,8 @@ fn a_bad_line_ends_the_replay() {
 fn bad_first_lines() {
     let no_outputs = "the first line is to be `outputs N`";
     let no_count = "N is to be 1 to 64";
-    let bad_word = "after `outputs N` may come `stations S`, `fade F` and `duration D`, each once";
+    let bad_word = "after `outputs N` may come `stations S`, `fade F`, `duration D` and `tenants HEX`, each once";
+    let no_marks = "HEX is to be 1 to 8 hexadecimal digits";
     for (list, wrong) in [
         ("outputs", no_outputs),
         ("outputs5", no_outputs),
@@ -69,6 +70,22 @@ fn bad_first_lines() {
         ("outputs 1 fade 100 duration 100 fade 100", bad_word),
         ("outputs 0 stations 0 fade 0 duration", bad_word),
         ("outputs 1 # a comment", bad_word),
+        ("outputs 1 tenant 3", bad_word),
+        ("outputs 1 Tenants 3", bad_word),
+        ("outputs 1 tenants 3 tenants 3", bad_word),
+        ("outputs 1 tenants 3 stations 3 tenants", bad_word),
+        ("outputs 1 tenants 3 stations", bad_word),
+        ("outputs 1 tenants 3 5", bad_word),
+        ("outputs 1 tenants", no_marks),
+        ("outputs 1 tenants \t\r", no_marks),
+        ("outputs 1 tenants stations 3", no_marks),
+        ("outputs 1 tenants 123456789", no_marks),
+        ("outputs 1 tenants 000000003", no_marks),
+        ("outputs 1 tenants 3G", no_marks),
+        ("outputs 1 tenants 0x3", no_marks),
+        ("outputs 1 tenants +3", no_marks),
+        ("outputs 1 tenants -", no_marks),
+        ("outputs 65 stations 33 tenants x", no_marks),
     ] {
         let (text, good) = both(list);
         assert!(!good, "{list}");
@@ -105,6 +122,8 @@ fn refused_starts() {
         ("outputs 0 duration 0 fade 0 stations 0", stations),
         ("outputs 0 duration 0 fade 0", outputs),
         ("outputs 1 duration 0 fade 0", fade),
+        ("outputs 1 tenants FFFFFFFF stations 33", stations),
+        ("outputs 65 tenants 0", outputs),
     ] {
         let (text, good) = both(&format!("# a comment\n\n{heading}\n01 000000000001\n"));
         assert!(!good, "{heading}");
@@ -128,6 +147,10 @@ fn bad_lists() {
         "no-count",
         "no-number",
         "stations",
+        "tenants",
+        "tenants-letter",
+        "tenants-nine",
+        "tenants-twice",
         "twice",
         "word",
     ] {

@@ -136,7 +136,9 @@ impl Panel {
             return Answer::Refused(answer::TIME_BEFORE_PANEL_TIME);
         }
         self.step_to(time);
-        let answer = self.outputs[output].act(&self.parameters, bytes);
+        // §8: "The plain panel takes the mark with each first arrival."
+        let tenant = self.parameters.is_tenant(station);
+        let answer = self.outputs[output].act(&self.parameters, tenant, bytes);
         self.first_arrivals.push(FirstArrival {
             station,
             number,
@@ -158,13 +160,13 @@ impl Panel {
 impl Output {
     /// A first arrival "does what its kind calls for, or refuses 9 to 13", and
     /// 14, 15 (§1) or 16 (§3).
-    fn act(&mut self, parameters: &Parameters, bytes: &[u8]) -> Answer {
+    fn act(&mut self, parameters: &Parameters, tenant: bool, bytes: &[u8]) -> Answer {
         let (byte, value) = (frame::byte_field(bytes), frame::value_field);
         let answer = match bytes[0] {
             frame::WRITE_PRESENT_VALUE => self.write_present_value(byte, value(bytes)),
             frame::EMPTY_A_SLOT => self.empty_a_slot(byte),
             frame::WRITE_PROPERTY => self.write_property(parameters, byte, value(bytes)),
-            frame::READ_PROPERTY => self.read_property(byte),
+            frame::READ_PROPERTY => self.read_property_by(tenant, byte),
             frame::TAGGED_COMMAND => self.tagged_command(parameters, bytes),
             _ => self.command(parameters, bytes),
         };

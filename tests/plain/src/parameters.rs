@@ -1,11 +1,14 @@
 //! §6: "The start takes a set of parameters", and "they are kept in the panel's
-//! record".
+//! record"; with them the word of §8 that marks stations as tenants.
 
 use std::ops::RangeInclusive;
 
 use crate::settings::{FOUR_HOURS, LONGEST, SHORTEST};
 
-/// Any four numbers; those that may be started are told by `out_of_range`.
+/// As lists name the word of §8.
+pub const TENANTS: &str = "tenants";
+
+/// Any numbers; those that may be started are told by `out_of_range`.
 #[derive(Clone, Copy, Debug, PartialEq, Eq)]
 pub struct Parameters {
     pub stations: u32,
@@ -13,6 +16,10 @@ pub struct Parameters {
     /// The longest fade time and the longest duration, in milliseconds.
     pub fade: u32,
     pub duration: u32,
+    /// §8: "a 32-bit word's bit n, if set, makes station n a tenant, else
+    /// service". It is never out of range: bits at or above the number of
+    /// stations mean nothing.
+    pub tenants: u32,
 }
 
 #[derive(Clone, Copy, Debug, PartialEq, Eq, PartialOrd, Ord)]
@@ -63,6 +70,7 @@ impl Parameters {
             outputs,
             fade: FOUR_HOURS,
             duration: LONGEST,
+            tenants: 0,
         }
     }
 
@@ -89,6 +97,11 @@ impl Parameters {
         Parameter::ALL
             .into_iter()
             .find(|parameter| !parameter.range().contains(&self.of(*parameter)))
+    }
+
+    /// The mark of a station, 0 to 31.
+    pub fn is_tenant(&self, station: u8) -> bool {
+        self.tenants / 2_u32.pow(station.into()) % 2 == 1
     }
 
     /// "Fade times: 100 to" the longest fade, which §7 ends at four hours.

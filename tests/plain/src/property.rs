@@ -108,7 +108,28 @@ impl Output {
         Answer::Done
     }
 
-    /// Kind 05.
+    /// Kind 05, of a station with this mark.
+    pub fn read_property_by(&self, tenant: bool, property: u8) -> Answer {
+        match tenant {
+            true => self.read_property_by_tenant(property),
+            false => self.read_property(property),
+        }
+    }
+
+    /// §8: "A tenant reading slots 1 to 6 gets Absent, and reads Present_Value
+    /// and Progress_Value rounded down to whole percent."
+    fn read_property_by_tenant(&self, property: u8) -> Answer {
+        let in_whole_percent =
+            |level| Answer::Value(real::level_as_real(real::whole_percent(level)));
+        match property {
+            FIRST_SLOT..=LAST_HIDDEN_SLOT => Answer::Absent,
+            PRESENT_VALUE => in_whole_percent(self.present_value()),
+            PROGRESS_VALUE => in_whole_percent(self.progress_value()),
+            _ => self.read_property(property),
+        }
+    }
+
+    /// Kind 05 of a service station.
     pub fn read_property(&self, property: u8) -> Answer {
         let settings = &self.settings;
         let value = match property {

@@ -52,6 +52,11 @@ pub fn bound(bits: u32) -> Option<u32> {
     (1.0..=100.0).contains(&real).then(|| nearest_unit(real))
 }
 
+/// §8: "Rounded down to whole percent."
+pub fn whole_percent(level: u32) -> u32 {
+    level / ONE_PERCENT * ONE_PERCENT
+}
+
 /// "A level is read out as one division by 65,536, nothing lost."
 pub fn level_as_real(level: u32) -> u32 {
     (level as f32 / 65_536.0).to_bits()

@@ -31,6 +31,8 @@ pub const BINARY_PRESENT_VALUE: u8 = 0x1A;
 pub const RELAY_STATE: u8 = 0x1B;
 pub const FIRST_SLOT: u8 = 0x21;
 pub const LAST_SLOT: u8 = 0x30;
+/// Slot 6, the last one that no tenant reads (§8).
+pub const LAST_HIDDEN_SLOT: u8 = 0x26;
 
 /// A day: the longest blink times, and the greatest longest duration that a
 /// panel may be started with (§6).

@@ -1,5 +1,5 @@
 //! Spoilt panels that no list can show, told apart by the tables and the kept
-//! set (§6, §7) that are lent to them.
+//! set (§6, §7, §8) that are lent to them.
 
 use panels::lent_set::lent_sets;
 use spoilt::table::ALL;
@@ -24,5 +24,5 @@ fn lent_sets_tell() {
             count += 1;
         }
     }
-    assert_eq!(count, 48);
+    assert_eq!(count, 57);
 }

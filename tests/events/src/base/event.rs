@@ -6,6 +6,7 @@ use crate::light::LightEvent;
 use crate::relay::RelayEvent;
 use crate::set::SetEvent;
 use crate::tags::TaggedEvent;
+use crate::tenants::TenantEvent;
 use crate::tie::TieEvent;
 use crate::words::{Answered, Hexadecimal, Rank, Situation};
 
@@ -196,6 +197,8 @@ pub enum Event {
     Set(SetEvent),
     /// Fade times of four hours and more (§7).
     FourHours(FourHoursEvent),
+    /// Tenants and service stations (§8).
+    Tenant(TenantEvent),
 
     // Commands.
     Command {

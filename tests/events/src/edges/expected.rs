@@ -4,7 +4,8 @@
 use plain::Parameter;
 
 use super::{
-    tags, Edge, RealEdge, RealField, WholeField, EDGE_TIMES, FOUR_HOUR_EDGES, WIDE_PRIORITIES,
+    tags, Edge, RealEdge, RealField, WholeField, EDGES_OF_MARKS, EDGE_TIMES, FOUR_HOUR_EDGES,
+    WIDE_PRIORITIES,
 };
 use crate::{four_hours, set};
 
@@ -139,4 +140,9 @@ pub fn of_four_hours() -> Vec<Edge> {
         edges.extend(values.map(|value| Edge::Parameter { parameter, value }));
     }
     edges
+}
+
+/// §8: the word of the start.
+pub fn of_tenants() -> Vec<Edge> {
+    EDGES_OF_MARKS.map(Edge::Tenants).to_vec()
 }

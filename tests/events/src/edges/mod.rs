@@ -3,7 +3,7 @@
 mod expected;
 mod tags;
 
-pub use expected::{of_base, of_four_hours, of_parameter, of_relays, of_sets, of_tags};
+pub use expected::{of_base, of_four_hours, of_parameter, of_relays, of_sets, of_tags, of_tenants};
 pub use tags::{TagEdge, EDGES_OF_OCTETS};
 
 use plain::frame::*;
@@ -12,6 +12,7 @@ use plain::settings::*;
 use plain::Parameter;
 
 use crate::tally::Tally;
+use crate::tenants::Written;
 
 #[derive(Clone, Copy, Debug, PartialEq, Eq, PartialOrd, Ord)]
 pub enum RealField {
@@ -88,6 +89,8 @@ pub enum Edge {
         parameter: Parameter,
         value: u64,
     },
+    /// The word that marks tenants.
+    Tenants(u32),
 }
 
 /// Values of property 0A that only a look at all 32 bits tells apart.
@@ -127,6 +130,22 @@ pub const FOUR_HOUR_EDGES: [u32; 6] = [
     LONGEST + 1,
 ];
 
+/// Marks at the ends of 16 and of 32 bits.
+pub const EDGES_OF_MARKS: [u32; 12] = [
+    0,
+    1,
+    2,
+    0x0000_7FFF,
+    0x0000_8000,
+    0x0000_FFFF,
+    0x0001_0000,
+    0x7FFF_FFFF,
+    0x8000_0000,
+    0xFFFF_0000,
+    0xFFFF_FFFE,
+    0xFFFF_FFFF,
+];
+
 /// The edge that a REAL stands on, if any.
 fn real_edge(bits: u32) -> Option<RealEdge> {
     let real = f32::from_bits(bits);
@@ -158,7 +177,11 @@ fn real_edge(bits: u32) -> Option<RealEdge> {
 }
 
 /// Counts the edges in the numbers of a heading.
-pub fn of_heading(words: &[(Parameter, u64)], tally: &mut Tally<Edge>) {
+pub fn of_heading(words: &[(Parameter, u64)], tenants: Written, tally: &mut Tally<Edge>) {
+    let marks = tenants.and_then(|(_, digits)| u32::from_str_radix(digits, 16).ok());
+    if let Some(marks) = marks.filter(|marks| EDGES_OF_MARKS.contains(marks)) {
+        tally.count(Edge::Tenants(marks));
+    }
     for (parameter, value) in words.iter().copied() {
         let of_four_hours = FOUR_HOUR_EDGES.map(u64::from).contains(&value);
         if of_four_hours || of_parameter(parameter).contains(&value) {

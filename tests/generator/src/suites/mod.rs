@@ -7,11 +7,12 @@ pub mod light;
 pub mod relay;
 pub mod set;
 pub mod tags;
+pub mod tenants;
 pub mod tie;
 
 use crate::suite::Suite;
 
-pub static ALL: [&Suite; 8] = [
+pub static ALL: [&Suite; 9] = [
     &base::SUITE,
     &tags::SUITE,
     &light::SUITE,
@@ -20,6 +21,7 @@ pub static ALL: [&Suite; 8] = [
     &tie::SUITE,
     &set::SUITE,
     &four_hours::SUITE,
+    &tenants::SUITE,
 ];
 
 /// The suite of that name, the sign § left out or not.

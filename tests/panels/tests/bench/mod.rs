@@ -34,10 +34,15 @@ impl<Chosen: Panel> Bench<Chosen> {
         }
     }
 
+    /// Above all that were given before.
+    pub fn next_number(&mut self) -> u32 {
+        self.number += 1;
+        self.number
+    }
+
     /// A frame of station 0 with the next number.
     pub fn frame(&mut self, kind: u8, time: u64, rest: &str) -> Answer {
-        self.number += 1;
-        let number = self.number;
+        let number = self.next_number();
         self.bytes(&format!("{kind:02X} 00 {number:08X} {time:012X} 00 {rest}"))
     }
 

@@ -11,6 +11,8 @@ pub fn padded(tags: &str) -> String {
 }
 
 impl<Chosen: Panel> Bench<Chosen> {
+    // some tests have none
+    #[allow(dead_code)]
     pub fn tagged(&mut self, time: u64, tags: &str) -> Answer {
         self.frame(0x1B, time, &padded(tags))
     }

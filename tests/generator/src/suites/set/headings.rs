@@ -74,7 +74,7 @@ fn refused(random: &mut Random, turn: u64) -> Heading {
 }
 
 /// By one on each side, and further out.
-fn out_of_range(parameter: Parameter) -> Vec<(Parameter, u64)> {
+pub(crate) fn out_of_range(parameter: Parameter) -> Vec<(Parameter, u64)> {
     let is_good = |number: &u64| {
         u32::try_from(*number).is_ok_and(|number| parameter.range().contains(&number))
     };
@@ -96,6 +96,7 @@ pub(crate) fn shuffled(
     }
     Heading {
         words,
+        tenants: None,
         blanks: random.pick(&[" ", " ", " ", "  ", "\t", " \t "]),
         digits: random.pick(&[1, 1, 1, 2, 12, 24]),
     }
