@@ -1,15 +1,16 @@
 // Tables made by hand, lent to the panel: rows from standard input set up outputs, stations and the panel's
 // record, start the panel, send frames, and ask for what is left, which is written as rows of the same form.
 // The crate `lent_rows` has the rows. A row's first character is its letter:
-//   t N K T    N outputs and K stations are lent from here on, every record fresh, at panel time T; the
-//              kept set is the old panel's of N outputs (§7)
-//   p S C F D  the kept set is from here on S stations, C outputs, the longest fade F, the longest duration D
-//   o I ..     the record of output I, 48 numbers
-//   s I ..     the record of station I, 34 numbers
-//   b S C F D  a start with this set: a line with its answer
-//   f ..       the bytes of a frame, which is sent: a line with its answer
-//   l          what is left: a row t, a row p, and a row for each lent record that is not fresh as
-//              document 01 has it
+//   t N K T      N outputs and K stations are lent from here on, every record fresh, at panel time T; the
+//                kept set is the old panel's of N outputs (§7), and no station is a tenant (§8)
+//   p S C F D M  the kept set is from here on S stations, C outputs, the longest fade F, the longest
+//                duration D, and the kept marks are M; a number that is left out is 0
+//   o I ..       the record of output I, 48 numbers
+//   s I ..       the record of station I, 34 numbers
+//   b S C F D M  a start with this set and these marks: a line with its answer
+//   f ..         the bytes of a frame, which is sent: a line with its answer
+//   l            what is left: a row t, a row p, and a row for each lent record that is not fresh as
+//                document 01 has it
 // Any other line is a comment.
 //
 // The contracts of `lent_parts` give the panel's part whole. What is read and written no contract can
@@ -107,11 +108,11 @@ fn clear(
 ) {
     panel_tables::fresh_outputs(outputs, parameters);
     panel_tables::fresh_stations(stations);
-    keep(kept, parameters, moment);
+    keep(kept, parameters, 0, moment);
 }
 
-fn keep(kept: &mut PanelRecord, parameters: Parameters, moment: u64) {
-    *kept = panel_record::with_time(panel_record::fresh_record(parameters), moment);
+fn keep(kept: &mut PanelRecord, parameters: Parameters, tenants: u32, moment: u64) {
+    *kept = panel_record::with_time(panel_record::fresh_record(parameters, tenants), moment);
 }
 
 fn lend_output(outputs: &mut [Output], at: usize, o: Output) {
@@ -133,8 +134,8 @@ fn put_counts(page: &mut [u8], mark: usize, n: usize, k: usize, time: u64) -> us
     lent_rows::put_row(page, text_found::with_room(page, mark), b't', &row)
 }
 
-fn put_parameters(page: &mut [u8], mark: usize, parameters: Parameters) -> usize {
-    let row = lent_rows::parameters::parameters_numbers(parameters);
+fn put_parameters(page: &mut [u8], mark: usize, parameters: Parameters, tenants: u32) -> usize {
+    let row = lent_rows::parameters::parameters_numbers(parameters, tenants);
     lent_rows::put_row(page, text_found::with_room(page, mark), b'p', &row)
 }
 
@@ -219,12 +220,25 @@ fn take_row(
         b'p' => {
             let record = *kept;
             let time = panel_record::time_of(record);
-            keep(kept, lent_rows::parameters::parameters_of(numbers), time);
+            keep(
+                kept,
+                lent_rows::parameters::parameters_of(numbers),
+                lent_rows::parameters::tenants_of(numbers),
+                time,
+            );
             next
         }
         b'b' => {
             let parameters = lent_rows::parameters::parameters_of(numbers);
-            let a = lent_parts::start(outputs, stations, kept, t.outputs, t.stations, parameters);
+            let a = lent_parts::start(
+                outputs,
+                stations,
+                kept,
+                t.outputs,
+                t.stations,
+                parameters,
+                lent_rows::parameters::tenants_of(numbers),
+            );
             let room = text_found::with_room(page, t.mark);
             with_mark(next, text_printing::put_answer(page, room, a))
         }
@@ -246,7 +260,12 @@ fn take_row(
             let record = *kept;
             let time = panel_record::time_of(record);
             let counts = put_counts(page, t.mark, t.outputs, t.stations, time);
-            let head = put_parameters(page, counts, panel_record::parameters_of(record));
+            let head = put_parameters(
+                page,
+                counts,
+                panel_record::parameters_of(record),
+                panel_record::tenants_of(record),
+            );
             let middle = put_outputs(outputs, t.outputs, page, head);
             with_mark(next, put_stations(stations, t.stations, page, middle))
         }
@@ -334,7 +353,7 @@ pub fn run() {
     let mut outputs = [output; 65];
     let record = output_fresh::fresh_station();
     let mut stations = [record; 33];
-    let mut kept = panel_record::fresh_record(parameters);
+    let mut kept = panel_record::fresh_record(parameters, 0);
     let mut page = io::large_buffer();
     let mut chunk = io::large_buffer();
     lend(

@@ -6,6 +6,7 @@ use Rattle.lighting_outputs.specs.declared.Parameters.{Parameters}
 use Rattle.lighting_frames.specs.Paper.Frames.{Bytes}
 use Rattle.lighting_panel.specs.Paper.Panel.{Panel}
 use Rattle.lent_parts.specs.Lending.{begun, sent}
+use Rattle.text_heading.specs.declared.Named.{Named}
 use Rattle.text_reading.specs.declared.Line.{Line}
 use Rattle.text_reading.specs.declared.Reader.{Reader}
 use Rattle.text_reading.specs.Reading.{lineOf}
@@ -13,7 +14,8 @@ use Rattle.text_printing.specs.Page.{Wrote}
 use Rattle.replay_line.specs.Taking.{startedWith, sentOn, takenBy, taken}
 
 -- the panel that a set counts, lent by numbers that were read from the set
-pub started-by : {n k : ℕ} (s : Parameters) (p : Panel) {q : Panel} → n ≡ s .outputs → k ≡ s .stations → q ≡ begun n k s p .panel → q ≡ startedWith s p
+pub started-by : {n k : ℕ} (s : Named) (p : Panel) {q : Panel} → n ≡ s .parameters .outputs → k ≡ s .parameters .stations
+    → q ≡ begun n k (s .parameters) (s .tenants) p .panel → q ≡ startedWith s p
 started-by s p e f h = rw (e, f) at h
 
 pub sent-by : {n k : ℕ} (s : Parameters) (b : Bytes) (p : Panel) → n ≡ s .outputs → k ≡ s .stations → s ≡ p .kept .parameters → sent n k b p ≡ sentOn b p

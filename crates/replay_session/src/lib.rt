@@ -210,7 +210,7 @@ pub fn run(report: bool) {
     let mut outputs = [output; 64];
     let record = output_fresh::fresh_station();
     let mut stations = [record; 32];
-    let mut kept = panel_record::fresh_record(parameters);
+    let mut kept = panel_record::fresh_record(parameters, 0);
     let mut page = io::large_buffer();
     let mut chunk = io::large_buffer();
     replay(

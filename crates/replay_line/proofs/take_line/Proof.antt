@@ -67,10 +67,10 @@ same-length-2 c = search needs
 returns-2 : tie.Need-returns-2
 unfolding takenBy
 returns-2 c =
-    let a = c .before .before .before .before .before .before .before .before .before .before .before .before .before .before .before .args in
+    let a = c .before .before .before .before .before .before .before .before .before .before .before .before .before .before .before .before .args in
     let p = panelOf (a .outputs .now) (a .stations .now) (a .kept .now) in
     let s = c .before .before .before .start in
-    ended p (a .r) _ (c .before .before .before .before .before .before .before .before .before .before .before .before .before .line-of .result) (a .page .now) (a .mark) (c .with-named .result) true (a .page .now) (a .mark) (panelOf (s .last .0) (s .last .1 .0) (s .last .1 .1 .0)) (c .before .before .before .before .before .before .before .before .before .before .before .before .before .line-of .ensures) (c .before .before .before .before .before .before .before .before .before .before .line .given .1) (rw (← c .before .before .before .before .before .before .before .before .before .before .before .before .next-line .ensures) (c .with-named .ensures)) refl (wrote-none (a .page .now) (a .mark)) (started-by _ p (c .before .before .before .before .before .before .before .before .wide-index .ensures) (c .before .before .before .before .before .before .before .wide-index2 .ensures) (s .ensures .1))
+    ended p (a .r) _ (c .before .before .before .before .before .before .before .before .before .before .before .before .before .before .line-of .result) (a .page .now) (a .mark) (c .with-named .result) true (a .page .now) (a .mark) (panelOf (s .last .0) (s .last .1 .0) (s .last .1 .1 .0)) (c .before .before .before .before .before .before .before .before .before .before .before .before .before .before .line-of .ensures) (c .before .before .before .before .before .before .before .before .before .before .before .line .given .1) (rw (← c .before .before .before .before .before .before .before .before .before .before .before .before .before .next-line .ensures) (c .with-named .ensures)) refl (wrote-none (a .page .now) (a .mark)) (started-by _ p (c .before .before .before .before .before .before .before .before .wide-index .ensures) (c .before .before .before .before .before .before .before .wide-index2 .ensures) (s .ensures .1))
 
 same-length-3 : tie.Need-same-length-3
 same-length-3 c = search needs

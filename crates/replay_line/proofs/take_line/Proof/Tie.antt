@@ -57,6 +57,9 @@ After-line = Lts.After-line (Reads'5.Asked, Reads'5.Learnt, Reads'6.Asked, Reads
 abbrev pub After-known-told : Type 0
 After-known-told = Lts.After-known-told (Reads'5.Asked, Reads'5.Learnt, Reads'6.Asked, Reads'6.Learnt, Reads'.Asked, Reads'.Learnt, Reads.Asked, Reads.Learnt, Reads'7.Asked, Reads'7.Learnt, Reads''.Asked, Reads''.Learnt, Reads'4.Asked, Reads'4.Learnt) Reads'3.Pre Reads'3.Post
 
+abbrev pub After-set : Type 0
+After-set = Lts.After-set (Reads'5.Asked, Reads'5.Learnt, Reads'6.Asked, Reads'6.Learnt, Reads'.Asked, Reads'.Learnt, Reads.Asked, Reads.Learnt, Reads'7.Asked, Reads'7.Learnt, Reads''.Asked, Reads''.Learnt, Reads'4.Asked, Reads'4.Learnt) Reads'3.Pre Reads'3.Post
+
 abbrev pub After-wide-index : Type 0
 After-wide-index = Lts.After-wide-index (Reads'5.Asked, Reads'5.Learnt, Reads'6.Asked, Reads'6.Learnt, Reads'.Asked, Reads'.Learnt, Reads.Asked, Reads.Learnt, Reads'7.Asked, Reads'7.Learnt, Reads''.Asked, Reads''.Learnt, Reads'4.Asked, Reads'4.Learnt) Reads'3.Pre Reads'3.Post
 

@@ -71,7 +71,7 @@ abbrev pub r : Kinds.RK 5
 r = Unit'.rUnit
 
 abbrev pub xs : List.List Syntax.Ty
-xs = List._∷_ (Laws.mir) (List._∷_ (Syntax.tyStruct (List._∷_ 116 (List._∷_ 101 (List._∷_ 120 (List._∷_ 116 (List._∷_ 95 (List._∷_ 114 (List._∷_ 101 (List._∷_ 97 (List._∷_ 100 (List._∷_ 105 (List._∷_ 110 (List._∷_ 103 (List._∷_ 58 (List._∷_ 58 (List._∷_ 82 (List._∷_ 101 (List._∷_ 97 (List._∷_ 100 (List._∷_ 101 (List._∷_ 114 List.[])))))))))))))))))))) (Syntax.tcons Syntax.tyBool (Syntax.tcons (Syntax.tyInt Syntax.w64) (Syntax.tcons (Syntax.tyEnum (List._∷_ 116 (List._∷_ 101 (List._∷_ 120 (List._∷_ 116 (List._∷_ 95 (List._∷_ 114 (List._∷_ 101 (List._∷_ 97 (List._∷_ 100 (List._∷_ 105 (List._∷_ 110 (List._∷_ 103 (List._∷_ 58 (List._∷_ 58 (List._∷_ 72 (List._∷_ 101 (List._∷_ 108 (List._∷_ 100 List.[])))))))))))))))))) (Syntax.ttcons Syntax.tnil (Syntax.ttcons Syntax.tnil (Syntax.ttcons (Syntax.tcons (Syntax.tyStruct (List._∷_ 116 (List._∷_ 101 (List._∷_ 120 (List._∷_ 116 (List._∷_ 95 (List._∷_ 104 (List._∷_ 101 (List._∷_ 97 (List._∷_ 100 (List._∷_ 105 (List._∷_ 110 (List._∷_ 103 (List._∷_ 58 (List._∷_ 58 (List._∷_ 72 (List._∷_ 101 (List._∷_ 97 (List._∷_ 100 (List._∷_ 105 (List._∷_ 110 (List._∷_ 103 List.[]))))))))))))))))))))) (Syntax.tcons (IsParameters.mir) (Syntax.tcons (Syntax.tyStruct (List._∷_ 116 (List._∷_ 101 (List._∷_ 120 (List._∷_ 116 (List._∷_ 95 (List._∷_ 104 (List._∷_ 101 (List._∷_ 97 (List._∷_ 100 (List._∷_ 105 (List._∷_ 110 (List._∷_ 103 (List._∷_ 58 (List._∷_ 58 (List._∷_ 67 (List._∷_ 97 (List._∷_ 109 (List._∷_ 101 List.[])))))))))))))))))) (Syntax.tcons Syntax.tyBool (Syntax.tcons Syntax.tyBool (Syntax.tcons Syntax.tyBool Syntax.tnil)))) (Syntax.tcons (Syntax.tyEnum (List._∷_ 116 (List._∷_ 101 (List._∷_ 120 (List._∷_ 116 (List._∷_ 95 (List._∷_ 104 (List._∷_ 101 (List._∷_ 97 (List._∷_ 100 (List._∷_ 105 (List._∷_ 110 (List._∷_ 103 (List._∷_ 58 (List._∷_ 58 (List._∷_ 80 (List._∷_ 108 (List._∷_ 97 (List._∷_ 99 (List._∷_ 101 List.[]))))))))))))))))))) (Syntax.ttcons (Syntax.tcons (Syntax.tyEnum (List._∷_ 116 (List._∷_ 101 (List._∷_ 120 (List._∷_ 116 (List._∷_ 95 (List._∷_ 104 (List._∷_ 101 (List._∷_ 97 (List._∷_ 100 (List._∷_ 105 (List._∷_ 110 (List._∷_ 103 (List._∷_ 58 (List._∷_ 58 (List._∷_ 87 (List._∷_ 111 (List._∷_ 114 (List._∷_ 100 List.[])))))))))))))))))) (Syntax.ttcons Syntax.tnil (Syntax.ttcons Syntax.tnil (Syntax.ttcons Syntax.tnil (Syntax.ttcons Syntax.tnil Syntax.ttnil))))) (Syntax.tcons (Syntax.tyInt Syntax.w8) Syntax.tnil)) (Syntax.ttcons (Syntax.tcons (Syntax.tyEnum (List._∷_ 116 (List._∷_ 101 (List._∷_ 120 (List._∷_ 116 (List._∷_ 95 (List._∷_ 104 (List._∷_ 101 (List._∷_ 97 (List._∷_ 100 (List._∷_ 105 (List._∷_ 110 (List._∷_ 103 (List._∷_ 58 (List._∷_ 58 (List._∷_ 87 (List._∷_ 111 (List._∷_ 114 (List._∷_ 100 List.[])))))))))))))))))) (Syntax.ttcons Syntax.tnil (Syntax.ttcons Syntax.tnil (Syntax.ttcons Syntax.tnil (Syntax.ttcons Syntax.tnil Syntax.ttnil))))) Syntax.tnil) (Syntax.ttcons (Syntax.tcons (Syntax.tyEnum (List._∷_ 116 (List._∷_ 101 (List._∷_ 120 (List._∷_ 116 (List._∷_ 95 (List._∷_ 104 (List._∷_ 101 (List._∷_ 97 (List._∷_ 100 (List._∷_ 105 (List._∷_ 110 (List._∷_ 103 (List._∷_ 58 (List._∷_ 58 (List._∷_ 87 (List._∷_ 111 (List._∷_ 114 (List._∷_ 100 List.[])))))))))))))))))) (Syntax.ttcons Syntax.tnil (Syntax.ttcons Syntax.tnil (Syntax.ttcons Syntax.tnil (Syntax.ttcons Syntax.tnil Syntax.ttnil))))) Syntax.tnil) (Syntax.ttcons Syntax.tnil (Syntax.ttcons (Syntax.tcons (Syntax.tyEnum (List._∷_ 116 (List._∷_ 101 (List._∷_ 120 (List._∷_ 116 (List._∷_ 95 (List._∷_ 104 (List._∷_ 101 (List._∷_ 97 (List._∷_ 100 (List._∷_ 105 (List._∷_ 110 (List._∷_ 103 (List._∷_ 58 (List._∷_ 58 (List._∷_ 72 (List._∷_ 101 (List._∷_ 97 (List._∷_ 100 (List._∷_ 105 (List._∷_ 110 (List._∷_ 103 (List._∷_ 70 (List._∷_ 97 (List._∷_ 117 (List._∷_ 108 (List._∷_ 116 List.[])))))))))))))))))))))))))) (Syntax.ttcons Syntax.tnil (Syntax.ttcons Syntax.tnil (Syntax.ttcons Syntax.tnil (Syntax.ttcons (Syntax.tcons (Syntax.tyEnum (List._∷_ 116 (List._∷_ 101 (List._∷_ 120 (List._∷_ 116 (List._∷_ 95 (List._∷_ 104 (List._∷_ 101 (List._∷_ 97 (List._∷_ 100 (List._∷_ 105 (List._∷_ 110 (List._∷_ 103 (List._∷_ 58 (List._∷_ 58 (List._∷_ 87 (List._∷_ 111 (List._∷_ 114 (List._∷_ 100 List.[])))))))))))))))))) (Syntax.ttcons Syntax.tnil (Syntax.ttcons Syntax.tnil (Syntax.ttcons Syntax.tnil (Syntax.ttcons Syntax.tnil Syntax.ttnil))))) Syntax.tnil) Syntax.ttnil))))) Syntax.tnil) Syntax.ttnil)))))) Syntax.tnil)))) Syntax.tnil) (Syntax.ttcons Syntax.tnil (Syntax.ttcons (Syntax.tcons (Syntax.tyInt Syntax.w8) Syntax.tnil) (Syntax.ttcons Syntax.tnil (Syntax.ttcons (Syntax.tcons (Syntax.tyEnum (List._∷_ 116 (List._∷_ 101 (List._∷_ 120 (List._∷_ 116 (List._∷_ 95 (List._∷_ 114 (List._∷_ 101 (List._∷_ 97 (List._∷_ 100 (List._∷_ 105 (List._∷_ 110 (List._∷_ 103 (List._∷_ 58 (List._∷_ 58 (List._∷_ 70 (List._∷_ 97 (List._∷_ 117 (List._∷_ 108 (List._∷_ 116 List.[]))))))))))))))))))) (Syntax.ttcons (Syntax.tcons (Syntax.tyEnum (List._∷_ 116 (List._∷_ 101 (List._∷_ 120 (List._∷_ 116 (List._∷_ 95 (List._∷_ 104 (List._∷_ 101 (List._∷_ 97 (List._∷_ 100 (List._∷_ 105 (List._∷_ 110 (List._∷_ 103 (List._∷_ 58 (List._∷_ 58 (List._∷_ 72 (List._∷_ 101 (List._∷_ 97 (List._∷_ 100 (List._∷_ 105 (List._∷_ 110 (List._∷_ 103 (List._∷_ 70 (List._∷_ 97 (List._∷_ 117 (List._∷_ 108 (List._∷_ 116 List.[])))))))))))))))))))))))))) (Syntax.ttcons Syntax.tnil (Syntax.ttcons Syntax.tnil (Syntax.ttcons Syntax.tnil (Syntax.ttcons (Syntax.tcons (Syntax.tyEnum (List._∷_ 116 (List._∷_ 101 (List._∷_ 120 (List._∷_ 116 (List._∷_ 95 (List._∷_ 104 (List._∷_ 101 (List._∷_ 97 (List._∷_ 100 (List._∷_ 105 (List._∷_ 110 (List._∷_ 103 (List._∷_ 58 (List._∷_ 58 (List._∷_ 87 (List._∷_ 111 (List._∷_ 114 (List._∷_ 100 List.[])))))))))))))))))) (Syntax.ttcons Syntax.tnil (Syntax.ttcons Syntax.tnil (Syntax.ttcons Syntax.tnil (Syntax.ttcons Syntax.tnil Syntax.ttnil))))) Syntax.tnil) Syntax.ttnil))))) Syntax.tnil) (Syntax.ttcons Syntax.tnil (Syntax.ttcons Syntax.tnil Syntax.ttnil)))) Syntax.tnil) Syntax.ttnil)))))))) (Syntax.tcons (Syntax.tyArray (Syntax.tyInt Syntax.w8) 32) (Syntax.tcons (Syntax.tyInt Syntax.w64) Syntax.tnil)))))) (List._∷_ (Syntax.tyInt Syntax.w64) (List._∷_ (Syntax.tyRef Syntax.erased Syntax.mut OfOutput.named) (List._∷_ (Syntax.tyStruct (List._∷_ 38 (List._∷_ 91 (List._∷_ 93 List.[]))) (Syntax.tcons (Syntax.tyRef Syntax.erased Syntax.mut OfOutput.named) (Syntax.tcons (Syntax.tyInt Syntax.w64) Syntax.tnil))) (List._∷_ (Syntax.tyRef Syntax.erased Syntax.mut OfStation.named) (List._∷_ (Syntax.tyStruct (List._∷_ 38 (List._∷_ 91 (List._∷_ 93 List.[]))) (Syntax.tcons (Syntax.tyRef Syntax.erased Syntax.mut OfStation.named) (Syntax.tcons (Syntax.tyInt Syntax.w64) Syntax.tnil))) (List._∷_ (Syntax.tyRef Syntax.erased Syntax.mut OfPanelRecord.named) (List._∷_ (Syntax.tyRef Syntax.erased Syntax.mut (Syntax.tyInt Syntax.w8)) (List._∷_ (Syntax.tyStruct (List._∷_ 38 (List._∷_ 91 (List._∷_ 93 List.[]))) (Syntax.tcons (Syntax.tyRef Syntax.erased Syntax.mut (Syntax.tyInt Syntax.w8)) (Syntax.tcons (Syntax.tyInt Syntax.w64) Syntax.tnil))) (List._∷_ (Syntax.tyRef Syntax.erased Syntax.mut (Syntax.tyInt Syntax.w8)) (List._∷_ (Syntax.tyStruct (List._∷_ 38 (List._∷_ 91 (List._∷_ 93 List.[]))) (Syntax.tcons (Syntax.tyRef Syntax.erased Syntax.mut (Syntax.tyInt Syntax.w8)) (Syntax.tcons (Syntax.tyInt Syntax.w64) Syntax.tnil))) (List._∷_ Syntax.tyBool (List._∷_ (Syntax.tyRef Syntax.erased Syntax.mut OfOutput.named) (List._∷_ (Syntax.tyStruct (List._∷_ 38 (List._∷_ 91 (List._∷_ 93 List.[]))) (Syntax.tcons (Syntax.tyRef Syntax.erased Syntax.mut OfOutput.named) (Syntax.tcons (Syntax.tyInt Syntax.w64) Syntax.tnil))) (List._∷_ (Syntax.tyRef Syntax.erased Syntax.mut OfStation.named) (List._∷_ (Syntax.tyStruct (List._∷_ 38 (List._∷_ 91 (List._∷_ 93 List.[]))) (Syntax.tcons (Syntax.tyRef Syntax.erased Syntax.mut OfStation.named) (Syntax.tcons (Syntax.tyInt Syntax.w64) Syntax.tnil))) (List._∷_ (Syntax.tyRef Syntax.erased Syntax.mut OfPanelRecord.named) (List._∷_ (Syntax.tyRef Syntax.erased Syntax.mut (Syntax.tyInt Syntax.w8)) (List._∷_ (Syntax.tyStruct (List._∷_ 38 (List._∷_ 91 (List._∷_ 93 List.[]))) (Syntax.tcons (Syntax.tyRef Syntax.erased Syntax.mut (Syntax.tyInt Syntax.w8)) (Syntax.tcons (Syntax.tyInt Syntax.w64) Syntax.tnil))) (List._∷_ Syntax.tyUnit (List._∷_ (Syntax.tyRef Syntax.erased Syntax.imm (Syntax.tyInt Syntax.w8)) (List._∷_ (Syntax.tyStruct (List._∷_ 38 (List._∷_ 91 (List._∷_ 93 List.[]))) (Syntax.tcons (Syntax.tyRef Syntax.erased Syntax.imm (Syntax.tyInt Syntax.w8)) (Syntax.tcons (Syntax.tyInt Syntax.w64) Syntax.tnil))) (List._∷_ Syntax.tyUnit (List._∷_ (Syntax.tyRef Syntax.erased Syntax.imm (Syntax.tyInt Syntax.w8)) (List._∷_ (Syntax.tyStruct (List._∷_ 38 (List._∷_ 91 (List._∷_ 93 List.[]))) (Syntax.tcons (Syntax.tyRef Syntax.erased Syntax.imm (Syntax.tyInt Syntax.w8)) (Syntax.tcons (Syntax.tyInt Syntax.w64) Syntax.tnil))) List.[])))))))))))))))))))))))))
+xs = List._∷_ (Laws.mir) (List._∷_ (Syntax.tyStruct (List._∷_ 116 (List._∷_ 101 (List._∷_ 120 (List._∷_ 116 (List._∷_ 95 (List._∷_ 114 (List._∷_ 101 (List._∷_ 97 (List._∷_ 100 (List._∷_ 105 (List._∷_ 110 (List._∷_ 103 (List._∷_ 58 (List._∷_ 58 (List._∷_ 82 (List._∷_ 101 (List._∷_ 97 (List._∷_ 100 (List._∷_ 101 (List._∷_ 114 List.[])))))))))))))))))))) (Syntax.tcons Syntax.tyBool (Syntax.tcons (Syntax.tyInt Syntax.w64) (Syntax.tcons (Syntax.tyEnum (List._∷_ 116 (List._∷_ 101 (List._∷_ 120 (List._∷_ 116 (List._∷_ 95 (List._∷_ 114 (List._∷_ 101 (List._∷_ 97 (List._∷_ 100 (List._∷_ 105 (List._∷_ 110 (List._∷_ 103 (List._∷_ 58 (List._∷_ 58 (List._∷_ 72 (List._∷_ 101 (List._∷_ 108 (List._∷_ 100 List.[])))))))))))))))))) (Syntax.ttcons Syntax.tnil (Syntax.ttcons Syntax.tnil (Syntax.ttcons (Syntax.tcons (Syntax.tyStruct (List._∷_ 116 (List._∷_ 101 (List._∷_ 120 (List._∷_ 116 (List._∷_ 95 (List._∷_ 104 (List._∷_ 101 (List._∷_ 97 (List._∷_ 100 (List._∷_ 105 (List._∷_ 110 (List._∷_ 103 (List._∷_ 58 (List._∷_ 58 (List._∷_ 72 (List._∷_ 101 (List._∷_ 97 (List._∷_ 100 (List._∷_ 105 (List._∷_ 110 (List._∷_ 103 List.[]))))))))))))))))))))) (Syntax.tcons (Syntax.tyStruct (List._∷_ 116 (List._∷_ 101 (List._∷_ 120 (List._∷_ 116 (List._∷_ 95 (List._∷_ 104 (List._∷_ 101 (List._∷_ 97 (List._∷_ 100 (List._∷_ 105 (List._∷_ 110 (List._∷_ 103 (List._∷_ 58 (List._∷_ 58 (List._∷_ 78 (List._∷_ 97 (List._∷_ 109 (List._∷_ 101 (List._∷_ 100 List.[]))))))))))))))))))) (Syntax.tcons (IsParameters.mir) (Syntax.tcons (Syntax.tyInt Syntax.w32) Syntax.tnil))) (Syntax.tcons (Syntax.tyStruct (List._∷_ 116 (List._∷_ 101 (List._∷_ 120 (List._∷_ 116 (List._∷_ 95 (List._∷_ 104 (List._∷_ 101 (List._∷_ 97 (List._∷_ 100 (List._∷_ 105 (List._∷_ 110 (List._∷_ 103 (List._∷_ 58 (List._∷_ 58 (List._∷_ 67 (List._∷_ 97 (List._∷_ 109 (List._∷_ 101 List.[])))))))))))))))))) (Syntax.tcons Syntax.tyBool (Syntax.tcons Syntax.tyBool (Syntax.tcons Syntax.tyBool (Syntax.tcons Syntax.tyBool Syntax.tnil))))) (Syntax.tcons (Syntax.tyEnum (List._∷_ 116 (List._∷_ 101 (List._∷_ 120 (List._∷_ 116 (List._∷_ 95 (List._∷_ 104 (List._∷_ 101 (List._∷_ 97 (List._∷_ 100 (List._∷_ 105 (List._∷_ 110 (List._∷_ 103 (List._∷_ 58 (List._∷_ 58 (List._∷_ 80 (List._∷_ 108 (List._∷_ 97 (List._∷_ 99 (List._∷_ 101 List.[]))))))))))))))))))) (Syntax.ttcons (Syntax.tcons (Syntax.tyEnum (List._∷_ 116 (List._∷_ 101 (List._∷_ 120 (List._∷_ 116 (List._∷_ 95 (List._∷_ 104 (List._∷_ 101 (List._∷_ 97 (List._∷_ 100 (List._∷_ 105 (List._∷_ 110 (List._∷_ 103 (List._∷_ 58 (List._∷_ 58 (List._∷_ 87 (List._∷_ 111 (List._∷_ 114 (List._∷_ 100 List.[])))))))))))))))))) (Syntax.ttcons Syntax.tnil (Syntax.ttcons Syntax.tnil (Syntax.ttcons Syntax.tnil (Syntax.ttcons Syntax.tnil (Syntax.ttcons Syntax.tnil Syntax.ttnil)))))) (Syntax.tcons (Syntax.tyInt Syntax.w8) Syntax.tnil)) (Syntax.ttcons (Syntax.tcons (Syntax.tyEnum (List._∷_ 116 (List._∷_ 101 (List._∷_ 120 (List._∷_ 116 (List._∷_ 95 (List._∷_ 104 (List._∷_ 101 (List._∷_ 97 (List._∷_ 100 (List._∷_ 105 (List._∷_ 110 (List._∷_ 103 (List._∷_ 58 (List._∷_ 58 (List._∷_ 87 (List._∷_ 111 (List._∷_ 114 (List._∷_ 100 List.[])))))))))))))))))) (Syntax.ttcons Syntax.tnil (Syntax.ttcons Syntax.tnil (Syntax.ttcons Syntax.tnil (Syntax.ttcons Syntax.tnil (Syntax.ttcons Syntax.tnil Syntax.ttnil)))))) Syntax.tnil) (Syntax.ttcons (Syntax.tcons (Syntax.tyEnum (List._∷_ 116 (List._∷_ 101 (List._∷_ 120 (List._∷_ 116 (List._∷_ 95 (List._∷_ 104 (List._∷_ 101 (List._∷_ 97 (List._∷_ 100 (List._∷_ 105 (List._∷_ 110 (List._∷_ 103 (List._∷_ 58 (List._∷_ 58 (List._∷_ 87 (List._∷_ 111 (List._∷_ 114 (List._∷_ 100 List.[])))))))))))))))))) (Syntax.ttcons Syntax.tnil (Syntax.ttcons Syntax.tnil (Syntax.ttcons Syntax.tnil (Syntax.ttcons Syntax.tnil (Syntax.ttcons Syntax.tnil Syntax.ttnil)))))) (Syntax.tcons (Syntax.tyInt Syntax.w8) Syntax.tnil)) (Syntax.ttcons Syntax.tnil (Syntax.ttcons (Syntax.tcons (Syntax.tyEnum (List._∷_ 116 (List._∷_ 101 (List._∷_ 120 (List._∷_ 116 (List._∷_ 95 (List._∷_ 104 (List._∷_ 101 (List._∷_ 97 (List._∷_ 100 (List._∷_ 105 (List._∷_ 110 (List._∷_ 103 (List._∷_ 58 (List._∷_ 58 (List._∷_ 72 (List._∷_ 101 (List._∷_ 97 (List._∷_ 100 (List._∷_ 105 (List._∷_ 110 (List._∷_ 103 (List._∷_ 70 (List._∷_ 97 (List._∷_ 117 (List._∷_ 108 (List._∷_ 116 List.[])))))))))))))))))))))))))) (Syntax.ttcons Syntax.tnil (Syntax.ttcons Syntax.tnil (Syntax.ttcons Syntax.tnil (Syntax.ttcons Syntax.tnil (Syntax.ttcons (Syntax.tcons (Syntax.tyEnum (List._∷_ 116 (List._∷_ 101 (List._∷_ 120 (List._∷_ 116 (List._∷_ 95 (List._∷_ 104 (List._∷_ 101 (List._∷_ 97 (List._∷_ 100 (List._∷_ 105 (List._∷_ 110 (List._∷_ 103 (List._∷_ 58 (List._∷_ 58 (List._∷_ 87 (List._∷_ 111 (List._∷_ 114 (List._∷_ 100 List.[])))))))))))))))))) (Syntax.ttcons Syntax.tnil (Syntax.ttcons Syntax.tnil (Syntax.ttcons Syntax.tnil (Syntax.ttcons Syntax.tnil (Syntax.ttcons Syntax.tnil Syntax.ttnil)))))) Syntax.tnil) Syntax.ttnil)))))) Syntax.tnil) Syntax.ttnil)))))) Syntax.tnil)))) Syntax.tnil) (Syntax.ttcons Syntax.tnil (Syntax.ttcons (Syntax.tcons (Syntax.tyInt Syntax.w8) Syntax.tnil) (Syntax.ttcons Syntax.tnil (Syntax.ttcons (Syntax.tcons (Syntax.tyEnum (List._∷_ 116 (List._∷_ 101 (List._∷_ 120 (List._∷_ 116 (List._∷_ 95 (List._∷_ 114 (List._∷_ 101 (List._∷_ 97 (List._∷_ 100 (List._∷_ 105 (List._∷_ 110 (List._∷_ 103 (List._∷_ 58 (List._∷_ 58 (List._∷_ 70 (List._∷_ 97 (List._∷_ 117 (List._∷_ 108 (List._∷_ 116 List.[]))))))))))))))))))) (Syntax.ttcons (Syntax.tcons (Syntax.tyEnum (List._∷_ 116 (List._∷_ 101 (List._∷_ 120 (List._∷_ 116 (List._∷_ 95 (List._∷_ 104 (List._∷_ 101 (List._∷_ 97 (List._∷_ 100 (List._∷_ 105 (List._∷_ 110 (List._∷_ 103 (List._∷_ 58 (List._∷_ 58 (List._∷_ 72 (List._∷_ 101 (List._∷_ 97 (List._∷_ 100 (List._∷_ 105 (List._∷_ 110 (List._∷_ 103 (List._∷_ 70 (List._∷_ 97 (List._∷_ 117 (List._∷_ 108 (List._∷_ 116 List.[])))))))))))))))))))))))))) (Syntax.ttcons Syntax.tnil (Syntax.ttcons Syntax.tnil (Syntax.ttcons Syntax.tnil (Syntax.ttcons Syntax.tnil (Syntax.ttcons (Syntax.tcons (Syntax.tyEnum (List._∷_ 116 (List._∷_ 101 (List._∷_ 120 (List._∷_ 116 (List._∷_ 95 (List._∷_ 104 (List._∷_ 101 (List._∷_ 97 (List._∷_ 100 (List._∷_ 105 (List._∷_ 110 (List._∷_ 103 (List._∷_ 58 (List._∷_ 58 (List._∷_ 87 (List._∷_ 111 (List._∷_ 114 (List._∷_ 100 List.[])))))))))))))))))) (Syntax.ttcons Syntax.tnil (Syntax.ttcons Syntax.tnil (Syntax.ttcons Syntax.tnil (Syntax.ttcons Syntax.tnil (Syntax.ttcons Syntax.tnil Syntax.ttnil)))))) Syntax.tnil) Syntax.ttnil)))))) Syntax.tnil) (Syntax.ttcons Syntax.tnil (Syntax.ttcons Syntax.tnil Syntax.ttnil)))) Syntax.tnil) Syntax.ttnil)))))))) (Syntax.tcons (Syntax.tyArray (Syntax.tyInt Syntax.w8) 32) (Syntax.tcons (Syntax.tyInt Syntax.w64) Syntax.tnil)))))) (List._∷_ (Syntax.tyInt Syntax.w64) (List._∷_ (Syntax.tyRef Syntax.erased Syntax.mut OfOutput.named) (List._∷_ (Syntax.tyStruct (List._∷_ 38 (List._∷_ 91 (List._∷_ 93 List.[]))) (Syntax.tcons (Syntax.tyRef Syntax.erased Syntax.mut OfOutput.named) (Syntax.tcons (Syntax.tyInt Syntax.w64) Syntax.tnil))) (List._∷_ (Syntax.tyRef Syntax.erased Syntax.mut OfStation.named) (List._∷_ (Syntax.tyStruct (List._∷_ 38 (List._∷_ 91 (List._∷_ 93 List.[]))) (Syntax.tcons (Syntax.tyRef Syntax.erased Syntax.mut OfStation.named) (Syntax.tcons (Syntax.tyInt Syntax.w64) Syntax.tnil))) (List._∷_ (Syntax.tyRef Syntax.erased Syntax.mut OfPanelRecord.named) (List._∷_ (Syntax.tyRef Syntax.erased Syntax.mut (Syntax.tyInt Syntax.w8)) (List._∷_ (Syntax.tyStruct (List._∷_ 38 (List._∷_ 91 (List._∷_ 93 List.[]))) (Syntax.tcons (Syntax.tyRef Syntax.erased Syntax.mut (Syntax.tyInt Syntax.w8)) (Syntax.tcons (Syntax.tyInt Syntax.w64) Syntax.tnil))) (List._∷_ (Syntax.tyRef Syntax.erased Syntax.mut (Syntax.tyInt Syntax.w8)) (List._∷_ (Syntax.tyStruct (List._∷_ 38 (List._∷_ 91 (List._∷_ 93 List.[]))) (Syntax.tcons (Syntax.tyRef Syntax.erased Syntax.mut (Syntax.tyInt Syntax.w8)) (Syntax.tcons (Syntax.tyInt Syntax.w64) Syntax.tnil))) (List._∷_ Syntax.tyBool (List._∷_ (Syntax.tyRef Syntax.erased Syntax.mut OfOutput.named) (List._∷_ (Syntax.tyStruct (List._∷_ 38 (List._∷_ 91 (List._∷_ 93 List.[]))) (Syntax.tcons (Syntax.tyRef Syntax.erased Syntax.mut OfOutput.named) (Syntax.tcons (Syntax.tyInt Syntax.w64) Syntax.tnil))) (List._∷_ (Syntax.tyRef Syntax.erased Syntax.mut OfStation.named) (List._∷_ (Syntax.tyStruct (List._∷_ 38 (List._∷_ 91 (List._∷_ 93 List.[]))) (Syntax.tcons (Syntax.tyRef Syntax.erased Syntax.mut OfStation.named) (Syntax.tcons (Syntax.tyInt Syntax.w64) Syntax.tnil))) (List._∷_ (Syntax.tyRef Syntax.erased Syntax.mut OfPanelRecord.named) (List._∷_ (Syntax.tyRef Syntax.erased Syntax.mut (Syntax.tyInt Syntax.w8)) (List._∷_ (Syntax.tyStruct (List._∷_ 38 (List._∷_ 91 (List._∷_ 93 List.[]))) (Syntax.tcons (Syntax.tyRef Syntax.erased Syntax.mut (Syntax.tyInt Syntax.w8)) (Syntax.tcons (Syntax.tyInt Syntax.w64) Syntax.tnil))) (List._∷_ Syntax.tyUnit (List._∷_ (Syntax.tyRef Syntax.erased Syntax.imm (Syntax.tyInt Syntax.w8)) (List._∷_ (Syntax.tyStruct (List._∷_ 38 (List._∷_ 91 (List._∷_ 93 List.[]))) (Syntax.tcons (Syntax.tyRef Syntax.erased Syntax.imm (Syntax.tyInt Syntax.w8)) (Syntax.tcons (Syntax.tyInt Syntax.w64) Syntax.tnil))) (List._∷_ Syntax.tyUnit (List._∷_ (Syntax.tyRef Syntax.erased Syntax.imm (Syntax.tyInt Syntax.w8)) (List._∷_ (Syntax.tyStruct (List._∷_ 38 (List._∷_ 91 (List._∷_ 93 List.[]))) (Syntax.tcons (Syntax.tyRef Syntax.erased Syntax.imm (Syntax.tyInt Syntax.w8)) (Syntax.tcons (Syntax.tyInt Syntax.w64) Syntax.tnil))) List.[])))))))))))))))))))))))))
 
 abbrev pub m : Nat.ℕ
 m = 11
@@ -269,7 +269,7 @@ abbrev pub Claims : Type 1
 Claims = Kinds.In 5 ps·0 × Kinds.Out 5 ps·0 r·0 × Kinds.In 4 ps·1 × Kinds.Out 4 ps·1 r·1 × Kinds.In 1 ps·2 × Kinds.Out 1 ps·2 r·2
 
 abbrev pub t0 : List.List Row.Entry
-t0 = List._∷_ (0, Rows.any-gone Syntax.tyUnit) (List._∷_ (1, Mut.mslice (OfOutput.row) (Syntax.tyRef (Syntax.named 0) Syntax.mut OfOutput.named) 0) (List._∷_ (2, Mut.mslice (OfStation.row) (Syntax.tyRef (Syntax.named 1) Syntax.mut OfStation.named) 1) (List._∷_ (3, Rows.mref (OfPanelRecord.row) (Syntax.tyRef (Syntax.named 2) Syntax.mut OfPanelRecord.named) 2) (List._∷_ (4, Mut.mslice (Referent.rtF (Referent.fInt Syntax.w8)) (Syntax.tyRef (Syntax.named 3) Syntax.mut (Syntax.tyInt Syntax.w8)) 3) (List._∷_ (5, Mut.mslice (Referent.rtF (Referent.fInt Syntax.w8)) (Syntax.tyRef (Syntax.named 4) Syntax.mut (Syntax.tyInt Syntax.w8)) 4) (List._∷_ (6, Rows.sc-here Row.sBool) (List._∷_ (7, Rows.any-gone (Laws.mir)) (List._∷_ (8, Rows.any-gone (Syntax.tyStruct (List._∷_ 116 (List._∷_ 101 (List._∷_ 120 (List._∷_ 116 (List._∷_ 95 (List._∷_ 114 (List._∷_ 101 (List._∷_ 97 (List._∷_ 100 (List._∷_ 105 (List._∷_ 110 (List._∷_ 103 (List._∷_ 58 (List._∷_ 58 (List._∷_ 82 (List._∷_ 101 (List._∷_ 97 (List._∷_ 100 (List._∷_ 101 (List._∷_ 114 List.[])))))))))))))))))))) (Syntax.tcons Syntax.tyBool (Syntax.tcons (Syntax.tyInt Syntax.w64) (Syntax.tcons (Syntax.tyEnum (List._∷_ 116 (List._∷_ 101 (List._∷_ 120 (List._∷_ 116 (List._∷_ 95 (List._∷_ 114 (List._∷_ 101 (List._∷_ 97 (List._∷_ 100 (List._∷_ 105 (List._∷_ 110 (List._∷_ 103 (List._∷_ 58 (List._∷_ 58 (List._∷_ 72 (List._∷_ 101 (List._∷_ 108 (List._∷_ 100 List.[])))))))))))))))))) (Syntax.ttcons Syntax.tnil (Syntax.ttcons Syntax.tnil (Syntax.ttcons (Syntax.tcons (Syntax.tyStruct (List._∷_ 116 (List._∷_ 101 (List._∷_ 120 (List._∷_ 116 (List._∷_ 95 (List._∷_ 104 (List._∷_ 101 (List._∷_ 97 (List._∷_ 100 (List._∷_ 105 (List._∷_ 110 (List._∷_ 103 (List._∷_ 58 (List._∷_ 58 (List._∷_ 72 (List._∷_ 101 (List._∷_ 97 (List._∷_ 100 (List._∷_ 105 (List._∷_ 110 (List._∷_ 103 List.[]))))))))))))))))))))) (Syntax.tcons (IsParameters.mir) (Syntax.tcons (Syntax.tyStruct (List._∷_ 116 (List._∷_ 101 (List._∷_ 120 (List._∷_ 116 (List._∷_ 95 (List._∷_ 104 (List._∷_ 101 (List._∷_ 97 (List._∷_ 100 (List._∷_ 105 (List._∷_ 110 (List._∷_ 103 (List._∷_ 58 (List._∷_ 58 (List._∷_ 67 (List._∷_ 97 (List._∷_ 109 (List._∷_ 101 List.[])))))))))))))))))) (Syntax.tcons Syntax.tyBool (Syntax.tcons Syntax.tyBool (Syntax.tcons Syntax.tyBool Syntax.tnil)))) (Syntax.tcons (Syntax.tyEnum (List._∷_ 116 (List._∷_ 101 (List._∷_ 120 (List._∷_ 116 (List._∷_ 95 (List._∷_ 104 (List._∷_ 101 (List._∷_ 97 (List._∷_ 100 (List._∷_ 105 (List._∷_ 110 (List._∷_ 103 (List._∷_ 58 (List._∷_ 58 (List._∷_ 80 (List._∷_ 108 (List._∷_ 97 (List._∷_ 99 (List._∷_ 101 List.[]))))))))))))))))))) (Syntax.ttcons (Syntax.tcons (Syntax.tyEnum (List._∷_ 116 (List._∷_ 101 (List._∷_ 120 (List._∷_ 116 (List._∷_ 95 (List._∷_ 104 (List._∷_ 101 (List._∷_ 97 (List._∷_ 100 (List._∷_ 105 (List._∷_ 110 (List._∷_ 103 (List._∷_ 58 (List._∷_ 58 (List._∷_ 87 (List._∷_ 111 (List._∷_ 114 (List._∷_ 100 List.[])))))))))))))))))) (Syntax.ttcons Syntax.tnil (Syntax.ttcons Syntax.tnil (Syntax.ttcons Syntax.tnil (Syntax.ttcons Syntax.tnil Syntax.ttnil))))) (Syntax.tcons (Syntax.tyInt Syntax.w8) Syntax.tnil)) (Syntax.ttcons (Syntax.tcons (Syntax.tyEnum (List._∷_ 116 (List._∷_ 101 (List._∷_ 120 (List._∷_ 116 (List._∷_ 95 (List._∷_ 104 (List._∷_ 101 (List._∷_ 97 (List._∷_ 100 (List._∷_ 105 (List._∷_ 110 (List._∷_ 103 (List._∷_ 58 (List._∷_ 58 (List._∷_ 87 (List._∷_ 111 (List._∷_ 114 (List._∷_ 100 List.[])))))))))))))))))) (Syntax.ttcons Syntax.tnil (Syntax.ttcons Syntax.tnil (Syntax.ttcons Syntax.tnil (Syntax.ttcons Syntax.tnil Syntax.ttnil))))) Syntax.tnil) (Syntax.ttcons (Syntax.tcons (Syntax.tyEnum (List._∷_ 116 (List._∷_ 101 (List._∷_ 120 (List._∷_ 116 (List._∷_ 95 (List._∷_ 104 (List._∷_ 101 (List._∷_ 97 (List._∷_ 100 (List._∷_ 105 (List._∷_ 110 (List._∷_ 103 (List._∷_ 58 (List._∷_ 58 (List._∷_ 87 (List._∷_ 111 (List._∷_ 114 (List._∷_ 100 List.[])))))))))))))))))) (Syntax.ttcons Syntax.tnil (Syntax.ttcons Syntax.tnil (Syntax.ttcons Syntax.tnil (Syntax.ttcons Syntax.tnil Syntax.ttnil))))) Syntax.tnil) (Syntax.ttcons Syntax.tnil (Syntax.ttcons (Syntax.tcons (Syntax.tyEnum (List._∷_ 116 (List._∷_ 101 (List._∷_ 120 (List._∷_ 116 (List._∷_ 95 (List._∷_ 104 (List._∷_ 101 (List._∷_ 97 (List._∷_ 100 (List._∷_ 105 (List._∷_ 110 (List._∷_ 103 (List._∷_ 58 (List._∷_ 58 (List._∷_ 72 (List._∷_ 101 (List._∷_ 97 (List._∷_ 100 (List._∷_ 105 (List._∷_ 110 (List._∷_ 103 (List._∷_ 70 (List._∷_ 97 (List._∷_ 117 (List._∷_ 108 (List._∷_ 116 List.[])))))))))))))))))))))))))) (Syntax.ttcons Syntax.tnil (Syntax.ttcons Syntax.tnil (Syntax.ttcons Syntax.tnil (Syntax.ttcons (Syntax.tcons (Syntax.tyEnum (List._∷_ 116 (List._∷_ 101 (List._∷_ 120 (List._∷_ 116 (List._∷_ 95 (List._∷_ 104 (List._∷_ 101 (List._∷_ 97 (List._∷_ 100 (List._∷_ 105 (List._∷_ 110 (List._∷_ 103 (List._∷_ 58 (List._∷_ 58 (List._∷_ 87 (List._∷_ 111 (List._∷_ 114 (List._∷_ 100 List.[])))))))))))))))))) (Syntax.ttcons Syntax.tnil (Syntax.ttcons Syntax.tnil (Syntax.ttcons Syntax.tnil (Syntax.ttcons Syntax.tnil Syntax.ttnil))))) Syntax.tnil) Syntax.ttnil))))) Syntax.tnil) Syntax.ttnil)))))) Syntax.tnil)))) Syntax.tnil) (Syntax.ttcons Syntax.tnil (Syntax.ttcons (Syntax.tcons (Syntax.tyInt Syntax.w8) Syntax.tnil) (Syntax.ttcons Syntax.tnil (Syntax.ttcons (Syntax.tcons (Syntax.tyEnum (List._∷_ 116 (List._∷_ 101 (List._∷_ 120 (List._∷_ 116 (List._∷_ 95 (List._∷_ 114 (List._∷_ 101 (List._∷_ 97 (List._∷_ 100 (List._∷_ 105 (List._∷_ 110 (List._∷_ 103 (List._∷_ 58 (List._∷_ 58 (List._∷_ 70 (List._∷_ 97 (List._∷_ 117 (List._∷_ 108 (List._∷_ 116 List.[]))))))))))))))))))) (Syntax.ttcons (Syntax.tcons (Syntax.tyEnum (List._∷_ 116 (List._∷_ 101 (List._∷_ 120 (List._∷_ 116 (List._∷_ 95 (List._∷_ 104 (List._∷_ 101 (List._∷_ 97 (List._∷_ 100 (List._∷_ 105 (List._∷_ 110 (List._∷_ 103 (List._∷_ 58 (List._∷_ 58 (List._∷_ 72 (List._∷_ 101 (List._∷_ 97 (List._∷_ 100 (List._∷_ 105 (List._∷_ 110 (List._∷_ 103 (List._∷_ 70 (List._∷_ 97 (List._∷_ 117 (List._∷_ 108 (List._∷_ 116 List.[])))))))))))))))))))))))))) (Syntax.ttcons Syntax.tnil (Syntax.ttcons Syntax.tnil (Syntax.ttcons Syntax.tnil (Syntax.ttcons (Syntax.tcons (Syntax.tyEnum (List._∷_ 116 (List._∷_ 101 (List._∷_ 120 (List._∷_ 116 (List._∷_ 95 (List._∷_ 104 (List._∷_ 101 (List._∷_ 97 (List._∷_ 100 (List._∷_ 105 (List._∷_ 110 (List._∷_ 103 (List._∷_ 58 (List._∷_ 58 (List._∷_ 87 (List._∷_ 111 (List._∷_ 114 (List._∷_ 100 List.[])))))))))))))))))) (Syntax.ttcons Syntax.tnil (Syntax.ttcons Syntax.tnil (Syntax.ttcons Syntax.tnil (Syntax.ttcons Syntax.tnil Syntax.ttnil))))) Syntax.tnil) Syntax.ttnil))))) Syntax.tnil) (Syntax.ttcons Syntax.tnil (Syntax.ttcons Syntax.tnil Syntax.ttnil)))) Syntax.tnil) Syntax.ttnil)))))))) (Syntax.tcons (Syntax.tyArray (Syntax.tyInt Syntax.w8) 32) (Syntax.tcons (Syntax.tyInt Syntax.w64) Syntax.tnil))))))) (List._∷_ (9, Rows.any-gone (Syntax.tyInt Syntax.w64)) (List._∷_ (10, Rows.any-gone (Syntax.tyRef Syntax.erased Syntax.mut OfOutput.named)) (List._∷_ (11, Rows.any-gone (Syntax.tyStruct (List._∷_ 38 (List._∷_ 91 (List._∷_ 93 List.[]))) (Syntax.tcons (Syntax.tyRef Syntax.erased Syntax.mut OfOutput.named) (Syntax.tcons (Syntax.tyInt Syntax.w64) Syntax.tnil)))) (List._∷_ (12, Rows.any-gone (Syntax.tyRef Syntax.erased Syntax.mut OfStation.named)) (List._∷_ (13, Rows.any-gone (Syntax.tyStruct (List._∷_ 38 (List._∷_ 91 (List._∷_ 93 List.[]))) (Syntax.tcons (Syntax.tyRef Syntax.erased Syntax.mut OfStation.named) (Syntax.tcons (Syntax.tyInt Syntax.w64) Syntax.tnil)))) (List._∷_ (14, Rows.any-gone (Syntax.tyRef Syntax.erased Syntax.mut OfPanelRecord.named)) (List._∷_ (15, Rows.any-gone (Syntax.tyRef Syntax.erased Syntax.mut (Syntax.tyInt Syntax.w8))) List.[])))))))))))))))
+t0 = List._∷_ (0, Rows.any-gone Syntax.tyUnit) (List._∷_ (1, Mut.mslice (OfOutput.row) (Syntax.tyRef (Syntax.named 0) Syntax.mut OfOutput.named) 0) (List._∷_ (2, Mut.mslice (OfStation.row) (Syntax.tyRef (Syntax.named 1) Syntax.mut OfStation.named) 1) (List._∷_ (3, Rows.mref (OfPanelRecord.row) (Syntax.tyRef (Syntax.named 2) Syntax.mut OfPanelRecord.named) 2) (List._∷_ (4, Mut.mslice (Referent.rtF (Referent.fInt Syntax.w8)) (Syntax.tyRef (Syntax.named 3) Syntax.mut (Syntax.tyInt Syntax.w8)) 3) (List._∷_ (5, Mut.mslice (Referent.rtF (Referent.fInt Syntax.w8)) (Syntax.tyRef (Syntax.named 4) Syntax.mut (Syntax.tyInt Syntax.w8)) 4) (List._∷_ (6, Rows.sc-here Row.sBool) (List._∷_ (7, Rows.any-gone (Laws.mir)) (List._∷_ (8, Rows.any-gone (Syntax.tyStruct (List._∷_ 116 (List._∷_ 101 (List._∷_ 120 (List._∷_ 116 (List._∷_ 95 (List._∷_ 114 (List._∷_ 101 (List._∷_ 97 (List._∷_ 100 (List._∷_ 105 (List._∷_ 110 (List._∷_ 103 (List._∷_ 58 (List._∷_ 58 (List._∷_ 82 (List._∷_ 101 (List._∷_ 97 (List._∷_ 100 (List._∷_ 101 (List._∷_ 114 List.[])))))))))))))))))))) (Syntax.tcons Syntax.tyBool (Syntax.tcons (Syntax.tyInt Syntax.w64) (Syntax.tcons (Syntax.tyEnum (List._∷_ 116 (List._∷_ 101 (List._∷_ 120 (List._∷_ 116 (List._∷_ 95 (List._∷_ 114 (List._∷_ 101 (List._∷_ 97 (List._∷_ 100 (List._∷_ 105 (List._∷_ 110 (List._∷_ 103 (List._∷_ 58 (List._∷_ 58 (List._∷_ 72 (List._∷_ 101 (List._∷_ 108 (List._∷_ 100 List.[])))))))))))))))))) (Syntax.ttcons Syntax.tnil (Syntax.ttcons Syntax.tnil (Syntax.ttcons (Syntax.tcons (Syntax.tyStruct (List._∷_ 116 (List._∷_ 101 (List._∷_ 120 (List._∷_ 116 (List._∷_ 95 (List._∷_ 104 (List._∷_ 101 (List._∷_ 97 (List._∷_ 100 (List._∷_ 105 (List._∷_ 110 (List._∷_ 103 (List._∷_ 58 (List._∷_ 58 (List._∷_ 72 (List._∷_ 101 (List._∷_ 97 (List._∷_ 100 (List._∷_ 105 (List._∷_ 110 (List._∷_ 103 List.[]))))))))))))))))))))) (Syntax.tcons (Syntax.tyStruct (List._∷_ 116 (List._∷_ 101 (List._∷_ 120 (List._∷_ 116 (List._∷_ 95 (List._∷_ 104 (List._∷_ 101 (List._∷_ 97 (List._∷_ 100 (List._∷_ 105 (List._∷_ 110 (List._∷_ 103 (List._∷_ 58 (List._∷_ 58 (List._∷_ 78 (List._∷_ 97 (List._∷_ 109 (List._∷_ 101 (List._∷_ 100 List.[]))))))))))))))))))) (Syntax.tcons (IsParameters.mir) (Syntax.tcons (Syntax.tyInt Syntax.w32) Syntax.tnil))) (Syntax.tcons (Syntax.tyStruct (List._∷_ 116 (List._∷_ 101 (List._∷_ 120 (List._∷_ 116 (List._∷_ 95 (List._∷_ 104 (List._∷_ 101 (List._∷_ 97 (List._∷_ 100 (List._∷_ 105 (List._∷_ 110 (List._∷_ 103 (List._∷_ 58 (List._∷_ 58 (List._∷_ 67 (List._∷_ 97 (List._∷_ 109 (List._∷_ 101 List.[])))))))))))))))))) (Syntax.tcons Syntax.tyBool (Syntax.tcons Syntax.tyBool (Syntax.tcons Syntax.tyBool (Syntax.tcons Syntax.tyBool Syntax.tnil))))) (Syntax.tcons (Syntax.tyEnum (List._∷_ 116 (List._∷_ 101 (List._∷_ 120 (List._∷_ 116 (List._∷_ 95 (List._∷_ 104 (List._∷_ 101 (List._∷_ 97 (List._∷_ 100 (List._∷_ 105 (List._∷_ 110 (List._∷_ 103 (List._∷_ 58 (List._∷_ 58 (List._∷_ 80 (List._∷_ 108 (List._∷_ 97 (List._∷_ 99 (List._∷_ 101 List.[]))))))))))))))))))) (Syntax.ttcons (Syntax.tcons (Syntax.tyEnum (List._∷_ 116 (List._∷_ 101 (List._∷_ 120 (List._∷_ 116 (List._∷_ 95 (List._∷_ 104 (List._∷_ 101 (List._∷_ 97 (List._∷_ 100 (List._∷_ 105 (List._∷_ 110 (List._∷_ 103 (List._∷_ 58 (List._∷_ 58 (List._∷_ 87 (List._∷_ 111 (List._∷_ 114 (List._∷_ 100 List.[])))))))))))))))))) (Syntax.ttcons Syntax.tnil (Syntax.ttcons Syntax.tnil (Syntax.ttcons Syntax.tnil (Syntax.ttcons Syntax.tnil (Syntax.ttcons Syntax.tnil Syntax.ttnil)))))) (Syntax.tcons (Syntax.tyInt Syntax.w8) Syntax.tnil)) (Syntax.ttcons (Syntax.tcons (Syntax.tyEnum (List._∷_ 116 (List._∷_ 101 (List._∷_ 120 (List._∷_ 116 (List._∷_ 95 (List._∷_ 104 (List._∷_ 101 (List._∷_ 97 (List._∷_ 100 (List._∷_ 105 (List._∷_ 110 (List._∷_ 103 (List._∷_ 58 (List._∷_ 58 (List._∷_ 87 (List._∷_ 111 (List._∷_ 114 (List._∷_ 100 List.[])))))))))))))))))) (Syntax.ttcons Syntax.tnil (Syntax.ttcons Syntax.tnil (Syntax.ttcons Syntax.tnil (Syntax.ttcons Syntax.tnil (Syntax.ttcons Syntax.tnil Syntax.ttnil)))))) Syntax.tnil) (Syntax.ttcons (Syntax.tcons (Syntax.tyEnum (List._∷_ 116 (List._∷_ 101 (List._∷_ 120 (List._∷_ 116 (List._∷_ 95 (List._∷_ 104 (List._∷_ 101 (List._∷_ 97 (List._∷_ 100 (List._∷_ 105 (List._∷_ 110 (List._∷_ 103 (List._∷_ 58 (List._∷_ 58 (List._∷_ 87 (List._∷_ 111 (List._∷_ 114 (List._∷_ 100 List.[])))))))))))))))))) (Syntax.ttcons Syntax.tnil (Syntax.ttcons Syntax.tnil (Syntax.ttcons Syntax.tnil (Syntax.ttcons Syntax.tnil (Syntax.ttcons Syntax.tnil Syntax.ttnil)))))) (Syntax.tcons (Syntax.tyInt Syntax.w8) Syntax.tnil)) (Syntax.ttcons Syntax.tnil (Syntax.ttcons (Syntax.tcons (Syntax.tyEnum (List._∷_ 116 (List._∷_ 101 (List._∷_ 120 (List._∷_ 116 (List._∷_ 95 (List._∷_ 104 (List._∷_ 101 (List._∷_ 97 (List._∷_ 100 (List._∷_ 105 (List._∷_ 110 (List._∷_ 103 (List._∷_ 58 (List._∷_ 58 (List._∷_ 72 (List._∷_ 101 (List._∷_ 97 (List._∷_ 100 (List._∷_ 105 (List._∷_ 110 (List._∷_ 103 (List._∷_ 70 (List._∷_ 97 (List._∷_ 117 (List._∷_ 108 (List._∷_ 116 List.[])))))))))))))))))))))))))) (Syntax.ttcons Syntax.tnil (Syntax.ttcons Syntax.tnil (Syntax.ttcons Syntax.tnil (Syntax.ttcons Syntax.tnil (Syntax.ttcons (Syntax.tcons (Syntax.tyEnum (List._∷_ 116 (List._∷_ 101 (List._∷_ 120 (List._∷_ 116 (List._∷_ 95 (List._∷_ 104 (List._∷_ 101 (List._∷_ 97 (List._∷_ 100 (List._∷_ 105 (List._∷_ 110 (List._∷_ 103 (List._∷_ 58 (List._∷_ 58 (List._∷_ 87 (List._∷_ 111 (List._∷_ 114 (List._∷_ 100 List.[])))))))))))))))))) (Syntax.ttcons Syntax.tnil (Syntax.ttcons Syntax.tnil (Syntax.ttcons Syntax.tnil (Syntax.ttcons Syntax.tnil (Syntax.ttcons Syntax.tnil Syntax.ttnil)))))) Syntax.tnil) Syntax.ttnil)))))) Syntax.tnil) Syntax.ttnil)))))) Syntax.tnil)))) Syntax.tnil) (Syntax.ttcons Syntax.tnil (Syntax.ttcons (Syntax.tcons (Syntax.tyInt Syntax.w8) Syntax.tnil) (Syntax.ttcons Syntax.tnil (Syntax.ttcons (Syntax.tcons (Syntax.tyEnum (List._∷_ 116 (List._∷_ 101 (List._∷_ 120 (List._∷_ 116 (List._∷_ 95 (List._∷_ 114 (List._∷_ 101 (List._∷_ 97 (List._∷_ 100 (List._∷_ 105 (List._∷_ 110 (List._∷_ 103 (List._∷_ 58 (List._∷_ 58 (List._∷_ 70 (List._∷_ 97 (List._∷_ 117 (List._∷_ 108 (List._∷_ 116 List.[]))))))))))))))))))) (Syntax.ttcons (Syntax.tcons (Syntax.tyEnum (List._∷_ 116 (List._∷_ 101 (List._∷_ 120 (List._∷_ 116 (List._∷_ 95 (List._∷_ 104 (List._∷_ 101 (List._∷_ 97 (List._∷_ 100 (List._∷_ 105 (List._∷_ 110 (List._∷_ 103 (List._∷_ 58 (List._∷_ 58 (List._∷_ 72 (List._∷_ 101 (List._∷_ 97 (List._∷_ 100 (List._∷_ 105 (List._∷_ 110 (List._∷_ 103 (List._∷_ 70 (List._∷_ 97 (List._∷_ 117 (List._∷_ 108 (List._∷_ 116 List.[])))))))))))))))))))))))))) (Syntax.ttcons Syntax.tnil (Syntax.ttcons Syntax.tnil (Syntax.ttcons Syntax.tnil (Syntax.ttcons Syntax.tnil (Syntax.ttcons (Syntax.tcons (Syntax.tyEnum (List._∷_ 116 (List._∷_ 101 (List._∷_ 120 (List._∷_ 116 (List._∷_ 95 (List._∷_ 104 (List._∷_ 101 (List._∷_ 97 (List._∷_ 100 (List._∷_ 105 (List._∷_ 110 (List._∷_ 103 (List._∷_ 58 (List._∷_ 58 (List._∷_ 87 (List._∷_ 111 (List._∷_ 114 (List._∷_ 100 List.[])))))))))))))))))) (Syntax.ttcons Syntax.tnil (Syntax.ttcons Syntax.tnil (Syntax.ttcons Syntax.tnil (Syntax.ttcons Syntax.tnil (Syntax.ttcons Syntax.tnil Syntax.ttnil)))))) Syntax.tnil) Syntax.ttnil)))))) Syntax.tnil) (Syntax.ttcons Syntax.tnil (Syntax.ttcons Syntax.tnil Syntax.ttnil)))) Syntax.tnil) Syntax.ttnil)))))))) (Syntax.tcons (Syntax.tyArray (Syntax.tyInt Syntax.w8) 32) (Syntax.tcons (Syntax.tyInt Syntax.w64) Syntax.tnil))))))) (List._∷_ (9, Rows.any-gone (Syntax.tyInt Syntax.w64)) (List._∷_ (10, Rows.any-gone (Syntax.tyRef Syntax.erased Syntax.mut OfOutput.named)) (List._∷_ (11, Rows.any-gone (Syntax.tyStruct (List._∷_ 38 (List._∷_ 91 (List._∷_ 93 List.[]))) (Syntax.tcons (Syntax.tyRef Syntax.erased Syntax.mut OfOutput.named) (Syntax.tcons (Syntax.tyInt Syntax.w64) Syntax.tnil)))) (List._∷_ (12, Rows.any-gone (Syntax.tyRef Syntax.erased Syntax.mut OfStation.named)) (List._∷_ (13, Rows.any-gone (Syntax.tyStruct (List._∷_ 38 (List._∷_ 91 (List._∷_ 93 List.[]))) (Syntax.tcons (Syntax.tyRef Syntax.erased Syntax.mut OfStation.named) (Syntax.tcons (Syntax.tyInt Syntax.w64) Syntax.tnil)))) (List._∷_ (14, Rows.any-gone (Syntax.tyRef Syntax.erased Syntax.mut OfPanelRecord.named)) (List._∷_ (15, Rows.any-gone (Syntax.tyRef Syntax.erased Syntax.mut (Syntax.tyInt Syntax.w8))) List.[])))))))))))))))
 
 abbrev pub t1 : List.List Row.Entry
 t1 = List._∷_ (16, Rows.any-gone (Syntax.tyStruct (List._∷_ 38 (List._∷_ 91 (List._∷_ 93 List.[]))) (Syntax.tcons (Syntax.tyRef Syntax.erased Syntax.mut (Syntax.tyInt Syntax.w8)) (Syntax.tcons (Syntax.tyInt Syntax.w64) Syntax.tnil)))) (List._∷_ (17, Rows.any-gone (Syntax.tyRef Syntax.erased Syntax.mut (Syntax.tyInt Syntax.w8))) (List._∷_ (18, Rows.any-gone (Syntax.tyStruct (List._∷_ 38 (List._∷_ 91 (List._∷_ 93 List.[]))) (Syntax.tcons (Syntax.tyRef Syntax.erased Syntax.mut (Syntax.tyInt Syntax.w8)) (Syntax.tcons (Syntax.tyInt Syntax.w64) Syntax.tnil)))) (List._∷_ (19, Rows.any-gone Syntax.tyBool) (List._∷_ (20, Rows.any-gone (Syntax.tyRef Syntax.erased Syntax.mut OfOutput.named)) (List._∷_ (21, Rows.any-gone (Syntax.tyStruct (List._∷_ 38 (List._∷_ 91 (List._∷_ 93 List.[]))) (Syntax.tcons (Syntax.tyRef Syntax.erased Syntax.mut OfOutput.named) (Syntax.tcons (Syntax.tyInt Syntax.w64) Syntax.tnil)))) (List._∷_ (22, Rows.any-gone (Syntax.tyRef Syntax.erased Syntax.mut OfStation.named)) (List._∷_ (23, Rows.any-gone (Syntax.tyStruct (List._∷_ 38 (List._∷_ 91 (List._∷_ 93 List.[]))) (Syntax.tcons (Syntax.tyRef Syntax.erased Syntax.mut OfStation.named) (Syntax.tcons (Syntax.tyInt Syntax.w64) Syntax.tnil)))) (List._∷_ (24, Rows.any-gone (Syntax.tyRef Syntax.erased Syntax.mut OfPanelRecord.named)) (List._∷_ (25, Rows.any-gone (Syntax.tyRef Syntax.erased Syntax.mut (Syntax.tyInt Syntax.w8))) (List._∷_ (26, Rows.any-gone (Syntax.tyStruct (List._∷_ 38 (List._∷_ 91 (List._∷_ 93 List.[]))) (Syntax.tcons (Syntax.tyRef Syntax.erased Syntax.mut (Syntax.tyInt Syntax.w8)) (Syntax.tcons (Syntax.tyInt Syntax.w64) Syntax.tnil)))) (List._∷_ (27, Rows.any-gone Syntax.tyUnit) (List._∷_ (28, Rows.any-gone (Syntax.tyRef Syntax.erased Syntax.imm (Syntax.tyInt Syntax.w8))) (List._∷_ (29, Rows.any-gone (Syntax.tyStruct (List._∷_ 38 (List._∷_ 91 (List._∷_ 93 List.[]))) (Syntax.tcons (Syntax.tyRef Syntax.erased Syntax.imm (Syntax.tyInt Syntax.w8)) (Syntax.tcons (Syntax.tyInt Syntax.w64) Syntax.tnil)))) (List._∷_ (30, Rows.any-gone Syntax.tyUnit) (List._∷_ (31, Rows.any-gone (Syntax.tyRef Syntax.erased Syntax.imm (Syntax.tyInt Syntax.w8))) List.[])))))))))))))))
@@ -278,34 +278,34 @@ abbrev pub t2 : List.List Row.Entry
 t2 = List._∷_ (32, Rows.any-gone (Syntax.tyStruct (List._∷_ 38 (List._∷_ 91 (List._∷_ 93 List.[]))) (Syntax.tcons (Syntax.tyRef Syntax.erased Syntax.imm (Syntax.tyInt Syntax.w8)) (Syntax.tcons (Syntax.tyInt Syntax.w64) Syntax.tnil)))) List.[]
 
 abbrev pub t3 : List.List Row.Entry
-t3 = List._∷_ (0, Rows.sc-here Row.sUnit) (List._∷_ (1, Mut.mslice (OfOutput.row) (Syntax.tyRef (Syntax.named 0) Syntax.mut OfOutput.named) 0) (List._∷_ (2, Mut.mslice (OfStation.row) (Syntax.tyRef (Syntax.named 1) Syntax.mut OfStation.named) 1) (List._∷_ (3, Rows.mref (OfPanelRecord.row) (Syntax.tyRef (Syntax.named 2) Syntax.mut OfPanelRecord.named) 2) (List._∷_ (4, Mut.mslice (Referent.rtF (Referent.fInt Syntax.w8)) (Syntax.tyRef (Syntax.named 3) Syntax.mut (Syntax.tyInt Syntax.w8)) 3) (List._∷_ (5, Mut.mslice (Referent.rtF (Referent.fInt Syntax.w8)) (Syntax.tyRef (Syntax.named 4) Syntax.mut (Syntax.tyInt Syntax.w8)) 4) (List._∷_ (6, Rows.any-gone Syntax.tyBool) (List._∷_ (7, Rows.any-gone (Laws.mir)) (List._∷_ (8, Rows.any-gone (Syntax.tyStruct (List._∷_ 116 (List._∷_ 101 (List._∷_ 120 (List._∷_ 116 (List._∷_ 95 (List._∷_ 114 (List._∷_ 101 (List._∷_ 97 (List._∷_ 100 (List._∷_ 105 (List._∷_ 110 (List._∷_ 103 (List._∷_ 58 (List._∷_ 58 (List._∷_ 82 (List._∷_ 101 (List._∷_ 97 (List._∷_ 100 (List._∷_ 101 (List._∷_ 114 List.[])))))))))))))))))))) (Syntax.tcons Syntax.tyBool (Syntax.tcons (Syntax.tyInt Syntax.w64) (Syntax.tcons (Syntax.tyEnum (List._∷_ 116 (List._∷_ 101 (List._∷_ 120 (List._∷_ 116 (List._∷_ 95 (List._∷_ 114 (List._∷_ 101 (List._∷_ 97 (List._∷_ 100 (List._∷_ 105 (List._∷_ 110 (List._∷_ 103 (List._∷_ 58 (List._∷_ 58 (List._∷_ 72 (List._∷_ 101 (List._∷_ 108 (List._∷_ 100 List.[])))))))))))))))))) (Syntax.ttcons Syntax.tnil (Syntax.ttcons Syntax.tnil (Syntax.ttcons (Syntax.tcons (Syntax.tyStruct (List._∷_ 116 (List._∷_ 101 (List._∷_ 120 (List._∷_ 116 (List._∷_ 95 (List._∷_ 104 (List._∷_ 101 (List._∷_ 97 (List._∷_ 100 (List._∷_ 105 (List._∷_ 110 (List._∷_ 103 (List._∷_ 58 (List._∷_ 58 (List._∷_ 72 (List._∷_ 101 (List._∷_ 97 (List._∷_ 100 (List._∷_ 105 (List._∷_ 110 (List._∷_ 103 List.[]))))))))))))))))))))) (Syntax.tcons (IsParameters.mir) (Syntax.tcons (Syntax.tyStruct (List._∷_ 116 (List._∷_ 101 (List._∷_ 120 (List._∷_ 116 (List._∷_ 95 (List._∷_ 104 (List._∷_ 101 (List._∷_ 97 (List._∷_ 100 (List._∷_ 105 (List._∷_ 110 (List._∷_ 103 (List._∷_ 58 (List._∷_ 58 (List._∷_ 67 (List._∷_ 97 (List._∷_ 109 (List._∷_ 101 List.[])))))))))))))))))) (Syntax.tcons Syntax.tyBool (Syntax.tcons Syntax.tyBool (Syntax.tcons Syntax.tyBool Syntax.tnil)))) (Syntax.tcons (Syntax.tyEnum (List._∷_ 116 (List._∷_ 101 (List._∷_ 120 (List._∷_ 116 (List._∷_ 95 (List._∷_ 104 (List._∷_ 101 (List._∷_ 97 (List._∷_ 100 (List._∷_ 105 (List._∷_ 110 (List._∷_ 103 (List._∷_ 58 (List._∷_ 58 (List._∷_ 80 (List._∷_ 108 (List._∷_ 97 (List._∷_ 99 (List._∷_ 101 List.[]))))))))))))))))))) (Syntax.ttcons (Syntax.tcons (Syntax.tyEnum (List._∷_ 116 (List._∷_ 101 (List._∷_ 120 (List._∷_ 116 (List._∷_ 95 (List._∷_ 104 (List._∷_ 101 (List._∷_ 97 (List._∷_ 100 (List._∷_ 105 (List._∷_ 110 (List._∷_ 103 (List._∷_ 58 (List._∷_ 58 (List._∷_ 87 (List._∷_ 111 (List._∷_ 114 (List._∷_ 100 List.[])))))))))))))))))) (Syntax.ttcons Syntax.tnil (Syntax.ttcons Syntax.tnil (Syntax.ttcons Syntax.tnil (Syntax.ttcons Syntax.tnil Syntax.ttnil))))) (Syntax.tcons (Syntax.tyInt Syntax.w8) Syntax.tnil)) (Syntax.ttcons (Syntax.tcons (Syntax.tyEnum (List._∷_ 116 (List._∷_ 101 (List._∷_ 120 (List._∷_ 116 (List._∷_ 95 (List._∷_ 104 (List._∷_ 101 (List._∷_ 97 (List._∷_ 100 (List._∷_ 105 (List._∷_ 110 (List._∷_ 103 (List._∷_ 58 (List._∷_ 58 (List._∷_ 87 (List._∷_ 111 (List._∷_ 114 (List._∷_ 100 List.[])))))))))))))))))) (Syntax.ttcons Syntax.tnil (Syntax.ttcons Syntax.tnil (Syntax.ttcons Syntax.tnil (Syntax.ttcons Syntax.tnil Syntax.ttnil))))) Syntax.tnil) (Syntax.ttcons (Syntax.tcons (Syntax.tyEnum (List._∷_ 116 (List._∷_ 101 (List._∷_ 120 (List._∷_ 116 (List._∷_ 95 (List._∷_ 104 (List._∷_ 101 (List._∷_ 97 (List._∷_ 100 (List._∷_ 105 (List._∷_ 110 (List._∷_ 103 (List._∷_ 58 (List._∷_ 58 (List._∷_ 87 (List._∷_ 111 (List._∷_ 114 (List._∷_ 100 List.[])))))))))))))))))) (Syntax.ttcons Syntax.tnil (Syntax.ttcons Syntax.tnil (Syntax.ttcons Syntax.tnil (Syntax.ttcons Syntax.tnil Syntax.ttnil))))) Syntax.tnil) (Syntax.ttcons Syntax.tnil (Syntax.ttcons (Syntax.tcons (Syntax.tyEnum (List._∷_ 116 (List._∷_ 101 (List._∷_ 120 (List._∷_ 116 (List._∷_ 95 (List._∷_ 104 (List._∷_ 101 (List._∷_ 97 (List._∷_ 100 (List._∷_ 105 (List._∷_ 110 (List._∷_ 103 (List._∷_ 58 (List._∷_ 58 (List._∷_ 72 (List._∷_ 101 (List._∷_ 97 (List._∷_ 100 (List._∷_ 105 (List._∷_ 110 (List._∷_ 103 (List._∷_ 70 (List._∷_ 97 (List._∷_ 117 (List._∷_ 108 (List._∷_ 116 List.[])))))))))))))))))))))))))) (Syntax.ttcons Syntax.tnil (Syntax.ttcons Syntax.tnil (Syntax.ttcons Syntax.tnil (Syntax.ttcons (Syntax.tcons (Syntax.tyEnum (List._∷_ 116 (List._∷_ 101 (List._∷_ 120 (List._∷_ 116 (List._∷_ 95 (List._∷_ 104 (List._∷_ 101 (List._∷_ 97 (List._∷_ 100 (List._∷_ 105 (List._∷_ 110 (List._∷_ 103 (List._∷_ 58 (List._∷_ 58 (List._∷_ 87 (List._∷_ 111 (List._∷_ 114 (List._∷_ 100 List.[])))))))))))))))))) (Syntax.ttcons Syntax.tnil (Syntax.ttcons Syntax.tnil (Syntax.ttcons Syntax.tnil (Syntax.ttcons Syntax.tnil Syntax.ttnil))))) Syntax.tnil) Syntax.ttnil))))) Syntax.tnil) Syntax.ttnil)))))) Syntax.tnil)))) Syntax.tnil) (Syntax.ttcons Syntax.tnil (Syntax.ttcons (Syntax.tcons (Syntax.tyInt Syntax.w8) Syntax.tnil) (Syntax.ttcons Syntax.tnil (Syntax.ttcons (Syntax.tcons (Syntax.tyEnum (List._∷_ 116 (List._∷_ 101 (List._∷_ 120 (List._∷_ 116 (List._∷_ 95 (List._∷_ 114 (List._∷_ 101 (List._∷_ 97 (List._∷_ 100 (List._∷_ 105 (List._∷_ 110 (List._∷_ 103 (List._∷_ 58 (List._∷_ 58 (List._∷_ 70 (List._∷_ 97 (List._∷_ 117 (List._∷_ 108 (List._∷_ 116 List.[]))))))))))))))))))) (Syntax.ttcons (Syntax.tcons (Syntax.tyEnum (List._∷_ 116 (List._∷_ 101 (List._∷_ 120 (List._∷_ 116 (List._∷_ 95 (List._∷_ 104 (List._∷_ 101 (List._∷_ 97 (List._∷_ 100 (List._∷_ 105 (List._∷_ 110 (List._∷_ 103 (List._∷_ 58 (List._∷_ 58 (List._∷_ 72 (List._∷_ 101 (List._∷_ 97 (List._∷_ 100 (List._∷_ 105 (List._∷_ 110 (List._∷_ 103 (List._∷_ 70 (List._∷_ 97 (List._∷_ 117 (List._∷_ 108 (List._∷_ 116 List.[])))))))))))))))))))))))))) (Syntax.ttcons Syntax.tnil (Syntax.ttcons Syntax.tnil (Syntax.ttcons Syntax.tnil (Syntax.ttcons (Syntax.tcons (Syntax.tyEnum (List._∷_ 116 (List._∷_ 101 (List._∷_ 120 (List._∷_ 116 (List._∷_ 95 (List._∷_ 104 (List._∷_ 101 (List._∷_ 97 (List._∷_ 100 (List._∷_ 105 (List._∷_ 110 (List._∷_ 103 (List._∷_ 58 (List._∷_ 58 (List._∷_ 87 (List._∷_ 111 (List._∷_ 114 (List._∷_ 100 List.[])))))))))))))))))) (Syntax.ttcons Syntax.tnil (Syntax.ttcons Syntax.tnil (Syntax.ttcons Syntax.tnil (Syntax.ttcons Syntax.tnil Syntax.ttnil))))) Syntax.tnil) Syntax.ttnil))))) Syntax.tnil) (Syntax.ttcons Syntax.tnil (Syntax.ttcons Syntax.tnil Syntax.ttnil)))) Syntax.tnil) Syntax.ttnil)))))))) (Syntax.tcons (Syntax.tyArray (Syntax.tyInt Syntax.w8) 32) (Syntax.tcons (Syntax.tyInt Syntax.w64) Syntax.tnil))))))) (List._∷_ (9, Rows.any-gone (Syntax.tyInt Syntax.w64)) (List._∷_ (10, Rows.any-gone (Syntax.tyRef Syntax.erased Syntax.mut OfOutput.named)) (List._∷_ (11, Rows.any-gone (Syntax.tyStruct (List._∷_ 38 (List._∷_ 91 (List._∷_ 93 List.[]))) (Syntax.tcons (Syntax.tyRef Syntax.erased Syntax.mut OfOutput.named) (Syntax.tcons (Syntax.tyInt Syntax.w64) Syntax.tnil)))) (List._∷_ (12, Rows.any-gone (Syntax.tyRef Syntax.erased Syntax.mut OfStation.named)) (List._∷_ (13, Rows.any-gone (Syntax.tyStruct (List._∷_ 38 (List._∷_ 91 (List._∷_ 93 List.[]))) (Syntax.tcons (Syntax.tyRef Syntax.erased Syntax.mut OfStation.named) (Syntax.tcons (Syntax.tyInt Syntax.w64) Syntax.tnil)))) (List._∷_ (14, Rows.any-gone (Syntax.tyRef Syntax.erased Syntax.mut OfPanelRecord.named)) (List._∷_ (15, Rows.any-gone (Syntax.tyRef Syntax.erased Syntax.mut (Syntax.tyInt Syntax.w8))) List.[])))))))))))))))
+t3 = List._∷_ (0, Rows.sc-here Row.sUnit) (List._∷_ (1, Mut.mslice (OfOutput.row) (Syntax.tyRef (Syntax.named 0) Syntax.mut OfOutput.named) 0) (List._∷_ (2, Mut.mslice (OfStation.row) (Syntax.tyRef (Syntax.named 1) Syntax.mut OfStation.named) 1) (List._∷_ (3, Rows.mref (OfPanelRecord.row) (Syntax.tyRef (Syntax.named 2) Syntax.mut OfPanelRecord.named) 2) (List._∷_ (4, Mut.mslice (Referent.rtF (Referent.fInt Syntax.w8)) (Syntax.tyRef (Syntax.named 3) Syntax.mut (Syntax.tyInt Syntax.w8)) 3) (List._∷_ (5, Mut.mslice (Referent.rtF (Referent.fInt Syntax.w8)) (Syntax.tyRef (Syntax.named 4) Syntax.mut (Syntax.tyInt Syntax.w8)) 4) (List._∷_ (6, Rows.any-gone Syntax.tyBool) (List._∷_ (7, Rows.any-gone (Laws.mir)) (List._∷_ (8, Rows.any-gone (Syntax.tyStruct (List._∷_ 116 (List._∷_ 101 (List._∷_ 120 (List._∷_ 116 (List._∷_ 95 (List._∷_ 114 (List._∷_ 101 (List._∷_ 97 (List._∷_ 100 (List._∷_ 105 (List._∷_ 110 (List._∷_ 103 (List._∷_ 58 (List._∷_ 58 (List._∷_ 82 (List._∷_ 101 (List._∷_ 97 (List._∷_ 100 (List._∷_ 101 (List._∷_ 114 List.[])))))))))))))))))))) (Syntax.tcons Syntax.tyBool (Syntax.tcons (Syntax.tyInt Syntax.w64) (Syntax.tcons (Syntax.tyEnum (List._∷_ 116 (List._∷_ 101 (List._∷_ 120 (List._∷_ 116 (List._∷_ 95 (List._∷_ 114 (List._∷_ 101 (List._∷_ 97 (List._∷_ 100 (List._∷_ 105 (List._∷_ 110 (List._∷_ 103 (List._∷_ 58 (List._∷_ 58 (List._∷_ 72 (List._∷_ 101 (List._∷_ 108 (List._∷_ 100 List.[])))))))))))))))))) (Syntax.ttcons Syntax.tnil (Syntax.ttcons Syntax.tnil (Syntax.ttcons (Syntax.tcons (Syntax.tyStruct (List._∷_ 116 (List._∷_ 101 (List._∷_ 120 (List._∷_ 116 (List._∷_ 95 (List._∷_ 104 (List._∷_ 101 (List._∷_ 97 (List._∷_ 100 (List._∷_ 105 (List._∷_ 110 (List._∷_ 103 (List._∷_ 58 (List._∷_ 58 (List._∷_ 72 (List._∷_ 101 (List._∷_ 97 (List._∷_ 100 (List._∷_ 105 (List._∷_ 110 (List._∷_ 103 List.[]))))))))))))))))))))) (Syntax.tcons (Syntax.tyStruct (List._∷_ 116 (List._∷_ 101 (List._∷_ 120 (List._∷_ 116 (List._∷_ 95 (List._∷_ 104 (List._∷_ 101 (List._∷_ 97 (List._∷_ 100 (List._∷_ 105 (List._∷_ 110 (List._∷_ 103 (List._∷_ 58 (List._∷_ 58 (List._∷_ 78 (List._∷_ 97 (List._∷_ 109 (List._∷_ 101 (List._∷_ 100 List.[]))))))))))))))))))) (Syntax.tcons (IsParameters.mir) (Syntax.tcons (Syntax.tyInt Syntax.w32) Syntax.tnil))) (Syntax.tcons (Syntax.tyStruct (List._∷_ 116 (List._∷_ 101 (List._∷_ 120 (List._∷_ 116 (List._∷_ 95 (List._∷_ 104 (List._∷_ 101 (List._∷_ 97 (List._∷_ 100 (List._∷_ 105 (List._∷_ 110 (List._∷_ 103 (List._∷_ 58 (List._∷_ 58 (List._∷_ 67 (List._∷_ 97 (List._∷_ 109 (List._∷_ 101 List.[])))))))))))))))))) (Syntax.tcons Syntax.tyBool (Syntax.tcons Syntax.tyBool (Syntax.tcons Syntax.tyBool (Syntax.tcons Syntax.tyBool Syntax.tnil))))) (Syntax.tcons (Syntax.tyEnum (List._∷_ 116 (List._∷_ 101 (List._∷_ 120 (List._∷_ 116 (List._∷_ 95 (List._∷_ 104 (List._∷_ 101 (List._∷_ 97 (List._∷_ 100 (List._∷_ 105 (List._∷_ 110 (List._∷_ 103 (List._∷_ 58 (List._∷_ 58 (List._∷_ 80 (List._∷_ 108 (List._∷_ 97 (List._∷_ 99 (List._∷_ 101 List.[]))))))))))))))))))) (Syntax.ttcons (Syntax.tcons (Syntax.tyEnum (List._∷_ 116 (List._∷_ 101 (List._∷_ 120 (List._∷_ 116 (List._∷_ 95 (List._∷_ 104 (List._∷_ 101 (List._∷_ 97 (List._∷_ 100 (List._∷_ 105 (List._∷_ 110 (List._∷_ 103 (List._∷_ 58 (List._∷_ 58 (List._∷_ 87 (List._∷_ 111 (List._∷_ 114 (List._∷_ 100 List.[])))))))))))))))))) (Syntax.ttcons Syntax.tnil (Syntax.ttcons Syntax.tnil (Syntax.ttcons Syntax.tnil (Syntax.ttcons Syntax.tnil (Syntax.ttcons Syntax.tnil Syntax.ttnil)))))) (Syntax.tcons (Syntax.tyInt Syntax.w8) Syntax.tnil)) (Syntax.ttcons (Syntax.tcons (Syntax.tyEnum (List._∷_ 116 (List._∷_ 101 (List._∷_ 120 (List._∷_ 116 (List._∷_ 95 (List._∷_ 104 (List._∷_ 101 (List._∷_ 97 (List._∷_ 100 (List._∷_ 105 (List._∷_ 110 (List._∷_ 103 (List._∷_ 58 (List._∷_ 58 (List._∷_ 87 (List._∷_ 111 (List._∷_ 114 (List._∷_ 100 List.[])))))))))))))))))) (Syntax.ttcons Syntax.tnil (Syntax.ttcons Syntax.tnil (Syntax.ttcons Syntax.tnil (Syntax.ttcons Syntax.tnil (Syntax.ttcons Syntax.tnil Syntax.ttnil)))))) Syntax.tnil) (Syntax.ttcons (Syntax.tcons (Syntax.tyEnum (List._∷_ 116 (List._∷_ 101 (List._∷_ 120 (List._∷_ 116 (List._∷_ 95 (List._∷_ 104 (List._∷_ 101 (List._∷_ 97 (List._∷_ 100 (List._∷_ 105 (List._∷_ 110 (List._∷_ 103 (List._∷_ 58 (List._∷_ 58 (List._∷_ 87 (List._∷_ 111 (List._∷_ 114 (List._∷_ 100 List.[])))))))))))))))))) (Syntax.ttcons Syntax.tnil (Syntax.ttcons Syntax.tnil (Syntax.ttcons Syntax.tnil (Syntax.ttcons Syntax.tnil (Syntax.ttcons Syntax.tnil Syntax.ttnil)))))) (Syntax.tcons (Syntax.tyInt Syntax.w8) Syntax.tnil)) (Syntax.ttcons Syntax.tnil (Syntax.ttcons (Syntax.tcons (Syntax.tyEnum (List._∷_ 116 (List._∷_ 101 (List._∷_ 120 (List._∷_ 116 (List._∷_ 95 (List._∷_ 104 (List._∷_ 101 (List._∷_ 97 (List._∷_ 100 (List._∷_ 105 (List._∷_ 110 (List._∷_ 103 (List._∷_ 58 (List._∷_ 58 (List._∷_ 72 (List._∷_ 101 (List._∷_ 97 (List._∷_ 100 (List._∷_ 105 (List._∷_ 110 (List._∷_ 103 (List._∷_ 70 (List._∷_ 97 (List._∷_ 117 (List._∷_ 108 (List._∷_ 116 List.[])))))))))))))))))))))))))) (Syntax.ttcons Syntax.tnil (Syntax.ttcons Syntax.tnil (Syntax.ttcons Syntax.tnil (Syntax.ttcons Syntax.tnil (Syntax.ttcons (Syntax.tcons (Syntax.tyEnum (List._∷_ 116 (List._∷_ 101 (List._∷_ 120 (List._∷_ 116 (List._∷_ 95 (List._∷_ 104 (List._∷_ 101 (List._∷_ 97 (List._∷_ 100 (List._∷_ 105 (List._∷_ 110 (List._∷_ 103 (List._∷_ 58 (List._∷_ 58 (List._∷_ 87 (List._∷_ 111 (List._∷_ 114 (List._∷_ 100 List.[])))))))))))))))))) (Syntax.ttcons Syntax.tnil (Syntax.ttcons Syntax.tnil (Syntax.ttcons Syntax.tnil (Syntax.ttcons Syntax.tnil (Syntax.ttcons Syntax.tnil Syntax.ttnil)))))) Syntax.tnil) Syntax.ttnil)))))) Syntax.tnil) Syntax.ttnil)))))) Syntax.tnil)))) Syntax.tnil) (Syntax.ttcons Syntax.tnil (Syntax.ttcons (Syntax.tcons (Syntax.tyInt Syntax.w8) Syntax.tnil) (Syntax.ttcons Syntax.tnil (Syntax.ttcons (Syntax.tcons (Syntax.tyEnum (List._∷_ 116 (List._∷_ 101 (List._∷_ 120 (List._∷_ 116 (List._∷_ 95 (List._∷_ 114 (List._∷_ 101 (List._∷_ 97 (List._∷_ 100 (List._∷_ 105 (List._∷_ 110 (List._∷_ 103 (List._∷_ 58 (List._∷_ 58 (List._∷_ 70 (List._∷_ 97 (List._∷_ 117 (List._∷_ 108 (List._∷_ 116 List.[]))))))))))))))))))) (Syntax.ttcons (Syntax.tcons (Syntax.tyEnum (List._∷_ 116 (List._∷_ 101 (List._∷_ 120 (List._∷_ 116 (List._∷_ 95 (List._∷_ 104 (List._∷_ 101 (List._∷_ 97 (List._∷_ 100 (List._∷_ 105 (List._∷_ 110 (List._∷_ 103 (List._∷_ 58 (List._∷_ 58 (List._∷_ 72 (List._∷_ 101 (List._∷_ 97 (List._∷_ 100 (List._∷_ 105 (List._∷_ 110 (List._∷_ 103 (List._∷_ 70 (List._∷_ 97 (List._∷_ 117 (List._∷_ 108 (List._∷_ 116 List.[])))))))))))))))))))))))))) (Syntax.ttcons Syntax.tnil (Syntax.ttcons Syntax.tnil (Syntax.ttcons Syntax.tnil (Syntax.ttcons Syntax.tnil (Syntax.ttcons (Syntax.tcons (Syntax.tyEnum (List._∷_ 116 (List._∷_ 101 (List._∷_ 120 (List._∷_ 116 (List._∷_ 95 (List._∷_ 104 (List._∷_ 101 (List._∷_ 97 (List._∷_ 100 (List._∷_ 105 (List._∷_ 110 (List._∷_ 103 (List._∷_ 58 (List._∷_ 58 (List._∷_ 87 (List._∷_ 111 (List._∷_ 114 (List._∷_ 100 List.[])))))))))))))))))) (Syntax.ttcons Syntax.tnil (Syntax.ttcons Syntax.tnil (Syntax.ttcons Syntax.tnil (Syntax.ttcons Syntax.tnil (Syntax.ttcons Syntax.tnil Syntax.ttnil)))))) Syntax.tnil) Syntax.ttnil)))))) Syntax.tnil) (Syntax.ttcons Syntax.tnil (Syntax.ttcons Syntax.tnil Syntax.ttnil)))) Syntax.tnil) Syntax.ttnil)))))))) (Syntax.tcons (Syntax.tyArray (Syntax.tyInt Syntax.w8) 32) (Syntax.tcons (Syntax.tyInt Syntax.w64) Syntax.tnil))))))) (List._∷_ (9, Rows.any-gone (Syntax.tyInt Syntax.w64)) (List._∷_ (10, Rows.any-gone (Syntax.tyRef Syntax.erased Syntax.mut OfOutput.named)) (List._∷_ (11, Rows.any-gone (Syntax.tyStruct (List._∷_ 38 (List._∷_ 91 (List._∷_ 93 List.[]))) (Syntax.tcons (Syntax.tyRef Syntax.erased Syntax.mut OfOutput.named) (Syntax.tcons (Syntax.tyInt Syntax.w64) Syntax.tnil)))) (List._∷_ (12, Rows.any-gone (Syntax.tyRef Syntax.erased Syntax.mut OfStation.named)) (List._∷_ (13, Rows.any-gone (Syntax.tyStruct (List._∷_ 38 (List._∷_ 91 (List._∷_ 93 List.[]))) (Syntax.tcons (Syntax.tyRef Syntax.erased Syntax.mut OfStation.named) (Syntax.tcons (Syntax.tyInt Syntax.w64) Syntax.tnil)))) (List._∷_ (14, Rows.any-gone (Syntax.tyRef Syntax.erased Syntax.mut OfPanelRecord.named)) (List._∷_ (15, Rows.any-gone (Syntax.tyRef Syntax.erased Syntax.mut (Syntax.tyInt Syntax.w8))) List.[])))))))))))))))
 
 abbrev pub t4 : List.List Row.Entry
-t4 = List._∷_ (0, Rows.any-gone Syntax.tyUnit) (List._∷_ (1, Relend.mslice-owed (OfOutput.row) (Syntax.tyRef (Syntax.named 0) Syntax.mut OfOutput.named) 0 5 Row.off) (List._∷_ (2, Mut.mslice (OfStation.row) (Syntax.tyRef (Syntax.named 1) Syntax.mut OfStation.named) 1) (List._∷_ (3, Rows.mref (OfPanelRecord.row) (Syntax.tyRef (Syntax.named 2) Syntax.mut OfPanelRecord.named) 2) (List._∷_ (4, Mut.mslice (Referent.rtF (Referent.fInt Syntax.w8)) (Syntax.tyRef (Syntax.named 3) Syntax.mut (Syntax.tyInt Syntax.w8)) 3) (List._∷_ (5, Mut.mslice (Referent.rtF (Referent.fInt Syntax.w8)) (Syntax.tyRef (Syntax.named 4) Syntax.mut (Syntax.tyInt Syntax.w8)) 4) (List._∷_ (6, Rows.sc-here Row.sBool) (List._∷_ (7, Rows.any-gone (Laws.mir)) (List._∷_ (8, Rows.any-gone (Syntax.tyStruct (List._∷_ 116 (List._∷_ 101 (List._∷_ 120 (List._∷_ 116 (List._∷_ 95 (List._∷_ 114 (List._∷_ 101 (List._∷_ 97 (List._∷_ 100 (List._∷_ 105 (List._∷_ 110 (List._∷_ 103 (List._∷_ 58 (List._∷_ 58 (List._∷_ 82 (List._∷_ 101 (List._∷_ 97 (List._∷_ 100 (List._∷_ 101 (List._∷_ 114 List.[])))))))))))))))))))) (Syntax.tcons Syntax.tyBool (Syntax.tcons (Syntax.tyInt Syntax.w64) (Syntax.tcons (Syntax.tyEnum (List._∷_ 116 (List._∷_ 101 (List._∷_ 120 (List._∷_ 116 (List._∷_ 95 (List._∷_ 114 (List._∷_ 101 (List._∷_ 97 (List._∷_ 100 (List._∷_ 105 (List._∷_ 110 (List._∷_ 103 (List._∷_ 58 (List._∷_ 58 (List._∷_ 72 (List._∷_ 101 (List._∷_ 108 (List._∷_ 100 List.[])))))))))))))))))) (Syntax.ttcons Syntax.tnil (Syntax.ttcons Syntax.tnil (Syntax.ttcons (Syntax.tcons (Syntax.tyStruct (List._∷_ 116 (List._∷_ 101 (List._∷_ 120 (List._∷_ 116 (List._∷_ 95 (List._∷_ 104 (List._∷_ 101 (List._∷_ 97 (List._∷_ 100 (List._∷_ 105 (List._∷_ 110 (List._∷_ 103 (List._∷_ 58 (List._∷_ 58 (List._∷_ 72 (List._∷_ 101 (List._∷_ 97 (List._∷_ 100 (List._∷_ 105 (List._∷_ 110 (List._∷_ 103 List.[]))))))))))))))))))))) (Syntax.tcons (IsParameters.mir) (Syntax.tcons (Syntax.tyStruct (List._∷_ 116 (List._∷_ 101 (List._∷_ 120 (List._∷_ 116 (List._∷_ 95 (List._∷_ 104 (List._∷_ 101 (List._∷_ 97 (List._∷_ 100 (List._∷_ 105 (List._∷_ 110 (List._∷_ 103 (List._∷_ 58 (List._∷_ 58 (List._∷_ 67 (List._∷_ 97 (List._∷_ 109 (List._∷_ 101 List.[])))))))))))))))))) (Syntax.tcons Syntax.tyBool (Syntax.tcons Syntax.tyBool (Syntax.tcons Syntax.tyBool Syntax.tnil)))) (Syntax.tcons (Syntax.tyEnum (List._∷_ 116 (List._∷_ 101 (List._∷_ 120 (List._∷_ 116 (List._∷_ 95 (List._∷_ 104 (List._∷_ 101 (List._∷_ 97 (List._∷_ 100 (List._∷_ 105 (List._∷_ 110 (List._∷_ 103 (List._∷_ 58 (List._∷_ 58 (List._∷_ 80 (List._∷_ 108 (List._∷_ 97 (List._∷_ 99 (List._∷_ 101 List.[]))))))))))))))))))) (Syntax.ttcons (Syntax.tcons (Syntax.tyEnum (List._∷_ 116 (List._∷_ 101 (List._∷_ 120 (List._∷_ 116 (List._∷_ 95 (List._∷_ 104 (List._∷_ 101 (List._∷_ 97 (List._∷_ 100 (List._∷_ 105 (List._∷_ 110 (List._∷_ 103 (List._∷_ 58 (List._∷_ 58 (List._∷_ 87 (List._∷_ 111 (List._∷_ 114 (List._∷_ 100 List.[])))))))))))))))))) (Syntax.ttcons Syntax.tnil (Syntax.ttcons Syntax.tnil (Syntax.ttcons Syntax.tnil (Syntax.ttcons Syntax.tnil Syntax.ttnil))))) (Syntax.tcons (Syntax.tyInt Syntax.w8) Syntax.tnil)) (Syntax.ttcons (Syntax.tcons (Syntax.tyEnum (List._∷_ 116 (List._∷_ 101 (List._∷_ 120 (List._∷_ 116 (List._∷_ 95 (List._∷_ 104 (List._∷_ 101 (List._∷_ 97 (List._∷_ 100 (List._∷_ 105 (List._∷_ 110 (List._∷_ 103 (List._∷_ 58 (List._∷_ 58 (List._∷_ 87 (List._∷_ 111 (List._∷_ 114 (List._∷_ 100 List.[])))))))))))))))))) (Syntax.ttcons Syntax.tnil (Syntax.ttcons Syntax.tnil (Syntax.ttcons Syntax.tnil (Syntax.ttcons Syntax.tnil Syntax.ttnil))))) Syntax.tnil) (Syntax.ttcons (Syntax.tcons (Syntax.tyEnum (List._∷_ 116 (List._∷_ 101 (List._∷_ 120 (List._∷_ 116 (List._∷_ 95 (List._∷_ 104 (List._∷_ 101 (List._∷_ 97 (List._∷_ 100 (List._∷_ 105 (List._∷_ 110 (List._∷_ 103 (List._∷_ 58 (List._∷_ 58 (List._∷_ 87 (List._∷_ 111 (List._∷_ 114 (List._∷_ 100 List.[])))))))))))))))))) (Syntax.ttcons Syntax.tnil (Syntax.ttcons Syntax.tnil (Syntax.ttcons Syntax.tnil (Syntax.ttcons Syntax.tnil Syntax.ttnil))))) Syntax.tnil) (Syntax.ttcons Syntax.tnil (Syntax.ttcons (Syntax.tcons (Syntax.tyEnum (List._∷_ 116 (List._∷_ 101 (List._∷_ 120 (List._∷_ 116 (List._∷_ 95 (List._∷_ 104 (List._∷_ 101 (List._∷_ 97 (List._∷_ 100 (List._∷_ 105 (List._∷_ 110 (List._∷_ 103 (List._∷_ 58 (List._∷_ 58 (List._∷_ 72 (List._∷_ 101 (List._∷_ 97 (List._∷_ 100 (List._∷_ 105 (List._∷_ 110 (List._∷_ 103 (List._∷_ 70 (List._∷_ 97 (List._∷_ 117 (List._∷_ 108 (List._∷_ 116 List.[])))))))))))))))))))))))))) (Syntax.ttcons Syntax.tnil (Syntax.ttcons Syntax.tnil (Syntax.ttcons Syntax.tnil (Syntax.ttcons (Syntax.tcons (Syntax.tyEnum (List._∷_ 116 (List._∷_ 101 (List._∷_ 120 (List._∷_ 116 (List._∷_ 95 (List._∷_ 104 (List._∷_ 101 (List._∷_ 97 (List._∷_ 100 (List._∷_ 105 (List._∷_ 110 (List._∷_ 103 (List._∷_ 58 (List._∷_ 58 (List._∷_ 87 (List._∷_ 111 (List._∷_ 114 (List._∷_ 100 List.[])))))))))))))))))) (Syntax.ttcons Syntax.tnil (Syntax.ttcons Syntax.tnil (Syntax.ttcons Syntax.tnil (Syntax.ttcons Syntax.tnil Syntax.ttnil))))) Syntax.tnil) Syntax.ttnil))))) Syntax.tnil) Syntax.ttnil)))))) Syntax.tnil)))) Syntax.tnil) (Syntax.ttcons Syntax.tnil (Syntax.ttcons (Syntax.tcons (Syntax.tyInt Syntax.w8) Syntax.tnil) (Syntax.ttcons Syntax.tnil (Syntax.ttcons (Syntax.tcons (Syntax.tyEnum (List._∷_ 116 (List._∷_ 101 (List._∷_ 120 (List._∷_ 116 (List._∷_ 95 (List._∷_ 114 (List._∷_ 101 (List._∷_ 97 (List._∷_ 100 (List._∷_ 105 (List._∷_ 110 (List._∷_ 103 (List._∷_ 58 (List._∷_ 58 (List._∷_ 70 (List._∷_ 97 (List._∷_ 117 (List._∷_ 108 (List._∷_ 116 List.[]))))))))))))))))))) (Syntax.ttcons (Syntax.tcons (Syntax.tyEnum (List._∷_ 116 (List._∷_ 101 (List._∷_ 120 (List._∷_ 116 (List._∷_ 95 (List._∷_ 104 (List._∷_ 101 (List._∷_ 97 (List._∷_ 100 (List._∷_ 105 (List._∷_ 110 (List._∷_ 103 (List._∷_ 58 (List._∷_ 58 (List._∷_ 72 (List._∷_ 101 (List._∷_ 97 (List._∷_ 100 (List._∷_ 105 (List._∷_ 110 (List._∷_ 103 (List._∷_ 70 (List._∷_ 97 (List._∷_ 117 (List._∷_ 108 (List._∷_ 116 List.[])))))))))))))))))))))))))) (Syntax.ttcons Syntax.tnil (Syntax.ttcons Syntax.tnil (Syntax.ttcons Syntax.tnil (Syntax.ttcons (Syntax.tcons (Syntax.tyEnum (List._∷_ 116 (List._∷_ 101 (List._∷_ 120 (List._∷_ 116 (List._∷_ 95 (List._∷_ 104 (List._∷_ 101 (List._∷_ 97 (List._∷_ 100 (List._∷_ 105 (List._∷_ 110 (List._∷_ 103 (List._∷_ 58 (List._∷_ 58 (List._∷_ 87 (List._∷_ 111 (List._∷_ 114 (List._∷_ 100 List.[])))))))))))))))))) (Syntax.ttcons Syntax.tnil (Syntax.ttcons Syntax.tnil (Syntax.ttcons Syntax.tnil (Syntax.ttcons Syntax.tnil Syntax.ttnil))))) Syntax.tnil) Syntax.ttnil))))) Syntax.tnil) (Syntax.ttcons Syntax.tnil (Syntax.ttcons Syntax.tnil Syntax.ttnil)))) Syntax.tnil) Syntax.ttnil)))))))) (Syntax.tcons (Syntax.tyArray (Syntax.tyInt Syntax.w8) 32) (Syntax.tcons (Syntax.tyInt Syntax.w64) Syntax.tnil))))))) (List._∷_ (9, Rows.any-gone (Syntax.tyInt Syntax.w64)) (List._∷_ (10, Relend.msptr (OfOutput.row) (Syntax.tyRef Syntax.erased Syntax.mut OfOutput.named) 5) (List._∷_ (11, Rows.any-gone (Syntax.tyStruct (List._∷_ 38 (List._∷_ 91 (List._∷_ 93 List.[]))) (Syntax.tcons (Syntax.tyRef Syntax.erased Syntax.mut OfOutput.named) (Syntax.tcons (Syntax.tyInt Syntax.w64) Syntax.tnil)))) (List._∷_ (12, Rows.any-gone (Syntax.tyRef Syntax.erased Syntax.mut OfStation.named)) (List._∷_ (13, Rows.any-gone (Syntax.tyStruct (List._∷_ 38 (List._∷_ 91 (List._∷_ 93 List.[]))) (Syntax.tcons (Syntax.tyRef Syntax.erased Syntax.mut OfStation.named) (Syntax.tcons (Syntax.tyInt Syntax.w64) Syntax.tnil)))) (List._∷_ (14, Rows.any-gone (Syntax.tyRef Syntax.erased Syntax.mut OfPanelRecord.named)) (List._∷_ (15, Rows.any-gone (Syntax.tyRef Syntax.erased Syntax.mut (Syntax.tyInt Syntax.w8))) List.[])))))))))))))))
+t4 = List._∷_ (0, Rows.any-gone Syntax.tyUnit) (List._∷_ (1, Relend.mslice-owed (OfOutput.row) (Syntax.tyRef (Syntax.named 0) Syntax.mut OfOutput.named) 0 5 Row.off) (List._∷_ (2, Mut.mslice (OfStation.row) (Syntax.tyRef (Syntax.named 1) Syntax.mut OfStation.named) 1) (List._∷_ (3, Rows.mref (OfPanelRecord.row) (Syntax.tyRef (Syntax.named 2) Syntax.mut OfPanelRecord.named) 2) (List._∷_ (4, Mut.mslice (Referent.rtF (Referent.fInt Syntax.w8)) (Syntax.tyRef (Syntax.named 3) Syntax.mut (Syntax.tyInt Syntax.w8)) 3) (List._∷_ (5, Mut.mslice (Referent.rtF (Referent.fInt Syntax.w8)) (Syntax.tyRef (Syntax.named 4) Syntax.mut (Syntax.tyInt Syntax.w8)) 4) (List._∷_ (6, Rows.sc-here Row.sBool) (List._∷_ (7, Rows.any-gone (Laws.mir)) (List._∷_ (8, Rows.any-gone (Syntax.tyStruct (List._∷_ 116 (List._∷_ 101 (List._∷_ 120 (List._∷_ 116 (List._∷_ 95 (List._∷_ 114 (List._∷_ 101 (List._∷_ 97 (List._∷_ 100 (List._∷_ 105 (List._∷_ 110 (List._∷_ 103 (List._∷_ 58 (List._∷_ 58 (List._∷_ 82 (List._∷_ 101 (List._∷_ 97 (List._∷_ 100 (List._∷_ 101 (List._∷_ 114 List.[])))))))))))))))))))) (Syntax.tcons Syntax.tyBool (Syntax.tcons (Syntax.tyInt Syntax.w64) (Syntax.tcons (Syntax.tyEnum (List._∷_ 116 (List._∷_ 101 (List._∷_ 120 (List._∷_ 116 (List._∷_ 95 (List._∷_ 114 (List._∷_ 101 (List._∷_ 97 (List._∷_ 100 (List._∷_ 105 (List._∷_ 110 (List._∷_ 103 (List._∷_ 58 (List._∷_ 58 (List._∷_ 72 (List._∷_ 101 (List._∷_ 108 (List._∷_ 100 List.[])))))))))))))))))) (Syntax.ttcons Syntax.tnil (Syntax.ttcons Syntax.tnil (Syntax.ttcons (Syntax.tcons (Syntax.tyStruct (List._∷_ 116 (List._∷_ 101 (List._∷_ 120 (List._∷_ 116 (List._∷_ 95 (List._∷_ 104 (List._∷_ 101 (List._∷_ 97 (List._∷_ 100 (List._∷_ 105 (List._∷_ 110 (List._∷_ 103 (List._∷_ 58 (List._∷_ 58 (List._∷_ 72 (List._∷_ 101 (List._∷_ 97 (List._∷_ 100 (List._∷_ 105 (List._∷_ 110 (List._∷_ 103 List.[]))))))))))))))))))))) (Syntax.tcons (Syntax.tyStruct (List._∷_ 116 (List._∷_ 101 (List._∷_ 120 (List._∷_ 116 (List._∷_ 95 (List._∷_ 104 (List._∷_ 101 (List._∷_ 97 (List._∷_ 100 (List._∷_ 105 (List._∷_ 110 (List._∷_ 103 (List._∷_ 58 (List._∷_ 58 (List._∷_ 78 (List._∷_ 97 (List._∷_ 109 (List._∷_ 101 (List._∷_ 100 List.[]))))))))))))))))))) (Syntax.tcons (IsParameters.mir) (Syntax.tcons (Syntax.tyInt Syntax.w32) Syntax.tnil))) (Syntax.tcons (Syntax.tyStruct (List._∷_ 116 (List._∷_ 101 (List._∷_ 120 (List._∷_ 116 (List._∷_ 95 (List._∷_ 104 (List._∷_ 101 (List._∷_ 97 (List._∷_ 100 (List._∷_ 105 (List._∷_ 110 (List._∷_ 103 (List._∷_ 58 (List._∷_ 58 (List._∷_ 67 (List._∷_ 97 (List._∷_ 109 (List._∷_ 101 List.[])))))))))))))))))) (Syntax.tcons Syntax.tyBool (Syntax.tcons Syntax.tyBool (Syntax.tcons Syntax.tyBool (Syntax.tcons Syntax.tyBool Syntax.tnil))))) (Syntax.tcons (Syntax.tyEnum (List._∷_ 116 (List._∷_ 101 (List._∷_ 120 (List._∷_ 116 (List._∷_ 95 (List._∷_ 104 (List._∷_ 101 (List._∷_ 97 (List._∷_ 100 (List._∷_ 105 (List._∷_ 110 (List._∷_ 103 (List._∷_ 58 (List._∷_ 58 (List._∷_ 80 (List._∷_ 108 (List._∷_ 97 (List._∷_ 99 (List._∷_ 101 List.[]))))))))))))))))))) (Syntax.ttcons (Syntax.tcons (Syntax.tyEnum (List._∷_ 116 (List._∷_ 101 (List._∷_ 120 (List._∷_ 116 (List._∷_ 95 (List._∷_ 104 (List._∷_ 101 (List._∷_ 97 (List._∷_ 100 (List._∷_ 105 (List._∷_ 110 (List._∷_ 103 (List._∷_ 58 (List._∷_ 58 (List._∷_ 87 (List._∷_ 111 (List._∷_ 114 (List._∷_ 100 List.[])))))))))))))))))) (Syntax.ttcons Syntax.tnil (Syntax.ttcons Syntax.tnil (Syntax.ttcons Syntax.tnil (Syntax.ttcons Syntax.tnil (Syntax.ttcons Syntax.tnil Syntax.ttnil)))))) (Syntax.tcons (Syntax.tyInt Syntax.w8) Syntax.tnil)) (Syntax.ttcons (Syntax.tcons (Syntax.tyEnum (List._∷_ 116 (List._∷_ 101 (List._∷_ 120 (List._∷_ 116 (List._∷_ 95 (List._∷_ 104 (List._∷_ 101 (List._∷_ 97 (List._∷_ 100 (List._∷_ 105 (List._∷_ 110 (List._∷_ 103 (List._∷_ 58 (List._∷_ 58 (List._∷_ 87 (List._∷_ 111 (List._∷_ 114 (List._∷_ 100 List.[])))))))))))))))))) (Syntax.ttcons Syntax.tnil (Syntax.ttcons Syntax.tnil (Syntax.ttcons Syntax.tnil (Syntax.ttcons Syntax.tnil (Syntax.ttcons Syntax.tnil Syntax.ttnil)))))) Syntax.tnil) (Syntax.ttcons (Syntax.tcons (Syntax.tyEnum (List._∷_ 116 (List._∷_ 101 (List._∷_ 120 (List._∷_ 116 (List._∷_ 95 (List._∷_ 104 (List._∷_ 101 (List._∷_ 97 (List._∷_ 100 (List._∷_ 105 (List._∷_ 110 (List._∷_ 103 (List._∷_ 58 (List._∷_ 58 (List._∷_ 87 (List._∷_ 111 (List._∷_ 114 (List._∷_ 100 List.[])))))))))))))))))) (Syntax.ttcons Syntax.tnil (Syntax.ttcons Syntax.tnil (Syntax.ttcons Syntax.tnil (Syntax.ttcons Syntax.tnil (Syntax.ttcons Syntax.tnil Syntax.ttnil)))))) (Syntax.tcons (Syntax.tyInt Syntax.w8) Syntax.tnil)) (Syntax.ttcons Syntax.tnil (Syntax.ttcons (Syntax.tcons (Syntax.tyEnum (List._∷_ 116 (List._∷_ 101 (List._∷_ 120 (List._∷_ 116 (List._∷_ 95 (List._∷_ 104 (List._∷_ 101 (List._∷_ 97 (List._∷_ 100 (List._∷_ 105 (List._∷_ 110 (List._∷_ 103 (List._∷_ 58 (List._∷_ 58 (List._∷_ 72 (List._∷_ 101 (List._∷_ 97 (List._∷_ 100 (List._∷_ 105 (List._∷_ 110 (List._∷_ 103 (List._∷_ 70 (List._∷_ 97 (List._∷_ 117 (List._∷_ 108 (List._∷_ 116 List.[])))))))))))))))))))))))))) (Syntax.ttcons Syntax.tnil (Syntax.ttcons Syntax.tnil (Syntax.ttcons Syntax.tnil (Syntax.ttcons Syntax.tnil (Syntax.ttcons (Syntax.tcons (Syntax.tyEnum (List._∷_ 116 (List._∷_ 101 (List._∷_ 120 (List._∷_ 116 (List._∷_ 95 (List._∷_ 104 (List._∷_ 101 (List._∷_ 97 (List._∷_ 100 (List._∷_ 105 (List._∷_ 110 (List._∷_ 103 (List._∷_ 58 (List._∷_ 58 (List._∷_ 87 (List._∷_ 111 (List._∷_ 114 (List._∷_ 100 List.[])))))))))))))))))) (Syntax.ttcons Syntax.tnil (Syntax.ttcons Syntax.tnil (Syntax.ttcons Syntax.tnil (Syntax.ttcons Syntax.tnil (Syntax.ttcons Syntax.tnil Syntax.ttnil)))))) Syntax.tnil) Syntax.ttnil)))))) Syntax.tnil) Syntax.ttnil)))))) Syntax.tnil)))) Syntax.tnil) (Syntax.ttcons Syntax.tnil (Syntax.ttcons (Syntax.tcons (Syntax.tyInt Syntax.w8) Syntax.tnil) (Syntax.ttcons Syntax.tnil (Syntax.ttcons (Syntax.tcons (Syntax.tyEnum (List._∷_ 116 (List._∷_ 101 (List._∷_ 120 (List._∷_ 116 (List._∷_ 95 (List._∷_ 114 (List._∷_ 101 (List._∷_ 97 (List._∷_ 100 (List._∷_ 105 (List._∷_ 110 (List._∷_ 103 (List._∷_ 58 (List._∷_ 58 (List._∷_ 70 (List._∷_ 97 (List._∷_ 117 (List._∷_ 108 (List._∷_ 116 List.[]))))))))))))))))))) (Syntax.ttcons (Syntax.tcons (Syntax.tyEnum (List._∷_ 116 (List._∷_ 101 (List._∷_ 120 (List._∷_ 116 (List._∷_ 95 (List._∷_ 104 (List._∷_ 101 (List._∷_ 97 (List._∷_ 100 (List._∷_ 105 (List._∷_ 110 (List._∷_ 103 (List._∷_ 58 (List._∷_ 58 (List._∷_ 72 (List._∷_ 101 (List._∷_ 97 (List._∷_ 100 (List._∷_ 105 (List._∷_ 110 (List._∷_ 103 (List._∷_ 70 (List._∷_ 97 (List._∷_ 117 (List._∷_ 108 (List._∷_ 116 List.[])))))))))))))))))))))))))) (Syntax.ttcons Syntax.tnil (Syntax.ttcons Syntax.tnil (Syntax.ttcons Syntax.tnil (Syntax.ttcons Syntax.tnil (Syntax.ttcons (Syntax.tcons (Syntax.tyEnum (List._∷_ 116 (List._∷_ 101 (List._∷_ 120 (List._∷_ 116 (List._∷_ 95 (List._∷_ 104 (List._∷_ 101 (List._∷_ 97 (List._∷_ 100 (List._∷_ 105 (List._∷_ 110 (List._∷_ 103 (List._∷_ 58 (List._∷_ 58 (List._∷_ 87 (List._∷_ 111 (List._∷_ 114 (List._∷_ 100 List.[])))))))))))))))))) (Syntax.ttcons Syntax.tnil (Syntax.ttcons Syntax.tnil (Syntax.ttcons Syntax.tnil (Syntax.ttcons Syntax.tnil (Syntax.ttcons Syntax.tnil Syntax.ttnil)))))) Syntax.tnil) Syntax.ttnil)))))) Syntax.tnil) (Syntax.ttcons Syntax.tnil (Syntax.ttcons Syntax.tnil Syntax.ttnil)))) Syntax.tnil) Syntax.ttnil)))))))) (Syntax.tcons (Syntax.tyArray (Syntax.tyInt Syntax.w8) 32) (Syntax.tcons (Syntax.tyInt Syntax.w64) Syntax.tnil))))))) (List._∷_ (9, Rows.any-gone (Syntax.tyInt Syntax.w64)) (List._∷_ (10, Relend.msptr (OfOutput.row) (Syntax.tyRef Syntax.erased Syntax.mut OfOutput.named) 5) (List._∷_ (11, Rows.any-gone (Syntax.tyStruct (List._∷_ 38 (List._∷_ 91 (List._∷_ 93 List.[]))) (Syntax.tcons (Syntax.tyRef Syntax.erased Syntax.mut OfOutput.named) (Syntax.tcons (Syntax.tyInt Syntax.w64) Syntax.tnil)))) (List._∷_ (12, Rows.any-gone (Syntax.tyRef Syntax.erased Syntax.mut OfStation.named)) (List._∷_ (13, Rows.any-gone (Syntax.tyStruct (List._∷_ 38 (List._∷_ 91 (List._∷_ 93 List.[]))) (Syntax.tcons (Syntax.tyRef Syntax.erased Syntax.mut OfStation.named) (Syntax.tcons (Syntax.tyInt Syntax.w64) Syntax.tnil)))) (List._∷_ (14, Rows.any-gone (Syntax.tyRef Syntax.erased Syntax.mut OfPanelRecord.named)) (List._∷_ (15, Rows.any-gone (Syntax.tyRef Syntax.erased Syntax.mut (Syntax.tyInt Syntax.w8))) List.[])))))))))))))))
 
 abbrev pub t5 : List.List Row.Entry
-t5 = List._∷_ (0, Rows.any-gone Syntax.tyUnit) (List._∷_ (1, Relend.mslice-owed (OfOutput.row) (Syntax.tyRef (Syntax.named 0) Syntax.mut OfOutput.named) 0 5 Row.off) (List._∷_ (2, Mut.mslice (OfStation.row) (Syntax.tyRef (Syntax.named 1) Syntax.mut OfStation.named) 1) (List._∷_ (3, Rows.mref (OfPanelRecord.row) (Syntax.tyRef (Syntax.named 2) Syntax.mut OfPanelRecord.named) 2) (List._∷_ (4, Mut.mslice (Referent.rtF (Referent.fInt Syntax.w8)) (Syntax.tyRef (Syntax.named 3) Syntax.mut (Syntax.tyInt Syntax.w8)) 3) (List._∷_ (5, Mut.mslice (Referent.rtF (Referent.fInt Syntax.w8)) (Syntax.tyRef (Syntax.named 4) Syntax.mut (Syntax.tyInt Syntax.w8)) 4) (List._∷_ (6, Rows.sc-here Row.sBool) (List._∷_ (7, Rows.any-gone (Laws.mir)) (List._∷_ (8, Rows.any-gone (Syntax.tyStruct (List._∷_ 116 (List._∷_ 101 (List._∷_ 120 (List._∷_ 116 (List._∷_ 95 (List._∷_ 114 (List._∷_ 101 (List._∷_ 97 (List._∷_ 100 (List._∷_ 105 (List._∷_ 110 (List._∷_ 103 (List._∷_ 58 (List._∷_ 58 (List._∷_ 82 (List._∷_ 101 (List._∷_ 97 (List._∷_ 100 (List._∷_ 101 (List._∷_ 114 List.[])))))))))))))))))))) (Syntax.tcons Syntax.tyBool (Syntax.tcons (Syntax.tyInt Syntax.w64) (Syntax.tcons (Syntax.tyEnum (List._∷_ 116 (List._∷_ 101 (List._∷_ 120 (List._∷_ 116 (List._∷_ 95 (List._∷_ 114 (List._∷_ 101 (List._∷_ 97 (List._∷_ 100 (List._∷_ 105 (List._∷_ 110 (List._∷_ 103 (List._∷_ 58 (List._∷_ 58 (List._∷_ 72 (List._∷_ 101 (List._∷_ 108 (List._∷_ 100 List.[])))))))))))))))))) (Syntax.ttcons Syntax.tnil (Syntax.ttcons Syntax.tnil (Syntax.ttcons (Syntax.tcons (Syntax.tyStruct (List._∷_ 116 (List._∷_ 101 (List._∷_ 120 (List._∷_ 116 (List._∷_ 95 (List._∷_ 104 (List._∷_ 101 (List._∷_ 97 (List._∷_ 100 (List._∷_ 105 (List._∷_ 110 (List._∷_ 103 (List._∷_ 58 (List._∷_ 58 (List._∷_ 72 (List._∷_ 101 (List._∷_ 97 (List._∷_ 100 (List._∷_ 105 (List._∷_ 110 (List._∷_ 103 List.[]))))))))))))))))))))) (Syntax.tcons (IsParameters.mir) (Syntax.tcons (Syntax.tyStruct (List._∷_ 116 (List._∷_ 101 (List._∷_ 120 (List._∷_ 116 (List._∷_ 95 (List._∷_ 104 (List._∷_ 101 (List._∷_ 97 (List._∷_ 100 (List._∷_ 105 (List._∷_ 110 (List._∷_ 103 (List._∷_ 58 (List._∷_ 58 (List._∷_ 67 (List._∷_ 97 (List._∷_ 109 (List._∷_ 101 List.[])))))))))))))))))) (Syntax.tcons Syntax.tyBool (Syntax.tcons Syntax.tyBool (Syntax.tcons Syntax.tyBool Syntax.tnil)))) (Syntax.tcons (Syntax.tyEnum (List._∷_ 116 (List._∷_ 101 (List._∷_ 120 (List._∷_ 116 (List._∷_ 95 (List._∷_ 104 (List._∷_ 101 (List._∷_ 97 (List._∷_ 100 (List._∷_ 105 (List._∷_ 110 (List._∷_ 103 (List._∷_ 58 (List._∷_ 58 (List._∷_ 80 (List._∷_ 108 (List._∷_ 97 (List._∷_ 99 (List._∷_ 101 List.[]))))))))))))))))))) (Syntax.ttcons (Syntax.tcons (Syntax.tyEnum (List._∷_ 116 (List._∷_ 101 (List._∷_ 120 (List._∷_ 116 (List._∷_ 95 (List._∷_ 104 (List._∷_ 101 (List._∷_ 97 (List._∷_ 100 (List._∷_ 105 (List._∷_ 110 (List._∷_ 103 (List._∷_ 58 (List._∷_ 58 (List._∷_ 87 (List._∷_ 111 (List._∷_ 114 (List._∷_ 100 List.[])))))))))))))))))) (Syntax.ttcons Syntax.tnil (Syntax.ttcons Syntax.tnil (Syntax.ttcons Syntax.tnil (Syntax.ttcons Syntax.tnil Syntax.ttnil))))) (Syntax.tcons (Syntax.tyInt Syntax.w8) Syntax.tnil)) (Syntax.ttcons (Syntax.tcons (Syntax.tyEnum (List._∷_ 116 (List._∷_ 101 (List._∷_ 120 (List._∷_ 116 (List._∷_ 95 (List._∷_ 104 (List._∷_ 101 (List._∷_ 97 (List._∷_ 100 (List._∷_ 105 (List._∷_ 110 (List._∷_ 103 (List._∷_ 58 (List._∷_ 58 (List._∷_ 87 (List._∷_ 111 (List._∷_ 114 (List._∷_ 100 List.[])))))))))))))))))) (Syntax.ttcons Syntax.tnil (Syntax.ttcons Syntax.tnil (Syntax.ttcons Syntax.tnil (Syntax.ttcons Syntax.tnil Syntax.ttnil))))) Syntax.tnil) (Syntax.ttcons (Syntax.tcons (Syntax.tyEnum (List._∷_ 116 (List._∷_ 101 (List._∷_ 120 (List._∷_ 116 (List._∷_ 95 (List._∷_ 104 (List._∷_ 101 (List._∷_ 97 (List._∷_ 100 (List._∷_ 105 (List._∷_ 110 (List._∷_ 103 (List._∷_ 58 (List._∷_ 58 (List._∷_ 87 (List._∷_ 111 (List._∷_ 114 (List._∷_ 100 List.[])))))))))))))))))) (Syntax.ttcons Syntax.tnil (Syntax.ttcons Syntax.tnil (Syntax.ttcons Syntax.tnil (Syntax.ttcons Syntax.tnil Syntax.ttnil))))) Syntax.tnil) (Syntax.ttcons Syntax.tnil (Syntax.ttcons (Syntax.tcons (Syntax.tyEnum (List._∷_ 116 (List._∷_ 101 (List._∷_ 120 (List._∷_ 116 (List._∷_ 95 (List._∷_ 104 (List._∷_ 101 (List._∷_ 97 (List._∷_ 100 (List._∷_ 105 (List._∷_ 110 (List._∷_ 103 (List._∷_ 58 (List._∷_ 58 (List._∷_ 72 (List._∷_ 101 (List._∷_ 97 (List._∷_ 100 (List._∷_ 105 (List._∷_ 110 (List._∷_ 103 (List._∷_ 70 (List._∷_ 97 (List._∷_ 117 (List._∷_ 108 (List._∷_ 116 List.[])))))))))))))))))))))))))) (Syntax.ttcons Syntax.tnil (Syntax.ttcons Syntax.tnil (Syntax.ttcons Syntax.tnil (Syntax.ttcons (Syntax.tcons (Syntax.tyEnum (List._∷_ 116 (List._∷_ 101 (List._∷_ 120 (List._∷_ 116 (List._∷_ 95 (List._∷_ 104 (List._∷_ 101 (List._∷_ 97 (List._∷_ 100 (List._∷_ 105 (List._∷_ 110 (List._∷_ 103 (List._∷_ 58 (List._∷_ 58 (List._∷_ 87 (List._∷_ 111 (List._∷_ 114 (List._∷_ 100 List.[])))))))))))))))))) (Syntax.ttcons Syntax.tnil (Syntax.ttcons Syntax.tnil (Syntax.ttcons Syntax.tnil (Syntax.ttcons Syntax.tnil Syntax.ttnil))))) Syntax.tnil) Syntax.ttnil))))) Syntax.tnil) Syntax.ttnil)))))) Syntax.tnil)))) Syntax.tnil) (Syntax.ttcons Syntax.tnil (Syntax.ttcons (Syntax.tcons (Syntax.tyInt Syntax.w8) Syntax.tnil) (Syntax.ttcons Syntax.tnil (Syntax.ttcons (Syntax.tcons (Syntax.tyEnum (List._∷_ 116 (List._∷_ 101 (List._∷_ 120 (List._∷_ 116 (List._∷_ 95 (List._∷_ 114 (List._∷_ 101 (List._∷_ 97 (List._∷_ 100 (List._∷_ 105 (List._∷_ 110 (List._∷_ 103 (List._∷_ 58 (List._∷_ 58 (List._∷_ 70 (List._∷_ 97 (List._∷_ 117 (List._∷_ 108 (List._∷_ 116 List.[]))))))))))))))))))) (Syntax.ttcons (Syntax.tcons (Syntax.tyEnum (List._∷_ 116 (List._∷_ 101 (List._∷_ 120 (List._∷_ 116 (List._∷_ 95 (List._∷_ 104 (List._∷_ 101 (List._∷_ 97 (List._∷_ 100 (List._∷_ 105 (List._∷_ 110 (List._∷_ 103 (List._∷_ 58 (List._∷_ 58 (List._∷_ 72 (List._∷_ 101 (List._∷_ 97 (List._∷_ 100 (List._∷_ 105 (List._∷_ 110 (List._∷_ 103 (List._∷_ 70 (List._∷_ 97 (List._∷_ 117 (List._∷_ 108 (List._∷_ 116 List.[])))))))))))))))))))))))))) (Syntax.ttcons Syntax.tnil (Syntax.ttcons Syntax.tnil (Syntax.ttcons Syntax.tnil (Syntax.ttcons (Syntax.tcons (Syntax.tyEnum (List._∷_ 116 (List._∷_ 101 (List._∷_ 120 (List._∷_ 116 (List._∷_ 95 (List._∷_ 104 (List._∷_ 101 (List._∷_ 97 (List._∷_ 100 (List._∷_ 105 (List._∷_ 110 (List._∷_ 103 (List._∷_ 58 (List._∷_ 58 (List._∷_ 87 (List._∷_ 111 (List._∷_ 114 (List._∷_ 100 List.[])))))))))))))))))) (Syntax.ttcons Syntax.tnil (Syntax.ttcons Syntax.tnil (Syntax.ttcons Syntax.tnil (Syntax.ttcons Syntax.tnil Syntax.ttnil))))) Syntax.tnil) Syntax.ttnil))))) Syntax.tnil) (Syntax.ttcons Syntax.tnil (Syntax.ttcons Syntax.tnil Syntax.ttnil)))) Syntax.tnil) Syntax.ttnil)))))))) (Syntax.tcons (Syntax.tyArray (Syntax.tyInt Syntax.w8) 32) (Syntax.tcons (Syntax.tyInt Syntax.w64) Syntax.tnil))))))) (List._∷_ (9, Rows.any-gone (Syntax.tyInt Syntax.w64)) (List._∷_ (10, Rows.any-gone (Syntax.tyRef Syntax.erased Syntax.mut OfOutput.named)) (List._∷_ (11, Mut.mslice (OfOutput.row) (Syntax.tyRef Syntax.erased Syntax.mut OfOutput.named) 5) (List._∷_ (12, Rows.any-gone (Syntax.tyRef Syntax.erased Syntax.mut OfStation.named)) (List._∷_ (13, Rows.any-gone (Syntax.tyStruct (List._∷_ 38 (List._∷_ 91 (List._∷_ 93 List.[]))) (Syntax.tcons (Syntax.tyRef Syntax.erased Syntax.mut OfStation.named) (Syntax.tcons (Syntax.tyInt Syntax.w64) Syntax.tnil)))) (List._∷_ (14, Rows.any-gone (Syntax.tyRef Syntax.erased Syntax.mut OfPanelRecord.named)) (List._∷_ (15, Rows.any-gone (Syntax.tyRef Syntax.erased Syntax.mut (Syntax.tyInt Syntax.w8))) List.[])))))))))))))))
+t5 = List._∷_ (0, Rows.any-gone Syntax.tyUnit) (List._∷_ (1, Relend.mslice-owed (OfOutput.row) (Syntax.tyRef (Syntax.named 0) Syntax.mut OfOutput.named) 0 5 Row.off) (List._∷_ (2, Mut.mslice (OfStation.row) (Syntax.tyRef (Syntax.named 1) Syntax.mut OfStation.named) 1) (List._∷_ (3, Rows.mref (OfPanelRecord.row) (Syntax.tyRef (Syntax.named 2) Syntax.mut OfPanelRecord.named) 2) (List._∷_ (4, Mut.mslice (Referent.rtF (Referent.fInt Syntax.w8)) (Syntax.tyRef (Syntax.named 3) Syntax.mut (Syntax.tyInt Syntax.w8)) 3) (List._∷_ (5, Mut.mslice (Referent.rtF (Referent.fInt Syntax.w8)) (Syntax.tyRef (Syntax.named 4) Syntax.mut (Syntax.tyInt Syntax.w8)) 4) (List._∷_ (6, Rows.sc-here Row.sBool) (List._∷_ (7, Rows.any-gone (Laws.mir)) (List._∷_ (8, Rows.any-gone (Syntax.tyStruct (List._∷_ 116 (List._∷_ 101 (List._∷_ 120 (List._∷_ 116 (List._∷_ 95 (List._∷_ 114 (List._∷_ 101 (List._∷_ 97 (List._∷_ 100 (List._∷_ 105 (List._∷_ 110 (List._∷_ 103 (List._∷_ 58 (List._∷_ 58 (List._∷_ 82 (List._∷_ 101 (List._∷_ 97 (List._∷_ 100 (List._∷_ 101 (List._∷_ 114 List.[])))))))))))))))))))) (Syntax.tcons Syntax.tyBool (Syntax.tcons (Syntax.tyInt Syntax.w64) (Syntax.tcons (Syntax.tyEnum (List._∷_ 116 (List._∷_ 101 (List._∷_ 120 (List._∷_ 116 (List._∷_ 95 (List._∷_ 114 (List._∷_ 101 (List._∷_ 97 (List._∷_ 100 (List._∷_ 105 (List._∷_ 110 (List._∷_ 103 (List._∷_ 58 (List._∷_ 58 (List._∷_ 72 (List._∷_ 101 (List._∷_ 108 (List._∷_ 100 List.[])))))))))))))))))) (Syntax.ttcons Syntax.tnil (Syntax.ttcons Syntax.tnil (Syntax.ttcons (Syntax.tcons (Syntax.tyStruct (List._∷_ 116 (List._∷_ 101 (List._∷_ 120 (List._∷_ 116 (List._∷_ 95 (List._∷_ 104 (List._∷_ 101 (List._∷_ 97 (List._∷_ 100 (List._∷_ 105 (List._∷_ 110 (List._∷_ 103 (List._∷_ 58 (List._∷_ 58 (List._∷_ 72 (List._∷_ 101 (List._∷_ 97 (List._∷_ 100 (List._∷_ 105 (List._∷_ 110 (List._∷_ 103 List.[]))))))))))))))))))))) (Syntax.tcons (Syntax.tyStruct (List._∷_ 116 (List._∷_ 101 (List._∷_ 120 (List._∷_ 116 (List._∷_ 95 (List._∷_ 104 (List._∷_ 101 (List._∷_ 97 (List._∷_ 100 (List._∷_ 105 (List._∷_ 110 (List._∷_ 103 (List._∷_ 58 (List._∷_ 58 (List._∷_ 78 (List._∷_ 97 (List._∷_ 109 (List._∷_ 101 (List._∷_ 100 List.[]))))))))))))))))))) (Syntax.tcons (IsParameters.mir) (Syntax.tcons (Syntax.tyInt Syntax.w32) Syntax.tnil))) (Syntax.tcons (Syntax.tyStruct (List._∷_ 116 (List._∷_ 101 (List._∷_ 120 (List._∷_ 116 (List._∷_ 95 (List._∷_ 104 (List._∷_ 101 (List._∷_ 97 (List._∷_ 100 (List._∷_ 105 (List._∷_ 110 (List._∷_ 103 (List._∷_ 58 (List._∷_ 58 (List._∷_ 67 (List._∷_ 97 (List._∷_ 109 (List._∷_ 101 List.[])))))))))))))))))) (Syntax.tcons Syntax.tyBool (Syntax.tcons Syntax.tyBool (Syntax.tcons Syntax.tyBool (Syntax.tcons Syntax.tyBool Syntax.tnil))))) (Syntax.tcons (Syntax.tyEnum (List._∷_ 116 (List._∷_ 101 (List._∷_ 120 (List._∷_ 116 (List._∷_ 95 (List._∷_ 104 (List._∷_ 101 (List._∷_ 97 (List._∷_ 100 (List._∷_ 105 (List._∷_ 110 (List._∷_ 103 (List._∷_ 58 (List._∷_ 58 (List._∷_ 80 (List._∷_ 108 (List._∷_ 97 (List._∷_ 99 (List._∷_ 101 List.[]))))))))))))))))))) (Syntax.ttcons (Syntax.tcons (Syntax.tyEnum (List._∷_ 116 (List._∷_ 101 (List._∷_ 120 (List._∷_ 116 (List._∷_ 95 (List._∷_ 104 (List._∷_ 101 (List._∷_ 97 (List._∷_ 100 (List._∷_ 105 (List._∷_ 110 (List._∷_ 103 (List._∷_ 58 (List._∷_ 58 (List._∷_ 87 (List._∷_ 111 (List._∷_ 114 (List._∷_ 100 List.[])))))))))))))))))) (Syntax.ttcons Syntax.tnil (Syntax.ttcons Syntax.tnil (Syntax.ttcons Syntax.tnil (Syntax.ttcons Syntax.tnil (Syntax.ttcons Syntax.tnil Syntax.ttnil)))))) (Syntax.tcons (Syntax.tyInt Syntax.w8) Syntax.tnil)) (Syntax.ttcons (Syntax.tcons (Syntax.tyEnum (List._∷_ 116 (List._∷_ 101 (List._∷_ 120 (List._∷_ 116 (List._∷_ 95 (List._∷_ 104 (List._∷_ 101 (List._∷_ 97 (List._∷_ 100 (List._∷_ 105 (List._∷_ 110 (List._∷_ 103 (List._∷_ 58 (List._∷_ 58 (List._∷_ 87 (List._∷_ 111 (List._∷_ 114 (List._∷_ 100 List.[])))))))))))))))))) (Syntax.ttcons Syntax.tnil (Syntax.ttcons Syntax.tnil (Syntax.ttcons Syntax.tnil (Syntax.ttcons Syntax.tnil (Syntax.ttcons Syntax.tnil Syntax.ttnil)))))) Syntax.tnil) (Syntax.ttcons (Syntax.tcons (Syntax.tyEnum (List._∷_ 116 (List._∷_ 101 (List._∷_ 120 (List._∷_ 116 (List._∷_ 95 (List._∷_ 104 (List._∷_ 101 (List._∷_ 97 (List._∷_ 100 (List._∷_ 105 (List._∷_ 110 (List._∷_ 103 (List._∷_ 58 (List._∷_ 58 (List._∷_ 87 (List._∷_ 111 (List._∷_ 114 (List._∷_ 100 List.[])))))))))))))))))) (Syntax.ttcons Syntax.tnil (Syntax.ttcons Syntax.tnil (Syntax.ttcons Syntax.tnil (Syntax.ttcons Syntax.tnil (Syntax.ttcons Syntax.tnil Syntax.ttnil)))))) (Syntax.tcons (Syntax.tyInt Syntax.w8) Syntax.tnil)) (Syntax.ttcons Syntax.tnil (Syntax.ttcons (Syntax.tcons (Syntax.tyEnum (List._∷_ 116 (List._∷_ 101 (List._∷_ 120 (List._∷_ 116 (List._∷_ 95 (List._∷_ 104 (List._∷_ 101 (List._∷_ 97 (List._∷_ 100 (List._∷_ 105 (List._∷_ 110 (List._∷_ 103 (List._∷_ 58 (List._∷_ 58 (List._∷_ 72 (List._∷_ 101 (List._∷_ 97 (List._∷_ 100 (List._∷_ 105 (List._∷_ 110 (List._∷_ 103 (List._∷_ 70 (List._∷_ 97 (List._∷_ 117 (List._∷_ 108 (List._∷_ 116 List.[])))))))))))))))))))))))))) (Syntax.ttcons Syntax.tnil (Syntax.ttcons Syntax.tnil (Syntax.ttcons Syntax.tnil (Syntax.ttcons Syntax.tnil (Syntax.ttcons (Syntax.tcons (Syntax.tyEnum (List._∷_ 116 (List._∷_ 101 (List._∷_ 120 (List._∷_ 116 (List._∷_ 95 (List._∷_ 104 (List._∷_ 101 (List._∷_ 97 (List._∷_ 100 (List._∷_ 105 (List._∷_ 110 (List._∷_ 103 (List._∷_ 58 (List._∷_ 58 (List._∷_ 87 (List._∷_ 111 (List._∷_ 114 (List._∷_ 100 List.[])))))))))))))))))) (Syntax.ttcons Syntax.tnil (Syntax.ttcons Syntax.tnil (Syntax.ttcons Syntax.tnil (Syntax.ttcons Syntax.tnil (Syntax.ttcons Syntax.tnil Syntax.ttnil)))))) Syntax.tnil) Syntax.ttnil)))))) Syntax.tnil) Syntax.ttnil)))))) Syntax.tnil)))) Syntax.tnil) (Syntax.ttcons Syntax.tnil (Syntax.ttcons (Syntax.tcons (Syntax.tyInt Syntax.w8) Syntax.tnil) (Syntax.ttcons Syntax.tnil (Syntax.ttcons (Syntax.tcons (Syntax.tyEnum (List._∷_ 116 (List._∷_ 101 (List._∷_ 120 (List._∷_ 116 (List._∷_ 95 (List._∷_ 114 (List._∷_ 101 (List._∷_ 97 (List._∷_ 100 (List._∷_ 105 (List._∷_ 110 (List._∷_ 103 (List._∷_ 58 (List._∷_ 58 (List._∷_ 70 (List._∷_ 97 (List._∷_ 117 (List._∷_ 108 (List._∷_ 116 List.[]))))))))))))))))))) (Syntax.ttcons (Syntax.tcons (Syntax.tyEnum (List._∷_ 116 (List._∷_ 101 (List._∷_ 120 (List._∷_ 116 (List._∷_ 95 (List._∷_ 104 (List._∷_ 101 (List._∷_ 97 (List._∷_ 100 (List._∷_ 105 (List._∷_ 110 (List._∷_ 103 (List._∷_ 58 (List._∷_ 58 (List._∷_ 72 (List._∷_ 101 (List._∷_ 97 (List._∷_ 100 (List._∷_ 105 (List._∷_ 110 (List._∷_ 103 (List._∷_ 70 (List._∷_ 97 (List._∷_ 117 (List._∷_ 108 (List._∷_ 116 List.[])))))))))))))))))))))))))) (Syntax.ttcons Syntax.tnil (Syntax.ttcons Syntax.tnil (Syntax.ttcons Syntax.tnil (Syntax.ttcons Syntax.tnil (Syntax.ttcons (Syntax.tcons (Syntax.tyEnum (List._∷_ 116 (List._∷_ 101 (List._∷_ 120 (List._∷_ 116 (List._∷_ 95 (List._∷_ 104 (List._∷_ 101 (List._∷_ 97 (List._∷_ 100 (List._∷_ 105 (List._∷_ 110 (List._∷_ 103 (List._∷_ 58 (List._∷_ 58 (List._∷_ 87 (List._∷_ 111 (List._∷_ 114 (List._∷_ 100 List.[])))))))))))))))))) (Syntax.ttcons Syntax.tnil (Syntax.ttcons Syntax.tnil (Syntax.ttcons Syntax.tnil (Syntax.ttcons Syntax.tnil (Syntax.ttcons Syntax.tnil Syntax.ttnil)))))) Syntax.tnil) Syntax.ttnil)))))) Syntax.tnil) (Syntax.ttcons Syntax.tnil (Syntax.ttcons Syntax.tnil Syntax.ttnil)))) Syntax.tnil) Syntax.ttnil)))))))) (Syntax.tcons (Syntax.tyArray (Syntax.tyInt Syntax.w8) 32) (Syntax.tcons (Syntax.tyInt Syntax.w64) Syntax.tnil))))))) (List._∷_ (9, Rows.any-gone (Syntax.tyInt Syntax.w64)) (List._∷_ (10, Rows.any-gone (Syntax.tyRef Syntax.erased Syntax.mut OfOutput.named)) (List._∷_ (11, Mut.mslice (OfOutput.row) (Syntax.tyRef Syntax.erased Syntax.mut OfOutput.named) 5) (List._∷_ (12, Rows.any-gone (Syntax.tyRef Syntax.erased Syntax.mut OfStation.named)) (List._∷_ (13, Rows.any-gone (Syntax.tyStruct (List._∷_ 38 (List._∷_ 91 (List._∷_ 93 List.[]))) (Syntax.tcons (Syntax.tyRef Syntax.erased Syntax.mut OfStation.named) (Syntax.tcons (Syntax.tyInt Syntax.w64) Syntax.tnil)))) (List._∷_ (14, Rows.any-gone (Syntax.tyRef Syntax.erased Syntax.mut OfPanelRecord.named)) (List._∷_ (15, Rows.any-gone (Syntax.tyRef Syntax.erased Syntax.mut (Syntax.tyInt Syntax.w8))) List.[])))))))))))))))
 
 abbrev pub t6 : List.List Row.Entry
-t6 = List._∷_ (0, Rows.any-gone Syntax.tyUnit) (List._∷_ (1, Relend.mslice-owed (OfOutput.row) (Syntax.tyRef (Syntax.named 0) Syntax.mut OfOutput.named) 0 5 Row.off) (List._∷_ (2, Relend.mslice-owed (OfStation.row) (Syntax.tyRef (Syntax.named 1) Syntax.mut OfStation.named) 1 6 Row.off) (List._∷_ (3, Rows.mref (OfPanelRecord.row) (Syntax.tyRef (Syntax.named 2) Syntax.mut OfPanelRecord.named) 2) (List._∷_ (4, Mut.mslice (Referent.rtF (Referent.fInt Syntax.w8)) (Syntax.tyRef (Syntax.named 3) Syntax.mut (Syntax.tyInt Syntax.w8)) 3) (List._∷_ (5, Mut.mslice (Referent.rtF (Referent.fInt Syntax.w8)) (Syntax.tyRef (Syntax.named 4) Syntax.mut (Syntax.tyInt Syntax.w8)) 4) (List._∷_ (6, Rows.sc-here Row.sBool) (List._∷_ (7, Rows.any-gone (Laws.mir)) (List._∷_ (8, Rows.any-gone (Syntax.tyStruct (List._∷_ 116 (List._∷_ 101 (List._∷_ 120 (List._∷_ 116 (List._∷_ 95 (List._∷_ 114 (List._∷_ 101 (List._∷_ 97 (List._∷_ 100 (List._∷_ 105 (List._∷_ 110 (List._∷_ 103 (List._∷_ 58 (List._∷_ 58 (List._∷_ 82 (List._∷_ 101 (List._∷_ 97 (List._∷_ 100 (List._∷_ 101 (List._∷_ 114 List.[])))))))))))))))))))) (Syntax.tcons Syntax.tyBool (Syntax.tcons (Syntax.tyInt Syntax.w64) (Syntax.tcons (Syntax.tyEnum (List._∷_ 116 (List._∷_ 101 (List._∷_ 120 (List._∷_ 116 (List._∷_ 95 (List._∷_ 114 (List._∷_ 101 (List._∷_ 97 (List._∷_ 100 (List._∷_ 105 (List._∷_ 110 (List._∷_ 103 (List._∷_ 58 (List._∷_ 58 (List._∷_ 72 (List._∷_ 101 (List._∷_ 108 (List._∷_ 100 List.[])))))))))))))))))) (Syntax.ttcons Syntax.tnil (Syntax.ttcons Syntax.tnil (Syntax.ttcons (Syntax.tcons (Syntax.tyStruct (List._∷_ 116 (List._∷_ 101 (List._∷_ 120 (List._∷_ 116 (List._∷_ 95 (List._∷_ 104 (List._∷_ 101 (List._∷_ 97 (List._∷_ 100 (List._∷_ 105 (List._∷_ 110 (List._∷_ 103 (List._∷_ 58 (List._∷_ 58 (List._∷_ 72 (List._∷_ 101 (List._∷_ 97 (List._∷_ 100 (List._∷_ 105 (List._∷_ 110 (List._∷_ 103 List.[]))))))))))))))))))))) (Syntax.tcons (IsParameters.mir) (Syntax.tcons (Syntax.tyStruct (List._∷_ 116 (List._∷_ 101 (List._∷_ 120 (List._∷_ 116 (List._∷_ 95 (List._∷_ 104 (List._∷_ 101 (List._∷_ 97 (List._∷_ 100 (List._∷_ 105 (List._∷_ 110 (List._∷_ 103 (List._∷_ 58 (List._∷_ 58 (List._∷_ 67 (List._∷_ 97 (List._∷_ 109 (List._∷_ 101 List.[])))))))))))))))))) (Syntax.tcons Syntax.tyBool (Syntax.tcons Syntax.tyBool (Syntax.tcons Syntax.tyBool Syntax.tnil)))) (Syntax.tcons (Syntax.tyEnum (List._∷_ 116 (List._∷_ 101 (List._∷_ 120 (List._∷_ 116 (List._∷_ 95 (List._∷_ 104 (List._∷_ 101 (List._∷_ 97 (List._∷_ 100 (List._∷_ 105 (List._∷_ 110 (List._∷_ 103 (List._∷_ 58 (List._∷_ 58 (List._∷_ 80 (List._∷_ 108 (List._∷_ 97 (List._∷_ 99 (List._∷_ 101 List.[]))))))))))))))))))) (Syntax.ttcons (Syntax.tcons (Syntax.tyEnum (List._∷_ 116 (List._∷_ 101 (List._∷_ 120 (List._∷_ 116 (List._∷_ 95 (List._∷_ 104 (List._∷_ 101 (List._∷_ 97 (List._∷_ 100 (List._∷_ 105 (List._∷_ 110 (List._∷_ 103 (List._∷_ 58 (List._∷_ 58 (List._∷_ 87 (List._∷_ 111 (List._∷_ 114 (List._∷_ 100 List.[])))))))))))))))))) (Syntax.ttcons Syntax.tnil (Syntax.ttcons Syntax.tnil (Syntax.ttcons Syntax.tnil (Syntax.ttcons Syntax.tnil Syntax.ttnil))))) (Syntax.tcons (Syntax.tyInt Syntax.w8) Syntax.tnil)) (Syntax.ttcons (Syntax.tcons (Syntax.tyEnum (List._∷_ 116 (List._∷_ 101 (List._∷_ 120 (List._∷_ 116 (List._∷_ 95 (List._∷_ 104 (List._∷_ 101 (List._∷_ 97 (List._∷_ 100 (List._∷_ 105 (List._∷_ 110 (List._∷_ 103 (List._∷_ 58 (List._∷_ 58 (List._∷_ 87 (List._∷_ 111 (List._∷_ 114 (List._∷_ 100 List.[])))))))))))))))))) (Syntax.ttcons Syntax.tnil (Syntax.ttcons Syntax.tnil (Syntax.ttcons Syntax.tnil (Syntax.ttcons Syntax.tnil Syntax.ttnil))))) Syntax.tnil) (Syntax.ttcons (Syntax.tcons (Syntax.tyEnum (List._∷_ 116 (List._∷_ 101 (List._∷_ 120 (List._∷_ 116 (List._∷_ 95 (List._∷_ 104 (List._∷_ 101 (List._∷_ 97 (List._∷_ 100 (List._∷_ 105 (List._∷_ 110 (List._∷_ 103 (List._∷_ 58 (List._∷_ 58 (List._∷_ 87 (List._∷_ 111 (List._∷_ 114 (List._∷_ 100 List.[])))))))))))))))))) (Syntax.ttcons Syntax.tnil (Syntax.ttcons Syntax.tnil (Syntax.ttcons Syntax.tnil (Syntax.ttcons Syntax.tnil Syntax.ttnil))))) Syntax.tnil) (Syntax.ttcons Syntax.tnil (Syntax.ttcons (Syntax.tcons (Syntax.tyEnum (List._∷_ 116 (List._∷_ 101 (List._∷_ 120 (List._∷_ 116 (List._∷_ 95 (List._∷_ 104 (List._∷_ 101 (List._∷_ 97 (List._∷_ 100 (List._∷_ 105 (List._∷_ 110 (List._∷_ 103 (List._∷_ 58 (List._∷_ 58 (List._∷_ 72 (List._∷_ 101 (List._∷_ 97 (List._∷_ 100 (List._∷_ 105 (List._∷_ 110 (List._∷_ 103 (List._∷_ 70 (List._∷_ 97 (List._∷_ 117 (List._∷_ 108 (List._∷_ 116 List.[])))))))))))))))))))))))))) (Syntax.ttcons Syntax.tnil (Syntax.ttcons Syntax.tnil (Syntax.ttcons Syntax.tnil (Syntax.ttcons (Syntax.tcons (Syntax.tyEnum (List._∷_ 116 (List._∷_ 101 (List._∷_ 120 (List._∷_ 116 (List._∷_ 95 (List._∷_ 104 (List._∷_ 101 (List._∷_ 97 (List._∷_ 100 (List._∷_ 105 (List._∷_ 110 (List._∷_ 103 (List._∷_ 58 (List._∷_ 58 (List._∷_ 87 (List._∷_ 111 (List._∷_ 114 (List._∷_ 100 List.[])))))))))))))))))) (Syntax.ttcons Syntax.tnil (Syntax.ttcons Syntax.tnil (Syntax.ttcons Syntax.tnil (Syntax.ttcons Syntax.tnil Syntax.ttnil))))) Syntax.tnil) Syntax.ttnil))))) Syntax.tnil) Syntax.ttnil)))))) Syntax.tnil)))) Syntax.tnil) (Syntax.ttcons Syntax.tnil (Syntax.ttcons (Syntax.tcons (Syntax.tyInt Syntax.w8) Syntax.tnil) (Syntax.ttcons Syntax.tnil (Syntax.ttcons (Syntax.tcons (Syntax.tyEnum (List._∷_ 116 (List._∷_ 101 (List._∷_ 120 (List._∷_ 116 (List._∷_ 95 (List._∷_ 114 (List._∷_ 101 (List._∷_ 97 (List._∷_ 100 (List._∷_ 105 (List._∷_ 110 (List._∷_ 103 (List._∷_ 58 (List._∷_ 58 (List._∷_ 70 (List._∷_ 97 (List._∷_ 117 (List._∷_ 108 (List._∷_ 116 List.[]))))))))))))))))))) (Syntax.ttcons (Syntax.tcons (Syntax.tyEnum (List._∷_ 116 (List._∷_ 101 (List._∷_ 120 (List._∷_ 116 (List._∷_ 95 (List._∷_ 104 (List._∷_ 101 (List._∷_ 97 (List._∷_ 100 (List._∷_ 105 (List._∷_ 110 (List._∷_ 103 (List._∷_ 58 (List._∷_ 58 (List._∷_ 72 (List._∷_ 101 (List._∷_ 97 (List._∷_ 100 (List._∷_ 105 (List._∷_ 110 (List._∷_ 103 (List._∷_ 70 (List._∷_ 97 (List._∷_ 117 (List._∷_ 108 (List._∷_ 116 List.[])))))))))))))))))))))))))) (Syntax.ttcons Syntax.tnil (Syntax.ttcons Syntax.tnil (Syntax.ttcons Syntax.tnil (Syntax.ttcons (Syntax.tcons (Syntax.tyEnum (List._∷_ 116 (List._∷_ 101 (List._∷_ 120 (List._∷_ 116 (List._∷_ 95 (List._∷_ 104 (List._∷_ 101 (List._∷_ 97 (List._∷_ 100 (List._∷_ 105 (List._∷_ 110 (List._∷_ 103 (List._∷_ 58 (List._∷_ 58 (List._∷_ 87 (List._∷_ 111 (List._∷_ 114 (List._∷_ 100 List.[])))))))))))))))))) (Syntax.ttcons Syntax.tnil (Syntax.ttcons Syntax.tnil (Syntax.ttcons Syntax.tnil (Syntax.ttcons Syntax.tnil Syntax.ttnil))))) Syntax.tnil) Syntax.ttnil))))) Syntax.tnil) (Syntax.ttcons Syntax.tnil (Syntax.ttcons Syntax.tnil Syntax.ttnil)))) Syntax.tnil) Syntax.ttnil)))))))) (Syntax.tcons (Syntax.tyArray (Syntax.tyInt Syntax.w8) 32) (Syntax.tcons (Syntax.tyInt Syntax.w64) Syntax.tnil))))))) (List._∷_ (9, Rows.any-gone (Syntax.tyInt Syntax.w64)) (List._∷_ (10, Rows.any-gone (Syntax.tyRef Syntax.erased Syntax.mut OfOutput.named)) (List._∷_ (11, Mut.mslice (OfOutput.row) (Syntax.tyRef Syntax.erased Syntax.mut OfOutput.named) 5) (List._∷_ (12, Relend.msptr (OfStation.row) (Syntax.tyRef Syntax.erased Syntax.mut OfStation.named) 6) (List._∷_ (13, Rows.any-gone (Syntax.tyStruct (List._∷_ 38 (List._∷_ 91 (List._∷_ 93 List.[]))) (Syntax.tcons (Syntax.tyRef Syntax.erased Syntax.mut OfStation.named) (Syntax.tcons (Syntax.tyInt Syntax.w64) Syntax.tnil)))) (List._∷_ (14, Rows.any-gone (Syntax.tyRef Syntax.erased Syntax.mut OfPanelRecord.named)) (List._∷_ (15, Rows.any-gone (Syntax.tyRef Syntax.erased Syntax.mut (Syntax.tyInt Syntax.w8))) List.[])))))))))))))))
+t6 = List._∷_ (0, Rows.any-gone Syntax.tyUnit) (List._∷_ (1, Relend.mslice-owed (OfOutput.row) (Syntax.tyRef (Syntax.named 0) Syntax.mut OfOutput.named) 0 5 Row.off) (List._∷_ (2, Relend.mslice-owed (OfStation.row) (Syntax.tyRef (Syntax.named 1) Syntax.mut OfStation.named) 1 6 Row.off) (List._∷_ (3, Rows.mref (OfPanelRecord.row) (Syntax.tyRef (Syntax.named 2) Syntax.mut OfPanelRecord.named) 2) (List._∷_ (4, Mut.mslice (Referent.rtF (Referent.fInt Syntax.w8)) (Syntax.tyRef (Syntax.named 3) Syntax.mut (Syntax.tyInt Syntax.w8)) 3) (List._∷_ (5, Mut.mslice (Referent.rtF (Referent.fInt Syntax.w8)) (Syntax.tyRef (Syntax.named 4) Syntax.mut (Syntax.tyInt Syntax.w8)) 4) (List._∷_ (6, Rows.sc-here Row.sBool) (List._∷_ (7, Rows.any-gone (Laws.mir)) (List._∷_ (8, Rows.any-gone (Syntax.tyStruct (List._∷_ 116 (List._∷_ 101 (List._∷_ 120 (List._∷_ 116 (List._∷_ 95 (List._∷_ 114 (List._∷_ 101 (List._∷_ 97 (List._∷_ 100 (List._∷_ 105 (List._∷_ 110 (List._∷_ 103 (List._∷_ 58 (List._∷_ 58 (List._∷_ 82 (List._∷_ 101 (List._∷_ 97 (List._∷_ 100 (List._∷_ 101 (List._∷_ 114 List.[])))))))))))))))))))) (Syntax.tcons Syntax.tyBool (Syntax.tcons (Syntax.tyInt Syntax.w64) (Syntax.tcons (Syntax.tyEnum (List._∷_ 116 (List._∷_ 101 (List._∷_ 120 (List._∷_ 116 (List._∷_ 95 (List._∷_ 114 (List._∷_ 101 (List._∷_ 97 (List._∷_ 100 (List._∷_ 105 (List._∷_ 110 (List._∷_ 103 (List._∷_ 58 (List._∷_ 58 (List._∷_ 72 (List._∷_ 101 (List._∷_ 108 (List._∷_ 100 List.[])))))))))))))))))) (Syntax.ttcons Syntax.tnil (Syntax.ttcons Syntax.tnil (Syntax.ttcons (Syntax.tcons (Syntax.tyStruct (List._∷_ 116 (List._∷_ 101 (List._∷_ 120 (List._∷_ 116 (List._∷_ 95 (List._∷_ 104 (List._∷_ 101 (List._∷_ 97 (List._∷_ 100 (List._∷_ 105 (List._∷_ 110 (List._∷_ 103 (List._∷_ 58 (List._∷_ 58 (List._∷_ 72 (List._∷_ 101 (List._∷_ 97 (List._∷_ 100 (List._∷_ 105 (List._∷_ 110 (List._∷_ 103 List.[]))))))))))))))))))))) (Syntax.tcons (Syntax.tyStruct (List._∷_ 116 (List._∷_ 101 (List._∷_ 120 (List._∷_ 116 (List._∷_ 95 (List._∷_ 104 (List._∷_ 101 (List._∷_ 97 (List._∷_ 100 (List._∷_ 105 (List._∷_ 110 (List._∷_ 103 (List._∷_ 58 (List._∷_ 58 (List._∷_ 78 (List._∷_ 97 (List._∷_ 109 (List._∷_ 101 (List._∷_ 100 List.[]))))))))))))))))))) (Syntax.tcons (IsParameters.mir) (Syntax.tcons (Syntax.tyInt Syntax.w32) Syntax.tnil))) (Syntax.tcons (Syntax.tyStruct (List._∷_ 116 (List._∷_ 101 (List._∷_ 120 (List._∷_ 116 (List._∷_ 95 (List._∷_ 104 (List._∷_ 101 (List._∷_ 97 (List._∷_ 100 (List._∷_ 105 (List._∷_ 110 (List._∷_ 103 (List._∷_ 58 (List._∷_ 58 (List._∷_ 67 (List._∷_ 97 (List._∷_ 109 (List._∷_ 101 List.[])))))))))))))))))) (Syntax.tcons Syntax.tyBool (Syntax.tcons Syntax.tyBool (Syntax.tcons Syntax.tyBool (Syntax.tcons Syntax.tyBool Syntax.tnil))))) (Syntax.tcons (Syntax.tyEnum (List._∷_ 116 (List._∷_ 101 (List._∷_ 120 (List._∷_ 116 (List._∷_ 95 (List._∷_ 104 (List._∷_ 101 (List._∷_ 97 (List._∷_ 100 (List._∷_ 105 (List._∷_ 110 (List._∷_ 103 (List._∷_ 58 (List._∷_ 58 (List._∷_ 80 (List._∷_ 108 (List._∷_ 97 (List._∷_ 99 (List._∷_ 101 List.[]))))))))))))))))))) (Syntax.ttcons (Syntax.tcons (Syntax.tyEnum (List._∷_ 116 (List._∷_ 101 (List._∷_ 120 (List._∷_ 116 (List._∷_ 95 (List._∷_ 104 (List._∷_ 101 (List._∷_ 97 (List._∷_ 100 (List._∷_ 105 (List._∷_ 110 (List._∷_ 103 (List._∷_ 58 (List._∷_ 58 (List._∷_ 87 (List._∷_ 111 (List._∷_ 114 (List._∷_ 100 List.[])))))))))))))))))) (Syntax.ttcons Syntax.tnil (Syntax.ttcons Syntax.tnil (Syntax.ttcons Syntax.tnil (Syntax.ttcons Syntax.tnil (Syntax.ttcons Syntax.tnil Syntax.ttnil)))))) (Syntax.tcons (Syntax.tyInt Syntax.w8) Syntax.tnil)) (Syntax.ttcons (Syntax.tcons (Syntax.tyEnum (List._∷_ 116 (List._∷_ 101 (List._∷_ 120 (List._∷_ 116 (List._∷_ 95 (List._∷_ 104 (List._∷_ 101 (List._∷_ 97 (List._∷_ 100 (List._∷_ 105 (List._∷_ 110 (List._∷_ 103 (List._∷_ 58 (List._∷_ 58 (List._∷_ 87 (List._∷_ 111 (List._∷_ 114 (List._∷_ 100 List.[])))))))))))))))))) (Syntax.ttcons Syntax.tnil (Syntax.ttcons Syntax.tnil (Syntax.ttcons Syntax.tnil (Syntax.ttcons Syntax.tnil (Syntax.ttcons Syntax.tnil Syntax.ttnil)))))) Syntax.tnil) (Syntax.ttcons (Syntax.tcons (Syntax.tyEnum (List._∷_ 116 (List._∷_ 101 (List._∷_ 120 (List._∷_ 116 (List._∷_ 95 (List._∷_ 104 (List._∷_ 101 (List._∷_ 97 (List._∷_ 100 (List._∷_ 105 (List._∷_ 110 (List._∷_ 103 (List._∷_ 58 (List._∷_ 58 (List._∷_ 87 (List._∷_ 111 (List._∷_ 114 (List._∷_ 100 List.[])))))))))))))))))) (Syntax.ttcons Syntax.tnil (Syntax.ttcons Syntax.tnil (Syntax.ttcons Syntax.tnil (Syntax.ttcons Syntax.tnil (Syntax.ttcons Syntax.tnil Syntax.ttnil)))))) (Syntax.tcons (Syntax.tyInt Syntax.w8) Syntax.tnil)) (Syntax.ttcons Syntax.tnil (Syntax.ttcons (Syntax.tcons (Syntax.tyEnum (List._∷_ 116 (List._∷_ 101 (List._∷_ 120 (List._∷_ 116 (List._∷_ 95 (List._∷_ 104 (List._∷_ 101 (List._∷_ 97 (List._∷_ 100 (List._∷_ 105 (List._∷_ 110 (List._∷_ 103 (List._∷_ 58 (List._∷_ 58 (List._∷_ 72 (List._∷_ 101 (List._∷_ 97 (List._∷_ 100 (List._∷_ 105 (List._∷_ 110 (List._∷_ 103 (List._∷_ 70 (List._∷_ 97 (List._∷_ 117 (List._∷_ 108 (List._∷_ 116 List.[])))))))))))))))))))))))))) (Syntax.ttcons Syntax.tnil (Syntax.ttcons Syntax.tnil (Syntax.ttcons Syntax.tnil (Syntax.ttcons Syntax.tnil (Syntax.ttcons (Syntax.tcons (Syntax.tyEnum (List._∷_ 116 (List._∷_ 101 (List._∷_ 120 (List._∷_ 116 (List._∷_ 95 (List._∷_ 104 (List._∷_ 101 (List._∷_ 97 (List._∷_ 100 (List._∷_ 105 (List._∷_ 110 (List._∷_ 103 (List._∷_ 58 (List._∷_ 58 (List._∷_ 87 (List._∷_ 111 (List._∷_ 114 (List._∷_ 100 List.[])))))))))))))))))) (Syntax.ttcons Syntax.tnil (Syntax.ttcons Syntax.tnil (Syntax.ttcons Syntax.tnil (Syntax.ttcons Syntax.tnil (Syntax.ttcons Syntax.tnil Syntax.ttnil)))))) Syntax.tnil) Syntax.ttnil)))))) Syntax.tnil) Syntax.ttnil)))))) Syntax.tnil)))) Syntax.tnil) (Syntax.ttcons Syntax.tnil (Syntax.ttcons (Syntax.tcons (Syntax.tyInt Syntax.w8) Syntax.tnil) (Syntax.ttcons Syntax.tnil (Syntax.ttcons (Syntax.tcons (Syntax.tyEnum (List._∷_ 116 (List._∷_ 101 (List._∷_ 120 (List._∷_ 116 (List._∷_ 95 (List._∷_ 114 (List._∷_ 101 (List._∷_ 97 (List._∷_ 100 (List._∷_ 105 (List._∷_ 110 (List._∷_ 103 (List._∷_ 58 (List._∷_ 58 (List._∷_ 70 (List._∷_ 97 (List._∷_ 117 (List._∷_ 108 (List._∷_ 116 List.[]))))))))))))))))))) (Syntax.ttcons (Syntax.tcons (Syntax.tyEnum (List._∷_ 116 (List._∷_ 101 (List._∷_ 120 (List._∷_ 116 (List._∷_ 95 (List._∷_ 104 (List._∷_ 101 (List._∷_ 97 (List._∷_ 100 (List._∷_ 105 (List._∷_ 110 (List._∷_ 103 (List._∷_ 58 (List._∷_ 58 (List._∷_ 72 (List._∷_ 101 (List._∷_ 97 (List._∷_ 100 (List._∷_ 105 (List._∷_ 110 (List._∷_ 103 (List._∷_ 70 (List._∷_ 97 (List._∷_ 117 (List._∷_ 108 (List._∷_ 116 List.[])))))))))))))))))))))))))) (Syntax.ttcons Syntax.tnil (Syntax.ttcons Syntax.tnil (Syntax.ttcons Syntax.tnil (Syntax.ttcons Syntax.tnil (Syntax.ttcons (Syntax.tcons (Syntax.tyEnum (List._∷_ 116 (List._∷_ 101 (List._∷_ 120 (List._∷_ 116 (List._∷_ 95 (List._∷_ 104 (List._∷_ 101 (List._∷_ 97 (List._∷_ 100 (List._∷_ 105 (List._∷_ 110 (List._∷_ 103 (List._∷_ 58 (List._∷_ 58 (List._∷_ 87 (List._∷_ 111 (List._∷_ 114 (List._∷_ 100 List.[])))))))))))))))))) (Syntax.ttcons Syntax.tnil (Syntax.ttcons Syntax.tnil (Syntax.ttcons Syntax.tnil (Syntax.ttcons Syntax.tnil (Syntax.ttcons Syntax.tnil Syntax.ttnil)))))) Syntax.tnil) Syntax.ttnil)))))) Syntax.tnil) (Syntax.ttcons Syntax.tnil (Syntax.ttcons Syntax.tnil Syntax.ttnil)))) Syntax.tnil) Syntax.ttnil)))))))) (Syntax.tcons (Syntax.tyArray (Syntax.tyInt Syntax.w8) 32) (Syntax.tcons (Syntax.tyInt Syntax.w64) Syntax.tnil))))))) (List._∷_ (9, Rows.any-gone (Syntax.tyInt Syntax.w64)) (List._∷_ (10, Rows.any-gone (Syntax.tyRef Syntax.erased Syntax.mut OfOutput.named)) (List._∷_ (11, Mut.mslice (OfOutput.row) (Syntax.tyRef Syntax.erased Syntax.mut OfOutput.named) 5) (List._∷_ (12, Relend.msptr (OfStation.row) (Syntax.tyRef Syntax.erased Syntax.mut OfStation.named) 6) (List._∷_ (13, Rows.any-gone (Syntax.tyStruct (List._∷_ 38 (List._∷_ 91 (List._∷_ 93 List.[]))) (Syntax.tcons (Syntax.tyRef Syntax.erased Syntax.mut OfStation.named) (Syntax.tcons (Syntax.tyInt Syntax.w64) Syntax.tnil)))) (List._∷_ (14, Rows.any-gone (Syntax.tyRef Syntax.erased Syntax.mut OfPanelRecord.named)) (List._∷_ (15, Rows.any-gone (Syntax.tyRef Syntax.erased Syntax.mut (Syntax.tyInt Syntax.w8))) List.[])))))))))))))))
 
 abbrev pub t7 : List.List Row.Entry
-t7 = List._∷_ (0, Rows.any-gone Syntax.tyUnit) (List._∷_ (1, Relend.mslice-owed (OfOutput.row) (Syntax.tyRef (Syntax.named 0) Syntax.mut OfOutput.named) 0 5 Row.off) (List._∷_ (2, Relend.mslice-owed (OfStation.row) (Syntax.tyRef (Syntax.named 1) Syntax.mut OfStation.named) 1 6 Row.off) (List._∷_ (3, Rows.mref (OfPanelRecord.row) (Syntax.tyRef (Syntax.named 2) Syntax.mut OfPanelRecord.named) 2) (List._∷_ (4, Mut.mslice (Referent.rtF (Referent.fInt Syntax.w8)) (Syntax.tyRef (Syntax.named 3) Syntax.mut (Syntax.tyInt Syntax.w8)) 3) (List._∷_ (5, Mut.mslice (Referent.rtF (Referent.fInt Syntax.w8)) (Syntax.tyRef (Syntax.named 4) Syntax.mut (Syntax.tyInt Syntax.w8)) 4) (List._∷_ (6, Rows.sc-here Row.sBool) (List._∷_ (7, Rows.any-gone (Laws.mir)) (List._∷_ (8, Rows.any-gone (Syntax.tyStruct (List._∷_ 116 (List._∷_ 101 (List._∷_ 120 (List._∷_ 116 (List._∷_ 95 (List._∷_ 114 (List._∷_ 101 (List._∷_ 97 (List._∷_ 100 (List._∷_ 105 (List._∷_ 110 (List._∷_ 103 (List._∷_ 58 (List._∷_ 58 (List._∷_ 82 (List._∷_ 101 (List._∷_ 97 (List._∷_ 100 (List._∷_ 101 (List._∷_ 114 List.[])))))))))))))))))))) (Syntax.tcons Syntax.tyBool (Syntax.tcons (Syntax.tyInt Syntax.w64) (Syntax.tcons (Syntax.tyEnum (List._∷_ 116 (List._∷_ 101 (List._∷_ 120 (List._∷_ 116 (List._∷_ 95 (List._∷_ 114 (List._∷_ 101 (List._∷_ 97 (List._∷_ 100 (List._∷_ 105 (List._∷_ 110 (List._∷_ 103 (List._∷_ 58 (List._∷_ 58 (List._∷_ 72 (List._∷_ 101 (List._∷_ 108 (List._∷_ 100 List.[])))))))))))))))))) (Syntax.ttcons Syntax.tnil (Syntax.ttcons Syntax.tnil (Syntax.ttcons (Syntax.tcons (Syntax.tyStruct (List._∷_ 116 (List._∷_ 101 (List._∷_ 120 (List._∷_ 116 (List._∷_ 95 (List._∷_ 104 (List._∷_ 101 (List._∷_ 97 (List._∷_ 100 (List._∷_ 105 (List._∷_ 110 (List._∷_ 103 (List._∷_ 58 (List._∷_ 58 (List._∷_ 72 (List._∷_ 101 (List._∷_ 97 (List._∷_ 100 (List._∷_ 105 (List._∷_ 110 (List._∷_ 103 List.[]))))))))))))))))))))) (Syntax.tcons (IsParameters.mir) (Syntax.tcons (Syntax.tyStruct (List._∷_ 116 (List._∷_ 101 (List._∷_ 120 (List._∷_ 116 (List._∷_ 95 (List._∷_ 104 (List._∷_ 101 (List._∷_ 97 (List._∷_ 100 (List._∷_ 105 (List._∷_ 110 (List._∷_ 103 (List._∷_ 58 (List._∷_ 58 (List._∷_ 67 (List._∷_ 97 (List._∷_ 109 (List._∷_ 101 List.[])))))))))))))))))) (Syntax.tcons Syntax.tyBool (Syntax.tcons Syntax.tyBool (Syntax.tcons Syntax.tyBool Syntax.tnil)))) (Syntax.tcons (Syntax.tyEnum (List._∷_ 116 (List._∷_ 101 (List._∷_ 120 (List._∷_ 116 (List._∷_ 95 (List._∷_ 104 (List._∷_ 101 (List._∷_ 97 (List._∷_ 100 (List._∷_ 105 (List._∷_ 110 (List._∷_ 103 (List._∷_ 58 (List._∷_ 58 (List._∷_ 80 (List._∷_ 108 (List._∷_ 97 (List._∷_ 99 (List._∷_ 101 List.[]))))))))))))))))))) (Syntax.ttcons (Syntax.tcons (Syntax.tyEnum (List._∷_ 116 (List._∷_ 101 (List._∷_ 120 (List._∷_ 116 (List._∷_ 95 (List._∷_ 104 (List._∷_ 101 (List._∷_ 97 (List._∷_ 100 (List._∷_ 105 (List._∷_ 110 (List._∷_ 103 (List._∷_ 58 (List._∷_ 58 (List._∷_ 87 (List._∷_ 111 (List._∷_ 114 (List._∷_ 100 List.[])))))))))))))))))) (Syntax.ttcons Syntax.tnil (Syntax.ttcons Syntax.tnil (Syntax.ttcons Syntax.tnil (Syntax.ttcons Syntax.tnil Syntax.ttnil))))) (Syntax.tcons (Syntax.tyInt Syntax.w8) Syntax.tnil)) (Syntax.ttcons (Syntax.tcons (Syntax.tyEnum (List._∷_ 116 (List._∷_ 101 (List._∷_ 120 (List._∷_ 116 (List._∷_ 95 (List._∷_ 104 (List._∷_ 101 (List._∷_ 97 (List._∷_ 100 (List._∷_ 105 (List._∷_ 110 (List._∷_ 103 (List._∷_ 58 (List._∷_ 58 (List._∷_ 87 (List._∷_ 111 (List._∷_ 114 (List._∷_ 100 List.[])))))))))))))))))) (Syntax.ttcons Syntax.tnil (Syntax.ttcons Syntax.tnil (Syntax.ttcons Syntax.tnil (Syntax.ttcons Syntax.tnil Syntax.ttnil))))) Syntax.tnil) (Syntax.ttcons (Syntax.tcons (Syntax.tyEnum (List._∷_ 116 (List._∷_ 101 (List._∷_ 120 (List._∷_ 116 (List._∷_ 95 (List._∷_ 104 (List._∷_ 101 (List._∷_ 97 (List._∷_ 100 (List._∷_ 105 (List._∷_ 110 (List._∷_ 103 (List._∷_ 58 (List._∷_ 58 (List._∷_ 87 (List._∷_ 111 (List._∷_ 114 (List._∷_ 100 List.[])))))))))))))))))) (Syntax.ttcons Syntax.tnil (Syntax.ttcons Syntax.tnil (Syntax.ttcons Syntax.tnil (Syntax.ttcons Syntax.tnil Syntax.ttnil))))) Syntax.tnil) (Syntax.ttcons Syntax.tnil (Syntax.ttcons (Syntax.tcons (Syntax.tyEnum (List._∷_ 116 (List._∷_ 101 (List._∷_ 120 (List._∷_ 116 (List._∷_ 95 (List._∷_ 104 (List._∷_ 101 (List._∷_ 97 (List._∷_ 100 (List._∷_ 105 (List._∷_ 110 (List._∷_ 103 (List._∷_ 58 (List._∷_ 58 (List._∷_ 72 (List._∷_ 101 (List._∷_ 97 (List._∷_ 100 (List._∷_ 105 (List._∷_ 110 (List._∷_ 103 (List._∷_ 70 (List._∷_ 97 (List._∷_ 117 (List._∷_ 108 (List._∷_ 116 List.[])))))))))))))))))))))))))) (Syntax.ttcons Syntax.tnil (Syntax.ttcons Syntax.tnil (Syntax.ttcons Syntax.tnil (Syntax.ttcons (Syntax.tcons (Syntax.tyEnum (List._∷_ 116 (List._∷_ 101 (List._∷_ 120 (List._∷_ 116 (List._∷_ 95 (List._∷_ 104 (List._∷_ 101 (List._∷_ 97 (List._∷_ 100 (List._∷_ 105 (List._∷_ 110 (List._∷_ 103 (List._∷_ 58 (List._∷_ 58 (List._∷_ 87 (List._∷_ 111 (List._∷_ 114 (List._∷_ 100 List.[])))))))))))))))))) (Syntax.ttcons Syntax.tnil (Syntax.ttcons Syntax.tnil (Syntax.ttcons Syntax.tnil (Syntax.ttcons Syntax.tnil Syntax.ttnil))))) Syntax.tnil) Syntax.ttnil))))) Syntax.tnil) Syntax.ttnil)))))) Syntax.tnil)))) Syntax.tnil) (Syntax.ttcons Syntax.tnil (Syntax.ttcons (Syntax.tcons (Syntax.tyInt Syntax.w8) Syntax.tnil) (Syntax.ttcons Syntax.tnil (Syntax.ttcons (Syntax.tcons (Syntax.tyEnum (List._∷_ 116 (List._∷_ 101 (List._∷_ 120 (List._∷_ 116 (List._∷_ 95 (List._∷_ 114 (List._∷_ 101 (List._∷_ 97 (List._∷_ 100 (List._∷_ 105 (List._∷_ 110 (List._∷_ 103 (List._∷_ 58 (List._∷_ 58 (List._∷_ 70 (List._∷_ 97 (List._∷_ 117 (List._∷_ 108 (List._∷_ 116 List.[]))))))))))))))))))) (Syntax.ttcons (Syntax.tcons (Syntax.tyEnum (List._∷_ 116 (List._∷_ 101 (List._∷_ 120 (List._∷_ 116 (List._∷_ 95 (List._∷_ 104 (List._∷_ 101 (List._∷_ 97 (List._∷_ 100 (List._∷_ 105 (List._∷_ 110 (List._∷_ 103 (List._∷_ 58 (List._∷_ 58 (List._∷_ 72 (List._∷_ 101 (List._∷_ 97 (List._∷_ 100 (List._∷_ 105 (List._∷_ 110 (List._∷_ 103 (List._∷_ 70 (List._∷_ 97 (List._∷_ 117 (List._∷_ 108 (List._∷_ 116 List.[])))))))))))))))))))))))))) (Syntax.ttcons Syntax.tnil (Syntax.ttcons Syntax.tnil (Syntax.ttcons Syntax.tnil (Syntax.ttcons (Syntax.tcons (Syntax.tyEnum (List._∷_ 116 (List._∷_ 101 (List._∷_ 120 (List._∷_ 116 (List._∷_ 95 (List._∷_ 104 (List._∷_ 101 (List._∷_ 97 (List._∷_ 100 (List._∷_ 105 (List._∷_ 110 (List._∷_ 103 (List._∷_ 58 (List._∷_ 58 (List._∷_ 87 (List._∷_ 111 (List._∷_ 114 (List._∷_ 100 List.[])))))))))))))))))) (Syntax.ttcons Syntax.tnil (Syntax.ttcons Syntax.tnil (Syntax.ttcons Syntax.tnil (Syntax.ttcons Syntax.tnil Syntax.ttnil))))) Syntax.tnil) Syntax.ttnil))))) Syntax.tnil) (Syntax.ttcons Syntax.tnil (Syntax.ttcons Syntax.tnil Syntax.ttnil)))) Syntax.tnil) Syntax.ttnil)))))))) (Syntax.tcons (Syntax.tyArray (Syntax.tyInt Syntax.w8) 32) (Syntax.tcons (Syntax.tyInt Syntax.w64) Syntax.tnil))))))) (List._∷_ (9, Rows.any-gone (Syntax.tyInt Syntax.w64)) (List._∷_ (10, Rows.any-gone (Syntax.tyRef Syntax.erased Syntax.mut OfOutput.named)) (List._∷_ (11, Mut.mslice (OfOutput.row) (Syntax.tyRef Syntax.erased Syntax.mut OfOutput.named) 5) (List._∷_ (12, Rows.any-gone (Syntax.tyRef Syntax.erased Syntax.mut OfStation.named)) (List._∷_ (13, Mut.mslice (OfStation.row) (Syntax.tyRef Syntax.erased Syntax.mut OfStation.named) 6) (List._∷_ (14, Rows.any-gone (Syntax.tyRef Syntax.erased Syntax.mut OfPanelRecord.named)) (List._∷_ (15, Rows.any-gone (Syntax.tyRef Syntax.erased Syntax.mut (Syntax.tyInt Syntax.w8))) List.[])))))))))))))))
+t7 = List._∷_ (0, Rows.any-gone Syntax.tyUnit) (List._∷_ (1, Relend.mslice-owed (OfOutput.row) (Syntax.tyRef (Syntax.named 0) Syntax.mut OfOutput.named) 0 5 Row.off) (List._∷_ (2, Relend.mslice-owed (OfStation.row) (Syntax.tyRef (Syntax.named 1) Syntax.mut OfStation.named) 1 6 Row.off) (List._∷_ (3, Rows.mref (OfPanelRecord.row) (Syntax.tyRef (Syntax.named 2) Syntax.mut OfPanelRecord.named) 2) (List._∷_ (4, Mut.mslice (Referent.rtF (Referent.fInt Syntax.w8)) (Syntax.tyRef (Syntax.named 3) Syntax.mut (Syntax.tyInt Syntax.w8)) 3) (List._∷_ (5, Mut.mslice (Referent.rtF (Referent.fInt Syntax.w8)) (Syntax.tyRef (Syntax.named 4) Syntax.mut (Syntax.tyInt Syntax.w8)) 4) (List._∷_ (6, Rows.sc-here Row.sBool) (List._∷_ (7, Rows.any-gone (Laws.mir)) (List._∷_ (8, Rows.any-gone (Syntax.tyStruct (List._∷_ 116 (List._∷_ 101 (List._∷_ 120 (List._∷_ 116 (List._∷_ 95 (List._∷_ 114 (List._∷_ 101 (List._∷_ 97 (List._∷_ 100 (List._∷_ 105 (List._∷_ 110 (List._∷_ 103 (List._∷_ 58 (List._∷_ 58 (List._∷_ 82 (List._∷_ 101 (List._∷_ 97 (List._∷_ 100 (List._∷_ 101 (List._∷_ 114 List.[])))))))))))))))))))) (Syntax.tcons Syntax.tyBool (Syntax.tcons (Syntax.tyInt Syntax.w64) (Syntax.tcons (Syntax.tyEnum (List._∷_ 116 (List._∷_ 101 (List._∷_ 120 (List._∷_ 116 (List._∷_ 95 (List._∷_ 114 (List._∷_ 101 (List._∷_ 97 (List._∷_ 100 (List._∷_ 105 (List._∷_ 110 (List._∷_ 103 (List._∷_ 58 (List._∷_ 58 (List._∷_ 72 (List._∷_ 101 (List._∷_ 108 (List._∷_ 100 List.[])))))))))))))))))) (Syntax.ttcons Syntax.tnil (Syntax.ttcons Syntax.tnil (Syntax.ttcons (Syntax.tcons (Syntax.tyStruct (List._∷_ 116 (List._∷_ 101 (List._∷_ 120 (List._∷_ 116 (List._∷_ 95 (List._∷_ 104 (List._∷_ 101 (List._∷_ 97 (List._∷_ 100 (List._∷_ 105 (List._∷_ 110 (List._∷_ 103 (List._∷_ 58 (List._∷_ 58 (List._∷_ 72 (List._∷_ 101 (List._∷_ 97 (List._∷_ 100 (List._∷_ 105 (List._∷_ 110 (List._∷_ 103 List.[]))))))))))))))))))))) (Syntax.tcons (Syntax.tyStruct (List._∷_ 116 (List._∷_ 101 (List._∷_ 120 (List._∷_ 116 (List._∷_ 95 (List._∷_ 104 (List._∷_ 101 (List._∷_ 97 (List._∷_ 100 (List._∷_ 105 (List._∷_ 110 (List._∷_ 103 (List._∷_ 58 (List._∷_ 58 (List._∷_ 78 (List._∷_ 97 (List._∷_ 109 (List._∷_ 101 (List._∷_ 100 List.[]))))))))))))))))))) (Syntax.tcons (IsParameters.mir) (Syntax.tcons (Syntax.tyInt Syntax.w32) Syntax.tnil))) (Syntax.tcons (Syntax.tyStruct (List._∷_ 116 (List._∷_ 101 (List._∷_ 120 (List._∷_ 116 (List._∷_ 95 (List._∷_ 104 (List._∷_ 101 (List._∷_ 97 (List._∷_ 100 (List._∷_ 105 (List._∷_ 110 (List._∷_ 103 (List._∷_ 58 (List._∷_ 58 (List._∷_ 67 (List._∷_ 97 (List._∷_ 109 (List._∷_ 101 List.[])))))))))))))))))) (Syntax.tcons Syntax.tyBool (Syntax.tcons Syntax.tyBool (Syntax.tcons Syntax.tyBool (Syntax.tcons Syntax.tyBool Syntax.tnil))))) (Syntax.tcons (Syntax.tyEnum (List._∷_ 116 (List._∷_ 101 (List._∷_ 120 (List._∷_ 116 (List._∷_ 95 (List._∷_ 104 (List._∷_ 101 (List._∷_ 97 (List._∷_ 100 (List._∷_ 105 (List._∷_ 110 (List._∷_ 103 (List._∷_ 58 (List._∷_ 58 (List._∷_ 80 (List._∷_ 108 (List._∷_ 97 (List._∷_ 99 (List._∷_ 101 List.[]))))))))))))))))))) (Syntax.ttcons (Syntax.tcons (Syntax.tyEnum (List._∷_ 116 (List._∷_ 101 (List._∷_ 120 (List._∷_ 116 (List._∷_ 95 (List._∷_ 104 (List._∷_ 101 (List._∷_ 97 (List._∷_ 100 (List._∷_ 105 (List._∷_ 110 (List._∷_ 103 (List._∷_ 58 (List._∷_ 58 (List._∷_ 87 (List._∷_ 111 (List._∷_ 114 (List._∷_ 100 List.[])))))))))))))))))) (Syntax.ttcons Syntax.tnil (Syntax.ttcons Syntax.tnil (Syntax.ttcons Syntax.tnil (Syntax.ttcons Syntax.tnil (Syntax.ttcons Syntax.tnil Syntax.ttnil)))))) (Syntax.tcons (Syntax.tyInt Syntax.w8) Syntax.tnil)) (Syntax.ttcons (Syntax.tcons (Syntax.tyEnum (List._∷_ 116 (List._∷_ 101 (List._∷_ 120 (List._∷_ 116 (List._∷_ 95 (List._∷_ 104 (List._∷_ 101 (List._∷_ 97 (List._∷_ 100 (List._∷_ 105 (List._∷_ 110 (List._∷_ 103 (List._∷_ 58 (List._∷_ 58 (List._∷_ 87 (List._∷_ 111 (List._∷_ 114 (List._∷_ 100 List.[])))))))))))))))))) (Syntax.ttcons Syntax.tnil (Syntax.ttcons Syntax.tnil (Syntax.ttcons Syntax.tnil (Syntax.ttcons Syntax.tnil (Syntax.ttcons Syntax.tnil Syntax.ttnil)))))) Syntax.tnil) (Syntax.ttcons (Syntax.tcons (Syntax.tyEnum (List._∷_ 116 (List._∷_ 101 (List._∷_ 120 (List._∷_ 116 (List._∷_ 95 (List._∷_ 104 (List._∷_ 101 (List._∷_ 97 (List._∷_ 100 (List._∷_ 105 (List._∷_ 110 (List._∷_ 103 (List._∷_ 58 (List._∷_ 58 (List._∷_ 87 (List._∷_ 111 (List._∷_ 114 (List._∷_ 100 List.[])))))))))))))))))) (Syntax.ttcons Syntax.tnil (Syntax.ttcons Syntax.tnil (Syntax.ttcons Syntax.tnil (Syntax.ttcons Syntax.tnil (Syntax.ttcons Syntax.tnil Syntax.ttnil)))))) (Syntax.tcons (Syntax.tyInt Syntax.w8) Syntax.tnil)) (Syntax.ttcons Syntax.tnil (Syntax.ttcons (Syntax.tcons (Syntax.tyEnum (List._∷_ 116 (List._∷_ 101 (List._∷_ 120 (List._∷_ 116 (List._∷_ 95 (List._∷_ 104 (List._∷_ 101 (List._∷_ 97 (List._∷_ 100 (List._∷_ 105 (List._∷_ 110 (List._∷_ 103 (List._∷_ 58 (List._∷_ 58 (List._∷_ 72 (List._∷_ 101 (List._∷_ 97 (List._∷_ 100 (List._∷_ 105 (List._∷_ 110 (List._∷_ 103 (List._∷_ 70 (List._∷_ 97 (List._∷_ 117 (List._∷_ 108 (List._∷_ 116 List.[])))))))))))))))))))))))))) (Syntax.ttcons Syntax.tnil (Syntax.ttcons Syntax.tnil (Syntax.ttcons Syntax.tnil (Syntax.ttcons Syntax.tnil (Syntax.ttcons (Syntax.tcons (Syntax.tyEnum (List._∷_ 116 (List._∷_ 101 (List._∷_ 120 (List._∷_ 116 (List._∷_ 95 (List._∷_ 104 (List._∷_ 101 (List._∷_ 97 (List._∷_ 100 (List._∷_ 105 (List._∷_ 110 (List._∷_ 103 (List._∷_ 58 (List._∷_ 58 (List._∷_ 87 (List._∷_ 111 (List._∷_ 114 (List._∷_ 100 List.[])))))))))))))))))) (Syntax.ttcons Syntax.tnil (Syntax.ttcons Syntax.tnil (Syntax.ttcons Syntax.tnil (Syntax.ttcons Syntax.tnil (Syntax.ttcons Syntax.tnil Syntax.ttnil)))))) Syntax.tnil) Syntax.ttnil)))))) Syntax.tnil) Syntax.ttnil)))))) Syntax.tnil)))) Syntax.tnil) (Syntax.ttcons Syntax.tnil (Syntax.ttcons (Syntax.tcons (Syntax.tyInt Syntax.w8) Syntax.tnil) (Syntax.ttcons Syntax.tnil (Syntax.ttcons (Syntax.tcons (Syntax.tyEnum (List._∷_ 116 (List._∷_ 101 (List._∷_ 120 (List._∷_ 116 (List._∷_ 95 (List._∷_ 114 (List._∷_ 101 (List._∷_ 97 (List._∷_ 100 (List._∷_ 105 (List._∷_ 110 (List._∷_ 103 (List._∷_ 58 (List._∷_ 58 (List._∷_ 70 (List._∷_ 97 (List._∷_ 117 (List._∷_ 108 (List._∷_ 116 List.[]))))))))))))))))))) (Syntax.ttcons (Syntax.tcons (Syntax.tyEnum (List._∷_ 116 (List._∷_ 101 (List._∷_ 120 (List._∷_ 116 (List._∷_ 95 (List._∷_ 104 (List._∷_ 101 (List._∷_ 97 (List._∷_ 100 (List._∷_ 105 (List._∷_ 110 (List._∷_ 103 (List._∷_ 58 (List._∷_ 58 (List._∷_ 72 (List._∷_ 101 (List._∷_ 97 (List._∷_ 100 (List._∷_ 105 (List._∷_ 110 (List._∷_ 103 (List._∷_ 70 (List._∷_ 97 (List._∷_ 117 (List._∷_ 108 (List._∷_ 116 List.[])))))))))))))))))))))))))) (Syntax.ttcons Syntax.tnil (Syntax.ttcons Syntax.tnil (Syntax.ttcons Syntax.tnil (Syntax.ttcons Syntax.tnil (Syntax.ttcons (Syntax.tcons (Syntax.tyEnum (List._∷_ 116 (List._∷_ 101 (List._∷_ 120 (List._∷_ 116 (List._∷_ 95 (List._∷_ 104 (List._∷_ 101 (List._∷_ 97 (List._∷_ 100 (List._∷_ 105 (List._∷_ 110 (List._∷_ 103 (List._∷_ 58 (List._∷_ 58 (List._∷_ 87 (List._∷_ 111 (List._∷_ 114 (List._∷_ 100 List.[])))))))))))))))))) (Syntax.ttcons Syntax.tnil (Syntax.ttcons Syntax.tnil (Syntax.ttcons Syntax.tnil (Syntax.ttcons Syntax.tnil (Syntax.ttcons Syntax.tnil Syntax.ttnil)))))) Syntax.tnil) Syntax.ttnil)))))) Syntax.tnil) (Syntax.ttcons Syntax.tnil (Syntax.ttcons Syntax.tnil Syntax.ttnil)))) Syntax.tnil) Syntax.ttnil)))))))) (Syntax.tcons (Syntax.tyArray (Syntax.tyInt Syntax.w8) 32) (Syntax.tcons (Syntax.tyInt Syntax.w64) Syntax.tnil))))))) (List._∷_ (9, Rows.any-gone (Syntax.tyInt Syntax.w64)) (List._∷_ (10, Rows.any-gone (Syntax.tyRef Syntax.erased Syntax.mut OfOutput.named)) (List._∷_ (11, Mut.mslice (OfOutput.row) (Syntax.tyRef Syntax.erased Syntax.mut OfOutput.named) 5) (List._∷_ (12, Rows.any-gone (Syntax.tyRef Syntax.erased Syntax.mut OfStation.named)) (List._∷_ (13, Mut.mslice (OfStation.row) (Syntax.tyRef Syntax.erased Syntax.mut OfStation.named) 6) (List._∷_ (14, Rows.any-gone (Syntax.tyRef Syntax.erased Syntax.mut OfPanelRecord.named)) (List._∷_ (15, Rows.any-gone (Syntax.tyRef Syntax.erased Syntax.mut (Syntax.tyInt Syntax.w8))) List.[])))))))))))))))
 
 abbrev pub t8 : List.List Row.Entry
-t8 = List._∷_ (0, Rows.any-gone Syntax.tyUnit) (List._∷_ (1, Relend.mslice-owed (OfOutput.row) (Syntax.tyRef (Syntax.named 0) Syntax.mut OfOutput.named) 0 5 Row.off) (List._∷_ (2, Relend.mslice-owed (OfStation.row) (Syntax.tyRef (Syntax.named 1) Syntax.mut OfStation.named) 1 6 Row.off) (List._∷_ (3, Rows.mref-owed (OfPanelRecord.row) (Syntax.tyRef (Syntax.named 2) Syntax.mut OfPanelRecord.named) 2 7 Row.off) (List._∷_ (4, Mut.mslice (Referent.rtF (Referent.fInt Syntax.w8)) (Syntax.tyRef (Syntax.named 3) Syntax.mut (Syntax.tyInt Syntax.w8)) 3) (List._∷_ (5, Mut.mslice (Referent.rtF (Referent.fInt Syntax.w8)) (Syntax.tyRef (Syntax.named 4) Syntax.mut (Syntax.tyInt Syntax.w8)) 4) (List._∷_ (6, Rows.sc-here Row.sBool) (List._∷_ (7, Rows.any-gone (Laws.mir)) (List._∷_ (8, Rows.any-gone (Syntax.tyStruct (List._∷_ 116 (List._∷_ 101 (List._∷_ 120 (List._∷_ 116 (List._∷_ 95 (List._∷_ 114 (List._∷_ 101 (List._∷_ 97 (List._∷_ 100 (List._∷_ 105 (List._∷_ 110 (List._∷_ 103 (List._∷_ 58 (List._∷_ 58 (List._∷_ 82 (List._∷_ 101 (List._∷_ 97 (List._∷_ 100 (List._∷_ 101 (List._∷_ 114 List.[])))))))))))))))))))) (Syntax.tcons Syntax.tyBool (Syntax.tcons (Syntax.tyInt Syntax.w64) (Syntax.tcons (Syntax.tyEnum (List._∷_ 116 (List._∷_ 101 (List._∷_ 120 (List._∷_ 116 (List._∷_ 95 (List._∷_ 114 (List._∷_ 101 (List._∷_ 97 (List._∷_ 100 (List._∷_ 105 (List._∷_ 110 (List._∷_ 103 (List._∷_ 58 (List._∷_ 58 (List._∷_ 72 (List._∷_ 101 (List._∷_ 108 (List._∷_ 100 List.[])))))))))))))))))) (Syntax.ttcons Syntax.tnil (Syntax.ttcons Syntax.tnil (Syntax.ttcons (Syntax.tcons (Syntax.tyStruct (List._∷_ 116 (List._∷_ 101 (List._∷_ 120 (List._∷_ 116 (List._∷_ 95 (List._∷_ 104 (List._∷_ 101 (List._∷_ 97 (List._∷_ 100 (List._∷_ 105 (List._∷_ 110 (List._∷_ 103 (List._∷_ 58 (List._∷_ 58 (List._∷_ 72 (List._∷_ 101 (List._∷_ 97 (List._∷_ 100 (List._∷_ 105 (List._∷_ 110 (List._∷_ 103 List.[]))))))))))))))))))))) (Syntax.tcons (IsParameters.mir) (Syntax.tcons (Syntax.tyStruct (List._∷_ 116 (List._∷_ 101 (List._∷_ 120 (List._∷_ 116 (List._∷_ 95 (List._∷_ 104 (List._∷_ 101 (List._∷_ 97 (List._∷_ 100 (List._∷_ 105 (List._∷_ 110 (List._∷_ 103 (List._∷_ 58 (List._∷_ 58 (List._∷_ 67 (List._∷_ 97 (List._∷_ 109 (List._∷_ 101 List.[])))))))))))))))))) (Syntax.tcons Syntax.tyBool (Syntax.tcons Syntax.tyBool (Syntax.tcons Syntax.tyBool Syntax.tnil)))) (Syntax.tcons (Syntax.tyEnum (List._∷_ 116 (List._∷_ 101 (List._∷_ 120 (List._∷_ 116 (List._∷_ 95 (List._∷_ 104 (List._∷_ 101 (List._∷_ 97 (List._∷_ 100 (List._∷_ 105 (List._∷_ 110 (List._∷_ 103 (List._∷_ 58 (List._∷_ 58 (List._∷_ 80 (List._∷_ 108 (List._∷_ 97 (List._∷_ 99 (List._∷_ 101 List.[]))))))))))))))))))) (Syntax.ttcons (Syntax.tcons (Syntax.tyEnum (List._∷_ 116 (List._∷_ 101 (List._∷_ 120 (List._∷_ 116 (List._∷_ 95 (List._∷_ 104 (List._∷_ 101 (List._∷_ 97 (List._∷_ 100 (List._∷_ 105 (List._∷_ 110 (List._∷_ 103 (List._∷_ 58 (List._∷_ 58 (List._∷_ 87 (List._∷_ 111 (List._∷_ 114 (List._∷_ 100 List.[])))))))))))))))))) (Syntax.ttcons Syntax.tnil (Syntax.ttcons Syntax.tnil (Syntax.ttcons Syntax.tnil (Syntax.ttcons Syntax.tnil Syntax.ttnil))))) (Syntax.tcons (Syntax.tyInt Syntax.w8) Syntax.tnil)) (Syntax.ttcons (Syntax.tcons (Syntax.tyEnum (List._∷_ 116 (List._∷_ 101 (List._∷_ 120 (List._∷_ 116 (List._∷_ 95 (List._∷_ 104 (List._∷_ 101 (List._∷_ 97 (List._∷_ 100 (List._∷_ 105 (List._∷_ 110 (List._∷_ 103 (List._∷_ 58 (List._∷_ 58 (List._∷_ 87 (List._∷_ 111 (List._∷_ 114 (List._∷_ 100 List.[])))))))))))))))))) (Syntax.ttcons Syntax.tnil (Syntax.ttcons Syntax.tnil (Syntax.ttcons Syntax.tnil (Syntax.ttcons Syntax.tnil Syntax.ttnil))))) Syntax.tnil) (Syntax.ttcons (Syntax.tcons (Syntax.tyEnum (List._∷_ 116 (List._∷_ 101 (List._∷_ 120 (List._∷_ 116 (List._∷_ 95 (List._∷_ 104 (List._∷_ 101 (List._∷_ 97 (List._∷_ 100 (List._∷_ 105 (List._∷_ 110 (List._∷_ 103 (List._∷_ 58 (List._∷_ 58 (List._∷_ 87 (List._∷_ 111 (List._∷_ 114 (List._∷_ 100 List.[])))))))))))))))))) (Syntax.ttcons Syntax.tnil (Syntax.ttcons Syntax.tnil (Syntax.ttcons Syntax.tnil (Syntax.ttcons Syntax.tnil Syntax.ttnil))))) Syntax.tnil) (Syntax.ttcons Syntax.tnil (Syntax.ttcons (Syntax.tcons (Syntax.tyEnum (List._∷_ 116 (List._∷_ 101 (List._∷_ 120 (List._∷_ 116 (List._∷_ 95 (List._∷_ 104 (List._∷_ 101 (List._∷_ 97 (List._∷_ 100 (List._∷_ 105 (List._∷_ 110 (List._∷_ 103 (List._∷_ 58 (List._∷_ 58 (List._∷_ 72 (List._∷_ 101 (List._∷_ 97 (List._∷_ 100 (List._∷_ 105 (List._∷_ 110 (List._∷_ 103 (List._∷_ 70 (List._∷_ 97 (List._∷_ 117 (List._∷_ 108 (List._∷_ 116 List.[])))))))))))))))))))))))))) (Syntax.ttcons Syntax.tnil (Syntax.ttcons Syntax.tnil (Syntax.ttcons Syntax.tnil (Syntax.ttcons (Syntax.tcons (Syntax.tyEnum (List._∷_ 116 (List._∷_ 101 (List._∷_ 120 (List._∷_ 116 (List._∷_ 95 (List._∷_ 104 (List._∷_ 101 (List._∷_ 97 (List._∷_ 100 (List._∷_ 105 (List._∷_ 110 (List._∷_ 103 (List._∷_ 58 (List._∷_ 58 (List._∷_ 87 (List._∷_ 111 (List._∷_ 114 (List._∷_ 100 List.[])))))))))))))))))) (Syntax.ttcons Syntax.tnil (Syntax.ttcons Syntax.tnil (Syntax.ttcons Syntax.tnil (Syntax.ttcons Syntax.tnil Syntax.ttnil))))) Syntax.tnil) Syntax.ttnil))))) Syntax.tnil) Syntax.ttnil)))))) Syntax.tnil)))) Syntax.tnil) (Syntax.ttcons Syntax.tnil (Syntax.ttcons (Syntax.tcons (Syntax.tyInt Syntax.w8) Syntax.tnil) (Syntax.ttcons Syntax.tnil (Syntax.ttcons (Syntax.tcons (Syntax.tyEnum (List._∷_ 116 (List._∷_ 101 (List._∷_ 120 (List._∷_ 116 (List._∷_ 95 (List._∷_ 114 (List._∷_ 101 (List._∷_ 97 (List._∷_ 100 (List._∷_ 105 (List._∷_ 110 (List._∷_ 103 (List._∷_ 58 (List._∷_ 58 (List._∷_ 70 (List._∷_ 97 (List._∷_ 117 (List._∷_ 108 (List._∷_ 116 List.[]))))))))))))))))))) (Syntax.ttcons (Syntax.tcons (Syntax.tyEnum (List._∷_ 116 (List._∷_ 101 (List._∷_ 120 (List._∷_ 116 (List._∷_ 95 (List._∷_ 104 (List._∷_ 101 (List._∷_ 97 (List._∷_ 100 (List._∷_ 105 (List._∷_ 110 (List._∷_ 103 (List._∷_ 58 (List._∷_ 58 (List._∷_ 72 (List._∷_ 101 (List._∷_ 97 (List._∷_ 100 (List._∷_ 105 (List._∷_ 110 (List._∷_ 103 (List._∷_ 70 (List._∷_ 97 (List._∷_ 117 (List._∷_ 108 (List._∷_ 116 List.[])))))))))))))))))))))))))) (Syntax.ttcons Syntax.tnil (Syntax.ttcons Syntax.tnil (Syntax.ttcons Syntax.tnil (Syntax.ttcons (Syntax.tcons (Syntax.tyEnum (List._∷_ 116 (List._∷_ 101 (List._∷_ 120 (List._∷_ 116 (List._∷_ 95 (List._∷_ 104 (List._∷_ 101 (List._∷_ 97 (List._∷_ 100 (List._∷_ 105 (List._∷_ 110 (List._∷_ 103 (List._∷_ 58 (List._∷_ 58 (List._∷_ 87 (List._∷_ 111 (List._∷_ 114 (List._∷_ 100 List.[])))))))))))))))))) (Syntax.ttcons Syntax.tnil (Syntax.ttcons Syntax.tnil (Syntax.ttcons Syntax.tnil (Syntax.ttcons Syntax.tnil Syntax.ttnil))))) Syntax.tnil) Syntax.ttnil))))) Syntax.tnil) (Syntax.ttcons Syntax.tnil (Syntax.ttcons Syntax.tnil Syntax.ttnil)))) Syntax.tnil) Syntax.ttnil)))))))) (Syntax.tcons (Syntax.tyArray (Syntax.tyInt Syntax.w8) 32) (Syntax.tcons (Syntax.tyInt Syntax.w64) Syntax.tnil))))))) (List._∷_ (9, Rows.any-gone (Syntax.tyInt Syntax.w64)) (List._∷_ (10, Rows.any-gone (Syntax.tyRef Syntax.erased Syntax.mut OfOutput.named)) (List._∷_ (11, Mut.mslice (OfOutput.row) (Syntax.tyRef Syntax.erased Syntax.mut OfOutput.named) 5) (List._∷_ (12, Rows.any-gone (Syntax.tyRef Syntax.erased Syntax.mut OfStation.named)) (List._∷_ (13, Mut.mslice (OfStation.row) (Syntax.tyRef Syntax.erased Syntax.mut OfStation.named) 6) (List._∷_ (14, Rows.mref (OfPanelRecord.row) (Syntax.tyRef Syntax.erased Syntax.mut OfPanelRecord.named) 7) (List._∷_ (15, Rows.any-gone (Syntax.tyRef Syntax.erased Syntax.mut (Syntax.tyInt Syntax.w8))) List.[])))))))))))))))
+t8 = List._∷_ (0, Rows.any-gone Syntax.tyUnit) (List._∷_ (1, Relend.mslice-owed (OfOutput.row) (Syntax.tyRef (Syntax.named 0) Syntax.mut OfOutput.named) 0 5 Row.off) (List._∷_ (2, Relend.mslice-owed (OfStation.row) (Syntax.tyRef (Syntax.named 1) Syntax.mut OfStation.named) 1 6 Row.off) (List._∷_ (3, Rows.mref-owed (OfPanelRecord.row) (Syntax.tyRef (Syntax.named 2) Syntax.mut OfPanelRecord.named) 2 7 Row.off) (List._∷_ (4, Mut.mslice (Referent.rtF (Referent.fInt Syntax.w8)) (Syntax.tyRef (Syntax.named 3) Syntax.mut (Syntax.tyInt Syntax.w8)) 3) (List._∷_ (5, Mut.mslice (Referent.rtF (Referent.fInt Syntax.w8)) (Syntax.tyRef (Syntax.named 4) Syntax.mut (Syntax.tyInt Syntax.w8)) 4) (List._∷_ (6, Rows.sc-here Row.sBool) (List._∷_ (7, Rows.any-gone (Laws.mir)) (List._∷_ (8, Rows.any-gone (Syntax.tyStruct (List._∷_ 116 (List._∷_ 101 (List._∷_ 120 (List._∷_ 116 (List._∷_ 95 (List._∷_ 114 (List._∷_ 101 (List._∷_ 97 (List._∷_ 100 (List._∷_ 105 (List._∷_ 110 (List._∷_ 103 (List._∷_ 58 (List._∷_ 58 (List._∷_ 82 (List._∷_ 101 (List._∷_ 97 (List._∷_ 100 (List._∷_ 101 (List._∷_ 114 List.[])))))))))))))))))))) (Syntax.tcons Syntax.tyBool (Syntax.tcons (Syntax.tyInt Syntax.w64) (Syntax.tcons (Syntax.tyEnum (List._∷_ 116 (List._∷_ 101 (List._∷_ 120 (List._∷_ 116 (List._∷_ 95 (List._∷_ 114 (List._∷_ 101 (List._∷_ 97 (List._∷_ 100 (List._∷_ 105 (List._∷_ 110 (List._∷_ 103 (List._∷_ 58 (List._∷_ 58 (List._∷_ 72 (List._∷_ 101 (List._∷_ 108 (List._∷_ 100 List.[])))))))))))))))))) (Syntax.ttcons Syntax.tnil (Syntax.ttcons Syntax.tnil (Syntax.ttcons (Syntax.tcons (Syntax.tyStruct (List._∷_ 116 (List._∷_ 101 (List._∷_ 120 (List._∷_ 116 (List._∷_ 95 (List._∷_ 104 (List._∷_ 101 (List._∷_ 97 (List._∷_ 100 (List._∷_ 105 (List._∷_ 110 (List._∷_ 103 (List._∷_ 58 (List._∷_ 58 (List._∷_ 72 (List._∷_ 101 (List._∷_ 97 (List._∷_ 100 (List._∷_ 105 (List._∷_ 110 (List._∷_ 103 List.[]))))))))))))))))))))) (Syntax.tcons (Syntax.tyStruct (List._∷_ 116 (List._∷_ 101 (List._∷_ 120 (List._∷_ 116 (List._∷_ 95 (List._∷_ 104 (List._∷_ 101 (List._∷_ 97 (List._∷_ 100 (List._∷_ 105 (List._∷_ 110 (List._∷_ 103 (List._∷_ 58 (List._∷_ 58 (List._∷_ 78 (List._∷_ 97 (List._∷_ 109 (List._∷_ 101 (List._∷_ 100 List.[]))))))))))))))))))) (Syntax.tcons (IsParameters.mir) (Syntax.tcons (Syntax.tyInt Syntax.w32) Syntax.tnil))) (Syntax.tcons (Syntax.tyStruct (List._∷_ 116 (List._∷_ 101 (List._∷_ 120 (List._∷_ 116 (List._∷_ 95 (List._∷_ 104 (List._∷_ 101 (List._∷_ 97 (List._∷_ 100 (List._∷_ 105 (List._∷_ 110 (List._∷_ 103 (List._∷_ 58 (List._∷_ 58 (List._∷_ 67 (List._∷_ 97 (List._∷_ 109 (List._∷_ 101 List.[])))))))))))))))))) (Syntax.tcons Syntax.tyBool (Syntax.tcons Syntax.tyBool (Syntax.tcons Syntax.tyBool (Syntax.tcons Syntax.tyBool Syntax.tnil))))) (Syntax.tcons (Syntax.tyEnum (List._∷_ 116 (List._∷_ 101 (List._∷_ 120 (List._∷_ 116 (List._∷_ 95 (List._∷_ 104 (List._∷_ 101 (List._∷_ 97 (List._∷_ 100 (List._∷_ 105 (List._∷_ 110 (List._∷_ 103 (List._∷_ 58 (List._∷_ 58 (List._∷_ 80 (List._∷_ 108 (List._∷_ 97 (List._∷_ 99 (List._∷_ 101 List.[]))))))))))))))))))) (Syntax.ttcons (Syntax.tcons (Syntax.tyEnum (List._∷_ 116 (List._∷_ 101 (List._∷_ 120 (List._∷_ 116 (List._∷_ 95 (List._∷_ 104 (List._∷_ 101 (List._∷_ 97 (List._∷_ 100 (List._∷_ 105 (List._∷_ 110 (List._∷_ 103 (List._∷_ 58 (List._∷_ 58 (List._∷_ 87 (List._∷_ 111 (List._∷_ 114 (List._∷_ 100 List.[])))))))))))))))))) (Syntax.ttcons Syntax.tnil (Syntax.ttcons Syntax.tnil (Syntax.ttcons Syntax.tnil (Syntax.ttcons Syntax.tnil (Syntax.ttcons Syntax.tnil Syntax.ttnil)))))) (Syntax.tcons (Syntax.tyInt Syntax.w8) Syntax.tnil)) (Syntax.ttcons (Syntax.tcons (Syntax.tyEnum (List._∷_ 116 (List._∷_ 101 (List._∷_ 120 (List._∷_ 116 (List._∷_ 95 (List._∷_ 104 (List._∷_ 101 (List._∷_ 97 (List._∷_ 100 (List._∷_ 105 (List._∷_ 110 (List._∷_ 103 (List._∷_ 58 (List._∷_ 58 (List._∷_ 87 (List._∷_ 111 (List._∷_ 114 (List._∷_ 100 List.[])))))))))))))))))) (Syntax.ttcons Syntax.tnil (Syntax.ttcons Syntax.tnil (Syntax.ttcons Syntax.tnil (Syntax.ttcons Syntax.tnil (Syntax.ttcons Syntax.tnil Syntax.ttnil)))))) Syntax.tnil) (Syntax.ttcons (Syntax.tcons (Syntax.tyEnum (List._∷_ 116 (List._∷_ 101 (List._∷_ 120 (List._∷_ 116 (List._∷_ 95 (List._∷_ 104 (List._∷_ 101 (List._∷_ 97 (List._∷_ 100 (List._∷_ 105 (List._∷_ 110 (List._∷_ 103 (List._∷_ 58 (List._∷_ 58 (List._∷_ 87 (List._∷_ 111 (List._∷_ 114 (List._∷_ 100 List.[])))))))))))))))))) (Syntax.ttcons Syntax.tnil (Syntax.ttcons Syntax.tnil (Syntax.ttcons Syntax.tnil (Syntax.ttcons Syntax.tnil (Syntax.ttcons Syntax.tnil Syntax.ttnil)))))) (Syntax.tcons (Syntax.tyInt Syntax.w8) Syntax.tnil)) (Syntax.ttcons Syntax.tnil (Syntax.ttcons (Syntax.tcons (Syntax.tyEnum (List._∷_ 116 (List._∷_ 101 (List._∷_ 120 (List._∷_ 116 (List._∷_ 95 (List._∷_ 104 (List._∷_ 101 (List._∷_ 97 (List._∷_ 100 (List._∷_ 105 (List._∷_ 110 (List._∷_ 103 (List._∷_ 58 (List._∷_ 58 (List._∷_ 72 (List._∷_ 101 (List._∷_ 97 (List._∷_ 100 (List._∷_ 105 (List._∷_ 110 (List._∷_ 103 (List._∷_ 70 (List._∷_ 97 (List._∷_ 117 (List._∷_ 108 (List._∷_ 116 List.[])))))))))))))))))))))))))) (Syntax.ttcons Syntax.tnil (Syntax.ttcons Syntax.tnil (Syntax.ttcons Syntax.tnil (Syntax.ttcons Syntax.tnil (Syntax.ttcons (Syntax.tcons (Syntax.tyEnum (List._∷_ 116 (List._∷_ 101 (List._∷_ 120 (List._∷_ 116 (List._∷_ 95 (List._∷_ 104 (List._∷_ 101 (List._∷_ 97 (List._∷_ 100 (List._∷_ 105 (List._∷_ 110 (List._∷_ 103 (List._∷_ 58 (List._∷_ 58 (List._∷_ 87 (List._∷_ 111 (List._∷_ 114 (List._∷_ 100 List.[])))))))))))))))))) (Syntax.ttcons Syntax.tnil (Syntax.ttcons Syntax.tnil (Syntax.ttcons Syntax.tnil (Syntax.ttcons Syntax.tnil (Syntax.ttcons Syntax.tnil Syntax.ttnil)))))) Syntax.tnil) Syntax.ttnil)))))) Syntax.tnil) Syntax.ttnil)))))) Syntax.tnil)))) Syntax.tnil) (Syntax.ttcons Syntax.tnil (Syntax.ttcons (Syntax.tcons (Syntax.tyInt Syntax.w8) Syntax.tnil) (Syntax.ttcons Syntax.tnil (Syntax.ttcons (Syntax.tcons (Syntax.tyEnum (List._∷_ 116 (List._∷_ 101 (List._∷_ 120 (List._∷_ 116 (List._∷_ 95 (List._∷_ 114 (List._∷_ 101 (List._∷_ 97 (List._∷_ 100 (List._∷_ 105 (List._∷_ 110 (List._∷_ 103 (List._∷_ 58 (List._∷_ 58 (List._∷_ 70 (List._∷_ 97 (List._∷_ 117 (List._∷_ 108 (List._∷_ 116 List.[]))))))))))))))))))) (Syntax.ttcons (Syntax.tcons (Syntax.tyEnum (List._∷_ 116 (List._∷_ 101 (List._∷_ 120 (List._∷_ 116 (List._∷_ 95 (List._∷_ 104 (List._∷_ 101 (List._∷_ 97 (List._∷_ 100 (List._∷_ 105 (List._∷_ 110 (List._∷_ 103 (List._∷_ 58 (List._∷_ 58 (List._∷_ 72 (List._∷_ 101 (List._∷_ 97 (List._∷_ 100 (List._∷_ 105 (List._∷_ 110 (List._∷_ 103 (List._∷_ 70 (List._∷_ 97 (List._∷_ 117 (List._∷_ 108 (List._∷_ 116 List.[])))))))))))))))))))))))))) (Syntax.ttcons Syntax.tnil (Syntax.ttcons Syntax.tnil (Syntax.ttcons Syntax.tnil (Syntax.ttcons Syntax.tnil (Syntax.ttcons (Syntax.tcons (Syntax.tyEnum (List._∷_ 116 (List._∷_ 101 (List._∷_ 120 (List._∷_ 116 (List._∷_ 95 (List._∷_ 104 (List._∷_ 101 (List._∷_ 97 (List._∷_ 100 (List._∷_ 105 (List._∷_ 110 (List._∷_ 103 (List._∷_ 58 (List._∷_ 58 (List._∷_ 87 (List._∷_ 111 (List._∷_ 114 (List._∷_ 100 List.[])))))))))))))))))) (Syntax.ttcons Syntax.tnil (Syntax.ttcons Syntax.tnil (Syntax.ttcons Syntax.tnil (Syntax.ttcons Syntax.tnil (Syntax.ttcons Syntax.tnil Syntax.ttnil)))))) Syntax.tnil) Syntax.ttnil)))))) Syntax.tnil) (Syntax.ttcons Syntax.tnil (Syntax.ttcons Syntax.tnil Syntax.ttnil)))) Syntax.tnil) Syntax.ttnil)))))))) (Syntax.tcons (Syntax.tyArray (Syntax.tyInt Syntax.w8) 32) (Syntax.tcons (Syntax.tyInt Syntax.w64) Syntax.tnil))))))) (List._∷_ (9, Rows.any-gone (Syntax.tyInt Syntax.w64)) (List._∷_ (10, Rows.any-gone (Syntax.tyRef Syntax.erased Syntax.mut OfOutput.named)) (List._∷_ (11, Mut.mslice (OfOutput.row) (Syntax.tyRef Syntax.erased Syntax.mut OfOutput.named) 5) (List._∷_ (12, Rows.any-gone (Syntax.tyRef Syntax.erased Syntax.mut OfStation.named)) (List._∷_ (13, Mut.mslice (OfStation.row) (Syntax.tyRef Syntax.erased Syntax.mut OfStation.named) 6) (List._∷_ (14, Rows.mref (OfPanelRecord.row) (Syntax.tyRef Syntax.erased Syntax.mut OfPanelRecord.named) 7) (List._∷_ (15, Rows.any-gone (Syntax.tyRef Syntax.erased Syntax.mut (Syntax.tyInt Syntax.w8))) List.[])))))))))))))))
 
 abbrev pub t9 : List.List Row.Entry
-t9 = List._∷_ (0, Rows.any-gone Syntax.tyUnit) (List._∷_ (1, Relend.mslice-owed (OfOutput.row) (Syntax.tyRef (Syntax.named 0) Syntax.mut OfOutput.named) 0 5 Row.off) (List._∷_ (2, Relend.mslice-owed (OfStation.row) (Syntax.tyRef (Syntax.named 1) Syntax.mut OfStation.named) 1 6 Row.off) (List._∷_ (3, Rows.mref-owed (OfPanelRecord.row) (Syntax.tyRef (Syntax.named 2) Syntax.mut OfPanelRecord.named) 2 7 Row.off) (List._∷_ (4, Relend.mslice-owed (Referent.rtF (Referent.fInt Syntax.w8)) (Syntax.tyRef (Syntax.named 3) Syntax.mut (Syntax.tyInt Syntax.w8)) 3 8 Row.off) (List._∷_ (5, Mut.mslice (Referent.rtF (Referent.fInt Syntax.w8)) (Syntax.tyRef (Syntax.named 4) Syntax.mut (Syntax.tyInt Syntax.w8)) 4) (List._∷_ (6, Rows.sc-here Row.sBool) (List._∷_ (7, Rows.any-gone (Laws.mir)) (List._∷_ (8, Rows.any-gone (Syntax.tyStruct (List._∷_ 116 (List._∷_ 101 (List._∷_ 120 (List._∷_ 116 (List._∷_ 95 (List._∷_ 114 (List._∷_ 101 (List._∷_ 97 (List._∷_ 100 (List._∷_ 105 (List._∷_ 110 (List._∷_ 103 (List._∷_ 58 (List._∷_ 58 (List._∷_ 82 (List._∷_ 101 (List._∷_ 97 (List._∷_ 100 (List._∷_ 101 (List._∷_ 114 List.[])))))))))))))))))))) (Syntax.tcons Syntax.tyBool (Syntax.tcons (Syntax.tyInt Syntax.w64) (Syntax.tcons (Syntax.tyEnum (List._∷_ 116 (List._∷_ 101 (List._∷_ 120 (List._∷_ 116 (List._∷_ 95 (List._∷_ 114 (List._∷_ 101 (List._∷_ 97 (List._∷_ 100 (List._∷_ 105 (List._∷_ 110 (List._∷_ 103 (List._∷_ 58 (List._∷_ 58 (List._∷_ 72 (List._∷_ 101 (List._∷_ 108 (List._∷_ 100 List.[])))))))))))))))))) (Syntax.ttcons Syntax.tnil (Syntax.ttcons Syntax.tnil (Syntax.ttcons (Syntax.tcons (Syntax.tyStruct (List._∷_ 116 (List._∷_ 101 (List._∷_ 120 (List._∷_ 116 (List._∷_ 95 (List._∷_ 104 (List._∷_ 101 (List._∷_ 97 (List._∷_ 100 (List._∷_ 105 (List._∷_ 110 (List._∷_ 103 (List._∷_ 58 (List._∷_ 58 (List._∷_ 72 (List._∷_ 101 (List._∷_ 97 (List._∷_ 100 (List._∷_ 105 (List._∷_ 110 (List._∷_ 103 List.[]))))))))))))))))))))) (Syntax.tcons (IsParameters.mir) (Syntax.tcons (Syntax.tyStruct (List._∷_ 116 (List._∷_ 101 (List._∷_ 120 (List._∷_ 116 (List._∷_ 95 (List._∷_ 104 (List._∷_ 101 (List._∷_ 97 (List._∷_ 100 (List._∷_ 105 (List._∷_ 110 (List._∷_ 103 (List._∷_ 58 (List._∷_ 58 (List._∷_ 67 (List._∷_ 97 (List._∷_ 109 (List._∷_ 101 List.[])))))))))))))))))) (Syntax.tcons Syntax.tyBool (Syntax.tcons Syntax.tyBool (Syntax.tcons Syntax.tyBool Syntax.tnil)))) (Syntax.tcons (Syntax.tyEnum (List._∷_ 116 (List._∷_ 101 (List._∷_ 120 (List._∷_ 116 (List._∷_ 95 (List._∷_ 104 (List._∷_ 101 (List._∷_ 97 (List._∷_ 100 (List._∷_ 105 (List._∷_ 110 (List._∷_ 103 (List._∷_ 58 (List._∷_ 58 (List._∷_ 80 (List._∷_ 108 (List._∷_ 97 (List._∷_ 99 (List._∷_ 101 List.[]))))))))))))))))))) (Syntax.ttcons (Syntax.tcons (Syntax.tyEnum (List._∷_ 116 (List._∷_ 101 (List._∷_ 120 (List._∷_ 116 (List._∷_ 95 (List._∷_ 104 (List._∷_ 101 (List._∷_ 97 (List._∷_ 100 (List._∷_ 105 (List._∷_ 110 (List._∷_ 103 (List._∷_ 58 (List._∷_ 58 (List._∷_ 87 (List._∷_ 111 (List._∷_ 114 (List._∷_ 100 List.[])))))))))))))))))) (Syntax.ttcons Syntax.tnil (Syntax.ttcons Syntax.tnil (Syntax.ttcons Syntax.tnil (Syntax.ttcons Syntax.tnil Syntax.ttnil))))) (Syntax.tcons (Syntax.tyInt Syntax.w8) Syntax.tnil)) (Syntax.ttcons (Syntax.tcons (Syntax.tyEnum (List._∷_ 116 (List._∷_ 101 (List._∷_ 120 (List._∷_ 116 (List._∷_ 95 (List._∷_ 104 (List._∷_ 101 (List._∷_ 97 (List._∷_ 100 (List._∷_ 105 (List._∷_ 110 (List._∷_ 103 (List._∷_ 58 (List._∷_ 58 (List._∷_ 87 (List._∷_ 111 (List._∷_ 114 (List._∷_ 100 List.[])))))))))))))))))) (Syntax.ttcons Syntax.tnil (Syntax.ttcons Syntax.tnil (Syntax.ttcons Syntax.tnil (Syntax.ttcons Syntax.tnil Syntax.ttnil))))) Syntax.tnil) (Syntax.ttcons (Syntax.tcons (Syntax.tyEnum (List._∷_ 116 (List._∷_ 101 (List._∷_ 120 (List._∷_ 116 (List._∷_ 95 (List._∷_ 104 (List._∷_ 101 (List._∷_ 97 (List._∷_ 100 (List._∷_ 105 (List._∷_ 110 (List._∷_ 103 (List._∷_ 58 (List._∷_ 58 (List._∷_ 87 (List._∷_ 111 (List._∷_ 114 (List._∷_ 100 List.[])))))))))))))))))) (Syntax.ttcons Syntax.tnil (Syntax.ttcons Syntax.tnil (Syntax.ttcons Syntax.tnil (Syntax.ttcons Syntax.tnil Syntax.ttnil))))) Syntax.tnil) (Syntax.ttcons Syntax.tnil (Syntax.ttcons (Syntax.tcons (Syntax.tyEnum (List._∷_ 116 (List._∷_ 101 (List._∷_ 120 (List._∷_ 116 (List._∷_ 95 (List._∷_ 104 (List._∷_ 101 (List._∷_ 97 (List._∷_ 100 (List._∷_ 105 (List._∷_ 110 (List._∷_ 103 (List._∷_ 58 (List._∷_ 58 (List._∷_ 72 (List._∷_ 101 (List._∷_ 97 (List._∷_ 100 (List._∷_ 105 (List._∷_ 110 (List._∷_ 103 (List._∷_ 70 (List._∷_ 97 (List._∷_ 117 (List._∷_ 108 (List._∷_ 116 List.[])))))))))))))))))))))))))) (Syntax.ttcons Syntax.tnil (Syntax.ttcons Syntax.tnil (Syntax.ttcons Syntax.tnil (Syntax.ttcons (Syntax.tcons (Syntax.tyEnum (List._∷_ 116 (List._∷_ 101 (List._∷_ 120 (List._∷_ 116 (List._∷_ 95 (List._∷_ 104 (List._∷_ 101 (List._∷_ 97 (List._∷_ 100 (List._∷_ 105 (List._∷_ 110 (List._∷_ 103 (List._∷_ 58 (List._∷_ 58 (List._∷_ 87 (List._∷_ 111 (List._∷_ 114 (List._∷_ 100 List.[])))))))))))))))))) (Syntax.ttcons Syntax.tnil (Syntax.ttcons Syntax.tnil (Syntax.ttcons Syntax.tnil (Syntax.ttcons Syntax.tnil Syntax.ttnil))))) Syntax.tnil) Syntax.ttnil))))) Syntax.tnil) Syntax.ttnil)))))) Syntax.tnil)))) Syntax.tnil) (Syntax.ttcons Syntax.tnil (Syntax.ttcons (Syntax.tcons (Syntax.tyInt Syntax.w8) Syntax.tnil) (Syntax.ttcons Syntax.tnil (Syntax.ttcons (Syntax.tcons (Syntax.tyEnum (List._∷_ 116 (List._∷_ 101 (List._∷_ 120 (List._∷_ 116 (List._∷_ 95 (List._∷_ 114 (List._∷_ 101 (List._∷_ 97 (List._∷_ 100 (List._∷_ 105 (List._∷_ 110 (List._∷_ 103 (List._∷_ 58 (List._∷_ 58 (List._∷_ 70 (List._∷_ 97 (List._∷_ 117 (List._∷_ 108 (List._∷_ 116 List.[]))))))))))))))))))) (Syntax.ttcons (Syntax.tcons (Syntax.tyEnum (List._∷_ 116 (List._∷_ 101 (List._∷_ 120 (List._∷_ 116 (List._∷_ 95 (List._∷_ 104 (List._∷_ 101 (List._∷_ 97 (List._∷_ 100 (List._∷_ 105 (List._∷_ 110 (List._∷_ 103 (List._∷_ 58 (List._∷_ 58 (List._∷_ 72 (List._∷_ 101 (List._∷_ 97 (List._∷_ 100 (List._∷_ 105 (List._∷_ 110 (List._∷_ 103 (List._∷_ 70 (List._∷_ 97 (List._∷_ 117 (List._∷_ 108 (List._∷_ 116 List.[])))))))))))))))))))))))))) (Syntax.ttcons Syntax.tnil (Syntax.ttcons Syntax.tnil (Syntax.ttcons Syntax.tnil (Syntax.ttcons (Syntax.tcons (Syntax.tyEnum (List._∷_ 116 (List._∷_ 101 (List._∷_ 120 (List._∷_ 116 (List._∷_ 95 (List._∷_ 104 (List._∷_ 101 (List._∷_ 97 (List._∷_ 100 (List._∷_ 105 (List._∷_ 110 (List._∷_ 103 (List._∷_ 58 (List._∷_ 58 (List._∷_ 87 (List._∷_ 111 (List._∷_ 114 (List._∷_ 100 List.[])))))))))))))))))) (Syntax.ttcons Syntax.tnil (Syntax.ttcons Syntax.tnil (Syntax.ttcons Syntax.tnil (Syntax.ttcons Syntax.tnil Syntax.ttnil))))) Syntax.tnil) Syntax.ttnil))))) Syntax.tnil) (Syntax.ttcons Syntax.tnil (Syntax.ttcons Syntax.tnil Syntax.ttnil)))) Syntax.tnil) Syntax.ttnil)))))))) (Syntax.tcons (Syntax.tyArray (Syntax.tyInt Syntax.w8) 32) (Syntax.tcons (Syntax.tyInt Syntax.w64) Syntax.tnil))))))) (List._∷_ (9, Rows.any-gone (Syntax.tyInt Syntax.w64)) (List._∷_ (10, Rows.any-gone (Syntax.tyRef Syntax.erased Syntax.mut OfOutput.named)) (List._∷_ (11, Mut.mslice (OfOutput.row) (Syntax.tyRef Syntax.erased Syntax.mut OfOutput.named) 5) (List._∷_ (12, Rows.any-gone (Syntax.tyRef Syntax.erased Syntax.mut OfStation.named)) (List._∷_ (13, Mut.mslice (OfStation.row) (Syntax.tyRef Syntax.erased Syntax.mut OfStation.named) 6) (List._∷_ (14, Rows.mref (OfPanelRecord.row) (Syntax.tyRef Syntax.erased Syntax.mut OfPanelRecord.named) 7) (List._∷_ (15, Relend.msptr (Referent.rtF (Referent.fInt Syntax.w8)) (Syntax.tyRef Syntax.erased Syntax.mut (Syntax.tyInt Syntax.w8)) 8) List.[])))))))))))))))
+t9 = List._∷_ (0, Rows.any-gone Syntax.tyUnit) (List._∷_ (1, Relend.mslice-owed (OfOutput.row) (Syntax.tyRef (Syntax.named 0) Syntax.mut OfOutput.named) 0 5 Row.off) (List._∷_ (2, Relend.mslice-owed (OfStation.row) (Syntax.tyRef (Syntax.named 1) Syntax.mut OfStation.named) 1 6 Row.off) (List._∷_ (3, Rows.mref-owed (OfPanelRecord.row) (Syntax.tyRef (Syntax.named 2) Syntax.mut OfPanelRecord.named) 2 7 Row.off) (List._∷_ (4, Relend.mslice-owed (Referent.rtF (Referent.fInt Syntax.w8)) (Syntax.tyRef (Syntax.named 3) Syntax.mut (Syntax.tyInt Syntax.w8)) 3 8 Row.off) (List._∷_ (5, Mut.mslice (Referent.rtF (Referent.fInt Syntax.w8)) (Syntax.tyRef (Syntax.named 4) Syntax.mut (Syntax.tyInt Syntax.w8)) 4) (List._∷_ (6, Rows.sc-here Row.sBool) (List._∷_ (7, Rows.any-gone (Laws.mir)) (List._∷_ (8, Rows.any-gone (Syntax.tyStruct (List._∷_ 116 (List._∷_ 101 (List._∷_ 120 (List._∷_ 116 (List._∷_ 95 (List._∷_ 114 (List._∷_ 101 (List._∷_ 97 (List._∷_ 100 (List._∷_ 105 (List._∷_ 110 (List._∷_ 103 (List._∷_ 58 (List._∷_ 58 (List._∷_ 82 (List._∷_ 101 (List._∷_ 97 (List._∷_ 100 (List._∷_ 101 (List._∷_ 114 List.[])))))))))))))))))))) (Syntax.tcons Syntax.tyBool (Syntax.tcons (Syntax.tyInt Syntax.w64) (Syntax.tcons (Syntax.tyEnum (List._∷_ 116 (List._∷_ 101 (List._∷_ 120 (List._∷_ 116 (List._∷_ 95 (List._∷_ 114 (List._∷_ 101 (List._∷_ 97 (List._∷_ 100 (List._∷_ 105 (List._∷_ 110 (List._∷_ 103 (List._∷_ 58 (List._∷_ 58 (List._∷_ 72 (List._∷_ 101 (List._∷_ 108 (List._∷_ 100 List.[])))))))))))))))))) (Syntax.ttcons Syntax.tnil (Syntax.ttcons Syntax.tnil (Syntax.ttcons (Syntax.tcons (Syntax.tyStruct (List._∷_ 116 (List._∷_ 101 (List._∷_ 120 (List._∷_ 116 (List._∷_ 95 (List._∷_ 104 (List._∷_ 101 (List._∷_ 97 (List._∷_ 100 (List._∷_ 105 (List._∷_ 110 (List._∷_ 103 (List._∷_ 58 (List._∷_ 58 (List._∷_ 72 (List._∷_ 101 (List._∷_ 97 (List._∷_ 100 (List._∷_ 105 (List._∷_ 110 (List._∷_ 103 List.[]))))))))))))))))))))) (Syntax.tcons (Syntax.tyStruct (List._∷_ 116 (List._∷_ 101 (List._∷_ 120 (List._∷_ 116 (List._∷_ 95 (List._∷_ 104 (List._∷_ 101 (List._∷_ 97 (List._∷_ 100 (List._∷_ 105 (List._∷_ 110 (List._∷_ 103 (List._∷_ 58 (List._∷_ 58 (List._∷_ 78 (List._∷_ 97 (List._∷_ 109 (List._∷_ 101 (List._∷_ 100 List.[]))))))))))))))))))) (Syntax.tcons (IsParameters.mir) (Syntax.tcons (Syntax.tyInt Syntax.w32) Syntax.tnil))) (Syntax.tcons (Syntax.tyStruct (List._∷_ 116 (List._∷_ 101 (List._∷_ 120 (List._∷_ 116 (List._∷_ 95 (List._∷_ 104 (List._∷_ 101 (List._∷_ 97 (List._∷_ 100 (List._∷_ 105 (List._∷_ 110 (List._∷_ 103 (List._∷_ 58 (List._∷_ 58 (List._∷_ 67 (List._∷_ 97 (List._∷_ 109 (List._∷_ 101 List.[])))))))))))))))))) (Syntax.tcons Syntax.tyBool (Syntax.tcons Syntax.tyBool (Syntax.tcons Syntax.tyBool (Syntax.tcons Syntax.tyBool Syntax.tnil))))) (Syntax.tcons (Syntax.tyEnum (List._∷_ 116 (List._∷_ 101 (List._∷_ 120 (List._∷_ 116 (List._∷_ 95 (List._∷_ 104 (List._∷_ 101 (List._∷_ 97 (List._∷_ 100 (List._∷_ 105 (List._∷_ 110 (List._∷_ 103 (List._∷_ 58 (List._∷_ 58 (List._∷_ 80 (List._∷_ 108 (List._∷_ 97 (List._∷_ 99 (List._∷_ 101 List.[]))))))))))))))))))) (Syntax.ttcons (Syntax.tcons (Syntax.tyEnum (List._∷_ 116 (List._∷_ 101 (List._∷_ 120 (List._∷_ 116 (List._∷_ 95 (List._∷_ 104 (List._∷_ 101 (List._∷_ 97 (List._∷_ 100 (List._∷_ 105 (List._∷_ 110 (List._∷_ 103 (List._∷_ 58 (List._∷_ 58 (List._∷_ 87 (List._∷_ 111 (List._∷_ 114 (List._∷_ 100 List.[])))))))))))))))))) (Syntax.ttcons Syntax.tnil (Syntax.ttcons Syntax.tnil (Syntax.ttcons Syntax.tnil (Syntax.ttcons Syntax.tnil (Syntax.ttcons Syntax.tnil Syntax.ttnil)))))) (Syntax.tcons (Syntax.tyInt Syntax.w8) Syntax.tnil)) (Syntax.ttcons (Syntax.tcons (Syntax.tyEnum (List._∷_ 116 (List._∷_ 101 (List._∷_ 120 (List._∷_ 116 (List._∷_ 95 (List._∷_ 104 (List._∷_ 101 (List._∷_ 97 (List._∷_ 100 (List._∷_ 105 (List._∷_ 110 (List._∷_ 103 (List._∷_ 58 (List._∷_ 58 (List._∷_ 87 (List._∷_ 111 (List._∷_ 114 (List._∷_ 100 List.[])))))))))))))))))) (Syntax.ttcons Syntax.tnil (Syntax.ttcons Syntax.tnil (Syntax.ttcons Syntax.tnil (Syntax.ttcons Syntax.tnil (Syntax.ttcons Syntax.tnil Syntax.ttnil)))))) Syntax.tnil) (Syntax.ttcons (Syntax.tcons (Syntax.tyEnum (List._∷_ 116 (List._∷_ 101 (List._∷_ 120 (List._∷_ 116 (List._∷_ 95 (List._∷_ 104 (List._∷_ 101 (List._∷_ 97 (List._∷_ 100 (List._∷_ 105 (List._∷_ 110 (List._∷_ 103 (List._∷_ 58 (List._∷_ 58 (List._∷_ 87 (List._∷_ 111 (List._∷_ 114 (List._∷_ 100 List.[])))))))))))))))))) (Syntax.ttcons Syntax.tnil (Syntax.ttcons Syntax.tnil (Syntax.ttcons Syntax.tnil (Syntax.ttcons Syntax.tnil (Syntax.ttcons Syntax.tnil Syntax.ttnil)))))) (Syntax.tcons (Syntax.tyInt Syntax.w8) Syntax.tnil)) (Syntax.ttcons Syntax.tnil (Syntax.ttcons (Syntax.tcons (Syntax.tyEnum (List._∷_ 116 (List._∷_ 101 (List._∷_ 120 (List._∷_ 116 (List._∷_ 95 (List._∷_ 104 (List._∷_ 101 (List._∷_ 97 (List._∷_ 100 (List._∷_ 105 (List._∷_ 110 (List._∷_ 103 (List._∷_ 58 (List._∷_ 58 (List._∷_ 72 (List._∷_ 101 (List._∷_ 97 (List._∷_ 100 (List._∷_ 105 (List._∷_ 110 (List._∷_ 103 (List._∷_ 70 (List._∷_ 97 (List._∷_ 117 (List._∷_ 108 (List._∷_ 116 List.[])))))))))))))))))))))))))) (Syntax.ttcons Syntax.tnil (Syntax.ttcons Syntax.tnil (Syntax.ttcons Syntax.tnil (Syntax.ttcons Syntax.tnil (Syntax.ttcons (Syntax.tcons (Syntax.tyEnum (List._∷_ 116 (List._∷_ 101 (List._∷_ 120 (List._∷_ 116 (List._∷_ 95 (List._∷_ 104 (List._∷_ 101 (List._∷_ 97 (List._∷_ 100 (List._∷_ 105 (List._∷_ 110 (List._∷_ 103 (List._∷_ 58 (List._∷_ 58 (List._∷_ 87 (List._∷_ 111 (List._∷_ 114 (List._∷_ 100 List.[])))))))))))))))))) (Syntax.ttcons Syntax.tnil (Syntax.ttcons Syntax.tnil (Syntax.ttcons Syntax.tnil (Syntax.ttcons Syntax.tnil (Syntax.ttcons Syntax.tnil Syntax.ttnil)))))) Syntax.tnil) Syntax.ttnil)))))) Syntax.tnil) Syntax.ttnil)))))) Syntax.tnil)))) Syntax.tnil) (Syntax.ttcons Syntax.tnil (Syntax.ttcons (Syntax.tcons (Syntax.tyInt Syntax.w8) Syntax.tnil) (Syntax.ttcons Syntax.tnil (Syntax.ttcons (Syntax.tcons (Syntax.tyEnum (List._∷_ 116 (List._∷_ 101 (List._∷_ 120 (List._∷_ 116 (List._∷_ 95 (List._∷_ 114 (List._∷_ 101 (List._∷_ 97 (List._∷_ 100 (List._∷_ 105 (List._∷_ 110 (List._∷_ 103 (List._∷_ 58 (List._∷_ 58 (List._∷_ 70 (List._∷_ 97 (List._∷_ 117 (List._∷_ 108 (List._∷_ 116 List.[]))))))))))))))))))) (Syntax.ttcons (Syntax.tcons (Syntax.tyEnum (List._∷_ 116 (List._∷_ 101 (List._∷_ 120 (List._∷_ 116 (List._∷_ 95 (List._∷_ 104 (List._∷_ 101 (List._∷_ 97 (List._∷_ 100 (List._∷_ 105 (List._∷_ 110 (List._∷_ 103 (List._∷_ 58 (List._∷_ 58 (List._∷_ 72 (List._∷_ 101 (List._∷_ 97 (List._∷_ 100 (List._∷_ 105 (List._∷_ 110 (List._∷_ 103 (List._∷_ 70 (List._∷_ 97 (List._∷_ 117 (List._∷_ 108 (List._∷_ 116 List.[])))))))))))))))))))))))))) (Syntax.ttcons Syntax.tnil (Syntax.ttcons Syntax.tnil (Syntax.ttcons Syntax.tnil (Syntax.ttcons Syntax.tnil (Syntax.ttcons (Syntax.tcons (Syntax.tyEnum (List._∷_ 116 (List._∷_ 101 (List._∷_ 120 (List._∷_ 116 (List._∷_ 95 (List._∷_ 104 (List._∷_ 101 (List._∷_ 97 (List._∷_ 100 (List._∷_ 105 (List._∷_ 110 (List._∷_ 103 (List._∷_ 58 (List._∷_ 58 (List._∷_ 87 (List._∷_ 111 (List._∷_ 114 (List._∷_ 100 List.[])))))))))))))))))) (Syntax.ttcons Syntax.tnil (Syntax.ttcons Syntax.tnil (Syntax.ttcons Syntax.tnil (Syntax.ttcons Syntax.tnil (Syntax.ttcons Syntax.tnil Syntax.ttnil)))))) Syntax.tnil) Syntax.ttnil)))))) Syntax.tnil) (Syntax.ttcons Syntax.tnil (Syntax.ttcons Syntax.tnil Syntax.ttnil)))) Syntax.tnil) Syntax.ttnil)))))))) (Syntax.tcons (Syntax.tyArray (Syntax.tyInt Syntax.w8) 32) (Syntax.tcons (Syntax.tyInt Syntax.w64) Syntax.tnil))))))) (List._∷_ (9, Rows.any-gone (Syntax.tyInt Syntax.w64)) (List._∷_ (10, Rows.any-gone (Syntax.tyRef Syntax.erased Syntax.mut OfOutput.named)) (List._∷_ (11, Mut.mslice (OfOutput.row) (Syntax.tyRef Syntax.erased Syntax.mut OfOutput.named) 5) (List._∷_ (12, Rows.any-gone (Syntax.tyRef Syntax.erased Syntax.mut OfStation.named)) (List._∷_ (13, Mut.mslice (OfStation.row) (Syntax.tyRef Syntax.erased Syntax.mut OfStation.named) 6) (List._∷_ (14, Rows.mref (OfPanelRecord.row) (Syntax.tyRef Syntax.erased Syntax.mut OfPanelRecord.named) 7) (List._∷_ (15, Relend.msptr (Referent.rtF (Referent.fInt Syntax.w8)) (Syntax.tyRef Syntax.erased Syntax.mut (Syntax.tyInt Syntax.w8)) 8) List.[])))))))))))))))
 
 abbrev pub t10 : List.List Row.Entry
-t10 = List._∷_ (0, Rows.any-gone Syntax.tyUnit) (List._∷_ (1, Relend.mslice-owed (OfOutput.row) (Syntax.tyRef (Syntax.named 0) Syntax.mut OfOutput.named) 0 5 Row.off) (List._∷_ (2, Relend.mslice-owed (OfStation.row) (Syntax.tyRef (Syntax.named 1) Syntax.mut OfStation.named) 1 6 Row.off) (List._∷_ (3, Rows.mref-owed (OfPanelRecord.row) (Syntax.tyRef (Syntax.named 2) Syntax.mut OfPanelRecord.named) 2 7 Row.off) (List._∷_ (4, Relend.mslice-owed (Referent.rtF (Referent.fInt Syntax.w8)) (Syntax.tyRef (Syntax.named 3) Syntax.mut (Syntax.tyInt Syntax.w8)) 3 8 Row.off) (List._∷_ (5, Mut.mslice (Referent.rtF (Referent.fInt Syntax.w8)) (Syntax.tyRef (Syntax.named 4) Syntax.mut (Syntax.tyInt Syntax.w8)) 4) (List._∷_ (6, Rows.sc-here Row.sBool) (List._∷_ (7, Rows.any-gone (Laws.mir)) (List._∷_ (8, Rows.any-gone (Syntax.tyStruct (List._∷_ 116 (List._∷_ 101 (List._∷_ 120 (List._∷_ 116 (List._∷_ 95 (List._∷_ 114 (List._∷_ 101 (List._∷_ 97 (List._∷_ 100 (List._∷_ 105 (List._∷_ 110 (List._∷_ 103 (List._∷_ 58 (List._∷_ 58 (List._∷_ 82 (List._∷_ 101 (List._∷_ 97 (List._∷_ 100 (List._∷_ 101 (List._∷_ 114 List.[])))))))))))))))))))) (Syntax.tcons Syntax.tyBool (Syntax.tcons (Syntax.tyInt Syntax.w64) (Syntax.tcons (Syntax.tyEnum (List._∷_ 116 (List._∷_ 101 (List._∷_ 120 (List._∷_ 116 (List._∷_ 95 (List._∷_ 114 (List._∷_ 101 (List._∷_ 97 (List._∷_ 100 (List._∷_ 105 (List._∷_ 110 (List._∷_ 103 (List._∷_ 58 (List._∷_ 58 (List._∷_ 72 (List._∷_ 101 (List._∷_ 108 (List._∷_ 100 List.[])))))))))))))))))) (Syntax.ttcons Syntax.tnil (Syntax.ttcons Syntax.tnil (Syntax.ttcons (Syntax.tcons (Syntax.tyStruct (List._∷_ 116 (List._∷_ 101 (List._∷_ 120 (List._∷_ 116 (List._∷_ 95 (List._∷_ 104 (List._∷_ 101 (List._∷_ 97 (List._∷_ 100 (List._∷_ 105 (List._∷_ 110 (List._∷_ 103 (List._∷_ 58 (List._∷_ 58 (List._∷_ 72 (List._∷_ 101 (List._∷_ 97 (List._∷_ 100 (List._∷_ 105 (List._∷_ 110 (List._∷_ 103 List.[]))))))))))))))))))))) (Syntax.tcons (IsParameters.mir) (Syntax.tcons (Syntax.tyStruct (List._∷_ 116 (List._∷_ 101 (List._∷_ 120 (List._∷_ 116 (List._∷_ 95 (List._∷_ 104 (List._∷_ 101 (List._∷_ 97 (List._∷_ 100 (List._∷_ 105 (List._∷_ 110 (List._∷_ 103 (List._∷_ 58 (List._∷_ 58 (List._∷_ 67 (List._∷_ 97 (List._∷_ 109 (List._∷_ 101 List.[])))))))))))))))))) (Syntax.tcons Syntax.tyBool (Syntax.tcons Syntax.tyBool (Syntax.tcons Syntax.tyBool Syntax.tnil)))) (Syntax.tcons (Syntax.tyEnum (List._∷_ 116 (List._∷_ 101 (List._∷_ 120 (List._∷_ 116 (List._∷_ 95 (List._∷_ 104 (List._∷_ 101 (List._∷_ 97 (List._∷_ 100 (List._∷_ 105 (List._∷_ 110 (List._∷_ 103 (List._∷_ 58 (List._∷_ 58 (List._∷_ 80 (List._∷_ 108 (List._∷_ 97 (List._∷_ 99 (List._∷_ 101 List.[]))))))))))))))))))) (Syntax.ttcons (Syntax.tcons (Syntax.tyEnum (List._∷_ 116 (List._∷_ 101 (List._∷_ 120 (List._∷_ 116 (List._∷_ 95 (List._∷_ 104 (List._∷_ 101 (List._∷_ 97 (List._∷_ 100 (List._∷_ 105 (List._∷_ 110 (List._∷_ 103 (List._∷_ 58 (List._∷_ 58 (List._∷_ 87 (List._∷_ 111 (List._∷_ 114 (List._∷_ 100 List.[])))))))))))))))))) (Syntax.ttcons Syntax.tnil (Syntax.ttcons Syntax.tnil (Syntax.ttcons Syntax.tnil (Syntax.ttcons Syntax.tnil Syntax.ttnil))))) (Syntax.tcons (Syntax.tyInt Syntax.w8) Syntax.tnil)) (Syntax.ttcons (Syntax.tcons (Syntax.tyEnum (List._∷_ 116 (List._∷_ 101 (List._∷_ 120 (List._∷_ 116 (List._∷_ 95 (List._∷_ 104 (List._∷_ 101 (List._∷_ 97 (List._∷_ 100 (List._∷_ 105 (List._∷_ 110 (List._∷_ 103 (List._∷_ 58 (List._∷_ 58 (List._∷_ 87 (List._∷_ 111 (List._∷_ 114 (List._∷_ 100 List.[])))))))))))))))))) (Syntax.ttcons Syntax.tnil (Syntax.ttcons Syntax.tnil (Syntax.ttcons Syntax.tnil (Syntax.ttcons Syntax.tnil Syntax.ttnil))))) Syntax.tnil) (Syntax.ttcons (Syntax.tcons (Syntax.tyEnum (List._∷_ 116 (List._∷_ 101 (List._∷_ 120 (List._∷_ 116 (List._∷_ 95 (List._∷_ 104 (List._∷_ 101 (List._∷_ 97 (List._∷_ 100 (List._∷_ 105 (List._∷_ 110 (List._∷_ 103 (List._∷_ 58 (List._∷_ 58 (List._∷_ 87 (List._∷_ 111 (List._∷_ 114 (List._∷_ 100 List.[])))))))))))))))))) (Syntax.ttcons Syntax.tnil (Syntax.ttcons Syntax.tnil (Syntax.ttcons Syntax.tnil (Syntax.ttcons Syntax.tnil Syntax.ttnil))))) Syntax.tnil) (Syntax.ttcons Syntax.tnil (Syntax.ttcons (Syntax.tcons (Syntax.tyEnum (List._∷_ 116 (List._∷_ 101 (List._∷_ 120 (List._∷_ 116 (List._∷_ 95 (List._∷_ 104 (List._∷_ 101 (List._∷_ 97 (List._∷_ 100 (List._∷_ 105 (List._∷_ 110 (List._∷_ 103 (List._∷_ 58 (List._∷_ 58 (List._∷_ 72 (List._∷_ 101 (List._∷_ 97 (List._∷_ 100 (List._∷_ 105 (List._∷_ 110 (List._∷_ 103 (List._∷_ 70 (List._∷_ 97 (List._∷_ 117 (List._∷_ 108 (List._∷_ 116 List.[])))))))))))))))))))))))))) (Syntax.ttcons Syntax.tnil (Syntax.ttcons Syntax.tnil (Syntax.ttcons Syntax.tnil (Syntax.ttcons (Syntax.tcons (Syntax.tyEnum (List._∷_ 116 (List._∷_ 101 (List._∷_ 120 (List._∷_ 116 (List._∷_ 95 (List._∷_ 104 (List._∷_ 101 (List._∷_ 97 (List._∷_ 100 (List._∷_ 105 (List._∷_ 110 (List._∷_ 103 (List._∷_ 58 (List._∷_ 58 (List._∷_ 87 (List._∷_ 111 (List._∷_ 114 (List._∷_ 100 List.[])))))))))))))))))) (Syntax.ttcons Syntax.tnil (Syntax.ttcons Syntax.tnil (Syntax.ttcons Syntax.tnil (Syntax.ttcons Syntax.tnil Syntax.ttnil))))) Syntax.tnil) Syntax.ttnil))))) Syntax.tnil) Syntax.ttnil)))))) Syntax.tnil)))) Syntax.tnil) (Syntax.ttcons Syntax.tnil (Syntax.ttcons (Syntax.tcons (Syntax.tyInt Syntax.w8) Syntax.tnil) (Syntax.ttcons Syntax.tnil (Syntax.ttcons (Syntax.tcons (Syntax.tyEnum (List._∷_ 116 (List._∷_ 101 (List._∷_ 120 (List._∷_ 116 (List._∷_ 95 (List._∷_ 114 (List._∷_ 101 (List._∷_ 97 (List._∷_ 100 (List._∷_ 105 (List._∷_ 110 (List._∷_ 103 (List._∷_ 58 (List._∷_ 58 (List._∷_ 70 (List._∷_ 97 (List._∷_ 117 (List._∷_ 108 (List._∷_ 116 List.[]))))))))))))))))))) (Syntax.ttcons (Syntax.tcons (Syntax.tyEnum (List._∷_ 116 (List._∷_ 101 (List._∷_ 120 (List._∷_ 116 (List._∷_ 95 (List._∷_ 104 (List._∷_ 101 (List._∷_ 97 (List._∷_ 100 (List._∷_ 105 (List._∷_ 110 (List._∷_ 103 (List._∷_ 58 (List._∷_ 58 (List._∷_ 72 (List._∷_ 101 (List._∷_ 97 (List._∷_ 100 (List._∷_ 105 (List._∷_ 110 (List._∷_ 103 (List._∷_ 70 (List._∷_ 97 (List._∷_ 117 (List._∷_ 108 (List._∷_ 116 List.[])))))))))))))))))))))))))) (Syntax.ttcons Syntax.tnil (Syntax.ttcons Syntax.tnil (Syntax.ttcons Syntax.tnil (Syntax.ttcons (Syntax.tcons (Syntax.tyEnum (List._∷_ 116 (List._∷_ 101 (List._∷_ 120 (List._∷_ 116 (List._∷_ 95 (List._∷_ 104 (List._∷_ 101 (List._∷_ 97 (List._∷_ 100 (List._∷_ 105 (List._∷_ 110 (List._∷_ 103 (List._∷_ 58 (List._∷_ 58 (List._∷_ 87 (List._∷_ 111 (List._∷_ 114 (List._∷_ 100 List.[])))))))))))))))))) (Syntax.ttcons Syntax.tnil (Syntax.ttcons Syntax.tnil (Syntax.ttcons Syntax.tnil (Syntax.ttcons Syntax.tnil Syntax.ttnil))))) Syntax.tnil) Syntax.ttnil))))) Syntax.tnil) (Syntax.ttcons Syntax.tnil (Syntax.ttcons Syntax.tnil Syntax.ttnil)))) Syntax.tnil) Syntax.ttnil)))))))) (Syntax.tcons (Syntax.tyArray (Syntax.tyInt Syntax.w8) 32) (Syntax.tcons (Syntax.tyInt Syntax.w64) Syntax.tnil))))))) (List._∷_ (9, Rows.any-gone (Syntax.tyInt Syntax.w64)) (List._∷_ (10, Rows.any-gone (Syntax.tyRef Syntax.erased Syntax.mut OfOutput.named)) (List._∷_ (11, Mut.mslice (OfOutput.row) (Syntax.tyRef Syntax.erased Syntax.mut OfOutput.named) 5) (List._∷_ (12, Rows.any-gone (Syntax.tyRef Syntax.erased Syntax.mut OfStation.named)) (List._∷_ (13, Mut.mslice (OfStation.row) (Syntax.tyRef Syntax.erased Syntax.mut OfStation.named) 6) (List._∷_ (14, Rows.mref (OfPanelRecord.row) (Syntax.tyRef Syntax.erased Syntax.mut OfPanelRecord.named) 7) (List._∷_ (15, Rows.any-gone (Syntax.tyRef Syntax.erased Syntax.mut (Syntax.tyInt Syntax.w8))) List.[])))))))))))))))
+t10 = List._∷_ (0, Rows.any-gone Syntax.tyUnit) (List._∷_ (1, Relend.mslice-owed (OfOutput.row) (Syntax.tyRef (Syntax.named 0) Syntax.mut OfOutput.named) 0 5 Row.off) (List._∷_ (2, Relend.mslice-owed (OfStation.row) (Syntax.tyRef (Syntax.named 1) Syntax.mut OfStation.named) 1 6 Row.off) (List._∷_ (3, Rows.mref-owed (OfPanelRecord.row) (Syntax.tyRef (Syntax.named 2) Syntax.mut OfPanelRecord.named) 2 7 Row.off) (List._∷_ (4, Relend.mslice-owed (Referent.rtF (Referent.fInt Syntax.w8)) (Syntax.tyRef (Syntax.named 3) Syntax.mut (Syntax.tyInt Syntax.w8)) 3 8 Row.off) (List._∷_ (5, Mut.mslice (Referent.rtF (Referent.fInt Syntax.w8)) (Syntax.tyRef (Syntax.named 4) Syntax.mut (Syntax.tyInt Syntax.w8)) 4) (List._∷_ (6, Rows.sc-here Row.sBool) (List._∷_ (7, Rows.any-gone (Laws.mir)) (List._∷_ (8, Rows.any-gone (Syntax.tyStruct (List._∷_ 116 (List._∷_ 101 (List._∷_ 120 (List._∷_ 116 (List._∷_ 95 (List._∷_ 114 (List._∷_ 101 (List._∷_ 97 (List._∷_ 100 (List._∷_ 105 (List._∷_ 110 (List._∷_ 103 (List._∷_ 58 (List._∷_ 58 (List._∷_ 82 (List._∷_ 101 (List._∷_ 97 (List._∷_ 100 (List._∷_ 101 (List._∷_ 114 List.[])))))))))))))))))))) (Syntax.tcons Syntax.tyBool (Syntax.tcons (Syntax.tyInt Syntax.w64) (Syntax.tcons (Syntax.tyEnum (List._∷_ 116 (List._∷_ 101 (List._∷_ 120 (List._∷_ 116 (List._∷_ 95 (List._∷_ 114 (List._∷_ 101 (List._∷_ 97 (List._∷_ 100 (List._∷_ 105 (List._∷_ 110 (List._∷_ 103 (List._∷_ 58 (List._∷_ 58 (List._∷_ 72 (List._∷_ 101 (List._∷_ 108 (List._∷_ 100 List.[])))))))))))))))))) (Syntax.ttcons Syntax.tnil (Syntax.ttcons Syntax.tnil (Syntax.ttcons (Syntax.tcons (Syntax.tyStruct (List._∷_ 116 (List._∷_ 101 (List._∷_ 120 (List._∷_ 116 (List._∷_ 95 (List._∷_ 104 (List._∷_ 101 (List._∷_ 97 (List._∷_ 100 (List._∷_ 105 (List._∷_ 110 (List._∷_ 103 (List._∷_ 58 (List._∷_ 58 (List._∷_ 72 (List._∷_ 101 (List._∷_ 97 (List._∷_ 100 (List._∷_ 105 (List._∷_ 110 (List._∷_ 103 List.[]))))))))))))))))))))) (Syntax.tcons (Syntax.tyStruct (List._∷_ 116 (List._∷_ 101 (List._∷_ 120 (List._∷_ 116 (List._∷_ 95 (List._∷_ 104 (List._∷_ 101 (List._∷_ 97 (List._∷_ 100 (List._∷_ 105 (List._∷_ 110 (List._∷_ 103 (List._∷_ 58 (List._∷_ 58 (List._∷_ 78 (List._∷_ 97 (List._∷_ 109 (List._∷_ 101 (List._∷_ 100 List.[]))))))))))))))))))) (Syntax.tcons (IsParameters.mir) (Syntax.tcons (Syntax.tyInt Syntax.w32) Syntax.tnil))) (Syntax.tcons (Syntax.tyStruct (List._∷_ 116 (List._∷_ 101 (List._∷_ 120 (List._∷_ 116 (List._∷_ 95 (List._∷_ 104 (List._∷_ 101 (List._∷_ 97 (List._∷_ 100 (List._∷_ 105 (List._∷_ 110 (List._∷_ 103 (List._∷_ 58 (List._∷_ 58 (List._∷_ 67 (List._∷_ 97 (List._∷_ 109 (List._∷_ 101 List.[])))))))))))))))))) (Syntax.tcons Syntax.tyBool (Syntax.tcons Syntax.tyBool (Syntax.tcons Syntax.tyBool (Syntax.tcons Syntax.tyBool Syntax.tnil))))) (Syntax.tcons (Syntax.tyEnum (List._∷_ 116 (List._∷_ 101 (List._∷_ 120 (List._∷_ 116 (List._∷_ 95 (List._∷_ 104 (List._∷_ 101 (List._∷_ 97 (List._∷_ 100 (List._∷_ 105 (List._∷_ 110 (List._∷_ 103 (List._∷_ 58 (List._∷_ 58 (List._∷_ 80 (List._∷_ 108 (List._∷_ 97 (List._∷_ 99 (List._∷_ 101 List.[]))))))))))))))))))) (Syntax.ttcons (Syntax.tcons (Syntax.tyEnum (List._∷_ 116 (List._∷_ 101 (List._∷_ 120 (List._∷_ 116 (List._∷_ 95 (List._∷_ 104 (List._∷_ 101 (List._∷_ 97 (List._∷_ 100 (List._∷_ 105 (List._∷_ 110 (List._∷_ 103 (List._∷_ 58 (List._∷_ 58 (List._∷_ 87 (List._∷_ 111 (List._∷_ 114 (List._∷_ 100 List.[])))))))))))))))))) (Syntax.ttcons Syntax.tnil (Syntax.ttcons Syntax.tnil (Syntax.ttcons Syntax.tnil (Syntax.ttcons Syntax.tnil (Syntax.ttcons Syntax.tnil Syntax.ttnil)))))) (Syntax.tcons (Syntax.tyInt Syntax.w8) Syntax.tnil)) (Syntax.ttcons (Syntax.tcons (Syntax.tyEnum (List._∷_ 116 (List._∷_ 101 (List._∷_ 120 (List._∷_ 116 (List._∷_ 95 (List._∷_ 104 (List._∷_ 101 (List._∷_ 97 (List._∷_ 100 (List._∷_ 105 (List._∷_ 110 (List._∷_ 103 (List._∷_ 58 (List._∷_ 58 (List._∷_ 87 (List._∷_ 111 (List._∷_ 114 (List._∷_ 100 List.[])))))))))))))))))) (Syntax.ttcons Syntax.tnil (Syntax.ttcons Syntax.tnil (Syntax.ttcons Syntax.tnil (Syntax.ttcons Syntax.tnil (Syntax.ttcons Syntax.tnil Syntax.ttnil)))))) Syntax.tnil) (Syntax.ttcons (Syntax.tcons (Syntax.tyEnum (List._∷_ 116 (List._∷_ 101 (List._∷_ 120 (List._∷_ 116 (List._∷_ 95 (List._∷_ 104 (List._∷_ 101 (List._∷_ 97 (List._∷_ 100 (List._∷_ 105 (List._∷_ 110 (List._∷_ 103 (List._∷_ 58 (List._∷_ 58 (List._∷_ 87 (List._∷_ 111 (List._∷_ 114 (List._∷_ 100 List.[])))))))))))))))))) (Syntax.ttcons Syntax.tnil (Syntax.ttcons Syntax.tnil (Syntax.ttcons Syntax.tnil (Syntax.ttcons Syntax.tnil (Syntax.ttcons Syntax.tnil Syntax.ttnil)))))) (Syntax.tcons (Syntax.tyInt Syntax.w8) Syntax.tnil)) (Syntax.ttcons Syntax.tnil (Syntax.ttcons (Syntax.tcons (Syntax.tyEnum (List._∷_ 116 (List._∷_ 101 (List._∷_ 120 (List._∷_ 116 (List._∷_ 95 (List._∷_ 104 (List._∷_ 101 (List._∷_ 97 (List._∷_ 100 (List._∷_ 105 (List._∷_ 110 (List._∷_ 103 (List._∷_ 58 (List._∷_ 58 (List._∷_ 72 (List._∷_ 101 (List._∷_ 97 (List._∷_ 100 (List._∷_ 105 (List._∷_ 110 (List._∷_ 103 (List._∷_ 70 (List._∷_ 97 (List._∷_ 117 (List._∷_ 108 (List._∷_ 116 List.[])))))))))))))))))))))))))) (Syntax.ttcons Syntax.tnil (Syntax.ttcons Syntax.tnil (Syntax.ttcons Syntax.tnil (Syntax.ttcons Syntax.tnil (Syntax.ttcons (Syntax.tcons (Syntax.tyEnum (List._∷_ 116 (List._∷_ 101 (List._∷_ 120 (List._∷_ 116 (List._∷_ 95 (List._∷_ 104 (List._∷_ 101 (List._∷_ 97 (List._∷_ 100 (List._∷_ 105 (List._∷_ 110 (List._∷_ 103 (List._∷_ 58 (List._∷_ 58 (List._∷_ 87 (List._∷_ 111 (List._∷_ 114 (List._∷_ 100 List.[])))))))))))))))))) (Syntax.ttcons Syntax.tnil (Syntax.ttcons Syntax.tnil (Syntax.ttcons Syntax.tnil (Syntax.ttcons Syntax.tnil (Syntax.ttcons Syntax.tnil Syntax.ttnil)))))) Syntax.tnil) Syntax.ttnil)))))) Syntax.tnil) Syntax.ttnil)))))) Syntax.tnil)))) Syntax.tnil) (Syntax.ttcons Syntax.tnil (Syntax.ttcons (Syntax.tcons (Syntax.tyInt Syntax.w8) Syntax.tnil) (Syntax.ttcons Syntax.tnil (Syntax.ttcons (Syntax.tcons (Syntax.tyEnum (List._∷_ 116 (List._∷_ 101 (List._∷_ 120 (List._∷_ 116 (List._∷_ 95 (List._∷_ 114 (List._∷_ 101 (List._∷_ 97 (List._∷_ 100 (List._∷_ 105 (List._∷_ 110 (List._∷_ 103 (List._∷_ 58 (List._∷_ 58 (List._∷_ 70 (List._∷_ 97 (List._∷_ 117 (List._∷_ 108 (List._∷_ 116 List.[]))))))))))))))))))) (Syntax.ttcons (Syntax.tcons (Syntax.tyEnum (List._∷_ 116 (List._∷_ 101 (List._∷_ 120 (List._∷_ 116 (List._∷_ 95 (List._∷_ 104 (List._∷_ 101 (List._∷_ 97 (List._∷_ 100 (List._∷_ 105 (List._∷_ 110 (List._∷_ 103 (List._∷_ 58 (List._∷_ 58 (List._∷_ 72 (List._∷_ 101 (List._∷_ 97 (List._∷_ 100 (List._∷_ 105 (List._∷_ 110 (List._∷_ 103 (List._∷_ 70 (List._∷_ 97 (List._∷_ 117 (List._∷_ 108 (List._∷_ 116 List.[])))))))))))))))))))))))))) (Syntax.ttcons Syntax.tnil (Syntax.ttcons Syntax.tnil (Syntax.ttcons Syntax.tnil (Syntax.ttcons Syntax.tnil (Syntax.ttcons (Syntax.tcons (Syntax.tyEnum (List._∷_ 116 (List._∷_ 101 (List._∷_ 120 (List._∷_ 116 (List._∷_ 95 (List._∷_ 104 (List._∷_ 101 (List._∷_ 97 (List._∷_ 100 (List._∷_ 105 (List._∷_ 110 (List._∷_ 103 (List._∷_ 58 (List._∷_ 58 (List._∷_ 87 (List._∷_ 111 (List._∷_ 114 (List._∷_ 100 List.[])))))))))))))))))) (Syntax.ttcons Syntax.tnil (Syntax.ttcons Syntax.tnil (Syntax.ttcons Syntax.tnil (Syntax.ttcons Syntax.tnil (Syntax.ttcons Syntax.tnil Syntax.ttnil)))))) Syntax.tnil) Syntax.ttnil)))))) Syntax.tnil) (Syntax.ttcons Syntax.tnil (Syntax.ttcons Syntax.tnil Syntax.ttnil)))) Syntax.tnil) Syntax.ttnil)))))))) (Syntax.tcons (Syntax.tyArray (Syntax.tyInt Syntax.w8) 32) (Syntax.tcons (Syntax.tyInt Syntax.w64) Syntax.tnil))))))) (List._∷_ (9, Rows.any-gone (Syntax.tyInt Syntax.w64)) (List._∷_ (10, Rows.any-gone (Syntax.tyRef Syntax.erased Syntax.mut OfOutput.named)) (List._∷_ (11, Mut.mslice (OfOutput.row) (Syntax.tyRef Syntax.erased Syntax.mut OfOutput.named) 5) (List._∷_ (12, Rows.any-gone (Syntax.tyRef Syntax.erased Syntax.mut OfStation.named)) (List._∷_ (13, Mut.mslice (OfStation.row) (Syntax.tyRef Syntax.erased Syntax.mut OfStation.named) 6) (List._∷_ (14, Rows.mref (OfPanelRecord.row) (Syntax.tyRef Syntax.erased Syntax.mut OfPanelRecord.named) 7) (List._∷_ (15, Rows.any-gone (Syntax.tyRef Syntax.erased Syntax.mut (Syntax.tyInt Syntax.w8))) List.[])))))))))))))))
 
 abbrev pub t11 : List.List Row.Entry
 t11 = List._∷_ (16, Mut.mslice (Referent.rtF (Referent.fInt Syntax.w8)) (Syntax.tyRef Syntax.erased Syntax.mut (Syntax.tyInt Syntax.w8)) 8) (List._∷_ (17, Rows.any-gone (Syntax.tyRef Syntax.erased Syntax.mut (Syntax.tyInt Syntax.w8))) (List._∷_ (18, Rows.any-gone (Syntax.tyStruct (List._∷_ 38 (List._∷_ 91 (List._∷_ 93 List.[]))) (Syntax.tcons (Syntax.tyRef Syntax.erased Syntax.mut (Syntax.tyInt Syntax.w8)) (Syntax.tcons (Syntax.tyInt Syntax.w64) Syntax.tnil)))) (List._∷_ (19, Rows.any-gone Syntax.tyBool) (List._∷_ (20, Rows.any-gone (Syntax.tyRef Syntax.erased Syntax.mut OfOutput.named)) (List._∷_ (21, Rows.any-gone (Syntax.tyStruct (List._∷_ 38 (List._∷_ 91 (List._∷_ 93 List.[]))) (Syntax.tcons (Syntax.tyRef Syntax.erased Syntax.mut OfOutput.named) (Syntax.tcons (Syntax.tyInt Syntax.w64) Syntax.tnil)))) (List._∷_ (22, Rows.any-gone (Syntax.tyRef Syntax.erased Syntax.mut OfStation.named)) (List._∷_ (23, Rows.any-gone (Syntax.tyStruct (List._∷_ 38 (List._∷_ 91 (List._∷_ 93 List.[]))) (Syntax.tcons (Syntax.tyRef Syntax.erased Syntax.mut OfStation.named) (Syntax.tcons (Syntax.tyInt Syntax.w64) Syntax.tnil)))) (List._∷_ (24, Rows.any-gone (Syntax.tyRef Syntax.erased Syntax.mut OfPanelRecord.named)) (List._∷_ (25, Rows.any-gone (Syntax.tyRef Syntax.erased Syntax.mut (Syntax.tyInt Syntax.w8))) (List._∷_ (26, Rows.any-gone (Syntax.tyStruct (List._∷_ 38 (List._∷_ 91 (List._∷_ 93 List.[]))) (Syntax.tcons (Syntax.tyRef Syntax.erased Syntax.mut (Syntax.tyInt Syntax.w8)) (Syntax.tcons (Syntax.tyInt Syntax.w64) Syntax.tnil)))) (List._∷_ (27, Rows.any-gone Syntax.tyUnit) (List._∷_ (28, Rows.any-gone (Syntax.tyRef Syntax.erased Syntax.imm (Syntax.tyInt Syntax.w8))) (List._∷_ (29, Rows.any-gone (Syntax.tyStruct (List._∷_ 38 (List._∷_ 91 (List._∷_ 93 List.[]))) (Syntax.tcons (Syntax.tyRef Syntax.erased Syntax.imm (Syntax.tyInt Syntax.w8)) (Syntax.tcons (Syntax.tyInt Syntax.w64) Syntax.tnil)))) (List._∷_ (30, Rows.any-gone Syntax.tyUnit) (List._∷_ (31, Rows.any-gone (Syntax.tyRef Syntax.erased Syntax.imm (Syntax.tyInt Syntax.w8))) List.[])))))))))))))))
 
 abbrev pub t12 : List.List Row.Entry
-t12 = List._∷_ (0, Rows.any-gone Syntax.tyUnit) (List._∷_ (1, Relend.mslice-owed (OfOutput.row) (Syntax.tyRef (Syntax.named 0) Syntax.mut OfOutput.named) 0 5 Row.off) (List._∷_ (2, Relend.mslice-owed (OfStation.row) (Syntax.tyRef (Syntax.named 1) Syntax.mut OfStation.named) 1 6 Row.off) (List._∷_ (3, Rows.mref-owed (OfPanelRecord.row) (Syntax.tyRef (Syntax.named 2) Syntax.mut OfPanelRecord.named) 2 7 Row.off) (List._∷_ (4, Relend.mslice-owed (Referent.rtF (Referent.fInt Syntax.w8)) (Syntax.tyRef (Syntax.named 3) Syntax.mut (Syntax.tyInt Syntax.w8)) 3 8 Row.off) (List._∷_ (5, Relend.mslice-owed (Referent.rtF (Referent.fInt Syntax.w8)) (Syntax.tyRef (Syntax.named 4) Syntax.mut (Syntax.tyInt Syntax.w8)) 4 9 Row.off) (List._∷_ (6, Rows.sc-here Row.sBool) (List._∷_ (7, Rows.any-gone (Laws.mir)) (List._∷_ (8, Rows.any-gone (Syntax.tyStruct (List._∷_ 116 (List._∷_ 101 (List._∷_ 120 (List._∷_ 116 (List._∷_ 95 (List._∷_ 114 (List._∷_ 101 (List._∷_ 97 (List._∷_ 100 (List._∷_ 105 (List._∷_ 110 (List._∷_ 103 (List._∷_ 58 (List._∷_ 58 (List._∷_ 82 (List._∷_ 101 (List._∷_ 97 (List._∷_ 100 (List._∷_ 101 (List._∷_ 114 List.[])))))))))))))))))))) (Syntax.tcons Syntax.tyBool (Syntax.tcons (Syntax.tyInt Syntax.w64) (Syntax.tcons (Syntax.tyEnum (List._∷_ 116 (List._∷_ 101 (List._∷_ 120 (List._∷_ 116 (List._∷_ 95 (List._∷_ 114 (List._∷_ 101 (List._∷_ 97 (List._∷_ 100 (List._∷_ 105 (List._∷_ 110 (List._∷_ 103 (List._∷_ 58 (List._∷_ 58 (List._∷_ 72 (List._∷_ 101 (List._∷_ 108 (List._∷_ 100 List.[])))))))))))))))))) (Syntax.ttcons Syntax.tnil (Syntax.ttcons Syntax.tnil (Syntax.ttcons (Syntax.tcons (Syntax.tyStruct (List._∷_ 116 (List._∷_ 101 (List._∷_ 120 (List._∷_ 116 (List._∷_ 95 (List._∷_ 104 (List._∷_ 101 (List._∷_ 97 (List._∷_ 100 (List._∷_ 105 (List._∷_ 110 (List._∷_ 103 (List._∷_ 58 (List._∷_ 58 (List._∷_ 72 (List._∷_ 101 (List._∷_ 97 (List._∷_ 100 (List._∷_ 105 (List._∷_ 110 (List._∷_ 103 List.[]))))))))))))))))))))) (Syntax.tcons (IsParameters.mir) (Syntax.tcons (Syntax.tyStruct (List._∷_ 116 (List._∷_ 101 (List._∷_ 120 (List._∷_ 116 (List._∷_ 95 (List._∷_ 104 (List._∷_ 101 (List._∷_ 97 (List._∷_ 100 (List._∷_ 105 (List._∷_ 110 (List._∷_ 103 (List._∷_ 58 (List._∷_ 58 (List._∷_ 67 (List._∷_ 97 (List._∷_ 109 (List._∷_ 101 List.[])))))))))))))))))) (Syntax.tcons Syntax.tyBool (Syntax.tcons Syntax.tyBool (Syntax.tcons Syntax.tyBool Syntax.tnil)))) (Syntax.tcons (Syntax.tyEnum (List._∷_ 116 (List._∷_ 101 (List._∷_ 120 (List._∷_ 116 (List._∷_ 95 (List._∷_ 104 (List._∷_ 101 (List._∷_ 97 (List._∷_ 100 (List._∷_ 105 (List._∷_ 110 (List._∷_ 103 (List._∷_ 58 (List._∷_ 58 (List._∷_ 80 (List._∷_ 108 (List._∷_ 97 (List._∷_ 99 (List._∷_ 101 List.[]))))))))))))))))))) (Syntax.ttcons (Syntax.tcons (Syntax.tyEnum (List._∷_ 116 (List._∷_ 101 (List._∷_ 120 (List._∷_ 116 (List._∷_ 95 (List._∷_ 104 (List._∷_ 101 (List._∷_ 97 (List._∷_ 100 (List._∷_ 105 (List._∷_ 110 (List._∷_ 103 (List._∷_ 58 (List._∷_ 58 (List._∷_ 87 (List._∷_ 111 (List._∷_ 114 (List._∷_ 100 List.[])))))))))))))))))) (Syntax.ttcons Syntax.tnil (Syntax.ttcons Syntax.tnil (Syntax.ttcons Syntax.tnil (Syntax.ttcons Syntax.tnil Syntax.ttnil))))) (Syntax.tcons (Syntax.tyInt Syntax.w8) Syntax.tnil)) (Syntax.ttcons (Syntax.tcons (Syntax.tyEnum (List._∷_ 116 (List._∷_ 101 (List._∷_ 120 (List._∷_ 116 (List._∷_ 95 (List._∷_ 104 (List._∷_ 101 (List._∷_ 97 (List._∷_ 100 (List._∷_ 105 (List._∷_ 110 (List._∷_ 103 (List._∷_ 58 (List._∷_ 58 (List._∷_ 87 (List._∷_ 111 (List._∷_ 114 (List._∷_ 100 List.[])))))))))))))))))) (Syntax.ttcons Syntax.tnil (Syntax.ttcons Syntax.tnil (Syntax.ttcons Syntax.tnil (Syntax.ttcons Syntax.tnil Syntax.ttnil))))) Syntax.tnil) (Syntax.ttcons (Syntax.tcons (Syntax.tyEnum (List._∷_ 116 (List._∷_ 101 (List._∷_ 120 (List._∷_ 116 (List._∷_ 95 (List._∷_ 104 (List._∷_ 101 (List._∷_ 97 (List._∷_ 100 (List._∷_ 105 (List._∷_ 110 (List._∷_ 103 (List._∷_ 58 (List._∷_ 58 (List._∷_ 87 (List._∷_ 111 (List._∷_ 114 (List._∷_ 100 List.[])))))))))))))))))) (Syntax.ttcons Syntax.tnil (Syntax.ttcons Syntax.tnil (Syntax.ttcons Syntax.tnil (Syntax.ttcons Syntax.tnil Syntax.ttnil))))) Syntax.tnil) (Syntax.ttcons Syntax.tnil (Syntax.ttcons (Syntax.tcons (Syntax.tyEnum (List._∷_ 116 (List._∷_ 101 (List._∷_ 120 (List._∷_ 116 (List._∷_ 95 (List._∷_ 104 (List._∷_ 101 (List._∷_ 97 (List._∷_ 100 (List._∷_ 105 (List._∷_ 110 (List._∷_ 103 (List._∷_ 58 (List._∷_ 58 (List._∷_ 72 (List._∷_ 101 (List._∷_ 97 (List._∷_ 100 (List._∷_ 105 (List._∷_ 110 (List._∷_ 103 (List._∷_ 70 (List._∷_ 97 (List._∷_ 117 (List._∷_ 108 (List._∷_ 116 List.[])))))))))))))))))))))))))) (Syntax.ttcons Syntax.tnil (Syntax.ttcons Syntax.tnil (Syntax.ttcons Syntax.tnil (Syntax.ttcons (Syntax.tcons (Syntax.tyEnum (List._∷_ 116 (List._∷_ 101 (List._∷_ 120 (List._∷_ 116 (List._∷_ 95 (List._∷_ 104 (List._∷_ 101 (List._∷_ 97 (List._∷_ 100 (List._∷_ 105 (List._∷_ 110 (List._∷_ 103 (List._∷_ 58 (List._∷_ 58 (List._∷_ 87 (List._∷_ 111 (List._∷_ 114 (List._∷_ 100 List.[])))))))))))))))))) (Syntax.ttcons Syntax.tnil (Syntax.ttcons Syntax.tnil (Syntax.ttcons Syntax.tnil (Syntax.ttcons Syntax.tnil Syntax.ttnil))))) Syntax.tnil) Syntax.ttnil))))) Syntax.tnil) Syntax.ttnil)))))) Syntax.tnil)))) Syntax.tnil) (Syntax.ttcons Syntax.tnil (Syntax.ttcons (Syntax.tcons (Syntax.tyInt Syntax.w8) Syntax.tnil) (Syntax.ttcons Syntax.tnil (Syntax.ttcons (Syntax.tcons (Syntax.tyEnum (List._∷_ 116 (List._∷_ 101 (List._∷_ 120 (List._∷_ 116 (List._∷_ 95 (List._∷_ 114 (List._∷_ 101 (List._∷_ 97 (List._∷_ 100 (List._∷_ 105 (List._∷_ 110 (List._∷_ 103 (List._∷_ 58 (List._∷_ 58 (List._∷_ 70 (List._∷_ 97 (List._∷_ 117 (List._∷_ 108 (List._∷_ 116 List.[]))))))))))))))))))) (Syntax.ttcons (Syntax.tcons (Syntax.tyEnum (List._∷_ 116 (List._∷_ 101 (List._∷_ 120 (List._∷_ 116 (List._∷_ 95 (List._∷_ 104 (List._∷_ 101 (List._∷_ 97 (List._∷_ 100 (List._∷_ 105 (List._∷_ 110 (List._∷_ 103 (List._∷_ 58 (List._∷_ 58 (List._∷_ 72 (List._∷_ 101 (List._∷_ 97 (List._∷_ 100 (List._∷_ 105 (List._∷_ 110 (List._∷_ 103 (List._∷_ 70 (List._∷_ 97 (List._∷_ 117 (List._∷_ 108 (List._∷_ 116 List.[])))))))))))))))))))))))))) (Syntax.ttcons Syntax.tnil (Syntax.ttcons Syntax.tnil (Syntax.ttcons Syntax.tnil (Syntax.ttcons (Syntax.tcons (Syntax.tyEnum (List._∷_ 116 (List._∷_ 101 (List._∷_ 120 (List._∷_ 116 (List._∷_ 95 (List._∷_ 104 (List._∷_ 101 (List._∷_ 97 (List._∷_ 100 (List._∷_ 105 (List._∷_ 110 (List._∷_ 103 (List._∷_ 58 (List._∷_ 58 (List._∷_ 87 (List._∷_ 111 (List._∷_ 114 (List._∷_ 100 List.[])))))))))))))))))) (Syntax.ttcons Syntax.tnil (Syntax.ttcons Syntax.tnil (Syntax.ttcons Syntax.tnil (Syntax.ttcons Syntax.tnil Syntax.ttnil))))) Syntax.tnil) Syntax.ttnil))))) Syntax.tnil) (Syntax.ttcons Syntax.tnil (Syntax.ttcons Syntax.tnil Syntax.ttnil)))) Syntax.tnil) Syntax.ttnil)))))))) (Syntax.tcons (Syntax.tyArray (Syntax.tyInt Syntax.w8) 32) (Syntax.tcons (Syntax.tyInt Syntax.w64) Syntax.tnil))))))) (List._∷_ (9, Rows.any-gone (Syntax.tyInt Syntax.w64)) (List._∷_ (10, Rows.any-gone (Syntax.tyRef Syntax.erased Syntax.mut OfOutput.named)) (List._∷_ (11, Mut.mslice (OfOutput.row) (Syntax.tyRef Syntax.erased Syntax.mut OfOutput.named) 5) (List._∷_ (12, Rows.any-gone (Syntax.tyRef Syntax.erased Syntax.mut OfStation.named)) (List._∷_ (13, Mut.mslice (OfStation.row) (Syntax.tyRef Syntax.erased Syntax.mut OfStation.named) 6) (List._∷_ (14, Rows.mref (OfPanelRecord.row) (Syntax.tyRef Syntax.erased Syntax.mut OfPanelRecord.named) 7) (List._∷_ (15, Rows.any-gone (Syntax.tyRef Syntax.erased Syntax.mut (Syntax.tyInt Syntax.w8))) List.[])))))))))))))))
+t12 = List._∷_ (0, Rows.any-gone Syntax.tyUnit) (List._∷_ (1, Relend.mslice-owed (OfOutput.row) (Syntax.tyRef (Syntax.named 0) Syntax.mut OfOutput.named) 0 5 Row.off) (List._∷_ (2, Relend.mslice-owed (OfStation.row) (Syntax.tyRef (Syntax.named 1) Syntax.mut OfStation.named) 1 6 Row.off) (List._∷_ (3, Rows.mref-owed (OfPanelRecord.row) (Syntax.tyRef (Syntax.named 2) Syntax.mut OfPanelRecord.named) 2 7 Row.off) (List._∷_ (4, Relend.mslice-owed (Referent.rtF (Referent.fInt Syntax.w8)) (Syntax.tyRef (Syntax.named 3) Syntax.mut (Syntax.tyInt Syntax.w8)) 3 8 Row.off) (List._∷_ (5, Relend.mslice-owed (Referent.rtF (Referent.fInt Syntax.w8)) (Syntax.tyRef (Syntax.named 4) Syntax.mut (Syntax.tyInt Syntax.w8)) 4 9 Row.off) (List._∷_ (6, Rows.sc-here Row.sBool) (List._∷_ (7, Rows.any-gone (Laws.mir)) (List._∷_ (8, Rows.any-gone (Syntax.tyStruct (List._∷_ 116 (List._∷_ 101 (List._∷_ 120 (List._∷_ 116 (List._∷_ 95 (List._∷_ 114 (List._∷_ 101 (List._∷_ 97 (List._∷_ 100 (List._∷_ 105 (List._∷_ 110 (List._∷_ 103 (List._∷_ 58 (List._∷_ 58 (List._∷_ 82 (List._∷_ 101 (List._∷_ 97 (List._∷_ 100 (List._∷_ 101 (List._∷_ 114 List.[])))))))))))))))))))) (Syntax.tcons Syntax.tyBool (Syntax.tcons (Syntax.tyInt Syntax.w64) (Syntax.tcons (Syntax.tyEnum (List._∷_ 116 (List._∷_ 101 (List._∷_ 120 (List._∷_ 116 (List._∷_ 95 (List._∷_ 114 (List._∷_ 101 (List._∷_ 97 (List._∷_ 100 (List._∷_ 105 (List._∷_ 110 (List._∷_ 103 (List._∷_ 58 (List._∷_ 58 (List._∷_ 72 (List._∷_ 101 (List._∷_ 108 (List._∷_ 100 List.[])))))))))))))))))) (Syntax.ttcons Syntax.tnil (Syntax.ttcons Syntax.tnil (Syntax.ttcons (Syntax.tcons (Syntax.tyStruct (List._∷_ 116 (List._∷_ 101 (List._∷_ 120 (List._∷_ 116 (List._∷_ 95 (List._∷_ 104 (List._∷_ 101 (List._∷_ 97 (List._∷_ 100 (List._∷_ 105 (List._∷_ 110 (List._∷_ 103 (List._∷_ 58 (List._∷_ 58 (List._∷_ 72 (List._∷_ 101 (List._∷_ 97 (List._∷_ 100 (List._∷_ 105 (List._∷_ 110 (List._∷_ 103 List.[]))))))))))))))))))))) (Syntax.tcons (Syntax.tyStruct (List._∷_ 116 (List._∷_ 101 (List._∷_ 120 (List._∷_ 116 (List._∷_ 95 (List._∷_ 104 (List._∷_ 101 (List._∷_ 97 (List._∷_ 100 (List._∷_ 105 (List._∷_ 110 (List._∷_ 103 (List._∷_ 58 (List._∷_ 58 (List._∷_ 78 (List._∷_ 97 (List._∷_ 109 (List._∷_ 101 (List._∷_ 100 List.[]))))))))))))))))))) (Syntax.tcons (IsParameters.mir) (Syntax.tcons (Syntax.tyInt Syntax.w32) Syntax.tnil))) (Syntax.tcons (Syntax.tyStruct (List._∷_ 116 (List._∷_ 101 (List._∷_ 120 (List._∷_ 116 (List._∷_ 95 (List._∷_ 104 (List._∷_ 101 (List._∷_ 97 (List._∷_ 100 (List._∷_ 105 (List._∷_ 110 (List._∷_ 103 (List._∷_ 58 (List._∷_ 58 (List._∷_ 67 (List._∷_ 97 (List._∷_ 109 (List._∷_ 101 List.[])))))))))))))))))) (Syntax.tcons Syntax.tyBool (Syntax.tcons Syntax.tyBool (Syntax.tcons Syntax.tyBool (Syntax.tcons Syntax.tyBool Syntax.tnil))))) (Syntax.tcons (Syntax.tyEnum (List._∷_ 116 (List._∷_ 101 (List._∷_ 120 (List._∷_ 116 (List._∷_ 95 (List._∷_ 104 (List._∷_ 101 (List._∷_ 97 (List._∷_ 100 (List._∷_ 105 (List._∷_ 110 (List._∷_ 103 (List._∷_ 58 (List._∷_ 58 (List._∷_ 80 (List._∷_ 108 (List._∷_ 97 (List._∷_ 99 (List._∷_ 101 List.[]))))))))))))))))))) (Syntax.ttcons (Syntax.tcons (Syntax.tyEnum (List._∷_ 116 (List._∷_ 101 (List._∷_ 120 (List._∷_ 116 (List._∷_ 95 (List._∷_ 104 (List._∷_ 101 (List._∷_ 97 (List._∷_ 100 (List._∷_ 105 (List._∷_ 110 (List._∷_ 103 (List._∷_ 58 (List._∷_ 58 (List._∷_ 87 (List._∷_ 111 (List._∷_ 114 (List._∷_ 100 List.[])))))))))))))))))) (Syntax.ttcons Syntax.tnil (Syntax.ttcons Syntax.tnil (Syntax.ttcons Syntax.tnil (Syntax.ttcons Syntax.tnil (Syntax.ttcons Syntax.tnil Syntax.ttnil)))))) (Syntax.tcons (Syntax.tyInt Syntax.w8) Syntax.tnil)) (Syntax.ttcons (Syntax.tcons (Syntax.tyEnum (List._∷_ 116 (List._∷_ 101 (List._∷_ 120 (List._∷_ 116 (List._∷_ 95 (List._∷_ 104 (List._∷_ 101 (List._∷_ 97 (List._∷_ 100 (List._∷_ 105 (List._∷_ 110 (List._∷_ 103 (List._∷_ 58 (List._∷_ 58 (List._∷_ 87 (List._∷_ 111 (List._∷_ 114 (List._∷_ 100 List.[])))))))))))))))))) (Syntax.ttcons Syntax.tnil (Syntax.ttcons Syntax.tnil (Syntax.ttcons Syntax.tnil (Syntax.ttcons Syntax.tnil (Syntax.ttcons Syntax.tnil Syntax.ttnil)))))) Syntax.tnil) (Syntax.ttcons (Syntax.tcons (Syntax.tyEnum (List._∷_ 116 (List._∷_ 101 (List._∷_ 120 (List._∷_ 116 (List._∷_ 95 (List._∷_ 104 (List._∷_ 101 (List._∷_ 97 (List._∷_ 100 (List._∷_ 105 (List._∷_ 110 (List._∷_ 103 (List._∷_ 58 (List._∷_ 58 (List._∷_ 87 (List._∷_ 111 (List._∷_ 114 (List._∷_ 100 List.[])))))))))))))))))) (Syntax.ttcons Syntax.tnil (Syntax.ttcons Syntax.tnil (Syntax.ttcons Syntax.tnil (Syntax.ttcons Syntax.tnil (Syntax.ttcons Syntax.tnil Syntax.ttnil)))))) (Syntax.tcons (Syntax.tyInt Syntax.w8) Syntax.tnil)) (Syntax.ttcons Syntax.tnil (Syntax.ttcons (Syntax.tcons (Syntax.tyEnum (List._∷_ 116 (List._∷_ 101 (List._∷_ 120 (List._∷_ 116 (List._∷_ 95 (List._∷_ 104 (List._∷_ 101 (List._∷_ 97 (List._∷_ 100 (List._∷_ 105 (List._∷_ 110 (List._∷_ 103 (List._∷_ 58 (List._∷_ 58 (List._∷_ 72 (List._∷_ 101 (List._∷_ 97 (List._∷_ 100 (List._∷_ 105 (List._∷_ 110 (List._∷_ 103 (List._∷_ 70 (List._∷_ 97 (List._∷_ 117 (List._∷_ 108 (List._∷_ 116 List.[])))))))))))))))))))))))))) (Syntax.ttcons Syntax.tnil (Syntax.ttcons Syntax.tnil (Syntax.ttcons Syntax.tnil (Syntax.ttcons Syntax.tnil (Syntax.ttcons (Syntax.tcons (Syntax.tyEnum (List._∷_ 116 (List._∷_ 101 (List._∷_ 120 (List._∷_ 116 (List._∷_ 95 (List._∷_ 104 (List._∷_ 101 (List._∷_ 97 (List._∷_ 100 (List._∷_ 105 (List._∷_ 110 (List._∷_ 103 (List._∷_ 58 (List._∷_ 58 (List._∷_ 87 (List._∷_ 111 (List._∷_ 114 (List._∷_ 100 List.[])))))))))))))))))) (Syntax.ttcons Syntax.tnil (Syntax.ttcons Syntax.tnil (Syntax.ttcons Syntax.tnil (Syntax.ttcons Syntax.tnil (Syntax.ttcons Syntax.tnil Syntax.ttnil)))))) Syntax.tnil) Syntax.ttnil)))))) Syntax.tnil) Syntax.ttnil)))))) Syntax.tnil)))) Syntax.tnil) (Syntax.ttcons Syntax.tnil (Syntax.ttcons (Syntax.tcons (Syntax.tyInt Syntax.w8) Syntax.tnil) (Syntax.ttcons Syntax.tnil (Syntax.ttcons (Syntax.tcons (Syntax.tyEnum (List._∷_ 116 (List._∷_ 101 (List._∷_ 120 (List._∷_ 116 (List._∷_ 95 (List._∷_ 114 (List._∷_ 101 (List._∷_ 97 (List._∷_ 100 (List._∷_ 105 (List._∷_ 110 (List._∷_ 103 (List._∷_ 58 (List._∷_ 58 (List._∷_ 70 (List._∷_ 97 (List._∷_ 117 (List._∷_ 108 (List._∷_ 116 List.[]))))))))))))))))))) (Syntax.ttcons (Syntax.tcons (Syntax.tyEnum (List._∷_ 116 (List._∷_ 101 (List._∷_ 120 (List._∷_ 116 (List._∷_ 95 (List._∷_ 104 (List._∷_ 101 (List._∷_ 97 (List._∷_ 100 (List._∷_ 105 (List._∷_ 110 (List._∷_ 103 (List._∷_ 58 (List._∷_ 58 (List._∷_ 72 (List._∷_ 101 (List._∷_ 97 (List._∷_ 100 (List._∷_ 105 (List._∷_ 110 (List._∷_ 103 (List._∷_ 70 (List._∷_ 97 (List._∷_ 117 (List._∷_ 108 (List._∷_ 116 List.[])))))))))))))))))))))))))) (Syntax.ttcons Syntax.tnil (Syntax.ttcons Syntax.tnil (Syntax.ttcons Syntax.tnil (Syntax.ttcons Syntax.tnil (Syntax.ttcons (Syntax.tcons (Syntax.tyEnum (List._∷_ 116 (List._∷_ 101 (List._∷_ 120 (List._∷_ 116 (List._∷_ 95 (List._∷_ 104 (List._∷_ 101 (List._∷_ 97 (List._∷_ 100 (List._∷_ 105 (List._∷_ 110 (List._∷_ 103 (List._∷_ 58 (List._∷_ 58 (List._∷_ 87 (List._∷_ 111 (List._∷_ 114 (List._∷_ 100 List.[])))))))))))))))))) (Syntax.ttcons Syntax.tnil (Syntax.ttcons Syntax.tnil (Syntax.ttcons Syntax.tnil (Syntax.ttcons Syntax.tnil (Syntax.ttcons Syntax.tnil Syntax.ttnil)))))) Syntax.tnil) Syntax.ttnil)))))) Syntax.tnil) (Syntax.ttcons Syntax.tnil (Syntax.ttcons Syntax.tnil Syntax.ttnil)))) Syntax.tnil) Syntax.ttnil)))))))) (Syntax.tcons (Syntax.tyArray (Syntax.tyInt Syntax.w8) 32) (Syntax.tcons (Syntax.tyInt Syntax.w64) Syntax.tnil))))))) (List._∷_ (9, Rows.any-gone (Syntax.tyInt Syntax.w64)) (List._∷_ (10, Rows.any-gone (Syntax.tyRef Syntax.erased Syntax.mut OfOutput.named)) (List._∷_ (11, Mut.mslice (OfOutput.row) (Syntax.tyRef Syntax.erased Syntax.mut OfOutput.named) 5) (List._∷_ (12, Rows.any-gone (Syntax.tyRef Syntax.erased Syntax.mut OfStation.named)) (List._∷_ (13, Mut.mslice (OfStation.row) (Syntax.tyRef Syntax.erased Syntax.mut OfStation.named) 6) (List._∷_ (14, Rows.mref (OfPanelRecord.row) (Syntax.tyRef Syntax.erased Syntax.mut OfPanelRecord.named) 7) (List._∷_ (15, Rows.any-gone (Syntax.tyRef Syntax.erased Syntax.mut (Syntax.tyInt Syntax.w8))) List.[])))))))))))))))
 
 abbrev pub t13 : List.List Row.Entry
 t13 = List._∷_ (16, Mut.mslice (Referent.rtF (Referent.fInt Syntax.w8)) (Syntax.tyRef Syntax.erased Syntax.mut (Syntax.tyInt Syntax.w8)) 8) (List._∷_ (17, Relend.msptr (Referent.rtF (Referent.fInt Syntax.w8)) (Syntax.tyRef Syntax.erased Syntax.mut (Syntax.tyInt Syntax.w8)) 9) (List._∷_ (18, Rows.any-gone (Syntax.tyStruct (List._∷_ 38 (List._∷_ 91 (List._∷_ 93 List.[]))) (Syntax.tcons (Syntax.tyRef Syntax.erased Syntax.mut (Syntax.tyInt Syntax.w8)) (Syntax.tcons (Syntax.tyInt Syntax.w64) Syntax.tnil)))) (List._∷_ (19, Rows.any-gone Syntax.tyBool) (List._∷_ (20, Rows.any-gone (Syntax.tyRef Syntax.erased Syntax.mut OfOutput.named)) (List._∷_ (21, Rows.any-gone (Syntax.tyStruct (List._∷_ 38 (List._∷_ 91 (List._∷_ 93 List.[]))) (Syntax.tcons (Syntax.tyRef Syntax.erased Syntax.mut OfOutput.named) (Syntax.tcons (Syntax.tyInt Syntax.w64) Syntax.tnil)))) (List._∷_ (22, Rows.any-gone (Syntax.tyRef Syntax.erased Syntax.mut OfStation.named)) (List._∷_ (23, Rows.any-gone (Syntax.tyStruct (List._∷_ 38 (List._∷_ 91 (List._∷_ 93 List.[]))) (Syntax.tcons (Syntax.tyRef Syntax.erased Syntax.mut OfStation.named) (Syntax.tcons (Syntax.tyInt Syntax.w64) Syntax.tnil)))) (List._∷_ (24, Rows.any-gone (Syntax.tyRef Syntax.erased Syntax.mut OfPanelRecord.named)) (List._∷_ (25, Rows.any-gone (Syntax.tyRef Syntax.erased Syntax.mut (Syntax.tyInt Syntax.w8))) (List._∷_ (26, Rows.any-gone (Syntax.tyStruct (List._∷_ 38 (List._∷_ 91 (List._∷_ 93 List.[]))) (Syntax.tcons (Syntax.tyRef Syntax.erased Syntax.mut (Syntax.tyInt Syntax.w8)) (Syntax.tcons (Syntax.tyInt Syntax.w64) Syntax.tnil)))) (List._∷_ (27, Rows.any-gone Syntax.tyUnit) (List._∷_ (28, Rows.any-gone (Syntax.tyRef Syntax.erased Syntax.imm (Syntax.tyInt Syntax.w8))) (List._∷_ (29, Rows.any-gone (Syntax.tyStruct (List._∷_ 38 (List._∷_ 91 (List._∷_ 93 List.[]))) (Syntax.tcons (Syntax.tyRef Syntax.erased Syntax.imm (Syntax.tyInt Syntax.w8)) (Syntax.tcons (Syntax.tyInt Syntax.w64) Syntax.tnil)))) (List._∷_ (30, Rows.any-gone Syntax.tyUnit) (List._∷_ (31, Rows.any-gone (Syntax.tyRef Syntax.erased Syntax.imm (Syntax.tyInt Syntax.w8))) List.[])))))))))))))))
@@ -314,28 +314,28 @@ abbrev pub t14 : List.List Row.Entry
 t14 = List._∷_ (16, Mut.mslice (Referent.rtF (Referent.fInt Syntax.w8)) (Syntax.tyRef Syntax.erased Syntax.mut (Syntax.tyInt Syntax.w8)) 8) (List._∷_ (17, Rows.any-gone (Syntax.tyRef Syntax.erased Syntax.mut (Syntax.tyInt Syntax.w8))) (List._∷_ (18, Mut.mslice (Referent.rtF (Referent.fInt Syntax.w8)) (Syntax.tyRef Syntax.erased Syntax.mut (Syntax.tyInt Syntax.w8)) 9) (List._∷_ (19, Rows.any-gone Syntax.tyBool) (List._∷_ (20, Rows.any-gone (Syntax.tyRef Syntax.erased Syntax.mut OfOutput.named)) (List._∷_ (21, Rows.any-gone (Syntax.tyStruct (List._∷_ 38 (List._∷_ 91 (List._∷_ 93 List.[]))) (Syntax.tcons (Syntax.tyRef Syntax.erased Syntax.mut OfOutput.named) (Syntax.tcons (Syntax.tyInt Syntax.w64) Syntax.tnil)))) (List._∷_ (22, Rows.any-gone (Syntax.tyRef Syntax.erased Syntax.mut OfStation.named)) (List._∷_ (23, Rows.any-gone (Syntax.tyStruct (List._∷_ 38 (List._∷_ 91 (List._∷_ 93 List.[]))) (Syntax.tcons (Syntax.tyRef Syntax.erased Syntax.mut OfStation.named) (Syntax.tcons (Syntax.tyInt Syntax.w64) Syntax.tnil)))) (List._∷_ (24, Rows.any-gone (Syntax.tyRef Syntax.erased Syntax.mut OfPanelRecord.named)) (List._∷_ (25, Rows.any-gone (Syntax.tyRef Syntax.erased Syntax.mut (Syntax.tyInt Syntax.w8))) (List._∷_ (26, Rows.any-gone (Syntax.tyStruct (List._∷_ 38 (List._∷_ 91 (List._∷_ 93 List.[]))) (Syntax.tcons (Syntax.tyRef Syntax.erased Syntax.mut (Syntax.tyInt Syntax.w8)) (Syntax.tcons (Syntax.tyInt Syntax.w64) Syntax.tnil)))) (List._∷_ (27, Rows.any-gone Syntax.tyUnit) (List._∷_ (28, Rows.any-gone (Syntax.tyRef Syntax.erased Syntax.imm (Syntax.tyInt Syntax.w8))) (List._∷_ (29, Rows.any-gone (Syntax.tyStruct (List._∷_ 38 (List._∷_ 91 (List._∷_ 93 List.[]))) (Syntax.tcons (Syntax.tyRef Syntax.erased Syntax.imm (Syntax.tyInt Syntax.w8)) (Syntax.tcons (Syntax.tyInt Syntax.w64) Syntax.tnil)))) (List._∷_ (30, Rows.any-gone Syntax.tyUnit) (List._∷_ (31, Rows.any-gone (Syntax.tyRef Syntax.erased Syntax.imm (Syntax.tyInt Syntax.w8))) List.[])))))))))))))))
 
 abbrev pub t15 : List.List Row.Entry
-t15 = List._∷_ (0, Rows.any-gone Syntax.tyUnit) (List._∷_ (1, Relend.mslice-owed (OfOutput.row) (Syntax.tyRef (Syntax.named 0) Syntax.mut OfOutput.named) 0 5 Row.off) (List._∷_ (2, Relend.mslice-owed (OfStation.row) (Syntax.tyRef (Syntax.named 1) Syntax.mut OfStation.named) 1 6 Row.off) (List._∷_ (3, Rows.mref-owed (OfPanelRecord.row) (Syntax.tyRef (Syntax.named 2) Syntax.mut OfPanelRecord.named) 2 7 Row.off) (List._∷_ (4, Relend.mslice-owed (Referent.rtF (Referent.fInt Syntax.w8)) (Syntax.tyRef (Syntax.named 3) Syntax.mut (Syntax.tyInt Syntax.w8)) 3 8 Row.off) (List._∷_ (5, Relend.mslice-owed (Referent.rtF (Referent.fInt Syntax.w8)) (Syntax.tyRef (Syntax.named 4) Syntax.mut (Syntax.tyInt Syntax.w8)) 4 9 Row.off) (List._∷_ (6, Rows.sc-here Row.sBool) (List._∷_ (7, Rows.whole (Declared.row Turn.the-type)) (List._∷_ (8, Rows.any-gone (Syntax.tyStruct (List._∷_ 116 (List._∷_ 101 (List._∷_ 120 (List._∷_ 116 (List._∷_ 95 (List._∷_ 114 (List._∷_ 101 (List._∷_ 97 (List._∷_ 100 (List._∷_ 105 (List._∷_ 110 (List._∷_ 103 (List._∷_ 58 (List._∷_ 58 (List._∷_ 82 (List._∷_ 101 (List._∷_ 97 (List._∷_ 100 (List._∷_ 101 (List._∷_ 114 List.[])))))))))))))))))))) (Syntax.tcons Syntax.tyBool (Syntax.tcons (Syntax.tyInt Syntax.w64) (Syntax.tcons (Syntax.tyEnum (List._∷_ 116 (List._∷_ 101 (List._∷_ 120 (List._∷_ 116 (List._∷_ 95 (List._∷_ 114 (List._∷_ 101 (List._∷_ 97 (List._∷_ 100 (List._∷_ 105 (List._∷_ 110 (List._∷_ 103 (List._∷_ 58 (List._∷_ 58 (List._∷_ 72 (List._∷_ 101 (List._∷_ 108 (List._∷_ 100 List.[])))))))))))))))))) (Syntax.ttcons Syntax.tnil (Syntax.ttcons Syntax.tnil (Syntax.ttcons (Syntax.tcons (Syntax.tyStruct (List._∷_ 116 (List._∷_ 101 (List._∷_ 120 (List._∷_ 116 (List._∷_ 95 (List._∷_ 104 (List._∷_ 101 (List._∷_ 97 (List._∷_ 100 (List._∷_ 105 (List._∷_ 110 (List._∷_ 103 (List._∷_ 58 (List._∷_ 58 (List._∷_ 72 (List._∷_ 101 (List._∷_ 97 (List._∷_ 100 (List._∷_ 105 (List._∷_ 110 (List._∷_ 103 List.[]))))))))))))))))))))) (Syntax.tcons (IsParameters.mir) (Syntax.tcons (Syntax.tyStruct (List._∷_ 116 (List._∷_ 101 (List._∷_ 120 (List._∷_ 116 (List._∷_ 95 (List._∷_ 104 (List._∷_ 101 (List._∷_ 97 (List._∷_ 100 (List._∷_ 105 (List._∷_ 110 (List._∷_ 103 (List._∷_ 58 (List._∷_ 58 (List._∷_ 67 (List._∷_ 97 (List._∷_ 109 (List._∷_ 101 List.[])))))))))))))))))) (Syntax.tcons Syntax.tyBool (Syntax.tcons Syntax.tyBool (Syntax.tcons Syntax.tyBool Syntax.tnil)))) (Syntax.tcons (Syntax.tyEnum (List._∷_ 116 (List._∷_ 101 (List._∷_ 120 (List._∷_ 116 (List._∷_ 95 (List._∷_ 104 (List._∷_ 101 (List._∷_ 97 (List._∷_ 100 (List._∷_ 105 (List._∷_ 110 (List._∷_ 103 (List._∷_ 58 (List._∷_ 58 (List._∷_ 80 (List._∷_ 108 (List._∷_ 97 (List._∷_ 99 (List._∷_ 101 List.[]))))))))))))))))))) (Syntax.ttcons (Syntax.tcons (Syntax.tyEnum (List._∷_ 116 (List._∷_ 101 (List._∷_ 120 (List._∷_ 116 (List._∷_ 95 (List._∷_ 104 (List._∷_ 101 (List._∷_ 97 (List._∷_ 100 (List._∷_ 105 (List._∷_ 110 (List._∷_ 103 (List._∷_ 58 (List._∷_ 58 (List._∷_ 87 (List._∷_ 111 (List._∷_ 114 (List._∷_ 100 List.[])))))))))))))))))) (Syntax.ttcons Syntax.tnil (Syntax.ttcons Syntax.tnil (Syntax.ttcons Syntax.tnil (Syntax.ttcons Syntax.tnil Syntax.ttnil))))) (Syntax.tcons (Syntax.tyInt Syntax.w8) Syntax.tnil)) (Syntax.ttcons (Syntax.tcons (Syntax.tyEnum (List._∷_ 116 (List._∷_ 101 (List._∷_ 120 (List._∷_ 116 (List._∷_ 95 (List._∷_ 104 (List._∷_ 101 (List._∷_ 97 (List._∷_ 100 (List._∷_ 105 (List._∷_ 110 (List._∷_ 103 (List._∷_ 58 (List._∷_ 58 (List._∷_ 87 (List._∷_ 111 (List._∷_ 114 (List._∷_ 100 List.[])))))))))))))))))) (Syntax.ttcons Syntax.tnil (Syntax.ttcons Syntax.tnil (Syntax.ttcons Syntax.tnil (Syntax.ttcons Syntax.tnil Syntax.ttnil))))) Syntax.tnil) (Syntax.ttcons (Syntax.tcons (Syntax.tyEnum (List._∷_ 116 (List._∷_ 101 (List._∷_ 120 (List._∷_ 116 (List._∷_ 95 (List._∷_ 104 (List._∷_ 101 (List._∷_ 97 (List._∷_ 100 (List._∷_ 105 (List._∷_ 110 (List._∷_ 103 (List._∷_ 58 (List._∷_ 58 (List._∷_ 87 (List._∷_ 111 (List._∷_ 114 (List._∷_ 100 List.[])))))))))))))))))) (Syntax.ttcons Syntax.tnil (Syntax.ttcons Syntax.tnil (Syntax.ttcons Syntax.tnil (Syntax.ttcons Syntax.tnil Syntax.ttnil))))) Syntax.tnil) (Syntax.ttcons Syntax.tnil (Syntax.ttcons (Syntax.tcons (Syntax.tyEnum (List._∷_ 116 (List._∷_ 101 (List._∷_ 120 (List._∷_ 116 (List._∷_ 95 (List._∷_ 104 (List._∷_ 101 (List._∷_ 97 (List._∷_ 100 (List._∷_ 105 (List._∷_ 110 (List._∷_ 103 (List._∷_ 58 (List._∷_ 58 (List._∷_ 72 (List._∷_ 101 (List._∷_ 97 (List._∷_ 100 (List._∷_ 105 (List._∷_ 110 (List._∷_ 103 (List._∷_ 70 (List._∷_ 97 (List._∷_ 117 (List._∷_ 108 (List._∷_ 116 List.[])))))))))))))))))))))))))) (Syntax.ttcons Syntax.tnil (Syntax.ttcons Syntax.tnil (Syntax.ttcons Syntax.tnil (Syntax.ttcons (Syntax.tcons (Syntax.tyEnum (List._∷_ 116 (List._∷_ 101 (List._∷_ 120 (List._∷_ 116 (List._∷_ 95 (List._∷_ 104 (List._∷_ 101 (List._∷_ 97 (List._∷_ 100 (List._∷_ 105 (List._∷_ 110 (List._∷_ 103 (List._∷_ 58 (List._∷_ 58 (List._∷_ 87 (List._∷_ 111 (List._∷_ 114 (List._∷_ 100 List.[])))))))))))))))))) (Syntax.ttcons Syntax.tnil (Syntax.ttcons Syntax.tnil (Syntax.ttcons Syntax.tnil (Syntax.ttcons Syntax.tnil Syntax.ttnil))))) Syntax.tnil) Syntax.ttnil))))) Syntax.tnil) Syntax.ttnil)))))) Syntax.tnil)))) Syntax.tnil) (Syntax.ttcons Syntax.tnil (Syntax.ttcons (Syntax.tcons (Syntax.tyInt Syntax.w8) Syntax.tnil) (Syntax.ttcons Syntax.tnil (Syntax.ttcons (Syntax.tcons (Syntax.tyEnum (List._∷_ 116 (List._∷_ 101 (List._∷_ 120 (List._∷_ 116 (List._∷_ 95 (List._∷_ 114 (List._∷_ 101 (List._∷_ 97 (List._∷_ 100 (List._∷_ 105 (List._∷_ 110 (List._∷_ 103 (List._∷_ 58 (List._∷_ 58 (List._∷_ 70 (List._∷_ 97 (List._∷_ 117 (List._∷_ 108 (List._∷_ 116 List.[]))))))))))))))))))) (Syntax.ttcons (Syntax.tcons (Syntax.tyEnum (List._∷_ 116 (List._∷_ 101 (List._∷_ 120 (List._∷_ 116 (List._∷_ 95 (List._∷_ 104 (List._∷_ 101 (List._∷_ 97 (List._∷_ 100 (List._∷_ 105 (List._∷_ 110 (List._∷_ 103 (List._∷_ 58 (List._∷_ 58 (List._∷_ 72 (List._∷_ 101 (List._∷_ 97 (List._∷_ 100 (List._∷_ 105 (List._∷_ 110 (List._∷_ 103 (List._∷_ 70 (List._∷_ 97 (List._∷_ 117 (List._∷_ 108 (List._∷_ 116 List.[])))))))))))))))))))))))))) (Syntax.ttcons Syntax.tnil (Syntax.ttcons Syntax.tnil (Syntax.ttcons Syntax.tnil (Syntax.ttcons (Syntax.tcons (Syntax.tyEnum (List._∷_ 116 (List._∷_ 101 (List._∷_ 120 (List._∷_ 116 (List._∷_ 95 (List._∷_ 104 (List._∷_ 101 (List._∷_ 97 (List._∷_ 100 (List._∷_ 105 (List._∷_ 110 (List._∷_ 103 (List._∷_ 58 (List._∷_ 58 (List._∷_ 87 (List._∷_ 111 (List._∷_ 114 (List._∷_ 100 List.[])))))))))))))))))) (Syntax.ttcons Syntax.tnil (Syntax.ttcons Syntax.tnil (Syntax.ttcons Syntax.tnil (Syntax.ttcons Syntax.tnil Syntax.ttnil))))) Syntax.tnil) Syntax.ttnil))))) Syntax.tnil) (Syntax.ttcons Syntax.tnil (Syntax.ttcons Syntax.tnil Syntax.ttnil)))) Syntax.tnil) Syntax.ttnil)))))))) (Syntax.tcons (Syntax.tyArray (Syntax.tyInt Syntax.w8) 32) (Syntax.tcons (Syntax.tyInt Syntax.w64) Syntax.tnil))))))) (List._∷_ (9, Rows.any-gone (Syntax.tyInt Syntax.w64)) (List._∷_ (10, Rows.any-gone (Syntax.tyRef Syntax.erased Syntax.mut OfOutput.named)) (List._∷_ (11, Mut.msleft (OfOutput.row) (Syntax.tyRef Syntax.erased Syntax.mut OfOutput.named)) (List._∷_ (12, Rows.any-gone (Syntax.tyRef Syntax.erased Syntax.mut OfStation.named)) (List._∷_ (13, Mut.msleft (OfStation.row) (Syntax.tyRef Syntax.erased Syntax.mut OfStation.named)) (List._∷_ (14, Rows.mleft (OfPanelRecord.row) (Syntax.tyRef Syntax.erased Syntax.mut OfPanelRecord.named)) (List._∷_ (15, Rows.any-gone (Syntax.tyRef Syntax.erased Syntax.mut (Syntax.tyInt Syntax.w8))) List.[])))))))))))))))
+t15 = List._∷_ (0, Rows.any-gone Syntax.tyUnit) (List._∷_ (1, Relend.mslice-owed (OfOutput.row) (Syntax.tyRef (Syntax.named 0) Syntax.mut OfOutput.named) 0 5 Row.off) (List._∷_ (2, Relend.mslice-owed (OfStation.row) (Syntax.tyRef (Syntax.named 1) Syntax.mut OfStation.named) 1 6 Row.off) (List._∷_ (3, Rows.mref-owed (OfPanelRecord.row) (Syntax.tyRef (Syntax.named 2) Syntax.mut OfPanelRecord.named) 2 7 Row.off) (List._∷_ (4, Relend.mslice-owed (Referent.rtF (Referent.fInt Syntax.w8)) (Syntax.tyRef (Syntax.named 3) Syntax.mut (Syntax.tyInt Syntax.w8)) 3 8 Row.off) (List._∷_ (5, Relend.mslice-owed (Referent.rtF (Referent.fInt Syntax.w8)) (Syntax.tyRef (Syntax.named 4) Syntax.mut (Syntax.tyInt Syntax.w8)) 4 9 Row.off) (List._∷_ (6, Rows.sc-here Row.sBool) (List._∷_ (7, Rows.whole (Declared.row Turn.the-type)) (List._∷_ (8, Rows.any-gone (Syntax.tyStruct (List._∷_ 116 (List._∷_ 101 (List._∷_ 120 (List._∷_ 116 (List._∷_ 95 (List._∷_ 114 (List._∷_ 101 (List._∷_ 97 (List._∷_ 100 (List._∷_ 105 (List._∷_ 110 (List._∷_ 103 (List._∷_ 58 (List._∷_ 58 (List._∷_ 82 (List._∷_ 101 (List._∷_ 97 (List._∷_ 100 (List._∷_ 101 (List._∷_ 114 List.[])))))))))))))))))))) (Syntax.tcons Syntax.tyBool (Syntax.tcons (Syntax.tyInt Syntax.w64) (Syntax.tcons (Syntax.tyEnum (List._∷_ 116 (List._∷_ 101 (List._∷_ 120 (List._∷_ 116 (List._∷_ 95 (List._∷_ 114 (List._∷_ 101 (List._∷_ 97 (List._∷_ 100 (List._∷_ 105 (List._∷_ 110 (List._∷_ 103 (List._∷_ 58 (List._∷_ 58 (List._∷_ 72 (List._∷_ 101 (List._∷_ 108 (List._∷_ 100 List.[])))))))))))))))))) (Syntax.ttcons Syntax.tnil (Syntax.ttcons Syntax.tnil (Syntax.ttcons (Syntax.tcons (Syntax.tyStruct (List._∷_ 116 (List._∷_ 101 (List._∷_ 120 (List._∷_ 116 (List._∷_ 95 (List._∷_ 104 (List._∷_ 101 (List._∷_ 97 (List._∷_ 100 (List._∷_ 105 (List._∷_ 110 (List._∷_ 103 (List._∷_ 58 (List._∷_ 58 (List._∷_ 72 (List._∷_ 101 (List._∷_ 97 (List._∷_ 100 (List._∷_ 105 (List._∷_ 110 (List._∷_ 103 List.[]))))))))))))))))))))) (Syntax.tcons (Syntax.tyStruct (List._∷_ 116 (List._∷_ 101 (List._∷_ 120 (List._∷_ 116 (List._∷_ 95 (List._∷_ 104 (List._∷_ 101 (List._∷_ 97 (List._∷_ 100 (List._∷_ 105 (List._∷_ 110 (List._∷_ 103 (List._∷_ 58 (List._∷_ 58 (List._∷_ 78 (List._∷_ 97 (List._∷_ 109 (List._∷_ 101 (List._∷_ 100 List.[]))))))))))))))))))) (Syntax.tcons (IsParameters.mir) (Syntax.tcons (Syntax.tyInt Syntax.w32) Syntax.tnil))) (Syntax.tcons (Syntax.tyStruct (List._∷_ 116 (List._∷_ 101 (List._∷_ 120 (List._∷_ 116 (List._∷_ 95 (List._∷_ 104 (List._∷_ 101 (List._∷_ 97 (List._∷_ 100 (List._∷_ 105 (List._∷_ 110 (List._∷_ 103 (List._∷_ 58 (List._∷_ 58 (List._∷_ 67 (List._∷_ 97 (List._∷_ 109 (List._∷_ 101 List.[])))))))))))))))))) (Syntax.tcons Syntax.tyBool (Syntax.tcons Syntax.tyBool (Syntax.tcons Syntax.tyBool (Syntax.tcons Syntax.tyBool Syntax.tnil))))) (Syntax.tcons (Syntax.tyEnum (List._∷_ 116 (List._∷_ 101 (List._∷_ 120 (List._∷_ 116 (List._∷_ 95 (List._∷_ 104 (List._∷_ 101 (List._∷_ 97 (List._∷_ 100 (List._∷_ 105 (List._∷_ 110 (List._∷_ 103 (List._∷_ 58 (List._∷_ 58 (List._∷_ 80 (List._∷_ 108 (List._∷_ 97 (List._∷_ 99 (List._∷_ 101 List.[]))))))))))))))))))) (Syntax.ttcons (Syntax.tcons (Syntax.tyEnum (List._∷_ 116 (List._∷_ 101 (List._∷_ 120 (List._∷_ 116 (List._∷_ 95 (List._∷_ 104 (List._∷_ 101 (List._∷_ 97 (List._∷_ 100 (List._∷_ 105 (List._∷_ 110 (List._∷_ 103 (List._∷_ 58 (List._∷_ 58 (List._∷_ 87 (List._∷_ 111 (List._∷_ 114 (List._∷_ 100 List.[])))))))))))))))))) (Syntax.ttcons Syntax.tnil (Syntax.ttcons Syntax.tnil (Syntax.ttcons Syntax.tnil (Syntax.ttcons Syntax.tnil (Syntax.ttcons Syntax.tnil Syntax.ttnil)))))) (Syntax.tcons (Syntax.tyInt Syntax.w8) Syntax.tnil)) (Syntax.ttcons (Syntax.tcons (Syntax.tyEnum (List._∷_ 116 (List._∷_ 101 (List._∷_ 120 (List._∷_ 116 (List._∷_ 95 (List._∷_ 104 (List._∷_ 101 (List._∷_ 97 (List._∷_ 100 (List._∷_ 105 (List._∷_ 110 (List._∷_ 103 (List._∷_ 58 (List._∷_ 58 (List._∷_ 87 (List._∷_ 111 (List._∷_ 114 (List._∷_ 100 List.[])))))))))))))))))) (Syntax.ttcons Syntax.tnil (Syntax.ttcons Syntax.tnil (Syntax.ttcons Syntax.tnil (Syntax.ttcons Syntax.tnil (Syntax.ttcons Syntax.tnil Syntax.ttnil)))))) Syntax.tnil) (Syntax.ttcons (Syntax.tcons (Syntax.tyEnum (List._∷_ 116 (List._∷_ 101 (List._∷_ 120 (List._∷_ 116 (List._∷_ 95 (List._∷_ 104 (List._∷_ 101 (List._∷_ 97 (List._∷_ 100 (List._∷_ 105 (List._∷_ 110 (List._∷_ 103 (List._∷_ 58 (List._∷_ 58 (List._∷_ 87 (List._∷_ 111 (List._∷_ 114 (List._∷_ 100 List.[])))))))))))))))))) (Syntax.ttcons Syntax.tnil (Syntax.ttcons Syntax.tnil (Syntax.ttcons Syntax.tnil (Syntax.ttcons Syntax.tnil (Syntax.ttcons Syntax.tnil Syntax.ttnil)))))) (Syntax.tcons (Syntax.tyInt Syntax.w8) Syntax.tnil)) (Syntax.ttcons Syntax.tnil (Syntax.ttcons (Syntax.tcons (Syntax.tyEnum (List._∷_ 116 (List._∷_ 101 (List._∷_ 120 (List._∷_ 116 (List._∷_ 95 (List._∷_ 104 (List._∷_ 101 (List._∷_ 97 (List._∷_ 100 (List._∷_ 105 (List._∷_ 110 (List._∷_ 103 (List._∷_ 58 (List._∷_ 58 (List._∷_ 72 (List._∷_ 101 (List._∷_ 97 (List._∷_ 100 (List._∷_ 105 (List._∷_ 110 (List._∷_ 103 (List._∷_ 70 (List._∷_ 97 (List._∷_ 117 (List._∷_ 108 (List._∷_ 116 List.[])))))))))))))))))))))))))) (Syntax.ttcons Syntax.tnil (Syntax.ttcons Syntax.tnil (Syntax.ttcons Syntax.tnil (Syntax.ttcons Syntax.tnil (Syntax.ttcons (Syntax.tcons (Syntax.tyEnum (List._∷_ 116 (List._∷_ 101 (List._∷_ 120 (List._∷_ 116 (List._∷_ 95 (List._∷_ 104 (List._∷_ 101 (List._∷_ 97 (List._∷_ 100 (List._∷_ 105 (List._∷_ 110 (List._∷_ 103 (List._∷_ 58 (List._∷_ 58 (List._∷_ 87 (List._∷_ 111 (List._∷_ 114 (List._∷_ 100 List.[])))))))))))))))))) (Syntax.ttcons Syntax.tnil (Syntax.ttcons Syntax.tnil (Syntax.ttcons Syntax.tnil (Syntax.ttcons Syntax.tnil (Syntax.ttcons Syntax.tnil Syntax.ttnil)))))) Syntax.tnil) Syntax.ttnil)))))) Syntax.tnil) Syntax.ttnil)))))) Syntax.tnil)))) Syntax.tnil) (Syntax.ttcons Syntax.tnil (Syntax.ttcons (Syntax.tcons (Syntax.tyInt Syntax.w8) Syntax.tnil) (Syntax.ttcons Syntax.tnil (Syntax.ttcons (Syntax.tcons (Syntax.tyEnum (List._∷_ 116 (List._∷_ 101 (List._∷_ 120 (List._∷_ 116 (List._∷_ 95 (List._∷_ 114 (List._∷_ 101 (List._∷_ 97 (List._∷_ 100 (List._∷_ 105 (List._∷_ 110 (List._∷_ 103 (List._∷_ 58 (List._∷_ 58 (List._∷_ 70 (List._∷_ 97 (List._∷_ 117 (List._∷_ 108 (List._∷_ 116 List.[]))))))))))))))))))) (Syntax.ttcons (Syntax.tcons (Syntax.tyEnum (List._∷_ 116 (List._∷_ 101 (List._∷_ 120 (List._∷_ 116 (List._∷_ 95 (List._∷_ 104 (List._∷_ 101 (List._∷_ 97 (List._∷_ 100 (List._∷_ 105 (List._∷_ 110 (List._∷_ 103 (List._∷_ 58 (List._∷_ 58 (List._∷_ 72 (List._∷_ 101 (List._∷_ 97 (List._∷_ 100 (List._∷_ 105 (List._∷_ 110 (List._∷_ 103 (List._∷_ 70 (List._∷_ 97 (List._∷_ 117 (List._∷_ 108 (List._∷_ 116 List.[])))))))))))))))))))))))))) (Syntax.ttcons Syntax.tnil (Syntax.ttcons Syntax.tnil (Syntax.ttcons Syntax.tnil (Syntax.ttcons Syntax.tnil (Syntax.ttcons (Syntax.tcons (Syntax.tyEnum (List._∷_ 116 (List._∷_ 101 (List._∷_ 120 (List._∷_ 116 (List._∷_ 95 (List._∷_ 104 (List._∷_ 101 (List._∷_ 97 (List._∷_ 100 (List._∷_ 105 (List._∷_ 110 (List._∷_ 103 (List._∷_ 58 (List._∷_ 58 (List._∷_ 87 (List._∷_ 111 (List._∷_ 114 (List._∷_ 100 List.[])))))))))))))))))) (Syntax.ttcons Syntax.tnil (Syntax.ttcons Syntax.tnil (Syntax.ttcons Syntax.tnil (Syntax.ttcons Syntax.tnil (Syntax.ttcons Syntax.tnil Syntax.ttnil)))))) Syntax.tnil) Syntax.ttnil)))))) Syntax.tnil) (Syntax.ttcons Syntax.tnil (Syntax.ttcons Syntax.tnil Syntax.ttnil)))) Syntax.tnil) Syntax.ttnil)))))))) (Syntax.tcons (Syntax.tyArray (Syntax.tyInt Syntax.w8) 32) (Syntax.tcons (Syntax.tyInt Syntax.w64) Syntax.tnil))))))) (List._∷_ (9, Rows.any-gone (Syntax.tyInt Syntax.w64)) (List._∷_ (10, Rows.any-gone (Syntax.tyRef Syntax.erased Syntax.mut OfOutput.named)) (List._∷_ (11, Mut.msleft (OfOutput.row) (Syntax.tyRef Syntax.erased Syntax.mut OfOutput.named)) (List._∷_ (12, Rows.any-gone (Syntax.tyRef Syntax.erased Syntax.mut OfStation.named)) (List._∷_ (13, Mut.msleft (OfStation.row) (Syntax.tyRef Syntax.erased Syntax.mut OfStation.named)) (List._∷_ (14, Rows.mleft (OfPanelRecord.row) (Syntax.tyRef Syntax.erased Syntax.mut OfPanelRecord.named)) (List._∷_ (15, Rows.any-gone (Syntax.tyRef Syntax.erased Syntax.mut (Syntax.tyInt Syntax.w8))) List.[])))))))))))))))
 
 abbrev pub t16 : List.List Row.Entry
 t16 = List._∷_ (16, Mut.msleft (Referent.rtF (Referent.fInt Syntax.w8)) (Syntax.tyRef Syntax.erased Syntax.mut (Syntax.tyInt Syntax.w8))) (List._∷_ (17, Rows.any-gone (Syntax.tyRef Syntax.erased Syntax.mut (Syntax.tyInt Syntax.w8))) (List._∷_ (18, Mut.msleft (Referent.rtF (Referent.fInt Syntax.w8)) (Syntax.tyRef Syntax.erased Syntax.mut (Syntax.tyInt Syntax.w8))) (List._∷_ (19, Rows.any-gone Syntax.tyBool) (List._∷_ (20, Rows.any-gone (Syntax.tyRef Syntax.erased Syntax.mut OfOutput.named)) (List._∷_ (21, Rows.any-gone (Syntax.tyStruct (List._∷_ 38 (List._∷_ 91 (List._∷_ 93 List.[]))) (Syntax.tcons (Syntax.tyRef Syntax.erased Syntax.mut OfOutput.named) (Syntax.tcons (Syntax.tyInt Syntax.w64) Syntax.tnil)))) (List._∷_ (22, Rows.any-gone (Syntax.tyRef Syntax.erased Syntax.mut OfStation.named)) (List._∷_ (23, Rows.any-gone (Syntax.tyStruct (List._∷_ 38 (List._∷_ 91 (List._∷_ 93 List.[]))) (Syntax.tcons (Syntax.tyRef Syntax.erased Syntax.mut OfStation.named) (Syntax.tcons (Syntax.tyInt Syntax.w64) Syntax.tnil)))) (List._∷_ (24, Rows.any-gone (Syntax.tyRef Syntax.erased Syntax.mut OfPanelRecord.named)) (List._∷_ (25, Rows.any-gone (Syntax.tyRef Syntax.erased Syntax.mut (Syntax.tyInt Syntax.w8))) (List._∷_ (26, Rows.any-gone (Syntax.tyStruct (List._∷_ 38 (List._∷_ 91 (List._∷_ 93 List.[]))) (Syntax.tcons (Syntax.tyRef Syntax.erased Syntax.mut (Syntax.tyInt Syntax.w8)) (Syntax.tcons (Syntax.tyInt Syntax.w64) Syntax.tnil)))) (List._∷_ (27, Rows.any-gone Syntax.tyUnit) (List._∷_ (28, Rows.any-gone (Syntax.tyRef Syntax.erased Syntax.imm (Syntax.tyInt Syntax.w8))) (List._∷_ (29, Rows.any-gone (Syntax.tyStruct (List._∷_ 38 (List._∷_ 91 (List._∷_ 93 List.[]))) (Syntax.tcons (Syntax.tyRef Syntax.erased Syntax.imm (Syntax.tyInt Syntax.w8)) (Syntax.tcons (Syntax.tyInt Syntax.w64) Syntax.tnil)))) (List._∷_ (30, Rows.any-gone Syntax.tyUnit) (List._∷_ (31, Rows.any-gone (Syntax.tyRef Syntax.erased Syntax.imm (Syntax.tyInt Syntax.w8))) List.[])))))))))))))))
 
 abbrev pub t17 : List.List Row.Entry
-t17 = List._∷_ (0, Rows.any-gone Syntax.tyUnit) (List._∷_ (1, Mut.mslice (OfOutput.row) (Syntax.tyRef (Syntax.named 0) Syntax.mut OfOutput.named) 0) (List._∷_ (2, Relend.mslice-owed (OfStation.row) (Syntax.tyRef (Syntax.named 1) Syntax.mut OfStation.named) 1 6 Row.off) (List._∷_ (3, Rows.mref-owed (OfPanelRecord.row) (Syntax.tyRef (Syntax.named 2) Syntax.mut OfPanelRecord.named) 2 7 Row.off) (List._∷_ (4, Relend.mslice-owed (Referent.rtF (Referent.fInt Syntax.w8)) (Syntax.tyRef (Syntax.named 3) Syntax.mut (Syntax.tyInt Syntax.w8)) 3 8 Row.off) (List._∷_ (5, Relend.mslice-owed (Referent.rtF (Referent.fInt Syntax.w8)) (Syntax.tyRef (Syntax.named 4) Syntax.mut (Syntax.tyInt Syntax.w8)) 4 9 Row.off) (List._∷_ (6, Rows.sc-here Row.sBool) (List._∷_ (7, Rows.whole (Declared.row Turn.the-type)) (List._∷_ (8, Rows.any-gone (Syntax.tyStruct (List._∷_ 116 (List._∷_ 101 (List._∷_ 120 (List._∷_ 116 (List._∷_ 95 (List._∷_ 114 (List._∷_ 101 (List._∷_ 97 (List._∷_ 100 (List._∷_ 105 (List._∷_ 110 (List._∷_ 103 (List._∷_ 58 (List._∷_ 58 (List._∷_ 82 (List._∷_ 101 (List._∷_ 97 (List._∷_ 100 (List._∷_ 101 (List._∷_ 114 List.[])))))))))))))))))))) (Syntax.tcons Syntax.tyBool (Syntax.tcons (Syntax.tyInt Syntax.w64) (Syntax.tcons (Syntax.tyEnum (List._∷_ 116 (List._∷_ 101 (List._∷_ 120 (List._∷_ 116 (List._∷_ 95 (List._∷_ 114 (List._∷_ 101 (List._∷_ 97 (List._∷_ 100 (List._∷_ 105 (List._∷_ 110 (List._∷_ 103 (List._∷_ 58 (List._∷_ 58 (List._∷_ 72 (List._∷_ 101 (List._∷_ 108 (List._∷_ 100 List.[])))))))))))))))))) (Syntax.ttcons Syntax.tnil (Syntax.ttcons Syntax.tnil (Syntax.ttcons (Syntax.tcons (Syntax.tyStruct (List._∷_ 116 (List._∷_ 101 (List._∷_ 120 (List._∷_ 116 (List._∷_ 95 (List._∷_ 104 (List._∷_ 101 (List._∷_ 97 (List._∷_ 100 (List._∷_ 105 (List._∷_ 110 (List._∷_ 103 (List._∷_ 58 (List._∷_ 58 (List._∷_ 72 (List._∷_ 101 (List._∷_ 97 (List._∷_ 100 (List._∷_ 105 (List._∷_ 110 (List._∷_ 103 List.[]))))))))))))))))))))) (Syntax.tcons (IsParameters.mir) (Syntax.tcons (Syntax.tyStruct (List._∷_ 116 (List._∷_ 101 (List._∷_ 120 (List._∷_ 116 (List._∷_ 95 (List._∷_ 104 (List._∷_ 101 (List._∷_ 97 (List._∷_ 100 (List._∷_ 105 (List._∷_ 110 (List._∷_ 103 (List._∷_ 58 (List._∷_ 58 (List._∷_ 67 (List._∷_ 97 (List._∷_ 109 (List._∷_ 101 List.[])))))))))))))))))) (Syntax.tcons Syntax.tyBool (Syntax.tcons Syntax.tyBool (Syntax.tcons Syntax.tyBool Syntax.tnil)))) (Syntax.tcons (Syntax.tyEnum (List._∷_ 116 (List._∷_ 101 (List._∷_ 120 (List._∷_ 116 (List._∷_ 95 (List._∷_ 104 (List._∷_ 101 (List._∷_ 97 (List._∷_ 100 (List._∷_ 105 (List._∷_ 110 (List._∷_ 103 (List._∷_ 58 (List._∷_ 58 (List._∷_ 80 (List._∷_ 108 (List._∷_ 97 (List._∷_ 99 (List._∷_ 101 List.[]))))))))))))))))))) (Syntax.ttcons (Syntax.tcons (Syntax.tyEnum (List._∷_ 116 (List._∷_ 101 (List._∷_ 120 (List._∷_ 116 (List._∷_ 95 (List._∷_ 104 (List._∷_ 101 (List._∷_ 97 (List._∷_ 100 (List._∷_ 105 (List._∷_ 110 (List._∷_ 103 (List._∷_ 58 (List._∷_ 58 (List._∷_ 87 (List._∷_ 111 (List._∷_ 114 (List._∷_ 100 List.[])))))))))))))))))) (Syntax.ttcons Syntax.tnil (Syntax.ttcons Syntax.tnil (Syntax.ttcons Syntax.tnil (Syntax.ttcons Syntax.tnil Syntax.ttnil))))) (Syntax.tcons (Syntax.tyInt Syntax.w8) Syntax.tnil)) (Syntax.ttcons (Syntax.tcons (Syntax.tyEnum (List._∷_ 116 (List._∷_ 101 (List._∷_ 120 (List._∷_ 116 (List._∷_ 95 (List._∷_ 104 (List._∷_ 101 (List._∷_ 97 (List._∷_ 100 (List._∷_ 105 (List._∷_ 110 (List._∷_ 103 (List._∷_ 58 (List._∷_ 58 (List._∷_ 87 (List._∷_ 111 (List._∷_ 114 (List._∷_ 100 List.[])))))))))))))))))) (Syntax.ttcons Syntax.tnil (Syntax.ttcons Syntax.tnil (Syntax.ttcons Syntax.tnil (Syntax.ttcons Syntax.tnil Syntax.ttnil))))) Syntax.tnil) (Syntax.ttcons (Syntax.tcons (Syntax.tyEnum (List._∷_ 116 (List._∷_ 101 (List._∷_ 120 (List._∷_ 116 (List._∷_ 95 (List._∷_ 104 (List._∷_ 101 (List._∷_ 97 (List._∷_ 100 (List._∷_ 105 (List._∷_ 110 (List._∷_ 103 (List._∷_ 58 (List._∷_ 58 (List._∷_ 87 (List._∷_ 111 (List._∷_ 114 (List._∷_ 100 List.[])))))))))))))))))) (Syntax.ttcons Syntax.tnil (Syntax.ttcons Syntax.tnil (Syntax.ttcons Syntax.tnil (Syntax.ttcons Syntax.tnil Syntax.ttnil))))) Syntax.tnil) (Syntax.ttcons Syntax.tnil (Syntax.ttcons (Syntax.tcons (Syntax.tyEnum (List._∷_ 116 (List._∷_ 101 (List._∷_ 120 (List._∷_ 116 (List._∷_ 95 (List._∷_ 104 (List._∷_ 101 (List._∷_ 97 (List._∷_ 100 (List._∷_ 105 (List._∷_ 110 (List._∷_ 103 (List._∷_ 58 (List._∷_ 58 (List._∷_ 72 (List._∷_ 101 (List._∷_ 97 (List._∷_ 100 (List._∷_ 105 (List._∷_ 110 (List._∷_ 103 (List._∷_ 70 (List._∷_ 97 (List._∷_ 117 (List._∷_ 108 (List._∷_ 116 List.[])))))))))))))))))))))))))) (Syntax.ttcons Syntax.tnil (Syntax.ttcons Syntax.tnil (Syntax.ttcons Syntax.tnil (Syntax.ttcons (Syntax.tcons (Syntax.tyEnum (List._∷_ 116 (List._∷_ 101 (List._∷_ 120 (List._∷_ 116 (List._∷_ 95 (List._∷_ 104 (List._∷_ 101 (List._∷_ 97 (List._∷_ 100 (List._∷_ 105 (List._∷_ 110 (List._∷_ 103 (List._∷_ 58 (List._∷_ 58 (List._∷_ 87 (List._∷_ 111 (List._∷_ 114 (List._∷_ 100 List.[])))))))))))))))))) (Syntax.ttcons Syntax.tnil (Syntax.ttcons Syntax.tnil (Syntax.ttcons Syntax.tnil (Syntax.ttcons Syntax.tnil Syntax.ttnil))))) Syntax.tnil) Syntax.ttnil))))) Syntax.tnil) Syntax.ttnil)))))) Syntax.tnil)))) Syntax.tnil) (Syntax.ttcons Syntax.tnil (Syntax.ttcons (Syntax.tcons (Syntax.tyInt Syntax.w8) Syntax.tnil) (Syntax.ttcons Syntax.tnil (Syntax.ttcons (Syntax.tcons (Syntax.tyEnum (List._∷_ 116 (List._∷_ 101 (List._∷_ 120 (List._∷_ 116 (List._∷_ 95 (List._∷_ 114 (List._∷_ 101 (List._∷_ 97 (List._∷_ 100 (List._∷_ 105 (List._∷_ 110 (List._∷_ 103 (List._∷_ 58 (List._∷_ 58 (List._∷_ 70 (List._∷_ 97 (List._∷_ 117 (List._∷_ 108 (List._∷_ 116 List.[]))))))))))))))))))) (Syntax.ttcons (Syntax.tcons (Syntax.tyEnum (List._∷_ 116 (List._∷_ 101 (List._∷_ 120 (List._∷_ 116 (List._∷_ 95 (List._∷_ 104 (List._∷_ 101 (List._∷_ 97 (List._∷_ 100 (List._∷_ 105 (List._∷_ 110 (List._∷_ 103 (List._∷_ 58 (List._∷_ 58 (List._∷_ 72 (List._∷_ 101 (List._∷_ 97 (List._∷_ 100 (List._∷_ 105 (List._∷_ 110 (List._∷_ 103 (List._∷_ 70 (List._∷_ 97 (List._∷_ 117 (List._∷_ 108 (List._∷_ 116 List.[])))))))))))))))))))))))))) (Syntax.ttcons Syntax.tnil (Syntax.ttcons Syntax.tnil (Syntax.ttcons Syntax.tnil (Syntax.ttcons (Syntax.tcons (Syntax.tyEnum (List._∷_ 116 (List._∷_ 101 (List._∷_ 120 (List._∷_ 116 (List._∷_ 95 (List._∷_ 104 (List._∷_ 101 (List._∷_ 97 (List._∷_ 100 (List._∷_ 105 (List._∷_ 110 (List._∷_ 103 (List._∷_ 58 (List._∷_ 58 (List._∷_ 87 (List._∷_ 111 (List._∷_ 114 (List._∷_ 100 List.[])))))))))))))))))) (Syntax.ttcons Syntax.tnil (Syntax.ttcons Syntax.tnil (Syntax.ttcons Syntax.tnil (Syntax.ttcons Syntax.tnil Syntax.ttnil))))) Syntax.tnil) Syntax.ttnil))))) Syntax.tnil) (Syntax.ttcons Syntax.tnil (Syntax.ttcons Syntax.tnil Syntax.ttnil)))) Syntax.tnil) Syntax.ttnil)))))))) (Syntax.tcons (Syntax.tyArray (Syntax.tyInt Syntax.w8) 32) (Syntax.tcons (Syntax.tyInt Syntax.w64) Syntax.tnil))))))) (List._∷_ (9, Rows.any-gone (Syntax.tyInt Syntax.w64)) (List._∷_ (10, Rows.any-gone (Syntax.tyRef Syntax.erased Syntax.mut OfOutput.named)) (List._∷_ (11, Rows.any-gone (Syntax.tyStruct (List._∷_ 38 (List._∷_ 91 (List._∷_ 93 List.[]))) (Syntax.tcons (Syntax.tyRef Syntax.erased Syntax.mut OfOutput.named) (Syntax.tcons (Syntax.tyInt Syntax.w64) Syntax.tnil)))) (List._∷_ (12, Rows.any-gone (Syntax.tyRef Syntax.erased Syntax.mut OfStation.named)) (List._∷_ (13, Mut.msleft (OfStation.row) (Syntax.tyRef Syntax.erased Syntax.mut OfStation.named)) (List._∷_ (14, Rows.mleft (OfPanelRecord.row) (Syntax.tyRef Syntax.erased Syntax.mut OfPanelRecord.named)) (List._∷_ (15, Rows.any-gone (Syntax.tyRef Syntax.erased Syntax.mut (Syntax.tyInt Syntax.w8))) List.[])))))))))))))))
+t17 = List._∷_ (0, Rows.any-gone Syntax.tyUnit) (List._∷_ (1, Mut.mslice (OfOutput.row) (Syntax.tyRef (Syntax.named 0) Syntax.mut OfOutput.named) 0) (List._∷_ (2, Relend.mslice-owed (OfStation.row) (Syntax.tyRef (Syntax.named 1) Syntax.mut OfStation.named) 1 6 Row.off) (List._∷_ (3, Rows.mref-owed (OfPanelRecord.row) (Syntax.tyRef (Syntax.named 2) Syntax.mut OfPanelRecord.named) 2 7 Row.off) (List._∷_ (4, Relend.mslice-owed (Referent.rtF (Referent.fInt Syntax.w8)) (Syntax.tyRef (Syntax.named 3) Syntax.mut (Syntax.tyInt Syntax.w8)) 3 8 Row.off) (List._∷_ (5, Relend.mslice-owed (Referent.rtF (Referent.fInt Syntax.w8)) (Syntax.tyRef (Syntax.named 4) Syntax.mut (Syntax.tyInt Syntax.w8)) 4 9 Row.off) (List._∷_ (6, Rows.sc-here Row.sBool) (List._∷_ (7, Rows.whole (Declared.row Turn.the-type)) (List._∷_ (8, Rows.any-gone (Syntax.tyStruct (List._∷_ 116 (List._∷_ 101 (List._∷_ 120 (List._∷_ 116 (List._∷_ 95 (List._∷_ 114 (List._∷_ 101 (List._∷_ 97 (List._∷_ 100 (List._∷_ 105 (List._∷_ 110 (List._∷_ 103 (List._∷_ 58 (List._∷_ 58 (List._∷_ 82 (List._∷_ 101 (List._∷_ 97 (List._∷_ 100 (List._∷_ 101 (List._∷_ 114 List.[])))))))))))))))))))) (Syntax.tcons Syntax.tyBool (Syntax.tcons (Syntax.tyInt Syntax.w64) (Syntax.tcons (Syntax.tyEnum (List._∷_ 116 (List._∷_ 101 (List._∷_ 120 (List._∷_ 116 (List._∷_ 95 (List._∷_ 114 (List._∷_ 101 (List._∷_ 97 (List._∷_ 100 (List._∷_ 105 (List._∷_ 110 (List._∷_ 103 (List._∷_ 58 (List._∷_ 58 (List._∷_ 72 (List._∷_ 101 (List._∷_ 108 (List._∷_ 100 List.[])))))))))))))))))) (Syntax.ttcons Syntax.tnil (Syntax.ttcons Syntax.tnil (Syntax.ttcons (Syntax.tcons (Syntax.tyStruct (List._∷_ 116 (List._∷_ 101 (List._∷_ 120 (List._∷_ 116 (List._∷_ 95 (List._∷_ 104 (List._∷_ 101 (List._∷_ 97 (List._∷_ 100 (List._∷_ 105 (List._∷_ 110 (List._∷_ 103 (List._∷_ 58 (List._∷_ 58 (List._∷_ 72 (List._∷_ 101 (List._∷_ 97 (List._∷_ 100 (List._∷_ 105 (List._∷_ 110 (List._∷_ 103 List.[]))))))))))))))))))))) (Syntax.tcons (Syntax.tyStruct (List._∷_ 116 (List._∷_ 101 (List._∷_ 120 (List._∷_ 116 (List._∷_ 95 (List._∷_ 104 (List._∷_ 101 (List._∷_ 97 (List._∷_ 100 (List._∷_ 105 (List._∷_ 110 (List._∷_ 103 (List._∷_ 58 (List._∷_ 58 (List._∷_ 78 (List._∷_ 97 (List._∷_ 109 (List._∷_ 101 (List._∷_ 100 List.[]))))))))))))))))))) (Syntax.tcons (IsParameters.mir) (Syntax.tcons (Syntax.tyInt Syntax.w32) Syntax.tnil))) (Syntax.tcons (Syntax.tyStruct (List._∷_ 116 (List._∷_ 101 (List._∷_ 120 (List._∷_ 116 (List._∷_ 95 (List._∷_ 104 (List._∷_ 101 (List._∷_ 97 (List._∷_ 100 (List._∷_ 105 (List._∷_ 110 (List._∷_ 103 (List._∷_ 58 (List._∷_ 58 (List._∷_ 67 (List._∷_ 97 (List._∷_ 109 (List._∷_ 101 List.[])))))))))))))))))) (Syntax.tcons Syntax.tyBool (Syntax.tcons Syntax.tyBool (Syntax.tcons Syntax.tyBool (Syntax.tcons Syntax.tyBool Syntax.tnil))))) (Syntax.tcons (Syntax.tyEnum (List._∷_ 116 (List._∷_ 101 (List._∷_ 120 (List._∷_ 116 (List._∷_ 95 (List._∷_ 104 (List._∷_ 101 (List._∷_ 97 (List._∷_ 100 (List._∷_ 105 (List._∷_ 110 (List._∷_ 103 (List._∷_ 58 (List._∷_ 58 (List._∷_ 80 (List._∷_ 108 (List._∷_ 97 (List._∷_ 99 (List._∷_ 101 List.[]))))))))))))))))))) (Syntax.ttcons (Syntax.tcons (Syntax.tyEnum (List._∷_ 116 (List._∷_ 101 (List._∷_ 120 (List._∷_ 116 (List._∷_ 95 (List._∷_ 104 (List._∷_ 101 (List._∷_ 97 (List._∷_ 100 (List._∷_ 105 (List._∷_ 110 (List._∷_ 103 (List._∷_ 58 (List._∷_ 58 (List._∷_ 87 (List._∷_ 111 (List._∷_ 114 (List._∷_ 100 List.[])))))))))))))))))) (Syntax.ttcons Syntax.tnil (Syntax.ttcons Syntax.tnil (Syntax.ttcons Syntax.tnil (Syntax.ttcons Syntax.tnil (Syntax.ttcons Syntax.tnil Syntax.ttnil)))))) (Syntax.tcons (Syntax.tyInt Syntax.w8) Syntax.tnil)) (Syntax.ttcons (Syntax.tcons (Syntax.tyEnum (List._∷_ 116 (List._∷_ 101 (List._∷_ 120 (List._∷_ 116 (List._∷_ 95 (List._∷_ 104 (List._∷_ 101 (List._∷_ 97 (List._∷_ 100 (List._∷_ 105 (List._∷_ 110 (List._∷_ 103 (List._∷_ 58 (List._∷_ 58 (List._∷_ 87 (List._∷_ 111 (List._∷_ 114 (List._∷_ 100 List.[])))))))))))))))))) (Syntax.ttcons Syntax.tnil (Syntax.ttcons Syntax.tnil (Syntax.ttcons Syntax.tnil (Syntax.ttcons Syntax.tnil (Syntax.ttcons Syntax.tnil Syntax.ttnil)))))) Syntax.tnil) (Syntax.ttcons (Syntax.tcons (Syntax.tyEnum (List._∷_ 116 (List._∷_ 101 (List._∷_ 120 (List._∷_ 116 (List._∷_ 95 (List._∷_ 104 (List._∷_ 101 (List._∷_ 97 (List._∷_ 100 (List._∷_ 105 (List._∷_ 110 (List._∷_ 103 (List._∷_ 58 (List._∷_ 58 (List._∷_ 87 (List._∷_ 111 (List._∷_ 114 (List._∷_ 100 List.[])))))))))))))))))) (Syntax.ttcons Syntax.tnil (Syntax.ttcons Syntax.tnil (Syntax.ttcons Syntax.tnil (Syntax.ttcons Syntax.tnil (Syntax.ttcons Syntax.tnil Syntax.ttnil)))))) (Syntax.tcons (Syntax.tyInt Syntax.w8) Syntax.tnil)) (Syntax.ttcons Syntax.tnil (Syntax.ttcons (Syntax.tcons (Syntax.tyEnum (List._∷_ 116 (List._∷_ 101 (List._∷_ 120 (List._∷_ 116 (List._∷_ 95 (List._∷_ 104 (List._∷_ 101 (List._∷_ 97 (List._∷_ 100 (List._∷_ 105 (List._∷_ 110 (List._∷_ 103 (List._∷_ 58 (List._∷_ 58 (List._∷_ 72 (List._∷_ 101 (List._∷_ 97 (List._∷_ 100 (List._∷_ 105 (List._∷_ 110 (List._∷_ 103 (List._∷_ 70 (List._∷_ 97 (List._∷_ 117 (List._∷_ 108 (List._∷_ 116 List.[])))))))))))))))))))))))))) (Syntax.ttcons Syntax.tnil (Syntax.ttcons Syntax.tnil (Syntax.ttcons Syntax.tnil (Syntax.ttcons Syntax.tnil (Syntax.ttcons (Syntax.tcons (Syntax.tyEnum (List._∷_ 116 (List._∷_ 101 (List._∷_ 120 (List._∷_ 116 (List._∷_ 95 (List._∷_ 104 (List._∷_ 101 (List._∷_ 97 (List._∷_ 100 (List._∷_ 105 (List._∷_ 110 (List._∷_ 103 (List._∷_ 58 (List._∷_ 58 (List._∷_ 87 (List._∷_ 111 (List._∷_ 114 (List._∷_ 100 List.[])))))))))))))))))) (Syntax.ttcons Syntax.tnil (Syntax.ttcons Syntax.tnil (Syntax.ttcons Syntax.tnil (Syntax.ttcons Syntax.tnil (Syntax.ttcons Syntax.tnil Syntax.ttnil)))))) Syntax.tnil) Syntax.ttnil)))))) Syntax.tnil) Syntax.ttnil)))))) Syntax.tnil)))) Syntax.tnil) (Syntax.ttcons Syntax.tnil (Syntax.ttcons (Syntax.tcons (Syntax.tyInt Syntax.w8) Syntax.tnil) (Syntax.ttcons Syntax.tnil (Syntax.ttcons (Syntax.tcons (Syntax.tyEnum (List._∷_ 116 (List._∷_ 101 (List._∷_ 120 (List._∷_ 116 (List._∷_ 95 (List._∷_ 114 (List._∷_ 101 (List._∷_ 97 (List._∷_ 100 (List._∷_ 105 (List._∷_ 110 (List._∷_ 103 (List._∷_ 58 (List._∷_ 58 (List._∷_ 70 (List._∷_ 97 (List._∷_ 117 (List._∷_ 108 (List._∷_ 116 List.[]))))))))))))))))))) (Syntax.ttcons (Syntax.tcons (Syntax.tyEnum (List._∷_ 116 (List._∷_ 101 (List._∷_ 120 (List._∷_ 116 (List._∷_ 95 (List._∷_ 104 (List._∷_ 101 (List._∷_ 97 (List._∷_ 100 (List._∷_ 105 (List._∷_ 110 (List._∷_ 103 (List._∷_ 58 (List._∷_ 58 (List._∷_ 72 (List._∷_ 101 (List._∷_ 97 (List._∷_ 100 (List._∷_ 105 (List._∷_ 110 (List._∷_ 103 (List._∷_ 70 (List._∷_ 97 (List._∷_ 117 (List._∷_ 108 (List._∷_ 116 List.[])))))))))))))))))))))))))) (Syntax.ttcons Syntax.tnil (Syntax.ttcons Syntax.tnil (Syntax.ttcons Syntax.tnil (Syntax.ttcons Syntax.tnil (Syntax.ttcons (Syntax.tcons (Syntax.tyEnum (List._∷_ 116 (List._∷_ 101 (List._∷_ 120 (List._∷_ 116 (List._∷_ 95 (List._∷_ 104 (List._∷_ 101 (List._∷_ 97 (List._∷_ 100 (List._∷_ 105 (List._∷_ 110 (List._∷_ 103 (List._∷_ 58 (List._∷_ 58 (List._∷_ 87 (List._∷_ 111 (List._∷_ 114 (List._∷_ 100 List.[])))))))))))))))))) (Syntax.ttcons Syntax.tnil (Syntax.ttcons Syntax.tnil (Syntax.ttcons Syntax.tnil (Syntax.ttcons Syntax.tnil (Syntax.ttcons Syntax.tnil Syntax.ttnil)))))) Syntax.tnil) Syntax.ttnil)))))) Syntax.tnil) (Syntax.ttcons Syntax.tnil (Syntax.ttcons Syntax.tnil Syntax.ttnil)))) Syntax.tnil) Syntax.ttnil)))))))) (Syntax.tcons (Syntax.tyArray (Syntax.tyInt Syntax.w8) 32) (Syntax.tcons (Syntax.tyInt Syntax.w64) Syntax.tnil))))))) (List._∷_ (9, Rows.any-gone (Syntax.tyInt Syntax.w64)) (List._∷_ (10, Rows.any-gone (Syntax.tyRef Syntax.erased Syntax.mut OfOutput.named)) (List._∷_ (11, Rows.any-gone (Syntax.tyStruct (List._∷_ 38 (List._∷_ 91 (List._∷_ 93 List.[]))) (Syntax.tcons (Syntax.tyRef Syntax.erased Syntax.mut OfOutput.named) (Syntax.tcons (Syntax.tyInt Syntax.w64) Syntax.tnil)))) (List._∷_ (12, Rows.any-gone (Syntax.tyRef Syntax.erased Syntax.mut OfStation.named)) (List._∷_ (13, Mut.msleft (OfStation.row) (Syntax.tyRef Syntax.erased Syntax.mut OfStation.named)) (List._∷_ (14, Rows.mleft (OfPanelRecord.row) (Syntax.tyRef Syntax.erased Syntax.mut OfPanelRecord.named)) (List._∷_ (15, Rows.any-gone (Syntax.tyRef Syntax.erased Syntax.mut (Syntax.tyInt Syntax.w8))) List.[])))))))))))))))
 
 abbrev pub t18 : List.List Row.Entry
-t18 = List._∷_ (0, Rows.any-gone Syntax.tyUnit) (List._∷_ (1, Mut.mslice (OfOutput.row) (Syntax.tyRef (Syntax.named 0) Syntax.mut OfOutput.named) 0) (List._∷_ (2, Mut.mslice (OfStation.row) (Syntax.tyRef (Syntax.named 1) Syntax.mut OfStation.named) 1) (List._∷_ (3, Rows.mref-owed (OfPanelRecord.row) (Syntax.tyRef (Syntax.named 2) Syntax.mut OfPanelRecord.named) 2 7 Row.off) (List._∷_ (4, Relend.mslice-owed (Referent.rtF (Referent.fInt Syntax.w8)) (Syntax.tyRef (Syntax.named 3) Syntax.mut (Syntax.tyInt Syntax.w8)) 3 8 Row.off) (List._∷_ (5, Relend.mslice-owed (Referent.rtF (Referent.fInt Syntax.w8)) (Syntax.tyRef (Syntax.named 4) Syntax.mut (Syntax.tyInt Syntax.w8)) 4 9 Row.off) (List._∷_ (6, Rows.sc-here Row.sBool) (List._∷_ (7, Rows.whole (Declared.row Turn.the-type)) (List._∷_ (8, Rows.any-gone (Syntax.tyStruct (List._∷_ 116 (List._∷_ 101 (List._∷_ 120 (List._∷_ 116 (List._∷_ 95 (List._∷_ 114 (List._∷_ 101 (List._∷_ 97 (List._∷_ 100 (List._∷_ 105 (List._∷_ 110 (List._∷_ 103 (List._∷_ 58 (List._∷_ 58 (List._∷_ 82 (List._∷_ 101 (List._∷_ 97 (List._∷_ 100 (List._∷_ 101 (List._∷_ 114 List.[])))))))))))))))))))) (Syntax.tcons Syntax.tyBool (Syntax.tcons (Syntax.tyInt Syntax.w64) (Syntax.tcons (Syntax.tyEnum (List._∷_ 116 (List._∷_ 101 (List._∷_ 120 (List._∷_ 116 (List._∷_ 95 (List._∷_ 114 (List._∷_ 101 (List._∷_ 97 (List._∷_ 100 (List._∷_ 105 (List._∷_ 110 (List._∷_ 103 (List._∷_ 58 (List._∷_ 58 (List._∷_ 72 (List._∷_ 101 (List._∷_ 108 (List._∷_ 100 List.[])))))))))))))))))) (Syntax.ttcons Syntax.tnil (Syntax.ttcons Syntax.tnil (Syntax.ttcons (Syntax.tcons (Syntax.tyStruct (List._∷_ 116 (List._∷_ 101 (List._∷_ 120 (List._∷_ 116 (List._∷_ 95 (List._∷_ 104 (List._∷_ 101 (List._∷_ 97 (List._∷_ 100 (List._∷_ 105 (List._∷_ 110 (List._∷_ 103 (List._∷_ 58 (List._∷_ 58 (List._∷_ 72 (List._∷_ 101 (List._∷_ 97 (List._∷_ 100 (List._∷_ 105 (List._∷_ 110 (List._∷_ 103 List.[]))))))))))))))))))))) (Syntax.tcons (IsParameters.mir) (Syntax.tcons (Syntax.tyStruct (List._∷_ 116 (List._∷_ 101 (List._∷_ 120 (List._∷_ 116 (List._∷_ 95 (List._∷_ 104 (List._∷_ 101 (List._∷_ 97 (List._∷_ 100 (List._∷_ 105 (List._∷_ 110 (List._∷_ 103 (List._∷_ 58 (List._∷_ 58 (List._∷_ 67 (List._∷_ 97 (List._∷_ 109 (List._∷_ 101 List.[])))))))))))))))))) (Syntax.tcons Syntax.tyBool (Syntax.tcons Syntax.tyBool (Syntax.tcons Syntax.tyBool Syntax.tnil)))) (Syntax.tcons (Syntax.tyEnum (List._∷_ 116 (List._∷_ 101 (List._∷_ 120 (List._∷_ 116 (List._∷_ 95 (List._∷_ 104 (List._∷_ 101 (List._∷_ 97 (List._∷_ 100 (List._∷_ 105 (List._∷_ 110 (List._∷_ 103 (List._∷_ 58 (List._∷_ 58 (List._∷_ 80 (List._∷_ 108 (List._∷_ 97 (List._∷_ 99 (List._∷_ 101 List.[]))))))))))))))))))) (Syntax.ttcons (Syntax.tcons (Syntax.tyEnum (List._∷_ 116 (List._∷_ 101 (List._∷_ 120 (List._∷_ 116 (List._∷_ 95 (List._∷_ 104 (List._∷_ 101 (List._∷_ 97 (List._∷_ 100 (List._∷_ 105 (List._∷_ 110 (List._∷_ 103 (List._∷_ 58 (List._∷_ 58 (List._∷_ 87 (List._∷_ 111 (List._∷_ 114 (List._∷_ 100 List.[])))))))))))))))))) (Syntax.ttcons Syntax.tnil (Syntax.ttcons Syntax.tnil (Syntax.ttcons Syntax.tnil (Syntax.ttcons Syntax.tnil Syntax.ttnil))))) (Syntax.tcons (Syntax.tyInt Syntax.w8) Syntax.tnil)) (Syntax.ttcons (Syntax.tcons (Syntax.tyEnum (List._∷_ 116 (List._∷_ 101 (List._∷_ 120 (List._∷_ 116 (List._∷_ 95 (List._∷_ 104 (List._∷_ 101 (List._∷_ 97 (List._∷_ 100 (List._∷_ 105 (List._∷_ 110 (List._∷_ 103 (List._∷_ 58 (List._∷_ 58 (List._∷_ 87 (List._∷_ 111 (List._∷_ 114 (List._∷_ 100 List.[])))))))))))))))))) (Syntax.ttcons Syntax.tnil (Syntax.ttcons Syntax.tnil (Syntax.ttcons Syntax.tnil (Syntax.ttcons Syntax.tnil Syntax.ttnil))))) Syntax.tnil) (Syntax.ttcons (Syntax.tcons (Syntax.tyEnum (List._∷_ 116 (List._∷_ 101 (List._∷_ 120 (List._∷_ 116 (List._∷_ 95 (List._∷_ 104 (List._∷_ 101 (List._∷_ 97 (List._∷_ 100 (List._∷_ 105 (List._∷_ 110 (List._∷_ 103 (List._∷_ 58 (List._∷_ 58 (List._∷_ 87 (List._∷_ 111 (List._∷_ 114 (List._∷_ 100 List.[])))))))))))))))))) (Syntax.ttcons Syntax.tnil (Syntax.ttcons Syntax.tnil (Syntax.ttcons Syntax.tnil (Syntax.ttcons Syntax.tnil Syntax.ttnil))))) Syntax.tnil) (Syntax.ttcons Syntax.tnil (Syntax.ttcons (Syntax.tcons (Syntax.tyEnum (List._∷_ 116 (List._∷_ 101 (List._∷_ 120 (List._∷_ 116 (List._∷_ 95 (List._∷_ 104 (List._∷_ 101 (List._∷_ 97 (List._∷_ 100 (List._∷_ 105 (List._∷_ 110 (List._∷_ 103 (List._∷_ 58 (List._∷_ 58 (List._∷_ 72 (List._∷_ 101 (List._∷_ 97 (List._∷_ 100 (List._∷_ 105 (List._∷_ 110 (List._∷_ 103 (List._∷_ 70 (List._∷_ 97 (List._∷_ 117 (List._∷_ 108 (List._∷_ 116 List.[])))))))))))))))))))))))))) (Syntax.ttcons Syntax.tnil (Syntax.ttcons Syntax.tnil (Syntax.ttcons Syntax.tnil (Syntax.ttcons (Syntax.tcons (Syntax.tyEnum (List._∷_ 116 (List._∷_ 101 (List._∷_ 120 (List._∷_ 116 (List._∷_ 95 (List._∷_ 104 (List._∷_ 101 (List._∷_ 97 (List._∷_ 100 (List._∷_ 105 (List._∷_ 110 (List._∷_ 103 (List._∷_ 58 (List._∷_ 58 (List._∷_ 87 (List._∷_ 111 (List._∷_ 114 (List._∷_ 100 List.[])))))))))))))))))) (Syntax.ttcons Syntax.tnil (Syntax.ttcons Syntax.tnil (Syntax.ttcons Syntax.tnil (Syntax.ttcons Syntax.tnil Syntax.ttnil))))) Syntax.tnil) Syntax.ttnil))))) Syntax.tnil) Syntax.ttnil)))))) Syntax.tnil)))) Syntax.tnil) (Syntax.ttcons Syntax.tnil (Syntax.ttcons (Syntax.tcons (Syntax.tyInt Syntax.w8) Syntax.tnil) (Syntax.ttcons Syntax.tnil (Syntax.ttcons (Syntax.tcons (Syntax.tyEnum (List._∷_ 116 (List._∷_ 101 (List._∷_ 120 (List._∷_ 116 (List._∷_ 95 (List._∷_ 114 (List._∷_ 101 (List._∷_ 97 (List._∷_ 100 (List._∷_ 105 (List._∷_ 110 (List._∷_ 103 (List._∷_ 58 (List._∷_ 58 (List._∷_ 70 (List._∷_ 97 (List._∷_ 117 (List._∷_ 108 (List._∷_ 116 List.[]))))))))))))))))))) (Syntax.ttcons (Syntax.tcons (Syntax.tyEnum (List._∷_ 116 (List._∷_ 101 (List._∷_ 120 (List._∷_ 116 (List._∷_ 95 (List._∷_ 104 (List._∷_ 101 (List._∷_ 97 (List._∷_ 100 (List._∷_ 105 (List._∷_ 110 (List._∷_ 103 (List._∷_ 58 (List._∷_ 58 (List._∷_ 72 (List._∷_ 101 (List._∷_ 97 (List._∷_ 100 (List._∷_ 105 (List._∷_ 110 (List._∷_ 103 (List._∷_ 70 (List._∷_ 97 (List._∷_ 117 (List._∷_ 108 (List._∷_ 116 List.[])))))))))))))))))))))))))) (Syntax.ttcons Syntax.tnil (Syntax.ttcons Syntax.tnil (Syntax.ttcons Syntax.tnil (Syntax.ttcons (Syntax.tcons (Syntax.tyEnum (List._∷_ 116 (List._∷_ 101 (List._∷_ 120 (List._∷_ 116 (List._∷_ 95 (List._∷_ 104 (List._∷_ 101 (List._∷_ 97 (List._∷_ 100 (List._∷_ 105 (List._∷_ 110 (List._∷_ 103 (List._∷_ 58 (List._∷_ 58 (List._∷_ 87 (List._∷_ 111 (List._∷_ 114 (List._∷_ 100 List.[])))))))))))))))))) (Syntax.ttcons Syntax.tnil (Syntax.ttcons Syntax.tnil (Syntax.ttcons Syntax.tnil (Syntax.ttcons Syntax.tnil Syntax.ttnil))))) Syntax.tnil) Syntax.ttnil))))) Syntax.tnil) (Syntax.ttcons Syntax.tnil (Syntax.ttcons Syntax.tnil Syntax.ttnil)))) Syntax.tnil) Syntax.ttnil)))))))) (Syntax.tcons (Syntax.tyArray (Syntax.tyInt Syntax.w8) 32) (Syntax.tcons (Syntax.tyInt Syntax.w64) Syntax.tnil))))))) (List._∷_ (9, Rows.any-gone (Syntax.tyInt Syntax.w64)) (List._∷_ (10, Rows.any-gone (Syntax.tyRef Syntax.erased Syntax.mut OfOutput.named)) (List._∷_ (11, Rows.any-gone (Syntax.tyStruct (List._∷_ 38 (List._∷_ 91 (List._∷_ 93 List.[]))) (Syntax.tcons (Syntax.tyRef Syntax.erased Syntax.mut OfOutput.named) (Syntax.tcons (Syntax.tyInt Syntax.w64) Syntax.tnil)))) (List._∷_ (12, Rows.any-gone (Syntax.tyRef Syntax.erased Syntax.mut OfStation.named)) (List._∷_ (13, Rows.any-gone (Syntax.tyStruct (List._∷_ 38 (List._∷_ 91 (List._∷_ 93 List.[]))) (Syntax.tcons (Syntax.tyRef Syntax.erased Syntax.mut OfStation.named) (Syntax.tcons (Syntax.tyInt Syntax.w64) Syntax.tnil)))) (List._∷_ (14, Rows.mleft (OfPanelRecord.row) (Syntax.tyRef Syntax.erased Syntax.mut OfPanelRecord.named)) (List._∷_ (15, Rows.any-gone (Syntax.tyRef Syntax.erased Syntax.mut (Syntax.tyInt Syntax.w8))) List.[])))))))))))))))
+t18 = List._∷_ (0, Rows.any-gone Syntax.tyUnit) (List._∷_ (1, Mut.mslice (OfOutput.row) (Syntax.tyRef (Syntax.named 0) Syntax.mut OfOutput.named) 0) (List._∷_ (2, Mut.mslice (OfStation.row) (Syntax.tyRef (Syntax.named 1) Syntax.mut OfStation.named) 1) (List._∷_ (3, Rows.mref-owed (OfPanelRecord.row) (Syntax.tyRef (Syntax.named 2) Syntax.mut OfPanelRecord.named) 2 7 Row.off) (List._∷_ (4, Relend.mslice-owed (Referent.rtF (Referent.fInt Syntax.w8)) (Syntax.tyRef (Syntax.named 3) Syntax.mut (Syntax.tyInt Syntax.w8)) 3 8 Row.off) (List._∷_ (5, Relend.mslice-owed (Referent.rtF (Referent.fInt Syntax.w8)) (Syntax.tyRef (Syntax.named 4) Syntax.mut (Syntax.tyInt Syntax.w8)) 4 9 Row.off) (List._∷_ (6, Rows.sc-here Row.sBool) (List._∷_ (7, Rows.whole (Declared.row Turn.the-type)) (List._∷_ (8, Rows.any-gone (Syntax.tyStruct (List._∷_ 116 (List._∷_ 101 (List._∷_ 120 (List._∷_ 116 (List._∷_ 95 (List._∷_ 114 (List._∷_ 101 (List._∷_ 97 (List._∷_ 100 (List._∷_ 105 (List._∷_ 110 (List._∷_ 103 (List._∷_ 58 (List._∷_ 58 (List._∷_ 82 (List._∷_ 101 (List._∷_ 97 (List._∷_ 100 (List._∷_ 101 (List._∷_ 114 List.[])))))))))))))))))))) (Syntax.tcons Syntax.tyBool (Syntax.tcons (Syntax.tyInt Syntax.w64) (Syntax.tcons (Syntax.tyEnum (List._∷_ 116 (List._∷_ 101 (List._∷_ 120 (List._∷_ 116 (List._∷_ 95 (List._∷_ 114 (List._∷_ 101 (List._∷_ 97 (List._∷_ 100 (List._∷_ 105 (List._∷_ 110 (List._∷_ 103 (List._∷_ 58 (List._∷_ 58 (List._∷_ 72 (List._∷_ 101 (List._∷_ 108 (List._∷_ 100 List.[])))))))))))))))))) (Syntax.ttcons Syntax.tnil (Syntax.ttcons Syntax.tnil (Syntax.ttcons (Syntax.tcons (Syntax.tyStruct (List._∷_ 116 (List._∷_ 101 (List._∷_ 120 (List._∷_ 116 (List._∷_ 95 (List._∷_ 104 (List._∷_ 101 (List._∷_ 97 (List._∷_ 100 (List._∷_ 105 (List._∷_ 110 (List._∷_ 103 (List._∷_ 58 (List._∷_ 58 (List._∷_ 72 (List._∷_ 101 (List._∷_ 97 (List._∷_ 100 (List._∷_ 105 (List._∷_ 110 (List._∷_ 103 List.[]))))))))))))))))))))) (Syntax.tcons (Syntax.tyStruct (List._∷_ 116 (List._∷_ 101 (List._∷_ 120 (List._∷_ 116 (List._∷_ 95 (List._∷_ 104 (List._∷_ 101 (List._∷_ 97 (List._∷_ 100 (List._∷_ 105 (List._∷_ 110 (List._∷_ 103 (List._∷_ 58 (List._∷_ 58 (List._∷_ 78 (List._∷_ 97 (List._∷_ 109 (List._∷_ 101 (List._∷_ 100 List.[]))))))))))))))))))) (Syntax.tcons (IsParameters.mir) (Syntax.tcons (Syntax.tyInt Syntax.w32) Syntax.tnil))) (Syntax.tcons (Syntax.tyStruct (List._∷_ 116 (List._∷_ 101 (List._∷_ 120 (List._∷_ 116 (List._∷_ 95 (List._∷_ 104 (List._∷_ 101 (List._∷_ 97 (List._∷_ 100 (List._∷_ 105 (List._∷_ 110 (List._∷_ 103 (List._∷_ 58 (List._∷_ 58 (List._∷_ 67 (List._∷_ 97 (List._∷_ 109 (List._∷_ 101 List.[])))))))))))))))))) (Syntax.tcons Syntax.tyBool (Syntax.tcons Syntax.tyBool (Syntax.tcons Syntax.tyBool (Syntax.tcons Syntax.tyBool Syntax.tnil))))) (Syntax.tcons (Syntax.tyEnum (List._∷_ 116 (List._∷_ 101 (List._∷_ 120 (List._∷_ 116 (List._∷_ 95 (List._∷_ 104 (List._∷_ 101 (List._∷_ 97 (List._∷_ 100 (List._∷_ 105 (List._∷_ 110 (List._∷_ 103 (List._∷_ 58 (List._∷_ 58 (List._∷_ 80 (List._∷_ 108 (List._∷_ 97 (List._∷_ 99 (List._∷_ 101 List.[]))))))))))))))))))) (Syntax.ttcons (Syntax.tcons (Syntax.tyEnum (List._∷_ 116 (List._∷_ 101 (List._∷_ 120 (List._∷_ 116 (List._∷_ 95 (List._∷_ 104 (List._∷_ 101 (List._∷_ 97 (List._∷_ 100 (List._∷_ 105 (List._∷_ 110 (List._∷_ 103 (List._∷_ 58 (List._∷_ 58 (List._∷_ 87 (List._∷_ 111 (List._∷_ 114 (List._∷_ 100 List.[])))))))))))))))))) (Syntax.ttcons Syntax.tnil (Syntax.ttcons Syntax.tnil (Syntax.ttcons Syntax.tnil (Syntax.ttcons Syntax.tnil (Syntax.ttcons Syntax.tnil Syntax.ttnil)))))) (Syntax.tcons (Syntax.tyInt Syntax.w8) Syntax.tnil)) (Syntax.ttcons (Syntax.tcons (Syntax.tyEnum (List._∷_ 116 (List._∷_ 101 (List._∷_ 120 (List._∷_ 116 (List._∷_ 95 (List._∷_ 104 (List._∷_ 101 (List._∷_ 97 (List._∷_ 100 (List._∷_ 105 (List._∷_ 110 (List._∷_ 103 (List._∷_ 58 (List._∷_ 58 (List._∷_ 87 (List._∷_ 111 (List._∷_ 114 (List._∷_ 100 List.[])))))))))))))))))) (Syntax.ttcons Syntax.tnil (Syntax.ttcons Syntax.tnil (Syntax.ttcons Syntax.tnil (Syntax.ttcons Syntax.tnil (Syntax.ttcons Syntax.tnil Syntax.ttnil)))))) Syntax.tnil) (Syntax.ttcons (Syntax.tcons (Syntax.tyEnum (List._∷_ 116 (List._∷_ 101 (List._∷_ 120 (List._∷_ 116 (List._∷_ 95 (List._∷_ 104 (List._∷_ 101 (List._∷_ 97 (List._∷_ 100 (List._∷_ 105 (List._∷_ 110 (List._∷_ 103 (List._∷_ 58 (List._∷_ 58 (List._∷_ 87 (List._∷_ 111 (List._∷_ 114 (List._∷_ 100 List.[])))))))))))))))))) (Syntax.ttcons Syntax.tnil (Syntax.ttcons Syntax.tnil (Syntax.ttcons Syntax.tnil (Syntax.ttcons Syntax.tnil (Syntax.ttcons Syntax.tnil Syntax.ttnil)))))) (Syntax.tcons (Syntax.tyInt Syntax.w8) Syntax.tnil)) (Syntax.ttcons Syntax.tnil (Syntax.ttcons (Syntax.tcons (Syntax.tyEnum (List._∷_ 116 (List._∷_ 101 (List._∷_ 120 (List._∷_ 116 (List._∷_ 95 (List._∷_ 104 (List._∷_ 101 (List._∷_ 97 (List._∷_ 100 (List._∷_ 105 (List._∷_ 110 (List._∷_ 103 (List._∷_ 58 (List._∷_ 58 (List._∷_ 72 (List._∷_ 101 (List._∷_ 97 (List._∷_ 100 (List._∷_ 105 (List._∷_ 110 (List._∷_ 103 (List._∷_ 70 (List._∷_ 97 (List._∷_ 117 (List._∷_ 108 (List._∷_ 116 List.[])))))))))))))))))))))))))) (Syntax.ttcons Syntax.tnil (Syntax.ttcons Syntax.tnil (Syntax.ttcons Syntax.tnil (Syntax.ttcons Syntax.tnil (Syntax.ttcons (Syntax.tcons (Syntax.tyEnum (List._∷_ 116 (List._∷_ 101 (List._∷_ 120 (List._∷_ 116 (List._∷_ 95 (List._∷_ 104 (List._∷_ 101 (List._∷_ 97 (List._∷_ 100 (List._∷_ 105 (List._∷_ 110 (List._∷_ 103 (List._∷_ 58 (List._∷_ 58 (List._∷_ 87 (List._∷_ 111 (List._∷_ 114 (List._∷_ 100 List.[])))))))))))))))))) (Syntax.ttcons Syntax.tnil (Syntax.ttcons Syntax.tnil (Syntax.ttcons Syntax.tnil (Syntax.ttcons Syntax.tnil (Syntax.ttcons Syntax.tnil Syntax.ttnil)))))) Syntax.tnil) Syntax.ttnil)))))) Syntax.tnil) Syntax.ttnil)))))) Syntax.tnil)))) Syntax.tnil) (Syntax.ttcons Syntax.tnil (Syntax.ttcons (Syntax.tcons (Syntax.tyInt Syntax.w8) Syntax.tnil) (Syntax.ttcons Syntax.tnil (Syntax.ttcons (Syntax.tcons (Syntax.tyEnum (List._∷_ 116 (List._∷_ 101 (List._∷_ 120 (List._∷_ 116 (List._∷_ 95 (List._∷_ 114 (List._∷_ 101 (List._∷_ 97 (List._∷_ 100 (List._∷_ 105 (List._∷_ 110 (List._∷_ 103 (List._∷_ 58 (List._∷_ 58 (List._∷_ 70 (List._∷_ 97 (List._∷_ 117 (List._∷_ 108 (List._∷_ 116 List.[]))))))))))))))))))) (Syntax.ttcons (Syntax.tcons (Syntax.tyEnum (List._∷_ 116 (List._∷_ 101 (List._∷_ 120 (List._∷_ 116 (List._∷_ 95 (List._∷_ 104 (List._∷_ 101 (List._∷_ 97 (List._∷_ 100 (List._∷_ 105 (List._∷_ 110 (List._∷_ 103 (List._∷_ 58 (List._∷_ 58 (List._∷_ 72 (List._∷_ 101 (List._∷_ 97 (List._∷_ 100 (List._∷_ 105 (List._∷_ 110 (List._∷_ 103 (List._∷_ 70 (List._∷_ 97 (List._∷_ 117 (List._∷_ 108 (List._∷_ 116 List.[])))))))))))))))))))))))))) (Syntax.ttcons Syntax.tnil (Syntax.ttcons Syntax.tnil (Syntax.ttcons Syntax.tnil (Syntax.ttcons Syntax.tnil (Syntax.ttcons (Syntax.tcons (Syntax.tyEnum (List._∷_ 116 (List._∷_ 101 (List._∷_ 120 (List._∷_ 116 (List._∷_ 95 (List._∷_ 104 (List._∷_ 101 (List._∷_ 97 (List._∷_ 100 (List._∷_ 105 (List._∷_ 110 (List._∷_ 103 (List._∷_ 58 (List._∷_ 58 (List._∷_ 87 (List._∷_ 111 (List._∷_ 114 (List._∷_ 100 List.[])))))))))))))))))) (Syntax.ttcons Syntax.tnil (Syntax.ttcons Syntax.tnil (Syntax.ttcons Syntax.tnil (Syntax.ttcons Syntax.tnil (Syntax.ttcons Syntax.tnil Syntax.ttnil)))))) Syntax.tnil) Syntax.ttnil)))))) Syntax.tnil) (Syntax.ttcons Syntax.tnil (Syntax.ttcons Syntax.tnil Syntax.ttnil)))) Syntax.tnil) Syntax.ttnil)))))))) (Syntax.tcons (Syntax.tyArray (Syntax.tyInt Syntax.w8) 32) (Syntax.tcons (Syntax.tyInt Syntax.w64) Syntax.tnil))))))) (List._∷_ (9, Rows.any-gone (Syntax.tyInt Syntax.w64)) (List._∷_ (10, Rows.any-gone (Syntax.tyRef Syntax.erased Syntax.mut OfOutput.named)) (List._∷_ (11, Rows.any-gone (Syntax.tyStruct (List._∷_ 38 (List._∷_ 91 (List._∷_ 93 List.[]))) (Syntax.tcons (Syntax.tyRef Syntax.erased Syntax.mut OfOutput.named) (Syntax.tcons (Syntax.tyInt Syntax.w64) Syntax.tnil)))) (List._∷_ (12, Rows.any-gone (Syntax.tyRef Syntax.erased Syntax.mut OfStation.named)) (List._∷_ (13, Rows.any-gone (Syntax.tyStruct (List._∷_ 38 (List._∷_ 91 (List._∷_ 93 List.[]))) (Syntax.tcons (Syntax.tyRef Syntax.erased Syntax.mut OfStation.named) (Syntax.tcons (Syntax.tyInt Syntax.w64) Syntax.tnil)))) (List._∷_ (14, Rows.mleft (OfPanelRecord.row) (Syntax.tyRef Syntax.erased Syntax.mut OfPanelRecord.named)) (List._∷_ (15, Rows.any-gone (Syntax.tyRef Syntax.erased Syntax.mut (Syntax.tyInt Syntax.w8))) List.[])))))))))))))))
 
 abbrev pub t19 : List.List Row.Entry
-t19 = List._∷_ (0, Rows.any-gone Syntax.tyUnit) (List._∷_ (1, Mut.mslice (OfOutput.row) (Syntax.tyRef (Syntax.named 0) Syntax.mut OfOutput.named) 0) (List._∷_ (2, Mut.mslice (OfStation.row) (Syntax.tyRef (Syntax.named 1) Syntax.mut OfStation.named) 1) (List._∷_ (3, Rows.mref (OfPanelRecord.row) (Syntax.tyRef (Syntax.named 2) Syntax.mut OfPanelRecord.named) 2) (List._∷_ (4, Relend.mslice-owed (Referent.rtF (Referent.fInt Syntax.w8)) (Syntax.tyRef (Syntax.named 3) Syntax.mut (Syntax.tyInt Syntax.w8)) 3 8 Row.off) (List._∷_ (5, Relend.mslice-owed (Referent.rtF (Referent.fInt Syntax.w8)) (Syntax.tyRef (Syntax.named 4) Syntax.mut (Syntax.tyInt Syntax.w8)) 4 9 Row.off) (List._∷_ (6, Rows.sc-here Row.sBool) (List._∷_ (7, Rows.whole (Declared.row Turn.the-type)) (List._∷_ (8, Rows.any-gone (Syntax.tyStruct (List._∷_ 116 (List._∷_ 101 (List._∷_ 120 (List._∷_ 116 (List._∷_ 95 (List._∷_ 114 (List._∷_ 101 (List._∷_ 97 (List._∷_ 100 (List._∷_ 105 (List._∷_ 110 (List._∷_ 103 (List._∷_ 58 (List._∷_ 58 (List._∷_ 82 (List._∷_ 101 (List._∷_ 97 (List._∷_ 100 (List._∷_ 101 (List._∷_ 114 List.[])))))))))))))))))))) (Syntax.tcons Syntax.tyBool (Syntax.tcons (Syntax.tyInt Syntax.w64) (Syntax.tcons (Syntax.tyEnum (List._∷_ 116 (List._∷_ 101 (List._∷_ 120 (List._∷_ 116 (List._∷_ 95 (List._∷_ 114 (List._∷_ 101 (List._∷_ 97 (List._∷_ 100 (List._∷_ 105 (List._∷_ 110 (List._∷_ 103 (List._∷_ 58 (List._∷_ 58 (List._∷_ 72 (List._∷_ 101 (List._∷_ 108 (List._∷_ 100 List.[])))))))))))))))))) (Syntax.ttcons Syntax.tnil (Syntax.ttcons Syntax.tnil (Syntax.ttcons (Syntax.tcons (Syntax.tyStruct (List._∷_ 116 (List._∷_ 101 (List._∷_ 120 (List._∷_ 116 (List._∷_ 95 (List._∷_ 104 (List._∷_ 101 (List._∷_ 97 (List._∷_ 100 (List._∷_ 105 (List._∷_ 110 (List._∷_ 103 (List._∷_ 58 (List._∷_ 58 (List._∷_ 72 (List._∷_ 101 (List._∷_ 97 (List._∷_ 100 (List._∷_ 105 (List._∷_ 110 (List._∷_ 103 List.[]))))))))))))))))))))) (Syntax.tcons (IsParameters.mir) (Syntax.tcons (Syntax.tyStruct (List._∷_ 116 (List._∷_ 101 (List._∷_ 120 (List._∷_ 116 (List._∷_ 95 (List._∷_ 104 (List._∷_ 101 (List._∷_ 97 (List._∷_ 100 (List._∷_ 105 (List._∷_ 110 (List._∷_ 103 (List._∷_ 58 (List._∷_ 58 (List._∷_ 67 (List._∷_ 97 (List._∷_ 109 (List._∷_ 101 List.[])))))))))))))))))) (Syntax.tcons Syntax.tyBool (Syntax.tcons Syntax.tyBool (Syntax.tcons Syntax.tyBool Syntax.tnil)))) (Syntax.tcons (Syntax.tyEnum (List._∷_ 116 (List._∷_ 101 (List._∷_ 120 (List._∷_ 116 (List._∷_ 95 (List._∷_ 104 (List._∷_ 101 (List._∷_ 97 (List._∷_ 100 (List._∷_ 105 (List._∷_ 110 (List._∷_ 103 (List._∷_ 58 (List._∷_ 58 (List._∷_ 80 (List._∷_ 108 (List._∷_ 97 (List._∷_ 99 (List._∷_ 101 List.[]))))))))))))))))))) (Syntax.ttcons (Syntax.tcons (Syntax.tyEnum (List._∷_ 116 (List._∷_ 101 (List._∷_ 120 (List._∷_ 116 (List._∷_ 95 (List._∷_ 104 (List._∷_ 101 (List._∷_ 97 (List._∷_ 100 (List._∷_ 105 (List._∷_ 110 (List._∷_ 103 (List._∷_ 58 (List._∷_ 58 (List._∷_ 87 (List._∷_ 111 (List._∷_ 114 (List._∷_ 100 List.[])))))))))))))))))) (Syntax.ttcons Syntax.tnil (Syntax.ttcons Syntax.tnil (Syntax.ttcons Syntax.tnil (Syntax.ttcons Syntax.tnil Syntax.ttnil))))) (Syntax.tcons (Syntax.tyInt Syntax.w8) Syntax.tnil)) (Syntax.ttcons (Syntax.tcons (Syntax.tyEnum (List._∷_ 116 (List._∷_ 101 (List._∷_ 120 (List._∷_ 116 (List._∷_ 95 (List._∷_ 104 (List._∷_ 101 (List._∷_ 97 (List._∷_ 100 (List._∷_ 105 (List._∷_ 110 (List._∷_ 103 (List._∷_ 58 (List._∷_ 58 (List._∷_ 87 (List._∷_ 111 (List._∷_ 114 (List._∷_ 100 List.[])))))))))))))))))) (Syntax.ttcons Syntax.tnil (Syntax.ttcons Syntax.tnil (Syntax.ttcons Syntax.tnil (Syntax.ttcons Syntax.tnil Syntax.ttnil))))) Syntax.tnil) (Syntax.ttcons (Syntax.tcons (Syntax.tyEnum (List._∷_ 116 (List._∷_ 101 (List._∷_ 120 (List._∷_ 116 (List._∷_ 95 (List._∷_ 104 (List._∷_ 101 (List._∷_ 97 (List._∷_ 100 (List._∷_ 105 (List._∷_ 110 (List._∷_ 103 (List._∷_ 58 (List._∷_ 58 (List._∷_ 87 (List._∷_ 111 (List._∷_ 114 (List._∷_ 100 List.[])))))))))))))))))) (Syntax.ttcons Syntax.tnil (Syntax.ttcons Syntax.tnil (Syntax.ttcons Syntax.tnil (Syntax.ttcons Syntax.tnil Syntax.ttnil))))) Syntax.tnil) (Syntax.ttcons Syntax.tnil (Syntax.ttcons (Syntax.tcons (Syntax.tyEnum (List._∷_ 116 (List._∷_ 101 (List._∷_ 120 (List._∷_ 116 (List._∷_ 95 (List._∷_ 104 (List._∷_ 101 (List._∷_ 97 (List._∷_ 100 (List._∷_ 105 (List._∷_ 110 (List._∷_ 103 (List._∷_ 58 (List._∷_ 58 (List._∷_ 72 (List._∷_ 101 (List._∷_ 97 (List._∷_ 100 (List._∷_ 105 (List._∷_ 110 (List._∷_ 103 (List._∷_ 70 (List._∷_ 97 (List._∷_ 117 (List._∷_ 108 (List._∷_ 116 List.[])))))))))))))))))))))))))) (Syntax.ttcons Syntax.tnil (Syntax.ttcons Syntax.tnil (Syntax.ttcons Syntax.tnil (Syntax.ttcons (Syntax.tcons (Syntax.tyEnum (List._∷_ 116 (List._∷_ 101 (List._∷_ 120 (List._∷_ 116 (List._∷_ 95 (List._∷_ 104 (List._∷_ 101 (List._∷_ 97 (List._∷_ 100 (List._∷_ 105 (List._∷_ 110 (List._∷_ 103 (List._∷_ 58 (List._∷_ 58 (List._∷_ 87 (List._∷_ 111 (List._∷_ 114 (List._∷_ 100 List.[])))))))))))))))))) (Syntax.ttcons Syntax.tnil (Syntax.ttcons Syntax.tnil (Syntax.ttcons Syntax.tnil (Syntax.ttcons Syntax.tnil Syntax.ttnil))))) Syntax.tnil) Syntax.ttnil))))) Syntax.tnil) Syntax.ttnil)))))) Syntax.tnil)))) Syntax.tnil) (Syntax.ttcons Syntax.tnil (Syntax.ttcons (Syntax.tcons (Syntax.tyInt Syntax.w8) Syntax.tnil) (Syntax.ttcons Syntax.tnil (Syntax.ttcons (Syntax.tcons (Syntax.tyEnum (List._∷_ 116 (List._∷_ 101 (List._∷_ 120 (List._∷_ 116 (List._∷_ 95 (List._∷_ 114 (List._∷_ 101 (List._∷_ 97 (List._∷_ 100 (List._∷_ 105 (List._∷_ 110 (List._∷_ 103 (List._∷_ 58 (List._∷_ 58 (List._∷_ 70 (List._∷_ 97 (List._∷_ 117 (List._∷_ 108 (List._∷_ 116 List.[]))))))))))))))))))) (Syntax.ttcons (Syntax.tcons (Syntax.tyEnum (List._∷_ 116 (List._∷_ 101 (List._∷_ 120 (List._∷_ 116 (List._∷_ 95 (List._∷_ 104 (List._∷_ 101 (List._∷_ 97 (List._∷_ 100 (List._∷_ 105 (List._∷_ 110 (List._∷_ 103 (List._∷_ 58 (List._∷_ 58 (List._∷_ 72 (List._∷_ 101 (List._∷_ 97 (List._∷_ 100 (List._∷_ 105 (List._∷_ 110 (List._∷_ 103 (List._∷_ 70 (List._∷_ 97 (List._∷_ 117 (List._∷_ 108 (List._∷_ 116 List.[])))))))))))))))))))))))))) (Syntax.ttcons Syntax.tnil (Syntax.ttcons Syntax.tnil (Syntax.ttcons Syntax.tnil (Syntax.ttcons (Syntax.tcons (Syntax.tyEnum (List._∷_ 116 (List._∷_ 101 (List._∷_ 120 (List._∷_ 116 (List._∷_ 95 (List._∷_ 104 (List._∷_ 101 (List._∷_ 97 (List._∷_ 100 (List._∷_ 105 (List._∷_ 110 (List._∷_ 103 (List._∷_ 58 (List._∷_ 58 (List._∷_ 87 (List._∷_ 111 (List._∷_ 114 (List._∷_ 100 List.[])))))))))))))))))) (Syntax.ttcons Syntax.tnil (Syntax.ttcons Syntax.tnil (Syntax.ttcons Syntax.tnil (Syntax.ttcons Syntax.tnil Syntax.ttnil))))) Syntax.tnil) Syntax.ttnil))))) Syntax.tnil) (Syntax.ttcons Syntax.tnil (Syntax.ttcons Syntax.tnil Syntax.ttnil)))) Syntax.tnil) Syntax.ttnil)))))))) (Syntax.tcons (Syntax.tyArray (Syntax.tyInt Syntax.w8) 32) (Syntax.tcons (Syntax.tyInt Syntax.w64) Syntax.tnil))))))) (List._∷_ (9, Rows.any-gone (Syntax.tyInt Syntax.w64)) (List._∷_ (10, Rows.any-gone (Syntax.tyRef Syntax.erased Syntax.mut OfOutput.named)) (List._∷_ (11, Rows.any-gone (Syntax.tyStruct (List._∷_ 38 (List._∷_ 91 (List._∷_ 93 List.[]))) (Syntax.tcons (Syntax.tyRef Syntax.erased Syntax.mut OfOutput.named) (Syntax.tcons (Syntax.tyInt Syntax.w64) Syntax.tnil)))) (List._∷_ (12, Rows.any-gone (Syntax.tyRef Syntax.erased Syntax.mut OfStation.named)) (List._∷_ (13, Rows.any-gone (Syntax.tyStruct (List._∷_ 38 (List._∷_ 91 (List._∷_ 93 List.[]))) (Syntax.tcons (Syntax.tyRef Syntax.erased Syntax.mut OfStation.named) (Syntax.tcons (Syntax.tyInt Syntax.w64) Syntax.tnil)))) (List._∷_ (14, Rows.any-gone (Syntax.tyRef Syntax.erased Syntax.mut OfPanelRecord.named)) (List._∷_ (15, Rows.any-gone (Syntax.tyRef Syntax.erased Syntax.mut (Syntax.tyInt Syntax.w8))) List.[])))))))))))))))
+t19 = List._∷_ (0, Rows.any-gone Syntax.tyUnit) (List._∷_ (1, Mut.mslice (OfOutput.row) (Syntax.tyRef (Syntax.named 0) Syntax.mut OfOutput.named) 0) (List._∷_ (2, Mut.mslice (OfStation.row) (Syntax.tyRef (Syntax.named 1) Syntax.mut OfStation.named) 1) (List._∷_ (3, Rows.mref (OfPanelRecord.row) (Syntax.tyRef (Syntax.named 2) Syntax.mut OfPanelRecord.named) 2) (List._∷_ (4, Relend.mslice-owed (Referent.rtF (Referent.fInt Syntax.w8)) (Syntax.tyRef (Syntax.named 3) Syntax.mut (Syntax.tyInt Syntax.w8)) 3 8 Row.off) (List._∷_ (5, Relend.mslice-owed (Referent.rtF (Referent.fInt Syntax.w8)) (Syntax.tyRef (Syntax.named 4) Syntax.mut (Syntax.tyInt Syntax.w8)) 4 9 Row.off) (List._∷_ (6, Rows.sc-here Row.sBool) (List._∷_ (7, Rows.whole (Declared.row Turn.the-type)) (List._∷_ (8, Rows.any-gone (Syntax.tyStruct (List._∷_ 116 (List._∷_ 101 (List._∷_ 120 (List._∷_ 116 (List._∷_ 95 (List._∷_ 114 (List._∷_ 101 (List._∷_ 97 (List._∷_ 100 (List._∷_ 105 (List._∷_ 110 (List._∷_ 103 (List._∷_ 58 (List._∷_ 58 (List._∷_ 82 (List._∷_ 101 (List._∷_ 97 (List._∷_ 100 (List._∷_ 101 (List._∷_ 114 List.[])))))))))))))))))))) (Syntax.tcons Syntax.tyBool (Syntax.tcons (Syntax.tyInt Syntax.w64) (Syntax.tcons (Syntax.tyEnum (List._∷_ 116 (List._∷_ 101 (List._∷_ 120 (List._∷_ 116 (List._∷_ 95 (List._∷_ 114 (List._∷_ 101 (List._∷_ 97 (List._∷_ 100 (List._∷_ 105 (List._∷_ 110 (List._∷_ 103 (List._∷_ 58 (List._∷_ 58 (List._∷_ 72 (List._∷_ 101 (List._∷_ 108 (List._∷_ 100 List.[])))))))))))))))))) (Syntax.ttcons Syntax.tnil (Syntax.ttcons Syntax.tnil (Syntax.ttcons (Syntax.tcons (Syntax.tyStruct (List._∷_ 116 (List._∷_ 101 (List._∷_ 120 (List._∷_ 116 (List._∷_ 95 (List._∷_ 104 (List._∷_ 101 (List._∷_ 97 (List._∷_ 100 (List._∷_ 105 (List._∷_ 110 (List._∷_ 103 (List._∷_ 58 (List._∷_ 58 (List._∷_ 72 (List._∷_ 101 (List._∷_ 97 (List._∷_ 100 (List._∷_ 105 (List._∷_ 110 (List._∷_ 103 List.[]))))))))))))))))))))) (Syntax.tcons (Syntax.tyStruct (List._∷_ 116 (List._∷_ 101 (List._∷_ 120 (List._∷_ 116 (List._∷_ 95 (List._∷_ 104 (List._∷_ 101 (List._∷_ 97 (List._∷_ 100 (List._∷_ 105 (List._∷_ 110 (List._∷_ 103 (List._∷_ 58 (List._∷_ 58 (List._∷_ 78 (List._∷_ 97 (List._∷_ 109 (List._∷_ 101 (List._∷_ 100 List.[]))))))))))))))))))) (Syntax.tcons (IsParameters.mir) (Syntax.tcons (Syntax.tyInt Syntax.w32) Syntax.tnil))) (Syntax.tcons (Syntax.tyStruct (List._∷_ 116 (List._∷_ 101 (List._∷_ 120 (List._∷_ 116 (List._∷_ 95 (List._∷_ 104 (List._∷_ 101 (List._∷_ 97 (List._∷_ 100 (List._∷_ 105 (List._∷_ 110 (List._∷_ 103 (List._∷_ 58 (List._∷_ 58 (List._∷_ 67 (List._∷_ 97 (List._∷_ 109 (List._∷_ 101 List.[])))))))))))))))))) (Syntax.tcons Syntax.tyBool (Syntax.tcons Syntax.tyBool (Syntax.tcons Syntax.tyBool (Syntax.tcons Syntax.tyBool Syntax.tnil))))) (Syntax.tcons (Syntax.tyEnum (List._∷_ 116 (List._∷_ 101 (List._∷_ 120 (List._∷_ 116 (List._∷_ 95 (List._∷_ 104 (List._∷_ 101 (List._∷_ 97 (List._∷_ 100 (List._∷_ 105 (List._∷_ 110 (List._∷_ 103 (List._∷_ 58 (List._∷_ 58 (List._∷_ 80 (List._∷_ 108 (List._∷_ 97 (List._∷_ 99 (List._∷_ 101 List.[]))))))))))))))))))) (Syntax.ttcons (Syntax.tcons (Syntax.tyEnum (List._∷_ 116 (List._∷_ 101 (List._∷_ 120 (List._∷_ 116 (List._∷_ 95 (List._∷_ 104 (List._∷_ 101 (List._∷_ 97 (List._∷_ 100 (List._∷_ 105 (List._∷_ 110 (List._∷_ 103 (List._∷_ 58 (List._∷_ 58 (List._∷_ 87 (List._∷_ 111 (List._∷_ 114 (List._∷_ 100 List.[])))))))))))))))))) (Syntax.ttcons Syntax.tnil (Syntax.ttcons Syntax.tnil (Syntax.ttcons Syntax.tnil (Syntax.ttcons Syntax.tnil (Syntax.ttcons Syntax.tnil Syntax.ttnil)))))) (Syntax.tcons (Syntax.tyInt Syntax.w8) Syntax.tnil)) (Syntax.ttcons (Syntax.tcons (Syntax.tyEnum (List._∷_ 116 (List._∷_ 101 (List._∷_ 120 (List._∷_ 116 (List._∷_ 95 (List._∷_ 104 (List._∷_ 101 (List._∷_ 97 (List._∷_ 100 (List._∷_ 105 (List._∷_ 110 (List._∷_ 103 (List._∷_ 58 (List._∷_ 58 (List._∷_ 87 (List._∷_ 111 (List._∷_ 114 (List._∷_ 100 List.[])))))))))))))))))) (Syntax.ttcons Syntax.tnil (Syntax.ttcons Syntax.tnil (Syntax.ttcons Syntax.tnil (Syntax.ttcons Syntax.tnil (Syntax.ttcons Syntax.tnil Syntax.ttnil)))))) Syntax.tnil) (Syntax.ttcons (Syntax.tcons (Syntax.tyEnum (List._∷_ 116 (List._∷_ 101 (List._∷_ 120 (List._∷_ 116 (List._∷_ 95 (List._∷_ 104 (List._∷_ 101 (List._∷_ 97 (List._∷_ 100 (List._∷_ 105 (List._∷_ 110 (List._∷_ 103 (List._∷_ 58 (List._∷_ 58 (List._∷_ 87 (List._∷_ 111 (List._∷_ 114 (List._∷_ 100 List.[])))))))))))))))))) (Syntax.ttcons Syntax.tnil (Syntax.ttcons Syntax.tnil (Syntax.ttcons Syntax.tnil (Syntax.ttcons Syntax.tnil (Syntax.ttcons Syntax.tnil Syntax.ttnil)))))) (Syntax.tcons (Syntax.tyInt Syntax.w8) Syntax.tnil)) (Syntax.ttcons Syntax.tnil (Syntax.ttcons (Syntax.tcons (Syntax.tyEnum (List._∷_ 116 (List._∷_ 101 (List._∷_ 120 (List._∷_ 116 (List._∷_ 95 (List._∷_ 104 (List._∷_ 101 (List._∷_ 97 (List._∷_ 100 (List._∷_ 105 (List._∷_ 110 (List._∷_ 103 (List._∷_ 58 (List._∷_ 58 (List._∷_ 72 (List._∷_ 101 (List._∷_ 97 (List._∷_ 100 (List._∷_ 105 (List._∷_ 110 (List._∷_ 103 (List._∷_ 70 (List._∷_ 97 (List._∷_ 117 (List._∷_ 108 (List._∷_ 116 List.[])))))))))))))))))))))))))) (Syntax.ttcons Syntax.tnil (Syntax.ttcons Syntax.tnil (Syntax.ttcons Syntax.tnil (Syntax.ttcons Syntax.tnil (Syntax.ttcons (Syntax.tcons (Syntax.tyEnum (List._∷_ 116 (List._∷_ 101 (List._∷_ 120 (List._∷_ 116 (List._∷_ 95 (List._∷_ 104 (List._∷_ 101 (List._∷_ 97 (List._∷_ 100 (List._∷_ 105 (List._∷_ 110 (List._∷_ 103 (List._∷_ 58 (List._∷_ 58 (List._∷_ 87 (List._∷_ 111 (List._∷_ 114 (List._∷_ 100 List.[])))))))))))))))))) (Syntax.ttcons Syntax.tnil (Syntax.ttcons Syntax.tnil (Syntax.ttcons Syntax.tnil (Syntax.ttcons Syntax.tnil (Syntax.ttcons Syntax.tnil Syntax.ttnil)))))) Syntax.tnil) Syntax.ttnil)))))) Syntax.tnil) Syntax.ttnil)))))) Syntax.tnil)))) Syntax.tnil) (Syntax.ttcons Syntax.tnil (Syntax.ttcons (Syntax.tcons (Syntax.tyInt Syntax.w8) Syntax.tnil) (Syntax.ttcons Syntax.tnil (Syntax.ttcons (Syntax.tcons (Syntax.tyEnum (List._∷_ 116 (List._∷_ 101 (List._∷_ 120 (List._∷_ 116 (List._∷_ 95 (List._∷_ 114 (List._∷_ 101 (List._∷_ 97 (List._∷_ 100 (List._∷_ 105 (List._∷_ 110 (List._∷_ 103 (List._∷_ 58 (List._∷_ 58 (List._∷_ 70 (List._∷_ 97 (List._∷_ 117 (List._∷_ 108 (List._∷_ 116 List.[]))))))))))))))))))) (Syntax.ttcons (Syntax.tcons (Syntax.tyEnum (List._∷_ 116 (List._∷_ 101 (List._∷_ 120 (List._∷_ 116 (List._∷_ 95 (List._∷_ 104 (List._∷_ 101 (List._∷_ 97 (List._∷_ 100 (List._∷_ 105 (List._∷_ 110 (List._∷_ 103 (List._∷_ 58 (List._∷_ 58 (List._∷_ 72 (List._∷_ 101 (List._∷_ 97 (List._∷_ 100 (List._∷_ 105 (List._∷_ 110 (List._∷_ 103 (List._∷_ 70 (List._∷_ 97 (List._∷_ 117 (List._∷_ 108 (List._∷_ 116 List.[])))))))))))))))))))))))))) (Syntax.ttcons Syntax.tnil (Syntax.ttcons Syntax.tnil (Syntax.ttcons Syntax.tnil (Syntax.ttcons Syntax.tnil (Syntax.ttcons (Syntax.tcons (Syntax.tyEnum (List._∷_ 116 (List._∷_ 101 (List._∷_ 120 (List._∷_ 116 (List._∷_ 95 (List._∷_ 104 (List._∷_ 101 (List._∷_ 97 (List._∷_ 100 (List._∷_ 105 (List._∷_ 110 (List._∷_ 103 (List._∷_ 58 (List._∷_ 58 (List._∷_ 87 (List._∷_ 111 (List._∷_ 114 (List._∷_ 100 List.[])))))))))))))))))) (Syntax.ttcons Syntax.tnil (Syntax.ttcons Syntax.tnil (Syntax.ttcons Syntax.tnil (Syntax.ttcons Syntax.tnil (Syntax.ttcons Syntax.tnil Syntax.ttnil)))))) Syntax.tnil) Syntax.ttnil)))))) Syntax.tnil) (Syntax.ttcons Syntax.tnil (Syntax.ttcons Syntax.tnil Syntax.ttnil)))) Syntax.tnil) Syntax.ttnil)))))))) (Syntax.tcons (Syntax.tyArray (Syntax.tyInt Syntax.w8) 32) (Syntax.tcons (Syntax.tyInt Syntax.w64) Syntax.tnil))))))) (List._∷_ (9, Rows.any-gone (Syntax.tyInt Syntax.w64)) (List._∷_ (10, Rows.any-gone (Syntax.tyRef Syntax.erased Syntax.mut OfOutput.named)) (List._∷_ (11, Rows.any-gone (Syntax.tyStruct (List._∷_ 38 (List._∷_ 91 (List._∷_ 93 List.[]))) (Syntax.tcons (Syntax.tyRef Syntax.erased Syntax.mut OfOutput.named) (Syntax.tcons (Syntax.tyInt Syntax.w64) Syntax.tnil)))) (List._∷_ (12, Rows.any-gone (Syntax.tyRef Syntax.erased Syntax.mut OfStation.named)) (List._∷_ (13, Rows.any-gone (Syntax.tyStruct (List._∷_ 38 (List._∷_ 91 (List._∷_ 93 List.[]))) (Syntax.tcons (Syntax.tyRef Syntax.erased Syntax.mut OfStation.named) (Syntax.tcons (Syntax.tyInt Syntax.w64) Syntax.tnil)))) (List._∷_ (14, Rows.any-gone (Syntax.tyRef Syntax.erased Syntax.mut OfPanelRecord.named)) (List._∷_ (15, Rows.any-gone (Syntax.tyRef Syntax.erased Syntax.mut (Syntax.tyInt Syntax.w8))) List.[])))))))))))))))
 
 abbrev pub t20 : List.List Row.Entry
-t20 = List._∷_ (0, Rows.any-gone Syntax.tyUnit) (List._∷_ (1, Mut.mslice (OfOutput.row) (Syntax.tyRef (Syntax.named 0) Syntax.mut OfOutput.named) 0) (List._∷_ (2, Mut.mslice (OfStation.row) (Syntax.tyRef (Syntax.named 1) Syntax.mut OfStation.named) 1) (List._∷_ (3, Rows.mref (OfPanelRecord.row) (Syntax.tyRef (Syntax.named 2) Syntax.mut OfPanelRecord.named) 2) (List._∷_ (4, Mut.mslice (Referent.rtF (Referent.fInt Syntax.w8)) (Syntax.tyRef (Syntax.named 3) Syntax.mut (Syntax.tyInt Syntax.w8)) 3) (List._∷_ (5, Relend.mslice-owed (Referent.rtF (Referent.fInt Syntax.w8)) (Syntax.tyRef (Syntax.named 4) Syntax.mut (Syntax.tyInt Syntax.w8)) 4 9 Row.off) (List._∷_ (6, Rows.sc-here Row.sBool) (List._∷_ (7, Rows.whole (Declared.row Turn.the-type)) (List._∷_ (8, Rows.any-gone (Syntax.tyStruct (List._∷_ 116 (List._∷_ 101 (List._∷_ 120 (List._∷_ 116 (List._∷_ 95 (List._∷_ 114 (List._∷_ 101 (List._∷_ 97 (List._∷_ 100 (List._∷_ 105 (List._∷_ 110 (List._∷_ 103 (List._∷_ 58 (List._∷_ 58 (List._∷_ 82 (List._∷_ 101 (List._∷_ 97 (List._∷_ 100 (List._∷_ 101 (List._∷_ 114 List.[])))))))))))))))))))) (Syntax.tcons Syntax.tyBool (Syntax.tcons (Syntax.tyInt Syntax.w64) (Syntax.tcons (Syntax.tyEnum (List._∷_ 116 (List._∷_ 101 (List._∷_ 120 (List._∷_ 116 (List._∷_ 95 (List._∷_ 114 (List._∷_ 101 (List._∷_ 97 (List._∷_ 100 (List._∷_ 105 (List._∷_ 110 (List._∷_ 103 (List._∷_ 58 (List._∷_ 58 (List._∷_ 72 (List._∷_ 101 (List._∷_ 108 (List._∷_ 100 List.[])))))))))))))))))) (Syntax.ttcons Syntax.tnil (Syntax.ttcons Syntax.tnil (Syntax.ttcons (Syntax.tcons (Syntax.tyStruct (List._∷_ 116 (List._∷_ 101 (List._∷_ 120 (List._∷_ 116 (List._∷_ 95 (List._∷_ 104 (List._∷_ 101 (List._∷_ 97 (List._∷_ 100 (List._∷_ 105 (List._∷_ 110 (List._∷_ 103 (List._∷_ 58 (List._∷_ 58 (List._∷_ 72 (List._∷_ 101 (List._∷_ 97 (List._∷_ 100 (List._∷_ 105 (List._∷_ 110 (List._∷_ 103 List.[]))))))))))))))))))))) (Syntax.tcons (IsParameters.mir) (Syntax.tcons (Syntax.tyStruct (List._∷_ 116 (List._∷_ 101 (List._∷_ 120 (List._∷_ 116 (List._∷_ 95 (List._∷_ 104 (List._∷_ 101 (List._∷_ 97 (List._∷_ 100 (List._∷_ 105 (List._∷_ 110 (List._∷_ 103 (List._∷_ 58 (List._∷_ 58 (List._∷_ 67 (List._∷_ 97 (List._∷_ 109 (List._∷_ 101 List.[])))))))))))))))))) (Syntax.tcons Syntax.tyBool (Syntax.tcons Syntax.tyBool (Syntax.tcons Syntax.tyBool Syntax.tnil)))) (Syntax.tcons (Syntax.tyEnum (List._∷_ 116 (List._∷_ 101 (List._∷_ 120 (List._∷_ 116 (List._∷_ 95 (List._∷_ 104 (List._∷_ 101 (List._∷_ 97 (List._∷_ 100 (List._∷_ 105 (List._∷_ 110 (List._∷_ 103 (List._∷_ 58 (List._∷_ 58 (List._∷_ 80 (List._∷_ 108 (List._∷_ 97 (List._∷_ 99 (List._∷_ 101 List.[]))))))))))))))))))) (Syntax.ttcons (Syntax.tcons (Syntax.tyEnum (List._∷_ 116 (List._∷_ 101 (List._∷_ 120 (List._∷_ 116 (List._∷_ 95 (List._∷_ 104 (List._∷_ 101 (List._∷_ 97 (List._∷_ 100 (List._∷_ 105 (List._∷_ 110 (List._∷_ 103 (List._∷_ 58 (List._∷_ 58 (List._∷_ 87 (List._∷_ 111 (List._∷_ 114 (List._∷_ 100 List.[])))))))))))))))))) (Syntax.ttcons Syntax.tnil (Syntax.ttcons Syntax.tnil (Syntax.ttcons Syntax.tnil (Syntax.ttcons Syntax.tnil Syntax.ttnil))))) (Syntax.tcons (Syntax.tyInt Syntax.w8) Syntax.tnil)) (Syntax.ttcons (Syntax.tcons (Syntax.tyEnum (List._∷_ 116 (List._∷_ 101 (List._∷_ 120 (List._∷_ 116 (List._∷_ 95 (List._∷_ 104 (List._∷_ 101 (List._∷_ 97 (List._∷_ 100 (List._∷_ 105 (List._∷_ 110 (List._∷_ 103 (List._∷_ 58 (List._∷_ 58 (List._∷_ 87 (List._∷_ 111 (List._∷_ 114 (List._∷_ 100 List.[])))))))))))))))))) (Syntax.ttcons Syntax.tnil (Syntax.ttcons Syntax.tnil (Syntax.ttcons Syntax.tnil (Syntax.ttcons Syntax.tnil Syntax.ttnil))))) Syntax.tnil) (Syntax.ttcons (Syntax.tcons (Syntax.tyEnum (List._∷_ 116 (List._∷_ 101 (List._∷_ 120 (List._∷_ 116 (List._∷_ 95 (List._∷_ 104 (List._∷_ 101 (List._∷_ 97 (List._∷_ 100 (List._∷_ 105 (List._∷_ 110 (List._∷_ 103 (List._∷_ 58 (List._∷_ 58 (List._∷_ 87 (List._∷_ 111 (List._∷_ 114 (List._∷_ 100 List.[])))))))))))))))))) (Syntax.ttcons Syntax.tnil (Syntax.ttcons Syntax.tnil (Syntax.ttcons Syntax.tnil (Syntax.ttcons Syntax.tnil Syntax.ttnil))))) Syntax.tnil) (Syntax.ttcons Syntax.tnil (Syntax.ttcons (Syntax.tcons (Syntax.tyEnum (List._∷_ 116 (List._∷_ 101 (List._∷_ 120 (List._∷_ 116 (List._∷_ 95 (List._∷_ 104 (List._∷_ 101 (List._∷_ 97 (List._∷_ 100 (List._∷_ 105 (List._∷_ 110 (List._∷_ 103 (List._∷_ 58 (List._∷_ 58 (List._∷_ 72 (List._∷_ 101 (List._∷_ 97 (List._∷_ 100 (List._∷_ 105 (List._∷_ 110 (List._∷_ 103 (List._∷_ 70 (List._∷_ 97 (List._∷_ 117 (List._∷_ 108 (List._∷_ 116 List.[])))))))))))))))))))))))))) (Syntax.ttcons Syntax.tnil (Syntax.ttcons Syntax.tnil (Syntax.ttcons Syntax.tnil (Syntax.ttcons (Syntax.tcons (Syntax.tyEnum (List._∷_ 116 (List._∷_ 101 (List._∷_ 120 (List._∷_ 116 (List._∷_ 95 (List._∷_ 104 (List._∷_ 101 (List._∷_ 97 (List._∷_ 100 (List._∷_ 105 (List._∷_ 110 (List._∷_ 103 (List._∷_ 58 (List._∷_ 58 (List._∷_ 87 (List._∷_ 111 (List._∷_ 114 (List._∷_ 100 List.[])))))))))))))))))) (Syntax.ttcons Syntax.tnil (Syntax.ttcons Syntax.tnil (Syntax.ttcons Syntax.tnil (Syntax.ttcons Syntax.tnil Syntax.ttnil))))) Syntax.tnil) Syntax.ttnil))))) Syntax.tnil) Syntax.ttnil)))))) Syntax.tnil)))) Syntax.tnil) (Syntax.ttcons Syntax.tnil (Syntax.ttcons (Syntax.tcons (Syntax.tyInt Syntax.w8) Syntax.tnil) (Syntax.ttcons Syntax.tnil (Syntax.ttcons (Syntax.tcons (Syntax.tyEnum (List._∷_ 116 (List._∷_ 101 (List._∷_ 120 (List._∷_ 116 (List._∷_ 95 (List._∷_ 114 (List._∷_ 101 (List._∷_ 97 (List._∷_ 100 (List._∷_ 105 (List._∷_ 110 (List._∷_ 103 (List._∷_ 58 (List._∷_ 58 (List._∷_ 70 (List._∷_ 97 (List._∷_ 117 (List._∷_ 108 (List._∷_ 116 List.[]))))))))))))))))))) (Syntax.ttcons (Syntax.tcons (Syntax.tyEnum (List._∷_ 116 (List._∷_ 101 (List._∷_ 120 (List._∷_ 116 (List._∷_ 95 (List._∷_ 104 (List._∷_ 101 (List._∷_ 97 (List._∷_ 100 (List._∷_ 105 (List._∷_ 110 (List._∷_ 103 (List._∷_ 58 (List._∷_ 58 (List._∷_ 72 (List._∷_ 101 (List._∷_ 97 (List._∷_ 100 (List._∷_ 105 (List._∷_ 110 (List._∷_ 103 (List._∷_ 70 (List._∷_ 97 (List._∷_ 117 (List._∷_ 108 (List._∷_ 116 List.[])))))))))))))))))))))))))) (Syntax.ttcons Syntax.tnil (Syntax.ttcons Syntax.tnil (Syntax.ttcons Syntax.tnil (Syntax.ttcons (Syntax.tcons (Syntax.tyEnum (List._∷_ 116 (List._∷_ 101 (List._∷_ 120 (List._∷_ 116 (List._∷_ 95 (List._∷_ 104 (List._∷_ 101 (List._∷_ 97 (List._∷_ 100 (List._∷_ 105 (List._∷_ 110 (List._∷_ 103 (List._∷_ 58 (List._∷_ 58 (List._∷_ 87 (List._∷_ 111 (List._∷_ 114 (List._∷_ 100 List.[])))))))))))))))))) (Syntax.ttcons Syntax.tnil (Syntax.ttcons Syntax.tnil (Syntax.ttcons Syntax.tnil (Syntax.ttcons Syntax.tnil Syntax.ttnil))))) Syntax.tnil) Syntax.ttnil))))) Syntax.tnil) (Syntax.ttcons Syntax.tnil (Syntax.ttcons Syntax.tnil Syntax.ttnil)))) Syntax.tnil) Syntax.ttnil)))))))) (Syntax.tcons (Syntax.tyArray (Syntax.tyInt Syntax.w8) 32) (Syntax.tcons (Syntax.tyInt Syntax.w64) Syntax.tnil))))))) (List._∷_ (9, Rows.any-gone (Syntax.tyInt Syntax.w64)) (List._∷_ (10, Rows.any-gone (Syntax.tyRef Syntax.erased Syntax.mut OfOutput.named)) (List._∷_ (11, Rows.any-gone (Syntax.tyStruct (List._∷_ 38 (List._∷_ 91 (List._∷_ 93 List.[]))) (Syntax.tcons (Syntax.tyRef Syntax.erased Syntax.mut OfOutput.named) (Syntax.tcons (Syntax.tyInt Syntax.w64) Syntax.tnil)))) (List._∷_ (12, Rows.any-gone (Syntax.tyRef Syntax.erased Syntax.mut OfStation.named)) (List._∷_ (13, Rows.any-gone (Syntax.tyStruct (List._∷_ 38 (List._∷_ 91 (List._∷_ 93 List.[]))) (Syntax.tcons (Syntax.tyRef Syntax.erased Syntax.mut OfStation.named) (Syntax.tcons (Syntax.tyInt Syntax.w64) Syntax.tnil)))) (List._∷_ (14, Rows.any-gone (Syntax.tyRef Syntax.erased Syntax.mut OfPanelRecord.named)) (List._∷_ (15, Rows.any-gone (Syntax.tyRef Syntax.erased Syntax.mut (Syntax.tyInt Syntax.w8))) List.[])))))))))))))))
+t20 = List._∷_ (0, Rows.any-gone Syntax.tyUnit) (List._∷_ (1, Mut.mslice (OfOutput.row) (Syntax.tyRef (Syntax.named 0) Syntax.mut OfOutput.named) 0) (List._∷_ (2, Mut.mslice (OfStation.row) (Syntax.tyRef (Syntax.named 1) Syntax.mut OfStation.named) 1) (List._∷_ (3, Rows.mref (OfPanelRecord.row) (Syntax.tyRef (Syntax.named 2) Syntax.mut OfPanelRecord.named) 2) (List._∷_ (4, Mut.mslice (Referent.rtF (Referent.fInt Syntax.w8)) (Syntax.tyRef (Syntax.named 3) Syntax.mut (Syntax.tyInt Syntax.w8)) 3) (List._∷_ (5, Relend.mslice-owed (Referent.rtF (Referent.fInt Syntax.w8)) (Syntax.tyRef (Syntax.named 4) Syntax.mut (Syntax.tyInt Syntax.w8)) 4 9 Row.off) (List._∷_ (6, Rows.sc-here Row.sBool) (List._∷_ (7, Rows.whole (Declared.row Turn.the-type)) (List._∷_ (8, Rows.any-gone (Syntax.tyStruct (List._∷_ 116 (List._∷_ 101 (List._∷_ 120 (List._∷_ 116 (List._∷_ 95 (List._∷_ 114 (List._∷_ 101 (List._∷_ 97 (List._∷_ 100 (List._∷_ 105 (List._∷_ 110 (List._∷_ 103 (List._∷_ 58 (List._∷_ 58 (List._∷_ 82 (List._∷_ 101 (List._∷_ 97 (List._∷_ 100 (List._∷_ 101 (List._∷_ 114 List.[])))))))))))))))))))) (Syntax.tcons Syntax.tyBool (Syntax.tcons (Syntax.tyInt Syntax.w64) (Syntax.tcons (Syntax.tyEnum (List._∷_ 116 (List._∷_ 101 (List._∷_ 120 (List._∷_ 116 (List._∷_ 95 (List._∷_ 114 (List._∷_ 101 (List._∷_ 97 (List._∷_ 100 (List._∷_ 105 (List._∷_ 110 (List._∷_ 103 (List._∷_ 58 (List._∷_ 58 (List._∷_ 72 (List._∷_ 101 (List._∷_ 108 (List._∷_ 100 List.[])))))))))))))))))) (Syntax.ttcons Syntax.tnil (Syntax.ttcons Syntax.tnil (Syntax.ttcons (Syntax.tcons (Syntax.tyStruct (List._∷_ 116 (List._∷_ 101 (List._∷_ 120 (List._∷_ 116 (List._∷_ 95 (List._∷_ 104 (List._∷_ 101 (List._∷_ 97 (List._∷_ 100 (List._∷_ 105 (List._∷_ 110 (List._∷_ 103 (List._∷_ 58 (List._∷_ 58 (List._∷_ 72 (List._∷_ 101 (List._∷_ 97 (List._∷_ 100 (List._∷_ 105 (List._∷_ 110 (List._∷_ 103 List.[]))))))))))))))))))))) (Syntax.tcons (Syntax.tyStruct (List._∷_ 116 (List._∷_ 101 (List._∷_ 120 (List._∷_ 116 (List._∷_ 95 (List._∷_ 104 (List._∷_ 101 (List._∷_ 97 (List._∷_ 100 (List._∷_ 105 (List._∷_ 110 (List._∷_ 103 (List._∷_ 58 (List._∷_ 58 (List._∷_ 78 (List._∷_ 97 (List._∷_ 109 (List._∷_ 101 (List._∷_ 100 List.[]))))))))))))))))))) (Syntax.tcons (IsParameters.mir) (Syntax.tcons (Syntax.tyInt Syntax.w32) Syntax.tnil))) (Syntax.tcons (Syntax.tyStruct (List._∷_ 116 (List._∷_ 101 (List._∷_ 120 (List._∷_ 116 (List._∷_ 95 (List._∷_ 104 (List._∷_ 101 (List._∷_ 97 (List._∷_ 100 (List._∷_ 105 (List._∷_ 110 (List._∷_ 103 (List._∷_ 58 (List._∷_ 58 (List._∷_ 67 (List._∷_ 97 (List._∷_ 109 (List._∷_ 101 List.[])))))))))))))))))) (Syntax.tcons Syntax.tyBool (Syntax.tcons Syntax.tyBool (Syntax.tcons Syntax.tyBool (Syntax.tcons Syntax.tyBool Syntax.tnil))))) (Syntax.tcons (Syntax.tyEnum (List._∷_ 116 (List._∷_ 101 (List._∷_ 120 (List._∷_ 116 (List._∷_ 95 (List._∷_ 104 (List._∷_ 101 (List._∷_ 97 (List._∷_ 100 (List._∷_ 105 (List._∷_ 110 (List._∷_ 103 (List._∷_ 58 (List._∷_ 58 (List._∷_ 80 (List._∷_ 108 (List._∷_ 97 (List._∷_ 99 (List._∷_ 101 List.[]))))))))))))))))))) (Syntax.ttcons (Syntax.tcons (Syntax.tyEnum (List._∷_ 116 (List._∷_ 101 (List._∷_ 120 (List._∷_ 116 (List._∷_ 95 (List._∷_ 104 (List._∷_ 101 (List._∷_ 97 (List._∷_ 100 (List._∷_ 105 (List._∷_ 110 (List._∷_ 103 (List._∷_ 58 (List._∷_ 58 (List._∷_ 87 (List._∷_ 111 (List._∷_ 114 (List._∷_ 100 List.[])))))))))))))))))) (Syntax.ttcons Syntax.tnil (Syntax.ttcons Syntax.tnil (Syntax.ttcons Syntax.tnil (Syntax.ttcons Syntax.tnil (Syntax.ttcons Syntax.tnil Syntax.ttnil)))))) (Syntax.tcons (Syntax.tyInt Syntax.w8) Syntax.tnil)) (Syntax.ttcons (Syntax.tcons (Syntax.tyEnum (List._∷_ 116 (List._∷_ 101 (List._∷_ 120 (List._∷_ 116 (List._∷_ 95 (List._∷_ 104 (List._∷_ 101 (List._∷_ 97 (List._∷_ 100 (List._∷_ 105 (List._∷_ 110 (List._∷_ 103 (List._∷_ 58 (List._∷_ 58 (List._∷_ 87 (List._∷_ 111 (List._∷_ 114 (List._∷_ 100 List.[])))))))))))))))))) (Syntax.ttcons Syntax.tnil (Syntax.ttcons Syntax.tnil (Syntax.ttcons Syntax.tnil (Syntax.ttcons Syntax.tnil (Syntax.ttcons Syntax.tnil Syntax.ttnil)))))) Syntax.tnil) (Syntax.ttcons (Syntax.tcons (Syntax.tyEnum (List._∷_ 116 (List._∷_ 101 (List._∷_ 120 (List._∷_ 116 (List._∷_ 95 (List._∷_ 104 (List._∷_ 101 (List._∷_ 97 (List._∷_ 100 (List._∷_ 105 (List._∷_ 110 (List._∷_ 103 (List._∷_ 58 (List._∷_ 58 (List._∷_ 87 (List._∷_ 111 (List._∷_ 114 (List._∷_ 100 List.[])))))))))))))))))) (Syntax.ttcons Syntax.tnil (Syntax.ttcons Syntax.tnil (Syntax.ttcons Syntax.tnil (Syntax.ttcons Syntax.tnil (Syntax.ttcons Syntax.tnil Syntax.ttnil)))))) (Syntax.tcons (Syntax.tyInt Syntax.w8) Syntax.tnil)) (Syntax.ttcons Syntax.tnil (Syntax.ttcons (Syntax.tcons (Syntax.tyEnum (List._∷_ 116 (List._∷_ 101 (List._∷_ 120 (List._∷_ 116 (List._∷_ 95 (List._∷_ 104 (List._∷_ 101 (List._∷_ 97 (List._∷_ 100 (List._∷_ 105 (List._∷_ 110 (List._∷_ 103 (List._∷_ 58 (List._∷_ 58 (List._∷_ 72 (List._∷_ 101 (List._∷_ 97 (List._∷_ 100 (List._∷_ 105 (List._∷_ 110 (List._∷_ 103 (List._∷_ 70 (List._∷_ 97 (List._∷_ 117 (List._∷_ 108 (List._∷_ 116 List.[])))))))))))))))))))))))))) (Syntax.ttcons Syntax.tnil (Syntax.ttcons Syntax.tnil (Syntax.ttcons Syntax.tnil (Syntax.ttcons Syntax.tnil (Syntax.ttcons (Syntax.tcons (Syntax.tyEnum (List._∷_ 116 (List._∷_ 101 (List._∷_ 120 (List._∷_ 116 (List._∷_ 95 (List._∷_ 104 (List._∷_ 101 (List._∷_ 97 (List._∷_ 100 (List._∷_ 105 (List._∷_ 110 (List._∷_ 103 (List._∷_ 58 (List._∷_ 58 (List._∷_ 87 (List._∷_ 111 (List._∷_ 114 (List._∷_ 100 List.[])))))))))))))))))) (Syntax.ttcons Syntax.tnil (Syntax.ttcons Syntax.tnil (Syntax.ttcons Syntax.tnil (Syntax.ttcons Syntax.tnil (Syntax.ttcons Syntax.tnil Syntax.ttnil)))))) Syntax.tnil) Syntax.ttnil)))))) Syntax.tnil) Syntax.ttnil)))))) Syntax.tnil)))) Syntax.tnil) (Syntax.ttcons Syntax.tnil (Syntax.ttcons (Syntax.tcons (Syntax.tyInt Syntax.w8) Syntax.tnil) (Syntax.ttcons Syntax.tnil (Syntax.ttcons (Syntax.tcons (Syntax.tyEnum (List._∷_ 116 (List._∷_ 101 (List._∷_ 120 (List._∷_ 116 (List._∷_ 95 (List._∷_ 114 (List._∷_ 101 (List._∷_ 97 (List._∷_ 100 (List._∷_ 105 (List._∷_ 110 (List._∷_ 103 (List._∷_ 58 (List._∷_ 58 (List._∷_ 70 (List._∷_ 97 (List._∷_ 117 (List._∷_ 108 (List._∷_ 116 List.[]))))))))))))))))))) (Syntax.ttcons (Syntax.tcons (Syntax.tyEnum (List._∷_ 116 (List._∷_ 101 (List._∷_ 120 (List._∷_ 116 (List._∷_ 95 (List._∷_ 104 (List._∷_ 101 (List._∷_ 97 (List._∷_ 100 (List._∷_ 105 (List._∷_ 110 (List._∷_ 103 (List._∷_ 58 (List._∷_ 58 (List._∷_ 72 (List._∷_ 101 (List._∷_ 97 (List._∷_ 100 (List._∷_ 105 (List._∷_ 110 (List._∷_ 103 (List._∷_ 70 (List._∷_ 97 (List._∷_ 117 (List._∷_ 108 (List._∷_ 116 List.[])))))))))))))))))))))))))) (Syntax.ttcons Syntax.tnil (Syntax.ttcons Syntax.tnil (Syntax.ttcons Syntax.tnil (Syntax.ttcons Syntax.tnil (Syntax.ttcons (Syntax.tcons (Syntax.tyEnum (List._∷_ 116 (List._∷_ 101 (List._∷_ 120 (List._∷_ 116 (List._∷_ 95 (List._∷_ 104 (List._∷_ 101 (List._∷_ 97 (List._∷_ 100 (List._∷_ 105 (List._∷_ 110 (List._∷_ 103 (List._∷_ 58 (List._∷_ 58 (List._∷_ 87 (List._∷_ 111 (List._∷_ 114 (List._∷_ 100 List.[])))))))))))))))))) (Syntax.ttcons Syntax.tnil (Syntax.ttcons Syntax.tnil (Syntax.ttcons Syntax.tnil (Syntax.ttcons Syntax.tnil (Syntax.ttcons Syntax.tnil Syntax.ttnil)))))) Syntax.tnil) Syntax.ttnil)))))) Syntax.tnil) (Syntax.ttcons Syntax.tnil (Syntax.ttcons Syntax.tnil Syntax.ttnil)))) Syntax.tnil) Syntax.ttnil)))))))) (Syntax.tcons (Syntax.tyArray (Syntax.tyInt Syntax.w8) 32) (Syntax.tcons (Syntax.tyInt Syntax.w64) Syntax.tnil))))))) (List._∷_ (9, Rows.any-gone (Syntax.tyInt Syntax.w64)) (List._∷_ (10, Rows.any-gone (Syntax.tyRef Syntax.erased Syntax.mut OfOutput.named)) (List._∷_ (11, Rows.any-gone (Syntax.tyStruct (List._∷_ 38 (List._∷_ 91 (List._∷_ 93 List.[]))) (Syntax.tcons (Syntax.tyRef Syntax.erased Syntax.mut OfOutput.named) (Syntax.tcons (Syntax.tyInt Syntax.w64) Syntax.tnil)))) (List._∷_ (12, Rows.any-gone (Syntax.tyRef Syntax.erased Syntax.mut OfStation.named)) (List._∷_ (13, Rows.any-gone (Syntax.tyStruct (List._∷_ 38 (List._∷_ 91 (List._∷_ 93 List.[]))) (Syntax.tcons (Syntax.tyRef Syntax.erased Syntax.mut OfStation.named) (Syntax.tcons (Syntax.tyInt Syntax.w64) Syntax.tnil)))) (List._∷_ (14, Rows.any-gone (Syntax.tyRef Syntax.erased Syntax.mut OfPanelRecord.named)) (List._∷_ (15, Rows.any-gone (Syntax.tyRef Syntax.erased Syntax.mut (Syntax.tyInt Syntax.w8))) List.[])))))))))))))))
 
 abbrev pub t21 : List.List Row.Entry
 t21 = List._∷_ (16, Rows.any-gone (Syntax.tyStruct (List._∷_ 38 (List._∷_ 91 (List._∷_ 93 List.[]))) (Syntax.tcons (Syntax.tyRef Syntax.erased Syntax.mut (Syntax.tyInt Syntax.w8)) (Syntax.tcons (Syntax.tyInt Syntax.w64) Syntax.tnil)))) (List._∷_ (17, Rows.any-gone (Syntax.tyRef Syntax.erased Syntax.mut (Syntax.tyInt Syntax.w8))) (List._∷_ (18, Mut.msleft (Referent.rtF (Referent.fInt Syntax.w8)) (Syntax.tyRef Syntax.erased Syntax.mut (Syntax.tyInt Syntax.w8))) (List._∷_ (19, Rows.any-gone Syntax.tyBool) (List._∷_ (20, Rows.any-gone (Syntax.tyRef Syntax.erased Syntax.mut OfOutput.named)) (List._∷_ (21, Rows.any-gone (Syntax.tyStruct (List._∷_ 38 (List._∷_ 91 (List._∷_ 93 List.[]))) (Syntax.tcons (Syntax.tyRef Syntax.erased Syntax.mut OfOutput.named) (Syntax.tcons (Syntax.tyInt Syntax.w64) Syntax.tnil)))) (List._∷_ (22, Rows.any-gone (Syntax.tyRef Syntax.erased Syntax.mut OfStation.named)) (List._∷_ (23, Rows.any-gone (Syntax.tyStruct (List._∷_ 38 (List._∷_ 91 (List._∷_ 93 List.[]))) (Syntax.tcons (Syntax.tyRef Syntax.erased Syntax.mut OfStation.named) (Syntax.tcons (Syntax.tyInt Syntax.w64) Syntax.tnil)))) (List._∷_ (24, Rows.any-gone (Syntax.tyRef Syntax.erased Syntax.mut OfPanelRecord.named)) (List._∷_ (25, Rows.any-gone (Syntax.tyRef Syntax.erased Syntax.mut (Syntax.tyInt Syntax.w8))) (List._∷_ (26, Rows.any-gone (Syntax.tyStruct (List._∷_ 38 (List._∷_ 91 (List._∷_ 93 List.[]))) (Syntax.tcons (Syntax.tyRef Syntax.erased Syntax.mut (Syntax.tyInt Syntax.w8)) (Syntax.tcons (Syntax.tyInt Syntax.w64) Syntax.tnil)))) (List._∷_ (27, Rows.any-gone Syntax.tyUnit) (List._∷_ (28, Rows.any-gone (Syntax.tyRef Syntax.erased Syntax.imm (Syntax.tyInt Syntax.w8))) (List._∷_ (29, Rows.any-gone (Syntax.tyStruct (List._∷_ 38 (List._∷_ 91 (List._∷_ 93 List.[]))) (Syntax.tcons (Syntax.tyRef Syntax.erased Syntax.imm (Syntax.tyInt Syntax.w8)) (Syntax.tcons (Syntax.tyInt Syntax.w64) Syntax.tnil)))) (List._∷_ (30, Rows.any-gone Syntax.tyUnit) (List._∷_ (31, Rows.any-gone (Syntax.tyRef Syntax.erased Syntax.imm (Syntax.tyInt Syntax.w8))) List.[])))))))))))))))
 
 abbrev pub t22 : List.List Row.Entry
-t22 = List._∷_ (0, Rows.any-gone Syntax.tyUnit) (List._∷_ (1, Mut.mslice (OfOutput.row) (Syntax.tyRef (Syntax.named 0) Syntax.mut OfOutput.named) 0) (List._∷_ (2, Mut.mslice (OfStation.row) (Syntax.tyRef (Syntax.named 1) Syntax.mut OfStation.named) 1) (List._∷_ (3, Rows.mref (OfPanelRecord.row) (Syntax.tyRef (Syntax.named 2) Syntax.mut OfPanelRecord.named) 2) (List._∷_ (4, Mut.mslice (Referent.rtF (Referent.fInt Syntax.w8)) (Syntax.tyRef (Syntax.named 3) Syntax.mut (Syntax.tyInt Syntax.w8)) 3) (List._∷_ (5, Mut.mslice (Referent.rtF (Referent.fInt Syntax.w8)) (Syntax.tyRef (Syntax.named 4) Syntax.mut (Syntax.tyInt Syntax.w8)) 4) (List._∷_ (6, Rows.sc-here Row.sBool) (List._∷_ (7, Rows.whole (Declared.row Turn.the-type)) (List._∷_ (8, Rows.any-gone (Syntax.tyStruct (List._∷_ 116 (List._∷_ 101 (List._∷_ 120 (List._∷_ 116 (List._∷_ 95 (List._∷_ 114 (List._∷_ 101 (List._∷_ 97 (List._∷_ 100 (List._∷_ 105 (List._∷_ 110 (List._∷_ 103 (List._∷_ 58 (List._∷_ 58 (List._∷_ 82 (List._∷_ 101 (List._∷_ 97 (List._∷_ 100 (List._∷_ 101 (List._∷_ 114 List.[])))))))))))))))))))) (Syntax.tcons Syntax.tyBool (Syntax.tcons (Syntax.tyInt Syntax.w64) (Syntax.tcons (Syntax.tyEnum (List._∷_ 116 (List._∷_ 101 (List._∷_ 120 (List._∷_ 116 (List._∷_ 95 (List._∷_ 114 (List._∷_ 101 (List._∷_ 97 (List._∷_ 100 (List._∷_ 105 (List._∷_ 110 (List._∷_ 103 (List._∷_ 58 (List._∷_ 58 (List._∷_ 72 (List._∷_ 101 (List._∷_ 108 (List._∷_ 100 List.[])))))))))))))))))) (Syntax.ttcons Syntax.tnil (Syntax.ttcons Syntax.tnil (Syntax.ttcons (Syntax.tcons (Syntax.tyStruct (List._∷_ 116 (List._∷_ 101 (List._∷_ 120 (List._∷_ 116 (List._∷_ 95 (List._∷_ 104 (List._∷_ 101 (List._∷_ 97 (List._∷_ 100 (List._∷_ 105 (List._∷_ 110 (List._∷_ 103 (List._∷_ 58 (List._∷_ 58 (List._∷_ 72 (List._∷_ 101 (List._∷_ 97 (List._∷_ 100 (List._∷_ 105 (List._∷_ 110 (List._∷_ 103 List.[]))))))))))))))))))))) (Syntax.tcons (IsParameters.mir) (Syntax.tcons (Syntax.tyStruct (List._∷_ 116 (List._∷_ 101 (List._∷_ 120 (List._∷_ 116 (List._∷_ 95 (List._∷_ 104 (List._∷_ 101 (List._∷_ 97 (List._∷_ 100 (List._∷_ 105 (List._∷_ 110 (List._∷_ 103 (List._∷_ 58 (List._∷_ 58 (List._∷_ 67 (List._∷_ 97 (List._∷_ 109 (List._∷_ 101 List.[])))))))))))))))))) (Syntax.tcons Syntax.tyBool (Syntax.tcons Syntax.tyBool (Syntax.tcons Syntax.tyBool Syntax.tnil)))) (Syntax.tcons (Syntax.tyEnum (List._∷_ 116 (List._∷_ 101 (List._∷_ 120 (List._∷_ 116 (List._∷_ 95 (List._∷_ 104 (List._∷_ 101 (List._∷_ 97 (List._∷_ 100 (List._∷_ 105 (List._∷_ 110 (List._∷_ 103 (List._∷_ 58 (List._∷_ 58 (List._∷_ 80 (List._∷_ 108 (List._∷_ 97 (List._∷_ 99 (List._∷_ 101 List.[]))))))))))))))))))) (Syntax.ttcons (Syntax.tcons (Syntax.tyEnum (List._∷_ 116 (List._∷_ 101 (List._∷_ 120 (List._∷_ 116 (List._∷_ 95 (List._∷_ 104 (List._∷_ 101 (List._∷_ 97 (List._∷_ 100 (List._∷_ 105 (List._∷_ 110 (List._∷_ 103 (List._∷_ 58 (List._∷_ 58 (List._∷_ 87 (List._∷_ 111 (List._∷_ 114 (List._∷_ 100 List.[])))))))))))))))))) (Syntax.ttcons Syntax.tnil (Syntax.ttcons Syntax.tnil (Syntax.ttcons Syntax.tnil (Syntax.ttcons Syntax.tnil Syntax.ttnil))))) (Syntax.tcons (Syntax.tyInt Syntax.w8) Syntax.tnil)) (Syntax.ttcons (Syntax.tcons (Syntax.tyEnum (List._∷_ 116 (List._∷_ 101 (List._∷_ 120 (List._∷_ 116 (List._∷_ 95 (List._∷_ 104 (List._∷_ 101 (List._∷_ 97 (List._∷_ 100 (List._∷_ 105 (List._∷_ 110 (List._∷_ 103 (List._∷_ 58 (List._∷_ 58 (List._∷_ 87 (List._∷_ 111 (List._∷_ 114 (List._∷_ 100 List.[])))))))))))))))))) (Syntax.ttcons Syntax.tnil (Syntax.ttcons Syntax.tnil (Syntax.ttcons Syntax.tnil (Syntax.ttcons Syntax.tnil Syntax.ttnil))))) Syntax.tnil) (Syntax.ttcons (Syntax.tcons (Syntax.tyEnum (List._∷_ 116 (List._∷_ 101 (List._∷_ 120 (List._∷_ 116 (List._∷_ 95 (List._∷_ 104 (List._∷_ 101 (List._∷_ 97 (List._∷_ 100 (List._∷_ 105 (List._∷_ 110 (List._∷_ 103 (List._∷_ 58 (List._∷_ 58 (List._∷_ 87 (List._∷_ 111 (List._∷_ 114 (List._∷_ 100 List.[])))))))))))))))))) (Syntax.ttcons Syntax.tnil (Syntax.ttcons Syntax.tnil (Syntax.ttcons Syntax.tnil (Syntax.ttcons Syntax.tnil Syntax.ttnil))))) Syntax.tnil) (Syntax.ttcons Syntax.tnil (Syntax.ttcons (Syntax.tcons (Syntax.tyEnum (List._∷_ 116 (List._∷_ 101 (List._∷_ 120 (List._∷_ 116 (List._∷_ 95 (List._∷_ 104 (List._∷_ 101 (List._∷_ 97 (List._∷_ 100 (List._∷_ 105 (List._∷_ 110 (List._∷_ 103 (List._∷_ 58 (List._∷_ 58 (List._∷_ 72 (List._∷_ 101 (List._∷_ 97 (List._∷_ 100 (List._∷_ 105 (List._∷_ 110 (List._∷_ 103 (List._∷_ 70 (List._∷_ 97 (List._∷_ 117 (List._∷_ 108 (List._∷_ 116 List.[])))))))))))))))))))))))))) (Syntax.ttcons Syntax.tnil (Syntax.ttcons Syntax.tnil (Syntax.ttcons Syntax.tnil (Syntax.ttcons (Syntax.tcons (Syntax.tyEnum (List._∷_ 116 (List._∷_ 101 (List._∷_ 120 (List._∷_ 116 (List._∷_ 95 (List._∷_ 104 (List._∷_ 101 (List._∷_ 97 (List._∷_ 100 (List._∷_ 105 (List._∷_ 110 (List._∷_ 103 (List._∷_ 58 (List._∷_ 58 (List._∷_ 87 (List._∷_ 111 (List._∷_ 114 (List._∷_ 100 List.[])))))))))))))))))) (Syntax.ttcons Syntax.tnil (Syntax.ttcons Syntax.tnil (Syntax.ttcons Syntax.tnil (Syntax.ttcons Syntax.tnil Syntax.ttnil))))) Syntax.tnil) Syntax.ttnil))))) Syntax.tnil) Syntax.ttnil)))))) Syntax.tnil)))) Syntax.tnil) (Syntax.ttcons Syntax.tnil (Syntax.ttcons (Syntax.tcons (Syntax.tyInt Syntax.w8) Syntax.tnil) (Syntax.ttcons Syntax.tnil (Syntax.ttcons (Syntax.tcons (Syntax.tyEnum (List._∷_ 116 (List._∷_ 101 (List._∷_ 120 (List._∷_ 116 (List._∷_ 95 (List._∷_ 114 (List._∷_ 101 (List._∷_ 97 (List._∷_ 100 (List._∷_ 105 (List._∷_ 110 (List._∷_ 103 (List._∷_ 58 (List._∷_ 58 (List._∷_ 70 (List._∷_ 97 (List._∷_ 117 (List._∷_ 108 (List._∷_ 116 List.[]))))))))))))))))))) (Syntax.ttcons (Syntax.tcons (Syntax.tyEnum (List._∷_ 116 (List._∷_ 101 (List._∷_ 120 (List._∷_ 116 (List._∷_ 95 (List._∷_ 104 (List._∷_ 101 (List._∷_ 97 (List._∷_ 100 (List._∷_ 105 (List._∷_ 110 (List._∷_ 103 (List._∷_ 58 (List._∷_ 58 (List._∷_ 72 (List._∷_ 101 (List._∷_ 97 (List._∷_ 100 (List._∷_ 105 (List._∷_ 110 (List._∷_ 103 (List._∷_ 70 (List._∷_ 97 (List._∷_ 117 (List._∷_ 108 (List._∷_ 116 List.[])))))))))))))))))))))))))) (Syntax.ttcons Syntax.tnil (Syntax.ttcons Syntax.tnil (Syntax.ttcons Syntax.tnil (Syntax.ttcons (Syntax.tcons (Syntax.tyEnum (List._∷_ 116 (List._∷_ 101 (List._∷_ 120 (List._∷_ 116 (List._∷_ 95 (List._∷_ 104 (List._∷_ 101 (List._∷_ 97 (List._∷_ 100 (List._∷_ 105 (List._∷_ 110 (List._∷_ 103 (List._∷_ 58 (List._∷_ 58 (List._∷_ 87 (List._∷_ 111 (List._∷_ 114 (List._∷_ 100 List.[])))))))))))))))))) (Syntax.ttcons Syntax.tnil (Syntax.ttcons Syntax.tnil (Syntax.ttcons Syntax.tnil (Syntax.ttcons Syntax.tnil Syntax.ttnil))))) Syntax.tnil) Syntax.ttnil))))) Syntax.tnil) (Syntax.ttcons Syntax.tnil (Syntax.ttcons Syntax.tnil Syntax.ttnil)))) Syntax.tnil) Syntax.ttnil)))))))) (Syntax.tcons (Syntax.tyArray (Syntax.tyInt Syntax.w8) 32) (Syntax.tcons (Syntax.tyInt Syntax.w64) Syntax.tnil))))))) (List._∷_ (9, Rows.any-gone (Syntax.tyInt Syntax.w64)) (List._∷_ (10, Rows.any-gone (Syntax.tyRef Syntax.erased Syntax.mut OfOutput.named)) (List._∷_ (11, Rows.any-gone (Syntax.tyStruct (List._∷_ 38 (List._∷_ 91 (List._∷_ 93 List.[]))) (Syntax.tcons (Syntax.tyRef Syntax.erased Syntax.mut OfOutput.named) (Syntax.tcons (Syntax.tyInt Syntax.w64) Syntax.tnil)))) (List._∷_ (12, Rows.any-gone (Syntax.tyRef Syntax.erased Syntax.mut OfStation.named)) (List._∷_ (13, Rows.any-gone (Syntax.tyStruct (List._∷_ 38 (List._∷_ 91 (List._∷_ 93 List.[]))) (Syntax.tcons (Syntax.tyRef Syntax.erased Syntax.mut OfStation.named) (Syntax.tcons (Syntax.tyInt Syntax.w64) Syntax.tnil)))) (List._∷_ (14, Rows.any-gone (Syntax.tyRef Syntax.erased Syntax.mut OfPanelRecord.named)) (List._∷_ (15, Rows.any-gone (Syntax.tyRef Syntax.erased Syntax.mut (Syntax.tyInt Syntax.w8))) List.[])))))))))))))))
+t22 = List._∷_ (0, Rows.any-gone Syntax.tyUnit) (List._∷_ (1, Mut.mslice (OfOutput.row) (Syntax.tyRef (Syntax.named 0) Syntax.mut OfOutput.named) 0) (List._∷_ (2, Mut.mslice (OfStation.row) (Syntax.tyRef (Syntax.named 1) Syntax.mut OfStation.named) 1) (List._∷_ (3, Rows.mref (OfPanelRecord.row) (Syntax.tyRef (Syntax.named 2) Syntax.mut OfPanelRecord.named) 2) (List._∷_ (4, Mut.mslice (Referent.rtF (Referent.fInt Syntax.w8)) (Syntax.tyRef (Syntax.named 3) Syntax.mut (Syntax.tyInt Syntax.w8)) 3) (List._∷_ (5, Mut.mslice (Referent.rtF (Referent.fInt Syntax.w8)) (Syntax.tyRef (Syntax.named 4) Syntax.mut (Syntax.tyInt Syntax.w8)) 4) (List._∷_ (6, Rows.sc-here Row.sBool) (List._∷_ (7, Rows.whole (Declared.row Turn.the-type)) (List._∷_ (8, Rows.any-gone (Syntax.tyStruct (List._∷_ 116 (List._∷_ 101 (List._∷_ 120 (List._∷_ 116 (List._∷_ 95 (List._∷_ 114 (List._∷_ 101 (List._∷_ 97 (List._∷_ 100 (List._∷_ 105 (List._∷_ 110 (List._∷_ 103 (List._∷_ 58 (List._∷_ 58 (List._∷_ 82 (List._∷_ 101 (List._∷_ 97 (List._∷_ 100 (List._∷_ 101 (List._∷_ 114 List.[])))))))))))))))))))) (Syntax.tcons Syntax.tyBool (Syntax.tcons (Syntax.tyInt Syntax.w64) (Syntax.tcons (Syntax.tyEnum (List._∷_ 116 (List._∷_ 101 (List._∷_ 120 (List._∷_ 116 (List._∷_ 95 (List._∷_ 114 (List._∷_ 101 (List._∷_ 97 (List._∷_ 100 (List._∷_ 105 (List._∷_ 110 (List._∷_ 103 (List._∷_ 58 (List._∷_ 58 (List._∷_ 72 (List._∷_ 101 (List._∷_ 108 (List._∷_ 100 List.[])))))))))))))))))) (Syntax.ttcons Syntax.tnil (Syntax.ttcons Syntax.tnil (Syntax.ttcons (Syntax.tcons (Syntax.tyStruct (List._∷_ 116 (List._∷_ 101 (List._∷_ 120 (List._∷_ 116 (List._∷_ 95 (List._∷_ 104 (List._∷_ 101 (List._∷_ 97 (List._∷_ 100 (List._∷_ 105 (List._∷_ 110 (List._∷_ 103 (List._∷_ 58 (List._∷_ 58 (List._∷_ 72 (List._∷_ 101 (List._∷_ 97 (List._∷_ 100 (List._∷_ 105 (List._∷_ 110 (List._∷_ 103 List.[]))))))))))))))))))))) (Syntax.tcons (Syntax.tyStruct (List._∷_ 116 (List._∷_ 101 (List._∷_ 120 (List._∷_ 116 (List._∷_ 95 (List._∷_ 104 (List._∷_ 101 (List._∷_ 97 (List._∷_ 100 (List._∷_ 105 (List._∷_ 110 (List._∷_ 103 (List._∷_ 58 (List._∷_ 58 (List._∷_ 78 (List._∷_ 97 (List._∷_ 109 (List._∷_ 101 (List._∷_ 100 List.[]))))))))))))))))))) (Syntax.tcons (IsParameters.mir) (Syntax.tcons (Syntax.tyInt Syntax.w32) Syntax.tnil))) (Syntax.tcons (Syntax.tyStruct (List._∷_ 116 (List._∷_ 101 (List._∷_ 120 (List._∷_ 116 (List._∷_ 95 (List._∷_ 104 (List._∷_ 101 (List._∷_ 97 (List._∷_ 100 (List._∷_ 105 (List._∷_ 110 (List._∷_ 103 (List._∷_ 58 (List._∷_ 58 (List._∷_ 67 (List._∷_ 97 (List._∷_ 109 (List._∷_ 101 List.[])))))))))))))))))) (Syntax.tcons Syntax.tyBool (Syntax.tcons Syntax.tyBool (Syntax.tcons Syntax.tyBool (Syntax.tcons Syntax.tyBool Syntax.tnil))))) (Syntax.tcons (Syntax.tyEnum (List._∷_ 116 (List._∷_ 101 (List._∷_ 120 (List._∷_ 116 (List._∷_ 95 (List._∷_ 104 (List._∷_ 101 (List._∷_ 97 (List._∷_ 100 (List._∷_ 105 (List._∷_ 110 (List._∷_ 103 (List._∷_ 58 (List._∷_ 58 (List._∷_ 80 (List._∷_ 108 (List._∷_ 97 (List._∷_ 99 (List._∷_ 101 List.[]))))))))))))))))))) (Syntax.ttcons (Syntax.tcons (Syntax.tyEnum (List._∷_ 116 (List._∷_ 101 (List._∷_ 120 (List._∷_ 116 (List._∷_ 95 (List._∷_ 104 (List._∷_ 101 (List._∷_ 97 (List._∷_ 100 (List._∷_ 105 (List._∷_ 110 (List._∷_ 103 (List._∷_ 58 (List._∷_ 58 (List._∷_ 87 (List._∷_ 111 (List._∷_ 114 (List._∷_ 100 List.[])))))))))))))))))) (Syntax.ttcons Syntax.tnil (Syntax.ttcons Syntax.tnil (Syntax.ttcons Syntax.tnil (Syntax.ttcons Syntax.tnil (Syntax.ttcons Syntax.tnil Syntax.ttnil)))))) (Syntax.tcons (Syntax.tyInt Syntax.w8) Syntax.tnil)) (Syntax.ttcons (Syntax.tcons (Syntax.tyEnum (List._∷_ 116 (List._∷_ 101 (List._∷_ 120 (List._∷_ 116 (List._∷_ 95 (List._∷_ 104 (List._∷_ 101 (List._∷_ 97 (List._∷_ 100 (List._∷_ 105 (List._∷_ 110 (List._∷_ 103 (List._∷_ 58 (List._∷_ 58 (List._∷_ 87 (List._∷_ 111 (List._∷_ 114 (List._∷_ 100 List.[])))))))))))))))))) (Syntax.ttcons Syntax.tnil (Syntax.ttcons Syntax.tnil (Syntax.ttcons Syntax.tnil (Syntax.ttcons Syntax.tnil (Syntax.ttcons Syntax.tnil Syntax.ttnil)))))) Syntax.tnil) (Syntax.ttcons (Syntax.tcons (Syntax.tyEnum (List._∷_ 116 (List._∷_ 101 (List._∷_ 120 (List._∷_ 116 (List._∷_ 95 (List._∷_ 104 (List._∷_ 101 (List._∷_ 97 (List._∷_ 100 (List._∷_ 105 (List._∷_ 110 (List._∷_ 103 (List._∷_ 58 (List._∷_ 58 (List._∷_ 87 (List._∷_ 111 (List._∷_ 114 (List._∷_ 100 List.[])))))))))))))))))) (Syntax.ttcons Syntax.tnil (Syntax.ttcons Syntax.tnil (Syntax.ttcons Syntax.tnil (Syntax.ttcons Syntax.tnil (Syntax.ttcons Syntax.tnil Syntax.ttnil)))))) (Syntax.tcons (Syntax.tyInt Syntax.w8) Syntax.tnil)) (Syntax.ttcons Syntax.tnil (Syntax.ttcons (Syntax.tcons (Syntax.tyEnum (List._∷_ 116 (List._∷_ 101 (List._∷_ 120 (List._∷_ 116 (List._∷_ 95 (List._∷_ 104 (List._∷_ 101 (List._∷_ 97 (List._∷_ 100 (List._∷_ 105 (List._∷_ 110 (List._∷_ 103 (List._∷_ 58 (List._∷_ 58 (List._∷_ 72 (List._∷_ 101 (List._∷_ 97 (List._∷_ 100 (List._∷_ 105 (List._∷_ 110 (List._∷_ 103 (List._∷_ 70 (List._∷_ 97 (List._∷_ 117 (List._∷_ 108 (List._∷_ 116 List.[])))))))))))))))))))))))))) (Syntax.ttcons Syntax.tnil (Syntax.ttcons Syntax.tnil (Syntax.ttcons Syntax.tnil (Syntax.ttcons Syntax.tnil (Syntax.ttcons (Syntax.tcons (Syntax.tyEnum (List._∷_ 116 (List._∷_ 101 (List._∷_ 120 (List._∷_ 116 (List._∷_ 95 (List._∷_ 104 (List._∷_ 101 (List._∷_ 97 (List._∷_ 100 (List._∷_ 105 (List._∷_ 110 (List._∷_ 103 (List._∷_ 58 (List._∷_ 58 (List._∷_ 87 (List._∷_ 111 (List._∷_ 114 (List._∷_ 100 List.[])))))))))))))))))) (Syntax.ttcons Syntax.tnil (Syntax.ttcons Syntax.tnil (Syntax.ttcons Syntax.tnil (Syntax.ttcons Syntax.tnil (Syntax.ttcons Syntax.tnil Syntax.ttnil)))))) Syntax.tnil) Syntax.ttnil)))))) Syntax.tnil) Syntax.ttnil)))))) Syntax.tnil)))) Syntax.tnil) (Syntax.ttcons Syntax.tnil (Syntax.ttcons (Syntax.tcons (Syntax.tyInt Syntax.w8) Syntax.tnil) (Syntax.ttcons Syntax.tnil (Syntax.ttcons (Syntax.tcons (Syntax.tyEnum (List._∷_ 116 (List._∷_ 101 (List._∷_ 120 (List._∷_ 116 (List._∷_ 95 (List._∷_ 114 (List._∷_ 101 (List._∷_ 97 (List._∷_ 100 (List._∷_ 105 (List._∷_ 110 (List._∷_ 103 (List._∷_ 58 (List._∷_ 58 (List._∷_ 70 (List._∷_ 97 (List._∷_ 117 (List._∷_ 108 (List._∷_ 116 List.[]))))))))))))))))))) (Syntax.ttcons (Syntax.tcons (Syntax.tyEnum (List._∷_ 116 (List._∷_ 101 (List._∷_ 120 (List._∷_ 116 (List._∷_ 95 (List._∷_ 104 (List._∷_ 101 (List._∷_ 97 (List._∷_ 100 (List._∷_ 105 (List._∷_ 110 (List._∷_ 103 (List._∷_ 58 (List._∷_ 58 (List._∷_ 72 (List._∷_ 101 (List._∷_ 97 (List._∷_ 100 (List._∷_ 105 (List._∷_ 110 (List._∷_ 103 (List._∷_ 70 (List._∷_ 97 (List._∷_ 117 (List._∷_ 108 (List._∷_ 116 List.[])))))))))))))))))))))))))) (Syntax.ttcons Syntax.tnil (Syntax.ttcons Syntax.tnil (Syntax.ttcons Syntax.tnil (Syntax.ttcons Syntax.tnil (Syntax.ttcons (Syntax.tcons (Syntax.tyEnum (List._∷_ 116 (List._∷_ 101 (List._∷_ 120 (List._∷_ 116 (List._∷_ 95 (List._∷_ 104 (List._∷_ 101 (List._∷_ 97 (List._∷_ 100 (List._∷_ 105 (List._∷_ 110 (List._∷_ 103 (List._∷_ 58 (List._∷_ 58 (List._∷_ 87 (List._∷_ 111 (List._∷_ 114 (List._∷_ 100 List.[])))))))))))))))))) (Syntax.ttcons Syntax.tnil (Syntax.ttcons Syntax.tnil (Syntax.ttcons Syntax.tnil (Syntax.ttcons Syntax.tnil (Syntax.ttcons Syntax.tnil Syntax.ttnil)))))) Syntax.tnil) Syntax.ttnil)))))) Syntax.tnil) (Syntax.ttcons Syntax.tnil (Syntax.ttcons Syntax.tnil Syntax.ttnil)))) Syntax.tnil) Syntax.ttnil)))))))) (Syntax.tcons (Syntax.tyArray (Syntax.tyInt Syntax.w8) 32) (Syntax.tcons (Syntax.tyInt Syntax.w64) Syntax.tnil))))))) (List._∷_ (9, Rows.any-gone (Syntax.tyInt Syntax.w64)) (List._∷_ (10, Rows.any-gone (Syntax.tyRef Syntax.erased Syntax.mut OfOutput.named)) (List._∷_ (11, Rows.any-gone (Syntax.tyStruct (List._∷_ 38 (List._∷_ 91 (List._∷_ 93 List.[]))) (Syntax.tcons (Syntax.tyRef Syntax.erased Syntax.mut OfOutput.named) (Syntax.tcons (Syntax.tyInt Syntax.w64) Syntax.tnil)))) (List._∷_ (12, Rows.any-gone (Syntax.tyRef Syntax.erased Syntax.mut OfStation.named)) (List._∷_ (13, Rows.any-gone (Syntax.tyStruct (List._∷_ 38 (List._∷_ 91 (List._∷_ 93 List.[]))) (Syntax.tcons (Syntax.tyRef Syntax.erased Syntax.mut OfStation.named) (Syntax.tcons (Syntax.tyInt Syntax.w64) Syntax.tnil)))) (List._∷_ (14, Rows.any-gone (Syntax.tyRef Syntax.erased Syntax.mut OfPanelRecord.named)) (List._∷_ (15, Rows.any-gone (Syntax.tyRef Syntax.erased Syntax.mut (Syntax.tyInt Syntax.w8))) List.[])))))))))))))))
 
 abbrev pub t23 : List.List Row.Entry
 t23 = List._∷_ (16, Rows.any-gone (Syntax.tyStruct (List._∷_ 38 (List._∷_ 91 (List._∷_ 93 List.[]))) (Syntax.tcons (Syntax.tyRef Syntax.erased Syntax.mut (Syntax.tyInt Syntax.w8)) (Syntax.tcons (Syntax.tyInt Syntax.w64) Syntax.tnil)))) (List._∷_ (17, Rows.any-gone (Syntax.tyRef Syntax.erased Syntax.mut (Syntax.tyInt Syntax.w8))) (List._∷_ (18, Rows.any-gone (Syntax.tyStruct (List._∷_ 38 (List._∷_ 91 (List._∷_ 93 List.[]))) (Syntax.tcons (Syntax.tyRef Syntax.erased Syntax.mut (Syntax.tyInt Syntax.w8)) (Syntax.tcons (Syntax.tyInt Syntax.w64) Syntax.tnil)))) (List._∷_ (19, Rows.sc-here Row.sBool) (List._∷_ (20, Rows.any-gone (Syntax.tyRef Syntax.erased Syntax.mut OfOutput.named)) (List._∷_ (21, Rows.any-gone (Syntax.tyStruct (List._∷_ 38 (List._∷_ 91 (List._∷_ 93 List.[]))) (Syntax.tcons (Syntax.tyRef Syntax.erased Syntax.mut OfOutput.named) (Syntax.tcons (Syntax.tyInt Syntax.w64) Syntax.tnil)))) (List._∷_ (22, Rows.any-gone (Syntax.tyRef Syntax.erased Syntax.mut OfStation.named)) (List._∷_ (23, Rows.any-gone (Syntax.tyStruct (List._∷_ 38 (List._∷_ 91 (List._∷_ 93 List.[]))) (Syntax.tcons (Syntax.tyRef Syntax.erased Syntax.mut OfStation.named) (Syntax.tcons (Syntax.tyInt Syntax.w64) Syntax.tnil)))) (List._∷_ (24, Rows.any-gone (Syntax.tyRef Syntax.erased Syntax.mut OfPanelRecord.named)) (List._∷_ (25, Rows.any-gone (Syntax.tyRef Syntax.erased Syntax.mut (Syntax.tyInt Syntax.w8))) (List._∷_ (26, Rows.any-gone (Syntax.tyStruct (List._∷_ 38 (List._∷_ 91 (List._∷_ 93 List.[]))) (Syntax.tcons (Syntax.tyRef Syntax.erased Syntax.mut (Syntax.tyInt Syntax.w8)) (Syntax.tcons (Syntax.tyInt Syntax.w64) Syntax.tnil)))) (List._∷_ (27, Rows.any-gone Syntax.tyUnit) (List._∷_ (28, Rows.any-gone (Syntax.tyRef Syntax.erased Syntax.imm (Syntax.tyInt Syntax.w8))) (List._∷_ (29, Rows.any-gone (Syntax.tyStruct (List._∷_ 38 (List._∷_ 91 (List._∷_ 93 List.[]))) (Syntax.tcons (Syntax.tyRef Syntax.erased Syntax.imm (Syntax.tyInt Syntax.w8)) (Syntax.tcons (Syntax.tyInt Syntax.w64) Syntax.tnil)))) (List._∷_ (30, Rows.any-gone Syntax.tyUnit) (List._∷_ (31, Rows.any-gone (Syntax.tyRef Syntax.erased Syntax.imm (Syntax.tyInt Syntax.w8))) List.[])))))))))))))))
@@ -386,31 +386,31 @@ abbrev pub t38 : List.List Row.Entry
 t38 = List._∷_ (0, Rows.any-gone Syntax.tyUnit) (List._∷_ (1, Relend.mslice-owed (OfOutput.row) (Syntax.tyRef (Syntax.named 0) Syntax.mut OfOutput.named) 0 10 Row.off) (List._∷_ (2, Relend.mslice-owed (OfStation.row) (Syntax.tyRef (Syntax.named 1) Syntax.mut OfStation.named) 1 11 Row.off) (List._∷_ (3, Rows.mref-owed (OfPanelRecord.row) (Syntax.tyRef (Syntax.named 2) Syntax.mut OfPanelRecord.named) 2 12 Row.off) (List._∷_ (4, Relend.mslice-owed (Referent.rtF (Referent.fInt Syntax.w8)) (Syntax.tyRef (Syntax.named 3) Syntax.mut (Syntax.tyInt Syntax.w8)) 3 13 Row.off) (List._∷_ (5, Mut.mslice (Referent.rtF (Referent.fInt Syntax.w8)) (Syntax.tyRef (Syntax.named 4) Syntax.mut (Syntax.tyInt Syntax.w8)) 4) (List._∷_ (6, Rows.sc-here Row.sBool) (List._∷_ (7, Rows.any-gone (Laws.mir)) (List._∷_ (8, Rows.whole (Declared.row Reader.the-type)) (List._∷_ (9, Rows.sc-here (Row.sInt Syntax.w64)) (List._∷_ (10, Rows.any-gone (Syntax.tyRef Syntax.erased Syntax.mut OfOutput.named)) (List._∷_ (11, Rows.any-gone (Syntax.tyStruct (List._∷_ 38 (List._∷_ 91 (List._∷_ 93 List.[]))) (Syntax.tcons (Syntax.tyRef Syntax.erased Syntax.mut OfOutput.named) (Syntax.tcons (Syntax.tyInt Syntax.w64) Syntax.tnil)))) (List._∷_ (12, Rows.any-gone (Syntax.tyRef Syntax.erased Syntax.mut OfStation.named)) (List._∷_ (13, Rows.any-gone (Syntax.tyStruct (List._∷_ 38 (List._∷_ 91 (List._∷_ 93 List.[]))) (Syntax.tcons (Syntax.tyRef Syntax.erased Syntax.mut OfStation.named) (Syntax.tcons (Syntax.tyInt Syntax.w64) Syntax.tnil)))) (List._∷_ (14, Rows.any-gone (Syntax.tyRef Syntax.erased Syntax.mut OfPanelRecord.named)) (List._∷_ (15, Rows.any-gone (Syntax.tyRef Syntax.erased Syntax.mut (Syntax.tyInt Syntax.w8))) List.[])))))))))))))))
 
 abbrev pub t39 : List.List Row.Entry
-t39 = List._∷_ (0, Rows.any-gone Syntax.tyUnit) (List._∷_ (1, Relend.mslice-owed (OfOutput.row) (Syntax.tyRef (Syntax.named 0) Syntax.mut OfOutput.named) 0 10 Row.off) (List._∷_ (2, Relend.mslice-owed (OfStation.row) (Syntax.tyRef (Syntax.named 1) Syntax.mut OfStation.named) 1 11 Row.off) (List._∷_ (3, Rows.mref-owed (OfPanelRecord.row) (Syntax.tyRef (Syntax.named 2) Syntax.mut OfPanelRecord.named) 2 12 Row.off) (List._∷_ (4, Relend.mslice-owed (Referent.rtF (Referent.fInt Syntax.w8)) (Syntax.tyRef (Syntax.named 3) Syntax.mut (Syntax.tyInt Syntax.w8)) 3 13 Row.off) (List._∷_ (5, Mut.mslice (Referent.rtF (Referent.fInt Syntax.w8)) (Syntax.tyRef (Syntax.named 4) Syntax.mut (Syntax.tyInt Syntax.w8)) 4) (List._∷_ (6, Rows.sc-here Row.sBool) (List._∷_ (7, Rows.any-gone (Laws.mir)) (List._∷_ (8, Rows.any-gone (Syntax.tyStruct (List._∷_ 116 (List._∷_ 101 (List._∷_ 120 (List._∷_ 116 (List._∷_ 95 (List._∷_ 114 (List._∷_ 101 (List._∷_ 97 (List._∷_ 100 (List._∷_ 105 (List._∷_ 110 (List._∷_ 103 (List._∷_ 58 (List._∷_ 58 (List._∷_ 82 (List._∷_ 101 (List._∷_ 97 (List._∷_ 100 (List._∷_ 101 (List._∷_ 114 List.[])))))))))))))))))))) (Syntax.tcons Syntax.tyBool (Syntax.tcons (Syntax.tyInt Syntax.w64) (Syntax.tcons (Syntax.tyEnum (List._∷_ 116 (List._∷_ 101 (List._∷_ 120 (List._∷_ 116 (List._∷_ 95 (List._∷_ 114 (List._∷_ 101 (List._∷_ 97 (List._∷_ 100 (List._∷_ 105 (List._∷_ 110 (List._∷_ 103 (List._∷_ 58 (List._∷_ 58 (List._∷_ 72 (List._∷_ 101 (List._∷_ 108 (List._∷_ 100 List.[])))))))))))))))))) (Syntax.ttcons Syntax.tnil (Syntax.ttcons Syntax.tnil (Syntax.ttcons (Syntax.tcons (Syntax.tyStruct (List._∷_ 116 (List._∷_ 101 (List._∷_ 120 (List._∷_ 116 (List._∷_ 95 (List._∷_ 104 (List._∷_ 101 (List._∷_ 97 (List._∷_ 100 (List._∷_ 105 (List._∷_ 110 (List._∷_ 103 (List._∷_ 58 (List._∷_ 58 (List._∷_ 72 (List._∷_ 101 (List._∷_ 97 (List._∷_ 100 (List._∷_ 105 (List._∷_ 110 (List._∷_ 103 List.[]))))))))))))))))))))) (Syntax.tcons (IsParameters.mir) (Syntax.tcons (Syntax.tyStruct (List._∷_ 116 (List._∷_ 101 (List._∷_ 120 (List._∷_ 116 (List._∷_ 95 (List._∷_ 104 (List._∷_ 101 (List._∷_ 97 (List._∷_ 100 (List._∷_ 105 (List._∷_ 110 (List._∷_ 103 (List._∷_ 58 (List._∷_ 58 (List._∷_ 67 (List._∷_ 97 (List._∷_ 109 (List._∷_ 101 List.[])))))))))))))))))) (Syntax.tcons Syntax.tyBool (Syntax.tcons Syntax.tyBool (Syntax.tcons Syntax.tyBool Syntax.tnil)))) (Syntax.tcons (Syntax.tyEnum (List._∷_ 116 (List._∷_ 101 (List._∷_ 120 (List._∷_ 116 (List._∷_ 95 (List._∷_ 104 (List._∷_ 101 (List._∷_ 97 (List._∷_ 100 (List._∷_ 105 (List._∷_ 110 (List._∷_ 103 (List._∷_ 58 (List._∷_ 58 (List._∷_ 80 (List._∷_ 108 (List._∷_ 97 (List._∷_ 99 (List._∷_ 101 List.[]))))))))))))))))))) (Syntax.ttcons (Syntax.tcons (Syntax.tyEnum (List._∷_ 116 (List._∷_ 101 (List._∷_ 120 (List._∷_ 116 (List._∷_ 95 (List._∷_ 104 (List._∷_ 101 (List._∷_ 97 (List._∷_ 100 (List._∷_ 105 (List._∷_ 110 (List._∷_ 103 (List._∷_ 58 (List._∷_ 58 (List._∷_ 87 (List._∷_ 111 (List._∷_ 114 (List._∷_ 100 List.[])))))))))))))))))) (Syntax.ttcons Syntax.tnil (Syntax.ttcons Syntax.tnil (Syntax.ttcons Syntax.tnil (Syntax.ttcons Syntax.tnil Syntax.ttnil))))) (Syntax.tcons (Syntax.tyInt Syntax.w8) Syntax.tnil)) (Syntax.ttcons (Syntax.tcons (Syntax.tyEnum (List._∷_ 116 (List._∷_ 101 (List._∷_ 120 (List._∷_ 116 (List._∷_ 95 (List._∷_ 104 (List._∷_ 101 (List._∷_ 97 (List._∷_ 100 (List._∷_ 105 (List._∷_ 110 (List._∷_ 103 (List._∷_ 58 (List._∷_ 58 (List._∷_ 87 (List._∷_ 111 (List._∷_ 114 (List._∷_ 100 List.[])))))))))))))))))) (Syntax.ttcons Syntax.tnil (Syntax.ttcons Syntax.tnil (Syntax.ttcons Syntax.tnil (Syntax.ttcons Syntax.tnil Syntax.ttnil))))) Syntax.tnil) (Syntax.ttcons (Syntax.tcons (Syntax.tyEnum (List._∷_ 116 (List._∷_ 101 (List._∷_ 120 (List._∷_ 116 (List._∷_ 95 (List._∷_ 104 (List._∷_ 101 (List._∷_ 97 (List._∷_ 100 (List._∷_ 105 (List._∷_ 110 (List._∷_ 103 (List._∷_ 58 (List._∷_ 58 (List._∷_ 87 (List._∷_ 111 (List._∷_ 114 (List._∷_ 100 List.[])))))))))))))))))) (Syntax.ttcons Syntax.tnil (Syntax.ttcons Syntax.tnil (Syntax.ttcons Syntax.tnil (Syntax.ttcons Syntax.tnil Syntax.ttnil))))) Syntax.tnil) (Syntax.ttcons Syntax.tnil (Syntax.ttcons (Syntax.tcons (Syntax.tyEnum (List._∷_ 116 (List._∷_ 101 (List._∷_ 120 (List._∷_ 116 (List._∷_ 95 (List._∷_ 104 (List._∷_ 101 (List._∷_ 97 (List._∷_ 100 (List._∷_ 105 (List._∷_ 110 (List._∷_ 103 (List._∷_ 58 (List._∷_ 58 (List._∷_ 72 (List._∷_ 101 (List._∷_ 97 (List._∷_ 100 (List._∷_ 105 (List._∷_ 110 (List._∷_ 103 (List._∷_ 70 (List._∷_ 97 (List._∷_ 117 (List._∷_ 108 (List._∷_ 116 List.[])))))))))))))))))))))))))) (Syntax.ttcons Syntax.tnil (Syntax.ttcons Syntax.tnil (Syntax.ttcons Syntax.tnil (Syntax.ttcons (Syntax.tcons (Syntax.tyEnum (List._∷_ 116 (List._∷_ 101 (List._∷_ 120 (List._∷_ 116 (List._∷_ 95 (List._∷_ 104 (List._∷_ 101 (List._∷_ 97 (List._∷_ 100 (List._∷_ 105 (List._∷_ 110 (List._∷_ 103 (List._∷_ 58 (List._∷_ 58 (List._∷_ 87 (List._∷_ 111 (List._∷_ 114 (List._∷_ 100 List.[])))))))))))))))))) (Syntax.ttcons Syntax.tnil (Syntax.ttcons Syntax.tnil (Syntax.ttcons Syntax.tnil (Syntax.ttcons Syntax.tnil Syntax.ttnil))))) Syntax.tnil) Syntax.ttnil))))) Syntax.tnil) Syntax.ttnil)))))) Syntax.tnil)))) Syntax.tnil) (Syntax.ttcons Syntax.tnil (Syntax.ttcons (Syntax.tcons (Syntax.tyInt Syntax.w8) Syntax.tnil) (Syntax.ttcons Syntax.tnil (Syntax.ttcons (Syntax.tcons (Syntax.tyEnum (List._∷_ 116 (List._∷_ 101 (List._∷_ 120 (List._∷_ 116 (List._∷_ 95 (List._∷_ 114 (List._∷_ 101 (List._∷_ 97 (List._∷_ 100 (List._∷_ 105 (List._∷_ 110 (List._∷_ 103 (List._∷_ 58 (List._∷_ 58 (List._∷_ 70 (List._∷_ 97 (List._∷_ 117 (List._∷_ 108 (List._∷_ 116 List.[]))))))))))))))))))) (Syntax.ttcons (Syntax.tcons (Syntax.tyEnum (List._∷_ 116 (List._∷_ 101 (List._∷_ 120 (List._∷_ 116 (List._∷_ 95 (List._∷_ 104 (List._∷_ 101 (List._∷_ 97 (List._∷_ 100 (List._∷_ 105 (List._∷_ 110 (List._∷_ 103 (List._∷_ 58 (List._∷_ 58 (List._∷_ 72 (List._∷_ 101 (List._∷_ 97 (List._∷_ 100 (List._∷_ 105 (List._∷_ 110 (List._∷_ 103 (List._∷_ 70 (List._∷_ 97 (List._∷_ 117 (List._∷_ 108 (List._∷_ 116 List.[])))))))))))))))))))))))))) (Syntax.ttcons Syntax.tnil (Syntax.ttcons Syntax.tnil (Syntax.ttcons Syntax.tnil (Syntax.ttcons (Syntax.tcons (Syntax.tyEnum (List._∷_ 116 (List._∷_ 101 (List._∷_ 120 (List._∷_ 116 (List._∷_ 95 (List._∷_ 104 (List._∷_ 101 (List._∷_ 97 (List._∷_ 100 (List._∷_ 105 (List._∷_ 110 (List._∷_ 103 (List._∷_ 58 (List._∷_ 58 (List._∷_ 87 (List._∷_ 111 (List._∷_ 114 (List._∷_ 100 List.[])))))))))))))))))) (Syntax.ttcons Syntax.tnil (Syntax.ttcons Syntax.tnil (Syntax.ttcons Syntax.tnil (Syntax.ttcons Syntax.tnil Syntax.ttnil))))) Syntax.tnil) Syntax.ttnil))))) Syntax.tnil) (Syntax.ttcons Syntax.tnil (Syntax.ttcons Syntax.tnil Syntax.ttnil)))) Syntax.tnil) Syntax.ttnil)))))))) (Syntax.tcons (Syntax.tyArray (Syntax.tyInt Syntax.w8) 32) (Syntax.tcons (Syntax.tyInt Syntax.w64) Syntax.tnil))))))) (List._∷_ (9, Rows.sc-here (Row.sInt Syntax.w64)) (List._∷_ (10, Rows.any-gone (Syntax.tyRef Syntax.erased Syntax.mut OfOutput.named)) (List._∷_ (11, Rows.any-gone (Syntax.tyStruct (List._∷_ 38 (List._∷_ 91 (List._∷_ 93 List.[]))) (Syntax.tcons (Syntax.tyRef Syntax.erased Syntax.mut OfOutput.named) (Syntax.tcons (Syntax.tyInt Syntax.w64) Syntax.tnil)))) (List._∷_ (12, Rows.any-gone (Syntax.tyRef Syntax.erased Syntax.mut OfStation.named)) (List._∷_ (13, Rows.any-gone (Syntax.tyStruct (List._∷_ 38 (List._∷_ 91 (List._∷_ 93 List.[]))) (Syntax.tcons (Syntax.tyRef Syntax.erased Syntax.mut OfStation.named) (Syntax.tcons (Syntax.tyInt Syntax.w64) Syntax.tnil)))) (List._∷_ (14, Rows.any-gone (Syntax.tyRef Syntax.erased Syntax.mut OfPanelRecord.named)) (List._∷_ (15, Rows.any-gone (Syntax.tyRef Syntax.erased Syntax.mut (Syntax.tyInt Syntax.w8))) List.[])))))))))))))))
+t39 = List._∷_ (0, Rows.any-gone Syntax.tyUnit) (List._∷_ (1, Relend.mslice-owed (OfOutput.row) (Syntax.tyRef (Syntax.named 0) Syntax.mut OfOutput.named) 0 10 Row.off) (List._∷_ (2, Relend.mslice-owed (OfStation.row) (Syntax.tyRef (Syntax.named 1) Syntax.mut OfStation.named) 1 11 Row.off) (List._∷_ (3, Rows.mref-owed (OfPanelRecord.row) (Syntax.tyRef (Syntax.named 2) Syntax.mut OfPanelRecord.named) 2 12 Row.off) (List._∷_ (4, Relend.mslice-owed (Referent.rtF (Referent.fInt Syntax.w8)) (Syntax.tyRef (Syntax.named 3) Syntax.mut (Syntax.tyInt Syntax.w8)) 3 13 Row.off) (List._∷_ (5, Mut.mslice (Referent.rtF (Referent.fInt Syntax.w8)) (Syntax.tyRef (Syntax.named 4) Syntax.mut (Syntax.tyInt Syntax.w8)) 4) (List._∷_ (6, Rows.sc-here Row.sBool) (List._∷_ (7, Rows.any-gone (Laws.mir)) (List._∷_ (8, Rows.any-gone (Syntax.tyStruct (List._∷_ 116 (List._∷_ 101 (List._∷_ 120 (List._∷_ 116 (List._∷_ 95 (List._∷_ 114 (List._∷_ 101 (List._∷_ 97 (List._∷_ 100 (List._∷_ 105 (List._∷_ 110 (List._∷_ 103 (List._∷_ 58 (List._∷_ 58 (List._∷_ 82 (List._∷_ 101 (List._∷_ 97 (List._∷_ 100 (List._∷_ 101 (List._∷_ 114 List.[])))))))))))))))))))) (Syntax.tcons Syntax.tyBool (Syntax.tcons (Syntax.tyInt Syntax.w64) (Syntax.tcons (Syntax.tyEnum (List._∷_ 116 (List._∷_ 101 (List._∷_ 120 (List._∷_ 116 (List._∷_ 95 (List._∷_ 114 (List._∷_ 101 (List._∷_ 97 (List._∷_ 100 (List._∷_ 105 (List._∷_ 110 (List._∷_ 103 (List._∷_ 58 (List._∷_ 58 (List._∷_ 72 (List._∷_ 101 (List._∷_ 108 (List._∷_ 100 List.[])))))))))))))))))) (Syntax.ttcons Syntax.tnil (Syntax.ttcons Syntax.tnil (Syntax.ttcons (Syntax.tcons (Syntax.tyStruct (List._∷_ 116 (List._∷_ 101 (List._∷_ 120 (List._∷_ 116 (List._∷_ 95 (List._∷_ 104 (List._∷_ 101 (List._∷_ 97 (List._∷_ 100 (List._∷_ 105 (List._∷_ 110 (List._∷_ 103 (List._∷_ 58 (List._∷_ 58 (List._∷_ 72 (List._∷_ 101 (List._∷_ 97 (List._∷_ 100 (List._∷_ 105 (List._∷_ 110 (List._∷_ 103 List.[]))))))))))))))))))))) (Syntax.tcons (Syntax.tyStruct (List._∷_ 116 (List._∷_ 101 (List._∷_ 120 (List._∷_ 116 (List._∷_ 95 (List._∷_ 104 (List._∷_ 101 (List._∷_ 97 (List._∷_ 100 (List._∷_ 105 (List._∷_ 110 (List._∷_ 103 (List._∷_ 58 (List._∷_ 58 (List._∷_ 78 (List._∷_ 97 (List._∷_ 109 (List._∷_ 101 (List._∷_ 100 List.[]))))))))))))))))))) (Syntax.tcons (IsParameters.mir) (Syntax.tcons (Syntax.tyInt Syntax.w32) Syntax.tnil))) (Syntax.tcons (Syntax.tyStruct (List._∷_ 116 (List._∷_ 101 (List._∷_ 120 (List._∷_ 116 (List._∷_ 95 (List._∷_ 104 (List._∷_ 101 (List._∷_ 97 (List._∷_ 100 (List._∷_ 105 (List._∷_ 110 (List._∷_ 103 (List._∷_ 58 (List._∷_ 58 (List._∷_ 67 (List._∷_ 97 (List._∷_ 109 (List._∷_ 101 List.[])))))))))))))))))) (Syntax.tcons Syntax.tyBool (Syntax.tcons Syntax.tyBool (Syntax.tcons Syntax.tyBool (Syntax.tcons Syntax.tyBool Syntax.tnil))))) (Syntax.tcons (Syntax.tyEnum (List._∷_ 116 (List._∷_ 101 (List._∷_ 120 (List._∷_ 116 (List._∷_ 95 (List._∷_ 104 (List._∷_ 101 (List._∷_ 97 (List._∷_ 100 (List._∷_ 105 (List._∷_ 110 (List._∷_ 103 (List._∷_ 58 (List._∷_ 58 (List._∷_ 80 (List._∷_ 108 (List._∷_ 97 (List._∷_ 99 (List._∷_ 101 List.[]))))))))))))))))))) (Syntax.ttcons (Syntax.tcons (Syntax.tyEnum (List._∷_ 116 (List._∷_ 101 (List._∷_ 120 (List._∷_ 116 (List._∷_ 95 (List._∷_ 104 (List._∷_ 101 (List._∷_ 97 (List._∷_ 100 (List._∷_ 105 (List._∷_ 110 (List._∷_ 103 (List._∷_ 58 (List._∷_ 58 (List._∷_ 87 (List._∷_ 111 (List._∷_ 114 (List._∷_ 100 List.[])))))))))))))))))) (Syntax.ttcons Syntax.tnil (Syntax.ttcons Syntax.tnil (Syntax.ttcons Syntax.tnil (Syntax.ttcons Syntax.tnil (Syntax.ttcons Syntax.tnil Syntax.ttnil)))))) (Syntax.tcons (Syntax.tyInt Syntax.w8) Syntax.tnil)) (Syntax.ttcons (Syntax.tcons (Syntax.tyEnum (List._∷_ 116 (List._∷_ 101 (List._∷_ 120 (List._∷_ 116 (List._∷_ 95 (List._∷_ 104 (List._∷_ 101 (List._∷_ 97 (List._∷_ 100 (List._∷_ 105 (List._∷_ 110 (List._∷_ 103 (List._∷_ 58 (List._∷_ 58 (List._∷_ 87 (List._∷_ 111 (List._∷_ 114 (List._∷_ 100 List.[])))))))))))))))))) (Syntax.ttcons Syntax.tnil (Syntax.ttcons Syntax.tnil (Syntax.ttcons Syntax.tnil (Syntax.ttcons Syntax.tnil (Syntax.ttcons Syntax.tnil Syntax.ttnil)))))) Syntax.tnil) (Syntax.ttcons (Syntax.tcons (Syntax.tyEnum (List._∷_ 116 (List._∷_ 101 (List._∷_ 120 (List._∷_ 116 (List._∷_ 95 (List._∷_ 104 (List._∷_ 101 (List._∷_ 97 (List._∷_ 100 (List._∷_ 105 (List._∷_ 110 (List._∷_ 103 (List._∷_ 58 (List._∷_ 58 (List._∷_ 87 (List._∷_ 111 (List._∷_ 114 (List._∷_ 100 List.[])))))))))))))))))) (Syntax.ttcons Syntax.tnil (Syntax.ttcons Syntax.tnil (Syntax.ttcons Syntax.tnil (Syntax.ttcons Syntax.tnil (Syntax.ttcons Syntax.tnil Syntax.ttnil)))))) (Syntax.tcons (Syntax.tyInt Syntax.w8) Syntax.tnil)) (Syntax.ttcons Syntax.tnil (Syntax.ttcons (Syntax.tcons (Syntax.tyEnum (List._∷_ 116 (List._∷_ 101 (List._∷_ 120 (List._∷_ 116 (List._∷_ 95 (List._∷_ 104 (List._∷_ 101 (List._∷_ 97 (List._∷_ 100 (List._∷_ 105 (List._∷_ 110 (List._∷_ 103 (List._∷_ 58 (List._∷_ 58 (List._∷_ 72 (List._∷_ 101 (List._∷_ 97 (List._∷_ 100 (List._∷_ 105 (List._∷_ 110 (List._∷_ 103 (List._∷_ 70 (List._∷_ 97 (List._∷_ 117 (List._∷_ 108 (List._∷_ 116 List.[])))))))))))))))))))))))))) (Syntax.ttcons Syntax.tnil (Syntax.ttcons Syntax.tnil (Syntax.ttcons Syntax.tnil (Syntax.ttcons Syntax.tnil (Syntax.ttcons (Syntax.tcons (Syntax.tyEnum (List._∷_ 116 (List._∷_ 101 (List._∷_ 120 (List._∷_ 116 (List._∷_ 95 (List._∷_ 104 (List._∷_ 101 (List._∷_ 97 (List._∷_ 100 (List._∷_ 105 (List._∷_ 110 (List._∷_ 103 (List._∷_ 58 (List._∷_ 58 (List._∷_ 87 (List._∷_ 111 (List._∷_ 114 (List._∷_ 100 List.[])))))))))))))))))) (Syntax.ttcons Syntax.tnil (Syntax.ttcons Syntax.tnil (Syntax.ttcons Syntax.tnil (Syntax.ttcons Syntax.tnil (Syntax.ttcons Syntax.tnil Syntax.ttnil)))))) Syntax.tnil) Syntax.ttnil)))))) Syntax.tnil) Syntax.ttnil)))))) Syntax.tnil)))) Syntax.tnil) (Syntax.ttcons Syntax.tnil (Syntax.ttcons (Syntax.tcons (Syntax.tyInt Syntax.w8) Syntax.tnil) (Syntax.ttcons Syntax.tnil (Syntax.ttcons (Syntax.tcons (Syntax.tyEnum (List._∷_ 116 (List._∷_ 101 (List._∷_ 120 (List._∷_ 116 (List._∷_ 95 (List._∷_ 114 (List._∷_ 101 (List._∷_ 97 (List._∷_ 100 (List._∷_ 105 (List._∷_ 110 (List._∷_ 103 (List._∷_ 58 (List._∷_ 58 (List._∷_ 70 (List._∷_ 97 (List._∷_ 117 (List._∷_ 108 (List._∷_ 116 List.[]))))))))))))))))))) (Syntax.ttcons (Syntax.tcons (Syntax.tyEnum (List._∷_ 116 (List._∷_ 101 (List._∷_ 120 (List._∷_ 116 (List._∷_ 95 (List._∷_ 104 (List._∷_ 101 (List._∷_ 97 (List._∷_ 100 (List._∷_ 105 (List._∷_ 110 (List._∷_ 103 (List._∷_ 58 (List._∷_ 58 (List._∷_ 72 (List._∷_ 101 (List._∷_ 97 (List._∷_ 100 (List._∷_ 105 (List._∷_ 110 (List._∷_ 103 (List._∷_ 70 (List._∷_ 97 (List._∷_ 117 (List._∷_ 108 (List._∷_ 116 List.[])))))))))))))))))))))))))) (Syntax.ttcons Syntax.tnil (Syntax.ttcons Syntax.tnil (Syntax.ttcons Syntax.tnil (Syntax.ttcons Syntax.tnil (Syntax.ttcons (Syntax.tcons (Syntax.tyEnum (List._∷_ 116 (List._∷_ 101 (List._∷_ 120 (List._∷_ 116 (List._∷_ 95 (List._∷_ 104 (List._∷_ 101 (List._∷_ 97 (List._∷_ 100 (List._∷_ 105 (List._∷_ 110 (List._∷_ 103 (List._∷_ 58 (List._∷_ 58 (List._∷_ 87 (List._∷_ 111 (List._∷_ 114 (List._∷_ 100 List.[])))))))))))))))))) (Syntax.ttcons Syntax.tnil (Syntax.ttcons Syntax.tnil (Syntax.ttcons Syntax.tnil (Syntax.ttcons Syntax.tnil (Syntax.ttcons Syntax.tnil Syntax.ttnil)))))) Syntax.tnil) Syntax.ttnil)))))) Syntax.tnil) (Syntax.ttcons Syntax.tnil (Syntax.ttcons Syntax.tnil Syntax.ttnil)))) Syntax.tnil) Syntax.ttnil)))))))) (Syntax.tcons (Syntax.tyArray (Syntax.tyInt Syntax.w8) 32) (Syntax.tcons (Syntax.tyInt Syntax.w64) Syntax.tnil))))))) (List._∷_ (9, Rows.sc-here (Row.sInt Syntax.w64)) (List._∷_ (10, Rows.any-gone (Syntax.tyRef Syntax.erased Syntax.mut OfOutput.named)) (List._∷_ (11, Rows.any-gone (Syntax.tyStruct (List._∷_ 38 (List._∷_ 91 (List._∷_ 93 List.[]))) (Syntax.tcons (Syntax.tyRef Syntax.erased Syntax.mut OfOutput.named) (Syntax.tcons (Syntax.tyInt Syntax.w64) Syntax.tnil)))) (List._∷_ (12, Rows.any-gone (Syntax.tyRef Syntax.erased Syntax.mut OfStation.named)) (List._∷_ (13, Rows.any-gone (Syntax.tyStruct (List._∷_ 38 (List._∷_ 91 (List._∷_ 93 List.[]))) (Syntax.tcons (Syntax.tyRef Syntax.erased Syntax.mut OfStation.named) (Syntax.tcons (Syntax.tyInt Syntax.w64) Syntax.tnil)))) (List._∷_ (14, Rows.any-gone (Syntax.tyRef Syntax.erased Syntax.mut OfPanelRecord.named)) (List._∷_ (15, Rows.any-gone (Syntax.tyRef Syntax.erased Syntax.mut (Syntax.tyInt Syntax.w8))) List.[])))))))))))))))
 
 abbrev pub t40 : List.List Row.Entry
-t40 = List._∷_ (0, Rows.any-gone Syntax.tyUnit) (List._∷_ (1, Mut.mslice (OfOutput.row) (Syntax.tyRef (Syntax.named 0) Syntax.mut OfOutput.named) 0) (List._∷_ (2, Relend.mslice-owed (OfStation.row) (Syntax.tyRef (Syntax.named 1) Syntax.mut OfStation.named) 1 11 Row.off) (List._∷_ (3, Rows.mref-owed (OfPanelRecord.row) (Syntax.tyRef (Syntax.named 2) Syntax.mut OfPanelRecord.named) 2 12 Row.off) (List._∷_ (4, Relend.mslice-owed (Referent.rtF (Referent.fInt Syntax.w8)) (Syntax.tyRef (Syntax.named 3) Syntax.mut (Syntax.tyInt Syntax.w8)) 3 13 Row.off) (List._∷_ (5, Mut.mslice (Referent.rtF (Referent.fInt Syntax.w8)) (Syntax.tyRef (Syntax.named 4) Syntax.mut (Syntax.tyInt Syntax.w8)) 4) (List._∷_ (6, Rows.sc-here Row.sBool) (List._∷_ (7, Rows.any-gone (Laws.mir)) (List._∷_ (8, Rows.any-gone (Syntax.tyStruct (List._∷_ 116 (List._∷_ 101 (List._∷_ 120 (List._∷_ 116 (List._∷_ 95 (List._∷_ 114 (List._∷_ 101 (List._∷_ 97 (List._∷_ 100 (List._∷_ 105 (List._∷_ 110 (List._∷_ 103 (List._∷_ 58 (List._∷_ 58 (List._∷_ 82 (List._∷_ 101 (List._∷_ 97 (List._∷_ 100 (List._∷_ 101 (List._∷_ 114 List.[])))))))))))))))))))) (Syntax.tcons Syntax.tyBool (Syntax.tcons (Syntax.tyInt Syntax.w64) (Syntax.tcons (Syntax.tyEnum (List._∷_ 116 (List._∷_ 101 (List._∷_ 120 (List._∷_ 116 (List._∷_ 95 (List._∷_ 114 (List._∷_ 101 (List._∷_ 97 (List._∷_ 100 (List._∷_ 105 (List._∷_ 110 (List._∷_ 103 (List._∷_ 58 (List._∷_ 58 (List._∷_ 72 (List._∷_ 101 (List._∷_ 108 (List._∷_ 100 List.[])))))))))))))))))) (Syntax.ttcons Syntax.tnil (Syntax.ttcons Syntax.tnil (Syntax.ttcons (Syntax.tcons (Syntax.tyStruct (List._∷_ 116 (List._∷_ 101 (List._∷_ 120 (List._∷_ 116 (List._∷_ 95 (List._∷_ 104 (List._∷_ 101 (List._∷_ 97 (List._∷_ 100 (List._∷_ 105 (List._∷_ 110 (List._∷_ 103 (List._∷_ 58 (List._∷_ 58 (List._∷_ 72 (List._∷_ 101 (List._∷_ 97 (List._∷_ 100 (List._∷_ 105 (List._∷_ 110 (List._∷_ 103 List.[]))))))))))))))))))))) (Syntax.tcons (IsParameters.mir) (Syntax.tcons (Syntax.tyStruct (List._∷_ 116 (List._∷_ 101 (List._∷_ 120 (List._∷_ 116 (List._∷_ 95 (List._∷_ 104 (List._∷_ 101 (List._∷_ 97 (List._∷_ 100 (List._∷_ 105 (List._∷_ 110 (List._∷_ 103 (List._∷_ 58 (List._∷_ 58 (List._∷_ 67 (List._∷_ 97 (List._∷_ 109 (List._∷_ 101 List.[])))))))))))))))))) (Syntax.tcons Syntax.tyBool (Syntax.tcons Syntax.tyBool (Syntax.tcons Syntax.tyBool Syntax.tnil)))) (Syntax.tcons (Syntax.tyEnum (List._∷_ 116 (List._∷_ 101 (List._∷_ 120 (List._∷_ 116 (List._∷_ 95 (List._∷_ 104 (List._∷_ 101 (List._∷_ 97 (List._∷_ 100 (List._∷_ 105 (List._∷_ 110 (List._∷_ 103 (List._∷_ 58 (List._∷_ 58 (List._∷_ 80 (List._∷_ 108 (List._∷_ 97 (List._∷_ 99 (List._∷_ 101 List.[]))))))))))))))))))) (Syntax.ttcons (Syntax.tcons (Syntax.tyEnum (List._∷_ 116 (List._∷_ 101 (List._∷_ 120 (List._∷_ 116 (List._∷_ 95 (List._∷_ 104 (List._∷_ 101 (List._∷_ 97 (List._∷_ 100 (List._∷_ 105 (List._∷_ 110 (List._∷_ 103 (List._∷_ 58 (List._∷_ 58 (List._∷_ 87 (List._∷_ 111 (List._∷_ 114 (List._∷_ 100 List.[])))))))))))))))))) (Syntax.ttcons Syntax.tnil (Syntax.ttcons Syntax.tnil (Syntax.ttcons Syntax.tnil (Syntax.ttcons Syntax.tnil Syntax.ttnil))))) (Syntax.tcons (Syntax.tyInt Syntax.w8) Syntax.tnil)) (Syntax.ttcons (Syntax.tcons (Syntax.tyEnum (List._∷_ 116 (List._∷_ 101 (List._∷_ 120 (List._∷_ 116 (List._∷_ 95 (List._∷_ 104 (List._∷_ 101 (List._∷_ 97 (List._∷_ 100 (List._∷_ 105 (List._∷_ 110 (List._∷_ 103 (List._∷_ 58 (List._∷_ 58 (List._∷_ 87 (List._∷_ 111 (List._∷_ 114 (List._∷_ 100 List.[])))))))))))))))))) (Syntax.ttcons Syntax.tnil (Syntax.ttcons Syntax.tnil (Syntax.ttcons Syntax.tnil (Syntax.ttcons Syntax.tnil Syntax.ttnil))))) Syntax.tnil) (Syntax.ttcons (Syntax.tcons (Syntax.tyEnum (List._∷_ 116 (List._∷_ 101 (List._∷_ 120 (List._∷_ 116 (List._∷_ 95 (List._∷_ 104 (List._∷_ 101 (List._∷_ 97 (List._∷_ 100 (List._∷_ 105 (List._∷_ 110 (List._∷_ 103 (List._∷_ 58 (List._∷_ 58 (List._∷_ 87 (List._∷_ 111 (List._∷_ 114 (List._∷_ 100 List.[])))))))))))))))))) (Syntax.ttcons Syntax.tnil (Syntax.ttcons Syntax.tnil (Syntax.ttcons Syntax.tnil (Syntax.ttcons Syntax.tnil Syntax.ttnil))))) Syntax.tnil) (Syntax.ttcons Syntax.tnil (Syntax.ttcons (Syntax.tcons (Syntax.tyEnum (List._∷_ 116 (List._∷_ 101 (List._∷_ 120 (List._∷_ 116 (List._∷_ 95 (List._∷_ 104 (List._∷_ 101 (List._∷_ 97 (List._∷_ 100 (List._∷_ 105 (List._∷_ 110 (List._∷_ 103 (List._∷_ 58 (List._∷_ 58 (List._∷_ 72 (List._∷_ 101 (List._∷_ 97 (List._∷_ 100 (List._∷_ 105 (List._∷_ 110 (List._∷_ 103 (List._∷_ 70 (List._∷_ 97 (List._∷_ 117 (List._∷_ 108 (List._∷_ 116 List.[])))))))))))))))))))))))))) (Syntax.ttcons Syntax.tnil (Syntax.ttcons Syntax.tnil (Syntax.ttcons Syntax.tnil (Syntax.ttcons (Syntax.tcons (Syntax.tyEnum (List._∷_ 116 (List._∷_ 101 (List._∷_ 120 (List._∷_ 116 (List._∷_ 95 (List._∷_ 104 (List._∷_ 101 (List._∷_ 97 (List._∷_ 100 (List._∷_ 105 (List._∷_ 110 (List._∷_ 103 (List._∷_ 58 (List._∷_ 58 (List._∷_ 87 (List._∷_ 111 (List._∷_ 114 (List._∷_ 100 List.[])))))))))))))))))) (Syntax.ttcons Syntax.tnil (Syntax.ttcons Syntax.tnil (Syntax.ttcons Syntax.tnil (Syntax.ttcons Syntax.tnil Syntax.ttnil))))) Syntax.tnil) Syntax.ttnil))))) Syntax.tnil) Syntax.ttnil)))))) Syntax.tnil)))) Syntax.tnil) (Syntax.ttcons Syntax.tnil (Syntax.ttcons (Syntax.tcons (Syntax.tyInt Syntax.w8) Syntax.tnil) (Syntax.ttcons Syntax.tnil (Syntax.ttcons (Syntax.tcons (Syntax.tyEnum (List._∷_ 116 (List._∷_ 101 (List._∷_ 120 (List._∷_ 116 (List._∷_ 95 (List._∷_ 114 (List._∷_ 101 (List._∷_ 97 (List._∷_ 100 (List._∷_ 105 (List._∷_ 110 (List._∷_ 103 (List._∷_ 58 (List._∷_ 58 (List._∷_ 70 (List._∷_ 97 (List._∷_ 117 (List._∷_ 108 (List._∷_ 116 List.[]))))))))))))))))))) (Syntax.ttcons (Syntax.tcons (Syntax.tyEnum (List._∷_ 116 (List._∷_ 101 (List._∷_ 120 (List._∷_ 116 (List._∷_ 95 (List._∷_ 104 (List._∷_ 101 (List._∷_ 97 (List._∷_ 100 (List._∷_ 105 (List._∷_ 110 (List._∷_ 103 (List._∷_ 58 (List._∷_ 58 (List._∷_ 72 (List._∷_ 101 (List._∷_ 97 (List._∷_ 100 (List._∷_ 105 (List._∷_ 110 (List._∷_ 103 (List._∷_ 70 (List._∷_ 97 (List._∷_ 117 (List._∷_ 108 (List._∷_ 116 List.[])))))))))))))))))))))))))) (Syntax.ttcons Syntax.tnil (Syntax.ttcons Syntax.tnil (Syntax.ttcons Syntax.tnil (Syntax.ttcons (Syntax.tcons (Syntax.tyEnum (List._∷_ 116 (List._∷_ 101 (List._∷_ 120 (List._∷_ 116 (List._∷_ 95 (List._∷_ 104 (List._∷_ 101 (List._∷_ 97 (List._∷_ 100 (List._∷_ 105 (List._∷_ 110 (List._∷_ 103 (List._∷_ 58 (List._∷_ 58 (List._∷_ 87 (List._∷_ 111 (List._∷_ 114 (List._∷_ 100 List.[])))))))))))))))))) (Syntax.ttcons Syntax.tnil (Syntax.ttcons Syntax.tnil (Syntax.ttcons Syntax.tnil (Syntax.ttcons Syntax.tnil Syntax.ttnil))))) Syntax.tnil) Syntax.ttnil))))) Syntax.tnil) (Syntax.ttcons Syntax.tnil (Syntax.ttcons Syntax.tnil Syntax.ttnil)))) Syntax.tnil) Syntax.ttnil)))))))) (Syntax.tcons (Syntax.tyArray (Syntax.tyInt Syntax.w8) 32) (Syntax.tcons (Syntax.tyInt Syntax.w64) Syntax.tnil))))))) (List._∷_ (9, Rows.sc-here (Row.sInt Syntax.w64)) (List._∷_ (10, Rows.any-gone (Syntax.tyRef Syntax.erased Syntax.mut OfOutput.named)) (List._∷_ (11, Rows.any-gone (Syntax.tyStruct (List._∷_ 38 (List._∷_ 91 (List._∷_ 93 List.[]))) (Syntax.tcons (Syntax.tyRef Syntax.erased Syntax.mut OfOutput.named) (Syntax.tcons (Syntax.tyInt Syntax.w64) Syntax.tnil)))) (List._∷_ (12, Rows.any-gone (Syntax.tyRef Syntax.erased Syntax.mut OfStation.named)) (List._∷_ (13, Rows.any-gone (Syntax.tyStruct (List._∷_ 38 (List._∷_ 91 (List._∷_ 93 List.[]))) (Syntax.tcons (Syntax.tyRef Syntax.erased Syntax.mut OfStation.named) (Syntax.tcons (Syntax.tyInt Syntax.w64) Syntax.tnil)))) (List._∷_ (14, Rows.any-gone (Syntax.tyRef Syntax.erased Syntax.mut OfPanelRecord.named)) (List._∷_ (15, Rows.any-gone (Syntax.tyRef Syntax.erased Syntax.mut (Syntax.tyInt Syntax.w8))) List.[])))))))))))))))
+t40 = List._∷_ (0, Rows.any-gone Syntax.tyUnit) (List._∷_ (1, Mut.mslice (OfOutput.row) (Syntax.tyRef (Syntax.named 0) Syntax.mut OfOutput.named) 0) (List._∷_ (2, Relend.mslice-owed (OfStation.row) (Syntax.tyRef (Syntax.named 1) Syntax.mut OfStation.named) 1 11 Row.off) (List._∷_ (3, Rows.mref-owed (OfPanelRecord.row) (Syntax.tyRef (Syntax.named 2) Syntax.mut OfPanelRecord.named) 2 12 Row.off) (List._∷_ (4, Relend.mslice-owed (Referent.rtF (Referent.fInt Syntax.w8)) (Syntax.tyRef (Syntax.named 3) Syntax.mut (Syntax.tyInt Syntax.w8)) 3 13 Row.off) (List._∷_ (5, Mut.mslice (Referent.rtF (Referent.fInt Syntax.w8)) (Syntax.tyRef (Syntax.named 4) Syntax.mut (Syntax.tyInt Syntax.w8)) 4) (List._∷_ (6, Rows.sc-here Row.sBool) (List._∷_ (7, Rows.any-gone (Laws.mir)) (List._∷_ (8, Rows.any-gone (Syntax.tyStruct (List._∷_ 116 (List._∷_ 101 (List._∷_ 120 (List._∷_ 116 (List._∷_ 95 (List._∷_ 114 (List._∷_ 101 (List._∷_ 97 (List._∷_ 100 (List._∷_ 105 (List._∷_ 110 (List._∷_ 103 (List._∷_ 58 (List._∷_ 58 (List._∷_ 82 (List._∷_ 101 (List._∷_ 97 (List._∷_ 100 (List._∷_ 101 (List._∷_ 114 List.[])))))))))))))))))))) (Syntax.tcons Syntax.tyBool (Syntax.tcons (Syntax.tyInt Syntax.w64) (Syntax.tcons (Syntax.tyEnum (List._∷_ 116 (List._∷_ 101 (List._∷_ 120 (List._∷_ 116 (List._∷_ 95 (List._∷_ 114 (List._∷_ 101 (List._∷_ 97 (List._∷_ 100 (List._∷_ 105 (List._∷_ 110 (List._∷_ 103 (List._∷_ 58 (List._∷_ 58 (List._∷_ 72 (List._∷_ 101 (List._∷_ 108 (List._∷_ 100 List.[])))))))))))))))))) (Syntax.ttcons Syntax.tnil (Syntax.ttcons Syntax.tnil (Syntax.ttcons (Syntax.tcons (Syntax.tyStruct (List._∷_ 116 (List._∷_ 101 (List._∷_ 120 (List._∷_ 116 (List._∷_ 95 (List._∷_ 104 (List._∷_ 101 (List._∷_ 97 (List._∷_ 100 (List._∷_ 105 (List._∷_ 110 (List._∷_ 103 (List._∷_ 58 (List._∷_ 58 (List._∷_ 72 (List._∷_ 101 (List._∷_ 97 (List._∷_ 100 (List._∷_ 105 (List._∷_ 110 (List._∷_ 103 List.[]))))))))))))))))))))) (Syntax.tcons (Syntax.tyStruct (List._∷_ 116 (List._∷_ 101 (List._∷_ 120 (List._∷_ 116 (List._∷_ 95 (List._∷_ 104 (List._∷_ 101 (List._∷_ 97 (List._∷_ 100 (List._∷_ 105 (List._∷_ 110 (List._∷_ 103 (List._∷_ 58 (List._∷_ 58 (List._∷_ 78 (List._∷_ 97 (List._∷_ 109 (List._∷_ 101 (List._∷_ 100 List.[]))))))))))))))))))) (Syntax.tcons (IsParameters.mir) (Syntax.tcons (Syntax.tyInt Syntax.w32) Syntax.tnil))) (Syntax.tcons (Syntax.tyStruct (List._∷_ 116 (List._∷_ 101 (List._∷_ 120 (List._∷_ 116 (List._∷_ 95 (List._∷_ 104 (List._∷_ 101 (List._∷_ 97 (List._∷_ 100 (List._∷_ 105 (List._∷_ 110 (List._∷_ 103 (List._∷_ 58 (List._∷_ 58 (List._∷_ 67 (List._∷_ 97 (List._∷_ 109 (List._∷_ 101 List.[])))))))))))))))))) (Syntax.tcons Syntax.tyBool (Syntax.tcons Syntax.tyBool (Syntax.tcons Syntax.tyBool (Syntax.tcons Syntax.tyBool Syntax.tnil))))) (Syntax.tcons (Syntax.tyEnum (List._∷_ 116 (List._∷_ 101 (List._∷_ 120 (List._∷_ 116 (List._∷_ 95 (List._∷_ 104 (List._∷_ 101 (List._∷_ 97 (List._∷_ 100 (List._∷_ 105 (List._∷_ 110 (List._∷_ 103 (List._∷_ 58 (List._∷_ 58 (List._∷_ 80 (List._∷_ 108 (List._∷_ 97 (List._∷_ 99 (List._∷_ 101 List.[]))))))))))))))))))) (Syntax.ttcons (Syntax.tcons (Syntax.tyEnum (List._∷_ 116 (List._∷_ 101 (List._∷_ 120 (List._∷_ 116 (List._∷_ 95 (List._∷_ 104 (List._∷_ 101 (List._∷_ 97 (List._∷_ 100 (List._∷_ 105 (List._∷_ 110 (List._∷_ 103 (List._∷_ 58 (List._∷_ 58 (List._∷_ 87 (List._∷_ 111 (List._∷_ 114 (List._∷_ 100 List.[])))))))))))))))))) (Syntax.ttcons Syntax.tnil (Syntax.ttcons Syntax.tnil (Syntax.ttcons Syntax.tnil (Syntax.ttcons Syntax.tnil (Syntax.ttcons Syntax.tnil Syntax.ttnil)))))) (Syntax.tcons (Syntax.tyInt Syntax.w8) Syntax.tnil)) (Syntax.ttcons (Syntax.tcons (Syntax.tyEnum (List._∷_ 116 (List._∷_ 101 (List._∷_ 120 (List._∷_ 116 (List._∷_ 95 (List._∷_ 104 (List._∷_ 101 (List._∷_ 97 (List._∷_ 100 (List._∷_ 105 (List._∷_ 110 (List._∷_ 103 (List._∷_ 58 (List._∷_ 58 (List._∷_ 87 (List._∷_ 111 (List._∷_ 114 (List._∷_ 100 List.[])))))))))))))))))) (Syntax.ttcons Syntax.tnil (Syntax.ttcons Syntax.tnil (Syntax.ttcons Syntax.tnil (Syntax.ttcons Syntax.tnil (Syntax.ttcons Syntax.tnil Syntax.ttnil)))))) Syntax.tnil) (Syntax.ttcons (Syntax.tcons (Syntax.tyEnum (List._∷_ 116 (List._∷_ 101 (List._∷_ 120 (List._∷_ 116 (List._∷_ 95 (List._∷_ 104 (List._∷_ 101 (List._∷_ 97 (List._∷_ 100 (List._∷_ 105 (List._∷_ 110 (List._∷_ 103 (List._∷_ 58 (List._∷_ 58 (List._∷_ 87 (List._∷_ 111 (List._∷_ 114 (List._∷_ 100 List.[])))))))))))))))))) (Syntax.ttcons Syntax.tnil (Syntax.ttcons Syntax.tnil (Syntax.ttcons Syntax.tnil (Syntax.ttcons Syntax.tnil (Syntax.ttcons Syntax.tnil Syntax.ttnil)))))) (Syntax.tcons (Syntax.tyInt Syntax.w8) Syntax.tnil)) (Syntax.ttcons Syntax.tnil (Syntax.ttcons (Syntax.tcons (Syntax.tyEnum (List._∷_ 116 (List._∷_ 101 (List._∷_ 120 (List._∷_ 116 (List._∷_ 95 (List._∷_ 104 (List._∷_ 101 (List._∷_ 97 (List._∷_ 100 (List._∷_ 105 (List._∷_ 110 (List._∷_ 103 (List._∷_ 58 (List._∷_ 58 (List._∷_ 72 (List._∷_ 101 (List._∷_ 97 (List._∷_ 100 (List._∷_ 105 (List._∷_ 110 (List._∷_ 103 (List._∷_ 70 (List._∷_ 97 (List._∷_ 117 (List._∷_ 108 (List._∷_ 116 List.[])))))))))))))))))))))))))) (Syntax.ttcons Syntax.tnil (Syntax.ttcons Syntax.tnil (Syntax.ttcons Syntax.tnil (Syntax.ttcons Syntax.tnil (Syntax.ttcons (Syntax.tcons (Syntax.tyEnum (List._∷_ 116 (List._∷_ 101 (List._∷_ 120 (List._∷_ 116 (List._∷_ 95 (List._∷_ 104 (List._∷_ 101 (List._∷_ 97 (List._∷_ 100 (List._∷_ 105 (List._∷_ 110 (List._∷_ 103 (List._∷_ 58 (List._∷_ 58 (List._∷_ 87 (List._∷_ 111 (List._∷_ 114 (List._∷_ 100 List.[])))))))))))))))))) (Syntax.ttcons Syntax.tnil (Syntax.ttcons Syntax.tnil (Syntax.ttcons Syntax.tnil (Syntax.ttcons Syntax.tnil (Syntax.ttcons Syntax.tnil Syntax.ttnil)))))) Syntax.tnil) Syntax.ttnil)))))) Syntax.tnil) Syntax.ttnil)))))) Syntax.tnil)))) Syntax.tnil) (Syntax.ttcons Syntax.tnil (Syntax.ttcons (Syntax.tcons (Syntax.tyInt Syntax.w8) Syntax.tnil) (Syntax.ttcons Syntax.tnil (Syntax.ttcons (Syntax.tcons (Syntax.tyEnum (List._∷_ 116 (List._∷_ 101 (List._∷_ 120 (List._∷_ 116 (List._∷_ 95 (List._∷_ 114 (List._∷_ 101 (List._∷_ 97 (List._∷_ 100 (List._∷_ 105 (List._∷_ 110 (List._∷_ 103 (List._∷_ 58 (List._∷_ 58 (List._∷_ 70 (List._∷_ 97 (List._∷_ 117 (List._∷_ 108 (List._∷_ 116 List.[]))))))))))))))))))) (Syntax.ttcons (Syntax.tcons (Syntax.tyEnum (List._∷_ 116 (List._∷_ 101 (List._∷_ 120 (List._∷_ 116 (List._∷_ 95 (List._∷_ 104 (List._∷_ 101 (List._∷_ 97 (List._∷_ 100 (List._∷_ 105 (List._∷_ 110 (List._∷_ 103 (List._∷_ 58 (List._∷_ 58 (List._∷_ 72 (List._∷_ 101 (List._∷_ 97 (List._∷_ 100 (List._∷_ 105 (List._∷_ 110 (List._∷_ 103 (List._∷_ 70 (List._∷_ 97 (List._∷_ 117 (List._∷_ 108 (List._∷_ 116 List.[])))))))))))))))))))))))))) (Syntax.ttcons Syntax.tnil (Syntax.ttcons Syntax.tnil (Syntax.ttcons Syntax.tnil (Syntax.ttcons Syntax.tnil (Syntax.ttcons (Syntax.tcons (Syntax.tyEnum (List._∷_ 116 (List._∷_ 101 (List._∷_ 120 (List._∷_ 116 (List._∷_ 95 (List._∷_ 104 (List._∷_ 101 (List._∷_ 97 (List._∷_ 100 (List._∷_ 105 (List._∷_ 110 (List._∷_ 103 (List._∷_ 58 (List._∷_ 58 (List._∷_ 87 (List._∷_ 111 (List._∷_ 114 (List._∷_ 100 List.[])))))))))))))))))) (Syntax.ttcons Syntax.tnil (Syntax.ttcons Syntax.tnil (Syntax.ttcons Syntax.tnil (Syntax.ttcons Syntax.tnil (Syntax.ttcons Syntax.tnil Syntax.ttnil)))))) Syntax.tnil) Syntax.ttnil)))))) Syntax.tnil) (Syntax.ttcons Syntax.tnil (Syntax.ttcons Syntax.tnil Syntax.ttnil)))) Syntax.tnil) Syntax.ttnil)))))))) (Syntax.tcons (Syntax.tyArray (Syntax.tyInt Syntax.w8) 32) (Syntax.tcons (Syntax.tyInt Syntax.w64) Syntax.tnil))))))) (List._∷_ (9, Rows.sc-here (Row.sInt Syntax.w64)) (List._∷_ (10, Rows.any-gone (Syntax.tyRef Syntax.erased Syntax.mut OfOutput.named)) (List._∷_ (11, Rows.any-gone (Syntax.tyStruct (List._∷_ 38 (List._∷_ 91 (List._∷_ 93 List.[]))) (Syntax.tcons (Syntax.tyRef Syntax.erased Syntax.mut OfOutput.named) (Syntax.tcons (Syntax.tyInt Syntax.w64) Syntax.tnil)))) (List._∷_ (12, Rows.any-gone (Syntax.tyRef Syntax.erased Syntax.mut OfStation.named)) (List._∷_ (13, Rows.any-gone (Syntax.tyStruct (List._∷_ 38 (List._∷_ 91 (List._∷_ 93 List.[]))) (Syntax.tcons (Syntax.tyRef Syntax.erased Syntax.mut OfStation.named) (Syntax.tcons (Syntax.tyInt Syntax.w64) Syntax.tnil)))) (List._∷_ (14, Rows.any-gone (Syntax.tyRef Syntax.erased Syntax.mut OfPanelRecord.named)) (List._∷_ (15, Rows.any-gone (Syntax.tyRef Syntax.erased Syntax.mut (Syntax.tyInt Syntax.w8))) List.[])))))))))))))))
 
 abbrev pub t41 : List.List Row.Entry
 t41 = List._∷_ (16, Rows.any-gone (Syntax.tyStruct (List._∷_ 38 (List._∷_ 91 (List._∷_ 93 List.[]))) (Syntax.tcons (Syntax.tyRef Syntax.erased Syntax.mut (Syntax.tyInt Syntax.w8)) (Syntax.tcons (Syntax.tyInt Syntax.w64) Syntax.tnil)))) (List._∷_ (17, Rows.any-gone (Syntax.tyRef Syntax.erased Syntax.mut (Syntax.tyInt Syntax.w8))) (List._∷_ (18, Rows.any-gone (Syntax.tyStruct (List._∷_ 38 (List._∷_ 91 (List._∷_ 93 List.[]))) (Syntax.tcons (Syntax.tyRef Syntax.erased Syntax.mut (Syntax.tyInt Syntax.w8)) (Syntax.tcons (Syntax.tyInt Syntax.w64) Syntax.tnil)))) (List._∷_ (19, Rows.any-gone Syntax.tyBool) (List._∷_ (20, Rows.any-gone (Syntax.tyRef Syntax.erased Syntax.mut OfOutput.named)) (List._∷_ (21, Rows.any-gone (Syntax.tyStruct (List._∷_ 38 (List._∷_ 91 (List._∷_ 93 List.[]))) (Syntax.tcons (Syntax.tyRef Syntax.erased Syntax.mut OfOutput.named) (Syntax.tcons (Syntax.tyInt Syntax.w64) Syntax.tnil)))) (List._∷_ (22, Rows.any-gone (Syntax.tyRef Syntax.erased Syntax.mut OfStation.named)) (List._∷_ (23, Mut.msleft (OfStation.row) (Syntax.tyRef Syntax.erased Syntax.mut OfStation.named)) (List._∷_ (24, Rows.mleft (OfPanelRecord.row) (Syntax.tyRef Syntax.erased Syntax.mut OfPanelRecord.named)) (List._∷_ (25, Rows.any-gone (Syntax.tyRef Syntax.erased Syntax.mut (Syntax.tyInt Syntax.w8))) (List._∷_ (26, Mut.msleft (Referent.rtF (Referent.fInt Syntax.w8)) (Syntax.tyRef Syntax.erased Syntax.mut (Syntax.tyInt Syntax.w8))) (List._∷_ (27, Rows.any-gone Syntax.tyUnit) (List._∷_ (28, Rows.any-gone (Syntax.tyRef Syntax.erased Syntax.imm (Syntax.tyInt Syntax.w8))) (List._∷_ (29, Rows.any-gone (Syntax.tyStruct (List._∷_ 38 (List._∷_ 91 (List._∷_ 93 List.[]))) (Syntax.tcons (Syntax.tyRef Syntax.erased Syntax.imm (Syntax.tyInt Syntax.w8)) (Syntax.tcons (Syntax.tyInt Syntax.w64) Syntax.tnil)))) (List._∷_ (30, Rows.any-gone Syntax.tyUnit) (List._∷_ (31, Rows.any-gone (Syntax.tyRef Syntax.erased Syntax.imm (Syntax.tyInt Syntax.w8))) List.[])))))))))))))))
 
 abbrev pub t42 : List.List Row.Entry
-t42 = List._∷_ (0, Rows.any-gone Syntax.tyUnit) (List._∷_ (1, Mut.mslice (OfOutput.row) (Syntax.tyRef (Syntax.named 0) Syntax.mut OfOutput.named) 0) (List._∷_ (2, Mut.mslice (OfStation.row) (Syntax.tyRef (Syntax.named 1) Syntax.mut OfStation.named) 1) (List._∷_ (3, Rows.mref-owed (OfPanelRecord.row) (Syntax.tyRef (Syntax.named 2) Syntax.mut OfPanelRecord.named) 2 12 Row.off) (List._∷_ (4, Relend.mslice-owed (Referent.rtF (Referent.fInt Syntax.w8)) (Syntax.tyRef (Syntax.named 3) Syntax.mut (Syntax.tyInt Syntax.w8)) 3 13 Row.off) (List._∷_ (5, Mut.mslice (Referent.rtF (Referent.fInt Syntax.w8)) (Syntax.tyRef (Syntax.named 4) Syntax.mut (Syntax.tyInt Syntax.w8)) 4) (List._∷_ (6, Rows.sc-here Row.sBool) (List._∷_ (7, Rows.any-gone (Laws.mir)) (List._∷_ (8, Rows.any-gone (Syntax.tyStruct (List._∷_ 116 (List._∷_ 101 (List._∷_ 120 (List._∷_ 116 (List._∷_ 95 (List._∷_ 114 (List._∷_ 101 (List._∷_ 97 (List._∷_ 100 (List._∷_ 105 (List._∷_ 110 (List._∷_ 103 (List._∷_ 58 (List._∷_ 58 (List._∷_ 82 (List._∷_ 101 (List._∷_ 97 (List._∷_ 100 (List._∷_ 101 (List._∷_ 114 List.[])))))))))))))))))))) (Syntax.tcons Syntax.tyBool (Syntax.tcons (Syntax.tyInt Syntax.w64) (Syntax.tcons (Syntax.tyEnum (List._∷_ 116 (List._∷_ 101 (List._∷_ 120 (List._∷_ 116 (List._∷_ 95 (List._∷_ 114 (List._∷_ 101 (List._∷_ 97 (List._∷_ 100 (List._∷_ 105 (List._∷_ 110 (List._∷_ 103 (List._∷_ 58 (List._∷_ 58 (List._∷_ 72 (List._∷_ 101 (List._∷_ 108 (List._∷_ 100 List.[])))))))))))))))))) (Syntax.ttcons Syntax.tnil (Syntax.ttcons Syntax.tnil (Syntax.ttcons (Syntax.tcons (Syntax.tyStruct (List._∷_ 116 (List._∷_ 101 (List._∷_ 120 (List._∷_ 116 (List._∷_ 95 (List._∷_ 104 (List._∷_ 101 (List._∷_ 97 (List._∷_ 100 (List._∷_ 105 (List._∷_ 110 (List._∷_ 103 (List._∷_ 58 (List._∷_ 58 (List._∷_ 72 (List._∷_ 101 (List._∷_ 97 (List._∷_ 100 (List._∷_ 105 (List._∷_ 110 (List._∷_ 103 List.[]))))))))))))))))))))) (Syntax.tcons (IsParameters.mir) (Syntax.tcons (Syntax.tyStruct (List._∷_ 116 (List._∷_ 101 (List._∷_ 120 (List._∷_ 116 (List._∷_ 95 (List._∷_ 104 (List._∷_ 101 (List._∷_ 97 (List._∷_ 100 (List._∷_ 105 (List._∷_ 110 (List._∷_ 103 (List._∷_ 58 (List._∷_ 58 (List._∷_ 67 (List._∷_ 97 (List._∷_ 109 (List._∷_ 101 List.[])))))))))))))))))) (Syntax.tcons Syntax.tyBool (Syntax.tcons Syntax.tyBool (Syntax.tcons Syntax.tyBool Syntax.tnil)))) (Syntax.tcons (Syntax.tyEnum (List._∷_ 116 (List._∷_ 101 (List._∷_ 120 (List._∷_ 116 (List._∷_ 95 (List._∷_ 104 (List._∷_ 101 (List._∷_ 97 (List._∷_ 100 (List._∷_ 105 (List._∷_ 110 (List._∷_ 103 (List._∷_ 58 (List._∷_ 58 (List._∷_ 80 (List._∷_ 108 (List._∷_ 97 (List._∷_ 99 (List._∷_ 101 List.[]))))))))))))))))))) (Syntax.ttcons (Syntax.tcons (Syntax.tyEnum (List._∷_ 116 (List._∷_ 101 (List._∷_ 120 (List._∷_ 116 (List._∷_ 95 (List._∷_ 104 (List._∷_ 101 (List._∷_ 97 (List._∷_ 100 (List._∷_ 105 (List._∷_ 110 (List._∷_ 103 (List._∷_ 58 (List._∷_ 58 (List._∷_ 87 (List._∷_ 111 (List._∷_ 114 (List._∷_ 100 List.[])))))))))))))))))) (Syntax.ttcons Syntax.tnil (Syntax.ttcons Syntax.tnil (Syntax.ttcons Syntax.tnil (Syntax.ttcons Syntax.tnil Syntax.ttnil))))) (Syntax.tcons (Syntax.tyInt Syntax.w8) Syntax.tnil)) (Syntax.ttcons (Syntax.tcons (Syntax.tyEnum (List._∷_ 116 (List._∷_ 101 (List._∷_ 120 (List._∷_ 116 (List._∷_ 95 (List._∷_ 104 (List._∷_ 101 (List._∷_ 97 (List._∷_ 100 (List._∷_ 105 (List._∷_ 110 (List._∷_ 103 (List._∷_ 58 (List._∷_ 58 (List._∷_ 87 (List._∷_ 111 (List._∷_ 114 (List._∷_ 100 List.[])))))))))))))))))) (Syntax.ttcons Syntax.tnil (Syntax.ttcons Syntax.tnil (Syntax.ttcons Syntax.tnil (Syntax.ttcons Syntax.tnil Syntax.ttnil))))) Syntax.tnil) (Syntax.ttcons (Syntax.tcons (Syntax.tyEnum (List._∷_ 116 (List._∷_ 101 (List._∷_ 120 (List._∷_ 116 (List._∷_ 95 (List._∷_ 104 (List._∷_ 101 (List._∷_ 97 (List._∷_ 100 (List._∷_ 105 (List._∷_ 110 (List._∷_ 103 (List._∷_ 58 (List._∷_ 58 (List._∷_ 87 (List._∷_ 111 (List._∷_ 114 (List._∷_ 100 List.[])))))))))))))))))) (Syntax.ttcons Syntax.tnil (Syntax.ttcons Syntax.tnil (Syntax.ttcons Syntax.tnil (Syntax.ttcons Syntax.tnil Syntax.ttnil))))) Syntax.tnil) (Syntax.ttcons Syntax.tnil (Syntax.ttcons (Syntax.tcons (Syntax.tyEnum (List._∷_ 116 (List._∷_ 101 (List._∷_ 120 (List._∷_ 116 (List._∷_ 95 (List._∷_ 104 (List._∷_ 101 (List._∷_ 97 (List._∷_ 100 (List._∷_ 105 (List._∷_ 110 (List._∷_ 103 (List._∷_ 58 (List._∷_ 58 (List._∷_ 72 (List._∷_ 101 (List._∷_ 97 (List._∷_ 100 (List._∷_ 105 (List._∷_ 110 (List._∷_ 103 (List._∷_ 70 (List._∷_ 97 (List._∷_ 117 (List._∷_ 108 (List._∷_ 116 List.[])))))))))))))))))))))))))) (Syntax.ttcons Syntax.tnil (Syntax.ttcons Syntax.tnil (Syntax.ttcons Syntax.tnil (Syntax.ttcons (Syntax.tcons (Syntax.tyEnum (List._∷_ 116 (List._∷_ 101 (List._∷_ 120 (List._∷_ 116 (List._∷_ 95 (List._∷_ 104 (List._∷_ 101 (List._∷_ 97 (List._∷_ 100 (List._∷_ 105 (List._∷_ 110 (List._∷_ 103 (List._∷_ 58 (List._∷_ 58 (List._∷_ 87 (List._∷_ 111 (List._∷_ 114 (List._∷_ 100 List.[])))))))))))))))))) (Syntax.ttcons Syntax.tnil (Syntax.ttcons Syntax.tnil (Syntax.ttcons Syntax.tnil (Syntax.ttcons Syntax.tnil Syntax.ttnil))))) Syntax.tnil) Syntax.ttnil))))) Syntax.tnil) Syntax.ttnil)))))) Syntax.tnil)))) Syntax.tnil) (Syntax.ttcons Syntax.tnil (Syntax.ttcons (Syntax.tcons (Syntax.tyInt Syntax.w8) Syntax.tnil) (Syntax.ttcons Syntax.tnil (Syntax.ttcons (Syntax.tcons (Syntax.tyEnum (List._∷_ 116 (List._∷_ 101 (List._∷_ 120 (List._∷_ 116 (List._∷_ 95 (List._∷_ 114 (List._∷_ 101 (List._∷_ 97 (List._∷_ 100 (List._∷_ 105 (List._∷_ 110 (List._∷_ 103 (List._∷_ 58 (List._∷_ 58 (List._∷_ 70 (List._∷_ 97 (List._∷_ 117 (List._∷_ 108 (List._∷_ 116 List.[]))))))))))))))))))) (Syntax.ttcons (Syntax.tcons (Syntax.tyEnum (List._∷_ 116 (List._∷_ 101 (List._∷_ 120 (List._∷_ 116 (List._∷_ 95 (List._∷_ 104 (List._∷_ 101 (List._∷_ 97 (List._∷_ 100 (List._∷_ 105 (List._∷_ 110 (List._∷_ 103 (List._∷_ 58 (List._∷_ 58 (List._∷_ 72 (List._∷_ 101 (List._∷_ 97 (List._∷_ 100 (List._∷_ 105 (List._∷_ 110 (List._∷_ 103 (List._∷_ 70 (List._∷_ 97 (List._∷_ 117 (List._∷_ 108 (List._∷_ 116 List.[])))))))))))))))))))))))))) (Syntax.ttcons Syntax.tnil (Syntax.ttcons Syntax.tnil (Syntax.ttcons Syntax.tnil (Syntax.ttcons (Syntax.tcons (Syntax.tyEnum (List._∷_ 116 (List._∷_ 101 (List._∷_ 120 (List._∷_ 116 (List._∷_ 95 (List._∷_ 104 (List._∷_ 101 (List._∷_ 97 (List._∷_ 100 (List._∷_ 105 (List._∷_ 110 (List._∷_ 103 (List._∷_ 58 (List._∷_ 58 (List._∷_ 87 (List._∷_ 111 (List._∷_ 114 (List._∷_ 100 List.[])))))))))))))))))) (Syntax.ttcons Syntax.tnil (Syntax.ttcons Syntax.tnil (Syntax.ttcons Syntax.tnil (Syntax.ttcons Syntax.tnil Syntax.ttnil))))) Syntax.tnil) Syntax.ttnil))))) Syntax.tnil) (Syntax.ttcons Syntax.tnil (Syntax.ttcons Syntax.tnil Syntax.ttnil)))) Syntax.tnil) Syntax.ttnil)))))))) (Syntax.tcons (Syntax.tyArray (Syntax.tyInt Syntax.w8) 32) (Syntax.tcons (Syntax.tyInt Syntax.w64) Syntax.tnil))))))) (List._∷_ (9, Rows.sc-here (Row.sInt Syntax.w64)) (List._∷_ (10, Rows.any-gone (Syntax.tyRef Syntax.erased Syntax.mut OfOutput.named)) (List._∷_ (11, Rows.any-gone (Syntax.tyStruct (List._∷_ 38 (List._∷_ 91 (List._∷_ 93 List.[]))) (Syntax.tcons (Syntax.tyRef Syntax.erased Syntax.mut OfOutput.named) (Syntax.tcons (Syntax.tyInt Syntax.w64) Syntax.tnil)))) (List._∷_ (12, Rows.any-gone (Syntax.tyRef Syntax.erased Syntax.mut OfStation.named)) (List._∷_ (13, Rows.any-gone (Syntax.tyStruct (List._∷_ 38 (List._∷_ 91 (List._∷_ 93 List.[]))) (Syntax.tcons (Syntax.tyRef Syntax.erased Syntax.mut OfStation.named) (Syntax.tcons (Syntax.tyInt Syntax.w64) Syntax.tnil)))) (List._∷_ (14, Rows.any-gone (Syntax.tyRef Syntax.erased Syntax.mut OfPanelRecord.named)) (List._∷_ (15, Rows.any-gone (Syntax.tyRef Syntax.erased Syntax.mut (Syntax.tyInt Syntax.w8))) List.[])))))))))))))))
+t42 = List._∷_ (0, Rows.any-gone Syntax.tyUnit) (List._∷_ (1, Mut.mslice (OfOutput.row) (Syntax.tyRef (Syntax.named 0) Syntax.mut OfOutput.named) 0) (List._∷_ (2, Mut.mslice (OfStation.row) (Syntax.tyRef (Syntax.named 1) Syntax.mut OfStation.named) 1) (List._∷_ (3, Rows.mref-owed (OfPanelRecord.row) (Syntax.tyRef (Syntax.named 2) Syntax.mut OfPanelRecord.named) 2 12 Row.off) (List._∷_ (4, Relend.mslice-owed (Referent.rtF (Referent.fInt Syntax.w8)) (Syntax.tyRef (Syntax.named 3) Syntax.mut (Syntax.tyInt Syntax.w8)) 3 13 Row.off) (List._∷_ (5, Mut.mslice (Referent.rtF (Referent.fInt Syntax.w8)) (Syntax.tyRef (Syntax.named 4) Syntax.mut (Syntax.tyInt Syntax.w8)) 4) (List._∷_ (6, Rows.sc-here Row.sBool) (List._∷_ (7, Rows.any-gone (Laws.mir)) (List._∷_ (8, Rows.any-gone (Syntax.tyStruct (List._∷_ 116 (List._∷_ 101 (List._∷_ 120 (List._∷_ 116 (List._∷_ 95 (List._∷_ 114 (List._∷_ 101 (List._∷_ 97 (List._∷_ 100 (List._∷_ 105 (List._∷_ 110 (List._∷_ 103 (List._∷_ 58 (List._∷_ 58 (List._∷_ 82 (List._∷_ 101 (List._∷_ 97 (List._∷_ 100 (List._∷_ 101 (List._∷_ 114 List.[])))))))))))))))))))) (Syntax.tcons Syntax.tyBool (Syntax.tcons (Syntax.tyInt Syntax.w64) (Syntax.tcons (Syntax.tyEnum (List._∷_ 116 (List._∷_ 101 (List._∷_ 120 (List._∷_ 116 (List._∷_ 95 (List._∷_ 114 (List._∷_ 101 (List._∷_ 97 (List._∷_ 100 (List._∷_ 105 (List._∷_ 110 (List._∷_ 103 (List._∷_ 58 (List._∷_ 58 (List._∷_ 72 (List._∷_ 101 (List._∷_ 108 (List._∷_ 100 List.[])))))))))))))))))) (Syntax.ttcons Syntax.tnil (Syntax.ttcons Syntax.tnil (Syntax.ttcons (Syntax.tcons (Syntax.tyStruct (List._∷_ 116 (List._∷_ 101 (List._∷_ 120 (List._∷_ 116 (List._∷_ 95 (List._∷_ 104 (List._∷_ 101 (List._∷_ 97 (List._∷_ 100 (List._∷_ 105 (List._∷_ 110 (List._∷_ 103 (List._∷_ 58 (List._∷_ 58 (List._∷_ 72 (List._∷_ 101 (List._∷_ 97 (List._∷_ 100 (List._∷_ 105 (List._∷_ 110 (List._∷_ 103 List.[]))))))))))))))))))))) (Syntax.tcons (Syntax.tyStruct (List._∷_ 116 (List._∷_ 101 (List._∷_ 120 (List._∷_ 116 (List._∷_ 95 (List._∷_ 104 (List._∷_ 101 (List._∷_ 97 (List._∷_ 100 (List._∷_ 105 (List._∷_ 110 (List._∷_ 103 (List._∷_ 58 (List._∷_ 58 (List._∷_ 78 (List._∷_ 97 (List._∷_ 109 (List._∷_ 101 (List._∷_ 100 List.[]))))))))))))))))))) (Syntax.tcons (IsParameters.mir) (Syntax.tcons (Syntax.tyInt Syntax.w32) Syntax.tnil))) (Syntax.tcons (Syntax.tyStruct (List._∷_ 116 (List._∷_ 101 (List._∷_ 120 (List._∷_ 116 (List._∷_ 95 (List._∷_ 104 (List._∷_ 101 (List._∷_ 97 (List._∷_ 100 (List._∷_ 105 (List._∷_ 110 (List._∷_ 103 (List._∷_ 58 (List._∷_ 58 (List._∷_ 67 (List._∷_ 97 (List._∷_ 109 (List._∷_ 101 List.[])))))))))))))))))) (Syntax.tcons Syntax.tyBool (Syntax.tcons Syntax.tyBool (Syntax.tcons Syntax.tyBool (Syntax.tcons Syntax.tyBool Syntax.tnil))))) (Syntax.tcons (Syntax.tyEnum (List._∷_ 116 (List._∷_ 101 (List._∷_ 120 (List._∷_ 116 (List._∷_ 95 (List._∷_ 104 (List._∷_ 101 (List._∷_ 97 (List._∷_ 100 (List._∷_ 105 (List._∷_ 110 (List._∷_ 103 (List._∷_ 58 (List._∷_ 58 (List._∷_ 80 (List._∷_ 108 (List._∷_ 97 (List._∷_ 99 (List._∷_ 101 List.[]))))))))))))))))))) (Syntax.ttcons (Syntax.tcons (Syntax.tyEnum (List._∷_ 116 (List._∷_ 101 (List._∷_ 120 (List._∷_ 116 (List._∷_ 95 (List._∷_ 104 (List._∷_ 101 (List._∷_ 97 (List._∷_ 100 (List._∷_ 105 (List._∷_ 110 (List._∷_ 103 (List._∷_ 58 (List._∷_ 58 (List._∷_ 87 (List._∷_ 111 (List._∷_ 114 (List._∷_ 100 List.[])))))))))))))))))) (Syntax.ttcons Syntax.tnil (Syntax.ttcons Syntax.tnil (Syntax.ttcons Syntax.tnil (Syntax.ttcons Syntax.tnil (Syntax.ttcons Syntax.tnil Syntax.ttnil)))))) (Syntax.tcons (Syntax.tyInt Syntax.w8) Syntax.tnil)) (Syntax.ttcons (Syntax.tcons (Syntax.tyEnum (List._∷_ 116 (List._∷_ 101 (List._∷_ 120 (List._∷_ 116 (List._∷_ 95 (List._∷_ 104 (List._∷_ 101 (List._∷_ 97 (List._∷_ 100 (List._∷_ 105 (List._∷_ 110 (List._∷_ 103 (List._∷_ 58 (List._∷_ 58 (List._∷_ 87 (List._∷_ 111 (List._∷_ 114 (List._∷_ 100 List.[])))))))))))))))))) (Syntax.ttcons Syntax.tnil (Syntax.ttcons Syntax.tnil (Syntax.ttcons Syntax.tnil (Syntax.ttcons Syntax.tnil (Syntax.ttcons Syntax.tnil Syntax.ttnil)))))) Syntax.tnil) (Syntax.ttcons (Syntax.tcons (Syntax.tyEnum (List._∷_ 116 (List._∷_ 101 (List._∷_ 120 (List._∷_ 116 (List._∷_ 95 (List._∷_ 104 (List._∷_ 101 (List._∷_ 97 (List._∷_ 100 (List._∷_ 105 (List._∷_ 110 (List._∷_ 103 (List._∷_ 58 (List._∷_ 58 (List._∷_ 87 (List._∷_ 111 (List._∷_ 114 (List._∷_ 100 List.[])))))))))))))))))) (Syntax.ttcons Syntax.tnil (Syntax.ttcons Syntax.tnil (Syntax.ttcons Syntax.tnil (Syntax.ttcons Syntax.tnil (Syntax.ttcons Syntax.tnil Syntax.ttnil)))))) (Syntax.tcons (Syntax.tyInt Syntax.w8) Syntax.tnil)) (Syntax.ttcons Syntax.tnil (Syntax.ttcons (Syntax.tcons (Syntax.tyEnum (List._∷_ 116 (List._∷_ 101 (List._∷_ 120 (List._∷_ 116 (List._∷_ 95 (List._∷_ 104 (List._∷_ 101 (List._∷_ 97 (List._∷_ 100 (List._∷_ 105 (List._∷_ 110 (List._∷_ 103 (List._∷_ 58 (List._∷_ 58 (List._∷_ 72 (List._∷_ 101 (List._∷_ 97 (List._∷_ 100 (List._∷_ 105 (List._∷_ 110 (List._∷_ 103 (List._∷_ 70 (List._∷_ 97 (List._∷_ 117 (List._∷_ 108 (List._∷_ 116 List.[])))))))))))))))))))))))))) (Syntax.ttcons Syntax.tnil (Syntax.ttcons Syntax.tnil (Syntax.ttcons Syntax.tnil (Syntax.ttcons Syntax.tnil (Syntax.ttcons (Syntax.tcons (Syntax.tyEnum (List._∷_ 116 (List._∷_ 101 (List._∷_ 120 (List._∷_ 116 (List._∷_ 95 (List._∷_ 104 (List._∷_ 101 (List._∷_ 97 (List._∷_ 100 (List._∷_ 105 (List._∷_ 110 (List._∷_ 103 (List._∷_ 58 (List._∷_ 58 (List._∷_ 87 (List._∷_ 111 (List._∷_ 114 (List._∷_ 100 List.[])))))))))))))))))) (Syntax.ttcons Syntax.tnil (Syntax.ttcons Syntax.tnil (Syntax.ttcons Syntax.tnil (Syntax.ttcons Syntax.tnil (Syntax.ttcons Syntax.tnil Syntax.ttnil)))))) Syntax.tnil) Syntax.ttnil)))))) Syntax.tnil) Syntax.ttnil)))))) Syntax.tnil)))) Syntax.tnil) (Syntax.ttcons Syntax.tnil (Syntax.ttcons (Syntax.tcons (Syntax.tyInt Syntax.w8) Syntax.tnil) (Syntax.ttcons Syntax.tnil (Syntax.ttcons (Syntax.tcons (Syntax.tyEnum (List._∷_ 116 (List._∷_ 101 (List._∷_ 120 (List._∷_ 116 (List._∷_ 95 (List._∷_ 114 (List._∷_ 101 (List._∷_ 97 (List._∷_ 100 (List._∷_ 105 (List._∷_ 110 (List._∷_ 103 (List._∷_ 58 (List._∷_ 58 (List._∷_ 70 (List._∷_ 97 (List._∷_ 117 (List._∷_ 108 (List._∷_ 116 List.[]))))))))))))))))))) (Syntax.ttcons (Syntax.tcons (Syntax.tyEnum (List._∷_ 116 (List._∷_ 101 (List._∷_ 120 (List._∷_ 116 (List._∷_ 95 (List._∷_ 104 (List._∷_ 101 (List._∷_ 97 (List._∷_ 100 (List._∷_ 105 (List._∷_ 110 (List._∷_ 103 (List._∷_ 58 (List._∷_ 58 (List._∷_ 72 (List._∷_ 101 (List._∷_ 97 (List._∷_ 100 (List._∷_ 105 (List._∷_ 110 (List._∷_ 103 (List._∷_ 70 (List._∷_ 97 (List._∷_ 117 (List._∷_ 108 (List._∷_ 116 List.[])))))))))))))))))))))))))) (Syntax.ttcons Syntax.tnil (Syntax.ttcons Syntax.tnil (Syntax.ttcons Syntax.tnil (Syntax.ttcons Syntax.tnil (Syntax.ttcons (Syntax.tcons (Syntax.tyEnum (List._∷_ 116 (List._∷_ 101 (List._∷_ 120 (List._∷_ 116 (List._∷_ 95 (List._∷_ 104 (List._∷_ 101 (List._∷_ 97 (List._∷_ 100 (List._∷_ 105 (List._∷_ 110 (List._∷_ 103 (List._∷_ 58 (List._∷_ 58 (List._∷_ 87 (List._∷_ 111 (List._∷_ 114 (List._∷_ 100 List.[])))))))))))))))))) (Syntax.ttcons Syntax.tnil (Syntax.ttcons Syntax.tnil (Syntax.ttcons Syntax.tnil (Syntax.ttcons Syntax.tnil (Syntax.ttcons Syntax.tnil Syntax.ttnil)))))) Syntax.tnil) Syntax.ttnil)))))) Syntax.tnil) (Syntax.ttcons Syntax.tnil (Syntax.ttcons Syntax.tnil Syntax.ttnil)))) Syntax.tnil) Syntax.ttnil)))))))) (Syntax.tcons (Syntax.tyArray (Syntax.tyInt Syntax.w8) 32) (Syntax.tcons (Syntax.tyInt Syntax.w64) Syntax.tnil))))))) (List._∷_ (9, Rows.sc-here (Row.sInt Syntax.w64)) (List._∷_ (10, Rows.any-gone (Syntax.tyRef Syntax.erased Syntax.mut OfOutput.named)) (List._∷_ (11, Rows.any-gone (Syntax.tyStruct (List._∷_ 38 (List._∷_ 91 (List._∷_ 93 List.[]))) (Syntax.tcons (Syntax.tyRef Syntax.erased Syntax.mut OfOutput.named) (Syntax.tcons (Syntax.tyInt Syntax.w64) Syntax.tnil)))) (List._∷_ (12, Rows.any-gone (Syntax.tyRef Syntax.erased Syntax.mut OfStation.named)) (List._∷_ (13, Rows.any-gone (Syntax.tyStruct (List._∷_ 38 (List._∷_ 91 (List._∷_ 93 List.[]))) (Syntax.tcons (Syntax.tyRef Syntax.erased Syntax.mut OfStation.named) (Syntax.tcons (Syntax.tyInt Syntax.w64) Syntax.tnil)))) (List._∷_ (14, Rows.any-gone (Syntax.tyRef Syntax.erased Syntax.mut OfPanelRecord.named)) (List._∷_ (15, Rows.any-gone (Syntax.tyRef Syntax.erased Syntax.mut (Syntax.tyInt Syntax.w8))) List.[])))))))))))))))
 
 abbrev pub t43 : List.List Row.Entry
 t43 = List._∷_ (16, Rows.any-gone (Syntax.tyStruct (List._∷_ 38 (List._∷_ 91 (List._∷_ 93 List.[]))) (Syntax.tcons (Syntax.tyRef Syntax.erased Syntax.mut (Syntax.tyInt Syntax.w8)) (Syntax.tcons (Syntax.tyInt Syntax.w64) Syntax.tnil)))) (List._∷_ (17, Rows.any-gone (Syntax.tyRef Syntax.erased Syntax.mut (Syntax.tyInt Syntax.w8))) (List._∷_ (18, Rows.any-gone (Syntax.tyStruct (List._∷_ 38 (List._∷_ 91 (List._∷_ 93 List.[]))) (Syntax.tcons (Syntax.tyRef Syntax.erased Syntax.mut (Syntax.tyInt Syntax.w8)) (Syntax.tcons (Syntax.tyInt Syntax.w64) Syntax.tnil)))) (List._∷_ (19, Rows.any-gone Syntax.tyBool) (List._∷_ (20, Rows.any-gone (Syntax.tyRef Syntax.erased Syntax.mut OfOutput.named)) (List._∷_ (21, Rows.any-gone (Syntax.tyStruct (List._∷_ 38 (List._∷_ 91 (List._∷_ 93 List.[]))) (Syntax.tcons (Syntax.tyRef Syntax.erased Syntax.mut OfOutput.named) (Syntax.tcons (Syntax.tyInt Syntax.w64) Syntax.tnil)))) (List._∷_ (22, Rows.any-gone (Syntax.tyRef Syntax.erased Syntax.mut OfStation.named)) (List._∷_ (23, Rows.any-gone (Syntax.tyStruct (List._∷_ 38 (List._∷_ 91 (List._∷_ 93 List.[]))) (Syntax.tcons (Syntax.tyRef Syntax.erased Syntax.mut OfStation.named) (Syntax.tcons (Syntax.tyInt Syntax.w64) Syntax.tnil)))) (List._∷_ (24, Rows.mleft (OfPanelRecord.row) (Syntax.tyRef Syntax.erased Syntax.mut OfPanelRecord.named)) (List._∷_ (25, Rows.any-gone (Syntax.tyRef Syntax.erased Syntax.mut (Syntax.tyInt Syntax.w8))) (List._∷_ (26, Mut.msleft (Referent.rtF (Referent.fInt Syntax.w8)) (Syntax.tyRef Syntax.erased Syntax.mut (Syntax.tyInt Syntax.w8))) (List._∷_ (27, Rows.any-gone Syntax.tyUnit) (List._∷_ (28, Rows.any-gone (Syntax.tyRef Syntax.erased Syntax.imm (Syntax.tyInt Syntax.w8))) (List._∷_ (29, Rows.any-gone (Syntax.tyStruct (List._∷_ 38 (List._∷_ 91 (List._∷_ 93 List.[]))) (Syntax.tcons (Syntax.tyRef Syntax.erased Syntax.imm (Syntax.tyInt Syntax.w8)) (Syntax.tcons (Syntax.tyInt Syntax.w64) Syntax.tnil)))) (List._∷_ (30, Rows.any-gone Syntax.tyUnit) (List._∷_ (31, Rows.any-gone (Syntax.tyRef Syntax.erased Syntax.imm (Syntax.tyInt Syntax.w8))) List.[])))))))))))))))
 
 abbrev pub t44 : List.List Row.Entry
-t44 = List._∷_ (0, Rows.any-gone Syntax.tyUnit) (List._∷_ (1, Mut.mslice (OfOutput.row) (Syntax.tyRef (Syntax.named 0) Syntax.mut OfOutput.named) 0) (List._∷_ (2, Mut.mslice (OfStation.row) (Syntax.tyRef (Syntax.named 1) Syntax.mut OfStation.named) 1) (List._∷_ (3, Rows.mref (OfPanelRecord.row) (Syntax.tyRef (Syntax.named 2) Syntax.mut OfPanelRecord.named) 2) (List._∷_ (4, Relend.mslice-owed (Referent.rtF (Referent.fInt Syntax.w8)) (Syntax.tyRef (Syntax.named 3) Syntax.mut (Syntax.tyInt Syntax.w8)) 3 13 Row.off) (List._∷_ (5, Mut.mslice (Referent.rtF (Referent.fInt Syntax.w8)) (Syntax.tyRef (Syntax.named 4) Syntax.mut (Syntax.tyInt Syntax.w8)) 4) (List._∷_ (6, Rows.sc-here Row.sBool) (List._∷_ (7, Rows.any-gone (Laws.mir)) (List._∷_ (8, Rows.any-gone (Syntax.tyStruct (List._∷_ 116 (List._∷_ 101 (List._∷_ 120 (List._∷_ 116 (List._∷_ 95 (List._∷_ 114 (List._∷_ 101 (List._∷_ 97 (List._∷_ 100 (List._∷_ 105 (List._∷_ 110 (List._∷_ 103 (List._∷_ 58 (List._∷_ 58 (List._∷_ 82 (List._∷_ 101 (List._∷_ 97 (List._∷_ 100 (List._∷_ 101 (List._∷_ 114 List.[])))))))))))))))))))) (Syntax.tcons Syntax.tyBool (Syntax.tcons (Syntax.tyInt Syntax.w64) (Syntax.tcons (Syntax.tyEnum (List._∷_ 116 (List._∷_ 101 (List._∷_ 120 (List._∷_ 116 (List._∷_ 95 (List._∷_ 114 (List._∷_ 101 (List._∷_ 97 (List._∷_ 100 (List._∷_ 105 (List._∷_ 110 (List._∷_ 103 (List._∷_ 58 (List._∷_ 58 (List._∷_ 72 (List._∷_ 101 (List._∷_ 108 (List._∷_ 100 List.[])))))))))))))))))) (Syntax.ttcons Syntax.tnil (Syntax.ttcons Syntax.tnil (Syntax.ttcons (Syntax.tcons (Syntax.tyStruct (List._∷_ 116 (List._∷_ 101 (List._∷_ 120 (List._∷_ 116 (List._∷_ 95 (List._∷_ 104 (List._∷_ 101 (List._∷_ 97 (List._∷_ 100 (List._∷_ 105 (List._∷_ 110 (List._∷_ 103 (List._∷_ 58 (List._∷_ 58 (List._∷_ 72 (List._∷_ 101 (List._∷_ 97 (List._∷_ 100 (List._∷_ 105 (List._∷_ 110 (List._∷_ 103 List.[]))))))))))))))))))))) (Syntax.tcons (IsParameters.mir) (Syntax.tcons (Syntax.tyStruct (List._∷_ 116 (List._∷_ 101 (List._∷_ 120 (List._∷_ 116 (List._∷_ 95 (List._∷_ 104 (List._∷_ 101 (List._∷_ 97 (List._∷_ 100 (List._∷_ 105 (List._∷_ 110 (List._∷_ 103 (List._∷_ 58 (List._∷_ 58 (List._∷_ 67 (List._∷_ 97 (List._∷_ 109 (List._∷_ 101 List.[])))))))))))))))))) (Syntax.tcons Syntax.tyBool (Syntax.tcons Syntax.tyBool (Syntax.tcons Syntax.tyBool Syntax.tnil)))) (Syntax.tcons (Syntax.tyEnum (List._∷_ 116 (List._∷_ 101 (List._∷_ 120 (List._∷_ 116 (List._∷_ 95 (List._∷_ 104 (List._∷_ 101 (List._∷_ 97 (List._∷_ 100 (List._∷_ 105 (List._∷_ 110 (List._∷_ 103 (List._∷_ 58 (List._∷_ 58 (List._∷_ 80 (List._∷_ 108 (List._∷_ 97 (List._∷_ 99 (List._∷_ 101 List.[]))))))))))))))))))) (Syntax.ttcons (Syntax.tcons (Syntax.tyEnum (List._∷_ 116 (List._∷_ 101 (List._∷_ 120 (List._∷_ 116 (List._∷_ 95 (List._∷_ 104 (List._∷_ 101 (List._∷_ 97 (List._∷_ 100 (List._∷_ 105 (List._∷_ 110 (List._∷_ 103 (List._∷_ 58 (List._∷_ 58 (List._∷_ 87 (List._∷_ 111 (List._∷_ 114 (List._∷_ 100 List.[])))))))))))))))))) (Syntax.ttcons Syntax.tnil (Syntax.ttcons Syntax.tnil (Syntax.ttcons Syntax.tnil (Syntax.ttcons Syntax.tnil Syntax.ttnil))))) (Syntax.tcons (Syntax.tyInt Syntax.w8) Syntax.tnil)) (Syntax.ttcons (Syntax.tcons (Syntax.tyEnum (List._∷_ 116 (List._∷_ 101 (List._∷_ 120 (List._∷_ 116 (List._∷_ 95 (List._∷_ 104 (List._∷_ 101 (List._∷_ 97 (List._∷_ 100 (List._∷_ 105 (List._∷_ 110 (List._∷_ 103 (List._∷_ 58 (List._∷_ 58 (List._∷_ 87 (List._∷_ 111 (List._∷_ 114 (List._∷_ 100 List.[])))))))))))))))))) (Syntax.ttcons Syntax.tnil (Syntax.ttcons Syntax.tnil (Syntax.ttcons Syntax.tnil (Syntax.ttcons Syntax.tnil Syntax.ttnil))))) Syntax.tnil) (Syntax.ttcons (Syntax.tcons (Syntax.tyEnum (List._∷_ 116 (List._∷_ 101 (List._∷_ 120 (List._∷_ 116 (List._∷_ 95 (List._∷_ 104 (List._∷_ 101 (List._∷_ 97 (List._∷_ 100 (List._∷_ 105 (List._∷_ 110 (List._∷_ 103 (List._∷_ 58 (List._∷_ 58 (List._∷_ 87 (List._∷_ 111 (List._∷_ 114 (List._∷_ 100 List.[])))))))))))))))))) (Syntax.ttcons Syntax.tnil (Syntax.ttcons Syntax.tnil (Syntax.ttcons Syntax.tnil (Syntax.ttcons Syntax.tnil Syntax.ttnil))))) Syntax.tnil) (Syntax.ttcons Syntax.tnil (Syntax.ttcons (Syntax.tcons (Syntax.tyEnum (List._∷_ 116 (List._∷_ 101 (List._∷_ 120 (List._∷_ 116 (List._∷_ 95 (List._∷_ 104 (List._∷_ 101 (List._∷_ 97 (List._∷_ 100 (List._∷_ 105 (List._∷_ 110 (List._∷_ 103 (List._∷_ 58 (List._∷_ 58 (List._∷_ 72 (List._∷_ 101 (List._∷_ 97 (List._∷_ 100 (List._∷_ 105 (List._∷_ 110 (List._∷_ 103 (List._∷_ 70 (List._∷_ 97 (List._∷_ 117 (List._∷_ 108 (List._∷_ 116 List.[])))))))))))))))))))))))))) (Syntax.ttcons Syntax.tnil (Syntax.ttcons Syntax.tnil (Syntax.ttcons Syntax.tnil (Syntax.ttcons (Syntax.tcons (Syntax.tyEnum (List._∷_ 116 (List._∷_ 101 (List._∷_ 120 (List._∷_ 116 (List._∷_ 95 (List._∷_ 104 (List._∷_ 101 (List._∷_ 97 (List._∷_ 100 (List._∷_ 105 (List._∷_ 110 (List._∷_ 103 (List._∷_ 58 (List._∷_ 58 (List._∷_ 87 (List._∷_ 111 (List._∷_ 114 (List._∷_ 100 List.[])))))))))))))))))) (Syntax.ttcons Syntax.tnil (Syntax.ttcons Syntax.tnil (Syntax.ttcons Syntax.tnil (Syntax.ttcons Syntax.tnil Syntax.ttnil))))) Syntax.tnil) Syntax.ttnil))))) Syntax.tnil) Syntax.ttnil)))))) Syntax.tnil)))) Syntax.tnil) (Syntax.ttcons Syntax.tnil (Syntax.ttcons (Syntax.tcons (Syntax.tyInt Syntax.w8) Syntax.tnil) (Syntax.ttcons Syntax.tnil (Syntax.ttcons (Syntax.tcons (Syntax.tyEnum (List._∷_ 116 (List._∷_ 101 (List._∷_ 120 (List._∷_ 116 (List._∷_ 95 (List._∷_ 114 (List._∷_ 101 (List._∷_ 97 (List._∷_ 100 (List._∷_ 105 (List._∷_ 110 (List._∷_ 103 (List._∷_ 58 (List._∷_ 58 (List._∷_ 70 (List._∷_ 97 (List._∷_ 117 (List._∷_ 108 (List._∷_ 116 List.[]))))))))))))))))))) (Syntax.ttcons (Syntax.tcons (Syntax.tyEnum (List._∷_ 116 (List._∷_ 101 (List._∷_ 120 (List._∷_ 116 (List._∷_ 95 (List._∷_ 104 (List._∷_ 101 (List._∷_ 97 (List._∷_ 100 (List._∷_ 105 (List._∷_ 110 (List._∷_ 103 (List._∷_ 58 (List._∷_ 58 (List._∷_ 72 (List._∷_ 101 (List._∷_ 97 (List._∷_ 100 (List._∷_ 105 (List._∷_ 110 (List._∷_ 103 (List._∷_ 70 (List._∷_ 97 (List._∷_ 117 (List._∷_ 108 (List._∷_ 116 List.[])))))))))))))))))))))))))) (Syntax.ttcons Syntax.tnil (Syntax.ttcons Syntax.tnil (Syntax.ttcons Syntax.tnil (Syntax.ttcons (Syntax.tcons (Syntax.tyEnum (List._∷_ 116 (List._∷_ 101 (List._∷_ 120 (List._∷_ 116 (List._∷_ 95 (List._∷_ 104 (List._∷_ 101 (List._∷_ 97 (List._∷_ 100 (List._∷_ 105 (List._∷_ 110 (List._∷_ 103 (List._∷_ 58 (List._∷_ 58 (List._∷_ 87 (List._∷_ 111 (List._∷_ 114 (List._∷_ 100 List.[])))))))))))))))))) (Syntax.ttcons Syntax.tnil (Syntax.ttcons Syntax.tnil (Syntax.ttcons Syntax.tnil (Syntax.ttcons Syntax.tnil Syntax.ttnil))))) Syntax.tnil) Syntax.ttnil))))) Syntax.tnil) (Syntax.ttcons Syntax.tnil (Syntax.ttcons Syntax.tnil Syntax.ttnil)))) Syntax.tnil) Syntax.ttnil)))))))) (Syntax.tcons (Syntax.tyArray (Syntax.tyInt Syntax.w8) 32) (Syntax.tcons (Syntax.tyInt Syntax.w64) Syntax.tnil))))))) (List._∷_ (9, Rows.sc-here (Row.sInt Syntax.w64)) (List._∷_ (10, Rows.any-gone (Syntax.tyRef Syntax.erased Syntax.mut OfOutput.named)) (List._∷_ (11, Rows.any-gone (Syntax.tyStruct (List._∷_ 38 (List._∷_ 91 (List._∷_ 93 List.[]))) (Syntax.tcons (Syntax.tyRef Syntax.erased Syntax.mut OfOutput.named) (Syntax.tcons (Syntax.tyInt Syntax.w64) Syntax.tnil)))) (List._∷_ (12, Rows.any-gone (Syntax.tyRef Syntax.erased Syntax.mut OfStation.named)) (List._∷_ (13, Rows.any-gone (Syntax.tyStruct (List._∷_ 38 (List._∷_ 91 (List._∷_ 93 List.[]))) (Syntax.tcons (Syntax.tyRef Syntax.erased Syntax.mut OfStation.named) (Syntax.tcons (Syntax.tyInt Syntax.w64) Syntax.tnil)))) (List._∷_ (14, Rows.any-gone (Syntax.tyRef Syntax.erased Syntax.mut OfPanelRecord.named)) (List._∷_ (15, Rows.any-gone (Syntax.tyRef Syntax.erased Syntax.mut (Syntax.tyInt Syntax.w8))) List.[])))))))))))))))
+t44 = List._∷_ (0, Rows.any-gone Syntax.tyUnit) (List._∷_ (1, Mut.mslice (OfOutput.row) (Syntax.tyRef (Syntax.named 0) Syntax.mut OfOutput.named) 0) (List._∷_ (2, Mut.mslice (OfStation.row) (Syntax.tyRef (Syntax.named 1) Syntax.mut OfStation.named) 1) (List._∷_ (3, Rows.mref (OfPanelRecord.row) (Syntax.tyRef (Syntax.named 2) Syntax.mut OfPanelRecord.named) 2) (List._∷_ (4, Relend.mslice-owed (Referent.rtF (Referent.fInt Syntax.w8)) (Syntax.tyRef (Syntax.named 3) Syntax.mut (Syntax.tyInt Syntax.w8)) 3 13 Row.off) (List._∷_ (5, Mut.mslice (Referent.rtF (Referent.fInt Syntax.w8)) (Syntax.tyRef (Syntax.named 4) Syntax.mut (Syntax.tyInt Syntax.w8)) 4) (List._∷_ (6, Rows.sc-here Row.sBool) (List._∷_ (7, Rows.any-gone (Laws.mir)) (List._∷_ (8, Rows.any-gone (Syntax.tyStruct (List._∷_ 116 (List._∷_ 101 (List._∷_ 120 (List._∷_ 116 (List._∷_ 95 (List._∷_ 114 (List._∷_ 101 (List._∷_ 97 (List._∷_ 100 (List._∷_ 105 (List._∷_ 110 (List._∷_ 103 (List._∷_ 58 (List._∷_ 58 (List._∷_ 82 (List._∷_ 101 (List._∷_ 97 (List._∷_ 100 (List._∷_ 101 (List._∷_ 114 List.[])))))))))))))))))))) (Syntax.tcons Syntax.tyBool (Syntax.tcons (Syntax.tyInt Syntax.w64) (Syntax.tcons (Syntax.tyEnum (List._∷_ 116 (List._∷_ 101 (List._∷_ 120 (List._∷_ 116 (List._∷_ 95 (List._∷_ 114 (List._∷_ 101 (List._∷_ 97 (List._∷_ 100 (List._∷_ 105 (List._∷_ 110 (List._∷_ 103 (List._∷_ 58 (List._∷_ 58 (List._∷_ 72 (List._∷_ 101 (List._∷_ 108 (List._∷_ 100 List.[])))))))))))))))))) (Syntax.ttcons Syntax.tnil (Syntax.ttcons Syntax.tnil (Syntax.ttcons (Syntax.tcons (Syntax.tyStruct (List._∷_ 116 (List._∷_ 101 (List._∷_ 120 (List._∷_ 116 (List._∷_ 95 (List._∷_ 104 (List._∷_ 101 (List._∷_ 97 (List._∷_ 100 (List._∷_ 105 (List._∷_ 110 (List._∷_ 103 (List._∷_ 58 (List._∷_ 58 (List._∷_ 72 (List._∷_ 101 (List._∷_ 97 (List._∷_ 100 (List._∷_ 105 (List._∷_ 110 (List._∷_ 103 List.[]))))))))))))))))))))) (Syntax.tcons (Syntax.tyStruct (List._∷_ 116 (List._∷_ 101 (List._∷_ 120 (List._∷_ 116 (List._∷_ 95 (List._∷_ 104 (List._∷_ 101 (List._∷_ 97 (List._∷_ 100 (List._∷_ 105 (List._∷_ 110 (List._∷_ 103 (List._∷_ 58 (List._∷_ 58 (List._∷_ 78 (List._∷_ 97 (List._∷_ 109 (List._∷_ 101 (List._∷_ 100 List.[]))))))))))))))))))) (Syntax.tcons (IsParameters.mir) (Syntax.tcons (Syntax.tyInt Syntax.w32) Syntax.tnil))) (Syntax.tcons (Syntax.tyStruct (List._∷_ 116 (List._∷_ 101 (List._∷_ 120 (List._∷_ 116 (List._∷_ 95 (List._∷_ 104 (List._∷_ 101 (List._∷_ 97 (List._∷_ 100 (List._∷_ 105 (List._∷_ 110 (List._∷_ 103 (List._∷_ 58 (List._∷_ 58 (List._∷_ 67 (List._∷_ 97 (List._∷_ 109 (List._∷_ 101 List.[])))))))))))))))))) (Syntax.tcons Syntax.tyBool (Syntax.tcons Syntax.tyBool (Syntax.tcons Syntax.tyBool (Syntax.tcons Syntax.tyBool Syntax.tnil))))) (Syntax.tcons (Syntax.tyEnum (List._∷_ 116 (List._∷_ 101 (List._∷_ 120 (List._∷_ 116 (List._∷_ 95 (List._∷_ 104 (List._∷_ 101 (List._∷_ 97 (List._∷_ 100 (List._∷_ 105 (List._∷_ 110 (List._∷_ 103 (List._∷_ 58 (List._∷_ 58 (List._∷_ 80 (List._∷_ 108 (List._∷_ 97 (List._∷_ 99 (List._∷_ 101 List.[]))))))))))))))))))) (Syntax.ttcons (Syntax.tcons (Syntax.tyEnum (List._∷_ 116 (List._∷_ 101 (List._∷_ 120 (List._∷_ 116 (List._∷_ 95 (List._∷_ 104 (List._∷_ 101 (List._∷_ 97 (List._∷_ 100 (List._∷_ 105 (List._∷_ 110 (List._∷_ 103 (List._∷_ 58 (List._∷_ 58 (List._∷_ 87 (List._∷_ 111 (List._∷_ 114 (List._∷_ 100 List.[])))))))))))))))))) (Syntax.ttcons Syntax.tnil (Syntax.ttcons Syntax.tnil (Syntax.ttcons Syntax.tnil (Syntax.ttcons Syntax.tnil (Syntax.ttcons Syntax.tnil Syntax.ttnil)))))) (Syntax.tcons (Syntax.tyInt Syntax.w8) Syntax.tnil)) (Syntax.ttcons (Syntax.tcons (Syntax.tyEnum (List._∷_ 116 (List._∷_ 101 (List._∷_ 120 (List._∷_ 116 (List._∷_ 95 (List._∷_ 104 (List._∷_ 101 (List._∷_ 97 (List._∷_ 100 (List._∷_ 105 (List._∷_ 110 (List._∷_ 103 (List._∷_ 58 (List._∷_ 58 (List._∷_ 87 (List._∷_ 111 (List._∷_ 114 (List._∷_ 100 List.[])))))))))))))))))) (Syntax.ttcons Syntax.tnil (Syntax.ttcons Syntax.tnil (Syntax.ttcons Syntax.tnil (Syntax.ttcons Syntax.tnil (Syntax.ttcons Syntax.tnil Syntax.ttnil)))))) Syntax.tnil) (Syntax.ttcons (Syntax.tcons (Syntax.tyEnum (List._∷_ 116 (List._∷_ 101 (List._∷_ 120 (List._∷_ 116 (List._∷_ 95 (List._∷_ 104 (List._∷_ 101 (List._∷_ 97 (List._∷_ 100 (List._∷_ 105 (List._∷_ 110 (List._∷_ 103 (List._∷_ 58 (List._∷_ 58 (List._∷_ 87 (List._∷_ 111 (List._∷_ 114 (List._∷_ 100 List.[])))))))))))))))))) (Syntax.ttcons Syntax.tnil (Syntax.ttcons Syntax.tnil (Syntax.ttcons Syntax.tnil (Syntax.ttcons Syntax.tnil (Syntax.ttcons Syntax.tnil Syntax.ttnil)))))) (Syntax.tcons (Syntax.tyInt Syntax.w8) Syntax.tnil)) (Syntax.ttcons Syntax.tnil (Syntax.ttcons (Syntax.tcons (Syntax.tyEnum (List._∷_ 116 (List._∷_ 101 (List._∷_ 120 (List._∷_ 116 (List._∷_ 95 (List._∷_ 104 (List._∷_ 101 (List._∷_ 97 (List._∷_ 100 (List._∷_ 105 (List._∷_ 110 (List._∷_ 103 (List._∷_ 58 (List._∷_ 58 (List._∷_ 72 (List._∷_ 101 (List._∷_ 97 (List._∷_ 100 (List._∷_ 105 (List._∷_ 110 (List._∷_ 103 (List._∷_ 70 (List._∷_ 97 (List._∷_ 117 (List._∷_ 108 (List._∷_ 116 List.[])))))))))))))))))))))))))) (Syntax.ttcons Syntax.tnil (Syntax.ttcons Syntax.tnil (Syntax.ttcons Syntax.tnil (Syntax.ttcons Syntax.tnil (Syntax.ttcons (Syntax.tcons (Syntax.tyEnum (List._∷_ 116 (List._∷_ 101 (List._∷_ 120 (List._∷_ 116 (List._∷_ 95 (List._∷_ 104 (List._∷_ 101 (List._∷_ 97 (List._∷_ 100 (List._∷_ 105 (List._∷_ 110 (List._∷_ 103 (List._∷_ 58 (List._∷_ 58 (List._∷_ 87 (List._∷_ 111 (List._∷_ 114 (List._∷_ 100 List.[])))))))))))))))))) (Syntax.ttcons Syntax.tnil (Syntax.ttcons Syntax.tnil (Syntax.ttcons Syntax.tnil (Syntax.ttcons Syntax.tnil (Syntax.ttcons Syntax.tnil Syntax.ttnil)))))) Syntax.tnil) Syntax.ttnil)))))) Syntax.tnil) Syntax.ttnil)))))) Syntax.tnil)))) Syntax.tnil) (Syntax.ttcons Syntax.tnil (Syntax.ttcons (Syntax.tcons (Syntax.tyInt Syntax.w8) Syntax.tnil) (Syntax.ttcons Syntax.tnil (Syntax.ttcons (Syntax.tcons (Syntax.tyEnum (List._∷_ 116 (List._∷_ 101 (List._∷_ 120 (List._∷_ 116 (List._∷_ 95 (List._∷_ 114 (List._∷_ 101 (List._∷_ 97 (List._∷_ 100 (List._∷_ 105 (List._∷_ 110 (List._∷_ 103 (List._∷_ 58 (List._∷_ 58 (List._∷_ 70 (List._∷_ 97 (List._∷_ 117 (List._∷_ 108 (List._∷_ 116 List.[]))))))))))))))))))) (Syntax.ttcons (Syntax.tcons (Syntax.tyEnum (List._∷_ 116 (List._∷_ 101 (List._∷_ 120 (List._∷_ 116 (List._∷_ 95 (List._∷_ 104 (List._∷_ 101 (List._∷_ 97 (List._∷_ 100 (List._∷_ 105 (List._∷_ 110 (List._∷_ 103 (List._∷_ 58 (List._∷_ 58 (List._∷_ 72 (List._∷_ 101 (List._∷_ 97 (List._∷_ 100 (List._∷_ 105 (List._∷_ 110 (List._∷_ 103 (List._∷_ 70 (List._∷_ 97 (List._∷_ 117 (List._∷_ 108 (List._∷_ 116 List.[])))))))))))))))))))))))))) (Syntax.ttcons Syntax.tnil (Syntax.ttcons Syntax.tnil (Syntax.ttcons Syntax.tnil (Syntax.ttcons Syntax.tnil (Syntax.ttcons (Syntax.tcons (Syntax.tyEnum (List._∷_ 116 (List._∷_ 101 (List._∷_ 120 (List._∷_ 116 (List._∷_ 95 (List._∷_ 104 (List._∷_ 101 (List._∷_ 97 (List._∷_ 100 (List._∷_ 105 (List._∷_ 110 (List._∷_ 103 (List._∷_ 58 (List._∷_ 58 (List._∷_ 87 (List._∷_ 111 (List._∷_ 114 (List._∷_ 100 List.[])))))))))))))))))) (Syntax.ttcons Syntax.tnil (Syntax.ttcons Syntax.tnil (Syntax.ttcons Syntax.tnil (Syntax.ttcons Syntax.tnil (Syntax.ttcons Syntax.tnil Syntax.ttnil)))))) Syntax.tnil) Syntax.ttnil)))))) Syntax.tnil) (Syntax.ttcons Syntax.tnil (Syntax.ttcons Syntax.tnil Syntax.ttnil)))) Syntax.tnil) Syntax.ttnil)))))))) (Syntax.tcons (Syntax.tyArray (Syntax.tyInt Syntax.w8) 32) (Syntax.tcons (Syntax.tyInt Syntax.w64) Syntax.tnil))))))) (List._∷_ (9, Rows.sc-here (Row.sInt Syntax.w64)) (List._∷_ (10, Rows.any-gone (Syntax.tyRef Syntax.erased Syntax.mut OfOutput.named)) (List._∷_ (11, Rows.any-gone (Syntax.tyStruct (List._∷_ 38 (List._∷_ 91 (List._∷_ 93 List.[]))) (Syntax.tcons (Syntax.tyRef Syntax.erased Syntax.mut OfOutput.named) (Syntax.tcons (Syntax.tyInt Syntax.w64) Syntax.tnil)))) (List._∷_ (12, Rows.any-gone (Syntax.tyRef Syntax.erased Syntax.mut OfStation.named)) (List._∷_ (13, Rows.any-gone (Syntax.tyStruct (List._∷_ 38 (List._∷_ 91 (List._∷_ 93 List.[]))) (Syntax.tcons (Syntax.tyRef Syntax.erased Syntax.mut OfStation.named) (Syntax.tcons (Syntax.tyInt Syntax.w64) Syntax.tnil)))) (List._∷_ (14, Rows.any-gone (Syntax.tyRef Syntax.erased Syntax.mut OfPanelRecord.named)) (List._∷_ (15, Rows.any-gone (Syntax.tyRef Syntax.erased Syntax.mut (Syntax.tyInt Syntax.w8))) List.[])))))))))))))))
 
 abbrev pub t45 : List.List Row.Entry
 t45 = List._∷_ (16, Rows.any-gone (Syntax.tyStruct (List._∷_ 38 (List._∷_ 91 (List._∷_ 93 List.[]))) (Syntax.tcons (Syntax.tyRef Syntax.erased Syntax.mut (Syntax.tyInt Syntax.w8)) (Syntax.tcons (Syntax.tyInt Syntax.w64) Syntax.tnil)))) (List._∷_ (17, Rows.any-gone (Syntax.tyRef Syntax.erased Syntax.mut (Syntax.tyInt Syntax.w8))) (List._∷_ (18, Rows.any-gone (Syntax.tyStruct (List._∷_ 38 (List._∷_ 91 (List._∷_ 93 List.[]))) (Syntax.tcons (Syntax.tyRef Syntax.erased Syntax.mut (Syntax.tyInt Syntax.w8)) (Syntax.tcons (Syntax.tyInt Syntax.w64) Syntax.tnil)))) (List._∷_ (19, Rows.any-gone Syntax.tyBool) (List._∷_ (20, Rows.any-gone (Syntax.tyRef Syntax.erased Syntax.mut OfOutput.named)) (List._∷_ (21, Rows.any-gone (Syntax.tyStruct (List._∷_ 38 (List._∷_ 91 (List._∷_ 93 List.[]))) (Syntax.tcons (Syntax.tyRef Syntax.erased Syntax.mut OfOutput.named) (Syntax.tcons (Syntax.tyInt Syntax.w64) Syntax.tnil)))) (List._∷_ (22, Rows.any-gone (Syntax.tyRef Syntax.erased Syntax.mut OfStation.named)) (List._∷_ (23, Rows.any-gone (Syntax.tyStruct (List._∷_ 38 (List._∷_ 91 (List._∷_ 93 List.[]))) (Syntax.tcons (Syntax.tyRef Syntax.erased Syntax.mut OfStation.named) (Syntax.tcons (Syntax.tyInt Syntax.w64) Syntax.tnil)))) (List._∷_ (24, Rows.any-gone (Syntax.tyRef Syntax.erased Syntax.mut OfPanelRecord.named)) (List._∷_ (25, Rows.any-gone (Syntax.tyRef Syntax.erased Syntax.mut (Syntax.tyInt Syntax.w8))) (List._∷_ (26, Mut.msleft (Referent.rtF (Referent.fInt Syntax.w8)) (Syntax.tyRef Syntax.erased Syntax.mut (Syntax.tyInt Syntax.w8))) (List._∷_ (27, Rows.any-gone Syntax.tyUnit) (List._∷_ (28, Rows.any-gone (Syntax.tyRef Syntax.erased Syntax.imm (Syntax.tyInt Syntax.w8))) (List._∷_ (29, Rows.any-gone (Syntax.tyStruct (List._∷_ 38 (List._∷_ 91 (List._∷_ 93 List.[]))) (Syntax.tcons (Syntax.tyRef Syntax.erased Syntax.imm (Syntax.tyInt Syntax.w8)) (Syntax.tcons (Syntax.tyInt Syntax.w64) Syntax.tnil)))) (List._∷_ (30, Rows.any-gone Syntax.tyUnit) (List._∷_ (31, Rows.any-gone (Syntax.tyRef Syntax.erased Syntax.imm (Syntax.tyInt Syntax.w8))) List.[])))))))))))))))
 
 abbrev pub t46 : List.List Row.Entry
-t46 = List._∷_ (0, Rows.any-gone Syntax.tyUnit) (List._∷_ (1, Mut.mslice (OfOutput.row) (Syntax.tyRef (Syntax.named 0) Syntax.mut OfOutput.named) 0) (List._∷_ (2, Mut.mslice (OfStation.row) (Syntax.tyRef (Syntax.named 1) Syntax.mut OfStation.named) 1) (List._∷_ (3, Rows.mref (OfPanelRecord.row) (Syntax.tyRef (Syntax.named 2) Syntax.mut OfPanelRecord.named) 2) (List._∷_ (4, Mut.mslice (Referent.rtF (Referent.fInt Syntax.w8)) (Syntax.tyRef (Syntax.named 3) Syntax.mut (Syntax.tyInt Syntax.w8)) 3) (List._∷_ (5, Mut.mslice (Referent.rtF (Referent.fInt Syntax.w8)) (Syntax.tyRef (Syntax.named 4) Syntax.mut (Syntax.tyInt Syntax.w8)) 4) (List._∷_ (6, Rows.sc-here Row.sBool) (List._∷_ (7, Rows.any-gone (Laws.mir)) (List._∷_ (8, Rows.any-gone (Syntax.tyStruct (List._∷_ 116 (List._∷_ 101 (List._∷_ 120 (List._∷_ 116 (List._∷_ 95 (List._∷_ 114 (List._∷_ 101 (List._∷_ 97 (List._∷_ 100 (List._∷_ 105 (List._∷_ 110 (List._∷_ 103 (List._∷_ 58 (List._∷_ 58 (List._∷_ 82 (List._∷_ 101 (List._∷_ 97 (List._∷_ 100 (List._∷_ 101 (List._∷_ 114 List.[])))))))))))))))))))) (Syntax.tcons Syntax.tyBool (Syntax.tcons (Syntax.tyInt Syntax.w64) (Syntax.tcons (Syntax.tyEnum (List._∷_ 116 (List._∷_ 101 (List._∷_ 120 (List._∷_ 116 (List._∷_ 95 (List._∷_ 114 (List._∷_ 101 (List._∷_ 97 (List._∷_ 100 (List._∷_ 105 (List._∷_ 110 (List._∷_ 103 (List._∷_ 58 (List._∷_ 58 (List._∷_ 72 (List._∷_ 101 (List._∷_ 108 (List._∷_ 100 List.[])))))))))))))))))) (Syntax.ttcons Syntax.tnil (Syntax.ttcons Syntax.tnil (Syntax.ttcons (Syntax.tcons (Syntax.tyStruct (List._∷_ 116 (List._∷_ 101 (List._∷_ 120 (List._∷_ 116 (List._∷_ 95 (List._∷_ 104 (List._∷_ 101 (List._∷_ 97 (List._∷_ 100 (List._∷_ 105 (List._∷_ 110 (List._∷_ 103 (List._∷_ 58 (List._∷_ 58 (List._∷_ 72 (List._∷_ 101 (List._∷_ 97 (List._∷_ 100 (List._∷_ 105 (List._∷_ 110 (List._∷_ 103 List.[]))))))))))))))))))))) (Syntax.tcons (IsParameters.mir) (Syntax.tcons (Syntax.tyStruct (List._∷_ 116 (List._∷_ 101 (List._∷_ 120 (List._∷_ 116 (List._∷_ 95 (List._∷_ 104 (List._∷_ 101 (List._∷_ 97 (List._∷_ 100 (List._∷_ 105 (List._∷_ 110 (List._∷_ 103 (List._∷_ 58 (List._∷_ 58 (List._∷_ 67 (List._∷_ 97 (List._∷_ 109 (List._∷_ 101 List.[])))))))))))))))))) (Syntax.tcons Syntax.tyBool (Syntax.tcons Syntax.tyBool (Syntax.tcons Syntax.tyBool Syntax.tnil)))) (Syntax.tcons (Syntax.tyEnum (List._∷_ 116 (List._∷_ 101 (List._∷_ 120 (List._∷_ 116 (List._∷_ 95 (List._∷_ 104 (List._∷_ 101 (List._∷_ 97 (List._∷_ 100 (List._∷_ 105 (List._∷_ 110 (List._∷_ 103 (List._∷_ 58 (List._∷_ 58 (List._∷_ 80 (List._∷_ 108 (List._∷_ 97 (List._∷_ 99 (List._∷_ 101 List.[]))))))))))))))))))) (Syntax.ttcons (Syntax.tcons (Syntax.tyEnum (List._∷_ 116 (List._∷_ 101 (List._∷_ 120 (List._∷_ 116 (List._∷_ 95 (List._∷_ 104 (List._∷_ 101 (List._∷_ 97 (List._∷_ 100 (List._∷_ 105 (List._∷_ 110 (List._∷_ 103 (List._∷_ 58 (List._∷_ 58 (List._∷_ 87 (List._∷_ 111 (List._∷_ 114 (List._∷_ 100 List.[])))))))))))))))))) (Syntax.ttcons Syntax.tnil (Syntax.ttcons Syntax.tnil (Syntax.ttcons Syntax.tnil (Syntax.ttcons Syntax.tnil Syntax.ttnil))))) (Syntax.tcons (Syntax.tyInt Syntax.w8) Syntax.tnil)) (Syntax.ttcons (Syntax.tcons (Syntax.tyEnum (List._∷_ 116 (List._∷_ 101 (List._∷_ 120 (List._∷_ 116 (List._∷_ 95 (List._∷_ 104 (List._∷_ 101 (List._∷_ 97 (List._∷_ 100 (List._∷_ 105 (List._∷_ 110 (List._∷_ 103 (List._∷_ 58 (List._∷_ 58 (List._∷_ 87 (List._∷_ 111 (List._∷_ 114 (List._∷_ 100 List.[])))))))))))))))))) (Syntax.ttcons Syntax.tnil (Syntax.ttcons Syntax.tnil (Syntax.ttcons Syntax.tnil (Syntax.ttcons Syntax.tnil Syntax.ttnil))))) Syntax.tnil) (Syntax.ttcons (Syntax.tcons (Syntax.tyEnum (List._∷_ 116 (List._∷_ 101 (List._∷_ 120 (List._∷_ 116 (List._∷_ 95 (List._∷_ 104 (List._∷_ 101 (List._∷_ 97 (List._∷_ 100 (List._∷_ 105 (List._∷_ 110 (List._∷_ 103 (List._∷_ 58 (List._∷_ 58 (List._∷_ 87 (List._∷_ 111 (List._∷_ 114 (List._∷_ 100 List.[])))))))))))))))))) (Syntax.ttcons Syntax.tnil (Syntax.ttcons Syntax.tnil (Syntax.ttcons Syntax.tnil (Syntax.ttcons Syntax.tnil Syntax.ttnil))))) Syntax.tnil) (Syntax.ttcons Syntax.tnil (Syntax.ttcons (Syntax.tcons (Syntax.tyEnum (List._∷_ 116 (List._∷_ 101 (List._∷_ 120 (List._∷_ 116 (List._∷_ 95 (List._∷_ 104 (List._∷_ 101 (List._∷_ 97 (List._∷_ 100 (List._∷_ 105 (List._∷_ 110 (List._∷_ 103 (List._∷_ 58 (List._∷_ 58 (List._∷_ 72 (List._∷_ 101 (List._∷_ 97 (List._∷_ 100 (List._∷_ 105 (List._∷_ 110 (List._∷_ 103 (List._∷_ 70 (List._∷_ 97 (List._∷_ 117 (List._∷_ 108 (List._∷_ 116 List.[])))))))))))))))))))))))))) (Syntax.ttcons Syntax.tnil (Syntax.ttcons Syntax.tnil (Syntax.ttcons Syntax.tnil (Syntax.ttcons (Syntax.tcons (Syntax.tyEnum (List._∷_ 116 (List._∷_ 101 (List._∷_ 120 (List._∷_ 116 (List._∷_ 95 (List._∷_ 104 (List._∷_ 101 (List._∷_ 97 (List._∷_ 100 (List._∷_ 105 (List._∷_ 110 (List._∷_ 103 (List._∷_ 58 (List._∷_ 58 (List._∷_ 87 (List._∷_ 111 (List._∷_ 114 (List._∷_ 100 List.[])))))))))))))))))) (Syntax.ttcons Syntax.tnil (Syntax.ttcons Syntax.tnil (Syntax.ttcons Syntax.tnil (Syntax.ttcons Syntax.tnil Syntax.ttnil))))) Syntax.tnil) Syntax.ttnil))))) Syntax.tnil) Syntax.ttnil)))))) Syntax.tnil)))) Syntax.tnil) (Syntax.ttcons Syntax.tnil (Syntax.ttcons (Syntax.tcons (Syntax.tyInt Syntax.w8) Syntax.tnil) (Syntax.ttcons Syntax.tnil (Syntax.ttcons (Syntax.tcons (Syntax.tyEnum (List._∷_ 116 (List._∷_ 101 (List._∷_ 120 (List._∷_ 116 (List._∷_ 95 (List._∷_ 114 (List._∷_ 101 (List._∷_ 97 (List._∷_ 100 (List._∷_ 105 (List._∷_ 110 (List._∷_ 103 (List._∷_ 58 (List._∷_ 58 (List._∷_ 70 (List._∷_ 97 (List._∷_ 117 (List._∷_ 108 (List._∷_ 116 List.[]))))))))))))))))))) (Syntax.ttcons (Syntax.tcons (Syntax.tyEnum (List._∷_ 116 (List._∷_ 101 (List._∷_ 120 (List._∷_ 116 (List._∷_ 95 (List._∷_ 104 (List._∷_ 101 (List._∷_ 97 (List._∷_ 100 (List._∷_ 105 (List._∷_ 110 (List._∷_ 103 (List._∷_ 58 (List._∷_ 58 (List._∷_ 72 (List._∷_ 101 (List._∷_ 97 (List._∷_ 100 (List._∷_ 105 (List._∷_ 110 (List._∷_ 103 (List._∷_ 70 (List._∷_ 97 (List._∷_ 117 (List._∷_ 108 (List._∷_ 116 List.[])))))))))))))))))))))))))) (Syntax.ttcons Syntax.tnil (Syntax.ttcons Syntax.tnil (Syntax.ttcons Syntax.tnil (Syntax.ttcons (Syntax.tcons (Syntax.tyEnum (List._∷_ 116 (List._∷_ 101 (List._∷_ 120 (List._∷_ 116 (List._∷_ 95 (List._∷_ 104 (List._∷_ 101 (List._∷_ 97 (List._∷_ 100 (List._∷_ 105 (List._∷_ 110 (List._∷_ 103 (List._∷_ 58 (List._∷_ 58 (List._∷_ 87 (List._∷_ 111 (List._∷_ 114 (List._∷_ 100 List.[])))))))))))))))))) (Syntax.ttcons Syntax.tnil (Syntax.ttcons Syntax.tnil (Syntax.ttcons Syntax.tnil (Syntax.ttcons Syntax.tnil Syntax.ttnil))))) Syntax.tnil) Syntax.ttnil))))) Syntax.tnil) (Syntax.ttcons Syntax.tnil (Syntax.ttcons Syntax.tnil Syntax.ttnil)))) Syntax.tnil) Syntax.ttnil)))))))) (Syntax.tcons (Syntax.tyArray (Syntax.tyInt Syntax.w8) 32) (Syntax.tcons (Syntax.tyInt Syntax.w64) Syntax.tnil))))))) (List._∷_ (9, Rows.sc-here (Row.sInt Syntax.w64)) (List._∷_ (10, Rows.any-gone (Syntax.tyRef Syntax.erased Syntax.mut OfOutput.named)) (List._∷_ (11, Rows.any-gone (Syntax.tyStruct (List._∷_ 38 (List._∷_ 91 (List._∷_ 93 List.[]))) (Syntax.tcons (Syntax.tyRef Syntax.erased Syntax.mut OfOutput.named) (Syntax.tcons (Syntax.tyInt Syntax.w64) Syntax.tnil)))) (List._∷_ (12, Rows.any-gone (Syntax.tyRef Syntax.erased Syntax.mut OfStation.named)) (List._∷_ (13, Rows.any-gone (Syntax.tyStruct (List._∷_ 38 (List._∷_ 91 (List._∷_ 93 List.[]))) (Syntax.tcons (Syntax.tyRef Syntax.erased Syntax.mut OfStation.named) (Syntax.tcons (Syntax.tyInt Syntax.w64) Syntax.tnil)))) (List._∷_ (14, Rows.any-gone (Syntax.tyRef Syntax.erased Syntax.mut OfPanelRecord.named)) (List._∷_ (15, Rows.any-gone (Syntax.tyRef Syntax.erased Syntax.mut (Syntax.tyInt Syntax.w8))) List.[])))))))))))))))
+t46 = List._∷_ (0, Rows.any-gone Syntax.tyUnit) (List._∷_ (1, Mut.mslice (OfOutput.row) (Syntax.tyRef (Syntax.named 0) Syntax.mut OfOutput.named) 0) (List._∷_ (2, Mut.mslice (OfStation.row) (Syntax.tyRef (Syntax.named 1) Syntax.mut OfStation.named) 1) (List._∷_ (3, Rows.mref (OfPanelRecord.row) (Syntax.tyRef (Syntax.named 2) Syntax.mut OfPanelRecord.named) 2) (List._∷_ (4, Mut.mslice (Referent.rtF (Referent.fInt Syntax.w8)) (Syntax.tyRef (Syntax.named 3) Syntax.mut (Syntax.tyInt Syntax.w8)) 3) (List._∷_ (5, Mut.mslice (Referent.rtF (Referent.fInt Syntax.w8)) (Syntax.tyRef (Syntax.named 4) Syntax.mut (Syntax.tyInt Syntax.w8)) 4) (List._∷_ (6, Rows.sc-here Row.sBool) (List._∷_ (7, Rows.any-gone (Laws.mir)) (List._∷_ (8, Rows.any-gone (Syntax.tyStruct (List._∷_ 116 (List._∷_ 101 (List._∷_ 120 (List._∷_ 116 (List._∷_ 95 (List._∷_ 114 (List._∷_ 101 (List._∷_ 97 (List._∷_ 100 (List._∷_ 105 (List._∷_ 110 (List._∷_ 103 (List._∷_ 58 (List._∷_ 58 (List._∷_ 82 (List._∷_ 101 (List._∷_ 97 (List._∷_ 100 (List._∷_ 101 (List._∷_ 114 List.[])))))))))))))))))))) (Syntax.tcons Syntax.tyBool (Syntax.tcons (Syntax.tyInt Syntax.w64) (Syntax.tcons (Syntax.tyEnum (List._∷_ 116 (List._∷_ 101 (List._∷_ 120 (List._∷_ 116 (List._∷_ 95 (List._∷_ 114 (List._∷_ 101 (List._∷_ 97 (List._∷_ 100 (List._∷_ 105 (List._∷_ 110 (List._∷_ 103 (List._∷_ 58 (List._∷_ 58 (List._∷_ 72 (List._∷_ 101 (List._∷_ 108 (List._∷_ 100 List.[])))))))))))))))))) (Syntax.ttcons Syntax.tnil (Syntax.ttcons Syntax.tnil (Syntax.ttcons (Syntax.tcons (Syntax.tyStruct (List._∷_ 116 (List._∷_ 101 (List._∷_ 120 (List._∷_ 116 (List._∷_ 95 (List._∷_ 104 (List._∷_ 101 (List._∷_ 97 (List._∷_ 100 (List._∷_ 105 (List._∷_ 110 (List._∷_ 103 (List._∷_ 58 (List._∷_ 58 (List._∷_ 72 (List._∷_ 101 (List._∷_ 97 (List._∷_ 100 (List._∷_ 105 (List._∷_ 110 (List._∷_ 103 List.[]))))))))))))))))))))) (Syntax.tcons (Syntax.tyStruct (List._∷_ 116 (List._∷_ 101 (List._∷_ 120 (List._∷_ 116 (List._∷_ 95 (List._∷_ 104 (List._∷_ 101 (List._∷_ 97 (List._∷_ 100 (List._∷_ 105 (List._∷_ 110 (List._∷_ 103 (List._∷_ 58 (List._∷_ 58 (List._∷_ 78 (List._∷_ 97 (List._∷_ 109 (List._∷_ 101 (List._∷_ 100 List.[]))))))))))))))))))) (Syntax.tcons (IsParameters.mir) (Syntax.tcons (Syntax.tyInt Syntax.w32) Syntax.tnil))) (Syntax.tcons (Syntax.tyStruct (List._∷_ 116 (List._∷_ 101 (List._∷_ 120 (List._∷_ 116 (List._∷_ 95 (List._∷_ 104 (List._∷_ 101 (List._∷_ 97 (List._∷_ 100 (List._∷_ 105 (List._∷_ 110 (List._∷_ 103 (List._∷_ 58 (List._∷_ 58 (List._∷_ 67 (List._∷_ 97 (List._∷_ 109 (List._∷_ 101 List.[])))))))))))))))))) (Syntax.tcons Syntax.tyBool (Syntax.tcons Syntax.tyBool (Syntax.tcons Syntax.tyBool (Syntax.tcons Syntax.tyBool Syntax.tnil))))) (Syntax.tcons (Syntax.tyEnum (List._∷_ 116 (List._∷_ 101 (List._∷_ 120 (List._∷_ 116 (List._∷_ 95 (List._∷_ 104 (List._∷_ 101 (List._∷_ 97 (List._∷_ 100 (List._∷_ 105 (List._∷_ 110 (List._∷_ 103 (List._∷_ 58 (List._∷_ 58 (List._∷_ 80 (List._∷_ 108 (List._∷_ 97 (List._∷_ 99 (List._∷_ 101 List.[]))))))))))))))))))) (Syntax.ttcons (Syntax.tcons (Syntax.tyEnum (List._∷_ 116 (List._∷_ 101 (List._∷_ 120 (List._∷_ 116 (List._∷_ 95 (List._∷_ 104 (List._∷_ 101 (List._∷_ 97 (List._∷_ 100 (List._∷_ 105 (List._∷_ 110 (List._∷_ 103 (List._∷_ 58 (List._∷_ 58 (List._∷_ 87 (List._∷_ 111 (List._∷_ 114 (List._∷_ 100 List.[])))))))))))))))))) (Syntax.ttcons Syntax.tnil (Syntax.ttcons Syntax.tnil (Syntax.ttcons Syntax.tnil (Syntax.ttcons Syntax.tnil (Syntax.ttcons Syntax.tnil Syntax.ttnil)))))) (Syntax.tcons (Syntax.tyInt Syntax.w8) Syntax.tnil)) (Syntax.ttcons (Syntax.tcons (Syntax.tyEnum (List._∷_ 116 (List._∷_ 101 (List._∷_ 120 (List._∷_ 116 (List._∷_ 95 (List._∷_ 104 (List._∷_ 101 (List._∷_ 97 (List._∷_ 100 (List._∷_ 105 (List._∷_ 110 (List._∷_ 103 (List._∷_ 58 (List._∷_ 58 (List._∷_ 87 (List._∷_ 111 (List._∷_ 114 (List._∷_ 100 List.[])))))))))))))))))) (Syntax.ttcons Syntax.tnil (Syntax.ttcons Syntax.tnil (Syntax.ttcons Syntax.tnil (Syntax.ttcons Syntax.tnil (Syntax.ttcons Syntax.tnil Syntax.ttnil)))))) Syntax.tnil) (Syntax.ttcons (Syntax.tcons (Syntax.tyEnum (List._∷_ 116 (List._∷_ 101 (List._∷_ 120 (List._∷_ 116 (List._∷_ 95 (List._∷_ 104 (List._∷_ 101 (List._∷_ 97 (List._∷_ 100 (List._∷_ 105 (List._∷_ 110 (List._∷_ 103 (List._∷_ 58 (List._∷_ 58 (List._∷_ 87 (List._∷_ 111 (List._∷_ 114 (List._∷_ 100 List.[])))))))))))))))))) (Syntax.ttcons Syntax.tnil (Syntax.ttcons Syntax.tnil (Syntax.ttcons Syntax.tnil (Syntax.ttcons Syntax.tnil (Syntax.ttcons Syntax.tnil Syntax.ttnil)))))) (Syntax.tcons (Syntax.tyInt Syntax.w8) Syntax.tnil)) (Syntax.ttcons Syntax.tnil (Syntax.ttcons (Syntax.tcons (Syntax.tyEnum (List._∷_ 116 (List._∷_ 101 (List._∷_ 120 (List._∷_ 116 (List._∷_ 95 (List._∷_ 104 (List._∷_ 101 (List._∷_ 97 (List._∷_ 100 (List._∷_ 105 (List._∷_ 110 (List._∷_ 103 (List._∷_ 58 (List._∷_ 58 (List._∷_ 72 (List._∷_ 101 (List._∷_ 97 (List._∷_ 100 (List._∷_ 105 (List._∷_ 110 (List._∷_ 103 (List._∷_ 70 (List._∷_ 97 (List._∷_ 117 (List._∷_ 108 (List._∷_ 116 List.[])))))))))))))))))))))))))) (Syntax.ttcons Syntax.tnil (Syntax.ttcons Syntax.tnil (Syntax.ttcons Syntax.tnil (Syntax.ttcons Syntax.tnil (Syntax.ttcons (Syntax.tcons (Syntax.tyEnum (List._∷_ 116 (List._∷_ 101 (List._∷_ 120 (List._∷_ 116 (List._∷_ 95 (List._∷_ 104 (List._∷_ 101 (List._∷_ 97 (List._∷_ 100 (List._∷_ 105 (List._∷_ 110 (List._∷_ 103 (List._∷_ 58 (List._∷_ 58 (List._∷_ 87 (List._∷_ 111 (List._∷_ 114 (List._∷_ 100 List.[])))))))))))))))))) (Syntax.ttcons Syntax.tnil (Syntax.ttcons Syntax.tnil (Syntax.ttcons Syntax.tnil (Syntax.ttcons Syntax.tnil (Syntax.ttcons Syntax.tnil Syntax.ttnil)))))) Syntax.tnil) Syntax.ttnil)))))) Syntax.tnil) Syntax.ttnil)))))) Syntax.tnil)))) Syntax.tnil) (Syntax.ttcons Syntax.tnil (Syntax.ttcons (Syntax.tcons (Syntax.tyInt Syntax.w8) Syntax.tnil) (Syntax.ttcons Syntax.tnil (Syntax.ttcons (Syntax.tcons (Syntax.tyEnum (List._∷_ 116 (List._∷_ 101 (List._∷_ 120 (List._∷_ 116 (List._∷_ 95 (List._∷_ 114 (List._∷_ 101 (List._∷_ 97 (List._∷_ 100 (List._∷_ 105 (List._∷_ 110 (List._∷_ 103 (List._∷_ 58 (List._∷_ 58 (List._∷_ 70 (List._∷_ 97 (List._∷_ 117 (List._∷_ 108 (List._∷_ 116 List.[]))))))))))))))))))) (Syntax.ttcons (Syntax.tcons (Syntax.tyEnum (List._∷_ 116 (List._∷_ 101 (List._∷_ 120 (List._∷_ 116 (List._∷_ 95 (List._∷_ 104 (List._∷_ 101 (List._∷_ 97 (List._∷_ 100 (List._∷_ 105 (List._∷_ 110 (List._∷_ 103 (List._∷_ 58 (List._∷_ 58 (List._∷_ 72 (List._∷_ 101 (List._∷_ 97 (List._∷_ 100 (List._∷_ 105 (List._∷_ 110 (List._∷_ 103 (List._∷_ 70 (List._∷_ 97 (List._∷_ 117 (List._∷_ 108 (List._∷_ 116 List.[])))))))))))))))))))))))))) (Syntax.ttcons Syntax.tnil (Syntax.ttcons Syntax.tnil (Syntax.ttcons Syntax.tnil (Syntax.ttcons Syntax.tnil (Syntax.ttcons (Syntax.tcons (Syntax.tyEnum (List._∷_ 116 (List._∷_ 101 (List._∷_ 120 (List._∷_ 116 (List._∷_ 95 (List._∷_ 104 (List._∷_ 101 (List._∷_ 97 (List._∷_ 100 (List._∷_ 105 (List._∷_ 110 (List._∷_ 103 (List._∷_ 58 (List._∷_ 58 (List._∷_ 87 (List._∷_ 111 (List._∷_ 114 (List._∷_ 100 List.[])))))))))))))))))) (Syntax.ttcons Syntax.tnil (Syntax.ttcons Syntax.tnil (Syntax.ttcons Syntax.tnil (Syntax.ttcons Syntax.tnil (Syntax.ttcons Syntax.tnil Syntax.ttnil)))))) Syntax.tnil) Syntax.ttnil)))))) Syntax.tnil) (Syntax.ttcons Syntax.tnil (Syntax.ttcons Syntax.tnil Syntax.ttnil)))) Syntax.tnil) Syntax.ttnil)))))))) (Syntax.tcons (Syntax.tyArray (Syntax.tyInt Syntax.w8) 32) (Syntax.tcons (Syntax.tyInt Syntax.w64) Syntax.tnil))))))) (List._∷_ (9, Rows.sc-here (Row.sInt Syntax.w64)) (List._∷_ (10, Rows.any-gone (Syntax.tyRef Syntax.erased Syntax.mut OfOutput.named)) (List._∷_ (11, Rows.any-gone (Syntax.tyStruct (List._∷_ 38 (List._∷_ 91 (List._∷_ 93 List.[]))) (Syntax.tcons (Syntax.tyRef Syntax.erased Syntax.mut OfOutput.named) (Syntax.tcons (Syntax.tyInt Syntax.w64) Syntax.tnil)))) (List._∷_ (12, Rows.any-gone (Syntax.tyRef Syntax.erased Syntax.mut OfStation.named)) (List._∷_ (13, Rows.any-gone (Syntax.tyStruct (List._∷_ 38 (List._∷_ 91 (List._∷_ 93 List.[]))) (Syntax.tcons (Syntax.tyRef Syntax.erased Syntax.mut OfStation.named) (Syntax.tcons (Syntax.tyInt Syntax.w64) Syntax.tnil)))) (List._∷_ (14, Rows.any-gone (Syntax.tyRef Syntax.erased Syntax.mut OfPanelRecord.named)) (List._∷_ (15, Rows.any-gone (Syntax.tyRef Syntax.erased Syntax.mut (Syntax.tyInt Syntax.w8))) List.[])))))))))))))))
 
 abbrev pub t47 : List.List Row.Entry
-t47 = List._∷_ (0, Rows.any-gone Syntax.tyUnit) (List._∷_ (1, Mut.mslice (OfOutput.row) (Syntax.tyRef (Syntax.named 0) Syntax.mut OfOutput.named) 0) (List._∷_ (2, Mut.mslice (OfStation.row) (Syntax.tyRef (Syntax.named 1) Syntax.mut OfStation.named) 1) (List._∷_ (3, Rows.mref (OfPanelRecord.row) (Syntax.tyRef (Syntax.named 2) Syntax.mut OfPanelRecord.named) 2) (List._∷_ (4, Reshare.mslice-owedS (Referent.rtF (Referent.fInt Syntax.w8)) (Syntax.tyRef (Syntax.named 3) Syntax.mut (Syntax.tyInt Syntax.w8)) 3 14 Row.off) (List._∷_ (5, Mut.mslice (Referent.rtF (Referent.fInt Syntax.w8)) (Syntax.tyRef (Syntax.named 4) Syntax.mut (Syntax.tyInt Syntax.w8)) 4) (List._∷_ (6, Rows.sc-here Row.sBool) (List._∷_ (7, Rows.any-gone (Laws.mir)) (List._∷_ (8, Rows.any-gone (Syntax.tyStruct (List._∷_ 116 (List._∷_ 101 (List._∷_ 120 (List._∷_ 116 (List._∷_ 95 (List._∷_ 114 (List._∷_ 101 (List._∷_ 97 (List._∷_ 100 (List._∷_ 105 (List._∷_ 110 (List._∷_ 103 (List._∷_ 58 (List._∷_ 58 (List._∷_ 82 (List._∷_ 101 (List._∷_ 97 (List._∷_ 100 (List._∷_ 101 (List._∷_ 114 List.[])))))))))))))))))))) (Syntax.tcons Syntax.tyBool (Syntax.tcons (Syntax.tyInt Syntax.w64) (Syntax.tcons (Syntax.tyEnum (List._∷_ 116 (List._∷_ 101 (List._∷_ 120 (List._∷_ 116 (List._∷_ 95 (List._∷_ 114 (List._∷_ 101 (List._∷_ 97 (List._∷_ 100 (List._∷_ 105 (List._∷_ 110 (List._∷_ 103 (List._∷_ 58 (List._∷_ 58 (List._∷_ 72 (List._∷_ 101 (List._∷_ 108 (List._∷_ 100 List.[])))))))))))))))))) (Syntax.ttcons Syntax.tnil (Syntax.ttcons Syntax.tnil (Syntax.ttcons (Syntax.tcons (Syntax.tyStruct (List._∷_ 116 (List._∷_ 101 (List._∷_ 120 (List._∷_ 116 (List._∷_ 95 (List._∷_ 104 (List._∷_ 101 (List._∷_ 97 (List._∷_ 100 (List._∷_ 105 (List._∷_ 110 (List._∷_ 103 (List._∷_ 58 (List._∷_ 58 (List._∷_ 72 (List._∷_ 101 (List._∷_ 97 (List._∷_ 100 (List._∷_ 105 (List._∷_ 110 (List._∷_ 103 List.[]))))))))))))))))))))) (Syntax.tcons (IsParameters.mir) (Syntax.tcons (Syntax.tyStruct (List._∷_ 116 (List._∷_ 101 (List._∷_ 120 (List._∷_ 116 (List._∷_ 95 (List._∷_ 104 (List._∷_ 101 (List._∷_ 97 (List._∷_ 100 (List._∷_ 105 (List._∷_ 110 (List._∷_ 103 (List._∷_ 58 (List._∷_ 58 (List._∷_ 67 (List._∷_ 97 (List._∷_ 109 (List._∷_ 101 List.[])))))))))))))))))) (Syntax.tcons Syntax.tyBool (Syntax.tcons Syntax.tyBool (Syntax.tcons Syntax.tyBool Syntax.tnil)))) (Syntax.tcons (Syntax.tyEnum (List._∷_ 116 (List._∷_ 101 (List._∷_ 120 (List._∷_ 116 (List._∷_ 95 (List._∷_ 104 (List._∷_ 101 (List._∷_ 97 (List._∷_ 100 (List._∷_ 105 (List._∷_ 110 (List._∷_ 103 (List._∷_ 58 (List._∷_ 58 (List._∷_ 80 (List._∷_ 108 (List._∷_ 97 (List._∷_ 99 (List._∷_ 101 List.[]))))))))))))))))))) (Syntax.ttcons (Syntax.tcons (Syntax.tyEnum (List._∷_ 116 (List._∷_ 101 (List._∷_ 120 (List._∷_ 116 (List._∷_ 95 (List._∷_ 104 (List._∷_ 101 (List._∷_ 97 (List._∷_ 100 (List._∷_ 105 (List._∷_ 110 (List._∷_ 103 (List._∷_ 58 (List._∷_ 58 (List._∷_ 87 (List._∷_ 111 (List._∷_ 114 (List._∷_ 100 List.[])))))))))))))))))) (Syntax.ttcons Syntax.tnil (Syntax.ttcons Syntax.tnil (Syntax.ttcons Syntax.tnil (Syntax.ttcons Syntax.tnil Syntax.ttnil))))) (Syntax.tcons (Syntax.tyInt Syntax.w8) Syntax.tnil)) (Syntax.ttcons (Syntax.tcons (Syntax.tyEnum (List._∷_ 116 (List._∷_ 101 (List._∷_ 120 (List._∷_ 116 (List._∷_ 95 (List._∷_ 104 (List._∷_ 101 (List._∷_ 97 (List._∷_ 100 (List._∷_ 105 (List._∷_ 110 (List._∷_ 103 (List._∷_ 58 (List._∷_ 58 (List._∷_ 87 (List._∷_ 111 (List._∷_ 114 (List._∷_ 100 List.[])))))))))))))))))) (Syntax.ttcons Syntax.tnil (Syntax.ttcons Syntax.tnil (Syntax.ttcons Syntax.tnil (Syntax.ttcons Syntax.tnil Syntax.ttnil))))) Syntax.tnil) (Syntax.ttcons (Syntax.tcons (Syntax.tyEnum (List._∷_ 116 (List._∷_ 101 (List._∷_ 120 (List._∷_ 116 (List._∷_ 95 (List._∷_ 104 (List._∷_ 101 (List._∷_ 97 (List._∷_ 100 (List._∷_ 105 (List._∷_ 110 (List._∷_ 103 (List._∷_ 58 (List._∷_ 58 (List._∷_ 87 (List._∷_ 111 (List._∷_ 114 (List._∷_ 100 List.[])))))))))))))))))) (Syntax.ttcons Syntax.tnil (Syntax.ttcons Syntax.tnil (Syntax.ttcons Syntax.tnil (Syntax.ttcons Syntax.tnil Syntax.ttnil))))) Syntax.tnil) (Syntax.ttcons Syntax.tnil (Syntax.ttcons (Syntax.tcons (Syntax.tyEnum (List._∷_ 116 (List._∷_ 101 (List._∷_ 120 (List._∷_ 116 (List._∷_ 95 (List._∷_ 104 (List._∷_ 101 (List._∷_ 97 (List._∷_ 100 (List._∷_ 105 (List._∷_ 110 (List._∷_ 103 (List._∷_ 58 (List._∷_ 58 (List._∷_ 72 (List._∷_ 101 (List._∷_ 97 (List._∷_ 100 (List._∷_ 105 (List._∷_ 110 (List._∷_ 103 (List._∷_ 70 (List._∷_ 97 (List._∷_ 117 (List._∷_ 108 (List._∷_ 116 List.[])))))))))))))))))))))))))) (Syntax.ttcons Syntax.tnil (Syntax.ttcons Syntax.tnil (Syntax.ttcons Syntax.tnil (Syntax.ttcons (Syntax.tcons (Syntax.tyEnum (List._∷_ 116 (List._∷_ 101 (List._∷_ 120 (List._∷_ 116 (List._∷_ 95 (List._∷_ 104 (List._∷_ 101 (List._∷_ 97 (List._∷_ 100 (List._∷_ 105 (List._∷_ 110 (List._∷_ 103 (List._∷_ 58 (List._∷_ 58 (List._∷_ 87 (List._∷_ 111 (List._∷_ 114 (List._∷_ 100 List.[])))))))))))))))))) (Syntax.ttcons Syntax.tnil (Syntax.ttcons Syntax.tnil (Syntax.ttcons Syntax.tnil (Syntax.ttcons Syntax.tnil Syntax.ttnil))))) Syntax.tnil) Syntax.ttnil))))) Syntax.tnil) Syntax.ttnil)))))) Syntax.tnil)))) Syntax.tnil) (Syntax.ttcons Syntax.tnil (Syntax.ttcons (Syntax.tcons (Syntax.tyInt Syntax.w8) Syntax.tnil) (Syntax.ttcons Syntax.tnil (Syntax.ttcons (Syntax.tcons (Syntax.tyEnum (List._∷_ 116 (List._∷_ 101 (List._∷_ 120 (List._∷_ 116 (List._∷_ 95 (List._∷_ 114 (List._∷_ 101 (List._∷_ 97 (List._∷_ 100 (List._∷_ 105 (List._∷_ 110 (List._∷_ 103 (List._∷_ 58 (List._∷_ 58 (List._∷_ 70 (List._∷_ 97 (List._∷_ 117 (List._∷_ 108 (List._∷_ 116 List.[]))))))))))))))))))) (Syntax.ttcons (Syntax.tcons (Syntax.tyEnum (List._∷_ 116 (List._∷_ 101 (List._∷_ 120 (List._∷_ 116 (List._∷_ 95 (List._∷_ 104 (List._∷_ 101 (List._∷_ 97 (List._∷_ 100 (List._∷_ 105 (List._∷_ 110 (List._∷_ 103 (List._∷_ 58 (List._∷_ 58 (List._∷_ 72 (List._∷_ 101 (List._∷_ 97 (List._∷_ 100 (List._∷_ 105 (List._∷_ 110 (List._∷_ 103 (List._∷_ 70 (List._∷_ 97 (List._∷_ 117 (List._∷_ 108 (List._∷_ 116 List.[])))))))))))))))))))))))))) (Syntax.ttcons Syntax.tnil (Syntax.ttcons Syntax.tnil (Syntax.ttcons Syntax.tnil (Syntax.ttcons (Syntax.tcons (Syntax.tyEnum (List._∷_ 116 (List._∷_ 101 (List._∷_ 120 (List._∷_ 116 (List._∷_ 95 (List._∷_ 104 (List._∷_ 101 (List._∷_ 97 (List._∷_ 100 (List._∷_ 105 (List._∷_ 110 (List._∷_ 103 (List._∷_ 58 (List._∷_ 58 (List._∷_ 87 (List._∷_ 111 (List._∷_ 114 (List._∷_ 100 List.[])))))))))))))))))) (Syntax.ttcons Syntax.tnil (Syntax.ttcons Syntax.tnil (Syntax.ttcons Syntax.tnil (Syntax.ttcons Syntax.tnil Syntax.ttnil))))) Syntax.tnil) Syntax.ttnil))))) Syntax.tnil) (Syntax.ttcons Syntax.tnil (Syntax.ttcons Syntax.tnil Syntax.ttnil)))) Syntax.tnil) Syntax.ttnil)))))))) (Syntax.tcons (Syntax.tyArray (Syntax.tyInt Syntax.w8) 32) (Syntax.tcons (Syntax.tyInt Syntax.w64) Syntax.tnil))))))) (List._∷_ (9, Rows.sc-here (Row.sInt Syntax.w64)) (List._∷_ (10, Rows.any-gone (Syntax.tyRef Syntax.erased Syntax.mut OfOutput.named)) (List._∷_ (11, Rows.any-gone (Syntax.tyStruct (List._∷_ 38 (List._∷_ 91 (List._∷_ 93 List.[]))) (Syntax.tcons (Syntax.tyRef Syntax.erased Syntax.mut OfOutput.named) (Syntax.tcons (Syntax.tyInt Syntax.w64) Syntax.tnil)))) (List._∷_ (12, Rows.any-gone (Syntax.tyRef Syntax.erased Syntax.mut OfStation.named)) (List._∷_ (13, Rows.any-gone (Syntax.tyStruct (List._∷_ 38 (List._∷_ 91 (List._∷_ 93 List.[]))) (Syntax.tcons (Syntax.tyRef Syntax.erased Syntax.mut OfStation.named) (Syntax.tcons (Syntax.tyInt Syntax.w64) Syntax.tnil)))) (List._∷_ (14, Rows.any-gone (Syntax.tyRef Syntax.erased Syntax.mut OfPanelRecord.named)) (List._∷_ (15, Rows.any-gone (Syntax.tyRef Syntax.erased Syntax.mut (Syntax.tyInt Syntax.w8))) List.[])))))))))))))))
+t47 = List._∷_ (0, Rows.any-gone Syntax.tyUnit) (List._∷_ (1, Mut.mslice (OfOutput.row) (Syntax.tyRef (Syntax.named 0) Syntax.mut OfOutput.named) 0) (List._∷_ (2, Mut.mslice (OfStation.row) (Syntax.tyRef (Syntax.named 1) Syntax.mut OfStation.named) 1) (List._∷_ (3, Rows.mref (OfPanelRecord.row) (Syntax.tyRef (Syntax.named 2) Syntax.mut OfPanelRecord.named) 2) (List._∷_ (4, Reshare.mslice-owedS (Referent.rtF (Referent.fInt Syntax.w8)) (Syntax.tyRef (Syntax.named 3) Syntax.mut (Syntax.tyInt Syntax.w8)) 3 14 Row.off) (List._∷_ (5, Mut.mslice (Referent.rtF (Referent.fInt Syntax.w8)) (Syntax.tyRef (Syntax.named 4) Syntax.mut (Syntax.tyInt Syntax.w8)) 4) (List._∷_ (6, Rows.sc-here Row.sBool) (List._∷_ (7, Rows.any-gone (Laws.mir)) (List._∷_ (8, Rows.any-gone (Syntax.tyStruct (List._∷_ 116 (List._∷_ 101 (List._∷_ 120 (List._∷_ 116 (List._∷_ 95 (List._∷_ 114 (List._∷_ 101 (List._∷_ 97 (List._∷_ 100 (List._∷_ 105 (List._∷_ 110 (List._∷_ 103 (List._∷_ 58 (List._∷_ 58 (List._∷_ 82 (List._∷_ 101 (List._∷_ 97 (List._∷_ 100 (List._∷_ 101 (List._∷_ 114 List.[])))))))))))))))))))) (Syntax.tcons Syntax.tyBool (Syntax.tcons (Syntax.tyInt Syntax.w64) (Syntax.tcons (Syntax.tyEnum (List._∷_ 116 (List._∷_ 101 (List._∷_ 120 (List._∷_ 116 (List._∷_ 95 (List._∷_ 114 (List._∷_ 101 (List._∷_ 97 (List._∷_ 100 (List._∷_ 105 (List._∷_ 110 (List._∷_ 103 (List._∷_ 58 (List._∷_ 58 (List._∷_ 72 (List._∷_ 101 (List._∷_ 108 (List._∷_ 100 List.[])))))))))))))))))) (Syntax.ttcons Syntax.tnil (Syntax.ttcons Syntax.tnil (Syntax.ttcons (Syntax.tcons (Syntax.tyStruct (List._∷_ 116 (List._∷_ 101 (List._∷_ 120 (List._∷_ 116 (List._∷_ 95 (List._∷_ 104 (List._∷_ 101 (List._∷_ 97 (List._∷_ 100 (List._∷_ 105 (List._∷_ 110 (List._∷_ 103 (List._∷_ 58 (List._∷_ 58 (List._∷_ 72 (List._∷_ 101 (List._∷_ 97 (List._∷_ 100 (List._∷_ 105 (List._∷_ 110 (List._∷_ 103 List.[]))))))))))))))))))))) (Syntax.tcons (Syntax.tyStruct (List._∷_ 116 (List._∷_ 101 (List._∷_ 120 (List._∷_ 116 (List._∷_ 95 (List._∷_ 104 (List._∷_ 101 (List._∷_ 97 (List._∷_ 100 (List._∷_ 105 (List._∷_ 110 (List._∷_ 103 (List._∷_ 58 (List._∷_ 58 (List._∷_ 78 (List._∷_ 97 (List._∷_ 109 (List._∷_ 101 (List._∷_ 100 List.[]))))))))))))))))))) (Syntax.tcons (IsParameters.mir) (Syntax.tcons (Syntax.tyInt Syntax.w32) Syntax.tnil))) (Syntax.tcons (Syntax.tyStruct (List._∷_ 116 (List._∷_ 101 (List._∷_ 120 (List._∷_ 116 (List._∷_ 95 (List._∷_ 104 (List._∷_ 101 (List._∷_ 97 (List._∷_ 100 (List._∷_ 105 (List._∷_ 110 (List._∷_ 103 (List._∷_ 58 (List._∷_ 58 (List._∷_ 67 (List._∷_ 97 (List._∷_ 109 (List._∷_ 101 List.[])))))))))))))))))) (Syntax.tcons Syntax.tyBool (Syntax.tcons Syntax.tyBool (Syntax.tcons Syntax.tyBool (Syntax.tcons Syntax.tyBool Syntax.tnil))))) (Syntax.tcons (Syntax.tyEnum (List._∷_ 116 (List._∷_ 101 (List._∷_ 120 (List._∷_ 116 (List._∷_ 95 (List._∷_ 104 (List._∷_ 101 (List._∷_ 97 (List._∷_ 100 (List._∷_ 105 (List._∷_ 110 (List._∷_ 103 (List._∷_ 58 (List._∷_ 58 (List._∷_ 80 (List._∷_ 108 (List._∷_ 97 (List._∷_ 99 (List._∷_ 101 List.[]))))))))))))))))))) (Syntax.ttcons (Syntax.tcons (Syntax.tyEnum (List._∷_ 116 (List._∷_ 101 (List._∷_ 120 (List._∷_ 116 (List._∷_ 95 (List._∷_ 104 (List._∷_ 101 (List._∷_ 97 (List._∷_ 100 (List._∷_ 105 (List._∷_ 110 (List._∷_ 103 (List._∷_ 58 (List._∷_ 58 (List._∷_ 87 (List._∷_ 111 (List._∷_ 114 (List._∷_ 100 List.[])))))))))))))))))) (Syntax.ttcons Syntax.tnil (Syntax.ttcons Syntax.tnil (Syntax.ttcons Syntax.tnil (Syntax.ttcons Syntax.tnil (Syntax.ttcons Syntax.tnil Syntax.ttnil)))))) (Syntax.tcons (Syntax.tyInt Syntax.w8) Syntax.tnil)) (Syntax.ttcons (Syntax.tcons (Syntax.tyEnum (List._∷_ 116 (List._∷_ 101 (List._∷_ 120 (List._∷_ 116 (List._∷_ 95 (List._∷_ 104 (List._∷_ 101 (List._∷_ 97 (List._∷_ 100 (List._∷_ 105 (List._∷_ 110 (List._∷_ 103 (List._∷_ 58 (List._∷_ 58 (List._∷_ 87 (List._∷_ 111 (List._∷_ 114 (List._∷_ 100 List.[])))))))))))))))))) (Syntax.ttcons Syntax.tnil (Syntax.ttcons Syntax.tnil (Syntax.ttcons Syntax.tnil (Syntax.ttcons Syntax.tnil (Syntax.ttcons Syntax.tnil Syntax.ttnil)))))) Syntax.tnil) (Syntax.ttcons (Syntax.tcons (Syntax.tyEnum (List._∷_ 116 (List._∷_ 101 (List._∷_ 120 (List._∷_ 116 (List._∷_ 95 (List._∷_ 104 (List._∷_ 101 (List._∷_ 97 (List._∷_ 100 (List._∷_ 105 (List._∷_ 110 (List._∷_ 103 (List._∷_ 58 (List._∷_ 58 (List._∷_ 87 (List._∷_ 111 (List._∷_ 114 (List._∷_ 100 List.[])))))))))))))))))) (Syntax.ttcons Syntax.tnil (Syntax.ttcons Syntax.tnil (Syntax.ttcons Syntax.tnil (Syntax.ttcons Syntax.tnil (Syntax.ttcons Syntax.tnil Syntax.ttnil)))))) (Syntax.tcons (Syntax.tyInt Syntax.w8) Syntax.tnil)) (Syntax.ttcons Syntax.tnil (Syntax.ttcons (Syntax.tcons (Syntax.tyEnum (List._∷_ 116 (List._∷_ 101 (List._∷_ 120 (List._∷_ 116 (List._∷_ 95 (List._∷_ 104 (List._∷_ 101 (List._∷_ 97 (List._∷_ 100 (List._∷_ 105 (List._∷_ 110 (List._∷_ 103 (List._∷_ 58 (List._∷_ 58 (List._∷_ 72 (List._∷_ 101 (List._∷_ 97 (List._∷_ 100 (List._∷_ 105 (List._∷_ 110 (List._∷_ 103 (List._∷_ 70 (List._∷_ 97 (List._∷_ 117 (List._∷_ 108 (List._∷_ 116 List.[])))))))))))))))))))))))))) (Syntax.ttcons Syntax.tnil (Syntax.ttcons Syntax.tnil (Syntax.ttcons Syntax.tnil (Syntax.ttcons Syntax.tnil (Syntax.ttcons (Syntax.tcons (Syntax.tyEnum (List._∷_ 116 (List._∷_ 101 (List._∷_ 120 (List._∷_ 116 (List._∷_ 95 (List._∷_ 104 (List._∷_ 101 (List._∷_ 97 (List._∷_ 100 (List._∷_ 105 (List._∷_ 110 (List._∷_ 103 (List._∷_ 58 (List._∷_ 58 (List._∷_ 87 (List._∷_ 111 (List._∷_ 114 (List._∷_ 100 List.[])))))))))))))))))) (Syntax.ttcons Syntax.tnil (Syntax.ttcons Syntax.tnil (Syntax.ttcons Syntax.tnil (Syntax.ttcons Syntax.tnil (Syntax.ttcons Syntax.tnil Syntax.ttnil)))))) Syntax.tnil) Syntax.ttnil)))))) Syntax.tnil) Syntax.ttnil)))))) Syntax.tnil)))) Syntax.tnil) (Syntax.ttcons Syntax.tnil (Syntax.ttcons (Syntax.tcons (Syntax.tyInt Syntax.w8) Syntax.tnil) (Syntax.ttcons Syntax.tnil (Syntax.ttcons (Syntax.tcons (Syntax.tyEnum (List._∷_ 116 (List._∷_ 101 (List._∷_ 120 (List._∷_ 116 (List._∷_ 95 (List._∷_ 114 (List._∷_ 101 (List._∷_ 97 (List._∷_ 100 (List._∷_ 105 (List._∷_ 110 (List._∷_ 103 (List._∷_ 58 (List._∷_ 58 (List._∷_ 70 (List._∷_ 97 (List._∷_ 117 (List._∷_ 108 (List._∷_ 116 List.[]))))))))))))))))))) (Syntax.ttcons (Syntax.tcons (Syntax.tyEnum (List._∷_ 116 (List._∷_ 101 (List._∷_ 120 (List._∷_ 116 (List._∷_ 95 (List._∷_ 104 (List._∷_ 101 (List._∷_ 97 (List._∷_ 100 (List._∷_ 105 (List._∷_ 110 (List._∷_ 103 (List._∷_ 58 (List._∷_ 58 (List._∷_ 72 (List._∷_ 101 (List._∷_ 97 (List._∷_ 100 (List._∷_ 105 (List._∷_ 110 (List._∷_ 103 (List._∷_ 70 (List._∷_ 97 (List._∷_ 117 (List._∷_ 108 (List._∷_ 116 List.[])))))))))))))))))))))))))) (Syntax.ttcons Syntax.tnil (Syntax.ttcons Syntax.tnil (Syntax.ttcons Syntax.tnil (Syntax.ttcons Syntax.tnil (Syntax.ttcons (Syntax.tcons (Syntax.tyEnum (List._∷_ 116 (List._∷_ 101 (List._∷_ 120 (List._∷_ 116 (List._∷_ 95 (List._∷_ 104 (List._∷_ 101 (List._∷_ 97 (List._∷_ 100 (List._∷_ 105 (List._∷_ 110 (List._∷_ 103 (List._∷_ 58 (List._∷_ 58 (List._∷_ 87 (List._∷_ 111 (List._∷_ 114 (List._∷_ 100 List.[])))))))))))))))))) (Syntax.ttcons Syntax.tnil (Syntax.ttcons Syntax.tnil (Syntax.ttcons Syntax.tnil (Syntax.ttcons Syntax.tnil (Syntax.ttcons Syntax.tnil Syntax.ttnil)))))) Syntax.tnil) Syntax.ttnil)))))) Syntax.tnil) (Syntax.ttcons Syntax.tnil (Syntax.ttcons Syntax.tnil Syntax.ttnil)))) Syntax.tnil) Syntax.ttnil)))))))) (Syntax.tcons (Syntax.tyArray (Syntax.tyInt Syntax.w8) 32) (Syntax.tcons (Syntax.tyInt Syntax.w64) Syntax.tnil))))))) (List._∷_ (9, Rows.sc-here (Row.sInt Syntax.w64)) (List._∷_ (10, Rows.any-gone (Syntax.tyRef Syntax.erased Syntax.mut OfOutput.named)) (List._∷_ (11, Rows.any-gone (Syntax.tyStruct (List._∷_ 38 (List._∷_ 91 (List._∷_ 93 List.[]))) (Syntax.tcons (Syntax.tyRef Syntax.erased Syntax.mut OfOutput.named) (Syntax.tcons (Syntax.tyInt Syntax.w64) Syntax.tnil)))) (List._∷_ (12, Rows.any-gone (Syntax.tyRef Syntax.erased Syntax.mut OfStation.named)) (List._∷_ (13, Rows.any-gone (Syntax.tyStruct (List._∷_ 38 (List._∷_ 91 (List._∷_ 93 List.[]))) (Syntax.tcons (Syntax.tyRef Syntax.erased Syntax.mut OfStation.named) (Syntax.tcons (Syntax.tyInt Syntax.w64) Syntax.tnil)))) (List._∷_ (14, Rows.any-gone (Syntax.tyRef Syntax.erased Syntax.mut OfPanelRecord.named)) (List._∷_ (15, Rows.any-gone (Syntax.tyRef Syntax.erased Syntax.mut (Syntax.tyInt Syntax.w8))) List.[])))))))))))))))
 
 abbrev pub t48 : List.List Row.Entry
 t48 = List._∷_ (16, Rows.any-gone (Syntax.tyStruct (List._∷_ 38 (List._∷_ 91 (List._∷_ 93 List.[]))) (Syntax.tcons (Syntax.tyRef Syntax.erased Syntax.mut (Syntax.tyInt Syntax.w8)) (Syntax.tcons (Syntax.tyInt Syntax.w64) Syntax.tnil)))) (List._∷_ (17, Rows.any-gone (Syntax.tyRef Syntax.erased Syntax.mut (Syntax.tyInt Syntax.w8))) (List._∷_ (18, Rows.any-gone (Syntax.tyStruct (List._∷_ 38 (List._∷_ 91 (List._∷_ 93 List.[]))) (Syntax.tcons (Syntax.tyRef Syntax.erased Syntax.mut (Syntax.tyInt Syntax.w8)) (Syntax.tcons (Syntax.tyInt Syntax.w64) Syntax.tnil)))) (List._∷_ (19, Rows.any-gone Syntax.tyBool) (List._∷_ (20, Rows.any-gone (Syntax.tyRef Syntax.erased Syntax.mut OfOutput.named)) (List._∷_ (21, Rows.any-gone (Syntax.tyStruct (List._∷_ 38 (List._∷_ 91 (List._∷_ 93 List.[]))) (Syntax.tcons (Syntax.tyRef Syntax.erased Syntax.mut OfOutput.named) (Syntax.tcons (Syntax.tyInt Syntax.w64) Syntax.tnil)))) (List._∷_ (22, Rows.any-gone (Syntax.tyRef Syntax.erased Syntax.mut OfStation.named)) (List._∷_ (23, Rows.any-gone (Syntax.tyStruct (List._∷_ 38 (List._∷_ 91 (List._∷_ 93 List.[]))) (Syntax.tcons (Syntax.tyRef Syntax.erased Syntax.mut OfStation.named) (Syntax.tcons (Syntax.tyInt Syntax.w64) Syntax.tnil)))) (List._∷_ (24, Rows.any-gone (Syntax.tyRef Syntax.erased Syntax.mut OfPanelRecord.named)) (List._∷_ (25, Rows.any-gone (Syntax.tyRef Syntax.erased Syntax.mut (Syntax.tyInt Syntax.w8))) (List._∷_ (26, Rows.any-gone (Syntax.tyStruct (List._∷_ 38 (List._∷_ 91 (List._∷_ 93 List.[]))) (Syntax.tcons (Syntax.tyRef Syntax.erased Syntax.mut (Syntax.tyInt Syntax.w8)) (Syntax.tcons (Syntax.tyInt Syntax.w64) Syntax.tnil)))) (List._∷_ (27, Rows.any-gone Syntax.tyUnit) (List._∷_ (28, Relend.ssptr (Referent.rtF (Referent.fInt Syntax.w8)) (Syntax.tyRef Syntax.erased Syntax.imm (Syntax.tyInt Syntax.w8)) 14) (List._∷_ (29, Rows.any-gone (Syntax.tyStruct (List._∷_ 38 (List._∷_ 91 (List._∷_ 93 List.[]))) (Syntax.tcons (Syntax.tyRef Syntax.erased Syntax.imm (Syntax.tyInt Syntax.w8)) (Syntax.tcons (Syntax.tyInt Syntax.w64) Syntax.tnil)))) (List._∷_ (30, Rows.any-gone Syntax.tyUnit) (List._∷_ (31, Rows.any-gone (Syntax.tyRef Syntax.erased Syntax.imm (Syntax.tyInt Syntax.w8))) List.[])))))))))))))))
@@ -425,10 +425,10 @@ abbrev pub t51 : List.List Row.Entry
 t51 = List._∷_ (16, Rows.any-gone (Syntax.tyStruct (List._∷_ 38 (List._∷_ 91 (List._∷_ 93 List.[]))) (Syntax.tcons (Syntax.tyRef Syntax.erased Syntax.mut (Syntax.tyInt Syntax.w8)) (Syntax.tcons (Syntax.tyInt Syntax.w64) Syntax.tnil)))) (List._∷_ (17, Rows.any-gone (Syntax.tyRef Syntax.erased Syntax.mut (Syntax.tyInt Syntax.w8))) (List._∷_ (18, Rows.any-gone (Syntax.tyStruct (List._∷_ 38 (List._∷_ 91 (List._∷_ 93 List.[]))) (Syntax.tcons (Syntax.tyRef Syntax.erased Syntax.mut (Syntax.tyInt Syntax.w8)) (Syntax.tcons (Syntax.tyInt Syntax.w64) Syntax.tnil)))) (List._∷_ (19, Rows.any-gone Syntax.tyBool) (List._∷_ (20, Rows.any-gone (Syntax.tyRef Syntax.erased Syntax.mut OfOutput.named)) (List._∷_ (21, Rows.any-gone (Syntax.tyStruct (List._∷_ 38 (List._∷_ 91 (List._∷_ 93 List.[]))) (Syntax.tcons (Syntax.tyRef Syntax.erased Syntax.mut OfOutput.named) (Syntax.tcons (Syntax.tyInt Syntax.w64) Syntax.tnil)))) (List._∷_ (22, Rows.any-gone (Syntax.tyRef Syntax.erased Syntax.mut OfStation.named)) (List._∷_ (23, Rows.any-gone (Syntax.tyStruct (List._∷_ 38 (List._∷_ 91 (List._∷_ 93 List.[]))) (Syntax.tcons (Syntax.tyRef Syntax.erased Syntax.mut OfStation.named) (Syntax.tcons (Syntax.tyInt Syntax.w64) Syntax.tnil)))) (List._∷_ (24, Rows.any-gone (Syntax.tyRef Syntax.erased Syntax.mut OfPanelRecord.named)) (List._∷_ (25, Rows.any-gone (Syntax.tyRef Syntax.erased Syntax.mut (Syntax.tyInt Syntax.w8))) (List._∷_ (26, Rows.any-gone (Syntax.tyStruct (List._∷_ 38 (List._∷_ 91 (List._∷_ 93 List.[]))) (Syntax.tcons (Syntax.tyRef Syntax.erased Syntax.mut (Syntax.tyInt Syntax.w8)) (Syntax.tcons (Syntax.tyInt Syntax.w64) Syntax.tnil)))) (List._∷_ (27, Rows.sc-here Row.sUnit) (List._∷_ (28, Rows.any-gone (Syntax.tyRef Syntax.erased Syntax.imm (Syntax.tyInt Syntax.w8))) (List._∷_ (29, Rows.any-gone (Syntax.tyStruct (List._∷_ 38 (List._∷_ 91 (List._∷_ 93 List.[]))) (Syntax.tcons (Syntax.tyRef Syntax.erased Syntax.imm (Syntax.tyInt Syntax.w8)) (Syntax.tcons (Syntax.tyInt Syntax.w64) Syntax.tnil)))) (List._∷_ (30, Rows.any-gone Syntax.tyUnit) (List._∷_ (31, Rows.any-gone (Syntax.tyRef Syntax.erased Syntax.imm (Syntax.tyInt Syntax.w8))) List.[])))))))))))))))
 
 abbrev pub t52 : List.List Row.Entry
-t52 = List._∷_ (0, Rows.any-gone Syntax.tyUnit) (List._∷_ (1, Mut.mslice (OfOutput.row) (Syntax.tyRef (Syntax.named 0) Syntax.mut OfOutput.named) 0) (List._∷_ (2, Mut.mslice (OfStation.row) (Syntax.tyRef (Syntax.named 1) Syntax.mut OfStation.named) 1) (List._∷_ (3, Rows.mref (OfPanelRecord.row) (Syntax.tyRef (Syntax.named 2) Syntax.mut OfPanelRecord.named) 2) (List._∷_ (4, Reshare.mslice-owedS (Referent.rtF (Referent.fInt Syntax.w8)) (Syntax.tyRef (Syntax.named 3) Syntax.mut (Syntax.tyInt Syntax.w8)) 3 14 Row.off) (List._∷_ (5, Mut.mslice (Referent.rtF (Referent.fInt Syntax.w8)) (Syntax.tyRef (Syntax.named 4) Syntax.mut (Syntax.tyInt Syntax.w8)) 4) (List._∷_ (6, Rows.sc-here Row.sBool) (List._∷_ (7, Rows.any-gone (Laws.mir)) (List._∷_ (8, Rows.any-gone (Syntax.tyStruct (List._∷_ 116 (List._∷_ 101 (List._∷_ 120 (List._∷_ 116 (List._∷_ 95 (List._∷_ 114 (List._∷_ 101 (List._∷_ 97 (List._∷_ 100 (List._∷_ 105 (List._∷_ 110 (List._∷_ 103 (List._∷_ 58 (List._∷_ 58 (List._∷_ 82 (List._∷_ 101 (List._∷_ 97 (List._∷_ 100 (List._∷_ 101 (List._∷_ 114 List.[])))))))))))))))))))) (Syntax.tcons Syntax.tyBool (Syntax.tcons (Syntax.tyInt Syntax.w64) (Syntax.tcons (Syntax.tyEnum (List._∷_ 116 (List._∷_ 101 (List._∷_ 120 (List._∷_ 116 (List._∷_ 95 (List._∷_ 114 (List._∷_ 101 (List._∷_ 97 (List._∷_ 100 (List._∷_ 105 (List._∷_ 110 (List._∷_ 103 (List._∷_ 58 (List._∷_ 58 (List._∷_ 72 (List._∷_ 101 (List._∷_ 108 (List._∷_ 100 List.[])))))))))))))))))) (Syntax.ttcons Syntax.tnil (Syntax.ttcons Syntax.tnil (Syntax.ttcons (Syntax.tcons (Syntax.tyStruct (List._∷_ 116 (List._∷_ 101 (List._∷_ 120 (List._∷_ 116 (List._∷_ 95 (List._∷_ 104 (List._∷_ 101 (List._∷_ 97 (List._∷_ 100 (List._∷_ 105 (List._∷_ 110 (List._∷_ 103 (List._∷_ 58 (List._∷_ 58 (List._∷_ 72 (List._∷_ 101 (List._∷_ 97 (List._∷_ 100 (List._∷_ 105 (List._∷_ 110 (List._∷_ 103 List.[]))))))))))))))))))))) (Syntax.tcons (IsParameters.mir) (Syntax.tcons (Syntax.tyStruct (List._∷_ 116 (List._∷_ 101 (List._∷_ 120 (List._∷_ 116 (List._∷_ 95 (List._∷_ 104 (List._∷_ 101 (List._∷_ 97 (List._∷_ 100 (List._∷_ 105 (List._∷_ 110 (List._∷_ 103 (List._∷_ 58 (List._∷_ 58 (List._∷_ 67 (List._∷_ 97 (List._∷_ 109 (List._∷_ 101 List.[])))))))))))))))))) (Syntax.tcons Syntax.tyBool (Syntax.tcons Syntax.tyBool (Syntax.tcons Syntax.tyBool Syntax.tnil)))) (Syntax.tcons (Syntax.tyEnum (List._∷_ 116 (List._∷_ 101 (List._∷_ 120 (List._∷_ 116 (List._∷_ 95 (List._∷_ 104 (List._∷_ 101 (List._∷_ 97 (List._∷_ 100 (List._∷_ 105 (List._∷_ 110 (List._∷_ 103 (List._∷_ 58 (List._∷_ 58 (List._∷_ 80 (List._∷_ 108 (List._∷_ 97 (List._∷_ 99 (List._∷_ 101 List.[]))))))))))))))))))) (Syntax.ttcons (Syntax.tcons (Syntax.tyEnum (List._∷_ 116 (List._∷_ 101 (List._∷_ 120 (List._∷_ 116 (List._∷_ 95 (List._∷_ 104 (List._∷_ 101 (List._∷_ 97 (List._∷_ 100 (List._∷_ 105 (List._∷_ 110 (List._∷_ 103 (List._∷_ 58 (List._∷_ 58 (List._∷_ 87 (List._∷_ 111 (List._∷_ 114 (List._∷_ 100 List.[])))))))))))))))))) (Syntax.ttcons Syntax.tnil (Syntax.ttcons Syntax.tnil (Syntax.ttcons Syntax.tnil (Syntax.ttcons Syntax.tnil Syntax.ttnil))))) (Syntax.tcons (Syntax.tyInt Syntax.w8) Syntax.tnil)) (Syntax.ttcons (Syntax.tcons (Syntax.tyEnum (List._∷_ 116 (List._∷_ 101 (List._∷_ 120 (List._∷_ 116 (List._∷_ 95 (List._∷_ 104 (List._∷_ 101 (List._∷_ 97 (List._∷_ 100 (List._∷_ 105 (List._∷_ 110 (List._∷_ 103 (List._∷_ 58 (List._∷_ 58 (List._∷_ 87 (List._∷_ 111 (List._∷_ 114 (List._∷_ 100 List.[])))))))))))))))))) (Syntax.ttcons Syntax.tnil (Syntax.ttcons Syntax.tnil (Syntax.ttcons Syntax.tnil (Syntax.ttcons Syntax.tnil Syntax.ttnil))))) Syntax.tnil) (Syntax.ttcons (Syntax.tcons (Syntax.tyEnum (List._∷_ 116 (List._∷_ 101 (List._∷_ 120 (List._∷_ 116 (List._∷_ 95 (List._∷_ 104 (List._∷_ 101 (List._∷_ 97 (List._∷_ 100 (List._∷_ 105 (List._∷_ 110 (List._∷_ 103 (List._∷_ 58 (List._∷_ 58 (List._∷_ 87 (List._∷_ 111 (List._∷_ 114 (List._∷_ 100 List.[])))))))))))))))))) (Syntax.ttcons Syntax.tnil (Syntax.ttcons Syntax.tnil (Syntax.ttcons Syntax.tnil (Syntax.ttcons Syntax.tnil Syntax.ttnil))))) Syntax.tnil) (Syntax.ttcons Syntax.tnil (Syntax.ttcons (Syntax.tcons (Syntax.tyEnum (List._∷_ 116 (List._∷_ 101 (List._∷_ 120 (List._∷_ 116 (List._∷_ 95 (List._∷_ 104 (List._∷_ 101 (List._∷_ 97 (List._∷_ 100 (List._∷_ 105 (List._∷_ 110 (List._∷_ 103 (List._∷_ 58 (List._∷_ 58 (List._∷_ 72 (List._∷_ 101 (List._∷_ 97 (List._∷_ 100 (List._∷_ 105 (List._∷_ 110 (List._∷_ 103 (List._∷_ 70 (List._∷_ 97 (List._∷_ 117 (List._∷_ 108 (List._∷_ 116 List.[])))))))))))))))))))))))))) (Syntax.ttcons Syntax.tnil (Syntax.ttcons Syntax.tnil (Syntax.ttcons Syntax.tnil (Syntax.ttcons (Syntax.tcons (Syntax.tyEnum (List._∷_ 116 (List._∷_ 101 (List._∷_ 120 (List._∷_ 116 (List._∷_ 95 (List._∷_ 104 (List._∷_ 101 (List._∷_ 97 (List._∷_ 100 (List._∷_ 105 (List._∷_ 110 (List._∷_ 103 (List._∷_ 58 (List._∷_ 58 (List._∷_ 87 (List._∷_ 111 (List._∷_ 114 (List._∷_ 100 List.[])))))))))))))))))) (Syntax.ttcons Syntax.tnil (Syntax.ttcons Syntax.tnil (Syntax.ttcons Syntax.tnil (Syntax.ttcons Syntax.tnil Syntax.ttnil))))) Syntax.tnil) Syntax.ttnil))))) Syntax.tnil) Syntax.ttnil)))))) Syntax.tnil)))) Syntax.tnil) (Syntax.ttcons Syntax.tnil (Syntax.ttcons (Syntax.tcons (Syntax.tyInt Syntax.w8) Syntax.tnil) (Syntax.ttcons Syntax.tnil (Syntax.ttcons (Syntax.tcons (Syntax.tyEnum (List._∷_ 116 (List._∷_ 101 (List._∷_ 120 (List._∷_ 116 (List._∷_ 95 (List._∷_ 114 (List._∷_ 101 (List._∷_ 97 (List._∷_ 100 (List._∷_ 105 (List._∷_ 110 (List._∷_ 103 (List._∷_ 58 (List._∷_ 58 (List._∷_ 70 (List._∷_ 97 (List._∷_ 117 (List._∷_ 108 (List._∷_ 116 List.[]))))))))))))))))))) (Syntax.ttcons (Syntax.tcons (Syntax.tyEnum (List._∷_ 116 (List._∷_ 101 (List._∷_ 120 (List._∷_ 116 (List._∷_ 95 (List._∷_ 104 (List._∷_ 101 (List._∷_ 97 (List._∷_ 100 (List._∷_ 105 (List._∷_ 110 (List._∷_ 103 (List._∷_ 58 (List._∷_ 58 (List._∷_ 72 (List._∷_ 101 (List._∷_ 97 (List._∷_ 100 (List._∷_ 105 (List._∷_ 110 (List._∷_ 103 (List._∷_ 70 (List._∷_ 97 (List._∷_ 117 (List._∷_ 108 (List._∷_ 116 List.[])))))))))))))))))))))))))) (Syntax.ttcons Syntax.tnil (Syntax.ttcons Syntax.tnil (Syntax.ttcons Syntax.tnil (Syntax.ttcons (Syntax.tcons (Syntax.tyEnum (List._∷_ 116 (List._∷_ 101 (List._∷_ 120 (List._∷_ 116 (List._∷_ 95 (List._∷_ 104 (List._∷_ 101 (List._∷_ 97 (List._∷_ 100 (List._∷_ 105 (List._∷_ 110 (List._∷_ 103 (List._∷_ 58 (List._∷_ 58 (List._∷_ 87 (List._∷_ 111 (List._∷_ 114 (List._∷_ 100 List.[])))))))))))))))))) (Syntax.ttcons Syntax.tnil (Syntax.ttcons Syntax.tnil (Syntax.ttcons Syntax.tnil (Syntax.ttcons Syntax.tnil Syntax.ttnil))))) Syntax.tnil) Syntax.ttnil))))) Syntax.tnil) (Syntax.ttcons Syntax.tnil (Syntax.ttcons Syntax.tnil Syntax.ttnil)))) Syntax.tnil) Syntax.ttnil)))))))) (Syntax.tcons (Syntax.tyArray (Syntax.tyInt Syntax.w8) 32) (Syntax.tcons (Syntax.tyInt Syntax.w64) Syntax.tnil))))))) (List._∷_ (9, Rows.any-gone (Syntax.tyInt Syntax.w64)) (List._∷_ (10, Rows.any-gone (Syntax.tyRef Syntax.erased Syntax.mut OfOutput.named)) (List._∷_ (11, Rows.any-gone (Syntax.tyStruct (List._∷_ 38 (List._∷_ 91 (List._∷_ 93 List.[]))) (Syntax.tcons (Syntax.tyRef Syntax.erased Syntax.mut OfOutput.named) (Syntax.tcons (Syntax.tyInt Syntax.w64) Syntax.tnil)))) (List._∷_ (12, Rows.any-gone (Syntax.tyRef Syntax.erased Syntax.mut OfStation.named)) (List._∷_ (13, Rows.any-gone (Syntax.tyStruct (List._∷_ 38 (List._∷_ 91 (List._∷_ 93 List.[]))) (Syntax.tcons (Syntax.tyRef Syntax.erased Syntax.mut OfStation.named) (Syntax.tcons (Syntax.tyInt Syntax.w64) Syntax.tnil)))) (List._∷_ (14, Rows.any-gone (Syntax.tyRef Syntax.erased Syntax.mut OfPanelRecord.named)) (List._∷_ (15, Rows.any-gone (Syntax.tyRef Syntax.erased Syntax.mut (Syntax.tyInt Syntax.w8))) List.[])))))))))))))))
+t52 = List._∷_ (0, Rows.any-gone Syntax.tyUnit) (List._∷_ (1, Mut.mslice (OfOutput.row) (Syntax.tyRef (Syntax.named 0) Syntax.mut OfOutput.named) 0) (List._∷_ (2, Mut.mslice (OfStation.row) (Syntax.tyRef (Syntax.named 1) Syntax.mut OfStation.named) 1) (List._∷_ (3, Rows.mref (OfPanelRecord.row) (Syntax.tyRef (Syntax.named 2) Syntax.mut OfPanelRecord.named) 2) (List._∷_ (4, Reshare.mslice-owedS (Referent.rtF (Referent.fInt Syntax.w8)) (Syntax.tyRef (Syntax.named 3) Syntax.mut (Syntax.tyInt Syntax.w8)) 3 14 Row.off) (List._∷_ (5, Mut.mslice (Referent.rtF (Referent.fInt Syntax.w8)) (Syntax.tyRef (Syntax.named 4) Syntax.mut (Syntax.tyInt Syntax.w8)) 4) (List._∷_ (6, Rows.sc-here Row.sBool) (List._∷_ (7, Rows.any-gone (Laws.mir)) (List._∷_ (8, Rows.any-gone (Syntax.tyStruct (List._∷_ 116 (List._∷_ 101 (List._∷_ 120 (List._∷_ 116 (List._∷_ 95 (List._∷_ 114 (List._∷_ 101 (List._∷_ 97 (List._∷_ 100 (List._∷_ 105 (List._∷_ 110 (List._∷_ 103 (List._∷_ 58 (List._∷_ 58 (List._∷_ 82 (List._∷_ 101 (List._∷_ 97 (List._∷_ 100 (List._∷_ 101 (List._∷_ 114 List.[])))))))))))))))))))) (Syntax.tcons Syntax.tyBool (Syntax.tcons (Syntax.tyInt Syntax.w64) (Syntax.tcons (Syntax.tyEnum (List._∷_ 116 (List._∷_ 101 (List._∷_ 120 (List._∷_ 116 (List._∷_ 95 (List._∷_ 114 (List._∷_ 101 (List._∷_ 97 (List._∷_ 100 (List._∷_ 105 (List._∷_ 110 (List._∷_ 103 (List._∷_ 58 (List._∷_ 58 (List._∷_ 72 (List._∷_ 101 (List._∷_ 108 (List._∷_ 100 List.[])))))))))))))))))) (Syntax.ttcons Syntax.tnil (Syntax.ttcons Syntax.tnil (Syntax.ttcons (Syntax.tcons (Syntax.tyStruct (List._∷_ 116 (List._∷_ 101 (List._∷_ 120 (List._∷_ 116 (List._∷_ 95 (List._∷_ 104 (List._∷_ 101 (List._∷_ 97 (List._∷_ 100 (List._∷_ 105 (List._∷_ 110 (List._∷_ 103 (List._∷_ 58 (List._∷_ 58 (List._∷_ 72 (List._∷_ 101 (List._∷_ 97 (List._∷_ 100 (List._∷_ 105 (List._∷_ 110 (List._∷_ 103 List.[]))))))))))))))))))))) (Syntax.tcons (Syntax.tyStruct (List._∷_ 116 (List._∷_ 101 (List._∷_ 120 (List._∷_ 116 (List._∷_ 95 (List._∷_ 104 (List._∷_ 101 (List._∷_ 97 (List._∷_ 100 (List._∷_ 105 (List._∷_ 110 (List._∷_ 103 (List._∷_ 58 (List._∷_ 58 (List._∷_ 78 (List._∷_ 97 (List._∷_ 109 (List._∷_ 101 (List._∷_ 100 List.[]))))))))))))))))))) (Syntax.tcons (IsParameters.mir) (Syntax.tcons (Syntax.tyInt Syntax.w32) Syntax.tnil))) (Syntax.tcons (Syntax.tyStruct (List._∷_ 116 (List._∷_ 101 (List._∷_ 120 (List._∷_ 116 (List._∷_ 95 (List._∷_ 104 (List._∷_ 101 (List._∷_ 97 (List._∷_ 100 (List._∷_ 105 (List._∷_ 110 (List._∷_ 103 (List._∷_ 58 (List._∷_ 58 (List._∷_ 67 (List._∷_ 97 (List._∷_ 109 (List._∷_ 101 List.[])))))))))))))))))) (Syntax.tcons Syntax.tyBool (Syntax.tcons Syntax.tyBool (Syntax.tcons Syntax.tyBool (Syntax.tcons Syntax.tyBool Syntax.tnil))))) (Syntax.tcons (Syntax.tyEnum (List._∷_ 116 (List._∷_ 101 (List._∷_ 120 (List._∷_ 116 (List._∷_ 95 (List._∷_ 104 (List._∷_ 101 (List._∷_ 97 (List._∷_ 100 (List._∷_ 105 (List._∷_ 110 (List._∷_ 103 (List._∷_ 58 (List._∷_ 58 (List._∷_ 80 (List._∷_ 108 (List._∷_ 97 (List._∷_ 99 (List._∷_ 101 List.[]))))))))))))))))))) (Syntax.ttcons (Syntax.tcons (Syntax.tyEnum (List._∷_ 116 (List._∷_ 101 (List._∷_ 120 (List._∷_ 116 (List._∷_ 95 (List._∷_ 104 (List._∷_ 101 (List._∷_ 97 (List._∷_ 100 (List._∷_ 105 (List._∷_ 110 (List._∷_ 103 (List._∷_ 58 (List._∷_ 58 (List._∷_ 87 (List._∷_ 111 (List._∷_ 114 (List._∷_ 100 List.[])))))))))))))))))) (Syntax.ttcons Syntax.tnil (Syntax.ttcons Syntax.tnil (Syntax.ttcons Syntax.tnil (Syntax.ttcons Syntax.tnil (Syntax.ttcons Syntax.tnil Syntax.ttnil)))))) (Syntax.tcons (Syntax.tyInt Syntax.w8) Syntax.tnil)) (Syntax.ttcons (Syntax.tcons (Syntax.tyEnum (List._∷_ 116 (List._∷_ 101 (List._∷_ 120 (List._∷_ 116 (List._∷_ 95 (List._∷_ 104 (List._∷_ 101 (List._∷_ 97 (List._∷_ 100 (List._∷_ 105 (List._∷_ 110 (List._∷_ 103 (List._∷_ 58 (List._∷_ 58 (List._∷_ 87 (List._∷_ 111 (List._∷_ 114 (List._∷_ 100 List.[])))))))))))))))))) (Syntax.ttcons Syntax.tnil (Syntax.ttcons Syntax.tnil (Syntax.ttcons Syntax.tnil (Syntax.ttcons Syntax.tnil (Syntax.ttcons Syntax.tnil Syntax.ttnil)))))) Syntax.tnil) (Syntax.ttcons (Syntax.tcons (Syntax.tyEnum (List._∷_ 116 (List._∷_ 101 (List._∷_ 120 (List._∷_ 116 (List._∷_ 95 (List._∷_ 104 (List._∷_ 101 (List._∷_ 97 (List._∷_ 100 (List._∷_ 105 (List._∷_ 110 (List._∷_ 103 (List._∷_ 58 (List._∷_ 58 (List._∷_ 87 (List._∷_ 111 (List._∷_ 114 (List._∷_ 100 List.[])))))))))))))))))) (Syntax.ttcons Syntax.tnil (Syntax.ttcons Syntax.tnil (Syntax.ttcons Syntax.tnil (Syntax.ttcons Syntax.tnil (Syntax.ttcons Syntax.tnil Syntax.ttnil)))))) (Syntax.tcons (Syntax.tyInt Syntax.w8) Syntax.tnil)) (Syntax.ttcons Syntax.tnil (Syntax.ttcons (Syntax.tcons (Syntax.tyEnum (List._∷_ 116 (List._∷_ 101 (List._∷_ 120 (List._∷_ 116 (List._∷_ 95 (List._∷_ 104 (List._∷_ 101 (List._∷_ 97 (List._∷_ 100 (List._∷_ 105 (List._∷_ 110 (List._∷_ 103 (List._∷_ 58 (List._∷_ 58 (List._∷_ 72 (List._∷_ 101 (List._∷_ 97 (List._∷_ 100 (List._∷_ 105 (List._∷_ 110 (List._∷_ 103 (List._∷_ 70 (List._∷_ 97 (List._∷_ 117 (List._∷_ 108 (List._∷_ 116 List.[])))))))))))))))))))))))))) (Syntax.ttcons Syntax.tnil (Syntax.ttcons Syntax.tnil (Syntax.ttcons Syntax.tnil (Syntax.ttcons Syntax.tnil (Syntax.ttcons (Syntax.tcons (Syntax.tyEnum (List._∷_ 116 (List._∷_ 101 (List._∷_ 120 (List._∷_ 116 (List._∷_ 95 (List._∷_ 104 (List._∷_ 101 (List._∷_ 97 (List._∷_ 100 (List._∷_ 105 (List._∷_ 110 (List._∷_ 103 (List._∷_ 58 (List._∷_ 58 (List._∷_ 87 (List._∷_ 111 (List._∷_ 114 (List._∷_ 100 List.[])))))))))))))))))) (Syntax.ttcons Syntax.tnil (Syntax.ttcons Syntax.tnil (Syntax.ttcons Syntax.tnil (Syntax.ttcons Syntax.tnil (Syntax.ttcons Syntax.tnil Syntax.ttnil)))))) Syntax.tnil) Syntax.ttnil)))))) Syntax.tnil) Syntax.ttnil)))))) Syntax.tnil)))) Syntax.tnil) (Syntax.ttcons Syntax.tnil (Syntax.ttcons (Syntax.tcons (Syntax.tyInt Syntax.w8) Syntax.tnil) (Syntax.ttcons Syntax.tnil (Syntax.ttcons (Syntax.tcons (Syntax.tyEnum (List._∷_ 116 (List._∷_ 101 (List._∷_ 120 (List._∷_ 116 (List._∷_ 95 (List._∷_ 114 (List._∷_ 101 (List._∷_ 97 (List._∷_ 100 (List._∷_ 105 (List._∷_ 110 (List._∷_ 103 (List._∷_ 58 (List._∷_ 58 (List._∷_ 70 (List._∷_ 97 (List._∷_ 117 (List._∷_ 108 (List._∷_ 116 List.[]))))))))))))))))))) (Syntax.ttcons (Syntax.tcons (Syntax.tyEnum (List._∷_ 116 (List._∷_ 101 (List._∷_ 120 (List._∷_ 116 (List._∷_ 95 (List._∷_ 104 (List._∷_ 101 (List._∷_ 97 (List._∷_ 100 (List._∷_ 105 (List._∷_ 110 (List._∷_ 103 (List._∷_ 58 (List._∷_ 58 (List._∷_ 72 (List._∷_ 101 (List._∷_ 97 (List._∷_ 100 (List._∷_ 105 (List._∷_ 110 (List._∷_ 103 (List._∷_ 70 (List._∷_ 97 (List._∷_ 117 (List._∷_ 108 (List._∷_ 116 List.[])))))))))))))))))))))))))) (Syntax.ttcons Syntax.tnil (Syntax.ttcons Syntax.tnil (Syntax.ttcons Syntax.tnil (Syntax.ttcons Syntax.tnil (Syntax.ttcons (Syntax.tcons (Syntax.tyEnum (List._∷_ 116 (List._∷_ 101 (List._∷_ 120 (List._∷_ 116 (List._∷_ 95 (List._∷_ 104 (List._∷_ 101 (List._∷_ 97 (List._∷_ 100 (List._∷_ 105 (List._∷_ 110 (List._∷_ 103 (List._∷_ 58 (List._∷_ 58 (List._∷_ 87 (List._∷_ 111 (List._∷_ 114 (List._∷_ 100 List.[])))))))))))))))))) (Syntax.ttcons Syntax.tnil (Syntax.ttcons Syntax.tnil (Syntax.ttcons Syntax.tnil (Syntax.ttcons Syntax.tnil (Syntax.ttcons Syntax.tnil Syntax.ttnil)))))) Syntax.tnil) Syntax.ttnil)))))) Syntax.tnil) (Syntax.ttcons Syntax.tnil (Syntax.ttcons Syntax.tnil Syntax.ttnil)))) Syntax.tnil) Syntax.ttnil)))))))) (Syntax.tcons (Syntax.tyArray (Syntax.tyInt Syntax.w8) 32) (Syntax.tcons (Syntax.tyInt Syntax.w64) Syntax.tnil))))))) (List._∷_ (9, Rows.any-gone (Syntax.tyInt Syntax.w64)) (List._∷_ (10, Rows.any-gone (Syntax.tyRef Syntax.erased Syntax.mut OfOutput.named)) (List._∷_ (11, Rows.any-gone (Syntax.tyStruct (List._∷_ 38 (List._∷_ 91 (List._∷_ 93 List.[]))) (Syntax.tcons (Syntax.tyRef Syntax.erased Syntax.mut OfOutput.named) (Syntax.tcons (Syntax.tyInt Syntax.w64) Syntax.tnil)))) (List._∷_ (12, Rows.any-gone (Syntax.tyRef Syntax.erased Syntax.mut OfStation.named)) (List._∷_ (13, Rows.any-gone (Syntax.tyStruct (List._∷_ 38 (List._∷_ 91 (List._∷_ 93 List.[]))) (Syntax.tcons (Syntax.tyRef Syntax.erased Syntax.mut OfStation.named) (Syntax.tcons (Syntax.tyInt Syntax.w64) Syntax.tnil)))) (List._∷_ (14, Rows.any-gone (Syntax.tyRef Syntax.erased Syntax.mut OfPanelRecord.named)) (List._∷_ (15, Rows.any-gone (Syntax.tyRef Syntax.erased Syntax.mut (Syntax.tyInt Syntax.w8))) List.[])))))))))))))))
 
 abbrev pub t53 : List.List Row.Entry
-t53 = List._∷_ (0, Rows.any-gone Syntax.tyUnit) (List._∷_ (1, Mut.mslice (OfOutput.row) (Syntax.tyRef (Syntax.named 0) Syntax.mut OfOutput.named) 0) (List._∷_ (2, Mut.mslice (OfStation.row) (Syntax.tyRef (Syntax.named 1) Syntax.mut OfStation.named) 1) (List._∷_ (3, Rows.mref (OfPanelRecord.row) (Syntax.tyRef (Syntax.named 2) Syntax.mut OfPanelRecord.named) 2) (List._∷_ (4, Reshare.mslice-owedS (Referent.rtF (Referent.fInt Syntax.w8)) (Syntax.tyRef (Syntax.named 3) Syntax.mut (Syntax.tyInt Syntax.w8)) 3 15 Row.off) (List._∷_ (5, Mut.mslice (Referent.rtF (Referent.fInt Syntax.w8)) (Syntax.tyRef (Syntax.named 4) Syntax.mut (Syntax.tyInt Syntax.w8)) 4) (List._∷_ (6, Rows.sc-here Row.sBool) (List._∷_ (7, Rows.whole (Declared.row Turn.the-type)) (List._∷_ (8, Rows.any-gone (Syntax.tyStruct (List._∷_ 116 (List._∷_ 101 (List._∷_ 120 (List._∷_ 116 (List._∷_ 95 (List._∷_ 114 (List._∷_ 101 (List._∷_ 97 (List._∷_ 100 (List._∷_ 105 (List._∷_ 110 (List._∷_ 103 (List._∷_ 58 (List._∷_ 58 (List._∷_ 82 (List._∷_ 101 (List._∷_ 97 (List._∷_ 100 (List._∷_ 101 (List._∷_ 114 List.[])))))))))))))))))))) (Syntax.tcons Syntax.tyBool (Syntax.tcons (Syntax.tyInt Syntax.w64) (Syntax.tcons (Syntax.tyEnum (List._∷_ 116 (List._∷_ 101 (List._∷_ 120 (List._∷_ 116 (List._∷_ 95 (List._∷_ 114 (List._∷_ 101 (List._∷_ 97 (List._∷_ 100 (List._∷_ 105 (List._∷_ 110 (List._∷_ 103 (List._∷_ 58 (List._∷_ 58 (List._∷_ 72 (List._∷_ 101 (List._∷_ 108 (List._∷_ 100 List.[])))))))))))))))))) (Syntax.ttcons Syntax.tnil (Syntax.ttcons Syntax.tnil (Syntax.ttcons (Syntax.tcons (Syntax.tyStruct (List._∷_ 116 (List._∷_ 101 (List._∷_ 120 (List._∷_ 116 (List._∷_ 95 (List._∷_ 104 (List._∷_ 101 (List._∷_ 97 (List._∷_ 100 (List._∷_ 105 (List._∷_ 110 (List._∷_ 103 (List._∷_ 58 (List._∷_ 58 (List._∷_ 72 (List._∷_ 101 (List._∷_ 97 (List._∷_ 100 (List._∷_ 105 (List._∷_ 110 (List._∷_ 103 List.[]))))))))))))))))))))) (Syntax.tcons (IsParameters.mir) (Syntax.tcons (Syntax.tyStruct (List._∷_ 116 (List._∷_ 101 (List._∷_ 120 (List._∷_ 116 (List._∷_ 95 (List._∷_ 104 (List._∷_ 101 (List._∷_ 97 (List._∷_ 100 (List._∷_ 105 (List._∷_ 110 (List._∷_ 103 (List._∷_ 58 (List._∷_ 58 (List._∷_ 67 (List._∷_ 97 (List._∷_ 109 (List._∷_ 101 List.[])))))))))))))))))) (Syntax.tcons Syntax.tyBool (Syntax.tcons Syntax.tyBool (Syntax.tcons Syntax.tyBool Syntax.tnil)))) (Syntax.tcons (Syntax.tyEnum (List._∷_ 116 (List._∷_ 101 (List._∷_ 120 (List._∷_ 116 (List._∷_ 95 (List._∷_ 104 (List._∷_ 101 (List._∷_ 97 (List._∷_ 100 (List._∷_ 105 (List._∷_ 110 (List._∷_ 103 (List._∷_ 58 (List._∷_ 58 (List._∷_ 80 (List._∷_ 108 (List._∷_ 97 (List._∷_ 99 (List._∷_ 101 List.[]))))))))))))))))))) (Syntax.ttcons (Syntax.tcons (Syntax.tyEnum (List._∷_ 116 (List._∷_ 101 (List._∷_ 120 (List._∷_ 116 (List._∷_ 95 (List._∷_ 104 (List._∷_ 101 (List._∷_ 97 (List._∷_ 100 (List._∷_ 105 (List._∷_ 110 (List._∷_ 103 (List._∷_ 58 (List._∷_ 58 (List._∷_ 87 (List._∷_ 111 (List._∷_ 114 (List._∷_ 100 List.[])))))))))))))))))) (Syntax.ttcons Syntax.tnil (Syntax.ttcons Syntax.tnil (Syntax.ttcons Syntax.tnil (Syntax.ttcons Syntax.tnil Syntax.ttnil))))) (Syntax.tcons (Syntax.tyInt Syntax.w8) Syntax.tnil)) (Syntax.ttcons (Syntax.tcons (Syntax.tyEnum (List._∷_ 116 (List._∷_ 101 (List._∷_ 120 (List._∷_ 116 (List._∷_ 95 (List._∷_ 104 (List._∷_ 101 (List._∷_ 97 (List._∷_ 100 (List._∷_ 105 (List._∷_ 110 (List._∷_ 103 (List._∷_ 58 (List._∷_ 58 (List._∷_ 87 (List._∷_ 111 (List._∷_ 114 (List._∷_ 100 List.[])))))))))))))))))) (Syntax.ttcons Syntax.tnil (Syntax.ttcons Syntax.tnil (Syntax.ttcons Syntax.tnil (Syntax.ttcons Syntax.tnil Syntax.ttnil))))) Syntax.tnil) (Syntax.ttcons (Syntax.tcons (Syntax.tyEnum (List._∷_ 116 (List._∷_ 101 (List._∷_ 120 (List._∷_ 116 (List._∷_ 95 (List._∷_ 104 (List._∷_ 101 (List._∷_ 97 (List._∷_ 100 (List._∷_ 105 (List._∷_ 110 (List._∷_ 103 (List._∷_ 58 (List._∷_ 58 (List._∷_ 87 (List._∷_ 111 (List._∷_ 114 (List._∷_ 100 List.[])))))))))))))))))) (Syntax.ttcons Syntax.tnil (Syntax.ttcons Syntax.tnil (Syntax.ttcons Syntax.tnil (Syntax.ttcons Syntax.tnil Syntax.ttnil))))) Syntax.tnil) (Syntax.ttcons Syntax.tnil (Syntax.ttcons (Syntax.tcons (Syntax.tyEnum (List._∷_ 116 (List._∷_ 101 (List._∷_ 120 (List._∷_ 116 (List._∷_ 95 (List._∷_ 104 (List._∷_ 101 (List._∷_ 97 (List._∷_ 100 (List._∷_ 105 (List._∷_ 110 (List._∷_ 103 (List._∷_ 58 (List._∷_ 58 (List._∷_ 72 (List._∷_ 101 (List._∷_ 97 (List._∷_ 100 (List._∷_ 105 (List._∷_ 110 (List._∷_ 103 (List._∷_ 70 (List._∷_ 97 (List._∷_ 117 (List._∷_ 108 (List._∷_ 116 List.[])))))))))))))))))))))))))) (Syntax.ttcons Syntax.tnil (Syntax.ttcons Syntax.tnil (Syntax.ttcons Syntax.tnil (Syntax.ttcons (Syntax.tcons (Syntax.tyEnum (List._∷_ 116 (List._∷_ 101 (List._∷_ 120 (List._∷_ 116 (List._∷_ 95 (List._∷_ 104 (List._∷_ 101 (List._∷_ 97 (List._∷_ 100 (List._∷_ 105 (List._∷_ 110 (List._∷_ 103 (List._∷_ 58 (List._∷_ 58 (List._∷_ 87 (List._∷_ 111 (List._∷_ 114 (List._∷_ 100 List.[])))))))))))))))))) (Syntax.ttcons Syntax.tnil (Syntax.ttcons Syntax.tnil (Syntax.ttcons Syntax.tnil (Syntax.ttcons Syntax.tnil Syntax.ttnil))))) Syntax.tnil) Syntax.ttnil))))) Syntax.tnil) Syntax.ttnil)))))) Syntax.tnil)))) Syntax.tnil) (Syntax.ttcons Syntax.tnil (Syntax.ttcons (Syntax.tcons (Syntax.tyInt Syntax.w8) Syntax.tnil) (Syntax.ttcons Syntax.tnil (Syntax.ttcons (Syntax.tcons (Syntax.tyEnum (List._∷_ 116 (List._∷_ 101 (List._∷_ 120 (List._∷_ 116 (List._∷_ 95 (List._∷_ 114 (List._∷_ 101 (List._∷_ 97 (List._∷_ 100 (List._∷_ 105 (List._∷_ 110 (List._∷_ 103 (List._∷_ 58 (List._∷_ 58 (List._∷_ 70 (List._∷_ 97 (List._∷_ 117 (List._∷_ 108 (List._∷_ 116 List.[]))))))))))))))))))) (Syntax.ttcons (Syntax.tcons (Syntax.tyEnum (List._∷_ 116 (List._∷_ 101 (List._∷_ 120 (List._∷_ 116 (List._∷_ 95 (List._∷_ 104 (List._∷_ 101 (List._∷_ 97 (List._∷_ 100 (List._∷_ 105 (List._∷_ 110 (List._∷_ 103 (List._∷_ 58 (List._∷_ 58 (List._∷_ 72 (List._∷_ 101 (List._∷_ 97 (List._∷_ 100 (List._∷_ 105 (List._∷_ 110 (List._∷_ 103 (List._∷_ 70 (List._∷_ 97 (List._∷_ 117 (List._∷_ 108 (List._∷_ 116 List.[])))))))))))))))))))))))))) (Syntax.ttcons Syntax.tnil (Syntax.ttcons Syntax.tnil (Syntax.ttcons Syntax.tnil (Syntax.ttcons (Syntax.tcons (Syntax.tyEnum (List._∷_ 116 (List._∷_ 101 (List._∷_ 120 (List._∷_ 116 (List._∷_ 95 (List._∷_ 104 (List._∷_ 101 (List._∷_ 97 (List._∷_ 100 (List._∷_ 105 (List._∷_ 110 (List._∷_ 103 (List._∷_ 58 (List._∷_ 58 (List._∷_ 87 (List._∷_ 111 (List._∷_ 114 (List._∷_ 100 List.[])))))))))))))))))) (Syntax.ttcons Syntax.tnil (Syntax.ttcons Syntax.tnil (Syntax.ttcons Syntax.tnil (Syntax.ttcons Syntax.tnil Syntax.ttnil))))) Syntax.tnil) Syntax.ttnil))))) Syntax.tnil) (Syntax.ttcons Syntax.tnil (Syntax.ttcons Syntax.tnil Syntax.ttnil)))) Syntax.tnil) Syntax.ttnil)))))))) (Syntax.tcons (Syntax.tyArray (Syntax.tyInt Syntax.w8) 32) (Syntax.tcons (Syntax.tyInt Syntax.w64) Syntax.tnil))))))) (List._∷_ (9, Rows.any-gone (Syntax.tyInt Syntax.w64)) (List._∷_ (10, Rows.any-gone (Syntax.tyRef Syntax.erased Syntax.mut OfOutput.named)) (List._∷_ (11, Rows.any-gone (Syntax.tyStruct (List._∷_ 38 (List._∷_ 91 (List._∷_ 93 List.[]))) (Syntax.tcons (Syntax.tyRef Syntax.erased Syntax.mut OfOutput.named) (Syntax.tcons (Syntax.tyInt Syntax.w64) Syntax.tnil)))) (List._∷_ (12, Rows.any-gone (Syntax.tyRef Syntax.erased Syntax.mut OfStation.named)) (List._∷_ (13, Rows.any-gone (Syntax.tyStruct (List._∷_ 38 (List._∷_ 91 (List._∷_ 93 List.[]))) (Syntax.tcons (Syntax.tyRef Syntax.erased Syntax.mut OfStation.named) (Syntax.tcons (Syntax.tyInt Syntax.w64) Syntax.tnil)))) (List._∷_ (14, Rows.any-gone (Syntax.tyRef Syntax.erased Syntax.mut OfPanelRecord.named)) (List._∷_ (15, Rows.any-gone (Syntax.tyRef Syntax.erased Syntax.mut (Syntax.tyInt Syntax.w8))) List.[])))))))))))))))
+t53 = List._∷_ (0, Rows.any-gone Syntax.tyUnit) (List._∷_ (1, Mut.mslice (OfOutput.row) (Syntax.tyRef (Syntax.named 0) Syntax.mut OfOutput.named) 0) (List._∷_ (2, Mut.mslice (OfStation.row) (Syntax.tyRef (Syntax.named 1) Syntax.mut OfStation.named) 1) (List._∷_ (3, Rows.mref (OfPanelRecord.row) (Syntax.tyRef (Syntax.named 2) Syntax.mut OfPanelRecord.named) 2) (List._∷_ (4, Reshare.mslice-owedS (Referent.rtF (Referent.fInt Syntax.w8)) (Syntax.tyRef (Syntax.named 3) Syntax.mut (Syntax.tyInt Syntax.w8)) 3 15 Row.off) (List._∷_ (5, Mut.mslice (Referent.rtF (Referent.fInt Syntax.w8)) (Syntax.tyRef (Syntax.named 4) Syntax.mut (Syntax.tyInt Syntax.w8)) 4) (List._∷_ (6, Rows.sc-here Row.sBool) (List._∷_ (7, Rows.whole (Declared.row Turn.the-type)) (List._∷_ (8, Rows.any-gone (Syntax.tyStruct (List._∷_ 116 (List._∷_ 101 (List._∷_ 120 (List._∷_ 116 (List._∷_ 95 (List._∷_ 114 (List._∷_ 101 (List._∷_ 97 (List._∷_ 100 (List._∷_ 105 (List._∷_ 110 (List._∷_ 103 (List._∷_ 58 (List._∷_ 58 (List._∷_ 82 (List._∷_ 101 (List._∷_ 97 (List._∷_ 100 (List._∷_ 101 (List._∷_ 114 List.[])))))))))))))))))))) (Syntax.tcons Syntax.tyBool (Syntax.tcons (Syntax.tyInt Syntax.w64) (Syntax.tcons (Syntax.tyEnum (List._∷_ 116 (List._∷_ 101 (List._∷_ 120 (List._∷_ 116 (List._∷_ 95 (List._∷_ 114 (List._∷_ 101 (List._∷_ 97 (List._∷_ 100 (List._∷_ 105 (List._∷_ 110 (List._∷_ 103 (List._∷_ 58 (List._∷_ 58 (List._∷_ 72 (List._∷_ 101 (List._∷_ 108 (List._∷_ 100 List.[])))))))))))))))))) (Syntax.ttcons Syntax.tnil (Syntax.ttcons Syntax.tnil (Syntax.ttcons (Syntax.tcons (Syntax.tyStruct (List._∷_ 116 (List._∷_ 101 (List._∷_ 120 (List._∷_ 116 (List._∷_ 95 (List._∷_ 104 (List._∷_ 101 (List._∷_ 97 (List._∷_ 100 (List._∷_ 105 (List._∷_ 110 (List._∷_ 103 (List._∷_ 58 (List._∷_ 58 (List._∷_ 72 (List._∷_ 101 (List._∷_ 97 (List._∷_ 100 (List._∷_ 105 (List._∷_ 110 (List._∷_ 103 List.[]))))))))))))))))))))) (Syntax.tcons (Syntax.tyStruct (List._∷_ 116 (List._∷_ 101 (List._∷_ 120 (List._∷_ 116 (List._∷_ 95 (List._∷_ 104 (List._∷_ 101 (List._∷_ 97 (List._∷_ 100 (List._∷_ 105 (List._∷_ 110 (List._∷_ 103 (List._∷_ 58 (List._∷_ 58 (List._∷_ 78 (List._∷_ 97 (List._∷_ 109 (List._∷_ 101 (List._∷_ 100 List.[]))))))))))))))))))) (Syntax.tcons (IsParameters.mir) (Syntax.tcons (Syntax.tyInt Syntax.w32) Syntax.tnil))) (Syntax.tcons (Syntax.tyStruct (List._∷_ 116 (List._∷_ 101 (List._∷_ 120 (List._∷_ 116 (List._∷_ 95 (List._∷_ 104 (List._∷_ 101 (List._∷_ 97 (List._∷_ 100 (List._∷_ 105 (List._∷_ 110 (List._∷_ 103 (List._∷_ 58 (List._∷_ 58 (List._∷_ 67 (List._∷_ 97 (List._∷_ 109 (List._∷_ 101 List.[])))))))))))))))))) (Syntax.tcons Syntax.tyBool (Syntax.tcons Syntax.tyBool (Syntax.tcons Syntax.tyBool (Syntax.tcons Syntax.tyBool Syntax.tnil))))) (Syntax.tcons (Syntax.tyEnum (List._∷_ 116 (List._∷_ 101 (List._∷_ 120 (List._∷_ 116 (List._∷_ 95 (List._∷_ 104 (List._∷_ 101 (List._∷_ 97 (List._∷_ 100 (List._∷_ 105 (List._∷_ 110 (List._∷_ 103 (List._∷_ 58 (List._∷_ 58 (List._∷_ 80 (List._∷_ 108 (List._∷_ 97 (List._∷_ 99 (List._∷_ 101 List.[]))))))))))))))))))) (Syntax.ttcons (Syntax.tcons (Syntax.tyEnum (List._∷_ 116 (List._∷_ 101 (List._∷_ 120 (List._∷_ 116 (List._∷_ 95 (List._∷_ 104 (List._∷_ 101 (List._∷_ 97 (List._∷_ 100 (List._∷_ 105 (List._∷_ 110 (List._∷_ 103 (List._∷_ 58 (List._∷_ 58 (List._∷_ 87 (List._∷_ 111 (List._∷_ 114 (List._∷_ 100 List.[])))))))))))))))))) (Syntax.ttcons Syntax.tnil (Syntax.ttcons Syntax.tnil (Syntax.ttcons Syntax.tnil (Syntax.ttcons Syntax.tnil (Syntax.ttcons Syntax.tnil Syntax.ttnil)))))) (Syntax.tcons (Syntax.tyInt Syntax.w8) Syntax.tnil)) (Syntax.ttcons (Syntax.tcons (Syntax.tyEnum (List._∷_ 116 (List._∷_ 101 (List._∷_ 120 (List._∷_ 116 (List._∷_ 95 (List._∷_ 104 (List._∷_ 101 (List._∷_ 97 (List._∷_ 100 (List._∷_ 105 (List._∷_ 110 (List._∷_ 103 (List._∷_ 58 (List._∷_ 58 (List._∷_ 87 (List._∷_ 111 (List._∷_ 114 (List._∷_ 100 List.[])))))))))))))))))) (Syntax.ttcons Syntax.tnil (Syntax.ttcons Syntax.tnil (Syntax.ttcons Syntax.tnil (Syntax.ttcons Syntax.tnil (Syntax.ttcons Syntax.tnil Syntax.ttnil)))))) Syntax.tnil) (Syntax.ttcons (Syntax.tcons (Syntax.tyEnum (List._∷_ 116 (List._∷_ 101 (List._∷_ 120 (List._∷_ 116 (List._∷_ 95 (List._∷_ 104 (List._∷_ 101 (List._∷_ 97 (List._∷_ 100 (List._∷_ 105 (List._∷_ 110 (List._∷_ 103 (List._∷_ 58 (List._∷_ 58 (List._∷_ 87 (List._∷_ 111 (List._∷_ 114 (List._∷_ 100 List.[])))))))))))))))))) (Syntax.ttcons Syntax.tnil (Syntax.ttcons Syntax.tnil (Syntax.ttcons Syntax.tnil (Syntax.ttcons Syntax.tnil (Syntax.ttcons Syntax.tnil Syntax.ttnil)))))) (Syntax.tcons (Syntax.tyInt Syntax.w8) Syntax.tnil)) (Syntax.ttcons Syntax.tnil (Syntax.ttcons (Syntax.tcons (Syntax.tyEnum (List._∷_ 116 (List._∷_ 101 (List._∷_ 120 (List._∷_ 116 (List._∷_ 95 (List._∷_ 104 (List._∷_ 101 (List._∷_ 97 (List._∷_ 100 (List._∷_ 105 (List._∷_ 110 (List._∷_ 103 (List._∷_ 58 (List._∷_ 58 (List._∷_ 72 (List._∷_ 101 (List._∷_ 97 (List._∷_ 100 (List._∷_ 105 (List._∷_ 110 (List._∷_ 103 (List._∷_ 70 (List._∷_ 97 (List._∷_ 117 (List._∷_ 108 (List._∷_ 116 List.[])))))))))))))))))))))))))) (Syntax.ttcons Syntax.tnil (Syntax.ttcons Syntax.tnil (Syntax.ttcons Syntax.tnil (Syntax.ttcons Syntax.tnil (Syntax.ttcons (Syntax.tcons (Syntax.tyEnum (List._∷_ 116 (List._∷_ 101 (List._∷_ 120 (List._∷_ 116 (List._∷_ 95 (List._∷_ 104 (List._∷_ 101 (List._∷_ 97 (List._∷_ 100 (List._∷_ 105 (List._∷_ 110 (List._∷_ 103 (List._∷_ 58 (List._∷_ 58 (List._∷_ 87 (List._∷_ 111 (List._∷_ 114 (List._∷_ 100 List.[])))))))))))))))))) (Syntax.ttcons Syntax.tnil (Syntax.ttcons Syntax.tnil (Syntax.ttcons Syntax.tnil (Syntax.ttcons Syntax.tnil (Syntax.ttcons Syntax.tnil Syntax.ttnil)))))) Syntax.tnil) Syntax.ttnil)))))) Syntax.tnil) Syntax.ttnil)))))) Syntax.tnil)))) Syntax.tnil) (Syntax.ttcons Syntax.tnil (Syntax.ttcons (Syntax.tcons (Syntax.tyInt Syntax.w8) Syntax.tnil) (Syntax.ttcons Syntax.tnil (Syntax.ttcons (Syntax.tcons (Syntax.tyEnum (List._∷_ 116 (List._∷_ 101 (List._∷_ 120 (List._∷_ 116 (List._∷_ 95 (List._∷_ 114 (List._∷_ 101 (List._∷_ 97 (List._∷_ 100 (List._∷_ 105 (List._∷_ 110 (List._∷_ 103 (List._∷_ 58 (List._∷_ 58 (List._∷_ 70 (List._∷_ 97 (List._∷_ 117 (List._∷_ 108 (List._∷_ 116 List.[]))))))))))))))))))) (Syntax.ttcons (Syntax.tcons (Syntax.tyEnum (List._∷_ 116 (List._∷_ 101 (List._∷_ 120 (List._∷_ 116 (List._∷_ 95 (List._∷_ 104 (List._∷_ 101 (List._∷_ 97 (List._∷_ 100 (List._∷_ 105 (List._∷_ 110 (List._∷_ 103 (List._∷_ 58 (List._∷_ 58 (List._∷_ 72 (List._∷_ 101 (List._∷_ 97 (List._∷_ 100 (List._∷_ 105 (List._∷_ 110 (List._∷_ 103 (List._∷_ 70 (List._∷_ 97 (List._∷_ 117 (List._∷_ 108 (List._∷_ 116 List.[])))))))))))))))))))))))))) (Syntax.ttcons Syntax.tnil (Syntax.ttcons Syntax.tnil (Syntax.ttcons Syntax.tnil (Syntax.ttcons Syntax.tnil (Syntax.ttcons (Syntax.tcons (Syntax.tyEnum (List._∷_ 116 (List._∷_ 101 (List._∷_ 120 (List._∷_ 116 (List._∷_ 95 (List._∷_ 104 (List._∷_ 101 (List._∷_ 97 (List._∷_ 100 (List._∷_ 105 (List._∷_ 110 (List._∷_ 103 (List._∷_ 58 (List._∷_ 58 (List._∷_ 87 (List._∷_ 111 (List._∷_ 114 (List._∷_ 100 List.[])))))))))))))))))) (Syntax.ttcons Syntax.tnil (Syntax.ttcons Syntax.tnil (Syntax.ttcons Syntax.tnil (Syntax.ttcons Syntax.tnil (Syntax.ttcons Syntax.tnil Syntax.ttnil)))))) Syntax.tnil) Syntax.ttnil)))))) Syntax.tnil) (Syntax.ttcons Syntax.tnil (Syntax.ttcons Syntax.tnil Syntax.ttnil)))) Syntax.tnil) Syntax.ttnil)))))))) (Syntax.tcons (Syntax.tyArray (Syntax.tyInt Syntax.w8) 32) (Syntax.tcons (Syntax.tyInt Syntax.w64) Syntax.tnil))))))) (List._∷_ (9, Rows.any-gone (Syntax.tyInt Syntax.w64)) (List._∷_ (10, Rows.any-gone (Syntax.tyRef Syntax.erased Syntax.mut OfOutput.named)) (List._∷_ (11, Rows.any-gone (Syntax.tyStruct (List._∷_ 38 (List._∷_ 91 (List._∷_ 93 List.[]))) (Syntax.tcons (Syntax.tyRef Syntax.erased Syntax.mut OfOutput.named) (Syntax.tcons (Syntax.tyInt Syntax.w64) Syntax.tnil)))) (List._∷_ (12, Rows.any-gone (Syntax.tyRef Syntax.erased Syntax.mut OfStation.named)) (List._∷_ (13, Rows.any-gone (Syntax.tyStruct (List._∷_ 38 (List._∷_ 91 (List._∷_ 93 List.[]))) (Syntax.tcons (Syntax.tyRef Syntax.erased Syntax.mut OfStation.named) (Syntax.tcons (Syntax.tyInt Syntax.w64) Syntax.tnil)))) (List._∷_ (14, Rows.any-gone (Syntax.tyRef Syntax.erased Syntax.mut OfPanelRecord.named)) (List._∷_ (15, Rows.any-gone (Syntax.tyRef Syntax.erased Syntax.mut (Syntax.tyInt Syntax.w8))) List.[])))))))))))))))
 
 abbrev pub t54 : List.List Row.Entry
 t54 = List._∷_ (16, Rows.any-gone (Syntax.tyStruct (List._∷_ 38 (List._∷_ 91 (List._∷_ 93 List.[]))) (Syntax.tcons (Syntax.tyRef Syntax.erased Syntax.mut (Syntax.tyInt Syntax.w8)) (Syntax.tcons (Syntax.tyInt Syntax.w64) Syntax.tnil)))) (List._∷_ (17, Rows.any-gone (Syntax.tyRef Syntax.erased Syntax.mut (Syntax.tyInt Syntax.w8))) (List._∷_ (18, Rows.any-gone (Syntax.tyStruct (List._∷_ 38 (List._∷_ 91 (List._∷_ 93 List.[]))) (Syntax.tcons (Syntax.tyRef Syntax.erased Syntax.mut (Syntax.tyInt Syntax.w8)) (Syntax.tcons (Syntax.tyInt Syntax.w64) Syntax.tnil)))) (List._∷_ (19, Rows.any-gone Syntax.tyBool) (List._∷_ (20, Rows.any-gone (Syntax.tyRef Syntax.erased Syntax.mut OfOutput.named)) (List._∷_ (21, Rows.any-gone (Syntax.tyStruct (List._∷_ 38 (List._∷_ 91 (List._∷_ 93 List.[]))) (Syntax.tcons (Syntax.tyRef Syntax.erased Syntax.mut OfOutput.named) (Syntax.tcons (Syntax.tyInt Syntax.w64) Syntax.tnil)))) (List._∷_ (22, Rows.any-gone (Syntax.tyRef Syntax.erased Syntax.mut OfStation.named)) (List._∷_ (23, Rows.any-gone (Syntax.tyStruct (List._∷_ 38 (List._∷_ 91 (List._∷_ 93 List.[]))) (Syntax.tcons (Syntax.tyRef Syntax.erased Syntax.mut OfStation.named) (Syntax.tcons (Syntax.tyInt Syntax.w64) Syntax.tnil)))) (List._∷_ (24, Rows.any-gone (Syntax.tyRef Syntax.erased Syntax.mut OfPanelRecord.named)) (List._∷_ (25, Rows.any-gone (Syntax.tyRef Syntax.erased Syntax.mut (Syntax.tyInt Syntax.w8))) (List._∷_ (26, Rows.any-gone (Syntax.tyStruct (List._∷_ 38 (List._∷_ 91 (List._∷_ 93 List.[]))) (Syntax.tcons (Syntax.tyRef Syntax.erased Syntax.mut (Syntax.tyInt Syntax.w8)) (Syntax.tcons (Syntax.tyInt Syntax.w64) Syntax.tnil)))) (List._∷_ (27, Rows.any-gone Syntax.tyUnit) (List._∷_ (28, Rows.any-gone (Syntax.tyRef Syntax.erased Syntax.imm (Syntax.tyInt Syntax.w8))) (List._∷_ (29, Rows.any-gone (Syntax.tyStruct (List._∷_ 38 (List._∷_ 91 (List._∷_ 93 List.[]))) (Syntax.tcons (Syntax.tyRef Syntax.erased Syntax.imm (Syntax.tyInt Syntax.w8)) (Syntax.tcons (Syntax.tyInt Syntax.w64) Syntax.tnil)))) (List._∷_ (30, Rows.any-gone Syntax.tyUnit) (List._∷_ (31, Relend.ssptr (Referent.rtF (Referent.fInt Syntax.w8)) (Syntax.tyRef Syntax.erased Syntax.imm (Syntax.tyInt Syntax.w8)) 15) List.[])))))))))))))))
@@ -440,10 +440,10 @@ abbrev pub t56 : List.List Row.Entry
 t56 = List._∷_ (16, Rows.any-gone (Syntax.tyStruct (List._∷_ 38 (List._∷_ 91 (List._∷_ 93 List.[]))) (Syntax.tcons (Syntax.tyRef Syntax.erased Syntax.mut (Syntax.tyInt Syntax.w8)) (Syntax.tcons (Syntax.tyInt Syntax.w64) Syntax.tnil)))) (List._∷_ (17, Rows.any-gone (Syntax.tyRef Syntax.erased Syntax.mut (Syntax.tyInt Syntax.w8))) (List._∷_ (18, Rows.any-gone (Syntax.tyStruct (List._∷_ 38 (List._∷_ 91 (List._∷_ 93 List.[]))) (Syntax.tcons (Syntax.tyRef Syntax.erased Syntax.mut (Syntax.tyInt Syntax.w8)) (Syntax.tcons (Syntax.tyInt Syntax.w64) Syntax.tnil)))) (List._∷_ (19, Rows.any-gone Syntax.tyBool) (List._∷_ (20, Rows.any-gone (Syntax.tyRef Syntax.erased Syntax.mut OfOutput.named)) (List._∷_ (21, Rows.any-gone (Syntax.tyStruct (List._∷_ 38 (List._∷_ 91 (List._∷_ 93 List.[]))) (Syntax.tcons (Syntax.tyRef Syntax.erased Syntax.mut OfOutput.named) (Syntax.tcons (Syntax.tyInt Syntax.w64) Syntax.tnil)))) (List._∷_ (22, Rows.any-gone (Syntax.tyRef Syntax.erased Syntax.mut OfStation.named)) (List._∷_ (23, Rows.any-gone (Syntax.tyStruct (List._∷_ 38 (List._∷_ 91 (List._∷_ 93 List.[]))) (Syntax.tcons (Syntax.tyRef Syntax.erased Syntax.mut OfStation.named) (Syntax.tcons (Syntax.tyInt Syntax.w64) Syntax.tnil)))) (List._∷_ (24, Rows.any-gone (Syntax.tyRef Syntax.erased Syntax.mut OfPanelRecord.named)) (List._∷_ (25, Rows.any-gone (Syntax.tyRef Syntax.erased Syntax.mut (Syntax.tyInt Syntax.w8))) (List._∷_ (26, Rows.any-gone (Syntax.tyStruct (List._∷_ 38 (List._∷_ 91 (List._∷_ 93 List.[]))) (Syntax.tcons (Syntax.tyRef Syntax.erased Syntax.mut (Syntax.tyInt Syntax.w8)) (Syntax.tcons (Syntax.tyInt Syntax.w64) Syntax.tnil)))) (List._∷_ (27, Rows.any-gone Syntax.tyUnit) (List._∷_ (28, Rows.any-gone (Syntax.tyRef Syntax.erased Syntax.imm (Syntax.tyInt Syntax.w8))) (List._∷_ (29, Rows.any-gone (Syntax.tyStruct (List._∷_ 38 (List._∷_ 91 (List._∷_ 93 List.[]))) (Syntax.tcons (Syntax.tyRef Syntax.erased Syntax.imm (Syntax.tyInt Syntax.w8)) (Syntax.tcons (Syntax.tyInt Syntax.w64) Syntax.tnil)))) (List._∷_ (30, Rows.sc-here Row.sUnit) (List._∷_ (31, Rows.any-gone (Syntax.tyRef Syntax.erased Syntax.imm (Syntax.tyInt Syntax.w8))) List.[])))))))))))))))
 
 abbrev pub t57 : List.List Row.Entry
-t57 = List._∷_ (0, Rows.any-gone Syntax.tyUnit) (List._∷_ (1, Mut.mslice (OfOutput.row) (Syntax.tyRef (Syntax.named 0) Syntax.mut OfOutput.named) 0) (List._∷_ (2, Mut.mslice (OfStation.row) (Syntax.tyRef (Syntax.named 1) Syntax.mut OfStation.named) 1) (List._∷_ (3, Rows.mref (OfPanelRecord.row) (Syntax.tyRef (Syntax.named 2) Syntax.mut OfPanelRecord.named) 2) (List._∷_ (4, Reshare.mslice-owedS (Referent.rtF (Referent.fInt Syntax.w8)) (Syntax.tyRef (Syntax.named 3) Syntax.mut (Syntax.tyInt Syntax.w8)) 3 15 Row.off) (List._∷_ (5, Mut.mslice (Referent.rtF (Referent.fInt Syntax.w8)) (Syntax.tyRef (Syntax.named 4) Syntax.mut (Syntax.tyInt Syntax.w8)) 4) (List._∷_ (6, Rows.sc-here Row.sBool) (List._∷_ (7, Rows.any-gone (Laws.mir)) (List._∷_ (8, Rows.any-gone (Syntax.tyStruct (List._∷_ 116 (List._∷_ 101 (List._∷_ 120 (List._∷_ 116 (List._∷_ 95 (List._∷_ 114 (List._∷_ 101 (List._∷_ 97 (List._∷_ 100 (List._∷_ 105 (List._∷_ 110 (List._∷_ 103 (List._∷_ 58 (List._∷_ 58 (List._∷_ 82 (List._∷_ 101 (List._∷_ 97 (List._∷_ 100 (List._∷_ 101 (List._∷_ 114 List.[])))))))))))))))))))) (Syntax.tcons Syntax.tyBool (Syntax.tcons (Syntax.tyInt Syntax.w64) (Syntax.tcons (Syntax.tyEnum (List._∷_ 116 (List._∷_ 101 (List._∷_ 120 (List._∷_ 116 (List._∷_ 95 (List._∷_ 114 (List._∷_ 101 (List._∷_ 97 (List._∷_ 100 (List._∷_ 105 (List._∷_ 110 (List._∷_ 103 (List._∷_ 58 (List._∷_ 58 (List._∷_ 72 (List._∷_ 101 (List._∷_ 108 (List._∷_ 100 List.[])))))))))))))))))) (Syntax.ttcons Syntax.tnil (Syntax.ttcons Syntax.tnil (Syntax.ttcons (Syntax.tcons (Syntax.tyStruct (List._∷_ 116 (List._∷_ 101 (List._∷_ 120 (List._∷_ 116 (List._∷_ 95 (List._∷_ 104 (List._∷_ 101 (List._∷_ 97 (List._∷_ 100 (List._∷_ 105 (List._∷_ 110 (List._∷_ 103 (List._∷_ 58 (List._∷_ 58 (List._∷_ 72 (List._∷_ 101 (List._∷_ 97 (List._∷_ 100 (List._∷_ 105 (List._∷_ 110 (List._∷_ 103 List.[]))))))))))))))))))))) (Syntax.tcons (IsParameters.mir) (Syntax.tcons (Syntax.tyStruct (List._∷_ 116 (List._∷_ 101 (List._∷_ 120 (List._∷_ 116 (List._∷_ 95 (List._∷_ 104 (List._∷_ 101 (List._∷_ 97 (List._∷_ 100 (List._∷_ 105 (List._∷_ 110 (List._∷_ 103 (List._∷_ 58 (List._∷_ 58 (List._∷_ 67 (List._∷_ 97 (List._∷_ 109 (List._∷_ 101 List.[])))))))))))))))))) (Syntax.tcons Syntax.tyBool (Syntax.tcons Syntax.tyBool (Syntax.tcons Syntax.tyBool Syntax.tnil)))) (Syntax.tcons (Syntax.tyEnum (List._∷_ 116 (List._∷_ 101 (List._∷_ 120 (List._∷_ 116 (List._∷_ 95 (List._∷_ 104 (List._∷_ 101 (List._∷_ 97 (List._∷_ 100 (List._∷_ 105 (List._∷_ 110 (List._∷_ 103 (List._∷_ 58 (List._∷_ 58 (List._∷_ 80 (List._∷_ 108 (List._∷_ 97 (List._∷_ 99 (List._∷_ 101 List.[]))))))))))))))))))) (Syntax.ttcons (Syntax.tcons (Syntax.tyEnum (List._∷_ 116 (List._∷_ 101 (List._∷_ 120 (List._∷_ 116 (List._∷_ 95 (List._∷_ 104 (List._∷_ 101 (List._∷_ 97 (List._∷_ 100 (List._∷_ 105 (List._∷_ 110 (List._∷_ 103 (List._∷_ 58 (List._∷_ 58 (List._∷_ 87 (List._∷_ 111 (List._∷_ 114 (List._∷_ 100 List.[])))))))))))))))))) (Syntax.ttcons Syntax.tnil (Syntax.ttcons Syntax.tnil (Syntax.ttcons Syntax.tnil (Syntax.ttcons Syntax.tnil Syntax.ttnil))))) (Syntax.tcons (Syntax.tyInt Syntax.w8) Syntax.tnil)) (Syntax.ttcons (Syntax.tcons (Syntax.tyEnum (List._∷_ 116 (List._∷_ 101 (List._∷_ 120 (List._∷_ 116 (List._∷_ 95 (List._∷_ 104 (List._∷_ 101 (List._∷_ 97 (List._∷_ 100 (List._∷_ 105 (List._∷_ 110 (List._∷_ 103 (List._∷_ 58 (List._∷_ 58 (List._∷_ 87 (List._∷_ 111 (List._∷_ 114 (List._∷_ 100 List.[])))))))))))))))))) (Syntax.ttcons Syntax.tnil (Syntax.ttcons Syntax.tnil (Syntax.ttcons Syntax.tnil (Syntax.ttcons Syntax.tnil Syntax.ttnil))))) Syntax.tnil) (Syntax.ttcons (Syntax.tcons (Syntax.tyEnum (List._∷_ 116 (List._∷_ 101 (List._∷_ 120 (List._∷_ 116 (List._∷_ 95 (List._∷_ 104 (List._∷_ 101 (List._∷_ 97 (List._∷_ 100 (List._∷_ 105 (List._∷_ 110 (List._∷_ 103 (List._∷_ 58 (List._∷_ 58 (List._∷_ 87 (List._∷_ 111 (List._∷_ 114 (List._∷_ 100 List.[])))))))))))))))))) (Syntax.ttcons Syntax.tnil (Syntax.ttcons Syntax.tnil (Syntax.ttcons Syntax.tnil (Syntax.ttcons Syntax.tnil Syntax.ttnil))))) Syntax.tnil) (Syntax.ttcons Syntax.tnil (Syntax.ttcons (Syntax.tcons (Syntax.tyEnum (List._∷_ 116 (List._∷_ 101 (List._∷_ 120 (List._∷_ 116 (List._∷_ 95 (List._∷_ 104 (List._∷_ 101 (List._∷_ 97 (List._∷_ 100 (List._∷_ 105 (List._∷_ 110 (List._∷_ 103 (List._∷_ 58 (List._∷_ 58 (List._∷_ 72 (List._∷_ 101 (List._∷_ 97 (List._∷_ 100 (List._∷_ 105 (List._∷_ 110 (List._∷_ 103 (List._∷_ 70 (List._∷_ 97 (List._∷_ 117 (List._∷_ 108 (List._∷_ 116 List.[])))))))))))))))))))))))))) (Syntax.ttcons Syntax.tnil (Syntax.ttcons Syntax.tnil (Syntax.ttcons Syntax.tnil (Syntax.ttcons (Syntax.tcons (Syntax.tyEnum (List._∷_ 116 (List._∷_ 101 (List._∷_ 120 (List._∷_ 116 (List._∷_ 95 (List._∷_ 104 (List._∷_ 101 (List._∷_ 97 (List._∷_ 100 (List._∷_ 105 (List._∷_ 110 (List._∷_ 103 (List._∷_ 58 (List._∷_ 58 (List._∷_ 87 (List._∷_ 111 (List._∷_ 114 (List._∷_ 100 List.[])))))))))))))))))) (Syntax.ttcons Syntax.tnil (Syntax.ttcons Syntax.tnil (Syntax.ttcons Syntax.tnil (Syntax.ttcons Syntax.tnil Syntax.ttnil))))) Syntax.tnil) Syntax.ttnil))))) Syntax.tnil) Syntax.ttnil)))))) Syntax.tnil)))) Syntax.tnil) (Syntax.ttcons Syntax.tnil (Syntax.ttcons (Syntax.tcons (Syntax.tyInt Syntax.w8) Syntax.tnil) (Syntax.ttcons Syntax.tnil (Syntax.ttcons (Syntax.tcons (Syntax.tyEnum (List._∷_ 116 (List._∷_ 101 (List._∷_ 120 (List._∷_ 116 (List._∷_ 95 (List._∷_ 114 (List._∷_ 101 (List._∷_ 97 (List._∷_ 100 (List._∷_ 105 (List._∷_ 110 (List._∷_ 103 (List._∷_ 58 (List._∷_ 58 (List._∷_ 70 (List._∷_ 97 (List._∷_ 117 (List._∷_ 108 (List._∷_ 116 List.[]))))))))))))))))))) (Syntax.ttcons (Syntax.tcons (Syntax.tyEnum (List._∷_ 116 (List._∷_ 101 (List._∷_ 120 (List._∷_ 116 (List._∷_ 95 (List._∷_ 104 (List._∷_ 101 (List._∷_ 97 (List._∷_ 100 (List._∷_ 105 (List._∷_ 110 (List._∷_ 103 (List._∷_ 58 (List._∷_ 58 (List._∷_ 72 (List._∷_ 101 (List._∷_ 97 (List._∷_ 100 (List._∷_ 105 (List._∷_ 110 (List._∷_ 103 (List._∷_ 70 (List._∷_ 97 (List._∷_ 117 (List._∷_ 108 (List._∷_ 116 List.[])))))))))))))))))))))))))) (Syntax.ttcons Syntax.tnil (Syntax.ttcons Syntax.tnil (Syntax.ttcons Syntax.tnil (Syntax.ttcons (Syntax.tcons (Syntax.tyEnum (List._∷_ 116 (List._∷_ 101 (List._∷_ 120 (List._∷_ 116 (List._∷_ 95 (List._∷_ 104 (List._∷_ 101 (List._∷_ 97 (List._∷_ 100 (List._∷_ 105 (List._∷_ 110 (List._∷_ 103 (List._∷_ 58 (List._∷_ 58 (List._∷_ 87 (List._∷_ 111 (List._∷_ 114 (List._∷_ 100 List.[])))))))))))))))))) (Syntax.ttcons Syntax.tnil (Syntax.ttcons Syntax.tnil (Syntax.ttcons Syntax.tnil (Syntax.ttcons Syntax.tnil Syntax.ttnil))))) Syntax.tnil) Syntax.ttnil))))) Syntax.tnil) (Syntax.ttcons Syntax.tnil (Syntax.ttcons Syntax.tnil Syntax.ttnil)))) Syntax.tnil) Syntax.ttnil)))))))) (Syntax.tcons (Syntax.tyArray (Syntax.tyInt Syntax.w8) 32) (Syntax.tcons (Syntax.tyInt Syntax.w64) Syntax.tnil))))))) (List._∷_ (9, Rows.any-gone (Syntax.tyInt Syntax.w64)) (List._∷_ (10, Rows.any-gone (Syntax.tyRef Syntax.erased Syntax.mut OfOutput.named)) (List._∷_ (11, Rows.any-gone (Syntax.tyStruct (List._∷_ 38 (List._∷_ 91 (List._∷_ 93 List.[]))) (Syntax.tcons (Syntax.tyRef Syntax.erased Syntax.mut OfOutput.named) (Syntax.tcons (Syntax.tyInt Syntax.w64) Syntax.tnil)))) (List._∷_ (12, Rows.any-gone (Syntax.tyRef Syntax.erased Syntax.mut OfStation.named)) (List._∷_ (13, Rows.any-gone (Syntax.tyStruct (List._∷_ 38 (List._∷_ 91 (List._∷_ 93 List.[]))) (Syntax.tcons (Syntax.tyRef Syntax.erased Syntax.mut OfStation.named) (Syntax.tcons (Syntax.tyInt Syntax.w64) Syntax.tnil)))) (List._∷_ (14, Rows.any-gone (Syntax.tyRef Syntax.erased Syntax.mut OfPanelRecord.named)) (List._∷_ (15, Rows.any-gone (Syntax.tyRef Syntax.erased Syntax.mut (Syntax.tyInt Syntax.w8))) List.[])))))))))))))))
+t57 = List._∷_ (0, Rows.any-gone Syntax.tyUnit) (List._∷_ (1, Mut.mslice (OfOutput.row) (Syntax.tyRef (Syntax.named 0) Syntax.mut OfOutput.named) 0) (List._∷_ (2, Mut.mslice (OfStation.row) (Syntax.tyRef (Syntax.named 1) Syntax.mut OfStation.named) 1) (List._∷_ (3, Rows.mref (OfPanelRecord.row) (Syntax.tyRef (Syntax.named 2) Syntax.mut OfPanelRecord.named) 2) (List._∷_ (4, Reshare.mslice-owedS (Referent.rtF (Referent.fInt Syntax.w8)) (Syntax.tyRef (Syntax.named 3) Syntax.mut (Syntax.tyInt Syntax.w8)) 3 15 Row.off) (List._∷_ (5, Mut.mslice (Referent.rtF (Referent.fInt Syntax.w8)) (Syntax.tyRef (Syntax.named 4) Syntax.mut (Syntax.tyInt Syntax.w8)) 4) (List._∷_ (6, Rows.sc-here Row.sBool) (List._∷_ (7, Rows.any-gone (Laws.mir)) (List._∷_ (8, Rows.any-gone (Syntax.tyStruct (List._∷_ 116 (List._∷_ 101 (List._∷_ 120 (List._∷_ 116 (List._∷_ 95 (List._∷_ 114 (List._∷_ 101 (List._∷_ 97 (List._∷_ 100 (List._∷_ 105 (List._∷_ 110 (List._∷_ 103 (List._∷_ 58 (List._∷_ 58 (List._∷_ 82 (List._∷_ 101 (List._∷_ 97 (List._∷_ 100 (List._∷_ 101 (List._∷_ 114 List.[])))))))))))))))))))) (Syntax.tcons Syntax.tyBool (Syntax.tcons (Syntax.tyInt Syntax.w64) (Syntax.tcons (Syntax.tyEnum (List._∷_ 116 (List._∷_ 101 (List._∷_ 120 (List._∷_ 116 (List._∷_ 95 (List._∷_ 114 (List._∷_ 101 (List._∷_ 97 (List._∷_ 100 (List._∷_ 105 (List._∷_ 110 (List._∷_ 103 (List._∷_ 58 (List._∷_ 58 (List._∷_ 72 (List._∷_ 101 (List._∷_ 108 (List._∷_ 100 List.[])))))))))))))))))) (Syntax.ttcons Syntax.tnil (Syntax.ttcons Syntax.tnil (Syntax.ttcons (Syntax.tcons (Syntax.tyStruct (List._∷_ 116 (List._∷_ 101 (List._∷_ 120 (List._∷_ 116 (List._∷_ 95 (List._∷_ 104 (List._∷_ 101 (List._∷_ 97 (List._∷_ 100 (List._∷_ 105 (List._∷_ 110 (List._∷_ 103 (List._∷_ 58 (List._∷_ 58 (List._∷_ 72 (List._∷_ 101 (List._∷_ 97 (List._∷_ 100 (List._∷_ 105 (List._∷_ 110 (List._∷_ 103 List.[]))))))))))))))))))))) (Syntax.tcons (Syntax.tyStruct (List._∷_ 116 (List._∷_ 101 (List._∷_ 120 (List._∷_ 116 (List._∷_ 95 (List._∷_ 104 (List._∷_ 101 (List._∷_ 97 (List._∷_ 100 (List._∷_ 105 (List._∷_ 110 (List._∷_ 103 (List._∷_ 58 (List._∷_ 58 (List._∷_ 78 (List._∷_ 97 (List._∷_ 109 (List._∷_ 101 (List._∷_ 100 List.[]))))))))))))))))))) (Syntax.tcons (IsParameters.mir) (Syntax.tcons (Syntax.tyInt Syntax.w32) Syntax.tnil))) (Syntax.tcons (Syntax.tyStruct (List._∷_ 116 (List._∷_ 101 (List._∷_ 120 (List._∷_ 116 (List._∷_ 95 (List._∷_ 104 (List._∷_ 101 (List._∷_ 97 (List._∷_ 100 (List._∷_ 105 (List._∷_ 110 (List._∷_ 103 (List._∷_ 58 (List._∷_ 58 (List._∷_ 67 (List._∷_ 97 (List._∷_ 109 (List._∷_ 101 List.[])))))))))))))))))) (Syntax.tcons Syntax.tyBool (Syntax.tcons Syntax.tyBool (Syntax.tcons Syntax.tyBool (Syntax.tcons Syntax.tyBool Syntax.tnil))))) (Syntax.tcons (Syntax.tyEnum (List._∷_ 116 (List._∷_ 101 (List._∷_ 120 (List._∷_ 116 (List._∷_ 95 (List._∷_ 104 (List._∷_ 101 (List._∷_ 97 (List._∷_ 100 (List._∷_ 105 (List._∷_ 110 (List._∷_ 103 (List._∷_ 58 (List._∷_ 58 (List._∷_ 80 (List._∷_ 108 (List._∷_ 97 (List._∷_ 99 (List._∷_ 101 List.[]))))))))))))))))))) (Syntax.ttcons (Syntax.tcons (Syntax.tyEnum (List._∷_ 116 (List._∷_ 101 (List._∷_ 120 (List._∷_ 116 (List._∷_ 95 (List._∷_ 104 (List._∷_ 101 (List._∷_ 97 (List._∷_ 100 (List._∷_ 105 (List._∷_ 110 (List._∷_ 103 (List._∷_ 58 (List._∷_ 58 (List._∷_ 87 (List._∷_ 111 (List._∷_ 114 (List._∷_ 100 List.[])))))))))))))))))) (Syntax.ttcons Syntax.tnil (Syntax.ttcons Syntax.tnil (Syntax.ttcons Syntax.tnil (Syntax.ttcons Syntax.tnil (Syntax.ttcons Syntax.tnil Syntax.ttnil)))))) (Syntax.tcons (Syntax.tyInt Syntax.w8) Syntax.tnil)) (Syntax.ttcons (Syntax.tcons (Syntax.tyEnum (List._∷_ 116 (List._∷_ 101 (List._∷_ 120 (List._∷_ 116 (List._∷_ 95 (List._∷_ 104 (List._∷_ 101 (List._∷_ 97 (List._∷_ 100 (List._∷_ 105 (List._∷_ 110 (List._∷_ 103 (List._∷_ 58 (List._∷_ 58 (List._∷_ 87 (List._∷_ 111 (List._∷_ 114 (List._∷_ 100 List.[])))))))))))))))))) (Syntax.ttcons Syntax.tnil (Syntax.ttcons Syntax.tnil (Syntax.ttcons Syntax.tnil (Syntax.ttcons Syntax.tnil (Syntax.ttcons Syntax.tnil Syntax.ttnil)))))) Syntax.tnil) (Syntax.ttcons (Syntax.tcons (Syntax.tyEnum (List._∷_ 116 (List._∷_ 101 (List._∷_ 120 (List._∷_ 116 (List._∷_ 95 (List._∷_ 104 (List._∷_ 101 (List._∷_ 97 (List._∷_ 100 (List._∷_ 105 (List._∷_ 110 (List._∷_ 103 (List._∷_ 58 (List._∷_ 58 (List._∷_ 87 (List._∷_ 111 (List._∷_ 114 (List._∷_ 100 List.[])))))))))))))))))) (Syntax.ttcons Syntax.tnil (Syntax.ttcons Syntax.tnil (Syntax.ttcons Syntax.tnil (Syntax.ttcons Syntax.tnil (Syntax.ttcons Syntax.tnil Syntax.ttnil)))))) (Syntax.tcons (Syntax.tyInt Syntax.w8) Syntax.tnil)) (Syntax.ttcons Syntax.tnil (Syntax.ttcons (Syntax.tcons (Syntax.tyEnum (List._∷_ 116 (List._∷_ 101 (List._∷_ 120 (List._∷_ 116 (List._∷_ 95 (List._∷_ 104 (List._∷_ 101 (List._∷_ 97 (List._∷_ 100 (List._∷_ 105 (List._∷_ 110 (List._∷_ 103 (List._∷_ 58 (List._∷_ 58 (List._∷_ 72 (List._∷_ 101 (List._∷_ 97 (List._∷_ 100 (List._∷_ 105 (List._∷_ 110 (List._∷_ 103 (List._∷_ 70 (List._∷_ 97 (List._∷_ 117 (List._∷_ 108 (List._∷_ 116 List.[])))))))))))))))))))))))))) (Syntax.ttcons Syntax.tnil (Syntax.ttcons Syntax.tnil (Syntax.ttcons Syntax.tnil (Syntax.ttcons Syntax.tnil (Syntax.ttcons (Syntax.tcons (Syntax.tyEnum (List._∷_ 116 (List._∷_ 101 (List._∷_ 120 (List._∷_ 116 (List._∷_ 95 (List._∷_ 104 (List._∷_ 101 (List._∷_ 97 (List._∷_ 100 (List._∷_ 105 (List._∷_ 110 (List._∷_ 103 (List._∷_ 58 (List._∷_ 58 (List._∷_ 87 (List._∷_ 111 (List._∷_ 114 (List._∷_ 100 List.[])))))))))))))))))) (Syntax.ttcons Syntax.tnil (Syntax.ttcons Syntax.tnil (Syntax.ttcons Syntax.tnil (Syntax.ttcons Syntax.tnil (Syntax.ttcons Syntax.tnil Syntax.ttnil)))))) Syntax.tnil) Syntax.ttnil)))))) Syntax.tnil) Syntax.ttnil)))))) Syntax.tnil)))) Syntax.tnil) (Syntax.ttcons Syntax.tnil (Syntax.ttcons (Syntax.tcons (Syntax.tyInt Syntax.w8) Syntax.tnil) (Syntax.ttcons Syntax.tnil (Syntax.ttcons (Syntax.tcons (Syntax.tyEnum (List._∷_ 116 (List._∷_ 101 (List._∷_ 120 (List._∷_ 116 (List._∷_ 95 (List._∷_ 114 (List._∷_ 101 (List._∷_ 97 (List._∷_ 100 (List._∷_ 105 (List._∷_ 110 (List._∷_ 103 (List._∷_ 58 (List._∷_ 58 (List._∷_ 70 (List._∷_ 97 (List._∷_ 117 (List._∷_ 108 (List._∷_ 116 List.[]))))))))))))))))))) (Syntax.ttcons (Syntax.tcons (Syntax.tyEnum (List._∷_ 116 (List._∷_ 101 (List._∷_ 120 (List._∷_ 116 (List._∷_ 95 (List._∷_ 104 (List._∷_ 101 (List._∷_ 97 (List._∷_ 100 (List._∷_ 105 (List._∷_ 110 (List._∷_ 103 (List._∷_ 58 (List._∷_ 58 (List._∷_ 72 (List._∷_ 101 (List._∷_ 97 (List._∷_ 100 (List._∷_ 105 (List._∷_ 110 (List._∷_ 103 (List._∷_ 70 (List._∷_ 97 (List._∷_ 117 (List._∷_ 108 (List._∷_ 116 List.[])))))))))))))))))))))))))) (Syntax.ttcons Syntax.tnil (Syntax.ttcons Syntax.tnil (Syntax.ttcons Syntax.tnil (Syntax.ttcons Syntax.tnil (Syntax.ttcons (Syntax.tcons (Syntax.tyEnum (List._∷_ 116 (List._∷_ 101 (List._∷_ 120 (List._∷_ 116 (List._∷_ 95 (List._∷_ 104 (List._∷_ 101 (List._∷_ 97 (List._∷_ 100 (List._∷_ 105 (List._∷_ 110 (List._∷_ 103 (List._∷_ 58 (List._∷_ 58 (List._∷_ 87 (List._∷_ 111 (List._∷_ 114 (List._∷_ 100 List.[])))))))))))))))))) (Syntax.ttcons Syntax.tnil (Syntax.ttcons Syntax.tnil (Syntax.ttcons Syntax.tnil (Syntax.ttcons Syntax.tnil (Syntax.ttcons Syntax.tnil Syntax.ttnil)))))) Syntax.tnil) Syntax.ttnil)))))) Syntax.tnil) (Syntax.ttcons Syntax.tnil (Syntax.ttcons Syntax.tnil Syntax.ttnil)))) Syntax.tnil) Syntax.ttnil)))))))) (Syntax.tcons (Syntax.tyArray (Syntax.tyInt Syntax.w8) 32) (Syntax.tcons (Syntax.tyInt Syntax.w64) Syntax.tnil))))))) (List._∷_ (9, Rows.any-gone (Syntax.tyInt Syntax.w64)) (List._∷_ (10, Rows.any-gone (Syntax.tyRef Syntax.erased Syntax.mut OfOutput.named)) (List._∷_ (11, Rows.any-gone (Syntax.tyStruct (List._∷_ 38 (List._∷_ 91 (List._∷_ 93 List.[]))) (Syntax.tcons (Syntax.tyRef Syntax.erased Syntax.mut OfOutput.named) (Syntax.tcons (Syntax.tyInt Syntax.w64) Syntax.tnil)))) (List._∷_ (12, Rows.any-gone (Syntax.tyRef Syntax.erased Syntax.mut OfStation.named)) (List._∷_ (13, Rows.any-gone (Syntax.tyStruct (List._∷_ 38 (List._∷_ 91 (List._∷_ 93 List.[]))) (Syntax.tcons (Syntax.tyRef Syntax.erased Syntax.mut OfStation.named) (Syntax.tcons (Syntax.tyInt Syntax.w64) Syntax.tnil)))) (List._∷_ (14, Rows.any-gone (Syntax.tyRef Syntax.erased Syntax.mut OfPanelRecord.named)) (List._∷_ (15, Rows.any-gone (Syntax.tyRef Syntax.erased Syntax.mut (Syntax.tyInt Syntax.w8))) List.[])))))))))))))))
 
 abbrev pub t58 : List.List Row.Entry
-t58 = List._∷_ (0, Rows.sc-here Row.sUnit) (List._∷_ (1, Mut.mslice (OfOutput.row) (Syntax.tyRef (Syntax.named 0) Syntax.mut OfOutput.named) 0) (List._∷_ (2, Mut.mslice (OfStation.row) (Syntax.tyRef (Syntax.named 1) Syntax.mut OfStation.named) 1) (List._∷_ (3, Rows.mref (OfPanelRecord.row) (Syntax.tyRef (Syntax.named 2) Syntax.mut OfPanelRecord.named) 2) (List._∷_ (4, Mut.mslice (Referent.rtF (Referent.fInt Syntax.w8)) (Syntax.tyRef (Syntax.named 3) Syntax.mut (Syntax.tyInt Syntax.w8)) 3) (List._∷_ (5, Mut.mslice (Referent.rtF (Referent.fInt Syntax.w8)) (Syntax.tyRef (Syntax.named 4) Syntax.mut (Syntax.tyInt Syntax.w8)) 4) (List._∷_ (6, Rows.sc-here Row.sBool) (List._∷_ (7, Rows.any-gone (Laws.mir)) (List._∷_ (8, Rows.any-gone (Syntax.tyStruct (List._∷_ 116 (List._∷_ 101 (List._∷_ 120 (List._∷_ 116 (List._∷_ 95 (List._∷_ 114 (List._∷_ 101 (List._∷_ 97 (List._∷_ 100 (List._∷_ 105 (List._∷_ 110 (List._∷_ 103 (List._∷_ 58 (List._∷_ 58 (List._∷_ 82 (List._∷_ 101 (List._∷_ 97 (List._∷_ 100 (List._∷_ 101 (List._∷_ 114 List.[])))))))))))))))))))) (Syntax.tcons Syntax.tyBool (Syntax.tcons (Syntax.tyInt Syntax.w64) (Syntax.tcons (Syntax.tyEnum (List._∷_ 116 (List._∷_ 101 (List._∷_ 120 (List._∷_ 116 (List._∷_ 95 (List._∷_ 114 (List._∷_ 101 (List._∷_ 97 (List._∷_ 100 (List._∷_ 105 (List._∷_ 110 (List._∷_ 103 (List._∷_ 58 (List._∷_ 58 (List._∷_ 72 (List._∷_ 101 (List._∷_ 108 (List._∷_ 100 List.[])))))))))))))))))) (Syntax.ttcons Syntax.tnil (Syntax.ttcons Syntax.tnil (Syntax.ttcons (Syntax.tcons (Syntax.tyStruct (List._∷_ 116 (List._∷_ 101 (List._∷_ 120 (List._∷_ 116 (List._∷_ 95 (List._∷_ 104 (List._∷_ 101 (List._∷_ 97 (List._∷_ 100 (List._∷_ 105 (List._∷_ 110 (List._∷_ 103 (List._∷_ 58 (List._∷_ 58 (List._∷_ 72 (List._∷_ 101 (List._∷_ 97 (List._∷_ 100 (List._∷_ 105 (List._∷_ 110 (List._∷_ 103 List.[]))))))))))))))))))))) (Syntax.tcons (IsParameters.mir) (Syntax.tcons (Syntax.tyStruct (List._∷_ 116 (List._∷_ 101 (List._∷_ 120 (List._∷_ 116 (List._∷_ 95 (List._∷_ 104 (List._∷_ 101 (List._∷_ 97 (List._∷_ 100 (List._∷_ 105 (List._∷_ 110 (List._∷_ 103 (List._∷_ 58 (List._∷_ 58 (List._∷_ 67 (List._∷_ 97 (List._∷_ 109 (List._∷_ 101 List.[])))))))))))))))))) (Syntax.tcons Syntax.tyBool (Syntax.tcons Syntax.tyBool (Syntax.tcons Syntax.tyBool Syntax.tnil)))) (Syntax.tcons (Syntax.tyEnum (List._∷_ 116 (List._∷_ 101 (List._∷_ 120 (List._∷_ 116 (List._∷_ 95 (List._∷_ 104 (List._∷_ 101 (List._∷_ 97 (List._∷_ 100 (List._∷_ 105 (List._∷_ 110 (List._∷_ 103 (List._∷_ 58 (List._∷_ 58 (List._∷_ 80 (List._∷_ 108 (List._∷_ 97 (List._∷_ 99 (List._∷_ 101 List.[]))))))))))))))))))) (Syntax.ttcons (Syntax.tcons (Syntax.tyEnum (List._∷_ 116 (List._∷_ 101 (List._∷_ 120 (List._∷_ 116 (List._∷_ 95 (List._∷_ 104 (List._∷_ 101 (List._∷_ 97 (List._∷_ 100 (List._∷_ 105 (List._∷_ 110 (List._∷_ 103 (List._∷_ 58 (List._∷_ 58 (List._∷_ 87 (List._∷_ 111 (List._∷_ 114 (List._∷_ 100 List.[])))))))))))))))))) (Syntax.ttcons Syntax.tnil (Syntax.ttcons Syntax.tnil (Syntax.ttcons Syntax.tnil (Syntax.ttcons Syntax.tnil Syntax.ttnil))))) (Syntax.tcons (Syntax.tyInt Syntax.w8) Syntax.tnil)) (Syntax.ttcons (Syntax.tcons (Syntax.tyEnum (List._∷_ 116 (List._∷_ 101 (List._∷_ 120 (List._∷_ 116 (List._∷_ 95 (List._∷_ 104 (List._∷_ 101 (List._∷_ 97 (List._∷_ 100 (List._∷_ 105 (List._∷_ 110 (List._∷_ 103 (List._∷_ 58 (List._∷_ 58 (List._∷_ 87 (List._∷_ 111 (List._∷_ 114 (List._∷_ 100 List.[])))))))))))))))))) (Syntax.ttcons Syntax.tnil (Syntax.ttcons Syntax.tnil (Syntax.ttcons Syntax.tnil (Syntax.ttcons Syntax.tnil Syntax.ttnil))))) Syntax.tnil) (Syntax.ttcons (Syntax.tcons (Syntax.tyEnum (List._∷_ 116 (List._∷_ 101 (List._∷_ 120 (List._∷_ 116 (List._∷_ 95 (List._∷_ 104 (List._∷_ 101 (List._∷_ 97 (List._∷_ 100 (List._∷_ 105 (List._∷_ 110 (List._∷_ 103 (List._∷_ 58 (List._∷_ 58 (List._∷_ 87 (List._∷_ 111 (List._∷_ 114 (List._∷_ 100 List.[])))))))))))))))))) (Syntax.ttcons Syntax.tnil (Syntax.ttcons Syntax.tnil (Syntax.ttcons Syntax.tnil (Syntax.ttcons Syntax.tnil Syntax.ttnil))))) Syntax.tnil) (Syntax.ttcons Syntax.tnil (Syntax.ttcons (Syntax.tcons (Syntax.tyEnum (List._∷_ 116 (List._∷_ 101 (List._∷_ 120 (List._∷_ 116 (List._∷_ 95 (List._∷_ 104 (List._∷_ 101 (List._∷_ 97 (List._∷_ 100 (List._∷_ 105 (List._∷_ 110 (List._∷_ 103 (List._∷_ 58 (List._∷_ 58 (List._∷_ 72 (List._∷_ 101 (List._∷_ 97 (List._∷_ 100 (List._∷_ 105 (List._∷_ 110 (List._∷_ 103 (List._∷_ 70 (List._∷_ 97 (List._∷_ 117 (List._∷_ 108 (List._∷_ 116 List.[])))))))))))))))))))))))))) (Syntax.ttcons Syntax.tnil (Syntax.ttcons Syntax.tnil (Syntax.ttcons Syntax.tnil (Syntax.ttcons (Syntax.tcons (Syntax.tyEnum (List._∷_ 116 (List._∷_ 101 (List._∷_ 120 (List._∷_ 116 (List._∷_ 95 (List._∷_ 104 (List._∷_ 101 (List._∷_ 97 (List._∷_ 100 (List._∷_ 105 (List._∷_ 110 (List._∷_ 103 (List._∷_ 58 (List._∷_ 58 (List._∷_ 87 (List._∷_ 111 (List._∷_ 114 (List._∷_ 100 List.[])))))))))))))))))) (Syntax.ttcons Syntax.tnil (Syntax.ttcons Syntax.tnil (Syntax.ttcons Syntax.tnil (Syntax.ttcons Syntax.tnil Syntax.ttnil))))) Syntax.tnil) Syntax.ttnil))))) Syntax.tnil) Syntax.ttnil)))))) Syntax.tnil)))) Syntax.tnil) (Syntax.ttcons Syntax.tnil (Syntax.ttcons (Syntax.tcons (Syntax.tyInt Syntax.w8) Syntax.tnil) (Syntax.ttcons Syntax.tnil (Syntax.ttcons (Syntax.tcons (Syntax.tyEnum (List._∷_ 116 (List._∷_ 101 (List._∷_ 120 (List._∷_ 116 (List._∷_ 95 (List._∷_ 114 (List._∷_ 101 (List._∷_ 97 (List._∷_ 100 (List._∷_ 105 (List._∷_ 110 (List._∷_ 103 (List._∷_ 58 (List._∷_ 58 (List._∷_ 70 (List._∷_ 97 (List._∷_ 117 (List._∷_ 108 (List._∷_ 116 List.[]))))))))))))))))))) (Syntax.ttcons (Syntax.tcons (Syntax.tyEnum (List._∷_ 116 (List._∷_ 101 (List._∷_ 120 (List._∷_ 116 (List._∷_ 95 (List._∷_ 104 (List._∷_ 101 (List._∷_ 97 (List._∷_ 100 (List._∷_ 105 (List._∷_ 110 (List._∷_ 103 (List._∷_ 58 (List._∷_ 58 (List._∷_ 72 (List._∷_ 101 (List._∷_ 97 (List._∷_ 100 (List._∷_ 105 (List._∷_ 110 (List._∷_ 103 (List._∷_ 70 (List._∷_ 97 (List._∷_ 117 (List._∷_ 108 (List._∷_ 116 List.[])))))))))))))))))))))))))) (Syntax.ttcons Syntax.tnil (Syntax.ttcons Syntax.tnil (Syntax.ttcons Syntax.tnil (Syntax.ttcons (Syntax.tcons (Syntax.tyEnum (List._∷_ 116 (List._∷_ 101 (List._∷_ 120 (List._∷_ 116 (List._∷_ 95 (List._∷_ 104 (List._∷_ 101 (List._∷_ 97 (List._∷_ 100 (List._∷_ 105 (List._∷_ 110 (List._∷_ 103 (List._∷_ 58 (List._∷_ 58 (List._∷_ 87 (List._∷_ 111 (List._∷_ 114 (List._∷_ 100 List.[])))))))))))))))))) (Syntax.ttcons Syntax.tnil (Syntax.ttcons Syntax.tnil (Syntax.ttcons Syntax.tnil (Syntax.ttcons Syntax.tnil Syntax.ttnil))))) Syntax.tnil) Syntax.ttnil))))) Syntax.tnil) (Syntax.ttcons Syntax.tnil (Syntax.ttcons Syntax.tnil Syntax.ttnil)))) Syntax.tnil) Syntax.ttnil)))))))) (Syntax.tcons (Syntax.tyArray (Syntax.tyInt Syntax.w8) 32) (Syntax.tcons (Syntax.tyInt Syntax.w64) Syntax.tnil))))))) (List._∷_ (9, Rows.any-gone (Syntax.tyInt Syntax.w64)) (List._∷_ (10, Rows.any-gone (Syntax.tyRef Syntax.erased Syntax.mut OfOutput.named)) (List._∷_ (11, Rows.any-gone (Syntax.tyStruct (List._∷_ 38 (List._∷_ 91 (List._∷_ 93 List.[]))) (Syntax.tcons (Syntax.tyRef Syntax.erased Syntax.mut OfOutput.named) (Syntax.tcons (Syntax.tyInt Syntax.w64) Syntax.tnil)))) (List._∷_ (12, Rows.any-gone (Syntax.tyRef Syntax.erased Syntax.mut OfStation.named)) (List._∷_ (13, Rows.any-gone (Syntax.tyStruct (List._∷_ 38 (List._∷_ 91 (List._∷_ 93 List.[]))) (Syntax.tcons (Syntax.tyRef Syntax.erased Syntax.mut OfStation.named) (Syntax.tcons (Syntax.tyInt Syntax.w64) Syntax.tnil)))) (List._∷_ (14, Rows.any-gone (Syntax.tyRef Syntax.erased Syntax.mut OfPanelRecord.named)) (List._∷_ (15, Rows.any-gone (Syntax.tyRef Syntax.erased Syntax.mut (Syntax.tyInt Syntax.w8))) List.[])))))))))))))))
+t58 = List._∷_ (0, Rows.sc-here Row.sUnit) (List._∷_ (1, Mut.mslice (OfOutput.row) (Syntax.tyRef (Syntax.named 0) Syntax.mut OfOutput.named) 0) (List._∷_ (2, Mut.mslice (OfStation.row) (Syntax.tyRef (Syntax.named 1) Syntax.mut OfStation.named) 1) (List._∷_ (3, Rows.mref (OfPanelRecord.row) (Syntax.tyRef (Syntax.named 2) Syntax.mut OfPanelRecord.named) 2) (List._∷_ (4, Mut.mslice (Referent.rtF (Referent.fInt Syntax.w8)) (Syntax.tyRef (Syntax.named 3) Syntax.mut (Syntax.tyInt Syntax.w8)) 3) (List._∷_ (5, Mut.mslice (Referent.rtF (Referent.fInt Syntax.w8)) (Syntax.tyRef (Syntax.named 4) Syntax.mut (Syntax.tyInt Syntax.w8)) 4) (List._∷_ (6, Rows.sc-here Row.sBool) (List._∷_ (7, Rows.any-gone (Laws.mir)) (List._∷_ (8, Rows.any-gone (Syntax.tyStruct (List._∷_ 116 (List._∷_ 101 (List._∷_ 120 (List._∷_ 116 (List._∷_ 95 (List._∷_ 114 (List._∷_ 101 (List._∷_ 97 (List._∷_ 100 (List._∷_ 105 (List._∷_ 110 (List._∷_ 103 (List._∷_ 58 (List._∷_ 58 (List._∷_ 82 (List._∷_ 101 (List._∷_ 97 (List._∷_ 100 (List._∷_ 101 (List._∷_ 114 List.[])))))))))))))))))))) (Syntax.tcons Syntax.tyBool (Syntax.tcons (Syntax.tyInt Syntax.w64) (Syntax.tcons (Syntax.tyEnum (List._∷_ 116 (List._∷_ 101 (List._∷_ 120 (List._∷_ 116 (List._∷_ 95 (List._∷_ 114 (List._∷_ 101 (List._∷_ 97 (List._∷_ 100 (List._∷_ 105 (List._∷_ 110 (List._∷_ 103 (List._∷_ 58 (List._∷_ 58 (List._∷_ 72 (List._∷_ 101 (List._∷_ 108 (List._∷_ 100 List.[])))))))))))))))))) (Syntax.ttcons Syntax.tnil (Syntax.ttcons Syntax.tnil (Syntax.ttcons (Syntax.tcons (Syntax.tyStruct (List._∷_ 116 (List._∷_ 101 (List._∷_ 120 (List._∷_ 116 (List._∷_ 95 (List._∷_ 104 (List._∷_ 101 (List._∷_ 97 (List._∷_ 100 (List._∷_ 105 (List._∷_ 110 (List._∷_ 103 (List._∷_ 58 (List._∷_ 58 (List._∷_ 72 (List._∷_ 101 (List._∷_ 97 (List._∷_ 100 (List._∷_ 105 (List._∷_ 110 (List._∷_ 103 List.[]))))))))))))))))))))) (Syntax.tcons (Syntax.tyStruct (List._∷_ 116 (List._∷_ 101 (List._∷_ 120 (List._∷_ 116 (List._∷_ 95 (List._∷_ 104 (List._∷_ 101 (List._∷_ 97 (List._∷_ 100 (List._∷_ 105 (List._∷_ 110 (List._∷_ 103 (List._∷_ 58 (List._∷_ 58 (List._∷_ 78 (List._∷_ 97 (List._∷_ 109 (List._∷_ 101 (List._∷_ 100 List.[]))))))))))))))))))) (Syntax.tcons (IsParameters.mir) (Syntax.tcons (Syntax.tyInt Syntax.w32) Syntax.tnil))) (Syntax.tcons (Syntax.tyStruct (List._∷_ 116 (List._∷_ 101 (List._∷_ 120 (List._∷_ 116 (List._∷_ 95 (List._∷_ 104 (List._∷_ 101 (List._∷_ 97 (List._∷_ 100 (List._∷_ 105 (List._∷_ 110 (List._∷_ 103 (List._∷_ 58 (List._∷_ 58 (List._∷_ 67 (List._∷_ 97 (List._∷_ 109 (List._∷_ 101 List.[])))))))))))))))))) (Syntax.tcons Syntax.tyBool (Syntax.tcons Syntax.tyBool (Syntax.tcons Syntax.tyBool (Syntax.tcons Syntax.tyBool Syntax.tnil))))) (Syntax.tcons (Syntax.tyEnum (List._∷_ 116 (List._∷_ 101 (List._∷_ 120 (List._∷_ 116 (List._∷_ 95 (List._∷_ 104 (List._∷_ 101 (List._∷_ 97 (List._∷_ 100 (List._∷_ 105 (List._∷_ 110 (List._∷_ 103 (List._∷_ 58 (List._∷_ 58 (List._∷_ 80 (List._∷_ 108 (List._∷_ 97 (List._∷_ 99 (List._∷_ 101 List.[]))))))))))))))))))) (Syntax.ttcons (Syntax.tcons (Syntax.tyEnum (List._∷_ 116 (List._∷_ 101 (List._∷_ 120 (List._∷_ 116 (List._∷_ 95 (List._∷_ 104 (List._∷_ 101 (List._∷_ 97 (List._∷_ 100 (List._∷_ 105 (List._∷_ 110 (List._∷_ 103 (List._∷_ 58 (List._∷_ 58 (List._∷_ 87 (List._∷_ 111 (List._∷_ 114 (List._∷_ 100 List.[])))))))))))))))))) (Syntax.ttcons Syntax.tnil (Syntax.ttcons Syntax.tnil (Syntax.ttcons Syntax.tnil (Syntax.ttcons Syntax.tnil (Syntax.ttcons Syntax.tnil Syntax.ttnil)))))) (Syntax.tcons (Syntax.tyInt Syntax.w8) Syntax.tnil)) (Syntax.ttcons (Syntax.tcons (Syntax.tyEnum (List._∷_ 116 (List._∷_ 101 (List._∷_ 120 (List._∷_ 116 (List._∷_ 95 (List._∷_ 104 (List._∷_ 101 (List._∷_ 97 (List._∷_ 100 (List._∷_ 105 (List._∷_ 110 (List._∷_ 103 (List._∷_ 58 (List._∷_ 58 (List._∷_ 87 (List._∷_ 111 (List._∷_ 114 (List._∷_ 100 List.[])))))))))))))))))) (Syntax.ttcons Syntax.tnil (Syntax.ttcons Syntax.tnil (Syntax.ttcons Syntax.tnil (Syntax.ttcons Syntax.tnil (Syntax.ttcons Syntax.tnil Syntax.ttnil)))))) Syntax.tnil) (Syntax.ttcons (Syntax.tcons (Syntax.tyEnum (List._∷_ 116 (List._∷_ 101 (List._∷_ 120 (List._∷_ 116 (List._∷_ 95 (List._∷_ 104 (List._∷_ 101 (List._∷_ 97 (List._∷_ 100 (List._∷_ 105 (List._∷_ 110 (List._∷_ 103 (List._∷_ 58 (List._∷_ 58 (List._∷_ 87 (List._∷_ 111 (List._∷_ 114 (List._∷_ 100 List.[])))))))))))))))))) (Syntax.ttcons Syntax.tnil (Syntax.ttcons Syntax.tnil (Syntax.ttcons Syntax.tnil (Syntax.ttcons Syntax.tnil (Syntax.ttcons Syntax.tnil Syntax.ttnil)))))) (Syntax.tcons (Syntax.tyInt Syntax.w8) Syntax.tnil)) (Syntax.ttcons Syntax.tnil (Syntax.ttcons (Syntax.tcons (Syntax.tyEnum (List._∷_ 116 (List._∷_ 101 (List._∷_ 120 (List._∷_ 116 (List._∷_ 95 (List._∷_ 104 (List._∷_ 101 (List._∷_ 97 (List._∷_ 100 (List._∷_ 105 (List._∷_ 110 (List._∷_ 103 (List._∷_ 58 (List._∷_ 58 (List._∷_ 72 (List._∷_ 101 (List._∷_ 97 (List._∷_ 100 (List._∷_ 105 (List._∷_ 110 (List._∷_ 103 (List._∷_ 70 (List._∷_ 97 (List._∷_ 117 (List._∷_ 108 (List._∷_ 116 List.[])))))))))))))))))))))))))) (Syntax.ttcons Syntax.tnil (Syntax.ttcons Syntax.tnil (Syntax.ttcons Syntax.tnil (Syntax.ttcons Syntax.tnil (Syntax.ttcons (Syntax.tcons (Syntax.tyEnum (List._∷_ 116 (List._∷_ 101 (List._∷_ 120 (List._∷_ 116 (List._∷_ 95 (List._∷_ 104 (List._∷_ 101 (List._∷_ 97 (List._∷_ 100 (List._∷_ 105 (List._∷_ 110 (List._∷_ 103 (List._∷_ 58 (List._∷_ 58 (List._∷_ 87 (List._∷_ 111 (List._∷_ 114 (List._∷_ 100 List.[])))))))))))))))))) (Syntax.ttcons Syntax.tnil (Syntax.ttcons Syntax.tnil (Syntax.ttcons Syntax.tnil (Syntax.ttcons Syntax.tnil (Syntax.ttcons Syntax.tnil Syntax.ttnil)))))) Syntax.tnil) Syntax.ttnil)))))) Syntax.tnil) Syntax.ttnil)))))) Syntax.tnil)))) Syntax.tnil) (Syntax.ttcons Syntax.tnil (Syntax.ttcons (Syntax.tcons (Syntax.tyInt Syntax.w8) Syntax.tnil) (Syntax.ttcons Syntax.tnil (Syntax.ttcons (Syntax.tcons (Syntax.tyEnum (List._∷_ 116 (List._∷_ 101 (List._∷_ 120 (List._∷_ 116 (List._∷_ 95 (List._∷_ 114 (List._∷_ 101 (List._∷_ 97 (List._∷_ 100 (List._∷_ 105 (List._∷_ 110 (List._∷_ 103 (List._∷_ 58 (List._∷_ 58 (List._∷_ 70 (List._∷_ 97 (List._∷_ 117 (List._∷_ 108 (List._∷_ 116 List.[]))))))))))))))))))) (Syntax.ttcons (Syntax.tcons (Syntax.tyEnum (List._∷_ 116 (List._∷_ 101 (List._∷_ 120 (List._∷_ 116 (List._∷_ 95 (List._∷_ 104 (List._∷_ 101 (List._∷_ 97 (List._∷_ 100 (List._∷_ 105 (List._∷_ 110 (List._∷_ 103 (List._∷_ 58 (List._∷_ 58 (List._∷_ 72 (List._∷_ 101 (List._∷_ 97 (List._∷_ 100 (List._∷_ 105 (List._∷_ 110 (List._∷_ 103 (List._∷_ 70 (List._∷_ 97 (List._∷_ 117 (List._∷_ 108 (List._∷_ 116 List.[])))))))))))))))))))))))))) (Syntax.ttcons Syntax.tnil (Syntax.ttcons Syntax.tnil (Syntax.ttcons Syntax.tnil (Syntax.ttcons Syntax.tnil (Syntax.ttcons (Syntax.tcons (Syntax.tyEnum (List._∷_ 116 (List._∷_ 101 (List._∷_ 120 (List._∷_ 116 (List._∷_ 95 (List._∷_ 104 (List._∷_ 101 (List._∷_ 97 (List._∷_ 100 (List._∷_ 105 (List._∷_ 110 (List._∷_ 103 (List._∷_ 58 (List._∷_ 58 (List._∷_ 87 (List._∷_ 111 (List._∷_ 114 (List._∷_ 100 List.[])))))))))))))))))) (Syntax.ttcons Syntax.tnil (Syntax.ttcons Syntax.tnil (Syntax.ttcons Syntax.tnil (Syntax.ttcons Syntax.tnil (Syntax.ttcons Syntax.tnil Syntax.ttnil)))))) Syntax.tnil) Syntax.ttnil)))))) Syntax.tnil) (Syntax.ttcons Syntax.tnil (Syntax.ttcons Syntax.tnil Syntax.ttnil)))) Syntax.tnil) Syntax.ttnil)))))))) (Syntax.tcons (Syntax.tyArray (Syntax.tyInt Syntax.w8) 32) (Syntax.tcons (Syntax.tyInt Syntax.w64) Syntax.tnil))))))) (List._∷_ (9, Rows.any-gone (Syntax.tyInt Syntax.w64)) (List._∷_ (10, Rows.any-gone (Syntax.tyRef Syntax.erased Syntax.mut OfOutput.named)) (List._∷_ (11, Rows.any-gone (Syntax.tyStruct (List._∷_ 38 (List._∷_ 91 (List._∷_ 93 List.[]))) (Syntax.tcons (Syntax.tyRef Syntax.erased Syntax.mut OfOutput.named) (Syntax.tcons (Syntax.tyInt Syntax.w64) Syntax.tnil)))) (List._∷_ (12, Rows.any-gone (Syntax.tyRef Syntax.erased Syntax.mut OfStation.named)) (List._∷_ (13, Rows.any-gone (Syntax.tyStruct (List._∷_ 38 (List._∷_ 91 (List._∷_ 93 List.[]))) (Syntax.tcons (Syntax.tyRef Syntax.erased Syntax.mut OfStation.named) (Syntax.tcons (Syntax.tyInt Syntax.w64) Syntax.tnil)))) (List._∷_ (14, Rows.any-gone (Syntax.tyRef Syntax.erased Syntax.mut OfPanelRecord.named)) (List._∷_ (15, Rows.any-gone (Syntax.tyRef Syntax.erased Syntax.mut (Syntax.tyInt Syntax.w8))) List.[])))))))))))))))
 
 abbrev pub T0 : Row.Cx
 T0 = record { locals = List._++_ t0 (List._++_ t1 t2); slots = List.[] }
@@ -717,7 +717,7 @@ module _ (claims· : Claims) where
   s49 = λ bs. Scalar.n-room T51 7 (Laws.mir)
 
   abbrev s50 : (bs : List.List Nat.ℕ) → Typed.Mo T52 → Typed.Mo T53
-  s50 = λ bs. Scalar.n-room T52 8 (Syntax.tyStruct (List._∷_ 116 (List._∷_ 101 (List._∷_ 120 (List._∷_ 116 (List._∷_ 95 (List._∷_ 114 (List._∷_ 101 (List._∷_ 97 (List._∷_ 100 (List._∷_ 105 (List._∷_ 110 (List._∷_ 103 (List._∷_ 58 (List._∷_ 58 (List._∷_ 82 (List._∷_ 101 (List._∷_ 97 (List._∷_ 100 (List._∷_ 101 (List._∷_ 114 List.[])))))))))))))))))))) (Syntax.tcons Syntax.tyBool (Syntax.tcons (Syntax.tyInt Syntax.w64) (Syntax.tcons (Syntax.tyEnum (List._∷_ 116 (List._∷_ 101 (List._∷_ 120 (List._∷_ 116 (List._∷_ 95 (List._∷_ 114 (List._∷_ 101 (List._∷_ 97 (List._∷_ 100 (List._∷_ 105 (List._∷_ 110 (List._∷_ 103 (List._∷_ 58 (List._∷_ 58 (List._∷_ 72 (List._∷_ 101 (List._∷_ 108 (List._∷_ 100 List.[])))))))))))))))))) (Syntax.ttcons Syntax.tnil (Syntax.ttcons Syntax.tnil (Syntax.ttcons (Syntax.tcons (Syntax.tyStruct (List._∷_ 116 (List._∷_ 101 (List._∷_ 120 (List._∷_ 116 (List._∷_ 95 (List._∷_ 104 (List._∷_ 101 (List._∷_ 97 (List._∷_ 100 (List._∷_ 105 (List._∷_ 110 (List._∷_ 103 (List._∷_ 58 (List._∷_ 58 (List._∷_ 72 (List._∷_ 101 (List._∷_ 97 (List._∷_ 100 (List._∷_ 105 (List._∷_ 110 (List._∷_ 103 List.[]))))))))))))))))))))) (Syntax.tcons (IsParameters.mir) (Syntax.tcons (Syntax.tyStruct (List._∷_ 116 (List._∷_ 101 (List._∷_ 120 (List._∷_ 116 (List._∷_ 95 (List._∷_ 104 (List._∷_ 101 (List._∷_ 97 (List._∷_ 100 (List._∷_ 105 (List._∷_ 110 (List._∷_ 103 (List._∷_ 58 (List._∷_ 58 (List._∷_ 67 (List._∷_ 97 (List._∷_ 109 (List._∷_ 101 List.[])))))))))))))))))) (Syntax.tcons Syntax.tyBool (Syntax.tcons Syntax.tyBool (Syntax.tcons Syntax.tyBool Syntax.tnil)))) (Syntax.tcons (Syntax.tyEnum (List._∷_ 116 (List._∷_ 101 (List._∷_ 120 (List._∷_ 116 (List._∷_ 95 (List._∷_ 104 (List._∷_ 101 (List._∷_ 97 (List._∷_ 100 (List._∷_ 105 (List._∷_ 110 (List._∷_ 103 (List._∷_ 58 (List._∷_ 58 (List._∷_ 80 (List._∷_ 108 (List._∷_ 97 (List._∷_ 99 (List._∷_ 101 List.[]))))))))))))))))))) (Syntax.ttcons (Syntax.tcons (Syntax.tyEnum (List._∷_ 116 (List._∷_ 101 (List._∷_ 120 (List._∷_ 116 (List._∷_ 95 (List._∷_ 104 (List._∷_ 101 (List._∷_ 97 (List._∷_ 100 (List._∷_ 105 (List._∷_ 110 (List._∷_ 103 (List._∷_ 58 (List._∷_ 58 (List._∷_ 87 (List._∷_ 111 (List._∷_ 114 (List._∷_ 100 List.[])))))))))))))))))) (Syntax.ttcons Syntax.tnil (Syntax.ttcons Syntax.tnil (Syntax.ttcons Syntax.tnil (Syntax.ttcons Syntax.tnil Syntax.ttnil))))) (Syntax.tcons (Syntax.tyInt Syntax.w8) Syntax.tnil)) (Syntax.ttcons (Syntax.tcons (Syntax.tyEnum (List._∷_ 116 (List._∷_ 101 (List._∷_ 120 (List._∷_ 116 (List._∷_ 95 (List._∷_ 104 (List._∷_ 101 (List._∷_ 97 (List._∷_ 100 (List._∷_ 105 (List._∷_ 110 (List._∷_ 103 (List._∷_ 58 (List._∷_ 58 (List._∷_ 87 (List._∷_ 111 (List._∷_ 114 (List._∷_ 100 List.[])))))))))))))))))) (Syntax.ttcons Syntax.tnil (Syntax.ttcons Syntax.tnil (Syntax.ttcons Syntax.tnil (Syntax.ttcons Syntax.tnil Syntax.ttnil))))) Syntax.tnil) (Syntax.ttcons (Syntax.tcons (Syntax.tyEnum (List._∷_ 116 (List._∷_ 101 (List._∷_ 120 (List._∷_ 116 (List._∷_ 95 (List._∷_ 104 (List._∷_ 101 (List._∷_ 97 (List._∷_ 100 (List._∷_ 105 (List._∷_ 110 (List._∷_ 103 (List._∷_ 58 (List._∷_ 58 (List._∷_ 87 (List._∷_ 111 (List._∷_ 114 (List._∷_ 100 List.[])))))))))))))))))) (Syntax.ttcons Syntax.tnil (Syntax.ttcons Syntax.tnil (Syntax.ttcons Syntax.tnil (Syntax.ttcons Syntax.tnil Syntax.ttnil))))) Syntax.tnil) (Syntax.ttcons Syntax.tnil (Syntax.ttcons (Syntax.tcons (Syntax.tyEnum (List._∷_ 116 (List._∷_ 101 (List._∷_ 120 (List._∷_ 116 (List._∷_ 95 (List._∷_ 104 (List._∷_ 101 (List._∷_ 97 (List._∷_ 100 (List._∷_ 105 (List._∷_ 110 (List._∷_ 103 (List._∷_ 58 (List._∷_ 58 (List._∷_ 72 (List._∷_ 101 (List._∷_ 97 (List._∷_ 100 (List._∷_ 105 (List._∷_ 110 (List._∷_ 103 (List._∷_ 70 (List._∷_ 97 (List._∷_ 117 (List._∷_ 108 (List._∷_ 116 List.[])))))))))))))))))))))))))) (Syntax.ttcons Syntax.tnil (Syntax.ttcons Syntax.tnil (Syntax.ttcons Syntax.tnil (Syntax.ttcons (Syntax.tcons (Syntax.tyEnum (List._∷_ 116 (List._∷_ 101 (List._∷_ 120 (List._∷_ 116 (List._∷_ 95 (List._∷_ 104 (List._∷_ 101 (List._∷_ 97 (List._∷_ 100 (List._∷_ 105 (List._∷_ 110 (List._∷_ 103 (List._∷_ 58 (List._∷_ 58 (List._∷_ 87 (List._∷_ 111 (List._∷_ 114 (List._∷_ 100 List.[])))))))))))))))))) (Syntax.ttcons Syntax.tnil (Syntax.ttcons Syntax.tnil (Syntax.ttcons Syntax.tnil (Syntax.ttcons Syntax.tnil Syntax.ttnil))))) Syntax.tnil) Syntax.ttnil))))) Syntax.tnil) Syntax.ttnil)))))) Syntax.tnil)))) Syntax.tnil) (Syntax.ttcons Syntax.tnil (Syntax.ttcons (Syntax.tcons (Syntax.tyInt Syntax.w8) Syntax.tnil) (Syntax.ttcons Syntax.tnil (Syntax.ttcons (Syntax.tcons (Syntax.tyEnum (List._∷_ 116 (List._∷_ 101 (List._∷_ 120 (List._∷_ 116 (List._∷_ 95 (List._∷_ 114 (List._∷_ 101 (List._∷_ 97 (List._∷_ 100 (List._∷_ 105 (List._∷_ 110 (List._∷_ 103 (List._∷_ 58 (List._∷_ 58 (List._∷_ 70 (List._∷_ 97 (List._∷_ 117 (List._∷_ 108 (List._∷_ 116 List.[]))))))))))))))))))) (Syntax.ttcons (Syntax.tcons (Syntax.tyEnum (List._∷_ 116 (List._∷_ 101 (List._∷_ 120 (List._∷_ 116 (List._∷_ 95 (List._∷_ 104 (List._∷_ 101 (List._∷_ 97 (List._∷_ 100 (List._∷_ 105 (List._∷_ 110 (List._∷_ 103 (List._∷_ 58 (List._∷_ 58 (List._∷_ 72 (List._∷_ 101 (List._∷_ 97 (List._∷_ 100 (List._∷_ 105 (List._∷_ 110 (List._∷_ 103 (List._∷_ 70 (List._∷_ 97 (List._∷_ 117 (List._∷_ 108 (List._∷_ 116 List.[])))))))))))))))))))))))))) (Syntax.ttcons Syntax.tnil (Syntax.ttcons Syntax.tnil (Syntax.ttcons Syntax.tnil (Syntax.ttcons (Syntax.tcons (Syntax.tyEnum (List._∷_ 116 (List._∷_ 101 (List._∷_ 120 (List._∷_ 116 (List._∷_ 95 (List._∷_ 104 (List._∷_ 101 (List._∷_ 97 (List._∷_ 100 (List._∷_ 105 (List._∷_ 110 (List._∷_ 103 (List._∷_ 58 (List._∷_ 58 (List._∷_ 87 (List._∷_ 111 (List._∷_ 114 (List._∷_ 100 List.[])))))))))))))))))) (Syntax.ttcons Syntax.tnil (Syntax.ttcons Syntax.tnil (Syntax.ttcons Syntax.tnil (Syntax.ttcons Syntax.tnil Syntax.ttnil))))) Syntax.tnil) Syntax.ttnil))))) Syntax.tnil) (Syntax.ttcons Syntax.tnil (Syntax.ttcons Syntax.tnil Syntax.ttnil)))) Syntax.tnil) Syntax.ttnil)))))))) (Syntax.tcons (Syntax.tyArray (Syntax.tyInt Syntax.w8) 32) (Syntax.tcons (Syntax.tyInt Syntax.w64) Syntax.tnil))))))
+  s50 = λ bs. Scalar.n-room T52 8 (Syntax.tyStruct (List._∷_ 116 (List._∷_ 101 (List._∷_ 120 (List._∷_ 116 (List._∷_ 95 (List._∷_ 114 (List._∷_ 101 (List._∷_ 97 (List._∷_ 100 (List._∷_ 105 (List._∷_ 110 (List._∷_ 103 (List._∷_ 58 (List._∷_ 58 (List._∷_ 82 (List._∷_ 101 (List._∷_ 97 (List._∷_ 100 (List._∷_ 101 (List._∷_ 114 List.[])))))))))))))))))))) (Syntax.tcons Syntax.tyBool (Syntax.tcons (Syntax.tyInt Syntax.w64) (Syntax.tcons (Syntax.tyEnum (List._∷_ 116 (List._∷_ 101 (List._∷_ 120 (List._∷_ 116 (List._∷_ 95 (List._∷_ 114 (List._∷_ 101 (List._∷_ 97 (List._∷_ 100 (List._∷_ 105 (List._∷_ 110 (List._∷_ 103 (List._∷_ 58 (List._∷_ 58 (List._∷_ 72 (List._∷_ 101 (List._∷_ 108 (List._∷_ 100 List.[])))))))))))))))))) (Syntax.ttcons Syntax.tnil (Syntax.ttcons Syntax.tnil (Syntax.ttcons (Syntax.tcons (Syntax.tyStruct (List._∷_ 116 (List._∷_ 101 (List._∷_ 120 (List._∷_ 116 (List._∷_ 95 (List._∷_ 104 (List._∷_ 101 (List._∷_ 97 (List._∷_ 100 (List._∷_ 105 (List._∷_ 110 (List._∷_ 103 (List._∷_ 58 (List._∷_ 58 (List._∷_ 72 (List._∷_ 101 (List._∷_ 97 (List._∷_ 100 (List._∷_ 105 (List._∷_ 110 (List._∷_ 103 List.[]))))))))))))))))))))) (Syntax.tcons (Syntax.tyStruct (List._∷_ 116 (List._∷_ 101 (List._∷_ 120 (List._∷_ 116 (List._∷_ 95 (List._∷_ 104 (List._∷_ 101 (List._∷_ 97 (List._∷_ 100 (List._∷_ 105 (List._∷_ 110 (List._∷_ 103 (List._∷_ 58 (List._∷_ 58 (List._∷_ 78 (List._∷_ 97 (List._∷_ 109 (List._∷_ 101 (List._∷_ 100 List.[]))))))))))))))))))) (Syntax.tcons (IsParameters.mir) (Syntax.tcons (Syntax.tyInt Syntax.w32) Syntax.tnil))) (Syntax.tcons (Syntax.tyStruct (List._∷_ 116 (List._∷_ 101 (List._∷_ 120 (List._∷_ 116 (List._∷_ 95 (List._∷_ 104 (List._∷_ 101 (List._∷_ 97 (List._∷_ 100 (List._∷_ 105 (List._∷_ 110 (List._∷_ 103 (List._∷_ 58 (List._∷_ 58 (List._∷_ 67 (List._∷_ 97 (List._∷_ 109 (List._∷_ 101 List.[])))))))))))))))))) (Syntax.tcons Syntax.tyBool (Syntax.tcons Syntax.tyBool (Syntax.tcons Syntax.tyBool (Syntax.tcons Syntax.tyBool Syntax.tnil))))) (Syntax.tcons (Syntax.tyEnum (List._∷_ 116 (List._∷_ 101 (List._∷_ 120 (List._∷_ 116 (List._∷_ 95 (List._∷_ 104 (List._∷_ 101 (List._∷_ 97 (List._∷_ 100 (List._∷_ 105 (List._∷_ 110 (List._∷_ 103 (List._∷_ 58 (List._∷_ 58 (List._∷_ 80 (List._∷_ 108 (List._∷_ 97 (List._∷_ 99 (List._∷_ 101 List.[]))))))))))))))))))) (Syntax.ttcons (Syntax.tcons (Syntax.tyEnum (List._∷_ 116 (List._∷_ 101 (List._∷_ 120 (List._∷_ 116 (List._∷_ 95 (List._∷_ 104 (List._∷_ 101 (List._∷_ 97 (List._∷_ 100 (List._∷_ 105 (List._∷_ 110 (List._∷_ 103 (List._∷_ 58 (List._∷_ 58 (List._∷_ 87 (List._∷_ 111 (List._∷_ 114 (List._∷_ 100 List.[])))))))))))))))))) (Syntax.ttcons Syntax.tnil (Syntax.ttcons Syntax.tnil (Syntax.ttcons Syntax.tnil (Syntax.ttcons Syntax.tnil (Syntax.ttcons Syntax.tnil Syntax.ttnil)))))) (Syntax.tcons (Syntax.tyInt Syntax.w8) Syntax.tnil)) (Syntax.ttcons (Syntax.tcons (Syntax.tyEnum (List._∷_ 116 (List._∷_ 101 (List._∷_ 120 (List._∷_ 116 (List._∷_ 95 (List._∷_ 104 (List._∷_ 101 (List._∷_ 97 (List._∷_ 100 (List._∷_ 105 (List._∷_ 110 (List._∷_ 103 (List._∷_ 58 (List._∷_ 58 (List._∷_ 87 (List._∷_ 111 (List._∷_ 114 (List._∷_ 100 List.[])))))))))))))))))) (Syntax.ttcons Syntax.tnil (Syntax.ttcons Syntax.tnil (Syntax.ttcons Syntax.tnil (Syntax.ttcons Syntax.tnil (Syntax.ttcons Syntax.tnil Syntax.ttnil)))))) Syntax.tnil) (Syntax.ttcons (Syntax.tcons (Syntax.tyEnum (List._∷_ 116 (List._∷_ 101 (List._∷_ 120 (List._∷_ 116 (List._∷_ 95 (List._∷_ 104 (List._∷_ 101 (List._∷_ 97 (List._∷_ 100 (List._∷_ 105 (List._∷_ 110 (List._∷_ 103 (List._∷_ 58 (List._∷_ 58 (List._∷_ 87 (List._∷_ 111 (List._∷_ 114 (List._∷_ 100 List.[])))))))))))))))))) (Syntax.ttcons Syntax.tnil (Syntax.ttcons Syntax.tnil (Syntax.ttcons Syntax.tnil (Syntax.ttcons Syntax.tnil (Syntax.ttcons Syntax.tnil Syntax.ttnil)))))) (Syntax.tcons (Syntax.tyInt Syntax.w8) Syntax.tnil)) (Syntax.ttcons Syntax.tnil (Syntax.ttcons (Syntax.tcons (Syntax.tyEnum (List._∷_ 116 (List._∷_ 101 (List._∷_ 120 (List._∷_ 116 (List._∷_ 95 (List._∷_ 104 (List._∷_ 101 (List._∷_ 97 (List._∷_ 100 (List._∷_ 105 (List._∷_ 110 (List._∷_ 103 (List._∷_ 58 (List._∷_ 58 (List._∷_ 72 (List._∷_ 101 (List._∷_ 97 (List._∷_ 100 (List._∷_ 105 (List._∷_ 110 (List._∷_ 103 (List._∷_ 70 (List._∷_ 97 (List._∷_ 117 (List._∷_ 108 (List._∷_ 116 List.[])))))))))))))))))))))))))) (Syntax.ttcons Syntax.tnil (Syntax.ttcons Syntax.tnil (Syntax.ttcons Syntax.tnil (Syntax.ttcons Syntax.tnil (Syntax.ttcons (Syntax.tcons (Syntax.tyEnum (List._∷_ 116 (List._∷_ 101 (List._∷_ 120 (List._∷_ 116 (List._∷_ 95 (List._∷_ 104 (List._∷_ 101 (List._∷_ 97 (List._∷_ 100 (List._∷_ 105 (List._∷_ 110 (List._∷_ 103 (List._∷_ 58 (List._∷_ 58 (List._∷_ 87 (List._∷_ 111 (List._∷_ 114 (List._∷_ 100 List.[])))))))))))))))))) (Syntax.ttcons Syntax.tnil (Syntax.ttcons Syntax.tnil (Syntax.ttcons Syntax.tnil (Syntax.ttcons Syntax.tnil (Syntax.ttcons Syntax.tnil Syntax.ttnil)))))) Syntax.tnil) Syntax.ttnil)))))) Syntax.tnil) Syntax.ttnil)))))) Syntax.tnil)))) Syntax.tnil) (Syntax.ttcons Syntax.tnil (Syntax.ttcons (Syntax.tcons (Syntax.tyInt Syntax.w8) Syntax.tnil) (Syntax.ttcons Syntax.tnil (Syntax.ttcons (Syntax.tcons (Syntax.tyEnum (List._∷_ 116 (List._∷_ 101 (List._∷_ 120 (List._∷_ 116 (List._∷_ 95 (List._∷_ 114 (List._∷_ 101 (List._∷_ 97 (List._∷_ 100 (List._∷_ 105 (List._∷_ 110 (List._∷_ 103 (List._∷_ 58 (List._∷_ 58 (List._∷_ 70 (List._∷_ 97 (List._∷_ 117 (List._∷_ 108 (List._∷_ 116 List.[]))))))))))))))))))) (Syntax.ttcons (Syntax.tcons (Syntax.tyEnum (List._∷_ 116 (List._∷_ 101 (List._∷_ 120 (List._∷_ 116 (List._∷_ 95 (List._∷_ 104 (List._∷_ 101 (List._∷_ 97 (List._∷_ 100 (List._∷_ 105 (List._∷_ 110 (List._∷_ 103 (List._∷_ 58 (List._∷_ 58 (List._∷_ 72 (List._∷_ 101 (List._∷_ 97 (List._∷_ 100 (List._∷_ 105 (List._∷_ 110 (List._∷_ 103 (List._∷_ 70 (List._∷_ 97 (List._∷_ 117 (List._∷_ 108 (List._∷_ 116 List.[])))))))))))))))))))))))))) (Syntax.ttcons Syntax.tnil (Syntax.ttcons Syntax.tnil (Syntax.ttcons Syntax.tnil (Syntax.ttcons Syntax.tnil (Syntax.ttcons (Syntax.tcons (Syntax.tyEnum (List._∷_ 116 (List._∷_ 101 (List._∷_ 120 (List._∷_ 116 (List._∷_ 95 (List._∷_ 104 (List._∷_ 101 (List._∷_ 97 (List._∷_ 100 (List._∷_ 105 (List._∷_ 110 (List._∷_ 103 (List._∷_ 58 (List._∷_ 58 (List._∷_ 87 (List._∷_ 111 (List._∷_ 114 (List._∷_ 100 List.[])))))))))))))))))) (Syntax.ttcons Syntax.tnil (Syntax.ttcons Syntax.tnil (Syntax.ttcons Syntax.tnil (Syntax.ttcons Syntax.tnil (Syntax.ttcons Syntax.tnil Syntax.ttnil)))))) Syntax.tnil) Syntax.ttnil)))))) Syntax.tnil) (Syntax.ttcons Syntax.tnil (Syntax.ttcons Syntax.tnil Syntax.ttnil)))) Syntax.tnil) Syntax.ttnil)))))))) (Syntax.tcons (Syntax.tyArray (Syntax.tyInt Syntax.w8) 32) (Syntax.tcons (Syntax.tyInt Syntax.w64) Syntax.tnil))))))
 
   abbrev s52 : (bs : List.List Nat.ℕ) → Typed.Both T53 T55
   s52 = λ bs. Relend.k-back-sl (OfOutput.row) T53 21 1 0 10 (Syntax.tyRef (Syntax.named 0) Syntax.mut OfOutput.named) (Syntax.tyRef Syntax.erased Syntax.mut OfOutput.named) Row.off (λ x. x) λ x. x
@@ -1036,43 +1036,43 @@ module _ (claims· : Claims) where
 
       module _ (κs : Lifetimes.Lfts 5) (qs : Lifetimes.Shares 5) where
         abbrev g4 : List.List Row.Entry
-        g4 = List._∷_ (0, Rows.any-gone Syntax.tyUnit) (List._∷_ (1, Relend.mslice-owed (OfOutput.row) (Syntax.tyRef (Syntax.named 0) Syntax.mut OfOutput.named) 0 5 (Row.lease (κs .0) (qs .0))) (List._∷_ (2, Mut.mslice (OfStation.row) (Syntax.tyRef (Syntax.named 1) Syntax.mut OfStation.named) 1) (List._∷_ (3, Rows.mref (OfPanelRecord.row) (Syntax.tyRef (Syntax.named 2) Syntax.mut OfPanelRecord.named) 2) (List._∷_ (4, Mut.mslice (Referent.rtF (Referent.fInt Syntax.w8)) (Syntax.tyRef (Syntax.named 3) Syntax.mut (Syntax.tyInt Syntax.w8)) 3) (List._∷_ (5, Mut.mslice (Referent.rtF (Referent.fInt Syntax.w8)) (Syntax.tyRef (Syntax.named 4) Syntax.mut (Syntax.tyInt Syntax.w8)) 4) (List._∷_ (6, Rows.sc-here Row.sBool) (List._∷_ (7, Rows.any-gone (Laws.mir)) (List._∷_ (8, Rows.any-gone (Syntax.tyStruct (List._∷_ 116 (List._∷_ 101 (List._∷_ 120 (List._∷_ 116 (List._∷_ 95 (List._∷_ 114 (List._∷_ 101 (List._∷_ 97 (List._∷_ 100 (List._∷_ 105 (List._∷_ 110 (List._∷_ 103 (List._∷_ 58 (List._∷_ 58 (List._∷_ 82 (List._∷_ 101 (List._∷_ 97 (List._∷_ 100 (List._∷_ 101 (List._∷_ 114 List.[])))))))))))))))))))) (Syntax.tcons Syntax.tyBool (Syntax.tcons (Syntax.tyInt Syntax.w64) (Syntax.tcons (Syntax.tyEnum (List._∷_ 116 (List._∷_ 101 (List._∷_ 120 (List._∷_ 116 (List._∷_ 95 (List._∷_ 114 (List._∷_ 101 (List._∷_ 97 (List._∷_ 100 (List._∷_ 105 (List._∷_ 110 (List._∷_ 103 (List._∷_ 58 (List._∷_ 58 (List._∷_ 72 (List._∷_ 101 (List._∷_ 108 (List._∷_ 100 List.[])))))))))))))))))) (Syntax.ttcons Syntax.tnil (Syntax.ttcons Syntax.tnil (Syntax.ttcons (Syntax.tcons (Syntax.tyStruct (List._∷_ 116 (List._∷_ 101 (List._∷_ 120 (List._∷_ 116 (List._∷_ 95 (List._∷_ 104 (List._∷_ 101 (List._∷_ 97 (List._∷_ 100 (List._∷_ 105 (List._∷_ 110 (List._∷_ 103 (List._∷_ 58 (List._∷_ 58 (List._∷_ 72 (List._∷_ 101 (List._∷_ 97 (List._∷_ 100 (List._∷_ 105 (List._∷_ 110 (List._∷_ 103 List.[]))))))))))))))))))))) (Syntax.tcons (IsParameters.mir) (Syntax.tcons (Syntax.tyStruct (List._∷_ 116 (List._∷_ 101 (List._∷_ 120 (List._∷_ 116 (List._∷_ 95 (List._∷_ 104 (List._∷_ 101 (List._∷_ 97 (List._∷_ 100 (List._∷_ 105 (List._∷_ 110 (List._∷_ 103 (List._∷_ 58 (List._∷_ 58 (List._∷_ 67 (List._∷_ 97 (List._∷_ 109 (List._∷_ 101 List.[])))))))))))))))))) (Syntax.tcons Syntax.tyBool (Syntax.tcons Syntax.tyBool (Syntax.tcons Syntax.tyBool Syntax.tnil)))) (Syntax.tcons (Syntax.tyEnum (List._∷_ 116 (List._∷_ 101 (List._∷_ 120 (List._∷_ 116 (List._∷_ 95 (List._∷_ 104 (List._∷_ 101 (List._∷_ 97 (List._∷_ 100 (List._∷_ 105 (List._∷_ 110 (List._∷_ 103 (List._∷_ 58 (List._∷_ 58 (List._∷_ 80 (List._∷_ 108 (List._∷_ 97 (List._∷_ 99 (List._∷_ 101 List.[]))))))))))))))))))) (Syntax.ttcons (Syntax.tcons (Syntax.tyEnum (List._∷_ 116 (List._∷_ 101 (List._∷_ 120 (List._∷_ 116 (List._∷_ 95 (List._∷_ 104 (List._∷_ 101 (List._∷_ 97 (List._∷_ 100 (List._∷_ 105 (List._∷_ 110 (List._∷_ 103 (List._∷_ 58 (List._∷_ 58 (List._∷_ 87 (List._∷_ 111 (List._∷_ 114 (List._∷_ 100 List.[])))))))))))))))))) (Syntax.ttcons Syntax.tnil (Syntax.ttcons Syntax.tnil (Syntax.ttcons Syntax.tnil (Syntax.ttcons Syntax.tnil Syntax.ttnil))))) (Syntax.tcons (Syntax.tyInt Syntax.w8) Syntax.tnil)) (Syntax.ttcons (Syntax.tcons (Syntax.tyEnum (List._∷_ 116 (List._∷_ 101 (List._∷_ 120 (List._∷_ 116 (List._∷_ 95 (List._∷_ 104 (List._∷_ 101 (List._∷_ 97 (List._∷_ 100 (List._∷_ 105 (List._∷_ 110 (List._∷_ 103 (List._∷_ 58 (List._∷_ 58 (List._∷_ 87 (List._∷_ 111 (List._∷_ 114 (List._∷_ 100 List.[])))))))))))))))))) (Syntax.ttcons Syntax.tnil (Syntax.ttcons Syntax.tnil (Syntax.ttcons Syntax.tnil (Syntax.ttcons Syntax.tnil Syntax.ttnil))))) Syntax.tnil) (Syntax.ttcons (Syntax.tcons (Syntax.tyEnum (List._∷_ 116 (List._∷_ 101 (List._∷_ 120 (List._∷_ 116 (List._∷_ 95 (List._∷_ 104 (List._∷_ 101 (List._∷_ 97 (List._∷_ 100 (List._∷_ 105 (List._∷_ 110 (List._∷_ 103 (List._∷_ 58 (List._∷_ 58 (List._∷_ 87 (List._∷_ 111 (List._∷_ 114 (List._∷_ 100 List.[])))))))))))))))))) (Syntax.ttcons Syntax.tnil (Syntax.ttcons Syntax.tnil (Syntax.ttcons Syntax.tnil (Syntax.ttcons Syntax.tnil Syntax.ttnil))))) Syntax.tnil) (Syntax.ttcons Syntax.tnil (Syntax.ttcons (Syntax.tcons (Syntax.tyEnum (List._∷_ 116 (List._∷_ 101 (List._∷_ 120 (List._∷_ 116 (List._∷_ 95 (List._∷_ 104 (List._∷_ 101 (List._∷_ 97 (List._∷_ 100 (List._∷_ 105 (List._∷_ 110 (List._∷_ 103 (List._∷_ 58 (List._∷_ 58 (List._∷_ 72 (List._∷_ 101 (List._∷_ 97 (List._∷_ 100 (List._∷_ 105 (List._∷_ 110 (List._∷_ 103 (List._∷_ 70 (List._∷_ 97 (List._∷_ 117 (List._∷_ 108 (List._∷_ 116 List.[])))))))))))))))))))))))))) (Syntax.ttcons Syntax.tnil (Syntax.ttcons Syntax.tnil (Syntax.ttcons Syntax.tnil (Syntax.ttcons (Syntax.tcons (Syntax.tyEnum (List._∷_ 116 (List._∷_ 101 (List._∷_ 120 (List._∷_ 116 (List._∷_ 95 (List._∷_ 104 (List._∷_ 101 (List._∷_ 97 (List._∷_ 100 (List._∷_ 105 (List._∷_ 110 (List._∷_ 103 (List._∷_ 58 (List._∷_ 58 (List._∷_ 87 (List._∷_ 111 (List._∷_ 114 (List._∷_ 100 List.[])))))))))))))))))) (Syntax.ttcons Syntax.tnil (Syntax.ttcons Syntax.tnil (Syntax.ttcons Syntax.tnil (Syntax.ttcons Syntax.tnil Syntax.ttnil))))) Syntax.tnil) Syntax.ttnil))))) Syntax.tnil) Syntax.ttnil)))))) Syntax.tnil)))) Syntax.tnil) (Syntax.ttcons Syntax.tnil (Syntax.ttcons (Syntax.tcons (Syntax.tyInt Syntax.w8) Syntax.tnil) (Syntax.ttcons Syntax.tnil (Syntax.ttcons (Syntax.tcons (Syntax.tyEnum (List._∷_ 116 (List._∷_ 101 (List._∷_ 120 (List._∷_ 116 (List._∷_ 95 (List._∷_ 114 (List._∷_ 101 (List._∷_ 97 (List._∷_ 100 (List._∷_ 105 (List._∷_ 110 (List._∷_ 103 (List._∷_ 58 (List._∷_ 58 (List._∷_ 70 (List._∷_ 97 (List._∷_ 117 (List._∷_ 108 (List._∷_ 116 List.[]))))))))))))))))))) (Syntax.ttcons (Syntax.tcons (Syntax.tyEnum (List._∷_ 116 (List._∷_ 101 (List._∷_ 120 (List._∷_ 116 (List._∷_ 95 (List._∷_ 104 (List._∷_ 101 (List._∷_ 97 (List._∷_ 100 (List._∷_ 105 (List._∷_ 110 (List._∷_ 103 (List._∷_ 58 (List._∷_ 58 (List._∷_ 72 (List._∷_ 101 (List._∷_ 97 (List._∷_ 100 (List._∷_ 105 (List._∷_ 110 (List._∷_ 103 (List._∷_ 70 (List._∷_ 97 (List._∷_ 117 (List._∷_ 108 (List._∷_ 116 List.[])))))))))))))))))))))))))) (Syntax.ttcons Syntax.tnil (Syntax.ttcons Syntax.tnil (Syntax.ttcons Syntax.tnil (Syntax.ttcons (Syntax.tcons (Syntax.tyEnum (List._∷_ 116 (List._∷_ 101 (List._∷_ 120 (List._∷_ 116 (List._∷_ 95 (List._∷_ 104 (List._∷_ 101 (List._∷_ 97 (List._∷_ 100 (List._∷_ 105 (List._∷_ 110 (List._∷_ 103 (List._∷_ 58 (List._∷_ 58 (List._∷_ 87 (List._∷_ 111 (List._∷_ 114 (List._∷_ 100 List.[])))))))))))))))))) (Syntax.ttcons Syntax.tnil (Syntax.ttcons Syntax.tnil (Syntax.ttcons Syntax.tnil (Syntax.ttcons Syntax.tnil Syntax.ttnil))))) Syntax.tnil) Syntax.ttnil))))) Syntax.tnil) (Syntax.ttcons Syntax.tnil (Syntax.ttcons Syntax.tnil Syntax.ttnil)))) Syntax.tnil) Syntax.ttnil)))))))) (Syntax.tcons (Syntax.tyArray (Syntax.tyInt Syntax.w8) 32) (Syntax.tcons (Syntax.tyInt Syntax.w64) Syntax.tnil))))))) (List._∷_ (9, Rows.any-gone (Syntax.tyInt Syntax.w64)) (List._∷_ (10, Relend.msptr (OfOutput.row) (Syntax.tyRef Syntax.erased Syntax.mut OfOutput.named) 5) (List._∷_ (11, Rows.any-gone (Syntax.tyStruct (List._∷_ 38 (List._∷_ 91 (List._∷_ 93 List.[]))) (Syntax.tcons (Syntax.tyRef Syntax.erased Syntax.mut OfOutput.named) (Syntax.tcons (Syntax.tyInt Syntax.w64) Syntax.tnil)))) (List._∷_ (12, Rows.any-gone (Syntax.tyRef Syntax.erased Syntax.mut OfStation.named)) (List._∷_ (13, Rows.any-gone (Syntax.tyStruct (List._∷_ 38 (List._∷_ 91 (List._∷_ 93 List.[]))) (Syntax.tcons (Syntax.tyRef Syntax.erased Syntax.mut OfStation.named) (Syntax.tcons (Syntax.tyInt Syntax.w64) Syntax.tnil)))) (List._∷_ (14, Rows.any-gone (Syntax.tyRef Syntax.erased Syntax.mut OfPanelRecord.named)) (List._∷_ (15, Rows.any-gone (Syntax.tyRef Syntax.erased Syntax.mut (Syntax.tyInt Syntax.w8))) List.[])))))))))))))))
+        g4 = List._∷_ (0, Rows.any-gone Syntax.tyUnit) (List._∷_ (1, Relend.mslice-owed (OfOutput.row) (Syntax.tyRef (Syntax.named 0) Syntax.mut OfOutput.named) 0 5 (Row.lease (κs .0) (qs .0))) (List._∷_ (2, Mut.mslice (OfStation.row) (Syntax.tyRef (Syntax.named 1) Syntax.mut OfStation.named) 1) (List._∷_ (3, Rows.mref (OfPanelRecord.row) (Syntax.tyRef (Syntax.named 2) Syntax.mut OfPanelRecord.named) 2) (List._∷_ (4, Mut.mslice (Referent.rtF (Referent.fInt Syntax.w8)) (Syntax.tyRef (Syntax.named 3) Syntax.mut (Syntax.tyInt Syntax.w8)) 3) (List._∷_ (5, Mut.mslice (Referent.rtF (Referent.fInt Syntax.w8)) (Syntax.tyRef (Syntax.named 4) Syntax.mut (Syntax.tyInt Syntax.w8)) 4) (List._∷_ (6, Rows.sc-here Row.sBool) (List._∷_ (7, Rows.any-gone (Laws.mir)) (List._∷_ (8, Rows.any-gone (Syntax.tyStruct (List._∷_ 116 (List._∷_ 101 (List._∷_ 120 (List._∷_ 116 (List._∷_ 95 (List._∷_ 114 (List._∷_ 101 (List._∷_ 97 (List._∷_ 100 (List._∷_ 105 (List._∷_ 110 (List._∷_ 103 (List._∷_ 58 (List._∷_ 58 (List._∷_ 82 (List._∷_ 101 (List._∷_ 97 (List._∷_ 100 (List._∷_ 101 (List._∷_ 114 List.[])))))))))))))))))))) (Syntax.tcons Syntax.tyBool (Syntax.tcons (Syntax.tyInt Syntax.w64) (Syntax.tcons (Syntax.tyEnum (List._∷_ 116 (List._∷_ 101 (List._∷_ 120 (List._∷_ 116 (List._∷_ 95 (List._∷_ 114 (List._∷_ 101 (List._∷_ 97 (List._∷_ 100 (List._∷_ 105 (List._∷_ 110 (List._∷_ 103 (List._∷_ 58 (List._∷_ 58 (List._∷_ 72 (List._∷_ 101 (List._∷_ 108 (List._∷_ 100 List.[])))))))))))))))))) (Syntax.ttcons Syntax.tnil (Syntax.ttcons Syntax.tnil (Syntax.ttcons (Syntax.tcons (Syntax.tyStruct (List._∷_ 116 (List._∷_ 101 (List._∷_ 120 (List._∷_ 116 (List._∷_ 95 (List._∷_ 104 (List._∷_ 101 (List._∷_ 97 (List._∷_ 100 (List._∷_ 105 (List._∷_ 110 (List._∷_ 103 (List._∷_ 58 (List._∷_ 58 (List._∷_ 72 (List._∷_ 101 (List._∷_ 97 (List._∷_ 100 (List._∷_ 105 (List._∷_ 110 (List._∷_ 103 List.[]))))))))))))))))))))) (Syntax.tcons (Syntax.tyStruct (List._∷_ 116 (List._∷_ 101 (List._∷_ 120 (List._∷_ 116 (List._∷_ 95 (List._∷_ 104 (List._∷_ 101 (List._∷_ 97 (List._∷_ 100 (List._∷_ 105 (List._∷_ 110 (List._∷_ 103 (List._∷_ 58 (List._∷_ 58 (List._∷_ 78 (List._∷_ 97 (List._∷_ 109 (List._∷_ 101 (List._∷_ 100 List.[]))))))))))))))))))) (Syntax.tcons (IsParameters.mir) (Syntax.tcons (Syntax.tyInt Syntax.w32) Syntax.tnil))) (Syntax.tcons (Syntax.tyStruct (List._∷_ 116 (List._∷_ 101 (List._∷_ 120 (List._∷_ 116 (List._∷_ 95 (List._∷_ 104 (List._∷_ 101 (List._∷_ 97 (List._∷_ 100 (List._∷_ 105 (List._∷_ 110 (List._∷_ 103 (List._∷_ 58 (List._∷_ 58 (List._∷_ 67 (List._∷_ 97 (List._∷_ 109 (List._∷_ 101 List.[])))))))))))))))))) (Syntax.tcons Syntax.tyBool (Syntax.tcons Syntax.tyBool (Syntax.tcons Syntax.tyBool (Syntax.tcons Syntax.tyBool Syntax.tnil))))) (Syntax.tcons (Syntax.tyEnum (List._∷_ 116 (List._∷_ 101 (List._∷_ 120 (List._∷_ 116 (List._∷_ 95 (List._∷_ 104 (List._∷_ 101 (List._∷_ 97 (List._∷_ 100 (List._∷_ 105 (List._∷_ 110 (List._∷_ 103 (List._∷_ 58 (List._∷_ 58 (List._∷_ 80 (List._∷_ 108 (List._∷_ 97 (List._∷_ 99 (List._∷_ 101 List.[]))))))))))))))))))) (Syntax.ttcons (Syntax.tcons (Syntax.tyEnum (List._∷_ 116 (List._∷_ 101 (List._∷_ 120 (List._∷_ 116 (List._∷_ 95 (List._∷_ 104 (List._∷_ 101 (List._∷_ 97 (List._∷_ 100 (List._∷_ 105 (List._∷_ 110 (List._∷_ 103 (List._∷_ 58 (List._∷_ 58 (List._∷_ 87 (List._∷_ 111 (List._∷_ 114 (List._∷_ 100 List.[])))))))))))))))))) (Syntax.ttcons Syntax.tnil (Syntax.ttcons Syntax.tnil (Syntax.ttcons Syntax.tnil (Syntax.ttcons Syntax.tnil (Syntax.ttcons Syntax.tnil Syntax.ttnil)))))) (Syntax.tcons (Syntax.tyInt Syntax.w8) Syntax.tnil)) (Syntax.ttcons (Syntax.tcons (Syntax.tyEnum (List._∷_ 116 (List._∷_ 101 (List._∷_ 120 (List._∷_ 116 (List._∷_ 95 (List._∷_ 104 (List._∷_ 101 (List._∷_ 97 (List._∷_ 100 (List._∷_ 105 (List._∷_ 110 (List._∷_ 103 (List._∷_ 58 (List._∷_ 58 (List._∷_ 87 (List._∷_ 111 (List._∷_ 114 (List._∷_ 100 List.[])))))))))))))))))) (Syntax.ttcons Syntax.tnil (Syntax.ttcons Syntax.tnil (Syntax.ttcons Syntax.tnil (Syntax.ttcons Syntax.tnil (Syntax.ttcons Syntax.tnil Syntax.ttnil)))))) Syntax.tnil) (Syntax.ttcons (Syntax.tcons (Syntax.tyEnum (List._∷_ 116 (List._∷_ 101 (List._∷_ 120 (List._∷_ 116 (List._∷_ 95 (List._∷_ 104 (List._∷_ 101 (List._∷_ 97 (List._∷_ 100 (List._∷_ 105 (List._∷_ 110 (List._∷_ 103 (List._∷_ 58 (List._∷_ 58 (List._∷_ 87 (List._∷_ 111 (List._∷_ 114 (List._∷_ 100 List.[])))))))))))))))))) (Syntax.ttcons Syntax.tnil (Syntax.ttcons Syntax.tnil (Syntax.ttcons Syntax.tnil (Syntax.ttcons Syntax.tnil (Syntax.ttcons Syntax.tnil Syntax.ttnil)))))) (Syntax.tcons (Syntax.tyInt Syntax.w8) Syntax.tnil)) (Syntax.ttcons Syntax.tnil (Syntax.ttcons (Syntax.tcons (Syntax.tyEnum (List._∷_ 116 (List._∷_ 101 (List._∷_ 120 (List._∷_ 116 (List._∷_ 95 (List._∷_ 104 (List._∷_ 101 (List._∷_ 97 (List._∷_ 100 (List._∷_ 105 (List._∷_ 110 (List._∷_ 103 (List._∷_ 58 (List._∷_ 58 (List._∷_ 72 (List._∷_ 101 (List._∷_ 97 (List._∷_ 100 (List._∷_ 105 (List._∷_ 110 (List._∷_ 103 (List._∷_ 70 (List._∷_ 97 (List._∷_ 117 (List._∷_ 108 (List._∷_ 116 List.[])))))))))))))))))))))))))) (Syntax.ttcons Syntax.tnil (Syntax.ttcons Syntax.tnil (Syntax.ttcons Syntax.tnil (Syntax.ttcons Syntax.tnil (Syntax.ttcons (Syntax.tcons (Syntax.tyEnum (List._∷_ 116 (List._∷_ 101 (List._∷_ 120 (List._∷_ 116 (List._∷_ 95 (List._∷_ 104 (List._∷_ 101 (List._∷_ 97 (List._∷_ 100 (List._∷_ 105 (List._∷_ 110 (List._∷_ 103 (List._∷_ 58 (List._∷_ 58 (List._∷_ 87 (List._∷_ 111 (List._∷_ 114 (List._∷_ 100 List.[])))))))))))))))))) (Syntax.ttcons Syntax.tnil (Syntax.ttcons Syntax.tnil (Syntax.ttcons Syntax.tnil (Syntax.ttcons Syntax.tnil (Syntax.ttcons Syntax.tnil Syntax.ttnil)))))) Syntax.tnil) Syntax.ttnil)))))) Syntax.tnil) Syntax.ttnil)))))) Syntax.tnil)))) Syntax.tnil) (Syntax.ttcons Syntax.tnil (Syntax.ttcons (Syntax.tcons (Syntax.tyInt Syntax.w8) Syntax.tnil) (Syntax.ttcons Syntax.tnil (Syntax.ttcons (Syntax.tcons (Syntax.tyEnum (List._∷_ 116 (List._∷_ 101 (List._∷_ 120 (List._∷_ 116 (List._∷_ 95 (List._∷_ 114 (List._∷_ 101 (List._∷_ 97 (List._∷_ 100 (List._∷_ 105 (List._∷_ 110 (List._∷_ 103 (List._∷_ 58 (List._∷_ 58 (List._∷_ 70 (List._∷_ 97 (List._∷_ 117 (List._∷_ 108 (List._∷_ 116 List.[]))))))))))))))))))) (Syntax.ttcons (Syntax.tcons (Syntax.tyEnum (List._∷_ 116 (List._∷_ 101 (List._∷_ 120 (List._∷_ 116 (List._∷_ 95 (List._∷_ 104 (List._∷_ 101 (List._∷_ 97 (List._∷_ 100 (List._∷_ 105 (List._∷_ 110 (List._∷_ 103 (List._∷_ 58 (List._∷_ 58 (List._∷_ 72 (List._∷_ 101 (List._∷_ 97 (List._∷_ 100 (List._∷_ 105 (List._∷_ 110 (List._∷_ 103 (List._∷_ 70 (List._∷_ 97 (List._∷_ 117 (List._∷_ 108 (List._∷_ 116 List.[])))))))))))))))))))))))))) (Syntax.ttcons Syntax.tnil (Syntax.ttcons Syntax.tnil (Syntax.ttcons Syntax.tnil (Syntax.ttcons Syntax.tnil (Syntax.ttcons (Syntax.tcons (Syntax.tyEnum (List._∷_ 116 (List._∷_ 101 (List._∷_ 120 (List._∷_ 116 (List._∷_ 95 (List._∷_ 104 (List._∷_ 101 (List._∷_ 97 (List._∷_ 100 (List._∷_ 105 (List._∷_ 110 (List._∷_ 103 (List._∷_ 58 (List._∷_ 58 (List._∷_ 87 (List._∷_ 111 (List._∷_ 114 (List._∷_ 100 List.[])))))))))))))))))) (Syntax.ttcons Syntax.tnil (Syntax.ttcons Syntax.tnil (Syntax.ttcons Syntax.tnil (Syntax.ttcons Syntax.tnil (Syntax.ttcons Syntax.tnil Syntax.ttnil)))))) Syntax.tnil) Syntax.ttnil)))))) Syntax.tnil) (Syntax.ttcons Syntax.tnil (Syntax.ttcons Syntax.tnil Syntax.ttnil)))) Syntax.tnil) Syntax.ttnil)))))))) (Syntax.tcons (Syntax.tyArray (Syntax.tyInt Syntax.w8) 32) (Syntax.tcons (Syntax.tyInt Syntax.w64) Syntax.tnil))))))) (List._∷_ (9, Rows.any-gone (Syntax.tyInt Syntax.w64)) (List._∷_ (10, Relend.msptr (OfOutput.row) (Syntax.tyRef Syntax.erased Syntax.mut OfOutput.named) 5) (List._∷_ (11, Rows.any-gone (Syntax.tyStruct (List._∷_ 38 (List._∷_ 91 (List._∷_ 93 List.[]))) (Syntax.tcons (Syntax.tyRef Syntax.erased Syntax.mut OfOutput.named) (Syntax.tcons (Syntax.tyInt Syntax.w64) Syntax.tnil)))) (List._∷_ (12, Rows.any-gone (Syntax.tyRef Syntax.erased Syntax.mut OfStation.named)) (List._∷_ (13, Rows.any-gone (Syntax.tyStruct (List._∷_ 38 (List._∷_ 91 (List._∷_ 93 List.[]))) (Syntax.tcons (Syntax.tyRef Syntax.erased Syntax.mut OfStation.named) (Syntax.tcons (Syntax.tyInt Syntax.w64) Syntax.tnil)))) (List._∷_ (14, Rows.any-gone (Syntax.tyRef Syntax.erased Syntax.mut OfPanelRecord.named)) (List._∷_ (15, Rows.any-gone (Syntax.tyRef Syntax.erased Syntax.mut (Syntax.tyInt Syntax.w8))) List.[])))))))))))))))
 
         abbrev g5 : List.List Row.Entry
-        g5 = List._∷_ (0, Rows.any-gone Syntax.tyUnit) (List._∷_ (1, Relend.mslice-owed (OfOutput.row) (Syntax.tyRef (Syntax.named 0) Syntax.mut OfOutput.named) 0 5 (Row.lease (κs .0) (qs .0))) (List._∷_ (2, Mut.mslice (OfStation.row) (Syntax.tyRef (Syntax.named 1) Syntax.mut OfStation.named) 1) (List._∷_ (3, Rows.mref (OfPanelRecord.row) (Syntax.tyRef (Syntax.named 2) Syntax.mut OfPanelRecord.named) 2) (List._∷_ (4, Mut.mslice (Referent.rtF (Referent.fInt Syntax.w8)) (Syntax.tyRef (Syntax.named 3) Syntax.mut (Syntax.tyInt Syntax.w8)) 3) (List._∷_ (5, Mut.mslice (Referent.rtF (Referent.fInt Syntax.w8)) (Syntax.tyRef (Syntax.named 4) Syntax.mut (Syntax.tyInt Syntax.w8)) 4) (List._∷_ (6, Rows.sc-here Row.sBool) (List._∷_ (7, Rows.any-gone (Laws.mir)) (List._∷_ (8, Rows.any-gone (Syntax.tyStruct (List._∷_ 116 (List._∷_ 101 (List._∷_ 120 (List._∷_ 116 (List._∷_ 95 (List._∷_ 114 (List._∷_ 101 (List._∷_ 97 (List._∷_ 100 (List._∷_ 105 (List._∷_ 110 (List._∷_ 103 (List._∷_ 58 (List._∷_ 58 (List._∷_ 82 (List._∷_ 101 (List._∷_ 97 (List._∷_ 100 (List._∷_ 101 (List._∷_ 114 List.[])))))))))))))))))))) (Syntax.tcons Syntax.tyBool (Syntax.tcons (Syntax.tyInt Syntax.w64) (Syntax.tcons (Syntax.tyEnum (List._∷_ 116 (List._∷_ 101 (List._∷_ 120 (List._∷_ 116 (List._∷_ 95 (List._∷_ 114 (List._∷_ 101 (List._∷_ 97 (List._∷_ 100 (List._∷_ 105 (List._∷_ 110 (List._∷_ 103 (List._∷_ 58 (List._∷_ 58 (List._∷_ 72 (List._∷_ 101 (List._∷_ 108 (List._∷_ 100 List.[])))))))))))))))))) (Syntax.ttcons Syntax.tnil (Syntax.ttcons Syntax.tnil (Syntax.ttcons (Syntax.tcons (Syntax.tyStruct (List._∷_ 116 (List._∷_ 101 (List._∷_ 120 (List._∷_ 116 (List._∷_ 95 (List._∷_ 104 (List._∷_ 101 (List._∷_ 97 (List._∷_ 100 (List._∷_ 105 (List._∷_ 110 (List._∷_ 103 (List._∷_ 58 (List._∷_ 58 (List._∷_ 72 (List._∷_ 101 (List._∷_ 97 (List._∷_ 100 (List._∷_ 105 (List._∷_ 110 (List._∷_ 103 List.[]))))))))))))))))))))) (Syntax.tcons (IsParameters.mir) (Syntax.tcons (Syntax.tyStruct (List._∷_ 116 (List._∷_ 101 (List._∷_ 120 (List._∷_ 116 (List._∷_ 95 (List._∷_ 104 (List._∷_ 101 (List._∷_ 97 (List._∷_ 100 (List._∷_ 105 (List._∷_ 110 (List._∷_ 103 (List._∷_ 58 (List._∷_ 58 (List._∷_ 67 (List._∷_ 97 (List._∷_ 109 (List._∷_ 101 List.[])))))))))))))))))) (Syntax.tcons Syntax.tyBool (Syntax.tcons Syntax.tyBool (Syntax.tcons Syntax.tyBool Syntax.tnil)))) (Syntax.tcons (Syntax.tyEnum (List._∷_ 116 (List._∷_ 101 (List._∷_ 120 (List._∷_ 116 (List._∷_ 95 (List._∷_ 104 (List._∷_ 101 (List._∷_ 97 (List._∷_ 100 (List._∷_ 105 (List._∷_ 110 (List._∷_ 103 (List._∷_ 58 (List._∷_ 58 (List._∷_ 80 (List._∷_ 108 (List._∷_ 97 (List._∷_ 99 (List._∷_ 101 List.[]))))))))))))))))))) (Syntax.ttcons (Syntax.tcons (Syntax.tyEnum (List._∷_ 116 (List._∷_ 101 (List._∷_ 120 (List._∷_ 116 (List._∷_ 95 (List._∷_ 104 (List._∷_ 101 (List._∷_ 97 (List._∷_ 100 (List._∷_ 105 (List._∷_ 110 (List._∷_ 103 (List._∷_ 58 (List._∷_ 58 (List._∷_ 87 (List._∷_ 111 (List._∷_ 114 (List._∷_ 100 List.[])))))))))))))))))) (Syntax.ttcons Syntax.tnil (Syntax.ttcons Syntax.tnil (Syntax.ttcons Syntax.tnil (Syntax.ttcons Syntax.tnil Syntax.ttnil))))) (Syntax.tcons (Syntax.tyInt Syntax.w8) Syntax.tnil)) (Syntax.ttcons (Syntax.tcons (Syntax.tyEnum (List._∷_ 116 (List._∷_ 101 (List._∷_ 120 (List._∷_ 116 (List._∷_ 95 (List._∷_ 104 (List._∷_ 101 (List._∷_ 97 (List._∷_ 100 (List._∷_ 105 (List._∷_ 110 (List._∷_ 103 (List._∷_ 58 (List._∷_ 58 (List._∷_ 87 (List._∷_ 111 (List._∷_ 114 (List._∷_ 100 List.[])))))))))))))))))) (Syntax.ttcons Syntax.tnil (Syntax.ttcons Syntax.tnil (Syntax.ttcons Syntax.tnil (Syntax.ttcons Syntax.tnil Syntax.ttnil))))) Syntax.tnil) (Syntax.ttcons (Syntax.tcons (Syntax.tyEnum (List._∷_ 116 (List._∷_ 101 (List._∷_ 120 (List._∷_ 116 (List._∷_ 95 (List._∷_ 104 (List._∷_ 101 (List._∷_ 97 (List._∷_ 100 (List._∷_ 105 (List._∷_ 110 (List._∷_ 103 (List._∷_ 58 (List._∷_ 58 (List._∷_ 87 (List._∷_ 111 (List._∷_ 114 (List._∷_ 100 List.[])))))))))))))))))) (Syntax.ttcons Syntax.tnil (Syntax.ttcons Syntax.tnil (Syntax.ttcons Syntax.tnil (Syntax.ttcons Syntax.tnil Syntax.ttnil))))) Syntax.tnil) (Syntax.ttcons Syntax.tnil (Syntax.ttcons (Syntax.tcons (Syntax.tyEnum (List._∷_ 116 (List._∷_ 101 (List._∷_ 120 (List._∷_ 116 (List._∷_ 95 (List._∷_ 104 (List._∷_ 101 (List._∷_ 97 (List._∷_ 100 (List._∷_ 105 (List._∷_ 110 (List._∷_ 103 (List._∷_ 58 (List._∷_ 58 (List._∷_ 72 (List._∷_ 101 (List._∷_ 97 (List._∷_ 100 (List._∷_ 105 (List._∷_ 110 (List._∷_ 103 (List._∷_ 70 (List._∷_ 97 (List._∷_ 117 (List._∷_ 108 (List._∷_ 116 List.[])))))))))))))))))))))))))) (Syntax.ttcons Syntax.tnil (Syntax.ttcons Syntax.tnil (Syntax.ttcons Syntax.tnil (Syntax.ttcons (Syntax.tcons (Syntax.tyEnum (List._∷_ 116 (List._∷_ 101 (List._∷_ 120 (List._∷_ 116 (List._∷_ 95 (List._∷_ 104 (List._∷_ 101 (List._∷_ 97 (List._∷_ 100 (List._∷_ 105 (List._∷_ 110 (List._∷_ 103 (List._∷_ 58 (List._∷_ 58 (List._∷_ 87 (List._∷_ 111 (List._∷_ 114 (List._∷_ 100 List.[])))))))))))))))))) (Syntax.ttcons Syntax.tnil (Syntax.ttcons Syntax.tnil (Syntax.ttcons Syntax.tnil (Syntax.ttcons Syntax.tnil Syntax.ttnil))))) Syntax.tnil) Syntax.ttnil))))) Syntax.tnil) Syntax.ttnil)))))) Syntax.tnil)))) Syntax.tnil) (Syntax.ttcons Syntax.tnil (Syntax.ttcons (Syntax.tcons (Syntax.tyInt Syntax.w8) Syntax.tnil) (Syntax.ttcons Syntax.tnil (Syntax.ttcons (Syntax.tcons (Syntax.tyEnum (List._∷_ 116 (List._∷_ 101 (List._∷_ 120 (List._∷_ 116 (List._∷_ 95 (List._∷_ 114 (List._∷_ 101 (List._∷_ 97 (List._∷_ 100 (List._∷_ 105 (List._∷_ 110 (List._∷_ 103 (List._∷_ 58 (List._∷_ 58 (List._∷_ 70 (List._∷_ 97 (List._∷_ 117 (List._∷_ 108 (List._∷_ 116 List.[]))))))))))))))))))) (Syntax.ttcons (Syntax.tcons (Syntax.tyEnum (List._∷_ 116 (List._∷_ 101 (List._∷_ 120 (List._∷_ 116 (List._∷_ 95 (List._∷_ 104 (List._∷_ 101 (List._∷_ 97 (List._∷_ 100 (List._∷_ 105 (List._∷_ 110 (List._∷_ 103 (List._∷_ 58 (List._∷_ 58 (List._∷_ 72 (List._∷_ 101 (List._∷_ 97 (List._∷_ 100 (List._∷_ 105 (List._∷_ 110 (List._∷_ 103 (List._∷_ 70 (List._∷_ 97 (List._∷_ 117 (List._∷_ 108 (List._∷_ 116 List.[])))))))))))))))))))))))))) (Syntax.ttcons Syntax.tnil (Syntax.ttcons Syntax.tnil (Syntax.ttcons Syntax.tnil (Syntax.ttcons (Syntax.tcons (Syntax.tyEnum (List._∷_ 116 (List._∷_ 101 (List._∷_ 120 (List._∷_ 116 (List._∷_ 95 (List._∷_ 104 (List._∷_ 101 (List._∷_ 97 (List._∷_ 100 (List._∷_ 105 (List._∷_ 110 (List._∷_ 103 (List._∷_ 58 (List._∷_ 58 (List._∷_ 87 (List._∷_ 111 (List._∷_ 114 (List._∷_ 100 List.[])))))))))))))))))) (Syntax.ttcons Syntax.tnil (Syntax.ttcons Syntax.tnil (Syntax.ttcons Syntax.tnil (Syntax.ttcons Syntax.tnil Syntax.ttnil))))) Syntax.tnil) Syntax.ttnil))))) Syntax.tnil) (Syntax.ttcons Syntax.tnil (Syntax.ttcons Syntax.tnil Syntax.ttnil)))) Syntax.tnil) Syntax.ttnil)))))))) (Syntax.tcons (Syntax.tyArray (Syntax.tyInt Syntax.w8) 32) (Syntax.tcons (Syntax.tyInt Syntax.w64) Syntax.tnil))))))) (List._∷_ (9, Rows.any-gone (Syntax.tyInt Syntax.w64)) (List._∷_ (10, Rows.any-gone (Syntax.tyRef Syntax.erased Syntax.mut OfOutput.named)) (List._∷_ (11, Mut.mslice (OfOutput.row) (Syntax.tyRef Syntax.erased Syntax.mut OfOutput.named) 5) (List._∷_ (12, Rows.any-gone (Syntax.tyRef Syntax.erased Syntax.mut OfStation.named)) (List._∷_ (13, Rows.any-gone (Syntax.tyStruct (List._∷_ 38 (List._∷_ 91 (List._∷_ 93 List.[]))) (Syntax.tcons (Syntax.tyRef Syntax.erased Syntax.mut OfStation.named) (Syntax.tcons (Syntax.tyInt Syntax.w64) Syntax.tnil)))) (List._∷_ (14, Rows.any-gone (Syntax.tyRef Syntax.erased Syntax.mut OfPanelRecord.named)) (List._∷_ (15, Rows.any-gone (Syntax.tyRef Syntax.erased Syntax.mut (Syntax.tyInt Syntax.w8))) List.[])))))))))))))))
+        g5 = List._∷_ (0, Rows.any-gone Syntax.tyUnit) (List._∷_ (1, Relend.mslice-owed (OfOutput.row) (Syntax.tyRef (Syntax.named 0) Syntax.mut OfOutput.named) 0 5 (Row.lease (κs .0) (qs .0))) (List._∷_ (2, Mut.mslice (OfStation.row) (Syntax.tyRef (Syntax.named 1) Syntax.mut OfStation.named) 1) (List._∷_ (3, Rows.mref (OfPanelRecord.row) (Syntax.tyRef (Syntax.named 2) Syntax.mut OfPanelRecord.named) 2) (List._∷_ (4, Mut.mslice (Referent.rtF (Referent.fInt Syntax.w8)) (Syntax.tyRef (Syntax.named 3) Syntax.mut (Syntax.tyInt Syntax.w8)) 3) (List._∷_ (5, Mut.mslice (Referent.rtF (Referent.fInt Syntax.w8)) (Syntax.tyRef (Syntax.named 4) Syntax.mut (Syntax.tyInt Syntax.w8)) 4) (List._∷_ (6, Rows.sc-here Row.sBool) (List._∷_ (7, Rows.any-gone (Laws.mir)) (List._∷_ (8, Rows.any-gone (Syntax.tyStruct (List._∷_ 116 (List._∷_ 101 (List._∷_ 120 (List._∷_ 116 (List._∷_ 95 (List._∷_ 114 (List._∷_ 101 (List._∷_ 97 (List._∷_ 100 (List._∷_ 105 (List._∷_ 110 (List._∷_ 103 (List._∷_ 58 (List._∷_ 58 (List._∷_ 82 (List._∷_ 101 (List._∷_ 97 (List._∷_ 100 (List._∷_ 101 (List._∷_ 114 List.[])))))))))))))))))))) (Syntax.tcons Syntax.tyBool (Syntax.tcons (Syntax.tyInt Syntax.w64) (Syntax.tcons (Syntax.tyEnum (List._∷_ 116 (List._∷_ 101 (List._∷_ 120 (List._∷_ 116 (List._∷_ 95 (List._∷_ 114 (List._∷_ 101 (List._∷_ 97 (List._∷_ 100 (List._∷_ 105 (List._∷_ 110 (List._∷_ 103 (List._∷_ 58 (List._∷_ 58 (List._∷_ 72 (List._∷_ 101 (List._∷_ 108 (List._∷_ 100 List.[])))))))))))))))))) (Syntax.ttcons Syntax.tnil (Syntax.ttcons Syntax.tnil (Syntax.ttcons (Syntax.tcons (Syntax.tyStruct (List._∷_ 116 (List._∷_ 101 (List._∷_ 120 (List._∷_ 116 (List._∷_ 95 (List._∷_ 104 (List._∷_ 101 (List._∷_ 97 (List._∷_ 100 (List._∷_ 105 (List._∷_ 110 (List._∷_ 103 (List._∷_ 58 (List._∷_ 58 (List._∷_ 72 (List._∷_ 101 (List._∷_ 97 (List._∷_ 100 (List._∷_ 105 (List._∷_ 110 (List._∷_ 103 List.[]))))))))))))))))))))) (Syntax.tcons (Syntax.tyStruct (List._∷_ 116 (List._∷_ 101 (List._∷_ 120 (List._∷_ 116 (List._∷_ 95 (List._∷_ 104 (List._∷_ 101 (List._∷_ 97 (List._∷_ 100 (List._∷_ 105 (List._∷_ 110 (List._∷_ 103 (List._∷_ 58 (List._∷_ 58 (List._∷_ 78 (List._∷_ 97 (List._∷_ 109 (List._∷_ 101 (List._∷_ 100 List.[]))))))))))))))))))) (Syntax.tcons (IsParameters.mir) (Syntax.tcons (Syntax.tyInt Syntax.w32) Syntax.tnil))) (Syntax.tcons (Syntax.tyStruct (List._∷_ 116 (List._∷_ 101 (List._∷_ 120 (List._∷_ 116 (List._∷_ 95 (List._∷_ 104 (List._∷_ 101 (List._∷_ 97 (List._∷_ 100 (List._∷_ 105 (List._∷_ 110 (List._∷_ 103 (List._∷_ 58 (List._∷_ 58 (List._∷_ 67 (List._∷_ 97 (List._∷_ 109 (List._∷_ 101 List.[])))))))))))))))))) (Syntax.tcons Syntax.tyBool (Syntax.tcons Syntax.tyBool (Syntax.tcons Syntax.tyBool (Syntax.tcons Syntax.tyBool Syntax.tnil))))) (Syntax.tcons (Syntax.tyEnum (List._∷_ 116 (List._∷_ 101 (List._∷_ 120 (List._∷_ 116 (List._∷_ 95 (List._∷_ 104 (List._∷_ 101 (List._∷_ 97 (List._∷_ 100 (List._∷_ 105 (List._∷_ 110 (List._∷_ 103 (List._∷_ 58 (List._∷_ 58 (List._∷_ 80 (List._∷_ 108 (List._∷_ 97 (List._∷_ 99 (List._∷_ 101 List.[]))))))))))))))))))) (Syntax.ttcons (Syntax.tcons (Syntax.tyEnum (List._∷_ 116 (List._∷_ 101 (List._∷_ 120 (List._∷_ 116 (List._∷_ 95 (List._∷_ 104 (List._∷_ 101 (List._∷_ 97 (List._∷_ 100 (List._∷_ 105 (List._∷_ 110 (List._∷_ 103 (List._∷_ 58 (List._∷_ 58 (List._∷_ 87 (List._∷_ 111 (List._∷_ 114 (List._∷_ 100 List.[])))))))))))))))))) (Syntax.ttcons Syntax.tnil (Syntax.ttcons Syntax.tnil (Syntax.ttcons Syntax.tnil (Syntax.ttcons Syntax.tnil (Syntax.ttcons Syntax.tnil Syntax.ttnil)))))) (Syntax.tcons (Syntax.tyInt Syntax.w8) Syntax.tnil)) (Syntax.ttcons (Syntax.tcons (Syntax.tyEnum (List._∷_ 116 (List._∷_ 101 (List._∷_ 120 (List._∷_ 116 (List._∷_ 95 (List._∷_ 104 (List._∷_ 101 (List._∷_ 97 (List._∷_ 100 (List._∷_ 105 (List._∷_ 110 (List._∷_ 103 (List._∷_ 58 (List._∷_ 58 (List._∷_ 87 (List._∷_ 111 (List._∷_ 114 (List._∷_ 100 List.[])))))))))))))))))) (Syntax.ttcons Syntax.tnil (Syntax.ttcons Syntax.tnil (Syntax.ttcons Syntax.tnil (Syntax.ttcons Syntax.tnil (Syntax.ttcons Syntax.tnil Syntax.ttnil)))))) Syntax.tnil) (Syntax.ttcons (Syntax.tcons (Syntax.tyEnum (List._∷_ 116 (List._∷_ 101 (List._∷_ 120 (List._∷_ 116 (List._∷_ 95 (List._∷_ 104 (List._∷_ 101 (List._∷_ 97 (List._∷_ 100 (List._∷_ 105 (List._∷_ 110 (List._∷_ 103 (List._∷_ 58 (List._∷_ 58 (List._∷_ 87 (List._∷_ 111 (List._∷_ 114 (List._∷_ 100 List.[])))))))))))))))))) (Syntax.ttcons Syntax.tnil (Syntax.ttcons Syntax.tnil (Syntax.ttcons Syntax.tnil (Syntax.ttcons Syntax.tnil (Syntax.ttcons Syntax.tnil Syntax.ttnil)))))) (Syntax.tcons (Syntax.tyInt Syntax.w8) Syntax.tnil)) (Syntax.ttcons Syntax.tnil (Syntax.ttcons (Syntax.tcons (Syntax.tyEnum (List._∷_ 116 (List._∷_ 101 (List._∷_ 120 (List._∷_ 116 (List._∷_ 95 (List._∷_ 104 (List._∷_ 101 (List._∷_ 97 (List._∷_ 100 (List._∷_ 105 (List._∷_ 110 (List._∷_ 103 (List._∷_ 58 (List._∷_ 58 (List._∷_ 72 (List._∷_ 101 (List._∷_ 97 (List._∷_ 100 (List._∷_ 105 (List._∷_ 110 (List._∷_ 103 (List._∷_ 70 (List._∷_ 97 (List._∷_ 117 (List._∷_ 108 (List._∷_ 116 List.[])))))))))))))))))))))))))) (Syntax.ttcons Syntax.tnil (Syntax.ttcons Syntax.tnil (Syntax.ttcons Syntax.tnil (Syntax.ttcons Syntax.tnil (Syntax.ttcons (Syntax.tcons (Syntax.tyEnum (List._∷_ 116 (List._∷_ 101 (List._∷_ 120 (List._∷_ 116 (List._∷_ 95 (List._∷_ 104 (List._∷_ 101 (List._∷_ 97 (List._∷_ 100 (List._∷_ 105 (List._∷_ 110 (List._∷_ 103 (List._∷_ 58 (List._∷_ 58 (List._∷_ 87 (List._∷_ 111 (List._∷_ 114 (List._∷_ 100 List.[])))))))))))))))))) (Syntax.ttcons Syntax.tnil (Syntax.ttcons Syntax.tnil (Syntax.ttcons Syntax.tnil (Syntax.ttcons Syntax.tnil (Syntax.ttcons Syntax.tnil Syntax.ttnil)))))) Syntax.tnil) Syntax.ttnil)))))) Syntax.tnil) Syntax.ttnil)))))) Syntax.tnil)))) Syntax.tnil) (Syntax.ttcons Syntax.tnil (Syntax.ttcons (Syntax.tcons (Syntax.tyInt Syntax.w8) Syntax.tnil) (Syntax.ttcons Syntax.tnil (Syntax.ttcons (Syntax.tcons (Syntax.tyEnum (List._∷_ 116 (List._∷_ 101 (List._∷_ 120 (List._∷_ 116 (List._∷_ 95 (List._∷_ 114 (List._∷_ 101 (List._∷_ 97 (List._∷_ 100 (List._∷_ 105 (List._∷_ 110 (List._∷_ 103 (List._∷_ 58 (List._∷_ 58 (List._∷_ 70 (List._∷_ 97 (List._∷_ 117 (List._∷_ 108 (List._∷_ 116 List.[]))))))))))))))))))) (Syntax.ttcons (Syntax.tcons (Syntax.tyEnum (List._∷_ 116 (List._∷_ 101 (List._∷_ 120 (List._∷_ 116 (List._∷_ 95 (List._∷_ 104 (List._∷_ 101 (List._∷_ 97 (List._∷_ 100 (List._∷_ 105 (List._∷_ 110 (List._∷_ 103 (List._∷_ 58 (List._∷_ 58 (List._∷_ 72 (List._∷_ 101 (List._∷_ 97 (List._∷_ 100 (List._∷_ 105 (List._∷_ 110 (List._∷_ 103 (List._∷_ 70 (List._∷_ 97 (List._∷_ 117 (List._∷_ 108 (List._∷_ 116 List.[])))))))))))))))))))))))))) (Syntax.ttcons Syntax.tnil (Syntax.ttcons Syntax.tnil (Syntax.ttcons Syntax.tnil (Syntax.ttcons Syntax.tnil (Syntax.ttcons (Syntax.tcons (Syntax.tyEnum (List._∷_ 116 (List._∷_ 101 (List._∷_ 120 (List._∷_ 116 (List._∷_ 95 (List._∷_ 104 (List._∷_ 101 (List._∷_ 97 (List._∷_ 100 (List._∷_ 105 (List._∷_ 110 (List._∷_ 103 (List._∷_ 58 (List._∷_ 58 (List._∷_ 87 (List._∷_ 111 (List._∷_ 114 (List._∷_ 100 List.[])))))))))))))))))) (Syntax.ttcons Syntax.tnil (Syntax.ttcons Syntax.tnil (Syntax.ttcons Syntax.tnil (Syntax.ttcons Syntax.tnil (Syntax.ttcons Syntax.tnil Syntax.ttnil)))))) Syntax.tnil) Syntax.ttnil)))))) Syntax.tnil) (Syntax.ttcons Syntax.tnil (Syntax.ttcons Syntax.tnil Syntax.ttnil)))) Syntax.tnil) Syntax.ttnil)))))))) (Syntax.tcons (Syntax.tyArray (Syntax.tyInt Syntax.w8) 32) (Syntax.tcons (Syntax.tyInt Syntax.w64) Syntax.tnil))))))) (List._∷_ (9, Rows.any-gone (Syntax.tyInt Syntax.w64)) (List._∷_ (10, Rows.any-gone (Syntax.tyRef Syntax.erased Syntax.mut OfOutput.named)) (List._∷_ (11, Mut.mslice (OfOutput.row) (Syntax.tyRef Syntax.erased Syntax.mut OfOutput.named) 5) (List._∷_ (12, Rows.any-gone (Syntax.tyRef Syntax.erased Syntax.mut OfStation.named)) (List._∷_ (13, Rows.any-gone (Syntax.tyStruct (List._∷_ 38 (List._∷_ 91 (List._∷_ 93 List.[]))) (Syntax.tcons (Syntax.tyRef Syntax.erased Syntax.mut OfStation.named) (Syntax.tcons (Syntax.tyInt Syntax.w64) Syntax.tnil)))) (List._∷_ (14, Rows.any-gone (Syntax.tyRef Syntax.erased Syntax.mut OfPanelRecord.named)) (List._∷_ (15, Rows.any-gone (Syntax.tyRef Syntax.erased Syntax.mut (Syntax.tyInt Syntax.w8))) List.[])))))))))))))))
 
         abbrev g6 : List.List Row.Entry
-        g6 = List._∷_ (0, Rows.any-gone Syntax.tyUnit) (List._∷_ (1, Relend.mslice-owed (OfOutput.row) (Syntax.tyRef (Syntax.named 0) Syntax.mut OfOutput.named) 0 5 (Row.lease (κs .0) (qs .0))) (List._∷_ (2, Relend.mslice-owed (OfStation.row) (Syntax.tyRef (Syntax.named 1) Syntax.mut OfStation.named) 1 6 (Row.lease (κs .1 .0) (qs .1 .0))) (List._∷_ (3, Rows.mref (OfPanelRecord.row) (Syntax.tyRef (Syntax.named 2) Syntax.mut OfPanelRecord.named) 2) (List._∷_ (4, Mut.mslice (Referent.rtF (Referent.fInt Syntax.w8)) (Syntax.tyRef (Syntax.named 3) Syntax.mut (Syntax.tyInt Syntax.w8)) 3) (List._∷_ (5, Mut.mslice (Referent.rtF (Referent.fInt Syntax.w8)) (Syntax.tyRef (Syntax.named 4) Syntax.mut (Syntax.tyInt Syntax.w8)) 4) (List._∷_ (6, Rows.sc-here Row.sBool) (List._∷_ (7, Rows.any-gone (Laws.mir)) (List._∷_ (8, Rows.any-gone (Syntax.tyStruct (List._∷_ 116 (List._∷_ 101 (List._∷_ 120 (List._∷_ 116 (List._∷_ 95 (List._∷_ 114 (List._∷_ 101 (List._∷_ 97 (List._∷_ 100 (List._∷_ 105 (List._∷_ 110 (List._∷_ 103 (List._∷_ 58 (List._∷_ 58 (List._∷_ 82 (List._∷_ 101 (List._∷_ 97 (List._∷_ 100 (List._∷_ 101 (List._∷_ 114 List.[])))))))))))))))))))) (Syntax.tcons Syntax.tyBool (Syntax.tcons (Syntax.tyInt Syntax.w64) (Syntax.tcons (Syntax.tyEnum (List._∷_ 116 (List._∷_ 101 (List._∷_ 120 (List._∷_ 116 (List._∷_ 95 (List._∷_ 114 (List._∷_ 101 (List._∷_ 97 (List._∷_ 100 (List._∷_ 105 (List._∷_ 110 (List._∷_ 103 (List._∷_ 58 (List._∷_ 58 (List._∷_ 72 (List._∷_ 101 (List._∷_ 108 (List._∷_ 100 List.[])))))))))))))))))) (Syntax.ttcons Syntax.tnil (Syntax.ttcons Syntax.tnil (Syntax.ttcons (Syntax.tcons (Syntax.tyStruct (List._∷_ 116 (List._∷_ 101 (List._∷_ 120 (List._∷_ 116 (List._∷_ 95 (List._∷_ 104 (List._∷_ 101 (List._∷_ 97 (List._∷_ 100 (List._∷_ 105 (List._∷_ 110 (List._∷_ 103 (List._∷_ 58 (List._∷_ 58 (List._∷_ 72 (List._∷_ 101 (List._∷_ 97 (List._∷_ 100 (List._∷_ 105 (List._∷_ 110 (List._∷_ 103 List.[]))))))))))))))))))))) (Syntax.tcons (IsParameters.mir) (Syntax.tcons (Syntax.tyStruct (List._∷_ 116 (List._∷_ 101 (List._∷_ 120 (List._∷_ 116 (List._∷_ 95 (List._∷_ 104 (List._∷_ 101 (List._∷_ 97 (List._∷_ 100 (List._∷_ 105 (List._∷_ 110 (List._∷_ 103 (List._∷_ 58 (List._∷_ 58 (List._∷_ 67 (List._∷_ 97 (List._∷_ 109 (List._∷_ 101 List.[])))))))))))))))))) (Syntax.tcons Syntax.tyBool (Syntax.tcons Syntax.tyBool (Syntax.tcons Syntax.tyBool Syntax.tnil)))) (Syntax.tcons (Syntax.tyEnum (List._∷_ 116 (List._∷_ 101 (List._∷_ 120 (List._∷_ 116 (List._∷_ 95 (List._∷_ 104 (List._∷_ 101 (List._∷_ 97 (List._∷_ 100 (List._∷_ 105 (List._∷_ 110 (List._∷_ 103 (List._∷_ 58 (List._∷_ 58 (List._∷_ 80 (List._∷_ 108 (List._∷_ 97 (List._∷_ 99 (List._∷_ 101 List.[]))))))))))))))))))) (Syntax.ttcons (Syntax.tcons (Syntax.tyEnum (List._∷_ 116 (List._∷_ 101 (List._∷_ 120 (List._∷_ 116 (List._∷_ 95 (List._∷_ 104 (List._∷_ 101 (List._∷_ 97 (List._∷_ 100 (List._∷_ 105 (List._∷_ 110 (List._∷_ 103 (List._∷_ 58 (List._∷_ 58 (List._∷_ 87 (List._∷_ 111 (List._∷_ 114 (List._∷_ 100 List.[])))))))))))))))))) (Syntax.ttcons Syntax.tnil (Syntax.ttcons Syntax.tnil (Syntax.ttcons Syntax.tnil (Syntax.ttcons Syntax.tnil Syntax.ttnil))))) (Syntax.tcons (Syntax.tyInt Syntax.w8) Syntax.tnil)) (Syntax.ttcons (Syntax.tcons (Syntax.tyEnum (List._∷_ 116 (List._∷_ 101 (List._∷_ 120 (List._∷_ 116 (List._∷_ 95 (List._∷_ 104 (List._∷_ 101 (List._∷_ 97 (List._∷_ 100 (List._∷_ 105 (List._∷_ 110 (List._∷_ 103 (List._∷_ 58 (List._∷_ 58 (List._∷_ 87 (List._∷_ 111 (List._∷_ 114 (List._∷_ 100 List.[])))))))))))))))))) (Syntax.ttcons Syntax.tnil (Syntax.ttcons Syntax.tnil (Syntax.ttcons Syntax.tnil (Syntax.ttcons Syntax.tnil Syntax.ttnil))))) Syntax.tnil) (Syntax.ttcons (Syntax.tcons (Syntax.tyEnum (List._∷_ 116 (List._∷_ 101 (List._∷_ 120 (List._∷_ 116 (List._∷_ 95 (List._∷_ 104 (List._∷_ 101 (List._∷_ 97 (List._∷_ 100 (List._∷_ 105 (List._∷_ 110 (List._∷_ 103 (List._∷_ 58 (List._∷_ 58 (List._∷_ 87 (List._∷_ 111 (List._∷_ 114 (List._∷_ 100 List.[])))))))))))))))))) (Syntax.ttcons Syntax.tnil (Syntax.ttcons Syntax.tnil (Syntax.ttcons Syntax.tnil (Syntax.ttcons Syntax.tnil Syntax.ttnil))))) Syntax.tnil) (Syntax.ttcons Syntax.tnil (Syntax.ttcons (Syntax.tcons (Syntax.tyEnum (List._∷_ 116 (List._∷_ 101 (List._∷_ 120 (List._∷_ 116 (List._∷_ 95 (List._∷_ 104 (List._∷_ 101 (List._∷_ 97 (List._∷_ 100 (List._∷_ 105 (List._∷_ 110 (List._∷_ 103 (List._∷_ 58 (List._∷_ 58 (List._∷_ 72 (List._∷_ 101 (List._∷_ 97 (List._∷_ 100 (List._∷_ 105 (List._∷_ 110 (List._∷_ 103 (List._∷_ 70 (List._∷_ 97 (List._∷_ 117 (List._∷_ 108 (List._∷_ 116 List.[])))))))))))))))))))))))))) (Syntax.ttcons Syntax.tnil (Syntax.ttcons Syntax.tnil (Syntax.ttcons Syntax.tnil (Syntax.ttcons (Syntax.tcons (Syntax.tyEnum (List._∷_ 116 (List._∷_ 101 (List._∷_ 120 (List._∷_ 116 (List._∷_ 95 (List._∷_ 104 (List._∷_ 101 (List._∷_ 97 (List._∷_ 100 (List._∷_ 105 (List._∷_ 110 (List._∷_ 103 (List._∷_ 58 (List._∷_ 58 (List._∷_ 87 (List._∷_ 111 (List._∷_ 114 (List._∷_ 100 List.[])))))))))))))))))) (Syntax.ttcons Syntax.tnil (Syntax.ttcons Syntax.tnil (Syntax.ttcons Syntax.tnil (Syntax.ttcons Syntax.tnil Syntax.ttnil))))) Syntax.tnil) Syntax.ttnil))))) Syntax.tnil) Syntax.ttnil)))))) Syntax.tnil)))) Syntax.tnil) (Syntax.ttcons Syntax.tnil (Syntax.ttcons (Syntax.tcons (Syntax.tyInt Syntax.w8) Syntax.tnil) (Syntax.ttcons Syntax.tnil (Syntax.ttcons (Syntax.tcons (Syntax.tyEnum (List._∷_ 116 (List._∷_ 101 (List._∷_ 120 (List._∷_ 116 (List._∷_ 95 (List._∷_ 114 (List._∷_ 101 (List._∷_ 97 (List._∷_ 100 (List._∷_ 105 (List._∷_ 110 (List._∷_ 103 (List._∷_ 58 (List._∷_ 58 (List._∷_ 70 (List._∷_ 97 (List._∷_ 117 (List._∷_ 108 (List._∷_ 116 List.[]))))))))))))))))))) (Syntax.ttcons (Syntax.tcons (Syntax.tyEnum (List._∷_ 116 (List._∷_ 101 (List._∷_ 120 (List._∷_ 116 (List._∷_ 95 (List._∷_ 104 (List._∷_ 101 (List._∷_ 97 (List._∷_ 100 (List._∷_ 105 (List._∷_ 110 (List._∷_ 103 (List._∷_ 58 (List._∷_ 58 (List._∷_ 72 (List._∷_ 101 (List._∷_ 97 (List._∷_ 100 (List._∷_ 105 (List._∷_ 110 (List._∷_ 103 (List._∷_ 70 (List._∷_ 97 (List._∷_ 117 (List._∷_ 108 (List._∷_ 116 List.[])))))))))))))))))))))))))) (Syntax.ttcons Syntax.tnil (Syntax.ttcons Syntax.tnil (Syntax.ttcons Syntax.tnil (Syntax.ttcons (Syntax.tcons (Syntax.tyEnum (List._∷_ 116 (List._∷_ 101 (List._∷_ 120 (List._∷_ 116 (List._∷_ 95 (List._∷_ 104 (List._∷_ 101 (List._∷_ 97 (List._∷_ 100 (List._∷_ 105 (List._∷_ 110 (List._∷_ 103 (List._∷_ 58 (List._∷_ 58 (List._∷_ 87 (List._∷_ 111 (List._∷_ 114 (List._∷_ 100 List.[])))))))))))))))))) (Syntax.ttcons Syntax.tnil (Syntax.ttcons Syntax.tnil (Syntax.ttcons Syntax.tnil (Syntax.ttcons Syntax.tnil Syntax.ttnil))))) Syntax.tnil) Syntax.ttnil))))) Syntax.tnil) (Syntax.ttcons Syntax.tnil (Syntax.ttcons Syntax.tnil Syntax.ttnil)))) Syntax.tnil) Syntax.ttnil)))))))) (Syntax.tcons (Syntax.tyArray (Syntax.tyInt Syntax.w8) 32) (Syntax.tcons (Syntax.tyInt Syntax.w64) Syntax.tnil))))))) (List._∷_ (9, Rows.any-gone (Syntax.tyInt Syntax.w64)) (List._∷_ (10, Rows.any-gone (Syntax.tyRef Syntax.erased Syntax.mut OfOutput.named)) (List._∷_ (11, Mut.mslice (OfOutput.row) (Syntax.tyRef Syntax.erased Syntax.mut OfOutput.named) 5) (List._∷_ (12, Relend.msptr (OfStation.row) (Syntax.tyRef Syntax.erased Syntax.mut OfStation.named) 6) (List._∷_ (13, Rows.any-gone (Syntax.tyStruct (List._∷_ 38 (List._∷_ 91 (List._∷_ 93 List.[]))) (Syntax.tcons (Syntax.tyRef Syntax.erased Syntax.mut OfStation.named) (Syntax.tcons (Syntax.tyInt Syntax.w64) Syntax.tnil)))) (List._∷_ (14, Rows.any-gone (Syntax.tyRef Syntax.erased Syntax.mut OfPanelRecord.named)) (List._∷_ (15, Rows.any-gone (Syntax.tyRef Syntax.erased Syntax.mut (Syntax.tyInt Syntax.w8))) List.[])))))))))))))))
+        g6 = List._∷_ (0, Rows.any-gone Syntax.tyUnit) (List._∷_ (1, Relend.mslice-owed (OfOutput.row) (Syntax.tyRef (Syntax.named 0) Syntax.mut OfOutput.named) 0 5 (Row.lease (κs .0) (qs .0))) (List._∷_ (2, Relend.mslice-owed (OfStation.row) (Syntax.tyRef (Syntax.named 1) Syntax.mut OfStation.named) 1 6 (Row.lease (κs .1 .0) (qs .1 .0))) (List._∷_ (3, Rows.mref (OfPanelRecord.row) (Syntax.tyRef (Syntax.named 2) Syntax.mut OfPanelRecord.named) 2) (List._∷_ (4, Mut.mslice (Referent.rtF (Referent.fInt Syntax.w8)) (Syntax.tyRef (Syntax.named 3) Syntax.mut (Syntax.tyInt Syntax.w8)) 3) (List._∷_ (5, Mut.mslice (Referent.rtF (Referent.fInt Syntax.w8)) (Syntax.tyRef (Syntax.named 4) Syntax.mut (Syntax.tyInt Syntax.w8)) 4) (List._∷_ (6, Rows.sc-here Row.sBool) (List._∷_ (7, Rows.any-gone (Laws.mir)) (List._∷_ (8, Rows.any-gone (Syntax.tyStruct (List._∷_ 116 (List._∷_ 101 (List._∷_ 120 (List._∷_ 116 (List._∷_ 95 (List._∷_ 114 (List._∷_ 101 (List._∷_ 97 (List._∷_ 100 (List._∷_ 105 (List._∷_ 110 (List._∷_ 103 (List._∷_ 58 (List._∷_ 58 (List._∷_ 82 (List._∷_ 101 (List._∷_ 97 (List._∷_ 100 (List._∷_ 101 (List._∷_ 114 List.[])))))))))))))))))))) (Syntax.tcons Syntax.tyBool (Syntax.tcons (Syntax.tyInt Syntax.w64) (Syntax.tcons (Syntax.tyEnum (List._∷_ 116 (List._∷_ 101 (List._∷_ 120 (List._∷_ 116 (List._∷_ 95 (List._∷_ 114 (List._∷_ 101 (List._∷_ 97 (List._∷_ 100 (List._∷_ 105 (List._∷_ 110 (List._∷_ 103 (List._∷_ 58 (List._∷_ 58 (List._∷_ 72 (List._∷_ 101 (List._∷_ 108 (List._∷_ 100 List.[])))))))))))))))))) (Syntax.ttcons Syntax.tnil (Syntax.ttcons Syntax.tnil (Syntax.ttcons (Syntax.tcons (Syntax.tyStruct (List._∷_ 116 (List._∷_ 101 (List._∷_ 120 (List._∷_ 116 (List._∷_ 95 (List._∷_ 104 (List._∷_ 101 (List._∷_ 97 (List._∷_ 100 (List._∷_ 105 (List._∷_ 110 (List._∷_ 103 (List._∷_ 58 (List._∷_ 58 (List._∷_ 72 (List._∷_ 101 (List._∷_ 97 (List._∷_ 100 (List._∷_ 105 (List._∷_ 110 (List._∷_ 103 List.[]))))))))))))))))))))) (Syntax.tcons (Syntax.tyStruct (List._∷_ 116 (List._∷_ 101 (List._∷_ 120 (List._∷_ 116 (List._∷_ 95 (List._∷_ 104 (List._∷_ 101 (List._∷_ 97 (List._∷_ 100 (List._∷_ 105 (List._∷_ 110 (List._∷_ 103 (List._∷_ 58 (List._∷_ 58 (List._∷_ 78 (List._∷_ 97 (List._∷_ 109 (List._∷_ 101 (List._∷_ 100 List.[]))))))))))))))))))) (Syntax.tcons (IsParameters.mir) (Syntax.tcons (Syntax.tyInt Syntax.w32) Syntax.tnil))) (Syntax.tcons (Syntax.tyStruct (List._∷_ 116 (List._∷_ 101 (List._∷_ 120 (List._∷_ 116 (List._∷_ 95 (List._∷_ 104 (List._∷_ 101 (List._∷_ 97 (List._∷_ 100 (List._∷_ 105 (List._∷_ 110 (List._∷_ 103 (List._∷_ 58 (List._∷_ 58 (List._∷_ 67 (List._∷_ 97 (List._∷_ 109 (List._∷_ 101 List.[])))))))))))))))))) (Syntax.tcons Syntax.tyBool (Syntax.tcons Syntax.tyBool (Syntax.tcons Syntax.tyBool (Syntax.tcons Syntax.tyBool Syntax.tnil))))) (Syntax.tcons (Syntax.tyEnum (List._∷_ 116 (List._∷_ 101 (List._∷_ 120 (List._∷_ 116 (List._∷_ 95 (List._∷_ 104 (List._∷_ 101 (List._∷_ 97 (List._∷_ 100 (List._∷_ 105 (List._∷_ 110 (List._∷_ 103 (List._∷_ 58 (List._∷_ 58 (List._∷_ 80 (List._∷_ 108 (List._∷_ 97 (List._∷_ 99 (List._∷_ 101 List.[]))))))))))))))))))) (Syntax.ttcons (Syntax.tcons (Syntax.tyEnum (List._∷_ 116 (List._∷_ 101 (List._∷_ 120 (List._∷_ 116 (List._∷_ 95 (List._∷_ 104 (List._∷_ 101 (List._∷_ 97 (List._∷_ 100 (List._∷_ 105 (List._∷_ 110 (List._∷_ 103 (List._∷_ 58 (List._∷_ 58 (List._∷_ 87 (List._∷_ 111 (List._∷_ 114 (List._∷_ 100 List.[])))))))))))))))))) (Syntax.ttcons Syntax.tnil (Syntax.ttcons Syntax.tnil (Syntax.ttcons Syntax.tnil (Syntax.ttcons Syntax.tnil (Syntax.ttcons Syntax.tnil Syntax.ttnil)))))) (Syntax.tcons (Syntax.tyInt Syntax.w8) Syntax.tnil)) (Syntax.ttcons (Syntax.tcons (Syntax.tyEnum (List._∷_ 116 (List._∷_ 101 (List._∷_ 120 (List._∷_ 116 (List._∷_ 95 (List._∷_ 104 (List._∷_ 101 (List._∷_ 97 (List._∷_ 100 (List._∷_ 105 (List._∷_ 110 (List._∷_ 103 (List._∷_ 58 (List._∷_ 58 (List._∷_ 87 (List._∷_ 111 (List._∷_ 114 (List._∷_ 100 List.[])))))))))))))))))) (Syntax.ttcons Syntax.tnil (Syntax.ttcons Syntax.tnil (Syntax.ttcons Syntax.tnil (Syntax.ttcons Syntax.tnil (Syntax.ttcons Syntax.tnil Syntax.ttnil)))))) Syntax.tnil) (Syntax.ttcons (Syntax.tcons (Syntax.tyEnum (List._∷_ 116 (List._∷_ 101 (List._∷_ 120 (List._∷_ 116 (List._∷_ 95 (List._∷_ 104 (List._∷_ 101 (List._∷_ 97 (List._∷_ 100 (List._∷_ 105 (List._∷_ 110 (List._∷_ 103 (List._∷_ 58 (List._∷_ 58 (List._∷_ 87 (List._∷_ 111 (List._∷_ 114 (List._∷_ 100 List.[])))))))))))))))))) (Syntax.ttcons Syntax.tnil (Syntax.ttcons Syntax.tnil (Syntax.ttcons Syntax.tnil (Syntax.ttcons Syntax.tnil (Syntax.ttcons Syntax.tnil Syntax.ttnil)))))) (Syntax.tcons (Syntax.tyInt Syntax.w8) Syntax.tnil)) (Syntax.ttcons Syntax.tnil (Syntax.ttcons (Syntax.tcons (Syntax.tyEnum (List._∷_ 116 (List._∷_ 101 (List._∷_ 120 (List._∷_ 116 (List._∷_ 95 (List._∷_ 104 (List._∷_ 101 (List._∷_ 97 (List._∷_ 100 (List._∷_ 105 (List._∷_ 110 (List._∷_ 103 (List._∷_ 58 (List._∷_ 58 (List._∷_ 72 (List._∷_ 101 (List._∷_ 97 (List._∷_ 100 (List._∷_ 105 (List._∷_ 110 (List._∷_ 103 (List._∷_ 70 (List._∷_ 97 (List._∷_ 117 (List._∷_ 108 (List._∷_ 116 List.[])))))))))))))))))))))))))) (Syntax.ttcons Syntax.tnil (Syntax.ttcons Syntax.tnil (Syntax.ttcons Syntax.tnil (Syntax.ttcons Syntax.tnil (Syntax.ttcons (Syntax.tcons (Syntax.tyEnum (List._∷_ 116 (List._∷_ 101 (List._∷_ 120 (List._∷_ 116 (List._∷_ 95 (List._∷_ 104 (List._∷_ 101 (List._∷_ 97 (List._∷_ 100 (List._∷_ 105 (List._∷_ 110 (List._∷_ 103 (List._∷_ 58 (List._∷_ 58 (List._∷_ 87 (List._∷_ 111 (List._∷_ 114 (List._∷_ 100 List.[])))))))))))))))))) (Syntax.ttcons Syntax.tnil (Syntax.ttcons Syntax.tnil (Syntax.ttcons Syntax.tnil (Syntax.ttcons Syntax.tnil (Syntax.ttcons Syntax.tnil Syntax.ttnil)))))) Syntax.tnil) Syntax.ttnil)))))) Syntax.tnil) Syntax.ttnil)))))) Syntax.tnil)))) Syntax.tnil) (Syntax.ttcons Syntax.tnil (Syntax.ttcons (Syntax.tcons (Syntax.tyInt Syntax.w8) Syntax.tnil) (Syntax.ttcons Syntax.tnil (Syntax.ttcons (Syntax.tcons (Syntax.tyEnum (List._∷_ 116 (List._∷_ 101 (List._∷_ 120 (List._∷_ 116 (List._∷_ 95 (List._∷_ 114 (List._∷_ 101 (List._∷_ 97 (List._∷_ 100 (List._∷_ 105 (List._∷_ 110 (List._∷_ 103 (List._∷_ 58 (List._∷_ 58 (List._∷_ 70 (List._∷_ 97 (List._∷_ 117 (List._∷_ 108 (List._∷_ 116 List.[]))))))))))))))))))) (Syntax.ttcons (Syntax.tcons (Syntax.tyEnum (List._∷_ 116 (List._∷_ 101 (List._∷_ 120 (List._∷_ 116 (List._∷_ 95 (List._∷_ 104 (List._∷_ 101 (List._∷_ 97 (List._∷_ 100 (List._∷_ 105 (List._∷_ 110 (List._∷_ 103 (List._∷_ 58 (List._∷_ 58 (List._∷_ 72 (List._∷_ 101 (List._∷_ 97 (List._∷_ 100 (List._∷_ 105 (List._∷_ 110 (List._∷_ 103 (List._∷_ 70 (List._∷_ 97 (List._∷_ 117 (List._∷_ 108 (List._∷_ 116 List.[])))))))))))))))))))))))))) (Syntax.ttcons Syntax.tnil (Syntax.ttcons Syntax.tnil (Syntax.ttcons Syntax.tnil (Syntax.ttcons Syntax.tnil (Syntax.ttcons (Syntax.tcons (Syntax.tyEnum (List._∷_ 116 (List._∷_ 101 (List._∷_ 120 (List._∷_ 116 (List._∷_ 95 (List._∷_ 104 (List._∷_ 101 (List._∷_ 97 (List._∷_ 100 (List._∷_ 105 (List._∷_ 110 (List._∷_ 103 (List._∷_ 58 (List._∷_ 58 (List._∷_ 87 (List._∷_ 111 (List._∷_ 114 (List._∷_ 100 List.[])))))))))))))))))) (Syntax.ttcons Syntax.tnil (Syntax.ttcons Syntax.tnil (Syntax.ttcons Syntax.tnil (Syntax.ttcons Syntax.tnil (Syntax.ttcons Syntax.tnil Syntax.ttnil)))))) Syntax.tnil) Syntax.ttnil)))))) Syntax.tnil) (Syntax.ttcons Syntax.tnil (Syntax.ttcons Syntax.tnil Syntax.ttnil)))) Syntax.tnil) Syntax.ttnil)))))))) (Syntax.tcons (Syntax.tyArray (Syntax.tyInt Syntax.w8) 32) (Syntax.tcons (Syntax.tyInt Syntax.w64) Syntax.tnil))))))) (List._∷_ (9, Rows.any-gone (Syntax.tyInt Syntax.w64)) (List._∷_ (10, Rows.any-gone (Syntax.tyRef Syntax.erased Syntax.mut OfOutput.named)) (List._∷_ (11, Mut.mslice (OfOutput.row) (Syntax.tyRef Syntax.erased Syntax.mut OfOutput.named) 5) (List._∷_ (12, Relend.msptr (OfStation.row) (Syntax.tyRef Syntax.erased Syntax.mut OfStation.named) 6) (List._∷_ (13, Rows.any-gone (Syntax.tyStruct (List._∷_ 38 (List._∷_ 91 (List._∷_ 93 List.[]))) (Syntax.tcons (Syntax.tyRef Syntax.erased Syntax.mut OfStation.named) (Syntax.tcons (Syntax.tyInt Syntax.w64) Syntax.tnil)))) (List._∷_ (14, Rows.any-gone (Syntax.tyRef Syntax.erased Syntax.mut OfPanelRecord.named)) (List._∷_ (15, Rows.any-gone (Syntax.tyRef Syntax.erased Syntax.mut (Syntax.tyInt Syntax.w8))) List.[])))))))))))))))
 
         abbrev g7 : List.List Row.Entry
-        g7 = List._∷_ (0, Rows.any-gone Syntax.tyUnit) (List._∷_ (1, Relend.mslice-owed (OfOutput.row) (Syntax.tyRef (Syntax.named 0) Syntax.mut OfOutput.named) 0 5 (Row.lease (κs .0) (qs .0))) (List._∷_ (2, Relend.mslice-owed (OfStation.row) (Syntax.tyRef (Syntax.named 1) Syntax.mut OfStation.named) 1 6 (Row.lease (κs .1 .0) (qs .1 .0))) (List._∷_ (3, Rows.mref (OfPanelRecord.row) (Syntax.tyRef (Syntax.named 2) Syntax.mut OfPanelRecord.named) 2) (List._∷_ (4, Mut.mslice (Referent.rtF (Referent.fInt Syntax.w8)) (Syntax.tyRef (Syntax.named 3) Syntax.mut (Syntax.tyInt Syntax.w8)) 3) (List._∷_ (5, Mut.mslice (Referent.rtF (Referent.fInt Syntax.w8)) (Syntax.tyRef (Syntax.named 4) Syntax.mut (Syntax.tyInt Syntax.w8)) 4) (List._∷_ (6, Rows.sc-here Row.sBool) (List._∷_ (7, Rows.any-gone (Laws.mir)) (List._∷_ (8, Rows.any-gone (Syntax.tyStruct (List._∷_ 116 (List._∷_ 101 (List._∷_ 120 (List._∷_ 116 (List._∷_ 95 (List._∷_ 114 (List._∷_ 101 (List._∷_ 97 (List._∷_ 100 (List._∷_ 105 (List._∷_ 110 (List._∷_ 103 (List._∷_ 58 (List._∷_ 58 (List._∷_ 82 (List._∷_ 101 (List._∷_ 97 (List._∷_ 100 (List._∷_ 101 (List._∷_ 114 List.[])))))))))))))))))))) (Syntax.tcons Syntax.tyBool (Syntax.tcons (Syntax.tyInt Syntax.w64) (Syntax.tcons (Syntax.tyEnum (List._∷_ 116 (List._∷_ 101 (List._∷_ 120 (List._∷_ 116 (List._∷_ 95 (List._∷_ 114 (List._∷_ 101 (List._∷_ 97 (List._∷_ 100 (List._∷_ 105 (List._∷_ 110 (List._∷_ 103 (List._∷_ 58 (List._∷_ 58 (List._∷_ 72 (List._∷_ 101 (List._∷_ 108 (List._∷_ 100 List.[])))))))))))))))))) (Syntax.ttcons Syntax.tnil (Syntax.ttcons Syntax.tnil (Syntax.ttcons (Syntax.tcons (Syntax.tyStruct (List._∷_ 116 (List._∷_ 101 (List._∷_ 120 (List._∷_ 116 (List._∷_ 95 (List._∷_ 104 (List._∷_ 101 (List._∷_ 97 (List._∷_ 100 (List._∷_ 105 (List._∷_ 110 (List._∷_ 103 (List._∷_ 58 (List._∷_ 58 (List._∷_ 72 (List._∷_ 101 (List._∷_ 97 (List._∷_ 100 (List._∷_ 105 (List._∷_ 110 (List._∷_ 103 List.[]))))))))))))))))))))) (Syntax.tcons (IsParameters.mir) (Syntax.tcons (Syntax.tyStruct (List._∷_ 116 (List._∷_ 101 (List._∷_ 120 (List._∷_ 116 (List._∷_ 95 (List._∷_ 104 (List._∷_ 101 (List._∷_ 97 (List._∷_ 100 (List._∷_ 105 (List._∷_ 110 (List._∷_ 103 (List._∷_ 58 (List._∷_ 58 (List._∷_ 67 (List._∷_ 97 (List._∷_ 109 (List._∷_ 101 List.[])))))))))))))))))) (Syntax.tcons Syntax.tyBool (Syntax.tcons Syntax.tyBool (Syntax.tcons Syntax.tyBool Syntax.tnil)))) (Syntax.tcons (Syntax.tyEnum (List._∷_ 116 (List._∷_ 101 (List._∷_ 120 (List._∷_ 116 (List._∷_ 95 (List._∷_ 104 (List._∷_ 101 (List._∷_ 97 (List._∷_ 100 (List._∷_ 105 (List._∷_ 110 (List._∷_ 103 (List._∷_ 58 (List._∷_ 58 (List._∷_ 80 (List._∷_ 108 (List._∷_ 97 (List._∷_ 99 (List._∷_ 101 List.[]))))))))))))))))))) (Syntax.ttcons (Syntax.tcons (Syntax.tyEnum (List._∷_ 116 (List._∷_ 101 (List._∷_ 120 (List._∷_ 116 (List._∷_ 95 (List._∷_ 104 (List._∷_ 101 (List._∷_ 97 (List._∷_ 100 (List._∷_ 105 (List._∷_ 110 (List._∷_ 103 (List._∷_ 58 (List._∷_ 58 (List._∷_ 87 (List._∷_ 111 (List._∷_ 114 (List._∷_ 100 List.[])))))))))))))))))) (Syntax.ttcons Syntax.tnil (Syntax.ttcons Syntax.tnil (Syntax.ttcons Syntax.tnil (Syntax.ttcons Syntax.tnil Syntax.ttnil))))) (Syntax.tcons (Syntax.tyInt Syntax.w8) Syntax.tnil)) (Syntax.ttcons (Syntax.tcons (Syntax.tyEnum (List._∷_ 116 (List._∷_ 101 (List._∷_ 120 (List._∷_ 116 (List._∷_ 95 (List._∷_ 104 (List._∷_ 101 (List._∷_ 97 (List._∷_ 100 (List._∷_ 105 (List._∷_ 110 (List._∷_ 103 (List._∷_ 58 (List._∷_ 58 (List._∷_ 87 (List._∷_ 111 (List._∷_ 114 (List._∷_ 100 List.[])))))))))))))))))) (Syntax.ttcons Syntax.tnil (Syntax.ttcons Syntax.tnil (Syntax.ttcons Syntax.tnil (Syntax.ttcons Syntax.tnil Syntax.ttnil))))) Syntax.tnil) (Syntax.ttcons (Syntax.tcons (Syntax.tyEnum (List._∷_ 116 (List._∷_ 101 (List._∷_ 120 (List._∷_ 116 (List._∷_ 95 (List._∷_ 104 (List._∷_ 101 (List._∷_ 97 (List._∷_ 100 (List._∷_ 105 (List._∷_ 110 (List._∷_ 103 (List._∷_ 58 (List._∷_ 58 (List._∷_ 87 (List._∷_ 111 (List._∷_ 114 (List._∷_ 100 List.[])))))))))))))))))) (Syntax.ttcons Syntax.tnil (Syntax.ttcons Syntax.tnil (Syntax.ttcons Syntax.tnil (Syntax.ttcons Syntax.tnil Syntax.ttnil))))) Syntax.tnil) (Syntax.ttcons Syntax.tnil (Syntax.ttcons (Syntax.tcons (Syntax.tyEnum (List._∷_ 116 (List._∷_ 101 (List._∷_ 120 (List._∷_ 116 (List._∷_ 95 (List._∷_ 104 (List._∷_ 101 (List._∷_ 97 (List._∷_ 100 (List._∷_ 105 (List._∷_ 110 (List._∷_ 103 (List._∷_ 58 (List._∷_ 58 (List._∷_ 72 (List._∷_ 101 (List._∷_ 97 (List._∷_ 100 (List._∷_ 105 (List._∷_ 110 (List._∷_ 103 (List._∷_ 70 (List._∷_ 97 (List._∷_ 117 (List._∷_ 108 (List._∷_ 116 List.[])))))))))))))))))))))))))) (Syntax.ttcons Syntax.tnil (Syntax.ttcons Syntax.tnil (Syntax.ttcons Syntax.tnil (Syntax.ttcons (Syntax.tcons (Syntax.tyEnum (List._∷_ 116 (List._∷_ 101 (List._∷_ 120 (List._∷_ 116 (List._∷_ 95 (List._∷_ 104 (List._∷_ 101 (List._∷_ 97 (List._∷_ 100 (List._∷_ 105 (List._∷_ 110 (List._∷_ 103 (List._∷_ 58 (List._∷_ 58 (List._∷_ 87 (List._∷_ 111 (List._∷_ 114 (List._∷_ 100 List.[])))))))))))))))))) (Syntax.ttcons Syntax.tnil (Syntax.ttcons Syntax.tnil (Syntax.ttcons Syntax.tnil (Syntax.ttcons Syntax.tnil Syntax.ttnil))))) Syntax.tnil) Syntax.ttnil))))) Syntax.tnil) Syntax.ttnil)))))) Syntax.tnil)))) Syntax.tnil) (Syntax.ttcons Syntax.tnil (Syntax.ttcons (Syntax.tcons (Syntax.tyInt Syntax.w8) Syntax.tnil) (Syntax.ttcons Syntax.tnil (Syntax.ttcons (Syntax.tcons (Syntax.tyEnum (List._∷_ 116 (List._∷_ 101 (List._∷_ 120 (List._∷_ 116 (List._∷_ 95 (List._∷_ 114 (List._∷_ 101 (List._∷_ 97 (List._∷_ 100 (List._∷_ 105 (List._∷_ 110 (List._∷_ 103 (List._∷_ 58 (List._∷_ 58 (List._∷_ 70 (List._∷_ 97 (List._∷_ 117 (List._∷_ 108 (List._∷_ 116 List.[]))))))))))))))))))) (Syntax.ttcons (Syntax.tcons (Syntax.tyEnum (List._∷_ 116 (List._∷_ 101 (List._∷_ 120 (List._∷_ 116 (List._∷_ 95 (List._∷_ 104 (List._∷_ 101 (List._∷_ 97 (List._∷_ 100 (List._∷_ 105 (List._∷_ 110 (List._∷_ 103 (List._∷_ 58 (List._∷_ 58 (List._∷_ 72 (List._∷_ 101 (List._∷_ 97 (List._∷_ 100 (List._∷_ 105 (List._∷_ 110 (List._∷_ 103 (List._∷_ 70 (List._∷_ 97 (List._∷_ 117 (List._∷_ 108 (List._∷_ 116 List.[])))))))))))))))))))))))))) (Syntax.ttcons Syntax.tnil (Syntax.ttcons Syntax.tnil (Syntax.ttcons Syntax.tnil (Syntax.ttcons (Syntax.tcons (Syntax.tyEnum (List._∷_ 116 (List._∷_ 101 (List._∷_ 120 (List._∷_ 116 (List._∷_ 95 (List._∷_ 104 (List._∷_ 101 (List._∷_ 97 (List._∷_ 100 (List._∷_ 105 (List._∷_ 110 (List._∷_ 103 (List._∷_ 58 (List._∷_ 58 (List._∷_ 87 (List._∷_ 111 (List._∷_ 114 (List._∷_ 100 List.[])))))))))))))))))) (Syntax.ttcons Syntax.tnil (Syntax.ttcons Syntax.tnil (Syntax.ttcons Syntax.tnil (Syntax.ttcons Syntax.tnil Syntax.ttnil))))) Syntax.tnil) Syntax.ttnil))))) Syntax.tnil) (Syntax.ttcons Syntax.tnil (Syntax.ttcons Syntax.tnil Syntax.ttnil)))) Syntax.tnil) Syntax.ttnil)))))))) (Syntax.tcons (Syntax.tyArray (Syntax.tyInt Syntax.w8) 32) (Syntax.tcons (Syntax.tyInt Syntax.w64) Syntax.tnil))))))) (List._∷_ (9, Rows.any-gone (Syntax.tyInt Syntax.w64)) (List._∷_ (10, Rows.any-gone (Syntax.tyRef Syntax.erased Syntax.mut OfOutput.named)) (List._∷_ (11, Mut.mslice (OfOutput.row) (Syntax.tyRef Syntax.erased Syntax.mut OfOutput.named) 5) (List._∷_ (12, Rows.any-gone (Syntax.tyRef Syntax.erased Syntax.mut OfStation.named)) (List._∷_ (13, Mut.mslice (OfStation.row) (Syntax.tyRef Syntax.erased Syntax.mut OfStation.named) 6) (List._∷_ (14, Rows.any-gone (Syntax.tyRef Syntax.erased Syntax.mut OfPanelRecord.named)) (List._∷_ (15, Rows.any-gone (Syntax.tyRef Syntax.erased Syntax.mut (Syntax.tyInt Syntax.w8))) List.[])))))))))))))))
+        g7 = List._∷_ (0, Rows.any-gone Syntax.tyUnit) (List._∷_ (1, Relend.mslice-owed (OfOutput.row) (Syntax.tyRef (Syntax.named 0) Syntax.mut OfOutput.named) 0 5 (Row.lease (κs .0) (qs .0))) (List._∷_ (2, Relend.mslice-owed (OfStation.row) (Syntax.tyRef (Syntax.named 1) Syntax.mut OfStation.named) 1 6 (Row.lease (κs .1 .0) (qs .1 .0))) (List._∷_ (3, Rows.mref (OfPanelRecord.row) (Syntax.tyRef (Syntax.named 2) Syntax.mut OfPanelRecord.named) 2) (List._∷_ (4, Mut.mslice (Referent.rtF (Referent.fInt Syntax.w8)) (Syntax.tyRef (Syntax.named 3) Syntax.mut (Syntax.tyInt Syntax.w8)) 3) (List._∷_ (5, Mut.mslice (Referent.rtF (Referent.fInt Syntax.w8)) (Syntax.tyRef (Syntax.named 4) Syntax.mut (Syntax.tyInt Syntax.w8)) 4) (List._∷_ (6, Rows.sc-here Row.sBool) (List._∷_ (7, Rows.any-gone (Laws.mir)) (List._∷_ (8, Rows.any-gone (Syntax.tyStruct (List._∷_ 116 (List._∷_ 101 (List._∷_ 120 (List._∷_ 116 (List._∷_ 95 (List._∷_ 114 (List._∷_ 101 (List._∷_ 97 (List._∷_ 100 (List._∷_ 105 (List._∷_ 110 (List._∷_ 103 (List._∷_ 58 (List._∷_ 58 (List._∷_ 82 (List._∷_ 101 (List._∷_ 97 (List._∷_ 100 (List._∷_ 101 (List._∷_ 114 List.[])))))))))))))))))))) (Syntax.tcons Syntax.tyBool (Syntax.tcons (Syntax.tyInt Syntax.w64) (Syntax.tcons (Syntax.tyEnum (List._∷_ 116 (List._∷_ 101 (List._∷_ 120 (List._∷_ 116 (List._∷_ 95 (List._∷_ 114 (List._∷_ 101 (List._∷_ 97 (List._∷_ 100 (List._∷_ 105 (List._∷_ 110 (List._∷_ 103 (List._∷_ 58 (List._∷_ 58 (List._∷_ 72 (List._∷_ 101 (List._∷_ 108 (List._∷_ 100 List.[])))))))))))))))))) (Syntax.ttcons Syntax.tnil (Syntax.ttcons Syntax.tnil (Syntax.ttcons (Syntax.tcons (Syntax.tyStruct (List._∷_ 116 (List._∷_ 101 (List._∷_ 120 (List._∷_ 116 (List._∷_ 95 (List._∷_ 104 (List._∷_ 101 (List._∷_ 97 (List._∷_ 100 (List._∷_ 105 (List._∷_ 110 (List._∷_ 103 (List._∷_ 58 (List._∷_ 58 (List._∷_ 72 (List._∷_ 101 (List._∷_ 97 (List._∷_ 100 (List._∷_ 105 (List._∷_ 110 (List._∷_ 103 List.[]))))))))))))))))))))) (Syntax.tcons (Syntax.tyStruct (List._∷_ 116 (List._∷_ 101 (List._∷_ 120 (List._∷_ 116 (List._∷_ 95 (List._∷_ 104 (List._∷_ 101 (List._∷_ 97 (List._∷_ 100 (List._∷_ 105 (List._∷_ 110 (List._∷_ 103 (List._∷_ 58 (List._∷_ 58 (List._∷_ 78 (List._∷_ 97 (List._∷_ 109 (List._∷_ 101 (List._∷_ 100 List.[]))))))))))))))))))) (Syntax.tcons (IsParameters.mir) (Syntax.tcons (Syntax.tyInt Syntax.w32) Syntax.tnil))) (Syntax.tcons (Syntax.tyStruct (List._∷_ 116 (List._∷_ 101 (List._∷_ 120 (List._∷_ 116 (List._∷_ 95 (List._∷_ 104 (List._∷_ 101 (List._∷_ 97 (List._∷_ 100 (List._∷_ 105 (List._∷_ 110 (List._∷_ 103 (List._∷_ 58 (List._∷_ 58 (List._∷_ 67 (List._∷_ 97 (List._∷_ 109 (List._∷_ 101 List.[])))))))))))))))))) (Syntax.tcons Syntax.tyBool (Syntax.tcons Syntax.tyBool (Syntax.tcons Syntax.tyBool (Syntax.tcons Syntax.tyBool Syntax.tnil))))) (Syntax.tcons (Syntax.tyEnum (List._∷_ 116 (List._∷_ 101 (List._∷_ 120 (List._∷_ 116 (List._∷_ 95 (List._∷_ 104 (List._∷_ 101 (List._∷_ 97 (List._∷_ 100 (List._∷_ 105 (List._∷_ 110 (List._∷_ 103 (List._∷_ 58 (List._∷_ 58 (List._∷_ 80 (List._∷_ 108 (List._∷_ 97 (List._∷_ 99 (List._∷_ 101 List.[]))))))))))))))))))) (Syntax.ttcons (Syntax.tcons (Syntax.tyEnum (List._∷_ 116 (List._∷_ 101 (List._∷_ 120 (List._∷_ 116 (List._∷_ 95 (List._∷_ 104 (List._∷_ 101 (List._∷_ 97 (List._∷_ 100 (List._∷_ 105 (List._∷_ 110 (List._∷_ 103 (List._∷_ 58 (List._∷_ 58 (List._∷_ 87 (List._∷_ 111 (List._∷_ 114 (List._∷_ 100 List.[])))))))))))))))))) (Syntax.ttcons Syntax.tnil (Syntax.ttcons Syntax.tnil (Syntax.ttcons Syntax.tnil (Syntax.ttcons Syntax.tnil (Syntax.ttcons Syntax.tnil Syntax.ttnil)))))) (Syntax.tcons (Syntax.tyInt Syntax.w8) Syntax.tnil)) (Syntax.ttcons (Syntax.tcons (Syntax.tyEnum (List._∷_ 116 (List._∷_ 101 (List._∷_ 120 (List._∷_ 116 (List._∷_ 95 (List._∷_ 104 (List._∷_ 101 (List._∷_ 97 (List._∷_ 100 (List._∷_ 105 (List._∷_ 110 (List._∷_ 103 (List._∷_ 58 (List._∷_ 58 (List._∷_ 87 (List._∷_ 111 (List._∷_ 114 (List._∷_ 100 List.[])))))))))))))))))) (Syntax.ttcons Syntax.tnil (Syntax.ttcons Syntax.tnil (Syntax.ttcons Syntax.tnil (Syntax.ttcons Syntax.tnil (Syntax.ttcons Syntax.tnil Syntax.ttnil)))))) Syntax.tnil) (Syntax.ttcons (Syntax.tcons (Syntax.tyEnum (List._∷_ 116 (List._∷_ 101 (List._∷_ 120 (List._∷_ 116 (List._∷_ 95 (List._∷_ 104 (List._∷_ 101 (List._∷_ 97 (List._∷_ 100 (List._∷_ 105 (List._∷_ 110 (List._∷_ 103 (List._∷_ 58 (List._∷_ 58 (List._∷_ 87 (List._∷_ 111 (List._∷_ 114 (List._∷_ 100 List.[])))))))))))))))))) (Syntax.ttcons Syntax.tnil (Syntax.ttcons Syntax.tnil (Syntax.ttcons Syntax.tnil (Syntax.ttcons Syntax.tnil (Syntax.ttcons Syntax.tnil Syntax.ttnil)))))) (Syntax.tcons (Syntax.tyInt Syntax.w8) Syntax.tnil)) (Syntax.ttcons Syntax.tnil (Syntax.ttcons (Syntax.tcons (Syntax.tyEnum (List._∷_ 116 (List._∷_ 101 (List._∷_ 120 (List._∷_ 116 (List._∷_ 95 (List._∷_ 104 (List._∷_ 101 (List._∷_ 97 (List._∷_ 100 (List._∷_ 105 (List._∷_ 110 (List._∷_ 103 (List._∷_ 58 (List._∷_ 58 (List._∷_ 72 (List._∷_ 101 (List._∷_ 97 (List._∷_ 100 (List._∷_ 105 (List._∷_ 110 (List._∷_ 103 (List._∷_ 70 (List._∷_ 97 (List._∷_ 117 (List._∷_ 108 (List._∷_ 116 List.[])))))))))))))))))))))))))) (Syntax.ttcons Syntax.tnil (Syntax.ttcons Syntax.tnil (Syntax.ttcons Syntax.tnil (Syntax.ttcons Syntax.tnil (Syntax.ttcons (Syntax.tcons (Syntax.tyEnum (List._∷_ 116 (List._∷_ 101 (List._∷_ 120 (List._∷_ 116 (List._∷_ 95 (List._∷_ 104 (List._∷_ 101 (List._∷_ 97 (List._∷_ 100 (List._∷_ 105 (List._∷_ 110 (List._∷_ 103 (List._∷_ 58 (List._∷_ 58 (List._∷_ 87 (List._∷_ 111 (List._∷_ 114 (List._∷_ 100 List.[])))))))))))))))))) (Syntax.ttcons Syntax.tnil (Syntax.ttcons Syntax.tnil (Syntax.ttcons Syntax.tnil (Syntax.ttcons Syntax.tnil (Syntax.ttcons Syntax.tnil Syntax.ttnil)))))) Syntax.tnil) Syntax.ttnil)))))) Syntax.tnil) Syntax.ttnil)))))) Syntax.tnil)))) Syntax.tnil) (Syntax.ttcons Syntax.tnil (Syntax.ttcons (Syntax.tcons (Syntax.tyInt Syntax.w8) Syntax.tnil) (Syntax.ttcons Syntax.tnil (Syntax.ttcons (Syntax.tcons (Syntax.tyEnum (List._∷_ 116 (List._∷_ 101 (List._∷_ 120 (List._∷_ 116 (List._∷_ 95 (List._∷_ 114 (List._∷_ 101 (List._∷_ 97 (List._∷_ 100 (List._∷_ 105 (List._∷_ 110 (List._∷_ 103 (List._∷_ 58 (List._∷_ 58 (List._∷_ 70 (List._∷_ 97 (List._∷_ 117 (List._∷_ 108 (List._∷_ 116 List.[]))))))))))))))))))) (Syntax.ttcons (Syntax.tcons (Syntax.tyEnum (List._∷_ 116 (List._∷_ 101 (List._∷_ 120 (List._∷_ 116 (List._∷_ 95 (List._∷_ 104 (List._∷_ 101 (List._∷_ 97 (List._∷_ 100 (List._∷_ 105 (List._∷_ 110 (List._∷_ 103 (List._∷_ 58 (List._∷_ 58 (List._∷_ 72 (List._∷_ 101 (List._∷_ 97 (List._∷_ 100 (List._∷_ 105 (List._∷_ 110 (List._∷_ 103 (List._∷_ 70 (List._∷_ 97 (List._∷_ 117 (List._∷_ 108 (List._∷_ 116 List.[])))))))))))))))))))))))))) (Syntax.ttcons Syntax.tnil (Syntax.ttcons Syntax.tnil (Syntax.ttcons Syntax.tnil (Syntax.ttcons Syntax.tnil (Syntax.ttcons (Syntax.tcons (Syntax.tyEnum (List._∷_ 116 (List._∷_ 101 (List._∷_ 120 (List._∷_ 116 (List._∷_ 95 (List._∷_ 104 (List._∷_ 101 (List._∷_ 97 (List._∷_ 100 (List._∷_ 105 (List._∷_ 110 (List._∷_ 103 (List._∷_ 58 (List._∷_ 58 (List._∷_ 87 (List._∷_ 111 (List._∷_ 114 (List._∷_ 100 List.[])))))))))))))))))) (Syntax.ttcons Syntax.tnil (Syntax.ttcons Syntax.tnil (Syntax.ttcons Syntax.tnil (Syntax.ttcons Syntax.tnil (Syntax.ttcons Syntax.tnil Syntax.ttnil)))))) Syntax.tnil) Syntax.ttnil)))))) Syntax.tnil) (Syntax.ttcons Syntax.tnil (Syntax.ttcons Syntax.tnil Syntax.ttnil)))) Syntax.tnil) Syntax.ttnil)))))))) (Syntax.tcons (Syntax.tyArray (Syntax.tyInt Syntax.w8) 32) (Syntax.tcons (Syntax.tyInt Syntax.w64) Syntax.tnil))))))) (List._∷_ (9, Rows.any-gone (Syntax.tyInt Syntax.w64)) (List._∷_ (10, Rows.any-gone (Syntax.tyRef Syntax.erased Syntax.mut OfOutput.named)) (List._∷_ (11, Mut.mslice (OfOutput.row) (Syntax.tyRef Syntax.erased Syntax.mut OfOutput.named) 5) (List._∷_ (12, Rows.any-gone (Syntax.tyRef Syntax.erased Syntax.mut OfStation.named)) (List._∷_ (13, Mut.mslice (OfStation.row) (Syntax.tyRef Syntax.erased Syntax.mut OfStation.named) 6) (List._∷_ (14, Rows.any-gone (Syntax.tyRef Syntax.erased Syntax.mut OfPanelRecord.named)) (List._∷_ (15, Rows.any-gone (Syntax.tyRef Syntax.erased Syntax.mut (Syntax.tyInt Syntax.w8))) List.[])))))))))))))))
 
         abbrev g8 : List.List Row.Entry
-        g8 = List._∷_ (0, Rows.any-gone Syntax.tyUnit) (List._∷_ (1, Relend.mslice-owed (OfOutput.row) (Syntax.tyRef (Syntax.named 0) Syntax.mut OfOutput.named) 0 5 (Row.lease (κs .0) (qs .0))) (List._∷_ (2, Relend.mslice-owed (OfStation.row) (Syntax.tyRef (Syntax.named 1) Syntax.mut OfStation.named) 1 6 (Row.lease (κs .1 .0) (qs .1 .0))) (List._∷_ (3, Rows.mref-owed (OfPanelRecord.row) (Syntax.tyRef (Syntax.named 2) Syntax.mut OfPanelRecord.named) 2 7 (Row.lease (κs .1 .1 .0) (qs .1 .1 .0))) (List._∷_ (4, Mut.mslice (Referent.rtF (Referent.fInt Syntax.w8)) (Syntax.tyRef (Syntax.named 3) Syntax.mut (Syntax.tyInt Syntax.w8)) 3) (List._∷_ (5, Mut.mslice (Referent.rtF (Referent.fInt Syntax.w8)) (Syntax.tyRef (Syntax.named 4) Syntax.mut (Syntax.tyInt Syntax.w8)) 4) (List._∷_ (6, Rows.sc-here Row.sBool) (List._∷_ (7, Rows.any-gone (Laws.mir)) (List._∷_ (8, Rows.any-gone (Syntax.tyStruct (List._∷_ 116 (List._∷_ 101 (List._∷_ 120 (List._∷_ 116 (List._∷_ 95 (List._∷_ 114 (List._∷_ 101 (List._∷_ 97 (List._∷_ 100 (List._∷_ 105 (List._∷_ 110 (List._∷_ 103 (List._∷_ 58 (List._∷_ 58 (List._∷_ 82 (List._∷_ 101 (List._∷_ 97 (List._∷_ 100 (List._∷_ 101 (List._∷_ 114 List.[])))))))))))))))))))) (Syntax.tcons Syntax.tyBool (Syntax.tcons (Syntax.tyInt Syntax.w64) (Syntax.tcons (Syntax.tyEnum (List._∷_ 116 (List._∷_ 101 (List._∷_ 120 (List._∷_ 116 (List._∷_ 95 (List._∷_ 114 (List._∷_ 101 (List._∷_ 97 (List._∷_ 100 (List._∷_ 105 (List._∷_ 110 (List._∷_ 103 (List._∷_ 58 (List._∷_ 58 (List._∷_ 72 (List._∷_ 101 (List._∷_ 108 (List._∷_ 100 List.[])))))))))))))))))) (Syntax.ttcons Syntax.tnil (Syntax.ttcons Syntax.tnil (Syntax.ttcons (Syntax.tcons (Syntax.tyStruct (List._∷_ 116 (List._∷_ 101 (List._∷_ 120 (List._∷_ 116 (List._∷_ 95 (List._∷_ 104 (List._∷_ 101 (List._∷_ 97 (List._∷_ 100 (List._∷_ 105 (List._∷_ 110 (List._∷_ 103 (List._∷_ 58 (List._∷_ 58 (List._∷_ 72 (List._∷_ 101 (List._∷_ 97 (List._∷_ 100 (List._∷_ 105 (List._∷_ 110 (List._∷_ 103 List.[]))))))))))))))))))))) (Syntax.tcons (IsParameters.mir) (Syntax.tcons (Syntax.tyStruct (List._∷_ 116 (List._∷_ 101 (List._∷_ 120 (List._∷_ 116 (List._∷_ 95 (List._∷_ 104 (List._∷_ 101 (List._∷_ 97 (List._∷_ 100 (List._∷_ 105 (List._∷_ 110 (List._∷_ 103 (List._∷_ 58 (List._∷_ 58 (List._∷_ 67 (List._∷_ 97 (List._∷_ 109 (List._∷_ 101 List.[])))))))))))))))))) (Syntax.tcons Syntax.tyBool (Syntax.tcons Syntax.tyBool (Syntax.tcons Syntax.tyBool Syntax.tnil)))) (Syntax.tcons (Syntax.tyEnum (List._∷_ 116 (List._∷_ 101 (List._∷_ 120 (List._∷_ 116 (List._∷_ 95 (List._∷_ 104 (List._∷_ 101 (List._∷_ 97 (List._∷_ 100 (List._∷_ 105 (List._∷_ 110 (List._∷_ 103 (List._∷_ 58 (List._∷_ 58 (List._∷_ 80 (List._∷_ 108 (List._∷_ 97 (List._∷_ 99 (List._∷_ 101 List.[]))))))))))))))))))) (Syntax.ttcons (Syntax.tcons (Syntax.tyEnum (List._∷_ 116 (List._∷_ 101 (List._∷_ 120 (List._∷_ 116 (List._∷_ 95 (List._∷_ 104 (List._∷_ 101 (List._∷_ 97 (List._∷_ 100 (List._∷_ 105 (List._∷_ 110 (List._∷_ 103 (List._∷_ 58 (List._∷_ 58 (List._∷_ 87 (List._∷_ 111 (List._∷_ 114 (List._∷_ 100 List.[])))))))))))))))))) (Syntax.ttcons Syntax.tnil (Syntax.ttcons Syntax.tnil (Syntax.ttcons Syntax.tnil (Syntax.ttcons Syntax.tnil Syntax.ttnil))))) (Syntax.tcons (Syntax.tyInt Syntax.w8) Syntax.tnil)) (Syntax.ttcons (Syntax.tcons (Syntax.tyEnum (List._∷_ 116 (List._∷_ 101 (List._∷_ 120 (List._∷_ 116 (List._∷_ 95 (List._∷_ 104 (List._∷_ 101 (List._∷_ 97 (List._∷_ 100 (List._∷_ 105 (List._∷_ 110 (List._∷_ 103 (List._∷_ 58 (List._∷_ 58 (List._∷_ 87 (List._∷_ 111 (List._∷_ 114 (List._∷_ 100 List.[])))))))))))))))))) (Syntax.ttcons Syntax.tnil (Syntax.ttcons Syntax.tnil (Syntax.ttcons Syntax.tnil (Syntax.ttcons Syntax.tnil Syntax.ttnil))))) Syntax.tnil) (Syntax.ttcons (Syntax.tcons (Syntax.tyEnum (List._∷_ 116 (List._∷_ 101 (List._∷_ 120 (List._∷_ 116 (List._∷_ 95 (List._∷_ 104 (List._∷_ 101 (List._∷_ 97 (List._∷_ 100 (List._∷_ 105 (List._∷_ 110 (List._∷_ 103 (List._∷_ 58 (List._∷_ 58 (List._∷_ 87 (List._∷_ 111 (List._∷_ 114 (List._∷_ 100 List.[])))))))))))))))))) (Syntax.ttcons Syntax.tnil (Syntax.ttcons Syntax.tnil (Syntax.ttcons Syntax.tnil (Syntax.ttcons Syntax.tnil Syntax.ttnil))))) Syntax.tnil) (Syntax.ttcons Syntax.tnil (Syntax.ttcons (Syntax.tcons (Syntax.tyEnum (List._∷_ 116 (List._∷_ 101 (List._∷_ 120 (List._∷_ 116 (List._∷_ 95 (List._∷_ 104 (List._∷_ 101 (List._∷_ 97 (List._∷_ 100 (List._∷_ 105 (List._∷_ 110 (List._∷_ 103 (List._∷_ 58 (List._∷_ 58 (List._∷_ 72 (List._∷_ 101 (List._∷_ 97 (List._∷_ 100 (List._∷_ 105 (List._∷_ 110 (List._∷_ 103 (List._∷_ 70 (List._∷_ 97 (List._∷_ 117 (List._∷_ 108 (List._∷_ 116 List.[])))))))))))))))))))))))))) (Syntax.ttcons Syntax.tnil (Syntax.ttcons Syntax.tnil (Syntax.ttcons Syntax.tnil (Syntax.ttcons (Syntax.tcons (Syntax.tyEnum (List._∷_ 116 (List._∷_ 101 (List._∷_ 120 (List._∷_ 116 (List._∷_ 95 (List._∷_ 104 (List._∷_ 101 (List._∷_ 97 (List._∷_ 100 (List._∷_ 105 (List._∷_ 110 (List._∷_ 103 (List._∷_ 58 (List._∷_ 58 (List._∷_ 87 (List._∷_ 111 (List._∷_ 114 (List._∷_ 100 List.[])))))))))))))))))) (Syntax.ttcons Syntax.tnil (Syntax.ttcons Syntax.tnil (Syntax.ttcons Syntax.tnil (Syntax.ttcons Syntax.tnil Syntax.ttnil))))) Syntax.tnil) Syntax.ttnil))))) Syntax.tnil) Syntax.ttnil)))))) Syntax.tnil)))) Syntax.tnil) (Syntax.ttcons Syntax.tnil (Syntax.ttcons (Syntax.tcons (Syntax.tyInt Syntax.w8) Syntax.tnil) (Syntax.ttcons Syntax.tnil (Syntax.ttcons (Syntax.tcons (Syntax.tyEnum (List._∷_ 116 (List._∷_ 101 (List._∷_ 120 (List._∷_ 116 (List._∷_ 95 (List._∷_ 114 (List._∷_ 101 (List._∷_ 97 (List._∷_ 100 (List._∷_ 105 (List._∷_ 110 (List._∷_ 103 (List._∷_ 58 (List._∷_ 58 (List._∷_ 70 (List._∷_ 97 (List._∷_ 117 (List._∷_ 108 (List._∷_ 116 List.[]))))))))))))))))))) (Syntax.ttcons (Syntax.tcons (Syntax.tyEnum (List._∷_ 116 (List._∷_ 101 (List._∷_ 120 (List._∷_ 116 (List._∷_ 95 (List._∷_ 104 (List._∷_ 101 (List._∷_ 97 (List._∷_ 100 (List._∷_ 105 (List._∷_ 110 (List._∷_ 103 (List._∷_ 58 (List._∷_ 58 (List._∷_ 72 (List._∷_ 101 (List._∷_ 97 (List._∷_ 100 (List._∷_ 105 (List._∷_ 110 (List._∷_ 103 (List._∷_ 70 (List._∷_ 97 (List._∷_ 117 (List._∷_ 108 (List._∷_ 116 List.[])))))))))))))))))))))))))) (Syntax.ttcons Syntax.tnil (Syntax.ttcons Syntax.tnil (Syntax.ttcons Syntax.tnil (Syntax.ttcons (Syntax.tcons (Syntax.tyEnum (List._∷_ 116 (List._∷_ 101 (List._∷_ 120 (List._∷_ 116 (List._∷_ 95 (List._∷_ 104 (List._∷_ 101 (List._∷_ 97 (List._∷_ 100 (List._∷_ 105 (List._∷_ 110 (List._∷_ 103 (List._∷_ 58 (List._∷_ 58 (List._∷_ 87 (List._∷_ 111 (List._∷_ 114 (List._∷_ 100 List.[])))))))))))))))))) (Syntax.ttcons Syntax.tnil (Syntax.ttcons Syntax.tnil (Syntax.ttcons Syntax.tnil (Syntax.ttcons Syntax.tnil Syntax.ttnil))))) Syntax.tnil) Syntax.ttnil))))) Syntax.tnil) (Syntax.ttcons Syntax.tnil (Syntax.ttcons Syntax.tnil Syntax.ttnil)))) Syntax.tnil) Syntax.ttnil)))))))) (Syntax.tcons (Syntax.tyArray (Syntax.tyInt Syntax.w8) 32) (Syntax.tcons (Syntax.tyInt Syntax.w64) Syntax.tnil))))))) (List._∷_ (9, Rows.any-gone (Syntax.tyInt Syntax.w64)) (List._∷_ (10, Rows.any-gone (Syntax.tyRef Syntax.erased Syntax.mut OfOutput.named)) (List._∷_ (11, Mut.mslice (OfOutput.row) (Syntax.tyRef Syntax.erased Syntax.mut OfOutput.named) 5) (List._∷_ (12, Rows.any-gone (Syntax.tyRef Syntax.erased Syntax.mut OfStation.named)) (List._∷_ (13, Mut.mslice (OfStation.row) (Syntax.tyRef Syntax.erased Syntax.mut OfStation.named) 6) (List._∷_ (14, Rows.mref (OfPanelRecord.row) (Syntax.tyRef Syntax.erased Syntax.mut OfPanelRecord.named) 7) (List._∷_ (15, Rows.any-gone (Syntax.tyRef Syntax.erased Syntax.mut (Syntax.tyInt Syntax.w8))) List.[])))))))))))))))
+        g8 = List._∷_ (0, Rows.any-gone Syntax.tyUnit) (List._∷_ (1, Relend.mslice-owed (OfOutput.row) (Syntax.tyRef (Syntax.named 0) Syntax.mut OfOutput.named) 0 5 (Row.lease (κs .0) (qs .0))) (List._∷_ (2, Relend.mslice-owed (OfStation.row) (Syntax.tyRef (Syntax.named 1) Syntax.mut OfStation.named) 1 6 (Row.lease (κs .1 .0) (qs .1 .0))) (List._∷_ (3, Rows.mref-owed (OfPanelRecord.row) (Syntax.tyRef (Syntax.named 2) Syntax.mut OfPanelRecord.named) 2 7 (Row.lease (κs .1 .1 .0) (qs .1 .1 .0))) (List._∷_ (4, Mut.mslice (Referent.rtF (Referent.fInt Syntax.w8)) (Syntax.tyRef (Syntax.named 3) Syntax.mut (Syntax.tyInt Syntax.w8)) 3) (List._∷_ (5, Mut.mslice (Referent.rtF (Referent.fInt Syntax.w8)) (Syntax.tyRef (Syntax.named 4) Syntax.mut (Syntax.tyInt Syntax.w8)) 4) (List._∷_ (6, Rows.sc-here Row.sBool) (List._∷_ (7, Rows.any-gone (Laws.mir)) (List._∷_ (8, Rows.any-gone (Syntax.tyStruct (List._∷_ 116 (List._∷_ 101 (List._∷_ 120 (List._∷_ 116 (List._∷_ 95 (List._∷_ 114 (List._∷_ 101 (List._∷_ 97 (List._∷_ 100 (List._∷_ 105 (List._∷_ 110 (List._∷_ 103 (List._∷_ 58 (List._∷_ 58 (List._∷_ 82 (List._∷_ 101 (List._∷_ 97 (List._∷_ 100 (List._∷_ 101 (List._∷_ 114 List.[])))))))))))))))))))) (Syntax.tcons Syntax.tyBool (Syntax.tcons (Syntax.tyInt Syntax.w64) (Syntax.tcons (Syntax.tyEnum (List._∷_ 116 (List._∷_ 101 (List._∷_ 120 (List._∷_ 116 (List._∷_ 95 (List._∷_ 114 (List._∷_ 101 (List._∷_ 97 (List._∷_ 100 (List._∷_ 105 (List._∷_ 110 (List._∷_ 103 (List._∷_ 58 (List._∷_ 58 (List._∷_ 72 (List._∷_ 101 (List._∷_ 108 (List._∷_ 100 List.[])))))))))))))))))) (Syntax.ttcons Syntax.tnil (Syntax.ttcons Syntax.tnil (Syntax.ttcons (Syntax.tcons (Syntax.tyStruct (List._∷_ 116 (List._∷_ 101 (List._∷_ 120 (List._∷_ 116 (List._∷_ 95 (List._∷_ 104 (List._∷_ 101 (List._∷_ 97 (List._∷_ 100 (List._∷_ 105 (List._∷_ 110 (List._∷_ 103 (List._∷_ 58 (List._∷_ 58 (List._∷_ 72 (List._∷_ 101 (List._∷_ 97 (List._∷_ 100 (List._∷_ 105 (List._∷_ 110 (List._∷_ 103 List.[]))))))))))))))))))))) (Syntax.tcons (Syntax.tyStruct (List._∷_ 116 (List._∷_ 101 (List._∷_ 120 (List._∷_ 116 (List._∷_ 95 (List._∷_ 104 (List._∷_ 101 (List._∷_ 97 (List._∷_ 100 (List._∷_ 105 (List._∷_ 110 (List._∷_ 103 (List._∷_ 58 (List._∷_ 58 (List._∷_ 78 (List._∷_ 97 (List._∷_ 109 (List._∷_ 101 (List._∷_ 100 List.[]))))))))))))))))))) (Syntax.tcons (IsParameters.mir) (Syntax.tcons (Syntax.tyInt Syntax.w32) Syntax.tnil))) (Syntax.tcons (Syntax.tyStruct (List._∷_ 116 (List._∷_ 101 (List._∷_ 120 (List._∷_ 116 (List._∷_ 95 (List._∷_ 104 (List._∷_ 101 (List._∷_ 97 (List._∷_ 100 (List._∷_ 105 (List._∷_ 110 (List._∷_ 103 (List._∷_ 58 (List._∷_ 58 (List._∷_ 67 (List._∷_ 97 (List._∷_ 109 (List._∷_ 101 List.[])))))))))))))))))) (Syntax.tcons Syntax.tyBool (Syntax.tcons Syntax.tyBool (Syntax.tcons Syntax.tyBool (Syntax.tcons Syntax.tyBool Syntax.tnil))))) (Syntax.tcons (Syntax.tyEnum (List._∷_ 116 (List._∷_ 101 (List._∷_ 120 (List._∷_ 116 (List._∷_ 95 (List._∷_ 104 (List._∷_ 101 (List._∷_ 97 (List._∷_ 100 (List._∷_ 105 (List._∷_ 110 (List._∷_ 103 (List._∷_ 58 (List._∷_ 58 (List._∷_ 80 (List._∷_ 108 (List._∷_ 97 (List._∷_ 99 (List._∷_ 101 List.[]))))))))))))))))))) (Syntax.ttcons (Syntax.tcons (Syntax.tyEnum (List._∷_ 116 (List._∷_ 101 (List._∷_ 120 (List._∷_ 116 (List._∷_ 95 (List._∷_ 104 (List._∷_ 101 (List._∷_ 97 (List._∷_ 100 (List._∷_ 105 (List._∷_ 110 (List._∷_ 103 (List._∷_ 58 (List._∷_ 58 (List._∷_ 87 (List._∷_ 111 (List._∷_ 114 (List._∷_ 100 List.[])))))))))))))))))) (Syntax.ttcons Syntax.tnil (Syntax.ttcons Syntax.tnil (Syntax.ttcons Syntax.tnil (Syntax.ttcons Syntax.tnil (Syntax.ttcons Syntax.tnil Syntax.ttnil)))))) (Syntax.tcons (Syntax.tyInt Syntax.w8) Syntax.tnil)) (Syntax.ttcons (Syntax.tcons (Syntax.tyEnum (List._∷_ 116 (List._∷_ 101 (List._∷_ 120 (List._∷_ 116 (List._∷_ 95 (List._∷_ 104 (List._∷_ 101 (List._∷_ 97 (List._∷_ 100 (List._∷_ 105 (List._∷_ 110 (List._∷_ 103 (List._∷_ 58 (List._∷_ 58 (List._∷_ 87 (List._∷_ 111 (List._∷_ 114 (List._∷_ 100 List.[])))))))))))))))))) (Syntax.ttcons Syntax.tnil (Syntax.ttcons Syntax.tnil (Syntax.ttcons Syntax.tnil (Syntax.ttcons Syntax.tnil (Syntax.ttcons Syntax.tnil Syntax.ttnil)))))) Syntax.tnil) (Syntax.ttcons (Syntax.tcons (Syntax.tyEnum (List._∷_ 116 (List._∷_ 101 (List._∷_ 120 (List._∷_ 116 (List._∷_ 95 (List._∷_ 104 (List._∷_ 101 (List._∷_ 97 (List._∷_ 100 (List._∷_ 105 (List._∷_ 110 (List._∷_ 103 (List._∷_ 58 (List._∷_ 58 (List._∷_ 87 (List._∷_ 111 (List._∷_ 114 (List._∷_ 100 List.[])))))))))))))))))) (Syntax.ttcons Syntax.tnil (Syntax.ttcons Syntax.tnil (Syntax.ttcons Syntax.tnil (Syntax.ttcons Syntax.tnil (Syntax.ttcons Syntax.tnil Syntax.ttnil)))))) (Syntax.tcons (Syntax.tyInt Syntax.w8) Syntax.tnil)) (Syntax.ttcons Syntax.tnil (Syntax.ttcons (Syntax.tcons (Syntax.tyEnum (List._∷_ 116 (List._∷_ 101 (List._∷_ 120 (List._∷_ 116 (List._∷_ 95 (List._∷_ 104 (List._∷_ 101 (List._∷_ 97 (List._∷_ 100 (List._∷_ 105 (List._∷_ 110 (List._∷_ 103 (List._∷_ 58 (List._∷_ 58 (List._∷_ 72 (List._∷_ 101 (List._∷_ 97 (List._∷_ 100 (List._∷_ 105 (List._∷_ 110 (List._∷_ 103 (List._∷_ 70 (List._∷_ 97 (List._∷_ 117 (List._∷_ 108 (List._∷_ 116 List.[])))))))))))))))))))))))))) (Syntax.ttcons Syntax.tnil (Syntax.ttcons Syntax.tnil (Syntax.ttcons Syntax.tnil (Syntax.ttcons Syntax.tnil (Syntax.ttcons (Syntax.tcons (Syntax.tyEnum (List._∷_ 116 (List._∷_ 101 (List._∷_ 120 (List._∷_ 116 (List._∷_ 95 (List._∷_ 104 (List._∷_ 101 (List._∷_ 97 (List._∷_ 100 (List._∷_ 105 (List._∷_ 110 (List._∷_ 103 (List._∷_ 58 (List._∷_ 58 (List._∷_ 87 (List._∷_ 111 (List._∷_ 114 (List._∷_ 100 List.[])))))))))))))))))) (Syntax.ttcons Syntax.tnil (Syntax.ttcons Syntax.tnil (Syntax.ttcons Syntax.tnil (Syntax.ttcons Syntax.tnil (Syntax.ttcons Syntax.tnil Syntax.ttnil)))))) Syntax.tnil) Syntax.ttnil)))))) Syntax.tnil) Syntax.ttnil)))))) Syntax.tnil)))) Syntax.tnil) (Syntax.ttcons Syntax.tnil (Syntax.ttcons (Syntax.tcons (Syntax.tyInt Syntax.w8) Syntax.tnil) (Syntax.ttcons Syntax.tnil (Syntax.ttcons (Syntax.tcons (Syntax.tyEnum (List._∷_ 116 (List._∷_ 101 (List._∷_ 120 (List._∷_ 116 (List._∷_ 95 (List._∷_ 114 (List._∷_ 101 (List._∷_ 97 (List._∷_ 100 (List._∷_ 105 (List._∷_ 110 (List._∷_ 103 (List._∷_ 58 (List._∷_ 58 (List._∷_ 70 (List._∷_ 97 (List._∷_ 117 (List._∷_ 108 (List._∷_ 116 List.[]))))))))))))))))))) (Syntax.ttcons (Syntax.tcons (Syntax.tyEnum (List._∷_ 116 (List._∷_ 101 (List._∷_ 120 (List._∷_ 116 (List._∷_ 95 (List._∷_ 104 (List._∷_ 101 (List._∷_ 97 (List._∷_ 100 (List._∷_ 105 (List._∷_ 110 (List._∷_ 103 (List._∷_ 58 (List._∷_ 58 (List._∷_ 72 (List._∷_ 101 (List._∷_ 97 (List._∷_ 100 (List._∷_ 105 (List._∷_ 110 (List._∷_ 103 (List._∷_ 70 (List._∷_ 97 (List._∷_ 117 (List._∷_ 108 (List._∷_ 116 List.[])))))))))))))))))))))))))) (Syntax.ttcons Syntax.tnil (Syntax.ttcons Syntax.tnil (Syntax.ttcons Syntax.tnil (Syntax.ttcons Syntax.tnil (Syntax.ttcons (Syntax.tcons (Syntax.tyEnum (List._∷_ 116 (List._∷_ 101 (List._∷_ 120 (List._∷_ 116 (List._∷_ 95 (List._∷_ 104 (List._∷_ 101 (List._∷_ 97 (List._∷_ 100 (List._∷_ 105 (List._∷_ 110 (List._∷_ 103 (List._∷_ 58 (List._∷_ 58 (List._∷_ 87 (List._∷_ 111 (List._∷_ 114 (List._∷_ 100 List.[])))))))))))))))))) (Syntax.ttcons Syntax.tnil (Syntax.ttcons Syntax.tnil (Syntax.ttcons Syntax.tnil (Syntax.ttcons Syntax.tnil (Syntax.ttcons Syntax.tnil Syntax.ttnil)))))) Syntax.tnil) Syntax.ttnil)))))) Syntax.tnil) (Syntax.ttcons Syntax.tnil (Syntax.ttcons Syntax.tnil Syntax.ttnil)))) Syntax.tnil) Syntax.ttnil)))))))) (Syntax.tcons (Syntax.tyArray (Syntax.tyInt Syntax.w8) 32) (Syntax.tcons (Syntax.tyInt Syntax.w64) Syntax.tnil))))))) (List._∷_ (9, Rows.any-gone (Syntax.tyInt Syntax.w64)) (List._∷_ (10, Rows.any-gone (Syntax.tyRef Syntax.erased Syntax.mut OfOutput.named)) (List._∷_ (11, Mut.mslice (OfOutput.row) (Syntax.tyRef Syntax.erased Syntax.mut OfOutput.named) 5) (List._∷_ (12, Rows.any-gone (Syntax.tyRef Syntax.erased Syntax.mut OfStation.named)) (List._∷_ (13, Mut.mslice (OfStation.row) (Syntax.tyRef Syntax.erased Syntax.mut OfStation.named) 6) (List._∷_ (14, Rows.mref (OfPanelRecord.row) (Syntax.tyRef Syntax.erased Syntax.mut OfPanelRecord.named) 7) (List._∷_ (15, Rows.any-gone (Syntax.tyRef Syntax.erased Syntax.mut (Syntax.tyInt Syntax.w8))) List.[])))))))))))))))
 
         abbrev g9 : List.List Row.Entry
-        g9 = List._∷_ (0, Rows.any-gone Syntax.tyUnit) (List._∷_ (1, Relend.mslice-owed (OfOutput.row) (Syntax.tyRef (Syntax.named 0) Syntax.mut OfOutput.named) 0 5 (Row.lease (κs .0) (qs .0))) (List._∷_ (2, Relend.mslice-owed (OfStation.row) (Syntax.tyRef (Syntax.named 1) Syntax.mut OfStation.named) 1 6 (Row.lease (κs .1 .0) (qs .1 .0))) (List._∷_ (3, Rows.mref-owed (OfPanelRecord.row) (Syntax.tyRef (Syntax.named 2) Syntax.mut OfPanelRecord.named) 2 7 (Row.lease (κs .1 .1 .0) (qs .1 .1 .0))) (List._∷_ (4, Relend.mslice-owed (Referent.rtF (Referent.fInt Syntax.w8)) (Syntax.tyRef (Syntax.named 3) Syntax.mut (Syntax.tyInt Syntax.w8)) 3 8 (Row.lease (κs .1 .1 .1 .0) (qs .1 .1 .1 .0))) (List._∷_ (5, Mut.mslice (Referent.rtF (Referent.fInt Syntax.w8)) (Syntax.tyRef (Syntax.named 4) Syntax.mut (Syntax.tyInt Syntax.w8)) 4) (List._∷_ (6, Rows.sc-here Row.sBool) (List._∷_ (7, Rows.any-gone (Laws.mir)) (List._∷_ (8, Rows.any-gone (Syntax.tyStruct (List._∷_ 116 (List._∷_ 101 (List._∷_ 120 (List._∷_ 116 (List._∷_ 95 (List._∷_ 114 (List._∷_ 101 (List._∷_ 97 (List._∷_ 100 (List._∷_ 105 (List._∷_ 110 (List._∷_ 103 (List._∷_ 58 (List._∷_ 58 (List._∷_ 82 (List._∷_ 101 (List._∷_ 97 (List._∷_ 100 (List._∷_ 101 (List._∷_ 114 List.[])))))))))))))))))))) (Syntax.tcons Syntax.tyBool (Syntax.tcons (Syntax.tyInt Syntax.w64) (Syntax.tcons (Syntax.tyEnum (List._∷_ 116 (List._∷_ 101 (List._∷_ 120 (List._∷_ 116 (List._∷_ 95 (List._∷_ 114 (List._∷_ 101 (List._∷_ 97 (List._∷_ 100 (List._∷_ 105 (List._∷_ 110 (List._∷_ 103 (List._∷_ 58 (List._∷_ 58 (List._∷_ 72 (List._∷_ 101 (List._∷_ 108 (List._∷_ 100 List.[])))))))))))))))))) (Syntax.ttcons Syntax.tnil (Syntax.ttcons Syntax.tnil (Syntax.ttcons (Syntax.tcons (Syntax.tyStruct (List._∷_ 116 (List._∷_ 101 (List._∷_ 120 (List._∷_ 116 (List._∷_ 95 (List._∷_ 104 (List._∷_ 101 (List._∷_ 97 (List._∷_ 100 (List._∷_ 105 (List._∷_ 110 (List._∷_ 103 (List._∷_ 58 (List._∷_ 58 (List._∷_ 72 (List._∷_ 101 (List._∷_ 97 (List._∷_ 100 (List._∷_ 105 (List._∷_ 110 (List._∷_ 103 List.[]))))))))))))))))))))) (Syntax.tcons (IsParameters.mir) (Syntax.tcons (Syntax.tyStruct (List._∷_ 116 (List._∷_ 101 (List._∷_ 120 (List._∷_ 116 (List._∷_ 95 (List._∷_ 104 (List._∷_ 101 (List._∷_ 97 (List._∷_ 100 (List._∷_ 105 (List._∷_ 110 (List._∷_ 103 (List._∷_ 58 (List._∷_ 58 (List._∷_ 67 (List._∷_ 97 (List._∷_ 109 (List._∷_ 101 List.[])))))))))))))))))) (Syntax.tcons Syntax.tyBool (Syntax.tcons Syntax.tyBool (Syntax.tcons Syntax.tyBool Syntax.tnil)))) (Syntax.tcons (Syntax.tyEnum (List._∷_ 116 (List._∷_ 101 (List._∷_ 120 (List._∷_ 116 (List._∷_ 95 (List._∷_ 104 (List._∷_ 101 (List._∷_ 97 (List._∷_ 100 (List._∷_ 105 (List._∷_ 110 (List._∷_ 103 (List._∷_ 58 (List._∷_ 58 (List._∷_ 80 (List._∷_ 108 (List._∷_ 97 (List._∷_ 99 (List._∷_ 101 List.[]))))))))))))))))))) (Syntax.ttcons (Syntax.tcons (Syntax.tyEnum (List._∷_ 116 (List._∷_ 101 (List._∷_ 120 (List._∷_ 116 (List._∷_ 95 (List._∷_ 104 (List._∷_ 101 (List._∷_ 97 (List._∷_ 100 (List._∷_ 105 (List._∷_ 110 (List._∷_ 103 (List._∷_ 58 (List._∷_ 58 (List._∷_ 87 (List._∷_ 111 (List._∷_ 114 (List._∷_ 100 List.[])))))))))))))))))) (Syntax.ttcons Syntax.tnil (Syntax.ttcons Syntax.tnil (Syntax.ttcons Syntax.tnil (Syntax.ttcons Syntax.tnil Syntax.ttnil))))) (Syntax.tcons (Syntax.tyInt Syntax.w8) Syntax.tnil)) (Syntax.ttcons (Syntax.tcons (Syntax.tyEnum (List._∷_ 116 (List._∷_ 101 (List._∷_ 120 (List._∷_ 116 (List._∷_ 95 (List._∷_ 104 (List._∷_ 101 (List._∷_ 97 (List._∷_ 100 (List._∷_ 105 (List._∷_ 110 (List._∷_ 103 (List._∷_ 58 (List._∷_ 58 (List._∷_ 87 (List._∷_ 111 (List._∷_ 114 (List._∷_ 100 List.[])))))))))))))))))) (Syntax.ttcons Syntax.tnil (Syntax.ttcons Syntax.tnil (Syntax.ttcons Syntax.tnil (Syntax.ttcons Syntax.tnil Syntax.ttnil))))) Syntax.tnil) (Syntax.ttcons (Syntax.tcons (Syntax.tyEnum (List._∷_ 116 (List._∷_ 101 (List._∷_ 120 (List._∷_ 116 (List._∷_ 95 (List._∷_ 104 (List._∷_ 101 (List._∷_ 97 (List._∷_ 100 (List._∷_ 105 (List._∷_ 110 (List._∷_ 103 (List._∷_ 58 (List._∷_ 58 (List._∷_ 87 (List._∷_ 111 (List._∷_ 114 (List._∷_ 100 List.[])))))))))))))))))) (Syntax.ttcons Syntax.tnil (Syntax.ttcons Syntax.tnil (Syntax.ttcons Syntax.tnil (Syntax.ttcons Syntax.tnil Syntax.ttnil))))) Syntax.tnil) (Syntax.ttcons Syntax.tnil (Syntax.ttcons (Syntax.tcons (Syntax.tyEnum (List._∷_ 116 (List._∷_ 101 (List._∷_ 120 (List._∷_ 116 (List._∷_ 95 (List._∷_ 104 (List._∷_ 101 (List._∷_ 97 (List._∷_ 100 (List._∷_ 105 (List._∷_ 110 (List._∷_ 103 (List._∷_ 58 (List._∷_ 58 (List._∷_ 72 (List._∷_ 101 (List._∷_ 97 (List._∷_ 100 (List._∷_ 105 (List._∷_ 110 (List._∷_ 103 (List._∷_ 70 (List._∷_ 97 (List._∷_ 117 (List._∷_ 108 (List._∷_ 116 List.[])))))))))))))))))))))))))) (Syntax.ttcons Syntax.tnil (Syntax.ttcons Syntax.tnil (Syntax.ttcons Syntax.tnil (Syntax.ttcons (Syntax.tcons (Syntax.tyEnum (List._∷_ 116 (List._∷_ 101 (List._∷_ 120 (List._∷_ 116 (List._∷_ 95 (List._∷_ 104 (List._∷_ 101 (List._∷_ 97 (List._∷_ 100 (List._∷_ 105 (List._∷_ 110 (List._∷_ 103 (List._∷_ 58 (List._∷_ 58 (List._∷_ 87 (List._∷_ 111 (List._∷_ 114 (List._∷_ 100 List.[])))))))))))))))))) (Syntax.ttcons Syntax.tnil (Syntax.ttcons Syntax.tnil (Syntax.ttcons Syntax.tnil (Syntax.ttcons Syntax.tnil Syntax.ttnil))))) Syntax.tnil) Syntax.ttnil))))) Syntax.tnil) Syntax.ttnil)))))) Syntax.tnil)))) Syntax.tnil) (Syntax.ttcons Syntax.tnil (Syntax.ttcons (Syntax.tcons (Syntax.tyInt Syntax.w8) Syntax.tnil) (Syntax.ttcons Syntax.tnil (Syntax.ttcons (Syntax.tcons (Syntax.tyEnum (List._∷_ 116 (List._∷_ 101 (List._∷_ 120 (List._∷_ 116 (List._∷_ 95 (List._∷_ 114 (List._∷_ 101 (List._∷_ 97 (List._∷_ 100 (List._∷_ 105 (List._∷_ 110 (List._∷_ 103 (List._∷_ 58 (List._∷_ 58 (List._∷_ 70 (List._∷_ 97 (List._∷_ 117 (List._∷_ 108 (List._∷_ 116 List.[]))))))))))))))))))) (Syntax.ttcons (Syntax.tcons (Syntax.tyEnum (List._∷_ 116 (List._∷_ 101 (List._∷_ 120 (List._∷_ 116 (List._∷_ 95 (List._∷_ 104 (List._∷_ 101 (List._∷_ 97 (List._∷_ 100 (List._∷_ 105 (List._∷_ 110 (List._∷_ 103 (List._∷_ 58 (List._∷_ 58 (List._∷_ 72 (List._∷_ 101 (List._∷_ 97 (List._∷_ 100 (List._∷_ 105 (List._∷_ 110 (List._∷_ 103 (List._∷_ 70 (List._∷_ 97 (List._∷_ 117 (List._∷_ 108 (List._∷_ 116 List.[])))))))))))))))))))))))))) (Syntax.ttcons Syntax.tnil (Syntax.ttcons Syntax.tnil (Syntax.ttcons Syntax.tnil (Syntax.ttcons (Syntax.tcons (Syntax.tyEnum (List._∷_ 116 (List._∷_ 101 (List._∷_ 120 (List._∷_ 116 (List._∷_ 95 (List._∷_ 104 (List._∷_ 101 (List._∷_ 97 (List._∷_ 100 (List._∷_ 105 (List._∷_ 110 (List._∷_ 103 (List._∷_ 58 (List._∷_ 58 (List._∷_ 87 (List._∷_ 111 (List._∷_ 114 (List._∷_ 100 List.[])))))))))))))))))) (Syntax.ttcons Syntax.tnil (Syntax.ttcons Syntax.tnil (Syntax.ttcons Syntax.tnil (Syntax.ttcons Syntax.tnil Syntax.ttnil))))) Syntax.tnil) Syntax.ttnil))))) Syntax.tnil) (Syntax.ttcons Syntax.tnil (Syntax.ttcons Syntax.tnil Syntax.ttnil)))) Syntax.tnil) Syntax.ttnil)))))))) (Syntax.tcons (Syntax.tyArray (Syntax.tyInt Syntax.w8) 32) (Syntax.tcons (Syntax.tyInt Syntax.w64) Syntax.tnil))))))) (List._∷_ (9, Rows.any-gone (Syntax.tyInt Syntax.w64)) (List._∷_ (10, Rows.any-gone (Syntax.tyRef Syntax.erased Syntax.mut OfOutput.named)) (List._∷_ (11, Mut.mslice (OfOutput.row) (Syntax.tyRef Syntax.erased Syntax.mut OfOutput.named) 5) (List._∷_ (12, Rows.any-gone (Syntax.tyRef Syntax.erased Syntax.mut OfStation.named)) (List._∷_ (13, Mut.mslice (OfStation.row) (Syntax.tyRef Syntax.erased Syntax.mut OfStation.named) 6) (List._∷_ (14, Rows.mref (OfPanelRecord.row) (Syntax.tyRef Syntax.erased Syntax.mut OfPanelRecord.named) 7) (List._∷_ (15, Relend.msptr (Referent.rtF (Referent.fInt Syntax.w8)) (Syntax.tyRef Syntax.erased Syntax.mut (Syntax.tyInt Syntax.w8)) 8) List.[])))))))))))))))
+        g9 = List._∷_ (0, Rows.any-gone Syntax.tyUnit) (List._∷_ (1, Relend.mslice-owed (OfOutput.row) (Syntax.tyRef (Syntax.named 0) Syntax.mut OfOutput.named) 0 5 (Row.lease (κs .0) (qs .0))) (List._∷_ (2, Relend.mslice-owed (OfStation.row) (Syntax.tyRef (Syntax.named 1) Syntax.mut OfStation.named) 1 6 (Row.lease (κs .1 .0) (qs .1 .0))) (List._∷_ (3, Rows.mref-owed (OfPanelRecord.row) (Syntax.tyRef (Syntax.named 2) Syntax.mut OfPanelRecord.named) 2 7 (Row.lease (κs .1 .1 .0) (qs .1 .1 .0))) (List._∷_ (4, Relend.mslice-owed (Referent.rtF (Referent.fInt Syntax.w8)) (Syntax.tyRef (Syntax.named 3) Syntax.mut (Syntax.tyInt Syntax.w8)) 3 8 (Row.lease (κs .1 .1 .1 .0) (qs .1 .1 .1 .0))) (List._∷_ (5, Mut.mslice (Referent.rtF (Referent.fInt Syntax.w8)) (Syntax.tyRef (Syntax.named 4) Syntax.mut (Syntax.tyInt Syntax.w8)) 4) (List._∷_ (6, Rows.sc-here Row.sBool) (List._∷_ (7, Rows.any-gone (Laws.mir)) (List._∷_ (8, Rows.any-gone (Syntax.tyStruct (List._∷_ 116 (List._∷_ 101 (List._∷_ 120 (List._∷_ 116 (List._∷_ 95 (List._∷_ 114 (List._∷_ 101 (List._∷_ 97 (List._∷_ 100 (List._∷_ 105 (List._∷_ 110 (List._∷_ 103 (List._∷_ 58 (List._∷_ 58 (List._∷_ 82 (List._∷_ 101 (List._∷_ 97 (List._∷_ 100 (List._∷_ 101 (List._∷_ 114 List.[])))))))))))))))))))) (Syntax.tcons Syntax.tyBool (Syntax.tcons (Syntax.tyInt Syntax.w64) (Syntax.tcons (Syntax.tyEnum (List._∷_ 116 (List._∷_ 101 (List._∷_ 120 (List._∷_ 116 (List._∷_ 95 (List._∷_ 114 (List._∷_ 101 (List._∷_ 97 (List._∷_ 100 (List._∷_ 105 (List._∷_ 110 (List._∷_ 103 (List._∷_ 58 (List._∷_ 58 (List._∷_ 72 (List._∷_ 101 (List._∷_ 108 (List._∷_ 100 List.[])))))))))))))))))) (Syntax.ttcons Syntax.tnil (Syntax.ttcons Syntax.tnil (Syntax.ttcons (Syntax.tcons (Syntax.tyStruct (List._∷_ 116 (List._∷_ 101 (List._∷_ 120 (List._∷_ 116 (List._∷_ 95 (List._∷_ 104 (List._∷_ 101 (List._∷_ 97 (List._∷_ 100 (List._∷_ 105 (List._∷_ 110 (List._∷_ 103 (List._∷_ 58 (List._∷_ 58 (List._∷_ 72 (List._∷_ 101 (List._∷_ 97 (List._∷_ 100 (List._∷_ 105 (List._∷_ 110 (List._∷_ 103 List.[]))))))))))))))))))))) (Syntax.tcons (Syntax.tyStruct (List._∷_ 116 (List._∷_ 101 (List._∷_ 120 (List._∷_ 116 (List._∷_ 95 (List._∷_ 104 (List._∷_ 101 (List._∷_ 97 (List._∷_ 100 (List._∷_ 105 (List._∷_ 110 (List._∷_ 103 (List._∷_ 58 (List._∷_ 58 (List._∷_ 78 (List._∷_ 97 (List._∷_ 109 (List._∷_ 101 (List._∷_ 100 List.[]))))))))))))))))))) (Syntax.tcons (IsParameters.mir) (Syntax.tcons (Syntax.tyInt Syntax.w32) Syntax.tnil))) (Syntax.tcons (Syntax.tyStruct (List._∷_ 116 (List._∷_ 101 (List._∷_ 120 (List._∷_ 116 (List._∷_ 95 (List._∷_ 104 (List._∷_ 101 (List._∷_ 97 (List._∷_ 100 (List._∷_ 105 (List._∷_ 110 (List._∷_ 103 (List._∷_ 58 (List._∷_ 58 (List._∷_ 67 (List._∷_ 97 (List._∷_ 109 (List._∷_ 101 List.[])))))))))))))))))) (Syntax.tcons Syntax.tyBool (Syntax.tcons Syntax.tyBool (Syntax.tcons Syntax.tyBool (Syntax.tcons Syntax.tyBool Syntax.tnil))))) (Syntax.tcons (Syntax.tyEnum (List._∷_ 116 (List._∷_ 101 (List._∷_ 120 (List._∷_ 116 (List._∷_ 95 (List._∷_ 104 (List._∷_ 101 (List._∷_ 97 (List._∷_ 100 (List._∷_ 105 (List._∷_ 110 (List._∷_ 103 (List._∷_ 58 (List._∷_ 58 (List._∷_ 80 (List._∷_ 108 (List._∷_ 97 (List._∷_ 99 (List._∷_ 101 List.[]))))))))))))))))))) (Syntax.ttcons (Syntax.tcons (Syntax.tyEnum (List._∷_ 116 (List._∷_ 101 (List._∷_ 120 (List._∷_ 116 (List._∷_ 95 (List._∷_ 104 (List._∷_ 101 (List._∷_ 97 (List._∷_ 100 (List._∷_ 105 (List._∷_ 110 (List._∷_ 103 (List._∷_ 58 (List._∷_ 58 (List._∷_ 87 (List._∷_ 111 (List._∷_ 114 (List._∷_ 100 List.[])))))))))))))))))) (Syntax.ttcons Syntax.tnil (Syntax.ttcons Syntax.tnil (Syntax.ttcons Syntax.tnil (Syntax.ttcons Syntax.tnil (Syntax.ttcons Syntax.tnil Syntax.ttnil)))))) (Syntax.tcons (Syntax.tyInt Syntax.w8) Syntax.tnil)) (Syntax.ttcons (Syntax.tcons (Syntax.tyEnum (List._∷_ 116 (List._∷_ 101 (List._∷_ 120 (List._∷_ 116 (List._∷_ 95 (List._∷_ 104 (List._∷_ 101 (List._∷_ 97 (List._∷_ 100 (List._∷_ 105 (List._∷_ 110 (List._∷_ 103 (List._∷_ 58 (List._∷_ 58 (List._∷_ 87 (List._∷_ 111 (List._∷_ 114 (List._∷_ 100 List.[])))))))))))))))))) (Syntax.ttcons Syntax.tnil (Syntax.ttcons Syntax.tnil (Syntax.ttcons Syntax.tnil (Syntax.ttcons Syntax.tnil (Syntax.ttcons Syntax.tnil Syntax.ttnil)))))) Syntax.tnil) (Syntax.ttcons (Syntax.tcons (Syntax.tyEnum (List._∷_ 116 (List._∷_ 101 (List._∷_ 120 (List._∷_ 116 (List._∷_ 95 (List._∷_ 104 (List._∷_ 101 (List._∷_ 97 (List._∷_ 100 (List._∷_ 105 (List._∷_ 110 (List._∷_ 103 (List._∷_ 58 (List._∷_ 58 (List._∷_ 87 (List._∷_ 111 (List._∷_ 114 (List._∷_ 100 List.[])))))))))))))))))) (Syntax.ttcons Syntax.tnil (Syntax.ttcons Syntax.tnil (Syntax.ttcons Syntax.tnil (Syntax.ttcons Syntax.tnil (Syntax.ttcons Syntax.tnil Syntax.ttnil)))))) (Syntax.tcons (Syntax.tyInt Syntax.w8) Syntax.tnil)) (Syntax.ttcons Syntax.tnil (Syntax.ttcons (Syntax.tcons (Syntax.tyEnum (List._∷_ 116 (List._∷_ 101 (List._∷_ 120 (List._∷_ 116 (List._∷_ 95 (List._∷_ 104 (List._∷_ 101 (List._∷_ 97 (List._∷_ 100 (List._∷_ 105 (List._∷_ 110 (List._∷_ 103 (List._∷_ 58 (List._∷_ 58 (List._∷_ 72 (List._∷_ 101 (List._∷_ 97 (List._∷_ 100 (List._∷_ 105 (List._∷_ 110 (List._∷_ 103 (List._∷_ 70 (List._∷_ 97 (List._∷_ 117 (List._∷_ 108 (List._∷_ 116 List.[])))))))))))))))))))))))))) (Syntax.ttcons Syntax.tnil (Syntax.ttcons Syntax.tnil (Syntax.ttcons Syntax.tnil (Syntax.ttcons Syntax.tnil (Syntax.ttcons (Syntax.tcons (Syntax.tyEnum (List._∷_ 116 (List._∷_ 101 (List._∷_ 120 (List._∷_ 116 (List._∷_ 95 (List._∷_ 104 (List._∷_ 101 (List._∷_ 97 (List._∷_ 100 (List._∷_ 105 (List._∷_ 110 (List._∷_ 103 (List._∷_ 58 (List._∷_ 58 (List._∷_ 87 (List._∷_ 111 (List._∷_ 114 (List._∷_ 100 List.[])))))))))))))))))) (Syntax.ttcons Syntax.tnil (Syntax.ttcons Syntax.tnil (Syntax.ttcons Syntax.tnil (Syntax.ttcons Syntax.tnil (Syntax.ttcons Syntax.tnil Syntax.ttnil)))))) Syntax.tnil) Syntax.ttnil)))))) Syntax.tnil) Syntax.ttnil)))))) Syntax.tnil)))) Syntax.tnil) (Syntax.ttcons Syntax.tnil (Syntax.ttcons (Syntax.tcons (Syntax.tyInt Syntax.w8) Syntax.tnil) (Syntax.ttcons Syntax.tnil (Syntax.ttcons (Syntax.tcons (Syntax.tyEnum (List._∷_ 116 (List._∷_ 101 (List._∷_ 120 (List._∷_ 116 (List._∷_ 95 (List._∷_ 114 (List._∷_ 101 (List._∷_ 97 (List._∷_ 100 (List._∷_ 105 (List._∷_ 110 (List._∷_ 103 (List._∷_ 58 (List._∷_ 58 (List._∷_ 70 (List._∷_ 97 (List._∷_ 117 (List._∷_ 108 (List._∷_ 116 List.[]))))))))))))))))))) (Syntax.ttcons (Syntax.tcons (Syntax.tyEnum (List._∷_ 116 (List._∷_ 101 (List._∷_ 120 (List._∷_ 116 (List._∷_ 95 (List._∷_ 104 (List._∷_ 101 (List._∷_ 97 (List._∷_ 100 (List._∷_ 105 (List._∷_ 110 (List._∷_ 103 (List._∷_ 58 (List._∷_ 58 (List._∷_ 72 (List._∷_ 101 (List._∷_ 97 (List._∷_ 100 (List._∷_ 105 (List._∷_ 110 (List._∷_ 103 (List._∷_ 70 (List._∷_ 97 (List._∷_ 117 (List._∷_ 108 (List._∷_ 116 List.[])))))))))))))))))))))))))) (Syntax.ttcons Syntax.tnil (Syntax.ttcons Syntax.tnil (Syntax.ttcons Syntax.tnil (Syntax.ttcons Syntax.tnil (Syntax.ttcons (Syntax.tcons (Syntax.tyEnum (List._∷_ 116 (List._∷_ 101 (List._∷_ 120 (List._∷_ 116 (List._∷_ 95 (List._∷_ 104 (List._∷_ 101 (List._∷_ 97 (List._∷_ 100 (List._∷_ 105 (List._∷_ 110 (List._∷_ 103 (List._∷_ 58 (List._∷_ 58 (List._∷_ 87 (List._∷_ 111 (List._∷_ 114 (List._∷_ 100 List.[])))))))))))))))))) (Syntax.ttcons Syntax.tnil (Syntax.ttcons Syntax.tnil (Syntax.ttcons Syntax.tnil (Syntax.ttcons Syntax.tnil (Syntax.ttcons Syntax.tnil Syntax.ttnil)))))) Syntax.tnil) Syntax.ttnil)))))) Syntax.tnil) (Syntax.ttcons Syntax.tnil (Syntax.ttcons Syntax.tnil Syntax.ttnil)))) Syntax.tnil) Syntax.ttnil)))))))) (Syntax.tcons (Syntax.tyArray (Syntax.tyInt Syntax.w8) 32) (Syntax.tcons (Syntax.tyInt Syntax.w64) Syntax.tnil))))))) (List._∷_ (9, Rows.any-gone (Syntax.tyInt Syntax.w64)) (List._∷_ (10, Rows.any-gone (Syntax.tyRef Syntax.erased Syntax.mut OfOutput.named)) (List._∷_ (11, Mut.mslice (OfOutput.row) (Syntax.tyRef Syntax.erased Syntax.mut OfOutput.named) 5) (List._∷_ (12, Rows.any-gone (Syntax.tyRef Syntax.erased Syntax.mut OfStation.named)) (List._∷_ (13, Mut.mslice (OfStation.row) (Syntax.tyRef Syntax.erased Syntax.mut OfStation.named) 6) (List._∷_ (14, Rows.mref (OfPanelRecord.row) (Syntax.tyRef Syntax.erased Syntax.mut OfPanelRecord.named) 7) (List._∷_ (15, Relend.msptr (Referent.rtF (Referent.fInt Syntax.w8)) (Syntax.tyRef Syntax.erased Syntax.mut (Syntax.tyInt Syntax.w8)) 8) List.[])))))))))))))))
 
         abbrev g10 : List.List Row.Entry
-        g10 = List._∷_ (0, Rows.any-gone Syntax.tyUnit) (List._∷_ (1, Relend.mslice-owed (OfOutput.row) (Syntax.tyRef (Syntax.named 0) Syntax.mut OfOutput.named) 0 5 (Row.lease (κs .0) (qs .0))) (List._∷_ (2, Relend.mslice-owed (OfStation.row) (Syntax.tyRef (Syntax.named 1) Syntax.mut OfStation.named) 1 6 (Row.lease (κs .1 .0) (qs .1 .0))) (List._∷_ (3, Rows.mref-owed (OfPanelRecord.row) (Syntax.tyRef (Syntax.named 2) Syntax.mut OfPanelRecord.named) 2 7 (Row.lease (κs .1 .1 .0) (qs .1 .1 .0))) (List._∷_ (4, Relend.mslice-owed (Referent.rtF (Referent.fInt Syntax.w8)) (Syntax.tyRef (Syntax.named 3) Syntax.mut (Syntax.tyInt Syntax.w8)) 3 8 (Row.lease (κs .1 .1 .1 .0) (qs .1 .1 .1 .0))) (List._∷_ (5, Mut.mslice (Referent.rtF (Referent.fInt Syntax.w8)) (Syntax.tyRef (Syntax.named 4) Syntax.mut (Syntax.tyInt Syntax.w8)) 4) (List._∷_ (6, Rows.sc-here Row.sBool) (List._∷_ (7, Rows.any-gone (Laws.mir)) (List._∷_ (8, Rows.any-gone (Syntax.tyStruct (List._∷_ 116 (List._∷_ 101 (List._∷_ 120 (List._∷_ 116 (List._∷_ 95 (List._∷_ 114 (List._∷_ 101 (List._∷_ 97 (List._∷_ 100 (List._∷_ 105 (List._∷_ 110 (List._∷_ 103 (List._∷_ 58 (List._∷_ 58 (List._∷_ 82 (List._∷_ 101 (List._∷_ 97 (List._∷_ 100 (List._∷_ 101 (List._∷_ 114 List.[])))))))))))))))))))) (Syntax.tcons Syntax.tyBool (Syntax.tcons (Syntax.tyInt Syntax.w64) (Syntax.tcons (Syntax.tyEnum (List._∷_ 116 (List._∷_ 101 (List._∷_ 120 (List._∷_ 116 (List._∷_ 95 (List._∷_ 114 (List._∷_ 101 (List._∷_ 97 (List._∷_ 100 (List._∷_ 105 (List._∷_ 110 (List._∷_ 103 (List._∷_ 58 (List._∷_ 58 (List._∷_ 72 (List._∷_ 101 (List._∷_ 108 (List._∷_ 100 List.[])))))))))))))))))) (Syntax.ttcons Syntax.tnil (Syntax.ttcons Syntax.tnil (Syntax.ttcons (Syntax.tcons (Syntax.tyStruct (List._∷_ 116 (List._∷_ 101 (List._∷_ 120 (List._∷_ 116 (List._∷_ 95 (List._∷_ 104 (List._∷_ 101 (List._∷_ 97 (List._∷_ 100 (List._∷_ 105 (List._∷_ 110 (List._∷_ 103 (List._∷_ 58 (List._∷_ 58 (List._∷_ 72 (List._∷_ 101 (List._∷_ 97 (List._∷_ 100 (List._∷_ 105 (List._∷_ 110 (List._∷_ 103 List.[]))))))))))))))))))))) (Syntax.tcons (IsParameters.mir) (Syntax.tcons (Syntax.tyStruct (List._∷_ 116 (List._∷_ 101 (List._∷_ 120 (List._∷_ 116 (List._∷_ 95 (List._∷_ 104 (List._∷_ 101 (List._∷_ 97 (List._∷_ 100 (List._∷_ 105 (List._∷_ 110 (List._∷_ 103 (List._∷_ 58 (List._∷_ 58 (List._∷_ 67 (List._∷_ 97 (List._∷_ 109 (List._∷_ 101 List.[])))))))))))))))))) (Syntax.tcons Syntax.tyBool (Syntax.tcons Syntax.tyBool (Syntax.tcons Syntax.tyBool Syntax.tnil)))) (Syntax.tcons (Syntax.tyEnum (List._∷_ 116 (List._∷_ 101 (List._∷_ 120 (List._∷_ 116 (List._∷_ 95 (List._∷_ 104 (List._∷_ 101 (List._∷_ 97 (List._∷_ 100 (List._∷_ 105 (List._∷_ 110 (List._∷_ 103 (List._∷_ 58 (List._∷_ 58 (List._∷_ 80 (List._∷_ 108 (List._∷_ 97 (List._∷_ 99 (List._∷_ 101 List.[]))))))))))))))))))) (Syntax.ttcons (Syntax.tcons (Syntax.tyEnum (List._∷_ 116 (List._∷_ 101 (List._∷_ 120 (List._∷_ 116 (List._∷_ 95 (List._∷_ 104 (List._∷_ 101 (List._∷_ 97 (List._∷_ 100 (List._∷_ 105 (List._∷_ 110 (List._∷_ 103 (List._∷_ 58 (List._∷_ 58 (List._∷_ 87 (List._∷_ 111 (List._∷_ 114 (List._∷_ 100 List.[])))))))))))))))))) (Syntax.ttcons Syntax.tnil (Syntax.ttcons Syntax.tnil (Syntax.ttcons Syntax.tnil (Syntax.ttcons Syntax.tnil Syntax.ttnil))))) (Syntax.tcons (Syntax.tyInt Syntax.w8) Syntax.tnil)) (Syntax.ttcons (Syntax.tcons (Syntax.tyEnum (List._∷_ 116 (List._∷_ 101 (List._∷_ 120 (List._∷_ 116 (List._∷_ 95 (List._∷_ 104 (List._∷_ 101 (List._∷_ 97 (List._∷_ 100 (List._∷_ 105 (List._∷_ 110 (List._∷_ 103 (List._∷_ 58 (List._∷_ 58 (List._∷_ 87 (List._∷_ 111 (List._∷_ 114 (List._∷_ 100 List.[])))))))))))))))))) (Syntax.ttcons Syntax.tnil (Syntax.ttcons Syntax.tnil (Syntax.ttcons Syntax.tnil (Syntax.ttcons Syntax.tnil Syntax.ttnil))))) Syntax.tnil) (Syntax.ttcons (Syntax.tcons (Syntax.tyEnum (List._∷_ 116 (List._∷_ 101 (List._∷_ 120 (List._∷_ 116 (List._∷_ 95 (List._∷_ 104 (List._∷_ 101 (List._∷_ 97 (List._∷_ 100 (List._∷_ 105 (List._∷_ 110 (List._∷_ 103 (List._∷_ 58 (List._∷_ 58 (List._∷_ 87 (List._∷_ 111 (List._∷_ 114 (List._∷_ 100 List.[])))))))))))))))))) (Syntax.ttcons Syntax.tnil (Syntax.ttcons Syntax.tnil (Syntax.ttcons Syntax.tnil (Syntax.ttcons Syntax.tnil Syntax.ttnil))))) Syntax.tnil) (Syntax.ttcons Syntax.tnil (Syntax.ttcons (Syntax.tcons (Syntax.tyEnum (List._∷_ 116 (List._∷_ 101 (List._∷_ 120 (List._∷_ 116 (List._∷_ 95 (List._∷_ 104 (List._∷_ 101 (List._∷_ 97 (List._∷_ 100 (List._∷_ 105 (List._∷_ 110 (List._∷_ 103 (List._∷_ 58 (List._∷_ 58 (List._∷_ 72 (List._∷_ 101 (List._∷_ 97 (List._∷_ 100 (List._∷_ 105 (List._∷_ 110 (List._∷_ 103 (List._∷_ 70 (List._∷_ 97 (List._∷_ 117 (List._∷_ 108 (List._∷_ 116 List.[])))))))))))))))))))))))))) (Syntax.ttcons Syntax.tnil (Syntax.ttcons Syntax.tnil (Syntax.ttcons Syntax.tnil (Syntax.ttcons (Syntax.tcons (Syntax.tyEnum (List._∷_ 116 (List._∷_ 101 (List._∷_ 120 (List._∷_ 116 (List._∷_ 95 (List._∷_ 104 (List._∷_ 101 (List._∷_ 97 (List._∷_ 100 (List._∷_ 105 (List._∷_ 110 (List._∷_ 103 (List._∷_ 58 (List._∷_ 58 (List._∷_ 87 (List._∷_ 111 (List._∷_ 114 (List._∷_ 100 List.[])))))))))))))))))) (Syntax.ttcons Syntax.tnil (Syntax.ttcons Syntax.tnil (Syntax.ttcons Syntax.tnil (Syntax.ttcons Syntax.tnil Syntax.ttnil))))) Syntax.tnil) Syntax.ttnil))))) Syntax.tnil) Syntax.ttnil)))))) Syntax.tnil)))) Syntax.tnil) (Syntax.ttcons Syntax.tnil (Syntax.ttcons (Syntax.tcons (Syntax.tyInt Syntax.w8) Syntax.tnil) (Syntax.ttcons Syntax.tnil (Syntax.ttcons (Syntax.tcons (Syntax.tyEnum (List._∷_ 116 (List._∷_ 101 (List._∷_ 120 (List._∷_ 116 (List._∷_ 95 (List._∷_ 114 (List._∷_ 101 (List._∷_ 97 (List._∷_ 100 (List._∷_ 105 (List._∷_ 110 (List._∷_ 103 (List._∷_ 58 (List._∷_ 58 (List._∷_ 70 (List._∷_ 97 (List._∷_ 117 (List._∷_ 108 (List._∷_ 116 List.[]))))))))))))))))))) (Syntax.ttcons (Syntax.tcons (Syntax.tyEnum (List._∷_ 116 (List._∷_ 101 (List._∷_ 120 (List._∷_ 116 (List._∷_ 95 (List._∷_ 104 (List._∷_ 101 (List._∷_ 97 (List._∷_ 100 (List._∷_ 105 (List._∷_ 110 (List._∷_ 103 (List._∷_ 58 (List._∷_ 58 (List._∷_ 72 (List._∷_ 101 (List._∷_ 97 (List._∷_ 100 (List._∷_ 105 (List._∷_ 110 (List._∷_ 103 (List._∷_ 70 (List._∷_ 97 (List._∷_ 117 (List._∷_ 108 (List._∷_ 116 List.[])))))))))))))))))))))))))) (Syntax.ttcons Syntax.tnil (Syntax.ttcons Syntax.tnil (Syntax.ttcons Syntax.tnil (Syntax.ttcons (Syntax.tcons (Syntax.tyEnum (List._∷_ 116 (List._∷_ 101 (List._∷_ 120 (List._∷_ 116 (List._∷_ 95 (List._∷_ 104 (List._∷_ 101 (List._∷_ 97 (List._∷_ 100 (List._∷_ 105 (List._∷_ 110 (List._∷_ 103 (List._∷_ 58 (List._∷_ 58 (List._∷_ 87 (List._∷_ 111 (List._∷_ 114 (List._∷_ 100 List.[])))))))))))))))))) (Syntax.ttcons Syntax.tnil (Syntax.ttcons Syntax.tnil (Syntax.ttcons Syntax.tnil (Syntax.ttcons Syntax.tnil Syntax.ttnil))))) Syntax.tnil) Syntax.ttnil))))) Syntax.tnil) (Syntax.ttcons Syntax.tnil (Syntax.ttcons Syntax.tnil Syntax.ttnil)))) Syntax.tnil) Syntax.ttnil)))))))) (Syntax.tcons (Syntax.tyArray (Syntax.tyInt Syntax.w8) 32) (Syntax.tcons (Syntax.tyInt Syntax.w64) Syntax.tnil))))))) (List._∷_ (9, Rows.any-gone (Syntax.tyInt Syntax.w64)) (List._∷_ (10, Rows.any-gone (Syntax.tyRef Syntax.erased Syntax.mut OfOutput.named)) (List._∷_ (11, Mut.mslice (OfOutput.row) (Syntax.tyRef Syntax.erased Syntax.mut OfOutput.named) 5) (List._∷_ (12, Rows.any-gone (Syntax.tyRef Syntax.erased Syntax.mut OfStation.named)) (List._∷_ (13, Mut.mslice (OfStation.row) (Syntax.tyRef Syntax.erased Syntax.mut OfStation.named) 6) (List._∷_ (14, Rows.mref (OfPanelRecord.row) (Syntax.tyRef Syntax.erased Syntax.mut OfPanelRecord.named) 7) (List._∷_ (15, Rows.any-gone (Syntax.tyRef Syntax.erased Syntax.mut (Syntax.tyInt Syntax.w8))) List.[])))))))))))))))
+        g10 = List._∷_ (0, Rows.any-gone Syntax.tyUnit) (List._∷_ (1, Relend.mslice-owed (OfOutput.row) (Syntax.tyRef (Syntax.named 0) Syntax.mut OfOutput.named) 0 5 (Row.lease (κs .0) (qs .0))) (List._∷_ (2, Relend.mslice-owed (OfStation.row) (Syntax.tyRef (Syntax.named 1) Syntax.mut OfStation.named) 1 6 (Row.lease (κs .1 .0) (qs .1 .0))) (List._∷_ (3, Rows.mref-owed (OfPanelRecord.row) (Syntax.tyRef (Syntax.named 2) Syntax.mut OfPanelRecord.named) 2 7 (Row.lease (κs .1 .1 .0) (qs .1 .1 .0))) (List._∷_ (4, Relend.mslice-owed (Referent.rtF (Referent.fInt Syntax.w8)) (Syntax.tyRef (Syntax.named 3) Syntax.mut (Syntax.tyInt Syntax.w8)) 3 8 (Row.lease (κs .1 .1 .1 .0) (qs .1 .1 .1 .0))) (List._∷_ (5, Mut.mslice (Referent.rtF (Referent.fInt Syntax.w8)) (Syntax.tyRef (Syntax.named 4) Syntax.mut (Syntax.tyInt Syntax.w8)) 4) (List._∷_ (6, Rows.sc-here Row.sBool) (List._∷_ (7, Rows.any-gone (Laws.mir)) (List._∷_ (8, Rows.any-gone (Syntax.tyStruct (List._∷_ 116 (List._∷_ 101 (List._∷_ 120 (List._∷_ 116 (List._∷_ 95 (List._∷_ 114 (List._∷_ 101 (List._∷_ 97 (List._∷_ 100 (List._∷_ 105 (List._∷_ 110 (List._∷_ 103 (List._∷_ 58 (List._∷_ 58 (List._∷_ 82 (List._∷_ 101 (List._∷_ 97 (List._∷_ 100 (List._∷_ 101 (List._∷_ 114 List.[])))))))))))))))))))) (Syntax.tcons Syntax.tyBool (Syntax.tcons (Syntax.tyInt Syntax.w64) (Syntax.tcons (Syntax.tyEnum (List._∷_ 116 (List._∷_ 101 (List._∷_ 120 (List._∷_ 116 (List._∷_ 95 (List._∷_ 114 (List._∷_ 101 (List._∷_ 97 (List._∷_ 100 (List._∷_ 105 (List._∷_ 110 (List._∷_ 103 (List._∷_ 58 (List._∷_ 58 (List._∷_ 72 (List._∷_ 101 (List._∷_ 108 (List._∷_ 100 List.[])))))))))))))))))) (Syntax.ttcons Syntax.tnil (Syntax.ttcons Syntax.tnil (Syntax.ttcons (Syntax.tcons (Syntax.tyStruct (List._∷_ 116 (List._∷_ 101 (List._∷_ 120 (List._∷_ 116 (List._∷_ 95 (List._∷_ 104 (List._∷_ 101 (List._∷_ 97 (List._∷_ 100 (List._∷_ 105 (List._∷_ 110 (List._∷_ 103 (List._∷_ 58 (List._∷_ 58 (List._∷_ 72 (List._∷_ 101 (List._∷_ 97 (List._∷_ 100 (List._∷_ 105 (List._∷_ 110 (List._∷_ 103 List.[]))))))))))))))))))))) (Syntax.tcons (Syntax.tyStruct (List._∷_ 116 (List._∷_ 101 (List._∷_ 120 (List._∷_ 116 (List._∷_ 95 (List._∷_ 104 (List._∷_ 101 (List._∷_ 97 (List._∷_ 100 (List._∷_ 105 (List._∷_ 110 (List._∷_ 103 (List._∷_ 58 (List._∷_ 58 (List._∷_ 78 (List._∷_ 97 (List._∷_ 109 (List._∷_ 101 (List._∷_ 100 List.[]))))))))))))))))))) (Syntax.tcons (IsParameters.mir) (Syntax.tcons (Syntax.tyInt Syntax.w32) Syntax.tnil))) (Syntax.tcons (Syntax.tyStruct (List._∷_ 116 (List._∷_ 101 (List._∷_ 120 (List._∷_ 116 (List._∷_ 95 (List._∷_ 104 (List._∷_ 101 (List._∷_ 97 (List._∷_ 100 (List._∷_ 105 (List._∷_ 110 (List._∷_ 103 (List._∷_ 58 (List._∷_ 58 (List._∷_ 67 (List._∷_ 97 (List._∷_ 109 (List._∷_ 101 List.[])))))))))))))))))) (Syntax.tcons Syntax.tyBool (Syntax.tcons Syntax.tyBool (Syntax.tcons Syntax.tyBool (Syntax.tcons Syntax.tyBool Syntax.tnil))))) (Syntax.tcons (Syntax.tyEnum (List._∷_ 116 (List._∷_ 101 (List._∷_ 120 (List._∷_ 116 (List._∷_ 95 (List._∷_ 104 (List._∷_ 101 (List._∷_ 97 (List._∷_ 100 (List._∷_ 105 (List._∷_ 110 (List._∷_ 103 (List._∷_ 58 (List._∷_ 58 (List._∷_ 80 (List._∷_ 108 (List._∷_ 97 (List._∷_ 99 (List._∷_ 101 List.[]))))))))))))))))))) (Syntax.ttcons (Syntax.tcons (Syntax.tyEnum (List._∷_ 116 (List._∷_ 101 (List._∷_ 120 (List._∷_ 116 (List._∷_ 95 (List._∷_ 104 (List._∷_ 101 (List._∷_ 97 (List._∷_ 100 (List._∷_ 105 (List._∷_ 110 (List._∷_ 103 (List._∷_ 58 (List._∷_ 58 (List._∷_ 87 (List._∷_ 111 (List._∷_ 114 (List._∷_ 100 List.[])))))))))))))))))) (Syntax.ttcons Syntax.tnil (Syntax.ttcons Syntax.tnil (Syntax.ttcons Syntax.tnil (Syntax.ttcons Syntax.tnil (Syntax.ttcons Syntax.tnil Syntax.ttnil)))))) (Syntax.tcons (Syntax.tyInt Syntax.w8) Syntax.tnil)) (Syntax.ttcons (Syntax.tcons (Syntax.tyEnum (List._∷_ 116 (List._∷_ 101 (List._∷_ 120 (List._∷_ 116 (List._∷_ 95 (List._∷_ 104 (List._∷_ 101 (List._∷_ 97 (List._∷_ 100 (List._∷_ 105 (List._∷_ 110 (List._∷_ 103 (List._∷_ 58 (List._∷_ 58 (List._∷_ 87 (List._∷_ 111 (List._∷_ 114 (List._∷_ 100 List.[])))))))))))))))))) (Syntax.ttcons Syntax.tnil (Syntax.ttcons Syntax.tnil (Syntax.ttcons Syntax.tnil (Syntax.ttcons Syntax.tnil (Syntax.ttcons Syntax.tnil Syntax.ttnil)))))) Syntax.tnil) (Syntax.ttcons (Syntax.tcons (Syntax.tyEnum (List._∷_ 116 (List._∷_ 101 (List._∷_ 120 (List._∷_ 116 (List._∷_ 95 (List._∷_ 104 (List._∷_ 101 (List._∷_ 97 (List._∷_ 100 (List._∷_ 105 (List._∷_ 110 (List._∷_ 103 (List._∷_ 58 (List._∷_ 58 (List._∷_ 87 (List._∷_ 111 (List._∷_ 114 (List._∷_ 100 List.[])))))))))))))))))) (Syntax.ttcons Syntax.tnil (Syntax.ttcons Syntax.tnil (Syntax.ttcons Syntax.tnil (Syntax.ttcons Syntax.tnil (Syntax.ttcons Syntax.tnil Syntax.ttnil)))))) (Syntax.tcons (Syntax.tyInt Syntax.w8) Syntax.tnil)) (Syntax.ttcons Syntax.tnil (Syntax.ttcons (Syntax.tcons (Syntax.tyEnum (List._∷_ 116 (List._∷_ 101 (List._∷_ 120 (List._∷_ 116 (List._∷_ 95 (List._∷_ 104 (List._∷_ 101 (List._∷_ 97 (List._∷_ 100 (List._∷_ 105 (List._∷_ 110 (List._∷_ 103 (List._∷_ 58 (List._∷_ 58 (List._∷_ 72 (List._∷_ 101 (List._∷_ 97 (List._∷_ 100 (List._∷_ 105 (List._∷_ 110 (List._∷_ 103 (List._∷_ 70 (List._∷_ 97 (List._∷_ 117 (List._∷_ 108 (List._∷_ 116 List.[])))))))))))))))))))))))))) (Syntax.ttcons Syntax.tnil (Syntax.ttcons Syntax.tnil (Syntax.ttcons Syntax.tnil (Syntax.ttcons Syntax.tnil (Syntax.ttcons (Syntax.tcons (Syntax.tyEnum (List._∷_ 116 (List._∷_ 101 (List._∷_ 120 (List._∷_ 116 (List._∷_ 95 (List._∷_ 104 (List._∷_ 101 (List._∷_ 97 (List._∷_ 100 (List._∷_ 105 (List._∷_ 110 (List._∷_ 103 (List._∷_ 58 (List._∷_ 58 (List._∷_ 87 (List._∷_ 111 (List._∷_ 114 (List._∷_ 100 List.[])))))))))))))))))) (Syntax.ttcons Syntax.tnil (Syntax.ttcons Syntax.tnil (Syntax.ttcons Syntax.tnil (Syntax.ttcons Syntax.tnil (Syntax.ttcons Syntax.tnil Syntax.ttnil)))))) Syntax.tnil) Syntax.ttnil)))))) Syntax.tnil) Syntax.ttnil)))))) Syntax.tnil)))) Syntax.tnil) (Syntax.ttcons Syntax.tnil (Syntax.ttcons (Syntax.tcons (Syntax.tyInt Syntax.w8) Syntax.tnil) (Syntax.ttcons Syntax.tnil (Syntax.ttcons (Syntax.tcons (Syntax.tyEnum (List._∷_ 116 (List._∷_ 101 (List._∷_ 120 (List._∷_ 116 (List._∷_ 95 (List._∷_ 114 (List._∷_ 101 (List._∷_ 97 (List._∷_ 100 (List._∷_ 105 (List._∷_ 110 (List._∷_ 103 (List._∷_ 58 (List._∷_ 58 (List._∷_ 70 (List._∷_ 97 (List._∷_ 117 (List._∷_ 108 (List._∷_ 116 List.[]))))))))))))))))))) (Syntax.ttcons (Syntax.tcons (Syntax.tyEnum (List._∷_ 116 (List._∷_ 101 (List._∷_ 120 (List._∷_ 116 (List._∷_ 95 (List._∷_ 104 (List._∷_ 101 (List._∷_ 97 (List._∷_ 100 (List._∷_ 105 (List._∷_ 110 (List._∷_ 103 (List._∷_ 58 (List._∷_ 58 (List._∷_ 72 (List._∷_ 101 (List._∷_ 97 (List._∷_ 100 (List._∷_ 105 (List._∷_ 110 (List._∷_ 103 (List._∷_ 70 (List._∷_ 97 (List._∷_ 117 (List._∷_ 108 (List._∷_ 116 List.[])))))))))))))))))))))))))) (Syntax.ttcons Syntax.tnil (Syntax.ttcons Syntax.tnil (Syntax.ttcons Syntax.tnil (Syntax.ttcons Syntax.tnil (Syntax.ttcons (Syntax.tcons (Syntax.tyEnum (List._∷_ 116 (List._∷_ 101 (List._∷_ 120 (List._∷_ 116 (List._∷_ 95 (List._∷_ 104 (List._∷_ 101 (List._∷_ 97 (List._∷_ 100 (List._∷_ 105 (List._∷_ 110 (List._∷_ 103 (List._∷_ 58 (List._∷_ 58 (List._∷_ 87 (List._∷_ 111 (List._∷_ 114 (List._∷_ 100 List.[])))))))))))))))))) (Syntax.ttcons Syntax.tnil (Syntax.ttcons Syntax.tnil (Syntax.ttcons Syntax.tnil (Syntax.ttcons Syntax.tnil (Syntax.ttcons Syntax.tnil Syntax.ttnil)))))) Syntax.tnil) Syntax.ttnil)))))) Syntax.tnil) (Syntax.ttcons Syntax.tnil (Syntax.ttcons Syntax.tnil Syntax.ttnil)))) Syntax.tnil) Syntax.ttnil)))))))) (Syntax.tcons (Syntax.tyArray (Syntax.tyInt Syntax.w8) 32) (Syntax.tcons (Syntax.tyInt Syntax.w64) Syntax.tnil))))))) (List._∷_ (9, Rows.any-gone (Syntax.tyInt Syntax.w64)) (List._∷_ (10, Rows.any-gone (Syntax.tyRef Syntax.erased Syntax.mut OfOutput.named)) (List._∷_ (11, Mut.mslice (OfOutput.row) (Syntax.tyRef Syntax.erased Syntax.mut OfOutput.named) 5) (List._∷_ (12, Rows.any-gone (Syntax.tyRef Syntax.erased Syntax.mut OfStation.named)) (List._∷_ (13, Mut.mslice (OfStation.row) (Syntax.tyRef Syntax.erased Syntax.mut OfStation.named) 6) (List._∷_ (14, Rows.mref (OfPanelRecord.row) (Syntax.tyRef Syntax.erased Syntax.mut OfPanelRecord.named) 7) (List._∷_ (15, Rows.any-gone (Syntax.tyRef Syntax.erased Syntax.mut (Syntax.tyInt Syntax.w8))) List.[])))))))))))))))
 
         abbrev g12 : List.List Row.Entry
-        g12 = List._∷_ (0, Rows.any-gone Syntax.tyUnit) (List._∷_ (1, Relend.mslice-owed (OfOutput.row) (Syntax.tyRef (Syntax.named 0) Syntax.mut OfOutput.named) 0 5 (Row.lease (κs .0) (qs .0))) (List._∷_ (2, Relend.mslice-owed (OfStation.row) (Syntax.tyRef (Syntax.named 1) Syntax.mut OfStation.named) 1 6 (Row.lease (κs .1 .0) (qs .1 .0))) (List._∷_ (3, Rows.mref-owed (OfPanelRecord.row) (Syntax.tyRef (Syntax.named 2) Syntax.mut OfPanelRecord.named) 2 7 (Row.lease (κs .1 .1 .0) (qs .1 .1 .0))) (List._∷_ (4, Relend.mslice-owed (Referent.rtF (Referent.fInt Syntax.w8)) (Syntax.tyRef (Syntax.named 3) Syntax.mut (Syntax.tyInt Syntax.w8)) 3 8 (Row.lease (κs .1 .1 .1 .0) (qs .1 .1 .1 .0))) (List._∷_ (5, Relend.mslice-owed (Referent.rtF (Referent.fInt Syntax.w8)) (Syntax.tyRef (Syntax.named 4) Syntax.mut (Syntax.tyInt Syntax.w8)) 4 9 (Row.lease (κs .1 .1 .1 .1 .0) (qs .1 .1 .1 .1 .0))) (List._∷_ (6, Rows.sc-here Row.sBool) (List._∷_ (7, Rows.any-gone (Laws.mir)) (List._∷_ (8, Rows.any-gone (Syntax.tyStruct (List._∷_ 116 (List._∷_ 101 (List._∷_ 120 (List._∷_ 116 (List._∷_ 95 (List._∷_ 114 (List._∷_ 101 (List._∷_ 97 (List._∷_ 100 (List._∷_ 105 (List._∷_ 110 (List._∷_ 103 (List._∷_ 58 (List._∷_ 58 (List._∷_ 82 (List._∷_ 101 (List._∷_ 97 (List._∷_ 100 (List._∷_ 101 (List._∷_ 114 List.[])))))))))))))))))))) (Syntax.tcons Syntax.tyBool (Syntax.tcons (Syntax.tyInt Syntax.w64) (Syntax.tcons (Syntax.tyEnum (List._∷_ 116 (List._∷_ 101 (List._∷_ 120 (List._∷_ 116 (List._∷_ 95 (List._∷_ 114 (List._∷_ 101 (List._∷_ 97 (List._∷_ 100 (List._∷_ 105 (List._∷_ 110 (List._∷_ 103 (List._∷_ 58 (List._∷_ 58 (List._∷_ 72 (List._∷_ 101 (List._∷_ 108 (List._∷_ 100 List.[])))))))))))))))))) (Syntax.ttcons Syntax.tnil (Syntax.ttcons Syntax.tnil (Syntax.ttcons (Syntax.tcons (Syntax.tyStruct (List._∷_ 116 (List._∷_ 101 (List._∷_ 120 (List._∷_ 116 (List._∷_ 95 (List._∷_ 104 (List._∷_ 101 (List._∷_ 97 (List._∷_ 100 (List._∷_ 105 (List._∷_ 110 (List._∷_ 103 (List._∷_ 58 (List._∷_ 58 (List._∷_ 72 (List._∷_ 101 (List._∷_ 97 (List._∷_ 100 (List._∷_ 105 (List._∷_ 110 (List._∷_ 103 List.[]))))))))))))))))))))) (Syntax.tcons (IsParameters.mir) (Syntax.tcons (Syntax.tyStruct (List._∷_ 116 (List._∷_ 101 (List._∷_ 120 (List._∷_ 116 (List._∷_ 95 (List._∷_ 104 (List._∷_ 101 (List._∷_ 97 (List._∷_ 100 (List._∷_ 105 (List._∷_ 110 (List._∷_ 103 (List._∷_ 58 (List._∷_ 58 (List._∷_ 67 (List._∷_ 97 (List._∷_ 109 (List._∷_ 101 List.[])))))))))))))))))) (Syntax.tcons Syntax.tyBool (Syntax.tcons Syntax.tyBool (Syntax.tcons Syntax.tyBool Syntax.tnil)))) (Syntax.tcons (Syntax.tyEnum (List._∷_ 116 (List._∷_ 101 (List._∷_ 120 (List._∷_ 116 (List._∷_ 95 (List._∷_ 104 (List._∷_ 101 (List._∷_ 97 (List._∷_ 100 (List._∷_ 105 (List._∷_ 110 (List._∷_ 103 (List._∷_ 58 (List._∷_ 58 (List._∷_ 80 (List._∷_ 108 (List._∷_ 97 (List._∷_ 99 (List._∷_ 101 List.[]))))))))))))))))))) (Syntax.ttcons (Syntax.tcons (Syntax.tyEnum (List._∷_ 116 (List._∷_ 101 (List._∷_ 120 (List._∷_ 116 (List._∷_ 95 (List._∷_ 104 (List._∷_ 101 (List._∷_ 97 (List._∷_ 100 (List._∷_ 105 (List._∷_ 110 (List._∷_ 103 (List._∷_ 58 (List._∷_ 58 (List._∷_ 87 (List._∷_ 111 (List._∷_ 114 (List._∷_ 100 List.[])))))))))))))))))) (Syntax.ttcons Syntax.tnil (Syntax.ttcons Syntax.tnil (Syntax.ttcons Syntax.tnil (Syntax.ttcons Syntax.tnil Syntax.ttnil))))) (Syntax.tcons (Syntax.tyInt Syntax.w8) Syntax.tnil)) (Syntax.ttcons (Syntax.tcons (Syntax.tyEnum (List._∷_ 116 (List._∷_ 101 (List._∷_ 120 (List._∷_ 116 (List._∷_ 95 (List._∷_ 104 (List._∷_ 101 (List._∷_ 97 (List._∷_ 100 (List._∷_ 105 (List._∷_ 110 (List._∷_ 103 (List._∷_ 58 (List._∷_ 58 (List._∷_ 87 (List._∷_ 111 (List._∷_ 114 (List._∷_ 100 List.[])))))))))))))))))) (Syntax.ttcons Syntax.tnil (Syntax.ttcons Syntax.tnil (Syntax.ttcons Syntax.tnil (Syntax.ttcons Syntax.tnil Syntax.ttnil))))) Syntax.tnil) (Syntax.ttcons (Syntax.tcons (Syntax.tyEnum (List._∷_ 116 (List._∷_ 101 (List._∷_ 120 (List._∷_ 116 (List._∷_ 95 (List._∷_ 104 (List._∷_ 101 (List._∷_ 97 (List._∷_ 100 (List._∷_ 105 (List._∷_ 110 (List._∷_ 103 (List._∷_ 58 (List._∷_ 58 (List._∷_ 87 (List._∷_ 111 (List._∷_ 114 (List._∷_ 100 List.[])))))))))))))))))) (Syntax.ttcons Syntax.tnil (Syntax.ttcons Syntax.tnil (Syntax.ttcons Syntax.tnil (Syntax.ttcons Syntax.tnil Syntax.ttnil))))) Syntax.tnil) (Syntax.ttcons Syntax.tnil (Syntax.ttcons (Syntax.tcons (Syntax.tyEnum (List._∷_ 116 (List._∷_ 101 (List._∷_ 120 (List._∷_ 116 (List._∷_ 95 (List._∷_ 104 (List._∷_ 101 (List._∷_ 97 (List._∷_ 100 (List._∷_ 105 (List._∷_ 110 (List._∷_ 103 (List._∷_ 58 (List._∷_ 58 (List._∷_ 72 (List._∷_ 101 (List._∷_ 97 (List._∷_ 100 (List._∷_ 105 (List._∷_ 110 (List._∷_ 103 (List._∷_ 70 (List._∷_ 97 (List._∷_ 117 (List._∷_ 108 (List._∷_ 116 List.[])))))))))))))))))))))))))) (Syntax.ttcons Syntax.tnil (Syntax.ttcons Syntax.tnil (Syntax.ttcons Syntax.tnil (Syntax.ttcons (Syntax.tcons (Syntax.tyEnum (List._∷_ 116 (List._∷_ 101 (List._∷_ 120 (List._∷_ 116 (List._∷_ 95 (List._∷_ 104 (List._∷_ 101 (List._∷_ 97 (List._∷_ 100 (List._∷_ 105 (List._∷_ 110 (List._∷_ 103 (List._∷_ 58 (List._∷_ 58 (List._∷_ 87 (List._∷_ 111 (List._∷_ 114 (List._∷_ 100 List.[])))))))))))))))))) (Syntax.ttcons Syntax.tnil (Syntax.ttcons Syntax.tnil (Syntax.ttcons Syntax.tnil (Syntax.ttcons Syntax.tnil Syntax.ttnil))))) Syntax.tnil) Syntax.ttnil))))) Syntax.tnil) Syntax.ttnil)))))) Syntax.tnil)))) Syntax.tnil) (Syntax.ttcons Syntax.tnil (Syntax.ttcons (Syntax.tcons (Syntax.tyInt Syntax.w8) Syntax.tnil) (Syntax.ttcons Syntax.tnil (Syntax.ttcons (Syntax.tcons (Syntax.tyEnum (List._∷_ 116 (List._∷_ 101 (List._∷_ 120 (List._∷_ 116 (List._∷_ 95 (List._∷_ 114 (List._∷_ 101 (List._∷_ 97 (List._∷_ 100 (List._∷_ 105 (List._∷_ 110 (List._∷_ 103 (List._∷_ 58 (List._∷_ 58 (List._∷_ 70 (List._∷_ 97 (List._∷_ 117 (List._∷_ 108 (List._∷_ 116 List.[]))))))))))))))))))) (Syntax.ttcons (Syntax.tcons (Syntax.tyEnum (List._∷_ 116 (List._∷_ 101 (List._∷_ 120 (List._∷_ 116 (List._∷_ 95 (List._∷_ 104 (List._∷_ 101 (List._∷_ 97 (List._∷_ 100 (List._∷_ 105 (List._∷_ 110 (List._∷_ 103 (List._∷_ 58 (List._∷_ 58 (List._∷_ 72 (List._∷_ 101 (List._∷_ 97 (List._∷_ 100 (List._∷_ 105 (List._∷_ 110 (List._∷_ 103 (List._∷_ 70 (List._∷_ 97 (List._∷_ 117 (List._∷_ 108 (List._∷_ 116 List.[])))))))))))))))))))))))))) (Syntax.ttcons Syntax.tnil (Syntax.ttcons Syntax.tnil (Syntax.ttcons Syntax.tnil (Syntax.ttcons (Syntax.tcons (Syntax.tyEnum (List._∷_ 116 (List._∷_ 101 (List._∷_ 120 (List._∷_ 116 (List._∷_ 95 (List._∷_ 104 (List._∷_ 101 (List._∷_ 97 (List._∷_ 100 (List._∷_ 105 (List._∷_ 110 (List._∷_ 103 (List._∷_ 58 (List._∷_ 58 (List._∷_ 87 (List._∷_ 111 (List._∷_ 114 (List._∷_ 100 List.[])))))))))))))))))) (Syntax.ttcons Syntax.tnil (Syntax.ttcons Syntax.tnil (Syntax.ttcons Syntax.tnil (Syntax.ttcons Syntax.tnil Syntax.ttnil))))) Syntax.tnil) Syntax.ttnil))))) Syntax.tnil) (Syntax.ttcons Syntax.tnil (Syntax.ttcons Syntax.tnil Syntax.ttnil)))) Syntax.tnil) Syntax.ttnil)))))))) (Syntax.tcons (Syntax.tyArray (Syntax.tyInt Syntax.w8) 32) (Syntax.tcons (Syntax.tyInt Syntax.w64) Syntax.tnil))))))) (List._∷_ (9, Rows.any-gone (Syntax.tyInt Syntax.w64)) (List._∷_ (10, Rows.any-gone (Syntax.tyRef Syntax.erased Syntax.mut OfOutput.named)) (List._∷_ (11, Mut.mslice (OfOutput.row) (Syntax.tyRef Syntax.erased Syntax.mut OfOutput.named) 5) (List._∷_ (12, Rows.any-gone (Syntax.tyRef Syntax.erased Syntax.mut OfStation.named)) (List._∷_ (13, Mut.mslice (OfStation.row) (Syntax.tyRef Syntax.erased Syntax.mut OfStation.named) 6) (List._∷_ (14, Rows.mref (OfPanelRecord.row) (Syntax.tyRef Syntax.erased Syntax.mut OfPanelRecord.named) 7) (List._∷_ (15, Rows.any-gone (Syntax.tyRef Syntax.erased Syntax.mut (Syntax.tyInt Syntax.w8))) List.[])))))))))))))))
+        g12 = List._∷_ (0, Rows.any-gone Syntax.tyUnit) (List._∷_ (1, Relend.mslice-owed (OfOutput.row) (Syntax.tyRef (Syntax.named 0) Syntax.mut OfOutput.named) 0 5 (Row.lease (κs .0) (qs .0))) (List._∷_ (2, Relend.mslice-owed (OfStation.row) (Syntax.tyRef (Syntax.named 1) Syntax.mut OfStation.named) 1 6 (Row.lease (κs .1 .0) (qs .1 .0))) (List._∷_ (3, Rows.mref-owed (OfPanelRecord.row) (Syntax.tyRef (Syntax.named 2) Syntax.mut OfPanelRecord.named) 2 7 (Row.lease (κs .1 .1 .0) (qs .1 .1 .0))) (List._∷_ (4, Relend.mslice-owed (Referent.rtF (Referent.fInt Syntax.w8)) (Syntax.tyRef (Syntax.named 3) Syntax.mut (Syntax.tyInt Syntax.w8)) 3 8 (Row.lease (κs .1 .1 .1 .0) (qs .1 .1 .1 .0))) (List._∷_ (5, Relend.mslice-owed (Referent.rtF (Referent.fInt Syntax.w8)) (Syntax.tyRef (Syntax.named 4) Syntax.mut (Syntax.tyInt Syntax.w8)) 4 9 (Row.lease (κs .1 .1 .1 .1 .0) (qs .1 .1 .1 .1 .0))) (List._∷_ (6, Rows.sc-here Row.sBool) (List._∷_ (7, Rows.any-gone (Laws.mir)) (List._∷_ (8, Rows.any-gone (Syntax.tyStruct (List._∷_ 116 (List._∷_ 101 (List._∷_ 120 (List._∷_ 116 (List._∷_ 95 (List._∷_ 114 (List._∷_ 101 (List._∷_ 97 (List._∷_ 100 (List._∷_ 105 (List._∷_ 110 (List._∷_ 103 (List._∷_ 58 (List._∷_ 58 (List._∷_ 82 (List._∷_ 101 (List._∷_ 97 (List._∷_ 100 (List._∷_ 101 (List._∷_ 114 List.[])))))))))))))))))))) (Syntax.tcons Syntax.tyBool (Syntax.tcons (Syntax.tyInt Syntax.w64) (Syntax.tcons (Syntax.tyEnum (List._∷_ 116 (List._∷_ 101 (List._∷_ 120 (List._∷_ 116 (List._∷_ 95 (List._∷_ 114 (List._∷_ 101 (List._∷_ 97 (List._∷_ 100 (List._∷_ 105 (List._∷_ 110 (List._∷_ 103 (List._∷_ 58 (List._∷_ 58 (List._∷_ 72 (List._∷_ 101 (List._∷_ 108 (List._∷_ 100 List.[])))))))))))))))))) (Syntax.ttcons Syntax.tnil (Syntax.ttcons Syntax.tnil (Syntax.ttcons (Syntax.tcons (Syntax.tyStruct (List._∷_ 116 (List._∷_ 101 (List._∷_ 120 (List._∷_ 116 (List._∷_ 95 (List._∷_ 104 (List._∷_ 101 (List._∷_ 97 (List._∷_ 100 (List._∷_ 105 (List._∷_ 110 (List._∷_ 103 (List._∷_ 58 (List._∷_ 58 (List._∷_ 72 (List._∷_ 101 (List._∷_ 97 (List._∷_ 100 (List._∷_ 105 (List._∷_ 110 (List._∷_ 103 List.[]))))))))))))))))))))) (Syntax.tcons (Syntax.tyStruct (List._∷_ 116 (List._∷_ 101 (List._∷_ 120 (List._∷_ 116 (List._∷_ 95 (List._∷_ 104 (List._∷_ 101 (List._∷_ 97 (List._∷_ 100 (List._∷_ 105 (List._∷_ 110 (List._∷_ 103 (List._∷_ 58 (List._∷_ 58 (List._∷_ 78 (List._∷_ 97 (List._∷_ 109 (List._∷_ 101 (List._∷_ 100 List.[]))))))))))))))))))) (Syntax.tcons (IsParameters.mir) (Syntax.tcons (Syntax.tyInt Syntax.w32) Syntax.tnil))) (Syntax.tcons (Syntax.tyStruct (List._∷_ 116 (List._∷_ 101 (List._∷_ 120 (List._∷_ 116 (List._∷_ 95 (List._∷_ 104 (List._∷_ 101 (List._∷_ 97 (List._∷_ 100 (List._∷_ 105 (List._∷_ 110 (List._∷_ 103 (List._∷_ 58 (List._∷_ 58 (List._∷_ 67 (List._∷_ 97 (List._∷_ 109 (List._∷_ 101 List.[])))))))))))))))))) (Syntax.tcons Syntax.tyBool (Syntax.tcons Syntax.tyBool (Syntax.tcons Syntax.tyBool (Syntax.tcons Syntax.tyBool Syntax.tnil))))) (Syntax.tcons (Syntax.tyEnum (List._∷_ 116 (List._∷_ 101 (List._∷_ 120 (List._∷_ 116 (List._∷_ 95 (List._∷_ 104 (List._∷_ 101 (List._∷_ 97 (List._∷_ 100 (List._∷_ 105 (List._∷_ 110 (List._∷_ 103 (List._∷_ 58 (List._∷_ 58 (List._∷_ 80 (List._∷_ 108 (List._∷_ 97 (List._∷_ 99 (List._∷_ 101 List.[]))))))))))))))))))) (Syntax.ttcons (Syntax.tcons (Syntax.tyEnum (List._∷_ 116 (List._∷_ 101 (List._∷_ 120 (List._∷_ 116 (List._∷_ 95 (List._∷_ 104 (List._∷_ 101 (List._∷_ 97 (List._∷_ 100 (List._∷_ 105 (List._∷_ 110 (List._∷_ 103 (List._∷_ 58 (List._∷_ 58 (List._∷_ 87 (List._∷_ 111 (List._∷_ 114 (List._∷_ 100 List.[])))))))))))))))))) (Syntax.ttcons Syntax.tnil (Syntax.ttcons Syntax.tnil (Syntax.ttcons Syntax.tnil (Syntax.ttcons Syntax.tnil (Syntax.ttcons Syntax.tnil Syntax.ttnil)))))) (Syntax.tcons (Syntax.tyInt Syntax.w8) Syntax.tnil)) (Syntax.ttcons (Syntax.tcons (Syntax.tyEnum (List._∷_ 116 (List._∷_ 101 (List._∷_ 120 (List._∷_ 116 (List._∷_ 95 (List._∷_ 104 (List._∷_ 101 (List._∷_ 97 (List._∷_ 100 (List._∷_ 105 (List._∷_ 110 (List._∷_ 103 (List._∷_ 58 (List._∷_ 58 (List._∷_ 87 (List._∷_ 111 (List._∷_ 114 (List._∷_ 100 List.[])))))))))))))))))) (Syntax.ttcons Syntax.tnil (Syntax.ttcons Syntax.tnil (Syntax.ttcons Syntax.tnil (Syntax.ttcons Syntax.tnil (Syntax.ttcons Syntax.tnil Syntax.ttnil)))))) Syntax.tnil) (Syntax.ttcons (Syntax.tcons (Syntax.tyEnum (List._∷_ 116 (List._∷_ 101 (List._∷_ 120 (List._∷_ 116 (List._∷_ 95 (List._∷_ 104 (List._∷_ 101 (List._∷_ 97 (List._∷_ 100 (List._∷_ 105 (List._∷_ 110 (List._∷_ 103 (List._∷_ 58 (List._∷_ 58 (List._∷_ 87 (List._∷_ 111 (List._∷_ 114 (List._∷_ 100 List.[])))))))))))))))))) (Syntax.ttcons Syntax.tnil (Syntax.ttcons Syntax.tnil (Syntax.ttcons Syntax.tnil (Syntax.ttcons Syntax.tnil (Syntax.ttcons Syntax.tnil Syntax.ttnil)))))) (Syntax.tcons (Syntax.tyInt Syntax.w8) Syntax.tnil)) (Syntax.ttcons Syntax.tnil (Syntax.ttcons (Syntax.tcons (Syntax.tyEnum (List._∷_ 116 (List._∷_ 101 (List._∷_ 120 (List._∷_ 116 (List._∷_ 95 (List._∷_ 104 (List._∷_ 101 (List._∷_ 97 (List._∷_ 100 (List._∷_ 105 (List._∷_ 110 (List._∷_ 103 (List._∷_ 58 (List._∷_ 58 (List._∷_ 72 (List._∷_ 101 (List._∷_ 97 (List._∷_ 100 (List._∷_ 105 (List._∷_ 110 (List._∷_ 103 (List._∷_ 70 (List._∷_ 97 (List._∷_ 117 (List._∷_ 108 (List._∷_ 116 List.[])))))))))))))))))))))))))) (Syntax.ttcons Syntax.tnil (Syntax.ttcons Syntax.tnil (Syntax.ttcons Syntax.tnil (Syntax.ttcons Syntax.tnil (Syntax.ttcons (Syntax.tcons (Syntax.tyEnum (List._∷_ 116 (List._∷_ 101 (List._∷_ 120 (List._∷_ 116 (List._∷_ 95 (List._∷_ 104 (List._∷_ 101 (List._∷_ 97 (List._∷_ 100 (List._∷_ 105 (List._∷_ 110 (List._∷_ 103 (List._∷_ 58 (List._∷_ 58 (List._∷_ 87 (List._∷_ 111 (List._∷_ 114 (List._∷_ 100 List.[])))))))))))))))))) (Syntax.ttcons Syntax.tnil (Syntax.ttcons Syntax.tnil (Syntax.ttcons Syntax.tnil (Syntax.ttcons Syntax.tnil (Syntax.ttcons Syntax.tnil Syntax.ttnil)))))) Syntax.tnil) Syntax.ttnil)))))) Syntax.tnil) Syntax.ttnil)))))) Syntax.tnil)))) Syntax.tnil) (Syntax.ttcons Syntax.tnil (Syntax.ttcons (Syntax.tcons (Syntax.tyInt Syntax.w8) Syntax.tnil) (Syntax.ttcons Syntax.tnil (Syntax.ttcons (Syntax.tcons (Syntax.tyEnum (List._∷_ 116 (List._∷_ 101 (List._∷_ 120 (List._∷_ 116 (List._∷_ 95 (List._∷_ 114 (List._∷_ 101 (List._∷_ 97 (List._∷_ 100 (List._∷_ 105 (List._∷_ 110 (List._∷_ 103 (List._∷_ 58 (List._∷_ 58 (List._∷_ 70 (List._∷_ 97 (List._∷_ 117 (List._∷_ 108 (List._∷_ 116 List.[]))))))))))))))))))) (Syntax.ttcons (Syntax.tcons (Syntax.tyEnum (List._∷_ 116 (List._∷_ 101 (List._∷_ 120 (List._∷_ 116 (List._∷_ 95 (List._∷_ 104 (List._∷_ 101 (List._∷_ 97 (List._∷_ 100 (List._∷_ 105 (List._∷_ 110 (List._∷_ 103 (List._∷_ 58 (List._∷_ 58 (List._∷_ 72 (List._∷_ 101 (List._∷_ 97 (List._∷_ 100 (List._∷_ 105 (List._∷_ 110 (List._∷_ 103 (List._∷_ 70 (List._∷_ 97 (List._∷_ 117 (List._∷_ 108 (List._∷_ 116 List.[])))))))))))))))))))))))))) (Syntax.ttcons Syntax.tnil (Syntax.ttcons Syntax.tnil (Syntax.ttcons Syntax.tnil (Syntax.ttcons Syntax.tnil (Syntax.ttcons (Syntax.tcons (Syntax.tyEnum (List._∷_ 116 (List._∷_ 101 (List._∷_ 120 (List._∷_ 116 (List._∷_ 95 (List._∷_ 104 (List._∷_ 101 (List._∷_ 97 (List._∷_ 100 (List._∷_ 105 (List._∷_ 110 (List._∷_ 103 (List._∷_ 58 (List._∷_ 58 (List._∷_ 87 (List._∷_ 111 (List._∷_ 114 (List._∷_ 100 List.[])))))))))))))))))) (Syntax.ttcons Syntax.tnil (Syntax.ttcons Syntax.tnil (Syntax.ttcons Syntax.tnil (Syntax.ttcons Syntax.tnil (Syntax.ttcons Syntax.tnil Syntax.ttnil)))))) Syntax.tnil) Syntax.ttnil)))))) Syntax.tnil) (Syntax.ttcons Syntax.tnil (Syntax.ttcons Syntax.tnil Syntax.ttnil)))) Syntax.tnil) Syntax.ttnil)))))))) (Syntax.tcons (Syntax.tyArray (Syntax.tyInt Syntax.w8) 32) (Syntax.tcons (Syntax.tyInt Syntax.w64) Syntax.tnil))))))) (List._∷_ (9, Rows.any-gone (Syntax.tyInt Syntax.w64)) (List._∷_ (10, Rows.any-gone (Syntax.tyRef Syntax.erased Syntax.mut OfOutput.named)) (List._∷_ (11, Mut.mslice (OfOutput.row) (Syntax.tyRef Syntax.erased Syntax.mut OfOutput.named) 5) (List._∷_ (12, Rows.any-gone (Syntax.tyRef Syntax.erased Syntax.mut OfStation.named)) (List._∷_ (13, Mut.mslice (OfStation.row) (Syntax.tyRef Syntax.erased Syntax.mut OfStation.named) 6) (List._∷_ (14, Rows.mref (OfPanelRecord.row) (Syntax.tyRef Syntax.erased Syntax.mut OfPanelRecord.named) 7) (List._∷_ (15, Rows.any-gone (Syntax.tyRef Syntax.erased Syntax.mut (Syntax.tyInt Syntax.w8))) List.[])))))))))))))))
 
         abbrev g15 : List.List Row.Entry
-        g15 = List._∷_ (0, Rows.any-gone Syntax.tyUnit) (List._∷_ (1, Relend.mslice-owed (OfOutput.row) (Syntax.tyRef (Syntax.named 0) Syntax.mut OfOutput.named) 0 5 (Row.lease (κs .0) (qs .0))) (List._∷_ (2, Relend.mslice-owed (OfStation.row) (Syntax.tyRef (Syntax.named 1) Syntax.mut OfStation.named) 1 6 (Row.lease (κs .1 .0) (qs .1 .0))) (List._∷_ (3, Rows.mref-owed (OfPanelRecord.row) (Syntax.tyRef (Syntax.named 2) Syntax.mut OfPanelRecord.named) 2 7 (Row.lease (κs .1 .1 .0) (qs .1 .1 .0))) (List._∷_ (4, Relend.mslice-owed (Referent.rtF (Referent.fInt Syntax.w8)) (Syntax.tyRef (Syntax.named 3) Syntax.mut (Syntax.tyInt Syntax.w8)) 3 8 (Row.lease (κs .1 .1 .1 .0) (qs .1 .1 .1 .0))) (List._∷_ (5, Relend.mslice-owed (Referent.rtF (Referent.fInt Syntax.w8)) (Syntax.tyRef (Syntax.named 4) Syntax.mut (Syntax.tyInt Syntax.w8)) 4 9 (Row.lease (κs .1 .1 .1 .1 .0) (qs .1 .1 .1 .1 .0))) (List._∷_ (6, Rows.sc-here Row.sBool) (List._∷_ (7, Rows.whole (Declared.row Turn.the-type)) (List._∷_ (8, Rows.any-gone (Syntax.tyStruct (List._∷_ 116 (List._∷_ 101 (List._∷_ 120 (List._∷_ 116 (List._∷_ 95 (List._∷_ 114 (List._∷_ 101 (List._∷_ 97 (List._∷_ 100 (List._∷_ 105 (List._∷_ 110 (List._∷_ 103 (List._∷_ 58 (List._∷_ 58 (List._∷_ 82 (List._∷_ 101 (List._∷_ 97 (List._∷_ 100 (List._∷_ 101 (List._∷_ 114 List.[])))))))))))))))))))) (Syntax.tcons Syntax.tyBool (Syntax.tcons (Syntax.tyInt Syntax.w64) (Syntax.tcons (Syntax.tyEnum (List._∷_ 116 (List._∷_ 101 (List._∷_ 120 (List._∷_ 116 (List._∷_ 95 (List._∷_ 114 (List._∷_ 101 (List._∷_ 97 (List._∷_ 100 (List._∷_ 105 (List._∷_ 110 (List._∷_ 103 (List._∷_ 58 (List._∷_ 58 (List._∷_ 72 (List._∷_ 101 (List._∷_ 108 (List._∷_ 100 List.[])))))))))))))))))) (Syntax.ttcons Syntax.tnil (Syntax.ttcons Syntax.tnil (Syntax.ttcons (Syntax.tcons (Syntax.tyStruct (List._∷_ 116 (List._∷_ 101 (List._∷_ 120 (List._∷_ 116 (List._∷_ 95 (List._∷_ 104 (List._∷_ 101 (List._∷_ 97 (List._∷_ 100 (List._∷_ 105 (List._∷_ 110 (List._∷_ 103 (List._∷_ 58 (List._∷_ 58 (List._∷_ 72 (List._∷_ 101 (List._∷_ 97 (List._∷_ 100 (List._∷_ 105 (List._∷_ 110 (List._∷_ 103 List.[]))))))))))))))))))))) (Syntax.tcons (IsParameters.mir) (Syntax.tcons (Syntax.tyStruct (List._∷_ 116 (List._∷_ 101 (List._∷_ 120 (List._∷_ 116 (List._∷_ 95 (List._∷_ 104 (List._∷_ 101 (List._∷_ 97 (List._∷_ 100 (List._∷_ 105 (List._∷_ 110 (List._∷_ 103 (List._∷_ 58 (List._∷_ 58 (List._∷_ 67 (List._∷_ 97 (List._∷_ 109 (List._∷_ 101 List.[])))))))))))))))))) (Syntax.tcons Syntax.tyBool (Syntax.tcons Syntax.tyBool (Syntax.tcons Syntax.tyBool Syntax.tnil)))) (Syntax.tcons (Syntax.tyEnum (List._∷_ 116 (List._∷_ 101 (List._∷_ 120 (List._∷_ 116 (List._∷_ 95 (List._∷_ 104 (List._∷_ 101 (List._∷_ 97 (List._∷_ 100 (List._∷_ 105 (List._∷_ 110 (List._∷_ 103 (List._∷_ 58 (List._∷_ 58 (List._∷_ 80 (List._∷_ 108 (List._∷_ 97 (List._∷_ 99 (List._∷_ 101 List.[]))))))))))))))))))) (Syntax.ttcons (Syntax.tcons (Syntax.tyEnum (List._∷_ 116 (List._∷_ 101 (List._∷_ 120 (List._∷_ 116 (List._∷_ 95 (List._∷_ 104 (List._∷_ 101 (List._∷_ 97 (List._∷_ 100 (List._∷_ 105 (List._∷_ 110 (List._∷_ 103 (List._∷_ 58 (List._∷_ 58 (List._∷_ 87 (List._∷_ 111 (List._∷_ 114 (List._∷_ 100 List.[])))))))))))))))))) (Syntax.ttcons Syntax.tnil (Syntax.ttcons Syntax.tnil (Syntax.ttcons Syntax.tnil (Syntax.ttcons Syntax.tnil Syntax.ttnil))))) (Syntax.tcons (Syntax.tyInt Syntax.w8) Syntax.tnil)) (Syntax.ttcons (Syntax.tcons (Syntax.tyEnum (List._∷_ 116 (List._∷_ 101 (List._∷_ 120 (List._∷_ 116 (List._∷_ 95 (List._∷_ 104 (List._∷_ 101 (List._∷_ 97 (List._∷_ 100 (List._∷_ 105 (List._∷_ 110 (List._∷_ 103 (List._∷_ 58 (List._∷_ 58 (List._∷_ 87 (List._∷_ 111 (List._∷_ 114 (List._∷_ 100 List.[])))))))))))))))))) (Syntax.ttcons Syntax.tnil (Syntax.ttcons Syntax.tnil (Syntax.ttcons Syntax.tnil (Syntax.ttcons Syntax.tnil Syntax.ttnil))))) Syntax.tnil) (Syntax.ttcons (Syntax.tcons (Syntax.tyEnum (List._∷_ 116 (List._∷_ 101 (List._∷_ 120 (List._∷_ 116 (List._∷_ 95 (List._∷_ 104 (List._∷_ 101 (List._∷_ 97 (List._∷_ 100 (List._∷_ 105 (List._∷_ 110 (List._∷_ 103 (List._∷_ 58 (List._∷_ 58 (List._∷_ 87 (List._∷_ 111 (List._∷_ 114 (List._∷_ 100 List.[])))))))))))))))))) (Syntax.ttcons Syntax.tnil (Syntax.ttcons Syntax.tnil (Syntax.ttcons Syntax.tnil (Syntax.ttcons Syntax.tnil Syntax.ttnil))))) Syntax.tnil) (Syntax.ttcons Syntax.tnil (Syntax.ttcons (Syntax.tcons (Syntax.tyEnum (List._∷_ 116 (List._∷_ 101 (List._∷_ 120 (List._∷_ 116 (List._∷_ 95 (List._∷_ 104 (List._∷_ 101 (List._∷_ 97 (List._∷_ 100 (List._∷_ 105 (List._∷_ 110 (List._∷_ 103 (List._∷_ 58 (List._∷_ 58 (List._∷_ 72 (List._∷_ 101 (List._∷_ 97 (List._∷_ 100 (List._∷_ 105 (List._∷_ 110 (List._∷_ 103 (List._∷_ 70 (List._∷_ 97 (List._∷_ 117 (List._∷_ 108 (List._∷_ 116 List.[])))))))))))))))))))))))))) (Syntax.ttcons Syntax.tnil (Syntax.ttcons Syntax.tnil (Syntax.ttcons Syntax.tnil (Syntax.ttcons (Syntax.tcons (Syntax.tyEnum (List._∷_ 116 (List._∷_ 101 (List._∷_ 120 (List._∷_ 116 (List._∷_ 95 (List._∷_ 104 (List._∷_ 101 (List._∷_ 97 (List._∷_ 100 (List._∷_ 105 (List._∷_ 110 (List._∷_ 103 (List._∷_ 58 (List._∷_ 58 (List._∷_ 87 (List._∷_ 111 (List._∷_ 114 (List._∷_ 100 List.[])))))))))))))))))) (Syntax.ttcons Syntax.tnil (Syntax.ttcons Syntax.tnil (Syntax.ttcons Syntax.tnil (Syntax.ttcons Syntax.tnil Syntax.ttnil))))) Syntax.tnil) Syntax.ttnil))))) Syntax.tnil) Syntax.ttnil)))))) Syntax.tnil)))) Syntax.tnil) (Syntax.ttcons Syntax.tnil (Syntax.ttcons (Syntax.tcons (Syntax.tyInt Syntax.w8) Syntax.tnil) (Syntax.ttcons Syntax.tnil (Syntax.ttcons (Syntax.tcons (Syntax.tyEnum (List._∷_ 116 (List._∷_ 101 (List._∷_ 120 (List._∷_ 116 (List._∷_ 95 (List._∷_ 114 (List._∷_ 101 (List._∷_ 97 (List._∷_ 100 (List._∷_ 105 (List._∷_ 110 (List._∷_ 103 (List._∷_ 58 (List._∷_ 58 (List._∷_ 70 (List._∷_ 97 (List._∷_ 117 (List._∷_ 108 (List._∷_ 116 List.[]))))))))))))))))))) (Syntax.ttcons (Syntax.tcons (Syntax.tyEnum (List._∷_ 116 (List._∷_ 101 (List._∷_ 120 (List._∷_ 116 (List._∷_ 95 (List._∷_ 104 (List._∷_ 101 (List._∷_ 97 (List._∷_ 100 (List._∷_ 105 (List._∷_ 110 (List._∷_ 103 (List._∷_ 58 (List._∷_ 58 (List._∷_ 72 (List._∷_ 101 (List._∷_ 97 (List._∷_ 100 (List._∷_ 105 (List._∷_ 110 (List._∷_ 103 (List._∷_ 70 (List._∷_ 97 (List._∷_ 117 (List._∷_ 108 (List._∷_ 116 List.[])))))))))))))))))))))))))) (Syntax.ttcons Syntax.tnil (Syntax.ttcons Syntax.tnil (Syntax.ttcons Syntax.tnil (Syntax.ttcons (Syntax.tcons (Syntax.tyEnum (List._∷_ 116 (List._∷_ 101 (List._∷_ 120 (List._∷_ 116 (List._∷_ 95 (List._∷_ 104 (List._∷_ 101 (List._∷_ 97 (List._∷_ 100 (List._∷_ 105 (List._∷_ 110 (List._∷_ 103 (List._∷_ 58 (List._∷_ 58 (List._∷_ 87 (List._∷_ 111 (List._∷_ 114 (List._∷_ 100 List.[])))))))))))))))))) (Syntax.ttcons Syntax.tnil (Syntax.ttcons Syntax.tnil (Syntax.ttcons Syntax.tnil (Syntax.ttcons Syntax.tnil Syntax.ttnil))))) Syntax.tnil) Syntax.ttnil))))) Syntax.tnil) (Syntax.ttcons Syntax.tnil (Syntax.ttcons Syntax.tnil Syntax.ttnil)))) Syntax.tnil) Syntax.ttnil)))))))) (Syntax.tcons (Syntax.tyArray (Syntax.tyInt Syntax.w8) 32) (Syntax.tcons (Syntax.tyInt Syntax.w64) Syntax.tnil))))))) (List._∷_ (9, Rows.any-gone (Syntax.tyInt Syntax.w64)) (List._∷_ (10, Rows.any-gone (Syntax.tyRef Syntax.erased Syntax.mut OfOutput.named)) (List._∷_ (11, Mut.msleft (OfOutput.row) (Syntax.tyRef Syntax.erased Syntax.mut OfOutput.named)) (List._∷_ (12, Rows.any-gone (Syntax.tyRef Syntax.erased Syntax.mut OfStation.named)) (List._∷_ (13, Mut.msleft (OfStation.row) (Syntax.tyRef Syntax.erased Syntax.mut OfStation.named)) (List._∷_ (14, Rows.mleft (OfPanelRecord.row) (Syntax.tyRef Syntax.erased Syntax.mut OfPanelRecord.named)) (List._∷_ (15, Rows.any-gone (Syntax.tyRef Syntax.erased Syntax.mut (Syntax.tyInt Syntax.w8))) List.[])))))))))))))))
+        g15 = List._∷_ (0, Rows.any-gone Syntax.tyUnit) (List._∷_ (1, Relend.mslice-owed (OfOutput.row) (Syntax.tyRef (Syntax.named 0) Syntax.mut OfOutput.named) 0 5 (Row.lease (κs .0) (qs .0))) (List._∷_ (2, Relend.mslice-owed (OfStation.row) (Syntax.tyRef (Syntax.named 1) Syntax.mut OfStation.named) 1 6 (Row.lease (κs .1 .0) (qs .1 .0))) (List._∷_ (3, Rows.mref-owed (OfPanelRecord.row) (Syntax.tyRef (Syntax.named 2) Syntax.mut OfPanelRecord.named) 2 7 (Row.lease (κs .1 .1 .0) (qs .1 .1 .0))) (List._∷_ (4, Relend.mslice-owed (Referent.rtF (Referent.fInt Syntax.w8)) (Syntax.tyRef (Syntax.named 3) Syntax.mut (Syntax.tyInt Syntax.w8)) 3 8 (Row.lease (κs .1 .1 .1 .0) (qs .1 .1 .1 .0))) (List._∷_ (5, Relend.mslice-owed (Referent.rtF (Referent.fInt Syntax.w8)) (Syntax.tyRef (Syntax.named 4) Syntax.mut (Syntax.tyInt Syntax.w8)) 4 9 (Row.lease (κs .1 .1 .1 .1 .0) (qs .1 .1 .1 .1 .0))) (List._∷_ (6, Rows.sc-here Row.sBool) (List._∷_ (7, Rows.whole (Declared.row Turn.the-type)) (List._∷_ (8, Rows.any-gone (Syntax.tyStruct (List._∷_ 116 (List._∷_ 101 (List._∷_ 120 (List._∷_ 116 (List._∷_ 95 (List._∷_ 114 (List._∷_ 101 (List._∷_ 97 (List._∷_ 100 (List._∷_ 105 (List._∷_ 110 (List._∷_ 103 (List._∷_ 58 (List._∷_ 58 (List._∷_ 82 (List._∷_ 101 (List._∷_ 97 (List._∷_ 100 (List._∷_ 101 (List._∷_ 114 List.[])))))))))))))))))))) (Syntax.tcons Syntax.tyBool (Syntax.tcons (Syntax.tyInt Syntax.w64) (Syntax.tcons (Syntax.tyEnum (List._∷_ 116 (List._∷_ 101 (List._∷_ 120 (List._∷_ 116 (List._∷_ 95 (List._∷_ 114 (List._∷_ 101 (List._∷_ 97 (List._∷_ 100 (List._∷_ 105 (List._∷_ 110 (List._∷_ 103 (List._∷_ 58 (List._∷_ 58 (List._∷_ 72 (List._∷_ 101 (List._∷_ 108 (List._∷_ 100 List.[])))))))))))))))))) (Syntax.ttcons Syntax.tnil (Syntax.ttcons Syntax.tnil (Syntax.ttcons (Syntax.tcons (Syntax.tyStruct (List._∷_ 116 (List._∷_ 101 (List._∷_ 120 (List._∷_ 116 (List._∷_ 95 (List._∷_ 104 (List._∷_ 101 (List._∷_ 97 (List._∷_ 100 (List._∷_ 105 (List._∷_ 110 (List._∷_ 103 (List._∷_ 58 (List._∷_ 58 (List._∷_ 72 (List._∷_ 101 (List._∷_ 97 (List._∷_ 100 (List._∷_ 105 (List._∷_ 110 (List._∷_ 103 List.[]))))))))))))))))))))) (Syntax.tcons (Syntax.tyStruct (List._∷_ 116 (List._∷_ 101 (List._∷_ 120 (List._∷_ 116 (List._∷_ 95 (List._∷_ 104 (List._∷_ 101 (List._∷_ 97 (List._∷_ 100 (List._∷_ 105 (List._∷_ 110 (List._∷_ 103 (List._∷_ 58 (List._∷_ 58 (List._∷_ 78 (List._∷_ 97 (List._∷_ 109 (List._∷_ 101 (List._∷_ 100 List.[]))))))))))))))))))) (Syntax.tcons (IsParameters.mir) (Syntax.tcons (Syntax.tyInt Syntax.w32) Syntax.tnil))) (Syntax.tcons (Syntax.tyStruct (List._∷_ 116 (List._∷_ 101 (List._∷_ 120 (List._∷_ 116 (List._∷_ 95 (List._∷_ 104 (List._∷_ 101 (List._∷_ 97 (List._∷_ 100 (List._∷_ 105 (List._∷_ 110 (List._∷_ 103 (List._∷_ 58 (List._∷_ 58 (List._∷_ 67 (List._∷_ 97 (List._∷_ 109 (List._∷_ 101 List.[])))))))))))))))))) (Syntax.tcons Syntax.tyBool (Syntax.tcons Syntax.tyBool (Syntax.tcons Syntax.tyBool (Syntax.tcons Syntax.tyBool Syntax.tnil))))) (Syntax.tcons (Syntax.tyEnum (List._∷_ 116 (List._∷_ 101 (List._∷_ 120 (List._∷_ 116 (List._∷_ 95 (List._∷_ 104 (List._∷_ 101 (List._∷_ 97 (List._∷_ 100 (List._∷_ 105 (List._∷_ 110 (List._∷_ 103 (List._∷_ 58 (List._∷_ 58 (List._∷_ 80 (List._∷_ 108 (List._∷_ 97 (List._∷_ 99 (List._∷_ 101 List.[]))))))))))))))))))) (Syntax.ttcons (Syntax.tcons (Syntax.tyEnum (List._∷_ 116 (List._∷_ 101 (List._∷_ 120 (List._∷_ 116 (List._∷_ 95 (List._∷_ 104 (List._∷_ 101 (List._∷_ 97 (List._∷_ 100 (List._∷_ 105 (List._∷_ 110 (List._∷_ 103 (List._∷_ 58 (List._∷_ 58 (List._∷_ 87 (List._∷_ 111 (List._∷_ 114 (List._∷_ 100 List.[])))))))))))))))))) (Syntax.ttcons Syntax.tnil (Syntax.ttcons Syntax.tnil (Syntax.ttcons Syntax.tnil (Syntax.ttcons Syntax.tnil (Syntax.ttcons Syntax.tnil Syntax.ttnil)))))) (Syntax.tcons (Syntax.tyInt Syntax.w8) Syntax.tnil)) (Syntax.ttcons (Syntax.tcons (Syntax.tyEnum (List._∷_ 116 (List._∷_ 101 (List._∷_ 120 (List._∷_ 116 (List._∷_ 95 (List._∷_ 104 (List._∷_ 101 (List._∷_ 97 (List._∷_ 100 (List._∷_ 105 (List._∷_ 110 (List._∷_ 103 (List._∷_ 58 (List._∷_ 58 (List._∷_ 87 (List._∷_ 111 (List._∷_ 114 (List._∷_ 100 List.[])))))))))))))))))) (Syntax.ttcons Syntax.tnil (Syntax.ttcons Syntax.tnil (Syntax.ttcons Syntax.tnil (Syntax.ttcons Syntax.tnil (Syntax.ttcons Syntax.tnil Syntax.ttnil)))))) Syntax.tnil) (Syntax.ttcons (Syntax.tcons (Syntax.tyEnum (List._∷_ 116 (List._∷_ 101 (List._∷_ 120 (List._∷_ 116 (List._∷_ 95 (List._∷_ 104 (List._∷_ 101 (List._∷_ 97 (List._∷_ 100 (List._∷_ 105 (List._∷_ 110 (List._∷_ 103 (List._∷_ 58 (List._∷_ 58 (List._∷_ 87 (List._∷_ 111 (List._∷_ 114 (List._∷_ 100 List.[])))))))))))))))))) (Syntax.ttcons Syntax.tnil (Syntax.ttcons Syntax.tnil (Syntax.ttcons Syntax.tnil (Syntax.ttcons Syntax.tnil (Syntax.ttcons Syntax.tnil Syntax.ttnil)))))) (Syntax.tcons (Syntax.tyInt Syntax.w8) Syntax.tnil)) (Syntax.ttcons Syntax.tnil (Syntax.ttcons (Syntax.tcons (Syntax.tyEnum (List._∷_ 116 (List._∷_ 101 (List._∷_ 120 (List._∷_ 116 (List._∷_ 95 (List._∷_ 104 (List._∷_ 101 (List._∷_ 97 (List._∷_ 100 (List._∷_ 105 (List._∷_ 110 (List._∷_ 103 (List._∷_ 58 (List._∷_ 58 (List._∷_ 72 (List._∷_ 101 (List._∷_ 97 (List._∷_ 100 (List._∷_ 105 (List._∷_ 110 (List._∷_ 103 (List._∷_ 70 (List._∷_ 97 (List._∷_ 117 (List._∷_ 108 (List._∷_ 116 List.[])))))))))))))))))))))))))) (Syntax.ttcons Syntax.tnil (Syntax.ttcons Syntax.tnil (Syntax.ttcons Syntax.tnil (Syntax.ttcons Syntax.tnil (Syntax.ttcons (Syntax.tcons (Syntax.tyEnum (List._∷_ 116 (List._∷_ 101 (List._∷_ 120 (List._∷_ 116 (List._∷_ 95 (List._∷_ 104 (List._∷_ 101 (List._∷_ 97 (List._∷_ 100 (List._∷_ 105 (List._∷_ 110 (List._∷_ 103 (List._∷_ 58 (List._∷_ 58 (List._∷_ 87 (List._∷_ 111 (List._∷_ 114 (List._∷_ 100 List.[])))))))))))))))))) (Syntax.ttcons Syntax.tnil (Syntax.ttcons Syntax.tnil (Syntax.ttcons Syntax.tnil (Syntax.ttcons Syntax.tnil (Syntax.ttcons Syntax.tnil Syntax.ttnil)))))) Syntax.tnil) Syntax.ttnil)))))) Syntax.tnil) Syntax.ttnil)))))) Syntax.tnil)))) Syntax.tnil) (Syntax.ttcons Syntax.tnil (Syntax.ttcons (Syntax.tcons (Syntax.tyInt Syntax.w8) Syntax.tnil) (Syntax.ttcons Syntax.tnil (Syntax.ttcons (Syntax.tcons (Syntax.tyEnum (List._∷_ 116 (List._∷_ 101 (List._∷_ 120 (List._∷_ 116 (List._∷_ 95 (List._∷_ 114 (List._∷_ 101 (List._∷_ 97 (List._∷_ 100 (List._∷_ 105 (List._∷_ 110 (List._∷_ 103 (List._∷_ 58 (List._∷_ 58 (List._∷_ 70 (List._∷_ 97 (List._∷_ 117 (List._∷_ 108 (List._∷_ 116 List.[]))))))))))))))))))) (Syntax.ttcons (Syntax.tcons (Syntax.tyEnum (List._∷_ 116 (List._∷_ 101 (List._∷_ 120 (List._∷_ 116 (List._∷_ 95 (List._∷_ 104 (List._∷_ 101 (List._∷_ 97 (List._∷_ 100 (List._∷_ 105 (List._∷_ 110 (List._∷_ 103 (List._∷_ 58 (List._∷_ 58 (List._∷_ 72 (List._∷_ 101 (List._∷_ 97 (List._∷_ 100 (List._∷_ 105 (List._∷_ 110 (List._∷_ 103 (List._∷_ 70 (List._∷_ 97 (List._∷_ 117 (List._∷_ 108 (List._∷_ 116 List.[])))))))))))))))))))))))))) (Syntax.ttcons Syntax.tnil (Syntax.ttcons Syntax.tnil (Syntax.ttcons Syntax.tnil (Syntax.ttcons Syntax.tnil (Syntax.ttcons (Syntax.tcons (Syntax.tyEnum (List._∷_ 116 (List._∷_ 101 (List._∷_ 120 (List._∷_ 116 (List._∷_ 95 (List._∷_ 104 (List._∷_ 101 (List._∷_ 97 (List._∷_ 100 (List._∷_ 105 (List._∷_ 110 (List._∷_ 103 (List._∷_ 58 (List._∷_ 58 (List._∷_ 87 (List._∷_ 111 (List._∷_ 114 (List._∷_ 100 List.[])))))))))))))))))) (Syntax.ttcons Syntax.tnil (Syntax.ttcons Syntax.tnil (Syntax.ttcons Syntax.tnil (Syntax.ttcons Syntax.tnil (Syntax.ttcons Syntax.tnil Syntax.ttnil)))))) Syntax.tnil) Syntax.ttnil)))))) Syntax.tnil) (Syntax.ttcons Syntax.tnil (Syntax.ttcons Syntax.tnil Syntax.ttnil)))) Syntax.tnil) Syntax.ttnil)))))))) (Syntax.tcons (Syntax.tyArray (Syntax.tyInt Syntax.w8) 32) (Syntax.tcons (Syntax.tyInt Syntax.w64) Syntax.tnil))))))) (List._∷_ (9, Rows.any-gone (Syntax.tyInt Syntax.w64)) (List._∷_ (10, Rows.any-gone (Syntax.tyRef Syntax.erased Syntax.mut OfOutput.named)) (List._∷_ (11, Mut.msleft (OfOutput.row) (Syntax.tyRef Syntax.erased Syntax.mut OfOutput.named)) (List._∷_ (12, Rows.any-gone (Syntax.tyRef Syntax.erased Syntax.mut OfStation.named)) (List._∷_ (13, Mut.msleft (OfStation.row) (Syntax.tyRef Syntax.erased Syntax.mut OfStation.named)) (List._∷_ (14, Rows.mleft (OfPanelRecord.row) (Syntax.tyRef Syntax.erased Syntax.mut OfPanelRecord.named)) (List._∷_ (15, Rows.any-gone (Syntax.tyRef Syntax.erased Syntax.mut (Syntax.tyInt Syntax.w8))) List.[])))))))))))))))
 
         abbrev g17 : List.List Row.Entry
-        g17 = List._∷_ (0, Rows.any-gone Syntax.tyUnit) (List._∷_ (1, Mut.mslice (OfOutput.row) (Syntax.tyRef (Syntax.named 0) Syntax.mut OfOutput.named) 0) (List._∷_ (2, Relend.mslice-owed (OfStation.row) (Syntax.tyRef (Syntax.named 1) Syntax.mut OfStation.named) 1 6 (Row.lease (κs .1 .0) (qs .1 .0))) (List._∷_ (3, Rows.mref-owed (OfPanelRecord.row) (Syntax.tyRef (Syntax.named 2) Syntax.mut OfPanelRecord.named) 2 7 (Row.lease (κs .1 .1 .0) (qs .1 .1 .0))) (List._∷_ (4, Relend.mslice-owed (Referent.rtF (Referent.fInt Syntax.w8)) (Syntax.tyRef (Syntax.named 3) Syntax.mut (Syntax.tyInt Syntax.w8)) 3 8 (Row.lease (κs .1 .1 .1 .0) (qs .1 .1 .1 .0))) (List._∷_ (5, Relend.mslice-owed (Referent.rtF (Referent.fInt Syntax.w8)) (Syntax.tyRef (Syntax.named 4) Syntax.mut (Syntax.tyInt Syntax.w8)) 4 9 (Row.lease (κs .1 .1 .1 .1 .0) (qs .1 .1 .1 .1 .0))) (List._∷_ (6, Rows.sc-here Row.sBool) (List._∷_ (7, Rows.whole (Declared.row Turn.the-type)) (List._∷_ (8, Rows.any-gone (Syntax.tyStruct (List._∷_ 116 (List._∷_ 101 (List._∷_ 120 (List._∷_ 116 (List._∷_ 95 (List._∷_ 114 (List._∷_ 101 (List._∷_ 97 (List._∷_ 100 (List._∷_ 105 (List._∷_ 110 (List._∷_ 103 (List._∷_ 58 (List._∷_ 58 (List._∷_ 82 (List._∷_ 101 (List._∷_ 97 (List._∷_ 100 (List._∷_ 101 (List._∷_ 114 List.[])))))))))))))))))))) (Syntax.tcons Syntax.tyBool (Syntax.tcons (Syntax.tyInt Syntax.w64) (Syntax.tcons (Syntax.tyEnum (List._∷_ 116 (List._∷_ 101 (List._∷_ 120 (List._∷_ 116 (List._∷_ 95 (List._∷_ 114 (List._∷_ 101 (List._∷_ 97 (List._∷_ 100 (List._∷_ 105 (List._∷_ 110 (List._∷_ 103 (List._∷_ 58 (List._∷_ 58 (List._∷_ 72 (List._∷_ 101 (List._∷_ 108 (List._∷_ 100 List.[])))))))))))))))))) (Syntax.ttcons Syntax.tnil (Syntax.ttcons Syntax.tnil (Syntax.ttcons (Syntax.tcons (Syntax.tyStruct (List._∷_ 116 (List._∷_ 101 (List._∷_ 120 (List._∷_ 116 (List._∷_ 95 (List._∷_ 104 (List._∷_ 101 (List._∷_ 97 (List._∷_ 100 (List._∷_ 105 (List._∷_ 110 (List._∷_ 103 (List._∷_ 58 (List._∷_ 58 (List._∷_ 72 (List._∷_ 101 (List._∷_ 97 (List._∷_ 100 (List._∷_ 105 (List._∷_ 110 (List._∷_ 103 List.[]))))))))))))))))))))) (Syntax.tcons (IsParameters.mir) (Syntax.tcons (Syntax.tyStruct (List._∷_ 116 (List._∷_ 101 (List._∷_ 120 (List._∷_ 116 (List._∷_ 95 (List._∷_ 104 (List._∷_ 101 (List._∷_ 97 (List._∷_ 100 (List._∷_ 105 (List._∷_ 110 (List._∷_ 103 (List._∷_ 58 (List._∷_ 58 (List._∷_ 67 (List._∷_ 97 (List._∷_ 109 (List._∷_ 101 List.[])))))))))))))))))) (Syntax.tcons Syntax.tyBool (Syntax.tcons Syntax.tyBool (Syntax.tcons Syntax.tyBool Syntax.tnil)))) (Syntax.tcons (Syntax.tyEnum (List._∷_ 116 (List._∷_ 101 (List._∷_ 120 (List._∷_ 116 (List._∷_ 95 (List._∷_ 104 (List._∷_ 101 (List._∷_ 97 (List._∷_ 100 (List._∷_ 105 (List._∷_ 110 (List._∷_ 103 (List._∷_ 58 (List._∷_ 58 (List._∷_ 80 (List._∷_ 108 (List._∷_ 97 (List._∷_ 99 (List._∷_ 101 List.[]))))))))))))))))))) (Syntax.ttcons (Syntax.tcons (Syntax.tyEnum (List._∷_ 116 (List._∷_ 101 (List._∷_ 120 (List._∷_ 116 (List._∷_ 95 (List._∷_ 104 (List._∷_ 101 (List._∷_ 97 (List._∷_ 100 (List._∷_ 105 (List._∷_ 110 (List._∷_ 103 (List._∷_ 58 (List._∷_ 58 (List._∷_ 87 (List._∷_ 111 (List._∷_ 114 (List._∷_ 100 List.[])))))))))))))))))) (Syntax.ttcons Syntax.tnil (Syntax.ttcons Syntax.tnil (Syntax.ttcons Syntax.tnil (Syntax.ttcons Syntax.tnil Syntax.ttnil))))) (Syntax.tcons (Syntax.tyInt Syntax.w8) Syntax.tnil)) (Syntax.ttcons (Syntax.tcons (Syntax.tyEnum (List._∷_ 116 (List._∷_ 101 (List._∷_ 120 (List._∷_ 116 (List._∷_ 95 (List._∷_ 104 (List._∷_ 101 (List._∷_ 97 (List._∷_ 100 (List._∷_ 105 (List._∷_ 110 (List._∷_ 103 (List._∷_ 58 (List._∷_ 58 (List._∷_ 87 (List._∷_ 111 (List._∷_ 114 (List._∷_ 100 List.[])))))))))))))))))) (Syntax.ttcons Syntax.tnil (Syntax.ttcons Syntax.tnil (Syntax.ttcons Syntax.tnil (Syntax.ttcons Syntax.tnil Syntax.ttnil))))) Syntax.tnil) (Syntax.ttcons (Syntax.tcons (Syntax.tyEnum (List._∷_ 116 (List._∷_ 101 (List._∷_ 120 (List._∷_ 116 (List._∷_ 95 (List._∷_ 104 (List._∷_ 101 (List._∷_ 97 (List._∷_ 100 (List._∷_ 105 (List._∷_ 110 (List._∷_ 103 (List._∷_ 58 (List._∷_ 58 (List._∷_ 87 (List._∷_ 111 (List._∷_ 114 (List._∷_ 100 List.[])))))))))))))))))) (Syntax.ttcons Syntax.tnil (Syntax.ttcons Syntax.tnil (Syntax.ttcons Syntax.tnil (Syntax.ttcons Syntax.tnil Syntax.ttnil))))) Syntax.tnil) (Syntax.ttcons Syntax.tnil (Syntax.ttcons (Syntax.tcons (Syntax.tyEnum (List._∷_ 116 (List._∷_ 101 (List._∷_ 120 (List._∷_ 116 (List._∷_ 95 (List._∷_ 104 (List._∷_ 101 (List._∷_ 97 (List._∷_ 100 (List._∷_ 105 (List._∷_ 110 (List._∷_ 103 (List._∷_ 58 (List._∷_ 58 (List._∷_ 72 (List._∷_ 101 (List._∷_ 97 (List._∷_ 100 (List._∷_ 105 (List._∷_ 110 (List._∷_ 103 (List._∷_ 70 (List._∷_ 97 (List._∷_ 117 (List._∷_ 108 (List._∷_ 116 List.[])))))))))))))))))))))))))) (Syntax.ttcons Syntax.tnil (Syntax.ttcons Syntax.tnil (Syntax.ttcons Syntax.tnil (Syntax.ttcons (Syntax.tcons (Syntax.tyEnum (List._∷_ 116 (List._∷_ 101 (List._∷_ 120 (List._∷_ 116 (List._∷_ 95 (List._∷_ 104 (List._∷_ 101 (List._∷_ 97 (List._∷_ 100 (List._∷_ 105 (List._∷_ 110 (List._∷_ 103 (List._∷_ 58 (List._∷_ 58 (List._∷_ 87 (List._∷_ 111 (List._∷_ 114 (List._∷_ 100 List.[])))))))))))))))))) (Syntax.ttcons Syntax.tnil (Syntax.ttcons Syntax.tnil (Syntax.ttcons Syntax.tnil (Syntax.ttcons Syntax.tnil Syntax.ttnil))))) Syntax.tnil) Syntax.ttnil))))) Syntax.tnil) Syntax.ttnil)))))) Syntax.tnil)))) Syntax.tnil) (Syntax.ttcons Syntax.tnil (Syntax.ttcons (Syntax.tcons (Syntax.tyInt Syntax.w8) Syntax.tnil) (Syntax.ttcons Syntax.tnil (Syntax.ttcons (Syntax.tcons (Syntax.tyEnum (List._∷_ 116 (List._∷_ 101 (List._∷_ 120 (List._∷_ 116 (List._∷_ 95 (List._∷_ 114 (List._∷_ 101 (List._∷_ 97 (List._∷_ 100 (List._∷_ 105 (List._∷_ 110 (List._∷_ 103 (List._∷_ 58 (List._∷_ 58 (List._∷_ 70 (List._∷_ 97 (List._∷_ 117 (List._∷_ 108 (List._∷_ 116 List.[]))))))))))))))))))) (Syntax.ttcons (Syntax.tcons (Syntax.tyEnum (List._∷_ 116 (List._∷_ 101 (List._∷_ 120 (List._∷_ 116 (List._∷_ 95 (List._∷_ 104 (List._∷_ 101 (List._∷_ 97 (List._∷_ 100 (List._∷_ 105 (List._∷_ 110 (List._∷_ 103 (List._∷_ 58 (List._∷_ 58 (List._∷_ 72 (List._∷_ 101 (List._∷_ 97 (List._∷_ 100 (List._∷_ 105 (List._∷_ 110 (List._∷_ 103 (List._∷_ 70 (List._∷_ 97 (List._∷_ 117 (List._∷_ 108 (List._∷_ 116 List.[])))))))))))))))))))))))))) (Syntax.ttcons Syntax.tnil (Syntax.ttcons Syntax.tnil (Syntax.ttcons Syntax.tnil (Syntax.ttcons (Syntax.tcons (Syntax.tyEnum (List._∷_ 116 (List._∷_ 101 (List._∷_ 120 (List._∷_ 116 (List._∷_ 95 (List._∷_ 104 (List._∷_ 101 (List._∷_ 97 (List._∷_ 100 (List._∷_ 105 (List._∷_ 110 (List._∷_ 103 (List._∷_ 58 (List._∷_ 58 (List._∷_ 87 (List._∷_ 111 (List._∷_ 114 (List._∷_ 100 List.[])))))))))))))))))) (Syntax.ttcons Syntax.tnil (Syntax.ttcons Syntax.tnil (Syntax.ttcons Syntax.tnil (Syntax.ttcons Syntax.tnil Syntax.ttnil))))) Syntax.tnil) Syntax.ttnil))))) Syntax.tnil) (Syntax.ttcons Syntax.tnil (Syntax.ttcons Syntax.tnil Syntax.ttnil)))) Syntax.tnil) Syntax.ttnil)))))))) (Syntax.tcons (Syntax.tyArray (Syntax.tyInt Syntax.w8) 32) (Syntax.tcons (Syntax.tyInt Syntax.w64) Syntax.tnil))))))) (List._∷_ (9, Rows.any-gone (Syntax.tyInt Syntax.w64)) (List._∷_ (10, Rows.any-gone (Syntax.tyRef Syntax.erased Syntax.mut OfOutput.named)) (List._∷_ (11, Rows.any-gone (Syntax.tyStruct (List._∷_ 38 (List._∷_ 91 (List._∷_ 93 List.[]))) (Syntax.tcons (Syntax.tyRef Syntax.erased Syntax.mut OfOutput.named) (Syntax.tcons (Syntax.tyInt Syntax.w64) Syntax.tnil)))) (List._∷_ (12, Rows.any-gone (Syntax.tyRef Syntax.erased Syntax.mut OfStation.named)) (List._∷_ (13, Mut.msleft (OfStation.row) (Syntax.tyRef Syntax.erased Syntax.mut OfStation.named)) (List._∷_ (14, Rows.mleft (OfPanelRecord.row) (Syntax.tyRef Syntax.erased Syntax.mut OfPanelRecord.named)) (List._∷_ (15, Rows.any-gone (Syntax.tyRef Syntax.erased Syntax.mut (Syntax.tyInt Syntax.w8))) List.[])))))))))))))))
+        g17 = List._∷_ (0, Rows.any-gone Syntax.tyUnit) (List._∷_ (1, Mut.mslice (OfOutput.row) (Syntax.tyRef (Syntax.named 0) Syntax.mut OfOutput.named) 0) (List._∷_ (2, Relend.mslice-owed (OfStation.row) (Syntax.tyRef (Syntax.named 1) Syntax.mut OfStation.named) 1 6 (Row.lease (κs .1 .0) (qs .1 .0))) (List._∷_ (3, Rows.mref-owed (OfPanelRecord.row) (Syntax.tyRef (Syntax.named 2) Syntax.mut OfPanelRecord.named) 2 7 (Row.lease (κs .1 .1 .0) (qs .1 .1 .0))) (List._∷_ (4, Relend.mslice-owed (Referent.rtF (Referent.fInt Syntax.w8)) (Syntax.tyRef (Syntax.named 3) Syntax.mut (Syntax.tyInt Syntax.w8)) 3 8 (Row.lease (κs .1 .1 .1 .0) (qs .1 .1 .1 .0))) (List._∷_ (5, Relend.mslice-owed (Referent.rtF (Referent.fInt Syntax.w8)) (Syntax.tyRef (Syntax.named 4) Syntax.mut (Syntax.tyInt Syntax.w8)) 4 9 (Row.lease (κs .1 .1 .1 .1 .0) (qs .1 .1 .1 .1 .0))) (List._∷_ (6, Rows.sc-here Row.sBool) (List._∷_ (7, Rows.whole (Declared.row Turn.the-type)) (List._∷_ (8, Rows.any-gone (Syntax.tyStruct (List._∷_ 116 (List._∷_ 101 (List._∷_ 120 (List._∷_ 116 (List._∷_ 95 (List._∷_ 114 (List._∷_ 101 (List._∷_ 97 (List._∷_ 100 (List._∷_ 105 (List._∷_ 110 (List._∷_ 103 (List._∷_ 58 (List._∷_ 58 (List._∷_ 82 (List._∷_ 101 (List._∷_ 97 (List._∷_ 100 (List._∷_ 101 (List._∷_ 114 List.[])))))))))))))))))))) (Syntax.tcons Syntax.tyBool (Syntax.tcons (Syntax.tyInt Syntax.w64) (Syntax.tcons (Syntax.tyEnum (List._∷_ 116 (List._∷_ 101 (List._∷_ 120 (List._∷_ 116 (List._∷_ 95 (List._∷_ 114 (List._∷_ 101 (List._∷_ 97 (List._∷_ 100 (List._∷_ 105 (List._∷_ 110 (List._∷_ 103 (List._∷_ 58 (List._∷_ 58 (List._∷_ 72 (List._∷_ 101 (List._∷_ 108 (List._∷_ 100 List.[])))))))))))))))))) (Syntax.ttcons Syntax.tnil (Syntax.ttcons Syntax.tnil (Syntax.ttcons (Syntax.tcons (Syntax.tyStruct (List._∷_ 116 (List._∷_ 101 (List._∷_ 120 (List._∷_ 116 (List._∷_ 95 (List._∷_ 104 (List._∷_ 101 (List._∷_ 97 (List._∷_ 100 (List._∷_ 105 (List._∷_ 110 (List._∷_ 103 (List._∷_ 58 (List._∷_ 58 (List._∷_ 72 (List._∷_ 101 (List._∷_ 97 (List._∷_ 100 (List._∷_ 105 (List._∷_ 110 (List._∷_ 103 List.[]))))))))))))))))))))) (Syntax.tcons (Syntax.tyStruct (List._∷_ 116 (List._∷_ 101 (List._∷_ 120 (List._∷_ 116 (List._∷_ 95 (List._∷_ 104 (List._∷_ 101 (List._∷_ 97 (List._∷_ 100 (List._∷_ 105 (List._∷_ 110 (List._∷_ 103 (List._∷_ 58 (List._∷_ 58 (List._∷_ 78 (List._∷_ 97 (List._∷_ 109 (List._∷_ 101 (List._∷_ 100 List.[]))))))))))))))))))) (Syntax.tcons (IsParameters.mir) (Syntax.tcons (Syntax.tyInt Syntax.w32) Syntax.tnil))) (Syntax.tcons (Syntax.tyStruct (List._∷_ 116 (List._∷_ 101 (List._∷_ 120 (List._∷_ 116 (List._∷_ 95 (List._∷_ 104 (List._∷_ 101 (List._∷_ 97 (List._∷_ 100 (List._∷_ 105 (List._∷_ 110 (List._∷_ 103 (List._∷_ 58 (List._∷_ 58 (List._∷_ 67 (List._∷_ 97 (List._∷_ 109 (List._∷_ 101 List.[])))))))))))))))))) (Syntax.tcons Syntax.tyBool (Syntax.tcons Syntax.tyBool (Syntax.tcons Syntax.tyBool (Syntax.tcons Syntax.tyBool Syntax.tnil))))) (Syntax.tcons (Syntax.tyEnum (List._∷_ 116 (List._∷_ 101 (List._∷_ 120 (List._∷_ 116 (List._∷_ 95 (List._∷_ 104 (List._∷_ 101 (List._∷_ 97 (List._∷_ 100 (List._∷_ 105 (List._∷_ 110 (List._∷_ 103 (List._∷_ 58 (List._∷_ 58 (List._∷_ 80 (List._∷_ 108 (List._∷_ 97 (List._∷_ 99 (List._∷_ 101 List.[]))))))))))))))))))) (Syntax.ttcons (Syntax.tcons (Syntax.tyEnum (List._∷_ 116 (List._∷_ 101 (List._∷_ 120 (List._∷_ 116 (List._∷_ 95 (List._∷_ 104 (List._∷_ 101 (List._∷_ 97 (List._∷_ 100 (List._∷_ 105 (List._∷_ 110 (List._∷_ 103 (List._∷_ 58 (List._∷_ 58 (List._∷_ 87 (List._∷_ 111 (List._∷_ 114 (List._∷_ 100 List.[])))))))))))))))))) (Syntax.ttcons Syntax.tnil (Syntax.ttcons Syntax.tnil (Syntax.ttcons Syntax.tnil (Syntax.ttcons Syntax.tnil (Syntax.ttcons Syntax.tnil Syntax.ttnil)))))) (Syntax.tcons (Syntax.tyInt Syntax.w8) Syntax.tnil)) (Syntax.ttcons (Syntax.tcons (Syntax.tyEnum (List._∷_ 116 (List._∷_ 101 (List._∷_ 120 (List._∷_ 116 (List._∷_ 95 (List._∷_ 104 (List._∷_ 101 (List._∷_ 97 (List._∷_ 100 (List._∷_ 105 (List._∷_ 110 (List._∷_ 103 (List._∷_ 58 (List._∷_ 58 (List._∷_ 87 (List._∷_ 111 (List._∷_ 114 (List._∷_ 100 List.[])))))))))))))))))) (Syntax.ttcons Syntax.tnil (Syntax.ttcons Syntax.tnil (Syntax.ttcons Syntax.tnil (Syntax.ttcons Syntax.tnil (Syntax.ttcons Syntax.tnil Syntax.ttnil)))))) Syntax.tnil) (Syntax.ttcons (Syntax.tcons (Syntax.tyEnum (List._∷_ 116 (List._∷_ 101 (List._∷_ 120 (List._∷_ 116 (List._∷_ 95 (List._∷_ 104 (List._∷_ 101 (List._∷_ 97 (List._∷_ 100 (List._∷_ 105 (List._∷_ 110 (List._∷_ 103 (List._∷_ 58 (List._∷_ 58 (List._∷_ 87 (List._∷_ 111 (List._∷_ 114 (List._∷_ 100 List.[])))))))))))))))))) (Syntax.ttcons Syntax.tnil (Syntax.ttcons Syntax.tnil (Syntax.ttcons Syntax.tnil (Syntax.ttcons Syntax.tnil (Syntax.ttcons Syntax.tnil Syntax.ttnil)))))) (Syntax.tcons (Syntax.tyInt Syntax.w8) Syntax.tnil)) (Syntax.ttcons Syntax.tnil (Syntax.ttcons (Syntax.tcons (Syntax.tyEnum (List._∷_ 116 (List._∷_ 101 (List._∷_ 120 (List._∷_ 116 (List._∷_ 95 (List._∷_ 104 (List._∷_ 101 (List._∷_ 97 (List._∷_ 100 (List._∷_ 105 (List._∷_ 110 (List._∷_ 103 (List._∷_ 58 (List._∷_ 58 (List._∷_ 72 (List._∷_ 101 (List._∷_ 97 (List._∷_ 100 (List._∷_ 105 (List._∷_ 110 (List._∷_ 103 (List._∷_ 70 (List._∷_ 97 (List._∷_ 117 (List._∷_ 108 (List._∷_ 116 List.[])))))))))))))))))))))))))) (Syntax.ttcons Syntax.tnil (Syntax.ttcons Syntax.tnil (Syntax.ttcons Syntax.tnil (Syntax.ttcons Syntax.tnil (Syntax.ttcons (Syntax.tcons (Syntax.tyEnum (List._∷_ 116 (List._∷_ 101 (List._∷_ 120 (List._∷_ 116 (List._∷_ 95 (List._∷_ 104 (List._∷_ 101 (List._∷_ 97 (List._∷_ 100 (List._∷_ 105 (List._∷_ 110 (List._∷_ 103 (List._∷_ 58 (List._∷_ 58 (List._∷_ 87 (List._∷_ 111 (List._∷_ 114 (List._∷_ 100 List.[])))))))))))))))))) (Syntax.ttcons Syntax.tnil (Syntax.ttcons Syntax.tnil (Syntax.ttcons Syntax.tnil (Syntax.ttcons Syntax.tnil (Syntax.ttcons Syntax.tnil Syntax.ttnil)))))) Syntax.tnil) Syntax.ttnil)))))) Syntax.tnil) Syntax.ttnil)))))) Syntax.tnil)))) Syntax.tnil) (Syntax.ttcons Syntax.tnil (Syntax.ttcons (Syntax.tcons (Syntax.tyInt Syntax.w8) Syntax.tnil) (Syntax.ttcons Syntax.tnil (Syntax.ttcons (Syntax.tcons (Syntax.tyEnum (List._∷_ 116 (List._∷_ 101 (List._∷_ 120 (List._∷_ 116 (List._∷_ 95 (List._∷_ 114 (List._∷_ 101 (List._∷_ 97 (List._∷_ 100 (List._∷_ 105 (List._∷_ 110 (List._∷_ 103 (List._∷_ 58 (List._∷_ 58 (List._∷_ 70 (List._∷_ 97 (List._∷_ 117 (List._∷_ 108 (List._∷_ 116 List.[]))))))))))))))))))) (Syntax.ttcons (Syntax.tcons (Syntax.tyEnum (List._∷_ 116 (List._∷_ 101 (List._∷_ 120 (List._∷_ 116 (List._∷_ 95 (List._∷_ 104 (List._∷_ 101 (List._∷_ 97 (List._∷_ 100 (List._∷_ 105 (List._∷_ 110 (List._∷_ 103 (List._∷_ 58 (List._∷_ 58 (List._∷_ 72 (List._∷_ 101 (List._∷_ 97 (List._∷_ 100 (List._∷_ 105 (List._∷_ 110 (List._∷_ 103 (List._∷_ 70 (List._∷_ 97 (List._∷_ 117 (List._∷_ 108 (List._∷_ 116 List.[])))))))))))))))))))))))))) (Syntax.ttcons Syntax.tnil (Syntax.ttcons Syntax.tnil (Syntax.ttcons Syntax.tnil (Syntax.ttcons Syntax.tnil (Syntax.ttcons (Syntax.tcons (Syntax.tyEnum (List._∷_ 116 (List._∷_ 101 (List._∷_ 120 (List._∷_ 116 (List._∷_ 95 (List._∷_ 104 (List._∷_ 101 (List._∷_ 97 (List._∷_ 100 (List._∷_ 105 (List._∷_ 110 (List._∷_ 103 (List._∷_ 58 (List._∷_ 58 (List._∷_ 87 (List._∷_ 111 (List._∷_ 114 (List._∷_ 100 List.[])))))))))))))))))) (Syntax.ttcons Syntax.tnil (Syntax.ttcons Syntax.tnil (Syntax.ttcons Syntax.tnil (Syntax.ttcons Syntax.tnil (Syntax.ttcons Syntax.tnil Syntax.ttnil)))))) Syntax.tnil) Syntax.ttnil)))))) Syntax.tnil) (Syntax.ttcons Syntax.tnil (Syntax.ttcons Syntax.tnil Syntax.ttnil)))) Syntax.tnil) Syntax.ttnil)))))))) (Syntax.tcons (Syntax.tyArray (Syntax.tyInt Syntax.w8) 32) (Syntax.tcons (Syntax.tyInt Syntax.w64) Syntax.tnil))))))) (List._∷_ (9, Rows.any-gone (Syntax.tyInt Syntax.w64)) (List._∷_ (10, Rows.any-gone (Syntax.tyRef Syntax.erased Syntax.mut OfOutput.named)) (List._∷_ (11, Rows.any-gone (Syntax.tyStruct (List._∷_ 38 (List._∷_ 91 (List._∷_ 93 List.[]))) (Syntax.tcons (Syntax.tyRef Syntax.erased Syntax.mut OfOutput.named) (Syntax.tcons (Syntax.tyInt Syntax.w64) Syntax.tnil)))) (List._∷_ (12, Rows.any-gone (Syntax.tyRef Syntax.erased Syntax.mut OfStation.named)) (List._∷_ (13, Mut.msleft (OfStation.row) (Syntax.tyRef Syntax.erased Syntax.mut OfStation.named)) (List._∷_ (14, Rows.mleft (OfPanelRecord.row) (Syntax.tyRef Syntax.erased Syntax.mut OfPanelRecord.named)) (List._∷_ (15, Rows.any-gone (Syntax.tyRef Syntax.erased Syntax.mut (Syntax.tyInt Syntax.w8))) List.[])))))))))))))))
 
         abbrev g18 : List.List Row.Entry
-        g18 = List._∷_ (0, Rows.any-gone Syntax.tyUnit) (List._∷_ (1, Mut.mslice (OfOutput.row) (Syntax.tyRef (Syntax.named 0) Syntax.mut OfOutput.named) 0) (List._∷_ (2, Mut.mslice (OfStation.row) (Syntax.tyRef (Syntax.named 1) Syntax.mut OfStation.named) 1) (List._∷_ (3, Rows.mref-owed (OfPanelRecord.row) (Syntax.tyRef (Syntax.named 2) Syntax.mut OfPanelRecord.named) 2 7 (Row.lease (κs .1 .1 .0) (qs .1 .1 .0))) (List._∷_ (4, Relend.mslice-owed (Referent.rtF (Referent.fInt Syntax.w8)) (Syntax.tyRef (Syntax.named 3) Syntax.mut (Syntax.tyInt Syntax.w8)) 3 8 (Row.lease (κs .1 .1 .1 .0) (qs .1 .1 .1 .0))) (List._∷_ (5, Relend.mslice-owed (Referent.rtF (Referent.fInt Syntax.w8)) (Syntax.tyRef (Syntax.named 4) Syntax.mut (Syntax.tyInt Syntax.w8)) 4 9 (Row.lease (κs .1 .1 .1 .1 .0) (qs .1 .1 .1 .1 .0))) (List._∷_ (6, Rows.sc-here Row.sBool) (List._∷_ (7, Rows.whole (Declared.row Turn.the-type)) (List._∷_ (8, Rows.any-gone (Syntax.tyStruct (List._∷_ 116 (List._∷_ 101 (List._∷_ 120 (List._∷_ 116 (List._∷_ 95 (List._∷_ 114 (List._∷_ 101 (List._∷_ 97 (List._∷_ 100 (List._∷_ 105 (List._∷_ 110 (List._∷_ 103 (List._∷_ 58 (List._∷_ 58 (List._∷_ 82 (List._∷_ 101 (List._∷_ 97 (List._∷_ 100 (List._∷_ 101 (List._∷_ 114 List.[])))))))))))))))))))) (Syntax.tcons Syntax.tyBool (Syntax.tcons (Syntax.tyInt Syntax.w64) (Syntax.tcons (Syntax.tyEnum (List._∷_ 116 (List._∷_ 101 (List._∷_ 120 (List._∷_ 116 (List._∷_ 95 (List._∷_ 114 (List._∷_ 101 (List._∷_ 97 (List._∷_ 100 (List._∷_ 105 (List._∷_ 110 (List._∷_ 103 (List._∷_ 58 (List._∷_ 58 (List._∷_ 72 (List._∷_ 101 (List._∷_ 108 (List._∷_ 100 List.[])))))))))))))))))) (Syntax.ttcons Syntax.tnil (Syntax.ttcons Syntax.tnil (Syntax.ttcons (Syntax.tcons (Syntax.tyStruct (List._∷_ 116 (List._∷_ 101 (List._∷_ 120 (List._∷_ 116 (List._∷_ 95 (List._∷_ 104 (List._∷_ 101 (List._∷_ 97 (List._∷_ 100 (List._∷_ 105 (List._∷_ 110 (List._∷_ 103 (List._∷_ 58 (List._∷_ 58 (List._∷_ 72 (List._∷_ 101 (List._∷_ 97 (List._∷_ 100 (List._∷_ 105 (List._∷_ 110 (List._∷_ 103 List.[]))))))))))))))))))))) (Syntax.tcons (IsParameters.mir) (Syntax.tcons (Syntax.tyStruct (List._∷_ 116 (List._∷_ 101 (List._∷_ 120 (List._∷_ 116 (List._∷_ 95 (List._∷_ 104 (List._∷_ 101 (List._∷_ 97 (List._∷_ 100 (List._∷_ 105 (List._∷_ 110 (List._∷_ 103 (List._∷_ 58 (List._∷_ 58 (List._∷_ 67 (List._∷_ 97 (List._∷_ 109 (List._∷_ 101 List.[])))))))))))))))))) (Syntax.tcons Syntax.tyBool (Syntax.tcons Syntax.tyBool (Syntax.tcons Syntax.tyBool Syntax.tnil)))) (Syntax.tcons (Syntax.tyEnum (List._∷_ 116 (List._∷_ 101 (List._∷_ 120 (List._∷_ 116 (List._∷_ 95 (List._∷_ 104 (List._∷_ 101 (List._∷_ 97 (List._∷_ 100 (List._∷_ 105 (List._∷_ 110 (List._∷_ 103 (List._∷_ 58 (List._∷_ 58 (List._∷_ 80 (List._∷_ 108 (List._∷_ 97 (List._∷_ 99 (List._∷_ 101 List.[]))))))))))))))))))) (Syntax.ttcons (Syntax.tcons (Syntax.tyEnum (List._∷_ 116 (List._∷_ 101 (List._∷_ 120 (List._∷_ 116 (List._∷_ 95 (List._∷_ 104 (List._∷_ 101 (List._∷_ 97 (List._∷_ 100 (List._∷_ 105 (List._∷_ 110 (List._∷_ 103 (List._∷_ 58 (List._∷_ 58 (List._∷_ 87 (List._∷_ 111 (List._∷_ 114 (List._∷_ 100 List.[])))))))))))))))))) (Syntax.ttcons Syntax.tnil (Syntax.ttcons Syntax.tnil (Syntax.ttcons Syntax.tnil (Syntax.ttcons Syntax.tnil Syntax.ttnil))))) (Syntax.tcons (Syntax.tyInt Syntax.w8) Syntax.tnil)) (Syntax.ttcons (Syntax.tcons (Syntax.tyEnum (List._∷_ 116 (List._∷_ 101 (List._∷_ 120 (List._∷_ 116 (List._∷_ 95 (List._∷_ 104 (List._∷_ 101 (List._∷_ 97 (List._∷_ 100 (List._∷_ 105 (List._∷_ 110 (List._∷_ 103 (List._∷_ 58 (List._∷_ 58 (List._∷_ 87 (List._∷_ 111 (List._∷_ 114 (List._∷_ 100 List.[])))))))))))))))))) (Syntax.ttcons Syntax.tnil (Syntax.ttcons Syntax.tnil (Syntax.ttcons Syntax.tnil (Syntax.ttcons Syntax.tnil Syntax.ttnil))))) Syntax.tnil) (Syntax.ttcons (Syntax.tcons (Syntax.tyEnum (List._∷_ 116 (List._∷_ 101 (List._∷_ 120 (List._∷_ 116 (List._∷_ 95 (List._∷_ 104 (List._∷_ 101 (List._∷_ 97 (List._∷_ 100 (List._∷_ 105 (List._∷_ 110 (List._∷_ 103 (List._∷_ 58 (List._∷_ 58 (List._∷_ 87 (List._∷_ 111 (List._∷_ 114 (List._∷_ 100 List.[])))))))))))))))))) (Syntax.ttcons Syntax.tnil (Syntax.ttcons Syntax.tnil (Syntax.ttcons Syntax.tnil (Syntax.ttcons Syntax.tnil Syntax.ttnil))))) Syntax.tnil) (Syntax.ttcons Syntax.tnil (Syntax.ttcons (Syntax.tcons (Syntax.tyEnum (List._∷_ 116 (List._∷_ 101 (List._∷_ 120 (List._∷_ 116 (List._∷_ 95 (List._∷_ 104 (List._∷_ 101 (List._∷_ 97 (List._∷_ 100 (List._∷_ 105 (List._∷_ 110 (List._∷_ 103 (List._∷_ 58 (List._∷_ 58 (List._∷_ 72 (List._∷_ 101 (List._∷_ 97 (List._∷_ 100 (List._∷_ 105 (List._∷_ 110 (List._∷_ 103 (List._∷_ 70 (List._∷_ 97 (List._∷_ 117 (List._∷_ 108 (List._∷_ 116 List.[])))))))))))))))))))))))))) (Syntax.ttcons Syntax.tnil (Syntax.ttcons Syntax.tnil (Syntax.ttcons Syntax.tnil (Syntax.ttcons (Syntax.tcons (Syntax.tyEnum (List._∷_ 116 (List._∷_ 101 (List._∷_ 120 (List._∷_ 116 (List._∷_ 95 (List._∷_ 104 (List._∷_ 101 (List._∷_ 97 (List._∷_ 100 (List._∷_ 105 (List._∷_ 110 (List._∷_ 103 (List._∷_ 58 (List._∷_ 58 (List._∷_ 87 (List._∷_ 111 (List._∷_ 114 (List._∷_ 100 List.[])))))))))))))))))) (Syntax.ttcons Syntax.tnil (Syntax.ttcons Syntax.tnil (Syntax.ttcons Syntax.tnil (Syntax.ttcons Syntax.tnil Syntax.ttnil))))) Syntax.tnil) Syntax.ttnil))))) Syntax.tnil) Syntax.ttnil)))))) Syntax.tnil)))) Syntax.tnil) (Syntax.ttcons Syntax.tnil (Syntax.ttcons (Syntax.tcons (Syntax.tyInt Syntax.w8) Syntax.tnil) (Syntax.ttcons Syntax.tnil (Syntax.ttcons (Syntax.tcons (Syntax.tyEnum (List._∷_ 116 (List._∷_ 101 (List._∷_ 120 (List._∷_ 116 (List._∷_ 95 (List._∷_ 114 (List._∷_ 101 (List._∷_ 97 (List._∷_ 100 (List._∷_ 105 (List._∷_ 110 (List._∷_ 103 (List._∷_ 58 (List._∷_ 58 (List._∷_ 70 (List._∷_ 97 (List._∷_ 117 (List._∷_ 108 (List._∷_ 116 List.[]))))))))))))))))))) (Syntax.ttcons (Syntax.tcons (Syntax.tyEnum (List._∷_ 116 (List._∷_ 101 (List._∷_ 120 (List._∷_ 116 (List._∷_ 95 (List._∷_ 104 (List._∷_ 101 (List._∷_ 97 (List._∷_ 100 (List._∷_ 105 (List._∷_ 110 (List._∷_ 103 (List._∷_ 58 (List._∷_ 58 (List._∷_ 72 (List._∷_ 101 (List._∷_ 97 (List._∷_ 100 (List._∷_ 105 (List._∷_ 110 (List._∷_ 103 (List._∷_ 70 (List._∷_ 97 (List._∷_ 117 (List._∷_ 108 (List._∷_ 116 List.[])))))))))))))))))))))))))) (Syntax.ttcons Syntax.tnil (Syntax.ttcons Syntax.tnil (Syntax.ttcons Syntax.tnil (Syntax.ttcons (Syntax.tcons (Syntax.tyEnum (List._∷_ 116 (List._∷_ 101 (List._∷_ 120 (List._∷_ 116 (List._∷_ 95 (List._∷_ 104 (List._∷_ 101 (List._∷_ 97 (List._∷_ 100 (List._∷_ 105 (List._∷_ 110 (List._∷_ 103 (List._∷_ 58 (List._∷_ 58 (List._∷_ 87 (List._∷_ 111 (List._∷_ 114 (List._∷_ 100 List.[])))))))))))))))))) (Syntax.ttcons Syntax.tnil (Syntax.ttcons Syntax.tnil (Syntax.ttcons Syntax.tnil (Syntax.ttcons Syntax.tnil Syntax.ttnil))))) Syntax.tnil) Syntax.ttnil))))) Syntax.tnil) (Syntax.ttcons Syntax.tnil (Syntax.ttcons Syntax.tnil Syntax.ttnil)))) Syntax.tnil) Syntax.ttnil)))))))) (Syntax.tcons (Syntax.tyArray (Syntax.tyInt Syntax.w8) 32) (Syntax.tcons (Syntax.tyInt Syntax.w64) Syntax.tnil))))))) (List._∷_ (9, Rows.any-gone (Syntax.tyInt Syntax.w64)) (List._∷_ (10, Rows.any-gone (Syntax.tyRef Syntax.erased Syntax.mut OfOutput.named)) (List._∷_ (11, Rows.any-gone (Syntax.tyStruct (List._∷_ 38 (List._∷_ 91 (List._∷_ 93 List.[]))) (Syntax.tcons (Syntax.tyRef Syntax.erased Syntax.mut OfOutput.named) (Syntax.tcons (Syntax.tyInt Syntax.w64) Syntax.tnil)))) (List._∷_ (12, Rows.any-gone (Syntax.tyRef Syntax.erased Syntax.mut OfStation.named)) (List._∷_ (13, Rows.any-gone (Syntax.tyStruct (List._∷_ 38 (List._∷_ 91 (List._∷_ 93 List.[]))) (Syntax.tcons (Syntax.tyRef Syntax.erased Syntax.mut OfStation.named) (Syntax.tcons (Syntax.tyInt Syntax.w64) Syntax.tnil)))) (List._∷_ (14, Rows.mleft (OfPanelRecord.row) (Syntax.tyRef Syntax.erased Syntax.mut OfPanelRecord.named)) (List._∷_ (15, Rows.any-gone (Syntax.tyRef Syntax.erased Syntax.mut (Syntax.tyInt Syntax.w8))) List.[])))))))))))))))
+        g18 = List._∷_ (0, Rows.any-gone Syntax.tyUnit) (List._∷_ (1, Mut.mslice (OfOutput.row) (Syntax.tyRef (Syntax.named 0) Syntax.mut OfOutput.named) 0) (List._∷_ (2, Mut.mslice (OfStation.row) (Syntax.tyRef (Syntax.named 1) Syntax.mut OfStation.named) 1) (List._∷_ (3, Rows.mref-owed (OfPanelRecord.row) (Syntax.tyRef (Syntax.named 2) Syntax.mut OfPanelRecord.named) 2 7 (Row.lease (κs .1 .1 .0) (qs .1 .1 .0))) (List._∷_ (4, Relend.mslice-owed (Referent.rtF (Referent.fInt Syntax.w8)) (Syntax.tyRef (Syntax.named 3) Syntax.mut (Syntax.tyInt Syntax.w8)) 3 8 (Row.lease (κs .1 .1 .1 .0) (qs .1 .1 .1 .0))) (List._∷_ (5, Relend.mslice-owed (Referent.rtF (Referent.fInt Syntax.w8)) (Syntax.tyRef (Syntax.named 4) Syntax.mut (Syntax.tyInt Syntax.w8)) 4 9 (Row.lease (κs .1 .1 .1 .1 .0) (qs .1 .1 .1 .1 .0))) (List._∷_ (6, Rows.sc-here Row.sBool) (List._∷_ (7, Rows.whole (Declared.row Turn.the-type)) (List._∷_ (8, Rows.any-gone (Syntax.tyStruct (List._∷_ 116 (List._∷_ 101 (List._∷_ 120 (List._∷_ 116 (List._∷_ 95 (List._∷_ 114 (List._∷_ 101 (List._∷_ 97 (List._∷_ 100 (List._∷_ 105 (List._∷_ 110 (List._∷_ 103 (List._∷_ 58 (List._∷_ 58 (List._∷_ 82 (List._∷_ 101 (List._∷_ 97 (List._∷_ 100 (List._∷_ 101 (List._∷_ 114 List.[])))))))))))))))))))) (Syntax.tcons Syntax.tyBool (Syntax.tcons (Syntax.tyInt Syntax.w64) (Syntax.tcons (Syntax.tyEnum (List._∷_ 116 (List._∷_ 101 (List._∷_ 120 (List._∷_ 116 (List._∷_ 95 (List._∷_ 114 (List._∷_ 101 (List._∷_ 97 (List._∷_ 100 (List._∷_ 105 (List._∷_ 110 (List._∷_ 103 (List._∷_ 58 (List._∷_ 58 (List._∷_ 72 (List._∷_ 101 (List._∷_ 108 (List._∷_ 100 List.[])))))))))))))))))) (Syntax.ttcons Syntax.tnil (Syntax.ttcons Syntax.tnil (Syntax.ttcons (Syntax.tcons (Syntax.tyStruct (List._∷_ 116 (List._∷_ 101 (List._∷_ 120 (List._∷_ 116 (List._∷_ 95 (List._∷_ 104 (List._∷_ 101 (List._∷_ 97 (List._∷_ 100 (List._∷_ 105 (List._∷_ 110 (List._∷_ 103 (List._∷_ 58 (List._∷_ 58 (List._∷_ 72 (List._∷_ 101 (List._∷_ 97 (List._∷_ 100 (List._∷_ 105 (List._∷_ 110 (List._∷_ 103 List.[]))))))))))))))))))))) (Syntax.tcons (Syntax.tyStruct (List._∷_ 116 (List._∷_ 101 (List._∷_ 120 (List._∷_ 116 (List._∷_ 95 (List._∷_ 104 (List._∷_ 101 (List._∷_ 97 (List._∷_ 100 (List._∷_ 105 (List._∷_ 110 (List._∷_ 103 (List._∷_ 58 (List._∷_ 58 (List._∷_ 78 (List._∷_ 97 (List._∷_ 109 (List._∷_ 101 (List._∷_ 100 List.[]))))))))))))))))))) (Syntax.tcons (IsParameters.mir) (Syntax.tcons (Syntax.tyInt Syntax.w32) Syntax.tnil))) (Syntax.tcons (Syntax.tyStruct (List._∷_ 116 (List._∷_ 101 (List._∷_ 120 (List._∷_ 116 (List._∷_ 95 (List._∷_ 104 (List._∷_ 101 (List._∷_ 97 (List._∷_ 100 (List._∷_ 105 (List._∷_ 110 (List._∷_ 103 (List._∷_ 58 (List._∷_ 58 (List._∷_ 67 (List._∷_ 97 (List._∷_ 109 (List._∷_ 101 List.[])))))))))))))))))) (Syntax.tcons Syntax.tyBool (Syntax.tcons Syntax.tyBool (Syntax.tcons Syntax.tyBool (Syntax.tcons Syntax.tyBool Syntax.tnil))))) (Syntax.tcons (Syntax.tyEnum (List._∷_ 116 (List._∷_ 101 (List._∷_ 120 (List._∷_ 116 (List._∷_ 95 (List._∷_ 104 (List._∷_ 101 (List._∷_ 97 (List._∷_ 100 (List._∷_ 105 (List._∷_ 110 (List._∷_ 103 (List._∷_ 58 (List._∷_ 58 (List._∷_ 80 (List._∷_ 108 (List._∷_ 97 (List._∷_ 99 (List._∷_ 101 List.[]))))))))))))))))))) (Syntax.ttcons (Syntax.tcons (Syntax.tyEnum (List._∷_ 116 (List._∷_ 101 (List._∷_ 120 (List._∷_ 116 (List._∷_ 95 (List._∷_ 104 (List._∷_ 101 (List._∷_ 97 (List._∷_ 100 (List._∷_ 105 (List._∷_ 110 (List._∷_ 103 (List._∷_ 58 (List._∷_ 58 (List._∷_ 87 (List._∷_ 111 (List._∷_ 114 (List._∷_ 100 List.[])))))))))))))))))) (Syntax.ttcons Syntax.tnil (Syntax.ttcons Syntax.tnil (Syntax.ttcons Syntax.tnil (Syntax.ttcons Syntax.tnil (Syntax.ttcons Syntax.tnil Syntax.ttnil)))))) (Syntax.tcons (Syntax.tyInt Syntax.w8) Syntax.tnil)) (Syntax.ttcons (Syntax.tcons (Syntax.tyEnum (List._∷_ 116 (List._∷_ 101 (List._∷_ 120 (List._∷_ 116 (List._∷_ 95 (List._∷_ 104 (List._∷_ 101 (List._∷_ 97 (List._∷_ 100 (List._∷_ 105 (List._∷_ 110 (List._∷_ 103 (List._∷_ 58 (List._∷_ 58 (List._∷_ 87 (List._∷_ 111 (List._∷_ 114 (List._∷_ 100 List.[])))))))))))))))))) (Syntax.ttcons Syntax.tnil (Syntax.ttcons Syntax.tnil (Syntax.ttcons Syntax.tnil (Syntax.ttcons Syntax.tnil (Syntax.ttcons Syntax.tnil Syntax.ttnil)))))) Syntax.tnil) (Syntax.ttcons (Syntax.tcons (Syntax.tyEnum (List._∷_ 116 (List._∷_ 101 (List._∷_ 120 (List._∷_ 116 (List._∷_ 95 (List._∷_ 104 (List._∷_ 101 (List._∷_ 97 (List._∷_ 100 (List._∷_ 105 (List._∷_ 110 (List._∷_ 103 (List._∷_ 58 (List._∷_ 58 (List._∷_ 87 (List._∷_ 111 (List._∷_ 114 (List._∷_ 100 List.[])))))))))))))))))) (Syntax.ttcons Syntax.tnil (Syntax.ttcons Syntax.tnil (Syntax.ttcons Syntax.tnil (Syntax.ttcons Syntax.tnil (Syntax.ttcons Syntax.tnil Syntax.ttnil)))))) (Syntax.tcons (Syntax.tyInt Syntax.w8) Syntax.tnil)) (Syntax.ttcons Syntax.tnil (Syntax.ttcons (Syntax.tcons (Syntax.tyEnum (List._∷_ 116 (List._∷_ 101 (List._∷_ 120 (List._∷_ 116 (List._∷_ 95 (List._∷_ 104 (List._∷_ 101 (List._∷_ 97 (List._∷_ 100 (List._∷_ 105 (List._∷_ 110 (List._∷_ 103 (List._∷_ 58 (List._∷_ 58 (List._∷_ 72 (List._∷_ 101 (List._∷_ 97 (List._∷_ 100 (List._∷_ 105 (List._∷_ 110 (List._∷_ 103 (List._∷_ 70 (List._∷_ 97 (List._∷_ 117 (List._∷_ 108 (List._∷_ 116 List.[])))))))))))))))))))))))))) (Syntax.ttcons Syntax.tnil (Syntax.ttcons Syntax.tnil (Syntax.ttcons Syntax.tnil (Syntax.ttcons Syntax.tnil (Syntax.ttcons (Syntax.tcons (Syntax.tyEnum (List._∷_ 116 (List._∷_ 101 (List._∷_ 120 (List._∷_ 116 (List._∷_ 95 (List._∷_ 104 (List._∷_ 101 (List._∷_ 97 (List._∷_ 100 (List._∷_ 105 (List._∷_ 110 (List._∷_ 103 (List._∷_ 58 (List._∷_ 58 (List._∷_ 87 (List._∷_ 111 (List._∷_ 114 (List._∷_ 100 List.[])))))))))))))))))) (Syntax.ttcons Syntax.tnil (Syntax.ttcons Syntax.tnil (Syntax.ttcons Syntax.tnil (Syntax.ttcons Syntax.tnil (Syntax.ttcons Syntax.tnil Syntax.ttnil)))))) Syntax.tnil) Syntax.ttnil)))))) Syntax.tnil) Syntax.ttnil)))))) Syntax.tnil)))) Syntax.tnil) (Syntax.ttcons Syntax.tnil (Syntax.ttcons (Syntax.tcons (Syntax.tyInt Syntax.w8) Syntax.tnil) (Syntax.ttcons Syntax.tnil (Syntax.ttcons (Syntax.tcons (Syntax.tyEnum (List._∷_ 116 (List._∷_ 101 (List._∷_ 120 (List._∷_ 116 (List._∷_ 95 (List._∷_ 114 (List._∷_ 101 (List._∷_ 97 (List._∷_ 100 (List._∷_ 105 (List._∷_ 110 (List._∷_ 103 (List._∷_ 58 (List._∷_ 58 (List._∷_ 70 (List._∷_ 97 (List._∷_ 117 (List._∷_ 108 (List._∷_ 116 List.[]))))))))))))))))))) (Syntax.ttcons (Syntax.tcons (Syntax.tyEnum (List._∷_ 116 (List._∷_ 101 (List._∷_ 120 (List._∷_ 116 (List._∷_ 95 (List._∷_ 104 (List._∷_ 101 (List._∷_ 97 (List._∷_ 100 (List._∷_ 105 (List._∷_ 110 (List._∷_ 103 (List._∷_ 58 (List._∷_ 58 (List._∷_ 72 (List._∷_ 101 (List._∷_ 97 (List._∷_ 100 (List._∷_ 105 (List._∷_ 110 (List._∷_ 103 (List._∷_ 70 (List._∷_ 97 (List._∷_ 117 (List._∷_ 108 (List._∷_ 116 List.[])))))))))))))))))))))))))) (Syntax.ttcons Syntax.tnil (Syntax.ttcons Syntax.tnil (Syntax.ttcons Syntax.tnil (Syntax.ttcons Syntax.tnil (Syntax.ttcons (Syntax.tcons (Syntax.tyEnum (List._∷_ 116 (List._∷_ 101 (List._∷_ 120 (List._∷_ 116 (List._∷_ 95 (List._∷_ 104 (List._∷_ 101 (List._∷_ 97 (List._∷_ 100 (List._∷_ 105 (List._∷_ 110 (List._∷_ 103 (List._∷_ 58 (List._∷_ 58 (List._∷_ 87 (List._∷_ 111 (List._∷_ 114 (List._∷_ 100 List.[])))))))))))))))))) (Syntax.ttcons Syntax.tnil (Syntax.ttcons Syntax.tnil (Syntax.ttcons Syntax.tnil (Syntax.ttcons Syntax.tnil (Syntax.ttcons Syntax.tnil Syntax.ttnil)))))) Syntax.tnil) Syntax.ttnil)))))) Syntax.tnil) (Syntax.ttcons Syntax.tnil (Syntax.ttcons Syntax.tnil Syntax.ttnil)))) Syntax.tnil) Syntax.ttnil)))))))) (Syntax.tcons (Syntax.tyArray (Syntax.tyInt Syntax.w8) 32) (Syntax.tcons (Syntax.tyInt Syntax.w64) Syntax.tnil))))))) (List._∷_ (9, Rows.any-gone (Syntax.tyInt Syntax.w64)) (List._∷_ (10, Rows.any-gone (Syntax.tyRef Syntax.erased Syntax.mut OfOutput.named)) (List._∷_ (11, Rows.any-gone (Syntax.tyStruct (List._∷_ 38 (List._∷_ 91 (List._∷_ 93 List.[]))) (Syntax.tcons (Syntax.tyRef Syntax.erased Syntax.mut OfOutput.named) (Syntax.tcons (Syntax.tyInt Syntax.w64) Syntax.tnil)))) (List._∷_ (12, Rows.any-gone (Syntax.tyRef Syntax.erased Syntax.mut OfStation.named)) (List._∷_ (13, Rows.any-gone (Syntax.tyStruct (List._∷_ 38 (List._∷_ 91 (List._∷_ 93 List.[]))) (Syntax.tcons (Syntax.tyRef Syntax.erased Syntax.mut OfStation.named) (Syntax.tcons (Syntax.tyInt Syntax.w64) Syntax.tnil)))) (List._∷_ (14, Rows.mleft (OfPanelRecord.row) (Syntax.tyRef Syntax.erased Syntax.mut OfPanelRecord.named)) (List._∷_ (15, Rows.any-gone (Syntax.tyRef Syntax.erased Syntax.mut (Syntax.tyInt Syntax.w8))) List.[])))))))))))))))
 
         abbrev g19 : List.List Row.Entry
-        g19 = List._∷_ (0, Rows.any-gone Syntax.tyUnit) (List._∷_ (1, Mut.mslice (OfOutput.row) (Syntax.tyRef (Syntax.named 0) Syntax.mut OfOutput.named) 0) (List._∷_ (2, Mut.mslice (OfStation.row) (Syntax.tyRef (Syntax.named 1) Syntax.mut OfStation.named) 1) (List._∷_ (3, Rows.mref (OfPanelRecord.row) (Syntax.tyRef (Syntax.named 2) Syntax.mut OfPanelRecord.named) 2) (List._∷_ (4, Relend.mslice-owed (Referent.rtF (Referent.fInt Syntax.w8)) (Syntax.tyRef (Syntax.named 3) Syntax.mut (Syntax.tyInt Syntax.w8)) 3 8 (Row.lease (κs .1 .1 .1 .0) (qs .1 .1 .1 .0))) (List._∷_ (5, Relend.mslice-owed (Referent.rtF (Referent.fInt Syntax.w8)) (Syntax.tyRef (Syntax.named 4) Syntax.mut (Syntax.tyInt Syntax.w8)) 4 9 (Row.lease (κs .1 .1 .1 .1 .0) (qs .1 .1 .1 .1 .0))) (List._∷_ (6, Rows.sc-here Row.sBool) (List._∷_ (7, Rows.whole (Declared.row Turn.the-type)) (List._∷_ (8, Rows.any-gone (Syntax.tyStruct (List._∷_ 116 (List._∷_ 101 (List._∷_ 120 (List._∷_ 116 (List._∷_ 95 (List._∷_ 114 (List._∷_ 101 (List._∷_ 97 (List._∷_ 100 (List._∷_ 105 (List._∷_ 110 (List._∷_ 103 (List._∷_ 58 (List._∷_ 58 (List._∷_ 82 (List._∷_ 101 (List._∷_ 97 (List._∷_ 100 (List._∷_ 101 (List._∷_ 114 List.[])))))))))))))))))))) (Syntax.tcons Syntax.tyBool (Syntax.tcons (Syntax.tyInt Syntax.w64) (Syntax.tcons (Syntax.tyEnum (List._∷_ 116 (List._∷_ 101 (List._∷_ 120 (List._∷_ 116 (List._∷_ 95 (List._∷_ 114 (List._∷_ 101 (List._∷_ 97 (List._∷_ 100 (List._∷_ 105 (List._∷_ 110 (List._∷_ 103 (List._∷_ 58 (List._∷_ 58 (List._∷_ 72 (List._∷_ 101 (List._∷_ 108 (List._∷_ 100 List.[])))))))))))))))))) (Syntax.ttcons Syntax.tnil (Syntax.ttcons Syntax.tnil (Syntax.ttcons (Syntax.tcons (Syntax.tyStruct (List._∷_ 116 (List._∷_ 101 (List._∷_ 120 (List._∷_ 116 (List._∷_ 95 (List._∷_ 104 (List._∷_ 101 (List._∷_ 97 (List._∷_ 100 (List._∷_ 105 (List._∷_ 110 (List._∷_ 103 (List._∷_ 58 (List._∷_ 58 (List._∷_ 72 (List._∷_ 101 (List._∷_ 97 (List._∷_ 100 (List._∷_ 105 (List._∷_ 110 (List._∷_ 103 List.[]))))))))))))))))))))) (Syntax.tcons (IsParameters.mir) (Syntax.tcons (Syntax.tyStruct (List._∷_ 116 (List._∷_ 101 (List._∷_ 120 (List._∷_ 116 (List._∷_ 95 (List._∷_ 104 (List._∷_ 101 (List._∷_ 97 (List._∷_ 100 (List._∷_ 105 (List._∷_ 110 (List._∷_ 103 (List._∷_ 58 (List._∷_ 58 (List._∷_ 67 (List._∷_ 97 (List._∷_ 109 (List._∷_ 101 List.[])))))))))))))))))) (Syntax.tcons Syntax.tyBool (Syntax.tcons Syntax.tyBool (Syntax.tcons Syntax.tyBool Syntax.tnil)))) (Syntax.tcons (Syntax.tyEnum (List._∷_ 116 (List._∷_ 101 (List._∷_ 120 (List._∷_ 116 (List._∷_ 95 (List._∷_ 104 (List._∷_ 101 (List._∷_ 97 (List._∷_ 100 (List._∷_ 105 (List._∷_ 110 (List._∷_ 103 (List._∷_ 58 (List._∷_ 58 (List._∷_ 80 (List._∷_ 108 (List._∷_ 97 (List._∷_ 99 (List._∷_ 101 List.[]))))))))))))))))))) (Syntax.ttcons (Syntax.tcons (Syntax.tyEnum (List._∷_ 116 (List._∷_ 101 (List._∷_ 120 (List._∷_ 116 (List._∷_ 95 (List._∷_ 104 (List._∷_ 101 (List._∷_ 97 (List._∷_ 100 (List._∷_ 105 (List._∷_ 110 (List._∷_ 103 (List._∷_ 58 (List._∷_ 58 (List._∷_ 87 (List._∷_ 111 (List._∷_ 114 (List._∷_ 100 List.[])))))))))))))))))) (Syntax.ttcons Syntax.tnil (Syntax.ttcons Syntax.tnil (Syntax.ttcons Syntax.tnil (Syntax.ttcons Syntax.tnil Syntax.ttnil))))) (Syntax.tcons (Syntax.tyInt Syntax.w8) Syntax.tnil)) (Syntax.ttcons (Syntax.tcons (Syntax.tyEnum (List._∷_ 116 (List._∷_ 101 (List._∷_ 120 (List._∷_ 116 (List._∷_ 95 (List._∷_ 104 (List._∷_ 101 (List._∷_ 97 (List._∷_ 100 (List._∷_ 105 (List._∷_ 110 (List._∷_ 103 (List._∷_ 58 (List._∷_ 58 (List._∷_ 87 (List._∷_ 111 (List._∷_ 114 (List._∷_ 100 List.[])))))))))))))))))) (Syntax.ttcons Syntax.tnil (Syntax.ttcons Syntax.tnil (Syntax.ttcons Syntax.tnil (Syntax.ttcons Syntax.tnil Syntax.ttnil))))) Syntax.tnil) (Syntax.ttcons (Syntax.tcons (Syntax.tyEnum (List._∷_ 116 (List._∷_ 101 (List._∷_ 120 (List._∷_ 116 (List._∷_ 95 (List._∷_ 104 (List._∷_ 101 (List._∷_ 97 (List._∷_ 100 (List._∷_ 105 (List._∷_ 110 (List._∷_ 103 (List._∷_ 58 (List._∷_ 58 (List._∷_ 87 (List._∷_ 111 (List._∷_ 114 (List._∷_ 100 List.[])))))))))))))))))) (Syntax.ttcons Syntax.tnil (Syntax.ttcons Syntax.tnil (Syntax.ttcons Syntax.tnil (Syntax.ttcons Syntax.tnil Syntax.ttnil))))) Syntax.tnil) (Syntax.ttcons Syntax.tnil (Syntax.ttcons (Syntax.tcons (Syntax.tyEnum (List._∷_ 116 (List._∷_ 101 (List._∷_ 120 (List._∷_ 116 (List._∷_ 95 (List._∷_ 104 (List._∷_ 101 (List._∷_ 97 (List._∷_ 100 (List._∷_ 105 (List._∷_ 110 (List._∷_ 103 (List._∷_ 58 (List._∷_ 58 (List._∷_ 72 (List._∷_ 101 (List._∷_ 97 (List._∷_ 100 (List._∷_ 105 (List._∷_ 110 (List._∷_ 103 (List._∷_ 70 (List._∷_ 97 (List._∷_ 117 (List._∷_ 108 (List._∷_ 116 List.[])))))))))))))))))))))))))) (Syntax.ttcons Syntax.tnil (Syntax.ttcons Syntax.tnil (Syntax.ttcons Syntax.tnil (Syntax.ttcons (Syntax.tcons (Syntax.tyEnum (List._∷_ 116 (List._∷_ 101 (List._∷_ 120 (List._∷_ 116 (List._∷_ 95 (List._∷_ 104 (List._∷_ 101 (List._∷_ 97 (List._∷_ 100 (List._∷_ 105 (List._∷_ 110 (List._∷_ 103 (List._∷_ 58 (List._∷_ 58 (List._∷_ 87 (List._∷_ 111 (List._∷_ 114 (List._∷_ 100 List.[])))))))))))))))))) (Syntax.ttcons Syntax.tnil (Syntax.ttcons Syntax.tnil (Syntax.ttcons Syntax.tnil (Syntax.ttcons Syntax.tnil Syntax.ttnil))))) Syntax.tnil) Syntax.ttnil))))) Syntax.tnil) Syntax.ttnil)))))) Syntax.tnil)))) Syntax.tnil) (Syntax.ttcons Syntax.tnil (Syntax.ttcons (Syntax.tcons (Syntax.tyInt Syntax.w8) Syntax.tnil) (Syntax.ttcons Syntax.tnil (Syntax.ttcons (Syntax.tcons (Syntax.tyEnum (List._∷_ 116 (List._∷_ 101 (List._∷_ 120 (List._∷_ 116 (List._∷_ 95 (List._∷_ 114 (List._∷_ 101 (List._∷_ 97 (List._∷_ 100 (List._∷_ 105 (List._∷_ 110 (List._∷_ 103 (List._∷_ 58 (List._∷_ 58 (List._∷_ 70 (List._∷_ 97 (List._∷_ 117 (List._∷_ 108 (List._∷_ 116 List.[]))))))))))))))))))) (Syntax.ttcons (Syntax.tcons (Syntax.tyEnum (List._∷_ 116 (List._∷_ 101 (List._∷_ 120 (List._∷_ 116 (List._∷_ 95 (List._∷_ 104 (List._∷_ 101 (List._∷_ 97 (List._∷_ 100 (List._∷_ 105 (List._∷_ 110 (List._∷_ 103 (List._∷_ 58 (List._∷_ 58 (List._∷_ 72 (List._∷_ 101 (List._∷_ 97 (List._∷_ 100 (List._∷_ 105 (List._∷_ 110 (List._∷_ 103 (List._∷_ 70 (List._∷_ 97 (List._∷_ 117 (List._∷_ 108 (List._∷_ 116 List.[])))))))))))))))))))))))))) (Syntax.ttcons Syntax.tnil (Syntax.ttcons Syntax.tnil (Syntax.ttcons Syntax.tnil (Syntax.ttcons (Syntax.tcons (Syntax.tyEnum (List._∷_ 116 (List._∷_ 101 (List._∷_ 120 (List._∷_ 116 (List._∷_ 95 (List._∷_ 104 (List._∷_ 101 (List._∷_ 97 (List._∷_ 100 (List._∷_ 105 (List._∷_ 110 (List._∷_ 103 (List._∷_ 58 (List._∷_ 58 (List._∷_ 87 (List._∷_ 111 (List._∷_ 114 (List._∷_ 100 List.[])))))))))))))))))) (Syntax.ttcons Syntax.tnil (Syntax.ttcons Syntax.tnil (Syntax.ttcons Syntax.tnil (Syntax.ttcons Syntax.tnil Syntax.ttnil))))) Syntax.tnil) Syntax.ttnil))))) Syntax.tnil) (Syntax.ttcons Syntax.tnil (Syntax.ttcons Syntax.tnil Syntax.ttnil)))) Syntax.tnil) Syntax.ttnil)))))))) (Syntax.tcons (Syntax.tyArray (Syntax.tyInt Syntax.w8) 32) (Syntax.tcons (Syntax.tyInt Syntax.w64) Syntax.tnil))))))) (List._∷_ (9, Rows.any-gone (Syntax.tyInt Syntax.w64)) (List._∷_ (10, Rows.any-gone (Syntax.tyRef Syntax.erased Syntax.mut OfOutput.named)) (List._∷_ (11, Rows.any-gone (Syntax.tyStruct (List._∷_ 38 (List._∷_ 91 (List._∷_ 93 List.[]))) (Syntax.tcons (Syntax.tyRef Syntax.erased Syntax.mut OfOutput.named) (Syntax.tcons (Syntax.tyInt Syntax.w64) Syntax.tnil)))) (List._∷_ (12, Rows.any-gone (Syntax.tyRef Syntax.erased Syntax.mut OfStation.named)) (List._∷_ (13, Rows.any-gone (Syntax.tyStruct (List._∷_ 38 (List._∷_ 91 (List._∷_ 93 List.[]))) (Syntax.tcons (Syntax.tyRef Syntax.erased Syntax.mut OfStation.named) (Syntax.tcons (Syntax.tyInt Syntax.w64) Syntax.tnil)))) (List._∷_ (14, Rows.any-gone (Syntax.tyRef Syntax.erased Syntax.mut OfPanelRecord.named)) (List._∷_ (15, Rows.any-gone (Syntax.tyRef Syntax.erased Syntax.mut (Syntax.tyInt Syntax.w8))) List.[])))))))))))))))
+        g19 = List._∷_ (0, Rows.any-gone Syntax.tyUnit) (List._∷_ (1, Mut.mslice (OfOutput.row) (Syntax.tyRef (Syntax.named 0) Syntax.mut OfOutput.named) 0) (List._∷_ (2, Mut.mslice (OfStation.row) (Syntax.tyRef (Syntax.named 1) Syntax.mut OfStation.named) 1) (List._∷_ (3, Rows.mref (OfPanelRecord.row) (Syntax.tyRef (Syntax.named 2) Syntax.mut OfPanelRecord.named) 2) (List._∷_ (4, Relend.mslice-owed (Referent.rtF (Referent.fInt Syntax.w8)) (Syntax.tyRef (Syntax.named 3) Syntax.mut (Syntax.tyInt Syntax.w8)) 3 8 (Row.lease (κs .1 .1 .1 .0) (qs .1 .1 .1 .0))) (List._∷_ (5, Relend.mslice-owed (Referent.rtF (Referent.fInt Syntax.w8)) (Syntax.tyRef (Syntax.named 4) Syntax.mut (Syntax.tyInt Syntax.w8)) 4 9 (Row.lease (κs .1 .1 .1 .1 .0) (qs .1 .1 .1 .1 .0))) (List._∷_ (6, Rows.sc-here Row.sBool) (List._∷_ (7, Rows.whole (Declared.row Turn.the-type)) (List._∷_ (8, Rows.any-gone (Syntax.tyStruct (List._∷_ 116 (List._∷_ 101 (List._∷_ 120 (List._∷_ 116 (List._∷_ 95 (List._∷_ 114 (List._∷_ 101 (List._∷_ 97 (List._∷_ 100 (List._∷_ 105 (List._∷_ 110 (List._∷_ 103 (List._∷_ 58 (List._∷_ 58 (List._∷_ 82 (List._∷_ 101 (List._∷_ 97 (List._∷_ 100 (List._∷_ 101 (List._∷_ 114 List.[])))))))))))))))))))) (Syntax.tcons Syntax.tyBool (Syntax.tcons (Syntax.tyInt Syntax.w64) (Syntax.tcons (Syntax.tyEnum (List._∷_ 116 (List._∷_ 101 (List._∷_ 120 (List._∷_ 116 (List._∷_ 95 (List._∷_ 114 (List._∷_ 101 (List._∷_ 97 (List._∷_ 100 (List._∷_ 105 (List._∷_ 110 (List._∷_ 103 (List._∷_ 58 (List._∷_ 58 (List._∷_ 72 (List._∷_ 101 (List._∷_ 108 (List._∷_ 100 List.[])))))))))))))))))) (Syntax.ttcons Syntax.tnil (Syntax.ttcons Syntax.tnil (Syntax.ttcons (Syntax.tcons (Syntax.tyStruct (List._∷_ 116 (List._∷_ 101 (List._∷_ 120 (List._∷_ 116 (List._∷_ 95 (List._∷_ 104 (List._∷_ 101 (List._∷_ 97 (List._∷_ 100 (List._∷_ 105 (List._∷_ 110 (List._∷_ 103 (List._∷_ 58 (List._∷_ 58 (List._∷_ 72 (List._∷_ 101 (List._∷_ 97 (List._∷_ 100 (List._∷_ 105 (List._∷_ 110 (List._∷_ 103 List.[]))))))))))))))))))))) (Syntax.tcons (Syntax.tyStruct (List._∷_ 116 (List._∷_ 101 (List._∷_ 120 (List._∷_ 116 (List._∷_ 95 (List._∷_ 104 (List._∷_ 101 (List._∷_ 97 (List._∷_ 100 (List._∷_ 105 (List._∷_ 110 (List._∷_ 103 (List._∷_ 58 (List._∷_ 58 (List._∷_ 78 (List._∷_ 97 (List._∷_ 109 (List._∷_ 101 (List._∷_ 100 List.[]))))))))))))))))))) (Syntax.tcons (IsParameters.mir) (Syntax.tcons (Syntax.tyInt Syntax.w32) Syntax.tnil))) (Syntax.tcons (Syntax.tyStruct (List._∷_ 116 (List._∷_ 101 (List._∷_ 120 (List._∷_ 116 (List._∷_ 95 (List._∷_ 104 (List._∷_ 101 (List._∷_ 97 (List._∷_ 100 (List._∷_ 105 (List._∷_ 110 (List._∷_ 103 (List._∷_ 58 (List._∷_ 58 (List._∷_ 67 (List._∷_ 97 (List._∷_ 109 (List._∷_ 101 List.[])))))))))))))))))) (Syntax.tcons Syntax.tyBool (Syntax.tcons Syntax.tyBool (Syntax.tcons Syntax.tyBool (Syntax.tcons Syntax.tyBool Syntax.tnil))))) (Syntax.tcons (Syntax.tyEnum (List._∷_ 116 (List._∷_ 101 (List._∷_ 120 (List._∷_ 116 (List._∷_ 95 (List._∷_ 104 (List._∷_ 101 (List._∷_ 97 (List._∷_ 100 (List._∷_ 105 (List._∷_ 110 (List._∷_ 103 (List._∷_ 58 (List._∷_ 58 (List._∷_ 80 (List._∷_ 108 (List._∷_ 97 (List._∷_ 99 (List._∷_ 101 List.[]))))))))))))))))))) (Syntax.ttcons (Syntax.tcons (Syntax.tyEnum (List._∷_ 116 (List._∷_ 101 (List._∷_ 120 (List._∷_ 116 (List._∷_ 95 (List._∷_ 104 (List._∷_ 101 (List._∷_ 97 (List._∷_ 100 (List._∷_ 105 (List._∷_ 110 (List._∷_ 103 (List._∷_ 58 (List._∷_ 58 (List._∷_ 87 (List._∷_ 111 (List._∷_ 114 (List._∷_ 100 List.[])))))))))))))))))) (Syntax.ttcons Syntax.tnil (Syntax.ttcons Syntax.tnil (Syntax.ttcons Syntax.tnil (Syntax.ttcons Syntax.tnil (Syntax.ttcons Syntax.tnil Syntax.ttnil)))))) (Syntax.tcons (Syntax.tyInt Syntax.w8) Syntax.tnil)) (Syntax.ttcons (Syntax.tcons (Syntax.tyEnum (List._∷_ 116 (List._∷_ 101 (List._∷_ 120 (List._∷_ 116 (List._∷_ 95 (List._∷_ 104 (List._∷_ 101 (List._∷_ 97 (List._∷_ 100 (List._∷_ 105 (List._∷_ 110 (List._∷_ 103 (List._∷_ 58 (List._∷_ 58 (List._∷_ 87 (List._∷_ 111 (List._∷_ 114 (List._∷_ 100 List.[])))))))))))))))))) (Syntax.ttcons Syntax.tnil (Syntax.ttcons Syntax.tnil (Syntax.ttcons Syntax.tnil (Syntax.ttcons Syntax.tnil (Syntax.ttcons Syntax.tnil Syntax.ttnil)))))) Syntax.tnil) (Syntax.ttcons (Syntax.tcons (Syntax.tyEnum (List._∷_ 116 (List._∷_ 101 (List._∷_ 120 (List._∷_ 116 (List._∷_ 95 (List._∷_ 104 (List._∷_ 101 (List._∷_ 97 (List._∷_ 100 (List._∷_ 105 (List._∷_ 110 (List._∷_ 103 (List._∷_ 58 (List._∷_ 58 (List._∷_ 87 (List._∷_ 111 (List._∷_ 114 (List._∷_ 100 List.[])))))))))))))))))) (Syntax.ttcons Syntax.tnil (Syntax.ttcons Syntax.tnil (Syntax.ttcons Syntax.tnil (Syntax.ttcons Syntax.tnil (Syntax.ttcons Syntax.tnil Syntax.ttnil)))))) (Syntax.tcons (Syntax.tyInt Syntax.w8) Syntax.tnil)) (Syntax.ttcons Syntax.tnil (Syntax.ttcons (Syntax.tcons (Syntax.tyEnum (List._∷_ 116 (List._∷_ 101 (List._∷_ 120 (List._∷_ 116 (List._∷_ 95 (List._∷_ 104 (List._∷_ 101 (List._∷_ 97 (List._∷_ 100 (List._∷_ 105 (List._∷_ 110 (List._∷_ 103 (List._∷_ 58 (List._∷_ 58 (List._∷_ 72 (List._∷_ 101 (List._∷_ 97 (List._∷_ 100 (List._∷_ 105 (List._∷_ 110 (List._∷_ 103 (List._∷_ 70 (List._∷_ 97 (List._∷_ 117 (List._∷_ 108 (List._∷_ 116 List.[])))))))))))))))))))))))))) (Syntax.ttcons Syntax.tnil (Syntax.ttcons Syntax.tnil (Syntax.ttcons Syntax.tnil (Syntax.ttcons Syntax.tnil (Syntax.ttcons (Syntax.tcons (Syntax.tyEnum (List._∷_ 116 (List._∷_ 101 (List._∷_ 120 (List._∷_ 116 (List._∷_ 95 (List._∷_ 104 (List._∷_ 101 (List._∷_ 97 (List._∷_ 100 (List._∷_ 105 (List._∷_ 110 (List._∷_ 103 (List._∷_ 58 (List._∷_ 58 (List._∷_ 87 (List._∷_ 111 (List._∷_ 114 (List._∷_ 100 List.[])))))))))))))))))) (Syntax.ttcons Syntax.tnil (Syntax.ttcons Syntax.tnil (Syntax.ttcons Syntax.tnil (Syntax.ttcons Syntax.tnil (Syntax.ttcons Syntax.tnil Syntax.ttnil)))))) Syntax.tnil) Syntax.ttnil)))))) Syntax.tnil) Syntax.ttnil)))))) Syntax.tnil)))) Syntax.tnil) (Syntax.ttcons Syntax.tnil (Syntax.ttcons (Syntax.tcons (Syntax.tyInt Syntax.w8) Syntax.tnil) (Syntax.ttcons Syntax.tnil (Syntax.ttcons (Syntax.tcons (Syntax.tyEnum (List._∷_ 116 (List._∷_ 101 (List._∷_ 120 (List._∷_ 116 (List._∷_ 95 (List._∷_ 114 (List._∷_ 101 (List._∷_ 97 (List._∷_ 100 (List._∷_ 105 (List._∷_ 110 (List._∷_ 103 (List._∷_ 58 (List._∷_ 58 (List._∷_ 70 (List._∷_ 97 (List._∷_ 117 (List._∷_ 108 (List._∷_ 116 List.[]))))))))))))))))))) (Syntax.ttcons (Syntax.tcons (Syntax.tyEnum (List._∷_ 116 (List._∷_ 101 (List._∷_ 120 (List._∷_ 116 (List._∷_ 95 (List._∷_ 104 (List._∷_ 101 (List._∷_ 97 (List._∷_ 100 (List._∷_ 105 (List._∷_ 110 (List._∷_ 103 (List._∷_ 58 (List._∷_ 58 (List._∷_ 72 (List._∷_ 101 (List._∷_ 97 (List._∷_ 100 (List._∷_ 105 (List._∷_ 110 (List._∷_ 103 (List._∷_ 70 (List._∷_ 97 (List._∷_ 117 (List._∷_ 108 (List._∷_ 116 List.[])))))))))))))))))))))))))) (Syntax.ttcons Syntax.tnil (Syntax.ttcons Syntax.tnil (Syntax.ttcons Syntax.tnil (Syntax.ttcons Syntax.tnil (Syntax.ttcons (Syntax.tcons (Syntax.tyEnum (List._∷_ 116 (List._∷_ 101 (List._∷_ 120 (List._∷_ 116 (List._∷_ 95 (List._∷_ 104 (List._∷_ 101 (List._∷_ 97 (List._∷_ 100 (List._∷_ 105 (List._∷_ 110 (List._∷_ 103 (List._∷_ 58 (List._∷_ 58 (List._∷_ 87 (List._∷_ 111 (List._∷_ 114 (List._∷_ 100 List.[])))))))))))))))))) (Syntax.ttcons Syntax.tnil (Syntax.ttcons Syntax.tnil (Syntax.ttcons Syntax.tnil (Syntax.ttcons Syntax.tnil (Syntax.ttcons Syntax.tnil Syntax.ttnil)))))) Syntax.tnil) Syntax.ttnil)))))) Syntax.tnil) (Syntax.ttcons Syntax.tnil (Syntax.ttcons Syntax.tnil Syntax.ttnil)))) Syntax.tnil) Syntax.ttnil)))))))) (Syntax.tcons (Syntax.tyArray (Syntax.tyInt Syntax.w8) 32) (Syntax.tcons (Syntax.tyInt Syntax.w64) Syntax.tnil))))))) (List._∷_ (9, Rows.any-gone (Syntax.tyInt Syntax.w64)) (List._∷_ (10, Rows.any-gone (Syntax.tyRef Syntax.erased Syntax.mut OfOutput.named)) (List._∷_ (11, Rows.any-gone (Syntax.tyStruct (List._∷_ 38 (List._∷_ 91 (List._∷_ 93 List.[]))) (Syntax.tcons (Syntax.tyRef Syntax.erased Syntax.mut OfOutput.named) (Syntax.tcons (Syntax.tyInt Syntax.w64) Syntax.tnil)))) (List._∷_ (12, Rows.any-gone (Syntax.tyRef Syntax.erased Syntax.mut OfStation.named)) (List._∷_ (13, Rows.any-gone (Syntax.tyStruct (List._∷_ 38 (List._∷_ 91 (List._∷_ 93 List.[]))) (Syntax.tcons (Syntax.tyRef Syntax.erased Syntax.mut OfStation.named) (Syntax.tcons (Syntax.tyInt Syntax.w64) Syntax.tnil)))) (List._∷_ (14, Rows.any-gone (Syntax.tyRef Syntax.erased Syntax.mut OfPanelRecord.named)) (List._∷_ (15, Rows.any-gone (Syntax.tyRef Syntax.erased Syntax.mut (Syntax.tyInt Syntax.w8))) List.[])))))))))))))))
 
         abbrev g20 : List.List Row.Entry
-        g20 = List._∷_ (0, Rows.any-gone Syntax.tyUnit) (List._∷_ (1, Mut.mslice (OfOutput.row) (Syntax.tyRef (Syntax.named 0) Syntax.mut OfOutput.named) 0) (List._∷_ (2, Mut.mslice (OfStation.row) (Syntax.tyRef (Syntax.named 1) Syntax.mut OfStation.named) 1) (List._∷_ (3, Rows.mref (OfPanelRecord.row) (Syntax.tyRef (Syntax.named 2) Syntax.mut OfPanelRecord.named) 2) (List._∷_ (4, Mut.mslice (Referent.rtF (Referent.fInt Syntax.w8)) (Syntax.tyRef (Syntax.named 3) Syntax.mut (Syntax.tyInt Syntax.w8)) 3) (List._∷_ (5, Relend.mslice-owed (Referent.rtF (Referent.fInt Syntax.w8)) (Syntax.tyRef (Syntax.named 4) Syntax.mut (Syntax.tyInt Syntax.w8)) 4 9 (Row.lease (κs .1 .1 .1 .1 .0) (qs .1 .1 .1 .1 .0))) (List._∷_ (6, Rows.sc-here Row.sBool) (List._∷_ (7, Rows.whole (Declared.row Turn.the-type)) (List._∷_ (8, Rows.any-gone (Syntax.tyStruct (List._∷_ 116 (List._∷_ 101 (List._∷_ 120 (List._∷_ 116 (List._∷_ 95 (List._∷_ 114 (List._∷_ 101 (List._∷_ 97 (List._∷_ 100 (List._∷_ 105 (List._∷_ 110 (List._∷_ 103 (List._∷_ 58 (List._∷_ 58 (List._∷_ 82 (List._∷_ 101 (List._∷_ 97 (List._∷_ 100 (List._∷_ 101 (List._∷_ 114 List.[])))))))))))))))))))) (Syntax.tcons Syntax.tyBool (Syntax.tcons (Syntax.tyInt Syntax.w64) (Syntax.tcons (Syntax.tyEnum (List._∷_ 116 (List._∷_ 101 (List._∷_ 120 (List._∷_ 116 (List._∷_ 95 (List._∷_ 114 (List._∷_ 101 (List._∷_ 97 (List._∷_ 100 (List._∷_ 105 (List._∷_ 110 (List._∷_ 103 (List._∷_ 58 (List._∷_ 58 (List._∷_ 72 (List._∷_ 101 (List._∷_ 108 (List._∷_ 100 List.[])))))))))))))))))) (Syntax.ttcons Syntax.tnil (Syntax.ttcons Syntax.tnil (Syntax.ttcons (Syntax.tcons (Syntax.tyStruct (List._∷_ 116 (List._∷_ 101 (List._∷_ 120 (List._∷_ 116 (List._∷_ 95 (List._∷_ 104 (List._∷_ 101 (List._∷_ 97 (List._∷_ 100 (List._∷_ 105 (List._∷_ 110 (List._∷_ 103 (List._∷_ 58 (List._∷_ 58 (List._∷_ 72 (List._∷_ 101 (List._∷_ 97 (List._∷_ 100 (List._∷_ 105 (List._∷_ 110 (List._∷_ 103 List.[]))))))))))))))))))))) (Syntax.tcons (IsParameters.mir) (Syntax.tcons (Syntax.tyStruct (List._∷_ 116 (List._∷_ 101 (List._∷_ 120 (List._∷_ 116 (List._∷_ 95 (List._∷_ 104 (List._∷_ 101 (List._∷_ 97 (List._∷_ 100 (List._∷_ 105 (List._∷_ 110 (List._∷_ 103 (List._∷_ 58 (List._∷_ 58 (List._∷_ 67 (List._∷_ 97 (List._∷_ 109 (List._∷_ 101 List.[])))))))))))))))))) (Syntax.tcons Syntax.tyBool (Syntax.tcons Syntax.tyBool (Syntax.tcons Syntax.tyBool Syntax.tnil)))) (Syntax.tcons (Syntax.tyEnum (List._∷_ 116 (List._∷_ 101 (List._∷_ 120 (List._∷_ 116 (List._∷_ 95 (List._∷_ 104 (List._∷_ 101 (List._∷_ 97 (List._∷_ 100 (List._∷_ 105 (List._∷_ 110 (List._∷_ 103 (List._∷_ 58 (List._∷_ 58 (List._∷_ 80 (List._∷_ 108 (List._∷_ 97 (List._∷_ 99 (List._∷_ 101 List.[]))))))))))))))))))) (Syntax.ttcons (Syntax.tcons (Syntax.tyEnum (List._∷_ 116 (List._∷_ 101 (List._∷_ 120 (List._∷_ 116 (List._∷_ 95 (List._∷_ 104 (List._∷_ 101 (List._∷_ 97 (List._∷_ 100 (List._∷_ 105 (List._∷_ 110 (List._∷_ 103 (List._∷_ 58 (List._∷_ 58 (List._∷_ 87 (List._∷_ 111 (List._∷_ 114 (List._∷_ 100 List.[])))))))))))))))))) (Syntax.ttcons Syntax.tnil (Syntax.ttcons Syntax.tnil (Syntax.ttcons Syntax.tnil (Syntax.ttcons Syntax.tnil Syntax.ttnil))))) (Syntax.tcons (Syntax.tyInt Syntax.w8) Syntax.tnil)) (Syntax.ttcons (Syntax.tcons (Syntax.tyEnum (List._∷_ 116 (List._∷_ 101 (List._∷_ 120 (List._∷_ 116 (List._∷_ 95 (List._∷_ 104 (List._∷_ 101 (List._∷_ 97 (List._∷_ 100 (List._∷_ 105 (List._∷_ 110 (List._∷_ 103 (List._∷_ 58 (List._∷_ 58 (List._∷_ 87 (List._∷_ 111 (List._∷_ 114 (List._∷_ 100 List.[])))))))))))))))))) (Syntax.ttcons Syntax.tnil (Syntax.ttcons Syntax.tnil (Syntax.ttcons Syntax.tnil (Syntax.ttcons Syntax.tnil Syntax.ttnil))))) Syntax.tnil) (Syntax.ttcons (Syntax.tcons (Syntax.tyEnum (List._∷_ 116 (List._∷_ 101 (List._∷_ 120 (List._∷_ 116 (List._∷_ 95 (List._∷_ 104 (List._∷_ 101 (List._∷_ 97 (List._∷_ 100 (List._∷_ 105 (List._∷_ 110 (List._∷_ 103 (List._∷_ 58 (List._∷_ 58 (List._∷_ 87 (List._∷_ 111 (List._∷_ 114 (List._∷_ 100 List.[])))))))))))))))))) (Syntax.ttcons Syntax.tnil (Syntax.ttcons Syntax.tnil (Syntax.ttcons Syntax.tnil (Syntax.ttcons Syntax.tnil Syntax.ttnil))))) Syntax.tnil) (Syntax.ttcons Syntax.tnil (Syntax.ttcons (Syntax.tcons (Syntax.tyEnum (List._∷_ 116 (List._∷_ 101 (List._∷_ 120 (List._∷_ 116 (List._∷_ 95 (List._∷_ 104 (List._∷_ 101 (List._∷_ 97 (List._∷_ 100 (List._∷_ 105 (List._∷_ 110 (List._∷_ 103 (List._∷_ 58 (List._∷_ 58 (List._∷_ 72 (List._∷_ 101 (List._∷_ 97 (List._∷_ 100 (List._∷_ 105 (List._∷_ 110 (List._∷_ 103 (List._∷_ 70 (List._∷_ 97 (List._∷_ 117 (List._∷_ 108 (List._∷_ 116 List.[])))))))))))))))))))))))))) (Syntax.ttcons Syntax.tnil (Syntax.ttcons Syntax.tnil (Syntax.ttcons Syntax.tnil (Syntax.ttcons (Syntax.tcons (Syntax.tyEnum (List._∷_ 116 (List._∷_ 101 (List._∷_ 120 (List._∷_ 116 (List._∷_ 95 (List._∷_ 104 (List._∷_ 101 (List._∷_ 97 (List._∷_ 100 (List._∷_ 105 (List._∷_ 110 (List._∷_ 103 (List._∷_ 58 (List._∷_ 58 (List._∷_ 87 (List._∷_ 111 (List._∷_ 114 (List._∷_ 100 List.[])))))))))))))))))) (Syntax.ttcons Syntax.tnil (Syntax.ttcons Syntax.tnil (Syntax.ttcons Syntax.tnil (Syntax.ttcons Syntax.tnil Syntax.ttnil))))) Syntax.tnil) Syntax.ttnil))))) Syntax.tnil) Syntax.ttnil)))))) Syntax.tnil)))) Syntax.tnil) (Syntax.ttcons Syntax.tnil (Syntax.ttcons (Syntax.tcons (Syntax.tyInt Syntax.w8) Syntax.tnil) (Syntax.ttcons Syntax.tnil (Syntax.ttcons (Syntax.tcons (Syntax.tyEnum (List._∷_ 116 (List._∷_ 101 (List._∷_ 120 (List._∷_ 116 (List._∷_ 95 (List._∷_ 114 (List._∷_ 101 (List._∷_ 97 (List._∷_ 100 (List._∷_ 105 (List._∷_ 110 (List._∷_ 103 (List._∷_ 58 (List._∷_ 58 (List._∷_ 70 (List._∷_ 97 (List._∷_ 117 (List._∷_ 108 (List._∷_ 116 List.[]))))))))))))))))))) (Syntax.ttcons (Syntax.tcons (Syntax.tyEnum (List._∷_ 116 (List._∷_ 101 (List._∷_ 120 (List._∷_ 116 (List._∷_ 95 (List._∷_ 104 (List._∷_ 101 (List._∷_ 97 (List._∷_ 100 (List._∷_ 105 (List._∷_ 110 (List._∷_ 103 (List._∷_ 58 (List._∷_ 58 (List._∷_ 72 (List._∷_ 101 (List._∷_ 97 (List._∷_ 100 (List._∷_ 105 (List._∷_ 110 (List._∷_ 103 (List._∷_ 70 (List._∷_ 97 (List._∷_ 117 (List._∷_ 108 (List._∷_ 116 List.[])))))))))))))))))))))))))) (Syntax.ttcons Syntax.tnil (Syntax.ttcons Syntax.tnil (Syntax.ttcons Syntax.tnil (Syntax.ttcons (Syntax.tcons (Syntax.tyEnum (List._∷_ 116 (List._∷_ 101 (List._∷_ 120 (List._∷_ 116 (List._∷_ 95 (List._∷_ 104 (List._∷_ 101 (List._∷_ 97 (List._∷_ 100 (List._∷_ 105 (List._∷_ 110 (List._∷_ 103 (List._∷_ 58 (List._∷_ 58 (List._∷_ 87 (List._∷_ 111 (List._∷_ 114 (List._∷_ 100 List.[])))))))))))))))))) (Syntax.ttcons Syntax.tnil (Syntax.ttcons Syntax.tnil (Syntax.ttcons Syntax.tnil (Syntax.ttcons Syntax.tnil Syntax.ttnil))))) Syntax.tnil) Syntax.ttnil))))) Syntax.tnil) (Syntax.ttcons Syntax.tnil (Syntax.ttcons Syntax.tnil Syntax.ttnil)))) Syntax.tnil) Syntax.ttnil)))))))) (Syntax.tcons (Syntax.tyArray (Syntax.tyInt Syntax.w8) 32) (Syntax.tcons (Syntax.tyInt Syntax.w64) Syntax.tnil))))))) (List._∷_ (9, Rows.any-gone (Syntax.tyInt Syntax.w64)) (List._∷_ (10, Rows.any-gone (Syntax.tyRef Syntax.erased Syntax.mut OfOutput.named)) (List._∷_ (11, Rows.any-gone (Syntax.tyStruct (List._∷_ 38 (List._∷_ 91 (List._∷_ 93 List.[]))) (Syntax.tcons (Syntax.tyRef Syntax.erased Syntax.mut OfOutput.named) (Syntax.tcons (Syntax.tyInt Syntax.w64) Syntax.tnil)))) (List._∷_ (12, Rows.any-gone (Syntax.tyRef Syntax.erased Syntax.mut OfStation.named)) (List._∷_ (13, Rows.any-gone (Syntax.tyStruct (List._∷_ 38 (List._∷_ 91 (List._∷_ 93 List.[]))) (Syntax.tcons (Syntax.tyRef Syntax.erased Syntax.mut OfStation.named) (Syntax.tcons (Syntax.tyInt Syntax.w64) Syntax.tnil)))) (List._∷_ (14, Rows.any-gone (Syntax.tyRef Syntax.erased Syntax.mut OfPanelRecord.named)) (List._∷_ (15, Rows.any-gone (Syntax.tyRef Syntax.erased Syntax.mut (Syntax.tyInt Syntax.w8))) List.[])))))))))))))))
+        g20 = List._∷_ (0, Rows.any-gone Syntax.tyUnit) (List._∷_ (1, Mut.mslice (OfOutput.row) (Syntax.tyRef (Syntax.named 0) Syntax.mut OfOutput.named) 0) (List._∷_ (2, Mut.mslice (OfStation.row) (Syntax.tyRef (Syntax.named 1) Syntax.mut OfStation.named) 1) (List._∷_ (3, Rows.mref (OfPanelRecord.row) (Syntax.tyRef (Syntax.named 2) Syntax.mut OfPanelRecord.named) 2) (List._∷_ (4, Mut.mslice (Referent.rtF (Referent.fInt Syntax.w8)) (Syntax.tyRef (Syntax.named 3) Syntax.mut (Syntax.tyInt Syntax.w8)) 3) (List._∷_ (5, Relend.mslice-owed (Referent.rtF (Referent.fInt Syntax.w8)) (Syntax.tyRef (Syntax.named 4) Syntax.mut (Syntax.tyInt Syntax.w8)) 4 9 (Row.lease (κs .1 .1 .1 .1 .0) (qs .1 .1 .1 .1 .0))) (List._∷_ (6, Rows.sc-here Row.sBool) (List._∷_ (7, Rows.whole (Declared.row Turn.the-type)) (List._∷_ (8, Rows.any-gone (Syntax.tyStruct (List._∷_ 116 (List._∷_ 101 (List._∷_ 120 (List._∷_ 116 (List._∷_ 95 (List._∷_ 114 (List._∷_ 101 (List._∷_ 97 (List._∷_ 100 (List._∷_ 105 (List._∷_ 110 (List._∷_ 103 (List._∷_ 58 (List._∷_ 58 (List._∷_ 82 (List._∷_ 101 (List._∷_ 97 (List._∷_ 100 (List._∷_ 101 (List._∷_ 114 List.[])))))))))))))))))))) (Syntax.tcons Syntax.tyBool (Syntax.tcons (Syntax.tyInt Syntax.w64) (Syntax.tcons (Syntax.tyEnum (List._∷_ 116 (List._∷_ 101 (List._∷_ 120 (List._∷_ 116 (List._∷_ 95 (List._∷_ 114 (List._∷_ 101 (List._∷_ 97 (List._∷_ 100 (List._∷_ 105 (List._∷_ 110 (List._∷_ 103 (List._∷_ 58 (List._∷_ 58 (List._∷_ 72 (List._∷_ 101 (List._∷_ 108 (List._∷_ 100 List.[])))))))))))))))))) (Syntax.ttcons Syntax.tnil (Syntax.ttcons Syntax.tnil (Syntax.ttcons (Syntax.tcons (Syntax.tyStruct (List._∷_ 116 (List._∷_ 101 (List._∷_ 120 (List._∷_ 116 (List._∷_ 95 (List._∷_ 104 (List._∷_ 101 (List._∷_ 97 (List._∷_ 100 (List._∷_ 105 (List._∷_ 110 (List._∷_ 103 (List._∷_ 58 (List._∷_ 58 (List._∷_ 72 (List._∷_ 101 (List._∷_ 97 (List._∷_ 100 (List._∷_ 105 (List._∷_ 110 (List._∷_ 103 List.[]))))))))))))))))))))) (Syntax.tcons (Syntax.tyStruct (List._∷_ 116 (List._∷_ 101 (List._∷_ 120 (List._∷_ 116 (List._∷_ 95 (List._∷_ 104 (List._∷_ 101 (List._∷_ 97 (List._∷_ 100 (List._∷_ 105 (List._∷_ 110 (List._∷_ 103 (List._∷_ 58 (List._∷_ 58 (List._∷_ 78 (List._∷_ 97 (List._∷_ 109 (List._∷_ 101 (List._∷_ 100 List.[]))))))))))))))))))) (Syntax.tcons (IsParameters.mir) (Syntax.tcons (Syntax.tyInt Syntax.w32) Syntax.tnil))) (Syntax.tcons (Syntax.tyStruct (List._∷_ 116 (List._∷_ 101 (List._∷_ 120 (List._∷_ 116 (List._∷_ 95 (List._∷_ 104 (List._∷_ 101 (List._∷_ 97 (List._∷_ 100 (List._∷_ 105 (List._∷_ 110 (List._∷_ 103 (List._∷_ 58 (List._∷_ 58 (List._∷_ 67 (List._∷_ 97 (List._∷_ 109 (List._∷_ 101 List.[])))))))))))))))))) (Syntax.tcons Syntax.tyBool (Syntax.tcons Syntax.tyBool (Syntax.tcons Syntax.tyBool (Syntax.tcons Syntax.tyBool Syntax.tnil))))) (Syntax.tcons (Syntax.tyEnum (List._∷_ 116 (List._∷_ 101 (List._∷_ 120 (List._∷_ 116 (List._∷_ 95 (List._∷_ 104 (List._∷_ 101 (List._∷_ 97 (List._∷_ 100 (List._∷_ 105 (List._∷_ 110 (List._∷_ 103 (List._∷_ 58 (List._∷_ 58 (List._∷_ 80 (List._∷_ 108 (List._∷_ 97 (List._∷_ 99 (List._∷_ 101 List.[]))))))))))))))))))) (Syntax.ttcons (Syntax.tcons (Syntax.tyEnum (List._∷_ 116 (List._∷_ 101 (List._∷_ 120 (List._∷_ 116 (List._∷_ 95 (List._∷_ 104 (List._∷_ 101 (List._∷_ 97 (List._∷_ 100 (List._∷_ 105 (List._∷_ 110 (List._∷_ 103 (List._∷_ 58 (List._∷_ 58 (List._∷_ 87 (List._∷_ 111 (List._∷_ 114 (List._∷_ 100 List.[])))))))))))))))))) (Syntax.ttcons Syntax.tnil (Syntax.ttcons Syntax.tnil (Syntax.ttcons Syntax.tnil (Syntax.ttcons Syntax.tnil (Syntax.ttcons Syntax.tnil Syntax.ttnil)))))) (Syntax.tcons (Syntax.tyInt Syntax.w8) Syntax.tnil)) (Syntax.ttcons (Syntax.tcons (Syntax.tyEnum (List._∷_ 116 (List._∷_ 101 (List._∷_ 120 (List._∷_ 116 (List._∷_ 95 (List._∷_ 104 (List._∷_ 101 (List._∷_ 97 (List._∷_ 100 (List._∷_ 105 (List._∷_ 110 (List._∷_ 103 (List._∷_ 58 (List._∷_ 58 (List._∷_ 87 (List._∷_ 111 (List._∷_ 114 (List._∷_ 100 List.[])))))))))))))))))) (Syntax.ttcons Syntax.tnil (Syntax.ttcons Syntax.tnil (Syntax.ttcons Syntax.tnil (Syntax.ttcons Syntax.tnil (Syntax.ttcons Syntax.tnil Syntax.ttnil)))))) Syntax.tnil) (Syntax.ttcons (Syntax.tcons (Syntax.tyEnum (List._∷_ 116 (List._∷_ 101 (List._∷_ 120 (List._∷_ 116 (List._∷_ 95 (List._∷_ 104 (List._∷_ 101 (List._∷_ 97 (List._∷_ 100 (List._∷_ 105 (List._∷_ 110 (List._∷_ 103 (List._∷_ 58 (List._∷_ 58 (List._∷_ 87 (List._∷_ 111 (List._∷_ 114 (List._∷_ 100 List.[])))))))))))))))))) (Syntax.ttcons Syntax.tnil (Syntax.ttcons Syntax.tnil (Syntax.ttcons Syntax.tnil (Syntax.ttcons Syntax.tnil (Syntax.ttcons Syntax.tnil Syntax.ttnil)))))) (Syntax.tcons (Syntax.tyInt Syntax.w8) Syntax.tnil)) (Syntax.ttcons Syntax.tnil (Syntax.ttcons (Syntax.tcons (Syntax.tyEnum (List._∷_ 116 (List._∷_ 101 (List._∷_ 120 (List._∷_ 116 (List._∷_ 95 (List._∷_ 104 (List._∷_ 101 (List._∷_ 97 (List._∷_ 100 (List._∷_ 105 (List._∷_ 110 (List._∷_ 103 (List._∷_ 58 (List._∷_ 58 (List._∷_ 72 (List._∷_ 101 (List._∷_ 97 (List._∷_ 100 (List._∷_ 105 (List._∷_ 110 (List._∷_ 103 (List._∷_ 70 (List._∷_ 97 (List._∷_ 117 (List._∷_ 108 (List._∷_ 116 List.[])))))))))))))))))))))))))) (Syntax.ttcons Syntax.tnil (Syntax.ttcons Syntax.tnil (Syntax.ttcons Syntax.tnil (Syntax.ttcons Syntax.tnil (Syntax.ttcons (Syntax.tcons (Syntax.tyEnum (List._∷_ 116 (List._∷_ 101 (List._∷_ 120 (List._∷_ 116 (List._∷_ 95 (List._∷_ 104 (List._∷_ 101 (List._∷_ 97 (List._∷_ 100 (List._∷_ 105 (List._∷_ 110 (List._∷_ 103 (List._∷_ 58 (List._∷_ 58 (List._∷_ 87 (List._∷_ 111 (List._∷_ 114 (List._∷_ 100 List.[])))))))))))))))))) (Syntax.ttcons Syntax.tnil (Syntax.ttcons Syntax.tnil (Syntax.ttcons Syntax.tnil (Syntax.ttcons Syntax.tnil (Syntax.ttcons Syntax.tnil Syntax.ttnil)))))) Syntax.tnil) Syntax.ttnil)))))) Syntax.tnil) Syntax.ttnil)))))) Syntax.tnil)))) Syntax.tnil) (Syntax.ttcons Syntax.tnil (Syntax.ttcons (Syntax.tcons (Syntax.tyInt Syntax.w8) Syntax.tnil) (Syntax.ttcons Syntax.tnil (Syntax.ttcons (Syntax.tcons (Syntax.tyEnum (List._∷_ 116 (List._∷_ 101 (List._∷_ 120 (List._∷_ 116 (List._∷_ 95 (List._∷_ 114 (List._∷_ 101 (List._∷_ 97 (List._∷_ 100 (List._∷_ 105 (List._∷_ 110 (List._∷_ 103 (List._∷_ 58 (List._∷_ 58 (List._∷_ 70 (List._∷_ 97 (List._∷_ 117 (List._∷_ 108 (List._∷_ 116 List.[]))))))))))))))))))) (Syntax.ttcons (Syntax.tcons (Syntax.tyEnum (List._∷_ 116 (List._∷_ 101 (List._∷_ 120 (List._∷_ 116 (List._∷_ 95 (List._∷_ 104 (List._∷_ 101 (List._∷_ 97 (List._∷_ 100 (List._∷_ 105 (List._∷_ 110 (List._∷_ 103 (List._∷_ 58 (List._∷_ 58 (List._∷_ 72 (List._∷_ 101 (List._∷_ 97 (List._∷_ 100 (List._∷_ 105 (List._∷_ 110 (List._∷_ 103 (List._∷_ 70 (List._∷_ 97 (List._∷_ 117 (List._∷_ 108 (List._∷_ 116 List.[])))))))))))))))))))))))))) (Syntax.ttcons Syntax.tnil (Syntax.ttcons Syntax.tnil (Syntax.ttcons Syntax.tnil (Syntax.ttcons Syntax.tnil (Syntax.ttcons (Syntax.tcons (Syntax.tyEnum (List._∷_ 116 (List._∷_ 101 (List._∷_ 120 (List._∷_ 116 (List._∷_ 95 (List._∷_ 104 (List._∷_ 101 (List._∷_ 97 (List._∷_ 100 (List._∷_ 105 (List._∷_ 110 (List._∷_ 103 (List._∷_ 58 (List._∷_ 58 (List._∷_ 87 (List._∷_ 111 (List._∷_ 114 (List._∷_ 100 List.[])))))))))))))))))) (Syntax.ttcons Syntax.tnil (Syntax.ttcons Syntax.tnil (Syntax.ttcons Syntax.tnil (Syntax.ttcons Syntax.tnil (Syntax.ttcons Syntax.tnil Syntax.ttnil)))))) Syntax.tnil) Syntax.ttnil)))))) Syntax.tnil) (Syntax.ttcons Syntax.tnil (Syntax.ttcons Syntax.tnil Syntax.ttnil)))) Syntax.tnil) Syntax.ttnil)))))))) (Syntax.tcons (Syntax.tyArray (Syntax.tyInt Syntax.w8) 32) (Syntax.tcons (Syntax.tyInt Syntax.w64) Syntax.tnil))))))) (List._∷_ (9, Rows.any-gone (Syntax.tyInt Syntax.w64)) (List._∷_ (10, Rows.any-gone (Syntax.tyRef Syntax.erased Syntax.mut OfOutput.named)) (List._∷_ (11, Rows.any-gone (Syntax.tyStruct (List._∷_ 38 (List._∷_ 91 (List._∷_ 93 List.[]))) (Syntax.tcons (Syntax.tyRef Syntax.erased Syntax.mut OfOutput.named) (Syntax.tcons (Syntax.tyInt Syntax.w64) Syntax.tnil)))) (List._∷_ (12, Rows.any-gone (Syntax.tyRef Syntax.erased Syntax.mut OfStation.named)) (List._∷_ (13, Rows.any-gone (Syntax.tyStruct (List._∷_ 38 (List._∷_ 91 (List._∷_ 93 List.[]))) (Syntax.tcons (Syntax.tyRef Syntax.erased Syntax.mut OfStation.named) (Syntax.tcons (Syntax.tyInt Syntax.w64) Syntax.tnil)))) (List._∷_ (14, Rows.any-gone (Syntax.tyRef Syntax.erased Syntax.mut OfPanelRecord.named)) (List._∷_ (15, Rows.any-gone (Syntax.tyRef Syntax.erased Syntax.mut (Syntax.tyInt Syntax.w8))) List.[])))))))))))))))
 
         abbrev g25 : List.List Row.Entry
         g25 = List._∷_ (0, Rows.any-gone Syntax.tyUnit) (List._∷_ (1, Relend.mslice-owed (OfOutput.row) (Syntax.tyRef (Syntax.named 0) Syntax.mut OfOutput.named) 0 10 (Row.lease (κs .0) (qs .0))) (List._∷_ (2, Mut.mslice (OfStation.row) (Syntax.tyRef (Syntax.named 1) Syntax.mut OfStation.named) 1) (List._∷_ (3, Rows.mref (OfPanelRecord.row) (Syntax.tyRef (Syntax.named 2) Syntax.mut OfPanelRecord.named) 2) (List._∷_ (4, Mut.mslice (Referent.rtF (Referent.fInt Syntax.w8)) (Syntax.tyRef (Syntax.named 3) Syntax.mut (Syntax.tyInt Syntax.w8)) 3) (List._∷_ (5, Mut.mslice (Referent.rtF (Referent.fInt Syntax.w8)) (Syntax.tyRef (Syntax.named 4) Syntax.mut (Syntax.tyInt Syntax.w8)) 4) (List._∷_ (6, Rows.sc-here Row.sBool) (List._∷_ (7, Rows.whole (Declared.row Turn.the-type)) (List._∷_ (8, Rows.whole (Declared.row Reader.the-type)) (List._∷_ (9, Rows.any-gone (Syntax.tyInt Syntax.w64)) (List._∷_ (10, Rows.any-gone (Syntax.tyRef Syntax.erased Syntax.mut OfOutput.named)) (List._∷_ (11, Rows.any-gone (Syntax.tyStruct (List._∷_ 38 (List._∷_ 91 (List._∷_ 93 List.[]))) (Syntax.tcons (Syntax.tyRef Syntax.erased Syntax.mut OfOutput.named) (Syntax.tcons (Syntax.tyInt Syntax.w64) Syntax.tnil)))) (List._∷_ (12, Rows.any-gone (Syntax.tyRef Syntax.erased Syntax.mut OfStation.named)) (List._∷_ (13, Rows.any-gone (Syntax.tyStruct (List._∷_ 38 (List._∷_ 91 (List._∷_ 93 List.[]))) (Syntax.tcons (Syntax.tyRef Syntax.erased Syntax.mut OfStation.named) (Syntax.tcons (Syntax.tyInt Syntax.w64) Syntax.tnil)))) (List._∷_ (14, Rows.any-gone (Syntax.tyRef Syntax.erased Syntax.mut OfPanelRecord.named)) (List._∷_ (15, Rows.any-gone (Syntax.tyRef Syntax.erased Syntax.mut (Syntax.tyInt Syntax.w8))) List.[])))))))))))))))
@@ -1093,28 +1093,28 @@ module _ (claims· : Claims) where
         g38 = List._∷_ (0, Rows.any-gone Syntax.tyUnit) (List._∷_ (1, Relend.mslice-owed (OfOutput.row) (Syntax.tyRef (Syntax.named 0) Syntax.mut OfOutput.named) 0 10 (Row.lease (κs .0) (qs .0))) (List._∷_ (2, Relend.mslice-owed (OfStation.row) (Syntax.tyRef (Syntax.named 1) Syntax.mut OfStation.named) 1 11 (Row.lease (κs .1 .0) (qs .1 .0))) (List._∷_ (3, Rows.mref-owed (OfPanelRecord.row) (Syntax.tyRef (Syntax.named 2) Syntax.mut OfPanelRecord.named) 2 12 (Row.lease (κs .1 .1 .0) (qs .1 .1 .0))) (List._∷_ (4, Relend.mslice-owed (Referent.rtF (Referent.fInt Syntax.w8)) (Syntax.tyRef (Syntax.named 3) Syntax.mut (Syntax.tyInt Syntax.w8)) 3 13 (Row.lease (κs .1 .1 .1 .0) (qs .1 .1 .1 .0))) (List._∷_ (5, Mut.mslice (Referent.rtF (Referent.fInt Syntax.w8)) (Syntax.tyRef (Syntax.named 4) Syntax.mut (Syntax.tyInt Syntax.w8)) 4) (List._∷_ (6, Rows.sc-here Row.sBool) (List._∷_ (7, Rows.any-gone (Laws.mir)) (List._∷_ (8, Rows.whole (Declared.row Reader.the-type)) (List._∷_ (9, Rows.sc-here (Row.sInt Syntax.w64)) (List._∷_ (10, Rows.any-gone (Syntax.tyRef Syntax.erased Syntax.mut OfOutput.named)) (List._∷_ (11, Rows.any-gone (Syntax.tyStruct (List._∷_ 38 (List._∷_ 91 (List._∷_ 93 List.[]))) (Syntax.tcons (Syntax.tyRef Syntax.erased Syntax.mut OfOutput.named) (Syntax.tcons (Syntax.tyInt Syntax.w64) Syntax.tnil)))) (List._∷_ (12, Rows.any-gone (Syntax.tyRef Syntax.erased Syntax.mut OfStation.named)) (List._∷_ (13, Rows.any-gone (Syntax.tyStruct (List._∷_ 38 (List._∷_ 91 (List._∷_ 93 List.[]))) (Syntax.tcons (Syntax.tyRef Syntax.erased Syntax.mut OfStation.named) (Syntax.tcons (Syntax.tyInt Syntax.w64) Syntax.tnil)))) (List._∷_ (14, Rows.any-gone (Syntax.tyRef Syntax.erased Syntax.mut OfPanelRecord.named)) (List._∷_ (15, Rows.any-gone (Syntax.tyRef Syntax.erased Syntax.mut (Syntax.tyInt Syntax.w8))) List.[])))))))))))))))
 
         abbrev g39 : List.List Row.Entry
-        g39 = List._∷_ (0, Rows.any-gone Syntax.tyUnit) (List._∷_ (1, Relend.mslice-owed (OfOutput.row) (Syntax.tyRef (Syntax.named 0) Syntax.mut OfOutput.named) 0 10 (Row.lease (κs .0) (qs .0))) (List._∷_ (2, Relend.mslice-owed (OfStation.row) (Syntax.tyRef (Syntax.named 1) Syntax.mut OfStation.named) 1 11 (Row.lease (κs .1 .0) (qs .1 .0))) (List._∷_ (3, Rows.mref-owed (OfPanelRecord.row) (Syntax.tyRef (Syntax.named 2) Syntax.mut OfPanelRecord.named) 2 12 (Row.lease (κs .1 .1 .0) (qs .1 .1 .0))) (List._∷_ (4, Relend.mslice-owed (Referent.rtF (Referent.fInt Syntax.w8)) (Syntax.tyRef (Syntax.named 3) Syntax.mut (Syntax.tyInt Syntax.w8)) 3 13 (Row.lease (κs .1 .1 .1 .0) (qs .1 .1 .1 .0))) (List._∷_ (5, Mut.mslice (Referent.rtF (Referent.fInt Syntax.w8)) (Syntax.tyRef (Syntax.named 4) Syntax.mut (Syntax.tyInt Syntax.w8)) 4) (List._∷_ (6, Rows.sc-here Row.sBool) (List._∷_ (7, Rows.any-gone (Laws.mir)) (List._∷_ (8, Rows.any-gone (Syntax.tyStruct (List._∷_ 116 (List._∷_ 101 (List._∷_ 120 (List._∷_ 116 (List._∷_ 95 (List._∷_ 114 (List._∷_ 101 (List._∷_ 97 (List._∷_ 100 (List._∷_ 105 (List._∷_ 110 (List._∷_ 103 (List._∷_ 58 (List._∷_ 58 (List._∷_ 82 (List._∷_ 101 (List._∷_ 97 (List._∷_ 100 (List._∷_ 101 (List._∷_ 114 List.[])))))))))))))))))))) (Syntax.tcons Syntax.tyBool (Syntax.tcons (Syntax.tyInt Syntax.w64) (Syntax.tcons (Syntax.tyEnum (List._∷_ 116 (List._∷_ 101 (List._∷_ 120 (List._∷_ 116 (List._∷_ 95 (List._∷_ 114 (List._∷_ 101 (List._∷_ 97 (List._∷_ 100 (List._∷_ 105 (List._∷_ 110 (List._∷_ 103 (List._∷_ 58 (List._∷_ 58 (List._∷_ 72 (List._∷_ 101 (List._∷_ 108 (List._∷_ 100 List.[])))))))))))))))))) (Syntax.ttcons Syntax.tnil (Syntax.ttcons Syntax.tnil (Syntax.ttcons (Syntax.tcons (Syntax.tyStruct (List._∷_ 116 (List._∷_ 101 (List._∷_ 120 (List._∷_ 116 (List._∷_ 95 (List._∷_ 104 (List._∷_ 101 (List._∷_ 97 (List._∷_ 100 (List._∷_ 105 (List._∷_ 110 (List._∷_ 103 (List._∷_ 58 (List._∷_ 58 (List._∷_ 72 (List._∷_ 101 (List._∷_ 97 (List._∷_ 100 (List._∷_ 105 (List._∷_ 110 (List._∷_ 103 List.[]))))))))))))))))))))) (Syntax.tcons (IsParameters.mir) (Syntax.tcons (Syntax.tyStruct (List._∷_ 116 (List._∷_ 101 (List._∷_ 120 (List._∷_ 116 (List._∷_ 95 (List._∷_ 104 (List._∷_ 101 (List._∷_ 97 (List._∷_ 100 (List._∷_ 105 (List._∷_ 110 (List._∷_ 103 (List._∷_ 58 (List._∷_ 58 (List._∷_ 67 (List._∷_ 97 (List._∷_ 109 (List._∷_ 101 List.[])))))))))))))))))) (Syntax.tcons Syntax.tyBool (Syntax.tcons Syntax.tyBool (Syntax.tcons Syntax.tyBool Syntax.tnil)))) (Syntax.tcons (Syntax.tyEnum (List._∷_ 116 (List._∷_ 101 (List._∷_ 120 (List._∷_ 116 (List._∷_ 95 (List._∷_ 104 (List._∷_ 101 (List._∷_ 97 (List._∷_ 100 (List._∷_ 105 (List._∷_ 110 (List._∷_ 103 (List._∷_ 58 (List._∷_ 58 (List._∷_ 80 (List._∷_ 108 (List._∷_ 97 (List._∷_ 99 (List._∷_ 101 List.[]))))))))))))))))))) (Syntax.ttcons (Syntax.tcons (Syntax.tyEnum (List._∷_ 116 (List._∷_ 101 (List._∷_ 120 (List._∷_ 116 (List._∷_ 95 (List._∷_ 104 (List._∷_ 101 (List._∷_ 97 (List._∷_ 100 (List._∷_ 105 (List._∷_ 110 (List._∷_ 103 (List._∷_ 58 (List._∷_ 58 (List._∷_ 87 (List._∷_ 111 (List._∷_ 114 (List._∷_ 100 List.[])))))))))))))))))) (Syntax.ttcons Syntax.tnil (Syntax.ttcons Syntax.tnil (Syntax.ttcons Syntax.tnil (Syntax.ttcons Syntax.tnil Syntax.ttnil))))) (Syntax.tcons (Syntax.tyInt Syntax.w8) Syntax.tnil)) (Syntax.ttcons (Syntax.tcons (Syntax.tyEnum (List._∷_ 116 (List._∷_ 101 (List._∷_ 120 (List._∷_ 116 (List._∷_ 95 (List._∷_ 104 (List._∷_ 101 (List._∷_ 97 (List._∷_ 100 (List._∷_ 105 (List._∷_ 110 (List._∷_ 103 (List._∷_ 58 (List._∷_ 58 (List._∷_ 87 (List._∷_ 111 (List._∷_ 114 (List._∷_ 100 List.[])))))))))))))))))) (Syntax.ttcons Syntax.tnil (Syntax.ttcons Syntax.tnil (Syntax.ttcons Syntax.tnil (Syntax.ttcons Syntax.tnil Syntax.ttnil))))) Syntax.tnil) (Syntax.ttcons (Syntax.tcons (Syntax.tyEnum (List._∷_ 116 (List._∷_ 101 (List._∷_ 120 (List._∷_ 116 (List._∷_ 95 (List._∷_ 104 (List._∷_ 101 (List._∷_ 97 (List._∷_ 100 (List._∷_ 105 (List._∷_ 110 (List._∷_ 103 (List._∷_ 58 (List._∷_ 58 (List._∷_ 87 (List._∷_ 111 (List._∷_ 114 (List._∷_ 100 List.[])))))))))))))))))) (Syntax.ttcons Syntax.tnil (Syntax.ttcons Syntax.tnil (Syntax.ttcons Syntax.tnil (Syntax.ttcons Syntax.tnil Syntax.ttnil))))) Syntax.tnil) (Syntax.ttcons Syntax.tnil (Syntax.ttcons (Syntax.tcons (Syntax.tyEnum (List._∷_ 116 (List._∷_ 101 (List._∷_ 120 (List._∷_ 116 (List._∷_ 95 (List._∷_ 104 (List._∷_ 101 (List._∷_ 97 (List._∷_ 100 (List._∷_ 105 (List._∷_ 110 (List._∷_ 103 (List._∷_ 58 (List._∷_ 58 (List._∷_ 72 (List._∷_ 101 (List._∷_ 97 (List._∷_ 100 (List._∷_ 105 (List._∷_ 110 (List._∷_ 103 (List._∷_ 70 (List._∷_ 97 (List._∷_ 117 (List._∷_ 108 (List._∷_ 116 List.[])))))))))))))))))))))))))) (Syntax.ttcons Syntax.tnil (Syntax.ttcons Syntax.tnil (Syntax.ttcons Syntax.tnil (Syntax.ttcons (Syntax.tcons (Syntax.tyEnum (List._∷_ 116 (List._∷_ 101 (List._∷_ 120 (List._∷_ 116 (List._∷_ 95 (List._∷_ 104 (List._∷_ 101 (List._∷_ 97 (List._∷_ 100 (List._∷_ 105 (List._∷_ 110 (List._∷_ 103 (List._∷_ 58 (List._∷_ 58 (List._∷_ 87 (List._∷_ 111 (List._∷_ 114 (List._∷_ 100 List.[])))))))))))))))))) (Syntax.ttcons Syntax.tnil (Syntax.ttcons Syntax.tnil (Syntax.ttcons Syntax.tnil (Syntax.ttcons Syntax.tnil Syntax.ttnil))))) Syntax.tnil) Syntax.ttnil))))) Syntax.tnil) Syntax.ttnil)))))) Syntax.tnil)))) Syntax.tnil) (Syntax.ttcons Syntax.tnil (Syntax.ttcons (Syntax.tcons (Syntax.tyInt Syntax.w8) Syntax.tnil) (Syntax.ttcons Syntax.tnil (Syntax.ttcons (Syntax.tcons (Syntax.tyEnum (List._∷_ 116 (List._∷_ 101 (List._∷_ 120 (List._∷_ 116 (List._∷_ 95 (List._∷_ 114 (List._∷_ 101 (List._∷_ 97 (List._∷_ 100 (List._∷_ 105 (List._∷_ 110 (List._∷_ 103 (List._∷_ 58 (List._∷_ 58 (List._∷_ 70 (List._∷_ 97 (List._∷_ 117 (List._∷_ 108 (List._∷_ 116 List.[]))))))))))))))))))) (Syntax.ttcons (Syntax.tcons (Syntax.tyEnum (List._∷_ 116 (List._∷_ 101 (List._∷_ 120 (List._∷_ 116 (List._∷_ 95 (List._∷_ 104 (List._∷_ 101 (List._∷_ 97 (List._∷_ 100 (List._∷_ 105 (List._∷_ 110 (List._∷_ 103 (List._∷_ 58 (List._∷_ 58 (List._∷_ 72 (List._∷_ 101 (List._∷_ 97 (List._∷_ 100 (List._∷_ 105 (List._∷_ 110 (List._∷_ 103 (List._∷_ 70 (List._∷_ 97 (List._∷_ 117 (List._∷_ 108 (List._∷_ 116 List.[])))))))))))))))))))))))))) (Syntax.ttcons Syntax.tnil (Syntax.ttcons Syntax.tnil (Syntax.ttcons Syntax.tnil (Syntax.ttcons (Syntax.tcons (Syntax.tyEnum (List._∷_ 116 (List._∷_ 101 (List._∷_ 120 (List._∷_ 116 (List._∷_ 95 (List._∷_ 104 (List._∷_ 101 (List._∷_ 97 (List._∷_ 100 (List._∷_ 105 (List._∷_ 110 (List._∷_ 103 (List._∷_ 58 (List._∷_ 58 (List._∷_ 87 (List._∷_ 111 (List._∷_ 114 (List._∷_ 100 List.[])))))))))))))))))) (Syntax.ttcons Syntax.tnil (Syntax.ttcons Syntax.tnil (Syntax.ttcons Syntax.tnil (Syntax.ttcons Syntax.tnil Syntax.ttnil))))) Syntax.tnil) Syntax.ttnil))))) Syntax.tnil) (Syntax.ttcons Syntax.tnil (Syntax.ttcons Syntax.tnil Syntax.ttnil)))) Syntax.tnil) Syntax.ttnil)))))))) (Syntax.tcons (Syntax.tyArray (Syntax.tyInt Syntax.w8) 32) (Syntax.tcons (Syntax.tyInt Syntax.w64) Syntax.tnil))))))) (List._∷_ (9, Rows.sc-here (Row.sInt Syntax.w64)) (List._∷_ (10, Rows.any-gone (Syntax.tyRef Syntax.erased Syntax.mut OfOutput.named)) (List._∷_ (11, Rows.any-gone (Syntax.tyStruct (List._∷_ 38 (List._∷_ 91 (List._∷_ 93 List.[]))) (Syntax.tcons (Syntax.tyRef Syntax.erased Syntax.mut OfOutput.named) (Syntax.tcons (Syntax.tyInt Syntax.w64) Syntax.tnil)))) (List._∷_ (12, Rows.any-gone (Syntax.tyRef Syntax.erased Syntax.mut OfStation.named)) (List._∷_ (13, Rows.any-gone (Syntax.tyStruct (List._∷_ 38 (List._∷_ 91 (List._∷_ 93 List.[]))) (Syntax.tcons (Syntax.tyRef Syntax.erased Syntax.mut OfStation.named) (Syntax.tcons (Syntax.tyInt Syntax.w64) Syntax.tnil)))) (List._∷_ (14, Rows.any-gone (Syntax.tyRef Syntax.erased Syntax.mut OfPanelRecord.named)) (List._∷_ (15, Rows.any-gone (Syntax.tyRef Syntax.erased Syntax.mut (Syntax.tyInt Syntax.w8))) List.[])))))))))))))))
+        g39 = List._∷_ (0, Rows.any-gone Syntax.tyUnit) (List._∷_ (1, Relend.mslice-owed (OfOutput.row) (Syntax.tyRef (Syntax.named 0) Syntax.mut OfOutput.named) 0 10 (Row.lease (κs .0) (qs .0))) (List._∷_ (2, Relend.mslice-owed (OfStation.row) (Syntax.tyRef (Syntax.named 1) Syntax.mut OfStation.named) 1 11 (Row.lease (κs .1 .0) (qs .1 .0))) (List._∷_ (3, Rows.mref-owed (OfPanelRecord.row) (Syntax.tyRef (Syntax.named 2) Syntax.mut OfPanelRecord.named) 2 12 (Row.lease (κs .1 .1 .0) (qs .1 .1 .0))) (List._∷_ (4, Relend.mslice-owed (Referent.rtF (Referent.fInt Syntax.w8)) (Syntax.tyRef (Syntax.named 3) Syntax.mut (Syntax.tyInt Syntax.w8)) 3 13 (Row.lease (κs .1 .1 .1 .0) (qs .1 .1 .1 .0))) (List._∷_ (5, Mut.mslice (Referent.rtF (Referent.fInt Syntax.w8)) (Syntax.tyRef (Syntax.named 4) Syntax.mut (Syntax.tyInt Syntax.w8)) 4) (List._∷_ (6, Rows.sc-here Row.sBool) (List._∷_ (7, Rows.any-gone (Laws.mir)) (List._∷_ (8, Rows.any-gone (Syntax.tyStruct (List._∷_ 116 (List._∷_ 101 (List._∷_ 120 (List._∷_ 116 (List._∷_ 95 (List._∷_ 114 (List._∷_ 101 (List._∷_ 97 (List._∷_ 100 (List._∷_ 105 (List._∷_ 110 (List._∷_ 103 (List._∷_ 58 (List._∷_ 58 (List._∷_ 82 (List._∷_ 101 (List._∷_ 97 (List._∷_ 100 (List._∷_ 101 (List._∷_ 114 List.[])))))))))))))))))))) (Syntax.tcons Syntax.tyBool (Syntax.tcons (Syntax.tyInt Syntax.w64) (Syntax.tcons (Syntax.tyEnum (List._∷_ 116 (List._∷_ 101 (List._∷_ 120 (List._∷_ 116 (List._∷_ 95 (List._∷_ 114 (List._∷_ 101 (List._∷_ 97 (List._∷_ 100 (List._∷_ 105 (List._∷_ 110 (List._∷_ 103 (List._∷_ 58 (List._∷_ 58 (List._∷_ 72 (List._∷_ 101 (List._∷_ 108 (List._∷_ 100 List.[])))))))))))))))))) (Syntax.ttcons Syntax.tnil (Syntax.ttcons Syntax.tnil (Syntax.ttcons (Syntax.tcons (Syntax.tyStruct (List._∷_ 116 (List._∷_ 101 (List._∷_ 120 (List._∷_ 116 (List._∷_ 95 (List._∷_ 104 (List._∷_ 101 (List._∷_ 97 (List._∷_ 100 (List._∷_ 105 (List._∷_ 110 (List._∷_ 103 (List._∷_ 58 (List._∷_ 58 (List._∷_ 72 (List._∷_ 101 (List._∷_ 97 (List._∷_ 100 (List._∷_ 105 (List._∷_ 110 (List._∷_ 103 List.[]))))))))))))))))))))) (Syntax.tcons (Syntax.tyStruct (List._∷_ 116 (List._∷_ 101 (List._∷_ 120 (List._∷_ 116 (List._∷_ 95 (List._∷_ 104 (List._∷_ 101 (List._∷_ 97 (List._∷_ 100 (List._∷_ 105 (List._∷_ 110 (List._∷_ 103 (List._∷_ 58 (List._∷_ 58 (List._∷_ 78 (List._∷_ 97 (List._∷_ 109 (List._∷_ 101 (List._∷_ 100 List.[]))))))))))))))))))) (Syntax.tcons (IsParameters.mir) (Syntax.tcons (Syntax.tyInt Syntax.w32) Syntax.tnil))) (Syntax.tcons (Syntax.tyStruct (List._∷_ 116 (List._∷_ 101 (List._∷_ 120 (List._∷_ 116 (List._∷_ 95 (List._∷_ 104 (List._∷_ 101 (List._∷_ 97 (List._∷_ 100 (List._∷_ 105 (List._∷_ 110 (List._∷_ 103 (List._∷_ 58 (List._∷_ 58 (List._∷_ 67 (List._∷_ 97 (List._∷_ 109 (List._∷_ 101 List.[])))))))))))))))))) (Syntax.tcons Syntax.tyBool (Syntax.tcons Syntax.tyBool (Syntax.tcons Syntax.tyBool (Syntax.tcons Syntax.tyBool Syntax.tnil))))) (Syntax.tcons (Syntax.tyEnum (List._∷_ 116 (List._∷_ 101 (List._∷_ 120 (List._∷_ 116 (List._∷_ 95 (List._∷_ 104 (List._∷_ 101 (List._∷_ 97 (List._∷_ 100 (List._∷_ 105 (List._∷_ 110 (List._∷_ 103 (List._∷_ 58 (List._∷_ 58 (List._∷_ 80 (List._∷_ 108 (List._∷_ 97 (List._∷_ 99 (List._∷_ 101 List.[]))))))))))))))))))) (Syntax.ttcons (Syntax.tcons (Syntax.tyEnum (List._∷_ 116 (List._∷_ 101 (List._∷_ 120 (List._∷_ 116 (List._∷_ 95 (List._∷_ 104 (List._∷_ 101 (List._∷_ 97 (List._∷_ 100 (List._∷_ 105 (List._∷_ 110 (List._∷_ 103 (List._∷_ 58 (List._∷_ 58 (List._∷_ 87 (List._∷_ 111 (List._∷_ 114 (List._∷_ 100 List.[])))))))))))))))))) (Syntax.ttcons Syntax.tnil (Syntax.ttcons Syntax.tnil (Syntax.ttcons Syntax.tnil (Syntax.ttcons Syntax.tnil (Syntax.ttcons Syntax.tnil Syntax.ttnil)))))) (Syntax.tcons (Syntax.tyInt Syntax.w8) Syntax.tnil)) (Syntax.ttcons (Syntax.tcons (Syntax.tyEnum (List._∷_ 116 (List._∷_ 101 (List._∷_ 120 (List._∷_ 116 (List._∷_ 95 (List._∷_ 104 (List._∷_ 101 (List._∷_ 97 (List._∷_ 100 (List._∷_ 105 (List._∷_ 110 (List._∷_ 103 (List._∷_ 58 (List._∷_ 58 (List._∷_ 87 (List._∷_ 111 (List._∷_ 114 (List._∷_ 100 List.[])))))))))))))))))) (Syntax.ttcons Syntax.tnil (Syntax.ttcons Syntax.tnil (Syntax.ttcons Syntax.tnil (Syntax.ttcons Syntax.tnil (Syntax.ttcons Syntax.tnil Syntax.ttnil)))))) Syntax.tnil) (Syntax.ttcons (Syntax.tcons (Syntax.tyEnum (List._∷_ 116 (List._∷_ 101 (List._∷_ 120 (List._∷_ 116 (List._∷_ 95 (List._∷_ 104 (List._∷_ 101 (List._∷_ 97 (List._∷_ 100 (List._∷_ 105 (List._∷_ 110 (List._∷_ 103 (List._∷_ 58 (List._∷_ 58 (List._∷_ 87 (List._∷_ 111 (List._∷_ 114 (List._∷_ 100 List.[])))))))))))))))))) (Syntax.ttcons Syntax.tnil (Syntax.ttcons Syntax.tnil (Syntax.ttcons Syntax.tnil (Syntax.ttcons Syntax.tnil (Syntax.ttcons Syntax.tnil Syntax.ttnil)))))) (Syntax.tcons (Syntax.tyInt Syntax.w8) Syntax.tnil)) (Syntax.ttcons Syntax.tnil (Syntax.ttcons (Syntax.tcons (Syntax.tyEnum (List._∷_ 116 (List._∷_ 101 (List._∷_ 120 (List._∷_ 116 (List._∷_ 95 (List._∷_ 104 (List._∷_ 101 (List._∷_ 97 (List._∷_ 100 (List._∷_ 105 (List._∷_ 110 (List._∷_ 103 (List._∷_ 58 (List._∷_ 58 (List._∷_ 72 (List._∷_ 101 (List._∷_ 97 (List._∷_ 100 (List._∷_ 105 (List._∷_ 110 (List._∷_ 103 (List._∷_ 70 (List._∷_ 97 (List._∷_ 117 (List._∷_ 108 (List._∷_ 116 List.[])))))))))))))))))))))))))) (Syntax.ttcons Syntax.tnil (Syntax.ttcons Syntax.tnil (Syntax.ttcons Syntax.tnil (Syntax.ttcons Syntax.tnil (Syntax.ttcons (Syntax.tcons (Syntax.tyEnum (List._∷_ 116 (List._∷_ 101 (List._∷_ 120 (List._∷_ 116 (List._∷_ 95 (List._∷_ 104 (List._∷_ 101 (List._∷_ 97 (List._∷_ 100 (List._∷_ 105 (List._∷_ 110 (List._∷_ 103 (List._∷_ 58 (List._∷_ 58 (List._∷_ 87 (List._∷_ 111 (List._∷_ 114 (List._∷_ 100 List.[])))))))))))))))))) (Syntax.ttcons Syntax.tnil (Syntax.ttcons Syntax.tnil (Syntax.ttcons Syntax.tnil (Syntax.ttcons Syntax.tnil (Syntax.ttcons Syntax.tnil Syntax.ttnil)))))) Syntax.tnil) Syntax.ttnil)))))) Syntax.tnil) Syntax.ttnil)))))) Syntax.tnil)))) Syntax.tnil) (Syntax.ttcons Syntax.tnil (Syntax.ttcons (Syntax.tcons (Syntax.tyInt Syntax.w8) Syntax.tnil) (Syntax.ttcons Syntax.tnil (Syntax.ttcons (Syntax.tcons (Syntax.tyEnum (List._∷_ 116 (List._∷_ 101 (List._∷_ 120 (List._∷_ 116 (List._∷_ 95 (List._∷_ 114 (List._∷_ 101 (List._∷_ 97 (List._∷_ 100 (List._∷_ 105 (List._∷_ 110 (List._∷_ 103 (List._∷_ 58 (List._∷_ 58 (List._∷_ 70 (List._∷_ 97 (List._∷_ 117 (List._∷_ 108 (List._∷_ 116 List.[]))))))))))))))))))) (Syntax.ttcons (Syntax.tcons (Syntax.tyEnum (List._∷_ 116 (List._∷_ 101 (List._∷_ 120 (List._∷_ 116 (List._∷_ 95 (List._∷_ 104 (List._∷_ 101 (List._∷_ 97 (List._∷_ 100 (List._∷_ 105 (List._∷_ 110 (List._∷_ 103 (List._∷_ 58 (List._∷_ 58 (List._∷_ 72 (List._∷_ 101 (List._∷_ 97 (List._∷_ 100 (List._∷_ 105 (List._∷_ 110 (List._∷_ 103 (List._∷_ 70 (List._∷_ 97 (List._∷_ 117 (List._∷_ 108 (List._∷_ 116 List.[])))))))))))))))))))))))))) (Syntax.ttcons Syntax.tnil (Syntax.ttcons Syntax.tnil (Syntax.ttcons Syntax.tnil (Syntax.ttcons Syntax.tnil (Syntax.ttcons (Syntax.tcons (Syntax.tyEnum (List._∷_ 116 (List._∷_ 101 (List._∷_ 120 (List._∷_ 116 (List._∷_ 95 (List._∷_ 104 (List._∷_ 101 (List._∷_ 97 (List._∷_ 100 (List._∷_ 105 (List._∷_ 110 (List._∷_ 103 (List._∷_ 58 (List._∷_ 58 (List._∷_ 87 (List._∷_ 111 (List._∷_ 114 (List._∷_ 100 List.[])))))))))))))))))) (Syntax.ttcons Syntax.tnil (Syntax.ttcons Syntax.tnil (Syntax.ttcons Syntax.tnil (Syntax.ttcons Syntax.tnil (Syntax.ttcons Syntax.tnil Syntax.ttnil)))))) Syntax.tnil) Syntax.ttnil)))))) Syntax.tnil) (Syntax.ttcons Syntax.tnil (Syntax.ttcons Syntax.tnil Syntax.ttnil)))) Syntax.tnil) Syntax.ttnil)))))))) (Syntax.tcons (Syntax.tyArray (Syntax.tyInt Syntax.w8) 32) (Syntax.tcons (Syntax.tyInt Syntax.w64) Syntax.tnil))))))) (List._∷_ (9, Rows.sc-here (Row.sInt Syntax.w64)) (List._∷_ (10, Rows.any-gone (Syntax.tyRef Syntax.erased Syntax.mut OfOutput.named)) (List._∷_ (11, Rows.any-gone (Syntax.tyStruct (List._∷_ 38 (List._∷_ 91 (List._∷_ 93 List.[]))) (Syntax.tcons (Syntax.tyRef Syntax.erased Syntax.mut OfOutput.named) (Syntax.tcons (Syntax.tyInt Syntax.w64) Syntax.tnil)))) (List._∷_ (12, Rows.any-gone (Syntax.tyRef Syntax.erased Syntax.mut OfStation.named)) (List._∷_ (13, Rows.any-gone (Syntax.tyStruct (List._∷_ 38 (List._∷_ 91 (List._∷_ 93 List.[]))) (Syntax.tcons (Syntax.tyRef Syntax.erased Syntax.mut OfStation.named) (Syntax.tcons (Syntax.tyInt Syntax.w64) Syntax.tnil)))) (List._∷_ (14, Rows.any-gone (Syntax.tyRef Syntax.erased Syntax.mut OfPanelRecord.named)) (List._∷_ (15, Rows.any-gone (Syntax.tyRef Syntax.erased Syntax.mut (Syntax.tyInt Syntax.w8))) List.[])))))))))))))))
 
         abbrev g40 : List.List Row.Entry
-        g40 = List._∷_ (0, Rows.any-gone Syntax.tyUnit) (List._∷_ (1, Mut.mslice (OfOutput.row) (Syntax.tyRef (Syntax.named 0) Syntax.mut OfOutput.named) 0) (List._∷_ (2, Relend.mslice-owed (OfStation.row) (Syntax.tyRef (Syntax.named 1) Syntax.mut OfStation.named) 1 11 (Row.lease (κs .1 .0) (qs .1 .0))) (List._∷_ (3, Rows.mref-owed (OfPanelRecord.row) (Syntax.tyRef (Syntax.named 2) Syntax.mut OfPanelRecord.named) 2 12 (Row.lease (κs .1 .1 .0) (qs .1 .1 .0))) (List._∷_ (4, Relend.mslice-owed (Referent.rtF (Referent.fInt Syntax.w8)) (Syntax.tyRef (Syntax.named 3) Syntax.mut (Syntax.tyInt Syntax.w8)) 3 13 (Row.lease (κs .1 .1 .1 .0) (qs .1 .1 .1 .0))) (List._∷_ (5, Mut.mslice (Referent.rtF (Referent.fInt Syntax.w8)) (Syntax.tyRef (Syntax.named 4) Syntax.mut (Syntax.tyInt Syntax.w8)) 4) (List._∷_ (6, Rows.sc-here Row.sBool) (List._∷_ (7, Rows.any-gone (Laws.mir)) (List._∷_ (8, Rows.any-gone (Syntax.tyStruct (List._∷_ 116 (List._∷_ 101 (List._∷_ 120 (List._∷_ 116 (List._∷_ 95 (List._∷_ 114 (List._∷_ 101 (List._∷_ 97 (List._∷_ 100 (List._∷_ 105 (List._∷_ 110 (List._∷_ 103 (List._∷_ 58 (List._∷_ 58 (List._∷_ 82 (List._∷_ 101 (List._∷_ 97 (List._∷_ 100 (List._∷_ 101 (List._∷_ 114 List.[])))))))))))))))))))) (Syntax.tcons Syntax.tyBool (Syntax.tcons (Syntax.tyInt Syntax.w64) (Syntax.tcons (Syntax.tyEnum (List._∷_ 116 (List._∷_ 101 (List._∷_ 120 (List._∷_ 116 (List._∷_ 95 (List._∷_ 114 (List._∷_ 101 (List._∷_ 97 (List._∷_ 100 (List._∷_ 105 (List._∷_ 110 (List._∷_ 103 (List._∷_ 58 (List._∷_ 58 (List._∷_ 72 (List._∷_ 101 (List._∷_ 108 (List._∷_ 100 List.[])))))))))))))))))) (Syntax.ttcons Syntax.tnil (Syntax.ttcons Syntax.tnil (Syntax.ttcons (Syntax.tcons (Syntax.tyStruct (List._∷_ 116 (List._∷_ 101 (List._∷_ 120 (List._∷_ 116 (List._∷_ 95 (List._∷_ 104 (List._∷_ 101 (List._∷_ 97 (List._∷_ 100 (List._∷_ 105 (List._∷_ 110 (List._∷_ 103 (List._∷_ 58 (List._∷_ 58 (List._∷_ 72 (List._∷_ 101 (List._∷_ 97 (List._∷_ 100 (List._∷_ 105 (List._∷_ 110 (List._∷_ 103 List.[]))))))))))))))))))))) (Syntax.tcons (IsParameters.mir) (Syntax.tcons (Syntax.tyStruct (List._∷_ 116 (List._∷_ 101 (List._∷_ 120 (List._∷_ 116 (List._∷_ 95 (List._∷_ 104 (List._∷_ 101 (List._∷_ 97 (List._∷_ 100 (List._∷_ 105 (List._∷_ 110 (List._∷_ 103 (List._∷_ 58 (List._∷_ 58 (List._∷_ 67 (List._∷_ 97 (List._∷_ 109 (List._∷_ 101 List.[])))))))))))))))))) (Syntax.tcons Syntax.tyBool (Syntax.tcons Syntax.tyBool (Syntax.tcons Syntax.tyBool Syntax.tnil)))) (Syntax.tcons (Syntax.tyEnum (List._∷_ 116 (List._∷_ 101 (List._∷_ 120 (List._∷_ 116 (List._∷_ 95 (List._∷_ 104 (List._∷_ 101 (List._∷_ 97 (List._∷_ 100 (List._∷_ 105 (List._∷_ 110 (List._∷_ 103 (List._∷_ 58 (List._∷_ 58 (List._∷_ 80 (List._∷_ 108 (List._∷_ 97 (List._∷_ 99 (List._∷_ 101 List.[]))))))))))))))))))) (Syntax.ttcons (Syntax.tcons (Syntax.tyEnum (List._∷_ 116 (List._∷_ 101 (List._∷_ 120 (List._∷_ 116 (List._∷_ 95 (List._∷_ 104 (List._∷_ 101 (List._∷_ 97 (List._∷_ 100 (List._∷_ 105 (List._∷_ 110 (List._∷_ 103 (List._∷_ 58 (List._∷_ 58 (List._∷_ 87 (List._∷_ 111 (List._∷_ 114 (List._∷_ 100 List.[])))))))))))))))))) (Syntax.ttcons Syntax.tnil (Syntax.ttcons Syntax.tnil (Syntax.ttcons Syntax.tnil (Syntax.ttcons Syntax.tnil Syntax.ttnil))))) (Syntax.tcons (Syntax.tyInt Syntax.w8) Syntax.tnil)) (Syntax.ttcons (Syntax.tcons (Syntax.tyEnum (List._∷_ 116 (List._∷_ 101 (List._∷_ 120 (List._∷_ 116 (List._∷_ 95 (List._∷_ 104 (List._∷_ 101 (List._∷_ 97 (List._∷_ 100 (List._∷_ 105 (List._∷_ 110 (List._∷_ 103 (List._∷_ 58 (List._∷_ 58 (List._∷_ 87 (List._∷_ 111 (List._∷_ 114 (List._∷_ 100 List.[])))))))))))))))))) (Syntax.ttcons Syntax.tnil (Syntax.ttcons Syntax.tnil (Syntax.ttcons Syntax.tnil (Syntax.ttcons Syntax.tnil Syntax.ttnil))))) Syntax.tnil) (Syntax.ttcons (Syntax.tcons (Syntax.tyEnum (List._∷_ 116 (List._∷_ 101 (List._∷_ 120 (List._∷_ 116 (List._∷_ 95 (List._∷_ 104 (List._∷_ 101 (List._∷_ 97 (List._∷_ 100 (List._∷_ 105 (List._∷_ 110 (List._∷_ 103 (List._∷_ 58 (List._∷_ 58 (List._∷_ 87 (List._∷_ 111 (List._∷_ 114 (List._∷_ 100 List.[])))))))))))))))))) (Syntax.ttcons Syntax.tnil (Syntax.ttcons Syntax.tnil (Syntax.ttcons Syntax.tnil (Syntax.ttcons Syntax.tnil Syntax.ttnil))))) Syntax.tnil) (Syntax.ttcons Syntax.tnil (Syntax.ttcons (Syntax.tcons (Syntax.tyEnum (List._∷_ 116 (List._∷_ 101 (List._∷_ 120 (List._∷_ 116 (List._∷_ 95 (List._∷_ 104 (List._∷_ 101 (List._∷_ 97 (List._∷_ 100 (List._∷_ 105 (List._∷_ 110 (List._∷_ 103 (List._∷_ 58 (List._∷_ 58 (List._∷_ 72 (List._∷_ 101 (List._∷_ 97 (List._∷_ 100 (List._∷_ 105 (List._∷_ 110 (List._∷_ 103 (List._∷_ 70 (List._∷_ 97 (List._∷_ 117 (List._∷_ 108 (List._∷_ 116 List.[])))))))))))))))))))))))))) (Syntax.ttcons Syntax.tnil (Syntax.ttcons Syntax.tnil (Syntax.ttcons Syntax.tnil (Syntax.ttcons (Syntax.tcons (Syntax.tyEnum (List._∷_ 116 (List._∷_ 101 (List._∷_ 120 (List._∷_ 116 (List._∷_ 95 (List._∷_ 104 (List._∷_ 101 (List._∷_ 97 (List._∷_ 100 (List._∷_ 105 (List._∷_ 110 (List._∷_ 103 (List._∷_ 58 (List._∷_ 58 (List._∷_ 87 (List._∷_ 111 (List._∷_ 114 (List._∷_ 100 List.[])))))))))))))))))) (Syntax.ttcons Syntax.tnil (Syntax.ttcons Syntax.tnil (Syntax.ttcons Syntax.tnil (Syntax.ttcons Syntax.tnil Syntax.ttnil))))) Syntax.tnil) Syntax.ttnil))))) Syntax.tnil) Syntax.ttnil)))))) Syntax.tnil)))) Syntax.tnil) (Syntax.ttcons Syntax.tnil (Syntax.ttcons (Syntax.tcons (Syntax.tyInt Syntax.w8) Syntax.tnil) (Syntax.ttcons Syntax.tnil (Syntax.ttcons (Syntax.tcons (Syntax.tyEnum (List._∷_ 116 (List._∷_ 101 (List._∷_ 120 (List._∷_ 116 (List._∷_ 95 (List._∷_ 114 (List._∷_ 101 (List._∷_ 97 (List._∷_ 100 (List._∷_ 105 (List._∷_ 110 (List._∷_ 103 (List._∷_ 58 (List._∷_ 58 (List._∷_ 70 (List._∷_ 97 (List._∷_ 117 (List._∷_ 108 (List._∷_ 116 List.[]))))))))))))))))))) (Syntax.ttcons (Syntax.tcons (Syntax.tyEnum (List._∷_ 116 (List._∷_ 101 (List._∷_ 120 (List._∷_ 116 (List._∷_ 95 (List._∷_ 104 (List._∷_ 101 (List._∷_ 97 (List._∷_ 100 (List._∷_ 105 (List._∷_ 110 (List._∷_ 103 (List._∷_ 58 (List._∷_ 58 (List._∷_ 72 (List._∷_ 101 (List._∷_ 97 (List._∷_ 100 (List._∷_ 105 (List._∷_ 110 (List._∷_ 103 (List._∷_ 70 (List._∷_ 97 (List._∷_ 117 (List._∷_ 108 (List._∷_ 116 List.[])))))))))))))))))))))))))) (Syntax.ttcons Syntax.tnil (Syntax.ttcons Syntax.tnil (Syntax.ttcons Syntax.tnil (Syntax.ttcons (Syntax.tcons (Syntax.tyEnum (List._∷_ 116 (List._∷_ 101 (List._∷_ 120 (List._∷_ 116 (List._∷_ 95 (List._∷_ 104 (List._∷_ 101 (List._∷_ 97 (List._∷_ 100 (List._∷_ 105 (List._∷_ 110 (List._∷_ 103 (List._∷_ 58 (List._∷_ 58 (List._∷_ 87 (List._∷_ 111 (List._∷_ 114 (List._∷_ 100 List.[])))))))))))))))))) (Syntax.ttcons Syntax.tnil (Syntax.ttcons Syntax.tnil (Syntax.ttcons Syntax.tnil (Syntax.ttcons Syntax.tnil Syntax.ttnil))))) Syntax.tnil) Syntax.ttnil))))) Syntax.tnil) (Syntax.ttcons Syntax.tnil (Syntax.ttcons Syntax.tnil Syntax.ttnil)))) Syntax.tnil) Syntax.ttnil)))))))) (Syntax.tcons (Syntax.tyArray (Syntax.tyInt Syntax.w8) 32) (Syntax.tcons (Syntax.tyInt Syntax.w64) Syntax.tnil))))))) (List._∷_ (9, Rows.sc-here (Row.sInt Syntax.w64)) (List._∷_ (10, Rows.any-gone (Syntax.tyRef Syntax.erased Syntax.mut OfOutput.named)) (List._∷_ (11, Rows.any-gone (Syntax.tyStruct (List._∷_ 38 (List._∷_ 91 (List._∷_ 93 List.[]))) (Syntax.tcons (Syntax.tyRef Syntax.erased Syntax.mut OfOutput.named) (Syntax.tcons (Syntax.tyInt Syntax.w64) Syntax.tnil)))) (List._∷_ (12, Rows.any-gone (Syntax.tyRef Syntax.erased Syntax.mut OfStation.named)) (List._∷_ (13, Rows.any-gone (Syntax.tyStruct (List._∷_ 38 (List._∷_ 91 (List._∷_ 93 List.[]))) (Syntax.tcons (Syntax.tyRef Syntax.erased Syntax.mut OfStation.named) (Syntax.tcons (Syntax.tyInt Syntax.w64) Syntax.tnil)))) (List._∷_ (14, Rows.any-gone (Syntax.tyRef Syntax.erased Syntax.mut OfPanelRecord.named)) (List._∷_ (15, Rows.any-gone (Syntax.tyRef Syntax.erased Syntax.mut (Syntax.tyInt Syntax.w8))) List.[])))))))))))))))
+        g40 = List._∷_ (0, Rows.any-gone Syntax.tyUnit) (List._∷_ (1, Mut.mslice (OfOutput.row) (Syntax.tyRef (Syntax.named 0) Syntax.mut OfOutput.named) 0) (List._∷_ (2, Relend.mslice-owed (OfStation.row) (Syntax.tyRef (Syntax.named 1) Syntax.mut OfStation.named) 1 11 (Row.lease (κs .1 .0) (qs .1 .0))) (List._∷_ (3, Rows.mref-owed (OfPanelRecord.row) (Syntax.tyRef (Syntax.named 2) Syntax.mut OfPanelRecord.named) 2 12 (Row.lease (κs .1 .1 .0) (qs .1 .1 .0))) (List._∷_ (4, Relend.mslice-owed (Referent.rtF (Referent.fInt Syntax.w8)) (Syntax.tyRef (Syntax.named 3) Syntax.mut (Syntax.tyInt Syntax.w8)) 3 13 (Row.lease (κs .1 .1 .1 .0) (qs .1 .1 .1 .0))) (List._∷_ (5, Mut.mslice (Referent.rtF (Referent.fInt Syntax.w8)) (Syntax.tyRef (Syntax.named 4) Syntax.mut (Syntax.tyInt Syntax.w8)) 4) (List._∷_ (6, Rows.sc-here Row.sBool) (List._∷_ (7, Rows.any-gone (Laws.mir)) (List._∷_ (8, Rows.any-gone (Syntax.tyStruct (List._∷_ 116 (List._∷_ 101 (List._∷_ 120 (List._∷_ 116 (List._∷_ 95 (List._∷_ 114 (List._∷_ 101 (List._∷_ 97 (List._∷_ 100 (List._∷_ 105 (List._∷_ 110 (List._∷_ 103 (List._∷_ 58 (List._∷_ 58 (List._∷_ 82 (List._∷_ 101 (List._∷_ 97 (List._∷_ 100 (List._∷_ 101 (List._∷_ 114 List.[])))))))))))))))))))) (Syntax.tcons Syntax.tyBool (Syntax.tcons (Syntax.tyInt Syntax.w64) (Syntax.tcons (Syntax.tyEnum (List._∷_ 116 (List._∷_ 101 (List._∷_ 120 (List._∷_ 116 (List._∷_ 95 (List._∷_ 114 (List._∷_ 101 (List._∷_ 97 (List._∷_ 100 (List._∷_ 105 (List._∷_ 110 (List._∷_ 103 (List._∷_ 58 (List._∷_ 58 (List._∷_ 72 (List._∷_ 101 (List._∷_ 108 (List._∷_ 100 List.[])))))))))))))))))) (Syntax.ttcons Syntax.tnil (Syntax.ttcons Syntax.tnil (Syntax.ttcons (Syntax.tcons (Syntax.tyStruct (List._∷_ 116 (List._∷_ 101 (List._∷_ 120 (List._∷_ 116 (List._∷_ 95 (List._∷_ 104 (List._∷_ 101 (List._∷_ 97 (List._∷_ 100 (List._∷_ 105 (List._∷_ 110 (List._∷_ 103 (List._∷_ 58 (List._∷_ 58 (List._∷_ 72 (List._∷_ 101 (List._∷_ 97 (List._∷_ 100 (List._∷_ 105 (List._∷_ 110 (List._∷_ 103 List.[]))))))))))))))))))))) (Syntax.tcons (Syntax.tyStruct (List._∷_ 116 (List._∷_ 101 (List._∷_ 120 (List._∷_ 116 (List._∷_ 95 (List._∷_ 104 (List._∷_ 101 (List._∷_ 97 (List._∷_ 100 (List._∷_ 105 (List._∷_ 110 (List._∷_ 103 (List._∷_ 58 (List._∷_ 58 (List._∷_ 78 (List._∷_ 97 (List._∷_ 109 (List._∷_ 101 (List._∷_ 100 List.[]))))))))))))))))))) (Syntax.tcons (IsParameters.mir) (Syntax.tcons (Syntax.tyInt Syntax.w32) Syntax.tnil))) (Syntax.tcons (Syntax.tyStruct (List._∷_ 116 (List._∷_ 101 (List._∷_ 120 (List._∷_ 116 (List._∷_ 95 (List._∷_ 104 (List._∷_ 101 (List._∷_ 97 (List._∷_ 100 (List._∷_ 105 (List._∷_ 110 (List._∷_ 103 (List._∷_ 58 (List._∷_ 58 (List._∷_ 67 (List._∷_ 97 (List._∷_ 109 (List._∷_ 101 List.[])))))))))))))))))) (Syntax.tcons Syntax.tyBool (Syntax.tcons Syntax.tyBool (Syntax.tcons Syntax.tyBool (Syntax.tcons Syntax.tyBool Syntax.tnil))))) (Syntax.tcons (Syntax.tyEnum (List._∷_ 116 (List._∷_ 101 (List._∷_ 120 (List._∷_ 116 (List._∷_ 95 (List._∷_ 104 (List._∷_ 101 (List._∷_ 97 (List._∷_ 100 (List._∷_ 105 (List._∷_ 110 (List._∷_ 103 (List._∷_ 58 (List._∷_ 58 (List._∷_ 80 (List._∷_ 108 (List._∷_ 97 (List._∷_ 99 (List._∷_ 101 List.[]))))))))))))))))))) (Syntax.ttcons (Syntax.tcons (Syntax.tyEnum (List._∷_ 116 (List._∷_ 101 (List._∷_ 120 (List._∷_ 116 (List._∷_ 95 (List._∷_ 104 (List._∷_ 101 (List._∷_ 97 (List._∷_ 100 (List._∷_ 105 (List._∷_ 110 (List._∷_ 103 (List._∷_ 58 (List._∷_ 58 (List._∷_ 87 (List._∷_ 111 (List._∷_ 114 (List._∷_ 100 List.[])))))))))))))))))) (Syntax.ttcons Syntax.tnil (Syntax.ttcons Syntax.tnil (Syntax.ttcons Syntax.tnil (Syntax.ttcons Syntax.tnil (Syntax.ttcons Syntax.tnil Syntax.ttnil)))))) (Syntax.tcons (Syntax.tyInt Syntax.w8) Syntax.tnil)) (Syntax.ttcons (Syntax.tcons (Syntax.tyEnum (List._∷_ 116 (List._∷_ 101 (List._∷_ 120 (List._∷_ 116 (List._∷_ 95 (List._∷_ 104 (List._∷_ 101 (List._∷_ 97 (List._∷_ 100 (List._∷_ 105 (List._∷_ 110 (List._∷_ 103 (List._∷_ 58 (List._∷_ 58 (List._∷_ 87 (List._∷_ 111 (List._∷_ 114 (List._∷_ 100 List.[])))))))))))))))))) (Syntax.ttcons Syntax.tnil (Syntax.ttcons Syntax.tnil (Syntax.ttcons Syntax.tnil (Syntax.ttcons Syntax.tnil (Syntax.ttcons Syntax.tnil Syntax.ttnil)))))) Syntax.tnil) (Syntax.ttcons (Syntax.tcons (Syntax.tyEnum (List._∷_ 116 (List._∷_ 101 (List._∷_ 120 (List._∷_ 116 (List._∷_ 95 (List._∷_ 104 (List._∷_ 101 (List._∷_ 97 (List._∷_ 100 (List._∷_ 105 (List._∷_ 110 (List._∷_ 103 (List._∷_ 58 (List._∷_ 58 (List._∷_ 87 (List._∷_ 111 (List._∷_ 114 (List._∷_ 100 List.[])))))))))))))))))) (Syntax.ttcons Syntax.tnil (Syntax.ttcons Syntax.tnil (Syntax.ttcons Syntax.tnil (Syntax.ttcons Syntax.tnil (Syntax.ttcons Syntax.tnil Syntax.ttnil)))))) (Syntax.tcons (Syntax.tyInt Syntax.w8) Syntax.tnil)) (Syntax.ttcons Syntax.tnil (Syntax.ttcons (Syntax.tcons (Syntax.tyEnum (List._∷_ 116 (List._∷_ 101 (List._∷_ 120 (List._∷_ 116 (List._∷_ 95 (List._∷_ 104 (List._∷_ 101 (List._∷_ 97 (List._∷_ 100 (List._∷_ 105 (List._∷_ 110 (List._∷_ 103 (List._∷_ 58 (List._∷_ 58 (List._∷_ 72 (List._∷_ 101 (List._∷_ 97 (List._∷_ 100 (List._∷_ 105 (List._∷_ 110 (List._∷_ 103 (List._∷_ 70 (List._∷_ 97 (List._∷_ 117 (List._∷_ 108 (List._∷_ 116 List.[])))))))))))))))))))))))))) (Syntax.ttcons Syntax.tnil (Syntax.ttcons Syntax.tnil (Syntax.ttcons Syntax.tnil (Syntax.ttcons Syntax.tnil (Syntax.ttcons (Syntax.tcons (Syntax.tyEnum (List._∷_ 116 (List._∷_ 101 (List._∷_ 120 (List._∷_ 116 (List._∷_ 95 (List._∷_ 104 (List._∷_ 101 (List._∷_ 97 (List._∷_ 100 (List._∷_ 105 (List._∷_ 110 (List._∷_ 103 (List._∷_ 58 (List._∷_ 58 (List._∷_ 87 (List._∷_ 111 (List._∷_ 114 (List._∷_ 100 List.[])))))))))))))))))) (Syntax.ttcons Syntax.tnil (Syntax.ttcons Syntax.tnil (Syntax.ttcons Syntax.tnil (Syntax.ttcons Syntax.tnil (Syntax.ttcons Syntax.tnil Syntax.ttnil)))))) Syntax.tnil) Syntax.ttnil)))))) Syntax.tnil) Syntax.ttnil)))))) Syntax.tnil)))) Syntax.tnil) (Syntax.ttcons Syntax.tnil (Syntax.ttcons (Syntax.tcons (Syntax.tyInt Syntax.w8) Syntax.tnil) (Syntax.ttcons Syntax.tnil (Syntax.ttcons (Syntax.tcons (Syntax.tyEnum (List._∷_ 116 (List._∷_ 101 (List._∷_ 120 (List._∷_ 116 (List._∷_ 95 (List._∷_ 114 (List._∷_ 101 (List._∷_ 97 (List._∷_ 100 (List._∷_ 105 (List._∷_ 110 (List._∷_ 103 (List._∷_ 58 (List._∷_ 58 (List._∷_ 70 (List._∷_ 97 (List._∷_ 117 (List._∷_ 108 (List._∷_ 116 List.[]))))))))))))))))))) (Syntax.ttcons (Syntax.tcons (Syntax.tyEnum (List._∷_ 116 (List._∷_ 101 (List._∷_ 120 (List._∷_ 116 (List._∷_ 95 (List._∷_ 104 (List._∷_ 101 (List._∷_ 97 (List._∷_ 100 (List._∷_ 105 (List._∷_ 110 (List._∷_ 103 (List._∷_ 58 (List._∷_ 58 (List._∷_ 72 (List._∷_ 101 (List._∷_ 97 (List._∷_ 100 (List._∷_ 105 (List._∷_ 110 (List._∷_ 103 (List._∷_ 70 (List._∷_ 97 (List._∷_ 117 (List._∷_ 108 (List._∷_ 116 List.[])))))))))))))))))))))))))) (Syntax.ttcons Syntax.tnil (Syntax.ttcons Syntax.tnil (Syntax.ttcons Syntax.tnil (Syntax.ttcons Syntax.tnil (Syntax.ttcons (Syntax.tcons (Syntax.tyEnum (List._∷_ 116 (List._∷_ 101 (List._∷_ 120 (List._∷_ 116 (List._∷_ 95 (List._∷_ 104 (List._∷_ 101 (List._∷_ 97 (List._∷_ 100 (List._∷_ 105 (List._∷_ 110 (List._∷_ 103 (List._∷_ 58 (List._∷_ 58 (List._∷_ 87 (List._∷_ 111 (List._∷_ 114 (List._∷_ 100 List.[])))))))))))))))))) (Syntax.ttcons Syntax.tnil (Syntax.ttcons Syntax.tnil (Syntax.ttcons Syntax.tnil (Syntax.ttcons Syntax.tnil (Syntax.ttcons Syntax.tnil Syntax.ttnil)))))) Syntax.tnil) Syntax.ttnil)))))) Syntax.tnil) (Syntax.ttcons Syntax.tnil (Syntax.ttcons Syntax.tnil Syntax.ttnil)))) Syntax.tnil) Syntax.ttnil)))))))) (Syntax.tcons (Syntax.tyArray (Syntax.tyInt Syntax.w8) 32) (Syntax.tcons (Syntax.tyInt Syntax.w64) Syntax.tnil))))))) (List._∷_ (9, Rows.sc-here (Row.sInt Syntax.w64)) (List._∷_ (10, Rows.any-gone (Syntax.tyRef Syntax.erased Syntax.mut OfOutput.named)) (List._∷_ (11, Rows.any-gone (Syntax.tyStruct (List._∷_ 38 (List._∷_ 91 (List._∷_ 93 List.[]))) (Syntax.tcons (Syntax.tyRef Syntax.erased Syntax.mut OfOutput.named) (Syntax.tcons (Syntax.tyInt Syntax.w64) Syntax.tnil)))) (List._∷_ (12, Rows.any-gone (Syntax.tyRef Syntax.erased Syntax.mut OfStation.named)) (List._∷_ (13, Rows.any-gone (Syntax.tyStruct (List._∷_ 38 (List._∷_ 91 (List._∷_ 93 List.[]))) (Syntax.tcons (Syntax.tyRef Syntax.erased Syntax.mut OfStation.named) (Syntax.tcons (Syntax.tyInt Syntax.w64) Syntax.tnil)))) (List._∷_ (14, Rows.any-gone (Syntax.tyRef Syntax.erased Syntax.mut OfPanelRecord.named)) (List._∷_ (15, Rows.any-gone (Syntax.tyRef Syntax.erased Syntax.mut (Syntax.tyInt Syntax.w8))) List.[])))))))))))))))
 
         abbrev g42 : List.List Row.Entry
-        g42 = List._∷_ (0, Rows.any-gone Syntax.tyUnit) (List._∷_ (1, Mut.mslice (OfOutput.row) (Syntax.tyRef (Syntax.named 0) Syntax.mut OfOutput.named) 0) (List._∷_ (2, Mut.mslice (OfStation.row) (Syntax.tyRef (Syntax.named 1) Syntax.mut OfStation.named) 1) (List._∷_ (3, Rows.mref-owed (OfPanelRecord.row) (Syntax.tyRef (Syntax.named 2) Syntax.mut OfPanelRecord.named) 2 12 (Row.lease (κs .1 .1 .0) (qs .1 .1 .0))) (List._∷_ (4, Relend.mslice-owed (Referent.rtF (Referent.fInt Syntax.w8)) (Syntax.tyRef (Syntax.named 3) Syntax.mut (Syntax.tyInt Syntax.w8)) 3 13 (Row.lease (κs .1 .1 .1 .0) (qs .1 .1 .1 .0))) (List._∷_ (5, Mut.mslice (Referent.rtF (Referent.fInt Syntax.w8)) (Syntax.tyRef (Syntax.named 4) Syntax.mut (Syntax.tyInt Syntax.w8)) 4) (List._∷_ (6, Rows.sc-here Row.sBool) (List._∷_ (7, Rows.any-gone (Laws.mir)) (List._∷_ (8, Rows.any-gone (Syntax.tyStruct (List._∷_ 116 (List._∷_ 101 (List._∷_ 120 (List._∷_ 116 (List._∷_ 95 (List._∷_ 114 (List._∷_ 101 (List._∷_ 97 (List._∷_ 100 (List._∷_ 105 (List._∷_ 110 (List._∷_ 103 (List._∷_ 58 (List._∷_ 58 (List._∷_ 82 (List._∷_ 101 (List._∷_ 97 (List._∷_ 100 (List._∷_ 101 (List._∷_ 114 List.[])))))))))))))))))))) (Syntax.tcons Syntax.tyBool (Syntax.tcons (Syntax.tyInt Syntax.w64) (Syntax.tcons (Syntax.tyEnum (List._∷_ 116 (List._∷_ 101 (List._∷_ 120 (List._∷_ 116 (List._∷_ 95 (List._∷_ 114 (List._∷_ 101 (List._∷_ 97 (List._∷_ 100 (List._∷_ 105 (List._∷_ 110 (List._∷_ 103 (List._∷_ 58 (List._∷_ 58 (List._∷_ 72 (List._∷_ 101 (List._∷_ 108 (List._∷_ 100 List.[])))))))))))))))))) (Syntax.ttcons Syntax.tnil (Syntax.ttcons Syntax.tnil (Syntax.ttcons (Syntax.tcons (Syntax.tyStruct (List._∷_ 116 (List._∷_ 101 (List._∷_ 120 (List._∷_ 116 (List._∷_ 95 (List._∷_ 104 (List._∷_ 101 (List._∷_ 97 (List._∷_ 100 (List._∷_ 105 (List._∷_ 110 (List._∷_ 103 (List._∷_ 58 (List._∷_ 58 (List._∷_ 72 (List._∷_ 101 (List._∷_ 97 (List._∷_ 100 (List._∷_ 105 (List._∷_ 110 (List._∷_ 103 List.[]))))))))))))))))))))) (Syntax.tcons (IsParameters.mir) (Syntax.tcons (Syntax.tyStruct (List._∷_ 116 (List._∷_ 101 (List._∷_ 120 (List._∷_ 116 (List._∷_ 95 (List._∷_ 104 (List._∷_ 101 (List._∷_ 97 (List._∷_ 100 (List._∷_ 105 (List._∷_ 110 (List._∷_ 103 (List._∷_ 58 (List._∷_ 58 (List._∷_ 67 (List._∷_ 97 (List._∷_ 109 (List._∷_ 101 List.[])))))))))))))))))) (Syntax.tcons Syntax.tyBool (Syntax.tcons Syntax.tyBool (Syntax.tcons Syntax.tyBool Syntax.tnil)))) (Syntax.tcons (Syntax.tyEnum (List._∷_ 116 (List._∷_ 101 (List._∷_ 120 (List._∷_ 116 (List._∷_ 95 (List._∷_ 104 (List._∷_ 101 (List._∷_ 97 (List._∷_ 100 (List._∷_ 105 (List._∷_ 110 (List._∷_ 103 (List._∷_ 58 (List._∷_ 58 (List._∷_ 80 (List._∷_ 108 (List._∷_ 97 (List._∷_ 99 (List._∷_ 101 List.[]))))))))))))))))))) (Syntax.ttcons (Syntax.tcons (Syntax.tyEnum (List._∷_ 116 (List._∷_ 101 (List._∷_ 120 (List._∷_ 116 (List._∷_ 95 (List._∷_ 104 (List._∷_ 101 (List._∷_ 97 (List._∷_ 100 (List._∷_ 105 (List._∷_ 110 (List._∷_ 103 (List._∷_ 58 (List._∷_ 58 (List._∷_ 87 (List._∷_ 111 (List._∷_ 114 (List._∷_ 100 List.[])))))))))))))))))) (Syntax.ttcons Syntax.tnil (Syntax.ttcons Syntax.tnil (Syntax.ttcons Syntax.tnil (Syntax.ttcons Syntax.tnil Syntax.ttnil))))) (Syntax.tcons (Syntax.tyInt Syntax.w8) Syntax.tnil)) (Syntax.ttcons (Syntax.tcons (Syntax.tyEnum (List._∷_ 116 (List._∷_ 101 (List._∷_ 120 (List._∷_ 116 (List._∷_ 95 (List._∷_ 104 (List._∷_ 101 (List._∷_ 97 (List._∷_ 100 (List._∷_ 105 (List._∷_ 110 (List._∷_ 103 (List._∷_ 58 (List._∷_ 58 (List._∷_ 87 (List._∷_ 111 (List._∷_ 114 (List._∷_ 100 List.[])))))))))))))))))) (Syntax.ttcons Syntax.tnil (Syntax.ttcons Syntax.tnil (Syntax.ttcons Syntax.tnil (Syntax.ttcons Syntax.tnil Syntax.ttnil))))) Syntax.tnil) (Syntax.ttcons (Syntax.tcons (Syntax.tyEnum (List._∷_ 116 (List._∷_ 101 (List._∷_ 120 (List._∷_ 116 (List._∷_ 95 (List._∷_ 104 (List._∷_ 101 (List._∷_ 97 (List._∷_ 100 (List._∷_ 105 (List._∷_ 110 (List._∷_ 103 (List._∷_ 58 (List._∷_ 58 (List._∷_ 87 (List._∷_ 111 (List._∷_ 114 (List._∷_ 100 List.[])))))))))))))))))) (Syntax.ttcons Syntax.tnil (Syntax.ttcons Syntax.tnil (Syntax.ttcons Syntax.tnil (Syntax.ttcons Syntax.tnil Syntax.ttnil))))) Syntax.tnil) (Syntax.ttcons Syntax.tnil (Syntax.ttcons (Syntax.tcons (Syntax.tyEnum (List._∷_ 116 (List._∷_ 101 (List._∷_ 120 (List._∷_ 116 (List._∷_ 95 (List._∷_ 104 (List._∷_ 101 (List._∷_ 97 (List._∷_ 100 (List._∷_ 105 (List._∷_ 110 (List._∷_ 103 (List._∷_ 58 (List._∷_ 58 (List._∷_ 72 (List._∷_ 101 (List._∷_ 97 (List._∷_ 100 (List._∷_ 105 (List._∷_ 110 (List._∷_ 103 (List._∷_ 70 (List._∷_ 97 (List._∷_ 117 (List._∷_ 108 (List._∷_ 116 List.[])))))))))))))))))))))))))) (Syntax.ttcons Syntax.tnil (Syntax.ttcons Syntax.tnil (Syntax.ttcons Syntax.tnil (Syntax.ttcons (Syntax.tcons (Syntax.tyEnum (List._∷_ 116 (List._∷_ 101 (List._∷_ 120 (List._∷_ 116 (List._∷_ 95 (List._∷_ 104 (List._∷_ 101 (List._∷_ 97 (List._∷_ 100 (List._∷_ 105 (List._∷_ 110 (List._∷_ 103 (List._∷_ 58 (List._∷_ 58 (List._∷_ 87 (List._∷_ 111 (List._∷_ 114 (List._∷_ 100 List.[])))))))))))))))))) (Syntax.ttcons Syntax.tnil (Syntax.ttcons Syntax.tnil (Syntax.ttcons Syntax.tnil (Syntax.ttcons Syntax.tnil Syntax.ttnil))))) Syntax.tnil) Syntax.ttnil))))) Syntax.tnil) Syntax.ttnil)))))) Syntax.tnil)))) Syntax.tnil) (Syntax.ttcons Syntax.tnil (Syntax.ttcons (Syntax.tcons (Syntax.tyInt Syntax.w8) Syntax.tnil) (Syntax.ttcons Syntax.tnil (Syntax.ttcons (Syntax.tcons (Syntax.tyEnum (List._∷_ 116 (List._∷_ 101 (List._∷_ 120 (List._∷_ 116 (List._∷_ 95 (List._∷_ 114 (List._∷_ 101 (List._∷_ 97 (List._∷_ 100 (List._∷_ 105 (List._∷_ 110 (List._∷_ 103 (List._∷_ 58 (List._∷_ 58 (List._∷_ 70 (List._∷_ 97 (List._∷_ 117 (List._∷_ 108 (List._∷_ 116 List.[]))))))))))))))))))) (Syntax.ttcons (Syntax.tcons (Syntax.tyEnum (List._∷_ 116 (List._∷_ 101 (List._∷_ 120 (List._∷_ 116 (List._∷_ 95 (List._∷_ 104 (List._∷_ 101 (List._∷_ 97 (List._∷_ 100 (List._∷_ 105 (List._∷_ 110 (List._∷_ 103 (List._∷_ 58 (List._∷_ 58 (List._∷_ 72 (List._∷_ 101 (List._∷_ 97 (List._∷_ 100 (List._∷_ 105 (List._∷_ 110 (List._∷_ 103 (List._∷_ 70 (List._∷_ 97 (List._∷_ 117 (List._∷_ 108 (List._∷_ 116 List.[])))))))))))))))))))))))))) (Syntax.ttcons Syntax.tnil (Syntax.ttcons Syntax.tnil (Syntax.ttcons Syntax.tnil (Syntax.ttcons (Syntax.tcons (Syntax.tyEnum (List._∷_ 116 (List._∷_ 101 (List._∷_ 120 (List._∷_ 116 (List._∷_ 95 (List._∷_ 104 (List._∷_ 101 (List._∷_ 97 (List._∷_ 100 (List._∷_ 105 (List._∷_ 110 (List._∷_ 103 (List._∷_ 58 (List._∷_ 58 (List._∷_ 87 (List._∷_ 111 (List._∷_ 114 (List._∷_ 100 List.[])))))))))))))))))) (Syntax.ttcons Syntax.tnil (Syntax.ttcons Syntax.tnil (Syntax.ttcons Syntax.tnil (Syntax.ttcons Syntax.tnil Syntax.ttnil))))) Syntax.tnil) Syntax.ttnil))))) Syntax.tnil) (Syntax.ttcons Syntax.tnil (Syntax.ttcons Syntax.tnil Syntax.ttnil)))) Syntax.tnil) Syntax.ttnil)))))))) (Syntax.tcons (Syntax.tyArray (Syntax.tyInt Syntax.w8) 32) (Syntax.tcons (Syntax.tyInt Syntax.w64) Syntax.tnil))))))) (List._∷_ (9, Rows.sc-here (Row.sInt Syntax.w64)) (List._∷_ (10, Rows.any-gone (Syntax.tyRef Syntax.erased Syntax.mut OfOutput.named)) (List._∷_ (11, Rows.any-gone (Syntax.tyStruct (List._∷_ 38 (List._∷_ 91 (List._∷_ 93 List.[]))) (Syntax.tcons (Syntax.tyRef Syntax.erased Syntax.mut OfOutput.named) (Syntax.tcons (Syntax.tyInt Syntax.w64) Syntax.tnil)))) (List._∷_ (12, Rows.any-gone (Syntax.tyRef Syntax.erased Syntax.mut OfStation.named)) (List._∷_ (13, Rows.any-gone (Syntax.tyStruct (List._∷_ 38 (List._∷_ 91 (List._∷_ 93 List.[]))) (Syntax.tcons (Syntax.tyRef Syntax.erased Syntax.mut OfStation.named) (Syntax.tcons (Syntax.tyInt Syntax.w64) Syntax.tnil)))) (List._∷_ (14, Rows.any-gone (Syntax.tyRef Syntax.erased Syntax.mut OfPanelRecord.named)) (List._∷_ (15, Rows.any-gone (Syntax.tyRef Syntax.erased Syntax.mut (Syntax.tyInt Syntax.w8))) List.[])))))))))))))))
+        g42 = List._∷_ (0, Rows.any-gone Syntax.tyUnit) (List._∷_ (1, Mut.mslice (OfOutput.row) (Syntax.tyRef (Syntax.named 0) Syntax.mut OfOutput.named) 0) (List._∷_ (2, Mut.mslice (OfStation.row) (Syntax.tyRef (Syntax.named 1) Syntax.mut OfStation.named) 1) (List._∷_ (3, Rows.mref-owed (OfPanelRecord.row) (Syntax.tyRef (Syntax.named 2) Syntax.mut OfPanelRecord.named) 2 12 (Row.lease (κs .1 .1 .0) (qs .1 .1 .0))) (List._∷_ (4, Relend.mslice-owed (Referent.rtF (Referent.fInt Syntax.w8)) (Syntax.tyRef (Syntax.named 3) Syntax.mut (Syntax.tyInt Syntax.w8)) 3 13 (Row.lease (κs .1 .1 .1 .0) (qs .1 .1 .1 .0))) (List._∷_ (5, Mut.mslice (Referent.rtF (Referent.fInt Syntax.w8)) (Syntax.tyRef (Syntax.named 4) Syntax.mut (Syntax.tyInt Syntax.w8)) 4) (List._∷_ (6, Rows.sc-here Row.sBool) (List._∷_ (7, Rows.any-gone (Laws.mir)) (List._∷_ (8, Rows.any-gone (Syntax.tyStruct (List._∷_ 116 (List._∷_ 101 (List._∷_ 120 (List._∷_ 116 (List._∷_ 95 (List._∷_ 114 (List._∷_ 101 (List._∷_ 97 (List._∷_ 100 (List._∷_ 105 (List._∷_ 110 (List._∷_ 103 (List._∷_ 58 (List._∷_ 58 (List._∷_ 82 (List._∷_ 101 (List._∷_ 97 (List._∷_ 100 (List._∷_ 101 (List._∷_ 114 List.[])))))))))))))))))))) (Syntax.tcons Syntax.tyBool (Syntax.tcons (Syntax.tyInt Syntax.w64) (Syntax.tcons (Syntax.tyEnum (List._∷_ 116 (List._∷_ 101 (List._∷_ 120 (List._∷_ 116 (List._∷_ 95 (List._∷_ 114 (List._∷_ 101 (List._∷_ 97 (List._∷_ 100 (List._∷_ 105 (List._∷_ 110 (List._∷_ 103 (List._∷_ 58 (List._∷_ 58 (List._∷_ 72 (List._∷_ 101 (List._∷_ 108 (List._∷_ 100 List.[])))))))))))))))))) (Syntax.ttcons Syntax.tnil (Syntax.ttcons Syntax.tnil (Syntax.ttcons (Syntax.tcons (Syntax.tyStruct (List._∷_ 116 (List._∷_ 101 (List._∷_ 120 (List._∷_ 116 (List._∷_ 95 (List._∷_ 104 (List._∷_ 101 (List._∷_ 97 (List._∷_ 100 (List._∷_ 105 (List._∷_ 110 (List._∷_ 103 (List._∷_ 58 (List._∷_ 58 (List._∷_ 72 (List._∷_ 101 (List._∷_ 97 (List._∷_ 100 (List._∷_ 105 (List._∷_ 110 (List._∷_ 103 List.[]))))))))))))))))))))) (Syntax.tcons (Syntax.tyStruct (List._∷_ 116 (List._∷_ 101 (List._∷_ 120 (List._∷_ 116 (List._∷_ 95 (List._∷_ 104 (List._∷_ 101 (List._∷_ 97 (List._∷_ 100 (List._∷_ 105 (List._∷_ 110 (List._∷_ 103 (List._∷_ 58 (List._∷_ 58 (List._∷_ 78 (List._∷_ 97 (List._∷_ 109 (List._∷_ 101 (List._∷_ 100 List.[]))))))))))))))))))) (Syntax.tcons (IsParameters.mir) (Syntax.tcons (Syntax.tyInt Syntax.w32) Syntax.tnil))) (Syntax.tcons (Syntax.tyStruct (List._∷_ 116 (List._∷_ 101 (List._∷_ 120 (List._∷_ 116 (List._∷_ 95 (List._∷_ 104 (List._∷_ 101 (List._∷_ 97 (List._∷_ 100 (List._∷_ 105 (List._∷_ 110 (List._∷_ 103 (List._∷_ 58 (List._∷_ 58 (List._∷_ 67 (List._∷_ 97 (List._∷_ 109 (List._∷_ 101 List.[])))))))))))))))))) (Syntax.tcons Syntax.tyBool (Syntax.tcons Syntax.tyBool (Syntax.tcons Syntax.tyBool (Syntax.tcons Syntax.tyBool Syntax.tnil))))) (Syntax.tcons (Syntax.tyEnum (List._∷_ 116 (List._∷_ 101 (List._∷_ 120 (List._∷_ 116 (List._∷_ 95 (List._∷_ 104 (List._∷_ 101 (List._∷_ 97 (List._∷_ 100 (List._∷_ 105 (List._∷_ 110 (List._∷_ 103 (List._∷_ 58 (List._∷_ 58 (List._∷_ 80 (List._∷_ 108 (List._∷_ 97 (List._∷_ 99 (List._∷_ 101 List.[]))))))))))))))))))) (Syntax.ttcons (Syntax.tcons (Syntax.tyEnum (List._∷_ 116 (List._∷_ 101 (List._∷_ 120 (List._∷_ 116 (List._∷_ 95 (List._∷_ 104 (List._∷_ 101 (List._∷_ 97 (List._∷_ 100 (List._∷_ 105 (List._∷_ 110 (List._∷_ 103 (List._∷_ 58 (List._∷_ 58 (List._∷_ 87 (List._∷_ 111 (List._∷_ 114 (List._∷_ 100 List.[])))))))))))))))))) (Syntax.ttcons Syntax.tnil (Syntax.ttcons Syntax.tnil (Syntax.ttcons Syntax.tnil (Syntax.ttcons Syntax.tnil (Syntax.ttcons Syntax.tnil Syntax.ttnil)))))) (Syntax.tcons (Syntax.tyInt Syntax.w8) Syntax.tnil)) (Syntax.ttcons (Syntax.tcons (Syntax.tyEnum (List._∷_ 116 (List._∷_ 101 (List._∷_ 120 (List._∷_ 116 (List._∷_ 95 (List._∷_ 104 (List._∷_ 101 (List._∷_ 97 (List._∷_ 100 (List._∷_ 105 (List._∷_ 110 (List._∷_ 103 (List._∷_ 58 (List._∷_ 58 (List._∷_ 87 (List._∷_ 111 (List._∷_ 114 (List._∷_ 100 List.[])))))))))))))))))) (Syntax.ttcons Syntax.tnil (Syntax.ttcons Syntax.tnil (Syntax.ttcons Syntax.tnil (Syntax.ttcons Syntax.tnil (Syntax.ttcons Syntax.tnil Syntax.ttnil)))))) Syntax.tnil) (Syntax.ttcons (Syntax.tcons (Syntax.tyEnum (List._∷_ 116 (List._∷_ 101 (List._∷_ 120 (List._∷_ 116 (List._∷_ 95 (List._∷_ 104 (List._∷_ 101 (List._∷_ 97 (List._∷_ 100 (List._∷_ 105 (List._∷_ 110 (List._∷_ 103 (List._∷_ 58 (List._∷_ 58 (List._∷_ 87 (List._∷_ 111 (List._∷_ 114 (List._∷_ 100 List.[])))))))))))))))))) (Syntax.ttcons Syntax.tnil (Syntax.ttcons Syntax.tnil (Syntax.ttcons Syntax.tnil (Syntax.ttcons Syntax.tnil (Syntax.ttcons Syntax.tnil Syntax.ttnil)))))) (Syntax.tcons (Syntax.tyInt Syntax.w8) Syntax.tnil)) (Syntax.ttcons Syntax.tnil (Syntax.ttcons (Syntax.tcons (Syntax.tyEnum (List._∷_ 116 (List._∷_ 101 (List._∷_ 120 (List._∷_ 116 (List._∷_ 95 (List._∷_ 104 (List._∷_ 101 (List._∷_ 97 (List._∷_ 100 (List._∷_ 105 (List._∷_ 110 (List._∷_ 103 (List._∷_ 58 (List._∷_ 58 (List._∷_ 72 (List._∷_ 101 (List._∷_ 97 (List._∷_ 100 (List._∷_ 105 (List._∷_ 110 (List._∷_ 103 (List._∷_ 70 (List._∷_ 97 (List._∷_ 117 (List._∷_ 108 (List._∷_ 116 List.[])))))))))))))))))))))))))) (Syntax.ttcons Syntax.tnil (Syntax.ttcons Syntax.tnil (Syntax.ttcons Syntax.tnil (Syntax.ttcons Syntax.tnil (Syntax.ttcons (Syntax.tcons (Syntax.tyEnum (List._∷_ 116 (List._∷_ 101 (List._∷_ 120 (List._∷_ 116 (List._∷_ 95 (List._∷_ 104 (List._∷_ 101 (List._∷_ 97 (List._∷_ 100 (List._∷_ 105 (List._∷_ 110 (List._∷_ 103 (List._∷_ 58 (List._∷_ 58 (List._∷_ 87 (List._∷_ 111 (List._∷_ 114 (List._∷_ 100 List.[])))))))))))))))))) (Syntax.ttcons Syntax.tnil (Syntax.ttcons Syntax.tnil (Syntax.ttcons Syntax.tnil (Syntax.ttcons Syntax.tnil (Syntax.ttcons Syntax.tnil Syntax.ttnil)))))) Syntax.tnil) Syntax.ttnil)))))) Syntax.tnil) Syntax.ttnil)))))) Syntax.tnil)))) Syntax.tnil) (Syntax.ttcons Syntax.tnil (Syntax.ttcons (Syntax.tcons (Syntax.tyInt Syntax.w8) Syntax.tnil) (Syntax.ttcons Syntax.tnil (Syntax.ttcons (Syntax.tcons (Syntax.tyEnum (List._∷_ 116 (List._∷_ 101 (List._∷_ 120 (List._∷_ 116 (List._∷_ 95 (List._∷_ 114 (List._∷_ 101 (List._∷_ 97 (List._∷_ 100 (List._∷_ 105 (List._∷_ 110 (List._∷_ 103 (List._∷_ 58 (List._∷_ 58 (List._∷_ 70 (List._∷_ 97 (List._∷_ 117 (List._∷_ 108 (List._∷_ 116 List.[]))))))))))))))))))) (Syntax.ttcons (Syntax.tcons (Syntax.tyEnum (List._∷_ 116 (List._∷_ 101 (List._∷_ 120 (List._∷_ 116 (List._∷_ 95 (List._∷_ 104 (List._∷_ 101 (List._∷_ 97 (List._∷_ 100 (List._∷_ 105 (List._∷_ 110 (List._∷_ 103 (List._∷_ 58 (List._∷_ 58 (List._∷_ 72 (List._∷_ 101 (List._∷_ 97 (List._∷_ 100 (List._∷_ 105 (List._∷_ 110 (List._∷_ 103 (List._∷_ 70 (List._∷_ 97 (List._∷_ 117 (List._∷_ 108 (List._∷_ 116 List.[])))))))))))))))))))))))))) (Syntax.ttcons Syntax.tnil (Syntax.ttcons Syntax.tnil (Syntax.ttcons Syntax.tnil (Syntax.ttcons Syntax.tnil (Syntax.ttcons (Syntax.tcons (Syntax.tyEnum (List._∷_ 116 (List._∷_ 101 (List._∷_ 120 (List._∷_ 116 (List._∷_ 95 (List._∷_ 104 (List._∷_ 101 (List._∷_ 97 (List._∷_ 100 (List._∷_ 105 (List._∷_ 110 (List._∷_ 103 (List._∷_ 58 (List._∷_ 58 (List._∷_ 87 (List._∷_ 111 (List._∷_ 114 (List._∷_ 100 List.[])))))))))))))))))) (Syntax.ttcons Syntax.tnil (Syntax.ttcons Syntax.tnil (Syntax.ttcons Syntax.tnil (Syntax.ttcons Syntax.tnil (Syntax.ttcons Syntax.tnil Syntax.ttnil)))))) Syntax.tnil) Syntax.ttnil)))))) Syntax.tnil) (Syntax.ttcons Syntax.tnil (Syntax.ttcons Syntax.tnil Syntax.ttnil)))) Syntax.tnil) Syntax.ttnil)))))))) (Syntax.tcons (Syntax.tyArray (Syntax.tyInt Syntax.w8) 32) (Syntax.tcons (Syntax.tyInt Syntax.w64) Syntax.tnil))))))) (List._∷_ (9, Rows.sc-here (Row.sInt Syntax.w64)) (List._∷_ (10, Rows.any-gone (Syntax.tyRef Syntax.erased Syntax.mut OfOutput.named)) (List._∷_ (11, Rows.any-gone (Syntax.tyStruct (List._∷_ 38 (List._∷_ 91 (List._∷_ 93 List.[]))) (Syntax.tcons (Syntax.tyRef Syntax.erased Syntax.mut OfOutput.named) (Syntax.tcons (Syntax.tyInt Syntax.w64) Syntax.tnil)))) (List._∷_ (12, Rows.any-gone (Syntax.tyRef Syntax.erased Syntax.mut OfStation.named)) (List._∷_ (13, Rows.any-gone (Syntax.tyStruct (List._∷_ 38 (List._∷_ 91 (List._∷_ 93 List.[]))) (Syntax.tcons (Syntax.tyRef Syntax.erased Syntax.mut OfStation.named) (Syntax.tcons (Syntax.tyInt Syntax.w64) Syntax.tnil)))) (List._∷_ (14, Rows.any-gone (Syntax.tyRef Syntax.erased Syntax.mut OfPanelRecord.named)) (List._∷_ (15, Rows.any-gone (Syntax.tyRef Syntax.erased Syntax.mut (Syntax.tyInt Syntax.w8))) List.[])))))))))))))))
 
         abbrev g44 : List.List Row.Entry
-        g44 = List._∷_ (0, Rows.any-gone Syntax.tyUnit) (List._∷_ (1, Mut.mslice (OfOutput.row) (Syntax.tyRef (Syntax.named 0) Syntax.mut OfOutput.named) 0) (List._∷_ (2, Mut.mslice (OfStation.row) (Syntax.tyRef (Syntax.named 1) Syntax.mut OfStation.named) 1) (List._∷_ (3, Rows.mref (OfPanelRecord.row) (Syntax.tyRef (Syntax.named 2) Syntax.mut OfPanelRecord.named) 2) (List._∷_ (4, Relend.mslice-owed (Referent.rtF (Referent.fInt Syntax.w8)) (Syntax.tyRef (Syntax.named 3) Syntax.mut (Syntax.tyInt Syntax.w8)) 3 13 (Row.lease (κs .1 .1 .1 .0) (qs .1 .1 .1 .0))) (List._∷_ (5, Mut.mslice (Referent.rtF (Referent.fInt Syntax.w8)) (Syntax.tyRef (Syntax.named 4) Syntax.mut (Syntax.tyInt Syntax.w8)) 4) (List._∷_ (6, Rows.sc-here Row.sBool) (List._∷_ (7, Rows.any-gone (Laws.mir)) (List._∷_ (8, Rows.any-gone (Syntax.tyStruct (List._∷_ 116 (List._∷_ 101 (List._∷_ 120 (List._∷_ 116 (List._∷_ 95 (List._∷_ 114 (List._∷_ 101 (List._∷_ 97 (List._∷_ 100 (List._∷_ 105 (List._∷_ 110 (List._∷_ 103 (List._∷_ 58 (List._∷_ 58 (List._∷_ 82 (List._∷_ 101 (List._∷_ 97 (List._∷_ 100 (List._∷_ 101 (List._∷_ 114 List.[])))))))))))))))))))) (Syntax.tcons Syntax.tyBool (Syntax.tcons (Syntax.tyInt Syntax.w64) (Syntax.tcons (Syntax.tyEnum (List._∷_ 116 (List._∷_ 101 (List._∷_ 120 (List._∷_ 116 (List._∷_ 95 (List._∷_ 114 (List._∷_ 101 (List._∷_ 97 (List._∷_ 100 (List._∷_ 105 (List._∷_ 110 (List._∷_ 103 (List._∷_ 58 (List._∷_ 58 (List._∷_ 72 (List._∷_ 101 (List._∷_ 108 (List._∷_ 100 List.[])))))))))))))))))) (Syntax.ttcons Syntax.tnil (Syntax.ttcons Syntax.tnil (Syntax.ttcons (Syntax.tcons (Syntax.tyStruct (List._∷_ 116 (List._∷_ 101 (List._∷_ 120 (List._∷_ 116 (List._∷_ 95 (List._∷_ 104 (List._∷_ 101 (List._∷_ 97 (List._∷_ 100 (List._∷_ 105 (List._∷_ 110 (List._∷_ 103 (List._∷_ 58 (List._∷_ 58 (List._∷_ 72 (List._∷_ 101 (List._∷_ 97 (List._∷_ 100 (List._∷_ 105 (List._∷_ 110 (List._∷_ 103 List.[]))))))))))))))))))))) (Syntax.tcons (IsParameters.mir) (Syntax.tcons (Syntax.tyStruct (List._∷_ 116 (List._∷_ 101 (List._∷_ 120 (List._∷_ 116 (List._∷_ 95 (List._∷_ 104 (List._∷_ 101 (List._∷_ 97 (List._∷_ 100 (List._∷_ 105 (List._∷_ 110 (List._∷_ 103 (List._∷_ 58 (List._∷_ 58 (List._∷_ 67 (List._∷_ 97 (List._∷_ 109 (List._∷_ 101 List.[])))))))))))))))))) (Syntax.tcons Syntax.tyBool (Syntax.tcons Syntax.tyBool (Syntax.tcons Syntax.tyBool Syntax.tnil)))) (Syntax.tcons (Syntax.tyEnum (List._∷_ 116 (List._∷_ 101 (List._∷_ 120 (List._∷_ 116 (List._∷_ 95 (List._∷_ 104 (List._∷_ 101 (List._∷_ 97 (List._∷_ 100 (List._∷_ 105 (List._∷_ 110 (List._∷_ 103 (List._∷_ 58 (List._∷_ 58 (List._∷_ 80 (List._∷_ 108 (List._∷_ 97 (List._∷_ 99 (List._∷_ 101 List.[]))))))))))))))))))) (Syntax.ttcons (Syntax.tcons (Syntax.tyEnum (List._∷_ 116 (List._∷_ 101 (List._∷_ 120 (List._∷_ 116 (List._∷_ 95 (List._∷_ 104 (List._∷_ 101 (List._∷_ 97 (List._∷_ 100 (List._∷_ 105 (List._∷_ 110 (List._∷_ 103 (List._∷_ 58 (List._∷_ 58 (List._∷_ 87 (List._∷_ 111 (List._∷_ 114 (List._∷_ 100 List.[])))))))))))))))))) (Syntax.ttcons Syntax.tnil (Syntax.ttcons Syntax.tnil (Syntax.ttcons Syntax.tnil (Syntax.ttcons Syntax.tnil Syntax.ttnil))))) (Syntax.tcons (Syntax.tyInt Syntax.w8) Syntax.tnil)) (Syntax.ttcons (Syntax.tcons (Syntax.tyEnum (List._∷_ 116 (List._∷_ 101 (List._∷_ 120 (List._∷_ 116 (List._∷_ 95 (List._∷_ 104 (List._∷_ 101 (List._∷_ 97 (List._∷_ 100 (List._∷_ 105 (List._∷_ 110 (List._∷_ 103 (List._∷_ 58 (List._∷_ 58 (List._∷_ 87 (List._∷_ 111 (List._∷_ 114 (List._∷_ 100 List.[])))))))))))))))))) (Syntax.ttcons Syntax.tnil (Syntax.ttcons Syntax.tnil (Syntax.ttcons Syntax.tnil (Syntax.ttcons Syntax.tnil Syntax.ttnil))))) Syntax.tnil) (Syntax.ttcons (Syntax.tcons (Syntax.tyEnum (List._∷_ 116 (List._∷_ 101 (List._∷_ 120 (List._∷_ 116 (List._∷_ 95 (List._∷_ 104 (List._∷_ 101 (List._∷_ 97 (List._∷_ 100 (List._∷_ 105 (List._∷_ 110 (List._∷_ 103 (List._∷_ 58 (List._∷_ 58 (List._∷_ 87 (List._∷_ 111 (List._∷_ 114 (List._∷_ 100 List.[])))))))))))))))))) (Syntax.ttcons Syntax.tnil (Syntax.ttcons Syntax.tnil (Syntax.ttcons Syntax.tnil (Syntax.ttcons Syntax.tnil Syntax.ttnil))))) Syntax.tnil) (Syntax.ttcons Syntax.tnil (Syntax.ttcons (Syntax.tcons (Syntax.tyEnum (List._∷_ 116 (List._∷_ 101 (List._∷_ 120 (List._∷_ 116 (List._∷_ 95 (List._∷_ 104 (List._∷_ 101 (List._∷_ 97 (List._∷_ 100 (List._∷_ 105 (List._∷_ 110 (List._∷_ 103 (List._∷_ 58 (List._∷_ 58 (List._∷_ 72 (List._∷_ 101 (List._∷_ 97 (List._∷_ 100 (List._∷_ 105 (List._∷_ 110 (List._∷_ 103 (List._∷_ 70 (List._∷_ 97 (List._∷_ 117 (List._∷_ 108 (List._∷_ 116 List.[])))))))))))))))))))))))))) (Syntax.ttcons Syntax.tnil (Syntax.ttcons Syntax.tnil (Syntax.ttcons Syntax.tnil (Syntax.ttcons (Syntax.tcons (Syntax.tyEnum (List._∷_ 116 (List._∷_ 101 (List._∷_ 120 (List._∷_ 116 (List._∷_ 95 (List._∷_ 104 (List._∷_ 101 (List._∷_ 97 (List._∷_ 100 (List._∷_ 105 (List._∷_ 110 (List._∷_ 103 (List._∷_ 58 (List._∷_ 58 (List._∷_ 87 (List._∷_ 111 (List._∷_ 114 (List._∷_ 100 List.[])))))))))))))))))) (Syntax.ttcons Syntax.tnil (Syntax.ttcons Syntax.tnil (Syntax.ttcons Syntax.tnil (Syntax.ttcons Syntax.tnil Syntax.ttnil))))) Syntax.tnil) Syntax.ttnil))))) Syntax.tnil) Syntax.ttnil)))))) Syntax.tnil)))) Syntax.tnil) (Syntax.ttcons Syntax.tnil (Syntax.ttcons (Syntax.tcons (Syntax.tyInt Syntax.w8) Syntax.tnil) (Syntax.ttcons Syntax.tnil (Syntax.ttcons (Syntax.tcons (Syntax.tyEnum (List._∷_ 116 (List._∷_ 101 (List._∷_ 120 (List._∷_ 116 (List._∷_ 95 (List._∷_ 114 (List._∷_ 101 (List._∷_ 97 (List._∷_ 100 (List._∷_ 105 (List._∷_ 110 (List._∷_ 103 (List._∷_ 58 (List._∷_ 58 (List._∷_ 70 (List._∷_ 97 (List._∷_ 117 (List._∷_ 108 (List._∷_ 116 List.[]))))))))))))))))))) (Syntax.ttcons (Syntax.tcons (Syntax.tyEnum (List._∷_ 116 (List._∷_ 101 (List._∷_ 120 (List._∷_ 116 (List._∷_ 95 (List._∷_ 104 (List._∷_ 101 (List._∷_ 97 (List._∷_ 100 (List._∷_ 105 (List._∷_ 110 (List._∷_ 103 (List._∷_ 58 (List._∷_ 58 (List._∷_ 72 (List._∷_ 101 (List._∷_ 97 (List._∷_ 100 (List._∷_ 105 (List._∷_ 110 (List._∷_ 103 (List._∷_ 70 (List._∷_ 97 (List._∷_ 117 (List._∷_ 108 (List._∷_ 116 List.[])))))))))))))))))))))))))) (Syntax.ttcons Syntax.tnil (Syntax.ttcons Syntax.tnil (Syntax.ttcons Syntax.tnil (Syntax.ttcons (Syntax.tcons (Syntax.tyEnum (List._∷_ 116 (List._∷_ 101 (List._∷_ 120 (List._∷_ 116 (List._∷_ 95 (List._∷_ 104 (List._∷_ 101 (List._∷_ 97 (List._∷_ 100 (List._∷_ 105 (List._∷_ 110 (List._∷_ 103 (List._∷_ 58 (List._∷_ 58 (List._∷_ 87 (List._∷_ 111 (List._∷_ 114 (List._∷_ 100 List.[])))))))))))))))))) (Syntax.ttcons Syntax.tnil (Syntax.ttcons Syntax.tnil (Syntax.ttcons Syntax.tnil (Syntax.ttcons Syntax.tnil Syntax.ttnil))))) Syntax.tnil) Syntax.ttnil))))) Syntax.tnil) (Syntax.ttcons Syntax.tnil (Syntax.ttcons Syntax.tnil Syntax.ttnil)))) Syntax.tnil) Syntax.ttnil)))))))) (Syntax.tcons (Syntax.tyArray (Syntax.tyInt Syntax.w8) 32) (Syntax.tcons (Syntax.tyInt Syntax.w64) Syntax.tnil))))))) (List._∷_ (9, Rows.sc-here (Row.sInt Syntax.w64)) (List._∷_ (10, Rows.any-gone (Syntax.tyRef Syntax.erased Syntax.mut OfOutput.named)) (List._∷_ (11, Rows.any-gone (Syntax.tyStruct (List._∷_ 38 (List._∷_ 91 (List._∷_ 93 List.[]))) (Syntax.tcons (Syntax.tyRef Syntax.erased Syntax.mut OfOutput.named) (Syntax.tcons (Syntax.tyInt Syntax.w64) Syntax.tnil)))) (List._∷_ (12, Rows.any-gone (Syntax.tyRef Syntax.erased Syntax.mut OfStation.named)) (List._∷_ (13, Rows.any-gone (Syntax.tyStruct (List._∷_ 38 (List._∷_ 91 (List._∷_ 93 List.[]))) (Syntax.tcons (Syntax.tyRef Syntax.erased Syntax.mut OfStation.named) (Syntax.tcons (Syntax.tyInt Syntax.w64) Syntax.tnil)))) (List._∷_ (14, Rows.any-gone (Syntax.tyRef Syntax.erased Syntax.mut OfPanelRecord.named)) (List._∷_ (15, Rows.any-gone (Syntax.tyRef Syntax.erased Syntax.mut (Syntax.tyInt Syntax.w8))) List.[])))))))))))))))
+        g44 = List._∷_ (0, Rows.any-gone Syntax.tyUnit) (List._∷_ (1, Mut.mslice (OfOutput.row) (Syntax.tyRef (Syntax.named 0) Syntax.mut OfOutput.named) 0) (List._∷_ (2, Mut.mslice (OfStation.row) (Syntax.tyRef (Syntax.named 1) Syntax.mut OfStation.named) 1) (List._∷_ (3, Rows.mref (OfPanelRecord.row) (Syntax.tyRef (Syntax.named 2) Syntax.mut OfPanelRecord.named) 2) (List._∷_ (4, Relend.mslice-owed (Referent.rtF (Referent.fInt Syntax.w8)) (Syntax.tyRef (Syntax.named 3) Syntax.mut (Syntax.tyInt Syntax.w8)) 3 13 (Row.lease (κs .1 .1 .1 .0) (qs .1 .1 .1 .0))) (List._∷_ (5, Mut.mslice (Referent.rtF (Referent.fInt Syntax.w8)) (Syntax.tyRef (Syntax.named 4) Syntax.mut (Syntax.tyInt Syntax.w8)) 4) (List._∷_ (6, Rows.sc-here Row.sBool) (List._∷_ (7, Rows.any-gone (Laws.mir)) (List._∷_ (8, Rows.any-gone (Syntax.tyStruct (List._∷_ 116 (List._∷_ 101 (List._∷_ 120 (List._∷_ 116 (List._∷_ 95 (List._∷_ 114 (List._∷_ 101 (List._∷_ 97 (List._∷_ 100 (List._∷_ 105 (List._∷_ 110 (List._∷_ 103 (List._∷_ 58 (List._∷_ 58 (List._∷_ 82 (List._∷_ 101 (List._∷_ 97 (List._∷_ 100 (List._∷_ 101 (List._∷_ 114 List.[])))))))))))))))))))) (Syntax.tcons Syntax.tyBool (Syntax.tcons (Syntax.tyInt Syntax.w64) (Syntax.tcons (Syntax.tyEnum (List._∷_ 116 (List._∷_ 101 (List._∷_ 120 (List._∷_ 116 (List._∷_ 95 (List._∷_ 114 (List._∷_ 101 (List._∷_ 97 (List._∷_ 100 (List._∷_ 105 (List._∷_ 110 (List._∷_ 103 (List._∷_ 58 (List._∷_ 58 (List._∷_ 72 (List._∷_ 101 (List._∷_ 108 (List._∷_ 100 List.[])))))))))))))))))) (Syntax.ttcons Syntax.tnil (Syntax.ttcons Syntax.tnil (Syntax.ttcons (Syntax.tcons (Syntax.tyStruct (List._∷_ 116 (List._∷_ 101 (List._∷_ 120 (List._∷_ 116 (List._∷_ 95 (List._∷_ 104 (List._∷_ 101 (List._∷_ 97 (List._∷_ 100 (List._∷_ 105 (List._∷_ 110 (List._∷_ 103 (List._∷_ 58 (List._∷_ 58 (List._∷_ 72 (List._∷_ 101 (List._∷_ 97 (List._∷_ 100 (List._∷_ 105 (List._∷_ 110 (List._∷_ 103 List.[]))))))))))))))))))))) (Syntax.tcons (Syntax.tyStruct (List._∷_ 116 (List._∷_ 101 (List._∷_ 120 (List._∷_ 116 (List._∷_ 95 (List._∷_ 104 (List._∷_ 101 (List._∷_ 97 (List._∷_ 100 (List._∷_ 105 (List._∷_ 110 (List._∷_ 103 (List._∷_ 58 (List._∷_ 58 (List._∷_ 78 (List._∷_ 97 (List._∷_ 109 (List._∷_ 101 (List._∷_ 100 List.[]))))))))))))))))))) (Syntax.tcons (IsParameters.mir) (Syntax.tcons (Syntax.tyInt Syntax.w32) Syntax.tnil))) (Syntax.tcons (Syntax.tyStruct (List._∷_ 116 (List._∷_ 101 (List._∷_ 120 (List._∷_ 116 (List._∷_ 95 (List._∷_ 104 (List._∷_ 101 (List._∷_ 97 (List._∷_ 100 (List._∷_ 105 (List._∷_ 110 (List._∷_ 103 (List._∷_ 58 (List._∷_ 58 (List._∷_ 67 (List._∷_ 97 (List._∷_ 109 (List._∷_ 101 List.[])))))))))))))))))) (Syntax.tcons Syntax.tyBool (Syntax.tcons Syntax.tyBool (Syntax.tcons Syntax.tyBool (Syntax.tcons Syntax.tyBool Syntax.tnil))))) (Syntax.tcons (Syntax.tyEnum (List._∷_ 116 (List._∷_ 101 (List._∷_ 120 (List._∷_ 116 (List._∷_ 95 (List._∷_ 104 (List._∷_ 101 (List._∷_ 97 (List._∷_ 100 (List._∷_ 105 (List._∷_ 110 (List._∷_ 103 (List._∷_ 58 (List._∷_ 58 (List._∷_ 80 (List._∷_ 108 (List._∷_ 97 (List._∷_ 99 (List._∷_ 101 List.[]))))))))))))))))))) (Syntax.ttcons (Syntax.tcons (Syntax.tyEnum (List._∷_ 116 (List._∷_ 101 (List._∷_ 120 (List._∷_ 116 (List._∷_ 95 (List._∷_ 104 (List._∷_ 101 (List._∷_ 97 (List._∷_ 100 (List._∷_ 105 (List._∷_ 110 (List._∷_ 103 (List._∷_ 58 (List._∷_ 58 (List._∷_ 87 (List._∷_ 111 (List._∷_ 114 (List._∷_ 100 List.[])))))))))))))))))) (Syntax.ttcons Syntax.tnil (Syntax.ttcons Syntax.tnil (Syntax.ttcons Syntax.tnil (Syntax.ttcons Syntax.tnil (Syntax.ttcons Syntax.tnil Syntax.ttnil)))))) (Syntax.tcons (Syntax.tyInt Syntax.w8) Syntax.tnil)) (Syntax.ttcons (Syntax.tcons (Syntax.tyEnum (List._∷_ 116 (List._∷_ 101 (List._∷_ 120 (List._∷_ 116 (List._∷_ 95 (List._∷_ 104 (List._∷_ 101 (List._∷_ 97 (List._∷_ 100 (List._∷_ 105 (List._∷_ 110 (List._∷_ 103 (List._∷_ 58 (List._∷_ 58 (List._∷_ 87 (List._∷_ 111 (List._∷_ 114 (List._∷_ 100 List.[])))))))))))))))))) (Syntax.ttcons Syntax.tnil (Syntax.ttcons Syntax.tnil (Syntax.ttcons Syntax.tnil (Syntax.ttcons Syntax.tnil (Syntax.ttcons Syntax.tnil Syntax.ttnil)))))) Syntax.tnil) (Syntax.ttcons (Syntax.tcons (Syntax.tyEnum (List._∷_ 116 (List._∷_ 101 (List._∷_ 120 (List._∷_ 116 (List._∷_ 95 (List._∷_ 104 (List._∷_ 101 (List._∷_ 97 (List._∷_ 100 (List._∷_ 105 (List._∷_ 110 (List._∷_ 103 (List._∷_ 58 (List._∷_ 58 (List._∷_ 87 (List._∷_ 111 (List._∷_ 114 (List._∷_ 100 List.[])))))))))))))))))) (Syntax.ttcons Syntax.tnil (Syntax.ttcons Syntax.tnil (Syntax.ttcons Syntax.tnil (Syntax.ttcons Syntax.tnil (Syntax.ttcons Syntax.tnil Syntax.ttnil)))))) (Syntax.tcons (Syntax.tyInt Syntax.w8) Syntax.tnil)) (Syntax.ttcons Syntax.tnil (Syntax.ttcons (Syntax.tcons (Syntax.tyEnum (List._∷_ 116 (List._∷_ 101 (List._∷_ 120 (List._∷_ 116 (List._∷_ 95 (List._∷_ 104 (List._∷_ 101 (List._∷_ 97 (List._∷_ 100 (List._∷_ 105 (List._∷_ 110 (List._∷_ 103 (List._∷_ 58 (List._∷_ 58 (List._∷_ 72 (List._∷_ 101 (List._∷_ 97 (List._∷_ 100 (List._∷_ 105 (List._∷_ 110 (List._∷_ 103 (List._∷_ 70 (List._∷_ 97 (List._∷_ 117 (List._∷_ 108 (List._∷_ 116 List.[])))))))))))))))))))))))))) (Syntax.ttcons Syntax.tnil (Syntax.ttcons Syntax.tnil (Syntax.ttcons Syntax.tnil (Syntax.ttcons Syntax.tnil (Syntax.ttcons (Syntax.tcons (Syntax.tyEnum (List._∷_ 116 (List._∷_ 101 (List._∷_ 120 (List._∷_ 116 (List._∷_ 95 (List._∷_ 104 (List._∷_ 101 (List._∷_ 97 (List._∷_ 100 (List._∷_ 105 (List._∷_ 110 (List._∷_ 103 (List._∷_ 58 (List._∷_ 58 (List._∷_ 87 (List._∷_ 111 (List._∷_ 114 (List._∷_ 100 List.[])))))))))))))))))) (Syntax.ttcons Syntax.tnil (Syntax.ttcons Syntax.tnil (Syntax.ttcons Syntax.tnil (Syntax.ttcons Syntax.tnil (Syntax.ttcons Syntax.tnil Syntax.ttnil)))))) Syntax.tnil) Syntax.ttnil)))))) Syntax.tnil) Syntax.ttnil)))))) Syntax.tnil)))) Syntax.tnil) (Syntax.ttcons Syntax.tnil (Syntax.ttcons (Syntax.tcons (Syntax.tyInt Syntax.w8) Syntax.tnil) (Syntax.ttcons Syntax.tnil (Syntax.ttcons (Syntax.tcons (Syntax.tyEnum (List._∷_ 116 (List._∷_ 101 (List._∷_ 120 (List._∷_ 116 (List._∷_ 95 (List._∷_ 114 (List._∷_ 101 (List._∷_ 97 (List._∷_ 100 (List._∷_ 105 (List._∷_ 110 (List._∷_ 103 (List._∷_ 58 (List._∷_ 58 (List._∷_ 70 (List._∷_ 97 (List._∷_ 117 (List._∷_ 108 (List._∷_ 116 List.[]))))))))))))))))))) (Syntax.ttcons (Syntax.tcons (Syntax.tyEnum (List._∷_ 116 (List._∷_ 101 (List._∷_ 120 (List._∷_ 116 (List._∷_ 95 (List._∷_ 104 (List._∷_ 101 (List._∷_ 97 (List._∷_ 100 (List._∷_ 105 (List._∷_ 110 (List._∷_ 103 (List._∷_ 58 (List._∷_ 58 (List._∷_ 72 (List._∷_ 101 (List._∷_ 97 (List._∷_ 100 (List._∷_ 105 (List._∷_ 110 (List._∷_ 103 (List._∷_ 70 (List._∷_ 97 (List._∷_ 117 (List._∷_ 108 (List._∷_ 116 List.[])))))))))))))))))))))))))) (Syntax.ttcons Syntax.tnil (Syntax.ttcons Syntax.tnil (Syntax.ttcons Syntax.tnil (Syntax.ttcons Syntax.tnil (Syntax.ttcons (Syntax.tcons (Syntax.tyEnum (List._∷_ 116 (List._∷_ 101 (List._∷_ 120 (List._∷_ 116 (List._∷_ 95 (List._∷_ 104 (List._∷_ 101 (List._∷_ 97 (List._∷_ 100 (List._∷_ 105 (List._∷_ 110 (List._∷_ 103 (List._∷_ 58 (List._∷_ 58 (List._∷_ 87 (List._∷_ 111 (List._∷_ 114 (List._∷_ 100 List.[])))))))))))))))))) (Syntax.ttcons Syntax.tnil (Syntax.ttcons Syntax.tnil (Syntax.ttcons Syntax.tnil (Syntax.ttcons Syntax.tnil (Syntax.ttcons Syntax.tnil Syntax.ttnil)))))) Syntax.tnil) Syntax.ttnil)))))) Syntax.tnil) (Syntax.ttcons Syntax.tnil (Syntax.ttcons Syntax.tnil Syntax.ttnil)))) Syntax.tnil) Syntax.ttnil)))))))) (Syntax.tcons (Syntax.tyArray (Syntax.tyInt Syntax.w8) 32) (Syntax.tcons (Syntax.tyInt Syntax.w64) Syntax.tnil))))))) (List._∷_ (9, Rows.sc-here (Row.sInt Syntax.w64)) (List._∷_ (10, Rows.any-gone (Syntax.tyRef Syntax.erased Syntax.mut OfOutput.named)) (List._∷_ (11, Rows.any-gone (Syntax.tyStruct (List._∷_ 38 (List._∷_ 91 (List._∷_ 93 List.[]))) (Syntax.tcons (Syntax.tyRef Syntax.erased Syntax.mut OfOutput.named) (Syntax.tcons (Syntax.tyInt Syntax.w64) Syntax.tnil)))) (List._∷_ (12, Rows.any-gone (Syntax.tyRef Syntax.erased Syntax.mut OfStation.named)) (List._∷_ (13, Rows.any-gone (Syntax.tyStruct (List._∷_ 38 (List._∷_ 91 (List._∷_ 93 List.[]))) (Syntax.tcons (Syntax.tyRef Syntax.erased Syntax.mut OfStation.named) (Syntax.tcons (Syntax.tyInt Syntax.w64) Syntax.tnil)))) (List._∷_ (14, Rows.any-gone (Syntax.tyRef Syntax.erased Syntax.mut OfPanelRecord.named)) (List._∷_ (15, Rows.any-gone (Syntax.tyRef Syntax.erased Syntax.mut (Syntax.tyInt Syntax.w8))) List.[])))))))))))))))
 
         abbrev g47 : List.List Row.Entry
-        g47 = List._∷_ (0, Rows.any-gone Syntax.tyUnit) (List._∷_ (1, Mut.mslice (OfOutput.row) (Syntax.tyRef (Syntax.named 0) Syntax.mut OfOutput.named) 0) (List._∷_ (2, Mut.mslice (OfStation.row) (Syntax.tyRef (Syntax.named 1) Syntax.mut OfStation.named) 1) (List._∷_ (3, Rows.mref (OfPanelRecord.row) (Syntax.tyRef (Syntax.named 2) Syntax.mut OfPanelRecord.named) 2) (List._∷_ (4, Reshare.mslice-owedS (Referent.rtF (Referent.fInt Syntax.w8)) (Syntax.tyRef (Syntax.named 3) Syntax.mut (Syntax.tyInt Syntax.w8)) 3 14 (Row.lease (κs .1 .1 .1 .0) (qs .1 .1 .1 .0))) (List._∷_ (5, Mut.mslice (Referent.rtF (Referent.fInt Syntax.w8)) (Syntax.tyRef (Syntax.named 4) Syntax.mut (Syntax.tyInt Syntax.w8)) 4) (List._∷_ (6, Rows.sc-here Row.sBool) (List._∷_ (7, Rows.any-gone (Laws.mir)) (List._∷_ (8, Rows.any-gone (Syntax.tyStruct (List._∷_ 116 (List._∷_ 101 (List._∷_ 120 (List._∷_ 116 (List._∷_ 95 (List._∷_ 114 (List._∷_ 101 (List._∷_ 97 (List._∷_ 100 (List._∷_ 105 (List._∷_ 110 (List._∷_ 103 (List._∷_ 58 (List._∷_ 58 (List._∷_ 82 (List._∷_ 101 (List._∷_ 97 (List._∷_ 100 (List._∷_ 101 (List._∷_ 114 List.[])))))))))))))))))))) (Syntax.tcons Syntax.tyBool (Syntax.tcons (Syntax.tyInt Syntax.w64) (Syntax.tcons (Syntax.tyEnum (List._∷_ 116 (List._∷_ 101 (List._∷_ 120 (List._∷_ 116 (List._∷_ 95 (List._∷_ 114 (List._∷_ 101 (List._∷_ 97 (List._∷_ 100 (List._∷_ 105 (List._∷_ 110 (List._∷_ 103 (List._∷_ 58 (List._∷_ 58 (List._∷_ 72 (List._∷_ 101 (List._∷_ 108 (List._∷_ 100 List.[])))))))))))))))))) (Syntax.ttcons Syntax.tnil (Syntax.ttcons Syntax.tnil (Syntax.ttcons (Syntax.tcons (Syntax.tyStruct (List._∷_ 116 (List._∷_ 101 (List._∷_ 120 (List._∷_ 116 (List._∷_ 95 (List._∷_ 104 (List._∷_ 101 (List._∷_ 97 (List._∷_ 100 (List._∷_ 105 (List._∷_ 110 (List._∷_ 103 (List._∷_ 58 (List._∷_ 58 (List._∷_ 72 (List._∷_ 101 (List._∷_ 97 (List._∷_ 100 (List._∷_ 105 (List._∷_ 110 (List._∷_ 103 List.[]))))))))))))))))))))) (Syntax.tcons (IsParameters.mir) (Syntax.tcons (Syntax.tyStruct (List._∷_ 116 (List._∷_ 101 (List._∷_ 120 (List._∷_ 116 (List._∷_ 95 (List._∷_ 104 (List._∷_ 101 (List._∷_ 97 (List._∷_ 100 (List._∷_ 105 (List._∷_ 110 (List._∷_ 103 (List._∷_ 58 (List._∷_ 58 (List._∷_ 67 (List._∷_ 97 (List._∷_ 109 (List._∷_ 101 List.[])))))))))))))))))) (Syntax.tcons Syntax.tyBool (Syntax.tcons Syntax.tyBool (Syntax.tcons Syntax.tyBool Syntax.tnil)))) (Syntax.tcons (Syntax.tyEnum (List._∷_ 116 (List._∷_ 101 (List._∷_ 120 (List._∷_ 116 (List._∷_ 95 (List._∷_ 104 (List._∷_ 101 (List._∷_ 97 (List._∷_ 100 (List._∷_ 105 (List._∷_ 110 (List._∷_ 103 (List._∷_ 58 (List._∷_ 58 (List._∷_ 80 (List._∷_ 108 (List._∷_ 97 (List._∷_ 99 (List._∷_ 101 List.[]))))))))))))))))))) (Syntax.ttcons (Syntax.tcons (Syntax.tyEnum (List._∷_ 116 (List._∷_ 101 (List._∷_ 120 (List._∷_ 116 (List._∷_ 95 (List._∷_ 104 (List._∷_ 101 (List._∷_ 97 (List._∷_ 100 (List._∷_ 105 (List._∷_ 110 (List._∷_ 103 (List._∷_ 58 (List._∷_ 58 (List._∷_ 87 (List._∷_ 111 (List._∷_ 114 (List._∷_ 100 List.[])))))))))))))))))) (Syntax.ttcons Syntax.tnil (Syntax.ttcons Syntax.tnil (Syntax.ttcons Syntax.tnil (Syntax.ttcons Syntax.tnil Syntax.ttnil))))) (Syntax.tcons (Syntax.tyInt Syntax.w8) Syntax.tnil)) (Syntax.ttcons (Syntax.tcons (Syntax.tyEnum (List._∷_ 116 (List._∷_ 101 (List._∷_ 120 (List._∷_ 116 (List._∷_ 95 (List._∷_ 104 (List._∷_ 101 (List._∷_ 97 (List._∷_ 100 (List._∷_ 105 (List._∷_ 110 (List._∷_ 103 (List._∷_ 58 (List._∷_ 58 (List._∷_ 87 (List._∷_ 111 (List._∷_ 114 (List._∷_ 100 List.[])))))))))))))))))) (Syntax.ttcons Syntax.tnil (Syntax.ttcons Syntax.tnil (Syntax.ttcons Syntax.tnil (Syntax.ttcons Syntax.tnil Syntax.ttnil))))) Syntax.tnil) (Syntax.ttcons (Syntax.tcons (Syntax.tyEnum (List._∷_ 116 (List._∷_ 101 (List._∷_ 120 (List._∷_ 116 (List._∷_ 95 (List._∷_ 104 (List._∷_ 101 (List._∷_ 97 (List._∷_ 100 (List._∷_ 105 (List._∷_ 110 (List._∷_ 103 (List._∷_ 58 (List._∷_ 58 (List._∷_ 87 (List._∷_ 111 (List._∷_ 114 (List._∷_ 100 List.[])))))))))))))))))) (Syntax.ttcons Syntax.tnil (Syntax.ttcons Syntax.tnil (Syntax.ttcons Syntax.tnil (Syntax.ttcons Syntax.tnil Syntax.ttnil))))) Syntax.tnil) (Syntax.ttcons Syntax.tnil (Syntax.ttcons (Syntax.tcons (Syntax.tyEnum (List._∷_ 116 (List._∷_ 101 (List._∷_ 120 (List._∷_ 116 (List._∷_ 95 (List._∷_ 104 (List._∷_ 101 (List._∷_ 97 (List._∷_ 100 (List._∷_ 105 (List._∷_ 110 (List._∷_ 103 (List._∷_ 58 (List._∷_ 58 (List._∷_ 72 (List._∷_ 101 (List._∷_ 97 (List._∷_ 100 (List._∷_ 105 (List._∷_ 110 (List._∷_ 103 (List._∷_ 70 (List._∷_ 97 (List._∷_ 117 (List._∷_ 108 (List._∷_ 116 List.[])))))))))))))))))))))))))) (Syntax.ttcons Syntax.tnil (Syntax.ttcons Syntax.tnil (Syntax.ttcons Syntax.tnil (Syntax.ttcons (Syntax.tcons (Syntax.tyEnum (List._∷_ 116 (List._∷_ 101 (List._∷_ 120 (List._∷_ 116 (List._∷_ 95 (List._∷_ 104 (List._∷_ 101 (List._∷_ 97 (List._∷_ 100 (List._∷_ 105 (List._∷_ 110 (List._∷_ 103 (List._∷_ 58 (List._∷_ 58 (List._∷_ 87 (List._∷_ 111 (List._∷_ 114 (List._∷_ 100 List.[])))))))))))))))))) (Syntax.ttcons Syntax.tnil (Syntax.ttcons Syntax.tnil (Syntax.ttcons Syntax.tnil (Syntax.ttcons Syntax.tnil Syntax.ttnil))))) Syntax.tnil) Syntax.ttnil))))) Syntax.tnil) Syntax.ttnil)))))) Syntax.tnil)))) Syntax.tnil) (Syntax.ttcons Syntax.tnil (Syntax.ttcons (Syntax.tcons (Syntax.tyInt Syntax.w8) Syntax.tnil) (Syntax.ttcons Syntax.tnil (Syntax.ttcons (Syntax.tcons (Syntax.tyEnum (List._∷_ 116 (List._∷_ 101 (List._∷_ 120 (List._∷_ 116 (List._∷_ 95 (List._∷_ 114 (List._∷_ 101 (List._∷_ 97 (List._∷_ 100 (List._∷_ 105 (List._∷_ 110 (List._∷_ 103 (List._∷_ 58 (List._∷_ 58 (List._∷_ 70 (List._∷_ 97 (List._∷_ 117 (List._∷_ 108 (List._∷_ 116 List.[]))))))))))))))))))) (Syntax.ttcons (Syntax.tcons (Syntax.tyEnum (List._∷_ 116 (List._∷_ 101 (List._∷_ 120 (List._∷_ 116 (List._∷_ 95 (List._∷_ 104 (List._∷_ 101 (List._∷_ 97 (List._∷_ 100 (List._∷_ 105 (List._∷_ 110 (List._∷_ 103 (List._∷_ 58 (List._∷_ 58 (List._∷_ 72 (List._∷_ 101 (List._∷_ 97 (List._∷_ 100 (List._∷_ 105 (List._∷_ 110 (List._∷_ 103 (List._∷_ 70 (List._∷_ 97 (List._∷_ 117 (List._∷_ 108 (List._∷_ 116 List.[])))))))))))))))))))))))))) (Syntax.ttcons Syntax.tnil (Syntax.ttcons Syntax.tnil (Syntax.ttcons Syntax.tnil (Syntax.ttcons (Syntax.tcons (Syntax.tyEnum (List._∷_ 116 (List._∷_ 101 (List._∷_ 120 (List._∷_ 116 (List._∷_ 95 (List._∷_ 104 (List._∷_ 101 (List._∷_ 97 (List._∷_ 100 (List._∷_ 105 (List._∷_ 110 (List._∷_ 103 (List._∷_ 58 (List._∷_ 58 (List._∷_ 87 (List._∷_ 111 (List._∷_ 114 (List._∷_ 100 List.[])))))))))))))))))) (Syntax.ttcons Syntax.tnil (Syntax.ttcons Syntax.tnil (Syntax.ttcons Syntax.tnil (Syntax.ttcons Syntax.tnil Syntax.ttnil))))) Syntax.tnil) Syntax.ttnil))))) Syntax.tnil) (Syntax.ttcons Syntax.tnil (Syntax.ttcons Syntax.tnil Syntax.ttnil)))) Syntax.tnil) Syntax.ttnil)))))))) (Syntax.tcons (Syntax.tyArray (Syntax.tyInt Syntax.w8) 32) (Syntax.tcons (Syntax.tyInt Syntax.w64) Syntax.tnil))))))) (List._∷_ (9, Rows.sc-here (Row.sInt Syntax.w64)) (List._∷_ (10, Rows.any-gone (Syntax.tyRef Syntax.erased Syntax.mut OfOutput.named)) (List._∷_ (11, Rows.any-gone (Syntax.tyStruct (List._∷_ 38 (List._∷_ 91 (List._∷_ 93 List.[]))) (Syntax.tcons (Syntax.tyRef Syntax.erased Syntax.mut OfOutput.named) (Syntax.tcons (Syntax.tyInt Syntax.w64) Syntax.tnil)))) (List._∷_ (12, Rows.any-gone (Syntax.tyRef Syntax.erased Syntax.mut OfStation.named)) (List._∷_ (13, Rows.any-gone (Syntax.tyStruct (List._∷_ 38 (List._∷_ 91 (List._∷_ 93 List.[]))) (Syntax.tcons (Syntax.tyRef Syntax.erased Syntax.mut OfStation.named) (Syntax.tcons (Syntax.tyInt Syntax.w64) Syntax.tnil)))) (List._∷_ (14, Rows.any-gone (Syntax.tyRef Syntax.erased Syntax.mut OfPanelRecord.named)) (List._∷_ (15, Rows.any-gone (Syntax.tyRef Syntax.erased Syntax.mut (Syntax.tyInt Syntax.w8))) List.[])))))))))))))))
+        g47 = List._∷_ (0, Rows.any-gone Syntax.tyUnit) (List._∷_ (1, Mut.mslice (OfOutput.row) (Syntax.tyRef (Syntax.named 0) Syntax.mut OfOutput.named) 0) (List._∷_ (2, Mut.mslice (OfStation.row) (Syntax.tyRef (Syntax.named 1) Syntax.mut OfStation.named) 1) (List._∷_ (3, Rows.mref (OfPanelRecord.row) (Syntax.tyRef (Syntax.named 2) Syntax.mut OfPanelRecord.named) 2) (List._∷_ (4, Reshare.mslice-owedS (Referent.rtF (Referent.fInt Syntax.w8)) (Syntax.tyRef (Syntax.named 3) Syntax.mut (Syntax.tyInt Syntax.w8)) 3 14 (Row.lease (κs .1 .1 .1 .0) (qs .1 .1 .1 .0))) (List._∷_ (5, Mut.mslice (Referent.rtF (Referent.fInt Syntax.w8)) (Syntax.tyRef (Syntax.named 4) Syntax.mut (Syntax.tyInt Syntax.w8)) 4) (List._∷_ (6, Rows.sc-here Row.sBool) (List._∷_ (7, Rows.any-gone (Laws.mir)) (List._∷_ (8, Rows.any-gone (Syntax.tyStruct (List._∷_ 116 (List._∷_ 101 (List._∷_ 120 (List._∷_ 116 (List._∷_ 95 (List._∷_ 114 (List._∷_ 101 (List._∷_ 97 (List._∷_ 100 (List._∷_ 105 (List._∷_ 110 (List._∷_ 103 (List._∷_ 58 (List._∷_ 58 (List._∷_ 82 (List._∷_ 101 (List._∷_ 97 (List._∷_ 100 (List._∷_ 101 (List._∷_ 114 List.[])))))))))))))))))))) (Syntax.tcons Syntax.tyBool (Syntax.tcons (Syntax.tyInt Syntax.w64) (Syntax.tcons (Syntax.tyEnum (List._∷_ 116 (List._∷_ 101 (List._∷_ 120 (List._∷_ 116 (List._∷_ 95 (List._∷_ 114 (List._∷_ 101 (List._∷_ 97 (List._∷_ 100 (List._∷_ 105 (List._∷_ 110 (List._∷_ 103 (List._∷_ 58 (List._∷_ 58 (List._∷_ 72 (List._∷_ 101 (List._∷_ 108 (List._∷_ 100 List.[])))))))))))))))))) (Syntax.ttcons Syntax.tnil (Syntax.ttcons Syntax.tnil (Syntax.ttcons (Syntax.tcons (Syntax.tyStruct (List._∷_ 116 (List._∷_ 101 (List._∷_ 120 (List._∷_ 116 (List._∷_ 95 (List._∷_ 104 (List._∷_ 101 (List._∷_ 97 (List._∷_ 100 (List._∷_ 105 (List._∷_ 110 (List._∷_ 103 (List._∷_ 58 (List._∷_ 58 (List._∷_ 72 (List._∷_ 101 (List._∷_ 97 (List._∷_ 100 (List._∷_ 105 (List._∷_ 110 (List._∷_ 103 List.[]))))))))))))))))))))) (Syntax.tcons (Syntax.tyStruct (List._∷_ 116 (List._∷_ 101 (List._∷_ 120 (List._∷_ 116 (List._∷_ 95 (List._∷_ 104 (List._∷_ 101 (List._∷_ 97 (List._∷_ 100 (List._∷_ 105 (List._∷_ 110 (List._∷_ 103 (List._∷_ 58 (List._∷_ 58 (List._∷_ 78 (List._∷_ 97 (List._∷_ 109 (List._∷_ 101 (List._∷_ 100 List.[]))))))))))))))))))) (Syntax.tcons (IsParameters.mir) (Syntax.tcons (Syntax.tyInt Syntax.w32) Syntax.tnil))) (Syntax.tcons (Syntax.tyStruct (List._∷_ 116 (List._∷_ 101 (List._∷_ 120 (List._∷_ 116 (List._∷_ 95 (List._∷_ 104 (List._∷_ 101 (List._∷_ 97 (List._∷_ 100 (List._∷_ 105 (List._∷_ 110 (List._∷_ 103 (List._∷_ 58 (List._∷_ 58 (List._∷_ 67 (List._∷_ 97 (List._∷_ 109 (List._∷_ 101 List.[])))))))))))))))))) (Syntax.tcons Syntax.tyBool (Syntax.tcons Syntax.tyBool (Syntax.tcons Syntax.tyBool (Syntax.tcons Syntax.tyBool Syntax.tnil))))) (Syntax.tcons (Syntax.tyEnum (List._∷_ 116 (List._∷_ 101 (List._∷_ 120 (List._∷_ 116 (List._∷_ 95 (List._∷_ 104 (List._∷_ 101 (List._∷_ 97 (List._∷_ 100 (List._∷_ 105 (List._∷_ 110 (List._∷_ 103 (List._∷_ 58 (List._∷_ 58 (List._∷_ 80 (List._∷_ 108 (List._∷_ 97 (List._∷_ 99 (List._∷_ 101 List.[]))))))))))))))))))) (Syntax.ttcons (Syntax.tcons (Syntax.tyEnum (List._∷_ 116 (List._∷_ 101 (List._∷_ 120 (List._∷_ 116 (List._∷_ 95 (List._∷_ 104 (List._∷_ 101 (List._∷_ 97 (List._∷_ 100 (List._∷_ 105 (List._∷_ 110 (List._∷_ 103 (List._∷_ 58 (List._∷_ 58 (List._∷_ 87 (List._∷_ 111 (List._∷_ 114 (List._∷_ 100 List.[])))))))))))))))))) (Syntax.ttcons Syntax.tnil (Syntax.ttcons Syntax.tnil (Syntax.ttcons Syntax.tnil (Syntax.ttcons Syntax.tnil (Syntax.ttcons Syntax.tnil Syntax.ttnil)))))) (Syntax.tcons (Syntax.tyInt Syntax.w8) Syntax.tnil)) (Syntax.ttcons (Syntax.tcons (Syntax.tyEnum (List._∷_ 116 (List._∷_ 101 (List._∷_ 120 (List._∷_ 116 (List._∷_ 95 (List._∷_ 104 (List._∷_ 101 (List._∷_ 97 (List._∷_ 100 (List._∷_ 105 (List._∷_ 110 (List._∷_ 103 (List._∷_ 58 (List._∷_ 58 (List._∷_ 87 (List._∷_ 111 (List._∷_ 114 (List._∷_ 100 List.[])))))))))))))))))) (Syntax.ttcons Syntax.tnil (Syntax.ttcons Syntax.tnil (Syntax.ttcons Syntax.tnil (Syntax.ttcons Syntax.tnil (Syntax.ttcons Syntax.tnil Syntax.ttnil)))))) Syntax.tnil) (Syntax.ttcons (Syntax.tcons (Syntax.tyEnum (List._∷_ 116 (List._∷_ 101 (List._∷_ 120 (List._∷_ 116 (List._∷_ 95 (List._∷_ 104 (List._∷_ 101 (List._∷_ 97 (List._∷_ 100 (List._∷_ 105 (List._∷_ 110 (List._∷_ 103 (List._∷_ 58 (List._∷_ 58 (List._∷_ 87 (List._∷_ 111 (List._∷_ 114 (List._∷_ 100 List.[])))))))))))))))))) (Syntax.ttcons Syntax.tnil (Syntax.ttcons Syntax.tnil (Syntax.ttcons Syntax.tnil (Syntax.ttcons Syntax.tnil (Syntax.ttcons Syntax.tnil Syntax.ttnil)))))) (Syntax.tcons (Syntax.tyInt Syntax.w8) Syntax.tnil)) (Syntax.ttcons Syntax.tnil (Syntax.ttcons (Syntax.tcons (Syntax.tyEnum (List._∷_ 116 (List._∷_ 101 (List._∷_ 120 (List._∷_ 116 (List._∷_ 95 (List._∷_ 104 (List._∷_ 101 (List._∷_ 97 (List._∷_ 100 (List._∷_ 105 (List._∷_ 110 (List._∷_ 103 (List._∷_ 58 (List._∷_ 58 (List._∷_ 72 (List._∷_ 101 (List._∷_ 97 (List._∷_ 100 (List._∷_ 105 (List._∷_ 110 (List._∷_ 103 (List._∷_ 70 (List._∷_ 97 (List._∷_ 117 (List._∷_ 108 (List._∷_ 116 List.[])))))))))))))))))))))))))) (Syntax.ttcons Syntax.tnil (Syntax.ttcons Syntax.tnil (Syntax.ttcons Syntax.tnil (Syntax.ttcons Syntax.tnil (Syntax.ttcons (Syntax.tcons (Syntax.tyEnum (List._∷_ 116 (List._∷_ 101 (List._∷_ 120 (List._∷_ 116 (List._∷_ 95 (List._∷_ 104 (List._∷_ 101 (List._∷_ 97 (List._∷_ 100 (List._∷_ 105 (List._∷_ 110 (List._∷_ 103 (List._∷_ 58 (List._∷_ 58 (List._∷_ 87 (List._∷_ 111 (List._∷_ 114 (List._∷_ 100 List.[])))))))))))))))))) (Syntax.ttcons Syntax.tnil (Syntax.ttcons Syntax.tnil (Syntax.ttcons Syntax.tnil (Syntax.ttcons Syntax.tnil (Syntax.ttcons Syntax.tnil Syntax.ttnil)))))) Syntax.tnil) Syntax.ttnil)))))) Syntax.tnil) Syntax.ttnil)))))) Syntax.tnil)))) Syntax.tnil) (Syntax.ttcons Syntax.tnil (Syntax.ttcons (Syntax.tcons (Syntax.tyInt Syntax.w8) Syntax.tnil) (Syntax.ttcons Syntax.tnil (Syntax.ttcons (Syntax.tcons (Syntax.tyEnum (List._∷_ 116 (List._∷_ 101 (List._∷_ 120 (List._∷_ 116 (List._∷_ 95 (List._∷_ 114 (List._∷_ 101 (List._∷_ 97 (List._∷_ 100 (List._∷_ 105 (List._∷_ 110 (List._∷_ 103 (List._∷_ 58 (List._∷_ 58 (List._∷_ 70 (List._∷_ 97 (List._∷_ 117 (List._∷_ 108 (List._∷_ 116 List.[]))))))))))))))))))) (Syntax.ttcons (Syntax.tcons (Syntax.tyEnum (List._∷_ 116 (List._∷_ 101 (List._∷_ 120 (List._∷_ 116 (List._∷_ 95 (List._∷_ 104 (List._∷_ 101 (List._∷_ 97 (List._∷_ 100 (List._∷_ 105 (List._∷_ 110 (List._∷_ 103 (List._∷_ 58 (List._∷_ 58 (List._∷_ 72 (List._∷_ 101 (List._∷_ 97 (List._∷_ 100 (List._∷_ 105 (List._∷_ 110 (List._∷_ 103 (List._∷_ 70 (List._∷_ 97 (List._∷_ 117 (List._∷_ 108 (List._∷_ 116 List.[])))))))))))))))))))))))))) (Syntax.ttcons Syntax.tnil (Syntax.ttcons Syntax.tnil (Syntax.ttcons Syntax.tnil (Syntax.ttcons Syntax.tnil (Syntax.ttcons (Syntax.tcons (Syntax.tyEnum (List._∷_ 116 (List._∷_ 101 (List._∷_ 120 (List._∷_ 116 (List._∷_ 95 (List._∷_ 104 (List._∷_ 101 (List._∷_ 97 (List._∷_ 100 (List._∷_ 105 (List._∷_ 110 (List._∷_ 103 (List._∷_ 58 (List._∷_ 58 (List._∷_ 87 (List._∷_ 111 (List._∷_ 114 (List._∷_ 100 List.[])))))))))))))))))) (Syntax.ttcons Syntax.tnil (Syntax.ttcons Syntax.tnil (Syntax.ttcons Syntax.tnil (Syntax.ttcons Syntax.tnil (Syntax.ttcons Syntax.tnil Syntax.ttnil)))))) Syntax.tnil) Syntax.ttnil)))))) Syntax.tnil) (Syntax.ttcons Syntax.tnil (Syntax.ttcons Syntax.tnil Syntax.ttnil)))) Syntax.tnil) Syntax.ttnil)))))))) (Syntax.tcons (Syntax.tyArray (Syntax.tyInt Syntax.w8) 32) (Syntax.tcons (Syntax.tyInt Syntax.w64) Syntax.tnil))))))) (List._∷_ (9, Rows.sc-here (Row.sInt Syntax.w64)) (List._∷_ (10, Rows.any-gone (Syntax.tyRef Syntax.erased Syntax.mut OfOutput.named)) (List._∷_ (11, Rows.any-gone (Syntax.tyStruct (List._∷_ 38 (List._∷_ 91 (List._∷_ 93 List.[]))) (Syntax.tcons (Syntax.tyRef Syntax.erased Syntax.mut OfOutput.named) (Syntax.tcons (Syntax.tyInt Syntax.w64) Syntax.tnil)))) (List._∷_ (12, Rows.any-gone (Syntax.tyRef Syntax.erased Syntax.mut OfStation.named)) (List._∷_ (13, Rows.any-gone (Syntax.tyStruct (List._∷_ 38 (List._∷_ 91 (List._∷_ 93 List.[]))) (Syntax.tcons (Syntax.tyRef Syntax.erased Syntax.mut OfStation.named) (Syntax.tcons (Syntax.tyInt Syntax.w64) Syntax.tnil)))) (List._∷_ (14, Rows.any-gone (Syntax.tyRef Syntax.erased Syntax.mut OfPanelRecord.named)) (List._∷_ (15, Rows.any-gone (Syntax.tyRef Syntax.erased Syntax.mut (Syntax.tyInt Syntax.w8))) List.[])))))))))))))))
 
         abbrev g52 : List.List Row.Entry
-        g52 = List._∷_ (0, Rows.any-gone Syntax.tyUnit) (List._∷_ (1, Mut.mslice (OfOutput.row) (Syntax.tyRef (Syntax.named 0) Syntax.mut OfOutput.named) 0) (List._∷_ (2, Mut.mslice (OfStation.row) (Syntax.tyRef (Syntax.named 1) Syntax.mut OfStation.named) 1) (List._∷_ (3, Rows.mref (OfPanelRecord.row) (Syntax.tyRef (Syntax.named 2) Syntax.mut OfPanelRecord.named) 2) (List._∷_ (4, Reshare.mslice-owedS (Referent.rtF (Referent.fInt Syntax.w8)) (Syntax.tyRef (Syntax.named 3) Syntax.mut (Syntax.tyInt Syntax.w8)) 3 14 (Row.lease (κs .1 .1 .1 .0) (qs .1 .1 .1 .0))) (List._∷_ (5, Mut.mslice (Referent.rtF (Referent.fInt Syntax.w8)) (Syntax.tyRef (Syntax.named 4) Syntax.mut (Syntax.tyInt Syntax.w8)) 4) (List._∷_ (6, Rows.sc-here Row.sBool) (List._∷_ (7, Rows.any-gone (Laws.mir)) (List._∷_ (8, Rows.any-gone (Syntax.tyStruct (List._∷_ 116 (List._∷_ 101 (List._∷_ 120 (List._∷_ 116 (List._∷_ 95 (List._∷_ 114 (List._∷_ 101 (List._∷_ 97 (List._∷_ 100 (List._∷_ 105 (List._∷_ 110 (List._∷_ 103 (List._∷_ 58 (List._∷_ 58 (List._∷_ 82 (List._∷_ 101 (List._∷_ 97 (List._∷_ 100 (List._∷_ 101 (List._∷_ 114 List.[])))))))))))))))))))) (Syntax.tcons Syntax.tyBool (Syntax.tcons (Syntax.tyInt Syntax.w64) (Syntax.tcons (Syntax.tyEnum (List._∷_ 116 (List._∷_ 101 (List._∷_ 120 (List._∷_ 116 (List._∷_ 95 (List._∷_ 114 (List._∷_ 101 (List._∷_ 97 (List._∷_ 100 (List._∷_ 105 (List._∷_ 110 (List._∷_ 103 (List._∷_ 58 (List._∷_ 58 (List._∷_ 72 (List._∷_ 101 (List._∷_ 108 (List._∷_ 100 List.[])))))))))))))))))) (Syntax.ttcons Syntax.tnil (Syntax.ttcons Syntax.tnil (Syntax.ttcons (Syntax.tcons (Syntax.tyStruct (List._∷_ 116 (List._∷_ 101 (List._∷_ 120 (List._∷_ 116 (List._∷_ 95 (List._∷_ 104 (List._∷_ 101 (List._∷_ 97 (List._∷_ 100 (List._∷_ 105 (List._∷_ 110 (List._∷_ 103 (List._∷_ 58 (List._∷_ 58 (List._∷_ 72 (List._∷_ 101 (List._∷_ 97 (List._∷_ 100 (List._∷_ 105 (List._∷_ 110 (List._∷_ 103 List.[]))))))))))))))))))))) (Syntax.tcons (IsParameters.mir) (Syntax.tcons (Syntax.tyStruct (List._∷_ 116 (List._∷_ 101 (List._∷_ 120 (List._∷_ 116 (List._∷_ 95 (List._∷_ 104 (List._∷_ 101 (List._∷_ 97 (List._∷_ 100 (List._∷_ 105 (List._∷_ 110 (List._∷_ 103 (List._∷_ 58 (List._∷_ 58 (List._∷_ 67 (List._∷_ 97 (List._∷_ 109 (List._∷_ 101 List.[])))))))))))))))))) (Syntax.tcons Syntax.tyBool (Syntax.tcons Syntax.tyBool (Syntax.tcons Syntax.tyBool Syntax.tnil)))) (Syntax.tcons (Syntax.tyEnum (List._∷_ 116 (List._∷_ 101 (List._∷_ 120 (List._∷_ 116 (List._∷_ 95 (List._∷_ 104 (List._∷_ 101 (List._∷_ 97 (List._∷_ 100 (List._∷_ 105 (List._∷_ 110 (List._∷_ 103 (List._∷_ 58 (List._∷_ 58 (List._∷_ 80 (List._∷_ 108 (List._∷_ 97 (List._∷_ 99 (List._∷_ 101 List.[]))))))))))))))))))) (Syntax.ttcons (Syntax.tcons (Syntax.tyEnum (List._∷_ 116 (List._∷_ 101 (List._∷_ 120 (List._∷_ 116 (List._∷_ 95 (List._∷_ 104 (List._∷_ 101 (List._∷_ 97 (List._∷_ 100 (List._∷_ 105 (List._∷_ 110 (List._∷_ 103 (List._∷_ 58 (List._∷_ 58 (List._∷_ 87 (List._∷_ 111 (List._∷_ 114 (List._∷_ 100 List.[])))))))))))))))))) (Syntax.ttcons Syntax.tnil (Syntax.ttcons Syntax.tnil (Syntax.ttcons Syntax.tnil (Syntax.ttcons Syntax.tnil Syntax.ttnil))))) (Syntax.tcons (Syntax.tyInt Syntax.w8) Syntax.tnil)) (Syntax.ttcons (Syntax.tcons (Syntax.tyEnum (List._∷_ 116 (List._∷_ 101 (List._∷_ 120 (List._∷_ 116 (List._∷_ 95 (List._∷_ 104 (List._∷_ 101 (List._∷_ 97 (List._∷_ 100 (List._∷_ 105 (List._∷_ 110 (List._∷_ 103 (List._∷_ 58 (List._∷_ 58 (List._∷_ 87 (List._∷_ 111 (List._∷_ 114 (List._∷_ 100 List.[])))))))))))))))))) (Syntax.ttcons Syntax.tnil (Syntax.ttcons Syntax.tnil (Syntax.ttcons Syntax.tnil (Syntax.ttcons Syntax.tnil Syntax.ttnil))))) Syntax.tnil) (Syntax.ttcons (Syntax.tcons (Syntax.tyEnum (List._∷_ 116 (List._∷_ 101 (List._∷_ 120 (List._∷_ 116 (List._∷_ 95 (List._∷_ 104 (List._∷_ 101 (List._∷_ 97 (List._∷_ 100 (List._∷_ 105 (List._∷_ 110 (List._∷_ 103 (List._∷_ 58 (List._∷_ 58 (List._∷_ 87 (List._∷_ 111 (List._∷_ 114 (List._∷_ 100 List.[])))))))))))))))))) (Syntax.ttcons Syntax.tnil (Syntax.ttcons Syntax.tnil (Syntax.ttcons Syntax.tnil (Syntax.ttcons Syntax.tnil Syntax.ttnil))))) Syntax.tnil) (Syntax.ttcons Syntax.tnil (Syntax.ttcons (Syntax.tcons (Syntax.tyEnum (List._∷_ 116 (List._∷_ 101 (List._∷_ 120 (List._∷_ 116 (List._∷_ 95 (List._∷_ 104 (List._∷_ 101 (List._∷_ 97 (List._∷_ 100 (List._∷_ 105 (List._∷_ 110 (List._∷_ 103 (List._∷_ 58 (List._∷_ 58 (List._∷_ 72 (List._∷_ 101 (List._∷_ 97 (List._∷_ 100 (List._∷_ 105 (List._∷_ 110 (List._∷_ 103 (List._∷_ 70 (List._∷_ 97 (List._∷_ 117 (List._∷_ 108 (List._∷_ 116 List.[])))))))))))))))))))))))))) (Syntax.ttcons Syntax.tnil (Syntax.ttcons Syntax.tnil (Syntax.ttcons Syntax.tnil (Syntax.ttcons (Syntax.tcons (Syntax.tyEnum (List._∷_ 116 (List._∷_ 101 (List._∷_ 120 (List._∷_ 116 (List._∷_ 95 (List._∷_ 104 (List._∷_ 101 (List._∷_ 97 (List._∷_ 100 (List._∷_ 105 (List._∷_ 110 (List._∷_ 103 (List._∷_ 58 (List._∷_ 58 (List._∷_ 87 (List._∷_ 111 (List._∷_ 114 (List._∷_ 100 List.[])))))))))))))))))) (Syntax.ttcons Syntax.tnil (Syntax.ttcons Syntax.tnil (Syntax.ttcons Syntax.tnil (Syntax.ttcons Syntax.tnil Syntax.ttnil))))) Syntax.tnil) Syntax.ttnil))))) Syntax.tnil) Syntax.ttnil)))))) Syntax.tnil)))) Syntax.tnil) (Syntax.ttcons Syntax.tnil (Syntax.ttcons (Syntax.tcons (Syntax.tyInt Syntax.w8) Syntax.tnil) (Syntax.ttcons Syntax.tnil (Syntax.ttcons (Syntax.tcons (Syntax.tyEnum (List._∷_ 116 (List._∷_ 101 (List._∷_ 120 (List._∷_ 116 (List._∷_ 95 (List._∷_ 114 (List._∷_ 101 (List._∷_ 97 (List._∷_ 100 (List._∷_ 105 (List._∷_ 110 (List._∷_ 103 (List._∷_ 58 (List._∷_ 58 (List._∷_ 70 (List._∷_ 97 (List._∷_ 117 (List._∷_ 108 (List._∷_ 116 List.[]))))))))))))))))))) (Syntax.ttcons (Syntax.tcons (Syntax.tyEnum (List._∷_ 116 (List._∷_ 101 (List._∷_ 120 (List._∷_ 116 (List._∷_ 95 (List._∷_ 104 (List._∷_ 101 (List._∷_ 97 (List._∷_ 100 (List._∷_ 105 (List._∷_ 110 (List._∷_ 103 (List._∷_ 58 (List._∷_ 58 (List._∷_ 72 (List._∷_ 101 (List._∷_ 97 (List._∷_ 100 (List._∷_ 105 (List._∷_ 110 (List._∷_ 103 (List._∷_ 70 (List._∷_ 97 (List._∷_ 117 (List._∷_ 108 (List._∷_ 116 List.[])))))))))))))))))))))))))) (Syntax.ttcons Syntax.tnil (Syntax.ttcons Syntax.tnil (Syntax.ttcons Syntax.tnil (Syntax.ttcons (Syntax.tcons (Syntax.tyEnum (List._∷_ 116 (List._∷_ 101 (List._∷_ 120 (List._∷_ 116 (List._∷_ 95 (List._∷_ 104 (List._∷_ 101 (List._∷_ 97 (List._∷_ 100 (List._∷_ 105 (List._∷_ 110 (List._∷_ 103 (List._∷_ 58 (List._∷_ 58 (List._∷_ 87 (List._∷_ 111 (List._∷_ 114 (List._∷_ 100 List.[])))))))))))))))))) (Syntax.ttcons Syntax.tnil (Syntax.ttcons Syntax.tnil (Syntax.ttcons Syntax.tnil (Syntax.ttcons Syntax.tnil Syntax.ttnil))))) Syntax.tnil) Syntax.ttnil))))) Syntax.tnil) (Syntax.ttcons Syntax.tnil (Syntax.ttcons Syntax.tnil Syntax.ttnil)))) Syntax.tnil) Syntax.ttnil)))))))) (Syntax.tcons (Syntax.tyArray (Syntax.tyInt Syntax.w8) 32) (Syntax.tcons (Syntax.tyInt Syntax.w64) Syntax.tnil))))))) (List._∷_ (9, Rows.any-gone (Syntax.tyInt Syntax.w64)) (List._∷_ (10, Rows.any-gone (Syntax.tyRef Syntax.erased Syntax.mut OfOutput.named)) (List._∷_ (11, Rows.any-gone (Syntax.tyStruct (List._∷_ 38 (List._∷_ 91 (List._∷_ 93 List.[]))) (Syntax.tcons (Syntax.tyRef Syntax.erased Syntax.mut OfOutput.named) (Syntax.tcons (Syntax.tyInt Syntax.w64) Syntax.tnil)))) (List._∷_ (12, Rows.any-gone (Syntax.tyRef Syntax.erased Syntax.mut OfStation.named)) (List._∷_ (13, Rows.any-gone (Syntax.tyStruct (List._∷_ 38 (List._∷_ 91 (List._∷_ 93 List.[]))) (Syntax.tcons (Syntax.tyRef Syntax.erased Syntax.mut OfStation.named) (Syntax.tcons (Syntax.tyInt Syntax.w64) Syntax.tnil)))) (List._∷_ (14, Rows.any-gone (Syntax.tyRef Syntax.erased Syntax.mut OfPanelRecord.named)) (List._∷_ (15, Rows.any-gone (Syntax.tyRef Syntax.erased Syntax.mut (Syntax.tyInt Syntax.w8))) List.[])))))))))))))))
+        g52 = List._∷_ (0, Rows.any-gone Syntax.tyUnit) (List._∷_ (1, Mut.mslice (OfOutput.row) (Syntax.tyRef (Syntax.named 0) Syntax.mut OfOutput.named) 0) (List._∷_ (2, Mut.mslice (OfStation.row) (Syntax.tyRef (Syntax.named 1) Syntax.mut OfStation.named) 1) (List._∷_ (3, Rows.mref (OfPanelRecord.row) (Syntax.tyRef (Syntax.named 2) Syntax.mut OfPanelRecord.named) 2) (List._∷_ (4, Reshare.mslice-owedS (Referent.rtF (Referent.fInt Syntax.w8)) (Syntax.tyRef (Syntax.named 3) Syntax.mut (Syntax.tyInt Syntax.w8)) 3 14 (Row.lease (κs .1 .1 .1 .0) (qs .1 .1 .1 .0))) (List._∷_ (5, Mut.mslice (Referent.rtF (Referent.fInt Syntax.w8)) (Syntax.tyRef (Syntax.named 4) Syntax.mut (Syntax.tyInt Syntax.w8)) 4) (List._∷_ (6, Rows.sc-here Row.sBool) (List._∷_ (7, Rows.any-gone (Laws.mir)) (List._∷_ (8, Rows.any-gone (Syntax.tyStruct (List._∷_ 116 (List._∷_ 101 (List._∷_ 120 (List._∷_ 116 (List._∷_ 95 (List._∷_ 114 (List._∷_ 101 (List._∷_ 97 (List._∷_ 100 (List._∷_ 105 (List._∷_ 110 (List._∷_ 103 (List._∷_ 58 (List._∷_ 58 (List._∷_ 82 (List._∷_ 101 (List._∷_ 97 (List._∷_ 100 (List._∷_ 101 (List._∷_ 114 List.[])))))))))))))))))))) (Syntax.tcons Syntax.tyBool (Syntax.tcons (Syntax.tyInt Syntax.w64) (Syntax.tcons (Syntax.tyEnum (List._∷_ 116 (List._∷_ 101 (List._∷_ 120 (List._∷_ 116 (List._∷_ 95 (List._∷_ 114 (List._∷_ 101 (List._∷_ 97 (List._∷_ 100 (List._∷_ 105 (List._∷_ 110 (List._∷_ 103 (List._∷_ 58 (List._∷_ 58 (List._∷_ 72 (List._∷_ 101 (List._∷_ 108 (List._∷_ 100 List.[])))))))))))))))))) (Syntax.ttcons Syntax.tnil (Syntax.ttcons Syntax.tnil (Syntax.ttcons (Syntax.tcons (Syntax.tyStruct (List._∷_ 116 (List._∷_ 101 (List._∷_ 120 (List._∷_ 116 (List._∷_ 95 (List._∷_ 104 (List._∷_ 101 (List._∷_ 97 (List._∷_ 100 (List._∷_ 105 (List._∷_ 110 (List._∷_ 103 (List._∷_ 58 (List._∷_ 58 (List._∷_ 72 (List._∷_ 101 (List._∷_ 97 (List._∷_ 100 (List._∷_ 105 (List._∷_ 110 (List._∷_ 103 List.[]))))))))))))))))))))) (Syntax.tcons (Syntax.tyStruct (List._∷_ 116 (List._∷_ 101 (List._∷_ 120 (List._∷_ 116 (List._∷_ 95 (List._∷_ 104 (List._∷_ 101 (List._∷_ 97 (List._∷_ 100 (List._∷_ 105 (List._∷_ 110 (List._∷_ 103 (List._∷_ 58 (List._∷_ 58 (List._∷_ 78 (List._∷_ 97 (List._∷_ 109 (List._∷_ 101 (List._∷_ 100 List.[]))))))))))))))))))) (Syntax.tcons (IsParameters.mir) (Syntax.tcons (Syntax.tyInt Syntax.w32) Syntax.tnil))) (Syntax.tcons (Syntax.tyStruct (List._∷_ 116 (List._∷_ 101 (List._∷_ 120 (List._∷_ 116 (List._∷_ 95 (List._∷_ 104 (List._∷_ 101 (List._∷_ 97 (List._∷_ 100 (List._∷_ 105 (List._∷_ 110 (List._∷_ 103 (List._∷_ 58 (List._∷_ 58 (List._∷_ 67 (List._∷_ 97 (List._∷_ 109 (List._∷_ 101 List.[])))))))))))))))))) (Syntax.tcons Syntax.tyBool (Syntax.tcons Syntax.tyBool (Syntax.tcons Syntax.tyBool (Syntax.tcons Syntax.tyBool Syntax.tnil))))) (Syntax.tcons (Syntax.tyEnum (List._∷_ 116 (List._∷_ 101 (List._∷_ 120 (List._∷_ 116 (List._∷_ 95 (List._∷_ 104 (List._∷_ 101 (List._∷_ 97 (List._∷_ 100 (List._∷_ 105 (List._∷_ 110 (List._∷_ 103 (List._∷_ 58 (List._∷_ 58 (List._∷_ 80 (List._∷_ 108 (List._∷_ 97 (List._∷_ 99 (List._∷_ 101 List.[]))))))))))))))))))) (Syntax.ttcons (Syntax.tcons (Syntax.tyEnum (List._∷_ 116 (List._∷_ 101 (List._∷_ 120 (List._∷_ 116 (List._∷_ 95 (List._∷_ 104 (List._∷_ 101 (List._∷_ 97 (List._∷_ 100 (List._∷_ 105 (List._∷_ 110 (List._∷_ 103 (List._∷_ 58 (List._∷_ 58 (List._∷_ 87 (List._∷_ 111 (List._∷_ 114 (List._∷_ 100 List.[])))))))))))))))))) (Syntax.ttcons Syntax.tnil (Syntax.ttcons Syntax.tnil (Syntax.ttcons Syntax.tnil (Syntax.ttcons Syntax.tnil (Syntax.ttcons Syntax.tnil Syntax.ttnil)))))) (Syntax.tcons (Syntax.tyInt Syntax.w8) Syntax.tnil)) (Syntax.ttcons (Syntax.tcons (Syntax.tyEnum (List._∷_ 116 (List._∷_ 101 (List._∷_ 120 (List._∷_ 116 (List._∷_ 95 (List._∷_ 104 (List._∷_ 101 (List._∷_ 97 (List._∷_ 100 (List._∷_ 105 (List._∷_ 110 (List._∷_ 103 (List._∷_ 58 (List._∷_ 58 (List._∷_ 87 (List._∷_ 111 (List._∷_ 114 (List._∷_ 100 List.[])))))))))))))))))) (Syntax.ttcons Syntax.tnil (Syntax.ttcons Syntax.tnil (Syntax.ttcons Syntax.tnil (Syntax.ttcons Syntax.tnil (Syntax.ttcons Syntax.tnil Syntax.ttnil)))))) Syntax.tnil) (Syntax.ttcons (Syntax.tcons (Syntax.tyEnum (List._∷_ 116 (List._∷_ 101 (List._∷_ 120 (List._∷_ 116 (List._∷_ 95 (List._∷_ 104 (List._∷_ 101 (List._∷_ 97 (List._∷_ 100 (List._∷_ 105 (List._∷_ 110 (List._∷_ 103 (List._∷_ 58 (List._∷_ 58 (List._∷_ 87 (List._∷_ 111 (List._∷_ 114 (List._∷_ 100 List.[])))))))))))))))))) (Syntax.ttcons Syntax.tnil (Syntax.ttcons Syntax.tnil (Syntax.ttcons Syntax.tnil (Syntax.ttcons Syntax.tnil (Syntax.ttcons Syntax.tnil Syntax.ttnil)))))) (Syntax.tcons (Syntax.tyInt Syntax.w8) Syntax.tnil)) (Syntax.ttcons Syntax.tnil (Syntax.ttcons (Syntax.tcons (Syntax.tyEnum (List._∷_ 116 (List._∷_ 101 (List._∷_ 120 (List._∷_ 116 (List._∷_ 95 (List._∷_ 104 (List._∷_ 101 (List._∷_ 97 (List._∷_ 100 (List._∷_ 105 (List._∷_ 110 (List._∷_ 103 (List._∷_ 58 (List._∷_ 58 (List._∷_ 72 (List._∷_ 101 (List._∷_ 97 (List._∷_ 100 (List._∷_ 105 (List._∷_ 110 (List._∷_ 103 (List._∷_ 70 (List._∷_ 97 (List._∷_ 117 (List._∷_ 108 (List._∷_ 116 List.[])))))))))))))))))))))))))) (Syntax.ttcons Syntax.tnil (Syntax.ttcons Syntax.tnil (Syntax.ttcons Syntax.tnil (Syntax.ttcons Syntax.tnil (Syntax.ttcons (Syntax.tcons (Syntax.tyEnum (List._∷_ 116 (List._∷_ 101 (List._∷_ 120 (List._∷_ 116 (List._∷_ 95 (List._∷_ 104 (List._∷_ 101 (List._∷_ 97 (List._∷_ 100 (List._∷_ 105 (List._∷_ 110 (List._∷_ 103 (List._∷_ 58 (List._∷_ 58 (List._∷_ 87 (List._∷_ 111 (List._∷_ 114 (List._∷_ 100 List.[])))))))))))))))))) (Syntax.ttcons Syntax.tnil (Syntax.ttcons Syntax.tnil (Syntax.ttcons Syntax.tnil (Syntax.ttcons Syntax.tnil (Syntax.ttcons Syntax.tnil Syntax.ttnil)))))) Syntax.tnil) Syntax.ttnil)))))) Syntax.tnil) Syntax.ttnil)))))) Syntax.tnil)))) Syntax.tnil) (Syntax.ttcons Syntax.tnil (Syntax.ttcons (Syntax.tcons (Syntax.tyInt Syntax.w8) Syntax.tnil) (Syntax.ttcons Syntax.tnil (Syntax.ttcons (Syntax.tcons (Syntax.tyEnum (List._∷_ 116 (List._∷_ 101 (List._∷_ 120 (List._∷_ 116 (List._∷_ 95 (List._∷_ 114 (List._∷_ 101 (List._∷_ 97 (List._∷_ 100 (List._∷_ 105 (List._∷_ 110 (List._∷_ 103 (List._∷_ 58 (List._∷_ 58 (List._∷_ 70 (List._∷_ 97 (List._∷_ 117 (List._∷_ 108 (List._∷_ 116 List.[]))))))))))))))))))) (Syntax.ttcons (Syntax.tcons (Syntax.tyEnum (List._∷_ 116 (List._∷_ 101 (List._∷_ 120 (List._∷_ 116 (List._∷_ 95 (List._∷_ 104 (List._∷_ 101 (List._∷_ 97 (List._∷_ 100 (List._∷_ 105 (List._∷_ 110 (List._∷_ 103 (List._∷_ 58 (List._∷_ 58 (List._∷_ 72 (List._∷_ 101 (List._∷_ 97 (List._∷_ 100 (List._∷_ 105 (List._∷_ 110 (List._∷_ 103 (List._∷_ 70 (List._∷_ 97 (List._∷_ 117 (List._∷_ 108 (List._∷_ 116 List.[])))))))))))))))))))))))))) (Syntax.ttcons Syntax.tnil (Syntax.ttcons Syntax.tnil (Syntax.ttcons Syntax.tnil (Syntax.ttcons Syntax.tnil (Syntax.ttcons (Syntax.tcons (Syntax.tyEnum (List._∷_ 116 (List._∷_ 101 (List._∷_ 120 (List._∷_ 116 (List._∷_ 95 (List._∷_ 104 (List._∷_ 101 (List._∷_ 97 (List._∷_ 100 (List._∷_ 105 (List._∷_ 110 (List._∷_ 103 (List._∷_ 58 (List._∷_ 58 (List._∷_ 87 (List._∷_ 111 (List._∷_ 114 (List._∷_ 100 List.[])))))))))))))))))) (Syntax.ttcons Syntax.tnil (Syntax.ttcons Syntax.tnil (Syntax.ttcons Syntax.tnil (Syntax.ttcons Syntax.tnil (Syntax.ttcons Syntax.tnil Syntax.ttnil)))))) Syntax.tnil) Syntax.ttnil)))))) Syntax.tnil) (Syntax.ttcons Syntax.tnil (Syntax.ttcons Syntax.tnil Syntax.ttnil)))) Syntax.tnil) Syntax.ttnil)))))))) (Syntax.tcons (Syntax.tyArray (Syntax.tyInt Syntax.w8) 32) (Syntax.tcons (Syntax.tyInt Syntax.w64) Syntax.tnil))))))) (List._∷_ (9, Rows.any-gone (Syntax.tyInt Syntax.w64)) (List._∷_ (10, Rows.any-gone (Syntax.tyRef Syntax.erased Syntax.mut OfOutput.named)) (List._∷_ (11, Rows.any-gone (Syntax.tyStruct (List._∷_ 38 (List._∷_ 91 (List._∷_ 93 List.[]))) (Syntax.tcons (Syntax.tyRef Syntax.erased Syntax.mut OfOutput.named) (Syntax.tcons (Syntax.tyInt Syntax.w64) Syntax.tnil)))) (List._∷_ (12, Rows.any-gone (Syntax.tyRef Syntax.erased Syntax.mut OfStation.named)) (List._∷_ (13, Rows.any-gone (Syntax.tyStruct (List._∷_ 38 (List._∷_ 91 (List._∷_ 93 List.[]))) (Syntax.tcons (Syntax.tyRef Syntax.erased Syntax.mut OfStation.named) (Syntax.tcons (Syntax.tyInt Syntax.w64) Syntax.tnil)))) (List._∷_ (14, Rows.any-gone (Syntax.tyRef Syntax.erased Syntax.mut OfPanelRecord.named)) (List._∷_ (15, Rows.any-gone (Syntax.tyRef Syntax.erased Syntax.mut (Syntax.tyInt Syntax.w8))) List.[])))))))))))))))
 
         abbrev g53 : List.List Row.Entry
-        g53 = List._∷_ (0, Rows.any-gone Syntax.tyUnit) (List._∷_ (1, Mut.mslice (OfOutput.row) (Syntax.tyRef (Syntax.named 0) Syntax.mut OfOutput.named) 0) (List._∷_ (2, Mut.mslice (OfStation.row) (Syntax.tyRef (Syntax.named 1) Syntax.mut OfStation.named) 1) (List._∷_ (3, Rows.mref (OfPanelRecord.row) (Syntax.tyRef (Syntax.named 2) Syntax.mut OfPanelRecord.named) 2) (List._∷_ (4, Reshare.mslice-owedS (Referent.rtF (Referent.fInt Syntax.w8)) (Syntax.tyRef (Syntax.named 3) Syntax.mut (Syntax.tyInt Syntax.w8)) 3 15 (Row.lease (κs .1 .1 .1 .0) (qs .1 .1 .1 .0))) (List._∷_ (5, Mut.mslice (Referent.rtF (Referent.fInt Syntax.w8)) (Syntax.tyRef (Syntax.named 4) Syntax.mut (Syntax.tyInt Syntax.w8)) 4) (List._∷_ (6, Rows.sc-here Row.sBool) (List._∷_ (7, Rows.whole (Declared.row Turn.the-type)) (List._∷_ (8, Rows.any-gone (Syntax.tyStruct (List._∷_ 116 (List._∷_ 101 (List._∷_ 120 (List._∷_ 116 (List._∷_ 95 (List._∷_ 114 (List._∷_ 101 (List._∷_ 97 (List._∷_ 100 (List._∷_ 105 (List._∷_ 110 (List._∷_ 103 (List._∷_ 58 (List._∷_ 58 (List._∷_ 82 (List._∷_ 101 (List._∷_ 97 (List._∷_ 100 (List._∷_ 101 (List._∷_ 114 List.[])))))))))))))))))))) (Syntax.tcons Syntax.tyBool (Syntax.tcons (Syntax.tyInt Syntax.w64) (Syntax.tcons (Syntax.tyEnum (List._∷_ 116 (List._∷_ 101 (List._∷_ 120 (List._∷_ 116 (List._∷_ 95 (List._∷_ 114 (List._∷_ 101 (List._∷_ 97 (List._∷_ 100 (List._∷_ 105 (List._∷_ 110 (List._∷_ 103 (List._∷_ 58 (List._∷_ 58 (List._∷_ 72 (List._∷_ 101 (List._∷_ 108 (List._∷_ 100 List.[])))))))))))))))))) (Syntax.ttcons Syntax.tnil (Syntax.ttcons Syntax.tnil (Syntax.ttcons (Syntax.tcons (Syntax.tyStruct (List._∷_ 116 (List._∷_ 101 (List._∷_ 120 (List._∷_ 116 (List._∷_ 95 (List._∷_ 104 (List._∷_ 101 (List._∷_ 97 (List._∷_ 100 (List._∷_ 105 (List._∷_ 110 (List._∷_ 103 (List._∷_ 58 (List._∷_ 58 (List._∷_ 72 (List._∷_ 101 (List._∷_ 97 (List._∷_ 100 (List._∷_ 105 (List._∷_ 110 (List._∷_ 103 List.[]))))))))))))))))))))) (Syntax.tcons (IsParameters.mir) (Syntax.tcons (Syntax.tyStruct (List._∷_ 116 (List._∷_ 101 (List._∷_ 120 (List._∷_ 116 (List._∷_ 95 (List._∷_ 104 (List._∷_ 101 (List._∷_ 97 (List._∷_ 100 (List._∷_ 105 (List._∷_ 110 (List._∷_ 103 (List._∷_ 58 (List._∷_ 58 (List._∷_ 67 (List._∷_ 97 (List._∷_ 109 (List._∷_ 101 List.[])))))))))))))))))) (Syntax.tcons Syntax.tyBool (Syntax.tcons Syntax.tyBool (Syntax.tcons Syntax.tyBool Syntax.tnil)))) (Syntax.tcons (Syntax.tyEnum (List._∷_ 116 (List._∷_ 101 (List._∷_ 120 (List._∷_ 116 (List._∷_ 95 (List._∷_ 104 (List._∷_ 101 (List._∷_ 97 (List._∷_ 100 (List._∷_ 105 (List._∷_ 110 (List._∷_ 103 (List._∷_ 58 (List._∷_ 58 (List._∷_ 80 (List._∷_ 108 (List._∷_ 97 (List._∷_ 99 (List._∷_ 101 List.[]))))))))))))))))))) (Syntax.ttcons (Syntax.tcons (Syntax.tyEnum (List._∷_ 116 (List._∷_ 101 (List._∷_ 120 (List._∷_ 116 (List._∷_ 95 (List._∷_ 104 (List._∷_ 101 (List._∷_ 97 (List._∷_ 100 (List._∷_ 105 (List._∷_ 110 (List._∷_ 103 (List._∷_ 58 (List._∷_ 58 (List._∷_ 87 (List._∷_ 111 (List._∷_ 114 (List._∷_ 100 List.[])))))))))))))))))) (Syntax.ttcons Syntax.tnil (Syntax.ttcons Syntax.tnil (Syntax.ttcons Syntax.tnil (Syntax.ttcons Syntax.tnil Syntax.ttnil))))) (Syntax.tcons (Syntax.tyInt Syntax.w8) Syntax.tnil)) (Syntax.ttcons (Syntax.tcons (Syntax.tyEnum (List._∷_ 116 (List._∷_ 101 (List._∷_ 120 (List._∷_ 116 (List._∷_ 95 (List._∷_ 104 (List._∷_ 101 (List._∷_ 97 (List._∷_ 100 (List._∷_ 105 (List._∷_ 110 (List._∷_ 103 (List._∷_ 58 (List._∷_ 58 (List._∷_ 87 (List._∷_ 111 (List._∷_ 114 (List._∷_ 100 List.[])))))))))))))))))) (Syntax.ttcons Syntax.tnil (Syntax.ttcons Syntax.tnil (Syntax.ttcons Syntax.tnil (Syntax.ttcons Syntax.tnil Syntax.ttnil))))) Syntax.tnil) (Syntax.ttcons (Syntax.tcons (Syntax.tyEnum (List._∷_ 116 (List._∷_ 101 (List._∷_ 120 (List._∷_ 116 (List._∷_ 95 (List._∷_ 104 (List._∷_ 101 (List._∷_ 97 (List._∷_ 100 (List._∷_ 105 (List._∷_ 110 (List._∷_ 103 (List._∷_ 58 (List._∷_ 58 (List._∷_ 87 (List._∷_ 111 (List._∷_ 114 (List._∷_ 100 List.[])))))))))))))))))) (Syntax.ttcons Syntax.tnil (Syntax.ttcons Syntax.tnil (Syntax.ttcons Syntax.tnil (Syntax.ttcons Syntax.tnil Syntax.ttnil))))) Syntax.tnil) (Syntax.ttcons Syntax.tnil (Syntax.ttcons (Syntax.tcons (Syntax.tyEnum (List._∷_ 116 (List._∷_ 101 (List._∷_ 120 (List._∷_ 116 (List._∷_ 95 (List._∷_ 104 (List._∷_ 101 (List._∷_ 97 (List._∷_ 100 (List._∷_ 105 (List._∷_ 110 (List._∷_ 103 (List._∷_ 58 (List._∷_ 58 (List._∷_ 72 (List._∷_ 101 (List._∷_ 97 (List._∷_ 100 (List._∷_ 105 (List._∷_ 110 (List._∷_ 103 (List._∷_ 70 (List._∷_ 97 (List._∷_ 117 (List._∷_ 108 (List._∷_ 116 List.[])))))))))))))))))))))))))) (Syntax.ttcons Syntax.tnil (Syntax.ttcons Syntax.tnil (Syntax.ttcons Syntax.tnil (Syntax.ttcons (Syntax.tcons (Syntax.tyEnum (List._∷_ 116 (List._∷_ 101 (List._∷_ 120 (List._∷_ 116 (List._∷_ 95 (List._∷_ 104 (List._∷_ 101 (List._∷_ 97 (List._∷_ 100 (List._∷_ 105 (List._∷_ 110 (List._∷_ 103 (List._∷_ 58 (List._∷_ 58 (List._∷_ 87 (List._∷_ 111 (List._∷_ 114 (List._∷_ 100 List.[])))))))))))))))))) (Syntax.ttcons Syntax.tnil (Syntax.ttcons Syntax.tnil (Syntax.ttcons Syntax.tnil (Syntax.ttcons Syntax.tnil Syntax.ttnil))))) Syntax.tnil) Syntax.ttnil))))) Syntax.tnil) Syntax.ttnil)))))) Syntax.tnil)))) Syntax.tnil) (Syntax.ttcons Syntax.tnil (Syntax.ttcons (Syntax.tcons (Syntax.tyInt Syntax.w8) Syntax.tnil) (Syntax.ttcons Syntax.tnil (Syntax.ttcons (Syntax.tcons (Syntax.tyEnum (List._∷_ 116 (List._∷_ 101 (List._∷_ 120 (List._∷_ 116 (List._∷_ 95 (List._∷_ 114 (List._∷_ 101 (List._∷_ 97 (List._∷_ 100 (List._∷_ 105 (List._∷_ 110 (List._∷_ 103 (List._∷_ 58 (List._∷_ 58 (List._∷_ 70 (List._∷_ 97 (List._∷_ 117 (List._∷_ 108 (List._∷_ 116 List.[]))))))))))))))))))) (Syntax.ttcons (Syntax.tcons (Syntax.tyEnum (List._∷_ 116 (List._∷_ 101 (List._∷_ 120 (List._∷_ 116 (List._∷_ 95 (List._∷_ 104 (List._∷_ 101 (List._∷_ 97 (List._∷_ 100 (List._∷_ 105 (List._∷_ 110 (List._∷_ 103 (List._∷_ 58 (List._∷_ 58 (List._∷_ 72 (List._∷_ 101 (List._∷_ 97 (List._∷_ 100 (List._∷_ 105 (List._∷_ 110 (List._∷_ 103 (List._∷_ 70 (List._∷_ 97 (List._∷_ 117 (List._∷_ 108 (List._∷_ 116 List.[])))))))))))))))))))))))))) (Syntax.ttcons Syntax.tnil (Syntax.ttcons Syntax.tnil (Syntax.ttcons Syntax.tnil (Syntax.ttcons (Syntax.tcons (Syntax.tyEnum (List._∷_ 116 (List._∷_ 101 (List._∷_ 120 (List._∷_ 116 (List._∷_ 95 (List._∷_ 104 (List._∷_ 101 (List._∷_ 97 (List._∷_ 100 (List._∷_ 105 (List._∷_ 110 (List._∷_ 103 (List._∷_ 58 (List._∷_ 58 (List._∷_ 87 (List._∷_ 111 (List._∷_ 114 (List._∷_ 100 List.[])))))))))))))))))) (Syntax.ttcons Syntax.tnil (Syntax.ttcons Syntax.tnil (Syntax.ttcons Syntax.tnil (Syntax.ttcons Syntax.tnil Syntax.ttnil))))) Syntax.tnil) Syntax.ttnil))))) Syntax.tnil) (Syntax.ttcons Syntax.tnil (Syntax.ttcons Syntax.tnil Syntax.ttnil)))) Syntax.tnil) Syntax.ttnil)))))))) (Syntax.tcons (Syntax.tyArray (Syntax.tyInt Syntax.w8) 32) (Syntax.tcons (Syntax.tyInt Syntax.w64) Syntax.tnil))))))) (List._∷_ (9, Rows.any-gone (Syntax.tyInt Syntax.w64)) (List._∷_ (10, Rows.any-gone (Syntax.tyRef Syntax.erased Syntax.mut OfOutput.named)) (List._∷_ (11, Rows.any-gone (Syntax.tyStruct (List._∷_ 38 (List._∷_ 91 (List._∷_ 93 List.[]))) (Syntax.tcons (Syntax.tyRef Syntax.erased Syntax.mut OfOutput.named) (Syntax.tcons (Syntax.tyInt Syntax.w64) Syntax.tnil)))) (List._∷_ (12, Rows.any-gone (Syntax.tyRef Syntax.erased Syntax.mut OfStation.named)) (List._∷_ (13, Rows.any-gone (Syntax.tyStruct (List._∷_ 38 (List._∷_ 91 (List._∷_ 93 List.[]))) (Syntax.tcons (Syntax.tyRef Syntax.erased Syntax.mut OfStation.named) (Syntax.tcons (Syntax.tyInt Syntax.w64) Syntax.tnil)))) (List._∷_ (14, Rows.any-gone (Syntax.tyRef Syntax.erased Syntax.mut OfPanelRecord.named)) (List._∷_ (15, Rows.any-gone (Syntax.tyRef Syntax.erased Syntax.mut (Syntax.tyInt Syntax.w8))) List.[])))))))))))))))
+        g53 = List._∷_ (0, Rows.any-gone Syntax.tyUnit) (List._∷_ (1, Mut.mslice (OfOutput.row) (Syntax.tyRef (Syntax.named 0) Syntax.mut OfOutput.named) 0) (List._∷_ (2, Mut.mslice (OfStation.row) (Syntax.tyRef (Syntax.named 1) Syntax.mut OfStation.named) 1) (List._∷_ (3, Rows.mref (OfPanelRecord.row) (Syntax.tyRef (Syntax.named 2) Syntax.mut OfPanelRecord.named) 2) (List._∷_ (4, Reshare.mslice-owedS (Referent.rtF (Referent.fInt Syntax.w8)) (Syntax.tyRef (Syntax.named 3) Syntax.mut (Syntax.tyInt Syntax.w8)) 3 15 (Row.lease (κs .1 .1 .1 .0) (qs .1 .1 .1 .0))) (List._∷_ (5, Mut.mslice (Referent.rtF (Referent.fInt Syntax.w8)) (Syntax.tyRef (Syntax.named 4) Syntax.mut (Syntax.tyInt Syntax.w8)) 4) (List._∷_ (6, Rows.sc-here Row.sBool) (List._∷_ (7, Rows.whole (Declared.row Turn.the-type)) (List._∷_ (8, Rows.any-gone (Syntax.tyStruct (List._∷_ 116 (List._∷_ 101 (List._∷_ 120 (List._∷_ 116 (List._∷_ 95 (List._∷_ 114 (List._∷_ 101 (List._∷_ 97 (List._∷_ 100 (List._∷_ 105 (List._∷_ 110 (List._∷_ 103 (List._∷_ 58 (List._∷_ 58 (List._∷_ 82 (List._∷_ 101 (List._∷_ 97 (List._∷_ 100 (List._∷_ 101 (List._∷_ 114 List.[])))))))))))))))))))) (Syntax.tcons Syntax.tyBool (Syntax.tcons (Syntax.tyInt Syntax.w64) (Syntax.tcons (Syntax.tyEnum (List._∷_ 116 (List._∷_ 101 (List._∷_ 120 (List._∷_ 116 (List._∷_ 95 (List._∷_ 114 (List._∷_ 101 (List._∷_ 97 (List._∷_ 100 (List._∷_ 105 (List._∷_ 110 (List._∷_ 103 (List._∷_ 58 (List._∷_ 58 (List._∷_ 72 (List._∷_ 101 (List._∷_ 108 (List._∷_ 100 List.[])))))))))))))))))) (Syntax.ttcons Syntax.tnil (Syntax.ttcons Syntax.tnil (Syntax.ttcons (Syntax.tcons (Syntax.tyStruct (List._∷_ 116 (List._∷_ 101 (List._∷_ 120 (List._∷_ 116 (List._∷_ 95 (List._∷_ 104 (List._∷_ 101 (List._∷_ 97 (List._∷_ 100 (List._∷_ 105 (List._∷_ 110 (List._∷_ 103 (List._∷_ 58 (List._∷_ 58 (List._∷_ 72 (List._∷_ 101 (List._∷_ 97 (List._∷_ 100 (List._∷_ 105 (List._∷_ 110 (List._∷_ 103 List.[]))))))))))))))))))))) (Syntax.tcons (Syntax.tyStruct (List._∷_ 116 (List._∷_ 101 (List._∷_ 120 (List._∷_ 116 (List._∷_ 95 (List._∷_ 104 (List._∷_ 101 (List._∷_ 97 (List._∷_ 100 (List._∷_ 105 (List._∷_ 110 (List._∷_ 103 (List._∷_ 58 (List._∷_ 58 (List._∷_ 78 (List._∷_ 97 (List._∷_ 109 (List._∷_ 101 (List._∷_ 100 List.[]))))))))))))))))))) (Syntax.tcons (IsParameters.mir) (Syntax.tcons (Syntax.tyInt Syntax.w32) Syntax.tnil))) (Syntax.tcons (Syntax.tyStruct (List._∷_ 116 (List._∷_ 101 (List._∷_ 120 (List._∷_ 116 (List._∷_ 95 (List._∷_ 104 (List._∷_ 101 (List._∷_ 97 (List._∷_ 100 (List._∷_ 105 (List._∷_ 110 (List._∷_ 103 (List._∷_ 58 (List._∷_ 58 (List._∷_ 67 (List._∷_ 97 (List._∷_ 109 (List._∷_ 101 List.[])))))))))))))))))) (Syntax.tcons Syntax.tyBool (Syntax.tcons Syntax.tyBool (Syntax.tcons Syntax.tyBool (Syntax.tcons Syntax.tyBool Syntax.tnil))))) (Syntax.tcons (Syntax.tyEnum (List._∷_ 116 (List._∷_ 101 (List._∷_ 120 (List._∷_ 116 (List._∷_ 95 (List._∷_ 104 (List._∷_ 101 (List._∷_ 97 (List._∷_ 100 (List._∷_ 105 (List._∷_ 110 (List._∷_ 103 (List._∷_ 58 (List._∷_ 58 (List._∷_ 80 (List._∷_ 108 (List._∷_ 97 (List._∷_ 99 (List._∷_ 101 List.[]))))))))))))))))))) (Syntax.ttcons (Syntax.tcons (Syntax.tyEnum (List._∷_ 116 (List._∷_ 101 (List._∷_ 120 (List._∷_ 116 (List._∷_ 95 (List._∷_ 104 (List._∷_ 101 (List._∷_ 97 (List._∷_ 100 (List._∷_ 105 (List._∷_ 110 (List._∷_ 103 (List._∷_ 58 (List._∷_ 58 (List._∷_ 87 (List._∷_ 111 (List._∷_ 114 (List._∷_ 100 List.[])))))))))))))))))) (Syntax.ttcons Syntax.tnil (Syntax.ttcons Syntax.tnil (Syntax.ttcons Syntax.tnil (Syntax.ttcons Syntax.tnil (Syntax.ttcons Syntax.tnil Syntax.ttnil)))))) (Syntax.tcons (Syntax.tyInt Syntax.w8) Syntax.tnil)) (Syntax.ttcons (Syntax.tcons (Syntax.tyEnum (List._∷_ 116 (List._∷_ 101 (List._∷_ 120 (List._∷_ 116 (List._∷_ 95 (List._∷_ 104 (List._∷_ 101 (List._∷_ 97 (List._∷_ 100 (List._∷_ 105 (List._∷_ 110 (List._∷_ 103 (List._∷_ 58 (List._∷_ 58 (List._∷_ 87 (List._∷_ 111 (List._∷_ 114 (List._∷_ 100 List.[])))))))))))))))))) (Syntax.ttcons Syntax.tnil (Syntax.ttcons Syntax.tnil (Syntax.ttcons Syntax.tnil (Syntax.ttcons Syntax.tnil (Syntax.ttcons Syntax.tnil Syntax.ttnil)))))) Syntax.tnil) (Syntax.ttcons (Syntax.tcons (Syntax.tyEnum (List._∷_ 116 (List._∷_ 101 (List._∷_ 120 (List._∷_ 116 (List._∷_ 95 (List._∷_ 104 (List._∷_ 101 (List._∷_ 97 (List._∷_ 100 (List._∷_ 105 (List._∷_ 110 (List._∷_ 103 (List._∷_ 58 (List._∷_ 58 (List._∷_ 87 (List._∷_ 111 (List._∷_ 114 (List._∷_ 100 List.[])))))))))))))))))) (Syntax.ttcons Syntax.tnil (Syntax.ttcons Syntax.tnil (Syntax.ttcons Syntax.tnil (Syntax.ttcons Syntax.tnil (Syntax.ttcons Syntax.tnil Syntax.ttnil)))))) (Syntax.tcons (Syntax.tyInt Syntax.w8) Syntax.tnil)) (Syntax.ttcons Syntax.tnil (Syntax.ttcons (Syntax.tcons (Syntax.tyEnum (List._∷_ 116 (List._∷_ 101 (List._∷_ 120 (List._∷_ 116 (List._∷_ 95 (List._∷_ 104 (List._∷_ 101 (List._∷_ 97 (List._∷_ 100 (List._∷_ 105 (List._∷_ 110 (List._∷_ 103 (List._∷_ 58 (List._∷_ 58 (List._∷_ 72 (List._∷_ 101 (List._∷_ 97 (List._∷_ 100 (List._∷_ 105 (List._∷_ 110 (List._∷_ 103 (List._∷_ 70 (List._∷_ 97 (List._∷_ 117 (List._∷_ 108 (List._∷_ 116 List.[])))))))))))))))))))))))))) (Syntax.ttcons Syntax.tnil (Syntax.ttcons Syntax.tnil (Syntax.ttcons Syntax.tnil (Syntax.ttcons Syntax.tnil (Syntax.ttcons (Syntax.tcons (Syntax.tyEnum (List._∷_ 116 (List._∷_ 101 (List._∷_ 120 (List._∷_ 116 (List._∷_ 95 (List._∷_ 104 (List._∷_ 101 (List._∷_ 97 (List._∷_ 100 (List._∷_ 105 (List._∷_ 110 (List._∷_ 103 (List._∷_ 58 (List._∷_ 58 (List._∷_ 87 (List._∷_ 111 (List._∷_ 114 (List._∷_ 100 List.[])))))))))))))))))) (Syntax.ttcons Syntax.tnil (Syntax.ttcons Syntax.tnil (Syntax.ttcons Syntax.tnil (Syntax.ttcons Syntax.tnil (Syntax.ttcons Syntax.tnil Syntax.ttnil)))))) Syntax.tnil) Syntax.ttnil)))))) Syntax.tnil) Syntax.ttnil)))))) Syntax.tnil)))) Syntax.tnil) (Syntax.ttcons Syntax.tnil (Syntax.ttcons (Syntax.tcons (Syntax.tyInt Syntax.w8) Syntax.tnil) (Syntax.ttcons Syntax.tnil (Syntax.ttcons (Syntax.tcons (Syntax.tyEnum (List._∷_ 116 (List._∷_ 101 (List._∷_ 120 (List._∷_ 116 (List._∷_ 95 (List._∷_ 114 (List._∷_ 101 (List._∷_ 97 (List._∷_ 100 (List._∷_ 105 (List._∷_ 110 (List._∷_ 103 (List._∷_ 58 (List._∷_ 58 (List._∷_ 70 (List._∷_ 97 (List._∷_ 117 (List._∷_ 108 (List._∷_ 116 List.[]))))))))))))))))))) (Syntax.ttcons (Syntax.tcons (Syntax.tyEnum (List._∷_ 116 (List._∷_ 101 (List._∷_ 120 (List._∷_ 116 (List._∷_ 95 (List._∷_ 104 (List._∷_ 101 (List._∷_ 97 (List._∷_ 100 (List._∷_ 105 (List._∷_ 110 (List._∷_ 103 (List._∷_ 58 (List._∷_ 58 (List._∷_ 72 (List._∷_ 101 (List._∷_ 97 (List._∷_ 100 (List._∷_ 105 (List._∷_ 110 (List._∷_ 103 (List._∷_ 70 (List._∷_ 97 (List._∷_ 117 (List._∷_ 108 (List._∷_ 116 List.[])))))))))))))))))))))))))) (Syntax.ttcons Syntax.tnil (Syntax.ttcons Syntax.tnil (Syntax.ttcons Syntax.tnil (Syntax.ttcons Syntax.tnil (Syntax.ttcons (Syntax.tcons (Syntax.tyEnum (List._∷_ 116 (List._∷_ 101 (List._∷_ 120 (List._∷_ 116 (List._∷_ 95 (List._∷_ 104 (List._∷_ 101 (List._∷_ 97 (List._∷_ 100 (List._∷_ 105 (List._∷_ 110 (List._∷_ 103 (List._∷_ 58 (List._∷_ 58 (List._∷_ 87 (List._∷_ 111 (List._∷_ 114 (List._∷_ 100 List.[])))))))))))))))))) (Syntax.ttcons Syntax.tnil (Syntax.ttcons Syntax.tnil (Syntax.ttcons Syntax.tnil (Syntax.ttcons Syntax.tnil (Syntax.ttcons Syntax.tnil Syntax.ttnil)))))) Syntax.tnil) Syntax.ttnil)))))) Syntax.tnil) (Syntax.ttcons Syntax.tnil (Syntax.ttcons Syntax.tnil Syntax.ttnil)))) Syntax.tnil) Syntax.ttnil)))))))) (Syntax.tcons (Syntax.tyArray (Syntax.tyInt Syntax.w8) 32) (Syntax.tcons (Syntax.tyInt Syntax.w64) Syntax.tnil))))))) (List._∷_ (9, Rows.any-gone (Syntax.tyInt Syntax.w64)) (List._∷_ (10, Rows.any-gone (Syntax.tyRef Syntax.erased Syntax.mut OfOutput.named)) (List._∷_ (11, Rows.any-gone (Syntax.tyStruct (List._∷_ 38 (List._∷_ 91 (List._∷_ 93 List.[]))) (Syntax.tcons (Syntax.tyRef Syntax.erased Syntax.mut OfOutput.named) (Syntax.tcons (Syntax.tyInt Syntax.w64) Syntax.tnil)))) (List._∷_ (12, Rows.any-gone (Syntax.tyRef Syntax.erased Syntax.mut OfStation.named)) (List._∷_ (13, Rows.any-gone (Syntax.tyStruct (List._∷_ 38 (List._∷_ 91 (List._∷_ 93 List.[]))) (Syntax.tcons (Syntax.tyRef Syntax.erased Syntax.mut OfStation.named) (Syntax.tcons (Syntax.tyInt Syntax.w64) Syntax.tnil)))) (List._∷_ (14, Rows.any-gone (Syntax.tyRef Syntax.erased Syntax.mut OfPanelRecord.named)) (List._∷_ (15, Rows.any-gone (Syntax.tyRef Syntax.erased Syntax.mut (Syntax.tyInt Syntax.w8))) List.[])))))))))))))))
 
         abbrev g57 : List.List Row.Entry
-        g57 = List._∷_ (0, Rows.any-gone Syntax.tyUnit) (List._∷_ (1, Mut.mslice (OfOutput.row) (Syntax.tyRef (Syntax.named 0) Syntax.mut OfOutput.named) 0) (List._∷_ (2, Mut.mslice (OfStation.row) (Syntax.tyRef (Syntax.named 1) Syntax.mut OfStation.named) 1) (List._∷_ (3, Rows.mref (OfPanelRecord.row) (Syntax.tyRef (Syntax.named 2) Syntax.mut OfPanelRecord.named) 2) (List._∷_ (4, Reshare.mslice-owedS (Referent.rtF (Referent.fInt Syntax.w8)) (Syntax.tyRef (Syntax.named 3) Syntax.mut (Syntax.tyInt Syntax.w8)) 3 15 (Row.lease (κs .1 .1 .1 .0) (qs .1 .1 .1 .0))) (List._∷_ (5, Mut.mslice (Referent.rtF (Referent.fInt Syntax.w8)) (Syntax.tyRef (Syntax.named 4) Syntax.mut (Syntax.tyInt Syntax.w8)) 4) (List._∷_ (6, Rows.sc-here Row.sBool) (List._∷_ (7, Rows.any-gone (Laws.mir)) (List._∷_ (8, Rows.any-gone (Syntax.tyStruct (List._∷_ 116 (List._∷_ 101 (List._∷_ 120 (List._∷_ 116 (List._∷_ 95 (List._∷_ 114 (List._∷_ 101 (List._∷_ 97 (List._∷_ 100 (List._∷_ 105 (List._∷_ 110 (List._∷_ 103 (List._∷_ 58 (List._∷_ 58 (List._∷_ 82 (List._∷_ 101 (List._∷_ 97 (List._∷_ 100 (List._∷_ 101 (List._∷_ 114 List.[])))))))))))))))))))) (Syntax.tcons Syntax.tyBool (Syntax.tcons (Syntax.tyInt Syntax.w64) (Syntax.tcons (Syntax.tyEnum (List._∷_ 116 (List._∷_ 101 (List._∷_ 120 (List._∷_ 116 (List._∷_ 95 (List._∷_ 114 (List._∷_ 101 (List._∷_ 97 (List._∷_ 100 (List._∷_ 105 (List._∷_ 110 (List._∷_ 103 (List._∷_ 58 (List._∷_ 58 (List._∷_ 72 (List._∷_ 101 (List._∷_ 108 (List._∷_ 100 List.[])))))))))))))))))) (Syntax.ttcons Syntax.tnil (Syntax.ttcons Syntax.tnil (Syntax.ttcons (Syntax.tcons (Syntax.tyStruct (List._∷_ 116 (List._∷_ 101 (List._∷_ 120 (List._∷_ 116 (List._∷_ 95 (List._∷_ 104 (List._∷_ 101 (List._∷_ 97 (List._∷_ 100 (List._∷_ 105 (List._∷_ 110 (List._∷_ 103 (List._∷_ 58 (List._∷_ 58 (List._∷_ 72 (List._∷_ 101 (List._∷_ 97 (List._∷_ 100 (List._∷_ 105 (List._∷_ 110 (List._∷_ 103 List.[]))))))))))))))))))))) (Syntax.tcons (IsParameters.mir) (Syntax.tcons (Syntax.tyStruct (List._∷_ 116 (List._∷_ 101 (List._∷_ 120 (List._∷_ 116 (List._∷_ 95 (List._∷_ 104 (List._∷_ 101 (List._∷_ 97 (List._∷_ 100 (List._∷_ 105 (List._∷_ 110 (List._∷_ 103 (List._∷_ 58 (List._∷_ 58 (List._∷_ 67 (List._∷_ 97 (List._∷_ 109 (List._∷_ 101 List.[])))))))))))))))))) (Syntax.tcons Syntax.tyBool (Syntax.tcons Syntax.tyBool (Syntax.tcons Syntax.tyBool Syntax.tnil)))) (Syntax.tcons (Syntax.tyEnum (List._∷_ 116 (List._∷_ 101 (List._∷_ 120 (List._∷_ 116 (List._∷_ 95 (List._∷_ 104 (List._∷_ 101 (List._∷_ 97 (List._∷_ 100 (List._∷_ 105 (List._∷_ 110 (List._∷_ 103 (List._∷_ 58 (List._∷_ 58 (List._∷_ 80 (List._∷_ 108 (List._∷_ 97 (List._∷_ 99 (List._∷_ 101 List.[]))))))))))))))))))) (Syntax.ttcons (Syntax.tcons (Syntax.tyEnum (List._∷_ 116 (List._∷_ 101 (List._∷_ 120 (List._∷_ 116 (List._∷_ 95 (List._∷_ 104 (List._∷_ 101 (List._∷_ 97 (List._∷_ 100 (List._∷_ 105 (List._∷_ 110 (List._∷_ 103 (List._∷_ 58 (List._∷_ 58 (List._∷_ 87 (List._∷_ 111 (List._∷_ 114 (List._∷_ 100 List.[])))))))))))))))))) (Syntax.ttcons Syntax.tnil (Syntax.ttcons Syntax.tnil (Syntax.ttcons Syntax.tnil (Syntax.ttcons Syntax.tnil Syntax.ttnil))))) (Syntax.tcons (Syntax.tyInt Syntax.w8) Syntax.tnil)) (Syntax.ttcons (Syntax.tcons (Syntax.tyEnum (List._∷_ 116 (List._∷_ 101 (List._∷_ 120 (List._∷_ 116 (List._∷_ 95 (List._∷_ 104 (List._∷_ 101 (List._∷_ 97 (List._∷_ 100 (List._∷_ 105 (List._∷_ 110 (List._∷_ 103 (List._∷_ 58 (List._∷_ 58 (List._∷_ 87 (List._∷_ 111 (List._∷_ 114 (List._∷_ 100 List.[])))))))))))))))))) (Syntax.ttcons Syntax.tnil (Syntax.ttcons Syntax.tnil (Syntax.ttcons Syntax.tnil (Syntax.ttcons Syntax.tnil Syntax.ttnil))))) Syntax.tnil) (Syntax.ttcons (Syntax.tcons (Syntax.tyEnum (List._∷_ 116 (List._∷_ 101 (List._∷_ 120 (List._∷_ 116 (List._∷_ 95 (List._∷_ 104 (List._∷_ 101 (List._∷_ 97 (List._∷_ 100 (List._∷_ 105 (List._∷_ 110 (List._∷_ 103 (List._∷_ 58 (List._∷_ 58 (List._∷_ 87 (List._∷_ 111 (List._∷_ 114 (List._∷_ 100 List.[])))))))))))))))))) (Syntax.ttcons Syntax.tnil (Syntax.ttcons Syntax.tnil (Syntax.ttcons Syntax.tnil (Syntax.ttcons Syntax.tnil Syntax.ttnil))))) Syntax.tnil) (Syntax.ttcons Syntax.tnil (Syntax.ttcons (Syntax.tcons (Syntax.tyEnum (List._∷_ 116 (List._∷_ 101 (List._∷_ 120 (List._∷_ 116 (List._∷_ 95 (List._∷_ 104 (List._∷_ 101 (List._∷_ 97 (List._∷_ 100 (List._∷_ 105 (List._∷_ 110 (List._∷_ 103 (List._∷_ 58 (List._∷_ 58 (List._∷_ 72 (List._∷_ 101 (List._∷_ 97 (List._∷_ 100 (List._∷_ 105 (List._∷_ 110 (List._∷_ 103 (List._∷_ 70 (List._∷_ 97 (List._∷_ 117 (List._∷_ 108 (List._∷_ 116 List.[])))))))))))))))))))))))))) (Syntax.ttcons Syntax.tnil (Syntax.ttcons Syntax.tnil (Syntax.ttcons Syntax.tnil (Syntax.ttcons (Syntax.tcons (Syntax.tyEnum (List._∷_ 116 (List._∷_ 101 (List._∷_ 120 (List._∷_ 116 (List._∷_ 95 (List._∷_ 104 (List._∷_ 101 (List._∷_ 97 (List._∷_ 100 (List._∷_ 105 (List._∷_ 110 (List._∷_ 103 (List._∷_ 58 (List._∷_ 58 (List._∷_ 87 (List._∷_ 111 (List._∷_ 114 (List._∷_ 100 List.[])))))))))))))))))) (Syntax.ttcons Syntax.tnil (Syntax.ttcons Syntax.tnil (Syntax.ttcons Syntax.tnil (Syntax.ttcons Syntax.tnil Syntax.ttnil))))) Syntax.tnil) Syntax.ttnil))))) Syntax.tnil) Syntax.ttnil)))))) Syntax.tnil)))) Syntax.tnil) (Syntax.ttcons Syntax.tnil (Syntax.ttcons (Syntax.tcons (Syntax.tyInt Syntax.w8) Syntax.tnil) (Syntax.ttcons Syntax.tnil (Syntax.ttcons (Syntax.tcons (Syntax.tyEnum (List._∷_ 116 (List._∷_ 101 (List._∷_ 120 (List._∷_ 116 (List._∷_ 95 (List._∷_ 114 (List._∷_ 101 (List._∷_ 97 (List._∷_ 100 (List._∷_ 105 (List._∷_ 110 (List._∷_ 103 (List._∷_ 58 (List._∷_ 58 (List._∷_ 70 (List._∷_ 97 (List._∷_ 117 (List._∷_ 108 (List._∷_ 116 List.[]))))))))))))))))))) (Syntax.ttcons (Syntax.tcons (Syntax.tyEnum (List._∷_ 116 (List._∷_ 101 (List._∷_ 120 (List._∷_ 116 (List._∷_ 95 (List._∷_ 104 (List._∷_ 101 (List._∷_ 97 (List._∷_ 100 (List._∷_ 105 (List._∷_ 110 (List._∷_ 103 (List._∷_ 58 (List._∷_ 58 (List._∷_ 72 (List._∷_ 101 (List._∷_ 97 (List._∷_ 100 (List._∷_ 105 (List._∷_ 110 (List._∷_ 103 (List._∷_ 70 (List._∷_ 97 (List._∷_ 117 (List._∷_ 108 (List._∷_ 116 List.[])))))))))))))))))))))))))) (Syntax.ttcons Syntax.tnil (Syntax.ttcons Syntax.tnil (Syntax.ttcons Syntax.tnil (Syntax.ttcons (Syntax.tcons (Syntax.tyEnum (List._∷_ 116 (List._∷_ 101 (List._∷_ 120 (List._∷_ 116 (List._∷_ 95 (List._∷_ 104 (List._∷_ 101 (List._∷_ 97 (List._∷_ 100 (List._∷_ 105 (List._∷_ 110 (List._∷_ 103 (List._∷_ 58 (List._∷_ 58 (List._∷_ 87 (List._∷_ 111 (List._∷_ 114 (List._∷_ 100 List.[])))))))))))))))))) (Syntax.ttcons Syntax.tnil (Syntax.ttcons Syntax.tnil (Syntax.ttcons Syntax.tnil (Syntax.ttcons Syntax.tnil Syntax.ttnil))))) Syntax.tnil) Syntax.ttnil))))) Syntax.tnil) (Syntax.ttcons Syntax.tnil (Syntax.ttcons Syntax.tnil Syntax.ttnil)))) Syntax.tnil) Syntax.ttnil)))))))) (Syntax.tcons (Syntax.tyArray (Syntax.tyInt Syntax.w8) 32) (Syntax.tcons (Syntax.tyInt Syntax.w64) Syntax.tnil))))))) (List._∷_ (9, Rows.any-gone (Syntax.tyInt Syntax.w64)) (List._∷_ (10, Rows.any-gone (Syntax.tyRef Syntax.erased Syntax.mut OfOutput.named)) (List._∷_ (11, Rows.any-gone (Syntax.tyStruct (List._∷_ 38 (List._∷_ 91 (List._∷_ 93 List.[]))) (Syntax.tcons (Syntax.tyRef Syntax.erased Syntax.mut OfOutput.named) (Syntax.tcons (Syntax.tyInt Syntax.w64) Syntax.tnil)))) (List._∷_ (12, Rows.any-gone (Syntax.tyRef Syntax.erased Syntax.mut OfStation.named)) (List._∷_ (13, Rows.any-gone (Syntax.tyStruct (List._∷_ 38 (List._∷_ 91 (List._∷_ 93 List.[]))) (Syntax.tcons (Syntax.tyRef Syntax.erased Syntax.mut OfStation.named) (Syntax.tcons (Syntax.tyInt Syntax.w64) Syntax.tnil)))) (List._∷_ (14, Rows.any-gone (Syntax.tyRef Syntax.erased Syntax.mut OfPanelRecord.named)) (List._∷_ (15, Rows.any-gone (Syntax.tyRef Syntax.erased Syntax.mut (Syntax.tyInt Syntax.w8))) List.[])))))))))))))))
+        g57 = List._∷_ (0, Rows.any-gone Syntax.tyUnit) (List._∷_ (1, Mut.mslice (OfOutput.row) (Syntax.tyRef (Syntax.named 0) Syntax.mut OfOutput.named) 0) (List._∷_ (2, Mut.mslice (OfStation.row) (Syntax.tyRef (Syntax.named 1) Syntax.mut OfStation.named) 1) (List._∷_ (3, Rows.mref (OfPanelRecord.row) (Syntax.tyRef (Syntax.named 2) Syntax.mut OfPanelRecord.named) 2) (List._∷_ (4, Reshare.mslice-owedS (Referent.rtF (Referent.fInt Syntax.w8)) (Syntax.tyRef (Syntax.named 3) Syntax.mut (Syntax.tyInt Syntax.w8)) 3 15 (Row.lease (κs .1 .1 .1 .0) (qs .1 .1 .1 .0))) (List._∷_ (5, Mut.mslice (Referent.rtF (Referent.fInt Syntax.w8)) (Syntax.tyRef (Syntax.named 4) Syntax.mut (Syntax.tyInt Syntax.w8)) 4) (List._∷_ (6, Rows.sc-here Row.sBool) (List._∷_ (7, Rows.any-gone (Laws.mir)) (List._∷_ (8, Rows.any-gone (Syntax.tyStruct (List._∷_ 116 (List._∷_ 101 (List._∷_ 120 (List._∷_ 116 (List._∷_ 95 (List._∷_ 114 (List._∷_ 101 (List._∷_ 97 (List._∷_ 100 (List._∷_ 105 (List._∷_ 110 (List._∷_ 103 (List._∷_ 58 (List._∷_ 58 (List._∷_ 82 (List._∷_ 101 (List._∷_ 97 (List._∷_ 100 (List._∷_ 101 (List._∷_ 114 List.[])))))))))))))))))))) (Syntax.tcons Syntax.tyBool (Syntax.tcons (Syntax.tyInt Syntax.w64) (Syntax.tcons (Syntax.tyEnum (List._∷_ 116 (List._∷_ 101 (List._∷_ 120 (List._∷_ 116 (List._∷_ 95 (List._∷_ 114 (List._∷_ 101 (List._∷_ 97 (List._∷_ 100 (List._∷_ 105 (List._∷_ 110 (List._∷_ 103 (List._∷_ 58 (List._∷_ 58 (List._∷_ 72 (List._∷_ 101 (List._∷_ 108 (List._∷_ 100 List.[])))))))))))))))))) (Syntax.ttcons Syntax.tnil (Syntax.ttcons Syntax.tnil (Syntax.ttcons (Syntax.tcons (Syntax.tyStruct (List._∷_ 116 (List._∷_ 101 (List._∷_ 120 (List._∷_ 116 (List._∷_ 95 (List._∷_ 104 (List._∷_ 101 (List._∷_ 97 (List._∷_ 100 (List._∷_ 105 (List._∷_ 110 (List._∷_ 103 (List._∷_ 58 (List._∷_ 58 (List._∷_ 72 (List._∷_ 101 (List._∷_ 97 (List._∷_ 100 (List._∷_ 105 (List._∷_ 110 (List._∷_ 103 List.[]))))))))))))))))))))) (Syntax.tcons (Syntax.tyStruct (List._∷_ 116 (List._∷_ 101 (List._∷_ 120 (List._∷_ 116 (List._∷_ 95 (List._∷_ 104 (List._∷_ 101 (List._∷_ 97 (List._∷_ 100 (List._∷_ 105 (List._∷_ 110 (List._∷_ 103 (List._∷_ 58 (List._∷_ 58 (List._∷_ 78 (List._∷_ 97 (List._∷_ 109 (List._∷_ 101 (List._∷_ 100 List.[]))))))))))))))))))) (Syntax.tcons (IsParameters.mir) (Syntax.tcons (Syntax.tyInt Syntax.w32) Syntax.tnil))) (Syntax.tcons (Syntax.tyStruct (List._∷_ 116 (List._∷_ 101 (List._∷_ 120 (List._∷_ 116 (List._∷_ 95 (List._∷_ 104 (List._∷_ 101 (List._∷_ 97 (List._∷_ 100 (List._∷_ 105 (List._∷_ 110 (List._∷_ 103 (List._∷_ 58 (List._∷_ 58 (List._∷_ 67 (List._∷_ 97 (List._∷_ 109 (List._∷_ 101 List.[])))))))))))))))))) (Syntax.tcons Syntax.tyBool (Syntax.tcons Syntax.tyBool (Syntax.tcons Syntax.tyBool (Syntax.tcons Syntax.tyBool Syntax.tnil))))) (Syntax.tcons (Syntax.tyEnum (List._∷_ 116 (List._∷_ 101 (List._∷_ 120 (List._∷_ 116 (List._∷_ 95 (List._∷_ 104 (List._∷_ 101 (List._∷_ 97 (List._∷_ 100 (List._∷_ 105 (List._∷_ 110 (List._∷_ 103 (List._∷_ 58 (List._∷_ 58 (List._∷_ 80 (List._∷_ 108 (List._∷_ 97 (List._∷_ 99 (List._∷_ 101 List.[]))))))))))))))))))) (Syntax.ttcons (Syntax.tcons (Syntax.tyEnum (List._∷_ 116 (List._∷_ 101 (List._∷_ 120 (List._∷_ 116 (List._∷_ 95 (List._∷_ 104 (List._∷_ 101 (List._∷_ 97 (List._∷_ 100 (List._∷_ 105 (List._∷_ 110 (List._∷_ 103 (List._∷_ 58 (List._∷_ 58 (List._∷_ 87 (List._∷_ 111 (List._∷_ 114 (List._∷_ 100 List.[])))))))))))))))))) (Syntax.ttcons Syntax.tnil (Syntax.ttcons Syntax.tnil (Syntax.ttcons Syntax.tnil (Syntax.ttcons Syntax.tnil (Syntax.ttcons Syntax.tnil Syntax.ttnil)))))) (Syntax.tcons (Syntax.tyInt Syntax.w8) Syntax.tnil)) (Syntax.ttcons (Syntax.tcons (Syntax.tyEnum (List._∷_ 116 (List._∷_ 101 (List._∷_ 120 (List._∷_ 116 (List._∷_ 95 (List._∷_ 104 (List._∷_ 101 (List._∷_ 97 (List._∷_ 100 (List._∷_ 105 (List._∷_ 110 (List._∷_ 103 (List._∷_ 58 (List._∷_ 58 (List._∷_ 87 (List._∷_ 111 (List._∷_ 114 (List._∷_ 100 List.[])))))))))))))))))) (Syntax.ttcons Syntax.tnil (Syntax.ttcons Syntax.tnil (Syntax.ttcons Syntax.tnil (Syntax.ttcons Syntax.tnil (Syntax.ttcons Syntax.tnil Syntax.ttnil)))))) Syntax.tnil) (Syntax.ttcons (Syntax.tcons (Syntax.tyEnum (List._∷_ 116 (List._∷_ 101 (List._∷_ 120 (List._∷_ 116 (List._∷_ 95 (List._∷_ 104 (List._∷_ 101 (List._∷_ 97 (List._∷_ 100 (List._∷_ 105 (List._∷_ 110 (List._∷_ 103 (List._∷_ 58 (List._∷_ 58 (List._∷_ 87 (List._∷_ 111 (List._∷_ 114 (List._∷_ 100 List.[])))))))))))))))))) (Syntax.ttcons Syntax.tnil (Syntax.ttcons Syntax.tnil (Syntax.ttcons Syntax.tnil (Syntax.ttcons Syntax.tnil (Syntax.ttcons Syntax.tnil Syntax.ttnil)))))) (Syntax.tcons (Syntax.tyInt Syntax.w8) Syntax.tnil)) (Syntax.ttcons Syntax.tnil (Syntax.ttcons (Syntax.tcons (Syntax.tyEnum (List._∷_ 116 (List._∷_ 101 (List._∷_ 120 (List._∷_ 116 (List._∷_ 95 (List._∷_ 104 (List._∷_ 101 (List._∷_ 97 (List._∷_ 100 (List._∷_ 105 (List._∷_ 110 (List._∷_ 103 (List._∷_ 58 (List._∷_ 58 (List._∷_ 72 (List._∷_ 101 (List._∷_ 97 (List._∷_ 100 (List._∷_ 105 (List._∷_ 110 (List._∷_ 103 (List._∷_ 70 (List._∷_ 97 (List._∷_ 117 (List._∷_ 108 (List._∷_ 116 List.[])))))))))))))))))))))))))) (Syntax.ttcons Syntax.tnil (Syntax.ttcons Syntax.tnil (Syntax.ttcons Syntax.tnil (Syntax.ttcons Syntax.tnil (Syntax.ttcons (Syntax.tcons (Syntax.tyEnum (List._∷_ 116 (List._∷_ 101 (List._∷_ 120 (List._∷_ 116 (List._∷_ 95 (List._∷_ 104 (List._∷_ 101 (List._∷_ 97 (List._∷_ 100 (List._∷_ 105 (List._∷_ 110 (List._∷_ 103 (List._∷_ 58 (List._∷_ 58 (List._∷_ 87 (List._∷_ 111 (List._∷_ 114 (List._∷_ 100 List.[])))))))))))))))))) (Syntax.ttcons Syntax.tnil (Syntax.ttcons Syntax.tnil (Syntax.ttcons Syntax.tnil (Syntax.ttcons Syntax.tnil (Syntax.ttcons Syntax.tnil Syntax.ttnil)))))) Syntax.tnil) Syntax.ttnil)))))) Syntax.tnil) Syntax.ttnil)))))) Syntax.tnil)))) Syntax.tnil) (Syntax.ttcons Syntax.tnil (Syntax.ttcons (Syntax.tcons (Syntax.tyInt Syntax.w8) Syntax.tnil) (Syntax.ttcons Syntax.tnil (Syntax.ttcons (Syntax.tcons (Syntax.tyEnum (List._∷_ 116 (List._∷_ 101 (List._∷_ 120 (List._∷_ 116 (List._∷_ 95 (List._∷_ 114 (List._∷_ 101 (List._∷_ 97 (List._∷_ 100 (List._∷_ 105 (List._∷_ 110 (List._∷_ 103 (List._∷_ 58 (List._∷_ 58 (List._∷_ 70 (List._∷_ 97 (List._∷_ 117 (List._∷_ 108 (List._∷_ 116 List.[]))))))))))))))))))) (Syntax.ttcons (Syntax.tcons (Syntax.tyEnum (List._∷_ 116 (List._∷_ 101 (List._∷_ 120 (List._∷_ 116 (List._∷_ 95 (List._∷_ 104 (List._∷_ 101 (List._∷_ 97 (List._∷_ 100 (List._∷_ 105 (List._∷_ 110 (List._∷_ 103 (List._∷_ 58 (List._∷_ 58 (List._∷_ 72 (List._∷_ 101 (List._∷_ 97 (List._∷_ 100 (List._∷_ 105 (List._∷_ 110 (List._∷_ 103 (List._∷_ 70 (List._∷_ 97 (List._∷_ 117 (List._∷_ 108 (List._∷_ 116 List.[])))))))))))))))))))))))))) (Syntax.ttcons Syntax.tnil (Syntax.ttcons Syntax.tnil (Syntax.ttcons Syntax.tnil (Syntax.ttcons Syntax.tnil (Syntax.ttcons (Syntax.tcons (Syntax.tyEnum (List._∷_ 116 (List._∷_ 101 (List._∷_ 120 (List._∷_ 116 (List._∷_ 95 (List._∷_ 104 (List._∷_ 101 (List._∷_ 97 (List._∷_ 100 (List._∷_ 105 (List._∷_ 110 (List._∷_ 103 (List._∷_ 58 (List._∷_ 58 (List._∷_ 87 (List._∷_ 111 (List._∷_ 114 (List._∷_ 100 List.[])))))))))))))))))) (Syntax.ttcons Syntax.tnil (Syntax.ttcons Syntax.tnil (Syntax.ttcons Syntax.tnil (Syntax.ttcons Syntax.tnil (Syntax.ttcons Syntax.tnil Syntax.ttnil)))))) Syntax.tnil) Syntax.ttnil)))))) Syntax.tnil) (Syntax.ttcons Syntax.tnil (Syntax.ttcons Syntax.tnil Syntax.ttnil)))) Syntax.tnil) Syntax.ttnil)))))))) (Syntax.tcons (Syntax.tyArray (Syntax.tyInt Syntax.w8) 32) (Syntax.tcons (Syntax.tyInt Syntax.w64) Syntax.tnil))))))) (List._∷_ (9, Rows.any-gone (Syntax.tyInt Syntax.w64)) (List._∷_ (10, Rows.any-gone (Syntax.tyRef Syntax.erased Syntax.mut OfOutput.named)) (List._∷_ (11, Rows.any-gone (Syntax.tyStruct (List._∷_ 38 (List._∷_ 91 (List._∷_ 93 List.[]))) (Syntax.tcons (Syntax.tyRef Syntax.erased Syntax.mut OfOutput.named) (Syntax.tcons (Syntax.tyInt Syntax.w64) Syntax.tnil)))) (List._∷_ (12, Rows.any-gone (Syntax.tyRef Syntax.erased Syntax.mut OfStation.named)) (List._∷_ (13, Rows.any-gone (Syntax.tyStruct (List._∷_ 38 (List._∷_ 91 (List._∷_ 93 List.[]))) (Syntax.tcons (Syntax.tyRef Syntax.erased Syntax.mut OfStation.named) (Syntax.tcons (Syntax.tyInt Syntax.w64) Syntax.tnil)))) (List._∷_ (14, Rows.any-gone (Syntax.tyRef Syntax.erased Syntax.mut OfPanelRecord.named)) (List._∷_ (15, Rows.any-gone (Syntax.tyRef Syntax.erased Syntax.mut (Syntax.tyInt Syntax.w8))) List.[])))))))))))))))
 
         abbrev G0 : Row.Cx
         G0 = record { locals = List._++_ t0 (List._++_ t1 t2); slots = List._∷_ (Row.lease (κs .0) (qs .0)) (List._∷_ (Row.lease (κs .1 .0) (qs .1 .0)) (List._∷_ (Row.lease (κs .1 .1 .0) (qs .1 .1 .0)) (List._∷_ (Row.lease (κs .1 .1 .1 .0) (qs .1 .1 .1 .0)) (List._∷_ (Row.lease (κs .1 .1 .1 .1 .0) (qs .1 .1 .1 .1 .0)) (List._∷_ Row.off (List._∷_ Row.off (List._∷_ Row.off (List._∷_ Row.off (List._∷_ Row.off (List._∷_ Row.off (List._∷_ Row.off (List._∷_ Row.off (List._∷_ Row.off (List._∷_ Row.off (List._∷_ Row.off List.[]))))))))))))))) }
@@ -1450,7 +1450,7 @@ module _ (claims· : Claims) where
           d16 = Typed.g-pre 𝓤 H A W 𝓣 E G53 G54 b24 Δ1 (λ Ψ. Ψ) (at15 bs) (Lifetime.g-end 𝓤 H A W E G53 10 Path'.refl) d15
 
           d17 : Typed.Typed 𝓤 H A 𝓣 E G52 b24 Δ1 (at17 bs)
-          d17 = Typed.g-pre 𝓤 H A W 𝓣 E G52 G53 b24 Δ1 (Typed.pass T52 T53 (s50 bs)) (at16 bs) (Scalar.g-room 𝓤 H A W E G52 8 (Syntax.tyStruct (List._∷_ 116 (List._∷_ 101 (List._∷_ 120 (List._∷_ 116 (List._∷_ 95 (List._∷_ 114 (List._∷_ 101 (List._∷_ 97 (List._∷_ 100 (List._∷_ 105 (List._∷_ 110 (List._∷_ 103 (List._∷_ 58 (List._∷_ 58 (List._∷_ 82 (List._∷_ 101 (List._∷_ 97 (List._∷_ 100 (List._∷_ 101 (List._∷_ 114 List.[])))))))))))))))))))) (Syntax.tcons Syntax.tyBool (Syntax.tcons (Syntax.tyInt Syntax.w64) (Syntax.tcons (Syntax.tyEnum (List._∷_ 116 (List._∷_ 101 (List._∷_ 120 (List._∷_ 116 (List._∷_ 95 (List._∷_ 114 (List._∷_ 101 (List._∷_ 97 (List._∷_ 100 (List._∷_ 105 (List._∷_ 110 (List._∷_ 103 (List._∷_ 58 (List._∷_ 58 (List._∷_ 72 (List._∷_ 101 (List._∷_ 108 (List._∷_ 100 List.[])))))))))))))))))) (Syntax.ttcons Syntax.tnil (Syntax.ttcons Syntax.tnil (Syntax.ttcons (Syntax.tcons (Syntax.tyStruct (List._∷_ 116 (List._∷_ 101 (List._∷_ 120 (List._∷_ 116 (List._∷_ 95 (List._∷_ 104 (List._∷_ 101 (List._∷_ 97 (List._∷_ 100 (List._∷_ 105 (List._∷_ 110 (List._∷_ 103 (List._∷_ 58 (List._∷_ 58 (List._∷_ 72 (List._∷_ 101 (List._∷_ 97 (List._∷_ 100 (List._∷_ 105 (List._∷_ 110 (List._∷_ 103 List.[]))))))))))))))))))))) (Syntax.tcons (IsParameters.mir) (Syntax.tcons (Syntax.tyStruct (List._∷_ 116 (List._∷_ 101 (List._∷_ 120 (List._∷_ 116 (List._∷_ 95 (List._∷_ 104 (List._∷_ 101 (List._∷_ 97 (List._∷_ 100 (List._∷_ 105 (List._∷_ 110 (List._∷_ 103 (List._∷_ 58 (List._∷_ 58 (List._∷_ 67 (List._∷_ 97 (List._∷_ 109 (List._∷_ 101 List.[])))))))))))))))))) (Syntax.tcons Syntax.tyBool (Syntax.tcons Syntax.tyBool (Syntax.tcons Syntax.tyBool Syntax.tnil)))) (Syntax.tcons (Syntax.tyEnum (List._∷_ 116 (List._∷_ 101 (List._∷_ 120 (List._∷_ 116 (List._∷_ 95 (List._∷_ 104 (List._∷_ 101 (List._∷_ 97 (List._∷_ 100 (List._∷_ 105 (List._∷_ 110 (List._∷_ 103 (List._∷_ 58 (List._∷_ 58 (List._∷_ 80 (List._∷_ 108 (List._∷_ 97 (List._∷_ 99 (List._∷_ 101 List.[]))))))))))))))))))) (Syntax.ttcons (Syntax.tcons (Syntax.tyEnum (List._∷_ 116 (List._∷_ 101 (List._∷_ 120 (List._∷_ 116 (List._∷_ 95 (List._∷_ 104 (List._∷_ 101 (List._∷_ 97 (List._∷_ 100 (List._∷_ 105 (List._∷_ 110 (List._∷_ 103 (List._∷_ 58 (List._∷_ 58 (List._∷_ 87 (List._∷_ 111 (List._∷_ 114 (List._∷_ 100 List.[])))))))))))))))))) (Syntax.ttcons Syntax.tnil (Syntax.ttcons Syntax.tnil (Syntax.ttcons Syntax.tnil (Syntax.ttcons Syntax.tnil Syntax.ttnil))))) (Syntax.tcons (Syntax.tyInt Syntax.w8) Syntax.tnil)) (Syntax.ttcons (Syntax.tcons (Syntax.tyEnum (List._∷_ 116 (List._∷_ 101 (List._∷_ 120 (List._∷_ 116 (List._∷_ 95 (List._∷_ 104 (List._∷_ 101 (List._∷_ 97 (List._∷_ 100 (List._∷_ 105 (List._∷_ 110 (List._∷_ 103 (List._∷_ 58 (List._∷_ 58 (List._∷_ 87 (List._∷_ 111 (List._∷_ 114 (List._∷_ 100 List.[])))))))))))))))))) (Syntax.ttcons Syntax.tnil (Syntax.ttcons Syntax.tnil (Syntax.ttcons Syntax.tnil (Syntax.ttcons Syntax.tnil Syntax.ttnil))))) Syntax.tnil) (Syntax.ttcons (Syntax.tcons (Syntax.tyEnum (List._∷_ 116 (List._∷_ 101 (List._∷_ 120 (List._∷_ 116 (List._∷_ 95 (List._∷_ 104 (List._∷_ 101 (List._∷_ 97 (List._∷_ 100 (List._∷_ 105 (List._∷_ 110 (List._∷_ 103 (List._∷_ 58 (List._∷_ 58 (List._∷_ 87 (List._∷_ 111 (List._∷_ 114 (List._∷_ 100 List.[])))))))))))))))))) (Syntax.ttcons Syntax.tnil (Syntax.ttcons Syntax.tnil (Syntax.ttcons Syntax.tnil (Syntax.ttcons Syntax.tnil Syntax.ttnil))))) Syntax.tnil) (Syntax.ttcons Syntax.tnil (Syntax.ttcons (Syntax.tcons (Syntax.tyEnum (List._∷_ 116 (List._∷_ 101 (List._∷_ 120 (List._∷_ 116 (List._∷_ 95 (List._∷_ 104 (List._∷_ 101 (List._∷_ 97 (List._∷_ 100 (List._∷_ 105 (List._∷_ 110 (List._∷_ 103 (List._∷_ 58 (List._∷_ 58 (List._∷_ 72 (List._∷_ 101 (List._∷_ 97 (List._∷_ 100 (List._∷_ 105 (List._∷_ 110 (List._∷_ 103 (List._∷_ 70 (List._∷_ 97 (List._∷_ 117 (List._∷_ 108 (List._∷_ 116 List.[])))))))))))))))))))))))))) (Syntax.ttcons Syntax.tnil (Syntax.ttcons Syntax.tnil (Syntax.ttcons Syntax.tnil (Syntax.ttcons (Syntax.tcons (Syntax.tyEnum (List._∷_ 116 (List._∷_ 101 (List._∷_ 120 (List._∷_ 116 (List._∷_ 95 (List._∷_ 104 (List._∷_ 101 (List._∷_ 97 (List._∷_ 100 (List._∷_ 105 (List._∷_ 110 (List._∷_ 103 (List._∷_ 58 (List._∷_ 58 (List._∷_ 87 (List._∷_ 111 (List._∷_ 114 (List._∷_ 100 List.[])))))))))))))))))) (Syntax.ttcons Syntax.tnil (Syntax.ttcons Syntax.tnil (Syntax.ttcons Syntax.tnil (Syntax.ttcons Syntax.tnil Syntax.ttnil))))) Syntax.tnil) Syntax.ttnil))))) Syntax.tnil) Syntax.ttnil)))))) Syntax.tnil)))) Syntax.tnil) (Syntax.ttcons Syntax.tnil (Syntax.ttcons (Syntax.tcons (Syntax.tyInt Syntax.w8) Syntax.tnil) (Syntax.ttcons Syntax.tnil (Syntax.ttcons (Syntax.tcons (Syntax.tyEnum (List._∷_ 116 (List._∷_ 101 (List._∷_ 120 (List._∷_ 116 (List._∷_ 95 (List._∷_ 114 (List._∷_ 101 (List._∷_ 97 (List._∷_ 100 (List._∷_ 105 (List._∷_ 110 (List._∷_ 103 (List._∷_ 58 (List._∷_ 58 (List._∷_ 70 (List._∷_ 97 (List._∷_ 117 (List._∷_ 108 (List._∷_ 116 List.[]))))))))))))))))))) (Syntax.ttcons (Syntax.tcons (Syntax.tyEnum (List._∷_ 116 (List._∷_ 101 (List._∷_ 120 (List._∷_ 116 (List._∷_ 95 (List._∷_ 104 (List._∷_ 101 (List._∷_ 97 (List._∷_ 100 (List._∷_ 105 (List._∷_ 110 (List._∷_ 103 (List._∷_ 58 (List._∷_ 58 (List._∷_ 72 (List._∷_ 101 (List._∷_ 97 (List._∷_ 100 (List._∷_ 105 (List._∷_ 110 (List._∷_ 103 (List._∷_ 70 (List._∷_ 97 (List._∷_ 117 (List._∷_ 108 (List._∷_ 116 List.[])))))))))))))))))))))))))) (Syntax.ttcons Syntax.tnil (Syntax.ttcons Syntax.tnil (Syntax.ttcons Syntax.tnil (Syntax.ttcons (Syntax.tcons (Syntax.tyEnum (List._∷_ 116 (List._∷_ 101 (List._∷_ 120 (List._∷_ 116 (List._∷_ 95 (List._∷_ 104 (List._∷_ 101 (List._∷_ 97 (List._∷_ 100 (List._∷_ 105 (List._∷_ 110 (List._∷_ 103 (List._∷_ 58 (List._∷_ 58 (List._∷_ 87 (List._∷_ 111 (List._∷_ 114 (List._∷_ 100 List.[])))))))))))))))))) (Syntax.ttcons Syntax.tnil (Syntax.ttcons Syntax.tnil (Syntax.ttcons Syntax.tnil (Syntax.ttcons Syntax.tnil Syntax.ttnil))))) Syntax.tnil) Syntax.ttnil))))) Syntax.tnil) (Syntax.ttcons Syntax.tnil (Syntax.ttcons Syntax.tnil Syntax.ttnil)))) Syntax.tnil) Syntax.ttnil)))))))) (Syntax.tcons (Syntax.tyArray (Syntax.tyInt Syntax.w8) 32) (Syntax.tcons (Syntax.tyInt Syntax.w64) Syntax.tnil)))))) (Local.room-whole 𝓤 H A W (Declared.row Reader.the-type) (Syntax.tyStruct (List._∷_ 116 (List._∷_ 101 (List._∷_ 120 (List._∷_ 116 (List._∷_ 95 (List._∷_ 114 (List._∷_ 101 (List._∷_ 97 (List._∷_ 100 (List._∷_ 105 (List._∷_ 110 (List._∷_ 103 (List._∷_ 58 (List._∷_ 58 (List._∷_ 82 (List._∷_ 101 (List._∷_ 97 (List._∷_ 100 (List._∷_ 101 (List._∷_ 114 List.[])))))))))))))))))))) (Syntax.tcons Syntax.tyBool (Syntax.tcons (Syntax.tyInt Syntax.w64) (Syntax.tcons (Syntax.tyEnum (List._∷_ 116 (List._∷_ 101 (List._∷_ 120 (List._∷_ 116 (List._∷_ 95 (List._∷_ 114 (List._∷_ 101 (List._∷_ 97 (List._∷_ 100 (List._∷_ 105 (List._∷_ 110 (List._∷_ 103 (List._∷_ 58 (List._∷_ 58 (List._∷_ 72 (List._∷_ 101 (List._∷_ 108 (List._∷_ 100 List.[])))))))))))))))))) (Syntax.ttcons Syntax.tnil (Syntax.ttcons Syntax.tnil (Syntax.ttcons (Syntax.tcons (Syntax.tyStruct (List._∷_ 116 (List._∷_ 101 (List._∷_ 120 (List._∷_ 116 (List._∷_ 95 (List._∷_ 104 (List._∷_ 101 (List._∷_ 97 (List._∷_ 100 (List._∷_ 105 (List._∷_ 110 (List._∷_ 103 (List._∷_ 58 (List._∷_ 58 (List._∷_ 72 (List._∷_ 101 (List._∷_ 97 (List._∷_ 100 (List._∷_ 105 (List._∷_ 110 (List._∷_ 103 List.[]))))))))))))))))))))) (Syntax.tcons (IsParameters.mir) (Syntax.tcons (Syntax.tyStruct (List._∷_ 116 (List._∷_ 101 (List._∷_ 120 (List._∷_ 116 (List._∷_ 95 (List._∷_ 104 (List._∷_ 101 (List._∷_ 97 (List._∷_ 100 (List._∷_ 105 (List._∷_ 110 (List._∷_ 103 (List._∷_ 58 (List._∷_ 58 (List._∷_ 67 (List._∷_ 97 (List._∷_ 109 (List._∷_ 101 List.[])))))))))))))))))) (Syntax.tcons Syntax.tyBool (Syntax.tcons Syntax.tyBool (Syntax.tcons Syntax.tyBool Syntax.tnil)))) (Syntax.tcons (Syntax.tyEnum (List._∷_ 116 (List._∷_ 101 (List._∷_ 120 (List._∷_ 116 (List._∷_ 95 (List._∷_ 104 (List._∷_ 101 (List._∷_ 97 (List._∷_ 100 (List._∷_ 105 (List._∷_ 110 (List._∷_ 103 (List._∷_ 58 (List._∷_ 58 (List._∷_ 80 (List._∷_ 108 (List._∷_ 97 (List._∷_ 99 (List._∷_ 101 List.[]))))))))))))))))))) (Syntax.ttcons (Syntax.tcons (Syntax.tyEnum (List._∷_ 116 (List._∷_ 101 (List._∷_ 120 (List._∷_ 116 (List._∷_ 95 (List._∷_ 104 (List._∷_ 101 (List._∷_ 97 (List._∷_ 100 (List._∷_ 105 (List._∷_ 110 (List._∷_ 103 (List._∷_ 58 (List._∷_ 58 (List._∷_ 87 (List._∷_ 111 (List._∷_ 114 (List._∷_ 100 List.[])))))))))))))))))) (Syntax.ttcons Syntax.tnil (Syntax.ttcons Syntax.tnil (Syntax.ttcons Syntax.tnil (Syntax.ttcons Syntax.tnil Syntax.ttnil))))) (Syntax.tcons (Syntax.tyInt Syntax.w8) Syntax.tnil)) (Syntax.ttcons (Syntax.tcons (Syntax.tyEnum (List._∷_ 116 (List._∷_ 101 (List._∷_ 120 (List._∷_ 116 (List._∷_ 95 (List._∷_ 104 (List._∷_ 101 (List._∷_ 97 (List._∷_ 100 (List._∷_ 105 (List._∷_ 110 (List._∷_ 103 (List._∷_ 58 (List._∷_ 58 (List._∷_ 87 (List._∷_ 111 (List._∷_ 114 (List._∷_ 100 List.[])))))))))))))))))) (Syntax.ttcons Syntax.tnil (Syntax.ttcons Syntax.tnil (Syntax.ttcons Syntax.tnil (Syntax.ttcons Syntax.tnil Syntax.ttnil))))) Syntax.tnil) (Syntax.ttcons (Syntax.tcons (Syntax.tyEnum (List._∷_ 116 (List._∷_ 101 (List._∷_ 120 (List._∷_ 116 (List._∷_ 95 (List._∷_ 104 (List._∷_ 101 (List._∷_ 97 (List._∷_ 100 (List._∷_ 105 (List._∷_ 110 (List._∷_ 103 (List._∷_ 58 (List._∷_ 58 (List._∷_ 87 (List._∷_ 111 (List._∷_ 114 (List._∷_ 100 List.[])))))))))))))))))) (Syntax.ttcons Syntax.tnil (Syntax.ttcons Syntax.tnil (Syntax.ttcons Syntax.tnil (Syntax.ttcons Syntax.tnil Syntax.ttnil))))) Syntax.tnil) (Syntax.ttcons Syntax.tnil (Syntax.ttcons (Syntax.tcons (Syntax.tyEnum (List._∷_ 116 (List._∷_ 101 (List._∷_ 120 (List._∷_ 116 (List._∷_ 95 (List._∷_ 104 (List._∷_ 101 (List._∷_ 97 (List._∷_ 100 (List._∷_ 105 (List._∷_ 110 (List._∷_ 103 (List._∷_ 58 (List._∷_ 58 (List._∷_ 72 (List._∷_ 101 (List._∷_ 97 (List._∷_ 100 (List._∷_ 105 (List._∷_ 110 (List._∷_ 103 (List._∷_ 70 (List._∷_ 97 (List._∷_ 117 (List._∷_ 108 (List._∷_ 116 List.[])))))))))))))))))))))))))) (Syntax.ttcons Syntax.tnil (Syntax.ttcons Syntax.tnil (Syntax.ttcons Syntax.tnil (Syntax.ttcons (Syntax.tcons (Syntax.tyEnum (List._∷_ 116 (List._∷_ 101 (List._∷_ 120 (List._∷_ 116 (List._∷_ 95 (List._∷_ 104 (List._∷_ 101 (List._∷_ 97 (List._∷_ 100 (List._∷_ 105 (List._∷_ 110 (List._∷_ 103 (List._∷_ 58 (List._∷_ 58 (List._∷_ 87 (List._∷_ 111 (List._∷_ 114 (List._∷_ 100 List.[])))))))))))))))))) (Syntax.ttcons Syntax.tnil (Syntax.ttcons Syntax.tnil (Syntax.ttcons Syntax.tnil (Syntax.ttcons Syntax.tnil Syntax.ttnil))))) Syntax.tnil) Syntax.ttnil))))) Syntax.tnil) Syntax.ttnil)))))) Syntax.tnil)))) Syntax.tnil) (Syntax.ttcons Syntax.tnil (Syntax.ttcons (Syntax.tcons (Syntax.tyInt Syntax.w8) Syntax.tnil) (Syntax.ttcons Syntax.tnil (Syntax.ttcons (Syntax.tcons (Syntax.tyEnum (List._∷_ 116 (List._∷_ 101 (List._∷_ 120 (List._∷_ 116 (List._∷_ 95 (List._∷_ 114 (List._∷_ 101 (List._∷_ 97 (List._∷_ 100 (List._∷_ 105 (List._∷_ 110 (List._∷_ 103 (List._∷_ 58 (List._∷_ 58 (List._∷_ 70 (List._∷_ 97 (List._∷_ 117 (List._∷_ 108 (List._∷_ 116 List.[]))))))))))))))))))) (Syntax.ttcons (Syntax.tcons (Syntax.tyEnum (List._∷_ 116 (List._∷_ 101 (List._∷_ 120 (List._∷_ 116 (List._∷_ 95 (List._∷_ 104 (List._∷_ 101 (List._∷_ 97 (List._∷_ 100 (List._∷_ 105 (List._∷_ 110 (List._∷_ 103 (List._∷_ 58 (List._∷_ 58 (List._∷_ 72 (List._∷_ 101 (List._∷_ 97 (List._∷_ 100 (List._∷_ 105 (List._∷_ 110 (List._∷_ 103 (List._∷_ 70 (List._∷_ 97 (List._∷_ 117 (List._∷_ 108 (List._∷_ 116 List.[])))))))))))))))))))))))))) (Syntax.ttcons Syntax.tnil (Syntax.ttcons Syntax.tnil (Syntax.ttcons Syntax.tnil (Syntax.ttcons (Syntax.tcons (Syntax.tyEnum (List._∷_ 116 (List._∷_ 101 (List._∷_ 120 (List._∷_ 116 (List._∷_ 95 (List._∷_ 104 (List._∷_ 101 (List._∷_ 97 (List._∷_ 100 (List._∷_ 105 (List._∷_ 110 (List._∷_ 103 (List._∷_ 58 (List._∷_ 58 (List._∷_ 87 (List._∷_ 111 (List._∷_ 114 (List._∷_ 100 List.[])))))))))))))))))) (Syntax.ttcons Syntax.tnil (Syntax.ttcons Syntax.tnil (Syntax.ttcons Syntax.tnil (Syntax.ttcons Syntax.tnil Syntax.ttnil))))) Syntax.tnil) Syntax.ttnil))))) Syntax.tnil) (Syntax.ttcons Syntax.tnil (Syntax.ttcons Syntax.tnil Syntax.ttnil)))) Syntax.tnil) Syntax.ttnil)))))))) (Syntax.tcons (Syntax.tyArray (Syntax.tyInt Syntax.w8) 32) (Syntax.tcons (Syntax.tyInt Syntax.w64) Syntax.tnil)))))) Path'.refl)) d16
+          d17 = Typed.g-pre 𝓤 H A W 𝓣 E G52 G53 b24 Δ1 (Typed.pass T52 T53 (s50 bs)) (at16 bs) (Scalar.g-room 𝓤 H A W E G52 8 (Syntax.tyStruct (List._∷_ 116 (List._∷_ 101 (List._∷_ 120 (List._∷_ 116 (List._∷_ 95 (List._∷_ 114 (List._∷_ 101 (List._∷_ 97 (List._∷_ 100 (List._∷_ 105 (List._∷_ 110 (List._∷_ 103 (List._∷_ 58 (List._∷_ 58 (List._∷_ 82 (List._∷_ 101 (List._∷_ 97 (List._∷_ 100 (List._∷_ 101 (List._∷_ 114 List.[])))))))))))))))))))) (Syntax.tcons Syntax.tyBool (Syntax.tcons (Syntax.tyInt Syntax.w64) (Syntax.tcons (Syntax.tyEnum (List._∷_ 116 (List._∷_ 101 (List._∷_ 120 (List._∷_ 116 (List._∷_ 95 (List._∷_ 114 (List._∷_ 101 (List._∷_ 97 (List._∷_ 100 (List._∷_ 105 (List._∷_ 110 (List._∷_ 103 (List._∷_ 58 (List._∷_ 58 (List._∷_ 72 (List._∷_ 101 (List._∷_ 108 (List._∷_ 100 List.[])))))))))))))))))) (Syntax.ttcons Syntax.tnil (Syntax.ttcons Syntax.tnil (Syntax.ttcons (Syntax.tcons (Syntax.tyStruct (List._∷_ 116 (List._∷_ 101 (List._∷_ 120 (List._∷_ 116 (List._∷_ 95 (List._∷_ 104 (List._∷_ 101 (List._∷_ 97 (List._∷_ 100 (List._∷_ 105 (List._∷_ 110 (List._∷_ 103 (List._∷_ 58 (List._∷_ 58 (List._∷_ 72 (List._∷_ 101 (List._∷_ 97 (List._∷_ 100 (List._∷_ 105 (List._∷_ 110 (List._∷_ 103 List.[]))))))))))))))))))))) (Syntax.tcons (Syntax.tyStruct (List._∷_ 116 (List._∷_ 101 (List._∷_ 120 (List._∷_ 116 (List._∷_ 95 (List._∷_ 104 (List._∷_ 101 (List._∷_ 97 (List._∷_ 100 (List._∷_ 105 (List._∷_ 110 (List._∷_ 103 (List._∷_ 58 (List._∷_ 58 (List._∷_ 78 (List._∷_ 97 (List._∷_ 109 (List._∷_ 101 (List._∷_ 100 List.[]))))))))))))))))))) (Syntax.tcons (IsParameters.mir) (Syntax.tcons (Syntax.tyInt Syntax.w32) Syntax.tnil))) (Syntax.tcons (Syntax.tyStruct (List._∷_ 116 (List._∷_ 101 (List._∷_ 120 (List._∷_ 116 (List._∷_ 95 (List._∷_ 104 (List._∷_ 101 (List._∷_ 97 (List._∷_ 100 (List._∷_ 105 (List._∷_ 110 (List._∷_ 103 (List._∷_ 58 (List._∷_ 58 (List._∷_ 67 (List._∷_ 97 (List._∷_ 109 (List._∷_ 101 List.[])))))))))))))))))) (Syntax.tcons Syntax.tyBool (Syntax.tcons Syntax.tyBool (Syntax.tcons Syntax.tyBool (Syntax.tcons Syntax.tyBool Syntax.tnil))))) (Syntax.tcons (Syntax.tyEnum (List._∷_ 116 (List._∷_ 101 (List._∷_ 120 (List._∷_ 116 (List._∷_ 95 (List._∷_ 104 (List._∷_ 101 (List._∷_ 97 (List._∷_ 100 (List._∷_ 105 (List._∷_ 110 (List._∷_ 103 (List._∷_ 58 (List._∷_ 58 (List._∷_ 80 (List._∷_ 108 (List._∷_ 97 (List._∷_ 99 (List._∷_ 101 List.[]))))))))))))))))))) (Syntax.ttcons (Syntax.tcons (Syntax.tyEnum (List._∷_ 116 (List._∷_ 101 (List._∷_ 120 (List._∷_ 116 (List._∷_ 95 (List._∷_ 104 (List._∷_ 101 (List._∷_ 97 (List._∷_ 100 (List._∷_ 105 (List._∷_ 110 (List._∷_ 103 (List._∷_ 58 (List._∷_ 58 (List._∷_ 87 (List._∷_ 111 (List._∷_ 114 (List._∷_ 100 List.[])))))))))))))))))) (Syntax.ttcons Syntax.tnil (Syntax.ttcons Syntax.tnil (Syntax.ttcons Syntax.tnil (Syntax.ttcons Syntax.tnil (Syntax.ttcons Syntax.tnil Syntax.ttnil)))))) (Syntax.tcons (Syntax.tyInt Syntax.w8) Syntax.tnil)) (Syntax.ttcons (Syntax.tcons (Syntax.tyEnum (List._∷_ 116 (List._∷_ 101 (List._∷_ 120 (List._∷_ 116 (List._∷_ 95 (List._∷_ 104 (List._∷_ 101 (List._∷_ 97 (List._∷_ 100 (List._∷_ 105 (List._∷_ 110 (List._∷_ 103 (List._∷_ 58 (List._∷_ 58 (List._∷_ 87 (List._∷_ 111 (List._∷_ 114 (List._∷_ 100 List.[])))))))))))))))))) (Syntax.ttcons Syntax.tnil (Syntax.ttcons Syntax.tnil (Syntax.ttcons Syntax.tnil (Syntax.ttcons Syntax.tnil (Syntax.ttcons Syntax.tnil Syntax.ttnil)))))) Syntax.tnil) (Syntax.ttcons (Syntax.tcons (Syntax.tyEnum (List._∷_ 116 (List._∷_ 101 (List._∷_ 120 (List._∷_ 116 (List._∷_ 95 (List._∷_ 104 (List._∷_ 101 (List._∷_ 97 (List._∷_ 100 (List._∷_ 105 (List._∷_ 110 (List._∷_ 103 (List._∷_ 58 (List._∷_ 58 (List._∷_ 87 (List._∷_ 111 (List._∷_ 114 (List._∷_ 100 List.[])))))))))))))))))) (Syntax.ttcons Syntax.tnil (Syntax.ttcons Syntax.tnil (Syntax.ttcons Syntax.tnil (Syntax.ttcons Syntax.tnil (Syntax.ttcons Syntax.tnil Syntax.ttnil)))))) (Syntax.tcons (Syntax.tyInt Syntax.w8) Syntax.tnil)) (Syntax.ttcons Syntax.tnil (Syntax.ttcons (Syntax.tcons (Syntax.tyEnum (List._∷_ 116 (List._∷_ 101 (List._∷_ 120 (List._∷_ 116 (List._∷_ 95 (List._∷_ 104 (List._∷_ 101 (List._∷_ 97 (List._∷_ 100 (List._∷_ 105 (List._∷_ 110 (List._∷_ 103 (List._∷_ 58 (List._∷_ 58 (List._∷_ 72 (List._∷_ 101 (List._∷_ 97 (List._∷_ 100 (List._∷_ 105 (List._∷_ 110 (List._∷_ 103 (List._∷_ 70 (List._∷_ 97 (List._∷_ 117 (List._∷_ 108 (List._∷_ 116 List.[])))))))))))))))))))))))))) (Syntax.ttcons Syntax.tnil (Syntax.ttcons Syntax.tnil (Syntax.ttcons Syntax.tnil (Syntax.ttcons Syntax.tnil (Syntax.ttcons (Syntax.tcons (Syntax.tyEnum (List._∷_ 116 (List._∷_ 101 (List._∷_ 120 (List._∷_ 116 (List._∷_ 95 (List._∷_ 104 (List._∷_ 101 (List._∷_ 97 (List._∷_ 100 (List._∷_ 105 (List._∷_ 110 (List._∷_ 103 (List._∷_ 58 (List._∷_ 58 (List._∷_ 87 (List._∷_ 111 (List._∷_ 114 (List._∷_ 100 List.[])))))))))))))))))) (Syntax.ttcons Syntax.tnil (Syntax.ttcons Syntax.tnil (Syntax.ttcons Syntax.tnil (Syntax.ttcons Syntax.tnil (Syntax.ttcons Syntax.tnil Syntax.ttnil)))))) Syntax.tnil) Syntax.ttnil)))))) Syntax.tnil) Syntax.ttnil)))))) Syntax.tnil)))) Syntax.tnil) (Syntax.ttcons Syntax.tnil (Syntax.ttcons (Syntax.tcons (Syntax.tyInt Syntax.w8) Syntax.tnil) (Syntax.ttcons Syntax.tnil (Syntax.ttcons (Syntax.tcons (Syntax.tyEnum (List._∷_ 116 (List._∷_ 101 (List._∷_ 120 (List._∷_ 116 (List._∷_ 95 (List._∷_ 114 (List._∷_ 101 (List._∷_ 97 (List._∷_ 100 (List._∷_ 105 (List._∷_ 110 (List._∷_ 103 (List._∷_ 58 (List._∷_ 58 (List._∷_ 70 (List._∷_ 97 (List._∷_ 117 (List._∷_ 108 (List._∷_ 116 List.[]))))))))))))))))))) (Syntax.ttcons (Syntax.tcons (Syntax.tyEnum (List._∷_ 116 (List._∷_ 101 (List._∷_ 120 (List._∷_ 116 (List._∷_ 95 (List._∷_ 104 (List._∷_ 101 (List._∷_ 97 (List._∷_ 100 (List._∷_ 105 (List._∷_ 110 (List._∷_ 103 (List._∷_ 58 (List._∷_ 58 (List._∷_ 72 (List._∷_ 101 (List._∷_ 97 (List._∷_ 100 (List._∷_ 105 (List._∷_ 110 (List._∷_ 103 (List._∷_ 70 (List._∷_ 97 (List._∷_ 117 (List._∷_ 108 (List._∷_ 116 List.[])))))))))))))))))))))))))) (Syntax.ttcons Syntax.tnil (Syntax.ttcons Syntax.tnil (Syntax.ttcons Syntax.tnil (Syntax.ttcons Syntax.tnil (Syntax.ttcons (Syntax.tcons (Syntax.tyEnum (List._∷_ 116 (List._∷_ 101 (List._∷_ 120 (List._∷_ 116 (List._∷_ 95 (List._∷_ 104 (List._∷_ 101 (List._∷_ 97 (List._∷_ 100 (List._∷_ 105 (List._∷_ 110 (List._∷_ 103 (List._∷_ 58 (List._∷_ 58 (List._∷_ 87 (List._∷_ 111 (List._∷_ 114 (List._∷_ 100 List.[])))))))))))))))))) (Syntax.ttcons Syntax.tnil (Syntax.ttcons Syntax.tnil (Syntax.ttcons Syntax.tnil (Syntax.ttcons Syntax.tnil (Syntax.ttcons Syntax.tnil Syntax.ttnil)))))) Syntax.tnil) Syntax.ttnil)))))) Syntax.tnil) (Syntax.ttcons Syntax.tnil (Syntax.ttcons Syntax.tnil Syntax.ttnil)))) Syntax.tnil) Syntax.ttnil)))))))) (Syntax.tcons (Syntax.tyArray (Syntax.tyInt Syntax.w8) 32) (Syntax.tcons (Syntax.tyInt Syntax.w64) Syntax.tnil)))))) (Local.room-whole 𝓤 H A W (Declared.row Reader.the-type) (Syntax.tyStruct (List._∷_ 116 (List._∷_ 101 (List._∷_ 120 (List._∷_ 116 (List._∷_ 95 (List._∷_ 114 (List._∷_ 101 (List._∷_ 97 (List._∷_ 100 (List._∷_ 105 (List._∷_ 110 (List._∷_ 103 (List._∷_ 58 (List._∷_ 58 (List._∷_ 82 (List._∷_ 101 (List._∷_ 97 (List._∷_ 100 (List._∷_ 101 (List._∷_ 114 List.[])))))))))))))))))))) (Syntax.tcons Syntax.tyBool (Syntax.tcons (Syntax.tyInt Syntax.w64) (Syntax.tcons (Syntax.tyEnum (List._∷_ 116 (List._∷_ 101 (List._∷_ 120 (List._∷_ 116 (List._∷_ 95 (List._∷_ 114 (List._∷_ 101 (List._∷_ 97 (List._∷_ 100 (List._∷_ 105 (List._∷_ 110 (List._∷_ 103 (List._∷_ 58 (List._∷_ 58 (List._∷_ 72 (List._∷_ 101 (List._∷_ 108 (List._∷_ 100 List.[])))))))))))))))))) (Syntax.ttcons Syntax.tnil (Syntax.ttcons Syntax.tnil (Syntax.ttcons (Syntax.tcons (Syntax.tyStruct (List._∷_ 116 (List._∷_ 101 (List._∷_ 120 (List._∷_ 116 (List._∷_ 95 (List._∷_ 104 (List._∷_ 101 (List._∷_ 97 (List._∷_ 100 (List._∷_ 105 (List._∷_ 110 (List._∷_ 103 (List._∷_ 58 (List._∷_ 58 (List._∷_ 72 (List._∷_ 101 (List._∷_ 97 (List._∷_ 100 (List._∷_ 105 (List._∷_ 110 (List._∷_ 103 List.[]))))))))))))))))))))) (Syntax.tcons (Syntax.tyStruct (List._∷_ 116 (List._∷_ 101 (List._∷_ 120 (List._∷_ 116 (List._∷_ 95 (List._∷_ 104 (List._∷_ 101 (List._∷_ 97 (List._∷_ 100 (List._∷_ 105 (List._∷_ 110 (List._∷_ 103 (List._∷_ 58 (List._∷_ 58 (List._∷_ 78 (List._∷_ 97 (List._∷_ 109 (List._∷_ 101 (List._∷_ 100 List.[]))))))))))))))))))) (Syntax.tcons (IsParameters.mir) (Syntax.tcons (Syntax.tyInt Syntax.w32) Syntax.tnil))) (Syntax.tcons (Syntax.tyStruct (List._∷_ 116 (List._∷_ 101 (List._∷_ 120 (List._∷_ 116 (List._∷_ 95 (List._∷_ 104 (List._∷_ 101 (List._∷_ 97 (List._∷_ 100 (List._∷_ 105 (List._∷_ 110 (List._∷_ 103 (List._∷_ 58 (List._∷_ 58 (List._∷_ 67 (List._∷_ 97 (List._∷_ 109 (List._∷_ 101 List.[])))))))))))))))))) (Syntax.tcons Syntax.tyBool (Syntax.tcons Syntax.tyBool (Syntax.tcons Syntax.tyBool (Syntax.tcons Syntax.tyBool Syntax.tnil))))) (Syntax.tcons (Syntax.tyEnum (List._∷_ 116 (List._∷_ 101 (List._∷_ 120 (List._∷_ 116 (List._∷_ 95 (List._∷_ 104 (List._∷_ 101 (List._∷_ 97 (List._∷_ 100 (List._∷_ 105 (List._∷_ 110 (List._∷_ 103 (List._∷_ 58 (List._∷_ 58 (List._∷_ 80 (List._∷_ 108 (List._∷_ 97 (List._∷_ 99 (List._∷_ 101 List.[]))))))))))))))))))) (Syntax.ttcons (Syntax.tcons (Syntax.tyEnum (List._∷_ 116 (List._∷_ 101 (List._∷_ 120 (List._∷_ 116 (List._∷_ 95 (List._∷_ 104 (List._∷_ 101 (List._∷_ 97 (List._∷_ 100 (List._∷_ 105 (List._∷_ 110 (List._∷_ 103 (List._∷_ 58 (List._∷_ 58 (List._∷_ 87 (List._∷_ 111 (List._∷_ 114 (List._∷_ 100 List.[])))))))))))))))))) (Syntax.ttcons Syntax.tnil (Syntax.ttcons Syntax.tnil (Syntax.ttcons Syntax.tnil (Syntax.ttcons Syntax.tnil (Syntax.ttcons Syntax.tnil Syntax.ttnil)))))) (Syntax.tcons (Syntax.tyInt Syntax.w8) Syntax.tnil)) (Syntax.ttcons (Syntax.tcons (Syntax.tyEnum (List._∷_ 116 (List._∷_ 101 (List._∷_ 120 (List._∷_ 116 (List._∷_ 95 (List._∷_ 104 (List._∷_ 101 (List._∷_ 97 (List._∷_ 100 (List._∷_ 105 (List._∷_ 110 (List._∷_ 103 (List._∷_ 58 (List._∷_ 58 (List._∷_ 87 (List._∷_ 111 (List._∷_ 114 (List._∷_ 100 List.[])))))))))))))))))) (Syntax.ttcons Syntax.tnil (Syntax.ttcons Syntax.tnil (Syntax.ttcons Syntax.tnil (Syntax.ttcons Syntax.tnil (Syntax.ttcons Syntax.tnil Syntax.ttnil)))))) Syntax.tnil) (Syntax.ttcons (Syntax.tcons (Syntax.tyEnum (List._∷_ 116 (List._∷_ 101 (List._∷_ 120 (List._∷_ 116 (List._∷_ 95 (List._∷_ 104 (List._∷_ 101 (List._∷_ 97 (List._∷_ 100 (List._∷_ 105 (List._∷_ 110 (List._∷_ 103 (List._∷_ 58 (List._∷_ 58 (List._∷_ 87 (List._∷_ 111 (List._∷_ 114 (List._∷_ 100 List.[])))))))))))))))))) (Syntax.ttcons Syntax.tnil (Syntax.ttcons Syntax.tnil (Syntax.ttcons Syntax.tnil (Syntax.ttcons Syntax.tnil (Syntax.ttcons Syntax.tnil Syntax.ttnil)))))) (Syntax.tcons (Syntax.tyInt Syntax.w8) Syntax.tnil)) (Syntax.ttcons Syntax.tnil (Syntax.ttcons (Syntax.tcons (Syntax.tyEnum (List._∷_ 116 (List._∷_ 101 (List._∷_ 120 (List._∷_ 116 (List._∷_ 95 (List._∷_ 104 (List._∷_ 101 (List._∷_ 97 (List._∷_ 100 (List._∷_ 105 (List._∷_ 110 (List._∷_ 103 (List._∷_ 58 (List._∷_ 58 (List._∷_ 72 (List._∷_ 101 (List._∷_ 97 (List._∷_ 100 (List._∷_ 105 (List._∷_ 110 (List._∷_ 103 (List._∷_ 70 (List._∷_ 97 (List._∷_ 117 (List._∷_ 108 (List._∷_ 116 List.[])))))))))))))))))))))))))) (Syntax.ttcons Syntax.tnil (Syntax.ttcons Syntax.tnil (Syntax.ttcons Syntax.tnil (Syntax.ttcons Syntax.tnil (Syntax.ttcons (Syntax.tcons (Syntax.tyEnum (List._∷_ 116 (List._∷_ 101 (List._∷_ 120 (List._∷_ 116 (List._∷_ 95 (List._∷_ 104 (List._∷_ 101 (List._∷_ 97 (List._∷_ 100 (List._∷_ 105 (List._∷_ 110 (List._∷_ 103 (List._∷_ 58 (List._∷_ 58 (List._∷_ 87 (List._∷_ 111 (List._∷_ 114 (List._∷_ 100 List.[])))))))))))))))))) (Syntax.ttcons Syntax.tnil (Syntax.ttcons Syntax.tnil (Syntax.ttcons Syntax.tnil (Syntax.ttcons Syntax.tnil (Syntax.ttcons Syntax.tnil Syntax.ttnil)))))) Syntax.tnil) Syntax.ttnil)))))) Syntax.tnil) Syntax.ttnil)))))) Syntax.tnil)))) Syntax.tnil) (Syntax.ttcons Syntax.tnil (Syntax.ttcons (Syntax.tcons (Syntax.tyInt Syntax.w8) Syntax.tnil) (Syntax.ttcons Syntax.tnil (Syntax.ttcons (Syntax.tcons (Syntax.tyEnum (List._∷_ 116 (List._∷_ 101 (List._∷_ 120 (List._∷_ 116 (List._∷_ 95 (List._∷_ 114 (List._∷_ 101 (List._∷_ 97 (List._∷_ 100 (List._∷_ 105 (List._∷_ 110 (List._∷_ 103 (List._∷_ 58 (List._∷_ 58 (List._∷_ 70 (List._∷_ 97 (List._∷_ 117 (List._∷_ 108 (List._∷_ 116 List.[]))))))))))))))))))) (Syntax.ttcons (Syntax.tcons (Syntax.tyEnum (List._∷_ 116 (List._∷_ 101 (List._∷_ 120 (List._∷_ 116 (List._∷_ 95 (List._∷_ 104 (List._∷_ 101 (List._∷_ 97 (List._∷_ 100 (List._∷_ 105 (List._∷_ 110 (List._∷_ 103 (List._∷_ 58 (List._∷_ 58 (List._∷_ 72 (List._∷_ 101 (List._∷_ 97 (List._∷_ 100 (List._∷_ 105 (List._∷_ 110 (List._∷_ 103 (List._∷_ 70 (List._∷_ 97 (List._∷_ 117 (List._∷_ 108 (List._∷_ 116 List.[])))))))))))))))))))))))))) (Syntax.ttcons Syntax.tnil (Syntax.ttcons Syntax.tnil (Syntax.ttcons Syntax.tnil (Syntax.ttcons Syntax.tnil (Syntax.ttcons (Syntax.tcons (Syntax.tyEnum (List._∷_ 116 (List._∷_ 101 (List._∷_ 120 (List._∷_ 116 (List._∷_ 95 (List._∷_ 104 (List._∷_ 101 (List._∷_ 97 (List._∷_ 100 (List._∷_ 105 (List._∷_ 110 (List._∷_ 103 (List._∷_ 58 (List._∷_ 58 (List._∷_ 87 (List._∷_ 111 (List._∷_ 114 (List._∷_ 100 List.[])))))))))))))))))) (Syntax.ttcons Syntax.tnil (Syntax.ttcons Syntax.tnil (Syntax.ttcons Syntax.tnil (Syntax.ttcons Syntax.tnil (Syntax.ttcons Syntax.tnil Syntax.ttnil)))))) Syntax.tnil) Syntax.ttnil)))))) Syntax.tnil) (Syntax.ttcons Syntax.tnil (Syntax.ttcons Syntax.tnil Syntax.ttnil)))) Syntax.tnil) Syntax.ttnil)))))))) (Syntax.tcons (Syntax.tyArray (Syntax.tyInt Syntax.w8) 32) (Syntax.tcons (Syntax.tyInt Syntax.w64) Syntax.tnil)))))) Path'.refl)) d16
 
           d18 : Typed.Typed 𝓤 H A 𝓣 E G51 b24 Δ1 (at18 bs)
           d18 = Typed.g-pre 𝓤 H A W 𝓣 E G51 G52 b24 Δ1 (Typed.pass T51 T52 (s49 bs)) (at17 bs) (Scalar.g-room 𝓤 H A W E G51 7 (Laws.mir) (Local.room-whole 𝓤 H A W (Declared.row Turn.the-type) (Laws.mir) Path'.refl)) d17
@@ -1492,7 +1492,7 @@ module _ (claims· : Claims) where
           d30 = Typed.g-pre 𝓤 H A W 𝓣 E G39 G40 b32 Δ1 (λ Ψ. Ψ) (at29 bs) (Lifetime.g-begin 𝓤 H A W E G39 10 (tt, (tt, (tt, (tt, (tt, (tt, (tt, (tt, (tt, (tt, (tt, (tt, (tt, (tt, (tt, (tt, (tt, (tt, (tt, (tt, (tt, (tt, (tt, (tt, (tt, (tt, (tt, (tt, (tt, (tt, (tt, (tt, (tt, tt)))))))))))))))))))))))))))))))))) d29
 
           d31 : Typed.Typed 𝓤 H A 𝓣 E G38 b33 Δ1 (at31 bs)
-          d31 = Typed.s-seq 𝓤 H A W 𝓣 E G38 G39 b11 b32 Δ1 (Typed.both (s36 bs)) (at30 bs) (WayStmt.t-way-copy-out 𝓤 H A W E 𝓣 (Declared.row Reader.the-type) Path'.refl (Copies.cStruct Reader.the-type Laws'.the-laws Laws'.the-copy .copy 𝓤 H A W) (λ ρ. Unit) G38 (Row.out 7 (G38 .locals)) (λ u. Row.drop 7 (G38 .locals) u) (G38 .slots) 7 (λ t. List._∷_ (Syntax.field 0) t) (Syntax.tyStruct (List._∷_ 116 (List._∷_ 101 (List._∷_ 120 (List._∷_ 116 (List._∷_ 95 (List._∷_ 114 (List._∷_ 101 (List._∷_ 97 (List._∷_ 100 (List._∷_ 105 (List._∷_ 110 (List._∷_ 103 (List._∷_ 58 (List._∷_ 58 (List._∷_ 82 (List._∷_ 101 (List._∷_ 97 (List._∷_ 100 (List._∷_ 101 (List._∷_ 114 List.[])))))))))))))))))))) (Syntax.tcons Syntax.tyBool (Syntax.tcons (Syntax.tyInt Syntax.w64) (Syntax.tcons (Syntax.tyEnum (List._∷_ 116 (List._∷_ 101 (List._∷_ 120 (List._∷_ 116 (List._∷_ 95 (List._∷_ 114 (List._∷_ 101 (List._∷_ 97 (List._∷_ 100 (List._∷_ 105 (List._∷_ 110 (List._∷_ 103 (List._∷_ 58 (List._∷_ 58 (List._∷_ 72 (List._∷_ 101 (List._∷_ 108 (List._∷_ 100 List.[])))))))))))))))))) (Syntax.ttcons Syntax.tnil (Syntax.ttcons Syntax.tnil (Syntax.ttcons (Syntax.tcons (Syntax.tyStruct (List._∷_ 116 (List._∷_ 101 (List._∷_ 120 (List._∷_ 116 (List._∷_ 95 (List._∷_ 104 (List._∷_ 101 (List._∷_ 97 (List._∷_ 100 (List._∷_ 105 (List._∷_ 110 (List._∷_ 103 (List._∷_ 58 (List._∷_ 58 (List._∷_ 72 (List._∷_ 101 (List._∷_ 97 (List._∷_ 100 (List._∷_ 105 (List._∷_ 110 (List._∷_ 103 List.[]))))))))))))))))))))) (Syntax.tcons (IsParameters.mir) (Syntax.tcons (Syntax.tyStruct (List._∷_ 116 (List._∷_ 101 (List._∷_ 120 (List._∷_ 116 (List._∷_ 95 (List._∷_ 104 (List._∷_ 101 (List._∷_ 97 (List._∷_ 100 (List._∷_ 105 (List._∷_ 110 (List._∷_ 103 (List._∷_ 58 (List._∷_ 58 (List._∷_ 67 (List._∷_ 97 (List._∷_ 109 (List._∷_ 101 List.[])))))))))))))))))) (Syntax.tcons Syntax.tyBool (Syntax.tcons Syntax.tyBool (Syntax.tcons Syntax.tyBool Syntax.tnil)))) (Syntax.tcons (Syntax.tyEnum (List._∷_ 116 (List._∷_ 101 (List._∷_ 120 (List._∷_ 116 (List._∷_ 95 (List._∷_ 104 (List._∷_ 101 (List._∷_ 97 (List._∷_ 100 (List._∷_ 105 (List._∷_ 110 (List._∷_ 103 (List._∷_ 58 (List._∷_ 58 (List._∷_ 80 (List._∷_ 108 (List._∷_ 97 (List._∷_ 99 (List._∷_ 101 List.[]))))))))))))))))))) (Syntax.ttcons (Syntax.tcons (Syntax.tyEnum (List._∷_ 116 (List._∷_ 101 (List._∷_ 120 (List._∷_ 116 (List._∷_ 95 (List._∷_ 104 (List._∷_ 101 (List._∷_ 97 (List._∷_ 100 (List._∷_ 105 (List._∷_ 110 (List._∷_ 103 (List._∷_ 58 (List._∷_ 58 (List._∷_ 87 (List._∷_ 111 (List._∷_ 114 (List._∷_ 100 List.[])))))))))))))))))) (Syntax.ttcons Syntax.tnil (Syntax.ttcons Syntax.tnil (Syntax.ttcons Syntax.tnil (Syntax.ttcons Syntax.tnil Syntax.ttnil))))) (Syntax.tcons (Syntax.tyInt Syntax.w8) Syntax.tnil)) (Syntax.ttcons (Syntax.tcons (Syntax.tyEnum (List._∷_ 116 (List._∷_ 101 (List._∷_ 120 (List._∷_ 116 (List._∷_ 95 (List._∷_ 104 (List._∷_ 101 (List._∷_ 97 (List._∷_ 100 (List._∷_ 105 (List._∷_ 110 (List._∷_ 103 (List._∷_ 58 (List._∷_ 58 (List._∷_ 87 (List._∷_ 111 (List._∷_ 114 (List._∷_ 100 List.[])))))))))))))))))) (Syntax.ttcons Syntax.tnil (Syntax.ttcons Syntax.tnil (Syntax.ttcons Syntax.tnil (Syntax.ttcons Syntax.tnil Syntax.ttnil))))) Syntax.tnil) (Syntax.ttcons (Syntax.tcons (Syntax.tyEnum (List._∷_ 116 (List._∷_ 101 (List._∷_ 120 (List._∷_ 116 (List._∷_ 95 (List._∷_ 104 (List._∷_ 101 (List._∷_ 97 (List._∷_ 100 (List._∷_ 105 (List._∷_ 110 (List._∷_ 103 (List._∷_ 58 (List._∷_ 58 (List._∷_ 87 (List._∷_ 111 (List._∷_ 114 (List._∷_ 100 List.[])))))))))))))))))) (Syntax.ttcons Syntax.tnil (Syntax.ttcons Syntax.tnil (Syntax.ttcons Syntax.tnil (Syntax.ttcons Syntax.tnil Syntax.ttnil))))) Syntax.tnil) (Syntax.ttcons Syntax.tnil (Syntax.ttcons (Syntax.tcons (Syntax.tyEnum (List._∷_ 116 (List._∷_ 101 (List._∷_ 120 (List._∷_ 116 (List._∷_ 95 (List._∷_ 104 (List._∷_ 101 (List._∷_ 97 (List._∷_ 100 (List._∷_ 105 (List._∷_ 110 (List._∷_ 103 (List._∷_ 58 (List._∷_ 58 (List._∷_ 72 (List._∷_ 101 (List._∷_ 97 (List._∷_ 100 (List._∷_ 105 (List._∷_ 110 (List._∷_ 103 (List._∷_ 70 (List._∷_ 97 (List._∷_ 117 (List._∷_ 108 (List._∷_ 116 List.[])))))))))))))))))))))))))) (Syntax.ttcons Syntax.tnil (Syntax.ttcons Syntax.tnil (Syntax.ttcons Syntax.tnil (Syntax.ttcons (Syntax.tcons (Syntax.tyEnum (List._∷_ 116 (List._∷_ 101 (List._∷_ 120 (List._∷_ 116 (List._∷_ 95 (List._∷_ 104 (List._∷_ 101 (List._∷_ 97 (List._∷_ 100 (List._∷_ 105 (List._∷_ 110 (List._∷_ 103 (List._∷_ 58 (List._∷_ 58 (List._∷_ 87 (List._∷_ 111 (List._∷_ 114 (List._∷_ 100 List.[])))))))))))))))))) (Syntax.ttcons Syntax.tnil (Syntax.ttcons Syntax.tnil (Syntax.ttcons Syntax.tnil (Syntax.ttcons Syntax.tnil Syntax.ttnil))))) Syntax.tnil) Syntax.ttnil))))) Syntax.tnil) Syntax.ttnil)))))) Syntax.tnil)))) Syntax.tnil) (Syntax.ttcons Syntax.tnil (Syntax.ttcons (Syntax.tcons (Syntax.tyInt Syntax.w8) Syntax.tnil) (Syntax.ttcons Syntax.tnil (Syntax.ttcons (Syntax.tcons (Syntax.tyEnum (List._∷_ 116 (List._∷_ 101 (List._∷_ 120 (List._∷_ 116 (List._∷_ 95 (List._∷_ 114 (List._∷_ 101 (List._∷_ 97 (List._∷_ 100 (List._∷_ 105 (List._∷_ 110 (List._∷_ 103 (List._∷_ 58 (List._∷_ 58 (List._∷_ 70 (List._∷_ 97 (List._∷_ 117 (List._∷_ 108 (List._∷_ 116 List.[]))))))))))))))))))) (Syntax.ttcons (Syntax.tcons (Syntax.tyEnum (List._∷_ 116 (List._∷_ 101 (List._∷_ 120 (List._∷_ 116 (List._∷_ 95 (List._∷_ 104 (List._∷_ 101 (List._∷_ 97 (List._∷_ 100 (List._∷_ 105 (List._∷_ 110 (List._∷_ 103 (List._∷_ 58 (List._∷_ 58 (List._∷_ 72 (List._∷_ 101 (List._∷_ 97 (List._∷_ 100 (List._∷_ 105 (List._∷_ 110 (List._∷_ 103 (List._∷_ 70 (List._∷_ 97 (List._∷_ 117 (List._∷_ 108 (List._∷_ 116 List.[])))))))))))))))))))))))))) (Syntax.ttcons Syntax.tnil (Syntax.ttcons Syntax.tnil (Syntax.ttcons Syntax.tnil (Syntax.ttcons (Syntax.tcons (Syntax.tyEnum (List._∷_ 116 (List._∷_ 101 (List._∷_ 120 (List._∷_ 116 (List._∷_ 95 (List._∷_ 104 (List._∷_ 101 (List._∷_ 97 (List._∷_ 100 (List._∷_ 105 (List._∷_ 110 (List._∷_ 103 (List._∷_ 58 (List._∷_ 58 (List._∷_ 87 (List._∷_ 111 (List._∷_ 114 (List._∷_ 100 List.[])))))))))))))))))) (Syntax.ttcons Syntax.tnil (Syntax.ttcons Syntax.tnil (Syntax.ttcons Syntax.tnil (Syntax.ttcons Syntax.tnil Syntax.ttnil))))) Syntax.tnil) Syntax.ttnil))))) Syntax.tnil) (Syntax.ttcons Syntax.tnil (Syntax.ttcons Syntax.tnil Syntax.ttnil)))) Syntax.tnil) Syntax.ttnil)))))))) (Syntax.tcons (Syntax.tyArray (Syntax.tyInt Syntax.w8) 32) (Syntax.tcons (Syntax.tyInt Syntax.w64) Syntax.tnil)))))) (Syntax.tyStruct (List._∷_ 116 (List._∷_ 101 (List._∷_ 120 (List._∷_ 116 (List._∷_ 95 (List._∷_ 114 (List._∷_ 101 (List._∷_ 97 (List._∷_ 100 (List._∷_ 105 (List._∷_ 110 (List._∷_ 103 (List._∷_ 58 (List._∷_ 58 (List._∷_ 82 (List._∷_ 101 (List._∷_ 97 (List._∷_ 100 (List._∷_ 101 (List._∷_ 114 List.[])))))))))))))))))))) (Syntax.tcons Syntax.tyBool (Syntax.tcons (Syntax.tyInt Syntax.w64) (Syntax.tcons (Syntax.tyEnum (List._∷_ 116 (List._∷_ 101 (List._∷_ 120 (List._∷_ 116 (List._∷_ 95 (List._∷_ 114 (List._∷_ 101 (List._∷_ 97 (List._∷_ 100 (List._∷_ 105 (List._∷_ 110 (List._∷_ 103 (List._∷_ 58 (List._∷_ 58 (List._∷_ 72 (List._∷_ 101 (List._∷_ 108 (List._∷_ 100 List.[])))))))))))))))))) (Syntax.ttcons Syntax.tnil (Syntax.ttcons Syntax.tnil (Syntax.ttcons (Syntax.tcons (Syntax.tyStruct (List._∷_ 116 (List._∷_ 101 (List._∷_ 120 (List._∷_ 116 (List._∷_ 95 (List._∷_ 104 (List._∷_ 101 (List._∷_ 97 (List._∷_ 100 (List._∷_ 105 (List._∷_ 110 (List._∷_ 103 (List._∷_ 58 (List._∷_ 58 (List._∷_ 72 (List._∷_ 101 (List._∷_ 97 (List._∷_ 100 (List._∷_ 105 (List._∷_ 110 (List._∷_ 103 List.[]))))))))))))))))))))) (Syntax.tcons (IsParameters.mir) (Syntax.tcons (Syntax.tyStruct (List._∷_ 116 (List._∷_ 101 (List._∷_ 120 (List._∷_ 116 (List._∷_ 95 (List._∷_ 104 (List._∷_ 101 (List._∷_ 97 (List._∷_ 100 (List._∷_ 105 (List._∷_ 110 (List._∷_ 103 (List._∷_ 58 (List._∷_ 58 (List._∷_ 67 (List._∷_ 97 (List._∷_ 109 (List._∷_ 101 List.[])))))))))))))))))) (Syntax.tcons Syntax.tyBool (Syntax.tcons Syntax.tyBool (Syntax.tcons Syntax.tyBool Syntax.tnil)))) (Syntax.tcons (Syntax.tyEnum (List._∷_ 116 (List._∷_ 101 (List._∷_ 120 (List._∷_ 116 (List._∷_ 95 (List._∷_ 104 (List._∷_ 101 (List._∷_ 97 (List._∷_ 100 (List._∷_ 105 (List._∷_ 110 (List._∷_ 103 (List._∷_ 58 (List._∷_ 58 (List._∷_ 80 (List._∷_ 108 (List._∷_ 97 (List._∷_ 99 (List._∷_ 101 List.[]))))))))))))))))))) (Syntax.ttcons (Syntax.tcons (Syntax.tyEnum (List._∷_ 116 (List._∷_ 101 (List._∷_ 120 (List._∷_ 116 (List._∷_ 95 (List._∷_ 104 (List._∷_ 101 (List._∷_ 97 (List._∷_ 100 (List._∷_ 105 (List._∷_ 110 (List._∷_ 103 (List._∷_ 58 (List._∷_ 58 (List._∷_ 87 (List._∷_ 111 (List._∷_ 114 (List._∷_ 100 List.[])))))))))))))))))) (Syntax.ttcons Syntax.tnil (Syntax.ttcons Syntax.tnil (Syntax.ttcons Syntax.tnil (Syntax.ttcons Syntax.tnil Syntax.ttnil))))) (Syntax.tcons (Syntax.tyInt Syntax.w8) Syntax.tnil)) (Syntax.ttcons (Syntax.tcons (Syntax.tyEnum (List._∷_ 116 (List._∷_ 101 (List._∷_ 120 (List._∷_ 116 (List._∷_ 95 (List._∷_ 104 (List._∷_ 101 (List._∷_ 97 (List._∷_ 100 (List._∷_ 105 (List._∷_ 110 (List._∷_ 103 (List._∷_ 58 (List._∷_ 58 (List._∷_ 87 (List._∷_ 111 (List._∷_ 114 (List._∷_ 100 List.[])))))))))))))))))) (Syntax.ttcons Syntax.tnil (Syntax.ttcons Syntax.tnil (Syntax.ttcons Syntax.tnil (Syntax.ttcons Syntax.tnil Syntax.ttnil))))) Syntax.tnil) (Syntax.ttcons (Syntax.tcons (Syntax.tyEnum (List._∷_ 116 (List._∷_ 101 (List._∷_ 120 (List._∷_ 116 (List._∷_ 95 (List._∷_ 104 (List._∷_ 101 (List._∷_ 97 (List._∷_ 100 (List._∷_ 105 (List._∷_ 110 (List._∷_ 103 (List._∷_ 58 (List._∷_ 58 (List._∷_ 87 (List._∷_ 111 (List._∷_ 114 (List._∷_ 100 List.[])))))))))))))))))) (Syntax.ttcons Syntax.tnil (Syntax.ttcons Syntax.tnil (Syntax.ttcons Syntax.tnil (Syntax.ttcons Syntax.tnil Syntax.ttnil))))) Syntax.tnil) (Syntax.ttcons Syntax.tnil (Syntax.ttcons (Syntax.tcons (Syntax.tyEnum (List._∷_ 116 (List._∷_ 101 (List._∷_ 120 (List._∷_ 116 (List._∷_ 95 (List._∷_ 104 (List._∷_ 101 (List._∷_ 97 (List._∷_ 100 (List._∷_ 105 (List._∷_ 110 (List._∷_ 103 (List._∷_ 58 (List._∷_ 58 (List._∷_ 72 (List._∷_ 101 (List._∷_ 97 (List._∷_ 100 (List._∷_ 105 (List._∷_ 110 (List._∷_ 103 (List._∷_ 70 (List._∷_ 97 (List._∷_ 117 (List._∷_ 108 (List._∷_ 116 List.[])))))))))))))))))))))))))) (Syntax.ttcons Syntax.tnil (Syntax.ttcons Syntax.tnil (Syntax.ttcons Syntax.tnil (Syntax.ttcons (Syntax.tcons (Syntax.tyEnum (List._∷_ 116 (List._∷_ 101 (List._∷_ 120 (List._∷_ 116 (List._∷_ 95 (List._∷_ 104 (List._∷_ 101 (List._∷_ 97 (List._∷_ 100 (List._∷_ 105 (List._∷_ 110 (List._∷_ 103 (List._∷_ 58 (List._∷_ 58 (List._∷_ 87 (List._∷_ 111 (List._∷_ 114 (List._∷_ 100 List.[])))))))))))))))))) (Syntax.ttcons Syntax.tnil (Syntax.ttcons Syntax.tnil (Syntax.ttcons Syntax.tnil (Syntax.ttcons Syntax.tnil Syntax.ttnil))))) Syntax.tnil) Syntax.ttnil))))) Syntax.tnil) Syntax.ttnil)))))) Syntax.tnil)))) Syntax.tnil) (Syntax.ttcons Syntax.tnil (Syntax.ttcons (Syntax.tcons (Syntax.tyInt Syntax.w8) Syntax.tnil) (Syntax.ttcons Syntax.tnil (Syntax.ttcons (Syntax.tcons (Syntax.tyEnum (List._∷_ 116 (List._∷_ 101 (List._∷_ 120 (List._∷_ 116 (List._∷_ 95 (List._∷_ 114 (List._∷_ 101 (List._∷_ 97 (List._∷_ 100 (List._∷_ 105 (List._∷_ 110 (List._∷_ 103 (List._∷_ 58 (List._∷_ 58 (List._∷_ 70 (List._∷_ 97 (List._∷_ 117 (List._∷_ 108 (List._∷_ 116 List.[]))))))))))))))))))) (Syntax.ttcons (Syntax.tcons (Syntax.tyEnum (List._∷_ 116 (List._∷_ 101 (List._∷_ 120 (List._∷_ 116 (List._∷_ 95 (List._∷_ 104 (List._∷_ 101 (List._∷_ 97 (List._∷_ 100 (List._∷_ 105 (List._∷_ 110 (List._∷_ 103 (List._∷_ 58 (List._∷_ 58 (List._∷_ 72 (List._∷_ 101 (List._∷_ 97 (List._∷_ 100 (List._∷_ 105 (List._∷_ 110 (List._∷_ 103 (List._∷_ 70 (List._∷_ 97 (List._∷_ 117 (List._∷_ 108 (List._∷_ 116 List.[])))))))))))))))))))))))))) (Syntax.ttcons Syntax.tnil (Syntax.ttcons Syntax.tnil (Syntax.ttcons Syntax.tnil (Syntax.ttcons (Syntax.tcons (Syntax.tyEnum (List._∷_ 116 (List._∷_ 101 (List._∷_ 120 (List._∷_ 116 (List._∷_ 95 (List._∷_ 104 (List._∷_ 101 (List._∷_ 97 (List._∷_ 100 (List._∷_ 105 (List._∷_ 110 (List._∷_ 103 (List._∷_ 58 (List._∷_ 58 (List._∷_ 87 (List._∷_ 111 (List._∷_ 114 (List._∷_ 100 List.[])))))))))))))))))) (Syntax.ttcons Syntax.tnil (Syntax.ttcons Syntax.tnil (Syntax.ttcons Syntax.tnil (Syntax.ttcons Syntax.tnil Syntax.ttnil))))) Syntax.tnil) Syntax.ttnil))))) Syntax.tnil) (Syntax.ttcons Syntax.tnil (Syntax.ttcons Syntax.tnil Syntax.ttnil)))) Syntax.tnil) Syntax.ttnil)))))))) (Syntax.tcons (Syntax.tyArray (Syntax.tyInt Syntax.w8) 32) (Syntax.tcons (Syntax.tyInt Syntax.w64) Syntax.tnil)))))) 8 (Rows.whole (Declared.row Reader.the-type)) (λ x. x) (λ u. At.getAt (Turn.the-type .parts) 0 (Turn.struct .as-values (u .1 .1 .1 .1 .1 .1 .1 .0))) (λ u. (Row.hd 0 (Row.tl (Row.tl (Row.tl (Row.tl (Row.tl (Row.tl (Row.tl bs))))))), Nat._+_ 0 0)) (λ T′. record { locals = Row.setRow 7 (7, Rows.whole (Declared.row Turn.the-type)) T′; slots = G38 .slots }) (λ u T′ m′. Row.set 7 (7, Rows.whole (Declared.row Turn.the-type)) (u .1 .1 .1 .1 .1 .1 .1 .0) T′ m′) (λ u. Unit) (λ x. Unit) (Own.told-none 𝓤 H A (G38 .slots)) (DerefMove.learns-nothing 𝓤 H A (Declared.row Reader.the-type)) (λ ρ told u asked. Way'.w-partˢ 𝓤 H A W E (Declared.row Turn.the-type) (Declared.row Reader.the-type) (Laws.mir) (Syntax.tyStruct (List._∷_ 116 (List._∷_ 101 (List._∷_ 120 (List._∷_ 116 (List._∷_ 95 (List._∷_ 114 (List._∷_ 101 (List._∷_ 97 (List._∷_ 100 (List._∷_ 105 (List._∷_ 110 (List._∷_ 103 (List._∷_ 58 (List._∷_ 58 (List._∷_ 82 (List._∷_ 101 (List._∷_ 97 (List._∷_ 100 (List._∷_ 101 (List._∷_ 114 List.[])))))))))))))))))))) (Syntax.tcons Syntax.tyBool (Syntax.tcons (Syntax.tyInt Syntax.w64) (Syntax.tcons (Syntax.tyEnum (List._∷_ 116 (List._∷_ 101 (List._∷_ 120 (List._∷_ 116 (List._∷_ 95 (List._∷_ 114 (List._∷_ 101 (List._∷_ 97 (List._∷_ 100 (List._∷_ 105 (List._∷_ 110 (List._∷_ 103 (List._∷_ 58 (List._∷_ 58 (List._∷_ 72 (List._∷_ 101 (List._∷_ 108 (List._∷_ 100 List.[])))))))))))))))))) (Syntax.ttcons Syntax.tnil (Syntax.ttcons Syntax.tnil (Syntax.ttcons (Syntax.tcons (Syntax.tyStruct (List._∷_ 116 (List._∷_ 101 (List._∷_ 120 (List._∷_ 116 (List._∷_ 95 (List._∷_ 104 (List._∷_ 101 (List._∷_ 97 (List._∷_ 100 (List._∷_ 105 (List._∷_ 110 (List._∷_ 103 (List._∷_ 58 (List._∷_ 58 (List._∷_ 72 (List._∷_ 101 (List._∷_ 97 (List._∷_ 100 (List._∷_ 105 (List._∷_ 110 (List._∷_ 103 List.[]))))))))))))))))))))) (Syntax.tcons (IsParameters.mir) (Syntax.tcons (Syntax.tyStruct (List._∷_ 116 (List._∷_ 101 (List._∷_ 120 (List._∷_ 116 (List._∷_ 95 (List._∷_ 104 (List._∷_ 101 (List._∷_ 97 (List._∷_ 100 (List._∷_ 105 (List._∷_ 110 (List._∷_ 103 (List._∷_ 58 (List._∷_ 58 (List._∷_ 67 (List._∷_ 97 (List._∷_ 109 (List._∷_ 101 List.[])))))))))))))))))) (Syntax.tcons Syntax.tyBool (Syntax.tcons Syntax.tyBool (Syntax.tcons Syntax.tyBool Syntax.tnil)))) (Syntax.tcons (Syntax.tyEnum (List._∷_ 116 (List._∷_ 101 (List._∷_ 120 (List._∷_ 116 (List._∷_ 95 (List._∷_ 104 (List._∷_ 101 (List._∷_ 97 (List._∷_ 100 (List._∷_ 105 (List._∷_ 110 (List._∷_ 103 (List._∷_ 58 (List._∷_ 58 (List._∷_ 80 (List._∷_ 108 (List._∷_ 97 (List._∷_ 99 (List._∷_ 101 List.[]))))))))))))))))))) (Syntax.ttcons (Syntax.tcons (Syntax.tyEnum (List._∷_ 116 (List._∷_ 101 (List._∷_ 120 (List._∷_ 116 (List._∷_ 95 (List._∷_ 104 (List._∷_ 101 (List._∷_ 97 (List._∷_ 100 (List._∷_ 105 (List._∷_ 110 (List._∷_ 103 (List._∷_ 58 (List._∷_ 58 (List._∷_ 87 (List._∷_ 111 (List._∷_ 114 (List._∷_ 100 List.[])))))))))))))))))) (Syntax.ttcons Syntax.tnil (Syntax.ttcons Syntax.tnil (Syntax.ttcons Syntax.tnil (Syntax.ttcons Syntax.tnil Syntax.ttnil))))) (Syntax.tcons (Syntax.tyInt Syntax.w8) Syntax.tnil)) (Syntax.ttcons (Syntax.tcons (Syntax.tyEnum (List._∷_ 116 (List._∷_ 101 (List._∷_ 120 (List._∷_ 116 (List._∷_ 95 (List._∷_ 104 (List._∷_ 101 (List._∷_ 97 (List._∷_ 100 (List._∷_ 105 (List._∷_ 110 (List._∷_ 103 (List._∷_ 58 (List._∷_ 58 (List._∷_ 87 (List._∷_ 111 (List._∷_ 114 (List._∷_ 100 List.[])))))))))))))))))) (Syntax.ttcons Syntax.tnil (Syntax.ttcons Syntax.tnil (Syntax.ttcons Syntax.tnil (Syntax.ttcons Syntax.tnil Syntax.ttnil))))) Syntax.tnil) (Syntax.ttcons (Syntax.tcons (Syntax.tyEnum (List._∷_ 116 (List._∷_ 101 (List._∷_ 120 (List._∷_ 116 (List._∷_ 95 (List._∷_ 104 (List._∷_ 101 (List._∷_ 97 (List._∷_ 100 (List._∷_ 105 (List._∷_ 110 (List._∷_ 103 (List._∷_ 58 (List._∷_ 58 (List._∷_ 87 (List._∷_ 111 (List._∷_ 114 (List._∷_ 100 List.[])))))))))))))))))) (Syntax.ttcons Syntax.tnil (Syntax.ttcons Syntax.tnil (Syntax.ttcons Syntax.tnil (Syntax.ttcons Syntax.tnil Syntax.ttnil))))) Syntax.tnil) (Syntax.ttcons Syntax.tnil (Syntax.ttcons (Syntax.tcons (Syntax.tyEnum (List._∷_ 116 (List._∷_ 101 (List._∷_ 120 (List._∷_ 116 (List._∷_ 95 (List._∷_ 104 (List._∷_ 101 (List._∷_ 97 (List._∷_ 100 (List._∷_ 105 (List._∷_ 110 (List._∷_ 103 (List._∷_ 58 (List._∷_ 58 (List._∷_ 72 (List._∷_ 101 (List._∷_ 97 (List._∷_ 100 (List._∷_ 105 (List._∷_ 110 (List._∷_ 103 (List._∷_ 70 (List._∷_ 97 (List._∷_ 117 (List._∷_ 108 (List._∷_ 116 List.[])))))))))))))))))))))))))) (Syntax.ttcons Syntax.tnil (Syntax.ttcons Syntax.tnil (Syntax.ttcons Syntax.tnil (Syntax.ttcons (Syntax.tcons (Syntax.tyEnum (List._∷_ 116 (List._∷_ 101 (List._∷_ 120 (List._∷_ 116 (List._∷_ 95 (List._∷_ 104 (List._∷_ 101 (List._∷_ 97 (List._∷_ 100 (List._∷_ 105 (List._∷_ 110 (List._∷_ 103 (List._∷_ 58 (List._∷_ 58 (List._∷_ 87 (List._∷_ 111 (List._∷_ 114 (List._∷_ 100 List.[])))))))))))))))))) (Syntax.ttcons Syntax.tnil (Syntax.ttcons Syntax.tnil (Syntax.ttcons Syntax.tnil (Syntax.ttcons Syntax.tnil Syntax.ttnil))))) Syntax.tnil) Syntax.ttnil))))) Syntax.tnil) Syntax.ttnil)))))) Syntax.tnil)))) Syntax.tnil) (Syntax.ttcons Syntax.tnil (Syntax.ttcons (Syntax.tcons (Syntax.tyInt Syntax.w8) Syntax.tnil) (Syntax.ttcons Syntax.tnil (Syntax.ttcons (Syntax.tcons (Syntax.tyEnum (List._∷_ 116 (List._∷_ 101 (List._∷_ 120 (List._∷_ 116 (List._∷_ 95 (List._∷_ 114 (List._∷_ 101 (List._∷_ 97 (List._∷_ 100 (List._∷_ 105 (List._∷_ 110 (List._∷_ 103 (List._∷_ 58 (List._∷_ 58 (List._∷_ 70 (List._∷_ 97 (List._∷_ 117 (List._∷_ 108 (List._∷_ 116 List.[]))))))))))))))))))) (Syntax.ttcons (Syntax.tcons (Syntax.tyEnum (List._∷_ 116 (List._∷_ 101 (List._∷_ 120 (List._∷_ 116 (List._∷_ 95 (List._∷_ 104 (List._∷_ 101 (List._∷_ 97 (List._∷_ 100 (List._∷_ 105 (List._∷_ 110 (List._∷_ 103 (List._∷_ 58 (List._∷_ 58 (List._∷_ 72 (List._∷_ 101 (List._∷_ 97 (List._∷_ 100 (List._∷_ 105 (List._∷_ 110 (List._∷_ 103 (List._∷_ 70 (List._∷_ 97 (List._∷_ 117 (List._∷_ 108 (List._∷_ 116 List.[])))))))))))))))))))))))))) (Syntax.ttcons Syntax.tnil (Syntax.ttcons Syntax.tnil (Syntax.ttcons Syntax.tnil (Syntax.ttcons (Syntax.tcons (Syntax.tyEnum (List._∷_ 116 (List._∷_ 101 (List._∷_ 120 (List._∷_ 116 (List._∷_ 95 (List._∷_ 104 (List._∷_ 101 (List._∷_ 97 (List._∷_ 100 (List._∷_ 105 (List._∷_ 110 (List._∷_ 103 (List._∷_ 58 (List._∷_ 58 (List._∷_ 87 (List._∷_ 111 (List._∷_ 114 (List._∷_ 100 List.[])))))))))))))))))) (Syntax.ttcons Syntax.tnil (Syntax.ttcons Syntax.tnil (Syntax.ttcons Syntax.tnil (Syntax.ttcons Syntax.tnil Syntax.ttnil))))) Syntax.tnil) Syntax.ttnil))))) Syntax.tnil) (Syntax.ttcons Syntax.tnil (Syntax.ttcons Syntax.tnil Syntax.ttnil)))) Syntax.tnil) Syntax.ttnil)))))))) (Syntax.tcons (Syntax.tyArray (Syntax.tyInt Syntax.w8) 32) (Syntax.tcons (Syntax.tyInt Syntax.w64) Syntax.tnil)))))) 0 0 (u .1 .1 .1 .1 .1 .1 .1 .0) (At.getAt (Turn.the-type .parts) 0 (Turn.struct .as-values (u .1 .1 .1 .1 .1 .1 .1 .0))) (Row.hd 0 (Row.tl (Row.tl (Row.tl (Row.tl (Row.tl (Row.tl (Row.tl bs))))))), 0) (Way.w-look 𝓤 H A W E (Way.w-local 𝓤 H A W E G38 ρ u (G38 .slots) 7 (Declared.row Turn.the-type) (Rows.whole (Declared.row Turn.the-type)) (λ x. x) (λ x. x) (u .1 .1 .1 .1 .1 .1 .1 .0) (Local.mem-whole 𝓤 H A W (Declared.row Turn.the-type) ρ (u .1 .1 .1 .1 .1 .1 .1 .0) (Row.hd 0 (Row.tl (Row.tl (Row.tl (Row.tl (Row.tl (Row.tl (Row.tl bs))))))))) (Local.whole-mem 𝓤 H A W (Declared.row Turn.the-type) ρ (u .1 .1 .1 .1 .1 .1 .1 .0) (Row.hd 0 (Row.tl (Row.tl (Row.tl (Row.tl (Row.tl (Row.tl (Row.tl bs))))))))))) Path'.refl λ q. Inner.cut-record 𝓤 H A q (Declared.row Turn.the-type) Reader.the-type 0 (u .1 .1 .1 .1 .1 .1 .1 .0) (u .1 .1 .1 .1 .1 .1 .1 .0) (At.getAt (Turn.the-type .parts) 0 (Turn.struct .as-values (u .1 .1 .1 .1 .1 .1 .1 .0))) (At.getAt (Turn.the-type .parts) 0 (Turn.struct .as-values (u .1 .1 .1 .1 .1 .1 .1 .0))) (Row.hd 0 (Row.tl (Row.tl (Row.tl (Row.tl (Row.tl (Row.tl (Row.tl bs))))))), 0) (Behind.look-at 𝓤 H A W q Turn.the-type Laws.the-laws 0 0 Path'.refl Path'.refl (Row.hd 0 (Row.tl (Row.tl (Row.tl (Row.tl (Row.tl (Row.tl (Row.tl bs))))))), 0) (u .1 .1 .1 .1 .1 .1 .1 .0) (Turn.struct .as-values (u .1 .1 .1 .1 .1 .1 .1 .0)) Path'.refl)) (Reads'.room-gone 𝓤 H A (Syntax.tyStruct (List._∷_ 116 (List._∷_ 101 (List._∷_ 120 (List._∷_ 116 (List._∷_ 95 (List._∷_ 114 (List._∷_ 101 (List._∷_ 97 (List._∷_ 100 (List._∷_ 105 (List._∷_ 110 (List._∷_ 103 (List._∷_ 58 (List._∷_ 58 (List._∷_ 82 (List._∷_ 101 (List._∷_ 97 (List._∷_ 100 (List._∷_ 101 (List._∷_ 114 List.[])))))))))))))))))))) (Syntax.tcons Syntax.tyBool (Syntax.tcons (Syntax.tyInt Syntax.w64) (Syntax.tcons (Syntax.tyEnum (List._∷_ 116 (List._∷_ 101 (List._∷_ 120 (List._∷_ 116 (List._∷_ 95 (List._∷_ 114 (List._∷_ 101 (List._∷_ 97 (List._∷_ 100 (List._∷_ 105 (List._∷_ 110 (List._∷_ 103 (List._∷_ 58 (List._∷_ 58 (List._∷_ 72 (List._∷_ 101 (List._∷_ 108 (List._∷_ 100 List.[])))))))))))))))))) (Syntax.ttcons Syntax.tnil (Syntax.ttcons Syntax.tnil (Syntax.ttcons (Syntax.tcons (Syntax.tyStruct (List._∷_ 116 (List._∷_ 101 (List._∷_ 120 (List._∷_ 116 (List._∷_ 95 (List._∷_ 104 (List._∷_ 101 (List._∷_ 97 (List._∷_ 100 (List._∷_ 105 (List._∷_ 110 (List._∷_ 103 (List._∷_ 58 (List._∷_ 58 (List._∷_ 72 (List._∷_ 101 (List._∷_ 97 (List._∷_ 100 (List._∷_ 105 (List._∷_ 110 (List._∷_ 103 List.[]))))))))))))))))))))) (Syntax.tcons (IsParameters.mir) (Syntax.tcons (Syntax.tyStruct (List._∷_ 116 (List._∷_ 101 (List._∷_ 120 (List._∷_ 116 (List._∷_ 95 (List._∷_ 104 (List._∷_ 101 (List._∷_ 97 (List._∷_ 100 (List._∷_ 105 (List._∷_ 110 (List._∷_ 103 (List._∷_ 58 (List._∷_ 58 (List._∷_ 67 (List._∷_ 97 (List._∷_ 109 (List._∷_ 101 List.[])))))))))))))))))) (Syntax.tcons Syntax.tyBool (Syntax.tcons Syntax.tyBool (Syntax.tcons Syntax.tyBool Syntax.tnil)))) (Syntax.tcons (Syntax.tyEnum (List._∷_ 116 (List._∷_ 101 (List._∷_ 120 (List._∷_ 116 (List._∷_ 95 (List._∷_ 104 (List._∷_ 101 (List._∷_ 97 (List._∷_ 100 (List._∷_ 105 (List._∷_ 110 (List._∷_ 103 (List._∷_ 58 (List._∷_ 58 (List._∷_ 80 (List._∷_ 108 (List._∷_ 97 (List._∷_ 99 (List._∷_ 101 List.[]))))))))))))))))))) (Syntax.ttcons (Syntax.tcons (Syntax.tyEnum (List._∷_ 116 (List._∷_ 101 (List._∷_ 120 (List._∷_ 116 (List._∷_ 95 (List._∷_ 104 (List._∷_ 101 (List._∷_ 97 (List._∷_ 100 (List._∷_ 105 (List._∷_ 110 (List._∷_ 103 (List._∷_ 58 (List._∷_ 58 (List._∷_ 87 (List._∷_ 111 (List._∷_ 114 (List._∷_ 100 List.[])))))))))))))))))) (Syntax.ttcons Syntax.tnil (Syntax.ttcons Syntax.tnil (Syntax.ttcons Syntax.tnil (Syntax.ttcons Syntax.tnil Syntax.ttnil))))) (Syntax.tcons (Syntax.tyInt Syntax.w8) Syntax.tnil)) (Syntax.ttcons (Syntax.tcons (Syntax.tyEnum (List._∷_ 116 (List._∷_ 101 (List._∷_ 120 (List._∷_ 116 (List._∷_ 95 (List._∷_ 104 (List._∷_ 101 (List._∷_ 97 (List._∷_ 100 (List._∷_ 105 (List._∷_ 110 (List._∷_ 103 (List._∷_ 58 (List._∷_ 58 (List._∷_ 87 (List._∷_ 111 (List._∷_ 114 (List._∷_ 100 List.[])))))))))))))))))) (Syntax.ttcons Syntax.tnil (Syntax.ttcons Syntax.tnil (Syntax.ttcons Syntax.tnil (Syntax.ttcons Syntax.tnil Syntax.ttnil))))) Syntax.tnil) (Syntax.ttcons (Syntax.tcons (Syntax.tyEnum (List._∷_ 116 (List._∷_ 101 (List._∷_ 120 (List._∷_ 116 (List._∷_ 95 (List._∷_ 104 (List._∷_ 101 (List._∷_ 97 (List._∷_ 100 (List._∷_ 105 (List._∷_ 110 (List._∷_ 103 (List._∷_ 58 (List._∷_ 58 (List._∷_ 87 (List._∷_ 111 (List._∷_ 114 (List._∷_ 100 List.[])))))))))))))))))) (Syntax.ttcons Syntax.tnil (Syntax.ttcons Syntax.tnil (Syntax.ttcons Syntax.tnil (Syntax.ttcons Syntax.tnil Syntax.ttnil))))) Syntax.tnil) (Syntax.ttcons Syntax.tnil (Syntax.ttcons (Syntax.tcons (Syntax.tyEnum (List._∷_ 116 (List._∷_ 101 (List._∷_ 120 (List._∷_ 116 (List._∷_ 95 (List._∷_ 104 (List._∷_ 101 (List._∷_ 97 (List._∷_ 100 (List._∷_ 105 (List._∷_ 110 (List._∷_ 103 (List._∷_ 58 (List._∷_ 58 (List._∷_ 72 (List._∷_ 101 (List._∷_ 97 (List._∷_ 100 (List._∷_ 105 (List._∷_ 110 (List._∷_ 103 (List._∷_ 70 (List._∷_ 97 (List._∷_ 117 (List._∷_ 108 (List._∷_ 116 List.[])))))))))))))))))))))))))) (Syntax.ttcons Syntax.tnil (Syntax.ttcons Syntax.tnil (Syntax.ttcons Syntax.tnil (Syntax.ttcons (Syntax.tcons (Syntax.tyEnum (List._∷_ 116 (List._∷_ 101 (List._∷_ 120 (List._∷_ 116 (List._∷_ 95 (List._∷_ 104 (List._∷_ 101 (List._∷_ 97 (List._∷_ 100 (List._∷_ 105 (List._∷_ 110 (List._∷_ 103 (List._∷_ 58 (List._∷_ 58 (List._∷_ 87 (List._∷_ 111 (List._∷_ 114 (List._∷_ 100 List.[])))))))))))))))))) (Syntax.ttcons Syntax.tnil (Syntax.ttcons Syntax.tnil (Syntax.ttcons Syntax.tnil (Syntax.ttcons Syntax.tnil Syntax.ttnil))))) Syntax.tnil) Syntax.ttnil))))) Syntax.tnil) Syntax.ttnil)))))) Syntax.tnil)))) Syntax.tnil) (Syntax.ttcons Syntax.tnil (Syntax.ttcons (Syntax.tcons (Syntax.tyInt Syntax.w8) Syntax.tnil) (Syntax.ttcons Syntax.tnil (Syntax.ttcons (Syntax.tcons (Syntax.tyEnum (List._∷_ 116 (List._∷_ 101 (List._∷_ 120 (List._∷_ 116 (List._∷_ 95 (List._∷_ 114 (List._∷_ 101 (List._∷_ 97 (List._∷_ 100 (List._∷_ 105 (List._∷_ 110 (List._∷_ 103 (List._∷_ 58 (List._∷_ 58 (List._∷_ 70 (List._∷_ 97 (List._∷_ 117 (List._∷_ 108 (List._∷_ 116 List.[]))))))))))))))))))) (Syntax.ttcons (Syntax.tcons (Syntax.tyEnum (List._∷_ 116 (List._∷_ 101 (List._∷_ 120 (List._∷_ 116 (List._∷_ 95 (List._∷_ 104 (List._∷_ 101 (List._∷_ 97 (List._∷_ 100 (List._∷_ 105 (List._∷_ 110 (List._∷_ 103 (List._∷_ 58 (List._∷_ 58 (List._∷_ 72 (List._∷_ 101 (List._∷_ 97 (List._∷_ 100 (List._∷_ 105 (List._∷_ 110 (List._∷_ 103 (List._∷_ 70 (List._∷_ 97 (List._∷_ 117 (List._∷_ 108 (List._∷_ 116 List.[])))))))))))))))))))))))))) (Syntax.ttcons Syntax.tnil (Syntax.ttcons Syntax.tnil (Syntax.ttcons Syntax.tnil (Syntax.ttcons (Syntax.tcons (Syntax.tyEnum (List._∷_ 116 (List._∷_ 101 (List._∷_ 120 (List._∷_ 116 (List._∷_ 95 (List._∷_ 104 (List._∷_ 101 (List._∷_ 97 (List._∷_ 100 (List._∷_ 105 (List._∷_ 110 (List._∷_ 103 (List._∷_ 58 (List._∷_ 58 (List._∷_ 87 (List._∷_ 111 (List._∷_ 114 (List._∷_ 100 List.[])))))))))))))))))) (Syntax.ttcons Syntax.tnil (Syntax.ttcons Syntax.tnil (Syntax.ttcons Syntax.tnil (Syntax.ttcons Syntax.tnil Syntax.ttnil))))) Syntax.tnil) Syntax.ttnil))))) Syntax.tnil) (Syntax.ttcons Syntax.tnil (Syntax.ttcons Syntax.tnil Syntax.ttnil)))) Syntax.tnil) Syntax.ttnil)))))))) (Syntax.tcons (Syntax.tyArray (Syntax.tyInt Syntax.w8) 32) (Syntax.tcons (Syntax.tyInt Syntax.w64) Syntax.tnil))))))) (Yields.makes-mem 𝓤 H A W (λ ρ. Unit) (Declared.row Reader.the-type) Path'.refl (Rows.whole (Declared.row Reader.the-type)) (λ x. x) λ ρ told. Local.whole-mem 𝓤 H A W (Declared.row Reader.the-type) ρ) Path'.refl Path'.refl Path'.refl) d30
+          d31 = Typed.s-seq 𝓤 H A W 𝓣 E G38 G39 b11 b32 Δ1 (Typed.both (s36 bs)) (at30 bs) (WayStmt.t-way-copy-out 𝓤 H A W E 𝓣 (Declared.row Reader.the-type) Path'.refl (Copies.cStruct Reader.the-type Laws'.the-laws Laws'.the-copy .copy 𝓤 H A W) (λ ρ. Unit) G38 (Row.out 7 (G38 .locals)) (λ u. Row.drop 7 (G38 .locals) u) (G38 .slots) 7 (λ t. List._∷_ (Syntax.field 0) t) (Syntax.tyStruct (List._∷_ 116 (List._∷_ 101 (List._∷_ 120 (List._∷_ 116 (List._∷_ 95 (List._∷_ 114 (List._∷_ 101 (List._∷_ 97 (List._∷_ 100 (List._∷_ 105 (List._∷_ 110 (List._∷_ 103 (List._∷_ 58 (List._∷_ 58 (List._∷_ 82 (List._∷_ 101 (List._∷_ 97 (List._∷_ 100 (List._∷_ 101 (List._∷_ 114 List.[])))))))))))))))))))) (Syntax.tcons Syntax.tyBool (Syntax.tcons (Syntax.tyInt Syntax.w64) (Syntax.tcons (Syntax.tyEnum (List._∷_ 116 (List._∷_ 101 (List._∷_ 120 (List._∷_ 116 (List._∷_ 95 (List._∷_ 114 (List._∷_ 101 (List._∷_ 97 (List._∷_ 100 (List._∷_ 105 (List._∷_ 110 (List._∷_ 103 (List._∷_ 58 (List._∷_ 58 (List._∷_ 72 (List._∷_ 101 (List._∷_ 108 (List._∷_ 100 List.[])))))))))))))))))) (Syntax.ttcons Syntax.tnil (Syntax.ttcons Syntax.tnil (Syntax.ttcons (Syntax.tcons (Syntax.tyStruct (List._∷_ 116 (List._∷_ 101 (List._∷_ 120 (List._∷_ 116 (List._∷_ 95 (List._∷_ 104 (List._∷_ 101 (List._∷_ 97 (List._∷_ 100 (List._∷_ 105 (List._∷_ 110 (List._∷_ 103 (List._∷_ 58 (List._∷_ 58 (List._∷_ 72 (List._∷_ 101 (List._∷_ 97 (List._∷_ 100 (List._∷_ 105 (List._∷_ 110 (List._∷_ 103 List.[]))))))))))))))))))))) (Syntax.tcons (Syntax.tyStruct (List._∷_ 116 (List._∷_ 101 (List._∷_ 120 (List._∷_ 116 (List._∷_ 95 (List._∷_ 104 (List._∷_ 101 (List._∷_ 97 (List._∷_ 100 (List._∷_ 105 (List._∷_ 110 (List._∷_ 103 (List._∷_ 58 (List._∷_ 58 (List._∷_ 78 (List._∷_ 97 (List._∷_ 109 (List._∷_ 101 (List._∷_ 100 List.[]))))))))))))))))))) (Syntax.tcons (IsParameters.mir) (Syntax.tcons (Syntax.tyInt Syntax.w32) Syntax.tnil))) (Syntax.tcons (Syntax.tyStruct (List._∷_ 116 (List._∷_ 101 (List._∷_ 120 (List._∷_ 116 (List._∷_ 95 (List._∷_ 104 (List._∷_ 101 (List._∷_ 97 (List._∷_ 100 (List._∷_ 105 (List._∷_ 110 (List._∷_ 103 (List._∷_ 58 (List._∷_ 58 (List._∷_ 67 (List._∷_ 97 (List._∷_ 109 (List._∷_ 101 List.[])))))))))))))))))) (Syntax.tcons Syntax.tyBool (Syntax.tcons Syntax.tyBool (Syntax.tcons Syntax.tyBool (Syntax.tcons Syntax.tyBool Syntax.tnil))))) (Syntax.tcons (Syntax.tyEnum (List._∷_ 116 (List._∷_ 101 (List._∷_ 120 (List._∷_ 116 (List._∷_ 95 (List._∷_ 104 (List._∷_ 101 (List._∷_ 97 (List._∷_ 100 (List._∷_ 105 (List._∷_ 110 (List._∷_ 103 (List._∷_ 58 (List._∷_ 58 (List._∷_ 80 (List._∷_ 108 (List._∷_ 97 (List._∷_ 99 (List._∷_ 101 List.[]))))))))))))))))))) (Syntax.ttcons (Syntax.tcons (Syntax.tyEnum (List._∷_ 116 (List._∷_ 101 (List._∷_ 120 (List._∷_ 116 (List._∷_ 95 (List._∷_ 104 (List._∷_ 101 (List._∷_ 97 (List._∷_ 100 (List._∷_ 105 (List._∷_ 110 (List._∷_ 103 (List._∷_ 58 (List._∷_ 58 (List._∷_ 87 (List._∷_ 111 (List._∷_ 114 (List._∷_ 100 List.[])))))))))))))))))) (Syntax.ttcons Syntax.tnil (Syntax.ttcons Syntax.tnil (Syntax.ttcons Syntax.tnil (Syntax.ttcons Syntax.tnil (Syntax.ttcons Syntax.tnil Syntax.ttnil)))))) (Syntax.tcons (Syntax.tyInt Syntax.w8) Syntax.tnil)) (Syntax.ttcons (Syntax.tcons (Syntax.tyEnum (List._∷_ 116 (List._∷_ 101 (List._∷_ 120 (List._∷_ 116 (List._∷_ 95 (List._∷_ 104 (List._∷_ 101 (List._∷_ 97 (List._∷_ 100 (List._∷_ 105 (List._∷_ 110 (List._∷_ 103 (List._∷_ 58 (List._∷_ 58 (List._∷_ 87 (List._∷_ 111 (List._∷_ 114 (List._∷_ 100 List.[])))))))))))))))))) (Syntax.ttcons Syntax.tnil (Syntax.ttcons Syntax.tnil (Syntax.ttcons Syntax.tnil (Syntax.ttcons Syntax.tnil (Syntax.ttcons Syntax.tnil Syntax.ttnil)))))) Syntax.tnil) (Syntax.ttcons (Syntax.tcons (Syntax.tyEnum (List._∷_ 116 (List._∷_ 101 (List._∷_ 120 (List._∷_ 116 (List._∷_ 95 (List._∷_ 104 (List._∷_ 101 (List._∷_ 97 (List._∷_ 100 (List._∷_ 105 (List._∷_ 110 (List._∷_ 103 (List._∷_ 58 (List._∷_ 58 (List._∷_ 87 (List._∷_ 111 (List._∷_ 114 (List._∷_ 100 List.[])))))))))))))))))) (Syntax.ttcons Syntax.tnil (Syntax.ttcons Syntax.tnil (Syntax.ttcons Syntax.tnil (Syntax.ttcons Syntax.tnil (Syntax.ttcons Syntax.tnil Syntax.ttnil)))))) (Syntax.tcons (Syntax.tyInt Syntax.w8) Syntax.tnil)) (Syntax.ttcons Syntax.tnil (Syntax.ttcons (Syntax.tcons (Syntax.tyEnum (List._∷_ 116 (List._∷_ 101 (List._∷_ 120 (List._∷_ 116 (List._∷_ 95 (List._∷_ 104 (List._∷_ 101 (List._∷_ 97 (List._∷_ 100 (List._∷_ 105 (List._∷_ 110 (List._∷_ 103 (List._∷_ 58 (List._∷_ 58 (List._∷_ 72 (List._∷_ 101 (List._∷_ 97 (List._∷_ 100 (List._∷_ 105 (List._∷_ 110 (List._∷_ 103 (List._∷_ 70 (List._∷_ 97 (List._∷_ 117 (List._∷_ 108 (List._∷_ 116 List.[])))))))))))))))))))))))))) (Syntax.ttcons Syntax.tnil (Syntax.ttcons Syntax.tnil (Syntax.ttcons Syntax.tnil (Syntax.ttcons Syntax.tnil (Syntax.ttcons (Syntax.tcons (Syntax.tyEnum (List._∷_ 116 (List._∷_ 101 (List._∷_ 120 (List._∷_ 116 (List._∷_ 95 (List._∷_ 104 (List._∷_ 101 (List._∷_ 97 (List._∷_ 100 (List._∷_ 105 (List._∷_ 110 (List._∷_ 103 (List._∷_ 58 (List._∷_ 58 (List._∷_ 87 (List._∷_ 111 (List._∷_ 114 (List._∷_ 100 List.[])))))))))))))))))) (Syntax.ttcons Syntax.tnil (Syntax.ttcons Syntax.tnil (Syntax.ttcons Syntax.tnil (Syntax.ttcons Syntax.tnil (Syntax.ttcons Syntax.tnil Syntax.ttnil)))))) Syntax.tnil) Syntax.ttnil)))))) Syntax.tnil) Syntax.ttnil)))))) Syntax.tnil)))) Syntax.tnil) (Syntax.ttcons Syntax.tnil (Syntax.ttcons (Syntax.tcons (Syntax.tyInt Syntax.w8) Syntax.tnil) (Syntax.ttcons Syntax.tnil (Syntax.ttcons (Syntax.tcons (Syntax.tyEnum (List._∷_ 116 (List._∷_ 101 (List._∷_ 120 (List._∷_ 116 (List._∷_ 95 (List._∷_ 114 (List._∷_ 101 (List._∷_ 97 (List._∷_ 100 (List._∷_ 105 (List._∷_ 110 (List._∷_ 103 (List._∷_ 58 (List._∷_ 58 (List._∷_ 70 (List._∷_ 97 (List._∷_ 117 (List._∷_ 108 (List._∷_ 116 List.[]))))))))))))))))))) (Syntax.ttcons (Syntax.tcons (Syntax.tyEnum (List._∷_ 116 (List._∷_ 101 (List._∷_ 120 (List._∷_ 116 (List._∷_ 95 (List._∷_ 104 (List._∷_ 101 (List._∷_ 97 (List._∷_ 100 (List._∷_ 105 (List._∷_ 110 (List._∷_ 103 (List._∷_ 58 (List._∷_ 58 (List._∷_ 72 (List._∷_ 101 (List._∷_ 97 (List._∷_ 100 (List._∷_ 105 (List._∷_ 110 (List._∷_ 103 (List._∷_ 70 (List._∷_ 97 (List._∷_ 117 (List._∷_ 108 (List._∷_ 116 List.[])))))))))))))))))))))))))) (Syntax.ttcons Syntax.tnil (Syntax.ttcons Syntax.tnil (Syntax.ttcons Syntax.tnil (Syntax.ttcons Syntax.tnil (Syntax.ttcons (Syntax.tcons (Syntax.tyEnum (List._∷_ 116 (List._∷_ 101 (List._∷_ 120 (List._∷_ 116 (List._∷_ 95 (List._∷_ 104 (List._∷_ 101 (List._∷_ 97 (List._∷_ 100 (List._∷_ 105 (List._∷_ 110 (List._∷_ 103 (List._∷_ 58 (List._∷_ 58 (List._∷_ 87 (List._∷_ 111 (List._∷_ 114 (List._∷_ 100 List.[])))))))))))))))))) (Syntax.ttcons Syntax.tnil (Syntax.ttcons Syntax.tnil (Syntax.ttcons Syntax.tnil (Syntax.ttcons Syntax.tnil (Syntax.ttcons Syntax.tnil Syntax.ttnil)))))) Syntax.tnil) Syntax.ttnil)))))) Syntax.tnil) (Syntax.ttcons Syntax.tnil (Syntax.ttcons Syntax.tnil Syntax.ttnil)))) Syntax.tnil) Syntax.ttnil)))))))) (Syntax.tcons (Syntax.tyArray (Syntax.tyInt Syntax.w8) 32) (Syntax.tcons (Syntax.tyInt Syntax.w64) Syntax.tnil)))))) (Syntax.tyStruct (List._∷_ 116 (List._∷_ 101 (List._∷_ 120 (List._∷_ 116 (List._∷_ 95 (List._∷_ 114 (List._∷_ 101 (List._∷_ 97 (List._∷_ 100 (List._∷_ 105 (List._∷_ 110 (List._∷_ 103 (List._∷_ 58 (List._∷_ 58 (List._∷_ 82 (List._∷_ 101 (List._∷_ 97 (List._∷_ 100 (List._∷_ 101 (List._∷_ 114 List.[])))))))))))))))))))) (Syntax.tcons Syntax.tyBool (Syntax.tcons (Syntax.tyInt Syntax.w64) (Syntax.tcons (Syntax.tyEnum (List._∷_ 116 (List._∷_ 101 (List._∷_ 120 (List._∷_ 116 (List._∷_ 95 (List._∷_ 114 (List._∷_ 101 (List._∷_ 97 (List._∷_ 100 (List._∷_ 105 (List._∷_ 110 (List._∷_ 103 (List._∷_ 58 (List._∷_ 58 (List._∷_ 72 (List._∷_ 101 (List._∷_ 108 (List._∷_ 100 List.[])))))))))))))))))) (Syntax.ttcons Syntax.tnil (Syntax.ttcons Syntax.tnil (Syntax.ttcons (Syntax.tcons (Syntax.tyStruct (List._∷_ 116 (List._∷_ 101 (List._∷_ 120 (List._∷_ 116 (List._∷_ 95 (List._∷_ 104 (List._∷_ 101 (List._∷_ 97 (List._∷_ 100 (List._∷_ 105 (List._∷_ 110 (List._∷_ 103 (List._∷_ 58 (List._∷_ 58 (List._∷_ 72 (List._∷_ 101 (List._∷_ 97 (List._∷_ 100 (List._∷_ 105 (List._∷_ 110 (List._∷_ 103 List.[]))))))))))))))))))))) (Syntax.tcons (Syntax.tyStruct (List._∷_ 116 (List._∷_ 101 (List._∷_ 120 (List._∷_ 116 (List._∷_ 95 (List._∷_ 104 (List._∷_ 101 (List._∷_ 97 (List._∷_ 100 (List._∷_ 105 (List._∷_ 110 (List._∷_ 103 (List._∷_ 58 (List._∷_ 58 (List._∷_ 78 (List._∷_ 97 (List._∷_ 109 (List._∷_ 101 (List._∷_ 100 List.[]))))))))))))))))))) (Syntax.tcons (IsParameters.mir) (Syntax.tcons (Syntax.tyInt Syntax.w32) Syntax.tnil))) (Syntax.tcons (Syntax.tyStruct (List._∷_ 116 (List._∷_ 101 (List._∷_ 120 (List._∷_ 116 (List._∷_ 95 (List._∷_ 104 (List._∷_ 101 (List._∷_ 97 (List._∷_ 100 (List._∷_ 105 (List._∷_ 110 (List._∷_ 103 (List._∷_ 58 (List._∷_ 58 (List._∷_ 67 (List._∷_ 97 (List._∷_ 109 (List._∷_ 101 List.[])))))))))))))))))) (Syntax.tcons Syntax.tyBool (Syntax.tcons Syntax.tyBool (Syntax.tcons Syntax.tyBool (Syntax.tcons Syntax.tyBool Syntax.tnil))))) (Syntax.tcons (Syntax.tyEnum (List._∷_ 116 (List._∷_ 101 (List._∷_ 120 (List._∷_ 116 (List._∷_ 95 (List._∷_ 104 (List._∷_ 101 (List._∷_ 97 (List._∷_ 100 (List._∷_ 105 (List._∷_ 110 (List._∷_ 103 (List._∷_ 58 (List._∷_ 58 (List._∷_ 80 (List._∷_ 108 (List._∷_ 97 (List._∷_ 99 (List._∷_ 101 List.[]))))))))))))))))))) (Syntax.ttcons (Syntax.tcons (Syntax.tyEnum (List._∷_ 116 (List._∷_ 101 (List._∷_ 120 (List._∷_ 116 (List._∷_ 95 (List._∷_ 104 (List._∷_ 101 (List._∷_ 97 (List._∷_ 100 (List._∷_ 105 (List._∷_ 110 (List._∷_ 103 (List._∷_ 58 (List._∷_ 58 (List._∷_ 87 (List._∷_ 111 (List._∷_ 114 (List._∷_ 100 List.[])))))))))))))))))) (Syntax.ttcons Syntax.tnil (Syntax.ttcons Syntax.tnil (Syntax.ttcons Syntax.tnil (Syntax.ttcons Syntax.tnil (Syntax.ttcons Syntax.tnil Syntax.ttnil)))))) (Syntax.tcons (Syntax.tyInt Syntax.w8) Syntax.tnil)) (Syntax.ttcons (Syntax.tcons (Syntax.tyEnum (List._∷_ 116 (List._∷_ 101 (List._∷_ 120 (List._∷_ 116 (List._∷_ 95 (List._∷_ 104 (List._∷_ 101 (List._∷_ 97 (List._∷_ 100 (List._∷_ 105 (List._∷_ 110 (List._∷_ 103 (List._∷_ 58 (List._∷_ 58 (List._∷_ 87 (List._∷_ 111 (List._∷_ 114 (List._∷_ 100 List.[])))))))))))))))))) (Syntax.ttcons Syntax.tnil (Syntax.ttcons Syntax.tnil (Syntax.ttcons Syntax.tnil (Syntax.ttcons Syntax.tnil (Syntax.ttcons Syntax.tnil Syntax.ttnil)))))) Syntax.tnil) (Syntax.ttcons (Syntax.tcons (Syntax.tyEnum (List._∷_ 116 (List._∷_ 101 (List._∷_ 120 (List._∷_ 116 (List._∷_ 95 (List._∷_ 104 (List._∷_ 101 (List._∷_ 97 (List._∷_ 100 (List._∷_ 105 (List._∷_ 110 (List._∷_ 103 (List._∷_ 58 (List._∷_ 58 (List._∷_ 87 (List._∷_ 111 (List._∷_ 114 (List._∷_ 100 List.[])))))))))))))))))) (Syntax.ttcons Syntax.tnil (Syntax.ttcons Syntax.tnil (Syntax.ttcons Syntax.tnil (Syntax.ttcons Syntax.tnil (Syntax.ttcons Syntax.tnil Syntax.ttnil)))))) (Syntax.tcons (Syntax.tyInt Syntax.w8) Syntax.tnil)) (Syntax.ttcons Syntax.tnil (Syntax.ttcons (Syntax.tcons (Syntax.tyEnum (List._∷_ 116 (List._∷_ 101 (List._∷_ 120 (List._∷_ 116 (List._∷_ 95 (List._∷_ 104 (List._∷_ 101 (List._∷_ 97 (List._∷_ 100 (List._∷_ 105 (List._∷_ 110 (List._∷_ 103 (List._∷_ 58 (List._∷_ 58 (List._∷_ 72 (List._∷_ 101 (List._∷_ 97 (List._∷_ 100 (List._∷_ 105 (List._∷_ 110 (List._∷_ 103 (List._∷_ 70 (List._∷_ 97 (List._∷_ 117 (List._∷_ 108 (List._∷_ 116 List.[])))))))))))))))))))))))))) (Syntax.ttcons Syntax.tnil (Syntax.ttcons Syntax.tnil (Syntax.ttcons Syntax.tnil (Syntax.ttcons Syntax.tnil (Syntax.ttcons (Syntax.tcons (Syntax.tyEnum (List._∷_ 116 (List._∷_ 101 (List._∷_ 120 (List._∷_ 116 (List._∷_ 95 (List._∷_ 104 (List._∷_ 101 (List._∷_ 97 (List._∷_ 100 (List._∷_ 105 (List._∷_ 110 (List._∷_ 103 (List._∷_ 58 (List._∷_ 58 (List._∷_ 87 (List._∷_ 111 (List._∷_ 114 (List._∷_ 100 List.[])))))))))))))))))) (Syntax.ttcons Syntax.tnil (Syntax.ttcons Syntax.tnil (Syntax.ttcons Syntax.tnil (Syntax.ttcons Syntax.tnil (Syntax.ttcons Syntax.tnil Syntax.ttnil)))))) Syntax.tnil) Syntax.ttnil)))))) Syntax.tnil) Syntax.ttnil)))))) Syntax.tnil)))) Syntax.tnil) (Syntax.ttcons Syntax.tnil (Syntax.ttcons (Syntax.tcons (Syntax.tyInt Syntax.w8) Syntax.tnil) (Syntax.ttcons Syntax.tnil (Syntax.ttcons (Syntax.tcons (Syntax.tyEnum (List._∷_ 116 (List._∷_ 101 (List._∷_ 120 (List._∷_ 116 (List._∷_ 95 (List._∷_ 114 (List._∷_ 101 (List._∷_ 97 (List._∷_ 100 (List._∷_ 105 (List._∷_ 110 (List._∷_ 103 (List._∷_ 58 (List._∷_ 58 (List._∷_ 70 (List._∷_ 97 (List._∷_ 117 (List._∷_ 108 (List._∷_ 116 List.[]))))))))))))))))))) (Syntax.ttcons (Syntax.tcons (Syntax.tyEnum (List._∷_ 116 (List._∷_ 101 (List._∷_ 120 (List._∷_ 116 (List._∷_ 95 (List._∷_ 104 (List._∷_ 101 (List._∷_ 97 (List._∷_ 100 (List._∷_ 105 (List._∷_ 110 (List._∷_ 103 (List._∷_ 58 (List._∷_ 58 (List._∷_ 72 (List._∷_ 101 (List._∷_ 97 (List._∷_ 100 (List._∷_ 105 (List._∷_ 110 (List._∷_ 103 (List._∷_ 70 (List._∷_ 97 (List._∷_ 117 (List._∷_ 108 (List._∷_ 116 List.[])))))))))))))))))))))))))) (Syntax.ttcons Syntax.tnil (Syntax.ttcons Syntax.tnil (Syntax.ttcons Syntax.tnil (Syntax.ttcons Syntax.tnil (Syntax.ttcons (Syntax.tcons (Syntax.tyEnum (List._∷_ 116 (List._∷_ 101 (List._∷_ 120 (List._∷_ 116 (List._∷_ 95 (List._∷_ 104 (List._∷_ 101 (List._∷_ 97 (List._∷_ 100 (List._∷_ 105 (List._∷_ 110 (List._∷_ 103 (List._∷_ 58 (List._∷_ 58 (List._∷_ 87 (List._∷_ 111 (List._∷_ 114 (List._∷_ 100 List.[])))))))))))))))))) (Syntax.ttcons Syntax.tnil (Syntax.ttcons Syntax.tnil (Syntax.ttcons Syntax.tnil (Syntax.ttcons Syntax.tnil (Syntax.ttcons Syntax.tnil Syntax.ttnil)))))) Syntax.tnil) Syntax.ttnil)))))) Syntax.tnil) (Syntax.ttcons Syntax.tnil (Syntax.ttcons Syntax.tnil Syntax.ttnil)))) Syntax.tnil) Syntax.ttnil)))))))) (Syntax.tcons (Syntax.tyArray (Syntax.tyInt Syntax.w8) 32) (Syntax.tcons (Syntax.tyInt Syntax.w64) Syntax.tnil)))))) 8 (Rows.whole (Declared.row Reader.the-type)) (λ x. x) (λ u. At.getAt (Turn.the-type .parts) 0 (Turn.struct .as-values (u .1 .1 .1 .1 .1 .1 .1 .0))) (λ u. (Row.hd 0 (Row.tl (Row.tl (Row.tl (Row.tl (Row.tl (Row.tl (Row.tl bs))))))), Nat._+_ 0 0)) (λ T′. record { locals = Row.setRow 7 (7, Rows.whole (Declared.row Turn.the-type)) T′; slots = G38 .slots }) (λ u T′ m′. Row.set 7 (7, Rows.whole (Declared.row Turn.the-type)) (u .1 .1 .1 .1 .1 .1 .1 .0) T′ m′) (λ u. Unit) (λ x. Unit) (Own.told-none 𝓤 H A (G38 .slots)) (DerefMove.learns-nothing 𝓤 H A (Declared.row Reader.the-type)) (λ ρ told u asked. Way'.w-partˢ 𝓤 H A W E (Declared.row Turn.the-type) (Declared.row Reader.the-type) (Laws.mir) (Syntax.tyStruct (List._∷_ 116 (List._∷_ 101 (List._∷_ 120 (List._∷_ 116 (List._∷_ 95 (List._∷_ 114 (List._∷_ 101 (List._∷_ 97 (List._∷_ 100 (List._∷_ 105 (List._∷_ 110 (List._∷_ 103 (List._∷_ 58 (List._∷_ 58 (List._∷_ 82 (List._∷_ 101 (List._∷_ 97 (List._∷_ 100 (List._∷_ 101 (List._∷_ 114 List.[])))))))))))))))))))) (Syntax.tcons Syntax.tyBool (Syntax.tcons (Syntax.tyInt Syntax.w64) (Syntax.tcons (Syntax.tyEnum (List._∷_ 116 (List._∷_ 101 (List._∷_ 120 (List._∷_ 116 (List._∷_ 95 (List._∷_ 114 (List._∷_ 101 (List._∷_ 97 (List._∷_ 100 (List._∷_ 105 (List._∷_ 110 (List._∷_ 103 (List._∷_ 58 (List._∷_ 58 (List._∷_ 72 (List._∷_ 101 (List._∷_ 108 (List._∷_ 100 List.[])))))))))))))))))) (Syntax.ttcons Syntax.tnil (Syntax.ttcons Syntax.tnil (Syntax.ttcons (Syntax.tcons (Syntax.tyStruct (List._∷_ 116 (List._∷_ 101 (List._∷_ 120 (List._∷_ 116 (List._∷_ 95 (List._∷_ 104 (List._∷_ 101 (List._∷_ 97 (List._∷_ 100 (List._∷_ 105 (List._∷_ 110 (List._∷_ 103 (List._∷_ 58 (List._∷_ 58 (List._∷_ 72 (List._∷_ 101 (List._∷_ 97 (List._∷_ 100 (List._∷_ 105 (List._∷_ 110 (List._∷_ 103 List.[]))))))))))))))))))))) (Syntax.tcons (Syntax.tyStruct (List._∷_ 116 (List._∷_ 101 (List._∷_ 120 (List._∷_ 116 (List._∷_ 95 (List._∷_ 104 (List._∷_ 101 (List._∷_ 97 (List._∷_ 100 (List._∷_ 105 (List._∷_ 110 (List._∷_ 103 (List._∷_ 58 (List._∷_ 58 (List._∷_ 78 (List._∷_ 97 (List._∷_ 109 (List._∷_ 101 (List._∷_ 100 List.[]))))))))))))))))))) (Syntax.tcons (IsParameters.mir) (Syntax.tcons (Syntax.tyInt Syntax.w32) Syntax.tnil))) (Syntax.tcons (Syntax.tyStruct (List._∷_ 116 (List._∷_ 101 (List._∷_ 120 (List._∷_ 116 (List._∷_ 95 (List._∷_ 104 (List._∷_ 101 (List._∷_ 97 (List._∷_ 100 (List._∷_ 105 (List._∷_ 110 (List._∷_ 103 (List._∷_ 58 (List._∷_ 58 (List._∷_ 67 (List._∷_ 97 (List._∷_ 109 (List._∷_ 101 List.[])))))))))))))))))) (Syntax.tcons Syntax.tyBool (Syntax.tcons Syntax.tyBool (Syntax.tcons Syntax.tyBool (Syntax.tcons Syntax.tyBool Syntax.tnil))))) (Syntax.tcons (Syntax.tyEnum (List._∷_ 116 (List._∷_ 101 (List._∷_ 120 (List._∷_ 116 (List._∷_ 95 (List._∷_ 104 (List._∷_ 101 (List._∷_ 97 (List._∷_ 100 (List._∷_ 105 (List._∷_ 110 (List._∷_ 103 (List._∷_ 58 (List._∷_ 58 (List._∷_ 80 (List._∷_ 108 (List._∷_ 97 (List._∷_ 99 (List._∷_ 101 List.[]))))))))))))))))))) (Syntax.ttcons (Syntax.tcons (Syntax.tyEnum (List._∷_ 116 (List._∷_ 101 (List._∷_ 120 (List._∷_ 116 (List._∷_ 95 (List._∷_ 104 (List._∷_ 101 (List._∷_ 97 (List._∷_ 100 (List._∷_ 105 (List._∷_ 110 (List._∷_ 103 (List._∷_ 58 (List._∷_ 58 (List._∷_ 87 (List._∷_ 111 (List._∷_ 114 (List._∷_ 100 List.[])))))))))))))))))) (Syntax.ttcons Syntax.tnil (Syntax.ttcons Syntax.tnil (Syntax.ttcons Syntax.tnil (Syntax.ttcons Syntax.tnil (Syntax.ttcons Syntax.tnil Syntax.ttnil)))))) (Syntax.tcons (Syntax.tyInt Syntax.w8) Syntax.tnil)) (Syntax.ttcons (Syntax.tcons (Syntax.tyEnum (List._∷_ 116 (List._∷_ 101 (List._∷_ 120 (List._∷_ 116 (List._∷_ 95 (List._∷_ 104 (List._∷_ 101 (List._∷_ 97 (List._∷_ 100 (List._∷_ 105 (List._∷_ 110 (List._∷_ 103 (List._∷_ 58 (List._∷_ 58 (List._∷_ 87 (List._∷_ 111 (List._∷_ 114 (List._∷_ 100 List.[])))))))))))))))))) (Syntax.ttcons Syntax.tnil (Syntax.ttcons Syntax.tnil (Syntax.ttcons Syntax.tnil (Syntax.ttcons Syntax.tnil (Syntax.ttcons Syntax.tnil Syntax.ttnil)))))) Syntax.tnil) (Syntax.ttcons (Syntax.tcons (Syntax.tyEnum (List._∷_ 116 (List._∷_ 101 (List._∷_ 120 (List._∷_ 116 (List._∷_ 95 (List._∷_ 104 (List._∷_ 101 (List._∷_ 97 (List._∷_ 100 (List._∷_ 105 (List._∷_ 110 (List._∷_ 103 (List._∷_ 58 (List._∷_ 58 (List._∷_ 87 (List._∷_ 111 (List._∷_ 114 (List._∷_ 100 List.[])))))))))))))))))) (Syntax.ttcons Syntax.tnil (Syntax.ttcons Syntax.tnil (Syntax.ttcons Syntax.tnil (Syntax.ttcons Syntax.tnil (Syntax.ttcons Syntax.tnil Syntax.ttnil)))))) (Syntax.tcons (Syntax.tyInt Syntax.w8) Syntax.tnil)) (Syntax.ttcons Syntax.tnil (Syntax.ttcons (Syntax.tcons (Syntax.tyEnum (List._∷_ 116 (List._∷_ 101 (List._∷_ 120 (List._∷_ 116 (List._∷_ 95 (List._∷_ 104 (List._∷_ 101 (List._∷_ 97 (List._∷_ 100 (List._∷_ 105 (List._∷_ 110 (List._∷_ 103 (List._∷_ 58 (List._∷_ 58 (List._∷_ 72 (List._∷_ 101 (List._∷_ 97 (List._∷_ 100 (List._∷_ 105 (List._∷_ 110 (List._∷_ 103 (List._∷_ 70 (List._∷_ 97 (List._∷_ 117 (List._∷_ 108 (List._∷_ 116 List.[])))))))))))))))))))))))))) (Syntax.ttcons Syntax.tnil (Syntax.ttcons Syntax.tnil (Syntax.ttcons Syntax.tnil (Syntax.ttcons Syntax.tnil (Syntax.ttcons (Syntax.tcons (Syntax.tyEnum (List._∷_ 116 (List._∷_ 101 (List._∷_ 120 (List._∷_ 116 (List._∷_ 95 (List._∷_ 104 (List._∷_ 101 (List._∷_ 97 (List._∷_ 100 (List._∷_ 105 (List._∷_ 110 (List._∷_ 103 (List._∷_ 58 (List._∷_ 58 (List._∷_ 87 (List._∷_ 111 (List._∷_ 114 (List._∷_ 100 List.[])))))))))))))))))) (Syntax.ttcons Syntax.tnil (Syntax.ttcons Syntax.tnil (Syntax.ttcons Syntax.tnil (Syntax.ttcons Syntax.tnil (Syntax.ttcons Syntax.tnil Syntax.ttnil)))))) Syntax.tnil) Syntax.ttnil)))))) Syntax.tnil) Syntax.ttnil)))))) Syntax.tnil)))) Syntax.tnil) (Syntax.ttcons Syntax.tnil (Syntax.ttcons (Syntax.tcons (Syntax.tyInt Syntax.w8) Syntax.tnil) (Syntax.ttcons Syntax.tnil (Syntax.ttcons (Syntax.tcons (Syntax.tyEnum (List._∷_ 116 (List._∷_ 101 (List._∷_ 120 (List._∷_ 116 (List._∷_ 95 (List._∷_ 114 (List._∷_ 101 (List._∷_ 97 (List._∷_ 100 (List._∷_ 105 (List._∷_ 110 (List._∷_ 103 (List._∷_ 58 (List._∷_ 58 (List._∷_ 70 (List._∷_ 97 (List._∷_ 117 (List._∷_ 108 (List._∷_ 116 List.[]))))))))))))))))))) (Syntax.ttcons (Syntax.tcons (Syntax.tyEnum (List._∷_ 116 (List._∷_ 101 (List._∷_ 120 (List._∷_ 116 (List._∷_ 95 (List._∷_ 104 (List._∷_ 101 (List._∷_ 97 (List._∷_ 100 (List._∷_ 105 (List._∷_ 110 (List._∷_ 103 (List._∷_ 58 (List._∷_ 58 (List._∷_ 72 (List._∷_ 101 (List._∷_ 97 (List._∷_ 100 (List._∷_ 105 (List._∷_ 110 (List._∷_ 103 (List._∷_ 70 (List._∷_ 97 (List._∷_ 117 (List._∷_ 108 (List._∷_ 116 List.[])))))))))))))))))))))))))) (Syntax.ttcons Syntax.tnil (Syntax.ttcons Syntax.tnil (Syntax.ttcons Syntax.tnil (Syntax.ttcons Syntax.tnil (Syntax.ttcons (Syntax.tcons (Syntax.tyEnum (List._∷_ 116 (List._∷_ 101 (List._∷_ 120 (List._∷_ 116 (List._∷_ 95 (List._∷_ 104 (List._∷_ 101 (List._∷_ 97 (List._∷_ 100 (List._∷_ 105 (List._∷_ 110 (List._∷_ 103 (List._∷_ 58 (List._∷_ 58 (List._∷_ 87 (List._∷_ 111 (List._∷_ 114 (List._∷_ 100 List.[])))))))))))))))))) (Syntax.ttcons Syntax.tnil (Syntax.ttcons Syntax.tnil (Syntax.ttcons Syntax.tnil (Syntax.ttcons Syntax.tnil (Syntax.ttcons Syntax.tnil Syntax.ttnil)))))) Syntax.tnil) Syntax.ttnil)))))) Syntax.tnil) (Syntax.ttcons Syntax.tnil (Syntax.ttcons Syntax.tnil Syntax.ttnil)))) Syntax.tnil) Syntax.ttnil)))))))) (Syntax.tcons (Syntax.tyArray (Syntax.tyInt Syntax.w8) 32) (Syntax.tcons (Syntax.tyInt Syntax.w64) Syntax.tnil)))))) 0 0 (u .1 .1 .1 .1 .1 .1 .1 .0) (At.getAt (Turn.the-type .parts) 0 (Turn.struct .as-values (u .1 .1 .1 .1 .1 .1 .1 .0))) (Row.hd 0 (Row.tl (Row.tl (Row.tl (Row.tl (Row.tl (Row.tl (Row.tl bs))))))), 0) (Way.w-look 𝓤 H A W E (Way.w-local 𝓤 H A W E G38 ρ u (G38 .slots) 7 (Declared.row Turn.the-type) (Rows.whole (Declared.row Turn.the-type)) (λ x. x) (λ x. x) (u .1 .1 .1 .1 .1 .1 .1 .0) (Local.mem-whole 𝓤 H A W (Declared.row Turn.the-type) ρ (u .1 .1 .1 .1 .1 .1 .1 .0) (Row.hd 0 (Row.tl (Row.tl (Row.tl (Row.tl (Row.tl (Row.tl (Row.tl bs))))))))) (Local.whole-mem 𝓤 H A W (Declared.row Turn.the-type) ρ (u .1 .1 .1 .1 .1 .1 .1 .0) (Row.hd 0 (Row.tl (Row.tl (Row.tl (Row.tl (Row.tl (Row.tl (Row.tl bs))))))))))) Path'.refl λ q. Inner.cut-record 𝓤 H A q (Declared.row Turn.the-type) Reader.the-type 0 (u .1 .1 .1 .1 .1 .1 .1 .0) (u .1 .1 .1 .1 .1 .1 .1 .0) (At.getAt (Turn.the-type .parts) 0 (Turn.struct .as-values (u .1 .1 .1 .1 .1 .1 .1 .0))) (At.getAt (Turn.the-type .parts) 0 (Turn.struct .as-values (u .1 .1 .1 .1 .1 .1 .1 .0))) (Row.hd 0 (Row.tl (Row.tl (Row.tl (Row.tl (Row.tl (Row.tl (Row.tl bs))))))), 0) (Behind.look-at 𝓤 H A W q Turn.the-type Laws.the-laws 0 0 Path'.refl Path'.refl (Row.hd 0 (Row.tl (Row.tl (Row.tl (Row.tl (Row.tl (Row.tl (Row.tl bs))))))), 0) (u .1 .1 .1 .1 .1 .1 .1 .0) (Turn.struct .as-values (u .1 .1 .1 .1 .1 .1 .1 .0)) Path'.refl)) (Reads'.room-gone 𝓤 H A (Syntax.tyStruct (List._∷_ 116 (List._∷_ 101 (List._∷_ 120 (List._∷_ 116 (List._∷_ 95 (List._∷_ 114 (List._∷_ 101 (List._∷_ 97 (List._∷_ 100 (List._∷_ 105 (List._∷_ 110 (List._∷_ 103 (List._∷_ 58 (List._∷_ 58 (List._∷_ 82 (List._∷_ 101 (List._∷_ 97 (List._∷_ 100 (List._∷_ 101 (List._∷_ 114 List.[])))))))))))))))))))) (Syntax.tcons Syntax.tyBool (Syntax.tcons (Syntax.tyInt Syntax.w64) (Syntax.tcons (Syntax.tyEnum (List._∷_ 116 (List._∷_ 101 (List._∷_ 120 (List._∷_ 116 (List._∷_ 95 (List._∷_ 114 (List._∷_ 101 (List._∷_ 97 (List._∷_ 100 (List._∷_ 105 (List._∷_ 110 (List._∷_ 103 (List._∷_ 58 (List._∷_ 58 (List._∷_ 72 (List._∷_ 101 (List._∷_ 108 (List._∷_ 100 List.[])))))))))))))))))) (Syntax.ttcons Syntax.tnil (Syntax.ttcons Syntax.tnil (Syntax.ttcons (Syntax.tcons (Syntax.tyStruct (List._∷_ 116 (List._∷_ 101 (List._∷_ 120 (List._∷_ 116 (List._∷_ 95 (List._∷_ 104 (List._∷_ 101 (List._∷_ 97 (List._∷_ 100 (List._∷_ 105 (List._∷_ 110 (List._∷_ 103 (List._∷_ 58 (List._∷_ 58 (List._∷_ 72 (List._∷_ 101 (List._∷_ 97 (List._∷_ 100 (List._∷_ 105 (List._∷_ 110 (List._∷_ 103 List.[]))))))))))))))))))))) (Syntax.tcons (Syntax.tyStruct (List._∷_ 116 (List._∷_ 101 (List._∷_ 120 (List._∷_ 116 (List._∷_ 95 (List._∷_ 104 (List._∷_ 101 (List._∷_ 97 (List._∷_ 100 (List._∷_ 105 (List._∷_ 110 (List._∷_ 103 (List._∷_ 58 (List._∷_ 58 (List._∷_ 78 (List._∷_ 97 (List._∷_ 109 (List._∷_ 101 (List._∷_ 100 List.[]))))))))))))))))))) (Syntax.tcons (IsParameters.mir) (Syntax.tcons (Syntax.tyInt Syntax.w32) Syntax.tnil))) (Syntax.tcons (Syntax.tyStruct (List._∷_ 116 (List._∷_ 101 (List._∷_ 120 (List._∷_ 116 (List._∷_ 95 (List._∷_ 104 (List._∷_ 101 (List._∷_ 97 (List._∷_ 100 (List._∷_ 105 (List._∷_ 110 (List._∷_ 103 (List._∷_ 58 (List._∷_ 58 (List._∷_ 67 (List._∷_ 97 (List._∷_ 109 (List._∷_ 101 List.[])))))))))))))))))) (Syntax.tcons Syntax.tyBool (Syntax.tcons Syntax.tyBool (Syntax.tcons Syntax.tyBool (Syntax.tcons Syntax.tyBool Syntax.tnil))))) (Syntax.tcons (Syntax.tyEnum (List._∷_ 116 (List._∷_ 101 (List._∷_ 120 (List._∷_ 116 (List._∷_ 95 (List._∷_ 104 (List._∷_ 101 (List._∷_ 97 (List._∷_ 100 (List._∷_ 105 (List._∷_ 110 (List._∷_ 103 (List._∷_ 58 (List._∷_ 58 (List._∷_ 80 (List._∷_ 108 (List._∷_ 97 (List._∷_ 99 (List._∷_ 101 List.[]))))))))))))))))))) (Syntax.ttcons (Syntax.tcons (Syntax.tyEnum (List._∷_ 116 (List._∷_ 101 (List._∷_ 120 (List._∷_ 116 (List._∷_ 95 (List._∷_ 104 (List._∷_ 101 (List._∷_ 97 (List._∷_ 100 (List._∷_ 105 (List._∷_ 110 (List._∷_ 103 (List._∷_ 58 (List._∷_ 58 (List._∷_ 87 (List._∷_ 111 (List._∷_ 114 (List._∷_ 100 List.[])))))))))))))))))) (Syntax.ttcons Syntax.tnil (Syntax.ttcons Syntax.tnil (Syntax.ttcons Syntax.tnil (Syntax.ttcons Syntax.tnil (Syntax.ttcons Syntax.tnil Syntax.ttnil)))))) (Syntax.tcons (Syntax.tyInt Syntax.w8) Syntax.tnil)) (Syntax.ttcons (Syntax.tcons (Syntax.tyEnum (List._∷_ 116 (List._∷_ 101 (List._∷_ 120 (List._∷_ 116 (List._∷_ 95 (List._∷_ 104 (List._∷_ 101 (List._∷_ 97 (List._∷_ 100 (List._∷_ 105 (List._∷_ 110 (List._∷_ 103 (List._∷_ 58 (List._∷_ 58 (List._∷_ 87 (List._∷_ 111 (List._∷_ 114 (List._∷_ 100 List.[])))))))))))))))))) (Syntax.ttcons Syntax.tnil (Syntax.ttcons Syntax.tnil (Syntax.ttcons Syntax.tnil (Syntax.ttcons Syntax.tnil (Syntax.ttcons Syntax.tnil Syntax.ttnil)))))) Syntax.tnil) (Syntax.ttcons (Syntax.tcons (Syntax.tyEnum (List._∷_ 116 (List._∷_ 101 (List._∷_ 120 (List._∷_ 116 (List._∷_ 95 (List._∷_ 104 (List._∷_ 101 (List._∷_ 97 (List._∷_ 100 (List._∷_ 105 (List._∷_ 110 (List._∷_ 103 (List._∷_ 58 (List._∷_ 58 (List._∷_ 87 (List._∷_ 111 (List._∷_ 114 (List._∷_ 100 List.[])))))))))))))))))) (Syntax.ttcons Syntax.tnil (Syntax.ttcons Syntax.tnil (Syntax.ttcons Syntax.tnil (Syntax.ttcons Syntax.tnil (Syntax.ttcons Syntax.tnil Syntax.ttnil)))))) (Syntax.tcons (Syntax.tyInt Syntax.w8) Syntax.tnil)) (Syntax.ttcons Syntax.tnil (Syntax.ttcons (Syntax.tcons (Syntax.tyEnum (List._∷_ 116 (List._∷_ 101 (List._∷_ 120 (List._∷_ 116 (List._∷_ 95 (List._∷_ 104 (List._∷_ 101 (List._∷_ 97 (List._∷_ 100 (List._∷_ 105 (List._∷_ 110 (List._∷_ 103 (List._∷_ 58 (List._∷_ 58 (List._∷_ 72 (List._∷_ 101 (List._∷_ 97 (List._∷_ 100 (List._∷_ 105 (List._∷_ 110 (List._∷_ 103 (List._∷_ 70 (List._∷_ 97 (List._∷_ 117 (List._∷_ 108 (List._∷_ 116 List.[])))))))))))))))))))))))))) (Syntax.ttcons Syntax.tnil (Syntax.ttcons Syntax.tnil (Syntax.ttcons Syntax.tnil (Syntax.ttcons Syntax.tnil (Syntax.ttcons (Syntax.tcons (Syntax.tyEnum (List._∷_ 116 (List._∷_ 101 (List._∷_ 120 (List._∷_ 116 (List._∷_ 95 (List._∷_ 104 (List._∷_ 101 (List._∷_ 97 (List._∷_ 100 (List._∷_ 105 (List._∷_ 110 (List._∷_ 103 (List._∷_ 58 (List._∷_ 58 (List._∷_ 87 (List._∷_ 111 (List._∷_ 114 (List._∷_ 100 List.[])))))))))))))))))) (Syntax.ttcons Syntax.tnil (Syntax.ttcons Syntax.tnil (Syntax.ttcons Syntax.tnil (Syntax.ttcons Syntax.tnil (Syntax.ttcons Syntax.tnil Syntax.ttnil)))))) Syntax.tnil) Syntax.ttnil)))))) Syntax.tnil) Syntax.ttnil)))))) Syntax.tnil)))) Syntax.tnil) (Syntax.ttcons Syntax.tnil (Syntax.ttcons (Syntax.tcons (Syntax.tyInt Syntax.w8) Syntax.tnil) (Syntax.ttcons Syntax.tnil (Syntax.ttcons (Syntax.tcons (Syntax.tyEnum (List._∷_ 116 (List._∷_ 101 (List._∷_ 120 (List._∷_ 116 (List._∷_ 95 (List._∷_ 114 (List._∷_ 101 (List._∷_ 97 (List._∷_ 100 (List._∷_ 105 (List._∷_ 110 (List._∷_ 103 (List._∷_ 58 (List._∷_ 58 (List._∷_ 70 (List._∷_ 97 (List._∷_ 117 (List._∷_ 108 (List._∷_ 116 List.[]))))))))))))))))))) (Syntax.ttcons (Syntax.tcons (Syntax.tyEnum (List._∷_ 116 (List._∷_ 101 (List._∷_ 120 (List._∷_ 116 (List._∷_ 95 (List._∷_ 104 (List._∷_ 101 (List._∷_ 97 (List._∷_ 100 (List._∷_ 105 (List._∷_ 110 (List._∷_ 103 (List._∷_ 58 (List._∷_ 58 (List._∷_ 72 (List._∷_ 101 (List._∷_ 97 (List._∷_ 100 (List._∷_ 105 (List._∷_ 110 (List._∷_ 103 (List._∷_ 70 (List._∷_ 97 (List._∷_ 117 (List._∷_ 108 (List._∷_ 116 List.[])))))))))))))))))))))))))) (Syntax.ttcons Syntax.tnil (Syntax.ttcons Syntax.tnil (Syntax.ttcons Syntax.tnil (Syntax.ttcons Syntax.tnil (Syntax.ttcons (Syntax.tcons (Syntax.tyEnum (List._∷_ 116 (List._∷_ 101 (List._∷_ 120 (List._∷_ 116 (List._∷_ 95 (List._∷_ 104 (List._∷_ 101 (List._∷_ 97 (List._∷_ 100 (List._∷_ 105 (List._∷_ 110 (List._∷_ 103 (List._∷_ 58 (List._∷_ 58 (List._∷_ 87 (List._∷_ 111 (List._∷_ 114 (List._∷_ 100 List.[])))))))))))))))))) (Syntax.ttcons Syntax.tnil (Syntax.ttcons Syntax.tnil (Syntax.ttcons Syntax.tnil (Syntax.ttcons Syntax.tnil (Syntax.ttcons Syntax.tnil Syntax.ttnil)))))) Syntax.tnil) Syntax.ttnil)))))) Syntax.tnil) (Syntax.ttcons Syntax.tnil (Syntax.ttcons Syntax.tnil Syntax.ttnil)))) Syntax.tnil) Syntax.ttnil)))))))) (Syntax.tcons (Syntax.tyArray (Syntax.tyInt Syntax.w8) 32) (Syntax.tcons (Syntax.tyInt Syntax.w64) Syntax.tnil))))))) (Yields.makes-mem 𝓤 H A W (λ ρ. Unit) (Declared.row Reader.the-type) Path'.refl (Rows.whole (Declared.row Reader.the-type)) (λ x. x) λ ρ told. Local.whole-mem 𝓤 H A W (Declared.row Reader.the-type) ρ) Path'.refl Path'.refl Path'.refl) d30
 
           d32 : Typed.Typed 𝓤 H A 𝓣 E G36 b33 Δ1 (at32 bs)
           d32 = Typed.g-pre 𝓤 H A W 𝓣 E G36 G38 b33 Δ1 (Typed.pass T36 T38 (s35 bs)) (at31 bs) (Scalar.g-room 𝓤 H A W E G36 19 Syntax.tyBool (Scalar.room-sc 𝓤 H A W Row.sBool)) d31
