@@ -1,7 +1,7 @@
 #!/usr/bin/env python3
 """frames.py: what pages show of frames, run. The lines of the blocks of docs/FRAMES.md that are frames with
-answers are one list over 16 outputs, and so are those of docs/SUPPLY.md over one: `replay` must give each
-answer. examples/frames.txt must be the list of docs/FRAMES.md (--write makes it). Each row of its
+answers are one list over 16 outputs, and so are those of docs/SUPPLY.md over one, each with a tenant station
+(§8): `replay` must give each answer. examples/frames.txt must be the list of docs/FRAMES.md (--write makes it). Each row of its
 'Properties' is read on a fresh output, written with 0, and written with the ends of its range and what lies
 next to them: the columns 'fresh', 'writable' and 'range' must be true. Every kind and every property that
 `replay` knows, and no other, has its row. Every kind and every refusal but 1 and 17 has an example; a kind's
@@ -28,9 +28,11 @@ def answers(text):
     return run.stdout.split('\n--\n')[0].split('\n')
 
 
-def shown_on(page, outputs):
+def shown_on(page, heading):
     """The frames that a page shows, as (line, frame, answer), and the list that they are."""
-    shown, text = [], 'outputs %d\n' % outputs
+    shown, text = [], heading + '\n'
+    if '`%s`' % heading not in open(page).read():
+        faults.append('%s: does not say that its list begins with %s' % (page, heading))
     with open(page) as lines:
         for line, words in enumerate(lines, 1):
             block = re.match(r'^    +(\S.*?)\s*$', words)
@@ -49,8 +51,8 @@ def shown_on(page, outputs):
     return shown, text
 
 
-shown, text = shown_on(PAGE, 16)
-also_shown, _ = shown_on('docs/SUPPLY.md', 1)
+shown, text = shown_on(PAGE, 'outputs 16 tenants 20')
+also_shown, _ = shown_on('docs/SUPPLY.md', 'outputs 1 tenants 4')
 if len(also_shown) < 5:
     faults.append('docs/SUPPLY.md: %d frames found' % len(also_shown))
 

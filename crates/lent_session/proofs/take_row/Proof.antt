@@ -72,11 +72,17 @@ time-of-requires c κs = search needs
 parameters-of-requires : tie.Need-parameters-of-requires
 parameters-of-requires c κs = search needs
 
+tenants-of-requires : tie.Need-tenants-of-requires
+tenants-of-requires c κs = search needs
+
 keep-requires : tie.Need-keep-requires
 keep-requires c κs = search needs
 
 parameters-of-requires-2 : tie.Need-parameters-of-requires-2
 parameters-of-requires-2 c κs = search needs
+
+tenants-of-requires-2 : tie.Need-tenants-of-requires-2
+tenants-of-requires-2 c κs = search needs
 
 start-requires : tie.Need-start-requires
 start-requires c κs = search needs
@@ -116,6 +122,9 @@ put-counts-requires c κs = search needs
 
 parameters-of-requires-3 : tie.Need-parameters-of-requires-3
 parameters-of-requires-3 c κs = search needs
+
+tenants-of-requires-3 : tie.Need-tenants-of-requires-3
+tenants-of-requires-3 c κs = search needs
 
 put-parameters-requires : tie.Need-put-parameters-requires
 put-parameters-requires c κs = search needs
@@ -218,8 +227,10 @@ take-row-spec =
     lend-station-requires
     time-of-requires
     parameters-of-requires
+    tenants-of-requires
     keep-requires
     parameters-of-requires-2
+    tenants-of-requires-2
     start-requires
     with-room-requires
     put-answer-requires
@@ -233,6 +244,7 @@ take-row-spec =
     time-of-requires-2
     put-counts-requires
     parameters-of-requires-3
+    tenants-of-requires-3
     put-parameters-requires
     put-outputs-requires
     put-stations-requires

@@ -71,7 +71,7 @@ abbrev pub r·1 : Kinds.RK 1
 r·1 = Unit'.rUnit
 
 abbrev pub ps·2 : List.List (Kinds.PK 1)
-ps·2 = List._∷_ (Kinds.pMut (OfPanelRecord.row) 0 tt) (List._∷_ (Value.pVal record { ty = Declared.row Parameters.the-type; one = Path'.refl; val = Laws'.val Parameters.the-type Laws.the-laws; tells = Laws'.tells Parameters.the-type Laws.the-laws; still = Laws'.still Parameters.the-type Laws.the-copy Exit.yes; row = Rows.whole (Declared.row Parameters.the-type); rd = λ x. x; mk = λ x. x } λ M 𝓤 H A W. record { copies = Laws'.copy Parameters.the-type Laws.the-copy 𝓤 H A W; lawful = Laws'.lawful Parameters.the-type Laws.the-laws 𝓤 H A W; makes = Laws'.makes Parameters.the-type Laws.the-plain 𝓤 H A; in-mem = Local.mem-whole 𝓤 H A W (Declared.row Parameters.the-type); of-mem = Local.whole-mem 𝓤 H A W (Declared.row Parameters.the-type) }) (List._∷_ (Num.pNum Syntax.w64) List.[]))
+ps·2 = List._∷_ (Kinds.pMut (OfPanelRecord.row) 0 tt) (List._∷_ (Value.pVal record { ty = Declared.row Parameters.the-type; one = Path'.refl; val = Laws'.val Parameters.the-type Laws.the-laws; tells = Laws'.tells Parameters.the-type Laws.the-laws; still = Laws'.still Parameters.the-type Laws.the-copy Exit.yes; row = Rows.whole (Declared.row Parameters.the-type); rd = λ x. x; mk = λ x. x } λ M 𝓤 H A W. record { copies = Laws'.copy Parameters.the-type Laws.the-copy 𝓤 H A W; lawful = Laws'.lawful Parameters.the-type Laws.the-laws 𝓤 H A W; makes = Laws'.makes Parameters.the-type Laws.the-plain 𝓤 H A; in-mem = Local.mem-whole 𝓤 H A W (Declared.row Parameters.the-type); of-mem = Local.whole-mem 𝓤 H A W (Declared.row Parameters.the-type) }) (List._∷_ (Num.pNum Syntax.w32) (List._∷_ (Num.pNum Syntax.w64) List.[])))
 
 abbrev pub r·2 : Kinds.RK 1
 r·2 = Unit'.rUnit
@@ -101,7 +101,7 @@ abbrev b6 : Syntax.Body
 b6 = Syntax.assign (Syntax.place 11 List.[]) (Syntax.addrOf (Syntax.place 3 (List._∷_ (Syntax.deref OfPanelRecord.spelt) List.[])))
 
 abbrev b7 : Syntax.Body
-b7 = Syntax.call "lent_session::keep" (List._∷_ (Syntax.copy (Syntax.place 11 List.[])) (List._∷_ (Syntax.copy (Syntax.place 4 List.[])) (List._∷_ (Syntax.copy (Syntax.place 5 List.[])) List.[]))) (Syntax.place 6 List.[])
+b7 = Syntax.call "lent_session::keep" (List._∷_ (Syntax.copy (Syntax.place 11 List.[])) (List._∷_ (Syntax.copy (Syntax.place 4 List.[])) (List._∷_ (Syntax.int Syntax.w32 0) (List._∷_ (Syntax.copy (Syntax.place 5 List.[])) List.[])))) (Syntax.place 6 List.[])
 
 abbrev b8 : Syntax.Body
 b8 = Syntax.assign (Syntax.place 0 List.[]) (Syntax.rvOpd Syntax.opdUnit)
@@ -285,7 +285,7 @@ module _ (claims· : Claims) where
   s17 = Reborrow.k-mref-relend T16 3 11 2 5 (OfPanelRecord.row) (Syntax.tyRef (Syntax.named 2) Syntax.mut OfPanelRecord.named) (Syntax.tyRef Syntax.erased Syntax.mut OfPanelRecord.named) Row.off List.[] λ x. x
 
   abbrev s18 : Typed.Both T19 T20
-  s18 = Call.callB ps·2 r·2 (claims· .4) (claims· .5) T19 (record { pos = 11; ty = Syntax.tyRef Syntax.erased Syntax.mut OfPanelRecord.named; ref = λ x. x }, (record { pos = 4; st = List.[]; d = 0; at = λ x. x }, (Num.vAt 5 λ x. x, tt))) 6 (List._∷_ 5 List.[]) Syntax.tyUnit
+  s18 = Call.callB ps·2 r·2 (claims· .4) (claims· .5) T19 (record { pos = 11; ty = Syntax.tyRef Syntax.erased Syntax.mut OfPanelRecord.named; ref = λ x. x }, (record { pos = 4; st = List.[]; d = 0; at = λ x. x }, (Num.vLit 0, (Num.vAt 5 λ x. x, tt)))) 6 (List._∷_ 5 List.[]) Syntax.tyUnit
 
   abbrev s19 : Typed.Mo T20 → Typed.Mo T21
   s19 = Scalar.n-room T20 4 (Laws.mir)
@@ -553,7 +553,7 @@ module _ (claims· : Claims) where
           d7 = Typed.g-pre 𝓤 H A W 𝓣 E G20 G21 b10 Δ0 (Typed.pass T20 T21 s19) at6 (Scalar.g-room 𝓤 H A W E G20 4 (Laws.mir) (Local.room-whole 𝓤 H A W (Declared.row Parameters.the-type) (Laws.mir) Path'.refl)) d6
 
           d8 : Typed.Typed 𝓤 H A 𝓣 E G19 b11 Δ0 at8
-          d8 = Typed.s-seq 𝓤 H A W 𝓣 E G19 G20 b7 b10 Δ0 (Typed.both s18) at7 (Plain.t-call-plain 𝓤 H A W 𝓣 1 ps·2 r·2 (claims· .4) (claims· .5) "lent_session::keep" (known .2) E (λ pos β. β) G19 (record { pos = 11; ty = Syntax.tyRef Syntax.erased Syntax.mut OfPanelRecord.named; ref = λ x. x }, (record { pos = 4; st = List.[]; d = 0; at = λ x. x }, (Num.vAt 5 λ x. x, tt))) 6 (List._∷_ 5 List.[]) (Call.sub-id 𝓤 H A W (G19 .slots)) (Reads.as-is 𝓤 H A (Rows.mref (OfPanelRecord.row) (Syntax.tyRef Syntax.erased Syntax.mut OfPanelRecord.named) 5), Reads.reads-mref 𝓤 H A W (OfPanelRecord.row) (Syntax.tyRef Syntax.erased Syntax.mut OfPanelRecord.named) 5, Path'.refl, ((Yields.yields-copy 𝓤 H A W (λ ρ. Unit) (Declared.row Parameters.the-type) Path'.refl (Copies.cStruct Parameters.the-type Laws.the-laws Laws.the-copy .copy 𝓤 H A W) (Rows.whole (Declared.row Parameters.the-type)) (λ x. x) (λ x. x) (λ ρ told. Local.mem-whole 𝓤 H A W (Declared.row Parameters.the-type) ρ) λ ρ told. Local.whole-mem 𝓤 H A W (Declared.row Parameters.the-type) ρ, Path'.refl), ((Scalar.reads-sc 𝓤 H A W (Row.sInt Syntax.w64), Path'.refl), tt))) (Reads.room-gone 𝓤 H A Syntax.tyUnit) (tt, tt) Path'.refl) d7
+          d8 = Typed.s-seq 𝓤 H A W 𝓣 E G19 G20 b7 b10 Δ0 (Typed.both s18) at7 (Plain.t-call-plain 𝓤 H A W 𝓣 1 ps·2 r·2 (claims· .4) (claims· .5) "lent_session::keep" (known .2) E (λ pos β. β) G19 (record { pos = 11; ty = Syntax.tyRef Syntax.erased Syntax.mut OfPanelRecord.named; ref = λ x. x }, (record { pos = 4; st = List.[]; d = 0; at = λ x. x }, (Num.vLit 0, (Num.vAt 5 λ x. x, tt)))) 6 (List._∷_ 5 List.[]) (Call.sub-id 𝓤 H A W (G19 .slots)) (Reads.as-is 𝓤 H A (Rows.mref (OfPanelRecord.row) (Syntax.tyRef Syntax.erased Syntax.mut OfPanelRecord.named) 5), Reads.reads-mref 𝓤 H A W (OfPanelRecord.row) (Syntax.tyRef Syntax.erased Syntax.mut OfPanelRecord.named) 5, Path'.refl, ((Yields.yields-copy 𝓤 H A W (λ ρ. Unit) (Declared.row Parameters.the-type) Path'.refl (Copies.cStruct Parameters.the-type Laws.the-laws Laws.the-copy .copy 𝓤 H A W) (Rows.whole (Declared.row Parameters.the-type)) (λ x. x) (λ x. x) (λ ρ told. Local.mem-whole 𝓤 H A W (Declared.row Parameters.the-type) ρ) λ ρ told. Local.whole-mem 𝓤 H A W (Declared.row Parameters.the-type) ρ, Path'.refl), (tt, ((Scalar.reads-sc 𝓤 H A W (Row.sInt Syntax.w64), Path'.refl), tt)))) (Reads.room-gone 𝓤 H A Syntax.tyUnit) (tt, tt) Path'.refl) d7
 
           d9 : Typed.Typed 𝓤 H A 𝓣 E G18 b12 Δ0 at9
           d9 = Typed.s-seq 𝓤 H A W 𝓣 E G18 G19 b6 b11 Δ0 (Typed.give s17) at8 (Reborrow.t-mref-relend 𝓤 H A W E 𝓣 G18 3 11 2 5 (OfPanelRecord.row) OfPanelRecord.spelt (Syntax.tyRef (Syntax.named 2) Syntax.mut OfPanelRecord.named) (Syntax.tyRef Syntax.erased Syntax.mut OfPanelRecord.named) (Row.lease (κs .1 .1 .0) (qs .1 .1 .0)) (λ x. x) (Reads.as-is 𝓤 H A (Rows.mref (OfPanelRecord.row) (Syntax.tyRef (Syntax.named 2) Syntax.mut OfPanelRecord.named) 2)) (Reads.room-gone 𝓤 H A (Syntax.tyRef Syntax.erased Syntax.mut OfPanelRecord.named)) Path'.refl tt Path'.refl Path'.refl λ b o. tt) d8
@@ -816,7 +816,7 @@ module _ (claims· : Claims) where
 
       module _ (before· : After-keep-arg) where
         abbrev pub After-keep·own : Type 0
-        After-keep·own = Called.Called ps·2 r·2 (claims· .5) T19 (record { pos = 11; ty = Syntax.tyRef Syntax.erased Syntax.mut OfPanelRecord.named; ref = λ x. x }, (record { pos = 4; st = List.[]; d = 0; at = λ x. x }, (Num.vAt 5 λ x. x, tt))) (m11 (before· .before) (before· .keep-arg .given))
+        After-keep·own = Called.Called ps·2 r·2 (claims· .5) T19 (record { pos = 11; ty = Syntax.tyRef Syntax.erased Syntax.mut OfPanelRecord.named; ref = λ x. x }, (record { pos = 4; st = List.[]; d = 0; at = λ x. x }, (Num.vLit 0, (Num.vAt 5 λ x. x, tt)))) (m11 (before· .before) (before· .keep-arg .given))
 
       pub record After-keep : Type 0 where
         pub before : After-keep-arg
@@ -824,7 +824,7 @@ module _ (claims· : Claims) where
 
       abbrev pub After-keep·gave :
           (c : After-keep) → s18 .gives (m11 (c .before .before) (c .before .keep-arg .given))
-      After-keep·gave = λ c. Called.given ps·2 r·2 (claims· .5) T19 (record { pos = 11; ty = Syntax.tyRef Syntax.erased Syntax.mut OfPanelRecord.named; ref = λ x. x }, (record { pos = 4; st = List.[]; d = 0; at = λ x. x }, (Num.vAt 5 λ x. x, tt))) (m11 (c .before .before) (c .before .keep-arg .given)) (c .keep)
+      After-keep·gave = λ c. Called.given ps·2 r·2 (claims· .5) T19 (record { pos = 11; ty = Syntax.tyRef Syntax.erased Syntax.mut OfPanelRecord.named; ref = λ x. x }, (record { pos = 4; st = List.[]; d = 0; at = λ x. x }, (Num.vLit 0, (Num.vAt 5 λ x. x, tt)))) (m11 (c .before .before) (c .before .keep-arg .given)) (c .keep)
 
       abbrev pub m13 :
           (before : After-keep-arg) →
@@ -885,7 +885,7 @@ module _ (claims· : Claims) where
             (c .before .before .before .before .before .κs)
             (c .before .before .before .before .before .args))
             (m8 (c .before) (After-fresh-stations·gave c))
-        lay2 = λ c. (Path'.refl, λ g. λ g'. (keep-requires record { before = record { before = record { before = c .before; fresh-stations = c .fresh-stations }; stations = record { given = g } }; keep-arg = record { given = g' } }, λ g''. lay3 record { before = record { before = record { before = record { before = c .before; fresh-stations = c .fresh-stations }; stations = record { given = g } }; keep-arg = record { given = g' } }; keep = Called.called ps·2 r·2 (claims· .5) T19 (record { pos = 11; ty = Syntax.tyRef Syntax.erased Syntax.mut OfPanelRecord.named; ref = λ x. x }, (record { pos = 4; st = List.[]; d = 0; at = λ x. x }, (Num.vAt 5 λ x. x, tt))) (m11 record { before = record { before = c .before; fresh-stations = c .fresh-stations }; stations = record { given = g } } g') g'' }))
+        lay2 = λ c. (Path'.refl, λ g. λ g'. (keep-requires record { before = record { before = record { before = c .before; fresh-stations = c .fresh-stations }; stations = record { given = g } }; keep-arg = record { given = g' } }, λ g''. lay3 record { before = record { before = record { before = record { before = c .before; fresh-stations = c .fresh-stations }; stations = record { given = g } }; keep-arg = record { given = g' } }; keep = Called.called ps·2 r·2 (claims· .5) T19 (record { pos = 11; ty = Syntax.tyRef Syntax.erased Syntax.mut OfPanelRecord.named; ref = λ x. x }, (record { pos = 4; st = List.[]; d = 0; at = λ x. x }, (Num.vLit 0, (Num.vAt 5 λ x. x, tt)))) (m11 record { before = record { before = c .before; fresh-stations = c .fresh-stations }; stations = record { given = g } } g') g'' }))
 
         lay1 :
             (c : After-fresh-outputs) →

@@ -88,7 +88,7 @@ abbrev pub r·2 : Kinds.RK 0
 r·2 = OfStation.result
 
 abbrev pub ps·3 : List.List (Kinds.PK 0)
-ps·3 = List._∷_ (Value.pVal record { ty = Declared.row Parameters.the-type; one = Path'.refl; val = Laws'.val Parameters.the-type Laws.the-laws; tells = Laws'.tells Parameters.the-type Laws.the-laws; still = Laws'.still Parameters.the-type Laws.the-copy Exit.yes; row = Rows'.whole (Declared.row Parameters.the-type); rd = λ x. x; mk = λ x. x } λ M 𝓤 H A W. record { copies = Laws'.copy Parameters.the-type Laws.the-copy 𝓤 H A W; lawful = Laws'.lawful Parameters.the-type Laws.the-laws 𝓤 H A W; makes = Laws'.makes Parameters.the-type Laws.the-plain 𝓤 H A; in-mem = Local.mem-whole 𝓤 H A W (Declared.row Parameters.the-type); of-mem = Local.whole-mem 𝓤 H A W (Declared.row Parameters.the-type) }) List.[]
+ps·3 = List._∷_ (Value.pVal record { ty = Declared.row Parameters.the-type; one = Path'.refl; val = Laws'.val Parameters.the-type Laws.the-laws; tells = Laws'.tells Parameters.the-type Laws.the-laws; still = Laws'.still Parameters.the-type Laws.the-copy Exit.yes; row = Rows'.whole (Declared.row Parameters.the-type); rd = λ x. x; mk = λ x. x } λ M 𝓤 H A W. record { copies = Laws'.copy Parameters.the-type Laws.the-copy 𝓤 H A W; lawful = Laws'.lawful Parameters.the-type Laws.the-laws 𝓤 H A W; makes = Laws'.makes Parameters.the-type Laws.the-plain 𝓤 H A; in-mem = Local.mem-whole 𝓤 H A W (Declared.row Parameters.the-type); of-mem = Local.whole-mem 𝓤 H A W (Declared.row Parameters.the-type) }) (List._∷_ (Num.pNum Syntax.w32) List.[])
 
 abbrev pub r·3 : Kinds.RK 0
 r·3 = OfPanelRecord.result
@@ -124,7 +124,7 @@ abbrev b4 : Syntax.Body
 b4 = Syntax.assign (Syntax.place 5 List.[]) (Syntax.repeat (Syntax.copy (Syntax.place 4 List.[])) 33)
 
 abbrev b5 : Syntax.Body
-b5 = Syntax.call "panel_record::fresh_record" (List._∷_ (Syntax.copy (Syntax.place 1 List.[])) List.[]) (Syntax.place 9 List.[])
+b5 = Syntax.call "panel_record::fresh_record" (List._∷_ (Syntax.copy (Syntax.place 1 List.[])) (List._∷_ (Syntax.int Syntax.w32 0) List.[])) (Syntax.place 9 List.[])
 
 abbrev b6 : Syntax.Body
 b6 = Syntax.assign (Syntax.place 6 List.[]) (Syntax.rvOpd (Syntax.copy (Syntax.place 9 List.[])))
@@ -551,7 +551,7 @@ module _ (claims· : Claims) where
   s8 = λ bs. Scalar.n-room T9 4 OfStation.spelt
 
   abbrev s9 : (bs : List.List Nat.ℕ) → Typed.Both T10 T11
-  s9 = λ bs. Call.callB ps·3 r·3 (claims· .6) (claims· .7) T10 (record { pos = 1; st = List.[]; d = 0; at = λ x. x }, tt) 9 List.[] OfPanelRecord.spelt
+  s9 = λ bs. Call.callB ps·3 r·3 (claims· .6) (claims· .7) T10 (record { pos = 1; st = List.[]; d = 0; at = λ x. x }, (Num.vLit 0, tt)) 9 List.[] OfPanelRecord.spelt
 
   abbrev s10 : (bs : List.List Nat.ℕ) → Typed.Mo T11 → Typed.Mo T12
   s10 = λ bs. Scalar.n-room T11 1 (Laws.mir)
@@ -1158,7 +1158,7 @@ module _ (claims· : Claims) where
           d46 = Typed.g-pre 𝓤 H A W 𝓣 E G11 G12 b38 Δ0 (Typed.pass T11 T12 (s10 bs)) (at45 bs) (Scalar.g-room 𝓤 H A W E G11 1 (Laws.mir) (Local.room-whole 𝓤 H A W (Declared.row Parameters.the-type) (Laws.mir) Path'.refl)) d45
 
           d47 : Typed.Typed 𝓤 H A 𝓣 E G10 b39 Δ0 (at47 bs)
-          d47 = Typed.s-seq 𝓤 H A W 𝓣 E G10 G11 b5 b38 Δ0 (Typed.both (s9 bs)) (at46 bs) (Plain.t-call-plain 𝓤 H A W 𝓣 0 ps·3 r·3 (claims· .6) (claims· .7) "panel_record::fresh_record" (known .3) E (λ pos β. β) G10 (record { pos = 1; st = List.[]; d = 0; at = λ x. x }, tt) 9 List.[] (Call.sub-id 𝓤 H A W (G10 .slots)) ((Yields.yields-copy 𝓤 H A W (λ ρ. Unit) (Declared.row Parameters.the-type) Path'.refl (Copies.cStruct Parameters.the-type Laws.the-laws Laws.the-copy .copy 𝓤 H A W) (Rows'.whole (Declared.row Parameters.the-type)) (λ x. x) (λ x. x) (λ ρ told. Local.mem-whole 𝓤 H A W (Declared.row Parameters.the-type) ρ) λ ρ told. Local.whole-mem 𝓤 H A W (Declared.row Parameters.the-type) ρ, Path'.refl), tt) (Reads.room-gone 𝓤 H A OfPanelRecord.spelt) tt Path'.refl) d46
+          d47 = Typed.s-seq 𝓤 H A W 𝓣 E G10 G11 b5 b38 Δ0 (Typed.both (s9 bs)) (at46 bs) (Plain.t-call-plain 𝓤 H A W 𝓣 0 ps·3 r·3 (claims· .6) (claims· .7) "panel_record::fresh_record" (known .3) E (λ pos β. β) G10 (record { pos = 1; st = List.[]; d = 0; at = λ x. x }, (Num.vLit 0, tt)) 9 List.[] (Call.sub-id 𝓤 H A W (G10 .slots)) ((Yields.yields-copy 𝓤 H A W (λ ρ. Unit) (Declared.row Parameters.the-type) Path'.refl (Copies.cStruct Parameters.the-type Laws.the-laws Laws.the-copy .copy 𝓤 H A W) (Rows'.whole (Declared.row Parameters.the-type)) (λ x. x) (λ x. x) (λ ρ told. Local.mem-whole 𝓤 H A W (Declared.row Parameters.the-type) ρ) λ ρ told. Local.whole-mem 𝓤 H A W (Declared.row Parameters.the-type) ρ, Path'.refl), (tt, tt)) (Reads.room-gone 𝓤 H A OfPanelRecord.spelt) tt Path'.refl) d46
 
           d48 : Typed.Typed 𝓤 H A 𝓣 E G9 b39 Δ0 (at48 bs)
           d48 = Typed.g-pre 𝓤 H A W 𝓣 E G9 G10 b39 Δ0 (Typed.pass T9 T10 (s8 bs)) (at47 bs) (Scalar.g-room 𝓤 H A W E G9 4 OfStation.spelt (OfStation.room 𝓤 H A W)) d47
@@ -1352,7 +1352,7 @@ module _ (claims· : Claims) where
 
       module _ (before· : After-fresh-station) where
         abbrev pub After-fresh-record·own : Type 0
-        After-fresh-record·own = Called.Called ps·3 r·3 (claims· .7) T10 (record { pos = 1; st = List.[]; d = 0; at = λ x. x }, tt) (m9 (before· .before) (After-fresh-station·gave before·))
+        After-fresh-record·own = Called.Called ps·3 r·3 (claims· .7) T10 (record { pos = 1; st = List.[]; d = 0; at = λ x. x }, (Num.vLit 0, tt)) (m9 (before· .before) (After-fresh-station·gave before·))
 
       pub record After-fresh-record : Type 0 where
         pub before : After-fresh-station
@@ -1363,7 +1363,7 @@ module _ (claims· : Claims) where
           s9
           (c .before .before .before .before .blocks) .gives
           (m9 (c .before .before) (After-fresh-station·gave (c .before)))
-      After-fresh-record·gave = λ c. Called.given ps·3 r·3 (claims· .7) T10 (record { pos = 1; st = List.[]; d = 0; at = λ x. x }, tt) (m9 (c .before .before) (After-fresh-station·gave (c .before))) (c .fresh-record)
+      After-fresh-record·gave = λ c. Called.given ps·3 r·3 (claims· .7) T10 (record { pos = 1; st = List.[]; d = 0; at = λ x. x }, (Num.vLit 0, tt)) (m9 (c .before .before) (After-fresh-station·gave (c .before))) (c .fresh-record)
 
       abbrev pub m11 :
           (before : After-fresh-station) →
@@ -1812,7 +1812,7 @@ module _ (claims· : Claims) where
             (c .before .before .before .blocks)
             (W0 (c .before .before .before .args) (c .before .before .before .blocks))
             (m6 (c .before) (After-fresh-station·gave c))
-        lay3 = λ c. (fresh-record-requires record { before = c .before; fresh-station = c .fresh-station }, λ g. lay4 record { before = record { before = c .before; fresh-station = c .fresh-station }; fresh-record = Called.called ps·3 r·3 (claims· .7) T10 (record { pos = 1; st = List.[]; d = 0; at = λ x. x }, tt) (m9 (c .before) (After-fresh-station·gave c)) g })
+        lay3 = λ c. (fresh-record-requires record { before = c .before; fresh-station = c .fresh-station }, λ g. lay4 record { before = record { before = c .before; fresh-station = c .fresh-station }; fresh-record = Called.called ps·3 r·3 (claims· .7) T10 (record { pos = 1; st = List.[]; d = 0; at = λ x. x }, (Num.vLit 0, tt)) (m9 (c .before) (After-fresh-station·gave c)) g })
 
         lay2 :
             (c : After-fresh-output) →
