@@ -56,7 +56,13 @@ pub fn read_heading(line: &str) -> Result<Option<Parameters>, String> {
                 let number = words.next().and_then(read_number).ok_or(BAD_WORD)?;
                 parameters.set(parameter, number);
             }
-            None => parameters.tenants = words.next().and_then(read_marks).ok_or(NO_MARKS)?,
+            None => {
+                let digits = words.next();
+                // Without a blank after it a word is not whole, as with `outputs`.
+                let is_whole = digits.is_some() || line.ends_with(BLANKS);
+                let missing = if is_whole { NO_MARKS } else { BAD_WORD };
+                parameters.tenants = digits.and_then(read_marks).ok_or(missing)?;
+            }
         }
     }
     Ok(Some(parameters))

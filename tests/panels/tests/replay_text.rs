@@ -76,7 +76,7 @@ fn bad_first_lines() {
         ("outputs 1 tenants 3 stations 3 tenants", bad_word),
         ("outputs 1 tenants 3 stations", bad_word),
         ("outputs 1 tenants 3 5", bad_word),
-        ("outputs 1 tenants", no_marks),
+        ("outputs 1 tenants", bad_word),
         ("outputs 1 tenants \t\r", no_marks),
         ("outputs 1 tenants stations 3", no_marks),
         ("outputs 1 tenants 123456789", no_marks),

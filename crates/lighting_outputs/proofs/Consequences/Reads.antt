@@ -1,7 +1,7 @@
 -- KIND 05, by the property's NUMBER: what each of 01 to 14, 17 to 1B and 21 to 30 reads as, of every output
 -- at every time, to a service station and to a tenant (§8).
 use mathlib.Core.Path.{_≡_, refl}
-use mathlib.Core.Bool.{Bool, not}
+use mathlib.Core.Bool.{Bool, true, false, not}
 use mathlib.Core.List.{[], _∷_, map}
 use mathlib.Core.Option.{Option, none, some}
 use Prim.Native.Nat.{ℕ, _+_, _*_, _/_, _≤_, _<_}
@@ -9,7 +9,7 @@ use native.Mathlib.Omega.{arith}
 use native.Mathlib.Nat.{add-sub-cancel-left}
 use Rattle.lighting_levels.specs.Paper.Choice.{if_then_else_}
 use Rattle.lighting_levels.specs.Paper.Level.{bits, readOut}
-use Rattle.lighting_outputs.specs.Paper.Slots.{slotCount, slot}
+use Rattle.lighting_outputs.specs.Paper.Slots.{slotCount, slot6, slot}
 use Rattle.lighting_outputs.specs.Paper.Value.{presentValue, progressValue, inProcess}
 use Rattle.lighting_outputs.specs.Paper.Properties.{numbered, propertyOf, levelAnswer, levelOrAbsent, slotAnswer, flag, elapsedActive, realAnswer, readProperty, realFieldAnswer, timeFieldAnswer, lastDuration}
 use Rattle.lighting_outputs.specs.Paper.Relay.{relayState}
@@ -140,17 +140,29 @@ read-slots t o i h =
     by (some v) = unfold levelOrAbsent levelAnswer in refl
 
 -- 'A tenant reading slots 1 to 6 gets Absent' (§8), live or not; slots 7 to 16 it reads as anyone
+pub hides : (i : ℕ) → i < 6 → hidden forTenant i ≡ true
+unfolding hidden if_then_else_
+hides i h = leb-yes {a = i} {b = slot6} (omega arith)
+
+pub hides-no-more : (i : ℕ) → 6 ≤ i → hidden forTenant i ≡ false
+unfolding hidden if_then_else_
+hides-no-more i h = leb-no {a = i} {b = slot6} (omega arith)
+
+hides-from-none : (i : ℕ) → hidden forService i ≡ false
+unfolding hidden if_then_else_
+hides-from-none i = refl
+
 pub read-hidden : (t : ℕ) (o : Output) (i : ℕ) → i < 6 → readsAs forTenant t o (0x21 + i) ≡ Absent
-unfolding acted unchanged propertyOf numbered readProperty hidden if_then_else_
+unfolding acted unchanged propertyOf numbered readProperty if_then_else_
 read-hidden t o i h =
     rw (leb-yes {a = 0x21} {b = 0x21 + i} (omega arith), leb-yes {a = 0x21 + i} {b = 0x30} (omega arith), add-sub-cancel-left 0x21 i)
-    (rw (leb-yes {a = i} {b = 5} (omega arith)))
+    (rw (hides i h))
 
 pub read-shown : (t : ℕ) (o : Output) (i : ℕ) → 6 ≤ i → i < slotCount → readsAs forTenant t o (0x21 + i) ≡ reads t o (0x21 + i)
-unfolding acted unchanged propertyOf numbered readProperty hidden if_then_else_
+unfolding acted unchanged propertyOf numbered readProperty if_then_else_
 read-shown t o i h k =
     rw (leb-yes {a = 0x21} {b = 0x21 + i} (omega arith), leb-yes {a = 0x21 + i} {b = 0x30} (omega arith), add-sub-cancel-left 0x21 i)
-    (rw (leb-no {a = i} {b = 5} (omega arith)))
+    (rw (hides-no-more i h, hides-from-none i))
 
 -- what is refused is not Done
 pub refused : {A : Type 0} {r : ℕ} → _≡_ {A = Answer} (Refused r) Done → A

@@ -9,7 +9,7 @@ use native.Mathlib.Omega.{arith}
 use lib.Seq.{getD-drop}
 use lib.ListN.{getD, drop}
 use Rattle.lighting_levels.specs.Paper.Choice.{if_then_else_}
-use Rattle.lighting_outputs.specs.Paper.Slots.{slot6, slotsOf}
+use Rattle.lighting_outputs.specs.Paper.Slots.{slotsOf}
 use Rattle.lighting_outputs.specs.Paper.Relay.{relayState}
 use Rattle.lighting_outputs.specs.Paper.Tenants.{forTenant, forService, wholePercent, shownLevel, hidden}
 use Rattle.lighting_outputs.specs.Paper.Properties.{numbered, propertyOf, levelOrAbsent, slotAnswer, readProperty}
@@ -23,8 +23,8 @@ use Rattle.lighting_outputs.specs.declared.OutputRequest.{OutputRequest}
 use Rattle.lighting_outputs.specs.declared.OutputRequest.the-variants.{Write, Empty, Change, Read, Commands}
 use Rattle.lighting_outputs.specs.declared.Property.{Property}
 use Rattle.lighting_outputs.specs.declared.Property.the-variants.{RelinquishDefault, FadeTime, RampRate, StepIncrement, BlinkEnable, BlinkTime, BlinkWarnDelay, MinValue, MaxValue, CommandPriority, ElapsedActiveTime, PresentValue, ProgressValue, InProcess, LastOperation, LastLevel, LastRate, LastStep, LastFadeTime, LastDuration, BinaryActiveValue, BinaryInactiveValue, Polarity, BinaryPresentValue, RelayState, SlotValue, Unknown}
-use Rattle.lighting_levels.proofs.Split.{by-le, leb-yes, leb-no}
-use Rattle.lighting_outputs.proofs.Consequences.Reads.{reads, readsAs}
+use Rattle.lighting_levels.proofs.Split.{by-lt}
+use Rattle.lighting_outputs.proofs.Consequences.Reads.{reads, readsAs, hides, hides-no-more}
 
 -- A TENANT'S FRAME DOES what any station's does: it may write, empty and command
 acts-alike : (tenant : Bool) (t : ℕ) (o : Output) (q : OutputRequest) → acted tenant t o q .output ≡ acted forService t o q .output
@@ -86,11 +86,11 @@ exact t o = refl
 -- ALIKE IN ALL THAT A TENANT MAY LEARN, two outputs read the same to it, whatever it asks for. Slots 1 to 6, what
 -- is under way, durations and warnings are free to differ
 module _ (t : ℕ) (o o′ : Output) (alike : (what : Learnt) → AlikeIn what t o o′) where
-  past-six : (i : ℕ) (l : List (Option ℕ)) → slot6 < i → getD (drop 6 l) (i - 6) none ≡ getD l i none
+  past-six : (i : ℕ) (l : List (Option ℕ)) → 6 ≤ i → getD (drop 6 l) (i - 6) none ≡ getD l i none
   past-six i l above =
       let place : 6 + (i - 6) ≡ i = omega arith in getD-drop 6 l (i - 6) none ∙ ap (λ (j : ℕ). getD l j none) place
 
-  slot-same : (i : ℕ) → slot6 < i → slotAnswer (o .slots) i ≡ slotAnswer (o′ .slots) i
+  slot-same : (i : ℕ) → 6 ≤ i → slotAnswer (o .slots) i ≡ slotAnswer (o′ .slots) i
   unfolding slotAnswer
   slot-same i above =
       ap levelOrAbsent
@@ -99,7 +99,7 @@ module _ (t : ℕ) (o o′ : Output) (alike : (what : Learnt) → AlikeIn what t
       ∙ past-six i (slotsOf (o′ .slots)) above)
 
   pub alike-reads : (property : Property) → readProperty forTenant t o property ≡ readProperty forTenant t o′ property
-  unfolding readProperty shownLevel hidden relayState if_then_else_
+  unfolding readProperty shownLevel relayState if_then_else_
   alike-reads RelinquishDefault = rw (alike theSettings)
   alike-reads FadeTime = rw (alike theSettings)
   alike-reads RampRate = rw (alike theSettings)
@@ -126,5 +126,5 @@ module _ (t : ℕ) (o o′ : Output) (alike : (what : Learnt) → AlikeIn what t
   alike-reads BinaryPresentValue = rw (alike theBinaryValue)
   alike-reads RelayState = rw (alike theRelaySettings .2, alike theBinaryValue)
   alike-reads (SlotValue i) =
-      by-le i slot6 (λ h e. rw e) (λ h e. rw e (slot-same i (omega arith)))
+      by-lt i 6 (λ h e. rw (hides i h)) (λ h e. rw (hides-no-more i h) (slot-same i h))
   alike-reads Unknown = refl
