@@ -116,7 +116,8 @@ def figures_of(crate, figures):
     return '\n'.join(lines) + '\n'
 
 
-# §8: for each premise of the claim of secrecy two panels that are alike in all the others, in the order of `premises`
+# §8: for each premise of the claim of secrecy two panels that are alike in all the others, in the order of
+# `premises`
 PREMISES = 'neitherMeetsOne stationCounts outputCounts itsMark panelTimes itsRecord'.split()
 LEARNT = 'theSettings theRelaySettings theSlots theLastCommand theProcess theBinaryValue theBurningTime thePresentValue theProgressValue'.split()
 

@@ -41,8 +41,8 @@ startStep-fresh p marks e h =
     (λ x. absurd (never-done 17 (rw x at h)))
 
 -- For EVERY set of parameters, ALL marks and EVERY lent table e on which a start with these answered Done (so
--- the set is one that may be started), EVERY list l of strings of bytes, and EVERY list l′ in which frames of l come
--- again, anywhere later and any number of times
+-- the set is one that may be started), EVERY list l of strings of bytes, and EVERY list l′ in which frames of
+-- l come again, anywhere later and any number of times
 pub demand-3 : (p : Parameters) (marks : ℕ) (e : Panel) (l l′ : List Bytes) (r : Again [] l l′) → Strings l → startStep p marks e .answer ≡ Done → Demand p marks e l l′ r
 demand-3 p marks e l l′ r s h =
     let c = p .outputs in

@@ -1,5 +1,5 @@
--- §8, THE CLAIM OF SECRECY: two panels that are alike in all that Secrecy.antt names give a tenant's kind 05 the
--- same answer, EVERY string of bytes of that kind.
+-- §8, THE CLAIM OF SECRECY: two panels that are alike in all that Secrecy.antt names give a tenant's kind 05
+-- the same answer, EVERY string of bytes of that kind.
 use mathlib.Core.Path.{_≡_, refl, sym, ap, _∙_}
 use mathlib.Core.Logic.{_≢_}
 use mathlib.Core.Bool.{Bool, true, false, false≢true}
@@ -129,16 +129,16 @@ judged-05 e b stations outputs k size =
         (λ late q. rw q turned)
         (λ timely q. rw q (comes (unfold reading callOf in timely) (omega arith))))))))
 
--- ANSWERED: a first arrival with what its property reads as to a tenant, of its output once it is brought to the
--- frame's time
+-- ANSWERED: a first arrival with what its property reads as to a tenant, of its output once it is brought to
+-- the frame's time
 answer-first : (e : Panel) (b : Bytes) → isTenant (e .kept .tenants) (sender b) ≡ true → addressed b < length (e .outputs)
     → execute b e (Arrives (reading b)) .answer ≡ readProperty forTenant (moment b) (brought e b) (propertyOf (byteAt b 13))
 unfolding execute served acted unchanged reading callOf requestOf
 answer-first e b tenant inside =
     rw (tenant, at-map (advance (e .kept .time) (moment b)) (e .outputs) (addressed b) inside)
 
--- TWO PANELS. What is asked of the panels alone gives the same verdict: so a string that is late, a copy, of a
--- wrong number or length or to an output that is not there gets the same answer whatever the outputs are
+-- TWO PANELS. What is asked of the panels alone gives the same verdict: so a string that is late, a copy, of
+-- a wrong number or length or to an output that is not there gets the same answer whatever the outputs are
 module _ (e e′ : Panel) (b : Bytes) (kind : OfKind05 b) (rules : Alike neitherMeetsOne e e′ b)
     (stations : Alike stationCounts e e′ b) (outputs : Alike outputCounts e e′ b) (time : Alike panelTimes e e′ b)
     (station : Alike itsRecord e e′ b) where
@@ -188,8 +188,8 @@ as-said e e′ b kind alike = secret e e′ b kind each
     each itsRecord = alike .station
     each (learnt what) = λ timely. alike .output what
 
--- OF THE RUNNING PANEL: who calls `frame` with such a string on two lent panels gets the same answer from both,
--- by its contract
+-- OF THE RUNNING PANEL: who calls `frame` with such a string on two lent panels gets the same answer from
+-- both, by its contract
 pub called-secret : (e e′ left left′ : Panel) (b : Bytes) (a a′ : Answer) → OfKind05 b → ((k : Premise) → Alike k e e′ b)
     → result left a ≡ frameStep e b → result left′ a′ ≡ frameStep e′ b → a ≡ a′
 called-secret e e′ left left′ b a a′ kind alike call call′ =

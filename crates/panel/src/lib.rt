@@ -1,7 +1,7 @@
 // The panel over what a caller lends: two tables, outputs and station records, and beside them the panel's
-// own record, which has the panel time, the set of parameters and the marks. The two public operations ask nothing of
-// what is lent. The contract of each is one equation: all that it leaves of what is lent, and its answer, are
-// what `startStep` and `frameStep` say.
+// own record, which has the panel time, the set of parameters and the marks. The two public operations ask
+// nothing of what is lent. The contract of each is one equation: all that it leaves of what is lent, and its
+// answer, are what `startStep` and `frameStep` say.
 ghost use mathlib.Core.Path.{_≡_};
 ghost use lib.ListN.{length};
 ghost use Rattle.lighting_panel.specs.Engine.VerdictPrecondition.{Standing, Arrival, VerdictPrecondition};

@@ -10,8 +10,8 @@ pub data Lines : List Bytes → Bytes → Type 0 where
   string : {b x t : Bytes} {l : List Bytes} → Gives b x → Lines l t → Lines (b ∷ l) (x ++ (10 ∷ t))
   remark : {x t : Bytes} {l : List Bytes} → Silent x → Lines l t → Lines l (x ++ (10 ∷ t))
 
--- the line that names a set and marks, and the strings' lines; lines that say nothing may come before it too, and
--- the last line may lack its newline
+-- the line that names a set and marks, and the strings' lines; lines that say nothing may come before it too,
+-- and the last line may lack its newline
 pub data Listing (s : Named) (l : List Bytes) : Bytes → Type 0 where
   named : {x t : Bytes} → Heading s x → Lines l t → Listing s l (x ++ (10 ∷ t))
   preface : {x t : Bytes} → Silent x → Listing s l t → Listing s l (x ++ (10 ∷ t))

@@ -30,8 +30,8 @@ use Rattle.lighting_outputs.specs.declared.Output.{Output}
 use Rattle.lighting_levels.proofs.Split.{leb-yes, leb-no}
 use Rattle.lighting_outputs.proofs.Rules.Rows.{unlisted}
 
--- a read of property n of the output o at t, a frame of kind 05 whose byte 13 is n, by a tenant or by a service
--- station (§8); and by a service station
+-- a read of property n of the output o at t, a frame of kind 05 whose byte 13 is n, by a tenant or by a
+-- service station (§8); and by a service station
 abbrev pub readsAs : Bool → ℕ → Output → ℕ → Answer
 readsAs tenant t o n = acted tenant t o (Read (propertyOf n)) .answer
 

@@ -1,5 +1,5 @@
--- TENANT STATIONS (§8): what a tenant's frames do and are answered, what whole percent is, and that two outputs
--- which are alike in all of Learnt.antt read the same to a tenant.
+-- TENANT STATIONS (§8): what a tenant's frames do and are answered, what whole percent is, and that two
+-- outputs which are alike in all of Learnt.antt read the same to a tenant.
 use mathlib.Core.Path.{_≡_, refl, sym, ap, _∙_}
 use mathlib.Core.Bool.{Bool}
 use mathlib.Core.List.{List, [], _∷_, _++_, map}
@@ -83,8 +83,8 @@ pub exact : (t : ℕ) (o : Output) → map (readsAs forTenant t o) exactNumbers 
 unfolding acted unchanged propertyOf numbered readProperty hidden if_then_else_
 exact t o = refl
 
--- ALIKE IN ALL THAT A TENANT MAY LEARN, two outputs read the same to it, whatever it asks for. Slots 1 to 6, what
--- is under way, durations and warnings are free to differ
+-- ALIKE IN ALL THAT A TENANT MAY LEARN, two outputs read the same to it, whatever it asks for. Slots 1 to 6,
+-- what is under way, durations and warnings are free to differ
 module _ (t : ℕ) (o o′ : Output) (alike : (what : Learnt) → AlikeIn what t o o′) where
   past-six : (i : ℕ) (l : List (Option ℕ)) → 6 ≤ i → getD (drop 6 l) (i - 6) none ≡ getD l i none
   past-six i l above =

@@ -1,5 +1,6 @@
--- §8, the claim of secrecy, of one output: in what two outputs are to be alike, so that a tenant who reads them
--- is answered the same. The paper's list, an entry each; lighting_panel's Secrecy.antt has the rest of the claim.
+-- §8, the claim of secrecy, of one output: in what two outputs are to be alike, so that a tenant who reads
+-- them is answered the same. The paper's list, an entry each; lighting_panel's Secrecy.antt has the rest of
+-- the claim.
 use mathlib.Core.Path.{_≡_}
 use mathlib.Core.List.{List, [], _∷_}
 use Prim.Native.Nat.{ℕ}
@@ -10,8 +11,8 @@ use Rattle.lighting_outputs.specs.Paper.Tenants.{wholePercent}
 use Rattle.lighting_outputs.specs.Paper.Properties.{elapsedActive}
 use Rattle.lighting_outputs.specs.declared.Output.{Output}
 
--- 'in settings, slots 7 to 16, last command, In_Process, Binary_Present_Value, burning time and the two levels
--- in whole percent'. The settings of the relay, 17 to 19 (§3), are settings too
+-- 'in settings, slots 7 to 16, last command, In_Process, Binary_Present_Value, burning time and the two
+-- levels in whole percent'. The settings of the relay, 17 to 19 (§3), are settings too
 pub data Learnt : Type 0 where
   theSettings : Learnt
   theRelaySettings : Learnt
@@ -23,8 +24,8 @@ pub data Learnt : Type 0 where
   thePresentValue : Learnt
   theProgressValue : Learnt
 
--- what is alike of two outputs at the time t. A slot is live or not and, if live, has a level. Of burning time
--- the whole seconds are enough, as 0B reads them
+-- what is alike of two outputs at the time t. A slot is live or not and, if live, has a level. Of burning
+-- time the whole seconds are enough, as 0B reads them
 abbrev pub AlikeIn : Learnt → ℕ → Output → Output → Type 0
 AlikeIn theSettings t o o′ = o .settings ≡ o′ .settings
 AlikeIn theRelaySettings t o o′ =

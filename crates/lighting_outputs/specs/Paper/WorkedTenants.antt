@@ -20,8 +20,8 @@ use Rattle.lighting_outputs.specs.declared.Phase.the-variants.{Delay}
 use Rattle.lighting_outputs.specs.declared.Slots.{Slots}
 use Rattle.lighting_outputs.specs.declared.Timer.the-variants.{Off}
 
--- an output at 10,000 ms: 50.5 percent in slot 1, 30 in slot 3, 25.75 in slot 7, 60 in slot 16; on its way from
--- 10.25 percent, half of it gone, so at 30.375; every setting is another than a fresh one
+-- an output at 10,000 ms: 50.5 percent in slot 1, 30 in slot 3, 25.75 in slot 7, 60 in slot 16; on its way
+-- from 10.25 percent, half of it gone, so at 30.375; every setting is another than a fresh one
 abbrev fourLive : Slots
 fourLive = filled (filled (filled (filled (freshOutput .slots) 0 3309568) 2 1966080) 6 1687552) 15 3932160
 

@@ -1,7 +1,7 @@
--- THE PANEL AS IT STOOD BEFORE §6: no set in its record, no marks, 1 to 64 outputs, eight stations, a day. What §6
--- did not move it shares with today's panel; where today's reads a number of the set, it reads document
--- 01's, which is written there with 64 outputs, the most that it allows. That each such definition is then
--- document 01's own clause, with its numbers, the theorems of `Consequences/Numbers.antt` say.
+-- THE PANEL AS IT STOOD BEFORE §6: no set in its record, no marks, 1 to 64 outputs, eight stations, a day.
+-- What §6 did not move it shares with today's panel; where today's reads a number of the set, it reads
+-- document 01's, which is written there with 64 outputs, the most that it allows. That each such definition
+-- is then document 01's own clause, with its numbers, the theorems of `Consequences/Numbers.antt` say.
 -- proofs/OldPanel.antt and proofs/FourHours.antt: 'The old panel's set now ends in 14,400,000, 86,400,000,
 -- and equals it on lists without a longer fade time' (§7).
 use mathlib.Core.Bool.{Bool}

@@ -1,8 +1,8 @@
--- §8, THE CLAIM OF SECRECY, about two panels: 'Two panels that do not meet 1, alike in start parameters, marks,
--- time and that station's record, and, once brought to the frame's time, in settings, slots 7 to 16, last
--- command, In_Process, Binary_Present_Value, burning time and the two levels in whole percent, give a tenant's
--- kind 05 the same answer'. proofs/Secrecy.antt proves it of every string of bytes, and proofs/Needed.antt that
--- each premise is needed.
+-- §8, THE CLAIM OF SECRECY, about two panels: 'Two panels that do not meet 1, alike in start parameters,
+-- marks, time and that station's record, and, once brought to the frame's time, in settings, slots 7 to 16,
+-- last command, In_Process, Binary_Present_Value, burning time and the two levels in whole percent, give a
+-- tenant's kind 05 the same answer'. proofs/Secrecy.antt proves it of every string of bytes, and
+-- proofs/Needed.antt that each premise is needed.
 use mathlib.Core.Path.{_≡_}
 use mathlib.Core.Logic.{_≢_}
 use mathlib.Core.Bool.{Bool, true, false}
@@ -22,7 +22,8 @@ use Rattle.lighting_frames.specs.Paper.Stations.{freshStation}
 use Rattle.lighting_panel.specs.Paper.Panel.{Panel, panelSound}
 use Rattle.lighting_panel.specs.Engine.Executing.{frameStep}
 
--- a string of kind 05; and its fields, 'station (1), number (4), time (6), output (1)', a missing byte being 0
+-- a string of kind 05; and its fields, 'station (1), number (4), time (6), output (1)', a missing byte being
+-- 0
 abbrev pub OfKind05 : Bytes → Type 0
 OfKind05 b = byteAt b 0 ≡ 0x05
 
@@ -39,8 +40,8 @@ addressed b = byteAt b 12
 abbrev pub brought : Panel → Bytes → Output
 brought e b = advance (e .kept .time) (moment b) (getD (e .outputs) (addressed b) freshOutput)
 
--- THE PREMISES: the paper's, less what is not needed. Of the set the longest fade and the longest duration may
--- differ, and of the marks all others
+-- THE PREMISES: the paper's, less what is not needed. Of the set the longest fade and the longest duration
+-- may differ, and of the marks all others
 pub data Premise : Type 0 where
   neitherMeetsOne : Premise
   stationCounts : Premise

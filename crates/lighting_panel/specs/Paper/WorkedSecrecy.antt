@@ -1,6 +1,6 @@
--- §8, THAT NO PREMISE OF THE CLAIM OF SECRECY IS TOO MANY: for each of them two panels that differ in it alone,
--- and a tenant's kind 05 to which they answer differently. proofs/Needed.antt proves both; the answers by number
--- stand below, and proofs/Figures.antt computes them. Slots are counted from 0: slot 7 is 6.
+-- §8, THAT NO PREMISE OF THE CLAIM OF SECRECY IS TOO MANY: for each of them two panels that differ in it
+-- alone, and a tenant's kind 05 to which they answer differently. proofs/Needed.antt proves both; the answers
+-- by number stand below, and proofs/Figures.antt computes them. Slots are counted from 0: slot 7 is 6.
 use mathlib.Core.Bool.{Bool, true, false}
 use mathlib.Core.List.{List, [], _∷_, map}
 use Prim.Native.Nat.{ℕ}
@@ -32,8 +32,8 @@ use Rattle.lighting_panel.specs.Engine.Executing.{frameStep}
 use Rattle.lighting_panel.specs.Paper.Secrecy.{Premise, neitherMeetsOne, stationCounts, outputCounts, itsMark, panelTimes, itsRecord, learnt, premises}
 use Rattle.lighting_panel.specs.Paper.Worked.{asked}
 
--- AN OUTPUT at 10,000 ms: slot 1 holds 47.25 percent, or another level, and wins; slot 7 holds 30, or another.
--- The relay may be on or off there, between 45 and 50 percent
+-- AN OUTPUT at 10,000 ms: slot 1 holds 47.25 percent, or another level, and wins; slot 7 holds 30, or
+-- another. The relay may be on or off there, between 45 and 50 percent
 abbrev slotsWith : ℕ → ℕ → Slots
 slotsWith first seventh = filled (filled (freshOutput .slots) 0 first) 6 seventh
 
@@ -59,8 +59,8 @@ underWay start first over =
     (Moving (record { owner = 0; start = start; target = first; length = 1000; over = over; pace = Fade }))
     5000 Stop false false
 
--- A PANEL: so many stations, all fresh, of which a word of marks tells the tenants; and one of eight stations and
--- one output, whose station 0 is a tenant
+-- A PANEL: so many stations, all fresh, of which a word of marks tells the tenants; and one of eight stations
+-- and one output, whose station 0 is a tenant
 abbrev panelAt : ℕ → ℕ → ℕ → ℕ → List Output → Panel
 panelAt stations count time marks outputs =
     panelOf outputs (replicate stations freshStation)
@@ -166,9 +166,9 @@ twoSaid =
     ∷ (Value 0x41a0_0000 ∷ Value 0x41f0_0000 ∷ [])
     ∷ []
 
--- WHAT IS FREE TO DIFFER: two panels of two outputs, whose station 1 is a tenant and station 2 is none. In the
--- one slot 1 holds 47.25 percent; in the other a warning shows 47.75, a duration runs, the second output is lit,
--- station 3 has sent a frame, the longest times are shorter and other stations are tenants
+-- WHAT IS FREE TO DIFFER: two panels of two outputs, whose station 1 is a tenant and station 2 is none. In
+-- the one slot 1 holds 47.25 percent; in the other a warning shows 47.75, a duration runs, the second output
+-- is lit, station 3 has sent a frame, the longest times are shorter and other stations are tenants
 abbrev pub quiet : Panel
 quiet =
     panelAt 8 2 10000 0x0000_0002
@@ -195,8 +195,8 @@ busy =
       tenants = 0xffff_fffa;
     })
 
--- each reads properties 0C, 0D, 0E and 21 to 28 of output 0: the tenant of the one and of the other, the service
--- station of the one and of the other
+-- each reads properties 0C, 0D, 0E and 21 to 28 of output 0: the tenant of the one and of the other, the
+-- service station of the one and of the other
 abbrev pub freeGiven : List (List Answer)
 freeGiven =
     map
