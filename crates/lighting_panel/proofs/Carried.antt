@@ -95,7 +95,8 @@ station-within p allowed c b (Calls call) g = g .station
 pub station-found : (p : Parameters) → startable p ≡ true → (c : ℕ) (b : Bytes) → Octets b → stationOf (parse p c b) < p .stations
 station-found p allowed c b h = station-within p (startable-of p allowed) c b (parse p c b) (frame-in-range p c b h)
 
-judgedByRecord-sure : (p : Parameters) (now c k : ℕ) (b : Bytes) (a : Station) (same : Bool) (f : Frame) → Startable p
+judgedByRecord-sure : (p : Parameters) (now c k : ℕ) (b : Bytes) (a : Station) (same : Bool) (f : Frame)
+    → Startable p
     → k ≡ p .stations → FrameInRange p c b f → VerdictPrecondition now c k b (judgedByRecord now a same f)
 unfolding judgedByRecord judgedByNumber retransmissionOrConflict if_then_else_
 judgedByRecord-sure p now c k b a same (Bad r) allowed e g = tt
@@ -130,4 +131,6 @@ decide-sure e b h z =
     let p = e .kept .parameters in
     let f = parse p (length (e .outputs)) b in
     let k = getD (e .stations) (stationOf f) freshStation in
-    judgedByRecord-sure p (e .kept .time) (length (e .outputs)) (length (e .stations)) b k (sameBytes b (restored (k .frame))) f (startable-of p (sound-startable e z)) (sound-stations e z) (frame-in-range p (length (e .outputs)) b h)
+    judgedByRecord-sure p (e .kept .time) (length (e .outputs)) (length (e .stations)) b k
+    (sameBytes b (restored (k .frame))) f (startable-of p (sound-startable e z)) (sound-stations e z)
+    (frame-in-range p (length (e .outputs)) b h)

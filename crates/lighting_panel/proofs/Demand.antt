@@ -30,7 +30,8 @@ pub never-done : (r : ℕ) → Refused r ≡ Done → ⊥
 never-done r impossible = let one : _≡_ {A = ℕ} 0 1 = cc in omega arith
 
 -- a start that answers Done was given a set that may be started, and leaves fresh records
-pub startStep-fresh : (p : Parameters) (marks : ℕ) (e : Panel) → startStep p marks e .answer ≡ Done → (startable p ≡ true) × (startStep p marks e .panel ≡ freshPanel p marks)
+pub startStep-fresh : (p : Parameters) (marks : ℕ) (e : Panel) → startStep p marks e .answer ≡ Done
+    → (startable p ≡ true) × (startStep p marks e .panel ≡ freshPanel p marks)
 unfolding startStep if_then_else_
 startStep-fresh p marks e h =
     by-bool (startable p)
@@ -43,7 +44,8 @@ startStep-fresh p marks e h =
 -- For EVERY set of parameters, ALL marks and EVERY lent table e on which a start with these answered Done (so
 -- the set is one that may be started), EVERY list l of strings of bytes, and EVERY list l′ in which frames of
 -- l come again, anywhere later and any number of times
-pub demand-3 : (p : Parameters) (marks : ℕ) (e : Panel) (l l′ : List Bytes) (r : Again [] l l′) → Strings l → startStep p marks e .answer ≡ Done → Demand p marks e l l′ r
+pub demand-3 : (p : Parameters) (marks : ℕ) (e : Panel) (l l′ : List Bytes) (r : Again [] l l′) → Strings l
+    → startStep p marks e .answer ≡ Done → Demand p marks e l l′ r
 demand-3 p marks e l l′ r s h =
     let c = p .outputs in
     let f = startStep-fresh p marks e h in
@@ -57,7 +59,9 @@ demand-3 p marks e l l′ r s h =
       parameters = rw (begin, i .same);
       tenants = rw (begin, i .same);
       answered = rw begin (i .answered);
-      sound = rw (begin, i .same) (linked-sound p marks c (i .stations) (plainAfter p marks (plainStart p) l) (i .linked));
+      sound =
+          rw (begin, i .same)
+          (linked-sound p marks c (i .stations) (plainAfter p marks (plainStart p) l) (i .linked));
       never = rw (begin, i .answered) (never-one (plainAnswers p marks (plainStart p) l) (i .others));
       again = rw begin (j .0);
       answeredAgain = rw begin (j .1);
@@ -68,7 +72,8 @@ pub same-found : (e : Panel) (w : Plain) → e .outputs ≡ w .outputs → e .ke
 same-found e w y q = rw (y, q)
 
 -- so by demand 3 all that is found is what the plain panel has
-pub finds : (p : Parameters) (marks : ℕ) (e : Panel) (l l′ : List Bytes) (r : Again [] l l′) → Demand p marks e l l′ r
+pub finds : (p : Parameters) (marks : ℕ) (e : Panel) (l l′ : List Bytes) (r : Again [] l l′)
+    → Demand p marks e l l′ r
     → foundIn (after (startStep p marks e .panel) l) ≡ foundPlain (plainAfter p marks (plainStart p) l .panel)
 finds p marks e l l′ r d =
     same-found

@@ -85,7 +85,8 @@ pub record Refines (p : Parameters) (c : ℕ) (k : List Station) (w : PlainState
   pub others : PastOther (w .past)
 
 -- refusal 1 does not come
-pub linked-sound : (p : Parameters) (marks : ℕ) (c : ℕ) (k : List Station) (w : PlainState) → Refines p c k w → panelSound (joined p marks k w) ≡ true
+pub linked-sound : (p : Parameters) (marks c : ℕ) (k : List Station) (w : PlainState) → Refines p c k w
+    → panelSound (joined p marks k w) ≡ true
 unfolding panelSound rulesKept countsSound
 linked-sound p marks c k w m =
     rw
@@ -135,7 +136,8 @@ judgedByRecord-judged p c k w b (Calls call) m g =
     )
     (alike n (latest s (w .past) .number) t (w .panel .time) _ (TurnedDown 7) (TurnedDown 8) (Arrives call))
 
-pub decide-judged : (p : Parameters) (marks : ℕ) (c : ℕ) (k : List Station) (w : PlainState) (b : Bytes) → Octets b → Refines p c k w
+pub decide-judged : (p : Parameters) (marks c : ℕ) (k : List Station) (w : PlainState) (b : Bytes) → Octets b
+    → Refines p c k w
     → decide (joined p marks k w) b ≡ judged (w .past) b (parse p (length (w .panel .outputs)) b)
 unfolding decide
 decide-judged p marks c k w b h m =
@@ -189,14 +191,21 @@ nextStations marks b k w (TurnedDown r) = k
 nextStations marks b k w (Copied a) = k
 nextStations marks b k w (Clocked t) = k
 nextStations marks b k w (Arrives call) =
-    set k (call .station) (record { answer = plainExecute marks b w (Arrives call) .answer; number = call .number; frame = padded b })
+    set k (call .station)
+    (record { answer = plainExecute marks b w (Arrives call) .answer; number = call .number; frame = padded b })
 
-step-same : (p : Parameters) (marks : ℕ) (c : ℕ) (k : List Station) (w : PlainState) (b : Bytes) (v : Verdict) → Refines p c k w → Moved p c w b v
-    → execute b (joined p marks k w) v ≡ record { panel = joined p marks (nextStations marks b k w v) (plainExecute marks b w v .state); answer = plainExecute marks b w v .answer }
+step-same : (p : Parameters) (marks c : ℕ) (k : List Station) (w : PlainState) (b : Bytes) (v : Verdict)
+    → Refines p c k w → Moved p c w b v
+    → execute b (joined p marks k w) v
+    ≡ record {
+      panel = joined p marks (nextStations marks b k w v) (plainExecute marks b w v .state);
+      answer = plainExecute marks b w v .answer;
+    }
 unfolding execute plainExecute
 step-same p marks c k w b (TurnedDown r) m g = refl
 step-same p marks c k w b (Copied a) m g = refl
-step-same p marks c k w b (Clocked t) m g = rw (runPlain-advance p t (w .panel) (g .0) (omega (arith, g .1)) (m .sound))
+step-same p marks c k w b (Clocked t) m g =
+    rw (runPlain-advance p t (w .panel) (g .0) (omega (arith, g .1)) (m .sound))
 step-same p marks c k w b (Arrives call) m g =
     rw (runPlain-advance p (call .time) (w .panel) (g .due) (omega (arith, g .frame .time)) (m .sound))
 
@@ -295,7 +304,8 @@ linked-first p c k w b call l a m g e h z =
       others = (z, m .others);
     }
 
-pub step-linked : (p : Parameters) (marks : ℕ) (c : ℕ) (k : List Station) (w : PlainState) (b : Bytes) (v : Verdict) → Refines p c k w → Moved p c w b v
+pub step-linked : (p : Parameters) (marks c : ℕ) (k : List Station) (w : PlainState) (b : Bytes) (v : Verdict)
+    → Refines p c k w → Moved p c w b v
     → Refines p c (nextStations marks b k w v) (plainExecute marks b w v .state)
 unfolding plainExecute
 step-linked p marks c k w b (TurnedDown r) m g = m
@@ -319,23 +329,29 @@ step-linked p marks c k w b (Arrives call) m g =
     (served-not-one p tenant t l i r (g .frame .good)))
 
 -- its answer is not refusal 1
-plainExecute-other : (p : Parameters) (marks : ℕ) (c : ℕ) (k : List Station) (w : PlainState) (b : Bytes) (v : Verdict) → Refines p c k w → Moved p c w b v → NotOne (plainExecute marks b w v .answer)
+plainExecute-other : (p : Parameters) (marks c : ℕ) (k : List Station) (w : PlainState) (b : Bytes) (v : Verdict)
+    → Refines p c k w → Moved p c w b v → NotOne (plainExecute marks b w v .answer)
 unfolding plainExecute
 plainExecute-other p marks c k w b (TurnedDown r) m g = record { other = omega arith }
 plainExecute-other p marks c k w b (Copied a) m g = g
 plainExecute-other p marks c k w b (Clocked t) m g = record { other = omega arith }
-plainExecute-other p marks c k w b (Arrives call) m g = served-not-one p _ _ _ (call .output) (call .request) (g .frame .good)
+plainExecute-other p marks c k w b (Arrives call) m g =
+    served-not-one p _ _ _ (call .output) (call .request) (g .frame .good)
 
 -- the engine's step from a linked panel is the plain panel's, and the panels are linked again
-pub record Stepped (p : Parameters) (marks : ℕ) (c : ℕ) (k : List Station) (w : PlainState) (b : Bytes) : Type 0 where
+pub record Stepped (p : Parameters) (marks c : ℕ) (k : List Station) (w : PlainState) (b : Bytes) : Type 0 where
   pub stations : List Station
   pub same :
       frameStep (joined p marks k w) b
-      ≡ record { panel = joined p marks stations (plainFrameStep p marks w b .state); answer = plainFrameStep p marks w b .answer }
+      ≡ record {
+        panel = joined p marks stations (plainFrameStep p marks w b .state);
+        answer = plainFrameStep p marks w b .answer;
+      }
   pub linked : Refines p c stations (plainFrameStep p marks w b .state)
   pub other : NotOne (plainFrameStep p marks w b .answer)
 
-pub step : (p : Parameters) (marks : ℕ) (c : ℕ) (k : List Station) (w : PlainState) (b : Bytes) → Octets b → Refines p c k w → Stepped p marks c k w b
+pub step : (p : Parameters) (marks c : ℕ) (k : List Station) (w : PlainState) (b : Bytes) → Octets b
+    → Refines p c k w → Stepped p marks c k w b
 unfolding frameStep plainFrameStep if_then_else_
 step p marks c k w b h m =
     let v = judged (w .past) b (parse p (length (w .panel .outputs)) b) in
@@ -351,14 +367,15 @@ step p marks c k w b h m =
 abbrev pub AllOther : List Answer → Type 0
 AllOther l = Every NotOne l
 
-pub record Listed (p : Parameters) (marks : ℕ) (c : ℕ) (k : List Station) (w : PlainState) (l : List Bytes) : Type 0 where
+pub record Listed (p : Parameters) (marks c : ℕ) (k : List Station) (w : PlainState) (l : List Bytes) : Type 0 where
   pub stations : List Station
   pub same : after (joined p marks k w) l ≡ joined p marks stations (plainAfter p marks w l)
   pub answered : answers (joined p marks k w) l ≡ plainAnswers p marks w l
   pub linked : Refines p c stations (plainAfter p marks w l)
   pub others : AllOther (plainAnswers p marks w l)
 
-pub listed : (p : Parameters) (marks : ℕ) (c : ℕ) (k : List Station) (w : PlainState) (l : List Bytes) → Strings l → Refines p c k w → Listed p marks c k w l
+pub listed : (p : Parameters) (marks c : ℕ) (k : List Station) (w : PlainState) (l : List Bytes) → Strings l
+    → Refines p c k w → Listed p marks c k w l
 unfolding after answers plainAfter plainAnswers
 listed p marks c k w [] s m = record { stations = k; same = refl; answered = refl; linked = m; others = tt }
 listed p marks c k w (b ∷ l) s m =

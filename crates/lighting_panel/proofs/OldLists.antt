@@ -60,7 +60,8 @@ values : (p : Parameters) (t : ℕ) (o : Output) → sound p t o ≡ true → o 
 unfolding sound relaySound
 values p t o keeps = search parts depth 10
 
-taken-done : (p : Parameters) (tenant : Bool) (t : ℕ) (outputs : List Output) (i : ℕ) (request : OutputRequest) → TakesFade request
+taken-done : (p : Parameters) (tenant : Bool) (t : ℕ) (outputs : List Output) (i : ℕ) (request : OutputRequest)
+    → TakesFade request
     → i < length outputs → every (sound p t) outputs ≡ true
     → served tenant t outputs i (ToOutput request) .answer ≡ Done
 unfolding served acted done settingsWith relayWith same if_then_else_

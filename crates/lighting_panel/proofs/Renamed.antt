@@ -85,7 +85,8 @@ module _ (p : Parameters) (marks : ℕ) (s : Bytes → Bytes) (Sort : Bytes → 
   execute-renamed b w (Clocked t) = refl
   execute-renamed b w (Arrives call) = refl
 
-  execute-sort : (b : Bytes) (w : PlainState) (v : Verdict) → Sort b → AllPast (w .past) → AllPast (plainExecute marks b w v .state .past)
+  execute-sort : (b : Bytes) (w : PlainState) (v : Verdict) → Sort b → AllPast (w .past)
+      → AllPast (plainExecute marks b w v .state .past)
   unfolding plainExecute
   execute-sort b w (TurnedDown n) d g = g
   execute-sort b w (Copied a) d g = g
@@ -99,7 +100,8 @@ module _ (p : Parameters) (marks : ℕ) (s : Bytes → Bytes) (Sort : Bytes → 
       let f = parse p (length (w .panel .outputs)) b in
       rw (r .alike (length (w .panel .outputs)) b d, judged-renamed (w .past) b f g d) (execute-renamed b w (judged (w .past) b f))
 
-  step-sort : (w : PlainState) (b : Bytes) → AllPast (w .past) → Sort b → AllPast (plainFrameStep p marks w b .state .past)
+  step-sort : (w : PlainState) (b : Bytes) → AllPast (w .past) → Sort b
+      → AllPast (plainFrameStep p marks w b .state .past)
   unfolding plainFrameStep
   step-sort w b g d = execute-sort b w (judged (w .past) b (parse p (length (w .panel .outputs)) b)) d g
 
@@ -112,7 +114,8 @@ module _ (p : Parameters) (marks : ℕ) (s : Bytes → Bytes) (Sort : Bytes → 
       let i = list-renamed (plainFrameStep p marks w b .state) l (step-sort w b g (d .0)) (d .1) in
       let e = step-renamed w b g (d .0) in (
         ap (λ (z : Reply). plainAfter p marks (z .state) (map s l) .panel) e ∙ i .0,
-        ap (λ (z : Reply). z .answer ∷ plainAnswers p marks (z .state) (map s l)) e ∙ ap (λ (z : List Answer). plainFrameStep p marks w b .answer ∷ z) (i .1),
+        ap (λ (z : Reply). z .answer ∷ plainAnswers p marks (z .state) (map s l)) e ∙ ap
+            (λ (z : List Answer). plainFrameStep p marks w b .answer ∷ z) (i .1),
       )
 
   -- from a fresh start

@@ -48,7 +48,8 @@ spent-grows w w′ (Clock t) g h = omega (arith, g .time)
 spent-grows w w′ (Calls call) g (old h) = old (omega (arith, g .number (call .station)))
 spent-grows w w′ (Calls call) g (late h) = late (omega (arith, g .time))
 
-plainExecute-grows : (p : Parameters) (marks : ℕ) (c : ℕ) (k : List Station) (w : PlainState) (b : Bytes) (v : Verdict) → Refines p c k w → Moved p c w b v → Grows w (plainExecute marks b w v .state)
+plainExecute-grows : (p : Parameters) (marks c : ℕ) (k : List Station) (w : PlainState) (b : Bytes) (v : Verdict)
+    → Refines p c k w → Moved p c w b v → Grows w (plainExecute marks b w v .state)
 unfolding plainExecute latest if_then_else_
 plainExecute-grows p marks c k w b (TurnedDown r) m g = record { time = omega arith; number = λ s. omega arith }
 plainExecute-grows p marks c k w b (Copied a) m g = record { time = omega arith; number = λ s. omega arith }
@@ -65,7 +66,8 @@ plainExecute-grows p marks c k w b (Arrives call) m g =
     })
 
 -- once judged, a frame is spent
-now-spent : (p : Parameters) (marks : ℕ) (c : ℕ) (k : List Station) (w : PlainState) (b : Bytes) (f : Frame) → Refines p c k w → FrameInRange p c b f
+now-spent : (p : Parameters) (marks c : ℕ) (k : List Station) (w : PlainState) (b : Bytes) (f : Frame)
+    → Refines p c k w → FrameInRange p c b f
     → Spent (plainExecute marks b w (judged (w .past) b f) .state) f
 unfolding judged retransmissionOrConflict plainExecute latest if_then_else_
 now-spent p marks c k w b (Bad r) m g = tt
@@ -100,7 +102,8 @@ now-spent p marks c k w b (Calls call) m g =
     (λ y. rw (e, y) (old h))))
 
 -- what a spent frame leaves: everything
-stays : (p : Parameters) (marks : ℕ) (c : ℕ) (k : List Station) (w : PlainState) (b : Bytes) (f : Frame) → Refines p c k w → FrameInRange p c b f → Spent w f
+stays : (p : Parameters) (marks c : ℕ) (k : List Station) (w : PlainState) (b : Bytes) (f : Frame)
+    → Refines p c k w → FrameInRange p c b f → Spent w f
     → execute b (joined p marks k w) (judged (w .past) b f) .panel ≡ joined p marks k w
 unfolding judged retransmissionOrConflict execute if_then_else_
 stays p marks c k w b (Bad r) m g h = refl
@@ -150,7 +153,8 @@ all-grow : (p : Parameters) (c : ℕ) (w w′ : PlainState) (l : List Bytes) →
 all-grow p c w w′ l g h =
     every-then (SpentString p c w) (SpentString p c w′) l (λ b s. (s .0, spent-grows w w′ (parse p c b) g (s .1))) h
 
-engine-stays : (p : Parameters) (marks : ℕ) (c : ℕ) (k : List Station) (w : PlainState) (b : Bytes) → Octets b → Refines p c k w → Spent w (parse p c b)
+engine-stays : (p : Parameters) (marks c : ℕ) (k : List Station) (w : PlainState) (b : Bytes) → Octets b
+    → Refines p c k w → Spent w (parse p c b)
     → frameStep (joined p marks k w) b .panel ≡ joined p marks k w
 unfolding frameStep if_then_else_
 engine-stays p marks c k w b o m h =
@@ -158,7 +162,8 @@ engine-stays p marks c k w b o m h =
     (linked-sound p marks c k w m, decide-judged p marks c k w b o m, m .count)
     (stays p marks c k w b (parse p c b) m (frame-in-range p c b o) h)
 
-plain-spends : (p : Parameters) (marks : ℕ) (c : ℕ) (k : List Station) (w : PlainState) (b : Bytes) (l : List Bytes) → Octets b → Refines p c k w → AllSpent p c w l
+plain-spends : (p : Parameters) (marks c : ℕ) (k : List Station) (w : PlainState) (b : Bytes) (l : List Bytes)
+    → Octets b → Refines p c k w → AllSpent p c w l
     → AllSpent p c (plainFrameStep p marks w b .state) (b ∷ l)
 unfolding plainFrameStep
 plain-spends p marks c k w b l o m h =
@@ -174,7 +179,8 @@ plain-spends p marks c k w b l o m h =
           h,
     )
 
-repeats : (p : Parameters) (marks : ℕ) (c : ℕ) (k : List Station) (w : PlainState) {seen l l′ : List Bytes} (r : Again seen l l′) → Strings l → Refines p c k w → AllSpent p c w seen
+repeats : (p : Parameters) (marks c : ℕ) (k : List Station) (w : PlainState) {seen l l′ : List Bytes} (r : Again seen l l′)
+    → Strings l → Refines p c k w → AllSpent p c w seen
     → (after (joined p marks k w) l′ ≡ after (joined p marks k w) l)
     × (answersToOriginals r (answers (joined p marks k w) l′) ≡ answers (joined p marks k w) l)
 unfolding after answers answersToOriginals
@@ -189,7 +195,8 @@ repeats p marks c k w (copy {seen = seen} {b = b} a r) s m h =
     rw (engine-stays p marks c k w b (o .0) m (o .1)) i
 
 -- after a start nothing is seen yet
-pub repeats-change-nothing : (p : Parameters) (marks : ℕ) (c : ℕ) (k : List Station) (w : PlainState) {l l′ : List Bytes} (r : Again [] l l′) → Strings l → Refines p c k w
+pub repeats-change-nothing : (p : Parameters) (marks c : ℕ) (k : List Station) (w : PlainState) {l l′ : List Bytes} (r : Again [] l l′)
+    → Strings l → Refines p c k w
     → (after (joined p marks k w) l′ ≡ after (joined p marks k w) l)
     × (answersToOriginals r (answers (joined p marks k w) l′) ≡ answers (joined p marks k w) l)
 repeats-change-nothing p marks c k w r s m = repeats p marks c k w r s m tt

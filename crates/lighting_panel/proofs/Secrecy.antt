@@ -55,7 +55,8 @@ readBy stations outputs b =
     )
     else Bad 3
 
-parsed : (p : Parameters) (outputs : ℕ) (b : Bytes) → OfKind05 b → parse p outputs b ≡ readBy (p .stations) outputs b
+parsed : (p : Parameters) (outputs : ℕ) (b : Bytes) → OfKind05 b
+    → parse p outputs b ≡ readBy (p .stations) outputs b
 unfolding parse parseBy kindRow called callOf requestOf reading if_then_else_
 parsed p outputs b kind = rw kind
 
@@ -91,7 +92,8 @@ by-sender stations outputs now table b =
 
 decided : (e : Panel) (b : Bytes) → OfKind05 b → panelSound e ≡ true
     → decide e b
-    ≡ judgedBy (e .kept .parameters .stations) (e .kept .parameters .outputs) (e .kept .time) (getD (e .stations) (sender b) freshStation) b
+    ≡ judgedBy (e .kept .parameters .stations) (e .kept .parameters .outputs) (e .kept .time)
+    (getD (e .stations) (sender b) freshStation) b
 unfolding decide
 decided e b kind h =
     let p = e .kept .parameters in
@@ -131,7 +133,8 @@ judged-05 e b stations outputs k size =
 
 -- ANSWERED: a first arrival with what its property reads as to a tenant, of its output once it is brought to
 -- the frame's time
-answer-first : (e : Panel) (b : Bytes) → isTenant (e .kept .tenants) (sender b) ≡ true → addressed b < length (e .outputs)
+answer-first : (e : Panel) (b : Bytes) → isTenant (e .kept .tenants) (sender b) ≡ true
+    → addressed b < length (e .outputs)
     → execute b e (Arrives (reading b)) .answer ≡ readProperty forTenant (moment b) (brought e b) (propertyOf (byteAt b 13))
 unfolding execute served acted unchanged reading callOf requestOf
 answer-first e b tenant inside =
@@ -166,7 +169,8 @@ secret e e′ b kind alike =
     let rules = alike neitherMeetsOne in
     let p = e .kept .parameters in
     let same =
-    judged-alike e e′ b kind rules (alike stationCounts) (alike outputCounts) (alike panelTimes) (alike itsRecord) in
+    judged-alike e e′ b kind rules (alike stationCounts) (alike outputCounts) (alike panelTimes)
+    (alike itsRecord) in
     let found = judged-05 e b (p .stations) (p .outputs) (getD (e .stations) (sender b) freshStation) (output-count e (rules .0)) in
     let verdict : Judged05 e b (decide e b) = rw (decided e b kind (rules .0)) found in
     ap (λ (s : Step). s .answer) (frameStep-execute e b (rules .0))
@@ -176,7 +180,8 @@ secret e e′ b kind alike =
     ∙ sym (ap (λ (s : Step). s .answer) (frameStep-execute e′ b (rules .1)))
 
 -- in the paper's words
-pub as-said : (e e′ : Panel) (b : Bytes) → OfKind05 b → AlikeAsSaid e e′ b → frameStep e b .answer ≡ frameStep e′ b .answer
+pub as-said : (e e′ : Panel) (b : Bytes) → OfKind05 b → AlikeAsSaid e e′ b
+    → frameStep e b .answer ≡ frameStep e′ b .answer
 as-said e e′ b kind alike = secret e e′ b kind each
   where
     each : (k : Premise) → Alike k e e′ b
@@ -190,7 +195,8 @@ as-said e e′ b kind alike = secret e e′ b kind each
 
 -- OF THE RUNNING PANEL: who calls `frame` with such a string on two lent panels gets the same answer from
 -- both, by its contract
-pub called-secret : (e e′ left left′ : Panel) (b : Bytes) (a a′ : Answer) → OfKind05 b → ((k : Premise) → Alike k e e′ b)
+pub called-secret : (e e′ left left′ : Panel) (b : Bytes) (a a′ : Answer) → OfKind05 b
+    → ((k : Premise) → Alike k e e′ b)
     → result left a ≡ frameStep e b → result left′ a′ ≡ frameStep e′ b → a ≡ a′
 called-secret e e′ left left′ b a a′ kind alike call call′ =
     ap (λ (s : Step). s .answer) call ∙ secret e e′ b kind alike ∙ sym (ap (λ (s : Step). s .answer) call′)
@@ -216,4 +222,5 @@ all-premises (learnt theProgressValue) = refl
 -- answers whose bytes differ are different
 pub apart-answers : (a a′ : Answer) → sameBytes (answerBytes a) (answerBytes a′) ≡ false → a ≢ a′
 apart-answers a a′ differ same =
-    false≢true (sym differ ∙ ap (λ (x : Answer). sameBytes (answerBytes a) (answerBytes x)) (sym same) ∙ same-self (answerBytes a))
+    false≢true
+    (sym differ ∙ ap (λ (x : Answer). sameBytes (answerBytes a) (answerBytes x)) (sym same) ∙ same-self (answerBytes a))

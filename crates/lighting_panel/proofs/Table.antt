@@ -115,23 +115,28 @@ all-advance p now to l h b a = every-map (Lawful p now) (Lawful p to) (advance n
 -- what a request leaves of the outputs: all as they were, or the frame's own one acted on
 data Leaves (tenant : Bool) (t : ℕ) (l : List Output) (i : ℕ) (r : Request) : List Output → Type 0 where
   all : Leaves tenant t l i r l
-  own : (q : OutputRequest) → r ≡ ToOutput q → Leaves tenant t l i r (set l i (acted tenant t (getD l i freshOutput) q .output))
+  own : (q : OutputRequest) → r ≡ ToOutput q
+      → Leaves tenant t l i r (set l i (acted tenant t (getD l i freshOutput) q .output))
 
-served-leaves : (tenant : Bool) (t : ℕ) (l : List Output) (i : ℕ) (r : Request) → Leaves tenant t l i r (served tenant t l i r .outputs)
+served-leaves : (tenant : Bool) (t : ℕ) (l : List Output) (i : ℕ) (r : Request)
+    → Leaves tenant t l i r (served tenant t l i r .outputs)
 unfolding served
 served-leaves tenant t l i (Refuse n) = all
 served-leaves tenant t l i (ToOutput q) = own q refl
 
 -- as many outputs as before
-leaves-length : {tenant : Bool} {t i : ℕ} {l l′ : List Output} {r : Request} → Leaves tenant t l i r l′ → length l′ ≡ length l
+leaves-length : {tenant : Bool} {t i : ℕ} {l l′ : List Output} {r : Request} → Leaves tenant t l i r l′
+    → length l′ ≡ length l
 leaves-length all = refl
 leaves-length {i = i} {l = l} (own q e) = length-set l i _
 
-pub served-length : (tenant : Bool) (t : ℕ) (l : List Output) (i : ℕ) (r : Request) → length (served tenant t l i r .outputs) ≡ length l
+pub served-length : (tenant : Bool) (t : ℕ) (l : List Output) (i : ℕ) (r : Request)
+    → length (served tenant t l i r .outputs) ≡ length l
 served-length tenant t l i r = leaves-length (served-leaves tenant t l i r)
 
 -- what every output keeps, whatever is asked of it, every output of the table keeps
-leaves-every : {tenant : Bool} {t i : ℕ} {l l′ : List Output} {r : Request} (P : Output → Type 0) → Leaves tenant t l i r l′
+leaves-every : {tenant : Bool} {t i : ℕ} {l l′ : List Output} {r : Request} (P : Output → Type 0)
+    → Leaves tenant t l i r l′
     → ((q : OutputRequest) → r ≡ ToOutput q → (o : Output) → P o → P (acted tenant t o q .output))
     → Every P l → Every P l′
 leaves-every P all k a = a
@@ -143,17 +148,22 @@ pub served-every : (P : Output → Type 0) (tenant : Bool) (t : ℕ) (l : List O
 served-every P tenant t l i r k a = leaves-every P (served-leaves tenant t l i r) k a
 
 -- an output that the frame does not name stays as it is
-leaves-other : {tenant : Bool} {t i : ℕ} {l l′ : List Output} {r : Request} (j : ℕ) → Leaves tenant t l i r l′ → j ≢ i → getD l′ j freshOutput ≡ getD l j freshOutput
+leaves-other : {tenant : Bool} {t i : ℕ} {l l′ : List Output} {r : Request} (j : ℕ) → Leaves tenant t l i r l′
+    → j ≢ i → getD l′ j freshOutput ≡ getD l j freshOutput
 leaves-other j all h = refl
 leaves-other {i = i} {l = l} j (own q e) h = getD-set-other l i j _ freshOutput h
 
-pub served-other : (tenant : Bool) (t : ℕ) (l : List Output) (i j : ℕ) (r : Request) → j ≢ i → getD (served tenant t l i r .outputs) j freshOutput ≡ getD l j freshOutput
+pub served-other : (tenant : Bool) (t : ℕ) (l : List Output) (i j : ℕ) (r : Request) → j ≢ i
+    → getD (served tenant t l i r .outputs) j freshOutput ≡ getD l j freshOutput
 served-other tenant t l i j r h = leaves-other j (served-leaves tenant t l i r) h
 
-pub served-not-one : (p : Parameters) (tenant : Bool) (t : ℕ) (l : List Output) (i : ℕ) (r : Request) → RequestInRange p r → NotOne (served tenant t l i r .answer)
+pub served-not-one : (p : Parameters) (tenant : Bool) (t : ℕ) (l : List Output) (i : ℕ) (r : Request)
+    → RequestInRange p r → NotOne (served tenant t l i r .answer)
 unfolding served
 served-not-one p tenant t l i (Refuse n) g = record { other = omega arith }
 served-not-one p tenant t l i (ToOutput q) g = acted-not-one tenant t (getD l i freshOutput) q
 
-pub served-sound : (p : Parameters) (tenant : Bool) (t : ℕ) (l : List Output) (i : ℕ) (r : Request) → RequestInRange p r → AllSound p t l → AllSound p t (served tenant t l i r .outputs)
-served-sound p tenant t l i r g a = served-every (Lawful p t) tenant t l i r (λ q e o h. acted-lawful p tenant t o q (rw e at g) h) a
+pub served-sound : (p : Parameters) (tenant : Bool) (t : ℕ) (l : List Output) (i : ℕ) (r : Request)
+    → RequestInRange p r → AllSound p t l → AllSound p t (served tenant t l i r .outputs)
+served-sound p tenant t l i r g a =
+    served-every (Lawful p t) tenant t l i r (λ q e o h. acted-lawful p tenant t o q (rw e at g) h) a

@@ -101,7 +101,8 @@ module _ (p : Parameters) (marks : ℕ) (chosen : Bytes → Bool) where
   -- For EVERY set of parameters, ALL marks and EVERY lent table e on which a start with them answered Done,
   -- EVERY list l of strings of bytes, and EVERY choice of its commands of which none becomes another frame
   -- of the list
-  pub acts-as-plain : (e : Panel) (l : List Bytes) → Strings l → NoneBecomesAnother chosen l → startStep p marks e .answer ≡ Done
+  pub acts-as-plain : (e : Panel) (l : List Bytes) → Strings l → NoneBecomesAnother chosen l
+      → startStep p marks e .answer ≡ Done
       → ActsAsPlain p marks e l chosen
   acts-as-plain e l s n h =
       let l′ = map (sent chosen) l in

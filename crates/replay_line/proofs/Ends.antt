@@ -14,7 +14,8 @@ use Rattle.text_printing.specs.Page.{Wrote}
 use Rattle.replay_line.specs.Taking.{startedWith, sentOn, takenBy, taken}
 
 -- the panel that a set counts, lent by numbers that were read from the set
-pub started-by : {n k : ℕ} (s : Named) (p : Panel) {q : Panel} → n ≡ s .parameters .outputs → k ≡ s .parameters .stations
+pub started-by : {n k : ℕ} (s : Named) (p : Panel) {q : Panel} → n ≡ s .parameters .outputs
+    → k ≡ s .parameters .stations
     → q ≡ begun n k (s .parameters) (s .tenants) p .panel → q ≡ startedWith s p
 started-by s p e f h = rw (e, f) at h
 

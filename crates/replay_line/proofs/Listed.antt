@@ -55,7 +55,8 @@ execute-alike b e (Clocked t) =
 execute-alike b e (Arrives call) =
     record {
       outputs =
-          served-length _ (call .time) (map (advance (e .kept .time) (call .time)) (e .outputs)) (call .output) (call .request)
+          served-length _ (call .time) (map (advance (e .kept .time) (call .time)) (e .outputs)) (call .output)
+          (call .request)
           ∙ length-map (e .outputs) (advance (e .kept .time) (call .time));
       stations = length-set (e .stations) (call .station) _;
       parameters = refl;
@@ -161,7 +162,8 @@ gives-took p t g =
     let r = gives-read t g in
     record { whole = r .reads .unbroken; good = rw (r .reads .line); panel = spelled p r .0; next = rw (r .reads .line) (start-next (r .reads)) }
 
-heading-took : {s : Named} {w : Reader} {x : Bytes} (p : Panel) → Start false w → Heading s x → Took true p w x (startedWith s p)
+heading-took : {s : Named} {w : Reader} {x : Bytes} (p : Panel) → Start false w → Heading s x
+    → Took true p w x (startedWith s p)
 unfolding taken takenBy
 heading-took p t g =
     let r = heading-read t g in
@@ -201,7 +203,8 @@ listing-in-range (unended m) = listing-in-range m
 
 listed-whole : {s : Named} {w : Reader} {l : List Bytes} {t : Bytes} (p : Panel) → Listing s l t → Start false w →
     s .parameters .outputs ≤ length (p .outputs) → s .parameters .stations ≤ length (p .stations) →
-    inUse (closed (through p w t)) ≡ after (startStep (s .parameters) (s .tenants) (lent (s .parameters .outputs) (s .parameters .stations) p) .panel) l
+    inUse (closed (through p w t)) ≡ after
+    (startStep (s .parameters) (s .tenants) (lent (s .parameters .outputs) (s .parameters .stations) p) .panel) l
 listed-whole {s} {l = l} p (named {x} {t} g m) r h i =
     let k = heading-took p r g in
     let c = begun-becomes s p (heading-startable g) h i in
@@ -213,13 +216,15 @@ listed-whole {w = w} p (unended {t} m) r h i = rw (← closed-newline p w t) (li
 
 pub found-by-text : (s : Named) (p : Panel) (l : List Bytes) (t : Bytes) → Listing s l t →
     s .parameters .outputs ≤ length (p .outputs) → s .parameters .stations ≤ length (p .stations) →
-    foundIn (inUse (finished p t)) ≡ foundPlain (plainAfter (s .parameters) (s .tenants) (plainStart (s .parameters)) l .panel)
+    foundIn (inUse (finished p t)) ≡ foundPlain
+    (plainAfter (s .parameters) (s .tenants) (plainStart (s .parameters)) l .panel)
 unfolding finished
 found-by-text s p l t m h i =
     let c = listing-in-range m in
     let e = lent (s .parameters .outputs) (s .parameters .stations) p in
     ap foundIn (listed-whole p m start-fresh h i)
-    ∙ finds (s .parameters) (s .tenants) e l l (once [] l) (demand-3 (s .parameters) (s .tenants) e l l (once [] l) (c .strings) (starts s p (c .starts) h i))
+    ∙ finds (s .parameters) (s .tenants) e l l (once [] l)
+    (demand-3 (s .parameters) (s .tenants) e l l (once [] l) (c .strings) (starts s p (c .starts) h i))
 
 -- and so it is after the session, by its contract, where the text that came is such a one
 pub found-by-session : (s : Named) (p q : Panel) (l : List Bytes) (r : Replayed p q) → Listing s l (r .came) →

@@ -59,7 +59,9 @@ answer-field (Refused n) = omega arith
 property-fields : (t : ℕ) (o : Output) (k n : ℕ) → length (propertyFields t o k n) ≤ n * 9
 unfolding propertyFields propertyField
 property-fields t o k zero = omega arith
-property-fields t o k (suc n) = simp length-append (omega (arith, property-fields t o k n, answer-field (readProperty forService t o (propertyOf (k + n)))))
+property-fields t o k (suc n) =
+    simp length-append
+    (omega (arith, property-fields t o k n, answer-field (readProperty forService t o (propertyOf (k + n)))))
 
 pub block-length : (i t : ℕ) (o : Output) → length (block i t o) ≤ 735
 unfolding block lines joined slotsLine presentLine progressLine processLine propertiesLine

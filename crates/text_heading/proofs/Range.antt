@@ -101,7 +101,8 @@ unfolding fits bounds numberIn
 fits-capped Outputs q t = within-capped 1 mostOutputs (q .parameters .outputs) (omega arith) (omega arith)
 fits-capped Stations q t = within-capped 1 mostStations (q .parameters .stations) (omega arith) (omega arith)
 fits-capped Fade q t = within-capped leastTime mostFade (q .parameters .fade) (omega arith) (omega arith)
-fits-capped Duration q t = within-capped leastTime mostDuration (q .parameters .duration) (omega arith) (omega arith)
+fits-capped Duration q t =
+    within-capped leastTime mostDuration (q .parameters .duration) (omega arith) (omega arith)
 fits-capped Tenants q t = let e : min 4294967295 (q .tenants) ≡ q .tenants = omega arith in rw e
 
 pub judged-capped : (q : Named) → q .tenants < 4294967296 → judged (capped q) ≡ judged q

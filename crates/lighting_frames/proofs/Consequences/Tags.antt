@@ -165,7 +165,9 @@ module _ (p : Parameters) (b : Bytes) (o : Octets b) (size : length b ≡ 31) (k
       ∙ ap (λ (x : Bytes). byteAt x 2) (sym (only-written p (drop 13 b) (dropped-octets 13 b o) (omega (arith, length-drop 13 b)) k (unfold requestOf in h)))
       ∙ (unfold byteAt in (getD-drop 13 b 2 0))
 
-  pub tagged-read : (reader : Bool) (t t′ : ℕ) (q : Output) → readProperty reader t′ (alone t q (requestOf p CommandsTagged b) .output) LastOperation ≡ Value (byteAt b 15)
+  pub tagged-read : (reader : Bool) (t t′ : ℕ) (q : Output)
+      → readProperty reader t′ (alone t q (requestOf p CommandsTagged b) .output) LastOperation
+      ≡ Value (byteAt b 15)
   unfolding acted served done afterEvents commanded commandedFrom withCommand readProperty
   tagged-read reader t t′ q = rw h (ap Value tagged-number)
 

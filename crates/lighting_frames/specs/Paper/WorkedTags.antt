@@ -64,7 +64,9 @@ abbrev pub body : Bytes → Bytes
 body tags = sized (length tags) tags
 
 abbrev met : List Bytes → List Answer
-met bodies = map (λ (b : Bytes). served forService 0 (freshOutput ∷ []) 0 (taggedRequest (document01 1) (readBody b)) .answer) bodies
+met bodies =
+    map
+    (λ (b : Bytes). served forService 0 (freshOutput ∷ []) 0 (taggedRequest (document01 1) (readBody b)) .answer) bodies
 
 abbrev pub half : Bytes
 half = 0x1c ∷ octets 4 0x4248_0000

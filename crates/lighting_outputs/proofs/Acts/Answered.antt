@@ -76,18 +76,24 @@ readProperty-not-one tenant t o PresentValue = not-one (readProperty tenant t o 
 readProperty-not-one tenant t o ProgressValue = not-one (readProperty tenant t o ProgressValue) refl
 readProperty-not-one tenant t o InProcess = not-one (readProperty tenant t o InProcess) refl
 readProperty-not-one tenant t o LastOperation = not-one (readProperty tenant t o LastOperation) refl
-readProperty-not-one tenant t o LastLevel = not-one (readProperty tenant t o LastLevel) (real-none (fieldsOf (o .last .operation) .level))
-readProperty-not-one tenant t o LastRate = not-one (readProperty tenant t o LastRate) (real-none (fieldsOf (o .last .operation) .rate))
-readProperty-not-one tenant t o LastStep = not-one (readProperty tenant t o LastStep) (real-none (fieldsOf (o .last .operation) .step))
-readProperty-not-one tenant t o LastFadeTime = not-one (readProperty tenant t o LastFadeTime) (time-none (fieldsOf (o .last .operation) .fade))
-readProperty-not-one tenant t o LastDuration = not-one (readProperty tenant t o LastDuration) (duration-none (o .last .duration))
+readProperty-not-one tenant t o LastLevel =
+    not-one (readProperty tenant t o LastLevel) (real-none (fieldsOf (o .last .operation) .level))
+readProperty-not-one tenant t o LastRate =
+    not-one (readProperty tenant t o LastRate) (real-none (fieldsOf (o .last .operation) .rate))
+readProperty-not-one tenant t o LastStep =
+    not-one (readProperty tenant t o LastStep) (real-none (fieldsOf (o .last .operation) .step))
+readProperty-not-one tenant t o LastFadeTime =
+    not-one (readProperty tenant t o LastFadeTime) (time-none (fieldsOf (o .last .operation) .fade))
+readProperty-not-one tenant t o LastDuration =
+    not-one (readProperty tenant t o LastDuration) (duration-none (o .last .duration))
 readProperty-not-one tenant t o BinaryActiveValue = not-one (readProperty tenant t o BinaryActiveValue) refl
 readProperty-not-one tenant t o BinaryInactiveValue = not-one (readProperty tenant t o BinaryInactiveValue) refl
 readProperty-not-one tenant t o Polarity = not-one (readProperty tenant t o Polarity) refl
 readProperty-not-one tenant t o BinaryPresentValue = not-one (readProperty tenant t o BinaryPresentValue) refl
 readProperty-not-one tenant t o RelayState = not-one (readProperty tenant t o RelayState) refl
 readProperty-not-one tenant t o (SlotValue i) =
-    not-one (readProperty tenant t o (SlotValue i)) (by-bool (hidden tenant i) (λ e. rw e) (λ e. rw e (slot-none (o .slots) i)))
+    not-one (readProperty tenant t o (SlotValue i))
+    (by-bool (hidden tenant i) (λ e. rw e) (λ e. rw e (slot-none (o .slots) i)))
 readProperty-not-one tenant t o Unknown = record { other = omega arith }
 
 pub acted-not-one : (tenant : Bool) (t : ℕ) (o : Output) (q : OutputRequest) → NotOne (acted tenant t o q .answer)
@@ -95,6 +101,7 @@ unfolding acted done unchanged
 acted-not-one tenant t o (Write i v) = record { other = omega arith }
 acted-not-one tenant t o (Empty i) = record { other = omega arith }
 acted-not-one tenant t o (Change n v) =
-    by-change (λ (z : Outcome). NotOne (z .answer)) tenant t o n v (λ r h. record { other = omega arith }) (λ e e′. record { other = omega arith })
+    by-change (λ (z : Outcome). NotOne (z .answer)) tenant t o n v (λ r h. record { other = omega arith })
+    (λ e e′. record { other = omega arith })
 acted-not-one tenant t o (Read n) = readProperty-not-one tenant t o n
 acted-not-one tenant t o (Commands k) = record { other = omega arith }

@@ -108,11 +108,13 @@ pub written-rest : (t : ℕ) (o : Output) (i v : ℕ) → Rest o (written t o i 
 unfolding written
 written-rest t o i v = written-by-rest t o i v (o .activity)
 
-acted-timer : (tenant : Bool) (t : ℕ) (o : Output) (q : OutputRequest) → NoCommand q → acted tenant t o q .output .timer ≡ o .timer
+acted-timer : (tenant : Bool) (t : ℕ) (o : Output) (q : OutputRequest) → NoCommand q
+    → acted tenant t o q .output .timer ≡ o .timer
 unfolding acted done unchanged afterEvents slotRelinquished withEffect changed withSettings
 acted-timer tenant t o (Write i v) n = written-rest t o i v .timer
 acted-timer tenant t o (Empty i) n = refl
-acted-timer tenant t o (Change m v) n = by-change (λ (z : Outcome). z .output .timer ≡ o .timer) tenant t o m v (λ r l. refl) (λ e e′. refl)
+acted-timer tenant t o (Change m v) n =
+    by-change (λ (z : Outcome). z .output .timer ≡ o .timer) tenant t o m v (λ r l. refl) (λ e e′. refl)
 acted-timer tenant t o (Read q) n = refl
 acted-timer tenant t o (Commands k) n = elim n [ ]
 

@@ -108,11 +108,13 @@ unfolding acted unchanged propertyOf numbered readProperty realAnswer realFieldA
 read-last tenant t o r timer x y f = refl
 
 -- 'property unknown' is 9: 00, 15 and 16, 1C to 20 and 31 on
-pub read-between : (tenant : Bool) (t : ℕ) (o : Output) → map (readsAs tenant t o) (0x15 ∷ 0x16 ∷ []) ≡ Refused 9 ∷ Refused 9 ∷ []
+pub read-between : (tenant : Bool) (t : ℕ) (o : Output)
+    → map (readsAs tenant t o) (0x15 ∷ 0x16 ∷ []) ≡ Refused 9 ∷ Refused 9 ∷ []
 unfolding acted unchanged propertyOf numbered readProperty if_then_else_
 read-between tenant t o = refl
 
-pub read-unknown : (tenant : Bool) (t : ℕ) (o : Output) (n : ℕ) → 0x1b < n → n < 0x21 → readsAs tenant t o n ≡ Refused 9
+pub read-unknown : (tenant : Bool) (t : ℕ) (o : Output) (n : ℕ) → 0x1b < n → n < 0x21
+    → readsAs tenant t o n ≡ Refused 9
 unfolding acted unchanged propertyOf numbered readProperty if_then_else_
 read-unknown tenant t o n h k = rw (leb-no {a = 0x21} {b = n} k, unlisted n h)
 
@@ -155,13 +157,16 @@ hides-from-none i = refl
 pub read-hidden : (t : ℕ) (o : Output) (i : ℕ) → i < 6 → readsAs forTenant t o (0x21 + i) ≡ Absent
 unfolding acted unchanged propertyOf numbered readProperty if_then_else_
 read-hidden t o i h =
-    rw (leb-yes {a = 0x21} {b = 0x21 + i} (omega arith), leb-yes {a = 0x21 + i} {b = 0x30} (omega arith), add-sub-cancel-left 0x21 i)
+    rw
+    (leb-yes {a = 0x21} {b = 0x21 + i} (omega arith), leb-yes {a = 0x21 + i} {b = 0x30} (omega arith), add-sub-cancel-left 0x21 i)
     (rw (hides i h))
 
-pub read-shown : (t : ℕ) (o : Output) (i : ℕ) → 6 ≤ i → i < slotCount → readsAs forTenant t o (0x21 + i) ≡ reads t o (0x21 + i)
+pub read-shown : (t : ℕ) (o : Output) (i : ℕ) → 6 ≤ i → i < slotCount
+    → readsAs forTenant t o (0x21 + i) ≡ reads t o (0x21 + i)
 unfolding acted unchanged propertyOf numbered readProperty if_then_else_
 read-shown t o i h k =
-    rw (leb-yes {a = 0x21} {b = 0x21 + i} (omega arith), leb-yes {a = 0x21 + i} {b = 0x30} (omega arith), add-sub-cancel-left 0x21 i)
+    rw
+    (leb-yes {a = 0x21} {b = 0x21 + i} (omega arith), leb-yes {a = 0x21 + i} {b = 0x30} (omega arith), add-sub-cancel-left 0x21 i)
     (rw (hides-no-more i h, hides-from-none i))
 
 -- what is refused is not Done

@@ -68,10 +68,13 @@ unfolding afterEvents
 judged-between o z e b =
     ap (λ (r : Relay). r .binary) (between (present z) (z .relay) (unfold switched in (b .low)) (unfold switched in (b .high))) ∙ e
 
-binary-kept : (tenant : Bool) (t : ℕ) (o : Output) (q : OutputRequest) → Between (acted tenant t o q .output) → acted tenant t o q .output .relay .binary ≡ o .relay .binary
+binary-kept : (tenant : Bool) (t : ℕ) (o : Output) (q : OutputRequest) → Between (acted tenant t o q .output)
+    → acted tenant t o q .output .relay .binary ≡ o .relay .binary
 unfolding acted done unchanged
-binary-kept tenant t o (Write i v) b = judged-between o (written t o i v) (ap (λ (r : Relay). r .binary) (written-rest t o i v .relay)) b
-binary-kept tenant t o (Empty i) b = judged-between o (slotRelinquished o i) (unfold slotRelinquished withEffect in refl) b
+binary-kept tenant t o (Write i v) b =
+    judged-between o (written t o i v) (ap (λ (r : Relay). r .binary) (written-rest t o i v .relay)) b
+binary-kept tenant t o (Empty i) b =
+    judged-between o (slotRelinquished o i) (unfold slotRelinquished withEffect in refl) b
 binary-kept tenant t o (Change property v) b =
     by-change
     (λ (done : Outcome). Between (done .output) → done .output .relay .binary ≡ o .relay .binary)
@@ -84,10 +87,13 @@ binary-kept tenant t o (Change property v) b =
     (λ e e′ c. judged-between o (changed o property v) (unfold changed withSettings relayWith in refl) c)
     b
 binary-kept tenant t o (Read property) b = refl
-binary-kept tenant t o (Commands k) b = judged-between o (commanded t o k) (unfold commanded commandedFrom withCommand in refl) b
+binary-kept tenant t o (Commands k) b =
+    judged-between o (commanded t o k) (unfold commanded commandedFrom withCommand in refl) b
 
-pub between-acted : (tenant : Bool) (t : ℕ) (o : Output) (q : OutputRequest) → acted tenant t o q .output .relay .inactive < present (acted tenant t o q .output)
-    → present (acted tenant t o q .output) < acted tenant t o q .output .relay .active → acted tenant t o q .output .relay .binary ≡ o .relay .binary
+pub between-acted : (tenant : Bool) (t : ℕ) (o : Output) (q : OutputRequest)
+    → acted tenant t o q .output .relay .inactive < present (acted tenant t o q .output)
+    → present (acted tenant t o q .output) < acted tenant t o q .output .relay .active
+    → acted tenant t o q .output .relay .binary ≡ o .relay .binary
 between-acted tenant t o q h k = binary-kept tenant t o q (record { low = h; high = k })
 
 -- IT FOLLOWS PRESENT_VALUE, NOT PROGRESS_VALUE: while a movement to g lasts, Progress_Value is on its way,
@@ -176,9 +182,11 @@ changed-reversed : (o : Output) (property : Property) (v : ℕ) → same Polarit
 unfolding changed withSettings relayWith reversed if_then_else_
 changed-reversed o property v e = rw e
 
-acted-reversed : (tenant : Bool) (t : ℕ) (o : Output) (q : OutputRequest) → NoPolarity q → acted tenant t (reversed o) q .output ≡ reversed (acted tenant t o q .output)
+acted-reversed : (tenant : Bool) (t : ℕ) (o : Output) (q : OutputRequest) → NoPolarity q
+    → acted tenant t (reversed o) q .output ≡ reversed (acted tenant t o q .output)
 unfolding acted done unchanged
-acted-reversed tenant t o (Write i v) p = judged-reversed (written t o i v) (written t (reversed o) i v) (written-reversed t o i v)
+acted-reversed tenant t o (Write i v) p =
+    judged-reversed (written t o i v) (written t (reversed o) i v) (written-reversed t o i v)
 acted-reversed tenant t o (Empty i) p =
     judged-reversed (slotRelinquished o i) (slotRelinquished (reversed o) i) (unfold slotRelinquished withEffect reversed in refl)
 acted-reversed tenant t o (Change property v) p = unfold changedUnless if_then_else_ in

@@ -27,7 +27,8 @@ use Rattle.lighting_levels.proofs.Split.{by-lt}
 use Rattle.lighting_outputs.proofs.Consequences.Reads.{reads, readsAs, hides, hides-no-more}
 
 -- A TENANT'S FRAME DOES what any station's does: it may write, empty and command
-acts-alike : (tenant : Bool) (t : ℕ) (o : Output) (q : OutputRequest) → acted tenant t o q .output ≡ acted forService t o q .output
+acts-alike : (tenant : Bool) (t : ℕ) (o : Output) (q : OutputRequest)
+    → acted tenant t o q .output ≡ acted forService t o q .output
 unfolding acted unchanged
 acts-alike tenant t o (Write i v) = refl
 acts-alike tenant t o (Empty i) = refl
@@ -76,7 +77,8 @@ whole-written v h = omega arith
 abbrev exactNumbers : List ℕ
 exactNumbers =
     (0x01 ∷ 0x02 ∷ 0x03 ∷ 0x04 ∷ 0x05 ∷ 0x06 ∷ 0x07 ∷ 0x08 ∷ 0x09 ∷ 0x0a ∷ 0x0b ∷ 0x0e ∷ 0x0f ∷ [])
-    ++ (0x10 ∷ 0x11 ∷ 0x12 ∷ 0x13 ∷ 0x14 ∷ 0x15 ∷ 0x16 ∷ 0x17 ∷ 0x18 ∷ 0x19 ∷ 0x1a ∷ 0x1b ∷ 0x1c ∷ 0x1d ∷ 0x1e ∷ 0x1f ∷ [])
+    ++
+    (0x10 ∷ 0x11 ∷ 0x12 ∷ 0x13 ∷ 0x14 ∷ 0x15 ∷ 0x16 ∷ 0x17 ∷ 0x18 ∷ 0x19 ∷ 0x1a ∷ 0x1b ∷ 0x1c ∷ 0x1d ∷ 0x1e ∷ 0x1f ∷ [])
     ++ (0x20 ∷ 0x27 ∷ 0x28 ∷ 0x29 ∷ 0x2a ∷ 0x2b ∷ 0x2c ∷ 0x2d ∷ 0x2e ∷ 0x2f ∷ 0x30 ∷ [])
 
 pub exact : (t : ℕ) (o : Output) → map (readsAs forTenant t o) exactNumbers ≡ map (reads t o) exactNumbers
@@ -98,7 +100,8 @@ module _ (t : ℕ) (o o′ : Output) (alike : (what : Learnt) → AlikeIn what t
       ∙ ap (λ (l : List (Option ℕ)). getD l (i - 6) none) (alike theSlots)
       ∙ past-six i (slotsOf (o′ .slots)) above)
 
-  pub alike-reads : (property : Property) → readProperty forTenant t o property ≡ readProperty forTenant t o′ property
+  pub alike-reads : (property : Property)
+      → readProperty forTenant t o property ≡ readProperty forTenant t o′ property
   unfolding readProperty shownLevel relayState if_then_else_
   alike-reads RelinquishDefault = rw (alike theSettings)
   alike-reads FadeTime = rw (alike theSettings)

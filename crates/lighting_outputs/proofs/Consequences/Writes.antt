@@ -94,10 +94,12 @@ pub record WriteRead (t : ℕ) (o o′ : Output) (n x : ℕ) : Type 0 where
   pub activity : o′ .activity ≡ going n (o .activity)
 
 -- a write answered Done met neither 13 nor 16, and changed one property; then the relay was judged
-write-done : (t : ℕ) (o : Output) (n : Property) (v : ℕ) → acted forService t o (Change n v) .answer ≡ Done → acted forService t o (Change n v) .output ≡ afterEvents (changed o n v)
+write-done : (t : ℕ) (o : Output) (n : Property) (v : ℕ) → acted forService t o (Change n v) .answer ≡ Done
+    → acted forService t o (Change n v) .output ≡ afterEvents (changed o n v)
 unfolding unchanged done
 write-done t o n v =
-    by-change (λ (z : Outcome). z .answer ≡ Done → z .output ≡ afterEvents (changed o n v)) forService t o n v (λ r l h. refused h) (λ e e′ h. refl)
+    by-change (λ (z : Outcome). z .answer ≡ Done → z .output ≡ afterEvents (changed o n v)) forService t o n v
+    (λ r l h. refused h) (λ e e′ h. refl)
 
 -- judging leaves all of them as they were
 abbrev tail : List Answer → List Answer

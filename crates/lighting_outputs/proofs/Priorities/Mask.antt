@@ -142,7 +142,8 @@ alive (some v) = true
 pub halved : (i m : ℕ) → m / 2 ^ suc i ≡ m / 2 / 2 ^ i
 halved i m = sym (shr-shr m 1 i ∙ ap (λ (k : ℕ). m / 2 ^ k) (omega arith))
 
-slot-view : (m i : ℕ) (l : List ℕ) → i < length l → getD (view m l) i none ≡ (if bitSet m i then some (getD l i 0) else none)
+slot-view : (m i : ℕ) (l : List ℕ) → i < length l
+    → getD (view m l) i none ≡ (if bitSet m i then some (getD l i 0) else none)
 unfolding view
 slot-view m i [] h = absurd (omega arith)
 slot-view m zero (v ∷ l) h = rw (div-one m)

@@ -114,11 +114,13 @@ tick-last : (t : ℕ) (o : Output) → tick t o .last ≡ o .last
 unfolding tick fire afterEvents withBurned withBurning
 tick-last t o = refl
 
-acted-last : (p : Parameters) (tenant : Bool) (t : ℕ) (o : Output) (q : OutputRequest) → Asking p (ToOutput q) → Kept p (o .last) → Kept p (acted tenant t o q .output .last)
+acted-last : (p : Parameters) (tenant : Bool) (t : ℕ) (o : Output) (q : OutputRequest) → Asking p (ToOutput q)
+    → Kept p (o .last) → Kept p (acted tenant t o q .output .last)
 unfolding acted done unchanged afterEvents slotRelinquished withEffect changed withSettings commanded commandedFrom withCommand
 acted-last p tenant t o (Write i v) g h = rw (written-rest t o i v .last) h
 acted-last p tenant t o (Empty i) g h = h
-acted-last p tenant t o (Change n v) g h = by-change (λ (z : Outcome). Kept p (z .output .last)) tenant t o n v (λ r l. h) (λ e e′. h)
+acted-last p tenant t o (Change n v) g h =
+    by-change (λ (z : Outcome). Kept p (z .output .last)) tenant t o n v (λ r l. h) (λ e e′. h)
 acted-last p tenant t o (Read n) g h = h
 acted-last p tenant t o (Commands k) g h = g k refl
 
@@ -130,26 +132,31 @@ unfolding runPlain
 all-run p zero y h = h
 all-run p (suc n) y h = all-run p n _ (every-map (LastKept p) (LastKept p) (tick (y .time)) (y .outputs) (λ o k. rw (tick-last (y .time) o) k) h)
 
-all-execute : (p : Parameters) (marks : ℕ) (b : Bytes) (w : PlainState) (v : Verdict) → VerdictKept p v → Every (LastKept p) (w .panel .outputs) → Every (LastKept p) (plainExecute marks b w v .state .panel .outputs)
+all-execute : (p : Parameters) (marks : ℕ) (b : Bytes) (w : PlainState) (v : Verdict) → VerdictKept p v
+    → Every (LastKept p) (w .panel .outputs) → Every (LastKept p) (plainExecute marks b w v .state .panel .outputs)
 unfolding plainExecute
 all-execute p marks b w (TurnedDown r) g h = h
 all-execute p marks b w (Copied a) g h = h
 all-execute p marks b w (Clocked t) g h = all-run p (t - w .panel .time) (w .panel) h
 all-execute p marks b w (Arrives call) g h =
     let come = runPlain (call .time - w .panel .time) (w .panel) in
-    served-every (LastKept p) (isTenant marks (call .station)) (come .time) (come .outputs) (call .output) (call .request)
+    served-every (LastKept p) (isTenant marks (call .station)) (come .time) (come .outputs) (call .output)
+    (call .request)
     (λ q e o k. acted-last p (isTenant marks (call .station)) (come .time) o q (rw e at g) k)
     (all-run p (call .time - w .panel .time) (w .panel) h)
 
-all-after : (p : Parameters) (marks : ℕ) (w : PlainState) (l : List Bytes) → Strings l → Every (LastKept p) (w .panel .outputs) → Every (LastKept p) (plainAfter p marks w l .panel .outputs)
+all-after : (p : Parameters) (marks : ℕ) (w : PlainState) (l : List Bytes) → Strings l
+    → Every (LastKept p) (w .panel .outputs) → Every (LastKept p) (plainAfter p marks w l .panel .outputs)
 unfolding plainAfter plainFrameStep
 all-after p marks w [] s h = h
 all-after p marks w (b ∷ l) s h =
     let f = parse p (length (w .panel .outputs)) b in
-    all-after p marks _ l (s .1) (all-execute p marks b w (judged (w .past) b f) (judged-kept p (w .past) b f (parse-kept p (length (w .panel .outputs)) b (s .0))) h)
+    all-after p marks _ l (s .1)
+    (all-execute p marks b w (judged (w .past) b f) (judged-kept p (w .past) b f (parse-kept p (length (w .panel .outputs)) b (s .0))) h)
 
 -- every output's, after every list
-pub last-kept : (p : Parameters) (marks : ℕ) (e : Panel) (l : List Bytes) → Strings l → startStep p marks e .answer ≡ Done → Every (LastKept p) (after (startStep p marks e .panel) l .outputs)
+pub last-kept : (p : Parameters) (marks : ℕ) (e : Panel) (l : List Bytes) → Strings l
+    → startStep p marks e .answer ≡ Done → Every (LastKept p) (after (startStep p marks e .panel) l .outputs)
 last-kept p marks e l s h =
     rw (demand-3 p marks e l l (once [] l) s h .outputs)
     (all-after p marks (plainStart p) l s
@@ -159,7 +166,8 @@ last-kept p marks e l s h =
 abbrev pub LastGivenBack : Parameters → Output → Type 0
 LastGivenBack p o = taggedRequest p (readBody (bodyBytes (commandTags (o .last)))) ≡ ToOutput (Commands (o .last))
 
-pub last-given-back : (p : Parameters) (marks : ℕ) (e : Panel) (l : List Bytes) → Strings l → startStep p marks e .answer ≡ Done
+pub last-given-back : (p : Parameters) (marks : ℕ) (e : Panel) (l : List Bytes) → Strings l
+    → startStep p marks e .answer ≡ Done
     → Every (LastGivenBack p) (after (startStep p marks e .panel) l .outputs)
 last-given-back p marks e l s h =
     let outputs = after (startStep p marks e .panel) l .outputs in

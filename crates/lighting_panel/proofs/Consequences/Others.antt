@@ -78,7 +78,8 @@ decide-for e b =
     judgedByRecord-for (byteAt b 12) (e .kept .time) _ _ (parse p (length (e .outputs)) b) (parse-of p (length (e .outputs)) b)
 
 -- one of a table
-pub at-map : (f : Output → Output) (l : List Output) (j : ℕ) → j < length l → getD (map f l) j freshOutput ≡ f (getD l j freshOutput)
+pub at-map : (f : Output → Output) (l : List Output) (j : ℕ) → j < length l
+    → getD (map f l) j freshOutput ≡ f (getD l j freshOutput)
 at-map f [] j h = absurd (omega arith)
 at-map f (x ∷ l) zero h = refl
 at-map f (x ∷ l) (suc j) h = at-map f l j (omega arith)
@@ -102,7 +103,8 @@ module _ (e : Panel) (b : Bytes) (j : ℕ) (sized : j < length (e .outputs)) (bo
   execute-other (Copied a) f h = stands h
   execute-other (Clocked t) f h = at-map (advance (e .kept .time) t) (e .outputs) j sized
   execute-other (Arrives call) f h =
-      served-other _ (call .time) (map (advance (e .kept .time) (call .time)) (e .outputs)) (call .output) j (call .request) (λ q. other (sym f ∙ sym q))
+      served-other _ (call .time) (map (advance (e .kept .time) (call .time)) (e .outputs)) (call .output) j
+      (call .request) (λ q. other (sym f ∙ sym q))
       ∙ at-map (advance (e .kept .time) (call .time)) (e .outputs) j sized
 
   -- any string of bytes, to any panel that keeps the rules

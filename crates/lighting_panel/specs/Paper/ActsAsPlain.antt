@@ -18,6 +18,9 @@ NoneBecomesAnother chosen l = (b b′ : Bytes) → Among b l → Among b′ l �
 -- THE CLAIM, for a lent table e and a list l: what is found and every answer stay. The station records alone
 -- differ, which keep the frames as they came
 pub record ActsAsPlain (p : Parameters) (marks : ℕ) (e : Panel) (l : List Bytes) (chosen : Bytes → Bool) : Type 0 where
-  pub outputs : after (startStep p marks e .panel) (map (sent chosen) l) .outputs ≡ after (startStep p marks e .panel) l .outputs
-  pub time : after (startStep p marks e .panel) (map (sent chosen) l) .kept .time ≡ after (startStep p marks e .panel) l .kept .time
+  pub outputs :
+      after (startStep p marks e .panel) (map (sent chosen) l) .outputs ≡ after (startStep p marks e .panel) l .outputs
+  pub time :
+      after (startStep p marks e .panel) (map (sent chosen) l) .kept .time
+      ≡ after (startStep p marks e .panel) l .kept .time
   pub answered : answers (startStep p marks e .panel) (map (sent chosen) l) ≡ answers (startStep p marks e .panel) l

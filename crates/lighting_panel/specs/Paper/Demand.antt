@@ -70,7 +70,8 @@ plainAfter p marks w (b ∷ l) = plainAfter p marks (plainFrameStep p marks w b 
 
 unfoldable pub plainAnswers : Parameters → ℕ → PlainState → List Bytes → List Answer
 plainAnswers p marks w [] = []
-plainAnswers p marks w (b ∷ l) = plainFrameStep p marks w b .answer ∷ plainAnswers p marks (plainFrameStep p marks w b .state) l
+plainAnswers p marks w (b ∷ l) =
+    plainFrameStep p marks w b .answer ∷ plainAnswers p marks (plainFrameStep p marks w b .state) l
 
 -- A LIST WITH FRAMES THAT COME AGAIN (retransmissions), anywhere later and any number of times. `Again seen l
 -- l′`: after the frames of `seen`, l′ is l with frames put in that came before, of `seen` or of l, byte for
@@ -113,4 +114,5 @@ pub record Demand (p : Parameters) (marks : ℕ) (e : Panel) (l l′ : List Byte
   pub never : NeverOne (answers (startStep p marks e .panel) l)
   -- frames that come again change nothing at all of the panel, and no answer to the frames of the list
   pub again : after (startStep p marks e .panel) l′ ≡ after (startStep p marks e .panel) l
-  pub answeredAgain : answersToOriginals r (answers (startStep p marks e .panel) l′) ≡ answers (startStep p marks e .panel) l
+  pub answeredAgain :
+      answersToOriginals r (answers (startStep p marks e .panel) l′) ≡ answers (startStep p marks e .panel) l

@@ -57,7 +57,8 @@ abbrev pub Alike : Premise → Panel → Panel → Bytes → Type 0
 Alike neitherMeetsOne e e′ b = (panelSound e ≡ true) × (panelSound e′ ≡ true)
 Alike stationCounts e e′ b = e .kept .parameters .stations ≡ e′ .kept .parameters .stations
 Alike outputCounts e e′ b = e .kept .parameters .outputs ≡ e′ .kept .parameters .outputs
-Alike itsMark e e′ b = (isTenant (e .kept .tenants) (sender b) ≡ true) × (isTenant (e′ .kept .tenants) (sender b) ≡ true)
+Alike itsMark e e′ b =
+    (isTenant (e .kept .tenants) (sender b) ≡ true) × (isTenant (e′ .kept .tenants) (sender b) ≡ true)
 Alike panelTimes e e′ b = e .kept .time ≡ e′ .kept .time
 Alike itsRecord e e′ b = getD (e .stations) (sender b) freshStation ≡ getD (e′ .stations) (sender b) freshStation
 Alike (learnt what) e e′ b = e .kept .time ≤ moment b → AlikeIn what (moment b) (brought e b) (brought e′ b)
@@ -106,7 +107,8 @@ Unless true A = Unit {0}
 Unless false A = A
 
 abbrev pub AlikeBut : Premise → Panel → Panel → Bytes → Type 0
-AlikeBut spared e e′ b = Every (λ (k : Premise). Unless (eqb (premiseNumber k) (premiseNumber spared)) (Alike k e e′ b)) premises
+AlikeBut spared e e′ b =
+    Every (λ (k : Premise). Unless (eqb (premiseNumber k) (premiseNumber spared)) (Alike k e e′ b)) premises
 
 -- two panels that are alike in all but that, and a string of kind 05 to which they answer differently
 pub record Needed (spared : Premise) : Type 0 where

@@ -262,7 +262,9 @@ abbrev late : Output
 late = lent fresh noSlot Still Off 1001 freshRelay
 
 abbrev panel : Output → Output → Station → Bool
-panel one other last = panelSound (panelOf (one ∷ other ∷ []) (set (replicate 8 freshStation) 7 last) (withTime (freshRecord (fourHours 2) 0) 1000))
+panel one other last =
+    panelSound
+    (panelOf (one ∷ other ∷ []) (set (replicate 8 freshStation) 7 last) (withTime (freshRecord (fourHours 2) 0) 1000))
 
 abbrev panelsGiven : List (List Bool)
 panelsGiven =

@@ -102,17 +102,20 @@ theOne (learnt theProgressValue) = panelWith (underWay 1310720 3096576 11000)
 
 abbrev pub theOther : Premise → Panel
 -- slot 2 holds a unit, which breaks a rule, and which no tenant is shown
-theOther neitherMeetsOne = panelWith (outputOf 1000 (filled (slotsWith 3096576 1966080) 1 1) Still 5000 Stop false false)
+theOther neitherMeetsOne =
+    panelWith (outputOf 1000 (filled (slotsWith 3096576 1966080) 1 1) Still 5000 Stop false false)
 theOther stationCounts = panelAt 9 1 10000 0x100 (resting ∷ [])
 theOther outputCounts = panelAt 8 2 10000 1 (resting ∷ freshOutput ∷ [])
 theOther itsMark = panelAt 8 1 10000 0 (resting ∷ [])
 theOther panelTimes = panelAt 8 1 20000 1 (freshOutput ∷ [])
 theOther itsRecord = heard
 theOther (learnt theSettings) = panelWith (outputOf 2000 (slotsWith 3096576 1966080) Still 5000 Stop false false)
-theOther (learnt theRelaySettings) = panelWith (outputOf 1000 (slotsWith 3096576 1966080) Still 5000 Stop true false)
+theOther (learnt theRelaySettings) =
+    panelWith (outputOf 1000 (slotsWith 3096576 1966080) Still 5000 Stop true false)
 -- slot 7 holds 31 percent
 theOther (learnt theSlots) = panelWith (outputOf 1000 (slotsWith 3096576 2031616) Still 5000 Stop false false)
-theOther (learnt theLastCommand) = panelWith (outputOf 1000 (slotsWith 3096576 1966080) Still 5000 StepUp false false)
+theOther (learnt theLastCommand) =
+    panelWith (outputOf 1000 (slotsWith 3096576 1966080) Still 5000 StepUp false false)
 -- on its way inside the 47th percent
 theOther (learnt theProcess) = panelWith (underWay 3080292 3096576 10500)
 theOther (learnt theBinaryValue) = panelWith (outputOf 1000 (slotsWith 3096576 1966080) Still 5000 Stop false true)

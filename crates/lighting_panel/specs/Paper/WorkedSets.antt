@@ -57,7 +57,9 @@ keptSaid =
 -- and two outputs over tables that are one short, fit, and are one long, in each of the two; one with 33
 -- stations over the same
 abbrev lentSizes : List Panel
-lentSizes = map (λ (p : Parameters). freshPanel p 0) (of 1 2 100 100 ∷ of 2 2 100 100 ∷ of 3 2 100 100 ∷ of 2 1 100 100 ∷ of 2 3 100 100 ∷ [])
+lentSizes =
+    map (λ (p : Parameters). freshPanel p 0)
+    (of 1 2 100 100 ∷ of 2 2 100 100 ∷ of 3 2 100 100 ∷ of 2 1 100 100 ∷ of 2 3 100 100 ∷ [])
 
 abbrev pub sizesGiven : List (List Answer)
 sizesGiven =
@@ -149,7 +151,8 @@ framesSaid = answersWith 1000 ∷ answersWith 700 ∷ answersWith 1000 ∷ []
 -- 'A FRESH FADE_TIME is the smaller of 1,000 and the longest fade'
 abbrev pub freshFadesGiven : List (List Answer)
 freshFadesGiven =
-    map (λ (fade : ℕ). answers (freshPanel (of 1 1 fade 100) 0) (asked 0 1 0 0 0x02 ∷ [])) (100 ∷ 999 ∷ 1000 ∷ 1001 ∷ [])
+    map (λ (fade : ℕ). answers (freshPanel (of 1 1 fade 100) 0) (asked 0 1 0 0 0x02 ∷ []))
+    (100 ∷ 999 ∷ 1000 ∷ 1001 ∷ [])
 
 abbrev pub freshFadesSaid : List (List Answer)
 freshFadesSaid = (Value 100 ∷ []) ∷ (Value 999 ∷ []) ∷ (Value 1000 ∷ []) ∷ (Value 1000 ∷ []) ∷ []
