@@ -53,7 +53,8 @@ MADE = '-- Made by tools/draft.py from the answers.txt beside it: edit that file
 ANSWERS = 'answers.txt'
 # what tools/twin.py, laws.py and figures.py make
 TOOLS = ['crates/*/proofs/Lent.antt', 'crates/*/proofs/Lent/**', 'crates/*/proofs/**/Proof/Lts.antt', 'crates/*/proofs/**/Proof/Tie.antt',
-         'crates/lighting_*/proofs/Laws.antt', 'crates/lighting_*/proofs/Figures.antt', 'crates/lighting_panel/proofs/Needed.antt', 'docs/SPOILT.md', 'tests/EVENTS.txt']
+         'crates/lighting_*/proofs/Laws.antt', 'crates/lighting_*/proofs/Figures.antt',
+         'crates/lighting_panel/proofs/Needed.antt', 'docs/SPOILT.md', 'tests/EVENTS.txt']
 
 
 def read(path):

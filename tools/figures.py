@@ -1,14 +1,17 @@
 #!/usr/bin/env python3
-"""figures.py [--check]: write proofs/Figures.antt of each crate of definitions (crates/lighting_*): that the definitions compute the bench figures,
-the traps and the worked lists, which stand in specs/Paper/Figures.antt and Worked*.antt of the crate; and lighting_panel/proofs/Needed.antt, §8's
-premises. Only the lists of names to unfold are made; the prover checks the equations. With --check nothing is written, and a stale file is an error."""
+"""figures.py [--check]: write proofs/Figures.antt of each crate of definitions (crates/lighting_*): that the
+definitions compute the bench figures, the traps and the worked lists, which stand in specs/Paper/Figures.antt
+and Worked*.antt of the crate; and lighting_panel/proofs/Needed.antt, that each premise of §8's claim is
+needed. Only the lists of names to unfold are made; the prover checks the equations. With --check nothing is
+written, and a stale file is an error."""
 import glob
 import os
 import re
 import sys
 
 LEVELS = 'ofBits Choice Level'.split()
-OUTPUTS = 'bitAnd bitOr'.split() + LEVELS + 'Slots Value Relay Record Passing Light Advance Writing Operations Commands Tenants Answers Rows Properties Fresh'.split()
+OUTPUTS = (['bitAnd', 'bitOr'] + LEVELS + 'Slots Value Relay Record Passing Light Advance Writing Operations'.split()
+           + 'Commands Tenants Answers Rows Properties Fresh'.split())
 ACTS = OUTPUTS + 'Requests Acting'.split()
 READS = ['toBits', 'round'] + ACTS
 FRAMES = READS + 'Field Kinds Tags Frames'.split()
@@ -66,8 +69,10 @@ FIGURES = {
         ('longer-carried', 'carriedGiven', 'carriedSaid', 'WorkedFourHours', CARRIED,
          '§7: which frames carry a longer fade time'),
         ('worked-tenants', 'tenantGiven', 'tenantSaid', 'WorkedTenantLists', LISTS, '§8 in a list'),
-        ('two-panels', 'twoGiven', 'twoSaid', 'WorkedSecrecy', PANELS, '§8: two panels for each premise of the claim of secrecy'),
-        ('free-to-differ', 'freeGiven', 'freeSaid', 'WorkedSecrecy', PANELS, '§8: two panels that a tenant cannot tell apart'),
+        ('two-panels', 'twoGiven', 'twoSaid', 'WorkedSecrecy', PANELS,
+         '§8: two panels for each premise of the claim of secrecy'),
+        ('free-to-differ', 'freeGiven', 'freeSaid', 'WorkedSecrecy', PANELS,
+         '§8: two panels that a tenant cannot tell apart'),
     ],
 }
 # names that unfold, and their module: what is no definition of ours, and lists
@@ -112,43 +117,50 @@ def figures_of(crate, figures):
         names = [name.split()[-1] for figure in figures if figure[3] == worked for name in figure[1:3]]
         lines.append('use %s.{%s}' % (library(worked, crate), ', '.join(names)))
     for name, given, said, _, unfolds, comment in figures:
-        lines += ['', '-- ' + comment, 'pub %s : %s ≡ %s' % (name, given, said), 'unfolding ' + opened(unfolds), '%s = refl' % name]
+        lines += ['', '-- ' + comment, 'pub %s : %s ≡ %s' % (name, given, said)]
+        lines += ['unfolding ' + opened(unfolds), '%s = refl' % name]
     return '\n'.join(lines) + '\n'
 
 
 # §8: for each premise of the claim of secrecy two panels that are alike in all the others, in the order of
 # `premises`
 PREMISES = 'neitherMeetsOne stationCounts outputCounts itsMark panelTimes itsRecord'.split()
-LEARNT = 'theSettings theRelaySettings theSlots theLastCommand theProcess theBinaryValue theBurningTime thePresentValue theProgressValue'.split()
+LEARNT = ('theSettings theRelaySettings theSlots theLastCommand theProcess theBinaryValue theBurningTime'.split()
+          + ['thePresentValue', 'theProgressValue'])
 
 
 def needed():
     crate = 'lighting_panel'
-    names = PREMISES + ['(learnt %s)' % what for what in LEARNT]
-    both = {'neitherMeetsOne': '(refl, refl)', 'itsMark': '(refl, refl)', '(learnt theRelaySettings)': 'λ timely. (refl, refl, refl)'}
+    # the premises, and the proof that computes of two panels which are alike in each
+    proofs = {name: 'refl' for name in PREMISES}
+    proofs.update({'(learnt %s)' % what: 'λ timely. refl' for what in LEARNT})
+    proofs.update({'neitherMeetsOne': '(refl, refl)', 'itsMark': '(refl, refl)'})
+    proofs['(learnt theRelaySettings)'] = 'λ timely. (refl, refl, refl)'
     lines = ['-- Made by tools/figures.py: §8, each premise of the claim of secrecy is needed. For each of them two panels',
-             '-- (WorkedSecrecy.antt) that are alike in all the others, and a string of kind 05 that they answer differently.',
-             'use mathlib.Core.Path.{_≡_, refl}', 'use Prim.Native.Nat.{ℕ}']
+             '-- (WorkedSecrecy.antt) that are alike in all the others, and a string of kind 05 that they answer',
+             '-- differently.', 'use mathlib.Core.Path.{_≡_, refl}', 'use Prim.Native.Nat.{ℕ}']
     lines += imports(PANELS, crate)
     lines.append('use %s.{%s}' % (library('Learnt', crate), ', '.join(LEARNT)))
     lines.append('use %s.{Premise, %s, learnt, Alike, Needed}' % (library('Secrecy', crate), ', '.join(PREMISES)))
     lines.append('use %s.{theOne, theOther, theString, quiet, busy}' % library('WorkedSecrecy', crate))
-    lines.append('use Rattle.lighting_panel.proofs.Secrecy.{secret, apart-answers}')
     lines.append('use %s.{asked}' % library('Worked', crate))
+    lines.append('use Rattle.lighting_panel.proofs.Secrecy.{secret, apart-answers}')
     lines += ['', 'pub needed : (k : Premise) → Needed k', 'unfolding ' + opened(PANELS)]
-    for spared in names:
-        proofs = ['tt' if name == spared else both.get(name, 'λ timely. refl' if name.startswith('(') else 'refl') for name in names]
+    for spared in proofs:
         alike = 'tt'
-        for proof in reversed(proofs):
-            alike = '(%s, %s)' % (proof, alike)
-        lines.append('needed %s = record { one = theOne %s; other = theOther %s; string = theString %s; kind = refl; alike = %s; '
-                     'differ = apart-answers _ _ refl }' % (spared, spared, spared, spared, alike))
-    lines += ['', '-- two panels that are alike in all of them and differ in much else; so a tenant cannot tell them apart, whatever it reads',
-              'alike : (n : ℕ) (k : Premise) → Alike k quiet busy (asked 1 1 10000 0 n)', 'unfolding ' + opened(PANELS)]
-    for name in names:
-        lines.append('alike n %s = %s' % (name, both.get(name, 'λ timely. refl' if name.startswith('(') else 'refl')))
-    lines += ['', 'pub untold : (n : ℕ) → frameStep quiet (asked 1 1 10000 0 n) .answer ≡ frameStep busy (asked 1 1 10000 0 n) .answer',
-              'untold n = secret quiet busy (asked 1 1 10000 0 n) (unfold byteAt in refl) (alike n)']
+        for name in reversed(proofs):
+            alike = '(%s, %s)' % ('tt' if name == spared else proofs[name], alike)
+        lines += ['needed %s =' % spared, '    record {']
+        lines += ['      %s = %s %s;' % (field, value, spared)
+                  for field, value in (('one', 'theOne'), ('other', 'theOther'), ('string', 'theString'))]
+        lines += ['      kind = refl;', '      alike = %s;' % alike, '      differ = apart-answers _ _ refl;', '    }']
+    string = '(asked 1 1 10000 0 n)'
+    lines += ['', '-- two panels that are alike in all of them and differ in much else',
+              'alike : (n : ℕ) (k : Premise) → Alike k quiet busy ' + string, 'unfolding ' + opened(PANELS)]
+    lines += ['alike n %s = %s' % each for each in proofs.items()]
+    lines += ['', '-- so a tenant cannot tell them apart, whatever it reads',
+              'pub untold : (n : ℕ) → frameStep quiet %s .answer ≡ frameStep busy %s .answer' % (string, string),
+              'untold n = secret quiet busy %s (unfold byteAt in refl) (alike n)' % string]
     return '\n'.join(lines) + '\n'
 
 

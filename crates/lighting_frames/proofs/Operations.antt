@@ -105,7 +105,8 @@ unfolding parse
 kind-number p c b call command h r n m = number-by p c _ _ b call command refl h r n m
 
 -- and that is what property 0F of its output reads from then on, to a tenant too (§8)
-pub kind-read : (p : Parameters) (c : ℕ) (b : Bytes) (call : Call) (command : Command) (tenant reader : Bool) (t t′ : ℕ) (o : Output)
+pub kind-read : (p : Parameters) (c : ℕ) (b : Bytes) (call : Call) (command : Command) (tenant reader : Bool)
+    (t t′ : ℕ) (o : Output)
     → parse p c b ≡ Calls call → call .request ≡ ToOutput (Commands command) → 0x10 ≤ byteAt b 0 → byteAt b 0 ≤ 0x1a
     → readProperty reader t′ (acted tenant t o (Commands command) .output) LastOperation ≡ Value (byteAt b 0 - 0x10)
 unfolding acted done afterEvents commanded commandedFrom withCommand readProperty

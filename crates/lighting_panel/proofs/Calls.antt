@@ -45,7 +45,15 @@ conclude p marks e e₀ e′ l given s b c =
     let d = demand-3 p marks e l l (once [] l) s (answered p marks e b) in
     let k = called p marks e b c in
     rw (k .0, k .1)
-    (record { outputs = d .outputs; time = d .time; parameters = d .parameters; tenants = d .tenants; answered = d .answered; sound = d .sound; never = d .never })
+    (record {
+      outputs = d .outputs;
+      time = d .time;
+      parameters = d .parameters;
+      tenants = d .tenants;
+      answered = d .answered;
+      sound = d .sound;
+      never = d .never;
+    })
 
 -- so the tables show what the plain panel shows
 pub shows : (p : Parameters) (marks : ℕ) (e′ : Panel) (l : List Bytes) (given : List Answer)
@@ -54,7 +62,8 @@ pub shows : (p : Parameters) (marks : ℕ) (e′ : Panel) (l : List Bytes) (give
 shows p marks e′ l given c = same-found e′ (plainAfter p marks (plainStart p) l .panel) (c .outputs) (c .time)
 
 -- two callers after the same start: the one's list is l, and in the other's frames of it come again
-pub conclude-again : (p : Parameters) (marks : ℕ) (e e₀ e′ e″ : Panel) (l l′ : List Bytes) (r : Again [] l l′) (given given′ : List Answer)
+pub conclude-again : (p : Parameters) (marks : ℕ) (e e₀ e′ e″ : Panel) (l l′ : List Bytes) (r : Again [] l l′)
+    (given given′ : List Answer)
     → Strings l
     → result e₀ Done ≡ startStep p marks e → Calls e₀ l given e′ → Calls e₀ l′ given′ e″
     → ConcludedAgain l l′ r given given′ e′ e″

@@ -46,7 +46,13 @@ module _ (p : Parameters) (marks : ℕ) (e : Panel) where
 
   -- the fresh records are as many as are lent
   pub startStep-done : startable p ≡ true → countsSound p (length (e .outputs)) (length (e .stations)) ≡ true
-      → startStep p marks e ≡ result (panelOf (replicate (length (e .outputs)) (freshFor p)) (replicate (length (e .stations)) freshStation) (freshRecord p marks)) Done
+      → startStep p marks e
+      ≡ result
+      (panelOf
+      (replicate (length (e .outputs)) (freshFor p))
+      (replicate (length (e .stations)) freshStation)
+      (freshRecord p marks))
+      Done
   unfolding startStep freshPanel countsSound if_then_else_
   startStep-done h g = let q = also-both g in rw (h, g) (rw (eq-of {a = length (e .outputs)} {b = p .outputs} (q .0), eq-of {a = length (e .stations)} {b = p .stations} (q .1)))
 

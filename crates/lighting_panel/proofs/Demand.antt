@@ -50,7 +50,8 @@ demand-3 p marks e l l′ r s h =
     let c = p .outputs in
     let f = startStep-fresh p marks e h in
     let m = linked-start p (f .0) in
-    let begin : startStep p marks e .panel ≡ joined p marks (replicate (p .stations) freshStation) (plainStart p) = f .1 ∙ (unfold freshPanel plainStart in refl) in
+    let begin : startStep p marks e .panel ≡ joined p marks (replicate (p .stations) freshStation) (plainStart p) =
+    f .1 ∙ (unfold freshPanel plainStart in refl) in
     let i = listed p marks c (replicate (p .stations) freshStation) (plainStart p) l s m in
     let j = repeats-change-nothing p marks c (replicate (p .stations) freshStation) (plainStart p) r s m in
     record {

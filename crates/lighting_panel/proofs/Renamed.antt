@@ -78,7 +78,8 @@ module _ (p : Parameters) (marks : ℕ) (s : Bytes → Bytes) (Sort : Bytes → 
   renameState w = record { past = map rename (w .past); panel = w .panel }
 
   execute-renamed : (b : Bytes) (w : PlainState) (v : Verdict)
-      → plainExecute marks (s b) (renameState w) v ≡ record { state = renameState (plainExecute marks b w v .state); answer = plainExecute marks b w v .answer }
+      → plainExecute marks (s b) (renameState w) v
+      ≡ record { state = renameState (plainExecute marks b w v .state); answer = plainExecute marks b w v .answer }
   unfolding plainExecute
   execute-renamed b w (TurnedDown n) = refl
   execute-renamed b w (Copied a) = refl
@@ -94,7 +95,8 @@ module _ (p : Parameters) (marks : ℕ) (s : Bytes → Bytes) (Sort : Bytes → 
   execute-sort b w (Arrives call) d g = (d, g)
 
   step-renamed : (w : PlainState) (b : Bytes) → AllPast (w .past) → Sort b
-      → plainFrameStep p marks (renameState w) (s b) ≡ record { state = renameState (plainFrameStep p marks w b .state); answer = plainFrameStep p marks w b .answer }
+      → plainFrameStep p marks (renameState w) (s b)
+      ≡ record { state = renameState (plainFrameStep p marks w b .state); answer = plainFrameStep p marks w b .answer }
   unfolding plainFrameStep
   step-renamed w b g d =
       let f = parse p (length (w .panel .outputs)) b in
@@ -107,7 +109,8 @@ module _ (p : Parameters) (marks : ℕ) (s : Bytes → Bytes) (Sort : Bytes → 
 
   -- OVER A LIST
   list-renamed : (w : PlainState) (l : List Bytes) → AllPast (w .past) → Every Sort l
-      → (plainAfter p marks (renameState w) (map s l) .panel ≡ plainAfter p marks w l .panel) × (plainAnswers p marks (renameState w) (map s l) ≡ plainAnswers p marks w l)
+      → (plainAfter p marks (renameState w) (map s l) .panel ≡ plainAfter p marks w l .panel)
+      × (plainAnswers p marks (renameState w) (map s l) ≡ plainAnswers p marks w l)
   unfolding plainAfter plainAnswers
   list-renamed w [] g d = (refl, refl)
   list-renamed w (b ∷ l) g d =
@@ -120,6 +123,7 @@ module _ (p : Parameters) (marks : ℕ) (s : Bytes → Bytes) (Sort : Bytes → 
 
   -- from a fresh start
   pub start-renamed : (l : List Bytes) → Every Sort l
-      → (plainAfter p marks (plainStart p) (map s l) .panel ≡ plainAfter p marks (plainStart p) l .panel) × (plainAnswers p marks (plainStart p) (map s l) ≡ plainAnswers p marks (plainStart p) l)
+      → (plainAfter p marks (plainStart p) (map s l) .panel ≡ plainAfter p marks (plainStart p) l .panel)
+      × (plainAnswers p marks (plainStart p) (map s l) ≡ plainAnswers p marks (plainStart p) l)
   unfolding plainStart
   start-renamed l d = list-renamed (plainStart p) l tt d

@@ -175,7 +175,8 @@ plain-spends p marks c k w b l o m h =
           w
           (plainExecute marks b w (judged (w .past) b (parse p c b)) .state)
           l
-          (plainExecute-grows p marks c k w b (judged (w .past) b (parse p c b)) m (judged-moved p c k w b (parse p c b) m (frame-in-range p c b o)))
+          (plainExecute-grows p marks c k w b (judged (w .past) b (parse p c b)) m
+          (judged-moved p c k w b (parse p c b) m (frame-in-range p c b o)))
           h,
     )
 
@@ -187,7 +188,8 @@ unfolding after answers answersToOriginals
 repeats p marks c k w end s m h = (refl, refl)
 repeats p marks c k w (own {seen = seen} {b = b} r) s m h =
     let z = step p marks c k w b (s .0) m in
-    let i = repeats p marks c (z .stations) (plainFrameStep p marks w b .state) r (s .1) (z .linked) (plain-spends p marks c k w b seen (s .0) m h) in
+    let spent = plain-spends p marks c k w b seen (s .0) m h in
+    let i = repeats p marks c (z .stations) (plainFrameStep p marks w b .state) r (s .1) (z .linked) spent in
     rw (z .same) (i .0, ap (λ (x : List Answer). plainFrameStep p marks w b .answer ∷ x) (i .1))
 repeats p marks c k w (copy {seen = seen} {b = b} a r) s m h =
     let i = repeats p marks c k w r s m h in
@@ -195,7 +197,8 @@ repeats p marks c k w (copy {seen = seen} {b = b} a r) s m h =
     rw (engine-stays p marks c k w b (o .0) m (o .1)) i
 
 -- after a start nothing is seen yet
-pub repeats-change-nothing : (p : Parameters) (marks c : ℕ) (k : List Station) (w : PlainState) {l l′ : List Bytes} (r : Again [] l l′)
+pub repeats-change-nothing : (p : Parameters) (marks c : ℕ) (k : List Station) (w : PlainState) {l l′ : List Bytes}
+    (r : Again [] l l′)
     → Strings l → Refines p c k w
     → (after (joined p marks k w) l′ ≡ after (joined p marks k w) l)
     × (answersToOriginals r (answers (joined p marks k w) l′) ≡ answers (joined p marks k w) l)

@@ -171,7 +171,8 @@ secret e e′ b kind alike =
     let same =
     judged-alike e e′ b kind rules (alike stationCounts) (alike outputCounts) (alike panelTimes)
     (alike itsRecord) in
-    let found = judged-05 e b (p .stations) (p .outputs) (getD (e .stations) (sender b) freshStation) (output-count e (rules .0)) in
+    let station = getD (e .stations) (sender b) freshStation in
+    let found = judged-05 e b (p .stations) (p .outputs) station (output-count e (rules .0)) in
     let verdict : Judged05 e b (decide e b) = rw (decided e b kind (rules .0)) found in
     ap (λ (s : Step). s .answer) (frameStep-execute e b (rules .0))
     ∙ by-verdict e e′ b kind rules (alike stationCounts) (alike outputCounts) (alike panelTimes) (alike itsRecord)

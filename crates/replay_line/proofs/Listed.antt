@@ -140,7 +140,8 @@ module _ (s : Named) (p : Panel) (z : startable (s .parameters) ≡ true)
   unfolding begun freshPanel
   begun-becomes =
       rw (startStep-fresh (s .parameters) (s .tenants) begins starts .1)
-      (becomes (s .parameters .outputs) (s .parameters .stations) p (freshPanel (s .parameters) (s .tenants)) h i (length-replicate _ _) (length-replicate _ _) refl refl)
+      (becomes (s .parameters .outputs) (s .parameters .stations) p (freshPanel (s .parameters) (s .tenants)) h i
+      (length-replicate _ _) (length-replicate _ _) refl refl)
 
 -- ONE LINE: x takes the tables p to q, and the reader to the start of the next line; n: whether the outputs
 -- are named then

@@ -52,7 +52,10 @@ returns c =
     let j = c .before .before .before .before .before .before .least2 in
     let f = c .before .before .start in (
       rw (← part-taken (a .n) (i .result) (a .outputs .now) (i .ensures), ← part-taken (a .k) (j .result) (a .stations .now) (j .ensures)) (ap (λ (x : Step). x .answer) (f .ensures)),
-      parts-joined (λ (e : Panel). startStep (a .parameters) (a .tenants) e .panel) (a .n) (i .result) (a .k) (j .result) (a .outputs .now) (a .stations .now) (a .kept .now) (panelOf (f .last .0) (f .last .1 .0) (f .last .1 .1 .0)) (i .ensures) (j .ensures) (ap (λ (x : Step). x .panel) (f .ensures)),
+      parts-joined (λ (e : Panel). startStep (a .parameters) (a .tenants) e .panel)
+          (a .n) (i .result) (a .k) (j .result) (a .outputs .now) (a .stations .now) (a .kept .now)
+          (panelOf (f .last .0) (f .last .1 .0) (f .last .1 .1 .0))
+          (i .ensures) (j .ensures) (ap (λ (x : Step). x .panel) (f .ensures)),
     )
 
 pub start-spec : {M : Type 1} → statement M

@@ -15,7 +15,9 @@ use Rattle.lighting_outputs.specs.declared.Answer.the-variants.{Refused}
 
 -- WHAT A REQUEST of a service station DOES to the one output of a table, and what it is answered
 abbrev pub alone : ℕ → Output → Request → Outcome
-alone t o r = let done = served forService t (o ∷ []) 0 r in record { output = getD (done .outputs) 0 freshOutput; answer = done .answer }
+alone t o r =
+    let done = served forService t (o ∷ []) 0 r in
+    record { output = getD (done .outputs) 0 freshOutput; answer = done .answer }
 
 -- what it does to the one output of a table, it does to the frame's own of any table, and no other is
 -- touched; refused, it touches none. What a tenant's does and is answered, Consequences/Tenants.antt says

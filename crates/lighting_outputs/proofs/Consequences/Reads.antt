@@ -90,7 +90,8 @@ read-relay tenant t o = refl
 -- it had none)', after a command without a duration
 pub read-last : (tenant : Bool) (t : ℕ) (o : Output) (r : Effect) (timer : Timer) (x y : Float) (f : ℕ)
     → map
-    (λ (k : Operation). map (readsAs tenant t (withCommand o r timer (record { operation = k; duration = Omitted }))) (0x0f ∷ 0x10 ∷ 0x11 ∷ 0x12 ∷ 0x13 ∷ 0x14 ∷ []))
+    (λ (k : Operation). map (readsAs tenant t (withCommand o r timer (record { operation = k; duration = Omitted })))
+    (0x0f ∷ 0x10 ∷ 0x11 ∷ 0x12 ∷ 0x13 ∷ 0x14 ∷ []))
     (Stop ∷ FadeTo x ∷ FadeToOver x f ∷ RampTo x ∷ RampToAtRate x y ∷ StepUp ∷ StepDown ∷ StepUpBy x ∷ StepDownBy x ∷ Goto x ∷ Relinquish ∷ [])
     ≡ (Value 0 ∷ Absent ∷ Absent ∷ Absent ∷ Absent ∷ Absent ∷ [])
     ∷ (Value 1 ∷ Value (bits x) ∷ Absent ∷ Absent ∷ Absent ∷ Absent ∷ [])
@@ -157,16 +158,22 @@ hides-from-none i = refl
 pub read-hidden : (t : ℕ) (o : Output) (i : ℕ) → i < 6 → readsAs forTenant t o (0x21 + i) ≡ Absent
 unfolding acted unchanged propertyOf numbered readProperty if_then_else_
 read-hidden t o i h =
-    rw
-    (leb-yes {a = 0x21} {b = 0x21 + i} (omega arith), leb-yes {a = 0x21 + i} {b = 0x30} (omega arith), add-sub-cancel-left 0x21 i)
+    rw (
+      leb-yes {a = 0x21} {b = 0x21 + i} (omega arith),
+      leb-yes {a = 0x21 + i} {b = 0x30} (omega arith),
+      add-sub-cancel-left 0x21 i,
+    )
     (rw (hides i h))
 
 pub read-shown : (t : ℕ) (o : Output) (i : ℕ) → 6 ≤ i → i < slotCount
     → readsAs forTenant t o (0x21 + i) ≡ reads t o (0x21 + i)
 unfolding acted unchanged propertyOf numbered readProperty if_then_else_
 read-shown t o i h k =
-    rw
-    (leb-yes {a = 0x21} {b = 0x21 + i} (omega arith), leb-yes {a = 0x21 + i} {b = 0x30} (omega arith), add-sub-cancel-left 0x21 i)
+    rw (
+      leb-yes {a = 0x21} {b = 0x21 + i} (omega arith),
+      leb-yes {a = 0x21 + i} {b = 0x30} (omega arith),
+      add-sub-cancel-left 0x21 i,
+    )
     (rw (hides-no-more i h, hides-from-none i))
 
 -- what is refused is not Done

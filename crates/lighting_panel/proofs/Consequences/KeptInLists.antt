@@ -152,7 +152,9 @@ all-after p marks w [] s h = h
 all-after p marks w (b ∷ l) s h =
     let f = parse p (length (w .panel .outputs)) b in
     all-after p marks _ l (s .1)
-    (all-execute p marks b w (judged (w .past) b f) (judged-kept p (w .past) b f (parse-kept p (length (w .panel .outputs)) b (s .0))) h)
+    (all-execute p marks b w (judged (w .past) b f)
+    (judged-kept p (w .past) b f (parse-kept p (length (w .panel .outputs)) b (s .0)))
+    h)
 
 -- every output's, after every list
 pub last-kept : (p : Parameters) (marks : ℕ) (e : Panel) (l : List Bytes) → Strings l

@@ -33,7 +33,8 @@ serve-requires c κs =
     let p = b .pre .1 in
     let a = b .args in
     let from = c .before .before .before .before .before .before .before .time-of .result in
-    (p .moment .time, omega (arith, p .output, ap length (c .before .before .before .before .before .advance-outputs .ensures), length-map (a .outputs .now) (advance from (a .call .time))))
+    let brought = ap length (c .before .before .before .before .before .advance-outputs .ensures) in
+    (p .moment .time, omega (arith, p .output, brought, length-map (a .outputs .now) (advance from (a .call .time))))
 
 station-record-requires : tie.Need-station-record-requires
 station-record-requires c κs = search needs

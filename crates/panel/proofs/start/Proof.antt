@@ -32,7 +32,9 @@ returns-2 : tie.Need-returns-2
 returns-2 c =
     let a = c .before .before .before .before .args in
     let e = panelOf (a .outputs .now) (a .stations .now) (a .kept .now) in
-    sym (startStep-refused (a .parameters) (a .tenants) e (allowed (c .before .before)) (sym (c .before .counts-sound .ensures) ∙ not-true _ (c .if2 .taken)))
+    sym
+    (startStep-refused (a .parameters) (a .tenants) e (allowed (c .before .before))
+    (sym (c .before .counts-sound .ensures) ∙ not-true _ (c .if2 .taken)))
 
 fresh-outputs-requires : tie.Need-fresh-outputs-requires
 fresh-outputs-requires c κs = search needs
@@ -55,7 +57,9 @@ returns-3 c =
     let a = b .before .before .before .before .args in
     let e = panelOf (a .outputs .now) (a .stations .now) (a .kept .now) in
     rw (c .before .before .before .before .before .fresh-outputs .ensures, c .before .before .fresh-stations .ensures, c .fresh-record .ensures)
-    (sym (startStep-done (a .parameters) (a .tenants) e (allowed (b .before .before)) (sym (b .before .counts-sound .ensures) ∙ not-false _ (b .if2 .left))))
+    (sym
+    (startStep-done (a .parameters) (a .tenants) e (allowed (b .before .before))
+    (sym (b .before .counts-sound .ensures) ∙ not-false _ (b .if2 .left))))
 
 pub start-spec : {M : Type 1} → statement M
 start-spec =
