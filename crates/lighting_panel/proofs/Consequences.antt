@@ -6,3 +6,5 @@ pub mod Others
 pub mod Elapsed
 -- the last command after every list (§1)
 pub mod KeptInLists
+-- the marks: kept, and bits beyond the stations (§8)
+pub mod Marks

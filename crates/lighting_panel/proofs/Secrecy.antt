@@ -2,8 +2,8 @@
 -- the same answer, EVERY string of bytes of that kind.
 use mathlib.Core.Path.{_≡_, refl, sym, ap, _∙_}
 use mathlib.Core.Logic.{_≢_}
-use mathlib.Core.Bool.{Bool, true, false, false≢true}
-use mathlib.Core.List.{List, map}
+use mathlib.Core.Bool.{true, false, false≢true}
+use mathlib.Core.List.{List}
 use Prim.Native.Nat.{ℕ, _≤_, _<_}
 use native.Mathlib.Omega.{arith}
 use lib.Dec.{ltb, eqb}
@@ -12,13 +12,11 @@ use Rattle.lighting_levels.specs.Paper.Choice.{if_then_else_}
 use Rattle.lighting_levels.specs.Paper.Field.{byteAt, bigEndian}
 use Rattle.lighting_outputs.specs.declared.Parameters.{Parameters}
 use Rattle.lighting_outputs.specs.Engine.Advance.{advance}
-use Rattle.lighting_outputs.specs.Paper.Fresh.{freshOutput}
 use Rattle.lighting_outputs.specs.Paper.Tenants.{isTenant, forTenant}
 use Rattle.lighting_outputs.specs.Paper.Properties.{propertyOf, readProperty}
 use Rattle.lighting_outputs.specs.Paper.Acting.{unchanged, acted, served}
 use Rattle.lighting_outputs.specs.Paper.Learnt.{Learnt, theSettings, theRelaySettings, theSlots, theLastCommand, theProcess, theBinaryValue, theBurningTime, thePresentValue, theProgressValue, AlikeIn}
 use Rattle.lighting_outputs.specs.Paper.Answers.{answerBytes}
-use Rattle.lighting_outputs.specs.declared.Output.{Output}
 use Rattle.lighting_outputs.specs.declared.Answer.{Answer}
 use Rattle.lighting_frames.specs.Paper.Kinds.{kindRow}
 use Rattle.lighting_frames.specs.Paper.Frames.{Bytes, requestOf, callOf, called, parseBy, parse}
@@ -26,10 +24,10 @@ use Rattle.lighting_frames.specs.Paper.Stations.{freshStation}
 use Rattle.lighting_frames.specs.declared.Action.the-variants.{ReadsProperty}
 use Rattle.lighting_frames.specs.declared.Call.{Call}
 use Rattle.lighting_frames.specs.declared.Frame.{Frame}
-use Rattle.lighting_frames.specs.declared.Frame.the-variants.{Bad, Clock, Calls}
+use Rattle.lighting_frames.specs.declared.Frame.the-variants.{Bad, Calls}
 use Rattle.lighting_frames.specs.declared.Station.{Station}
 use Rattle.lighting_frames.specs.declared.Verdict.{Verdict}
-use Rattle.lighting_frames.specs.declared.Verdict.the-variants.{TurnedDown, Copied, Clocked, Arrives}
+use Rattle.lighting_frames.specs.declared.Verdict.the-variants.{TurnedDown, Copied, Arrives}
 use Rattle.lighting_frames.specs.Paper.Copies.{sameBytes, retransmissionOrConflict}
 use Rattle.lighting_panel.specs.Paper.Panel.{Panel, Step, result, countsSound, rulesKept, panelSound}
 use Rattle.lighting_panel.specs.Engine.Judging.{restored, judgedByNumber, judgedByRecord, stationOf, judgedByStation, decide}

@@ -9,11 +9,11 @@ use lib.Dec.{ltb, eqb}
 use lib.ListN.{length}
 use Rattle.lighting_levels.specs.Paper.Choice.{if_then_else_, every}
 use Rattle.lighting_frames.specs.Paper.Frames.{Bytes}
-use Rattle.lighting_levels.proofs.Split.{by-bool, leb-yes, le-of, also-yes, also-both}
+use Rattle.lighting_levels.proofs.Split.{by-bool, leb-yes, le-of, also-both}
 use Rattle.text_characters.specs.Characters.{isBlank}
 use Rattle.text_heading.specs.Words.{letters, base, mayFollow, numberIn, setWith, marksWith, withNumber, hasCome, withCome}
 use Rattle.text_heading.specs.Heading.{leftOut, noneCame, freshHeading, withPlace, lettered, takesDigit, counted, countedOn, gapped, numbered, marked, wordBegun, trailed, stepAt, headingStep, read, run, judged, endedAt, ended}
-use Rattle.text_heading.specs.Spelling.{Unbroken, nothing, char, Blanks, no-blank, one-blank, Digit, Writes, no-digit, one-digit, Says, says, Further, no-more, one-more, Names, names}
+use Rattle.text_heading.specs.Spelling.{Unbroken, nothing, char, Blanks, no-blank, one-blank, Digit, Writes, no-digit, one-digit, says, Further, no-more, one-more, Names, names}
 use Rattle.text_heading.specs.declared.Word.{Word}
 use Rattle.text_heading.specs.declared.Word.the-variants.{Outputs, Stations, Fade, Duration, Tenants}
 use Rattle.text_heading.specs.declared.Named.{Named}

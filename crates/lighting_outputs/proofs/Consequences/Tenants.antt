@@ -15,7 +15,6 @@ use Rattle.lighting_outputs.specs.Paper.Tenants.{forTenant, forService, 
 use Rattle.lighting_outputs.specs.Paper.Properties.{numbered, propertyOf, levelOrAbsent, slotAnswer, readProperty}
 use Rattle.lighting_outputs.specs.Paper.Acting.{unchanged, acted, served}
 use Rattle.lighting_outputs.specs.Paper.Learnt.{Learnt, theSettings, theRelaySettings, theSlots, theLastCommand, theProcess, theBinaryValue, theBurningTime, thePresentValue, theProgressValue, AlikeIn}
-use Rattle.lighting_outputs.specs.declared.Answer.{Answer}
 use Rattle.lighting_outputs.specs.declared.Output.{Output}
 use Rattle.lighting_outputs.specs.declared.Request.{Request}
 use Rattle.lighting_outputs.specs.declared.Request.the-variants.{Refuse, ToOutput}

@@ -2,7 +2,7 @@
 -- proofs/Figures.antt proves them equal.
 use mathlib.Core.Bool.{Bool, true}
 use mathlib.Core.List.{List, [], _∷_, _++_, map}
-use Prim.Native.Nat.{ℕ, _+_}
+use Prim.Native.Nat.{ℕ}
 use Rattle.lighting_levels.specs.Paper.Level.{real}
 use Rattle.lighting_outputs.specs.Paper.Slots.{filled}
 use Rattle.lighting_outputs.specs.Paper.Tenants.{isTenant, forTenant, forService}

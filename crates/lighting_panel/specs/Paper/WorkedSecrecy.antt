@@ -5,12 +5,10 @@ use mathlib.Core.Bool.{Bool, true, false}
 use mathlib.Core.List.{List, [], _∷_, map}
 use Prim.Native.Nat.{ℕ}
 use lib.ListN.{replicate, set}
-use Rattle.lighting_levels.specs.Paper.Choice.{if_then_else_}
-use Rattle.lighting_outputs.specs.declared.Parameters.{Parameters}
 use Rattle.lighting_outputs.specs.Paper.Parameters.{fourHours}
 use Rattle.lighting_outputs.specs.Paper.Slots.{filled}
 use Rattle.lighting_outputs.specs.Paper.Fresh.{freshSettings, freshOutput}
-use Rattle.lighting_outputs.specs.Paper.Learnt.{Learnt, theSettings, theRelaySettings, theSlots, theLastCommand, theProcess, theBinaryValue, theBurningTime, thePresentValue, theProgressValue}
+use Rattle.lighting_outputs.specs.Paper.Learnt.{theSettings, theRelaySettings, theSlots, theLastCommand, theProcess, theBinaryValue, theBurningTime, thePresentValue, theProgressValue}
 use Rattle.lighting_outputs.specs.declared.Activity.{Activity}
 use Rattle.lighting_outputs.specs.declared.Activity.the-variants.{Still, Moving, Warned}
 use Rattle.lighting_outputs.specs.declared.Answer.{Answer}

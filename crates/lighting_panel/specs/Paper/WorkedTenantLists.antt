@@ -1,7 +1,7 @@
 -- §8 IN A LIST: a panel of eight stations whose marks have bits 0, 8 and 31 set. Station 0 is a tenant, and
 -- bits 8 and 31 mean nothing. Frames, with the answers that the paper gives; proofs/Figures.antt computes
 -- them.
-use mathlib.Core.List.{List, [], _∷_, _++_}
+use mathlib.Core.List.{List, [], _∷_}
 use Prim.Native.Nat.{ℕ}
 use Rattle.lighting_levels.specs.Paper.Field.{octets}
 use Rattle.lighting_outputs.specs.Paper.Parameters.{fourHours}
