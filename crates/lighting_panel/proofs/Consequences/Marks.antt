@@ -1,5 +1,5 @@
--- THE MARKS (§8), over every lent table: no frame changes them, and bits at or above the number of stations mean
--- nothing.
+-- THE MARKS (§8), over every lent table: no frame changes them, and bits at or above the number of stations
+-- mean nothing.
 use mathlib.Core.Path.{_≡_, refl, ap}
 use mathlib.Core.List.{List, [], _∷_}
 use Prim.Native.Nat.{ℕ, _<_}

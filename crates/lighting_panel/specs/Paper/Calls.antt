@@ -19,9 +19,9 @@ pub data Calls : Panel → List Bytes → List Answer → Panel → Type 0 where
       → result e₁ a ≡ frameStep e b → Calls e₁ l given e₂ → Calls e (b ∷ l) (a ∷ given) e₂
 
 -- what such a caller may conclude who started with the set p and the marks: the outputs, all of every record,
--- are the plain panel's, at the same time, and every answer was its answer; set and marks are kept, the records keep
--- the rules, and no answer was refusal 1. So the tables show what the plain panel shows (proofs/Calls.antt,
--- `shows`)
+-- are the plain panel's, at the same time, and every answer was its answer; set and marks are kept, the
+-- records keep the rules, and no answer was refusal 1. So the tables show what the plain panel shows
+-- (proofs/Calls.antt, `shows`)
 pub record Concluded (p : Parameters) (marks : ℕ) (l : List Bytes) (given : List Answer) (e′ : Panel) : Type 0 where
   pub outputs : e′ .outputs ≡ plainAfter p marks (plainStart p) l .panel .outputs
   pub time : e′ .kept .time ≡ plainAfter p marks (plainStart p) l .panel .time
