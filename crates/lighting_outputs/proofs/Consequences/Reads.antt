@@ -26,6 +26,7 @@ use Rattle.lighting_outputs.specs.declared.Timer.{Timer}
 use Rattle.lighting_outputs.specs.declared.Answer.{Answer}
 use Rattle.lighting_outputs.specs.declared.Answer.the-variants.{Done, Value, Absent, Refused}
 use Rattle.lighting_outputs.specs.declared.OutputRequest.the-variants.{Read}
+use Rattle.lighting_outputs.specs.declared.Property.the-variants.{SlotValue}
 use Rattle.lighting_outputs.specs.declared.Output.{Output}
 use Rattle.lighting_levels.proofs.Split.{leb-yes, leb-no}
 use Rattle.lighting_outputs.proofs.Rules.Rows.{unlisted}
@@ -132,11 +133,18 @@ abbrev slotAs : Option ℕ → Answer
 slotAs none = Absent
 slotAs (some v) = Value (readOut v)
 
+slot-number : (i : ℕ) → i < slotCount → propertyOf (0x21 + i) ≡ SlotValue i
+unfolding propertyOf if_then_else_
+slot-number i h =
+    rw (
+      leb-yes {a = 0x21} {b = 0x21 + i} (omega arith),
+      leb-yes {a = 0x21 + i} {b = 0x30} (omega arith),
+      add-sub-cancel-left 0x21 i,
+    )
+
 pub read-slots : (t : ℕ) (o : Output) (i : ℕ) → i < slotCount → reads t o (0x21 + i) ≡ slotAs (slot (o .slots) i)
-unfolding acted unchanged propertyOf numbered readProperty hidden slotAnswer if_then_else_
-read-slots t o i h =
-    rw (leb-yes {a = 0x21} {b = 0x21 + i} (omega arith), leb-yes {a = 0x21 + i} {b = 0x30} (omega arith), add-sub-cancel-left 0x21 i)
-    (by (slot (o .slots) i))
+unfolding acted unchanged readProperty hidden slotAnswer if_then_else_
+read-slots t o i h = rw (slot-number i h) (by (slot (o .slots) i))
   where
     by : (x : Option ℕ) → levelOrAbsent x ≡ slotAs x
     by none = unfold levelOrAbsent in refl
@@ -156,25 +164,13 @@ unfolding hidden if_then_else_
 hides-from-none i = refl
 
 pub read-hidden : (t : ℕ) (o : Output) (i : ℕ) → i < 6 → readsAs forTenant t o (0x21 + i) ≡ Absent
-unfolding acted unchanged propertyOf numbered readProperty if_then_else_
-read-hidden t o i h =
-    rw (
-      leb-yes {a = 0x21} {b = 0x21 + i} (omega arith),
-      leb-yes {a = 0x21 + i} {b = 0x30} (omega arith),
-      add-sub-cancel-left 0x21 i,
-    )
-    (rw (hides i h))
+unfolding acted unchanged readProperty if_then_else_
+read-hidden t o i h = rw (slot-number i (omega arith), hides i h)
 
 pub read-shown : (t : ℕ) (o : Output) (i : ℕ) → 6 ≤ i → i < slotCount
     → readsAs forTenant t o (0x21 + i) ≡ reads t o (0x21 + i)
-unfolding acted unchanged propertyOf numbered readProperty if_then_else_
-read-shown t o i h k =
-    rw (
-      leb-yes {a = 0x21} {b = 0x21 + i} (omega arith),
-      leb-yes {a = 0x21 + i} {b = 0x30} (omega arith),
-      add-sub-cancel-left 0x21 i,
-    )
-    (rw (hides-no-more i h, hides-from-none i))
+unfolding acted unchanged readProperty if_then_else_
+read-shown t o i h k = rw (slot-number i k, hides-no-more i h, hides-from-none i)
 
 -- what is refused is not Done
 pub refused : {A : Type 0} {r : ℕ} → _≡_ {A = Answer} (Refused r) Done → A
