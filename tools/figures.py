@@ -138,7 +138,8 @@ def needed():
     proofs['(learnt theRelaySettings)'] = 'λ timely. (refl, refl, refl)'
     lines = ['-- Made by tools/figures.py: §8, each premise of the claim of secrecy is needed. For each of them two panels',
              '-- (WorkedSecrecy.antt) that are alike in all the others, and a string of kind 05 that they answer',
-             '-- differently.', 'use mathlib.Core.Path.{_≡_, refl}', 'use Prim.Native.Nat.{ℕ}']
+             '-- differently.', 'use mathlib.Core.Path.{_≡_, refl}', 'use Prim.Native.Nat.{ℕ, _<_}',
+             'use native.Mathlib.Omega.{arith}', 'use %s.{Octets}' % library('Frames', crate)]
     lines += imports(PANELS, crate)
     lines.append('use %s.{%s}' % (library('Learnt', crate), ', '.join(LEARNT)))
     lines.append('use %s.{Premise, %s, learnt, Alike, Needed}' % (library('Secrecy', crate), ', '.join(PREMISES)))
@@ -153,14 +154,18 @@ def needed():
         lines += ['needed %s =' % spared, '    record {']
         lines += ['      %s = %s %s;' % (field, value, spared)
                   for field, value in (('one', 'theOne'), ('other', 'theOther'), ('string', 'theString'))]
-        lines += ['      kind = refl;', '      alike = %s;' % alike, '      differ = apart-answers _ _ refl;', '    }']
+        lines += ['      octets = refl;', '      kind = refl;', '      alike = %s;' % alike]
+        lines += ['      differ = apart-answers _ _ refl;', '    }']
     string = '(asked 1 1 10000 0 n)'
     lines += ['', '-- two panels that are alike in all of them and differ in much else',
               'alike : (n : ℕ) (k : Premise) → Alike k quiet busy ' + string, 'unfolding ' + opened(PANELS)]
     lines += ['alike n %s = %s' % each for each in proofs.items()]
     lines += ['', '-- so a tenant cannot tell them apart, whatever it reads',
-              'pub untold : (n : ℕ) → frameStep quiet %s .answer ≡ frameStep busy %s .answer' % (string, string),
-              'untold n = secret quiet busy %s (unfold byteAt in refl) (alike n)' % string]
+              'pub untold : (n : ℕ) → n < 256',
+              '    → frameStep quiet %s .answer ≡ frameStep busy %s .answer' % (string, string),
+              'untold n below = secret quiet busy %s bytes (unfold byteAt in refl) (alike n)' % string,
+              '  where', '    bytes : Octets ' + string,
+              '    bytes = unfold octets in ' + '(omega arith, ' * 13 + '(below, tt)' + ')' * 13]
     return '\n'.join(lines) + '\n'
 
 

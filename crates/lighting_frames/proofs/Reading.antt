@@ -62,7 +62,7 @@ request-good p Relinquishes b = commandRequest-good p _ _
 request-good p CommandsTagged b = tagged-good p (drop 13 b)
 
 -- A TIME of six bytes
-six-bytes : (b : Bytes) (at : ℕ) → Octets b → bigEndian 6 b at < 2 ^ 48
+pub six-bytes : (b : Bytes) (at : ℕ) → Octets b → bigEndian 6 b at < 2 ^ 48
 unfolding bigEndian
 six-bytes b at h =
     omega (

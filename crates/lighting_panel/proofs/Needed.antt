@@ -2,7 +2,9 @@
 -- (WorkedSecrecy.antt) that are alike in all the others, and a string of kind 05 that they answer
 -- differently.
 use mathlib.Core.Path.{_≡_, refl}
-use Prim.Native.Nat.{ℕ}
+use Prim.Native.Nat.{ℕ, _<_}
+use native.Mathlib.Omega.{arith}
+use Rattle.lighting_frames.specs.Paper.Frames.{Octets}
 use lib.Ieee.{toBits, round, ofBits}
 use lib.Bits.{bitAnd, bitOr}
 use Rattle.lighting_levels.specs.Paper.Choice.{if_then_else_, allFrom, every}
@@ -48,6 +50,7 @@ needed neitherMeetsOne =
       one = theOne neitherMeetsOne;
       other = theOther neitherMeetsOne;
       string = theString neitherMeetsOne;
+      octets = refl;
       kind = refl;
       alike = (tt, (refl, (refl, ((refl, refl), (refl, (refl, (λ timely. refl, (λ timely. (refl, refl, refl), (λ timely. refl, (λ timely. refl, (λ timely. refl, (λ timely. refl, (λ timely. refl, (λ timely. refl, (λ timely. refl, tt)))))))))))))));
       differ = apart-answers _ _ refl;
@@ -57,6 +60,7 @@ needed stationCounts =
       one = theOne stationCounts;
       other = theOther stationCounts;
       string = theString stationCounts;
+      octets = refl;
       kind = refl;
       alike = ((refl, refl), (tt, (refl, ((refl, refl), (refl, (refl, (λ timely. refl, (λ timely. (refl, refl, refl), (λ timely. refl, (λ timely. refl, (λ timely. refl, (λ timely. refl, (λ timely. refl, (λ timely. refl, (λ timely. refl, tt)))))))))))))));
       differ = apart-answers _ _ refl;
@@ -66,6 +70,7 @@ needed outputCounts =
       one = theOne outputCounts;
       other = theOther outputCounts;
       string = theString outputCounts;
+      octets = refl;
       kind = refl;
       alike = ((refl, refl), (refl, (tt, ((refl, refl), (refl, (refl, (λ timely. refl, (λ timely. (refl, refl, refl), (λ timely. refl, (λ timely. refl, (λ timely. refl, (λ timely. refl, (λ timely. refl, (λ timely. refl, (λ timely. refl, tt)))))))))))))));
       differ = apart-answers _ _ refl;
@@ -75,6 +80,7 @@ needed itsMark =
       one = theOne itsMark;
       other = theOther itsMark;
       string = theString itsMark;
+      octets = refl;
       kind = refl;
       alike = ((refl, refl), (refl, (refl, (tt, (refl, (refl, (λ timely. refl, (λ timely. (refl, refl, refl), (λ timely. refl, (λ timely. refl, (λ timely. refl, (λ timely. refl, (λ timely. refl, (λ timely. refl, (λ timely. refl, tt)))))))))))))));
       differ = apart-answers _ _ refl;
@@ -84,6 +90,7 @@ needed panelTimes =
       one = theOne panelTimes;
       other = theOther panelTimes;
       string = theString panelTimes;
+      octets = refl;
       kind = refl;
       alike = ((refl, refl), (refl, (refl, ((refl, refl), (tt, (refl, (λ timely. refl, (λ timely. (refl, refl, refl), (λ timely. refl, (λ timely. refl, (λ timely. refl, (λ timely. refl, (λ timely. refl, (λ timely. refl, (λ timely. refl, tt)))))))))))))));
       differ = apart-answers _ _ refl;
@@ -93,6 +100,7 @@ needed itsRecord =
       one = theOne itsRecord;
       other = theOther itsRecord;
       string = theString itsRecord;
+      octets = refl;
       kind = refl;
       alike = ((refl, refl), (refl, (refl, ((refl, refl), (refl, (tt, (λ timely. refl, (λ timely. (refl, refl, refl), (λ timely. refl, (λ timely. refl, (λ timely. refl, (λ timely. refl, (λ timely. refl, (λ timely. refl, (λ timely. refl, tt)))))))))))))));
       differ = apart-answers _ _ refl;
@@ -102,6 +110,7 @@ needed (learnt theSettings) =
       one = theOne (learnt theSettings);
       other = theOther (learnt theSettings);
       string = theString (learnt theSettings);
+      octets = refl;
       kind = refl;
       alike = ((refl, refl), (refl, (refl, ((refl, refl), (refl, (refl, (tt, (λ timely. (refl, refl, refl), (λ timely. refl, (λ timely. refl, (λ timely. refl, (λ timely. refl, (λ timely. refl, (λ timely. refl, (λ timely. refl, tt)))))))))))))));
       differ = apart-answers _ _ refl;
@@ -111,6 +120,7 @@ needed (learnt theRelaySettings) =
       one = theOne (learnt theRelaySettings);
       other = theOther (learnt theRelaySettings);
       string = theString (learnt theRelaySettings);
+      octets = refl;
       kind = refl;
       alike = ((refl, refl), (refl, (refl, ((refl, refl), (refl, (refl, (λ timely. refl, (tt, (λ timely. refl, (λ timely. refl, (λ timely. refl, (λ timely. refl, (λ timely. refl, (λ timely. refl, (λ timely. refl, tt)))))))))))))));
       differ = apart-answers _ _ refl;
@@ -120,6 +130,7 @@ needed (learnt theSlots) =
       one = theOne (learnt theSlots);
       other = theOther (learnt theSlots);
       string = theString (learnt theSlots);
+      octets = refl;
       kind = refl;
       alike = ((refl, refl), (refl, (refl, ((refl, refl), (refl, (refl, (λ timely. refl, (λ timely. (refl, refl, refl), (tt, (λ timely. refl, (λ timely. refl, (λ timely. refl, (λ timely. refl, (λ timely. refl, (λ timely. refl, tt)))))))))))))));
       differ = apart-answers _ _ refl;
@@ -129,6 +140,7 @@ needed (learnt theLastCommand) =
       one = theOne (learnt theLastCommand);
       other = theOther (learnt theLastCommand);
       string = theString (learnt theLastCommand);
+      octets = refl;
       kind = refl;
       alike = ((refl, refl), (refl, (refl, ((refl, refl), (refl, (refl, (λ timely. refl, (λ timely. (refl, refl, refl), (λ timely. refl, (tt, (λ timely. refl, (λ timely. refl, (λ timely. refl, (λ timely. refl, (λ timely. refl, tt)))))))))))))));
       differ = apart-answers _ _ refl;
@@ -138,6 +150,7 @@ needed (learnt theProcess) =
       one = theOne (learnt theProcess);
       other = theOther (learnt theProcess);
       string = theString (learnt theProcess);
+      octets = refl;
       kind = refl;
       alike = ((refl, refl), (refl, (refl, ((refl, refl), (refl, (refl, (λ timely. refl, (λ timely. (refl, refl, refl), (λ timely. refl, (λ timely. refl, (tt, (λ timely. refl, (λ timely. refl, (λ timely. refl, (λ timely. refl, tt)))))))))))))));
       differ = apart-answers _ _ refl;
@@ -147,6 +160,7 @@ needed (learnt theBinaryValue) =
       one = theOne (learnt theBinaryValue);
       other = theOther (learnt theBinaryValue);
       string = theString (learnt theBinaryValue);
+      octets = refl;
       kind = refl;
       alike = ((refl, refl), (refl, (refl, ((refl, refl), (refl, (refl, (λ timely. refl, (λ timely. (refl, refl, refl), (λ timely. refl, (λ timely. refl, (λ timely. refl, (tt, (λ timely. refl, (λ timely. refl, (λ timely. refl, tt)))))))))))))));
       differ = apart-answers _ _ refl;
@@ -156,6 +170,7 @@ needed (learnt theBurningTime) =
       one = theOne (learnt theBurningTime);
       other = theOther (learnt theBurningTime);
       string = theString (learnt theBurningTime);
+      octets = refl;
       kind = refl;
       alike = ((refl, refl), (refl, (refl, ((refl, refl), (refl, (refl, (λ timely. refl, (λ timely. (refl, refl, refl), (λ timely. refl, (λ timely. refl, (λ timely. refl, (λ timely. refl, (tt, (λ timely. refl, (λ timely. refl, tt)))))))))))))));
       differ = apart-answers _ _ refl;
@@ -165,6 +180,7 @@ needed (learnt thePresentValue) =
       one = theOne (learnt thePresentValue);
       other = theOther (learnt thePresentValue);
       string = theString (learnt thePresentValue);
+      octets = refl;
       kind = refl;
       alike = ((refl, refl), (refl, (refl, ((refl, refl), (refl, (refl, (λ timely. refl, (λ timely. (refl, refl, refl), (λ timely. refl, (λ timely. refl, (λ timely. refl, (λ timely. refl, (λ timely. refl, (tt, (λ timely. refl, tt)))))))))))))));
       differ = apart-answers _ _ refl;
@@ -174,6 +190,7 @@ needed (learnt theProgressValue) =
       one = theOne (learnt theProgressValue);
       other = theOther (learnt theProgressValue);
       string = theString (learnt theProgressValue);
+      octets = refl;
       kind = refl;
       alike = ((refl, refl), (refl, (refl, ((refl, refl), (refl, (refl, (λ timely. refl, (λ timely. (refl, refl, refl), (λ timely. refl, (λ timely. refl, (λ timely. refl, (λ timely. refl, (λ timely. refl, (λ timely. refl, (tt, tt)))))))))))))));
       differ = apart-answers _ _ refl;
@@ -199,5 +216,9 @@ alike n (learnt thePresentValue) = λ timely. refl
 alike n (learnt theProgressValue) = λ timely. refl
 
 -- so a tenant cannot tell them apart, whatever it reads
-pub untold : (n : ℕ) → frameStep quiet (asked 1 1 10000 0 n) .answer ≡ frameStep busy (asked 1 1 10000 0 n) .answer
-untold n = secret quiet busy (asked 1 1 10000 0 n) (unfold byteAt in refl) (alike n)
+pub untold : (n : ℕ) → n < 256
+    → frameStep quiet (asked 1 1 10000 0 n) .answer ≡ frameStep busy (asked 1 1 10000 0 n) .answer
+untold n below = secret quiet busy (asked 1 1 10000 0 n) bytes (unfold byteAt in refl) (alike n)
+  where
+    bytes : Octets (asked 1 1 10000 0 n)
+    bytes = unfold octets in (omega arith, (omega arith, (omega arith, (omega arith, (omega arith, (omega arith, (omega arith, (omega arith, (omega arith, (omega arith, (omega arith, (omega arith, (omega arith, (below, tt))))))))))))))

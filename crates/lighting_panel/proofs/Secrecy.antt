@@ -12,6 +12,7 @@ use Rattle.lighting_levels.specs.Paper.Choice.{if_then_else_}
 use Rattle.lighting_levels.specs.Paper.Field.{byteAt, bigEndian}
 use Rattle.lighting_outputs.specs.declared.Parameters.{Parameters}
 use Rattle.lighting_outputs.specs.Engine.Advance.{advance}
+use Rattle.lighting_outputs.specs.Paper.Fresh.{freshOutput}
 use Rattle.lighting_outputs.specs.Paper.Tenants.{isTenant, forTenant}
 use Rattle.lighting_outputs.specs.Paper.Properties.{propertyOf, readProperty}
 use Rattle.lighting_outputs.specs.Paper.Acting.{unchanged, acted, served}
@@ -19,7 +20,7 @@ use Rattle.lighting_outputs.specs.Paper.Learnt.{Learnt, theSettings, theRelaySe
 use Rattle.lighting_outputs.specs.Paper.Answers.{answerBytes}
 use Rattle.lighting_outputs.specs.declared.Answer.{Answer}
 use Rattle.lighting_frames.specs.Paper.Kinds.{kindRow}
-use Rattle.lighting_frames.specs.Paper.Frames.{Bytes, requestOf, callOf, called, parseBy, parse}
+use Rattle.lighting_frames.specs.Paper.Frames.{Bytes, Octets, requestOf, callOf, called, parseBy, parse}
 use Rattle.lighting_frames.specs.Paper.Stations.{freshStation}
 use Rattle.lighting_frames.specs.declared.Action.the-variants.{ReadsProperty}
 use Rattle.lighting_frames.specs.declared.Call.{Call}
@@ -32,12 +33,15 @@ use Rattle.lighting_frames.specs.Paper.Copies.{sameBytes, retransmissionOrConfl
 use Rattle.lighting_panel.specs.Paper.Panel.{Panel, Step, result, countsSound, rulesKept, panelSound}
 use Rattle.lighting_panel.specs.Engine.Judging.{restored, judgedByNumber, judgedByRecord, stationOf, judgedByStation, decide}
 use Rattle.lighting_panel.specs.Engine.Executing.{execute, frameStep}
-use Rattle.lighting_panel.specs.Paper.Secrecy.{OfKind05, sender, moment, addressed, brought, Premise, neitherMeetsOne, stationCounts, outputCounts, itsMark, panelTimes, itsRecord, learnt, Alike, AlikeAsSaid, premises, premiseNumber}
+use Rattle.lighting_panel.specs.Paper.Secrecy.{Secret, OfKind05, sender, moment, addressed, brought, Premise, neitherMeetsOne, stationCounts, outputCounts, itsMark, panelTimes, itsRecord, learnt, Alike, AlikeAsSaid, premises, premiseNumber}
 use Rattle.lighting_levels.proofs.Split.{also-both, eq-of, by-bool, by-lt}
+use Rattle.lighting_outputs.proofs.Time.Passing.{advance-ticks}
+use Rattle.lighting_outputs.proofs.Rules.Tied.{tested-calm}
 use Rattle.lighting_outputs.proofs.Consequences.Tenants.{alike-reads}
+use Rattle.lighting_frames.proofs.Reading.{six-bytes}
 use Rattle.lighting_frames.proofs.Tagging.InTags.{same-self}
-use Rattle.lighting_panel.proofs.Carried.{frameStep-execute}
-use Rattle.lighting_panel.proofs.Consequences.Others.{at-map}
+use Rattle.lighting_panel.proofs.Carried.{frameStep-execute, sound-outputs}
+use Rattle.lighting_panel.proofs.Consequences.Others.{at-map, every-at}
 
 -- A STRING OF KIND 05, read: of the set it asks the numbers of stations and of outputs
 reading : Bytes → Call
@@ -129,18 +133,31 @@ judged-05 e b stations outputs k size =
         (λ late q. rw q turned)
         (λ timely q. rw q (comes (unfold reading callOf in timely) (omega arith))))))))
 
+-- the panel's way to the frame's time is the milliseconds'
+brought-there : (e : Panel) (b : Bytes) → Octets b → panelSound e ≡ true → e .kept .time ≤ moment b
+    → addressed b < length (e .outputs)
+    → advance (e .kept .time) (moment b) (getD (e .outputs) (addressed b) freshOutput) ≡ brought e b
+brought-there e b octets h timely inside =
+    let p = e .kept .parameters in
+    let t = e .kept .time in
+    let o = getD (e .outputs) (addressed b) freshOutput in
+    let rules = every-at p t (e .outputs) (addressed b) inside (sound-outputs e h) in
+    advance-ticks t (moment b) o timely (omega (arith, six-bytes b 6 octets)) (tested-calm p t o rules)
+
 -- ANSWERED: a first arrival with what its property reads as to a tenant, of its output once it is brought to
 -- the frame's time
-answer-first : (e : Panel) (b : Bytes) → isTenant (e .kept .tenants) (sender b) ≡ true
-    → addressed b < length (e .outputs)
-    → execute b e (Arrives (reading b)) .answer ≡ readProperty forTenant (moment b) (brought e b) (propertyOf (byteAt b 13))
+answer-first : (e : Panel) (b : Bytes) → Octets b → panelSound e ≡ true → e .kept .time ≤ moment b
+    → isTenant (e .kept .tenants) (sender b) ≡ true → addressed b < length (e .outputs)
+    → execute b e (Arrives (reading b)) .answer
+    ≡ readProperty forTenant (moment b) (brought e b) (propertyOf (byteAt b 13))
 unfolding execute served acted unchanged reading callOf requestOf
-answer-first e b tenant inside =
-    rw (tenant, at-map (advance (e .kept .time) (moment b)) (e .outputs) (addressed b) inside)
+answer-first e b octets h timely tenant inside =
+    let way = at-map (advance (e .kept .time) (moment b)) (e .outputs) (addressed b) inside in
+    rw (tenant, way ∙ brought-there e b octets h timely inside)
 
 -- TWO PANELS. What is asked of the panels alone gives the same verdict: so a string that is late, a copy, of
 -- a wrong number or length or to an output that is not there gets the same answer whatever the outputs are
-module _ (e e′ : Panel) (b : Bytes) (kind : OfKind05 b) (rules : Alike neitherMeetsOne e e′ b)
+module _ (e e′ : Panel) (b : Bytes) (octets : Octets b) (kind : OfKind05 b) (rules : Alike neitherMeetsOne e e′ b)
     (stations : Alike stationCounts e e′ b) (outputs : Alike outputCounts e e′ b) (time : Alike panelTimes e e′ b)
     (station : Alike itsRecord e e′ b) where
   pub judged-alike : decide e b ≡ decide e′ b
@@ -156,32 +173,32 @@ module _ (e e′ : Panel) (b : Bytes) (kind : OfKind05 b) (rules : Alike neither
   by-verdict v (comes timely inside) mark mark′ alike =
       let counted : length (e′ .outputs) ≡ length (e .outputs) =
       output-count e′ (rules .1) ∙ sym outputs ∙ sym (output-count e (rules .0)) in
-      answer-first e b mark inside
+      answer-first e b octets (rules .0) timely mark inside
       ∙ alike-reads (moment b) (brought e b) (brought e′ b) (λ what. alike what timely) (propertyOf (byteAt b 13))
-      ∙ sym (answer-first e′ b mark′ (omega arith))
+      ∙ sym (answer-first e′ b octets (rules .1) (omega arith) mark′ (omega arith))
 
 -- THE THEOREM
-pub secret : (e e′ : Panel) (b : Bytes) → OfKind05 b → ((k : Premise) → Alike k e e′ b)
-    → frameStep e b .answer ≡ frameStep e′ b .answer
-secret e e′ b kind alike =
+pub secret : (e e′ : Panel) (b : Bytes) → Secret e e′ b
+secret e e′ b octets kind alike =
     let rules = alike neitherMeetsOne in
     let p = e .kept .parameters in
-    let same =
-    judged-alike e e′ b kind rules (alike stationCounts) (alike outputCounts) (alike panelTimes)
-    (alike itsRecord) in
+    let stations = alike stationCounts in
+    let outputs = alike outputCounts in
+    let time = alike panelTimes in
+    let same = judged-alike e e′ b octets kind rules stations outputs time (alike itsRecord) in
     let station = getD (e .stations) (sender b) freshStation in
     let found = judged-05 e b (p .stations) (p .outputs) station (output-count e (rules .0)) in
     let verdict : Judged05 e b (decide e b) = rw (decided e b kind (rules .0)) found in
     ap (λ (s : Step). s .answer) (frameStep-execute e b (rules .0))
-    ∙ by-verdict e e′ b kind rules (alike stationCounts) (alike outputCounts) (alike panelTimes) (alike itsRecord)
+    ∙ by-verdict e e′ b octets kind rules stations outputs time (alike itsRecord)
     (decide e b) verdict (alike itsMark .0) (alike itsMark .1) (λ what. alike (learnt what))
     ∙ ap (λ (v : Verdict). execute b e′ v .answer) same
     ∙ sym (ap (λ (s : Step). s .answer) (frameStep-execute e′ b (rules .1)))
 
 -- in the paper's words
-pub as-said : (e e′ : Panel) (b : Bytes) → OfKind05 b → AlikeAsSaid e e′ b
+pub as-said : (e e′ : Panel) (b : Bytes) → Octets b → OfKind05 b → AlikeAsSaid e e′ b
     → frameStep e b .answer ≡ frameStep e′ b .answer
-as-said e e′ b kind alike = secret e e′ b kind each
+as-said e e′ b octets kind alike = secret e e′ b octets kind each
   where
     each : (k : Premise) → Alike k e e′ b
     each neitherMeetsOne = alike .rules
@@ -194,11 +211,11 @@ as-said e e′ b kind alike = secret e e′ b kind each
 
 -- OF THE RUNNING PANEL: who calls `frame` with such a string on two lent panels gets the same answer from
 -- both, by its contract
-pub called-secret : (e e′ left left′ : Panel) (b : Bytes) (a a′ : Answer) → OfKind05 b
+pub called-secret : (e e′ left left′ : Panel) (b : Bytes) (a a′ : Answer) → Octets b → OfKind05 b
     → ((k : Premise) → Alike k e e′ b)
     → result left a ≡ frameStep e b → result left′ a′ ≡ frameStep e′ b → a ≡ a′
-called-secret e e′ left left′ b a a′ kind alike call call′ =
-    ap (λ (s : Step). s .answer) call ∙ secret e e′ b kind alike ∙ sym (ap (λ (s : Step). s .answer) call′)
+called-secret e e′ left left′ b a a′ octets kind alike call call′ =
+    ap (λ (s : Step). s .answer) call ∙ secret e e′ b octets kind alike ∙ sym (ap (λ (s : Step). s .answer) call′)
 
 -- THE PREMISES ARE ALL THOSE OF THE ROW that proofs/Needed.antt goes through
 pub all-premises : (k : Premise) → getD premises (premiseNumber k) neitherMeetsOne ≡ k

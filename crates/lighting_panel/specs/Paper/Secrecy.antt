@@ -7,17 +7,17 @@ use mathlib.Core.Path.{_≡_}
 use mathlib.Core.Logic.{_≢_}
 use mathlib.Core.Bool.{Bool, true, false}
 use mathlib.Core.List.{List, _∷_, map}
-use Prim.Native.Nat.{ℕ, _+_, _≤_}
-use lib.Dec.{eqb}
+use Prim.Native.Nat.{ℕ, _+_, _-_, _≤_}
+use lib.Dec.{eqb, ltb}
 use lib.ListN.{getD}
-use Rattle.lighting_levels.specs.Paper.Choice.{Every}
+use Rattle.lighting_levels.specs.Paper.Choice.{Every, every}
 use Rattle.lighting_levels.specs.Paper.Field.{byteAt, bigEndian}
-use Rattle.lighting_outputs.specs.Engine.Advance.{advance}
+use Rattle.lighting_outputs.specs.Paper.Passing.{ticks}
 use Rattle.lighting_outputs.specs.Paper.Fresh.{freshOutput}
 use Rattle.lighting_outputs.specs.Paper.Tenants.{isTenant}
 use Rattle.lighting_outputs.specs.Paper.Learnt.{Learnt, theSettings, theRelaySettings, theSlots, theLastCommand, theProcess, theBinaryValue, theBurningTime, thePresentValue, theProgressValue, AlikeIn, everyLearnt}
 use Rattle.lighting_outputs.specs.declared.Output.{Output}
-use Rattle.lighting_frames.specs.Paper.Frames.{Bytes}
+use Rattle.lighting_frames.specs.Paper.Frames.{Bytes, Octets}
 use Rattle.lighting_frames.specs.Paper.Stations.{freshStation}
 use Rattle.lighting_panel.specs.Paper.Panel.{Panel, panelSound}
 use Rattle.lighting_panel.specs.Engine.Executing.{frameStep}
@@ -36,9 +36,11 @@ moment b = bigEndian 6 b 6
 abbrev pub addressed : Bytes → ℕ
 addressed b = byteAt b 12
 
--- the frame's output, 'once brought to the frame's time'
+-- the frame's output, 'once brought to the frame's time': it lives the milliseconds up to it, one after
+-- another
 abbrev pub brought : Panel → Bytes → Output
-brought e b = advance (e .kept .time) (moment b) (getD (e .outputs) (addressed b) freshOutput)
+brought e b =
+    ticks (moment b - e .kept .time) (e .kept .time) (getD (e .outputs) (addressed b) freshOutput)
 
 -- THE PREMISES: the paper's, less what is not needed. Of the set the longest fade and the longest duration
 -- may differ, and of the marks all others
@@ -63,9 +65,10 @@ Alike panelTimes e e′ b = e .kept .time ≡ e′ .kept .time
 Alike itsRecord e e′ b = getD (e .stations) (sender b) freshStation ≡ getD (e′ .stations) (sender b) freshStation
 Alike (learnt what) e e′ b = e .kept .time ≤ moment b → AlikeIn what (moment b) (brought e b) (brought e′ b)
 
--- THE CLAIM: where all of them hold, a string of kind 05 gets the same answer from both
+-- THE CLAIM: where all of them hold, a string of bytes of kind 05 gets the same answer from both
 abbrev pub Secret : Panel → Panel → Bytes → Type 0
-Secret e e′ b = OfKind05 b → ((k : Premise) → Alike k e e′ b) → frameStep e b .answer ≡ frameStep e′ b .answer
+Secret e e′ b =
+    Octets b → OfKind05 b → ((k : Premise) → Alike k e e′ b) → frameStep e b .answer ≡ frameStep e′ b .answer
 
 -- IN THE PAPER'S WORDS: what it asks alike, whole
 pub record AlikeAsSaid (e e′ : Panel) (b : Bytes) : Type 0 where
@@ -110,11 +113,13 @@ abbrev pub AlikeBut : Premise → Panel → Panel → Bytes → Type 0
 AlikeBut spared e e′ b =
     Every (λ (k : Premise). Unless (eqb (premiseNumber k) (premiseNumber spared)) (Alike k e e′ b)) premises
 
--- two panels that are alike in all but that, and a string of kind 05 to which they answer differently
+-- two panels that are alike in all but that, and a string of bytes of kind 05 to which they answer
+-- differently
 pub record Needed (spared : Premise) : Type 0 where
   pub one : Panel
   pub other : Panel
   pub string : Bytes
+  pub octets : every (λ (x : ℕ). ltb x 256) string ≡ true
   pub kind : OfKind05 string
   pub alike : AlikeBut spared one other string
   pub differ : frameStep one string .answer ≢ frameStep other string .answer
