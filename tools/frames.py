@@ -1,12 +1,12 @@
 #!/usr/bin/env python3
 """frames.py: what pages show of frames, run. The lines of the blocks of docs/FRAMES.md that are frames with
-answers are one list over 16 outputs, and so are those of docs/SUPPLY.md over one, each with a tenant station
-(§8): `replay` must give each answer. examples/frames.txt must be the list of docs/FRAMES.md (--write makes it). Each row of its
-'Properties' is read on a fresh output, written with 0, and written with the ends of its range and what lies
-next to them: the columns 'fresh', 'writable' and 'range' must be true. Every kind and every property that
-`replay` knows, and no other, has its row. Every kind and every refusal but 1 and 17 has an example; a kind's
-bytes are those of its frames. 17 is a start's: a list whose first line has a number out of range ends in it.
-Exit status 1 where something is not so."""
+answers are one list over 16 outputs, and so are those of docs/SUPPLY.md over one, each with a tenant
+station (§8): `replay` must give each answer. examples/frames.txt must be the list of docs/FRAMES.md
+(--write makes it). Each row of its 'Properties' is read on a fresh output, written with 0, and written with
+the ends of its range and what lies next to them: the columns 'fresh', 'writable' and 'range' must be true.
+Every kind and every property that `replay` knows, and no other, has its row. Every kind and every refusal
+but 1 and 17 has an example; a kind's bytes are those of its frames. 17 is a start's: a list whose first
+line has a number out of range ends in it. Exit status 1 where something is not so."""
 import re
 import struct
 import subprocess

@@ -77,7 +77,8 @@ unfolding frameStep if_then_else_
 marks-beyond marks e b octets agree =
     by-bool (panelSound e)
     (λ h. rw (same-sound marks e, same-verdict marks e b, h)
-    (execute-beyond marks e b (decide e b) (decide-sure e b octets h) (λ n below. agree n (omega (arith, sound-stations e h)))))
+    (execute-beyond marks e b (decide e b) (decide-sure e b octets h)
+    (λ n below. agree n (omega (arith, sound-stations e h)))))
     (λ h. rw (same-sound marks e, h))
 
 -- so does every list
