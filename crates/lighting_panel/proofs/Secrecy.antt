@@ -157,20 +157,20 @@ answer-first e b octets h timely tenant inside =
 
 -- TWO PANELS. What is asked of the panels alone gives the same verdict: so a string that is late, a copy, of
 -- a wrong number or length or to an output that is not there gets the same answer whatever the outputs are
-module _ (e e′ : Panel) (b : Bytes) (octets : Octets b) (kind : OfKind05 b) (rules : Alike neitherMeetsOne e e′ b)
+module _ (e e′ : Panel) (b : Bytes) (kind : OfKind05 b) (rules : Alike neitherMeetsOne e e′ b)
     (stations : Alike stationCounts e e′ b) (outputs : Alike outputCounts e e′ b) (time : Alike panelTimes e e′ b)
     (station : Alike itsRecord e e′ b) where
   pub judged-alike : decide e b ≡ decide e′ b
   judged-alike =
       decided e b kind (rules .0) ∙ rw (stations, outputs, time, station) refl ∙ sym (decided e′ b kind (rules .1))
 
-  by-verdict : (v : Verdict) → Judged05 e b v → isTenant (e .kept .tenants) (sender b) ≡ true
+  by-verdict : Octets b → (v : Verdict) → Judged05 e b v → isTenant (e .kept .tenants) (sender b) ≡ true
       → isTenant (e′ .kept .tenants) (sender b) ≡ true
       → ((what : Learnt) → e .kept .time ≤ moment b → AlikeIn what (moment b) (brought e b) (brought e′ b))
       → execute b e v .answer ≡ execute b e′ v .answer
-  by-verdict v turned mark mark′ alike = unfold execute in refl
-  by-verdict v copied mark mark′ alike = unfold execute in refl
-  by-verdict v (comes timely inside) mark mark′ alike =
+  by-verdict octets v turned mark mark′ alike = unfold execute in refl
+  by-verdict octets v copied mark mark′ alike = unfold execute in refl
+  by-verdict octets v (comes timely inside) mark mark′ alike =
       let counted : length (e′ .outputs) ≡ length (e .outputs) =
       output-count e′ (rules .1) ∙ sym outputs ∙ sym (output-count e (rules .0)) in
       answer-first e b octets (rules .0) timely mark inside
@@ -185,13 +185,13 @@ secret e e′ b octets kind alike =
     let stations = alike stationCounts in
     let outputs = alike outputCounts in
     let time = alike panelTimes in
-    let same = judged-alike e e′ b octets kind rules stations outputs time (alike itsRecord) in
+    let same = judged-alike e e′ b kind rules stations outputs time (alike itsRecord) in
     let station = getD (e .stations) (sender b) freshStation in
     let found = judged-05 e b (p .stations) (p .outputs) station (output-count e (rules .0)) in
     let verdict : Judged05 e b (decide e b) = rw (decided e b kind (rules .0)) found in
     ap (λ (s : Step). s .answer) (frameStep-execute e b (rules .0))
-    ∙ by-verdict e e′ b octets kind rules stations outputs time (alike itsRecord)
-    (decide e b) verdict (alike itsMark .0) (alike itsMark .1) (λ what. alike (learnt what))
+    ∙ by-verdict e e′ b kind rules stations outputs time (alike itsRecord)
+    octets (decide e b) verdict (alike itsMark .0) (alike itsMark .1) (λ what. alike (learnt what))
     ∙ ap (λ (v : Verdict). execute b e′ v .answer) same
     ∙ sym (ap (λ (s : Step). s .answer) (frameStep-execute e′ b (rules .1)))
 
