@@ -67,7 +67,9 @@ def main():
             if m["string"]:
                 return m[0]
             name, dot = m["name"], m["dot"]
-            if dot and not (name in fields and name in new):
+            # behind a module's name a definition, else a field of a record
+            of_module = re.search(r"(?<![\w.])([\w.]+\.)?[A-Z]\w*$", m.string[: m.start()])
+            if dot and not (name in new and (name in fields or of_module)):
                 return m[0]
             if path.suffix == ".rt" and (name in LEMMAS or name == "result" and not ("result (panelOf" in m.string or "{panelOf, result" in m.string)):
                 return m[0]

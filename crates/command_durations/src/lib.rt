@@ -1,4 +1,6 @@
 // A command's duration, by value.
+#![tactic(auto)]
+
 ghost use Rattle.std.specs.Prelude.{◌≡◌, ◌<◌, ◌^◌, ◌+◌};
 ghost use Rattle.lighting_outputs.specs.Paper.Commands.{timed};
 ghost use Rattle.lighting_outputs.specs.declared.Timer.TheVariants.{Running};

@@ -1,6 +1,8 @@
 // The eleven lighting commands, by value. A command acts on slot p, Lighting_Command_Priority. `t` is the
 // moment, `c` the settings, `f` the level from which the command starts, `s` the slots and `a` the activity
 // that it finds, with any warning ended; `g` is a target, in units.
+#![tactic(auto)]
+
 ghost use Rattle.std.specs.Prelude.{◌≡◌, ◌<◌, ◌^◌, max};
 ghost use Rattle.lighting_outputs.specs.Paper.Commands.{without_warning, activity_without_warning, jumped, went_to, stepped_up, stepped_down, raised, halted, stopped, relinquished, effect, commanded_from, commanded};
 

@@ -1,6 +1,8 @@
 // A target is put in slot p, with the movement that leads to it. By value.
 // `t` is the moment, `c` the settings, `f` the level from which a command starts, `s` the slots and `a` the
 // activity that it finds; `g` is the target, in units.
+#![tactic(auto)]
+
 ghost use Rattle.std.specs.Prelude.{◌≡◌, ◌<◌, ◌≤◌, ◌^◌};
 ghost use Rattle.lighting_outputs.specs.Paper.Commands.{replaced, placed, movement, ramp_length, target, faded_over, faded_to, ramped_at, ramped_to};
 ghost use Rattle.lighting_levels.specs.Paper.Level.{distance};

@@ -1,4 +1,6 @@
 // The lighting operations: their numbers, and the fields that each has.
+#![tactic(auto)]
+
 ghost use Rattle.std.specs.Prelude.{◌≡◌};
 ghost use Rattle.lighting_outputs.specs.Paper.Operations.{operation_number, no_fields, level_alone, step_alone, fields_of};
 

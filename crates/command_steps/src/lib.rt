@@ -1,4 +1,6 @@
 // Where a step leads, by value: f is the level from which it starts, x the step, in units.
+#![tactic(auto)]
+
 ghost use Rattle.std.specs.Prelude.{◌≡◌, ◌<◌, ◌+◌, ◌-◌};
 ghost use Rattle.lighting_outputs.specs.Paper.Value.{clamp};
 ghost use Rattle.lighting_outputs.specs.Paper.Commands.{step_up_from, step_down_from};

@@ -1,5 +1,7 @@
 // Bytes, big-endian numbers and parts out of a frame. Past the end of the frame every byte is 0, and a part
 // has what is there, so that a field can be read before the length is judged.
+#![tactic(auto)]
+
 ghost use Rattle.std.specs.Prelude.{◌≡◌, ◌+◌, ◌<◌, min, take, drop};
 ghost use Rattle.lighting_levels.specs.Paper.Field.{byte_at, big_endian};
 

@@ -1,4 +1,6 @@
 // The table of kinds: the kind byte fixes the length, and says whether a frame is a call and what it asks.
+#![tactic(auto)]
+
 ghost use Rattle.std.specs.Prelude.{◌≡◌, ◌<◌, ◌≤◌};
 ghost use Rattle.lighting_frames.specs.Paper.Kinds.{call_row, kind_row, kind_length, calls_by, is_call};
 

@@ -1,5 +1,7 @@
 // A string of bytes, read: refusals 2 to 5, a clock, or a call with its request. Nothing here looks at a
 // panel but for its number of outputs.
+#![tactic(auto)]
+
 ghost use Rattle.std.specs.Prelude.{◌≡◌};
 ghost use Rattle.lighting_frames.specs.Paper.Frames.{call_of, called, clock_of, parse_by, parse};
 

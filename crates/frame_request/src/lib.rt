@@ -1,5 +1,7 @@
 // What a frame asks for: the kind gives the action, and each action reads what it adds to the 13 common
 // bytes.
+#![tactic(auto)]
+
 ghost use Rattle.std.specs.Prelude.{◌≡◌};
 ghost use Rattle.lighting_levels.specs.Paper.Level.{real};
 ghost use Rattle.lighting_levels.specs.Paper.Field.{big_endian};

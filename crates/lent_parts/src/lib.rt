@@ -1,4 +1,6 @@
 // Parts of larger tables, lent to the panel for one operation.
+#![tactic(auto)]
+
 ghost use Rattle.std.specs.Prelude.{◌≡◌, take};
 ghost use Rattle.lighting_panel.specs.Paper.Panel.{panel_of};
 ghost use Rattle.lent_parts.specs.Lending.{begun, sent};

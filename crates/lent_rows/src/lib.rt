@@ -1,6 +1,8 @@
 // The tables of a panel as rows of numbers in text. A row is a line: a letter that says what it is, then
 // decimal numbers with anything but digits between them. Every number is taken: one that a field cannot
 // hold becomes the greatest that it can, and numbers after the 49th are left out.
+#![tactic(auto)]
+
 pub mod numbers;
 pub mod outputs;
 pub mod parameters;

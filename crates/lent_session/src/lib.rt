@@ -16,6 +16,8 @@
 // The contracts of `lent_parts` give the panel's part whole. What is read and written no contract can
 // say: the stored text and the comparison of tests/lent look at it, and the functions about it are proved
 // safe and ending.
+#![tactic(auto)]
+
 use lent_rows::Row;
 use lighting_frames::Station;
 use lighting_outputs::{Output, Parameters};

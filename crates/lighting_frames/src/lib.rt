@@ -1,5 +1,7 @@
 // Frames of the dimming panel, commands in tags, and stations: the types. The definitions of specs/ are over
 // these very types, and so is the code of the crates above.
+#![tactic(auto)]
+
 use lighting_outputs::{Answer, Operation, Request, TimeField};
 
 // ---- a command in BACnet's own tagging (§1 of the change requests)

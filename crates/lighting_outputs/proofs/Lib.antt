@@ -22,4 +22,3 @@ pub mod Figures
 -- definitions by clauses, for proofs of code
 pub mod Laws
 -- for functions over a lent table
-pub mod Lent

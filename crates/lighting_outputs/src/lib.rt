@@ -1,6 +1,7 @@
 // An output of the dimming panel, and what is asked of it: the types. The definitions of specs/ are over
 // these very types, and so is the code of the crates above. Slots are counted from 0: priority p is slot p -
 // 1, and slot 6 of the paper is 5. Times are in milliseconds.
+#![tactic(auto)]
 
 // ---- numbers by name; the definitions have the same (specs/Paper/Slots.antt, specs/Paper/Level.antt)
 

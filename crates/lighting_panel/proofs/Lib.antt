@@ -18,7 +18,6 @@ pub mod Calls
 -- the ways of `start` and `frame`, for proofs of code
 pub mod Carried
 -- for functions over a lent record
-pub mod Lent
 -- frames under other names
 pub mod Renamed
 -- commands in tags, in lists (§1)

@@ -1,4 +1,5 @@
 // The panel: its definitions are over the types of the layers below.
+#![tactic(auto)]
 
 // What a panel keeps beside its two tables, lent as one record.
 #[derive(Drop)]

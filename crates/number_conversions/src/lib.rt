@@ -1,6 +1,8 @@
 // The conversions of REALs for other languages: the static library that the comparison with another binary32
 // library links. A REAL comes as its pattern, and units go out as they are; 4,294,967,295, which no level,
 // limit, rate or step has, stands for a refusal.
+#![tactic(auto)]
+
 ghost use Rattle.std.specs.Prelude.{◌≡◌};
 ghost use Rattle.lighting_levels.specs.Paper.Level.{real, level_of, limit_of, amount_of, units_or, read_out};
 

@@ -1,5 +1,7 @@
 // REALs, levels, rates and steps. What is public asks nothing of its arguments: no REAL and no pattern is out
 // of its reach.
+#![tactic(auto)]
+
 ghost use Rattle.std.specs.Prelude.{◌≡◌, ◌≤◌, ◌<◌, ◌^◌, min};
 ghost use Rattle.std.specs.Float.{binary32};
 ghost use Rattle.std.specs.Float.Ieee.{nan_bits, is_nan};

@@ -1,4 +1,6 @@
 // Ranges: what a frame may ask for, what a record may hold, and places in a table.
+#![tactic(auto)]
+
 pub mod rows;
 
 ghost use Rattle.std.specs.Prelude.{◌≡◌, min};

@@ -1,5 +1,7 @@
 // What a first arrival's request does to its output, once the output is at the frame's time: it acts,
 // reads, or is refused. By value, and on any record at all; the time comes from six bytes.
+#![tactic(auto)]
+
 ghost use Rattle.std.specs.Prelude.{◌≡◌, ◌<◌, ◌^◌};
 ghost use Rattle.lighting_outputs.specs.Paper.Properties.{settings_with, relay_with, min_over_max};
 ghost use Rattle.lighting_outputs.specs.Paper.Relay.{inactive_not_below};

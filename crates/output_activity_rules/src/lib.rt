@@ -1,5 +1,7 @@
 // The record rules on what is under way: a movement, a warning, a duration. Slots are counted from 0: 7 to 16
 // are 6 to 15.
+#![tactic(auto)]
+
 ghost use Rattle.std.specs.Prelude.{◌≡◌, ◌<◌};
 ghost use Rattle.lighting_outputs.specs.Paper.Rules.{span_sound, movement_sound, warning_by, warning_sound, activity_by, timer_sound};
 

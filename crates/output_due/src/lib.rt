@@ -1,5 +1,7 @@
 // What falls due on an output at one moment: a duration, a phase of a warning, the end of a movement. By
 // value, and on any record at all.
+#![tactic(auto)]
+
 ghost use Rattle.std.specs.Prelude.{◌≡◌, [], ◌∷◌};
 ghost use Rattle.lighting_outputs.specs.Paper.Slots.{slot6, emptied};
 ghost use Rattle.lighting_outputs.specs.Paper.Passing.{timer_due, phase_end, activity_due, is_due, timer_at, emptied_by, expired, end_movement_of, end_movement_by, end_movement_on_expiry, delayed, next_phase, next_activity, activity_at, phase_slots, next_slots, slots_at, after_events, fire};

@@ -1,6 +1,8 @@
 // How long a lamp gives light: of the milliseconds of a stretch those at whose start Progress_Value is above
 // zero (§2 of the change requests), by one product and one division at most, whatever the stretch. On any
 // record at all: with a way, a rate or a length of 0 too.
+#![tactic(auto)]
+
 ghost use Rattle.std.specs.Prelude.{◌≡◌, ◌<◌, ◌-◌, max, eqb};
 ghost use Rattle.lighting_outputs.specs.Paper.Value.{present_value, in_process};
 ghost use Rattle.lighting_outputs.specs.Engine.Light.{last_short, moment_after, gone_at, count_before, count_since, lit_from_zero, lit_from_light, lit_at, lit_moving, lit_in_movement, lit_resting, lit_stretch};

@@ -1,5 +1,7 @@
 // The passing of time: from due moment to due moment, at most three an output and frame. Nothing here lives a
 // millisecond by itself.
+#![tactic(auto)]
+
 ghost use Rattle.std.specs.Prelude.{◌≡◌, ◌+◌, ◌-◌, min};
 ghost use Rattle.lighting_outputs.specs.Engine.Advance.{sooner, due, burned_by, with_burned_saturating, fire_due, event_step, event_steps, advance, later};
 ghost use Rattle.lighting_outputs.specs.Engine.Light.{lit_in_movement, lit_resting};

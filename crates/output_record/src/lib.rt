@@ -1,5 +1,7 @@
 // Every way in which an output's record is changed, field by field: the like of specs/Paper/Record.antt. A
 // fresh record is the crate `output_fresh`.
+#![tactic(auto)]
+
 ghost use Rattle.std.specs.Prelude.{◌≡◌};
 ghost use Rattle.lighting_outputs.specs.Paper.Record.{with_burning, with_due, with_relay, with_effect, with_command, with_settings};
 

@@ -1,5 +1,7 @@
 // The relay of an output (§3 of the change requests): how Present_Value switches it, its state, and the rules
 // on it. By value, and on any relay at all.
+#![tactic(auto)]
+
 ghost use Rattle.std.specs.Prelude.{◌≡◌, true, ltb, leb, eqb};
 ghost use Rattle.lighting_levels.specs.Paper.Choice.{if◌then◌else◌};
 ghost use Rattle.lighting_levels.specs.Paper.Level.{least_level};

@@ -1,5 +1,7 @@
 // The record rules, as the test that is made of every lent record; those on what is under way are the crate
 // `output_activity_rules`, those on the relay `output_relay`. Slots are counted from 0: slot 6 is 5.
+#![tactic(auto)]
+
 ghost use Rattle.std.specs.Prelude.{◌≡◌};
 ghost use Rattle.lighting_outputs.specs.Paper.Slots.{slot6, is_live, winner};
 ghost use Rattle.lighting_outputs.specs.Paper.Rules.{levels_sound, times_sound, reals_sound, settings_sound, slots_sound, activity_by, sound};

@@ -1,6 +1,8 @@
 // The slots of an output: sixteen bits that say which are live, beside the levels. A slot is set, cleared and
 // tested by a shifted mask; the winner is the lowest bit set. There is no slot from 16 on: it is never live,
 // and to set or clear it changes nothing.
+#![tactic(auto)]
+
 ghost use Rattle.std.specs.Prelude.{◌≡◌, ◌<◌, get_or};
 ghost use Rattle.lighting_outputs.specs.Paper.Slots.{slot_count, winner, is_live, mask_emptied, mask_filled, level_set, emptied, filled, level_at, winning_level};
 

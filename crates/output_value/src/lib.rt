@@ -1,4 +1,6 @@
 // What an output shows: Present_Value, Progress_Value, In_Process.
+#![tactic(auto)]
+
 ghost use Rattle.std.specs.Prelude.{◌≡◌, ◌-◌, ◌*◌, ◌/◌, ◌≤◌, min};
 ghost use Rattle.lighting_outputs.specs.Paper.Value.{clamp, clamp_lit, present_value, elapsed, distance_moved, reached_by, reached, progress_by, progress_value, lit, in_process};
 

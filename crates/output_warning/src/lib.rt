@@ -1,6 +1,8 @@
 // Whether a zero that kind 02 writes starts a blink warning, and the warning's first phase. By value, and on
 // any record at all. Slots are counted from 0: the paper's slot 6, which a warning holds, is 5. `t` is the
 // moment, `c` the settings, `s` the slots, `x` the slot.
+#![tactic(auto)]
+
 ghost use Rattle.std.specs.Prelude.{◌≡◌, ◌<◌, ◌^◌};
 ghost use Rattle.lighting_outputs.specs.Paper.Writing.{zero_or_empty, zero_or_empty_from, blinks, zero_or_empty_above, warns_by, warns, first_level, first_phase, warning_from};
 ghost use Rattle.lighting_outputs.specs.Paper.Slots.{slot_count};

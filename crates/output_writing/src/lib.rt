@@ -1,6 +1,8 @@
 // Kinds 02 and 03: a slot is written or emptied, with the blink warning that a zero may start. All by value.
 // Slots are counted from 0: the paper's slot 6, which a warning holds, is 5. `t` is the moment, `o` the
 // output, `i` the slot, `v` the level.
+#![tactic(auto)]
+
 ghost use Rattle.std.specs.Prelude.{◌≡◌, ◌<◌, ◌^◌};
 ghost use Rattle.lighting_outputs.specs.Paper.Writing.{end_movement_unless_above, stored, warned_by, warned, ended_empty, ended_stored, written_warned, written_zero, written_calm, written_by, written, activity_relinquished, slot_relinquished};
 

@@ -2,6 +2,8 @@
 // own record, which has the panel time, the set of parameters and the marks. The two public operations ask
 // nothing of what is lent. The contract of each is one equation: all that it leaves of what is lent, and its
 // answer, are what `start_step` and `frame_step` say.
+#![tactic(auto)]
+
 ghost use Rattle.std.specs.Prelude.{◌≡◌, length};
 ghost use Rattle.lighting_panel.specs.Engine.VerdictPrecondition.{Standing, Arrival, VerdictPrecondition};
 ghost use Rattle.lighting_panel.specs.Paper.Panel.{panel_of, panel_result, start_step};

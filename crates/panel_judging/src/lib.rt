@@ -1,5 +1,7 @@
 // What a frame meets before anything is written: refusal 1, by the counts and each lent record, and the
 // verdict on its bytes.
+#![tactic(auto)]
+
 ghost use Rattle.std.specs.Prelude.{true, ◌≡◌, length};
 ghost use Rattle.lighting_levels.specs.Paper.Choice.{every};
 ghost use Rattle.lighting_outputs.specs.Paper.Startable.{startable};

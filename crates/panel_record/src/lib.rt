@@ -1,5 +1,7 @@
 // The panel's own record, which is lent beside its two tables, by value; and the set of parameters and the
 // marks that it keeps.
+#![tactic(auto)]
+
 ghost use Rattle.std.specs.Prelude.{◌≡◌};
 ghost use Rattle.lighting_outputs.specs.Paper.Parameters.{four_hours};
 ghost use Rattle.lighting_outputs.specs.Paper.Startable.{startable};

@@ -1,6 +1,8 @@
 // The tables that a caller lends: each record in turn, and one record taken out and put back. The functions
 // here are thin: a record is taken out of its table by value, a by-value function of the crates below does
 // the work, and the record is put back.
+#![tactic(auto)]
+
 ghost use Rattle.std.specs.Prelude.{map, ◌≡◌, ◌≤◌, ◌<◌, ◌^◌, length, replicate, set, get_or};
 ghost use Rattle.lighting_outputs.specs.Paper.Fresh.{fresh_for, fresh_output};
 ghost use Rattle.lighting_frames.specs.Paper.Stations.{fresh_station};

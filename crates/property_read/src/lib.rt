@@ -1,4 +1,6 @@
 // What the properties read as. Levels read out as REALs, and the last command's REALs as they were written.
+#![tactic(auto)]
+
 ghost use Rattle.std.specs.Prelude.{◌≡◌, ◌+◌};
 ghost use Rattle.lighting_levels.specs.Paper.Choice.{if◌then◌else◌};
 ghost use Rattle.lighting_outputs.specs.Paper.Tenants.{shown_level, hidden};

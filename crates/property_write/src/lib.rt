@@ -1,5 +1,7 @@
 // The table of properties: which number is which, what a write asks of its value, and what it changes. What a
 // property reads as is the crate `property_read`. By value, and on any record at all.
+#![tactic(auto)]
+
 pub mod settings;
 pub mod values;
 

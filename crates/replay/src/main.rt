@@ -1,6 +1,7 @@
 // Replays a list of frames from standard input over a panel, and writes a line for each answer, then what is
 // found of every output; with the word `report`, a report for people in place of that. Any other word, or a
 // second one, is answered with a line that says how the program is called, and nothing is run.
+#![tactic(auto)]
 
 // Whether there is no argument here. `os::arg` answers 0 of one that is missing and of one that is longer
 // than the array, but of the latter it leaves the first bytes.

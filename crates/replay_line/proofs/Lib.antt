@@ -1,4 +1,3 @@
-pub mod Lent
 pub mod Ends
 pub mod Spelled
 pub mod Through

@@ -1,6 +1,8 @@
 // A line of a list, at its end: the line that names the set starts the panel of so many outputs and stations,
 // bytes go to that panel, and the answer or the fault is put on the page. Nothing is read or written here but
 // what is lent, and the contracts give all of it.
+#![tactic(auto)]
+
 ghost use Rattle.std.specs.Prelude.{◌≡◌};
 ghost use Rattle.lighting_panel.specs.Paper.Panel.{panel_of};
 ghost use Rattle.text_reading.specs.Reading.{content};

@@ -4,6 +4,8 @@
 //
 // Thin: the crate `replay_line` takes each line, `text_reading` its characters, and `text_found` says what is
 // found. Input and output go by pages of 64 KiB, so that memory does not grow with the list.
+#![tactic(auto)]
+
 ghost use Rattle.std.specs.Prelude.{◌≡◌};
 ghost use Rattle.lighting_panel.specs.Paper.Panel.{panel_of};
 ghost use Rattle.text_reading.specs.Reading.{fresh_reader};

@@ -1,4 +1,6 @@
 // A frame as a station keeps it, in the bytes of the longest, and read back.
+#![tactic(auto)]
+
 ghost use Rattle.std.specs.Prelude.{◌≡◌, ◌≤◌, length};
 ghost use Rattle.lighting_frames.specs.Paper.Kinds.{longest_frame};
 ghost use Rattle.lighting_frames.specs.Paper.Copies.{same_bytes};

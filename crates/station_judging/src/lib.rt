@@ -1,5 +1,7 @@
 // How a frame is judged by its station's record; the counts of a panel, and a station's record rule. One
 // record at a time, by value.
+#![tactic(auto)]
+
 ghost use Rattle.std.specs.Prelude.{◌≡◌};
 ghost use Rattle.lighting_frames.specs.Paper.Stations.{station_sound};
 ghost use Rattle.lighting_frames.specs.Paper.Copies.{same_bytes, retransmission_or_conflict};

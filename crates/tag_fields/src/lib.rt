@@ -1,4 +1,6 @@
 // The fields of a tagged command, by value: what each holds, and how many bytes it takes.
+#![tactic(auto)]
+
 ghost use Rattle.std.specs.Prelude.{◌≡◌, ◌≤◌};
 ghost use Rattle.lighting_frames.specs.Paper.Tags.{context_tag, fewest_octets, field_size, real_tag, whole_tag, tags_of, command_tags, held_by};
 ghost use Rattle.lighting_outputs.specs.Paper.Operations.{duration_field};

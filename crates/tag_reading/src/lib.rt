@@ -1,5 +1,7 @@
 // A command in BACnet's own tagging, read: its form, which refusals 14 and 15 judge. Any string of bytes may
 // stand for a body, also one that is shorter than the 18 bytes that a frame carries.
+#![tactic(auto)]
+
 mod fields;
 
 ghost use Rattle.std.specs.Prelude.{◌≡◌};

@@ -1,5 +1,7 @@
 // A command in BACnet's own tagging, written: the writer of §1. Each function writes from a mark on and
 // answers the new one, as text is written on a page.
+#![tactic(auto)]
+
 ghost use Rattle.std.specs.Prelude.{◌≡◌, ◌≤◌};
 ghost use Rattle.lighting_levels.specs.Paper.Field.{octets};
 ghost use Rattle.lighting_frames.specs.Paper.Tags.{field_size, field_bytes, tag_bytes, command_tags, tagged_body};

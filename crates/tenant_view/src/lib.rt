@@ -1,4 +1,6 @@
 // Tenant stations and service stations (§8): which stations are tenants, and what a tenant is shown.
+#![tactic(auto)]
+
 ghost use Rattle.std.specs.Prelude.{◌≡◌, ◌<◌};
 ghost use Rattle.lighting_outputs.specs.Paper.Tenants.{is_tenant, whole_percent, shown_level, hidden};
 

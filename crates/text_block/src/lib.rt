@@ -1,4 +1,6 @@
 // The lines of one output.
+#![tactic(auto)]
+
 ghost use Rattle.std.specs.Prelude.{◌+◌, ◌<◌, [], get_or};
 ghost use Rattle.text_printing.specs.Page.{Wrote};
 ghost use Rattle.text_block.specs.Block.{level_field, slot_level, slot_field, slot_fields, hex_field, answer_field, property_field, property_fields, number_line, slots_line, present_line, progress_line, process_line, properties_line, tagged_line, lines, block};

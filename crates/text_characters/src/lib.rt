@@ -1,4 +1,6 @@
 // The characters of a list: blanks and hexadecimal digits.
+#![tactic(auto)]
+
 ghost use Rattle.std.specs.Prelude.{◌≡◌};
 ghost use Rattle.text_characters.specs.Characters.{is_blank, hex_value, byte_pair};
 

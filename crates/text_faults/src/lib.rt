@@ -1,4 +1,6 @@
 // The line that says what is wrong with a list.
+#![tactic(auto)]
+
 ghost use Rattle.text_printing.specs.Page.{Wrote};
 ghost use Rattle.text_heading.specs.Words.{letters};
 ghost use Rattle.text_faults.specs.Faults.{bounds_words, outside_words, heading_words, fault_words, placed, fault_line, ended_line};

@@ -1,5 +1,7 @@
 // What is found of every output, on pages of text that are written to standard output: a block for each
 // output, or a line of the report.
+#![tactic(auto)]
+
 ghost use Rattle.std.specs.Prelude.{◌≡◌, length, take};
 ghost use Rattle.text_printing.specs.Page.{Wrote};
 ghost use Rattle.text_found.specs.Found.{found_head, found_output, roomy, marked, sheet, with_found};

@@ -1,6 +1,8 @@
 // The first line of a list that says something, read a character at a time: `outputs N`, and after it further
 // words with their numbers. It names the set of parameters that the panel is started with, and the marks of
 // tenants.
+#![tactic(auto)]
+
 pub mod words;
 
 ghost use Rattle.std.specs.Prelude.{◌≡◌, ◌+◌, min};

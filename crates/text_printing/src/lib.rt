@@ -1,6 +1,8 @@
 // Text written on a page: a lent stretch of bytes, of which the bytes before a mark are the text so far. Each
 // function writes from a mark on and answers the new one; what comes past the page's end is not written, so
 // that none asks for room.
+#![tactic(auto)]
+
 ghost use Rattle.std.specs.Prelude.{◌≡◌, ◌∷◌, [], ◌++◌, ◌+◌, ◌%◌, ◌≤◌, ◌<◌, drop, length};
 ghost use Rattle.text_printing.specs.Page.{Wrote};
 ghost use Rattle.text_printing.specs.Writing.{hex_digit, hex2, hex4, hex8, hex_bytes, decimal, newline, value_word, refused_word, answer_line};

@@ -1,5 +1,7 @@
 // A list's text, read a line at a time: whole bytes straight to their place, every other character by value.
 // The caller sees the ends of lines.
+#![tactic(auto)]
+
 mod characters;
 
 ghost use Rattle.std.specs.Prelude.{◌≡◌, ◌+◌, ◌≤◌, min, length, drop};

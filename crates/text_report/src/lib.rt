@@ -1,4 +1,6 @@
 // The report for people.
+#![tactic(auto)]
+
 ghost use Rattle.std.specs.Prelude.{◌≡◌, ◌*◌, ◌/◌, ◌%◌};
 ghost use Rattle.text_printing.specs.Page.{Wrote};
 ghost use Rattle.text_report.specs.Report.{digit, two_digits, three_digits, lead, aligned, percent, minutes, moment, lasting, either, operation_name, until, activity_text, timer_text, light_fields, level_fields, time_fields, relay_field, way_fields, report_line, report_head};

@@ -95,7 +95,7 @@ same_acts p t c c' s (Moving m) l z q h =
     }
   where
     same : winning_level c'.default s ≡ winning_level c.default s → present_value c s ≡ present_value c' s
-    same e = unfold Rattle.lighting_outputs.specs.Paper.Value.clampLit in rw (z, q, e)
+    same e = unfold Rattle.lighting_outputs.specs.Paper.Value.clamp_lit in rw (z, q, e)
 same_acts p t c c' s (Warned w) l z q h = h
 
 -- Min and Max change in a write of their own, which ends a movement

@@ -39,8 +39,8 @@ abbrev pub Unlit : Option ℕ → Type 0
 Unlit none = Unit {0}
 Unlit (some v) = v ≡ 0
 
-first_zero_or_empty : (l : List (Option ℕ)) → ((i : ℕ) → i < length l → Unlit (get_or l i none)) → Winning.firstLevel 0 l ≡ 0
-unfolding Winning.firstLevel
+first_zero_or_empty : (l : List (Option ℕ)) → ((i : ℕ) → i < length l → Unlit (get_or l i none)) → Winning.first_level 0 l ≡ 0
+unfolding Winning.first_level
 first_zero_or_empty [] k = refl
 first_zero_or_empty (none ∷ l) k = first_zero_or_empty l (λ i m. k (suc i) (omega arith))
 first_zero_or_empty (some v ∷ l) k = k 0 (omega arith)
