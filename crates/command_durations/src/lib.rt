@@ -19,6 +19,7 @@ fn running(t: u64, p: u8, d: u32) -> Timer
 }
 
 // 'a new one replaces it, 0 cancels it, Absent leaves it running'.
+#[tactic(auto, using(lighting_levels::proofs::Choosing::ifs, lighting_outputs::proofs::Laws::timed_on), unfolding(lighting_outputs::specs::Paper::Commands::timed))]
 pub fn time(t: u64, p: u8, m: Timer, d: Duration) -> Timer
     requires { t < 2 ^ 48 }
     ensures { result ≡ timed t p m d }

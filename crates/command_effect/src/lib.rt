@@ -10,6 +10,8 @@ use lighting_outputs::{Activity, Command, Effect, Operation, Output, SLOT_6, Set
 
 // ---- 'and first ends any warning by emptying slot 6'
 
+#[tactic(auto, using(lighting_levels::proofs::Choosing::ifs, lighting_outputs::proofs::Laws::without_warning_on), unfolding(lighting_outputs::specs::Paper::Commands::without_warning))]
+
 fn end_warning(s: Slots, a: Activity) -> Slots
     ensures { result ≡ without_warning s a }
 {
@@ -19,6 +21,8 @@ fn end_warning(s: Slots, a: Activity) -> Slots
         Activity::Warned(_) => output_slots::empty(s, SLOT_6),
     }
 }
+
+#[tactic(auto, using(lighting_levels::proofs::Choosing::ifs, lighting_outputs::proofs::Laws::activity_without_warning_on), unfolding(lighting_outputs::specs::Paper::Commands::activity_without_warning))]
 
 fn without_warning(a: Activity) -> Activity
     ensures { result ≡ activity_without_warning a }
@@ -32,17 +36,23 @@ fn without_warning(a: Activity) -> Activity
 
 // ---- 'GOTO and steps jump'
 
+#[tactic(auto, unfolding(lighting_outputs::specs::Paper::Commands::jumped))]
+
 fn jump(c: Settings, s: Slots, a: Activity, g: u32) -> Effect
     ensures { result ≡ jumped c s a g }
 {
     command_moving::place(s, a, c.slot, g, Activity::Still)
 }
 
+#[tactic(auto, unfolding(lighting_outputs::specs::Paper::Commands::went_to))]
+
 fn go_to(c: Settings, s: Slots, a: Activity, x: f32) -> Effect
     ensures { result ≡ went_to c s a x }
 {
     jump(c, s, a, command_moving::target_of(c, x))
 }
+
+#[tactic(auto, unfolding(lighting_outputs::specs::Paper::Commands::stepped_up))]
 
 fn step_up(c: Settings, f: u32, s: Slots, a: Activity, x: f32) -> Effect
     ensures { result ≡ stepped_up c f s a x }
@@ -54,6 +64,8 @@ fn step_up(c: Settings, f: u32, s: Slots, a: Activity, x: f32) -> Effect
         command_steps::step_up_from(c, f, number_level::amount_units(x)),
     )
 }
+
+#[tactic(auto, unfolding(lighting_outputs::specs::Paper::Commands::stepped_down))]
 
 fn step_down(c: Settings, f: u32, s: Slots, a: Activity, x: f32) -> Effect
     ensures { result ≡ stepped_down c f s a x }
@@ -75,11 +87,14 @@ fn greater(x: u32, y: u32) -> u32
 }
 
 // 'the reached level, raised to Min if above zero'.
+#[tactic(auto, using(lighting_levels::proofs::Choosing::ifs), unfolding(lighting_outputs::specs::Paper::Commands::raised))]
 fn raise(c: Settings, v: u32) -> u32
     ensures { result ≡ raised c v }
 {
     if v == 0 { 0 } else { greater(c.min, v) }
 }
+
+#[tactic(auto, unfolding(lighting_outputs::specs::Paper::Commands::halted))]
 
 fn halt(c: Settings, f: u32, s: Slots) -> Effect
     ensures { result ≡ halted c f s }
@@ -91,6 +106,7 @@ fn halt(c: Settings, f: u32, s: Slots) -> Effect
 }
 
 // 'if a movement belongs to p, it ends [..]. Else it changes no slot'.
+#[tactic(auto, using(lighting_levels::proofs::Choosing::ifs, lighting_outputs::proofs::Laws::stopped_on), unfolding(lighting_outputs::specs::Paper::Commands::stopped))]
 fn stop(c: Settings, f: u32, s: Slots, a: Activity) -> Effect
     ensures { result ≡ stopped c f s a }
 {
@@ -115,6 +131,7 @@ fn stop(c: Settings, f: u32, s: Slots, a: Activity) -> Effect
 }
 
 // 'RELINQUISH empties slot p; if p owned the movement, it ends'.
+#[tactic(auto, unfolding(lighting_outputs::specs::Paper::Commands::relinquished))]
 fn relinquish(c: Settings, s: Slots, a: Activity) -> Effect
     ensures { result ≡ relinquished c s a }
 {
@@ -125,6 +142,8 @@ fn relinquish(c: Settings, s: Slots, a: Activity) -> Effect
 }
 
 // ---- a command
+
+#[tactic(auto, using(lighting_levels::proofs::Choosing::ifs, lighting_outputs::proofs::Laws::effect_on), unfolding(lighting_outputs::specs::Paper::Commands::effect))]
 
 fn make_effect(t: u64, c: Settings, f: u32, s: Slots, a: Activity, k: Operation) -> Effect
     requires { t < 2 ^ 48 }
@@ -145,6 +164,8 @@ fn make_effect(t: u64, c: Settings, f: u32, s: Slots, a: Activity, k: Operation)
     }
 }
 
+#[tactic(auto, unfolding(lighting_outputs::specs::Paper::Commands::commanded_from))]
+
 fn command_from(t: u64, o: Output, f: u32, k: Command) -> Output
     requires { t < 2 ^ 48 }
     ensures { result ≡ commanded_from t o f k }
@@ -160,6 +181,7 @@ fn command_from(t: u64, o: Output, f: u32, k: Command) -> Output
 }
 
 // 'It starts from Progress_Value before it': not from Present_Value, at which a running movement only aims.
+#[tactic(auto, unfolding(lighting_outputs::specs::Paper::Commands::commanded))]
 pub fn command(t: u64, o: Output, k: Command) -> Output
     requires { t < 2 ^ 48 }
     ensures { result ≡ commanded t o k }

@@ -10,6 +10,7 @@ ghost use Rattle.lighting_levels.specs.Paper.Level.{distance};
 use lighting_outputs::{Activity, Effect, Movement, Pace, Settings, Slots};
 
 // 'If p is then the winner [w] it replaces the movement; if not, an existing movement goes on'.
+#[tactic(auto, using(lighting_levels::proofs::Choosing::ifs), unfolding(lighting_outputs::specs::Paper::Commands::replaced))]
 fn replace(w: u32, p: u8, new: Activity, old: Activity) -> Activity
     ensures { result ≡ replaced w p new old }
 {
@@ -17,6 +18,7 @@ fn replace(w: u32, p: u8, new: Activity, old: Activity) -> Activity
 }
 
 // The winner is asked for after the target was put.
+#[tactic(auto, unfolding(lighting_outputs::specs::Paper::Commands::placed))]
 pub fn place(s: Slots, a: Activity, p: u8, g: u32, new: Activity) -> Effect
     ensures { result ≡ placed s a p g new }
 {
@@ -28,6 +30,7 @@ pub fn place(s: Slots, a: Activity, p: u8, g: u32, new: Activity) -> Effect
 }
 
 // A movement of slot p at t, from `start` to g over l: 'If s = g there is no movement'.
+#[tactic(auto, using(lighting_levels::proofs::Choosing::ifs), unfolding(lighting_outputs::specs::Paper::Commands::movement))]
 fn begin(t: u64, p: u8, start: u32, g: u32, l: u32, pace: Pace) -> Activity
     requires { t < 2 ^ 48 }
     ensures { result ≡ movement t p start g l pace }
@@ -53,6 +56,7 @@ fn distance(start: u32, g: u32) -> u32
 }
 
 // 'L = ceiling(1,000 × |g - s| / R)', d the way: no rate is below an eighth of a percent, so the length fits.
+#[tactic(auto, unfolding(lighting_outputs::specs::Paper::Commands::ramp_length))]
 fn ramp_length(d: u32, rate: u32) -> u32
     requires { 8192 ≤ rate }
     ensures { result ≡ ramp_length d rate }
@@ -61,6 +65,7 @@ fn ramp_length(d: u32, rate: u32) -> u32
 }
 
 // 'A target is brought into Min..Max if above zero'.
+#[tactic(auto, unfolding(lighting_outputs::specs::Paper::Commands::target))]
 pub fn target_of(c: Settings, x: f32) -> u32
     ensures { result ≡ target c x }
 {
@@ -69,6 +74,8 @@ pub fn target_of(c: Settings, x: f32) -> u32
 
 // ---- fades and ramps
 
+#[tactic(auto, unfolding(lighting_outputs::specs::Paper::Commands::faded_over))]
+
 fn fade_over(t: u64, c: Settings, f: u32, s: Slots, a: Activity, g: u32, l: u32) -> Effect
     requires { t < 2 ^ 48 }
     ensures { result ≡ faded_over t c f s a g l }
@@ -76,12 +83,16 @@ fn fade_over(t: u64, c: Settings, f: u32, s: Slots, a: Activity, g: u32, l: u32)
     place(s, a, c.slot, g, begin(t, c.slot, f, g, l, Pace::Fade))
 }
 
+#[tactic(auto, unfolding(lighting_outputs::specs::Paper::Commands::faded_to))]
+
 pub fn fade_to(t: u64, c: Settings, f: u32, s: Slots, a: Activity, x: f32, l: u32) -> Effect
     requires { t < 2 ^ 48 }
     ensures { result ≡ faded_to t c f s a x l }
 {
     fade_over(t, c, f, s, a, target_of(c, x), l)
 }
+
+#[tactic(auto, unfolding(lighting_outputs::specs::Paper::Commands::ramped_at))]
 
 fn ramp_at(t: u64, c: Settings, f: u32, s: Slots, a: Activity, g: u32, rate: u32) -> Effect
     requires t_bound { t < 2 ^ 48 }
@@ -91,6 +102,8 @@ fn ramp_at(t: u64, c: Settings, f: u32, s: Slots, a: Activity, g: u32, rate: u32
     let l = ramp_length(distance(f, g), rate);
     place(s, a, c.slot, g, begin(t, c.slot, f, g, l, Pace::Ramp(rate)))
 }
+
+#[tactic(auto, unfolding(lighting_outputs::specs::Paper::Commands::ramped_to))]
 
 pub fn ramp_to(t: u64, c: Settings, f: u32, s: Slots, a: Activity, x: f32, rate: f32) -> Effect
     requires { t < 2 ^ 48 }

@@ -7,6 +7,7 @@ ghost use Rattle.lighting_outputs.specs.Paper.Operations.{operation_number, no_f
 use lighting_outputs::{Operation, OperationFields, RealField, TimeField};
 
 // The operation's kind, less 10.
+#[tactic(auto, using(lighting_levels::proofs::Choosing::ifs, lighting_outputs::proofs::Laws::operation_number_on), unfolding(lighting_outputs::specs::Paper::Operations::operation_number))]
 pub fn operation_number(k: Operation) -> u32
     ensures { result ≡ operation_number k }
 {
@@ -60,6 +61,7 @@ fn step_alone(x: f32) -> OperationFields
 
 // Level, rate, step and fade time, each there or not: also where a setting is used in its place it is not
 // there.
+#[tactic(auto, using(lighting_levels::proofs::Choosing::ifs, lighting_outputs::proofs::Laws::fields_of_on), unfolding(lighting_outputs::specs::Paper::Operations::fields_of))]
 pub fn fields_of(k: Operation) -> OperationFields
     ensures { result ≡ fields_of k }
 {

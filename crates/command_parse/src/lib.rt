@@ -25,6 +25,8 @@ fn level_refusal(level: Level) -> u8
     }
 }
 
+#[tactic(auto, using(lighting_levels::proofs::Choosing::ifs, lighting_outputs::proofs::Laws::level_field_refusal_on), unfolding(lighting_outputs::specs::Paper::Requests::level_field_refusal))]
+
 fn level_field_refusal(x: RealField) -> u8
     ensures { result ≡ level_field_refusal x }
 {
@@ -35,6 +37,7 @@ fn level_field_refusal(x: RealField) -> u8
 }
 
 // A rate or a step.
+#[tactic(auto, using(lighting_levels::proofs::Choosing::ifs, lighting_outputs::proofs::Laws::amount_field_refusal_on), unfolding(lighting_outputs::specs::Paper::Requests::amount_field_refusal))]
 fn amount_field_refusal(x: RealField) -> u8
     ensures { result ≡ amount_field_refusal x }
 {
@@ -43,6 +46,8 @@ fn amount_field_refusal(x: RealField) -> u8
         RealField::NoReal => 0,
     }
 }
+
+#[tactic(auto, using(lighting_levels::proofs::Choosing::ifs, lighting_outputs::proofs::Laws::time_field_refusal_on), unfolding(lighting_outputs::specs::Paper::Requests::time_field_refusal))]
 
 fn time_field_refusal(parameters: Parameters, x: TimeField) -> u8
     ensures { result ≡ time_field_refusal parameters x }
@@ -57,6 +62,8 @@ fn time_field_refusal(parameters: Parameters, x: TimeField) -> u8
     }
 }
 
+#[tactic(auto, using(lighting_levels::proofs::Choosing::ifs), unfolding(lighting_outputs::specs::Paper::Requests::first_refusal))]
+
 fn first_refusal(earlier: u8, later: u8) -> u8
     ensures { result ≡ first_refusal earlier later }
 {
@@ -64,6 +71,7 @@ fn first_refusal(earlier: u8, later: u8) -> u8
 }
 
 // Fields are judged from left to right.
+#[tactic(auto, unfolding(lighting_outputs::specs::Paper::Requests::fields_refusal))]
 pub fn fields_refusal(parameters: Parameters, f: OperationFields) -> u8
     ensures { result ≡ fields_refusal parameters f }
 {
@@ -86,6 +94,7 @@ pub fn fields_refusal(parameters: Parameters, f: OperationFields) -> u8
 // ---- the request
 
 // An operation with a duration that is there: 0 cancels, 100 to the longest sets.
+#[tactic(auto, using(lighting_levels::proofs::Choosing::ifs), unfolding(lighting_outputs::specs::Paper::Requests::command_lasting))]
 fn command_lasting(parameters: Parameters, operation: Operation, d: u32) -> Request
     ensures { result ≡ command_lasting parameters operation d }
 {
@@ -104,6 +113,8 @@ fn command_lasting(parameters: Parameters, operation: Operation, d: u32) -> Requ
     }
 }
 
+#[tactic(auto, using(lighting_levels::proofs::Choosing::ifs, lighting_outputs::proofs::Laws::command_with_duration_on), unfolding(lighting_outputs::specs::Paper::Requests::command_with_duration))]
+
 fn command_with_duration(
     parameters: Parameters,
     operation: Operation,
@@ -119,6 +130,8 @@ fn command_with_duration(
         })),
     }
 }
+
+#[tactic(auto, using(lighting_levels::proofs::Choosing::ifs), unfolding(lighting_outputs::specs::Paper::Requests::command_request_by))]
 
 fn command_request_by(
     parameters: Parameters,
@@ -136,6 +149,7 @@ fn command_request_by(
 }
 
 // In whatever form a command came, the duration comes after the operation's own fields.
+#[tactic(auto, unfolding(lighting_outputs::specs::Paper::Requests::command_of))]
 pub fn command_of(parameters: Parameters, operation: Operation, duration: TimeField) -> Request
     ensures { result ≡ command_of parameters operation duration }
 {
@@ -148,6 +162,7 @@ pub fn command_of(parameters: Parameters, operation: Operation, duration: TimeFi
 }
 
 // The kinds 10 to 1A: FFFFFFFF means absent.
+#[tactic(auto, using(lighting_levels::proofs::Choosing::ifs), unfolding(lighting_outputs::specs::Paper::Requests::plain_duration))]
 fn plain_duration(d: u32) -> TimeField
     ensures { result ≡ plain_duration d }
 {
@@ -158,6 +173,8 @@ fn plain_duration(d: u32) -> TimeField
     }
 }
 
+#[tactic(auto, unfolding(lighting_outputs::specs::Paper::Requests::command_request))]
+
 pub fn command_request(parameters: Parameters, operation: Operation, d: u32) -> Request
     ensures { result ≡ command_request parameters operation d }
 {
@@ -165,6 +182,7 @@ pub fn command_request(parameters: Parameters, operation: Operation, d: u32) -> 
 }
 
 // Kind 1B: an absent duration is a missing field, and FFFFFFFF is out of range.
+#[tactic(auto, using(lighting_frames::proofs::Laws::tagged_request_on, lighting_levels::proofs::Choosing::ifs), unfolding(lighting_frames::specs::Paper::Frames::tagged_request))]
 pub fn tagged_request(parameters: Parameters, reading: TaggedReading) -> Request
     ensures { result ≡ tagged_request parameters reading }
 {

@@ -8,6 +8,7 @@ ghost use Rattle.lighting_outputs.specs.Paper.Commands.{step_up_from, step_down_
 use lighting_outputs::Settings;
 
 // 'Step up: s plus step [..] brought into Min..Max'. The sum is made in 64 bits.
+#[tactic(auto, unfolding(lighting_outputs::specs::Paper::Commands::step_up_from))]
 pub fn step_up_from(c: Settings, f: u32, x: u32) -> u32
     ensures { result ≡ step_up_from c f x }
 {
@@ -28,6 +29,7 @@ fn lower(c: Settings, f: u32, x: u32) -> u32
 }
 
 // 'Step down from s = 0 stays 0': it does not light a dark output at Min.
+#[tactic(auto, using(lighting_levels::proofs::Choosing::ifs), unfolding(lighting_outputs::specs::Paper::Commands::step_down_from))]
 pub fn step_down_from(c: Settings, f: u32, x: u32) -> u32
     ensures { result ≡ step_down_from c f x }
 {

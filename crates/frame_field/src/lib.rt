@@ -5,6 +5,8 @@
 ghost use Rattle.std.specs.Prelude.{◌≡◌, ◌+◌, ◌<◌, min, take, drop};
 ghost use Rattle.lighting_levels.specs.Paper.Field.{byte_at, big_endian};
 
+#[tactic(auto, unfolding(lighting_levels::specs::Paper::Field::byte_at))]
+
 pub fn byte_at(s: &[u8], at: usize) -> u8
     ensures { result ≡ byte_at s.now at }
 {
@@ -41,6 +43,7 @@ fn word_wide(x: u32) -> u64
 }
 
 // Each word is two shorter ones, the first the more significant.
+#[tactic(auto, using(lighting_levels::proofs::Fields::joined_within, lighting_levels::proofs::Fields::single))]
 fn word16_at(s: &[u8], at: usize) -> u32
     ensures { (result ≡ big_endian 2 s.now at) × (result < 65536) }
 {
@@ -48,12 +51,16 @@ fn word16_at(s: &[u8], at: usize) -> u32
     byte_wide(byte_at(s, at)) * 256 + byte_wide(byte_at(s, second))
 }
 
+#[tactic(auto, using(lighting_levels::proofs::Fields::joined_within))]
+
 pub fn word32_at(s: &[u8], at: usize) -> u32
     ensures { result ≡ big_endian 4 s.now at }
 {
     let second = later(at, 2);
     word16_at(s, at) * 65536 + word16_at(s, second)
 }
+
+#[tactic(auto, using(lighting_levels::proofs::Fields::joined_within))]
 
 pub fn word48_at(s: &[u8], at: usize) -> u64
     ensures { (result ≡ big_endian 6 s.now at) × (result < 281474976710656) }

@@ -16,6 +16,7 @@ fn call_row(length: u32, action: Action) -> KindRow
 }
 
 // The clock, 01, and the kinds 02 to 05.
+#[tactic(auto, using(crate::proofs::Table::table), unfolding(lighting_frames::specs::Paper::Kinds::kind_row))]
 fn plain_row(k: u8) -> KindRow
     requires { k < 6 }
     ensures { result ≡ kind_row k }
@@ -37,6 +38,7 @@ fn plain_row(k: u8) -> KindRow
 }
 
 // The commands, 10 to 1A, and 1B, a command in tags.
+#[tactic(auto, using(crate::proofs::Table::table), unfolding(lighting_frames::specs::Paper::Kinds::kind_row))]
 fn command_row(k: u8) -> KindRow
     requires { 0x10 ≤ k }
     ensures { result ≡ kind_row k }
@@ -63,6 +65,7 @@ fn command_row(k: u8) -> KindRow
 
 // The row of a kind byte: its length, from which the length test follows, and its kind, from which the action
 // follows.
+#[tactic(auto, using(crate::proofs::Table::table))]
 pub fn kind_row(k: u8) -> KindRow
     ensures { result ≡ kind_row k }
 {
@@ -77,12 +80,15 @@ pub fn kind_row(k: u8) -> KindRow
 }
 
 // In bytes, and 0 for an unknown kind.
+#[tactic(auto, unfolding(lighting_frames::specs::Paper::Kinds::kind_length))]
 pub fn kind_length(k: u8) -> u32
     ensures { result ≡ kind_length k }
 {
     let row = kind_row(k);
     row.length
 }
+
+#[tactic(auto, using(lighting_frames::proofs::Laws::calls_by_on, lighting_levels::proofs::Choosing::ifs), unfolding(lighting_frames::specs::Paper::Kinds::calls_by))]
 
 fn calls_by(kind: Kind) -> bool
     ensures { result ≡ calls_by kind }
@@ -95,6 +101,7 @@ fn calls_by(kind: Kind) -> bool
 }
 
 // Any known kind but a clock goes on with station, number, time and output.
+#[tactic(auto, unfolding(lighting_frames::specs::Paper::Kinds::is_call))]
 pub fn is_call(k: u8) -> bool
     ensures { result ≡ is_call k }
 {

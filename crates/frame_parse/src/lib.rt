@@ -8,6 +8,8 @@ ghost use Rattle.lighting_frames.specs.Paper.Frames.{call_of, called, clock_of, 
 use lighting_frames::{Action, Call, Frame, Kind};
 use lighting_outputs::Parameters;
 
+#[tactic(auto, unfolding(lighting_frames::specs::Paper::Frames::call_of))]
+
 fn call_of(parameters: Parameters, action: Action, b: &[u8]) -> Call
     ensures { result ≡ call_of parameters action b.now }
 {
@@ -21,6 +23,7 @@ fn call_of(parameters: Parameters, action: Action, b: &[u8]) -> Call
 }
 
 // A station that the set has not, or number 0, is refusal 4; an output that is not in the table of c is 5.
+#[tactic(auto, using(lighting_levels::proofs::Choosing::ifs), unfolding(lighting_frames::specs::Paper::Frames::called))]
 fn called(parameters: Parameters, c: usize, call: Call) -> Frame
     ensures { result ≡ called parameters c call }
 {
@@ -37,6 +40,8 @@ fn called(parameters: Parameters, c: usize, call: Call) -> Frame
     }
 }
 
+#[tactic(auto, unfolding(lighting_frames::specs::Paper::Frames::clock_of))]
+
 fn clock_of(b: &[u8]) -> Frame
     ensures { result ≡ clock_of b.now }
 {
@@ -44,6 +49,7 @@ fn clock_of(b: &[u8]) -> Frame
 }
 
 // No byte, or an unknown kind, is refusal 2, and another length than l, which the kind fixes, is 3.
+#[tactic(auto, using(lighting_frames::proofs::Laws::parse_by_on, lighting_levels::proofs::Choosing::ifs), unfolding(lighting_frames::specs::Paper::Frames::parse_by))]
 fn parse_by(parameters: Parameters, c: usize, l: u32, kind: Kind, b: &[u8]) -> Frame
     ensures { result ≡ parse_by parameters c l kind b.now }
 {
@@ -61,6 +67,8 @@ fn parse_by(parameters: Parameters, c: usize, l: u32, kind: Kind, b: &[u8]) -> F
         },
     }
 }
+
+#[tactic(auto, unfolding(lighting_frames::specs::Paper::Frames::parse))]
 
 pub fn parse(parameters: Parameters, c: usize, b: &[u8]) -> Frame
     ensures { result ≡ parse parameters c b.now }

@@ -11,6 +11,7 @@ use lighting_panel::PanelRecord;
 
 // The first n outputs and the first k stations are lent to the panel, which is started with the set and the
 // marks.
+#[tactic(auto, using(crate::proofs::Parts::parts_joined, lighting_levels::proofs::Parts::part_taken), unfolding(crate::specs::Lending::begun))]
 pub fn start(
     outputs: &mut [Output],
     stations: &mut [Station],
@@ -35,6 +36,7 @@ pub fn start(
 }
 
 // They are lent with the first `count` bytes.
+#[tactic(auto, using(crate::proofs::Parts::parts_joined, lighting_levels::proofs::Parts::part_taken), unfolding(crate::specs::Lending::sent))]
 pub fn send(
     outputs: &mut [Output],
     stations: &mut [Station],

@@ -8,14 +8,14 @@ use lighting_outputs::{Answer, Operation, Request, TimeField};
 
 // A field behind its context tag, there or not: of how many octets its content is, and the number that they
 // spell, a REAL's pattern for a REAL.
-#[derive(Drop)]
+#[derive(Clone, Copy)]
 pub enum TagField {
     Holds { count: u8, value: u32 },
     Missing,
 }
 
 // The fields of a tagged command, in the order of their tags, 0 to 5.
-#[derive(Drop)]
+#[derive(Clone, Copy)]
 pub struct TagFields {
     pub operation: TagField,
     pub level: TagField,
@@ -30,14 +30,14 @@ pub const MOST_TAGGED: usize = 17;
 
 // A tagged command as a frame carries it after the 13 common bytes: how many bytes there are, and they, with
 // zeros after them.
-#[derive(Drop)]
+#[derive(Clone, Copy)]
 pub struct TaggedBody {
     pub length: u8,
     pub bytes: [u8; MOST_TAGGED],
 }
 
 // What a body in tags is read as: an operation and its duration, there or not, or refusal 14 or 15.
-#[derive(Drop)]
+#[derive(Clone, Copy)]
 pub enum TaggedReading {
     Unreadable(u8),
     Reads {
@@ -51,7 +51,7 @@ pub const LONGEST_FRAME: usize = 31;
 
 // What a station was answered last, to which number and which frame: a retransmission, the paper's copy, is
 // known by them. Number 0: none yet.
-#[derive(Drop)]
+#[derive(Clone, Copy)]
 pub struct Station {
     pub answer: Answer,
     pub number: u32,
@@ -62,7 +62,7 @@ pub struct Station {
 
 // What a call asks of its output, by its kind: 02 to 05, then the commands, 10 to 1A, and a command in tags,
 // 1B.
-#[derive(Drop)]
+#[derive(Clone, Copy)]
 pub enum Action {
     WritesLevel,
     EmptiesSlot,
@@ -83,7 +83,7 @@ pub enum Action {
 }
 
 // What a kind byte says: none that is known, a clock, or a call of a station.
-#[derive(Drop)]
+#[derive(Clone, Copy)]
 pub enum Kind {
     NoKind,
     ClockKind,
@@ -91,14 +91,14 @@ pub enum Kind {
 }
 
 // A row of the table of kinds. The length is in bytes, the kind byte among them.
-#[derive(Drop)]
+#[derive(Clone, Copy)]
 pub struct KindRow {
     pub length: u32,
     pub kind: Kind,
 }
 
 // A call of a station: 'station (1), number (4), time (6), output (1)', and what its kind asks.
-#[derive(Drop)]
+#[derive(Clone, Copy)]
 pub struct Call {
     pub station: u8,
     pub number: u32,
@@ -108,7 +108,7 @@ pub struct Call {
 }
 
 // A string of bytes as it is read: a refusal from 2 to 5, a clock, or a call.
-#[derive(Drop)]
+#[derive(Clone, Copy)]
 pub enum Frame {
     Bad(u8),
     Clock(u64),
@@ -116,7 +116,7 @@ pub enum Frame {
 }
 
 // What is to be done with a frame.
-#[derive(Drop)]
+#[derive(Clone, Copy)]
 pub enum Verdict {
     TurnedDown(u8),
     Copied(Answer),

@@ -10,7 +10,7 @@ pub const GREATEST_LEVEL: u32 = 6_553_600;
 // ---- REALs that a frame carries
 
 // What a REAL is in units.
-#[derive(Drop)]
+#[derive(Clone, Copy)]
 pub enum Level {
     Units(u32),
     OutOfRange,

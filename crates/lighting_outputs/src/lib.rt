@@ -19,7 +19,7 @@ pub const SLOT_16: u8 = 15;
 
 // Sixteen bits say which slots are live, priority 1 being the lowest, beside the levels. An emptied slot's
 // level is 0.
-#[derive(Drop)]
+#[derive(Clone, Copy)]
 pub struct Slots {
     pub live: u16,
     pub levels: [u32; SLOTS],
@@ -27,7 +27,7 @@ pub struct Slots {
 
 // The writable properties of document 01 but Elapsed_Active_Time; those of §3 stand in the relay. Fields have
 // names of one word: the definitions would have to put others between marks.
-#[derive(Drop)]
+#[derive(Clone, Copy)]
 pub struct Settings {
     // Relinquish_Default, a level
     pub default: u32,
@@ -48,7 +48,7 @@ pub struct Settings {
 }
 
 // The relay of an output (§3 of the change requests), which Present_Value switches.
-#[derive(Drop)]
+#[derive(Clone, Copy)]
 pub struct Relay {
     // Binary_Active_Value and Binary_Inactive_Value, levels: at or above the one it turns active, at or below
     // the other inactive
@@ -61,7 +61,7 @@ pub struct Relay {
 }
 
 // How a movement goes: a fade by an even share of its way, a ramp at a rate in units a second.
-#[derive(Drop)]
+#[derive(Clone, Copy)]
 pub enum Pace {
     Fade,
     Ramp(u32),
@@ -69,7 +69,7 @@ pub enum Pace {
 
 // The movement of the slot `owner`. It lasts `length` and is over at the moment `over`: a due moment is kept
 // whole, so that none has to be added up when a record is read.
-#[derive(Drop)]
+#[derive(Clone, Copy)]
 pub struct Movement {
     pub owner: u8,
     pub start: u32,
@@ -81,7 +81,7 @@ pub struct Movement {
 
 // The phases of a warning: in Blink slot 6 holds 0 until the moment `turn`; in Delay it holds the old level
 // until the moment `over`.
-#[derive(Drop)]
+#[derive(Clone, Copy)]
 pub enum Phase {
     Blink,
     Delay,
@@ -89,7 +89,7 @@ pub enum Phase {
 
 // The warning of the slot `owner`. `level` is the paper's Y. Without a delay `over` is `turn`, and no Delay
 // follows.
-#[derive(Drop)]
+#[derive(Clone, Copy)]
 pub struct Warning {
     pub phase: Phase,
     pub owner: u8,
@@ -99,7 +99,7 @@ pub struct Warning {
 }
 
 // What is under way. Never a movement and a warning together.
-#[derive(Drop)]
+#[derive(Clone, Copy)]
 pub enum Activity {
     Still,
     Moving(Movement),
@@ -107,21 +107,21 @@ pub enum Activity {
 }
 
 // The duration that is running: its slot empties at `due`.
-#[derive(Drop)]
+#[derive(Clone, Copy)]
 pub enum Timer {
     Off,
     Running { slot: u8, due: u64 },
 }
 
 // When something falls due next: a running duration, a movement or a warning.
-#[derive(Drop)]
+#[derive(Clone, Copy)]
 pub enum Moment {
     Never,
     At(u64),
 }
 
 // A command's duration field: so many milliseconds, 0, or FFFFFFFF.
-#[derive(Drop)]
+#[derive(Clone, Copy)]
 pub enum Duration {
     Lasts(u32),
     Cancels,
@@ -129,7 +129,7 @@ pub enum Duration {
 }
 
 // The lighting operations, with their REALs as they were written.
-#[derive(Drop)]
+#[derive(Clone, Copy)]
 pub enum Operation {
     Stop,
     FadeTo(f32),
@@ -144,27 +144,27 @@ pub enum Operation {
     Relinquish,
 }
 
-#[derive(Drop)]
+#[derive(Clone, Copy)]
 pub struct Command {
     pub operation: Operation,
     pub duration: Duration,
 }
 
 // A field of an operation, there or not: a REAL as it was written, and a time.
-#[derive(Drop)]
+#[derive(Clone, Copy)]
 pub enum RealField {
     Real(f32),
     NoReal,
 }
 
-#[derive(Drop)]
+#[derive(Clone, Copy)]
 pub enum TimeField {
     Time(u32),
     NoTime,
 }
 
 // The fields of an operation, from left to right: level, rate, step and fade time.
-#[derive(Drop)]
+#[derive(Clone, Copy)]
 pub struct OperationFields {
     pub level: RealField,
     pub rate: RealField,
@@ -174,7 +174,7 @@ pub struct OperationFields {
 
 // ---- an output, whole
 
-#[derive(Drop)]
+#[derive(Clone, Copy)]
 pub struct Output {
     pub settings: Settings,
     pub slots: Slots,
@@ -188,7 +188,7 @@ pub struct Output {
 
 // ---- answers and stations
 
-#[derive(Drop)]
+#[derive(Clone, Copy)]
 pub enum Answer {
     Done,
     Value(u32),
@@ -210,7 +210,7 @@ pub const MOST_DURATION: u32 = 86_400_000;
 
 // The set of parameters that a panel is started with. Which numbers it may have, the definitions say
 // (`startable` of specs/Paper/Startable.antt).
-#[derive(Drop)]
+#[derive(Clone, Copy)]
 pub struct Parameters {
     // How many station records and how many outputs there are
     pub stations: u32,
@@ -223,7 +223,7 @@ pub struct Parameters {
 // ---- requests
 
 // The paper's properties 01 to 14, 17 to 1B and, as SlotValue 0 to 15, 21 to 30.
-#[derive(Drop)]
+#[derive(Clone, Copy)]
 pub enum Property {
     RelinquishDefault,
     FadeTime,
@@ -256,7 +256,7 @@ pub enum Property {
 
 // What a property's value must be, and how it is kept (`row_of` of specs/Paper/Rows.antt has the row of each
 // property).
-#[derive(Drop)]
+#[derive(Clone, Copy)]
 pub enum Range {
     // REAL 0 to 100, kept as a level
     Percent,
@@ -273,7 +273,7 @@ pub enum Range {
 }
 
 // What a frame asks of its output.
-#[derive(Drop)]
+#[derive(Clone, Copy)]
 pub enum OutputRequest {
     Write { slot: u8, level: u32 },
     Empty { slot: u8 },
@@ -286,7 +286,7 @@ pub enum OutputRequest {
 // What a frame asks: something of its own output, and of no other; or nothing, by the refusal that its
 // fields meet, 9 to 12, 14 or 15 (a read of an unknown property meets its 9 when it is answered). A request
 // to the whole table is a case of its own here.
-#[derive(Drop)]
+#[derive(Clone, Copy)]
 pub enum Request {
     Refuse(u8),
     ToOutput(OutputRequest),
@@ -295,13 +295,13 @@ pub enum Request {
 // ---- results of acting
 
 // The slots and the activity that a command makes.
-#[derive(Drop)]
+#[derive(Clone, Copy)]
 pub struct Effect {
     pub slots: Slots,
     pub activity: Activity,
 }
 
-#[derive(Drop)]
+#[derive(Clone, Copy)]
 pub struct Outcome {
     pub output: Output,
     pub answer: Answer,

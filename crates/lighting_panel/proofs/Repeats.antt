@@ -1,7 +1,8 @@
 -- Frames of a list that come again later change nothing of the panel, and no answer to the frames of the
 -- list.
-use mathlib.Core.Path.{◌≡◌, refl, ap}
+use mathlib.Core.Path.{◌≡◌, refl, ap, subst, sym}
 use mathlib.Core.List.{List, [], ◌∷◌}
+use lib.ListN.{length}
 use Prim.Native.Nat.{ℕ, suc, ◌≤◌, ◌<◌}
 use native.Mathlib.Omega.{arith}
 use lib.Dec.{eqb}
@@ -162,13 +163,18 @@ engine_stays p marks c k w b o m h =
     (linked_sound p marks c k w m, decide_judged p marks c k w b o m, m.count)
     (stays p marks c k w b (parse p c b) m (frame_in_range p c b o) h)
 
+plain_state : (p : Parameters) (marks c : ℕ) (w : PlainState) (b : Bytes) → length w.panel.outputs ≡ c
+    → (plain_frame_step p marks w b).state ≡ (plain_execute marks b w (judged w.past b (parse p c b))).state
+unfolding plain_frame_step
+plain_state p marks c w b n = rw n refl
+
 plain_spends : (p : Parameters) (marks c : ℕ) (k : List Station) (w : PlainState) (b : Bytes) (l : List Bytes)
     → Octets b → Refines p c k w → AllSpent p c w l
     → AllSpent p c (plain_frame_step p marks w b).state (b ∷ l)
-unfolding plain_frame_step
 plain_spends p marks c k w b l o m h =
-    rw
-    m.count (
+    subst
+    (λ (z : PlainState). AllSpent p c z (b ∷ l))
+    (sym (plain_state p marks c w b m.count)) (
       (o, now_spent p marks c k w b (parse p c b) m (frame_in_range p c b o)),
       all_grow p
           c

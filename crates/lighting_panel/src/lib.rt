@@ -2,7 +2,7 @@
 #![tactic(auto)]
 
 // What a panel keeps beside its two tables, lent as one record.
-#[derive(Drop)]
+#[derive(Clone, Copy)]
 pub struct PanelRecord {
     // The panel time
     pub time: u64,

@@ -19,6 +19,7 @@ fn nan_bits(pattern: u32) -> bool
 }
 
 // The REAL that a pattern stands for.
+#[tactic(auto, using(crate::proofs::Numbers::failed, crate::proofs::Numbers::read), unfolding(lighting_levels::specs::Paper::Level::real))]
 pub fn real_from(pattern: u32) -> f32
     ensures { result ≡ real pattern }
 {
@@ -29,6 +30,7 @@ pub fn real_from(pattern: u32) -> f32
 }
 
 // Only a NaN differs from itself.
+#[tactic(auto, using(crate::proofs::Numbers::differs))]
 fn is_nan(x: f32) -> bool
     ensures { result ≡ is_nan x }
 {
@@ -37,6 +39,7 @@ fn is_nan(x: f32) -> bool
 
 // A REAL's pattern. No record holds a NaN, for which one pattern is fixed here, since `f32::to_bits` is not
 // defined there.
+#[tactic(auto, using(crate::proofs::Numbers::failed, crate::proofs::Numbers::found), unfolding(lighting_levels::specs::Paper::Level::bits))]
 pub fn bits_of(x: f32) -> u32
     ensures { result ≡ bits x }
 {
@@ -50,6 +53,7 @@ pub fn bits_of(x: f32) -> u32
 
 // The rounding: the whole number nearest to n / 1,024, a half going to the even one. What is added carries
 // all that is more than a half to the next number, and a half only from an odd one.
+#[tactic(auto, using(lighting_levels::proofs::Rounding::by_cases))]
 fn rounded(n: u64) -> u64
     requires { n < 2 ^ 34 }
     ensures { result ≡ nearest_to n 1024 }
@@ -58,6 +62,7 @@ fn rounded(n: u64) -> u64
 }
 
 // A rate or a step: from 0.125 to 100.
+#[tactic(auto, using(crate::proofs::Scaled::cast, crate::proofs::Scaled::few_units, crate::proofs::Scaled::scaled, crate::proofs::Tested::too_high_lem, crate::proofs::Tested::too_low_lem))]
 pub fn amount_of_real(x: f32) -> Level
     ensures { result ≡ amount_of x }
 {
@@ -72,6 +77,7 @@ pub fn amount_of_real(x: f32) -> Level
 }
 
 // A Min or a Max: from 1 to 100.
+#[tactic(auto, using(crate::proofs::Tested::from_one, crate::proofs::Tested::under_one))]
 fn limit_of_real(x: f32) -> Level
     ensures { result ≡ limit_of x }
 {
@@ -82,6 +88,7 @@ fn limit_of_real(x: f32) -> Level
 }
 
 // A level: 0 and minus zero are 0; above 0 and below 1 it is 65,536; from 1 to 100 the nearest unit.
+#[tactic(auto, using(crate::proofs::Tested::at_zero, crate::proofs::Tested::large, crate::proofs::Tested::negative, crate::proofs::Tested::small))]
 pub fn level_of_real(x: f32) -> Level
     ensures { result ≡ level_of x }
 {
@@ -97,17 +104,23 @@ pub fn level_of_real(x: f32) -> Level
     Level::OutOfRange
 }
 
+#[tactic(auto, unfolding(lighting_levels::specs::Paper::Level::amount_of))]
+
 pub fn amount_of(pattern: u32) -> Level
     ensures { result ≡ amount_of (real pattern) }
 {
     amount_of_real(real_from(pattern))
 }
 
+#[tactic(auto, unfolding(lighting_levels::specs::Paper::Level::limit_of))]
+
 pub fn limit_of(pattern: u32) -> Level
     ensures { result ≡ limit_of (real pattern) }
 {
     limit_of_real(real_from(pattern))
 }
+
+#[tactic(auto, unfolding(lighting_levels::specs::Paper::Level::level_of))]
 
 pub fn level_of(pattern: u32) -> Level
     ensures { result ≡ level_of (real pattern) }
@@ -117,6 +130,8 @@ pub fn level_of(pattern: u32) -> Level
 
 // ---- in range or not
 
+#[tactic(auto, using(lighting_levels::proofs::Choosing::ifs, lighting_levels::proofs::Laws::in_range_on), unfolding(lighting_levels::specs::Paper::Level::in_range))]
+
 pub fn in_range(level: Level) -> bool
     ensures { result ≡ in_range level }
 {
@@ -125,6 +140,8 @@ pub fn in_range(level: Level) -> bool
         Level::OutOfRange => false,
     }
 }
+
+#[tactic(auto, using(lighting_levels::proofs::Choosing::ifs, lighting_levels::proofs::Laws::units_or_on), unfolding(lighting_levels::specs::Paper::Level::units_or))]
 
 pub fn units_or(otherwise: u32, level: Level) -> u32
     ensures { result ≡ units_or otherwise level }
@@ -137,6 +154,7 @@ pub fn units_or(otherwise: u32, level: Level) -> u32
 
 // A rate or a step that is kept as a REAL: from 0.125 to 100 percent, whatever the REAL, so that a division
 // by it is safe.
+#[tactic(auto, using(lighting_levels::proofs::Ranges::amount_range), unfolding(lighting_levels::specs::Paper::Level::amount_units))]
 pub fn amount_units(x: f32) -> u32
     ensures value { result ≡ amount_units x }
     ensures lower_bound { (least_amount ≤ result) × (result ≤ greatest_level) }
@@ -145,6 +163,7 @@ pub fn amount_units(x: f32) -> u32
 }
 
 // A command's level that is kept as a REAL.
+#[tactic(auto, using(lighting_levels::proofs::Ranges::level_range), unfolding(lighting_levels::specs::Paper::Level::level_units))]
 pub fn level_units(x: f32) -> u32
     ensures value { result ≡ level_units x }
     ensures upper_bound { result ≤ greatest_level }
@@ -166,6 +185,7 @@ fn capped(level: u32) -> u32
 }
 
 // One division by a power of two, which is exact.
+#[tactic(auto, unfolding(lighting_levels::specs::Paper::Level::real_of))]
 fn real_of(level: u32) -> f32
     requires { level ≤ greatest_level }
     ensures { result ≡ real_of level }
@@ -174,6 +194,7 @@ fn real_of(level: u32) -> f32
 }
 
 // A level as it is read: the pattern of the REAL equal to it.
+#[tactic(auto, unfolding(lighting_levels::specs::Paper::Level::read_out))]
 pub fn read_out(level: u32) -> u32
     ensures { result ≡ read_out level }
 {

@@ -12,6 +12,7 @@ use lighting_levels::{GREATEST_LEVEL, LEAST_LEVEL};
 use lighting_outputs::{NO_SLOT, Parameters, Property, SLOT_6};
 
 // Both ends belong to the range.
+#[tactic(auto, using(lighting_levels::proofs::Choosing::ifs), unfolding(lighting_outputs::specs::Paper::Rows::within))]
 pub fn is_within(low: u32, high: u32, v: u32) -> bool
     ensures { result ≡ within low high v }
 {
@@ -19,6 +20,7 @@ pub fn is_within(low: u32, high: u32, v: u32) -> bool
 }
 
 // A level in units: 0, or 1 to 100 percent.
+#[tactic(auto, using(lighting_levels::proofs::Choosing::ifs), unfolding(lighting_outputs::specs::Paper::Rows::is_level))]
 pub fn is_level(v: u32) -> bool
     ensures { result ≡ is_level v }
 {
@@ -58,6 +60,7 @@ fn longest_movement(parameters: Parameters) -> u32
 }
 
 // What a movement lasts.
+#[tactic(auto, unfolding(lighting_outputs::specs::Paper::Rows::within))]
 pub fn is_length(parameters: Parameters, v: u32) -> bool
     ensures { result ≡ within 1 (longest_movement parameters) v }
 {
@@ -67,6 +70,7 @@ pub fn is_length(parameters: Parameters, v: u32) -> bool
 // ---- slots
 
 // Slot 6, here 5, is the warning's alone.
+#[tactic(auto, using(lighting_levels::proofs::Choosing::ifs), unfolding(lighting_outputs::specs::Paper::Rows::is_slot))]
 pub fn is_slot(i: u32) -> bool
     ensures { result ≡ is_slot i }
 {
@@ -78,6 +82,7 @@ pub fn is_slot(i: u32) -> bool
 }
 
 // A priority is a slot's number counted from 1.
+#[tactic(auto, using(lighting_levels::proofs::Choosing::ifs), unfolding(lighting_outputs::specs::Paper::Rows::is_priority))]
 pub fn is_priority(n: u32) -> bool
     ensures { result ≡ is_priority n }
 {

@@ -10,6 +10,8 @@ use lighting_outputs::{Parameters, Property, Range};
 // In milliseconds: `longest_blink` of the definitions is the same.
 const LONGEST_BLINK: u32 = 86400000;
 
+#[tactic(auto, using(lighting_levels::proofs::Choosing::ifs, lighting_outputs::proofs::Laws::row_of_on))]
+
 pub fn row_of(parameters: Parameters, p: Property) -> Range
     ensures { result ≡ row_of parameters p }
 {
@@ -56,17 +58,22 @@ pub fn row_of(parameters: Parameters, p: Property) -> Range
 // ---- what is kept
 
 // A rate or a step, 0.125 to 100; and by its pattern.
+#[tactic(auto, unfolding(lighting_outputs::specs::Paper::Rows::is_amount))]
 pub fn is_amount(x: f32) -> bool
     ensures { result ≡ is_amount x }
 {
     number_level::in_range(number_level::amount_of_real(x))
 }
 
+#[tactic(auto, unfolding(lighting_outputs::specs::Paper::Rows::is_amount))]
+
 pub fn is_amount_pattern(pattern: u32) -> bool
     ensures { result ≡ is_amount (real pattern) }
 {
     is_amount(number_level::real_from(pattern))
 }
+
+#[tactic(auto, using(lighting_levels::proofs::Choosing::ifs, lighting_outputs::proofs::Laws::meets_on), unfolding(lighting_outputs::specs::Paper::Rows::meets))]
 
 fn is_met(row: Range, v: u32) -> bool
     ensures { result ≡ meets row v }
@@ -82,6 +89,7 @@ fn is_met(row: Range, v: u32) -> bool
 }
 
 // What is kept of a property.
+#[tactic(auto, unfolding(lighting_outputs::specs::Paper::Rows::meets))]
 pub fn fits(parameters: Parameters, p: Property, v: u32) -> bool
     ensures { result ≡ meets (row_of parameters p) v }
 {

@@ -10,6 +10,7 @@ ghost use Rattle.lighting_outputs.specs.Paper.Acting.{done, unchanged, changed_u
 use lighting_outputs::{Answer, Outcome, Output, OutputRequest, Property};
 
 // The output changed, and judged.
+#[tactic(auto, unfolding(lighting_outputs::specs::Paper::Acting::done))]
 fn done(o: Output) -> Outcome
     ensures { result ≡ done o }
 {
@@ -20,6 +21,7 @@ fn done(o: Output) -> Outcome
 }
 
 // The output as it was: a read, or a refusal.
+#[tactic(auto, using(lighting_levels::proofs::Choosing::ifs), unfolding(lighting_outputs::specs::Paper::Acting::unchanged))]
 fn unchanged(o: Output, a: Answer) -> Outcome
     ensures { result ≡ unchanged o a }
 {
@@ -31,6 +33,7 @@ fn unchanged(o: Output, a: Answer) -> Outcome
 
 // A write of a property, unless it would leave Min over Max (m), or the relay's inactive value not below its
 // active one.
+#[tactic(auto, using(lighting_levels::proofs::Choosing::ifs), unfolding(lighting_outputs::specs::Paper::Acting::changed_unless))]
 fn change_unless(m: bool, unordered: bool, o: Output, n: Property, v: u32) -> Outcome
     ensures { result ≡ changed_unless m unordered o n v }
 {
@@ -44,6 +47,7 @@ fn change_unless(m: bool, unordered: bool, o: Output, n: Property, v: u32) -> Ou
 }
 
 // The settings as they would be decide.
+#[tactic(auto, unfolding(lighting_outputs::specs::Paper::Acting::changed_unless))]
 fn change(o: Output, n: Property, v: u32) -> Outcome
     ensures { result ≡ changed_unless (min_over_max (settings_with o.settings n v)) (inactive_not_below (relay_with o.relay n v)) o n v }
 {
@@ -59,6 +63,7 @@ fn change(o: Output, n: Property, v: u32) -> Outcome
 }
 
 // The station's mark is asked by a read alone (§8).
+#[tactic(auto, using(lighting_outputs::proofs::Laws::acted_on), unfolding(lighting_outputs::specs::Paper::Acting::acted))]
 pub fn act(tenant: bool, t: u64, o: Output, q: OutputRequest) -> Outcome
     requires { t < 2 ^ 48 }
     ensures { result ≡ acted tenant t o q }

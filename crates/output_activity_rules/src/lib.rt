@@ -15,6 +15,7 @@ const LAST_SLOT: u32 = 15;
 
 // Its end is after panel time t, what is left of it is no longer than it lasts, and it lasts 1 ms to the
 // longest that a movement may last.
+#[tactic(auto, using(lighting_levels::proofs::Choosing::ifs), unfolding(lighting_outputs::specs::Paper::Rules::span_sound))]
 fn span_sound(parameters: Parameters, t: u64, m: Movement) -> bool
     ensures { result ≡ span_sound parameters t m }
 {
@@ -30,6 +31,7 @@ fn span_sound(parameters: Parameters, t: u64, m: Movement) -> bool
 }
 
 // It belongs to the winner w, starts from 0 to Max, here high, and aims at Present_Value v.
+#[tactic(auto, using(lighting_levels::proofs::Choosing::ifs), unfolding(lighting_outputs::specs::Paper::Rules::movement_sound))]
 fn movement_sound(parameters: Parameters, t: u64, w: u32, high: u32, v: u32, m: Movement) -> bool
     ensures { result ≡ movement_sound parameters t w high v m }
 {
@@ -53,6 +55,7 @@ fn movement_sound(parameters: Parameters, t: u64, w: u32, high: u32, v: u32, m: 
 }
 
 // A warning's own slot is 7 to 16, and its Y a slot level; e is the end of its phase.
+#[tactic(auto, using(lighting_levels::proofs::Choosing::ifs), unfolding(lighting_outputs::specs::Paper::Rules::warning_by))]
 fn warning_by(t: u64, w: Warning, e: u64) -> bool
     ensures { result ≡ warning_by t w e }
 {
@@ -67,6 +70,8 @@ fn warning_by(t: u64, w: Warning, e: u64) -> bool
     }
 }
 
+#[tactic(auto, unfolding(lighting_outputs::specs::Paper::Rules::warning_sound))]
+
 fn warning_sound(t: u64, w: Warning) -> bool
     ensures { result ≡ warning_sound t w }
 {
@@ -75,6 +80,7 @@ fn warning_sound(t: u64, w: Warning) -> bool
 }
 
 // Slot 6 is live, here l, exactly during a warning.
+#[tactic(auto, using(lighting_levels::proofs::Choosing::ifs, lighting_outputs::proofs::Laws::activity_by_on), unfolding(lighting_outputs::specs::Paper::Rules::activity_by))]
 pub fn activity_by(
     parameters: Parameters,
     t: u64,
@@ -98,6 +104,7 @@ pub fn activity_by(
 }
 
 // No duration is tied to slot 6, and its moment is after panel time.
+#[tactic(auto, using(lighting_levels::proofs::Choosing::ifs, lighting_outputs::proofs::Laws::timer_sound_on), unfolding(lighting_outputs::specs::Paper::Rules::timer_sound))]
 pub fn timer_sound(t: u64, m: Timer) -> bool
     ensures { result ≡ timer_sound t m }
 {

@@ -11,6 +11,8 @@ use lighting_outputs::{Activity, Moment, Output, Phase, SLOT_6, Slots, Timer, Wa
 
 // ---- when
 
+#[tactic(auto, using(lighting_levels::proofs::Choosing::ifs, lighting_outputs::proofs::Laws::timer_due_on), unfolding(lighting_outputs::specs::Paper::Passing::timer_due))]
+
 pub fn timer_due(m: Timer) -> Moment
     ensures { result ≡ timer_due m }
 {
@@ -20,6 +22,8 @@ pub fn timer_due(m: Timer) -> Moment
     }
 }
 
+#[tactic(auto, using(lighting_levels::proofs::Choosing::ifs, lighting_outputs::proofs::Laws::phase_end_on), unfolding(lighting_outputs::specs::Paper::Passing::phase_end))]
+
 pub fn phase_end(w: Warning, p: Phase) -> u64
     ensures { result ≡ phase_end w p }
 {
@@ -28,6 +32,8 @@ pub fn phase_end(w: Warning, p: Phase) -> u64
         Phase::Delay => w.over,
     }
 }
+
+#[tactic(auto, using(lighting_levels::proofs::Choosing::ifs, lighting_outputs::proofs::Laws::activity_due_on), unfolding(lighting_outputs::specs::Paper::Passing::activity_due))]
 
 pub fn activity_due(a: Activity) -> Moment
     ensures { result ≡ activity_due a }
@@ -42,6 +48,8 @@ pub fn activity_due(a: Activity) -> Moment
     }
 }
 
+#[tactic(auto, using(lighting_levels::proofs::Choosing::ifs, lighting_outputs::proofs::Laws::is_due_on), unfolding(lighting_outputs::specs::Paper::Passing::is_due))]
+
 fn is_due(t: u64, d: Moment) -> bool
     ensures { result ≡ is_due t d }
 {
@@ -51,11 +59,15 @@ fn is_due(t: u64, d: Moment) -> bool
     }
 }
 
+#[tactic(auto, unfolding(lighting_outputs::specs::Paper::Passing::is_due))]
+
 fn is_timer_due(t: u64, m: Timer) -> bool
     ensures { result ≡ is_due t (timer_due m) }
 {
     is_due(t, timer_due(m))
 }
+
+#[tactic(auto, unfolding(lighting_outputs::specs::Paper::Passing::is_due))]
 
 fn is_activity_due(t: u64, a: Activity) -> bool
     ensures { result ≡ is_due t (activity_due a) }
@@ -64,6 +76,7 @@ fn is_activity_due(t: u64, a: Activity) -> bool
 }
 
 // Whether anything is due at t of what is under way.
+#[tactic(auto, using(lighting_levels::proofs::Choosing::if_itself, lighting_levels::proofs::Choosing::ifs))]
 pub fn is_any_due(t: u64, m: Timer, a: Activity) -> bool
     ensures { result ≡ any_due t (timer_due m ∷ activity_due a ∷ []) }
 {
@@ -76,11 +89,15 @@ pub fn is_any_due(t: u64, m: Timer, a: Activity) -> bool
 
 // ---- a duration
 
+#[tactic(auto, using(lighting_levels::proofs::Choosing::ifs), unfolding(lighting_outputs::specs::Paper::Passing::timer_at))]
+
 fn timer_at(t: u64, m: Timer) -> Timer
     ensures { result ≡ timer_at t m }
 {
     if is_timer_due(t, m) { Timer::Off } else { m }
 }
+
+#[tactic(auto, using(lighting_levels::proofs::Choosing::ifs, lighting_outputs::proofs::Laws::emptied_by_on), unfolding(lighting_outputs::specs::Paper::Passing::emptied_by))]
 
 fn empty_by(m: Timer, s: Slots) -> Slots
     ensures { result ≡ emptied_by m s }
@@ -90,6 +107,8 @@ fn empty_by(m: Timer, s: Slots) -> Slots
         Timer::Running { slot, due: _ } => output_slots::empty(s, slot),
     }
 }
+
+#[tactic(auto, using(lighting_levels::proofs::Choosing::ifs), unfolding(lighting_outputs::specs::Paper::Passing::expired))]
 
 fn expire(t: u64, m: Timer, s: Slots) -> Slots
     ensures { result ≡ expired t m s }
@@ -102,6 +121,7 @@ fn expire(t: u64, m: Timer, s: Slots) -> Slots
 }
 
 // A slot that empties ends the movement that it owned.
+#[tactic(auto, using(lighting_levels::proofs::Choosing::ifs, lighting_outputs::proofs::Laws::end_movement_of_on), unfolding(lighting_outputs::specs::Paper::Passing::end_movement_of))]
 pub fn end_movement_of(q: u8, a: Activity) -> Activity
     ensures { result ≡ end_movement_of q a }
 {
@@ -112,6 +132,8 @@ pub fn end_movement_of(q: u8, a: Activity) -> Activity
     }
 }
 
+#[tactic(auto, using(lighting_levels::proofs::Choosing::ifs, lighting_outputs::proofs::Laws::end_movement_by_on), unfolding(lighting_outputs::specs::Paper::Passing::end_movement_by))]
+
 fn end_movement_by(m: Timer, a: Activity) -> Activity
     ensures { result ≡ end_movement_by m a }
 {
@@ -120,6 +142,8 @@ fn end_movement_by(m: Timer, a: Activity) -> Activity
         Timer::Running { slot, due: _ } => end_movement_of(slot, a),
     }
 }
+
+#[tactic(auto, using(lighting_levels::proofs::Choosing::ifs), unfolding(lighting_outputs::specs::Paper::Passing::end_movement_on_expiry))]
 
 fn end_movement_on_expiry(t: u64, m: Timer, a: Activity) -> Activity
     ensures { result ≡ end_movement_on_expiry t m a }
@@ -133,6 +157,8 @@ fn end_movement_on_expiry(t: u64, m: Timer, a: Activity) -> Activity
 
 // ---- a phase of a warning, or the end of a movement
 
+#[tactic(auto, using(lighting_levels::proofs::Choosing::ifs), unfolding(lighting_outputs::specs::Paper::Passing::delayed))]
+
 fn delay(w: Warning) -> Warning
     ensures { result ≡ delayed w }
 {
@@ -144,6 +170,8 @@ fn delay(w: Warning) -> Warning
         over: w.over,
     }
 }
+
+#[tactic(auto, using(lighting_levels::proofs::Choosing::ifs, lighting_outputs::proofs::Laws::next_phase_on), unfolding(lighting_outputs::specs::Paper::Passing::next_phase))]
 
 fn next_phase(w: Warning, p: Phase) -> Activity
     ensures { result ≡ next_phase w p }
@@ -158,6 +186,8 @@ fn next_phase(w: Warning, p: Phase) -> Activity
     }
 }
 
+#[tactic(auto, using(lighting_levels::proofs::Choosing::ifs, lighting_outputs::proofs::Laws::next_activity_on), unfolding(lighting_outputs::specs::Paper::Passing::next_activity))]
+
 fn next_activity(a: Activity) -> Activity
     ensures { result ≡ next_activity a }
 {
@@ -171,6 +201,8 @@ fn next_activity(a: Activity) -> Activity
     }
 }
 
+#[tactic(auto, using(lighting_levels::proofs::Choosing::ifs), unfolding(lighting_outputs::specs::Paper::Passing::activity_at))]
+
 fn activity_at(t: u64, a: Activity) -> Activity
     ensures { result ≡ activity_at t a }
 {
@@ -182,11 +214,14 @@ fn activity_at(t: u64, a: Activity) -> Activity
 }
 
 // The end of a warning with a delay: slot 6 and the warning's own slot empty.
+#[tactic(auto, unfolding(lighting_outputs::specs::Paper::Slots::put))]
 fn warning_empty(s: Slots, i: u8) -> Slots
     ensures { result ≡ emptied (emptied s slot6) i }
 {
     output_slots::empty(output_slots::empty(s, SLOT_6), i)
 }
+
+#[tactic(auto, using(lighting_levels::proofs::Choosing::ifs, lighting_outputs::proofs::Laws::phase_slots_on), unfolding(lighting_outputs::specs::Paper::Passing::phase_slots))]
 
 fn phase_slots(w: Warning, p: Phase, s: Slots) -> Slots
     ensures { result ≡ phase_slots w p s }
@@ -201,6 +236,8 @@ fn phase_slots(w: Warning, p: Phase, s: Slots) -> Slots
     }
 }
 
+#[tactic(auto, using(lighting_levels::proofs::Choosing::ifs, lighting_outputs::proofs::Laws::next_slots_on), unfolding(lighting_outputs::specs::Paper::Passing::next_slots))]
+
 fn next_slots(a: Activity, s: Slots) -> Slots
     ensures { result ≡ next_slots a s }
 {
@@ -214,6 +251,8 @@ fn next_slots(a: Activity, s: Slots) -> Slots
     }
 }
 
+#[tactic(auto, using(lighting_levels::proofs::Choosing::ifs), unfolding(lighting_outputs::specs::Paper::Passing::slots_at))]
+
 fn slots_at(t: u64, a: Activity, s: Slots) -> Slots
     ensures { result ≡ slots_at t a s }
 {
@@ -225,6 +264,7 @@ fn slots_at(t: u64, a: Activity, s: Slots) -> Slots
 }
 
 // Judged after each act and after each moment's due events: the relay, by Present_Value.
+#[tactic(auto, unfolding(lighting_outputs::specs::Paper::Passing::after_events))]
 pub fn after_events(o: Output) -> Output
     ensures { result ≡ after_events o }
 {
@@ -238,6 +278,7 @@ pub fn after_events(o: Output) -> Output
 }
 
 // The duration first: it may end the movement, and the slot that it empties may be the warning's.
+#[tactic(auto, unfolding(lighting_outputs::specs::Paper::Passing::fire))]
 pub fn fire_at(t: u64, o: Output) -> Output
     ensures { result ≡ fire t o }
 {

@@ -24,6 +24,8 @@ fn fresh_fade(parameters: Parameters) -> u32
     }
 }
 
+#[tactic(auto, using(lighting_levels::proofs::Choosing::ifs), unfolding(lighting_levels::specs::Paper::Level::real, lighting_outputs::specs::Paper::Fresh::fresh_settings))]
+
 fn fresh_settings(fade: u32) -> Settings
     ensures { result ≡ fresh_settings fade }
 {
@@ -42,6 +44,7 @@ fn fresh_settings(fade: u32) -> Settings
 }
 
 // Levels of 50 and 45 percent, polarity normal, inactive.
+#[tactic(auto, using(lighting_levels::proofs::Choosing::ifs), unfolding(lighting_outputs::specs::Paper::Fresh::fresh_relay))]
 fn fresh_relay() -> Relay
     ensures { result ≡ fresh_relay }
 {
@@ -54,6 +57,7 @@ fn fresh_relay() -> Relay
 }
 
 // No live slot, last operation STOP without duration, burning time 0.
+#[tactic(auto, unfolding(lighting_outputs::specs::Paper::Fresh::fresh_with))]
 fn fresh_with(fade: u32) -> Output
     ensures { result ≡ fresh_with fade }
 {
@@ -79,6 +83,8 @@ fn fresh_with(fade: u32) -> Output
     }
 }
 
+#[tactic(auto, unfolding(lighting_outputs::specs::Paper::Fresh::fresh_for))]
+
 pub fn fresh_output(parameters: Parameters) -> Output
     ensures { result ≡ fresh_for parameters }
 {
@@ -86,6 +92,7 @@ pub fn fresh_output(parameters: Parameters) -> Output
 }
 
 // Number 0: no first arrival yet.
+#[tactic(auto, using(lighting_levels::proofs::Choosing::ifs), unfolding(lighting_frames::specs::Paper::Stations::fresh_station))]
 pub fn fresh_station() -> Station
     ensures { result ≡ fresh_station }
 {

@@ -22,6 +22,7 @@ fn one_less(w: u32) -> u32
 // The last millisecond of a movement at which u units are not yet gone, where s units go in w milliseconds.
 // Of all s, as in a fade to 0, it is the last of the w; else, in a ramp, it takes a product, which has up to
 // 64 bits.
+#[tactic(auto, using(crate::proofs::Short::short_all, lighting_levels::proofs::Product::below), unfolding(lighting_outputs::specs::Engine::Light::last_short))]
 fn last_short(u: u32, s: u32, w: u32) -> u64
     requires { 0 < s }
     ensures { result ≡ last_short u s w }
@@ -34,6 +35,7 @@ fn last_short(u: u32, s: u32, w: u32) -> u64
 }
 
 // The moment after the millisecond k of a movement, if it lasts so long.
+#[tactic(auto, using(lighting_levels::proofs::Choosing::ifs), unfolding(lighting_outputs::specs::Engine::Light::moment_after))]
 fn moment_after(k: u32, m: Movement) -> Moment
     ensures { result ≡ moment_after k m }
 {
@@ -45,6 +47,7 @@ fn moment_after(k: u32, m: Movement) -> Moment
 }
 
 // The moment from which on the first unit is gone: no product.
+#[tactic(auto, using(crate::proofs::Short::gone_first, lighting_levels::proofs::Choosing::ifs), unfolding(lighting_outputs::specs::Engine::Light::gone_at))]
 fn first_gone_at(s: u32, w: u32, m: Movement) -> Moment
     ensures { result ≡ gone_at 1 s w m }
 {
@@ -57,6 +60,7 @@ fn first_gone_at(s: u32, w: u32, m: Movement) -> Moment
 
 // The moment from which on u units are gone. Whether the movement lasts so long is asked of the whole
 // quotient, before it is narrowed.
+#[tactic(auto, using(crate::proofs::Short::gone_short, lighting_levels::proofs::Choosing::ifs), unfolding(lighting_outputs::specs::Engine::Light::gone_at))]
 fn gone_at(u: u32, s: u32, w: u32, m: Movement) -> Moment
     ensures { result ≡ gone_at u s w m }
 {
@@ -70,6 +74,7 @@ fn gone_at(u: u32, s: u32, w: u32, m: Movement) -> Moment
 // ---- how many milliseconds
 
 // Of the n milliseconds from a moment on, those before the moment d, and those from it on.
+#[tactic(auto, using(lighting_levels::proofs::Choosing::ifs, lighting_outputs::proofs::Laws::count_before_on), unfolding(lighting_outputs::specs::Engine::Light::count_before))]
 fn count_before(from: u64, n: u64, d: Moment) -> u64
     ensures { result ≡ count_before from n d }
 {
@@ -78,6 +83,8 @@ fn count_before(from: u64, n: u64, d: Moment) -> u64
         Moment::At(at) => output_value::least(n, output_value::since(from, at)),
     }
 }
+
+#[tactic(auto, using(lighting_levels::proofs::Choosing::ifs, lighting_outputs::proofs::Laws::count_since_on), unfolding(lighting_outputs::specs::Engine::Light::count_since))]
 
 fn count_since(from: u64, n: u64, d: Moment) -> u64
     ensures { result ≡ count_since from n d }
@@ -88,6 +95,8 @@ fn count_since(from: u64, n: u64, d: Moment) -> u64
     }
 }
 
+#[tactic(auto, using(lighting_levels::proofs::Choosing::ifs), unfolding(lighting_outputs::specs::Engine::Light::lit_from_zero))]
+
 fn lit_from_zero(s: u32, w: u32, from: u64, n: u64, m: Movement) -> u64
     ensures { result ≡ lit_from_zero s w from n m }
 {
@@ -97,6 +106,8 @@ fn lit_from_zero(s: u32, w: u32, from: u64, n: u64, m: Movement) -> u64
         count_since(from, n, first_gone_at(s, w, m))
     }
 }
+
+#[tactic(auto, using(lighting_levels::proofs::Choosing::ifs), unfolding(lighting_outputs::specs::Engine::Light::lit_from_light))]
 
 fn lit_from_light(s: u32, w: u32, from: u64, n: u64, m: Movement) -> u64
     ensures { result ≡ lit_from_light s w from n m }
@@ -109,6 +120,7 @@ fn lit_from_light(s: u32, w: u32, from: u64, n: u64, m: Movement) -> u64
 }
 
 // A movement that goes s units in w milliseconds.
+#[tactic(auto, using(lighting_levels::proofs::Choosing::ifs), unfolding(lighting_outputs::specs::Engine::Light::lit_at))]
 fn lit_at(s: u32, w: u32, from: u64, n: u64, m: Movement) -> u64
     ensures { result ≡ lit_at s w from n m }
 {
@@ -130,6 +142,8 @@ fn way(m: Movement) -> u32
     }
 }
 
+#[tactic(auto, using(lighting_outputs::proofs::Laws::lit_by_pace_on), unfolding(lighting_outputs::specs::Engine::Light::lit_by_pace, lighting_outputs::specs::Engine::Light::lit_moving))]
+
 fn lit_moving(from: u64, n: u64, m: Movement) -> u64
     ensures { result ≡ lit_moving from n m }
 {
@@ -149,6 +163,8 @@ pub fn is_moving(o: Output) -> bool
     output_value::in_process(a) == 1
 }
 
+#[tactic(auto, using(lighting_levels::proofs::Choosing::ifs, lighting_outputs::proofs::Laws::lit_in_movement_on), unfolding(lighting_outputs::specs::Engine::Light::lit_in_movement))]
+
 pub fn lit_in_movement(from: u64, n: u64, a: Activity) -> u64
     ensures { result ≡ lit_in_movement from n a }
 {
@@ -160,6 +176,7 @@ pub fn lit_in_movement(from: u64, n: u64, a: Activity) -> u64
 }
 
 // Without a movement Progress_Value is Present_Value: all or none.
+#[tactic(auto, using(lighting_levels::proofs::Choosing::ifs), unfolding(lighting_outputs::specs::Engine::Light::lit_resting))]
 pub fn lit_resting(n: u64, o: Output) -> u64
     ensures { result ≡ lit_resting n (present_value o.settings o.slots) }
 {
@@ -168,6 +185,8 @@ pub fn lit_resting(n: u64, o: Output) -> u64
     let v = output_value::present_value(c, s);
     if 0 < v { n } else { 0 }
 }
+
+#[tactic(auto, using(lighting_levels::proofs::Choosing::ifs), unfolding(lighting_outputs::specs::Engine::Light::lit_stretch))]
 
 pub fn lit_stretch(from: u64, n: u64, o: Output) -> u64
     ensures { result ≡ lit_stretch from n o }

@@ -23,11 +23,15 @@ fn added(a: u64, b: u64) -> u64
 
 // ---- burning time
 
+#[tactic(auto, unfolding(lighting_outputs::specs::Engine::Advance::burned_by))]
+
 fn burn(lit: u64, o: Output) -> Output
     ensures { result ≡ burned_by lit o }
 {
     output_record::with_burning(o, added(o.burning, lit))
 }
+
+#[tactic(auto, unfolding(lighting_outputs::specs::Engine::Advance::with_burned_saturating))]
 
 fn with_burned_saturating(from: u64, n: u64, o: Output) -> Output
     ensures { result ≡ with_burned_saturating from n o }
@@ -37,6 +41,8 @@ fn with_burned_saturating(from: u64, n: u64, o: Output) -> Output
 
 // ---- the next due moment, or `to` if nothing falls due before it
 
+#[tactic(auto, using(lighting_levels::proofs::Choosing::ifs, lighting_outputs::proofs::Laws::sooner_on), unfolding(lighting_outputs::specs::Engine::Advance::sooner))]
+
 fn sooner(to: u64, d: Moment) -> u64
     ensures { result ≡ sooner to d }
 {
@@ -45,6 +51,8 @@ fn sooner(to: u64, d: Moment) -> u64
         Moment::At(at) => output_value::least(to, at),
     }
 }
+
+#[tactic(auto, unfolding(lighting_outputs::specs::Engine::Advance::due))]
 
 fn next_due(to: u64, o: Output) -> u64
     ensures { result ≡ due to o }
@@ -60,6 +68,7 @@ fn next_due(to: u64, o: Output) -> u64
 // ---- three event steps, and what is left of the way
 
 // What falls due at d; where nothing does, the relay is not judged either.
+#[tactic(auto, using(lighting_levels::proofs::Choosing::ifs), unfolding(lighting_outputs::specs::Engine::Advance::fire_due))]
 fn fire_due(d: u64, o: Output) -> Output
     ensures { result ≡ fire_due d o }
 {
@@ -74,12 +83,15 @@ fn fire_due(d: u64, o: Output) -> Output
 
 // A stretch up to d, and what falls due at its end, or nothing after the last one. One function makes every
 // stretch: a second one would be passed the record by value, which costs more than the stretch.
+#[tactic(auto, using(lighting_levels::proofs::Choosing::ifs), unfolding(lighting_outputs::specs::Engine::Advance::event_step, lighting_outputs::specs::Engine::Advance::event_steps))]
 fn stretch(now: u64, d: u64, fires: bool, o: Output) -> Output
     ensures { result ≡ (if fires then event_step now d o else event_steps 0 now d o) }
 {
     let burned = with_burned_saturating(now, output_value::since(now, d), o);
     if fires { fire_due(d, burned) } else { burned }
 }
+
+#[tactic(auto, unfolding(lighting_outputs::specs::Engine::Advance::event_steps))]
 
 fn one_event_step(now: u64, to: u64, o: Output) -> Output
     ensures { result ≡ event_steps 1 now to o }
@@ -88,12 +100,16 @@ fn one_event_step(now: u64, to: u64, o: Output) -> Output
     stretch(d, to, false, stretch(now, d, true, o))
 }
 
+#[tactic(auto, unfolding(lighting_outputs::specs::Engine::Advance::event_steps))]
+
 fn two_event_steps(now: u64, to: u64, o: Output) -> Output
     ensures { result ≡ event_steps 2 now to o }
 {
     let d = next_due(to, o);
     one_event_step(d, to, stretch(now, d, true, o))
 }
+
+#[tactic(auto, unfolding(lighting_outputs::specs::Engine::Advance::advance, lighting_outputs::specs::Engine::Advance::event_steps))]
 
 pub fn three_event_steps(now: u64, to: u64, o: Output) -> Output
     ensures { result ≡ advance now to o }
@@ -105,6 +121,8 @@ pub fn three_event_steps(now: u64, to: u64, o: Output) -> Output
 // ---- the way of most outputs at most frames: nothing falls due up to its end, and `rest` or `move_on` is
 // all of it
 
+#[tactic(auto, unfolding(lighting_outputs::specs::Engine::Advance::later))]
+
 pub fn is_later(to: u64, o: Output) -> bool
     ensures { result ≡ later to o }
 {
@@ -113,6 +131,7 @@ pub fn is_later(to: u64, o: Output) -> bool
 
 // Of an output without a movement, and of one with it. Each is called in one place, so that the compiler puts
 // it there and copies no record.
+#[tactic(auto, unfolding(lighting_outputs::specs::Engine::Advance::burned_by))]
 pub fn rest(now: u64, to: u64, o: Output) -> Output
     ensures { result ≡ burned_by (lit_resting (to - now) (present_value o.settings o.slots)) o }
 {
@@ -121,6 +140,8 @@ pub fn rest(now: u64, to: u64, o: Output) -> Output
         o,
     )
 }
+
+#[tactic(auto, unfolding(lighting_outputs::specs::Engine::Advance::burned_by))]
 
 pub fn move_on(now: u64, to: u64, o: Output) -> Output
     ensures { result ≡ burned_by (lit_in_movement now (to - now) o.activity) o }

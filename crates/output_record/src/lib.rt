@@ -8,6 +8,7 @@ ghost use Rattle.lighting_outputs.specs.Paper.Record.{with_burning, with_due, wi
 use lighting_outputs::{Activity, Command, Effect, Output, Relay, Settings, Slots, Timer};
 
 // Time passes while nothing falls due. Written in place: of all the ways this one is gone most.
+#[tactic(auto, using(lighting_levels::proofs::Choosing::ifs), unfolding(lighting_outputs::specs::Paper::Record::with_burning))]
 pub fn with_burning(o: Output, b: u64) -> Output
     ensures { result ≡ with_burning o b }
 {
@@ -44,6 +45,7 @@ pub fn with_relay(o: Output, relay: Relay) -> Output
 }
 
 // A slot written or emptied.
+#[tactic(auto, using(lighting_levels::proofs::Choosing::ifs), unfolding(lighting_outputs::specs::Paper::Record::with_effect))]
 pub fn with_effect(o: Output, slots: Slots, activity: Activity) -> Output
     ensures { result ≡ with_effect o slots activity }
 {
@@ -63,6 +65,7 @@ pub fn with_effect(o: Output, slots: Slots, activity: Activity) -> Output
 }
 
 // A command.
+#[tactic(auto, using(lighting_levels::proofs::Choosing::ifs), unfolding(lighting_outputs::specs::Paper::Record::with_command))]
 pub fn with_command(o: Output, n: Effect, timer: Timer, k: Command) -> Output
     ensures { result ≡ with_command o n timer k }
 {
@@ -82,6 +85,7 @@ pub fn with_command(o: Output, n: Effect, timer: Timer, k: Command) -> Output
 }
 
 // A property written.
+#[tactic(auto, using(lighting_levels::proofs::Choosing::ifs), unfolding(lighting_outputs::specs::Paper::Record::with_settings))]
 pub fn with_settings(
     o: Output,
     settings: Settings,

@@ -14,6 +14,7 @@ use lighting_outputs::Relay;
 use number_ranges::is_within;
 
 // Binary_Present_Value where Present_Value is v: between the two values it is as it was.
+#[tactic(auto, using(lighting_levels::proofs::Choosing::ifs), unfolding(lighting_outputs::specs::Paper::Relay::binary_at))]
 fn binary_at(v: u32, relay: Relay) -> bool
     ensures { result ≡ binary_at v relay }
 {
@@ -27,6 +28,7 @@ fn binary_at(v: u32, relay: Relay) -> bool
 }
 
 // The relay judged.
+#[tactic(auto, unfolding(lighting_outputs::specs::Paper::Relay::switched))]
 pub fn switch(v: u32, relay: Relay) -> Relay
     ensures { result ≡ switched v relay }
 {
@@ -39,6 +41,7 @@ pub fn switch(v: u32, relay: Relay) -> Relay
 }
 
 // Its state: Binary_Present_Value, or its opposite under reverse.
+#[tactic(auto, using(lighting_levels::proofs::Choosing::ifs), unfolding(lighting_outputs::specs::Paper::Relay::relay_state))]
 pub fn relay_state(relay: Relay) -> bool
     ensures { result ≡ relay_state relay }
 {
@@ -50,6 +53,7 @@ pub fn relay_state(relay: Relay) -> bool
 }
 
 // 'the inactive value not below the active one', which is 16.
+#[tactic(auto, using(lighting_levels::proofs::Choosing::ifs), unfolding(lighting_outputs::specs::Paper::Relay::inactive_not_below))]
 pub fn inactive_not_below(relay: Relay) -> bool
     ensures { result ≡ inactive_not_below relay }
 {
@@ -59,6 +63,7 @@ pub fn inactive_not_below(relay: Relay) -> bool
 // ---- the rules on it, where Present_Value is v
 
 // 0, or from 1 percent on: of a value that is below a level.
+#[tactic(auto, using(lighting_levels::proofs::Choosing::ifs))]
 fn is_low_level(inactive: u32) -> bool
     ensures { result ≡ (if eqb inactive 0 then true else leb least_level inactive) }
 {
@@ -71,6 +76,7 @@ fn is_low_level(inactive: u32) -> bool
 
 // Binary_Present_Value is as judging leaves it: where active, Present_Value is above the inactive value;
 // where inactive, below the active one.
+#[tactic(auto, using(lighting_levels::proofs::Choosing::ifs))]
 fn is_judged(v: u32, relay: Relay) -> bool
     ensures { result ≡ (if relay.binary then ltb relay.inactive v else ltb v relay.active) }
 {
@@ -85,6 +91,7 @@ fn is_judged(v: u32, relay: Relay) -> bool
 // definition (proofs/Fewer.antt): where the inactive value is below the active one, the active one is above
 // 0, and the inactive one below 100 percent if the active one is at most that. No number of the set of
 // parameters plays a part.
+#[tactic(auto, using(crate::proofs::Fewer::fewer, lighting_levels::proofs::Choosing::ifs))]
 pub fn relay_sound(v: u32, relay: Relay) -> bool
     ensures { (p : Parameters) → result ≡ relay_sound p v relay }
 {

@@ -13,6 +13,7 @@ use number_ranges::wide_index;
 // ---- settings
 
 // Each meets the row of its property, and Min is at most Max.
+#[tactic(auto, using(lighting_levels::proofs::Choosing::ifs), unfolding(lighting_outputs::specs::Paper::Rules::levels_sound))]
 fn levels_sound(parameters: Parameters, c: Settings) -> bool
     ensures { result ≡ levels_sound parameters c }
 {
@@ -31,6 +32,8 @@ fn levels_sound(parameters: Parameters, c: Settings) -> bool
     }
 }
 
+#[tactic(auto, using(lighting_levels::proofs::Choosing::ifs), unfolding(lighting_outputs::specs::Paper::Rules::times_sound))]
+
 fn times_sound(parameters: Parameters, c: Settings) -> bool
     ensures { result ≡ times_sound parameters c }
 {
@@ -45,6 +48,8 @@ fn times_sound(parameters: Parameters, c: Settings) -> bool
     }
 }
 
+#[tactic(auto, using(lighting_levels::proofs::Choosing::ifs), unfolding(lighting_outputs::specs::Paper::Rules::reals_sound))]
+
 fn reals_sound(c: Settings) -> bool
     ensures { result ≡ reals_sound c }
 {
@@ -54,6 +59,8 @@ fn reals_sound(c: Settings) -> bool
         false
     }
 }
+
+#[tactic(auto, using(lighting_levels::proofs::Choosing::ifs), unfolding(lighting_outputs::specs::Paper::Rules::settings_sound))]
 
 fn settings_sound(parameters: Parameters, c: Settings) -> bool
     ensures { result ≡ settings_sound parameters c }
@@ -77,6 +84,7 @@ fn settings_sound(parameters: Parameters, c: Settings) -> bool
 
 // A live slot holds a level. The loop takes the lowest live slot away until none is left, over a copy of the
 // levels alone.
+#[tactic(auto, using(crate::proofs::LiveSlots::low_broken, crate::proofs::LiveSlots::low_done, crate::proofs::LiveSlots::low_within, crate::proofs::LiveSlots::none_live, crate::proofs::LiveSlots::slots_with))]
 fn live_sound(s: Slots) -> bool
     ensures { result ≡ slots_sound s }
 {
@@ -93,6 +101,7 @@ fn live_sound(s: Slots) -> bool
 }
 
 // Where no slot is live, the levels are not looked at.
+#[tactic(auto, using(crate::proofs::LiveSlots::none_live))]
 fn slots_sound(s: Slots) -> bool
     ensures { result ≡ slots_sound s }
 {
@@ -102,6 +111,7 @@ fn slots_sound(s: Slots) -> bool
 // ---- what is under way
 
 // v is Present_Value, which the relay's rule asks for too: it is looked up once.
+#[tactic(auto, unfolding(lighting_outputs::specs::Paper::Rules::activity_by))]
 fn activity_sound(parameters: Parameters, t: u64, high: u32, s: Slots, v: u32, a: Activity) -> bool
     ensures { result ≡ activity_by parameters t (is_live s slot6) (winner s) high v a }
 {
@@ -120,6 +130,7 @@ fn activity_sound(parameters: Parameters, t: u64, high: u32, s: Slots, v: u32, a
 
 // The rules on the slots come last: a test of levels copies them, and what was read before such a copy would
 // be kept on the stack beside it.
+#[tactic(auto, using(crate::proofs::Order::in_order, crate::proofs::Order::settings_first, lighting_levels::proofs::Choosing::ifs))]
 pub fn is_sound(parameters: Parameters, t: u64, o: Output) -> bool
     ensures { result ≡ sound parameters t o }
 {

@@ -9,11 +9,14 @@ ghost use Rattle.lighting_outputs.specs.Paper.Slots.{slot_count, winner, is_live
 use lighting_outputs::{NO_SLOT, SLOTS, Slots};
 
 // The lowest bit set, or 16 with no live slot.
+#[tactic(auto, using(lighting_outputs::proofs::Priorities::Mask::winner_zeros))]
 pub fn winning(s: Slots) -> u32
     ensures { result ≡ winner s }
 {
     u16::trailing_zeros(s.live)
 }
+
+#[tactic(auto, using(lighting_outputs::proofs::Priorities::Mask::dead_past, lighting_outputs::proofs::Priorities::Mask::tested), unfolding(lighting_outputs::specs::Paper::Slots::is_live))]
 
 pub fn is_live(s: Slots, i: u8) -> bool
     ensures { result ≡ is_live s i }
@@ -25,6 +28,8 @@ pub fn is_live(s: Slots, i: u8) -> bool
     }
 }
 
+#[tactic(auto, using(lighting_levels::proofs::Choosing::ifs, lighting_outputs::proofs::Priorities::Mask::shifted), unfolding(lighting_outputs::specs::Paper::Slots::mask_emptied))]
+
 fn mask_empty(live: u16, i: u8) -> u16
     ensures { result ≡ mask_emptied live i }
 {
@@ -35,6 +40,8 @@ fn mask_empty(live: u16, i: u8) -> u16
     }
 }
 
+#[tactic(auto, using(lighting_levels::proofs::Choosing::ifs, lighting_outputs::proofs::Priorities::Mask::shifted), unfolding(lighting_outputs::specs::Paper::Slots::mask_filled))]
+
 fn mask_fill(live: u16, i: u8) -> u16
     ensures { result ≡ mask_filled live i }
 {
@@ -44,6 +51,8 @@ fn mask_fill(live: u16, i: u8) -> u16
         live
     }
 }
+
+#[tactic(auto, using(lighting_levels::proofs::Choosing::ifs), unfolding(lighting_outputs::specs::Paper::Slots::level_set))]
 
 fn level_set(levels: [u32; SLOTS], i: u8, v: u32) -> [u32; SLOTS]
     ensures { result ≡ level_set levels i v }
@@ -56,6 +65,7 @@ fn level_set(levels: [u32; SLOTS], i: u8, v: u32) -> [u32; SLOTS]
 }
 
 // An emptied slot's level is 0, so that equal slots are equal records.
+#[tactic(auto, unfolding(lighting_outputs::specs::Paper::Slots::put))]
 pub fn empty(s: Slots, i: u8) -> Slots
     ensures { result ≡ emptied s i }
 {
@@ -65,6 +75,8 @@ pub fn empty(s: Slots, i: u8) -> Slots
         levels: level_set(levels, i, 0),
     }
 }
+
+#[tactic(auto, unfolding(lighting_outputs::specs::Paper::Slots::put))]
 
 pub fn fill(s: Slots, i: u8, v: u32) -> Slots
     ensures { result ≡ filled s i v }
@@ -87,6 +99,7 @@ fn level_of(s: Slots, i: u32) -> u32
 }
 
 // The level of slot i, or d where there is no such slot.
+#[tactic(auto, using(lighting_levels::proofs::Choosing::ifs), unfolding(lighting_outputs::specs::Paper::Slots::level_at))]
 pub fn level_at(d: u32, s: Slots, i: u32) -> u32
     ensures { result ≡ level_at d s i }
 {
@@ -98,6 +111,7 @@ pub fn level_at(d: u32, s: Slots, i: u32) -> u32
 }
 
 // The winner's level, or d with no live slot.
+#[tactic(auto, unfolding(lighting_outputs::specs::Paper::Slots::winning_level))]
 pub fn winning_level(d: u32, s: Slots) -> u32
     ensures { result ≡ winning_level d s }
 {

@@ -43,11 +43,15 @@ pub fn clamp(c: Settings, v: u64) -> u32
     }
 }
 
+#[tactic(auto, using(lighting_levels::proofs::Choosing::ifs), unfolding(lighting_outputs::specs::Paper::Value::clamp_lit))]
+
 pub fn clamp_lit(c: Settings, v: u32) -> u32
     ensures { result ≡ clamp_lit c v }
 {
     if v == 0 { 0 } else { clamp(c, v as u64) }
 }
+
+#[tactic(auto, unfolding(lighting_outputs::specs::Paper::Value::present_value))]
 
 pub fn present_value(c: Settings, s: Slots) -> u32
     ensures { result ≡ present_value c s }
@@ -72,6 +76,7 @@ fn elapsed(t: u64, m: Movement) -> u32
 }
 
 // An even share of the way d: k of l. The product has up to 64 bits, and the share is at most d.
+#[tactic(auto, using(lighting_levels::proofs::Product::below, lighting_outputs::proofs::Time::Way::share_most))]
 fn fade_distance(d: u32, l: u32, k: u32) -> u32
     requires { k ≤ l }
     ensures { result ≡ d * k / l }
@@ -84,11 +89,14 @@ fn fade_distance(d: u32, l: u32, k: u32) -> u32
 }
 
 // The way at a rate in units a second, k milliseconds long, stopping at d.
+#[tactic(auto, using(lighting_levels::proofs::Product::below))]
 fn ramp_distance(rate: u32, d: u32, k: u32) -> u32
     ensures { result ≡ min d (rate * k / 1000) }
 {
     at_most((rate as u64) * (k as u64) / 1000, d)
 }
+
+#[tactic(auto, using(lighting_levels::proofs::Choosing::ifs, lighting_outputs::proofs::Laws::distance_moved_on), unfolding(lighting_outputs::specs::Paper::Value::distance_moved))]
 
 fn distance_moved(p: Pace, d: u32, l: u32, k: u32) -> u32
     requires { k ≤ l }
@@ -99,6 +107,8 @@ fn distance_moved(p: Pace, d: u32, l: u32, k: u32) -> u32
         Pace::Ramp(rate) => ramp_distance(rate, d, k),
     }
 }
+
+#[tactic(auto, using(lighting_levels::proofs::Choosing::ifs, lighting_outputs::proofs::Time::Way::distance_moved_most), unfolding(lighting_outputs::specs::Paper::Value::reached_by))]
 
 fn reached_by(m: Movement, k: u32) -> u32
     requires { k ≤ m.length }
@@ -112,6 +122,8 @@ fn reached_by(m: Movement, k: u32) -> u32
     }
 }
 
+#[tactic(auto, unfolding(lighting_outputs::specs::Paper::Value::reached))]
+
 fn reached(t: u64, m: Movement) -> u32
     ensures { result ≡ reached t m }
 {
@@ -119,6 +131,8 @@ fn reached(t: u64, m: Movement) -> u32
 }
 
 // ---- Progress_Value and In_Process
+
+#[tactic(auto, using(lighting_levels::proofs::Choosing::ifs, lighting_outputs::proofs::Laws::progress_by_on), unfolding(lighting_outputs::specs::Paper::Value::progress_by))]
 
 fn progress_by(t: u64, v: u32, a: Activity) -> u32
     ensures { result ≡ progress_by t v a }
@@ -130,6 +144,8 @@ fn progress_by(t: u64, v: u32, a: Activity) -> u32
     }
 }
 
+#[tactic(auto, unfolding(lighting_outputs::specs::Paper::Value::progress_value))]
+
 pub fn progress_value(t: u64, o: Output) -> u32
     ensures { result ≡ progress_value t o }
 {
@@ -140,11 +156,14 @@ pub fn progress_value(t: u64, o: Output) -> u32
 }
 
 // Whether the lamp gives light.
+#[tactic(auto, unfolding(lighting_outputs::specs::Paper::Value::lit))]
 pub fn is_lit(t: u64, o: Output) -> bool
     ensures { result ≡ lit t o }
 {
     0 < progress_value(t, o)
 }
+
+#[tactic(auto, using(lighting_levels::proofs::Choosing::ifs, lighting_outputs::proofs::Laws::in_process_on), unfolding(lighting_outputs::specs::Paper::Value::in_process))]
 
 pub fn in_process(a: Activity) -> u32
     ensures { result ≡ in_process a }

@@ -12,6 +12,7 @@ use lighting_outputs::{Phase, SLOT_6, SLOTS, Settings, Slots, Warning};
 // ---- whether it starts
 
 // A slot is 'zero or empty'.
+#[tactic(auto, using(lighting_levels::proofs::Choosing::ifs), unfolding(lighting_outputs::specs::Paper::Writing::zero_or_empty))]
 fn is_zero_or_empty(s: Slots, i: usize) -> bool
     requires { i < slot_count }
     ensures { result ≡ zero_or_empty s i }
@@ -22,6 +23,8 @@ fn is_zero_or_empty(s: Slots, i: usize) -> bool
         true
     }
 }
+
+#[tactic(auto, using(lighting_levels::proofs::Scan::scan_done, lighting_levels::proofs::Scan::scan_off, lighting_levels::proofs::Scan::scan_on), unfolding(lighting_outputs::specs::Paper::Writing::zero_or_empty_from))]
 
 fn zero_or_empty_from(s: Slots, from: usize) -> bool
     ensures { result ≡ zero_or_empty_from s from }
@@ -39,6 +42,7 @@ fn zero_or_empty_from(s: Slots, from: usize) -> bool
 
 // 'if Blink_Enable is 1, Blink_Time B plus delay D is above 0'. The sum is made in 64 bits, for a lent record
 // holds any B and D.
+#[tactic(auto, using(lighting_levels::proofs::Choosing::ifs), unfolding(lighting_outputs::specs::Paper::Writing::blinks))]
 fn does_blink(c: Settings) -> bool
     ensures { result ≡ blinks c }
 {
@@ -50,6 +54,7 @@ fn does_blink(c: Settings) -> bool
 }
 
 // 'Relinquish_Default and slots X + 1 to 16 are zero or empty'.
+#[tactic(auto, using(lighting_levels::proofs::Choosing::ifs), unfolding(lighting_outputs::specs::Paper::Writing::zero_or_empty_above))]
 fn zero_or_empty_above(c: Settings, s: Slots, x: u8) -> bool
     ensures { result ≡ zero_or_empty_above c s x }
 {
@@ -62,6 +67,7 @@ fn zero_or_empty_above(c: Settings, s: Slots, x: u8) -> bool
 
 // `w` is the winner, `y` Present_Value. 'slots 1 to X - 1 are empty': the winner is no lower than x. The
 // cheap tests come first.
+#[tactic(auto, using(lighting_levels::proofs::Choosing::ifs), unfolding(lighting_outputs::specs::Paper::Writing::warns_by))]
 fn warns_by(c: Settings, s: Slots, x: u8, w: u32, y: u32) -> bool
     ensures { result ≡ warns_by c s x w y }
 {
@@ -84,6 +90,8 @@ fn warns_by(c: Settings, s: Slots, x: u8, w: u32, y: u32) -> bool
     }
 }
 
+#[tactic(auto, unfolding(lighting_outputs::specs::Paper::Writing::warns))]
+
 pub fn does_warn(c: Settings, s: Slots, x: u8) -> bool
     ensures { result ≡ warns c s x }
 {
@@ -99,11 +107,14 @@ pub fn does_warn(c: Settings, s: Slots, x: u8) -> bool
 // ---- how it starts
 
 // What slot 6 holds first: with no Blink_Time it holds the old level `y` at once.
+#[tactic(auto, using(lighting_levels::proofs::Choosing::ifs), unfolding(lighting_outputs::specs::Paper::Writing::first_level))]
 pub fn first_level(c: Settings, y: u32) -> u32
     ensures { result ≡ first_level c y }
 {
     if c.blink == 0 { y } else { 0 }
 }
+
+#[tactic(auto, using(lighting_levels::proofs::Choosing::ifs), unfolding(lighting_outputs::specs::Paper::Writing::first_phase))]
 
 fn first_phase(c: Settings) -> Phase
     ensures { result ≡ first_phase c }
@@ -116,6 +127,7 @@ fn first_phase(c: Settings) -> Phase
 }
 
 // 'B, D and Y are those of the start': the phases' moments are made here, once.
+#[tactic(auto, unfolding(lighting_outputs::specs::Paper::Writing::warning_from))]
 pub fn warning_from(t: u64, c: Settings, x: u8, y: u32) -> Warning
     requires { t < 2 ^ 48 }
     ensures { result ≡ warning_from t c x y }

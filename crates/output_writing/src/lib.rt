@@ -13,6 +13,7 @@ use output_record::with_effect;
 
 // 'A movement goes on if P is above its owner's number [..]; else it ends': a write at the owner's own number
 // ends it too.
+#[tactic(auto, using(lighting_levels::proofs::Choosing::ifs, lighting_outputs::proofs::Laws::end_movement_unless_above_on), unfolding(lighting_outputs::specs::Paper::Writing::end_movement_unless_above))]
 fn end_movement_unless_above(i: u8, a: Activity) -> Activity
     ensures { result ≡ end_movement_unless_above i a }
 {
@@ -22,6 +23,8 @@ fn end_movement_unless_above(i: u8, a: Activity) -> Activity
         Activity::Warned(_) => a,
     }
 }
+
+#[tactic(auto, unfolding(lighting_outputs::specs::Paper::Writing::stored))]
 
 fn store(o: Output, i: u8, v: u32) -> Output
     ensures { result ≡ stored o i v }
@@ -36,6 +39,8 @@ fn store(o: Output, i: u8, v: u32) -> Output
 }
 
 // ---- a warning starts
+
+#[tactic(auto, unfolding(lighting_outputs::specs::Paper::Writing::warned_by))]
 
 fn warn_by(t: u64, o: Output, x: u8, y: u32) -> Output
     requires { t < 2 ^ 48 }
@@ -55,6 +60,7 @@ fn warn_by(t: u64, o: Output, x: u8, y: u32) -> Output
 }
 
 // Y is Present_Value before the write.
+#[tactic(auto, unfolding(lighting_outputs::specs::Paper::Writing::warned))]
 fn warn(t: u64, o: Output, x: u8) -> Output
     requires { t < 2 ^ 48 }
     ensures { result ≡ warned t o x }
@@ -66,6 +72,8 @@ fn warn(t: u64, o: Output, x: u8) -> Output
 
 // ---- during a warning
 
+#[tactic(auto, unfolding(lighting_outputs::specs::Paper::Writing::ended_empty))]
+
 fn end_empty(o: Output, i: u8) -> Output
     ensures { result ≡ ended_empty o i }
 {
@@ -76,6 +84,8 @@ fn end_empty(o: Output, i: u8) -> Output
         Activity::Still,
     )
 }
+
+#[tactic(auto, unfolding(lighting_outputs::specs::Paper::Writing::ended_stored))]
 
 fn end_store(o: Output, i: u8, v: u32) -> Output
     ensures { result ≡ ended_stored o i v }
@@ -89,6 +99,7 @@ fn end_store(o: Output, i: u8, v: u32) -> Output
 }
 
 // 'kind 02 of zero at P above 6 empties slots 6 and P'; any other empties slot 6 and stores.
+#[tactic(auto, using(lighting_levels::proofs::Choosing::ifs), unfolding(lighting_outputs::specs::Paper::Writing::written_warned))]
 fn write_warned(o: Output, i: u8, v: u32) -> Output
     ensures { result ≡ written_warned o i v }
 {
@@ -105,6 +116,8 @@ fn write_warned(o: Output, i: u8, v: u32) -> Output
 
 // ---- kind 02
 
+#[tactic(auto, using(lighting_levels::proofs::Choosing::ifs), unfolding(lighting_outputs::specs::Paper::Writing::written_zero))]
+
 fn write_zero(t: u64, o: Output, i: u8) -> Output
     requires { t < 2 ^ 48 }
     ensures { result ≡ written_zero t o i }
@@ -118,6 +131,8 @@ fn write_zero(t: u64, o: Output, i: u8) -> Output
     }
 }
 
+#[tactic(auto, using(lighting_levels::proofs::Choosing::ifs), unfolding(lighting_outputs::specs::Paper::Writing::written_calm))]
+
 fn write_calm(t: u64, o: Output, i: u8, v: u32) -> Output
     requires { t < 2 ^ 48 }
     ensures { result ≡ written_calm t o i v }
@@ -128,6 +143,8 @@ fn write_calm(t: u64, o: Output, i: u8, v: u32) -> Output
         store(o, i, v)
     }
 }
+
+#[tactic(auto, using(lighting_levels::proofs::Choosing::ifs, lighting_outputs::proofs::Laws::written_by_on), unfolding(lighting_outputs::specs::Paper::Writing::written_by))]
 
 fn write_by(t: u64, o: Output, i: u8, v: u32, a: Activity) -> Output
     requires { t < 2 ^ 48 }
@@ -140,6 +157,8 @@ fn write_by(t: u64, o: Output, i: u8, v: u32, a: Activity) -> Output
     }
 }
 
+#[tactic(auto, unfolding(lighting_outputs::specs::Paper::Writing::written))]
+
 pub fn write(t: u64, o: Output, i: u8, v: u32) -> Output
     requires { t < 2 ^ 48 }
     ensures { result ≡ written t o i v }
@@ -151,6 +170,7 @@ pub fn write(t: u64, o: Output, i: u8, v: u32) -> Output
 // ---- kind 03
 
 // A movement goes on also 'if kind 03 empties an empty slot'; 'kind 03 leaves [a warning] running'.
+#[tactic(auto, using(lighting_levels::proofs::Choosing::ifs), unfolding(lighting_outputs::specs::Paper::Writing::activity_relinquished))]
 fn relinquish_activity(live: bool, i: u8, a: Activity) -> Activity
     ensures { result ≡ activity_relinquished live i a }
 {
@@ -160,6 +180,8 @@ fn relinquish_activity(live: bool, i: u8, a: Activity) -> Activity
         a
     }
 }
+
+#[tactic(auto, unfolding(lighting_outputs::specs::Paper::Writing::slot_relinquished))]
 
 pub fn relinquish_slot(o: Output, i: u8) -> Output
     ensures { result ≡ slot_relinquished o i }

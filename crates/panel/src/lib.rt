@@ -14,6 +14,7 @@ use lighting_outputs::{Answer, Output, Parameters};
 use lighting_panel::PanelRecord;
 
 // A first arrival: the panel goes to its time and acts, and the station keeps number, frame and answer.
+#[tactic(auto, unfolding(lighting_panel::specs::Engine::Executing::execute))]
 fn arrive(
     outputs: &mut [Output],
     stations: &mut [Station],
@@ -47,6 +48,7 @@ fn arrive(
 }
 
 // Refusals 2 to 8 and copies leave everything. A clock brings every output to its time.
+#[tactic(auto, unfolding(lighting_panel::specs::Engine::Executing::execute))]
 fn execute(
     outputs: &mut [Output],
     stations: &mut [Station],
@@ -75,6 +77,7 @@ fn execute(
 
 // Writes every lent record fresh, keeps the set and the marks and answers Done; or meets 17 by the set, or 1
 // by its counts. No mark is refused.
+#[tactic(auto, using(lighting_panel::proofs::Carried::start_step_done, lighting_panel::proofs::Carried::start_step_outside, lighting_panel::proofs::Carried::start_step_refused))]
 pub fn start(
     outputs: &mut [Output],
     stations: &mut [Station],
@@ -98,6 +101,7 @@ pub fn start(
 }
 
 // Takes one string of bytes: judges it by the kept set and its station's record, and carries the verdict out.
+#[tactic(auto, using(lighting_panel::proofs::Carried::all_stay, lighting_panel::proofs::Carried::decide_sure, lighting_panel::proofs::Carried::frame_step_execute, lighting_panel::proofs::Carried::frame_step_refused, lighting_panel::proofs::Carried::octets, lighting_panel::proofs::Carried::sound_outputs, lighting_panel::proofs::Carried::sound_startable, lighting_panel::proofs::Carried::sound_stations))]
 pub fn frame(
     outputs: &mut [Output],
     stations: &mut [Station],

@@ -16,6 +16,8 @@ use lighting_panel::PanelRecord;
 
 // ---- refusal 1
 
+#[tactic(auto, using(crate::proofs::Loops::every_all, crate::proofs::Loops::every_more, crate::proofs::Loops::every_stop))]
+
 fn outputs_sound(outputs: &[Output], parameters: Parameters, t: u64) -> bool
     ensures { result ≡ every (sound parameters t) outputs.now }
 {
@@ -29,6 +31,8 @@ fn outputs_sound(outputs: &[Output], parameters: Parameters, t: u64) -> bool
     }
     true
 }
+
+#[tactic(auto, using(crate::proofs::Loops::every_all, crate::proofs::Loops::every_more, crate::proofs::Loops::every_stop))]
 
 fn stations_sound(stations: &[Station]) -> bool
     ensures { result ≡ every station_sound stations.now }
@@ -45,6 +49,7 @@ fn stations_sound(stations: &[Station]) -> bool
 }
 
 // Refusal 1: the kept set, then by it the counts, then each record.
+#[tactic(auto, using(lighting_levels::proofs::Choosing::ifs), unfolding(lighting_panel::specs::Paper::Panel::panel_sound, lighting_panel::specs::Paper::Panel::rules_kept))]
 pub fn panel_sound(outputs: &[Output], stations: &[Station], kept: PanelRecord) -> bool
     ensures { result ≡ panel_sound (panel_of outputs.now stations.now kept) }
 {
@@ -64,6 +69,7 @@ pub fn panel_sound(outputs: &[Output], stations: &[Station], kept: PanelRecord) 
 // ---- the verdict
 
 // What is to be done with the bytes, by the record of the station that they name.
+#[tactic(auto, using(lighting_panel::proofs::Carried::octets, lighting_panel::proofs::Carried::station_found), unfolding(lighting_panel::specs::Engine::Judging::decide))]
 pub fn decide(outputs: &[Output], stations: &[Station], kept: PanelRecord, bytes: &[u8]) -> Verdict
     requires parameters_value { startable kept.parameters ≡ true }
     requires stations_len { length stations.now ≡ kept.parameters.stations }

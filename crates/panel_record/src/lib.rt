@@ -28,6 +28,7 @@ pub fn four_hours(outputs: u32) -> Parameters
 }
 
 // Whether a panel may be started with the set, and may keep it: the one test.
+#[tactic(auto, using(lighting_levels::proofs::Choosing::ifs), unfolding(lighting_outputs::specs::Paper::Startable::startable))]
 pub fn is_startable(parameters: Parameters) -> bool
     ensures { result ≡ startable parameters }
 {

@@ -15,6 +15,8 @@ use lighting_outputs::{Answer, Output, OutputRequest, Parameters, Request};
 
 // ---- each record of a table
 
+#[tactic(auto, using(crate::proofs::Loops::mapped, crate::proofs::Loops::mapped_alike, crate::proofs::Loops::mapped_more))]
+
 pub fn fresh_outputs(outputs: &mut [Output], parameters: Parameters)
     ensures { outputs.new ≡ replicate (length outputs.old) (fresh_for parameters) }
 {
@@ -25,6 +27,8 @@ pub fn fresh_outputs(outputs: &mut [Output], parameters: Parameters)
         i += 1;
     }
 }
+
+#[tactic(auto, using(crate::proofs::Loops::mapped, crate::proofs::Loops::mapped_alike, crate::proofs::Loops::mapped_more))]
 
 pub fn fresh_stations(stations: &mut [Station])
     ensures { stations.new ≡ replicate (length stations.old) fresh_station }
@@ -51,6 +55,7 @@ fn step_output(outputs: &mut [Output], i: usize, from: u64, to: u64)
 
 // Brings one output to a moment. Where nothing falls due on the way, only its burning time changes: by the
 // movement, or by Present_Value alone.
+#[tactic(auto, using(lighting_outputs::proofs::Time::Quiet::advance_later, lighting_outputs::proofs::Time::Quiet::stretch_moving, lighting_outputs::proofs::Time::Quiet::stretch_resting))]
 fn advance_output(outputs: &mut [Output], i: usize, from: u64, to: u64)
     requires { i < length outputs.old }
     ensures { outputs.new ≡ set outputs.old i (advance from to (get_or outputs.old i fresh_output)) }
@@ -74,6 +79,7 @@ fn advance_output(outputs: &mut [Output], i: usize, from: u64, to: u64)
 }
 
 // Brings every output to a moment. While time stands nothing falls due, and no record is written.
+#[tactic(auto, using(crate::proofs::Loops::mapped, crate::proofs::Loops::mapped_all, crate::proofs::Loops::mapped_more))]
 pub fn advance_outputs(outputs: &mut [Output], from: u64, to: u64)
     requires standing { Standing from outputs.old }
     requires from_le_to { from ≤ to }
@@ -92,6 +98,7 @@ pub fn advance_outputs(outputs: &mut [Output], from: u64, to: u64)
 // ---- one record of a table
 
 // A request to one output: the output is taken out, acted on, and put back.
+#[tactic(auto, unfolding(lighting_outputs::specs::Paper::Acting::served))]
 fn serve_output(
     outputs: &mut [Output],
     tenant: bool,
@@ -112,6 +119,7 @@ fn serve_output(
 }
 
 // Any request, of a tenant or of a service station: one that its fields refuse touches no output.
+#[tactic(auto, unfolding(lighting_outputs::specs::Paper::Acting::served))]
 pub fn serve(outputs: &mut [Output], tenant: bool, time: u64, at: usize, request: Request) -> Answer
     requires time_bound { time < 2 ^ 48 }
     requires at_in_bounds { at < length outputs.old }

@@ -8,6 +8,8 @@ ghost use Rattle.lighting_outputs.specs.Paper.Properties.{level_answer, slot_ans
 
 use lighting_outputs::{Answer, Duration, Output, Property, RealField, Slots, TimeField};
 
+#[tactic(auto, unfolding(lighting_outputs::specs::Paper::Properties::level_answer))]
+
 fn level_answer(v: u32) -> Answer
     ensures { result ≡ level_answer v }
 {
@@ -15,6 +17,7 @@ fn level_answer(v: u32) -> Answer
 }
 
 // A level that a tenant reads in whole percent.
+#[tactic(auto, unfolding(lighting_outputs::specs::Paper::Properties::level_answer))]
 fn shown_answer(tenant: bool, v: u32) -> Answer
     ensures { result ≡ level_answer (shown_level tenant v) }
 {
@@ -22,6 +25,7 @@ fn shown_answer(tenant: bool, v: u32) -> Answer
 }
 
 // A slot that is not live is absent.
+#[tactic(auto, using(lighting_outputs::proofs::Priorities::Mask::slot_dead, lighting_outputs::proofs::Priorities::Mask::slot_live), unfolding(lighting_outputs::specs::Paper::Properties::level_or_absent, lighting_outputs::specs::Paper::Properties::slot_answer))]
 fn slot_answer(s: Slots, i: u8) -> Answer
     ensures { result ≡ slot_answer s i }
 {
@@ -33,6 +37,7 @@ fn slot_answer(s: Slots, i: u8) -> Answer
 }
 
 // To a tenant slots 1 to 6 are absent, live or not.
+#[tactic(auto, using(lighting_levels::proofs::Choosing::ifs))]
 fn unhidden_answer(tenant: bool, s: Slots, i: u8) -> Answer
     ensures { result ≡ (if hidden tenant i then Answer.Absent else slot_answer s i) }
 {
@@ -42,6 +47,8 @@ fn unhidden_answer(tenant: bool, s: Slots, i: u8) -> Answer
         slot_answer(s, i)
     }
 }
+
+#[tactic(auto, using(lighting_levels::proofs::Choosing::ifs), unfolding(lighting_outputs::specs::Paper::Properties::flag))]
 
 fn flag(b: bool) -> u32
     ensures { result ≡ flag b }
@@ -57,6 +64,7 @@ fn priority(slot: u8) -> u32
 }
 
 // 'Elapsed_Active_Time reads floor(burning / 1,000), at most 4,294,967,295'.
+#[tactic(auto, using(lighting_levels::proofs::Choosing::ifs), unfolding(lighting_outputs::specs::Paper::Properties::elapsed_active))]
 fn elapsed_active(burning: u64) -> u32
     ensures { result ≡ elapsed_active burning }
 {
@@ -68,6 +76,8 @@ fn elapsed_active(burning: u64) -> u32
     }
 }
 
+#[tactic(auto, unfolding(lighting_outputs::specs::Paper::Properties::real_answer))]
+
 fn real_answer(x: f32) -> Answer
     ensures { result ≡ real_answer x }
 {
@@ -76,6 +86,7 @@ fn real_answer(x: f32) -> Answer
 
 // A field of the last command: absent where its operation has none, also where a setting was used in its
 // place.
+#[tactic(auto, using(lighting_levels::proofs::Choosing::ifs, lighting_outputs::proofs::Laws::real_field_answer_on), unfolding(lighting_outputs::specs::Paper::Properties::real_field_answer))]
 fn real_field_answer(x: RealField) -> Answer
     ensures { result ≡ real_field_answer x }
 {
@@ -85,6 +96,8 @@ fn real_field_answer(x: RealField) -> Answer
     }
 }
 
+#[tactic(auto, using(lighting_levels::proofs::Choosing::ifs, lighting_outputs::proofs::Laws::time_field_answer_on), unfolding(lighting_outputs::specs::Paper::Properties::time_field_answer))]
+
 fn time_field_answer(x: TimeField) -> Answer
     ensures { result ≡ time_field_answer x }
 {
@@ -93,6 +106,8 @@ fn time_field_answer(x: TimeField) -> Answer
         TimeField::NoTime => Answer::Absent,
     }
 }
+
+#[tactic(auto, using(lighting_levels::proofs::Choosing::ifs, lighting_outputs::proofs::Laws::last_duration_on), unfolding(lighting_outputs::specs::Paper::Properties::last_duration))]
 
 fn last_duration(d: Duration) -> Answer
     ensures { result ≡ last_duration d }
@@ -105,6 +120,7 @@ fn last_duration(d: Duration) -> Answer
 }
 
 // Kind 05, a read: what a property reads as at the time t, to a tenant or to a service station (§8).
+#[tactic(auto, using(lighting_outputs::proofs::Laws::read_property_on), unfolding(lighting_outputs::specs::Paper::Properties::read_property))]
 pub fn read_property(tenant: bool, t: u64, o: Output, p: Property) -> Answer
     ensures { result ≡ read_property tenant t o p }
 {

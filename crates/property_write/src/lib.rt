@@ -12,6 +12,7 @@ use lighting_outputs::{Parameters, Property, Request};
 use number_ranges::rows;
 
 // By its number. 21 to 30 are slots 1 to 16, counted from 0 here.
+#[tactic(auto, using(crate::proofs::Keys::property_of_above, crate::proofs::Keys::property_of_none, crate::proofs::Keys::property_of_on, crate::proofs::Keys::property_of_slot), unfolding(lighting_outputs::specs::Paper::Properties::numbered, lighting_outputs::specs::Paper::Properties::property_of))]
 pub fn property_of(n: u8) -> Property
     ensures { result ≡ property_of n }
 {
@@ -48,6 +49,7 @@ pub fn property_of(n: u8) -> Property
 }
 
 // And each property's number. A slot's is wider than a byte for what stands for no slot.
+#[tactic(auto, using(lighting_levels::proofs::Choosing::ifs, lighting_outputs::proofs::Laws::number_of_on))]
 pub fn number_of(p: Property) -> u32
     ensures { result ≡ number_of p }
 {
@@ -82,6 +84,8 @@ pub fn number_of(p: Property) -> u32
     }
 }
 
+#[tactic(auto, unfolding(lighting_outputs::specs::Paper::Properties::same))]
+
 pub fn is_same(n: Property, m: Property) -> bool
     ensures { result ≡ same n m }
 {
@@ -89,6 +93,7 @@ pub fn is_same(n: Property, m: Property) -> bool
 }
 
 // Kind 04, a write, by the property's row and the value's 32 bits.
+#[tactic(auto, unfolding(lighting_outputs::specs::Paper::Properties::change_of))]
 pub fn change_of(parameters: Parameters, p: Property, x: u32) -> Request
     ensures { result ≡ change_of parameters p x }
 {

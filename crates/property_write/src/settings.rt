@@ -10,11 +10,15 @@ use lighting_outputs::{Activity, Output, Property, Relay, Settings};
 
 // ---- a field of the property `field`: the new value if this is the one that is written, else as it was
 
+#[tactic(auto, using(lighting_levels::proofs::Choosing::ifs))]
+
 fn number_with(field: Property, n: Property, v: u32, was: u32) -> u32
     ensures { result ≡ (if same field n then v else was) }
 {
     if is_same(field, n) { v } else { was }
 }
+
+#[tactic(auto, using(lighting_levels::proofs::Choosing::ifs))]
 
 fn real_with(field: Property, n: Property, v: u32, was: f32) -> f32
     ensures { result ≡ (if same field n then real v else was) }
@@ -26,11 +30,15 @@ fn real_with(field: Property, n: Property, v: u32, was: f32) -> f32
     }
 }
 
+#[tactic(auto, using(lighting_levels::proofs::Choosing::ifs))]
+
 fn flag_with(field: Property, n: Property, v: u32, was: bool) -> bool
     ensures { result ≡ (if same field n then eqb v 1 else was) }
 {
     if is_same(field, n) { v == 1 } else { was }
 }
+
+#[tactic(auto, using(lighting_levels::proofs::Choosing::ifs))]
 
 fn slot_with(field: Property, n: Property, v: u32, was: u8) -> u8
     ensures { result ≡ (if same field n then v % 256 else was) }
@@ -41,6 +49,8 @@ fn slot_with(field: Property, n: Property, v: u32, was: u8) -> u8
         was
     }
 }
+
+#[tactic(auto, unfolding(lighting_outputs::specs::Paper::Properties::settings_with))]
 
 pub fn settings_with(c: Settings, n: Property, v: u32) -> Settings
     ensures { result ≡ settings_with c n v }
@@ -60,6 +70,7 @@ pub fn settings_with(c: Settings, n: Property, v: u32) -> Settings
 }
 
 // And the settings of the relay. Its Binary_Present_Value is never written.
+#[tactic(auto, unfolding(lighting_outputs::specs::Paper::Properties::relay_with))]
 pub fn relay_with(relay: Relay, n: Property, v: u32) -> Relay
     ensures { result ≡ relay_with relay n v }
 {
@@ -72,6 +83,7 @@ pub fn relay_with(relay: Relay, n: Property, v: u32) -> Relay
 }
 
 // An end to a movement, and to nothing else.
+#[tactic(auto, using(lighting_levels::proofs::Choosing::ifs, lighting_outputs::proofs::Laws::end_movement_on), unfolding(lighting_outputs::specs::Paper::Properties::end_movement))]
 pub fn end_movement(a: Activity) -> Activity
     ensures { result ≡ end_movement a }
 {
@@ -83,6 +95,7 @@ pub fn end_movement(a: Activity) -> Activity
 }
 
 // 'Writing 08 or 09 ends the movement'.
+#[tactic(auto, using(lighting_levels::proofs::Choosing::ifs), unfolding(lighting_outputs::specs::Paper::Properties::activity_with))]
 fn activity_with(a: Activity, n: Property) -> Activity
     ensures { result ≡ activity_with a n }
 {
@@ -96,6 +109,7 @@ fn activity_with(a: Activity, n: Property) -> Activity
 }
 
 // 0B written clears the burning time.
+#[tactic(auto, using(lighting_levels::proofs::Choosing::ifs), unfolding(lighting_outputs::specs::Paper::Properties::burning_with))]
 fn burning_with(b: u64, n: Property) -> u64
     ensures { result ≡ burning_with b n }
 {
@@ -107,6 +121,7 @@ fn burning_with(b: u64, n: Property) -> u64
 }
 
 // Slots, duration and last command stay.
+#[tactic(auto, unfolding(lighting_outputs::specs::Paper::Properties::changed))]
 pub fn change(o: Output, n: Property, v: u32) -> Output
     ensures { result ≡ changed o n v }
 {
@@ -123,6 +138,7 @@ pub fn change(o: Output, n: Property, v: u32) -> Output
 }
 
 // 'Min over Max', which is 13.
+#[tactic(auto, using(lighting_levels::proofs::Choosing::ifs), unfolding(lighting_outputs::specs::Paper::Properties::min_over_max))]
 pub fn min_over_max(c: Settings) -> bool
     ensures { result ≡ min_over_max c }
 {

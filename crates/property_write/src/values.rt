@@ -7,6 +7,8 @@ ghost use Rattle.lighting_outputs.specs.Paper.Properties.{change_to, change_by};
 use lighting_levels::Level;
 use lighting_outputs::{OutputRequest, Property, Range, Request};
 
+#[tactic(auto, using(lighting_levels::proofs::Choosing::ifs, lighting_outputs::proofs::Laws::change_to_on), unfolding(lighting_outputs::specs::Paper::Properties::change_to))]
+
 fn change_to(n: Property, v: Level) -> Request
     ensures { result ≡ change_to n v }
 {
@@ -15,6 +17,8 @@ fn change_to(n: Property, v: Level) -> Request
         Level::OutOfRange => Request::Refuse(11),
     }
 }
+
+#[tactic(auto, using(crate::proofs::Priorities::priority_range, lighting_levels::proofs::Choosing::ifs, lighting_outputs::proofs::Laws::change_by_on), unfolding(lighting_outputs::specs::Paper::Properties::change_by))]
 
 pub fn change_by(row: Range, n: Property, x: u32) -> Request
     ensures { result ≡ change_by row n x }
@@ -51,6 +55,7 @@ pub fn change_by(row: Range, n: Property, x: u32) -> Request
 }
 
 // A priority's slot.
+#[tactic(auto, using(crate::proofs::Priorities::priority_range))]
 pub fn slot_of(n: u32) -> u8
     requires { is_priority n ≡ true }
     ensures { result ≡ n - 1 }

@@ -24,6 +24,7 @@ pub struct Ended {
 }
 
 // The bytes go to the panel of the kept set: the first ones of those that the reader keeps.
+#[tactic(auto, using(crate::proofs::Ends::sent_by), unfolding(text_reading::specs::Reading::content))]
 fn answer(
     outputs: &mut [Output],
     stations: &mut [Station],
@@ -43,6 +44,8 @@ fn answer(
     let a = lent_parts::send(outputs, stations, kept, n, k, &bytes, r.count);
     text_printing::put_answer(page, mark, a)
 }
+
+#[tactic(auto, using(crate::proofs::Ends::ended, crate::proofs::Ends::started_by, text_printing::proofs::Pages::wrote_none), unfolding(crate::specs::Taking::taken_by))]
 
 pub fn take_line(
     outputs: &mut [Output],

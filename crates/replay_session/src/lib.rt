@@ -29,6 +29,7 @@ struct Turn {
 // ---- the list
 
 // The lines that end in these bytes are taken. A page that is full is written out on the way.
+#[tactic(auto, using(replay_line::proofs::Through::broke_off, replay_line::proofs::Through::line_open, replay_line::proofs::Through::text_over, replay_line::proofs::Through::went_on))]
 fn take_chunk(
     outputs: &mut [Output],
     stations: &mut [Station],
@@ -75,6 +76,7 @@ fn take_chunk(
 }
 
 // Reads once, and takes what came; nothing comes at the end of the input.
+#[tactic(auto, using(replay_line::proofs::Parts::went_none))]
 fn take_some(
     outputs: &mut [Output],
     stations: &mut [Station],
@@ -101,6 +103,7 @@ fn take_some(
 
 // All of it. A proved loop has to end, and nothing says that the input does: the turns are counted down from
 // a number that no run uses up.
+#[tactic(auto, using(replay_line::proofs::Parts::went_is, replay_line::proofs::Parts::went_none, replay_line::proofs::Parts::went_then))]
 fn take_all(
     outputs: &mut [Output],
     stations: &mut [Station],
@@ -185,6 +188,8 @@ fn end_list(
         t.mark
     }
 }
+
+#[tactic(auto, using(replay_line::proofs::Parts::replayed, replay_line::proofs::Parts::replayed_bad, replay_line::proofs::Parts::went_is))]
 
 fn replay(
     outputs: &mut [Output],

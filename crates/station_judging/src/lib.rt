@@ -14,6 +14,7 @@ use lighting_outputs::Parameters;
 // ---- the counts, and a station's record rule
 
 // As many output records and as many station records as the set has: else it is refusal 1.
+#[tactic(auto, using(lighting_levels::proofs::Choosing::ifs), unfolding(lighting_panel::specs::Paper::Panel::counts_sound))]
 pub fn counts_sound(parameters: Parameters, outputs: usize, stations: usize) -> bool
     ensures { result ≡ counts_sound parameters outputs stations }
 {
@@ -25,6 +26,7 @@ pub fn counts_sound(parameters: Parameters, outputs: usize, stations: usize) -> 
 }
 
 // A frame that is kept is a call's.
+#[tactic(auto, using(lighting_levels::proofs::Choosing::ifs), unfolding(lighting_frames::specs::Paper::Stations::station_sound, lighting_levels::specs::Paper::Field::byte_at))]
 pub fn station_sound(k: Station) -> bool
     ensures { result ≡ station_sound k }
 {
@@ -38,6 +40,7 @@ pub fn station_sound(k: Station) -> bool
 // ---- a frame judged by its station's record
 
 // The station's last number: the same bytes are a copy, which gets the last answer, and others refusal 6.
+#[tactic(auto, using(lighting_levels::proofs::Choosing::ifs), unfolding(lighting_frames::specs::Paper::Copies::retransmission_or_conflict))]
 fn retransmission_or_conflict(k: Station, b: &[u8]) -> Verdict
     ensures { result ≡ retransmission_or_conflict (same_bytes b.now (restored k.frame)) k.answer }
 {
@@ -51,6 +54,7 @@ fn retransmission_or_conflict(k: Station, b: &[u8]) -> Verdict
 }
 
 // The number is judged before the time: a late copy is a copy.
+#[tactic(auto, using(lighting_levels::proofs::Choosing::ifs), unfolding(lighting_panel::specs::Engine::Judging::judged_by_number))]
 fn judge_by_number(at: u64, k: Station, b: &[u8], call: Call) -> Verdict
     ensures { result ≡ judged_by_number at k (same_bytes b.now (restored k.frame)) call }
 {
@@ -66,6 +70,8 @@ fn judge_by_number(at: u64, k: Station, b: &[u8], call: Call) -> Verdict
     Verdict::Arrives(call)
 }
 
+#[tactic(auto, using(lighting_levels::proofs::Choosing::ifs, lighting_panel::proofs::Laws::station_of_on), unfolding(lighting_panel::specs::Engine::Judging::station_of))]
+
 pub fn station_of(f: Frame) -> u8
     ensures { result ≡ station_of f }
 {
@@ -77,6 +83,7 @@ pub fn station_of(f: Frame) -> u8
 }
 
 // What is to be done with the frame f of bytes b, whose station's record is k.
+#[tactic(auto, using(lighting_levels::proofs::Choosing::ifs, lighting_panel::proofs::Laws::judged_by_record_on), unfolding(lighting_panel::specs::Engine::Judging::judged_by_record, lighting_panel::specs::Engine::Judging::judged_by_station))]
 pub fn judge_by_station(at: u64, k: Station, b: &[u8], f: Frame) -> Verdict
     ensures { result ≡ judged_by_station at k b.now f }
 {

@@ -20,6 +20,7 @@ pub fn context_tag(number: u8, count: u8) -> u8
 }
 
 // 'Whole numbers use the fewest octets, 1 to 4'.
+#[tactic(auto, using(lighting_levels::proofs::Choosing::ifs), unfolding(lighting_frames::specs::Paper::Tags::fewest_octets))]
 pub fn fewest_octets(v: u32) -> u8
     ensures { result ≡ fewest_octets v }
 {
@@ -35,6 +36,7 @@ pub fn fewest_octets(v: u32) -> u8
 }
 
 // A REAL's four octets are its pattern.
+#[tactic(auto, using(lighting_frames::proofs::Laws::real_tag_on, lighting_levels::proofs::Choosing::ifs), unfolding(lighting_frames::specs::Paper::Tags::real_tag))]
 fn real_tag(x: RealField) -> TagField
     ensures { result ≡ real_tag x }
 {
@@ -46,6 +48,8 @@ fn real_tag(x: RealField) -> TagField
         RealField::NoReal => TagField::Missing,
     }
 }
+
+#[tactic(auto, using(lighting_frames::proofs::Laws::whole_tag_on, lighting_levels::proofs::Choosing::ifs), unfolding(lighting_frames::specs::Paper::Tags::whole_tag))]
 
 fn whole_tag(x: TimeField) -> TagField
     ensures { result ≡ whole_tag x }
@@ -60,6 +64,7 @@ fn whole_tag(x: TimeField) -> TagField
 }
 
 // How many bytes a field takes: its tag and its content.
+#[tactic(auto, using(lighting_frames::proofs::Laws::field_size_on), unfolding(lighting_frames::specs::Paper::Tags::field_size))]
 pub fn field_size(field: TagField) -> usize
     ensures { (result ≡ field_size field) × (result ≤ 256) }
 {
@@ -68,6 +73,8 @@ pub fn field_size(field: TagField) -> usize
         TagField::Missing => 0,
     }
 }
+
+#[tactic(auto, using(lighting_frames::proofs::Laws::held_by_on, lighting_levels::proofs::Choosing::ifs), unfolding(lighting_frames::specs::Paper::Tags::held_by))]
 
 pub fn held_by(field: TagField) -> u32
     ensures { result ≡ held_by field }
@@ -81,6 +88,7 @@ pub fn held_by(field: TagField) -> u32
 // ---- the fields of a command
 
 // An operation with its own fields, and a duration.
+#[tactic(auto, unfolding(lighting_frames::specs::Paper::Tags::tags_of))]
 pub fn tags_of(operation: Operation, duration: TimeField) -> TagFields
     ensures { result ≡ tags_of operation duration }
 {
@@ -103,6 +111,7 @@ pub fn tags_of(operation: Operation, duration: TimeField) -> TagFields
 }
 
 // An omitted duration is a missing field, and one that cancels is 0.
+#[tactic(auto, using(lighting_levels::proofs::Choosing::ifs, lighting_outputs::proofs::Laws::duration_field_on), unfolding(lighting_outputs::specs::Paper::Operations::duration_field))]
 fn duration_field(duration: Duration) -> TimeField
     ensures { result ≡ duration_field duration }
 {
@@ -112,6 +121,8 @@ fn duration_field(duration: Duration) -> TimeField
         Duration::Omitted => TimeField::NoTime,
     }
 }
+
+#[tactic(auto, unfolding(lighting_frames::specs::Paper::Tags::command_tags))]
 
 pub fn command_tags(k: Command) -> TagFields
     ensures { result ≡ command_tags k }

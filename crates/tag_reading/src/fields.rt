@@ -6,6 +6,7 @@ ghost use Rattle.lighting_frames.specs.Paper.Tags.{tag_octets, named, field_size
 use lighting_frames::{TagField, TagFields};
 
 // The number in the `count` octets behind a tag: of the four bytes there, with zeros past the end, the first.
+#[tactic(auto, using(crate::proofs::Looking::front), unfolding(lighting_levels::specs::Paper::Field::byte_at))]
 fn number_behind(left: &[u8], count: u8) -> u32
     requires { (1 ≤ count) × (count ≤ 4) }
     ensures { result ≡ big_endian count left.now 1 }
@@ -21,6 +22,7 @@ fn number_behind(left: &[u8], count: u8) -> u32
 
 // The field with this number at the head of what is left, of `least` to `most` octets: there if its tag is,
 // and no octet of it is missing.
+#[tactic(auto, using(crate::proofs::Looking::between, crate::proofs::Looking::cut_short, crate::proofs::Looking::elsewhere, crate::proofs::Looking::found))]
 fn field_in(number: u8, least: u8, most: u8, left: &[u8]) -> TagField
     requires { (number ≤ 5) × (1 ≤ least) × (least ≤ most) × (most ≤ 4) }
     ensures { result ≡ field_in number (record { least = least; most = most }) left.now }
@@ -50,6 +52,7 @@ fn behind(left: &[u8], field: TagField) -> &[u8]
 }
 
 // The operation in one octet, a REAL in four, a whole number in one to four.
+#[tactic(auto, unfolding(lighting_frames::specs::Paper::Tags::fields_from))]
 fn fields_in(left: &[u8]) -> TagFields
     ensures { result ≡ named (fields_from 0 tag_octets left.now) }
 {
@@ -81,6 +84,8 @@ fn content(body: &[u8]) -> &[u8]
     let length = number_ranges::index(frame_field::byte_at(body, 0));
     frame_field::first(frame_field::from_on(body, 1), length)
 }
+
+#[tactic(auto, unfolding(lighting_frames::specs::Paper::Tags::body_fields))]
 
 pub fn body_fields(body: &[u8]) -> TagFields
     ensures { result ≡ body_fields body.now }

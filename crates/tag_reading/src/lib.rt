@@ -13,6 +13,8 @@ use lighting_outputs::{Operation, TimeField};
 
 // ---- refusal 14
 
+#[tactic(auto, unfolding(lighting_frames::specs::Paper::Tags::sizes))]
+
 fn sizes_of(f: TagFields) -> usize
     ensures { result ≡ sizes (listed f) }
 {
@@ -31,6 +33,7 @@ fn sizes_of(f: TagFields) -> usize
 }
 
 // Each byte beyond the L.
+#[tactic(auto, using(crate::proofs::Judging::beyond, crate::proofs::Judging::is_zero, crate::proofs::Judging::zero_from, lighting_levels::proofs::Scan::scan_done, lighting_levels::proofs::Scan::scan_off, lighting_levels::proofs::Scan::scan_on), unfolding(crate::proofs::Judging::zero_from))]
 fn zero_beyond(body: &[u8]) -> bool
     ensures { result ≡ zero_beyond body.now }
 {
@@ -45,6 +48,8 @@ fn zero_beyond(body: &[u8]) -> bool
     true
 }
 
+#[tactic(auto, using(lighting_frames::proofs::Laws::holds_at_most_on, lighting_levels::proofs::Choosing::ifs), unfolding(lighting_frames::specs::Paper::Tags::holds_at_most))]
+
 fn holds_at_most(most: u32, field: TagField) -> bool
     ensures { result ≡ holds_at_most most field }
 {
@@ -56,6 +61,7 @@ fn holds_at_most(most: u32, field: TagField) -> bool
 
 // The fields, read once, come with the body. If they do not use up the L bytes, something between them is no
 // field in its place.
+#[tactic(auto, using(lighting_levels::proofs::Choosing::ifs), unfolding(lighting_frames::specs::Paper::Tags::well_tagged))]
 fn well_tagged(body: &[u8], f: TagFields) -> bool
     requires { f ≡ body_fields body.now }
     ensures { result ≡ well_tagged body.now }
@@ -79,6 +85,8 @@ fn well_tagged(body: &[u8], f: TagFields) -> bool
 
 // ---- the operation and the duration
 
+#[tactic(auto, unfolding(lighting_levels::specs::Paper::Level::real))]
+
 fn real_in(field: TagField) -> f32
     ensures { result ≡ real (held_by field) }
 {
@@ -86,6 +94,7 @@ fn real_in(field: TagField) -> f32
 }
 
 // By the number of tag 0. None that is taken is above 10.
+#[tactic(auto, using(crate::proofs::Judging::numbered, crate::proofs::Judging::unnumbered, lighting_levels::proofs::Keys::past_keys))]
 fn operation_of(f: TagFields) -> Operation
     ensures { result ≡ operation_of f }
 {
@@ -110,6 +119,8 @@ fn operation_of(f: TagFields) -> Operation
     }
 }
 
+#[tactic(auto, using(lighting_frames::proofs::Laws::time_of_on, lighting_levels::proofs::Choosing::ifs), unfolding(lighting_frames::specs::Paper::Tags::time_of))]
+
 fn time_of(field: TagField) -> TimeField
     ensures { result ≡ time_of field }
 {
@@ -120,6 +131,8 @@ fn time_of(field: TagField) -> TimeField
 }
 
 // ---- refusal 15
+
+#[tactic(auto, using(lighting_levels::proofs::Choosing::ifs), unfolding(lighting_frames::specs::Paper::Tags::both_or_neither))]
 
 fn both_or_neither(own: TagField, field: TagField) -> bool
     ensures { result ≡ both_or_neither own field }
@@ -136,6 +149,8 @@ fn both_or_neither(own: TagField, field: TagField) -> bool
     }
 }
 
+#[tactic(auto, using(lighting_frames::proofs::Laws::fewest_on), unfolding(lighting_frames::specs::Paper::Tags::fewest))]
+
 fn is_fewest(field: TagField) -> bool
     ensures { result ≡ fewest field }
 {
@@ -146,6 +161,7 @@ fn is_fewest(field: TagField) -> bool
 }
 
 // `own` are the fields that the operation has.
+#[tactic(auto, using(lighting_levels::proofs::Choosing::ifs), unfolding(lighting_frames::specs::Paper::Tags::own_tags))]
 fn own_tags(own: TagFields, f: TagFields) -> bool
     ensures { result ≡ own_tags own f }
 {
@@ -189,6 +205,8 @@ fn own_tags(own: TagFields, f: TagFields) -> bool
 
 // ---- the reading
 
+#[tactic(auto, using(lighting_levels::proofs::Choosing::ifs), unfolding(lighting_frames::specs::Paper::Tags::read_fields))]
+
 fn read_fields(f: TagFields) -> TaggedReading
     ensures { result ≡ read_fields f }
 {
@@ -204,6 +222,8 @@ fn read_fields(f: TagFields) -> TaggedReading
         TaggedReading::Unreadable(15)
     }
 }
+
+#[tactic(auto, using(lighting_levels::proofs::Choosing::ifs), unfolding(lighting_frames::specs::Paper::Tags::read_body))]
 
 pub fn read_body(body: &[u8]) -> TaggedReading
     ensures { result ≡ read_body body.now }

@@ -7,6 +7,7 @@ ghost use Rattle.lighting_outputs.specs.Paper.Tenants.{is_tenant, whole_percent,
 use lighting_outputs::SLOT_6;
 
 // Bit n of the marks makes station n a tenant: tested by a shifted mask.
+#[tactic(auto, using(lighting_outputs::proofs::Priorities::Mask::tested), unfolding(lighting_outputs::specs::Paper::Tenants::is_tenant))]
 pub fn is_tenant(marks: u32, station: u8) -> bool
     requires { station < 32 }
     ensures { result ≡ is_tenant marks station }
@@ -15,6 +16,7 @@ pub fn is_tenant(marks: u32, station: u8) -> bool
 }
 
 // A level rounded down to whole percent.
+#[tactic(auto, using(lighting_levels::proofs::Choosing::ifs), unfolding(lighting_outputs::specs::Paper::Tenants::whole_percent))]
 fn whole_percent(level: u32) -> u32
     ensures { result ≡ whole_percent level }
 {
@@ -22,6 +24,7 @@ fn whole_percent(level: u32) -> u32
 }
 
 // A level that a tenant reads in whole percent, and a service station as it is.
+#[tactic(auto, using(lighting_levels::proofs::Choosing::ifs), unfolding(lighting_outputs::specs::Paper::Tenants::shown_level))]
 pub fn shown_level(tenant: bool, level: u32) -> u32
     ensures { result ≡ shown_level tenant level }
 {
@@ -29,6 +32,7 @@ pub fn shown_level(tenant: bool, level: u32) -> u32
 }
 
 // Slots 1 to 6 are hidden from a tenant.
+#[tactic(auto, using(lighting_levels::proofs::Choosing::ifs), unfolding(lighting_outputs::specs::Paper::Tenants::hidden))]
 pub fn is_hidden(tenant: bool, slot: u8) -> bool
     ensures { result ≡ hidden tenant slot }
 {

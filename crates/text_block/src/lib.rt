@@ -11,6 +11,8 @@ use text_printing::{put, put_all, put_decimal, put_hex_bytes, put_hex8};
 
 // ---- fields
 
+#[tactic(auto, using(text_printing::proofs::Pages::wrote_then), unfolding(crate::specs::Block::level_field))]
+
 fn put_level_field(page: &mut [u8], at: usize, v: u32) -> usize
     ensures { Wrote page.old at (level_field v) page.new result }
 {
@@ -18,11 +20,15 @@ fn put_level_field(page: &mut [u8], at: usize, v: u32) -> usize
     put_decimal(page, mark, v as u64)
 }
 
+#[tactic(auto, unfolding(crate::specs::Block::slot_level))]
+
 fn put_slot_level(page: &mut [u8], at: usize, s: Slots, i: u8) -> usize
     ensures { Wrote page.old at (slot_level s i) page.new result }
 {
     put_level_field(page, at, output_slots::level_at(0, s, i as u32))
 }
+
+#[tactic(auto, using(text_printing::proofs::Choices::choices), unfolding(crate::specs::Block::slot_field))]
 
 fn put_slot_field(page: &mut [u8], at: usize, s: Slots, i: u8) -> usize
     ensures { Wrote page.old at (slot_field s i) page.new result }
@@ -33,6 +39,8 @@ fn put_slot_field(page: &mut [u8], at: usize, s: Slots, i: u8) -> usize
         put_all(page, at, b" -")
     }
 }
+
+#[tactic(auto, using(crate::proofs::Turns::slots_turn, text_printing::proofs::Pages::wrote_as, text_printing::proofs::Pages::wrote_none), unfolding(crate::specs::Block::slot_fields))]
 
 fn put_slot_fields(page: &mut [u8], at: usize, s: Slots) -> usize
     ensures { Wrote page.old at (slot_fields s slot_count) page.new result }
@@ -46,12 +54,16 @@ fn put_slot_fields(page: &mut [u8], at: usize, s: Slots) -> usize
     mark
 }
 
+#[tactic(auto, using(text_printing::proofs::Pages::wrote_then), unfolding(crate::specs::Block::hex_field))]
+
 fn put_hex_field(page: &mut [u8], at: usize, v: u32) -> usize
     ensures { Wrote page.old at (hex_field v) page.new result }
 {
     let mark = put(page, at, b' ');
     put_hex8(page, mark, v)
 }
+
+#[tactic(auto, using(crate::proofs::Turns::answer_field_on), unfolding(crate::specs::Block::answer_field))]
 
 fn put_answer_field(page: &mut [u8], at: usize, a: Answer) -> usize
     ensures { Wrote page.old at (answer_field a) page.new result }
@@ -65,6 +77,7 @@ fn put_answer_field(page: &mut [u8], at: usize, a: Answer) -> usize
 }
 
 // As a service station reads it (§8).
+#[tactic(auto, unfolding(crate::specs::Block::property_field))]
 fn put_property(page: &mut [u8], at: usize, t: u64, o: Output, k: u8) -> usize
     ensures { Wrote page.old at (property_field t o k) page.new result }
 {
@@ -72,6 +85,8 @@ fn put_property(page: &mut [u8], at: usize, t: u64, o: Output, k: u8) -> usize
     let a = property_read::read_property(false, t, o, p);
     put_answer_field(page, at, a)
 }
+
+#[tactic(auto, using(crate::proofs::Turns::properties_turn, text_printing::proofs::Pages::wrote_as, text_printing::proofs::Pages::wrote_none), unfolding(crate::specs::Block::property_fields))]
 
 fn put_properties(page: &mut [u8], at: usize, t: u64, o: Output, k: u8, n: u8) -> usize
     requires k_bound { k < 128 }
@@ -89,6 +104,8 @@ fn put_properties(page: &mut [u8], at: usize, t: u64, o: Output, k: u8, n: u8) -
 
 // ---- lines
 
+#[tactic(auto, using(text_printing::proofs::Pages::wrote_then), unfolding(crate::specs::Block::number_line))]
+
 fn put_number_line(page: &mut [u8], at: usize, word: &[u8], n: u64) -> usize
     ensures { Wrote page.old at (number_line word.now n) page.new result }
 {
@@ -96,6 +113,8 @@ fn put_number_line(page: &mut [u8], at: usize, word: &[u8], n: u64) -> usize
     let digits = put_decimal(page, words, n);
     put(page, digits, b'\n')
 }
+
+#[tactic(auto, using(text_printing::proofs::Pages::wrote_then), unfolding(crate::specs::Block::slots_line))]
 
 fn put_slots_line(page: &mut [u8], at: usize, s: Slots) -> usize
     ensures { Wrote page.old at (slots_line s) page.new result }
@@ -105,6 +124,8 @@ fn put_slots_line(page: &mut [u8], at: usize, s: Slots) -> usize
     put(page, fields, b'\n')
 }
 
+#[tactic(auto, unfolding(crate::specs::Block::present_line))]
+
 fn put_present_line(page: &mut [u8], at: usize, o: Output) -> usize
     ensures { Wrote page.old at (present_line o) page.new result }
 {
@@ -112,6 +133,8 @@ fn put_present_line(page: &mut [u8], at: usize, o: Output) -> usize
     let s = o.slots;
     put_number_line(page, at, b"pv ", output_value::present_value(c, s) as u64)
 }
+
+#[tactic(auto, unfolding(crate::specs::Block::progress_line))]
 
 fn put_progress_line(page: &mut [u8], at: usize, t: u64, o: Output) -> usize
     ensures { Wrote page.old at (progress_line t o) page.new result }
@@ -124,6 +147,8 @@ fn put_progress_line(page: &mut [u8], at: usize, t: u64, o: Output) -> usize
     )
 }
 
+#[tactic(auto, unfolding(crate::specs::Block::process_line))]
+
 fn put_process_line(page: &mut [u8], at: usize, o: Output) -> usize
     ensures { Wrote page.old at (process_line o) page.new result }
 {
@@ -132,6 +157,7 @@ fn put_process_line(page: &mut [u8], at: usize, o: Output) -> usize
 }
 
 // A word, and n properties from the number k on.
+#[tactic(auto, using(text_printing::proofs::Pages::wrote_then), unfolding(crate::specs::Block::properties_line))]
 fn put_properties_line(
     page: &mut [u8],
     at: usize,
@@ -151,6 +177,7 @@ fn put_properties_line(
 }
 
 // The command's own bytes, without the zeros after them.
+#[tactic(auto, using(crate::proofs::Tagged::own_bytes, crate::proofs::Tagged::own_end, text_printing::proofs::Pages::wrote_as, text_printing::proofs::Pages::wrote_then), unfolding(crate::specs::Block::tagged_line))]
 fn put_tagged_line(page: &mut [u8], at: usize, k: Command) -> usize
     ensures { Wrote page.old at (tagged_line k) page.new result }
 {
@@ -168,6 +195,7 @@ fn put_tagged_line(page: &mut [u8], at: usize, k: Command) -> usize
 const LINES: u8 = 10;
 
 // The line k, from 0 on.
+#[tactic(auto, using(crate::proofs::Lines::line_none, crate::proofs::Lines::line_on), unfolding(crate::specs::Block::lines))]
 fn put_line(page: &mut [u8], at: usize, k: u8, i: u64, t: u64, o: Output) -> usize
     ensures { Wrote page.old at (get_or (lines i t o) k []) page.new result }
 {
@@ -188,6 +216,8 @@ fn put_line(page: &mut [u8], at: usize, k: u8, i: u64, t: u64, o: Output) -> usi
         _ => at,
     }
 }
+
+#[tactic(auto, using(crate::proofs::Lines::lines_turn, text_printing::proofs::Pages::wrote_as, text_printing::proofs::Pages::wrote_none), unfolding(crate::specs::Block::block, crate::specs::Block::joined, crate::specs::Block::lines))]
 
 pub fn put_block(page: &mut [u8], at: usize, i: u64, t: u64, o: Output) -> usize
     ensures { Wrote page.old at (block i t o) page.new result }

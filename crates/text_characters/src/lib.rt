@@ -5,6 +5,7 @@ ghost use Rattle.std.specs.Prelude.{◌≡◌};
 ghost use Rattle.text_characters.specs.Characters.{is_blank, hex_value, byte_pair};
 
 // A blank, a tab, or the carriage return before a newline.
+#[tactic(auto, using(lighting_levels::proofs::Choosing::ifs), unfolding(crate::specs::Characters::is_blank))]
 pub fn is_blank(c: u8) -> bool
     ensures { result ≡ is_blank c }
 {
@@ -18,6 +19,7 @@ pub fn is_blank(c: u8) -> bool
 }
 
 // What a hexadecimal digit of either case is worth, and 16 for any other character.
+#[tactic(auto, using(lighting_levels::proofs::Choosing::ifs), unfolding(crate::specs::Characters::hex_value))]
 pub fn hex_value(c: u8) -> u8
     ensures { result ≡ hex_value c }
 {
@@ -39,6 +41,7 @@ pub fn hex_value(c: u8) -> u8
 }
 
 // The byte of two digits.
+#[tactic(auto, using(lighting_levels::proofs::Choosing::ifs), unfolding(crate::specs::Characters::byte_pair))]
 pub fn byte_pair(d: u8, v: u8) -> u8
     ensures { result ≡ byte_pair d v }
 {

@@ -21,6 +21,8 @@ pub fn flush(page: &[u8], mark: usize) {
     io::write_all(STDOUT_FILENO, &page[0..n]);
 }
 
+#[tactic(auto, using(lighting_levels::proofs::Choosing::ifs), unfolding(crate::specs::Found::roomy))]
+
 fn has_room(size: usize, mark: usize) -> bool
     ensures { result ≡ roomy size mark }
 {
@@ -32,6 +34,7 @@ fn has_room(size: usize, mark: usize) -> bool
 }
 
 // The mark of a page with room for more: a page that has too little is written out.
+#[tactic(auto, using(lighting_levels::proofs::Choosing::ifs), unfolding(crate::specs::Found::marked))]
 pub fn with_room(page: &[u8], mark: usize) -> usize
     ensures { result ≡ marked (length page.now) mark }
 {
@@ -45,6 +48,7 @@ pub fn with_room(page: &[u8], mark: usize) -> usize
 // ---- what is found
 
 // An output: its block of lines, or its line of the report.
+#[tactic(auto, using(text_printing::proofs::Choices::choices), unfolding(crate::specs::Found::found_output))]
 fn put_output(page: &mut [u8], at: usize, report: bool, i: u64, time: u64, o: Output) -> usize
     ensures { Wrote page.old at (found_output report i time o) page.new result }
 {
@@ -56,6 +60,7 @@ fn put_output(page: &mut [u8], at: usize, report: bool, i: u64, time: u64, o: Ou
 }
 
 // The line `--`, and the report's head.
+#[tactic(auto, using(text_printing::proofs::Choices::choices, text_printing::proofs::Pages::wrote_then), unfolding(crate::specs::Found::found_head))]
 fn put_head(page: &mut [u8], at: usize, report: bool, time: u64) -> usize
     ensures { Wrote page.old at (found_head report time) page.new result }
 {
@@ -68,6 +73,7 @@ fn put_head(page: &mut [u8], at: usize, report: bool, time: u64) -> usize
 }
 
 // Every output of the panel, on as many pages as it takes: the last page, and its mark.
+#[tactic(auto, using(crate::proofs::Sheets::found_begun, crate::proofs::Sheets::found_more, crate::proofs::Sheets::found_over))]
 pub fn put_found(
     outputs: &[Output],
     n: usize,

@@ -91,6 +91,7 @@ pub enum Ending {
 // ---- the line after one more character c, worth v as a digit
 
 // Before its first character. Left out are eight stations, the greatest times, and no marks.
+#[tactic(auto, using(lighting_levels::proofs::Choosing::ifs), unfolding(crate::specs::Heading::fresh_heading))]
 pub fn fresh_heading() -> Heading
     ensures { result ≡ fresh_heading }
 {
@@ -114,6 +115,8 @@ pub fn fresh_heading() -> Heading
     }
 }
 
+#[tactic(auto, using(lighting_levels::proofs::Choosing::ifs), unfolding(crate::specs::Heading::with_place))]
+
 fn with_place(h: Heading, at: Place) -> Heading
     ensures { result ≡ with_place h at }
 {
@@ -127,6 +130,7 @@ fn with_place(h: Heading, at: Place) -> Heading
 }
 
 // What is wrong where a word is not there whole, and where no number follows it.
+#[tactic(auto, using(crate::proofs::Laws::no_word_on, lighting_levels::proofs::Choosing::ifs), unfolding(crate::specs::Heading::no_word))]
 fn no_word(w: Word) -> HeadingFault
     ensures { result ≡ no_word w }
 {
@@ -138,6 +142,8 @@ fn no_word(w: Word) -> HeadingFault
         Word::Tenants => HeadingFault::BadWord,
     }
 }
+
+#[tactic(auto, using(crate::proofs::Laws::no_number_on, lighting_levels::proofs::Choosing::ifs), unfolding(crate::specs::Heading::no_number))]
 
 fn no_number(w: Word) -> HeadingFault
     ensures { result ≡ no_number w }
@@ -151,11 +157,15 @@ fn no_number(w: Word) -> HeadingFault
     }
 }
 
+#[tactic(auto, unfolding(crate::specs::Heading::misspelt))]
+
 fn misspelt(h: Heading, w: Word) -> Heading
     ensures { result ≡ misspelt h w }
 {
     with_place(h, Place::Spoilt(no_word(w)))
 }
+
+#[tactic(auto, unfolding(crate::specs::Heading::unnumbered))]
 
 fn unnumbered(h: Heading, w: Word) -> Heading
     ensures { result ≡ unnumbered h w }
@@ -164,6 +174,7 @@ fn unnumbered(h: Heading, w: Word) -> Heading
 }
 
 // After k letters of a word.
+#[tactic(auto, using(crate::proofs::Letters::letter_within, lighting_levels::proofs::Choosing::ifs), unfolding(crate::specs::Heading::lettered))]
 fn lettered(h: Heading, w: Word, k: u8, c: u8) -> Heading
     ensures { result ≡ lettered h w k c }
 {
@@ -182,6 +193,7 @@ fn lettered(h: Heading, w: Word, k: u8, c: u8) -> Heading
 }
 
 // One more digit. The greatest number stands for all above it too.
+#[tactic(auto, using(lighting_levels::proofs::Product::below))]
 fn grown(w: Word, n: u32, v: u8) -> u32
     ensures { result ≡ grown w n v }
 {
@@ -196,6 +208,7 @@ fn one_more(k: u8) -> u8
 }
 
 // Whether after k digits of a word's number v is one more.
+#[tactic(auto, using(lighting_levels::proofs::Choosing::ifs), unfolding(crate::specs::Heading::takes_digit))]
 fn takes_digit(w: Word, k: u8, v: u8) -> bool
     ensures { result ≡ takes_digit w k v }
 {
@@ -207,6 +220,7 @@ fn takes_digit(w: Word, k: u8, v: u8) -> bool
 }
 
 // v is one more digit, after k that made the number n.
+#[tactic(auto, unfolding(crate::specs::Heading::counted))]
 fn counted(h: Heading, w: Word, k: u8, n: u32, v: u8) -> Heading
     ensures { result ≡ counted h w k n v }
 {
@@ -219,11 +233,15 @@ fn counted(h: Heading, w: Word, k: u8, n: u32, v: u8) -> Heading
     }
 }
 
+#[tactic(auto, unfolding(crate::specs::Heading::counted_on))]
+
 fn counted_on(h: Heading, w: Word, k: u8, v: u8) -> Heading
     ensures { result ≡ counted_on h w k v }
 {
     counted(h, w, k, words::number_in(w, h.named), v)
 }
+
+#[tactic(auto, using(lighting_levels::proofs::Choosing::ifs), unfolding(crate::specs::Heading::gapped))]
 
 fn gapped(h: Heading, w: Word, v: u8, c: u8) -> Heading
     ensures { result ≡ gapped h w v c }
@@ -236,6 +254,8 @@ fn gapped(h: Heading, w: Word, v: u8, c: u8) -> Heading
         unnumbered(h, w)
     }
 }
+
+#[tactic(auto, using(lighting_levels::proofs::Choosing::ifs), unfolding(crate::specs::Heading::numbered))]
 
 fn numbered(h: Heading, w: Word, k: u8, v: u8, c: u8) -> Heading
     ensures { result ≡ numbered h w k v c }
@@ -250,6 +270,7 @@ fn numbered(h: Heading, w: Word, k: u8, v: u8, c: u8) -> Heading
 }
 
 // The first letter of a further word has come.
+#[tactic(auto, unfolding(crate::specs::Heading::marked))]
 fn marked(h: Heading, w: Word) -> Heading
     ensures { result ≡ marked h w }
 {
@@ -262,6 +283,8 @@ fn marked(h: Heading, w: Word) -> Heading
     }
 }
 
+#[tactic(auto, using(lighting_levels::proofs::Choosing::ifs), unfolding(crate::specs::Heading::word_begun))]
+
 fn word_begun(h: Heading, w: Word) -> Heading
     ensures { result ≡ word_begun h w }
 {
@@ -271,6 +294,8 @@ fn word_begun(h: Heading, w: Word) -> Heading
         marked(h, w)
     }
 }
+
+#[tactic(auto, using(lighting_levels::proofs::Choosing::ifs), unfolding(crate::specs::Heading::trailed))]
 
 fn trailed(h: Heading, c: u8) -> Heading
     ensures { result ≡ trailed h c }
@@ -290,6 +315,8 @@ fn trailed(h: Heading, c: u8) -> Heading
     }
 }
 
+#[tactic(auto, using(crate::proofs::Laws::step_at_on), unfolding(crate::specs::Heading::heading_step, crate::specs::Heading::step_at))]
+
 pub fn step(h: Heading, v: u8, c: u8) -> Heading
     ensures { result ≡ heading_step h v c }
 {
@@ -306,6 +333,7 @@ pub fn step(h: Heading, v: u8, c: u8) -> Heading
 // ---- the line's end
 
 // What comes of it, unless this word's number is out of range.
+#[tactic(auto, using(lighting_levels::proofs::Choosing::ifs), unfolding(crate::specs::Heading::fitting))]
 fn fitting(w: Word, named: Named, e: Ending) -> Ending
     ensures { result ≡ fitting w named e }
 {
@@ -316,6 +344,8 @@ fn fitting(w: Word, named: Named, e: Ending) -> Ending
     }
 }
 
+#[tactic(auto, unfolding(crate::specs::Heading::judged))]
+
 fn judged(named: Named) -> Ending
     ensures { result ≡ judged named }
 {
@@ -324,6 +354,8 @@ fn judged(named: Named) -> Ending
     let outputs = fitting(Word::Outputs, named, fade);
     fitting(Word::Stations, named, outputs)
 }
+
+#[tactic(auto, using(crate::proofs::Laws::ended_at_on), unfolding(crate::specs::Heading::ended, crate::specs::Heading::ended_at))]
 
 pub fn ended(h: Heading) -> Ending
     ensures { result ≡ ended h }

@@ -17,6 +17,7 @@ fn letter_of(letters: &[u8], k: u8) -> u8
 }
 
 // The letter of a word after the first k, 0 after the last.
+#[tactic(auto, using(crate::proofs::Laws::letters_on), unfolding(crate::specs::Words::letters))]
 pub fn letter(w: Word, k: u8) -> u8
     ensures { result ≡ get_or (letters w) k 0 }
 {
@@ -31,6 +32,8 @@ pub fn letter(w: Word, k: u8) -> u8
 
 // ---- how a word's number is written
 
+#[tactic(auto, using(crate::proofs::Laws::base_on, lighting_levels::proofs::Choosing::ifs), unfolding(crate::specs::Words::base))]
+
 pub fn base(w: Word) -> u8
     ensures { result ≡ base w }
 {
@@ -44,6 +47,7 @@ pub fn base(w: Word) -> u8
 }
 
 // Whether after k digits one more may come: of hexadecimal ones there are eight at most.
+#[tactic(auto, using(lighting_levels::proofs::Choosing::ifs), unfolding(crate::specs::Words::may_follow))]
 pub fn may_follow(w: Word, k: u8) -> bool
     ensures { result ≡ may_follow w k }
 {
@@ -51,6 +55,8 @@ pub fn may_follow(w: Word, k: u8) -> bool
 }
 
 // ---- a word's number
+
+#[tactic(auto, using(crate::proofs::Laws::number_in_on, lighting_levels::proofs::Choosing::ifs), unfolding(crate::specs::Words::number_in))]
 
 pub fn number_in(w: Word, named: Named) -> u32
     ensures { result ≡ number_in w named }
@@ -63,6 +69,8 @@ pub fn number_in(w: Word, named: Named) -> u32
         Word::Tenants => named.tenants,
     }
 }
+
+#[tactic(auto, using(crate::proofs::Laws::set_with_on, lighting_levels::proofs::Choosing::ifs), unfolding(crate::specs::Words::set_with))]
 
 fn set_with(w: Word, n: u32, set: Parameters) -> Parameters
     ensures { result ≡ set_with w n set }
@@ -96,6 +104,8 @@ fn set_with(w: Word, n: u32, set: Parameters) -> Parameters
     }
 }
 
+#[tactic(auto, using(crate::proofs::Laws::marks_with_on, lighting_levels::proofs::Choosing::ifs), unfolding(crate::specs::Words::marks_with))]
+
 fn marks_with(w: Word, n: u32, marks: u32) -> u32
     ensures { result ≡ marks_with w n marks }
 {
@@ -108,6 +118,8 @@ fn marks_with(w: Word, n: u32, marks: u32) -> u32
     }
 }
 
+#[tactic(auto, unfolding(crate::specs::Words::with_number))]
+
 pub fn with_number(w: Word, n: u32, named: Named) -> Named
     ensures { result ≡ with_number w n named }
 {
@@ -117,6 +129,8 @@ pub fn with_number(w: Word, n: u32, named: Named) -> Named
         tenants: marks_with(w, n, named.tenants),
     }
 }
+
+#[tactic(auto, using(crate::proofs::Laws::bounds_on, lighting_levels::proofs::Choosing::ifs), unfolding(crate::specs::Words::bounds))]
 
 pub fn bounds(w: Word) -> Bounds
     ensures { result ≡ bounds w }
@@ -145,6 +159,8 @@ pub fn bounds(w: Word) -> Bounds
     }
 }
 
+#[tactic(auto, unfolding(crate::specs::Words::fits))]
+
 pub fn fits(w: Word, named: Named) -> bool
     ensures { result ≡ fits w named }
 {
@@ -153,6 +169,8 @@ pub fn fits(w: Word, named: Named) -> bool
 }
 
 // ---- which words have come
+
+#[tactic(auto, using(crate::proofs::Laws::has_come_on, lighting_levels::proofs::Choosing::ifs), unfolding(crate::specs::Words::has_come))]
 
 pub fn has_come(w: Word, came: Came) -> bool
     ensures { result ≡ has_come w came }
@@ -165,6 +183,8 @@ pub fn has_come(w: Word, came: Came) -> bool
         Word::Tenants => came.tenants,
     }
 }
+
+#[tactic(auto, using(crate::proofs::Laws::with_come_on, lighting_levels::proofs::Choosing::ifs), unfolding(crate::specs::Words::with_come))]
 
 pub fn with_come(w: Word, came: Came) -> Came
     ensures { result ≡ with_come w came }

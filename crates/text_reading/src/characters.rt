@@ -7,6 +7,8 @@ use text_heading::Heading;
 
 // ---- what a line holds after one more character: c, worth v as a digit
 
+#[tactic(auto, using(lighting_levels::proofs::Choosing::ifs), unfolding(crate::specs::Reading::digit_held))]
+
 fn digit_held(v: u8) -> Held
     ensures { result ≡ digit_held v }
 {
@@ -17,6 +19,8 @@ fn digit_held(v: u8) -> Held
     }
 }
 
+#[tactic(auto, unfolding(crate::specs::Reading::naming_held))]
+
 fn naming_held(h: Heading, v: u8, c: u8) -> Held
     ensures { result ≡ naming_held h v c }
 {
@@ -24,6 +28,7 @@ fn naming_held(h: Heading, v: u8, c: u8) -> Held
 }
 
 // The first character that is no blank.
+#[tactic(auto, using(lighting_levels::proofs::Choosing::ifs), unfolding(crate::specs::Reading::opened))]
 fn opened(named: bool, v: u8, c: u8) -> Held
     ensures { result ≡ opened named v c }
 {
@@ -38,6 +43,8 @@ fn opened(named: bool, v: u8, c: u8) -> Held
     }
 }
 
+#[tactic(auto, using(lighting_levels::proofs::Choosing::ifs), unfolding(crate::specs::Reading::byte_held))]
+
 fn byte_held(v: u8, c: u8) -> Held
     ensures { result ≡ byte_held v c }
 {
@@ -47,6 +54,8 @@ fn byte_held(v: u8, c: u8) -> Held
         digit_held(v)
     }
 }
+
+#[tactic(auto, using(lighting_levels::proofs::Choosing::ifs), unfolding(crate::specs::Reading::half_held))]
 
 fn half_held(v: u8, c: u8) -> Held
     ensures { result ≡ half_held v c }
@@ -60,6 +69,8 @@ fn half_held(v: u8, c: u8) -> Held
     }
 }
 
+#[tactic(auto, using(lighting_levels::proofs::Choosing::ifs), unfolding(crate::specs::Reading::dashed))]
+
 fn dashed(c: u8) -> Held
     ensures { result ≡ dashed c }
 {
@@ -69,6 +80,8 @@ fn dashed(c: u8) -> Held
         Held::Spoilt(Fault::NoDigit)
     }
 }
+
+#[tactic(auto, using(crate::proofs::Laws::step_on, lighting_levels::proofs::Choosing::ifs), unfolding(crate::specs::Reading::step))]
 
 pub fn step(named: bool, h: Held, v: u8, c: u8) -> Held
     ensures { result ≡ step named h v c }
@@ -86,6 +99,7 @@ pub fn step(named: bool, h: Held, v: u8, c: u8) -> Held
 
 // Whether the first digit of a byte may come next: the list has named its outputs, and the line holds nothing
 // yet, or whole bytes.
+#[tactic(auto, using(crate::proofs::Laws::may_begin_on, lighting_levels::proofs::Choosing::ifs), unfolding(crate::specs::Reading::may_begin))]
 pub fn may_begin(named: bool, h: Held) -> bool
     ensures { result ≡ may_begin named h }
 {

@@ -63,6 +63,8 @@ pub struct Reader {
 
 // ---- the reader fed
 
+#[tactic(auto, using(lighting_levels::proofs::Choosing::ifs), unfolding(crate::specs::Reading::pushed))]
+
 fn push(w: Reader, x: u8) -> Reader
     ensures { result ≡ pushed w x }
 {
@@ -83,11 +85,15 @@ fn push(w: Reader, x: u8) -> Reader
     }
 }
 
+#[tactic(auto, unfolding(crate::specs::Reading::joined))]
+
 fn join(w: Reader, d: u8, v: u8) -> Reader
     ensures { result ≡ joined w d v }
 {
     push(w, text_characters::byte_pair(d, v))
 }
+
+#[tactic(auto, using(crate::proofs::Laws::stored_by_on, lighting_levels::proofs::Choosing::ifs), unfolding(crate::specs::Reading::stored_by))]
 
 fn store(w: Reader, h: Held, v: u8) -> Reader
     ensures { result ≡ stored_by w h v }
@@ -103,6 +109,8 @@ fn store(w: Reader, h: Held, v: u8) -> Reader
     }
 }
 
+#[tactic(auto, using(lighting_levels::proofs::Choosing::ifs), unfolding(crate::specs::Reading::with_held))]
+
 fn with_held(w: Reader, h: Held) -> Reader
     ensures { result ≡ with_held w h }
 {
@@ -115,6 +123,8 @@ fn with_held(w: Reader, h: Held) -> Reader
         count: w.count,
     }
 }
+
+#[tactic(auto, unfolding(crate::specs::Reading::feed))]
 
 fn feed(w: Reader, c: u8) -> Reader
     ensures { result ≡ feed w c }
@@ -136,6 +146,7 @@ pub struct Fed {
 // As many whole bytes as stand from `from` on, with the blanks between them, where a byte may begin: each
 // goes straight to its place, and the reader is made once, after the last. What comes to the same reader at
 // the line's end is left.
+#[tactic(auto, using(crate::proofs::Runs::begins_again, crate::proofs::Runs::blank_turn, crate::proofs::Runs::byte_turn, crate::proofs::Runs::reader_with))]
 fn feed_bytes(w: Reader, s: &[u8], from: usize) -> Fed
     requires { from ≤ length s.now }
     ensures s_value { fed_line result.reader (drop result.next s.now) ≡ fed_line w (drop from s.now) }
@@ -187,6 +198,8 @@ fn feed_bytes(w: Reader, s: &[u8], from: usize) -> Fed
     }
 }
 
+#[tactic(auto, using(crate::proofs::Lines::line_newline, crate::proofs::Lines::line_over, crate::proofs::Lines::line_turn))]
+
 pub fn feed_line(w: Reader, s: &[u8], from: usize) -> Fed
     requires { from ≤ length s.now }
     ensures reader_value { result.reader ≡ fed_line w (drop from s.now) }
@@ -216,6 +229,8 @@ pub fn feed_line(w: Reader, s: &[u8], from: usize) -> Fed
 
 // ---- a line's end
 
+#[tactic(auto, using(crate::proofs::Laws::heading_line_on, lighting_levels::proofs::Choosing::ifs), unfolding(crate::specs::Reading::heading_line))]
+
 fn heading_line(e: Ending) -> Line
     ensures { result ≡ heading_line e }
 {
@@ -224,6 +239,8 @@ fn heading_line(e: Ending) -> Line
         Ending::Fails(f) => Line::Wrong(Fault::InHeading(f)),
     }
 }
+
+#[tactic(auto, using(crate::proofs::Laws::line_of_on, lighting_levels::proofs::Choosing::ifs), unfolding(crate::specs::Reading::line_of))]
 
 pub fn line_of(h: Held) -> Line
     ensures { result ≡ line_of h }
@@ -246,6 +263,8 @@ fn line_after(n: u64) -> u64
     if n < 18446744073709551615 { n + 1 } else { n }
 }
 
+#[tactic(auto, unfolding(crate::specs::Reading::next_line))]
+
 pub fn next_line(w: Reader) -> Reader
     ensures { result ≡ next_line w }
 {
@@ -260,6 +279,7 @@ pub fn next_line(w: Reader) -> Reader
 }
 
 // The reader of a list that has named its outputs.
+#[tactic(auto, using(lighting_levels::proofs::Choosing::ifs), unfolding(crate::specs::Reading::with_named))]
 pub fn with_named(w: Reader) -> Reader
     ensures { result ≡ with_named w }
 {
@@ -275,6 +295,7 @@ pub fn with_named(w: Reader) -> Reader
 }
 
 // Before the first byte of a list.
+#[tactic(auto, using(lighting_levels::proofs::Choosing::ifs), unfolding(crate::specs::Reading::fresh_reader))]
 pub fn fresh_reader() -> Reader
     ensures { result ≡ fresh_reader }
 {

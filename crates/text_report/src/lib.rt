@@ -10,11 +10,15 @@ use text_printing::{put, put_all, put_decimal};
 
 // ---- numbers
 
+#[tactic(auto, unfolding(crate::specs::Report::digit))]
+
 fn put_digit(page: &mut [u8], at: usize, n: u64) -> usize
     ensures { Wrote page.old at (digit n) page.new result }
 {
     put(page, at, text_printing::last_digit(n))
 }
+
+#[tactic(auto, using(text_printing::proofs::Pages::wrote_then), unfolding(crate::specs::Report::two_digits))]
 
 fn put_two(page: &mut [u8], at: usize, n: u64) -> usize
     ensures { Wrote page.old at (two_digits n) page.new result }
@@ -23,12 +27,16 @@ fn put_two(page: &mut [u8], at: usize, n: u64) -> usize
     put_digit(page, mark, n)
 }
 
+#[tactic(auto, using(text_printing::proofs::Pages::wrote_then), unfolding(crate::specs::Report::three_digits))]
+
 fn put_three(page: &mut [u8], at: usize, n: u64) -> usize
     ensures { Wrote page.old at (three_digits n) page.new result }
 {
     let mark = put_digit(page, at, n / 100);
     put_two(page, mark, n)
 }
+
+#[tactic(auto, using(text_printing::proofs::Choices::choices), unfolding(crate::specs::Report::lead))]
 
 fn put_lead(page: &mut [u8], at: usize, n: u64) -> usize
     ensures { Wrote page.old at (lead n) page.new result }
@@ -41,6 +49,8 @@ fn put_lead(page: &mut [u8], at: usize, n: u64) -> usize
         at
     }
 }
+
+#[tactic(auto, using(text_printing::proofs::Pages::wrote_then), unfolding(crate::specs::Report::aligned))]
 
 fn put_aligned(page: &mut [u8], at: usize, n: u64) -> usize
     ensures { Wrote page.old at (aligned n) page.new result }
@@ -56,6 +66,8 @@ fn hundredths(u: u64) -> u64
     u % 65536 * 100 / 65536
 }
 
+#[tactic(auto, using(text_printing::proofs::Pages::wrote_then), unfolding(crate::specs::Report::percent))]
+
 fn put_percent(page: &mut [u8], at: usize, u: u32) -> usize
     ensures { Wrote page.old at (percent u) page.new result }
 {
@@ -64,6 +76,8 @@ fn put_percent(page: &mut [u8], at: usize, u: u32) -> usize
     let dot = put(page, whole, b'.');
     put_two(page, dot, hundredths(n))
 }
+
+#[tactic(auto, using(text_printing::proofs::Pages::wrote_then), unfolding(crate::specs::Report::minutes))]
 
 fn put_minutes(page: &mut [u8], at: usize, n: u64) -> usize
     ensures { Wrote page.old at (minutes n) page.new result }
@@ -74,6 +88,8 @@ fn put_minutes(page: &mut [u8], at: usize, n: u64) -> usize
     put_two(page, second, n / 1000 % 60)
 }
 
+#[tactic(auto, using(text_printing::proofs::Pages::wrote_then), unfolding(crate::specs::Report::moment))]
+
 fn put_moment(page: &mut [u8], at: usize, t: u64) -> usize
     ensures { Wrote page.old at (moment t) page.new result }
 {
@@ -82,6 +98,8 @@ fn put_moment(page: &mut [u8], at: usize, t: u64) -> usize
     let dot = put(page, minutes, b'.');
     put_three(page, dot, t % 1000)
 }
+
+#[tactic(auto, using(text_printing::proofs::Pages::wrote_then), unfolding(crate::specs::Report::lasting))]
 
 fn put_lasting(page: &mut [u8], at: usize, n: u64) -> usize
     ensures { Wrote page.old at (lasting n) page.new result }
@@ -92,6 +110,8 @@ fn put_lasting(page: &mut [u8], at: usize, n: u64) -> usize
 
 // ---- words
 
+#[tactic(auto, using(text_printing::proofs::Choices::choices), unfolding(crate::specs::Report::either))]
+
 fn put_either(page: &mut [u8], at: usize, this: &[u8], that: &[u8], b: bool) -> usize
     ensures { Wrote page.old at (either this.now that.now b) page.new result }
 {
@@ -101,6 +121,8 @@ fn put_either(page: &mut [u8], at: usize, this: &[u8], that: &[u8], b: bool) -> 
         put_all(page, at, that)
     }
 }
+
+#[tactic(auto, using(crate::proofs::Laws::operation_name_on, text_printing::proofs::Choices::choices), unfolding(crate::specs::Report::operation_name))]
 
 fn put_operation(page: &mut [u8], at: usize, o: Operation) -> usize
     ensures { Wrote page.old at (operation_name o) page.new result }
@@ -122,12 +144,16 @@ fn put_operation(page: &mut [u8], at: usize, o: Operation) -> usize
 
 // ---- what is under way
 
+#[tactic(auto, using(text_printing::proofs::Pages::wrote_then), unfolding(crate::specs::Report::until))]
+
 fn put_until(page: &mut [u8], at: usize, word: &[u8], t: u64) -> usize
     ensures { Wrote page.old at (until word.now t) page.new result }
 {
     let mark = put_all(page, at, word);
     put_moment(page, mark, t)
 }
+
+#[tactic(auto, using(crate::proofs::Laws::activity_text_on, text_printing::proofs::Choices::choices), unfolding(crate::specs::Report::activity_text))]
 
 fn put_activity(page: &mut [u8], at: usize, a: Activity) -> usize
     ensures { Wrote page.old at (activity_text a) page.new result }
@@ -138,6 +164,8 @@ fn put_activity(page: &mut [u8], at: usize, a: Activity) -> usize
         Activity::Warned(w) => put_until(page, at, b"  blink warning until ", w.over),
     }
 }
+
+#[tactic(auto, using(crate::proofs::Laws::timer_text_on, text_printing::proofs::Choices::choices), unfolding(crate::specs::Report::timer_text))]
 
 fn put_timer(page: &mut [u8], at: usize, t: Timer) -> usize
     ensures { Wrote page.old at (timer_text t) page.new result }
@@ -150,6 +178,8 @@ fn put_timer(page: &mut [u8], at: usize, t: Timer) -> usize
 
 // ---- the line of an output
 
+#[tactic(auto, using(text_printing::proofs::Pages::wrote_then), unfolding(crate::specs::Report::light_fields))]
+
 fn put_light_fields(page: &mut [u8], at: usize, i: u64, t: u64, o: Output) -> usize
     ensures { Wrote page.old at (light_fields i t o) page.new result }
 {
@@ -159,6 +189,8 @@ fn put_light_fields(page: &mut [u8], at: usize, i: u64, t: u64, o: Output) -> us
     let middle = put_all(page, number, b"  ");
     put_either(page, middle, b"  lit  ", b"  dark ", b)
 }
+
+#[tactic(auto, using(text_printing::proofs::Pages::wrote_then), unfolding(crate::specs::Report::level_fields))]
 
 fn put_level_fields(page: &mut [u8], at: usize, t: u64, o: Output) -> usize
     ensures { Wrote page.old at (level_fields t o) page.new result }
@@ -174,6 +206,8 @@ fn put_level_fields(page: &mut [u8], at: usize, t: u64, o: Output) -> usize
     put_percent(page, more, progress)
 }
 
+#[tactic(auto, using(text_printing::proofs::Pages::wrote_then), unfolding(crate::specs::Report::time_fields))]
+
 fn put_time_fields(page: &mut [u8], at: usize, o: Output) -> usize
     ensures { Wrote page.old at (time_fields o) page.new result }
 {
@@ -184,12 +218,16 @@ fn put_time_fields(page: &mut [u8], at: usize, o: Output) -> usize
     put_operation(page, burning, operation)
 }
 
+#[tactic(auto, unfolding(crate::specs::Report::relay_field))]
+
 fn put_relay(page: &mut [u8], at: usize, relay: Relay) -> usize
     ensures { Wrote page.old at (relay_field relay) page.new result }
 {
     let on = output_relay::relay_state(relay);
     put_either(page, at, b"  on   ", b"  off  ", on)
 }
+
+#[tactic(auto, using(text_printing::proofs::Pages::wrote_then), unfolding(crate::specs::Report::way_fields))]
 
 fn put_way_fields(page: &mut [u8], at: usize, o: Output) -> usize
     ensures { Wrote page.old at (way_fields o) page.new result }
@@ -203,6 +241,8 @@ fn put_way_fields(page: &mut [u8], at: usize, o: Output) -> usize
     put(page, timer, b'\n')
 }
 
+#[tactic(auto, using(text_printing::proofs::Pages::wrote_then), unfolding(crate::specs::Report::report_line))]
+
 pub fn put_report_line(page: &mut [u8], at: usize, i: u64, t: u64, o: Output) -> usize
     ensures { Wrote page.old at (report_line i t o) page.new result }
 {
@@ -211,6 +251,8 @@ pub fn put_report_line(page: &mut [u8], at: usize, i: u64, t: u64, o: Output) ->
     let times = put_time_fields(page, levels, o);
     put_way_fields(page, times, o)
 }
+
+#[tactic(auto, using(text_printing::proofs::Pages::wrote_then), unfolding(crate::specs::Report::report_head))]
 
 pub fn put_report_head(page: &mut [u8], at: usize, t: u64) -> usize
     ensures { Wrote page.old at (report_head t) page.new result }

@@ -151,7 +151,7 @@ unfolding plain_after plain_frame_step
 all_after p marks w [] s h = h
 all_after p marks w (b ∷ l) s h =
     let f = parse p (length w.panel.outputs) b in
-    all_after p marks _ l s.1
+    all_after p marks (plain_frame_step p marks w b).state l s.1
     (all_execute p marks b w (judged w.past b f)
     (judged_kept p w.past b f (parse_kept p (length w.panel.outputs) b s.0))
     h)
