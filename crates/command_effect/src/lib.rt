@@ -11,7 +11,6 @@ use lighting_outputs::{Activity, Command, Effect, Operation, Output, SLOT_6, Set
 // ---- 'and first ends any warning by emptying slot 6'
 
 #[tactic(auto, using(lighting_levels::proofs::Choosing::ifs, lighting_outputs::proofs::Laws::without_warning_on), unfolding(lighting_outputs::specs::Paper::Commands::without_warning))]
-
 fn end_warning(s: Slots, a: Activity) -> Slots
     ensures { result ≡ without_warning s a }
 {
@@ -23,7 +22,6 @@ fn end_warning(s: Slots, a: Activity) -> Slots
 }
 
 #[tactic(auto, using(lighting_levels::proofs::Choosing::ifs, lighting_outputs::proofs::Laws::activity_without_warning_on), unfolding(lighting_outputs::specs::Paper::Commands::activity_without_warning))]
-
 fn without_warning(a: Activity) -> Activity
     ensures { result ≡ activity_without_warning a }
 {
@@ -37,7 +35,6 @@ fn without_warning(a: Activity) -> Activity
 // ---- 'GOTO and steps jump'
 
 #[tactic(auto, unfolding(lighting_outputs::specs::Paper::Commands::jumped))]
-
 fn jump(c: Settings, s: Slots, a: Activity, g: u32) -> Effect
     ensures { result ≡ jumped c s a g }
 {
@@ -45,7 +42,6 @@ fn jump(c: Settings, s: Slots, a: Activity, g: u32) -> Effect
 }
 
 #[tactic(auto, unfolding(lighting_outputs::specs::Paper::Commands::went_to))]
-
 fn go_to(c: Settings, s: Slots, a: Activity, x: f32) -> Effect
     ensures { result ≡ went_to c s a x }
 {
@@ -53,7 +49,6 @@ fn go_to(c: Settings, s: Slots, a: Activity, x: f32) -> Effect
 }
 
 #[tactic(auto, unfolding(lighting_outputs::specs::Paper::Commands::stepped_up))]
-
 fn step_up(c: Settings, f: u32, s: Slots, a: Activity, x: f32) -> Effect
     ensures { result ≡ stepped_up c f s a x }
 {
@@ -66,7 +61,6 @@ fn step_up(c: Settings, f: u32, s: Slots, a: Activity, x: f32) -> Effect
 }
 
 #[tactic(auto, unfolding(lighting_outputs::specs::Paper::Commands::stepped_down))]
-
 fn step_down(c: Settings, f: u32, s: Slots, a: Activity, x: f32) -> Effect
     ensures { result ≡ stepped_down c f s a x }
 {
@@ -95,7 +89,6 @@ fn raise(c: Settings, v: u32) -> u32
 }
 
 #[tactic(auto, unfolding(lighting_outputs::specs::Paper::Commands::halted))]
-
 fn halt(c: Settings, f: u32, s: Slots) -> Effect
     ensures { result ≡ halted c f s }
 {
@@ -144,7 +137,6 @@ fn relinquish(c: Settings, s: Slots, a: Activity) -> Effect
 // ---- a command
 
 #[tactic(auto, using(lighting_levels::proofs::Choosing::ifs, lighting_outputs::proofs::Laws::effect_on), unfolding(lighting_outputs::specs::Paper::Commands::effect))]
-
 fn make_effect(t: u64, c: Settings, f: u32, s: Slots, a: Activity, k: Operation) -> Effect
     requires { t < 2 ^ 48 }
     ensures { result ≡ effect t c f s a k }
@@ -165,7 +157,6 @@ fn make_effect(t: u64, c: Settings, f: u32, s: Slots, a: Activity, k: Operation)
 }
 
 #[tactic(auto, unfolding(lighting_outputs::specs::Paper::Commands::commanded_from))]
-
 fn command_from(t: u64, o: Output, f: u32, k: Command) -> Output
     requires { t < 2 ^ 48 }
     ensures { result ≡ commanded_from t o f k }

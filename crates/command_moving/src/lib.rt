@@ -75,7 +75,6 @@ pub fn target_of(c: Settings, x: f32) -> u32
 // ---- fades and ramps
 
 #[tactic(auto, unfolding(lighting_outputs::specs::Paper::Commands::faded_over))]
-
 fn fade_over(t: u64, c: Settings, f: u32, s: Slots, a: Activity, g: u32, l: u32) -> Effect
     requires { t < 2 ^ 48 }
     ensures { result ≡ faded_over t c f s a g l }
@@ -84,7 +83,6 @@ fn fade_over(t: u64, c: Settings, f: u32, s: Slots, a: Activity, g: u32, l: u32)
 }
 
 #[tactic(auto, unfolding(lighting_outputs::specs::Paper::Commands::faded_to))]
-
 pub fn fade_to(t: u64, c: Settings, f: u32, s: Slots, a: Activity, x: f32, l: u32) -> Effect
     requires { t < 2 ^ 48 }
     ensures { result ≡ faded_to t c f s a x l }
@@ -93,7 +91,6 @@ pub fn fade_to(t: u64, c: Settings, f: u32, s: Slots, a: Activity, x: f32, l: u3
 }
 
 #[tactic(auto, unfolding(lighting_outputs::specs::Paper::Commands::ramped_at))]
-
 fn ramp_at(t: u64, c: Settings, f: u32, s: Slots, a: Activity, g: u32, rate: u32) -> Effect
     requires t_bound { t < 2 ^ 48 }
     requires le_rate { 8192 ≤ rate }
@@ -104,7 +101,6 @@ fn ramp_at(t: u64, c: Settings, f: u32, s: Slots, a: Activity, g: u32, rate: u32
 }
 
 #[tactic(auto, unfolding(lighting_outputs::specs::Paper::Commands::ramped_to))]
-
 pub fn ramp_to(t: u64, c: Settings, f: u32, s: Slots, a: Activity, x: f32, rate: f32) -> Effect
     requires { t < 2 ^ 48 }
     ensures { result ≡ ramped_to t c f s a x rate }

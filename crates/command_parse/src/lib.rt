@@ -26,7 +26,6 @@ fn level_refusal(level: Level) -> u8
 }
 
 #[tactic(auto, using(lighting_levels::proofs::Choosing::ifs, lighting_outputs::proofs::Laws::level_field_refusal_on), unfolding(lighting_outputs::specs::Paper::Requests::level_field_refusal))]
-
 fn level_field_refusal(x: RealField) -> u8
     ensures { result ≡ level_field_refusal x }
 {
@@ -48,7 +47,6 @@ fn amount_field_refusal(x: RealField) -> u8
 }
 
 #[tactic(auto, using(lighting_levels::proofs::Choosing::ifs, lighting_outputs::proofs::Laws::time_field_refusal_on), unfolding(lighting_outputs::specs::Paper::Requests::time_field_refusal))]
-
 fn time_field_refusal(parameters: Parameters, x: TimeField) -> u8
     ensures { result ≡ time_field_refusal parameters x }
 {
@@ -63,7 +61,6 @@ fn time_field_refusal(parameters: Parameters, x: TimeField) -> u8
 }
 
 #[tactic(auto, using(lighting_levels::proofs::Choosing::ifs), unfolding(lighting_outputs::specs::Paper::Requests::first_refusal))]
-
 fn first_refusal(earlier: u8, later: u8) -> u8
     ensures { result ≡ first_refusal earlier later }
 {
@@ -114,7 +111,6 @@ fn command_lasting(parameters: Parameters, operation: Operation, d: u32) -> Requ
 }
 
 #[tactic(auto, using(lighting_levels::proofs::Choosing::ifs, lighting_outputs::proofs::Laws::command_with_duration_on), unfolding(lighting_outputs::specs::Paper::Requests::command_with_duration))]
-
 fn command_with_duration(
     parameters: Parameters,
     operation: Operation,
@@ -132,7 +128,6 @@ fn command_with_duration(
 }
 
 #[tactic(auto, using(lighting_levels::proofs::Choosing::ifs), unfolding(lighting_outputs::specs::Paper::Requests::command_request_by))]
-
 fn command_request_by(
     parameters: Parameters,
     refusal: u8,
@@ -174,7 +169,6 @@ fn plain_duration(d: u32) -> TimeField
 }
 
 #[tactic(auto, unfolding(lighting_outputs::specs::Paper::Requests::command_request))]
-
 pub fn command_request(parameters: Parameters, operation: Operation, d: u32) -> Request
     ensures { result ≡ command_request parameters operation d }
 {

@@ -6,7 +6,6 @@ ghost use Rattle.std.specs.Prelude.{◌≡◌, ◌+◌, ◌<◌, min, take, drop
 ghost use Rattle.lighting_levels.specs.Paper.Field.{byte_at, big_endian};
 
 #[tactic(auto, unfolding(lighting_levels::specs::Paper::Field::byte_at))]
-
 pub fn byte_at(s: &[u8], at: usize) -> u8
     ensures { result ≡ byte_at s.now at }
 {
@@ -52,7 +51,6 @@ fn word16_at(s: &[u8], at: usize) -> u32
 }
 
 #[tactic(auto, using(lighting_levels::proofs::Fields::joined_within))]
-
 pub fn word32_at(s: &[u8], at: usize) -> u32
     ensures { result ≡ big_endian 4 s.now at }
 {
@@ -61,7 +59,6 @@ pub fn word32_at(s: &[u8], at: usize) -> u32
 }
 
 #[tactic(auto, using(lighting_levels::proofs::Fields::joined_within))]
-
 pub fn word48_at(s: &[u8], at: usize) -> u64
     ensures { (result ≡ big_endian 6 s.now at) × (result < 281474976710656) }
 {

@@ -9,7 +9,6 @@ use lighting_frames::{Action, Call, Frame, Kind};
 use lighting_outputs::Parameters;
 
 #[tactic(auto, unfolding(lighting_frames::specs::Paper::Frames::call_of))]
-
 fn call_of(parameters: Parameters, action: Action, b: &[u8]) -> Call
     ensures { result ≡ call_of parameters action b.now }
 {
@@ -41,7 +40,6 @@ fn called(parameters: Parameters, c: usize, call: Call) -> Frame
 }
 
 #[tactic(auto, unfolding(lighting_frames::specs::Paper::Frames::clock_of))]
-
 fn clock_of(b: &[u8]) -> Frame
     ensures { result ≡ clock_of b.now }
 {
@@ -69,7 +67,6 @@ fn parse_by(parameters: Parameters, c: usize, l: u32, kind: Kind, b: &[u8]) -> F
 }
 
 #[tactic(auto, unfolding(lighting_frames::specs::Paper::Frames::parse))]
-
 pub fn parse(parameters: Parameters, c: usize, b: &[u8]) -> Frame
     ensures { result ≡ parse parameters c b.now }
 {

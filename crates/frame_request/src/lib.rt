@@ -16,7 +16,6 @@ use lighting_outputs::{Operation, OutputRequest, Parameters, Request};
 // ---- kinds 02 to 05
 
 #[tactic(auto, using(lighting_levels::proofs::Choosing::ifs, lighting_outputs::proofs::Laws::write_level_on), unfolding(lighting_outputs::specs::Paper::Requests::write_level))]
-
 fn write_level(i: u8, v: Level) -> Request
     ensures { result ≡ write_level i v }
 {
@@ -27,7 +26,6 @@ fn write_level(i: u8, v: Level) -> Request
 }
 
 #[tactic(auto, using(lighting_levels::proofs::Choosing::ifs), unfolding(lighting_outputs::specs::Paper::Requests::write_of))]
-
 fn write_of(n: u8, x: u32) -> Request
     ensures { result ≡ write_of n x }
 {
@@ -42,7 +40,6 @@ fn write_of(n: u8, x: u32) -> Request
 }
 
 #[tactic(auto, using(lighting_levels::proofs::Choosing::ifs), unfolding(lighting_outputs::specs::Paper::Requests::empty_of))]
-
 fn empty_of(p: u8) -> Request
     ensures { result ≡ empty_of p }
 {
@@ -58,7 +55,6 @@ fn empty_of(p: u8) -> Request
 // ---- the request
 
 #[tactic(auto, unfolding(lighting_outputs::specs::Paper::Properties::change_of))]
-
 fn change_of(parameters: Parameters, n: u8, x: u32) -> Request
     ensures { result ≡ change_of parameters (property_of n) x }
 {
@@ -66,7 +62,6 @@ fn change_of(parameters: Parameters, n: u8, x: u32) -> Request
 }
 
 #[tactic(auto, unfolding(lighting_levels::specs::Paper::Level::real))]
-
 fn real_at(b: &[u8], at: usize) -> f32
     ensures { result ≡ real (big_endian 4 b.now at) }
 {
@@ -74,7 +69,6 @@ fn real_at(b: &[u8], at: usize) -> f32
 }
 
 #[tactic(auto, using(lighting_frames::proofs::Laws::request_of_on), unfolding(lighting_frames::specs::Paper::Frames::request_of))]
-
 pub fn request_of(parameters: Parameters, action: Action, b: &[u8]) -> Request
     ensures { result ≡ request_of parameters action b.now }
 {

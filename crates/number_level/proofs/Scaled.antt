@@ -7,7 +7,7 @@ use native.Mathlib.Omega.{arith}
 use lib.IntN.{ℤ, pos, negsuc}
 use lib.Dec.{T, leb, ltb, eqb, ltb→lt, le→leb, lit<, lit≤}
 use lib.Pow.{pow-add, pow_mono}
-use lib.Ieee.{Float, fin, binary32, binary64, up, down, mul, le, fits, is_nan, of_int, in_float, in_unsigned, to_unsigned}
+use lib.Ieee.{Float, nan, inf, fin, binary32, binary64, up, down, mul, le, fits, is_nan, of_int, in_float, in_unsigned, to_unsigned}
 use lib.Ieee.Digits.{back}
 use lib.Ieee.Fits.{down_pos, and_i, and_l, and_r, fits_widens}
 use lib.Ieee.Back.{unsigned_back}
@@ -72,6 +72,9 @@ unfolding amount_of is_nan if◌then◌else◌
 scaled x f h k = go x f h k (between eighth x hundred tt tt h k)
   where
     go : (x : Float) → T (fits binary32 x) → T (le eighth x) → T (le x hundred) → T (positive x) → Scaled x
+    go nan f h k p = elim p [ ]
+    go (inf s) f h k p = elim p [ ]
+    go (fin true m e) f h k p = elim p [ ]
     go (fin false m e) f h k p =
         let lo : 1 * down e ≤ m * up e * 8 = le→cross eighth (fin false m e) tt p h in
         let hi : m * up e * 1 ≤ 100 * down e = le→cross (fin false m e) hundred p tt k in
@@ -93,9 +96,9 @@ pub few_units : (n : ℕ) → n ≤ 6710886400 → nearest_to n 1024 ≤ 6553600
 few_units n h = nearest_mono n 1024 6710886400 1024 (lit< tt) (lit< tt) (mul-le-mul_right 1024 h)
 
 -- so `as u64` asks no more, and gives n
-in_float : (n : ℕ) → n ≤ 6710886400 → T (in_float binary64 (pos n))
+in_float_lem : (n : ℕ) → n ≤ 6710886400 → T (in_float binary64 (pos n))
 unfolding in_float
-in_float n h = le→leb n (2 ^ 53) (le_trans h (lit≤ tt))
+in_float_lem n h = le→leb n (2 ^ 53) (le_trans h (lit≤ tt))
 
 pub cast : {x : Float} → (s : Scaled x) → T (in_unsigned binary64 64 (mul binary64 x scale)) × (to_unsigned 64 (mul binary64 x scale) ≡ s.n)
-cast s = rw s.is (unsigned_back binary64 64 s.n (in_float s.n s.small) (lt_of_le_of_lt s.small (lit< tt)))
+cast s = rw s.is (unsigned_back binary64 64 s.n (in_float_lem s.n s.small) (lt_of_le_of_lt s.small (lit< tt)))

@@ -105,7 +105,6 @@ pub fn level_of_real(x: f32) -> Level
 }
 
 #[tactic(auto, unfolding(lighting_levels::specs::Paper::Level::amount_of))]
-
 pub fn amount_of(pattern: u32) -> Level
     ensures { result ≡ amount_of (real pattern) }
 {
@@ -113,7 +112,6 @@ pub fn amount_of(pattern: u32) -> Level
 }
 
 #[tactic(auto, unfolding(lighting_levels::specs::Paper::Level::limit_of))]
-
 pub fn limit_of(pattern: u32) -> Level
     ensures { result ≡ limit_of (real pattern) }
 {
@@ -121,7 +119,6 @@ pub fn limit_of(pattern: u32) -> Level
 }
 
 #[tactic(auto, unfolding(lighting_levels::specs::Paper::Level::level_of))]
-
 pub fn level_of(pattern: u32) -> Level
     ensures { result ≡ level_of (real pattern) }
 {
@@ -131,7 +128,6 @@ pub fn level_of(pattern: u32) -> Level
 // ---- in range or not
 
 #[tactic(auto, using(lighting_levels::proofs::Choosing::ifs, lighting_levels::proofs::Laws::in_range_on), unfolding(lighting_levels::specs::Paper::Level::in_range))]
-
 pub fn in_range(level: Level) -> bool
     ensures { result ≡ in_range level }
 {
@@ -142,7 +138,6 @@ pub fn in_range(level: Level) -> bool
 }
 
 #[tactic(auto, using(lighting_levels::proofs::Choosing::ifs, lighting_levels::proofs::Laws::units_or_on), unfolding(lighting_levels::specs::Paper::Level::units_or))]
-
 pub fn units_or(otherwise: u32, level: Level) -> u32
     ensures { result ≡ units_or otherwise level }
 {

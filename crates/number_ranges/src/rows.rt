@@ -11,7 +11,6 @@ use lighting_outputs::{Parameters, Property, Range};
 const LONGEST_BLINK: u32 = 86400000;
 
 #[tactic(auto, using(lighting_levels::proofs::Choosing::ifs, lighting_outputs::proofs::Laws::row_of_on))]
-
 pub fn row_of(parameters: Parameters, p: Property) -> Range
     ensures { result ≡ row_of parameters p }
 {
@@ -66,7 +65,6 @@ pub fn is_amount(x: f32) -> bool
 }
 
 #[tactic(auto, unfolding(lighting_outputs::specs::Paper::Rows::is_amount))]
-
 pub fn is_amount_pattern(pattern: u32) -> bool
     ensures { result ≡ is_amount (real pattern) }
 {
@@ -74,7 +72,6 @@ pub fn is_amount_pattern(pattern: u32) -> bool
 }
 
 #[tactic(auto, using(lighting_levels::proofs::Choosing::ifs, lighting_outputs::proofs::Laws::meets_on), unfolding(lighting_outputs::specs::Paper::Rows::meets))]
-
 fn is_met(row: Range, v: u32) -> bool
     ensures { result ≡ meets row v }
 {

@@ -71,7 +71,6 @@ fn warning_by(t: u64, w: Warning, e: u64) -> bool
 }
 
 #[tactic(auto, unfolding(lighting_outputs::specs::Paper::Rules::warning_sound))]
-
 fn warning_sound(t: u64, w: Warning) -> bool
     ensures { result ≡ warning_sound t w }
 {

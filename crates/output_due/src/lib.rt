@@ -12,7 +12,6 @@ use lighting_outputs::{Activity, Moment, Output, Phase, SLOT_6, Slots, Timer, Wa
 // ---- when
 
 #[tactic(auto, using(lighting_levels::proofs::Choosing::ifs, lighting_outputs::proofs::Laws::timer_due_on), unfolding(lighting_outputs::specs::Paper::Passing::timer_due))]
-
 pub fn timer_due(m: Timer) -> Moment
     ensures { result ≡ timer_due m }
 {
@@ -23,7 +22,6 @@ pub fn timer_due(m: Timer) -> Moment
 }
 
 #[tactic(auto, using(lighting_levels::proofs::Choosing::ifs, lighting_outputs::proofs::Laws::phase_end_on), unfolding(lighting_outputs::specs::Paper::Passing::phase_end))]
-
 pub fn phase_end(w: Warning, p: Phase) -> u64
     ensures { result ≡ phase_end w p }
 {
@@ -34,7 +32,6 @@ pub fn phase_end(w: Warning, p: Phase) -> u64
 }
 
 #[tactic(auto, using(lighting_levels::proofs::Choosing::ifs, lighting_outputs::proofs::Laws::activity_due_on), unfolding(lighting_outputs::specs::Paper::Passing::activity_due))]
-
 pub fn activity_due(a: Activity) -> Moment
     ensures { result ≡ activity_due a }
 {
@@ -49,7 +46,6 @@ pub fn activity_due(a: Activity) -> Moment
 }
 
 #[tactic(auto, using(lighting_levels::proofs::Choosing::ifs, lighting_outputs::proofs::Laws::is_due_on), unfolding(lighting_outputs::specs::Paper::Passing::is_due))]
-
 fn is_due(t: u64, d: Moment) -> bool
     ensures { result ≡ is_due t d }
 {
@@ -60,7 +56,6 @@ fn is_due(t: u64, d: Moment) -> bool
 }
 
 #[tactic(auto, unfolding(lighting_outputs::specs::Paper::Passing::is_due))]
-
 fn is_timer_due(t: u64, m: Timer) -> bool
     ensures { result ≡ is_due t (timer_due m) }
 {
@@ -68,7 +63,6 @@ fn is_timer_due(t: u64, m: Timer) -> bool
 }
 
 #[tactic(auto, unfolding(lighting_outputs::specs::Paper::Passing::is_due))]
-
 fn is_activity_due(t: u64, a: Activity) -> bool
     ensures { result ≡ is_due t (activity_due a) }
 {
@@ -90,7 +84,6 @@ pub fn is_any_due(t: u64, m: Timer, a: Activity) -> bool
 // ---- a duration
 
 #[tactic(auto, using(lighting_levels::proofs::Choosing::ifs), unfolding(lighting_outputs::specs::Paper::Passing::timer_at))]
-
 fn timer_at(t: u64, m: Timer) -> Timer
     ensures { result ≡ timer_at t m }
 {
@@ -98,7 +91,6 @@ fn timer_at(t: u64, m: Timer) -> Timer
 }
 
 #[tactic(auto, using(lighting_levels::proofs::Choosing::ifs, lighting_outputs::proofs::Laws::emptied_by_on), unfolding(lighting_outputs::specs::Paper::Passing::emptied_by))]
-
 fn empty_by(m: Timer, s: Slots) -> Slots
     ensures { result ≡ emptied_by m s }
 {
@@ -109,7 +101,6 @@ fn empty_by(m: Timer, s: Slots) -> Slots
 }
 
 #[tactic(auto, using(lighting_levels::proofs::Choosing::ifs), unfolding(lighting_outputs::specs::Paper::Passing::expired))]
-
 fn expire(t: u64, m: Timer, s: Slots) -> Slots
     ensures { result ≡ expired t m s }
 {
@@ -133,7 +124,6 @@ pub fn end_movement_of(q: u8, a: Activity) -> Activity
 }
 
 #[tactic(auto, using(lighting_levels::proofs::Choosing::ifs, lighting_outputs::proofs::Laws::end_movement_by_on), unfolding(lighting_outputs::specs::Paper::Passing::end_movement_by))]
-
 fn end_movement_by(m: Timer, a: Activity) -> Activity
     ensures { result ≡ end_movement_by m a }
 {
@@ -144,7 +134,6 @@ fn end_movement_by(m: Timer, a: Activity) -> Activity
 }
 
 #[tactic(auto, using(lighting_levels::proofs::Choosing::ifs), unfolding(lighting_outputs::specs::Paper::Passing::end_movement_on_expiry))]
-
 fn end_movement_on_expiry(t: u64, m: Timer, a: Activity) -> Activity
     ensures { result ≡ end_movement_on_expiry t m a }
 {
@@ -158,7 +147,6 @@ fn end_movement_on_expiry(t: u64, m: Timer, a: Activity) -> Activity
 // ---- a phase of a warning, or the end of a movement
 
 #[tactic(auto, using(lighting_levels::proofs::Choosing::ifs), unfolding(lighting_outputs::specs::Paper::Passing::delayed))]
-
 fn delay(w: Warning) -> Warning
     ensures { result ≡ delayed w }
 {
@@ -172,7 +160,6 @@ fn delay(w: Warning) -> Warning
 }
 
 #[tactic(auto, using(lighting_levels::proofs::Choosing::ifs, lighting_outputs::proofs::Laws::next_phase_on), unfolding(lighting_outputs::specs::Paper::Passing::next_phase))]
-
 fn next_phase(w: Warning, p: Phase) -> Activity
     ensures { result ≡ next_phase w p }
 {
@@ -187,7 +174,6 @@ fn next_phase(w: Warning, p: Phase) -> Activity
 }
 
 #[tactic(auto, using(lighting_levels::proofs::Choosing::ifs, lighting_outputs::proofs::Laws::next_activity_on), unfolding(lighting_outputs::specs::Paper::Passing::next_activity))]
-
 fn next_activity(a: Activity) -> Activity
     ensures { result ≡ next_activity a }
 {
@@ -202,7 +188,6 @@ fn next_activity(a: Activity) -> Activity
 }
 
 #[tactic(auto, using(lighting_levels::proofs::Choosing::ifs), unfolding(lighting_outputs::specs::Paper::Passing::activity_at))]
-
 fn activity_at(t: u64, a: Activity) -> Activity
     ensures { result ≡ activity_at t a }
 {
@@ -222,7 +207,6 @@ fn warning_empty(s: Slots, i: u8) -> Slots
 }
 
 #[tactic(auto, using(lighting_levels::proofs::Choosing::ifs, lighting_outputs::proofs::Laws::phase_slots_on), unfolding(lighting_outputs::specs::Paper::Passing::phase_slots))]
-
 fn phase_slots(w: Warning, p: Phase, s: Slots) -> Slots
     ensures { result ≡ phase_slots w p s }
 {
@@ -237,7 +221,6 @@ fn phase_slots(w: Warning, p: Phase, s: Slots) -> Slots
 }
 
 #[tactic(auto, using(lighting_levels::proofs::Choosing::ifs, lighting_outputs::proofs::Laws::next_slots_on), unfolding(lighting_outputs::specs::Paper::Passing::next_slots))]
-
 fn next_slots(a: Activity, s: Slots) -> Slots
     ensures { result ≡ next_slots a s }
 {
@@ -252,7 +235,6 @@ fn next_slots(a: Activity, s: Slots) -> Slots
 }
 
 #[tactic(auto, using(lighting_levels::proofs::Choosing::ifs), unfolding(lighting_outputs::specs::Paper::Passing::slots_at))]
-
 fn slots_at(t: u64, a: Activity, s: Slots) -> Slots
     ensures { result ≡ slots_at t a s }
 {

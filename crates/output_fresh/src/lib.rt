@@ -25,7 +25,6 @@ fn fresh_fade(parameters: Parameters) -> u32
 }
 
 #[tactic(auto, using(lighting_levels::proofs::Choosing::ifs), unfolding(lighting_levels::specs::Paper::Level::real, lighting_outputs::specs::Paper::Fresh::fresh_settings))]
-
 fn fresh_settings(fade: u32) -> Settings
     ensures { result ≡ fresh_settings fade }
 {
@@ -84,7 +83,6 @@ fn fresh_with(fade: u32) -> Output
 }
 
 #[tactic(auto, unfolding(lighting_outputs::specs::Paper::Fresh::fresh_for))]
-
 pub fn fresh_output(parameters: Parameters) -> Output
     ensures { result ≡ fresh_for parameters }
 {

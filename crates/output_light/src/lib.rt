@@ -85,7 +85,6 @@ fn count_before(from: u64, n: u64, d: Moment) -> u64
 }
 
 #[tactic(auto, using(lighting_levels::proofs::Choosing::ifs, lighting_outputs::proofs::Laws::count_since_on), unfolding(lighting_outputs::specs::Engine::Light::count_since))]
-
 fn count_since(from: u64, n: u64, d: Moment) -> u64
     ensures { result ≡ count_since from n d }
 {
@@ -96,7 +95,6 @@ fn count_since(from: u64, n: u64, d: Moment) -> u64
 }
 
 #[tactic(auto, using(lighting_levels::proofs::Choosing::ifs), unfolding(lighting_outputs::specs::Engine::Light::lit_from_zero))]
-
 fn lit_from_zero(s: u32, w: u32, from: u64, n: u64, m: Movement) -> u64
     ensures { result ≡ lit_from_zero s w from n m }
 {
@@ -108,7 +106,6 @@ fn lit_from_zero(s: u32, w: u32, from: u64, n: u64, m: Movement) -> u64
 }
 
 #[tactic(auto, using(lighting_levels::proofs::Choosing::ifs), unfolding(lighting_outputs::specs::Engine::Light::lit_from_light))]
-
 fn lit_from_light(s: u32, w: u32, from: u64, n: u64, m: Movement) -> u64
     ensures { result ≡ lit_from_light s w from n m }
 {
@@ -143,7 +140,6 @@ fn way(m: Movement) -> u32
 }
 
 #[tactic(auto, using(lighting_outputs::proofs::Laws::lit_by_pace_on), unfolding(lighting_outputs::specs::Engine::Light::lit_by_pace, lighting_outputs::specs::Engine::Light::lit_moving))]
-
 fn lit_moving(from: u64, n: u64, m: Movement) -> u64
     ensures { result ≡ lit_moving from n m }
 {
@@ -164,7 +160,6 @@ pub fn is_moving(o: Output) -> bool
 }
 
 #[tactic(auto, using(lighting_levels::proofs::Choosing::ifs, lighting_outputs::proofs::Laws::lit_in_movement_on), unfolding(lighting_outputs::specs::Engine::Light::lit_in_movement))]
-
 pub fn lit_in_movement(from: u64, n: u64, a: Activity) -> u64
     ensures { result ≡ lit_in_movement from n a }
 {
@@ -187,7 +182,6 @@ pub fn lit_resting(n: u64, o: Output) -> u64
 }
 
 #[tactic(auto, using(lighting_levels::proofs::Choosing::ifs), unfolding(lighting_outputs::specs::Engine::Light::lit_stretch))]
-
 pub fn lit_stretch(from: u64, n: u64, o: Output) -> u64
     ensures { result ≡ lit_stretch from n o }
 {

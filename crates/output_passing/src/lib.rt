@@ -24,7 +24,6 @@ fn added(a: u64, b: u64) -> u64
 // ---- burning time
 
 #[tactic(auto, unfolding(lighting_outputs::specs::Engine::Advance::burned_by))]
-
 fn burn(lit: u64, o: Output) -> Output
     ensures { result ≡ burned_by lit o }
 {
@@ -32,7 +31,6 @@ fn burn(lit: u64, o: Output) -> Output
 }
 
 #[tactic(auto, unfolding(lighting_outputs::specs::Engine::Advance::with_burned_saturating))]
-
 fn with_burned_saturating(from: u64, n: u64, o: Output) -> Output
     ensures { result ≡ with_burned_saturating from n o }
 {
@@ -42,7 +40,6 @@ fn with_burned_saturating(from: u64, n: u64, o: Output) -> Output
 // ---- the next due moment, or `to` if nothing falls due before it
 
 #[tactic(auto, using(lighting_levels::proofs::Choosing::ifs, lighting_outputs::proofs::Laws::sooner_on), unfolding(lighting_outputs::specs::Engine::Advance::sooner))]
-
 fn sooner(to: u64, d: Moment) -> u64
     ensures { result ≡ sooner to d }
 {
@@ -53,7 +50,6 @@ fn sooner(to: u64, d: Moment) -> u64
 }
 
 #[tactic(auto, unfolding(lighting_outputs::specs::Engine::Advance::due))]
-
 fn next_due(to: u64, o: Output) -> u64
     ensures { result ≡ due to o }
 {
@@ -92,7 +88,6 @@ fn stretch(now: u64, d: u64, fires: bool, o: Output) -> Output
 }
 
 #[tactic(auto, unfolding(lighting_outputs::specs::Engine::Advance::event_steps))]
-
 fn one_event_step(now: u64, to: u64, o: Output) -> Output
     ensures { result ≡ event_steps 1 now to o }
 {
@@ -101,7 +96,6 @@ fn one_event_step(now: u64, to: u64, o: Output) -> Output
 }
 
 #[tactic(auto, unfolding(lighting_outputs::specs::Engine::Advance::event_steps))]
-
 fn two_event_steps(now: u64, to: u64, o: Output) -> Output
     ensures { result ≡ event_steps 2 now to o }
 {
@@ -110,7 +104,6 @@ fn two_event_steps(now: u64, to: u64, o: Output) -> Output
 }
 
 #[tactic(auto, unfolding(lighting_outputs::specs::Engine::Advance::advance, lighting_outputs::specs::Engine::Advance::event_steps))]
-
 pub fn three_event_steps(now: u64, to: u64, o: Output) -> Output
     ensures { result ≡ advance now to o }
 {
@@ -122,7 +115,6 @@ pub fn three_event_steps(now: u64, to: u64, o: Output) -> Output
 // all of it
 
 #[tactic(auto, unfolding(lighting_outputs::specs::Engine::Advance::later))]
-
 pub fn is_later(to: u64, o: Output) -> bool
     ensures { result ≡ later to o }
 {
@@ -142,7 +134,6 @@ pub fn rest(now: u64, to: u64, o: Output) -> Output
 }
 
 #[tactic(auto, unfolding(lighting_outputs::specs::Engine::Advance::burned_by))]
-
 pub fn move_on(now: u64, to: u64, o: Output) -> Output
     ensures { result ≡ burned_by (lit_in_movement now (to - now) o.activity) o }
 {

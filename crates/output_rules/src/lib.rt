@@ -33,7 +33,6 @@ fn levels_sound(parameters: Parameters, c: Settings) -> bool
 }
 
 #[tactic(auto, using(lighting_levels::proofs::Choosing::ifs), unfolding(lighting_outputs::specs::Paper::Rules::times_sound))]
-
 fn times_sound(parameters: Parameters, c: Settings) -> bool
     ensures { result ≡ times_sound parameters c }
 {
@@ -49,7 +48,6 @@ fn times_sound(parameters: Parameters, c: Settings) -> bool
 }
 
 #[tactic(auto, using(lighting_levels::proofs::Choosing::ifs), unfolding(lighting_outputs::specs::Paper::Rules::reals_sound))]
-
 fn reals_sound(c: Settings) -> bool
     ensures { result ≡ reals_sound c }
 {
@@ -61,7 +59,6 @@ fn reals_sound(c: Settings) -> bool
 }
 
 #[tactic(auto, using(lighting_levels::proofs::Choosing::ifs), unfolding(lighting_outputs::specs::Paper::Rules::settings_sound))]
-
 fn settings_sound(parameters: Parameters, c: Settings) -> bool
     ensures { result ≡ settings_sound parameters c }
 {

@@ -17,7 +17,6 @@ pub fn winning(s: Slots) -> u32
 }
 
 #[tactic(auto, using(lighting_outputs::proofs::Priorities::Mask::dead_past, lighting_outputs::proofs::Priorities::Mask::tested), unfolding(lighting_outputs::specs::Paper::Slots::is_live))]
-
 pub fn is_live(s: Slots, i: u8) -> bool
     ensures { result ≡ is_live s i }
 {
@@ -29,7 +28,6 @@ pub fn is_live(s: Slots, i: u8) -> bool
 }
 
 #[tactic(auto, using(lighting_levels::proofs::Choosing::ifs, lighting_outputs::proofs::Priorities::Mask::shifted), unfolding(lighting_outputs::specs::Paper::Slots::mask_emptied))]
-
 fn mask_empty(live: u16, i: u8) -> u16
     ensures { result ≡ mask_emptied live i }
 {
@@ -41,7 +39,6 @@ fn mask_empty(live: u16, i: u8) -> u16
 }
 
 #[tactic(auto, using(lighting_levels::proofs::Choosing::ifs, lighting_outputs::proofs::Priorities::Mask::shifted), unfolding(lighting_outputs::specs::Paper::Slots::mask_filled))]
-
 fn mask_fill(live: u16, i: u8) -> u16
     ensures { result ≡ mask_filled live i }
 {
@@ -53,7 +50,6 @@ fn mask_fill(live: u16, i: u8) -> u16
 }
 
 #[tactic(auto, using(lighting_levels::proofs::Choosing::ifs), unfolding(lighting_outputs::specs::Paper::Slots::level_set))]
-
 fn level_set(levels: [u32; SLOTS], i: u8, v: u32) -> [u32; SLOTS]
     ensures { result ≡ level_set levels i v }
 {
@@ -77,7 +73,6 @@ pub fn empty(s: Slots, i: u8) -> Slots
 }
 
 #[tactic(auto, unfolding(lighting_outputs::specs::Paper::Slots::put))]
-
 pub fn fill(s: Slots, i: u8, v: u32) -> Slots
     ensures { result ≡ filled s i v }
 {

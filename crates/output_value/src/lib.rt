@@ -44,7 +44,6 @@ pub fn clamp(c: Settings, v: u64) -> u32
 }
 
 #[tactic(auto, using(lighting_levels::proofs::Choosing::ifs), unfolding(lighting_outputs::specs::Paper::Value::clamp_lit))]
-
 pub fn clamp_lit(c: Settings, v: u32) -> u32
     ensures { result ≡ clamp_lit c v }
 {
@@ -52,7 +51,6 @@ pub fn clamp_lit(c: Settings, v: u32) -> u32
 }
 
 #[tactic(auto, unfolding(lighting_outputs::specs::Paper::Value::present_value))]
-
 pub fn present_value(c: Settings, s: Slots) -> u32
     ensures { result ≡ present_value c s }
 {
@@ -97,7 +95,6 @@ fn ramp_distance(rate: u32, d: u32, k: u32) -> u32
 }
 
 #[tactic(auto, using(lighting_levels::proofs::Choosing::ifs, lighting_outputs::proofs::Laws::distance_moved_on), unfolding(lighting_outputs::specs::Paper::Value::distance_moved))]
-
 fn distance_moved(p: Pace, d: u32, l: u32, k: u32) -> u32
     requires { k ≤ l }
     ensures { result ≡ distance_moved p d l k }
@@ -109,7 +106,6 @@ fn distance_moved(p: Pace, d: u32, l: u32, k: u32) -> u32
 }
 
 #[tactic(auto, using(lighting_levels::proofs::Choosing::ifs, lighting_outputs::proofs::Time::Way::distance_moved_most), unfolding(lighting_outputs::specs::Paper::Value::reached_by))]
-
 fn reached_by(m: Movement, k: u32) -> u32
     requires { k ≤ m.length }
     ensures { result ≡ reached_by m k }
@@ -123,7 +119,6 @@ fn reached_by(m: Movement, k: u32) -> u32
 }
 
 #[tactic(auto, unfolding(lighting_outputs::specs::Paper::Value::reached))]
-
 fn reached(t: u64, m: Movement) -> u32
     ensures { result ≡ reached t m }
 {
@@ -133,7 +128,6 @@ fn reached(t: u64, m: Movement) -> u32
 // ---- Progress_Value and In_Process
 
 #[tactic(auto, using(lighting_levels::proofs::Choosing::ifs, lighting_outputs::proofs::Laws::progress_by_on), unfolding(lighting_outputs::specs::Paper::Value::progress_by))]
-
 fn progress_by(t: u64, v: u32, a: Activity) -> u32
     ensures { result ≡ progress_by t v a }
 {
@@ -145,7 +139,6 @@ fn progress_by(t: u64, v: u32, a: Activity) -> u32
 }
 
 #[tactic(auto, unfolding(lighting_outputs::specs::Paper::Value::progress_value))]
-
 pub fn progress_value(t: u64, o: Output) -> u32
     ensures { result ≡ progress_value t o }
 {
@@ -164,7 +157,6 @@ pub fn is_lit(t: u64, o: Output) -> bool
 }
 
 #[tactic(auto, using(lighting_levels::proofs::Choosing::ifs, lighting_outputs::proofs::Laws::in_process_on), unfolding(lighting_outputs::specs::Paper::Value::in_process))]
-
 pub fn in_process(a: Activity) -> u32
     ensures { result ≡ in_process a }
 {

@@ -25,7 +25,6 @@ fn is_zero_or_empty(s: Slots, i: usize) -> bool
 }
 
 #[tactic(auto, using(lighting_levels::proofs::Scan::scan_done, lighting_levels::proofs::Scan::scan_off, lighting_levels::proofs::Scan::scan_on), unfolding(lighting_outputs::specs::Paper::Writing::zero_or_empty_from))]
-
 fn zero_or_empty_from(s: Slots, from: usize) -> bool
     ensures { result ≡ zero_or_empty_from s from }
 {
@@ -91,7 +90,6 @@ fn warns_by(c: Settings, s: Slots, x: u8, w: u32, y: u32) -> bool
 }
 
 #[tactic(auto, unfolding(lighting_outputs::specs::Paper::Writing::warns))]
-
 pub fn does_warn(c: Settings, s: Slots, x: u8) -> bool
     ensures { result ≡ warns c s x }
 {
@@ -115,7 +113,6 @@ pub fn first_level(c: Settings, y: u32) -> u32
 }
 
 #[tactic(auto, using(lighting_levels::proofs::Choosing::ifs), unfolding(lighting_outputs::specs::Paper::Writing::first_phase))]
-
 fn first_phase(c: Settings) -> Phase
     ensures { result ≡ first_phase c }
 {

@@ -25,7 +25,6 @@ fn end_movement_unless_above(i: u8, a: Activity) -> Activity
 }
 
 #[tactic(auto, unfolding(lighting_outputs::specs::Paper::Writing::stored))]
-
 fn store(o: Output, i: u8, v: u32) -> Output
     ensures { result ≡ stored o i v }
 {
@@ -41,7 +40,6 @@ fn store(o: Output, i: u8, v: u32) -> Output
 // ---- a warning starts
 
 #[tactic(auto, unfolding(lighting_outputs::specs::Paper::Writing::warned_by))]
-
 fn warn_by(t: u64, o: Output, x: u8, y: u32) -> Output
     requires { t < 2 ^ 48 }
     ensures { result ≡ warned_by t o x y }
@@ -73,7 +71,6 @@ fn warn(t: u64, o: Output, x: u8) -> Output
 // ---- during a warning
 
 #[tactic(auto, unfolding(lighting_outputs::specs::Paper::Writing::ended_empty))]
-
 fn end_empty(o: Output, i: u8) -> Output
     ensures { result ≡ ended_empty o i }
 {
@@ -86,7 +83,6 @@ fn end_empty(o: Output, i: u8) -> Output
 }
 
 #[tactic(auto, unfolding(lighting_outputs::specs::Paper::Writing::ended_stored))]
-
 fn end_store(o: Output, i: u8, v: u32) -> Output
     ensures { result ≡ ended_stored o i v }
 {
@@ -117,7 +113,6 @@ fn write_warned(o: Output, i: u8, v: u32) -> Output
 // ---- kind 02
 
 #[tactic(auto, using(lighting_levels::proofs::Choosing::ifs), unfolding(lighting_outputs::specs::Paper::Writing::written_zero))]
-
 fn write_zero(t: u64, o: Output, i: u8) -> Output
     requires { t < 2 ^ 48 }
     ensures { result ≡ written_zero t o i }
@@ -132,7 +127,6 @@ fn write_zero(t: u64, o: Output, i: u8) -> Output
 }
 
 #[tactic(auto, using(lighting_levels::proofs::Choosing::ifs), unfolding(lighting_outputs::specs::Paper::Writing::written_calm))]
-
 fn write_calm(t: u64, o: Output, i: u8, v: u32) -> Output
     requires { t < 2 ^ 48 }
     ensures { result ≡ written_calm t o i v }
@@ -145,7 +139,6 @@ fn write_calm(t: u64, o: Output, i: u8, v: u32) -> Output
 }
 
 #[tactic(auto, using(lighting_levels::proofs::Choosing::ifs, lighting_outputs::proofs::Laws::written_by_on), unfolding(lighting_outputs::specs::Paper::Writing::written_by))]
-
 fn write_by(t: u64, o: Output, i: u8, v: u32, a: Activity) -> Output
     requires { t < 2 ^ 48 }
     ensures { result ≡ written_by t o i v a }
@@ -158,7 +151,6 @@ fn write_by(t: u64, o: Output, i: u8, v: u32, a: Activity) -> Output
 }
 
 #[tactic(auto, unfolding(lighting_outputs::specs::Paper::Writing::written))]
-
 pub fn write(t: u64, o: Output, i: u8, v: u32) -> Output
     requires { t < 2 ^ 48 }
     ensures { result ≡ written t o i v }
@@ -182,7 +174,6 @@ fn relinquish_activity(live: bool, i: u8, a: Activity) -> Activity
 }
 
 #[tactic(auto, unfolding(lighting_outputs::specs::Paper::Writing::slot_relinquished))]
-
 pub fn relinquish_slot(o: Output, i: u8) -> Output
     ensures { result ≡ slot_relinquished o i }
 {

@@ -17,7 +17,6 @@ use lighting_panel::PanelRecord;
 // ---- refusal 1
 
 #[tactic(auto, using(crate::proofs::Loops::every_all, crate::proofs::Loops::every_more, crate::proofs::Loops::every_stop))]
-
 fn outputs_sound(outputs: &[Output], parameters: Parameters, t: u64) -> bool
     ensures { result ≡ every (sound parameters t) outputs.now }
 {
@@ -33,7 +32,6 @@ fn outputs_sound(outputs: &[Output], parameters: Parameters, t: u64) -> bool
 }
 
 #[tactic(auto, using(crate::proofs::Loops::every_all, crate::proofs::Loops::every_more, crate::proofs::Loops::every_stop))]
-
 fn stations_sound(stations: &[Station]) -> bool
     ensures { result ≡ every station_sound stations.now }
 {

@@ -16,7 +16,6 @@ use lighting_outputs::{Answer, Output, OutputRequest, Parameters, Request};
 // ---- each record of a table
 
 #[tactic(auto, using(crate::proofs::Loops::mapped, crate::proofs::Loops::mapped_alike, crate::proofs::Loops::mapped_more))]
-
 pub fn fresh_outputs(outputs: &mut [Output], parameters: Parameters)
     ensures { outputs.new ≡ replicate (length outputs.old) (fresh_for parameters) }
 {
@@ -29,7 +28,6 @@ pub fn fresh_outputs(outputs: &mut [Output], parameters: Parameters)
 }
 
 #[tactic(auto, using(crate::proofs::Loops::mapped, crate::proofs::Loops::mapped_alike, crate::proofs::Loops::mapped_more))]
-
 pub fn fresh_stations(stations: &mut [Station])
     ensures { stations.new ≡ replicate (length stations.old) fresh_station }
 {

@@ -9,7 +9,6 @@ ghost use Rattle.lighting_outputs.specs.Paper.Properties.{level_answer, slot_ans
 use lighting_outputs::{Answer, Duration, Output, Property, RealField, Slots, TimeField};
 
 #[tactic(auto, unfolding(lighting_outputs::specs::Paper::Properties::level_answer))]
-
 fn level_answer(v: u32) -> Answer
     ensures { result ≡ level_answer v }
 {
@@ -49,7 +48,6 @@ fn unhidden_answer(tenant: bool, s: Slots, i: u8) -> Answer
 }
 
 #[tactic(auto, using(lighting_levels::proofs::Choosing::ifs), unfolding(lighting_outputs::specs::Paper::Properties::flag))]
-
 fn flag(b: bool) -> u32
     ensures { result ≡ flag b }
 {
@@ -77,7 +75,6 @@ fn elapsed_active(burning: u64) -> u32
 }
 
 #[tactic(auto, unfolding(lighting_outputs::specs::Paper::Properties::real_answer))]
-
 fn real_answer(x: f32) -> Answer
     ensures { result ≡ real_answer x }
 {
@@ -97,7 +94,6 @@ fn real_field_answer(x: RealField) -> Answer
 }
 
 #[tactic(auto, using(lighting_levels::proofs::Choosing::ifs, lighting_outputs::proofs::Laws::time_field_answer_on), unfolding(lighting_outputs::specs::Paper::Properties::time_field_answer))]
-
 fn time_field_answer(x: TimeField) -> Answer
     ensures { result ≡ time_field_answer x }
 {
@@ -108,7 +104,6 @@ fn time_field_answer(x: TimeField) -> Answer
 }
 
 #[tactic(auto, using(lighting_levels::proofs::Choosing::ifs, lighting_outputs::proofs::Laws::last_duration_on), unfolding(lighting_outputs::specs::Paper::Properties::last_duration))]
-
 fn last_duration(d: Duration) -> Answer
     ensures { result ≡ last_duration d }
 {

@@ -85,7 +85,6 @@ pub fn number_of(p: Property) -> u32
 }
 
 #[tactic(auto, unfolding(lighting_outputs::specs::Paper::Properties::same))]
-
 pub fn is_same(n: Property, m: Property) -> bool
     ensures { result ≡ same n m }
 {

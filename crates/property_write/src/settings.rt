@@ -11,7 +11,6 @@ use lighting_outputs::{Activity, Output, Property, Relay, Settings};
 // ---- a field of the property `field`: the new value if this is the one that is written, else as it was
 
 #[tactic(auto, using(lighting_levels::proofs::Choosing::ifs))]
-
 fn number_with(field: Property, n: Property, v: u32, was: u32) -> u32
     ensures { result ≡ (if same field n then v else was) }
 {
@@ -19,7 +18,6 @@ fn number_with(field: Property, n: Property, v: u32, was: u32) -> u32
 }
 
 #[tactic(auto, using(lighting_levels::proofs::Choosing::ifs))]
-
 fn real_with(field: Property, n: Property, v: u32, was: f32) -> f32
     ensures { result ≡ (if same field n then real v else was) }
 {
@@ -31,7 +29,6 @@ fn real_with(field: Property, n: Property, v: u32, was: f32) -> f32
 }
 
 #[tactic(auto, using(lighting_levels::proofs::Choosing::ifs))]
-
 fn flag_with(field: Property, n: Property, v: u32, was: bool) -> bool
     ensures { result ≡ (if same field n then eqb v 1 else was) }
 {
@@ -39,7 +36,6 @@ fn flag_with(field: Property, n: Property, v: u32, was: bool) -> bool
 }
 
 #[tactic(auto, using(lighting_levels::proofs::Choosing::ifs))]
-
 fn slot_with(field: Property, n: Property, v: u32, was: u8) -> u8
     ensures { result ≡ (if same field n then v % 256 else was) }
 {
@@ -51,7 +47,6 @@ fn slot_with(field: Property, n: Property, v: u32, was: u8) -> u8
 }
 
 #[tactic(auto, unfolding(lighting_outputs::specs::Paper::Properties::settings_with))]
-
 pub fn settings_with(c: Settings, n: Property, v: u32) -> Settings
     ensures { result ≡ settings_with c n v }
 {

@@ -8,7 +8,6 @@ use lighting_levels::Level;
 use lighting_outputs::{OutputRequest, Property, Range, Request};
 
 #[tactic(auto, using(lighting_levels::proofs::Choosing::ifs, lighting_outputs::proofs::Laws::change_to_on), unfolding(lighting_outputs::specs::Paper::Properties::change_to))]
-
 fn change_to(n: Property, v: Level) -> Request
     ensures { result ≡ change_to n v }
 {
@@ -19,7 +18,6 @@ fn change_to(n: Property, v: Level) -> Request
 }
 
 #[tactic(auto, using(crate::proofs::Priorities::priority_range, lighting_levels::proofs::Choosing::ifs, lighting_outputs::proofs::Laws::change_by_on), unfolding(lighting_outputs::specs::Paper::Properties::change_by))]
-
 pub fn change_by(row: Range, n: Property, x: u32) -> Request
     ensures { result ≡ change_by row n x }
 {

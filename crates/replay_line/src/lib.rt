@@ -46,7 +46,6 @@ fn answer(
 }
 
 #[tactic(auto, using(crate::proofs::Ends::ended, crate::proofs::Ends::started_by, text_printing::proofs::Pages::wrote_none), unfolding(crate::specs::Taking::taken_by))]
-
 pub fn take_line(
     outputs: &mut [Output],
     stations: &mut [Station],

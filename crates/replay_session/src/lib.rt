@@ -190,7 +190,6 @@ fn end_list(
 }
 
 #[tactic(auto, using(replay_line::proofs::Parts::replayed, replay_line::proofs::Parts::replayed_bad, replay_line::proofs::Parts::went_is))]
-
 fn replay(
     outputs: &mut [Output],
     stations: &mut [Station],

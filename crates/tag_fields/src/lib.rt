@@ -50,7 +50,6 @@ fn real_tag(x: RealField) -> TagField
 }
 
 #[tactic(auto, using(lighting_frames::proofs::Laws::whole_tag_on, lighting_levels::proofs::Choosing::ifs), unfolding(lighting_frames::specs::Paper::Tags::whole_tag))]
-
 fn whole_tag(x: TimeField) -> TagField
     ensures { result ≡ whole_tag x }
 {
@@ -75,7 +74,6 @@ pub fn field_size(field: TagField) -> usize
 }
 
 #[tactic(auto, using(lighting_frames::proofs::Laws::held_by_on, lighting_levels::proofs::Choosing::ifs), unfolding(lighting_frames::specs::Paper::Tags::held_by))]
-
 pub fn held_by(field: TagField) -> u32
     ensures { result ≡ held_by field }
 {
@@ -123,7 +121,6 @@ fn duration_field(duration: Duration) -> TimeField
 }
 
 #[tactic(auto, unfolding(lighting_frames::specs::Paper::Tags::command_tags))]
-
 pub fn command_tags(k: Command) -> TagFields
     ensures { result ≡ command_tags k }
 {

@@ -86,7 +86,6 @@ fn content(body: &[u8]) -> &[u8]
 }
 
 #[tactic(auto, unfolding(lighting_frames::specs::Paper::Tags::body_fields))]
-
 pub fn body_fields(body: &[u8]) -> TagFields
     ensures { result ≡ body_fields body.now }
 {

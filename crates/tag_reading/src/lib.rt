@@ -14,7 +14,6 @@ use lighting_outputs::{Operation, TimeField};
 // ---- refusal 14
 
 #[tactic(auto, unfolding(lighting_frames::specs::Paper::Tags::sizes))]
-
 fn sizes_of(f: TagFields) -> usize
     ensures { result ≡ sizes (listed f) }
 {
@@ -49,7 +48,6 @@ fn zero_beyond(body: &[u8]) -> bool
 }
 
 #[tactic(auto, using(lighting_frames::proofs::Laws::holds_at_most_on, lighting_levels::proofs::Choosing::ifs), unfolding(lighting_frames::specs::Paper::Tags::holds_at_most))]
-
 fn holds_at_most(most: u32, field: TagField) -> bool
     ensures { result ≡ holds_at_most most field }
 {
@@ -86,7 +84,6 @@ fn well_tagged(body: &[u8], f: TagFields) -> bool
 // ---- the operation and the duration
 
 #[tactic(auto, unfolding(lighting_levels::specs::Paper::Level::real))]
-
 fn real_in(field: TagField) -> f32
     ensures { result ≡ real (held_by field) }
 {
@@ -120,7 +117,6 @@ fn operation_of(f: TagFields) -> Operation
 }
 
 #[tactic(auto, using(lighting_frames::proofs::Laws::time_of_on, lighting_levels::proofs::Choosing::ifs), unfolding(lighting_frames::specs::Paper::Tags::time_of))]
-
 fn time_of(field: TagField) -> TimeField
     ensures { result ≡ time_of field }
 {
@@ -133,7 +129,6 @@ fn time_of(field: TagField) -> TimeField
 // ---- refusal 15
 
 #[tactic(auto, using(lighting_levels::proofs::Choosing::ifs), unfolding(lighting_frames::specs::Paper::Tags::both_or_neither))]
-
 fn both_or_neither(own: TagField, field: TagField) -> bool
     ensures { result ≡ both_or_neither own field }
 {
@@ -150,7 +145,6 @@ fn both_or_neither(own: TagField, field: TagField) -> bool
 }
 
 #[tactic(auto, using(lighting_frames::proofs::Laws::fewest_on), unfolding(lighting_frames::specs::Paper::Tags::fewest))]
-
 fn is_fewest(field: TagField) -> bool
     ensures { result ≡ fewest field }
 {
@@ -206,7 +200,6 @@ fn own_tags(own: TagFields, f: TagFields) -> bool
 // ---- the reading
 
 #[tactic(auto, using(lighting_levels::proofs::Choosing::ifs), unfolding(lighting_frames::specs::Paper::Tags::read_fields))]
-
 fn read_fields(f: TagFields) -> TaggedReading
     ensures { result ≡ read_fields f }
 {
@@ -224,7 +217,6 @@ fn read_fields(f: TagFields) -> TaggedReading
 }
 
 #[tactic(auto, using(lighting_levels::proofs::Choosing::ifs), unfolding(lighting_frames::specs::Paper::Tags::read_body))]
-
 pub fn read_body(body: &[u8]) -> TaggedReading
     ensures { result ≡ read_body body.now }
 {

@@ -12,7 +12,6 @@ use text_printing::{put, put_all, put_decimal, put_hex_bytes, put_hex8};
 // ---- fields
 
 #[tactic(auto, using(text_printing::proofs::Pages::wrote_then), unfolding(crate::specs::Block::level_field))]
-
 fn put_level_field(page: &mut [u8], at: usize, v: u32) -> usize
     ensures { Wrote page.old at (level_field v) page.new result }
 {
@@ -21,7 +20,6 @@ fn put_level_field(page: &mut [u8], at: usize, v: u32) -> usize
 }
 
 #[tactic(auto, unfolding(crate::specs::Block::slot_level))]
-
 fn put_slot_level(page: &mut [u8], at: usize, s: Slots, i: u8) -> usize
     ensures { Wrote page.old at (slot_level s i) page.new result }
 {
@@ -29,7 +27,6 @@ fn put_slot_level(page: &mut [u8], at: usize, s: Slots, i: u8) -> usize
 }
 
 #[tactic(auto, using(text_printing::proofs::Choices::choices), unfolding(crate::specs::Block::slot_field))]
-
 fn put_slot_field(page: &mut [u8], at: usize, s: Slots, i: u8) -> usize
     ensures { Wrote page.old at (slot_field s i) page.new result }
 {
@@ -41,7 +38,6 @@ fn put_slot_field(page: &mut [u8], at: usize, s: Slots, i: u8) -> usize
 }
 
 #[tactic(auto, using(crate::proofs::Turns::slots_turn, text_printing::proofs::Pages::wrote_as, text_printing::proofs::Pages::wrote_none), unfolding(crate::specs::Block::slot_fields))]
-
 fn put_slot_fields(page: &mut [u8], at: usize, s: Slots) -> usize
     ensures { Wrote page.old at (slot_fields s slot_count) page.new result }
 {
@@ -55,7 +51,6 @@ fn put_slot_fields(page: &mut [u8], at: usize, s: Slots) -> usize
 }
 
 #[tactic(auto, using(text_printing::proofs::Pages::wrote_then), unfolding(crate::specs::Block::hex_field))]
-
 fn put_hex_field(page: &mut [u8], at: usize, v: u32) -> usize
     ensures { Wrote page.old at (hex_field v) page.new result }
 {
@@ -64,7 +59,6 @@ fn put_hex_field(page: &mut [u8], at: usize, v: u32) -> usize
 }
 
 #[tactic(auto, using(crate::proofs::Turns::answer_field_on), unfolding(crate::specs::Block::answer_field))]
-
 fn put_answer_field(page: &mut [u8], at: usize, a: Answer) -> usize
     ensures { Wrote page.old at (answer_field a) page.new result }
 {
@@ -87,7 +81,6 @@ fn put_property(page: &mut [u8], at: usize, t: u64, o: Output, k: u8) -> usize
 }
 
 #[tactic(auto, using(crate::proofs::Turns::properties_turn, text_printing::proofs::Pages::wrote_as, text_printing::proofs::Pages::wrote_none), unfolding(crate::specs::Block::property_fields))]
-
 fn put_properties(page: &mut [u8], at: usize, t: u64, o: Output, k: u8, n: u8) -> usize
     requires k_bound { k < 128 }
     requires n_bound { n < 128 }
@@ -105,7 +98,6 @@ fn put_properties(page: &mut [u8], at: usize, t: u64, o: Output, k: u8, n: u8) -
 // ---- lines
 
 #[tactic(auto, using(text_printing::proofs::Pages::wrote_then), unfolding(crate::specs::Block::number_line))]
-
 fn put_number_line(page: &mut [u8], at: usize, word: &[u8], n: u64) -> usize
     ensures { Wrote page.old at (number_line word.now n) page.new result }
 {
@@ -115,7 +107,6 @@ fn put_number_line(page: &mut [u8], at: usize, word: &[u8], n: u64) -> usize
 }
 
 #[tactic(auto, using(text_printing::proofs::Pages::wrote_then), unfolding(crate::specs::Block::slots_line))]
-
 fn put_slots_line(page: &mut [u8], at: usize, s: Slots) -> usize
     ensures { Wrote page.old at (slots_line s) page.new result }
 {
@@ -125,7 +116,6 @@ fn put_slots_line(page: &mut [u8], at: usize, s: Slots) -> usize
 }
 
 #[tactic(auto, unfolding(crate::specs::Block::present_line))]
-
 fn put_present_line(page: &mut [u8], at: usize, o: Output) -> usize
     ensures { Wrote page.old at (present_line o) page.new result }
 {
@@ -135,7 +125,6 @@ fn put_present_line(page: &mut [u8], at: usize, o: Output) -> usize
 }
 
 #[tactic(auto, unfolding(crate::specs::Block::progress_line))]
-
 fn put_progress_line(page: &mut [u8], at: usize, t: u64, o: Output) -> usize
     ensures { Wrote page.old at (progress_line t o) page.new result }
 {
@@ -148,7 +137,6 @@ fn put_progress_line(page: &mut [u8], at: usize, t: u64, o: Output) -> usize
 }
 
 #[tactic(auto, unfolding(crate::specs::Block::process_line))]
-
 fn put_process_line(page: &mut [u8], at: usize, o: Output) -> usize
     ensures { Wrote page.old at (process_line o) page.new result }
 {
@@ -218,7 +206,6 @@ fn put_line(page: &mut [u8], at: usize, k: u8, i: u64, t: u64, o: Output) -> usi
 }
 
 #[tactic(auto, using(crate::proofs::Lines::lines_turn, text_printing::proofs::Pages::wrote_as, text_printing::proofs::Pages::wrote_none), unfolding(crate::specs::Block::block, crate::specs::Block::joined, crate::specs::Block::lines))]
-
 pub fn put_block(page: &mut [u8], at: usize, i: u64, t: u64, o: Output) -> usize
     ensures { Wrote page.old at (block i t o) page.new result }
 {

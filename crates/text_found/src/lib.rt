@@ -22,7 +22,6 @@ pub fn flush(page: &[u8], mark: usize) {
 }
 
 #[tactic(auto, using(lighting_levels::proofs::Choosing::ifs), unfolding(crate::specs::Found::roomy))]
-
 fn has_room(size: usize, mark: usize) -> bool
     ensures { result ≡ roomy size mark }
 {

@@ -116,7 +116,6 @@ pub fn fresh_heading() -> Heading
 }
 
 #[tactic(auto, using(lighting_levels::proofs::Choosing::ifs), unfolding(crate::specs::Heading::with_place))]
-
 fn with_place(h: Heading, at: Place) -> Heading
     ensures { result ≡ with_place h at }
 {
@@ -144,7 +143,6 @@ fn no_word(w: Word) -> HeadingFault
 }
 
 #[tactic(auto, using(crate::proofs::Laws::no_number_on, lighting_levels::proofs::Choosing::ifs), unfolding(crate::specs::Heading::no_number))]
-
 fn no_number(w: Word) -> HeadingFault
     ensures { result ≡ no_number w }
 {
@@ -158,7 +156,6 @@ fn no_number(w: Word) -> HeadingFault
 }
 
 #[tactic(auto, unfolding(crate::specs::Heading::misspelt))]
-
 fn misspelt(h: Heading, w: Word) -> Heading
     ensures { result ≡ misspelt h w }
 {
@@ -166,7 +163,6 @@ fn misspelt(h: Heading, w: Word) -> Heading
 }
 
 #[tactic(auto, unfolding(crate::specs::Heading::unnumbered))]
-
 fn unnumbered(h: Heading, w: Word) -> Heading
     ensures { result ≡ unnumbered h w }
 {
@@ -234,7 +230,6 @@ fn counted(h: Heading, w: Word, k: u8, n: u32, v: u8) -> Heading
 }
 
 #[tactic(auto, unfolding(crate::specs::Heading::counted_on))]
-
 fn counted_on(h: Heading, w: Word, k: u8, v: u8) -> Heading
     ensures { result ≡ counted_on h w k v }
 {
@@ -242,7 +237,6 @@ fn counted_on(h: Heading, w: Word, k: u8, v: u8) -> Heading
 }
 
 #[tactic(auto, using(lighting_levels::proofs::Choosing::ifs), unfolding(crate::specs::Heading::gapped))]
-
 fn gapped(h: Heading, w: Word, v: u8, c: u8) -> Heading
     ensures { result ≡ gapped h w v c }
 {
@@ -256,7 +250,6 @@ fn gapped(h: Heading, w: Word, v: u8, c: u8) -> Heading
 }
 
 #[tactic(auto, using(lighting_levels::proofs::Choosing::ifs), unfolding(crate::specs::Heading::numbered))]
-
 fn numbered(h: Heading, w: Word, k: u8, v: u8, c: u8) -> Heading
     ensures { result ≡ numbered h w k v c }
 {
@@ -284,7 +277,6 @@ fn marked(h: Heading, w: Word) -> Heading
 }
 
 #[tactic(auto, using(lighting_levels::proofs::Choosing::ifs), unfolding(crate::specs::Heading::word_begun))]
-
 fn word_begun(h: Heading, w: Word) -> Heading
     ensures { result ≡ word_begun h w }
 {
@@ -296,7 +288,6 @@ fn word_begun(h: Heading, w: Word) -> Heading
 }
 
 #[tactic(auto, using(lighting_levels::proofs::Choosing::ifs), unfolding(crate::specs::Heading::trailed))]
-
 fn trailed(h: Heading, c: u8) -> Heading
     ensures { result ≡ trailed h c }
 {
@@ -316,7 +307,6 @@ fn trailed(h: Heading, c: u8) -> Heading
 }
 
 #[tactic(auto, using(crate::proofs::Laws::step_at_on), unfolding(crate::specs::Heading::heading_step, crate::specs::Heading::step_at))]
-
 pub fn step(h: Heading, v: u8, c: u8) -> Heading
     ensures { result ≡ heading_step h v c }
 {
@@ -345,7 +335,6 @@ fn fitting(w: Word, named: Named, e: Ending) -> Ending
 }
 
 #[tactic(auto, unfolding(crate::specs::Heading::judged))]
-
 fn judged(named: Named) -> Ending
     ensures { result ≡ judged named }
 {
@@ -356,7 +345,6 @@ fn judged(named: Named) -> Ending
 }
 
 #[tactic(auto, using(crate::proofs::Laws::ended_at_on), unfolding(crate::specs::Heading::ended, crate::specs::Heading::ended_at))]
-
 pub fn ended(h: Heading) -> Ending
     ensures { result ≡ ended h }
 {

@@ -33,7 +33,6 @@ pub fn letter(w: Word, k: u8) -> u8
 // ---- how a word's number is written
 
 #[tactic(auto, using(crate::proofs::Laws::base_on, lighting_levels::proofs::Choosing::ifs), unfolding(crate::specs::Words::base))]
-
 pub fn base(w: Word) -> u8
     ensures { result ≡ base w }
 {
@@ -57,7 +56,6 @@ pub fn may_follow(w: Word, k: u8) -> bool
 // ---- a word's number
 
 #[tactic(auto, using(crate::proofs::Laws::number_in_on, lighting_levels::proofs::Choosing::ifs), unfolding(crate::specs::Words::number_in))]
-
 pub fn number_in(w: Word, named: Named) -> u32
     ensures { result ≡ number_in w named }
 {
@@ -71,7 +69,6 @@ pub fn number_in(w: Word, named: Named) -> u32
 }
 
 #[tactic(auto, using(crate::proofs::Laws::set_with_on, lighting_levels::proofs::Choosing::ifs), unfolding(crate::specs::Words::set_with))]
-
 fn set_with(w: Word, n: u32, set: Parameters) -> Parameters
     ensures { result ≡ set_with w n set }
 {
@@ -105,7 +102,6 @@ fn set_with(w: Word, n: u32, set: Parameters) -> Parameters
 }
 
 #[tactic(auto, using(crate::proofs::Laws::marks_with_on, lighting_levels::proofs::Choosing::ifs), unfolding(crate::specs::Words::marks_with))]
-
 fn marks_with(w: Word, n: u32, marks: u32) -> u32
     ensures { result ≡ marks_with w n marks }
 {
@@ -119,7 +115,6 @@ fn marks_with(w: Word, n: u32, marks: u32) -> u32
 }
 
 #[tactic(auto, unfolding(crate::specs::Words::with_number))]
-
 pub fn with_number(w: Word, n: u32, named: Named) -> Named
     ensures { result ≡ with_number w n named }
 {
@@ -131,7 +126,6 @@ pub fn with_number(w: Word, n: u32, named: Named) -> Named
 }
 
 #[tactic(auto, using(crate::proofs::Laws::bounds_on, lighting_levels::proofs::Choosing::ifs), unfolding(crate::specs::Words::bounds))]
-
 pub fn bounds(w: Word) -> Bounds
     ensures { result ≡ bounds w }
 {
@@ -160,7 +154,6 @@ pub fn bounds(w: Word) -> Bounds
 }
 
 #[tactic(auto, unfolding(crate::specs::Words::fits))]
-
 pub fn fits(w: Word, named: Named) -> bool
     ensures { result ≡ fits w named }
 {
@@ -171,7 +164,6 @@ pub fn fits(w: Word, named: Named) -> bool
 // ---- which words have come
 
 #[tactic(auto, using(crate::proofs::Laws::has_come_on, lighting_levels::proofs::Choosing::ifs), unfolding(crate::specs::Words::has_come))]
-
 pub fn has_come(w: Word, came: Came) -> bool
     ensures { result ≡ has_come w came }
 {
@@ -185,7 +177,6 @@ pub fn has_come(w: Word, came: Came) -> bool
 }
 
 #[tactic(auto, using(crate::proofs::Laws::with_come_on, lighting_levels::proofs::Choosing::ifs), unfolding(crate::specs::Words::with_come))]
-
 pub fn with_come(w: Word, came: Came) -> Came
     ensures { result ≡ with_come w came }
 {

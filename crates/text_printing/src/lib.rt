@@ -12,7 +12,6 @@ use lighting_outputs::Answer;
 // ---- bytes
 
 #[tactic(auto, using(crate::proofs::Pages::wrote_out))]
-
 pub fn put(page: &mut [u8], at: usize, c: u8) -> usize
     ensures { Wrote page.old at (c ∷ []) page.new result }
 {
@@ -25,7 +24,6 @@ pub fn put(page: &mut [u8], at: usize, c: u8) -> usize
 }
 
 #[tactic(auto, using(crate::proofs::Pages::wrote_as, crate::proofs::Pages::wrote_none, crate::proofs::Pages::wrote_turn))]
-
 pub fn put_all(page: &mut [u8], at: usize, s: &[u8]) -> usize
     ensures { Wrote page.old at s.now page.new result }
 {
@@ -41,7 +39,6 @@ pub fn put_all(page: &mut [u8], at: usize, s: &[u8]) -> usize
 // ---- numbers
 
 #[tactic(auto, using(lighting_levels::proofs::Choosing::ifs), unfolding(crate::specs::Writing::hex_digit))]
-
 fn hex_digit(d: u8) -> u8
     requires { d < 16 }
     ensures { result ≡ hex_digit d }
@@ -50,7 +47,6 @@ fn hex_digit(d: u8) -> u8
 }
 
 #[tactic(auto, using(crate::proofs::Pages::wrote_two), unfolding(crate::specs::Writing::hex2))]
-
 fn put_hex2(page: &mut [u8], at: usize, v: u8) -> usize
     ensures { Wrote page.old at (hex2 v) page.new result }
 {
@@ -59,7 +55,6 @@ fn put_hex2(page: &mut [u8], at: usize, v: u8) -> usize
 }
 
 #[tactic(auto, using(crate::proofs::Pages::wrote_then), unfolding(crate::specs::Writing::hex4))]
-
 fn put_hex4(page: &mut [u8], at: usize, v: u16) -> usize
     ensures { Wrote page.old at (hex4 v) page.new result }
 {
@@ -68,7 +63,6 @@ fn put_hex4(page: &mut [u8], at: usize, v: u16) -> usize
 }
 
 #[tactic(auto, using(crate::proofs::Pages::wrote_then), unfolding(crate::specs::Writing::hex8))]
-
 pub fn put_hex8(page: &mut [u8], at: usize, v: u32) -> usize
     ensures { Wrote page.old at (hex8 v) page.new result }
 {
@@ -77,7 +71,6 @@ pub fn put_hex8(page: &mut [u8], at: usize, v: u32) -> usize
 }
 
 #[tactic(auto, using(crate::proofs::Pages::wrote_as, crate::proofs::Pages::wrote_hex_turn, crate::proofs::Pages::wrote_none), unfolding(crate::specs::Writing::hex_bytes))]
-
 pub fn put_hex_bytes(page: &mut [u8], at: usize, s: &[u8]) -> usize
     ensures { Wrote page.old at (hex_bytes s.now) page.new result }
 {
@@ -128,7 +121,6 @@ fn decimal_digits(n: u64) -> Decimal
 }
 
 #[tactic(auto, using(crate::proofs::Pages::wrote_as))]
-
 pub fn put_decimal(page: &mut [u8], at: usize, n: u64) -> usize
     ensures { Wrote page.old at (decimal n) page.new result }
 {
@@ -141,7 +133,6 @@ pub fn put_decimal(page: &mut [u8], at: usize, n: u64) -> usize
 // ---- answers
 
 #[tactic(auto, using(crate::proofs::Pages::wrote_then))]
-
 fn put_value_line(page: &mut [u8], at: usize, v: u32) -> usize
     ensures { Wrote page.old at (value_word ++ (hex8 v ++ newline)) page.new result }
 {
@@ -151,7 +142,6 @@ fn put_value_line(page: &mut [u8], at: usize, v: u32) -> usize
 }
 
 #[tactic(auto, using(crate::proofs::Pages::wrote_then))]
-
 fn put_refused_line(page: &mut [u8], at: usize, n: u8) -> usize
     ensures { Wrote page.old at (refused_word ++ (decimal n ++ newline)) page.new result }
 {
@@ -161,7 +151,6 @@ fn put_refused_line(page: &mut [u8], at: usize, n: u8) -> usize
 }
 
 #[tactic(auto, using(crate::proofs::Laws::answer_line_on), unfolding(crate::specs::Writing::answer_line))]
-
 pub fn put_answer(page: &mut [u8], at: usize, a: Answer) -> usize
     ensures { Wrote page.old at (answer_line a) page.new result }
 {

@@ -8,7 +8,6 @@ use text_heading::Heading;
 // ---- what a line holds after one more character: c, worth v as a digit
 
 #[tactic(auto, using(lighting_levels::proofs::Choosing::ifs), unfolding(crate::specs::Reading::digit_held))]
-
 fn digit_held(v: u8) -> Held
     ensures { result ≡ digit_held v }
 {
@@ -20,7 +19,6 @@ fn digit_held(v: u8) -> Held
 }
 
 #[tactic(auto, unfolding(crate::specs::Reading::naming_held))]
-
 fn naming_held(h: Heading, v: u8, c: u8) -> Held
     ensures { result ≡ naming_held h v c }
 {
@@ -44,7 +42,6 @@ fn opened(named: bool, v: u8, c: u8) -> Held
 }
 
 #[tactic(auto, using(lighting_levels::proofs::Choosing::ifs), unfolding(crate::specs::Reading::byte_held))]
-
 fn byte_held(v: u8, c: u8) -> Held
     ensures { result ≡ byte_held v c }
 {
@@ -56,7 +53,6 @@ fn byte_held(v: u8, c: u8) -> Held
 }
 
 #[tactic(auto, using(lighting_levels::proofs::Choosing::ifs), unfolding(crate::specs::Reading::half_held))]
-
 fn half_held(v: u8, c: u8) -> Held
     ensures { result ≡ half_held v c }
 {
@@ -70,7 +66,6 @@ fn half_held(v: u8, c: u8) -> Held
 }
 
 #[tactic(auto, using(lighting_levels::proofs::Choosing::ifs), unfolding(crate::specs::Reading::dashed))]
-
 fn dashed(c: u8) -> Held
     ensures { result ≡ dashed c }
 {
@@ -82,7 +77,6 @@ fn dashed(c: u8) -> Held
 }
 
 #[tactic(auto, using(crate::proofs::Laws::step_on, lighting_levels::proofs::Choosing::ifs), unfolding(crate::specs::Reading::step))]
-
 pub fn step(named: bool, h: Held, v: u8, c: u8) -> Held
     ensures { result ≡ step named h v c }
 {

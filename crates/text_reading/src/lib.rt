@@ -64,7 +64,6 @@ pub struct Reader {
 // ---- the reader fed
 
 #[tactic(auto, using(lighting_levels::proofs::Choosing::ifs), unfolding(crate::specs::Reading::pushed))]
-
 fn push(w: Reader, x: u8) -> Reader
     ensures { result ≡ pushed w x }
 {
@@ -86,7 +85,6 @@ fn push(w: Reader, x: u8) -> Reader
 }
 
 #[tactic(auto, unfolding(crate::specs::Reading::joined))]
-
 fn join(w: Reader, d: u8, v: u8) -> Reader
     ensures { result ≡ joined w d v }
 {
@@ -94,7 +92,6 @@ fn join(w: Reader, d: u8, v: u8) -> Reader
 }
 
 #[tactic(auto, using(crate::proofs::Laws::stored_by_on, lighting_levels::proofs::Choosing::ifs), unfolding(crate::specs::Reading::stored_by))]
-
 fn store(w: Reader, h: Held, v: u8) -> Reader
     ensures { result ≡ stored_by w h v }
 {
@@ -110,7 +107,6 @@ fn store(w: Reader, h: Held, v: u8) -> Reader
 }
 
 #[tactic(auto, using(lighting_levels::proofs::Choosing::ifs), unfolding(crate::specs::Reading::with_held))]
-
 fn with_held(w: Reader, h: Held) -> Reader
     ensures { result ≡ with_held w h }
 {
@@ -125,7 +121,6 @@ fn with_held(w: Reader, h: Held) -> Reader
 }
 
 #[tactic(auto, unfolding(crate::specs::Reading::feed))]
-
 fn feed(w: Reader, c: u8) -> Reader
     ensures { result ≡ feed w c }
 {
@@ -199,7 +194,6 @@ fn feed_bytes(w: Reader, s: &[u8], from: usize) -> Fed
 }
 
 #[tactic(auto, using(crate::proofs::Lines::line_newline, crate::proofs::Lines::line_over, crate::proofs::Lines::line_turn))]
-
 pub fn feed_line(w: Reader, s: &[u8], from: usize) -> Fed
     requires { from ≤ length s.now }
     ensures reader_value { result.reader ≡ fed_line w (drop from s.now) }
@@ -230,7 +224,6 @@ pub fn feed_line(w: Reader, s: &[u8], from: usize) -> Fed
 // ---- a line's end
 
 #[tactic(auto, using(crate::proofs::Laws::heading_line_on, lighting_levels::proofs::Choosing::ifs), unfolding(crate::specs::Reading::heading_line))]
-
 fn heading_line(e: Ending) -> Line
     ensures { result ≡ heading_line e }
 {
@@ -241,7 +234,6 @@ fn heading_line(e: Ending) -> Line
 }
 
 #[tactic(auto, using(crate::proofs::Laws::line_of_on, lighting_levels::proofs::Choosing::ifs), unfolding(crate::specs::Reading::line_of))]
-
 pub fn line_of(h: Held) -> Line
     ensures { result ≡ line_of h }
 {
@@ -264,7 +256,6 @@ fn line_after(n: u64) -> u64
 }
 
 #[tactic(auto, unfolding(crate::specs::Reading::next_line))]
-
 pub fn next_line(w: Reader) -> Reader
     ensures { result ≡ next_line w }
 {

@@ -11,7 +11,6 @@ use text_printing::{put, put_all, put_decimal};
 // ---- numbers
 
 #[tactic(auto, unfolding(crate::specs::Report::digit))]
-
 fn put_digit(page: &mut [u8], at: usize, n: u64) -> usize
     ensures { Wrote page.old at (digit n) page.new result }
 {
@@ -19,7 +18,6 @@ fn put_digit(page: &mut [u8], at: usize, n: u64) -> usize
 }
 
 #[tactic(auto, using(text_printing::proofs::Pages::wrote_then), unfolding(crate::specs::Report::two_digits))]
-
 fn put_two(page: &mut [u8], at: usize, n: u64) -> usize
     ensures { Wrote page.old at (two_digits n) page.new result }
 {
@@ -28,7 +26,6 @@ fn put_two(page: &mut [u8], at: usize, n: u64) -> usize
 }
 
 #[tactic(auto, using(text_printing::proofs::Pages::wrote_then), unfolding(crate::specs::Report::three_digits))]
-
 fn put_three(page: &mut [u8], at: usize, n: u64) -> usize
     ensures { Wrote page.old at (three_digits n) page.new result }
 {
@@ -37,7 +34,6 @@ fn put_three(page: &mut [u8], at: usize, n: u64) -> usize
 }
 
 #[tactic(auto, using(text_printing::proofs::Choices::choices), unfolding(crate::specs::Report::lead))]
-
 fn put_lead(page: &mut [u8], at: usize, n: u64) -> usize
     ensures { Wrote page.old at (lead n) page.new result }
 {
@@ -51,7 +47,6 @@ fn put_lead(page: &mut [u8], at: usize, n: u64) -> usize
 }
 
 #[tactic(auto, using(text_printing::proofs::Pages::wrote_then), unfolding(crate::specs::Report::aligned))]
-
 fn put_aligned(page: &mut [u8], at: usize, n: u64) -> usize
     ensures { Wrote page.old at (aligned n) page.new result }
 {
@@ -67,7 +62,6 @@ fn hundredths(u: u64) -> u64
 }
 
 #[tactic(auto, using(text_printing::proofs::Pages::wrote_then), unfolding(crate::specs::Report::percent))]
-
 fn put_percent(page: &mut [u8], at: usize, u: u32) -> usize
     ensures { Wrote page.old at (percent u) page.new result }
 {
@@ -78,7 +72,6 @@ fn put_percent(page: &mut [u8], at: usize, u: u32) -> usize
 }
 
 #[tactic(auto, using(text_printing::proofs::Pages::wrote_then), unfolding(crate::specs::Report::minutes))]
-
 fn put_minutes(page: &mut [u8], at: usize, n: u64) -> usize
     ensures { Wrote page.old at (minutes n) page.new result }
 {
@@ -89,7 +82,6 @@ fn put_minutes(page: &mut [u8], at: usize, n: u64) -> usize
 }
 
 #[tactic(auto, using(text_printing::proofs::Pages::wrote_then), unfolding(crate::specs::Report::moment))]
-
 fn put_moment(page: &mut [u8], at: usize, t: u64) -> usize
     ensures { Wrote page.old at (moment t) page.new result }
 {
@@ -100,7 +92,6 @@ fn put_moment(page: &mut [u8], at: usize, t: u64) -> usize
 }
 
 #[tactic(auto, using(text_printing::proofs::Pages::wrote_then), unfolding(crate::specs::Report::lasting))]
-
 fn put_lasting(page: &mut [u8], at: usize, n: u64) -> usize
     ensures { Wrote page.old at (lasting n) page.new result }
 {
@@ -111,7 +102,6 @@ fn put_lasting(page: &mut [u8], at: usize, n: u64) -> usize
 // ---- words
 
 #[tactic(auto, using(text_printing::proofs::Choices::choices), unfolding(crate::specs::Report::either))]
-
 fn put_either(page: &mut [u8], at: usize, this: &[u8], that: &[u8], b: bool) -> usize
     ensures { Wrote page.old at (either this.now that.now b) page.new result }
 {
@@ -123,7 +113,6 @@ fn put_either(page: &mut [u8], at: usize, this: &[u8], that: &[u8], b: bool) -> 
 }
 
 #[tactic(auto, using(crate::proofs::Laws::operation_name_on, text_printing::proofs::Choices::choices), unfolding(crate::specs::Report::operation_name))]
-
 fn put_operation(page: &mut [u8], at: usize, o: Operation) -> usize
     ensures { Wrote page.old at (operation_name o) page.new result }
 {
@@ -145,7 +134,6 @@ fn put_operation(page: &mut [u8], at: usize, o: Operation) -> usize
 // ---- what is under way
 
 #[tactic(auto, using(text_printing::proofs::Pages::wrote_then), unfolding(crate::specs::Report::until))]
-
 fn put_until(page: &mut [u8], at: usize, word: &[u8], t: u64) -> usize
     ensures { Wrote page.old at (until word.now t) page.new result }
 {
@@ -154,7 +142,6 @@ fn put_until(page: &mut [u8], at: usize, word: &[u8], t: u64) -> usize
 }
 
 #[tactic(auto, using(crate::proofs::Laws::activity_text_on, text_printing::proofs::Choices::choices), unfolding(crate::specs::Report::activity_text))]
-
 fn put_activity(page: &mut [u8], at: usize, a: Activity) -> usize
     ensures { Wrote page.old at (activity_text a) page.new result }
 {
@@ -166,7 +153,6 @@ fn put_activity(page: &mut [u8], at: usize, a: Activity) -> usize
 }
 
 #[tactic(auto, using(crate::proofs::Laws::timer_text_on, text_printing::proofs::Choices::choices), unfolding(crate::specs::Report::timer_text))]
-
 fn put_timer(page: &mut [u8], at: usize, t: Timer) -> usize
     ensures { Wrote page.old at (timer_text t) page.new result }
 {
@@ -179,7 +165,6 @@ fn put_timer(page: &mut [u8], at: usize, t: Timer) -> usize
 // ---- the line of an output
 
 #[tactic(auto, using(text_printing::proofs::Pages::wrote_then), unfolding(crate::specs::Report::light_fields))]
-
 fn put_light_fields(page: &mut [u8], at: usize, i: u64, t: u64, o: Output) -> usize
     ensures { Wrote page.old at (light_fields i t o) page.new result }
 {
@@ -191,7 +176,6 @@ fn put_light_fields(page: &mut [u8], at: usize, i: u64, t: u64, o: Output) -> us
 }
 
 #[tactic(auto, using(text_printing::proofs::Pages::wrote_then), unfolding(crate::specs::Report::level_fields))]
-
 fn put_level_fields(page: &mut [u8], at: usize, t: u64, o: Output) -> usize
     ensures { Wrote page.old at (level_fields t o) page.new result }
 {
@@ -207,7 +191,6 @@ fn put_level_fields(page: &mut [u8], at: usize, t: u64, o: Output) -> usize
 }
 
 #[tactic(auto, using(text_printing::proofs::Pages::wrote_then), unfolding(crate::specs::Report::time_fields))]
-
 fn put_time_fields(page: &mut [u8], at: usize, o: Output) -> usize
     ensures { Wrote page.old at (time_fields o) page.new result }
 {
@@ -219,7 +202,6 @@ fn put_time_fields(page: &mut [u8], at: usize, o: Output) -> usize
 }
 
 #[tactic(auto, unfolding(crate::specs::Report::relay_field))]
-
 fn put_relay(page: &mut [u8], at: usize, relay: Relay) -> usize
     ensures { Wrote page.old at (relay_field relay) page.new result }
 {
@@ -228,7 +210,6 @@ fn put_relay(page: &mut [u8], at: usize, relay: Relay) -> usize
 }
 
 #[tactic(auto, using(text_printing::proofs::Pages::wrote_then), unfolding(crate::specs::Report::way_fields))]
-
 fn put_way_fields(page: &mut [u8], at: usize, o: Output) -> usize
     ensures { Wrote page.old at (way_fields o) page.new result }
 {
@@ -242,7 +223,6 @@ fn put_way_fields(page: &mut [u8], at: usize, o: Output) -> usize
 }
 
 #[tactic(auto, using(text_printing::proofs::Pages::wrote_then), unfolding(crate::specs::Report::report_line))]
-
 pub fn put_report_line(page: &mut [u8], at: usize, i: u64, t: u64, o: Output) -> usize
     ensures { Wrote page.old at (report_line i t o) page.new result }
 {
@@ -253,7 +233,6 @@ pub fn put_report_line(page: &mut [u8], at: usize, i: u64, t: u64, o: Output) ->
 }
 
 #[tactic(auto, using(text_printing::proofs::Pages::wrote_then), unfolding(crate::specs::Report::report_head))]
-
 pub fn put_report_head(page: &mut [u8], at: usize, t: u64) -> usize
     ensures { Wrote page.old at (report_head t) page.new result }
 {
