@@ -42,7 +42,6 @@ fn word_wide(x: u32) -> u64
 }
 
 // Each word is two shorter ones, the first the more significant.
-#[tactic(auto, using(lighting_levels::proofs::Fields::joined_within, lighting_levels::proofs::Fields::single))]
 fn word16_at(s: &[u8], at: usize) -> u32
     ensures { (result ≡ big_endian 2 s.now at) × (result < 65536) }
 {

@@ -9,8 +9,14 @@ use Rattle.lighting_levels.proofs.Choosing.{if_le, if_nle}
 use Rattle.lighting_levels.proofs.Keys.{Missed, keys_from, past_keys}
 use Rattle.lighting_levels.proofs.Split.{by_lt}
 
-pub kind_row_on : (k n : ℕ) (r : KindRow) → k ≡ n → r ≡ kind_row n → r ≡ kind_row k
-kind_row_on k n r e p = rw e p
+-- a kind byte that an arm of a match names
+pub row_plain : (k n : ℕ) (r : KindRow) → k ≡ n → n < 0x10 → r ≡ get_or plain_rows n unknown_row → r ≡ kind_row k
+unfolding kind_row
+row_plain k n r e h p = rw e (if_nle 0x10 n _ _ _ h p)
+
+pub row_command : (k n : ℕ) (r : KindRow) → k ≡ n → 0x10 ≤ n → r ≡ get_or command_rows (n - 0x10) unknown_row → r ≡ kind_row k
+unfolding kind_row
+row_command k n r e h p = rw e (if_le 0x10 n _ _ _ h p)
 
 -- no kind is 00, or past the rows
 pub row_zero : (k : ℕ) → k < 1 → unknown_row ≡ kind_row k
@@ -33,4 +39,4 @@ row_no_plain k h o = by_lt k 1 (λ l e. row_zero k l) (λ l e. absurd (omega (ar
 pub row_no_command : (k : ℕ) → 0x10 ≤ k → Missed (keys_from 0x10 (length command_rows)) k → unknown_row ≡ kind_row k
 row_no_command k h o = row_above k (past_keys 0x10 (length command_rows) k h o)
 
-pub ruleset table = (kind_row_on, row_zero, row_between, row_above, row_no_plain, row_no_command)
+pub ruleset table = (row_plain, row_command, row_zero, row_between, row_above, row_no_plain, row_no_command)

@@ -16,7 +16,7 @@ fn call_row(length: u32, action: Action) -> KindRow
 }
 
 // The clock, 01, and the kinds 02 to 05.
-#[tactic(auto, using(crate::proofs::Table::table), unfolding(lighting_frames::specs::Paper::Kinds::kind_row))]
+#[tactic(auto, using(crate::proofs::Table::table))]
 fn plain_row(k: u8) -> KindRow
     requires { k < 6 }
     ensures { result ≡ kind_row k }
@@ -38,7 +38,7 @@ fn plain_row(k: u8) -> KindRow
 }
 
 // The commands, 10 to 1A, and 1B, a command in tags.
-#[tactic(auto, using(crate::proofs::Table::table), unfolding(lighting_frames::specs::Paper::Kinds::kind_row))]
+#[tactic(auto, using(crate::proofs::Table::table))]
 fn command_row(k: u8) -> KindRow
     requires { 0x10 ≤ k }
     ensures { result ≡ kind_row k }

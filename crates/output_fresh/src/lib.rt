@@ -24,7 +24,7 @@ fn fresh_fade(parameters: Parameters) -> u32
     }
 }
 
-#[tactic(auto, using(lighting_levels::proofs::Choosing::ifs), unfolding(lighting_levels::specs::Paper::Level::real, lighting_outputs::specs::Paper::Fresh::fresh_settings))]
+#[tactic(auto, unfolding(lighting_levels::specs::Paper::Level::real, lighting_outputs::specs::Paper::Fresh::fresh_settings))]
 fn fresh_settings(fade: u32) -> Settings
     ensures { result ≡ fresh_settings fade }
 {
@@ -43,7 +43,7 @@ fn fresh_settings(fade: u32) -> Settings
 }
 
 // Levels of 50 and 45 percent, polarity normal, inactive.
-#[tactic(auto, using(lighting_levels::proofs::Choosing::ifs), unfolding(lighting_outputs::specs::Paper::Fresh::fresh_relay))]
+#[tactic(auto, unfolding(lighting_outputs::specs::Paper::Fresh::fresh_relay))]
 fn fresh_relay() -> Relay
     ensures { result ≡ fresh_relay }
 {
@@ -90,7 +90,7 @@ pub fn fresh_output(parameters: Parameters) -> Output
 }
 
 // Number 0: no first arrival yet.
-#[tactic(auto, using(lighting_levels::proofs::Choosing::ifs), unfolding(lighting_frames::specs::Paper::Stations::fresh_station))]
+#[tactic(auto, unfolding(lighting_frames::specs::Paper::Stations::fresh_station))]
 pub fn fresh_station() -> Station
     ensures { result ≡ fresh_station }
 {

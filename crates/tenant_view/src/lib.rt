@@ -7,7 +7,6 @@ ghost use Rattle.lighting_outputs.specs.Paper.Tenants.{is_tenant, whole_percent,
 use lighting_outputs::SLOT_6;
 
 // Bit n of the marks makes station n a tenant: tested by a shifted mask.
-#[tactic(auto, using(lighting_outputs::proofs::Priorities::Mask::tested), unfolding(lighting_outputs::specs::Paper::Tenants::is_tenant))]
 pub fn is_tenant(marks: u32, station: u8) -> bool
     requires { station < 32 }
     ensures { result ≡ is_tenant marks station }

@@ -1,29 +1,52 @@
-use Rattle.std.proofs.Common.{rules, ◌≡◌, ◌≤◌, ◌<◌, ◌^◌, min, ℕ, ◌+◌, ◌-◌, ◌*◌, length, ◌/◌, ◌%◌, Bool, true, false, nat_eq, nat_lt, List, [], ◌∷◌, ◌++◌, slice_index_or, slice_set, bit_and, bit_or, Fits, w8, w32, w64, Bor, MutBor}
-use Rattle.std.specs.Float.{binary32}
-use Rattle.std.specs.Float.Ieee.{nan_bits, is_nan}
-use Rattle.lighting_levels.specs.Paper.Level.{greatest_level, least_amount, real, bits, nearest_to, amount_of, limit_of, level_of, in_range, units_or, amount_units, level_units, real_of, read_out}
+-- The product of x and 2^26 is a whole number n (proofs/Scaled.antt), and 1,024 of it are a unit.
+use mathlib.Core.Path.{◌≡◌, sym, ap, subst, ◌∙◌}
+use Prim.Native.Nat.{ℕ}
+use native.Mathlib.Omega.{arith}
+use lib.Dec.{T}
+use lib.Ieee.{Float, of_bits, le, fits, binary32, binary64, mul, to_unsigned}
+use Rattle.std.proofs.Common.{true, rules}
+use Rattle.lighting_levels.specs.Paper.Level.{nearest_to, amount_of}
+use Rattle.lighting_levels.specs.declared.Level.TheVariants.{Units}
+use Rattle.number_level.proofs.Scaled.{eighth, hundred, scale, Scaled, scaled, few_units, cast}
+use Rattle.number_level.proofs.Tested.{too_low_lem, too_high_lem}
 use Rattle.number_level.proofs.amount_of_real.Goals as goal
 
--- src/lib.rt:72:21
+found : (x : Float) → T (fits binary32 x) → le eighth x ≡ true → le x hundred ≡ true → Scaled x
+found x f low high = scaled x f (subst T (sym low) tt) (subst T (sym high) tt)
+
 pub float_to_int-n : goal.float_to_int-n
-float_to_int-n c = ?
+unfolding of_bits
+float_to_int-n c = (cast (found c.args.x c.type_inv.x c.if-x.true c.if-x-2.true)).0
 
--- src/lib.rt:73:33
 pub rounded-requires : goal.rounded-requires
-rounded-requires c = ?
+unfolding of_bits
+rounded-requires c =
+    let s = found c.args.x c.type_inv.x c.if-x.true c.if-x-2.true in
+    omega (arith, (cast s).1, s.small)
 
--- src/lib.rt:73:33
+result_is : (x : Float) (s : Scaled x) (r : ℕ) → r ≡ nearest_to (to_unsigned 64 (mul binary64 x scale)) 1024
+    → r ≡ nearest_to s.n 1024
+result_is x s r e = e ∙ ap (λ (n : ℕ). nearest_to n 1024) (cast s).1
+
 pub overflow_cast-result : goal.overflow_cast-result
-overflow_cast-result c = ?
+unfolding of_bits
+overflow_cast-result c =
+    let f : T (fits binary32 c.args.x) = search rules in
+    let s = found c.args.x f c.if-x.true c.if-x-2.true in
+    let e = result_is c.args.x s c.rounded.result c.rounded.ensures in
+    record { fits = omega (arith, e, few_units s.n s.small) }
 
--- src/lib.rt:73:13
 pub returns-then-x-2 : goal.returns-then-x-2
-returns-then-x-2 c = ?
+unfolding of_bits
+returns-then-x-2 c =
+    let f : T (fits binary32 c.args.x) = search rules in
+    let s = found c.args.x f c.if-x.true c.if-x-2.true in
+    ap Units (result_is c.args.x s c.rounded.result c.rounded.ensures) ∙ sym s.amount
 
--- src/lib.rt:65:1
 pub returns-else-x-2 : goal.returns-else-x-2
-returns-else-x-2 c = ?
+unfolding of_bits
+returns-else-x-2 c = sym (too_high_lem c.args.x c.if-x-2.false)
 
--- src/lib.rt:65:1
 pub returns-else-x : goal.returns-else-x
-returns-else-x c = ?
+unfolding of_bits
+returns-else-x c = sym (too_low_lem c.args.x c.if-x.false)
