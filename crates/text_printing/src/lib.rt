@@ -11,7 +11,6 @@ use lighting_outputs::Answer;
 
 // ---- bytes
 
-#[tactic(auto, using(crate::proofs::Pages::wrote_out))]
 pub fn put(page: &mut [u8], at: usize, c: u8) -> usize
     ensures { Wrote page.old at (c ∷ []) page.new result }
 {
@@ -23,7 +22,6 @@ pub fn put(page: &mut [u8], at: usize, c: u8) -> usize
     }
 }
 
-#[tactic(auto, using(crate::proofs::Pages::wrote_as, crate::proofs::Pages::wrote_none, crate::proofs::Pages::wrote_turn))]
 pub fn put_all(page: &mut [u8], at: usize, s: &[u8]) -> usize
     ensures { Wrote page.old at s.now page.new result }
 {
@@ -54,7 +52,6 @@ fn put_hex2(page: &mut [u8], at: usize, v: u8) -> usize
     put(page, mark, hex_digit(v % 16))
 }
 
-#[tactic(auto, using(crate::proofs::Pages::wrote_then), unfolding(crate::specs::Writing::hex4))]
 fn put_hex4(page: &mut [u8], at: usize, v: u16) -> usize
     ensures { Wrote page.old at (hex4 v) page.new result }
 {
@@ -62,7 +59,6 @@ fn put_hex4(page: &mut [u8], at: usize, v: u16) -> usize
     put_hex2(page, mark, (v % 256) as u8)
 }
 
-#[tactic(auto, using(crate::proofs::Pages::wrote_then), unfolding(crate::specs::Writing::hex8))]
 pub fn put_hex8(page: &mut [u8], at: usize, v: u32) -> usize
     ensures { Wrote page.old at (hex8 v) page.new result }
 {
@@ -70,7 +66,7 @@ pub fn put_hex8(page: &mut [u8], at: usize, v: u32) -> usize
     put_hex4(page, mark, (v % 65536) as u16)
 }
 
-#[tactic(auto, using(crate::proofs::Pages::wrote_as, crate::proofs::Pages::wrote_hex_turn, crate::proofs::Pages::wrote_none), unfolding(crate::specs::Writing::hex_bytes))]
+#[tactic(auto, unfolding(crate::specs::Writing::hex_bytes))]
 pub fn put_hex_bytes(page: &mut [u8], at: usize, s: &[u8]) -> usize
     ensures { Wrote page.old at (hex_bytes s.now) page.new result }
 {
@@ -97,7 +93,7 @@ pub fn last_digit(n: u64) -> u8
 }
 
 // The digits are found from the last one to the first.
-#[tactic(auto, using(crate::proofs::Decimals::digit_full, crate::proofs::Decimals::digit_last, crate::proofs::Decimals::digit_start, crate::proofs::Decimals::digit_turn))]
+#[tactic(auto, using(crate::proofs::Decimals::digit_start))]
 fn decimal_digits(n: u64) -> Decimal
     ensures bytes_value { drop result.from result.bytes ≡ decimal n }
     ensures from_bound { (result.from ≤ 20) × (20 ≡ length result.bytes) }
@@ -120,7 +116,6 @@ fn decimal_digits(n: u64) -> Decimal
     }
 }
 
-#[tactic(auto, using(crate::proofs::Pages::wrote_as))]
 pub fn put_decimal(page: &mut [u8], at: usize, n: u64) -> usize
     ensures { Wrote page.old at (decimal n) page.new result }
 {
@@ -132,7 +127,6 @@ pub fn put_decimal(page: &mut [u8], at: usize, n: u64) -> usize
 
 // ---- answers
 
-#[tactic(auto, using(crate::proofs::Pages::wrote_then))]
 fn put_value_line(page: &mut [u8], at: usize, v: u32) -> usize
     ensures { Wrote page.old at (value_word ++ (hex8 v ++ newline)) page.new result }
 {
@@ -141,7 +135,6 @@ fn put_value_line(page: &mut [u8], at: usize, v: u32) -> usize
     put(page, digits, b'\n')
 }
 
-#[tactic(auto, using(crate::proofs::Pages::wrote_then))]
 fn put_refused_line(page: &mut [u8], at: usize, n: u8) -> usize
     ensures { Wrote page.old at (refused_word ++ (decimal n ++ newline)) page.new result }
 {
@@ -150,7 +143,7 @@ fn put_refused_line(page: &mut [u8], at: usize, n: u8) -> usize
     put(page, digits, b'\n')
 }
 
-#[tactic(auto, using(crate::proofs::Laws::answer_line_on), unfolding(crate::specs::Writing::answer_line))]
+#[tactic(auto, unfolding(crate::specs::Writing::answer_line))]
 pub fn put_answer(page: &mut [u8], at: usize, a: Answer) -> usize
     ensures { Wrote page.old at (answer_line a) page.new result }
 {

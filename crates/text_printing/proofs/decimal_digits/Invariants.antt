@@ -1,0 +1,13 @@
+use Rattle.std.proofs.Common.{◌≡◌, ◌++◌, ◌+◌, ◌≤◌, drop, length}
+use Rattle.text_printing.specs.Writing.{decimal_by, decimal}
+use Rattle.text_printing.proofs.decimal_digits.Given as goal
+
+abbrev pub invariant-loop-i : goal.invariant-loop-i
+invariant-loop-i l = record {
+  within : l.i ≤ 19;
+  room : length l.bytes ≡ 20;
+  digits : decimal_by l.i l.rest ++ drop (l.i + 1) l.bytes ≡ decimal l.n;
+}
+
+abbrev pub decreases-loop-i : goal.decreases-loop-i
+decreases-loop-i l = l.i
