@@ -9,6 +9,9 @@ use Rattle.lighting_levels.proofs.Choosing.{if_le, if_nle}
 use Rattle.lighting_levels.proofs.Keys.{Missed, keys_from, past_keys}
 use Rattle.lighting_levels.proofs.Split.{by_lt}
 
+pub kind_row_on : (k n : ℕ) (r : KindRow) → k ≡ n → r ≡ kind_row n → r ≡ kind_row k
+kind_row_on k n r e p = rw e p
+
 -- a kind byte that an arm of a match names
 pub row_plain : (k n : ℕ) (r : KindRow) → k ≡ n → n < 0x10 → r ≡ get_or plain_rows n unknown_row → r ≡ kind_row k
 unfolding kind_row

@@ -24,7 +24,7 @@ fn arrive(
 ) -> Answer
     requires standing { Standing kept.old.time outputs.old }
     requires arrival { Arrival kept.old.time (length outputs.old) (length stations.old) bytes.now call }
-    ensures* { λ a. ⌜ panel_result (panel_of outputs.new stations.new kept.new) a ≡ execute bytes.now (panel_of outputs.old stations.old kept.old) (Verdict.Arrives call) ⌝ }
+    ensures { panel_result (panel_of outputs.new stations.new kept.new) result ≡ execute bytes.now (panel_of outputs.old stations.old kept.old) (Verdict.Arrives call) }
 {
     let before = *kept;
     let from = panel_record::time_of(before);
@@ -58,7 +58,7 @@ fn execute(
 ) -> Answer
     requires standing { Standing kept.old.time outputs.old }
     requires verdict_precondition { VerdictPrecondition kept.old.time (length outputs.old) (length stations.old) bytes.now v }
-    ensures* { λ a. ⌜ panel_result (panel_of outputs.new stations.new kept.new) a ≡ execute bytes.now (panel_of outputs.old stations.old kept.old) v ⌝ }
+    ensures { panel_result (panel_of outputs.new stations.new kept.new) result ≡ execute bytes.now (panel_of outputs.old stations.old kept.old) v }
 {
     match v {
         Verdict::TurnedDown(r) => Answer::Refused(r),
@@ -85,7 +85,7 @@ pub fn start(
     parameters: Parameters,
     tenants: u32,
 ) -> Answer
-    ensures* { λ a. ⌜ panel_result (panel_of outputs.new stations.new kept.new) a ≡ start_step parameters tenants (panel_of outputs.old stations.old kept.old) ⌝ }
+    ensures { panel_result (panel_of outputs.new stations.new kept.new) result ≡ start_step parameters tenants (panel_of outputs.old stations.old kept.old) }
 {
     if !panel_record::is_startable(parameters) {
         return Answer::Refused(17);
@@ -108,7 +108,7 @@ pub fn frame(
     kept: &mut PanelRecord,
     bytes: &[u8],
 ) -> Answer
-    ensures* { λ a. ⌜ panel_result (panel_of outputs.new stations.new kept.new) a ≡ frame_step (panel_of outputs.old stations.old kept.old) bytes.now ⌝ }
+    ensures { panel_result (panel_of outputs.new stations.new kept.new) result ≡ frame_step (panel_of outputs.old stations.old kept.old) bytes.now }
 {
     let record = *kept;
     if !panel_judging::panel_sound(outputs, stations, record) {

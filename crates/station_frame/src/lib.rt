@@ -10,7 +10,6 @@ use lighting_frames::{LONGEST_FRAME, Station};
 use lighting_outputs::Answer;
 
 // Zeros after its own bytes.
-#[tactic(auto, using(crate::proofs::Bytes::padded_all, crate::proofs::Bytes::padded_more), unfolding(lighting_panel::specs::Engine::Judging::padded))]
 fn pad(b: &[u8]) -> [u8; LONGEST_FRAME]
     requires { length b.now ≤ longest_frame }
     ensures { result ≡ padded b.now }
@@ -25,7 +24,6 @@ fn pad(b: &[u8]) -> [u8; LONGEST_FRAME]
 }
 
 // Whether the bytes are those that the record keeps: as many as its kind has, and each the same.
-#[tactic(auto, using(crate::proofs::Bytes::other_length, crate::proofs::Bytes::restored_at, crate::proofs::Bytes::restored_length, crate::proofs::Bytes::same_end, crate::proofs::Bytes::same_more, crate::proofs::Bytes::same_stop, lighting_frames::proofs::KindTable::length_most), unfolding(lighting_levels::specs::Paper::Field::byte_at))]
 pub fn same_frame(b: &[u8], f: [u8; LONGEST_FRAME]) -> bool
     ensures { result ≡ same_bytes b.now (restored f) }
 {

@@ -1,6 +1,6 @@
 -- What is named is read: a text that names a set and marks, read from the word `outputs` on, is judged by
 -- that set's numbers at its end.
-use mathlib.Core.Path.{◌≡◌, refl, sym, ap, ◌∙◌}
+use mathlib.Core.Path.{◌≡◌, refl, sym, ap, subst, ◌∙◌}
 use mathlib.Core.Bool.{Bool, true, false, false≢true}
 use mathlib.Core.List.{[], ◌∷◌, ◌++◌}
 use Prim.Native.Nat.{ℕ, suc, ◌+◌, ◌*◌, ◌<◌, min}
@@ -13,7 +13,7 @@ use Rattle.lighting_levels.proofs.Split.{by_bool, leb_yes, le_of, also_both}
 use Rattle.text_characters.specs.Characters.{is_blank}
 use Rattle.text_heading.specs.Words.{letters, base, may_follow, number_in, set_with, marks_with, with_number, has_come, with_come}
 use Rattle.text_heading.specs.Heading.{left_out, none_came, fresh_heading, with_place, lettered, takes_digit, counted, counted_on, gapped, numbered, marked, word_begun, trailed, step_at, heading_step, read, run, judged, ended_at, ended}
-use Rattle.text_heading.specs.Spelling.{Unbroken, nothing, char, Blanks, no_blank, one_blank, Digit, Writes, no_digit, one_digit, says, Further, no_more, one_more, Names, names}
+use Rattle.text_heading.specs.Spelling.{Unbroken, nothing, char, Blanks, no_blank, one_blank, Digit, Writes, no_digit, one_digit, Says, says, Further, no_more, one_more, Names, names}
 use Rattle.text_heading.specs.declared.Word.{Word}
 use Rattle.text_heading.specs.declared.Word.TheVariants.{Outputs, Stations, Fade, Duration, Tenants}
 use Rattle.text_heading.specs.declared.Named.{Named}
@@ -54,6 +54,13 @@ blank_untaken Fade k = refl
 blank_untaken Duration k = refl
 blank_untaken Tenants k = refl
 
+-- the letters of a further word are read after a number
+abbrev Spelt : Named → Came → Word → Type 0
+Spelt p m w = run read (line p m Trail) (letters w) ≡ line p (with_come w m) (Letters w (length (letters w)))
+
+abbrev came : Bool → Bool → Bool → Bool → Came
+came s f d t = record { stations = s; fade = f; duration = d; tenants = t }
+
 -- `outputs` at the line's start, and a further word after a blank, for the first time
 module _ (p : Named) (m : Came) where
   first_word :
@@ -70,10 +77,10 @@ module _ (p : Named) (m : Came) where
       run read (line p m Trail) (letters w) ≡ line p (with_come w m) (Letters w (length (letters w)))
   unfolding run read heading_step step_at trailed word_begun marked lettered with_place letters has_come is_blank if◌then◌else◌
   spelt_on Outputs h = absurd (false≢true (sym h))
-  spelt_on Stations h = rw h
-  spelt_on Fade h = rw h
-  spelt_on Duration h = rw h
-  spelt_on Tenants h = rw h
+  spelt_on Stations h = subst (λ (b : Bool). Spelt p (came b m.fade m.duration m.tenants) Stations) (sym h) refl
+  spelt_on Fade h = subst (λ (b : Bool). Spelt p (came m.stations b m.duration m.tenants) Fade) (sym h) refl
+  spelt_on Duration h = subst (λ (b : Bool). Spelt p (came m.stations m.fade b m.tenants) Duration) (sym h) refl
+  spelt_on Tenants h = subst (λ (b : Bool). Spelt p (came m.stations m.fade m.duration b) Tenants) (sym h) refl
 
   further_word :
       (w : Word) → has_come w m ≡ false →
@@ -227,6 +234,15 @@ ends_here :
 unfolding ended
 ends_here l e = record { judgment = ap ended l.comes ∙ e; whole = l.whole }
 
+-- a further word that has come, and what follows it
+further_said :
+    (p : Named) (v : Word) {m : Came} {q : Named} {n : ℕ} {x y : Bytes} → has_come v m ≡ false → Says v n x →
+    ((j : ℕ) → Ends (line (capped (with_number v n p)) (with_come v m) (Number v j)) y q) →
+    Ends (line (capped p) m Trail) (x ++ y) q
+further_said p v {m} {n = n} h (says g s) e =
+    let said = leads_then (further_word (capped p) m v h) (number (capped p) (with_come v m) v g s) in
+    ends_after (rw (capped_with v n p) at said) (e _)
+
 further :
     {m : Came} {p q : Named} {x : Bytes} (w : Word) (k : ℕ) → Further m p q x → q.tenants < 4294967296 →
     Ends (line (capped p) m (Number w k)) x q
@@ -234,9 +250,8 @@ unfolding ended_at
 further {p = p} w k (no_more no_blank) t = ends_here leads_none (judged_capped p t)
 further {m} {p} w k (no_more (one_blank e s)) t =
     ends_here (trail (capped p) m w k (one_blank e s)) (judged_capped p t)
-further {m} {p} w k (one_more {n = n} v h b (says g s) f) t =
-    let said = leads_then (further_word (capped p) m v h) (number (capped p) (with_come v m) v g s) in
-    ends_after (trail (capped p) m w k b) (ends_after (rw (capped_with v n p) at said) (further v _ f t))
+further {m} {p} w k (one_more v h b s f) t =
+    ends_after (trail (capped p) m w k b) (further_said p v h s (λ j. further v j f t))
 
 pub named_read : {q : Named} {x : Bytes} → Names q x → (ended (run read fresh_heading x) ≡ judged q) × Unbroken x
 unfolding fresh_heading

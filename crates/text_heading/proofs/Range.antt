@@ -1,7 +1,7 @@
 -- A line that names a set is a good one where the set may be started, whatever the marks, and else says which
 -- number may not be so: the ranges of the words are those of `startable`, number by number.
 use mathlib.Core.Path.{◌≡◌, refl, sym, ap, ◌∙◌}
-use mathlib.Core.Bool.{Bool, true, false, false≢true}
+use mathlib.Core.Bool.{true, false, false≢true}
 use Prim.Native.Nat.{ℕ, ◌≤◌, ◌<◌, min}
 use native.Mathlib.Omega.{arith}
 use Rattle.lighting_levels.specs.Paper.Choice.{if◌then◌else◌, ◌also◌}

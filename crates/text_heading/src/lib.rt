@@ -11,7 +11,7 @@ ghost use Rattle.text_heading.specs.Heading.{fresh_heading, with_place, no_word,
 use lighting_outputs::{MOST_DURATION, MOST_FADE, Parameters};
 
 // A word that has a number of the set, or the marks.
-#[derive(Drop)]
+#[derive(Clone, Copy)]
 pub enum Word {
     Outputs,
     Stations,
@@ -21,21 +21,21 @@ pub enum Word {
 }
 
 // What a first line names: the set of parameters (§6), and the marks of tenants (§8).
-#[derive(Drop)]
+#[derive(Clone, Copy)]
 pub struct Named {
     pub parameters: Parameters,
     pub tenants: u32,
 }
 
 // The range of a word's number: both ends belong to it.
-#[derive(Drop)]
+#[derive(Clone, Copy)]
 pub struct Bounds {
     pub least: u32,
     pub most: u32,
 }
 
 // Which of the words after `outputs` have come.
-#[derive(Drop)]
+#[derive(Clone, Copy)]
 pub struct Came {
     pub stations: bool,
     pub fade: bool,
@@ -44,7 +44,7 @@ pub struct Came {
 }
 
 // What makes a first line a bad one.
-#[derive(Drop)]
+#[derive(Clone, Copy)]
 pub enum HeadingFault {
     // it does not begin with `outputs`
     NoOutputs,
@@ -59,7 +59,7 @@ pub enum HeadingFault {
 }
 
 // Where in the line the next character stands.
-#[derive(Drop)]
+#[derive(Clone, Copy)]
 pub enum Place {
     // after so many letters of a word
     Letters(Word, u8),
@@ -74,7 +74,7 @@ pub enum Place {
 
 // The line so far: the numbers that it has named, with those that hold where it names none, the words that
 // have come, and the place.
-#[derive(Drop)]
+#[derive(Clone, Copy)]
 pub struct Heading {
     pub named: Named,
     pub came: Came,
@@ -82,7 +82,7 @@ pub struct Heading {
 }
 
 // What the line is at its end.
-#[derive(Drop)]
+#[derive(Clone, Copy)]
 pub enum Ending {
     Starts(Named),
     Fails(HeadingFault),
@@ -91,7 +91,7 @@ pub enum Ending {
 // ---- the line after one more character c, worth v as a digit
 
 // Before its first character. Left out are eight stations, the greatest times, and no marks.
-#[tactic(auto, using(lighting_levels::proofs::Choosing::ifs), unfolding(crate::specs::Heading::fresh_heading))]
+#[tactic(auto, unfolding(crate::specs::Heading::fresh_heading))]
 pub fn fresh_heading() -> Heading
     ensures { result ≡ fresh_heading }
 {
@@ -115,7 +115,7 @@ pub fn fresh_heading() -> Heading
     }
 }
 
-#[tactic(auto, using(lighting_levels::proofs::Choosing::ifs), unfolding(crate::specs::Heading::with_place))]
+#[tactic(auto, unfolding(crate::specs::Heading::with_place))]
 fn with_place(h: Heading, at: Place) -> Heading
     ensures { result ≡ with_place h at }
 {
@@ -129,7 +129,7 @@ fn with_place(h: Heading, at: Place) -> Heading
 }
 
 // What is wrong where a word is not there whole, and where no number follows it.
-#[tactic(auto, using(crate::proofs::Laws::no_word_on, lighting_levels::proofs::Choosing::ifs), unfolding(crate::specs::Heading::no_word))]
+#[tactic(auto, unfolding(crate::specs::Heading::no_word))]
 fn no_word(w: Word) -> HeadingFault
     ensures { result ≡ no_word w }
 {
@@ -142,7 +142,7 @@ fn no_word(w: Word) -> HeadingFault
     }
 }
 
-#[tactic(auto, using(crate::proofs::Laws::no_number_on, lighting_levels::proofs::Choosing::ifs), unfolding(crate::specs::Heading::no_number))]
+#[tactic(auto, unfolding(crate::specs::Heading::no_number))]
 fn no_number(w: Word) -> HeadingFault
     ensures { result ≡ no_number w }
 {
@@ -189,7 +189,6 @@ fn lettered(h: Heading, w: Word, k: u8, c: u8) -> Heading
 }
 
 // One more digit. The greatest number stands for all above it too.
-#[tactic(auto, using(lighting_levels::proofs::Product::below))]
 fn grown(w: Word, n: u32, v: u8) -> u32
     ensures { result ≡ grown w n v }
 {
@@ -306,7 +305,7 @@ fn trailed(h: Heading, c: u8) -> Heading
     }
 }
 
-#[tactic(auto, using(crate::proofs::Laws::step_at_on), unfolding(crate::specs::Heading::heading_step, crate::specs::Heading::step_at))]
+#[tactic(auto, unfolding(crate::specs::Heading::heading_step, crate::specs::Heading::step_at))]
 pub fn step(h: Heading, v: u8, c: u8) -> Heading
     ensures { result ≡ heading_step h v c }
 {
@@ -344,7 +343,7 @@ fn judged(named: Named) -> Ending
     fitting(Word::Stations, named, outputs)
 }
 
-#[tactic(auto, using(crate::proofs::Laws::ended_at_on), unfolding(crate::specs::Heading::ended, crate::specs::Heading::ended_at))]
+#[tactic(auto, unfolding(crate::specs::Heading::ended, crate::specs::Heading::ended_at))]
 pub fn ended(h: Heading) -> Ending
     ensures { result ≡ ended h }
 {

@@ -17,7 +17,7 @@ fn letter_of(letters: &[u8], k: u8) -> u8
 }
 
 // The letter of a word after the first k, 0 after the last.
-#[tactic(auto, using(crate::proofs::Laws::letters_on), unfolding(crate::specs::Words::letters))]
+#[tactic(auto, unfolding(crate::specs::Words::letters))]
 pub fn letter(w: Word, k: u8) -> u8
     ensures { result ≡ get_or (letters w) k 0 }
 {
@@ -32,7 +32,7 @@ pub fn letter(w: Word, k: u8) -> u8
 
 // ---- how a word's number is written
 
-#[tactic(auto, using(crate::proofs::Laws::base_on, lighting_levels::proofs::Choosing::ifs), unfolding(crate::specs::Words::base))]
+#[tactic(auto, unfolding(crate::specs::Words::base))]
 pub fn base(w: Word) -> u8
     ensures { result ≡ base w }
 {
@@ -55,7 +55,7 @@ pub fn may_follow(w: Word, k: u8) -> bool
 
 // ---- a word's number
 
-#[tactic(auto, using(crate::proofs::Laws::number_in_on, lighting_levels::proofs::Choosing::ifs), unfolding(crate::specs::Words::number_in))]
+#[tactic(auto, unfolding(crate::specs::Words::number_in))]
 pub fn number_in(w: Word, named: Named) -> u32
     ensures { result ≡ number_in w named }
 {
@@ -68,7 +68,7 @@ pub fn number_in(w: Word, named: Named) -> u32
     }
 }
 
-#[tactic(auto, using(crate::proofs::Laws::set_with_on, lighting_levels::proofs::Choosing::ifs), unfolding(crate::specs::Words::set_with))]
+#[tactic(auto, unfolding(crate::specs::Words::set_with))]
 fn set_with(w: Word, n: u32, set: Parameters) -> Parameters
     ensures { result ≡ set_with w n set }
 {
@@ -101,7 +101,7 @@ fn set_with(w: Word, n: u32, set: Parameters) -> Parameters
     }
 }
 
-#[tactic(auto, using(crate::proofs::Laws::marks_with_on, lighting_levels::proofs::Choosing::ifs), unfolding(crate::specs::Words::marks_with))]
+#[tactic(auto, unfolding(crate::specs::Words::marks_with))]
 fn marks_with(w: Word, n: u32, marks: u32) -> u32
     ensures { result ≡ marks_with w n marks }
 {
@@ -125,7 +125,7 @@ pub fn with_number(w: Word, n: u32, named: Named) -> Named
     }
 }
 
-#[tactic(auto, using(crate::proofs::Laws::bounds_on, lighting_levels::proofs::Choosing::ifs), unfolding(crate::specs::Words::bounds))]
+#[tactic(auto, unfolding(crate::specs::Words::bounds))]
 pub fn bounds(w: Word) -> Bounds
     ensures { result ≡ bounds w }
 {
@@ -163,7 +163,7 @@ pub fn fits(w: Word, named: Named) -> bool
 
 // ---- which words have come
 
-#[tactic(auto, using(crate::proofs::Laws::has_come_on, lighting_levels::proofs::Choosing::ifs), unfolding(crate::specs::Words::has_come))]
+#[tactic(auto, unfolding(crate::specs::Words::has_come))]
 pub fn has_come(w: Word, came: Came) -> bool
     ensures { result ≡ has_come w came }
 {
@@ -176,7 +176,7 @@ pub fn has_come(w: Word, came: Came) -> bool
     }
 }
 
-#[tactic(auto, using(crate::proofs::Laws::with_come_on, lighting_levels::proofs::Choosing::ifs), unfolding(crate::specs::Words::with_come))]
+#[tactic(auto, unfolding(crate::specs::Words::with_come))]
 pub fn with_come(w: Word, came: Came) -> Came
     ensures { result ≡ with_come w came }
 {
