@@ -1,6 +1,6 @@
 #!/usr/bin/env python3
 """laws.py [--check]: write proofs/Laws.antt of each crate of definitions (crates/lighting_*). For each definition of its specs/ that goes by
-clauses on a variant, its law f-on: where the argument is k, f of it is f of k. Code proofs cite it at the variant that a match has found. The
+clauses on a variant, its law f_on: where the argument is k, f of it is f of k. Code proofs cite it at the variant that a match has found. The
 prover checks each law, and nothing else comes of the files. With --check nothing is written, and a stale file is an error."""
 import glob
 import re
@@ -9,8 +9,14 @@ import sys
 # definitions that no code implements
 WITHOUT_CODE = {'Plain', 'Demand'}
 # those that code implements and that unfold everywhere
-OPEN = {'rowOf', 'numberOf'}
+OPEN = {'row_of', 'number_of'}
+# what the laws name of the library, by its own modules
+LIBRARY = {'ℕ': 'Prim.Native.Nat', 'Bool': 'mathlib.Core.Bool', 'List': 'mathlib.Core.List', 'Option': 'mathlib.Core.Option'}
 TOP = '-- Made by tools/laws.py: each definition by clauses, at the variant that a match has found.'
+
+
+def snake(name):
+    return re.sub(r'(?<=[a-z0-9])[A-Z]', lambda m: '_' + m[0].lower(), name)
 
 
 def laws_of(crate):
@@ -19,7 +25,7 @@ def laws_of(crate):
         folder, module = path.split('/')[-2], path.split('/')[-1][:-5]
         if module in WITHOUT_CODE:
             continue
-        here = 'Rattle·%s·specs.specs.%s.%s' % (crate, folder, module)
+        here = 'Rattle.%s.specs.%s.%s' % (crate, folder, module)
         text = open(path).read()
         for m in re.finditer(r'^(?:unfoldable|abbrev) pub (\w+) : (.*)\n((?:.+\n?)*)', text, re.M):
             name, signature, body = m.groups()
@@ -40,16 +46,18 @@ def laws_of(crate):
             after[at] = 'k'
             binders = ' '.join('(%s : %s)' % b for b in zip(before, arguments))
             laws.append(
-                'pub {f}-on : {bind} (k : {type}) (r : {result}) → {x} ≡ k → r ≡ {f} {after} → r ≡ {f} {before}\n{f}-on {before} k r e p = rw e p\n'.format(
-                    f=name, bind=binders, type=arguments[at], result=result, x=before[at], after=' '.join(after), before=' '.join(before)))
+                'pub {law} : {bind} (k : {type}) (r : {result}) → {x} ≡ k → r ≡ {f} {after} → r ≡ {f} {before}\n{law} {before} k r e p = rw e p\n'.format(
+                    f=name, law=snake(name) + '_on', bind=binders, type=arguments[at], result=result, x=before[at], after=' '.join(after), before=' '.join(before)))
             definitions.setdefault(here, []).append(name)
             names += re.findall(r'[A-Z]\w*|ℕ', signature)
         for used, group in re.findall(r'^(?:pub )?use (.*)\.\{([^}]*)\}', text, re.M):
-            if 'the-variants' not in used:
-                types.setdefault(used, set()).update(n.strip() for n in group.split(',') if re.match(r'\s*([A-Z]\w*|ℕ)\s*$', n))
+            if 'TheVariants' not in used:
+                for n in (n.strip() for n in group.split(',')):
+                    if re.match(r'([A-Z]\w*|ℕ)$', n):
+                        types.setdefault(LIBRARY.get(n, used), set()).add(n)
         own = re.findall(r'^(?:abbrev )?pub (?:record )?([A-Z]\w*) ', text, re.M)
         types.setdefault(here, set()).update(own)
-    lines = [TOP, 'use mathlib.Core.Path.{_≡_}']
+    lines = [TOP, 'use mathlib.Core.Path.{◌≡◌}']
     seen = set()
     for module in sorted(set(definitions) | set(types)):
         group = definitions.get(module, []) + sorted(t for t in types.get(module, ()) if t in names and t not in seen)

@@ -4,9 +4,9 @@ time, and asks the prover about each. A change that leaves every theorem proved 
 
     mutate.py CRATE [--file PART] [--only REGEX] [--sample N] [--seed S] [--jobs J] [--list]
 
-Each change is tried on copies, in target/mutate: on CRATE, then on each crate of definitions and theorems
-that rests on it (one whose source has no function), until one refuses. `rt dev` checks them over copies of
-their incremental folders, so only what rests on the changed definition is checked again.
+Each change is tried on copies, outside the checkout: on CRATE, then on each crate of definitions and theorems
+that rests on it (one whose source has no function), until one refuses. `rt check` checks them over copies of
+their out/ folders, so only what rests on the changed definition is checked again.
 
 The changes, all on the right sides of definitions: an operator (`ltb` to `leb`, + to -, `min` to `max`, <
 to ≤); a number to one more and one less; true to false; a field to the next one of its record and type; a
@@ -21,6 +21,7 @@ tools/mutations.txt has the changes that are known to be left: dead by the defin
 of reach; a line each: definition | line | line after the change | reason. Exit status 1 where another one
 is left."""
 import argparse
+import atexit
 import concurrent.futures
 import glob
 import os
@@ -29,16 +30,14 @@ import re
 import shutil
 import subprocess
 import sys
+import tempfile
 
 KNOWN = 'tools/mutations.txt'
 SKIPPED = re.compile(r'(Worked\w*|Figures|Lib)\.antt$')
-SWAPS = {'ltb': 'leb', 'leb': 'ltb', 'eqb': 'leb', 'min': 'max', 'max': 'min', 'bitAnd': 'bitOr', 'bitOr': 'bitAnd',
+SWAPS = {'ltb': 'leb', 'leb': 'ltb', 'eqb': 'leb', 'min': 'max', 'max': 'min', 'bit_and': 'bit_or', 'bit_or': 'bit_and',
          'true': 'false', 'false': 'true', '+': '-', '-': '+', '*': '+', '/': '%', '%': '/', '<': '≤', '≤': '<'}
 # where a name that a change brings in comes from
-HOME = {'ltb': 'lib.Dec', 'leb': 'lib.Dec', 'bitAnd': 'lib.Bits', 'bitOr': 'lib.Bits', 'true': 'mathlib.Core.Bool',
-        'false': 'mathlib.Core.Bool', 'not': 'mathlib.Core.Bool', 'min': 'Prim.Native.Nat', 'max': 'Prim.Native.Nat',
-        '+': 'Prim.Native.Nat', '-': 'Prim.Native.Nat', '/': 'Prim.Native.Nat', '%': 'Prim.Native.Nat',
-        '<': 'Prim.Native.Nat', '≤': 'Prim.Native.Nat'}
+HOME = 'Rattle.std.specs.Prelude'
 TOKEN = re.compile(r'''0x[0-9A-Fa-f_]+|[^\s(){};,]+|[(){};,]''')
 
 
@@ -53,7 +52,7 @@ def write(path, text):
 
 
 # ---- the repository
-DEPENDS = {m.group(1): m.group(2).split() for m in re.finditer(r'^(\w+):([^#\n]*)', read('crates.txt'), re.M)}
+DEPENDS = {m.group(1): m.group(2).split() for m in re.finditer(r'^(\w+)(?: staticlib)?:([^#\n]*)', read('crates.txt'), re.M)}
 
 
 def rests_on(name, other):
@@ -118,9 +117,10 @@ def of_clause(plain, start, end, fields):
             yield m.start(), m.end(), str(n + 1), []
             if n > 0:
                 yield m.start(), m.end(), str(n - 1), []
-        elif re.fullmatch(r'\.[a-z]\w*', word):
-            for other in sorted(fields.get(word[1:], [])):
-                yield m.start(), m.end(), '.' + other, []
+        elif not word.startswith('Rattle.') and re.fullmatch(r"[\w']*(?:\.[a-z]\w*)+", word):
+            for part in re.finditer(r'\.([a-z]\w*)', word):
+                for other in sorted(fields.get(part.group(1), [])):
+                    yield m.start() + part.start(), m.start() + part.end(), '.' + other, []
         elif word == 'if':
             nested = 0
             for t in tokens[i + 1:]:
@@ -148,9 +148,9 @@ def changes(path, fields):
 def changed(text, start, end, new, brings):
     out = text[:start] + new + text[end:]
     for word in brings:
-        spelled = word if word[0].isalpha() else '_%s_' % word
+        spelled = word if word[0].isalpha() else '◌%s◌' % word
         if not re.search(r'^(?:pub )?use .*[{, ]%s[,}]' % re.escape(spelled), text, re.M):
-            out = 'use %s.{%s}\n' % (HOME[word], spelled) + out
+            out = 'use %s.{%s}\n' % (HOME, spelled) + out
     return out
 
 
@@ -164,18 +164,13 @@ def key(change):
 
 
 # ---- trying one
-def room(job, crates):
+def room(top, crates):
     """A repository of its own for a job: copies of the crates, and of what is proved already."""
-    where = os.path.join('target', 'mutate', str(job))
-    shutil.rmtree(where, ignore_errors=True)
+    where = tempfile.mkdtemp(dir=top)
     needed = [c for c in DEPENDS if c in crates or any(rests_on(d, c) for d in crates)]
-    os.makedirs(os.path.join(where, 'target', 'inc'))
     write(os.path.join(where, 'crates.txt'), ''.join('%s: %s\n' % (c, ' '.join(DEPENDS[c])) for c in needed))
     for c in needed:
         shutil.copytree('crates/' + c, os.path.join(where, 'crates', c))
-    for part in ('rlib', 'stamp'):
-        if os.path.isdir('target/' + part):
-            shutil.copytree('target/' + part, os.path.join(where, 'target', part))
     return where
 
 
@@ -187,10 +182,11 @@ def verdict(where, crates, change):
     try:
         for crate in crates:
             # a change must not be judged by what an earlier one left behind
-            shutil.rmtree(os.path.join(where, 'target', 'inc', crate), ignore_errors=True)
-            if os.path.isdir('target/inc/' + crate):
-                shutil.copytree('target/inc/' + crate, os.path.join(where, 'target', 'inc', crate))
-            said = subprocess.run(['rt', 'dev', crate], cwd=where, stdout=subprocess.PIPE, stderr=subprocess.STDOUT, text=True).stdout
+            out = os.path.join('crates', crate, 'out')
+            shutil.rmtree(os.path.join(where, out), ignore_errors=True)
+            if os.path.isdir(out):
+                shutil.copytree(out, os.path.join(where, out))
+            said = subprocess.run(['rt', 'check'], cwd=os.path.join(where, 'crates', crate), stdout=subprocess.PIPE, stderr=subprocess.STDOUT, text=True).stdout
             if re.search(r'/specs/\S+: error', said):
                 return 'untyped'
             last = re.findall(r'^logic=(\S+)', said, re.M)[-1:]    # the crate's own; those that it rests on come before
@@ -222,10 +218,12 @@ def main():
         return 0
     known = {tuple(part.strip() for part in line.split(' | ')[:3]) for line in read(KNOWN).split('\n') if not line.startswith('#')}
     crates = tried_on(asked.crate)
-    for crate in crates:        # the incremental folders that are copied
-        if subprocess.run(['rt', 'dev', crate], capture_output=True).returncode:
+    for crate in crates:        # the out/ folders that are copied
+        if subprocess.run(['rt', 'check'], cwd='crates/' + crate, capture_output=True).returncode:
             sys.exit('mutate.py: %s is not proved as it stands' % crate)
-    rooms = [room(job, crates) for job in range(asked.jobs)]
+    top = tempfile.mkdtemp()
+    atexit.register(shutil.rmtree, top, True)
+    rooms = [room(top, crates) for _ in range(asked.jobs)]
     count, left = {'survives': 0, 'refused': 0, 'untyped': 0, 'undecided': 0}, []
 
     def try_one(change):

@@ -3,10 +3,12 @@
 named), the functions `output_value::reached` (Progress_Value of a movement) and `output_light::lit_moving` (the lit milliseconds of a stretch of it) are compiled for
 each processor by the kit's own compiler, and the instructions of one call are counted, for movements of each sort. What each call gives is compared with a number.
 Dividing 64 bits is a call of the compiler's library on these processors: a `d` says that it is called, and its own instructions are not counted.
-The compiler is given what `rt try replay` hands to it (a file module.bc beside it), without what is said there of the processor and of each function.
+The compiler is given what `rt try` hands to it in crates/replay (a file module.bc beside it), without what is said there of the processor and of each function.
 Needs qemu-arm and qemu-i386 (Debian: qemu-user, tried with 7.2) and nm. Nothing is proved by this, and the gate does not run it."""
+import glob
 import os
 import re
+import shutil
 import subprocess
 import sys
 import tempfile
@@ -69,23 +71,24 @@ def run(words):
 
 
 def kit_that_keeps(work):
-    """A copy of the kit by links, whose compiler keeps what it is given first: the program as it is, before anything was made of it."""
-    rt = os.path.realpath(run(['sh', '-c', 'command -v rt']).strip())
-    kit = os.environ.get('RATTLE_HOME') or os.path.dirname(os.path.dirname(rt))
+    """A copy of the kit by links, whose compiler keeps each module that it is given: the program's as it is, before anything was made of it, is among them."""
+    kit = os.path.dirname(os.path.dirname(os.path.realpath(run(['sh', '-c', 'command -v rt']).strip())))
     copy = os.path.join(work, 'kit')
-    own = os.path.join('on', os.uname().machine)
-    tools = os.path.join(own, 'toolchain')
-    for inside in ('', 'on', own, tools):
+    tools = os.path.join('toolchain', 'bin')
+    for inside in ('', 'bin', 'toolchain', tools):
         os.makedirs(os.path.join(copy, inside))
         for name in os.listdir(os.path.join(kit, inside)):
-            if os.path.join(inside, name) not in ('on', own, tools, os.path.join(tools, 'bin')):
-                os.symlink(os.path.join(kit, inside, name), os.path.join(copy, inside, name))
-    compiler = os.path.join(kit, tools, 'bin', 'clang')
-    os.makedirs(os.path.join(copy, tools, 'bin'))
-    for name in os.listdir(os.path.dirname(compiler)):
-        wrapper = os.path.join(copy, tools, 'bin', name)
+            one, other = os.path.join(kit, inside, name), os.path.join(copy, inside, name)
+            # the scripts of rt look for the kit where they themselves lie
+            if inside == 'bin' and name.startswith('rt') and os.path.isfile(one):
+                shutil.copy(one, other)
+            elif os.path.join(inside, name) not in ('bin', 'toolchain', tools) and inside != tools:
+                os.symlink(one, other)
+    compiler = os.path.join(kit, tools, 'clang')
+    for name in os.listdir(os.path.join(kit, tools)):
+        wrapper, one = os.path.join(copy, tools, name), os.path.join(kit, tools, name)
         with open(wrapper, 'w') as file:
-            file.write('#!/bin/bash\n[ -f module.bc ] && cp -n module.bc %s/module.bc\nexec -a "$0" %s "$@"\n' % (work, compiler))
+            file.write('#!/bin/bash\n[ -f module.bc ] && cp module.bc %s/module-$$.bc\nexec -a "$0" %s "$@"\n' % (work, one))
         os.chmod(wrapper, 0o755)
     return copy, compiler
 
@@ -93,13 +96,16 @@ def kit_that_keeps(work):
 def functions_of(folder, work):
     """The two functions of a checkout, for any processor: what is made for this one alone is taken out, and nothing else is kept."""
     kit, compiler = kit_that_keeps(work)
-    said = subprocess.run(['rt', 'try', 'replay'], cwd=folder, env=dict(os.environ, RATTLE_HOME=kit), capture_output=True, text=True)
-    module, path = os.path.join(work, 'module.bc'), os.path.join(work, 'module.ll')
-    if not os.path.exists(module):
-        sys.exit('narrow.py: `rt try replay` in %s compiled nothing: %s' % (folder, said.stdout + said.stderr))
-    run([compiler, '-S', '-emit-llvm', '-x', 'ir', module, '-o', path, '-O0'])
-    with open(path) as file:
-        text = file.read()
+    said = subprocess.run([os.path.join(kit, 'bin', 'rt'), 'try'], cwd=os.path.join(folder, 'crates', 'replay'), stdin=subprocess.DEVNULL, capture_output=True, text=True)
+    path, text = os.path.join(work, 'module.ll'), ''
+    for module in sorted(glob.glob(os.path.join(work, 'module-*.bc'))):
+        run([compiler, '-S', '-emit-llvm', '-x', 'ir', module, '-o', path, '-O0'])
+        with open(path) as file:
+            found = file.read()
+        if not text and all('@"%s"(' % name in found for name in FUNCTIONS):
+            text = found
+    if not text:
+        sys.exit('narrow.py: `rt try` in %s/crates/replay compiled no such functions: %s' % (folder, said.stdout + said.stderr))
     text = re.sub(r'^target (?:datalayout|triple).*$', '', text, flags=re.M)
     text = re.sub(r'^attributes #(\d+) = \{.*$', r'attributes #\1 = { nounwind }', text, flags=re.M)
     text = re.sub(r'^define (?!internal)', 'define internal ', text, flags=re.M)

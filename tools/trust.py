@@ -1,21 +1,14 @@
 #!/usr/bin/env python3
-"""trust.py [--check]: what a reader must believe, counted, into docs/TRUST.md between its two marks.
+"""trust.py [--check] [LOG]: what a reader must believe, counted, into docs/TRUST.md between its two marks.
 
-It counts the lines of the definitions, of the statement of demand 3 and of the contracts of `panel::start` and `panel::frame`, and reads from the logs
-of the last check (target/log) how many functions of each crate are proved and which axioms each crate rests on. An axiom in any crate but a program, or
-another one than those of input and output below, is an error. With --check nothing is written, and a stale count is an error too."""
+It counts the lines of the definitions, of the statement of demand 3 and of the contracts of `panel::start` and `panel::frame`, and the functions of each
+crate. A foreign function (a block `extern`), an axiom or a hole in any crate is an error. With LOG, what `rt ci` printed, it is an error too if a crate is
+not proved there, or rests on an axiom or a foreign function by its last line. With --check nothing is written, and a stale count is an error too."""
 import glob
 import os
 import re
-import subprocess
 import sys
 
-# the contracts of C functions that a program's input and output rest on, and no others
-AXIOMS = {
-    'replay': ['libc::read', 'libc::write', 'os::c::rattle_arg', 'os::c::rattle_set_errno'],
-    'bench_figures': ['libc::read', 'libc::write'],
-    'lent_tables': ['libc::read', 'libc::write'],
-}
 PAGE = 'docs/TRUST.md'
 BEGIN, END = '<!-- made by tools/trust.py -->', '<!-- to here -->'
 
@@ -43,27 +36,33 @@ def contract(function):
 
 
 def crates():
-    return [m.group(1) for m in re.finditer(r'^(\w+):', read('crates.txt'), re.M)]
+    return [m.group(1) for m in re.finditer(r'^(\w+)(?: staticlib)?:', read('crates.txt'), re.M)]
 
 
-def checked(name):
-    """What the last check of a crate said: its number of functions, and its axioms."""
-    log = read('target/log/%s.out' % name)
-    verdict = re.findall(r'^logic=(\S+) functions=(\d+)(?: axioms=(\d+))?', log, re.M)
-    if not verdict or verdict[-1][0] != 'proved':
-        sys.exit('trust.py: %s is not proved by the last check' % name)
-    axioms = sorted(a.strip() for group in re.findall(r'^axioms \w+: (.*) \(', log, re.M) for a in group.split(','))
-    if len(axioms) != int(verdict[-1][2] or 0):
-        sys.exit('trust.py: %s names %d axioms and counts %s' % (name, len(axioms), verdict[-1][2] or 0))
-    return int(verdict[-1][1]), axioms
+def code(path):
+    """A file without its comments and strings."""
+    text = re.sub(r'//.*' if path.endswith('.rt') else r'(?m)(?:^|(?<=\s))--.*$', '', read(path))
+    return re.sub(r'"(?:[^"\\\n]|\\.)*"', '""', text)
 
 
 functions, faults = 0, []
 for name in crates():
-    count, axioms = checked(name)
-    functions += count
-    if axioms != sorted(AXIOMS.get(name, [])):
-        faults.append('%s rests on the axioms %s, and may on %s' % (name, axioms, sorted(AXIOMS.get(name, []))))
+    for path in sorted(glob.glob('crates/%s/**/*.rt' % name, recursive=True)):
+        if '/out/' not in path:
+            functions += len(re.findall(r'\bfn \w+', code(path)))
+            if re.search(r'\bextern\s*(?:""\s*)?\{', code(path)):
+                faults.append('%s declares foreign functions' % path)
+    for path in sorted(glob.glob('crates/%s/**/*.antt' % name, recursive=True)):
+        if '/out/' not in path:
+            if re.search(r'(?m)^\s*(?:(?:pattern|unfoldable|abbrev|pub) )*axiom ', code(path)):
+                faults.append('%s has an axiom' % path)
+            if re.search(r'(?:^|[\s(])\?(?:[\s)]|$)', code(path)):
+                faults.append('%s has a hole' % path)
+for path in [word for word in sys.argv[1:] if word != '--check']:
+    log = read(path)
+    proved = set(re.findall(r'^rt: (\w+) (?:proved|is kept: .*)$', log, re.M))
+    faults += ['%s is not proved by %s' % (name, path) for name in crates() if name not in proved]
+    faults += ['%s: %s' % (path, line) for line in re.findall(r'^logic=.*\b(?:axioms|foreign)=.*$', log, re.M)]
 for fault in faults:
     print('trust.py: ' + fault)
 
@@ -77,10 +76,7 @@ rows = [
     ('the contract of `panel::frame`', '`crates/panel/src/lib.rt`', str(contract('frame'))),
 ]
 made = ['| what | where | lines |', '|---|---|---|'] + ['| %s | %s | %s |' % row for row in rows] + ['']
-made += ['%d functions in %d crates are proved. Axioms, which are contracts of C functions that nothing proves:' % (functions, len(crates())), '']
-made += ['| crate | axioms |', '|---|---|']
-made += ['| `%s` | %s: %s |' % (name, len(names), ', '.join('`%s`' % a for a in sorted(names))) for name, names in sorted(AXIOMS.items())]
-made += ['| every other crate | none |']
+made += ['%d functions in %d crates are proved. No crate has an axiom, a hole or a foreign function of its own.' % (functions, len(crates()))]
 text = '\n'.join([BEGIN, ''] + made + ['', END])
 page = read(PAGE)
 start, end = page.index(BEGIN), page.index(END) + len(END)
@@ -91,5 +87,5 @@ if '--check' in sys.argv:
 else:
     with open(PAGE, 'w') as f:
         f.write(page[:start] + text + page[end:])
-print('trust.py: %d functions in %d crates; no axiom but those of the programs\' input and output' % (functions, len(crates())) if not faults else 'trust.py: FAILED')
+print('trust.py: %d functions in %d crates; no axiom, no hole, no foreign function' % (functions, len(crates())) if not faults else 'trust.py: FAILED')
 sys.exit(1 if faults else 0)

@@ -87,7 +87,6 @@ fn stretch(now: u64, d: u64, fires: bool, o: Output) -> Output
     if fires { fire_due(d, burned) } else { burned }
 }
 
-#[tactic(auto, unfolding(lighting_outputs::specs::Engine::Advance::event_steps))]
 fn one_event_step(now: u64, to: u64, o: Output) -> Output
     ensures { result ≡ event_steps 1 now to o }
 {
@@ -95,7 +94,6 @@ fn one_event_step(now: u64, to: u64, o: Output) -> Output
     stretch(d, to, false, stretch(now, d, true, o))
 }
 
-#[tactic(auto, unfolding(lighting_outputs::specs::Engine::Advance::event_steps))]
 fn two_event_steps(now: u64, to: u64, o: Output) -> Output
     ensures { result ≡ event_steps 2 now to o }
 {
@@ -103,7 +101,6 @@ fn two_event_steps(now: u64, to: u64, o: Output) -> Output
     one_event_step(d, to, stretch(now, d, true, o))
 }
 
-#[tactic(auto, unfolding(lighting_outputs::specs::Engine::Advance::advance, lighting_outputs::specs::Engine::Advance::event_steps))]
 pub fn three_event_steps(now: u64, to: u64, o: Output) -> Output
     ensures { result ≡ advance now to o }
 {
