@@ -25,7 +25,7 @@ fn level_refusal(level: Level) -> u8
     }
 }
 
-#[tactic(auto, using(lighting_levels::proofs::Choosing::ifs, lighting_outputs::proofs::Laws::level_field_refusal_on), unfolding(lighting_outputs::specs::Paper::Requests::level_field_refusal))]
+#[tactic(auto, unfolding(lighting_outputs::specs::Paper::Requests::level_field_refusal))]
 fn level_field_refusal(x: RealField) -> u8
     ensures { result ≡ level_field_refusal x }
 {
@@ -36,7 +36,7 @@ fn level_field_refusal(x: RealField) -> u8
 }
 
 // A rate or a step.
-#[tactic(auto, using(lighting_levels::proofs::Choosing::ifs, lighting_outputs::proofs::Laws::amount_field_refusal_on), unfolding(lighting_outputs::specs::Paper::Requests::amount_field_refusal))]
+#[tactic(auto, unfolding(lighting_outputs::specs::Paper::Requests::amount_field_refusal))]
 fn amount_field_refusal(x: RealField) -> u8
     ensures { result ≡ amount_field_refusal x }
 {
@@ -110,7 +110,7 @@ fn command_lasting(parameters: Parameters, operation: Operation, d: u32) -> Requ
     }
 }
 
-#[tactic(auto, using(lighting_levels::proofs::Choosing::ifs, lighting_outputs::proofs::Laws::command_with_duration_on), unfolding(lighting_outputs::specs::Paper::Requests::command_with_duration))]
+#[tactic(auto, unfolding(lighting_outputs::specs::Paper::Requests::command_with_duration))]
 fn command_with_duration(
     parameters: Parameters,
     operation: Operation,
@@ -176,7 +176,7 @@ pub fn command_request(parameters: Parameters, operation: Operation, d: u32) -> 
 }
 
 // Kind 1B: an absent duration is a missing field, and FFFFFFFF is out of range.
-#[tactic(auto, using(lighting_frames::proofs::Laws::tagged_request_on, lighting_levels::proofs::Choosing::ifs), unfolding(lighting_frames::specs::Paper::Frames::tagged_request))]
+#[tactic(auto, unfolding(lighting_frames::specs::Paper::Frames::tagged_request))]
 pub fn tagged_request(parameters: Parameters, reading: TaggedReading) -> Request
     ensures { result ≡ tagged_request parameters reading }
 {

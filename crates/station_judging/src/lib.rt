@@ -70,7 +70,7 @@ fn judge_by_number(at: u64, k: Station, b: &[u8], call: Call) -> Verdict
     Verdict::Arrives(call)
 }
 
-#[tactic(auto, using(lighting_levels::proofs::Choosing::ifs, lighting_panel::proofs::Laws::station_of_on), unfolding(lighting_panel::specs::Engine::Judging::station_of))]
+#[tactic(auto, unfolding(lighting_panel::specs::Engine::Judging::station_of))]
 pub fn station_of(f: Frame) -> u8
     ensures { result ≡ station_of f }
 {

@@ -36,7 +36,7 @@ pub fn fewest_octets(v: u32) -> u8
 }
 
 // A REAL's four octets are its pattern.
-#[tactic(auto, using(lighting_frames::proofs::Laws::real_tag_on, lighting_levels::proofs::Choosing::ifs), unfolding(lighting_frames::specs::Paper::Tags::real_tag))]
+#[tactic(auto, unfolding(lighting_frames::specs::Paper::Tags::real_tag))]
 fn real_tag(x: RealField) -> TagField
     ensures { result ≡ real_tag x }
 {
@@ -49,7 +49,7 @@ fn real_tag(x: RealField) -> TagField
     }
 }
 
-#[tactic(auto, using(lighting_frames::proofs::Laws::whole_tag_on, lighting_levels::proofs::Choosing::ifs), unfolding(lighting_frames::specs::Paper::Tags::whole_tag))]
+#[tactic(auto, unfolding(lighting_frames::specs::Paper::Tags::whole_tag))]
 fn whole_tag(x: TimeField) -> TagField
     ensures { result ≡ whole_tag x }
 {
@@ -63,7 +63,7 @@ fn whole_tag(x: TimeField) -> TagField
 }
 
 // How many bytes a field takes: its tag and its content.
-#[tactic(auto, using(lighting_frames::proofs::Laws::field_size_on), unfolding(lighting_frames::specs::Paper::Tags::field_size))]
+#[tactic(auto, unfolding(lighting_frames::specs::Paper::Tags::field_size))]
 pub fn field_size(field: TagField) -> usize
     ensures { (result ≡ field_size field) × (result ≤ 256) }
 {
@@ -73,7 +73,7 @@ pub fn field_size(field: TagField) -> usize
     }
 }
 
-#[tactic(auto, using(lighting_frames::proofs::Laws::held_by_on, lighting_levels::proofs::Choosing::ifs), unfolding(lighting_frames::specs::Paper::Tags::held_by))]
+#[tactic(auto, unfolding(lighting_frames::specs::Paper::Tags::held_by))]
 pub fn held_by(field: TagField) -> u32
     ensures { result ≡ held_by field }
 {
@@ -109,7 +109,7 @@ pub fn tags_of(operation: Operation, duration: TimeField) -> TagFields
 }
 
 // An omitted duration is a missing field, and one that cancels is 0.
-#[tactic(auto, using(lighting_levels::proofs::Choosing::ifs, lighting_outputs::proofs::Laws::duration_field_on), unfolding(lighting_outputs::specs::Paper::Operations::duration_field))]
+#[tactic(auto, unfolding(lighting_outputs::specs::Paper::Operations::duration_field))]
 fn duration_field(duration: Duration) -> TimeField
     ensures { result ≡ duration_field duration }
 {

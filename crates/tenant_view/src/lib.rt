@@ -15,7 +15,7 @@ pub fn is_tenant(marks: u32, station: u8) -> bool
 }
 
 // A level rounded down to whole percent.
-#[tactic(auto, using(lighting_levels::proofs::Choosing::ifs), unfolding(lighting_outputs::specs::Paper::Tenants::whole_percent))]
+#[tactic(auto, unfolding(lighting_outputs::specs::Paper::Tenants::whole_percent))]
 fn whole_percent(level: u32) -> u32
     ensures { result ≡ whole_percent level }
 {
