@@ -88,7 +88,7 @@ pub fn kind_length(k: u8) -> u32
     row.length
 }
 
-#[tactic(auto, using(lighting_frames::proofs::Laws::calls_by_on, lighting_levels::proofs::Choosing::ifs), unfolding(lighting_frames::specs::Paper::Kinds::calls_by))]
+#[tactic(auto, unfolding(lighting_frames::specs::Paper::Kinds::calls_by))]
 fn calls_by(kind: Kind) -> bool
     ensures { result ≡ calls_by kind }
 {

@@ -15,7 +15,7 @@ use lighting_outputs::{Operation, OutputRequest, Parameters, Request};
 
 // ---- kinds 02 to 05
 
-#[tactic(auto, using(lighting_levels::proofs::Choosing::ifs, lighting_outputs::proofs::Laws::write_level_on), unfolding(lighting_outputs::specs::Paper::Requests::write_level))]
+#[tactic(auto, unfolding(lighting_outputs::specs::Paper::Requests::write_level))]
 fn write_level(i: u8, v: Level) -> Request
     ensures { result ≡ write_level i v }
 {
@@ -54,21 +54,19 @@ fn empty_of(p: u8) -> Request
 
 // ---- the request
 
-#[tactic(auto, unfolding(lighting_outputs::specs::Paper::Properties::change_of))]
 fn change_of(parameters: Parameters, n: u8, x: u32) -> Request
     ensures { result ≡ change_of parameters (property_of n) x }
 {
     property_write::change_of(parameters, property_write::property_of(n), x)
 }
 
-#[tactic(auto, unfolding(lighting_levels::specs::Paper::Level::real))]
 fn real_at(b: &[u8], at: usize) -> f32
     ensures { result ≡ real (big_endian 4 b.now at) }
 {
     number_level::real_from(frame_field::word32_at(b, at))
 }
 
-#[tactic(auto, using(lighting_frames::proofs::Laws::request_of_on), unfolding(lighting_frames::specs::Paper::Frames::request_of))]
+#[tactic(auto, unfolding(lighting_frames::specs::Paper::Frames::request_of))]
 pub fn request_of(parameters: Parameters, action: Action, b: &[u8]) -> Request
     ensures { result ≡ request_of parameters action b.now }
 {

@@ -16,7 +16,6 @@ fn level_answer(v: u32) -> Answer
 }
 
 // A level that a tenant reads in whole percent.
-#[tactic(auto, unfolding(lighting_outputs::specs::Paper::Properties::level_answer))]
 fn shown_answer(tenant: bool, v: u32) -> Answer
     ensures { result ≡ level_answer (shown_level tenant v) }
 {
@@ -62,7 +61,7 @@ fn priority(slot: u8) -> u32
 }
 
 // 'Elapsed_Active_Time reads floor(burning / 1,000), at most 4,294,967,295'.
-#[tactic(auto, using(lighting_levels::proofs::Choosing::ifs), unfolding(lighting_outputs::specs::Paper::Properties::elapsed_active))]
+#[tactic(auto, unfolding(lighting_outputs::specs::Paper::Properties::elapsed_active))]
 fn elapsed_active(burning: u64) -> u32
     ensures { result ≡ elapsed_active burning }
 {
@@ -83,7 +82,7 @@ fn real_answer(x: f32) -> Answer
 
 // A field of the last command: absent where its operation has none, also where a setting was used in its
 // place.
-#[tactic(auto, using(lighting_levels::proofs::Choosing::ifs, lighting_outputs::proofs::Laws::real_field_answer_on), unfolding(lighting_outputs::specs::Paper::Properties::real_field_answer))]
+#[tactic(auto, unfolding(lighting_outputs::specs::Paper::Properties::real_field_answer))]
 fn real_field_answer(x: RealField) -> Answer
     ensures { result ≡ real_field_answer x }
 {
@@ -93,7 +92,7 @@ fn real_field_answer(x: RealField) -> Answer
     }
 }
 
-#[tactic(auto, using(lighting_levels::proofs::Choosing::ifs, lighting_outputs::proofs::Laws::time_field_answer_on), unfolding(lighting_outputs::specs::Paper::Properties::time_field_answer))]
+#[tactic(auto, unfolding(lighting_outputs::specs::Paper::Properties::time_field_answer))]
 fn time_field_answer(x: TimeField) -> Answer
     ensures { result ≡ time_field_answer x }
 {
@@ -103,7 +102,7 @@ fn time_field_answer(x: TimeField) -> Answer
     }
 }
 
-#[tactic(auto, using(lighting_levels::proofs::Choosing::ifs, lighting_outputs::proofs::Laws::last_duration_on), unfolding(lighting_outputs::specs::Paper::Properties::last_duration))]
+#[tactic(auto, unfolding(lighting_outputs::specs::Paper::Properties::last_duration))]
 fn last_duration(d: Duration) -> Answer
     ensures { result ≡ last_duration d }
 {
@@ -115,7 +114,7 @@ fn last_duration(d: Duration) -> Answer
 }
 
 // Kind 05, a read: what a property reads as at the time t, to a tenant or to a service station (§8).
-#[tactic(auto, using(lighting_outputs::proofs::Laws::read_property_on), unfolding(lighting_outputs::specs::Paper::Properties::read_property))]
+#[tactic(auto, unfolding(lighting_outputs::specs::Paper::Properties::read_property))]
 pub fn read_property(tenant: bool, t: u64, o: Output, p: Property) -> Answer
     ensures { result ≡ read_property tenant t o p }
 {

@@ -49,7 +49,6 @@ pub fn property_of(n: u8) -> Property
 }
 
 // And each property's number. A slot's is wider than a byte for what stands for no slot.
-#[tactic(auto, using(lighting_levels::proofs::Choosing::ifs, lighting_outputs::proofs::Laws::number_of_on))]
 pub fn number_of(p: Property) -> u32
     ensures { result ≡ number_of p }
 {

@@ -78,7 +78,7 @@ pub fn relay_with(relay: Relay, n: Property, v: u32) -> Relay
 }
 
 // An end to a movement, and to nothing else.
-#[tactic(auto, using(lighting_levels::proofs::Choosing::ifs, lighting_outputs::proofs::Laws::end_movement_on), unfolding(lighting_outputs::specs::Paper::Properties::end_movement))]
+#[tactic(auto, unfolding(lighting_outputs::specs::Paper::Properties::end_movement))]
 pub fn end_movement(a: Activity) -> Activity
     ensures { result ≡ end_movement a }
 {
@@ -133,7 +133,7 @@ pub fn change(o: Output, n: Property, v: u32) -> Output
 }
 
 // 'Min over Max', which is 13.
-#[tactic(auto, using(lighting_levels::proofs::Choosing::ifs), unfolding(lighting_outputs::specs::Paper::Properties::min_over_max))]
+#[tactic(auto, unfolding(lighting_outputs::specs::Paper::Properties::min_over_max))]
 pub fn min_over_max(c: Settings) -> bool
     ensures { result ≡ min_over_max c }
 {

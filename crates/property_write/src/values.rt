@@ -7,7 +7,7 @@ ghost use Rattle.lighting_outputs.specs.Paper.Properties.{change_to, change_by};
 use lighting_levels::Level;
 use lighting_outputs::{OutputRequest, Property, Range, Request};
 
-#[tactic(auto, using(lighting_levels::proofs::Choosing::ifs, lighting_outputs::proofs::Laws::change_to_on), unfolding(lighting_outputs::specs::Paper::Properties::change_to))]
+#[tactic(auto, unfolding(lighting_outputs::specs::Paper::Properties::change_to))]
 fn change_to(n: Property, v: Level) -> Request
     ensures { result ≡ change_to n v }
 {

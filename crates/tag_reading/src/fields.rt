@@ -6,7 +6,6 @@ ghost use Rattle.lighting_frames.specs.Paper.Tags.{tag_octets, named, field_size
 use lighting_frames::{TagField, TagFields};
 
 // The number in the `count` octets behind a tag: of the four bytes there, with zeros past the end, the first.
-#[tactic(auto, using(crate::proofs::Looking::front), unfolding(lighting_levels::specs::Paper::Field::byte_at))]
 fn number_behind(left: &[u8], count: u8) -> u32
     requires { (1 ≤ count) × (count ≤ 4) }
     ensures { result ≡ big_endian count left.now 1 }

@@ -32,7 +32,7 @@ fn sizes_of(f: TagFields) -> usize
 }
 
 // Each byte beyond the L.
-#[tactic(auto, using(crate::proofs::Judging::beyond, crate::proofs::Judging::is_zero, crate::proofs::Judging::zero_from, lighting_levels::proofs::Scan::scan_done, lighting_levels::proofs::Scan::scan_off, lighting_levels::proofs::Scan::scan_on), unfolding(crate::proofs::Judging::zero_from))]
+#[tactic(auto, using(crate::proofs::Judging::beyond, lighting_levels::proofs::Scan::scan_done, lighting_levels::proofs::Scan::scan_off, lighting_levels::proofs::Scan::scan_on), unfolding(crate::proofs::Judging::zero_from))]
 fn zero_beyond(body: &[u8]) -> bool
     ensures { result ≡ zero_beyond body.now }
 {
@@ -47,7 +47,7 @@ fn zero_beyond(body: &[u8]) -> bool
     true
 }
 
-#[tactic(auto, using(lighting_frames::proofs::Laws::holds_at_most_on, lighting_levels::proofs::Choosing::ifs), unfolding(lighting_frames::specs::Paper::Tags::holds_at_most))]
+#[tactic(auto, unfolding(lighting_frames::specs::Paper::Tags::holds_at_most))]
 fn holds_at_most(most: u32, field: TagField) -> bool
     ensures { result ≡ holds_at_most most field }
 {
@@ -83,7 +83,6 @@ fn well_tagged(body: &[u8], f: TagFields) -> bool
 
 // ---- the operation and the duration
 
-#[tactic(auto, unfolding(lighting_levels::specs::Paper::Level::real))]
 fn real_in(field: TagField) -> f32
     ensures { result ≡ real (held_by field) }
 {
@@ -91,7 +90,7 @@ fn real_in(field: TagField) -> f32
 }
 
 // By the number of tag 0. None that is taken is above 10.
-#[tactic(auto, using(crate::proofs::Judging::numbered, crate::proofs::Judging::unnumbered, lighting_levels::proofs::Keys::past_keys))]
+#[tactic(auto, using(crate::proofs::Judging::numbered, crate::proofs::Judging::unnumbered))]
 fn operation_of(f: TagFields) -> Operation
     ensures { result ≡ operation_of f }
 {
@@ -116,7 +115,7 @@ fn operation_of(f: TagFields) -> Operation
     }
 }
 
-#[tactic(auto, using(lighting_frames::proofs::Laws::time_of_on, lighting_levels::proofs::Choosing::ifs), unfolding(lighting_frames::specs::Paper::Tags::time_of))]
+#[tactic(auto, unfolding(lighting_frames::specs::Paper::Tags::time_of))]
 fn time_of(field: TagField) -> TimeField
     ensures { result ≡ time_of field }
 {
@@ -128,7 +127,7 @@ fn time_of(field: TagField) -> TimeField
 
 // ---- refusal 15
 
-#[tactic(auto, using(lighting_levels::proofs::Choosing::ifs), unfolding(lighting_frames::specs::Paper::Tags::both_or_neither))]
+#[tactic(auto, unfolding(lighting_frames::specs::Paper::Tags::both_or_neither))]
 fn both_or_neither(own: TagField, field: TagField) -> bool
     ensures { result ≡ both_or_neither own field }
 {
@@ -144,7 +143,7 @@ fn both_or_neither(own: TagField, field: TagField) -> bool
     }
 }
 
-#[tactic(auto, using(lighting_frames::proofs::Laws::fewest_on), unfolding(lighting_frames::specs::Paper::Tags::fewest))]
+#[tactic(auto, unfolding(lighting_frames::specs::Paper::Tags::fewest))]
 fn is_fewest(field: TagField) -> bool
     ensures { result ≡ fewest field }
 {
