@@ -179,13 +179,13 @@ took_on {p = p} {w = w} {x = x} t k =
 listed : {w : Reader} {l : List Bytes} {t : Bytes} (p : Panel) → Lines l t → Start true w → Holds p → in_use (closed (through p w t)) ≡ after (in_use p) l
 unfolding after
 listed {w} p none s h = ap in_use (unfold closed through if◌then◌else◌ in (taken_blank p w s.blank))
-listed p (string {b} {x} {t} {l} g m) s h =
+listed {w = w} p (string {b} {x} {t} {l} g m) s h =
     let k = gives_took p s g in
     let c = sent_becomes b p h in
-    rw (took_on t k) (listed (sent_on b p).panel m k.next c.holds ∙ ap (λ (u : Panel). after u l) c.used)
-listed p (remark {x} {t} g m) s h =
+    rw (took_on t k) (listed {w = (taken p (fed w x)).reader} (sent_on b p).panel m k.next c.holds ∙ ap (λ (u : Panel). after u l) c.used)
+listed {w = w} p (remark {x} {t} g m) s h =
     let k = silent_took p s g in
-    rw (took_on t k) (listed p m k.next h)
+    rw (took_on t k) (listed {w = (taken p (fed w x)).reader} p m k.next h)
 
 -- THE WHOLE TEXT names a set that may be started, and its strings are strings of bytes
 lines_strings : {l : List Bytes} {t : Bytes} → Lines l t → Strings l
@@ -202,7 +202,7 @@ listing_in_range (named g m) = record { starts = heading_startable g; strings = 
 listing_in_range (preface g m) = listing_in_range m
 listing_in_range (unended m) = listing_in_range m
 
-listed_whole : {s : Named} {w : Reader} {l : List Bytes} {t : Bytes} (p : Panel) → Listing s l t → Start false w →
+listed_whole : {s : Named} {l : List Bytes} {w : Reader} {t : Bytes} (p : Panel) → Listing s l t → Start false w →
     s.parameters.outputs ≤ length p.outputs → s.parameters.stations ≤ length p.stations →
     in_use (closed (through p w t)) ≡ after
     (start_step s.parameters s.tenants (lent s.parameters.outputs s.parameters.stations p)).panel l
@@ -210,9 +210,9 @@ listed_whole {s} {l = l} p (named {x} {t} g m) r h i =
     let k = heading_took p r g in
     let c = begun_becomes s p (heading_startable g) h i in
     rw (took_on t k) (listed (started_with s p) m k.next c.holds ∙ ap (λ (u : Panel). after u l) c.used)
-listed_whole p (preface {x} {t} g m) r h i =
+listed_whole {w = w} p (preface {x} {t} g m) r h i =
     let k = silent_took p r g in
-    rw (took_on t k) (listed_whole p m k.next h i)
+    rw (took_on t k) (listed_whole {w = (taken p (fed w x)).reader} p m k.next h i)
 listed_whole {w = w} p (unended {t} m) r h i = rw (← closed_newline p w t) (listed_whole p m r h i)
 
 pub found_by_text : (s : Named) (p : Panel) (l : List Bytes) (t : Bytes) → Listing s l t →
