@@ -7,7 +7,7 @@ use Prim.Native.Nat.{ℕ, ◌≤◌}
 use native.Mathlib.Omega.{arith}
 use lib.ListN.{length, drop, length-map, length-set, length-append, length-replicate}
 use lib.Seq.{take_at, length-take-le}
-use Rattle.lighting_levels.specs.Paper.Choice.{if◌then◌else◌}
+use Rattle.lighting_levels.specs.Paper.Choice.{when◌then◌else◌}
 use Rattle.lighting_outputs.specs.declared.Parameters.{Parameters}
 use Rattle.lighting_outputs.specs.Paper.Startable.{startable}
 use Rattle.lighting_frames.specs.Paper.Frames.{Bytes, Strings}
@@ -63,7 +63,7 @@ execute_alike b e (Arrives call) =
     }
 
 frame_step_alike : (e : Panel) (b : Bytes) → Alike e (frame_step e b).panel
-unfolding frame_step if◌then◌else◌
+unfolding frame_step when◌then◌else◌
 frame_step_alike e b =
     by_bool (panel_sound e)
     (λ h. rw h (execute_alike b e (decide e b)))
@@ -128,7 +128,7 @@ module _ (s : Named) (p : Panel) (z : startable s.parameters ≡ true)
   begins = lent s.parameters.outputs s.parameters.stations p
 
   starts : (start_step s.parameters s.tenants begins).answer ≡ Done
-  unfolding start_step counts_sound if◌then◌else◌
+  unfolding start_step counts_sound when◌then◌else◌
   starts =
       rw (
         z,
@@ -178,7 +178,7 @@ took_on {p = p} {w = w} {x = x} t k =
 -- THE STRINGS' LINES
 listed : {w : Reader} {l : List Bytes} {t : Bytes} (p : Panel) → Lines l t → Start true w → Holds p → in_use (closed (through p w t)) ≡ after (in_use p) l
 unfolding after
-listed {w} p none s h = ap in_use (unfold closed through if◌then◌else◌ in (taken_blank p w s.blank))
+listed {w} p none s h = ap in_use (unfold closed through when◌then◌else◌ in (taken_blank p w s.blank))
 listed {w = w} p (string {b} {x} {t} {l} g m) s h =
     let k = gives_took p s g in
     let c = sent_becomes b p h in
