@@ -21,6 +21,9 @@ def look(path, counts):
 for page in sorted(set(pages)):
     look(page, lambda line: not line.startswith('|'))
 for path in sorted([*glob.glob('crates/**/*.rt', recursive=True), *glob.glob('crates/**/*.antt', recursive=True), *glob.glob('tools/*.py')]):
+    # what rt keeps of the sources
+    if '/out/' in path:
+        continue
     mark = marks[path[path.rindex('.'):]]
     with open(path) as file:
         # what a tool writes says so in its first line

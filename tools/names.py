@@ -11,8 +11,8 @@ PAGES = ['README.md', 'docs/PROMISES.md', 'docs/CHANGING.md', 'docs/TRUST.md', '
          'docs/TOUR.md', 'docs/SUPPLY.md', 'docs/FRAMES.md']
 QUOTES = 'docs/TOUR.md'
 # words that are no names of the repository: of the language, the toolchain, the text of lists, the papers
-OTHERS = set('''requires ensures unfolding abbrev unfoldable search needs simp cc rw omega let if match while loop for use mod pub fn struct enum const f32 u8 u16 u32 u64 bool usize
-libc read write os c rattle_arg rattle_set_errno pv inprocess stdin stdout also toBits refl tagged Relay frame_tags old: new: DEFINITION-on rt cargo valgrind python3 target main returns old new to start frame'''.split())
+OTHERS = set('''requires ensures unfolding abbrev unfoldable search rules simp cc rw omega let if match while loop for use mod pub fn struct enum const f32 u8 u16 u32 u64 bool usize
+std result pv inprocess stdin stdout also to_bits refl tagged Relay frame_tags old: new: DEFINITION_on rt cargo valgrind python3 target main returns old new to start frame'''.split())
 
 
 def read(path):
@@ -20,17 +20,22 @@ def read(path):
         return f.read()
 
 
+# the sources, and not what rt keeps of them beside
+def sources(kind):
+    return [path for path in glob.glob('crates/**/*.' + kind, recursive=True) if '/out/' not in path]
+
+
 known = set(os.listdir('crates'))
-for path in glob.glob('crates/**/*.antt', recursive=True):
+for path in sources('antt'):
     text = read(path)
     known.update(re.findall(r'^\s*(?:unfoldable |abbrev |infix\w* \d+ )*(?:pub )?(?:record |data )?([\w′″₀-₉-]+)(?= :| \()', text, re.M))
     known.update(re.findall(r'^\s*(?:pub )?([\w-]+) :', text, re.M))
-for path in glob.glob('crates/**/*.rt', recursive=True):
+for path in sources('rt'):
     text = read(path)
     known.update(re.findall(r'\b(?:fn|struct|enum|const|mod) (\w+)', text))
     known.update(re.findall(r'^\s*(?:pub )?(\w+):', text, re.M))
     known.update(re.findall(r'^\s+(\w+)(?:\(|,| \{)', text, re.M))
-files = {os.path.relpath(os.path.join(root, name)) for top in ('crates', 'docs', 'tests', 'tools', 'examples', '.ci') for root, _, names in os.walk(top) if 'target' not in root for name in names}
+files = {os.path.relpath(os.path.join(root, name)) for top in ('crates', 'docs', 'tests', 'tools', 'examples', '.ci') for root, _, names in os.walk(top) if 'target' not in root and '/out/' not in root + '/' for name in names}
 edits = {(p.split('/')[1], os.path.basename(p)[:-5]) for p in files if p.endswith('.edit')}
 
 
@@ -38,12 +43,15 @@ def there(name):
     if re.search(r'[ *<>|=(){}"$&\[]|\.\.', name) or re.match(r'^[-\d"\'.:#]', name) or not re.search(r'[A-Za-z]{2}', name):
         return True
     # what a build makes
-    if re.match(r'^(tests/)?target/', name):
+    if re.match(r'^(tests/)?target/|^crates/\w+/out/', name):
         return True
     if name in known or name in OTHERS or name in files or os.path.exists(name) or os.path.exists(name.rstrip('/')):
         return True
     if '::' in name:
         return all(part in known or part in OTHERS for part in name.split('::'))
+    # a field of a variable
+    if re.match(r'^[a-z]\.\w+$', name):
+        return name[2:] in known or name[2:] in OTHERS
     if '/' in name:
         first, last = name.split('/', 1)
         return (first, last) in edits or any(p.endswith('/' + name) for p in files) or any(('/' + name.strip('/') + '/') in '/' + p for p in files)

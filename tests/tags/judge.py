@@ -200,7 +200,7 @@ def main():
     if missing:
         cannot_run('%s not there; on Debian: apt-get update && apt-get install -y tshark' % ' and '.join(missing))
     if not os.access(wanted.program, os.X_OK):
-        cannot_run('no program %s; `rt check replay` builds target/bin/replay' % wanted.program)
+        cannot_run('no program %s; `tools/programs.sh replay` builds target/bin/replay' % wanted.program)
 
     sent = commands()
     forms = tagged_forms(wanted.program, sent)

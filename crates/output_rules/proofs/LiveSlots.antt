@@ -3,12 +3,11 @@ use mathlib.Core.Path.{◌≡◌, refl, sym, ap, ◌∙◌}
 use mathlib.Core.Logic.{◌≢◌}
 use mathlib.Core.Bool.{Bool, true, false, false≢true}
 use mathlib.Core.List.{List}
-use Prim.Native.Nat.{ℕ, zero, suc, ◌+◌, ◌-◌, ◌*◌, ◌/◌, ◌%◌, ◌^◌, ◌≤◌, ◌<◌, min}
+use Prim.Native.Nat.{ℕ, zero, suc, ◌+◌, ◌-◌, ◌*◌, ◌/◌, ◌%◌, ◌^◌, ◌<◌}
 use native.Mathlib.Nat.{div-one, zero-div}
 use native.Mathlib.Omega.{arith}
 use lib.Bits.{bit_and, and_step, and_self}
 use lib.Count.{count_trailing_zeros, trailing_of_zero}
-use lib.Dec.{eqb}
 use lib.ListN.{get_or}
 use Rattle.lighting_levels.specs.Paper.Choice.{if◌then◌else◌, ◌also◌, all_from}
 use Rattle.lighting_outputs.specs.Paper.Slots.{is_live}
@@ -17,7 +16,7 @@ use Rattle.lighting_outputs.specs.Paper.Rows.{is_level}
 use Rattle.lighting_outputs.specs.Paper.Rules.{slot_sound, slots_sound}
 use Rattle.lighting_outputs.proofs.Priorities.Mask.{halved}
 use Rattle.lighting_levels.proofs.Scan.{all_each, each_all}
-use Rattle.lighting_levels.proofs.Split.{by_bool, by_eq, eqb_hit}
+use Rattle.lighting_levels.proofs.Split.{by_bool, by_eq}
 
 -- THE LOWEST BIT SET of m, by its trailing zeros: there is one
 pub low_within : (n m : ℕ) → 0 < m → m < 2 ^ n → count_trailing_zeros n m < n

@@ -37,7 +37,7 @@ fn put_octets(page: &mut [u8], at: usize, count: u8, v: u32) -> usize
 }
 
 // No field is of more than four octets.
-#[tactic(auto, using(crate::proofs::Bytes::count_most, crate::proofs::Bytes::wrote_field, crate::proofs::Bytes::wrote_missing))]
+#[tactic(auto, using(crate::proofs::Bytes::count_most))]
 fn put_field(page: &mut [u8], at: usize, number: u8, field: TagField) -> usize
     requires { (number ≤ 5) × (field_size field ≤ 5) }
     ensures { Wrote page.old at (field_bytes number field) page.new result }
@@ -54,7 +54,7 @@ fn put_field(page: &mut [u8], at: usize, number: u8, field: TagField) -> usize
 // ---- a command
 
 // The fields of a command, in the order of their tags.
-#[tactic(auto, using(crate::proofs::Room::duration_most, crate::proofs::Room::fade_most, crate::proofs::Room::level_most, crate::proofs::Room::operation_most, crate::proofs::Room::rate_most, crate::proofs::Room::step_most, text_printing::proofs::Pages::wrote_as, text_printing::proofs::Pages::wrote_none, text_printing::proofs::Pages::wrote_then), unfolding(lighting_frames::specs::Paper::Tags::bytes_from, lighting_frames::specs::Paper::Tags::tag_bytes))]
+#[tactic(auto, using(crate::proofs::Room::duration_most, crate::proofs::Room::fade_most, crate::proofs::Room::level_most, crate::proofs::Room::operation_most, crate::proofs::Room::rate_most, crate::proofs::Room::step_most))]
 fn put_command(page: &mut [u8], k: Command) -> usize
     ensures { Wrote page.old 0 (tag_bytes (command_tags k)) page.new result }
 {
@@ -75,7 +75,6 @@ fn put_command(page: &mut [u8], k: Command) -> usize
 
 // The longest commands, with two REALs or a REAL and a fade time, and a duration, are of 17 bytes: there is
 // always room.
-#[tactic(auto, using(crate::proofs::Room::body_written))]
 pub fn tagged_body(k: Command) -> TaggedBody
     ensures { result ≡ tagged_body k }
 {

@@ -6,7 +6,7 @@ use Prim.Native.Nat.{◌<◌}
 use Rattle.lighting_levels.specs.Paper.Choice.{if◌then◌else◌}
 use Rattle.lighting_outputs.specs.Paper.Startable.{startable}
 use Rattle.lighting_frames.specs.Paper.Frames.{Bytes}
-use Rattle.text_characters.specs.Characters.{is_blank, hex_value}
+use Rattle.text_characters.specs.Characters.{is_blank}
 use Rattle.text_heading.specs.Heading.{fresh_heading, read, run, judged}
 use Rattle.text_heading.specs.Spelling.{Blanks, Names}
 use Rattle.text_heading.specs.declared.Named.{Named}

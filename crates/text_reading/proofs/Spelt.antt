@@ -11,8 +11,8 @@ use lib.ListN.{length, take, length-set, length-take, length-append}
 use lib.Seq.{take_all, take-append-le, take-suc-set}
 use Rattle.lighting_levels.specs.Paper.Choice.{if◌then◌else◌}
 use Rattle.lighting_frames.specs.Paper.Frames.{Bytes, Octets}
-use Rattle.lighting_levels.proofs.Split.{by_lt, eqb_miss, leb_yes, leb_no}
-use Rattle.text_characters.specs.Characters.{is_blank, hex_value, byte_pair}
+use Rattle.lighting_levels.proofs.Split.{by_lt, eqb_miss, leb_yes}
+use Rattle.text_characters.specs.Characters.{is_blank, byte_pair}
 use Rattle.text_heading.specs.Heading.{run}
 use Rattle.text_heading.specs.Spelling.{Unbroken, nothing, char, Digit}
 use Rattle.text_heading.proofs.Leads.{blank_no_newline, worth, small, past}

@@ -76,7 +76,7 @@ fn dashed(c: u8) -> Held
     }
 }
 
-#[tactic(auto, using(crate::proofs::Laws::step_on, lighting_levels::proofs::Choosing::ifs), unfolding(crate::specs::Reading::step))]
+#[tactic(auto, unfolding(crate::specs::Reading::step))]
 pub fn step(named: bool, h: Held, v: u8, c: u8) -> Held
     ensures { result ≡ step named h v c }
 {
@@ -93,7 +93,7 @@ pub fn step(named: bool, h: Held, v: u8, c: u8) -> Held
 
 // Whether the first digit of a byte may come next: the list has named its outputs, and the line holds nothing
 // yet, or whole bytes.
-#[tactic(auto, using(crate::proofs::Laws::may_begin_on, lighting_levels::proofs::Choosing::ifs), unfolding(crate::specs::Reading::may_begin))]
+#[tactic(auto, unfolding(crate::specs::Reading::may_begin))]
 pub fn may_begin(named: bool, h: Held) -> bool
     ensures { result ≡ may_begin named h }
 {

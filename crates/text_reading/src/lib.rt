@@ -10,7 +10,7 @@ ghost use Rattle.text_reading.specs.Reading.{pushed, joined, stored_by, with_hel
 use text_heading::{Ending, Heading, HeadingFault, Named};
 
 // What makes a line a bad one.
-#[derive(Drop)]
+#[derive(Clone, Copy)]
 pub enum Fault {
     // in the line that names the outputs
     InHeading(HeadingFault),
@@ -21,7 +21,7 @@ pub enum Fault {
 }
 
 // What a line holds so far.
-#[derive(Drop)]
+#[derive(Clone, Copy)]
 pub enum Held {
     // nothing, or blanks
     Blank,
@@ -38,7 +38,7 @@ pub enum Held {
 }
 
 // What a line is at its end.
-#[derive(Drop)]
+#[derive(Clone, Copy)]
 pub enum Line {
     Nothing,
     Started(Named),
@@ -52,7 +52,7 @@ pub const BYTES_KEPT: usize = lighting_frames::LONGEST_FRAME + 1;
 
 // The reader between two bytes: whether the list has named its outputs, the line's number, what it holds so
 // far, and of its bytes the first ones.
-#[derive(Drop)]
+#[derive(Clone, Copy)]
 pub struct Reader {
     pub named: bool,
     pub line: u64,
@@ -91,7 +91,7 @@ fn join(w: Reader, d: u8, v: u8) -> Reader
     push(w, text_characters::byte_pair(d, v))
 }
 
-#[tactic(auto, using(crate::proofs::Laws::stored_by_on, lighting_levels::proofs::Choosing::ifs), unfolding(crate::specs::Reading::stored_by))]
+#[tactic(auto, using(lighting_levels::proofs::Choosing::ifs), unfolding(crate::specs::Reading::stored_by))]
 fn store(w: Reader, h: Held, v: u8) -> Reader
     ensures { result ≡ stored_by w h v }
 {
@@ -106,7 +106,7 @@ fn store(w: Reader, h: Held, v: u8) -> Reader
     }
 }
 
-#[tactic(auto, using(lighting_levels::proofs::Choosing::ifs), unfolding(crate::specs::Reading::with_held))]
+#[tactic(auto, unfolding(crate::specs::Reading::with_held))]
 fn with_held(w: Reader, h: Held) -> Reader
     ensures { result ≡ with_held w h }
 {
@@ -132,7 +132,7 @@ fn feed(w: Reader, c: u8) -> Reader
 
 // The reader after the rest of a line, as far as the bytes go, and where that ends: at a newline, or at the
 // end of the bytes.
-#[derive(Drop)]
+#[derive(Clone, Copy)]
 pub struct Fed {
     pub reader: Reader,
     pub next: usize,
@@ -141,7 +141,6 @@ pub struct Fed {
 // As many whole bytes as stand from `from` on, with the blanks between them, where a byte may begin: each
 // goes straight to its place, and the reader is made once, after the last. What comes to the same reader at
 // the line's end is left.
-#[tactic(auto, using(crate::proofs::Runs::begins_again, crate::proofs::Runs::blank_turn, crate::proofs::Runs::byte_turn, crate::proofs::Runs::reader_with))]
 fn feed_bytes(w: Reader, s: &[u8], from: usize) -> Fed
     requires { from ≤ length s.now }
     ensures s_value { fed_line result.reader (drop result.next s.now) ≡ fed_line w (drop from s.now) }
@@ -193,7 +192,6 @@ fn feed_bytes(w: Reader, s: &[u8], from: usize) -> Fed
     }
 }
 
-#[tactic(auto, using(crate::proofs::Lines::line_newline, crate::proofs::Lines::line_over, crate::proofs::Lines::line_turn))]
 pub fn feed_line(w: Reader, s: &[u8], from: usize) -> Fed
     requires { from ≤ length s.now }
     ensures reader_value { result.reader ≡ fed_line w (drop from s.now) }
@@ -223,7 +221,7 @@ pub fn feed_line(w: Reader, s: &[u8], from: usize) -> Fed
 
 // ---- a line's end
 
-#[tactic(auto, using(crate::proofs::Laws::heading_line_on, lighting_levels::proofs::Choosing::ifs), unfolding(crate::specs::Reading::heading_line))]
+#[tactic(auto, unfolding(crate::specs::Reading::heading_line))]
 fn heading_line(e: Ending) -> Line
     ensures { result ≡ heading_line e }
 {
@@ -233,7 +231,7 @@ fn heading_line(e: Ending) -> Line
     }
 }
 
-#[tactic(auto, using(crate::proofs::Laws::line_of_on, lighting_levels::proofs::Choosing::ifs), unfolding(crate::specs::Reading::line_of))]
+#[tactic(auto, unfolding(crate::specs::Reading::line_of))]
 pub fn line_of(h: Held) -> Line
     ensures { result ≡ line_of h }
 {
@@ -270,7 +268,7 @@ pub fn next_line(w: Reader) -> Reader
 }
 
 // The reader of a list that has named its outputs.
-#[tactic(auto, using(lighting_levels::proofs::Choosing::ifs), unfolding(crate::specs::Reading::with_named))]
+#[tactic(auto, unfolding(crate::specs::Reading::with_named))]
 pub fn with_named(w: Reader) -> Reader
     ensures { result ≡ with_named w }
 {
@@ -286,7 +284,7 @@ pub fn with_named(w: Reader) -> Reader
 }
 
 // Before the first byte of a list.
-#[tactic(auto, using(lighting_levels::proofs::Choosing::ifs), unfolding(crate::specs::Reading::fresh_reader))]
+#[tactic(auto, unfolding(crate::specs::Reading::fresh_reader))]
 pub fn fresh_reader() -> Reader
     ensures { result ≡ fresh_reader }
 {

@@ -1,0 +1,34 @@
+use Rattle.std.proofs.Common.{arith, sym, ◌∙◌}
+use Rattle.std.proofs.Math.ListN.{length-set}
+use Rattle.text_reading.proofs.Runs.{reader_with, begins_again, byte_turn, blank_turn}
+use Rattle.text_reading.proofs.feed_bytes.Goals as goal
+
+pub loop-i-preserved-then-d-lt16 : goal.loop-i-preserved-then-d-lt16
+loop-i-preserved-then-d-lt16 c =
+    let l = c.loop-i in
+    let a = c.args in
+    let w = reader_with a.w.named a.w.line l.held l.bytes l.count in
+    let d = c.hex_value-d in
+    let v = c.hex_value-v in
+    let z = c.byte_pair in
+    record {
+      begins = begins_again a.w.named l.held l.invariant.begins;
+      room = length-set l.bytes l.count z.result ∙ l.invariant.room;
+      above = omega arith;
+      within = omega arith;
+      comes = byte_turn w l.invariant.begins a.s.now l.i _ _ d.result v.result z.result c.if-s-i.false c.if-count-ge-BYTES_KEPT.false d.ensures c.if-d-lt16.true v.ensures c.if-v-ge16.false z.ensures l.invariant.comes;
+    }
+
+pub loop-i-preserved : goal.loop-i-preserved
+loop-i-preserved c =
+    let l = c.loop-i in
+    let a = c.args in
+    let w = reader_with a.w.named a.w.line l.held l.bytes l.count in
+    let blank = sym c.is_blank.ensures ∙ c.if-not-is_blank.false in
+    record {
+      begins = l.invariant.begins;
+      room = l.invariant.room;
+      above = omega arith;
+      within = omega arith;
+      comes = blank_turn w l.invariant.begins a.s.now l.i _ _ c.loop-i-test.true blank l.invariant.comes;
+    }
