@@ -1,9 +1,10 @@
 -- The table of properties at a number that a match has found.
 use mathlib.Core.Path.{◌≡◌, refl, ◌∙◌}
-use mathlib.Core.Bool.{Bool, true, false, false≢true}
+use mathlib.Core.Bool.{Bool, true, cond, false≢true}
 use mathlib.Core.List.{List, [], ◌∷◌}
 use Prim.Native.Nat.{ℕ, ◌≤◌, ◌<◌, ◌-◌}
 use native.Mathlib.Omega.{arith}
+use lib.Dec.{eqb}
 use Rattle.lighting_levels.specs.Paper.Choice.{if◌then◌else◌, ◌also◌}
 use Rattle.lighting_outputs.specs.Paper.Properties.{properties, number_of, numbered, property_of}
 use Rattle.lighting_outputs.specs.declared.Property.{Property}
@@ -11,11 +12,22 @@ use Rattle.lighting_outputs.specs.declared.Property.TheVariants.{SlotValue, Unkn
 use Rattle.lighting_levels.proofs.Choosing.{if_le, if_nle, if_ne}
 use Rattle.lighting_levels.proofs.Scan.{is_in}
 use Rattle.lighting_levels.proofs.Keys.{Missed}
-use Rattle.lighting_levels.proofs.Split.{also_both, by_eq}
+use Rattle.lighting_levels.proofs.Split.{also_both, by_bool, by_eq}
+
+-- the table at a number, by its own tests
+abbrev pub row_at : List Property → ℕ → Property
+row_at [] n = Unknown
+row_at (first ∷ rest) n = cond (eqb n (number_of first)) first (row_at rest n)
+
+row_numbered : (l : List Property) (n : ℕ) → row_at l n ≡ numbered l n
+unfolding numbered if◌then◌else◌
+row_numbered [] n = refl
+row_numbered (first ∷ rest) n = by_bool (eqb n (number_of first)) (λ e. rw e) (λ e. rw e (row_numbered rest n))
 
 -- a key k
-pub property_of_on : (n k : ℕ) (r : Property) → n ≡ k → r ≡ property_of k → r ≡ property_of n
-property_of_on n k r e p = rw e p
+pub property_of_on : (n k : ℕ) (r : Property) → n ≡ k → k < 33 → r ≡ row_at properties k → r ≡ property_of n
+unfolding property_of
+property_of_on n k r e h p = rw e (if_nle _ _ _ _ _ h (p ∙ row_numbered properties k))
 
 -- '21 to 30 slots 1 to 16'
 pub property_of_slot : (n : ℕ) → 33 ≤ n → n ≤ 48 → SlotValue (n - 33) ≡ property_of n

@@ -9,7 +9,6 @@ use text_heading::{Bounds, HeadingFault, Word};
 use text_printing::{put, put_all, put_decimal};
 use text_reading::Fault;
 
-#[tactic(auto, using(text_printing::proofs::Pages::wrote_then), unfolding(crate::specs::Faults::placed))]
 fn put_placed(page: &mut [u8], at: usize, k: u64) -> usize
     ensures { Wrote page.old at (placed k) page.new result }
 {
@@ -18,7 +17,7 @@ fn put_placed(page: &mut [u8], at: usize, k: u64) -> usize
     put_all(page, number, b": ")
 }
 
-#[tactic(auto, using(crate::proofs::Laws::letters_on), unfolding(text_heading::specs::Words::letters))]
+#[tactic(auto, unfolding(text_heading::specs::Words::letters))]
 fn put_word(page: &mut [u8], at: usize, w: Word) -> usize
     ensures { Wrote page.old at (letters w) page.new result }
 {
@@ -31,7 +30,6 @@ fn put_word(page: &mut [u8], at: usize, w: Word) -> usize
     }
 }
 
-#[tactic(auto, using(text_printing::proofs::Pages::wrote_then), unfolding(crate::specs::Faults::bounds_words))]
 fn put_bounds(page: &mut [u8], at: usize, b: Bounds) -> usize
     ensures { Wrote page.old at (bounds_words b) page.new result }
 {
@@ -41,7 +39,6 @@ fn put_bounds(page: &mut [u8], at: usize, b: Bounds) -> usize
 }
 
 // A number out of range: its word, its range, and the refusal of such a start.
-#[tactic(auto, using(text_printing::proofs::Pages::wrote_then), unfolding(crate::specs::Faults::outside_words))]
 fn put_outside(page: &mut [u8], at: usize, w: Word) -> usize
     ensures { Wrote page.old at (outside_words w) page.new result }
 {
@@ -52,7 +49,7 @@ fn put_outside(page: &mut [u8], at: usize, w: Word) -> usize
     put_all(page, range, b": Refused 17")
 }
 
-#[tactic(auto, using(crate::proofs::Laws::heading_words_on), unfolding(crate::specs::Faults::heading_words))]
+#[tactic(auto, unfolding(crate::specs::Faults::heading_words))]
 fn put_heading_words(page: &mut [u8], at: usize, f: HeadingFault) -> usize
     ensures { Wrote page.old at (heading_words f) page.new result }
 {
@@ -69,7 +66,7 @@ fn put_heading_words(page: &mut [u8], at: usize, f: HeadingFault) -> usize
     }
 }
 
-#[tactic(auto, using(crate::proofs::Laws::fault_words_on), unfolding(crate::specs::Faults::fault_words))]
+#[tactic(auto, unfolding(crate::specs::Faults::fault_words))]
 fn put_fault_words(page: &mut [u8], at: usize, f: Fault) -> usize
     ensures { Wrote page.old at (fault_words f) page.new result }
 {
@@ -80,7 +77,6 @@ fn put_fault_words(page: &mut [u8], at: usize, f: Fault) -> usize
     }
 }
 
-#[tactic(auto, using(text_printing::proofs::Pages::wrote_then), unfolding(crate::specs::Faults::fault_line))]
 pub fn put_fault(page: &mut [u8], at: usize, k: u64, f: Fault) -> usize
     ensures { Wrote page.old at (fault_line k f) page.new result }
 {
@@ -89,7 +85,6 @@ pub fn put_fault(page: &mut [u8], at: usize, k: u64, f: Fault) -> usize
     put(page, words, b'\n')
 }
 
-#[tactic(auto, using(text_printing::proofs::Pages::wrote_then), unfolding(crate::specs::Faults::ended_line))]
 pub fn put_ended(page: &mut [u8], at: usize, k: u64) -> usize
     ensures { Wrote page.old at (ended_line k) page.new result }
 {
