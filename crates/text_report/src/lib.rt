@@ -17,7 +17,6 @@ fn put_digit(page: &mut [u8], at: usize, n: u64) -> usize
     put(page, at, text_printing::last_digit(n))
 }
 
-#[tactic(auto, using(text_printing::proofs::Pages::wrote_then), unfolding(crate::specs::Report::two_digits))]
 fn put_two(page: &mut [u8], at: usize, n: u64) -> usize
     ensures { Wrote page.old at (two_digits n) page.new result }
 {
@@ -25,7 +24,6 @@ fn put_two(page: &mut [u8], at: usize, n: u64) -> usize
     put_digit(page, mark, n)
 }
 
-#[tactic(auto, using(text_printing::proofs::Pages::wrote_then), unfolding(crate::specs::Report::three_digits))]
 fn put_three(page: &mut [u8], at: usize, n: u64) -> usize
     ensures { Wrote page.old at (three_digits n) page.new result }
 {
@@ -33,7 +31,6 @@ fn put_three(page: &mut [u8], at: usize, n: u64) -> usize
     put_two(page, mark, n)
 }
 
-#[tactic(auto, using(text_printing::proofs::Choices::choices), unfolding(crate::specs::Report::lead))]
 fn put_lead(page: &mut [u8], at: usize, n: u64) -> usize
     ensures { Wrote page.old at (lead n) page.new result }
 {
@@ -46,7 +43,6 @@ fn put_lead(page: &mut [u8], at: usize, n: u64) -> usize
     }
 }
 
-#[tactic(auto, using(text_printing::proofs::Pages::wrote_then), unfolding(crate::specs::Report::aligned))]
 fn put_aligned(page: &mut [u8], at: usize, n: u64) -> usize
     ensures { Wrote page.old at (aligned n) page.new result }
 {
@@ -61,7 +57,6 @@ fn hundredths(u: u64) -> u64
     u % 65536 * 100 / 65536
 }
 
-#[tactic(auto, using(text_printing::proofs::Pages::wrote_then), unfolding(crate::specs::Report::percent))]
 fn put_percent(page: &mut [u8], at: usize, u: u32) -> usize
     ensures { Wrote page.old at (percent u) page.new result }
 {
@@ -71,7 +66,6 @@ fn put_percent(page: &mut [u8], at: usize, u: u32) -> usize
     put_two(page, dot, hundredths(n))
 }
 
-#[tactic(auto, using(text_printing::proofs::Pages::wrote_then), unfolding(crate::specs::Report::minutes))]
 fn put_minutes(page: &mut [u8], at: usize, n: u64) -> usize
     ensures { Wrote page.old at (minutes n) page.new result }
 {
@@ -81,7 +75,6 @@ fn put_minutes(page: &mut [u8], at: usize, n: u64) -> usize
     put_two(page, second, n / 1000 % 60)
 }
 
-#[tactic(auto, using(text_printing::proofs::Pages::wrote_then), unfolding(crate::specs::Report::moment))]
 fn put_moment(page: &mut [u8], at: usize, t: u64) -> usize
     ensures { Wrote page.old at (moment t) page.new result }
 {
@@ -91,7 +84,6 @@ fn put_moment(page: &mut [u8], at: usize, t: u64) -> usize
     put_three(page, dot, t % 1000)
 }
 
-#[tactic(auto, using(text_printing::proofs::Pages::wrote_then), unfolding(crate::specs::Report::lasting))]
 fn put_lasting(page: &mut [u8], at: usize, n: u64) -> usize
     ensures { Wrote page.old at (lasting n) page.new result }
 {
@@ -101,7 +93,6 @@ fn put_lasting(page: &mut [u8], at: usize, n: u64) -> usize
 
 // ---- words
 
-#[tactic(auto, using(text_printing::proofs::Choices::choices), unfolding(crate::specs::Report::either))]
 fn put_either(page: &mut [u8], at: usize, this: &[u8], that: &[u8], b: bool) -> usize
     ensures { Wrote page.old at (either this.now that.now b) page.new result }
 {
@@ -112,7 +103,7 @@ fn put_either(page: &mut [u8], at: usize, this: &[u8], that: &[u8], b: bool) -> 
     }
 }
 
-#[tactic(auto, using(crate::proofs::Laws::operation_name_on, text_printing::proofs::Choices::choices), unfolding(crate::specs::Report::operation_name))]
+#[tactic(auto, unfolding(crate::specs::Report::operation_name))]
 fn put_operation(page: &mut [u8], at: usize, o: Operation) -> usize
     ensures { Wrote page.old at (operation_name o) page.new result }
 {
@@ -133,7 +124,6 @@ fn put_operation(page: &mut [u8], at: usize, o: Operation) -> usize
 
 // ---- what is under way
 
-#[tactic(auto, using(text_printing::proofs::Pages::wrote_then), unfolding(crate::specs::Report::until))]
 fn put_until(page: &mut [u8], at: usize, word: &[u8], t: u64) -> usize
     ensures { Wrote page.old at (until word.now t) page.new result }
 {
@@ -141,7 +131,7 @@ fn put_until(page: &mut [u8], at: usize, word: &[u8], t: u64) -> usize
     put_moment(page, mark, t)
 }
 
-#[tactic(auto, using(crate::proofs::Laws::activity_text_on, text_printing::proofs::Choices::choices), unfolding(crate::specs::Report::activity_text))]
+#[tactic(auto, unfolding(crate::specs::Report::activity_text))]
 fn put_activity(page: &mut [u8], at: usize, a: Activity) -> usize
     ensures { Wrote page.old at (activity_text a) page.new result }
 {
@@ -152,7 +142,7 @@ fn put_activity(page: &mut [u8], at: usize, a: Activity) -> usize
     }
 }
 
-#[tactic(auto, using(crate::proofs::Laws::timer_text_on, text_printing::proofs::Choices::choices), unfolding(crate::specs::Report::timer_text))]
+#[tactic(auto, unfolding(crate::specs::Report::timer_text))]
 fn put_timer(page: &mut [u8], at: usize, t: Timer) -> usize
     ensures { Wrote page.old at (timer_text t) page.new result }
 {
@@ -164,7 +154,6 @@ fn put_timer(page: &mut [u8], at: usize, t: Timer) -> usize
 
 // ---- the line of an output
 
-#[tactic(auto, using(text_printing::proofs::Pages::wrote_then), unfolding(crate::specs::Report::light_fields))]
 fn put_light_fields(page: &mut [u8], at: usize, i: u64, t: u64, o: Output) -> usize
     ensures { Wrote page.old at (light_fields i t o) page.new result }
 {
@@ -175,7 +164,6 @@ fn put_light_fields(page: &mut [u8], at: usize, i: u64, t: u64, o: Output) -> us
     put_either(page, middle, b"  lit  ", b"  dark ", b)
 }
 
-#[tactic(auto, using(text_printing::proofs::Pages::wrote_then), unfolding(crate::specs::Report::level_fields))]
 fn put_level_fields(page: &mut [u8], at: usize, t: u64, o: Output) -> usize
     ensures { Wrote page.old at (level_fields t o) page.new result }
 {
@@ -190,7 +178,6 @@ fn put_level_fields(page: &mut [u8], at: usize, t: u64, o: Output) -> usize
     put_percent(page, more, progress)
 }
 
-#[tactic(auto, using(text_printing::proofs::Pages::wrote_then), unfolding(crate::specs::Report::time_fields))]
 fn put_time_fields(page: &mut [u8], at: usize, o: Output) -> usize
     ensures { Wrote page.old at (time_fields o) page.new result }
 {
@@ -209,7 +196,6 @@ fn put_relay(page: &mut [u8], at: usize, relay: Relay) -> usize
     put_either(page, at, b"  on   ", b"  off  ", on)
 }
 
-#[tactic(auto, using(text_printing::proofs::Pages::wrote_then), unfolding(crate::specs::Report::way_fields))]
 fn put_way_fields(page: &mut [u8], at: usize, o: Output) -> usize
     ensures { Wrote page.old at (way_fields o) page.new result }
 {
@@ -222,7 +208,6 @@ fn put_way_fields(page: &mut [u8], at: usize, o: Output) -> usize
     put(page, timer, b'\n')
 }
 
-#[tactic(auto, using(text_printing::proofs::Pages::wrote_then), unfolding(crate::specs::Report::report_line))]
 pub fn put_report_line(page: &mut [u8], at: usize, i: u64, t: u64, o: Output) -> usize
     ensures { Wrote page.old at (report_line i t o) page.new result }
 {
@@ -232,7 +217,6 @@ pub fn put_report_line(page: &mut [u8], at: usize, i: u64, t: u64, o: Output) ->
     put_way_fields(page, times, o)
 }
 
-#[tactic(auto, using(text_printing::proofs::Pages::wrote_then), unfolding(crate::specs::Report::report_head))]
 pub fn put_report_head(page: &mut [u8], at: usize, t: u64) -> usize
     ensures { Wrote page.old at (report_head t) page.new result }
 {
