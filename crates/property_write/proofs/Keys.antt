@@ -25,9 +25,14 @@ row_numbered [] n = refl
 row_numbered (first ∷ rest) n = by_bool (eqb n (number_of first)) (λ e. rw e) (λ e. rw e (row_numbered rest n))
 
 -- a key k
-pub property_of_on : (n k : ℕ) (r : Property) → n ≡ k → k < 33 → r ≡ row_at properties k → r ≡ property_of n
+pub property_of_on : (n k : ℕ) (r : Property) → n ≡ k → r ≡ property_of k → r ≡ property_of n
+property_of_on n k r e p = rw e p
+
+-- a key that an arm of a match names
+pub property_of_key : (n k : ℕ) (r : Property) → n ≡ k → k < 33 → r ≡ row_at properties k → r ≡ property_of n
 unfolding property_of
-property_of_on n k r e h p = rw e (if_nle _ _ _ _ _ h (p ∙ row_numbered properties k))
+property_of_key n k r e h p =
+    property_of_on n k r e (if_nle _ _ _ _ _ h (p ∙ row_numbered properties k))
 
 -- '21 to 30 slots 1 to 16'
 pub property_of_slot : (n : ℕ) → 33 ≤ n → n ≤ 48 → SlotValue (n - 33) ≡ property_of n

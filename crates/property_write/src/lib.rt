@@ -12,7 +12,7 @@ use lighting_outputs::{Parameters, Property, Request};
 use number_ranges::rows;
 
 // By its number. 21 to 30 are slots 1 to 16, counted from 0 here.
-#[tactic(auto, using(crate::proofs::Keys::property_of_above, crate::proofs::Keys::property_of_none, crate::proofs::Keys::property_of_on, crate::proofs::Keys::property_of_slot))]
+#[tactic(auto, using(crate::proofs::Keys::property_of_above, crate::proofs::Keys::property_of_key, crate::proofs::Keys::property_of_none, crate::proofs::Keys::property_of_slot))]
 pub fn property_of(n: u8) -> Property
     ensures { result ≡ property_of n }
 {
