@@ -10,7 +10,7 @@ use lighting_outputs::{Activity, Command, Effect, Operation, Output, SLOT_6, Set
 
 // ---- 'and first ends any warning by emptying slot 6'
 
-#[tactic(auto, using(lighting_levels::proofs::Choosing::ifs, lighting_outputs::proofs::Laws::without_warning_on), unfolding(lighting_outputs::specs::Paper::Commands::without_warning))]
+#[tactic(auto, unfolding(lighting_outputs::specs::Paper::Commands::without_warning))]
 fn end_warning(s: Slots, a: Activity) -> Slots
     ensures { result ≡ without_warning s a }
 {
@@ -21,7 +21,7 @@ fn end_warning(s: Slots, a: Activity) -> Slots
     }
 }
 
-#[tactic(auto, using(lighting_levels::proofs::Choosing::ifs, lighting_outputs::proofs::Laws::activity_without_warning_on), unfolding(lighting_outputs::specs::Paper::Commands::activity_without_warning))]
+#[tactic(auto, unfolding(lighting_outputs::specs::Paper::Commands::activity_without_warning))]
 fn without_warning(a: Activity) -> Activity
     ensures { result ≡ activity_without_warning a }
 {
@@ -99,7 +99,7 @@ fn halt(c: Settings, f: u32, s: Slots) -> Effect
 }
 
 // 'if a movement belongs to p, it ends [..]. Else it changes no slot'.
-#[tactic(auto, using(lighting_levels::proofs::Choosing::ifs, lighting_outputs::proofs::Laws::stopped_on), unfolding(lighting_outputs::specs::Paper::Commands::stopped))]
+#[tactic(auto, using(lighting_levels::proofs::Choosing::ifs), unfolding(lighting_outputs::specs::Paper::Commands::stopped))]
 fn stop(c: Settings, f: u32, s: Slots, a: Activity) -> Effect
     ensures { result ≡ stopped c f s a }
 {
@@ -136,7 +136,7 @@ fn relinquish(c: Settings, s: Slots, a: Activity) -> Effect
 
 // ---- a command
 
-#[tactic(auto, using(lighting_levels::proofs::Choosing::ifs, lighting_outputs::proofs::Laws::effect_on), unfolding(lighting_outputs::specs::Paper::Commands::effect))]
+#[tactic(auto, unfolding(lighting_outputs::specs::Paper::Commands::effect))]
 fn make_effect(t: u64, c: Settings, f: u32, s: Slots, a: Activity, k: Operation) -> Effect
     requires { t < 2 ^ 48 }
     ensures { result ≡ effect t c f s a k }

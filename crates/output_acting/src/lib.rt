@@ -21,7 +21,7 @@ fn done(o: Output) -> Outcome
 }
 
 // The output as it was: a read, or a refusal.
-#[tactic(auto, using(lighting_levels::proofs::Choosing::ifs), unfolding(lighting_outputs::specs::Paper::Acting::unchanged))]
+#[tactic(auto, unfolding(lighting_outputs::specs::Paper::Acting::unchanged))]
 fn unchanged(o: Output, a: Answer) -> Outcome
     ensures { result ≡ unchanged o a }
 {
@@ -47,7 +47,6 @@ fn change_unless(m: bool, unordered: bool, o: Output, n: Property, v: u32) -> Ou
 }
 
 // The settings as they would be decide.
-#[tactic(auto, unfolding(lighting_outputs::specs::Paper::Acting::changed_unless))]
 fn change(o: Output, n: Property, v: u32) -> Outcome
     ensures { result ≡ changed_unless (min_over_max (settings_with o.settings n v)) (inactive_not_below (relay_with o.relay n v)) o n v }
 {
@@ -63,7 +62,7 @@ fn change(o: Output, n: Property, v: u32) -> Outcome
 }
 
 // The station's mark is asked by a read alone (§8).
-#[tactic(auto, using(lighting_outputs::proofs::Laws::acted_on), unfolding(lighting_outputs::specs::Paper::Acting::acted))]
+#[tactic(auto, unfolding(lighting_outputs::specs::Paper::Acting::acted))]
 pub fn act(tenant: bool, t: u64, o: Output, q: OutputRequest) -> Outcome
     requires { t < 2 ^ 48 }
     ensures { result ≡ acted tenant t o q }

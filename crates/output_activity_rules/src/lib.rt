@@ -79,7 +79,7 @@ fn warning_sound(t: u64, w: Warning) -> bool
 }
 
 // Slot 6 is live, here l, exactly during a warning.
-#[tactic(auto, using(lighting_levels::proofs::Choosing::ifs, lighting_outputs::proofs::Laws::activity_by_on), unfolding(lighting_outputs::specs::Paper::Rules::activity_by))]
+#[tactic(auto, using(lighting_levels::proofs::Choosing::ifs), unfolding(lighting_outputs::specs::Paper::Rules::activity_by))]
 pub fn activity_by(
     parameters: Parameters,
     t: u64,
@@ -103,7 +103,7 @@ pub fn activity_by(
 }
 
 // No duration is tied to slot 6, and its moment is after panel time.
-#[tactic(auto, using(lighting_levels::proofs::Choosing::ifs, lighting_outputs::proofs::Laws::timer_sound_on), unfolding(lighting_outputs::specs::Paper::Rules::timer_sound))]
+#[tactic(auto, using(lighting_levels::proofs::Choosing::ifs), unfolding(lighting_outputs::specs::Paper::Rules::timer_sound))]
 pub fn timer_sound(t: u64, m: Timer) -> bool
     ensures { result ≡ timer_sound t m }
 {

@@ -11,7 +11,7 @@ use lighting_outputs::{Activity, Moment, Output, Phase, SLOT_6, Slots, Timer, Wa
 
 // ---- when
 
-#[tactic(auto, using(lighting_levels::proofs::Choosing::ifs, lighting_outputs::proofs::Laws::timer_due_on), unfolding(lighting_outputs::specs::Paper::Passing::timer_due))]
+#[tactic(auto, unfolding(lighting_outputs::specs::Paper::Passing::timer_due))]
 pub fn timer_due(m: Timer) -> Moment
     ensures { result ≡ timer_due m }
 {
@@ -21,7 +21,7 @@ pub fn timer_due(m: Timer) -> Moment
     }
 }
 
-#[tactic(auto, using(lighting_levels::proofs::Choosing::ifs, lighting_outputs::proofs::Laws::phase_end_on), unfolding(lighting_outputs::specs::Paper::Passing::phase_end))]
+#[tactic(auto, unfolding(lighting_outputs::specs::Paper::Passing::phase_end))]
 pub fn phase_end(w: Warning, p: Phase) -> u64
     ensures { result ≡ phase_end w p }
 {
@@ -31,7 +31,7 @@ pub fn phase_end(w: Warning, p: Phase) -> u64
     }
 }
 
-#[tactic(auto, using(lighting_levels::proofs::Choosing::ifs, lighting_outputs::proofs::Laws::activity_due_on), unfolding(lighting_outputs::specs::Paper::Passing::activity_due))]
+#[tactic(auto, unfolding(lighting_outputs::specs::Paper::Passing::activity_due))]
 pub fn activity_due(a: Activity) -> Moment
     ensures { result ≡ activity_due a }
 {
@@ -45,7 +45,7 @@ pub fn activity_due(a: Activity) -> Moment
     }
 }
 
-#[tactic(auto, using(lighting_levels::proofs::Choosing::ifs, lighting_outputs::proofs::Laws::is_due_on), unfolding(lighting_outputs::specs::Paper::Passing::is_due))]
+#[tactic(auto, unfolding(lighting_outputs::specs::Paper::Passing::is_due))]
 fn is_due(t: u64, d: Moment) -> bool
     ensures { result ≡ is_due t d }
 {
@@ -55,14 +55,12 @@ fn is_due(t: u64, d: Moment) -> bool
     }
 }
 
-#[tactic(auto, unfolding(lighting_outputs::specs::Paper::Passing::is_due))]
 fn is_timer_due(t: u64, m: Timer) -> bool
     ensures { result ≡ is_due t (timer_due m) }
 {
     is_due(t, timer_due(m))
 }
 
-#[tactic(auto, unfolding(lighting_outputs::specs::Paper::Passing::is_due))]
 fn is_activity_due(t: u64, a: Activity) -> bool
     ensures { result ≡ is_due t (activity_due a) }
 {
@@ -90,7 +88,7 @@ fn timer_at(t: u64, m: Timer) -> Timer
     if is_timer_due(t, m) { Timer::Off } else { m }
 }
 
-#[tactic(auto, using(lighting_levels::proofs::Choosing::ifs, lighting_outputs::proofs::Laws::emptied_by_on), unfolding(lighting_outputs::specs::Paper::Passing::emptied_by))]
+#[tactic(auto, unfolding(lighting_outputs::specs::Paper::Passing::emptied_by))]
 fn empty_by(m: Timer, s: Slots) -> Slots
     ensures { result ≡ emptied_by m s }
 {
@@ -112,7 +110,7 @@ fn expire(t: u64, m: Timer, s: Slots) -> Slots
 }
 
 // A slot that empties ends the movement that it owned.
-#[tactic(auto, using(lighting_levels::proofs::Choosing::ifs, lighting_outputs::proofs::Laws::end_movement_of_on), unfolding(lighting_outputs::specs::Paper::Passing::end_movement_of))]
+#[tactic(auto, using(lighting_levels::proofs::Choosing::ifs), unfolding(lighting_outputs::specs::Paper::Passing::end_movement_of))]
 pub fn end_movement_of(q: u8, a: Activity) -> Activity
     ensures { result ≡ end_movement_of q a }
 {
@@ -123,7 +121,7 @@ pub fn end_movement_of(q: u8, a: Activity) -> Activity
     }
 }
 
-#[tactic(auto, using(lighting_levels::proofs::Choosing::ifs, lighting_outputs::proofs::Laws::end_movement_by_on), unfolding(lighting_outputs::specs::Paper::Passing::end_movement_by))]
+#[tactic(auto, unfolding(lighting_outputs::specs::Paper::Passing::end_movement_by))]
 fn end_movement_by(m: Timer, a: Activity) -> Activity
     ensures { result ≡ end_movement_by m a }
 {
@@ -146,7 +144,7 @@ fn end_movement_on_expiry(t: u64, m: Timer, a: Activity) -> Activity
 
 // ---- a phase of a warning, or the end of a movement
 
-#[tactic(auto, using(lighting_levels::proofs::Choosing::ifs), unfolding(lighting_outputs::specs::Paper::Passing::delayed))]
+#[tactic(auto, unfolding(lighting_outputs::specs::Paper::Passing::delayed))]
 fn delay(w: Warning) -> Warning
     ensures { result ≡ delayed w }
 {
@@ -159,7 +157,7 @@ fn delay(w: Warning) -> Warning
     }
 }
 
-#[tactic(auto, using(lighting_levels::proofs::Choosing::ifs, lighting_outputs::proofs::Laws::next_phase_on), unfolding(lighting_outputs::specs::Paper::Passing::next_phase))]
+#[tactic(auto, using(lighting_levels::proofs::Choosing::ifs), unfolding(lighting_outputs::specs::Paper::Passing::next_phase))]
 fn next_phase(w: Warning, p: Phase) -> Activity
     ensures { result ≡ next_phase w p }
 {
@@ -173,7 +171,7 @@ fn next_phase(w: Warning, p: Phase) -> Activity
     }
 }
 
-#[tactic(auto, using(lighting_levels::proofs::Choosing::ifs, lighting_outputs::proofs::Laws::next_activity_on), unfolding(lighting_outputs::specs::Paper::Passing::next_activity))]
+#[tactic(auto, unfolding(lighting_outputs::specs::Paper::Passing::next_activity))]
 fn next_activity(a: Activity) -> Activity
     ensures { result ≡ next_activity a }
 {
@@ -199,14 +197,13 @@ fn activity_at(t: u64, a: Activity) -> Activity
 }
 
 // The end of a warning with a delay: slot 6 and the warning's own slot empty.
-#[tactic(auto, unfolding(lighting_outputs::specs::Paper::Slots::put))]
 fn warning_empty(s: Slots, i: u8) -> Slots
     ensures { result ≡ emptied (emptied s slot6) i }
 {
     output_slots::empty(output_slots::empty(s, SLOT_6), i)
 }
 
-#[tactic(auto, using(lighting_levels::proofs::Choosing::ifs, lighting_outputs::proofs::Laws::phase_slots_on), unfolding(lighting_outputs::specs::Paper::Passing::phase_slots))]
+#[tactic(auto, using(lighting_levels::proofs::Choosing::ifs), unfolding(lighting_outputs::specs::Paper::Passing::phase_slots))]
 fn phase_slots(w: Warning, p: Phase, s: Slots) -> Slots
     ensures { result ≡ phase_slots w p s }
 {
@@ -220,7 +217,7 @@ fn phase_slots(w: Warning, p: Phase, s: Slots) -> Slots
     }
 }
 
-#[tactic(auto, using(lighting_levels::proofs::Choosing::ifs, lighting_outputs::proofs::Laws::next_slots_on), unfolding(lighting_outputs::specs::Paper::Passing::next_slots))]
+#[tactic(auto, unfolding(lighting_outputs::specs::Paper::Passing::next_slots))]
 fn next_slots(a: Activity, s: Slots) -> Slots
     ensures { result ≡ next_slots a s }
 {

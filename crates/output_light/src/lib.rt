@@ -74,7 +74,7 @@ fn gone_at(u: u32, s: u32, w: u32, m: Movement) -> Moment
 // ---- how many milliseconds
 
 // Of the n milliseconds from a moment on, those before the moment d, and those from it on.
-#[tactic(auto, using(lighting_levels::proofs::Choosing::ifs, lighting_outputs::proofs::Laws::count_before_on), unfolding(lighting_outputs::specs::Engine::Light::count_before))]
+#[tactic(auto, unfolding(lighting_outputs::specs::Engine::Light::count_before))]
 fn count_before(from: u64, n: u64, d: Moment) -> u64
     ensures { result ≡ count_before from n d }
 {
@@ -84,7 +84,7 @@ fn count_before(from: u64, n: u64, d: Moment) -> u64
     }
 }
 
-#[tactic(auto, using(lighting_levels::proofs::Choosing::ifs, lighting_outputs::proofs::Laws::count_since_on), unfolding(lighting_outputs::specs::Engine::Light::count_since))]
+#[tactic(auto, unfolding(lighting_outputs::specs::Engine::Light::count_since))]
 fn count_since(from: u64, n: u64, d: Moment) -> u64
     ensures { result ≡ count_since from n d }
 {
@@ -139,7 +139,7 @@ fn way(m: Movement) -> u32
     }
 }
 
-#[tactic(auto, using(lighting_outputs::proofs::Laws::lit_by_pace_on), unfolding(lighting_outputs::specs::Engine::Light::lit_by_pace, lighting_outputs::specs::Engine::Light::lit_moving))]
+#[tactic(auto, unfolding(lighting_outputs::specs::Engine::Light::lit_by_pace, lighting_outputs::specs::Engine::Light::lit_moving))]
 fn lit_moving(from: u64, n: u64, m: Movement) -> u64
     ensures { result ≡ lit_moving from n m }
 {
@@ -159,7 +159,7 @@ pub fn is_moving(o: Output) -> bool
     output_value::in_process(a) == 1
 }
 
-#[tactic(auto, using(lighting_levels::proofs::Choosing::ifs, lighting_outputs::proofs::Laws::lit_in_movement_on), unfolding(lighting_outputs::specs::Engine::Light::lit_in_movement))]
+#[tactic(auto, unfolding(lighting_outputs::specs::Engine::Light::lit_in_movement))]
 pub fn lit_in_movement(from: u64, n: u64, a: Activity) -> u64
     ensures { result ≡ lit_in_movement from n a }
 {

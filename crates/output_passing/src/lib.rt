@@ -39,7 +39,7 @@ fn with_burned_saturating(from: u64, n: u64, o: Output) -> Output
 
 // ---- the next due moment, or `to` if nothing falls due before it
 
-#[tactic(auto, using(lighting_levels::proofs::Choosing::ifs, lighting_outputs::proofs::Laws::sooner_on), unfolding(lighting_outputs::specs::Engine::Advance::sooner))]
+#[tactic(auto, unfolding(lighting_outputs::specs::Engine::Advance::sooner))]
 fn sooner(to: u64, d: Moment) -> u64
     ensures { result ≡ sooner to d }
 {

@@ -53,7 +53,7 @@ pub fn relay_state(relay: Relay) -> bool
 }
 
 // 'the inactive value not below the active one', which is 16.
-#[tactic(auto, using(lighting_levels::proofs::Choosing::ifs), unfolding(lighting_outputs::specs::Paper::Relay::inactive_not_below))]
+#[tactic(auto, unfolding(lighting_outputs::specs::Paper::Relay::inactive_not_below))]
 pub fn inactive_not_below(relay: Relay) -> bool
     ensures { result ≡ inactive_not_below relay }
 {

@@ -81,7 +81,7 @@ fn settings_sound(parameters: Parameters, c: Settings) -> bool
 
 // A live slot holds a level. The loop takes the lowest live slot away until none is left, over a copy of the
 // levels alone.
-#[tactic(auto, using(crate::proofs::LiveSlots::low_broken, crate::proofs::LiveSlots::low_done, crate::proofs::LiveSlots::low_within, crate::proofs::LiveSlots::none_live, crate::proofs::LiveSlots::slots_with))]
+#[tactic(auto, using(crate::proofs::LiveSlots::low_broken, crate::proofs::LiveSlots::low_within, crate::proofs::LiveSlots::none_live))]
 fn live_sound(s: Slots) -> bool
     ensures { result ≡ slots_sound s }
 {
@@ -108,7 +108,6 @@ fn slots_sound(s: Slots) -> bool
 // ---- what is under way
 
 // v is Present_Value, which the relay's rule asks for too: it is looked up once.
-#[tactic(auto, unfolding(lighting_outputs::specs::Paper::Rules::activity_by))]
 fn activity_sound(parameters: Parameters, t: u64, high: u32, s: Slots, v: u32, a: Activity) -> bool
     ensures { result ≡ activity_by parameters t (is_live s slot6) (winner s) high v a }
 {

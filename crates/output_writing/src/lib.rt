@@ -13,7 +13,7 @@ use output_record::with_effect;
 
 // 'A movement goes on if P is above its owner's number [..]; else it ends': a write at the owner's own number
 // ends it too.
-#[tactic(auto, using(lighting_levels::proofs::Choosing::ifs, lighting_outputs::proofs::Laws::end_movement_unless_above_on), unfolding(lighting_outputs::specs::Paper::Writing::end_movement_unless_above))]
+#[tactic(auto, using(lighting_levels::proofs::Choosing::ifs), unfolding(lighting_outputs::specs::Paper::Writing::end_movement_unless_above))]
 fn end_movement_unless_above(i: u8, a: Activity) -> Activity
     ensures { result ≡ end_movement_unless_above i a }
 {
@@ -138,7 +138,7 @@ fn write_calm(t: u64, o: Output, i: u8, v: u32) -> Output
     }
 }
 
-#[tactic(auto, using(lighting_levels::proofs::Choosing::ifs, lighting_outputs::proofs::Laws::written_by_on), unfolding(lighting_outputs::specs::Paper::Writing::written_by))]
+#[tactic(auto, unfolding(lighting_outputs::specs::Paper::Writing::written_by))]
 fn write_by(t: u64, o: Output, i: u8, v: u32, a: Activity) -> Output
     requires { t < 2 ^ 48 }
     ensures { result ≡ written_by t o i v a }
