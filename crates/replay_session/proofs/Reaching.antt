@@ -79,8 +79,8 @@ module _ {p₀ p : Panel} {w₀ w : Reader} {s : Bytes} {i : ℕ} (v : GoodSoFar
     reached_in = record { count = n + 1; panel = sym (ap (λ (z : Through). z.panel) ended_at) }
 
   -- no newline any more
-  pub good_left : (n : ℕ) {d : Reader} → d ≡ fed_line w (drop i s) → n ≡ i + line_length (drop i s) → length s ≤ n → i ≤ length s → GoodSoFar p₀ w₀ s n p d
-  good_left n f l h j =
+  pub good_left : (n : ℕ) {d : Reader} → d ≡ fed_line w (drop i s) → n ≡ i + line_length (drop i s) → length s ≤ n → GoodSoFar p₀ w₀ s n p d
+  good_left n f l h =
       let all : take n s ≡ take (i + length (drop i s)) s = take_all n s h ∙ sym (take_all (i + length (drop i s)) s (omega (arith, length-drop i s))) in
       record { whole = rw (all, more (length (drop i s)), take_all (length (drop i s)) (drop i s) (omega arith), line_left p w (drop i s) (omega (arith, h, l, length-drop i s)), ← f) }
 

@@ -82,7 +82,7 @@ fn take_chunk<W: Write>(
 }
 
 // Reads once, and takes what came; nothing comes at the end of the input.
-#[tactic(auto, using(replay_line::proofs::Parts::went_none))]
+#[tactic(auto, using(crate::proofs::Reaching::reached_none, crate::proofs::Reaching::reached_part, replay_line::proofs::Parts::went_none))]
 fn take_some<R: Read, W: Write>(
     outputs: &mut [Output],
     stations: &mut [Station],
@@ -111,7 +111,7 @@ fn take_some<R: Read, W: Write>(
 
 // All of it. A proved loop has to end, and nothing says that the input does: the turns are counted up to a
 // number that no run comes to.
-#[tactic(auto, using(replay_line::proofs::Parts::went_is, replay_line::proofs::Parts::went_none, replay_line::proofs::Parts::went_then))]
+#[tactic(auto, using(crate::proofs::Reaching::reached_then, replay_line::proofs::Parts::went_is, replay_line::proofs::Parts::went_none, replay_line::proofs::Parts::went_then))]
 fn take_all<R: Read, W: Write>(
     outputs: &mut [Output],
     stations: &mut [Station],
@@ -204,7 +204,7 @@ fn end_list<W: Write>(
 }
 
 // An error too leaves the tables as some text of a list does: as the lines that were taken.
-#[tactic(auto, using(replay_line::proofs::Parts::replayed, replay_line::proofs::Parts::replayed_bad, replay_line::proofs::Parts::went_is))]
+#[tactic(auto, using(crate::proofs::Reaching::replayed_part, replay_line::proofs::Parts::replayed, replay_line::proofs::Parts::replayed_bad, replay_line::proofs::Parts::went_is))]
 fn replay<R: Read, W: Write>(
     outputs: &mut [Output],
     stations: &mut [Station],
