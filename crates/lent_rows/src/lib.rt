@@ -13,7 +13,7 @@ pub const NUMBERS: usize = 49;
 
 // A row as far as it is read: its letter, 0 before the first character; the numbers that are whole; and the
 // one that may still go on.
-#[derive(Drop)]
+#[derive(Clone, Copy)]
 pub struct Row {
     pub letter: u8,
     pub numbers: [u64; NUMBERS],

@@ -11,7 +11,6 @@ use text_printing::{put, put_all, put_decimal, put_hex_bytes, put_hex8};
 
 // ---- fields
 
-#[tactic(auto, using(text_printing::proofs::Pages::wrote_then), unfolding(crate::specs::Block::level_field))]
 fn put_level_field(page: &mut [u8], at: usize, v: u32) -> usize
     ensures { Wrote page.old at (level_field v) page.new result }
 {
@@ -26,7 +25,6 @@ fn put_slot_level(page: &mut [u8], at: usize, s: Slots, i: u8) -> usize
     put_level_field(page, at, output_slots::level_at(0, s, i as u32))
 }
 
-#[tactic(auto, using(text_printing::proofs::Choices::choices), unfolding(crate::specs::Block::slot_field))]
 fn put_slot_field(page: &mut [u8], at: usize, s: Slots, i: u8) -> usize
     ensures { Wrote page.old at (slot_field s i) page.new result }
 {
@@ -37,7 +35,7 @@ fn put_slot_field(page: &mut [u8], at: usize, s: Slots, i: u8) -> usize
     }
 }
 
-#[tactic(auto, using(crate::proofs::Turns::slots_turn, text_printing::proofs::Pages::wrote_as, text_printing::proofs::Pages::wrote_none), unfolding(crate::specs::Block::slot_fields))]
+#[tactic(auto, unfolding(crate::specs::Block::slot_fields))]
 fn put_slot_fields(page: &mut [u8], at: usize, s: Slots) -> usize
     ensures { Wrote page.old at (slot_fields s slot_count) page.new result }
 {
@@ -50,7 +48,6 @@ fn put_slot_fields(page: &mut [u8], at: usize, s: Slots) -> usize
     mark
 }
 
-#[tactic(auto, using(text_printing::proofs::Pages::wrote_then), unfolding(crate::specs::Block::hex_field))]
 fn put_hex_field(page: &mut [u8], at: usize, v: u32) -> usize
     ensures { Wrote page.old at (hex_field v) page.new result }
 {
@@ -58,7 +55,7 @@ fn put_hex_field(page: &mut [u8], at: usize, v: u32) -> usize
     put_hex8(page, mark, v)
 }
 
-#[tactic(auto, using(crate::proofs::Turns::answer_field_on), unfolding(crate::specs::Block::answer_field))]
+#[tactic(auto, unfolding(crate::specs::Block::answer_field))]
 fn put_answer_field(page: &mut [u8], at: usize, a: Answer) -> usize
     ensures { Wrote page.old at (answer_field a) page.new result }
 {
@@ -80,7 +77,7 @@ fn put_property(page: &mut [u8], at: usize, t: u64, o: Output, k: u8) -> usize
     put_answer_field(page, at, a)
 }
 
-#[tactic(auto, using(crate::proofs::Turns::properties_turn, text_printing::proofs::Pages::wrote_as, text_printing::proofs::Pages::wrote_none), unfolding(crate::specs::Block::property_fields))]
+#[tactic(auto, unfolding(crate::specs::Block::property_fields))]
 fn put_properties(page: &mut [u8], at: usize, t: u64, o: Output, k: u8, n: u8) -> usize
     requires k_bound { k < 128 }
     requires n_bound { n < 128 }
@@ -97,7 +94,6 @@ fn put_properties(page: &mut [u8], at: usize, t: u64, o: Output, k: u8, n: u8) -
 
 // ---- lines
 
-#[tactic(auto, using(text_printing::proofs::Pages::wrote_then), unfolding(crate::specs::Block::number_line))]
 fn put_number_line(page: &mut [u8], at: usize, word: &[u8], n: u64) -> usize
     ensures { Wrote page.old at (number_line word.now n) page.new result }
 {
@@ -106,7 +102,6 @@ fn put_number_line(page: &mut [u8], at: usize, word: &[u8], n: u64) -> usize
     put(page, digits, b'\n')
 }
 
-#[tactic(auto, using(text_printing::proofs::Pages::wrote_then), unfolding(crate::specs::Block::slots_line))]
 fn put_slots_line(page: &mut [u8], at: usize, s: Slots) -> usize
     ensures { Wrote page.old at (slots_line s) page.new result }
 {
@@ -145,7 +140,6 @@ fn put_process_line(page: &mut [u8], at: usize, o: Output) -> usize
 }
 
 // A word, and n properties from the number k on.
-#[tactic(auto, using(text_printing::proofs::Pages::wrote_then), unfolding(crate::specs::Block::properties_line))]
 fn put_properties_line(
     page: &mut [u8],
     at: usize,
@@ -165,7 +159,6 @@ fn put_properties_line(
 }
 
 // The command's own bytes, without the zeros after them.
-#[tactic(auto, using(crate::proofs::Tagged::own_bytes, crate::proofs::Tagged::own_end, text_printing::proofs::Pages::wrote_as, text_printing::proofs::Pages::wrote_then), unfolding(crate::specs::Block::tagged_line))]
 fn put_tagged_line(page: &mut [u8], at: usize, k: Command) -> usize
     ensures { Wrote page.old at (tagged_line k) page.new result }
 {
@@ -183,7 +176,7 @@ fn put_tagged_line(page: &mut [u8], at: usize, k: Command) -> usize
 const LINES: u8 = 10;
 
 // The line k, from 0 on.
-#[tactic(auto, using(crate::proofs::Lines::line_none, crate::proofs::Lines::line_on), unfolding(crate::specs::Block::lines))]
+#[tactic(auto, using(crate::proofs::Lines::line_none), unfolding(crate::specs::Block::lines))]
 fn put_line(page: &mut [u8], at: usize, k: u8, i: u64, t: u64, o: Output) -> usize
     ensures { Wrote page.old at (get_or (lines i t o) k []) page.new result }
 {
@@ -205,7 +198,7 @@ fn put_line(page: &mut [u8], at: usize, k: u8, i: u64, t: u64, o: Output) -> usi
     }
 }
 
-#[tactic(auto, using(crate::proofs::Lines::lines_turn, text_printing::proofs::Pages::wrote_as, text_printing::proofs::Pages::wrote_none), unfolding(crate::specs::Block::block, crate::specs::Block::joined, crate::specs::Block::lines))]
+#[tactic(auto, unfolding(crate::specs::Block::block, crate::specs::Block::joined, crate::specs::Block::lines))]
 pub fn put_block(page: &mut [u8], at: usize, i: u64, t: u64, o: Output) -> usize
     ensures { Wrote page.old at (block i t o) page.new result }
 {
