@@ -7,6 +7,7 @@ use native.Mathlib.Omega.{arith}
 use lib.Dec.{eqb}
 use lib.ListN.{length, take, drop, length-drop}
 use lib.Seq.{take-add, take_all}
+use Rattle.std.specs.Prelude.{Result, Ok, Err, OnErr}
 use Rattle.lighting_levels.specs.Paper.Choice.{if◌then◌else◌}
 use Rattle.lighting_frames.specs.Paper.Frames.{Bytes}
 use Rattle.lighting_panel.specs.Paper.Panel.{Panel}
@@ -65,7 +66,7 @@ module _ {p₀ p : Panel} {w₀ w : Reader} {s : Bytes} {i : ℕ} (v : GoodSoFar
   more k = rw (take-add i k s, after_good p₀ w₀ (take i s) (take k (drop i s)) (ap (λ (z : Through). z.good) v.whole), v.whole)
 
   -- a newline at n, where q, r and g are what the line leaves
-  module _ (n : ℕ) {d : Reader} {q : Panel} {r : Reader} {g : Bool} (f : d ≡ fed_line w (drop i s)) (l : n ≡ i + line_length (drop i s)) (h : n < length s)
+  module _ (n : ℕ) (d : Reader) (q : Panel) (r : Reader) (g : Bool) (f : d ≡ fed_line w (drop i s)) (l : n ≡ i + line_length (drop i s)) (h : n < length s)
       (a : q ≡ (taken p d).panel) (b : r ≡ (taken p d).reader) (e : g ≡ (taken p d).good) where
     ended_at : through p₀ w₀ (take (n + 1) s) ≡ record { panel = q; reader = r; good = g }
     ended_at =
@@ -87,6 +88,11 @@ module _ {p₀ p : Panel} {w₀ w : Reader} {s : Bytes} {i : ℕ} (v : GoodSoFar
 pub good_none : (p : Panel) (w : Reader) (s : Bytes) → GoodSoFar p w s 0 p w
 unfolding through
 good_none p w s = record { whole = refl }
+
+-- an error, with what it leaves
+pub on_err : {T E P : Type 0} (r : Result T E) → P → OnErr r P
+on_err (Ok x) p = tt
+on_err (Err e) p = p
 
 -- FROM PART TO PART
 pub reached_none : (p : Panel) (w : Reader) → Reached p w p
